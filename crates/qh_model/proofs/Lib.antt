@@ -1,0 +1,2 @@
+pub mod algebra
+pub mod ReadingLaws

@@ -1,0 +1,85 @@
+-- Signs of products. In a signature brackets are needed: `≤ℤ` binds tighter than `+ℤ` and `*ℤ`.
+use Rattle.std.proofs.Common.{◌≡◌, ℕ, zero, suc, ◌*◌, ◌≤◌, arith, ap, sym, ◌∙◌, refl, ◌⊎◌, inl, inr}
+use Rattle.std.proofs.Math.Nat.{mul-le-mul}
+use Rattle.std.proofs.lemmas.Int.{ints, by_lt_z}
+use Rattle.std.specs.Prelude.{ℤ, pos, negsuc, ◌+ℤ◌, ◌-ℤ◌, ◌*ℤ◌, ◌≤ℤ◌, ◌<ℤ◌}
+use borrow.Author.Differences.{product_is}
+use Rattle.qh_model.proofs.algebra.Integers.{mul_add}
+
+pub mul-nonneg : (a b : ℤ) → pos 0 ≤ℤ a → pos 0 ≤ℤ b → pos 0 ≤ℤ (a *ℤ b)
+mul-nonneg a b h k = grind (arith, ints)
+
+pub mul-nonneg_nonpos : (a b : ℤ) → pos 0 ≤ℤ a → b ≤ℤ pos 0 → (a *ℤ b) ≤ℤ pos 0
+mul-nonneg_nonpos a b h k = grind (arith, ints)
+
+pub mul-nonpos_nonneg : (a b : ℤ) → a ≤ℤ pos 0 → pos 0 ≤ℤ b → (a *ℤ b) ≤ℤ pos 0
+mul-nonpos_nonneg a b h k = grind (arith, ints)
+
+pub mul-nonpos : (a b : ℤ) → a ≤ℤ pos 0 → b ≤ℤ pos 0 → pos 0 ≤ℤ (a *ℤ b)
+mul-nonpos a b h k = grind (arith, ints)
+
+pub mul-pos : (a b : ℤ) → pos 0 <ℤ a → pos 0 <ℤ b → pos 0 <ℤ (a *ℤ b)
+mul-pos (pos a) (pos b) h k =
+    let p : 1 ≤ a = omega (arith, ints) in
+    let q : 1 ≤ b = omega (arith, ints) in
+    let r : 1 * 1 ≤ a * b = mul-le-mul p q in omega (arith, ints)
+mul-pos (pos a) (negsuc b) h k = absurd (omega (arith, ints))
+mul-pos (negsuc a) b h k = absurd (omega (arith, ints))
+
+pub mul-le : (a b c : ℤ) → pos 0 ≤ℤ a → b ≤ℤ c → (a *ℤ b) ≤ℤ (a *ℤ c)
+mul-le a b c h k =
+    let d : pos 0 ≤ℤ (c -ℤ b) = omega (arith, ints) in
+    let p : pos 0 ≤ℤ (a *ℤ (c -ℤ b)) = mul-nonneg a (c -ℤ b) h d in
+    let e : a *ℤ c ≡ a *ℤ b +ℤ a *ℤ (c -ℤ b) = sym (sym (mul_add a b (c -ℤ b)) ∙ ap (λ v. a *ℤ v) (sub_back b c)) in
+    finish (a *ℤ b) (a *ℤ c) (a *ℤ (c -ℤ b)) e p
+  where
+    sub_back : (b c : ℤ) → b +ℤ (c -ℤ b) ≡ c
+    sub_back b c = omega (arith, ints)
+
+    finish : (x y z : ℤ) → y ≡ x +ℤ z → pos 0 ≤ℤ z → x ≤ℤ y
+    finish x y z e p = omega (arith, ints)
+
+pub cancel-nonneg : (a b : ℤ) → pos 0 <ℤ a → pos 0 ≤ℤ (a *ℤ b) → pos 0 ≤ℤ b
+cancel-nonneg a b h k = grind (arith, ints)
+
+no_lt_and_ge : (x : ℤ) → x ≤ℤ pos 0 → pos 0 <ℤ x → ⊥
+no_lt_and_ge x p q = omega (arith, ints)
+
+pub cancel-nonpos : (a b : ℤ) → pos 0 <ℤ a → (a *ℤ b) ≤ℤ pos 0 → b ≤ℤ pos 0
+cancel-nonpos a b h k = by_lt_z (pos 0) b (λ q. absurd (no_lt_and_ge (a *ℤ b) k (mul-pos a b h q))) (λ q. q)
+
+pub cancel-pos : (a b : ℤ) → pos 0 <ℤ a → pos 0 <ℤ (a *ℤ b) → pos 0 <ℤ b
+cancel-pos a b h k = grind (arith, ints, mul-nonneg_nonpos)
+
+mul-neg : (a b : ℤ) → pos 0 <ℤ a → b <ℤ pos 0 → (a *ℤ b) <ℤ pos 0
+mul-neg a b h k = grind (arith, ints, cancel-nonneg)
+
+le_both : (x : ℤ) → x ≡ pos 0 → (x ≤ℤ pos 0) × (pos 0 ≤ℤ x)
+le_both x e = (omega (arith, ints), omega (arith, ints))
+
+both_le : (x : ℤ) → x ≤ℤ pos 0 → pos 0 ≤ℤ x → x ≡ pos 0
+both_le x p q = omega (arith, ints)
+
+pub cancel-zero : (a b : ℤ) → pos 0 <ℤ a → a *ℤ b ≡ pos 0 → b ≡ pos 0
+cancel-zero a b h k = let t = le_both (a *ℤ b) k in both_le b (cancel-nonpos a b h t.0) (cancel-nonneg a b h t.1)
+
+pub zero_product : (a b : ℤ) → a *ℤ b ≡ pos 0 → (a ≡ pos 0) ⊎ (b ≡ pos 0)
+zero_product (pos zero) b k = inl refl
+zero_product (pos (suc n)) b k = inr (cancel-zero (pos (suc n)) b (omega (arith, ints)) k)
+zero_product (negsuc n) b k = inr (cancel-zero (pos (suc n)) b (omega (arith, ints)) (turned n b k))
+  where
+    turned : (n : ℕ) (b : ℤ) → negsuc n *ℤ b ≡ pos 0 → pos (suc n) *ℤ b ≡ pos 0
+    turned n b k = omega (arith, ints, product_is (negsuc n) b, product_is (pos (suc n)) b)
+
+-- the sign step of the horizon, over abstract numbers
+pub sign_step : (ap by ay bp ab py : ℤ) → ap *ℤ by -ℤ ay *ℤ bp ≡ ab *ℤ py → pos 0 <ℤ ap → pos 0 ≤ℤ by → ay ≤ℤ pos 0 → pos 0 ≤ℤ bp → ab <ℤ pos 0 → py ≤ℤ pos 0
+sign_step ap by ay bp ab py e h1 h2 h3 h4 h5 = grind (arith, ints, mul-nonneg, mul-nonpos_nonneg, mul-pos)
+
+pub neg-mul : (a b : ℤ) → a <ℤ pos 0 → pos 0 <ℤ b → (a *ℤ b) <ℤ pos 0
+neg-mul a b h k = by_lt_z (a *ℤ b) (pos 0) (λ q. q) (λ q. absurd (no_lt_and_ge a (cancel_right a b k q) h))
+  where
+    cancel_right : (a b : ℤ) → pos 0 <ℤ b → pos 0 ≤ℤ (a *ℤ b) → pos 0 ≤ℤ a
+    cancel_right a b k q = grind (arith, ints)
+
+    no_lt_and_ge : (x : ℤ) → pos 0 ≤ℤ x → x <ℤ pos 0 → ⊥
+    no_lt_and_ge x p q = omega (arith, ints)

@@ -1,0 +1,24 @@
+-- The distinct points of a list: of equal points the lowest id stands for all.
+use Rattle.std.specs.Prelude.{ℕ, ◌≡◌, ◌≢◌, ◌<◌, ◌↔◌, List, length}
+use Rattle.std.specs.List.Sorted.{IsStrictlyIncreasing}
+use Rattle.qh_model.specs.Vector.{Vector}
+use Rattle.qh_model.specs.Sets.{In}
+use Rattle.qh_model.specs.Predicates.{place}
+
+-- i is the id of a point, and no lower id has the same point
+abbrev pub IsDistinctId : List Vector → ℕ → Type 0
+IsDistinctId pts i = (i < length pts) × ((j : ℕ) → j < i → place pts j ≢ place pts i)
+
+-- the rising list of the distinct ids
+pub record AreDistinctIds (pts : List Vector) (ids : List ℕ) : Type 0 where
+  pub rising : IsStrictlyIncreasing ids
+  pub members : (i : ℕ) → In i ids ↔ IsDistinctId pts i
+
+-- different ids of the set have different points
+abbrev pub HasDistinctPoints : (ℕ → Vector) → (ℕ → Type 0) → Type 0
+HasDistinctPoints at A = (i j : ℕ) → A i → A j → at i ≡ at j → i ≡ j
+
+-- rising ids of distinct points
+pub record IsIdSet (pts : List Vector) (ids : List ℕ) : Type 0 where
+  pub rising : IsStrictlyIncreasing ids
+  pub distinct : HasDistinctPoints (place pts) (λ i. In i ids)

@@ -1,0 +1,16 @@
+pub mod Vector
+pub mod Limits
+pub mod Words
+pub mod Numbers
+pub mod PointFile
+pub mod FileFault
+pub mod Readings
+pub mod Sets
+pub mod Predicates
+pub mod DistinctIds
+pub mod Dimension
+pub mod Combination
+pub mod Extreme
+pub mod SupportingPlane
+pub mod Polygon
+pub mod Polygons

@@ -1,0 +1,13 @@
+//! What the whole of qconvex speaks of: points, ids, limits, and the definitions of a point file,
+//! of the predicates, of extreme points and of a hull.
+//!
+//! The definitions stand in `specs/`, one idea a file. Contracts of every crate cite them, and the
+//! functions of [`laws`] prove what follows from them alone.
+#![tactic(auto)]
+
+pub mod laws;
+mod limits;
+mod point;
+
+pub use limits::{BYTE_LIMIT, COORDINATE_LIMIT, POINT_LIMIT};
+pub use point::{Id, Memory, Point};

@@ -1,0 +1,10 @@
+//! The limits of the input, each stated here and nowhere else.
+
+/// The greatest size of a coordinate, either way.
+pub const COORDINATE_LIMIT: u32 = 1048576;
+
+/// The greatest number of points.
+pub const POINT_LIMIT: u32 = 1048576;
+
+/// The greatest length of an input in bytes.
+pub const BYTE_LIMIT: u32 = 268435456;
