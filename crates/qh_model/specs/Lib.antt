@@ -14,3 +14,5 @@ pub mod Extreme
 pub mod SupportingPlane
 pub mod Polygon
 pub mod Polygons
+pub mod Hull
+pub mod Text

@@ -6,8 +6,10 @@
 #![tactic(auto)]
 
 pub mod laws;
+mod hull;
 mod limits;
 mod point;
 
+pub use hull::{Body, Hull, Polygon};
 pub use limits::{BYTE_LIMIT, COORDINATE_LIMIT, POINT_LIMIT};
 pub use point::{Id, Memory, Point};
