@@ -1,2 +1,3 @@
 pub mod algebra
+pub mod Members
 pub mod ReadingLaws

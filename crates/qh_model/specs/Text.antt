@@ -20,15 +20,23 @@ spaced n = 32 ∷ decimal n
 abbrev pub rank_text : HullValue → List ℕ
 rank_text h = line (decimal h.given ++ spaced h.distinct ++ spaced h.body.dim)
 
--- `s`: six lines
-abbrev pub summary_text : HullValue → List ℕ
-summary_text h =
+-- the first three lines of `s`: what was given
+abbrev pub given_text : HullValue → List ℕ
+given_text h =
     line (codes "Convex hull of " ++ decimal h.given ++ codes " points in 3-d:")
     ++ line (codes "  dimension: " ++ decimal h.body.dim)
     ++ line (codes "  distinct points: " ++ decimal h.distinct)
-    ++ line (codes "  extreme points: " ++ decimal (length h.body.extremes))
-    ++ line (codes "  facets: " ++ decimal (length h.body.polygons))
-    ++ line (codes "  edges: " ++ decimal h.body.edges)
+
+-- the last three lines of `s`: what was found
+abbrev pub found_text : BodyValue → List ℕ
+found_text b =
+    line (codes "  extreme points: " ++ decimal (length b.extremes))
+    ++ line (codes "  facets: " ++ decimal (length b.polygons))
+    ++ line (codes "  edges: " ++ decimal b.edges)
+
+-- `s`: six lines
+abbrev pub summary_text : HullValue → List ℕ
+summary_text h = given_text h ++ found_text h.body
 
 -- `Fx`: the number of extreme points, then their ids, one a line
 abbrev pub extremes_text : BodyValue → List ℕ
