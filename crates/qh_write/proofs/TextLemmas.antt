@@ -36,14 +36,16 @@ numbered-at table (e ∷ es) n i once h l = by (numbered-at (set table e n) es (
   where
     first : e ≡ i → slice_index (numbered (set table e n) (suc n) es) i ≡ n + 0
     first s =
-      let low : e < length table = subst (λ (k : ℕ). k < length table) (sym s) l in
-      subst (λ (k : ℕ). slice_index (numbered (set table e n) (suc n) es) k ≡ n + 0) s
-      (numbered-other (set table e n) es (suc n) e once.0 ∙ get_or-set_same table e n 0 low ∙ omega arith)
+        let low : e < length table = subst (λ (k : ℕ). k < length table) (sym s) l in
+        subst (λ (k : ℕ). slice_index (numbered (set table e n) (suc n) es) k ≡ n + 0) s
+        (numbered-other (set table e n) es (suc n) e once.0 ∙ get_or-set_same table e n 0 low ∙ omega arith)
+
     later : (In i es → i < length (set table e n) → slice_index (numbered (set table e n) (suc n) es) i ≡ suc n + vertex_number es i)
-      → In i es → slice_index (numbered (set table e n) (suc n) es) i ≡ n + suc (vertex_number es i)
+        → In i es → slice_index (numbered (set table e n) (suc n) es) i ≡ n + suc (vertex_number es i)
     later rest h = rest h (rw length-set l) ∙ omega arith
+
     by : (In i es → i < length (set table e n) → slice_index (numbered (set table e n) (suc n) es) i ≡ suc n + vertex_number es i)
-      → (b : Bool) → (e == i) ≡ b → (i ≡ e) ⊎ In i es → slice_index (numbered (set table e n) (suc n) es) i ≡ n + cond b 0 (suc (vertex_number es i))
+        → (b : Bool) → (e == i) ≡ b → (i ≡ e) ⊎ In i es → slice_index (numbered (set table e n) (suc n) es) i ≡ n + cond b 0 (suc (vertex_number es i))
     by rest true s h = first (eqb-true e i s)
     by rest false s (inl h) = absurd (eqb-false e i s (sym h))
     by rest false s (inr h) = later rest h
@@ -61,10 +63,10 @@ face_by_numbers : (extremes : List ℕ) (count : ℕ) → IsStrictlyIncreasing e
 face_by_numbers extremes count rising within q named = ap (λ (t : List ℕ). line (decimal (length q) ++ t)) (pieces q named)
   where
     pieces : (q : List ℕ) → ((i : ℕ) → In i q → In i extremes)
-      → flat_map (λ i. spaced (slice_index (numbered (replicate count 0) 0 extremes) i)) q ≡ flat_map (λ i. spaced (vertex_number extremes i)) q
+        → flat_map (λ i. spaced (slice_index (numbered (replicate count 0) 0 extremes) i)) q ≡ flat_map (λ i. spaced (vertex_number extremes i)) q
     pieces [] named = refl
     pieces (i ∷ q) named =
-      ap₂ (λ (a b : List ℕ). a ++ b) (ap spaced (vertex_number_at extremes count rising within i (named i (inl refl)))) (pieces q (λ j h. named j (inr h)))
+        ap₂ (λ (a b : List ℕ). a ++ b) (ap spaced (vertex_number_at extremes count rising within i (named i (inl refl)))) (pieces q (λ j h. named j (inr h)))
 
 -- all faces by that table have their vertex numbers
 faces_by_numbers : (extremes : List ℕ) (count : ℕ) → IsStrictlyIncreasing extremes → All (λ i. i < count) extremes
@@ -88,6 +90,6 @@ faces_numbered extremes count qs table within order is =
     let long : length table ≡ count = ap length is ∙ length-numbered (replicate count 0) extremes 0 ∙ length-replicate count 0 in
     All-from_get_or (AreNumbered table) qs []
     (λ k h. All-from_get_or (λ i. i < length table) (get_or qs k []) 0
-      (λ j l. let small : get_or (get_or qs k []) j 0 < count =
-          All-In (λ i. i < count) extremes _ within (order.named (get_or qs k []) (In-get_or qs k [] h) (get_or (get_or qs k []) j 0) (In-get_or (get_or qs k []) j 0 l)) in
-        omega (arith, small, long)))
+    (λ j l. let small : get_or (get_or qs k []) j 0 < count =
+    All-In (λ i. i < count) extremes _ within (order.named (get_or qs k []) (In-get_or qs k [] h) (get_or (get_or qs k []) j 0) (In-get_or (get_or qs k []) j 0 l)) in
+    omega (arith, small, long)))

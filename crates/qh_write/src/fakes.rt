@@ -23,6 +23,7 @@ pub struct FailSink {
     bytes: Vec<u8>,
     failures: u64,
     writes: u64,
+    flushed: bool,
     plan: SinkPlan,
 }
 
@@ -38,6 +39,7 @@ impl FailSink {
             bytes: Vec::new(alloc),
             failures: 0,
             writes: 0,
+            flushed: true,
             plan,
         }
     }
@@ -77,8 +79,11 @@ impl Sink for FailSink {
 
     ghost count = { λ s. s.failures };
 
+    ghost is_flushed = { λ s. s.flushed };
+
     fn write(&mut self, bytes: &[u8]) -> Result<usize, SinkFault> {
         self.writes = self.writes.saturating_add(1);
+        self.flushed = false;
         if self.is_due() {
             return Err(self.fail());
         }
@@ -93,6 +98,7 @@ impl Sink for FailSink {
         if self.plan.flush_fails {
             return Err(self.fail());
         }
+        self.flushed = true;
         Ok(())
     }
 

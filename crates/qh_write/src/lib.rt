@@ -10,6 +10,8 @@ mod out;
 mod sending;
 mod sink;
 mod std_sink;
+#[cfg(test)]
+mod tests;
 mod texts;
 
 pub use mem_sink::MemSink;

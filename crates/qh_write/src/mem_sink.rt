@@ -1,4 +1,4 @@
-ghost use Rattle.std.specs.Prelude.{◌≡◌, [], Some};
+ghost use Rattle.std.specs.Prelude.{◌≡◌, [], Some, true};
 
 use crate::sink::{Sink, SinkFault};
 use std::alloc::Global;
@@ -36,6 +36,8 @@ impl Sink for MemSink {
     ghost went = { λ s. Some s.bytes.items };
 
     ghost count = { λ s. s.failures };
+
+    ghost is_flushed = { λ _. true };
 
     fn write(&mut self, bytes: &[u8]) -> Result<usize, SinkFault> {
         if self.bytes.extend_from_slice(bytes).is_err() {

@@ -1,4 +1,4 @@
-ghost use Rattle.std.specs.Prelude.{◌≡◌, ℕ, ◌+◌, ◌-◌, ◌^◌, ◌<◌, OnOk, OnErr};
+ghost use Rattle.std.specs.Prelude.{◌≡◌, ℕ, ◌+◌, ◌-◌, ◌^◌, ◌<◌, OnOk, OnErr, true};
 ghost use Rattle.std.specs.Io.KnownBytes.{Appends};
 ghost use Rattle.qh_write.specs.Sinks.{AppendsBeginning};
 
@@ -15,6 +15,7 @@ pub struct SendFault;
 pub fn send<K: Sink>(sink: &mut K, bytes: &[u8]) -> Result<(), SendFault>
     requires { K.count sink.old < 2 ^ 64 - 1 }
     ensures sent { OnOk result (Appends (K.went sink.old) (K.went sink.new) bytes.now) }
+    ensures flushed { OnOk result (K.is_flushed sink.new ≡ true) }
     ensures no_failure { OnOk result (K.count sink.new ≡ K.count sink.old) }
     ensures beginning { OnErr result (AppendsBeginning (K.went sink.old) (K.went sink.new) bytes.now) }
     ensures one_failure { OnErr result (K.count sink.new ≡ K.count sink.old + 1) }

@@ -1,4 +1,4 @@
-ghost use Rattle.std.specs.Prelude.{◌≡◌, ℕ, ◌+◌, ◌-◌, ◌^◌, ◌<◌, ◌≤◌, List, Option, IfOk, length, is_ok, if◌then◌else◌};
+ghost use Rattle.std.specs.Prelude.{◌≡◌, ℕ, ◌+◌, ◌-◌, ◌^◌, ◌<◌, ◌≤◌, List, Bool, true, Option, IfOk, OnOk, length, is_ok, if◌then◌else◌};
 ghost use Rattle.std.specs.Io.KnownBytes.{WriteAppends, Keeps};
 
 /// A sink failed.
@@ -13,6 +13,9 @@ pub trait Sink {
     // How many calls have failed.
     ghost count: { Self → ℕ };
 
+    // Whether the device holds nothing back.
+    ghost is_flushed: { Self → Bool };
+
     /// Takes a beginning of `bytes`, at least one byte, and answers how many it took; or fails, takes
     /// none and counts the failure.
     fn write(&mut self, bytes: &[u8]) -> Result<usize, SinkFault>
@@ -25,6 +28,7 @@ pub trait Sink {
     /// Sends on what the device still holds back; or fails and counts the failure.
     fn flush(&mut self) -> Result<(), SinkFault>
         requires room { count self.old < 2 ^ 64 - 1 }
+        ensures flushed { OnOk result (is_flushed self.new ≡ true) }
         ensures went { Keeps (went self.old) (went self.new) }
         ensures count { count self.new ≡ (if is_ok result then count self.old else count self.old + 1) };
 

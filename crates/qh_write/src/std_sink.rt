@@ -8,6 +8,7 @@ use std::io::Write;
 pub struct StdSink<W: Write + Drop> {
     writer: W,
     failures: u64,
+    flushed: bool,
 }
 
 impl<W: Write + Drop> StdSink<W> {
@@ -19,6 +20,7 @@ impl<W: Write + Drop> StdSink<W> {
         StdSink {
             writer,
             failures: 0,
+            flushed: true,
         }
     }
 }
@@ -28,7 +30,10 @@ impl<W: Write + Drop> Sink for StdSink<W> {
 
     ghost count = { λ s. s.failures };
 
+    ghost is_flushed = { λ s. s.flushed };
+
     fn write(&mut self, bytes: &[u8]) -> Result<usize, SinkFault> {
+        self.flushed = false;
         match self.writer.write(bytes) {
             Ok(taken) if taken > 0 => Ok(taken),
             _ => {
@@ -43,6 +48,7 @@ impl<W: Write + Drop> Sink for StdSink<W> {
             self.failures += 1;
             return Err(SinkFault);
         }
+        self.flushed = true;
         Ok(())
     }
 

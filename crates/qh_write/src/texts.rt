@@ -5,6 +5,7 @@ ghost use Rattle.qh_write.specs.Outs.{out_number, out_numbers, NamesPoints};
 mod lines;
 mod numbering;
 mod off;
+mod room;
 mod summary;
 
 use crate::out::Out;
@@ -50,16 +51,11 @@ fn push_outputs(
 ///
 /// The caller sees to it that every id in the hull is the index of a point in `pts`. The only error
 /// is want of memory. Source: Qhull manual (`Fx`), Geomview OFF.
-pub fn text(
-    alloc: Global,
-    hull: &Hull,
-    pts: &[Point],
-    outs: &[Out],
-) -> Result<Vec<u8>, Memory>
+pub fn text(alloc: Global, hull: &Hull, pts: &[Point], outs: &[Out]) -> Result<Vec<u8>, Memory>
     requires { NamesPoints hull.now pts.now }
     ensures { IfOk result (λ t. t.items ≡ hull_text hull.now pts.now (out_numbers outs.now)) }
 {
-    let mut text = Vec::new(alloc);
+    let mut text = Vec::with_capacity(alloc, room::room_for(&hull.body, outs))?;
     push_outputs(&mut text, alloc, hull, pts, outs)?;
     Ok(text)
 }

@@ -11,4 +11,4 @@ returns c =
     c.loop-out.invariant
     ∙ ap (λ t. c.args.text.now.items ++ t)
     (ap (λ outs. flat_map (λ out. piece (out_number out)) outs) (take_all c.loop-out.out-index c.args.outs.now c.loop-out-test.false)
-      ∙ sym (flat_map-map piece out_number c.args.outs.now))
+    ∙ sym (flat_map-map piece out_number c.args.outs.now))
