@@ -2,4 +2,5 @@ pub mod algebra
 pub mod Lists
 pub mod combinations
 pub mod extremes
+pub mod surfaces
 pub mod ReadingLaws

@@ -5,6 +5,7 @@
 mod combinations;
 mod extremes;
 mod reading;
+mod surfaces;
 
 pub use combinations::combination_or_separator;
 pub use extremes::{
@@ -12,3 +13,7 @@ pub use extremes::{
     planes_of_extremes, union_extremes,
 };
 pub use reading::one_reading;
+pub use surfaces::{
+    horizon_goes_round, live_is_marked, replace_keeps, rise_is_vol, settled_stay_unseen,
+    simplex_is_sound, surface_covers, walk_finds_all,
+};
