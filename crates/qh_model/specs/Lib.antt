@@ -28,3 +28,6 @@ pub mod CoveredPoints
 pub mod StoredSurface
 pub mod SurfaceLaws
 pub mod CoverageLaws
+pub mod PolygonLaws
+pub mod ClosedSurface
+pub mod ClosedSurfaceLaws
