@@ -29,5 +29,6 @@ pub mod StoredSurface
 pub mod SurfaceLaws
 pub mod CoverageLaws
 pub mod PolygonLaws
+pub mod HullLaws
 pub mod ClosedSurface
 pub mod ClosedSurfaceLaws

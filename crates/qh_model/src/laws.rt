@@ -5,6 +5,7 @@
 mod closed_surfaces;
 mod combinations;
 mod extremes;
+mod hulls;
 mod polygons;
 mod reading;
 mod surfaces;
@@ -12,9 +13,10 @@ mod surfaces;
 pub use closed_surfaces::closed_surface_encloses;
 pub use combinations::combination_or_separator;
 pub use extremes::{
-    extremes_of_faces, greatest_is_extreme, members_are_combinations, one_dimension,
-    planes_of_extremes, union_extremes,
+    extremes_of_faces, greatest_is_extreme, members_are_combinations, planes_of_extremes,
+    union_extremes,
 };
+pub use hulls::one_hull;
 pub use polygons::{one_polygon, polygon_by_direction};
 pub use reading::one_reading;
 pub use surfaces::{

@@ -1,5 +1,5 @@
 -- The signed volume of a closed surface: what changes its sign with an edge's direction adds up to nothing.
-use Rattle.std.proofs.Common.{◌≡◌, ℕ, ◌+◌, arith, ap, sym, ◌∙◌, refl, List, [], ◌∷◌, map, Bool, true, false, eqb, rules}
+use Rattle.std.proofs.Common.{◌≡◌, ℕ, arith, ap, sym, ◌∙◌, refl, List, [], ◌∷◌, map, Bool, true, false, eqb, rules}
 use Rattle.std.proofs.lemmas.Int.{ints}
 use Rattle.std.specs.Prelude.{ℤ, pos, ◌+ℤ◌, neg_ℤ, ◌&&◌}
 use Rattle.qh_model.specs.Vector.{Vector}

@@ -1,9 +1,8 @@
 -- A polygon depends on its set and on the direction of its normal alone.
-use Rattle.std.proofs.Common.{◌≡◌, ℕ, List, [], ◌∷◌}
-use Rattle.std.specs.Prelude.{pos, ◌↔◌}
+use Rattle.std.proofs.Common.{ℕ, List, [], ◌∷◌}
+use Rattle.std.specs.Prelude.{◌↔◌}
 use Rattle.qh_model.specs.Vector.{Vector}
-use Rattle.qh_model.specs.Predicates.{left}
-use Rattle.qh_model.specs.Sets.{In, Members}
+use Rattle.qh_model.specs.Sets.{Members}
 use Rattle.qh_model.specs.FaceLaws.{IsAlong}
 use Rattle.qh_model.specs.Polygon.{AlongPath, AroundCycle, TurnsLeft, IsPolygon}
 use Rattle.qh_model.specs.PolygonLaws.{PolygonByDirection}

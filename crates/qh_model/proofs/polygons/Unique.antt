@@ -1,12 +1,12 @@
 -- One list alone goes round a set and begins with its least id.
-use Rattle.std.proofs.Common.{◌≡◌, ◌≢◌, ℕ, ◌≤◌, refl, List, [], ◌∷◌, arith, sym, subst, ◌∙◌, ◌⊎◌, inl, inr, ⊎_elim}
+use Rattle.std.proofs.Common.{◌≡◌, ◌≢◌, ℕ, refl, List, [], ◌∷◌, arith, sym, subst, inl, inr, ⊎_elim}
 use Rattle.std.proofs.lemmas.Int.{ints}
 use native.Mathlib.Decide.{ℕ_discrete}
 use Rattle.std.specs.Prelude.{ℤ, pos, neg_ℤ, ◌<ℤ◌, ◌↔◌}
 use Rattle.qh_model.specs.Vector.{Vector}
 use Rattle.qh_model.specs.Predicates.{left}
 use Rattle.qh_model.specs.Sets.{In, Once, BeginsWithLeast, Members}
-use Rattle.qh_model.specs.Polygon.{AlongPath, AroundCycle, TurnsLeft, IsPolygon}
+use Rattle.qh_model.specs.Polygon.{AlongPath, TurnsLeft, IsPolygon}
 use Rattle.qh_model.specs.PolygonLaws.{PolygonIsUnique}
 use Rattle.qh_model.proofs.algebra.VectorIdentities.{left-flip}
 
