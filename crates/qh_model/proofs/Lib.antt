@@ -7,3 +7,4 @@ pub mod closed_surfaces
 pub mod polygons
 pub mod hulls
 pub mod ReadingLaws
+pub mod Examples
