@@ -1,0 +1,5 @@
+pub mod Tokens
+pub mod Progress
+pub mod Building
+pub mod Holding
+pub mod Faults
