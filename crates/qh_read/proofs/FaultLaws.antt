@@ -1,5 +1,5 @@
 -- The first fault that the words have is the one that a reader finds.
-use Rattle.std.proofs.Common.{◌≡◌, ◌∙◌, ◌++◌, [], ◌∷◌, ◌*◌, ◌≤◌, ◌&&◌, ℕ, List, Bool, true, false, cond, refl, ap, sym, arith, zero, suc, length, nat_lt, inr}
+use Rattle.std.proofs.Common.{◌≡◌, ◌∙◌, ◌++◌, [], ◌∷◌, ◌*◌, ◌≤◌, ◌&&◌, ℕ, List, Bool, true, false, cond, refl, ap, sym, arith, zero, suc, length, nat_lt}
 use Rattle.std.specs.Prelude.{ℤ, pos, negsuc, Option, Some, None, option_map, nat_le}
 use Rattle.std.proofs.lemmas.Bool.Decides.{nat_tests}
 use Rattle.qh_model.specs.declared.limits.TheConstants.{POINT_LIMIT, BYTE_LIMIT}
@@ -7,7 +7,8 @@ use Rattle.qh_model.specs.Limits.{is_coordinate}
 use Rattle.qh_model.specs.Words.{Word, data_words}
 use Rattle.qh_model.specs.Numbers.{number_of}
 use Rattle.qh_model.specs.FileFault.{FileFault, fault, fault_on, number_or, is_three, coordinates_fault, counted_fault, headed_fault, after_first_fault, words_fault, first_fault}
-use Rattle.qh_read.specs.Faults.{fault_shown, lack, IsFaultOf}
+use Rattle.qh_read.specs.ReadFaults.{fault_shown, IsFirstFault}
+use Rattle.qh_read.specs.Building.{lack}
 use Rattle.qh_read.specs.Tokens.{cap, capped}
 use Rattle.qh_read.specs.Progress.{Progress, wants_first, wants_second, wants, fails, counted, headed, after}
 use Rattle.qh_read.specs.declared.fault.ReadFault.{ReadFault}
@@ -81,5 +82,5 @@ lacks (w ∷ ws) = by (number_of w.text)
 first : (bs : List ℕ) → length bs ≤ BYTE_LIMIT → first_fault bs ≡ words_fault (data_words bs)
 first bs h = let e : nat_lt BYTE_LIMIT (length bs) ≡ false = grind (arith, nat_tests) in ap (λ (b : Bool). cond b (fault 10) (words_fault (data_words bs))) e
 
-pub found : (bs : List ℕ) (e : ReadFault) → length bs ≤ BYTE_LIMIT → lack (judged wants_first (data_words bs)) ≡ fault_shown e → IsFaultOf bs e
-found bs e small h = inr (first bs small ∙ sym (lacks (data_words bs)) ∙ h)
+pub found : (bs : List ℕ) (e : ReadFault) → length bs ≤ BYTE_LIMIT → lack (judged wants_first (data_words bs)) ≡ fault_shown e → IsFirstFault bs e
+found bs e small h = first bs small ∙ sym (lacks (data_words bs)) ∙ h

@@ -11,7 +11,7 @@ use Rattle.qh_model.specs.Vector.{Vector}
 use Rattle.qh_read.proofs.Lexing.{Lexed, start, ended, begun, next, lexed}
 use Rattle.qh_read.specs.Tokens.{cap, grown, value_of}
 use Rattle.qh_read.specs.Progress.{Progress, wants_first, wants, after}
-use Rattle.qh_read.specs.Building.{pending_list}
+use Rattle.qh_read.specs.Stages.{pending_list}
 use Rattle.qh_read.specs.Holding.{Held, held_at_start, word_ended, held_begun, ended_held, next_held, held_by}
 use Rattle.qh_read.specs.declared.token.Token.{Token}
 use Rattle.qh_read.specs.declared.token.Token.TheVariants.{Empty, Sign, Digits, Other}

@@ -1,39 +1,33 @@
 -- What a builder shows of the file so far.
-use Rattle.std.specs.Prelude.{ℤ, ◌≡◌, List, [], ◌∷◌, ◌++◌}
+use Rattle.std.specs.Prelude.{ℕ, ℤ, ◌≡◌, ◌+◌, ◌*◌, List, ◌++◌, zero, suc, Option, None, vec_len}
+use Rattle.qh_model.specs.Vector.{Vector}
 use Rattle.qh_model.specs.PointFile.{coordinates}
+use Rattle.qh_model.specs.FileFault.{FileFault, fault}
+use Rattle.qh_read.specs.ReadFaults.{fault_shown}
 use Rattle.qh_read.specs.Progress.{Progress, wants_first, wants_second, wants, fails}
-use Rattle.qh_read.specs.declared.builder.Stage.{Stage}
-use Rattle.qh_read.specs.declared.builder.Stage.TheVariants as stages
+use Rattle.qh_read.specs.Stages.{stage_shown, pending_list, pending_count}
 use Rattle.qh_read.specs.declared.builder.Pending.{Pending}
-use Rattle.qh_read.specs.declared.builder.Pending.TheVariants as pendings
 use Rattle.qh_read.specs.declared.builder.Builder.{Builder}
-
--- a stage, with the coordinates that were taken
-abbrev pub stage_shown : Stage → List ℤ → Progress
-stage_shown stages.First t = wants_first
-stage_shown (stages.Second first) t = wants_second first
-stage_shown (stages.Coordinates left) t = wants left t
-stage_shown (stages.Failed fault) t = fails fault
-
--- the coordinates of the next point so far
-abbrev pub pending_list : Pending → List ℤ
-pending_list pendings.Zero = []
-pending_list (pendings.One x) = x.value ∷ []
-pending_list (pendings.Two x y) = x.value ∷ y.value ∷ []
 
 -- all coordinates so far
 abbrev pub taken : Builder → List ℤ
 taken b = coordinates b.points.items ++ pending_list b.pending
 
+-- their number
+abbrev pub taken_count : Builder → ℕ
+taken_count b = 3 * vec_len b.points + pending_count b.pending
+
 abbrev pub shown : Builder → Progress
 shown b = stage_shown b.stage (taken b)
 
--- no coordinate is there before the header
-abbrev pub fresh_at : Stage → List ℤ → Type 0
-fresh_at stages.First t = t ≡ []
-fresh_at (stages.Second first) t = t ≡ []
-fresh_at (stages.Coordinates left) t = Unit {0}
-fresh_at (stages.Failed fault) t = Unit {0}
+-- what a file that ends here lacks
+abbrev pub lack : Progress → Option FileFault
+lack wants_first = fault 1
+lack (wants_second first) = fault 1
+lack (wants zero taken) = None
+lack (wants (suc left) taken) = fault 7
+lack (fails f) = fault_shown f
 
-abbrev pub IsFresh : Builder → Type 0
-IsFresh b = fresh_at b.stage (taken b)
+-- the points are all that was asked for
+abbrev pub AreAll : Progress → List Vector → Type 0
+AreAll p ps = (q : Pending) × (p ≡ wants 0 (coordinates ps ++ pending_list q))

@@ -1,8 +1,9 @@
 //! Why points could not be read.
 ghost use Rattle.std.specs.Prelude.{◌≡◌};
-ghost use Rattle.qh_read.specs.declared.fault.ReadFault.TheVariants as faults;
+ghost use Rattle.qh_read.specs.declared.fault.FeedFault.TheVariants.{Memory};
+ghost use Rattle.qh_read.specs.ReadFaults.{read_fault};
 
-use std::alloc::{AllocError, AllocFailed};
+use std::alloc::AllocError;
 
 /// Why a point file could not be read. A line is counted from 1 and ends at byte 10.
 ///
@@ -32,18 +33,30 @@ pub enum ReadFault {
     Big,
 }
 
-impl<T: Drop> From<AllocFailed<T>> for ReadFault {
-    ghost from_gives = { λ _ e. e ≡ faults.Memory };
+/// Why a piece could not be taken.
+#[derive(Clone, Copy, Debug, PartialEq, Eq)]
+pub enum FeedFault {
+    /// There would be more than `BYTE_LIMIT` bytes.
+    Big,
+    /// Memory was refused.
+    Memory,
+}
 
-    fn from(_: AllocFailed<T>) -> ReadFault {
-        ReadFault::Memory
+impl From<AllocError> for FeedFault {
+    ghost from_gives = { λ _ e. e ≡ Memory };
+
+    fn from(_: AllocError) -> FeedFault {
+        FeedFault::Memory
     }
 }
 
-impl From<AllocError> for ReadFault {
-    ghost from_gives = { λ _ e. e ≡ faults.Memory };
+impl From<FeedFault> for ReadFault {
+    ghost from_gives = { λ f e. e ≡ read_fault f };
 
-    fn from(_: AllocError) -> ReadFault {
-        ReadFault::Memory
+    fn from(fault: FeedFault) -> ReadFault {
+        match fault {
+            FeedFault::Big => ReadFault::Big,
+            FeedFault::Memory => ReadFault::Memory,
+        }
     }
 }

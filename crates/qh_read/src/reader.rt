@@ -1,106 +1,85 @@
-ghost use Rattle.std.specs.Prelude.{◌≡◌, ◌≤◌, ◌<◌, ◌+◌, ◌^◌, OnOk, IfOk, IfErr, length, List, ℕ, ◌++◌};
-ghost use Rattle.qh_read.specs.Faults.{IsFaultOf};
+//! Reading in pieces, and of whole byte strings.
+ghost use Rattle.std.specs.Prelude.{◌≡◌, ◌<◌, ◌+◌, ◌++◌, ◌↔◌, List, ℕ, [], length, IfOk, IfErr, OnOk, OnErr, Err};
 ghost use Rattle.qh_model.specs.PointFile.{Reads};
-ghost use Rattle.qh_read.specs.Tokens.{IsSmall};
-ghost use Rattle.qh_read.specs.Building.{IsFresh};
-ghost use Rattle.qh_read.specs.Holding.{held, held_at_start, ended_held, next_held, held_by, Fed};
+ghost use Rattle.qh_read.specs.ReadFaults.{IsFaultOf, IsFirstFault, IsTextFault};
+ghost use Rattle.qh_read.specs.Holding.{Fed};
 
-use crate::builder::Builder;
-use crate::fault::ReadFault;
-use crate::token::{Token, begins_data, blank};
+use crate::fault::{FeedFault, ReadFault};
+use crate::scanner::Scanner;
+use crate::token::Token;
 use qh_model::{BYTE_LIMIT, Point};
-use std::alloc::{AllocError, Global};
+use std::alloc::Global;
+use std::marker::Model;
 
-/// What is known of the bytes so far. It keeps no bytes.
+/// Reads a point file that comes in pieces, cut anywhere.
+///
+/// It keeps the points so far and no bytes: of the word under way only what tells its number. It
+/// goes on after a fault of the text, which `finish` answers. A contract sees what it holds and of
+/// how many bytes, and speaks of the bytes fed by `Fed`.
 #[derive(Drop)]
 pub struct Reader {
-    pub builder: Builder,
-    pub token: Token,
-    pub comment: bool,
-    pub line: u32,
+    scanner: Scanner,
+    token: Token,
+    count: u32,
+}
+
+impl Model for Reader {
+    ghost use Rattle.qh_read.specs.Holding.{Reading};
+
+    ghost Value = { Reading };
+
+    ghost use Rattle.qh_read.specs.Reading.{reading_shown, IsSound};
+
+    ghost view = { reading_shown };
+
+    ghost invariant = { IsSound };
 }
 
 impl Reader {
+    /// A reader that was fed nothing. It takes no memory yet, and grows by `alloc`.
     pub fn new(alloc: Global) -> Reader
-        ensures held { held result ≡ held_at_start }
-        ensures small { IsSmall result.token }
-        ensures fresh { IsFresh result.builder }
-        ensures line { result.line ≡ 1 }
+        ensures { Fed result [] }
     {
         Reader {
-            builder: Builder::new(alloc),
+            scanner: Scanner::new(alloc),
             token: Token::Empty,
-            comment: false,
-            line: 1,
+            count: 0,
         }
     }
 
-    fn end_word(&mut self) -> Result<(), AllocError>
-        requires small { IsSmall self.old.token }
-        requires fresh { IsFresh self.old.builder }
-        ensures held { OnOk result (held self.new ≡ ended_held (held self.old)) }
-        ensures fresh { OnOk result (IsFresh self.new.builder) }
-    {
-        if self.token != Token::Empty {
-            self.builder.take(self.token.value(), self.line)?;
-            self.token = Token::Empty;
-        }
-        Ok(())
-    }
-
-    fn step(&mut self, byte: u8) -> Result<(), AllocError>
-        requires small { IsSmall self.old.token }
-        requires fresh { IsFresh self.old.builder }
-        requires line { self.old.line < 2 ^ 31 }
-        ensures held { OnOk result (held self.new ≡ next_held (held self.old) byte) }
-        ensures small { OnOk result (IsSmall self.new.token) }
-        ensures fresh { OnOk result (IsFresh self.new.builder) }
-        ensures line { OnOk result (self.new.line ≤ self.old.line + 1) }
-    {
-        if byte == b'\n' {
-            self.end_word()?;
-            self.comment = false;
-            self.line += 1;
-        } else if !self.comment {
-            if blank(byte) {
-                self.end_word()?;
-            } else if self.token != Token::Empty || begins_data(byte) {
-                self.token = self.token.grow(byte);
-            } else {
-                self.comment = true;
-            }
-        }
-        Ok(())
-    }
-
-    /// Takes the next bytes.
-    pub fn feed(&mut self, piece: &[u8]) -> Result<(), AllocError>
-        requires small { IsSmall self.old.token }
-        requires fresh { IsFresh self.old.builder }
-        requires line { self.old.line + length piece.now < 2 ^ 31 }
-        ensures held { OnOk result (held self.new ≡ held_by (held self.old) piece.now) }
+    /// Takes the next bytes of the file.
+    ///
+    /// `Big` is answered just where more than `BYTE_LIMIT` bytes would have come, before any
+    /// growth, and `Memory` where room for the points was refused. All growths come before the
+    /// first change, so a refusal leaves the reader as it was.
+    pub fn feed(&mut self, piece: &[u8]) -> Result<(), FeedFault>
         ensures fed { OnOk result ((before : List ℕ) → Fed self.old before → Fed self.new (before ++ piece.now)) }
-        ensures small { OnOk result (IsSmall self.new.token) }
-        ensures fresh { OnOk result (IsFresh self.new.builder) }
-        ensures line { OnOk result (self.new.line ≤ self.old.line + length piece.now) }
+        ensures big { (result ≡ Err FeedFault.Big) ↔ (BYTE_LIMIT < self.old.count + length piece.now) }
+        ensures refused { OnErr result (self.new ≡ self.old) }
     {
-        for byte in piece {
-            self.step(*byte)?;
+        if piece.len() > (BYTE_LIMIT - self.count) as usize {
+            return Err(FeedFault::Big);
         }
+        self.scanner.reserve(piece.len())?;
+        self.count += piece.len() as u32;
+        self.token = self.scanner.scan(self.token, piece);
         Ok(())
     }
-}
 
-/// Reads all points.
-pub fn read_points(alloc: Global, bytes: &[u8]) -> Result<Vec<Point>, ReadFault>
-    ensures read { IfOk result (λ points. Reads bytes.now points.items) }
-    ensures fault { IfErr result (λ e. IsFaultOf bytes.now e) }
-{
-    if bytes.len() > BYTE_LIMIT as usize {
-        return Err(ReadFault::Big);
+    /// The points of the bytes fed, or their first fault, from `NoHeader` to `Short`.
+    ///
+    /// It takes no memory.
+    pub fn finish(self) -> Result<Vec<Point>, ReadFault>
+        ensures read { IfOk result (λ points. (bytes : List ℕ) → Fed self bytes → Reads bytes points.items) }
+        ensures fault { IfErr result (λ e. (bytes : List ℕ) → Fed self bytes → IsFirstFault bytes e) }
+        ensures text { IfErr result IsTextFault }
+    {
+        let Reader {
+            mut scanner,
+            token,
+            ..
+        } = self;
+        scanner.end_word(token);
+        scanner.builder.finish()
     }
-    let mut reader = Reader::new(alloc);
-    reader.feed(bytes)?;
-    reader.end_word()?;
-    reader.builder.finish()
 }

@@ -1,7 +1,9 @@
-use Rattle.std.proofs.Common.{arith}
+use Rattle.std.proofs.Common.{arith, ◌≡◌, ◌++◌, [], ◌∷◌}
 use Rattle.std.proofs.lemmas.Grind.{common_steps}
 use Rattle.qh_read.proofs.BuildingLemmas.{coordinates-push}
 use Rattle.qh_read.proofs.builder.Builder.push.Goals as goal
 
-pub returns-in_ok-push-in-Two-clause-ok : goal.returns-in_ok-push-in-Two-clause-ok
-returns-in_ok-push-in-Two-clause-ok c = rw (c.in_ok-push-in-Two.ensures.items, coordinates-push, c.in-Two.is) (grind (arith, common_steps))
+pub returns-in-Two-clause-taken : goal.returns-in-Two-clause-taken
+returns-in-Two-clause-taken c =
+    let items : c.push.new.self.items ≡ c.args.self.now.points.items ++ c.new-point.result ∷ [] = grind (arith, common_steps) in
+    rw (items, coordinates-push, c.in-Two.is) (grind (arith, common_steps))
