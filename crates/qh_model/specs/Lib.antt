@@ -19,6 +19,8 @@ pub mod FaceLaws
 pub mod DimensionLaws
 pub mod Polygon
 pub mod Polygons
+pub mod Hull
+pub mod Text
 pub mod Weighted
 pub mod Surface
 pub mod SoundSurface

@@ -101,7 +101,3 @@ impl Id {
         self.0 as usize
     }
 }
-
-/// Memory was refused.
-#[derive(Clone, Copy, Debug, PartialEq, Eq)]
-pub struct Memory;
