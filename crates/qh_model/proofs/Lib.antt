@@ -1,4 +1,5 @@
 pub mod algebra
+pub mod Members
 pub mod lists
 pub mod combinations
 pub mod extremes

@@ -2,4 +2,3 @@
 pub mod Unique
 pub mod FlatSets
 pub mod OfExtremes
-pub mod Texts

@@ -34,4 +34,3 @@ pub mod PolygonLaws
 pub mod HullLaws
 pub mod ClosedSurface
 pub mod ClosedSurfaceLaws
-pub mod TextLaws

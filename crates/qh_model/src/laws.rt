@@ -16,7 +16,7 @@ pub use extremes::{
     extremes_of_faces, greatest_is_extreme, members_are_combinations, planes_of_extremes,
     union_extremes,
 };
-pub use hulls::{one_hull, one_text};
+pub use hulls::{one_hull, one_value_each};
 pub use polygons::{one_polygon, polygon_by_direction};
 pub use reading::one_reading;
 pub use surfaces::{

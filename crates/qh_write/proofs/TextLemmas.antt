@@ -7,8 +7,7 @@ use Rattle.std.specs.Prelude.{◌==◌}
 use Rattle.std.specs.List.{flat_map}
 use Rattle.std.specs.List.Sorted.{IsStrictlyIncreasing}
 use Rattle.qh_model.specs.Sets.{In, Once}
-use Rattle.qh_model.proofs.lists.Members.{all_at, in_at}
-use Rattle.qh_model.proofs.lists.Ordered.{once_rising}
+use Rattle.qh_model.proofs.Members.{All-In, In-get_or, rising_once}
 use Rattle.qh_model.specs.Hull.{IsBodyInOrder}
 use Rattle.qh_model.specs.Text.{line, spaced, vertex_number, face_text}
 use Rattle.qh_write.specs.Outs.{numbered, AreNumbered, face_by_table}
@@ -55,8 +54,8 @@ numbered-at table (e ∷ es) n i once h l = by (numbered-at (set table e n) es (
 vertex_number_at : (extremes : List ℕ) (count : ℕ) → IsStrictlyIncreasing extremes → All (λ i. i < count) extremes
     → (i : ℕ) → In i extremes → slice_index (numbered (replicate count 0) 0 extremes) i ≡ vertex_number extremes i
 vertex_number_at extremes count rising within i h =
-    let small : i < count = all_at (λ i. i < count) extremes i within h in
-    numbered-at (replicate count 0) extremes 0 i (once_rising extremes rising) h (rw length-replicate small) ∙ zero-add (vertex_number extremes i)
+    let small : i < count = All-In (λ i. i < count) extremes i within h in
+    numbered-at (replicate count 0) extremes 0 i (rising_once extremes rising) h (rw length-replicate small) ∙ zero-add (vertex_number extremes i)
 
 -- a face by that table has its vertex numbers
 face_by_numbers : (extremes : List ℕ) (count : ℕ) → IsStrictlyIncreasing extremes → All (λ i. i < count) extremes
@@ -92,5 +91,5 @@ faces_numbered extremes count qs table within order is =
     All-from_get_or (AreNumbered table) qs []
     (λ k h. All-from_get_or (λ i. i < length table) (get_or qs k []) 0
     (λ j l. let small : get_or (get_or qs k []) j 0 < count =
-    all_at (λ i. i < count) extremes _ within (order.named (get_or qs k []) (in_at qs k [] h) (get_or (get_or qs k []) j 0) (in_at (get_or qs k []) j 0 l)) in
+    All-In (λ i. i < count) extremes _ within (order.named (get_or qs k []) (In-get_or qs k [] h) (get_or (get_or qs k []) j 0) (In-get_or (get_or qs k []) j 0 l)) in
     omega (arith, small, long)))

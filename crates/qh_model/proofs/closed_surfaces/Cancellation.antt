@@ -9,7 +9,7 @@ use Rattle.qh_model.specs.Predicates.{vol}
 use Rattle.qh_model.specs.Sets.{In}
 use Rattle.qh_model.specs.ClosedSurface.{Triple, edges, IsClosed}
 use Rattle.qh_model.specs.ClosedSurfaceLaws.{IsCornerOf, NoneBelowAndBeyond}
-use Rattle.qh_model.proofs.lists.Members.{every_map}
+use Rattle.qh_model.proofs.Members.{every_map}
 use Rattle.qh_model.proofs.algebra.Integers.{mul_swap}
 use Rattle.qh_model.proofs.algebra.Order.{mul-pos, neg-mul}
 use Rattle.qh_model.proofs.algebra.Ring.{ring, eqb-is}

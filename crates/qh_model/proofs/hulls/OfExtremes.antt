@@ -10,11 +10,12 @@ use Rattle.qh_model.specs.Extreme.{Extreme}
 use Rattle.qh_model.specs.SupportingPlane.{IsSupportingTriple, OnPlane}
 use Rattle.qh_model.specs.FaceLaws.{IsAlong, SpannedByExtremes}
 use Rattle.qh_model.specs.Polygons.{AreFaces, IsFacePolygon, IsFlatFace, IsSegmentFace, IsPointFace, ArePolygons, PointsForward}
-use Rattle.qh_model.specs.HullLaws.{TriplesOfExtremes, PolygonsOfExtremes}
+use Rattle.qh_model.specs.Hull.{BodyValue, IsBody}
+use Rattle.qh_model.specs.HullLaws.{BodyOfExtremes, TriplesOfExtremes, PolygonsOfExtremes}
 use Rattle.qh_model.proofs.extremes.ExtremeIds.{listed_itself, extremes_between, combination_of_extremes}
 use Rattle.qh_model.proofs.extremes.Faces.{support_of_extremes}
 use Rattle.qh_model.proofs.extremes.SpanningTriples.{planes_of_extremes}
-use Rattle.qh_model.proofs.extremes.Dimensions.{triangle_of}
+use Rattle.qh_model.proofs.extremes.Dimensions.{dimension_of_extremes, triangle_of}
 use Rattle.qh_model.proofs.extremes.Directions.{along_itself, along_back}
 use Rattle.qh_model.proofs.polygons.Direction.{polygon_as}
 use Rattle.qh_model.proofs.hulls.FlatSets.{forward_not_zero, forward_along, flat_normals}
@@ -179,3 +180,20 @@ polygons_of_extremes at ids k qs d dim = (up, down)
     down (inr (inl (e, (q, f, g)))) = inr (inl (e, (q, flat_down at ids d (flat_of at (Members ids) k e dim) q f, g)))
     down (inr (inr (inl (e, (q, f, g))))) = inr (inr (inl (e, (q, segment_down at ids d q f, g))))
     down (inr (inr (inr (e, (q, f, g))))) = inr (inr (inr (e, (q, point_down at ids (alone_of at (Members ids) k e dim) q f, g))))
+
+pub body_of_extremes : BodyOfExtremes
+body_of_extremes at ids b d = (
+  λ f. let dim = (dimension_of_extremes at ids b.dim d).0 f.dim in
+      record {
+        dim = dim;
+        extremes = record { rising = f.extremes.rising; members = λ i. (λ h. (extremes_again at ids d i).0 ((f.extremes.members i).0 h), λ h. (f.extremes.members i).1 ((extremes_again at ids d i).1 h)) };
+        polygons = (polygons_of_extremes at ids b.dim b.polygons d dim).0 f.polygons;
+        edges = f.edges;
+      },
+  λ f. record {
+    dim = (dimension_of_extremes at ids b.dim d).1 f.dim;
+    extremes = record { rising = f.extremes.rising; members = λ i. (λ h. (extremes_again at ids d i).1 ((f.extremes.members i).0 h), λ h. (f.extremes.members i).1 ((extremes_again at ids d i).0 h)) };
+    polygons = (polygons_of_extremes at ids b.dim b.polygons d f.dim).1 f.polygons;
+    edges = f.edges;
+  },
+)

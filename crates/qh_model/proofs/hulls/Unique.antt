@@ -1,5 +1,5 @@
 -- Each part of a hull is one value: distinct ids, polygons, and the number of edges.
-use Rattle.std.proofs.Common.{◌≡◌, ℕ, ◌<◌, refl, List, [], ◌∷◌, arith, sym, ap, subst, ◌∙◌, ◌⊎◌, inl, inr}
+use Rattle.std.proofs.Common.{◌≡◌, ℕ, ◌<◌, refl, List, [], ◌∷◌, length, arith, sym, ap, subst, ◌∙◌, ◌⊎◌, inl, inr}
 use native.Mathlib.Decide.{ℕ_discrete}
 use Rattle.std.specs.Prelude.{◌↔◌}
 use Rattle.qh_model.specs.Vector.{Vector}
@@ -9,8 +9,12 @@ use Rattle.qh_model.specs.Dimension.{HasTetrahedron, HasSegment, IsDimension}
 use Rattle.qh_model.specs.Extreme.{Extreme}
 use Rattle.qh_model.specs.SupportingPlane.{IsSupportingTriple, OnPlane}
 use Rattle.qh_model.specs.FaceLaws.{IsAlong}
-use Rattle.qh_model.specs.Polygons.{AreFaces, IsFacePolygon, IsFlatFace, IsSegmentFace, IsPointFace, ArePolygons, PointsForward}
-use Rattle.qh_model.specs.HullLaws.{PolygonsAreUnique, EdgeCountIsUnique, RisingListIsUnique, DistinctIdsAreUnique}
+use Rattle.qh_model.specs.Polygons.{AreFaces, IsFacePolygon, IsFlatFace, IsSegmentFace, IsPointFace, ArePolygons, IsEdgeCount, PointsForward}
+use Rattle.qh_model.specs.Predicates.{place}
+use Rattle.qh_model.specs.Hull.{BodyValue, HullValue, IsBody, IsHull}
+use Rattle.qh_model.specs.Text.{hull_text}
+use Rattle.qh_model.specs.HullLaws.{BodyIsUnique, HullIsUnique, TextIsUnique, PolygonsAreUnique, EdgeCountIsUnique, RisingListIsUnique, DistinctIdsAreUnique}
+use Rattle.qh_model.proofs.extremes.Dimensions.{one_dimension}
 use Rattle.qh_model.proofs.lists.Ordered.{ordered_rising, ordered_unique}
 use Rattle.qh_model.proofs.lists.OnceEach.{once_length}
 use Rattle.qh_model.proofs.lists.Lexicographic.{rising_unique}
@@ -111,3 +115,35 @@ one_polygon_list at A k ps qs d (inr (inr (inr (e, a)))) (inr (inr (inl (f, b)))
 
 pub polygons_are_unique : PolygonsAreUnique
 polygons_are_unique at ids k ps qs d a b = one_polygon_list at (Members ids) k ps qs d a b
+
+-- ---- whole bodies, hulls and texts
+pub one_body : (at : ℕ → Vector) (A : ℕ → Type 0) (a b : BodyValue) → IsBody at A a → IsBody at A b → a ≡ b
+one_body at A a b f g = body_path a b dims extremes polygons (edge_count_is_unique a.polygons a.edges b.edges f.edges (subst (λ qs. IsEdgeCount qs b.edges) (sym polygons) g.edges))
+  where
+    body_path : (a b : BodyValue) → a.dim ≡ b.dim → a.extremes ≡ b.extremes → a.polygons ≡ b.polygons → a.edges ≡ b.edges → a ≡ b
+    body_path a b d e p n = λ i. record { dim = d i; extremes = e i; polygons = p i; edges = n i }
+
+    dims : a.dim ≡ b.dim
+    dims = one_dimension at A a.dim b.dim f.dim g.dim
+
+    extremes : a.extremes ≡ b.extremes
+    extremes = rising_list_is_unique a.extremes b.extremes f.extremes.rising g.extremes.rising
+        (λ i. (λ h. (g.extremes.members i).1 ((f.extremes.members i).0 h), λ h. (f.extremes.members i).1 ((g.extremes.members i).0 h)))
+
+    polygons : a.polygons ≡ b.polygons
+    polygons = one_polygon_list at A a.dim a.polygons b.polygons f.dim f.polygons (subst (λ k. ArePolygons at A k b.polygons) (sym dims) g.polygons)
+
+pub body_is_unique : BodyIsUnique
+body_is_unique at ids a b f g = one_body at (Members ids) a b f g
+
+pub hull_is_unique : HullIsUnique
+hull_is_unique pts a b f g = hull_path a b (f.given ∙ sym g.given) (f.distinct ∙ ap length ids ∙ sym g.distinct) (one_body (place pts) (Members f.ids) a.body b.body f.body (subst (λ l. IsBody (place pts) (Members l) b.body) (sym ids) g.body))
+  where
+    hull_path : (a b : HullValue) → a.given ≡ b.given → a.distinct ≡ b.distinct → a.body ≡ b.body → a ≡ b
+    hull_path a b e f g = λ i. record { given = e i; distinct = f i; body = g i }
+
+    ids : f.ids ≡ g.ids
+    ids = distinct_ids_are_unique pts f.ids g.ids f.distinct_ids g.distinct_ids
+
+pub text_is_unique : TextIsUnique
+text_is_unique pts outs s t f g = f.is ∙ ap (λ h. hull_text h pts outs) (hull_is_unique pts f.hull g.hull f.right g.right) ∙ sym g.is
