@@ -1,2 +1,5 @@
 pub mod algebra
+pub mod Lists
+pub mod combinations
+pub mod extremes
 pub mod ReadingLaws

@@ -10,7 +10,12 @@ pub mod Predicates
 pub mod DistinctIds
 pub mod Dimension
 pub mod Combination
+pub mod Separator
+pub mod CombinationLaws
 pub mod Extreme
+pub mod ExtremeLaws
 pub mod SupportingPlane
+pub mod FaceLaws
+pub mod DimensionLaws
 pub mod Polygon
 pub mod Polygons

@@ -1,5 +1,5 @@
 -- The polygon of a set of ids whose points lie in one plane.
-use Rattle.std.specs.Prelude.{◌≡◌, ◌≢◌, ℕ, List, [], ◌∷◌, pos, ◌<ℤ◌, ◌↔◌}
+use Rattle.std.specs.Prelude.{◌≢◌, ℕ, List, [], ◌∷◌, pos, ◌<ℤ◌, ◌↔◌}
 use Rattle.qh_model.specs.Vector.{Vector}
 use Rattle.qh_model.specs.Predicates.{left}
 use Rattle.qh_model.specs.Sets.{In, Once, BeginsWithLeast}

@@ -1,12 +1,12 @@
 -- The faces of a hull, as polygons, and its edges.
 -- Source: Geomview OFF (a face is the list of its vertices, counterclockwise from outside).
-use Rattle.std.specs.Prelude.{◌≡◌, ◌≢◌, ℕ, ◌<◌, ◌⊎◌, ◌↔◌, List, [], ◌∷◌, length, ℤ, pos, ◌<ℤ◌}
-use Rattle.qh_model.specs.Vector.{Vector, origin}
-use Rattle.qh_model.specs.Predicates.{cross, vol}
+use Rattle.std.specs.Prelude.{◌≡◌, ℕ, ◌<◌, ◌⊎◌, ◌↔◌, List, [], ◌∷◌, length, pos, ◌<ℤ◌}
+use Rattle.qh_model.specs.Vector.{Vector}
+use Rattle.qh_model.specs.Predicates.{cross}
 use Rattle.qh_model.specs.Sets.{In, Once}
 use Rattle.qh_model.specs.Extreme.{Extreme}
 use Rattle.qh_model.specs.SupportingPlane.{IsSupportingTriple, OnPlane}
-use Rattle.qh_model.specs.Polygon.{IsPolygon, AlongPath}
+use Rattle.qh_model.specs.Polygon.{IsPolygon}
 
 -- lexicographic order of lists: at the first place where they differ p has the lower number, or p ends there
 abbrev pub ComesBefore : List ℕ → List ℕ → Type 0

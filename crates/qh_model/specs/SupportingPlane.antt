@@ -3,7 +3,6 @@
 use Rattle.std.specs.Prelude.{◌≡◌, ℕ, pos, ◌≤ℤ◌}
 use Rattle.qh_model.specs.Vector.{Vector}
 use Rattle.qh_model.specs.Predicates.{vol, AreInLine}
-use Rattle.qh_model.specs.Extreme.{Extreme}
 
 -- no member is above the plane of i, j, k
 abbrev pub Supports : (ℕ → Vector) → (ℕ → Type 0) → ℕ → ℕ → ℕ → Type 0

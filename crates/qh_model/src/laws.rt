@@ -1,10 +1,14 @@
 //! The laws of the definitions: each function's contract is a theorem over `specs/` alone.
-ghost use Rattle.qh_model.specs.Readings.{ReadsOneList, HasListOrFault, IsNeverBoth};
+//!
+//! A law takes nothing and does nothing; a proof that needs it calls for the theorem by its name.
 
-/// A byte string is the file of one list of points and has no fault, or it has one first fault and
-/// is the file of none.
-pub fn one_reading()
-    ensures unique { ReadsOneList }
-    ensures either { HasListOrFault }
-    ensures never_both { IsNeverBoth }
-{}
+mod combinations;
+mod extremes;
+mod reading;
+
+pub use combinations::combination_or_separator;
+pub use extremes::{
+    extremes_of_faces, greatest_is_extreme, members_are_combinations, one_dimension,
+    planes_of_extremes, union_extremes,
+};
+pub use reading::one_reading;

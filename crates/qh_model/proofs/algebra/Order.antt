@@ -3,6 +3,7 @@ use Rattle.std.proofs.Common.{◌≡◌, ℕ, zero, suc, ◌*◌, ◌≤◌, ari
 use Rattle.std.proofs.Math.Nat.{mul-le-mul}
 use Rattle.std.proofs.lemmas.Int.{ints, by_lt_z}
 use Rattle.std.specs.Prelude.{ℤ, pos, negsuc, ◌+ℤ◌, ◌-ℤ◌, ◌*ℤ◌, ◌≤ℤ◌, ◌<ℤ◌}
+use lib.IntN.{ℤ_discrete}
 use borrow.Author.Differences.{product_is}
 use Rattle.qh_model.proofs.algebra.Integers.{mul_add}
 
@@ -83,3 +84,13 @@ neg-mul a b h k = by_lt_z (a *ℤ b) (pos 0) (λ q. q) (λ q. absurd (no_lt_and_
 
     no_lt_and_ge : (x : ℤ) → pos 0 ≤ℤ x → x <ℤ pos 0 → ⊥
     no_lt_and_ge x p q = omega (arith, ints)
+
+pub le_antisym : (a b : ℤ) → a ≤ℤ b → b ≤ℤ a → a ≡ b
+le_antisym a b h k = omega (arith, ints)
+
+pub zero_or_not : (v : ℤ) → (v ≡ pos 0) ⊎ (¬ (v ≡ pos 0))
+zero_or_not v = go (ℤ_discrete v (pos 0))
+  where
+    go : Dec (v ≡ pos 0) → (v ≡ pos 0) ⊎ (¬ (v ≡ pos 0))
+    go (yes e) = inl e
+    go (no n) = inr n

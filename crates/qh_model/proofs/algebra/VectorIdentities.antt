@@ -5,9 +5,9 @@ use Rattle.std.proofs.lemmas.Int.{ints}
 use Rattle.std.specs.Prelude.{ℤ, pos, ◌+ℤ◌, ◌-ℤ◌, ◌*ℤ◌, neg_ℤ, ◌≤ℤ◌, ◌<ℤ◌}
 use Rattle.qh_model.proofs.algebra.Order.{sign_step}
 use Rattle.qh_model.proofs.algebra.Ring.{Expr, ring, ring_zero}
-use Rattle.qh_model.proofs.algebra.Ring.Expr.{var, add, sub as less, mul, neg}
-use Rattle.qh_model.specs.Vector.{Vector, minus, cross_product, dot}
-use Rattle.qh_model.specs.Predicates.{vol, left}
+use Rattle.qh_model.proofs.algebra.Ring.Expr.{var, con, add, sub as less, mul, neg}
+use Rattle.qh_model.specs.Vector.{Vector, origin, minus, cross_product, dot}
+use Rattle.qh_model.specs.Predicates.{cross, vol, left, AreInLine}
 
 -- a vector of expressions
 pub record VE : Type 0 where
@@ -127,3 +127,96 @@ unfolding left
 left_product n u a b c d =
     ring_zero (put n (put (minus a u) (put (minus b u) (put (minus c u) (put (minus d u) [])))))
     (add (less (mul (detE (vec 1) (vec 2) (vec 0)) (detE (vec 3) (vec 4) (vec 0))) (mul (detE (vec 1) (vec 3) (vec 0)) (detE (vec 2) (vec 4) (vec 0)))) (mul (detE (vec 1) (vec 4) (vec 0)) (detE (vec 2) (vec 3) (vec 0)))) refl
+
+-- vectors are equal by their coordinates
+pub vector_path : (p q : Vector) → p.x ≡ q.x → p.y ≡ q.y → p.z ≡ q.z → p ≡ q
+vector_path p q e f g = λ i. record { x = e i; y = f i; z = g i }
+
+-- the scalar product of a difference
+pub dot-minus : (n q a : Vector) → dot n (minus q a) ≡ dot n q +ℤ neg_ℤ (dot n a)
+dot-minus n q a = ring (put n (put q (put a []))) (dotE (vec 0) (subE (vec 1) (vec 2))) (add (dotE (vec 0) (vec 1)) (neg (dotE (vec 0) (vec 2)))) refl
+
+-- a volume is a linear form of its last point
+pub vol-dot : (a b c q : Vector) → vol a b c q ≡ dot (cross a b c) (minus q a)
+unfolding vol cross
+vol-dot a b c q = refl
+
+pub vol-linear : (a b c q : Vector) → vol a b c q ≡ dot (cross a b c) q +ℤ neg_ℤ (dot (cross a b c) a)
+vol-linear a b c q = vol-dot a b c q ∙ dot-minus (cross a b c) q a
+
+-- a volume with a point twice
+pub vol-first : (a b c : Vector) → vol a b c a ≡ pos 0
+unfolding vol
+vol-first a b c = ring_zero (put a (put b (put c []))) (volE (vec 0) (vec 1) (vec 2) (vec 0)) refl
+
+pub vol-second : (a b c : Vector) → vol a b c b ≡ pos 0
+unfolding vol
+vol-second a b c = ring_zero (put a (put b (put c []))) (volE (vec 0) (vec 1) (vec 2) (vec 1)) refl
+
+pub vol-third : (a b c : Vector) → vol a b c c ≡ pos 0
+unfolding vol
+vol-third a b c = ring_zero (put a (put b (put c []))) (volE (vec 0) (vec 1) (vec 2) (vec 2)) refl
+
+-- each point of a volume can be brought to its end
+pub vol-first_last : (a b c d : Vector) → vol a b c d ≡ vol d c b a
+unfolding vol
+vol-first_last a b c d = ring (put a (put b (put c (put d [])))) (volE (vec 0) (vec 1) (vec 2) (vec 3)) (volE (vec 3) (vec 2) (vec 1) (vec 0)) refl
+
+pub vol-second_last : (a b c d : Vector) → vol a b c d ≡ vol c d a b
+unfolding vol
+vol-second_last a b c d = ring (put a (put b (put c (put d [])))) (volE (vec 0) (vec 1) (vec 2) (vec 3)) (volE (vec 2) (vec 3) (vec 0) (vec 1)) refl
+
+pub vol-third_last : (a b c d : Vector) → vol a b c d ≡ vol b a d c
+unfolding vol
+vol-third_last a b c d = ring (put a (put b (put c (put d [])))) (volE (vec 0) (vec 1) (vec 2) (vec 3)) (volE (vec 1) (vec 0) (vec 3) (vec 2)) refl
+
+-- the opposite direction
+abbrev pub opposite : Vector → Vector
+opposite u = record { x = neg_ℤ u.x; y = neg_ℤ u.y; z = neg_ℤ u.z }
+
+abbrev pub oppositeE : VE → VE
+oppositeE u = record { x = neg u.x; y = neg u.y; z = neg u.z }
+
+pub dot-opposite : (u p : Vector) → dot (opposite u) p ≡ neg_ℤ (dot u p)
+dot-opposite u p = ring (put u (put p [])) (dotE (oppositeE (vec 0)) (vec 1)) (neg (dotE (vec 0) (vec 1))) refl
+
+pub dot-origin : (p : Vector) → dot origin p ≡ pos 0
+dot-origin p = omega (arith, ints)
+
+-- a turn is the scalar product of the triangle's normal and n, and a linear form of its last point
+pub left-dot : (n a b c : Vector) → left n a b c ≡ dot (cross a b c) n
+unfolding left cross
+left-dot n a b c = refl
+
+pub left-linear : (n a b q : Vector) → left n a b q ≡ dot (cross_product n (minus b a)) q +ℤ neg_ℤ (dot (cross_product n (minus b a)) a)
+unfolding left
+left-linear n a b q =
+    ring (put n (put a (put b (put q [])))) (dotE (crossE (subE (vec 2) (vec 1)) (subE (vec 3) (vec 1))) (vec 0))
+    (add (dotE (crossE (vec 0) (subE (vec 2) (vec 1))) (vec 3)) (neg (dotE (crossE (vec 0) (subE (vec 2) (vec 1))) (vec 1)))) refl
+
+abbrev pub leftE : VE → VE → VE → VE → Expr
+leftE n u v w = dotE (crossE (subE v u) (subE w u)) n
+
+-- a turn goes round, and the other way round is the other turn
+pub left-turn : (n a b c : Vector) → left n a b c ≡ left n b c a
+unfolding left
+left-turn n a b c = ring (put n (put a (put b (put c [])))) (leftE (vec 0) (vec 1) (vec 2) (vec 3)) (leftE (vec 0) (vec 2) (vec 3) (vec 1)) refl
+
+pub left-flip : (n a b c : Vector) → left n a b c ≡ neg_ℤ (left n a c b)
+unfolding left
+left-flip n a b c = ring (put n (put a (put b (put c [])))) (leftE (vec 0) (vec 1) (vec 2) (vec 3)) (neg (leftE (vec 0) (vec 1) (vec 3) (vec 2))) refl
+
+-- three points in line have no volume with a fourth, and no turn
+pub in_line-vol : (a b c d : Vector) → AreInLine a b c → vol a b c d ≡ pos 0
+in_line-vol a b c d e = vol-dot a b c d ∙ ap (λ v. dot v (minus d a)) e ∙ dot-origin (minus d a)
+
+pub in_line-left : (n a b c : Vector) → AreInLine a b c → left n a b c ≡ pos 0
+in_line-left n a b c e = left-dot n a b c ∙ ap (λ v. dot v n) e ∙ dot-origin n
+
+-- a point twice is in line with any third
+pub in_line-twice : (a c : Vector) → AreInLine a a c
+unfolding cross
+in_line-twice a c = vector_path (cross a a c) origin (flat a.y c.z a.z c.y) (flat a.z c.x a.x c.z) (flat a.x c.y a.y c.x)
+  where
+    flat : (p q r s : ℤ) → (p -ℤ p) *ℤ (q -ℤ r) -ℤ (r -ℤ r) *ℤ (s -ℤ p) ≡ pos 0
+    flat p q r s = ring (p ∷ q ∷ r ∷ s ∷ []) (less (mul (less (var 0) (var 0)) (less (var 1) (var 2))) (mul (less (var 2) (var 2)) (less (var 3) (var 0)))) (con (pos 0)) refl

@@ -1,0 +1,212 @@
+-- A set has one dimension, and its extreme ids have the same.
+use Rattle.std.proofs.Common.{◌≡◌, ◌≢◌, ℕ, arith, ap, sym, subst, ◌∙◌, ◌⊎◌, inl, inr}
+use Rattle.std.proofs.lemmas.Int.{ints}
+use Rattle.std.specs.Prelude.{ℤ, pos, ◌+ℤ◌, ◌-ℤ◌, neg_ℤ}
+use Rattle.qh_model.specs.Vector.{Vector, origin, minus, cross_product, dot}
+use Rattle.qh_model.specs.Predicates.{cross, vol, left, AreInLine}
+use Rattle.qh_model.specs.Sets.{Members}
+use Rattle.qh_model.specs.DistinctIds.{HasDistinctPoints}
+use Rattle.qh_model.specs.Dimension.{HasTetrahedron, HasTriangle, HasSegment, IsDimension}
+use Rattle.qh_model.specs.Combination.{Combination}
+use Rattle.qh_model.specs.Extreme.{Extreme}
+use Rattle.qh_model.specs.DimensionLaws.{DimensionIsUnique, DimensionOfExtremes}
+use Rattle.qh_model.proofs.algebra.Order.{zero_or_not}
+use Rattle.qh_model.proofs.algebra.VectorIdentities.{vector_path, vol-linear, vol-first_last, vol-second_last, vol-third_last, left-dot, left-linear, left-turn, in_line-vol, in_line-left, in_line-twice, opposite, dot-opposite}
+use Rattle.qh_model.proofs.extremes.ExtremeIds.{listed_itself, combination_of_extremes}
+use Rattle.qh_model.proofs.extremes.AffineForms.{Form, form_as, NonZero, non_zero_member}
+
+-- each member of A is a convex combination of members of E
+abbrev pub AreCombinations : (ℕ → Vector) → (ℕ → Type 0) → (ℕ → Type 0) → Type 0
+AreCombinations at A E = (i : ℕ) → A i → Combination at E (at i)
+
+-- ---- four points
+vol_form : (a b c : Vector) → Form (vol a b c)
+vol_form a b c = record { u = cross a b c; c = neg_ℤ (dot (cross a b c) a); is = λ q. vol-linear a b c q }
+
+pub tetrahedron_of : (at : ℕ → Vector) (A E : ℕ → Type 0) → AreCombinations at A E → HasTetrahedron at A → HasTetrahedron at E
+tetrahedron_of at A E m h = fourth (non_zero_member at E (at h.l) (m h.l h.has_l) (vol (at h.i) (at h.j) (at h.k)) (vol_form (at h.i) (at h.j) (at h.k)) h.volume)
+  where
+    first : (l' k' j' : ℕ) → E l' → E k' → E j' → NonZero at E (λ q. vol q (at j') (at k') (at l')) → HasTetrahedron at E
+    first l' k' j' el ek ej r = record { i = r.e; j = j'; k = k'; l = l'; has_i = r.has; has_j = ej; has_k = ek; has_l = el; volume = r.differs }
+
+    second : (l' k' : ℕ) → E l' → E k' → NonZero at E (λ q. vol (at h.i) q (at k') (at l')) → HasTetrahedron at E
+    second l' k' el ek r = first l' k' r.e el ek r.has (non_zero_member at E (at h.i) (m h.i h.has_i) (λ q. vol q (at r.e) (at k') (at l')) (form_as _ _ (vol_form (at l') (at k') (at r.e)) (λ q. vol-first_last q (at r.e) (at k') (at l'))) r.differs)
+
+    third : (l' : ℕ) → E l' → NonZero at E (λ q. vol (at h.i) (at h.j) q (at l')) → HasTetrahedron at E
+    third l' el r = second l' r.e el r.has (non_zero_member at E (at h.j) (m h.j h.has_j) (λ q. vol (at h.i) q (at r.e) (at l')) (form_as _ _ (vol_form (at r.e) (at l') (at h.i)) (λ q. vol-second_last (at h.i) q (at r.e) (at l'))) r.differs)
+
+    fourth : NonZero at E (vol (at h.i) (at h.j) (at h.k)) → HasTetrahedron at E
+    fourth r = third r.e r.has (non_zero_member at E (at h.k) (m h.k h.has_k) (λ q. vol (at h.i) (at h.j) q (at r.e)) (form_as _ _ (vol_form (at h.j) (at h.i) (at r.e)) (λ q. vol-third_last (at h.i) (at h.j) q (at r.e))) r.differs)
+
+-- ---- the three axes
+axis_x : Vector
+axis_x = record { x = pos 1; y = pos 0; z = pos 0 }
+
+axis_y : Vector
+axis_y = record { x = pos 0; y = pos 1; z = pos 0 }
+
+axis_z : Vector
+axis_z = record { x = pos 0; y = pos 0; z = pos 1 }
+
+dot-axis_x : (q : Vector) → dot axis_x q ≡ q.x
+unfolding axis_x
+dot-axis_x q = omega (arith, ints)
+
+dot-axis_y : (q : Vector) → dot axis_y q ≡ q.y
+unfolding axis_y
+dot-axis_y q = omega (arith, ints)
+
+dot-axis_z : (q : Vector) → dot axis_z q ≡ q.z
+unfolding axis_z
+dot-axis_z q = omega (arith, ints)
+
+-- different vectors differ along an axis
+record Differ (p q : Vector) : Type 0 where
+  axis : Vector
+  differs : dot axis p ≢ dot axis q
+
+differ : (p q : Vector) → p ≢ q → Differ p q
+differ p q n = on_x (zero_or_not (p.x -ℤ q.x))
+  where
+    same : (a b : ℤ) → a -ℤ b ≡ pos 0 → a ≡ b
+    same a b e = omega (arith, ints)
+
+    apart : (a b c d : ℤ) → c ≡ a → d ≡ b → c ≡ d → a -ℤ b ≡ pos 0
+    apart a b c d e f h = omega (arith, ints)
+
+    on_z : p.x ≡ q.x → p.y ≡ q.y → (p.z -ℤ q.z ≡ pos 0) ⊎ (¬ (p.z -ℤ q.z ≡ pos 0)) → Differ p q
+    on_z x y (inl z) = absurd (n (vector_path p q x y (same p.z q.z z)))
+    on_z x y (inr k) = record { axis = axis_z; differs = λ e. k (apart p.z q.z _ _ (dot-axis_z p) (dot-axis_z q) e) }
+
+    on_y : p.x ≡ q.x → (p.y -ℤ q.y ≡ pos 0) ⊎ (¬ (p.y -ℤ q.y ≡ pos 0)) → Differ p q
+    on_y x (inl y) = on_z x (same p.y q.y y) (zero_or_not (p.z -ℤ q.z))
+    on_y x (inr k) = record { axis = axis_y; differs = λ e. k (apart p.y q.y _ _ (dot-axis_y p) (dot-axis_y q) e) }
+
+    on_x : (p.x -ℤ q.x ≡ pos 0) ⊎ (¬ (p.x -ℤ q.x ≡ pos 0)) → Differ p q
+    on_x (inl x) = on_y (same p.x q.x x) (zero_or_not (p.y -ℤ q.y))
+    on_x (inr k) = record { axis = axis_x; differs = λ e. k (apart p.x q.x _ _ (dot-axis_x p) (dot-axis_x q) e) }
+
+-- ---- three points
+left_form : (n a b : Vector) → Form (left n a b)
+left_form n a b = record { u = cross_product n (minus b a); c = neg_ℤ (dot (cross_product n (minus b a)) a); is = λ q. left-linear n a b q }
+
+-- a triangle with a turn about n
+triangle_about : (at : ℕ → Vector) (A E : ℕ → Type 0) → AreCombinations at A E → (h : HasTriangle at A) (n : Vector) → left n (at h.i) (at h.j) (at h.k) ≢ pos 0 → HasTriangle at E
+triangle_about at A E m h n d = third (non_zero_member at E (at h.k) (m h.k h.has_k) (left n (at h.i) (at h.j)) (left_form n (at h.i) (at h.j)) d)
+  where
+    first : (k' j' : ℕ) → E k' → E j' → NonZero at E (λ q. left n q (at j') (at k')) → HasTriangle at E
+    first k' j' ek ej r = record { i = r.e; j = j'; k = k'; has_i = r.has; has_j = ej; has_k = ek; area = λ e. r.differs (in_line-left n (at r.e) (at j') (at k') e) }
+
+    second : (k' : ℕ) → E k' → NonZero at E (λ q. left n (at h.i) q (at k')) → HasTriangle at E
+    second k' ek r = first k' r.e ek r.has (non_zero_member at E (at h.i) (m h.i h.has_i) (λ q. left n q (at r.e) (at k')) (form_as _ _ (left_form n (at r.e) (at k')) (λ q. left-turn n q (at r.e) (at k'))) r.differs)
+
+    third : NonZero at E (left n (at h.i) (at h.j)) → HasTriangle at E
+    third r = second r.e r.has (non_zero_member at E (at h.j) (m h.j h.has_j) (λ q. left n (at h.i) q (at r.e)) (form_as _ _ (left_form n (at r.e) (at h.i)) (λ q. left-turn n (at h.i) q (at r.e) ∙ left-turn n q (at r.e) (at h.i))) r.differs)
+
+pub triangle_of : (at : ℕ → Vector) (A E : ℕ → Type 0) → AreCombinations at A E → HasTriangle at A → HasTriangle at E
+triangle_of at A E m h = along (differ (cross (at h.i) (at h.j) (at h.k)) origin h.area)
+  where
+    commuted : (n p q : Vector) → dot n p ≡ dot p n
+    commuted n p q = omega (arith, ints)
+
+    nothing : (n : Vector) → dot n origin ≡ pos 0
+    nothing n = omega (arith, ints)
+
+    along : Differ (cross (at h.i) (at h.j) (at h.k)) origin → HasTriangle at E
+    along d = triangle_about at A E m h d.axis (λ e. d.differs (commuted d.axis (cross (at h.i) (at h.j) (at h.k)) origin ∙ sym (left-dot d.axis (at h.i) (at h.j) (at h.k)) ∙ e ∙ sym (nothing d.axis)))
+
+-- ---- two points
+pub segment_of : (at : ℕ → Vector) (A E : ℕ → Type 0) → HasDistinctPoints at A → AreCombinations at A E → HasSegment A → HasSegment E
+segment_of at A E d m h = along (differ (at h.i) (at h.j) (λ e. h.differ (d h.i h.j h.has_i h.has_j e)))
+  where
+    plus_neg : (a b : ℤ) → a -ℤ b ≡ a +ℤ neg_ℤ b
+    plus_neg a b = omega (arith, ints)
+
+    turned : (a b c : ℤ) → c ≡ neg_ℤ b → a -ℤ b ≡ c +ℤ a
+    turned a b c e = omega (arith, ints)
+
+    none : (a b : ℤ) → a ≡ b → a -ℤ b ≡ pos 0
+    none a b e = omega (arith, ints)
+
+    some : (a b : ℤ) → a -ℤ b ≡ pos 0 → a ≡ b
+    some a b e = omega (arith, ints)
+
+    second : (u : Vector) (i' : ℕ) → E i' → NonZero at E (λ q. dot u (at i') -ℤ dot u q) → HasSegment E
+    second u i' ei r = record { i = i'; j = r.e; has_i = ei; has_j = r.has; differ = λ e. r.differs (none (dot u (at i')) (dot u (at r.e)) (ap (λ t. dot u (at t)) e)) }
+
+    first : (u : Vector) → NonZero at E (λ q. dot u q -ℤ dot u (at h.j)) → HasSegment E
+    first u r = second u r.e r.has (non_zero_member at E (at h.j) (m h.j h.has_j) (λ q. dot u (at r.e) -ℤ dot u q) (record { u = opposite u; c = dot u (at r.e); is = λ q. turned (dot u (at r.e)) (dot u q) (dot (opposite u) q) (dot-opposite u q) }) r.differs)
+
+    along : Differ (at h.i) (at h.j) → HasSegment E
+    along k = first k.axis (non_zero_member at E (at h.i) (m h.i h.has_i) (λ q. dot k.axis q -ℤ dot k.axis (at h.j)) (record { u = k.axis; c = neg_ℤ (dot k.axis (at h.j)); is = λ q. plus_neg (dot k.axis q) (dot k.axis (at h.j)) }) (λ e. k.differs (some (dot k.axis (at h.i)) (dot k.axis (at h.j)) e)))
+
+-- ---- one dimension
+-- corners of a tetrahedron are not in line, and corners of a triangle differ
+pub triangle_of_tetrahedron : (at : ℕ → Vector) (A : ℕ → Type 0) → HasTetrahedron at A → HasTriangle at A
+triangle_of_tetrahedron at A h = record { i = h.i; j = h.j; k = h.k; has_i = h.has_i; has_j = h.has_j; has_k = h.has_k; area = λ e. h.volume (in_line-vol (at h.i) (at h.j) (at h.k) (at h.l) e) }
+
+pub segment_of_triangle : (at : ℕ → Vector) (A : ℕ → Type 0) → HasTriangle at A → HasSegment A
+segment_of_triangle at A h = record { i = h.i; j = h.j; has_i = h.has_i; has_j = h.has_j; differ = λ e. h.area (subst (λ t. AreInLine (at h.i) (at t) (at h.k)) e (in_line-twice (at h.i) (at h.k))) }
+
+pub one_dimension : (at : ℕ → Vector) (A : ℕ → Type 0) (k l : ℕ) → IsDimension at A k → IsDimension at A l → k ≡ l
+one_dimension at A k l (inl (e, t)) (inl (f, u)) = e ∙ sym f
+one_dimension at A k l (inl (e, t)) (inr (inl (f, u, n))) = absurd (n t)
+one_dimension at A k l (inl (e, t)) (inr (inr (inl (f, u, n)))) = absurd (n (triangle_of_tetrahedron at A t))
+one_dimension at A k l (inl (e, t)) (inr (inr (inr (f, n)))) = absurd (n (segment_of_triangle at A (triangle_of_tetrahedron at A t)))
+one_dimension at A k l (inr (inl (e, t, o))) (inl (f, u)) = absurd (o u)
+one_dimension at A k l (inr (inl (e, t, o))) (inr (inl (f, u, n))) = e ∙ sym f
+one_dimension at A k l (inr (inl (e, t, o))) (inr (inr (inl (f, u, n)))) = absurd (n t)
+one_dimension at A k l (inr (inl (e, t, o))) (inr (inr (inr (f, n)))) = absurd (n (segment_of_triangle at A t))
+one_dimension at A k l (inr (inr (inl (e, t, o)))) (inl (f, u)) = absurd (o (triangle_of_tetrahedron at A u))
+one_dimension at A k l (inr (inr (inl (e, t, o)))) (inr (inl (f, u, n))) = absurd (o u)
+one_dimension at A k l (inr (inr (inl (e, t, o)))) (inr (inr (inl (f, u, n)))) = e ∙ sym f
+one_dimension at A k l (inr (inr (inl (e, t, o)))) (inr (inr (inr (f, n)))) = absurd (n t)
+one_dimension at A k l (inr (inr (inr (e, o)))) (inl (f, u)) = absurd (o (segment_of_triangle at A (triangle_of_tetrahedron at A u)))
+one_dimension at A k l (inr (inr (inr (e, o)))) (inr (inl (f, u, n))) = absurd (o (segment_of_triangle at A u))
+one_dimension at A k l (inr (inr (inr (e, o)))) (inr (inr (inl (f, u, n)))) = absurd (o u)
+one_dimension at A k l (inr (inr (inr (e, o)))) (inr (inr (inr (f, n)))) = e ∙ sym f
+
+pub dimension_is_unique : DimensionIsUnique
+dimension_is_unique at ids k l d e = one_dimension at (Members ids) k l d e
+
+-- ---- the same dimension
+abbrev Both : Type 0 → Type 0 → Type 0
+Both P Q = (P → Q) × (Q → P)
+
+dimension_as : (at : ℕ → Vector) (A B : ℕ → Type 0) → Both (HasTetrahedron at A) (HasTetrahedron at B) → Both (HasTriangle at A) (HasTriangle at B) → Both (HasSegment A) (HasSegment B)
+    → (k : ℕ) → IsDimension at A k → IsDimension at B k
+dimension_as at A B f g h k (inl (e, t)) = inl (e, f.0 t)
+dimension_as at A B f g h k (inr (inl (e, t, n))) = inr (inl (e, g.0 t, λ u. n (f.1 u)))
+dimension_as at A B f g h k (inr (inr (inl (e, t, n)))) = inr (inr (inl (e, h.0 t, λ u. n (g.1 u))))
+dimension_as at A B f g h k (inr (inr (inr (e, n)))) = inr (inr (inr (e, λ u. n (h.1 u))))
+
+-- a part has no more than the set
+tetrahedron_in : (at : ℕ → Vector) (A B : ℕ → Type 0) → ((i : ℕ) → A i → B i) → HasTetrahedron at A → HasTetrahedron at B
+tetrahedron_in at A B f h = record { i = h.i; j = h.j; k = h.k; l = h.l; has_i = f h.i h.has_i; has_j = f h.j h.has_j; has_k = f h.k h.has_k; has_l = f h.l h.has_l; volume = h.volume }
+
+triangle_in : (at : ℕ → Vector) (A B : ℕ → Type 0) → ((i : ℕ) → A i → B i) → HasTriangle at A → HasTriangle at B
+triangle_in at A B f h = record { i = h.i; j = h.j; k = h.k; has_i = f h.i h.has_i; has_j = f h.j h.has_j; has_k = f h.k h.has_k; area = h.area }
+
+segment_in : (A B : ℕ → Type 0) → ((i : ℕ) → A i → B i) → HasSegment A → HasSegment B
+segment_in A B f h = record { i = h.i; j = h.j; has_i = f h.i h.has_i; has_j = f h.j h.has_j; differ = h.differ }
+
+pub dimension_of_extremes : DimensionOfExtremes
+dimension_of_extremes at ids k d = (dimension_as at E A (four.1, four.0) (three.1, three.0) (two.1, two.0) k, dimension_as at A E four three two k)
+  where
+    A : ℕ → Type 0
+    A = Members ids
+
+    E : ℕ → Type 0
+    E = Extreme at A
+
+    m : AreCombinations at A E
+    m i h = combination_of_extremes at A ids (listed_itself ids) d i h
+
+    four : Both (HasTetrahedron at A) (HasTetrahedron at E)
+    four = (tetrahedron_of at A E m, tetrahedron_in at E A (λ i h. h.0))
+
+    three : Both (HasTriangle at A) (HasTriangle at E)
+    three = (triangle_of at A E m, triangle_in at E A (λ i h. h.0))
+
+    two : Both (HasSegment A) (HasSegment E)
+    two = (segment_of at A E d m, segment_in E A (λ i h. h.0))

@@ -1,0 +1,196 @@
+-- Directions up to a positive scale, and the normals of triangles in one plane.
+use Rattle.std.proofs.Common.{◌≡◌, ◌≢◌, ℕ, zero, suc, ◌<◌, arith, refl, sym, ap, subst, ◌∙◌, ◌⊎◌, inl, inr, [], ◌∷◌}
+use Rattle.std.proofs.lemmas.Int.{ints, by_lt_z}
+use Rattle.std.specs.Prelude.{ℤ, pos, negsuc, ◌+ℤ◌, ◌*ℤ◌, neg_ℤ, ◌<ℤ◌, ◌≤ℤ◌}
+use Rattle.qh_model.specs.Vector.{Vector, origin, minus, cross_product, dot}
+use Rattle.qh_model.specs.Predicates.{cross, vol, left, AreInLine}
+use Rattle.qh_model.specs.FaceLaws.{IsAlong}
+use Rattle.qh_model.proofs.algebra.Order.{mul-pos, cancel-nonpos, cancel-pos, cancel-zero, le_antisym}
+use Rattle.qh_model.proofs.algebra.Ring.{ring}
+use Rattle.qh_model.proofs.algebra.Ring.Expr.{var, con, add, sub as less, mul, neg}
+use Rattle.qh_model.proofs.algebra.VectorIdentities.{vec, put, dotE, crossE, subE, combine3, opposite, vector_path, dot-minus, vol-dot, vol-linear, left-dot}
+
+-- ---- signs under a positive scale
+positive_factor : (s : ℕ) → 0 < s → pos 0 <ℤ pos s
+positive_factor s h = omega (arith, ints)
+
+scaled_le : (x y : ℤ) → x ≡ y → x ≤ℤ pos 0 → y ≤ℤ pos 0
+scaled_le x y e h = omega (arith, ints)
+
+scaled_lt : (x y : ℤ) → x ≡ y → pos 0 <ℤ x → pos 0 <ℤ y
+scaled_lt x y e h = omega (arith, ints)
+
+-- where s v = t w with positive s and t, v and w have one sign
+pub at_most_along : (s t : ℕ) (v w : ℤ) → 0 < s → 0 < t → pos s *ℤ v ≡ pos t *ℤ w → v ≤ℤ pos 0 → w ≤ℤ pos 0
+at_most_along s t v w h k e l = cancel-nonpos (pos t) w (positive_factor t k) (scaled_le (pos s *ℤ v) (pos t *ℤ w) e (times_le s v h l))
+  where
+    times_le : (s : ℕ) (v : ℤ) → 0 < s → v ≤ℤ pos 0 → (pos s *ℤ v) ≤ℤ pos 0
+    times_le s v h l = grind (arith, ints)
+
+pub positive_along : (s t : ℕ) (v w : ℤ) → 0 < s → 0 < t → pos s *ℤ v ≡ pos t *ℤ w → pos 0 <ℤ v → pos 0 <ℤ w
+positive_along s t v w h k e l = cancel-pos (pos t) w (positive_factor t k) (scaled_lt (pos s *ℤ v) (pos t *ℤ w) e (mul-pos (pos s) v (positive_factor s h) l))
+
+pub zero_along : (s t : ℕ) (v w : ℤ) → 0 < t → pos s *ℤ v ≡ pos t *ℤ w → v ≡ pos 0 → w ≡ pos 0
+zero_along s t v w k e z = cancel-zero (pos t) w (positive_factor t k) (sym e ∙ ap (λ x. pos s *ℤ x) z ∙ times_zero (pos s))
+  where
+    times_zero : (s : ℤ) → s *ℤ pos 0 ≡ pos 0
+    times_zero s = omega (arith, ints)
+
+-- ---- scalar products and turns along one direction
+pub dot_along : (n m : Vector) (h : IsAlong n m) (q : Vector) → pos h.s *ℤ dot n q ≡ pos h.t *ℤ dot m q
+dot_along n m h q =
+    combine3 (pos h.s *ℤ dot n q) (pos h.t *ℤ dot m q)
+    q.x (pos h.s *ℤ n.x) (pos h.t *ℤ m.x)
+    q.y (pos h.s *ℤ n.y) (pos h.t *ℤ m.y)
+    q.z (pos h.s *ℤ n.z) (pos h.t *ℤ m.z)
+    (
+    let N = vec 0 in let M = vec 1 in let Q = vec 2 in let S = var 9 in let T = var 10 in
+    ring (put n (put m (put q (pos h.s ∷ pos h.t ∷ [])))) (less (mul S (dotE N Q)) (mul T (dotE M Q)))
+    (add (add (mul Q.x (less (mul S N.x) (mul T M.x))) (mul Q.y (less (mul S N.y) (mul T M.y)))) (mul Q.z (less (mul S N.z) (mul T M.z)))) refl) h.x h.y h.z
+
+dot_comm : (n p : Vector) → dot n p ≡ dot p n
+dot_comm n p = omega (arith, ints)
+
+pub left_along : (n m : Vector) (h : IsAlong n m) (u v w : Vector) → pos h.s *ℤ left n u v w ≡ pos h.t *ℤ left m u v w
+left_along n m h u v w =
+    ap (λ x. pos h.s *ℤ x) (left-dot n u v w ∙ dot_comm (cross u v w) n) ∙ dot_along n m h (cross u v w) ∙ ap (λ x. pos h.t *ℤ x) (dot_comm m (cross u v w) ∙ sym (left-dot m u v w))
+
+-- the other way round
+pub along_back : (n m : Vector) → IsAlong n m → IsAlong m n
+along_back n m h = record { s = h.t; t = h.s; some_s = h.some_t; some_t = h.some_s; x = sym h.x; y = sym h.y; z = sym h.z }
+
+-- ---- vectors at right angles to both sides of a triangle
+pub record Parallel (n r : Vector) : Type 0 where
+  pub x : dot n n *ℤ r.x ≡ dot n r *ℤ n.x
+  pub y : dot n n *ℤ r.y ≡ dot n r *ℤ n.y
+  pub z : dot n n *ℤ r.z ≡ dot n r *ℤ n.z
+
+-- (n . n) (p x q) - (n . (p x q)) n = (n . q) (p x n) - (n . p) (q x n)
+pub parallel_product : (n p q : Vector) → dot n p ≡ pos 0 → dot n q ≡ pos 0 → Parallel n (cross_product p q)
+parallel_product n p q h k =
+    let N = vec 0 in let P = vec 1 in let Q = vec 2 in let R = crossE P Q in let A = crossE P N in let B = crossE Q N in let O = con (pos 0) in
+    let r = cross_product p q in let a = cross_product p n in let b = cross_product q n in
+    let env = put n (put p (put q [])) in
+    record {
+      x = combine3 (dot n n *ℤ r.x) (dot n r *ℤ n.x) a.x (dot n q) (pos 0) (neg_ℤ b.x) (dot n p) (pos 0) (pos 0) (pos 0) (pos 0)
+          (ring env (less (mul (dotE N N) R.x) (mul (dotE N R) N.x)) (add (add (mul A.x (less (dotE N Q) O)) (mul (neg B.x) (less (dotE N P) O))) (mul O (less O O))) refl) k h refl;
+      y = combine3 (dot n n *ℤ r.y) (dot n r *ℤ n.y) a.y (dot n q) (pos 0) (neg_ℤ b.y) (dot n p) (pos 0) (pos 0) (pos 0) (pos 0)
+          (ring env (less (mul (dotE N N) R.y) (mul (dotE N R) N.y)) (add (add (mul A.y (less (dotE N Q) O)) (mul (neg B.y) (less (dotE N P) O))) (mul O (less O O))) refl) k h refl;
+      z = combine3 (dot n n *ℤ r.z) (dot n r *ℤ n.z) a.z (dot n q) (pos 0) (neg_ℤ b.z) (dot n p) (pos 0) (pos 0) (pos 0) (pos 0)
+          (ring env (less (mul (dotE N N) R.z) (mul (dotE N R) N.z)) (add (add (mul A.z (less (dotE N Q) O)) (mul (neg B.z) (less (dotE N P) O))) (mul O (less O O))) refl) k h refl;
+    }
+
+pub parallel_normal : (n a b c : Vector) → dot n (minus b a) ≡ pos 0 → dot n (minus c a) ≡ pos 0 → Parallel n (cross a b c)
+unfolding cross
+parallel_normal n a b c h k = parallel_product n (minus b a) (minus c a) h k
+
+-- ---- one direction or the opposite one
+positive_number : (z : ℤ) → pos 0 <ℤ z → (m : ℕ) × (z ≡ pos (suc m))
+positive_number (pos zero) h = absurd (omega (arith, ints))
+positive_number (pos (suc m)) h = (m, refl)
+positive_number (negsuc m) h = absurd (omega (arith, ints))
+
+along_by : (n m : Vector) (s t : ℤ) → pos 0 <ℤ s → pos 0 <ℤ t → s *ℤ n.x ≡ t *ℤ m.x → s *ℤ n.y ≡ t *ℤ m.y → s *ℤ n.z ≡ t *ℤ m.z → IsAlong n m
+along_by n m s t h k x y z = let a = positive_number s h in let b = positive_number t k in record {
+  s = suc a.0;
+  t = suc b.0;
+  some_s = omega arith;
+  some_t = omega arith;
+  x = ap (λ v. v *ℤ n.x) (sym a.1) ∙ x ∙ ap (λ v. v *ℤ m.x) b.1;
+  y = ap (λ v. v *ℤ n.y) (sym a.1) ∙ y ∙ ap (λ v. v *ℤ m.y) b.1;
+  z = ap (λ v. v *ℤ n.z) (sym a.1) ∙ z ∙ ap (λ v. v *ℤ m.z) b.1;
+}
+
+square : (x : ℤ) → pos 0 ≤ℤ (x *ℤ x)
+square (pos n) = omega (arith, ints)
+square (negsuc n) = omega (arith, ints)
+
+square-zero : (x : ℤ) → (x *ℤ x) ≤ℤ pos 0 → x ≡ pos 0
+square-zero (pos zero) h = refl
+square-zero (pos (suc n)) h = absurd (omega (arith, ints))
+square-zero (negsuc n) h = absurd (omega (arith, ints))
+
+-- a vector that is not zero has a positive square
+pub square-positive : (n : Vector) → n ≢ origin → pos 0 <ℤ dot n n
+square-positive n h = by_lt_z (pos 0) (dot n n) (λ q. q) (λ q. absurd (h (flat q)))
+  where
+    first : (x y z : ℤ) → pos 0 ≤ℤ x → pos 0 ≤ℤ y → pos 0 ≤ℤ z → (x +ℤ y +ℤ z) ≤ℤ pos 0 → (x ≤ℤ pos 0) × (y ≤ℤ pos 0) × (z ≤ℤ pos 0)
+    first x y z a b c d = (omega (arith, ints), omega (arith, ints), omega (arith, ints))
+
+    flat : dot n n ≤ℤ pos 0 → n ≡ origin
+    flat q = let f = first (n.x *ℤ n.x) (n.y *ℤ n.y) (n.z *ℤ n.z) (square n.x) (square n.y) (square n.z) q in
+        vector_path n origin (square-zero n.x f.0) (square-zero n.y f.1) (square-zero n.z f.2)
+
+pub along_or_opposite : (n r : Vector) → n ≢ origin → r ≢ origin → Parallel n r → IsAlong n r ⊎ IsAlong n (opposite r)
+along_or_opposite n r h k e = by_lt_z (pos 0) s (λ l. inl (along_by n r s t l p (sym e.x) (sym e.y) (sym e.z)))
+    (λ l. by_lt_z s (pos 0) (λ q. inr (along_by n (opposite r) (neg_ℤ s) t (above q) p (turned n.x r.x e.x) (turned n.y r.y e.y) (turned n.z r.z e.z))) (λ q. absurd (k (flat (le_antisym s (pos 0) l q)))))
+  where
+    s : ℤ
+    s = dot n r
+
+    t : ℤ
+    t = dot n n
+
+    p : pos 0 <ℤ t
+    p = square-positive n h
+
+    above : s <ℤ pos 0 → pos 0 <ℤ neg_ℤ s
+    above q = turn s q
+      where
+        turn : (s : ℤ) → s <ℤ pos 0 → pos 0 <ℤ neg_ℤ s
+        turn s q = omega (arith, ints)
+
+    turned : (x y : ℤ) → t *ℤ y ≡ s *ℤ x → neg_ℤ s *ℤ x ≡ t *ℤ neg_ℤ y
+    turned x y e = signs s t x y e
+      where
+        signs : (s t x y : ℤ) → t *ℤ y ≡ s *ℤ x → neg_ℤ s *ℤ x ≡ t *ℤ neg_ℤ y
+        signs s t x y e =
+            ring (s ∷ t ∷ x ∷ y ∷ []) (mul (neg (var 0)) (var 2)) (neg (mul (var 0) (var 2))) refl ∙ ap neg_ℤ (sym e) ∙ ring (s ∷ t ∷ x ∷ y ∷ []) (neg (mul (var 1) (var 3))) (mul (var 1) (neg (var 3))) refl
+
+    none : (x y : ℤ) → t *ℤ y ≡ s *ℤ x → s ≡ pos 0 → y ≡ pos 0
+    none x y e z = cancel-zero t y p (e ∙ ap (λ v. v *ℤ x) z ∙ zero_times x)
+      where
+        zero_times : (x : ℤ) → pos 0 *ℤ x ≡ pos 0
+        zero_times x = omega (arith, ints)
+
+    flat : s ≡ pos 0 → r ≡ origin
+    flat z = vector_path r origin (none n.x r.x e.x z) (none n.y r.y e.y z) (none n.z r.z e.z z)
+
+-- ---- the normals of triangles in one plane
+pub cross-flip : (a b c : Vector) → cross a c b ≡ opposite (cross a b c)
+unfolding cross
+cross-flip a b c =
+    let P = subE (vec 1) (vec 0) in let Q = subE (vec 2) (vec 0) in let env = put a (put b (put c [])) in
+    vector_path (cross a c b) (opposite (cross a b c))
+    (ring env (crossE Q P).x (neg (crossE P Q).x) refl)
+    (ring env (crossE Q P).y (neg (crossE P Q).y) refl)
+    (ring env (crossE Q P).z (neg (crossE P Q).z) refl)
+
+pub in_line-flip : (a b c : Vector) → AreInLine a c b → AreInLine a b c
+in_line-flip a b c e = vector_path (cross a b c) origin (plain (cross a b c).x (ap (λ v. v.x) back)) (plain (cross a b c).y (ap (λ v. v.y) back)) (plain (cross a b c).z (ap (λ v. v.z) back))
+  where
+    back : opposite (cross a b c) ≡ origin
+    back = sym (cross-flip a b c) ∙ e
+
+    plain : (x : ℤ) → neg_ℤ x ≡ pos 0 → x ≡ pos 0
+    plain x e = omega (arith, ints)
+
+-- a triangle at right angles to n has the direction of n, one way round or the other
+pub normal_along : (n a b c : Vector) → n ≢ origin → ¬ (AreInLine a b c) → dot n (minus b a) ≡ pos 0 → dot n (minus c a) ≡ pos 0
+    → IsAlong n (cross a b c) ⊎ IsAlong n (cross a c b)
+normal_along n a b c h k e f = either (along_or_opposite n (cross a b c) h k (parallel_normal n a b c e f))
+  where
+    either : IsAlong n (cross a b c) ⊎ IsAlong n (opposite (cross a b c)) → IsAlong n (cross a b c) ⊎ IsAlong n (cross a c b)
+    either (inl l) = inl l
+    either (inr l) = inr (subst (λ v. IsAlong n v) (sym (cross-flip a b c)) l)
+
+-- the difference of two points from one of them in the plane
+pub from_plane : (a b c p l : Vector) → vol a b c p ≡ pos 0 → dot (cross a b c) (minus l p) ≡ vol a b c l
+from_plane a b c p l z = level (vol a b c l) (vol a b c p) (dot (cross a b c) l) (dot (cross a b c) p) (dot (cross a b c) a) _ (vol-linear a b c l) (vol-linear a b c p) (dot-minus (cross a b c) l p) z
+  where
+    level : (v w d e f m : ℤ) → v ≡ d +ℤ neg_ℤ f → w ≡ e +ℤ neg_ℤ f → m ≡ d +ℤ neg_ℤ e → w ≡ pos 0 → m ≡ v
+    level v w d e f m h k l z = omega (arith, ints)
+
+-- volumes over two triangles of one plane and one direction
+pub vol_along : (a b c u v w l : Vector) (h : IsAlong (cross a b c) (cross u v w)) → vol a b c u ≡ pos 0 → pos h.s *ℤ vol a b c l ≡ pos h.t *ℤ vol u v w l
+vol_along a b c u v w l h z = ap (λ t. pos h.s *ℤ t) (sym (from_plane a b c u l z)) ∙ dot_along (cross a b c) (cross u v w) h (minus l u) ∙ ap (λ t. pos h.t *ℤ t) (sym (vol-dot u v w l))

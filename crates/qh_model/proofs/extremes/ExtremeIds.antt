@@ -1,0 +1,244 @@
+-- The greatest member in a direction is extreme, members are mixes of extremes, and extremes of a union.
+use Rattle.std.proofs.Common.{◌≡◌, ◌≢◌, ℕ, zero, suc, ◌<◌, arith, sym, subst, ◌⊎◌, inl, inr, ◌↔◌, List, [], ◌∷◌}
+use Rattle.std.proofs.lemmas.Int.{ints}
+use Rattle.std.specs.Prelude.{ℤ, pos, ◌+ℤ◌, ◌*ℤ◌, ◌<ℤ◌}
+use Rattle.std.specs.List.{AllByRecursion as Every}
+use native.Mathlib.Decide.{ℕ_discrete}
+use lib.Signed.{<ℤ_irrefl}
+use Rattle.qh_model.proofs.algebra.Integers.{ring_rules}
+use Rattle.qh_model.proofs.algebra.VectorIdentities.{vector_path}
+use Rattle.qh_model.proofs.combinations.Vectors.{V, dot as vdot}
+use Rattle.qh_model.proofs.Lists.{every_at}
+use Rattle.qh_model.proofs.combinations.Alternatives.{combination_or_separator, all_lower}
+use Rattle.qh_model.proofs.extremes.LexicographicOrder.{Less, Same, AtMost, Greatest, greatest, collapse}
+use Rattle.qh_model.specs.Vector.{Vector, dot}
+use Rattle.qh_model.specs.Sets.{In, Members}
+use Rattle.qh_model.specs.DistinctIds.{HasDistinctPoints}
+use Rattle.qh_model.specs.Combination.{Combination}
+use Rattle.qh_model.specs.Separator.{Separator}
+use Rattle.qh_model.specs.Extreme.{Others, Extreme}
+use Rattle.qh_model.specs.ExtremeLaws.{IsLower, InBlocks, GreatestIsExtreme, MembersAreCombinations, UnionOfExtremes}
+
+abbrev key : Vector → Vector → V 4
+key w p = (dot w p, (p.x, (p.y, (p.z, tt))))
+
+less_of : (w p q : Vector) → IsLower w p q → Less 4 (key w p) (key w q)
+less_of w p q (inl h) = inl h
+less_of w p q (inr (e, inl h)) = inr (e, inl h)
+less_of w p q (inr (e, inr (f, inl h))) = inr (e, inr (f, inl h))
+less_of w p q (inr (e, inr (f, inr (g, h)))) = inr (e, inr (f, inr (g, inl h)))
+
+pub same_vector : (w p q : Vector) → Same 4 (key w p) (key w q) → p ≡ q
+same_vector w p q s = vector_path p q s.1.0 s.1.1.0 s.1.1.1.0
+
+abbrev bent : Vector → V 4 → Vector
+bent w u = record { x = u.0 *ℤ w.x +ℤ u.1.0; y = u.0 *ℤ w.y +ℤ u.1.1.0; z = u.0 *ℤ w.z +ℤ u.1.1.1.0 }
+
+j1 : (n a b c u v w x y z : ℤ) → (n *ℤ u +ℤ a) *ℤ x +ℤ (n *ℤ v +ℤ b) *ℤ y +ℤ (n *ℤ w +ℤ c) *ℤ z ≡ n *ℤ (u *ℤ x +ℤ v *ℤ y +ℤ w *ℤ z) +ℤ (a *ℤ x +ℤ (b *ℤ y +ℤ (c *ℤ z +ℤ pos 0)))
+j1 n a b c u v w x y z = simp ring_rules (omega (arith, ints))
+
+bent_is : (w : Vector) (u : V 4) (p : Vector) → dot (bent w u) p ≡ vdot 4 u (key w p)
+bent_is w u p = j1 u.0 u.1.0 u.1.1.0 u.1.1.1.0 w.x w.y w.z p.x p.y p.z
+
+lt_by : (a b c d : ℤ) → c ≡ a → d ≡ b → a <ℤ b → c <ℤ d
+lt_by a b c d e f h = omega (arith, ints)
+
+unbottom : (T : Type 0) → ⊥ ⊎ T → T
+unbottom T (inl b) = absurd b
+unbottom T (inr t) = t
+
+-- what comes strictly before p, by keys of which each functional is one of the points, does not mix to p
+pub no_combination_by : (n : ℕ) (key : Vector → V n) (bend : V n → Vector) → ((u : V n) (p : Vector) → dot (bend u) p ≡ vdot n u (key p))
+    → (at : ℕ → Vector) (A : ℕ → Type 0) (p : Vector) → ((j : ℕ) → A j → Less n (key (at j)) (key p)) → ¬ (Combination at A p)
+no_combination_by n key bend e at A p h m = go (collapse n (λ j. ⊥) (λ j. key (at j)) (key p) (m.a ∷ m.b ∷ m.c ∷ m.d ∷ [])
+    (inr (h m.a m.has_a), (inr (h m.b m.has_b), (inr (h m.c m.has_c), (inr (h m.d m.has_d), tt)))))
+  where
+    go : (U : V n) × Every (λ j. ⊥ ⊎ (vdot n U (key (at j)) <ℤ vdot n U (key p))) (m.a ∷ m.b ∷ m.c ∷ m.d ∷ []) → ⊥
+    go r = all_lower at A p (bend r.0) m (less m.a r.1.0) (less m.b r.1.1.0) (less m.c r.1.1.1.0) (less m.d r.1.1.1.1.0)
+      where
+        less : (j : ℕ) → ⊥ ⊎ (vdot n r.0 (key (at j)) <ℤ vdot n r.0 (key p)) → dot (bend r.0) (at j) <ℤ dot (bend r.0) p
+        less j l = lt_by _ _ _ _ (e r.0 (at j)) (e r.0 p) (unbottom _ l)
+
+pub no_combination : (at : ℕ → Vector) (A : ℕ → Type 0) (w p : Vector) → ((j : ℕ) → A j → Less 4 (key w (at j)) (key w p)) → ¬ (Combination at A p)
+no_combination at A w p h = no_combination_by 4 (key w) (bent w) (bent_is w) at A p h
+
+pub greatest_is_extreme : GreatestIsExtreme
+greatest_is_extreme at ids w e c h = (c, no_combination at (Others (Members ids) e) w (at e) (λ j o. less_of w (at j) (at e) (h j o)))
+
+-- ---- sets that a list gives
+abbrev pub Listed : (ℕ → Type 0) → List ℕ → Type 0
+Listed A xs = (j : ℕ) → A j ↔ In j xs
+
+pub listed_itself : (xs : List ℕ) → Listed (Members xs) xs
+listed_itself xs j = (λ h. h, λ h. h)
+
+pub combination_within : (at : ℕ → Vector) (A B : ℕ → Type 0) (p : Vector) → Combination at A p → ((j : ℕ) → A j → B j) → Combination at B p
+combination_within at A B p m f = record {
+  a = m.a;
+  b = m.b;
+  c = m.c;
+  d = m.d;
+  has_a = f m.a m.has_a;
+  has_b = f m.b m.has_b;
+  has_c = f m.c m.has_c;
+  has_d = f m.d m.has_d;
+  w1 = m.w1;
+  w2 = m.w2;
+  w3 = m.w3;
+  w4 = m.w4;
+  some_weight = m.some_weight;
+  x = m.x;
+  y = m.y;
+  z = m.z;
+}
+
+pub alternative_in : (at : ℕ → Vector) (A : ℕ → Type 0) (xs : List ℕ) → Listed A xs → (p : Vector) → Combination at A p ⊎ Separator at A p
+alternative_in at A xs l p = go (combination_or_separator at xs p)
+  where
+    go : Combination at (Members xs) p ⊎ Separator at (Members xs) p → Combination at A p ⊎ Separator at A p
+    go (inl m) = inl (combination_within at (Members xs) A p m (λ j c. (l j).1 c))
+    go (inr s) = inr (record { w = s.w; past = λ a h. s.past a ((l a).0 h) })
+
+sifted : (P : ℕ → Type 0) → ((i : ℕ) → P i ⊎ (¬ (P i))) → (xs : List ℕ) → (ys : List ℕ) × Listed (λ j. In j xs × P j) ys
+sifted P D [] = ([], λ j. (λ h. absurd h.0, λ m. absurd m))
+sifted P D (x ∷ xs) = go x xs (D x) (sifted P D xs)
+  where
+    go : (x : ℕ) (xs : List ℕ) → P x ⊎ (¬ (P x)) → (ys : List ℕ) × Listed (λ j. In j xs × P j) ys → (ys : List ℕ) × Listed (λ j. In j (x ∷ xs) × P j) ys
+    go x xs (inl p) (ys, l) = (x ∷ ys, λ j. (into j, out j))
+      where
+        into : (j : ℕ) → In j (x ∷ xs) × P j → In j (x ∷ ys)
+        into j (inl e, q) = inl e
+        into j (inr m, q) = inr ((l j).0 (m, q))
+
+        out : (j : ℕ) → In j (x ∷ ys) → In j (x ∷ xs) × P j
+        out j (inl e) = (inl e, subst P (sym e) p)
+        out j (inr m) = (inr ((l j).1 m).0, ((l j).1 m).1)
+    go x xs (inr n) (ys, l) = (ys, λ j. (into j, λ m. (inr ((l j).1 m).0, ((l j).1 m).1)))
+      where
+        into : (j : ℕ) → In j (x ∷ xs) × P j → In j ys
+        into j (inl e, q) = absurd (n (subst P e q))
+        into j (inr m, q) = (l j).0 (m, q)
+
+-- the part of a listed set that passes a test
+pub listed_part : (A P : ℕ → Type 0) → ((i : ℕ) → P i ⊎ (¬ (P i))) → (xs : List ℕ) → Listed A xs → (ys : List ℕ) × Listed (λ j. A j × P j) ys
+listed_part A P D xs l = go (sifted P D xs)
+  where
+    go : (ys : List ℕ) × Listed (λ j. In j xs × P j) ys → (ys : List ℕ) × Listed (λ j. A j × P j) ys
+    go (ys, k) = (ys, λ j. (λ h. (k j).0 ((l j).0 h.0, h.1), λ m. ((l j).1 ((k j).1 m).0, ((k j).1 m).1)))
+
+apart : (i j : ℕ) → (j ≢ i) ⊎ (¬ (j ≢ i))
+apart i j = go (ℕ_discrete j i)
+  where
+    go : Dec (j ≡ i) → (j ≢ i) ⊎ (¬ (j ≢ i))
+    go (yes e) = inr (λ n. n e)
+    go (no n) = inl n
+
+extreme_or_not : (at : ℕ → Vector) (A : ℕ → Type 0) (xs : List ℕ) → Listed A xs → (i : ℕ) → (¬ (Combination at (Others A i) (at i))) ⊎ (¬ (¬ (Combination at (Others A i) (at i))))
+extreme_or_not at A xs l i = go (listed_part A (λ j. j ≢ i) (apart i) xs l)
+  where
+    sides : Combination at (Others A i) (at i) ⊎ Separator at (Others A i) (at i) → (¬ (Combination at (Others A i) (at i))) ⊎ (¬ (¬ (Combination at (Others A i) (at i))))
+    sides (inl m) = inr (λ n. n m)
+    sides (inr s) = inl (λ m. all_lower at (Others A i) (at i) s.w m (s.past m.a m.has_a) (s.past m.b m.has_b) (s.past m.c m.has_c) (s.past m.d m.has_d))
+
+    go : (ys : List ℕ) × Listed (Others A i) ys → (¬ (Combination at (Others A i) (at i))) ⊎ (¬ (¬ (Combination at (Others A i) (at i))))
+    go (ys, k) = sides (alternative_in at (Others A i) ys k (at i))
+
+-- ---- each member is a mix of extremes
+top_is_extreme : (at : ℕ → Vector) (A : ℕ → Type 0) (xs : List ℕ) → Listed A xs → HasDistinctPoints at A → (w : Vector) (g : Greatest 4 (λ j. key w (at j)) xs) → Extreme at A g.top
+top_is_extreme at A xs l d w g = (has, no_combination at (Others A g.top) w (at g.top) (λ j o. before j o (every_at _ xs j g.above ((l j).0 o.0))))
+  where
+    has : A g.top
+    has = (l g.top).1 g.member
+
+    before : (j : ℕ) → Others A g.top j → AtMost 4 (key w (at j)) (key w (at g.top)) → Less 4 (key w (at j)) (key w (at g.top))
+    before j o (inr h) = h
+    before j o (inl s) = absurd (o.1 (d j g.top o.0 has (same_vector w (at j) (at g.top) s)))
+
+not_above : (a b : ℤ) (T U : Type 0) → ((a ≡ b) × T) ⊎ ((a <ℤ b) ⊎ ((a ≡ b) × U)) → b <ℤ a → ⊥
+not_above a b T U (inl e) h = <ℤ_irrefl (subst (λ t. b <ℤ t) e.0 h)
+not_above a b T U (inr (inl l)) h = omega (arith, ints)
+not_above a b T U (inr (inr e)) h = <ℤ_irrefl (subst (λ t. b <ℤ t) e.0 h)
+
+a_greatest : (key : ℕ → V 4) (xs : List ℕ) (i : ℕ) → In i xs → Greatest 4 key xs
+a_greatest key [] i m = absurd m
+a_greatest key (x ∷ xs) i m = greatest 4 key x xs
+
+pub combination_of_extremes : (at : ℕ → Vector) (A : ℕ → Type 0) (xs : List ℕ) → Listed A xs → HasDistinctPoints at A → (i : ℕ) → A i → Combination at (Extreme at A) (at i)
+combination_of_extremes at A xs l d i h = go (listed_part A (λ j. ¬ (Combination at (Others A j) (at j))) (extreme_or_not at A xs l) xs l)
+  where
+    sides : Combination at (Extreme at A) (at i) ⊎ Separator at (Extreme at A) (at i) → Combination at (Extreme at A) (at i)
+    sides (inl m) = m
+    sides (inr s) = absurd (clash (a_greatest (λ j. key s.w (at j)) xs i ((l i).0 h)))
+      where
+        clash : Greatest 4 (λ j. key s.w (at j)) xs → ⊥
+        clash g = not_above _ _ _ _ (every_at (λ j. AtMost 4 (key s.w (at j)) (key s.w (at g.top))) xs i g.above ((l i).0 h)) (s.past g.top (top_is_extreme at A xs l d s.w g))
+
+    go : (ys : List ℕ) × Listed (Extreme at A) ys → Combination at (Extreme at A) (at i)
+    go (ys, k) = sides (alternative_in at (Extreme at A) ys k (at i))
+
+pub members_are_combinations : MembersAreCombinations
+members_are_combinations at ids d i h = combination_of_extremes at (Members ids) ids (listed_itself ids) d i h
+
+-- ---- sets between a set and its extremes
+pub extremes_between : (at : ℕ → Vector) (A B : ℕ → Type 0) (xs : List ℕ) → Listed A xs → HasDistinctPoints at A
+    → ((i : ℕ) → B i → A i) → ((i : ℕ) → Extreme at A i → B i) → (i : ℕ) → Extreme at B i ↔ Extreme at A i
+extremes_between at A B xs l d sub sup i = (down, up)
+  where
+    down : Extreme at B i → Extreme at A i
+    down h = (
+      sub i h.0,
+      λ m. h.1 (combination_within at (Extreme at A) (Others B i) (at i) (combination_of_extremes at A xs l d i (sub i h.0))
+          (λ j e. (sup j e, λ q. e.1 (subst (λ t. Combination at (Others A t) (at t)) (sym q) m)))),
+    )
+
+    up : Extreme at A i → Extreme at B i
+    up h = (sup i h, λ m. h.1 (combination_within at (Others B i) (Others A i) (at i) m (λ j o. (sub j o.0, o.1))))
+
+-- ---- the union of blocks
+abbrev joint : List ℕ → List ℕ → List ℕ
+joint [] ys = ys
+joint (x ∷ xs) ys = x ∷ joint xs ys
+
+to_joint : (xs ys : List ℕ) (j : ℕ) → In j xs ⊎ In j ys → In j (joint xs ys)
+to_joint [] ys j (inl m) = absurd m
+to_joint [] ys j (inr m) = m
+to_joint (x ∷ xs) ys j (inl (inl e)) = inl e
+to_joint (x ∷ xs) ys j (inl (inr m)) = inr (to_joint xs ys j (inl m))
+to_joint (x ∷ xs) ys j (inr m) = inr (to_joint xs ys j (inr m))
+
+of_joint : (xs ys : List ℕ) (j : ℕ) → In j (joint xs ys) → In j xs ⊎ In j ys
+of_joint [] ys j m = inr m
+of_joint (x ∷ xs) ys j (inl e) = inl (inl e)
+of_joint (x ∷ xs) ys j (inr m) = more (of_joint xs ys j m)
+  where
+    more : In j xs ⊎ In j ys → In j (x ∷ xs) ⊎ In j ys
+    more (inl m) = inl (inr m)
+    more (inr m) = inr m
+
+abbrev gathered : ℕ → (ℕ → List ℕ) → List ℕ
+gathered zero block = []
+gathered (suc n) block = joint (block n) (gathered n block)
+
+in_gathered : (n : ℕ) (block : ℕ → List ℕ) (j k : ℕ) → k < n → In j (block k) → In j (gathered n block)
+in_gathered zero block j k h m = absurd (omega arith)
+in_gathered (suc n) block j k h m = go (ℕ_discrete k n) (λ q. in_gathered n block j k q m)
+  where
+    go : Dec (k ≡ n) → (k < n → In j (gathered n block)) → In j (gathered (suc n) block)
+    go (yes e) f = to_joint (block n) (gathered n block) j (inl (subst (λ t. In j (block t)) e m))
+    go (no e) f = to_joint (block n) (gathered n block) j (inr (f (omega arith)))
+
+of_gathered : (n : ℕ) (block : ℕ → List ℕ) (j : ℕ) → In j (gathered n block) → InBlocks n (λ k. Members (block k)) j
+of_gathered zero block j m = absurd m
+of_gathered (suc n) block j m = go (of_joint (block n) (gathered n block) j m) (of_gathered n block j)
+  where
+    go : In j (block n) ⊎ In j (gathered n block) → (In j (gathered n block) → InBlocks n (λ k. Members (block k)) j) → InBlocks (suc n) (λ k. Members (block k)) j
+    go (inl h) f = (n, omega arith, h)
+    go (inr h) f = let r = f h in (r.0, omega (arith, r.1), r.2)
+
+listed_blocks : (n : ℕ) (block : ℕ → List ℕ) → Listed (InBlocks n (λ k. Members (block k))) (gathered n block)
+listed_blocks n block j = (λ h. in_gathered n block j h.0 h.1 h.2, of_gathered n block j)
+
+pub union_of_extremes : UnionOfExtremes
+union_of_extremes at n block d = extremes_between at (InBlocks n (λ k. Members (block k))) (InBlocks n (λ k. Extreme at (Members (block k)))) (gathered n block) (listed_blocks n block) d
+    (λ i b. (b.0, b.1, b.2.0))
+    (λ i h. (h.0.0, h.0.1, (h.0.2, λ m. h.1 (combination_within at (Others (Members (block h.0.0)) i) (Others (InBlocks n (λ k. Members (block k))) i) (at i) m (λ j o. ((h.0.0, h.0.1, o.0), o.1))))))

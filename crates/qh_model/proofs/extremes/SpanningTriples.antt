@@ -1,0 +1,70 @@
+-- Each supporting plane of a set is spanned by extreme ids.
+use Rattle.std.proofs.Common.{◌≡◌, ℕ, sym, ◌∙◌, ◌⊎◌, inl, inr, List}
+use Rattle.std.specs.Prelude.{pos, ◌*ℤ◌}
+use Rattle.qh_model.specs.Vector.{Vector}
+use Rattle.qh_model.specs.Predicates.{cross, vol, AreInLine}
+use Rattle.qh_model.specs.Sets.{Members}
+use Rattle.qh_model.specs.Dimension.{HasTriangle}
+use Rattle.qh_model.specs.Extreme.{Extreme}
+use Rattle.qh_model.specs.SupportingPlane.{Supports, OnPlane}
+use Rattle.qh_model.specs.FaceLaws.{IsAlong, SpannedByExtremes, PlanesOfExtremes}
+use Rattle.qh_model.proofs.algebra.Order.{zero_or_not}
+use Rattle.qh_model.proofs.algebra.VectorIdentities.{vol-first, vol-second, vol-third}
+use Rattle.qh_model.proofs.extremes.ExtremeIds.{Listed, listed_itself, listed_part, combination_of_extremes}
+use Rattle.qh_model.proofs.extremes.Faces.{extremes_of_face}
+use Rattle.qh_model.proofs.extremes.Dimensions.{triangle_of}
+use Rattle.qh_model.proofs.extremes.Directions.{at_most_along, zero_along, normal_along, in_line-flip, from_plane, vol_along}
+
+spanned : (at : ℕ → Vector) (A : ℕ → Type 0) (i j k : ℕ) → Supports at A i j k → (u v w : ℕ) → Extreme at A u → Extreme at A v → Extreme at A w
+    → vol (at i) (at j) (at k) (at u) ≡ pos 0 → ¬ (AreInLine (at u) (at v) (at w)) → IsAlong (cross (at i) (at j) (at k)) (cross (at u) (at v) (at w))
+    → SpannedByExtremes at A i j k
+spanned at A i j k s u v w hu hv hw z n h = record {
+  u = u;
+  v = v;
+  w = w;
+  has_u = hu;
+  has_v = hv;
+  has_w = hw;
+  area = n;
+  along = h;
+  supports = λ l q. at_most_along h.s h.t _ _ h.some_s h.some_t (scale l) (s l q);
+  same = λ l. (λ e. zero_along h.s h.t _ _ h.some_t (scale l) e, λ e. zero_along h.t h.s _ _ h.some_s (sym (scale l)) e);
+}
+  where
+    scale : (l : ℕ) → pos h.s *ℤ vol (at i) (at j) (at k) (at l) ≡ pos h.t *ℤ vol (at u) (at v) (at w) (at l)
+    scale l = vol_along (at i) (at j) (at k) (at u) (at v) (at w) (at l) h z
+
+either_way : (at : ℕ → Vector) (A : ℕ → Type 0) (i j k : ℕ) → Supports at A i j k → (u v w : ℕ) → Extreme at A u → Extreme at A v → Extreme at A w
+    → vol (at i) (at j) (at k) (at u) ≡ pos 0 → ¬ (AreInLine (at u) (at v) (at w))
+    → IsAlong (cross (at i) (at j) (at k)) (cross (at u) (at v) (at w)) ⊎ IsAlong (cross (at i) (at j) (at k)) (cross (at u) (at w) (at v))
+    → SpannedByExtremes at A i j k
+either_way at A i j k s u v w hu hv hw z n (inl h) = spanned at A i j k s u v w hu hv hw z n h
+either_way at A i j k s u v w hu hv hw z n (inr h) = spanned at A i j k s u w v hu hw hv z (λ q. n (in_line-flip (at u) (at v) (at w) q)) h
+
+pub planes_of_extremes : PlanesOfExtremes
+planes_of_extremes at ids d i j k t = go (listed_part (Members ids) (λ l. vol a b c (at l) ≡ pos 0) (λ l. zero_or_not (vol a b c (at l))) ids (listed_itself ids))
+  where
+    a : Vector
+    a = at i
+
+    b : Vector
+    b = at j
+
+    c : Vector
+    c = at k
+
+    F : ℕ → Type 0
+    F = OnPlane at (Members ids) i j k
+
+    own : HasTriangle at F
+    own = record { i = i; j = j; k = k; has_i = (t.has_i, vol-first a b c); has_j = (t.has_j, vol-second a b c); has_k = (t.has_k, vol-third a b c); area = t.area }
+
+    done : HasTriangle at (Extreme at F) → SpannedByExtremes at (Members ids) i j k
+    done h = either_way at (Members ids) i j k t.supports h.i h.j h.k (up h.i h.has_i) (up h.j h.has_j) (up h.k h.has_k) h.has_i.0.1 h.area
+        (normal_along (cross a b c) (at h.i) (at h.j) (at h.k) t.area h.area (from_plane a b c (at h.i) (at h.j) h.has_i.0.1 ∙ h.has_j.0.1) (from_plane a b c (at h.i) (at h.k) h.has_i.0.1 ∙ h.has_k.0.1))
+      where
+        up : (l : ℕ) → Extreme at F l → Extreme at (Members ids) l
+        up l e = ((extremes_of_face at ids i j k t.supports l).0 e).0
+
+    go : (ys : List ℕ) × Listed F ys → SpannedByExtremes at (Members ids) i j k
+    go (ys, q) = done (triangle_of at F (Extreme at F) (λ l f. combination_of_extremes at F ys q (λ x y fx fy e. d x y fx.0 fy.0 e) l f) own)

@@ -1,0 +1,40 @@
+//! The laws of extreme ids and of supporting planes.
+ghost use Rattle.qh_model.specs.ExtremeLaws.{GreatestIsExtreme, MembersAreCombinations, UnionOfExtremes};
+ghost use Rattle.qh_model.specs.FaceLaws.{ExtremesOfFace, SupportOfExtremes, PlanesOfExtremes};
+ghost use Rattle.qh_model.specs.DimensionLaws.{DimensionIsUnique, DimensionOfExtremes};
+
+/// The member that is greatest along a direction, by its coordinates among level ones, is extreme.
+/// It gives a hull its first corners.
+pub fn greatest_is_extreme()
+    ensures { GreatestIsExtreme }
+{}
+
+/// Each member of a set of distinct points is a convex combination of the extreme ids, so these have
+/// the same hull.
+pub fn members_are_combinations()
+    ensures { MembersAreCombinations }
+{}
+
+/// The extreme ids of a union are those of the union of its blocks' extreme ids, and these have the
+/// dimension of the whole. So blocks can be hulled apart and their extremes hulled together.
+pub fn union_extremes()
+    ensures union { UnionOfExtremes }
+    ensures dimension { DimensionOfExtremes }
+{}
+
+/// The extreme ids of a face are the extreme ids of the set in its plane, and a plane that has no
+/// extreme id outside has no member outside. So a hull may look at extreme ids alone.
+pub fn extremes_of_faces()
+    ensures face { ExtremesOfFace }
+    ensures support { SupportOfExtremes }
+{}
+
+/// Each supporting plane of a set is spanned by three of its extreme ids, with the same side outside.
+pub fn planes_of_extremes()
+    ensures { PlanesOfExtremes }
+{}
+
+/// A set has one dimension at most, so the case that a hull takes is the right one.
+pub fn one_dimension()
+    ensures { DimensionIsUnique }
+{}

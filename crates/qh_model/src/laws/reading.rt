@@ -1,0 +1,10 @@
+//! The law of the point file.
+ghost use Rattle.qh_model.specs.Readings.{ReadsOneList, HasListOrFault, IsNeverBoth};
+
+/// A byte string is the file of one list of points and has no fault, or it has one first fault and
+/// is the file of none. So a reader has one right answer.
+pub fn one_reading()
+    ensures unique { ReadsOneList }
+    ensures either { HasListOrFault }
+    ensures never_both { IsNeverBoth }
+{}
