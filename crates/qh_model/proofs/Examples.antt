@@ -1,5 +1,5 @@
 -- Small examples of the definitions, computed.
-use Rattle.std.proofs.Common.{◌≡◌, ℕ, refl, List, [], ◌∷◌, ◌++◌, arith, subst, sym, inl, inr, false, true}
+use Rattle.std.proofs.Common.{◌≡◌, ℕ, refl, List, [], ◌∷◌, arith, subst, sym, inl, inr, false}
 use Rattle.std.proofs.lemmas.Int.{ints}
 use Rattle.std.specs.Prelude.{pos, negsuc, Some, None, ◌<ℤ◌}
 use Rattle.qh_model.specs.Vector.{Vector}

@@ -18,3 +18,5 @@ pub mod SurfaceLaws
 pub mod Simplex
 pub mod Combinations
 pub mod Stored
+pub mod Finished
+pub mod Complete

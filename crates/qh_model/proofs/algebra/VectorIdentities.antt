@@ -220,3 +220,8 @@ in_line-twice a c = vector_path (cross a a c) origin (flat a.y c.z a.z c.y) (fla
   where
     flat : (p q r s : ℤ) → (p -ℤ p) *ℤ (q -ℤ r) -ℤ (r -ℤ r) *ℤ (s -ℤ p) ≡ pos 0
     flat p q r s = ring (p ∷ q ∷ r ∷ s ∷ []) (less (mul (less (var 0) (var 0)) (less (var 1) (var 2))) (mul (less (var 2) (var 2)) (less (var 3) (var 0)))) (con (pos 0)) refl
+
+-- the triangle the other way round
+pub vol-flip_last : (a b c d : Vector) → vol a c b d ≡ neg_ℤ (vol a b c d)
+unfolding vol
+vol-flip_last a b c d = ring (put a (put b (put c (put d [])))) (volE (vec 0) (vec 2) (vec 1) (vec 3)) (neg (volE (vec 0) (vec 1) (vec 2) (vec 3))) refl

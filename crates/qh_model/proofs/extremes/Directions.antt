@@ -5,7 +5,7 @@ use Rattle.std.specs.Prelude.{ℤ, pos, negsuc, ◌+ℤ◌, ◌*ℤ◌, neg_ℤ,
 use Rattle.qh_model.specs.Vector.{Vector, origin, minus, cross_product, dot}
 use Rattle.qh_model.specs.Predicates.{cross, vol, left, AreInLine}
 use Rattle.qh_model.specs.FaceLaws.{IsAlong}
-use Rattle.qh_model.proofs.algebra.Order.{mul-pos, cancel-nonpos, cancel-pos, cancel-zero, le_antisym}
+use Rattle.qh_model.proofs.algebra.Order.{mul-nonneg, mul-pos, cancel-nonneg, cancel-nonpos, cancel-pos, cancel-zero, le_antisym}
 use Rattle.qh_model.proofs.algebra.Ring.{ring}
 use Rattle.qh_model.proofs.algebra.Ring.Expr.{var, con, add, sub as less, mul, neg}
 use Rattle.qh_model.proofs.algebra.VectorIdentities.{vec, put, dotE, crossE, subE, combine3, opposite, vector_path, dot-minus, vol-dot, vol-linear, left-dot}
@@ -26,6 +26,12 @@ at_most_along s t v w h k e l = cancel-nonpos (pos t) w (positive_factor t k) (s
   where
     times_le : (s : ℕ) (v : ℤ) → 0 < s → v ≤ℤ pos 0 → (pos s *ℤ v) ≤ℤ pos 0
     times_le s v h l = grind (arith, ints)
+
+pub at_least_along : (s t : ℕ) (v w : ℤ) → 0 < s → 0 < t → pos s *ℤ v ≡ pos t *ℤ w → pos 0 ≤ℤ v → pos 0 ≤ℤ w
+at_least_along s t v w h k e l = cancel-nonneg (pos t) w (positive_factor t k) (subst (λ x. pos 0 ≤ℤ x) e (mul-nonneg (pos s) v (above_zero s) l))
+  where
+    above_zero : (s : ℕ) → pos 0 ≤ℤ pos s
+    above_zero s = omega (arith, ints)
 
 pub positive_along : (s t : ℕ) (v w : ℤ) → 0 < s → 0 < t → pos s *ℤ v ≡ pos t *ℤ w → pos 0 <ℤ v → pos 0 <ℤ w
 positive_along s t v w h k e l = cancel-pos (pos t) w (positive_factor t k) (scaled_lt (pos s *ℤ v) (pos t *ℤ w) e (mul-pos (pos s) v (positive_factor s h) l))

@@ -126,7 +126,7 @@ listed_part A P D xs l = go (sifted P D xs)
     go : (ys : List ℕ) × Listed (λ j. In j xs × P j) ys → (ys : List ℕ) × Listed (λ j. A j × P j) ys
     go (ys, k) = (ys, λ j. (λ h. (k j).0 ((l j).0 h.0, h.1), λ m. ((l j).1 ((k j).1 m).0, ((k j).1 m).1)))
 
-apart : (i j : ℕ) → (j ≢ i) ⊎ (¬ (j ≢ i))
+pub apart : (i j : ℕ) → (j ≢ i) ⊎ (¬ (j ≢ i))
 apart i j = go (ℕ_discrete j i)
   where
     go : Dec (j ≡ i) → (j ≢ i) ⊎ (¬ (j ≢ i))

@@ -10,7 +10,6 @@ use Rattle.qh_model.specs.Extreme.{Extreme}
 use Rattle.qh_model.specs.SupportingPlane.{IsSupportingTriple, OnPlane}
 use Rattle.qh_model.specs.FaceLaws.{IsAlong, SpannedByExtremes}
 use Rattle.qh_model.specs.Polygons.{AreFaces, IsFacePolygon, IsFlatFace, IsSegmentFace, IsPointFace, ArePolygons, PointsForward}
-use Rattle.qh_model.specs.Hull.{BodyValue, IsBody}
 use Rattle.qh_model.specs.HullLaws.{BodyOfExtremes, TriplesOfExtremes, PolygonsOfExtremes}
 use Rattle.qh_model.proofs.extremes.ExtremeIds.{listed_itself, extremes_between, combination_of_extremes}
 use Rattle.qh_model.proofs.extremes.Faces.{support_of_extremes}

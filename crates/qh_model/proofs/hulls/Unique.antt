@@ -11,7 +11,7 @@ use Rattle.qh_model.specs.SupportingPlane.{IsSupportingTriple, OnPlane}
 use Rattle.qh_model.specs.FaceLaws.{IsAlong}
 use Rattle.qh_model.specs.Polygons.{AreFaces, IsFacePolygon, IsFlatFace, IsSegmentFace, IsPointFace, ArePolygons, IsEdgeCount, PointsForward}
 use Rattle.qh_model.specs.Predicates.{place}
-use Rattle.qh_model.specs.Hull.{BodyValue, HullValue, IsBody, IsHull}
+use Rattle.qh_model.specs.Hull.{BodyValue, HullValue, IsBody}
 use Rattle.qh_model.specs.Text.{hull_text}
 use Rattle.qh_model.specs.HullLaws.{BodyIsUnique, HullIsUnique, TextIsUnique, PolygonsAreUnique, EdgeCountIsUnique, RisingListIsUnique, DistinctIdsAreUnique}
 use Rattle.qh_model.proofs.extremes.Dimensions.{one_dimension}

@@ -59,7 +59,7 @@ bdc : (a b c d : Weighted) → above b d c a ≡ above a b c d
 unfolding above
 bdc a b c d = ring (put4 a (put4 b (put4 c (put4 d [])))) (aboveE (quad 1) (quad 3) (quad 2) (quad 0)) (aboveE (quad 0) (quad 1) (quad 2) (quad 3)) refl
 
-above-together : (p q r a b c d : Weighted) → above p q r (middle_of a b c d) ≡ above p q r a +ℤ above p q r b +ℤ above p q r c +ℤ above p q r d
+pub above-together : (p q r a b c d : Weighted) → above p q r (middle_of a b c d) ≡ above p q r a +ℤ above p q r b +ℤ above p q r c +ℤ above p q r d
 unfolding above
 above-together p q r a b c d =
     ring (put4 p (put4 q (put4 r (put4 a (put4 b (put4 c (put4 d [])))))))
