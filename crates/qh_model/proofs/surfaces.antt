@@ -11,6 +11,7 @@ pub mod KeptSound
 pub mod Unseen
 pub mod SimplexBoundary
 pub mod Located
+pub mod Rim
 pub mod Horizon
 pub mod Rewired
 pub mod CoveredPlanes

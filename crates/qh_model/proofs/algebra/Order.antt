@@ -2,10 +2,10 @@
 use Rattle.std.proofs.Common.{◌≡◌, ℕ, zero, suc, ◌*◌, ◌≤◌, arith, ap, sym, ◌∙◌, refl, ◌⊎◌, inl, inr}
 use Rattle.std.proofs.Math.Nat.{mul-le-mul}
 use Rattle.std.proofs.lemmas.Int.{ints, by_lt_z}
-use Rattle.std.specs.Prelude.{ℤ, pos, negsuc, ◌+ℤ◌, ◌-ℤ◌, ◌*ℤ◌, ◌≤ℤ◌, ◌<ℤ◌}
+use Rattle.std.specs.Prelude.{ℤ, pos, negsuc, ◌+ℤ◌, ◌-ℤ◌, ◌*ℤ◌, neg_ℤ, ◌≤ℤ◌, ◌<ℤ◌}
 use lib.IntN.{ℤ_discrete}
 use borrow.Author.Differences.{product_is}
-use Rattle.qh_model.proofs.algebra.Integers.{mul_add}
+use Rattle.qh_model.proofs.algebra.Integers.{mul_add, mul_neg}
 
 pub mul-nonneg : (a b : ℤ) → pos 0 ≤ℤ a → pos 0 ≤ℤ b → pos 0 ≤ℤ (a *ℤ b)
 mul-nonneg a b h k = grind (arith, ints)
@@ -52,8 +52,8 @@ cancel-nonpos a b h k = by_lt_z (pos 0) b (λ q. absurd (no_lt_and_ge (a *ℤ b)
 pub cancel-pos : (a b : ℤ) → pos 0 <ℤ a → pos 0 <ℤ (a *ℤ b) → pos 0 <ℤ b
 cancel-pos a b h k = grind (arith, ints, mul-nonneg_nonpos)
 
-mul-neg : (a b : ℤ) → pos 0 <ℤ a → b <ℤ pos 0 → (a *ℤ b) <ℤ pos 0
-mul-neg a b h k = grind (arith, ints, cancel-nonneg)
+pub mul-pos_neg : (a b : ℤ) → pos 0 <ℤ a → b <ℤ pos 0 → (a *ℤ b) <ℤ pos 0
+mul-pos_neg a b h k = grind (arith, ints, cancel-nonneg)
 
 le_both : (x : ℤ) → x ≡ pos 0 → (x ≤ℤ pos 0) × (pos 0 ≤ℤ x)
 le_both x e = (omega (arith, ints), omega (arith, ints))
@@ -76,8 +76,8 @@ zero_product (negsuc n) b k = inr (cancel-zero (pos (suc n)) b (omega (arith, in
 pub sign_step : (ap by ay bp ab py : ℤ) → ap *ℤ by -ℤ ay *ℤ bp ≡ ab *ℤ py → pos 0 <ℤ ap → pos 0 ≤ℤ by → ay ≤ℤ pos 0 → pos 0 ≤ℤ bp → ab <ℤ pos 0 → py ≤ℤ pos 0
 sign_step ap by ay bp ab py e h1 h2 h3 h4 h5 = grind (arith, ints, mul-nonneg, mul-nonpos_nonneg, mul-pos)
 
-pub neg-mul : (a b : ℤ) → a <ℤ pos 0 → pos 0 <ℤ b → (a *ℤ b) <ℤ pos 0
-neg-mul a b h k = by_lt_z (a *ℤ b) (pos 0) (λ q. q) (λ q. absurd (no_lt_and_ge a (cancel_right a b k q) h))
+pub mul-neg_pos : (a b : ℤ) → a <ℤ pos 0 → pos 0 <ℤ b → (a *ℤ b) <ℤ pos 0
+mul-neg_pos a b h k = by_lt_z (a *ℤ b) (pos 0) (λ q. q) (λ q. absurd (no_lt_and_ge a (cancel_right a b k q) h))
   where
     cancel_right : (a b : ℤ) → pos 0 <ℤ b → pos 0 ≤ℤ (a *ℤ b) → pos 0 ≤ℤ a
     cancel_right a b k q = grind (arith, ints)
@@ -94,3 +94,25 @@ zero_or_not v = go (ℤ_discrete v (pos 0))
     go : Dec (v ≡ pos 0) → (v ≡ pos 0) ⊎ (¬ (v ≡ pos 0))
     go (yes e) = inl e
     go (no n) = inr n
+
+pub neg-positive : (x : ℤ) → x <ℤ pos 0 → pos 0 <ℤ neg_ℤ x
+neg-positive x h = omega (arith, ints)
+
+pub neg-nonneg : (x : ℤ) → x ≤ℤ pos 0 → pos 0 ≤ℤ neg_ℤ x
+neg-nonneg x h = omega (arith, ints)
+
+pub mul-neg_neg : (a b : ℤ) → a <ℤ pos 0 → b <ℤ pos 0 → pos 0 <ℤ (a *ℤ b)
+mul-neg_neg a b h k = plain (a *ℤ b) (a *ℤ neg_ℤ b) (mul_neg a b) (mul-neg_pos a (neg_ℤ b) h (neg-positive b k))
+  where
+    plain : (x y : ℤ) → y ≡ neg_ℤ x → y <ℤ pos 0 → pos 0 <ℤ x
+    plain x y e h = omega (arith, ints)
+
+pub positive_le : (x : ℤ) → pos 0 <ℤ x → pos 0 ≤ℤ x
+positive_le x h = omega (arith, ints)
+
+pub negative_le : (x : ℤ) → x <ℤ pos 0 → x ≤ℤ pos 0
+negative_le x h = omega (arith, ints)
+
+pub square-nonneg : (x : ℤ) → pos 0 ≤ℤ (x *ℤ x)
+square-nonneg (pos n) = omega (arith, ints)
+square-nonneg (negsuc n) = omega (arith, ints)

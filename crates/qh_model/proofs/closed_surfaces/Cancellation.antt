@@ -11,7 +11,7 @@ use Rattle.qh_model.specs.ClosedSurface.{Triple, edges, IsClosed}
 use Rattle.qh_model.specs.ClosedSurfaceLaws.{IsCornerOf, NoneBelowAndBeyond}
 use Rattle.qh_model.proofs.Members.{every_map}
 use Rattle.qh_model.proofs.algebra.Integers.{mul_swap}
-use Rattle.qh_model.proofs.algebra.Order.{mul-pos, neg-mul}
+use Rattle.qh_model.proofs.algebra.Order.{mul-pos, mul-neg_pos}
 use Rattle.qh_model.proofs.algebra.Ring.{ring, eqb-is}
 use Rattle.qh_model.proofs.algebra.Ring.Expr.{var, add, sub as less, mul, neg}
 use Rattle.qh_model.proofs.algebra.VectorIdentities.{vol-flip, vol-depths, depth, dot-minus, combine3}
@@ -75,7 +75,7 @@ shared-zero at w p co m r ts c h = shared-sum at w p co m r ts h ∙ edges-cance
 shared-neg : (at : ℕ → Vector) (w p : Vector) (co : ℕ → ℤ) (r : ℕ) (t : Triple) → vol_at at p t <ℤ pos 0 → pos 0 <ℤ depth w p (at r) → pos 0 <ℤ co t.i → pos 0 <ℤ co t.j → pos 0 <ℤ co t.k → shared at w p co r t <ℤ pos 0
 unfolding shared
 shared-neg at w p co r t h hr hi hj hk =
-    neg-mul (vol_at at p t *ℤ depth w p (at r)) (co t.i *ℤ co t.j *ℤ co t.k) (neg-mul (vol_at at p t) (depth w p (at r)) h hr) (mul-pos (co t.i *ℤ co t.j) (co t.k) (mul-pos (co t.i) (co t.j) hi hj) hk)
+    mul-neg_pos (vol_at at p t *ℤ depth w p (at r)) (co t.i *ℤ co t.j *ℤ co t.k) (mul-neg_pos (vol_at at p t) (depth w p (at r)) h hr) (mul-pos (co t.i *ℤ co t.j) (co t.k) (mul-pos (co t.i) (co t.j) hi hj) hk)
 
 sums-neg : (at : ℕ → Vector) (w p : Vector) (co : ℕ → ℤ) (r : ℕ) → pos 0 <ℤ depth w p (at r) → (ts : List Triple) → Corners (λ i. pos 0 <ℤ co i) ts → Each (λ t. vol_at at p t <ℤ pos 0) ts → sum_z (shared at w p co r) ts ≤ℤ pos 0
 sums-neg at w p co r hr [] h v = omega (arith, ints)

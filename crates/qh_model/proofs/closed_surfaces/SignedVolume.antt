@@ -9,21 +9,17 @@ use Rattle.qh_model.specs.ClosedSurfaceLaws.{VolumeIsConstant}
 use Rattle.qh_model.proofs.algebra.Ring.{eqb-is}
 use Rattle.qh_model.proofs.algebra.VectorIdentities.{vol-boundary, vol-flip}
 use Rattle.qh_model.proofs.closed_surfaces.Sums.{sum_z, count, Tests, sum_z-same_counts, count-is}
+use Rattle.qh_model.proofs.Booleans.{both_true}
 
 abbrev pub back : (ℕ × ℕ) → (ℕ × ℕ)
 back e = (e.1, e.0)
-
-both_of : (a b : Bool) → (a && b) ≡ true → (a ≡ true) × (b ≡ true)
-both_of true true e = (refl, refl)
-both_of true false e = cc
-both_of false b e = cc
 
 pub eqb-refl : (i : ℕ) → eqb i i ≡ true
 eqb-refl i = search rules
 
 pub edge_tests : Tests is_edge
 edge_tests = record {
-  same = λ e f h. let b = both_of (eqb e.0 f.0) (eqb e.1 f.1) h in pair_is e.0 e.1 f.0 f.1 (eqb-is e.0 f.0 b.0) (eqb-is e.1 f.1 b.1);
+  same = λ e f h. let b = both_true (eqb e.0 f.0) (eqb e.1 f.1) h in pair_is e.0 e.1 f.0 f.1 (eqb-is e.0 f.0 b.0) (eqb-is e.1 f.1 b.1);
   itself = λ e. rw (eqb-refl e.0, eqb-refl e.1) refl;
 }
   where

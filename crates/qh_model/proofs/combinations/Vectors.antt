@@ -4,6 +4,7 @@ use Rattle.std.proofs.lemmas.Int.{ints}
 use Rattle.std.specs.Prelude.{ℤ, pos, negsuc, ◌+ℤ◌, ◌*ℤ◌, neg_ℤ, ◌<ℤ◌, ◌≤ℤ◌}
 use lib.IntN.{*ℤ_comm, zero-*ℤ, *ℤ-zero, +ℤ_idl, +ℤ_idr}
 use Rattle.qh_model.proofs.algebra.Integers.{ring_rules, mul_add}
+use Rattle.qh_model.proofs.algebra.Order.{square-nonneg}
 
 abbrev pub V : ℕ → Type 0
 V zero = Unit {0}
@@ -48,16 +49,12 @@ pub dot_nil : (n : ℕ) (x : V n) → dot n (nil n) x ≡ pos 0
 dot_nil zero x = refl
 dot_nil (suc n) x = r4 x.0 _ (dot_nil n x.1)
 
-square : (x : ℤ) → pos 0 ≤ℤ (x *ℤ x)
-square (pos n) = omega (arith, ints)
-square (negsuc n) = omega (arith, ints)
-
 plus : (x D : ℤ) → pos 0 ≤ℤ x → pos 0 ≤ℤ D → pos 0 ≤ℤ (x +ℤ D)
 plus x D h k = omega (arith, ints)
 
 pub dot_self : (n : ℕ) (x : V n) → pos 0 ≤ℤ dot n x x
 dot_self zero x = omega (arith, ints)
-dot_self (suc n) x = plus _ _ (square x.0) (dot_self n x.1)
+dot_self (suc n) x = plus _ _ (square-nonneg x.0) (dot_self n x.1)
 
 -- the space one dimension lower, along d
 pub record Cut (n : ℕ) (d : V (suc n)) : Type 0 where

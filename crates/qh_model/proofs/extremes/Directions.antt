@@ -5,7 +5,7 @@ use Rattle.std.specs.Prelude.{ℤ, pos, negsuc, ◌+ℤ◌, ◌*ℤ◌, neg_ℤ,
 use Rattle.qh_model.specs.Vector.{Vector, origin, minus, cross_product, dot}
 use Rattle.qh_model.specs.Predicates.{cross, vol, left, AreInLine}
 use Rattle.qh_model.specs.FaceLaws.{IsAlong}
-use Rattle.qh_model.proofs.algebra.Order.{mul-nonneg, mul-pos, cancel-nonneg, cancel-nonpos, cancel-pos, cancel-zero, le_antisym}
+use Rattle.qh_model.proofs.algebra.Order.{mul-nonneg, mul-pos, cancel-nonneg, cancel-nonpos, cancel-pos, cancel-zero, le_antisym, square-nonneg}
 use Rattle.qh_model.proofs.algebra.Ring.{ring}
 use Rattle.qh_model.proofs.algebra.Ring.Expr.{var, con, add, sub as less, mul, neg}
 use Rattle.qh_model.proofs.algebra.VectorIdentities.{vec, put, dotE, crossE, subE, combine3, opposite, vector_path, dot-minus, vol-dot, vol-linear, left-dot}
@@ -107,10 +107,6 @@ along_by n m s t h k x y z = let a = positive_number s h in let b = positive_num
   z = ap (λ v. v *ℤ n.z) (sym a.1) ∙ z ∙ ap (λ v. v *ℤ m.z) b.1;
 }
 
-square : (x : ℤ) → pos 0 ≤ℤ (x *ℤ x)
-square (pos n) = omega (arith, ints)
-square (negsuc n) = omega (arith, ints)
-
 square-zero : (x : ℤ) → (x *ℤ x) ≤ℤ pos 0 → x ≡ pos 0
 square-zero (pos zero) h = refl
 square-zero (pos (suc n)) h = absurd (omega (arith, ints))
@@ -124,7 +120,7 @@ square-positive n h = by_lt_z (pos 0) (dot n n) (λ q. q) (λ q. absurd (h (flat
     first x y z a b c d = (omega (arith, ints), omega (arith, ints), omega (arith, ints))
 
     flat : dot n n ≤ℤ pos 0 → n ≡ origin
-    flat q = let f = first (n.x *ℤ n.x) (n.y *ℤ n.y) (n.z *ℤ n.z) (square n.x) (square n.y) (square n.z) q in
+    flat q = let f = first (n.x *ℤ n.x) (n.y *ℤ n.y) (n.z *ℤ n.z) (square-nonneg n.x) (square-nonneg n.y) (square-nonneg n.z) q in
         vector_path n origin (square-zero n.x f.0) (square-zero n.y f.1) (square-zero n.z f.2)
 
 pub along_or_opposite : (n r : Vector) → n ≢ origin → r ≢ origin → Parallel n r → IsAlong n r ⊎ IsAlong n (opposite r)

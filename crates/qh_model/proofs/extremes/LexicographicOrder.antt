@@ -9,6 +9,7 @@ use Rattle.qh_model.proofs.combinations.Vectors.{V, dot}
 use Rattle.qh_model.proofs.combinations.WeightedTerms.{bound}
 use Rattle.qh_model.proofs.Members.{every_map, every_zip}
 use Rattle.qh_model.specs.Sets.{In}
+use Rattle.qh_model.proofs.algebra.Order.{le_antisym}
 
 abbrev pub Less : (n : ℕ) → V n → V n → Type 0
 Less zero u v = ⊥
@@ -29,9 +30,6 @@ eq_lt a b c h k = omega (arith, ints)
 
 lt_eq : (a b c : ℤ) → a <ℤ b → b ≡ c → a <ℤ c
 lt_eq a b c h k = omega (arith, ints)
-
-le_both : (a b : ℤ) → a ≤ℤ b → b ≤ℤ a → a ≡ b
-le_both a b h k = omega (arith, ints)
 
 less_trans : (n : ℕ) (u v w : V n) → Less n u v → Less n v w → Less n u w
 less_trans zero u v w h k = h
@@ -55,7 +53,7 @@ same (suc n) u = (refl, same n u.1)
 
 compare : (n : ℕ) (u v : V n) → AtMost n u v ⊎ Less n v u
 compare zero u v = inl (inl tt)
-compare (suc n) u v = by_lt_z u.0 v.0 (λ h. inl (inr (inl h))) (λ h. by_lt_z v.0 u.0 (λ k. inr (inl k)) (λ k. tails (le_both u.0 v.0 k h) (compare n u.1 v.1)))
+compare (suc n) u v = by_lt_z u.0 v.0 (λ h. inl (inr (inl h))) (λ h. by_lt_z v.0 u.0 (λ k. inr (inl k)) (λ k. tails (le_antisym u.0 v.0 k h) (compare n u.1 v.1)))
   where
     tails : u.0 ≡ v.0 → AtMost n u.1 v.1 ⊎ Less n v.1 u.1 → AtMost (suc n) u v ⊎ Less (suc n) v u
     tails e (inl (inl s)) = inl (inl (e, s))

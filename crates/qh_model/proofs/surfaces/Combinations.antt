@@ -11,12 +11,7 @@ use Rattle.qh_model.proofs.surfaces.Determinants.{above-turn}
 use Rattle.qh_model.proofs.surfaces.CramersRule.{cramer}
 use Rattle.qh_model.proofs.surfaces.Located.{Located, located}
 use Rattle.qh_model.proofs.surfaces.CoveredPlanes.{plane_is_covered}
-
-up : (x : ℤ) → x ≤ℤ pos 0 → pos 0 ≤ℤ neg_ℤ x
-up x h = omega (arith, ints)
-
-up_lt : (x : ℤ) → x <ℤ pos 0 → pos 0 <ℤ neg_ℤ x
-up_lt x h = omega (arith, ints)
+use Rattle.qh_model.proofs.algebra.Order.{neg-nonneg, neg-positive}
 
 turned : (x y : ℤ) → x ≡ y → y ≤ℤ pos 0 → x ≤ℤ pos 0
 turned x y e h = omega (arith, ints)
@@ -41,11 +36,11 @@ settled_is_combination m home o w z f0 i0 x settled = from (located m home o w z
           v = neg_ℤ (above a x c o);
           w = neg_ℤ (above a b x o);
           t = neg_ℤ (above a b c x);
-          all_pos = up_lt (above a b c o) (z.inner l.f l.live);
-          u_nonneg = up (above x b c o) (turned (above x b c o) (above b c x o) (above-turn x b c o) (l.within second));
-          v_nonneg = up (above a x c o) (turned (above a x c o) (above c a x o) (above-turn a x c o ∙ above-turn x c a o) (l.within third));
-          w_nonneg = up (above a b x o) (l.within first);
-          t_nonneg = up (above a b c x) (settled l.f l.live);
+          all_pos = neg-positive (above a b c o) (z.inner l.f l.live);
+          u_nonneg = neg-nonneg (above x b c o) (turned (above x b c o) (above b c x o) (above-turn x b c o) (l.within second));
+          v_nonneg = neg-nonneg (above a x c o) (turned (above a x c o) (above c a x o) (above-turn a x c o ∙ above-turn x c a o) (l.within third));
+          w_nonneg = neg-nonneg (above a b x o) (l.within first);
+          t_nonneg = neg-nonneg (above a b c x) (settled l.f l.live);
           mix = λ n. negated (above a b c o) (weighted_dot n x) (above x b c o) (weighted_dot n a) (above a x c o) (weighted_dot n b) (above a b x o) (weighted_dot n c) (above a b c x) (weighted_dot n o) (cramer n a b c o x);
         }
       where
@@ -77,10 +72,10 @@ level_is_combination m home o w z f0 i0 p q r e inner corners level settled = fr
           u = neg_ℤ (above e b c o);
           v = neg_ℤ (above a e c o);
           w = neg_ℤ (above a b e o);
-          all_pos = up_lt (above a b c o) (z.inner l.f l.live);
-          u_nonneg = up (above e b c o) (turned (above e b c o) (above b c e o) (above-turn e b c o) (l.within second));
-          v_nonneg = up (above a e c o) (turned (above a e c o) (above c a e o) (above-turn a e c o ∙ above-turn e c a o) (l.within third));
-          w_nonneg = up (above a b e o) (l.within first);
+          all_pos = neg-positive (above a b c o) (z.inner l.f l.live);
+          u_nonneg = neg-nonneg (above e b c o) (turned (above e b c o) (above b c e o) (above-turn e b c o) (l.within second));
+          v_nonneg = neg-nonneg (above a e c o) (turned (above a e c o) (above c a e o) (above-turn a e c o ∙ above-turn e c a o) (l.within third));
+          w_nonneg = neg-nonneg (above a b e o) (l.within first);
           mix = λ n. dropped (neg_ℤ (above a b c o) *ℤ weighted_dot n e) (neg_ℤ (above e b c o) *ℤ weighted_dot n a) (neg_ℤ (above a e c o) *ℤ weighted_dot n b) (neg_ℤ (above a b e o) *ℤ weighted_dot n c) (above a b c e) (weighted_dot n o)
               (negated (above a b c o) (weighted_dot n e) (above e b c o) (weighted_dot n a) (above a e c o) (weighted_dot n b) (above a b e o) (weighted_dot n c) (above a b c e) (weighted_dot n o) (cramer n a b c o e)) l.on;
         }

@@ -7,7 +7,7 @@ use Rattle.std.proofs.Common.{◌≡◌, ◌≢◌, ℕ, ◌+◌, ◌≤◌, ref
 use native.Mathlib.Decide.{ℕ_discrete}
 use Rattle.std.proofs.lemmas.Int.{ints, by_lt_z}
 use Rattle.std.specs.Prelude.{ℤ, pos, ◌-ℤ◌, ◌*ℤ◌, neg_ℤ, ◌≤ℤ◌, ◌<ℤ◌}
-use Rattle.qh_model.proofs.algebra.Order.{mul-pos, mul-nonneg, mul-nonneg_nonpos, mul-nonpos_nonneg, mul-nonpos, cancel-nonneg}
+use Rattle.qh_model.proofs.algebra.Order.{mul-pos, mul-nonneg, mul-nonneg_nonpos, mul-nonpos_nonneg, mul-nonpos, cancel-nonneg, mul-neg_pos, mul-pos_neg, positive_le, negative_le}
 use Rattle.qh_model.proofs.surfaces.Facets.{rise_side, rise_over, corner_start, corner_end, corner_rest, corner_cases, corner_test, weak, bends, far_apart, rest_differs}
 use Rattle.qh_model.proofs.surfaces.DrawnInwards.{Choice, choose}
 use Rattle.qh_model.proofs.surfaces.Determinants.{above-flip}
@@ -15,21 +15,6 @@ use Rattle.qh_model.proofs.surfaces.PlanesThroughLine.{line_product}
 use Rattle.qh_model.proofs.surfaces.Connected.{cert}
 
 -- ---- signs, for two planes through one line, and a third through it and p
-pub lt_le : (x : ℤ) → pos 0 <ℤ x → pos 0 ≤ℤ x
-lt_le x h = omega (arith, ints)
-
-pub neg_le : (x : ℤ) → x <ℤ pos 0 → x ≤ℤ pos 0
-neg_le x h = omega (arith, ints)
-
-pos-neg : (a b : ℤ) → pos 0 <ℤ a → b <ℤ pos 0 → (a *ℤ b) <ℤ pos 0
-pos-neg a b h k = grind (arith, ints, cancel-nonneg)
-
-neg-pos : (a b : ℤ) → a <ℤ pos 0 → pos 0 <ℤ b → (a *ℤ b) <ℤ pos 0
-neg-pos a b h k = over_swap (pos-neg b a k h)
-  where
-    over_swap : (b *ℤ a) <ℤ pos 0 → (a *ℤ b) <ℤ pos 0
-    over_swap h = omega (arith, ints)
-
 difference_pos : (x y r : ℤ) → x -ℤ y ≡ r → pos 0 <ℤ x → y ≤ℤ pos 0 → pos 0 <ℤ r
 difference_pos x y r e h k = omega (arith, ints)
 
@@ -56,17 +41,17 @@ other_pos : (a b : ℤ) → a ≤ℤ pos 0 → (a *ℤ b) <ℤ pos 0 → pos 0 <
 other_pos a b h k = by_lt_z (pos 0) b (λ q. q) (λ q. absurd (both' (a *ℤ b) k (mul-nonpos a b h q)))
 
 first_neg : (a b : ℤ) → b <ℤ pos 0 → pos 0 <ℤ (a *ℤ b) → a <ℤ pos 0
-first_neg a b h k = by_lt_z a (pos 0) (λ q. q) (λ q. absurd (both (a *ℤ b) k (mul-nonneg_nonpos a b q (neg_le b h))))
+first_neg a b h k = by_lt_z a (pos 0) (λ q. q) (λ q. absurd (both (a *ℤ b) k (mul-nonneg_nonpos a b q (negative_le b h))))
 
 -- y is strictly below one of the two
 pub cone_strict : (u v a b p y : Weighted) → pos 0 <ℤ above u v a p → pos 0 <ℤ above u v b p → above u v a b <ℤ pos 0 → above u v a y ≤ℤ pos 0 → pos 0 ≤ℤ above u v b y
     → (above u v a y <ℤ pos 0) ⊎ (pos 0 <ℤ above u v b y) → above u v p y <ℤ pos 0
 cone_strict u v a b p y ap bp ab ay by (inl k) =
-    other_neg (above u v a b) (above u v p y) (neg_le (above u v a b) ab)
-    (difference_pos' (above u v a p *ℤ above u v b y) (above u v a y *ℤ above u v b p) (above u v a b *ℤ above u v p y) (line_product u v a b p y) (mul-nonneg (above u v a p) (above u v b y) (lt_le (above u v a p) ap) by) (neg-pos (above u v a y) (above u v b p) k bp))
+    other_neg (above u v a b) (above u v p y) (negative_le (above u v a b) ab)
+    (difference_pos' (above u v a p *ℤ above u v b y) (above u v a y *ℤ above u v b p) (above u v a b *ℤ above u v p y) (line_product u v a b p y) (mul-nonneg (above u v a p) (above u v b y) (positive_le (above u v a p) ap) by) (mul-neg_pos (above u v a y) (above u v b p) k bp))
 cone_strict u v a b p y ap bp ab ay by (inr k) =
-    other_neg (above u v a b) (above u v p y) (neg_le (above u v a b) ab)
-    (difference_pos (above u v a p *ℤ above u v b y) (above u v a y *ℤ above u v b p) (above u v a b *ℤ above u v p y) (line_product u v a b p y) (mul-pos (above u v a p) (above u v b y) ap k) (mul-nonpos_nonneg (above u v a y) (above u v b p) ay (lt_le (above u v b p) bp)))
+    other_neg (above u v a b) (above u v p y) (negative_le (above u v a b) ab)
+    (difference_pos (above u v a p *ℤ above u v b y) (above u v a y *ℤ above u v b p) (above u v a b *ℤ above u v p y) (line_product u v a b p y) (mul-pos (above u v a p) (above u v b y) ap k) (mul-nonpos_nonneg (above u v a y) (above u v b p) ay (positive_le (above u v b p) bp)))
 
 -- o is strictly below both: then the bend is strict, and o strictly below the cone's facet
 pub cone_inner : (u v a b p o : Weighted) → pos 0 <ℤ above u v a p → pos 0 ≤ℤ above u v b p → above u v a b ≤ℤ pos 0 → above u v a o <ℤ pos 0 → pos 0 <ℤ above u v b o
@@ -74,7 +59,7 @@ pub cone_inner : (u v a b p o : Weighted) → pos 0 <ℤ above u v a p → pos 0
 cone_inner u v a b p o ap bp ab ao bo = (first_neg (above u v a b) (above u v p o) down product, down)
   where
     product : pos 0 <ℤ (above u v a b *ℤ above u v p o)
-    product = difference_pos (above u v a p *ℤ above u v b o) (above u v a o *ℤ above u v b p) (above u v a b *ℤ above u v p o) (line_product u v a b p o) (mul-pos (above u v a p) (above u v b o) ap bo) (mul-nonpos_nonneg (above u v a o) (above u v b p) (neg_le (above u v a o) ao) bp)
+    product = difference_pos (above u v a p *ℤ above u v b o) (above u v a o *ℤ above u v b p) (above u v a b *ℤ above u v p o) (line_product u v a b p o) (mul-pos (above u v a p) (above u v b o) ap bo) (mul-nonpos_nonneg (above u v a o) (above u v b p) (negative_le (above u v a o) ao) bp)
 
     down : above u v p o <ℤ pos 0
     down = other_neg (above u v a b) (above u v p o) ab product
@@ -83,15 +68,15 @@ cone_inner u v a b p o ap bp ab ao bo = (first_neg (above u v a b) (above u v p 
 pub cone_weak : (u v a b p y : Weighted) → pos 0 <ℤ above u v a p → pos 0 ≤ℤ above u v b p → above u v a b <ℤ pos 0 → above u v a y ≤ℤ pos 0 → pos 0 ≤ℤ above u v b y → above u v p y ≤ℤ pos 0
 cone_weak u v a b p y ap bp ab ay by =
     by_lt_z (pos 0) (above u v p y)
-    (λ q. absurd (both' (above u v a b *ℤ above u v p y) (neg-pos (above u v a b) (above u v p y) ab q)
-    (difference_nonneg (above u v a p *ℤ above u v b y) (above u v a y *ℤ above u v b p) (above u v a b *ℤ above u v p y) (line_product u v a b p y) (mul-nonneg (above u v a p) (above u v b y) (lt_le (above u v a p) ap) by) (mul-nonpos_nonneg (above u v a y) (above u v b p) ay bp))))
+    (λ q. absurd (both' (above u v a b *ℤ above u v p y) (mul-neg_pos (above u v a b) (above u v p y) ab q)
+    (difference_nonneg (above u v a p *ℤ above u v b y) (above u v a y *ℤ above u v b p) (above u v a b *ℤ above u v p y) (line_product u v a b p y) (mul-nonneg (above u v a p) (above u v b y) (positive_le (above u v a p) ap) by) (mul-nonpos_nonneg (above u v a y) (above u v b p) ay bp))))
     (λ q. q)
 
 -- q sees both: so the cone's facet
 pub cone_seen : (u v a b p q : Weighted) → pos 0 <ℤ above u v a p → pos 0 ≤ℤ above u v b p → above u v a b ≤ℤ pos 0 → pos 0 <ℤ above u v a q → above u v b q <ℤ pos 0 → pos 0 <ℤ above u v p q
 cone_seen u v a b p q ap bp ab aq bq =
     other_pos (above u v a b) (above u v p q) ab
-    (difference_neg (above u v a p *ℤ above u v b q) (above u v a q *ℤ above u v b p) (above u v a b *ℤ above u v p q) (line_product u v a b p q) (pos-neg (above u v a p) (above u v b q) ap bq) (mul-nonneg (above u v a q) (above u v b p) (lt_le (above u v a q) aq) bp))
+    (difference_neg (above u v a p *ℤ above u v b q) (above u v a q *ℤ above u v b p) (above u v a b *ℤ above u v p q) (line_product u v a b p q) (mul-pos_neg (above u v a p) (above u v b q) ap bq) (mul-nonneg (above u v a q) (above u v b p) (positive_le (above u v a q) aq) bp))
 
 -- ---- the new surface
 pub record KeptOf (m m' : Surface) (home : ℕ → Weighted) (p f' : ℕ) : Type 0 where

@@ -7,7 +7,7 @@ use Rattle.qh_model.specs.Weighted.{Weighted, above, weighted_dot, plane_of}
 use Rattle.std.proofs.Common.{◌≡◌, ℕ, suc, ◌+◌, ◌≤◌, refl, [], ◌∷◌, arith, ap, sym, ◌∙◌, subst, ◌⊎◌, inl, inr}
 use Rattle.std.proofs.lemmas.Int.{ints, by_lt_z}
 use Rattle.std.specs.Prelude.{ℤ, pos, ◌+ℤ◌, ◌*ℤ◌, neg_ℤ, ◌≤ℤ◌, ◌<ℤ◌}
-use Rattle.qh_model.proofs.algebra.Order.{mul-nonpos, mul-nonneg_nonpos, cancel-nonneg, cancel-nonpos, cancel-zero, zero_product}
+use Rattle.qh_model.proofs.algebra.Order.{mul-nonpos, mul-nonneg_nonpos, cancel-nonneg, cancel-nonpos, cancel-zero, zero_product, mul-neg_pos}
 use Rattle.qh_model.proofs.algebra.Ring.{ring}
 use Rattle.qh_model.proofs.algebra.Ring.Expr.{var, con, add, sub as less, mul, neg}
 use Rattle.qh_model.proofs.surfaces.Facets.{rise_own, sum4, above-sum, plane-is}
@@ -42,19 +42,10 @@ four l a b c d x y z e q h ha hb hc hd hx hy hz he = finish l (a *ℤ x) (b *ℤ
     finish : (l p q r s : ℤ) → l ≡ p +ℤ q +ℤ r +ℤ s → l <ℤ pos 0 → pos 0 ≤ℤ p → pos 0 ≤ℤ q → pos 0 ≤ℤ r → pos 0 ≤ℤ s → ⊥
     finish l p q r s e h hp hq hr hs = omega (arith, ints)
 
-neg-pos : (a b : ℤ) → a <ℤ pos 0 → pos 0 <ℤ b → (a *ℤ b) <ℤ pos 0
-neg-pos a b h k = turn (pos-neg b a k h)
-  where
-    pos-neg : (a b : ℤ) → pos 0 <ℤ a → b <ℤ pos 0 → (a *ℤ b) <ℤ pos 0
-    pos-neg a b h k = grind (arith, ints, cancel-nonneg)
-
-    turn : (b *ℤ a) <ℤ pos 0 → (a *ℤ b) <ℤ pos 0
-    turn h = omega (arith, ints)
-
 at_facet : (m : Surface) (home : ℕ → Weighted) (o x n : Weighted) (l : Located m home o x) → rise m home l.f o <ℤ pos 0 → ((g : ℕ) → In g m.live → (i : ℕ) → IsCorner m g i → weighted_dot n (home i) ≤ℤ pos 0) → weighted_dot n o ≤ℤ pos 0
     → pos 0 <ℤ weighted_dot n x → rise m home l.f x ≤ℤ pos 0 → ⊥
 at_facet m home o x n l inner corners n_o nx below =
-    four (rise m home l.f o *ℤ weighted_dot n x) (above x b c o) (above a x c o) (above a b x o) (above a b c x) (weighted_dot n a) (weighted_dot n b) (weighted_dot n c) (weighted_dot n o) (cramer n a b c o x) (neg-pos (rise m home l.f o) (weighted_dot n x) inner nx)
+    four (rise m home l.f o *ℤ weighted_dot n x) (above x b c o) (above a x c o) (above a b x o) (above a b c x) (weighted_dot n a) (weighted_dot n b) (weighted_dot n c) (weighted_dot n o) (cramer n a b c o x) (mul-neg_pos (rise m home l.f o) (weighted_dot n x) inner nx)
     (subst (λ v. v ≤ℤ pos 0) (sym (above-turn x b c o)) (l.within second))
     (subst (λ v. v ≤ℤ pos 0) (sym (above-turn a x c o ∙ above-turn x c a o)) (l.within third))
     (l.within first) below

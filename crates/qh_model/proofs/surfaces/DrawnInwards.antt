@@ -8,7 +8,7 @@ use Rattle.std.proofs.lemmas.Int.{ints}
 use Rattle.std.specs.Prelude.{ℤ, pos, negsuc, ◌+ℤ◌, ◌-ℤ◌, ◌*ℤ◌, neg_ℤ, ◌≤ℤ◌, ◌<ℤ◌}
 use Rattle.qh_model.proofs.algebra.Ring.{Expr, ring}
 use Rattle.qh_model.proofs.algebra.Ring.Expr.{var, con, add, sub as less, mul}
-use Rattle.qh_model.proofs.algebra.Order.{mul-nonneg, mul-nonneg_nonpos, mul-pos, cancel-nonneg}
+use Rattle.qh_model.proofs.algebra.Order.{mul-nonneg, mul-nonneg_nonpos, mul-pos, cancel-nonneg, mul-pos_neg}
 use Rattle.qh_model.proofs.surfaces.Determinants.{quad, QE, aboveE, put4}
 
 -- what the shares add
@@ -92,9 +92,6 @@ scale_down e x n h q = finish e (pos n *ℤ x) h (mul-nonneg_nonpos (pos n) x (o
 pub cube : (m n : ℕ) → suc m ≤ n → pos 0 <ℤ (pos n *ℤ pos n *ℤ pos n)
 cube m n h = let p : pos 0 <ℤ pos n = omega (arith, ints) in mul-pos (pos n *ℤ pos n) (pos n) (mul-pos (pos n) (pos n) p p) p
 
-pos-neg : (a b : ℤ) → pos 0 <ℤ a → b <ℤ pos 0 → (a *ℤ b) <ℤ pos 0
-pos-neg a b h k = grind (arith, ints, cancel-nonneg)
-
 -- ---- a share for a new point
 pub record Choice (m : Surface) (home : ℕ → Weighted) (o : Weighted) (h : ℕ → ℕ) (p : Weighted) : Type 0 where
   pub k : ℕ
@@ -108,7 +105,7 @@ choose m home o inner h p =
       k = k;
       from = suc scale_to;
       up = λ n q f i s. subst (λ v. pos 0 <ℤ v) (sym (value n f)) (mul-pos (pos n *ℤ pos n *ℤ pos n) (pos n *ℤ rise m home f p +ℤ added f) (cube scale_to n q) (scale (added f) (rise m home f p) scale_to n (added_bound f i) q s));
-      down = λ n q f i s. subst (λ v. v <ℤ pos 0) (sym (value n f)) (pos-neg (pos n *ℤ pos n *ℤ pos n) (pos n *ℤ rise m home f p +ℤ added f) (cube scale_to n q) (scale_down (added f) (rise m home f p) n (added_neg f i) s));
+      down = λ n q f i s. subst (λ v. v <ℤ pos 0) (sym (value n f)) (mul-pos_neg (pos n *ℤ pos n *ℤ pos n) (pos n *ℤ rise m home f p +ℤ added f) (cube scale_to n q) (scale_down (added f) (rise m home f p) n (added_neg f i) s));
     }
   where
     base : ℕ → ℤ

@@ -12,6 +12,7 @@ use Rattle.qh_model.proofs.algebra.Ring.{ring}
 use Rattle.qh_model.proofs.algebra.Ring.Expr.{add}
 use Rattle.qh_model.proofs.surfaces.Determinants.{put4, quad, dot4E, above-turn, above-flip, above-first, above-second, above-third}
 use Rattle.qh_model.proofs.surfaces.VisibleFacets.{Corners, Over, Cut, none_cut_off}
+use Rattle.qh_model.proofs.Booleans.{both_true, true_false, not_true}
 
 abbrev pub placed : Surface → (ℕ → Weighted) → ℕ → Corners
 placed m at f = record { a = at (m.i f); b = at (m.j f); c = at (m.k f) }
@@ -135,9 +136,6 @@ bends m at real c w n h f i s =
     moved x y e h = omega (arith, ints)
 
 -- ---- connectedness over weighted points
-true_false : (a : Bool) → a ≡ true → a ≡ false → ⊥
-true_false a e f = cc
-
 pub positive : ℤ → Bool
 positive (pos zero) = false
 positive (pos (suc n)) = true
@@ -154,15 +152,6 @@ unfolding positive
 positive-true (pos zero) h = absurd (omega (arith, ints))
 positive-true (pos (suc n)) h = refl
 positive-true (negsuc n) h = absurd (omega (arith, ints))
-
-both_true : (a b : Bool) → (a && b) ≡ true → (a ≡ true) × (b ≡ true)
-both_true true true e = (refl, refl)
-both_true true false e = cc
-both_true false b e = cc
-
-not_true : (a : Bool) → not a ≡ true → a ≡ false
-not_true true e = cc
-not_true false e = refl
 
 -- above a sum
 pub sum4 : Weighted → Weighted → Weighted → Weighted

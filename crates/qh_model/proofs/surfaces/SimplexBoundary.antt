@@ -6,7 +6,7 @@ use Rattle.qh_model.specs.Weighted.{Weighted, above}
 use Rattle.std.proofs.Common.{◌≡◌, ℕ, ◌≤◌, refl, [], ◌∷◌, arith, sym, ◌∙◌, subst, ◌⊎◌, inl, inr}
 use Rattle.std.proofs.lemmas.Int.{ints}
 use Rattle.std.specs.Prelude.{ℤ, pos, ◌+ℤ◌, ◌*ℤ◌, ◌<ℤ◌}
-use Rattle.qh_model.proofs.algebra.Order.{cancel-nonneg}
+use Rattle.qh_model.proofs.algebra.Order.{cancel-nonneg, mul-pos_neg}
 use Rattle.qh_model.proofs.surfaces.Facets.{rise_own}
 use Rattle.qh_model.proofs.surfaces.DrawnInwards.{above-lift, cube}
 use Rattle.qh_model.proofs.algebra.Ring.{ring}
@@ -29,12 +29,9 @@ distinct_home m home r f g i j within = pick (r.known f g i j)
     pick (inl k) = absurd (no (rise m home g (home (r.missing g))) (r.below g j) (rise_own m home g (r.missing g) (within (r.missing g) k)))
     pick (inr e) = r.once f g i j (sym e)
 
-pos-neg : (a b : ℤ) → pos 0 <ℤ a → b <ℤ pos 0 → (a *ℤ b) <ℤ pos 0
-pos-neg a b h k = grind (arith, ints, cancel-nonneg)
-
 -- with no share at all
 strict_drawn : (m : Surface) (home : ℕ → Weighted) (o : Weighted) → IsStrict m home → (n : ℕ) → 1 ≤ n → IsStrict m (drawn home o (λ l. 0) n)
-strict_drawn m home o st n b f g i j l c nc = subst (λ v. v <ℤ pos 0) (sym value) (pos-neg (pos n *ℤ pos n *ℤ pos n) (pos n *ℤ rise m home f (home l)) (cube 0 n b) (pos-neg (pos n) (rise m home f (home l)) (omega (arith, ints)) (st f g i j l c nc)))
+strict_drawn m home o st n b f g i j l c nc = subst (λ v. v <ℤ pos 0) (sym value) (mul-pos_neg (pos n *ℤ pos n *ℤ pos n) (pos n *ℤ rise m home f (home l)) (cube 0 n b) (mul-pos_neg (pos n) (rise m home f (home l)) (omega (arith, ints)) (st f g i j l c nc)))
   where
     no_tilt : (n v a b c d : ℤ) → n *ℤ n *ℤ n *ℤ (n *ℤ v +ℤ (pos 0 *ℤ a +ℤ pos 0 *ℤ b +ℤ pos 0 *ℤ c +ℤ pos 0 *ℤ d)) ≡ n *ℤ n *ℤ n *ℤ (n *ℤ v)
     no_tilt n v a b c d =

@@ -11,11 +11,7 @@ use Rattle.qh_model.proofs.surfaces.Facets.{Grown, rise_side, corner_rest, posit
 use Rattle.qh_model.proofs.surfaces.Determinants.{above-third}
 use Rattle.qh_model.proofs.surfaces.Connected.{sees, connected, cert}
 use Rattle.qh_model.proofs.surfaces.Cone.{KeptOf, ConeOf, Replaced, cone_rise, kept_rise, cone_inside, cone_weak, cone_seen, over_flip, turn_le, turn_pos, same_le, same_pos, both}
-
-both_true : (a b : Bool) → (a && b) ≡ true → (a ≡ true) × (b ≡ true)
-both_true true true e = (refl, refl)
-both_true true false e = cc
-both_true false b e = cc
+use Rattle.qh_model.proofs.Booleans.{both_true}
 
 -- THEOREM: then q sees no kept facet, if it saw a removed one
 pub dropped_stay_unseen : (m : Surface) (home : ℕ → Weighted) (o : Weighted) → IsWhole m → IsSound m home o → (p q : Weighted) (f0 : ℕ) → In f0 m.live → pos 0 <ℤ rise m home f0 p → pos 0 <ℤ rise m home f0 q → IsConeUnseen m home p q

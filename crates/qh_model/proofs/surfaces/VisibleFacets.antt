@@ -4,7 +4,7 @@ use Rattle.qh_model.specs.Weighted.{Weighted, above, weighted_dot}
 use Rattle.std.proofs.Common.{◌≡◌, refl, List, [], ◌∷◌, arith, ap, sym, ◌∙◌, Bool, true, false, ◌⊎◌, inl, inr, subst}
 use Rattle.std.proofs.lemmas.Int.{ints, by_lt_z}
 use Rattle.std.specs.Prelude.{ℤ, pos, ◌+ℤ◌, ◌-ℤ◌, ◌*ℤ◌, neg_ℤ, ◌≤ℤ◌, ◌<ℤ◌}
-use Rattle.qh_model.proofs.algebra.Order.{mul-nonneg, mul-nonneg_nonpos, mul-nonpos, mul-pos, cancel-pos}
+use Rattle.qh_model.proofs.algebra.Order.{mul-nonneg, mul-nonneg_nonpos, mul-nonpos, mul-pos, cancel-pos, mul-neg_pos}
 use Rattle.qh_model.proofs.algebra.Ring.{ring}
 use Rattle.qh_model.proofs.algebra.Ring.Expr.{var, add, sub as less, mul, neg}
 use Rattle.qh_model.proofs.surfaces.Determinants.{above-turn, above-flip}
@@ -35,9 +35,6 @@ three l a b c x y z d e q h hx hy hz he ha hb hc =
     finish : (l p q r s : ℤ) → l ≡ p +ℤ q +ℤ r +ℤ s → l <ℤ pos 0 → pos 0 ≤ℤ p → pos 0 ≤ℤ q → pos 0 ≤ℤ r → s ≡ pos 0 → ⊥
     finish l p q r s e h hp hq hr hs = omega (arith, ints)
 
-neg-pos : (a b : ℤ) → a <ℤ pos 0 → pos 0 <ℤ b → (a *ℤ b) <ℤ pos 0
-neg-pos a b h k = grind (arith, ints, cancel-pos, mul-pos, mul-nonneg)
-
 -- the way from y to p leaves the triangle over one of its sides
 pub leaves : (n : Weighted) (t : Corners) (y p : Weighted) → over t y <ℤ pos 0 → pos 0 <ℤ weighted_dot n p → weighted_dot n y ≡ pos 0 → weighted_dot n t.a ≤ℤ pos 0 → weighted_dot n t.b ≤ℤ pos 0 → weighted_dot n t.c ≤ℤ pos 0
     → (pos 0 <ℤ above t.a t.b p y) ⊎ (pos 0 <ℤ above t.b t.c p y) ⊎ (pos 0 <ℤ above t.c t.a p y)
@@ -45,7 +42,7 @@ leaves n t y p h hp hy ha hb hc =
     by_lt_z (pos 0) (above t.a t.b p y) inl (λ c1.
     by_lt_z (pos 0) (above t.b t.c p y) (λ q. inr (inl q)) (λ c2.
     by_lt_z (pos 0) (above t.c t.a p y) (λ q. inr (inr q)) (λ c3.
-    absurd (three (over t y *ℤ weighted_dot n p) (above p t.b t.c y) (above t.a p t.c y) (above t.a t.b p y) (weighted_dot n t.a) (weighted_dot n t.b) (weighted_dot n t.c) (above t.a t.b t.c p) (weighted_dot n y) (cramer n t.a t.b t.c y p) (neg-pos (over t y) (weighted_dot n p) h hp) ha hb hc hy
+    absurd (three (over t y *ℤ weighted_dot n p) (above p t.b t.c y) (above t.a p t.c y) (above t.a t.b p y) (weighted_dot n t.a) (weighted_dot n t.b) (weighted_dot n t.c) (above t.a t.b t.c p) (weighted_dot n y) (cramer n t.a t.b t.c y p) (mul-neg_pos (over t y) (weighted_dot n p) h hp) ha hb hc hy
     (turned (above p t.b t.c y) (above t.b t.c p y) (above-turn p t.b t.c y) c2)
     (turned (above t.a p t.c y) (above t.c t.a p y) (above-turn t.a p t.c y ∙ above-turn p t.c t.a y) c3)
     c1))))
@@ -60,7 +57,7 @@ after f g y p = over f p *ℤ over g y -ℤ over f y *ℤ over g p
 -- the neighbour over a side beyond which p lies is met before
 pub crosses : (u v a b y p : Weighted) → above u v a b <ℤ pos 0 → pos 0 <ℤ above u v p y → pos 0 <ℤ (above u v a p *ℤ above v u b y -ℤ above u v a y *ℤ above v u b p)
 crosses u v a b y p h k =
-    finish (above u v a p) (above u v b y) (above u v a y) (above u v b p) (above u v a b *ℤ above u v p y) (above v u b y) (above v u b p) (line_product u v a b p y) (neg-pos (above u v a b) (above u v p y) h k) (above-flip u v b y) (above-flip u v b p)
+    finish (above u v a p) (above u v b y) (above u v a y) (above u v b p) (above u v a b *ℤ above u v p y) (above v u b y) (above v u b p) (line_product u v a b p y) (mul-neg_pos (above u v a b) (above u v p y) h k) (above-flip u v b y) (above-flip u v b p)
   where
     turn : (a b c d : ℤ) → a *ℤ neg_ℤ b -ℤ c *ℤ neg_ℤ d ≡ neg_ℤ (a *ℤ b -ℤ c *ℤ d)
     turn a b c d = ring (a ∷ b ∷ c ∷ d ∷ []) (less (mul (var 0) (neg (var 1))) (mul (var 2) (neg (var 3)))) (neg (less (mul (var 0) (var 1)) (mul (var 2) (var 3)))) refl
