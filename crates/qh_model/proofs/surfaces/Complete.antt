@@ -22,9 +22,11 @@ finished_is_solid at ids m z = inl (refl, record { i = z.s; j = z.t; k = z.u; l 
     never : (x : ℤ) → x <ℤ pos 0 → x ≡ pos 0 → ⊥
     never x h e = omega (arith, ints)
 
+-- the law
 pub extremes_of_corners : ExtremesOfCorners
 extremes_of_corners at ids m d z = extremes_between at (Members ids) (IsLiveCorner m) ids (listed_itself ids) d (λ l c. z.corners c.0 c.1 l c.2) (λ l x. extremes_are_corners at ids m z l x)
 
+-- the law
 pub extremes_of_plane : ExtremesOfPlane
 extremes_of_plane at ids m d z i j k t l = go (listed_part (Members ids) (λ h. vol (at i) (at j) (at k) (at h) ≡ pos 0) (λ h. zero_or_not (vol (at i) (at j) (at k) (at h))) ids (listed_itself ids))
   where
@@ -41,6 +43,7 @@ extremes_of_plane at ids m d z i j k t l = go (listed_part (Members ids) (λ h. 
         same = extremes_between at F (CornerInPlane at m i j k) ys q (λ x y fx fy e. d x y fx.0 fy.0 e)
             (λ h c. (z.corners c.f c.live h c.corner, c.level h c.corner)) (λ h x. extremes_of_plane_are_corners at ids m z i j k t h ((on_plane h).0 x))
 
+-- the law
 pub polygons_of_facets : PolygonsOfFacets
 polygons_of_facets at ids m qs z rising each only = record { rising = rising; each = λ i j k t. has i j k (planes_have_facets at ids m z i j k t); only = λ q i. from q (only q i) }
   where

@@ -33,12 +33,14 @@ use Rattle.qh_model.proofs.surfaces.Combinations.{settled_is_combination, level_
 abbrev across : Vector → Weighted
 across w = record { w = pos 0; x = w.x; y = w.y; z = w.z }
 
+-- it measures points
 along-point : (w p : Vector) → weighted_dot (across w) (weighted p) ≡ dot w p
 along-point w p = drop (w.x *ℤ p.x) (w.y *ℤ p.y) (w.z *ℤ p.z)
   where
     drop : (x y z : ℤ) → pos 0 *ℤ pos 1 +ℤ x +ℤ y +ℤ z ≡ x +ℤ y +ℤ z
     drop x y z = omega (arith, ints)
 
+-- and the middle
 along-middle : (w : Vector) (at : ℕ → Vector) (s t u v : ℕ) → weighted_dot (across w) (middle_at at s t u v) ≡ dot w (at s) +ℤ dot w (at t) +ℤ dot w (at u) +ℤ dot w (at v)
 along-middle w at s t u v =
     let W = vec 0 in let A = vec 1 in let B = vec 2 in let C = vec 3 in let D = vec 4 in let one = con (pos 1) in
@@ -50,9 +52,11 @@ along-middle w at s t u v =
 abbrev heavy : Weighted
 heavy = record { w = pos 1; x = pos 0; y = pos 0; z = pos 0 }
 
+-- a point has weight 1
 weight-point : (p : Vector) → weighted_dot heavy (weighted p) ≡ pos 1
 weight-point p = omega (arith, ints)
 
+-- the middle has weight 4
 weight-middle : (at : ℕ → Vector) (s t u v : ℕ) → weighted_dot heavy (middle_at at s t u v) ≡ pos 4
 weight-middle at s t u v = flat ((at s).x +ℤ (at t).x +ℤ (at u).x +ℤ (at v).x) ((at s).y +ℤ (at t).y +ℤ (at u).y +ℤ (at v).y) ((at s).z +ℤ (at t).z +ℤ (at u).z +ℤ (at v).z)
   where
@@ -71,9 +75,11 @@ separated at ids l e = go (listed_part (Members ids) (λ j. j ≢ l) (apart l) i
     go (ys, k) = sides (alternative_in at (Others (Members ids) l) ys k (at l))
 
 -- ---- no combination of what is lower reaches up
+-- what is lower has a positive gap
 positive_gap : (a b : ℤ) → a <ℤ b → pos 0 <ℤ (b -ℤ a)
 positive_gap a b h = omega (arith, ints)
 
+-- four numbers not below 0 that add up to 0
 four_zero : (a b c d : ℤ) → a +ℤ b +ℤ c +ℤ d ≡ pos 0 → pos 0 ≤ℤ a → pos 0 ≤ℤ b → pos 0 ≤ℤ c → pos 0 ≤ℤ d → (a ≡ pos 0) × (b ≡ pos 0) × (c ≡ pos 0) × (d ≡ pos 0)
 four_zero a b c d e ha hb hc hd = (omega (arith, ints), omega (arith, ints), omega (arith, ints), omega (arith, ints))
 
@@ -156,6 +162,7 @@ other_corner : (at : ℕ → Vector) (ids : List ℕ) (m : Surface) → IsFinish
 other_corner at ids m z f l i n h c = (z.corners f i h c, λ e. n (subst (IsCorner m f) e c))
 
 -- ---- extreme ids are corners
+-- the law
 pub extremes_are_corners : ExtremesAreCorners
 extremes_are_corners at ids m z l x = found (settled_is_combination m (weighted_at at) o z.whole z.sound z.some z.some_live (weighted (at l)) (λ f i. unseen_above at ids m z f i l x.0))
   where
@@ -213,6 +220,7 @@ facet_area at ids m z f i e = never (rise m (weighted_at at) f (middle_at at z.s
     never : (x p q r s : ℤ) → x ≡ p +ℤ q +ℤ r +ℤ s → x <ℤ pos 0 → p ≡ pos 0 → q ≡ pos 0 → r ≡ pos 0 → s ≡ pos 0 → ⊥
     never x p q r s e h hp hq hr hs = omega (arith, ints)
 
+-- the law
 pub facets_support : FacetsSupport
 facets_support at ids m z f i = record {
   has_i = z.corners f i (m.i f) (inl refl);
@@ -256,6 +264,7 @@ level_member at ids m z i j k t l h =
     (rise_is_vol (at i) (at j) (at k) (at l) ∙ h.1)
     (λ g live. (unseen_above at ids m z g live i t.has_i, unseen_above at ids m z g live j t.has_j, unseen_above at ids m z g live k t.has_k, unseen_above at ids m z g live l h.0))
 
+-- the law
 pub extremes_of_plane_are_corners : ExtremesOfPlaneAreCorners
 extremes_of_plane_are_corners at ids m z i j k t l x = found (level_member at ids m z i j k t l (x.0.0, x.1))
   where
@@ -319,6 +328,7 @@ not_opposite at ids m z i j k a b c t r e h =
     level l hl = rise_is_vol (at i) (at j) (at k) (at l) ∙ le_antisym (vol (at i) (at j) (at k) (at l)) (pos 0) (t.supports l hl)
         (at_least_along h.t h.s _ _ h.some_t h.some_s (sym (vol_along (at i) (at j) (at k) (at a) (at c) (at b) (at l) h e)) (turned _ _ (vol-flip_last (at a) (at b) (at c) (at l)) (r.supports l hl)))
 
+-- the law
 pub planes_have_facets : PlanesHaveFacets
 planes_have_facets at ids m z i j k t = found (level_member at ids m z i j k t i (t.has_i, vol-first (at i) (at j) (at k)))
   where

@@ -2,22 +2,21 @@
 use Rattle.qh_model.specs.Surface.{IsCorner, Side, Surface, HasTwin, IsWhole, end, far, rest, rise, start}
 use Rattle.qh_model.specs.Rewired.{IsHorizonSide, HasHorizonSide}
 use Rattle.qh_model.specs.Sets.{In}
-use Rattle.qh_model.specs.SoundSurface.{IsSound, IsStrict, drawn, towards}
+use Rattle.qh_model.specs.SoundSurface.{IsSound, drawn, towards}
 use Rattle.qh_model.specs.Weighted.{Weighted, above}
-use Rattle.std.proofs.Common.{◌≡◌, ◌≢◌, ℕ, ◌+◌, ◌≤◌, refl, [], ◌∷◌, arith, ap, sym, ◌∙◌, subst, ◌⊎◌, inl, inr, Bool, true, false}
+use Rattle.std.proofs.Common.{◌≡◌, ◌≢◌, ℕ, ◌+◌, ◌≤◌, refl, [], arith, ap, sym, ◌∙◌, subst, ◌⊎◌, inl, inr, Bool, true}
 use native.Mathlib.Decide.{ℕ_discrete}
 use Rattle.std.proofs.lemmas.Int.{ints, by_lt_z}
 use Rattle.std.specs.Prelude.{ℤ, pos, ◌-ℤ◌, ◌*ℤ◌, neg_ℤ, ◌≤ℤ◌, ◌<ℤ◌, ◌&&◌}
-use Rattle.qh_model.proofs.algebra.Order.{mul-pos, cancel-nonneg, mul-pos_neg, mul-neg_neg, neg-positive}
+use Rattle.qh_model.proofs.algebra.Order.{mul-pos, neg-positive}
 use Rattle.qh_model.proofs.algebra.Ring.{ring}
-use Rattle.qh_model.proofs.algebra.Ring.Expr.{var, sub as less, mul, neg}
+use Rattle.qh_model.proofs.algebra.Ring.Expr.{neg}
 use Rattle.qh_model.proofs.surfaces.VisibleFacets.{Least, least}
-use Rattle.qh_model.proofs.surfaces.Facets.{rise_side, rise_over, bends, weak, positive, positive-is, positive-true, corner_start, corner_end, corner_rest, corner_test, ends_differ, rest_differs}
-use Rattle.qh_model.specs.Surface.Side.{first, second, third}
+use Rattle.qh_model.proofs.surfaces.Facets.{rise_over, positive, positive-is, positive-true, corner_start, corner_rest, ends_differ, rest_differs}
 use Rattle.qh_model.proofs.surfaces.DrawnInwards.{Choice, choose}
-use Rattle.qh_model.proofs.surfaces.Determinants.{quad, aboveE, put4, above-turn}
+use Rattle.qh_model.proofs.surfaces.Determinants.{quad, aboveE, put4}
 use Rattle.qh_model.proofs.surfaces.PlanesThroughLine.{line_product}
-use Rattle.qh_model.proofs.surfaces.Cone.{Old, over_flip, turn_le, turn_lt, same_le, same_lt, same_pos, cone_strict, below_one}
+use Rattle.qh_model.proofs.surfaces.Cone.{Old}
 use Rattle.qh_model.proofs.surfaces.KeptSound.{edge_once, side_once}
 use Rattle.qh_model.proofs.Booleans.{both_true}
 use Rattle.qh_model.proofs.surfaces.Rim.{swap23, turned_last, side_prev, start_prev, end_prev, from, from_is, back_pos, apart_signs, Scene, Rim, rim_below, rim_once, has_corner, has_corner-is, has_corner-true, rim_next}
@@ -27,6 +26,7 @@ swap14 : (a b c d : Weighted) → above d b c a ≡ neg_ℤ (above a b c d)
 unfolding above
 swap14 a b c d = ring (put4 a (put4 b (put4 c (put4 d [])))) (aboveE (quad 3) (quad 1) (quad 2) (quad 0)) (neg (aboveE (quad 0) (quad 1) (quad 2) (quad 3))) refl
 
+-- a rim side is known by its end
 pub rim_once_end : (m : Surface) (home : ℕ → Weighted) (o : Weighted) (c : Scene m home o) (f g : ℕ) (s t : Side) → Rim m c.at c.top f s → Rim m c.at c.top g t → end m f s ≡ end m g t → start m f s ≡ start m g t
 rim_once_end m home o c f g s t a b e = pick (ℕ_discrete (start m f s) (start m g t))
   where
@@ -42,12 +42,14 @@ rim_once_end m home o c f g s t a b e = pick (ℕ_discrete (start m f s) (start 
     pick (yes k) = k
     pick (no n) = absurd (never n)
 
+-- a rim side that ends at u
 pub record Ended (m : Surface) (at : ℕ → Weighted) (top : Weighted) (u : ℕ) : Type 0 where
   pub f : ℕ
   pub s : Side
   pub rim : Rim m at top f s
   pub ends : end m f s ≡ u
 
+-- where a rim side starts another ends
 pub rim_prev : (m : Surface) (home : ℕ → Weighted) (o : Weighted) (c : Scene m home o) (f : ℕ) (s : Side) → Rim m c.at c.top f s → Ended m c.at c.top (start m f s)
 rim_prev m home o c f s r = pick (least mark p q m.live (λ g i e. p_pos g i e))
   where
@@ -174,6 +176,7 @@ pub record Shown (m : Surface) (home : ℕ → Weighted) (o p : Weighted) : Type
   pub rim : (f : ℕ) (s : Side) → IsHorizonSide m home p f s → Rim m scene.at scene.top f s
   pub edge : (f : ℕ) (s : Side) → Rim m scene.at scene.top f s → IsHorizonSide m home p f s
 
+-- for a real point the scene can be set
 pub shown : (m : Surface) (home : ℕ → Weighted) (o : Weighted) → IsWhole m → IsSound m home o → (p : Weighted) → Shown m home o p
 shown m home o w z p =
     record {
@@ -219,12 +222,15 @@ shown m home o w z p =
 pub edge_next : (m : Surface) (home : ℕ → Weighted) (o : Weighted) → IsWhole m → IsSound m home o → (p : Weighted) (f : ℕ) (s : Side) → IsHorizonSide m home p f s → HasHorizonSide m home p (λ g t. start m g t ≡ end m f s)
 edge_next m home o w z p f s e = let h = shown m home o w z p in let j = rim_next m home o h.scene f s (h.rim f s e) in record { f = j.f; s = j.s; edge = h.edge j.f j.s j.rim; is = j.starts }
 
+-- and one before it
 pub edge_prev : (m : Surface) (home : ℕ → Weighted) (o : Weighted) → IsWhole m → IsSound m home o → (p : Weighted) (f : ℕ) (s : Side) → IsHorizonSide m home p f s → HasHorizonSide m home p (λ g t. end m g t ≡ start m f s)
 edge_prev m home o w z p f s e = let h = shown m home o w z p in let j = rim_prev m home o h.scene f s (h.rim f s e) in record { f = j.f; s = j.s; edge = h.edge j.f j.s j.rim; is = j.ends }
 
+-- known by its start
 pub edge_known_by_start : (m : Surface) (home : ℕ → Weighted) (o : Weighted) → IsWhole m → IsSound m home o → (p : Weighted) (f g : ℕ) (s t : Side) → IsHorizonSide m home p f s → IsHorizonSide m home p g t → start m f s ≡ start m g t → (f ≡ g) × (s ≡ t)
 edge_known_by_start m home o w z p f g s t a b e = let h = shown m home o w z p in rim_once m home o h.scene f g s t (h.rim f s a) (h.rim g t b) e
 
+-- known by its end
 pub edge_known_by_end : (m : Surface) (home : ℕ → Weighted) (o : Weighted) → IsWhole m → IsSound m home o → (p : Weighted) (f g : ℕ) (s t : Side) → IsHorizonSide m home p f s → IsHorizonSide m home p g t → end m f s ≡ end m g t → (f ≡ g) × (s ≡ t)
 edge_known_by_end m home o w z p f g s t a b e =
     let h = shown m home o w z p in rim_once m home o h.scene f g s t (h.rim f s a) (h.rim g t b) (rim_once_end m home o h.scene f g s t (h.rim f s a) (h.rim g t b) e)

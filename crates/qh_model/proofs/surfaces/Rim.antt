@@ -1,39 +1,41 @@
 -- The rim at drawn places: where one of its sides ends exactly one begins.
 use Rattle.qh_model.specs.Surface.{IsCorner, Side, Surface, HasTwin, IsWhole, end, far, rest, rise, start}
-use Rattle.qh_model.specs.Rewired.{IsHorizonSide, HasHorizonSide}
 use Rattle.qh_model.specs.Sets.{In}
-use Rattle.qh_model.specs.SoundSurface.{IsSound, IsStrict, drawn, towards}
+use Rattle.qh_model.specs.SoundSurface.{IsSound, IsStrict}
 use Rattle.qh_model.specs.Weighted.{Weighted, above}
-use Rattle.std.proofs.Common.{◌≡◌, ◌≢◌, ℕ, ◌+◌, ◌≤◌, refl, [], ◌∷◌, arith, ap, sym, ◌∙◌, subst, ◌⊎◌, inl, inr, Bool, true, false}
+use Rattle.std.proofs.Common.{◌≡◌, ◌≢◌, ℕ, refl, [], ◌∷◌, arith, ap, sym, ◌∙◌, subst, ◌⊎◌, inl, inr, Bool, true, false}
 use native.Mathlib.Decide.{ℕ_discrete}
-use Rattle.std.proofs.lemmas.Int.{ints, by_lt_z}
-use Rattle.std.specs.Prelude.{ℤ, pos, ◌-ℤ◌, ◌*ℤ◌, neg_ℤ, ◌≤ℤ◌, ◌<ℤ◌, ◌&&◌}
-use Rattle.qh_model.proofs.algebra.Order.{mul-pos, cancel-nonneg, mul-pos_neg, mul-neg_neg, neg-positive}
+use Rattle.std.proofs.lemmas.Int.{ints}
+use Rattle.std.specs.Prelude.{ℤ, pos, ◌-ℤ◌, ◌*ℤ◌, neg_ℤ, ◌<ℤ◌, ◌&&◌}
+use Rattle.qh_model.proofs.algebra.Order.{mul-neg_neg, neg-positive}
 use Rattle.qh_model.proofs.algebra.Ring.{ring}
 use Rattle.qh_model.proofs.algebra.Ring.Expr.{var, sub as less, mul, neg}
 use Rattle.qh_model.proofs.surfaces.VisibleFacets.{Least, least}
-use Rattle.qh_model.proofs.surfaces.Facets.{rise_side, rise_over, bends, weak, positive, positive-is, positive-true, corner_start, corner_end, corner_rest, corner_test, ends_differ, rest_differs}
+use Rattle.qh_model.proofs.surfaces.Facets.{rise_side, rise_over, bends, weak, positive, positive-is, positive-true, corner_end, corner_rest, corner_test, ends_differ, rest_differs}
 use Rattle.qh_model.specs.Surface.Side.{first, second, third}
-use Rattle.qh_model.proofs.surfaces.DrawnInwards.{Choice, choose}
 use Rattle.qh_model.proofs.surfaces.Determinants.{quad, aboveE, put4, above-turn}
 use Rattle.qh_model.proofs.surfaces.PlanesThroughLine.{line_product}
-use Rattle.qh_model.proofs.surfaces.Cone.{Old, over_flip, turn_le, turn_lt, same_le, same_lt, same_pos, cone_strict, below_one}
+use Rattle.qh_model.proofs.surfaces.Cone.{Old, over_flip, opposite_nonneg, opposite_positive, equal_le, equal_negative, equal_positive, cone_strict, below_one}
 use Rattle.qh_model.proofs.surfaces.KeptSound.{edge_once, side_once}
 use Rattle.qh_model.proofs.Booleans.{both_true}
 
 -- ---- orders of four
+-- the second and the fourth change places
 swap24 : (a b c d : Weighted) → above a d c b ≡ neg_ℤ (above a b c d)
 unfolding above
 swap24 a b c d = ring (put4 a (put4 b (put4 c (put4 d [])))) (aboveE (quad 0) (quad 3) (quad 2) (quad 1)) (neg (aboveE (quad 0) (quad 1) (quad 2) (quad 3))) refl
 
+-- the second and the third change places
 pub swap23 : (a b c d : Weighted) → above a c b d ≡ neg_ℤ (above a b c d)
 unfolding above
 swap23 a b c d = ring (put4 a (put4 b (put4 c (put4 d [])))) (aboveE (quad 0) (quad 2) (quad 1) (quad 3)) (neg (aboveE (quad 0) (quad 1) (quad 2) (quad 3))) refl
 
-mixed : (v t x y : Weighted) → above x v y t ≡ neg_ℤ (above v t x y)
+-- another odd order
+turned_first : (v t x y : Weighted) → above x v y t ≡ neg_ℤ (above v t x y)
 unfolding above
-mixed v t x y = ring (put4 v (put4 t (put4 x (put4 y [])))) (aboveE (quad 2) (quad 0) (quad 3) (quad 1)) (neg (aboveE (quad 0) (quad 1) (quad 2) (quad 3))) refl
+turned_first v t x y = ring (put4 v (put4 t (put4 x (put4 y [])))) (aboveE (quad 2) (quad 0) (quad 3) (quad 1)) (neg (aboveE (quad 0) (quad 1) (quad 2) (quad 3))) refl
 
+-- the last three turn
 pub turned_last : (u t y z : Weighted) → above u y z t ≡ above u t y z
 unfolding above
 turned_last u t y z = ring (put4 u (put4 t (put4 y (put4 z [])))) (aboveE (quad 0) (quad 2) (quad 3) (quad 1)) (aboveE (quad 0) (quad 1) (quad 2) (quad 3)) refl
@@ -44,26 +46,31 @@ side_next first = second
 side_next second = third
 side_next third = first
 
+-- the side before
 abbrev pub side_prev : Side → Side
 side_prev first = third
 side_prev second = first
 side_prev third = second
 
+-- the next side starts where this one ends
 start_next : (m : Surface) (f : ℕ) (s : Side) → start m f (side_next s) ≡ end m f s
 start_next m f first = refl
 start_next m f second = refl
 start_next m f third = refl
 
+-- and ends at the id across
 end_next : (m : Surface) (f : ℕ) (s : Side) → end m f (side_next s) ≡ rest m f s
 end_next m f first = refl
 end_next m f second = refl
 end_next m f third = refl
 
+-- the side before starts at the id across
 pub start_prev : (m : Surface) (f : ℕ) (s : Side) → start m f (side_prev s) ≡ rest m f s
 start_prev m f first = refl
 start_prev m f second = refl
 start_prev m f third = refl
 
+-- and ends where this one starts
 pub end_prev : (m : Surface) (f : ℕ) (s : Side) → end m f (side_prev s) ≡ start m f s
 end_prev m f first = refl
 end_prev m f second = refl
@@ -75,9 +82,11 @@ pick_side (yes a) b = first
 pick_side (no a) (yes b) = second
 pick_side (no a) (no b) = third
 
+-- the side itself
 pub from : (m : Surface) (f v : ℕ) → Side
 from m f v = pick_side (ℕ_discrete v (m.i f)) (ℕ_discrete v (m.j f))
 
+-- it starts there
 pub from_is : (m : Surface) (f v : ℕ) → IsCorner m f v → start m f (from m f v) ≡ v
 unfolding from pick_side
 from_is m f v c = split (ℕ_discrete v (m.i f)) (ℕ_discrete v (m.j f)) c
@@ -90,12 +99,15 @@ from_is m f v c = split (ℕ_discrete v (m.i f)) (ℕ_discrete v (m.j f)) c
     split (no a) (no b) (inr (inr e)) = sym e
 
 -- ---- signs
+-- the opposite of a positive number
 back_neg : (x r : ℤ) → x ≡ neg_ℤ r → pos 0 <ℤ x → r <ℤ pos 0
 back_neg x r e h = omega (arith, ints)
 
+-- of a negative number
 pub back_pos : (x r : ℤ) → x ≡ neg_ℤ r → x <ℤ pos 0 → pos 0 <ℤ r
 back_pos x r e h = omega (arith, ints)
 
+-- no number is above and below 0
 pub apart_signs : (x : ℤ) → pos 0 <ℤ x → x <ℤ pos 0 → ⊥
 apart_signs x h k = omega (arith, ints)
 
@@ -119,11 +131,11 @@ pub rim_below : (m : Surface) (home : ℕ → Weighted) (o : Weighted) (c : Scen
     → above (c.at (start m f s)) (c.at (end m f s)) c.top (c.at l) <ℤ pos 0
 rim_below m home o c f s r l (g, j, k) ns ne =
     cone_strict (c.at (start m f s)) (c.at (end m f s)) (c.at (rest m f s)) (c.at (far m f s)) c.top (c.at l)
-    (same_pos (rise m c.at f c.top) _ (rise_side m c.at f s c.top) r.seen)
-    (turn_lt (rise m c.at (m.over f s) c.top) _ (over_flip m c.at c.whole f r.live s c.top) r.blind)
+    (equal_positive (rise m c.at f c.top) _ (rise_side m c.at f s c.top) r.seen)
+    (opposite_positive (rise m c.at (m.over f s) c.top) _ (over_flip m c.at c.whole f r.live s c.top) r.blind)
     (bends m c.at home o c.whole c.sound.inner c.strict f r.live s)
-    (same_le (rise m c.at f (c.at l)) _ (rise_side m c.at f s (c.at l)) (weak m c.at c.strict f g r.live j l k))
-    (turn_le (rise m c.at (m.over f s) (c.at l)) _ (over_flip m c.at c.whole f r.live s (c.at l)) (weak m c.at c.strict (m.over f s) g (c.whole f r.live s).live j l k))
+    (equal_le (rise m c.at f (c.at l)) _ (rise_side m c.at f s (c.at l)) (weak m c.at c.strict f g r.live j l k))
+    (opposite_nonneg (rise m c.at (m.over f s) (c.at l)) _ (over_flip m c.at c.whole f r.live s (c.at l)) (weak m c.at c.strict (m.over f s) g (c.whole f r.live s).live j l k))
     (below_one m home o c.whole c.sound.inner c.at c.strict f r.live s l (g, j, k) ns ne)
 
 -- a rim side is known by its start, and by its end
@@ -146,9 +158,11 @@ rim_once m home o c f g s t a b e = pick (ℕ_discrete (end m f s) (end m g t))
     pick (no n) = absurd (never n)
 
 -- ---- where a rim side ends another begins
+-- is v a corner of the facet?
 pub has_corner : (m : Surface) (f v : ℕ) → Bool
 has_corner m f v = elim (corner_test m f v) [ inl c ↦ true | inr n ↦ false ]
 
+-- the test is right
 pub has_corner-is : (m : Surface) (f v : ℕ) → has_corner m f v ≡ true → IsCorner m f v
 unfolding has_corner
 has_corner-is m f v e = pick (corner_test m f v) e
@@ -157,6 +171,7 @@ has_corner-is m f v e = pick (corner_test m f v) e
     pick (inl c) k = c
     pick (inr n) k = cc
 
+-- and finds all
 pub has_corner-true : (m : Surface) (f v : ℕ) → IsCorner m f v → has_corner m f v ≡ true
 unfolding has_corner
 has_corner-true m f v c = pick (corner_test m f v)
@@ -165,12 +180,14 @@ has_corner-true m f v c = pick (corner_test m f v)
     pick (inl k) = refl
     pick (inr n) = absurd (n c)
 
+-- a rim side that starts at v
 pub record Joined (m : Surface) (at : ℕ → Weighted) (top : Weighted) (v : ℕ) : Type 0 where
   pub f : ℕ
   pub s : Side
   pub rim : Rim m at top f s
   pub starts : start m f s ≡ v
 
+-- where a rim side ends another starts
 pub rim_next : (m : Surface) (home : ℕ → Weighted) (o : Weighted) (c : Scene m home o) (f : ℕ) (s : Side) → Rim m c.at c.top f s → Joined m c.at c.top (end m f s)
 rim_next m home o c f s r = pick (least mark p q m.live (λ g i e. p_pos g i e))
   where
@@ -223,7 +240,7 @@ rim_next m home o c f s r = pick (least mark p q m.live (λ g i e. p_pos g i e))
         (subst (λ h. rise m at h top <ℤ pos 0) (sym (edge_once m home o c.sound g (m.over f s) i t.live (from m g v) (m.back f s) (starts g e ∙ sym t.start_is) (k ∙ sym t.end_is))) r.blind)
 
     below : (l : ℕ) → Old m l → l ≢ u → l ≢ v → above (at v) top (at u) (at l) <ℤ pos 0
-    below l k a b = same_lt (above (at u) (at v) top (at l)) _ (above-turn (at u) (at v) top (at l)) (rim_below m home o c f s r l k a b)
+    below l k a b = equal_negative (above (at u) (at v) top (at l)) _ (above-turn (at u) (at v) top (at l)) (rim_below m home o c f s r l k a b)
 
     p_pos : (g : ℕ) → In g m.live → mark g ≡ true → pos 0 <ℤ p g
     p_pos g i e = neg-positive (above (at v) top (at u) (at (out g))) (below (out g) (g, i, corner_end m g (from m g v)) (out_not_u g i e) (λ k. ends_differ m home o c.sound.inner g i (from m g v) (starts g e ∙ sym k)))
@@ -271,7 +288,7 @@ rim_next m home o c f s r = pick (least mark p q m.live (λ g i e. p_pos g i e))
             ∙ ap (λ z. above (at (end m g d)) (at z) (at (far m g d)) top) st
             ∙ ap (λ z. above (at z) (at v) (at (far m g d)) top) (sym outg)
             ∙ ap (λ z. above (at (out g)) (at v) (at z) top) (sym out')
-            ∙ mixed (at v) top (at (out g)) (at (out g'))
+            ∙ turned_first (at v) top (at (out g)) (at (out g'))
 
         less_ : pos 0 <ℤ (p g *ℤ q g' -ℤ q g *ℤ p g')
         less_ =
