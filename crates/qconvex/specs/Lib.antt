@@ -1,0 +1,3 @@
+pub mod SettingsValue
+pub mod FaultLines
+pub mod CommandLine

@@ -1,0 +1,3 @@
+pub mod PlaceKeys
+pub mod Marks
+pub mod Shapes

@@ -1,0 +1,16 @@
+//! Points in order: the distinct points of a list, the shape of a set of them, and the polygon of a
+//! set that lies in one plane.
+//!
+//! All three go by the exact predicates of `qh_pred` alone, so no answer is rounded.
+#![tactic(auto)]
+
+mod distinct_points;
+mod place_keys;
+mod ranking;
+mod shape;
+#[cfg(test)]
+mod tests;
+
+pub use distinct_points::distinct;
+pub use ranking::rank;
+pub use shape::Shape;

@@ -1,0 +1,90 @@
+-- Bounds of sums and products of whole numbers by their sizes, and what code of a bounded size computes.
+use Rattle.std.proofs.Common.{◌≡◌, ℕ, ◌+◌, ◌*◌, ◌^◌, ◌≤◌, ◌<◌, arith, FitsSigned, lit<}
+use Rattle.std.proofs.Math.Nat.{mul-le-mul}
+use Rattle.std.proofs.lemmas.Int.{to_z-of_z, ints, unsigned_abs-mul, fits_signed_from_abs}
+use Rattle.std.specs.Prelude.{ℤ, ◌+ℤ◌, ◌-ℤ◌, ◌*ℤ◌, unsigned_abs}
+use Rattle.qh_model.specs.Vector.{Vector, dot}
+use Rattle.qh_pred.specs.Bounds.{normal_limit, IsNormal}
+use mir.Syntax.{w64, w128}
+use mir.Val.{to_z, of_z}
+
+-- the size of a sum
+within-add : (x y : ℤ) (m n : ℕ) → unsigned_abs x ≤ m → unsigned_abs y ≤ n → unsigned_abs (x +ℤ y) ≤ m + n
+within-add x y m n h k = omega (arith, ints)
+
+-- the size of a difference
+within-sub : (x y : ℤ) (m n : ℕ) → unsigned_abs x ≤ m → unsigned_abs y ≤ n → unsigned_abs (x -ℤ y) ≤ m + n
+within-sub x y m n h k = omega (arith, ints)
+
+-- the size of a product
+within-mul : (x y : ℤ) (m n : ℕ) → unsigned_abs x ≤ m → unsigned_abs y ≤ n → unsigned_abs (x *ℤ y) ≤ m * n
+within-mul x y m n h k = rw (unsigned_abs-mul x y) (mul-le-mul h k)
+
+-- a number of a size below 2^63 fits 64 bits
+fits : (x : ℤ) (m : ℕ) → unsigned_abs x ≤ m → m < 2 ^ 63 → FitsSigned w64 x
+fits x m h k = fits_signed_from_abs w64 x (omega arith)
+
+-- a number of a size below 2^127 fits 128 bits
+fits_wide : (x : ℤ) (m : ℕ) → unsigned_abs x ≤ m → m < 2 ^ 127 → FitsSigned w128 x
+fits_wide x m h k = fits_signed_from_abs w128 x (omega arith)
+
+-- what is known of a b - c d, in 64 bits
+pub record MinorFits (a b c d : ℤ) (k : ℕ) : Type 0 where
+  pub first : FitsSigned w64 (a *ℤ b)
+  pub second : FitsSigned w64 (c *ℤ d)
+  pub whole : FitsSigned w64 (a *ℤ b -ℤ c *ℤ d)
+  pub bound : unsigned_abs (a *ℤ b -ℤ c *ℤ d) ≤ k
+
+-- a minor of numbers of size m fits, and is of size 2 m^2
+pub minor_fits : (m : ℕ) (a b c d : ℤ) → 2 * (m * m) < 2 ^ 63 → unsigned_abs a ≤ m → unsigned_abs b ≤ m → unsigned_abs c ≤ m → unsigned_abs d ≤ m → MinorFits a b c d (2 * (m * m))
+minor_fits m a b c d s ha hb hc hd =
+    let p = within-mul a b m m ha hb in
+    let q = within-mul c d m m hc hd in
+    let r = within-sub (a *ℤ b) (c *ℤ d) (m * m) (m * m) p q in
+    record {
+      first = fits (a *ℤ b) (m * m) p (omega arith);
+      second = fits (c *ℤ d) (m * m) q (omega arith);
+      whole = fits (a *ℤ b -ℤ c *ℤ d) (m * m + m * m) r (omega arith);
+      bound = omega (arith, r);
+    }
+
+-- a number that went to its 128 bits and came back
+abbrev through : ℤ → ℤ
+through z = to_z w128 (of_z w128 z)
+
+-- a number that went to its 64 bits and came back
+abbrev through_half : ℤ → ℤ
+through_half z = to_z w64 (of_z w64 z)
+
+-- the product of two components, as the code hands them on
+abbrev handed : ℤ → ℤ → ℤ
+handed x y = through_half x *ℤ through_half y
+
+-- 64 bits keep the components of a normal
+kept : (x y p : ℤ) → unsigned_abs x ≤ normal_limit → unsigned_abs y ≤ normal_limit → p ≡ handed x y → p ≡ x *ℤ y
+kept x y p h k e =
+    let fx : FitsSigned w64 x = fits x normal_limit h (lit< tt) in
+    let fy : FitsSigned w64 y = fits y normal_limit k (lit< tt) in
+    rw e (simp to_z-of_z)
+
+-- the code of the scalar product of u and v, from the three products
+pub record DotFits (u v : Vector) (p q r : ℤ) : Type 0 where
+  pub two : FitsSigned w128 (through p +ℤ through q)
+  pub whole : FitsSigned w128 (through (through p +ℤ through q) +ℤ through r)
+  pub value : through (through (through p +ℤ through q) +ℤ through r) ≡ dot u v
+
+-- a scalar product of vectors within the limit of normals fits 128 bits
+pub dot_fits : (u v : Vector) (p q r : ℤ) → IsNormal u → IsNormal v → p ≡ handed u.x v.x → q ≡ handed u.y v.y → r ≡ handed u.z v.z → DotFits u v p q r
+dot_fits u v p q r hu hv ep eq er = rw (kept u.x v.x p hu.x hv.x ep, kept u.y v.y q hu.y hv.y eq, kept u.z v.z r hu.z hv.z er)
+    (sizes (normal_limit * normal_limit) (lit< tt) (within-mul u.x v.x normal_limit normal_limit hu.x hv.x) (within-mul u.y v.y normal_limit normal_limit hu.y hv.y) (within-mul u.z v.z normal_limit normal_limit hu.z hv.z))
+  where
+    sizes : (m : ℕ) → 3 * m < 2 ^ 127 → unsigned_abs (u.x *ℤ v.x) ≤ m → unsigned_abs (u.y *ℤ v.y) ≤ m → unsigned_abs (u.z *ℤ v.z) ≤ m → DotFits u v (u.x *ℤ v.x) (u.y *ℤ v.y) (u.z *ℤ v.z)
+    sizes m s hx hy hz =
+        let two = within-add (u.x *ℤ v.x) (u.y *ℤ v.y) m m hx hy in
+        let whole = within-add (u.x *ℤ v.x +ℤ u.y *ℤ v.y) (u.z *ℤ v.z) (m + m) m two hz in
+        let fx : FitsSigned w128 (u.x *ℤ v.x) = fits_wide (u.x *ℤ v.x) m hx (omega arith) in
+        let fy : FitsSigned w128 (u.y *ℤ v.y) = fits_wide (u.y *ℤ v.y) m hy (omega arith) in
+        let fz : FitsSigned w128 (u.z *ℤ v.z) = fits_wide (u.z *ℤ v.z) m hz (omega arith) in
+        let ft : FitsSigned w128 (u.x *ℤ v.x +ℤ u.y *ℤ v.y) = fits_wide (u.x *ℤ v.x +ℤ u.y *ℤ v.y) (m + m) two (omega arith) in
+        let fw : FitsSigned w128 (u.x *ℤ v.x +ℤ u.y *ℤ v.y +ℤ u.z *ℤ v.z) = fits_wide (u.x *ℤ v.x +ℤ u.y *ℤ v.y +ℤ u.z *ℤ v.z) (m + m + m) whole (omega arith) in
+        record { two = simp to_z-of_z ft; whole = simp to_z-of_z fw; value = simp to_z-of_z }

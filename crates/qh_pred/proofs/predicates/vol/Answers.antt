@@ -1,0 +1,16 @@
+use Rattle.std.proofs.Common.{◌≡◌, rules, FitsSigned, ◌∙◌, refl}
+use Rattle.std.proofs.lemmas.Int.{to_z-of_z}
+use Rattle.qh_model.specs.Vector.{Vector, dot, minus}
+use Rattle.qh_model.specs.Predicates.{cross, vol}
+use Rattle.qh_pred.proofs.predicates.vol.Goals as goal
+use mir.Syntax.{w128}
+
+-- the volume is the normal's product with the way to the fourth point
+vol_from : (a b c d n e : Vector) → n ≡ cross a b c → e ≡ minus d a → dot n e ≡ vol a b c d
+unfolding vol cross
+vol_from a b c d n e h k = rw (h, k) refl
+
+pub returns : goal.returns
+returns c =
+    let fits : FitsSigned w128 c.dot.result = search rules in
+    to_z-of_z _ _ fits ∙ c.dot.ensures ∙ vol_from _ _ _ _ _ _ c.product.ensures (c.components.ensures ∙ c.between.ensures)

@@ -1,0 +1,169 @@
+//! Differences of points and their products, in 64 bits; only the last product of a predicate has
+//! 128 bits.
+ghost use Rattle.std.specs.Prelude.{◌≡◌, ◌≤◌, ◌*ℤ◌, ◌-ℤ◌, ◌↔◌, IsTrue, unsigned_abs};
+ghost use Rattle.qh_model.specs.Vector.{Vector, origin, minus, cross_product, dot};
+ghost use Rattle.qh_model.specs.Limits.{IsCoordinate};
+ghost use Rattle.qh_pred.specs.Bounds.{difference_limit, normal_limit, IsDifference, IsNormal};
+
+use qh_model::Point;
+use std::marker::Model;
+
+/// A difference of two points.
+#[derive(Clone, Copy)]
+pub struct Difference {
+    x: i64,
+    y: i64,
+    z: i64,
+}
+
+impl Model for Difference {
+    ghost use Rattle.qh_model.specs.Vector.{Vector, vector_code};
+    ghost use Rattle.qh_pred.specs.Bounds.{IsDifference};
+
+    ghost Value = { Vector };
+
+    ghost coded = { vector_code };
+
+    ghost view = { λ d. record { x = d.x; y = d.y; z = d.z } };
+
+    ghost invariant = { λ d. IsDifference (record { x = d.x; y = d.y; z = d.z }) };
+
+    ghost inverse = { λ d. record { x = d.x; y = d.y; z = d.z } };
+}
+
+/// A difference of two points or a cross product of two differences.
+#[derive(Clone, Copy)]
+pub struct Components {
+    x: i64,
+    y: i64,
+    z: i64,
+}
+
+impl Model for Components {
+    ghost use Rattle.qh_model.specs.Vector.{Vector, vector_code};
+    ghost use Rattle.qh_pred.specs.Bounds.{IsNormal};
+
+    ghost Value = { Vector };
+
+    ghost coded = { vector_code };
+
+    ghost view = { λ v. record { x = v.x; y = v.y; z = v.z } };
+
+    ghost invariant = { λ v. IsNormal (record { x = v.x; y = v.y; z = v.z }) };
+
+    ghost inverse = { λ v. record { x = v.x; y = v.y; z = v.z } };
+}
+
+/// The difference of two coordinates.
+fn coordinate_difference(b: i32, a: i32) -> i64
+    requires b_within { IsCoordinate b }
+    requires a_within { IsCoordinate a }
+    ensures value { result ≡ b -ℤ a }
+    ensures limit { unsigned_abs result ≤ difference_limit }
+{
+    i64::from(b) - i64::from(a)
+}
+
+/// A component of a cross product: a b - c d.
+fn minor(a: i64, b: i64, c: i64, d: i64) -> i64
+    requires a_within { unsigned_abs a ≤ difference_limit }
+    requires b_within { unsigned_abs b ≤ difference_limit }
+    requires c_within { unsigned_abs c ≤ difference_limit }
+    requires d_within { unsigned_abs d ≤ difference_limit }
+    ensures value { result ≡ a *ℤ b -ℤ c *ℤ d }
+    ensures limit { unsigned_abs result ≤ normal_limit }
+{
+    a * b - c * d
+}
+
+/// The product of two numbers of 64 bits, in 128.
+fn wide_product(a: i64, b: i64) -> i128
+    ensures { result ≡ a *ℤ b }
+{
+    i128::from(a) * i128::from(b)
+}
+
+impl Difference {
+    /// The way from a to b.
+    pub fn between(a: Point, b: Point) -> Difference
+        ensures { result ≡ minus b a }
+    {
+        Difference {
+            x: coordinate_difference(b.x(), a.x()),
+            y: coordinate_difference(b.y(), a.y()),
+            z: coordinate_difference(b.z(), a.z()),
+        }
+    }
+
+    /// The cross product of two differences.
+    pub fn cross(self, other: Difference) -> Components
+        ensures { result ≡ cross_product self other }
+    {
+        Components {
+            x: minor(self.y, other.z, self.z, other.y),
+            y: minor(self.z, other.x, self.x, other.z),
+            z: minor(self.x, other.y, self.y, other.x),
+        }
+    }
+
+    /// The same vector, with room for products.
+    pub fn components(self) -> Components
+        ensures { result ≡ self }
+    {
+        Components {
+            x: self.x,
+            y: self.y,
+            z: self.z,
+        }
+    }
+}
+
+impl Components {
+    /// The vector with these components, which the caller keeps within the limit.
+    pub fn new(x: i64, y: i64, z: i64) -> Components
+        requires { IsNormal (record { x = x; y = y; z = z }) }
+        ensures { result ≡ record { x = x; y = y; z = z } }
+    {
+        Components { x, y, z }
+    }
+
+    /// The first component.
+    pub fn x(self) -> i64
+        ensures value { result ≡ self.x }
+        ensures limit { IsNormal self }
+    {
+        self.x
+    }
+
+    /// The second component.
+    pub fn y(self) -> i64
+        ensures value { result ≡ self.y }
+        ensures limit { IsNormal self }
+    {
+        self.y
+    }
+
+    /// The third component.
+    pub fn z(self) -> i64
+        ensures value { result ≡ self.z }
+        ensures limit { IsNormal self }
+    {
+        self.z
+    }
+
+    /// Whether each component is 0.
+    pub fn is_zero(self) -> bool
+        ensures { IsTrue result ↔ (self ≡ origin) }
+    {
+        self.x == 0 && self.y == 0 && self.z == 0
+    }
+
+    /// The scalar product of two vectors.
+    pub fn dot(self, other: Components) -> i128
+        ensures { result ≡ dot self other }
+    {
+        wide_product(self.x, other.x)
+            + wide_product(self.y, other.y)
+            + wide_product(self.z, other.z)
+    }
+}

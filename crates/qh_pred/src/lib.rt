@@ -1,0 +1,17 @@
+//! The exact geometric predicates: the volume of four points, the normal of three, whether three
+//! points lie in one line, and the turn of three points seen from a side.
+//!
+//! Each answers its definition of `qh_model/specs/Predicates.antt` with no rounding, for all points,
+//! since a [`qh_model::Point`] keeps the limit of coordinates. No call takes memory.
+//!
+//! Source: Barber, Dobkin and Huhdanpaa 1996 (a point is above a facet by the sign of a determinant).
+#![tactic(auto)]
+
+mod components;
+mod normal;
+mod predicates;
+#[cfg(test)]
+mod tests;
+
+pub use normal::Normal;
+pub use predicates::{cross, in_line, left, point_at, vol};

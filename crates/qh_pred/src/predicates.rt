@@ -1,0 +1,55 @@
+//! The predicates of points.
+ghost use Rattle.std.specs.Prelude.{◌≡◌, ◌<◌, ◌↔◌, IsTrue, length};
+ghost use Rattle.qh_model.specs.Predicates.{vol, cross, left, place, AreInLine};
+
+use crate::components::{Components, Difference};
+use crate::normal::Normal;
+use qh_model::{Id, Point};
+
+/// The cross product of the ways from a to b and to c.
+#[tactic(auto, unfolding(qh_model::specs::Predicates::cross))]
+fn product(a: Point, b: Point, c: Point) -> Components
+    ensures { result ≡ cross a b c }
+{
+    Difference::between(a, b).cross(Difference::between(a, c))
+}
+
+/// The normal of the triangle a, b, c: (b - a) x (c - a), which points to the side from which the
+/// triangle goes counterclockwise. It is zero where the three lie in one line.
+pub fn cross(a: Point, b: Point, c: Point) -> Normal
+    ensures { result ≡ cross a b c }
+{
+    Normal::of_product(product(a, b, c))
+}
+
+/// Whether the three points lie in one line.
+pub fn in_line(a: Point, b: Point, c: Point) -> bool
+    ensures { IsTrue result ↔ AreInLine a b c }
+{
+    product(a, b, c).is_zero()
+}
+
+/// Six times the volume of the tetrahedron a, b, c, d: above 0 where d is on the side to which the
+/// normal of a, b, c points, 0 where the four lie in one plane.
+pub fn vol(a: Point, b: Point, c: Point, d: Point) -> i128
+    ensures { result ≡ vol a b c d }
+{
+    product(a, b, c).dot(Difference::between(a, d).components())
+}
+
+/// The turn from u over v to w in the plane of the normal n: above 0 where it is to the left seen
+/// from the side to which n points, 0 where the three lie in one line.
+pub fn left(n: &Normal, u: Point, v: Point, w: Point) -> i128
+    ensures { result ≡ left n.now u v w }
+{
+    product(u, v, w).dot(n.components())
+}
+
+/// The point of an id, which is the index of one of the points.
+#[tactic(auto, unfolding(qh_model::specs::Predicates::place))]
+pub fn point_at(pts: &[Point], id: Id) -> Point
+    requires { id < length pts.now }
+    ensures { result ≡ place pts.now id }
+{
+    pts[id.index()]
+}
