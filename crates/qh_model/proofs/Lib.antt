@@ -1,4 +1,5 @@
 pub mod algebra
+pub mod Booleans
 pub mod Members
 pub mod lists
 pub mod combinations

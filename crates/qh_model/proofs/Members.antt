@@ -1,5 +1,5 @@
 -- Members of lists: by index, in lists of rising numbers, and under facts of each member.
-use Rattle.std.proofs.Common.{◌≡◌, ℕ, zero, suc, ◌+◌, ◌<◌, List, [], ◌∷◌, length, add-one, arith, refl, sym, subst, inl, inr, All, get_or}
+use Rattle.std.proofs.Common.{ℕ, zero, suc, ◌<◌, List, [], ◌∷◌, length, add-one, arith, refl, sym, subst, inl, inr, All, get_or}
 use Rattle.std.proofs.lemmas.List.Elements.{All-head, All-tail}
 use Rattle.std.specs.List.{AllByRecursion as Every}
 use Rattle.std.specs.List.Sorted.{IsStrictlyIncreasing}
@@ -28,6 +28,7 @@ rising_first x (z ∷ zs) h y i = by (rising_first z zs (rising_tail x (z ∷ zs
   where
     next : x < z
     next = h 0 (omega arith)
+
     by : ((y : ℕ) → In y zs → z < y) → In y (z ∷ zs) → x < y
     by rest (inl e) = subst (λ (n : ℕ). x < n) (sym e) next
     by rest (inr i) = let above : z < y = rest y i in omega (arith, next, above)

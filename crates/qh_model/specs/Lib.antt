@@ -30,6 +30,8 @@ pub mod CoveredPoints
 pub mod StoredSurface
 pub mod SurfaceLaws
 pub mod CoverageLaws
+pub mod FinishedSurface
+pub mod CompletenessLaws
 pub mod PolygonLaws
 pub mod HullLaws
 pub mod ClosedSurface
