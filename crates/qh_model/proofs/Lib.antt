@@ -1,5 +1,10 @@
 pub mod algebra
-pub mod Lists
+pub mod lists
 pub mod combinations
 pub mod extremes
+pub mod surfaces
+pub mod closed_surfaces
+pub mod polygons
+pub mod hulls
 pub mod ReadingLaws
+pub mod Examples

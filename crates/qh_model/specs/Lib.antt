@@ -19,3 +19,16 @@ pub mod FaceLaws
 pub mod DimensionLaws
 pub mod Polygon
 pub mod Polygons
+pub mod Weighted
+pub mod Surface
+pub mod SoundSurface
+pub mod Simplex
+pub mod Rewired
+pub mod CoveredPoints
+pub mod StoredSurface
+pub mod SurfaceLaws
+pub mod CoverageLaws
+pub mod PolygonLaws
+pub mod HullLaws
+pub mod ClosedSurface
+pub mod ClosedSurfaceLaws

@@ -2,13 +2,24 @@
 //!
 //! A law takes nothing and does nothing; a proof that needs it calls for the theorem by its name.
 
+mod closed_surfaces;
 mod combinations;
 mod extremes;
+mod hulls;
+mod polygons;
 mod reading;
+mod surfaces;
 
+pub use closed_surfaces::closed_surface_encloses;
 pub use combinations::combination_or_separator;
 pub use extremes::{
-    extremes_of_faces, greatest_is_extreme, members_are_combinations, one_dimension,
-    planes_of_extremes, union_extremes,
+    extremes_of_faces, greatest_is_extreme, members_are_combinations, planes_of_extremes,
+    union_extremes,
 };
+pub use hulls::one_hull;
+pub use polygons::{one_polygon, polygon_by_direction};
 pub use reading::one_reading;
+pub use surfaces::{
+    horizon_goes_round, live_is_marked, replace_keeps, rise_is_vol, settled_stay_unseen,
+    simplex_is_sound, surface_covers, walk_finds_all,
+};

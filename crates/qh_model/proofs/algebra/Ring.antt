@@ -97,7 +97,7 @@ zeros [] = true
 zeros (t ∷ p) = elim (is_zero t.0) [ true ↦ zeros p | false ↦ false ]
 
 -- ---- soundness
-eqb-is : (i j : ℕ) → eqb i j ≡ true → i ≡ j
+pub eqb-is : (i j : ℕ) → eqb i j ≡ true → i ≡ j
 eqb-is i j e = search (rules, e)
 
 eq_m-split : (i j : ℕ) (m n : Mono) (b : Bool) → eqb i j ≡ b → (eq_m m n ≡ true → m ≡ n) → elim b [ true ↦ eq_m m n | false ↦ false ] ≡ true → (i ∷ m) ≡ (j ∷ n)

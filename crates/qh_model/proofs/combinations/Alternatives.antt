@@ -7,7 +7,7 @@ use borrow.Author.Differences.{lt_out}
 use Rattle.qh_model.proofs.algebra.Integers.{ring_rules, add_mul}
 use Rattle.qh_model.proofs.combinations.Vectors.{V, dot as vdot}
 use Rattle.qh_model.proofs.combinations.WeightedTerms.{total, weight, count, Among, Balanced, Separated, alternative}
-use Rattle.qh_model.proofs.Lists.{every_at}
+use Rattle.qh_model.proofs.lists.Members.{every_at}
 use Rattle.qh_model.specs.Vector.{Vector, dot}
 use Rattle.qh_model.specs.Sets.{In, Members}
 use Rattle.qh_model.specs.Combination.{IsBalanced, Combination}

@@ -6,7 +6,7 @@ use Rattle.std.specs.Prelude.{ℤ, pos, negsuc, ◌+ℤ◌, ◌*ℤ◌, neg_ℤ,
 use Rattle.std.specs.List.{AllByRecursion as Every}
 use lib.IntN.{*ℤ_comm, *ℤ-zero, +ℤ_idr}
 use Rattle.qh_model.specs.Sets.{In}
-use Rattle.qh_model.proofs.Lists.{every_at, every_map, every_zip}
+use Rattle.qh_model.proofs.lists.Members.{every_at, every_map, every_zip}
 use borrow.Author.Differences.{lt_out}
 use Rattle.qh_model.proofs.algebra.Integers.{ring_rules, mul_add, mul_assoc}
 use Rattle.qh_model.proofs.combinations.Vectors.{V, dot, lin, nil, dot_lin, Cut, Flat, cut}

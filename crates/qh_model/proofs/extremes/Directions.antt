@@ -194,3 +194,7 @@ from_plane a b c p l z = level (vol a b c l) (vol a b c p) (dot (cross a b c) l)
 -- volumes over two triangles of one plane and one direction
 pub vol_along : (a b c u v w l : Vector) (h : IsAlong (cross a b c) (cross u v w)) → vol a b c u ≡ pos 0 → pos h.s *ℤ vol a b c l ≡ pos h.t *ℤ vol u v w l
 vol_along a b c u v w l h z = ap (λ t. pos h.s *ℤ t) (sym (from_plane a b c u l z)) ∙ dot_along (cross a b c) (cross u v w) h (minus l u) ∙ ap (λ t. pos h.t *ℤ t) (sym (vol-dot u v w l))
+
+-- each direction is its own
+pub along_itself : (n : Vector) → IsAlong n n
+along_itself n = record { s = 1; t = 1; some_s = omega arith; some_t = omega arith; x = refl; y = refl; z = refl }

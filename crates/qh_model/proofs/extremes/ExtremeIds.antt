@@ -8,7 +8,7 @@ use lib.Signed.{<ℤ_irrefl}
 use Rattle.qh_model.proofs.algebra.Integers.{ring_rules}
 use Rattle.qh_model.proofs.algebra.VectorIdentities.{vector_path}
 use Rattle.qh_model.proofs.combinations.Vectors.{V, dot as vdot}
-use Rattle.qh_model.proofs.Lists.{every_at}
+use Rattle.qh_model.proofs.lists.Members.{every_at}
 use Rattle.qh_model.proofs.combinations.Alternatives.{combination_or_separator, all_lower}
 use Rattle.qh_model.proofs.extremes.LexicographicOrder.{Less, Same, AtMost, Greatest, greatest, collapse}
 use Rattle.qh_model.specs.Vector.{Vector, dot}

@@ -7,7 +7,7 @@ use Rattle.std.specs.List.{AllByRecursion as Every}
 use borrow.Author.Differences.{lt_out, le_out}
 use Rattle.qh_model.proofs.combinations.Vectors.{V, dot}
 use Rattle.qh_model.proofs.combinations.WeightedTerms.{bound}
-use Rattle.qh_model.proofs.Lists.{every_map, every_zip}
+use Rattle.qh_model.proofs.lists.Members.{every_map, every_zip}
 use Rattle.qh_model.specs.Sets.{In}
 
 abbrev pub Less : (n : ℕ) → V n → V n → Type 0

@@ -1,7 +1,8 @@
 //! The laws of extreme ids and of supporting planes.
 ghost use Rattle.qh_model.specs.ExtremeLaws.{GreatestIsExtreme, MembersAreCombinations, UnionOfExtremes};
 ghost use Rattle.qh_model.specs.FaceLaws.{ExtremesOfFace, SupportOfExtremes, PlanesOfExtremes};
-ghost use Rattle.qh_model.specs.DimensionLaws.{DimensionIsUnique, DimensionOfExtremes};
+ghost use Rattle.qh_model.specs.DimensionLaws.{DimensionOfExtremes};
+ghost use Rattle.qh_model.specs.HullLaws.{PolygonsOfExtremes, TriplesOfExtremes};
 
 /// The member that is greatest along a direction, by its coordinates among level ones, is extreme.
 /// It gives a hull its first corners.
@@ -15,11 +16,13 @@ pub fn members_are_combinations()
     ensures { MembersAreCombinations }
 {}
 
-/// The extreme ids of a union are those of the union of its blocks' extreme ids, and these have the
-/// dimension of the whole. So blocks can be hulled apart and their extremes hulled together.
+/// The extreme ids of a union are those of the union of its blocks' extreme ids, and a set and its
+/// extreme ids have one dimension and the same polygons. So blocks can be hulled apart and their
+/// extreme ids hulled together.
 pub fn union_extremes()
     ensures union { UnionOfExtremes }
     ensures dimension { DimensionOfExtremes }
+    ensures polygons { PolygonsOfExtremes }
 {}
 
 /// The extreme ids of a face are the extreme ids of the set in its plane, and a plane that has no
@@ -29,12 +32,9 @@ pub fn extremes_of_faces()
     ensures support { SupportOfExtremes }
 {}
 
-/// Each supporting plane of a set is spanned by three of its extreme ids, with the same side outside.
+/// Each supporting plane of a set is spanned by three of its extreme ids, with the same side outside,
+/// and three of these span one for the set exactly if they do for the extreme ids.
 pub fn planes_of_extremes()
-    ensures { PlanesOfExtremes }
-{}
-
-/// A set has one dimension at most, so the case that a hull takes is the right one.
-pub fn one_dimension()
-    ensures { DimensionIsUnique }
+    ensures spanned { PlanesOfExtremes }
+    ensures triples { TriplesOfExtremes }
 {}

@@ -1,0 +1,170 @@
+-- Separator cancellation: no point is strictly below every triangle of a closed surface and strictly beyond all its
+-- corners along a direction. With the depth of each corner as a common multiple, the terms of each edge cancel.
+use Rattle.std.proofs.Common.{◌≡◌, ℕ, ◌+◌, ◌<◌, ◌≤◌, arith, ap, sym, ◌∙◌, refl, List, [], ◌∷◌, Bool, true, false, cond, eqb, inl, inr}
+use Rattle.std.proofs.lemmas.Int.{ints}
+use Rattle.std.specs.Prelude.{ℤ, pos, ◌+ℤ◌, ◌*ℤ◌, neg_ℤ, ◌≤ℤ◌, ◌<ℤ◌}
+use Rattle.std.specs.List.{AllByRecursion as Each}
+use Rattle.qh_model.specs.Vector.{Vector, dot, minus}
+use Rattle.qh_model.specs.Predicates.{vol}
+use Rattle.qh_model.specs.Sets.{In}
+use Rattle.qh_model.specs.ClosedSurface.{Triple, edges, IsClosed}
+use Rattle.qh_model.specs.ClosedSurfaceLaws.{IsCornerOf, NoneBelowAndBeyond}
+use Rattle.qh_model.proofs.lists.Members.{every_map}
+use Rattle.qh_model.proofs.algebra.Integers.{mul_swap}
+use Rattle.qh_model.proofs.algebra.Order.{mul-pos, neg-mul}
+use Rattle.qh_model.proofs.algebra.Ring.{ring, eqb-is}
+use Rattle.qh_model.proofs.algebra.Ring.Expr.{var, add, sub as less, mul, neg}
+use Rattle.qh_model.proofs.algebra.VectorIdentities.{vol-flip, vol-depths, depth, dot-minus, combine3}
+use Rattle.qh_model.proofs.closed_surfaces.Sums.{sum_z, count, drop_first, later}
+use Rattle.qh_model.proofs.closed_surfaces.SignedVolume.{back, eqb-refl, edges-cancel, vol_at}
+
+-- with co x such that depth x * co x is the same m at each corner
+unfoldable pub shared : (at : ℕ → Vector) (w p : Vector) → (ℕ → ℤ) → ℕ → Triple → ℤ
+shared at w p co r t = vol_at at p t *ℤ depth w p (at r) *ℤ (co t.i *ℤ co t.j *ℤ co t.k)
+
+unfoldable pub edge_part : (at : ℕ → Vector) (p : Vector) → (ℕ → ℤ) → ℤ → ℕ → (ℕ × ℕ) → ℤ
+edge_part at p co m r e = m *ℤ (vol (at e.0) (at e.1) (at r) p *ℤ (co e.0 *ℤ co e.1))
+
+edge_part-back : (at : ℕ → Vector) (p : Vector) (co : ℕ → ℤ) (m : ℤ) (r : ℕ) (e : ℕ × ℕ) → edge_part at p co m r (back e) ≡ neg_ℤ (edge_part at p co m r e)
+unfolding edge_part
+edge_part-back at p co m r e =
+    rw (vol-flip (at e.1) (at e.0) (at r) p)
+    (ring (m ∷ vol (at e.0) (at e.1) (at r) p ∷ co e.0 ∷ co e.1 ∷ []) (mul (var 0) (mul (neg (var 1)) (mul (var 3) (var 2)))) (neg (mul (var 0) (mul (var 1) (mul (var 2) (var 3))))) refl)
+
+-- one triangle
+shared-split : (at : ℕ → Vector) (w p : Vector) (co : ℕ → ℤ) (m : ℤ) (r : ℕ) (t : Triple)
+    → depth w p (at t.i) *ℤ co t.i ≡ m → depth w p (at t.j) *ℤ co t.j ≡ m → depth w p (at t.k) *ℤ co t.k ≡ m
+    → shared at w p co r t ≡ edge_part at p co m r (t.i, t.j) +ℤ edge_part at p co m r (t.j, t.k) +ℤ edge_part at p co m r (t.k, t.i)
+unfolding shared edge_part
+shared-split at w p co m r t hi hj hk =
+    rw (vol-depths w (at t.i) (at t.j) (at t.k) (at r) p)
+    (combine3 ((vol (at t.i) (at t.j) (at r) p *ℤ depth w p (at t.k) +ℤ vol (at t.j) (at t.k) (at r) p *ℤ depth w p (at t.i) +ℤ vol (at t.k) (at t.i) (at r) p *ℤ depth w p (at t.j)) *ℤ (co t.i *ℤ co t.j *ℤ co t.k))
+    (m *ℤ (vol (at t.i) (at t.j) (at r) p *ℤ (co t.i *ℤ co t.j)) +ℤ m *ℤ (vol (at t.j) (at t.k) (at r) p *ℤ (co t.j *ℤ co t.k)) +ℤ m *ℤ (vol (at t.k) (at t.i) (at r) p *ℤ (co t.k *ℤ co t.i)))
+    (vol (at t.j) (at t.k) (at r) p *ℤ (co t.j *ℤ co t.k)) (depth w p (at t.i) *ℤ co t.i) m
+    (vol (at t.k) (at t.i) (at r) p *ℤ (co t.k *ℤ co t.i)) (depth w p (at t.j) *ℤ co t.j) m
+    (vol (at t.i) (at t.j) (at r) p *ℤ (co t.i *ℤ co t.j)) (depth w p (at t.k) *ℤ co t.k) m
+    (ring (m ∷ vol (at t.i) (at t.j) (at r) p ∷ vol (at t.j) (at t.k) (at r) p ∷ vol (at t.k) (at t.i) (at r) p ∷ depth w p (at t.i) ∷ depth w p (at t.j) ∷ depth w p (at t.k) ∷ co t.i ∷ co t.j ∷ co t.k ∷ [])
+    (less (mul (add (add (mul (var 1) (var 6)) (mul (var 2) (var 4))) (mul (var 3) (var 5))) (mul (mul (var 7) (var 8)) (var 9)))
+    (add (add (mul (var 0) (mul (var 1) (mul (var 7) (var 8)))) (mul (var 0) (mul (var 2) (mul (var 8) (var 9))))) (mul (var 0) (mul (var 3) (mul (var 9) (var 7))))))
+    (add (add (mul (mul (var 2) (mul (var 8) (var 9))) (less (mul (var 4) (var 7)) (var 0))) (mul (mul (var 3) (mul (var 9) (var 7))) (less (mul (var 5) (var 8)) (var 0)))) (mul (mul (var 1) (mul (var 7) (var 8))) (less (mul (var 6) (var 9)) (var 0)))) refl)
+    hi hj hk)
+
+-- the corners, one triangle after another
+abbrev pub ids : List Triple → List ℕ
+ids [] = []
+ids (t ∷ ts) = t.i ∷ t.j ∷ t.k ∷ ids ts
+
+abbrev pub Corners : (ℕ → Type 0) → List Triple → Type 0
+Corners P ts = Each P (ids ts)
+
+shared-sum : (at : ℕ → Vector) (w p : Vector) (co : ℕ → ℤ) (m : ℤ) (r : ℕ) (ts : List Triple) → Corners (λ i. depth w p (at i) *ℤ co i ≡ m) ts
+    → sum_z (shared at w p co r) ts ≡ sum_z (edge_part at p co m r) (edges ts)
+shared-sum at w p co m r [] h = refl
+shared-sum at w p co m r (t ∷ ts) h =
+    rw (shared-split at w p co m r t h.0 h.1.0 h.1.1.0, shared-sum at w p co m r ts h.1.1.1)
+    (regroup (edge_part at p co m r (t.i, t.j)) (edge_part at p co m r (t.j, t.k)) (edge_part at p co m r (t.k, t.i)) (sum_z (edge_part at p co m r) (edges ts)))
+  where
+    regroup : (a b c e : ℤ) → a +ℤ b +ℤ c +ℤ e ≡ a +ℤ (b +ℤ (c +ℤ e))
+    regroup a b c e = omega (arith, ints)
+
+pub shared-zero : (at : ℕ → Vector) (w p : Vector) (co : ℕ → ℤ) (m : ℤ) (r : ℕ) (ts : List Triple) → IsClosed ts → Corners (λ i. depth w p (at i) *ℤ co i ≡ m) ts
+    → sum_z (shared at w p co r) ts ≡ pos 0
+shared-zero at w p co m r ts c h = shared-sum at w p co m r ts h ∙ edges-cancel (edge_part at p co m r) (edge_part-back at p co m r) ts c
+
+-- a triangle that p is strictly below gives a term below 0
+shared-neg : (at : ℕ → Vector) (w p : Vector) (co : ℕ → ℤ) (r : ℕ) (t : Triple) → vol_at at p t <ℤ pos 0 → pos 0 <ℤ depth w p (at r) → pos 0 <ℤ co t.i → pos 0 <ℤ co t.j → pos 0 <ℤ co t.k → shared at w p co r t <ℤ pos 0
+unfolding shared
+shared-neg at w p co r t h hr hi hj hk =
+    neg-mul (vol_at at p t *ℤ depth w p (at r)) (co t.i *ℤ co t.j *ℤ co t.k) (neg-mul (vol_at at p t) (depth w p (at r)) h hr) (mul-pos (co t.i *ℤ co t.j) (co t.k) (mul-pos (co t.i) (co t.j) hi hj) hk)
+
+sums-neg : (at : ℕ → Vector) (w p : Vector) (co : ℕ → ℤ) (r : ℕ) → pos 0 <ℤ depth w p (at r) → (ts : List Triple) → Corners (λ i. pos 0 <ℤ co i) ts → Each (λ t. vol_at at p t <ℤ pos 0) ts → sum_z (shared at w p co r) ts ≤ℤ pos 0
+sums-neg at w p co r hr [] h v = omega (arith, ints)
+sums-neg at w p co r hr (t ∷ ts) h v =
+    two (shared at w p co r t) (sum_z (shared at w p co r) ts) (shared-neg at w p co r t v.0 hr h.0 h.1.0 h.1.1.0) (sums-neg at w p co r hr ts h.1.1.1 v.1)
+  where
+    two : (a b : ℤ) → a <ℤ pos 0 → b ≤ℤ pos 0 → (a +ℤ b) ≤ℤ pos 0
+    two a b h k = omega (arith, ints)
+
+-- ---- the product of the others
+abbrev prod_z : (ℕ → ℤ) → List ℕ → ℤ
+prod_z f [] = pos 1
+prod_z f (x ∷ xs) = f x *ℤ prod_z f xs
+
+prod-pos : (f : ℕ → ℤ) (xs : List ℕ) → Each (λ x. pos 0 <ℤ f x) xs → pos 0 <ℤ prod_z f xs
+prod-pos f [] h = omega (arith, ints)
+prod-pos f (x ∷ xs) h = mul-pos (f x) (prod_z f xs) h.0 (prod-pos f xs h.1)
+
+each-drop_first : (P : ℕ → Type 0) (q : ℕ → Bool) (xs : List ℕ) → Each P xs → Each P (drop_first q xs)
+each-drop_first P q [] h = tt
+each-drop_first P q (x ∷ xs) h = pick (q x) (each-drop_first P q xs h.1)
+  where
+    pick : (b : Bool) → Each P (drop_first q xs) → Each P (cond b xs (x ∷ drop_first q xs))
+    pick true r = h.1
+    pick false r = (h.0, r)
+
+prod_step : (f : ℕ → ℤ) (x y : ℕ) (ys r : List ℕ) (b : Bool) → (b ≡ true → x ≡ y) → (b ≡ false → prod_z f ys ≡ f x *ℤ prod_z f r) → f y *ℤ prod_z f ys ≡ f x *ℤ prod_z f (cond b ys (y ∷ r))
+prod_step f x y ys r true e h = ap (λ v. f v *ℤ prod_z f ys) (sym (e refl))
+prod_step f x y ys r false e h = rw (h refl) (mul_swap (f y) (f x) (prod_z f r))
+
+prod-drop_first : (f : ℕ → ℤ) (x : ℕ) (ys : List ℕ) → 0 < count (eqb x) ys → prod_z f ys ≡ f x *ℤ prod_z f (drop_first (eqb x) ys)
+prod-drop_first f x [] h = absurd (omega arith)
+prod-drop_first f x (y ∷ ys) h = prod_step f x y ys (drop_first (eqb x) ys) (eqb x y) (eqb-is x y) (λ e. prod-drop_first f x ys (later (eqb x y) (count (eqb x) ys) h e))
+
+more_there : (x y : ℕ) (n : ℕ) → 0 < n → 0 < cond (eqb x y) 1 0 + n
+more_there x y n h = omega arith
+
+one_there : (x n : ℕ) → 0 < cond (eqb x x) 1 0 + n
+one_there x n = rw (eqb-refl x) (omega arith)
+
+all_there : (xs : List ℕ) → Each (λ x. 0 < count (eqb x) xs) xs
+all_there [] = tt
+all_there (x ∷ xs) = (one_there x (count (eqb x) xs), every_map (λ y. 0 < count (eqb y) xs) (λ y. 0 < count (eqb y) (x ∷ xs)) xs (λ y h. more_there y x (count (eqb y) xs) h) (all_there xs))
+
+each-all : (P : ℕ → Type 0) → ((x : ℕ) → P x) → (xs : List ℕ) → Each P xs
+each-all P h [] = tt
+each-all P h (x ∷ xs) = (h x, each-all P h xs)
+
+not_both : (x : ℤ) → x ≡ pos 0 → x <ℤ pos 0 → ⊥
+not_both x e h = omega (arith, ints)
+
+neg_and_le : (a b : ℤ) → a <ℤ pos 0 → b ≤ℤ pos 0 → (a +ℤ b) <ℤ pos 0
+neg_and_le a b h k = omega (arith, ints)
+
+-- separator cancellation: no point is strictly below every triangle of a closed surface and strictly on one side of a plane from all its corners
+pub none_below_all : (at : ℕ → Vector) (w p : Vector) (t : Triple) (ts : List Triple) → IsClosed (t ∷ ts)
+    → Corners (λ i. pos 0 <ℤ depth w p (at i)) (t ∷ ts) → Each (λ t. vol_at at p t <ℤ pos 0) (t ∷ ts) → ⊥
+none_below_all at w p t ts c d v =
+    let all = ids (t ∷ ts) in
+    let f : ℕ → ℤ = λ i. depth w p (at i) in
+    let co : ℕ → ℤ = λ i. prod_z f (drop_first (eqb i) all) in
+    let up : Corners (λ i. pos 0 <ℤ co i) (t ∷ ts) = each-all (λ i. pos 0 <ℤ co i) (λ i. prod-pos f (drop_first (eqb i) all) (each-drop_first (λ x. pos 0 <ℤ f x) (eqb i) all d)) all in
+    let same : Corners (λ i. f i *ℤ co i ≡ prod_z f all) (t ∷ ts) = every_map (λ i. 0 < count (eqb i) all) (λ i. f i *ℤ co i ≡ prod_z f all) all (λ i h. sym (prod-drop_first f i all h)) (all_there all) in
+    not_both (sum_z (shared at w p co t.i) (t ∷ ts)) (shared-zero at w p co (prod_z f all) t.i (t ∷ ts) c same)
+    (neg_and_le (shared at w p co t.i t) (sum_z (shared at w p co t.i) ts) (shared-neg at w p co t.i t v.0 d.0 up.0 up.1.0 up.1.1.0) (sums-neg at w p co t.i d.0 ts up.1.1.1 v.1))
+
+-- ---- the law, from members
+corners-of : (P : ℕ → Type 0) (ts : List Triple) → ((i : ℕ) → IsCornerOf ts i → P i) → Corners P ts
+corners-of P [] f = tt
+corners-of P (t ∷ ts) f = (
+  f t.i (t, inl refl, inl refl),
+  (f t.j (t, inl refl, inr (inl refl)), (f t.k (t, inl refl, inr (inr (inl refl))), corners-of P ts (λ i c. f i (c.0, inr c.1, c.2)))),
+)
+
+each-of : {X : Type 0} (P : X → Type 0) (xs : List X) → ((x : X) → In x xs → P x) → Each P xs
+each-of P [] f = tt
+each-of P (x ∷ xs) f = (f x (inl refl), each-of P xs (λ y i. f y (inr i)))
+
+deep : (w p x : Vector) → dot w x <ℤ dot w p → pos 0 <ℤ depth w p x
+unfolding depth
+deep w p x h = apart (dot w p) (dot w x) (dot w (minus p x)) (dot-minus w p x) h
+  where
+    apart : (a b d : ℤ) → d ≡ a +ℤ neg_ℤ b → b <ℤ a → pos 0 <ℤ d
+    apart a b d e h = omega (arith, ints)
+
+pub none_below_and_beyond : NoneBelowAndBeyond
+none_below_and_beyond at [] c w p beyond below = absurd (some c.some)
+  where
+    some : 1 ≤ 0 → ⊥
+    some h = omega arith
+none_below_and_beyond at (t ∷ ts) c w p beyond below =
+    none_below_all at w p t ts c.closed (corners-of (λ i. pos 0 <ℤ depth w p (at i)) (t ∷ ts) (λ i k. deep w p (at i) (beyond i k))) (each-of (λ t. vol_at at p t <ℤ pos 0) (t ∷ ts) below)

@@ -1,0 +1,92 @@
+-- The signed volume of a closed surface: what changes its sign with an edge's direction adds up to nothing.
+use Rattle.std.proofs.Common.{◌≡◌, ℕ, arith, ap, sym, ◌∙◌, refl, List, [], ◌∷◌, map, Bool, true, false, eqb, rules}
+use Rattle.std.proofs.lemmas.Int.{ints}
+use Rattle.std.specs.Prelude.{ℤ, pos, ◌+ℤ◌, neg_ℤ, ◌&&◌}
+use Rattle.qh_model.specs.Vector.{Vector}
+use Rattle.qh_model.specs.Predicates.{vol}
+use Rattle.qh_model.specs.ClosedSurface.{Triple, edges, is_edge, IsClosed, signed_volume}
+use Rattle.qh_model.specs.ClosedSurfaceLaws.{VolumeIsConstant}
+use Rattle.qh_model.proofs.algebra.Ring.{eqb-is}
+use Rattle.qh_model.proofs.algebra.VectorIdentities.{vol-boundary, vol-flip}
+use Rattle.qh_model.proofs.closed_surfaces.Sums.{sum_z, count, Tests, sum_z-same_counts, count-is}
+
+abbrev pub back : (ℕ × ℕ) → (ℕ × ℕ)
+back e = (e.1, e.0)
+
+both_of : (a b : Bool) → (a && b) ≡ true → (a ≡ true) × (b ≡ true)
+both_of true true e = (refl, refl)
+both_of true false e = cc
+both_of false b e = cc
+
+pub eqb-refl : (i : ℕ) → eqb i i ≡ true
+eqb-refl i = search rules
+
+pub edge_tests : Tests is_edge
+edge_tests = record {
+  same = λ e f h. let b = both_of (eqb e.0 f.0) (eqb e.1 f.1) h in pair_is e.0 e.1 f.0 f.1 (eqb-is e.0 f.0 b.0) (eqb-is e.1 f.1 b.1);
+  itself = λ e. rw (eqb-refl e.0, eqb-refl e.1) refl;
+}
+  where
+    pair_is : (a b c d : ℕ) → a ≡ c → b ≡ d → ◌≡◌ {A = ℕ × ℕ} (a, b) (c, d)
+    pair_is a b c d p q = rw (p, q) refl
+
+edge_eq-back : (e f : ℕ × ℕ) → is_edge e (back f) ≡ is_edge (back e) f
+edge_eq-back e f = swap (eqb e.0 f.1) (eqb e.1 f.0)
+  where
+    swap : (a b : Bool) → (a && b) ≡ (b && a)
+    swap true true = refl
+    swap true false = refl
+    swap false true = refl
+    swap false false = refl
+
+-- the edges turned round
+count-back : (e : ℕ × ℕ) (es : List (ℕ × ℕ)) → count (is_edge e) (map back es) ≡ count (is_edge (back e)) es
+count-back e [] = refl
+count-back e (f ∷ es) = rw (edge_eq-back e f, count-back e es) refl
+
+sum-back : (g : (ℕ × ℕ) → ℤ) → ((e : ℕ × ℕ) → g (back e) ≡ neg_ℤ (g e)) → (es : List (ℕ × ℕ)) → sum_z g (map back es) ≡ neg_ℤ (sum_z g es)
+sum-back g h [] = refl
+sum-back g h (e ∷ es) = rw (h e, sum-back g h es) (neg_sum (g e) (sum_z g es))
+  where
+    neg_sum : (a b : ℤ) → neg_ℤ a +ℤ neg_ℤ b ≡ neg_ℤ (a +ℤ b)
+    neg_sum a b = omega (arith, ints)
+
+own_negative : (x : ℤ) → x ≡ neg_ℤ x → x ≡ pos 0
+own_negative x e = omega (arith, ints)
+
+-- what changes its sign with an edge's direction adds up to nothing
+pub edges-cancel : (g : (ℕ × ℕ) → ℤ) → ((e : ℕ × ℕ) → g (back e) ≡ neg_ℤ (g e)) → (ts : List Triple) → IsClosed ts → sum_z g (edges ts) ≡ pos 0
+edges-cancel g h ts c =
+    own_negative (sum_z g (edges ts)) (sum_z-same_counts is_edge edge_tests g (edges ts) (map back (edges ts)) (λ e. count-is (is_edge e) (edges ts) ∙ c e.0 e.1 ∙ sym (count-is (is_edge (back e)) (edges ts)) ∙ sym (count-back e (edges ts))) ∙ sum-back g h (edges ts))
+
+-- the volume of a triangle and p
+abbrev pub vol_at : (ℕ → Vector) → Vector → Triple → ℤ
+vol_at at p t = vol (at t.i) (at t.j) (at t.k) p
+
+abbrev pub edge_vol : (ℕ → Vector) → Vector → Vector → (ℕ × ℕ) → ℤ
+edge_vol at o p e = vol (at e.0) (at e.1) o p
+
+vols-boundary : (at : ℕ → Vector) (o p : Vector) (ts : List Triple) → sum_z (vol_at at p) ts ≡ sum_z (vol_at at o) ts +ℤ sum_z (edge_vol at o p) (edges ts)
+vols-boundary at o p [] = refl
+vols-boundary at o p (t ∷ ts) =
+    rw (vol-boundary (at t.i) (at t.j) (at t.k) o p, vols-boundary at o p ts)
+    (regroup (vol (at t.i) (at t.j) (at t.k) o) (vol (at t.i) (at t.j) o p) (vol (at t.j) (at t.k) o p) (vol (at t.k) (at t.i) o p) (sum_z (vol_at at o) ts) (sum_z (edge_vol at o p) (edges ts)))
+  where
+    regroup : (v a b c s e : ℤ) → v +ℤ (a +ℤ b +ℤ c) +ℤ (s +ℤ e) ≡ v +ℤ s +ℤ (a +ℤ (b +ℤ (c +ℤ e)))
+    regroup v a b c s e = omega (arith, ints)
+
+-- signed volume: the sum does not depend on the fourth point
+pub vols-same : (at : ℕ → Vector) (o p : Vector) (ts : List Triple) → IsClosed ts → sum_z (vol_at at p) ts ≡ sum_z (vol_at at o) ts
+vols-same at o p ts c =
+    vols-boundary at o p ts ∙ drop_zero (sum_z (vol_at at o) ts) (sum_z (edge_vol at o p) (edges ts)) (edges-cancel (edge_vol at o p) (λ e. vol-flip (at e.1) (at e.0) o p) ts c)
+  where
+    drop_zero : (a b : ℤ) → b ≡ pos 0 → a +ℤ b ≡ a
+    drop_zero a b e = omega (arith, ints)
+
+-- the definition's sum
+volume-is : (at : ℕ → Vector) (ts : List Triple) (p : Vector) → signed_volume at ts p ≡ sum_z (vol_at at p) ts
+volume-is at [] p = refl
+volume-is at (t ∷ ts) p = ap (λ v. vol (at t.i) (at t.j) (at t.k) p +ℤ v) (volume-is at ts p)
+
+pub volume_is_constant : VolumeIsConstant
+volume_is_constant at ts c p q = volume-is at ts p ∙ vols-same at q p ts c.closed ∙ sym (volume-is at ts q)

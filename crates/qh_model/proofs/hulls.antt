@@ -1,0 +1,4 @@
+-- Hulls: each part is one value, and a set and its extreme ids have one hull.
+pub mod Unique
+pub mod FlatSets
+pub mod OfExtremes

@@ -1,0 +1,69 @@
+-- Sets in one plane: their triangles have one direction or the opposite one, and one of the two points forward.
+use Rattle.std.proofs.Common.{◌≡◌, ◌≢◌, ℕ, arith, ap, ◌∙◌, ◌⊎◌, inl, inr}
+use Rattle.std.proofs.lemmas.Int.{ints}
+use Rattle.std.specs.Prelude.{ℤ, pos, neg_ℤ, ◌<ℤ◌}
+use Rattle.qh_model.specs.Vector.{Vector, origin, minus, dot}
+use Rattle.qh_model.specs.Predicates.{cross, vol, AreInLine}
+use Rattle.qh_model.specs.Dimension.{HasTetrahedron}
+use Rattle.qh_model.specs.FaceLaws.{IsAlong}
+use Rattle.qh_model.specs.Polygons.{PointsForward}
+use Rattle.qh_model.proofs.algebra.Order.{zero_or_not}
+use Rattle.qh_model.proofs.algebra.VectorIdentities.{opposite}
+use Rattle.qh_model.proofs.extremes.Directions.{positive_along, zero_along, normal_along, from_plane}
+
+-- four points of a set with no tetrahedron lie in one plane
+pub flat_volume : (at : ℕ → Vector) (A : ℕ → Type 0) → ¬ (HasTetrahedron at A) → (i j k l : ℕ) → A i → A j → A k → A l → vol (at i) (at j) (at k) (at l) ≡ pos 0
+flat_volume at A n i j k l hi hj hk hl = pick (zero_or_not (vol (at i) (at j) (at k) (at l)))
+  where
+    pick : (vol (at i) (at j) (at k) (at l) ≡ pos 0) ⊎ (¬ (vol (at i) (at j) (at k) (at l) ≡ pos 0)) → vol (at i) (at j) (at k) (at l) ≡ pos 0
+    pick (inl e) = e
+    pick (inr d) = absurd (n (record { i = i; j = j; k = k; l = l; has_i = hi; has_j = hj; has_k = hk; has_l = hl; volume = d }))
+
+-- what points forward is not zero
+pub forward_not_zero : (n : Vector) → PointsForward n → n ≢ origin
+forward_not_zero n (inl h) e = positive_zero n.x (ap (λ v. v.x) e) h
+  where
+    positive_zero : (x : ℤ) → x ≡ pos 0 → pos 0 <ℤ x → ⊥
+    positive_zero x e h = omega (arith, ints)
+forward_not_zero n (inr (x, inl h)) e = positive_zero n.y (ap (λ v. v.y) e) h
+  where
+    positive_zero : (x : ℤ) → x ≡ pos 0 → pos 0 <ℤ x → ⊥
+    positive_zero x e h = omega (arith, ints)
+forward_not_zero n (inr (x, inr (y, h))) e = positive_zero n.z (ap (λ v. v.z) e) h
+  where
+    positive_zero : (x : ℤ) → x ≡ pos 0 → pos 0 <ℤ x → ⊥
+    positive_zero x e h = omega (arith, ints)
+
+-- a direction points forward as a whole
+pub forward_along : (n m : Vector) → IsAlong n m → PointsForward n → PointsForward m
+forward_along n m h (inl x) = inl (positive_along h.s h.t n.x m.x h.some_s h.some_t h.x x)
+forward_along n m h (inr (x, inl y)) = inr (zero_along h.s h.t n.x m.x h.some_t h.x x, inl (positive_along h.s h.t n.y m.y h.some_s h.some_t h.y y))
+forward_along n m h (inr (x, inr (y, z))) = inr (zero_along h.s h.t n.x m.x h.some_t h.x x, inr (zero_along h.s h.t n.y m.y h.some_t h.y y, positive_along h.s h.t n.z m.z h.some_s h.some_t h.z z))
+
+-- a direction and its opposite do not both point forward
+not_both : (x : ℤ) → pos 0 <ℤ x → pos 0 <ℤ neg_ℤ x → ⊥
+not_both x h k = omega (arith, ints)
+
+zero_positive : (x : ℤ) → x ≡ pos 0 → pos 0 <ℤ neg_ℤ x → ⊥
+zero_positive x h k = omega (arith, ints)
+
+positive_zero : (x : ℤ) → pos 0 <ℤ x → neg_ℤ x ≡ pos 0 → ⊥
+positive_zero x h k = omega (arith, ints)
+
+pub one_forward : (n : Vector) → PointsForward n → PointsForward (opposite n) → ⊥
+one_forward n (inl x) (inl x') = not_both n.x x x'
+one_forward n (inl x) (inr (x', k)) = positive_zero n.x x x'
+one_forward n (inr (x, k)) (inl x') = zero_positive n.x x x'
+one_forward n (inr (x, inl y)) (inr (x', inl y')) = not_both n.y y y'
+one_forward n (inr (x, inl y)) (inr (x', inr (y', k))) = positive_zero n.y y y'
+one_forward n (inr (x, inr (y, z))) (inr (x', inl y')) = zero_positive n.y y y'
+one_forward n (inr (x, inr (y, z))) (inr (x', inr (y', z'))) = not_both n.z z z'
+
+-- a triangle of a flat set has the direction of another, one way round or the other
+pub flat_normals : (at : ℕ → Vector) (A : ℕ → Type 0) → ¬ (HasTetrahedron at A) → (i j k u v w : ℕ) → A i → A j → A k → A u → A v → A w
+    → cross (at i) (at j) (at k) ≢ origin → ¬ (AreInLine (at u) (at v) (at w))
+    → IsAlong (cross (at i) (at j) (at k)) (cross (at u) (at v) (at w)) ⊎ IsAlong (cross (at i) (at j) (at k)) (cross (at u) (at w) (at v))
+flat_normals at A n i j k u v w hi hj hk hu hv hw d e = normal_along (cross (at i) (at j) (at k)) (at u) (at v) (at w) d e (level v hv) (level w hw)
+  where
+    level : (l : ℕ) → A l → dot (cross (at i) (at j) (at k)) (minus (at l) (at u)) ≡ pos 0
+    level l hl = from_plane (at i) (at j) (at k) (at u) (at l) (flat_volume at A n i j k u hi hj hk hu) ∙ flat_volume at A n i j k l hi hj hk hl

@@ -1,0 +1,113 @@
+-- Each part of a hull is one value: distinct ids, polygons, and the number of edges.
+use Rattle.std.proofs.Common.{◌≡◌, ℕ, ◌<◌, refl, List, [], ◌∷◌, arith, sym, ap, subst, ◌∙◌, ◌⊎◌, inl, inr}
+use native.Mathlib.Decide.{ℕ_discrete}
+use Rattle.std.specs.Prelude.{◌↔◌}
+use Rattle.qh_model.specs.Vector.{Vector}
+use Rattle.qh_model.specs.Predicates.{cross}
+use Rattle.qh_model.specs.Sets.{In, Members}
+use Rattle.qh_model.specs.Dimension.{HasTetrahedron, HasSegment, IsDimension}
+use Rattle.qh_model.specs.Extreme.{Extreme}
+use Rattle.qh_model.specs.SupportingPlane.{IsSupportingTriple, OnPlane}
+use Rattle.qh_model.specs.FaceLaws.{IsAlong}
+use Rattle.qh_model.specs.Polygons.{AreFaces, IsFacePolygon, IsFlatFace, IsSegmentFace, IsPointFace, ArePolygons, PointsForward}
+use Rattle.qh_model.specs.HullLaws.{PolygonsAreUnique, EdgeCountIsUnique, RisingListIsUnique, DistinctIdsAreUnique}
+use Rattle.qh_model.proofs.lists.Ordered.{ordered_rising, ordered_unique}
+use Rattle.qh_model.proofs.lists.OnceEach.{once_length}
+use Rattle.qh_model.proofs.lists.Lexicographic.{rising_unique}
+use Rattle.qh_model.proofs.polygons.Unique.{one_polygon}
+use Rattle.qh_model.proofs.polygons.Direction.{polygon_as}
+use Rattle.qh_model.proofs.extremes.Directions.{cross-flip}
+use Rattle.qh_model.proofs.hulls.FlatSets.{forward_not_zero, forward_along, one_forward, flat_normals}
+
+pub rising_list_is_unique : RisingListIsUnique
+rising_list_is_unique xs ys f g h = ordered_unique (λ i j. i < j) (λ i j p q. omega arith) xs ys (ordered_rising xs f) (ordered_rising ys g) h
+
+pub distinct_ids_are_unique : DistinctIdsAreUnique
+distinct_ids_are_unique pts xs ys a b = rising_list_is_unique xs ys a.rising b.rising (λ i. (λ h. (b.members i).1 ((a.members i).0 h), λ h. (a.members i).1 ((b.members i).0 h)))
+
+pub edge_count_is_unique : EdgeCountIsUnique
+edge_count_is_unique qs m n a b = sym a.count ∙ once_length a.list b.list a.once b.once same ∙ b.count
+  where
+    same : (e : ℕ × ℕ) → In e a.list ↔ In e b.list
+    same (u, v) = (λ i. (b.all u v).1 ((a.all u v).0 i), λ i. (a.all u v).1 ((b.all u v).0 i))
+
+-- ---- polygons, by dimension
+one_face_list : (at : ℕ → Vector) (A : ℕ → Type 0) (ps qs : List (List ℕ)) → AreFaces at A ps → AreFaces at A qs → ps ≡ qs
+one_face_list at A ps qs a b = rising_unique ps qs a.rising b.rising (λ q. (over ps qs a b q, over qs ps b a q))
+  where
+    over : (ps qs : List (List ℕ)) → AreFaces at A ps → AreFaces at A qs → (q : List ℕ) → In q ps → In q qs
+    over ps qs a b q i = go (a.only q i)
+      where
+        go : (i : ℕ) × (j : ℕ) × (k : ℕ) × IsSupportingTriple at A i j k × IsFacePolygon at A i j k q → In q qs
+        go (u, v, w, t, p) = let r = b.each u v w t in
+            subst (λ s. In s qs) (one_polygon at (OnPlane at (Extreme at A) u v w) (cross (at u) (at v) (at w)) r.0 q r.2 p) r.1
+
+one_flat_face : (at : ℕ → Vector) (A : ℕ → Type 0) → ¬ (HasTetrahedron at A) → (p q : List ℕ) → IsFlatFace at A p → IsFlatFace at A q → p ≡ q
+one_flat_face at A n p q a b = pick (flat_normals at A n a.i a.j a.k b.i b.j b.k a.has_i a.has_j a.has_k b.has_i b.has_j b.has_k (forward_not_zero _ a.forward) (forward_not_zero _ b.forward))
+  where
+    pick : IsAlong (cross (at a.i) (at a.j) (at a.k)) (cross (at b.i) (at b.j) (at b.k)) ⊎ IsAlong (cross (at a.i) (at a.j) (at a.k)) (cross (at b.i) (at b.k) (at b.j)) → p ≡ q
+    pick (inl h) = one_polygon at (Extreme at A) (cross (at b.i) (at b.j) (at b.k)) p q (polygon_as at (Extreme at A) (Extreme at A) (cross (at a.i) (at a.j) (at a.k)) (cross (at b.i) (at b.j) (at b.k)) p (λ i. (λ e. e, λ e. e)) h a.polygon) b.polygon
+    pick (inr h) = absurd (one_forward (cross (at b.i) (at b.j) (at b.k)) b.forward (subst PointsForward (cross-flip (at b.i) (at b.j) (at b.k)) (forward_along _ _ h a.forward)))
+
+one_segment_face : (at : ℕ → Vector) (A : ℕ → Type 0) (p q : List ℕ) → IsSegmentFace at A p → IsSegmentFace at A q → p ≡ q
+one_segment_face at A p q a b = a.is ∙ pair (ends.0) (ends.1) ∙ sym b.is
+  where
+    pair : a.i ≡ b.i → a.j ≡ b.j → (a.i ∷ a.j ∷ []) ≡ (b.i ∷ b.j ∷ [])
+    pair e f = cc (e, f)
+
+    in_b : (l : ℕ) → (l ≡ a.i) ⊎ (l ≡ a.j) → (l ≡ b.i) ⊎ (l ≡ b.j)
+    in_b l h = (b.members l).1 ((a.members l).0 h)
+
+    ordered : (i j k l : ℕ) → i < j → k < l → (i ≡ k) ⊎ (i ≡ l) → (j ≡ k) ⊎ (j ≡ l) → (i ≡ k) × (j ≡ l)
+    ordered i j k l h m (inl e) (inl f) = absurd (omega arith)
+    ordered i j k l h m (inl e) (inr f) = (e, f)
+    ordered i j k l h m (inr e) (inl f) = absurd (omega arith)
+    ordered i j k l h m (inr e) (inr f) = absurd (omega arith)
+
+    ends : (a.i ≡ b.i) × (a.j ≡ b.j)
+    ends = ordered a.i a.j b.i b.j a.lower b.lower (in_b a.i (inl refl)) (in_b a.j (inr refl))
+
+one_point_face : (A : ℕ → Type 0) → ¬ (HasSegment A) → (p q : List ℕ) → IsPointFace A p → IsPointFace A q → p ≡ q
+one_point_face A n p q a b = a.is ∙ same (ℕ_discrete a.i b.i) ∙ sym b.is
+  where
+    same : Dec (a.i ≡ b.i) → (a.i ∷ []) ≡ (b.i ∷ [])
+    same (yes e) = cc e
+    same (no d) = absurd (n (record { i = a.i; j = b.i; has_i = a.has_i; has_j = b.has_i; differ = d }))
+
+-- one list of one polygon
+one_of_one : (F : List ℕ → Type 0) → ((p q : List ℕ) → F p → F q → p ≡ q) → (ps qs : List (List ℕ)) → (p : List ℕ) × F p × (ps ≡ p ∷ []) → (q : List ℕ) × F q × (qs ≡ q ∷ []) → ps ≡ qs
+one_of_one F u ps qs (p, a, e) (q, b, f) = e ∙ ap (λ r. r ∷ []) (u p q a b) ∙ sym f
+
+pub flat_of : (at : ℕ → Vector) (A : ℕ → Type 0) (k : ℕ) → k ≡ 2 → IsDimension at A k → ¬ (HasTetrahedron at A)
+flat_of at A k e (inl (f, t)) = absurd (omega arith)
+flat_of at A k e (inr (inl (f, t, n))) = n
+flat_of at A k e (inr (inr (inl (f, t, n)))) = absurd (omega arith)
+flat_of at A k e (inr (inr (inr (f, n)))) = absurd (omega arith)
+
+pub alone_of : (at : ℕ → Vector) (A : ℕ → Type 0) (k : ℕ) → k ≡ 0 → IsDimension at A k → ¬ (HasSegment A)
+alone_of at A k e (inl (f, t)) = absurd (omega arith)
+alone_of at A k e (inr (inl (f, t, n))) = absurd (omega arith)
+alone_of at A k e (inr (inr (inl (f, t, n)))) = absurd (omega arith)
+alone_of at A k e (inr (inr (inr (f, n)))) = n
+
+-- the cases of two lists of polygons of one dimension
+pub one_polygon_list : (at : ℕ → Vector) (A : ℕ → Type 0) (k : ℕ) (ps qs : List (List ℕ)) → IsDimension at A k → ArePolygons at A k ps → ArePolygons at A k qs → ps ≡ qs
+one_polygon_list at A k ps qs d (inl (e, a)) (inl (f, b)) = one_face_list at A ps qs a b
+one_polygon_list at A k ps qs d (inr (inl (e, a))) (inr (inl (f, b))) = one_of_one (IsFlatFace at A) (one_flat_face at A (flat_of at A k e d)) ps qs a b
+one_polygon_list at A k ps qs d (inr (inr (inl (e, a)))) (inr (inr (inl (f, b)))) = one_of_one (IsSegmentFace at A) (one_segment_face at A) ps qs a b
+one_polygon_list at A k ps qs d (inr (inr (inr (e, a)))) (inr (inr (inr (f, b)))) = one_of_one (IsPointFace A) (one_point_face A (alone_of at A k e d)) ps qs a b
+one_polygon_list at A k ps qs d (inl (e, a)) (inr (inl (f, b))) = absurd (omega arith)
+one_polygon_list at A k ps qs d (inl (e, a)) (inr (inr (inl (f, b)))) = absurd (omega arith)
+one_polygon_list at A k ps qs d (inl (e, a)) (inr (inr (inr (f, b)))) = absurd (omega arith)
+one_polygon_list at A k ps qs d (inr (inl (e, a))) (inl (f, b)) = absurd (omega arith)
+one_polygon_list at A k ps qs d (inr (inl (e, a))) (inr (inr (inl (f, b)))) = absurd (omega arith)
+one_polygon_list at A k ps qs d (inr (inl (e, a))) (inr (inr (inr (f, b)))) = absurd (omega arith)
+one_polygon_list at A k ps qs d (inr (inr (inl (e, a)))) (inl (f, b)) = absurd (omega arith)
+one_polygon_list at A k ps qs d (inr (inr (inl (e, a)))) (inr (inl (f, b))) = absurd (omega arith)
+one_polygon_list at A k ps qs d (inr (inr (inl (e, a)))) (inr (inr (inr (f, b)))) = absurd (omega arith)
+one_polygon_list at A k ps qs d (inr (inr (inr (e, a)))) (inl (f, b)) = absurd (omega arith)
+one_polygon_list at A k ps qs d (inr (inr (inr (e, a)))) (inr (inl (f, b))) = absurd (omega arith)
+one_polygon_list at A k ps qs d (inr (inr (inr (e, a)))) (inr (inr (inl (f, b)))) = absurd (omega arith)
+
+pub polygons_are_unique : PolygonsAreUnique
+polygons_are_unique at ids k ps qs d a b = one_polygon_list at (Members ids) k ps qs d a b

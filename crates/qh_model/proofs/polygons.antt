@@ -1,0 +1,3 @@
+-- Polygons: one list for each set and direction.
+pub mod Unique
+pub mod Direction

@@ -1,0 +1,72 @@
+-- One list alone goes round a set and begins with its least id.
+use Rattle.std.proofs.Common.{◌≡◌, ◌≢◌, ℕ, refl, List, [], ◌∷◌, arith, sym, subst, inl, inr, ⊎_elim}
+use Rattle.std.proofs.lemmas.Int.{ints}
+use native.Mathlib.Decide.{ℕ_discrete}
+use Rattle.std.specs.Prelude.{ℤ, pos, neg_ℤ, ◌<ℤ◌, ◌↔◌}
+use Rattle.qh_model.specs.Vector.{Vector}
+use Rattle.qh_model.specs.Predicates.{left}
+use Rattle.qh_model.specs.Sets.{In, Once, BeginsWithLeast, Members}
+use Rattle.qh_model.specs.Polygon.{AlongPath, TurnsLeft, IsPolygon}
+use Rattle.qh_model.specs.PolygonLaws.{PolygonIsUnique}
+use Rattle.qh_model.proofs.algebra.VectorIdentities.{left-flip}
+
+-- two opposite turns are not both to the left
+both_positive : (x y : ℤ) → x ≡ neg_ℤ y → pos 0 <ℤ x → pos 0 <ℤ y → ⊥
+both_positive x y e h k = omega (arith, ints)
+
+-- the rests of two walks from u on
+follow : (n : Vector) (at : ℕ → Vector) (q p : List ℕ) → ((x : ℕ) → In x q ↔ In x p) → (u : ℕ) (r s : List ℕ) (e : ℕ)
+    → ((x : ℕ) → In x (u ∷ r) → In x q) → ((x : ℕ) → In x (u ∷ s) → In x p) → ((x : ℕ) → In x (u ∷ r) ↔ In x (u ∷ s))
+    → Once (u ∷ r) → Once (u ∷ s) → AlongPath (TurnsLeft at n q) u r e → AlongPath (TurnsLeft at n p) u s e → r ≡ s
+follow n at q p m u [] [] e f g i o k a b = refl
+follow n at q p m u [] (w ∷ s) e f g i o k a b = absurd (⊎_elim (λ d. k.0 (inl (sym d))) (λ d. d) ((i w).1 (inr (inl refl))))
+follow n at q p m u (v ∷ r) [] e f g i o k a b = absurd (⊎_elim (λ d. o.0 (inl (sym d))) (λ d. d) ((i v).0 (inr (inl refl))))
+follow n at q p m u (v ∷ r) (w ∷ s) e f g i o k a b = go (λ f' g' i' k' b'. follow n at q p m v r s e f' g' i' o.1 k' a.1 b') (ℕ_discrete v w)
+  where
+    v_u : v ≢ u
+    v_u d = o.0 (inl (sym d))
+
+    w_u : w ≢ u
+    w_u d = k.0 (inl (sym d))
+
+    forth : (x : ℕ) → In x (v ∷ r) → In x (w ∷ s)
+    forth x j = ⊎_elim (λ d. absurd (o.0 (subst (λ t. In t (v ∷ r)) d j))) (λ l. l) ((i x).0 (inr j))
+
+    back : (x : ℕ) → In x (w ∷ s) → In x (v ∷ r)
+    back x j = ⊎_elim (λ d. absurd (k.0 (subst (λ t. In t (w ∷ s)) d j))) (λ l. l) ((i x).1 (inr j))
+
+    tails : ((f : (x : ℕ) → In x (v ∷ r) → In x q) → ((x : ℕ) → In x (v ∷ s) → In x p) → ((x : ℕ) → In x (v ∷ r) ↔ In x (v ∷ s)) → Once (v ∷ s) → AlongPath (TurnsLeft at n p) v s e → r ≡ s) → (w ≡ v) → r ≡ s
+    tails more d =
+        more (λ x j. f x (inr j)) (λ x j. g x (inr (subst (λ t. In x (t ∷ s)) (sym d) j)))
+        (λ x. (λ j. subst (λ t. In x (t ∷ s)) d (forth x j), λ j. back x (subst (λ t. In x (t ∷ s)) (sym d) j))) (subst (λ t. Once (t ∷ s)) d k.1) (subst (λ t. AlongPath (TurnsLeft at n p) t s e) d b.1)
+
+    go : (((x : ℕ) → In x (v ∷ r) → In x q) → ((x : ℕ) → In x (v ∷ s) → In x p) → ((x : ℕ) → In x (v ∷ r) ↔ In x (v ∷ s)) → Once (v ∷ s) → AlongPath (TurnsLeft at n p) v s e → r ≡ s) → Dec (v ≡ w) → (v ∷ r) ≡ (w ∷ s)
+    go more (yes d) = let t : r ≡ s = tails more (sym d) in cc
+    go more (no ne) =
+        absurd (both_positive (left n (at u) (at v) (at w)) (left n (at u) (at w) (at v)) (left-flip n (at u) (at v) (at w))
+        (a.0 w ((m w).1 (g w (inr (inl refl)))) w_u (λ d. ne (sym d))) (b.0 v ((m v).0 (f v (inr (inl refl)))) v_u ne))
+
+-- heads that are least in lists with the same members are one
+heads : (u v : ℕ) (us vs : List ℕ) → BeginsWithLeast (u ∷ us) → BeginsWithLeast (v ∷ vs) → In v (u ∷ us) → In u (v ∷ vs) → u ≡ v
+heads u v us vs f g (inl e) j = sym e
+heads u v us vs f g (inr i) (inl e) = e
+heads u v us vs f g (inr i) (inr j) = let x = f v i in let y = g u j in omega arith
+
+-- a set and a normal have one polygon
+pub one_polygon : (at : ℕ → Vector) (X : ℕ → Type 0) (n : Vector) (p q : List ℕ) → IsPolygon at X n p → IsPolygon at X n q → p ≡ q
+one_polygon at X n [] [] a b = refl
+one_polygon at X n [] (v ∷ q) a b = absurd ((a.members v).1 ((b.members v).0 (inl refl)))
+one_polygon at X n (u ∷ p) [] a b = absurd ((b.members u).1 ((a.members u).0 (inl refl)))
+one_polygon at X n (u ∷ p) (v ∷ q) a b = finish (heads u v p q a.least b.least ((m v).1 (inl refl)) ((m u).0 (inl refl)))
+  where
+    m : (x : ℕ) → In x (u ∷ p) ↔ In x (v ∷ q)
+    m x = (λ i. (b.members x).1 ((a.members x).0 i), λ i. (a.members x).1 ((b.members x).0 i))
+
+    finish : u ≡ v → (u ∷ p) ≡ (v ∷ q)
+    finish e =
+        let t : p ≡ q = follow n at (u ∷ p) (v ∷ q) m u p q u (λ x i. i) (λ x i. subst (λ t. In x (t ∷ q)) e i)
+        (λ x. (λ i. subst (λ t. In x (t ∷ q)) (sym e) ((m x).0 i), λ i. (m x).1 (subst (λ t. In x (t ∷ q)) e i))) a.once (subst (λ t. Once (t ∷ q)) (sym e) b.once) a.round (subst (λ t. AlongPath (TurnsLeft at n (v ∷ q)) t q t) (sym e) b.round) in
+        cc
+
+pub polygon_is_unique : PolygonIsUnique
+polygon_is_unique at ids n p q a b = one_polygon at (Members ids) n p q a b

@@ -1,0 +1,20 @@
+-- Surfaces of facets: determinants of weighted points, what sees a point, the horizon, the step, and what is covered.
+pub mod Determinants
+pub mod PlanesThroughLine
+pub mod CramersRule
+pub mod VisibleFacets
+pub mod Facets
+pub mod DrawnInwards
+pub mod Connected
+pub mod Cone
+pub mod KeptSound
+pub mod Unseen
+pub mod SimplexBoundary
+pub mod Located
+pub mod Horizon
+pub mod Rewired
+pub mod CoveredPlanes
+pub mod SurfaceLaws
+pub mod Simplex
+pub mod Combinations
+pub mod Stored

@@ -1,0 +1,235 @@
+-- The surface of a simplex.
+use Rattle.qh_model.specs.Weighted.{Weighted, above, middle_of, weighted_dot, plane_of}
+use Rattle.qh_model.specs.Sets.{In}
+use Rattle.qh_model.specs.Surface.{Side, IsWhole, HasTwin, IsCorner, rise}
+use Rattle.qh_model.specs.SoundSurface.{IsInner}
+use Rattle.qh_model.specs.Simplex.{IsSimplexBoundary, one_of, simplex_surface}
+use Rattle.qh_model.specs.SurfaceLaws.{SimplexIsSound, MiddleIsBelow}
+use Rattle.qh_model.specs.Surface.Side.{first, second, third}
+use Rattle.std.proofs.Common.{◌∙◌, ◌≡◌, ℕ, refl, sym, subst, arith, ap, [], ◌∷◌, ◌⊎◌, inl, inr}
+use Rattle.std.proofs.lemmas.Int.{ints, by_lt_z}
+use Rattle.std.specs.Prelude.{ℤ, pos, ◌+ℤ◌, ◌*ℤ◌, ◌<ℤ◌, ◌≤ℤ◌}
+use Rattle.qh_model.proofs.algebra.Ring.{ring}
+use Rattle.qh_model.proofs.algebra.Ring.Expr.{add}
+use Rattle.qh_model.proofs.surfaces.Determinants.{quad, QE, aboveE, put4, above-first, above-second, above-third}
+use Rattle.qh_model.proofs.surfaces.Facets.{rise_own, plane-is}
+use Rattle.qh_model.proofs.surfaces.CramersRule.{cramer}
+use Rattle.qh_model.proofs.algebra.Order.{zero_product}
+use Rattle.qh_model.proofs.surfaces.SimplexBoundary.{simplex_boundary_sound}
+
+four : (P : ℕ → Type 0) → P 0 → P 1 → P 2 → P 3 → (f : ℕ) → In f (0 ∷ 1 ∷ 2 ∷ 3 ∷ []) → P f
+four P p q r s f (inl e) = subst P (sym e) p
+four P p q r s f (inr (inl e)) = subst P (sym e) q
+four P p q r s f (inr (inr (inl e))) = subst P (sym e) r
+four P p q r s f (inr (inr (inr (inl e)))) = subst P (sym e) s
+four P p q r s f (inr (inr (inr (inr x)))) = absurd x
+
+twins0 : (a b c d : ℕ) (s : Side) → HasTwin (simplex_surface a b c d) 0 s
+twins0 a b c d first = record { live = inr (inl refl); start_is = refl; end_is = refl; returns = refl }
+twins0 a b c d second = record { live = inr (inr (inr (inl refl))); start_is = refl; end_is = refl; returns = refl }
+twins0 a b c d third = record { live = inr (inr (inl refl)); start_is = refl; end_is = refl; returns = refl }
+
+twins1 : (a b c d : ℕ) (s : Side) → HasTwin (simplex_surface a b c d) 1 s
+twins1 a b c d first = record { live = inr (inr (inl refl)); start_is = refl; end_is = refl; returns = refl }
+twins1 a b c d second = record { live = inr (inr (inr (inl refl))); start_is = refl; end_is = refl; returns = refl }
+twins1 a b c d third = record { live = inl refl; start_is = refl; end_is = refl; returns = refl }
+
+twins2 : (a b c d : ℕ) (s : Side) → HasTwin (simplex_surface a b c d) 2 s
+twins2 a b c d first = record { live = inl refl; start_is = refl; end_is = refl; returns = refl }
+twins2 a b c d second = record { live = inr (inr (inr (inl refl))); start_is = refl; end_is = refl; returns = refl }
+twins2 a b c d third = record { live = inr (inl refl); start_is = refl; end_is = refl; returns = refl }
+
+twins3 : (a b c d : ℕ) (s : Side) → HasTwin (simplex_surface a b c d) 3 s
+twins3 a b c d first = record { live = inr (inl refl); start_is = refl; end_is = refl; returns = refl }
+twins3 a b c d second = record { live = inr (inr (inl refl)); start_is = refl; end_is = refl; returns = refl }
+twins3 a b c d third = record { live = inl refl; start_is = refl; end_is = refl; returns = refl }
+
+whole : (a b c d : ℕ) → IsWhole (simplex_surface a b c d)
+whole a b c d = four (λ f. (s : Side) → HasTwin (simplex_surface a b c d) f s) (twins0 a b c d) (twins1 a b c d) (twins2 a b c d) (twins3 a b c d)
+
+adb : (a b c d : Weighted) → above a d b c ≡ above a b c d
+unfolding above
+adb a b c d = ring (put4 a (put4 b (put4 c (put4 d [])))) (aboveE (quad 0) (quad 3) (quad 1) (quad 2)) (aboveE (quad 0) (quad 1) (quad 2) (quad 3)) refl
+
+acd : (a b c d : Weighted) → above a c d b ≡ above a b c d
+unfolding above
+acd a b c d = ring (put4 a (put4 b (put4 c (put4 d [])))) (aboveE (quad 0) (quad 2) (quad 3) (quad 1)) (aboveE (quad 0) (quad 1) (quad 2) (quad 3)) refl
+
+bdc : (a b c d : Weighted) → above b d c a ≡ above a b c d
+unfolding above
+bdc a b c d = ring (put4 a (put4 b (put4 c (put4 d [])))) (aboveE (quad 1) (quad 3) (quad 2) (quad 0)) (aboveE (quad 0) (quad 1) (quad 2) (quad 3)) refl
+
+above-together : (p q r a b c d : Weighted) → above p q r (middle_of a b c d) ≡ above p q r a +ℤ above p q r b +ℤ above p q r c +ℤ above p q r d
+unfolding above
+above-together p q r a b c d =
+    ring (put4 p (put4 q (put4 r (put4 a (put4 b (put4 c (put4 d [])))))))
+    (
+    let sum : (QE → Rattle.qh_model.proofs.algebra.Ring.Expr) → Rattle.qh_model.proofs.algebra.Ring.Expr = λ i. add (add (add (i (quad 3)) (i (quad 4))) (i (quad 5))) (i (quad 6)) in
+    aboveE (quad 0) (quad 1) (quad 2) (record { w = sum (λ e. e.w); x = sum (λ e. e.x); y = sum (λ e. e.y); z = sum (λ e. e.z) }))
+    (add (add (add (aboveE (quad 0) (quad 1) (quad 2) (quad 3)) (aboveE (quad 0) (quad 1) (quad 2) (quad 4))) (aboveE (quad 0) (quad 1) (quad 2) (quad 5))) (aboveE (quad 0) (quad 1) (quad 2) (quad 6))) refl
+
+lt_as : (x y : ℤ) → x ≡ y → y <ℤ pos 0 → x <ℤ pos 0
+lt_as x y e h = omega (arith, ints)
+
+sum_lt : (s a b c d v : ℤ) → s ≡ a +ℤ b +ℤ c +ℤ d → a ≡ pos 0 → b ≡ pos 0 → c ≡ pos 0 → d ≡ v → v <ℤ pos 0 → s <ℤ pos 0
+sum_lt s a b c d v e ha hb hc hd h = omega (arith, ints)
+
+order1 : (s a b c d : ℤ) → s ≡ a +ℤ b +ℤ c +ℤ d → s ≡ a +ℤ d +ℤ b +ℤ c
+order1 s a b c d e = omega (arith, ints)
+
+order2 : (s a b c d : ℤ) → s ≡ a +ℤ b +ℤ c +ℤ d → s ≡ a +ℤ c +ℤ d +ℤ b
+order2 s a b c d e = omega (arith, ints)
+
+order3 : (s a b c d : ℤ) → s ≡ a +ℤ b +ℤ c +ℤ d → s ≡ b +ℤ d +ℤ c +ℤ a
+order3 s a b c d e = omega (arith, ints)
+
+inside : (home : ℕ → Weighted) (a b c d : ℕ) → above (home a) (home b) (home c) (home d) <ℤ pos 0 → IsInner (simplex_surface a b c d) home (middle_of (home a) (home b) (home c) (home d))
+inside home a b c d h =
+    four (λ f. rise (simplex_surface a b c d) home f (middle_of A B C D) <ℤ pos 0)
+    (sum_lt (above A B C (middle_of A B C D)) (above A B C A) (above A B C B) (above A B C C) (above A B C D) (above A B C D) (above-together A B C A B C D) (above-first A B C) (above-second A B C) (above-third A B C) refl h)
+    (sum_lt (above A D B (middle_of A B C D)) (above A D B A) (above A D B D) (above A D B B) (above A D B C) (above A B C D) (order1 _ (above A D B A) (above A D B B) (above A D B C) (above A D B D) (above-together A D B A B C D)) (above-first A D B) (above-second A D B) (above-third A D B) (adb A B C D) h)
+    (sum_lt (above A C D (middle_of A B C D)) (above A C D A) (above A C D C) (above A C D D) (above A C D B) (above A B C D) (order2 _ (above A C D A) (above A C D B) (above A C D C) (above A C D D) (above-together A C D A B C D)) (above-first A C D) (above-second A C D) (above-third A C D) (acd A B C D) h)
+    (sum_lt (above B D C (middle_of A B C D)) (above B D C B) (above B D C D) (above B D C C) (above B D C A) (above A B C D) (order3 _ (above B D C A) (above B D C B) (above B D C C) (above B D C D) (above-together B D C A B C D)) (above-first B D C) (above-second B D C) (above-third B D C) (bdc A B C D) h)
+  where
+    A : Weighted
+    A = home a
+
+    B : Weighted
+    B = home b
+
+    C : Weighted
+    C = home c
+
+    D : Weighted
+    D = home d
+
+abbrev missing : (a b c d : ℕ) → ℕ → ℕ
+missing a b c d = one_of d c b a
+
+abbrev Ids : (a b c d l : ℕ) → Type 0
+Ids a b c d l = (l ≡ a) ⊎ (l ≡ b) ⊎ (l ≡ c) ⊎ (l ≡ d)
+
+ids0 : (a b c d l : ℕ) → IsCorner (simplex_surface a b c d) 0 l → Ids a b c d l
+ids0 a b c d l (inl e) = inl e
+ids0 a b c d l (inr (inl e)) = inr (inl e)
+ids0 a b c d l (inr (inr e)) = inr (inr (inl e))
+
+ids1 : (a b c d l : ℕ) → IsCorner (simplex_surface a b c d) 1 l → Ids a b c d l
+ids1 a b c d l (inl e) = inl e
+ids1 a b c d l (inr (inl e)) = inr (inr (inr e))
+ids1 a b c d l (inr (inr e)) = inr (inl e)
+
+ids2 : (a b c d l : ℕ) → IsCorner (simplex_surface a b c d) 2 l → Ids a b c d l
+ids2 a b c d l (inl e) = inl e
+ids2 a b c d l (inr (inl e)) = inr (inr (inl e))
+ids2 a b c d l (inr (inr e)) = inr (inr (inr e))
+
+ids3 : (a b c d l : ℕ) → IsCorner (simplex_surface a b c d) 3 l → Ids a b c d l
+ids3 a b c d l (inl e) = inr (inl e)
+ids3 a b c d l (inr (inl e)) = inr (inr (inr e))
+ids3 a b c d l (inr (inr e)) = inr (inr (inl e))
+
+place0 : (a b c d l : ℕ) → Ids a b c d l → IsCorner (simplex_surface a b c d) 0 l ⊎ (l ≡ missing a b c d 0)
+place0 a b c d l (inl e) = inl (inl e)
+place0 a b c d l (inr (inl e)) = inl (inr (inl e))
+place0 a b c d l (inr (inr (inl e))) = inl (inr (inr e))
+place0 a b c d l (inr (inr (inr e))) = inr e
+
+place1 : (a b c d l : ℕ) → Ids a b c d l → IsCorner (simplex_surface a b c d) 1 l ⊎ (l ≡ missing a b c d 1)
+place1 a b c d l (inl e) = inl (inl e)
+place1 a b c d l (inr (inl e)) = inl (inr (inr e))
+place1 a b c d l (inr (inr (inl e))) = inr e
+place1 a b c d l (inr (inr (inr e))) = inl (inr (inl e))
+
+place2 : (a b c d l : ℕ) → Ids a b c d l → IsCorner (simplex_surface a b c d) 2 l ⊎ (l ≡ missing a b c d 2)
+place2 a b c d l (inl e) = inl (inl e)
+place2 a b c d l (inr (inl e)) = inr e
+place2 a b c d l (inr (inr (inl e))) = inl (inr (inl e))
+place2 a b c d l (inr (inr (inr e))) = inl (inr (inr e))
+
+place3 : (a b c d l : ℕ) → Ids a b c d l → IsCorner (simplex_surface a b c d) 3 l ⊎ (l ≡ missing a b c d 3)
+place3 a b c d l (inl e) = inr e
+place3 a b c d l (inr (inl e)) = inl (inl e)
+place3 a b c d l (inr (inr (inl e))) = inl (inr (inr e))
+place3 a b c d l (inr (inr (inr e))) = inl (inr (inl e))
+
+other0 : (a b c d g : ℕ) → In g (0 ∷ 1 ∷ 2 ∷ 3 ∷ []) → (0 ≡ g) ⊎ IsCorner (simplex_surface a b c d) 0 (missing a b c d g)
+other0 a b c d = four (λ g. (0 ≡ g) ⊎ IsCorner (simplex_surface a b c d) 0 (missing a b c d g)) (inl refl) (inr (inr (inr refl))) (inr (inr (inl refl))) (inr (inl refl))
+
+other1 : (a b c d g : ℕ) → In g (0 ∷ 1 ∷ 2 ∷ 3 ∷ []) → (1 ≡ g) ⊎ IsCorner (simplex_surface a b c d) 1 (missing a b c d g)
+other1 a b c d = four (λ g. (1 ≡ g) ⊎ IsCorner (simplex_surface a b c d) 1 (missing a b c d g)) (inr (inr (inl refl))) (inl refl) (inr (inr (inr refl))) (inr (inl refl))
+
+other2 : (a b c d g : ℕ) → In g (0 ∷ 1 ∷ 2 ∷ 3 ∷ []) → (2 ≡ g) ⊎ IsCorner (simplex_surface a b c d) 2 (missing a b c d g)
+other2 a b c d = four (λ g. (2 ≡ g) ⊎ IsCorner (simplex_surface a b c d) 2 (missing a b c d g)) (inr (inr (inr refl))) (inr (inr (inl refl))) (inl refl) (inr (inl refl))
+
+other3 : (a b c d g : ℕ) → In g (0 ∷ 1 ∷ 2 ∷ 3 ∷ []) → (3 ≡ g) ⊎ IsCorner (simplex_surface a b c d) 3 (missing a b c d g)
+other3 a b c d = four (λ g. (3 ≡ g) ⊎ IsCorner (simplex_surface a b c d) 3 (missing a b c d g)) (inr (inr (inl refl))) (inr (inr (inr refl))) (inr (inl refl)) (inl refl)
+
+fresh : (home : ℕ → Weighted) (a b c d : ℕ) → above (home a) (home b) (home c) (home d) <ℤ pos 0 → IsSimplexBoundary (simplex_surface a b c d) home
+fresh home a b c d h =
+    record {
+      missing = missing a b c d;
+      covers = λ f g i j l k. place f i l (ids g j l k);
+      known = λ f g i j. turned f g (other f i g j);
+      below = below;
+      once = λ f g i j e. one f g i e (other f i g j);
+    }
+  where
+    ids : (g : ℕ) → In g (0 ∷ 1 ∷ 2 ∷ 3 ∷ []) → (l : ℕ) → IsCorner (simplex_surface a b c d) g l → Ids a b c d l
+    ids = four (λ g. (l : ℕ) → IsCorner (simplex_surface a b c d) g l → Ids a b c d l) (ids0 a b c d) (ids1 a b c d) (ids2 a b c d) (ids3 a b c d)
+
+    place : (f : ℕ) → In f (0 ∷ 1 ∷ 2 ∷ 3 ∷ []) → (l : ℕ) → Ids a b c d l → IsCorner (simplex_surface a b c d) f l ⊎ (l ≡ missing a b c d f)
+    place = four (λ f. (l : ℕ) → Ids a b c d l → IsCorner (simplex_surface a b c d) f l ⊎ (l ≡ missing a b c d f)) (place0 a b c d) (place1 a b c d) (place2 a b c d) (place3 a b c d)
+
+    other : (f : ℕ) → In f (0 ∷ 1 ∷ 2 ∷ 3 ∷ []) → (g : ℕ) → In g (0 ∷ 1 ∷ 2 ∷ 3 ∷ []) → (f ≡ g) ⊎ IsCorner (simplex_surface a b c d) f (missing a b c d g)
+    other = four (λ f. (g : ℕ) → In g (0 ∷ 1 ∷ 2 ∷ 3 ∷ []) → (f ≡ g) ⊎ IsCorner (simplex_surface a b c d) f (missing a b c d g)) (other0 a b c d) (other1 a b c d) (other2 a b c d) (other3 a b c d)
+
+    turned : (f g : ℕ) → (f ≡ g) ⊎ IsCorner (simplex_surface a b c d) f (missing a b c d g) → IsCorner (simplex_surface a b c d) f (missing a b c d g) ⊎ (missing a b c d g ≡ missing a b c d f)
+    turned f g (inl e) = inr (ap (missing a b c d) (sym e))
+    turned f g (inr k) = inl k
+
+    below : (f : ℕ) → In f (0 ∷ 1 ∷ 2 ∷ 3 ∷ []) → rise (simplex_surface a b c d) home f (home (missing a b c d f)) <ℤ pos 0
+    below =
+        four (λ f. rise (simplex_surface a b c d) home f (home (missing a b c d f)) <ℤ pos 0) h
+        (lt_as _ (above (home a) (home b) (home c) (home d)) (adb (home a) (home b) (home c) (home d)) h)
+        (lt_as _ (above (home a) (home b) (home c) (home d)) (acd (home a) (home b) (home c) (home d)) h)
+        (lt_as _ (above (home a) (home b) (home c) (home d)) (bdc (home a) (home b) (home c) (home d)) h)
+
+    no : (x y : ℤ) → x ≡ y → x <ℤ pos 0 → y ≡ pos 0 → ⊥
+    no x y e h z = omega (arith, ints)
+
+    one : (f g : ℕ) → In f (0 ∷ 1 ∷ 2 ∷ 3 ∷ []) → missing a b c d f ≡ missing a b c d g → (f ≡ g) ⊎ IsCorner (simplex_surface a b c d) f (missing a b c d g) → f ≡ g
+    one f g i e (inl q) = q
+    one f g i e (inr k) = absurd (no (rise (simplex_surface a b c d) home f (home (missing a b c d f))) (rise (simplex_surface a b c d) home f (home (missing a b c d g))) (ap (λ t. rise (simplex_surface a b c d) home f (home t)) e) (below f i) (rise_own (simplex_surface a b c d) home f (missing a b c d g) k))
+
+pub simplex_sound : SimplexIsSound
+simplex_sound home a b c d h = (whole a b c d, simplex_boundary_sound (simplex_surface a b c d) home (middle_of (home a) (home b) (home c) (home d)) (inside home a b c d h) (fresh home a b c d h))
+
+pub middle_is_below : MiddleIsBelow
+middle_is_below a b c s t u v p h hs ht hu hv off = by_lt_z (above a b c (middle_of s t u v)) (pos 0) (λ q. q) (λ q. absurd (never (zeros (above a b c (middle_of s t u v)) (above a b c s) (above a b c t) (above a b c u) (above a b c v) (above-together a b c s t u v) q hs ht hu hv)))
+  where
+    zeros : (x a b c d : ℤ) → x ≡ a +ℤ b +ℤ c +ℤ d → pos 0 ≤ℤ x → a ≤ℤ pos 0 → b ≤ℤ pos 0 → c ≤ℤ pos 0 → d ≤ℤ pos 0 → (a ≡ pos 0) × (b ≡ pos 0) × (c ≡ pos 0) × (d ≡ pos 0)
+    zeros x a b c d e h ha hb hc hd = (omega (arith, ints), omega (arith, ints), omega (arith, ints), omega (arith, ints))
+
+    times_zero : (d x : ℤ) → x ≡ pos 0 → d *ℤ x ≡ pos 0
+    times_zero d x e = ap (λ v. d *ℤ v) e ∙ zero d
+      where
+        zero : (d : ℤ) → d *ℤ pos 0 ≡ pos 0
+        zero d = omega (arith, ints)
+
+    total : (l a b c d : ℤ) → l ≡ a +ℤ b +ℤ c +ℤ d → a ≡ pos 0 → b ≡ pos 0 → c ≡ pos 0 → d ≡ pos 0 → l ≡ pos 0
+    total l a b c d e ha hb hc hd = omega (arith, ints)
+
+    below : (x : ℤ) → x <ℤ pos 0 → x ≡ pos 0 → ⊥
+    below x h e = omega (arith, ints)
+
+    on : (y : Weighted) → above a b c y ≡ pos 0 → weighted_dot (plane_of a b c) y ≡ pos 0
+    on y e = plane-is a b c y ∙ e
+
+    never : (above a b c s ≡ pos 0) × (above a b c t ≡ pos 0) × (above a b c u ≡ pos 0) × (above a b c v ≡ pos 0) → ⊥
+    never z = pick (zero_product (above s t u v) (weighted_dot (plane_of a b c) p) (total (above s t u v *ℤ weighted_dot (plane_of a b c) p) (above p t u v *ℤ weighted_dot (plane_of a b c) s) (above s p u v *ℤ weighted_dot (plane_of a b c) t) (above s t p v *ℤ weighted_dot (plane_of a b c) u) (above s t u p *ℤ weighted_dot (plane_of a b c) v) (cramer (plane_of a b c) s t u v p)
+        (times_zero (above p t u v) (weighted_dot (plane_of a b c) s) (on s z.0)) (times_zero (above s p u v) (weighted_dot (plane_of a b c) t) (on t z.1)) (times_zero (above s t p v) (weighted_dot (plane_of a b c) u) (on u z.2)) (times_zero (above s t u p) (weighted_dot (plane_of a b c) v) (on v z.3))))
+      where
+        pick : (above s t u v ≡ pos 0) ⊎ (weighted_dot (plane_of a b c) p ≡ pos 0) → ⊥
+        pick (inl e) = below (above s t u v) h e
+        pick (inr e) = off (sym (plane-is a b c p) ∙ e)

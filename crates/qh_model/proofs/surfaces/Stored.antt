@@ -1,0 +1,52 @@
+-- The live facets of a stored surface.
+use Rattle.qh_model.specs.Sets.{In}
+use Rattle.qh_model.specs.StoredSurface.{StoredFacet, facet_at, live_from, LiveIsMarked}
+use Rattle.std.proofs.Common.{◌≡◌, ℕ, zero, suc, ◌+◌, refl, sym, ◌∙◌, subst, arith, List, [], ◌∷◌, inl, inr, Bool, true, false, cond}
+
+never : (b : Bool) → b ≡ false → b ≡ true → ⊥
+never b e f = cc
+
+marked_step : (n : ℕ) (f : StoredFacet) (fs : List StoredFacet) (g : ℕ) → (In g (live_from (n + 1) fs) → (k : ℕ) × (g ≡ n + 1 + k) × ((facet_at fs k).live ≡ true)) → In g (live_from n (f ∷ fs)) → (k : ℕ) × (g ≡ n + k) × ((facet_at (f ∷ fs) k).live ≡ true)
+marked_step n f fs g low i = split f.live refl i
+  where
+    later : ((k : ℕ) × (g ≡ n + 1 + k) × ((facet_at fs k).live ≡ true)) → (k : ℕ) × (g ≡ n + k) × ((facet_at (f ∷ fs) k).live ≡ true)
+    later (k, e, q) = (suc k, e ∙ shift n k, q)
+      where
+        shift : (n k : ℕ) → n + 1 + k ≡ n + suc k
+        shift n k = omega arith
+
+    split : (b : Bool) → f.live ≡ b → In g (cond b (n ∷ live_from (n + 1) fs) (live_from (n + 1) fs)) → (k : ℕ) × (g ≡ n + k) × ((facet_at (f ∷ fs) k).live ≡ true)
+    split true e (inl q) = (zero, q ∙ none n, e)
+      where
+        none : (n : ℕ) → n ≡ n + zero
+        none n = omega arith
+    split true e (inr j) = later (low j)
+    split false e j = later (low j)
+
+marked_of : (n : ℕ) (fs : List StoredFacet) (g : ℕ) → In g (live_from n fs) → (k : ℕ) × (g ≡ n + k) × ((facet_at fs k).live ≡ true)
+marked_of n [] g i = absurd i
+marked_of n (f ∷ fs) g i = marked_step n f fs g (marked_of (n + 1) fs g) i
+
+live_of : (n : ℕ) (fs : List StoredFacet) (k : ℕ) → (facet_at fs k).live ≡ true → In (n + k) (live_from n fs)
+live_of n [] k e = absurd (never false refl e)
+live_of n (f ∷ fs) zero e = subst (λ b. In (n + zero) (cond b (n ∷ live_from (n + 1) fs) (live_from (n + 1) fs))) (sym e) (inl (none n))
+  where
+    none : (n : ℕ) → n + zero ≡ n
+    none n = omega arith
+live_of n (f ∷ fs) (suc k) e = step f.live (subst (λ g. In g (live_from (n + 1) fs)) (shift n k) (live_of (n + 1) fs k e))
+  where
+    shift : (n k : ℕ) → n + 1 + k ≡ n + suc k
+    shift n k = omega arith
+
+    step : (b : Bool) → In (n + suc k) (live_from (n + 1) fs) → In (n + suc k) (cond b (n ∷ live_from (n + 1) fs) (live_from (n + 1) fs))
+    step true j = inr j
+    step false j = j
+
+none_before : (k : ℕ) → 0 + k ≡ k
+none_before k = omega arith
+
+pub live_is_marked : LiveIsMarked
+live_is_marked fs f = (λ i. to (marked_of 0 fs f i), λ e. subst (λ g. In g (live_from 0 fs)) (none_before f) (live_of 0 fs f e))
+  where
+    to : (k : ℕ) × (f ≡ 0 + k) × ((facet_at fs k).live ≡ true) → (facet_at fs f).live ≡ true
+    to (k, e, q) = subst (λ g. (facet_at fs g).live ≡ true) (sym (e ∙ none_before k)) q

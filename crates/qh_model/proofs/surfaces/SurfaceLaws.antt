@@ -1,0 +1,43 @@
+-- The laws, from their proofs.
+use Rattle.qh_model.specs.SurfaceLaws.{CornersAreSettled, AddedIsSettled, RiseIsVol, WalkFindsAll, SettledStayUnseen, HorizonGoesOn, HorizonIsKnown}
+use Rattle.qh_model.specs.Weighted.{above}
+use Rattle.qh_model.specs.Surface.{rise}
+use Rattle.std.proofs.Common.{refl, [], inl, inr}
+use Rattle.std.specs.Prelude.{pos}
+use Rattle.qh_model.specs.Predicates.{vol}
+use Rattle.qh_model.proofs.algebra.VectorIdentities.{vec, volE, put, VE}
+use Rattle.qh_model.proofs.algebra.Ring.{ring}
+use Rattle.qh_model.proofs.algebra.Ring.Expr.{con}
+use Rattle.qh_model.proofs.surfaces.Determinants.{QE, aboveE}
+use Rattle.qh_model.proofs.surfaces.Facets.{positive-is, positive-true}
+use Rattle.qh_model.proofs.surfaces.Connected.{connected, cert}
+use Rattle.qh_model.proofs.surfaces.Unseen.{settled_kept, apex_settled}
+use Rattle.qh_model.proofs.surfaces.Rewired.{replaced}
+use Rattle.qh_model.proofs.surfaces.Horizon.{edge_next, edge_prev, edge_known_by_start, edge_known_by_end}
+
+abbrev raiseE : VE → QE
+raiseE p = record { w = con (pos 1); x = p.x; y = p.y; z = p.z }
+
+pub rise_is_vol : RiseIsVol
+unfolding above vol
+rise_is_vol a b c p = ring (put a (put b (put c (put p [])))) (aboveE (raiseE (vec 0)) (raiseE (vec 1)) (raiseE (vec 2)) (raiseE (vec 3))) (volE (vec 0) (vec 1) (vec 2) (vec 3)) refl
+
+pub walk_finds_all : WalkFindsAll
+walk_finds_all m home o w z p c g f i k =
+    connected m home o w z p c (record { f0 = g.f0; live = g.live; sees_p = positive-true (rise m home g.f0 p) g.seen; has = g.has; grows = λ f i s a b. g.grows f i s a (positive-is (rise m home (m.over f s) p) b) }) f i k
+
+pub settled_stay_unseen : SettledStayUnseen
+settled_stay_unseen m m' home o p w z r y h f' i = settled_kept m m' home o p w z (replaced m m' home p r) y h f' i
+
+pub horizon_goes_on : HorizonGoesOn
+horizon_goes_on m home o w z p f s e = (edge_next m home o w z p f s e, edge_prev m home o w z p f s e)
+
+pub horizon_is_known : HorizonIsKnown
+horizon_is_known m home o w z p f g s t a b (inl e) = edge_known_by_start m home o w z p f g s t a b e
+horizon_is_known m home o w z p f g s t a b (inr e) = edge_known_by_end m home o w z p f g s t a b e
+
+pub corners_are_settled : CornersAreSettled
+corners_are_settled m home o z f g i j l c = cert m home o z.lifted f g i j l c
+
+pub added_is_settled : AddedIsSettled
+added_is_settled m m' home p r f' i = apex_settled m m' home p (replaced m m' home p r) f' i

@@ -1,0 +1,19 @@
+-- Laws of closed surfaces: their volume, and that they leave no plane open.
+use Rattle.std.specs.Prelude.{ℕ, ◌≡◌, List, [], ◌∷◌, pos, ◌<ℤ◌}
+use Rattle.qh_model.specs.Vector.{Vector, dot}
+use Rattle.qh_model.specs.Predicates.{vol}
+use Rattle.qh_model.specs.Sets.{In}
+use Rattle.qh_model.specs.ClosedSurface.{Triple, IsClosedSurface, signed_volume}
+
+-- the signed volume does not depend on the fourth point
+abbrev pub VolumeIsConstant : Type 0
+VolumeIsConstant = (at : ℕ → Vector) (ts : List Triple) → IsClosedSurface at ts → (p q : Vector) → signed_volume at ts p ≡ signed_volume at ts q
+
+-- i is a corner of some triangle
+abbrev pub IsCornerOf : List Triple → ℕ → Type 0
+IsCornerOf ts i = (t : Triple) × In t ts × In i (t.i ∷ t.j ∷ t.k ∷ [])
+
+-- no point is strictly below every triangle and strictly beyond all corners along a direction
+abbrev pub NoneBelowAndBeyond : Type 0
+NoneBelowAndBeyond = (at : ℕ → Vector) (ts : List Triple) → IsClosedSurface at ts → (w p : Vector)
+    → ((i : ℕ) → IsCornerOf ts i → dot w (at i) <ℤ dot w p) → ((t : Triple) → In t ts → vol (at t.i) (at t.j) (at t.k) p <ℤ pos 0) → ⊥

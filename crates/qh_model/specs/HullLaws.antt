@@ -1,0 +1,38 @@
+-- Laws of hulls: a set and its extreme ids have one hull, and each part of a hull is one value.
+use Rattle.std.specs.Prelude.{ℕ, ◌≡◌, ◌↔◌, List}
+use Rattle.std.specs.List.Sorted.{IsStrictlyIncreasing}
+use Rattle.qh_model.specs.Vector.{Vector}
+use Rattle.qh_model.specs.Sets.{In, Members}
+use Rattle.qh_model.specs.DistinctIds.{HasDistinctPoints, AreDistinctIds}
+use Rattle.qh_model.specs.Dimension.{IsDimension}
+use Rattle.qh_model.specs.Extreme.{Extreme}
+use Rattle.qh_model.specs.SupportingPlane.{IsSupportingTriple}
+use Rattle.qh_model.specs.Polygons.{ArePolygons, IsEdgeCount}
+
+-- a triple of extreme ids supports the extreme ids exactly if it supports the set
+abbrev pub TriplesOfExtremes : Type 0
+TriplesOfExtremes = (at : ℕ → Vector) (ids : List ℕ) → HasDistinctPoints at (Members ids)
+    → (i j k : ℕ) → Extreme at (Members ids) i → Extreme at (Members ids) j → Extreme at (Members ids) k
+    → IsSupportingTriple at (Extreme at (Members ids)) i j k ↔ IsSupportingTriple at (Members ids) i j k
+
+-- a set and its extreme ids have the same polygons, so the same edges
+abbrev pub PolygonsOfExtremes : Type 0
+PolygonsOfExtremes = (at : ℕ → Vector) (ids : List ℕ) (dim : ℕ) (qs : List (List ℕ)) → HasDistinctPoints at (Members ids) → IsDimension at (Members ids) dim
+    → ArePolygons at (Extreme at (Members ids)) dim qs ↔ ArePolygons at (Members ids) dim qs
+
+-- a set has one list of polygons
+abbrev pub PolygonsAreUnique : Type 0
+PolygonsAreUnique = (at : ℕ → Vector) (ids : List ℕ) (dim : ℕ) (ps qs : List (List ℕ)) → IsDimension at (Members ids) dim
+    → ArePolygons at (Members ids) dim ps → ArePolygons at (Members ids) dim qs → ps ≡ qs
+
+-- polygons have one number of edges
+abbrev pub EdgeCountIsUnique : Type 0
+EdgeCountIsUnique = (qs : List (List ℕ)) (m n : ℕ) → IsEdgeCount qs m → IsEdgeCount qs n → m ≡ n
+
+-- a set of ids has one rising list
+abbrev pub RisingListIsUnique : Type 0
+RisingListIsUnique = (xs ys : List ℕ) → IsStrictlyIncreasing xs → IsStrictlyIncreasing ys → ((i : ℕ) → In i xs ↔ In i ys) → xs ≡ ys
+
+-- a list of points has one list of distinct ids
+abbrev pub DistinctIdsAreUnique : Type 0
+DistinctIdsAreUnique = (pts : List Vector) (xs ys : List ℕ) → AreDistinctIds pts xs → AreDistinctIds pts ys → xs ≡ ys

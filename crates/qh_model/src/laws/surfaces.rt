@@ -1,0 +1,59 @@
+//! The laws of surfaces of facets, by which Quickhull's steps are right.
+ghost use Rattle.qh_model.specs.SurfaceLaws.{RiseIsVol, SimplexBoundaryIsSound, SimplexIsSound, MiddleIsBelow, WalkFindsAll, HorizonGoesOn, HorizonIsKnown, ReplaceKeeps, CornersAreSettled, AddedIsSettled, SettledStayUnseen, DroppedStayUnseen};
+ghost use Rattle.qh_model.specs.CoverageLaws.{NothingOutside, PlaneIsCovered, SettledIsCombination, LevelIsCombination};
+ghost use Rattle.qh_model.specs.StoredSurface.{LiveIsMarked};
+
+/// For points of space, a facet sees a point by the sign of their volume.
+pub fn rise_is_vol()
+    ensures { RiseIsVol }
+{}
+
+/// The four facets of a tetrahedron are a whole and sound surface around its middle, and that middle is
+/// strictly below each supporting plane. So Quickhull may begin with them.
+pub fn simplex_is_sound()
+    ensures boundary { SimplexBoundaryIsSound }
+    ensures simplex { SimplexIsSound }
+    ensures middle { MiddleIsBelow }
+{}
+
+/// A walk over twins, from one facet that sees a point, finds every facet that sees it. So no search
+/// through all facets is needed.
+pub fn walk_finds_all()
+    ensures { WalkFindsAll }
+{}
+
+/// At the end of each horizon side exactly one other starts, and at its start exactly one ends. So the
+/// twins of the cone can be found by a table of ids.
+pub fn horizon_goes_round()
+    ensures goes_on { HorizonGoesOn }
+    ensures known { HorizonIsKnown }
+{}
+
+/// Where a cone replaces the facets that see a point, the surface stays whole and sound.
+pub fn replace_keeps()
+    ensures { ReplaceKeeps }
+{}
+
+/// After that step no facet sees the point, a corner, or a point that no facet saw before; and a point
+/// that lost its facet and sees none of the cone is seen by none. So no point is tested twice.
+pub fn settled_stay_unseen()
+    ensures corners { CornersAreSettled }
+    ensures added { AddedIsSettled }
+    ensures settled { SettledStayUnseen }
+    ensures dropped { DroppedStayUnseen }
+{}
+
+/// A point that no facet sees is beyond no plane of the hull, lies in a live facet of each supporting
+/// plane that it is on, and is a convex combination of corners. So a surface that no point sees misses
+/// no supporting plane and no extreme point.
+pub fn surface_covers()
+    ensures nothing_outside { NothingOutside }
+    ensures plane { PlaneIsCovered }
+    ensures settled { SettledIsCombination }
+    ensures level { LevelIsCombination }
+{}
+
+/// The live facets of a stored surface are the places that are marked live.
+pub fn live_is_marked()
+    ensures { LiveIsMarked }
+{}
