@@ -6,5 +6,6 @@ pub mod surfaces
 pub mod closed_surfaces
 pub mod polygons
 pub mod hulls
+pub mod Members
 pub mod ReadingLaws
 pub mod Examples

@@ -32,3 +32,5 @@ pub mod PolygonLaws
 pub mod HullLaws
 pub mod ClosedSurface
 pub mod ClosedSurfaceLaws
+pub mod Hull
+pub mod Text

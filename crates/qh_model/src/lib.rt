@@ -6,8 +6,12 @@
 #![tactic(auto)]
 
 pub mod laws;
+mod hull;
 mod limits;
+mod memory;
 mod point;
 
+pub use hull::{Body, Hull, Polygon};
 pub use limits::{BYTE_LIMIT, COORDINATE_LIMIT, POINT_LIMIT};
-pub use point::{Id, Memory, Point};
+pub use memory::Memory;
+pub use point::{Id, Point};

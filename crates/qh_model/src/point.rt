@@ -2,7 +2,6 @@ ghost use Rattle.std.specs.Prelude.{◌≡◌};
 ghost use Rattle.qh_model.specs.Vector.{Vector};
 ghost use Rattle.qh_model.specs.Limits.{IsPlace};
 
-use std::alloc::{AllocError, AllocFailed};
 use std::marker::Model;
 
 /// A point of space with whole coordinates, each from -`COORDINATE_LIMIT` to `COORDINATE_LIMIT`.
@@ -100,21 +99,5 @@ impl Id {
         ensures { result ≡ self }
     {
         self.0 as usize
-    }
-}
-
-/// Memory was refused.
-#[derive(Clone, Copy, Debug, PartialEq, Eq)]
-pub struct Memory;
-
-impl From<AllocError> for Memory {
-    fn from(_error: AllocError) -> Memory {
-        Memory
-    }
-}
-
-impl<T: Drop> From<AllocFailed<T>> for Memory {
-    fn from(_error: AllocFailed<T>) -> Memory {
-        Memory
     }
 }

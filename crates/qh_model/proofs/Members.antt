@@ -1,0 +1,37 @@
+-- Members of lists: by index, in lists of rising numbers, and under facts of each member.
+use Rattle.std.proofs.Common.{◌≡◌, ℕ, zero, suc, ◌+◌, ◌<◌, List, [], ◌∷◌, length, add-one, arith, refl, sym, subst, inl, inr, All, get_or}
+use Rattle.std.proofs.lemmas.List.Elements.{All-head, All-tail}
+use Rattle.std.specs.List.Sorted.{IsStrictlyIncreasing}
+use Rattle.qh_model.specs.Sets.{In, Once}
+
+-- what holds of each element holds of a member
+pub All-In : {X : Type 0} (P : X → Type 0) (xs : List X) (x : X) → All P xs → In x xs → P x
+All-In P [] x all h = absurd h
+All-In P (y ∷ ys) x all (inl e) = subst P (sym e) (All-head P y ys all)
+All-In P (y ∷ ys) x all (inr h) = All-In P ys x (All-tail P y ys all) h
+
+-- the element at an index is a member
+pub In-get_or : {X : Type 0} (xs : List X) (k : ℕ) (d : X) → k < length xs → In (get_or xs k d) xs
+In-get_or [] k d h = absurd (omega arith)
+In-get_or (x ∷ xs) zero d h = inl refl
+In-get_or (x ∷ xs) (suc k) d h = inr (In-get_or xs k d (omega arith))
+
+-- a rising list goes on rising after its first
+pub rising_tail : (x : ℕ) (xs : List ℕ) → IsStrictlyIncreasing (x ∷ xs) → IsStrictlyIncreasing xs
+rising_tail x xs h k l = rw (add-one k) (rw (add-one (suc k)) at (h (suc k) (omega arith)))
+
+-- the first of a rising list is below the others
+pub rising_first : (x : ℕ) (xs : List ℕ) → IsStrictlyIncreasing (x ∷ xs) → (y : ℕ) → In y xs → x < y
+rising_first x [] h y i = absurd i
+rising_first x (z ∷ zs) h y i = by (rising_first z zs (rising_tail x (z ∷ zs) h)) i
+  where
+    next : x < z
+    next = h 0 (omega arith)
+    by : ((y : ℕ) → In y zs → z < y) → In y (z ∷ zs) → x < y
+    by rest (inl e) = subst (λ (n : ℕ). x < n) (sym e) next
+    by rest (inr i) = let above : z < y = rest y i in omega (arith, next, above)
+
+-- each member of a rising list stands in it once
+pub rising_once : (xs : List ℕ) → IsStrictlyIncreasing xs → Once xs
+rising_once [] h = tt
+rising_once (x ∷ xs) h = (λ i. let below : x < x = rising_first x xs h x i in omega (arith, below), rising_once xs (rising_tail x xs h))

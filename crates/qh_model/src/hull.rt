@@ -1,0 +1,71 @@
+ghost use Rattle.std.specs.Prelude.{◌≡◌};
+
+use crate::point::Id;
+use std::marker::Model;
+
+/// The ids round a face, counterclockwise seen from outside, from the least id on.
+///
+/// A contract sees a polygon as the list of its ids.
+#[derive(Debug, Drop)]
+pub struct Polygon(pub Vec<Id>);
+
+impl Model for Polygon {
+    ghost use Rattle.std.specs.Prelude.{ℕ, List};
+
+    ghost Value = { List ℕ };
+
+    ghost view = { λ q. q.0.items };
+}
+
+impl Polygon {
+    /// The ids, from the least on.
+    pub fn ids(&self) -> &[Id]
+        ensures { result.now ≡ self.now }
+    {
+        self.0.as_slice()
+    }
+}
+
+/// The hull of a set of ids of distinct points.
+///
+/// The extreme ids rise strictly, and the polygons name no other ids.
+#[derive(Debug, Drop)]
+pub struct Body {
+    /// The dimension of the set, from 0 to 3.
+    pub dim: u8,
+    /// The extreme ids, rising.
+    pub extremes: Vec<Id>,
+    /// The faces, in rising lexicographic order of their ids.
+    pub polygons: Vec<Polygon>,
+    /// The number of edges.
+    pub edges: u64,
+}
+
+impl Model for Body {
+    ghost use Rattle.qh_model.specs.Hull.{BodyValue, IsBodyInOrder};
+
+    ghost Value = { BodyValue };
+
+    ghost view = { λ b. record { dim = b.dim; extremes = b.extremes.items; polygons = b.polygons.items; edges = b.edges } };
+
+    ghost invariant = { λ b. IsBodyInOrder b.extremes.items b.polygons.items };
+}
+
+/// The hull of a list of points.
+#[derive(Debug, Drop)]
+pub struct Hull {
+    /// The number of points that were given.
+    pub given: u32,
+    /// The number of distinct points.
+    pub distinct: u32,
+    /// The hull of the distinct points.
+    pub body: Body,
+}
+
+impl Model for Hull {
+    ghost use Rattle.qh_model.specs.Hull.{HullValue};
+
+    ghost Value = { HullValue };
+
+    ghost view = { λ h. record { given = h.given; distinct = h.distinct; body = h.body } };
+}

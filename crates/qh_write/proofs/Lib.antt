@@ -1,0 +1,2 @@
+pub mod SendingLemmas
+pub mod TextLemmas

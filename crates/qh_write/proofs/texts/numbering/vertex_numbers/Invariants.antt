@@ -1,0 +1,8 @@
+use Rattle.std.proofs.Common.{◌≡◌, length, drop}
+use Rattle.qh_write.specs.Outs.{numbered}
+use Rattle.qh_write.proofs.texts.numbering.vertex_numbers.Given as goal
+
+abbrev pub invariant-loop-number : goal.invariant-loop-number
+invariant-loop-number l =
+    (numbered l.numbers.items l.number (drop l.number l.extremes) ≡ numbered l.initial.numbers.items 0 l.extremes)
+    × (length l.numbers.items ≡ l.count)

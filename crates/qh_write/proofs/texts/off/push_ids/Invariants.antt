@@ -1,0 +1,7 @@
+use Rattle.std.proofs.Common.{◌≡◌, ◌++◌, take, decimal}
+use Rattle.std.specs.List.{flat_map}
+use Rattle.qh_model.specs.Text.{line}
+use Rattle.qh_write.proofs.texts.off.push_ids.Given as goal
+
+abbrev pub invariant-loop-id : goal.invariant-loop-id
+invariant-loop-id l = l.text.items ≡ l.initial.text.items ++ flat_map (λ i. line (decimal i)) (take l.id-index l.ids)

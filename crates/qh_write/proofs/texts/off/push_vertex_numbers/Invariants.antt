@@ -1,0 +1,7 @@
+use Rattle.std.proofs.Common.{◌≡◌, ◌++◌, take, slice_index}
+use Rattle.std.specs.List.{flat_map}
+use Rattle.qh_model.specs.Text.{spaced}
+use Rattle.qh_write.proofs.texts.off.push_vertex_numbers.Given as goal
+
+abbrev pub invariant-loop-id : goal.invariant-loop-id
+invariant-loop-id l = l.text.items ≡ l.initial.text.items ++ flat_map (λ i. spaced (slice_index l.numbers i)) (take l.id-index l.face)

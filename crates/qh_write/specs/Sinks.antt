@@ -1,0 +1,18 @@
+-- What goes out through a sink.
+use Rattle.std.specs.Prelude.{ℕ, ◌≤◌, List, Option, length, take}
+use Rattle.std.specs.Io.KnownBytes.{Appends}
+use Rattle.qh_write.specs.declared.mem_sink.MemSink.{MemSink}
+use Rattle.qh_write.specs.declared.fakes.FailSink.{FailSink}
+
+-- the bytes that the sink has
+abbrev pub kept : MemSink → List ℕ
+kept s = s.bytes.items
+
+abbrev pub kept_before_failing : FailSink → List ℕ
+kept_before_failing s = s.bytes.items
+
+-- known bytes grow by a beginning of bs, perhaps all of it
+pub record AppendsBeginning (old new : Option (List ℕ)) (bs : List ℕ) : Type 0 where
+  pub count : ℕ
+  pub within : count ≤ length bs
+  pub appends : Appends old new (take count bs)

@@ -1,0 +1,108 @@
+//! Devices for tests.
+ghost use Rattle.std.specs.Prelude.{◌≡◌, ◌+◌, ◌-◌, ◌^◌, ◌<◌, ◌≤◌, ◌↔◌, [], Some, vec_len, IsTrue};
+
+use crate::sink::{Sink, SinkFault};
+use std::alloc::Global;
+
+/// When a [`FailSink`] fails.
+#[derive(Clone, Copy, Debug)]
+pub struct SinkPlan {
+    /// The most bytes that one write takes, at least 1.
+    pub greatest_piece: usize,
+    /// The bytes that it takes in all; the write after them fails.
+    pub room: usize,
+    /// The number, from 1, of the write that fails, or none.
+    pub failing_write: Option<u64>,
+    /// Whether the flush fails.
+    pub flush_fails: bool,
+}
+
+/// A sink that keeps the bytes and fails by a plan.
+#[derive(Debug, Drop)]
+pub struct FailSink {
+    bytes: Vec<u8>,
+    failures: u64,
+    writes: u64,
+    flushed: bool,
+    plan: SinkPlan,
+}
+
+impl FailSink {
+    ghost use Rattle.qh_write.specs.Sinks.{kept_before_failing};
+
+    /// A sink that has nothing yet and fails by `plan`.
+    pub fn new(alloc: Global, plan: SinkPlan) -> FailSink
+        ensures empty { kept_before_failing result ≡ [] }
+        ensures count { result.failures ≡ 0 }
+    {
+        FailSink {
+            bytes: Vec::new(alloc),
+            failures: 0,
+            writes: 0,
+            flushed: true,
+            plan,
+        }
+    }
+
+    /// What went out, oldest first.
+    pub fn bytes(&self) -> &[u8]
+        ensures { result.now ≡ kept_before_failing self.now }
+    {
+        self.bytes.as_slice()
+    }
+
+    fn is_due(&self) -> bool
+        ensures { ¬ (IsTrue result) → vec_len self.now.bytes < self.now.plan.room }
+    {
+        self.plan.failing_write == Some(self.writes) || self.plan.room <= self.bytes.len()
+    }
+
+    fn piece_of(&self, count: usize) -> usize
+        ensures within { result ≤ count }
+        ensures some { 0 < count → vec_len self.now.bytes < self.now.plan.room → 0 < result }
+    {
+        let room = self.plan.room.saturating_sub(self.bytes.len());
+        count.min(self.plan.greatest_piece.max(1)).min(room)
+    }
+
+    fn fail(&mut self) -> SinkFault
+        requires { self.old.failures < 2 ^ 64 - 1 }
+        ensures { self.new ≡ record self.old { failures = self.old.failures + 1 } }
+    {
+        self.failures += 1;
+        SinkFault
+    }
+}
+
+impl Sink for FailSink {
+    ghost went = { λ s. Some s.bytes.items };
+
+    ghost count = { λ s. s.failures };
+
+    ghost is_flushed = { λ s. s.flushed };
+
+    fn write(&mut self, bytes: &[u8]) -> Result<usize, SinkFault> {
+        self.writes = self.writes.saturating_add(1);
+        self.flushed = false;
+        if self.is_due() {
+            return Err(self.fail());
+        }
+        let count = self.piece_of(bytes.len());
+        if self.bytes.extend_from_slice(&bytes[..count]).is_err() {
+            return Err(self.fail());
+        }
+        Ok(count)
+    }
+
+    fn flush(&mut self) -> Result<(), SinkFault> {
+        if self.plan.flush_fails {
+            return Err(self.fail());
+        }
+        self.flushed = true;
+        Ok(())
+    }
+
+    fn failures(&self) -> u64 {
+        self.failures
+    }
+}

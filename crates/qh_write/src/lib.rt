@@ -1,0 +1,22 @@
+//! Writes hulls: their texts, and sending them to a device.
+//!
+//! [`text`] makes the text of a list of outputs, [`send`] hands it to a [`Sink`]. The devices are
+//! [`MemSink`], which keeps the bytes, and [`StdSink`], which wraps a writer of std.
+#![tactic(auto)]
+
+pub mod fakes;
+mod mem_sink;
+mod out;
+mod sending;
+mod sink;
+mod std_sink;
+#[cfg(test)]
+mod tests;
+mod texts;
+
+pub use mem_sink::MemSink;
+pub use out::Out;
+pub use sending::{SendFault, send};
+pub use sink::{Sink, SinkFault};
+pub use std_sink::StdSink;
+pub use texts::text;

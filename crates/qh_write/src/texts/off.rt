@@ -1,0 +1,131 @@
+//! The texts of `Fx` and `off`.
+ghost use Rattle.std.specs.Prelude.{◌≡◌, ◌++◌, ◌∷◌, ◌<◌, OnOk, All, length, slice_index, decimal};
+ghost use Rattle.std.specs.List.{flat_map};
+ghost use Rattle.qh_model.specs.Text.{line, spaced, extremes_text, vertex_text, face_text, off_text};
+ghost use Rattle.qh_model.specs.Hull.{IsBodyInOrder};
+ghost use Rattle.qh_model.specs.Predicates.{place};
+ghost use Rattle.qh_write.specs.Outs.{BodyNamesPoints, AreNumbered, face_by_table};
+
+use super::lines::{push_line_end, push_number, push_signed, push_spaced};
+use super::numbering::vertex_numbers;
+use qh_model::{Body, Id, Point, Polygon};
+use std::alloc::{AllocError, Global};
+
+fn push_id(text: &mut Vec<u8>, id: Id) -> Result<(), AllocError>
+    ensures { OnOk result (text.new.items ≡ text.old.items ++ line (decimal id)) }
+{
+    push_number(text, u64::from(id.number()))?;
+    push_line_end(text)
+}
+
+fn push_ids(text: &mut Vec<u8>, ids: &[Id]) -> Result<(), AllocError>
+    ensures { OnOk result (text.new.items ≡ text.old.items ++ flat_map (λ i. line (decimal i)) ids.now) }
+{
+    for id in ids {
+        push_id(text, *id)?;
+    }
+    Ok(())
+}
+
+/// Appends the number of extreme points and their ids.
+pub fn push_extremes(text: &mut Vec<u8>, body: &Body) -> Result<(), AllocError>
+    ensures { OnOk result (text.new.items ≡ text.old.items ++ extremes_text body.now) }
+{
+    push_number(text, body.extremes.len() as u64)?;
+    push_line_end(text)?;
+    push_ids(text, &body.extremes)
+}
+
+#[tactic(auto, using(std::proofs::Common::append_assoc))]
+fn push_vertex(text: &mut Vec<u8>, point: Point) -> Result<(), AllocError>
+    ensures { OnOk result (text.new.items ≡ text.old.items ++ vertex_text point) }
+{
+    push_signed(text, point.x())?;
+    text.push(b' ')?;
+    push_signed(text, point.y())?;
+    text.push(b' ')?;
+    push_signed(text, point.z())?;
+    push_line_end(text)
+}
+
+#[tactic(auto, unfolding(qh_model::specs::Predicates::place))]
+fn push_vertices(text: &mut Vec<u8>, pts: &[Point], ids: &[Id]) -> Result<(), AllocError>
+    requires { All (λ i. i < length pts.now) ids.now }
+    ensures { OnOk result (text.new.items ≡ text.old.items ++ flat_map (λ i. vertex_text (place pts.now i)) ids.now) }
+{
+    for id in ids {
+        push_vertex(text, pts[id.index()])?;
+    }
+    Ok(())
+}
+
+fn push_vertex_numbers(text: &mut Vec<u8>, numbers: &[usize], face: &[Id]) -> Result<(), AllocError>
+    requires { AreNumbered numbers.now face.now }
+    ensures { OnOk result (text.new.items ≡ text.old.items ++ flat_map (λ i. spaced (slice_index numbers.now i)) face.now) }
+{
+    for id in face {
+        push_spaced(text, numbers[id.index()] as u64)?;
+    }
+    Ok(())
+}
+
+fn push_face(text: &mut Vec<u8>, numbers: &[usize], face: &[Id]) -> Result<(), AllocError>
+    requires { AreNumbered numbers.now face.now }
+    ensures { OnOk result (text.new.items ≡ text.old.items ++ face_by_table numbers.now face.now) }
+{
+    push_number(text, face.len() as u64)?;
+    push_vertex_numbers(text, numbers, face)?;
+    push_line_end(text)
+}
+
+fn push_faces(text: &mut Vec<u8>, numbers: &[usize], faces: &[Polygon]) -> Result<(), AllocError>
+    requires { All (AreNumbered numbers.now) faces.now }
+    ensures { OnOk result (text.new.items ≡ text.old.items ++ flat_map (face_by_table numbers.now) faces.now) }
+{
+    for face in faces {
+        push_face(text, numbers, face.ids())?;
+    }
+    Ok(())
+}
+
+/// Appends the faces, each vertex by its number.
+fn push_numbered_faces(
+    text: &mut Vec<u8>,
+    alloc: Global,
+    extremes: &[Id],
+    faces: &[Polygon],
+    count: usize,
+) -> Result<(), AllocError>
+    requires within { All (λ i. i < count) extremes.now }
+    requires order { IsBodyInOrder extremes.now faces.now }
+    ensures { OnOk result (text.new.items ≡ text.old.items ++ flat_map (face_text extremes.now) faces.now) }
+{
+    let numbers = vertex_numbers(alloc, extremes, count)?;
+    push_faces(text, &numbers, faces)?;
+    Ok(())
+}
+
+fn push_counts(text: &mut Vec<u8>, body: &Body) -> Result<(), AllocError>
+    ensures { OnOk result (text.new.items ≡ text.old.items ++ line (decimal (length body.now.extremes) ++ spaced (length body.now.polygons) ++ spaced body.now.edges)) }
+{
+    push_number(text, body.extremes.len() as u64)?;
+    push_spaced(text, body.polygons.len() as u64)?;
+    push_spaced(text, body.edges)?;
+    push_line_end(text)
+}
+
+/// Appends the text of `off`.
+pub fn push_off(
+    text: &mut Vec<u8>,
+    alloc: Global,
+    body: &Body,
+    pts: &[Point],
+) -> Result<(), AllocError>
+    requires { BodyNamesPoints body.now pts.now }
+    ensures { OnOk result (text.new.items ≡ text.old.items ++ off_text body.now pts.now) }
+{
+    text.extend_from_slice(b"OFF\n")?;
+    push_counts(text, body)?;
+    push_vertices(text, pts, &body.extremes)?;
+    push_numbered_faces(text, alloc, &body.extremes, &body.polygons, pts.len())
+}

@@ -1,0 +1,39 @@
+//! How long a text can be, so that its memory is taken once.
+
+use crate::out::Out;
+use qh_model::{Body, Polygon};
+
+/// The most bytes of a number with a blank or a line end.
+const NUMBER: usize = 12;
+
+/// The most bytes of the texts of `rank` and `s`.
+const SUMMARY: usize = 256;
+
+/// How many numbers the faces have in all, their lengths with them.
+fn face_numbers(faces: &[Polygon]) -> usize {
+    let mut numbers = faces.len();
+    for face in faces {
+        numbers = numbers.saturating_add(face.ids().len());
+    }
+    numbers
+}
+
+fn output_room(body: &Body, out: Out) -> usize {
+    let vertices = body.extremes.len().saturating_mul(NUMBER);
+    match out {
+        Out::Rank | Out::Summary => SUMMARY,
+        Out::Fx => SUMMARY.saturating_add(vertices),
+        Out::Off => SUMMARY
+            .saturating_add(vertices.saturating_mul(3))
+            .saturating_add(face_numbers(&body.polygons).saturating_mul(NUMBER)),
+    }
+}
+
+/// At least as many bytes as the outputs take.
+pub fn room_for(body: &Body, outs: &[Out]) -> usize {
+    let mut room = 0usize;
+    for out in outs {
+        room = room.saturating_add(output_room(body, *out));
+    }
+    room
+}
