@@ -11,7 +11,7 @@ use Rattle.qh_model.specs.Surface.{Surface, Side, start, end, IsWhole, rise}
 use Rattle.qh_model.specs.Surface.Side.{first, second, third}
 use Rattle.qh_model.specs.SoundSurface.{IsSound, IsInner}
 use Rattle.qh_model.specs.FinishedSurface.{weighted_at, middle_at}
-use Rattle.qh_model.specs.ClosedSurface.{Triple, edges, is_edge, IsClosed, IsClosedSurface, signed_volume, triples_from, triples_of}
+use Rattle.qh_model.specs.ClosedSurface.{Triple, edges, is_edge, IsClosed, signed_volume, triples_from, triples_of}
 use Rattle.qh_model.specs.ClosedSurfaceLaws.{SoundIsClosed, SoundHasVolume}
 use Rattle.qh_model.proofs.algebra.VectorIdentities.{in_line-vol}
 use Rattle.qh_model.proofs.closed_surfaces.Sums.{count, count-is}

@@ -245,9 +245,11 @@ middle_below at ids m z i j k t =
 level_member : (at : ℕ → Vector) (ids : List ℕ) (m : Surface) → IsFinished at ids m → (i j k : ℕ) → IsSupportingTriple at (Members ids) i j k → (l : ℕ) → OnPlane at (Members ids) i j k l
     → CombinationInPlane m (weighted_at at) (weighted (at i)) (weighted (at j)) (weighted (at k)) (weighted (at l))
 level_member at ids m z i j k t l h =
-    level_is_combination m (weighted_at at) (middle_at at z.s z.t z.u z.v) z.whole z.sound z.some z.some_live (weighted (at i)) (weighted (at j)) (weighted (at k)) (weighted (at l)) (middle_below at ids m z i j k t)
-    (λ g live h c. subst (λ x. x ≤ℤ pos 0) (sym (rise_is_vol (at i) (at j) (at k) (at h))) (t.supports h (z.corners g live h c)))
-    (rise_is_vol (at i) (at j) (at k) (at l) ∙ h.1)
+    level_is_combination m (weighted_at at) (middle_at at z.s z.t z.u z.v) z.whole z.sound z.some z.some_live (weighted (at i)) (weighted (at j)) (weighted (at k)) (weighted (at l)) (
+      middle_below at ids m z i j k t,
+      (λ g live h c. subst (λ x. x ≤ℤ pos 0) (sym (rise_is_vol (at i) (at j) (at k) (at h))) (t.supports h (z.corners g live h c))),
+      rise_is_vol (at i) (at j) (at k) (at l) ∙ h.1,
+    )
     (λ g live. (unseen_above at ids m z g live i t.has_i, unseen_above at ids m z g live j t.has_j, unseen_above at ids m z g live k t.has_k, unseen_above at ids m z g live l h.0))
 
 -- the law
