@@ -1,1 +1,1 @@
-
+pub mod RankLemmas

@@ -1,16 +1,19 @@
 -- The options of the program, as clap reads them.
-use Rattle.std.specs.Prelude.{ℕ, ◌≡◌, List, [], ◌∷◌, Option, Some, None, codes}
+use Rattle.std.specs.Prelude.{ℕ, ◌≡◌, List, [], ◌∷◌, Option, Some, codes}
 use Rattle.std.specs.Str.Parse.{digits_value, without_leading_plus}
-use Rattle.clap.specs.Words.{App, Rule, Text, new_app, new_rule, with_rule, matches_of, one_of, one_text}
-use Rattle.clap.specs.declared.parser.matches.Found.{Found}
+use Rattle.clap.specs.Words.{App, Rule, Text, new_app, new_rule, with_rule, matches_of, one_of}
 use Rattle.clap.specs.declared.builder.action.ArgAction.TheVariants.{Set, Append}
 use Rattle.clap.specs.declared.builder.value_parser.ValueParser.{ValueParser}
-use Rattle.clap.specs.declared.builder.value_parser.ValueParser.TheVariants as parsers
 
 -- an option `--name N` with a default
 abbrev pub number_option : Text → Text → Option ValueParser → Rule
 number_option name default parser = record (new_rule name) {
-    long = Some name; action = Some Set; value_names = 1; defaults = default ∷ []; parser = parser }
+  long = Some name;
+  action = Some Set;
+  value_names = 1;
+  defaults = default ∷ [];
+  parser = parser;
+}
 
 abbrev pub outs_rule : Option ValueParser → Rule
 outs_rule parser = record (new_rule (codes "outs")) { action = Some Append; value_names = 1; parser = parser }

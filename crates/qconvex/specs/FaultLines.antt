@@ -1,6 +1,5 @@
 -- What stands on standard error for a fault, without the line's end, and the exit status.
 use Rattle.std.specs.Prelude.{ℕ, List, ◌++◌, codes, decimal}
-use Rattle.qh_read.specs.declared.fault.ReadFault.{ReadFault}
 use Rattle.qh_read.specs.declared.fault.ReadFault.TheVariants as read
 use Rattle.qconvex.specs.declared.fault.Fault.{Fault}
 use Rattle.qconvex.specs.declared.fault.Fault.TheVariants.{Read, Send, Usage, NotYet}

@@ -56,8 +56,18 @@ fn outs_arg<'a>(alloc: Global) -> Arg<'a>
 fn command<'a>(alloc: Global) -> Result<Command<'a>, AllocError>
     ensures { IfOk result (λ c. (p q r : _) × (app_of c ≡ program p q r)) }
 {
-    let workers = number_arg(alloc, "workers", "4", value_parser!(u32).range(1..=i64::from(WORKER_LIMIT)));
-    let block = number_arg(alloc, "block", "4096", value_parser!(u32).range(1..=i64::from(BLOCK_SIZE_LIMIT)));
+    let workers = number_arg(
+        alloc,
+        "workers",
+        "4",
+        value_parser!(u32).range(1..=i64::from(WORKER_LIMIT)),
+    );
+    let block = number_arg(
+        alloc,
+        "block",
+        "4096",
+        value_parser!(u32).range(1..=i64::from(BLOCK_SIZE_LIMIT)),
+    );
     let outs = outs_arg(alloc);
     Command::new(alloc, "qconvex")
         .arg(workers)?

@@ -1,7 +1,9 @@
 ghost use Rattle.std.specs.Prelude.{◌≡◌, Some};
 ghost use Rattle.qconvex.specs.FaultLines.{fault_line, status_of};
 ghost use Rattle.qconvex.specs.declared.fault.Fault.TheVariants.{Read};
+ghost use Rattle.qh_read.specs.declared.fault.ReadFault.TheVariants as reads;
 
+use qh_model::Memory;
 use qh_read::ReadFault;
 use std::fmt;
 
@@ -37,6 +39,14 @@ impl From<ReadFault> for Fault {
 
     fn from(fault: ReadFault) -> Fault {
         Fault::Read(fault)
+    }
+}
+
+impl From<Memory> for Fault {
+    ghost from_gives = { λ _ e. e ≡ Read reads.Memory };
+
+    fn from(_memory: Memory) -> Fault {
+        Fault::Read(ReadFault::Memory)
     }
 }
 

@@ -4,8 +4,14 @@
 //! `fault` says why there is none, and `program` runs it all between the standard streams.
 #![tactic(auto)]
 
+mod answer;
 mod command_line;
 mod fault;
+mod program;
 mod settings;
 
-fn main(_rt: HostRuntime) {}
+use std::process::ExitCode;
+
+fn main(rt: HostRuntime) -> ExitCode {
+    program::run(&rt)
+}

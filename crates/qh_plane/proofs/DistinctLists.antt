@@ -2,18 +2,18 @@
 use Rattle.std.proofs.Common.{◌≡◌, ◌≢◌, ℕ, ◌+◌, ◌*◌, ◌%◌, ◌/◌, ◌<◌, ◌≤◌, List, [], ◌∷◌, length, get_or, map, replicate, arith, ap, sym, subst, ◌∙◌, refl, ◌⊎◌, inl, inr, ⊎_elim, true, false, Bool}
 use Rattle.std.proofs.lemmas.Bool.Decides.{nat_tests}
 use Rattle.std.proofs.lemmas.List.{length-replicate}
-use Rattle.std.proofs.lemmas.List.Elements.{All-from_recursion, All-contains}
+use Rattle.std.proofs.lemmas.List.Elements.{All-from_recursion}
 use Rattle.std.specs.Prelude.{IsPermutation}
 use Rattle.std.specs.List.{All, AllByRecursion as Every}
 use Rattle.std.specs.List.Sorted.{IsStrictlyIncreasing, IsNonDecreasing}
-use Rattle.qh_model.proofs.Members.{every_at}
+use Rattle.qh_model.proofs.Members.{All-In, In-get_or, every_at}
 use Rattle.qh_model.specs.DistinctIds.{IsDistinctId, AreDistinctIds, IsIdSet}
 use Rattle.qh_model.specs.Predicates.{place}
 use Rattle.qh_model.specs.Sets.{In}
 use Rattle.qh_model.specs.Vector.{Vector}
 use Rattle.qh_plane.proofs.KeyOrder.{IsKeyOf, sorted_keys, rising_keys, key_parts, key_id, place_code-same, raised_small, sorted-all}
 use Rattle.qh_plane.proofs.MarkedIds.{IsMarked, in_marked_ids, of_marked_ids, marked_ids-rise, marked_only, marked_has, blank}
-use Rattle.qh_plane.proofs.Members.{at_in, in_at, to_contains, in_map, of_map, Rises, rises_above}
+use Rattle.qh_plane.proofs.Members.{in_at, in_map, of_map, Rises, rises_above}
 use Rattle.qh_plane.proofs.PlaceStarts.{Start, IsBefore, starts_only, starts_all}
 use Rattle.qh_plane.specs.declared.place_keys.TheConstants.{ROOM}
 use Rattle.qh_plane.specs.declared.distinct_points.TheConstants.{NO_PLACE}
@@ -48,7 +48,7 @@ rises_each : (n : ℕ) (all : List ℕ) → AllIds n all → IsStrictlyIncreasin
 rises_each n all a k h = let e = a.len in rw (a.each k (omega arith), a.each (k + 1) (omega arith)) (omega arith)
 
 all_in : (n : ℕ) (all : List ℕ) → AllIds n all → (i : ℕ) → i < n → In i all
-all_in n all a i h = subst (λ v. In v all) (a.each i h) (at_in all i (let e = a.len in omega arith))
+all_in n all a i h = subst (λ v. In v all) (a.each i h) (In-get_or all i 0 (let e = a.len in omega arith))
 
 in_all : (n : ℕ) (all : List ℕ) → AllIds n all → (i : ℕ) → In i all → i < n
 in_all n all a i m =
@@ -73,7 +73,7 @@ module _ (pts : List Vector) (all keys : List ℕ) (a : AllIds (length pts) all)
   up_list (k ∷ ks) r = rises_above k ks r
 
   known_at : (i : ℕ) → i < length pts → HasKey pts i
-  known_at i h = All-contains (HasKey pts) all i known (to_contains all i (all_in (length pts) all a i h))
+  known_at i h = All-In (HasKey pts) all i known (all_in (length pts) all a i h)
 
   key_listed : (i : ℕ) → i < length pts → In (key_at pts i) keys
   unfolding b

@@ -6,3 +6,4 @@ pub mod DistinctLists
 pub mod PlaneDirections
 pub mod LinesAndPlanes
 pub mod ShapeDimension
+pub mod polygons

@@ -67,10 +67,11 @@ same_point p q e = vector_path p q (level p.x q.x (ap (λ v. v.x) e)) (level p.y
     level a b e = omega (arith, ints)
 
 -- ---- planes
-between_eq : (n i a b : Vector) → dot n (minus b a) ≡ dot n (minus b i) -ℤ dot n (minus a i)
+-- the way from a to b, from the ways from i
+pub between_eq : (n i a b : Vector) → dot n (minus b a) ≡ dot n (minus b i) -ℤ dot n (minus a i)
 between_eq n i a b = ring (put n (put i (put a (put b [])))) (dotE (vec 0) (subE (vec 3) (vec 2))) (less (dotE (vec 0) (subE (vec 3) (vec 1))) (dotE (vec 0) (subE (vec 2) (vec 1)))) refl
 
-none : (l u v : ℤ) → l ≡ u -ℤ v → u ≡ pos 0 → v ≡ pos 0 → l ≡ pos 0
+pub none : (l u v : ℤ) → l ≡ u -ℤ v → u ≡ pos 0 → v ≡ pos 0 → l ≡ pos 0
 none l u v e p q = omega (arith, ints)
 
 -- what is in the plane of i, j and k is in one plane

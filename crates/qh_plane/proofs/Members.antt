@@ -1,15 +1,10 @@
 -- Members of lists by their positions, and rising lists.
-use Rattle.std.proofs.Common.{◌≡◌, ℕ, zero, suc, ◌+◌, ◌<◌, List, [], ◌∷◌, ◌++◌, length, get_or, map, take, arith, ap, sym, subst, ◌∙◌, refl, inl, inr, add-one}
+use Rattle.std.proofs.Common.{◌≡◌, ℕ, zero, suc, ◌+◌, ◌<◌, List, [], ◌∷◌, ◌++◌, length, get_or, map, take, arith, ap, sym, subst, ◌∙◌, refl, inl, inr}
 use Rattle.std.proofs.lemmas.List.{take_more, map-append}
 use Rattle.std.specs.List.{Contains}
 use Rattle.std.specs.List.Sorted.{IsStrictlyIncreasing}
+use Rattle.qh_model.proofs.Members.{rising_tail}
 use Rattle.qh_model.specs.Sets.{In}
-
--- what stands at a position is a member
-pub at_in : (xs : List ℕ) (k : ℕ) → k < length xs → In (get_or xs k 0) xs
-at_in [] k h = absurd (omega arith)
-at_in (x ∷ xs) zero h = inl refl
-at_in (x ∷ xs) (suc k) h = inr (at_in xs k (omega arith))
 
 -- a member stands at a position
 pub in_at : (xs : List ℕ) (x : ℕ) → In x xs → (k : ℕ) × (k < length xs) × (get_or xs k 0 ≡ x)
@@ -59,13 +54,10 @@ abbrev pub Rises : List ℕ → Type 0
 Rises [] = Unit {0}
 Rises (x ∷ xs) = RisesAbove x xs
 
-increasing_tail : (x : ℕ) (xs : List ℕ) → IsStrictlyIncreasing (x ∷ xs) → IsStrictlyIncreasing xs
-increasing_tail x xs r k h = rw (add-one k) (rw (add-one (suc k)) at (r (suc k) (omega arith)))
-
 -- from std's word
 pub rises_above : (x : ℕ) (xs : List ℕ) → IsStrictlyIncreasing (x ∷ xs) → RisesAbove x xs
 rises_above x [] r = tt
-rises_above x (y ∷ ys) r = (r 0 (omega arith), rises_above y ys (increasing_tail x (y ∷ ys) r))
+rises_above x (y ∷ ys) r = (r 0 (omega arith), rises_above y ys (rising_tail x (y ∷ ys) r))
 
 pub rises : (xs : List ℕ) → IsStrictlyIncreasing xs → Rises xs
 rises [] r = tt

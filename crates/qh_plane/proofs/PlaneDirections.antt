@@ -1,10 +1,11 @@
 -- Directions in one plane: their brackets, and that three of them have no volume.
 use Rattle.std.proofs.Common.{◌≡◌, ℕ, refl, [], arith, ◌∙◌}
 use Rattle.std.proofs.lemmas.Int.{ints}
-use Rattle.std.specs.Prelude.{ℤ, pos, ◌+ℤ◌, ◌*ℤ◌, ◌<ℤ◌}
-use Rattle.qh_model.proofs.algebra.Order.{cancel-zero}
+use Rattle.std.specs.Prelude.{ℤ, pos, ◌+ℤ◌, ◌-ℤ◌, ◌*ℤ◌, ◌≤ℤ◌, ◌<ℤ◌}
+use Rattle.qh_model.proofs.algebra.Order.{mul-nonneg, mul-pos, cancel-nonneg, cancel-pos, cancel-zero}
+use Rattle.qh_model.proofs.algebra.Integers.{mul_comm}
 use Rattle.qh_model.proofs.algebra.Ring.{Expr, ring}
-use Rattle.qh_model.proofs.algebra.Ring.Expr.{add, mul}
+use Rattle.qh_model.proofs.algebra.Ring.Expr.{add, sub as less, mul}
 use Rattle.qh_model.proofs.algebra.VectorIdentities.{vec, crossE, dotE, detE, put}
 use Rattle.qh_model.specs.Vector.{Vector, cross_product, dot}
 
@@ -32,3 +33,39 @@ all_zero d p q r x y z e h i j = rw (h, i, j) at e ∙ omega (arith, ints)
 pub determinant-zero : (n a b c : Vector) → pos 0 <ℤ dot n n → dot n a ≡ pos 0 → dot n b ≡ pos 0 → dot n c ≡ pos 0 → determinant a b c ≡ pos 0
 determinant-zero n a b c s h i j =
     cancel-zero (dot n n) (determinant a b c) s (all_zero _ _ _ _ _ _ _ (determinant-square n a b c) h i j)
+
+bracket-plane : (n h a b c : Vector) → bracket n a c *ℤ dot h b ≡ bracket n a b *ℤ dot h c +ℤ bracket n b c *ℤ dot h a -ℤ determinant a b c *ℤ dot h n
+bracket-plane n h a b c =
+    ring (put n (put a (put b (put c (put h [])))))
+    (mul (bracketE 1 3) (dotE (vec 4) (vec 2)))
+    (less (add (mul (bracketE 1 2) (dotE (vec 4) (vec 3))) (mul (bracketE 2 3) (dotE (vec 4) (vec 1)))) (mul (detE (vec 1) (vec 2) (vec 3)) (dotE (vec 4) (vec 0)))) refl
+
+no_last : (l x d k : ℤ) → l ≡ x -ℤ d *ℤ k → d ≡ pos 0 → l ≡ x
+no_last l x d k e h = rw h at e ∙ omega (arith, ints)
+
+-- of three directions across n, the middle one over the others
+pub bracket-fan : (n h a b c : Vector) → pos 0 <ℤ dot n n → dot n a ≡ pos 0 → dot n b ≡ pos 0 → dot n c ≡ pos 0
+    → bracket n a c *ℤ dot h b ≡ bracket n a b *ℤ dot h c +ℤ bracket n b c *ℤ dot h a
+bracket-fan n h a b c s i j k = no_last _ _ _ _ (bracket-plane n h a b c) (determinant-zero n a b c s i j k)
+
+-- b is not to the right of a, nor c of b, all three ahead along h: c is not to the right of a
+pub fan_sign : (ac hb ab hc bc ha : ℤ) → ac *ℤ hb ≡ ab *ℤ hc +ℤ bc *ℤ ha → pos 0 <ℤ ha → pos 0 <ℤ hb → pos 0 <ℤ hc → pos 0 ≤ℤ ab → pos 0 ≤ℤ bc → pos 0 ≤ℤ ac
+fan_sign ac hb ab hc bc ha e p q r h k =
+    let x : pos 0 ≤ℤ (ab *ℤ hc) = mul-nonneg ab hc h (omega (arith, ints)) in
+    let y : pos 0 ≤ℤ (bc *ℤ ha) = mul-nonneg bc ha k (omega (arith, ints)) in
+    let z : pos 0 ≤ℤ (hb *ℤ ac) = rw (mul_comm hb ac, e) (sum (ab *ℤ hc) (bc *ℤ ha) x y) in
+    cancel-nonneg hb ac q z
+  where
+    sum : (x y : ℤ) → pos 0 ≤ℤ x → pos 0 ≤ℤ y → pos 0 ≤ℤ (x +ℤ y)
+    sum x y h k = omega (arith, ints)
+
+-- the same, strictly where the first turn is
+pub fan_sign_left : (ac hb ab hc bc ha : ℤ) → ac *ℤ hb ≡ ab *ℤ hc +ℤ bc *ℤ ha → pos 0 <ℤ ha → pos 0 <ℤ hb → pos 0 <ℤ hc → pos 0 <ℤ ab → pos 0 ≤ℤ bc → pos 0 <ℤ ac
+fan_sign_left ac hb ab hc bc ha e p q r h k =
+    let x : pos 0 <ℤ (ab *ℤ hc) = mul-pos ab hc h r in
+    let y : pos 0 ≤ℤ (bc *ℤ ha) = mul-nonneg bc ha k (omega (arith, ints)) in
+    let z : pos 0 <ℤ (hb *ℤ ac) = rw (mul_comm hb ac, e) (sum (ab *ℤ hc) (bc *ℤ ha) x y) in
+    cancel-pos hb ac q z
+  where
+    sum : (x y : ℤ) → pos 0 <ℤ x → pos 0 ≤ℤ y → pos 0 <ℤ (x +ℤ y)
+    sum x y h k = omega (arith, ints)

@@ -2,6 +2,7 @@
 use Rattle.std.proofs.Common.{◌≡◌, ℕ, ◌<◌, List, length, get_or, arith, sym, subst, ◌∙◌, refl, inl, inr}
 use Rattle.std.proofs.lemmas.Grind.{get_or_default_zero}
 use Rattle.std.specs.List.Sorted.{IsStrictlyIncreasing}
+use Rattle.qh_model.proofs.Members.{In-get_or}
 use Rattle.qh_model.proofs.extremes.Directions.{square-positive}
 use Rattle.qh_model.specs.Dimension.{HasTriangle, HasSegment, IsDimension}
 use Rattle.qh_model.specs.DistinctIds.{IsIdSet}
@@ -9,7 +10,7 @@ use Rattle.qh_model.specs.Predicates.{place}
 use Rattle.qh_model.specs.Sets.{In, Members}
 use Rattle.qh_model.specs.Vector.{Vector, minus}
 use Rattle.qh_plane.proofs.LinesAndPlanes.{three_line, four_plane, same_point}
-use Rattle.qh_plane.proofs.Members.{at_in, in_at}
+use Rattle.qh_plane.proofs.Members.{in_at}
 use Rattle.qh_plane.specs.Shapes.{IsInLine, IsInPlane, IsFirstNot, Each, AreFirstTwo}
 
 -- what holds of each position holds of each member
@@ -17,7 +18,7 @@ each_in : (P : ℕ → Type 0) (ids : List ℕ) → Each P ids → (x : ℕ) →
 each_in P ids h x m = let r = in_at ids x m in subst P r.2 (h r.0 r.1)
 
 listed : (ids : List ℕ) (m i : ℕ) → m < length ids → get_or ids m 0 ≡ i → In i ids
-listed ids m i h e = subst (λ v. In v ids) e (at_in ids m h)
+listed ids m i h e = subst (λ v. In v ids) e (In-get_or ids m 0 h)
 
 -- the first two, as the code reads them
 pub first_two : (ids : List ℕ) (i j : ℕ) → 1 < length ids → i ≡ get_or ids 0 i → j ≡ get_or ids 1 j → AreFirstTwo ids i j

@@ -4,13 +4,17 @@
 //! All three go by the exact predicates of `qh_pred` alone, so no answer is rounded.
 #![tactic(auto)]
 
+mod dimension;
+mod chains;
 mod distinct_points;
 mod place_keys;
+mod planar;
 mod ranking;
 mod shape;
 #[cfg(test)]
 mod tests;
 
 pub use distinct_points::distinct;
+pub use planar::polygon;
 pub use ranking::rank;
 pub use shape::Shape;

@@ -1,9 +1,12 @@
 //! Rows of eight points of a square, of repeated points, and of a point above the square.
-use crate::{Shape, distinct, rank};
+ghost use Rattle.std.specs.Prelude.{◌≡◌, [], ◌∷◌};
+
+use crate::{Shape, distinct, polygon, rank};
 use qh_model::{Id, Point};
+use qh_pred::cross;
 use std::test::Fail;
 
-/// The corners, the middles of three sides and the centre of a square.
+/// The corners of a square, the middles of its sides but one, and its centre.
 fn square() -> [Point; 8] {
     [
         Point::new(0, 0, 0),
@@ -14,6 +17,22 @@ fn square() -> [Point; 8] {
         Point::new(1, 1, 0),
         Point::new(0, 2, 0),
         Point::new(0, 1, 0),
+    ]
+}
+
+/// The ids of the square's points.
+fn square_ids() -> [Id; 8]
+    ensures { result ≡ 0 ∷ 1 ∷ 2 ∷ 3 ∷ 4 ∷ 5 ∷ 6 ∷ 7 ∷ [] }
+{
+    [
+        Id::new(0),
+        Id::new(1),
+        Id::new(2),
+        Id::new(3),
+        Id::new(4),
+        Id::new(5),
+        Id::new(6),
+        Id::new(7),
     ]
 }
 
@@ -32,29 +51,41 @@ fn repeated_points(rt: HostRuntime) -> Result<(), Fail> {
         ids.as_slice(),
         [Id::new(0), Id::new(1), Id::new(3), Id::new(5)].as_slice()
     );
+    let none: [Point; 0] = [];
+    assert_eq!(rt;
+        distinct(&rt, rt.alloc(), &none).expect(&rt, "memory").len(),
+        0usize
+    );
+    Ok(())
+}
+
+#[test]
+fn polygons(rt: HostRuntime) -> Result<(), Fail> {
+    let pts = square();
+    let ids = square_ids();
+    let up = cross(pts[0], pts[1], pts[7]);
+    let above = polygon(rt.alloc(), &pts, &ids, &up).expect(&rt, "memory");
+    assert_eq!(rt;
+        above.ids(),
+        [Id::new(0), Id::new(2), Id::new(4), Id::new(6)].as_slice()
+    );
+    let below = polygon(rt.alloc(), &pts, &ids, &up.opposite()).expect(&rt, "memory");
+    assert_eq!(rt;
+        below.ids(),
+        [Id::new(0), Id::new(6), Id::new(4), Id::new(2)].as_slice()
+    );
     Ok(())
 }
 
 #[test]
 fn shapes(rt: HostRuntime) -> Result<(), Fail> {
     let pts = square();
-    let all = [
-        Id::new(0),
-        Id::new(1),
-        Id::new(2),
-        Id::new(3),
-        Id::new(4),
-        Id::new(5),
-        Id::new(6),
-        Id::new(7),
-    ];
-    assert_eq!(rt;
-        rank(&pts, &all),
-        Shape::Flat(Id::new(0), Id::new(1), Id::new(3))
-    );
+    let flat = Shape::Flat(Id::new(0), Id::new(1), Id::new(3));
+    assert_eq!(rt; rank(&pts, &square_ids()), flat);
     assert_eq!(rt; rank(&pts, &[Id::new(3)]), Shape::Point(Id::new(3)));
+    let diagonal = [Id::new(0), Id::new(4), Id::new(5)];
     assert_eq!(rt;
-        rank(&pts, &[Id::new(0), Id::new(4), Id::new(5)]),
+        rank(&pts, &diagonal),
         Shape::Segment(Id::new(0), Id::new(4))
     );
     Ok(())
@@ -70,9 +101,7 @@ fn solids(rt: HostRuntime) -> Result<(), Fail> {
         Point::new(2, 2, 1),
     ];
     let ids = [Id::new(0), Id::new(1), Id::new(2), Id::new(3), Id::new(4)];
-    assert_eq!(rt;
-        rank(&pts, &ids),
-        Shape::Solid(Id::new(0), Id::new(1), Id::new(3), Id::new(4))
-    );
+    let solid = Shape::Solid(Id::new(0), Id::new(1), Id::new(3), Id::new(4));
+    assert_eq!(rt; rank(&pts, &ids), solid);
     Ok(())
 }

@@ -1,4 +1,5 @@
 pub mod BuildingLemmas
+pub mod SourceLemmas
 pub mod Lexing
 pub mod LexingLaws
 pub mod TokenLaws

@@ -6,3 +6,4 @@ pub mod Building
 pub mod Holding
 pub mod Scanning
 pub mod Reading
+pub mod SourceBytes

@@ -1,8 +1,10 @@
 //! Why points could not be read.
 ghost use Rattle.std.specs.Prelude.{◌≡◌};
+ghost use Rattle.qh_read.specs.declared.fault.ReadFault.TheVariants as faults;
 ghost use Rattle.qh_read.specs.declared.fault.FeedFault.TheVariants.{Memory};
 ghost use Rattle.qh_read.specs.ReadFaults.{read_fault};
 
+use crate::source::DeviceFault;
 use std::alloc::AllocError;
 
 /// Why a point file could not be read. A line is counted from 1 and ends at byte 10.
@@ -58,5 +60,21 @@ impl From<FeedFault> for ReadFault {
             FeedFault::Big => ReadFault::Big,
             FeedFault::Memory => ReadFault::Memory,
         }
+    }
+}
+
+impl From<AllocError> for ReadFault {
+    ghost from_gives = { λ _ e. e ≡ faults.Memory };
+
+    fn from(_: AllocError) -> ReadFault {
+        ReadFault::Memory
+    }
+}
+
+impl From<DeviceFault> for ReadFault {
+    ghost from_gives = { λ _ e. e ≡ faults.Device };
+
+    fn from(_: DeviceFault) -> ReadFault {
+        ReadFault::Device
     }
 }

@@ -6,12 +6,15 @@
 
 mod builder;
 mod coordinate;
+pub mod fakes;
 mod fault;
 mod reader;
 mod scanner;
+mod source;
 mod token;
 mod whole;
 
 pub use fault::{FeedFault, ReadFault};
 pub use reader::Reader;
-pub use whole::read_points;
+pub use source::{DeviceFault, MemSource, Source, StdSource};
+pub use whole::{read_from, read_points};

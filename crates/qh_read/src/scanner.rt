@@ -3,10 +3,10 @@ ghost use Rattle.std.specs.Prelude.{ℕ, ◌≡◌, ◌≤◌, ◌<◌, ◌+◌,
 ghost use Rattle.qh_read.specs.Tokens.{IsSmall};
 ghost use Rattle.qh_read.specs.Building.{shown, taken_count};
 ghost use Rattle.qh_read.specs.Holding.{held_at_start, ended_held, next_held, held_by};
-ghost use Rattle.qh_read.specs.Scanning.{held, HasRoom};
+ghost use Rattle.qh_read.specs.Scanning.{held, under_way, HasRoom};
 
 use crate::builder::Builder;
-use crate::token::{Token, begins_data, blank};
+use crate::token::{Token, begins_data, blank, with_digit};
 use std::alloc::{AllocError, Global};
 
 /// What is known of the bytes so far, save of the word under way, whose token goes beside it.
@@ -52,12 +52,13 @@ impl Scanner {
         ensures line { self.new.line ≡ self.old.line }
         ensures room { (bytes : ℕ) → HasRoom self.old token (bytes + 1) → HasRoom self.new Token.Empty bytes }
     {
-        if token != Token::Empty {
+        if !token.is_empty() {
             self.builder.take(token.value(), self.line);
         }
     }
 
     /// Takes one byte. It answers the word under way after it.
+    #[inline]
     fn step(&mut self, token: Token, byte: u8) -> Token
         requires small { IsSmall token }
         requires room { HasRoom self.old token 1 }
@@ -74,15 +75,44 @@ impl Scanner {
             Token::Empty
         } else if self.comment {
             token
+        } else if byte.is_ascii_digit() {
+            token.grow_digit(byte)
         } else if blank(byte) {
             self.end_word(token);
             Token::Empty
-        } else if token != Token::Empty || begins_data(byte) {
-            token.grow(byte)
+        } else if !token.is_empty() || begins_data(byte) {
+            token.grow_other(byte)
         } else {
             self.comment = true;
             token
         }
+    }
+
+    /// Takes the digits that the bytes begin with, where digits are under way. It answers the word
+    /// under way after them, and the bytes that are left.
+    ///
+    /// Most bytes of a file go this way.
+    #[inline]
+    fn digits<'a>(&self, token: Token, bytes: &'a [u8]) -> (Token, &'a [u8])
+        requires { IsSmall token }
+        ensures held { held_by (held self.now result.0) result.1.now ≡ held_by (held self.now token) bytes.now }
+        ensures small { IsSmall result.0 }
+        ensures under_way { under_way result.0 ≡ under_way token }
+        ensures left { length result.1.now ≤ length bytes.now }
+    {
+        let Token::Digits(minus, mut magnitude) = token else {
+            return (token, bytes);
+        };
+        if self.comment {
+            return (token, bytes);
+        }
+        for (i, byte) in bytes.iter().enumerate() {
+            if !byte.is_ascii_digit() {
+                return (Token::Digits(minus, magnitude), &bytes[i..]);
+            }
+            magnitude = with_digit(magnitude, *byte - b'0');
+        }
+        (Token::Digits(minus, magnitude), &[])
     }
 
     /// Takes the next bytes. It answers the word under way after them.
@@ -96,8 +126,10 @@ impl Scanner {
         ensures room { HasRoom self.new result 0 }
     {
         let mut token = token;
-        for byte in piece {
-            token = self.step(token, *byte);
+        let mut rest = piece;
+        while let Some((byte, after)) = rest.split_first() {
+            let grown = self.step(token, *byte);
+            (token, rest) = self.digits(grown, after);
         }
         token
     }

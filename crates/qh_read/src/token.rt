@@ -1,5 +1,6 @@
 //! The word under way, of which only what tells its number is kept.
-ghost use Rattle.std.specs.Prelude.{◌≡◌, ◌≤◌, ◌<◌, ◌+◌, ◌*◌, [], ◌∷◌};
+ghost use Rattle.std.specs.Prelude.{◌≡◌, ◌≤◌, ◌<◌, ◌+◌, ◌*◌, ◌↔◌, [], ◌∷◌, true, false, IsTrue};
+ghost use Rattle.std.specs.Char.{is_ascii_digit};
 ghost use Rattle.qh_read.specs.Tokens.{cap, grown, value_of, IsSmall};
 ghost use Rattle.qh_model.specs.Words.{is_blank, is_data};
 
@@ -9,7 +10,7 @@ use qh_model::COORDINATE_LIMIT;
 pub const MAGNITUDE_CAP: u32 = COORDINATE_LIMIT + 1;
 
 /// What is known of the word under way.
-#[derive(Clone, Copy, Debug, PartialEq, Eq)]
+#[derive(Clone, Copy, Debug)]
 pub enum Token {
     /// No byte of it yet.
     Empty,
@@ -36,7 +37,8 @@ pub fn begins_data(byte: u8) -> bool
 }
 
 /// The magnitude after one more digit, up to the cap.
-fn with_digit(magnitude: u32, digit: u8) -> u32
+#[inline]
+pub fn with_digit(magnitude: u32, digit: u8) -> u32
     requires small { magnitude ≤ MAGNITUDE_CAP }
     requires digit { digit < 10 }
     ensures { result ≡ cap (10 * magnitude + digit) }
@@ -50,28 +52,40 @@ fn with_digit(magnitude: u32, digit: u8) -> u32
 }
 
 impl Token {
-    /// The word with one byte more.
-    pub fn grow(self, byte: u8) -> Token
-        requires { IsSmall self }
+    /// Whether no word is under way.
+    pub fn is_empty(self) -> bool
+        ensures { IsTrue result ↔ (self ≡ Token.Empty) }
+    {
+        matches!(self, Token::Empty)
+    }
+
+    /// The word with one digit more.
+    #[inline]
+    pub fn grow_digit(self, byte: u8) -> Token
+        requires small { IsSmall self }
+        requires digit { is_ascii_digit byte ≡ true }
         ensures grown { result ≡ grown self byte }
         ensures small { IsSmall result }
     {
+        let digit = byte - b'0';
         match self {
-            Token::Empty => match byte {
-                b'+' => Token::Sign(false),
-                b'-' => Token::Sign(true),
-                b'0'..=b'9' => Token::Digits(false, (byte - b'0') as u32),
-                _ => Token::Other,
-            },
-            Token::Sign(minus) => match byte {
-                b'0'..=b'9' => Token::Digits(minus, (byte - b'0') as u32),
-                _ => Token::Other,
-            },
-            Token::Digits(minus, magnitude) => match byte {
-                b'0'..=b'9' => Token::Digits(minus, with_digit(magnitude, byte - b'0')),
-                _ => Token::Other,
-            },
+            Token::Digits(minus, magnitude) => Token::Digits(minus, with_digit(magnitude, digit)),
+            Token::Sign(minus) => Token::Digits(minus, digit as u32),
+            Token::Empty => Token::Digits(false, digit as u32),
             Token::Other => Token::Other,
+        }
+    }
+
+    /// The word with one byte more that is no digit.
+    pub fn grow_other(self, byte: u8) -> Token
+        requires { is_ascii_digit byte ≡ false }
+        ensures grown { result ≡ grown self byte }
+        ensures small { IsSmall result }
+    {
+        match (self, byte) {
+            (Token::Empty, b'+') => Token::Sign(false),
+            (Token::Empty, b'-') => Token::Sign(true),
+            _ => Token::Other,
         }
     }
 

@@ -1,0 +1,61 @@
+-- Ids in one plane: they are flat across their normal, and there are at least two.
+use Rattle.std.proofs.Common.{◌≡◌, ◌≢◌, ℕ, ◌<◌, List, [], ◌∷◌, length, arith, ap, sym, ◌∙◌, refl, ◌⊎◌, inl, inr}
+use Rattle.std.proofs.lemmas.Int.{ints}
+use Rattle.std.specs.Prelude.{ℤ, pos, ◌-ℤ◌, neg_ℤ}
+use Rattle.qh_model.proofs.algebra.Ring.{ring}
+use Rattle.qh_model.proofs.algebra.Ring.Expr.{con, sub as less, neg}
+use Rattle.qh_model.proofs.algebra.VectorIdentities.{vec, dotE, put, vector_path, vol-dot}
+use Rattle.qh_model.proofs.extremes.Dimensions.{segment_of_triangle}
+use Rattle.qh_model.proofs.extremes.Directions.{square-positive}
+use Rattle.qh_model.specs.Predicates.{place, cross}
+use Rattle.qh_model.specs.Sets.{In, Members}
+use Rattle.qh_model.specs.Vector.{Vector, origin, minus, dot}
+use Rattle.qh_plane.proofs.LinesAndPlanes.{between_eq, none}
+use Rattle.qh_plane.proofs.polygons.Turns.{IsFlat}
+use Rattle.qh_plane.specs.PlanarSets.{IsPlanarSet}
+
+negated : (c v : Vector) → dot (minus origin c) v ≡ neg_ℤ (dot c v)
+negated c v = ring (put c (put v [])) (dotE (record { x = less (con (pos 0)) (vec 0).x; y = less (con (pos 0)) (vec 0).y; z = less (con (pos 0)) (vec 0).z }) (vec 1)) (neg (dotE (vec 0) (vec 1))) refl
+
+neg_zero : (x y : ℤ) → x ≡ neg_ℤ y → y ≡ pos 0 → x ≡ pos 0
+neg_zero x y e h = omega (arith, ints)
+
+back_zero : (x : ℤ) → pos 0 -ℤ x ≡ pos 0 → x ≡ pos 0
+back_zero x e = omega (arith, ints)
+
+module _ (pts : List Vector) (ids : List ℕ) (n : Vector) (p : IsPlanarSet pts ids n) where
+  abbrev c : Vector
+  c = cross (place pts p.i) (place pts p.j) (place pts p.k)
+
+  -- the way from i to a member is across the normal
+  across : (l : ℕ) → In l ids → dot n (minus (place pts l) (place pts p.i)) ≡ pos 0
+  across l m = go p.normal
+    where
+      zero_c : dot c (minus (place pts l) (place pts p.i)) ≡ pos 0
+      zero_c = sym (vol-dot (place pts p.i) (place pts p.j) (place pts p.k) (place pts l)) ∙ p.plane l m
+
+      go : (n ≡ c) ⊎ (n ≡ minus origin c) → dot n (minus (place pts l) (place pts p.i)) ≡ pos 0
+      go (inl e) = ap (λ v. dot v (minus (place pts l) (place pts p.i))) e ∙ zero_c
+      go (inr e) = ap (λ v. dot v (minus (place pts l) (place pts p.i))) e ∙ neg_zero _ _ (negated c (minus (place pts l) (place pts p.i))) zero_c
+
+  some : n ≢ origin
+  some h = go p.normal
+    where
+      go : (n ≡ c) ⊎ (n ≡ minus origin c) → ⊥
+      go (inl e) = p.area (sym e ∙ h)
+      go (inr e) = let o : minus origin c ≡ origin = sym e ∙ h in p.area (vector_path c origin (back_zero c.x (ap (λ v. v.x) o)) (back_zero c.y (ap (λ v. v.y) o)) (back_zero c.z (ap (λ v. v.z) o)))
+
+  -- the ids are flat across the normal
+  pub flat_of : IsFlat n (place pts) (λ x. In x ids)
+  flat_of = record { even = λ a b ma mb. none _ _ _ (between_eq n (place pts p.i) (place pts a) (place pts b)) (across b mb) (across a ma); some = square-positive n some }
+
+  -- there are at least two
+  pub two_of : 1 < length ids
+  two_of = let s = segment_of_triangle (place pts) (Members ids) (record { i = p.i; j = p.j; k = p.k; has_i = p.has_i; has_j = p.has_j; has_k = p.has_k; area = p.area }) in go ids s.i s.j s.has_i s.has_j s.differ
+    where
+      go : (xs : List ℕ) (a b : ℕ) → In a xs → In b xs → a ≢ b → 1 < length xs
+      go [] a b ma mb d = absurd ma
+      go (x ∷ []) a b (inl e) (inl f) d = absurd (d (e ∙ sym f))
+      go (x ∷ []) a b (inl e) (inr m) d = absurd m
+      go (x ∷ []) a b (inr m) mb d = absurd m
+      go (x ∷ y ∷ ys) a b ma mb d = omega arith

@@ -1,0 +1,48 @@
+-- The steps of the code of a chain, in the words of std.
+use Rattle.std.proofs.Common.{◌≡◌, ℕ, refl, List, [], ◌∷◌, ◌++◌, arith, ap, sym, ◌∙◌, Bool, true, false, cond, reverse, take, length, ◌-◌}
+use Rattle.std.proofs.lemmas.List.{reverse-append, reverse-reverse, append_assoc, append-nil, length-reverse, take_at}
+use Rattle.std.specs.Prelude.{ℤ, not}
+use Rattle.qh_plane.specs.Chains.{is_left, kept_below, kept, is_dropped, turned_onto, after_first, joined}
+
+stop : (turn : ℕ → ℕ → ℕ → ℤ) (y t r : ℕ) (s : List ℕ) (b : Bool) → not b ≡ false → cond b (t ∷ r ∷ s) (kept_below turn y r s) ≡ t ∷ r ∷ s
+stop turn y t r s true e = refl
+stop turn y t r s false e = cc
+
+-- a top that stays ends the drops
+pub kept-stop : (turn : ℕ → ℕ → ℕ → ℤ) (y : ℕ) (s : List ℕ) → is_dropped turn y s ≡ false → kept turn y s ≡ s
+kept-stop turn y [] e = refl
+kept-stop turn y (t ∷ []) e = refl
+kept-stop turn y (t ∷ r ∷ s) e = stop turn y t r s (is_left (turn r t y)) e
+
+more : (turn : ℕ → ℕ → ℕ → ℤ) (y t r : ℕ) (s : List ℕ) (b : Bool) → not b ≡ true → cond b (t ∷ r ∷ s) (kept_below turn y r s) ≡ kept_below turn y r s
+more turn y t r s true e = cc
+more turn y t r s false e = refl
+
+-- a top that goes is dropped
+pub kept-more : (turn : ℕ → ℕ → ℕ → ℤ) (y : ℕ) (s : List ℕ) → is_dropped turn y s ≡ true → kept turn y s ≡ kept turn y (after_first s)
+kept-more turn y [] e = refl
+kept-more turn y (t ∷ []) e = cc
+kept-more turn y (t ∷ r ∷ s) e = more turn y t r s (is_left (turn r t y)) e
+
+-- turning onto a list, in the words of std
+pub turned_onto-is : (s acc : List ℕ) → turned_onto s acc ≡ reverse s ++ acc
+turned_onto-is [] acc = refl
+turned_onto-is (x ∷ s) acc = turned_onto-is s (x ∷ acc) ∙ sym (append_assoc (reverse s) (x ∷ []) acc) ∙ ap (λ t. t ++ acc) (sym (reverse-append (x ∷ []) s))
+
+front-of : (r acc : List ℕ) → turned_onto (after_first r) acc ≡ take (length (reverse r) - 1) (reverse r) ++ acc
+front-of [] acc = refl
+front-of (v ∷ s) acc =
+    let e : reverse (v ∷ s) ≡ reverse s ++ v ∷ [] = reverse-append (v ∷ []) s in
+    let l : length (reverse (v ∷ s)) - 1 ≡ length (reverse s) = simp (length-reverse) (omega arith) in
+    turned_onto-is s acc ∙ ap (λ t. t ++ acc) (sym (ap (λ t. take t (reverse (v ∷ s))) l ∙ ap (take (length (reverse s))) e ∙ take_at (reverse s) (v ∷ []) (length (reverse s)) refl))
+
+pub front : (xs acc : List ℕ) → turned_onto (after_first (reverse xs)) acc ≡ take (length xs - 1) xs ++ acc
+front xs acc = front-of (reverse xs) acc ∙ ap (λ t. take (length t - 1) t ++ acc) (reverse-reverse xs)
+
+-- the cycle over two chains, in the words of std
+pub fronts : (xs ys : List ℕ) → joined (reverse xs) (reverse ys) ≡ take (length xs - 1) xs ++ take (length ys - 1) ys
+fronts xs ys = front xs (turned_onto (after_first (reverse ys)) []) ∙ ap (λ t. take (length xs - 1) xs ++ t) (front ys [] ∙ append-nil (take (length ys - 1) ys))
+
+-- turning a list round, in the words of std
+pub reverse-turned_onto : (s : List ℕ) → reverse s ≡ turned_onto s []
+reverse-turned_onto s = sym (turned_onto-is s [] ∙ append-nil (reverse s))

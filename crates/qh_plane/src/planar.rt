@@ -1,0 +1,99 @@
+//! The polygon of points in one plane.
+ghost use Rattle.std.specs.Prelude.{◌≡◌, ◌<◌, ◌≤◌, ◌-◌, ◌++◌, ℕ, IfOk, [], length, slice_index, reverse, take};
+ghost use Rattle.std.specs.List.{All};
+ghost use Rattle.qh_model.specs.Predicates.{place};
+ghost use Rattle.qh_model.specs.Sets.{Members};
+ghost use Rattle.qh_model.specs.Extreme.{Extreme};
+ghost use Rattle.qh_model.specs.Polygon.{IsPolygon};
+ghost use Rattle.qh_plane.specs.Chains.{turn_of, chain, joined};
+ghost use Rattle.qh_plane.specs.PlaceKeys.{AreIndices, AreByPlace, HasKey};
+ghost use Rattle.qh_plane.specs.PlanarSets.{IsPlanarSet};
+
+use crate::chains::chain;
+use crate::place_keys::{id_in, place_keys};
+use qh_model::{Id, Memory, Point, Polygon};
+use qh_pred::Normal;
+use std::alloc::{AllocError, Global};
+
+/// The ids in the order of their places.
+fn by_place(alloc: Global, pts: &[Point], ids: &[Id]) -> Result<Vec<Id>, AllocError>
+    requires { AreIndices pts.now ids.now }
+    ensures order { IfOk result (λ v. AreByPlace pts.now ids.now v.items) }
+    ensures indices { IfOk result (λ v. AreIndices pts.now v.items) }
+    ensures known { IfOk result (λ _. All (HasKey pts.now) ids.now) }
+{
+    let mut keys = place_keys(alloc, pts, ids)?;
+    keys.sort_unstable();
+    let mut sorted = Vec::with_capacity(alloc, ids.len())?;
+    let ordered: &[u128] = &keys;
+    for key in ordered {
+        sorted.push(id_in(*key))?;
+    }
+    Ok(sorted)
+}
+
+/// Two chains, there and back, as one cycle: each without its last, where the other begins.
+fn joined(mut there: Vec<Id>, back: &[Id]) -> Result<Vec<Id>, AllocError>
+    ensures { IfOk result (λ v. v.items ≡ take (length there.items - 1) there.items ++ take (length back.now - 1) back.now) }
+{
+    let _last = there.pop();
+    let count = back.len();
+    if count > 0 {
+        there.extend_from_slice(&back[..count - 1])?;
+    }
+    Ok(there)
+}
+
+/// The cycle over the two chains of ids in order of place.
+fn cycle(
+    alloc: Global,
+    pts: &[Point],
+    normal: &Normal,
+    mut sorted: Vec<Id>,
+) -> Result<Vec<Id>, AllocError>
+    requires { AreIndices pts.now sorted.items }
+    ensures { IfOk result (λ v. v.items ≡ joined (chain (turn_of pts.now normal.now) [] sorted.items) (chain (turn_of pts.now normal.now) [] (reverse sorted.items))) }
+{
+    let there = chain(alloc, pts, normal, &sorted)?;
+    sorted.reverse();
+    let back = chain(alloc, pts, normal, &sorted)?;
+    joined(there, &back)
+}
+
+/// The position of the least id.
+fn least_position(ids: &[Id]) -> usize
+    ensures within { result ≤ length ids.now }
+    ensures proper { 0 < length ids.now → result < length ids.now }
+    ensures least { (k : ℕ) → k < length ids.now → slice_index ids.now result ≤ slice_index ids.now k }
+{
+    let mut least = 0;
+    for i in 0..ids.len() {
+        if ids[i] < ids[least] {
+            least = i;
+        }
+    }
+    least
+}
+
+/// The polygon of points in one plane: the extreme ids, counterclockwise seen from the side to which
+/// the normal points, from the least id on. It takes time in proportion to `n log n` for n ids.
+///
+/// Each id is the index of one of the points. The caller keeps `IsPlanarSet`: the ids rise, their
+/// points are distinct, lie in one plane and not in one line, and the normal is that of three of them
+/// or its opposite.
+///
+/// # Errors
+///
+/// `Memory` where memory was refused.
+///
+/// Source: Andrew's monotone chain (1979).
+pub fn polygon(alloc: Global, pts: &[Point], ids: &[Id], normal: &Normal) -> Result<Polygon, Memory>
+    requires { AreIndices pts.now ids.now }
+    ensures { IfOk result (λ q. IsPlanarSet pts.now ids.now normal.now → IsPolygon (place pts.now) (Extreme (place pts.now) (Members ids.now)) normal.now q) }
+{
+    let sorted = by_place(alloc, pts, ids)?;
+    let mut corners = cycle(alloc, pts, normal, sorted)?;
+    let least = least_position(&corners);
+    corners.rotate_left(least);
+    Ok(Polygon(corners))
+}
