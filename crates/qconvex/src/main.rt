@@ -10,6 +10,8 @@ mod fault;
 mod program;
 mod serve;
 mod settings;
+#[cfg(test)]
+mod tests;
 
 use std::process::ExitCode;
 

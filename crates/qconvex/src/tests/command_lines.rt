@@ -1,0 +1,66 @@
+use super::settings;
+use std::test::Fail;
+
+/// Lines that are refused.
+const REFUSED: [&str; 12] = [
+    "--workers 0",
+    "--workers 65",
+    "--block 0",
+    "--block 1048577",
+    "Fy",
+    "fx",
+    "--workers 2 --workers 2",
+    "--block 2 --block 3",
+    "--work 2",
+    "-V",
+    "help",
+    "--workers two",
+];
+
+/// Lines that are accepted, with their workers, block size and number of outputs.
+const ACCEPTED: [(&str, u32, u32, usize); 8] = [
+    ("", 4, 4096, 1),
+    ("rank", 4, 4096, 1),
+    ("rank --workers 2 s", 2, 4096, 2),
+    ("--block=3 rank", 4, 3, 1),
+    ("-- rank", 4, 4096, 1),
+    ("off Fx s rank off", 4, 4096, 5),
+    ("--workers 64 --block 1048576", 64, 1048576, 1),
+    ("--workers +4 --block 004", 4, 4, 1),
+];
+
+#[test]
+fn judges_command_lines(rt: HostRuntime) -> Result<(), Fail> {
+    let alloc = rt.alloc();
+    for line in REFUSED {
+        let Err(outcome) = settings(alloc, line)? else {
+            return Err("the line is no command line".into());
+        };
+        assert_eq!(rt; outcome.error.as_str(), "qconvex: 12: Usage", "at {line}");
+        assert!(rt; outcome.output.is_empty());
+        assert_eq!(rt; outcome.status, 2);
+    }
+    for (line, workers, block, outs) in ACCEPTED {
+        let Ok(settings) = settings(alloc, line)? else {
+            return Err("the line is a command line".into());
+        };
+        assert_eq!(rt; settings.workers(), workers, "at {line}");
+        assert_eq!(rt; settings.block(), block, "at {line}");
+        assert_eq!(rt; settings.outs().len(), outs, "at {line}");
+    }
+    Ok(())
+}
+
+#[test]
+fn helps(rt: HostRuntime) -> Result<(), Fail> {
+    let alloc = rt.alloc();
+    for line in ["--help", "-h", "rank --help --workers 0"] {
+        let Err(outcome) = settings(alloc, line)? else {
+            return Err("the line asks for help".into());
+        };
+        assert!(rt; outcome.output.contains("--workers <N>"), "at {line}");
+        assert!(rt; outcome.output.contains("--block <N>"), "at {line}");
+        assert_eq!(rt; outcome.status, 0);
+    }
+    Ok(())
+}

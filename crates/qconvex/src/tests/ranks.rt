@@ -1,0 +1,46 @@
+use super::{answered, served, settings};
+use std::test::Fail;
+
+/// Inputs and what `rank` answers.
+const RANKS: [(&str, &str); 13] = [
+    ("3\n1\n5 5 5\n", "1 1 0\n"),
+    ("3 2\n0 0 0\n2 2 2\n", "2 2 1\n"),
+    ("4 3\n0 0 0\n1 0 0\n0 1 0\n0 0 1\n", "4 4 3\n"),
+    (
+        "3 rbox c z\r\n4\r\n0 0 0 origin\r\n1 0 0 # 7 8\r\n0 1 0\r\n0 0 1",
+        "4 4 3\n",
+    ),
+    ("+3 01\n-0 +0 0005\n", "1 1 0\n"),
+    ("3\n3\n7 7 7\n7 7 7\n7 7 7\n", "3 1 0\n"),
+    ("3\n5\n1 1 1\n0 0 0\n4 4 4\n2 2 2\n3 3 3\n", "5 5 1\n"),
+    ("3\n5\n0 0 0\n2 0 0\n2 2 0\n0 2 0\n1 1 0\n", "5 5 2\n"),
+    // The volume is 2^64 in size, which wraps to 0 in 64 bits.
+    (
+        "3\n4\n-1048576 -1048576 -1048576\n1048576 1048576 -1048576\n1048576 -1048576 1048576\n-1048576 1048576 1048576\n",
+        "4 4 3\n",
+    ),
+    // The volume is -1, of points at the limit of the coordinates.
+    (
+        "3\n4\n0 0 0\n1048576 1048575 0\n1048575 1048574 0\n1048576 1048576 1\n",
+        "4 4 3\n",
+    ),
+    ("3\n4\n9 9 9\n1 2 3\n9 9 9\n4 5 6\n", "4 3 2\n"),
+    // Byte 13 is a blank, and so are bytes 11 and 12.
+    ("3\n1\n5 5\r5\n", "1 1 0\n"),
+    ("3\n1\n5\x0b5\x0c5\n", "1 1 0\n"),
+];
+
+#[test]
+fn ranks(rt: HostRuntime) -> Result<(), Fail> {
+    let alloc = rt.alloc();
+    let Ok(settings) = settings(alloc, "rank")? else {
+        return Err("the line is a command line".into());
+    };
+    for (input, want) in RANKS {
+        let answered = answered(&rt, alloc, input.as_bytes(), &settings)?;
+        assert_eq!(rt; answered.output.as_str(), want, "at {input:?}");
+        let served = served(&rt, alloc, input.as_bytes(), &settings)?;
+        assert_eq!(rt; served.output.as_str(), want, "at {input:?}");
+    }
+    Ok(())
+}

@@ -1,0 +1,2 @@
+-- Sets in a point, a line or a plane: their hulls.
+pub mod Lines
