@@ -59,6 +59,7 @@ pub rises_above : (x : ℕ) (xs : List ℕ) → IsStrictlyIncreasing (x ∷ xs) 
 rises_above x [] r = tt
 rises_above x (y ∷ ys) r = (r 0 (omega arith), rises_above y ys (rising_tail x (y ∷ ys) r))
 
+-- the same of a whole list
 pub rises : (xs : List ℕ) → IsStrictlyIncreasing xs → Rises xs
 rises [] r = tt
 rises (x ∷ xs) r = rises_above x xs r

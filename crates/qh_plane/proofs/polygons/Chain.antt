@@ -10,19 +10,23 @@ use Rattle.qh_plane.proofs.polygons.TurnLaws.{RisesBy, TurnLaws, TurnsAt, HasOnL
 abbrev IsCapped : (ℕ → ℕ → ℕ → ℤ) → (ℕ → ℤ) → (ℕ → Type 0) → ℕ → ℕ → Type 0
 IsCapped turn key D y t = (x : ℕ) → D x → key t <ℤ key x → pos 0 ≤ℤ turn t y x
 
+-- a turn to the left is above 0
 is_left-yes : (z : ℤ) → is_left z ≡ true → pos 0 <ℤ z
 is_left-yes (pos zero) e = cc
 is_left-yes (pos (suc n)) e = omega (arith, ints)
 is_left-yes (negsuc n) e = cc
 
+-- another is not
 is_left-no : (z : ℤ) → is_left z ≡ false → z ≤ℤ pos 0
 is_left-no (pos zero) e = omega (arith, ints)
 is_left-no (pos (suc n)) e = cc
 is_left-no (negsuc n) e = omega (arith, ints)
 
+-- zero is not below 0
 at_least : (z : ℤ) → z ≡ pos 0 → pos 0 ≤ℤ z
 at_least z e = omega (arith, ints)
 
+-- what is above 0 is not below 0
 weaker : (z : ℤ) → pos 0 <ℤ z → pos 0 ≤ℤ z
 weaker z h = omega (arith, ints)
 
@@ -74,6 +78,7 @@ module _ (turn : ℕ → ℕ → ℕ → ℤ) (key : ℕ → ℤ) (A : ℕ → T
   pop : (D : ℕ → Type 0) (y t r : ℕ) → ((x : ℕ) → D x → A x) → A y → D t → D r → key r <ℤ key t → HasOnLeft turn D r t → ((x : ℕ) → D x → key x <ℤ key y) → turn r t y ≤ℤ pos 0 → IsCapped turn key D y r
   pop D y t r in_a ay dt dr lt edge below nl x dx h = turn_laws.about r t x y (in_a r dr) (in_a t dt) (in_a x dx) ay lt h (below r dr) nl (edge x dx)
 
+  -- one pop, by whether the way over the top turns left
   pops-split : (D : ℕ → Type 0) (y t r : ℕ) (s : List ℕ) (b : Bool) → is_left (turn r t y) ≡ b
       → ((x : ℕ) → D x → A x) → A y → ((x : ℕ) → D x → key x <ℤ key y)
       → (IsChain turn key D r s → IsCapped turn key D y r → Top turn key D y (kept_below turn y r s))
@@ -82,6 +87,7 @@ module _ (turn : ℕ → ℕ → ℕ → ℤ) (key : ℕ → ℤ) (A : ℕ → T
   pops-split D y t r s false e in_a ay below more g c =
       more g.4 (pop D y t r in_a ay g.0 (chain_top turn key D r s g.4) g.1 g.2 below (is_left-no _ e))
 
+  -- the pops end at a top over which the way turns left
   pops : (D : ℕ → Type 0) (y t : ℕ) (s : List ℕ) → ((x : ℕ) → D x → A x) → A y → ((x : ℕ) → D x → key x <ℤ key y)
       → IsChain turn key D t s → IsCapped turn key D y t → Top turn key D y (kept_below turn y t s)
   pops D y t [] in_a ay below g c = record { top = t; rest = []; is = refl; good = g; capped = c; sharp = tt }
@@ -92,12 +98,14 @@ module _ (turn : ℕ → ℕ → ℕ → ℤ) (key : ℕ → ℤ) (A : ℕ → T
   edge-more D y r t edge lt x (inl e) = subst (λ v. pos 0 ≤ℤ turn r t v) (sym e) (weaker _ lt)
   edge-more D y r t edge lt x (inr d) = edge x d
 
+  -- where the way turns left over a top, it does so over each one below
   sharp-down : (D : ℕ → Type 0) (y t r : ℕ) (s : List ℕ) → ((x : ℕ) → D x → A x) → A y → ((x : ℕ) → D x → key x <ℤ key y)
       → D t → key r <ℤ key t → TurnsAt turn t r s → IsChain turn key D r s → pos 0 <ℤ turn r t y → TurnsAt turn y r s
   sharp-down D y t r [] in_a ay below dt lt sh g h = tt
   sharp-down D y t r (q ∷ s) in_a ay below dt lt sh g h =
       turn_laws.onward q r t y (in_a q (chain_top turn key D q s g.4)) (in_a r g.0) (in_a t dt) ay g.1 lt (below r g.0) sh (weaker _ h)
 
+  -- the chain has y on its left too
   lift : (D : ℕ → Type 0) (y t : ℕ) (s : List ℕ) → ((x : ℕ) → D x → A x) → A y → ((x : ℕ) → D x → key x <ℤ key y)
       → IsChain turn key D t s → TurnsAt turn y t s → IsChain turn key (Added D y) t s
   lift D y t [] in_a ay below g sh = (inr g.0, first)
@@ -121,6 +129,7 @@ module _ (turn : ℕ → ℕ → ℕ → ℤ) (key : ℕ → ℤ) (A : ℕ → T
   behind-edge D y t (r ∷ s) in_a ay below g sh x d h =
       turn_laws.behind r t x y (in_a r (chain_top turn key D r s g.4)) (in_a t g.0) (in_a x d) ay h g.1 (below t g.0) (g.2 x d) (weaker _ sh)
 
+  -- the new edge has all that was passed on its left
   new-edge : (D : ℕ → Type 0) (y t : ℕ) (s : List ℕ) → ((x : ℕ) → D x → A x) → A y → ((x : ℕ) → D x → key x <ℤ key y)
       → IsChain turn key D t s → IsCapped turn key D y t → TurnsAt turn y t s → HasOnLeft turn (Added D y) t y
   new-edge D y t s in_a ay below g c sh x (inl e) = subst (λ v. pos 0 ≤ℤ turn t y v) (sym e) (at_least _ (turn_laws.there t y))
@@ -134,12 +143,14 @@ module _ (turn : ℕ → ℕ → ℕ → ℤ) (key : ℕ → ℤ) (A : ℕ → T
       here : x ≡ t → pos 0 ≤ℤ turn t y x
       here e = subst (λ v. pos 0 ≤ℤ turn t y v) (sym e) (at_least _ (turn_laws.back t y))
 
+  -- the next id on the stack makes a chain over one more
   pushes : (D : ℕ → Type 0) (y : ℕ) (s : List ℕ) → ((x : ℕ) → D x → A x) → A y → ((x : ℕ) → D x → key x <ℤ key y)
       → (p : Top turn key D y s) → IsChain turn key (Added D y) y s
   pushes D y s in_a ay below p =
       subst (λ v. IsChain turn key (Added D y) y v) (sym p.is)
       (inl refl, below p.top (chain_top turn key D p.top p.rest p.good), new-edge D y p.top p.rest in_a ay below p.good p.capped p.sharp, p.sharp, lift D y p.top p.rest in_a ay below p.good p.sharp)
 
+  -- the stack stays a chain over what was passed
   chains : (D : ℕ → Type 0) (t : ℕ) (s xs : List ℕ) → ((x : ℕ) → D x → A x) → ((x : ℕ) → In x xs → A x)
       → IsChain turn key D t s → ((x : ℕ) → D x → key x ≤ℤ key t) → RisesBy key t xs → IsChained turn key (Passed D xs) (chain turn (t ∷ s) xs)
   chains D t s [] in_a xs_a g le r = record { top = t; rest = s; is = refl; good = g; greatest = le }

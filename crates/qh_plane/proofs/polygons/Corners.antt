@@ -15,11 +15,13 @@ use Rattle.qh_plane.proofs.polygons.TurnLaws.{HasOnLeft}
 use Rattle.qh_plane.proofs.polygons.Turns.{IsFlat, IsKeyed, turn_about, height_of, step, forward, forward_eq, left-middle, left-bracket, left-swap}
 
 -- ---- corners: members that a direction puts beyond all others
+-- w puts m strictly beyond all other members
 pub record Corner (at : ℕ → Vector) (A : ℕ → Type 0) (m : ℕ) : Type 0 where
   pub member : A m
   pub w : Vector
   pub beats : (x : ℕ) → A x → x ≢ m → dot w (at x) <ℤ dot w (at m)
 
+-- how far r lies beyond x across the way from q to t
 corner_eq : (n q r t x : Vector) → dot (cross_product (minus t q) n) r -ℤ dot (cross_product (minus t q) n) x ≡ left n q r x +ℤ left n r t x
 unfolding left
 corner_eq n q r t x =
@@ -47,6 +49,7 @@ apart ac hb ab hc bc ha e p q h = cancel-zero ab hc h (none (ab *ℤ hc) hb ha (
     none : (x hb ha : ℤ) → pos 0 *ℤ hb ≡ x +ℤ pos 0 *ℤ ha → x ≡ pos 0
     none x hb ha e = omega (arith, ints)
 
+-- no difference, one number
 level : (d a b : ℤ) → d ≡ b -ℤ a → d ≡ pos 0 → b ≡ a
 level d a b e h = omega (arith, ints)
 
@@ -80,6 +83,7 @@ corner_extreme at A m c = (c.member, λ x. all_lower at (Others A m) (at m) c.w 
     past j o = c.beats j o.0 o.1
 
 -- ---- what is beyond two ends of an edge
+-- two directions of a plane, by their heights along h and w
 across_eq : (n h w a b : Vector) → dot n n *ℤ (dot h a *ℤ dot w b -ℤ dot h b *ℤ dot w a)
     ≡ bracket n a b *ℤ dot (cross_product h w) n -ℤ dot n b *ℤ dot (cross_product h w) (cross_product n a) +ℤ dot n a *ℤ dot (cross_product h w) (cross_product n b)
 across_eq n h w a b =
@@ -87,9 +91,11 @@ across_eq n h w a b =
     (mul (dotE (vec 0) (vec 0)) (less (mul (dotE (vec 3) (vec 1)) (dotE (vec 4) (vec 2))) (mul (dotE (vec 3) (vec 2)) (dotE (vec 4) (vec 1)))))
     (add (less (mul (bracketE 1 2) (dotE (crossE (vec 3) (vec 4)) (vec 0))) (mul (dotE (vec 0) (vec 2)) (dotE (crossE (vec 3) (vec 4)) (crossE (vec 0) (vec 1))))) (mul (dotE (vec 0) (vec 1)) (dotE (crossE (vec 3) (vec 4)) (crossE (vec 0) (vec 2))))) refl
 
+-- two terms that are zero
 two_zero : (l x p q y z : ℤ) → l ≡ x -ℤ p *ℤ y +ℤ q *ℤ z → p ≡ pos 0 → q ≡ pos 0 → l ≡ x
 two_zero l x p q y z e h k = rw (h, k) at e ∙ omega (arith, ints)
 
+-- the signs of the heights along h and w contradict the bracket
 across_sign : (N ha hb wa wb P : ℤ) → N *ℤ (ha *ℤ wb -ℤ hb *ℤ wa) ≡ P → P ≤ℤ pos 0 → pos 0 <ℤ N → pos 0 <ℤ hb → hb <ℤ ha → pos 0 <ℤ wb → wa <ℤ wb → ⊥
 across_sign N ha hb wa wb P e p s b ab w aw =
     let k : (N *ℤ (ha *ℤ wb -ℤ hb *ℤ wa)) ≤ℤ pos 0 = subst (λ v. v ≤ℤ pos 0) (sym e) p in
@@ -108,6 +114,7 @@ across_sign N ha hb wa wb P e p s b ab w aw =
     against : (d x y : ℤ) → d ≡ x +ℤ y → d ≤ℤ pos 0 → pos 0 <ℤ x → pos 0 <ℤ y → ⊥
     against d x y e h p q = omega (arith, ints)
 
+-- what is further from a is further ahead
 ahead_of : (d1 d2 a b c : ℤ) → d1 ≡ b -ℤ a → d2 ≡ c -ℤ a → b <ℤ c → d1 <ℤ d2
 ahead_of d1 d2 a b c e f h = omega (arith, ints)
 
@@ -123,6 +130,7 @@ core n h w at A flat u v e au av ae ue ev wu wv p =
     (forward w (at u) (at e) wu) (ahead_of _ _ _ _ _ (forward_eq w (at u) (at v)) (forward_eq w (at u) (at e)) wv)
 
 -- ---- three corners are not in line
+-- a corner is not in line between two members
 lined : (n h : Vector) (at : ℕ → Vector) (A : ℕ → Type 0) → IsFlat n at A → (u v m : ℕ) → A u → A v → Corner at A m → u ≢ m → v ≢ m
     → height_of h at u <ℤ height_of h at m → height_of h at m <ℤ height_of h at v → turn_about n at u v m ≡ pos 0 → ⊥
 lined n h at A flat u v m au av c nu nv um mv z =
@@ -131,13 +139,16 @@ lined n h at A flat u v m au av c nu nv um mv z =
     none : (x : ℤ) → (pos 0 *ℤ x) ≤ℤ pos 0
     none x = omega (arith, ints)
 
+-- the opposite of zero is zero
 zero_neg : (x y : ℤ) → x ≡ neg_ℤ y → y ≡ pos 0 → x ≡ pos 0
 zero_neg x y e h = omega (arith, ints)
 
 module _ (n h : Vector) (at : ℕ → Vector) (A : ℕ → Type 0) (flat : IsFlat n at A) (keyed : IsKeyed h at A) where
+  -- a turn that is zero, with its ends exchanged
   flipped : (u v x : ℕ) → turn_about n at u v x ≡ pos 0 → turn_about n at u x v ≡ pos 0
   flipped u v x z = zero_neg _ _ (left-flip n (at u) (at x) (at v)) z
 
+  -- the same, with its beginning exchanged
   swapped : (u v x : ℕ) → turn_about n at u v x ≡ pos 0 → turn_about n at v u x ≡ pos 0
   swapped u v x z = zero_neg _ _ (left-swap n (at v) (at u) (at x)) z
 
@@ -149,6 +160,7 @@ module _ (n h : Vector) (at : ℕ → Vector) (A : ℕ → Type 0) (flat : IsFla
       both : (a b : ℤ) → b ≤ℤ a → a ≤ℤ b → a ≡ b
       both a b p q = omega (arith, ints)
 
+  -- three corners are not in line
   not_lined : (u v x : ℕ) → Corner at A u → Corner at A v → Corner at A x → u ≢ v → x ≢ u → x ≢ v → turn_about n at u v x ≡ pos 0 → ⊥
   not_lined u v x cu cv cx uv xu xv z =
       ordered ⊥ u v cu.member cv.member uv
@@ -163,6 +175,7 @@ module _ (n h : Vector) (at : ℕ → Vector) (A : ℕ → Type 0) (flat : IsFla
       (λ lvx. lined n h at A flat v u x cv.member cu.member cx (λ e. xv (sym e)) (λ e. xu (sym e)) lvx lxu (swapped u v x z)))
       (λ lux. lined n h at A flat v x u cv.member cx.member cu (λ e. uv (sym e)) xu lvu lux (flipped v u x (swapped u v x z))))
 
+  -- a corner on the left of the way between two lies strictly there
   pub strict : (u v x : ℕ) → Corner at A u → Corner at A v → Corner at A x → u ≢ v → x ≢ u → x ≢ v → pos 0 ≤ℤ turn_about n at u v x → pos 0 <ℤ turn_about n at u v x
   strict u v x cu cv cx uv xu xv h = by_lt_z (pos 0) (turn_about n at u v x) (λ q. q) (λ q. absurd (not_lined u v x cu cv cx uv xu xv (both _ h q)))
     where

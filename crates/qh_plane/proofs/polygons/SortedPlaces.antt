@@ -26,9 +26,11 @@ use Rattle.qh_plane.specs.Chains.{turned_onto, joined, chain}
 use Rattle.qh_plane.specs.PlaceKeys.{place_code, key_at, ids_in, HasKey, AreByPlace}
 
 -- ---- rising keys are rising places
+-- of keys in order with different places, the places are in order
 less_code : (a b i j k l : ℕ) → k ≡ a * ROOM + i → l ≡ b * ROOM + j → i < ROOM → j < ROOM → k < l → (a ≡ b → ⊥) → a < b
 less_code a b i j k l e f h m lt ne = omega arith
 
+-- rising keys are rising heights
 step_up : (pts : List Vector) (ids : List ℕ) (k l : ℕ) → HasDistinctPoints (place pts) (λ x. In x ids) → IsKeyOf pts ids k → IsKeyOf pts ids l → k < l
     → height_of order (place pts) (k % ROOM) <ℤ height_of order (place pts) (l % ROOM)
 step_up pts ids k l d t u lt =
@@ -39,20 +41,24 @@ step_up pts ids k l d t u lt =
     no_less : (a b : ℕ) → a < b → a ≡ b → ⊥
     no_less a b h e = omega arith
 
+-- the same along a list
 rises_of : (pts : List Vector) (ids : List ℕ) (k : ℕ) (ks : List ℕ) → HasDistinctPoints (place pts) (λ x. In x ids) → Every (IsKeyOf pts ids) (k ∷ ks) → RisesAbove k ks
     → RisesBy (height_of order (place pts)) (k % ROOM) (ids_in ks)
 rises_of pts ids k [] d t c = tt
 rises_of pts ids k (l ∷ ks) d t c = (step_up pts ids k l d t.0 t.1.0 c.0, rises_of pts ids l ks d t.1 c.1)
 
 -- ---- turned round
+-- the keys rise along the list from its first
 abbrev FallsBack : (ℕ → ℤ) → List ℕ → Type 0
 FallsBack key [] = Unit {0}
 FallsBack key (x ∷ xs) = RisesBy key x xs
 
+-- a list that rises, turned round, rises the other way
 falls_back : (h : Vector) (at : ℕ → Vector) (t : ℕ) (s acc : List ℕ) → RisesBy (height_of h at) t s → RisesBy (height_of (opposite h) at) t acc → FallsBack (height_of (opposite h) at) (turned_onto s (t ∷ acc))
 falls_back h at t [] acc r f = f
 falls_back h at t (y ∷ s) acc r f = falls_back h at y s (t ∷ acc) r.1 (lt_neg _ _ _ _ (dot-opposite h (at y)) (dot-opposite h (at t)) r.0, f)
 
+-- the cycle of a rising list and its turn
 round_of : (n : Vector) (at : ℕ → Vector) (A : ℕ → Type 0) → IsFlat n at A → IsKeyed order at A → (x₀ x₁ : ℕ) (xs L : List ℕ) → ((x : ℕ) → In x (x₀ ∷ x₁ ∷ xs) ↔ A x) → ((x : ℕ) → In x L ↔ A x)
     → RisesBy (height_of order at) x₀ (x₁ ∷ xs) → FallsBack (height_of (opposite order) at) L
     → GoesRound n at A (joined (chain (turn_about n at) [] (x₀ ∷ x₁ ∷ xs)) (chain (turn_about n at) [] L))
@@ -60,6 +66,7 @@ round_of n at A flat keyed x₀ x₁ xs [] i j r f = absurd ((j x₀).1 ((i x₀
 round_of n at A flat keyed x₀ x₁ xs (y₀ ∷ ys) i j r f =
     goes_round n order at A flat keyed x₀ x₁ ((i x₀).0 (inl refl)) ((i x₁).0 (inr (inl refl))) r.0 (lt_neg _ _ _ _ (dot-opposite order (at x₁)) (dot-opposite order (at x₀)) r.0) x₀ (x₁ ∷ xs) y₀ ys i j r f
 
+-- the same of the ids in rising keys
 round_keys : (pts : List Vector) (ids keys : List ℕ) (n : Vector) → Every (IsKeyOf pts ids) keys → IsStrictlyIncreasing keys → 1 < length keys → ((x : ℕ) → In x (ids_in keys) ↔ In x ids)
     → All (HasKey pts) ids → HasDistinctPoints (place pts) (λ x. In x ids) → IsFlat n (place pts) (λ x. In x ids)
     → GoesRound n (place pts) (λ x. In x ids) (joined (chain (turn_about n (place pts)) [] (ids_in keys)) (chain (turn_about n (place pts)) [] (reverse (ids_in keys))))

@@ -16,6 +16,7 @@ pub record IsFlat (n : Vector) (at : ℕ → Vector) (A : ℕ → Type 0) : Type
   pub some : pos 0 <ℤ dot n n
 
 -- ---- in points
+-- the turn as a bracket of the two steps
 pub left-middle : (n u v w : Vector) → left n u v w ≡ bracket n (minus v u) (minus w v)
 unfolding left
 left-middle n u v w = ring (put n (put u (put v (put w [])))) (dotE (crossE (subE (vec 2) (vec 1)) (subE (vec 3) (vec 1))) (vec 0)) (dotE (crossE (subE (vec 2) (vec 1)) (subE (vec 3) (vec 2))) (vec 0)) refl
@@ -54,6 +55,7 @@ left-there n t y = ring (put n (put t (put y []))) (dotE (crossE (subE (vec 2) (
 pub forward_eq : (h u v : Vector) → dot h (minus v u) ≡ dot h v -ℤ dot h u
 forward_eq h u v = ring (put h (put u (put v []))) (dotE (vec 0) (subE (vec 2) (vec 1))) (less (dotE (vec 0) (vec 2)) (dotE (vec 0) (vec 1))) refl
 
+-- a difference above 0
 ahead : (d a b : ℤ) → d ≡ b -ℤ a → a <ℤ b → pos 0 <ℤ d
 ahead d a b e h = omega (arith, ints)
 
@@ -73,9 +75,11 @@ turn_about n at u v w = left n (at u) (at v) (at w)
 abbrev pub height_of : Vector → (ℕ → Vector) → ℕ → ℤ
 height_of h at u = dot h (at u)
 
+-- not to the left, turned about
 other_side : (x y : ℤ) → x ≡ neg_ℤ y → x ≤ℤ pos 0 → pos 0 ≤ℤ y
 other_side x y e h = omega (arith, ints)
 
+-- the way between two ids
 abbrev pub step : (ℕ → Vector) → ℕ → ℕ → Vector
 step at u v = minus (at v) (at u)
 
