@@ -1,5 +1,5 @@
 -- Small examples of the definitions, computed.
-use Rattle.std.proofs.Common.{◌≡◌, ℕ, refl, List, [], ◌∷◌, ◌++◌, arith, subst, sym, inl, inr, false, true}
+use Rattle.std.proofs.Common.{◌≡◌, ℕ, refl, List, [], ◌∷◌, arith, subst, sym, inl, inr, false}
 use Rattle.std.proofs.lemmas.Int.{ints}
 use Rattle.std.specs.Prelude.{pos, negsuc, Some, None, ◌<ℤ◌}
 use Rattle.qh_model.specs.Vector.{Vector}
@@ -53,12 +53,15 @@ one_is_extreme = (inl refl, λ m. m.has_a.1 (only m.a m.has_a.0))
 abbrev flat : ℕ → ℕ → Vector
 flat x y = record { x = pos x; y = pos y; z = pos 0 }
 
+-- the corners of the unit square
 abbrev square : ℕ → Vector
 square = one_of (flat 0 0) (flat 1 0) (flat 1 1) (flat 0 1)
 
+-- straight up
 abbrev upward : Vector
 upward = record { x = pos 0; y = pos 0; z = pos 1 }
 
+-- the corners in their order
 abbrev around : List ℕ
 around = 0 ∷ 1 ∷ 2 ∷ 3 ∷ []
 
@@ -70,21 +73,25 @@ corners P p q r s w (inr (inr (inl e))) = subst P (sym e) r
 corners P p q r s w (inr (inr (inr (inl e)))) = subst P (sym e) s
 corners P p q r s w (inr (inr (inr (inr n)))) = absurd n
 
+-- the way from 0 to 1 has the others to its left
 turn_0 : TurnsLeft square upward around 0 1
 unfolding left
 turn_0 = corners (λ w. ¬ (w ≡ 0) → ¬ (w ≡ 1) → pos 0 <ℤ left upward (square 0) (square 1) (square w))
     (λ a b. absurd (a refl)) (λ a b. absurd (b refl)) (λ a b. omega (arith, ints)) (λ a b. omega (arith, ints))
 
+-- so has the way from 1 to 2
 turn_1 : TurnsLeft square upward around 1 2
 unfolding left
 turn_1 = corners (λ w. ¬ (w ≡ 1) → ¬ (w ≡ 2) → pos 0 <ℤ left upward (square 1) (square 2) (square w))
     (λ a b. omega (arith, ints)) (λ a b. absurd (a refl)) (λ a b. absurd (b refl)) (λ a b. omega (arith, ints))
 
+-- and that from 2 to 3
 turn_2 : TurnsLeft square upward around 2 3
 unfolding left
 turn_2 = corners (λ w. ¬ (w ≡ 2) → ¬ (w ≡ 3) → pos 0 <ℤ left upward (square 2) (square 3) (square w))
     (λ a b. omega (arith, ints)) (λ a b. omega (arith, ints)) (λ a b. absurd (a refl)) (λ a b. absurd (b refl))
 
+-- and that from 3 to 0
 turn_3 : TurnsLeft square upward around 3 0
 unfolding left
 turn_3 = corners (λ w. ¬ (w ≡ 3) → ¬ (w ≡ 0) → pos 0 <ℤ left upward (square 3) (square 0) (square w))

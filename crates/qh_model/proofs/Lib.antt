@@ -1,4 +1,6 @@
 pub mod algebra
+pub mod Booleans
+pub mod Members
 pub mod lists
 pub mod combinations
 pub mod extremes
@@ -6,6 +8,5 @@ pub mod surfaces
 pub mod closed_surfaces
 pub mod polygons
 pub mod hulls
-pub mod Members
 pub mod ReadingLaws
 pub mod Examples

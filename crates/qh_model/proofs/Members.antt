@@ -1,6 +1,7 @@
 -- Members of lists: by index, in lists of rising numbers, and under facts of each member.
-use Rattle.std.proofs.Common.{◌≡◌, ℕ, zero, suc, ◌+◌, ◌<◌, List, [], ◌∷◌, length, add-one, arith, refl, sym, subst, inl, inr, All, get_or}
+use Rattle.std.proofs.Common.{ℕ, zero, suc, ◌<◌, List, [], ◌∷◌, length, add-one, arith, refl, sym, subst, inl, inr, All, get_or}
 use Rattle.std.proofs.lemmas.List.Elements.{All-head, All-tail}
+use Rattle.std.specs.List.{AllByRecursion as Every}
 use Rattle.std.specs.List.Sorted.{IsStrictlyIncreasing}
 use Rattle.qh_model.specs.Sets.{In, Once}
 
@@ -27,6 +28,7 @@ rising_first x (z ∷ zs) h y i = by (rising_first z zs (rising_tail x (z ∷ zs
   where
     next : x < z
     next = h 0 (omega arith)
+
     by : ((y : ℕ) → In y zs → z < y) → In y (z ∷ zs) → x < y
     by rest (inl e) = subst (λ (n : ℕ). x < n) (sym e) next
     by rest (inr i) = let above : z < y = rest y i in omega (arith, next, above)
@@ -35,3 +37,19 @@ rising_first x (z ∷ zs) h y i = by (rising_first z zs (rising_tail x (z ∷ zs
 pub rising_once : (xs : List ℕ) → IsStrictlyIncreasing xs → Once xs
 rising_once [] h = tt
 rising_once (x ∷ xs) h = (λ i. let below : x < x = rising_first x xs h x i in omega (arith, below), rising_once xs (rising_tail x xs h))
+
+-- the same of a list by recursion
+pub every_at : {X : Type 0} (P : X → Type 0) (xs : List X) (x : X) → Every P xs → In x xs → P x
+every_at P (y ∷ ys) x h (inl e) = subst P (sym e) h.0
+every_at P (y ∷ ys) x h (inr m) = every_at P ys x h.1 m
+every_at P [] x h m = absurd m
+
+-- what follows of each from what holds of each
+pub every_map : {X : Type 0} (P Q : X → Type 0) (xs : List X) → ((x : X) → P x → Q x) → Every P xs → Every Q xs
+every_map P Q [] f h = tt
+every_map P Q (x ∷ xs) f h = (f x h.0, every_map P Q xs f h.1)
+
+-- the same from two facts
+pub every_zip : {X : Type 0} (P Q R : X → Type 0) (xs : List X) → ((x : X) → P x → Q x → R x) → Every P xs → Every Q xs → Every R xs
+every_zip P Q R [] f h k = tt
+every_zip P Q R (x ∷ xs) f h k = (f x h.0 k.0, every_zip P Q R xs f h.1 k.1)

@@ -11,6 +11,7 @@ use Rattle.qh_model.specs.Numbers.{number_of}
 use Rattle.qh_model.specs.PointFile.{coordinates, IsHeader, Reads}
 use Rattle.qh_model.specs.FileFault.{FileFault, fault, fault_on, number_or, is_three, coordinates_fault, counted_fault, headed_fault, after_first_fault, words_fault, first_fault}
 use Rattle.qh_model.specs.Readings.{ReadsOneList, HasListOrFault, IsNeverBoth}
+use Rattle.qh_model.proofs.algebra.VectorIdentities.{vector_path}
 
 same_some : (xs ys : List ℤ) → map Some xs ≡ map Some ys → xs ≡ ys
 same_some [] [] h = refl
@@ -20,13 +21,6 @@ same_some (x ∷ xs) (y ∷ ys) h =
     let head : x ≡ y = cc in
     let rest : map Some xs ≡ map Some ys = cc in
     let tail : xs ≡ ys = same_some xs ys rest in cc
-
-same_vector : (p q : Vector) → p.x ≡ q.x → p.y ≡ q.y → p.z ≡ q.z → p ≡ q
-same_vector p q x y z =
-    let f : ℤ → Vector = λ a. record { x = a; y = p.y; z = p.z } in
-    let g : ℤ → Vector = λ a. record { x = q.x; y = a; z = p.z } in
-    let h : ℤ → Vector = λ a. record { x = q.x; y = q.y; z = a } in
-    ap f x ∙ ap g y ∙ ap h z
 
 same_points : (ps qs : List Vector) → coordinates ps ≡ coordinates qs → ps ≡ qs
 same_points [] [] h = refl
@@ -38,7 +32,7 @@ same_points (p ∷ ps) (q ∷ qs) h =
     let z : p.z ≡ q.z = cc in
     let rest : coordinates ps ≡ coordinates qs = cc in
     let tail : ps ≡ qs = same_points ps qs rest in
-    let head : p ≡ q = same_vector p q x y z in cc
+    let head : p ≡ q = vector_path p q x y z in cc
 
 pub one_reading : ReadsOneList
 one_reading bytes ps qs a b =

@@ -1,5 +1,4 @@
--- Lists as sets: members, ordered lists, and lists that have each member once.
-pub mod Members
+-- Lists as sets: ordered lists, and lists that have each member once.
 pub mod Ordered
 pub mod OnceEach
 pub mod Lexicographic

@@ -11,6 +11,7 @@ pub mod KeptSound
 pub mod Unseen
 pub mod SimplexBoundary
 pub mod Located
+pub mod Rim
 pub mod Horizon
 pub mod Rewired
 pub mod CoveredPlanes
@@ -18,3 +19,5 @@ pub mod SurfaceLaws
 pub mod Simplex
 pub mod Combinations
 pub mod Stored
+pub mod Finished
+pub mod Complete

@@ -8,6 +8,8 @@ use Rattle.qh_model.specs.Dimension.{IsDimension}
 use Rattle.qh_model.specs.Extreme.{Extreme}
 use Rattle.qh_model.specs.SupportingPlane.{IsSupportingTriple}
 use Rattle.qh_model.specs.Polygons.{ArePolygons, IsEdgeCount}
+use Rattle.qh_model.specs.Hull.{BodyValue, HullValue, IsBody, IsHull}
+use Rattle.qh_model.specs.Text.{IsText}
 
 -- a triple of extreme ids supports the extreme ids exactly if it supports the set
 abbrev pub TriplesOfExtremes : Type 0
@@ -36,3 +38,20 @@ RisingListIsUnique = (xs ys : List ℕ) → IsStrictlyIncreasing xs → IsStrict
 -- a list of points has one list of distinct ids
 abbrev pub DistinctIdsAreUnique : Type 0
 DistinctIdsAreUnique = (pts : List Vector) (xs ys : List ℕ) → AreDistinctIds pts xs → AreDistinctIds pts ys → xs ≡ ys
+
+-- what is right as the hull of the extreme ids is right for the set, and the other way round
+abbrev pub BodyOfExtremes : Type 0
+BodyOfExtremes = (at : ℕ → Vector) (ids : List ℕ) (b : BodyValue) → HasDistinctPoints at (Members ids)
+    → IsBody at (Extreme at (Members ids)) b ↔ IsBody at (Members ids) b
+
+-- no two bodies are right for one set
+abbrev pub BodyIsUnique : Type 0
+BodyIsUnique = (at : ℕ → Vector) (ids : List ℕ) (a b : BodyValue) → IsBody at (Members ids) a → IsBody at (Members ids) b → a ≡ b
+
+-- no two hulls are right for one list of points
+abbrev pub HullIsUnique : Type 0
+HullIsUnique = (pts : List Vector) (a b : HullValue) → IsHull pts a → IsHull pts b → a ≡ b
+
+-- no two texts are right for one list of points and outputs
+abbrev pub TextIsUnique : Type 0
+TextIsUnique = (pts : List Vector) (outs s t : List ℕ) → IsText pts outs s → IsText pts outs t → s ≡ t

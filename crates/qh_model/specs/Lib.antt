@@ -19,6 +19,8 @@ pub mod FaceLaws
 pub mod DimensionLaws
 pub mod Polygon
 pub mod Polygons
+pub mod Hull
+pub mod Text
 pub mod Weighted
 pub mod Surface
 pub mod SoundSurface
@@ -28,9 +30,9 @@ pub mod CoveredPoints
 pub mod StoredSurface
 pub mod SurfaceLaws
 pub mod CoverageLaws
+pub mod FinishedSurface
+pub mod CompletenessLaws
 pub mod PolygonLaws
 pub mod HullLaws
 pub mod ClosedSurface
 pub mod ClosedSurfaceLaws
-pub mod Hull
-pub mod Text

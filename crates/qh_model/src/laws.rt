@@ -4,6 +4,7 @@
 
 mod closed_surfaces;
 mod combinations;
+mod completeness;
 mod extremes;
 mod hulls;
 mod polygons;
@@ -12,11 +13,12 @@ mod surfaces;
 
 pub use closed_surfaces::closed_surface_encloses;
 pub use combinations::combination_or_separator;
+pub use completeness::{finished_surface_is_hull, nothing_is_missed};
 pub use extremes::{
     extremes_of_faces, greatest_is_extreme, members_are_combinations, planes_of_extremes,
     union_extremes,
 };
-pub use hulls::one_hull;
+pub use hulls::{one_hull, one_value_each};
 pub use polygons::{one_polygon, polygon_by_direction};
 pub use reading::one_reading;
 pub use surfaces::{

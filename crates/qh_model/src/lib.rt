@@ -5,8 +5,8 @@
 //! functions of [`laws`] prove what follows from them alone.
 #![tactic(auto)]
 
-pub mod laws;
 mod hull;
+pub mod laws;
 mod limits;
 mod memory;
 mod point;

@@ -6,8 +6,7 @@ use Rattle.std.proofs.lemmas.List.Elements.{All-from_recursion}
 use Rattle.std.specs.Prelude.{IsPermutation}
 use Rattle.std.specs.List.{All, AllByRecursion as Every}
 use Rattle.std.specs.List.Sorted.{IsStrictlyIncreasing, IsNonDecreasing}
-use Rattle.qh_model.proofs.Members.{All-In, In-get_or}
-use Rattle.qh_model.proofs.lists.Members.{every_at}
+use Rattle.qh_model.proofs.Members.{All-In, In-get_or, every_at}
 use Rattle.qh_model.specs.DistinctIds.{IsDistinctId, AreDistinctIds, IsIdSet}
 use Rattle.qh_model.specs.Predicates.{place}
 use Rattle.qh_model.specs.Sets.{In}

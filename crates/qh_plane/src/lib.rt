@@ -4,6 +4,7 @@
 //! All three go by the exact predicates of `qh_pred` alone, so no answer is rounded.
 #![tactic(auto)]
 
+mod dimension;
 mod chains;
 mod distinct_points;
 mod place_keys;

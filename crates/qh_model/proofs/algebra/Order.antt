@@ -2,23 +2,28 @@
 use Rattle.std.proofs.Common.{◌≡◌, ℕ, zero, suc, ◌*◌, ◌≤◌, arith, ap, sym, ◌∙◌, refl, ◌⊎◌, inl, inr}
 use Rattle.std.proofs.Math.Nat.{mul-le-mul}
 use Rattle.std.proofs.lemmas.Int.{ints, by_lt_z}
-use Rattle.std.specs.Prelude.{ℤ, pos, negsuc, ◌+ℤ◌, ◌-ℤ◌, ◌*ℤ◌, ◌≤ℤ◌, ◌<ℤ◌}
+use Rattle.std.specs.Prelude.{ℤ, pos, negsuc, ◌+ℤ◌, ◌-ℤ◌, ◌*ℤ◌, neg_ℤ, ◌≤ℤ◌, ◌<ℤ◌}
 use lib.IntN.{ℤ_discrete}
 use borrow.Author.Differences.{product_is}
-use Rattle.qh_model.proofs.algebra.Integers.{mul_add}
+use Rattle.qh_model.proofs.algebra.Integers.{mul_add, mul_neg}
 
+-- two numbers not below 0
 pub mul-nonneg : (a b : ℤ) → pos 0 ≤ℤ a → pos 0 ≤ℤ b → pos 0 ≤ℤ (a *ℤ b)
 mul-nonneg a b h k = grind (arith, ints)
 
+-- one not below 0, one not above
 pub mul-nonneg_nonpos : (a b : ℤ) → pos 0 ≤ℤ a → b ≤ℤ pos 0 → (a *ℤ b) ≤ℤ pos 0
 mul-nonneg_nonpos a b h k = grind (arith, ints)
 
+-- the other way round
 pub mul-nonpos_nonneg : (a b : ℤ) → a ≤ℤ pos 0 → pos 0 ≤ℤ b → (a *ℤ b) ≤ℤ pos 0
 mul-nonpos_nonneg a b h k = grind (arith, ints)
 
+-- two numbers not above 0
 pub mul-nonpos : (a b : ℤ) → a ≤ℤ pos 0 → b ≤ℤ pos 0 → pos 0 ≤ℤ (a *ℤ b)
 mul-nonpos a b h k = grind (arith, ints)
 
+-- two positive numbers
 pub mul-pos : (a b : ℤ) → pos 0 <ℤ a → pos 0 <ℤ b → pos 0 <ℤ (a *ℤ b)
 mul-pos (pos a) (pos b) h k =
     let p : 1 ≤ a = omega (arith, ints) in
@@ -27,6 +32,7 @@ mul-pos (pos a) (pos b) h k =
 mul-pos (pos a) (negsuc b) h k = absurd (omega (arith, ints))
 mul-pos (negsuc a) b h k = absurd (omega (arith, ints))
 
+-- a factor not below 0 keeps the order
 pub mul-le : (a b c : ℤ) → pos 0 ≤ℤ a → b ≤ℤ c → (a *ℤ b) ≤ℤ (a *ℤ c)
 mul-le a b c h k =
     let d : pos 0 ≤ℤ (c -ℤ b) = omega (arith, ints) in
@@ -40,30 +46,39 @@ mul-le a b c h k =
     finish : (x y z : ℤ) → y ≡ x +ℤ z → pos 0 ≤ℤ z → x ≤ℤ y
     finish x y z e p = omega (arith, ints)
 
+-- a positive factor goes, the sign stays
 pub cancel-nonneg : (a b : ℤ) → pos 0 <ℤ a → pos 0 ≤ℤ (a *ℤ b) → pos 0 ≤ℤ b
 cancel-nonneg a b h k = grind (arith, ints)
 
+-- not above 0 and above 0
 no_lt_and_ge : (x : ℤ) → x ≤ℤ pos 0 → pos 0 <ℤ x → ⊥
 no_lt_and_ge x p q = omega (arith, ints)
 
+-- the same of a product not above 0
 pub cancel-nonpos : (a b : ℤ) → pos 0 <ℤ a → (a *ℤ b) ≤ℤ pos 0 → b ≤ℤ pos 0
 cancel-nonpos a b h k = by_lt_z (pos 0) b (λ q. absurd (no_lt_and_ge (a *ℤ b) k (mul-pos a b h q))) (λ q. q)
 
+-- of a positive product
 pub cancel-pos : (a b : ℤ) → pos 0 <ℤ a → pos 0 <ℤ (a *ℤ b) → pos 0 <ℤ b
 cancel-pos a b h k = grind (arith, ints, mul-nonneg_nonpos)
 
-mul-neg : (a b : ℤ) → pos 0 <ℤ a → b <ℤ pos 0 → (a *ℤ b) <ℤ pos 0
-mul-neg a b h k = grind (arith, ints, cancel-nonneg)
+-- a positive number and a negative one
+pub mul-pos_neg : (a b : ℤ) → pos 0 <ℤ a → b <ℤ pos 0 → (a *ℤ b) <ℤ pos 0
+mul-pos_neg a b h k = grind (arith, ints, cancel-nonneg)
 
+-- what is 0 is neither above nor below
 le_both : (x : ℤ) → x ≡ pos 0 → (x ≤ℤ pos 0) × (pos 0 ≤ℤ x)
 le_both x e = (omega (arith, ints), omega (arith, ints))
 
+-- what is neither is 0
 both_le : (x : ℤ) → x ≤ℤ pos 0 → pos 0 ≤ℤ x → x ≡ pos 0
 both_le x p q = omega (arith, ints)
 
+-- a positive factor of 0
 pub cancel-zero : (a b : ℤ) → pos 0 <ℤ a → a *ℤ b ≡ pos 0 → b ≡ pos 0
 cancel-zero a b h k = let t = le_both (a *ℤ b) k in both_le b (cancel-nonpos a b h t.0) (cancel-nonneg a b h t.1)
 
+-- a product that is 0 has a factor 0
 pub zero_product : (a b : ℤ) → a *ℤ b ≡ pos 0 → (a ≡ pos 0) ⊎ (b ≡ pos 0)
 zero_product (pos zero) b k = inl refl
 zero_product (pos (suc n)) b k = inr (cancel-zero (pos (suc n)) b (omega (arith, ints)) k)
@@ -76,8 +91,9 @@ zero_product (negsuc n) b k = inr (cancel-zero (pos (suc n)) b (omega (arith, in
 pub sign_step : (ap by ay bp ab py : ℤ) → ap *ℤ by -ℤ ay *ℤ bp ≡ ab *ℤ py → pos 0 <ℤ ap → pos 0 ≤ℤ by → ay ≤ℤ pos 0 → pos 0 ≤ℤ bp → ab <ℤ pos 0 → py ≤ℤ pos 0
 sign_step ap by ay bp ab py e h1 h2 h3 h4 h5 = grind (arith, ints, mul-nonneg, mul-nonpos_nonneg, mul-pos)
 
-pub neg-mul : (a b : ℤ) → a <ℤ pos 0 → pos 0 <ℤ b → (a *ℤ b) <ℤ pos 0
-neg-mul a b h k = by_lt_z (a *ℤ b) (pos 0) (λ q. q) (λ q. absurd (no_lt_and_ge a (cancel_right a b k q) h))
+-- a negative number and a positive one
+pub mul-neg_pos : (a b : ℤ) → a <ℤ pos 0 → pos 0 <ℤ b → (a *ℤ b) <ℤ pos 0
+mul-neg_pos a b h k = by_lt_z (a *ℤ b) (pos 0) (λ q. q) (λ q. absurd (no_lt_and_ge a (cancel_right a b k q) h))
   where
     cancel_right : (a b : ℤ) → pos 0 <ℤ b → pos 0 ≤ℤ (a *ℤ b) → pos 0 ≤ℤ a
     cancel_right a b k q = grind (arith, ints)
@@ -85,12 +101,42 @@ neg-mul a b h k = by_lt_z (a *ℤ b) (pos 0) (λ q. q) (λ q. absurd (no_lt_and_
     no_lt_and_ge : (x : ℤ) → pos 0 ≤ℤ x → x <ℤ pos 0 → ⊥
     no_lt_and_ge x p q = omega (arith, ints)
 
+-- not above and not below is equal
 pub le_antisym : (a b : ℤ) → a ≤ℤ b → b ≤ℤ a → a ≡ b
 le_antisym a b h k = omega (arith, ints)
 
+-- a number is 0 or not
 pub zero_or_not : (v : ℤ) → (v ≡ pos 0) ⊎ (¬ (v ≡ pos 0))
 zero_or_not v = go (ℤ_discrete v (pos 0))
   where
     go : Dec (v ≡ pos 0) → (v ≡ pos 0) ⊎ (¬ (v ≡ pos 0))
     go (yes e) = inl e
     go (no n) = inr n
+
+-- the opposite of a negative number
+pub neg-positive : (x : ℤ) → x <ℤ pos 0 → pos 0 <ℤ neg_ℤ x
+neg-positive x h = omega (arith, ints)
+
+-- the opposite of a number not above 0
+pub neg-nonneg : (x : ℤ) → x ≤ℤ pos 0 → pos 0 ≤ℤ neg_ℤ x
+neg-nonneg x h = omega (arith, ints)
+
+-- two negative numbers
+pub mul-neg_neg : (a b : ℤ) → a <ℤ pos 0 → b <ℤ pos 0 → pos 0 <ℤ (a *ℤ b)
+mul-neg_neg a b h k = plain (a *ℤ b) (a *ℤ neg_ℤ b) (mul_neg a b) (mul-neg_pos a (neg_ℤ b) h (neg-positive b k))
+  where
+    plain : (x y : ℤ) → y ≡ neg_ℤ x → y <ℤ pos 0 → pos 0 <ℤ x
+    plain x y e h = omega (arith, ints)
+
+-- a positive number is not below 0
+pub positive_le : (x : ℤ) → pos 0 <ℤ x → pos 0 ≤ℤ x
+positive_le x h = omega (arith, ints)
+
+-- a negative number is not above 0
+pub negative_le : (x : ℤ) → x <ℤ pos 0 → x ≤ℤ pos 0
+negative_le x h = omega (arith, ints)
+
+-- a square
+pub square-nonneg : (x : ℤ) → pos 0 ≤ℤ (x *ℤ x)
+square-nonneg (pos n) = omega (arith, ints)
+square-nonneg (negsuc n) = omega (arith, ints)

@@ -19,15 +19,19 @@ pub record VE : Type 0 where
 abbrev pub vec : ℕ → VE
 vec k = record { x = var (3 * k); y = var (3 * k + 1); z = var (3 * k + 2) }
 
+-- a difference of expressions
 abbrev pub subE : VE → VE → VE
 subE p q = record { x = less p.x q.x; y = less p.y q.y; z = less p.z q.z }
 
+-- their cross product
 abbrev pub crossE : VE → VE → VE
 crossE p q = record { x = less (mul p.y q.z) (mul p.z q.y); y = less (mul p.z q.x) (mul p.x q.z); z = less (mul p.x q.y) (mul p.y q.x) }
 
+-- their scalar product
 abbrev pub dotE : VE → VE → Expr
 dotE p q = add (add (mul p.x q.x) (mul p.y q.y)) (mul p.z q.z)
 
+-- their volume
 abbrev pub volE : VE → VE → VE → VE → Expr
 volE a b c d = dotE (crossE (subE b a) (subE c a)) (subE d a)
 
@@ -39,6 +43,7 @@ detE b c d = dotE (crossE b c) d
 abbrev pub put : Vector → List ℤ → List ℤ
 put p env = p.x ∷ p.y ∷ p.z ∷ env
 
+-- planes through one line: the key to the horizon
 pub edge_product : (u v a b p y : Vector) → vol u v a p *ℤ vol u v b y -ℤ vol u v a y *ℤ vol u v b p ≡ vol u v a b *ℤ vol u v p y
 unfolding vol
 edge_product u v a b p y =
@@ -52,14 +57,17 @@ unfolding vol
 vol-flip u v o p =
     ring (put u (put v (put o (put p [])))) (volE (vec 0) (vec 1) (vec 2) (vec 3)) (neg (volE (vec 1) (vec 0) (vec 2) (vec 3))) refl
 
+-- a volume turns with its triangle
 pub vol-turn : (a b c p : Vector) → vol a b c p ≡ vol b c a p
 unfolding vol
 vol-turn a b c p = ring (put a (put b (put c (put p [])))) (volE (vec 0) (vec 1) (vec 2) (vec 3)) (volE (vec 1) (vec 2) (vec 0) (vec 3)) refl
 
+-- and changes its sign where two points change places
 pub vol-swap_last : (a b c p : Vector) → vol a b c p ≡ neg_ℤ (vol a b p c)
 unfolding vol
 vol-swap_last a b c p = ring (put a (put b (put c (put p [])))) (volE (vec 0) (vec 1) (vec 2) (vec 3)) (neg (volE (vec 0) (vec 1) (vec 3) (vec 2))) refl
 
+-- the volume with p is that with o and those of the three edges with o and p
 pub vol-boundary : (a b c o p : Vector) → vol a b c p ≡ vol a b c o +ℤ (vol a b o p +ℤ vol b c o p +ℤ vol c a o p)
 unfolding vol
 vol-boundary a b c o p =
@@ -70,6 +78,7 @@ vol-boundary a b c o p =
 unfoldable pub depth : Vector → Vector → Vector → ℤ
 depth w p x = dot w (minus p x)
 
+-- one triangle's part in the cancellation
 pub vol-depths : (w a b c r p : Vector) → vol a b c p *ℤ depth w p r ≡ vol a b r p *ℤ depth w p c +ℤ vol b c r p *ℤ depth w p a +ℤ vol c a r p *ℤ depth w p b
 unfolding vol depth
 vol-depths w a b c r p =
@@ -81,9 +90,11 @@ vol-depths w a b c r p =
 no_term : (c l r : ℤ) → l ≡ r → c *ℤ (l -ℤ r) ≡ pos 0
 no_term c l r e = let z : l -ℤ r ≡ pos 0 = omega (arith, ints) in ap (λ v. c *ℤ v) z ∙ *ℤ-zero c
 
+-- three such multiples
 sum_up : (l r x y z : ℤ) → l -ℤ r ≡ x +ℤ y +ℤ z → x ≡ pos 0 → y ≡ pos 0 → z ≡ pos 0 → l ≡ r
 sum_up l r x y z e p q t = omega (arith, ints)
 
+-- the equation from three others
 pub combine3 : (l r c₁ l₁ r₁ c₂ l₂ r₂ c₃ l₃ r₃ : ℤ) → l -ℤ r ≡ c₁ *ℤ (l₁ -ℤ r₁) +ℤ c₂ *ℤ (l₂ -ℤ r₂) +ℤ c₃ *ℤ (l₃ -ℤ r₃) → l₁ ≡ r₁ → l₂ ≡ r₂ → l₃ ≡ r₃ → l ≡ r
 combine3 l r c₁ l₁ r₁ c₂ l₂ r₂ c₃ l₃ r₃ e e₁ e₂ e₃ =
     sum_up l r (c₁ *ℤ (l₁ -ℤ r₁)) (c₂ *ℤ (l₂ -ℤ r₂)) (c₃ *ℤ (l₃ -ℤ r₃)) e (no_term c₁ l₁ r₁ e₁) (no_term c₂ l₂ r₂ e₂) (no_term c₃ l₃ r₃ e₃)
@@ -92,18 +103,23 @@ combine3 l r c₁ l₁ r₁ c₂ l₂ r₂ c₃ l₃ r₃ e e₁ e₂ e₃ =
 abbrev pub Mixes : (s t u w p a b c d : ℤ) → Type 0
 Mixes s t u w p a b c d = (s +ℤ t +ℤ u +ℤ w) *ℤ p ≡ s *ℤ a +ℤ t *ℤ b +ℤ u *ℤ c +ℤ w *ℤ d
 
+-- n . (a point - i), over the variables of the next lemma
 abbrev plane_at : ℕ → Expr
 plane_at m = dotE (vec 0) (subE (vec m) (vec 1))
 
+-- the weighted sum over the four points
 abbrev weighted : (ℕ → Expr) → Expr
 weighted f = add (add (add (mul (var 21) (f 3)) (mul (var 22) (f 4))) (mul (var 23) (f 5))) (mul (var 24) (f 6))
 
+-- the sum of the weights times a term
 abbrev weighed : Expr → Expr
 weighed e = mul (add (add (add (var 21) (var 22)) (var 23)) (var 24)) e
 
+-- how far one coordinate is from balance
 abbrev gap : (ℕ → Expr) → Expr
 gap f = less (weighed (f 2)) (weighted f)
 
+-- a balanced point has balanced volumes
 pub vol-mix : (i j k p a b c d : Vector) (s t u w : ℤ)
     → Mixes s t u w p.x a.x b.x c.x d.x → Mixes s t u w p.y a.y b.y c.y d.y → Mixes s t u w p.z a.z b.z c.z d.z
     → Mixes s t u w (vol i j k p) (vol i j k a) (vol i j k b) (vol i j k c) (vol i j k d)
@@ -141,6 +157,7 @@ pub vol-dot : (a b c q : Vector) → vol a b c q ≡ dot (cross a b c) (minus q 
 unfolding vol cross
 vol-dot a b c q = refl
 
+-- it is linear in its last point
 pub vol-linear : (a b c q : Vector) → vol a b c q ≡ dot (cross a b c) q +ℤ neg_ℤ (dot (cross a b c) a)
 vol-linear a b c q = vol-dot a b c q ∙ dot-minus (cross a b c) q a
 
@@ -149,10 +166,12 @@ pub vol-first : (a b c : Vector) → vol a b c a ≡ pos 0
 unfolding vol
 vol-first a b c = ring_zero (put a (put b (put c []))) (volE (vec 0) (vec 1) (vec 2) (vec 0)) refl
 
+-- so with the second
 pub vol-second : (a b c : Vector) → vol a b c b ≡ pos 0
 unfolding vol
 vol-second a b c = ring_zero (put a (put b (put c []))) (volE (vec 0) (vec 1) (vec 2) (vec 1)) refl
 
+-- so with the third
 pub vol-third : (a b c : Vector) → vol a b c c ≡ pos 0
 unfolding vol
 vol-third a b c = ring_zero (put a (put b (put c []))) (volE (vec 0) (vec 1) (vec 2) (vec 2)) refl
@@ -162,10 +181,12 @@ pub vol-first_last : (a b c d : Vector) → vol a b c d ≡ vol d c b a
 unfolding vol
 vol-first_last a b c d = ring (put a (put b (put c (put d [])))) (volE (vec 0) (vec 1) (vec 2) (vec 3)) (volE (vec 3) (vec 2) (vec 1) (vec 0)) refl
 
+-- the second, to the end
 pub vol-second_last : (a b c d : Vector) → vol a b c d ≡ vol c d a b
 unfolding vol
 vol-second_last a b c d = ring (put a (put b (put c (put d [])))) (volE (vec 0) (vec 1) (vec 2) (vec 3)) (volE (vec 2) (vec 3) (vec 0) (vec 1)) refl
 
+-- the third, to the end
 pub vol-third_last : (a b c d : Vector) → vol a b c d ≡ vol b a d c
 unfolding vol
 vol-third_last a b c d = ring (put a (put b (put c (put d [])))) (volE (vec 0) (vec 1) (vec 2) (vec 3)) (volE (vec 1) (vec 0) (vec 3) (vec 2)) refl
@@ -174,12 +195,15 @@ vol-third_last a b c d = ring (put a (put b (put c (put d [])))) (volE (vec 0) (
 abbrev pub opposite : Vector → Vector
 opposite u = record { x = neg_ℤ u.x; y = neg_ℤ u.y; z = neg_ℤ u.z }
 
+-- the same of expressions
 abbrev pub oppositeE : VE → VE
 oppositeE u = record { x = neg u.x; y = neg u.y; z = neg u.z }
 
+-- its scalar products change their sign
 pub dot-opposite : (u p : Vector) → dot (opposite u) p ≡ neg_ℤ (dot u p)
 dot-opposite u p = ring (put u (put p [])) (dotE (oppositeE (vec 0)) (vec 1)) (neg (dotE (vec 0) (vec 1))) refl
 
+-- the origin has none
 pub dot-origin : (p : Vector) → dot origin p ≡ pos 0
 dot-origin p = omega (arith, ints)
 
@@ -188,12 +212,14 @@ pub left-dot : (n a b c : Vector) → left n a b c ≡ dot (cross a b c) n
 unfolding left cross
 left-dot n a b c = refl
 
+-- it is a linear form of its last point
 pub left-linear : (n a b q : Vector) → left n a b q ≡ dot (cross_product n (minus b a)) q +ℤ neg_ℤ (dot (cross_product n (minus b a)) a)
 unfolding left
 left-linear n a b q =
     ring (put n (put a (put b (put q [])))) (dotE (crossE (subE (vec 2) (vec 1)) (subE (vec 3) (vec 1))) (vec 0))
     (add (dotE (crossE (vec 0) (subE (vec 2) (vec 1))) (vec 3)) (neg (dotE (crossE (vec 0) (subE (vec 2) (vec 1))) (vec 1)))) refl
 
+-- a turn of expressions
 abbrev pub leftE : VE → VE → VE → VE → Expr
 leftE n u v w = dotE (crossE (subE v u) (subE w u)) n
 
@@ -202,6 +228,7 @@ pub left-turn : (n a b c : Vector) → left n a b c ≡ left n b c a
 unfolding left
 left-turn n a b c = ring (put n (put a (put b (put c [])))) (leftE (vec 0) (vec 1) (vec 2) (vec 3)) (leftE (vec 0) (vec 2) (vec 3) (vec 1)) refl
 
+-- and changes its sign the other way round
 pub left-flip : (n a b c : Vector) → left n a b c ≡ neg_ℤ (left n a c b)
 unfolding left
 left-flip n a b c = ring (put n (put a (put b (put c [])))) (leftE (vec 0) (vec 1) (vec 2) (vec 3)) (neg (leftE (vec 0) (vec 1) (vec 3) (vec 2))) refl
@@ -210,6 +237,7 @@ left-flip n a b c = ring (put n (put a (put b (put c [])))) (leftE (vec 0) (vec 
 pub in_line-vol : (a b c d : Vector) → AreInLine a b c → vol a b c d ≡ pos 0
 in_line-vol a b c d e = vol-dot a b c d ∙ ap (λ v. dot v (minus d a)) e ∙ dot-origin (minus d a)
 
+-- nor a turn
 pub in_line-left : (n a b c : Vector) → AreInLine a b c → left n a b c ≡ pos 0
 in_line-left n a b c e = left-dot n a b c ∙ ap (λ v. dot v n) e ∙ dot-origin n
 
@@ -220,3 +248,8 @@ in_line-twice a c = vector_path (cross a a c) origin (flat a.y c.z a.z c.y) (fla
   where
     flat : (p q r s : ℤ) → (p -ℤ p) *ℤ (q -ℤ r) -ℤ (r -ℤ r) *ℤ (s -ℤ p) ≡ pos 0
     flat p q r s = ring (p ∷ q ∷ r ∷ s ∷ []) (less (mul (less (var 0) (var 0)) (less (var 1) (var 2))) (mul (less (var 2) (var 2)) (less (var 3) (var 0)))) (con (pos 0)) refl
+
+-- the triangle the other way round
+pub vol-flip_last : (a b c d : Vector) → vol a c b d ≡ neg_ℤ (vol a b c d)
+unfolding vol
+vol-flip_last a b c d = ring (put a (put b (put c (put d [])))) (volE (vec 0) (vec 2) (vec 1) (vec 3)) (neg (volE (vec 0) (vec 1) (vec 2) (vec 3))) refl

@@ -9,9 +9,9 @@ use Rattle.qh_model.specs.Predicates.{vol}
 use Rattle.qh_model.specs.Sets.{In}
 use Rattle.qh_model.specs.ClosedSurface.{Triple, edges, IsClosed}
 use Rattle.qh_model.specs.ClosedSurfaceLaws.{IsCornerOf, NoneBelowAndBeyond}
-use Rattle.qh_model.proofs.lists.Members.{every_map}
+use Rattle.qh_model.proofs.Members.{every_map}
 use Rattle.qh_model.proofs.algebra.Integers.{mul_swap}
-use Rattle.qh_model.proofs.algebra.Order.{mul-pos, neg-mul}
+use Rattle.qh_model.proofs.algebra.Order.{mul-pos, mul-neg_pos}
 use Rattle.qh_model.proofs.algebra.Ring.{ring, eqb-is}
 use Rattle.qh_model.proofs.algebra.Ring.Expr.{var, add, sub as less, mul, neg}
 use Rattle.qh_model.proofs.algebra.VectorIdentities.{vol-flip, vol-depths, depth, dot-minus, combine3}
@@ -22,9 +22,11 @@ use Rattle.qh_model.proofs.closed_surfaces.SignedVolume.{back, eqb-refl, edges-c
 unfoldable pub shared : (at : ℕ → Vector) (w p : Vector) → (ℕ → ℤ) → ℕ → Triple → ℤ
 shared at w p co r t = vol_at at p t *ℤ depth w p (at r) *ℤ (co t.i *ℤ co t.j *ℤ co t.k)
 
+-- an edge's part in the sum
 unfoldable pub edge_part : (at : ℕ → Vector) (p : Vector) → (ℕ → ℤ) → ℤ → ℕ → (ℕ × ℕ) → ℤ
 edge_part at p co m r e = m *ℤ (vol (at e.0) (at e.1) (at r) p *ℤ (co e.0 *ℤ co e.1))
 
+-- it changes its sign with the edge
 edge_part-back : (at : ℕ → Vector) (p : Vector) (co : ℕ → ℤ) (m : ℤ) (r : ℕ) (e : ℕ × ℕ) → edge_part at p co m r (back e) ≡ neg_ℤ (edge_part at p co m r e)
 unfolding edge_part
 edge_part-back at p co m r e =
@@ -54,9 +56,11 @@ abbrev pub ids : List Triple → List ℕ
 ids [] = []
 ids (t ∷ ts) = t.i ∷ t.j ∷ t.k ∷ ids ts
 
+-- P holds of each corner
 abbrev pub Corners : (ℕ → Type 0) → List Triple → Type 0
 Corners P ts = Each P (ids ts)
 
+-- the triangles' parts are their edges' parts
 shared-sum : (at : ℕ → Vector) (w p : Vector) (co : ℕ → ℤ) (m : ℤ) (r : ℕ) (ts : List Triple) → Corners (λ i. depth w p (at i) *ℤ co i ≡ m) ts
     → sum_z (shared at w p co r) ts ≡ sum_z (edge_part at p co m r) (edges ts)
 shared-sum at w p co m r [] h = refl
@@ -67,6 +71,7 @@ shared-sum at w p co m r (t ∷ ts) h =
     regroup : (a b c e : ℤ) → a +ℤ b +ℤ c +ℤ e ≡ a +ℤ (b +ℤ (c +ℤ e))
     regroup a b c e = omega (arith, ints)
 
+-- so they add up to 0
 pub shared-zero : (at : ℕ → Vector) (w p : Vector) (co : ℕ → ℤ) (m : ℤ) (r : ℕ) (ts : List Triple) → IsClosed ts → Corners (λ i. depth w p (at i) *ℤ co i ≡ m) ts
     → sum_z (shared at w p co r) ts ≡ pos 0
 shared-zero at w p co m r ts c h = shared-sum at w p co m r ts h ∙ edges-cancel (edge_part at p co m r) (edge_part-back at p co m r) ts c
@@ -75,8 +80,9 @@ shared-zero at w p co m r ts c h = shared-sum at w p co m r ts h ∙ edges-cance
 shared-neg : (at : ℕ → Vector) (w p : Vector) (co : ℕ → ℤ) (r : ℕ) (t : Triple) → vol_at at p t <ℤ pos 0 → pos 0 <ℤ depth w p (at r) → pos 0 <ℤ co t.i → pos 0 <ℤ co t.j → pos 0 <ℤ co t.k → shared at w p co r t <ℤ pos 0
 unfolding shared
 shared-neg at w p co r t h hr hi hj hk =
-    neg-mul (vol_at at p t *ℤ depth w p (at r)) (co t.i *ℤ co t.j *ℤ co t.k) (neg-mul (vol_at at p t) (depth w p (at r)) h hr) (mul-pos (co t.i *ℤ co t.j) (co t.k) (mul-pos (co t.i) (co t.j) hi hj) hk)
+    mul-neg_pos (vol_at at p t *ℤ depth w p (at r)) (co t.i *ℤ co t.j *ℤ co t.k) (mul-neg_pos (vol_at at p t) (depth w p (at r)) h hr) (mul-pos (co t.i *ℤ co t.j) (co t.k) (mul-pos (co t.i) (co t.j) hi hj) hk)
 
+-- where p is strictly below all triangles the sum is not above 0
 sums-neg : (at : ℕ → Vector) (w p : Vector) (co : ℕ → ℤ) (r : ℕ) → pos 0 <ℤ depth w p (at r) → (ts : List Triple) → Corners (λ i. pos 0 <ℤ co i) ts → Each (λ t. vol_at at p t <ℤ pos 0) ts → sum_z (shared at w p co r) ts ≤ℤ pos 0
 sums-neg at w p co r hr [] h v = omega (arith, ints)
 sums-neg at w p co r hr (t ∷ ts) h v =
@@ -90,10 +96,12 @@ abbrev prod_z : (ℕ → ℤ) → List ℕ → ℤ
 prod_z f [] = pos 1
 prod_z f (x ∷ xs) = f x *ℤ prod_z f xs
 
+-- a product of positive numbers
 prod-pos : (f : ℕ → ℤ) (xs : List ℕ) → Each (λ x. pos 0 <ℤ f x) xs → pos 0 <ℤ prod_z f xs
 prod-pos f [] h = omega (arith, ints)
 prod-pos f (x ∷ xs) h = mul-pos (f x) (prod_z f xs) h.0 (prod-pos f xs h.1)
 
+-- what holds of each holds of all but the first
 each-drop_first : (P : ℕ → Type 0) (q : ℕ → Bool) (xs : List ℕ) → Each P xs → Each P (drop_first q xs)
 each-drop_first P q [] h = tt
 each-drop_first P q (x ∷ xs) h = pick (q x) (each-drop_first P q xs h.1)
@@ -102,31 +110,39 @@ each-drop_first P q (x ∷ xs) h = pick (q x) (each-drop_first P q xs h.1)
     pick true r = h.1
     pick false r = (h.0, r)
 
+-- a step of the next
 prod_step : (f : ℕ → ℤ) (x y : ℕ) (ys r : List ℕ) (b : Bool) → (b ≡ true → x ≡ y) → (b ≡ false → prod_z f ys ≡ f x *ℤ prod_z f r) → f y *ℤ prod_z f ys ≡ f x *ℤ prod_z f (cond b ys (y ∷ r))
 prod_step f x y ys r true e h = ap (λ v. f v *ℤ prod_z f ys) (sym (e refl))
 prod_step f x y ys r false e h = rw (h refl) (mul_swap (f y) (f x) (prod_z f r))
 
+-- a product with one factor taken out
 prod-drop_first : (f : ℕ → ℤ) (x : ℕ) (ys : List ℕ) → 0 < count (eqb x) ys → prod_z f ys ≡ f x *ℤ prod_z f (drop_first (eqb x) ys)
 prod-drop_first f x [] h = absurd (omega arith)
 prod-drop_first f x (y ∷ ys) h = prod_step f x y ys (drop_first (eqb x) ys) (eqb x y) (eqb-is x y) (λ e. prod-drop_first f x ys (later (eqb x y) (count (eqb x) ys) h e))
 
+-- a longer list counts no less
 more_there : (x y : ℕ) (n : ℕ) → 0 < n → 0 < cond (eqb x y) 1 0 + n
 more_there x y n h = omega arith
 
+-- its first stands in it
 one_there : (x n : ℕ) → 0 < cond (eqb x x) 1 0 + n
 one_there x n = rw (eqb-refl x) (omega arith)
 
+-- each member stands in it
 all_there : (xs : List ℕ) → Each (λ x. 0 < count (eqb x) xs) xs
 all_there [] = tt
 all_there (x ∷ xs) = (one_there x (count (eqb x) xs), every_map (λ y. 0 < count (eqb y) xs) (λ y. 0 < count (eqb y) (x ∷ xs)) xs (λ y h. more_there y x (count (eqb y) xs) h) (all_there xs))
 
+-- what holds of all holds of each
 each-all : (P : ℕ → Type 0) → ((x : ℕ) → P x) → (xs : List ℕ) → Each P xs
 each-all P h [] = tt
 each-all P h (x ∷ xs) = (h x, each-all P h xs)
 
+-- 0 is not below 0
 not_both : (x : ℤ) → x ≡ pos 0 → x <ℤ pos 0 → ⊥
 not_both x e h = omega (arith, ints)
 
+-- a negative number and one not above 0
 neg_and_le : (a b : ℤ) → a <ℤ pos 0 → b ≤ℤ pos 0 → (a +ℤ b) <ℤ pos 0
 neg_and_le a b h k = omega (arith, ints)
 
@@ -150,10 +166,12 @@ corners-of P (t ∷ ts) f = (
   (f t.j (t, inl refl, inr (inl refl)), (f t.k (t, inl refl, inr (inr (inl refl))), corners-of P ts (λ i c. f i (c.0, inr c.1, c.2)))),
 )
 
+-- what holds of members holds of each
 each-of : {X : Type 0} (P : X → Type 0) (xs : List X) → ((x : X) → In x xs → P x) → Each P xs
 each-of P [] f = tt
 each-of P (x ∷ xs) f = (f x (inl refl), each-of P xs (λ y i. f y (inr i)))
 
+-- what is lower along w has a positive depth
 deep : (w p x : Vector) → dot w x <ℤ dot w p → pos 0 <ℤ depth w p x
 unfolding depth
 deep w p x h = apart (dot w p) (dot w x) (dot w (minus p x)) (dot-minus w p x) h
@@ -161,6 +179,7 @@ deep w p x h = apart (dot w p) (dot w x) (dot w (minus p x)) (dot-minus w p x) h
     apart : (a b d : ℤ) → d ≡ a +ℤ neg_ℤ b → b <ℤ a → pos 0 <ℤ d
     apart a b d e h = omega (arith, ints)
 
+-- the law
 pub none_below_and_beyond : NoneBelowAndBeyond
 none_below_and_beyond at [] c w p beyond below = absurd (some c.some)
   where

@@ -9,29 +9,29 @@ use Rattle.qh_model.specs.ClosedSurfaceLaws.{VolumeIsConstant}
 use Rattle.qh_model.proofs.algebra.Ring.{eqb-is}
 use Rattle.qh_model.proofs.algebra.VectorIdentities.{vol-boundary, vol-flip}
 use Rattle.qh_model.proofs.closed_surfaces.Sums.{sum_z, count, Tests, sum_z-same_counts, count-is}
+use Rattle.qh_model.proofs.Booleans.{both_true}
 
+-- an edge turned round
 abbrev pub back : (ℕ × ℕ) → (ℕ × ℕ)
 back e = (e.1, e.0)
 
-both_of : (a b : Bool) → (a && b) ≡ true → (a ≡ true) × (b ≡ true)
-both_of true true e = (refl, refl)
-both_of true false e = cc
-both_of false b e = cc
-
+-- a number is itself
 pub eqb-refl : (i : ℕ) → eqb i i ≡ true
 eqb-refl i = search rules
 
+-- the test of edges tests equality
 pub edge_tests : Tests is_edge
 edge_tests = record {
-  same = λ e f h. let b = both_of (eqb e.0 f.0) (eqb e.1 f.1) h in pair_is e.0 e.1 f.0 f.1 (eqb-is e.0 f.0 b.0) (eqb-is e.1 f.1 b.1);
+  same = λ e f h. let b = both_true (eqb e.0 f.0) (eqb e.1 f.1) h in pair_is e.0 e.1 f.0 f.1 (eqb-is e.0 f.0 b.0) (eqb-is e.1 f.1 b.1);
   itself = λ e. rw (eqb-refl e.0, eqb-refl e.1) refl;
 }
   where
     pair_is : (a b c d : ℕ) → a ≡ c → b ≡ d → ◌≡◌ {A = ℕ × ℕ} (a, b) (c, d)
     pair_is a b c d p q = rw (p, q) refl
 
-edge_eq-back : (e f : ℕ × ℕ) → is_edge e (back f) ≡ is_edge (back e) f
-edge_eq-back e f = swap (eqb e.0 f.1) (eqb e.1 f.0)
+-- turning one edge or the other
+is_edge-back : (e f : ℕ × ℕ) → is_edge e (back f) ≡ is_edge (back e) f
+is_edge-back e f = swap (eqb e.0 f.1) (eqb e.1 f.0)
   where
     swap : (a b : Bool) → (a && b) ≡ (b && a)
     swap true true = refl
@@ -42,8 +42,9 @@ edge_eq-back e f = swap (eqb e.0 f.1) (eqb e.1 f.0)
 -- the edges turned round
 count-back : (e : ℕ × ℕ) (es : List (ℕ × ℕ)) → count (is_edge e) (map back es) ≡ count (is_edge (back e)) es
 count-back e [] = refl
-count-back e (f ∷ es) = rw (edge_eq-back e f, count-back e es) refl
+count-back e (f ∷ es) = rw (is_edge-back e f, count-back e es) refl
 
+-- a sum over the edges turned round
 sum-back : (g : (ℕ × ℕ) → ℤ) → ((e : ℕ × ℕ) → g (back e) ≡ neg_ℤ (g e)) → (es : List (ℕ × ℕ)) → sum_z g (map back es) ≡ neg_ℤ (sum_z g es)
 sum-back g h [] = refl
 sum-back g h (e ∷ es) = rw (h e, sum-back g h es) (neg_sum (g e) (sum_z g es))
@@ -51,6 +52,7 @@ sum-back g h (e ∷ es) = rw (h e, sum-back g h es) (neg_sum (g e) (sum_z g es))
     neg_sum : (a b : ℤ) → neg_ℤ a +ℤ neg_ℤ b ≡ neg_ℤ (a +ℤ b)
     neg_sum a b = omega (arith, ints)
 
+-- what is its own opposite is 0
 own_negative : (x : ℤ) → x ≡ neg_ℤ x → x ≡ pos 0
 own_negative x e = omega (arith, ints)
 
@@ -63,9 +65,11 @@ edges-cancel g h ts c =
 abbrev pub vol_at : (ℕ → Vector) → Vector → Triple → ℤ
 vol_at at p t = vol (at t.i) (at t.j) (at t.k) p
 
+-- the volume of an edge with o and p
 abbrev pub edge_vol : (ℕ → Vector) → Vector → Vector → (ℕ × ℕ) → ℤ
 edge_vol at o p e = vol (at e.0) (at e.1) o p
 
+-- volumes with p by volumes with o and those of edges
 vols-boundary : (at : ℕ → Vector) (o p : Vector) (ts : List Triple) → sum_z (vol_at at p) ts ≡ sum_z (vol_at at o) ts +ℤ sum_z (edge_vol at o p) (edges ts)
 vols-boundary at o p [] = refl
 vols-boundary at o p (t ∷ ts) =
@@ -88,5 +92,6 @@ volume-is : (at : ℕ → Vector) (ts : List Triple) (p : Vector) → signed_vol
 volume-is at [] p = refl
 volume-is at (t ∷ ts) p = ap (λ v. vol (at t.i) (at t.j) (at t.k) p +ℤ v) (volume-is at ts p)
 
+-- the law
 pub volume_is_constant : VolumeIsConstant
 volume_is_constant at ts c p q = volume-is at ts p ∙ vols-same at q p ts c.closed ∙ sym (volume-is at ts q)

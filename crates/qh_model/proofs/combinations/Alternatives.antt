@@ -7,7 +7,7 @@ use borrow.Author.Differences.{lt_out}
 use Rattle.qh_model.proofs.algebra.Integers.{ring_rules, add_mul}
 use Rattle.qh_model.proofs.combinations.Vectors.{V, dot as vdot}
 use Rattle.qh_model.proofs.combinations.WeightedTerms.{total, weight, count, Among, Balanced, Separated, alternative}
-use Rattle.qh_model.proofs.lists.Members.{every_at}
+use Rattle.qh_model.proofs.Members.{every_at}
 use Rattle.qh_model.specs.Vector.{Vector, dot}
 use Rattle.qh_model.specs.Sets.{In, Members}
 use Rattle.qh_model.specs.Combination.{IsBalanced, Combination}
@@ -31,18 +31,23 @@ record Four {A : Type 0} (xs : List A) (ts : List (ℕ × A)) : Type 0 where
   weighs : weight ts ≡ w1 + w2 + w3 + w4
   sums : (g : A → ℤ) → total g ts ≡ pos w1 *ℤ g a +ℤ pos w2 *ℤ g b +ℤ pos w3 *ℤ g c +ℤ pos w4 *ℤ g d
 
-f1 : (m : ℕ) (x : ℤ) → pos m *ℤ x +ℤ pos 0 ≡ pos m *ℤ x +ℤ pos 0 *ℤ x +ℤ pos 0 *ℤ x +ℤ pos 0 *ℤ x
-f1 m x = omega (arith, ints)
+-- one weighted member, as four
+pad_one : (m : ℕ) (x : ℤ) → pos m *ℤ x +ℤ pos 0 ≡ pos m *ℤ x +ℤ pos 0 *ℤ x +ℤ pos 0 *ℤ x +ℤ pos 0 *ℤ x
+pad_one m x = omega (arith, ints)
 
-f2 : (m n : ℕ) (x y : ℤ) → pos m *ℤ x +ℤ (pos n *ℤ y +ℤ pos 0) ≡ pos m *ℤ x +ℤ pos n *ℤ y +ℤ pos 0 *ℤ x +ℤ pos 0 *ℤ x
-f2 m n x y = omega (arith, ints)
+-- two
+pad_two : (m n : ℕ) (x y : ℤ) → pos m *ℤ x +ℤ (pos n *ℤ y +ℤ pos 0) ≡ pos m *ℤ x +ℤ pos n *ℤ y +ℤ pos 0 *ℤ x +ℤ pos 0 *ℤ x
+pad_two m n x y = omega (arith, ints)
 
-f3 : (m n k : ℕ) (x y z : ℤ) → pos m *ℤ x +ℤ (pos n *ℤ y +ℤ (pos k *ℤ z +ℤ pos 0)) ≡ pos m *ℤ x +ℤ pos n *ℤ y +ℤ pos k *ℤ z +ℤ pos 0 *ℤ x
-f3 m n k x y z = omega (arith, ints)
+-- three
+pad_three : (m n k : ℕ) (x y z : ℤ) → pos m *ℤ x +ℤ (pos n *ℤ y +ℤ (pos k *ℤ z +ℤ pos 0)) ≡ pos m *ℤ x +ℤ pos n *ℤ y +ℤ pos k *ℤ z +ℤ pos 0 *ℤ x
+pad_three m n k x y z = omega (arith, ints)
 
-f4 : (m n k l : ℕ) (x y z t : ℤ) → pos m *ℤ x +ℤ (pos n *ℤ y +ℤ (pos k *ℤ z +ℤ (pos l *ℤ t +ℤ pos 0))) ≡ pos m *ℤ x +ℤ pos n *ℤ y +ℤ pos k *ℤ z +ℤ pos l *ℤ t
-f4 m n k l x y z t = omega (arith, ints)
+-- four
+pad_four : (m n k l : ℕ) (x y z t : ℤ) → pos m *ℤ x +ℤ (pos n *ℤ y +ℤ (pos k *ℤ z +ℤ (pos l *ℤ t +ℤ pos 0))) ≡ pos m *ℤ x +ℤ pos n *ℤ y +ℤ pos k *ℤ z +ℤ pos l *ℤ t
+pad_four m n k l x y z t = omega (arith, ints)
 
+-- at most four terms are four, with weights 0 for those that lack
 four : {A : Type 0} (xs : List A) (ts : List (ℕ × A)) → Among xs ts → count ts ≤ 4 → 0 < weight ts → Four xs ts
 four xs [] m c h = absurd (omega arith)
 four xs (p ∷ []) m c h = record {
@@ -59,7 +64,7 @@ four xs (p ∷ []) m c h = record {
   w3 = 0;
   w4 = 0;
   weighs = omega arith;
-  sums = λ g. f1 p.0 (g p.1);
+  sums = λ g. pad_one p.0 (g p.1);
 }
 four xs (p ∷ q ∷ []) m c h = record {
   a = p.1;
@@ -75,7 +80,7 @@ four xs (p ∷ q ∷ []) m c h = record {
   w3 = 0;
   w4 = 0;
   weighs = omega arith;
-  sums = λ g. f2 p.0 q.0 (g p.1) (g q.1);
+  sums = λ g. pad_two p.0 q.0 (g p.1) (g q.1);
 }
 four xs (p ∷ q ∷ r ∷ []) m c h = record {
   a = p.1;
@@ -91,7 +96,7 @@ four xs (p ∷ q ∷ r ∷ []) m c h = record {
   w3 = r.0;
   w4 = 0;
   weighs = omega arith;
-  sums = λ g. f3 p.0 q.0 r.0 (g p.1) (g q.1) (g r.1);
+  sums = λ g. pad_three p.0 q.0 r.0 (g p.1) (g q.1) (g r.1);
 }
 four xs (p ∷ q ∷ r ∷ s ∷ []) m c h = record {
   a = p.1;
@@ -107,7 +112,7 @@ four xs (p ∷ q ∷ r ∷ s ∷ []) m c h = record {
   w3 = r.0;
   w4 = s.0;
   weighs = omega arith;
-  sums = λ g. f4 p.0 q.0 r.0 s.0 (g p.1) (g q.1) (g r.1) (g s.1);
+  sums = λ g. pad_four p.0 q.0 r.0 s.0 (g p.1) (g q.1) (g r.1) (g s.1);
 }
 four xs (p ∷ q ∷ r ∷ s ∷ t ∷ ts) m c h = absurd (omega arith)
 
@@ -115,28 +120,35 @@ four xs (p ∷ q ∷ r ∷ s ∷ t ∷ ts) m c h = absurd (omega arith)
 abbrev toward : (ℕ → Vector) → Vector → ℕ → V 3
 toward at p i = ((at i).x -ℤ p.x, ((at i).y -ℤ p.y, ((at i).z -ℤ p.z, tt)))
 
-t1 : (m P g T WP G : ℤ) → T +ℤ WP ≡ G → (m *ℤ (g -ℤ P) +ℤ T) +ℤ (m *ℤ P +ℤ WP) ≡ m *ℤ g +ℤ G
-t1 m P g T WP G e = simp ring_rules (omega (arith, ints))
+-- a term over differences, and its part of p
+shifted_term : (m P g T WP G : ℤ) → T +ℤ WP ≡ G → (m *ℤ (g -ℤ P) +ℤ T) +ℤ (m *ℤ P +ℤ WP) ≡ m *ℤ g +ℤ G
+shifted_term m P g T WP G e = simp ring_rules (omega (arith, ints))
 
+-- the total of differences to P
 total_from : {A : Type 0} (d g : A → ℤ) (P : ℤ) → ((a : A) → d a ≡ g a -ℤ P) → (ts : List (ℕ × A)) → total d ts +ℤ pos (weight ts) *ℤ P ≡ total g ts
 total_from d g P e [] = omega (arith, ints)
 total_from d g P e (t ∷ ts) =
     ap (λ s. (pos t.0 *ℤ s +ℤ total d ts) +ℤ pos (t.0 + weight ts) *ℤ P) (e t.1)
     ∙ ap (λ s. (pos t.0 *ℤ (g t.1 -ℤ P) +ℤ total d ts) +ℤ s) (add_mul (pos t.0) (pos (weight ts)) P)
-    ∙ t1 (pos t.0) P (g t.1) (total d ts) (pos (weight ts) *ℤ P) (total g ts) (total_from d g P e ts)
+    ∙ shifted_term (pos t.0) P (g t.1) (total d ts) (pos (weight ts) *ℤ P) (total g ts) (total_from d g P e ts)
 
-x1 : (x y z : ℤ) → pos 1 *ℤ x +ℤ (pos 0 *ℤ y +ℤ (pos 0 *ℤ z +ℤ pos 0)) ≡ x
-x1 x y z = omega (arith, ints)
+-- the first coordinate as a scalar product
+first_part : (x y z : ℤ) → pos 1 *ℤ x +ℤ (pos 0 *ℤ y +ℤ (pos 0 *ℤ z +ℤ pos 0)) ≡ x
+first_part x y z = omega (arith, ints)
 
-y1 : (x y z : ℤ) → pos 0 *ℤ x +ℤ (pos 1 *ℤ y +ℤ (pos 0 *ℤ z +ℤ pos 0)) ≡ y
-y1 x y z = omega (arith, ints)
+-- the second
+second_part : (x y z : ℤ) → pos 0 *ℤ x +ℤ (pos 1 *ℤ y +ℤ (pos 0 *ℤ z +ℤ pos 0)) ≡ y
+second_part x y z = omega (arith, ints)
 
-z1 : (x y z : ℤ) → pos 0 *ℤ x +ℤ (pos 0 *ℤ y +ℤ (pos 1 *ℤ z +ℤ pos 0)) ≡ z
-z1 x y z = omega (arith, ints)
+-- the third
+third_part : (x y z : ℤ) → pos 0 *ℤ x +ℤ (pos 0 *ℤ y +ℤ (pos 1 *ℤ z +ℤ pos 0)) ≡ z
+third_part x y z = omega (arith, ints)
 
-g1 : (T WP G : ℤ) → T +ℤ WP ≡ G → T ≡ pos 0 → WP ≡ G
-g1 T WP G e z = omega (arith, ints)
+-- totals that vanish over differences balance
+balance : (T WP G : ℤ) → T +ℤ WP ≡ G → T ≡ pos 0 → WP ≡ G
+balance T WP G e z = omega (arith, ints)
 
+-- balanced differences are a convex combination
 combination_of : (at : ℕ → Vector) (ids : List ℕ) (p : Vector) → Balanced ℕ 3 (toward at p) ids → Combination at (Members ids) p
 combination_of at ids p m = record {
   a = q.a;
@@ -152,53 +164,61 @@ combination_of at ids p m = record {
   w3 = q.w3;
   w4 = q.w4;
   some_weight = omega (arith, q.weighs, m.heavy);
-  x = along (pos 1, (pos 0, (pos 0, tt))) p.x (λ i. (at i).x) (λ i. x1 ((at i).x -ℤ p.x) ((at i).y -ℤ p.y) ((at i).z -ℤ p.z));
-  y = along (pos 0, (pos 1, (pos 0, tt))) p.y (λ i. (at i).y) (λ i. y1 ((at i).x -ℤ p.x) ((at i).y -ℤ p.y) ((at i).z -ℤ p.z));
-  z = along (pos 0, (pos 0, (pos 1, tt))) p.z (λ i. (at i).z) (λ i. z1 ((at i).x -ℤ p.x) ((at i).y -ℤ p.y) ((at i).z -ℤ p.z));
+  x = along (pos 1, (pos 0, (pos 0, tt))) p.x (λ i. (at i).x) (λ i. first_part ((at i).x -ℤ p.x) ((at i).y -ℤ p.y) ((at i).z -ℤ p.z));
+  y = along (pos 0, (pos 1, (pos 0, tt))) p.y (λ i. (at i).y) (λ i. second_part ((at i).x -ℤ p.x) ((at i).y -ℤ p.y) ((at i).z -ℤ p.z));
+  z = along (pos 0, (pos 0, (pos 1, tt))) p.z (λ i. (at i).z) (λ i. third_part ((at i).x -ℤ p.x) ((at i).y -ℤ p.y) ((at i).z -ℤ p.z));
 }
   where
     q : Four ids m.terms
     q = four ids m.terms m.among m.few m.heavy
 
     along : (u : V 3) (P : ℤ) (g : ℕ → ℤ) → ((i : ℕ) → vdot 3 u (toward at p i) ≡ g i -ℤ P) → IsBalanced q.w1 q.w2 q.w3 q.w4 P (g q.a) (g q.b) (g q.c) (g q.d)
-    along u P g e = ap (λ t. pos t *ℤ P) (sym q.weighs) ∙ g1 _ _ _ (total_from (λ i. vdot 3 u (toward at p i)) g P e m.terms) (m.sums u) ∙ q.sums g
+    along u P g e = ap (λ t. pos t *ℤ P) (sym q.weighs) ∙ balance _ _ _ (total_from (λ i. vdot 3 u (toward at p i)) g P e m.terms) (m.sums u) ∙ q.sums g
 
-o1 : (u v w ax ay az px py pz : ℤ) → (u *ℤ (ax -ℤ px) +ℤ (v *ℤ (ay -ℤ py) +ℤ (w *ℤ (az -ℤ pz) +ℤ pos 0))) <ℤ pos 0 → (u *ℤ ax +ℤ v *ℤ ay +ℤ w *ℤ az) <ℤ (u *ℤ px +ℤ v *ℤ py +ℤ w *ℤ pz)
-o1 u v w ax ay az px py pz h = let k = simp ring_rules at h in omega (arith, ints, k)
+-- a negative scalar product of the difference is an order of scalar products
+past_from : (u v w ax ay az px py pz : ℤ) → (u *ℤ (ax -ℤ px) +ℤ (v *ℤ (ay -ℤ py) +ℤ (w *ℤ (az -ℤ pz) +ℤ pos 0))) <ℤ pos 0 → (u *ℤ ax +ℤ v *ℤ ay +ℤ w *ℤ az) <ℤ (u *ℤ px +ℤ v *ℤ py +ℤ w *ℤ pz)
+past_from u v w ax ay az px py pz h = let k = simp ring_rules at h in omega (arith, ints, k)
 
+-- separated differences are a separator
 separator_of : (at : ℕ → Vector) (ids : List ℕ) (p : Vector) → Separated ℕ 3 (toward at p) ids → Separator at (Members ids) p
 separator_of at ids p s = record {
   w = record { x = s.w.0; y = s.w.1.0; z = s.w.1.1.0 };
-  past = λ a m. o1 s.w.0 s.w.1.0 s.w.1.1.0 (at a).x (at a).y (at a).z p.x p.y p.z (every_at (λ i. vdot 3 s.w (toward at p i) <ℤ pos 0) ids a s.below m);
+  past = λ a m. past_from s.w.0 s.w.1.0 s.w.1.1.0 (at a).x (at a).y (at a).z p.x p.y p.z (every_at (λ i. vdot 3 s.w (toward at p i) <ℤ pos 0) ids a s.below m);
 }
 
+-- one or the other, for points
 either : (at : ℕ → Vector) (ids : List ℕ) (p : Vector) → Balanced ℕ 3 (toward at p) ids ⊎ Separated ℕ 3 (toward at p) ids → Combination at (Members ids) p ⊎ Separator at (Members ids) p
 either at ids p (inl m) = inl (combination_of at ids p m)
 either at ids p (inr s) = inr (separator_of at ids p s)
 
+-- the law
 pub combination_or_separator : CombinationOrSeparator
 combination_or_separator at ids p = either at ids p (alternative 3 (toward at p) ids)
 
 -- ---- not both
-h1 : (W u v w x y z : ℤ) → W *ℤ (u *ℤ x +ℤ v *ℤ y +ℤ w *ℤ z) ≡ u *ℤ (W *ℤ x) +ℤ v *ℤ (W *ℤ y) +ℤ w *ℤ (W *ℤ z)
-h1 W u v w x y z = simp ring_rules
+-- a factor of a scalar product goes to the coordinates
+scaled_dot : (W u v w x y z : ℤ) → W *ℤ (u *ℤ x +ℤ v *ℤ y +ℤ w *ℤ z) ≡ u *ℤ (W *ℤ x) +ℤ v *ℤ (W *ℤ y) +ℤ w *ℤ (W *ℤ z)
+scaled_dot W u v w x y z = simp ring_rules
 
-h2 : (k l m n u v w ax ay az bx by bz cx cy cz dx dy dz : ℤ) →
+-- the scalar product of a weighted sum
+combined_dot : (k l m n u v w ax ay az bx by bz cx cy cz dx dy dz : ℤ) →
     u *ℤ (k *ℤ ax +ℤ l *ℤ bx +ℤ m *ℤ cx +ℤ n *ℤ dx) +ℤ v *ℤ (k *ℤ ay +ℤ l *ℤ by +ℤ m *ℤ cy +ℤ n *ℤ dy) +ℤ w *ℤ (k *ℤ az +ℤ l *ℤ bz +ℤ m *ℤ cz +ℤ n *ℤ dz)
     ≡ k *ℤ (u *ℤ ax +ℤ v *ℤ ay +ℤ w *ℤ az) +ℤ l *ℤ (u *ℤ bx +ℤ v *ℤ by +ℤ w *ℤ bz) +ℤ m *ℤ (u *ℤ cx +ℤ v *ℤ cy +ℤ w *ℤ cz) +ℤ n *ℤ (u *ℤ dx +ℤ v *ℤ dy +ℤ w *ℤ dz)
-h2 k l m n u v w ax ay az bx by bz cx cy cz dx dy dz = simp ring_rules
+combined_dot k l m n u v w ax ay az bx by bz cx cy cz dx dy dz = simp ring_rules
 
-h3 : (k l m n : ℕ) (P A B C D : ℤ) → pos (k + l + m + n) *ℤ P ≡ pos k *ℤ A +ℤ pos l *ℤ B +ℤ pos m *ℤ C +ℤ pos n *ℤ D → 0 < k + l + m + n → A <ℤ P → B <ℤ P → C <ℤ P → D <ℤ P → ⊥
-h3 k l m n P A B C D e h a b c d = omega (arith, ints, mul-le-mul_left k (lt_out A P a), mul-le-mul_left l (lt_out B P b), mul-le-mul_left m (lt_out C P c), mul-le-mul_left n (lt_out D P d))
+-- numbers below P do not balance to P
+lower_weights : (k l m n : ℕ) (P A B C D : ℤ) → pos (k + l + m + n) *ℤ P ≡ pos k *ℤ A +ℤ pos l *ℤ B +ℤ pos m *ℤ C +ℤ pos n *ℤ D → 0 < k + l + m + n → A <ℤ P → B <ℤ P → C <ℤ P → D <ℤ P → ⊥
+lower_weights k l m n P A B C D e h a b c d = omega (arith, ints, mul-le-mul_left k (lt_out A P a), mul-le-mul_left l (lt_out B P b), mul-le-mul_left m (lt_out C P c), mul-le-mul_left n (lt_out D P d))
 
+-- w puts no convex combination's members all below it
 pub all_lower : (at : ℕ → Vector) (A : ℕ → Type 0) (p w : Vector) (m : Combination at A p)
     → dot w (at m.a) <ℤ dot w p → dot w (at m.b) <ℤ dot w p → dot w (at m.c) <ℤ dot w p → dot w (at m.d) <ℤ dot w p → ⊥
-all_lower at A p w m = h3 m.w1 m.w2 m.w3 m.w4 (dot w p) (dot w (at m.a)) (dot w (at m.b)) (dot w (at m.c)) (dot w (at m.d))
-    (h1 W w.x w.y w.z p.x p.y p.z
+all_lower at A p w m = lower_weights m.w1 m.w2 m.w3 m.w4 (dot w p) (dot w (at m.a)) (dot w (at m.b)) (dot w (at m.c)) (dot w (at m.d))
+    (scaled_dot W w.x w.y w.z p.x p.y p.z
     ∙ ap (λ t. w.x *ℤ t +ℤ w.y *ℤ (W *ℤ p.y) +ℤ w.z *ℤ (W *ℤ p.z)) m.x
     ∙ ap (λ t. w.x *ℤ side (λ q. q.x) +ℤ w.y *ℤ t +ℤ w.z *ℤ (W *ℤ p.z)) m.y
     ∙ ap (λ t. w.x *ℤ side (λ q. q.x) +ℤ w.y *ℤ side (λ q. q.y) +ℤ w.z *ℤ t) m.z
-    ∙ h2 (pos m.w1) (pos m.w2) (pos m.w3) (pos m.w4) w.x w.y w.z (at m.a).x (at m.a).y (at m.a).z (at m.b).x (at m.b).y (at m.b).z (at m.c).x (at m.c).y (at m.c).z (at m.d).x (at m.d).y (at m.d).z)
+    ∙ combined_dot (pos m.w1) (pos m.w2) (pos m.w3) (pos m.w4) w.x w.y w.z (at m.a).x (at m.a).y (at m.a).z (at m.b).x (at m.b).y (at m.b).z (at m.c).x (at m.c).y (at m.c).z (at m.d).x (at m.d).y (at m.d).z)
     m.some_weight
   where
     W : ℤ
@@ -207,5 +227,6 @@ all_lower at A p w m = h3 m.w1 m.w2 m.w3 m.w4 (dot w p) (dot w (at m.a)) (dot w 
     side : (Vector → ℤ) → ℤ
     side g = pos m.w1 *ℤ g (at m.a) +ℤ pos m.w2 *ℤ g (at m.b) +ℤ pos m.w3 *ℤ g (at m.c) +ℤ pos m.w4 *ℤ g (at m.d)
 
+-- the law
 pub never_both : NeverBoth
 never_both at ids p m s = all_lower at (Members ids) p s.w m (s.past m.a m.has_a) (s.past m.b m.has_b) (s.past m.c m.has_c) (s.past m.d m.has_d)

@@ -4,60 +4,71 @@ use Rattle.std.proofs.lemmas.Int.{ints}
 use Rattle.std.specs.Prelude.{ℤ, pos, negsuc, ◌+ℤ◌, ◌*ℤ◌, neg_ℤ, ◌<ℤ◌, ◌≤ℤ◌}
 use lib.IntN.{*ℤ_comm, zero-*ℤ, *ℤ-zero, +ℤ_idl, +ℤ_idr}
 use Rattle.qh_model.proofs.algebra.Integers.{ring_rules, mul_add}
+use Rattle.qh_model.proofs.algebra.Order.{square-nonneg}
 
+-- vectors of n numbers
 abbrev pub V : ℕ → Type 0
 V zero = Unit {0}
 V (suc n) = ℤ × V n
 
+-- the scalar product
 abbrev pub dot : (n : ℕ) → V n → V n → ℤ
 dot zero u x = pos 0
 dot (suc n) u x = u.0 *ℤ x.0 +ℤ dot n u.1 x.1
 
+-- a u + b v
 abbrev pub lin : (n : ℕ) → ℤ → V n → ℤ → V n → V n
 lin zero a u b v = tt
 lin (suc n) a u b v = (a *ℤ u.0 +ℤ b *ℤ v.0, lin n a u.1 b v.1)
 
+-- the vector of zeros
 abbrev pub nil : (n : ℕ) → V n
 nil zero = tt
 nil (suc n) = (pos 0, nil n)
 
+-- a step of the next
 zeros : (a b : ℤ) → pos 0 ≡ a *ℤ pos 0 +ℤ b *ℤ pos 0
 zeros a b = omega (arith, ints)
 
-r1 : (a b u v x D E : ℤ) → (a *ℤ u +ℤ b *ℤ v) *ℤ x +ℤ (a *ℤ D +ℤ b *ℤ E) ≡ a *ℤ (u *ℤ x +ℤ D) +ℤ b *ℤ (v *ℤ x +ℤ E)
-r1 a b u v x D E = simp ring_rules
+-- a step of the next
+lin_step : (a b u v x D E : ℤ) → (a *ℤ u +ℤ b *ℤ v) *ℤ x +ℤ (a *ℤ D +ℤ b *ℤ E) ≡ a *ℤ (u *ℤ x +ℤ D) +ℤ b *ℤ (v *ℤ x +ℤ E)
+lin_step a b u v x D E = simp ring_rules
 
+-- scalar products are linear
 pub dot_lin : (n : ℕ) (a b : ℤ) (u v x : V n) → dot n (lin n a u b v) x ≡ a *ℤ dot n u x +ℤ b *ℤ dot n v x
 dot_lin zero a b u v x = zeros a b
-dot_lin (suc n) a b u v x = ap (λ t. (a *ℤ u.0 +ℤ b *ℤ v.0) *ℤ x.0 +ℤ t) (dot_lin n a b u.1 v.1 x.1) ∙ r1 a b u.0 v.0 x.0 (dot n u.1 x.1) (dot n v.1 x.1)
+dot_lin (suc n) a b u v x = ap (λ t. (a *ℤ u.0 +ℤ b *ℤ v.0) *ℤ x.0 +ℤ t) (dot_lin n a b u.1 v.1 x.1) ∙ lin_step a b u.0 v.0 x.0 (dot n u.1 x.1) (dot n v.1 x.1)
 
-r2 : (u x D E : ℤ) → D ≡ E → u *ℤ x +ℤ D ≡ x *ℤ u +ℤ E
-r2 u x D E e = rw (e, *ℤ_comm u x)
+-- a step of the next
+comm_step : (u x D E : ℤ) → D ≡ E → u *ℤ x +ℤ D ≡ x *ℤ u +ℤ E
+comm_step u x D E e = rw (e, *ℤ_comm u x)
 
+-- they commute
 pub dot_comm : (n : ℕ) (u x : V n) → dot n u x ≡ dot n x u
 dot_comm zero u x = refl
-dot_comm (suc n) u x = r2 u.0 x.0 _ _ (dot_comm n u.1 x.1)
+dot_comm (suc n) u x = comm_step u.0 x.0 _ _ (dot_comm n u.1 x.1)
 
+-- they are linear on the right
 pub dot_lin_right : (n : ℕ) (a b : ℤ) (x u v : V n) → dot n x (lin n a u b v) ≡ a *ℤ dot n x u +ℤ b *ℤ dot n x v
 dot_lin_right n a b x u v = dot_comm n x (lin n a u b v) ∙ dot_lin n a b u v x ∙ rw (dot_comm n u x, dot_comm n v x)
 
-r4 : (x D : ℤ) → D ≡ pos 0 → pos 0 *ℤ x +ℤ D ≡ pos 0
-r4 x D e = rw (e, zero-*ℤ x)
+-- a step of the next
+nil_step : (x D : ℤ) → D ≡ pos 0 → pos 0 *ℤ x +ℤ D ≡ pos 0
+nil_step x D e = rw (e, zero-*ℤ x)
 
+-- the zeros have none
 pub dot_nil : (n : ℕ) (x : V n) → dot n (nil n) x ≡ pos 0
 dot_nil zero x = refl
-dot_nil (suc n) x = r4 x.0 _ (dot_nil n x.1)
+dot_nil (suc n) x = nil_step x.0 _ (dot_nil n x.1)
 
-square : (x : ℤ) → pos 0 ≤ℤ (x *ℤ x)
-square (pos n) = omega (arith, ints)
-square (negsuc n) = omega (arith, ints)
-
+-- a sum of two numbers not below 0
 plus : (x D : ℤ) → pos 0 ≤ℤ x → pos 0 ≤ℤ D → pos 0 ≤ℤ (x +ℤ D)
 plus x D h k = omega (arith, ints)
 
+-- a vector's square is not below 0
 pub dot_self : (n : ℕ) (x : V n) → pos 0 ≤ℤ dot n x x
 dot_self zero x = omega (arith, ints)
-dot_self (suc n) x = plus _ _ (square x.0) (dot_self n x.1)
+dot_self (suc n) x = plus _ _ (square-nonneg x.0) (dot_self n x.1)
 
 -- the space one dimension lower, along d
 pub record Cut (n : ℕ) (d : V (suc n)) : Type 0 where
@@ -71,65 +82,77 @@ pub record Cut (n : ℕ) (d : V (suc n)) : Type 0 where
   pub rest : V (suc n) → V n
   pub splits : (u x : V (suc n)) → pos (suc scale) *ℤ dot (suc n) u x ≡ dot (suc n) u d *ℤ dot (suc n) along x +ℤ dot n (rest u) (project x)
 
-r5 : (h x D E : ℤ) → neg_ℤ E *ℤ x +ℤ (h *ℤ D +ℤ pos 0 *ℤ D) ≡ h *ℤ D +ℤ neg_ℤ x *ℤ E
-r5 h x D E = simp ring_rules (omega (arith, ints))
+-- lifting, for a vector with head h
+lift_head : (h x D E : ℤ) → neg_ℤ E *ℤ x +ℤ (h *ℤ D +ℤ pos 0 *ℤ D) ≡ h *ℤ D +ℤ neg_ℤ x *ℤ E
+lift_head h x D E = simp ring_rules (omega (arith, ints))
 
-r6 : (h E : ℤ) → neg_ℤ E *ℤ h +ℤ (h *ℤ E +ℤ pos 0 *ℤ E) ≡ pos 0
-r6 h E = simp ring_rules (omega (arith, ints))
+-- what is lifted is at right angles to that vector
+kill_head : (h E : ℤ) → neg_ℤ E *ℤ h +ℤ (h *ℤ E +ℤ pos 0 *ℤ E) ≡ pos 0
+kill_head h E = simp ring_rules (omega (arith, ints))
 
-r7 : (k : ℕ) (h D : ℤ) → pos (suc k) ≡ h *ℤ h → pos 0 ≤ℤ D → pos 0 <ℤ (h *ℤ h +ℤ D)
-r7 k h D e l = rw (← e) (omega (arith, ints))
+-- whose square is positive
+grow_head : (k : ℕ) (h D : ℤ) → pos (suc k) ≡ h *ℤ h → pos 0 ≤ℤ D → pos 0 <ℤ (h *ℤ h +ℤ D)
+grow_head k h D e l = rw (← e) (omega (arith, ints))
 
-r8 : (h u x D E : ℤ) → (h *ℤ h) *ℤ (u *ℤ x +ℤ D) ≡ (u *ℤ h +ℤ E) *ℤ (h *ℤ x) +ℤ h *ℤ (h *ℤ D +ℤ neg_ℤ x *ℤ E)
-r8 h u x D E = simp ring_rules (omega (arith, ints))
+-- and splits scalar products
+split_head : (h u x D E : ℤ) → (h *ℤ h) *ℤ (u *ℤ x +ℤ D) ≡ (u *ℤ h +ℤ E) *ℤ (h *ℤ x) +ℤ h *ℤ (h *ℤ D +ℤ neg_ℤ x *ℤ E)
+split_head h u x D E = simp ring_rules (omega (arith, ints))
 
-r9 : (a D : ℤ) → a *ℤ D +ℤ pos 0 *ℤ D ≡ a *ℤ D
-r9 a D = omega (arith, ints)
+-- a term that is 0
+no_second : (a D : ℤ) → a *ℤ D +ℤ pos 0 *ℤ D ≡ a *ℤ D
+no_second a D = omega (arith, ints)
 
+-- the cut along a vector whose head is not 0
 by_head : (n k : ℕ) (h : ℤ) (t : V n) → pos (suc k) ≡ h *ℤ h → Cut n (h, t)
 by_head n k h t e = record {
   project = λ x. lin n h x.1 (neg_ℤ x.0) t;
   lift = λ u. (neg_ℤ (dot n u t), lin n h u (pos 0) u);
-  lifts = λ u x. ap (λ s. neg_ℤ (dot n u t) *ℤ x.0 +ℤ s) (dot_lin n h (pos 0) u u x.1) ∙ r5 h x.0 (dot n u x.1) (dot n u t) ∙ sym (dot_lin_right n h (neg_ℤ x.0) u x.1 t);
-  kills = λ u. ap (λ s. neg_ℤ (dot n u t) *ℤ h +ℤ s) (dot_lin n h (pos 0) u u t) ∙ r6 h (dot n u t);
-  grows = r7 k h (dot n t t) e (dot_self n t);
+  lifts = λ u x. ap (λ s. neg_ℤ (dot n u t) *ℤ x.0 +ℤ s) (dot_lin n h (pos 0) u u x.1) ∙ lift_head h x.0 (dot n u x.1) (dot n u t) ∙ sym (dot_lin_right n h (neg_ℤ x.0) u x.1 t);
+  kills = λ u. ap (λ s. neg_ℤ (dot n u t) *ℤ h +ℤ s) (dot_lin n h (pos 0) u u t) ∙ kill_head h (dot n u t);
+  grows = grow_head k h (dot n t t) e (dot_self n t);
   scale = k;
   along = (h, nil n);
   rest = λ u. lin n h u.1 (pos 0) u.1;
   splits = λ u x. ap (λ s. s *ℤ (u.0 *ℤ x.0 +ℤ dot n u.1 x.1)) e
-      ∙ r8 h u.0 x.0 (dot n u.1 x.1) (dot n u.1 t)
+      ∙ split_head h u.0 x.0 (dot n u.1 x.1) (dot n u.1 t)
       ∙ ap (λ s. (u.0 *ℤ h +ℤ dot n u.1 t) *ℤ s +ℤ h *ℤ (h *ℤ dot n u.1 x.1 +ℤ neg_ℤ x.0 *ℤ dot n u.1 t)) (sym (ap (λ s. h *ℤ x.0 +ℤ s) (dot_nil n x.1) ∙ +ℤ_idr (h *ℤ x.0)))
       ∙ ap (λ s. (u.0 *ℤ h +ℤ dot n u.1 t) *ℤ (h *ℤ x.0 +ℤ dot n (nil n) x.1) +ℤ s)
-      (sym (dot_lin n h (pos 0) u.1 u.1 (lin n h x.1 (neg_ℤ x.0) t) ∙ r9 h _ ∙ ap (λ s. h *ℤ s) (dot_lin_right n h (neg_ℤ x.0) u.1 x.1 t)));
+      (sym (dot_lin n h (pos 0) u.1 u.1 (lin n h x.1 (neg_ℤ x.0) t) ∙ no_second h _ ∙ ap (λ s. h *ℤ s) (dot_lin_right n h (neg_ℤ x.0) u.1 x.1 t)));
 }
 
-q1 : (u D : ℤ) → D ≡ pos 0 → u *ℤ pos 0 +ℤ D ≡ pos 0
-q1 u D e = rw (e, *ℤ-zero u)
+-- a head 0 adds nothing
+flat_head : (u D : ℤ) → D ≡ pos 0 → u *ℤ pos 0 +ℤ D ≡ pos 0
+flat_head u D e = rw (e, *ℤ-zero u)
 
-q2 : (D : ℤ) → pos 0 <ℤ D → pos 0 <ℤ (pos 0 *ℤ pos 0 +ℤ D)
-q2 D h = omega (arith, ints)
+-- nor to a square
+grow_tail : (D : ℤ) → pos 0 <ℤ D → pos 0 <ℤ (pos 0 *ℤ pos 0 +ℤ D)
+grow_tail D h = omega (arith, ints)
 
-q3 : (a u x D Q E R : ℤ) → a *ℤ D ≡ E *ℤ Q +ℤ R → a *ℤ (u *ℤ x +ℤ D) ≡ (u *ℤ pos 0 +ℤ E) *ℤ (pos 0 *ℤ x +ℤ Q) +ℤ ((a *ℤ u) *ℤ x +ℤ R)
-q3 a u x D Q E R e = rw (*ℤ-zero u, zero-*ℤ x, +ℤ_idl E, +ℤ_idl Q, mul_add a (u *ℤ x) D, e) (simp ring_rules)
+-- splitting goes by the tail
+split_tail : (a u x D Q E R : ℤ) → a *ℤ D ≡ E *ℤ Q +ℤ R → a *ℤ (u *ℤ x +ℤ D) ≡ (u *ℤ pos 0 +ℤ E) *ℤ (pos 0 *ℤ x +ℤ Q) +ℤ ((a *ℤ u) *ℤ x +ℤ R)
+split_tail a u x D Q E R e = rw (*ℤ-zero u, zero-*ℤ x, +ℤ_idl E, +ℤ_idl Q, mul_add a (u *ℤ x) D, e) (simp ring_rules)
 
+-- the cut along a vector whose head is 0, by that along its tail
 by_tail : (n : ℕ) (t : V (suc n)) → Cut n t → Cut (suc n) (pos 0, t)
 by_tail n t c = record {
   project = λ x. (x.0, c.project x.1);
   lift = λ u. (u.0, c.lift u.1);
   lifts = λ u x. ap (λ s. u.0 *ℤ x.0 +ℤ s) (c.lifts u.1 x.1);
-  kills = λ u. q1 u.0 _ (c.kills u.1);
-  grows = q2 _ c.grows;
+  kills = λ u. flat_head u.0 _ (c.kills u.1);
+  grows = grow_tail _ c.grows;
   scale = c.scale;
   along = (pos 0, c.along);
   rest = λ u. (pos (suc c.scale) *ℤ u.0, c.rest u.1);
-  splits = λ u x. q3 (pos (suc c.scale)) u.0 x.0 (dot (suc n) u.1 x.1) _ _ _ (c.splits u.1 x.1);
+  splits = λ u x. split_tail (pos (suc c.scale)) u.0 x.0 (dot (suc n) u.1 x.1) _ _ _ (c.splits u.1 x.1);
 }
 
+-- d is 0
 abbrev pub Flat : (n : ℕ) → V n → Type 0
 Flat n d = (u : V n) → dot n u d ≡ pos 0
 
+-- so is a vector of head 0 and tail 0
 flat_tail : (n : ℕ) (t : V n) → Flat n t → Flat (suc n) (pos 0, t)
-flat_tail n t f u = q1 u.0 _ (f u.1)
+flat_tail n t f u = flat_head u.0 _ (f u.1)
 
 -- a vector is zero, or the space can be cut along it
 pub cut : (n : ℕ) (d : V (suc n)) → Flat (suc n) d ⊎ Cut n d

@@ -6,70 +6,85 @@ use Rattle.std.specs.Prelude.{ℤ, pos, negsuc, ◌+ℤ◌, ◌*ℤ◌, neg_ℤ,
 use Rattle.std.specs.List.{AllByRecursion as Every}
 use lib.IntN.{*ℤ_comm, *ℤ-zero, +ℤ_idr}
 use Rattle.qh_model.specs.Sets.{In}
-use Rattle.qh_model.proofs.lists.Members.{every_at, every_map, every_zip}
+use Rattle.qh_model.proofs.Members.{every_at, every_map, every_zip}
 use borrow.Author.Differences.{lt_out}
 use Rattle.qh_model.proofs.algebra.Integers.{ring_rules, mul_add, mul_assoc}
 use Rattle.qh_model.proofs.combinations.Vectors.{V, dot, lin, nil, dot_lin, Cut, Flat, cut}
 
 -- ---- weighted members
+-- the total of g over weighted members
 abbrev pub total : {A : Type 0} → (A → ℤ) → List (ℕ × A) → ℤ
 total g [] = pos 0
 total g (t ∷ ts) = pos t.0 *ℤ g t.1 +ℤ total g ts
 
+-- the sum of the weights
 abbrev pub weight : {A : Type 0} → List (ℕ × A) → ℕ
 weight [] = 0
 weight (t ∷ ts) = t.0 + weight ts
 
+-- how many there are
 abbrev pub count : {A : Type 0} → List A → ℕ
 count [] = 0
 count (t ∷ ts) = suc (count ts)
 
+-- each is a member of the list
 abbrev pub Among : {A : Type 0} → List A → List (ℕ × A) → Type 0
 Among xs [] = Unit {0}
 Among xs (t ∷ ts) = In t.1 xs × Among xs ts
 
+-- also of a longer list
 pub among_more : {A : Type 0} (a : A) (xs : List A) (ts : List (ℕ × A)) → Among xs ts → Among (a ∷ xs) ts
 among_more a xs [] h = tt
 among_more a xs (t ∷ ts) h = (inr h.0, among_more a xs ts h.1)
 
+-- with weights k times as large
 abbrev pub scaled : {A : Type 0} → ℕ → List (ℕ × A) → List (ℕ × A)
 scaled k [] = []
 scaled k (t ∷ ts) = (k * t.0, t.1) ∷ scaled k ts
 
+-- they are of the same members
 among_scaled : {A : Type 0} (k : ℕ) (xs : List A) (ts : List (ℕ × A)) → Among xs ts → Among xs (scaled k ts)
 among_scaled k xs [] h = tt
 among_scaled k xs (t ∷ ts) h = (h.0, among_scaled k xs ts h.1)
 
+-- as many
 count_scaled : {A : Type 0} (k : ℕ) (ts : List (ℕ × A)) → count (scaled k ts) ≡ count ts
 count_scaled k [] = refl
 count_scaled k (t ∷ ts) = ap suc (count_scaled k ts)
 
+-- with k times the total
 total_scaled : {A : Type 0} (k : ℕ) (g : A → ℤ) (ts : List (ℕ × A)) → total g (scaled k ts) ≡ pos k *ℤ total g ts
 total_scaled k g [] = sym (*ℤ-zero (pos k))
 total_scaled k g (t ∷ ts) = ap (λ s. pos (k * t.0) *ℤ g t.1 +ℤ s) (total_scaled k g ts) ∙ ap (λ s. s +ℤ pos k *ℤ total g ts) (mul_assoc (pos k) (pos t.0) (g t.1)) ∙ sym (mul_add (pos k) (pos t.0 *ℤ g t.1) (total g ts))
 
-s1 : (α c m g q r G Q R : ℤ) → α *ℤ g ≡ c *ℤ q +ℤ r → α *ℤ G ≡ c *ℤ Q +ℤ R → α *ℤ (m *ℤ g +ℤ G) ≡ c *ℤ (m *ℤ q +ℤ Q) +ℤ (m *ℤ r +ℤ R)
-s1 α c m g q r G Q R e f =
+-- a step of the next
+linear_step : (α c m g q r G Q R : ℤ) → α *ℤ g ≡ c *ℤ q +ℤ r → α *ℤ G ≡ c *ℤ Q +ℤ R → α *ℤ (m *ℤ g +ℤ G) ≡ c *ℤ (m *ℤ q +ℤ Q) +ℤ (m *ℤ r +ℤ R)
+linear_step α c m g q r G Q R e f =
     mul_add α (m *ℤ g) G ∙ ap (λ s. α *ℤ (m *ℤ g) +ℤ s) f
     ∙ ap (λ s. s +ℤ (c *ℤ Q +ℤ R)) (sym (mul_assoc α m g) ∙ ap (λ s. s *ℤ g) (*ℤ_comm α m) ∙ mul_assoc m α g ∙ ap (λ s. m *ℤ s) e)
     ∙ simp ring_rules
 
+-- totals are linear
 pub total_linear : {A : Type 0} (α c : ℤ) (g q r : A → ℤ) → ((a : A) → α *ℤ g a ≡ c *ℤ q a +ℤ r a) → (ts : List (ℕ × A)) → α *ℤ total g ts ≡ c *ℤ total q ts +ℤ total r ts
 total_linear α c g q r e [] = *ℤ-zero α ∙ sym (*ℤ-zero c) ∙ sym (+ℤ_idr (c *ℤ pos 0))
-total_linear α c g q r e (t ∷ ts) = s1 α c (pos t.0) (g t.1) (q t.1) (r t.1) _ _ _ (e t.1) (total_linear α c g q r e ts)
+total_linear α c g q r e (t ∷ ts) = linear_step α c (pos t.0) (g t.1) (q t.1) (r t.1) _ _ _ (e t.1) (total_linear α c g q r e ts)
 
-n1 : (m W : ℕ) (g G : ℤ) → g <ℤ pos 0 → (G +ℤ pos W) ≤ℤ pos 0 → (pos m *ℤ g +ℤ G +ℤ pos (m + W)) ≤ℤ pos 0
-n1 m W g G h k = omega (arith, ints, mul-le-mul_left m (lt_out g (pos 0) h))
+-- a step of the next
+below_step : (m W : ℕ) (g G : ℤ) → g <ℤ pos 0 → (G +ℤ pos W) ≤ℤ pos 0 → (pos m *ℤ g +ℤ G +ℤ pos (m + W)) ≤ℤ pos 0
+below_step m W g G h k = omega (arith, ints, mul-le-mul_left m (lt_out g (pos 0) h))
 
+-- negative values have a total of at most minus the weight
 total_below : {A : Type 0} (g : A → ℤ) (xs : List A) (ts : List (ℕ × A)) → Every (λ a. g a <ℤ pos 0) xs → Among xs ts → (total g ts +ℤ pos (weight ts)) ≤ℤ pos 0
 total_below g xs [] h k = omega (arith, ints)
-total_below g xs (t ∷ ts) h k = n1 t.0 (weight ts) (g t.1) (total g ts) (every_at (λ a. g a <ℤ pos 0) xs t.1 h k.0) (total_below g xs ts h k.1)
+total_below g xs (t ∷ ts) h k = below_step t.0 (weight ts) (g t.1) (total g ts) (every_at (λ a. g a <ℤ pos 0) xs t.1 h k.0) (total_below g xs ts h k.1)
 
-b1 : (N M : ℕ) (x : ℤ) → neg_ℤ x <ℤ pos N → neg_ℤ x <ℤ pos (M + N)
-b1 N M x h = omega (arith, ints)
+-- a bound stays one
+bound_more : (N M : ℕ) (x : ℤ) → neg_ℤ x <ℤ pos N → neg_ℤ x <ℤ pos (M + N)
+bound_more N M x h = omega (arith, ints)
 
-b2 : (N : ℕ) (x : ℤ) → neg_ℤ x <ℤ pos (suc (nat_abs x) + N)
-b2 N x = omega (arith, ints)
+-- a bound of one number
+bound_here : (N : ℕ) (x : ℤ) → neg_ℤ x <ℤ pos (suc (nat_abs x) + N)
+bound_here N x = omega (arith, ints)
 
 -- a number beyond -g at every member
 pub bound : {A : Type 0} (g : A → ℤ) (xs : List A) → (N : ℕ) × Every (λ a. neg_ℤ (g a) <ℤ pos N) xs
@@ -77,7 +92,7 @@ bound g [] = (1, tt)
 bound g (a ∷ xs) = grown (bound g xs)
   where
     grown : (N : ℕ) × Every (λ a. neg_ℤ (g a) <ℤ pos N) xs → (N : ℕ) × Every (λ a. neg_ℤ (g a) <ℤ pos N) (a ∷ xs)
-    grown b = (suc (nat_abs (g a)) + b.0, (b2 b.0 (g a), every_map _ _ xs (λ c h. b1 b.0 (suc (nat_abs (g a))) (g c) h) b.1))
+    grown b = (suc (nat_abs (g a)) + b.0, (bound_here b.0 (g a), every_map _ _ xs (λ c h. bound_more b.0 (suc (nat_abs (g a))) (g c) h) b.1))
 
 -- ---- the theorem in dimension n: of the vectors f a, some n + 1 with weights add to zero, or some w is strictly below zero on each
 pub record Balanced (A : Type 0) (n : ℕ) (f : A → V n) (xs : List A) : Type 0 where
@@ -87,22 +102,28 @@ pub record Balanced (A : Type 0) (n : ℕ) (f : A → V n) (xs : List A) : Type 
   pub heavy : 0 < weight terms
   pub sums : (u : V n) → total (λ a. dot n u (f a)) terms ≡ pos 0
 
+-- along w all are strictly below 0
 pub record Separated (A : Type 0) (n : ℕ) (f : A → V n) (xs : List A) : Type 0 where
   pub w : V n
   pub below : Every (λ a. dot n w (f a) <ℤ pos 0) xs
 
-m1 : (D : ℤ) → D ≡ pos 0 → pos 1 *ℤ D +ℤ pos 0 ≡ pos 0
-m1 D e = rw e refl
+-- the total of one that is 0
+alone_total : (D : ℤ) → D ≡ pos 0 → pos 1 *ℤ D +ℤ pos 0 ≡ pos 0
+alone_total D e = rw e refl
 
+-- a vector that is 0 balances alone
 pub alone : {A : Type 0} (n : ℕ) (f : A → V n) (a : A) (xs : List A) → Flat n (f a) → Balanced A n f (a ∷ xs)
-alone n f a xs z = record { terms = (1, a) ∷ []; among = (inl refl, tt); few = omega arith; heavy = omega arith; sums = λ u. m1 _ (z u) }
+alone n f a xs z = record { terms = (1, a) ∷ []; among = (inl refl, tt); few = omega arith; heavy = omega arith; sums = λ u. alone_total _ (z u) }
 
-d1 : (N : ℕ) (W g : ℤ) → W <ℤ pos 0 → neg_ℤ g <ℤ pos N → (pos N *ℤ W +ℤ negsuc 0 *ℤ g) <ℤ pos 0
-d1 N W g h k = omega (arith, ints, mul-le-mul_left N (lt_out W (pos 0) h))
+-- a scaled separator outweighs g
+lifted_below : (N : ℕ) (W g : ℤ) → W <ℤ pos 0 → neg_ℤ g <ℤ pos N → (pos N *ℤ W +ℤ negsuc 0 *ℤ g) <ℤ pos 0
+lifted_below N W g h k = omega (arith, ints, mul-le-mul_left N (lt_out W (pos 0) h))
 
-d2 : (N : ℕ) (W g : ℤ) → W ≡ pos 0 → pos 0 <ℤ g → (pos N *ℤ W +ℤ negsuc 0 *ℤ g) <ℤ pos 0
-d2 N W g e h = rw (e, *ℤ-zero (pos N)) (omega (arith, ints))
+-- and takes the vector of the cut below 0
+lifted_itself : (N : ℕ) (W g : ℤ) → W ≡ pos 0 → pos 0 <ℤ g → (pos N *ℤ W +ℤ negsuc 0 *ℤ g) <ℤ pos 0
+lifted_itself N W g e h = rw (e, *ℤ-zero (pos N)) (omega (arith, ints))
 
+-- below 0, told otherwise
 below_eq : (x y : ℤ) → y ≡ x → x <ℤ pos 0 → y <ℤ pos 0
 below_eq x y e h = omega (arith, ints)
 
@@ -111,9 +132,9 @@ parted : {A : Type 0} (n : ℕ) (f : A → V (suc n)) (a : A) (xs : List A) (c :
 parted {A} n f a xs c s = record {
   w = lin (suc n) (pos N) W (negsuc 0) (f a);
   below = (
-    below_eq _ _ (dot_lin (suc n) (pos N) (negsuc 0) W (f a) (f a)) (d2 N _ _ (c.kills s.w) c.grows),
+    below_eq _ _ (dot_lin (suc n) (pos N) (negsuc 0) W (f a) (f a)) (lifted_itself N _ _ (c.kills s.w) c.grows),
     every_zip (λ b. dot n s.w (c.project (f b)) <ℤ pos 0) (λ b. neg_ℤ (dot (suc n) (f a) (f b)) <ℤ pos N) (λ b. dot (suc n) (lin (suc n) (pos N) W (negsuc 0) (f a)) (f b) <ℤ pos 0) xs
-        (λ b h k. below_eq _ _ (dot_lin (suc n) (pos N) (negsuc 0) W (f a) (f b)) (d1 N _ _ (below_eq _ _ (c.lifts s.w (f b)) h) k))
+        (λ b h k. below_eq _ _ (dot_lin (suc n) (pos N) (negsuc 0) W (f a) (f b)) (lifted_below N _ _ (below_eq _ _ (c.lifts s.w (f b)) h) k))
         s.below (bound (λ b. dot (suc n) (f a) (f b)) xs).1,
   );
 }
@@ -131,11 +152,13 @@ sign k (negsuc t) (pos d) (pos m) e h l = absurd (omega (arith, ints))
 sign k (pos t) D (pos m) e h l = absurd (omega (arith, ints))
 sign k (negsuc t) (negsuc d) (pos m) e h l = absurd (omega (arith, ints))
 
-c1 : (m : ℕ) (D : ℤ) → pos (suc m) *ℤ D +ℤ D *ℤ negsuc m ≡ pos 0
-c1 m D = omega (arith, ints)
+-- the two parts cancel
+two_cancel : (m : ℕ) (D : ℤ) → pos (suc m) *ℤ D +ℤ D *ℤ negsuc m ≡ pos 0
+two_cancel m D = omega (arith, ints)
 
-c2 : (W : ℕ) (T : ℤ) → 0 < W → (T +ℤ pos W) ≤ℤ pos 0 → T <ℤ pos 0
-c2 W T h k = omega (arith, ints)
+-- a positive weight brings the total below 0
+weight_below : (W : ℕ) (T : ℤ) → 0 < W → (T +ℤ pos W) ≤ℤ pos 0 → T <ℤ pos 0
+weight_below W T h k = omega (arith, ints)
 
 -- a mix of the projected vectors, with the vector of the cut
 mixed : {A : Type 0} (n : ℕ) (f : A → V (suc n)) (a : A) (xs : List A) (s : Separated A (suc n) f xs) → pos 0 ≤ℤ dot (suc n) s.w (f a)
@@ -145,7 +168,7 @@ mixed {A} n f a xs s l c m = record {
   among = (inl refl, among_more a xs _ (among_scaled (suc c.scale) xs m.terms m.among));
   few = omega (arith, count_scaled (suc c.scale) m.terms, m.few);
   heavy = omega arith;
-  sums = λ u. ap (λ t. pos (suc κ.0) *ℤ dot (suc n) u (f a) +ℤ t) (total_scaled (suc c.scale) (λ b. dot (suc n) u (f b)) m.terms ∙ law u ∙ ap (λ t. dot (suc n) u (f a) *ℤ t) κ.1) ∙ c1 κ.0 _;
+  sums = λ u. ap (λ t. pos (suc κ.0) *ℤ dot (suc n) u (f a) +ℤ t) (total_scaled (suc c.scale) (λ b. dot (suc n) u (f b)) m.terms ∙ law u ∙ ap (λ t. dot (suc n) u (f a) *ℤ t) κ.1) ∙ two_cancel κ.0 _;
 }
   where
     K : ℤ
@@ -156,36 +179,44 @@ mixed {A} n f a xs s l c m = record {
         ∙ ap (λ t. dot (suc n) u (f a) *ℤ K +ℤ t) (m.sums (c.rest u)) ∙ +ℤ_idr _
 
     κ : (k : ℕ) × (K ≡ negsuc k)
-    κ = sign c.scale (total (λ b. dot (suc n) s.w (f b)) m.terms) (dot (suc n) s.w (f a)) K (law s.w) (c2 (weight m.terms) _ m.heavy (total_below (λ b. dot (suc n) s.w (f b)) xs m.terms s.below m.among)) l
+    κ = sign c.scale (total (λ b. dot (suc n) s.w (f b)) m.terms) (dot (suc n) s.w (f a)) K (law s.w) (weight_below (weight m.terms) _ m.heavy (total_below (λ b. dot (suc n) s.w (f b)) xs m.terms s.below m.among)) l
 
+-- a balanced list, with one more
 with_more : {A : Type 0} (n : ℕ) (f : A → V n) (a : A) (xs : List A) → Balanced A n f xs → Balanced A n f (a ∷ xs)
 with_more n f a xs m = record { terms = m.terms; among = among_more a xs m.terms m.among; few = m.few; heavy = m.heavy; sums = m.sums }
 
+-- one or the other
 abbrev Claim : (A : Type 0) → ℕ → Type 0
 Claim A n = (f : A → V n) (xs : List A) → Balanced A n f xs ⊎ Separated A n f xs
 
+-- one more vector, by the answer one dimension lower
 projected : {A : Type 0} (n : ℕ) (f : A → V (suc n)) (a : A) (xs : List A) (s : Separated A (suc n) f xs) → pos 0 ≤ℤ dot (suc n) s.w (f a)
     → (c : Cut n (f a)) → Balanced A n (λ b. c.project (f b)) xs ⊎ Separated A n (λ b. c.project (f b)) xs → Balanced A (suc n) f (a ∷ xs) ⊎ Separated A (suc n) f (a ∷ xs)
 projected n f a xs s l c (inl m) = inl (mixed n f a xs s l c m)
 projected n f a xs s l c (inr p) = inr (parted n f a xs c p)
 
+-- it is 0, or the space is cut along it
 flat_or_cut : {A : Type 0} (n : ℕ) → Claim A n → (f : A → V (suc n)) (a : A) (xs : List A) (s : Separated A (suc n) f xs) → pos 0 ≤ℤ dot (suc n) s.w (f a)
     → Flat (suc n) (f a) ⊎ Cut n (f a) → Balanced A (suc n) f (a ∷ xs) ⊎ Separated A (suc n) f (a ∷ xs)
 flat_or_cut n low f a xs s l (inl z) = inl (alone (suc n) f a xs z)
 flat_or_cut n low f a xs s l (inr c) = projected n f a xs s l c (low (λ b. c.project (f b)) xs)
 
+-- it is below 0 as well, or not
 one_more : {A : Type 0} (n : ℕ) → Claim A n → (f : A → V (suc n)) (a : A) (xs : List A) → Balanced A (suc n) f xs ⊎ Separated A (suc n) f xs → Balanced A (suc n) f (a ∷ xs) ⊎ Separated A (suc n) f (a ∷ xs)
 one_more n low f a xs (inl m) = inl (with_more (suc n) f a xs m)
 one_more n low f a xs (inr s) = by_lt_z (dot (suc n) s.w (f a)) (pos 0) (λ h. inr (record { w = s.w; below = (h, s.below) })) (λ l. flat_or_cut n low f a xs s l (cut n (f a)))
 
+-- the answer in dimension n + 1 from that in n
 step : {A : Type 0} (n : ℕ) → Claim A n → Claim A (suc n)
 step n low f [] = inr (record { w = nil (suc n); below = tt })
 step n low f (a ∷ xs) = one_more n low f a xs (step n low f xs)
 
+-- dimension 0
 base : {A : Type 0} → Claim A 0
 base f [] = inr (record { w = tt; below = tt })
 base f (a ∷ xs) = inl (alone 0 f a xs (λ u. refl))
 
+-- the theorem of alternatives
 pub alternative : {A : Type 0} (n : ℕ) → Claim A n
 alternative zero = base
 alternative (suc n) = step n (alternative n)

@@ -32,6 +32,7 @@ lower_than_positive g h d e c p q z l = omega (arith, ints)
 lower_than_negative : (g h d e c d' e' : ℤ) → g ≡ d +ℤ c → h ≡ e +ℤ c → h ≡ pos 0 → g <ℤ pos 0 → d' ≡ neg_ℤ d → e' ≡ neg_ℤ e → e' <ℤ d'
 lower_than_negative g h d e c d' e' p q z l r s = omega (arith, ints)
 
+-- a form that is not zero at a convex combination is not zero at a member of it
 pub non_zero_member : (at : ℕ → Vector) (E : ℕ → Type 0) (p : Vector) → Combination at E p → (g : Vector → ℤ) → Form g → g p ≢ pos 0 → NonZero at E g
 non_zero_member at E p m g f n = first (zero_or_not (g (at m.a)))
   where

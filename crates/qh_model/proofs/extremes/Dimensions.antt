@@ -20,9 +20,11 @@ abbrev pub AreCombinations : (ℕ → Vector) → (ℕ → Type 0) → (ℕ → 
 AreCombinations at A E = (i : ℕ) → A i → Combination at E (at i)
 
 -- ---- four points
+-- a volume is an affine form
 vol_form : (a b c : Vector) → Form (vol a b c)
 vol_form a b c = record { u = cross a b c; c = neg_ℤ (dot (cross a b c) a); is = λ q. vol-linear a b c q }
 
+-- a set with a tetrahedron has one of what combines to it
 pub tetrahedron_of : (at : ℕ → Vector) (A E : ℕ → Type 0) → AreCombinations at A E → HasTetrahedron at A → HasTetrahedron at E
 tetrahedron_of at A E m h = fourth (non_zero_member at E (at h.l) (m h.l h.has_l) (vol (at h.i) (at h.j) (at h.k)) (vol_form (at h.i) (at h.j) (at h.k)) h.volume)
   where
@@ -39,23 +41,29 @@ tetrahedron_of at A E m h = fourth (non_zero_member at E (at h.l) (m h.l h.has_l
     fourth r = third r.e r.has (non_zero_member at E (at h.k) (m h.k h.has_k) (λ q. vol (at h.i) (at h.j) q (at r.e)) (form_as _ _ (vol_form (at h.j) (at h.i) (at r.e)) (λ q. vol-third_last (at h.i) (at h.j) q (at r.e))) r.differs)
 
 -- ---- the three axes
+-- the first axis
 axis_x : Vector
 axis_x = record { x = pos 1; y = pos 0; z = pos 0 }
 
+-- the second
 axis_y : Vector
 axis_y = record { x = pos 0; y = pos 1; z = pos 0 }
 
+-- the third
 axis_z : Vector
 axis_z = record { x = pos 0; y = pos 0; z = pos 1 }
 
+-- along it lies the first coordinate
 dot-axis_x : (q : Vector) → dot axis_x q ≡ q.x
 unfolding axis_x
 dot-axis_x q = omega (arith, ints)
 
+-- the second
 dot-axis_y : (q : Vector) → dot axis_y q ≡ q.y
 unfolding axis_y
 dot-axis_y q = omega (arith, ints)
 
+-- the third
 dot-axis_z : (q : Vector) → dot axis_z q ≡ q.z
 unfolding axis_z
 dot-axis_z q = omega (arith, ints)
@@ -65,6 +73,7 @@ record Differ (p q : Vector) : Type 0 where
   axis : Vector
   differs : dot axis p ≢ dot axis q
 
+-- the axis
 differ : (p q : Vector) → p ≢ q → Differ p q
 differ p q n = on_x (zero_or_not (p.x -ℤ q.x))
   where
@@ -87,6 +96,7 @@ differ p q n = on_x (zero_or_not (p.x -ℤ q.x))
     on_x (inr k) = record { axis = axis_x; differs = λ e. k (apart p.x q.x _ _ (dot-axis_x p) (dot-axis_x q) e) }
 
 -- ---- three points
+-- a turn is an affine form
 left_form : (n a b : Vector) → Form (left n a b)
 left_form n a b = record { u = cross_product n (minus b a); c = neg_ℤ (dot (cross_product n (minus b a)) a); is = λ q. left-linear n a b q }
 
@@ -103,6 +113,7 @@ triangle_about at A E m h n d = third (non_zero_member at E (at h.k) (m h.k h.ha
     third : NonZero at E (left n (at h.i) (at h.j)) → HasTriangle at E
     third r = second r.e r.has (non_zero_member at E (at h.j) (m h.j h.has_j) (λ q. left n (at h.i) q (at r.e)) (form_as _ _ (left_form n (at r.e) (at h.i)) (λ q. left-turn n (at h.i) q (at r.e) ∙ left-turn n q (at r.e) (at h.i))) r.differs)
 
+-- a set with a triangle has one of what combines to it
 pub triangle_of : (at : ℕ → Vector) (A E : ℕ → Type 0) → AreCombinations at A E → HasTriangle at A → HasTriangle at E
 triangle_of at A E m h = along (differ (cross (at h.i) (at h.j) (at h.k)) origin h.area)
   where
@@ -116,6 +127,7 @@ triangle_of at A E m h = along (differ (cross (at h.i) (at h.j) (at h.k)) origin
     along d = triangle_about at A E m h d.axis (λ e. d.differs (commuted d.axis (cross (at h.i) (at h.j) (at h.k)) origin ∙ sym (left-dot d.axis (at h.i) (at h.j) (at h.k)) ∙ e ∙ sym (nothing d.axis)))
 
 -- ---- two points
+-- a set of two has two of what combines to it
 pub segment_of : (at : ℕ → Vector) (A E : ℕ → Type 0) → HasDistinctPoints at A → AreCombinations at A E → HasSegment A → HasSegment E
 segment_of at A E d m h = along (differ (at h.i) (at h.j) (λ e. h.differ (d h.i h.j h.has_i h.has_j e)))
   where
@@ -145,9 +157,11 @@ segment_of at A E d m h = along (differ (at h.i) (at h.j) (λ e. h.differ (d h.i
 pub triangle_of_tetrahedron : (at : ℕ → Vector) (A : ℕ → Type 0) → HasTetrahedron at A → HasTriangle at A
 triangle_of_tetrahedron at A h = record { i = h.i; j = h.j; k = h.k; has_i = h.has_i; has_j = h.has_j; has_k = h.has_k; area = λ e. h.volume (in_line-vol (at h.i) (at h.j) (at h.k) (at h.l) e) }
 
+-- two corners of a triangle
 pub segment_of_triangle : (at : ℕ → Vector) (A : ℕ → Type 0) → HasTriangle at A → HasSegment A
 segment_of_triangle at A h = record { i = h.i; j = h.j; has_i = h.has_i; has_j = h.has_j; differ = λ e. h.area (subst (λ t. AreInLine (at h.i) (at t) (at h.k)) e (in_line-twice (at h.i) (at h.k))) }
 
+-- the dimension is one
 pub one_dimension : (at : ℕ → Vector) (A : ℕ → Type 0) (k l : ℕ) → IsDimension at A k → IsDimension at A l → k ≡ l
 one_dimension at A k l (inl (e, t)) (inl (f, u)) = e ∙ sym f
 one_dimension at A k l (inl (e, t)) (inr (inl (f, u, n))) = absurd (n t)
@@ -166,13 +180,16 @@ one_dimension at A k l (inr (inr (inr (e, o)))) (inr (inl (f, u, n))) = absurd (
 one_dimension at A k l (inr (inr (inr (e, o)))) (inr (inr (inl (f, u, n)))) = absurd (o u)
 one_dimension at A k l (inr (inr (inr (e, o)))) (inr (inr (inr (f, n)))) = e ∙ sym f
 
+-- the law
 pub dimension_is_unique : DimensionIsUnique
 dimension_is_unique at ids k l d e = one_dimension at (Members ids) k l d e
 
 -- ---- the same dimension
+-- each follows of the other
 abbrev Both : Type 0 → Type 0 → Type 0
 Both P Q = (P → Q) × (Q → P)
 
+-- the dimension of another set with the same
 dimension_as : (at : ℕ → Vector) (A B : ℕ → Type 0) → Both (HasTetrahedron at A) (HasTetrahedron at B) → Both (HasTriangle at A) (HasTriangle at B) → Both (HasSegment A) (HasSegment B)
     → (k : ℕ) → IsDimension at A k → IsDimension at B k
 dimension_as at A B f g h k (inl (e, t)) = inl (e, f.0 t)
@@ -184,12 +201,15 @@ dimension_as at A B f g h k (inr (inr (inr (e, n)))) = inr (inr (inr (e, λ u. n
 tetrahedron_in : (at : ℕ → Vector) (A B : ℕ → Type 0) → ((i : ℕ) → A i → B i) → HasTetrahedron at A → HasTetrahedron at B
 tetrahedron_in at A B f h = record { i = h.i; j = h.j; k = h.k; l = h.l; has_i = f h.i h.has_i; has_j = f h.j h.has_j; has_k = f h.k h.has_k; has_l = f h.l h.has_l; volume = h.volume }
 
+-- a triangle of a part
 triangle_in : (at : ℕ → Vector) (A B : ℕ → Type 0) → ((i : ℕ) → A i → B i) → HasTriangle at A → HasTriangle at B
 triangle_in at A B f h = record { i = h.i; j = h.j; k = h.k; has_i = f h.i h.has_i; has_j = f h.j h.has_j; has_k = f h.k h.has_k; area = h.area }
 
+-- a segment of a part
 segment_in : (A B : ℕ → Type 0) → ((i : ℕ) → A i → B i) → HasSegment A → HasSegment B
 segment_in A B f h = record { i = h.i; j = h.j; has_i = f h.i h.has_i; has_j = f h.j h.has_j; differ = h.differ }
 
+-- the law
 pub dimension_of_extremes : DimensionOfExtremes
 dimension_of_extremes at ids k d = (dimension_as at E A (four.1, four.0) (three.1, three.0) (two.1, two.0) k, dimension_as at A E four three two k)
   where

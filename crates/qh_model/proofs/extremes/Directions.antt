@@ -5,18 +5,21 @@ use Rattle.std.specs.Prelude.{ℤ, pos, negsuc, ◌+ℤ◌, ◌*ℤ◌, neg_ℤ,
 use Rattle.qh_model.specs.Vector.{Vector, origin, minus, cross_product, dot}
 use Rattle.qh_model.specs.Predicates.{cross, vol, left, AreInLine}
 use Rattle.qh_model.specs.FaceLaws.{IsAlong}
-use Rattle.qh_model.proofs.algebra.Order.{mul-pos, cancel-nonpos, cancel-pos, cancel-zero, le_antisym}
+use Rattle.qh_model.proofs.algebra.Order.{mul-nonneg, mul-pos, cancel-nonneg, cancel-nonpos, cancel-pos, cancel-zero, le_antisym, square-nonneg}
 use Rattle.qh_model.proofs.algebra.Ring.{ring}
 use Rattle.qh_model.proofs.algebra.Ring.Expr.{var, con, add, sub as less, mul, neg}
 use Rattle.qh_model.proofs.algebra.VectorIdentities.{vec, put, dotE, crossE, subE, combine3, opposite, vector_path, dot-minus, vol-dot, vol-linear, left-dot}
 
 -- ---- signs under a positive scale
+-- a scale above 0
 positive_factor : (s : ℕ) → 0 < s → pos 0 <ℤ pos s
 positive_factor s h = omega (arith, ints)
 
+-- a sign, told otherwise
 scaled_le : (x y : ℤ) → x ≡ y → x ≤ℤ pos 0 → y ≤ℤ pos 0
 scaled_le x y e h = omega (arith, ints)
 
+-- the same above 0
 scaled_lt : (x y : ℤ) → x ≡ y → pos 0 <ℤ x → pos 0 <ℤ y
 scaled_lt x y e h = omega (arith, ints)
 
@@ -27,9 +30,18 @@ at_most_along s t v w h k e l = cancel-nonpos (pos t) w (positive_factor t k) (s
     times_le : (s : ℕ) (v : ℤ) → 0 < s → v ≤ℤ pos 0 → (pos s *ℤ v) ≤ℤ pos 0
     times_le s v h l = grind (arith, ints)
 
+-- not below 0
+pub at_least_along : (s t : ℕ) (v w : ℤ) → 0 < s → 0 < t → pos s *ℤ v ≡ pos t *ℤ w → pos 0 ≤ℤ v → pos 0 ≤ℤ w
+at_least_along s t v w h k e l = cancel-nonneg (pos t) w (positive_factor t k) (subst (λ x. pos 0 ≤ℤ x) e (mul-nonneg (pos s) v (above_zero s) l))
+  where
+    above_zero : (s : ℕ) → pos 0 ≤ℤ pos s
+    above_zero s = omega (arith, ints)
+
+-- above 0
 pub positive_along : (s t : ℕ) (v w : ℤ) → 0 < s → 0 < t → pos s *ℤ v ≡ pos t *ℤ w → pos 0 <ℤ v → pos 0 <ℤ w
 positive_along s t v w h k e l = cancel-pos (pos t) w (positive_factor t k) (scaled_lt (pos s *ℤ v) (pos t *ℤ w) e (mul-pos (pos s) v (positive_factor s h) l))
 
+-- 0
 pub zero_along : (s t : ℕ) (v w : ℤ) → 0 < t → pos s *ℤ v ≡ pos t *ℤ w → v ≡ pos 0 → w ≡ pos 0
 zero_along s t v w k e z = cancel-zero (pos t) w (positive_factor t k) (sym e ∙ ap (λ x. pos s *ℤ x) z ∙ times_zero (pos s))
   where
@@ -37,6 +49,7 @@ zero_along s t v w k e z = cancel-zero (pos t) w (positive_factor t k) (sym e �
     times_zero s = omega (arith, ints)
 
 -- ---- scalar products and turns along one direction
+-- scalar products
 pub dot_along : (n m : Vector) (h : IsAlong n m) (q : Vector) → pos h.s *ℤ dot n q ≡ pos h.t *ℤ dot m q
 dot_along n m h q =
     combine3 (pos h.s *ℤ dot n q) (pos h.t *ℤ dot m q)
@@ -48,9 +61,11 @@ dot_along n m h q =
     ring (put n (put m (put q (pos h.s ∷ pos h.t ∷ [])))) (less (mul S (dotE N Q)) (mul T (dotE M Q)))
     (add (add (mul Q.x (less (mul S N.x) (mul T M.x))) (mul Q.y (less (mul S N.y) (mul T M.y)))) (mul Q.z (less (mul S N.z) (mul T M.z)))) refl) h.x h.y h.z
 
+-- scalar products commute
 dot_comm : (n p : Vector) → dot n p ≡ dot p n
 dot_comm n p = omega (arith, ints)
 
+-- turns
 pub left_along : (n m : Vector) (h : IsAlong n m) (u v w : Vector) → pos h.s *ℤ left n u v w ≡ pos h.t *ℤ left m u v w
 left_along n m h u v w =
     ap (λ x. pos h.s *ℤ x) (left-dot n u v w ∙ dot_comm (cross u v w) n) ∙ dot_along n m h (cross u v w) ∙ ap (λ x. pos h.t *ℤ x) (dot_comm m (cross u v w) ∙ sym (left-dot m u v w))
@@ -80,16 +95,19 @@ parallel_product n p q h k =
           (ring env (less (mul (dotE N N) R.z) (mul (dotE N R) N.z)) (add (add (mul A.z (less (dotE N Q) O)) (mul (neg B.z) (less (dotE N P) O))) (mul O (less O O))) refl) k h refl;
     }
 
+-- the normal of a triangle at right angles to n
 pub parallel_normal : (n a b c : Vector) → dot n (minus b a) ≡ pos 0 → dot n (minus c a) ≡ pos 0 → Parallel n (cross a b c)
 unfolding cross
 parallel_normal n a b c h k = parallel_product n (minus b a) (minus c a) h k
 
 -- ---- one direction or the opposite one
+-- a positive number as a successor
 positive_number : (z : ℤ) → pos 0 <ℤ z → (m : ℕ) × (z ≡ pos (suc m))
 positive_number (pos zero) h = absurd (omega (arith, ints))
 positive_number (pos (suc m)) h = (m, refl)
 positive_number (negsuc m) h = absurd (omega (arith, ints))
 
+-- one direction by whole factors
 along_by : (n m : Vector) (s t : ℤ) → pos 0 <ℤ s → pos 0 <ℤ t → s *ℤ n.x ≡ t *ℤ m.x → s *ℤ n.y ≡ t *ℤ m.y → s *ℤ n.z ≡ t *ℤ m.z → IsAlong n m
 along_by n m s t h k x y z = let a = positive_number s h in let b = positive_number t k in record {
   s = suc a.0;
@@ -101,10 +119,7 @@ along_by n m s t h k x y z = let a = positive_number s h in let b = positive_num
   z = ap (λ v. v *ℤ n.z) (sym a.1) ∙ z ∙ ap (λ v. v *ℤ m.z) b.1;
 }
 
-square : (x : ℤ) → pos 0 ≤ℤ (x *ℤ x)
-square (pos n) = omega (arith, ints)
-square (negsuc n) = omega (arith, ints)
-
+-- a square that is not above 0
 square-zero : (x : ℤ) → (x *ℤ x) ≤ℤ pos 0 → x ≡ pos 0
 square-zero (pos zero) h = refl
 square-zero (pos (suc n)) h = absurd (omega (arith, ints))
@@ -118,9 +133,10 @@ square-positive n h = by_lt_z (pos 0) (dot n n) (λ q. q) (λ q. absurd (h (flat
     first x y z a b c d = (omega (arith, ints), omega (arith, ints), omega (arith, ints))
 
     flat : dot n n ≤ℤ pos 0 → n ≡ origin
-    flat q = let f = first (n.x *ℤ n.x) (n.y *ℤ n.y) (n.z *ℤ n.z) (square n.x) (square n.y) (square n.z) q in
+    flat q = let f = first (n.x *ℤ n.x) (n.y *ℤ n.y) (n.z *ℤ n.z) (square-nonneg n.x) (square-nonneg n.y) (square-nonneg n.z) q in
         vector_path n origin (square-zero n.x f.0) (square-zero n.y f.1) (square-zero n.z f.2)
 
+-- a vector parallel to n has its direction or the opposite one
 pub along_or_opposite : (n r : Vector) → n ≢ origin → r ≢ origin → Parallel n r → IsAlong n r ⊎ IsAlong n (opposite r)
 along_or_opposite n r h k e = by_lt_z (pos 0) s (λ l. inl (along_by n r s t l p (sym e.x) (sym e.y) (sym e.z)))
     (λ l. by_lt_z s (pos 0) (λ q. inr (along_by n (opposite r) (neg_ℤ s) t (above q) p (turned n.x r.x e.x) (turned n.y r.y e.y) (turned n.z r.z e.z))) (λ q. absurd (k (flat (le_antisym s (pos 0) l q)))))
@@ -157,6 +173,7 @@ along_or_opposite n r h k e = by_lt_z (pos 0) s (λ l. inl (along_by n r s t l p
     flat z = vector_path r origin (none n.x r.x e.x z) (none n.y r.y e.y z) (none n.z r.z e.z z)
 
 -- ---- the normals of triangles in one plane
+-- the other way round a normal is opposite
 pub cross-flip : (a b c : Vector) → cross a c b ≡ opposite (cross a b c)
 unfolding cross
 cross-flip a b c =
@@ -166,6 +183,7 @@ cross-flip a b c =
     (ring env (crossE Q P).y (neg (crossE P Q).y) refl)
     (ring env (crossE Q P).z (neg (crossE P Q).z) refl)
 
+-- three points are in line either way
 pub in_line-flip : (a b c : Vector) → AreInLine a c b → AreInLine a b c
 in_line-flip a b c e = vector_path (cross a b c) origin (plain (cross a b c).x (ap (λ v. v.x) back)) (plain (cross a b c).y (ap (λ v. v.y) back)) (plain (cross a b c).z (ap (λ v. v.z) back))
   where

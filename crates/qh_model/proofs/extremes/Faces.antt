@@ -20,23 +20,29 @@ use Rattle.qh_model.proofs.algebra.Order.{le_antisym, zero_or_not}
 use Rattle.qh_model.proofs.algebra.VectorIdentities.{vol-linear}
 
 -- ---- two directions, one after the other
+-- scalar products with n, then with w
 abbrev pair : Vector → Vector → Vector → V 2
 pair n w p = (dot n p, (dot w p, tt))
 
+-- a direction from two
 abbrev blend : Vector → Vector → V 2 → Vector
 blend n w u = record { x = u.0 *ℤ n.x +ℤ u.1.0 *ℤ w.x; y = u.0 *ℤ n.y +ℤ u.1.0 *ℤ w.y; z = u.0 *ℤ n.z +ℤ u.1.0 *ℤ w.z }
 
-b1 : (a b nx ny nz wx wy wz x y z : ℤ) → (a *ℤ nx +ℤ b *ℤ wx) *ℤ x +ℤ (a *ℤ ny +ℤ b *ℤ wy) *ℤ y +ℤ (a *ℤ nz +ℤ b *ℤ wz) *ℤ z ≡ a *ℤ (nx *ℤ x +ℤ ny *ℤ y +ℤ nz *ℤ z) +ℤ (b *ℤ (wx *ℤ x +ℤ wy *ℤ y +ℤ wz *ℤ z) +ℤ pos 0)
-b1 a b nx ny nz wx wy wz x y z = simp ring_rules (omega (arith, ints))
+-- a step of the next
+blend_step : (a b nx ny nz wx wy wz x y z : ℤ) → (a *ℤ nx +ℤ b *ℤ wx) *ℤ x +ℤ (a *ℤ ny +ℤ b *ℤ wy) *ℤ y +ℤ (a *ℤ nz +ℤ b *ℤ wz) *ℤ z ≡ a *ℤ (nx *ℤ x +ℤ ny *ℤ y +ℤ nz *ℤ z) +ℤ (b *ℤ (wx *ℤ x +ℤ wy *ℤ y +ℤ wz *ℤ z) +ℤ pos 0)
+blend_step a b nx ny nz wx wy wz x y z = simp ring_rules (omega (arith, ints))
 
+-- its scalar product
 blend_is : (n w : Vector) (u : V 2) (p : Vector) → dot (blend n w u) p ≡ vdot 2 u (pair n w p)
-blend_is n w u p = b1 u.0 u.1.0 n.x n.y n.z w.x w.y w.z p.x p.y p.z
+blend_is n w u p = blend_step u.0 u.1.0 n.x n.y n.z w.x w.y w.z p.x p.y p.z
 
-v1 : (v d e c : ℤ) → v ≡ d +ℤ c → v <ℤ pos 0 → pos 0 ≡ e +ℤ c → d <ℤ e
-v1 v d e c h k l = omega (arith, ints)
+-- what is below a plane comes first along its normal
+below_plane : (v d e c : ℤ) → v ≡ d +ℤ c → v <ℤ pos 0 → pos 0 ≡ e +ℤ c → d <ℤ e
+below_plane v d e c h k l = omega (arith, ints)
 
-v2 : (d e c : ℤ) → pos 0 ≡ d +ℤ c → pos 0 ≡ e +ℤ c → d ≡ e
-v2 d e c h k = omega (arith, ints)
+-- points of one plane are level
+on_plane : (d e c : ℤ) → pos 0 ≡ d +ℤ c → pos 0 ≡ e +ℤ c → d ≡ e
+on_plane d e c h k = omega (arith, ints)
 
 -- an extreme of a face is extreme
 pub face_up : (at : ℕ → Vector) (A : ℕ → Type 0) (xs : List ℕ) → Listed A xs → (i j k : ℕ) → Supports at A i j k
@@ -56,8 +62,8 @@ face_up at A xs listed i j k s l h m = go (listed_part A (λ t. vol a b c (at t)
     n = cross a b c
 
     apart : (w : Separator at (Others (OnPlane at A i j k) l) (at l)) → (t : ℕ) → Others A l t → (vol a b c (at t) ≡ pos 0) ⊎ (¬ (vol a b c (at t) ≡ pos 0)) → Less 2 (pair n w.w (at t)) (pair n w.w (at l))
-    apart w t o (inl e) = inr (v2 _ _ _ (sym e ∙ vol-linear a b c (at t)) (sym h.0.1 ∙ vol-linear a b c (at l)), inl (w.past t ((o.0, e), o.1)))
-    apart w t o (inr z) = inl (v1 _ _ _ _ (vol-linear a b c (at t)) (by_lt_z (vol a b c (at t)) (pos 0) (λ q. q) (λ q. absurd (z (le_antisym _ _ (s t o.0) q)))) (sym h.0.1 ∙ vol-linear a b c (at l)))
+    apart w t o (inl e) = inr (on_plane _ _ _ (sym e ∙ vol-linear a b c (at t)) (sym h.0.1 ∙ vol-linear a b c (at l)), inl (w.past t ((o.0, e), o.1)))
+    apart w t o (inr z) = inl (below_plane _ _ _ _ (vol-linear a b c (at t)) (by_lt_z (vol a b c (at t)) (pos 0) (λ q. q) (λ q. absurd (z (le_antisym _ _ (s t o.0) q)))) (sym h.0.1 ∙ vol-linear a b c (at l)))
 
     sides : Combination at (Others (OnPlane at A i j k) l) (at l) ⊎ Separator at (Others (OnPlane at A i j k) l) (at l) → ⊥
     sides (inl q) = h.1 q
@@ -76,6 +82,7 @@ face_up at A xs listed i j k s l h m = go (listed_part A (λ t. vol a b c (at t)
         others : (zs : List ℕ) × Listed (Others (OnPlane at A i j k) l) zs → ⊥
         others (zs, r) = sides (alternative_in at (Others (OnPlane at A i j k) l) zs r (at l))
 
+-- the law
 pub extremes_of_face : ExtremesOfFace
 extremes_of_face at ids i j k s l = (
   λ h. ((h.0.0, face_up at (Members ids) ids (listed_itself ids) i j k s l h), h.0.1),
@@ -83,9 +90,11 @@ extremes_of_face at ids i j k s l = (
 )
 
 -- ---- what holds of the extremes holds of the members
-s1 : (v d e c f : ℤ) → v ≡ d +ℤ c → pos 0 <ℤ v → f ≡ e +ℤ c → f ≤ℤ pos 0 → e <ℤ d
-s1 v d e c f h k l q = omega (arith, ints)
+-- what is outside is past all that is not
+outside_is_past : (v d e c f : ℤ) → v ≡ d +ℤ c → pos 0 <ℤ v → f ≡ e +ℤ c → f ≤ℤ pos 0 → e <ℤ d
+outside_is_past v d e c f h k l q = omega (arith, ints)
 
+-- the law
 pub support_of_extremes : SupportOfExtremes
 support_of_extremes at ids d i j k s l h = by_lt_z (pos 0) v (λ q. absurd (clash (combination_of_extremes at (Members ids) ids (listed_itself ids) d l h) q)) (λ q. q)
   where
@@ -96,7 +105,7 @@ support_of_extremes at ids d i j k s l h = by_lt_z (pos 0) v (λ q. absurd (clas
     v = vol (at i) (at j) (at k) (at l)
 
     below : (e : ℕ) → Extreme at (Members ids) e → pos 0 <ℤ v → dot n (at e) <ℤ dot n (at l)
-    below e x q = s1 _ _ _ _ _ (vol-linear (at i) (at j) (at k) (at l)) q (vol-linear (at i) (at j) (at k) (at e)) (s e x)
+    below e x q = outside_is_past _ _ _ _ _ (vol-linear (at i) (at j) (at k) (at l)) q (vol-linear (at i) (at j) (at k) (at e)) (s e x)
 
     clash : Combination at (Extreme at (Members ids)) (at l) → pos 0 <ℤ v → ⊥
     clash m q = all_lower at (Extreme at (Members ids)) (at l) n m (below m.a m.has_a q) (below m.b m.has_b q) (below m.c m.has_c q) (below m.d m.has_d q)

@@ -7,32 +7,37 @@ use Rattle.std.specs.List.{AllByRecursion as Every}
 use borrow.Author.Differences.{lt_out, le_out}
 use Rattle.qh_model.proofs.combinations.Vectors.{V, dot}
 use Rattle.qh_model.proofs.combinations.WeightedTerms.{bound}
-use Rattle.qh_model.proofs.lists.Members.{every_map, every_zip}
+use Rattle.qh_model.proofs.Members.{every_map, every_zip}
 use Rattle.qh_model.specs.Sets.{In}
+use Rattle.qh_model.proofs.algebra.Order.{le_antisym}
 
+-- u comes before v
 abbrev pub Less : (n : ℕ) → V n → V n → Type 0
 Less zero u v = ⊥
 Less (suc n) u v = (u.0 <ℤ v.0) ⊎ ((u.0 ≡ v.0) × Less n u.1 v.1)
 
+-- they are equal
 abbrev pub Same : (n : ℕ) → V n → V n → Type 0
 Same zero u v = Unit {0}
 Same (suc n) u v = (u.0 ≡ v.0) × Same n u.1 v.1
 
+-- one of both
 abbrev pub AtMost : (n : ℕ) → V n → V n → Type 0
 AtMost n u v = Same n u v ⊎ Less n u v
 
+-- orders of numbers in a row
 lt_trans : (a b c : ℤ) → a <ℤ b → b <ℤ c → a <ℤ c
 lt_trans a b c h k = omega (arith, ints)
 
+-- an equal one before a greater
 eq_lt : (a b c : ℤ) → a ≡ b → b <ℤ c → a <ℤ c
 eq_lt a b c h k = omega (arith, ints)
 
+-- a lower one before an equal
 lt_eq : (a b c : ℤ) → a <ℤ b → b ≡ c → a <ℤ c
 lt_eq a b c h k = omega (arith, ints)
 
-le_both : (a b : ℤ) → a ≤ℤ b → b ≤ℤ a → a ≡ b
-le_both a b h k = omega (arith, ints)
-
+-- the order is transitive
 less_trans : (n : ℕ) (u v w : V n) → Less n u v → Less n v w → Less n u w
 less_trans zero u v w h k = h
 less_trans (suc n) u v w (inl h) (inl k) = inl (lt_trans u.0 v.0 w.0 h k)
@@ -40,33 +45,39 @@ less_trans (suc n) u v w (inl h) (inr k) = inl (lt_eq u.0 v.0 w.0 h k.0)
 less_trans (suc n) u v w (inr h) (inl k) = inl (eq_lt u.0 v.0 w.0 h.0 k)
 less_trans (suc n) u v w (inr h) (inr k) = inr (h.0 ∙ k.0, less_trans n u.1 v.1 w.1 h.1 k.1)
 
+-- equal to one that is less
 same_less : (n : ℕ) (u v w : V n) → Same n u v → Less n v w → Less n u w
 same_less zero u v w h k = k
 same_less (suc n) u v w h (inl k) = inl (eq_lt u.0 v.0 w.0 h.0 k)
 same_less (suc n) u v w h (inr k) = inr (h.0 ∙ k.0, same_less n u.1 v.1 w.1 h.1 k.1)
 
+-- at most one that is less
 at_most_less : (n : ℕ) (u v w : V n) → AtMost n u v → Less n v w → Less n u w
 at_most_less n u v w (inl h) k = same_less n u v w h k
 at_most_less n u v w (inr h) k = less_trans n u v w h k
 
+-- a vector is itself
 same : (n : ℕ) (u : V n) → Same n u u
 same zero u = tt
 same (suc n) u = (refl, same n u.1)
 
+-- two vectors compare
 compare : (n : ℕ) (u v : V n) → AtMost n u v ⊎ Less n v u
 compare zero u v = inl (inl tt)
-compare (suc n) u v = by_lt_z u.0 v.0 (λ h. inl (inr (inl h))) (λ h. by_lt_z v.0 u.0 (λ k. inr (inl k)) (λ k. tails (le_both u.0 v.0 k h) (compare n u.1 v.1)))
+compare (suc n) u v = by_lt_z u.0 v.0 (λ h. inl (inr (inl h))) (λ h. by_lt_z v.0 u.0 (λ k. inr (inl k)) (λ k. tails (le_antisym u.0 v.0 k h) (compare n u.1 v.1)))
   where
     tails : u.0 ≡ v.0 → AtMost n u.1 v.1 ⊎ Less n v.1 u.1 → AtMost (suc n) u v ⊎ Less (suc n) v u
     tails e (inl (inl s)) = inl (inl (e, s))
     tails e (inl (inr l)) = inl (inr (inr (e, l)))
     tails e (inr l) = inr (inr (sym e, l))
 
+-- a member that none is greater than
 pub record Greatest {A : Type 0} (n : ℕ) (key : A → V n) (xs : List A) : Type 0 where
   pub top : A
   pub member : In top xs
   pub above : Every (λ j. AtMost n (key j) (key top)) xs
 
+-- a list has one
 pub greatest : {A : Type 0} (n : ℕ) (key : A → V n) (i : A) (xs : List A) → Greatest n key (i ∷ xs)
 greatest n key i [] = record { top = i; member = inl refl; above = (inl (same n (key i)), tt) }
 greatest n key i (x ∷ xs) = pick n key i (x ∷ xs) (greatest n key x xs) (compare n _ _)
@@ -76,41 +87,50 @@ greatest n key i (x ∷ xs) = pick n key i (x ∷ xs) (greatest n key x xs) (com
     pick n key i xs g (inr h) = record { top = i; member = inl refl; above = (inl (same n (key i)), every_map _ _ xs (λ j l. inr (at_most_less n (key j) (key g.top) (key i) l h)) g.above) }
 
 -- ---- one functional for the order
+-- the case of dimension 0
 keep : (Q R : Type 0) → Q ⊎ ⊥ → Q ⊎ R
 keep Q R (inl q) = inl q
 keep Q R (inr b) = absurd b
 
+-- the case of the first coordinate, taken aside
 regroup : (Q F E T : Type 0) → Q ⊎ (F ⊎ (E × T)) → (Q ⊎ F) ⊎ T
 regroup Q F E T (inl q) = inl (inl q)
 regroup Q F E T (inr (inl f)) = inl (inr f)
 regroup Q F E T (inr (inr p)) = inr p.1
 
+-- less is at most
 lt_le : (a b : ℤ) → a <ℤ b → a ≤ℤ b
 lt_le a b h = omega (arith, ints)
 
+-- equal is at most
 eq_le : (a b : ℤ) → a ≡ b → a ≤ℤ b
 eq_le a b h = omega (arith, ints)
 
+-- the first coordinate is at most
 first : (Q T : Type 0) (a b : ℤ) → Q ⊎ ((a <ℤ b) ⊎ ((a ≡ b) × T)) → Q ⊎ (a ≤ℤ b)
 first Q T a b (inl q) = inl q
 first Q T a b (inr (inl h)) = inr (lt_le a b h)
 first Q T a b (inr (inr p)) = inr (eq_le a b p.0)
 
-k1 : (N : ℕ) (a b t s : ℤ) → a <ℤ b → neg_ℤ (s -ℤ t) <ℤ pos N → (pos N *ℤ a +ℤ t) <ℤ (pos N *ℤ b +ℤ s)
-k1 N a b t s h k = omega (arith, ints, mul-le-mul_left N (lt_out a b h))
+-- a large factor lets the first coordinate decide
+first_decides : (N : ℕ) (a b t s : ℤ) → a <ℤ b → neg_ℤ (s -ℤ t) <ℤ pos N → (pos N *ℤ a +ℤ t) <ℤ (pos N *ℤ b +ℤ s)
+first_decides N a b t s h k = omega (arith, ints, mul-le-mul_left N (lt_out a b h))
 
-k2 : (N : ℕ) (a b t s : ℤ) → a ≤ℤ b → t <ℤ s → (pos N *ℤ a +ℤ t) <ℤ (pos N *ℤ b +ℤ s)
-k2 N a b t s h k = omega (arith, ints, mul-le-mul_left N (le_out a b h))
+-- where it is level the rest does
+rest_decides : (N : ℕ) (a b t s : ℤ) → a ≤ℤ b → t <ℤ s → (pos N *ℤ a +ℤ t) <ℤ (pos N *ℤ b +ℤ s)
+rest_decides N a b t s h k = omega (arith, ints, mul-le-mul_left N (le_out a b h))
 
+-- both cases
 joined : (Q : Type 0) (N : ℕ) (a b t s : ℤ) → (Q ⊎ (a <ℤ b)) ⊎ (t <ℤ s) → (Q ⊎ (a ≤ℤ b)) × (neg_ℤ (s -ℤ t) <ℤ pos N) → Q ⊎ ((pos N *ℤ a +ℤ t) <ℤ (pos N *ℤ b +ℤ s))
 joined Q N a b t s (inl (inl q)) h = inl q
-joined Q N a b t s (inl (inr l)) h = inr (k1 N a b t s l h.1)
+joined Q N a b t s (inl (inr l)) h = inr (first_decides N a b t s l h.1)
 joined Q N a b t s (inr l) h = pick h.0
   where
     pick : Q ⊎ (a ≤ℤ b) → Q ⊎ ((pos N *ℤ a +ℤ t) <ℤ (pos N *ℤ b +ℤ s))
     pick (inl q) = inl q
-    pick (inr m) = inr (k2 N a b t s m l)
+    pick (inr m) = inr (rest_decides N a b t s m l)
 
+-- one more coordinate
 extend : {A : Type 0} (n : ℕ) (Q : A → Type 0) (key : A → V (suc n)) (K : V (suc n)) (xs : List A) → Every (λ j. Q j ⊎ Less (suc n) (key j) K) xs
     → (U : V n) × Every (λ j. (Q j ⊎ ((key j).0 <ℤ K.0)) ⊎ (dot n U (key j).1 <ℤ dot n U K.1)) xs
     → (U : V (suc n)) × Every (λ j. Q j ⊎ (dot (suc n) U (key j) <ℤ dot (suc n) U K)) xs
@@ -127,6 +147,7 @@ extend {A} n Q key K xs h low = (
     N : ℕ
     N = (bound (λ j. dot n U K.1 -ℤ dot n U (key j).1) xs).0
 
+-- one functional sees that all come before K
 pub collapse : {A : Type 0} (n : ℕ) (Q : A → Type 0) (key : A → V n) (K : V n) (xs : List A) → Every (λ j. Q j ⊎ Less n (key j) K) xs
     → (U : V n) × Every (λ j. Q j ⊎ (dot n U (key j) <ℤ dot n U K)) xs
 collapse zero Q key K xs h = (tt, every_map _ _ xs (λ j. keep (Q j) (pos 0 <ℤ pos 0)) h)

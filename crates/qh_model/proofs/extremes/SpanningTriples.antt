@@ -15,6 +15,7 @@ use Rattle.qh_model.proofs.extremes.Faces.{extremes_of_face}
 use Rattle.qh_model.proofs.extremes.Dimensions.{triangle_of}
 use Rattle.qh_model.proofs.extremes.Directions.{at_most_along, zero_along, normal_along, in_line-flip, from_plane, vol_along}
 
+-- a triangle of extremes in the plane, with its direction, spans it
 spanned : (at : ℕ → Vector) (A : ℕ → Type 0) (i j k : ℕ) → Supports at A i j k → (u v w : ℕ) → Extreme at A u → Extreme at A v → Extreme at A w
     → vol (at i) (at j) (at k) (at u) ≡ pos 0 → ¬ (AreInLine (at u) (at v) (at w)) → IsAlong (cross (at i) (at j) (at k)) (cross (at u) (at v) (at w))
     → SpannedByExtremes at A i j k
@@ -34,6 +35,7 @@ spanned at A i j k s u v w hu hv hw z n h = record {
     scale : (l : ℕ) → pos h.s *ℤ vol (at i) (at j) (at k) (at l) ≡ pos h.t *ℤ vol (at u) (at v) (at w) (at l)
     scale l = vol_along (at i) (at j) (at k) (at u) (at v) (at w) (at l) h z
 
+-- one way round or the other
 either_way : (at : ℕ → Vector) (A : ℕ → Type 0) (i j k : ℕ) → Supports at A i j k → (u v w : ℕ) → Extreme at A u → Extreme at A v → Extreme at A w
     → vol (at i) (at j) (at k) (at u) ≡ pos 0 → ¬ (AreInLine (at u) (at v) (at w))
     → IsAlong (cross (at i) (at j) (at k)) (cross (at u) (at v) (at w)) ⊎ IsAlong (cross (at i) (at j) (at k)) (cross (at u) (at w) (at v))
@@ -41,6 +43,7 @@ either_way : (at : ℕ → Vector) (A : ℕ → Type 0) (i j k : ℕ) → Suppor
 either_way at A i j k s u v w hu hv hw z n (inl h) = spanned at A i j k s u v w hu hv hw z n h
 either_way at A i j k s u v w hu hv hw z n (inr h) = spanned at A i j k s u w v hu hw hv z (λ q. n (in_line-flip (at u) (at v) (at w) q)) h
 
+-- the law
 pub planes_of_extremes : PlanesOfExtremes
 planes_of_extremes at ids d i j k t = go (listed_part (Members ids) (λ l. vol a b c (at l) ≡ pos 0) (λ l. zero_or_not (vol a b c (at l))) ids (listed_itself ids))
   where

@@ -44,12 +44,15 @@ forward_along n m h (inr (x, inr (y, z))) = inr (zero_along h.s h.t n.x m.x h.so
 not_both : (x : ℤ) → pos 0 <ℤ x → pos 0 <ℤ neg_ℤ x → ⊥
 not_both x h k = omega (arith, ints)
 
+-- 0 has no positive opposite
 zero_positive : (x : ℤ) → x ≡ pos 0 → pos 0 <ℤ neg_ℤ x → ⊥
 zero_positive x h k = omega (arith, ints)
 
+-- nor has a positive number the opposite 0
 positive_zero : (x : ℤ) → pos 0 <ℤ x → neg_ℤ x ≡ pos 0 → ⊥
 positive_zero x h k = omega (arith, ints)
 
+-- so at most one of two opposite directions points forward
 pub one_forward : (n : Vector) → PointsForward n → PointsForward (opposite n) → ⊥
 one_forward n (inl x) (inl x') = not_both n.x x x'
 one_forward n (inl x) (inr (x', k)) = positive_zero n.x x x'

@@ -10,11 +10,11 @@ use Rattle.qh_model.specs.Extreme.{Extreme}
 use Rattle.qh_model.specs.SupportingPlane.{IsSupportingTriple, OnPlane}
 use Rattle.qh_model.specs.FaceLaws.{IsAlong, SpannedByExtremes}
 use Rattle.qh_model.specs.Polygons.{AreFaces, IsFacePolygon, IsFlatFace, IsSegmentFace, IsPointFace, ArePolygons, PointsForward}
-use Rattle.qh_model.specs.HullLaws.{TriplesOfExtremes, PolygonsOfExtremes}
+use Rattle.qh_model.specs.HullLaws.{BodyOfExtremes, TriplesOfExtremes, PolygonsOfExtremes}
 use Rattle.qh_model.proofs.extremes.ExtremeIds.{listed_itself, extremes_between, combination_of_extremes}
 use Rattle.qh_model.proofs.extremes.Faces.{support_of_extremes}
 use Rattle.qh_model.proofs.extremes.SpanningTriples.{planes_of_extremes}
-use Rattle.qh_model.proofs.extremes.Dimensions.{triangle_of}
+use Rattle.qh_model.proofs.extremes.Dimensions.{dimension_of_extremes, triangle_of}
 use Rattle.qh_model.proofs.extremes.Directions.{along_itself, along_back}
 use Rattle.qh_model.proofs.polygons.Direction.{polygon_as}
 use Rattle.qh_model.proofs.hulls.FlatSets.{forward_not_zero, forward_along, flat_normals}
@@ -25,9 +25,11 @@ pub extremes_again : (at : ℕ → Vector) (ids : List ℕ) → HasDistinctPoint
 extremes_again at ids d = extremes_between at (Members ids) (Extreme at (Members ids)) ids (listed_itself ids) d (λ i h. h.0) (λ i h. h)
 
 -- ---- supporting triples
+-- a triple that supports the extremes supports the set
 triple_up : (at : ℕ → Vector) (ids : List ℕ) → HasDistinctPoints at (Members ids) → (i j k : ℕ) → IsSupportingTriple at (Extreme at (Members ids)) i j k → IsSupportingTriple at (Members ids) i j k
 triple_up at ids d i j k t = record { has_i = t.has_i.0; has_j = t.has_j.0; has_k = t.has_k.0; area = t.area; supports = support_of_extremes at ids d i j k t.supports }
 
+-- the law
 pub triples_of_extremes : TriplesOfExtremes
 triples_of_extremes at ids d i j k hi hj hk =
     (triple_up at ids d i j k, λ t. record { has_i = hi; has_j = hj; has_k = hk; area = t.area; supports = λ l h. t.supports l h.0 })
@@ -40,6 +42,7 @@ face_down at ids d i j k s q p =
     polygon_as at (OnPlane at (Extreme at (Members ids)) i j k) (OnPlane at (Extreme at (Extreme at (Members ids))) s.u s.v s.w) (cross (at i) (at j) (at k)) (cross (at s.u) (at s.v) (at s.w)) q
     (λ l. (λ h. ((extremes_again at ids d l).1 h.0, (s.same l).0 h.1), λ h. ((extremes_again at ids d l).0 h.0, (s.same l).1 h.1))) s.along p
 
+-- the other way round
 face_up : (at : ℕ → Vector) (ids : List ℕ) → HasDistinctPoints at (Members ids) → (i j k : ℕ) (s : SpannedByExtremes at (Members ids) i j k) (q : List ℕ)
     → IsFacePolygon at (Extreme at (Members ids)) s.u s.v s.w q → IsFacePolygon at (Members ids) i j k q
 face_up at ids d i j k s q p =
@@ -58,6 +61,7 @@ face_same at ids d i j k q = (
     n : Vector
     n = cross (at i) (at j) (at k)
 
+-- the polygons of the set are those of the extremes
 faces_down : (at : ℕ → Vector) (ids : List ℕ) → HasDistinctPoints at (Members ids) → (qs : List (List ℕ)) → AreFaces at (Members ids) qs → AreFaces at (Extreme at (Members ids)) qs
 faces_down at ids d qs f = record { rising = f.rising; each = each; only = λ q i. only q (f.only q i) }
   where
@@ -72,6 +76,7 @@ faces_down at ids d qs f = record { rising = f.rising; each = each; only = λ q 
     only q (i, j, k, t, p) = let s = planes_of_extremes at ids d i j k t in
         (s.u, s.v, s.w, record { has_i = s.has_u; has_j = s.has_v; has_k = s.has_w; area = s.area; supports = λ l h. s.supports l h.0 }, face_down at ids d i j k s q p)
 
+-- and the other way round
 faces_up : (at : ℕ → Vector) (ids : List ℕ) → HasDistinctPoints at (Members ids) → (qs : List (List ℕ)) → AreFaces at (Extreme at (Members ids)) qs → AreFaces at (Members ids) qs
 faces_up at ids d qs f = record { rising = f.rising; each = each; only = λ q i. only q (f.only q i) }
   where
@@ -88,6 +93,7 @@ faces_up at ids d qs f = record { rising = f.rising; each = each; only = λ q i.
     only q (i, j, k, t, p) = (i, j, k, triple_up at ids d i j k t, (face_same at ids d i j k q).0 p)
 
 -- ---- dimension 2
+-- the flat polygon of the extremes is that of the set
 flat_up : (at : ℕ → Vector) (ids : List ℕ) → HasDistinctPoints at (Members ids) → (q : List ℕ) → IsFlatFace at (Extreme at (Members ids)) q → IsFlatFace at (Members ids) q
 flat_up at ids d q f = record {
   i = f.i;
@@ -113,6 +119,7 @@ record SameDirection (at : ℕ → Vector) (E : ℕ → Type 0) (n : Vector) : T
   has_k : E k
   along : IsAlong n (cross (at i) (at j) (at k))
 
+-- there is one
 same_direction : (at : ℕ → Vector) (ids : List ℕ) → HasDistinctPoints at (Members ids) → ¬ (HasTetrahedron at (Members ids)) → (i j k : ℕ) → Members ids i → Members ids j → Members ids k
     → PointsForward (cross (at i) (at j) (at k)) → SameDirection at (Extreme at (Members ids)) (cross (at i) (at j) (at k))
 same_direction at ids d n i j k hi hj hk f =
@@ -132,6 +139,7 @@ same_direction at ids d n i j k hi hj hk f =
         pick (inl h) = record { i = t.i; j = t.j; k = t.k; has_i = t.has_i; has_j = t.has_j; has_k = t.has_k; along = h }
         pick (inr h) = record { i = t.i; j = t.k; k = t.j; has_i = t.has_i; has_j = t.has_k; has_k = t.has_j; along = h }
 
+-- the flat polygon of the set is that of the extremes
 flat_down : (at : ℕ → Vector) (ids : List ℕ) → HasDistinctPoints at (Members ids) → ¬ (HasTetrahedron at (Members ids)) → (q : List ℕ) → IsFlatFace at (Members ids) q → IsFlatFace at (Extreme at (Members ids)) q
 flat_down at ids d n q f = record {
   i = s.i;
@@ -148,9 +156,11 @@ flat_down at ids d n q f = record {
     s = same_direction at ids d n f.i f.j f.k f.has_i f.has_j f.has_k f.forward
 
 -- ---- dimensions 1 and 0
+-- the two ids
 segment_up : (at : ℕ → Vector) (ids : List ℕ) → HasDistinctPoints at (Members ids) → (q : List ℕ) → IsSegmentFace at (Extreme at (Members ids)) q → IsSegmentFace at (Members ids) q
 segment_up at ids d q f = record { i = f.i; j = f.j; members = λ l. (λ h. (extremes_again at ids d l).0 ((f.members l).0 h), λ h. (f.members l).1 ((extremes_again at ids d l).1 h)); lower = f.lower; is = f.is }
 
+-- and the other way round
 segment_down : (at : ℕ → Vector) (ids : List ℕ) → HasDistinctPoints at (Members ids) → (q : List ℕ) → IsSegmentFace at (Members ids) q → IsSegmentFace at (Extreme at (Members ids)) q
 segment_down at ids d q f = record { i = f.i; j = f.j; members = λ l. (λ h. (extremes_again at ids d l).1 ((f.members l).0 h), λ h. (f.members l).1 ((extremes_again at ids d l).0 h)); lower = f.lower; is = f.is }
 
@@ -158,13 +168,16 @@ segment_down at ids d q f = record { i = f.i; j = f.j; members = λ l. (λ h. (e
 pub alone_is_extreme : (at : ℕ → Vector) (A : ℕ → Type 0) → ¬ (HasSegment A) → (i : ℕ) → A i → Extreme at A i
 alone_is_extreme at A n i h = (h, λ m. n (record { i = m.a; j = i; has_i = m.has_a.0; has_j = h; differ = m.has_a.1 }))
 
+-- the one id
 point_up : (at : ℕ → Vector) (ids : List ℕ) (q : List ℕ) → IsPointFace (Extreme at (Members ids)) q → IsPointFace (Members ids) q
 point_up at ids q f = record { i = f.i; has_i = f.has_i.0; is = f.is }
 
+-- and the other way round
 point_down : (at : ℕ → Vector) (ids : List ℕ) → ¬ (HasSegment (Members ids)) → (q : List ℕ) → IsPointFace (Members ids) q → IsPointFace (Extreme at (Members ids)) q
 point_down at ids n q f = record { i = f.i; has_i = alone_is_extreme at (Members ids) n f.i f.has_i; is = f.is }
 
 -- ---- all dimensions
+-- the law
 pub polygons_of_extremes : PolygonsOfExtremes
 polygons_of_extremes at ids k qs d dim = (up, down)
   where
@@ -179,3 +192,21 @@ polygons_of_extremes at ids k qs d dim = (up, down)
     down (inr (inl (e, (q, f, g)))) = inr (inl (e, (q, flat_down at ids d (flat_of at (Members ids) k e dim) q f, g)))
     down (inr (inr (inl (e, (q, f, g))))) = inr (inr (inl (e, (q, segment_down at ids d q f, g))))
     down (inr (inr (inr (e, (q, f, g))))) = inr (inr (inr (e, (q, point_down at ids (alone_of at (Members ids) k e dim) q f, g))))
+
+-- the law
+pub body_of_extremes : BodyOfExtremes
+body_of_extremes at ids b d = (
+  λ f. let dim = (dimension_of_extremes at ids b.dim d).0 f.dim in
+      record {
+        dim = dim;
+        extremes = record { rising = f.extremes.rising; members = λ i. (λ h. (extremes_again at ids d i).0 ((f.extremes.members i).0 h), λ h. (f.extremes.members i).1 ((extremes_again at ids d i).1 h)) };
+        polygons = (polygons_of_extremes at ids b.dim b.polygons d dim).0 f.polygons;
+        edges = f.edges;
+      },
+  λ f. record {
+    dim = (dimension_of_extremes at ids b.dim d).1 f.dim;
+    extremes = record { rising = f.extremes.rising; members = λ i. (λ h. (extremes_again at ids d i).1 ((f.extremes.members i).0 h), λ h. (f.extremes.members i).1 ((extremes_again at ids d i).0 h)) };
+    polygons = (polygons_of_extremes at ids b.dim b.polygons d f.dim).1 f.polygons;
+    edges = f.edges;
+  },
+)

@@ -1,5 +1,5 @@
 -- Each part of a hull is one value: distinct ids, polygons, and the number of edges.
-use Rattle.std.proofs.Common.{◌≡◌, ℕ, ◌<◌, refl, List, [], ◌∷◌, arith, sym, ap, subst, ◌∙◌, ◌⊎◌, inl, inr}
+use Rattle.std.proofs.Common.{◌≡◌, ℕ, ◌<◌, refl, List, [], ◌∷◌, length, arith, sym, ap, subst, ◌∙◌, ◌⊎◌, inl, inr}
 use native.Mathlib.Decide.{ℕ_discrete}
 use Rattle.std.specs.Prelude.{◌↔◌}
 use Rattle.qh_model.specs.Vector.{Vector}
@@ -9,8 +9,12 @@ use Rattle.qh_model.specs.Dimension.{HasTetrahedron, HasSegment, IsDimension}
 use Rattle.qh_model.specs.Extreme.{Extreme}
 use Rattle.qh_model.specs.SupportingPlane.{IsSupportingTriple, OnPlane}
 use Rattle.qh_model.specs.FaceLaws.{IsAlong}
-use Rattle.qh_model.specs.Polygons.{AreFaces, IsFacePolygon, IsFlatFace, IsSegmentFace, IsPointFace, ArePolygons, PointsForward}
-use Rattle.qh_model.specs.HullLaws.{PolygonsAreUnique, EdgeCountIsUnique, RisingListIsUnique, DistinctIdsAreUnique}
+use Rattle.qh_model.specs.Polygons.{AreFaces, IsFacePolygon, IsFlatFace, IsSegmentFace, IsPointFace, ArePolygons, IsEdgeCount, PointsForward}
+use Rattle.qh_model.specs.Predicates.{place}
+use Rattle.qh_model.specs.Hull.{BodyValue, HullValue, IsBody}
+use Rattle.qh_model.specs.Text.{hull_text}
+use Rattle.qh_model.specs.HullLaws.{BodyIsUnique, HullIsUnique, TextIsUnique, PolygonsAreUnique, EdgeCountIsUnique, RisingListIsUnique, DistinctIdsAreUnique}
+use Rattle.qh_model.proofs.extremes.Dimensions.{one_dimension}
 use Rattle.qh_model.proofs.lists.Ordered.{ordered_rising, ordered_unique}
 use Rattle.qh_model.proofs.lists.OnceEach.{once_length}
 use Rattle.qh_model.proofs.lists.Lexicographic.{rising_unique}
@@ -19,12 +23,15 @@ use Rattle.qh_model.proofs.polygons.Direction.{polygon_as}
 use Rattle.qh_model.proofs.extremes.Directions.{cross-flip}
 use Rattle.qh_model.proofs.hulls.FlatSets.{forward_not_zero, forward_along, one_forward, flat_normals}
 
+-- the law
 pub rising_list_is_unique : RisingListIsUnique
 rising_list_is_unique xs ys f g h = ordered_unique (λ i j. i < j) (λ i j p q. omega arith) xs ys (ordered_rising xs f) (ordered_rising ys g) h
 
+-- the law
 pub distinct_ids_are_unique : DistinctIdsAreUnique
 distinct_ids_are_unique pts xs ys a b = rising_list_is_unique xs ys a.rising b.rising (λ i. (λ h. (b.members i).1 ((a.members i).0 h), λ h. (a.members i).1 ((b.members i).0 h)))
 
+-- the law
 pub edge_count_is_unique : EdgeCountIsUnique
 edge_count_is_unique qs m n a b = sym a.count ∙ once_length a.list b.list a.once b.once same ∙ b.count
   where
@@ -32,6 +39,7 @@ edge_count_is_unique qs m n a b = sym a.count ∙ once_length a.list b.list a.on
     same (u, v) = (λ i. (b.all u v).1 ((a.all u v).0 i), λ i. (a.all u v).1 ((b.all u v).0 i))
 
 -- ---- polygons, by dimension
+-- dimension 3: one list of polygons
 one_face_list : (at : ℕ → Vector) (A : ℕ → Type 0) (ps qs : List (List ℕ)) → AreFaces at A ps → AreFaces at A qs → ps ≡ qs
 one_face_list at A ps qs a b = rising_unique ps qs a.rising b.rising (λ q. (over ps qs a b q, over qs ps b a q))
   where
@@ -42,6 +50,7 @@ one_face_list at A ps qs a b = rising_unique ps qs a.rising b.rising (λ q. (ove
         go (u, v, w, t, p) = let r = b.each u v w t in
             subst (λ s. In s qs) (one_polygon at (OnPlane at (Extreme at A) u v w) (cross (at u) (at v) (at w)) r.0 q r.2 p) r.1
 
+-- dimension 2: one polygon
 one_flat_face : (at : ℕ → Vector) (A : ℕ → Type 0) → ¬ (HasTetrahedron at A) → (p q : List ℕ) → IsFlatFace at A p → IsFlatFace at A q → p ≡ q
 one_flat_face at A n p q a b = pick (flat_normals at A n a.i a.j a.k b.i b.j b.k a.has_i a.has_j a.has_k b.has_i b.has_j b.has_k (forward_not_zero _ a.forward) (forward_not_zero _ b.forward))
   where
@@ -49,6 +58,7 @@ one_flat_face at A n p q a b = pick (flat_normals at A n a.i a.j a.k b.i b.j b.k
     pick (inl h) = one_polygon at (Extreme at A) (cross (at b.i) (at b.j) (at b.k)) p q (polygon_as at (Extreme at A) (Extreme at A) (cross (at a.i) (at a.j) (at a.k)) (cross (at b.i) (at b.j) (at b.k)) p (λ i. (λ e. e, λ e. e)) h a.polygon) b.polygon
     pick (inr h) = absurd (one_forward (cross (at b.i) (at b.j) (at b.k)) b.forward (subst PointsForward (cross-flip (at b.i) (at b.j) (at b.k)) (forward_along _ _ h a.forward)))
 
+-- dimension 1: one pair
 one_segment_face : (at : ℕ → Vector) (A : ℕ → Type 0) (p q : List ℕ) → IsSegmentFace at A p → IsSegmentFace at A q → p ≡ q
 one_segment_face at A p q a b = a.is ∙ pair (ends.0) (ends.1) ∙ sym b.is
   where
@@ -67,6 +77,7 @@ one_segment_face at A p q a b = a.is ∙ pair (ends.0) (ends.1) ∙ sym b.is
     ends : (a.i ≡ b.i) × (a.j ≡ b.j)
     ends = ordered a.i a.j b.i b.j a.lower b.lower (in_b a.i (inl refl)) (in_b a.j (inr refl))
 
+-- dimension 0: one id
 one_point_face : (A : ℕ → Type 0) → ¬ (HasSegment A) → (p q : List ℕ) → IsPointFace A p → IsPointFace A q → p ≡ q
 one_point_face A n p q a b = a.is ∙ same (ℕ_discrete a.i b.i) ∙ sym b.is
   where
@@ -78,12 +89,14 @@ one_point_face A n p q a b = a.is ∙ same (ℕ_discrete a.i b.i) ∙ sym b.is
 one_of_one : (F : List ℕ → Type 0) → ((p q : List ℕ) → F p → F q → p ≡ q) → (ps qs : List (List ℕ)) → (p : List ℕ) × F p × (ps ≡ p ∷ []) → (q : List ℕ) × F q × (qs ≡ q ∷ []) → ps ≡ qs
 one_of_one F u ps qs (p, a, e) (q, b, f) = e ∙ ap (λ r. r ∷ []) (u p q a b) ∙ sym f
 
+-- a set of dimension 2 has no tetrahedron
 pub flat_of : (at : ℕ → Vector) (A : ℕ → Type 0) (k : ℕ) → k ≡ 2 → IsDimension at A k → ¬ (HasTetrahedron at A)
 flat_of at A k e (inl (f, t)) = absurd (omega arith)
 flat_of at A k e (inr (inl (f, t, n))) = n
 flat_of at A k e (inr (inr (inl (f, t, n)))) = absurd (omega arith)
 flat_of at A k e (inr (inr (inr (f, n)))) = absurd (omega arith)
 
+-- a set of dimension 0 has no two members
 pub alone_of : (at : ℕ → Vector) (A : ℕ → Type 0) (k : ℕ) → k ≡ 0 → IsDimension at A k → ¬ (HasSegment A)
 alone_of at A k e (inl (f, t)) = absurd (omega arith)
 alone_of at A k e (inr (inl (f, t, n))) = absurd (omega arith)
@@ -109,5 +122,42 @@ one_polygon_list at A k ps qs d (inr (inr (inr (e, a)))) (inl (f, b)) = absurd (
 one_polygon_list at A k ps qs d (inr (inr (inr (e, a)))) (inr (inl (f, b))) = absurd (omega arith)
 one_polygon_list at A k ps qs d (inr (inr (inr (e, a)))) (inr (inr (inl (f, b)))) = absurd (omega arith)
 
+-- the law
 pub polygons_are_unique : PolygonsAreUnique
 polygons_are_unique at ids k ps qs d a b = one_polygon_list at (Members ids) k ps qs d a b
+
+-- ---- whole bodies, hulls and texts
+-- a set has one body
+pub one_body : (at : ℕ → Vector) (A : ℕ → Type 0) (a b : BodyValue) → IsBody at A a → IsBody at A b → a ≡ b
+one_body at A a b f g = body_path a b dims extremes polygons (edge_count_is_unique a.polygons a.edges b.edges f.edges (subst (λ qs. IsEdgeCount qs b.edges) (sym polygons) g.edges))
+  where
+    body_path : (a b : BodyValue) → a.dim ≡ b.dim → a.extremes ≡ b.extremes → a.polygons ≡ b.polygons → a.edges ≡ b.edges → a ≡ b
+    body_path a b d e p n = λ i. record { dim = d i; extremes = e i; polygons = p i; edges = n i }
+
+    dims : a.dim ≡ b.dim
+    dims = one_dimension at A a.dim b.dim f.dim g.dim
+
+    extremes : a.extremes ≡ b.extremes
+    extremes = rising_list_is_unique a.extremes b.extremes f.extremes.rising g.extremes.rising
+        (λ i. (λ h. (g.extremes.members i).1 ((f.extremes.members i).0 h), λ h. (f.extremes.members i).1 ((g.extremes.members i).0 h)))
+
+    polygons : a.polygons ≡ b.polygons
+    polygons = one_polygon_list at A a.dim a.polygons b.polygons f.dim f.polygons (subst (λ k. ArePolygons at A k b.polygons) (sym dims) g.polygons)
+
+-- the law
+pub body_is_unique : BodyIsUnique
+body_is_unique at ids a b f g = one_body at (Members ids) a b f g
+
+-- the law
+pub hull_is_unique : HullIsUnique
+hull_is_unique pts a b f g = hull_path a b (f.given ∙ sym g.given) (f.distinct ∙ ap length ids ∙ sym g.distinct) (one_body (place pts) (Members f.ids) a.body b.body f.body (subst (λ l. IsBody (place pts) (Members l) b.body) (sym ids) g.body))
+  where
+    hull_path : (a b : HullValue) → a.given ≡ b.given → a.distinct ≡ b.distinct → a.body ≡ b.body → a ≡ b
+    hull_path a b e f g = λ i. record { given = e i; distinct = f i; body = g i }
+
+    ids : f.ids ≡ g.ids
+    ids = distinct_ids_are_unique pts f.ids g.ids f.distinct_ids g.distinct_ids
+
+-- the law
+pub text_is_unique : TextIsUnique
+text_is_unique pts outs s t f g = f.is ∙ ap (λ h. hull_text h pts outs) (hull_is_unique pts f.hull g.hull f.right g.right) ∙ sym g.is

@@ -5,6 +5,7 @@ use Rattle.qh_model.specs.Sets.{In}
 use Rattle.qh_model.specs.Polygons.{ComesBefore, RisesFrom, RiseStrictly}
 use Rattle.qh_model.proofs.lists.Ordered.{Ordered, IsAsymmetric, ordered_unique}
 
+-- no two lists come before each other
 before-asymmetric : IsAsymmetric ComesBefore
 before-asymmetric [] [] h k = h
 before-asymmetric [] (v ∷ q) h k = k
@@ -14,6 +15,7 @@ before-asymmetric (u ∷ p) (v ∷ q) (inl h) (inr k) = let e = k.0 in omega ari
 before-asymmetric (u ∷ p) (v ∷ q) (inr h) (inl k) = let e = h.0 in omega arith
 before-asymmetric (u ∷ p) (v ∷ q) (inr h) (inr k) = before-asymmetric p q h.1 k.1
 
+-- the order is transitive
 before-transitive : (p q r : List ℕ) → ComesBefore p q → ComesBefore q r → ComesBefore p r
 before-transitive p q [] h k = absurd (nothing q k)
   where
@@ -27,15 +29,18 @@ before-transitive (u ∷ p) (v ∷ q) (w ∷ r) (inl h) (inr k) = let e = k.0 in
 before-transitive (u ∷ p) (v ∷ q) (w ∷ r) (inr h) (inl k) = let e = h.0 in inl (omega arith)
 before-transitive (u ∷ p) (v ∷ q) (w ∷ r) (inr h) (inr k) = inr (h.0 ∙ k.0, before-transitive p q r h.1 k.1)
 
+-- the first comes before all later ones
 before-all : (q : List ℕ) (ps : List (List ℕ)) → RisesFrom q ps → (p : List ℕ) → In p ps → ComesBefore q p
 before-all q [] h p i = absurd i
 before-all q (r ∷ ps) h p (inl e) = subst (ComesBefore q) (sym e) h.0
 before-all q (r ∷ ps) h p (inr i) = before-transitive q r p h.0 (before-all r ps h.1 p i)
 
+-- a list that rises from q is ordered
 rises-ordered : (q : List ℕ) (ps : List (List ℕ)) → RisesFrom q ps → Ordered ComesBefore (q ∷ ps)
 rises-ordered q [] h = ((λ p i. absurd i), tt)
 rises-ordered q (r ∷ ps) h = (before-all q (r ∷ ps) h, rises-ordered r ps h.1)
 
+-- a rising list is ordered
 rising-ordered : (qs : List (List ℕ)) → RiseStrictly qs → Ordered ComesBefore qs
 rising-ordered [] h = tt
 rising-ordered (q ∷ qs) h = rises-ordered q qs h

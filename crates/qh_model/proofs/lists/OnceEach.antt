@@ -9,12 +9,14 @@ without x [] i = []
 without x (y ∷ ys) (inl e) = ys
 without x (y ∷ ys) (inr i) = y ∷ without x ys i
 
+-- it is one shorter
 without-length : {X : Type 0} (x : X) (xs : List X) (i : In x xs) → length xs ≡ length (without x xs i) + 1
 unfolding without
 without-length x [] i = absurd i
 without-length x (y ∷ ys) (inl e) = omega arith
 without-length x (y ∷ ys) (inr i) = let h = without-length x ys i in omega arith
 
+-- its members are the list's
 without-in : {X : Type 0} (x : X) (xs : List X) (i : In x xs) (y : X) → In y (without x xs i) → In y xs
 unfolding without
 without-in x [] i y j = absurd i
@@ -35,6 +37,7 @@ without-others {X} x (z ∷ xs) (inr i) y (inr j) = pick (without-others x xs i 
     pick (inl e) = inl e
     pick (inr k) = inr (inr k)
 
+-- it has each once, and x no more
 without-once : {X : Type 0} (x : X) (xs : List X) (i : In x xs) → Once xs → Once (without x xs i) × (¬ (In x (without x xs i)))
 unfolding without
 without-once x [] i o = absurd i

@@ -13,6 +13,7 @@ pub path_map : (P Q : ℕ → ℕ → Type 0) → ((u v : ℕ) → P u v → Q u
 path_map P Q f u [] e h = f u e h
 path_map P Q f u (v ∷ r) e h = (f u v h.0, path_map P Q f v r e h.1)
 
+-- the same all round
 pub cycle_map : (P Q : ℕ → ℕ → Type 0) → ((u v : ℕ) → P u v → Q u v) → (q : List ℕ) → AroundCycle P q → AroundCycle Q q
 cycle_map P Q f [] h = tt
 cycle_map P Q f (u ∷ r) h = path_map P Q f u r u h
@@ -26,5 +27,6 @@ polygon_as at X Y n m q f h p = record {
   least = p.least;
 }
 
+-- the law
 pub polygon_by_direction : PolygonByDirection
 polygon_by_direction at ids n m q h p = polygon_as at (Members ids) (Members ids) n m q (λ i. (λ j. j, λ j. j)) h p

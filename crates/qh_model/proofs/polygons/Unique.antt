@@ -68,5 +68,6 @@ one_polygon at X n (u ∷ p) (v ∷ q) a b = finish (heads u v p q a.least b.lea
         (λ x. (λ i. subst (λ t. In x (t ∷ q)) (sym e) ((m x).0 i), λ i. (m x).1 (subst (λ t. In x (t ∷ q)) e i))) a.once (subst (λ t. Once (t ∷ q)) (sym e) b.once) a.round (subst (λ t. AlongPath (TurnsLeft at n (v ∷ q)) t q t) (sym e) b.round) in
         cc
 
+-- the law
 pub polygon_is_unique : PolygonIsUnique
 polygon_is_unique at ids n p q a b = one_polygon at (Members ids) n p q a b

@@ -5,21 +5,17 @@ use Rattle.qh_model.specs.CoverageLaws.{SettledIsCombination, LevelIsCombination
 use Rattle.qh_model.specs.Surface.Side.{first, second, third}
 use Rattle.std.proofs.Common.{◌≡◌, ◌∙◌, ap, arith}
 use Rattle.std.proofs.lemmas.Int.{ints}
-use Rattle.std.specs.Prelude.{ℤ, pos, ◌+ℤ◌, ◌*ℤ◌, neg_ℤ, ◌≤ℤ◌, ◌<ℤ◌}
+use Rattle.std.specs.Prelude.{ℤ, pos, ◌+ℤ◌, ◌*ℤ◌, neg_ℤ, ◌≤ℤ◌}
 use Rattle.qh_model.proofs.algebra.Integers.{neg_mul, zero_mul}
 use Rattle.qh_model.proofs.surfaces.Determinants.{above-turn}
 use Rattle.qh_model.proofs.surfaces.CramersRule.{cramer}
 use Rattle.qh_model.proofs.surfaces.Located.{Located, located}
 use Rattle.qh_model.proofs.surfaces.CoveredPlanes.{plane_is_covered}
+use Rattle.qh_model.proofs.algebra.Order.{neg-nonneg, neg-positive}
 
-up : (x : ℤ) → x ≤ℤ pos 0 → pos 0 ≤ℤ neg_ℤ x
-up x h = omega (arith, ints)
-
-up_lt : (x : ℤ) → x <ℤ pos 0 → pos 0 <ℤ neg_ℤ x
-up_lt x h = omega (arith, ints)
-
-turned : (x y : ℤ) → x ≡ y → y ≤ℤ pos 0 → x ≤ℤ pos 0
-turned x y e h = omega (arith, ints)
+-- a sign, told otherwise
+at_most_as : (x y : ℤ) → x ≡ y → y ≤ℤ pos 0 → x ≤ℤ pos 0
+at_most_as x y e h = omega (arith, ints)
 
 -- all signs turned
 negated : (l p a x b y c z d t : ℤ) → l *ℤ p ≡ a *ℤ x +ℤ b *ℤ y +ℤ c *ℤ z +ℤ d *ℤ t → neg_ℤ l *ℤ p ≡ neg_ℤ a *ℤ x +ℤ neg_ℤ b *ℤ y +ℤ neg_ℤ c *ℤ z +ℤ neg_ℤ d *ℤ t
@@ -28,6 +24,7 @@ negated l p a x b y c z d t e = rw (neg_mul l p, neg_mul a x, neg_mul b y, neg_m
     turn : (l a b c d : ℤ) → l ≡ a +ℤ b +ℤ c +ℤ d → neg_ℤ l ≡ neg_ℤ a +ℤ neg_ℤ b +ℤ neg_ℤ c +ℤ neg_ℤ d
     turn l a b c d e = omega (arith, ints)
 
+-- the law
 pub settled_is_combination : SettledIsCombination
 settled_is_combination m home o w z f0 i0 x settled = from (located m home o w z f0 i0 x)
   where
@@ -41,11 +38,11 @@ settled_is_combination m home o w z f0 i0 x settled = from (located m home o w z
           v = neg_ℤ (above a x c o);
           w = neg_ℤ (above a b x o);
           t = neg_ℤ (above a b c x);
-          all_pos = up_lt (above a b c o) (z.inner l.f l.live);
-          u_nonneg = up (above x b c o) (turned (above x b c o) (above b c x o) (above-turn x b c o) (l.within second));
-          v_nonneg = up (above a x c o) (turned (above a x c o) (above c a x o) (above-turn a x c o ∙ above-turn x c a o) (l.within third));
-          w_nonneg = up (above a b x o) (l.within first);
-          t_nonneg = up (above a b c x) (settled l.f l.live);
+          all_pos = neg-positive (above a b c o) (z.inner l.f l.live);
+          u_nonneg = neg-nonneg (above x b c o) (at_most_as (above x b c o) (above b c x o) (above-turn x b c o) (l.within second));
+          v_nonneg = neg-nonneg (above a x c o) (at_most_as (above a x c o) (above c a x o) (above-turn a x c o ∙ above-turn x c a o) (l.within third));
+          w_nonneg = neg-nonneg (above a b x o) (l.within first);
+          t_nonneg = neg-nonneg (above a b c x) (settled l.f l.live);
           mix = λ n. negated (above a b c o) (weighted_dot n x) (above x b c o) (weighted_dot n a) (above a x c o) (weighted_dot n b) (above a b x o) (weighted_dot n c) (above a b c x) (weighted_dot n o) (cramer n a b c o x);
         }
       where
@@ -58,6 +55,7 @@ settled_is_combination m home o w z f0 i0 x settled = from (located m home o w z
         c : Weighted
         c = home (m.k l.f)
 
+-- the law
 pub level_is_combination : LevelIsCombination
 level_is_combination m home o w z f0 i0 p q r e inner corners level settled = from (plane_is_covered m home o w z f0 i0 p q r e inner corners level settled)
   where
@@ -77,10 +75,10 @@ level_is_combination m home o w z f0 i0 p q r e inner corners level settled = fr
           u = neg_ℤ (above e b c o);
           v = neg_ℤ (above a e c o);
           w = neg_ℤ (above a b e o);
-          all_pos = up_lt (above a b c o) (z.inner l.f l.live);
-          u_nonneg = up (above e b c o) (turned (above e b c o) (above b c e o) (above-turn e b c o) (l.within second));
-          v_nonneg = up (above a e c o) (turned (above a e c o) (above c a e o) (above-turn a e c o ∙ above-turn e c a o) (l.within third));
-          w_nonneg = up (above a b e o) (l.within first);
+          all_pos = neg-positive (above a b c o) (z.inner l.f l.live);
+          u_nonneg = neg-nonneg (above e b c o) (at_most_as (above e b c o) (above b c e o) (above-turn e b c o) (l.within second));
+          v_nonneg = neg-nonneg (above a e c o) (at_most_as (above a e c o) (above c a e o) (above-turn a e c o ∙ above-turn e c a o) (l.within third));
+          w_nonneg = neg-nonneg (above a b e o) (l.within first);
           mix = λ n. dropped (neg_ℤ (above a b c o) *ℤ weighted_dot n e) (neg_ℤ (above e b c o) *ℤ weighted_dot n a) (neg_ℤ (above a e c o) *ℤ weighted_dot n b) (neg_ℤ (above a b e o) *ℤ weighted_dot n c) (above a b c e) (weighted_dot n o)
               (negated (above a b c o) (weighted_dot n e) (above e b c o) (weighted_dot n a) (above a e c o) (weighted_dot n b) (above a b e o) (weighted_dot n c) (above a b c e) (weighted_dot n o) (cramer n a b c o e)) l.on;
         }

@@ -7,7 +7,7 @@ use Rattle.std.proofs.Common.{◌≡◌, ◌≢◌, ℕ, ◌+◌, ◌≤◌, ref
 use native.Mathlib.Decide.{ℕ_discrete}
 use Rattle.std.proofs.lemmas.Int.{ints, by_lt_z}
 use Rattle.std.specs.Prelude.{ℤ, pos, ◌-ℤ◌, ◌*ℤ◌, neg_ℤ, ◌≤ℤ◌, ◌<ℤ◌}
-use Rattle.qh_model.proofs.algebra.Order.{mul-pos, mul-nonneg, mul-nonneg_nonpos, mul-nonpos_nonneg, mul-nonpos, cancel-nonneg}
+use Rattle.qh_model.proofs.algebra.Order.{mul-pos, mul-nonneg, mul-nonneg_nonpos, mul-nonpos_nonneg, mul-nonpos, mul-neg_pos, mul-pos_neg, positive_le, negative_le}
 use Rattle.qh_model.proofs.surfaces.Facets.{rise_side, rise_over, corner_start, corner_end, corner_rest, corner_cases, corner_test, weak, bends, far_apart, rest_differs}
 use Rattle.qh_model.proofs.surfaces.DrawnInwards.{Choice, choose}
 use Rattle.qh_model.proofs.surfaces.Determinants.{above-flip}
@@ -15,58 +15,51 @@ use Rattle.qh_model.proofs.surfaces.PlanesThroughLine.{line_product}
 use Rattle.qh_model.proofs.surfaces.Connected.{cert}
 
 -- ---- signs, for two planes through one line, and a third through it and p
-pub lt_le : (x : ℤ) → pos 0 <ℤ x → pos 0 ≤ℤ x
-lt_le x h = omega (arith, ints)
-
-pub neg_le : (x : ℤ) → x <ℤ pos 0 → x ≤ℤ pos 0
-neg_le x h = omega (arith, ints)
-
-pos-neg : (a b : ℤ) → pos 0 <ℤ a → b <ℤ pos 0 → (a *ℤ b) <ℤ pos 0
-pos-neg a b h k = grind (arith, ints, cancel-nonneg)
-
-neg-pos : (a b : ℤ) → a <ℤ pos 0 → pos 0 <ℤ b → (a *ℤ b) <ℤ pos 0
-neg-pos a b h k = over_swap (pos-neg b a k h)
-  where
-    over_swap : (b *ℤ a) <ℤ pos 0 → (a *ℤ b) <ℤ pos 0
-    over_swap h = omega (arith, ints)
-
+-- a positive number less one not above 0
 difference_pos : (x y r : ℤ) → x -ℤ y ≡ r → pos 0 <ℤ x → y ≤ℤ pos 0 → pos 0 <ℤ r
 difference_pos x y r e h k = omega (arith, ints)
 
-difference_pos' : (x y r : ℤ) → x -ℤ y ≡ r → pos 0 ≤ℤ x → y <ℤ pos 0 → pos 0 <ℤ r
-difference_pos' x y r e h k = omega (arith, ints)
+-- a number not below 0 less a negative one
+difference_pos_neg : (x y r : ℤ) → x -ℤ y ≡ r → pos 0 ≤ℤ x → y <ℤ pos 0 → pos 0 <ℤ r
+difference_pos_neg x y r e h k = omega (arith, ints)
 
+-- a number not below 0 less one not above 0
 difference_nonneg : (x y r : ℤ) → x -ℤ y ≡ r → pos 0 ≤ℤ x → y ≤ℤ pos 0 → pos 0 ≤ℤ r
 difference_nonneg x y r e h k = omega (arith, ints)
 
+-- a negative number less one not below 0
 difference_neg : (x y r : ℤ) → x -ℤ y ≡ r → x <ℤ pos 0 → pos 0 ≤ℤ y → r <ℤ pos 0
 difference_neg x y r e h k = omega (arith, ints)
 
-pub both : (x : ℤ) → pos 0 <ℤ x → x ≤ℤ pos 0 → ⊥
-both x h k = omega (arith, ints)
+-- no number is above 0 and not
+pub above_and_not : (x : ℤ) → pos 0 <ℤ x → x ≤ℤ pos 0 → ⊥
+above_and_not x h k = omega (arith, ints)
 
-pub both' : (x : ℤ) → x <ℤ pos 0 → pos 0 ≤ℤ x → ⊥
-both' x h k = omega (arith, ints)
+-- nor below 0 and not
+pub below_and_not : (x : ℤ) → x <ℤ pos 0 → pos 0 ≤ℤ x → ⊥
+below_and_not x h k = omega (arith, ints)
 
 -- a ≤ 0 with a positive product
 other_neg : (a b : ℤ) → a ≤ℤ pos 0 → pos 0 <ℤ (a *ℤ b) → b <ℤ pos 0
-other_neg a b h k = by_lt_z b (pos 0) (λ q. q) (λ q. absurd (both (a *ℤ b) k (mul-nonpos_nonneg a b h q)))
+other_neg a b h k = by_lt_z b (pos 0) (λ q. q) (λ q. absurd (above_and_not (a *ℤ b) k (mul-nonpos_nonneg a b h q)))
 
+-- the same with a negative product
 other_pos : (a b : ℤ) → a ≤ℤ pos 0 → (a *ℤ b) <ℤ pos 0 → pos 0 <ℤ b
-other_pos a b h k = by_lt_z (pos 0) b (λ q. q) (λ q. absurd (both' (a *ℤ b) k (mul-nonpos a b h q)))
+other_pos a b h k = by_lt_z (pos 0) b (λ q. q) (λ q. absurd (below_and_not (a *ℤ b) k (mul-nonpos a b h q)))
 
+-- a factor of a positive product, by the other
 first_neg : (a b : ℤ) → b <ℤ pos 0 → pos 0 <ℤ (a *ℤ b) → a <ℤ pos 0
-first_neg a b h k = by_lt_z a (pos 0) (λ q. q) (λ q. absurd (both (a *ℤ b) k (mul-nonneg_nonpos a b q (neg_le b h))))
+first_neg a b h k = by_lt_z a (pos 0) (λ q. q) (λ q. absurd (above_and_not (a *ℤ b) k (mul-nonneg_nonpos a b q (negative_le b h))))
 
 -- y is strictly below one of the two
 pub cone_strict : (u v a b p y : Weighted) → pos 0 <ℤ above u v a p → pos 0 <ℤ above u v b p → above u v a b <ℤ pos 0 → above u v a y ≤ℤ pos 0 → pos 0 ≤ℤ above u v b y
     → (above u v a y <ℤ pos 0) ⊎ (pos 0 <ℤ above u v b y) → above u v p y <ℤ pos 0
 cone_strict u v a b p y ap bp ab ay by (inl k) =
-    other_neg (above u v a b) (above u v p y) (neg_le (above u v a b) ab)
-    (difference_pos' (above u v a p *ℤ above u v b y) (above u v a y *ℤ above u v b p) (above u v a b *ℤ above u v p y) (line_product u v a b p y) (mul-nonneg (above u v a p) (above u v b y) (lt_le (above u v a p) ap) by) (neg-pos (above u v a y) (above u v b p) k bp))
+    other_neg (above u v a b) (above u v p y) (negative_le (above u v a b) ab)
+    (difference_pos_neg (above u v a p *ℤ above u v b y) (above u v a y *ℤ above u v b p) (above u v a b *ℤ above u v p y) (line_product u v a b p y) (mul-nonneg (above u v a p) (above u v b y) (positive_le (above u v a p) ap) by) (mul-neg_pos (above u v a y) (above u v b p) k bp))
 cone_strict u v a b p y ap bp ab ay by (inr k) =
-    other_neg (above u v a b) (above u v p y) (neg_le (above u v a b) ab)
-    (difference_pos (above u v a p *ℤ above u v b y) (above u v a y *ℤ above u v b p) (above u v a b *ℤ above u v p y) (line_product u v a b p y) (mul-pos (above u v a p) (above u v b y) ap k) (mul-nonpos_nonneg (above u v a y) (above u v b p) ay (lt_le (above u v b p) bp)))
+    other_neg (above u v a b) (above u v p y) (negative_le (above u v a b) ab)
+    (difference_pos (above u v a p *ℤ above u v b y) (above u v a y *ℤ above u v b p) (above u v a b *ℤ above u v p y) (line_product u v a b p y) (mul-pos (above u v a p) (above u v b y) ap k) (mul-nonpos_nonneg (above u v a y) (above u v b p) ay (positive_le (above u v b p) bp)))
 
 -- o is strictly below both: then the bend is strict, and o strictly below the cone's facet
 pub cone_inner : (u v a b p o : Weighted) → pos 0 <ℤ above u v a p → pos 0 ≤ℤ above u v b p → above u v a b ≤ℤ pos 0 → above u v a o <ℤ pos 0 → pos 0 <ℤ above u v b o
@@ -74,7 +67,7 @@ pub cone_inner : (u v a b p o : Weighted) → pos 0 <ℤ above u v a p → pos 0
 cone_inner u v a b p o ap bp ab ao bo = (first_neg (above u v a b) (above u v p o) down product, down)
   where
     product : pos 0 <ℤ (above u v a b *ℤ above u v p o)
-    product = difference_pos (above u v a p *ℤ above u v b o) (above u v a o *ℤ above u v b p) (above u v a b *ℤ above u v p o) (line_product u v a b p o) (mul-pos (above u v a p) (above u v b o) ap bo) (mul-nonpos_nonneg (above u v a o) (above u v b p) (neg_le (above u v a o) ao) bp)
+    product = difference_pos (above u v a p *ℤ above u v b o) (above u v a o *ℤ above u v b p) (above u v a b *ℤ above u v p o) (line_product u v a b p o) (mul-pos (above u v a p) (above u v b o) ap bo) (mul-nonpos_nonneg (above u v a o) (above u v b p) (negative_le (above u v a o) ao) bp)
 
     down : above u v p o <ℤ pos 0
     down = other_neg (above u v a b) (above u v p o) ab product
@@ -83,15 +76,15 @@ cone_inner u v a b p o ap bp ab ao bo = (first_neg (above u v a b) (above u v p 
 pub cone_weak : (u v a b p y : Weighted) → pos 0 <ℤ above u v a p → pos 0 ≤ℤ above u v b p → above u v a b <ℤ pos 0 → above u v a y ≤ℤ pos 0 → pos 0 ≤ℤ above u v b y → above u v p y ≤ℤ pos 0
 cone_weak u v a b p y ap bp ab ay by =
     by_lt_z (pos 0) (above u v p y)
-    (λ q. absurd (both' (above u v a b *ℤ above u v p y) (neg-pos (above u v a b) (above u v p y) ab q)
-    (difference_nonneg (above u v a p *ℤ above u v b y) (above u v a y *ℤ above u v b p) (above u v a b *ℤ above u v p y) (line_product u v a b p y) (mul-nonneg (above u v a p) (above u v b y) (lt_le (above u v a p) ap) by) (mul-nonpos_nonneg (above u v a y) (above u v b p) ay bp))))
+    (λ q. absurd (below_and_not (above u v a b *ℤ above u v p y) (mul-neg_pos (above u v a b) (above u v p y) ab q)
+    (difference_nonneg (above u v a p *ℤ above u v b y) (above u v a y *ℤ above u v b p) (above u v a b *ℤ above u v p y) (line_product u v a b p y) (mul-nonneg (above u v a p) (above u v b y) (positive_le (above u v a p) ap) by) (mul-nonpos_nonneg (above u v a y) (above u v b p) ay bp))))
     (λ q. q)
 
 -- q sees both: so the cone's facet
 pub cone_seen : (u v a b p q : Weighted) → pos 0 <ℤ above u v a p → pos 0 ≤ℤ above u v b p → above u v a b ≤ℤ pos 0 → pos 0 <ℤ above u v a q → above u v b q <ℤ pos 0 → pos 0 <ℤ above u v p q
 cone_seen u v a b p q ap bp ab aq bq =
     other_pos (above u v a b) (above u v p q) ab
-    (difference_neg (above u v a p *ℤ above u v b q) (above u v a q *ℤ above u v b p) (above u v a b *ℤ above u v p q) (line_product u v a b p q) (pos-neg (above u v a p) (above u v b q) ap bq) (mul-nonneg (above u v a q) (above u v b p) (lt_le (above u v a q) aq) bp))
+    (difference_neg (above u v a p *ℤ above u v b q) (above u v a q *ℤ above u v b p) (above u v a b *ℤ above u v p q) (line_product u v a b p q) (mul-pos_neg (above u v a p) (above u v b q) ap bq) (mul-nonneg (above u v a q) (above u v b p) (positive_le (above u v a q) aq) bp))
 
 -- ---- the new surface
 pub record KeptOf (m m' : Surface) (home : ℕ → Weighted) (p f' : ℕ) : Type 0 where
@@ -101,6 +94,7 @@ pub record KeptOf (m m' : Surface) (home : ℕ → Weighted) (p f' : ℕ) : Type
   pub j_is : m'.j f' ≡ m.j f'
   pub k_is : m'.k f' ≡ m.k f'
 
+-- a facet of the cone: over which side it stands, and its corners
 pub record ConeOf (m m' : Surface) (home : ℕ → Weighted) (p : ℕ) (number : ℕ → Side → ℕ) (f' : ℕ) : Type 0 where
   pub f : ℕ
   pub s : Side
@@ -120,12 +114,15 @@ pub record Replaced (m m' : Surface) (home : ℕ → Weighted) (p : ℕ) : Type 
   pub seen : pos 0 <ℤ rise m home f0 (home p)
   pub origin : (f' : ℕ) → In f' m'.live → KeptOf m m' home p f' ⊎ ConeOf m m' home p number f'
 
+-- l is a corner of the old surface
 abbrev pub Old : Surface → ℕ → Type 0
 Old m l = (g : ℕ) × In g m.live × IsCorner m g l
 
+-- the point is no corner of the old surface
 pub p_fresh : (m m' : Surface) (home : ℕ → Weighted) (o : Weighted) (p : ℕ) → IsStrictWhenDrawn m home o → Replaced m m' home p → ¬ (Old m p)
-p_fresh m m' home o p t r (g, i, c) = both (rise m home r.f0 (home p)) r.seen (cert m home o t r.f0 g r.live i p c)
+p_fresh m m' home o p t r (g, i, c) = above_and_not (rise m home r.f0 (home p)) r.seen (cert m home o t r.f0 g r.live i p c)
 
+-- a corner of the new surface is an old one or the point
 pub old_or_apex : (m m' : Surface) (home : ℕ → Weighted) (p : ℕ) (r : Replaced m m' home p) (f' l : ℕ) → In f' m'.live → IsCorner m' f' l → Old m l ⊎ (l ≡ p)
 old_or_apex m m' home p r f' l i c = go (r.origin f' i) c
   where
@@ -143,36 +140,45 @@ kept_corner m m' home p f' l k (inl e) = inl (e ∙ sym k.i_is)
 kept_corner m m' home p f' l k (inr (inl e)) = inr (inl (e ∙ sym k.j_is))
 kept_corner m m' home p f' l k (inr (inr e)) = inr (inr (e ∙ sym k.k_is))
 
-pub kept_corner' : (m m' : Surface) (home : ℕ → Weighted) (p f' l : ℕ) → KeptOf m m' home p f' → IsCorner m' f' l → IsCorner m f' l
-kept_corner' m m' home p f' l k (inl e) = inl (e ∙ k.i_is)
-kept_corner' m m' home p f' l k (inr (inl e)) = inr (inl (e ∙ k.j_is))
-kept_corner' m m' home p f' l k (inr (inr e)) = inr (inr (e ∙ k.k_is))
+-- and the other way round
+pub corner_kept : (m m' : Surface) (home : ℕ → Weighted) (p f' l : ℕ) → KeptOf m m' home p f' → IsCorner m' f' l → IsCorner m f' l
+corner_kept m m' home p f' l k (inl e) = inl (e ∙ k.i_is)
+corner_kept m m' home p f' l k (inr (inl e)) = inr (inl (e ∙ k.j_is))
+corner_kept m m' home p f' l k (inr (inr e)) = inr (inr (e ∙ k.k_is))
 
 -- the neighbour's, with the side as the facet has it
 pub over_flip : (m : Surface) (at : ℕ → Weighted) → IsWhole m → (f : ℕ) → In f m.live → (s : Side) (y : Weighted) → rise m at (m.over f s) y ≡ neg_ℤ (above (at (start m f s)) (at (end m f s)) (at (far m f s)) y)
 over_flip m at w f i s y = rise_over m at w f i s y ∙ above-flip (at (start m f s)) (at (end m f s)) (at (far m f s)) y
 
-pub turn_le : (x r : ℤ) → x ≡ neg_ℤ r → x ≤ℤ pos 0 → pos 0 ≤ℤ r
-turn_le x r e h = omega (arith, ints)
+-- the opposite of a number not above 0
+pub opposite_nonneg : (x r : ℤ) → x ≡ neg_ℤ r → x ≤ℤ pos 0 → pos 0 ≤ℤ r
+opposite_nonneg x r e h = omega (arith, ints)
 
-pub turn_lt : (x r : ℤ) → x ≡ neg_ℤ r → x <ℤ pos 0 → pos 0 <ℤ r
-turn_lt x r e h = omega (arith, ints)
+-- of a negative number
+pub opposite_positive : (x r : ℤ) → x ≡ neg_ℤ r → x <ℤ pos 0 → pos 0 <ℤ r
+opposite_positive x r e h = omega (arith, ints)
 
-pub turn_pos : (x r : ℤ) → x ≡ neg_ℤ r → pos 0 <ℤ x → r <ℤ pos 0
-turn_pos x r e h = omega (arith, ints)
+-- of a positive number
+pub opposite_negative : (x r : ℤ) → x ≡ neg_ℤ r → pos 0 <ℤ x → r <ℤ pos 0
+opposite_negative x r e h = omega (arith, ints)
 
-pub same_le : (x r : ℤ) → x ≡ r → x ≤ℤ pos 0 → r ≤ℤ pos 0
-same_le x r e h = omega (arith, ints)
+-- a sign, told otherwise: not above 0
+pub equal_le : (x r : ℤ) → x ≡ r → x ≤ℤ pos 0 → r ≤ℤ pos 0
+equal_le x r e h = omega (arith, ints)
 
-pub same_lt : (x r : ℤ) → x ≡ r → x <ℤ pos 0 → r <ℤ pos 0
-same_lt x r e h = omega (arith, ints)
+-- below 0
+pub equal_negative : (x r : ℤ) → x ≡ r → x <ℤ pos 0 → r <ℤ pos 0
+equal_negative x r e h = omega (arith, ints)
 
-pub same_pos : (x r : ℤ) → x ≡ r → pos 0 <ℤ x → pos 0 <ℤ r
-same_pos x r e h = omega (arith, ints)
+-- above 0
+pub equal_positive : (x r : ℤ) → x ≡ r → pos 0 <ℤ x → pos 0 <ℤ r
+equal_positive x r e h = omega (arith, ints)
 
+-- how far a point is above the cone's facet
 pub cone_rise : (m m' : Surface) (home : ℕ → Weighted) (p : ℕ) (number : ℕ → Side → ℕ) (f' : ℕ) (n : ConeOf m m' home p number f') (at : ℕ → Weighted) (y : Weighted) → above (at (start m n.f n.s)) (at (end m n.f n.s)) (at p) y ≡ rise m' at f' y
 cone_rise m m' home p number f' n at y = rw (n.i_is, n.j_is, n.k_is) refl
 
+-- a kept facet sees as before
 pub kept_rise : (m m' : Surface) (home : ℕ → Weighted) (p f' : ℕ) → KeptOf m m' home p f' → (at : ℕ → Weighted) (y : Weighted) → rise m at f' y ≡ rise m' at f' y
 kept_rise m m' home p f' k at y = rw (k.i_is, k.j_is, k.k_is) refl
 
@@ -181,27 +187,30 @@ pub cone_inside : (m m' : Surface) (home : ℕ → Weighted) (o : Weighted) (p :
     → (above (home (start m n.f n.s)) (home (end m n.f n.s)) (home (rest m n.f n.s)) (home (far m n.f n.s)) <ℤ pos 0) × (above (home (start m n.f n.s)) (home (end m n.f n.s)) (home p) o <ℤ pos 0)
 cone_inside m m' home o p w q number f' n =
     cone_inner (home (start m n.f n.s)) (home (end m n.f n.s)) (home (rest m n.f n.s)) (home (far m n.f n.s)) (home p) o
-    (same_pos (rise m home n.f (home p)) _ (rise_side m home n.f n.s (home p)) n.seen)
-    (turn_le (rise m home (m.over n.f n.s) (home p)) _ (over_flip m home w n.f n.live n.s (home p)) n.blind)
-    (same_le (rise m home n.f (home (far m n.f n.s))) _ (rise_side m home n.f n.s (home (far m n.f n.s))) (cert m home o q.lifted n.f (m.over n.f n.s) n.live (w n.f n.live n.s).live (far m n.f n.s) (corner_rest m (m.over n.f n.s) (m.back n.f n.s))))
-    (same_lt (rise m home n.f o) _ (rise_side m home n.f n.s o) (q.inner n.f n.live))
-    (turn_lt (rise m home (m.over n.f n.s) o) _ (over_flip m home w n.f n.live n.s o) (q.inner (m.over n.f n.s) (w n.f n.live n.s).live))
+    (equal_positive (rise m home n.f (home p)) _ (rise_side m home n.f n.s (home p)) n.seen)
+    (opposite_nonneg (rise m home (m.over n.f n.s) (home p)) _ (over_flip m home w n.f n.live n.s (home p)) n.blind)
+    (equal_le (rise m home n.f (home (far m n.f n.s))) _ (rise_side m home n.f n.s (home (far m n.f n.s))) (cert m home o q.lifted n.f (m.over n.f n.s) n.live (w n.f n.live n.s).live (far m n.f n.s) (corner_rest m (m.over n.f n.s) (m.back n.f n.s))))
+    (equal_negative (rise m home n.f o) _ (rise_side m home n.f n.s o) (q.inner n.f n.live))
+    (opposite_positive (rise m home (m.over n.f n.s) o) _ (over_flip m home w n.f n.live n.s o) (q.inner (m.over n.f n.s) (w n.f n.live n.s).live))
 
+-- the inner point stays strictly below
 pub inner_kept : (m m' : Surface) (home : ℕ → Weighted) (o : Weighted) (p : ℕ) → IsWhole m → IsSound m home o → Replaced m m' home p → IsInner m' home o
 inner_kept m m' home o p w q r f' i = go (r.origin f' i)
   where
     go : KeptOf m m' home p f' ⊎ ConeOf m m' home p r.number f' → rise m' home f' o <ℤ pos 0
-    go (inl k) = same_lt (rise m home f' o) (rise m' home f' o) (kept_rise m m' home p f' k home o) (q.inner f' k.live)
-    go (inr n) = same_lt _ (rise m' home f' o) (cone_rise m m' home p r.number f' n home o) (cone_inside m m' home o p w q r.number f' n).1
+    go (inl k) = equal_negative (rise m home f' o) (rise m' home f' o) (kept_rise m m' home p f' k home o) (q.inner f' k.live)
+    go (inr n) = equal_negative _ (rise m' home f' o) (cone_rise m m' home p r.number f' n home o) (cone_inside m m' home o p w q r.number f' n).1
 
 -- ---- the shares
 share_of : (k s : ℕ) {P : Type 0} → Dec P → ℕ
 share_of k s (yes e) = k
 share_of k s (no e) = s
 
+-- the shares, with that of the new corner
 pub with_share : (h : ℕ → ℕ) (p k : ℕ) → ℕ → ℕ
 with_share h p k l = share_of k (h l) (ℕ_discrete l p)
 
+-- the new corner's share
 share_p : (h : ℕ → ℕ) (p k : ℕ) → with_share h p k p ≡ k
 unfolding with_share share_of
 share_p h p k = pick (ℕ_discrete p p)
@@ -210,6 +219,7 @@ share_p h p k = pick (ℕ_discrete p p)
     pick (yes e) = refl
     pick (no n) = absurd (n refl)
 
+-- the others keep theirs
 share_other : (h : ℕ → ℕ) (p k l : ℕ) → l ≢ p → with_share h p k l ≡ h l
 unfolding with_share share_of
 share_other h p k l a = pick (ℕ_discrete l p)
@@ -218,6 +228,7 @@ share_other h p k l a = pick (ℕ_discrete l p)
     pick (yes e) = absurd (a e)
     pick (no n) = refl
 
+-- a sign, told otherwise
 cone_case : (x y : ℤ) → x ≡ y → x <ℤ pos 0 → y <ℤ pos 0
 cone_case x y e h = omega (arith, ints)
 
@@ -243,11 +254,11 @@ below_one m home o w q at st f i s l (g, j, c) ns ne = pick (corner_test m f l)
     second : (l ≡ start m f s) ⊎ (l ≡ end m f s) ⊎ (l ≡ rest m f s) → (above (at (start m f s)) (at (end m f s)) (at (rest m f s)) (at l) <ℤ pos 0) ⊎ (pos 0 <ℤ above (at (start m f s)) (at (end m f s)) (at (far m f s)) (at l))
     second (inl e) = absurd (ns e)
     second (inr (inl e)) = absurd (ne e)
-    second (inr (inr e)) = inr (turn_lt (rise m at (m.over f s) (at l)) _ (over_flip m at w f i s (at l)) (st (m.over f s) g t.live j l c (away e)))
+    second (inr (inr e)) = inr (opposite_positive (rise m at (m.over f s) (at l)) _ (over_flip m at w f i s (at l)) (st (m.over f s) g t.live j l c (away e)))
 
     pick : IsCorner m f l ⊎ (¬ (IsCorner m f l)) → (above (at (start m f s)) (at (end m f s)) (at (rest m f s)) (at l) <ℤ pos 0) ⊎ (pos 0 <ℤ above (at (start m f s)) (at (end m f s)) (at (far m f s)) (at l))
     pick (inl k) = second (corner_cases m f s l k)
-    pick (inr k) = inl (same_lt (rise m at f (at l)) _ (rise_side m at f s (at l)) (st f g i j l c k))
+    pick (inr k) = inl (equal_negative (rise m at f (at l)) _ (rise_side m at f s (at l)) (st f g i j l c k))
 
 -- all is strict again, with p drawn inwards far more than the others
 pub lifted_kept : (m m' : Surface) (home : ℕ → Weighted) (o : Weighted) (p : ℕ) → IsWhole m → IsSound m home o → Replaced m m' home p → IsStrictWhenDrawn m' home o
@@ -288,18 +299,18 @@ lifted_kept m m' home o p w q r = record { h = h; from = t.from + ch.from; stric
 
         kept_old : KeptOf m m' home p f' → Old m l → rise m' (drawn home o h n) f' (drawn home o h n l) <ℤ pos 0
         kept_old k (g, e, z) =
-            same_lt (rise m (drawn home o t.h n) f' (drawn home o t.h n l)) _
+            equal_negative (rise m (drawn home o t.h n) f' (drawn home o t.h n l)) _
             (ap (rise m (drawn home o t.h n) f') (sym (at_old n l (g, e, z))) ∙ old_rise n f' k.live (drawn home o h n l) ∙ kept_rise m m' home p f' k (drawn home o h n) (drawn home o h n l))
             (st f' g k.live e l z (λ x. nc (kept_corner m m' home p f' l k x)))
 
         kept_apex : KeptOf m m' home p f' → l ≡ p → rise m' (drawn home o h n) f' (drawn home o h n l) <ℤ pos 0
         kept_apex k e =
-            same_lt (rise m (drawn home o t.h n) f' (towards o (pos n) (home p) (pos ch.k))) _
+            equal_negative (rise m (drawn home o t.h n) f' (towards o (pos n) (home p) (pos ch.k))) _
             (ap (rise m (drawn home o t.h n) f') (sym (ap (drawn home o h n) e ∙ at_p n)) ∙ old_rise n f' k.live (drawn home o h n l) ∙ kept_rise m m' home p f' k (drawn home o h n) (drawn home o h n l))
             (ch.down n b2 f' k.live k.blind)
 
         cone_old : ConeOf m m' home p r.number f' → Old m l → rise m' (drawn home o h n) f' (drawn home o h n l) <ℤ pos 0
-        cone_old a (g, e, z) = same_lt (above (at u) (at v) top (at l)) _ path (cone_strict (at u) (at v) (at (rest m a.f a.s)) (at (far m a.f a.s)) top (at l) ap_ bp ab ay by one)
+        cone_old a (g, e, z) = equal_negative (above (at u) (at v) top (at l)) _ path (cone_strict (at u) (at v) (at (rest m a.f a.s)) (at (far m a.f a.s)) top (at l) ap_ bp ab ay by one)
           where
             at : ℕ → Weighted
             at = drawn home o t.h n
@@ -322,19 +333,19 @@ lifted_kept m m' home o p w q r = record { h = h; from = t.from + ch.from; stric
                 (cone_rise m m' home p r.number f' a (drawn home o h n) (drawn home o h n l))
 
             ap_ : pos 0 <ℤ above (at u) (at v) (at (rest m a.f a.s)) top
-            ap_ = same_pos (rise m at a.f top) _ (rise_side m at a.f a.s top) (ch.up n b2 a.f a.live a.seen)
+            ap_ = equal_positive (rise m at a.f top) _ (rise_side m at a.f a.s top) (ch.up n b2 a.f a.live a.seen)
 
             bp : pos 0 <ℤ above (at u) (at v) (at (far m a.f a.s)) top
-            bp = turn_lt (rise m at (m.over a.f a.s) top) _ (over_flip m at w a.f a.live a.s top) (ch.down n b2 (m.over a.f a.s) gl a.blind)
+            bp = opposite_positive (rise m at (m.over a.f a.s) top) _ (over_flip m at w a.f a.live a.s top) (ch.down n b2 (m.over a.f a.s) gl a.blind)
 
             ab : above (at u) (at v) (at (rest m a.f a.s)) (at (far m a.f a.s)) <ℤ pos 0
             ab = bends m at home o w q.inner st a.f a.live a.s
 
             ay : above (at u) (at v) (at (rest m a.f a.s)) (at l) ≤ℤ pos 0
-            ay = same_le (rise m at a.f (at l)) _ (rise_side m at a.f a.s (at l)) (weak m at st a.f g a.live e l z)
+            ay = equal_le (rise m at a.f (at l)) _ (rise_side m at a.f a.s (at l)) (weak m at st a.f g a.live e l z)
 
             by : pos 0 ≤ℤ above (at u) (at v) (at (far m a.f a.s)) (at l)
-            by = turn_le (rise m at (m.over a.f a.s) (at l)) _ (over_flip m at w a.f a.live a.s (at l)) (weak m at st (m.over a.f a.s) g gl e l z)
+            by = opposite_nonneg (rise m at (m.over a.f a.s) (at l)) _ (over_flip m at w a.f a.live a.s (at l)) (weak m at st (m.over a.f a.s) g gl e l z)
 
             one : (above (at u) (at v) (at (rest m a.f a.s)) (at l) <ℤ pos 0) ⊎ (pos 0 <ℤ above (at u) (at v) (at (far m a.f a.s)) (at l))
             one = below_one m home o w q.inner at st a.f a.live a.s l (g, e, z) (λ x. nc (inl (x ∙ sym a.i_is))) (λ x. nc (inr (inl (x ∙ sym a.j_is))))

@@ -7,54 +7,43 @@ use Rattle.qh_model.specs.Weighted.{Weighted, above, weighted_dot, plane_of}
 use Rattle.std.proofs.Common.{◌≡◌, ℕ, suc, ◌+◌, ◌≤◌, refl, [], ◌∷◌, arith, ap, sym, ◌∙◌, subst, ◌⊎◌, inl, inr}
 use Rattle.std.proofs.lemmas.Int.{ints, by_lt_z}
 use Rattle.std.specs.Prelude.{ℤ, pos, ◌+ℤ◌, ◌*ℤ◌, neg_ℤ, ◌≤ℤ◌, ◌<ℤ◌}
-use Rattle.qh_model.proofs.algebra.Order.{mul-nonpos, mul-nonneg_nonpos, cancel-nonneg, cancel-nonpos, cancel-zero, zero_product}
+use Rattle.qh_model.proofs.algebra.Order.{mul-nonpos, mul-nonneg_nonpos, cancel-nonpos, cancel-zero, zero_product, mul-neg_pos}
 use Rattle.qh_model.proofs.algebra.Ring.{ring}
-use Rattle.qh_model.proofs.algebra.Ring.Expr.{var, con, add, sub as less, mul, neg}
+use Rattle.qh_model.proofs.algebra.Ring.Expr.{var, add, mul, neg}
 use Rattle.qh_model.proofs.surfaces.Facets.{rise_own, sum4, above-sum, plane-is}
 use Rattle.qh_model.specs.Surface.Side.{first, second, third}
-use Rattle.qh_model.proofs.surfaces.DrawnInwards.{bound, scale}
+use Rattle.qh_model.proofs.surfaces.DrawnInwards.{towardsE, bound, scale}
 use Rattle.qh_model.proofs.surfaces.Determinants.{quad, aboveE, put4, above-turn, above-first, above-second, above-third}
 use Rattle.qh_model.proofs.surfaces.CramersRule.{cramer}
 use Rattle.qh_model.proofs.surfaces.Located.{Located, located}
 
-abbrev liftE : (k n h j : ℕ) → (i : Rattle.qh_model.proofs.surfaces.Determinants.QE → Rattle.qh_model.proofs.algebra.Ring.Expr) → Rattle.qh_model.proofs.algebra.Ring.Expr
-liftE k n h j i = add (mul (var n) (i (quad k))) (mul (var h) (i (quad j)))
-
-abbrev liftQ : (k n h j : ℕ) → Rattle.qh_model.proofs.surfaces.Determinants.QE
-liftQ k n h j = record { w = liftE k n h j (λ q. q.w); x = liftE k n h j (λ q. q.x); y = liftE k n h j (λ q. q.y); z = liftE k n h j (λ q. q.z) }
-
+-- a point drawn, as the last
 above-last : (a b c p o : Weighted) (n k : ℤ) → above a b c (towards o n p k) ≡ n *ℤ above a b c p +ℤ k *ℤ above a b c o
 unfolding above
 above-last a b c p o n k =
-    ring (put4 a (put4 b (put4 c (put4 p (put4 o (n ∷ k ∷ [])))))) (aboveE (quad 0) (quad 1) (quad 2) (liftQ 3 20 21 4))
+    ring (put4 a (put4 b (put4 c (put4 p (put4 o (n ∷ k ∷ [])))))) (aboveE (quad 0) (quad 1) (quad 2) (towardsE (quad 4) (var 20) (quad 3) (var 21)))
     (add (mul (var 20) (aboveE (quad 0) (quad 1) (quad 2) (quad 3))) (mul (var 21) (aboveE (quad 0) (quad 1) (quad 2) (quad 4)))) refl
 
+-- as the third
 above-middle : (a b c p o : Weighted) (n k : ℤ) → above a b (towards o n p k) c ≡ n *ℤ above a b p c +ℤ k *ℤ above a b o c
 unfolding above
 above-middle a b c p o n k =
-    ring (put4 a (put4 b (put4 c (put4 p (put4 o (n ∷ k ∷ [])))))) (aboveE (quad 0) (quad 1) (liftQ 3 20 21 4) (quad 2))
+    ring (put4 a (put4 b (put4 c (put4 p (put4 o (n ∷ k ∷ [])))))) (aboveE (quad 0) (quad 1) (towardsE (quad 4) (var 20) (quad 3) (var 21)) (quad 2))
     (add (mul (var 20) (aboveE (quad 0) (quad 1) (quad 3) (quad 2))) (mul (var 21) (aboveE (quad 0) (quad 1) (quad 4) (quad 2)))) refl
 
 -- ---- what no facet sees is beyond no plane that has the corners and o on one side
+-- four products with one sign do not add up to the other
 four : (l a b c d x y z e : ℤ) → l ≡ a *ℤ x +ℤ b *ℤ y +ℤ c *ℤ z +ℤ d *ℤ e → l <ℤ pos 0 → a ≤ℤ pos 0 → b ≤ℤ pos 0 → c ≤ℤ pos 0 → d ≤ℤ pos 0 → x ≤ℤ pos 0 → y ≤ℤ pos 0 → z ≤ℤ pos 0 → e ≤ℤ pos 0 → ⊥
 four l a b c d x y z e q h ha hb hc hd hx hy hz he = finish l (a *ℤ x) (b *ℤ y) (c *ℤ z) (d *ℤ e) q h (mul-nonpos a x ha hx) (mul-nonpos b y hb hy) (mul-nonpos c z hc hz) (mul-nonpos d e hd he)
   where
     finish : (l p q r s : ℤ) → l ≡ p +ℤ q +ℤ r +ℤ s → l <ℤ pos 0 → pos 0 ≤ℤ p → pos 0 ≤ℤ q → pos 0 ≤ℤ r → pos 0 ≤ℤ s → ⊥
     finish l p q r s e h hp hq hr hs = omega (arith, ints)
 
-neg-pos : (a b : ℤ) → a <ℤ pos 0 → pos 0 <ℤ b → (a *ℤ b) <ℤ pos 0
-neg-pos a b h k = turn (pos-neg b a k h)
-  where
-    pos-neg : (a b : ℤ) → pos 0 <ℤ a → b <ℤ pos 0 → (a *ℤ b) <ℤ pos 0
-    pos-neg a b h k = grind (arith, ints, cancel-nonneg)
-
-    turn : (b *ℤ a) <ℤ pos 0 → (a *ℤ b) <ℤ pos 0
-    turn h = omega (arith, ints)
-
+-- the facet over which x lies
 at_facet : (m : Surface) (home : ℕ → Weighted) (o x n : Weighted) (l : Located m home o x) → rise m home l.f o <ℤ pos 0 → ((g : ℕ) → In g m.live → (i : ℕ) → IsCorner m g i → weighted_dot n (home i) ≤ℤ pos 0) → weighted_dot n o ≤ℤ pos 0
     → pos 0 <ℤ weighted_dot n x → rise m home l.f x ≤ℤ pos 0 → ⊥
 at_facet m home o x n l inner corners n_o nx below =
-    four (rise m home l.f o *ℤ weighted_dot n x) (above x b c o) (above a x c o) (above a b x o) (above a b c x) (weighted_dot n a) (weighted_dot n b) (weighted_dot n c) (weighted_dot n o) (cramer n a b c o x) (neg-pos (rise m home l.f o) (weighted_dot n x) inner nx)
+    four (rise m home l.f o *ℤ weighted_dot n x) (above x b c o) (above a x c o) (above a b x o) (above a b c x) (weighted_dot n a) (weighted_dot n b) (weighted_dot n c) (weighted_dot n o) (cramer n a b c o x) (mul-neg_pos (rise m home l.f o) (weighted_dot n x) inner nx)
     (subst (λ v. v ≤ℤ pos 0) (sym (above-turn x b c o)) (l.within second))
     (subst (λ v. v ≤ℤ pos 0) (sym (above-turn a x c o ∙ above-turn x c a o)) (l.within third))
     (l.within first) below
@@ -122,9 +111,11 @@ sum_zero n e t h z he ht = let p = mul-nonneg_nonpos n e (lt_le n h) he in (canc
     other : (p t : ℤ) → p +ℤ t ≡ pos 0 → p ≤ℤ pos 0 → t ≤ℤ pos 0 → t ≡ pos 0
     other p t z h k = omega (arith, ints)
 
+-- three numbers not above 0 that add up to 0
 three_zero : (i j k : ℤ) → i +ℤ j +ℤ k ≡ pos 0 → i ≤ℤ pos 0 → j ≤ℤ pos 0 → k ≤ℤ pos 0 → (i ≡ pos 0) × (j ≡ pos 0) × (k ≡ pos 0)
 three_zero i j k z hi hj hk = (omega (arith, ints), omega (arith, ints), omega (arith, ints))
 
+-- and a sum of three
 three_le : (s i j k : ℤ) → s ≡ i +ℤ j +ℤ k → i ≤ℤ pos 0 → j ≤ℤ pos 0 → k ≤ℤ pos 0 → s ≤ℤ pos 0
 three_le s i j k e hi hj hk = omega (arith, ints)
 

@@ -6,6 +6,7 @@ use Rattle.qh_model.proofs.algebra.Ring.{ring}
 use Rattle.qh_model.proofs.algebra.Ring.Expr.{add, mul}
 use Rattle.qh_model.proofs.surfaces.Determinants.{quad, dot4E, aboveE, put4}
 
+-- four points have coordinates for a fifth
 pub cramer : (n a b c y p : Weighted) → above a b c y *ℤ weighted_dot n p ≡ above p b c y *ℤ weighted_dot n a +ℤ above a p c y *ℤ weighted_dot n b +ℤ above a b p y *ℤ weighted_dot n c +ℤ above a b c p *ℤ weighted_dot n y
 unfolding above
 cramer n a b c y p =

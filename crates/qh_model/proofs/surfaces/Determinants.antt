@@ -12,15 +12,19 @@ pub record QE : Type 0 where
   pub y : Expr
   pub z : Expr
 
+-- the weighted point of the variables 4 k to 4 k + 3
 abbrev pub quad : ℕ → QE
 quad k = record { w = var (4 * k); x = var (4 * k + 1); y = var (4 * k + 2); z = var (4 * k + 3) }
 
+-- a scalar product of expressions
 abbrev pub dot4E : QE → QE → Expr
 dot4E n p = add (add (add (mul n.w p.w) (mul n.x p.x)) (mul n.y p.y)) (mul n.z p.z)
 
+-- a determinant of three rows
 abbrev pub minor3E : (a b c p q r u v w : Expr) → Expr
 minor3E a b c p q r u v w = add (less (mul a (less (mul q w) (mul r v))) (mul b (less (mul p w) (mul r u)))) (mul c (less (mul p v) (mul q u)))
 
+-- the plane through three
 abbrev pub planeE : QE → QE → QE → QE
 planeE a b c =
     record {
@@ -30,9 +34,11 @@ planeE a b c =
       z = minor3E a.w a.x a.y b.w b.x b.y c.w c.x c.y;
     }
 
+-- how far a point is above it
 abbrev pub aboveE : QE → QE → QE → QE → Expr
 aboveE a b c p = dot4E (planeE a b c) p
 
+-- four numbers before the rest
 abbrev pub put4 : Weighted → List ℤ → List ℤ
 put4 p env = p.w ∷ p.x ∷ p.y ∷ p.z ∷ env
 
@@ -41,22 +47,27 @@ pub above-turn : (a b c p : Weighted) → above a b c p ≡ above b c a p
 unfolding above
 above-turn a b c p = ring (put4 a (put4 b (put4 c (put4 p [])))) (aboveE (quad 0) (quad 1) (quad 2) (quad 3)) (aboveE (quad 1) (quad 2) (quad 0) (quad 3)) refl
 
+-- the other way round
 pub above-flip : (a b c p : Weighted) → above b a c p ≡ neg_ℤ (above a b c p)
 unfolding above
 above-flip a b c p = ring (put4 a (put4 b (put4 c (put4 p [])))) (aboveE (quad 1) (quad 0) (quad 2) (quad 3)) (neg (aboveE (quad 0) (quad 1) (quad 2) (quad 3))) refl
 
+-- with the last two changed about
 pub above-swap_last : (a b c p : Weighted) → above a b p c ≡ neg_ℤ (above a b c p)
 unfolding above
 above-swap_last a b c p = ring (put4 a (put4 b (put4 c (put4 p [])))) (aboveE (quad 0) (quad 1) (quad 3) (quad 2)) (neg (aboveE (quad 0) (quad 1) (quad 2) (quad 3))) refl
 
+-- a corner lies in the plane: the first
 pub above-first : (a b c : Weighted) → above a b c a ≡ pos 0
 unfolding above
 above-first a b c = ring_zero (put4 a (put4 b (put4 c []))) (aboveE (quad 0) (quad 1) (quad 2) (quad 0)) refl
 
+-- the second
 pub above-second : (a b c : Weighted) → above a b c b ≡ pos 0
 unfolding above
 above-second a b c = ring_zero (put4 a (put4 b (put4 c []))) (aboveE (quad 0) (quad 1) (quad 2) (quad 1)) refl
 
+-- the third
 pub above-third : (a b c : Weighted) → above a b c c ≡ pos 0
 unfolding above
 above-third a b c = ring_zero (put4 a (put4 b (put4 c []))) (aboveE (quad 0) (quad 1) (quad 2) (quad 2)) refl

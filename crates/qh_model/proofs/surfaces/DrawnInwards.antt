@@ -8,21 +8,23 @@ use Rattle.std.proofs.lemmas.Int.{ints}
 use Rattle.std.specs.Prelude.{ℤ, pos, negsuc, ◌+ℤ◌, ◌-ℤ◌, ◌*ℤ◌, neg_ℤ, ◌≤ℤ◌, ◌<ℤ◌}
 use Rattle.qh_model.proofs.algebra.Ring.{Expr, ring}
 use Rattle.qh_model.proofs.algebra.Ring.Expr.{var, con, add, sub as less, mul}
-use Rattle.qh_model.proofs.algebra.Order.{mul-nonneg, mul-nonneg_nonpos, mul-pos, cancel-nonneg}
+use Rattle.qh_model.proofs.algebra.Order.{mul-nonneg, mul-nonneg_nonpos, mul-pos, mul-pos_neg}
 use Rattle.qh_model.proofs.surfaces.Determinants.{quad, QE, aboveE, put4}
 
 -- what the shares add
 abbrev pub tilt : (o a b c p : Weighted) (h i j k : ℤ) → ℤ
 tilt o a b c p h i j k = h *ℤ above o b c p +ℤ i *ℤ above a o c p +ℤ j *ℤ above a b o p +ℤ k *ℤ above a b c o
 
-abbrev liftE : QE → Expr → QE → Expr → QE
-liftE o n p k = record { w = add (mul n p.w) (mul k o.w); x = add (mul n p.x) (mul k o.x); y = add (mul n p.y) (mul k o.y); z = add (mul n p.z) (mul k o.z) }
+-- the same of expressions
+abbrev pub towardsE : QE → Expr → QE → Expr → QE
+towardsE o n p k = record { w = add (mul n p.w) (mul k o.w); x = add (mul n p.x) (mul k o.x); y = add (mul n p.y) (mul k o.y); z = add (mul n p.z) (mul k o.z) }
 
-pub above-lift : (o a b c p : Weighted) (n h i j k : ℤ) → above (towards o n a h) (towards o n b i) (towards o n c j) (towards o n p k) ≡ n *ℤ n *ℤ n *ℤ (n *ℤ above a b c p +ℤ tilt o a b c p h i j k)
+-- four points drawn, each by its share
+pub above-drawn_all : (o a b c p : Weighted) (n h i j k : ℤ) → above (towards o n a h) (towards o n b i) (towards o n c j) (towards o n p k) ≡ n *ℤ n *ℤ n *ℤ (n *ℤ above a b c p +ℤ tilt o a b c p h i j k)
 unfolding above
-above-lift o a b c p n h i j k =
+above-drawn_all o a b c p n h i j k =
     ring (put4 o (put4 a (put4 b (put4 c (put4 p (n ∷ h ∷ i ∷ j ∷ k ∷ []))))))
-    (aboveE (liftE (quad 0) (var 20) (quad 1) (var 21)) (liftE (quad 0) (var 20) (quad 2) (var 22)) (liftE (quad 0) (var 20) (quad 3) (var 23)) (liftE (quad 0) (var 20) (quad 4) (var 24)))
+    (aboveE (towardsE (quad 0) (var 20) (quad 1) (var 21)) (towardsE (quad 0) (var 20) (quad 2) (var 22)) (towardsE (quad 0) (var 20) (quad 3) (var 23)) (towardsE (quad 0) (var 20) (quad 4) (var 24)))
     (mul (mul (mul (var 20) (var 20)) (var 20))
     (add (mul (var 20) (aboveE (quad 1) (quad 2) (quad 3) (quad 4)))
     (add (add (add (mul (var 21) (aboveE (quad 0) (quad 2) (quad 3) (quad 4))) (mul (var 22) (aboveE (quad 1) (quad 0) (quad 3) (quad 4)))) (mul (var 23) (aboveE (quad 1) (quad 2) (quad 0) (quad 4)))) (mul (var 24) (aboveE (quad 1) (quad 2) (quad 3) (quad 0)))))) refl
@@ -32,14 +34,17 @@ pub size : ℤ → ℕ
 size (pos n) = n
 size (negsuc n) = suc n
 
+-- it is a bound
 pub size_le : (x : ℤ) → (x ≤ℤ pos (size x)) × (neg_ℤ x ≤ℤ pos (size x))
 unfolding size
 size_le (pos n) = (omega (arith, ints), omega (arith, ints))
 size_le (negsuc n) = (omega (arith, ints), omega (arith, ints))
 
+-- one bound for all members
 abbrev Bounded : {X : Type 0} → (X → ℤ) → List X → Type 0
 Bounded {X} r xs = (m : ℕ) × ((f : X) → In f xs → (r f <ℤ pos m) × (neg_ℤ (r f) <ℤ pos m))
 
+-- with one more member
 bound_more : {X : Type 0} (r : X → ℤ) (x : X) (xs : List X) → Bounded r xs → Bounded r (x ∷ xs)
 bound_more {X} r x xs low = (suc (size (r x)) + low.0, λ f i. one f i)
   where
@@ -53,6 +58,7 @@ bound_more {X} r x xs low = (suc (size (r x)) + low.0, λ f i. one f i)
     one f (inl e) = subst (λ t. (r t <ℤ pos (suc (size (r x)) + low.0)) × (neg_ℤ (r t) <ℤ pos (suc (size (r x)) + low.0))) (sym e) (here (r x) (size (r x)) low.0 (size_le (r x)))
     one f (inr i) = there (r f) (size (r x)) low.0 (low.1 f i)
 
+-- there is one
 pub bound : {X : Type 0} (r : X → ℤ) (xs : List X) → Bounded r xs
 bound r [] = (zero, λ f i. absurd i)
 bound r (x ∷ xs) = bound_more r x xs (bound r xs)
@@ -83,17 +89,16 @@ scale e x m n h k q = finish e (pos n *ℤ x) (pos n *ℤ (x -ℤ pos 1)) m n (s
     finish : (e s t : ℤ) (m n : ℕ) → t ≡ s -ℤ pos n → neg_ℤ e <ℤ pos m → suc m ≤ n → pos 0 ≤ℤ t → pos 0 <ℤ (s +ℤ e)
     finish e s t m n q h k l = omega (arith, ints)
 
+-- and a large enough scale downwards
 scale_down : (e x : ℤ) (n : ℕ) → e <ℤ pos 0 → x ≤ℤ pos 0 → (pos n *ℤ x +ℤ e) <ℤ pos 0
 scale_down e x n h q = finish e (pos n *ℤ x) h (mul-nonneg_nonpos (pos n) x (omega (arith, ints)) q)
   where
     finish : (e s : ℤ) → e <ℤ pos 0 → s ≤ℤ pos 0 → (s +ℤ e) <ℤ pos 0
     finish e s h k = omega (arith, ints)
 
+-- a product of three positive scales
 pub cube : (m n : ℕ) → suc m ≤ n → pos 0 <ℤ (pos n *ℤ pos n *ℤ pos n)
 cube m n h = let p : pos 0 <ℤ pos n = omega (arith, ints) in mul-pos (pos n *ℤ pos n) (pos n) (mul-pos (pos n) (pos n) p p) p
-
-pos-neg : (a b : ℤ) → pos 0 <ℤ a → b <ℤ pos 0 → (a *ℤ b) <ℤ pos 0
-pos-neg a b h k = grind (arith, ints, cancel-nonneg)
 
 -- ---- a share for a new point
 pub record Choice (m : Surface) (home : ℕ → Weighted) (o : Weighted) (h : ℕ → ℕ) (p : Weighted) : Type 0 where
@@ -102,13 +107,14 @@ pub record Choice (m : Surface) (home : ℕ → Weighted) (o : Weighted) (h : �
   pub up : (n : ℕ) → from ≤ n → (f : ℕ) → In f m.live → pos 0 <ℤ rise m home f p → pos 0 <ℤ rise m (drawn home o h n) f (towards o (pos n) p (pos k))
   pub down : (n : ℕ) → from ≤ n → (f : ℕ) → In f m.live → rise m home f p ≤ℤ pos 0 → rise m (drawn home o h n) f (towards o (pos n) p (pos k)) <ℤ pos 0
 
+-- there is one
 pub choose : (m : Surface) (home : ℕ → Weighted) (o : Weighted) → IsInner m home o → (h : ℕ → ℕ) (p : Weighted) → Choice m home o h p
 choose m home o inner h p =
     record {
       k = k;
       from = suc scale_to;
       up = λ n q f i s. subst (λ v. pos 0 <ℤ v) (sym (value n f)) (mul-pos (pos n *ℤ pos n *ℤ pos n) (pos n *ℤ rise m home f p +ℤ added f) (cube scale_to n q) (scale (added f) (rise m home f p) scale_to n (added_bound f i) q s));
-      down = λ n q f i s. subst (λ v. v <ℤ pos 0) (sym (value n f)) (pos-neg (pos n *ℤ pos n *ℤ pos n) (pos n *ℤ rise m home f p +ℤ added f) (cube scale_to n q) (scale_down (added f) (rise m home f p) n (added_neg f i) s));
+      down = λ n q f i s. subst (λ v. v <ℤ pos 0) (sym (value n f)) (mul-pos_neg (pos n *ℤ pos n *ℤ pos n) (pos n *ℤ rise m home f p +ℤ added f) (cube scale_to n q) (scale_down (added f) (rise m home f p) n (added_neg f i) s));
     }
   where
     base : ℕ → ℤ
@@ -130,4 +136,4 @@ choose m home o inner h p =
     added_bound f i = ((bound added m.live).1 f i).1
 
     value : (n f : ℕ) → rise m (drawn home o h n) f (towards o (pos n) p (pos k)) ≡ pos n *ℤ pos n *ℤ pos n *ℤ (pos n *ℤ rise m home f p +ℤ added f)
-    value n f = above-lift o (home (m.i f)) (home (m.j f)) (home (m.k f)) p (pos n) (pos (h (m.i f))) (pos (h (m.j f))) (pos (h (m.k f))) (pos k)
+    value n f = above-drawn_all o (home (m.i f)) (home (m.j f)) (home (m.k f)) p (pos n) (pos (h (m.i f))) (pos (h (m.j f))) (pos (h (m.k f))) (pos k)

@@ -12,20 +12,25 @@ use Rattle.qh_model.proofs.algebra.Ring.{ring}
 use Rattle.qh_model.proofs.algebra.Ring.Expr.{add}
 use Rattle.qh_model.proofs.surfaces.Determinants.{put4, quad, dot4E, above-turn, above-flip, above-first, above-second, above-third}
 use Rattle.qh_model.proofs.surfaces.VisibleFacets.{Corners, Over, Cut, none_cut_off}
+use Rattle.qh_model.proofs.Booleans.{both_true, true_false, not_true}
 
+-- the corners of a facet at their places
 abbrev pub placed : Surface → (ℕ → Weighted) → ℕ → Corners
 placed m at f = record { a = at (m.i f); b = at (m.j f); c = at (m.k f) }
 
+-- the start of a side is a corner
 pub corner_start : (m : Surface) (f : ℕ) (s : Side) → IsCorner m f (start m f s)
 corner_start m f first = inl refl
 corner_start m f second = inr (inl refl)
 corner_start m f third = inr (inr refl)
 
+-- so is its end
 pub corner_end : (m : Surface) (f : ℕ) (s : Side) → IsCorner m f (end m f s)
 corner_end m f first = inr (inl refl)
 corner_end m f second = inr (inr refl)
 corner_end m f third = inl refl
 
+-- and the id across
 pub corner_rest : (m : Surface) (f : ℕ) (s : Side) → IsCorner m f (rest m f s)
 corner_rest m f first = inr (inr refl)
 corner_rest m f second = inl refl
@@ -54,9 +59,11 @@ rise_over m at w f i s y =
     rise_side m at (m.over f s) (m.back f s) y ∙ ap (λ u. above (at u) (at (end m (m.over f s) (m.back f s))) (at (far m f s)) y) t.start_is ∙ ap (λ v. above (at (end m f s)) (at v) (at (far m f s)) y) t.end_is
 
 -- ---- what lies strictly below a facet shows its corners to be different
+-- no number is below 0 and 0
 lt_zero : (x : ℤ) → x <ℤ pos 0 → x ≡ pos 0 → ⊥
 lt_zero x h e = omega (arith, ints)
 
+-- the ends of a side differ
 pub ends_differ : (m : Surface) (at : ℕ → Weighted) (c : Weighted) → IsInner m at c → (f : ℕ) → In f m.live → (s : Side) → start m f s ≢ end m f s
 ends_differ m at c h f i s e =
     lt_zero (rise m at f c) (h f i)
@@ -68,6 +75,7 @@ ends_differ m at c h f i s e =
     twice : (a b c : Weighted) → above a a b c ≡ pos 0
     twice a b c = own (above a a b c) (above-flip a a b c)
 
+-- and the id across from both
 pub rest_differs : (m : Surface) (at : ℕ → Weighted) (c : Weighted) → IsInner m at c → (f : ℕ) → In f m.live → (s : Side) → (rest m f s ≢ start m f s) × (rest m f s ≢ end m f s)
 rest_differs m at c h f i first = (ends_differ m at c h f i third, λ e. ends_differ m at c h f i second (sym e))
 rest_differs m at c h f i second = (ends_differ m at c h f i first, λ e. ends_differ m at c h f i third (sym e))
@@ -93,6 +101,7 @@ far_apart m at c w h f i s k = pick (corner_cases m f s (far m f s) k)
         opposite (rise m at f c) (rise m at (m.over f s) c) (above (at (start m f s)) (at (end m f s)) (at (rest m f s)) c) (h f i) (h (m.over f s) t.live) (rise_side m at f s c)
         (rise_over m at w f i s c ∙ ap (λ u. above (at (end m f s)) (at (start m f s)) (at u) c) e ∙ above-flip (at (start m f s)) (at (end m f s)) (at (rest m f s)) c)
 
+-- a corner or not
 pub corner_test : (m : Surface) (f l : ℕ) → IsCorner m f l ⊎ (¬ (IsCorner m f l))
 corner_test m f l = test (ℕ_discrete l (m.i f)) (ℕ_discrete l (m.j f)) (ℕ_discrete l (m.k f))
   where
@@ -113,6 +122,7 @@ rise_own m at f l (inl e) = ap (λ t. rise m at f (at t)) e ∙ above-first (at 
 rise_own m at f l (inr (inl e)) = ap (λ t. rise m at f (at t)) e ∙ above-second (at (m.i f)) (at (m.j f)) (at (m.k f))
 rise_own m at f l (inr (inr e)) = ap (λ t. rise m at f (at t)) e ∙ above-third (at (m.i f)) (at (m.j f)) (at (m.k f))
 
+-- no corner is above a facet
 pub weak : (m : Surface) (at : ℕ → Weighted) → IsStrict m at → (f g : ℕ) → In f m.live → In g m.live → (l : ℕ) → IsCorner m g l → rise m at f (at l) ≤ℤ pos 0
 weak m at h f g i j l c = pick (corner_test m f l)
   where
@@ -135,39 +145,31 @@ bends m at real c w n h f i s =
     moved x y e h = omega (arith, ints)
 
 -- ---- connectedness over weighted points
-true_false : (a : Bool) → a ≡ true → a ≡ false → ⊥
-true_false a e f = cc
-
+-- is a number above 0?
 pub positive : ℤ → Bool
 positive (pos zero) = false
 positive (pos (suc n)) = true
 positive (negsuc n) = false
 
+-- the test is right
 pub positive-is : (x : ℤ) → positive x ≡ true → pos 0 <ℤ x
 unfolding positive
 positive-is (pos zero) e = absurd (true_false true refl (sym e))
 positive-is (pos (suc n)) e = omega (arith, ints)
 positive-is (negsuc n) e = absurd (true_false true refl (sym e))
 
+-- and finds all
 pub positive-true : (x : ℤ) → pos 0 <ℤ x → positive x ≡ true
 unfolding positive
 positive-true (pos zero) h = absurd (omega (arith, ints))
 positive-true (pos (suc n)) h = refl
 positive-true (negsuc n) h = absurd (omega (arith, ints))
 
-both_true : (a b : Bool) → (a && b) ≡ true → (a ≡ true) × (b ≡ true)
-both_true true true e = (refl, refl)
-both_true true false e = cc
-both_true false b e = cc
-
-not_true : (a : Bool) → not a ≡ true → a ≡ false
-not_true true e = cc
-not_true false e = refl
-
 -- above a sum
 pub sum4 : Weighted → Weighted → Weighted → Weighted
 sum4 p q r = record { w = p.w +ℤ q.w +ℤ r.w; x = p.x +ℤ q.x +ℤ r.x; y = p.y +ℤ q.y +ℤ r.y; z = p.z +ℤ q.z +ℤ r.z }
 
+-- a scalar product of a sum
 dot4-sum : (n p q r : Weighted) → weighted_dot n (sum4 p q r) ≡ weighted_dot n p +ℤ weighted_dot n q +ℤ weighted_dot n r
 unfolding sum4
 dot4-sum n p q r =
@@ -175,6 +177,7 @@ dot4-sum n p q r =
     (dot4E (quad 0) (record { w = add (add (quad 1).w (quad 2).w) (quad 3).w; x = add (add (quad 1).x (quad 2).x) (quad 3).x; y = add (add (quad 1).y (quad 2).y) (quad 3).y; z = add (add (quad 1).z (quad 2).z) (quad 3).z }))
     (add (add (dot4E (quad 0) (quad 1)) (dot4E (quad 0) (quad 2))) (dot4E (quad 0) (quad 3))) refl
 
+-- how far a sum is above a plane
 pub above-sum : (a b c p q r : Weighted) → above a b c (sum4 p q r) ≡ above a b c p +ℤ above a b c q +ℤ above a b c r
 unfolding above
 above-sum a b c p q r = dot4-sum (plane_of a b c) p q r
@@ -183,10 +186,12 @@ above-sum a b c p q r = dot4-sum (plane_of a b c) p q r
 middle : Surface → (ℕ → Weighted) → ℕ → Weighted
 middle m at f = sum4 (at (m.i f)) (at (m.j f)) (at (m.k f))
 
+-- how far a facet's middle is above another
 rise-middle : (m : Surface) (at : ℕ → Weighted) (f g : ℕ) → rise m at f (middle m at g) ≡ rise m at f (at (m.i g)) +ℤ rise m at f (at (m.j g)) +ℤ rise m at f (at (m.k g))
 unfolding middle
 rise-middle m at f g = above-sum (at (m.i f)) (at (m.j f)) (at (m.k f)) (at (m.i g)) (at (m.j g)) (at (m.k g))
 
+-- a facet's middle lies on it
 middle_on : (m : Surface) (at : ℕ → Weighted) (f : ℕ) → rise m at f (middle m at f) ≡ pos 0
 middle_on m at f =
     three (rise m at f (at (m.i f))) (rise m at f (at (m.j f))) (rise m at f (at (m.k f))) (rise m at f (middle m at f)) (rise-middle m at f f) (rise_own m at f (m.i f) (inl refl)) (rise_own m at f (m.j f) (inr (inl refl))) (rise_own m at f (m.k f) (inr (inr refl)))
@@ -194,6 +199,7 @@ middle_on m at f =
     three : (a b c s : ℤ) → s ≡ a +ℤ b +ℤ c → a ≡ pos 0 → b ≡ pos 0 → c ≡ pos 0 → s ≡ pos 0
     three a b c s e h k l = omega (arith, ints)
 
+-- and above none
 middle_weak : (m : Surface) (at : ℕ → Weighted) → IsStrict m at → (f g : ℕ) → In f m.live → In g m.live → rise m at f (middle m at g) ≤ℤ pos 0
 middle_weak m at h f g i j =
     three (rise m at f (at (m.i g))) (rise m at f (at (m.j g))) (rise m at f (at (m.k g))) (rise m at f (middle m at g)) (rise-middle m at f g)
@@ -240,10 +246,12 @@ pub record Grown (m : Surface) (sees : ℕ → Bool) (c : ℕ → Bool) : Type 0
   pub has : c f0 ≡ true
   pub grows : (f : ℕ) → In f m.live → (s : Side) → c f ≡ true → sees (m.over f s) ≡ true → c (m.over f s) ≡ true
 
+-- the plane measures how far a point is above it
 pub plane-is : (a b c y : Weighted) → weighted_dot (plane_of a b c) y ≡ above a b c y
 unfolding above
 plane-is a b c y = refl
 
+-- the facets that see a point are all reached, where all is strict
 pub connected_at : (m : Surface) (at : ℕ → Weighted) (real : ℕ → Weighted) (o : Weighted) → IsWhole m → IsInner m real o → IsStrict m at → HasDistinctFacets m
     → (p : Weighted) (sees : ℕ → Bool) → ((f : ℕ) → In f m.live → sees f ≡ true → pos 0 <ℤ rise m at f p) → ((f : ℕ) → In f m.live → pos 0 <ℤ rise m at f p → sees f ≡ true)
     → (c : ℕ → Bool) → Grown m sees c → (f : ℕ) → In f m.live → sees f ≡ true → c f ≡ true

@@ -2,324 +2,31 @@
 use Rattle.qh_model.specs.Surface.{IsCorner, Side, Surface, HasTwin, IsWhole, end, far, rest, rise, start}
 use Rattle.qh_model.specs.Rewired.{IsHorizonSide, HasHorizonSide}
 use Rattle.qh_model.specs.Sets.{In}
-use Rattle.qh_model.specs.SoundSurface.{IsSound, IsStrict, drawn, towards}
+use Rattle.qh_model.specs.SoundSurface.{IsSound, drawn, towards}
 use Rattle.qh_model.specs.Weighted.{Weighted, above}
-use Rattle.std.proofs.Common.{◌≡◌, ◌≢◌, ℕ, ◌+◌, ◌≤◌, refl, [], ◌∷◌, arith, ap, sym, ◌∙◌, subst, ◌⊎◌, inl, inr, Bool, true, false}
+use Rattle.std.proofs.Common.{◌≡◌, ◌≢◌, ℕ, ◌+◌, ◌≤◌, refl, [], arith, ap, sym, ◌∙◌, subst, ◌⊎◌, inl, inr, Bool, true}
 use native.Mathlib.Decide.{ℕ_discrete}
 use Rattle.std.proofs.lemmas.Int.{ints, by_lt_z}
 use Rattle.std.specs.Prelude.{ℤ, pos, ◌-ℤ◌, ◌*ℤ◌, neg_ℤ, ◌≤ℤ◌, ◌<ℤ◌, ◌&&◌}
-use Rattle.qh_model.proofs.algebra.Order.{mul-pos, cancel-nonneg}
+use Rattle.qh_model.proofs.algebra.Order.{mul-pos, neg-positive}
 use Rattle.qh_model.proofs.algebra.Ring.{ring}
-use Rattle.qh_model.proofs.algebra.Ring.Expr.{var, sub as less, mul, neg}
+use Rattle.qh_model.proofs.algebra.Ring.Expr.{neg}
 use Rattle.qh_model.proofs.surfaces.VisibleFacets.{Least, least}
-use Rattle.qh_model.proofs.surfaces.Facets.{rise_side, rise_over, bends, weak, positive, positive-is, positive-true, corner_start, corner_end, corner_rest, corner_test, ends_differ, rest_differs}
-use Rattle.qh_model.specs.Surface.Side.{first, second, third}
+use Rattle.qh_model.proofs.surfaces.Facets.{rise_over, positive, positive-is, positive-true, corner_start, corner_rest, ends_differ, rest_differs}
 use Rattle.qh_model.proofs.surfaces.DrawnInwards.{Choice, choose}
-use Rattle.qh_model.proofs.surfaces.Determinants.{quad, aboveE, put4, above-turn}
+use Rattle.qh_model.proofs.surfaces.Determinants.{quad, aboveE, put4}
 use Rattle.qh_model.proofs.surfaces.PlanesThroughLine.{line_product}
-use Rattle.qh_model.proofs.surfaces.Cone.{Old, over_flip, turn_le, turn_lt, same_le, same_lt, same_pos, cone_strict, below_one}
+use Rattle.qh_model.proofs.surfaces.Cone.{Old}
 use Rattle.qh_model.proofs.surfaces.KeptSound.{edge_once, side_once}
-
--- ---- orders of four
-swap24 : (a b c d : Weighted) → above a d c b ≡ neg_ℤ (above a b c d)
-unfolding above
-swap24 a b c d = ring (put4 a (put4 b (put4 c (put4 d [])))) (aboveE (quad 0) (quad 3) (quad 2) (quad 1)) (neg (aboveE (quad 0) (quad 1) (quad 2) (quad 3))) refl
-
-swap23 : (a b c d : Weighted) → above a c b d ≡ neg_ℤ (above a b c d)
-unfolding above
-swap23 a b c d = ring (put4 a (put4 b (put4 c (put4 d [])))) (aboveE (quad 0) (quad 2) (quad 1) (quad 3)) (neg (aboveE (quad 0) (quad 1) (quad 2) (quad 3))) refl
-
-mixed : (v t x y : Weighted) → above x v y t ≡ neg_ℤ (above v t x y)
-unfolding above
-mixed v t x y = ring (put4 v (put4 t (put4 x (put4 y [])))) (aboveE (quad 2) (quad 0) (quad 3) (quad 1)) (neg (aboveE (quad 0) (quad 1) (quad 2) (quad 3))) refl
-
-turned_last : (u t y z : Weighted) → above u y z t ≡ above u t y z
-unfolding above
-turned_last u t y z = ring (put4 u (put4 t (put4 y (put4 z [])))) (aboveE (quad 0) (quad 2) (quad 3) (quad 1)) (aboveE (quad 0) (quad 1) (quad 2) (quad 3)) refl
-
--- ---- sides in turn
-abbrev pub side_next : Side → Side
-side_next first = second
-side_next second = third
-side_next third = first
-
-abbrev pub side_prev : Side → Side
-side_prev first = third
-side_prev second = first
-side_prev third = second
-
-start_next : (m : Surface) (f : ℕ) (s : Side) → start m f (side_next s) ≡ end m f s
-start_next m f first = refl
-start_next m f second = refl
-start_next m f third = refl
-
-end_next : (m : Surface) (f : ℕ) (s : Side) → end m f (side_next s) ≡ rest m f s
-end_next m f first = refl
-end_next m f second = refl
-end_next m f third = refl
-
-start_prev : (m : Surface) (f : ℕ) (s : Side) → start m f (side_prev s) ≡ rest m f s
-start_prev m f first = refl
-start_prev m f second = refl
-start_prev m f third = refl
-
-end_prev : (m : Surface) (f : ℕ) (s : Side) → end m f (side_prev s) ≡ start m f s
-end_prev m f first = refl
-end_prev m f second = refl
-end_prev m f third = refl
-
--- the side that starts at v
-pick_side : {P Q : Type 0} → Dec P → Dec Q → Side
-pick_side (yes a) b = first
-pick_side (no a) (yes b) = second
-pick_side (no a) (no b) = third
-
-pub from : (m : Surface) (f v : ℕ) → Side
-from m f v = pick_side (ℕ_discrete v (m.i f)) (ℕ_discrete v (m.j f))
-
-from_is : (m : Surface) (f v : ℕ) → IsCorner m f v → start m f (from m f v) ≡ v
-unfolding from pick_side
-from_is m f v c = split (ℕ_discrete v (m.i f)) (ℕ_discrete v (m.j f)) c
-  where
-    split : (a : Dec (v ≡ m.i f)) (b : Dec (v ≡ m.j f)) → IsCorner m f v → start m f (pick_side a b) ≡ v
-    split (yes a) b k = sym a
-    split (no a) (yes b) k = sym b
-    split (no a) (no b) (inl e) = absurd (a e)
-    split (no a) (no b) (inr (inl e)) = absurd (b e)
-    split (no a) (no b) (inr (inr e)) = sym e
-
--- ---- signs
-pos-neg : (a b : ℤ) → pos 0 <ℤ a → b <ℤ pos 0 → (a *ℤ b) <ℤ pos 0
-pos-neg a b h k = grind (arith, ints, cancel-nonneg)
-
-neg-neg : (a b : ℤ) → a <ℤ pos 0 → b <ℤ pos 0 → pos 0 <ℤ (a *ℤ b)
-neg-neg a b h k = over_neg a b (mul-pos (neg_ℤ a) (neg_ℤ b) (up a h) (up b k))
-  where
-    up : (x : ℤ) → x <ℤ pos 0 → pos 0 <ℤ neg_ℤ x
-    up x h = omega (arith, ints)
-
-    same : (a b : ℤ) → neg_ℤ a *ℤ neg_ℤ b ≡ a *ℤ b
-    same a b = ring (a ∷ b ∷ []) (mul (neg (var 0)) (neg (var 1))) (mul (var 0) (var 1)) refl
-
-    over_neg : (a b : ℤ) → pos 0 <ℤ (neg_ℤ a *ℤ neg_ℤ b) → pos 0 <ℤ (a *ℤ b)
-    over_neg a b h = subst (λ v. pos 0 <ℤ v) (same a b) h
-
-turned : (x : ℤ) → x <ℤ pos 0 → pos 0 <ℤ neg_ℤ x
-turned x h = omega (arith, ints)
-
-back_neg : (x r : ℤ) → x ≡ neg_ℤ r → pos 0 <ℤ x → r <ℤ pos 0
-back_neg x r e h = omega (arith, ints)
-
-back_pos : (x r : ℤ) → x ≡ neg_ℤ r → x <ℤ pos 0 → pos 0 <ℤ r
-back_pos x r e h = omega (arith, ints)
-
-apart_signs : (x : ℤ) → pos 0 <ℤ x → x <ℤ pos 0 → ⊥
-apart_signs x h k = omega (arith, ints)
-
-both_true : (a b : Bool) → (a && b) ≡ true → (a ≡ true) × (b ≡ true)
-both_true true true e = (refl, refl)
-both_true true false e = cc
-both_true false b e = cc
-
--- ---- at drawn places: every facet sees top or is seen to be above it
-pub record Scene (m : Surface) (home : ℕ → Weighted) (o : Weighted) : Type 0 where
-  pub whole : IsWhole m
-  pub sound : IsSound m home o
-  pub at : ℕ → Weighted
-  pub strict : IsStrict m at
-  pub top : Weighted
-  pub known : (f : ℕ) → In f m.live → (pos 0 <ℤ rise m at f top) ⊎ (rise m at f top <ℤ pos 0)
-
--- a side of the horizon
-pub record Rim (m : Surface) (at : ℕ → Weighted) (top : Weighted) (f : ℕ) (s : Side) : Type 0 where
-  pub live : In f m.live
-  pub seen : pos 0 <ℤ rise m at f top
-  pub blind : rise m at (m.over f s) top <ℤ pos 0
-
--- all other corners are strictly below the plane through a rim side and top
-rim_below : (m : Surface) (home : ℕ → Weighted) (o : Weighted) (c : Scene m home o) (f : ℕ) (s : Side) → Rim m c.at c.top f s → (l : ℕ) → Old m l → l ≢ start m f s → l ≢ end m f s
-    → above (c.at (start m f s)) (c.at (end m f s)) c.top (c.at l) <ℤ pos 0
-rim_below m home o c f s r l (g, j, k) ns ne =
-    cone_strict (c.at (start m f s)) (c.at (end m f s)) (c.at (rest m f s)) (c.at (far m f s)) c.top (c.at l)
-    (same_pos (rise m c.at f c.top) _ (rise_side m c.at f s c.top) r.seen)
-    (turn_lt (rise m c.at (m.over f s) c.top) _ (over_flip m c.at c.whole f r.live s c.top) r.blind)
-    (bends m c.at home o c.whole c.sound.inner c.strict f r.live s)
-    (same_le (rise m c.at f (c.at l)) _ (rise_side m c.at f s (c.at l)) (weak m c.at c.strict f g r.live j l k))
-    (turn_le (rise m c.at (m.over f s) (c.at l)) _ (over_flip m c.at c.whole f r.live s (c.at l)) (weak m c.at c.strict (m.over f s) g (c.whole f r.live s).live j l k))
-    (below_one m home o c.whole c.sound.inner c.at c.strict f r.live s l (g, j, k) ns ne)
-
--- a rim side is known by its start, and by its end
-pub rim_once : (m : Surface) (home : ℕ → Weighted) (o : Weighted) (c : Scene m home o) (f g : ℕ) (s t : Side) → Rim m c.at c.top f s → Rim m c.at c.top g t → start m f s ≡ start m g t → (f ≡ g) × (s ≡ t)
-rim_once m home o c f g s t a b e = pick (ℕ_discrete (end m f s) (end m g t))
-  where
-    same : end m f s ≡ end m g t → (f ≡ g) × (s ≡ t)
-    same k = let q = edge_once m home o c.sound f g a.live b.live s t e k in (q, side_once m home o c.sound.inner g b.live s t (ap (λ h. start m h s) (sym q) ∙ e))
-
-    never : end m f s ≢ end m g t → ⊥
-    never n =
-        apart_signs (above (c.at (start m f s)) (c.at (end m f s)) c.top (c.at (end m g t)))
-        (back_pos (above (c.at (start m f s)) (c.at (end m g t)) c.top (c.at (end m f s))) _ (swap24 (c.at (start m f s)) (c.at (end m f s)) c.top (c.at (end m g t)))
-        (subst (λ u. above (c.at u) (c.at (end m g t)) c.top (c.at (end m f s)) <ℤ pos 0) (sym e)
-        (rim_below m home o c g t b (end m f s) (f, a.live, corner_end m f s) (λ q. ends_differ m home o c.sound.inner f a.live s (e ∙ sym q)) n)))
-        (rim_below m home o c f s a (end m g t) (g, b.live, corner_end m g t) (λ q. ends_differ m home o c.sound.inner g b.live t (sym e ∙ sym q)) (λ q. n (sym q)))
-
-    pick : Dec (end m f s ≡ end m g t) → (f ≡ g) × (s ≡ t)
-    pick (yes k) = same k
-    pick (no n) = absurd (never n)
-
--- ---- where a rim side ends another begins
-has_corner : (m : Surface) (f v : ℕ) → Bool
-has_corner m f v = elim (corner_test m f v) [ inl c ↦ true | inr n ↦ false ]
-
-has_corner-is : (m : Surface) (f v : ℕ) → has_corner m f v ≡ true → IsCorner m f v
-unfolding has_corner
-has_corner-is m f v e = pick (corner_test m f v) e
-  where
-    pick : (d : IsCorner m f v ⊎ (¬ (IsCorner m f v))) → elim d [ inl c ↦ true | inr n ↦ false ] ≡ true → IsCorner m f v
-    pick (inl c) k = c
-    pick (inr n) k = cc
-
-has_corner-true : (m : Surface) (f v : ℕ) → IsCorner m f v → has_corner m f v ≡ true
-unfolding has_corner
-has_corner-true m f v c = pick (corner_test m f v)
-  where
-    pick : (d : IsCorner m f v ⊎ (¬ (IsCorner m f v))) → elim d [ inl c ↦ true | inr n ↦ false ] ≡ true
-    pick (inl k) = refl
-    pick (inr n) = absurd (n c)
-
-pub record Joined (m : Surface) (at : ℕ → Weighted) (top : Weighted) (v : ℕ) : Type 0 where
-  pub f : ℕ
-  pub s : Side
-  pub rim : Rim m at top f s
-  pub starts : start m f s ≡ v
-
-pub rim_next : (m : Surface) (home : ℕ → Weighted) (o : Weighted) (c : Scene m home o) (f : ℕ) (s : Side) → Rim m c.at c.top f s → Joined m c.at c.top (end m f s)
-rim_next m home o c f s r = pick (least mark p q m.live (λ g i e. p_pos g i e))
-  where
-    at : ℕ → Weighted
-    at = c.at
-
-    top : Weighted
-    top = c.top
-
-    u : ℕ
-    u = start m f s
-
-    v : ℕ
-    v = end m f s
-
-    w : ℕ
-    w = rest m f s
-
-    mark : ℕ → Bool
-    mark g = positive (rise m at g top) && has_corner m g v
-
-    out : ℕ → ℕ
-    out g = end m g (from m g v)
-
-    p : ℕ → ℤ
-    p g = neg_ℤ (above (at v) top (at u) (at (out g)))
-
-    q : ℕ → ℤ
-    q g = neg_ℤ (above (at v) top (at w) (at (out g)))
-
-    seen : (g : ℕ) → mark g ≡ true → pos 0 <ℤ rise m at g top
-    seen g e = positive-is (rise m at g top) (both_true (positive (rise m at g top)) (has_corner m g v) e).0
-
-    corner : (g : ℕ) → mark g ≡ true → IsCorner m g v
-    corner g e = has_corner-is m g v (both_true (positive (rise m at g top)) (has_corner m g v) e).1
-
-    marked : (g : ℕ) → pos 0 <ℤ rise m at g top → IsCorner m g v → mark g ≡ true
-    marked g a b = rw (positive-true (rise m at g top) a, has_corner-true m g v b) refl
-
-    starts : (g : ℕ) → mark g ≡ true → start m g (from m g v) ≡ v
-    starts g e = from_is m g v (corner g e)
-
-    t : HasTwin m f s
-    t = c.whole f r.live s
-
-    -- the way back over the rim side is no seen facet's
-    out_not_u : (g : ℕ) → In g m.live → mark g ≡ true → out g ≢ u
-    out_not_u g i e k =
-        apart_signs (rise m at g top) (seen g e)
-        (subst (λ h. rise m at h top <ℤ pos 0) (sym (edge_once m home o c.sound g (m.over f s) i t.live (from m g v) (m.back f s) (starts g e ∙ sym t.start_is) (k ∙ sym t.end_is))) r.blind)
-
-    below : (l : ℕ) → Old m l → l ≢ u → l ≢ v → above (at v) top (at u) (at l) <ℤ pos 0
-    below l k a b = same_lt (above (at u) (at v) top (at l)) _ (above-turn (at u) (at v) top (at l)) (rim_below m home o c f s r l k a b)
-
-    p_pos : (g : ℕ) → In g m.live → mark g ≡ true → pos 0 <ℤ p g
-    p_pos g i e = turned (above (at v) top (at u) (at (out g))) (below (out g) (g, i, corner_end m g (from m g v)) (out_not_u g i e) (λ k. ends_differ m home o c.sound.inner g i (from m g v) (starts g e ∙ sym k)))
-
-    vw : above (at v) top (at u) (at w) <ℤ pos 0
-    vw = let d = rest_differs m home o c.sound.inner f r.live s in below w (f, r.live, corner_rest m f s) d.0 d.1
-
-    products : (a b x y k : ℤ) → a *ℤ b -ℤ x *ℤ y ≡ k → pos 0 <ℤ k → pos 0 <ℤ (neg_ℤ a *ℤ neg_ℤ b -ℤ neg_ℤ y *ℤ neg_ℤ x)
-    products a b x y k e h = subst (λ z. pos 0 <ℤ z) (sym (same a b x y ∙ e)) h
-      where
-        same : (a b x y : ℤ) → neg_ℤ a *ℤ neg_ℤ b -ℤ neg_ℤ y *ℤ neg_ℤ x ≡ a *ℤ b -ℤ x *ℤ y
-        same a b x y = ring (a ∷ b ∷ x ∷ y ∷ []) (less (mul (neg (var 0)) (neg (var 1))) (mul (neg (var 3)) (neg (var 2)))) (less (mul (var 0) (var 1)) (mul (var 2) (var 3))) refl
-
-    -- the facet over the side that starts at v comes before
-    further : (g : ℕ) → In g m.live → mark g ≡ true → (d : Side) → from m g v ≡ d → pos 0 <ℤ rise m at (m.over g d) top → (mark (m.over g d) ≡ true) × (pos 0 <ℤ (p g *ℤ q (m.over g d) -ℤ q g *ℤ p (m.over g d)))
-    further g i e d de k = (mk, less_)
-      where
-        g' : ℕ
-        g' = m.over g d
-
-        tw : HasTwin m g d
-        tw = c.whole g i d
-
-        st : start m g d ≡ v
-        st = ap (start m g) (sym de) ∙ starts g e
-
-        ends_at_v : end m g' (m.back g d) ≡ v
-        ends_at_v = tw.end_is ∙ st
-
-        mk : mark g' ≡ true
-        mk = marked g' k (subst (IsCorner m g') ends_at_v (corner_end m g' (m.back g d)))
-
-        turn : from m g' v ≡ side_next (m.back g d)
-        turn = side_once m home o c.sound.inner g' tw.live (from m g' v) (side_next (m.back g d)) (starts g' mk ∙ sym ends_at_v ∙ sym (start_next m g' (m.back g d)))
-
-        out' : out g' ≡ far m g d
-        out' = ap (end m g') turn ∙ end_next m g' (m.back g d)
-
-        outg : out g ≡ end m g d
-        outg = ap (end m g) de
-
-        rising : rise m at g' top ≡ neg_ℤ (above (at v) top (at (out g)) (at (out g')))
-        rising =
-            rise_over m at c.whole g i d top
-            ∙ ap (λ z. above (at (end m g d)) (at z) (at (far m g d)) top) st
-            ∙ ap (λ z. above (at z) (at v) (at (far m g d)) top) (sym outg)
-            ∙ ap (λ z. above (at (out g)) (at v) (at z) top) (sym out')
-            ∙ mixed (at v) top (at (out g)) (at (out g'))
-
-        less_ : pos 0 <ℤ (p g *ℤ q g' -ℤ q g *ℤ p g')
-        less_ =
-            products (above (at v) top (at u) (at (out g))) (above (at v) top (at w) (at (out g'))) (above (at v) top (at u) (at (out g'))) (above (at v) top (at w) (at (out g))) (above (at v) top (at u) (at w) *ℤ above (at v) top (at (out g)) (at (out g')))
-            (line_product (at v) top (at u) (at w) (at (out g)) (at (out g')))
-            (neg-neg (above (at v) top (at u) (at w)) (above (at v) top (at (out g)) (at (out g'))) vw (back_neg (rise m at g' top) _ rising k))
-
-    last : (l : Least mark p q m.live) → Joined m at top v
-    last l = by (c.known (m.over l.m d) (c.whole l.m l.there d).live)
-      where
-        d : Side
-        d = from m l.m v
-
-        by : (pos 0 <ℤ rise m at (m.over l.m d) top) ⊎ (rise m at (m.over l.m d) top <ℤ pos 0) → Joined m at top v
-        by (inl k) = let h = further l.m l.there l.marked d refl k in absurd (l.least (m.over l.m d) (c.whole l.m l.there d).live h.0 h.1)
-        by (inr k) = record { f = l.m; s = d; rim = record { live = l.there; seen = seen l.m l.marked; blind = k }; starts = starts l.m l.marked }
-
-    pick : ((g : ℕ) → In g m.live → mark g ≡ true → ⊥) ⊎ Least mark p q m.live → Joined m at top v
-    pick (inl n) = absurd (n f r.live (marked f r.seen (corner_end m f s)))
-    pick (inr l) = last l
+use Rattle.qh_model.proofs.Booleans.{both_true}
+use Rattle.qh_model.proofs.surfaces.Rim.{swap23, turned_last, side_prev, start_prev, end_prev, from, from_is, back_pos, apart_signs, Scene, Rim, rim_below, rim_once, has_corner, has_corner-is, has_corner-true, rim_next}
 
 -- ---- and where it starts another ends
 swap14 : (a b c d : Weighted) → above d b c a ≡ neg_ℤ (above a b c d)
 unfolding above
 swap14 a b c d = ring (put4 a (put4 b (put4 c (put4 d [])))) (aboveE (quad 3) (quad 1) (quad 2) (quad 0)) (neg (aboveE (quad 0) (quad 1) (quad 2) (quad 3))) refl
 
+-- a rim side is known by its end
 pub rim_once_end : (m : Surface) (home : ℕ → Weighted) (o : Weighted) (c : Scene m home o) (f g : ℕ) (s t : Side) → Rim m c.at c.top f s → Rim m c.at c.top g t → end m f s ≡ end m g t → start m f s ≡ start m g t
 rim_once_end m home o c f g s t a b e = pick (ℕ_discrete (start m f s) (start m g t))
   where
@@ -335,12 +42,14 @@ rim_once_end m home o c f g s t a b e = pick (ℕ_discrete (start m f s) (start 
     pick (yes k) = k
     pick (no n) = absurd (never n)
 
+-- a rim side that ends at u
 pub record Ended (m : Surface) (at : ℕ → Weighted) (top : Weighted) (u : ℕ) : Type 0 where
   pub f : ℕ
   pub s : Side
   pub rim : Rim m at top f s
   pub ends : end m f s ≡ u
 
+-- where a rim side starts another ends
 pub rim_prev : (m : Surface) (home : ℕ → Weighted) (o : Weighted) (c : Scene m home o) (f : ℕ) (s : Side) → Rim m c.at c.top f s → Ended m c.at c.top (start m f s)
 rim_prev m home o c f s r = pick (least mark p q m.live (λ g i e. p_pos g i e))
   where
@@ -392,7 +101,7 @@ rim_prev m home o c f s r = pick (least mark p q m.live (λ g i e. p_pos g i e))
         (subst (λ h. rise m at h top <ℤ pos 0) (sym (edge_once m home o c.sound g (m.over f s) i t.live (side_prev (from m g u)) (m.back f s) (start_prev m g (from m g u) ∙ k ∙ sym t.start_is) (end_prev m g (from m g u) ∙ starts g e ∙ sym t.end_is))) r.blind)
 
     over_plane : (l : ℕ) → Old m l → l ≢ u → l ≢ v → pos 0 <ℤ above (at u) top (at v) (at l)
-    over_plane l k a b = subst (λ z. pos 0 <ℤ z) (sym (swap23 (at u) (at v) top (at l))) (turned (above (at u) (at v) top (at l)) (rim_below m home o c f s r l k a b))
+    over_plane l k a b = subst (λ z. pos 0 <ℤ z) (sym (swap23 (at u) (at v) top (at l))) (neg-positive (above (at u) (at v) top (at l)) (rim_below m home o c f s r l k a b))
 
     p_pos : (g : ℕ) → In g m.live → mark g ≡ true → pos 0 <ℤ p g
     p_pos g i e = over_plane (inn g) (g, i, corner_rest m g (from m g u)) (λ k. (rest_differs m home o c.sound.inner g i (from m g u)).0 (k ∙ sym (starts g e))) (inn_not_v g i e)
@@ -467,6 +176,7 @@ pub record Shown (m : Surface) (home : ℕ → Weighted) (o p : Weighted) : Type
   pub rim : (f : ℕ) (s : Side) → IsHorizonSide m home p f s → Rim m scene.at scene.top f s
   pub edge : (f : ℕ) (s : Side) → Rim m scene.at scene.top f s → IsHorizonSide m home p f s
 
+-- for a real point the scene can be set
 pub shown : (m : Surface) (home : ℕ → Weighted) (o : Weighted) → IsWhole m → IsSound m home o → (p : Weighted) → Shown m home o p
 shown m home o w z p =
     record {
@@ -512,12 +222,15 @@ shown m home o w z p =
 pub edge_next : (m : Surface) (home : ℕ → Weighted) (o : Weighted) → IsWhole m → IsSound m home o → (p : Weighted) (f : ℕ) (s : Side) → IsHorizonSide m home p f s → HasHorizonSide m home p (λ g t. start m g t ≡ end m f s)
 edge_next m home o w z p f s e = let h = shown m home o w z p in let j = rim_next m home o h.scene f s (h.rim f s e) in record { f = j.f; s = j.s; edge = h.edge j.f j.s j.rim; is = j.starts }
 
+-- and one before it
 pub edge_prev : (m : Surface) (home : ℕ → Weighted) (o : Weighted) → IsWhole m → IsSound m home o → (p : Weighted) (f : ℕ) (s : Side) → IsHorizonSide m home p f s → HasHorizonSide m home p (λ g t. end m g t ≡ start m f s)
 edge_prev m home o w z p f s e = let h = shown m home o w z p in let j = rim_prev m home o h.scene f s (h.rim f s e) in record { f = j.f; s = j.s; edge = h.edge j.f j.s j.rim; is = j.ends }
 
+-- known by its start
 pub edge_known_by_start : (m : Surface) (home : ℕ → Weighted) (o : Weighted) → IsWhole m → IsSound m home o → (p : Weighted) (f g : ℕ) (s t : Side) → IsHorizonSide m home p f s → IsHorizonSide m home p g t → start m f s ≡ start m g t → (f ≡ g) × (s ≡ t)
 edge_known_by_start m home o w z p f g s t a b e = let h = shown m home o w z p in rim_once m home o h.scene f g s t (h.rim f s a) (h.rim g t b) e
 
+-- known by its end
 pub edge_known_by_end : (m : Surface) (home : ℕ → Weighted) (o : Weighted) → IsWhole m → IsSound m home o → (p : Weighted) (f g : ℕ) (s t : Side) → IsHorizonSide m home p f s → IsHorizonSide m home p g t → end m f s ≡ end m g t → (f ≡ g) × (s ≡ t)
 edge_known_by_end m home o w z p f g s t a b e =
     let h = shown m home o w z p in rim_once m home o h.scene f g s t (h.rim f s a) (h.rim g t b) (rim_once_end m home o h.scene f g s t (h.rim f s a) (h.rim g t b) e)

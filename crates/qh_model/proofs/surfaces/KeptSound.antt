@@ -9,7 +9,7 @@ use Rattle.std.specs.Prelude.{ℤ, pos, neg_ℤ, ◌≤ℤ◌, ◌<ℤ◌}
 use Rattle.qh_model.proofs.surfaces.Facets.{rise_side, corner_start, corner_end, corner_rest, corner_cases, corner_test, ends_differ}
 use Rattle.qh_model.specs.Surface.Side.{first, second, third}
 use Rattle.qh_model.proofs.surfaces.Determinants.{above-swap_last}
-use Rattle.qh_model.proofs.surfaces.Cone.{KeptOf, ConeOf, Replaced, Old, p_fresh, kept_corner, kept_corner', inner_kept, lifted_kept}
+use Rattle.qh_model.proofs.surfaces.Cone.{KeptOf, ConeOf, Replaced, Old, p_fresh, kept_corner, corner_kept, inner_kept, lifted_kept}
 
 -- all corners of a facet from those of a side
 pub from_side : (m : Surface) (f : ℕ) (s : Side) (P : ℕ → Type 0) → P (start m f s) → P (end m f s) → P (rest m f s) → (l : ℕ) → IsCorner m f l → P l
@@ -67,6 +67,7 @@ two_places x y z u v a b c (inl p) (inr q) (inr r) = b (q ∙ sym r)
 two_places x y z u v a b c (inr p) (inl q) (inl r) = b (q ∙ sym r)
 two_places x y z u v a b c (inr p) (inl q) (inr r) = c (r ∙ sym p)
 
+-- the facets still differ
 distinct_kept : (m m' : Surface) (home : ℕ → Weighted) (o : Weighted) (p : ℕ) → IsWhole m → IsSound m home o → Replaced m m' home p → HasDistinctFacets m'
 distinct_kept m m' home o p w q r f' g' i j within = go (r.origin f' i) (r.origin g' j)
   where
@@ -88,7 +89,7 @@ distinct_kept m m' home o p w q r f' g' i j within = go (r.origin f' i) (r.origi
         one l c = end_of n l (f', k.live, c) (within l (kept_corner m m' home p f' l k c))
 
     cone_kept : ConeOf m m' home p r.number f' → KeptOf m m' home p g' → ⊥
-    cone_kept n k = p_fresh m m' home o p q.lifted r (g', k.live, kept_corner' m m' home p g' p k (within p (inr (inr (sym n.k_is)))))
+    cone_kept n k = p_fresh m m' home o p q.lifted r (g', k.live, corner_kept m m' home p g' p k (within p (inr (inr (sym n.k_is)))))
 
     cone_cone : ConeOf m m' home p r.number f' → ConeOf m m' home p r.number g' → f' ≡ g'
     cone_cone a b = pick (end_of b (start m a.f a.s) (a.f, a.live, corner_start m a.f a.s) (within (start m a.f a.s) (inl (sym a.i_is)))) (end_of b (end m a.f a.s) (a.f, a.live, corner_end m a.f a.s) (within (end m a.f a.s) (inr (inl (sym a.j_is)))))
@@ -114,7 +115,7 @@ distinct_kept m m' home o p w q r f' g' i j within = go (r.origin f' i) (r.origi
         pick (inr x) (inr y) = absurd (ends_differ m home o q.inner a.f a.live a.s (x ∙ sym y))
 
     go : KeptOf m m' home p f' ⊎ ConeOf m m' home p r.number f' → KeptOf m m' home p g' ⊎ ConeOf m m' home p r.number g' → f' ≡ g'
-    go (inl k) (inl n) = q.distinct f' g' k.live n.live (λ l c. kept_corner' m m' home p g' l n (within l (kept_corner m m' home p f' l k c)))
+    go (inl k) (inl n) = q.distinct f' g' k.live n.live (λ l c. corner_kept m m' home p g' l n (within l (kept_corner m m' home p f' l k c)))
     go (inl k) (inr n) = absurd (kept_cone k n)
     go (inr n) (inl k) = absurd (cone_kept n k)
     go (inr a) (inr b) = cone_cone a b

@@ -6,13 +6,13 @@ use Rattle.qh_model.specs.Weighted.{Weighted, above}
 use Rattle.std.proofs.Common.{◌≡◌, ℕ, suc, ◌≤◌, refl, [], ◌∷◌, arith, sym, subst, ◌⊎◌, inl, inr, true}
 use Rattle.std.proofs.lemmas.Int.{ints, by_lt_z}
 use Rattle.std.specs.Prelude.{ℤ, pos, ◌-ℤ◌, ◌*ℤ◌, neg_ℤ, ◌≤ℤ◌, ◌<ℤ◌}
-use Rattle.qh_model.proofs.algebra.Order.{mul-pos, cancel-nonneg, cancel-nonpos}
+use Rattle.qh_model.proofs.algebra.Order.{mul-pos, cancel-nonpos, mul-pos_neg, neg-positive}
 use Rattle.qh_model.proofs.algebra.Ring.{ring}
-use Rattle.qh_model.proofs.algebra.Ring.Expr.{var, con, add, sub as less, mul, neg}
+use Rattle.qh_model.proofs.algebra.Ring.Expr.{var, sub as less, mul, neg}
 use Rattle.qh_model.proofs.surfaces.VisibleFacets.{Least, least, crosses}
 use Rattle.qh_model.proofs.surfaces.Facets.{rise_side, rise_over, bends}
-use Rattle.qh_model.proofs.surfaces.DrawnInwards.{cube}
-use Rattle.qh_model.proofs.surfaces.Determinants.{quad, dot4E, aboveE, put4, above-third, above-turn}
+use Rattle.qh_model.proofs.surfaces.DrawnInwards.{towardsE, cube}
+use Rattle.qh_model.proofs.surfaces.Determinants.{quad, aboveE, put4}
 
 -- the facet over which x lies: x is beyond none of the planes through o and a side
 pub record Located (m : Surface) (home : ℕ → Weighted) (o x : Weighted) : Type 0 where
@@ -20,32 +20,25 @@ pub record Located (m : Surface) (home : ℕ → Weighted) (o x : Weighted) : Ty
   pub live : In f m.live
   pub within : (s : Side) → above (home (start m f s)) (home (end m f s)) x o ≤ℤ pos 0
 
-abbrev liftE : (k n h : ℕ) → (i : Rattle.qh_model.proofs.surfaces.Determinants.QE → Rattle.qh_model.proofs.algebra.Ring.Expr) → Rattle.qh_model.proofs.algebra.Ring.Expr
-liftE k n h i = add (mul (var n) (i (quad k))) (mul (var h) (i (quad 0)))
-
 -- drawing towards o moves nothing as seen from o
 above-drawn : (o a b x : Weighted) (n h i : ℤ) → above (towards o n a h) (towards o n b i) x o ≡ n *ℤ n *ℤ above a b x o
 unfolding above
 above-drawn o a b x n h i =
     ring (put4 o (put4 a (put4 b (put4 x (n ∷ h ∷ i ∷ [])))))
-    (aboveE (record { w = liftE 1 16 17 (λ q. q.w); x = liftE 1 16 17 (λ q. q.x); y = liftE 1 16 17 (λ q. q.y); z = liftE 1 16 17 (λ q. q.z) }) (record { w = liftE 2 16 18 (λ q. q.w); x = liftE 2 16 18 (λ q. q.x); y = liftE 2 16 18 (λ q. q.y); z = liftE 2 16 18 (λ q. q.z) }) (quad 3) (quad 0))
+    (aboveE (towardsE (quad 0) (var 16) (quad 1) (var 17)) (towardsE (quad 0) (var 16) (quad 2) (var 18)) (quad 3) (quad 0))
     (mul (mul (var 16) (var 16)) (aboveE (quad 1) (quad 2) (quad 3) (quad 0))) refl
 
+-- three drawn corners
 above-drawn3 : (o a b c : Weighted) (n h i j : ℤ) → above (towards o n a h) (towards o n b i) (towards o n c j) o ≡ n *ℤ n *ℤ n *ℤ above a b c o
 unfolding above
 above-drawn3 o a b c n h i j =
     ring (put4 o (put4 a (put4 b (put4 c (n ∷ h ∷ i ∷ j ∷ [])))))
-    (aboveE (record { w = liftE 1 16 17 (λ q. q.w); x = liftE 1 16 17 (λ q. q.x); y = liftE 1 16 17 (λ q. q.y); z = liftE 1 16 17 (λ q. q.z) }) (record { w = liftE 2 16 18 (λ q. q.w); x = liftE 2 16 18 (λ q. q.x); y = liftE 2 16 18 (λ q. q.y); z = liftE 2 16 18 (λ q. q.z) }) (record { w = liftE 3 16 19 (λ q. q.w); x = liftE 3 16 19 (λ q. q.x); y = liftE 3 16 19 (λ q. q.y); z = liftE 3 16 19 (λ q. q.z) }) (quad 0))
+    (aboveE (towardsE (quad 0) (var 16) (quad 1) (var 17)) (towardsE (quad 0) (var 16) (quad 2) (var 18)) (towardsE (quad 0) (var 16) (quad 3) (var 19)) (quad 0))
     (mul (mul (mul (var 16) (var 16)) (var 16)) (aboveE (quad 1) (quad 2) (quad 3) (quad 0))) refl
 
-pos-neg : (a b : ℤ) → pos 0 <ℤ a → b <ℤ pos 0 → (a *ℤ b) <ℤ pos 0
-pos-neg a b h k = grind (arith, ints, cancel-nonneg)
-
-turned : (x : ℤ) → x <ℤ pos 0 → pos 0 <ℤ neg_ℤ x
-turned x h = omega (arith, ints)
-
+-- there is one
 pub located : (m : Surface) (home : ℕ → Weighted) (o : Weighted) → IsWhole m → IsSound m home o → (f0 : ℕ) → In f0 m.live → (x : Weighted) → Located m home o x
-located m home o w z f0 i0 x = pick (least (λ f. true) (λ f. neg_ℤ (rise m at f o)) (λ f. rise m at f x) m.live (λ g i e. turned (rise m at g o) (inside g i)))
+located m home o w z f0 i0 x = pick (least (λ f. true) (λ f. neg_ℤ (rise m at f o)) (λ f. rise m at f x) m.live (λ g i e. neg-positive (rise m at g o) (inside g i)))
   where
     n : ℕ
     n = suc z.lifted.from
@@ -68,7 +61,7 @@ located m home o w z f0 i0 x = pick (least (λ f. true) (λ f. neg_ℤ (rise m a
     inside : (g : ℕ) → In g m.live → rise m at g o <ℤ pos 0
     inside g i =
         subst (λ v. v <ℤ pos 0) (sym (above-drawn3 o (home (m.i g)) (home (m.j g)) (home (m.k g)) (pos n) (pos (z.lifted.h (m.i g))) (pos (z.lifted.h (m.j g))) (pos (z.lifted.h (m.k g)))))
-        (pos-neg (pos n *ℤ pos n *ℤ pos n) (rise m home g o) (cube z.lifted.from n (some' z.lifted.from)) (z.inner g i))
+        (mul-pos_neg (pos n *ℤ pos n *ℤ pos n) (rise m home g o) (cube z.lifted.from n (some' z.lifted.from)) (z.inner g i))
       where
         some' : (a : ℕ) → suc a ≤ suc a
         some' a = omega arith

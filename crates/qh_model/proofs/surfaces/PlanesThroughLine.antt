@@ -17,6 +17,7 @@ pub record Line : Type 0 where
   pub xz : ℤ
   pub yz : ℤ
 
+-- the line through two points
 abbrev line : Weighted → Weighted → Line
 line u v =
     record {
@@ -28,11 +29,13 @@ line u v =
       yz = u.y *ℤ v.z -ℤ u.z *ℤ v.y;
     }
 
+-- how far q is above the plane through the line and p
 unfoldable round : Line → Weighted → Weighted → ℤ
 round l p q =
     l.wx *ℤ (p.y *ℤ q.z -ℤ p.z *ℤ q.y) -ℤ l.wy *ℤ (p.x *ℤ q.z -ℤ p.z *ℤ q.x) +ℤ l.wz *ℤ (p.x *ℤ q.y -ℤ p.y *ℤ q.x)
     +ℤ l.xy *ℤ (p.w *ℤ q.z -ℤ p.z *ℤ q.w) -ℤ l.xz *ℤ (p.w *ℤ q.y -ℤ p.y *ℤ q.w) +ℤ l.yz *ℤ (p.w *ℤ q.x -ℤ p.x *ℤ q.w)
 
+-- 0 for a line
 unfoldable skew : Line → ℤ
 skew l = l.wx *ℤ l.yz -ℤ l.wy *ℤ l.xz +ℤ l.wz *ℤ l.xy
 
@@ -41,12 +44,15 @@ abbrev roundE : ℕ → QE → QE → Expr
 roundE k p q =
     add (less (add (add (less (mul (var k) (less (mul p.y q.z) (mul p.z q.y))) (mul (var (k + 1)) (less (mul p.x q.z) (mul p.z q.x)))) (mul (var (k + 2)) (less (mul p.x q.y) (mul p.y q.x)))) (mul (var (k + 3)) (less (mul p.w q.z) (mul p.z q.w)))) (mul (var (k + 4)) (less (mul p.w q.y) (mul p.y q.w)))) (mul (var (k + 5)) (less (mul p.w q.x) (mul p.x q.w)))
 
+-- the same of expressions
 abbrev skewE : ℕ → Expr
 skewE k = add (less (mul (var k) (var (k + 5))) (mul (var (k + 1)) (var (k + 4)))) (mul (var (k + 2)) (var (k + 3)))
 
+-- a determinant of two rows
 abbrev minorE : Expr → Expr → Expr → Expr → Expr
 minorE a b c d = less (mul a d) (mul b c)
 
+-- it is `above`
 round-is : (u v p q : Weighted) → above u v p q ≡ round (line u v) p q
 unfolding above round
 round-is u v p q =
@@ -55,6 +61,7 @@ round-is u v p q =
     let U = quad 0 in let V = quad 1 in let P = quad 2 in let Q = quad 3 in
     add (less (add (add (less (mul (minorE U.w U.x V.w V.x) (less (mul P.y Q.z) (mul P.z Q.y))) (mul (minorE U.w U.y V.w V.y) (less (mul P.x Q.z) (mul P.z Q.x)))) (mul (minorE U.w U.z V.w V.z) (less (mul P.x Q.y) (mul P.y Q.x)))) (mul (minorE U.x U.y V.x V.y) (less (mul P.w Q.z) (mul P.z Q.w)))) (mul (minorE U.x U.z V.x V.z) (less (mul P.w Q.y) (mul P.y Q.w)))) (mul (minorE U.y U.z V.y V.z) (less (mul P.w Q.x) (mul P.x Q.w)))) refl
 
+-- a line through two points is one
 skew-zero : (u v : Weighted) → skew (line u v) ≡ pos 0
 unfolding skew
 skew-zero u v =
@@ -63,6 +70,7 @@ skew-zero u v =
     let U = quad 0 in let V = quad 1 in
     add (less (mul (minorE U.w U.x V.w V.x) (minorE U.y U.z V.y V.z)) (mul (minorE U.w U.y V.w V.y) (minorE U.x U.z V.x V.z))) (mul (minorE U.w U.z V.w V.z) (minorE U.x U.y V.x V.y))) refl
 
+-- the product law over the coordinates of a line
 round-product : (l : Line) (a b p q : Weighted) → round l a p *ℤ round l b q -ℤ round l a q *ℤ round l b p ≡ round l a b *ℤ round l p q -ℤ skew l *ℤ above a b p q
 unfolding round skew above
 round-product l a b p q =

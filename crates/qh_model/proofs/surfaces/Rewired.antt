@@ -12,11 +12,13 @@ use Rattle.qh_model.proofs.surfaces.Cone.{KeptOf, ConeOf, Replaced}
 use Rattle.qh_model.proofs.surfaces.KeptSound.{side_once, sound_kept}
 use Rattle.qh_model.proofs.surfaces.Horizon.{edge_next, edge_prev}
 
+-- a kept facet's sides start as before
 same_start : (m m' : Surface) (f : ℕ) → KeepsCorners m m' f → (s : Side) → start m' f s ≡ start m f s
 same_start m m' f c first = c.i_is
 same_start m m' f c second = c.j_is
 same_start m m' f c third = c.k_is
 
+-- and end as before
 same_end : (m m' : Surface) (f : ℕ) → KeepsCorners m m' f → (s : Side) → end m' f s ≡ end m f s
 same_end m m' f c first = c.j_is
 same_end m m' f c second = c.k_is
@@ -32,6 +34,7 @@ linked m' f s g t l i a b c =
       returns = ap (λ x. m'.over x (m'.back f s)) l.over_is ∙ ap (m'.over g) l.back_is ∙ c;
     }
 
+-- each new side has its twin
 pub whole_kept : (m m' : Surface) (home : ℕ → Weighted) (o : Weighted) (p : ℕ) → IsWhole m → IsSound m home o → IsRewired m m' home p → IsWhole m'
 whole_kept m m' home o p w z r f' i s' = go (r.only f' i) s'
   where

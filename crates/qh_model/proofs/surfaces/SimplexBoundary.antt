@@ -6,12 +6,13 @@ use Rattle.qh_model.specs.Weighted.{Weighted, above}
 use Rattle.std.proofs.Common.{◌≡◌, ℕ, ◌≤◌, refl, [], ◌∷◌, arith, sym, ◌∙◌, subst, ◌⊎◌, inl, inr}
 use Rattle.std.proofs.lemmas.Int.{ints}
 use Rattle.std.specs.Prelude.{ℤ, pos, ◌+ℤ◌, ◌*ℤ◌, ◌<ℤ◌}
-use Rattle.qh_model.proofs.algebra.Order.{cancel-nonneg}
+use Rattle.qh_model.proofs.algebra.Order.{mul-pos_neg}
 use Rattle.qh_model.proofs.surfaces.Facets.{rise_own}
-use Rattle.qh_model.proofs.surfaces.DrawnInwards.{above-lift, cube}
+use Rattle.qh_model.proofs.surfaces.DrawnInwards.{above-drawn_all, cube}
 use Rattle.qh_model.proofs.algebra.Ring.{ring}
 use Rattle.qh_model.proofs.algebra.Ring.Expr.{var, con, add, mul}
 
+-- all is strict as it stands
 strict_home : (m : Surface) (home : ℕ → Weighted) → IsSimplexBoundary m home → IsStrict m home
 strict_home m home r f g i j l c n = pick (r.covers f g i j l c)
   where
@@ -19,6 +20,7 @@ strict_home m home r f g i j l c n = pick (r.covers f g i j l c)
     pick (inl k) = absurd (n k)
     pick (inr e) = subst (λ t. rise m home f (home t) <ℤ pos 0) (sym e) (r.below f i)
 
+-- the facets differ
 distinct_home : (m : Surface) (home : ℕ → Weighted) → IsSimplexBoundary m home → HasDistinctFacets m
 distinct_home m home r f g i j within = pick (r.known f g i j)
   where
@@ -29,12 +31,9 @@ distinct_home m home r f g i j within = pick (r.known f g i j)
     pick (inl k) = absurd (no (rise m home g (home (r.missing g))) (r.below g j) (rise_own m home g (r.missing g) (within (r.missing g) k)))
     pick (inr e) = r.once f g i j (sym e)
 
-pos-neg : (a b : ℤ) → pos 0 <ℤ a → b <ℤ pos 0 → (a *ℤ b) <ℤ pos 0
-pos-neg a b h k = grind (arith, ints, cancel-nonneg)
-
 -- with no share at all
 strict_drawn : (m : Surface) (home : ℕ → Weighted) (o : Weighted) → IsStrict m home → (n : ℕ) → 1 ≤ n → IsStrict m (drawn home o (λ l. 0) n)
-strict_drawn m home o st n b f g i j l c nc = subst (λ v. v <ℤ pos 0) (sym value) (pos-neg (pos n *ℤ pos n *ℤ pos n) (pos n *ℤ rise m home f (home l)) (cube 0 n b) (pos-neg (pos n) (rise m home f (home l)) (omega (arith, ints)) (st f g i j l c nc)))
+strict_drawn m home o st n b f g i j l c nc = subst (λ v. v <ℤ pos 0) (sym value) (mul-pos_neg (pos n *ℤ pos n *ℤ pos n) (pos n *ℤ rise m home f (home l)) (cube 0 n b) (mul-pos_neg (pos n) (rise m home f (home l)) (omega (arith, ints)) (st f g i j l c nc)))
   where
     no_tilt : (n v a b c d : ℤ) → n *ℤ n *ℤ n *ℤ (n *ℤ v +ℤ (pos 0 *ℤ a +ℤ pos 0 *ℤ b +ℤ pos 0 *ℤ c +ℤ pos 0 *ℤ d)) ≡ n *ℤ n *ℤ n *ℤ (n *ℤ v)
     no_tilt n v a b c d =
@@ -44,7 +43,7 @@ strict_drawn m home o st n b f g i j l c nc = subst (λ v. v <ℤ pos 0) (sym va
 
     value : rise m (drawn home o (λ l. 0) n) f (drawn home o (λ l. 0) n l) ≡ pos n *ℤ pos n *ℤ pos n *ℤ (pos n *ℤ rise m home f (home l))
     value =
-        above-lift o (home (m.i f)) (home (m.j f)) (home (m.k f)) (home l) (pos n) (pos 0) (pos 0) (pos 0) (pos 0)
+        above-drawn_all o (home (m.i f)) (home (m.j f)) (home (m.k f)) (home l) (pos n) (pos 0) (pos 0) (pos 0) (pos 0)
         ∙ no_tilt (pos n) (rise m home f (home l)) (above o (home (m.j f)) (home (m.k f)) (home l)) (above (home (m.i f)) o (home (m.k f)) (home l)) (above (home (m.i f)) (home (m.j f)) o (home l)) (above (home (m.i f)) (home (m.j f)) (home (m.k f)) o)
 
 -- THEOREM: the first simplex has it

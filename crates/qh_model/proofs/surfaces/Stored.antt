@@ -3,9 +3,11 @@ use Rattle.qh_model.specs.Sets.{In}
 use Rattle.qh_model.specs.StoredSurface.{StoredFacet, facet_at, live_from, LiveIsMarked}
 use Rattle.std.proofs.Common.{◌≡◌, ℕ, zero, suc, ◌+◌, refl, sym, ◌∙◌, subst, arith, List, [], ◌∷◌, inl, inr, Bool, true, false, cond}
 
+-- no boolean is both
 never : (b : Bool) → b ≡ false → b ≡ true → ⊥
 never b e f = cc
 
+-- a step of the next
 marked_step : (n : ℕ) (f : StoredFacet) (fs : List StoredFacet) (g : ℕ) → (In g (live_from (n + 1) fs) → (k : ℕ) × (g ≡ n + 1 + k) × ((facet_at fs k).live ≡ true)) → In g (live_from n (f ∷ fs)) → (k : ℕ) × (g ≡ n + k) × ((facet_at (f ∷ fs) k).live ≡ true)
 marked_step n f fs g low i = split f.live refl i
   where
@@ -23,10 +25,12 @@ marked_step n f fs g low i = split f.live refl i
     split true e (inr j) = later (low j)
     split false e j = later (low j)
 
+-- a live number is of a marked place
 marked_of : (n : ℕ) (fs : List StoredFacet) (g : ℕ) → In g (live_from n fs) → (k : ℕ) × (g ≡ n + k) × ((facet_at fs k).live ≡ true)
 marked_of n [] g i = absurd i
 marked_of n (f ∷ fs) g i = marked_step n f fs g (marked_of (n + 1) fs g) i
 
+-- a marked place has a live number
 live_of : (n : ℕ) (fs : List StoredFacet) (k : ℕ) → (facet_at fs k).live ≡ true → In (n + k) (live_from n fs)
 live_of n [] k e = absurd (never false refl e)
 live_of n (f ∷ fs) zero e = subst (λ b. In (n + zero) (cond b (n ∷ live_from (n + 1) fs) (live_from (n + 1) fs))) (sym e) (inl (none n))
@@ -42,9 +46,11 @@ live_of n (f ∷ fs) (suc k) e = step f.live (subst (λ g. In g (live_from (n + 
     step true j = inr j
     step false j = j
 
+-- nothing before
 none_before : (k : ℕ) → 0 + k ≡ k
 none_before k = omega arith
 
+-- the law
 pub live_is_marked : LiveIsMarked
 live_is_marked fs f = (λ i. to (marked_of 0 fs f i), λ e. subst (λ g. In g (live_from 0 fs)) (none_before f) (live_of 0 fs f e))
   where

@@ -15,29 +15,37 @@ use Rattle.qh_model.proofs.surfaces.Unseen.{settled_kept, apex_settled}
 use Rattle.qh_model.proofs.surfaces.Rewired.{replaced}
 use Rattle.qh_model.proofs.surfaces.Horizon.{edge_next, edge_prev, edge_known_by_start, edge_known_by_end}
 
-abbrev raiseE : VE → QE
-raiseE p = record { w = con (pos 1); x = p.x; y = p.y; z = p.z }
+-- a point with weight 1, of expressions
+abbrev weightedE : VE → QE
+weightedE p = record { w = con (pos 1); x = p.x; y = p.y; z = p.z }
 
+-- the law
 pub rise_is_vol : RiseIsVol
 unfolding above vol
-rise_is_vol a b c p = ring (put a (put b (put c (put p [])))) (aboveE (raiseE (vec 0)) (raiseE (vec 1)) (raiseE (vec 2)) (raiseE (vec 3))) (volE (vec 0) (vec 1) (vec 2) (vec 3)) refl
+rise_is_vol a b c p = ring (put a (put b (put c (put p [])))) (aboveE (weightedE (vec 0)) (weightedE (vec 1)) (weightedE (vec 2)) (weightedE (vec 3))) (volE (vec 0) (vec 1) (vec 2) (vec 3)) refl
 
+-- the law
 pub walk_finds_all : WalkFindsAll
 walk_finds_all m home o w z p c g f i k =
     connected m home o w z p c (record { f0 = g.f0; live = g.live; sees_p = positive-true (rise m home g.f0 p) g.seen; has = g.has; grows = λ f i s a b. g.grows f i s a (positive-is (rise m home (m.over f s) p) b) }) f i k
 
+-- the law
 pub settled_stay_unseen : SettledStayUnseen
 settled_stay_unseen m m' home o p w z r y h f' i = settled_kept m m' home o p w z (replaced m m' home p r) y h f' i
 
+-- the law
 pub horizon_goes_on : HorizonGoesOn
 horizon_goes_on m home o w z p f s e = (edge_next m home o w z p f s e, edge_prev m home o w z p f s e)
 
+-- the law
 pub horizon_is_known : HorizonIsKnown
 horizon_is_known m home o w z p f g s t a b (inl e) = edge_known_by_start m home o w z p f g s t a b e
 horizon_is_known m home o w z p f g s t a b (inr e) = edge_known_by_end m home o w z p f g s t a b e
 
+-- the law
 pub corners_are_settled : CornersAreSettled
 corners_are_settled m home o z f g i j l c = cert m home o z.lifted f g i j l c
 
+-- the law
 pub added_is_settled : AddedIsSettled
 added_is_settled m m' home p r f' i = apex_settled m m' home p (replaced m m' home p r) f' i

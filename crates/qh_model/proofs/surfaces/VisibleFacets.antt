@@ -4,7 +4,7 @@ use Rattle.qh_model.specs.Weighted.{Weighted, above, weighted_dot}
 use Rattle.std.proofs.Common.{◌≡◌, refl, List, [], ◌∷◌, arith, ap, sym, ◌∙◌, Bool, true, false, ◌⊎◌, inl, inr, subst}
 use Rattle.std.proofs.lemmas.Int.{ints, by_lt_z}
 use Rattle.std.specs.Prelude.{ℤ, pos, ◌+ℤ◌, ◌-ℤ◌, ◌*ℤ◌, neg_ℤ, ◌≤ℤ◌, ◌<ℤ◌}
-use Rattle.qh_model.proofs.algebra.Order.{mul-nonneg, mul-nonneg_nonpos, mul-nonpos, mul-pos, cancel-pos}
+use Rattle.qh_model.proofs.algebra.Order.{mul-nonneg_nonpos, mul-nonpos, mul-pos, cancel-pos, mul-neg_pos}
 use Rattle.qh_model.proofs.algebra.Ring.{ring}
 use Rattle.qh_model.proofs.algebra.Ring.Expr.{var, add, sub as less, mul, neg}
 use Rattle.qh_model.proofs.surfaces.Determinants.{above-turn, above-flip}
@@ -17,6 +17,7 @@ pub record Corners : Type 0 where
   pub b : Weighted
   pub c : Weighted
 
+-- how far a point is above the facet
 abbrev pub over : Corners → Weighted → ℤ
 over t y = above t.a t.b t.c y
 
@@ -35,9 +36,6 @@ three l a b c x y z d e q h hx hy hz he ha hb hc =
     finish : (l p q r s : ℤ) → l ≡ p +ℤ q +ℤ r +ℤ s → l <ℤ pos 0 → pos 0 ≤ℤ p → pos 0 ≤ℤ q → pos 0 ≤ℤ r → s ≡ pos 0 → ⊥
     finish l p q r s e h hp hq hr hs = omega (arith, ints)
 
-neg-pos : (a b : ℤ) → a <ℤ pos 0 → pos 0 <ℤ b → (a *ℤ b) <ℤ pos 0
-neg-pos a b h k = grind (arith, ints, cancel-pos, mul-pos, mul-nonneg)
-
 -- the way from y to p leaves the triangle over one of its sides
 pub leaves : (n : Weighted) (t : Corners) (y p : Weighted) → over t y <ℤ pos 0 → pos 0 <ℤ weighted_dot n p → weighted_dot n y ≡ pos 0 → weighted_dot n t.a ≤ℤ pos 0 → weighted_dot n t.b ≤ℤ pos 0 → weighted_dot n t.c ≤ℤ pos 0
     → (pos 0 <ℤ above t.a t.b p y) ⊎ (pos 0 <ℤ above t.b t.c p y) ⊎ (pos 0 <ℤ above t.c t.a p y)
@@ -45,7 +43,7 @@ leaves n t y p h hp hy ha hb hc =
     by_lt_z (pos 0) (above t.a t.b p y) inl (λ c1.
     by_lt_z (pos 0) (above t.b t.c p y) (λ q. inr (inl q)) (λ c2.
     by_lt_z (pos 0) (above t.c t.a p y) (λ q. inr (inr q)) (λ c3.
-    absurd (three (over t y *ℤ weighted_dot n p) (above p t.b t.c y) (above t.a p t.c y) (above t.a t.b p y) (weighted_dot n t.a) (weighted_dot n t.b) (weighted_dot n t.c) (above t.a t.b t.c p) (weighted_dot n y) (cramer n t.a t.b t.c y p) (neg-pos (over t y) (weighted_dot n p) h hp) ha hb hc hy
+    absurd (three (over t y *ℤ weighted_dot n p) (above p t.b t.c y) (above t.a p t.c y) (above t.a t.b p y) (weighted_dot n t.a) (weighted_dot n t.b) (weighted_dot n t.c) (above t.a t.b t.c p) (weighted_dot n y) (cramer n t.a t.b t.c y p) (mul-neg_pos (over t y) (weighted_dot n p) h hp) ha hb hc hy
     (turned (above p t.b t.c y) (above t.b t.c p y) (above-turn p t.b t.c y) c2)
     (turned (above t.a p t.c y) (above t.c t.a p y) (above-turn t.a p t.c y ∙ above-turn p t.c t.a y) c3)
     c1))))
@@ -60,7 +58,7 @@ after f g y p = over f p *ℤ over g y -ℤ over f y *ℤ over g p
 -- the neighbour over a side beyond which p lies is met before
 pub crosses : (u v a b y p : Weighted) → above u v a b <ℤ pos 0 → pos 0 <ℤ above u v p y → pos 0 <ℤ (above u v a p *ℤ above v u b y -ℤ above u v a y *ℤ above v u b p)
 crosses u v a b y p h k =
-    finish (above u v a p) (above u v b y) (above u v a y) (above u v b p) (above u v a b *ℤ above u v p y) (above v u b y) (above v u b p) (line_product u v a b p y) (neg-pos (above u v a b) (above u v p y) h k) (above-flip u v b y) (above-flip u v b p)
+    finish (above u v a p) (above u v b y) (above u v a y) (above u v b p) (above u v a b *ℤ above u v p y) (above v u b y) (above v u b p) (line_product u v a b p y) (mul-neg_pos (above u v a b) (above u v p y) h k) (above-flip u v b y) (above-flip u v b p)
   where
     turn : (a b c d : ℤ) → a *ℤ neg_ℤ b -ℤ c *ℤ neg_ℤ d ≡ neg_ℤ (a *ℤ b -ℤ c *ℤ d)
     turn a b c d = ring (a ∷ b ∷ c ∷ d ∷ []) (less (mul (var 0) (neg (var 1))) (mul (var 2) (neg (var 3)))) (neg (less (mul (var 0) (var 1)) (mul (var 2) (var 3)))) refl
@@ -78,6 +76,7 @@ pub record Least {X : Type 0} (W : X → Bool) (P Q : X → ℤ) (xs : List X) :
   pub marked : W m ≡ true
   pub least : (g : X) → In g xs → W g ≡ true → pos 0 <ℤ (P m *ℤ Q g -ℤ Q m *ℤ P g) → ⊥
 
+-- nothing is before itself
 same_not_less : (p q : ℤ) → pos 0 <ℤ (p *ℤ q -ℤ q *ℤ p) → ⊥
 same_not_less p q h = omega (arith, ints)
 
@@ -96,6 +95,7 @@ chain pm qm px qx pg qg hm hx hg h k =
     added : (l a b : ℤ) → l ≡ a +ℤ b → pos 0 <ℤ a → pos 0 <ℤ b → pos 0 <ℤ l
     added l a b e h k = omega (arith, ints)
 
+-- a marked member with none before it, or no marked one
 pub least : {X : Type 0} (W : X → Bool) (P Q : X → ℤ) (xs : List X) → ((g : X) → In g xs → W g ≡ true → pos 0 <ℤ P g) → ((g : X) → In g xs → W g ≡ true → ⊥) ⊎ Least W P Q xs
 least W P Q [] h = inl (λ g i e. i)
 least {X} W P Q (x ∷ xs) h = split (W x) refl (least W P Q xs (λ g i e. h g (inr i) e))
@@ -162,6 +162,7 @@ pub record Over {X : Type 0} (at : X → Corners) (live : List X) (W : X → Boo
   pub under : over (at g) y ≤ℤ pos 0
   pub joined : pos 0 <ℤ over (at g) p → W g ≡ true
 
+-- what a marked facet has where a group is cut off
 pub record Cut {X : Type 0} (at : X → Corners) (live : List X) (W : X → Bool) (n y p : Weighted) (f : X) : Type 0 where
   pub sees : pos 0 <ℤ over (at f) p
   pub below : over (at f) y <ℤ pos 0
@@ -172,12 +173,14 @@ pub record Cut {X : Type 0} (at : X → Corners) (live : List X) (W : X → Bool
   pub bc : Over at live W y p f (at f).b (at f).c (at f).a
   pub ca : Over at live W y p f (at f).c (at f).a (at f).b
 
+-- a marked facet that is met before
 pub record Earlier {X : Type 0} (at : X → Corners) (live : List X) (W : X → Bool) (y p : Weighted) (f : X) : Type 0 where
   pub g : X
   pub live_g : In g live
   pub marked : W g ≡ true
   pub earlier : pos 0 <ℤ after (at f) (at g) y p
 
+-- the neighbour that is met before sees p as well
 sees_too : (fp gy fy gp : ℤ) → pos 0 <ℤ (fp *ℤ gy -ℤ fy *ℤ gp) → pos 0 <ℤ fp → fy <ℤ pos 0 → gy ≤ℤ pos 0 → pos 0 <ℤ gp
 sees_too fp gy fy gp h hf hy hg = by_lt_z (pos 0) gp (λ q. q) (λ q. absurd (finish (fp *ℤ gy) (fy *ℤ gp) h (mul-nonneg_nonpos fp gy (lt_le fp hf) hg) (mul-nonpos fy gp (lt_le' fy hy) q)))
   where
@@ -190,11 +193,13 @@ sees_too fp gy fy gp h hf hy hg = by_lt_z (pos 0) gp (λ q. q) (λ q. absurd (fi
     finish : (x y : ℤ) → pos 0 <ℤ (x -ℤ y) → x ≤ℤ pos 0 → pos 0 ≤ℤ y → ⊥
     finish x y h a b = omega (arith, ints)
 
+-- over a side beyond which p lies
 over_side : {X : Type 0} (at : X → Corners) (live : List X) (W : X → Bool) (y p : Weighted) (f : X) (u v t : Weighted) → pos 0 <ℤ over (at f) p → over (at f) y <ℤ pos 0 → (o : Over at live W y p f u v t) → pos 0 <ℤ above u v p y → Earlier at live W y p f
 over_side at live W y p f u v t hp hy o k =
     let e : pos 0 <ℤ after (at f) (at o.g) y p = rw (o.at_f p, o.at_f y, o.at_g y, o.at_g p) (crosses u v t o.b y p o.bends k) in
     record { g = o.g; live_g = o.live_g; marked = o.joined (sees_too (over (at f) p) (over (at o.g) y) (over (at f) y) (over (at o.g) p) e hp hy o.under); earlier = e }
 
+-- each marked facet has one that is met before
 pub earlier_one : {X : Type 0} (at : X → Corners) (live : List X) (W : X → Bool) (n y p : Weighted) → pos 0 <ℤ weighted_dot n p → weighted_dot n y ≡ pos 0 → (f : X) → Cut at live W n y p f → Earlier at live W y p f
 earlier_one at live W n y p hp hy f c = pick (leaves n (at f) y p c.below hp hy c.under_a c.under_b c.under_c)
   where

@@ -2,7 +2,7 @@
 ghost use Rattle.qh_model.specs.ExtremeLaws.{GreatestIsExtreme, MembersAreCombinations, UnionOfExtremes};
 ghost use Rattle.qh_model.specs.FaceLaws.{ExtremesOfFace, SupportOfExtremes, PlanesOfExtremes};
 ghost use Rattle.qh_model.specs.DimensionLaws.{DimensionOfExtremes};
-ghost use Rattle.qh_model.specs.HullLaws.{PolygonsOfExtremes, TriplesOfExtremes};
+ghost use Rattle.qh_model.specs.HullLaws.{BodyOfExtremes, PolygonsOfExtremes, TriplesOfExtremes};
 
 /// The member that is greatest along a direction, by its coordinates among level ones, is extreme.
 /// It gives a hull its first corners.
@@ -17,12 +17,13 @@ pub fn members_are_combinations()
 {}
 
 /// The extreme ids of a union are those of the union of its blocks' extreme ids, and a set and its
-/// extreme ids have one dimension and the same polygons. So blocks can be hulled apart and their
-/// extreme ids hulled together.
+/// extreme ids have one dimension, the same polygons and one hull. So blocks can be hulled apart and
+/// their extreme ids hulled together.
 pub fn union_extremes()
     ensures union { UnionOfExtremes }
     ensures dimension { DimensionOfExtremes }
     ensures polygons { PolygonsOfExtremes }
+    ensures hull { BodyOfExtremes }
 {}
 
 /// The extreme ids of a face are the extreme ids of the set in its plane, and a plane that has no

@@ -1,11 +1,18 @@
-//! The laws by which each part of a hull is one value.
+//! The laws by which a hull is one value.
 ghost use Rattle.qh_model.specs.DimensionLaws.{DimensionIsUnique};
-ghost use Rattle.qh_model.specs.HullLaws.{PolygonsAreUnique, EdgeCountIsUnique, RisingListIsUnique, DistinctIdsAreUnique};
+ghost use Rattle.qh_model.specs.HullLaws.{PolygonsAreUnique, EdgeCountIsUnique, RisingListIsUnique, DistinctIdsAreUnique, BodyIsUnique, HullIsUnique, TextIsUnique};
 
-/// A list of points has one list of distinct ids; a set of ids has one rising list, one dimension at
-/// most and one list of polygons; and these have one number of edges. So no two hulls are right for
-/// one list of points.
+/// No two hulls are right for one list of points, and no two texts for one list of points and outputs.
+/// So an answer says nothing of how it was found.
 pub fn one_hull()
+    ensures body { BodyIsUnique }
+    ensures hull { HullIsUnique }
+    ensures text { TextIsUnique }
+{}
+
+/// Each part of a hull is one value: the distinct ids, each rising list of a set, the dimension, the
+/// polygons, and the number of edges.
+pub fn one_value_each()
     ensures distinct { DistinctIdsAreUnique }
     ensures rising { RisingListIsUnique }
     ensures dimension { DimensionIsUnique }

@@ -1,6 +1,5 @@
-use Rattle.qh_model.proofs.extremes.Dimensions.{dimension_is_unique}
-use Rattle.qh_model.proofs.hulls.Unique.{distinct_ids_are_unique, rising_list_is_unique, polygons_are_unique, edge_count_is_unique}
+use Rattle.qh_model.proofs.hulls.Unique.{body_is_unique, hull_is_unique, text_is_unique}
 use Rattle.qh_model.proofs.laws.hulls.one_hull.Goals as goal
 
 pub returns : goal.returns
-returns c = record { distinct = distinct_ids_are_unique; rising = rising_list_is_unique; dimension = dimension_is_unique; polygons = polygons_are_unique; edges = edge_count_is_unique }
+returns c = record { body = body_is_unique; hull = hull_is_unique; text = text_is_unique }

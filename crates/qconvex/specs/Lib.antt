@@ -1,0 +1,4 @@
+pub mod SettingsValue
+pub mod FaultLines
+pub mod CommandLine
+pub mod Answers

@@ -1,0 +1,19 @@
+-- What settings say.
+use Rattle.std.specs.Prelude.{ℕ, ◌≤◌, List}
+use Rattle.qh_write.specs.declared.out.Out.{Out}
+use Rattle.qconvex.specs.declared.settings.TheConstants.{WORKER_LIMIT, BLOCK_SIZE_LIMIT}
+
+pub record SettingsValue : Type 0 where
+  pub workers : ℕ
+  pub block : ℕ
+  pub outs : List Out
+
+-- from 1 to the limit
+abbrev pub IsWorkers : ℕ → Type 0
+IsWorkers n = (1 ≤ n) × (n ≤ WORKER_LIMIT)
+
+abbrev pub IsBlockSize : ℕ → Type 0
+IsBlockSize n = (1 ≤ n) × (n ≤ BLOCK_SIZE_LIMIT)
+
+abbrev pub IsInRange : ℕ → ℕ → Type 0
+IsInRange workers block = IsWorkers workers × IsBlockSize block

@@ -1,0 +1,155 @@
+ghost use Rattle.std.specs.Prelude.{◌≡◌, Some, false, map, codes, IfOk, IfSome, string_bytes};
+ghost use Rattle.clap.specs.Words.{app_of, rule_of, found_of, one_text};
+ghost use Rattle.qconvex.specs.CommandLine.{program, number_option, outs_rule, NumberOf, HasOptions};
+
+use crate::settings::{BLOCK_SIZE_LIMIT, Settings, SettingsError, WORKER_LIMIT};
+use clap::builder::ValueParser;
+use clap::error::ErrorKind;
+use clap::{Arg, ArgAction, ArgMatches, Command, Error, value_parser};
+use qh_write::Out;
+use std::alloc::{AllocError, Global};
+
+/// Why a command line gives no settings.
+#[derive(Debug, Drop)]
+pub enum ArgFault {
+    /// The help text was asked for; this is it.
+    Help(String),
+    /// The words are no command line.
+    Usage,
+    /// Memory was refused.
+    Memory,
+}
+
+/// The words of the outputs.
+static NAMES: [&str; 4] = ["rank", "s", "Fx", "off"];
+
+/// An option `--name N` with a default.
+fn number_arg<'a>(
+    alloc: Global,
+    name: &'a str,
+    default: &'a str,
+    parser: ValueParser<'a>,
+) -> Arg<'a>
+    ensures rule { rule_of result ≡ number_option name.entry.now default.entry.now (Some parser.entry) }
+    ensures local { result.global ≡ false }
+{
+    Arg::new(alloc, name)
+        .long(name)
+        .value_name("N")
+        .action(ArgAction::Set)
+        .default_value(default)
+        .value_parser(parser)
+}
+
+/// The words OUT, which may stand between options.
+fn outs_arg<'a>(alloc: Global) -> Arg<'a>
+    ensures rule { (p : _) × (rule_of result ≡ outs_rule p) }
+    ensures local { result.global ≡ false }
+{
+    Arg::new(alloc, "outs")
+        .value_name("OUT")
+        .action(ArgAction::Append)
+        .value_parser(NAMES.as_slice())
+}
+
+/// The command line of the program.
+fn command<'a>(alloc: Global) -> Result<Command<'a>, AllocError>
+    ensures { IfOk result (λ c. (p q r : _) × (app_of c ≡ program p q r)) }
+{
+    let workers = number_arg(
+        alloc,
+        "workers",
+        "4",
+        value_parser!(u32).range(1..=i64::from(WORKER_LIMIT)),
+    );
+    let block = number_arg(
+        alloc,
+        "block",
+        "4096",
+        value_parser!(u32).range(1..=i64::from(BLOCK_SIZE_LIMIT)),
+    );
+    let outs = outs_arg(alloc);
+    Command::new(alloc, "qconvex")
+        .arg(workers)?
+        .arg(block)?
+        .arg(outs)
+}
+
+/// The output of a word.
+fn out_of(name: &str) -> Option<Out> {
+    match name {
+        "rank" => Some(Out::Rank),
+        "s" => Some(Out::Summary),
+        "Fx" => Some(Out::Fx),
+        "off" => Some(Out::Off),
+        _ => None,
+    }
+}
+
+/// The outputs of the words, or the summary where there are none.
+fn outs_of(alloc: Global, names: Option<&[&str]>) -> Result<Vec<Out>, ArgFault> {
+    let mut outs = Vec::new(alloc);
+    let Some(names) = names else {
+        outs.push(Out::Summary).map_err(|_| ArgFault::Memory)?;
+        return Ok(outs);
+    };
+    for name in names {
+        let out = out_of(name).ok_or(ArgFault::Usage)?;
+        outs.push(out).map_err(|_| ArgFault::Memory)?;
+    }
+    Ok(outs)
+}
+
+/// What stands for an error of clap.
+fn refused(alloc: Global, error: &Error) -> ArgFault {
+    match error.kind() {
+        ErrorKind::OutOfMemory => ArgFault::Memory,
+        ErrorKind::DisplayHelp => match error.to_string(alloc) {
+            Ok(text) => ArgFault::Help(text),
+            Err(_) => ArgFault::Memory,
+        },
+        _ => ArgFault::Usage,
+    }
+}
+
+/// The value of an option.
+fn number(matches: &ArgMatches, id: &str) -> Option<u32>
+    ensures { IfSome result (λ n. NumberOf (one_text (found_of matches.now) id.now) n) }
+{
+    matches.get_one::<u32>(id)
+}
+
+/// The settings that matched words say.
+fn settings_from(alloc: Global, matches: &ArgMatches) -> Result<Settings, ArgFault>
+    ensures { IfOk result (λ s. NumberOf (one_text (found_of matches.now) (codes "workers")) s.workers
+        × NumberOf (one_text (found_of matches.now) (codes "block")) s.block) }
+{
+    let workers = number(matches, "workers").ok_or(ArgFault::Usage)?;
+    let block = number(matches, "block").ok_or(ArgFault::Usage)?;
+    let outs = outs_of(alloc, matches.get_strs("outs"))?;
+    match Settings::new(alloc, workers, block, outs.as_slice()) {
+        Ok(settings) => Ok(settings),
+        Err(SettingsError::Memory) => Err(ArgFault::Memory),
+        Err(_) => Err(ArgFault::Usage),
+    }
+}
+
+/// The settings that these words ask for.
+fn settings_in<'a>(alloc: Global, words: &'a [String]) -> Result<Settings, ArgFault>
+    ensures { IfOk result (λ s. HasOptions (map string_bytes words.entry.now) s.workers s.block) }
+{
+    let Ok(command) = command::<'a>(alloc) else {
+        return Err(ArgFault::Memory);
+    };
+    match command.try_get_matches_from(words) {
+        Ok(matches) => settings_from(alloc, &matches),
+        Err(error) => Err(refused(alloc, &error)),
+    }
+}
+
+/// The settings that a command line asks for; the first word is the program's name.
+pub fn settings_of(alloc: Global, words: Vec<String>) -> Result<Settings, ArgFault>
+    ensures { IfOk result (λ s. HasOptions (map string_bytes words.items) s.workers s.block) }
+{
+    settings_in(alloc, words.as_slice())
+}

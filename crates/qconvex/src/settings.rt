@@ -1,0 +1,102 @@
+ghost use Rattle.std.specs.Prelude.{◌≡◌, ◌≤◌, ◌<◌, ◌↔◌, IfOk, IsErrOf};
+
+use qh_model::POINT_LIMIT;
+use qh_write::Out;
+use std::alloc::Global;
+use std::marker::Model;
+use thiserror::Error;
+
+/// The greatest number of workers.
+pub const WORKER_LIMIT: u32 = 64;
+
+/// The greatest block size that can be wanted: all points in one block.
+pub const BLOCK_SIZE_LIMIT: u32 = POINT_LIMIT;
+
+/// How the hull is to be made, and which outputs are to be written.
+///
+/// A contract sees settings as their number of workers, block size and list of outputs.
+#[derive(Debug, Drop)]
+pub struct Settings {
+    workers: u32,
+    block: u32,
+    outs: Vec<Out>,
+}
+
+impl Model for Settings {
+    ghost use Rattle.qconvex.specs.SettingsValue.{SettingsValue, IsInRange};
+
+    ghost Value = { SettingsValue };
+
+    ghost view = { λ s. record { workers = s.workers; block = s.block; outs = s.outs.items } };
+
+    ghost invariant = { λ s. IsInRange s.workers s.block };
+}
+
+/// Why settings were refused.
+#[derive(Clone, Copy, Debug, PartialEq, Eq, Drop, Error)]
+pub enum SettingsError {
+    /// The number of workers is not from 1 to `WORKER_LIMIT`.
+    #[error("the number of workers is not from 1 to 64")]
+    BadWorkers,
+    /// The block size is not from 1 to `BLOCK_SIZE_LIMIT`.
+    #[error("the block size is not from 1 to 1048576")]
+    BadBlock,
+    /// Memory was refused.
+    #[error("out of memory")]
+    Memory,
+}
+
+impl Settings {
+    ghost use Rattle.qconvex.specs.SettingsValue.{IsWorkers, IsBlockSize};
+
+    /// Settings with these workers, block size and outputs.
+    ///
+    /// Where two errors apply, the first in the order of `SettingsError` is given; memory is asked
+    /// for last.
+    pub fn new(
+        alloc: Global,
+        workers: u32,
+        block: u32,
+        outs: &[Out],
+    ) -> Result<Settings, SettingsError>
+        ensures ok { IfOk result (λ s. s ≡ record { workers = workers; block = block; outs = outs.now }) }
+        ensures workers { IsErrOf result SettingsError.BadWorkers ↔ (¬ (IsWorkers workers)) }
+        ensures block { IsErrOf result SettingsError.BadBlock ↔ (IsWorkers workers × ¬ (IsBlockSize block)) }
+    {
+        if workers < 1 || workers > WORKER_LIMIT {
+            return Err(SettingsError::BadWorkers);
+        }
+        if block < 1 || block > BLOCK_SIZE_LIMIT {
+            return Err(SettingsError::BadBlock);
+        }
+        let Ok(outs) = Vec::from_slice(alloc, outs) else {
+            return Err(SettingsError::Memory);
+        };
+        Ok(Settings {
+            workers,
+            block,
+            outs,
+        })
+    }
+
+    /// How many workers make the hull, from 1 to `WORKER_LIMIT`.
+    pub fn workers(&self) -> u32
+        ensures { result ≡ self.now.workers }
+    {
+        self.workers
+    }
+
+    /// How many points a block has, from 1 to `BLOCK_SIZE_LIMIT`.
+    pub fn block(&self) -> u32
+        ensures { result ≡ self.now.block }
+    {
+        self.block
+    }
+
+    /// The outputs, in their order.
+    pub fn outs(&self) -> &[Out]
+        ensures { result.now ≡ self.now.outs }
+    {
+        self.outs.as_slice()
+    }
+}

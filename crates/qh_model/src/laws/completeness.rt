@@ -1,0 +1,20 @@
+//! The laws by which a finished surface is the hull.
+ghost use Rattle.qh_model.specs.CompletenessLaws.{FacetsSupport, ExtremesAreCorners, ExtremesOfPlaneAreCorners, PlanesHaveFacets, FinishedIsSolid, ExtremesOfCorners, ExtremesOfPlane, PolygonsOfFacets};
+
+/// Each live facet of a finished surface is a supporting triple, each extreme id is a corner, and each
+/// supporting plane is that of a live facet, with its extreme ids as corners. So nothing is missed.
+pub fn nothing_is_missed()
+    ensures facets { FacetsSupport }
+    ensures corners { ExtremesAreCorners }
+    ensures plane_corners { ExtremesOfPlaneAreCorners }
+    ensures planes { PlanesHaveFacets }
+{}
+
+/// A finished surface tells the hull: its set has dimension 3, the extreme ids are the extremes of the
+/// corners, in each plane too, and the polygons are those of the facets' planes.
+pub fn finished_surface_is_hull()
+    ensures dimension { FinishedIsSolid }
+    ensures extremes { ExtremesOfCorners }
+    ensures plane_extremes { ExtremesOfPlane }
+    ensures polygons { PolygonsOfFacets }
+{}

@@ -1,0 +1,155 @@
+-- The words of bytes that come one at a time are the data words of the whole.
+use Rattle.std.proofs.Common.{◌≡◌, ◌∙◌, ◌++◌, [], ◌∷◌, ◌+◌, ◌==◌, ℕ, ◌<◌, length, List, Bool, true, false, cond, refl, ap, sym, append_assoc, arith, filter}
+use Rattle.std.specs.List.{slice_split, onto_first}
+use Rattle.std.proofs.lemmas.List.Splits.{slice_split-cons_yes, slice_split-cons_no, length-slice_split}
+use Rattle.qh_model.specs.Words.{Word, is_blank, is_data, lines_of, words_of, before_comment, on_line, words_from, data_words, is_word}
+use Rattle.qh_read.proofs.Lexing.{Lexed, start, ended, closed, begun, next, lexed}
+
+pub push_cond : {A B : Type 0} (f : A → B) (b : Bool) (x y : A) (u v : B) → (b ≡ true → f x ≡ u) → (b ≡ false → f y ≡ v) → f (cond b x y) ≡ cond b u v
+push_cond f true x y u v p q = p refl
+push_cond f false x y u v p q = q refl
+
+-- the words of a line that goes on with these bytes
+abbrev own : Bool → List ℕ → List (List ℕ)
+own true w = []
+own false w = before_comment (words_of w)
+
+-- the words that lines give to what was read before them
+abbrev rest : ℕ → Bool → List ℕ → List (List ℕ) → List Word
+rest line comment w [] = []
+rest line comment w (l ∷ ls) = on_line line (own comment (w ++ l)) ++ words_from (line + 1) ls
+
+-- what begins so is no comment
+abbrev data_or_none : List ℕ → Type 0
+data_or_none [] = Unit {0}
+data_or_none (c ∷ w) = is_data (c ∷ []) ≡ true
+
+module _ (p : ℕ → Bool) where
+  abbrev clear : List ℕ → Type 0
+  clear [] = Unit {0}
+  clear (c ∷ w) = (p c ≡ false) × clear w
+
+  split_clear : (w : List ℕ) (c : ℕ) (l : List ℕ) → clear w → p c ≡ true → slice_split p (w ++ c ∷ l) ≡ w ∷ slice_split p l
+  split_clear [] c l h e = slice_split-cons_yes p c l e
+  split_clear (b ∷ w) c l (nb, h) e = slice_split-cons_no p b (w ++ c ∷ l) nb ∙ ap (onto_first b) (split_clear w c l h e)
+
+  split_whole : (w : List ℕ) → clear w → slice_split p w ≡ w ∷ []
+  split_whole [] h = refl
+  split_whole (b ∷ w) (nb, h) = slice_split-cons_no p b w nb ∙ ap (onto_first b) (split_whole w h)
+
+append_none : (w : List ℕ) → w ++ [] ≡ w
+append_none [] = refl
+append_none (c ∷ w) = ap (λ t. c ∷ t) (append_none w)
+
+clear_append : (p : ℕ → Bool) (w : List ℕ) (c : ℕ) → clear p w → p c ≡ false → clear p (w ++ c ∷ [])
+clear_append p [] c h e = (e, tt)
+clear_append p (b ∷ w) c (nb, h) e = (nb, clear_append p w c h e)
+
+record Valid (s : Lexed) : Type 0 where
+  clean : clear is_blank s.under_way
+  data_word : data_or_none s.under_way
+  quiet : s.comment ≡ true → s.under_way ≡ []
+
+-- the word under way is the only one of a line that ends here
+ends : (n : ℕ) (b : Bool) (w : List ℕ) → clear is_blank w → data_or_none w → (b ≡ true → w ≡ []) → ended n w ≡ on_line n (own b (w ++ []))
+ends n true [] h d q = refl
+ends n false [] h d q = refl
+ends n true (c ∷ w) h d q = cc (q refl)
+ends n false (c ∷ w) h d q =
+    sym (ap (λ t. on_line n (before_comment (filter is_word t))) (ap (slice_split is_blank) (append_none (c ∷ w)) ∙ split_whole is_blank (c ∷ w) h)
+    ∙ ap (λ t. on_line n (cond t ((c ∷ w) ∷ []) [])) d)
+
+-- a blank ends the word under way
+blank_ends : (n : ℕ) (w : List ℕ) (c : ℕ) (l : List ℕ) → clear is_blank w → data_or_none w → is_blank c ≡ true
+    → on_line n (own false (w ++ c ∷ l)) ≡ ended n w ++ on_line n (own false l)
+blank_ends n [] c l h d e = ap (λ t. on_line n (before_comment (filter is_word t))) (split_clear is_blank [] c l h e)
+blank_ends n (b ∷ w) c l h d e =
+    ap (λ t. on_line n (before_comment (filter is_word t))) (split_clear is_blank (b ∷ w) c l h e)
+    ∙ ap (λ t. on_line n (cond t ((b ∷ w) ∷ before_comment (words_of l)) [])) d
+
+-- a word that does not begin as data is no data word, and nothing after it is
+onto_other : (c : ℕ) (parts : List (List ℕ)) → is_data (c ∷ []) ≡ false → before_comment (filter is_word (onto_first c parts)) ≡ []
+onto_other c [] e = ap (λ t. cond t ((c ∷ []) ∷ []) []) e
+onto_other c (part ∷ parts) e = ap (λ t. cond t ((c ∷ part) ∷ before_comment (filter is_word parts)) []) e
+
+comments : (c : ℕ) (l : List ℕ) → is_blank c ≡ false → is_data (c ∷ []) ≡ false → own false (c ∷ l) ≡ []
+comments c l nb e = ap (λ t. before_comment (filter is_word t)) (slice_split-cons_no is_blank c l nb) ∙ onto_other c (slice_split is_blank l) e
+
+silent : (b : Bool) (x y : List ℕ) → b ≡ true → own b x ≡ own b y
+silent true x y e = refl
+silent false x y e = cc
+
+-- what one byte does
+record Good (s : Lexed) (c : ℕ) (over : Bool) (t : Lexed) : Type 0 where
+  valid : Valid t
+  same : (l : List ℕ) (ls : List (List ℕ)) → t.words ++ rest t.line t.comment t.under_way (l ∷ ls)
+      ≡ s.words ++ rest s.line s.comment s.under_way (cond over ([] ∷ l ∷ ls) (onto_first c (l ∷ ls)))
+
+in_cond : {A : Type 0} (P : A → Type 0) (b : Bool) (x y : A) → (b ≡ true → P x) → (b ≡ false → P y) → P (cond b x y)
+in_cond P true x y f g = f refl
+in_cond P false x y f g = g refl
+
+begun_good : (ws : List Word) (n : ℕ) (w : List ℕ) (c : ℕ) → let s : Lexed = record { words = ws; line = n; comment = false; under_way = w } in
+    Valid s → is_blank c ≡ false → Good s c false (begun s w c)
+begun_good ws n [] c v nb =
+    let s : Lexed = record { words = ws; line = n; comment = false; under_way = [] } in
+    in_cond (Good s c false) (is_data (c ∷ [])) (record s { under_way = c ∷ [] }) (record s { comment = true })
+    (λ e. record { valid = record { clean = (nb, tt); data_word = e; quiet = λ q. cc }; same = λ l ls. refl })
+    (λ e. record {
+      valid = record { clean = tt; data_word = tt; quiet = λ q. refl };
+      same = λ l ls. ap (λ t. ws ++ (on_line n t ++ words_from (n + 1) ls)) (sym (comments c l nb e));
+    })
+begun_good ws n (b ∷ w) c v nb =
+    record {
+      valid = record { clean = clear_append is_blank (b ∷ w) c v.clean nb; data_word = v.data_word; quiet = λ q. cc };
+      same = λ l ls. ap (λ t. ws ++ (on_line n (before_comment (words_of (b ∷ t))) ++ words_from (n + 1) ls)) (append_assoc w (c ∷ []) l);
+    }
+
+good_at : (ws : List Word) (n : ℕ) (b : Bool) (w : List ℕ) (c : ℕ) (over : Bool) → let s : Lexed = record { words = ws; line = n; comment = b; under_way = w } in
+    Valid s → Good s c over (cond over (record { words = closed s; line = n + 1; comment = false; under_way = [] })
+    (cond b s (cond (is_blank c) (record s { words = closed s; under_way = [] }) (begun s w c))))
+good_at ws n b w c true v =
+    record {
+      valid = record { clean = tt; data_word = tt; quiet = λ q. refl };
+      same = λ l ls. append_assoc ws (ended n w) _ ∙ ap (λ t. ws ++ (t ++ words_from (n + 1) (l ∷ ls))) (ends n b w v.clean v.data_word v.quiet);
+    }
+good_at ws n true w c false v =
+    record { valid = v; same = λ l ls. refl }
+good_at ws n false w c false v =
+    let s : Lexed = record { words = ws; line = n; comment = false; under_way = w } in
+    in_cond (Good s c false) (is_blank c) (record s { words = closed s; under_way = [] }) (begun s w c)
+    (λ e. record {
+      valid = record { clean = tt; data_word = tt; quiet = λ q. refl };
+      same = λ l ls. append_assoc ws (ended n w) _ ∙ ap (λ t. ws ++ t) (sym (append_assoc (ended n w) (on_line n (own false l)) (words_from (n + 1) ls)))
+          ∙ ap (λ t. ws ++ (t ++ words_from (n + 1) ls)) (sym (blank_ends n w c l v.clean v.data_word e));
+    })
+    (λ e. begun_good ws n w c v e)
+
+good : (s : Lexed) (c : ℕ) → Valid s → Good s c (c == 10) (next s c)
+good s c v = good_at s.words s.line s.comment s.under_way c (c == 10) v
+
+-- the lines of bytes are never none
+some_line : (bs : List ℕ) → 0 < length (lines_of bs)
+some_line bs = omega (arith, length-slice_split (λ c. c == 10) bs)
+
+append_nothing : (ws : List Word) → ws ++ [] ≡ ws
+append_nothing [] = refl
+append_nothing (w ∷ ws) = ap (λ t. w ∷ t) (append_nothing ws)
+
+total : (bs : List ℕ) (s : Lexed) → Valid s → closed (lexed s bs) ≡ s.words ++ rest s.line s.comment s.under_way (lines_of bs)
+total [] s v = ap (λ t. s.words ++ t) (ends s.line s.comment s.under_way v.clean v.data_word v.quiet ∙ sym (append_nothing _))
+total (c ∷ cs) s v =
+    let g = good s c v in
+    total cs (next s c) g.valid ∙ at_line (lines_of cs) (some_line cs)
+  where
+    at_line : (ls : List (List ℕ)) → 0 < length ls → (next s c).words ++ rest (next s c).line (next s c).comment (next s c).under_way ls
+        ≡ s.words ++ rest s.line s.comment s.under_way (cond (c == 10) ([] ∷ ls) (onto_first c ls))
+    at_line [] h = absurd (omega arith)
+    at_line (l ∷ ls) h = (good s c v).same l ls
+
+pub data_words-lexed : (bs : List ℕ) → closed (lexed start bs) ≡ data_words bs
+data_words-lexed bs = total bs start (record { clean = tt; data_word = tt; quiet = λ q. refl }) ∙ whole (lines_of bs) (some_line bs)
+  where
+    whole : (ls : List (List ℕ)) → 0 < length ls → rest 1 false [] ls ≡ words_from 1 ls
+    whole [] h = absurd (omega arith)
+    whole (l ∷ ls) h = refl

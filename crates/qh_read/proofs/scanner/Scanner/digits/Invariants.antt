@@ -1,0 +1,15 @@
+use Rattle.std.proofs.Common.{◌≡◌, ◌≤◌, false, drop}
+use Rattle.qh_read.specs.declared.token.TheConstants.{MAGNITUDE_CAP}
+use Rattle.qh_read.specs.declared.token.Token.TheVariants.{Digits}
+use Rattle.qh_read.specs.Holding.{held_by}
+use Rattle.qh_read.specs.Scanning.{held, under_way}
+use Rattle.qh_read.proofs.scanner.Scanner.digits.Given as goal
+
+-- the digits so far, and then what is left, are all bytes
+abbrev pub invariant-loop-i : goal.invariant-loop-i
+invariant-loop-i l = record {
+  told : held_by (held l.self (Digits l.minus l.magnitude)) (drop l.i l.bytes) ≡ held_by (held l.fn.self l.fn.token) l.fn.bytes;
+  small : l.magnitude ≤ MAGNITUDE_CAP;
+  quiet : l.self.comment ≡ false;
+  token : under_way l.fn.token ≡ 1;
+}

@@ -1,0 +1,17 @@
+use Rattle.std.proofs.Common.{◌≡◌, ◌≤◌, ◌+◌, length}
+use Rattle.qh_read.specs.Tokens.{IsSmall}
+use Rattle.qh_read.specs.Holding.{held_by}
+use Rattle.qh_read.specs.Scanning.{held, HasRoom}
+use Rattle.qh_read.proofs.scanner.Scanner.scan.Given as goal
+
+-- the bytes so far, and then what is left, are all bytes
+abbrev pub invariant-loop-byte : goal.invariant-loop-byte
+invariant-loop-byte l = record {
+  told : held_by (held l.self l.token) l.rest ≡ held_by (held l.fn.self l.fn.token) l.fn.piece;
+  small : IsSmall l.token;
+  room : HasRoom l.self l.token (length l.rest);
+  line : l.self.line + length l.rest ≤ l.fn.self.line + length l.fn.piece;
+}
+
+abbrev pub decreases-loop-byte : goal.decreases-loop-byte
+decreases-loop-byte l = length l.rest

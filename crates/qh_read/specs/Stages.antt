@@ -1,0 +1,41 @@
+-- What the parts of a builder show of the file so far.
+use Rattle.std.specs.Prelude.{ℕ, ℤ, Bool, true, false, List, [], ◌∷◌}
+use Rattle.qh_read.specs.ReadFaults.{fault_number}
+use Rattle.qh_read.specs.Progress.{Progress, wants_first, wants_second, wants, fails}
+use Rattle.qh_read.specs.declared.builder.Stage.{Stage}
+use Rattle.qh_read.specs.declared.builder.Stage.TheVariants as stages
+use Rattle.qh_read.specs.declared.builder.Pending.{Pending}
+use Rattle.qh_read.specs.declared.builder.Pending.TheVariants as pendings
+
+-- a stage, with the coordinates that were taken
+abbrev pub stage_shown : Stage → List ℤ → Progress
+stage_shown stages.First t = wants_first
+stage_shown (stages.Second first) t = wants_second first
+stage_shown (stages.Coordinates left) t = wants left t
+stage_shown (stages.Failed fault) t = fails fault
+
+-- the header is still to come, or a part of it
+abbrev pub is_header : Stage → Bool
+is_header stages.First = true
+is_header (stages.Second first) = true
+is_header (stages.Coordinates left) = false
+is_header (stages.Failed fault) = false
+
+-- the number of the fault that was found, or 0
+abbrev pub stage_fault : Stage → ℕ
+stage_fault stages.First = 0
+stage_fault (stages.Second first) = 0
+stage_fault (stages.Coordinates left) = 0
+stage_fault (stages.Failed fault) = fault_number fault
+
+-- the coordinates of the next point so far
+abbrev pub pending_list : Pending → List ℤ
+pending_list pendings.Zero = []
+pending_list (pendings.One x) = x.value ∷ []
+pending_list (pendings.Two x y) = x.value ∷ y.value ∷ []
+
+-- their number
+abbrev pub pending_count : Pending → ℕ
+pending_count pendings.Zero = 0
+pending_count (pendings.One x) = 1
+pending_count (pendings.Two x y) = 2

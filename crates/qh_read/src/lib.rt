@@ -1,0 +1,20 @@
+//! Reads point files: the text of a dimension, a number of points and their coordinates.
+//!
+//! [`read_points`] answers the points of a byte string, or the first fault that it has. A
+//! [`Reader`] does the same for bytes that come in pieces.
+#![tactic(auto)]
+
+mod builder;
+mod coordinate;
+pub mod fakes;
+mod fault;
+mod reader;
+mod scanner;
+mod source;
+mod token;
+mod whole;
+
+pub use fault::{FeedFault, ReadFault};
+pub use reader::Reader;
+pub use source::{DeviceFault, MemSource, Source, StdSource};
+pub use whole::{read_from, read_points};

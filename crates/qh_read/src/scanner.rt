@@ -1,0 +1,136 @@
+//! The step from bytes to words, in any pieces.
+ghost use Rattle.std.specs.Prelude.{ℕ, ◌≡◌, ◌≤◌, ◌<◌, ◌+◌, ◌^◌, length, OnOk, vec_len, vec_capacity};
+ghost use Rattle.qh_read.specs.Tokens.{IsSmall};
+ghost use Rattle.qh_read.specs.Building.{shown, taken_count};
+ghost use Rattle.qh_read.specs.Holding.{held_at_start, ended_held, next_held, held_by};
+ghost use Rattle.qh_read.specs.Scanning.{held, under_way, HasRoom};
+
+use crate::builder::Builder;
+use crate::token::{Token, begins_data, blank, with_digit};
+use std::alloc::{AllocError, Global};
+
+/// What is known of the bytes so far, save of the word under way, whose token goes beside it.
+#[derive(Drop)]
+pub struct Scanner {
+    pub builder: Builder,
+    /// A comment runs, to the end of the line.
+    pub comment: bool,
+    /// The line, from 1.
+    pub line: u32,
+}
+
+impl Scanner {
+    /// No byte yet.
+    pub fn new(alloc: Global) -> Scanner
+        ensures held { held result Token.Empty ≡ held_at_start }
+        ensures line { result.line ≡ 1 }
+        ensures room { HasRoom result Token.Empty 0 }
+    {
+        Scanner {
+            builder: Builder::new(alloc),
+            comment: false,
+            line: 1,
+        }
+    }
+
+    /// Makes room for all points that so many bytes more can complete.
+    ///
+    /// A coordinate takes two bytes at least, one of them a blank.
+    pub fn reserve(&mut self, bytes: usize) -> Result<(), AllocError>
+        ensures held { (t : Token) → held self.new t ≡ held self.old t }
+        ensures room { OnOk result ((t : Token) → HasRoom self.new t bytes) }
+        ensures kept { (t : Token) → HasRoom self.old t 0 → HasRoom self.new t 0 }
+    {
+        self.builder.reserve(bytes / 6 + 1)
+    }
+
+    /// Ends the word under way, if there is one.
+    pub fn end_word(&mut self, token: Token)
+        requires small { IsSmall token }
+        requires room { HasRoom self.old token 0 }
+        ensures held { held self.new Token.Empty ≡ ended_held (held self.old token) }
+        ensures line { self.new.line ≡ self.old.line }
+        ensures room { (bytes : ℕ) → HasRoom self.old token (bytes + 1) → HasRoom self.new Token.Empty bytes }
+    {
+        if !token.is_empty() {
+            self.builder.take(token.value(), self.line);
+        }
+    }
+
+    /// Takes one byte. It answers the word under way after it.
+    #[inline]
+    fn step(&mut self, token: Token, byte: u8) -> Token
+        requires small { IsSmall token }
+        requires room { HasRoom self.old token 1 }
+        requires line { self.old.line < 2 ^ 31 }
+        ensures held { held self.new result ≡ next_held (held self.old token) byte }
+        ensures small { IsSmall result }
+        ensures line { self.new.line ≤ self.old.line + 1 }
+        ensures room { (bytes : ℕ) → HasRoom self.old token (bytes + 1) → HasRoom self.new result bytes }
+    {
+        if byte == b'\n' {
+            self.end_word(token);
+            self.comment = false;
+            self.line += 1;
+            Token::Empty
+        } else if self.comment {
+            token
+        } else if byte.is_ascii_digit() {
+            token.grow_digit(byte)
+        } else if blank(byte) {
+            self.end_word(token);
+            Token::Empty
+        } else if !token.is_empty() || begins_data(byte) {
+            token.grow_other(byte)
+        } else {
+            self.comment = true;
+            token
+        }
+    }
+
+    /// Takes the digits that the bytes begin with, where digits are under way. It answers the word
+    /// under way after them, and the bytes that are left.
+    ///
+    /// Most bytes of a file go this way.
+    #[inline]
+    fn digits<'a>(&self, token: Token, bytes: &'a [u8]) -> (Token, &'a [u8])
+        requires { IsSmall token }
+        ensures held { held_by (held self.now result.0) result.1.now ≡ held_by (held self.now token) bytes.now }
+        ensures small { IsSmall result.0 }
+        ensures under_way { under_way result.0 ≡ under_way token }
+        ensures left { length result.1.now ≤ length bytes.now }
+    {
+        let Token::Digits(minus, mut magnitude) = token else {
+            return (token, bytes);
+        };
+        if self.comment {
+            return (token, bytes);
+        }
+        for (i, byte) in bytes.iter().enumerate() {
+            if !byte.is_ascii_digit() {
+                return (Token::Digits(minus, magnitude), &bytes[i..]);
+            }
+            magnitude = with_digit(magnitude, *byte - b'0');
+        }
+        (Token::Digits(minus, magnitude), &[])
+    }
+
+    /// Takes the next bytes. It answers the word under way after them.
+    pub fn scan(&mut self, token: Token, piece: &[u8]) -> Token
+        requires small { IsSmall token }
+        requires room { HasRoom self.old token (length piece.now) }
+        requires line { self.old.line + length piece.now < 2 ^ 31 }
+        ensures held { held self.new result ≡ held_by (held self.old token) piece.now }
+        ensures small { IsSmall result }
+        ensures line { self.new.line ≤ self.old.line + length piece.now }
+        ensures room { HasRoom self.new result 0 }
+    {
+        let mut token = token;
+        let mut rest = piece;
+        while let Some((byte, after)) = rest.split_first() {
+            let grown = self.step(token, *byte);
+            (token, rest) = self.digits(grown, after);
+        }
+        token
+    }
+}

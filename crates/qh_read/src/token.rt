@@ -1,0 +1,103 @@
+//! The word under way, of which only what tells its number is kept.
+ghost use Rattle.std.specs.Prelude.{◌≡◌, ◌≤◌, ◌<◌, ◌+◌, ◌*◌, ◌↔◌, [], ◌∷◌, true, false, IsTrue};
+ghost use Rattle.std.specs.Char.{is_ascii_digit};
+ghost use Rattle.qh_read.specs.Tokens.{cap, grown, value_of, IsSmall};
+ghost use Rattle.qh_model.specs.Words.{is_blank, is_data};
+
+use qh_model::COORDINATE_LIMIT;
+
+/// Magnitudes from here on are not told apart: each is past the range of every number of a file.
+pub const MAGNITUDE_CAP: u32 = COORDINATE_LIMIT + 1;
+
+/// What is known of the word under way.
+#[derive(Clone, Copy, Debug)]
+pub enum Token {
+    /// No byte of it yet.
+    Empty,
+    /// A sign, and whether it is a minus.
+    Sign(bool),
+    /// Digits after a sign or none, whether it is a minus, and their value up to the cap.
+    Digits(bool, u32),
+    /// A data word that is no number.
+    Other,
+}
+
+/// Whether the byte parts words within a line.
+pub fn blank(byte: u8) -> bool
+    ensures { result ≡ is_blank byte }
+{
+    matches!(byte, 9 | 11 | 12 | 13 | 32)
+}
+
+/// Whether a word that begins with this byte is a data word.
+pub fn begins_data(byte: u8) -> bool
+    ensures { result ≡ is_data (byte ∷ []) }
+{
+    byte.is_ascii_digit() || matches!(byte, b'+' | b'-' | b'.')
+}
+
+/// The magnitude after one more digit, up to the cap.
+#[inline]
+pub fn with_digit(magnitude: u32, digit: u8) -> u32
+    requires small { magnitude ≤ MAGNITUDE_CAP }
+    requires digit { digit < 10 }
+    ensures { result ≡ cap (10 * magnitude + digit) }
+{
+    let next = 10 * magnitude + digit as u32;
+    if next < MAGNITUDE_CAP {
+        next
+    } else {
+        MAGNITUDE_CAP
+    }
+}
+
+impl Token {
+    /// Whether no word is under way.
+    pub fn is_empty(self) -> bool
+        ensures { IsTrue result ↔ (self ≡ Token.Empty) }
+    {
+        matches!(self, Token::Empty)
+    }
+
+    /// The word with one digit more.
+    #[inline]
+    pub fn grow_digit(self, byte: u8) -> Token
+        requires small { IsSmall self }
+        requires digit { is_ascii_digit byte ≡ true }
+        ensures grown { result ≡ grown self byte }
+        ensures small { IsSmall result }
+    {
+        let digit = byte - b'0';
+        match self {
+            Token::Digits(minus, magnitude) => Token::Digits(minus, with_digit(magnitude, digit)),
+            Token::Sign(minus) => Token::Digits(minus, digit as u32),
+            Token::Empty => Token::Digits(false, digit as u32),
+            Token::Other => Token::Other,
+        }
+    }
+
+    /// The word with one byte more that is no digit.
+    pub fn grow_other(self, byte: u8) -> Token
+        requires { is_ascii_digit byte ≡ false }
+        ensures grown { result ≡ grown self byte }
+        ensures small { IsSmall result }
+    {
+        match (self, byte) {
+            (Token::Empty, b'+') => Token::Sign(false),
+            (Token::Empty, b'-') => Token::Sign(true),
+            _ => Token::Other,
+        }
+    }
+
+    /// The number of the word, up to the cap, if it is one.
+    pub fn value(self) -> Option<i32>
+        requires { IsSmall self }
+        ensures { result ≡ value_of self }
+    {
+        match self {
+            Token::Digits(false, magnitude) => Some(magnitude as i32),
+            Token::Digits(true, magnitude) => Some(-(magnitude as i32)),
+            _ => None,
+        }
+    }
+}

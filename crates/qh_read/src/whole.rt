@@ -1,0 +1,65 @@
+//! Reading of a whole input.
+ghost use Rattle.std.specs.Prelude.{◌≡◌, ◌≢◌, ◌≤◌, ◌<◌, ◌+◌, ◌-◌, ◌^◌, length, vec_len, IfOk, IfErr, Err};
+ghost use Rattle.qh_model.specs.PointFile.{Reads};
+ghost use Rattle.qh_read.specs.ReadFaults.{IsFaultOf, IsFirstFault, IsTextFault};
+ghost use Rattle.qh_read.specs.SourceBytes.{Gives, GivesAll};
+
+use crate::fault::ReadFault;
+use crate::reader::Reader;
+use crate::source::Source;
+use qh_model::{BYTE_LIMIT, Point};
+use std::alloc::{AllocError, Global};
+
+/// How many bytes are taken at once, so that the room made for them stays small.
+pub const PIECE_LENGTH: usize = 65536;
+
+/// The points of a file, in its order, or its first fault.
+///
+/// `Big` goes before all other faults, and is found before any growth. `Memory` is answered where
+/// room for the points was refused; `Device` never.
+pub fn read_points(alloc: Global, bytes: &[u8]) -> Result<Vec<Point>, ReadFault>
+    ensures read { IfOk result (λ points. Reads bytes.now points.items) }
+    ensures fault { IfErr result (λ e. IsFaultOf bytes.now e) }
+{
+    if bytes.len() > BYTE_LIMIT as usize {
+        return Err(ReadFault::Big);
+    }
+    let mut reader = Reader::new(alloc);
+    for piece in bytes.chunks(PIECE_LENGTH) {
+        reader.feed(piece)?;
+    }
+    reader.finish()
+}
+
+/// Room for a piece, on the heap.
+fn new_buffer(alloc: Global) -> Result<Vec<u8>, AllocError>
+    ensures { IfOk result (λ buffer. vec_len buffer ≡ PIECE_LENGTH) }
+{
+    vec![in alloc; 0; PIECE_LENGTH]
+}
+
+/// The points of the file that a source gives, in its order, or its first fault.
+///
+/// Points and faults of the text are answered only once the end was read, of all bytes that came.
+/// `Device` is answered where a read failed, and no call follows that read; `Big` where more than
+/// `BYTE_LIMIT` bytes came, of which at most `PIECE_LENGTH` are too many; `Memory` where memory was
+/// refused. The source's count of failures has room for one more.
+pub fn read_from<S: Source>(alloc: Global, source: &mut S) -> Result<Vec<Point>, ReadFault>
+    requires { S.failure_count source.old < 2 ^ 64 - 1 }
+    ensures read { IfOk result (λ points. GivesAll (S.remaining source.old) (S.remaining source.new) (λ bytes. Reads bytes points.items)) }
+    ensures fault { IfErr result (λ e. IsTextFault e → GivesAll (S.remaining source.old) (S.remaining source.new) (λ bytes. IsFirstFault bytes e)) }
+    ensures big { result ≡ Err ReadFault.Big → Gives (S.remaining source.old) (S.remaining source.new)
+        (λ bytes. (BYTE_LIMIT < length bytes) × (length bytes ≤ BYTE_LIMIT + PIECE_LENGTH)) }
+    ensures device { result ≡ Err ReadFault.Device → S.failure_count source.new ≡ S.failure_count source.old + 1 }
+    ensures no_device { result ≢ Err ReadFault.Device → S.failure_count source.new ≡ S.failure_count source.old }
+{
+    let mut buffer = new_buffer(alloc)?;
+    let mut reader = Reader::new(alloc);
+    loop {
+        let count = source.read(&mut buffer)?;
+        if count == 0 {
+            return reader.finish();
+        }
+        reader.feed(&buffer[..count])?;
+    }
+}
