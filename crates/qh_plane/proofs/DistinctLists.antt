@@ -2,7 +2,6 @@
 use Rattle.std.proofs.Common.{◌≡◌, ◌≢◌, ℕ, ◌+◌, ◌*◌, ◌%◌, ◌/◌, ◌<◌, ◌≤◌, List, [], ◌∷◌, length, get_or, map, replicate, arith, ap, sym, subst, ◌∙◌, refl, ◌⊎◌, inl, inr, ⊎_elim, true, false, Bool}
 use Rattle.std.proofs.lemmas.Bool.Decides.{nat_tests}
 use Rattle.std.proofs.lemmas.List.{length-replicate}
-use Rattle.std.proofs.lemmas.List.Elements.{All-from_recursion}
 use Rattle.std.specs.Prelude.{IsPermutation}
 use Rattle.std.specs.List.{All, AllByRecursion as Every}
 use Rattle.std.specs.List.Sorted.{IsStrictlyIncreasing, IsNonDecreasing}
@@ -13,7 +12,7 @@ use Rattle.qh_model.specs.Sets.{In}
 use Rattle.qh_model.specs.Vector.{Vector}
 use Rattle.qh_plane.proofs.KeyOrder.{IsKeyOf, sorted_keys, rising_keys, key_parts, key_id, place_code-same, raised_small, sorted-all}
 use Rattle.qh_plane.proofs.MarkedIds.{IsMarked, in_marked_ids, of_marked_ids, marked_ids-rise, marked_only, marked_has, blank}
-use Rattle.qh_plane.proofs.Members.{in_at, in_map, of_map, Rises, rises_above}
+use Rattle.qh_plane.proofs.Members.{All-of, every_of, in_at, in_map, of_map, Rises, rises_above}
 use Rattle.qh_plane.proofs.PlaceStarts.{Start, IsBefore, starts_only, starts_all}
 use Rattle.qh_plane.specs.declared.place_keys.TheConstants.{ROOM}
 use Rattle.qh_plane.specs.declared.distinct_points.TheConstants.{NO_PLACE}
@@ -166,24 +165,22 @@ module _ (pts : List Vector) (all keys : List ℕ) (a : AllIds (length pts) all)
               subst (λ v. key_at pts i ≤ v) (sym (t.is ∙ key_parts pts (y % ROOM) ∙ ap (λ v. v * ROOM + y % ROOM) codes))
               (subst (λ v. v ≤ place_code (place pts i) * ROOM + y % ROOM) (sym (key_parts pts i)) (order_key (place_code (place pts i)) i (y % ROOM) h))
 
-  -- the ids at the starts are indices of the marks
-  within : (ks : List ℕ) → ((k : ℕ) → In k ks → In k keys) → Every (λ k. k % ROOM < length (replicate (length pts) false)) ks
-  within [] f = tt
-  within (k ∷ ks) f = (subst (λ v. k % ROOM < v) (sym (length-replicate (length pts) false)) (in_all (length pts) all a (k % ROOM) (every_at (IsKeyOf pts all) keys k told (f k (inl refl))).has), within ks (λ j m. f j (inr m)))
-
   -- the ids in the keys are indices
   pub all_within : All (λ k. k % ROOM < length pts) keys
-  all_within = All-from_recursion (λ k. k % ROOM < length pts) keys (go keys (λ k m. m))
-    where
-      go : (ks : List ℕ) → ((k : ℕ) → In k ks → In k keys) → Every (λ k. k % ROOM < length pts) ks
-      go [] f = tt
-      go (k ∷ ks) f = (in_all (length pts) all a (k % ROOM) (every_at (IsKeyOf pts all) keys k told (f k (inl refl))).has, go ks (λ j m. f j (inr m)))
+  all_within = All-of (λ k. k % ROOM < length pts) keys (λ k m. in_all (length pts) all a (k % ROOM) (every_at (IsKeyOf pts all) keys k told m).has)
+
+  -- the ids at the starts are indices of the marks
+  within : Every (λ k. k % ROOM < length (replicate (length pts) false)) (place_starts NO_PLACE keys)
+  within =
+      every_of (λ k. k % ROOM < length (replicate (length pts) false)) (place_starts NO_PLACE keys) (λ k m.
+      subst (λ v. k % ROOM < v) (sym (length-replicate (length pts) false))
+      (in_all (length pts) all a (k % ROOM) (every_at (IsKeyOf pts all) keys k told (starts_only NO_PLACE keys k (up_list keys up) fresh m).has).has))
 
   -- the ids that are marked at the starts are the distinct ids
   pub distinct_ids : AreDistinctIds pts (marked_ids 0 (marked (replicate (length pts) false) (place_starts NO_PLACE keys)))
   distinct_ids = record {
     rising = marked_ids-rise (marked (replicate (length pts) false) (place_starts NO_PLACE keys));
-    members = λ i. (λ m. only i (of_marked_ids 0 i marks m), λ f. subst (λ v. In v (marked_ids 0 marks)) (omega arith) (in_marked_ids 0 i marks (marked_has (replicate (length pts) false) (place_starts NO_PLACE keys) i (within (place_starts NO_PLACE keys) (λ k m. (starts_only NO_PLACE keys k (up_list keys up) fresh m).has)) (inr (from_first i f)))));
+    members = λ i. (λ m. only i (of_marked_ids 0 i marks m), λ f. subst (λ v. In v (marked_ids 0 marks)) (omega arith) (in_marked_ids 0 i marks (marked_has (replicate (length pts) false) (place_starts NO_PLACE keys) i within (inr (from_first i f)))));
   }
     where
       marks : List Bool

@@ -3,12 +3,10 @@ use Rattle.std.proofs.Common.{◌≡◌, ℕ, refl, List, [], ◌∷◌, arith, 
 use Rattle.std.proofs.lemmas.Int.{ints, by_lt_z}
 use Rattle.std.specs.Prelude.{ℤ, pos, ◌≤ℤ◌, ◌<ℤ◌}
 use Rattle.qh_model.specs.Sets.{In, Once}
+use Rattle.qh_model.proofs.algebra.Order.{le_antisym}
+use Rattle.qh_plane.proofs.Signs.{not_less}
 use Rattle.qh_plane.proofs.polygons.TurnLaws.{HasOnLeft, IsChain, chain_top}
 use Rattle.qh_plane.proofs.polygons.Cycles.{bottom}
-
--- a number is not below another that it is not below
-pub against : (a b : ℤ) → a <ℤ b → b ≤ℤ a → ⊥
-against a b h k = omega (arith, ints)
 
 -- ---- what a stack says of its members
 module _ (turn : ℕ → ℕ → ℕ → ℤ) (key : ℕ → ℤ) (A : ℕ → Type 0) where
@@ -94,11 +92,8 @@ module _ (turn : ℕ → ℕ → ℕ → ℤ) (key : ℕ → ℤ) (A : ℕ → T
 
   -- what is no member lies under an edge
   pub span : ((x y : ℕ) → A x → A y → key x ≡ key y → x ≡ y) → (t : ℕ) (s : List ℕ) → IsChain turn key A t s → (e : ℕ) → A e → (In e (t ∷ s) → ⊥) → key e <ℤ key t → Span e (t ∷ s)
-  span same t [] g e ae out lt = absurd (against (key e) (key t) lt (g.1 e ae))
+  span same t [] g e ae out lt = absurd (not_less (key e) (key t) lt (g.1 e ae))
   span same t (r ∷ s) g e ae out lt =
       by_lt_z (key e) (key r) (λ l. span-more e t (r ∷ s) (span same r s g.4 e ae (λ i. out (inr i)) l))
       (λ k. by_lt_z (key r) (key e) (λ l. record { u = r; v = t; has_u = inr (inl refl); has_v = inl refl; is_u = chain_top turn key A r s g.4; is_v = g.0; before = l; after = lt; edge = g.2 })
-      (λ l. absurd (out (inr (inl (same e r ae (chain_top turn key A r s g.4) (both (key e) (key r) k l)))))))
-    where
-      both : (a b : ℤ) → b ≤ℤ a → a ≤ℤ b → a ≡ b
-      both a b h k = omega (arith, ints)
+      (λ l. absurd (out (inr (inl (same e r ae (chain_top turn key A r s g.4) (le_antisym (key e) (key r) l k)))))))

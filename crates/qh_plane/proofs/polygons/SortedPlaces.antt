@@ -1,7 +1,6 @@
 -- The cycle over the two chains of sorted ids goes round the extremes.
 use Rattle.std.proofs.Common.{◌≡◌, ℕ, ◌+◌, ◌*◌, ◌%◌, ◌<◌, List, [], ◌∷◌, length, map, reverse, arith, ap, sym, subst, ◌∙◌, refl, inl, inr, ⊎_elim}
 use Rattle.std.proofs.lemmas.List.{length-map}
-use Rattle.std.proofs.lemmas.List.Elements.{All-from_recursion}
 use Rattle.std.proofs.lemmas.List.Sorted.{length_permutation}
 use Rattle.std.specs.Prelude.{ℤ, ◌<ℤ◌, ◌↔◌}
 use Rattle.std.specs.List.{All, AllByRecursion as Every}
@@ -13,14 +12,14 @@ use Rattle.qh_model.specs.Predicates.{place}
 use Rattle.qh_model.specs.Sets.{In}
 use Rattle.qh_model.specs.Vector.{Vector}
 use Rattle.qh_plane.proofs.KeyOrder.{IsKeyOf, sorted_keys, rising_keys, key_parts, place_code-same, sorted-only, sorted-all}
-use Rattle.qh_plane.proofs.Members.{RisesAbove, rises_above}
+use Rattle.qh_plane.proofs.Members.{All-of, less_differ, RisesAbove, rises_above}
 use Rattle.qh_plane.proofs.polygons.Cycles.{in-turned_onto, turned_onto-in}
 use Rattle.qh_plane.proofs.polygons.GoesRound.{GoesRound, goes_round}
 use Rattle.qh_plane.proofs.polygons.PlaceHeights.{order, place_code-less, keyed_of}
 use Rattle.qh_plane.proofs.polygons.Stacks.{reverse-turned_onto}
 use Rattle.qh_plane.proofs.polygons.TurnLaws.{RisesBy}
 use Rattle.qh_plane.proofs.polygons.Turns.{IsFlat, IsKeyed, turn_about, height_of}
-use Rattle.qh_plane.proofs.polygons.TwoChains.{lt_neg}
+use Rattle.qh_plane.proofs.Signs.{lt_neg}
 use Rattle.qh_plane.specs.declared.place_keys.TheConstants.{ROOM}
 use Rattle.qh_plane.specs.Chains.{turned_onto, joined, chain}
 use Rattle.qh_plane.specs.PlaceKeys.{place_code, key_at, ids_in, HasKey, AreByPlace}
@@ -36,10 +35,7 @@ step_up : (pts : List Vector) (ids : List ℕ) (k l : ℕ) → HasDistinctPoints
 step_up pts ids k l d t u lt =
     place_code-less (place pts (k % ROOM)) (place pts (l % ROOM)) t.known.place_in u.known.place_in
     (less_code (place_code (place pts (k % ROOM))) (place_code (place pts (l % ROOM))) (k % ROOM) (l % ROOM) k l (t.is ∙ key_parts pts (k % ROOM)) (u.is ∙ key_parts pts (l % ROOM)) t.known.small u.known.small lt
-    (λ e. no_less k l lt (t.is ∙ ap (key_at pts) (d (k % ROOM) (l % ROOM) t.has u.has (place_code-same _ _ t.known.place_in u.known.place_in e)) ∙ sym u.is)))
-  where
-    no_less : (a b : ℕ) → a < b → a ≡ b → ⊥
-    no_less a b h e = omega arith
+    (λ e. less_differ k l lt (t.is ∙ ap (key_at pts) (d (k % ROOM) (l % ROOM) t.has u.has (place_code-same _ _ t.known.place_in u.known.place_in e)) ∙ sym u.is)))
 
 -- the same along a list
 rises_of : (pts : List Vector) (ids : List ℕ) (k : ℕ) (ks : List ℕ) → HasDistinctPoints (place pts) (λ x. In x ids) → Every (IsKeyOf pts ids) (k ∷ ks) → RisesAbove k ks
@@ -96,8 +92,4 @@ round_sorted pts ids sorted n b k r d l flat =
 -- each sorted id is an index
 pub sorted_indices : (pts : List Vector) (ids sorted : List ℕ) → AreByPlace pts ids sorted → All (HasKey pts) ids → All (λ i. i < length pts) ids → All (λ i. i < length pts) sorted
 sorted_indices pts ids sorted b k h =
-    All-from_recursion (λ i. i < length pts) sorted (go sorted (λ x i. All-In (λ v. v < length pts) ids x h (sorted-only pts ids sorted b k x i)))
-  where
-    go : (xs : List ℕ) → ((x : ℕ) → In x xs → x < length pts) → Every (λ i. i < length pts) xs
-    go [] f = tt
-    go (x ∷ xs) f = (f x (inl refl), go xs (λ y i. f y (inr i)))
+    All-of (λ i. i < length pts) sorted (λ x i. All-In (λ v. v < length pts) ids x h (sorted-only pts ids sorted b k x i))

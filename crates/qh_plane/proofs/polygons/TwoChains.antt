@@ -3,7 +3,7 @@ use Rattle.std.proofs.Common.{◌≡◌, ℕ, refl, List, [], ◌∷◌, arith, 
 use Rattle.std.proofs.lemmas.Int.{ints, by_lt_z}
 use Rattle.std.specs.Prelude.{ℤ, pos, neg_ℤ, ◌≤ℤ◌, ◌<ℤ◌, ◌↔◌}
 use native.Mathlib.Decide.{ℕ_discrete}
-use Rattle.qh_model.proofs.algebra.Order.{mul-nonneg_nonpos}
+use Rattle.qh_model.proofs.algebra.Order.{le_antisym, mul-nonneg_nonpos}
 use Rattle.qh_model.proofs.algebra.Ring.{ring}
 use Rattle.qh_model.proofs.algebra.Ring.Expr.{neg}
 use Rattle.qh_model.proofs.algebra.VectorIdentities.{vec, crossE, dotE, put, opposite, oppositeE, dot-opposite}
@@ -14,37 +14,18 @@ use Rattle.qh_model.specs.Separator.{Separator}
 use Rattle.qh_model.specs.Polygon.{AroundCycle, TurnsLeft}
 use Rattle.qh_model.proofs.extremes.ExtremeIds.{combination_within, alternative_in, listed_itself}
 use Rattle.qh_model.proofs.polygons.Direction.{cycle_map}
+use Rattle.qh_plane.proofs.Signs.{not_less, le_less, opposite_same, neg_le, le_neg, neg_lt, lt_neg}
 use Rattle.qh_plane.proofs.polygons.TurnLaws.{IsChain}
 use Rattle.qh_plane.proofs.polygons.Turns.{IsFlat, IsKeyed, turn_about, height_of, turn_laws}
 use Rattle.qh_plane.proofs.polygons.Corners.{Corner, greatest_corner, corner_extreme, core, strict}
 use Rattle.qh_plane.proofs.polygons.Sides.{Side, Down, sides, down_corner}
 use Rattle.qh_plane.proofs.polygons.Cycles.{bottom, bottom-in, cycle-of, in-turned_onto, turned_onto-in, once-turned_onto}
-use Rattle.qh_plane.proofs.polygons.ChainMembers.{against, Under, Inside, Span, chain-in, chain-below, chain-once, chain-bottom, under, inside, span}
+use Rattle.qh_plane.proofs.polygons.ChainMembers.{Under, Inside, Span, chain-in, chain-below, chain-once, chain-bottom, under, inside, span}
 use Rattle.qh_plane.specs.Chains.{turned_onto}
 
 -- a bracket along the opposite direction
 bracket-opposite : (h w n : Vector) → dot (cross_product (opposite h) w) n ≡ neg_ℤ (dot (cross_product h w) n)
 bracket-opposite h w n = ring (put h (put w (put n []))) (dotE (crossE (oppositeE (vec 0)) (vec 1)) (vec 2)) (neg (dotE (crossE (vec 0) (vec 1)) (vec 2))) refl
-
--- equal numbers have equal opposites
-pub opposite_same : (a b x y : ℤ) → a ≡ neg_ℤ x → b ≡ neg_ℤ y → a ≡ b → x ≡ y
-opposite_same a b x y e f h = omega (arith, ints)
-
--- opposites are in the opposite order
-neg_le : (a b x y : ℤ) → a ≡ neg_ℤ x → b ≡ neg_ℤ y → a ≤ℤ b → y ≤ℤ x
-neg_le a b x y e f h = omega (arith, ints)
-
--- and back
-le_neg : (a b x y : ℤ) → a ≡ neg_ℤ x → b ≡ neg_ℤ y → y ≤ℤ x → a ≤ℤ b
-le_neg a b x y e f h = omega (arith, ints)
-
--- strictly
-neg_lt : (a b x y : ℤ) → a ≡ neg_ℤ x → b ≡ neg_ℤ y → a <ℤ b → y <ℤ x
-neg_lt a b x y e f h = omega (arith, ints)
-
--- and back
-pub lt_neg : (a b x y : ℤ) → a ≡ neg_ℤ x → b ≡ neg_ℤ y → y <ℤ x → a <ℤ b
-lt_neg a b x y e f h = omega (arith, ints)
 
 -- heights the other way round differ too
 pub keyed_opposite : (h : Vector) (at : ℕ → Vector) (A : ℕ → Type 0) → IsKeyed h at A → IsKeyed (opposite h) at A
@@ -95,21 +76,17 @@ module _ (n h : Vector) (at : ℕ → Vector) (A : ℕ → Type 0) (m a : ℕ) (
   upper_sides : Down (Side n at A) z (b ∷ r)
   upper_sides = sides n (opposite h) at A c.flat kb high_corner z (b ∷ r) (greatest_corner (opposite h) at A kb z c.upper.0 c.first) c.upper
 
-  -- numbers that are not above each other are equal
-  both_le : (x y : ℤ) → x ≤ℤ y → y ≤ℤ x → x ≡ y
-  both_le x y p q = omega (arith, ints)
-
   -- the way there begins where the way back ends
   lower_ends : bottom a s ≡ z
   lower_ends =
       let g = chain-bottom (turn_about n at) (height_of h at) A m (a ∷ s) c.lower in
-      c.keyed.same (bottom a s) z g.0 c.upper.0 (both_le _ _ (g.1 z c.upper.0) (neg_le _ _ _ _ (dot-opposite h (at (bottom a s))) (dot-opposite h (at z)) (c.first (bottom a s) g.0)))
+      c.keyed.same (bottom a s) z g.0 c.upper.0 (le_antisym _ _ (g.1 z c.upper.0) (neg_le _ _ _ _ (dot-opposite h (at (bottom a s))) (dot-opposite h (at z)) (c.first (bottom a s) g.0)))
 
   -- and ends where it begins
   upper_ends : bottom b r ≡ m
   upper_ends =
       let g = chain-bottom (turn_about n at) (height_of (opposite h) at) A z (b ∷ r) c.upper in
-      c.keyed.same (bottom b r) m g.0 c.lower.0 (both_le _ _ (c.last (bottom b r) g.0) (neg_le _ _ _ _ (dot-opposite h (at (bottom b r))) (dot-opposite h (at m)) (g.1 m c.lower.0)))
+      c.keyed.same (bottom b r) m g.0 c.lower.0 (le_antisym _ _ (c.last (bottom b r) g.0) (neg_le _ _ _ _ (dot-opposite h (at (bottom b r))) (dot-opposite h (at m)) (g.1 m c.lower.0)))
 
   -- the way round
   ring_list : List ℕ
@@ -158,8 +135,8 @@ module _ (n h : Vector) (at : ℕ → Vector) (A : ℕ → Type 0) (m a : ℕ) (
       let av = chain-in (turn_about n at) (height_of h at) A m (a ∷ s) c.lower v (inr i) in
       let up = chain-below (turn_about n at) (height_of (opposite h) at) A z (b ∷ r) c.upper v j in
       let down = chain-below (turn_about n at) (height_of h at) A m (a ∷ s) c.lower v i in
-      ⊎_elim (λ l. against _ _ (neg_lt _ _ _ _ (dot-opposite h (at v)) (dot-opposite h (at z)) up) (l z c.upper.0))
-      (λ u. ⊎_elim (λ l. against _ _ (lt_neg _ _ _ _ (dot-opposite h (at m)) (dot-opposite h (at v)) down) (l m c.lower.0)) (λ k. meet v av u k) (inside (turn_about n at) (height_of (opposite h) at) A z (b ∷ r) c.upper v j))
+      ⊎_elim (λ l. not_less _ _ (neg_lt _ _ _ _ (dot-opposite h (at v)) (dot-opposite h (at z)) up) (l z c.upper.0))
+      (λ u. ⊎_elim (λ l. not_less _ _ (lt_neg _ _ _ _ (dot-opposite h (at m)) (dot-opposite h (at v)) down) (l m c.lower.0)) (λ k. meet v av u k) (inside (turn_about n at) (height_of (opposite h) at) A z (b ∷ r) c.upper v j))
       (under (turn_about n at) (height_of h at) A m (a ∷ s) c.lower v (inr i))
 
   -- each stands once
@@ -193,9 +170,6 @@ module _ (n h : Vector) (at : ℕ → Vector) (A : ℕ → Type 0) (m a : ℕ) (
       turned : (x y : ℤ) → x ≡ neg_ℤ y → pos 0 <ℤ y → x ≤ℤ pos 0
       turned x y e h = omega (arith, ints)
 
-      strict_of : (x y : ℤ) → x ≤ℤ y → (x ≡ y → ⊥) → x <ℤ y
-      strict_of x y h k = by_lt_z x y (λ l. l) (λ l. absurd (k (both_le x y h l)))
-
       low_in : (x : ℕ) → In x (m ∷ a ∷ s) → In x ring_list
       low_in x (inl k) = subst (λ v. In v ring_list) (sym k) has_m
       low_in x (inr i) = in_lower x i
@@ -205,10 +179,10 @@ module _ (n h : Vector) (at : ℕ → Vector) (A : ℕ → Type 0) (m a : ℕ) (
       up_in x (inr i) = in_upper x i
 
       low : Span (turn_about n at) (height_of h at) A e (m ∷ a ∷ s)
-      low = span (turn_about n at) (height_of h at) A c.keyed.same m (a ∷ s) c.lower e ae (λ i. out (low_in e i)) (strict_of _ _ (c.last e ae) (λ k. out (low_in e (inl (c.keyed.same e m ae c.lower.0 k)))))
+      low = span (turn_about n at) (height_of h at) A c.keyed.same m (a ∷ s) c.lower e ae (λ i. out (low_in e i)) (le_less _ _ (c.last e ae) (λ k. out (low_in e (inl (c.keyed.same e m ae c.lower.0 k)))))
 
       up : Span (turn_about n at) (height_of (opposite h) at) A e (z ∷ b ∷ r)
-      up = span (turn_about n at) (height_of (opposite h) at) A kb.same z (b ∷ r) c.upper e ae (λ i. out (up_in e i)) (strict_of _ _ (c.first e ae) (λ k. out (up_in e (inl (kb.same e z ae c.upper.0 k)))))
+      up = span (turn_about n at) (height_of (opposite h) at) A kb.same z (b ∷ r) c.upper e ae (λ i. out (up_in e i)) (le_less _ _ (c.first e ae) (λ k. out (up_in e (inl (kb.same e z ae c.upper.0 k)))))
 
   -- so each extreme is on it
   extreme_in : (e : ℕ) → Extreme at A e → In e ring_list
