@@ -13,13 +13,13 @@ abbrev IsCapped : (ℕ → ℕ → ℕ → ℤ) → (ℕ → ℤ) → (ℕ → T
 IsCapped turn key D y t = (x : ℕ) → D x → key t <ℤ key x → pos 0 ≤ℤ turn t y x
 
 -- a turn to the left is above 0
-is_left-yes : (z : ℤ) → is_left z ≡ true → pos 0 <ℤ z
+pub is_left-yes : (z : ℤ) → is_left z ≡ true → pos 0 <ℤ z
 is_left-yes (pos zero) e = cc
 is_left-yes (pos (suc n)) e = omega (arith, ints)
 is_left-yes (negsuc n) e = cc
 
 -- another is not
-is_left-no : (z : ℤ) → is_left z ≡ false → z ≤ℤ pos 0
+pub is_left-no : (z : ℤ) → is_left z ≡ false → z ≤ℤ pos 0
 is_left-no (pos zero) e = omega (arith, ints)
 is_left-no (pos (suc n)) e = cc
 is_left-no (negsuc n) e = omega (arith, ints)
