@@ -1,5 +1,5 @@
 -- What is right as the answer to an input.
-use Rattle.std.specs.Prelude.{ℕ, ◌≡◌, List, All, length}
+use Rattle.std.specs.Prelude.{ℕ, ◌≡◌, ◌⊎◌, List, All, length}
 use Rattle.qh_model.specs.Vector.{Vector}
 use Rattle.qh_model.specs.Predicates.{place}
 use Rattle.qh_model.specs.Sets.{Members}
@@ -11,7 +11,8 @@ use Rattle.qh_model.specs.Text.{hull_text}
 use Rattle.qh_write.specs.declared.out.Out.{Out}
 use Rattle.qh_write.specs.declared.out.Out.TheVariants.{Rank}
 use Rattle.qh_write.specs.Outs.{out_numbers}
-use Rattle.qh_read.specs.ReadFaults.{IsFaultOf}
+use Rattle.qh_read.specs.declared.fault.ReadFault.TheVariants as reads
+use Rattle.qh_read.specs.ReadFaults.{IsFirstFault}
 use Rattle.qconvex.specs.declared.fault.Fault.{Fault}
 use Rattle.qconvex.specs.declared.fault.Fault.TheVariants as faults
 
@@ -27,18 +28,30 @@ pub record IsRanked (pts : List Vector) (h : HullValue) : Type 0 where
 abbrev pub IsRankAlone : List Out → Type 0
 IsRankAlone outs = All (λ out. out ≡ Rank) outs
 
--- the bytes read as some points, and the text is theirs
-pub record IsAnswer (input : List ℕ) (outs : List Out) (text : List ℕ) : Type 0 where
-  pub pts : List Vector
-  pub reads : Reads input pts
+-- the text of the points, where `rank` is the only output
+pub record IsRankText (pts : List Vector) (outs : List Out) (text : List ℕ) : Type 0 where
   pub hull : HullValue
   pub ranked : IsRanked pts hull
   pub alone : IsRankAlone outs
   pub is : text ≡ hull_text hull pts (out_numbers outs)
 
+-- why there is no text of the points: memory was refused, or the outputs cannot be made of them as yet
+abbrev pub IsRefusal : List Vector → List Out → Fault → Type 0
+IsRefusal pts outs e = (e ≡ faults.Read reads.Memory) ⊎ ((e ≡ faults.NotYet) × ¬ (IsRankAlone outs))
+
+-- the bytes read as some points, of which this holds
+pub record ReadsAs (bytes : List ℕ) (P : List Vector → Type 0) : Type 0 where
+  pub pts : List Vector
+  pub reads : Reads bytes pts
+  pub holds : P pts
+
+-- the text of the points that the bytes read as
+abbrev pub IsAnswer : List ℕ → List Out → List ℕ → Type 0
+IsAnswer input outs text = ReadsAs input (λ pts. IsRankText pts outs text)
+
 -- memory was refused, or the fault is the first of the bytes, or the outputs cannot be made as yet of the points read
 abbrev pub IsAnswerFault : List ℕ → List Out → Fault → Type 0
-IsAnswerFault input outs (faults.Read f) = IsFaultOf input f
+IsAnswerFault input outs (faults.Read f) = (f ≡ reads.Memory) ⊎ IsFirstFault input f
 IsAnswerFault input outs faults.Send = ⊥
 IsAnswerFault input outs faults.Usage = ⊥
-IsAnswerFault input outs faults.NotYet = (¬ (IsRankAlone outs)) × ((pts : List Vector) × Reads input pts)
+IsAnswerFault input outs faults.NotYet = (¬ (IsRankAlone outs)) × ReadsAs input (λ _. Unit {0})

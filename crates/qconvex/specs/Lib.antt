@@ -2,3 +2,4 @@ pub mod SettingsValue
 pub mod FaultLines
 pub mod CommandLine
 pub mod Answers
+pub mod Serving

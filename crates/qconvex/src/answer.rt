@@ -1,7 +1,7 @@
 ghost use Rattle.std.specs.Prelude.{◌≡◌, ◌<◌, ◌≤◌, ◌↔◌, IfOk, IfErr, IsTrue, length};
 ghost use Rattle.qh_model.specs.declared.limits.TheConstants.{POINT_LIMIT};
 ghost use Rattle.qh_write.specs.Outs.{NamesPoints};
-ghost use Rattle.qconvex.specs.Answers.{IsRanked, IsRankAlone, IsAnswer, IsAnswerFault};
+ghost use Rattle.qconvex.specs.Answers.{IsRanked, IsRankAlone, IsRankText, IsRefusal, IsAnswer, IsAnswerFault};
 
 use crate::fault::Fault;
 use crate::settings::Settings;
@@ -40,6 +40,28 @@ fn is_rank_alone(outs: &[Out]) -> bool
     outs.iter().all(|out| *out == Out::Rank)
 }
 
+/// The texts of the outputs, for at least one point and at most `POINT_LIMIT` points.
+///
+/// The fault is want of memory, or `NotYet` where an output other than `rank` is asked for.
+pub fn text_of<R: Threads + Sync>(
+    rt: &R,
+    alloc: Global,
+    pts: &[Point],
+    outs: &[Out],
+) -> Result<Vec<u8>, Fault>
+    requires some { 0 < length pts.now }
+    requires few { length pts.now ≤ POINT_LIMIT }
+    ensures right { IfOk result (λ t. IsRankText pts.now outs.now t.items) }
+    ensures refused { IfErr result (IsRefusal pts.now outs.now) }
+{
+    if !is_rank_alone(outs) {
+        return Err(Fault::NotYet);
+    }
+    let hull = ranked(rt, alloc, pts)?;
+    let bytes = text(alloc, &hull, pts, outs)?;
+    Ok(bytes)
+}
+
 /// The texts that the settings ask for, of the points in the input.
 ///
 /// The fault is the first of the input, or want of memory, or `NotYet` where the input reads well
@@ -54,10 +76,6 @@ pub fn answer<R: Threads + Sync>(
     ensures fault { IfErr result (IsAnswerFault input.now settings.now.outs) }
 {
     let points = read_points(alloc, input)?;
-    if !is_rank_alone(settings.outs()) {
-        return Err(Fault::NotYet);
-    }
-    let hull = ranked(rt, alloc, &points)?;
-    let bytes = text(alloc, &hull, &points, settings.outs())?;
-    Ok(bytes)
+    let text = text_of(rt, alloc, &points, settings.outs())?;
+    Ok(text)
 }

@@ -1,10 +1,11 @@
 ghost use Rattle.std.specs.Prelude.{◌≡◌, Some};
 ghost use Rattle.qconvex.specs.FaultLines.{fault_line, status_of};
-ghost use Rattle.qconvex.specs.declared.fault.Fault.TheVariants.{Read};
+ghost use Rattle.qconvex.specs.declared.fault.Fault.TheVariants.{Read, Send};
 ghost use Rattle.qh_read.specs.declared.fault.ReadFault.TheVariants as reads;
 
 use qh_model::Memory;
 use qh_read::ReadFault;
+use qh_write::SendFault;
 use std::fmt;
 
 /// Why the program gave no answer. Its text is the line on standard error, without its end.
@@ -47,6 +48,14 @@ impl From<Memory> for Fault {
 
     fn from(_memory: Memory) -> Fault {
         Fault::Read(ReadFault::Memory)
+    }
+}
+
+impl From<SendFault> for Fault {
+    ghost from_gives = { λ _ e. e ≡ Send };
+
+    fn from(_fault: SendFault) -> Fault {
+        Fault::Send
     }
 }
 

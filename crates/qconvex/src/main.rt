@@ -8,6 +8,7 @@ mod answer;
 mod command_line;
 mod fault;
 mod program;
+mod serve;
 mod settings;
 
 use std::process::ExitCode;

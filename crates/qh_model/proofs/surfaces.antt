@@ -21,3 +21,4 @@ pub mod Combinations
 pub mod Stored
 pub mod Finished
 pub mod Complete
+pub mod Closed

@@ -3,6 +3,7 @@ use Rattle.std.specs.Prelude.{ℕ, ◌≡◌, ◌≤◌, ◌==◌, ◌&&◌, Boo
 use Rattle.qh_model.specs.Vector.{Vector}
 use Rattle.qh_model.specs.Predicates.{vol, AreInLine}
 use Rattle.qh_model.specs.Sets.{In}
+use Rattle.qh_model.specs.Surface.{Surface}
 
 -- three ids in order
 pub record Triple : Type 0 where
@@ -32,3 +33,11 @@ pub record IsClosedSurface (at : ℕ → Vector) (ts : List Triple) : Type 0 whe
 abbrev pub signed_volume : (ℕ → Vector) → List Triple → Vector → ℤ
 signed_volume at [] p = pos 0
 signed_volume at (t ∷ ts) p = vol (at t.i) (at t.j) (at t.k) p +ℤ signed_volume at ts p
+
+-- the corners of facets, and those of a surface's live ones
+abbrev pub triples_from : Surface → List ℕ → List Triple
+triples_from m [] = []
+triples_from m (f ∷ fs) = record { i = m.i f; j = m.j f; k = m.k f } ∷ triples_from m fs
+
+abbrev pub triples_of : Surface → List Triple
+triples_of m = triples_from m m.live

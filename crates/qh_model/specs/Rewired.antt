@@ -1,8 +1,8 @@
 -- One step of Quickhull: the facets that see a point are replaced by its cone over their horizon.
 -- Source: Barber, Dobkin and Huhdanpaa 1996, the Beneath-Beyond step.
-use Rattle.std.specs.Prelude.{◌≡◌, ℕ, ◌⊎◌, Bool, true, pos, ◌≤ℤ◌, ◌<ℤ◌}
+use Rattle.std.specs.Prelude.{◌≡◌, ℕ, ◌⊎◌, Bool, true, pos, ◌≤ℤ◌}
 use Rattle.qh_model.specs.Sets.{In}
-use Rattle.qh_model.specs.Surface.{Side, Surface, start, end, rise}
+use Rattle.qh_model.specs.Surface.{Side, Surface, start, end, Sees, IsBlindTo}
 use Rattle.qh_model.specs.Weighted.{Weighted, above}
 use Rattle.qh_model.specs.Surface.Side.{first, second, third}
 
@@ -10,15 +10,15 @@ use Rattle.qh_model.specs.Surface.Side.{first, second, third}
 pub record IsWalked (m : Surface) (home : ℕ → Weighted) (p : Weighted) (c : ℕ → Bool) : Type 0 where
   pub f0 : ℕ
   pub live : In f0 m.live
-  pub seen : pos 0 <ℤ rise m home f0 p
+  pub seen : Sees m home f0 p
   pub has : c f0 ≡ true
-  pub grows : (f : ℕ) → In f m.live → (s : Side) → c f ≡ true → pos 0 <ℤ rise m home (m.over f s) p → c (m.over f s) ≡ true
+  pub grows : (f : ℕ) → In f m.live → (s : Side) → c f ≡ true → Sees m home (m.over f s) p → c (m.over f s) ≡ true
 
 -- a horizon side: its facet sees p, and the neighbour over it does not
 pub record IsHorizonSide (m : Surface) (home : ℕ → Weighted) (p : Weighted) (f : ℕ) (s : Side) : Type 0 where
   pub live : In f m.live
-  pub seen : pos 0 <ℤ rise m home f p
-  pub blind : rise m home (m.over f s) p ≤ℤ pos 0
+  pub seen : Sees m home f p
+  pub blind : IsBlindTo m home (m.over f s) p
 
 -- there is a horizon side of which P holds
 pub record HasHorizonSide (m : Surface) (home : ℕ → Weighted) (p : Weighted) (P : ℕ → Side → Type 0) : Type 0 where
@@ -29,7 +29,8 @@ pub record HasHorizonSide (m : Surface) (home : ℕ → Weighted) (p : Weighted)
 
 -- no facet of the cone from p over the horizon is seen by q
 abbrev pub IsConeUnseen : (m : Surface) (home : ℕ → Weighted) (p q : Weighted) → Type 0
-IsConeUnseen m home p q = (f : ℕ) → In f m.live → (s : Side) → pos 0 <ℤ rise m home f p → rise m home (m.over f s) p ≤ℤ pos 0 → above (home (start m f s)) (home (end m f s)) p q ≤ℤ pos 0
+IsConeUnseen m home p q = (f : ℕ) → In f m.live → (s : Side) → Sees m home f p → IsBlindTo m home (m.over f s) p
+    → above (home (start m f s)) (home (end m f s)) p q ≤ℤ pos 0
 
 -- the facet is live and has the same corners as before
 pub record KeepsCorners (m m' : Surface) (f : ℕ) : Type 0 where
@@ -56,13 +57,18 @@ pub record IsRewired (m m' : Surface) (home : ℕ → Weighted) (p : ℕ) : Type
   pub number : ℕ → Side → ℕ
   pub f0 : ℕ
   pub live : In f0 m.live
-  pub seen : pos 0 <ℤ rise m home f0 (home p)
+  pub seen : Sees m home f0 (home p)
   -- each new facet is a kept one or the cone's over a horizon edge
-  pub only : (f' : ℕ) → In f' m'.live → (In f' m.live × (rise m home f' (home p) ≤ℤ pos 0)) ⊎ ((f : ℕ) × (s : Side) × IsHorizonSide m home (home p) f s × (f' ≡ number f s))
-  pub kept : (f : ℕ) → In f m.live → rise m home f (home p) ≤ℤ pos 0 → KeepsCorners m m' f
+  pub only : (f' : ℕ) → In f' m'.live
+      → (In f' m.live × (IsBlindTo m home f' (home p))) ⊎ ((f : ℕ) × (s : Side) × IsHorizonSide m home (home p) f s × (f' ≡ number f s))
+  pub kept : (f : ℕ) → In f m.live → IsBlindTo m home f (home p) → KeepsCorners m m' f
   pub cone : (f : ℕ) (s : Side) → IsHorizonSide m home (home p) f s → IsTriangle m' (number f s) (start m f s) (end m f s) p
-  pub inside : (f : ℕ) (s : Side) → In f m.live → rise m home f (home p) ≤ℤ pos 0 → rise m home (m.over f s) (home p) ≤ℤ pos 0 → LinksTo m' f s (m.over f s) (m.back f s)
-  pub outside : (f : ℕ) (s : Side) → In f m.live → rise m home f (home p) ≤ℤ pos 0 → pos 0 <ℤ rise m home (m.over f s) (home p) → LinksTo m' f s (number (m.over f s) (m.back f s)) first
+  pub inside : (f : ℕ) (s : Side) → In f m.live → IsBlindTo m home f (home p) → IsBlindTo m home (m.over f s) (home p)
+      → LinksTo m' f s (m.over f s) (m.back f s)
+  pub outside : (f : ℕ) (s : Side) → In f m.live → IsBlindTo m home f (home p) → Sees m home (m.over f s) (home p)
+      → LinksTo m' f s (number (m.over f s) (m.back f s)) first
   pub base : (f : ℕ) (s : Side) → IsHorizonSide m home (home p) f s → LinksTo m' (number f s) first (m.over f s) (m.back f s)
-  pub next : (f : ℕ) (s : Side) (g : ℕ) (t : Side) → IsHorizonSide m home (home p) f s → IsHorizonSide m home (home p) g t → start m g t ≡ end m f s → LinksTo m' (number f s) second (number g t) third
-  pub prev : (f : ℕ) (s : Side) (g : ℕ) (t : Side) → IsHorizonSide m home (home p) f s → IsHorizonSide m home (home p) g t → end m g t ≡ start m f s → LinksTo m' (number f s) third (number g t) second
+  pub next : (f : ℕ) (s : Side) (g : ℕ) (t : Side) → IsHorizonSide m home (home p) f s → IsHorizonSide m home (home p) g t
+      → start m g t ≡ end m f s → LinksTo m' (number f s) second (number g t) third
+  pub prev : (f : ℕ) (s : Side) (g : ℕ) (t : Side) → IsHorizonSide m home (home p) f s → IsHorizonSide m home (home p) g t
+      → end m g t ≡ start m f s → LinksTo m' (number f s) third (number g t) second

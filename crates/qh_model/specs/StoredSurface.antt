@@ -1,6 +1,6 @@
 -- A surface as a list stores it: a place for each facet, numbered half-edges, and marks of the live places.
 use Rattle.std.specs.Prelude.{◌≡◌, ℕ, ◌+◌, ◌/◌, ◌%◌, ◌↔◌, List, [], ◌∷◌, Bool, true, false, cond, slice_index_or}
-use Rattle.qh_model.specs.Sets.{In}
+use Rattle.qh_model.specs.Sets.{In, Once}
 use Rattle.qh_model.specs.Simplex.{one_of, by_side}
 use Rattle.qh_model.specs.Surface.{Surface}
 use Rattle.qh_model.specs.Surface.Side.{first, second, third}
@@ -43,3 +43,7 @@ surface_of fs =
 -- its live facets are the places that are marked so
 abbrev pub LiveIsMarked : Type 0
 LiveIsMarked = (fs : List StoredFacet) (f : ℕ) → In f (surface_of fs).live ↔ ((facet_at fs f).live ≡ true)
+
+-- and each of them is listed once
+abbrev pub LiveIsListedOnce : Type 0
+LiveIsListedOnce = (fs : List StoredFacet) → Once (surface_of fs).live

@@ -1,6 +1,6 @@
 -- Surfaces: triangular facets, each with a neighbour over each of its three sides.
 -- Source: Barber, Dobkin and Huhdanpaa 1996 (facets with neighbours over ridges).
-use Rattle.std.specs.Prelude.{◌≡◌, ℕ, ◌⊎◌, List, ℤ}
+use Rattle.std.specs.Prelude.{◌≡◌, ℕ, ◌⊎◌, List, ℤ, pos, ◌≤ℤ◌, ◌<ℤ◌}
 use Rattle.qh_model.specs.Sets.{In}
 use Rattle.qh_model.specs.Weighted.{Weighted, above}
 
@@ -56,6 +56,22 @@ IsWhole m = (f : ℕ) → In f m.live → (s : Side) → HasTwin m f s
 abbrev pub far : Surface → ℕ → Side → ℕ
 far m f s = rest m (m.over f s) (m.back f s)
 
--- how far y is above the facet's plane; the facet sees y where this is above 0
+-- how far y is above the facet's plane
 abbrev pub rise : Surface → (ℕ → Weighted) → ℕ → Weighted → ℤ
 rise m at f y = above (at (m.i f)) (at (m.j f)) (at (m.k f)) y
+
+-- the facet sees y
+abbrev pub Sees : Surface → (ℕ → Weighted) → ℕ → Weighted → Type 0
+Sees m at f y = pos 0 <ℤ rise m at f y
+
+-- it does not see y
+abbrev pub IsBlindTo : Surface → (ℕ → Weighted) → ℕ → Weighted → Type 0
+IsBlindTo m at f y = rise m at f y ≤ℤ pos 0
+
+-- no live facet sees y
+abbrev pub IsUnseen : Surface → (ℕ → Weighted) → Weighted → Type 0
+IsUnseen m at y = (f : ℕ) → In f m.live → IsBlindTo m at f y
+
+-- P holds of each corner of a live facet
+abbrev pub HoldsOfCorners : Surface → (ℕ → Type 0) → Type 0
+HoldsOfCorners m P = (g : ℕ) → In g m.live → (i : ℕ) → IsCorner m g i → P i

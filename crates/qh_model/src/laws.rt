@@ -11,7 +11,7 @@ mod polygons;
 mod reading;
 mod surfaces;
 
-pub use closed_surfaces::closed_surface_encloses;
+pub use closed_surfaces::{closed_surface_encloses, sound_surface_closes};
 pub use combinations::combination_or_separator;
 pub use completeness::{finished_surface_is_hull, nothing_is_missed};
 pub use extremes::{

@@ -9,9 +9,11 @@
 
 mod components;
 mod normal;
+mod positions;
 mod predicates;
 #[cfg(test)]
 mod tests;
 
 pub use normal::Normal;
+pub use positions::along;
 pub use predicates::{cross, in_line, left, point_at, vol};

@@ -57,7 +57,7 @@ settled_is_combination m home o w z f0 i0 x settled = from (located m home o w z
 
 -- the law
 pub level_is_combination : LevelIsCombination
-level_is_combination m home o w z f0 i0 p q r e inner corners level settled = from (plane_is_covered m home o w z f0 i0 p q r e inner corners level settled)
+level_is_combination m home o w z f0 i0 p q r e h unseen = from (plane_is_covered m home o w z f0 i0 p q r e h unseen)
   where
     dropped : (l a b c d t : ℤ) → l ≡ a +ℤ b +ℤ c +ℤ neg_ℤ d *ℤ t → d ≡ pos 0 → l ≡ a +ℤ b +ℤ c
     dropped l a b c d t e h = finish l a b c (neg_ℤ d *ℤ t) e (neg_mul d t ∙ ap (λ v. neg_ℤ (v *ℤ t)) h ∙ ap neg_ℤ (zero_mul t))

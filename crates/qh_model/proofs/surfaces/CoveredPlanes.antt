@@ -1,6 +1,7 @@
 -- In a plane that no corner is beyond, each point that no facet sees lies in a live triangle of that plane.
 use Rattle.qh_model.specs.Surface.{IsCorner, Side, Surface, IsWhole, end, rise, start}
 use Rattle.qh_model.specs.Sets.{In}
+use Rattle.qh_model.specs.CoverageLaws.{PlaneIsCovered}
 use Rattle.qh_model.specs.CoveredPoints.{FacetInPlane}
 use Rattle.qh_model.specs.SoundSurface.{IsSound, towards}
 use Rattle.qh_model.specs.Weighted.{Weighted, above, weighted_dot, plane_of}
@@ -144,10 +145,10 @@ level_at n a b c o p ha hb hc hp ho =
     pick (inr e) = absurd (below (weighted_dot n o) ho e)
 
 -- THEOREM: a, b, c, e seen by no facet, no corner beyond the plane of a, b, c, and e on it
-pub plane_is_covered : (m : Surface) (home : ℕ → Weighted) (o : Weighted) → IsWhole m → IsSound m home o → (f0 : ℕ) → In f0 m.live → (a b c e : Weighted)
+plane_covered : (m : Surface) (home : ℕ → Weighted) (o : Weighted) → IsWhole m → IsSound m home o → (f0 : ℕ) → In f0 m.live → (a b c e : Weighted)
     → above a b c o <ℤ pos 0 → ((g : ℕ) → In g m.live → (i : ℕ) → IsCorner m g i → above a b c (home i) ≤ℤ pos 0) → above a b c e ≡ pos 0
     → ((f : ℕ) → In f m.live → (rise m home f a ≤ℤ pos 0) × (rise m home f b ≤ℤ pos 0) × (rise m home f c ≤ℤ pos 0) × (rise m home f e ≤ℤ pos 0)) → FacetInPlane m home o a b c e
-plane_is_covered m home o w z f0 i0 a b c e inner corners level settled = result (located m home o w z f0 i0 x)
+plane_covered m home o w z f0 i0 a b c e inner corners level settled = result (located m home o w z f0 i0 x)
   where
     mid : Weighted
     mid = sum4 a b c
@@ -290,3 +291,7 @@ plane_is_covered m home o w z f0 i0 a b c e inner corners level settled = result
           where
             part3 : (a b c : ℕ) → suc c ≤ suc a + suc b + suc c
             part3 a b c = omega arith
+
+-- the law
+pub plane_is_covered : PlaneIsCovered
+plane_is_covered m home o w z f0 i0 a b c e h unseen = plane_covered m home o w z f0 i0 a b c e h.0 h.1 h.2 unseen

@@ -26,6 +26,7 @@ use Rattle.qh_model.proofs.surfaces.Determinants.{QE, aboveE}
 use Rattle.qh_model.proofs.surfaces.Facets.{corner_test}
 use Rattle.qh_model.proofs.surfaces.Simplex.{above-together, middle_is_below}
 use Rattle.qh_model.proofs.surfaces.SurfaceLaws.{rise_is_vol}
+use Rattle.qh_model.proofs.surfaces.Closed.{inner_area}
 use Rattle.qh_model.proofs.surfaces.Combinations.{settled_is_combination, level_is_combination}
 
 -- ---- directions as planes
@@ -203,22 +204,7 @@ extremes_are_corners at ids m z l x = found (settled_is_combination m (weighted_
 -- ---- facets are supporting triples
 -- the middle is strictly below a facet, so its corners are not in line
 facet_area : (at : ℕ → Vector) (ids : List ℕ) (m : Surface) → IsFinished at ids m → (f : ℕ) → In f m.live → ¬ (AreInLine (at (m.i f)) (at (m.j f)) (at (m.k f)))
-facet_area at ids m z f i e = never (rise m (weighted_at at) f (middle_at at z.s z.t z.u z.v)) _ _ _ _ (above-together a b c (weighted (at z.s)) (weighted (at z.t)) (weighted (at z.u)) (weighted (at z.v))) (z.sound.inner f i) (flat z.s) (flat z.t) (flat z.u) (flat z.v)
-  where
-    a : Weighted
-    a = weighted (at (m.i f))
-
-    b : Weighted
-    b = weighted (at (m.j f))
-
-    c : Weighted
-    c = weighted (at (m.k f))
-
-    flat : (l : ℕ) → above a b c (weighted (at l)) ≡ pos 0
-    flat l = rise_is_vol (at (m.i f)) (at (m.j f)) (at (m.k f)) (at l) ∙ in_line-vol (at (m.i f)) (at (m.j f)) (at (m.k f)) (at l) e
-
-    never : (x p q r s : ℤ) → x ≡ p +ℤ q +ℤ r +ℤ s → x <ℤ pos 0 → p ≡ pos 0 → q ≡ pos 0 → r ≡ pos 0 → s ≡ pos 0 → ⊥
-    never x p q r s e h hp hq hr hs = omega (arith, ints)
+facet_area at ids m z f i = inner_area at m z.s z.t z.u z.v f (z.sound.inner f i)
 
 -- the law
 pub facets_support : FacetsSupport
@@ -259,9 +245,11 @@ middle_below at ids m z i j k t =
 level_member : (at : ℕ → Vector) (ids : List ℕ) (m : Surface) → IsFinished at ids m → (i j k : ℕ) → IsSupportingTriple at (Members ids) i j k → (l : ℕ) → OnPlane at (Members ids) i j k l
     → CombinationInPlane m (weighted_at at) (weighted (at i)) (weighted (at j)) (weighted (at k)) (weighted (at l))
 level_member at ids m z i j k t l h =
-    level_is_combination m (weighted_at at) (middle_at at z.s z.t z.u z.v) z.whole z.sound z.some z.some_live (weighted (at i)) (weighted (at j)) (weighted (at k)) (weighted (at l)) (middle_below at ids m z i j k t)
-    (λ g live h c. subst (λ x. x ≤ℤ pos 0) (sym (rise_is_vol (at i) (at j) (at k) (at h))) (t.supports h (z.corners g live h c)))
-    (rise_is_vol (at i) (at j) (at k) (at l) ∙ h.1)
+    level_is_combination m (weighted_at at) (middle_at at z.s z.t z.u z.v) z.whole z.sound z.some z.some_live (weighted (at i)) (weighted (at j)) (weighted (at k)) (weighted (at l)) (
+      middle_below at ids m z i j k t,
+      (λ g live h c. subst (λ x. x ≤ℤ pos 0) (sym (rise_is_vol (at i) (at j) (at k) (at h))) (t.supports h (z.corners g live h c))),
+      rise_is_vol (at i) (at j) (at k) (at l) ∙ h.1,
+    )
     (λ g live. (unseen_above at ids m z g live i t.has_i, unseen_above at ids m z g live j t.has_j, unseen_above at ids m z g live k t.has_k, unseen_above at ids m z g live l h.0))
 
 -- the law

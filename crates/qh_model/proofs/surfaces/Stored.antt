@@ -1,7 +1,7 @@
 -- The live facets of a stored surface.
-use Rattle.qh_model.specs.Sets.{In}
-use Rattle.qh_model.specs.StoredSurface.{StoredFacet, facet_at, live_from, LiveIsMarked}
-use Rattle.std.proofs.Common.{◌≡◌, ℕ, zero, suc, ◌+◌, refl, sym, ◌∙◌, subst, arith, List, [], ◌∷◌, inl, inr, Bool, true, false, cond}
+use Rattle.qh_model.specs.Sets.{In, Once}
+use Rattle.qh_model.specs.StoredSurface.{StoredFacet, facet_at, live_from, LiveIsMarked, LiveIsListedOnce}
+use Rattle.std.proofs.Common.{◌≡◌, ℕ, zero, suc, ◌+◌, ◌≤◌, refl, sym, ◌∙◌, subst, arith, List, [], ◌∷◌, inl, inr, Bool, true, false, cond}
 
 -- no boolean is both
 never : (b : Bool) → b ≡ false → b ≡ true → ⊥
@@ -56,3 +56,19 @@ live_is_marked fs f = (λ i. to (marked_of 0 fs f i), λ e. subst (λ g. In g (l
   where
     to : (k : ℕ) × (f ≡ 0 + k) × ((facet_at fs k).live ≡ true) → (facet_at fs f).live ≡ true
     to (k, e, q) = subst (λ g. (facet_at fs g).live ≡ true) (sym (e ∙ none_before k)) q
+
+-- a live number is no less than where counting begins
+live_above : (n : ℕ) (fs : List StoredFacet) (g : ℕ) → In g (live_from n fs) → n ≤ g
+live_above n fs g i = let r = marked_of n fs g i in let e = r.1 in omega arith
+
+-- each live number is listed once
+live_once : (n : ℕ) (fs : List StoredFacet) → Once (live_from n fs)
+live_once n [] = tt
+live_once n (f ∷ fs) = by_mark f.live (live_once (n + 1) fs)
+  where
+    by_mark : (b : Bool) → Once (live_from (n + 1) fs) → Once (cond b (n ∷ live_from (n + 1) fs) (live_from (n + 1) fs))
+    by_mark true o = ((λ i. let h = live_above (n + 1) fs n i in omega arith), o)
+    by_mark false o = o
+
+pub live_is_listed_once : LiveIsListedOnce
+live_is_listed_once fs = live_once 0 fs

@@ -1,5 +1,5 @@
 //! The laws of closed surfaces of triangles.
-ghost use Rattle.qh_model.specs.ClosedSurfaceLaws.{VolumeIsConstant, NoneBelowAndBeyond};
+ghost use Rattle.qh_model.specs.ClosedSurfaceLaws.{VolumeIsConstant, NoneBelowAndBeyond, SoundIsClosed, SoundHasVolume};
 
 /// The signed volume of a closed surface does not depend on the fourth point, and no point is strictly
 /// below every triangle of it and strictly beyond all its corners. So a list of supporting triangles
@@ -7,4 +7,12 @@ ghost use Rattle.qh_model.specs.ClosedSurfaceLaws.{VolumeIsConstant, NoneBelowAn
 pub fn closed_surface_encloses()
     ensures volume { VolumeIsConstant }
     ensures apart { NoneBelowAndBeyond }
+{}
+
+/// The live facets of a whole and sound surface, each listed once, are a closed surface whose signed
+/// volume is below 0. So what Quickhull keeps can be checked by counting edges, and no point sees every
+/// facet.
+pub fn sound_surface_closes()
+    ensures closed { SoundIsClosed }
+    ensures volume { SoundHasVolume }
 {}

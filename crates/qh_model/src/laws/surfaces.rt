@@ -1,7 +1,7 @@
 //! The laws of surfaces of facets, by which Quickhull's steps are right.
 ghost use Rattle.qh_model.specs.SurfaceLaws.{RiseIsVol, SimplexBoundaryIsSound, SimplexIsSound, MiddleIsBelow, WalkFindsAll, HorizonGoesOn, HorizonIsKnown, ReplaceKeeps, CornersAreSettled, AddedIsSettled, SettledStayUnseen, DroppedStayUnseen};
 ghost use Rattle.qh_model.specs.CoverageLaws.{NothingOutside, PlaneIsCovered, SettledIsCombination, LevelIsCombination};
-ghost use Rattle.qh_model.specs.StoredSurface.{LiveIsMarked};
+ghost use Rattle.qh_model.specs.StoredSurface.{LiveIsMarked, LiveIsListedOnce};
 
 /// For points of space, a facet sees a point by the sign of their volume.
 pub fn rise_is_vol()
@@ -53,7 +53,8 @@ pub fn surface_covers()
     ensures level { LevelIsCombination }
 {}
 
-/// The live facets of a stored surface are the places that are marked live.
+/// The live facets of a stored surface are the places that are marked live, each listed once.
 pub fn live_is_marked()
-    ensures { LiveIsMarked }
+    ensures marked { LiveIsMarked }
+    ensures once { LiveIsListedOnce }
 {}

@@ -1,5 +1,5 @@
-use Rattle.qh_model.proofs.surfaces.Stored.{live_is_marked}
+use Rattle.qh_model.proofs.surfaces.Stored.{live_is_marked, live_is_listed_once}
 use Rattle.qh_model.proofs.laws.surfaces.live_is_marked.Goals as goal
 
 pub returns : goal.returns
-returns c = live_is_marked
+returns c = record { marked = live_is_marked; once = live_is_listed_once }

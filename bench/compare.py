@@ -1,0 +1,67 @@
+#!/usr/bin/env python3
+"""Compares this program with others over seeded inputs: CPU time, wall time and peak memory.
+
+All programs read the same file from standard input, in turn, within one run; the best of the rounds
+counts. It prints the numbers and their ratios to those of this program's peer, and nothing is asserted.
+
+    bench/compare.py --ours crates/qconvex/out/qconvex --words rank --peer '/usr/bin/qconvex s' cube 1048576
+
+The peer `qconvex s` is Qhull's (Debian's package qhull-bin); the names are the same.
+"""
+import argparse
+import os
+import shlex
+import subprocess
+import sys
+import tempfile
+import time
+
+FAMILIES = ["ball", "cube", "cube-surface", "flat", "grid", "line", "paraboloid", "sphere"]
+POINTS = os.path.join(os.path.dirname(os.path.abspath(__file__)), "points.py")
+
+
+def run(command, path):
+    """CPU seconds, wall seconds, peak memory in MB and exit status of one run."""
+    with open(path, "rb") as source, open(os.devnull, "wb") as sink:
+        start = time.monotonic()
+        process = subprocess.Popen(command, stdin=source, stdout=sink, stderr=subprocess.DEVNULL)
+        _, status, usage = os.wait4(process.pid, 0)
+        wall = time.monotonic() - start
+    return usage.ru_utime + usage.ru_stime, wall, usage.ru_maxrss / 1024, os.waitstatus_to_exitcode(status)
+
+
+def best(results):
+    """The best of each number over the rounds; the status of the last."""
+    return tuple(min(r[k] for r in results) for k in range(3)) + (results[-1][3],)
+
+
+def main():
+    parser = argparse.ArgumentParser(description=__doc__.splitlines()[0])
+    parser.add_argument("--ours", default="crates/qconvex/out/qconvex", help="this program")
+    parser.add_argument("--words", default="s", help="the words that it is given")
+    parser.add_argument("--peer", action="append", help="a command to compare with; may be repeated")
+    parser.add_argument("--rounds", type=int, default=3)
+    parser.add_argument("family", choices=FAMILIES)
+    parser.add_argument("count", type=int)
+    given = parser.parse_args()
+    commands = [[given.ours] + shlex.split(given.words)] + [shlex.split(p) for p in given.peer or []]
+    with tempfile.TemporaryDirectory() as folder:
+        path = os.path.join(folder, "points.txt")
+        # Made by a process of its own: the peak memory of a child begins at its parent's.
+        with open(path, "wb") as out:
+            subprocess.run([sys.executable, POINTS, given.family, str(given.count)], stdout=out, check=True)
+        results = [[] for _ in commands]
+        for _ in range(given.rounds):
+            for command, rows in zip(commands, results):
+                rows.append(run(command, path))
+    ours = best(results[0])
+    print("%s, %d points, best of %d" % (given.family, given.count, given.rounds))
+    print("%-40s %8s %8s %8s %7s %7s" % ("program", "cpu s", "wall s", "MB", "cpu", "status"))
+    for command, rows in zip(commands, results):
+        cpu, wall, memory, status = best(rows)
+        ratio = ours[0] / cpu if cpu else float("nan")
+        print("%-40s %8.3f %8.3f %8.1f %7.2f %7d" % (" ".join(command)[-40:], cpu, wall, memory, ratio, status))
+
+
+if __name__ == "__main__":
+    main()

@@ -1,0 +1,98 @@
+"""Seeded point files of the families that the benchmarks use.
+
+    bench/points.py cube 1048576 > points.txt
+"""
+import math
+import random
+import sys
+
+LIMIT = 1 << 20
+
+
+def cube(rng, n):
+    """Uniform in a cube."""
+    return [tuple(rng.randint(-LIMIT, LIMIT) for _ in range(3)) for _ in range(n)]
+
+
+def direction(rng):
+    """A direction, uniform over the sphere."""
+    while True:
+        v = [rng.gauss(0, 1) for _ in range(3)]
+        size = math.sqrt(sum(c * c for c in v))
+        if size > 1e-9:
+            return [c / size for c in v]
+
+
+def sphere(rng, n):
+    """On a sphere, rounded to whole numbers."""
+    return [tuple(round(LIMIT * c) for c in direction(rng)) for _ in range(n)]
+
+
+def ball(rng, n):
+    """Uniform in a ball."""
+    points = []
+    for _ in range(n):
+        radius = LIMIT * rng.random() ** (1 / 3)
+        points.append(tuple(round(radius * c) for c in direction(rng)))
+    return points
+
+
+def paraboloid(rng, n):
+    """(x, y, x^2 + y^2), shuffled; only as many as the coordinate limit allows are different."""
+    side = min(math.isqrt(n), 724)
+    points = [(x, y, x * x + y * y) for x in range(side) for y in range(n // side)][:n]
+    points = [p for p in points if p[2] <= LIMIT]
+    rng.shuffle(points)
+    return points
+
+
+def grid(rng, n):
+    """Whole coordinates from 0 to 10: nearly all points are repeats."""
+    return [tuple(rng.randint(0, 10) for _ in range(3)) for _ in range(n)]
+
+
+def cube_surface(rng, n):
+    """On the six faces of a cube."""
+    points = []
+    for _ in range(n):
+        p = [rng.randint(-LIMIT, LIMIT) for _ in range(3)]
+        p[rng.randrange(3)] = rng.choice((-LIMIT, LIMIT))
+        points.append(tuple(p))
+    return points
+
+
+def flat(rng, n):
+    """In the plane x + y + z = 0."""
+    points = []
+    for _ in range(n):
+        x, y = rng.randint(-LIMIT // 2, LIMIT // 2), rng.randint(-LIMIT // 2, LIMIT // 2)
+        points.append((x, y, -x - y))
+    return points
+
+
+def line(rng, n):
+    """On one line; nearly all points are repeats or neighbours."""
+    return [(t, t, -t) for t in (rng.randint(-LIMIT, LIMIT) for _ in range(n))]
+
+
+FAMILIES = {
+    "cube": cube,
+    "ball": ball,
+    "sphere": sphere,
+    "paraboloid": paraboloid,
+    "grid": grid,
+    "cube-surface": cube_surface,
+    "flat": flat,
+    "line": line,
+}
+
+
+def main():
+    family, count = sys.argv[1], int(sys.argv[2])
+    points = FAMILIES[family](random.Random(1), count)
+    sys.stdout.write("3\n%d\n" % len(points))
+    sys.stdout.writelines("%d %d %d\n" % p for p in points)
+
+
+if __name__ == "__main__":
+    main()

@@ -1,0 +1,33 @@
+ghost use Rattle.std.specs.Prelude.{◌≡◌, ◌-◌, ◌^◌, ◌<◌, MatchResult};
+ghost use Rattle.qconvex.specs.Serving.{Devices, IsServed, IsServeFault};
+
+use crate::answer::text_of;
+use crate::fault::Fault;
+use crate::settings::Settings;
+use qh_read::{Source, read_from};
+use qh_write::{Sink, send};
+use std::alloc::Global;
+use std::thread::Threads;
+
+/// Reads points from the source to its end and sends the texts that the settings ask for.
+///
+/// Nothing is sent before the whole text stands. The answer tells what the devices did: the table of
+/// `IsServed` and `IsServeFault` has a line for each. After a failure neither device is called again.
+pub fn serve<R: Threads + Sync, S: Source, K: Sink>(
+    rt: &R,
+    alloc: Global,
+    source: &mut S,
+    sink: &mut K,
+    settings: &Settings,
+) -> Result<(), Fault>
+    requires source { S.failure_count source.old < 2 ^ 64 - 1 }
+    requires sink { K.count sink.old < 2 ^ 64 - 1 }
+    ensures { let old : Devices = record { to_come = S.remaining source.old; went = K.went sink.old; source_failures = S.failure_count source.old; sink_failures = K.count sink.old } in
+        let new : Devices = record { to_come = S.remaining source.new; went = K.went sink.new; source_failures = S.failure_count source.new; sink_failures = K.count sink.new } in
+        MatchResult result (λ _. IsServed settings.now.outs old new) (IsServeFault settings.now.outs old new) }
+{
+    let points = read_from(alloc, source)?;
+    let text = text_of(rt, alloc, &points, settings.outs())?;
+    send(sink, &text)?;
+    Ok(())
+}

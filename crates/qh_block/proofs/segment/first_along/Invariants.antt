@@ -1,0 +1,11 @@
+use Rattle.std.proofs.Common.{◌<◌, length, take, All}
+use Rattle.std.specs.Prelude.{◌≤ℤ◌}
+use Rattle.qh_model.specs.Sets.{In}
+use Rattle.qh_block.specs.Segments.{position}
+use Rattle.qh_block.proofs.segment.first_along.Given as goal
+
+abbrev pub invariant-loop-id : goal.invariant-loop-id
+invariant-loop-id l =
+    (l.first < length l.pts)
+    × In l.first l.ids
+    × All (λ k. position l.pts l.a l.b l.first ≤ℤ position l.pts l.a l.b k) (take l.id-index l.ids)

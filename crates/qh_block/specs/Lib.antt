@@ -1,0 +1,2 @@
+pub mod Segments
+pub mod FlatBodies

@@ -1,0 +1,52 @@
+//! Bodies of points, segments and polygons.
+ghost use Rattle.std.specs.Prelude.{◌≡◌, ◌<◌, [], ◌∷◌, IfOk};
+ghost use Rattle.qh_block.specs.FlatBodies.{point_body, segment_body};
+
+use qh_model::{Body, Id, Memory, Polygon};
+use std::alloc::Global;
+
+/// A list of one or two ids.
+fn ids_of(alloc: Global, ids: &[Id]) -> Result<Vec<Id>, Memory>
+    ensures { IfOk result (λ v. v.items ≡ ids.now) }
+{
+    let ids = Vec::from_slice(alloc, ids)?;
+    Ok(ids)
+}
+
+/// The list of one polygon.
+fn one_polygon(alloc: Global, ids: Vec<Id>) -> Result<Vec<Polygon>, Memory>
+    ensures { IfOk result (λ v. v.items ≡ ids.items ∷ []) }
+{
+    let mut polygons = Vec::new(alloc);
+    polygons.push(Polygon(ids))?;
+    Ok(polygons)
+}
+
+/// The hull of one id.
+pub fn body_of_point(alloc: Global, id: Id) -> Result<Body, Memory>
+    ensures { IfOk result (λ b. b ≡ point_body id) }
+{
+    let extremes = ids_of(alloc, &[id])?;
+    let polygons = one_polygon(alloc, ids_of(alloc, &[id])?)?;
+    Ok(Body {
+        dim: 0,
+        extremes,
+        polygons,
+        edges: 0,
+    })
+}
+
+/// The hull of a set in one line with these ends, the lower id first.
+pub fn body_of_segment(alloc: Global, low: Id, high: Id) -> Result<Body, Memory>
+    requires { low < high }
+    ensures { IfOk result (λ b. b ≡ segment_body low high) }
+{
+    let extremes = ids_of(alloc, &[low, high])?;
+    let polygons = one_polygon(alloc, ids_of(alloc, &[low, high])?)?;
+    Ok(Body {
+        dim: 1,
+        extremes,
+        polygons,
+        edges: 1,
+    })
+}

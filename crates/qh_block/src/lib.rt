@@ -1,0 +1,8 @@
+//! The hull of one set of ids of distinct points.
+//!
+//! [`flat_hull`] answers the hull of a set that lies in a point, a line or a plane.
+#![tactic(auto)]
+
+mod bodies;
+mod segment;
+
