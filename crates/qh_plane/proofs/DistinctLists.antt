@@ -2,7 +2,6 @@
 use Rattle.std.proofs.Common.{◌≡◌, ◌≢◌, ℕ, ◌+◌, ◌*◌, ◌%◌, ◌/◌, ◌<◌, ◌≤◌, List, [], ◌∷◌, length, get_or, map, replicate, arith, ap, sym, subst, ◌∙◌, refl, ◌⊎◌, inl, inr, ⊎_elim, true, false, Bool}
 use Rattle.std.proofs.lemmas.Bool.Decides.{nat_tests}
 use Rattle.std.proofs.lemmas.List.{length-replicate}
-use Rattle.std.proofs.lemmas.List.Elements.{All-from_recursion}
 use Rattle.std.specs.Prelude.{IsPermutation}
 use Rattle.std.specs.List.{All, AllByRecursion as Every}
 use Rattle.std.specs.List.Sorted.{IsStrictlyIncreasing, IsNonDecreasing}
@@ -13,19 +12,22 @@ use Rattle.qh_model.specs.Sets.{In}
 use Rattle.qh_model.specs.Vector.{Vector}
 use Rattle.qh_plane.proofs.KeyOrder.{IsKeyOf, sorted_keys, rising_keys, key_parts, key_id, place_code-same, raised_small, sorted-all}
 use Rattle.qh_plane.proofs.MarkedIds.{IsMarked, in_marked_ids, of_marked_ids, marked_ids-rise, marked_only, marked_has, blank}
-use Rattle.qh_plane.proofs.Members.{in_at, in_map, of_map, Rises, rises_above}
+use Rattle.qh_plane.proofs.Members.{All-of, every_of, in_at, in_map, of_map, Rises, rises_above}
 use Rattle.qh_plane.proofs.PlaceStarts.{Start, IsBefore, starts_only, starts_all}
 use Rattle.qh_plane.specs.declared.place_keys.TheConstants.{ROOM}
 use Rattle.qh_plane.specs.declared.distinct_points.TheConstants.{NO_PLACE}
 use Rattle.qh_plane.specs.Marks.{place_starts, marked, marked_ids}
 use Rattle.qh_plane.specs.PlaceKeys.{raised, place_code, key_at, ids_in, HasKey, AreByPlace}
 
+-- a key tells its place
 key_over : (c i : ℕ) → i < ROOM → (c * ROOM + i) / ROOM ≡ c
 key_over c i h = omega arith
 
+-- the place in the key of an id
 code_in_key : (pts : List Vector) (i : ℕ) → i < ROOM → key_at pts i / ROOM ≡ place_code (place pts i)
 code_in_key pts i h = ap (λ v. v / ROOM) (key_parts pts i) ∙ key_over (place_code (place pts i)) i h
 
+-- no place has the number of no place
 code_small : (pts : List Vector) (i : ℕ) → HasKey pts i → place_code (place pts i) < NO_PLACE
 unfolding place_code
 code_small pts i k = bound (raised (place pts i).x) (raised (place pts i).y) (raised (place pts i).z) (raised_small (place pts i).x k.place_in.x) (raised_small (place pts i).y k.place_in.y) (raised_small (place pts i).z k.place_in.z)
@@ -33,9 +35,11 @@ code_small pts i k = bound (raised (place pts i).x) (raised (place pts i).y) (ra
     bound : (a b c : ℕ) → a < ROOM → b < ROOM → c < ROOM → (a * ROOM + b) * ROOM + c < NO_PLACE
     bound a b c h k l = omega arith
 
+-- keys of one place are in order of their ids
 key_order : (c i j : ℕ) → c * ROOM + i ≤ c * ROOM + j → i ≤ j
 key_order c i j h = omega arith
 
+-- and back
 order_key : (c i j : ℕ) → i ≤ j → c * ROOM + i ≤ c * ROOM + j
 order_key c i j h = omega arith
 
@@ -44,12 +48,15 @@ pub record AllIds (count : ℕ) (all : List ℕ) : Type 0 where
   pub len : length all ≡ count
   pub each : (k : ℕ) → k < count → get_or all k 0 ≡ k
 
+-- the ids below a count rise
 rises_each : (n : ℕ) (all : List ℕ) → AllIds n all → IsStrictlyIncreasing all
 rises_each n all a k h = let e = a.len in rw (a.each k (omega arith), a.each (k + 1) (omega arith)) (omega arith)
 
+-- each number below the count is listed
 all_in : (n : ℕ) (all : List ℕ) → AllIds n all → (i : ℕ) → i < n → In i all
 all_in n all a i h = subst (λ v. In v all) (a.each i h) (In-get_or all i 0 (let e = a.len in omega arith))
 
+-- and nothing else
 in_all : (n : ℕ) (all : List ℕ) → AllIds n all → (i : ℕ) → In i all → i < n
 in_all n all a i m =
     let r = in_at all i m in
@@ -57,24 +64,30 @@ in_all n all a i m =
     subst (λ v. v < n) (sym (a.each r.0 lt) ∙ r.2) lt
 
 module _ (pts : List Vector) (all keys : List ℕ) (a : AllIds (length pts) all) (known : All (HasKey pts) all) (same : IsPermutation (map (key_at pts) all) keys) (rising : IsNonDecreasing keys) where
+  -- the ids in the order of their places
   b : AreByPlace pts all (ids_in keys)
   b = record { keys = keys; same = same; rising = rising; is = refl }
 
+  -- each key is the key of its id
   told : Every (IsKeyOf pts all) keys
   unfolding b
   told = sorted_keys pts all (ids_in keys) b known
 
+  -- the keys rise strictly
   up : IsStrictlyIncreasing keys
   unfolding b
   up = rising_keys pts all (ids_in keys) b known (rises_each (length pts) all a)
 
+  -- the same by recursion
   up_list : (ks : List ℕ) → IsStrictlyIncreasing ks → Rises ks
   up_list [] r = tt
   up_list (k ∷ ks) r = rises_above k ks r
 
+  -- each index has a key
   known_at : (i : ℕ) → i < length pts → HasKey pts i
   known_at i h = All-In (HasKey pts) all i known (all_in (length pts) all a i h)
 
+  -- and it is one of the keys
   key_listed : (i : ℕ) → i < length pts → In (key_at pts i) keys
   unfolding b
   key_listed i h =
@@ -83,12 +96,14 @@ module _ (pts : List Vector) (all keys : List ℕ) (a : AllIds (length pts) all)
       let t = every_at (IsKeyOf pts all) keys r.0 told r.1 in
       subst (λ v. In v keys) (t.is ∙ ap (key_at pts) (sym r.2)) r.1
 
+  -- no key has the number of no place
   fresh : IsBefore NO_PLACE keys
   fresh = inr (λ x m e. let t = every_at (IsKeyOf pts all) keys x told m in off (code_small pts (x % ROOM) t.known) (sym (ap (λ v. v / ROOM) t.is ∙ code_in_key pts (x % ROOM) t.known.small) ∙ e))
     where
       off : {c : ℕ} → c < NO_PLACE → c ≡ NO_PLACE → ⊥
       off {c} h e = omega arith
 
+  -- an id at the start of a place is a distinct id
   first_from : (i : ℕ) → In i (ids_in (place_starts NO_PLACE keys)) → IsDistinctId pts i
   first_from i m = (lt, alone)
     where
@@ -117,6 +132,7 @@ module _ (pts : List Vector) (all keys : List ℕ) (a : AllIds (length pts) all)
           late : i ≤ j → j < i → ⊥
           late p q = omega arith
 
+  -- a distinct id stands at the start of its place
   from_first : (i : ℕ) → IsDistinctId pts i → In i (ids_in (place_starts NO_PLACE keys))
   from_first i f =
       subst (λ v. In v (ids_in (place_starts NO_PLACE keys))) (key_id pts i ki.small)
@@ -149,21 +165,22 @@ module _ (pts : List Vector) (all keys : List ℕ) (a : AllIds (length pts) all)
               subst (λ v. key_at pts i ≤ v) (sym (t.is ∙ key_parts pts (y % ROOM) ∙ ap (λ v. v * ROOM + y % ROOM) codes))
               (subst (λ v. v ≤ place_code (place pts i) * ROOM + y % ROOM) (sym (key_parts pts i)) (order_key (place_code (place pts i)) i (y % ROOM) h))
 
-  within : (ks : List ℕ) → ((k : ℕ) → In k ks → In k keys) → Every (λ k. k % ROOM < length (replicate (length pts) false)) ks
-  within [] f = tt
-  within (k ∷ ks) f = (subst (λ v. k % ROOM < v) (sym (length-replicate (length pts) false)) (in_all (length pts) all a (k % ROOM) (every_at (IsKeyOf pts all) keys k told (f k (inl refl))).has), within ks (λ j m. f j (inr m)))
-
+  -- the ids in the keys are indices
   pub all_within : All (λ k. k % ROOM < length pts) keys
-  all_within = All-from_recursion (λ k. k % ROOM < length pts) keys (go keys (λ k m. m))
-    where
-      go : (ks : List ℕ) → ((k : ℕ) → In k ks → In k keys) → Every (λ k. k % ROOM < length pts) ks
-      go [] f = tt
-      go (k ∷ ks) f = (in_all (length pts) all a (k % ROOM) (every_at (IsKeyOf pts all) keys k told (f k (inl refl))).has, go ks (λ j m. f j (inr m)))
+  all_within = All-of (λ k. k % ROOM < length pts) keys (λ k m. in_all (length pts) all a (k % ROOM) (every_at (IsKeyOf pts all) keys k told m).has)
 
+  -- the ids at the starts are indices of the marks
+  within : Every (λ k. k % ROOM < length (replicate (length pts) false)) (place_starts NO_PLACE keys)
+  within =
+      every_of (λ k. k % ROOM < length (replicate (length pts) false)) (place_starts NO_PLACE keys) (λ k m.
+      subst (λ v. k % ROOM < v) (sym (length-replicate (length pts) false))
+      (in_all (length pts) all a (k % ROOM) (every_at (IsKeyOf pts all) keys k told (starts_only NO_PLACE keys k (up_list keys up) fresh m).has).has))
+
+  -- the ids that are marked at the starts are the distinct ids
   pub distinct_ids : AreDistinctIds pts (marked_ids 0 (marked (replicate (length pts) false) (place_starts NO_PLACE keys)))
   distinct_ids = record {
     rising = marked_ids-rise (marked (replicate (length pts) false) (place_starts NO_PLACE keys));
-    members = λ i. (λ m. only i (of_marked_ids 0 i marks m), λ f. subst (λ v. In v (marked_ids 0 marks)) (omega arith) (in_marked_ids 0 i marks (marked_has (replicate (length pts) false) (place_starts NO_PLACE keys) i (within (place_starts NO_PLACE keys) (λ k m. (starts_only NO_PLACE keys k (up_list keys up) fresh m).has)) (inr (from_first i f)))));
+    members = λ i. (λ m. only i (of_marked_ids 0 i marks m), λ f. subst (λ v. In v (marked_ids 0 marks)) (omega arith) (in_marked_ids 0 i marks (marked_has (replicate (length pts) false) (place_starts NO_PLACE keys) i within (inr (from_first i f)))));
   }
     where
       marks : List Bool

@@ -1,3 +1,4 @@
+pub mod Signs
 pub mod Members
 pub mod KeyOrder
 pub mod MarkedIds

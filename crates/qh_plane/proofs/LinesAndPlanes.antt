@@ -12,6 +12,7 @@ use Rattle.qh_model.specs.Vector.{Vector, origin, minus, cross_product, dot}
 use Rattle.qh_plane.proofs.PlaneDirections.{determinant-zero}
 
 -- ---- lines
+-- a component of x X y by the components of d X x and d X y, times d . d
 line_eq : (dx dy dz xx xy xz yx yy yz : ℤ) → (dx *ℤ dx +ℤ dy *ℤ dy +ℤ dz *ℤ dz) *ℤ (xy *ℤ yz -ℤ xz *ℤ yy)
     ≡ (dx *ℤ xx +ℤ dy *ℤ xy +ℤ dz *ℤ xz) *ℤ (dy *ℤ yz -ℤ dz *ℤ yy) +ℤ neg_ℤ (yz *ℤ dz +ℤ yy *ℤ dy) *ℤ (dy *ℤ xz -ℤ dz *ℤ xy) +ℤ (yy *ℤ dx) *ℤ (dz *ℤ xx -ℤ dx *ℤ xz) +ℤ (yz *ℤ dx) *ℤ (dx *ℤ xy -ℤ dy *ℤ xx)
 line_eq dx dy dz xx xy xz yx yy yz =
@@ -20,14 +21,17 @@ line_eq dx dy dz xx xy xz yx yy yz =
     (mul (dotE D D) (less (mul X.y Y.z) (mul X.z Y.y)))
     (add (add (add (mul (dotE D X) (less (mul D.y Y.z) (mul D.z Y.y))) (mul (neg (add (mul Y.z D.z) (mul Y.y D.y))) (less (mul D.y X.z) (mul D.z X.y)))) (mul (mul Y.y D.x) (less (mul D.z X.x) (mul D.x X.z)))) (mul (mul Y.z D.x) (less (mul D.x X.y) (mul D.y X.x)))) refl
 
+-- a combination of zeros is zero
 four_zero : (l a b c d p q r s : ℤ) → l ≡ a *ℤ p +ℤ b *ℤ q +ℤ c *ℤ r +ℤ d *ℤ s → p ≡ pos 0 → q ≡ pos 0 → r ≡ pos 0 → s ≡ pos 0 → l ≡ pos 0
 four_zero l a b c d p q r s e h i j k = rw (h, i, j, k) at e ∙ omega (arith, ints)
 
+-- the first component of x X y is zero where d X x is, and two components of d X y
 line_x : (dx dy dz xx xy xz yx yy yz : ℤ) → pos 0 <ℤ (dx *ℤ dx +ℤ dy *ℤ dy +ℤ dz *ℤ dz) → dy *ℤ xz -ℤ dz *ℤ xy ≡ pos 0 → dz *ℤ xx -ℤ dx *ℤ xz ≡ pos 0 → dx *ℤ xy -ℤ dy *ℤ xx ≡ pos 0
     → dy *ℤ yz -ℤ dz *ℤ yy ≡ pos 0 → xy *ℤ yz -ℤ xz *ℤ yy ≡ pos 0
 line_x dx dy dz xx xy xz yx yy yz n p q r s =
     cancel-zero (dx *ℤ dx +ℤ dy *ℤ dy +ℤ dz *ℤ dz) (xy *ℤ yz -ℤ xz *ℤ yy) n (four_zero _ _ _ _ _ _ _ _ _ (line_eq dx dy dz xx xy xz yx yy yz) s p q r)
 
+-- a sum told from another term
 turn_sum : (a b c : ℤ) → pos 0 <ℤ (a +ℤ b +ℤ c) → pos 0 <ℤ (b +ℤ c +ℤ a)
 turn_sum a b c h = omega (arith, ints)
 
@@ -41,6 +45,7 @@ pair_line d x y n p q =
     (line_x d.y d.z d.x x.y x.z x.x y.y y.z y.x n' (ap (λ v. v.y) p) (ap (λ v. v.z) p) (ap (λ v. v.x) p) (ap (λ v. v.y) q))
     (line_x d.z d.x d.y x.z x.x x.y y.z y.x y.y n'' (ap (λ v. v.z) p) (ap (λ v. v.x) p) (ap (λ v. v.y) p) (ap (λ v. v.z) q))
 
+-- a difference of zeros is zero
 parts : (u v w l : ℤ) → l ≡ u -ℤ v -ℤ w → u ≡ pos 0 → v ≡ pos 0 → w ≡ pos 0 → l ≡ pos 0
 parts u v w l e p q r = omega (arith, ints)
 
@@ -71,6 +76,7 @@ same_point p q e = vector_path p q (level p.x q.x (ap (λ v. v.x) e)) (level p.y
 pub between_eq : (n i a b : Vector) → dot n (minus b a) ≡ dot n (minus b i) -ℤ dot n (minus a i)
 between_eq n i a b = ring (put n (put i (put a (put b [])))) (dotE (vec 0) (subE (vec 3) (vec 2))) (less (dotE (vec 0) (subE (vec 3) (vec 1))) (dotE (vec 0) (subE (vec 2) (vec 1)))) refl
 
+-- the same of two
 pub none : (l u v : ℤ) → l ≡ u -ℤ v → u ≡ pos 0 → v ≡ pos 0 → l ≡ pos 0
 none l u v e p q = omega (arith, ints)
 

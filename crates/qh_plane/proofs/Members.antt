@@ -1,10 +1,15 @@
 -- Members of lists by their positions, and rising lists.
 use Rattle.std.proofs.Common.{◌≡◌, ℕ, zero, suc, ◌+◌, ◌<◌, List, [], ◌∷◌, ◌++◌, length, get_or, map, take, arith, ap, sym, subst, ◌∙◌, refl, inl, inr}
 use Rattle.std.proofs.lemmas.List.{take_more, map-append}
-use Rattle.std.specs.List.{Contains}
+use Rattle.std.proofs.lemmas.List.Elements.{All-from_recursion}
+use Rattle.std.specs.List.{All, AllByRecursion as Every, Contains}
 use Rattle.std.specs.List.Sorted.{IsStrictlyIncreasing}
 use Rattle.qh_model.proofs.Members.{rising_tail}
 use Rattle.qh_model.specs.Sets.{In}
+
+-- what is less is not equal
+pub less_differ : (a b : ℕ) → a < b → a ≡ b → ⊥
+less_differ a b h e = omega arith
 
 -- a member stands at a position
 pub in_at : (xs : List ℕ) (x : ℕ) → In x xs → (k : ℕ) × (k < length xs) × (get_or xs k 0 ≡ x)
@@ -26,6 +31,15 @@ of_contains xs x c = go xs c.0 c.1 c.2
     go [] k h e = absurd (omega arith)
     go (y ∷ ys) zero h e = inl (sym e)
     go (y ∷ ys) (suc k) h e = inr (go ys k (omega arith) e)
+
+-- what holds of each member holds of the list, by recursion
+pub every_of : (P : ℕ → Type 0) (xs : List ℕ) → ((x : ℕ) → In x xs → P x) → Every P xs
+every_of P [] f = tt
+every_of P (x ∷ xs) f = (f x (inl refl), every_of P xs (λ y i. f y (inr i)))
+
+-- and in the word of std
+pub All-of : (P : ℕ → Type 0) (xs : List ℕ) → ((x : ℕ) → In x xs → P x) → All P xs
+All-of P xs f = All-from_recursion P xs (every_of P xs f)
 
 -- the image of a member is a member of the image
 pub in_map : (f : ℕ → ℕ) (xs : List ℕ) (x : ℕ) → In x xs → In (f x) (map f xs)
@@ -59,6 +73,7 @@ pub rises_above : (x : ℕ) (xs : List ℕ) → IsStrictlyIncreasing (x ∷ xs) 
 rises_above x [] r = tt
 rises_above x (y ∷ ys) r = (r 0 (omega arith), rises_above y ys (rising_tail x (y ∷ ys) r))
 
+-- the same of a whole list
 pub rises : (xs : List ℕ) → IsStrictlyIncreasing xs → Rises xs
 rises [] r = tt
 rises (x ∷ xs) r = rises_above x xs r

@@ -16,22 +16,28 @@ pub record Start (c : ℕ) (ks : List ℕ) (x : ℕ) : Type 0 where
 abbrev pub IsBefore : ℕ → List ℕ → Type 0
 IsBefore c ks = ((x : ℕ) → In x ks → c ≤ x / ROOM) ⊎ ((x : ℕ) → In x ks → x / ROOM ≢ c)
 
+-- rising keys have places that do not fall
 code_le : (a b : ℕ) → a < b → a / ROOM ≤ b / ROOM
 code_le a b h = omega arith
 
+-- a test of equality that holds
 eqb_is : (a b : ℕ) → eqb a b ≡ true → a ≡ b
 eqb_is a b e = search (rules, e)
 
+-- one that fails
 eqb_not : (a b : ℕ) → eqb a b ≡ false → a ≡ b → ⊥
 eqb_not a b e = grind (arith, nat_tests)
 
+-- the place of a key is not after those of later keys
 next_below : (k : ℕ) (ks : List ℕ) → RisesAbove k ks → IsBefore (k / ROOM) ks
 next_below k ks c = inl (λ x i. code_le k x (above k ks c x i))
 
+-- the same of the later keys alone
 below_tail : (c k : ℕ) (ks : List ℕ) → IsBefore c (k ∷ ks) → IsBefore c ks
 below_tail c k ks (inl f) = inl (λ x i. f x (inr i))
 below_tail c k ks (inr f) = inr (λ x i. f x (inr i))
 
+-- one key more, by whether its place is the last one
 starts_only-split : (c k : ℕ) (ks : List ℕ) (x : ℕ) (b : Bool) → eqb (k / ROOM) c ≡ b → RisesAbove k ks → IsBefore c (k ∷ ks)
     → (In x (place_starts c ks) → Start c ks x) → (In x (place_starts (k / ROOM) ks) → Start (k / ROOM) ks x)
     → In x (cond b (place_starts c ks) (k ∷ place_starts (k / ROOM) ks)) → Start c (k ∷ ks) x
@@ -66,6 +72,7 @@ starts_only c [] x r l i = absurd i
 starts_only c (k ∷ ks) x r l i =
     starts_only-split c k ks x (eqb (k / ROOM) c) refl r l (starts_only c ks x (rises_tail k ks r) (below_tail c k ks l)) (starts_only (k / ROOM) ks x (rises_tail k ks r) (next_below k ks r)) i
 
+-- the same, the other way
 starts_all-split : (c k : ℕ) (ks : List ℕ) (x : ℕ) (b : Bool) → eqb (k / ROOM) c ≡ b → RisesAbove k ks
     → (Start c ks x → In x (place_starts c ks)) → (Start (k / ROOM) ks x → In x (place_starts (k / ROOM) ks))
     → In x (k ∷ ks) → Start c (k ∷ ks) x → In x (cond b (place_starts c ks) (k ∷ place_starts (k / ROOM) ks))

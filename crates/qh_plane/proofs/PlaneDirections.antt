@@ -17,15 +17,18 @@ bracket n a b = dot (cross_product a b) n
 abbrev pub determinant : Vector → Vector → Vector → ℤ
 determinant a b c = dot (cross_product a b) c
 
+-- the bracket as an expression
 abbrev pub bracketE : ℕ → ℕ → Expr
 bracketE i j = dotE (crossE (vec i) (vec j)) (vec 0)
 
+-- a volume by brackets in a plane, times n . n
 determinant-square : (n a b c : Vector) → dot n n *ℤ determinant a b c ≡ dot n a *ℤ bracket n b c +ℤ dot n b *ℤ bracket n c a +ℤ dot n c *ℤ bracket n a b
 determinant-square n a b c =
     ring (put n (put a (put b (put c []))))
     (mul (dotE (vec 0) (vec 0)) (detE (vec 1) (vec 2) (vec 3)))
     (add (add (mul (dotE (vec 0) (vec 1)) (bracketE 2 3)) (mul (dotE (vec 0) (vec 2)) (bracketE 3 1))) (mul (dotE (vec 0) (vec 3)) (bracketE 1 2))) refl
 
+-- a combination of zeros is zero
 all_zero : (d p q r x y z : ℤ) → d ≡ p *ℤ x +ℤ q *ℤ y +ℤ r *ℤ z → p ≡ pos 0 → q ≡ pos 0 → r ≡ pos 0 → d ≡ pos 0
 all_zero d p q r x y z e h i j = rw (h, i, j) at e ∙ omega (arith, ints)
 
@@ -34,12 +37,14 @@ pub determinant-zero : (n a b c : Vector) → pos 0 <ℤ dot n n → dot n a ≡
 determinant-zero n a b c s h i j =
     cancel-zero (dot n n) (determinant a b c) s (all_zero _ _ _ _ _ _ _ (determinant-square n a b c) h i j)
 
+-- four directions: brackets of three along h, but for their volume
 bracket-plane : (n h a b c : Vector) → bracket n a c *ℤ dot h b ≡ bracket n a b *ℤ dot h c +ℤ bracket n b c *ℤ dot h a -ℤ determinant a b c *ℤ dot h n
 bracket-plane n h a b c =
     ring (put n (put a (put b (put c (put h [])))))
     (mul (bracketE 1 3) (dotE (vec 4) (vec 2)))
     (less (add (mul (bracketE 1 2) (dotE (vec 4) (vec 3))) (mul (bracketE 2 3) (dotE (vec 4) (vec 1)))) (mul (detE (vec 1) (vec 2) (vec 3)) (dotE (vec 4) (vec 0)))) refl
 
+-- a last term that is zero
 no_last : (l x d k : ℤ) → l ≡ x -ℤ d *ℤ k → d ≡ pos 0 → l ≡ x
 no_last l x d k e h = rw h at e ∙ omega (arith, ints)
 

@@ -10,13 +10,14 @@ use Rattle.qh_model.specs.Predicates.{place}
 use Rattle.qh_model.specs.Sets.{In, Members}
 use Rattle.qh_model.specs.Vector.{Vector, minus}
 use Rattle.qh_plane.proofs.LinesAndPlanes.{three_line, four_plane, same_point}
-use Rattle.qh_plane.proofs.Members.{in_at}
+use Rattle.qh_plane.proofs.Members.{less_differ, in_at}
 use Rattle.qh_plane.specs.Shapes.{IsInLine, IsInPlane, IsFirstNot, Each, AreFirstTwo}
 
 -- what holds of each position holds of each member
 each_in : (P : ℕ → Type 0) (ids : List ℕ) → Each P ids → (x : ℕ) → In x ids → P x
 each_in P ids h x m = let r = in_at ids x m in subst P r.2 (h r.0 r.1)
 
+-- what stands at a position is a member
 listed : (ids : List ℕ) (m i : ℕ) → m < length ids → get_or ids m 0 ≡ i → In i ids
 listed ids m i h e = subst (λ v. In v ids) e (In-get_or ids m 0 h)
 
@@ -24,11 +25,9 @@ listed ids m i h e = subst (λ v. In v ids) e (In-get_or ids m 0 h)
 pub first_two : (ids : List ℕ) (i j : ℕ) → 1 < length ids → i ≡ get_or ids 0 i → j ≡ get_or ids 1 j → AreFirstTwo ids i j
 first_two ids i j h p q = record { two = h; first = sym (get_or_default_zero ids 0 i (omega arith)) ∙ sym p; second = sym (get_or_default_zero ids 1 j h) ∙ sym q }
 
+-- the first two are a segment
 two : (ids : List ℕ) (i j : ℕ) → AreFirstTwo ids i j → IsStrictlyIncreasing ids → HasSegment (Members ids)
-two ids i j t r = record { i = i; j = j; has_i = listed ids 0 i (let h = t.two in omega arith) t.first; has_j = listed ids 1 j t.two t.second; differ = λ e. no_less (get_or ids 0 0) (get_or ids 1 0) (r 0 t.two) (t.first ∙ e ∙ sym t.second) }
-  where
-    no_less : (a b : ℕ) → a < b → a ≡ b → ⊥
-    no_less a b h e = omega arith
+two ids i j t r = record { i = i; j = j; has_i = listed ids 0 i (let h = t.two in omega arith) t.first; has_j = listed ids 1 j t.two t.second; differ = λ e. less_differ (get_or ids 0 0) (get_or ids 1 0) (r 0 t.two) (t.first ∙ e ∙ sym t.second) }
 
 -- all in line with the first two: a segment
 pub segment : (pts : List Vector) (ids : List ℕ) (i j : ℕ) → AreFirstTwo ids i j → Each (IsInLine pts i j) ids → IsIdSet pts ids → IsDimension (place pts) (Members ids) 1
@@ -43,6 +42,7 @@ segment pts ids i j t h s =
           (each_in (IsInLine pts i j) ids h k.i k.has_i) (each_in (IsInLine pts i j) ids h k.j k.has_j) (each_in (IsInLine pts i j) ids h k.k k.has_k)),
     )))
 
+-- the first off their line makes a triangle
 three : (pts : List Vector) (ids : List ℕ) (i j k : ℕ) → AreFirstTwo ids i j → IsFirstNot (IsInLine pts i j) ids k → HasTriangle (place pts) (Members ids)
 three pts ids i j k t f = record { i = i; j = j; k = k; has_i = listed ids 0 i (let h = t.two in omega arith) t.first; has_j = listed ids 1 j t.two t.second; has_k = listed ids f.at k f.within f.is; area = f.not }
 

@@ -13,3 +13,4 @@ pub mod PlaceHeights
 pub mod SortedPlaces
 pub mod LeastFirst
 pub mod PlanarIds
+pub mod Triangle

@@ -48,3 +48,7 @@ after_first (x ∷ xs) = xs
 -- the way round over two chains, there and back: each without its top, where the other begins
 abbrev pub joined : List ℕ → List ℕ → List ℕ
 joined there back = turned_onto (after_first there) (turned_onto (after_first back) [])
+
+-- three ids, the first of which stays first, in the order that turns left
+abbrev pub triangle : (ℕ → ℕ → ℕ → ℤ) → ℕ → ℕ → ℕ → List ℕ
+triangle turn i j k = cond (is_left (turn i j k)) (i ∷ j ∷ k ∷ []) (i ∷ k ∷ j ∷ [])

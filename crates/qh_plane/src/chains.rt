@@ -8,7 +8,7 @@ use qh_pred::{Normal, left, point_at};
 use std::alloc::{AllocError, Global};
 
 /// Whether the way from u over v to w turns left.
-fn turns_left(pts: &[Point], normal: &Normal, u: Id, v: Id, w: Id) -> bool
+pub fn turns_left(pts: &[Point], normal: &Normal, u: Id, v: Id, w: Id) -> bool
     requires u_in { u < length pts.now }
     requires v_in { v < length pts.now }
     requires w_in { w < length pts.now }

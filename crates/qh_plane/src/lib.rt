@@ -4,8 +4,8 @@
 //! All three go by the exact predicates of `qh_pred` alone, so no answer is rounded.
 #![tactic(auto)]
 
-mod dimension;
 mod chains;
+mod dimension;
 mod distinct_points;
 mod place_keys;
 mod planar;

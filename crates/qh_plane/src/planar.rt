@@ -5,11 +5,11 @@ ghost use Rattle.qh_model.specs.Predicates.{place};
 ghost use Rattle.qh_model.specs.Sets.{Members};
 ghost use Rattle.qh_model.specs.Extreme.{Extreme};
 ghost use Rattle.qh_model.specs.Polygon.{IsPolygon};
-ghost use Rattle.qh_plane.specs.Chains.{turn_of, chain, joined};
+ghost use Rattle.qh_plane.specs.Chains.{turn_of, chain, joined, triangle};
 ghost use Rattle.qh_plane.specs.PlaceKeys.{AreIndices, AreByPlace, HasKey};
 ghost use Rattle.qh_plane.specs.PlanarSets.{IsPlanarSet};
 
-use crate::chains::chain;
+use crate::chains::{chain, turns_left};
 use crate::place_keys::{id_in, place_keys};
 use qh_model::{Id, Memory, Point, Polygon};
 use qh_pred::Normal;
@@ -75,6 +75,40 @@ fn least_position(ids: &[Id]) -> usize
     least
 }
 
+/// The cycle of three ids, from the first on, that turns left.
+fn triangle(
+    alloc: Global,
+    pts: &[Point],
+    normal: &Normal,
+    i: Id,
+    j: Id,
+    k: Id,
+) -> Result<Vec<Id>, AllocError>
+    requires i_in { i < length pts.now }
+    requires j_in { j < length pts.now }
+    requires k_in { k < length pts.now }
+    ensures { IfOk result (λ v. v.items ≡ triangle (turn_of pts.now normal.now) i j k) }
+{
+    let corners = if turns_left(pts, normal, i, j, k) {
+        [i, j, k]
+    } else {
+        [i, k, j]
+    };
+    Ok(Vec::from_array(alloc, corners)?)
+}
+
+/// The cycle of more ids in one plane, over the two chains of their order, from the least on.
+fn corners(alloc: Global, pts: &[Point], normal: &Normal, ids: &[Id]) -> Result<Vec<Id>, AllocError>
+    requires { AreIndices pts.now ids.now }
+    ensures { IfOk result (λ v. IsPlanarSet pts.now ids.now normal.now → IsPolygon (place pts.now) (Extreme (place pts.now) (Members ids.now)) normal.now v.items) }
+{
+    let sorted = by_place(alloc, pts, ids)?;
+    let mut corners = cycle(alloc, pts, normal, sorted)?;
+    let least = least_position(&corners);
+    corners.rotate_left(least);
+    Ok(corners)
+}
+
 /// The polygon of points in one plane: the extreme ids, counterclockwise seen from the side to which
 /// the normal points, from the least id on. It takes time in proportion to `n log n` for n ids.
 ///
@@ -91,9 +125,9 @@ pub fn polygon(alloc: Global, pts: &[Point], ids: &[Id], normal: &Normal) -> Res
     requires { AreIndices pts.now ids.now }
     ensures { IfOk result (λ q. IsPlanarSet pts.now ids.now normal.now → IsPolygon (place pts.now) (Extreme (place pts.now) (Members ids.now)) normal.now q) }
 {
-    let sorted = by_place(alloc, pts, ids)?;
-    let mut corners = cycle(alloc, pts, normal, sorted)?;
-    let least = least_position(&corners);
-    corners.rotate_left(least);
-    Ok(Polygon(corners))
+    // Most faces are triangles: one turn tells the order of their ids.
+    if ids.len() == 3 {
+        return Ok(Polygon(triangle(alloc, pts, normal, ids[0], ids[1], ids[2])?));
+    }
+    Ok(Polygon(corners(alloc, pts, normal, ids)?))
 }

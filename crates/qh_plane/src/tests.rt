@@ -78,6 +78,21 @@ fn polygons(rt: HostRuntime) -> Result<(), Fail> {
 }
 
 #[test]
+fn triangles(rt: HostRuntime) -> Result<(), Fail> {
+    let pts = square();
+    let ids = [Id::new(0), Id::new(2), Id::new(4)];
+    let up = cross(pts[0], pts[2], pts[4]);
+    let above = polygon(rt.alloc(), &pts, &ids, &up).expect(&rt, "memory");
+    assert_eq!(rt; above.ids(), ids.as_slice());
+    let below = polygon(rt.alloc(), &pts, &ids, &up.opposite()).expect(&rt, "memory");
+    assert_eq!(rt;
+        below.ids(),
+        [Id::new(0), Id::new(4), Id::new(2)].as_slice()
+    );
+    Ok(())
+}
+
+#[test]
 fn shapes(rt: HostRuntime) -> Result<(), Fail> {
     let pts = square();
     let flat = Shape::Flat(Id::new(0), Id::new(1), Id::new(3));

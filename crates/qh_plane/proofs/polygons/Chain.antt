@@ -2,29 +2,31 @@
 use Rattle.std.proofs.Common.{◌≡◌, ℕ, zero, suc, refl, List, [], ◌∷◌, arith, ap, sym, subst, ◌⊎◌, inl, inr, Bool, true, false, cond}
 use Rattle.std.proofs.lemmas.Int.{ints, by_lt_z}
 use Rattle.std.specs.Prelude.{ℤ, pos, negsuc, ◌≤ℤ◌, ◌<ℤ◌}
+use Rattle.qh_model.proofs.algebra.Order.{le_antisym, positive_le}
 use Rattle.qh_model.specs.Sets.{In}
 use Rattle.qh_plane.specs.Chains.{is_left, kept_below, chain}
+use Rattle.qh_plane.proofs.Signs.{not_less, less_le, equal_le}
 use Rattle.qh_plane.proofs.polygons.TurnLaws.{RisesBy, TurnLaws, TurnsAt, HasOnLeft, IsChain, Added, chain_top}
 
 -- what the pops leave
 abbrev IsCapped : (ℕ → ℕ → ℕ → ℤ) → (ℕ → ℤ) → (ℕ → Type 0) → ℕ → ℕ → Type 0
 IsCapped turn key D y t = (x : ℕ) → D x → key t <ℤ key x → pos 0 ≤ℤ turn t y x
 
-is_left-yes : (z : ℤ) → is_left z ≡ true → pos 0 <ℤ z
+-- a turn to the left is above 0
+pub is_left-yes : (z : ℤ) → is_left z ≡ true → pos 0 <ℤ z
 is_left-yes (pos zero) e = cc
 is_left-yes (pos (suc n)) e = omega (arith, ints)
 is_left-yes (negsuc n) e = cc
 
-is_left-no : (z : ℤ) → is_left z ≡ false → z ≤ℤ pos 0
+-- another is not
+pub is_left-no : (z : ℤ) → is_left z ≡ false → z ≤ℤ pos 0
 is_left-no (pos zero) e = omega (arith, ints)
 is_left-no (pos (suc n)) e = cc
 is_left-no (negsuc n) e = omega (arith, ints)
 
+-- zero is not below 0
 at_least : (z : ℤ) → z ≡ pos 0 → pos 0 ≤ℤ z
 at_least z e = omega (arith, ints)
-
-weaker : (z : ℤ) → pos 0 <ℤ z → pos 0 ≤ℤ z
-weaker z h = omega (arith, ints)
 
 -- a stack that its tops may leave
 record Top (turn : ℕ → ℕ → ℕ → ℤ) (key : ℕ → ℤ) (D : ℕ → Type 0) (y : ℕ) (s : List ℕ) : Type 0 where
@@ -74,6 +76,7 @@ module _ (turn : ℕ → ℕ → ℕ → ℤ) (key : ℕ → ℤ) (A : ℕ → T
   pop : (D : ℕ → Type 0) (y t r : ℕ) → ((x : ℕ) → D x → A x) → A y → D t → D r → key r <ℤ key t → HasOnLeft turn D r t → ((x : ℕ) → D x → key x <ℤ key y) → turn r t y ≤ℤ pos 0 → IsCapped turn key D y r
   pop D y t r in_a ay dt dr lt edge below nl x dx h = turn_laws.about r t x y (in_a r dr) (in_a t dt) (in_a x dx) ay lt h (below r dr) nl (edge x dx)
 
+  -- one pop, by whether the way over the top turns left
   pops-split : (D : ℕ → Type 0) (y t r : ℕ) (s : List ℕ) (b : Bool) → is_left (turn r t y) ≡ b
       → ((x : ℕ) → D x → A x) → A y → ((x : ℕ) → D x → key x <ℤ key y)
       → (IsChain turn key D r s → IsCapped turn key D y r → Top turn key D y (kept_below turn y r s))
@@ -82,6 +85,7 @@ module _ (turn : ℕ → ℕ → ℕ → ℤ) (key : ℕ → ℤ) (A : ℕ → T
   pops-split D y t r s false e in_a ay below more g c =
       more g.4 (pop D y t r in_a ay g.0 (chain_top turn key D r s g.4) g.1 g.2 below (is_left-no _ e))
 
+  -- the pops end at a top over which the way turns left
   pops : (D : ℕ → Type 0) (y t : ℕ) (s : List ℕ) → ((x : ℕ) → D x → A x) → A y → ((x : ℕ) → D x → key x <ℤ key y)
       → IsChain turn key D t s → IsCapped turn key D y t → Top turn key D y (kept_below turn y t s)
   pops D y t [] in_a ay below g c = record { top = t; rest = []; is = refl; good = g; capped = c; sharp = tt }
@@ -89,15 +93,17 @@ module _ (turn : ℕ → ℕ → ℕ → ℤ) (key : ℕ → ℤ) (A : ℕ → T
 
   -- the old edges have y on their left
   edge-more : (D : ℕ → Type 0) (y r t : ℕ) → HasOnLeft turn D r t → pos 0 <ℤ turn r t y → HasOnLeft turn (Added D y) r t
-  edge-more D y r t edge lt x (inl e) = subst (λ v. pos 0 ≤ℤ turn r t v) (sym e) (weaker _ lt)
+  edge-more D y r t edge lt x (inl e) = subst (λ v. pos 0 ≤ℤ turn r t v) (sym e) (positive_le _ lt)
   edge-more D y r t edge lt x (inr d) = edge x d
 
+  -- where the way turns left over a top, it does so over each one below
   sharp-down : (D : ℕ → Type 0) (y t r : ℕ) (s : List ℕ) → ((x : ℕ) → D x → A x) → A y → ((x : ℕ) → D x → key x <ℤ key y)
       → D t → key r <ℤ key t → TurnsAt turn t r s → IsChain turn key D r s → pos 0 <ℤ turn r t y → TurnsAt turn y r s
   sharp-down D y t r [] in_a ay below dt lt sh g h = tt
   sharp-down D y t r (q ∷ s) in_a ay below dt lt sh g h =
-      turn_laws.onward q r t y (in_a q (chain_top turn key D q s g.4)) (in_a r g.0) (in_a t dt) ay g.1 lt (below r g.0) sh (weaker _ h)
+      turn_laws.onward q r t y (in_a q (chain_top turn key D q s g.4)) (in_a r g.0) (in_a t dt) ay g.1 lt (below r g.0) sh (positive_le _ h)
 
+  -- the chain has y on its left too
   lift : (D : ℕ → Type 0) (y t : ℕ) (s : List ℕ) → ((x : ℕ) → D x → A x) → A y → ((x : ℕ) → D x → key x <ℤ key y)
       → IsChain turn key D t s → TurnsAt turn y t s → IsChain turn key (Added D y) t s
   lift D y t [] in_a ay below g sh = (inr g.0, first)
@@ -114,50 +120,38 @@ module _ (turn : ℕ → ℕ → ℕ → ℤ) (key : ℕ → ℤ) (A : ℕ → T
   -- the new edge has on its left all that was passed
   behind-edge : (D : ℕ → Type 0) (y t : ℕ) (s : List ℕ) → ((x : ℕ) → D x → A x) → A y → ((x : ℕ) → D x → key x <ℤ key y)
       → IsChain turn key D t s → TurnsAt turn y t s → (x : ℕ) → D x → key x <ℤ key t → pos 0 ≤ℤ turn t y x
-  behind-edge D y t [] in_a ay below g sh x d h = absurd (against (key x) (key t) h (g.1 x d))
-    where
-      against : (a b : ℤ) → a <ℤ b → b ≤ℤ a → ⊥
-      against a b h k = omega (arith, ints)
+  behind-edge D y t [] in_a ay below g sh x d h = absurd (not_less (key x) (key t) h (g.1 x d))
   behind-edge D y t (r ∷ s) in_a ay below g sh x d h =
-      turn_laws.behind r t x y (in_a r (chain_top turn key D r s g.4)) (in_a t g.0) (in_a x d) ay h g.1 (below t g.0) (g.2 x d) (weaker _ sh)
+      turn_laws.behind r t x y (in_a r (chain_top turn key D r s g.4)) (in_a t g.0) (in_a x d) ay h g.1 (below t g.0) (g.2 x d) (positive_le _ sh)
 
+  -- the new edge has all that was passed on its left
   new-edge : (D : ℕ → Type 0) (y t : ℕ) (s : List ℕ) → ((x : ℕ) → D x → A x) → A y → ((x : ℕ) → D x → key x <ℤ key y)
       → IsChain turn key D t s → IsCapped turn key D y t → TurnsAt turn y t s → HasOnLeft turn (Added D y) t y
   new-edge D y t s in_a ay below g c sh x (inl e) = subst (λ v. pos 0 ≤ℤ turn t y v) (sym e) (at_least _ (turn_laws.there t y))
   new-edge D y t s in_a ay below g c sh x (inr d) =
       by_lt_z (key x) (key t) (λ h. behind-edge D y t s in_a ay below g sh x d h)
-      (λ k. by_lt_z (key t) (key x) (λ h. c x d h) (λ m. here (turn_laws.same x t (in_a x d) (in_a t (chain_top turn key D t s g)) (both (key x) (key t) k m))))
+      (λ k. by_lt_z (key t) (key x) (λ h. c x d h) (λ m. here (turn_laws.same x t (in_a x d) (in_a t (chain_top turn key D t s g)) (le_antisym (key x) (key t) m k))))
     where
-      both : (a b : ℤ) → b ≤ℤ a → a ≤ℤ b → a ≡ b
-      both a b h k = omega (arith, ints)
-
       here : x ≡ t → pos 0 ≤ℤ turn t y x
       here e = subst (λ v. pos 0 ≤ℤ turn t y v) (sym e) (at_least _ (turn_laws.back t y))
 
+  -- the next id on the stack makes a chain over one more
   pushes : (D : ℕ → Type 0) (y : ℕ) (s : List ℕ) → ((x : ℕ) → D x → A x) → A y → ((x : ℕ) → D x → key x <ℤ key y)
       → (p : Top turn key D y s) → IsChain turn key (Added D y) y s
   pushes D y s in_a ay below p =
       subst (λ v. IsChain turn key (Added D y) y v) (sym p.is)
       (inl refl, below p.top (chain_top turn key D p.top p.rest p.good), new-edge D y p.top p.rest in_a ay below p.good p.capped p.sharp, p.sharp, lift D y p.top p.rest in_a ay below p.good p.sharp)
 
+  -- the stack stays a chain over what was passed
   chains : (D : ℕ → Type 0) (t : ℕ) (s xs : List ℕ) → ((x : ℕ) → D x → A x) → ((x : ℕ) → In x xs → A x)
       → IsChain turn key D t s → ((x : ℕ) → D x → key x ≤ℤ key t) → RisesBy key t xs → IsChained turn key (Passed D xs) (chain turn (t ∷ s) xs)
   chains D t s [] in_a xs_a g le r = record { top = t; rest = s; is = refl; good = g; greatest = le }
   chains D t s (y ∷ ys) in_a xs_a g le r =
       chains (Added D y) y (kept_below turn y t s) ys in_more (λ x i. xs_a x (inr i))
-      (pushes D y (kept_below turn y t s) in_a (xs_a y (inl refl)) below (pops D y t s in_a (xs_a y (inl refl)) below g (λ x d h. absurd (against (key x) (key t) (le x d) h)))) le_more r.1
+      (pushes D y (kept_below turn y t s) in_a (xs_a y (inl refl)) below (pops D y t s in_a (xs_a y (inl refl)) below g (λ x d h. absurd (not_less (key t) (key x) h (le x d))))) le_more r.1
     where
-      against : (a b : ℤ) → a ≤ℤ b → b <ℤ a → ⊥
-      against a b h k = omega (arith, ints)
-
       under : (a b c : ℤ) → a ≤ℤ b → b <ℤ c → a <ℤ c
       under a b c h k = omega (arith, ints)
-
-      flat : (a b : ℤ) → a ≡ b → a ≤ℤ b
-      flat a b e = omega (arith, ints)
-
-      soft : (a b : ℤ) → a <ℤ b → a ≤ℤ b
-      soft a b e = omega (arith, ints)
 
       below : (x : ℕ) → D x → key x <ℤ key y
       below x d = under (key x) (key t) (key y) (le x d) r.0
@@ -167,15 +161,12 @@ module _ (turn : ℕ → ℕ → ℕ → ℤ) (key : ℕ → ℤ) (A : ℕ → T
       in_more x (inr d) = in_a x d
 
       le_more : (x : ℕ) → Added D y x → key x ≤ℤ key y
-      le_more x (inl e) = flat (key x) (key y) (ap key e)
-      le_more x (inr d) = soft (key x) (key y) (below x d)
+      le_more x (inl e) = equal_le (key x) (key y) (ap key e)
+      le_more x (inr d) = less_le (key x) (key y) (below x d)
 
 -- the chain of a rising list
 pub chain-good : (turn : ℕ → ℕ → ℕ → ℤ) (key : ℕ → ℤ) (A : ℕ → Type 0) → TurnLaws turn key A → (x₀ : ℕ) (xs : List ℕ)
     → ((x : ℕ) → In x (x₀ ∷ xs) → A x) → RisesBy key x₀ xs
     → IsChained turn key (Passed (λ x. x ≡ x₀) xs) (chain turn [] (x₀ ∷ xs))
 chain-good turn key A turn_laws x₀ xs in_a r =
-    chains turn key A turn_laws (λ x. x ≡ x₀) x₀ [] xs (λ x e. in_a x (inl e)) (λ x i. in_a x (inr i)) (refl, λ x e. flat (key x₀) (key x) (ap key (sym e))) (λ x e. flat (key x) (key x₀) (ap key e)) r
-  where
-    flat : (a b : ℤ) → a ≡ b → a ≤ℤ b
-    flat a b e = omega (arith, ints)
+    chains turn key A turn_laws (λ x. x ≡ x₀) x₀ [] xs (λ x e. in_a x (inl e)) (λ x i. in_a x (inr i)) (refl, λ x e. equal_le (key x₀) (key x) (ap key (sym e))) (λ x e. equal_le (key x) (key x₀) (ap key e)) r

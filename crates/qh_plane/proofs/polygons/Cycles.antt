@@ -21,18 +21,22 @@ abbrev pub bottom : ℕ → List ℕ → ℕ
 bottom t [] = t
 bottom t (r ∷ s) = bottom r s
 
+-- a turned stack begins with its last
 pub turned_onto-head : (t : ℕ) (s acc : List ℕ) → HeadIs (bottom t s) (turned_onto s (t ∷ acc))
 turned_onto-head t [] acc = refl
 turned_onto-head t (r ∷ s) acc = turned_onto-head r s (t ∷ acc)
 
+-- what holds down a stack holds along the turned stack
 pub turned_onto-path : (P : ℕ → ℕ → Type 0) (t : ℕ) (s acc : List ℕ) (e : ℕ) → Down P t s → AlongPath P t acc e → Full P (turned_onto s (t ∷ acc)) e
 turned_onto-path P t [] acc e d p = p
 turned_onto-path P t (r ∷ s) acc e d p = turned_onto-path P r s (t ∷ acc) e d.1 (d.0, p)
 
+-- one step before a list
 join-path : (P : ℕ → ℕ → Type 0) (m h : ℕ) (U : List ℕ) (z : ℕ) → HeadIs m U → Full P U z → P h m → AlongPath P h U z
 join-path P m h [] z e f p = absurd e
 join-path P m h (u ∷ U) z e f p = (subst (λ v. P h v) (sym e) p, f)
 
+-- a list that leads back to its first goes round
 full-round : (P : ℕ → ℕ → Type 0) (z : ℕ) (U : List ℕ) → HeadIs z U → Full P U z → AroundCycle P U
 full-round P z [] e f = tt
 full-round P z (u ∷ U) e f = subst (λ v. AlongPath P u U v) (sym e) f
@@ -48,6 +52,7 @@ cycle-of P m a s z b r d u e f =
     U = turned_onto r (b ∷ [])
 
 -- ---- members
+-- the members of a list turned onto another
 pub in-turned_onto : (s acc : List ℕ) (x : ℕ) → In x s ⊎ In x acc → In x (turned_onto s acc)
 in-turned_onto [] acc x (inl i) = absurd i
 in-turned_onto [] acc x (inr i) = i
@@ -80,10 +85,12 @@ bottom-in t [] = inl refl
 bottom-in t (r ∷ s) = inr (bottom-in r s)
 
 -- ---- rotation
+-- a way through v is a way to v and one from v
 path-split : (P : ℕ → ℕ → Type 0) (u : ℕ) (xs : List ℕ) (v : ℕ) (ys : List ℕ) (e : ℕ) → AlongPath P u (xs ++ v ∷ ys) e → AlongPath P u xs v × AlongPath P v ys e
 path-split P u [] v ys e p = p
 path-split P u (x ∷ xs) v ys e p = let k = path-split P x xs v ys e p.1 in ((p.0, k.0), k.1)
 
+-- and back
 path-join : (P : ℕ → ℕ → Type 0) (u : ℕ) (xs : List ℕ) (v : ℕ) (ys : List ℕ) (e : ℕ) → AlongPath P u xs v → AlongPath P v ys e → AlongPath P u (xs ++ v ∷ ys) e
 path-join P u [] v ys e p q = (p, q)
 path-join P u (x ∷ xs) v ys e p q = (p.0, path-join P x xs v ys e p.1 q)

@@ -21,6 +21,7 @@ pub record GoesRound (n : Vector) (at : ℕ → Vector) (A : ℕ → Type 0) (q 
   pub once : Once q
   pub round : AroundCycle (TurnsLeft at n q) q
 
+-- a chain over a set is one over the same set told otherwise
 chain_same : (turn : ℕ → ℕ → ℕ → ℤ) (key : ℕ → ℤ) (D E : ℕ → Type 0) → ((x : ℕ) → D x → E x) → ((x : ℕ) → E x → D x) → (t : ℕ) (s : List ℕ) → IsChain turn key D t s → IsChain turn key E t s
 chain_same turn key D E f g t [] k = (f t k.0, λ x e. k.1 x (g x e))
 chain_same turn key D E f g t (r ∷ s) k = (f t k.0, k.1, λ x e. k.2 x (g x e), k.3, chain_same turn key D E f g r s k.4)
@@ -33,6 +34,7 @@ record Half (n h : Vector) (at : ℕ → Vector) (A : ℕ → Type 0) (c : List 
   good : IsChain (turn_about n at) (height_of h at) A top rest
   greatest : (x : ℕ) → A x → height_of h at x ≤ℤ height_of h at top
 
+-- the chain of a rising list of the members
 half_of : (n h : Vector) (at : ℕ → Vector) (A : ℕ → Type 0) → IsFlat n at A → IsKeyed h at A → (x₀ : ℕ) (xs : List ℕ) → ((x : ℕ) → In x (x₀ ∷ xs) ↔ A x) → RisesBy (height_of h at) x₀ xs
     → Half n h at A (chain (turn_about n at) [] (x₀ ∷ xs))
 half_of n h at A flat keyed x₀ xs l r =
@@ -47,9 +49,11 @@ half_of n h at A flat keyed x₀ xs l r =
     from : (x : ℕ) → A x → Passed (λ x. x ≡ x₀) xs x
     from x a = ⊎_elim (λ e. passed-before (λ x. x ≡ x₀) xs x e) (λ i. passed-in (λ x. x ≡ x₀) xs x i) ((l x).1 a)
 
+-- a highest member is not also lowest where two members differ in height
 alone : (a b x y : ℤ) → a <ℤ b → x ≤ℤ a → b ≤ℤ x → ⊥
 alone a b x y h k l = omega (arith, ints)
 
+-- the two chains close
 closes : (n h : Vector) (at : ℕ → Vector) (A : ℕ → Type 0) → IsFlat n at A → IsKeyed h at A → (p q : ℕ) → A p → A q → height_of h at p <ℤ height_of h at q → height_of (opposite h) at q <ℤ height_of (opposite h) at p
     → (m : ℕ) (s : List ℕ) (z : ℕ) (r : List ℕ)
     → IsChain (turn_about n at) (height_of h at) A m s → ((x : ℕ) → A x → height_of h at x ≤ℤ height_of h at m)
@@ -77,11 +81,13 @@ goes_round n h at A flat keyed p q ap aq l l' x₀ xs y₀ ys i j r r' =
     up : Half n (opposite h) at A (chain (turn_about n at) [] (y₀ ∷ ys))
     up = half_of n (opposite h) at A flat (keyed_opposite h at A keyed) y₀ ys j r'
 
+-- a member of two lists joined
 in-append : (xs ys : List ℕ) (x : ℕ) → In x (xs ++ ys) → In x ys ⊎ In x xs
 in-append [] ys x i = inl i
 in-append (y ∷ xs) ys x (inl e) = inr (inl e)
 in-append (y ∷ xs) ys x (inr i) = ⊎_elim (λ k. inl k) (λ k. inr (inr k)) (in-append xs ys x i)
 
+-- and back
 append-in : (xs ys : List ℕ) (x : ℕ) → In x ys ⊎ In x xs → In x (xs ++ ys)
 append-in [] ys x (inl i) = i
 append-in [] ys x (inr i) = absurd i
@@ -89,6 +95,7 @@ append-in (y ∷ xs) ys x (inl i) = inr (append-in xs ys x (inl i))
 append-in (y ∷ xs) ys x (inr (inl e)) = inl e
 append-in (y ∷ xs) ys x (inr (inr i)) = inr (append-in xs ys x (inr i))
 
+-- the cases exchanged
 other : (P Q : Type 0) → P ⊎ Q → Q ⊎ P
 other P Q (inl p) = inr p
 other P Q (inr q) = inl q
@@ -97,12 +104,14 @@ other P Q (inr q) = inl q
 pub in-rotate : (xs ys : List ℕ) (x : ℕ) → In x (xs ++ ys) → In x (ys ++ xs)
 in-rotate xs ys x i = append-in ys xs x (other _ _ (in-append xs ys x i))
 
+-- parts of a list that repeats nothing
 once-parts : (xs ys : List ℕ) → Once (xs ++ ys) → Once xs × (Once ys × ((x : ℕ) → In x xs → In x ys → ⊥))
 once-parts [] ys o = (tt, (o, λ x i j. i))
 once-parts (x ∷ xs) ys o =
     let k = once-parts xs ys o.1 in
     ((λ i. o.0 (append-in xs ys x (inr i)), k.0), (k.1.0, λ v i j. ⊎_elim (λ e. o.0 (append-in xs ys x (inl (subst (λ t. In t ys) e j)))) (λ l. k.1.1 v l j) i))
 
+-- and back
 once-join : (xs ys : List ℕ) → Once xs → Once ys → ((x : ℕ) → In x xs → In x ys → ⊥) → Once (xs ++ ys)
 once-join [] ys o p d = p
 once-join (x ∷ xs) ys o p d = (λ i. ⊎_elim (λ k. d x (inl refl) k) (λ k. o.0 k) (in-append xs ys x i), once-join xs ys o.1 p (λ v i j. d v (inr i) j))

@@ -8,6 +8,7 @@ use Rattle.qh_model.specs.Vector.{Vector}
 use Rattle.qh_plane.proofs.Members.{in_at}
 use Rattle.qh_plane.proofs.polygons.GoesRound.{GoesRound, goes_round-rotate, in-rotate}
 
+-- the empty list begins with its least
 empty : (xs : List ℕ) → length xs ≡ 0 → BeginsWithLeast xs
 empty [] e = tt
 empty (x ∷ xs) e = absurd (omega arith)

@@ -23,9 +23,11 @@ order = record { x = pos (ROOM * ROOM); y = pos ROOM; z = pos 1 }
 abbrev ground_level : ℕ
 ground_level = (COORDINATE_LIMIT * ROOM + COORDINATE_LIMIT) * ROOM + COORDINATE_LIMIT
 
+-- a raised coordinate
 raised_is : (z : ℤ) → IsCoordinate z → pos (raised z) ≡ z +ℤ pos COORDINATE_LIMIT
 raised_is z h = omega (arith, ints)
 
+-- the number of a place is its height, over the number of the origin
 height : (x y z : ℤ) (a b c : ℕ) → pos a ≡ x +ℤ pos COORDINATE_LIMIT → pos b ≡ y +ℤ pos COORDINATE_LIMIT → pos c ≡ z +ℤ pos COORDINATE_LIMIT
     → pos ((a * ROOM + b) * ROOM + c) ≡ (pos (ROOM * ROOM) *ℤ x +ℤ pos ROOM *ℤ y +ℤ pos 1 *ℤ z) +ℤ pos ground_level
 height x y z a b c e f g = omega (arith, ints)
@@ -35,9 +37,11 @@ place_code-height : (p : Vector) → IsPlace p → pos (place_code p) ≡ dot or
 unfolding place_code
 place_code-height p h = height p.x p.y p.z (raised p.x) (raised p.y) (raised p.z) (raised_is p.x h.x) (raised_is p.y h.y) (raised_is p.z h.z)
 
+-- equal heights, equal numbers
 same_height : (a b : ℕ) (x y c : ℤ) → pos a ≡ x +ℤ c → pos b ≡ y +ℤ c → x ≡ y → a ≡ b
 same_height a b x y c e f h = omega (arith, ints)
 
+-- lower numbers, lower heights
 less_height : (a b : ℕ) (x y c : ℤ) → pos a ≡ x +ℤ c → pos b ≡ y +ℤ c → a < b → x <ℤ y
 less_height a b x y c e f h = omega (arith, ints)
 

@@ -14,16 +14,20 @@ use Rattle.qh_plane.proofs.LinesAndPlanes.{between_eq, none}
 use Rattle.qh_plane.proofs.polygons.Turns.{IsFlat}
 use Rattle.qh_plane.specs.PlanarSets.{IsPlanarSet}
 
+-- the scalar product with the opposite
 negated : (c v : Vector) → dot (minus origin c) v ≡ neg_ℤ (dot c v)
 negated c v = ring (put c (put v [])) (dotE (record { x = less (con (pos 0)) (vec 0).x; y = less (con (pos 0)) (vec 0).y; z = less (con (pos 0)) (vec 0).z }) (vec 1)) (neg (dotE (vec 0) (vec 1))) refl
 
+-- the opposite of zero is zero
 neg_zero : (x y : ℤ) → x ≡ neg_ℤ y → y ≡ pos 0 → x ≡ pos 0
 neg_zero x y e h = omega (arith, ints)
 
+-- and back
 back_zero : (x : ℤ) → pos 0 -ℤ x ≡ pos 0 → x ≡ pos 0
 back_zero x e = omega (arith, ints)
 
 module _ (pts : List Vector) (ids : List ℕ) (n : Vector) (p : IsPlanarSet pts ids n) where
+  -- the normal of the three
   abbrev c : Vector
   c = cross (place pts p.i) (place pts p.j) (place pts p.k)
 
@@ -38,6 +42,7 @@ module _ (pts : List Vector) (ids : List ℕ) (n : Vector) (p : IsPlanarSet pts 
       go (inl e) = ap (λ v. dot v (minus (place pts l) (place pts p.i))) e ∙ zero_c
       go (inr e) = ap (λ v. dot v (minus (place pts l) (place pts p.i))) e ∙ neg_zero _ _ (negated c (minus (place pts l) (place pts p.i))) zero_c
 
+  -- the normal is not zero
   some : n ≢ origin
   some h = go p.normal
     where

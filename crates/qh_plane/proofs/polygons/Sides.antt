@@ -22,22 +22,26 @@ Down P t (r ∷ s) = P r t × Down P r s
 
 module _ (n h : Vector) (at : ℕ → Vector) (A : ℕ → Type 0) (flat : IsFlat n at A) (keyed : IsKeyed h at A)
     (least : (b : ℕ) → A b → ((x : ℕ) → A x → height_of h at b ≤ℤ height_of h at x) → Corner at A b) where
+  -- what lies below the top is a corner
   below : (t r : ℕ) (s : List ℕ) → A t → HasOnLeft (turn_about n at) A r t → TurnsAt (turn_about n at) t r s → IsChain (turn_about n at) (height_of h at) A r s → Corner at A r
   below t r [] at' e sh g = least r g.0 g.1
   below t r (q ∷ s) at' e sh g = inner n h at A flat keyed q r t (chain_top _ _ A q s g.4) g.0 at' g.2 e sh
 
+  -- ids of different heights differ
   differ : (u v : ℕ) → height_of h at u <ℤ height_of h at v → u ≢ v
   differ u v l e = no_less (height_of h at u) (height_of h at v) l (ap (height_of h at) e)
     where
       no_less : (a b : ℤ) → a <ℤ b → a ≡ b → ⊥
       no_less a b l e = omega (arith, ints)
 
+  -- the edges of a chain are sides
   pub sides : (t : ℕ) (s : List ℕ) → Corner at A t → IsChain (turn_about n at) (height_of h at) A t s → Down (Side n at A) t s
   sides t [] c g = tt
   sides t (r ∷ s) c g =
       let d = below t r s g.0 g.2 g.3 g.4 in
       (record { from = d; to = c; apart = differ r t g.1; edge = g.2 }, sides r s d g.4)
 
+-- the members below its top are corners
 pub down_corner : (n : Vector) (at : ℕ → Vector) (A : ℕ → Type 0) (t : ℕ) (s : List ℕ) → Down (Side n at A) t s → (x : ℕ) → In x s → Corner at A x
 down_corner n at A t [] d x i = absurd i
 down_corner n at A t (r ∷ s) d x (inl e) = subst (Corner at A) (sym e) d.0.from

@@ -1,7 +1,6 @@
 -- The cycle over the two chains of sorted ids goes round the extremes.
 use Rattle.std.proofs.Common.{◌≡◌, ℕ, ◌+◌, ◌*◌, ◌%◌, ◌<◌, List, [], ◌∷◌, length, map, reverse, arith, ap, sym, subst, ◌∙◌, refl, inl, inr, ⊎_elim}
 use Rattle.std.proofs.lemmas.List.{length-map}
-use Rattle.std.proofs.lemmas.List.Elements.{All-from_recursion}
 use Rattle.std.proofs.lemmas.List.Sorted.{length_permutation}
 use Rattle.std.specs.Prelude.{ℤ, ◌<ℤ◌, ◌↔◌}
 use Rattle.std.specs.List.{All, AllByRecursion as Every}
@@ -13,46 +12,49 @@ use Rattle.qh_model.specs.Predicates.{place}
 use Rattle.qh_model.specs.Sets.{In}
 use Rattle.qh_model.specs.Vector.{Vector}
 use Rattle.qh_plane.proofs.KeyOrder.{IsKeyOf, sorted_keys, rising_keys, key_parts, place_code-same, sorted-only, sorted-all}
-use Rattle.qh_plane.proofs.Members.{RisesAbove, rises_above}
+use Rattle.qh_plane.proofs.Members.{All-of, less_differ, RisesAbove, rises_above}
 use Rattle.qh_plane.proofs.polygons.Cycles.{in-turned_onto, turned_onto-in}
 use Rattle.qh_plane.proofs.polygons.GoesRound.{GoesRound, goes_round}
 use Rattle.qh_plane.proofs.polygons.PlaceHeights.{order, place_code-less, keyed_of}
 use Rattle.qh_plane.proofs.polygons.Stacks.{reverse-turned_onto}
 use Rattle.qh_plane.proofs.polygons.TurnLaws.{RisesBy}
 use Rattle.qh_plane.proofs.polygons.Turns.{IsFlat, IsKeyed, turn_about, height_of}
-use Rattle.qh_plane.proofs.polygons.TwoChains.{lt_neg}
+use Rattle.qh_plane.proofs.Signs.{lt_neg}
 use Rattle.qh_plane.specs.declared.place_keys.TheConstants.{ROOM}
 use Rattle.qh_plane.specs.Chains.{turned_onto, joined, chain}
 use Rattle.qh_plane.specs.PlaceKeys.{place_code, key_at, ids_in, HasKey, AreByPlace}
 
 -- ---- rising keys are rising places
+-- of keys in order with different places, the places are in order
 less_code : (a b i j k l : ℕ) → k ≡ a * ROOM + i → l ≡ b * ROOM + j → i < ROOM → j < ROOM → k < l → (a ≡ b → ⊥) → a < b
 less_code a b i j k l e f h m lt ne = omega arith
 
+-- rising keys are rising heights
 step_up : (pts : List Vector) (ids : List ℕ) (k l : ℕ) → HasDistinctPoints (place pts) (λ x. In x ids) → IsKeyOf pts ids k → IsKeyOf pts ids l → k < l
     → height_of order (place pts) (k % ROOM) <ℤ height_of order (place pts) (l % ROOM)
 step_up pts ids k l d t u lt =
     place_code-less (place pts (k % ROOM)) (place pts (l % ROOM)) t.known.place_in u.known.place_in
     (less_code (place_code (place pts (k % ROOM))) (place_code (place pts (l % ROOM))) (k % ROOM) (l % ROOM) k l (t.is ∙ key_parts pts (k % ROOM)) (u.is ∙ key_parts pts (l % ROOM)) t.known.small u.known.small lt
-    (λ e. no_less k l lt (t.is ∙ ap (key_at pts) (d (k % ROOM) (l % ROOM) t.has u.has (place_code-same _ _ t.known.place_in u.known.place_in e)) ∙ sym u.is)))
-  where
-    no_less : (a b : ℕ) → a < b → a ≡ b → ⊥
-    no_less a b h e = omega arith
+    (λ e. less_differ k l lt (t.is ∙ ap (key_at pts) (d (k % ROOM) (l % ROOM) t.has u.has (place_code-same _ _ t.known.place_in u.known.place_in e)) ∙ sym u.is)))
 
+-- the same along a list
 rises_of : (pts : List Vector) (ids : List ℕ) (k : ℕ) (ks : List ℕ) → HasDistinctPoints (place pts) (λ x. In x ids) → Every (IsKeyOf pts ids) (k ∷ ks) → RisesAbove k ks
     → RisesBy (height_of order (place pts)) (k % ROOM) (ids_in ks)
 rises_of pts ids k [] d t c = tt
 rises_of pts ids k (l ∷ ks) d t c = (step_up pts ids k l d t.0 t.1.0 c.0, rises_of pts ids l ks d t.1 c.1)
 
 -- ---- turned round
+-- the keys rise along the list from its first
 abbrev FallsBack : (ℕ → ℤ) → List ℕ → Type 0
 FallsBack key [] = Unit {0}
 FallsBack key (x ∷ xs) = RisesBy key x xs
 
+-- a list that rises, turned round, rises the other way
 falls_back : (h : Vector) (at : ℕ → Vector) (t : ℕ) (s acc : List ℕ) → RisesBy (height_of h at) t s → RisesBy (height_of (opposite h) at) t acc → FallsBack (height_of (opposite h) at) (turned_onto s (t ∷ acc))
 falls_back h at t [] acc r f = f
 falls_back h at t (y ∷ s) acc r f = falls_back h at y s (t ∷ acc) r.1 (lt_neg _ _ _ _ (dot-opposite h (at y)) (dot-opposite h (at t)) r.0, f)
 
+-- the cycle of a rising list and its turn
 round_of : (n : Vector) (at : ℕ → Vector) (A : ℕ → Type 0) → IsFlat n at A → IsKeyed order at A → (x₀ x₁ : ℕ) (xs L : List ℕ) → ((x : ℕ) → In x (x₀ ∷ x₁ ∷ xs) ↔ A x) → ((x : ℕ) → In x L ↔ A x)
     → RisesBy (height_of order at) x₀ (x₁ ∷ xs) → FallsBack (height_of (opposite order) at) L
     → GoesRound n at A (joined (chain (turn_about n at) [] (x₀ ∷ x₁ ∷ xs)) (chain (turn_about n at) [] L))
@@ -60,6 +62,7 @@ round_of n at A flat keyed x₀ x₁ xs [] i j r f = absurd ((j x₀).1 ((i x₀
 round_of n at A flat keyed x₀ x₁ xs (y₀ ∷ ys) i j r f =
     goes_round n order at A flat keyed x₀ x₁ ((i x₀).0 (inl refl)) ((i x₁).0 (inr (inl refl))) r.0 (lt_neg _ _ _ _ (dot-opposite order (at x₁)) (dot-opposite order (at x₀)) r.0) x₀ (x₁ ∷ xs) y₀ ys i j r f
 
+-- the same of the ids in rising keys
 round_keys : (pts : List Vector) (ids keys : List ℕ) (n : Vector) → Every (IsKeyOf pts ids) keys → IsStrictlyIncreasing keys → 1 < length keys → ((x : ℕ) → In x (ids_in keys) ↔ In x ids)
     → All (HasKey pts) ids → HasDistinctPoints (place pts) (λ x. In x ids) → IsFlat n (place pts) (λ x. In x ids)
     → GoesRound n (place pts) (λ x. In x ids) (joined (chain (turn_about n (place pts)) [] (ids_in keys)) (chain (turn_about n (place pts)) [] (reverse (ids_in keys))))
@@ -89,8 +92,4 @@ round_sorted pts ids sorted n b k r d l flat =
 -- each sorted id is an index
 pub sorted_indices : (pts : List Vector) (ids sorted : List ℕ) → AreByPlace pts ids sorted → All (HasKey pts) ids → All (λ i. i < length pts) ids → All (λ i. i < length pts) sorted
 sorted_indices pts ids sorted b k h =
-    All-from_recursion (λ i. i < length pts) sorted (go sorted (λ x i. All-In (λ v. v < length pts) ids x h (sorted-only pts ids sorted b k x i)))
-  where
-    go : (xs : List ℕ) → ((x : ℕ) → In x xs → x < length pts) → Every (λ i. i < length pts) xs
-    go [] f = tt
-    go (x ∷ xs) f = (f x (inl refl), go xs (λ y i. f y (inr i)))
+    All-of (λ i. i < length pts) sorted (λ x i. All-In (λ v. v < length pts) ids x h (sorted-only pts ids sorted b k x i))

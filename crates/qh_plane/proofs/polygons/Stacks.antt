@@ -4,6 +4,7 @@ use Rattle.std.proofs.lemmas.List.{reverse-append, reverse-reverse, append_assoc
 use Rattle.std.specs.Prelude.{ℤ, not}
 use Rattle.qh_plane.specs.Chains.{is_left, kept_below, kept, is_dropped, turned_onto, after_first, joined}
 
+-- a turn to the left stops the pops
 stop : (turn : ℕ → ℕ → ℕ → ℤ) (y t r : ℕ) (s : List ℕ) (b : Bool) → not b ≡ false → cond b (t ∷ r ∷ s) (kept_below turn y r s) ≡ t ∷ r ∷ s
 stop turn y t r s true e = refl
 stop turn y t r s false e = cc
@@ -14,6 +15,7 @@ kept-stop turn y [] e = refl
 kept-stop turn y (t ∷ []) e = refl
 kept-stop turn y (t ∷ r ∷ s) e = stop turn y t r s (is_left (turn r t y)) e
 
+-- another goes on
 more : (turn : ℕ → ℕ → ℕ → ℤ) (y t r : ℕ) (s : List ℕ) (b : Bool) → not b ≡ true → cond b (t ∷ r ∷ s) (kept_below turn y r s) ≡ kept_below turn y r s
 more turn y t r s true e = cc
 more turn y t r s false e = refl
@@ -29,6 +31,7 @@ pub turned_onto-is : (s acc : List ℕ) → turned_onto s acc ≡ reverse s ++ a
 turned_onto-is [] acc = refl
 turned_onto-is (x ∷ s) acc = turned_onto-is s (x ∷ acc) ∙ sym (append_assoc (reverse s) (x ∷ []) acc) ∙ ap (λ t. t ++ acc) (sym (reverse-append (x ∷ []) s))
 
+-- without its first, turned round, a list lacks its last
 front-of : (r acc : List ℕ) → turned_onto (after_first r) acc ≡ take (length (reverse r) - 1) (reverse r) ++ acc
 front-of [] acc = refl
 front-of (v ∷ s) acc =
@@ -36,6 +39,7 @@ front-of (v ∷ s) acc =
     let l : length (reverse (v ∷ s)) - 1 ≡ length (reverse s) = simp (length-reverse) (omega arith) in
     turned_onto-is s acc ∙ ap (λ t. t ++ acc) (sym (ap (λ t. take t (reverse (v ∷ s))) l ∙ ap (take (length (reverse s))) e ∙ take_at (reverse s) (v ∷ []) (length (reverse s)) refl))
 
+-- the same of a list that was turned round
 pub front : (xs acc : List ℕ) → turned_onto (after_first (reverse xs)) acc ≡ take (length xs - 1) xs ++ acc
 front xs acc = front-of (reverse xs) acc ∙ ap (λ t. take (length t - 1) t ++ acc) (reverse-reverse xs)
 

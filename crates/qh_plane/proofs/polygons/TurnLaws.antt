@@ -9,15 +9,22 @@ RisesBy key t (y ∷ ys) = (key t <ℤ key y) × RisesBy key y ys
 
 -- what the sign of a turn keeps to, over the members of a set that is ordered by a key
 pub record TurnLaws (turn : ℕ → ℕ → ℕ → ℤ) (key : ℕ → ℤ) (A : ℕ → Type 0) : Type 0 where
+  -- about t: c not to the left of y, and x not to the right of c, x is not to the right of y
   pub about : (t c x y : ℕ) → A t → A c → A x → A y → key t <ℤ key c → key t <ℤ key x → key t <ℤ key y
       → turn t c y ≤ℤ pos 0 → pos 0 ≤ℤ turn t c x → pos 0 ≤ℤ turn t y x
+  -- a left turn at v and one that is not right at w: the way from v on turns left
   pub onward : (u v w y : ℕ) → A u → A v → A w → A y → key u <ℤ key v → key v <ℤ key w → key v <ℤ key y
       → pos 0 <ℤ turn u v w → pos 0 ≤ℤ turn v w y → pos 0 <ℤ turn u v y
+  -- x not to the right of the edge into t, and no right turn at t: x is not to the right of the way on
   pub behind : (r t x y : ℕ) → A r → A t → A x → A y → key x <ℤ key t → key r <ℤ key t → key t <ℤ key y
       → pos 0 ≤ℤ turn r t x → pos 0 ≤ℤ turn r t y → pos 0 ≤ℤ turn t y x
+  -- the turn the other way
   pub swap : (t y x : ℕ) → turn t y x ≡ neg_ℤ (turn y t x)
+  -- there and back
   pub back : (t y : ℕ) → turn t y t ≡ pos 0
+  -- staying
   pub there : (t y : ℕ) → turn t y y ≡ pos 0
+  -- ids of one key are one
   pub same : (x y : ℕ) → A x → A y → key x ≡ key y → x ≡ y
 
 -- the way over the stack turns left at its top t before y

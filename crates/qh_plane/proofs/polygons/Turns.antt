@@ -1,10 +1,9 @@
 -- Turns of points of one plane, and the laws that they keep.
-use Rattle.std.proofs.Common.{◌≡◌, ℕ, refl, [], arith, sym, subst}
+use Rattle.std.proofs.Common.{◌∙◌, ◌≡◌, ℕ, refl, [], arith, sym, subst}
 use Rattle.std.proofs.lemmas.Int.{ints}
-use Rattle.std.specs.Prelude.{ℤ, pos, neg_ℤ, ◌-ℤ◌, ◌≤ℤ◌, ◌<ℤ◌}
+use Rattle.std.specs.Prelude.{ℤ, pos, ◌+ℤ◌, neg_ℤ, ◌≤ℤ◌, ◌<ℤ◌}
 use Rattle.qh_model.proofs.algebra.Ring.{Expr, ring}
-use Rattle.qh_model.proofs.algebra.Ring.Expr.{sub as less, neg}
-use Rattle.qh_model.proofs.algebra.VectorIdentities.{vec, subE, crossE, dotE, put, left-flip}
+use Rattle.qh_model.proofs.algebra.VectorIdentities.{vec, subE, crossE, dotE, put, left-flip, dot-minus, left-turn}
 use Rattle.qh_model.specs.Vector.{Vector, minus, dot}
 use Rattle.qh_model.specs.Predicates.{left}
 use Rattle.qh_plane.proofs.PlaneDirections.{bracket, bracket-fan, fan_sign, fan_sign_left}
@@ -16,6 +15,7 @@ pub record IsFlat (n : Vector) (at : ℕ → Vector) (A : ℕ → Type 0) : Type
   pub some : pos 0 <ℤ dot n n
 
 -- ---- in points
+-- the turn as a bracket of the two steps
 pub left-middle : (n u v w : Vector) → left n u v w ≡ bracket n (minus v u) (minus w v)
 unfolding left
 left-middle n u v w = ring (put n (put u (put v (put w [])))) (dotE (crossE (subE (vec 2) (vec 1)) (subE (vec 3) (vec 1))) (vec 0)) (dotE (crossE (subE (vec 2) (vec 1)) (subE (vec 3) (vec 2))) (vec 0)) refl
@@ -37,8 +37,7 @@ left-across n t y x = ring (put n (put t (put y (put x [])))) (dotE (crossE (sub
 
 -- the turn the other way along its first step
 pub left-swap : (n u v w : Vector) → left n u v w ≡ neg_ℤ (left n v u w)
-unfolding left
-left-swap n u v w = ring (put n (put u (put v (put w [])))) (dotE (crossE (subE (vec 2) (vec 1)) (subE (vec 3) (vec 1))) (vec 0)) (neg (dotE (crossE (subE (vec 1) (vec 2)) (subE (vec 3) (vec 2))) (vec 0))) refl
+left-swap n u v w = left-turn n u v w ∙ left-flip n v w u
 
 -- there and back is no turn
 pub left-back : (n t y : Vector) → left n t y t ≡ pos 0
@@ -50,16 +49,13 @@ pub left-there : (n t y : Vector) → left n t y y ≡ pos 0
 unfolding left
 left-there n t y = ring (put n (put t (put y []))) (dotE (crossE (subE (vec 2) (vec 1)) (subE (vec 2) (vec 1))) (vec 0)) (Expr.con (pos 0)) refl
 
--- what lies between two heights
-pub forward_eq : (h u v : Vector) → dot h (minus v u) ≡ dot h v -ℤ dot h u
-forward_eq h u v = ring (put h (put u (put v []))) (dotE (vec 0) (subE (vec 2) (vec 1))) (less (dotE (vec 0) (vec 2)) (dotE (vec 0) (vec 1))) refl
-
-ahead : (d a b : ℤ) → d ≡ b -ℤ a → a <ℤ b → pos 0 <ℤ d
+-- a difference above 0
+ahead : (d a b : ℤ) → d ≡ b +ℤ neg_ℤ a → a <ℤ b → pos 0 <ℤ d
 ahead d a b e h = omega (arith, ints)
 
 -- a higher point lies ahead
 pub forward : (h u v : Vector) → dot h u <ℤ dot h v → pos 0 <ℤ dot h (minus v u)
-forward h u v k = ahead _ _ _ (forward_eq h u v) k
+forward h u v k = ahead _ _ _ (dot-minus h v u) k
 
 -- different ids of A have different keys
 pub record IsKeyed (h : Vector) (at : ℕ → Vector) (A : ℕ → Type 0) : Type 0 where
@@ -73,9 +69,11 @@ turn_about n at u v w = left n (at u) (at v) (at w)
 abbrev pub height_of : Vector → (ℕ → Vector) → ℕ → ℤ
 height_of h at u = dot h (at u)
 
+-- not to the left, turned about
 other_side : (x y : ℤ) → x ≡ neg_ℤ y → x ≤ℤ pos 0 → pos 0 ≤ℤ y
 other_side x y e h = omega (arith, ints)
 
+-- the way between two ids
 abbrev pub step : (ℕ → Vector) → ℕ → ℕ → Vector
 step at u v = minus (at v) (at u)
 

@@ -1,0 +1,184 @@
+-- The polygon of three points that are not in line.
+use Rattle.std.proofs.Common.{◌≡◌, ◌≢◌, ℕ, ◌<◌, ◌≤◌, List, [], ◌∷◌, arith, ap, sym, subst, ◌∙◌, ◌⊎◌, inl, inr, ⊎_elim, Bool, true, false, cond, refl, length, get_or}
+use Rattle.std.proofs.lemmas.Int.{ints}
+use Rattle.std.specs.Prelude.{ℤ, pos, neg_ℤ, ◌+ℤ◌, ◌-ℤ◌, ◌*ℤ◌, ◌≤ℤ◌, ◌<ℤ◌, ◌↔◌}
+use Rattle.qh_model.proofs.algebra.Order.{cancel-zero}
+use Rattle.qh_model.proofs.algebra.VectorIdentities.{vector_path, left-dot, left-linear, left-turn, left-flip, in_line-twice}
+use Rattle.qh_model.proofs.extremes.Directions.{Parallel, parallel_normal, in_line-flip, square-positive}
+use Rattle.qh_model.specs.Extreme.{Extreme}
+use Rattle.qh_model.specs.Polygon.{IsPolygon, TurnsLeft}
+use Rattle.qh_model.specs.Predicates.{place, cross, left, AreInLine}
+use Rattle.qh_model.specs.Sets.{In, Members}
+use Rattle.qh_model.specs.Vector.{Vector, origin, minus, cross_product, dot}
+use Rattle.qh_plane.proofs.LinesAndPlanes.{three_line, same_point}
+use Rattle.qh_plane.proofs.Members.{less_differ}
+use Rattle.qh_plane.proofs.polygons.Chain.{is_left-yes, is_left-no}
+use Rattle.qh_plane.proofs.polygons.Corners.{Corner, corner_extreme}
+use Rattle.qh_plane.proofs.polygons.PlanarIds.{flat_of}
+use Rattle.qh_plane.proofs.polygons.Turns.{IsFlat, left-back, left-there}
+use Rattle.qh_plane.proofs.Signs.{le_less}
+use Rattle.qh_plane.specs.Chains.{is_left, turn_of, triangle}
+use Rattle.qh_plane.specs.PlanarSets.{IsPlanarSet}
+
+-- what lies on the way is lower than what lies to its left
+lower : (l m p q k : ℤ) → l ≡ p +ℤ k → m ≡ q +ℤ k → l ≡ pos 0 → pos 0 <ℤ m → p <ℤ q
+lower l m p q k e f z h = omega (arith, ints)
+
+-- c to the left of the way from a to b is a corner of the three
+left_corner : (n : Vector) (at : ℕ → Vector) (a b c : ℕ) (A : ℕ → Type 0) → A c → ((x : ℕ) → A x → x ≢ c → (x ≡ a) ⊎ (x ≡ b)) → pos 0 <ℤ left n (at a) (at b) (at c) → Corner at A c
+left_corner n at a b c A ac only h = record { member = ac; w = cross_product n (minus (at b) (at a)); beats = λ x ax ne. beat x (only x ax ne) }
+  where
+    below : (p : Vector) → left n (at a) (at b) p ≡ pos 0 → dot (cross_product n (minus (at b) (at a))) p <ℤ dot (cross_product n (minus (at b) (at a))) (at c)
+    below p z = lower _ _ _ _ _ (left-linear n (at a) (at b) p) (left-linear n (at a) (at b) (at c)) z h
+
+    beat : (x : ℕ) → (x ≡ a) ⊎ (x ≡ b) → dot (cross_product n (minus (at b) (at a))) (at x) <ℤ dot (cross_product n (minus (at b) (at a))) (at c)
+    beat x (inl e) = below (at x) (subst (λ t. left n (at a) (at b) (at t) ≡ pos 0) (sym e) (left-back n (at a) (at b)))
+    beat x (inr e) = below (at x) (subst (λ t. left n (at a) (at b) (at t) ≡ pos 0) (sym e) (left-there n (at a) (at b)))
+
+-- a left turn over three members from the least on is their polygon
+left_triangle : (n : Vector) (at : ℕ → Vector) (A : ℕ → Type 0) (a b c : ℕ) → ((x : ℕ) → A x ↔ In x (a ∷ b ∷ c ∷ [])) → a < b → a < c → b ≢ c
+    → pos 0 <ℤ left n (at a) (at b) (at c) → IsPolygon at (Extreme at A) n (a ∷ b ∷ c ∷ [])
+left_triangle n at A a b c l ab ac bc h = record {
+  members = λ x. (λ i. corner_extreme at A x (corner x i), λ e. (l x).0 e.0);
+  once = (λ i. ⊎_elim (less_differ a b ab) (λ j. ⊎_elim (less_differ a c ac) (λ k. k) j) i, (λ i. ⊎_elim bc (λ k. k) i, (λ k. k, tt)));
+  round = (turns_ab, (turns_bc, turns_ca));
+  least = λ v i. ⊎_elim (λ e. at_most a b v ab e) (λ j. ⊎_elim (λ e. at_most a c v ac e) (λ k. absurd k) j) i;
+}
+  where
+    at_most : (a b v : ℕ) → a < b → v ≡ b → a ≤ v
+    at_most a b v k e = omega arith
+
+    hb : pos 0 <ℤ left n (at b) (at c) (at a)
+    hb = subst (λ t. pos 0 <ℤ t) (left-turn n (at a) (at b) (at c)) h
+
+    hc : pos 0 <ℤ left n (at c) (at a) (at b)
+    hc = subst (λ t. pos 0 <ℤ t) (left-turn n (at b) (at c) (at a)) hb
+
+    -- by which of the three it is
+    third : (P : ℕ → Type 0) (x : ℕ) → In x (a ∷ b ∷ c ∷ []) → (x ≡ a → P x) → (x ≡ b → P x) → (x ≡ c → P x) → P x
+    third P x (inl e) f g k = f e
+    third P x (inr (inl e)) f g k = g e
+    third P x (inr (inr (inl e))) f g k = k e
+    third P x (inr (inr (inr m))) f g k = absurd m
+
+    corner_a : Corner at A a
+    corner_a = left_corner n at b c a A ((l a).1 (inl refl)) (λ x ax ne. third (λ y. (y ≡ b) ⊎ (y ≡ c)) x ((l x).0 ax) (λ e. absurd (ne e)) (λ e. inl e) (λ e. inr e)) hb
+
+    corner_b : Corner at A b
+    corner_b = left_corner n at c a b A ((l b).1 (inr (inl refl))) (λ x ax ne. third (λ y. (y ≡ c) ⊎ (y ≡ a)) x ((l x).0 ax) (λ e. inr e) (λ e. absurd (ne e)) (λ e. inl e)) hc
+
+    corner_c : Corner at A c
+    corner_c = left_corner n at a b c A ((l c).1 (inr (inr (inl refl)))) (λ x ax ne. third (λ y. (y ≡ a) ⊎ (y ≡ b)) x ((l x).0 ax) (λ e. inl e) (λ e. inr e) (λ e. absurd (ne e))) h
+
+    corner : (x : ℕ) → In x (a ∷ b ∷ c ∷ []) → Corner at A x
+    corner x i = third (Corner at A) x i (λ e. subst (Corner at A) (sym e) corner_a) (λ e. subst (Corner at A) (sym e) corner_b) (λ e. subst (Corner at A) (sym e) corner_c)
+
+    turns_ab : TurnsLeft at n (a ∷ b ∷ c ∷ []) a b
+    turns_ab w i wa wb = third (λ y. pos 0 <ℤ left n (at a) (at b) (at y)) w i (λ e. absurd (wa e)) (λ e. absurd (wb e)) (λ e. subst (λ t. pos 0 <ℤ left n (at a) (at b) (at t)) (sym e) h)
+
+    turns_bc : TurnsLeft at n (a ∷ b ∷ c ∷ []) b c
+    turns_bc w i wb wc = third (λ y. pos 0 <ℤ left n (at b) (at c) (at y)) w i (λ e. subst (λ t. pos 0 <ℤ left n (at b) (at c) (at t)) (sym e) hb) (λ e. absurd (wb e)) (λ e. absurd (wc e))
+
+    turns_ca : TurnsLeft at n (a ∷ b ∷ c ∷ []) c a
+    turns_ca w i wc wa = third (λ y. pos 0 <ℤ left n (at c) (at a) (at y)) w i (λ e. absurd (wa e)) (λ e. subst (λ t. pos 0 <ℤ left n (at c) (at a) (at t)) (sym e) hc) (λ e. absurd (wc e))
+
+-- ---- three ids of a planar set turn one way or the other
+-- a point twice is in line with any other
+in_line-back : (a b : Vector) → AreInLine a b a
+in_line-back a b = in_line-flip a b a (in_line-twice a b)
+
+-- and one that is the other
+in_line-there : (a b : Vector) → AreInLine a b b
+unfolding cross
+in_line-there a b = vector_path (cross a b b) origin (level (b.y -ℤ a.y) (b.z -ℤ a.z)) (level (b.z -ℤ a.z) (b.x -ℤ a.x)) (level (b.x -ℤ a.x) (b.y -ℤ a.y))
+  where
+    level : (p q : ℤ) → p *ℤ q -ℤ q *ℤ p ≡ pos 0
+    level p q = omega (arith, ints)
+
+-- no turn about the normal of the plane: the three are in line
+turn_zero : (n a b c : Vector) → pos 0 <ℤ dot n n → dot n (minus b a) ≡ pos 0 → dot n (minus c a) ≡ pos 0 → left n a b c ≡ pos 0 → AreInLine a b c
+turn_zero n a b c s p q z = vector_path (cross a b c) origin (none n.x (cross a b c).x along.x) (none n.y (cross a b c).y along.y) (none n.z (cross a b c).z along.z)
+  where
+    along : Parallel n (cross a b c)
+    along = parallel_normal n a b c p q
+
+    commuted : (u v : Vector) → dot u v ≡ dot v u
+    commuted u v = omega (arith, ints)
+
+    zero_times : (x : ℤ) → pos 0 *ℤ x ≡ pos 0
+    zero_times x = omega (arith, ints)
+
+    none : (x y : ℤ) → dot n n *ℤ y ≡ dot n (cross a b c) *ℤ x → y ≡ pos 0
+    none x y e = cancel-zero (dot n n) y s (e ∙ ap (λ t. t *ℤ x) (commuted n (cross a b c) ∙ sym (left-dot n a b c) ∙ z) ∙ zero_times x)
+
+module _ (pts : List Vector) (n : Vector) (i j k : ℕ) (h : IsPlanarSet pts (i ∷ j ∷ k ∷ []) n) (ij : i < j) (jk : j < k) where
+  -- they are flat across the normal
+  flat : IsFlat n (place pts) (λ x. In x (i ∷ j ∷ k ∷ []))
+  flat = flat_of pts (i ∷ j ∷ k ∷ []) n h
+
+  -- the three of them do turn
+  turns : left n (place pts i) (place pts j) (place pts k) ≡ pos 0 → ⊥
+  turns z = h.area (three_line (place pts i) (place pts j) (place pts h.i) (place pts h.j) (place pts h.k) apart (each h.i h.has_i) (each h.j h.has_j) (each h.k h.has_k))
+    where
+      line : AreInLine (place pts i) (place pts j) (place pts k)
+      line = turn_zero n (place pts i) (place pts j) (place pts k) flat.some (flat.even i j (inl refl) (inr (inl refl))) (flat.even i k (inl refl) (inr (inr (inl refl)))) z
+
+      apart : pos 0 <ℤ dot (minus (place pts j) (place pts i)) (minus (place pts j) (place pts i))
+      apart = square-positive (minus (place pts j) (place pts i)) (λ e. less_differ i j ij (h.set.distinct i j (inl refl) (inr (inl refl)) (same_point (place pts i) (place pts j) e)))
+
+      each : (x : ℕ) → In x (i ∷ j ∷ k ∷ []) → AreInLine (place pts i) (place pts j) (place pts x)
+      each x (inl e) = subst (λ t. AreInLine (place pts i) (place pts j) (place pts t)) (sym e) (in_line-back (place pts i) (place pts j))
+      each x (inr (inl e)) = subst (λ t. AreInLine (place pts i) (place pts j) (place pts t)) (sym e) (in_line-there (place pts i) (place pts j))
+      each x (inr (inr (inl e))) = subst (λ t. AreInLine (place pts i) (place pts j) (place pts t)) (sym e) line
+      each x (inr (inr (inr m))) = absurd m
+
+  -- so one order of them is their polygon
+  pub triangle_polygon : IsPolygon (place pts) (Extreme (place pts) (Members (i ∷ j ∷ k ∷ []))) n (triangle (turn_of pts n) i j k)
+  triangle_polygon = by_side (is_left (turn_of pts n i j k)) refl
+    where
+      ik : i < k
+      ik = omega arith
+
+      exchanged : (x : ℕ) → In x (i ∷ j ∷ k ∷ []) → In x (i ∷ k ∷ j ∷ [])
+      exchanged x (inl e) = inl e
+      exchanged x (inr (inl e)) = inr (inr (inl e))
+      exchanged x (inr (inr (inl e))) = inr (inl e)
+      exchanged x (inr (inr (inr m))) = absurd m
+
+      back : (x : ℕ) → In x (i ∷ k ∷ j ∷ []) → In x (i ∷ j ∷ k ∷ [])
+      back x (inl e) = inl e
+      back x (inr (inl e)) = inr (inr (inl e))
+      back x (inr (inr (inl e))) = inr (inl e)
+      back x (inr (inr (inr m))) = absurd m
+
+      turned : (x y : ℤ) → x ≡ neg_ℤ y → y ≤ℤ pos 0 → (y ≡ pos 0 → ⊥) → pos 0 <ℤ x
+      turned x y e l ne = flipped x y e (le_less y (pos 0) l ne)
+        where
+          flipped : (x y : ℤ) → x ≡ neg_ℤ y → y <ℤ pos 0 → pos 0 <ℤ x
+          flipped x y e l = omega (arith, ints)
+
+      by_side : (b : Bool) → is_left (turn_of pts n i j k) ≡ b → IsPolygon (place pts) (Extreme (place pts) (Members (i ∷ j ∷ k ∷ []))) n (cond b (i ∷ j ∷ k ∷ []) (i ∷ k ∷ j ∷ []))
+      by_side true e = left_triangle n (place pts) (Members (i ∷ j ∷ k ∷ [])) i j k (λ x. (λ m. m, λ m. m)) ij ik (less_differ j k jk) (is_left-yes _ e)
+      by_side false e = left_triangle n (place pts) (Members (i ∷ j ∷ k ∷ [])) i k j (λ x. (exchanged x, back x)) ik ij (λ q. less_differ j k jk (sym q))
+          (turned _ _ (left-flip n (place pts i) (place pts k) (place pts j)) (is_left-no _ e) turns)
+
+-- ---- the same of a list of three
+three_ids : (ids : List ℕ) (i j k : ℕ) → length ids ≡ 3 → i ≡ get_or ids 0 i → j ≡ get_or ids 1 j → k ≡ get_or ids 2 k → ids ≡ i ∷ j ∷ k ∷ []
+three_ids [] i j k l p q r = absurd (omega arith)
+three_ids (a ∷ []) i j k l p q r = absurd (omega arith)
+three_ids (a ∷ b ∷ []) i j k l p q r = absurd (omega arith)
+three_ids (a ∷ b ∷ c ∷ []) i j k l p q r = cc
+three_ids (a ∷ b ∷ c ∷ d ∷ ids) i j k l p q r = absurd (omega arith)
+
+-- the polygon of a planar set of three, as the code reads it
+pub polygon_of_three : (pts : List Vector) (ids : List ℕ) (n : Vector) (i j k : ℕ) (q : List ℕ) → length ids ≡ 3 → i ≡ get_or ids 0 i → j ≡ get_or ids 1 j → k ≡ get_or ids 2 k
+    → q ≡ triangle (turn_of pts n) i j k → IsPlanarSet pts ids n → IsPolygon (place pts) (Extreme (place pts) (Members ids)) n q
+polygon_of_three pts ids n i j k q l pi pj pk e h =
+    subst (λ t. IsPolygon (place pts) (Extreme (place pts) (Members t)) n q) (sym is)
+    (subst (IsPolygon (place pts) (Extreme (place pts) (Members (i ∷ j ∷ k ∷ []))) n) (sym e) (triangle_polygon pts n i j k set (set.set.rising 0 (omega arith)) (set.set.rising 1 (omega arith))))
+  where
+    is : ids ≡ i ∷ j ∷ k ∷ []
+    is = three_ids ids i j k l pi pj pk
+
+    set : IsPlanarSet pts (i ∷ j ∷ k ∷ []) n
+    set = subst (λ t. IsPlanarSet pts t n) is h
