@@ -11,6 +11,8 @@ mod fault;
 mod reader;
 mod scanner;
 mod source;
+#[cfg(test)]
+mod tests;
 mod token;
 mod whole;
 
