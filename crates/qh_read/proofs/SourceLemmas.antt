@@ -1,5 +1,5 @@
 -- The bytes that a source gives over several reads.
-use Rattle.std.proofs.Common.{◌≡◌, ◌∙◌, ◌++◌, [], ℕ, List, ap, sym, refl, append_assoc}
+use Rattle.std.proofs.Common.{◌∙◌, ◌++◌, [], ℕ, List, ap, sym, refl, append_assoc}
 use Rattle.std.specs.Prelude.{Option, Some, None}
 use Rattle.std.specs.Io.KnownBytes.{Consumes}
 use Rattle.qh_read.specs.Holding.{Reading, Fed}

@@ -5,5 +5,5 @@ pub mod Stages
 pub mod Building
 pub mod Holding
 pub mod Scanning
-pub mod Reading
+pub mod Reader
 pub mod SourceBytes

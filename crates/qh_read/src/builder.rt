@@ -86,7 +86,8 @@ impl Builder {
     pub fn reserve(&mut self, points: usize) -> Result<(), AllocError>
         ensures shown { shown self.new ≡ shown self.old }
         ensures count { taken_count self.new ≡ taken_count self.old }
-        ensures room { OnOk result (vec_len self.new.points + points ≤ vec_capacity self.new.points) }
+        ensures room { OnOk result
+            (vec_len self.new.points + points ≤ vec_capacity self.new.points) }
         ensures kept { vec_capacity self.old.points ≤ vec_capacity self.new.points }
     {
         self.points.reserve(points)

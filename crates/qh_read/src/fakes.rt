@@ -1,5 +1,5 @@
 //! Sources for tests: one that fails at a chosen read, and one that never ends.
-ghost use Rattle.std.specs.Prelude.{◌≡◌, ◌<◌, ℕ, List, Option, Some, None};
+ghost use Rattle.std.specs.Prelude.{◌≡◌, ◌<◌, ◌↔◌, ℕ, List, Option, Some, None, IsTrue};
 
 use crate::source::{DeviceFault, Source};
 
@@ -7,8 +7,10 @@ use crate::source::{DeviceFault, Source};
 #[derive(Drop)]
 pub struct FailSource<'a> {
     rest: &'a [u8],
-    greatest_piece: usize,
-    fails_at: Option<u64>,
+    /// No read gives more bytes than this.
+    pub greatest_piece: usize,
+    /// The number of the read that fails, of those still to come, from 1.
+    pub fails_at: Option<u64>,
     failures: u64,
     ghost some_piece: { 0 < greatest_piece },
 }
@@ -21,6 +23,8 @@ impl<'a> FailSource<'a> {
         requires { 0 < greatest_piece }
         ensures bytes { ⟦<FailSource<'a> as Source>⟧.remaining result ≡ Some bytes.now }
         ensures failures { ⟦<FailSource<'a> as Source>⟧.failure_count result ≡ 0 }
+        ensures piece { result.greatest_piece ≡ greatest_piece }
+        ensures failing { result.fails_at ≡ fails_at }
     {
         FailSource {
             rest: bytes,
@@ -32,6 +36,7 @@ impl<'a> FailSource<'a> {
 
     /// Counts one read more, and answers whether it fails.
     fn is_failing(&mut self) -> bool
+        ensures failing { IsTrue result ↔ (self.old.fails_at ≡ Some 1) }
         ensures rest { self.new.rest ≡ self.old.rest }
         ensures failures { self.new.failures ≡ self.old.failures }
     {

@@ -9,8 +9,8 @@ use std::alloc::AllocError;
 
 /// Why a point file could not be read. A line is counted from 1 and ends at byte 10.
 ///
-/// The first seven are faults of the text, of which the first in the order of reading is given.
-/// `Big` goes before all of them.
+/// Each has the number of its place in this list, from 1. The first seven are faults of the text,
+/// of which the first in the order of reading is given; `Big` goes before all of them.
 #[derive(Clone, Copy, Debug, PartialEq, Eq)]
 pub enum ReadFault {
     /// There are fewer than two data words.

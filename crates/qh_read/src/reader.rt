@@ -28,7 +28,7 @@ impl Model for Reader {
 
     ghost Value = { Reading };
 
-    ghost use Rattle.qh_read.specs.Reading.{reading_shown, IsSound};
+    ghost use Rattle.qh_read.specs.Reader.{reading_shown, IsSound};
 
     ghost view = { reading_shown };
 
@@ -53,8 +53,10 @@ impl Reader {
     /// growth, and `Memory` where room for the points was refused. All growths come before the
     /// first change, so a refusal leaves the reader as it was.
     pub fn feed(&mut self, piece: &[u8]) -> Result<(), FeedFault>
-        ensures fed { OnOk result ((before : List ℕ) → Fed self.old before → Fed self.new (before ++ piece.now)) }
-        ensures big { (result ≡ Err FeedFault.Big) ↔ (BYTE_LIMIT < self.old.count + length piece.now) }
+        ensures fed { OnOk result
+            ((before : List ℕ) → Fed self.old before → Fed self.new (before ++ piece.now)) }
+        ensures big { (result ≡ Err FeedFault.Big)
+            ↔ (BYTE_LIMIT < self.old.count + length piece.now) }
         ensures refused { OnErr result (self.new ≡ self.old) }
     {
         if piece.len() > (BYTE_LIMIT - self.count) as usize {
@@ -70,8 +72,10 @@ impl Reader {
     ///
     /// It takes no memory.
     pub fn finish(self) -> Result<Vec<Point>, ReadFault>
-        ensures read { IfOk result (λ points. (bytes : List ℕ) → Fed self bytes → Reads bytes points.items) }
-        ensures fault { IfErr result (λ e. (bytes : List ℕ) → Fed self bytes → IsFirstFault bytes e) }
+        ensures read { IfOk result
+            (λ points. (bytes : List ℕ) → Fed self bytes → Reads bytes points.items) }
+        ensures fault { IfErr result
+            (λ e. (bytes : List ℕ) → Fed self bytes → IsFirstFault bytes e) }
         ensures text { IfErr result IsTextFault }
     {
         let Reader {

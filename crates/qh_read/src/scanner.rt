@@ -45,12 +45,14 @@ impl Scanner {
     }
 
     /// Ends the word under way, if there is one.
+    #[inline(always)]
     pub fn end_word(&mut self, token: Token)
         requires small { IsSmall token }
         requires room { HasRoom self.old token 0 }
         ensures held { held self.new Token.Empty ≡ ended_held (held self.old token) }
         ensures line { self.new.line ≡ self.old.line }
-        ensures room { (bytes : ℕ) → HasRoom self.old token (bytes + 1) → HasRoom self.new Token.Empty bytes }
+        ensures room { (bytes : ℕ) → HasRoom self.old token (bytes + 1)
+            → HasRoom self.new Token.Empty bytes }
     {
         if !token.is_empty() {
             self.builder.take(token.value(), self.line);
@@ -66,20 +68,20 @@ impl Scanner {
         ensures held { held self.new result ≡ next_held (held self.old token) byte }
         ensures small { IsSmall result }
         ensures line { self.new.line ≤ self.old.line + 1 }
-        ensures room { (bytes : ℕ) → HasRoom self.old token (bytes + 1) → HasRoom self.new result bytes }
+        ensures room { (bytes : ℕ) → HasRoom self.old token (bytes + 1)
+            → HasRoom self.new result bytes }
     {
-        if byte == b'\n' {
+        if byte == b'\n' || (!self.comment && blank(byte)) {
             self.end_word(token);
-            self.comment = false;
-            self.line += 1;
+            if byte == b'\n' {
+                self.comment = false;
+                self.line += 1;
+            }
             Token::Empty
         } else if self.comment {
             token
         } else if byte.is_ascii_digit() {
             token.grow_digit(byte)
-        } else if blank(byte) {
-            self.end_word(token);
-            Token::Empty
         } else if !token.is_empty() || begins_data(byte) {
             token.grow_other(byte)
         } else {
@@ -95,7 +97,8 @@ impl Scanner {
     #[inline]
     fn digits<'a>(&self, token: Token, bytes: &'a [u8]) -> (Token, &'a [u8])
         requires { IsSmall token }
-        ensures held { held_by (held self.now result.0) result.1.now ≡ held_by (held self.now token) bytes.now }
+        ensures held { held_by (held self.now result.0) result.1.now
+            ≡ held_by (held self.now token) bytes.now }
         ensures small { IsSmall result.0 }
         ensures under_way { under_way result.0 ≡ under_way token }
         ensures left { length result.1.now ≤ length bytes.now }

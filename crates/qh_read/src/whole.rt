@@ -20,6 +20,7 @@ pub const PIECE_LENGTH: usize = 65536;
 pub fn read_points(alloc: Global, bytes: &[u8]) -> Result<Vec<Point>, ReadFault>
     ensures read { IfOk result (λ points. Reads bytes.now points.items) }
     ensures fault { IfErr result (λ e. IsFaultOf bytes.now e) }
+    ensures big { BYTE_LIMIT < length bytes.now → result ≡ Err ReadFault.Big }
 {
     if bytes.len() > BYTE_LIMIT as usize {
         return Err(ReadFault::Big);
@@ -46,12 +47,21 @@ fn new_buffer(alloc: Global) -> Result<Vec<u8>, AllocError>
 /// refused. The source's count of failures has room for one more.
 pub fn read_from<S: Source>(alloc: Global, source: &mut S) -> Result<Vec<Point>, ReadFault>
     requires { S.failure_count source.old < 2 ^ 64 - 1 }
-    ensures read { IfOk result (λ points. GivesAll (S.remaining source.old) (S.remaining source.new) (λ bytes. Reads bytes points.items)) }
-    ensures fault { IfErr result (λ e. IsTextFault e → GivesAll (S.remaining source.old) (S.remaining source.new) (λ bytes. IsFirstFault bytes e)) }
-    ensures big { result ≡ Err ReadFault.Big → Gives (S.remaining source.old) (S.remaining source.new)
+    ensures read { IfOk result (λ points.
+        GivesAll (S.remaining source.old) (S.remaining source.new)
+        (λ bytes. Reads bytes points.items)) }
+    ensures text { IfErr result (λ e. IsTextFault e →
+        GivesAll (S.remaining source.old) (S.remaining source.new)
+        (λ bytes. IsFirstFault bytes e)) }
+    ensures big { result ≡ Err ReadFault.Big →
+        Gives (S.remaining source.old) (S.remaining source.new)
         (λ bytes. (BYTE_LIMIT < length bytes) × (length bytes ≤ BYTE_LIMIT + PIECE_LENGTH)) }
-    ensures device { result ≡ Err ReadFault.Device → S.failure_count source.new ≡ S.failure_count source.old + 1 }
-    ensures no_device { result ≢ Err ReadFault.Device → S.failure_count source.new ≡ S.failure_count source.old }
+
+    // One read failed just where `Device` is answered.
+    ensures device { result ≡ Err ReadFault.Device
+        → S.failure_count source.new ≡ S.failure_count source.old + 1 }
+    ensures no_device { result ≢ Err ReadFault.Device
+        → S.failure_count source.new ≡ S.failure_count source.old }
 {
     let mut buffer = new_buffer(alloc)?;
     let mut reader = Reader::new(alloc);

@@ -23,7 +23,11 @@ returns-in_err-feed-clause-big g c big =
     let y : p.0 ≡ faults.Big = cc in
     let f : c.in_err-feed.field-0.0 ≡ feed_faults.Big = only_big _ (sym p.2 ∙ y) in
     let passed : BYTE_LIMIT < c.loop-reader.reader.count + length (take c.in_ok-count.count c.deref.result.now) = c.in_err-feed.ensures.big.0 (ap Err f) in
-    let fits : c.in_ok-count.count ≤ PIECE_LENGTH = omega (arith, c.in_ok-count.ensures.bound, c.deref_mut.ensures.len, c.loop-reader.invariant.buffer) in
-    (so_far.given ++ piece, Consumes-append _ _ _ so_far.given piece so_far.took c.in_ok-count.ensures.bytes.0,
-      (omega (arith, length-append so_far.given piece, length-take c.in_ok-count.count c.read.new.buf, length-take c.in_ok-count.count c.deref.result.now, so_far.fed.count, passed, fits),
-       omega (arith, length-append so_far.given piece, length-take c.in_ok-count.count c.read.new.buf, so_far.fed.count, c.loop-reader.invariant.small, fits)))
+    let fits : c.in_ok-count.count ≤ PIECE_LENGTH = omega (arith, c.in_ok-count.ensures.bound, c.deref_mut.ensures.len, c.loop-reader.invariant.buffer) in (
+      so_far.given ++ piece,
+      Consumes-append _ _ _ so_far.given piece so_far.took c.in_ok-count.ensures.bytes.0,
+      (
+        omega (arith, length-append so_far.given piece, length-take c.in_ok-count.count c.read.new.buf, length-take c.in_ok-count.count c.deref.result.now, so_far.fed.count, passed, fits),
+        omega (arith, length-append so_far.given piece, length-take c.in_ok-count.count c.read.new.buf, so_far.fed.count, c.loop-reader.invariant.small, fits),
+      ),
+    )
