@@ -28,12 +28,13 @@ pub struct FailSink {
 }
 
 impl FailSink {
-    ghost use Rattle.qh_write.specs.Sinks.{kept_before_failing};
+    ghost use Rattle.qh_write.specs.Sinks.{kept_before_failing, plan_of};
 
     /// A sink that has nothing yet and fails by `plan`.
     pub fn new(alloc: Global, plan: SinkPlan) -> FailSink
         ensures empty { kept_before_failing result ≡ [] }
-        ensures count { result.failures ≡ 0 }
+        ensures count { ⟦<FailSink as Sink>⟧.count result ≡ 0 }
+        ensures plan { plan_of result ≡ plan }
     {
         FailSink {
             bytes: Vec::new(alloc),

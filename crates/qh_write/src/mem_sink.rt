@@ -16,7 +16,7 @@ impl MemSink {
     /// A sink that has nothing yet and grows by `alloc`.
     pub fn new(alloc: Global) -> MemSink
         ensures empty { kept result ≡ [] }
-        ensures count { result.failures ≡ 0 }
+        ensures count { ⟦<MemSink as Sink>⟧.count result ≡ 0 }
     {
         MemSink {
             bytes: Vec::new(alloc),
