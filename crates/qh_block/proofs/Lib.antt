@@ -1,2 +1,1 @@
 pub mod SegmentSteps
-pub mod flats

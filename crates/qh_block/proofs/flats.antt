@@ -1,2 +1,0 @@
--- Sets in a point, a line or a plane: their hulls.
-pub mod Lines
