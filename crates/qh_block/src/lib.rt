@@ -4,5 +4,7 @@
 #![tactic(auto)]
 
 mod bodies;
+mod flat_sets;
 mod segment;
 
+pub use flat_sets::flat_hull;

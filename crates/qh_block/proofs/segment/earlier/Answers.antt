@@ -1,4 +1,4 @@
-use Rattle.std.proofs.Common.{◌≡◌, Bool, true, false, refl}
+use Rattle.std.proofs.Common.{◌≡◌, true, false, refl}
 use Rattle.qh_block.proofs.SegmentSteps.{le_refl, lt_le, not_lt}
 use Rattle.qh_block.proofs.segment.earlier.Goals as goal
 

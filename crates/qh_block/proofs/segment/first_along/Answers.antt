@@ -1,4 +1,4 @@
-use Rattle.std.proofs.Common.{◌≡◌, ◌<◌, ◌⊎◌, ℕ, length, take, All, take_all, arith, sym, subst, inl, inr}
+use Rattle.std.proofs.Common.{◌<◌, ℕ, length, All, take_all, arith, sym, subst}
 use Rattle.std.specs.Prelude.{◌≤ℤ◌}
 use Rattle.qh_model.proofs.Members.{All-In, In-get_or}
 use Rattle.qh_block.specs.Segments.{position}
@@ -13,10 +13,12 @@ loop-id-init c =
 
 pub loop-id-preserved : goal.loop-id-preserved
 loop-id-preserved c =
-    let member = one_of c.args.ids.now c.loop-id.id-index c.earlier-first.result c.loop-id.first c.id-item.result c.loop-id-test.true c.id-item.is c.earlier-first.ensures.one c.loop-id.invariant.1 in
-    (All-In (λ i. i < length c.args.pts.now) c.args.ids.now c.earlier-first.result c.requires.indices member, member,
+    let member = one_of c.args.ids.now c.loop-id.id-index c.earlier-first.result c.loop-id.first c.id-item.result c.loop-id-test.true c.id-item.is c.earlier-first.ensures.one c.loop-id.invariant.1 in (
+      All-In (λ i. i < length c.args.pts.now) c.args.ids.now c.earlier-first.result c.requires.indices member,
+      member,
       first_more c.args.pts.now c.args.ids.now c.args.a c.args.b c.loop-id.id-index c.earlier-first.result c.loop-id.first c.id-item.result c.loop-id-test.true c.id-item.is
-      c.earlier-first.ensures.first c.earlier-first.ensures.second c.loop-id.invariant.2)
+          c.earlier-first.ensures.first c.earlier-first.ensures.second c.loop-id.invariant.2,
+    )
 
 pub returns-clause-first : goal.returns-clause-first
 returns-clause-first c =
