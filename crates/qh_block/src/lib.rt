@@ -5,6 +5,7 @@
 
 mod bodies;
 mod flat_sets;
+mod normals;
 mod segment;
 
 pub use flat_sets::flat_hull;
