@@ -7,5 +7,7 @@ mod bodies;
 mod flat_sets;
 mod normals;
 mod segment;
+#[cfg(test)]
+mod tests;
 
 pub use flat_sets::flat_hull;
