@@ -2,3 +2,5 @@
 pub mod Lines
 pub mod Ends
 pub mod Bodies
+pub mod Edges
+pub mod Polygons

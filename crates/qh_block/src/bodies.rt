@@ -1,6 +1,8 @@
 //! Bodies of points, segments and polygons.
-ghost use Rattle.std.specs.Prelude.{◌≡◌, ◌<◌, [], ◌∷◌, IfOk};
-ghost use Rattle.qh_block.specs.FlatBodies.{point_body, segment_body};
+ghost use Rattle.std.specs.Prelude.{◌≡◌, ◌<◌, ◌↔◌, ℕ, [], ◌∷◌, IfOk};
+ghost use Rattle.std.specs.List.Sorted.{IsStrictlyIncreasing};
+ghost use Rattle.qh_model.specs.Sets.{In};
+ghost use Rattle.qh_block.specs.FlatBodies.{point_body, segment_body, IsPolygonBody};
 
 use qh_model::{Body, Id, Memory, Polygon};
 use std::alloc::Global;
@@ -14,12 +16,23 @@ fn ids_of(alloc: Global, ids: &[Id]) -> Result<Vec<Id>, Memory>
 }
 
 /// The list of one polygon.
-fn one_polygon(alloc: Global, ids: Vec<Id>) -> Result<Vec<Polygon>, Memory>
-    ensures { IfOk result (λ v. v.items ≡ ids.items ∷ []) }
+fn one_polygon(alloc: Global, polygon: Polygon) -> Result<Vec<Polygon>, Memory>
+    ensures { IfOk result (λ v. v.items ≡ polygon ∷ []) }
 {
     let mut polygons = Vec::new(alloc);
-    polygons.push(Polygon(ids))?;
+    polygons.push(polygon)?;
     Ok(polygons)
+}
+
+/// The ids of a list, rising, each once.
+fn rising_ids(alloc: Global, ids: &[Id]) -> Result<Vec<Id>, Memory>
+    ensures rising { IfOk result (λ v. IsStrictlyIncreasing v.items) }
+    ensures members { IfOk result (λ v. (i : ℕ) → In i v.items ↔ In i ids.now) }
+{
+    let mut rising = Vec::from_slice(alloc, ids)?;
+    rising.sort_unstable();
+    rising.dedup();
+    Ok(rising)
 }
 
 /// The hull of one id.
@@ -27,7 +40,7 @@ pub fn body_of_point(alloc: Global, id: Id) -> Result<Body, Memory>
     ensures { IfOk result (λ b. b ≡ point_body id) }
 {
     let extremes = ids_of(alloc, &[id])?;
-    let polygons = one_polygon(alloc, ids_of(alloc, &[id])?)?;
+    let polygons = one_polygon(alloc, Polygon(ids_of(alloc, &[id])?))?;
     Ok(Body {
         dim: 0,
         extremes,
@@ -42,11 +55,26 @@ pub fn body_of_segment(alloc: Global, low: Id, high: Id) -> Result<Body, Memory>
     ensures { IfOk result (λ b. b ≡ segment_body low high) }
 {
     let extremes = ids_of(alloc, &[low, high])?;
-    let polygons = one_polygon(alloc, ids_of(alloc, &[low, high])?)?;
+    let polygons = one_polygon(alloc, Polygon(ids_of(alloc, &[low, high])?))?;
     Ok(Body {
         dim: 1,
         extremes,
         polygons,
         edges: 1,
+    })
+}
+
+/// The hull of a set in one plane with this polygon: it has as many edges as ids.
+pub fn body_of_polygon(alloc: Global, polygon: Polygon) -> Result<Body, Memory>
+    ensures { IfOk result (λ b. IsPolygonBody polygon b) }
+{
+    let extremes = rising_ids(alloc, polygon.ids())?;
+    let edges = polygon.ids().len() as u64;
+    let polygons = one_polygon(alloc, polygon)?;
+    Ok(Body {
+        dim: 2,
+        extremes,
+        polygons,
+        edges,
     })
 }

@@ -1,10 +1,18 @@
 //! The hull of one set of ids of distinct points.
 //!
-//! [`flat_hull`] answers the hull of a set that lies in a point, a line or a plane.
+//! [`flat_hull`] answers the hull of a set that lies in a point, a line or a plane: a point, the
+//! segment between the ends of the line, or the polygon in the plane. A set of dimension 3 has none
+//! of these.
+//!
+//! `segment` finds the ends of a line, `normals` the side from which a polygon is seen, and `bodies`
+//! puts the parts of a hull together.
 #![tactic(auto)]
 
 mod bodies;
 mod flat_sets;
+mod normals;
 mod segment;
+#[cfg(test)]
+mod tests;
 
 pub use flat_sets::flat_hull;
