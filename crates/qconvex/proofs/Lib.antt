@@ -1,1 +1,2 @@
 pub mod RankLemmas
+pub mod ServingLemmas

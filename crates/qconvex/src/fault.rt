@@ -17,7 +17,7 @@ pub enum Fault {
     Send,
     /// 12: the command line is none.
     Usage,
-    /// 13: the points have more dimensions than the outputs can be made for as yet.
+    /// 13: outputs other than `rank` cannot be made as yet of points that do not lie in one plane.
     NotYet,
 }
 

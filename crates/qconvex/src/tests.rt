@@ -4,6 +4,7 @@ mod command_lines;
 mod devices;
 mod faults;
 mod ranks;
+mod rows;
 
 use crate::answer::answer;
 use crate::command_line::{ArgFault, settings_of};

@@ -1,1 +1,2 @@
 pub mod SegmentSteps
+pub mod flats

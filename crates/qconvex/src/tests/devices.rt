@@ -26,7 +26,10 @@ fn a_failing_source_sends_nothing(rt: HostRuntime) -> Result<(), Fail> {
     }
     let mut source = FailSource::new(TETRAHEDRON.as_bytes(), 1, Some(30));
     let mut sink = MemSink::new(alloc);
-    assert_eq!(rt; serve(&rt, alloc, &mut source, &mut sink, &settings), Ok(()));
+    assert_eq!(rt;
+        serve(&rt, alloc, &mut source, &mut sink, &settings),
+        Ok(())
+    );
     assert_eq!(rt; sink.bytes(), b"4 4 3\n".as_slice());
     Ok(())
 }

@@ -8,7 +8,10 @@ const FAULTS: [(&str, &str); 32] = [
         "3\n4\n0 0 0\n1 0 0\n0 1 0\n0 0 1\n7\n",
         "qconvex: 6: Long at line 7",
     ),
-    ("3\n2\n0 0 0 2nd\n1 1 1\n", "qconvex: 2: BadNumber at line 3"),
+    (
+        "3\n2\n0 0 0 2nd\n1 1 1\n",
+        "qconvex: 2: BadNumber at line 3",
+    ),
     ("3\n1\n0 0 1048577\n", "qconvex: 5: Range at line 3"),
     ("3\n1\n0 0.5 0\n", "qconvex: 2: BadNumber at line 3"),
     ("3\n1\n- 0 0\n", "qconvex: 2: BadNumber at line 3"),
@@ -36,7 +39,10 @@ const FAULTS: [(&str, &str); 32] = [
     ("4294967299\n4\n", "qconvex: 3: NotThree"),
     ("18446744073709551619\n4\n", "qconvex: 3: NotThree"),
     ("3\n1\n0 0 4294967299\n", "qconvex: 5: Range at line 3"),
-    ("3\n1\n0 0 18446744073709551619\n", "qconvex: 5: Range at line 3"),
+    (
+        "3\n1\n0 0 18446744073709551619\n",
+        "qconvex: 5: Range at line 3",
+    ),
     (
         "3\n1\n0 0 340282366920938463463374607431768211459\n",
         "qconvex: 5: Range at line 3",

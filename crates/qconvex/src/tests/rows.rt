@@ -1,0 +1,94 @@
+use super::{answered, served, settings};
+use std::test::Fail;
+
+const ONE_POINT: &str = "3\n1\n5 5 5\n";
+
+const FIVE_IN_LINE: &str = "3\n5\n1 1 1\n0 0 0\n4 4 4\n2 2 2\n3 3 3\n";
+
+const TETRAHEDRON: &str = "3\n4\n0 0 0\n1 0 0\n0 1 0\n0 0 1\n";
+
+/// A command line, an input and the text that it answers, for points in one plane.
+const ROWS: [(&str, &str, &str); 12] = [
+    (
+        "rank Fx off rank",
+        ONE_POINT,
+        "1 1 0\n1\n0\nOFF\n1 1 0\n5 5 5\n1 0\n1 1 0\n",
+    ),
+    (
+        "",
+        ONE_POINT,
+        "Convex hull of 1 points in 3-d:\n  dimension: 0\n  distinct points: 1\n  extreme points: 1\n  facets: 1\n  edges: 0\n",
+    ),
+    (
+        "off",
+        "3 2\n0 0 0\n2 2 2\n",
+        "OFF\n2 1 1\n0 0 0\n2 2 2\n2 0 1\n",
+    ),
+    (
+        "Fx off",
+        FIVE_IN_LINE,
+        "2\n1\n2\nOFF\n2 1 1\n0 0 0\n4 4 4\n2 0 1\n",
+    ),
+    (
+        "s",
+        FIVE_IN_LINE,
+        "Convex hull of 5 points in 3-d:\n  dimension: 1\n  distinct points: 5\n  extreme points: 2\n  facets: 1\n  edges: 1\n",
+    ),
+    ("off", "+3 01\n-0 +0 0005\n", "OFF\n1 1 0\n0 0 5\n1 0\n"),
+    ("rank Fx", "3\n3\n7 7 7\n7 7 7\n7 7 7\n", "3 1 0\n1\n0\n"),
+    (
+        "off",
+        "3\n5\n0 0 0\n2 0 0\n2 2 0\n0 2 0\n1 1 0\n",
+        "OFF\n4 1 4\n0 0 0\n2 0 0\n2 2 0\n0 2 0\n4 0 1 2 3\n",
+    ),
+    (
+        "off",
+        "3\n4\n5 0 0\n5 0 2\n5 2 2\n5 2 0\n",
+        "OFF\n4 1 4\n5 0 0\n5 0 2\n5 2 2\n5 2 0\n4 0 3 2 1\n",
+    ),
+    // Repeats: the lowest index of equal points stands, here 1 and 3 among others.
+    (
+        "rank Fx",
+        "3\n6\n1 1 0\n0 0 0\n0 0 0\n2 0 0\n2 0 0\n0 2 0\n",
+        "6 4 2\n3\n1\n3\n5\n",
+    ),
+    // A triangle with points inside its edges and within it.
+    (
+        "off",
+        "3\n6\n0 0 7\n4 0 7\n2 0 7\n0 4 7\n2 2 7\n1 1 7\n",
+        "OFF\n3 1 3\n0 0 7\n4 0 7\n0 4 7\n3 0 1 2\n",
+    ),
+    (
+        "off",
+        "3\n2\n-1048576 1048576 0\n1048576 -1048576 0\n",
+        "OFF\n2 1 1\n-1048576 1048576 0\n1048576 -1048576 0\n2 0 1\n",
+    ),
+];
+
+#[test]
+fn answers_rows(rt: HostRuntime) -> Result<(), Fail> {
+    let alloc = rt.alloc();
+    for (line, input, want) in ROWS {
+        let Ok(settings) = settings(alloc, line)? else {
+            return Err("the line is a command line".into());
+        };
+        let answered = answered(&rt, alloc, input.as_bytes(), &settings)?;
+        assert_eq!(rt; answered.output.as_str(), want, "at {line}: {input:?}");
+        let served = served(&rt, alloc, input.as_bytes(), &settings)?;
+        assert_eq!(rt; served.output.as_str(), want, "at {line}: {input:?}");
+    }
+    Ok(())
+}
+
+#[test]
+fn solid_hulls_are_not_yet_there(rt: HostRuntime) -> Result<(), Fail> {
+    let alloc = rt.alloc();
+    let Ok(settings) = settings(alloc, "off")? else {
+        return Err("the line is a command line".into());
+    };
+    let answered = answered(&rt, alloc, TETRAHEDRON.as_bytes(), &settings)?;
+    assert_eq!(rt; answered.error.as_str(), "qconvex: 13: NotYet");
+    assert!(rt; answered.output.is_empty());
+    assert_eq!(rt; answered.status, 1);
+    Ok(())
+}
