@@ -1,0 +1,15 @@
+pub mod Walks
+pub mod Around
+pub mod Cones
+pub mod Weaving
+pub mod RimLemmas
+pub mod StepLemmas
+pub mod PlaceLemmas
+pub mod ListLemmas
+pub mod Replacing
+pub mod StoredSides
+pub mod Endings
+pub mod Finals
+pub mod Surfaces
+pub mod StoredReplacement
+pub mod Simplexes

@@ -1,0 +1,5 @@
+pub mod Cells
+pub mod Nets
+pub mod Stored
+pub mod Replacement
+pub mod SoundMesh
