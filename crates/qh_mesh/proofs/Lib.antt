@@ -12,4 +12,5 @@ pub mod Endings
 pub mod Finals
 pub mod Surfaces
 pub mod StoredReplacement
+pub mod Rewiring
 pub mod Simplexes
