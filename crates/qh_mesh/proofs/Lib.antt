@@ -13,4 +13,5 @@ pub mod Finals
 pub mod Surfaces
 pub mod StoredReplacement
 pub mod Rewiring
+pub mod SoundMeshes
 pub mod Simplexes

@@ -87,7 +87,7 @@ pub twin-edge : (fs : List StoredFacet) (f : ℕ) (s : Side) → edge_of ((surfa
 twin-edge fs f s = (λ i. edge_of (over-is fs f s i) (back-is fs f s i)) ∙ edge-is (twin_at fs f s)
 
 -- ---- what sees
-live_in : (fs : List StoredFacet) (f : ℕ) → In f (surface_of fs).live → IsLive fs f
+pub live_in : (fs : List StoredFacet) (f : ℕ) → In f (surface_of fs).live → IsLive fs f
 live_in fs f i = (live_is_marked fs f).0 i
 
 pub in_live : (fs : List StoredFacet) (f : ℕ) → IsLive fs f → In f (surface_of fs).live
@@ -269,7 +269,7 @@ rewired at' old new vs p made o d = record {
         let l : d.replaced.next (place f s) < length (horizon old vs) = (let i = d.replaced.next_in (place f s) (made_in f s e) in let k = d.replaced.len in omega arith) in
         let h = horizon_side at' old new vs p made o d (d.replaced.next (place f s)) l in
         let z : edge_start old (at (horizon old vs) (d.replaced.next (place f s))) ≡ start (surface_of old) g t =
-            d.replaced.next_starts (place f s) (made_in f s e) ∙ ap (edge_end old) (place-is f s e) ∙ end-is old f s ∙ sym q in
+        d.replaced.next_starts (place f s) (made_in f s e) ∙ ap (edge_end old) (place-is f s e) ∙ end-is old f s ∙ sym q in
         let same = horizon_is_known (surface_of old) (weighted_at at') o d.sound.0 d.sound.1 (weighted_at at' p) (at (horizon old vs) (d.replaced.next (place f s)) / 3) g (side_of_edge (at (horizon old vs) (d.replaced.next (place f s)))) t h e' (inl z) in
         same_place old vs d.facets (d.replaced.next (place f s)) (place g t) l (place-in g t e').0
         (sym (edge-is (at (horizon old vs) (d.replaced.next (place f s)))) ∙ (λ i. edge_of (same.0 i) (same.1 i)) ∙ sym (place-is g t e'))

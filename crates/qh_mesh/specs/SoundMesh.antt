@@ -7,6 +7,7 @@ use Rattle.qh_model.specs.FinishedSurface.{weighted_at}
 use Rattle.qh_model.specs.Surface.{IsWhole}
 use Rattle.qh_model.specs.SoundSurface.{IsSound}
 use Rattle.qh_model.specs.StoredSurface.{StoredFacet, facet_at, surface_of}
+use Rattle.qh_model.specs.ClosedSurface.{IsClosedSurface, signed_volume, triples_of}
 use Rattle.qh_mesh.specs.declared.facets.FacetNo.{FacetNo}
 use Rattle.qh_mesh.specs.Replacement.{IsLive, is_listed}
 
@@ -32,3 +33,8 @@ simplex_facets a b c d =
     ∷ record { i = a; j = c; k = d; ij = 2; jk = 10; ki = 3; live = true }
     ∷ record { i = b; j = d; k = c; ij = 4; jk = 7; ki = 1; live = true }
     ∷ []
+
+-- the live facets are a closed surface, none of them in line, with signed volume below 0
+pub record IsClosedMesh (at : ℕ → Vector) (fs : List StoredFacet) : Type 0 where
+  pub surface : IsClosedSurface at (triples_of (surface_of fs))
+  pub volume : (p : Vector) → signed_volume at (triples_of (surface_of fs)) p <ℤ pos 0

@@ -1,5 +1,5 @@
 //! The mesh, its questions, and how it is made and grows.
-ghost use Rattle.std.specs.Prelude.{◌≡◌, ◌≢◌, ◌+◌, ◌*◌, ◌-◌, ◌/◌, ◌≤◌, ◌<◌, length, vec_len, vec_capacity, OnOk, OnErr, IfOk, true, false, pos, [], ◌∷◌, ℕ, ◌<ℤ◌};
+ghost use Rattle.std.specs.Prelude.{◌≡◌, ◌↔◌, IsTrue, ◌≢◌, ◌+◌, ◌*◌, ◌-◌, ◌/◌, ◌≤◌, ◌<◌, length, vec_len, vec_capacity, OnOk, OnErr, IfOk, true, false, pos, [], ◌∷◌, ℕ, ◌<ℤ◌};
 ghost use Rattle.qh_model.specs.Predicates.{vol, place};
 ghost use Rattle.qh_model.specs.Vector.{Vector};
 ghost use Rattle.qh_model.specs.Weighted.{Weighted};
@@ -7,7 +7,8 @@ ghost use Rattle.qh_model.specs.FinishedSurface.{weighted_at, middle_at};
 ghost use Rattle.qh_model.specs.StoredSurface.{facet_at, surface_of};
 ghost use Rattle.qh_mesh.specs.Cells.{simplex_of};
 ghost use Rattle.qh_mesh.specs.Replacement.{IsLive, AreFacets, IsReplacement, edge_start, edge_end, twin_of};
-ghost use Rattle.qh_mesh.specs.SoundMesh.{simplex_facets};
+ghost use Rattle.qh_mesh.specs.SoundMesh.{simplex_facets, IsSoundMesh, IsClosedMesh, AreVisible};
+ghost use Rattle.qh_model.specs.Rewired.{IsRewired};
 
 use crate::facets::{EdgeNo, FacetNo, Side, Spoke};
 use crate::rebuild::rebuild;
@@ -43,6 +44,22 @@ impl Model for Mesh {
     ghost view = { λ m. facets_of m.sides.items };
 
     ghost invariant = { λ m. IsSurface m.sides.items m.free.items };
+}
+
+/// Whether the triangle a b c strictly sees d.
+fn sees(pts: &[Point], a: Id, b: Id, c: Id, d: Id) -> bool
+    requires a_in { a < length pts.now }
+    requires b_in { b < length pts.now }
+    requires c_in { c < length pts.now }
+    requires d_in { d < length pts.now }
+    ensures { IsTrue result ↔ (pos 0 <ℤ vol (place pts.now a) (place pts.now b) (place pts.now c) (place pts.now d)) }
+{
+    vol(
+        point_at(pts, a),
+        point_at(pts, b),
+        point_at(pts, c),
+        point_at(pts, d),
+    ) > 0
 }
 
 /// A side of a live facet.
@@ -121,14 +138,20 @@ impl Mesh {
             → IfOk result (λ m. m ≡ simplex_facets a c b d) }
         ensures down { vol (place pts.now a) (place pts.now b) (place pts.now c) (place pts.now d) <ℤ pos 0
             → IfOk result (λ m. m ≡ simplex_facets a b c d) }
+        ensures sound { IfOk result (λ m. IsSoundMesh (place pts.now) m (middle_at (place pts.now) a b c d)) }
+        ensures closed { IfOk result (λ m. IsClosedMesh (place pts.now) m) }
     {
-        let turned = vol(
-            point_at(pts, a),
-            point_at(pts, b),
-            point_at(pts, c),
-            point_at(pts, d),
-        ) > 0;
-        let (b, c) = if turned { (c, b) } else { (b, c) };
+        if sees(pts, a, b, c, d) {
+            Mesh::of_corners(alloc, a, c, b, d)
+        } else {
+            Mesh::of_corners(alloc, a, b, c, d)
+        }
+    }
+
+    /// The triangles a b c, a d b, a c d and b d c.
+    fn of_corners(alloc: Global, a: Id, b: Id, c: Id, d: Id) -> Result<Mesh, Memory>
+        ensures { IfOk result (λ m. m ≡ simplex_facets a b c d) }
+    {
         let corners = four(a.number(), b.number(), c.number(), d.number());
         let Ok(sides) = Vec::from_slice(alloc, &corners) else {
             return Err(Memory);
@@ -209,6 +232,15 @@ impl Mesh {
     ) -> Result<Vec<FacetNo>, Memory>
         requires { AreFacets self.old visible.now }
         ensures replaced { IfOk result (λ made. IsReplacement self.old self.new visible.now apex made.items) }
+        ensures rewired { IfOk result (λ _. (o : Weighted)
+            → IsSoundMesh (place pts.now) self.old o → AreVisible (place pts.now) self.old visible.now apex
+            → IsRewired (surface_of self.old) (surface_of self.new) (weighted_at (place pts.now)) apex) }
+        ensures sound { IfOk result (λ _. (o : Weighted)
+            → IsSoundMesh (place pts.now) self.old o → AreVisible (place pts.now) self.old visible.now apex
+            → IsSoundMesh (place pts.now) self.new o) }
+        ensures closed { IfOk result (λ _. (s t u v : ℕ)
+            → IsSoundMesh (place pts.now) self.old (middle_at (place pts.now) s t u v) → AreVisible (place pts.now) self.old visible.now apex
+            → IsClosedMesh (place pts.now) self.new) }
         ensures memory { OnErr result (self.new ≡ self.old) }
     {
         let _ = pts;

@@ -1,11 +1,28 @@
-use Rattle.std.proofs.Common.{◌≡◌, ℕ, List, [], refl, ap, sym, ◌∙◌, subst, rules}
-use Rattle.qh_mesh.specs.declared.facets.Side.{Side}
-use Rattle.qh_mesh.specs.Cells.{IsSurface}
-use Rattle.qh_mesh.proofs.Simplexes.{simplex_at}
+use Rattle.std.proofs.Common.{◌≡◌, ℕ, List, ap, sym, ◌∙◌, subst, arith}
+use Rattle.std.specs.Prelude.{ℤ, pos, ◌<ℤ◌, ◌≤ℤ◌}
+use Rattle.std.proofs.lemmas.Int.{ints}
+use Rattle.std.proofs.lemmas.Result.{IfOk-weaker}
+use Rattle.qh_model.specs.Vector.{Vector}
+use Rattle.qh_model.specs.Predicates.{vol, place}
+use Rattle.qh_model.specs.FinishedSurface.{middle_at}
+use Rattle.qh_model.specs.StoredSurface.{StoredFacet}
+use Rattle.qh_mesh.specs.SoundMesh.{IsSoundMesh, IsClosedMesh, simplex_facets}
+use Rattle.qh_mesh.proofs.SoundMeshes.{turned_is_sound, simplex_is_sound, turned_is_closed, simplex_is_closed, below_zero}
+use Rattle.qh_mesh.proofs.Replacing.{not_both}
 use Rattle.qh_mesh.proofs.mesh.Mesh.simplex.Goals as goal
 
-pub invariant_of-result : goal.invariant_of-result
-invariant_of-result c =
-    let e : c.in-Ok.sides.items ≡ c.four-corners.result = c.in-Ok.ensures.items in
-    let n : c.new.result.items ≡ [] = c.new.ensures.items in
-    simplex_at c.in-Ok.sides.items c.new.result.items _ _ _ _ (e ∙ c.four-corners.ensures) n
+pub returns-then-sees-clause-sound : goal.returns-then-sees-clause-sound
+returns-then-sees-clause-sound c =
+    IfOk-weaker c.of_corners.result _ _ (λ m e. subst (λ (v : List StoredFacet). IsSoundMesh (place c.args.pts.now) v (middle_at (place c.args.pts.now) c.args.a c.args.b c.args.c c.args.d)) (sym e) (turned_is_sound (place c.args.pts.now) c.args.a c.args.b c.args.c c.args.d (c.sees.ensures.0 c.if-sees.true))) c.of_corners.ensures
+
+pub returns-then-sees-clause-closed : goal.returns-then-sees-clause-closed
+returns-then-sees-clause-closed c =
+    IfOk-weaker c.of_corners.result _ _ (λ m e. subst (IsClosedMesh (place c.args.pts.now)) (sym e) (turned_is_closed (place c.args.pts.now) c.args.a c.args.b c.args.c c.args.d (c.sees.ensures.0 c.if-sees.true))) c.of_corners.ensures
+
+pub returns-else-sees-clause-sound : goal.returns-else-sees-clause-sound
+returns-else-sees-clause-sound c =
+    IfOk-weaker c.of_corners-else-sees.result _ _ (λ m e. subst (λ (v : List StoredFacet). IsSoundMesh (place c.args.pts.now) v (middle_at (place c.args.pts.now) c.args.a c.args.b c.args.c c.args.d)) (sym e) (simplex_is_sound (place c.args.pts.now) c.args.a c.args.b c.args.c c.args.d (below_zero _ c.requires.volume (λ h. not_both c.sees.result (c.sees.ensures.1 h) c.if-sees.false)))) c.of_corners-else-sees.ensures
+
+pub returns-else-sees-clause-closed : goal.returns-else-sees-clause-closed
+returns-else-sees-clause-closed c =
+    IfOk-weaker c.of_corners-else-sees.result _ _ (λ m e. subst (IsClosedMesh (place c.args.pts.now)) (sym e) (simplex_is_closed (place c.args.pts.now) c.args.a c.args.b c.args.c c.args.d (below_zero _ c.requires.volume (λ h. not_both c.sees.result (c.sees.ensures.1 h) c.if-sees.false)))) c.of_corners-else-sees.ensures
