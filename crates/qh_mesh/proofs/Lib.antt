@@ -14,4 +14,5 @@ pub mod Surfaces
 pub mod StoredReplacement
 pub mod Rewiring
 pub mod SoundMeshes
+pub mod PlaceCounts
 pub mod Simplexes

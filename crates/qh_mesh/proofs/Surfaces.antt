@@ -144,6 +144,7 @@ surface_is s0 s1 s2 s5 free free5 vs rim apex made s f m c p n y r z = record {
   free_in = λ j l. inside j (was free free5 vs (length rim) z j l);
   free_dead = λ x j l e. dead x j e (was free free5 vs (length rim) z j l) (decide (live_in s5 x));
   free_apart = λ i j l k. apart i j l (was free free5 vs (length rim) z i (omega arith)) (was free free5 vs (length rim) z j k);
+  free_all = λ g l e. by_le (Found g) (3 * g) (length s0) (λ h. old_place g h e (decide (live_in s0 (3 * g)))) (λ h. new_place g h l e);
 }
   where
     q : Same s0 s2
@@ -179,6 +180,39 @@ surface_is s0 s1 s2 s5 free free5 vs rim apex made s f m c p n y r z = record {
     apart i j l (stays h e) (left a b k o t) = λ v. not_both (live_in s0 (3 * number vs a)) (f.live a k) (s.free_dead (3 * number vs a) i (omega arith) (omega arith))
     apart i j l (left a b k o e) (stays g t) = absurd (omega arith)
     apart i j l (left a b k o e) (left a' b' k' o' t) = λ v. f.apart a a' (omega arith) k' (sym e ∙ v ∙ t)
+
+    Found : ℕ → Type 0
+    Found g = (j : ℕ) × ((j < length free5) × (at free5 j ≡ g))
+
+    -- a place of the cone is live
+    made_live : (g i : ℕ) → i < length rim → number made i ≡ g → live_in s5 (3 * g) ≡ false → Prim.⊥
+    made_live g i l e o = not_both (live_in s5 (3 * g)) (r.cone_live (3 * g) i l (omega arith)) o
+
+    -- a place at the end is one of the cone's
+    new_place : (g : ℕ) → length s0 ≤ 3 * g → 3 * g < length s5 → live_in s5 (3 * g) ≡ false → Found g
+    new_place g h l e =
+        let w = s.whole in let a = r.len in
+        absurd (made_live g (g - length s0 / 3 + (length vs + length free)) (omega arith) (p.fresh (g - length s0 / 3 + (length vs + length free)) (omega arith) (omega arith) ∙ omega arith) e)
+
+    -- a free place is free again, or one of the cone's
+    free_place : (g j : ℕ) → j < length free → at free j ≡ g → live_in s5 (3 * g) ≡ false → Found g
+    free_place g j l q e =
+        by_le (Found g) j (length free - (length rim - length vs)) (λ h. (j, (let a = z.len in omega arith, z.kept j h ∙ q)))
+        (λ h. absurd (made_live g (length vs + length free - 1 - j) (omega arith) (p.freed (length vs + length free - 1 - j) (omega arith) (omega arith) (omega arith) ∙ ap (at free) (let b : length vs + length free - 1 - (length vs + length free - 1 - j) ≡ j = omega arith in b) ∙ q) e))
+
+    -- the place of a listed facet is the cone's, or free now
+    listed_place : (g i : ℕ) → i < length vs → g ≡ number vs i → live_in s5 (3 * g) ≡ false → Found g
+    listed_place g i l q e =
+        by_le (Found g) i (length rim) (λ h. absurd (made_live g i h (p.again i h l ∙ sym q) e))
+        (λ h. (length free - (length rim - length vs) + (i - length rim), (let a = z.len in omega arith, z.freed i h l ∙ sym q)))
+
+    old_place : (g : ℕ) → 3 * g < length s0 → live_in s5 (3 * g) ≡ false → ((live_in s0 (3 * g) ≡ true) ⊎ (live_in s0 (3 * g) ≡ false)) → Found g
+    old_place g h e (inr o) = let t = s.free_all g h o in free_place g t.0 t.1.0 t.1.1 e
+    old_place g h e (inl o) = by (decide (is_listed vs (3 * g / 3)))
+      where
+        by : ((is_listed vs (3 * g / 3) ≡ true) ⊎ (is_listed vs (3 * g / 3) ≡ false)) → Found g
+        by (inl t) = let i = listed_find vs (3 * g / 3) t in listed_place g i.0 i.1.0 (omega (arith, i.1.1)) e
+        by (inr t) = absurd (not_both (live_in s5 (3 * g)) (r.kept_live (3 * g) (q.lives (3 * g) ∙ o) (ap (λ (v : Side). v.seen) (c (3 * g)) ∙ seen_is s0 s1 vs s.unseen m (3 * g) ∙ t)) e)
 
 pub fix_places : (vs : List FacetNo) (free : List ℕ) (n n' k k' : ℕ) (made : List FacetNo) → n ≡ n' → k ≡ k' → Places vs free (n / 3) k made → Places vs free (n' / 3) k' made
 fix_places vs free n n' k k' made e q p = subst (λ v. Places vs free (n' / 3) v made) q (subst (λ v. Places vs free (v / 3) k made) e p)

@@ -116,6 +116,7 @@ pub record IsSurface (ss : List Side) (free : List ℕ) : Type 0 where
   pub free_in : (j : ℕ) → j < length free → 3 * at free j + 2 < length ss
   pub free_dead : (x j : ℕ) → j < length free → x / 3 ≡ at free j → live_in ss x ≡ false
   pub free_apart : (i j : ℕ) → i < j → j < length free → at free i ≢ at free j
+  pub free_all : (f : ℕ) → 3 * f < length ss → live_in ss (3 * f) ≡ false → (j : ℕ) × ((j < length free) × (at free j ≡ f))
 
 -- facets of the surface, each once
 pub record AreLive (ss : List Side) (vs : List FacetNo) : Type 0 where

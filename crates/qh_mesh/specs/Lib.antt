@@ -3,3 +3,4 @@ pub mod Nets
 pub mod Stored
 pub mod Replacement
 pub mod SoundMesh
+pub mod LiveNumbers

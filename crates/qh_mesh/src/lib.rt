@@ -12,10 +12,12 @@
 
 mod cone;
 mod facets;
+mod live;
 mod mesh;
 mod rebuild;
 mod sides;
 mod turning;
 
 pub use facets::{EdgeNo, FacetNo};
+pub use live::Live;
 pub use mesh::Mesh;

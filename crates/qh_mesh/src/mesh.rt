@@ -7,10 +7,12 @@ ghost use Rattle.qh_model.specs.FinishedSurface.{weighted_at, middle_at};
 ghost use Rattle.qh_model.specs.StoredSurface.{facet_at, surface_of};
 ghost use Rattle.qh_mesh.specs.Cells.{simplex_of};
 ghost use Rattle.qh_mesh.specs.Replacement.{IsLive, AreFacets, IsReplacement, edge_start, edge_end, twin_of};
+ghost use Rattle.qh_mesh.specs.LiveNumbers.{numbers};
 ghost use Rattle.qh_mesh.specs.SoundMesh.{simplex_facets, IsSoundMesh, IsClosedMesh, AreVisible};
 ghost use Rattle.qh_model.specs.Rewired.{IsRewired};
 
 use crate::facets::{EdgeNo, FacetNo, Side, Spoke};
+use crate::live::Live;
 use crate::rebuild::rebuild;
 use crate::sides::{corners, ends};
 use qh_model::{Id, Memory, Point};
@@ -169,6 +171,13 @@ impl Mesh {
         ensures { result ≡ length self.now }
     {
         self.sides.len() / 3
+    }
+
+    /// The live facets, each once, by rising numbers.
+    pub fn live(&self) -> Live<'_>
+        ensures { result ≡ numbers (surface_of self.now).live }
+    {
+        Live::of(self)
     }
 
     /// Whether the place, below [`Mesh::places`], is that of a facet.
