@@ -1,5 +1,5 @@
 -- The live and the free places are all places.
-use Rattle.std.proofs.Common.{◌≡◌, ◌≢◌, ℕ, zero, suc, ◌+◌, ◌-◌, ◌*◌, ◌/◌, ◌%◌, ◌<◌, ◌≤◌, ◌↔◌, arith, ap, sym, ◌∙◌, refl, Bool, true, false, cond, List, [], ◌∷◌, length, map, subst, ◌⊎◌, inl, inr}
+use Rattle.std.proofs.Common.{◌≡◌, ◌≢◌, ℕ, zero, suc, ◌+◌, ◌-◌, ◌*◌, ◌/◌, ◌%◌, ◌<◌, ◌≤◌, ◌↔◌, max, arith, ap, sym, ◌∙◌, refl, Bool, true, false, cond, List, [], ◌∷◌, length, map, subst, ◌⊎◌, inl, inr}
 use Rattle.std.specs.Prelude.{not}
 use Rattle.qh_model.specs.Sets.{In, Once}
 use Rattle.qh_model.specs.StoredSurface.{StoredFacet, facet_at, live_from, surface_of}
@@ -56,7 +56,7 @@ once_of (x ∷ xs) d = ((λ i. let r = in_at xs x i in d 0 (suc r.0) (omega arit
 pub counted : (ss : List Side) (free : List ℕ) → IsSurface ss free → length (surface_of (facets_of ss)).live + length free ≡ length (facets_of ss)
 counted ss free s =
     let e : length (live_from 0 (map other (facets_of ss))) ≡ length free =
-        once_length (live_from 0 (map other (facets_of ss))) free (live_is_listed_once (map other (facets_of ss))) (once_of free s.free_apart) (λ z. (to z, from z)) in
+    once_length (live_from 0 (map other (facets_of ss))) free (live_is_listed_once (map other (facets_of ss))) (once_of free s.free_apart) (λ z. (to z, from z)) in
     let b = both 0 (facets_of ss) in omega arith
   where
     to : (z : ℕ) → In z (live_from 0 (map other (facets_of ss))) → In z free
@@ -72,3 +72,9 @@ counted ss free s =
         let n = stored_len ss s.whole in
         let l = s.free_in r.0 r.1.0 in
         (live_is_marked (map other (facets_of ss)) z).1 (at_other (facets_of ss) z (omega (arith, r.1.1)) (live_stored ss z s.whole ∙ s.free_dead (3 * z) r.0 r.1.0 (omega (arith, r.1.1))))
+
+-- places are given out again before there are more
+pub places_are : (s0 s5 : List Side) (free free5 : List ℕ) (v m : ℕ) → IsSurface s0 free → IsSurface s5 free5 → length s5 ≡ length s0 + 3 * (m - (v + length free)) → length free5 ≡ length free - (m - v) + (v - m)
+    → length (facets_of s5) ≡ max (length (facets_of s0)) (length (surface_of (facets_of s5)).live)
+places_are s0 s5 free free5 v m a b n k =
+    let e0 = stored_len s0 a.whole in let e5 = stored_len s5 b.whole in let c5 = counted s5 free5 b in omega arith

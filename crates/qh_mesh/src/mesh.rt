@@ -1,5 +1,5 @@
 //! The mesh, its questions, and how it is made and grows.
-ghost use Rattle.std.specs.Prelude.{◌≡◌, ◌↔◌, IsTrue, ◌≢◌, ◌+◌, ◌*◌, ◌-◌, ◌/◌, ◌≤◌, ◌<◌, length, vec_len, vec_capacity, OnOk, OnErr, IfOk, true, false, pos, [], ◌∷◌, ℕ, ◌<ℤ◌};
+ghost use Rattle.std.specs.Prelude.{◌≡◌, ◌↔◌, IsTrue, ◌≢◌, ◌+◌, ◌*◌, ◌-◌, ◌/◌, ◌≤◌, ◌<◌, length, max, vec_len, vec_capacity, OnOk, OnErr, IfOk, true, false, pos, [], ◌∷◌, ℕ, ◌<ℤ◌};
 ghost use Rattle.qh_model.specs.Predicates.{vol, place};
 ghost use Rattle.qh_model.specs.Vector.{Vector};
 ghost use Rattle.qh_model.specs.Weighted.{Weighted};
@@ -250,6 +250,7 @@ impl Mesh {
         ensures closed { IfOk result (λ _. (s t u v : ℕ)
             → IsSoundMesh (place pts.now) self.old (middle_at (place pts.now) s t u v) → AreVisible (place pts.now) self.old visible.now apex
             → IsClosedMesh (place pts.now) self.new) }
+        ensures places { IfOk result (λ _. length self.new ≡ max (length self.old) (length (surface_of self.new).live)) }
         ensures memory { OnErr result (self.new ≡ self.old) }
     {
         let _ = pts;

@@ -76,6 +76,8 @@ pub fn rebuild(
     ensures replaced { Replaced sides.old.items sides.new.items visible.now apex made.new.items }
     ensures len { length sides.new.items
         ≡ length sides.old.items + 3 * (length made.new.items - (length visible.now + length free.old.items)) }
+    ensures free { length free.new.items
+        ≡ length free.old.items - (length made.new.items - length visible.now) + (length visible.now - length made.new.items) }
 {
     prepare(sides.as_mut_slice(), visible, rim);
     choose(sides, free, visible, rim.len(), made);

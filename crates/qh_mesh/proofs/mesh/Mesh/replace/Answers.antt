@@ -1,5 +1,6 @@
-use Rattle.std.proofs.Common.{◌≡◌, ℕ, ◌<◌, ◌≤◌, ◌%◌, List, length, arith, refl, ap, sym, ◌∙◌, subst}
-use Rattle.qh_model.specs.StoredSurface.{StoredFacet}
+use Rattle.std.proofs.Common.{◌≡◌, ℕ, ◌<◌, ◌+◌, ◌-◌, ◌*◌, max, ◌≤◌, ◌%◌, List, length, arith, refl, ap, sym, ◌∙◌, subst}
+use Rattle.qh_model.specs.StoredSurface.{StoredFacet, surface_of}
+use Rattle.qh_mesh.proofs.PlaceCounts.{places_are}
 use Rattle.qh_mesh.specs.declared.facets.Side.{Side}
 use Rattle.qh_mesh.specs.declared.facets.FacetNo.{FacetNo}
 use Rattle.qh_model.specs.Vector.{Vector}
@@ -36,6 +37,12 @@ step_of : (at : ℕ → Vector) (now new : List StoredFacet) (vs made : List Fac
     → IsStep at now new vs apex made o
 step_of at now new vs made apex o s0 free s v f r z w = record { twins = subst HasTwins v (has_twins s0 free s); facets = f; replaced = r; visible = w; sound = z }
 
+-- the places after the step
+places_after : (s0 s1 s5 : List Side) (free free1 free5 : List ℕ) (now : List StoredFacet) (v m : ℕ) → IsSurface s0 free → s1 ≡ s0 → free1 ≡ free → facets_of s0 ≡ now → IsSurface s5 free5
+    → length s5 ≡ length s1 + 3 * (m - (v + length free1)) → length free5 ≡ length free1 - (m - v) + (v - m) → length (facets_of s5) ≡ max (length now) (length (surface_of (facets_of s5)).live)
+places_after s0 s1 s5 free free1 free5 now v m s e q k b n l =
+    places_are s0 s5 free free5 v m s b (n ∙ (λ i. length (e i) + 3 * (m - (v + length (q i))))) (l ∙ ap (λ (u : List ℕ). length u - (m - v) + (v - m)) q) ∙ ap (λ (u : List StoredFacet). max (length u) (length (surface_of (facets_of s5)).live)) k
+
 pub returns-clause-replaced : goal.returns-clause-replaced
 returns-clause-replaced c = replaced_by c.self.inside.sides.items c.make_room.new.sides.items c.rebuild.new.sides.items c.self.inside.free.items c.make_room.new.free.items c.rebuild.new.free.items c.args.self.now c.args.visible.now c.rebuild.new.made.items c.number.result c.args.apex c.self.invariant c.make_room.ensures.sides c.make_room.ensures.free c.self.view_is c.number.ensures c.rebuild.ensures.surface c.requires c.rebuild.ensures.replaced
 
@@ -56,3 +63,7 @@ returns-clause-closed c = λ s t u v z w.
     step_is_closed (place c.args.pts.now) c.args.self.now (facets_of c.rebuild.new.sides.items) c.args.visible.now c.args.apex c.rebuild.new.made.items s t u v
     (step_of (place c.args.pts.now) c.args.self.now (facets_of c.rebuild.new.sides.items) c.args.visible.now c.rebuild.new.made.items c.args.apex (middle_at (place c.args.pts.now) s t u v) c.self.inside.sides.items c.self.inside.free.items c.self.invariant c.self.view_is c.requires
     (replaced_by c.self.inside.sides.items c.make_room.new.sides.items c.rebuild.new.sides.items c.self.inside.free.items c.make_room.new.free.items c.rebuild.new.free.items c.args.self.now c.args.visible.now c.rebuild.new.made.items c.number.result c.args.apex c.self.invariant c.make_room.ensures.sides c.make_room.ensures.free c.self.view_is c.number.ensures c.rebuild.ensures.surface c.requires c.rebuild.ensures.replaced) z w)
+
+pub returns-clause-places : goal.returns-clause-places
+returns-clause-places c =
+    places_after c.self.inside.sides.items c.make_room.new.sides.items c.rebuild.new.sides.items c.self.inside.free.items c.make_room.new.free.items c.rebuild.new.free.items c.args.self.now (length c.args.visible.now) (length c.rebuild.new.made.items) c.self.invariant c.make_room.ensures.sides c.make_room.ensures.free c.self.view_is c.rebuild.ensures.surface c.rebuild.ensures.len c.rebuild.ensures.free
