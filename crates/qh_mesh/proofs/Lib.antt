@@ -15,4 +15,5 @@ pub mod StoredReplacement
 pub mod Rewiring
 pub mod SoundMeshes
 pub mod PlaceCounts
+pub mod FacetLists
 pub mod Simplexes

@@ -16,6 +16,8 @@ mod live;
 mod mesh;
 mod rebuild;
 mod sides;
+#[cfg(test)]
+mod tests;
 mod turning;
 
 pub use facets::{EdgeNo, FacetNo};
