@@ -1,12 +1,12 @@
 -- What stands after the cone is written and the facets left over are freed.
-use Rattle.std.proofs.Common.{◌≡◌, ◌≢◌, ℕ, zero, suc, ◌+◌, ◌-◌, ◌*◌, ◌/◌, ◌%◌, ◌<◌, ◌≤◌, arith, ap, sym, ◌∙◌, refl, Bool, true, false, ◌⊎◌, inl, inr, List, length, subst}
+use Rattle.std.proofs.Common.{◌≡◌, ◌≢◌, ℕ, ◌+◌, ◌*◌, ◌/◌, ◌<◌, ◌≤◌, arith, ap, sym, ◌∙◌, true, false, ◌⊎◌, inl, inr, List, length}
 use Rattle.qh_mesh.specs.declared.facets.Side.{Side}
 use Rattle.qh_mesh.specs.declared.facets.FacetNo.{FacetNo}
 use Rattle.qh_mesh.specs.declared.facets.Spoke.{Spoke}
-use Rattle.qh_mesh.specs.Nets.{after, walk, IsNet}
-use Rattle.qh_mesh.specs.Cells.{cell, spoke_at, start_in, twin_in, live_in, seen_in, IsSpoke, Written, Released, IsWoven, Turned, Cut}
+use Rattle.qh_mesh.specs.Nets.{after, IsNet}
+use Rattle.qh_mesh.specs.Cells.{cell, spoke_at, start_in, twin_in, live_in, seen_in, IsSpoke, Written, Released}
 use Rattle.qh_mesh.specs.Replacement.{at, number}
-use Rattle.qh_mesh.proofs.Around.{after-facet, after-side, SideOf, side_of}
+use Rattle.qh_mesh.proofs.Around.{SideOf, side_of}
 use Rattle.qh_mesh.proofs.Around.SideOf.{first, second, third}
 use Rattle.qh_mesh.proofs.Walks.{find, reaches}
 use Rattle.qh_mesh.proofs.Weaving.{by_le}

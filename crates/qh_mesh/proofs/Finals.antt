@@ -1,18 +1,16 @@
 -- What a replacement leaves.
-use Rattle.std.proofs.Common.{◌≡◌, ◌≢◌, ℕ, zero, suc, ◌+◌, ◌-◌, ◌*◌, ◌/◌, ◌%◌, ◌<◌, ◌≤◌, arith, ap, sym, ◌∙◌, refl, Bool, true, false, cond, ◌⊎◌, inl, inr, List, [], ◌∷◌, length, subst}
+use Rattle.std.proofs.Common.{◌≡◌, ◌≢◌, ℕ, suc, ◌+◌, ◌-◌, ◌*◌, ◌/◌, ◌%◌, ◌<◌, ◌≤◌, arith, ap, sym, ◌∙◌, refl, Bool, true, false, cond, ◌⊎◌, inl, inr, List, [], ◌∷◌, length, subst}
 use Rattle.std.specs.Prelude.{filter, not}
 use Rattle.qh_mesh.specs.declared.facets.Side.{Side}
 use Rattle.qh_mesh.specs.declared.facets.FacetNo.{FacetNo}
 use Rattle.qh_mesh.specs.declared.facets.Spoke.{Spoke}
-use Rattle.qh_mesh.specs.Nets.{after, walk, IsNet}
-use Rattle.qh_mesh.specs.Cells.{cell, spoke_at, start_in, twin_in, live_in, seen_in, rim_of, rim_from, Marked, Replaced, HasCone, IsSurface, AreLive, Places, Cut, Ready, Rebuilt, Joined, IsSpoke, Written, Released}
+use Rattle.qh_mesh.specs.Cells.{spoke_at, start_in, twin_in, live_in, seen_in, rim_of, rim_from, Marked, HasCone, IsSurface, AreLive, Places, Cut, Ready, Rebuilt, Joined, IsSpoke, Written, Released}
 use Rattle.qh_mesh.specs.Replacement.{at, number, sides_of, is_listed}
-use Rattle.qh_mesh.proofs.Around.{SideOf, side_of}
 use Rattle.qh_mesh.proofs.Walks.{reaches}
 use Rattle.qh_mesh.proofs.Weaving.{by_le, live_inside}
 use Rattle.qh_mesh.proofs.Cones.{Kept, Horizon, Coned}
 use Rattle.qh_mesh.proofs.ListLemmas.{listed_at, listed_find}
-use Rattle.qh_mesh.proofs.Replacing.{Next, next_of, nexts_apart, Tied, decide, not_both, seen_find}
+use Rattle.qh_mesh.proofs.Replacing.{next_of, nexts_apart, Tied, decide, not_both, seen_find}
 use Rattle.qh_mesh.proofs.Endings.{Ended, choice, horizon_is, coned_is, ended_net, ended_unseen}
 
 pub seen_is : (s0 s1 : List Side) (vs : List FacetNo) → ((x : ℕ) → seen_in s0 x ≡ false) → Marked s0 s1 vs → (x : ℕ) → seen_in s1 x ≡ is_listed vs (x / 3)

@@ -1,5 +1,5 @@
 -- The live and the free places are all places.
-use Rattle.std.proofs.Common.{◌≡◌, ◌≢◌, ℕ, zero, suc, ◌+◌, ◌-◌, ◌*◌, ◌/◌, ◌%◌, ◌<◌, ◌≤◌, ◌↔◌, max, arith, ap, sym, ◌∙◌, refl, Bool, true, false, cond, List, [], ◌∷◌, length, map, subst, ◌⊎◌, inl, inr}
+use Rattle.std.proofs.Common.{◌≡◌, ◌≢◌, ℕ, zero, suc, ◌+◌, ◌-◌, ◌*◌, ◌<◌, max, arith, ap, sym, ◌∙◌, refl, Bool, true, false, cond, List, [], ◌∷◌, length, map, subst, inl, inr}
 use Rattle.std.specs.Prelude.{not}
 use Rattle.qh_model.specs.Sets.{In, Once}
 use Rattle.qh_model.specs.StoredSurface.{StoredFacet, facet_at, live_from, surface_of}
@@ -7,7 +7,7 @@ use Rattle.qh_model.proofs.Members.{In-get_or}
 use Rattle.qh_model.proofs.lists.OnceEach.{once_length}
 use Rattle.qh_model.proofs.surfaces.Stored.{live_is_marked, live_is_listed_once}
 use Rattle.qh_mesh.specs.declared.facets.Side.{Side}
-use Rattle.qh_mesh.specs.Cells.{live_in, IsSurface}
+use Rattle.qh_mesh.specs.Cells.{IsSurface}
 use Rattle.qh_mesh.specs.Replacement.{at}
 use Rattle.qh_mesh.specs.Stored.{facets_of}
 use Rattle.qh_mesh.proofs.StoredSides.{stored_len, live_stored}

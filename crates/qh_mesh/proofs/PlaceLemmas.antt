@@ -1,5 +1,5 @@
 -- The places of a cone.
-use Rattle.std.proofs.Common.{◌≡◌, ◌≢◌, ℕ, zero, suc, ◌+◌, ◌-◌, ◌*◌, ◌/◌, ◌%◌, ◌<◌, ◌≤◌, arith, ap, sym, ◌∙◌, refl, List, [], ◌∷◌, ◌++◌, length, take, get_or}
+use Rattle.std.proofs.Common.{◌≡◌, ℕ, ◌+◌, ◌-◌, ◌<◌, ◌≤◌, arith, ap, ◌∙◌, List, [], ◌∷◌, ◌++◌, length, take}
 use Rattle.std.proofs.lemmas.List.{get_or-take, get_or_append_left, get_or_push, length_push}
 use Rattle.qh_mesh.specs.declared.facets.FacetNo.{FacetNo}
 use Rattle.qh_mesh.specs.Cells.{Places}

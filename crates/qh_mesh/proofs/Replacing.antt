@@ -5,14 +5,12 @@ use Rattle.qh_mesh.specs.declared.facets.Side.{Side}
 use Rattle.qh_mesh.specs.declared.facets.FacetNo.{FacetNo}
 use Rattle.qh_mesh.specs.declared.facets.Spoke.{Spoke}
 use Rattle.qh_mesh.specs.Nets.{after, walk, IsNet}
-use Rattle.qh_mesh.specs.Cells.{cell, spoke_at, start_in, twin_in, live_in, seen_in, rim_of, Marked, Joined, IsSpoke, Written, IsWoven, Turned, step, IsSurface, AreLive, Cut}
-use Rattle.qh_mesh.specs.Replacement.{at, number, sides_of, is_listed}
+use Rattle.qh_mesh.specs.Cells.{start_in, twin_in, live_in, seen_in, rim_of, Marked, IsSpoke, IsWoven, Turned, step, AreLive, Cut}
+use Rattle.qh_mesh.specs.Replacement.{at, number, sides_of}
 use Rattle.qh_mesh.proofs.Around.{after-facet, after-side, SideOf, side_of}
 use Rattle.qh_mesh.proofs.Around.SideOf.{first, second, third}
 use Rattle.qh_mesh.proofs.Walks.{find}
-use Rattle.qh_mesh.proofs.Weaving.{seen_inside, live_inside, turns_apart, by_le}
-use Rattle.qh_mesh.proofs.StepLemmas.{by_eq}
-use Rattle.qh_mesh.proofs.Cones.{Kept, Horizon, Coned, coned_is_net}
+use Rattle.qh_mesh.proofs.Weaving.{live_inside, turns_apart}
 use Rattle.qh_mesh.proofs.ListLemmas.{In, filter_from, filter_to, filter_apart, sides_from, sides_to, sides_apart}
 
 pub decide : (b : Bool) → (b ≡ true) ⊎ (b ≡ false)

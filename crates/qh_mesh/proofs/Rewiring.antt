@@ -1,26 +1,24 @@
 -- A replacement of what a point sees is one step of Quickhull.
-use Rattle.std.proofs.Common.{◌≡◌, ◌≢◌, ℕ, zero, suc, ◌+◌, ◌-◌, ◌*◌, ◌/◌, ◌%◌, ◌<◌, ◌≤◌, arith, ap, sym, ◌∙◌, refl, Bool, true, false, ◌⊎◌, inl, inr, List, length, subst}
-use Rattle.std.specs.Prelude.{filter, not, ℤ, pos, ◌<ℤ◌, ◌≤ℤ◌}
+use Rattle.std.proofs.Common.{◌≡◌, ◌≢◌, ℕ, zero, suc, ◌+◌, ◌*◌, ◌/◌, ◌%◌, ◌<◌, arith, ap, sym, ◌∙◌, refl, Bool, true, false, ◌⊎◌, inl, inr, List, length, subst}
+use Rattle.std.specs.Prelude.{not, ℤ, pos, ◌<ℤ◌, ◌≤ℤ◌}
 use Rattle.std.proofs.lemmas.Int.{ints}
 use Rattle.qh_model.specs.Vector.{Vector}
-use Rattle.qh_model.specs.Predicates.{vol}
 use Rattle.qh_model.specs.Sets.{In}
 use Rattle.qh_model.specs.Simplex.{one_of, by_side}
-use Rattle.qh_model.specs.Weighted.{Weighted, weighted, above}
+use Rattle.qh_model.specs.Weighted.{Weighted}
 use Rattle.qh_model.specs.FinishedSurface.{weighted_at}
-use Rattle.qh_model.specs.Surface.{Side, Surface, start, end, IsWhole, Sees, IsBlindTo, rise}
+use Rattle.qh_model.specs.Surface.{Side, Surface, start, end, Sees, IsBlindTo, rise}
 use Rattle.qh_model.specs.Surface.Side.{first, second, third}
-use Rattle.qh_model.specs.SoundSurface.{IsSound}
-use Rattle.qh_model.specs.Rewired.{IsHorizonSide, KeepsCorners, IsTriangle, LinksTo, IsRewired}
+use Rattle.qh_model.specs.Rewired.{IsHorizonSide, LinksTo, IsRewired}
 use Rattle.qh_model.specs.StoredSurface.{StoredFacet, facet_at, surface_of}
 use Rattle.qh_model.proofs.surfaces.Stored.{live_is_marked}
 use Rattle.qh_model.proofs.surfaces.SurfaceLaws.{rise_is_vol, horizon_is_known}
 use Rattle.qh_mesh.specs.declared.facets.FacetNo.{FacetNo}
-use Rattle.qh_mesh.specs.Replacement.{number, at, sides_of, is_listed, horizon, side_of_edge, IsLive, AreFacets, IsCone, IsKept, StaysFacet, IsReplacement, edge_start, edge_end, twin_of, HasTwins}
+use Rattle.qh_mesh.specs.Replacement.{number, at, sides_of, is_listed, horizon, side_of_edge, IsLive, AreFacets, IsKept, IsReplacement, edge_start, edge_end, twin_of, HasTwins}
 use Rattle.qh_mesh.specs.SoundMesh.{facet_vol, IsSoundMesh, AreVisible}
 use Rattle.qh_mesh.proofs.Walks.{find}
 use Rattle.qh_mesh.proofs.ListLemmas.{filter_from, filter_to, filter_apart, sides_from, sides_to, sides_apart, listed_at, listed_find}
-use Rattle.qh_mesh.proofs.Replacing.{not_both, decide}
+use Rattle.qh_mesh.proofs.Replacing.{decide}
 use Rattle.qh_mesh.proofs.Weaving.{by_le}
 
 -- ---- edges and sides

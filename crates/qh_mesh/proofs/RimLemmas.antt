@@ -1,12 +1,12 @@
 -- The rim of a list of facets.
-use Rattle.std.proofs.Common.{◌≡◌, ◌≢◌, ℕ, zero, suc, ◌+◌, ◌-◌, ◌*◌, ◌/◌, ◌%◌, ◌<◌, ◌≤◌, arith, ap, sym, ◌∙◌, refl, Bool, true, false, cond, ◌⊎◌, inl, inr, List, [], ◌∷◌, ◌++◌, length, take, get_or}
+use Rattle.std.proofs.Common.{◌≡◌, ℕ, ◌+◌, ◌*◌, ◌<◌, ap, sym, ◌∙◌, refl, Bool, List, [], ◌∷◌, ◌++◌, length, take, get_or}
 use Rattle.std.specs.Prelude.{filter, not}
 use Rattle.std.proofs.lemmas.List.{take_more, append_assoc}
 use Rattle.std.proofs.lemmas.List.Elements.{filter-append}
 use Rattle.qh_mesh.specs.declared.facets.Side.{Side}
 use Rattle.qh_mesh.specs.declared.facets.FacetNo.{FacetNo}
 use Rattle.qh_mesh.specs.Cells.{rim_of, seen_in, twin_in}
-use Rattle.qh_mesh.specs.Replacement.{sides_of, number}
+use Rattle.qh_mesh.specs.Replacement.{sides_of}
 
 pub sides_of-append : (us vs : List FacetNo) → sides_of (us ++ vs) ≡ sides_of us ++ sides_of vs
 sides_of-append [] vs = refl

@@ -1,5 +1,5 @@
 -- Meshes that are sound: the simplex, what a step leaves, and that both close up.
-use Rattle.std.proofs.Common.{◌≡◌, ◌≢◌, ℕ, zero, suc, ◌+◌, ◌-◌, ◌*◌, ◌/◌, ◌%◌, ◌<◌, ◌≤◌, arith, ap, sym, ◌∙◌, refl, Bool, true, false, ◌⊎◌, inl, inr, List, [], ◌∷◌, length, subst}
+use Rattle.std.proofs.Common.{◌≡◌, ◌≢◌, ℕ, ◌/◌, arith, ap, sym, ◌∙◌, refl, true, false, ◌⊎◌, inl, inr, List, [], ◌∷◌, subst}
 use Rattle.std.specs.Prelude.{ℤ, pos, ◌+ℤ◌, ◌<ℤ◌, ◌≤ℤ◌, neg_ℤ}
 use Rattle.std.proofs.lemmas.Int.{ints, by_lt_z}
 use Rattle.qh_model.specs.Vector.{Vector}
@@ -7,14 +7,13 @@ use Rattle.qh_model.specs.Predicates.{vol}
 use Rattle.qh_model.specs.Sets.{In}
 use Rattle.qh_model.specs.Weighted.{Weighted, weighted, above, middle_of}
 use Rattle.qh_model.specs.FinishedSurface.{weighted_at, middle_at}
-use Rattle.qh_model.specs.Surface.{Side, Surface, start, end, IsCorner, IsWhole, HasTwin, rise}
-use Rattle.qh_model.specs.Surface.Side.{first, second, third}
-use Rattle.qh_model.specs.SoundSurface.{IsSound, IsStrict, drawn}
+use Rattle.qh_model.specs.Surface.{Surface, start, end, IsCorner, IsWhole, rise}
+use Rattle.qh_model.specs.SoundSurface.{IsSound, drawn}
 use Rattle.qh_model.specs.Simplex.{simplex_surface}
 use Rattle.qh_model.specs.Rewired.{KeepsCorners}
-use Rattle.qh_model.specs.StoredSurface.{StoredFacet, facet_at, surface_of}
+use Rattle.qh_model.specs.StoredSurface.{StoredFacet, surface_of}
 use Rattle.qh_model.specs.ClosedSurface.{signed_volume, triples_of, triples_from}
-use Rattle.qh_model.proofs.surfaces.Stored.{live_is_marked, live_is_listed_once}
+use Rattle.qh_model.proofs.surfaces.Stored.{live_is_listed_once}
 use Rattle.qh_model.proofs.surfaces.SurfaceLaws.{rise_is_vol}
 use Rattle.qh_model.proofs.surfaces.Simplex.{simplex_sound}
 use Rattle.qh_model.proofs.surfaces.Rewired.{replace_keeps}
@@ -22,12 +21,12 @@ use Rattle.qh_model.proofs.surfaces.Closed.{sound_is_closed, sound_has_volume}
 use Rattle.qh_model.proofs.algebra.VectorIdentities.{vol-flip, vol-turn}
 use Rattle.qh_mesh.specs.declared.facets.FacetNo.{FacetNo}
 use Rattle.qh_mesh.specs.Cells.{simplex_of}
-use Rattle.qh_mesh.specs.Replacement.{number, is_listed, side_of_edge, IsLive, IsKept, edge_start, edge_end, twin_of, HasTwins}
-use Rattle.qh_mesh.specs.SoundMesh.{facet_vol, IsSoundMesh, AreVisible, simplex_facets, IsClosedMesh}
+use Rattle.qh_mesh.specs.Replacement.{number, is_listed, IsLive, edge_start, edge_end, twin_of, HasTwins}
+use Rattle.qh_mesh.specs.SoundMesh.{facet_vol, IsSoundMesh, simplex_facets, IsClosedMesh}
 use Rattle.qh_mesh.proofs.Simplexes.{simplex_surface as simplex_kept}
 use Rattle.qh_mesh.proofs.StoredSides.{has_twins}
 use Rattle.qh_mesh.proofs.Replacing.{decide}
-use Rattle.qh_mesh.proofs.Rewiring.{edge_of, edge-facet, edge-side, edge-is, start-is, end-is, twin_at, twin-is, over-is, back-is, live_in, in_live, IsStep, rewired}
+use Rattle.qh_mesh.proofs.Rewiring.{edge_of, edge-facet, start-is, end-is, twin_at, twin-is, over-is, back-is, live_in, in_live, IsStep, rewired}
 
 -- ---- whole
 -- facets with twins are a whole surface

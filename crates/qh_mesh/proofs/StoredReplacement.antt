@@ -1,14 +1,13 @@
 -- What the steps of a replacement leave, as a stored surface.
-use Rattle.std.proofs.Common.{◌≡◌, ◌≢◌, ℕ, zero, suc, ◌+◌, ◌-◌, ◌*◌, ◌/◌, ◌%◌, ◌<◌, ◌≤◌, arith, ap, sym, ◌∙◌, refl, Bool, true, false, ◌⊎◌, inl, inr, List, length, subst}
+use Rattle.std.proofs.Common.{◌≡◌, ◌≢◌, ℕ, ◌+◌, ◌*◌, ◌/◌, ◌%◌, ◌<◌, arith, ap, sym, ◌∙◌, Bool, true, false, ◌⊎◌, inl, inr, List, length, subst}
 use Rattle.std.specs.Prelude.{filter, not}
-use Rattle.qh_model.specs.StoredSurface.{StoredFacet, facet_at}
+use Rattle.qh_model.specs.StoredSurface.{StoredFacet}
 use Rattle.qh_mesh.specs.declared.facets.Side.{Side}
 use Rattle.qh_mesh.specs.declared.facets.FacetNo.{FacetNo}
-use Rattle.qh_mesh.specs.Nets.{after}
 use Rattle.qh_mesh.specs.Cells.{start_in, twin_in, live_in, IsSurface, AreLive, HasCone, AreJoined, Replaced, rim_from}
 use Rattle.qh_mesh.specs.Stored.{facets_of}
-use Rattle.qh_mesh.specs.Replacement.{number, at, sides_of, is_listed, horizon, IsLive, AreFacets, IsCone, IsKept, StaysFacet, IsReplacement, edge_start, edge_end, twin_of}
-use Rattle.qh_mesh.proofs.ListLemmas.{In, filter_from, sides_from, listed_at}
+use Rattle.qh_mesh.specs.Replacement.{number, at, sides_of, is_listed, horizon, IsLive, AreFacets, IsCone, IsKept, StaysFacet, IsReplacement, twin_of}
+use Rattle.qh_mesh.proofs.ListLemmas.{filter_from, sides_from, listed_at}
 use Rattle.qh_mesh.proofs.Replacing.{not_both, facet_live}
 use Rattle.qh_mesh.proofs.StoredSides.{stored_at, live_stored, is_stored}
 

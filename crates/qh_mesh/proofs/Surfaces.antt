@@ -6,9 +6,9 @@ use Rattle.qh_mesh.specs.declared.facets.FacetNo.{FacetNo}
 use Rattle.qh_mesh.specs.Nets.{after, IsNet}
 use Rattle.qh_mesh.specs.Cells.{cell, start_in, twin_in, live_in, seen_in, rim_of, rim_from, Marked, Replaced, HasCone, AreJoined, IsSurface, AreLive, Places, Cut, Ready, Rebuilt}
 use Rattle.qh_mesh.specs.Replacement.{at, number, is_listed}
-use Rattle.qh_mesh.proofs.Weaving.{by_le, live_inside}
-use Rattle.qh_mesh.proofs.ListLemmas.{listed_at, listed_find}
-use Rattle.qh_mesh.proofs.Replacing.{decide, not_both, seen_find, cut_is, facets_inside, facet_live}
+use Rattle.qh_mesh.proofs.Weaving.{by_le}
+use Rattle.qh_mesh.proofs.ListLemmas.{listed_find}
+use Rattle.qh_mesh.proofs.Replacing.{decide, not_both, seen_find, cut_is, facets_inside}
 use Rattle.qh_mesh.proofs.Finals.{seen_is, rim_is_horizon, Placed, Kind, kind, placed_apart, placed_fresh, placed_in}
 use Rattle.qh_mesh.proofs.Finals.Kind.{again, freed, fresh}
 

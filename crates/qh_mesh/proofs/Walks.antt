@@ -1,6 +1,6 @@
 -- Walks that can be walked back: they do not repeat, so they end; and two of them that meet began together.
-use Rattle.std.proofs.Common.{◌≡◌, ◌≢◌, ℕ, zero, suc, ◌+◌, ◌<◌, ◌≤◌, arith, ap, sym, ◌∙◌, refl, Bool, true, false, cond, eqb, ltb, ◌⊎◌, inl, inr, rules}
-use Rattle.std.proofs.lemmas.Bool.Decides.{eqb_tells, leb_tells}
+use Rattle.std.proofs.Common.{◌≡◌, ◌≢◌, ℕ, zero, suc, ◌<◌, ◌≤◌, arith, ap, sym, ◌∙◌, Bool, true, false, cond, eqb, ◌⊎◌, inl, inr}
+use Rattle.std.proofs.lemmas.Bool.Decides.{eqb_tells}
 use Rattle.qh_mesh.specs.Nets.{walk}
 
 -- one of two numbers, by whether the first is N

@@ -1,5 +1,5 @@
 -- The sides as they are kept.
-use Rattle.std.specs.Prelude.{nat_eq, ◌-◌, map, drop, ◌≡◌, ◌≢◌, ℕ, ◌+◌, ◌*◌, ◌/◌, ◌%◌, ◌<◌, ◌≤◌, List, [], ◌∷◌, ◌++◌, length, slice_index_or, Bool, true, false, not, filter, cond, ◌⊎◌}
+use Rattle.std.specs.Prelude.{◌-◌, ◌≡◌, ◌≢◌, ℕ, ◌+◌, ◌*◌, ◌/◌, ◌%◌, ◌<◌, ◌≤◌, List, [], ◌∷◌, length, slice_index_or, Bool, true, false, not, filter, ◌⊎◌}
 use Rattle.qh_mesh.specs.declared.facets.Side.{Side}
 use Rattle.qh_mesh.specs.declared.facets.FacetNo.{FacetNo}
 use Rattle.qh_mesh.specs.declared.facets.Spoke.{Spoke}

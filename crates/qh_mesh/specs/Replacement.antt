@@ -2,7 +2,7 @@
 -- Source: Barber, Dobkin and Huhdanpaa 1996 (the cone of new facets over the horizon).
 use Rattle.std.specs.Prelude.{◌≡◌, ◌≢◌, ℕ, ◌+◌, ◌*◌, ◌/◌, ◌%◌, ◌<◌, ◌⊎◌, List, [], ◌∷◌, length, slice_index_or, filter, not, Bool, true, false, cond, nat_eq}
 use Rattle.qh_model.specs.Simplex.{one_of, by_side}
-use Rattle.qh_model.specs.Surface.{Side, Surface, start, end}
+use Rattle.qh_model.specs.Surface.{Side, start, end}
 use Rattle.qh_model.specs.Surface.Side.{first, second, third}
 use Rattle.qh_model.specs.StoredSurface.{StoredFacet, facet_at, surface_of}
 use Rattle.qh_mesh.specs.declared.facets.FacetNo.{FacetNo}

@@ -1,5 +1,5 @@
 -- The sides that a mesh keeps, as the facets of a stored surface.
-use Rattle.std.specs.Prelude.{ℕ, List, [], ◌∷◌}
+use Rattle.std.specs.Prelude.{List, [], ◌∷◌}
 use Rattle.qh_model.specs.StoredSurface.{StoredFacet}
 use Rattle.qh_mesh.specs.declared.facets.Side.{Side}
 

@@ -1,7 +1,6 @@
-use Rattle.std.proofs.Common.{◌≡◌, ℕ, ◌+◌, ◌-◌, ◌*◌, ◌/◌, ◌<◌, ◌≤◌, length, take, refl, arith, ap, sym, ◌∙◌}
+use Rattle.std.proofs.Common.{◌≡◌, ◌-◌, ◌/◌, ◌<◌, ◌≤◌, length, take, arith, ap, ◌∙◌}
 use Rattle.std.specs.Prelude.{vec_len}
-use Rattle.qh_mesh.specs.Cells.{Places, cell}
-use Rattle.qh_mesh.specs.Replacement.{at, number}
+use Rattle.qh_mesh.specs.Replacement.{at}
 use Rattle.qh_mesh.proofs.Weaving.{by_le}
 use Rattle.qh_mesh.proofs.PlaceLemmas.{places_more, at_take, take_take}
 use Rattle.qh_mesh.proofs.cone.choose.Goals as goal

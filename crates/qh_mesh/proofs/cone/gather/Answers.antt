@@ -1,5 +1,4 @@
-use Rattle.std.proofs.Common.{◌≡◌, ℕ, ◌+◌, ◌*◌, ◌/◌, ◌<◌, ◌≤◌, length, refl, arith, ap, sym, ◌∙◌, true}
-use Rattle.qh_mesh.specs.Cells.{seen_in, twin_in}
+use Rattle.std.proofs.Common.{ℕ, ◌+◌, ◌*◌, ◌<◌, length, arith, ◌∙◌}
 use Rattle.qh_mesh.specs.Replacement.{number}
 use Rattle.qh_mesh.proofs.Weaving.{seen_inside}
 use Rattle.qh_mesh.proofs.RimLemmas.{rim_more}

@@ -1,6 +1,5 @@
-use Rattle.std.proofs.Common.{refl, ap, sym, ◌∙◌, arith, length, ◌+◌}
-use Rattle.qh_mesh.specs.Cells.{twin_in, start_in}
-use Rattle.qh_mesh.specs.Replacement.{at}
+use Rattle.std.proofs.Common.{refl, ap, ◌∙◌, length, ◌+◌}
+use Rattle.qh_mesh.specs.Cells.{start_in}
 use Rattle.std.proofs.lemmas.List.{length_push}
 use Rattle.qh_mesh.proofs.StepLemmas.{spokes_more}
 use Rattle.qh_mesh.proofs.cone.gather_spokes.Goals as goal

@@ -1,4 +1,4 @@
-use Rattle.std.proofs.Common.{ℕ, ◌≡◌, ◌<◌, ◌≤◌, ◌+◌, ◌-◌, length}
+use Rattle.std.proofs.Common.{ℕ, ◌≡◌, ◌<◌, ◌≤◌, ◌+◌, ◌-◌}
 use Rattle.std.specs.Prelude.{vec_len, vec_capacity}
 use Rattle.qh_mesh.specs.Cells.{Released}
 use Rattle.qh_mesh.specs.Replacement.{at, number}

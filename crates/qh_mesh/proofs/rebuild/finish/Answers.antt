@@ -1,7 +1,7 @@
-use Rattle.std.proofs.Common.{◌≡◌, ℕ, ◌+◌, ◌*◌, ◌%◌, ◌<◌, ◌≤◌, length, List, refl, arith, ap, sym, ◌∙◌, true, subst}
+use Rattle.std.proofs.Common.{ℕ, ◌<◌, length, List, arith, sym, subst}
 use Rattle.qh_mesh.specs.declared.facets.Spoke.{Spoke}
 use Rattle.qh_mesh.specs.Cells.{spoke_at, IsSpoke, seen_in}
-use Rattle.qh_mesh.specs.Replacement.{at, number}
+use Rattle.qh_mesh.specs.Replacement.{at}
 use Rattle.qh_mesh.proofs.Replacing.{outers_apart, tied_woven, tied_out}
 use Rattle.qh_mesh.proofs.Finals.{tied_is, ended_is, rebuilt_is, spoke_next, spoke_apart}
 use Rattle.qh_mesh.proofs.rebuild.finish.Goals as goal

@@ -1,4 +1,4 @@
-use Rattle.std.proofs.Common.{◌≡◌, ℕ, ◌+◌, ◌-◌, ◌*◌, ◌/◌, ◌<◌, ◌≤◌, length, List, refl, arith, ap, sym, ◌∙◌, subst, take}
+use Rattle.std.proofs.Common.{◌≡◌, ℕ, ◌+◌, ◌-◌, ◌/◌, length, List, arith, ap, sym, ◌∙◌, subst, take}
 use Rattle.std.specs.Prelude.{vec_len}
 use Rattle.std.proofs.lemmas.List.{length-take-le}
 use Rattle.qh_mesh.specs.declared.facets.Side.{Side}

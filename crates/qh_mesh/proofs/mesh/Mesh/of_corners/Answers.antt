@@ -1,6 +1,4 @@
-use Rattle.std.proofs.Common.{◌≡◌, ℕ, List, [], refl, ap, sym, ◌∙◌, subst, rules}
-use Rattle.qh_mesh.specs.declared.facets.Side.{Side}
-use Rattle.qh_mesh.specs.Cells.{IsSurface}
+use Rattle.std.proofs.Common.{◌≡◌, [], ◌∙◌}
 use Rattle.qh_mesh.proofs.Simplexes.{simplex_at}
 use Rattle.qh_mesh.proofs.mesh.Mesh.of_corners.Goals as goal
 

@@ -1,4 +1,4 @@
-use Rattle.std.proofs.Common.{◌≡◌, ℕ, ◌<◌, ◌+◌, ◌-◌, ◌*◌, max, ◌≤◌, ◌%◌, List, length, arith, refl, ap, sym, ◌∙◌, subst}
+use Rattle.std.proofs.Common.{◌≡◌, ℕ, ◌+◌, ◌-◌, ◌*◌, max, ◌%◌, List, length, ap, sym, ◌∙◌, subst}
 use Rattle.qh_model.specs.StoredSurface.{StoredFacet, surface_of}
 use Rattle.qh_mesh.proofs.PlaceCounts.{places_are}
 use Rattle.qh_mesh.specs.declared.facets.Side.{Side}

@@ -1,12 +1,9 @@
-use Rattle.std.proofs.Common.{◌≡◌, ℕ, List, ap, sym, ◌∙◌, subst, arith}
-use Rattle.std.specs.Prelude.{ℤ, pos, ◌<ℤ◌, ◌≤ℤ◌}
-use Rattle.std.proofs.lemmas.Int.{ints}
+use Rattle.std.proofs.Common.{List, sym, subst}
 use Rattle.std.proofs.lemmas.Result.{IfOk-weaker}
-use Rattle.qh_model.specs.Vector.{Vector}
-use Rattle.qh_model.specs.Predicates.{vol, place}
+use Rattle.qh_model.specs.Predicates.{place}
 use Rattle.qh_model.specs.FinishedSurface.{middle_at}
 use Rattle.qh_model.specs.StoredSurface.{StoredFacet}
-use Rattle.qh_mesh.specs.SoundMesh.{IsSoundMesh, IsClosedMesh, simplex_facets}
+use Rattle.qh_mesh.specs.SoundMesh.{IsSoundMesh, IsClosedMesh}
 use Rattle.qh_mesh.proofs.SoundMeshes.{turned_is_sound, simplex_is_sound, turned_is_closed, simplex_is_closed, below_zero}
 use Rattle.qh_mesh.proofs.Replacing.{not_both}
 use Rattle.qh_mesh.proofs.mesh.Mesh.simplex.Goals as goal
