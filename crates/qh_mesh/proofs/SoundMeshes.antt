@@ -1,0 +1,156 @@
+-- Meshes that are sound: the simplex, what a step leaves, and that both close up.
+use Rattle.std.proofs.Common.{◌≡◌, ◌≢◌, ℕ, ◌/◌, arith, ap, sym, ◌∙◌, refl, true, false, ◌⊎◌, inl, inr, List, [], ◌∷◌, subst}
+use Rattle.std.specs.Prelude.{ℤ, pos, ◌+ℤ◌, ◌<ℤ◌, ◌≤ℤ◌, neg_ℤ}
+use Rattle.std.proofs.lemmas.Int.{ints, by_lt_z}
+use Rattle.qh_model.specs.Vector.{Vector}
+use Rattle.qh_model.specs.Predicates.{vol}
+use Rattle.qh_model.specs.Sets.{In}
+use Rattle.qh_model.specs.Weighted.{Weighted, weighted, above, middle_of}
+use Rattle.qh_model.specs.FinishedSurface.{weighted_at, middle_at}
+use Rattle.qh_model.specs.Surface.{Surface, start, end, IsCorner, IsWhole, rise}
+use Rattle.qh_model.specs.SoundSurface.{IsSound, drawn}
+use Rattle.qh_model.specs.Simplex.{simplex_surface}
+use Rattle.qh_model.specs.Rewired.{KeepsCorners}
+use Rattle.qh_model.specs.StoredSurface.{StoredFacet, surface_of}
+use Rattle.qh_model.specs.ClosedSurface.{signed_volume, triples_of, triples_from}
+use Rattle.qh_model.proofs.surfaces.Stored.{live_is_listed_once}
+use Rattle.qh_model.proofs.surfaces.SurfaceLaws.{rise_is_vol}
+use Rattle.qh_model.proofs.surfaces.Simplex.{simplex_sound}
+use Rattle.qh_model.proofs.surfaces.Rewired.{replace_keeps}
+use Rattle.qh_model.proofs.surfaces.Closed.{sound_is_closed, sound_has_volume}
+use Rattle.qh_model.proofs.algebra.VectorIdentities.{vol-flip, vol-turn}
+use Rattle.qh_mesh.specs.declared.facets.FacetNo.{FacetNo}
+use Rattle.qh_mesh.specs.Cells.{simplex_of}
+use Rattle.qh_mesh.specs.Replacement.{number, is_listed, IsLive, edge_start, edge_end, twin_of, HasTwins}
+use Rattle.qh_mesh.specs.SoundMesh.{facet_vol, IsSoundMesh, simplex_facets, IsClosedMesh}
+use Rattle.qh_mesh.proofs.Simplexes.{simplex_surface as simplex_kept}
+use Rattle.qh_mesh.proofs.StoredSides.{has_twins}
+use Rattle.qh_mesh.proofs.Replacing.{decide}
+use Rattle.qh_mesh.proofs.Rewiring.{edge_of, edge-facet, start-is, end-is, twin_at, twin-is, over-is, back-is, live_in, in_live, IsStep, rewired}
+
+-- ---- whole
+-- facets with twins are a whole surface
+pub whole_of : (fs : List StoredFacet) → HasTwins fs → IsWhole (surface_of fs)
+whole_of fs t f i s = record {
+  live = in_live fs ((surface_of fs).over f s) (subst (IsLive fs) (sym over-twin) (t.live (edge_of f s) l));
+  start_is = (λ k. start (surface_of fs) (over-is fs f s k) (back-is fs f s k)) ∙ ap (edge_start fs) (sym (twin-is fs f s)) ∙ t.starts (edge_of f s) l ∙ end-is fs f s;
+  end_is = (λ k. end (surface_of fs) (over-is fs f s k) (back-is fs f s k)) ∙ ap (edge_end fs) (sym (twin-is fs f s)) ∙ t.ends (edge_of f s) l ∙ start-is fs f s;
+  returns =
+      over-is fs ((surface_of fs).over f s) ((surface_of fs).back f s) ∙ ap (λ v. v / 3) ((λ k. twin_at fs (over-is fs f s k) (back-is fs f s k)) ∙ ap (twin_of fs) (sym (twin-is fs f s)) ∙ t.back (edge_of f s) l)
+      ∙ edge-facet f s;
+}
+  where
+    l : IsLive fs (edge_of f s / 3)
+    l = subst (IsLive fs) (sym (edge-facet f s)) (live_in fs f i)
+
+    over-twin : (surface_of fs).over f s ≡ twin_of fs (edge_of f s) / 3
+    over-twin = over-is fs f s ∙ ap (λ v. v / 3) (sym (twin-is fs f s))
+
+-- ---- sound
+-- a surface whose facets have the corners of a sound one's is sound
+rise-same : (m m' : Surface) (at : ℕ → Weighted) (f : ℕ) (y : Weighted) → KeepsCorners m' m f → rise m at f y ≡ rise m' at f y
+rise-same m m' at f y k = λ i. above (at (k.i_is i)) (at (k.j_is i)) (at (k.k_is i)) y
+
+corner_to : (m m' : Surface) (f l : ℕ) → KeepsCorners m' m f → IsCorner m' f l → IsCorner m f l
+corner_to m m' f l k (inl e) = inl (e ∙ sym k.i_is)
+corner_to m m' f l k (inr (inl e)) = inr (inl (e ∙ sym k.j_is))
+corner_to m m' f l k (inr (inr e)) = inr (inr (e ∙ sym k.k_is))
+
+corner_from : (m m' : Surface) (f l : ℕ) → KeepsCorners m' m f → IsCorner m f l → IsCorner m' f l
+corner_from m m' f l k (inl e) = inl (e ∙ k.i_is)
+corner_from m m' f l k (inr (inl e)) = inr (inl (e ∙ k.j_is))
+corner_from m m' f l k (inr (inr e)) = inr (inr (e ∙ k.k_is))
+
+sound_as : (m m' : Surface) (home : ℕ → Weighted) (o : Weighted) → ((f : ℕ) → In f m'.live → KeepsCorners m' m f) → IsSound m home o → IsSound m' home o
+sound_as m m' home o k z = record {
+  inner = λ f i. subst (λ v. v <ℤ pos 0) (rise-same m m' home f o (k f i)) (z.inner f (k f i).live);
+  distinct = λ f g i j c. z.distinct f g (k f i).live (k g j).live (λ l d. corner_to m m' g l (k g j) (c l (corner_from m m' f l (k f i) d)));
+  lifted = record {
+    h = z.lifted.h;
+    from = z.lifted.from;
+    strict = λ n e f g i j l c u.
+        subst (λ v. v <ℤ pos 0) (rise-same m m' (drawn home o z.lifted.h n) f (drawn home o z.lifted.h n l) (k f i))
+        (z.lifted.strict n e f g (k f i).live (k g j).live l (corner_to m m' g l (k g j) c) (λ d. u (corner_from m m' f l (k f i) d)));
+  };
+}
+
+-- ---- the simplex
+simplex_keeps : (a b c d f : ℕ) → In f (surface_of (simplex_facets a b c d)).live → KeepsCorners (surface_of (simplex_facets a b c d)) (simplex_surface a b c d) f
+simplex_keeps a b c d f (inl e) = subst (λ g. KeepsCorners (surface_of (simplex_facets a b c d)) (simplex_surface a b c d) g) (sym e) (record { live = inl refl; i_is = refl; j_is = refl; k_is = refl })
+simplex_keeps a b c d f (inr (inl e)) = subst (λ g. KeepsCorners (surface_of (simplex_facets a b c d)) (simplex_surface a b c d) g) (sym e) (record { live = inr (inl refl); i_is = refl; j_is = refl; k_is = refl })
+simplex_keeps a b c d f (inr (inr (inl e))) = subst (λ g. KeepsCorners (surface_of (simplex_facets a b c d)) (simplex_surface a b c d) g) (sym e) (record { live = inr (inr (inl refl)); i_is = refl; j_is = refl; k_is = refl })
+simplex_keeps a b c d f (inr (inr (inr (inl e)))) = subst (λ g. KeepsCorners (surface_of (simplex_facets a b c d)) (simplex_surface a b c d) g) (sym e) (record { live = inr (inr (inr (inl refl))); i_is = refl; j_is = refl; k_is = refl })
+simplex_keeps a b c d f (inr (inr (inr (inr e)))) = absurd e
+
+pub simplex_is_sound : (at : ℕ → Vector) (a b c d : ℕ) → vol (at a) (at b) (at c) (at d) <ℤ pos 0 → IsSoundMesh at (simplex_facets a b c d) (middle_at at a b c d)
+simplex_is_sound at a b c d h = (
+  whole_of (simplex_facets a b c d) (has_twins (simplex_of a b c d) [] (simplex_kept a b c d)),
+  sound_as (simplex_surface a b c d) (surface_of (simplex_facets a b c d)) (weighted_at at) (middle_at at a b c d) (simplex_keeps a b c d)
+      (simplex_sound (weighted_at at) a b c d (subst (λ v. v <ℤ pos 0) (sym (rise_is_vol (at a) (at b) (at c) (at d))) h)).1,
+)
+
+-- turned about
+vol-turned : (a b c d : Vector) → vol a c b d ≡ neg_ℤ (vol a b c d)
+vol-turned a b c d = vol-flip a c b d ∙ ap neg_ℤ (vol-turn c a b d)
+
+middle-turned : (a b c d : Weighted) → middle_of a c b d ≡ middle_of a b c d
+middle-turned a b c d = λ i. record { w = swap a.w b.w c.w d.w i; x = swap a.x b.x c.x d.x i; y = swap a.y b.y c.y d.y i; z = swap a.z b.z c.z d.z i }
+  where
+    swap : (p q r s : ℤ) → p +ℤ r +ℤ q +ℤ s ≡ p +ℤ q +ℤ r +ℤ s
+    swap p q r s = omega (arith, ints)
+
+pub turned_is_sound : (at : ℕ → Vector) (a b c d : ℕ) → pos 0 <ℤ vol (at a) (at b) (at c) (at d) → IsSoundMesh at (simplex_facets a c b d) (middle_at at a b c d)
+turned_is_sound at a b c d h =
+    subst (IsSoundMesh at (simplex_facets a c b d)) (middle-turned (weighted (at a)) (weighted (at b)) (weighted (at c)) (weighted (at d)))
+    (simplex_is_sound at a c b d (let e = vol-turned (at a) (at b) (at c) (at d) in omega (arith, ints)))
+
+-- ---- closed
+-- a sound mesh with a facet is closed
+pub closed_of : (at : ℕ → Vector) (fs : List StoredFacet) (s t u v f : ℕ) → IsLive fs f → IsSoundMesh at fs (middle_at at s t u v) → IsClosedMesh at fs
+closed_of at fs s t u v f l z = record {
+  surface = sound_is_closed at (surface_of fs) s t u v f (in_live fs f l) (live_is_listed_once fs) z.0 z.1;
+  volume = sound_has_volume at (surface_of fs) s t u v f (in_live fs f l) (live_is_listed_once fs) z.0 z.1;
+}
+
+-- ---- a step
+-- it keeps a mesh sound
+pub step_is_sound : (at : ℕ → Vector) (old new : List StoredFacet) (vs : List FacetNo) (p : ℕ) (made : List FacetNo) (o : Weighted) → IsStep at old new vs p made o → IsSoundMesh at new o
+step_is_sound at old new vs p made o d = replace_keeps (surface_of old) (surface_of new) (weighted_at at) o p d.sound.0 d.sound.1 (rewired at old new vs p made o d)
+
+-- facets that all see p have no volume below 0
+seen_volume : (at : ℕ → Vector) (m : Surface) (p : Vector) (fs : List ℕ) → ((f : ℕ) → In f fs → pos 0 <ℤ vol (at (m.i f)) (at (m.j f)) (at (m.k f)) p) → pos 0 ≤ℤ signed_volume at (triples_from m fs) p
+seen_volume at m p [] h = omega (arith, ints)
+seen_volume at m p (f ∷ fs) h = let a = h f (inl refl) in let b = seen_volume at m p fs (λ g i. h g (inr i)) in omega (arith, ints)
+
+-- so a step leaves a facet
+pub step_leaves : (at : ℕ → Vector) (old new : List StoredFacet) (vs : List FacetNo) (p : ℕ) (made : List FacetNo) (s t u v : ℕ) → IsStep at old new vs p made (middle_at at s t u v) → (f : ℕ) × IsLive new f
+step_leaves at old new vs p made s t u v d = by (surface_of new).live refl
+  where
+    all_seen : (surface_of new).live ≡ [] → (f : ℕ) → In f (surface_of old).live → pos 0 <ℤ facet_vol at old f (at p)
+    all_seen e f i = listed (decide (is_listed vs f))
+      where
+        listed : (is_listed vs f ≡ true) ⊎ (is_listed vs f ≡ false) → pos 0 <ℤ facet_vol at old f (at p)
+        listed (inl l) = d.visible.seen f (live_in old f i) l
+        listed (inr l) = absurd (subst (In f) e (in_live new f (d.replaced.kept f (record { live = live_in old f i; unlisted = l })).live))
+
+    never : (x : ℤ) → x <ℤ pos 0 → pos 0 ≤ℤ x → Prim.⊥
+    never x a b = omega (arith, ints)
+
+    by : (fs : List ℕ) → (surface_of new).live ≡ fs → (f : ℕ) × IsLive new f
+    by [] e = absurd (never (signed_volume at (triples_of (surface_of old)) (at p)) (sound_has_volume at (surface_of old) s t u v (number vs 0) (in_live old (number vs 0) (d.facets.live 0 d.visible.some)) (live_is_listed_once old) d.sound.0 d.sound.1 (at p)) (seen_volume at (surface_of old) (at p) (surface_of old).live (all_seen e)))
+    by (f ∷ fs) e = (f, live_in new f (subst (In f) (sym e) (inl refl)))
+
+-- and a closed mesh
+pub step_is_closed : (at : ℕ → Vector) (old new : List StoredFacet) (vs : List FacetNo) (p : ℕ) (made : List FacetNo) (s t u v : ℕ) → IsStep at old new vs p made (middle_at at s t u v) → IsClosedMesh at new
+step_is_closed at old new vs p made s t u v d = let f = step_leaves at old new vs p made s t u v d in closed_of at new s t u v f.0 f.1 (step_is_sound at old new vs p made (middle_at at s t u v) d)
+
+-- the simplex is closed
+pub simplex_is_closed : (at : ℕ → Vector) (a b c d : ℕ) → vol (at a) (at b) (at c) (at d) <ℤ pos 0 → IsClosedMesh at (simplex_facets a b c d)
+simplex_is_closed at a b c d h = closed_of at (simplex_facets a b c d) a b c d 0 refl (simplex_is_sound at a b c d h)
+
+pub turned_is_closed : (at : ℕ → Vector) (a b c d : ℕ) → pos 0 <ℤ vol (at a) (at b) (at c) (at d) → IsClosedMesh at (simplex_facets a c b d)
+turned_is_closed at a b c d h = closed_of at (simplex_facets a c b d) a b c d 0 refl (turned_is_sound at a b c d h)
+
+-- a whole number that is neither 0 nor above
+pub below_zero : (x : ℤ) → x ≢ pos 0 → (pos 0 <ℤ x → Prim.⊥) → x <ℤ pos 0
+below_zero x n l = by_lt_z (pos 0) x (λ h. absurd (l h)) (λ h. omega (arith, ints))

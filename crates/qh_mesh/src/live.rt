@@ -1,0 +1,69 @@
+//! The walk over the live facets.
+ghost use Rattle.std.specs.Prelude.{◌≡◌, ◌<◌, ◌≤◌, length};
+ghost use Rattle.std.specs.Iterator.{YieldsFirst, item_count};
+ghost use Rattle.qh_mesh.specs.LiveNumbers.{live_after, numbers};
+ghost use Rattle.qh_model.specs.StoredSurface.{surface_of};
+ghost use Rattle.qh_mesh.specs.Replacement.{IsLive};
+
+use crate::facets::FacetNo;
+use crate::mesh::Mesh;
+use std::marker::Model;
+
+/// The numbers of the live facets that are left, rising. From [`Mesh::live`].
+#[derive(Drop)]
+pub struct Live<'a> {
+    mesh: &'a Mesh,
+    next: usize,
+}
+
+impl<'a> Model for Live<'a> {
+    ghost use Rattle.std.specs.Prelude.{List};
+    ghost use Rattle.qh_mesh.specs.declared.facets.FacetNo.{FacetNo};
+    ghost use Rattle.qh_mesh.specs.LiveNumbers.{numbers, live_after};
+
+    ghost Value = { List FacetNo };
+
+    ghost view = { λ l. numbers (live_after l.mesh.now l.next) };
+}
+
+/// The first live facet from a number on, or the number of places.
+fn first_live(mesh: &Mesh, from: usize) -> usize
+    ensures same { live_after mesh.now from ≡ live_after mesh.now result }
+    ensures live { result < length mesh.now → IsLive mesh.now result }
+    ensures end { result ≤ length mesh.now }
+{
+    for f in from..mesh.places() {
+        if mesh.is_live(FacetNo(f)) {
+            return f;
+        }
+    }
+    mesh.places()
+}
+
+impl<'a> Live<'a> {
+    /// All live facets of a mesh.
+    pub(crate) fn of(mesh: &'a Mesh) -> Live<'a>
+        ensures { result ≡ numbers (surface_of mesh.now).live }
+    {
+        Live { mesh, next: 0 }
+    }
+}
+
+impl<'a> Iterator for Live<'a> {
+    type Item = FacetNo;
+
+    ghost next_gives = { YieldsFirst (λ rest. rest) };
+
+    ghost remaining = { item_count (λ rest. rest) };
+
+    fn next(&mut self) -> Option<FacetNo> {
+        let f = first_live(self.mesh, self.next);
+        if f < self.mesh.places() {
+            self.next = f + 1;
+            Some(FacetNo(f))
+        } else {
+            self.next = f;
+            None
+        }
+    }
+}

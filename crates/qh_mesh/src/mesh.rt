@@ -1,0 +1,281 @@
+//! The mesh, its questions, and how it is made and grows.
+ghost use Rattle.std.specs.Prelude.{◌≡◌, ◌↔◌, IsTrue, ◌≢◌, ◌+◌, ◌*◌, ◌-◌, ◌/◌, ◌≤◌, ◌<◌, length, max, vec_len, vec_capacity, OnOk, OnErr, IfOk, true, false, pos, [], ◌∷◌, ℕ, ◌<ℤ◌};
+ghost use Rattle.qh_model.specs.Predicates.{vol, place};
+ghost use Rattle.qh_model.specs.Vector.{Vector};
+ghost use Rattle.qh_model.specs.Weighted.{Weighted};
+ghost use Rattle.qh_model.specs.FinishedSurface.{weighted_at, middle_at};
+ghost use Rattle.qh_model.specs.StoredSurface.{facet_at, surface_of};
+ghost use Rattle.qh_mesh.specs.Cells.{simplex_of};
+ghost use Rattle.qh_mesh.specs.Replacement.{IsLive, AreFacets, IsReplacement, edge_start, edge_end, twin_of};
+ghost use Rattle.qh_mesh.specs.LiveNumbers.{numbers};
+ghost use Rattle.qh_mesh.specs.SoundMesh.{simplex_facets, IsSoundMesh, IsClosedMesh, AreVisible};
+ghost use Rattle.qh_model.specs.Rewired.{IsRewired};
+
+use crate::facets::{EdgeNo, FacetNo, Side, Spoke};
+use crate::live::Live;
+use crate::rebuild::rebuild;
+use crate::sides::{corners, ends};
+use qh_model::{Id, Memory, Point};
+use qh_pred::{point_at, vol};
+use std::alloc::{AllocError, Global};
+use std::marker::Model;
+
+/// A closed surface of triangles, each counterclockwise seen from outside.
+///
+/// A contract sees it as the list of its places.
+#[derive(Drop)]
+pub struct Mesh {
+    /// Three a facet.
+    sides: Vec<Side>,
+    /// The places of no facet.
+    free: Vec<usize>,
+    /// Room for the horizon of a replacement.
+    rim: Vec<usize>,
+    /// Room for the facets of its cone.
+    spokes: Vec<Spoke>,
+}
+
+impl Model for Mesh {
+    ghost use Rattle.std.specs.Prelude.{List};
+    ghost use Rattle.qh_model.specs.StoredSurface.{StoredFacet};
+    ghost use Rattle.qh_mesh.specs.Stored.{facets_of};
+    ghost use Rattle.qh_mesh.specs.Cells.{IsSurface};
+
+    ghost Value = { List StoredFacet };
+
+    ghost view = { λ m. facets_of m.sides.items };
+
+    ghost invariant = { λ m. IsSurface m.sides.items m.free.items };
+}
+
+/// Whether the triangle a b c strictly sees d.
+fn sees(pts: &[Point], a: Id, b: Id, c: Id, d: Id) -> bool
+    requires a_in { a < length pts.now }
+    requires b_in { b < length pts.now }
+    requires c_in { c < length pts.now }
+    requires d_in { d < length pts.now }
+    ensures { IsTrue result ↔ (pos 0 <ℤ vol (place pts.now a) (place pts.now b) (place pts.now c) (place pts.now d)) }
+{
+    vol(
+        point_at(pts, a),
+        point_at(pts, b),
+        point_at(pts, c),
+        point_at(pts, d),
+    ) > 0
+}
+
+/// A side of a live facet.
+fn side(start: u32, twin: usize) -> Side
+    ensures { result ≡ record { start = start; live = true; seen = false; twin = twin } }
+{
+    Side {
+        start,
+        live: true,
+        seen: false,
+        twin,
+    }
+}
+
+/// The sides of the facets a b c, a d b, a c d and b d c.
+fn four(a: u32, b: u32, c: u32, d: u32) -> [Side; 12]
+    ensures { result ≡ simplex_of a b c d }
+{
+    [
+        side(a, 5),
+        side(b, 11),
+        side(c, 6),
+        side(a, 8),
+        side(d, 9),
+        side(b, 0),
+        side(a, 2),
+        side(c, 10),
+        side(d, 3),
+        side(b, 4),
+        side(d, 7),
+        side(c, 1),
+    ]
+}
+
+/// Makes room for what a replacement of so many facets can need.
+fn make_room(
+    sides: &mut Vec<Side>,
+    free: &mut Vec<usize>,
+    rim: &mut Vec<usize>,
+    spokes: &mut Vec<Spoke>,
+    count: usize,
+) -> Result<(), AllocError>
+    ensures sides { sides.new.items ≡ sides.old.items }
+    ensures free { free.new.items ≡ free.old.items }
+    ensures rim { vec_len rim.new ≡ 0 }
+    ensures spokes { vec_len spokes.new ≡ 0 }
+    ensures rim_room { OnOk result (3 * count ≤ vec_capacity rim.new) }
+    ensures spokes_room { OnOk result (3 * count ≤ vec_capacity spokes.new) }
+    ensures free_room { OnOk result (vec_len free.new + count ≤ vec_capacity free.new) }
+    ensures spare { OnOk result (vec_len sides.new + 3 * (2 * count - vec_len free.new) ≤ vec_capacity sides.new) }
+{
+    rim.clear();
+    spokes.clear();
+    let Some(most) = count.checked_mul(6) else {
+        return Err(AllocError);
+    };
+    let free_len = free.len();
+    rim.reserve(most / 2)?;
+    spokes.reserve(most / 2)?;
+    free.reserve(count)?;
+    sides.reserve(3 * (2 * count).saturating_sub(free_len))?;
+    Ok(())
+}
+
+impl Mesh {
+    /// The four triangles of the points a, b, c and d, turned outward.
+    ///
+    /// `Err` says that memory was refused.
+    pub fn simplex(alloc: Global, pts: &[Point], a: Id, b: Id, c: Id, d: Id) -> Result<Mesh, Memory>
+        requires a_in { a < length pts.now }
+        requires b_in { b < length pts.now }
+        requires c_in { c < length pts.now }
+        requires d_in { d < length pts.now }
+        requires volume { vol (place pts.now a) (place pts.now b) (place pts.now c) (place pts.now d) ≢ pos 0 }
+        ensures up { pos 0 <ℤ vol (place pts.now a) (place pts.now b) (place pts.now c) (place pts.now d)
+            → IfOk result (λ m. m ≡ simplex_facets a c b d) }
+        ensures down { vol (place pts.now a) (place pts.now b) (place pts.now c) (place pts.now d) <ℤ pos 0
+            → IfOk result (λ m. m ≡ simplex_facets a b c d) }
+        ensures sound { IfOk result (λ m. IsSoundMesh (place pts.now) m (middle_at (place pts.now) a b c d)) }
+        ensures closed { IfOk result (λ m. IsClosedMesh (place pts.now) m) }
+    {
+        if sees(pts, a, b, c, d) {
+            Mesh::of_corners(alloc, a, c, b, d)
+        } else {
+            Mesh::of_corners(alloc, a, b, c, d)
+        }
+    }
+
+    /// The triangles a b c, a d b, a c d and b d c.
+    fn of_corners(alloc: Global, a: Id, b: Id, c: Id, d: Id) -> Result<Mesh, Memory>
+        ensures { IfOk result (λ m. m ≡ simplex_facets a b c d) }
+    {
+        let corners = four(a.number(), b.number(), c.number(), d.number());
+        let Ok(sides) = Vec::from_slice(alloc, &corners) else {
+            return Err(Memory);
+        };
+        Ok(Mesh {
+            sides,
+            free: Vec::new(alloc),
+            rim: Vec::new(alloc),
+            spokes: Vec::new(alloc),
+        })
+    }
+
+    /// The number of places, free ones with them: facet numbers are below it.
+    pub fn places(&self) -> usize
+        ensures { result ≡ length self.now }
+    {
+        self.sides.len() / 3
+    }
+
+    /// The live facets, each once, by rising numbers.
+    pub fn live(&self) -> Live<'_>
+        ensures { result ≡ numbers (surface_of self.now).live }
+    {
+        Live::of(self)
+    }
+
+    /// Whether the place, below [`Mesh::places`], is that of a facet.
+    pub(crate) fn is_live(&self, f: FacetNo) -> bool
+        requires { f.0 < length self.now }
+        ensures { result ≡ (facet_at self.now f.0).live }
+    {
+        self.sides[3 * f.0].live
+    }
+
+    /// The corners of a live facet, counterclockwise seen from outside.
+    pub fn facet(&self, f: FacetNo) -> [Id; 3]
+        requires { IsLive self.now f.0 }
+        ensures { result ≡ (facet_at self.now f.0).i ∷ (facet_at self.now f.0).j ∷ (facet_at self.now f.0).k ∷ [] }
+    {
+        corners(self.sides.as_slice(), f.0)
+    }
+
+    /// The edge of a live facet that starts at its corner `side`, which is 0, 1 or 2.
+    pub fn edge(&self, f: FacetNo, side: usize) -> EdgeNo
+        requires facet { IsLive self.now f.0 }
+        requires side { side < 3 }
+        ensures { result.0 ≡ 3 * f.0 + side }
+    {
+        let _ = &self.sides;
+        EdgeNo(3 * f.0 + side)
+    }
+
+    /// The ids at which an edge of a live facet starts and ends.
+    pub fn ends(&self, e: EdgeNo) -> (Id, Id)
+        requires { IsLive self.now (e.0 / 3) }
+        ensures from { result.0 ≡ edge_start self.now e.0 }
+        ensures to { result.1 ≡ edge_end self.now e.0 }
+    {
+        ends(self.sides.as_slice(), e.0)
+    }
+
+    /// The edge of the neighbour that runs against an edge of a live facet.
+    pub fn twin(&self, e: EdgeNo) -> EdgeNo
+        requires { IsLive self.now (e.0 / 3) }
+        ensures twin { result.0 ≡ twin_of self.now e.0 }
+        ensures live { IsLive self.now (result.0 / 3) }
+        ensures back { twin_of self.now result.0 ≡ e.0 }
+        ensures starts { edge_start self.now result.0 ≡ edge_end self.now e.0 }
+        ensures ends { edge_end self.now result.0 ≡ edge_start self.now e.0 }
+    {
+        EdgeNo(self.sides[e.0].twin)
+    }
+
+    /// Takes the visible facets away and puts the cone from the apex over their horizon. Its facets are
+    /// listed in the order of the horizon: the visible facets as listed, of each the sides 0, 1 and 2
+    /// across which a facet stays.
+    ///
+    /// `Err` says that memory was refused: the mesh is as before.
+    pub fn replace(
+        &mut self,
+        alloc: Global,
+        pts: &[Point],
+        visible: &[FacetNo],
+        apex: Id,
+    ) -> Result<Vec<FacetNo>, Memory>
+        requires { AreFacets self.old visible.now }
+        ensures replaced { IfOk result (λ made. IsReplacement self.old self.new visible.now apex made.items) }
+        ensures rewired { IfOk result (λ _. (o : Weighted)
+            → IsSoundMesh (place pts.now) self.old o → AreVisible (place pts.now) self.old visible.now apex
+            → IsRewired (surface_of self.old) (surface_of self.new) (weighted_at (place pts.now)) apex) }
+        ensures sound { IfOk result (λ _. (o : Weighted)
+            → IsSoundMesh (place pts.now) self.old o → AreVisible (place pts.now) self.old visible.now apex
+            → IsSoundMesh (place pts.now) self.new o) }
+        ensures closed { IfOk result (λ _. (s t u v : ℕ)
+            → IsSoundMesh (place pts.now) self.old (middle_at (place pts.now) s t u v) → AreVisible (place pts.now) self.old visible.now apex
+            → IsClosedMesh (place pts.now) self.new) }
+        ensures places { IfOk result (λ _. length self.new ≡ max (length self.old) (length (surface_of self.new).live)) }
+        ensures memory { OnErr result (self.new ≡ self.old) }
+    {
+        let _ = pts;
+        let count = visible.len();
+        let Ok(()) = make_room(
+            &mut self.sides,
+            &mut self.free,
+            &mut self.rim,
+            &mut self.spokes,
+            count,
+        ) else {
+            return Err(Memory);
+        };
+        let Ok(mut made) = Vec::with_capacity(alloc, 3 * count) else {
+            return Err(Memory);
+        };
+        rebuild(
+            &mut self.sides,
+            &mut self.free,
+            &mut self.rim,
+            &mut self.spokes,
+            &mut made,
+            visible,
+            apex.number(),
+        );
+        Ok(made)
+    }
+}

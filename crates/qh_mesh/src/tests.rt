@@ -1,0 +1,142 @@
+//! The mesh of seven points, step by step.
+ghost use Rattle.std.specs.Prelude.{IfOk, length, ◌<◌};
+ghost use Rattle.qh_mesh.specs.Replacement.{AreFacets};
+
+use crate::{FacetNo, Mesh};
+use qh_model::{Id, Point};
+use qh_pred::vol;
+use std::alloc::{AllocError, Global};
+use std::test::Fail;
+
+/// A triangle as its ids, written from the least.
+type Triangle = (u32, u32, u32);
+
+/// The triangle of a place, or none.
+fn triangle(mesh: &Mesh, f: FacetNo) -> Option<Triangle> {
+    if f.0 >= mesh.places() || !mesh.is_live(f) {
+        return None;
+    }
+    let [a, b, c] = mesh.facet(f);
+    let (a, b, c) = (a.number(), b.number(), c.number());
+    if a < b && a < c {
+        Some((a, b, c))
+    } else if b < c {
+        Some((b, c, a))
+    } else {
+        Some((c, a, b))
+    }
+}
+
+/// Whether the triangle of a place strictly sees a point.
+fn sees(mesh: &Mesh, pts: &[Point], f: FacetNo, apex: u32) -> bool {
+    let Some((a, b, c)) = triangle(mesh, f) else {
+        return false;
+    };
+    match (
+        pts.get(a as usize),
+        pts.get(b as usize),
+        pts.get(c as usize),
+        pts.get(apex as usize),
+    ) {
+        (Some(a), Some(b), Some(c), Some(p)) => vol(*a, *b, *c, *p) > 0,
+        _ => false,
+    }
+}
+
+/// The facets that a point sees.
+#[tactic(auto, using(crate::proofs::FacetLists::none_below, crate::proofs::FacetLists::more_below, crate::proofs::FacetLists::push_below))]
+fn seen_by(alloc: Global, mesh: &Mesh, pts: &[Point], apex: u32) -> Result<Vec<FacetNo>, AllocError>
+    ensures { IfOk result (λ list. AreFacets mesh.now list.items) }
+{
+    let mut list = Vec::new(alloc);
+    for f in 0..mesh.places() {
+        if mesh.is_live(FacetNo(f)) && sees(mesh, pts, FacetNo(f), apex) {
+            list.push(FacetNo(f))?;
+        }
+    }
+    Ok(list)
+}
+
+/// The triangles of a list, sorted.
+fn triangles(alloc: Global, mesh: &Mesh, list: &[FacetNo]) -> Result<Vec<Triangle>, AllocError> {
+    let mut out = Vec::new(alloc);
+    for f in list {
+        if let Some(t) = triangle(mesh, *f) {
+            out.push(t)?;
+        }
+    }
+    out.sort()?;
+    Ok(out)
+}
+
+/// The live facets.
+fn live(alloc: Global, mesh: &Mesh) -> Result<Vec<FacetNo>, AllocError> {
+    let mut out = Vec::new(alloc);
+    for f in mesh.live() {
+        out.push(f)?;
+    }
+    Ok(out)
+}
+
+/// Whether the twin of each side of a facet runs against it and has it as its twin.
+fn has_twins(mesh: &Mesh, f: FacetNo) -> bool {
+    for side in 0..3 {
+        if f.0 >= mesh.places() || !mesh.is_live(f) {
+            return false;
+        }
+        let e = mesh.edge(f, side);
+        let t = mesh.twin(e);
+        let (u, v) = mesh.ends(e);
+        let (x, y) = mesh.ends(t);
+        if mesh.twin(t) != e || u != y || v != x {
+            return false;
+        }
+    }
+    true
+}
+
+#[test]
+fn replaces(rt: HostRuntime) -> Result<(), Fail> {
+    let alloc = rt.alloc();
+    let pts = [
+        Point::new(0, 0, 0),
+        Point::new(1, 0, 0),
+        Point::new(0, 1, 0),
+        Point::new(0, 0, 1),
+        Point::new(1, 1, 1),
+        Point::new(3, 1, 1),
+        Point::new(100, 100, 100),
+    ];
+    let mut mesh = Mesh::simplex(alloc, &pts, Id::new(0), Id::new(1), Id::new(2), Id::new(3))?;
+    let first = live(alloc, &mesh)?;
+    assert_eq!(rt;
+        triangles(alloc, &mesh, first.as_slice())?.as_slice(),
+        [(0, 1, 3), (0, 2, 1), (0, 3, 2), (1, 2, 3)].as_slice()
+    );
+    assert_eq!(rt; mesh.places(), 4usize);
+    for (apex, want, count, places) in [
+        (
+            4,
+            [(1, 2, 4), (1, 4, 3), (2, 3, 4), (0, 0, 0)],
+            3usize,
+            6usize,
+        ),
+        (5, [(1, 2, 5), (1, 5, 3), (2, 4, 5), (3, 5, 4)], 4, 8),
+        (6, [(2, 3, 6), (2, 6, 5), (3, 5, 6), (0, 0, 0)], 3, 8),
+    ] {
+        let visible = seen_by(alloc, &mesh, &pts, apex)?;
+        let made = mesh.replace(alloc, &pts, visible.as_slice(), Id::new(apex))?;
+        assert_eq!(rt;
+            triangles(alloc, &mesh, made.as_slice())?.as_slice(),
+            &want[..count],
+            "{apex}"
+        );
+        let all = live(alloc, &mesh)?;
+        assert_eq!(rt; all.len(), places, "{apex}");
+        assert_eq!(rt; mesh.places(), places, "{apex}");
+        for f in &all {
+            assert!(rt; has_twins(&mesh, *f), "{apex}");
+        }
+    }
+    Ok(())
+}
