@@ -1,0 +1,23 @@
+#!/bin/sh
+# Runs the built program on devices that fail, and says what it answered. By hand, from the top of the repository.
+set -u
+program=crates/qconvex/out/qconvex
+status() {
+    want=$1
+    shift
+    "$@" 2>/tmp/qconvex-devices.$$
+    got=$?
+    line=$(cat /tmp/qconvex-devices.$$)
+    rm -f /tmp/qconvex-devices.$$
+    if [ "$got" -eq "$want" ]; then echo "ok: status $got, '$line'"; else echo "WRONG: status $got, not $want, '$line'"; fi
+}
+full() { "$program" rank < examples/one-point.txt > /dev/full; }
+closed() { "$program" rank < examples/one-point.txt >&-; }
+folder() { "$program" rank < examples; }
+usage() { "$program" --workers 0 < /dev/null; }
+short() { "$program" off < examples/short-file.txt; }
+status 4 full
+status 4 closed
+status 4 folder
+status 2 usage
+status 1 short
