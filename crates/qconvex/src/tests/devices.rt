@@ -56,3 +56,39 @@ fn a_failing_sink_has_a_beginning(rt: HostRuntime) -> Result<(), Fail> {
     }
     Ok(())
 }
+
+#[test]
+fn the_worked_failures(rt: HostRuntime) -> Result<(), Fail> {
+    let alloc = rt.alloc();
+    let Ok(settings) = settings(alloc, "off")? else {
+        return Err("the line is a command line".into());
+    };
+    let plan = SinkPlan {
+        greatest_piece: 100,
+        room: 7,
+        failing_write: None,
+        flush_fails: false,
+    };
+    let mut source = MemSource::new(b"3\n1\n5 5 5\n");
+    let mut full = FailSink::new(alloc, plan);
+    let outcome = serve(&rt, alloc, &mut source, &mut full, &settings);
+    assert_eq!(rt; outcome, Err(Fault::Send));
+    assert_eq!(rt; full.bytes(), b"OFF\n1 1".as_slice());
+    let mut source = MemSource::new(b"3\n1\n5 5 5\n");
+    let stuck = SinkPlan {
+        room: 100,
+        flush_fails: true,
+        ..plan
+    };
+    let mut unflushed = FailSink::new(alloc, stuck);
+    let outcome = serve(&rt, alloc, &mut source, &mut unflushed, &settings);
+    assert_eq!(rt; outcome, Err(Fault::Send));
+    assert_eq!(rt; unflushed.bytes(), b"OFF\n1 1 0\n5 5 5\n1 0\n".as_slice());
+    // The first read gives 4 bytes, the second fails.
+    let mut source = FailSource::new(TETRAHEDRON.as_bytes(), 4, Some(2));
+    let mut sink = MemSink::new(alloc);
+    let outcome = serve(&rt, alloc, &mut source, &mut sink, &settings);
+    assert_eq!(rt; outcome, Err(Fault::Read(ReadFault::Device)));
+    assert!(rt; sink.bytes().is_empty());
+    Ok(())
+}
