@@ -2,13 +2,12 @@
 # Runs the built program on devices that fail, and says what it answered. By hand, from the top of the repository.
 set -u
 program=crates/qconvex/out/qconvex
+# The fault line is kept and what stands on standard output is dropped; a device of the run itself stays as it is.
 status() {
     want=$1
     shift
-    "$@" 2>/tmp/qconvex-devices.$$
+    line=$("$@" 2>&1 >/dev/null)
     got=$?
-    line=$(cat /tmp/qconvex-devices.$$)
-    rm -f /tmp/qconvex-devices.$$
     if [ "$got" -eq "$want" ]; then echo "ok: status $got, '$line'"; else echo "WRONG: status $got, not $want, '$line'"; fi
 }
 full() { "$program" rank < examples/one-point.txt > /dev/full; }
