@@ -8,5 +8,6 @@ pub mod surfaces
 pub mod closed_surfaces
 pub mod polygons
 pub mod hulls
+pub mod Cuts
 pub mod ReadingLaws
 pub mod Examples

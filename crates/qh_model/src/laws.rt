@@ -5,6 +5,7 @@
 mod closed_surfaces;
 mod combinations;
 mod completeness;
+mod cuts;
 mod extremes;
 mod hulls;
 mod polygons;
@@ -14,6 +15,7 @@ mod surfaces;
 pub use closed_surfaces::{closed_surface_encloses, sound_surface_closes};
 pub use combinations::combination_or_separator;
 pub use completeness::{finished_surface_is_hull, nothing_is_missed};
+pub use cuts::blocks_share_positions;
 pub use extremes::{
     extremes_of_faces, greatest_is_extreme, members_are_combinations, planes_of_extremes,
     union_extremes,

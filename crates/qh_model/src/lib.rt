@@ -5,13 +5,17 @@
 //! functions of [`laws`] prove what follows from them alone.
 #![tactic(auto)]
 
+mod cut;
 mod hull;
 pub mod laws;
 mod limits;
 mod memory;
 mod point;
+#[cfg(test)]
+mod tests;
 
+pub use cut::{Cut, CutError};
 pub use hull::{Body, Hull, Polygon};
-pub use limits::{BYTE_LIMIT, COORDINATE_LIMIT, POINT_LIMIT};
+pub use limits::{BLOCK_LIMIT, BYTE_LIMIT, COORDINATE_LIMIT, POINT_LIMIT};
 pub use memory::Memory;
 pub use point::{Id, Point};

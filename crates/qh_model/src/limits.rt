@@ -8,3 +8,6 @@ pub const POINT_LIMIT: u32 = 1048576;
 
 /// The greatest length of an input in bytes.
 pub const BYTE_LIMIT: u32 = 268435456;
+
+/// The greatest number of blocks of a cut.
+pub const BLOCK_LIMIT: u32 = 65536;

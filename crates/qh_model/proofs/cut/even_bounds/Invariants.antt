@@ -1,0 +1,7 @@
+use Rattle.std.proofs.Common.{◌≡◌, ◌*◌, ◌<◌, length, ℕ}
+use Rattle.qh_model.specs.Cut.{bound}
+use Rattle.qh_model.proofs.cut.even_bounds.Given as goal
+
+-- the first bounds are the multiples of the size
+abbrev pub invariant-loop-block : goal.invariant-loop-block
+invariant-loop-block l = (length l.bounds.items ≡ l.block) × ((k : ℕ) → k < l.block → bound l.bounds.items k ≡ k * l.size)
