@@ -2,3 +2,4 @@
 pub mod Unique
 pub mod FlatSets
 pub mod OfExtremes
+pub mod SameSets

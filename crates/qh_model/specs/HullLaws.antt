@@ -44,6 +44,18 @@ abbrev pub BodyOfExtremes : Type 0
 BodyOfExtremes = (at : ℕ → Vector) (ids : List ℕ) (b : BodyValue) → HasDistinctPoints at (Members ids)
     → IsBody at (Extreme at (Members ids)) b ↔ IsBody at (Members ids) b
 
+-- a part of a set that has all its extreme ids has the same extreme ids
+abbrev pub ExtremesOfPart : Type 0
+ExtremesOfPart = (at : ℕ → Vector) (ids part : List ℕ) → HasDistinctPoints at (Members ids)
+    → ((i : ℕ) → Members part i → Members ids i) → ((i : ℕ) → Extreme at (Members ids) i → Members part i)
+    → (i : ℕ) → Extreme at (Members part) i ↔ Extreme at (Members ids) i
+
+-- and what is right as its hull is right for the set
+abbrev pub BodyOfPart : Type 0
+BodyOfPart = (at : ℕ → Vector) (ids part : List ℕ) (b : BodyValue) → HasDistinctPoints at (Members ids)
+    → ((i : ℕ) → Members part i → Members ids i) → ((i : ℕ) → Extreme at (Members ids) i → Members part i)
+    → IsBody at (Members part) b → IsBody at (Members ids) b
+
 -- no two bodies are right for one set
 abbrev pub BodyIsUnique : Type 0
 BodyIsUnique = (at : ℕ → Vector) (ids : List ℕ) (a b : BodyValue) → IsBody at (Members ids) a → IsBody at (Members ids) b → a ≡ b

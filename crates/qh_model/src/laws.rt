@@ -17,8 +17,8 @@ pub use combinations::combination_or_separator;
 pub use completeness::{finished_surface_is_hull, nothing_is_missed};
 pub use cuts::blocks_share_positions;
 pub use extremes::{
-    extremes_of_faces, greatest_is_extreme, members_are_combinations, planes_of_extremes,
-    union_extremes,
+    extremes_of_faces, greatest_is_extreme, members_are_combinations, parts_with_extremes,
+    planes_of_extremes, union_extremes,
 };
 pub use hulls::{one_hull, one_value_each};
 pub use polygons::{one_polygon, polygon_by_direction};

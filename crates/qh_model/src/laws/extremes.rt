@@ -2,7 +2,7 @@
 ghost use Rattle.qh_model.specs.ExtremeLaws.{GreatestIsExtreme, MembersAreCombinations, UnionOfExtremes};
 ghost use Rattle.qh_model.specs.FaceLaws.{ExtremesOfFace, SupportOfExtremes, PlanesOfExtremes};
 ghost use Rattle.qh_model.specs.DimensionLaws.{DimensionOfExtremes};
-ghost use Rattle.qh_model.specs.HullLaws.{BodyOfExtremes, PolygonsOfExtremes, TriplesOfExtremes};
+ghost use Rattle.qh_model.specs.HullLaws.{BodyOfExtremes, BodyOfPart, ExtremesOfPart, PolygonsOfExtremes, TriplesOfExtremes};
 
 /// The member that is greatest along a direction, by its coordinates among level ones, is extreme.
 /// It gives a hull its first corners.
@@ -24,6 +24,13 @@ pub fn union_extremes()
     ensures dimension { DimensionOfExtremes }
     ensures polygons { PolygonsOfExtremes }
     ensures hull { BodyOfExtremes }
+{}
+
+/// A part of a set that has all its extreme ids has its extreme ids and its hull. So ids that are known
+/// not to be extreme can be left out.
+pub fn parts_with_extremes()
+    ensures extremes { ExtremesOfPart }
+    ensures hull { BodyOfPart }
 {}
 
 /// The extreme ids of a face are the extreme ids of the set in its plane, and a plane that has no
