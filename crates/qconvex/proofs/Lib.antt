@@ -1,2 +1,2 @@
-pub mod RankLemmas
+pub mod AnswerLemmas
 pub mod ServingLemmas

@@ -12,7 +12,9 @@ mod bodies;
 mod flat_sets;
 mod normals;
 mod segment;
+mod stub;
 #[cfg(test)]
 mod tests;
 
 pub use flat_sets::flat_hull;
+pub use stub::{extremes, hull};

@@ -58,7 +58,7 @@ bounds_rise b n i (suc k) rises h =
     grind (arith, before, step)
 
 -- one bound is not below an earlier one
-bounds_order : (b : ℕ → ℕ) (n i j : ℕ) → ((k : ℕ) → k < n → b k < b (k + 1)) → i ≤ j → j ≤ n → b i ≤ b j
+pub bounds_order : (b : ℕ → ℕ) (n i j : ℕ) → ((k : ℕ) → k < n → b k < b (k + 1)) → i ≤ j → j ≤ n → b i ≤ b j
 bounds_order b n i j rises h l =
     let gap : i + (j - i) ≡ j = grind (arith, h) in
     subst (λ t. b i ≤ b t) gap (bounds_rise b n i (j - i) rises (grind (arith, gap, l)))
@@ -73,7 +73,7 @@ between_bounds b (suc n) p h l = by (between_bounds b n p h) (nat_lt p (b n)) re
     by below false e = (n, grind (arith), grind (arith, e), grind (arith, l))
 
 -- the bounds of a cut rise
-cut_rises : (bounds : List ℕ) → IsCut bounds → (j : ℕ) → j < block_count bounds → bound bounds j < bound bounds (j + 1)
+pub cut_rises : (bounds : List ℕ) → IsCut bounds → (j : ℕ) → j < block_count bounds → bound bounds j < bound bounds (j + 1)
 cut_rises bounds cut j h = cut.are.rises j (grind (arith, h))
 
 pub blocks_cover : BlocksCover
@@ -90,10 +90,12 @@ blocks_follow bounds i j p cut a b h =
 pub blocks_are_apart : BlocksAreApart
 blocks_are_apart bounds i j p cut a b = grind (arith, blocks_follow bounds i j p cut a b, blocks_follow bounds j i p cut b a)
 
+-- a block ends within the positions
+pub block_ends : (bounds : List ℕ) (j : ℕ) → IsCut bounds → j < block_count bounds → bound bounds (j + 1) ≤ positions bounds
+block_ends bounds j cut h = bounds_order (bound bounds) (block_count bounds) (j + 1) (block_count bounds) (cut_rises bounds cut) (grind (arith, h)) (grind (arith))
+
 pub blocks_are_inside : BlocksAreInside
-blocks_are_inside bounds j p cut a =
-    let order : bound bounds (j + 1) ≤ positions bounds = bounds_order (bound bounds) (block_count bounds) (j + 1) (block_count bounds) (cut_rises bounds cut) (grind (arith, a.block)) (grind (arith)) in
-    omega (arith, order, a.to)
+blocks_are_inside bounds j p cut a = let order : bound bounds (j + 1) ≤ positions bounds = block_ends bounds j cut a.block in omega (arith, order, a.to)
 
 pub blocks_are_not_empty : BlocksAreNotEmpty
 blocks_are_not_empty bounds j cut h = record { block = h; from = grind (arith); to = cut_rises bounds cut j h }

@@ -8,6 +8,7 @@ pub mod surfaces
 pub mod closed_surfaces
 pub mod polygons
 pub mod hulls
+pub mod DistinctIds
 pub mod Cuts
 pub mod ReadingLaws
 pub mod Examples

@@ -2,3 +2,4 @@
 pub mod Ordered
 pub mod OnceEach
 pub mod Lexicographic
+pub mod Rising

@@ -1,6 +1,6 @@
 //! Cuts of a list into blocks.
 ghost use Rattle.std.specs.Prelude.{◌≡◌, ◌≢◌, ◌↔◌, ◌+◌, ◌≤◌, ◌<◌, IfOk, IsErrOf, IsTrue, length};
-ghost use Rattle.qh_model.specs.Cut.{AreBounds, IsCut, IsEvenCut, Rises, block_count, blocks_of, bound};
+ghost use Rattle.qh_model.specs.Cut.{AreBounds, IsCut, IsEvenCut, Rises, block_count, blocks_of, bound, positions};
 
 use crate::limits::{BLOCK_LIMIT, POINT_LIMIT};
 use std::alloc::{AllocError, Global};
@@ -136,6 +136,7 @@ impl Cut {
         ensures from { result.0 ≡ bound self.now j }
         ensures to { result.1 ≡ bound self.now (j + 1) }
         ensures some { result.0 < result.1 }
+        ensures within { result.1 ≤ positions self.now }
     {
         (self.bounds[j as usize], self.bounds[j as usize + 1])
     }

@@ -16,6 +16,6 @@ mod tests;
 
 pub use cut::{Cut, CutError};
 pub use hull::{Body, Hull, Polygon};
-pub use limits::{BLOCK_LIMIT, BYTE_LIMIT, COORDINATE_LIMIT, POINT_LIMIT};
+pub use limits::{BLOCK_LIMIT, BYTE_LIMIT, COORDINATE_LIMIT, POINT_LIMIT, WORKER_LIMIT};
 pub use memory::Memory;
 pub use point::{Id, Point};

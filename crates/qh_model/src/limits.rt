@@ -11,3 +11,6 @@ pub const BYTE_LIMIT: u32 = 268435456;
 
 /// The greatest number of blocks of a cut.
 pub const BLOCK_LIMIT: u32 = 65536;
+
+/// The greatest number of workers.
+pub const WORKER_LIMIT: u32 = 64;

@@ -1,0 +1,36 @@
+-- Facts of the distinct ids of a list of points.
+use Rattle.std.proofs.Common.{ℕ, zero, suc, ◌+◌, ◌<◌, ◌≤◌, List, [], ◌∷◌, length, get_or, add-one, arith, All}
+use Rattle.std.proofs.lemmas.List.Elements.{All-from_get_or}
+use Rattle.std.specs.List.Sorted.{IsStrictlyIncreasing}
+use Rattle.qh_model.specs.Vector.{Vector}
+use Rattle.qh_model.specs.Sets.{In}
+use Rattle.qh_model.specs.DistinctIds.{AreDistinctIds}
+use Rattle.qh_model.proofs.Members.{In-get_or}
+
+-- they are indices of points
+pub ids_within : (pts : List Vector) (ids : List ℕ) → AreDistinctIds pts ids → All (λ i. i < length pts) ids
+ids_within pts ids d = All-from_get_or (λ i. i < length pts) ids 0 (λ k h. ((d.members (get_or ids k 0)).0 (In-get_or ids k 0 h)).0)
+
+-- where there is a point there is one
+pub some_id : (pts : List Vector) (ids : List ℕ) → AreDistinctIds pts ids → 0 < length pts → 0 < length ids
+some_id pts ids d h = member ids ((d.members 0).1 (h, λ j l. absurd (omega (arith, l))))
+  where
+    member : (xs : List ℕ) → In 0 xs → 0 < length xs
+    member [] i = absurd i
+    member (x ∷ xs) i = omega arith
+
+-- the k-th of rising numbers is at least k
+rising_least : (xs : List ℕ) → IsStrictlyIncreasing xs → (k : ℕ) → k < length xs → k ≤ get_or xs k 0
+rising_least xs r zero h = omega arith
+rising_least xs r (suc k) h =
+    let before : k ≤ get_or xs k 0 = rising_least xs r k (omega arith) in
+    let next : get_or xs k 0 < get_or xs (k + 1) 0 = r k (omega arith) in
+    rw (← add-one k) (let up : k + 1 ≤ get_or xs (k + 1) 0 = omega (arith, before, next) in up)
+
+-- there are at most as many as points
+pub few_ids : (pts : List Vector) (ids : List ℕ) → AreDistinctIds pts ids → length ids ≤ length pts
+few_ids pts [] d = omega arith
+few_ids pts (i ∷ ids) d =
+    let last : length ids ≤ get_or (i ∷ ids) (length ids) 0 = rising_least (i ∷ ids) d.rising (length ids) (omega arith) in
+    let small : get_or (i ∷ ids) (length ids) 0 < length pts = ((d.members (get_or (i ∷ ids) (length ids) 0)).0 (In-get_or (i ∷ ids) (length ids) 0 (omega arith))).0 in
+    omega (arith, last, small)

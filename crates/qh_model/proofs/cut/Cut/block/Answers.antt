@@ -1,0 +1,13 @@
+use Rattle.std.proofs.Common.{◌≡◌, ◌+◌, ◌<◌, ◌-◌, arith, length}
+use Rattle.std.proofs.lemmas.Grind.{common_steps}
+use Rattle.qh_model.specs.Cut.{block_count, bound}
+use Rattle.qh_model.proofs.Cuts.{block_ends}
+use Rattle.qh_model.proofs.cut.Cut.block.Goals as goal
+
+-- src/cut.rt:134:5
+pub returns-clause-within : goal.returns-clause-within
+returns-clause-within c =
+    let bounds = c.self.inside.bounds.items in
+    let inside : c.args.j < block_count bounds = rw (← c.self.view_is) at c.requires in
+    let to : c.index-2.result.now ≡ bound bounds (c.args.j + 1) = grind (arith, common_steps, c.index-2.ensures, inside) in
+    rw (← c.self.view_is) (grind (arith, to, block_ends bounds c.args.j c.self.invariant inside))

@@ -1,0 +1,3 @@
+pub mod BlockExtremes
+pub mod Collected
+pub mod ShareLemmas
