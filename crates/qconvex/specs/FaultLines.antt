@@ -2,7 +2,7 @@
 use Rattle.std.specs.Prelude.{ℕ, List, ◌++◌, codes, decimal}
 use Rattle.qh_read.specs.declared.fault.ReadFault.TheVariants as read
 use Rattle.qconvex.specs.declared.fault.Fault.{Fault}
-use Rattle.qconvex.specs.declared.fault.Fault.TheVariants.{Read, Send, Usage, NotYet}
+use Rattle.qconvex.specs.declared.fault.Fault.TheVariants.{Read, Send, Usage}
 
 abbrev pub fault_line : Fault → List ℕ
 fault_line (Read read.NoHeader) = codes "qconvex: 1: NoHeader"
@@ -17,7 +17,6 @@ fault_line (Read read.Device) = codes "qconvex: 9: Device"
 fault_line (Read read.Big) = codes "qconvex: 10: Big"
 fault_line Send = codes "qconvex: 11: Send"
 fault_line Usage = codes "qconvex: 12: Usage"
-fault_line NotYet = codes "qconvex: 13: NotYet"
 
 abbrev pub status_of : Fault → ℕ
 status_of (Read read.NoHeader) = 1
@@ -32,4 +31,3 @@ status_of (Read read.Device) = 4
 status_of (Read read.Big) = 1
 status_of Send = 4
 status_of Usage = 2
-status_of NotYet = 1

@@ -3,4 +3,3 @@ pub mod FaultLines
 pub mod CommandLine
 pub mod Answers
 pub mod Serving
-pub mod Bodies

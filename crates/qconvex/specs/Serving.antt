@@ -9,9 +9,9 @@ use Rattle.qh_read.specs.declared.fault.ReadFault.TheVariants as reads
 use Rattle.qh_read.specs.declared.whole.TheConstants.{PIECE_LENGTH}
 use Rattle.qh_read.specs.ReadFaults.{IsFirstFault}
 use Rattle.qh_read.specs.SourceBytes.{Gives, GivesAll}
-use Rattle.qconvex.specs.Answers.{IsRightText, IsNotYet, ReadsAs}
+use Rattle.qconvex.specs.Answers.{IsTextOf, ReadsAs}
 use Rattle.qconvex.specs.declared.fault.Fault.{Fault}
-use Rattle.qconvex.specs.declared.fault.Fault.TheVariants.{Read, Send, Usage, NotYet}
+use Rattle.qconvex.specs.declared.fault.Fault.TheVariants.{Read, Send, Usage}
 
 -- the bytes that the source has still to give and that went out of the sink, where the devices tell them, and
 -- how many calls of each have failed
@@ -34,7 +34,7 @@ pub record IsUnsent (old new : Devices) : Type 0 where
 -- the source came to its end; its bytes read as some points, whose text went out
 pub record IsServed (outs : List Out) (old new : Devices) : Type 0 where
   pub text : List ℕ
-  pub answer : GivesAll old.to_come new.to_come (λ bytes. ReadsAs bytes (λ pts. IsRightText pts outs text))
+  pub answer : GivesAll old.to_come new.to_come (λ bytes. ReadsAs bytes (λ pts. IsTextOf pts outs text))
   pub went : Appends old.went new.went text
   pub quiet : IsQuiet old new
 
@@ -58,15 +58,10 @@ pub record IsSourceFailure (old new : Devices) : Type 0 where
 -- a beginning of the text, perhaps all
 pub record IsSinkFailure (outs : List Out) (old new : Devices) : Type 0 where
   pub text : List ℕ
-  pub answer : GivesAll old.to_come new.to_come (λ bytes. ReadsAs bytes (λ pts. IsRightText pts outs text))
+  pub answer : GivesAll old.to_come new.to_come (λ bytes. ReadsAs bytes (λ pts. IsTextOf pts outs text))
   pub went : AppendsBeginning old.went new.went text
   pub source : new.source_failures ≡ old.source_failures
   pub sink : new.sink_failures ≡ old.sink_failures + 1
-
--- the source came to its end and its bytes read as some points, of which the outputs cannot be made as yet
-pub record IsUnready (outs : List Out) (old new : Devices) : Type 0 where
-  pub reads : GivesAll old.to_come new.to_come (λ bytes. ReadsAs bytes (λ pts. IsNotYet pts outs))
-  pub unsent : IsUnsent old new
 
 -- each fault, and when it comes
 abbrev pub IsServeFault : List Out → Devices → Devices → Fault → Type 0
@@ -82,4 +77,3 @@ IsServeFault outs old new (Read reads.Device) = IsSourceFailure old new
 IsServeFault outs old new (Read reads.Big) = IsTooBig old new
 IsServeFault outs old new Send = IsSinkFailure outs old new
 IsServeFault outs old new Usage = ⊥
-IsServeFault outs old new NotYet = IsUnready outs old new

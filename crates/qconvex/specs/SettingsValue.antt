@@ -1,7 +1,8 @@
 -- What settings say.
 use Rattle.std.specs.Prelude.{ℕ, ◌≤◌, List}
 use Rattle.qh_write.specs.declared.out.Out.{Out}
-use Rattle.qconvex.specs.declared.settings.TheConstants.{WORKER_LIMIT, BLOCK_SIZE_LIMIT}
+use Rattle.qh_model.specs.declared.limits.TheConstants.{WORKER_LIMIT}
+use Rattle.qconvex.specs.declared.settings.TheConstants.{BLOCK_SIZE_LIMIT}
 
 pub record SettingsValue : Type 0 where
   pub workers : ℕ

@@ -1,86 +1,85 @@
-ghost use Rattle.std.specs.Prelude.{◌≡◌, ◌<◌, ◌≤◌, ◌↔◌, [], IfOk, IfErr, IsTrue, length};
+//! The answer to an input: the texts of its hull.
+ghost use Rattle.std.specs.Prelude.{◌≡◌, ◌<◌, ◌≤◌, IfOk, IfErr, length};
+ghost use Rattle.qh_model.specs.Cut.{positions};
+ghost use Rattle.qh_model.specs.DistinctIds.{AreDistinctIds};
+ghost use Rattle.qh_model.specs.Hull.{IsHull};
 ghost use Rattle.qh_model.specs.declared.limits.TheConstants.{POINT_LIMIT};
-ghost use Rattle.qh_model.specs.DistinctIds.{IsIdSet};
-ghost use Rattle.qh_plane.specs.PlaceKeys.{AreIndices};
-ghost use Rattle.qconvex.specs.Answers.{IsRankAlone, IsRightText, IsRefusal, IsAnswer, IsAnswerFault};
-ghost use Rattle.qconvex.specs.Bodies.{IsBodyFor, IsBodyRefusal};
+ghost use Rattle.qconvex.specs.Answers.{IsAnswer, IsAnswerFault, IsTextOf};
 
 use crate::fault::Fault;
 use crate::settings::Settings;
-use qh_block::flat_hull;
-use qh_model::{Body, Hull, Id, Point};
-use qh_plane::{distinct, rank};
+use qh_model::{BLOCK_LIMIT, Cut, CutError, Hull, Id, Memory, Point};
+use qh_plane::distinct;
 use qh_read::read_points;
-use qh_write::{Out, text};
+use qh_run::{RunError, run_hull};
+use qh_write::text;
 use std::alloc::Global;
 use std::thread::Threads;
 
-fn is_rank_alone(outs: &[Out]) -> bool
-    ensures { IsTrue result ↔ IsRankAlone outs.now }
+/// The cut of so many positions into blocks of the wanted size, or of a greater one where these would
+/// be too many.
+fn even_cut(alloc: Global, count: u32, wanted: u32) -> Result<Cut, Memory>
+    requires some { 0 < count }
+    requires few { count ≤ POINT_LIMIT }
+    requires wanted { 0 < wanted }
+    ensures { IfOk result (λ c. positions c ≡ count) }
 {
-    outs.iter().all(|out| *out == Out::Rank)
-}
-
-/// A body of this dimension without its faces: what `rank` tells. `NotYet` where more is asked for.
-fn faceless_body(alloc: Global, dim: u8, outs: &[Out]) -> Result<Body, Fault>
-    ensures body { IfOk result (λ b. IsRankAlone outs.now × (b ≡ record { dim = dim; extremes = []; polygons = []; edges = 0 })) }
-    ensures refused { IfErr result (λ e. (e ≡ Fault.NotYet) × ¬ (IsRankAlone outs.now)) }
-{
-    if !is_rank_alone(outs) {
-        return Err(Fault::NotYet);
+    let size = wanted.max(count.div_ceil(BLOCK_LIMIT));
+    match Cut::even(alloc, count, size) {
+        Ok(cut) => Ok(cut),
+        Err(CutError::Memory) => Err(Memory),
+        Err(CutError::ZeroSize) => unreachable!(),
+        Err(CutError::TooManyBlocks) => unreachable!(),
+        Err(CutError::BadBounds) => unreachable!(),
     }
-    Ok(Body {
-        dim,
-        extremes: Vec::new(alloc),
-        polygons: Vec::new(alloc),
-        edges: 0,
-    })
 }
 
-/// The hull of the ids as far as the outputs need it.
-fn body_for(alloc: Global, pts: &[Point], ids: &[Id], outs: &[Out]) -> Result<Body, Fault>
+/// The hull of the points, by as many workers as the settings say.
+fn hull_of<R: Threads + Sync>(
+    rt: &R,
+    alloc: Global,
+    pts: &[Point],
+    ids: &[Id],
+    cut: &Cut,
+    settings: &Settings,
+) -> Result<Hull, Memory>
+    requires few { length pts.now ≤ POINT_LIMIT }
     requires some { 0 < length ids.now }
-    requires indices { AreIndices pts.now ids.now }
-    ensures body { IfOk result (λ b. IsIdSet pts.now ids.now → IsBodyFor pts.now ids.now outs.now b) }
-    ensures refused { IfErr result (λ e. IsIdSet pts.now ids.now → IsBodyRefusal pts.now ids.now outs.now e) }
+    requires distinct { AreDistinctIds pts.now ids.now }
+    requires cut { positions cut.now ≡ length ids.now }
+    ensures { IfOk result (λ h. IsHull pts.now h) }
 {
-    let dim = rank(pts, ids).dimension();
-    match flat_hull(alloc, pts, ids, rank(pts, ids))? {
-        Some(body) => Ok(body),
-        None => faceless_body(alloc, dim, outs),
+    match run_hull(rt, alloc, pts, ids, cut, settings.workers()) {
+        Ok(hull) => Ok(hull),
+        Err(RunError::Memory) => Err(Memory),
+        Err(RunError::BadWorkers) => unreachable!(),
     }
 }
 
-/// The texts of the outputs, for at least one point and at most `POINT_LIMIT` points.
+/// The texts of the outputs that the settings ask for, of at least one point and at most `POINT_LIMIT`
+/// points. Neither the number of workers nor the size of blocks changes them.
 ///
-/// The fault is want of memory, or `NotYet` where an output other than `rank` is asked for of points
-/// that do not lie in one plane.
+/// `Err` says that memory was refused.
 pub fn text_of<R: Threads + Sync>(
     rt: &R,
     alloc: Global,
     pts: &[Point],
-    outs: &[Out],
-) -> Result<Vec<u8>, Fault>
+    settings: &Settings,
+) -> Result<Vec<u8>, Memory>
     requires some { 0 < length pts.now }
     requires few { length pts.now ≤ POINT_LIMIT }
-    ensures right { IfOk result (λ t. IsRightText pts.now outs.now t.items) }
-    ensures refused { IfErr result (IsRefusal pts.now outs.now) }
+    ensures { IfOk result (λ t. IsTextOf pts.now settings.now.outs t.items) }
 {
     let ids = distinct(rt, alloc, pts)?;
-    let body = body_for(alloc, pts, &ids, outs)?;
-    let hull = Hull {
-        given: pts.len() as u32,
-        distinct: ids.len() as u32,
-        body,
-    };
-    let bytes = text(alloc, &hull, pts, outs)?;
-    Ok(bytes)
+    let cut = even_cut(alloc, ids.len() as u32, settings.block())?;
+    let hull = hull_of(rt, alloc, pts, &ids, &cut, settings)?;
+    text(alloc, &hull, pts, settings.outs())
 }
 
-/// The texts that the settings ask for, of the points in the input.
+/// The texts that the settings ask for, of the points in the input: the one text that the points alone
+/// define.
 ///
-/// The fault is the first of the input, or want of memory, or `NotYet` where the input reads well
-/// and `text_of` answers it.
+/// The fault is the first of the input, or want of memory.
 pub fn answer<R: Threads + Sync>(
     rt: &R,
     alloc: Global,
@@ -88,9 +87,9 @@ pub fn answer<R: Threads + Sync>(
     settings: &Settings,
 ) -> Result<Vec<u8>, Fault>
     ensures answered { IfOk result (λ t. IsAnswer input.now settings.now.outs t.items) }
-    ensures fault { IfErr result (IsAnswerFault input.now settings.now.outs) }
+    ensures fault { IfErr result (IsAnswerFault input.now) }
 {
     let points = read_points(alloc, input)?;
-    let text = text_of(rt, alloc, &points, settings.outs())?;
+    let text = text_of(rt, alloc, &points, settings)?;
     Ok(text)
 }

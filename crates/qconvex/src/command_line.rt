@@ -2,10 +2,11 @@ ghost use Rattle.std.specs.Prelude.{◌≡◌, Some, false, map, codes, IfOk, If
 ghost use Rattle.clap.specs.Words.{app_of, rule_of, found_of, one_text};
 ghost use Rattle.qconvex.specs.CommandLine.{program, number_option, outs_rule, NumberOf, HasOptions};
 
-use crate::settings::{BLOCK_SIZE_LIMIT, Settings, SettingsError, WORKER_LIMIT};
+use crate::settings::{BLOCK_SIZE_LIMIT, Settings, SettingsError};
 use clap::builder::ValueParser;
 use clap::error::ErrorKind;
 use clap::{Arg, ArgAction, ArgMatches, Command, Error, value_parser};
+use qh_model::WORKER_LIMIT;
 use qh_write::Out;
 use std::alloc::{AllocError, Global};
 

@@ -17,8 +17,6 @@ pub enum Fault {
     Send,
     /// 12: the command line is none.
     Usage,
-    /// 13: outputs other than `rank` cannot be made as yet of points that do not lie in one plane.
-    NotYet,
 }
 
 impl Fault {
@@ -78,7 +76,6 @@ impl fmt::Display for Fault {
             Fault::Read(ReadFault::Big) => write!(f, "qconvex: 10: Big"),
             Fault::Send => write!(f, "qconvex: 11: Send"),
             Fault::Usage => write!(f, "qconvex: 12: Usage"),
-            Fault::NotYet => write!(f, "qconvex: 13: NotYet"),
         }
     }
 }

@@ -27,7 +27,7 @@ pub fn serve<R: Threads + Sync, S: Source, K: Sink>(
         MatchResult result (λ _. IsServed settings.now.outs old new) (IsServeFault settings.now.outs old new) }
 {
     let points = read_from(alloc, source)?;
-    let text = text_of(rt, alloc, &points, settings.outs())?;
+    let text = text_of(rt, alloc, &points, settings)?;
     send(sink, &text)?;
     Ok(())
 }

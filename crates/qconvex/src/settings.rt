@@ -1,13 +1,10 @@
 ghost use Rattle.std.specs.Prelude.{◌≡◌, ◌≤◌, ◌<◌, ◌↔◌, IfOk, IsErrOf};
 
-use qh_model::POINT_LIMIT;
+use qh_model::{POINT_LIMIT, WORKER_LIMIT};
 use qh_write::Out;
 use std::alloc::Global;
 use std::marker::Model;
 use thiserror::Error;
-
-/// The greatest number of workers.
-pub const WORKER_LIMIT: u32 = 64;
 
 /// The greatest block size that can be wanted: all points in one block.
 pub const BLOCK_SIZE_LIMIT: u32 = POINT_LIMIT;
@@ -81,14 +78,16 @@ impl Settings {
 
     /// How many workers make the hull, from 1 to `WORKER_LIMIT`.
     pub fn workers(&self) -> u32
-        ensures { result ≡ self.now.workers }
+        ensures value { result ≡ self.now.workers }
+        ensures range { IsWorkers result }
     {
         self.workers
     }
 
     /// How many points a block has, from 1 to `BLOCK_SIZE_LIMIT`.
     pub fn block(&self) -> u32
-        ensures { result ≡ self.now.block }
+        ensures value { result ≡ self.now.block }
+        ensures range { IsBlockSize result }
     {
         self.block
     }
