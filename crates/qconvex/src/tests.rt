@@ -3,8 +3,10 @@
 mod command_lines;
 mod devices;
 mod faults;
+mod paraboloid;
 mod ranks;
 mod rows;
+mod solids;
 
 use crate::answer::answer;
 use crate::command_line::{ArgFault, settings_of};

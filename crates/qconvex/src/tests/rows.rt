@@ -5,8 +5,6 @@ const ONE_POINT: &str = "3\n1\n5 5 5\n";
 
 const FIVE_IN_LINE: &str = "3\n5\n1 1 1\n0 0 0\n4 4 4\n2 2 2\n3 3 3\n";
 
-const TETRAHEDRON: &str = "3\n4\n0 0 0\n1 0 0\n0 1 0\n0 0 1\n";
-
 /// A command line, an input and the text that it answers, for points in one plane.
 const ROWS: [(&str, &str, &str); 12] = [
     (
@@ -77,18 +75,5 @@ fn answers_rows(rt: HostRuntime) -> Result<(), Fail> {
         let served = served(&rt, alloc, input.as_bytes(), &settings)?;
         assert_eq!(rt; served.output.as_str(), want, "at {line}: {input:?}");
     }
-    Ok(())
-}
-
-#[test]
-fn solid_hulls_are_not_yet_there(rt: HostRuntime) -> Result<(), Fail> {
-    let alloc = rt.alloc();
-    let Ok(settings) = settings(alloc, "off")? else {
-        return Err("the line is a command line".into());
-    };
-    let answered = answered(&rt, alloc, TETRAHEDRON.as_bytes(), &settings)?;
-    assert_eq!(rt; answered.error.as_str(), "qconvex: 13: NotYet");
-    assert!(rt; answered.output.is_empty());
-    assert_eq!(rt; answered.status, 1);
     Ok(())
 }
