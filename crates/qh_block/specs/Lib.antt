@@ -1,2 +1,3 @@
 pub mod Segments
 pub mod FlatBodies
+pub mod Planes
