@@ -1,2 +1,4 @@
 pub mod Segments
 pub mod FlatBodies
+pub mod OutsideSets
+pub mod PositionChains
