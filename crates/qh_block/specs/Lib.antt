@@ -1,3 +1,5 @@
 pub mod Segments
 pub mod FlatBodies
 pub mod Planes
+pub mod OutsideSets
+pub mod PositionChains

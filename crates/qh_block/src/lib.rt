@@ -11,6 +11,7 @@
 mod bodies;
 mod flat_sets;
 mod normals;
+mod quickhull;
 mod segment;
 #[cfg(test)]
 mod tests;

@@ -1,0 +1,3 @@
+//! The hull of a solid set by Quickhull.
+
+mod outside_sets;
