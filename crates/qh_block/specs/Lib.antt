@@ -3,3 +3,5 @@ pub mod FlatBodies
 pub mod Planes
 pub mod OutsideSets
 pub mod PositionChains
+pub mod Runs
+pub mod Settling
