@@ -1,2 +1,6 @@
 pub mod SegmentSteps
 pub mod flats
+pub mod ChainWrites
+pub mod HeldSets
+pub mod SetCalls
+pub mod NewSets
