@@ -4,3 +4,4 @@ pub mod ChainWrites
 pub mod HeldSets
 pub mod SetCalls
 pub mod NewSets
+pub mod runs

@@ -17,3 +17,4 @@ mod segment;
 mod tests;
 
 pub use flat_sets::flat_hull;
+pub use quickhull::surface;

@@ -1,3 +1,11 @@
 //! The hull of a solid set by Quickhull.
 
 mod outside_sets;
+mod planes;
+mod queue;
+mod run;
+mod settling;
+mod surfaces;
+mod walk;
+
+pub use surfaces::surface;

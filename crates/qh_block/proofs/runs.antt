@@ -1,0 +1,3 @@
+-- Runs of Quickhull: their steps.
+pub mod NamedFacets
+pub mod Rounds
