@@ -5,3 +5,4 @@ pub mod OutsideSets
 pub mod PositionChains
 pub mod Runs
 pub mod Settling
+pub mod Walks

@@ -9,7 +9,7 @@
 //!
 //! Source: Barber, Dobkin and Huhdanpaa 1996 (each facet has an outside set; the points of those that
 //! go are partitioned among the new facets).
-ghost use Rattle.std.specs.Prelude.{◌≡◌, ◌+◌, ◌-◌, ◌<◌, ◌≤◌, ◌↔◌, ℕ, IsTrue, IfSome, IsNone, IfOk, OnOk, OnErr, length, drop, [], ◌∷◌, ◌++◌, slice_set, slice_index, replicate, false};
+ghost use Rattle.std.specs.Prelude.{◌≡◌, ◌+◌, ◌-◌, ◌<◌, ◌≤◌, ◌↔◌, ℕ, IsTrue, IfSome, IsNone, IfOk, OnOk, OnErr, length, drop, [], ◌∷◌, ◌++◌, slice_set, slice_index, replicate, true, false, ◌≢◌};
 ghost use Rattle.std.specs.List.{range_with_len};
 ghost use Rattle.qh_block.specs.OutsideSets.{set_of, listed, joined};
 
@@ -26,6 +26,33 @@ const NONE: u32 = u32::MAX;
 struct Ends {
     first: u32,
     last: u32,
+}
+
+impl Ends {
+    /// The ends with a position put in front. The caller says whether there was none.
+    fn with_front(self, position: u32, is_empty: bool) -> Ends
+        ensures first { result.first ≡ position }
+        ensures only { is_empty ≡ true → result.last ≡ position }
+        ensures last { is_empty ≡ false → result.last ≡ self.last }
+    {
+        Ends {
+            first: position,
+            last: if is_empty { position } else { self.last },
+        }
+    }
+
+    /// The ends with a position put after the first, of which there is one.
+    fn with_second(self, position: u32) -> Ends
+        ensures first { result.first ≡ self.first }
+        ensures second { self.first ≡ self.last → result.last ≡ position }
+        ensures last { self.first ≢ self.last → result.last ≡ self.last }
+    {
+        let is_alone = self.first == self.last;
+        Ends {
+            first: self.first,
+            last: if is_alone { position } else { self.last },
+        }
+    }
 }
 
 /// The outside sets of a run of Quickhull, by facet, and its orphans. Each is a list of positions.
@@ -172,13 +199,11 @@ impl OutsideSets {
         ensures listed { listed self.new ≡ listed self.old }
     {
         let orphan = self.orphan;
-        let first = self.ends[facet.0].first;
+        let ends = self.ends[facet.0];
+        let is_empty = ends.first as usize >= self.links.len();
+        self.ends[facet.0] = ends.with_front(orphan, is_empty);
         self.orphan = self.links[orphan as usize];
-        self.links[orphan as usize] = first;
-        self.ends[facet.0].first = orphan;
-        if first as usize >= self.links.len() {
-            self.ends[facet.0].last = orphan;
-        }
+        self.links[orphan as usize] = ends.first;
     }
 
     /// Puts the first orphan after the first position of the outside set of a facet, which has one.
@@ -193,13 +218,11 @@ impl OutsideSets {
         ensures listed { listed self.new ≡ listed self.old }
     {
         let orphan = self.orphan;
-        let Ends { first, last } = self.ends[facet.0];
+        let ends = self.ends[facet.0];
+        self.ends[facet.0] = ends.with_second(orphan);
         self.orphan = self.links[orphan as usize];
-        self.links[orphan as usize] = self.links[first as usize];
-        self.links[first as usize] = orphan;
-        if first == last {
-            self.ends[facet.0].last = orphan;
-        }
+        self.links[orphan as usize] = self.links[ends.first as usize];
+        self.links[ends.first as usize] = orphan;
     }
 
     /// The first position of the outside set of a facet, if it has one.
@@ -245,7 +268,8 @@ impl OutsideSets {
         ensures listed { listed self.new ≡ listed self.old }
     {
         if let Some(first) = self.first(facet) {
-            self.links[self.ends[facet.0].last as usize] = self.orphan;
+            let last = self.ends[facet.0].last;
+            self.links[last as usize] = self.orphan;
             self.orphan = first;
             self.ends[facet.0].first = NONE;
         }
