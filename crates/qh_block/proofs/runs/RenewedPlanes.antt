@@ -60,3 +60,10 @@ all_renewed pts fs old ps made i b r f l g = by (r f l g)
     by : IsPlaneOf pts fs ps f ⊎ IsLater made i f → IsPlaneOf pts fs ps f
     by (inl h) = h
     by (inr (j, k, m, e)) = absurd (omega arith)
+
+-- room for more planes changes none
+pub roomy : (pts : List Vector) (fs : List StoredFacet) (ps qs : List PlaneValue) (made : List FacetNo)
+    → ((f : ℕ) → f < length ps → (f < length qs) × (plane_at qs f ≡ plane_at ps f))
+    → (f : ℕ) → IsPlaneOf pts fs ps f ⊎ Names made f → IsPlaneOf pts fs qs f ⊎ Names made f
+roomy pts fs ps qs made k f (inl (l, h)) = inl ((k f l).0, λ p. ap (λ (x : PlaneValue). height x p) (k f l).1 ∙ h p)
+roomy pts fs ps qs made k f (inr n) = inr n

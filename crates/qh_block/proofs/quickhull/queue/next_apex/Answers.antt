@@ -1,4 +1,4 @@
-use Rattle.std.proofs.Common.{◌≡◌, ◌∙◌, ap, sym, subst, List, [], length, refl, rules}
+use Rattle.std.proofs.Common.{◌≡◌, ◌∙◌, ap, sym, subst, List, [], length, refl, arith}
 use Rattle.std.proofs.lemmas.List.{nil_from_length}
 use Rattle.qh_mesh.specs.declared.facets.FacetNo.{FacetNo}
 use Rattle.qh_block.specs.OutsideSets.{OutsideValue}
@@ -26,5 +26,5 @@ loop-facet-preserved c =
 
 pub returns-clause-done : goal.returns-clause-done
 returns-clause-done c pts ids fs ps k =
-    let h = c.in_default.ensures in
-    all_done pts ids fs ps c.loop-facet.sets (subst (IsUnderWay pts ids fs ps c.loop-facet.sets) ? (c.loop-facet.invariant.under_way pts ids fs ps k))
+    let empty = nil_from_length c.loop-facet.pending.items (let k = c.in_default.ensures.cases.0 in let l = c.loop-facet.pending.ok.0 in omega arith) in
+    all_done pts ids fs ps c.loop-facet.sets (subst (IsUnderWay pts ids fs ps c.loop-facet.sets) empty (c.loop-facet.invariant.under_way pts ids fs ps k))
