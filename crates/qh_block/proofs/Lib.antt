@@ -5,3 +5,5 @@ pub mod HeldSets
 pub mod SetCalls
 pub mod NewSets
 pub mod runs
+pub mod WalkSteps
+pub mod FoundFacets

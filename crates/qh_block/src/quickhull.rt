@@ -6,6 +6,8 @@ mod queue;
 mod run;
 mod settling;
 mod surfaces;
+#[cfg(test)]
+mod tests;
 mod walk;
 
 pub use surfaces::surface;

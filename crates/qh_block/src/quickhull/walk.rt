@@ -12,7 +12,7 @@ ghost use Rattle.qh_mesh.specs.Replacement.{IsLive, AreFacets, number, twin_of};
 ghost use Rattle.qh_mesh.specs.SoundMesh.{IsSoundMesh, AreVisible};
 ghost use Rattle.qh_pred.specs.Planes.{height};
 ghost use Rattle.qh_block.specs.Planes.{plane_at, ArePlanes};
-ghost use Rattle.qh_block.specs.Walks.{mark_at, IsWalk, IsCrossed, IsFurther};
+ghost use Rattle.qh_block.specs.Walks.{mark_at, IsCrossed, IsFurther, IsWalk};
 
 use qh_mesh::{EdgeNo, FacetNo, Mesh};
 use qh_model::{Memory, Point};
@@ -76,31 +76,6 @@ fn next_round(marks: &mut Vec<u32>, round: u32) -> u32
     }
     marks.fill(0);
     1
-}
-
-/// Begins a round at a facet that the apex sees.
-fn begin(
-    mesh: &Mesh,
-    planes: &[Plane],
-    apex: Point,
-    start: FacetNo,
-    round: u32,
-    marks: &mut [u32],
-    found: &mut Vec<FacetNo>,
-)
-    requires live { IsLive mesh.now start.0 }
-    requires sees { pos 0 <ℤ height (plane_at planes.now start.0) apex }
-    requires fresh { (f : ℕ) → mark_at marks.old f < round }
-    requires places { length mesh.now ≤ length marks.old }
-    requires empty { found.old.items ≡ [] }
-    requires room { length mesh.now ≤ vec_capacity found.old }
-    ensures walk { IsWalk mesh.now planes.now apex round marks.new found.new.items }
-    ensures start { found.new.items ≡ start ∷ [] }
-    ensures capacity { vec_capacity found.new ≡ vec_capacity found.old }
-{
-    let _ = (mesh, planes, apex);
-    marks[start.0] = round;
-    found.push_reserved(start);
 }
 
 /// Goes over an edge of a facet that was found: the neighbour is found too if the apex sees it, and it
@@ -216,17 +191,16 @@ impl Walk {
     {
         make_room(&mut self.marks, &mut self.found, mesh.places())?;
         self.round = next_round(&mut self.marks, self.round);
-        let marks = self.marks.as_mut_slice();
-        begin(
+        self.marks[start.0] = self.round;
+        self.found.push_reserved(start);
+        go_on(
             mesh,
             planes,
             apex,
-            start,
             self.round,
-            marks,
+            self.marks.as_mut_slice(),
             &mut self.found,
         );
-        go_on(mesh, planes, apex, self.round, marks, &mut self.found);
         Ok(())
     }
 
