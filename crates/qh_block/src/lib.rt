@@ -11,10 +11,12 @@
 mod bodies;
 mod flat_sets;
 mod normals;
+mod quickhull;
 mod segment;
 mod stub;
 #[cfg(test)]
 mod tests;
 
 pub use flat_sets::flat_hull;
+pub use quickhull::surface;
 pub use stub::{extremes, hull};
