@@ -38,10 +38,10 @@ def ball(rng, n):
 
 
 def paraboloid(rng, n):
-    """(x, y, x^2 + y^2), shuffled; only as many as the coordinate limit allows are different."""
-    side = min(math.isqrt(n), 724)
-    points = [(x, y, x * x + y * y) for x in range(side) for y in range(n // side)][:n]
-    points = [p for p in points if p[2] <= LIMIT]
+    """(x, y, x^2 + y^2) around 0, shuffled: all are extreme."""
+    side = math.isqrt(n)
+    low = -(side // 2)
+    points = [(x, y, x * x + y * y) for x in range(low, low + side) for y in range(low, low + side)]
     rng.shuffle(points)
     return points
 

@@ -1,0 +1,67 @@
+#!/usr/bin/env python3
+"""All families of points, this program beside its peers, as rows of a table.
+
+    bench/families.py --peer '/usr/bin/qconvex s' --peer cgal-hull --counts 10000,100000,1000000
+
+Each row is one seeded file that all programs read in turn. It prints this program's CPU and wall time
+and peak memory, each peer's CPU time with its ratio, and whether Qhull, where it is a peer, finds as many
+extreme points (by `Fx`). Nothing is asserted.
+"""
+import argparse
+import os
+import shlex
+import subprocess
+import sys
+import tempfile
+
+import compare
+
+SOLID = ["cube", "ball", "sphere", "paraboloid", "grid", "cube-surface"]
+
+
+def extremes(command, path):
+    """The number of extreme points that a program's `Fx` begins with."""
+    with open(path, "rb") as source:
+        text = subprocess.run(command + ["Fx"], stdin=source, stdout=subprocess.PIPE, stderr=subprocess.DEVNULL).stdout
+    first = text.split(b"\n", 1)[0]
+    return int(first) if first.isdigit() else None
+
+
+def row(given, family, count, path):
+    """One row of the table."""
+    commands = [[given.ours] + shlex.split(given.words)] + [shlex.split(p) for p in given.peer or []]
+    results = [[] for _ in commands]
+    for _ in range(given.rounds):
+        for command, rows in zip(commands, results):
+            rows.append(compare.run(command, path))
+    ours = compare.best(results[0])
+    cells = [family, str(count), "%.2f" % ours[0], "%.2f" % ours[1], "%.0f" % ours[2]]
+    for rows in results[1:]:
+        peer = compare.best(rows)
+        cells += ["%.2f" % peer[0], "%.2f" % (ours[0] / peer[0]) if peer[3] == 0 else "refused"]
+    found = extremes([given.ours], path)
+    qhull = next((c[0] for c in commands[1:] if "qconvex" in c[0]), None)
+    same = "" if qhull is None else "yes" if extremes([qhull], path) == found else "no"
+    return "| " + " | ".join(cells + [str(found), same]) + " |"
+
+
+def main():
+    parser = argparse.ArgumentParser(description=__doc__.splitlines()[0])
+    parser.add_argument("--ours", default="crates/qconvex/out/qconvex", help="this program")
+    parser.add_argument("--words", default="s", help="the words that it is given")
+    parser.add_argument("--peer", action="append", help="a command to compare with; may be repeated")
+    parser.add_argument("--counts", default="10000,100000,1000000")
+    parser.add_argument("--families", default=",".join(SOLID))
+    parser.add_argument("--rounds", type=int, default=2)
+    given = parser.parse_args()
+    for count in map(int, given.counts.split(",")):
+        for family in given.families.split(","):
+            with tempfile.TemporaryDirectory() as folder:
+                path = os.path.join(folder, "points.txt")
+                with open(path, "wb") as out:
+                    subprocess.run([sys.executable, compare.POINTS, family, str(count)], stdout=out, check=True)
+                print(row(given, family, count, path), flush=True)
+
+
+if __name__ == "__main__":
+    main()
