@@ -36,3 +36,5 @@ pub mod PolygonLaws
 pub mod HullLaws
 pub mod ClosedSurface
 pub mod ClosedSurfaceLaws
+pub mod EdgeLaws
+pub mod FacetPlanes
