@@ -9,8 +9,10 @@
 #![tactic(auto)]
 
 mod bodies;
+mod faces;
 mod flat_sets;
 mod normals;
+mod plane_walk;
 mod segment;
 #[cfg(test)]
 mod tests;

@@ -1,0 +1,4 @@
+-- Solids: walks in the planes of facets, the faces that they gather, the order of faces, and edges.
+pub mod Extensions
+pub mod NewFaces
+pub mod FaceLists
