@@ -3,7 +3,7 @@
 //! Each live facet that has no mark yet starts a walk over the facets in its plane, which get marks.
 //! Their corners, rising, are the ids of which the face is the polygon. So a plane is looked at once,
 //! and most planes have one triangle.
-ghost use Rattle.std.specs.Prelude.{◌≡◌, ◌≤◌, ◌<◌, ◌↔◌, ℕ, IfOk, OnOk, length, map, false, replicate};
+ghost use Rattle.std.specs.Prelude.{◌≡◌, ◌≤◌, ◌<◌, ◌↔◌, ℕ, List, IfOk, OnOk, length, true, false, replicate};
 ghost use Rattle.std.specs.List.Sorted.{IsStrictlyIncreasing};
 ghost use Rattle.qh_model.specs.DistinctIds.{IsIdSet};
 ghost use Rattle.qh_model.specs.Extreme.{Extreme};

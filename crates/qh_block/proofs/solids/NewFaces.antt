@@ -88,7 +88,7 @@ module _ (pts : List Vector) (ids : List ℕ) (fs : List StoredFacet) (f : ℕ) 
           listed (inr h) = h
 
           go : (e : ℕ) × (e / 3 ≡ g) × (twin_of fs e / 3 ≡ m.over g s) → is_listed vs (m.over g s) ≡ true
-          go (x, (p, q)) = pick (crossed x (subst (λ y. is_listed vs y ≡ true) (sym p) e))
+          go (x, p, q) = pick (crossed x (subst (λ y. is_listed vs y ≡ true) (sym p) e))
             where
               pick : IsCrossed at fs f after x → is_listed vs (m.over g s) ≡ true
               pick (inl h) = listed (or_true _ _ (sym (marks (m.over g s)) ∙ subst (λ y. mark_at after y ≡ true) q h))
