@@ -98,7 +98,9 @@ fn new_face(
     requires live { IsLive mesh.now f.0 }
     requires fresh { mark_at marks.old f.0 ≡ false }
     requires room { length mesh.now ≤ length marks.old }
-    ensures { IfOk result (λ q. (ids : List ℕ) → IsIdSet pts.now ids → IsFinished (place pts.now) ids (surface_of mesh.now) → IsNewPlane (place pts.now) mesh.now marks.old f.0
+    ensures kept { OnOk result ((g : ℕ) → mark_at marks.old g ≡ true → mark_at marks.new g ≡ true) }
+    ensures own { OnOk result (mark_at marks.new f.0 ≡ true) }
+    ensures face { IfOk result (λ q. (ids : List ℕ) → IsIdSet pts.now ids → IsFinished (place pts.now) ids (surface_of mesh.now) → IsNewPlane (place pts.now) mesh.now marks.old f.0
         → IsNewFace (place pts.now) (Members ids) mesh.now f.0 marks.old marks.new q) }
 {
     walk_plane(pts, mesh, f, marks, &mut room.facets)?;
@@ -114,7 +116,8 @@ pub fn faces(alloc: Global, pts: &[Point], mesh: &Mesh) -> Result<Vec<Polygon>, 
     ensures { IfOk result (λ v. (ids : List ℕ) → IsIdSet pts.now ids → IsFinished (place pts.now) ids (surface_of mesh.now)
         → AreFacetFaces (place pts.now) (Members ids) mesh.now v.items) }
 {
-    let mut marks = no_marks(alloc, mesh.places())?;
+    let mut places = no_marks(alloc, mesh.places())?;
+    let marks = places.as_mut_slice();
     let mut room = Room {
         facets: Vec::new(alloc),
         corners: Vec::new(alloc),
@@ -122,7 +125,7 @@ pub fn faces(alloc: Global, pts: &[Point], mesh: &Mesh) -> Result<Vec<Polygon>, 
     let mut faces = Vec::new(alloc);
     for f in mesh.live() {
         if !marks[f.0] {
-            faces.push(new_face(alloc, pts, mesh, f, &mut marks, &mut room)?)?;
+            faces.push(new_face(alloc, pts, mesh, f, marks, &mut room)?)?;
         }
     }
     Ok(faces)

@@ -1,5 +1,7 @@
 -- The loop over the live facets of a mesh that gathers its faces.
 use Rattle.std.proofs.Common.{◌≡◌, ◌∙◌, ◌⊎◌, inl, inr, ℕ, ◌<◌, ◌≤◌, List, [], ◌∷◌, ◌++◌, length, map, replicate, ap, sym, subst, refl, arith, Bool, true, false, get_or}
+use Rattle.std.proofs.lemmas.List.{get_or-replicate, get_or_past, length-replicate}
+use Rattle.qh_mesh.proofs.Weaving.{by_le}
 use Rattle.qh_model.specs.Vector.{Vector}
 use Rattle.qh_model.specs.Predicates.{place}
 use Rattle.qh_model.specs.Sets.{In, Members}
@@ -30,15 +32,15 @@ in_numbers (k ∷ ns) n (inr h) = inr (in_numbers ns n h)
 
 -- none is marked at first
 none_marked : (n g : ℕ) → mark_at (replicate n false) g ≡ true → ⊥
-none_marked n g e = go n g e
+none_marked n g e = by_le ⊥ g n (λ h. wrong (sym (get_or-replicate n g false false h) ∙ e)) (λ h. wrong (sym (get_or_past (replicate n false) g false (let k = length-replicate n false in omega arith)) ∙ e))
   where
-    go : (n g : ℕ) → get_or (replicate n false) g false ≡ true → ⊥
-    go n g e = ?
+    wrong : false ≡ true → ⊥
+    wrong e = cc
 
 -- at the start
 pub gathering_starts : (pts : List Vector) (fs : List StoredFacet) → IsGathering pts fs (numbers (surface_of fs).live) (replicate (length fs) false) []
 gathering_starts pts fs = record {
-  room = ?;
+  room = length-replicate (length fs) false;
   live = λ v i. (let r = in_map (λ n. record { 0 = n }) (surface_of fs).live v i in subst (IsLive fs) (sym (ap (λ (x : FacetNo). x.0) r.2)) ((live_is_marked fs r.0).0 r.1));
   rest = λ g l. inr (in_numbers (surface_of fs).live g ((live_is_marked fs g).1 l));
   faces = λ ids s z. no_faces (place pts) ids fs s.distinct z (replicate (length fs) false) (none_marked (length fs));

@@ -30,8 +30,8 @@ facet_polygon-requires-clause-indices c =
     (walked_live (place pts) fs c.args.f.0 c.args.marks.now c.walk_plane.new.marks vs c.in_ok-walk_plane.ensures.grown)
     (subst (λ (xs : List FacetNo). (i : ℕ) → In i c.gather_corners.new.corners.items ↔ IsListedCorner fs xs i) c.deref.ensures.value c.in_ok-gather_corners.ensures.members))
 
-pub returns : goal.returns
-returns c =
+pub returns-clause-face : goal.returns-clause-face
+returns-clause-face c =
     let pts = c.args.pts.now in let fs = c.args.mesh.now in let f = c.args.f.0 in let vs = c.walk_plane.new.facets.items in let corners = c.gather_corners.new.corners.items in
     let n = cross (place pts (facet_at fs f).i) (place pts (facet_at fs f).j) (place pts (facet_at fs f).k) in
     IfOk-weaker c.facet_polygon.result
