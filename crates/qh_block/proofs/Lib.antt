@@ -1,3 +1,3 @@
 pub mod SegmentSteps
 pub mod flats
-pub mod solids
+pub mod finished

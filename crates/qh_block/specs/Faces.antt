@@ -1,5 +1,5 @@
 -- The faces of a solid, gathered plane by plane from the facets of its finished mesh.
-use Rattle.std.specs.Prelude.{◌≡◌, ◌⊎◌, ℕ, ◌+◌, ◌*◌, ◌<◌, ◌^◌, List, [], ◌∷◌, length, map, take, nat_lt, ◌&&◌, Bool, true}
+use Rattle.std.specs.Prelude.{◌≡◌, ◌⊎◌, ℕ, ◌<◌, List, [], ◌∷◌, ◌++◌, length, map, take, Bool, true}
 use Rattle.qh_model.specs.Vector.{Vector}
 use Rattle.qh_model.specs.Sets.{In, Once}
 use Rattle.qh_model.specs.Surface.{IsCorner}
@@ -51,3 +51,12 @@ pub record AreFacetFaces (at : ℕ → Vector) (A : ℕ → Type 0) (fs : List S
   pub each : (f : ℕ) → IsLive fs f → (q : List ℕ) × In q qs × IsFacetPolygon at A fs f q
   pub only : (q : List ℕ) → In q qs → (f : ℕ) × IsLive fs f × IsFacetPolygon at A fs f q
   pub apart : AreApart qs
+
+-- the members of all polygons, one after the other
+abbrev pub all_members : List (List ℕ) → List ℕ
+all_members [] = []
+all_members (q ∷ qs) = q ++ all_members qs
+
+-- i is a member of a polygon
+abbrev pub IsListed : List (List ℕ) → ℕ → Type 0
+IsListed qs i = (q : List ℕ) × In q qs × In i q

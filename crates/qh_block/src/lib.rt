@@ -9,11 +9,14 @@
 #![tactic(auto)]
 
 mod bodies;
+mod face_order;
 mod faces;
 mod flat_sets;
 mod normals;
 mod plane_walk;
 mod segment;
+mod solid_edges;
+mod solids;
 #[cfg(test)]
 mod tests;
 

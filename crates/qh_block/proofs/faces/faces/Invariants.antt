@@ -1,4 +1,4 @@
-use Rattle.qh_block.proofs.solids.Gathering.{IsGathering}
+use Rattle.qh_block.proofs.finished.Gathering.{IsGathering}
 use Rattle.qh_block.proofs.faces.faces.Given as goal
 
 abbrev pub invariant-loop-f : goal.invariant-loop-f

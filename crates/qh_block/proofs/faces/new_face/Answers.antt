@@ -12,9 +12,9 @@ use Rattle.qh_mesh.specs.Replacement.{IsLive, is_listed}
 use Rattle.qh_plane.specs.PlaceKeys.{AreIndices}
 use Rattle.qh_plane.specs.PlanarSets.{IsPlanarSet}
 use Rattle.qh_block.specs.Faces.{IsListedCorner, IsNewPlane, IsNewFace}
-use Rattle.qh_block.proofs.solids.Corners.{corners_in}
-use Rattle.qh_block.proofs.solids.Extensions.{walked_live}
-use Rattle.qh_block.proofs.solids.NewFaces.{new_face}
+use Rattle.qh_block.proofs.finished.Corners.{corners_in}
+use Rattle.qh_block.proofs.finished.Extensions.{walked_live}
+use Rattle.qh_block.proofs.finished.NewFaces.{new_face}
 use Rattle.qh_block.proofs.faces.new_face.Goals as goal
 
 pub gather_corners-requires : goal.gather_corners-requires

@@ -6,7 +6,7 @@ use Rattle.qh_model.proofs.surfaces.FacetPlanes.{level_itself}
 use Rattle.qh_mesh.specs.declared.facets.FacetNo.{FacetNo}
 use Rattle.qh_mesh.specs.Replacement.{IsLive, is_listed, number}
 use Rattle.qh_block.specs.PlaneWalks.{IsExtension}
-use Rattle.qh_block.proofs.solids.Extensions.{live_within, extension_one, extension_trans, listed_at, listed_append, or_left, read_number, walked_live, walked_level, crossed_more, crossed_all}
+use Rattle.qh_block.proofs.finished.Extensions.{live_within, extension_one, extension_trans, listed_at, listed_append, or_left, read_number, walked_live, walked_level, crossed_more, crossed_all}
 use Rattle.qh_block.proofs.plane_walk.walk_plane.Goals as goal
 
 pub loop-next-init : goal.loop-next-init

@@ -17,7 +17,7 @@ use Rattle.qh_plane.proofs.Members.{to_contains, of_contains}
 use Rattle.qh_plane.specs.PlaceKeys.{AreIndices}
 use Rattle.qh_block.specs.PlaneWalks.{AreCornersBelow}
 use Rattle.qh_block.specs.Faces.{corners_of, IsListedCorner}
-use Rattle.qh_block.proofs.solids.Extensions.{listed_at, read_number}
+use Rattle.qh_block.proofs.finished.Extensions.{listed_at, read_number}
 
 -- ---- sorted, and freed from repeated ids
 -- the members stay

@@ -14,8 +14,8 @@ use Rattle.qh_mesh.specs.LiveNumbers.{numbers}
 use Rattle.qh_mesh.specs.Replacement.{IsLive}
 use Rattle.qh_block.specs.PlaneWalks.{mark_at, IsExtension}
 use Rattle.qh_block.specs.Faces.{IsNewPlane, IsNewFace, AreMarkedFaces, AreFacetFaces}
-use Rattle.qh_block.proofs.solids.Extensions.{live_within}
-use Rattle.qh_block.proofs.solids.FaceLists.{in_map, no_faces, new_plane, next_face, all_faces}
+use Rattle.qh_block.proofs.finished.Extensions.{live_within}
+use Rattle.qh_block.proofs.finished.FaceLists.{in_map, no_faces, new_plane, next_face, all_faces}
 
 -- where facets are left to be looked at
 pub record IsGathering (pts : List Vector) (fs : List StoredFacet) (left : List FacetNo) (marks : List Bool) (qs : List (List ℕ)) : Type 0 where

@@ -27,7 +27,7 @@ use Rattle.qh_mesh.specs.Replacement.{IsLive, is_listed, twin_of}
 use Rattle.qh_plane.specs.PlanarSets.{IsPlanarSet}
 use Rattle.qh_block.specs.PlaneWalks.{mark_at, IsExtension, AreCrossed, IsCrossed}
 use Rattle.qh_block.specs.Faces.{IsListedCorner, IsNewPlane, IsNewFace}
-use Rattle.qh_block.proofs.solids.Extensions.{or_true, or_left, or_right, walked_live, walked_level}
+use Rattle.qh_block.proofs.finished.Extensions.{or_true, or_left, or_right, walked_live, walked_level}
 
 -- an extreme of a set is one of a set with the same members
 extreme_as : (at : ℕ → Vector) (A B : ℕ → Type 0) → ((i : ℕ) → A i ↔ B i) → (l : ℕ) → Extreme at A l → Extreme at B l

@@ -1,6 +1,0 @@
--- Solids: walks in the planes of facets, the faces that they gather, the order of faces, and edges.
-pub mod Extensions
-pub mod Corners
-pub mod NewFaces
-pub mod FaceLists
-pub mod Gathering
