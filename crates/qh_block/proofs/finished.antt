@@ -6,3 +6,4 @@ pub mod FaceLists
 pub mod Gathering
 pub mod FaceOrder
 pub mod EdgeCounts
+pub mod SolidBodies
