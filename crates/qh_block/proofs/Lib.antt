@@ -1,3 +1,10 @@
 pub mod SegmentSteps
 pub mod flats
 pub mod finished
+pub mod ChainWrites
+pub mod HeldSets
+pub mod SetCalls
+pub mod NewSets
+pub mod runs
+pub mod WalkSteps
+pub mod FoundFacets

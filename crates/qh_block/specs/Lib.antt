@@ -4,3 +4,9 @@ pub mod PlaneWalks
 pub mod Faces
 pub mod FaceKeys
 pub mod SolidEdges
+pub mod Planes
+pub mod OutsideSets
+pub mod PositionChains
+pub mod Runs
+pub mod Settling
+pub mod Walks

@@ -14,6 +14,7 @@ mod faces;
 mod flat_sets;
 mod normals;
 mod plane_walk;
+mod quickhull;
 mod segment;
 mod solid_edges;
 mod solids;
@@ -21,3 +22,4 @@ mod solids;
 mod tests;
 
 pub use flat_sets::flat_hull;
+pub use quickhull::surface;

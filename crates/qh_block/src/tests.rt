@@ -6,6 +6,8 @@ use qh_model::{Body, Id, Point};
 use qh_plane::rank;
 use std::test::Fail;
 
+mod surfaces;
+
 /// The ids of four points.
 fn four_ids() -> [Id; 4]
     ensures { result ≡ 0 ∷ 1 ∷ 2 ∷ 3 ∷ [] }

@@ -4,7 +4,7 @@ use Rattle.std.proofs.Math.Nat.{mul-le-mul}
 use Rattle.std.proofs.lemmas.Int.{to_z-of_z, ints, unsigned_abs-mul, fits_signed_from_abs}
 use Rattle.std.specs.Prelude.{ℤ, ◌+ℤ◌, ◌-ℤ◌, ◌*ℤ◌, unsigned_abs}
 use Rattle.qh_model.specs.Vector.{Vector, dot}
-use Rattle.qh_pred.specs.Bounds.{normal_limit, IsNormal}
+use Rattle.qh_pred.specs.Bounds.{normal_limit, offset_limit, IsNormal}
 use mir.Syntax.{w64, w128}
 use mir.Val.{to_z, of_z}
 
@@ -13,7 +13,7 @@ within-add : (x y : ℤ) (m n : ℕ) → unsigned_abs x ≤ m → unsigned_abs y
 within-add x y m n h k = omega (arith, ints)
 
 -- the size of a difference
-within-sub : (x y : ℤ) (m n : ℕ) → unsigned_abs x ≤ m → unsigned_abs y ≤ n → unsigned_abs (x -ℤ y) ≤ m + n
+pub within-sub : (x y : ℤ) (m n : ℕ) → unsigned_abs x ≤ m → unsigned_abs y ≤ n → unsigned_abs (x -ℤ y) ≤ m + n
 within-sub x y m n h k = omega (arith, ints)
 
 -- the size of a product
@@ -21,11 +21,11 @@ within-mul : (x y : ℤ) (m n : ℕ) → unsigned_abs x ≤ m → unsigned_abs y
 within-mul x y m n h k = rw (unsigned_abs-mul x y) (mul-le-mul h k)
 
 -- a number of a size below 2^63 fits 64 bits
-fits : (x : ℤ) (m : ℕ) → unsigned_abs x ≤ m → m < 2 ^ 63 → FitsSigned w64 x
+pub fits : (x : ℤ) (m : ℕ) → unsigned_abs x ≤ m → m < 2 ^ 63 → FitsSigned w64 x
 fits x m h k = fits_signed_from_abs w64 x (omega arith)
 
 -- a number of a size below 2^127 fits 128 bits
-fits_wide : (x : ℤ) (m : ℕ) → unsigned_abs x ≤ m → m < 2 ^ 127 → FitsSigned w128 x
+pub fits_wide : (x : ℤ) (m : ℕ) → unsigned_abs x ≤ m → m < 2 ^ 127 → FitsSigned w128 x
 fits_wide x m h k = fits_signed_from_abs w128 x (omega arith)
 
 -- what is known of a b - c d, in 64 bits
@@ -49,11 +49,11 @@ minor_fits m a b c d s ha hb hc hd =
     }
 
 -- a number that went to its 128 bits and came back
-abbrev through : ℤ → ℤ
+abbrev pub through : ℤ → ℤ
 through z = to_z w128 (of_z w128 z)
 
 -- a number that went to its 64 bits and came back
-abbrev through_half : ℤ → ℤ
+abbrev pub through_half : ℤ → ℤ
 through_half z = to_z w64 (of_z w64 z)
 
 -- the product of two components, as the code hands them on
@@ -88,3 +88,11 @@ dot_fits u v p q r hu hv ep eq er = rw (kept u.x v.x p hu.x hv.x ep, kept u.y v.
         let ft : FitsSigned w128 (u.x *ℤ v.x +ℤ u.y *ℤ v.y) = fits_wide (u.x *ℤ v.x +ℤ u.y *ℤ v.y) (m + m) two (omega arith) in
         let fw : FitsSigned w128 (u.x *ℤ v.x +ℤ u.y *ℤ v.y +ℤ u.z *ℤ v.z) = fits_wide (u.x *ℤ v.x +ℤ u.y *ℤ v.y +ℤ u.z *ℤ v.z) (m + m + m) whole (omega arith) in
         record { two = simp to_z-of_z ft; whole = simp to_z-of_z fw; value = simp to_z-of_z }
+
+-- the size of a scalar product of vectors within the limit of normals
+pub dot-within : (u v : Vector) → IsNormal u → IsNormal v → unsigned_abs (dot u v) ≤ offset_limit
+dot-within u v hu hv =
+    sum (normal_limit * normal_limit) (u.x *ℤ v.x) (u.y *ℤ v.y) (u.z *ℤ v.z) (within-mul u.x v.x normal_limit normal_limit hu.x hv.x) (within-mul u.y v.y normal_limit normal_limit hu.y hv.y) (within-mul u.z v.z normal_limit normal_limit hu.z hv.z)
+  where
+    sum : (m : ℕ) (x y z : ℤ) → unsigned_abs x ≤ m → unsigned_abs y ≤ m → unsigned_abs z ≤ m → unsigned_abs (x +ℤ y +ℤ z) ≤ 3 * m
+    sum m x y z hx hy hz = let two = within-add x y m m hx hy in let whole = within-add (x +ℤ y) z (m + m) m two hz in omega (arith, whole)

@@ -11,6 +11,10 @@ difference_limit = 2 * COORDINATE_LIMIT
 abbrev pub normal_limit : ℕ
 normal_limit = 2 * (difference_limit * difference_limit)
 
+-- the greatest size of a scalar product of two such vectors, by its three products
+abbrev pub offset_limit : ℕ
+offset_limit = 3 * (normal_limit * normal_limit)
+
 -- each component is in the range of a difference of points
 pub record IsDifference (v : Vector) : Type 0 where
   pub x : unsigned_abs v.x ≤ difference_limit

@@ -3,7 +3,7 @@
 ghost use Rattle.std.specs.Prelude.{◌≡◌, ◌≤◌, ◌*ℤ◌, ◌-ℤ◌, ◌↔◌, IsTrue, unsigned_abs};
 ghost use Rattle.qh_model.specs.Vector.{Vector, origin, minus, cross_product, dot};
 ghost use Rattle.qh_model.specs.Limits.{IsCoordinate};
-ghost use Rattle.qh_pred.specs.Bounds.{difference_limit, normal_limit, IsDifference, IsNormal};
+ghost use Rattle.qh_pred.specs.Bounds.{difference_limit, normal_limit, offset_limit, IsDifference, IsNormal};
 
 use qh_model::Point;
 use std::marker::Model;
@@ -127,6 +127,17 @@ impl Components {
         Components { x, y, z }
     }
 
+    /// The way from the origin to a point.
+    pub fn of_point(p: Point) -> Components
+        ensures { result ≡ p }
+    {
+        Components {
+            x: i64::from(p.x()),
+            y: i64::from(p.y()),
+            z: i64::from(p.z()),
+        }
+    }
+
     /// The first component.
     pub fn x(self) -> i64
         ensures value { result ≡ self.x }
@@ -160,7 +171,8 @@ impl Components {
 
     /// The scalar product of two vectors.
     pub fn dot(self, other: Components) -> i128
-        ensures { result ≡ dot self other }
+        ensures value { result ≡ dot self other }
+        ensures limit { unsigned_abs result ≤ offset_limit }
     {
         wide_product(self.x, other.x)
             + wide_product(self.y, other.y)

@@ -1,5 +1,6 @@
 //! The exact geometric predicates: the volume of four points, the normal of three, whether three
-//! points lie in one line, and the turn of three points seen from a side.
+//! points lie in one line, and the turn of three points seen from a side. A [`Plane`] keeps what the
+//! volumes of one triangle have in common.
 //!
 //! Each answers its definition of `qh_model/specs/Predicates.antt` with no rounding, for all points,
 //! since a [`qh_model::Point`] keeps the limit of coordinates. No call takes memory.
@@ -9,11 +10,13 @@
 
 mod components;
 mod normal;
+mod plane;
 mod positions;
 mod predicates;
 #[cfg(test)]
 mod tests;
 
 pub use normal::Normal;
+pub use plane::Plane;
 pub use positions::along;
 pub use predicates::{cross, in_line, left, point_at, vol};

@@ -8,7 +8,7 @@ use qh_model::{Id, Point};
 
 /// The cross product of the ways from a to b and to c.
 #[tactic(auto, unfolding(qh_model::specs::Predicates::cross))]
-fn product(a: Point, b: Point, c: Point) -> Components
+pub(crate) fn product(a: Point, b: Point, c: Point) -> Components
     ensures { result ≡ cross a b c }
 {
     Difference::between(a, b).cross(Difference::between(a, c))

@@ -13,4 +13,4 @@ left_from n u v w p m h k = rw (h, k) refl
 pub returns : goal.returns
 returns c =
     let fits : FitsSigned w128 c.dot.result = search rules in
-    to_z-of_z _ _ fits ∙ c.dot.ensures ∙ left_from _ _ _ _ _ _ c.product.ensures c.components.ensures
+    to_z-of_z _ _ fits ∙ c.dot.ensures.value ∙ left_from _ _ _ _ _ _ c.product.ensures c.components.ensures

@@ -1,6 +1,6 @@
 use Rattle.std.proofs.Common.{◌≡◌, ◌∙◌, refl}
 use Rattle.qh_model.specs.Vector.{Vector, dot}
-use Rattle.qh_pred.proofs.Bounds.{dot_fits}
+use Rattle.qh_pred.proofs.Bounds.{dot_fits, dot-within}
 use Rattle.qh_pred.proofs.components.Components.dot.Goals as goal
 
 -- equal vectors have equal products
@@ -17,5 +17,8 @@ overflow_add-result-2 c =
 
 pub returns : goal.returns
 returns c =
-    (dot_fits _ _ c.wide_product.result c.wide_product-2.result c.wide_product-3.result c.self.invariant c.other.invariant c.wide_product.ensures c.wide_product-2.ensures c.wide_product-3.ensures).value
-    ∙ dot-same _ _ _ _ c.self.view_is c.other.view_is
+    let fits = dot_fits _ _ c.wide_product.result c.wide_product-2.result c.wide_product-3.result c.self.invariant c.other.invariant c.wide_product.ensures c.wide_product-2.ensures c.wide_product-3.ensures in
+    record {
+      value = fits.value ∙ dot-same _ _ _ _ c.self.view_is c.other.view_is;
+      limit = rw (fits.value) (dot-within _ _ c.self.invariant c.other.invariant);
+    }

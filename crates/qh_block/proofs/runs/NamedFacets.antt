@@ -1,0 +1,60 @@
+-- Lists of facets: which ones a list names, and where live facets stand.
+use Rattle.std.proofs.Common.{◌≡◌, ◌≢◌, ℕ, zero, suc, ◌+◌, ◌<◌, ◌≤◌, arith, ap, sym, ◌∙◌, refl, ◌⊎◌, inl, inr, List, [], ◌∷◌, ◌++◌, length, take, subst, true}
+use Rattle.std.proofs.lemmas.List.{get_or_append_left, get_or_push, length_push, take_more, get_or_past, length-take-le}
+use Rattle.qh_model.specs.StoredSurface.{StoredFacet, facet_at, no_facet}
+use Rattle.qh_mesh.specs.declared.facets.FacetNo.{FacetNo}
+use Rattle.qh_mesh.specs.Replacement.{number, is_listed, IsLive}
+use Rattle.qh_mesh.proofs.Weaving.{by_le}
+use Rattle.qh_mesh.proofs.ListLemmas.{listed_at, listed_find}
+use Rattle.qh_block.specs.Runs.{Names, AreWithin}
+
+-- a live facet has a place
+pub live_within : (fs : List StoredFacet) (f : ℕ) → IsLive fs f → f < length fs
+live_within fs f l = by_le (f < length fs) f (length fs) (λ h. h) (λ h. let e = ap (λ (g : StoredFacet). g.live) (get_or_past fs f no_facet h) in absurd (cc))
+
+-- a list names what it named before a facet was added
+pub names_kept : (vs : List FacetNo) (x : FacetNo) (f : ℕ) → Names vs f → Names (vs ++ x ∷ []) f
+names_kept vs x f (j, l, e) = (j, (let h = length_push vs x in omega arith), e ∙ sym (ap (λ (v : FacetNo). v.0) (get_or_append_left vs (x ∷ []) (record { 0 = 0 }) j l)))
+
+-- and that facet
+pub names_last : (vs : List FacetNo) (x : FacetNo) → Names (vs ++ x ∷ []) x.0
+names_last vs x = (length vs, (let h = length_push vs x in omega arith), sym (ap (λ (v : FacetNo). v.0) (get_or_push vs x (record { 0 = 0 }) (length vs) refl)))
+
+-- and no other
+pub names_push : (vs : List FacetNo) (x : FacetNo) (f : ℕ) → Names (vs ++ x ∷ []) f → Names vs f ⊎ (f ≡ x.0)
+names_push vs x f (j, l, e) =
+    by_le (Names vs f ⊎ (f ≡ x.0)) j (length vs)
+    (λ h. inl (j, h, e ∙ ap (λ (v : FacetNo). v.0) (get_or_append_left vs (x ∷ []) (record { 0 = 0 }) j h)))
+    (λ h. inr (e ∙ ap (λ (v : FacetNo). v.0) (get_or_push vs x (record { 0 = 0 }) j (let k = length_push vs x in omega arith))))
+
+-- what a list names is within its bound
+pub names_within : (n : ℕ) (vs : List FacetNo) (f : ℕ) → AreWithin n vs → Names vs f → f < n
+names_within n vs f h (j, l, e) = let k = h j l in omega arith
+
+pub within_of : (n : ℕ) (vs : List FacetNo) → ((f : ℕ) → Names vs f → f < n) → AreWithin n vs
+within_of n vs h j l = h (number vs j) (j, l, refl)
+
+-- a bound of a list and of one more facet is one of both
+pub within_push : (n : ℕ) (vs : List FacetNo) (x : FacetNo) → AreWithin n vs → x.0 < n → AreWithin n (vs ++ x ∷ [])
+within_push n vs x h k = within_of n (vs ++ x ∷ []) (λ f i. by f (names_push vs x f i))
+  where
+    by : (f : ℕ) → Names vs f ⊎ (f ≡ x.0) → f < n
+    by f (inl i) = names_within n vs f h i
+    by f (inr e) = omega arith
+
+pub within_rest : (n : ℕ) (vs : List FacetNo) (x : FacetNo) → AreWithin n (vs ++ x ∷ []) → AreWithin n vs
+within_rest n vs x h = within_of n vs (λ f i. names_within n (vs ++ x ∷ []) f h (names_kept vs x f i))
+
+pub within_last : (n : ℕ) (vs : List FacetNo) (x : FacetNo) → AreWithin n (vs ++ x ∷ []) → x.0 < n
+within_last n vs x h = names_within n (vs ++ x ∷ []) x.0 h (names_last vs x)
+
+-- a greater bound
+pub within_more : (m n : ℕ) (vs : List FacetNo) → m ≤ n → AreWithin m vs → AreWithin n vs
+within_more m n vs l h j k = let e = h j k in omega arith
+
+-- the test of the mesh
+pub names_listed : (vs : List FacetNo) (f : ℕ) → Names vs f → is_listed vs f ≡ true
+names_listed vs f (j, l, e) = listed_at vs f j l e
+
+pub listed_names : (vs : List FacetNo) (f : ℕ) → is_listed vs f ≡ true → Names vs f
+listed_names vs f e = let r = listed_find vs f e in (r.0, r.1.0, r.1.1)

@@ -1,0 +1,49 @@
+//! The facets that wait for their turn, the last one first.
+ghost use Rattle.std.specs.Prelude.{◌≡◌, ◌+◌, ◌<◌, ℕ, List, length, OnOk, IfNone, IfSome};
+ghost use Rattle.qh_model.specs.Vector.{Vector};
+ghost use Rattle.qh_model.specs.Sets.{In};
+ghost use Rattle.qh_model.specs.StoredSurface.{StoredFacet};
+ghost use Rattle.qh_pred.specs.Planes.{PlaneValue};
+ghost use Rattle.qh_block.specs.OutsideSets.{set_of, listed};
+ghost use Rattle.qh_block.specs.Runs.{Names, AreWithin, IsDone, IsUnderWay, IsPicked};
+
+use crate::quickhull::outside_sets::OutsideSets;
+use qh_mesh::FacetNo;
+use std::alloc::AllocError;
+
+/// Adds those of the facets that have an outside set.
+pub fn enqueue(
+    pending: &mut Vec<FacetNo>,
+    sets: &OutsideSets,
+    made: &[FacetNo],
+) -> Result<(), AllocError>
+    requires { AreWithin (length sets.now.sets) made.now }
+    ensures within { AreWithin (length sets.now.sets) pending.old.items → AreWithin (length sets.now.sets) pending.new.items }
+    ensures kept { (f : ℕ) → Names pending.old.items f → Names pending.new.items f }
+    ensures made { OnOk result ((f p : ℕ) → Names made.now f → In p (set_of sets.now f) → Names pending.new.items f) }
+{
+    for facet in made {
+        if sets.first(*facet).is_some() {
+            pending.push(*facet)?;
+        }
+    }
+    Ok(())
+}
+
+/// The next facet that has an outside set, and the first point of that set, which leaves all sets.
+/// Facets without one are passed over.
+pub fn next_apex(pending: &mut Vec<FacetNo>, sets: &mut OutsideSets) -> Option<(FacetNo, u32)>
+    requires { AreWithin (length sets.old.sets) pending.old.items }
+    ensures done { IfNone result ((pts : List Vector) (ids : List ℕ) (fs : List StoredFacet) (ps : List PlaneValue)
+        → IsUnderWay pts ids fs ps sets.old pending.old.items → (p : ℕ) → p < length ids → IsDone pts ids fs p) }
+    ensures picked { IfSome result (λ next. (pts : List Vector) (ids : List ℕ) (fs : List StoredFacet) (ps : List PlaneValue)
+        → IsUnderWay pts ids fs ps sets.old pending.old.items → IsPicked pts ids fs ps sets.new pending.new.items (next.0).0 next.1) }
+    ensures listed { IfSome result (λ _. listed sets.new + 1 ≡ listed sets.old) }
+{
+    while let Some(facet) = pending.pop() {
+        if let Some(apex) = sets.take_first(facet) {
+            return Some((facet, apex));
+        }
+    }
+    None
+}

@@ -1,0 +1,117 @@
+//! How the points of facets that go find their new outside sets.
+ghost use Rattle.std.specs.Prelude.{◌≡◌, ◌≤◌, ◌<◌, ℕ, List, [], ◌∷◌, length, drop, map, pos, ◌<ℤ◌, IfNone, IfSome};
+ghost use Rattle.qh_model.specs.Vector.{Vector};
+ghost use Rattle.qh_model.specs.Predicates.{place};
+ghost use Rattle.qh_model.specs.StoredSurface.{StoredFacet};
+ghost use Rattle.qh_pred.specs.Planes.{height};
+ghost use Rattle.qh_mesh.specs.declared.facets.FacetNo.{FacetNo};
+ghost use Rattle.qh_mesh.specs.Replacement.{IsLive, number};
+ghost use Rattle.qh_block.specs.Planes.{plane_at, ArePlanes};
+ghost use Rattle.qh_block.specs.OutsideSets.{listed};
+ghost use Rattle.qh_block.specs.Runs.{Names, AreWithin, IsSettling};
+ghost use Rattle.qh_block.specs.Settling.{IsAboveNone, IsOneSettled, AreReleased};
+
+use crate::quickhull::outside_sets::OutsideSets;
+use qh_mesh::FacetNo;
+use qh_model::Point;
+use qh_pred::Plane;
+
+/// Makes the points of the facets that go orphans.
+pub fn release(sets: &mut OutsideSets, gone: &[FacetNo])
+    requires { AreWithin (length sets.old.sets) gone.now }
+    ensures released { AreReleased sets.old sets.new gone.now }
+    ensures places { length sets.new.sets ≡ length sets.old.sets }
+    ensures positions { sets.new.positions ≡ sets.old.positions }
+    ensures listed { listed sets.new ≡ listed sets.old }
+{
+    for facet in gone {
+        sets.release(*facet);
+    }
+}
+
+/// The first of the facets that the point is above.
+fn first_below(planes: &[Plane], made: &[FacetNo], point: Point) -> Option<FacetNo>
+    requires { AreWithin (length planes.now) made.now }
+    ensures none { IfNone result (IsAboveNone planes.now made.now point) }
+    ensures named { IfSome result (λ facet. Names made.now facet.0) }
+    ensures seen { IfSome result (λ facet. pos 0 <ℤ height (plane_at planes.now facet.0) point) }
+{
+    for facet in made {
+        if planes[facet.0].sees(point) {
+            return Some(*facet);
+        }
+    }
+    None
+}
+
+/// Whether the point is further above the facet than the first point of its outside set, or that set
+/// is empty.
+fn is_furthest(
+    sets: &OutsideSets,
+    planes: &[Plane],
+    points: &[Point],
+    facet: FacetNo,
+    point: Point,
+) -> bool
+    requires plane { facet.0 < length planes.now }
+    requires place { facet.0 < length sets.now.sets }
+    requires points { sets.now.positions ≡ length points.now }
+{
+    let plane = planes[facet.0];
+    match sets.first(facet) {
+        Some(first) => plane.height(point) > plane.height(points[first as usize]),
+        None => true,
+    }
+}
+
+/// Puts the first orphan into the outside set of the first of the facets that it is above: in front,
+/// if no other point of that set is known to be further. An orphan that is above none is dropped.
+fn settle_orphan(
+    sets: &mut OutsideSets,
+    planes: &[Plane],
+    points: &[Point],
+    made: &[FacetNo],
+    orphan: u32,
+)
+    requires points { sets.old.positions ≡ length points.now }
+    requires planes { AreWithin (length planes.now) made.now }
+    requires places { AreWithin (length sets.old.sets) made.now }
+    requires orphan { sets.old.orphans ≡ orphan ∷ drop 1 sets.old.orphans }
+    requires position { orphan < sets.old.positions }
+    ensures settled { IsOneSettled planes.now points.now made.now sets.old sets.new }
+    ensures places { length sets.new.sets ≡ length sets.old.sets }
+    ensures positions { sets.new.positions ≡ sets.old.positions }
+    ensures listed { listed sets.new ≤ listed sets.old }
+{
+    let point = points[orphan as usize];
+    match first_below(planes, made, point) {
+        Some(facet) => {
+            let in_front = is_furthest(sets, planes, points, facet, point);
+            sets.assign_orphan(facet, in_front);
+        }
+        None => sets.drop_orphan(),
+    }
+}
+
+/// Settles all orphans among the facets that were made.
+pub fn settle_orphans(
+    sets: &mut OutsideSets,
+    planes: &[Plane],
+    points: &[Point],
+    made: &[FacetNo],
+)
+    requires points { sets.old.positions ≡ length points.now }
+    requires planes { AreWithin (length planes.now) made.now }
+    requires places { AreWithin (length sets.old.sets) made.now }
+    ensures none { sets.new.orphans ≡ [] }
+    ensures settled { (pts : List Vector) (ids : List ℕ) (fs : List StoredFacet) (pending : List FacetNo) → points.now ≡ map (place pts) ids
+        → ((j : ℕ) → j < length made.now → IsLive fs (number made.now j)) → ArePlanes (place pts) fs planes.now
+        → IsSettling pts ids fs sets.old pending made.now → IsSettling pts ids fs sets.new pending made.now }
+    ensures places { length sets.new.sets ≡ length sets.old.sets }
+    ensures positions { sets.new.positions ≡ sets.old.positions }
+    ensures listed { listed sets.new ≤ listed sets.old }
+{
+    while let Some(orphan) = sets.first_orphan() {
+        settle_orphan(sets, planes, points, made, orphan);
+    }
+}

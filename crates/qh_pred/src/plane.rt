@@ -1,0 +1,92 @@
+//! The planes of triangles.
+ghost use Rattle.std.specs.Prelude.{◌≡◌, ◌≤◌, ◌↔◌, IsTrue, pos, ◌<ℤ◌, unsigned_abs};
+ghost use Rattle.qh_model.specs.Vector.{Vector, dot};
+ghost use Rattle.qh_model.specs.Predicates.{vol};
+ghost use Rattle.qh_pred.specs.Bounds.{offset_limit};
+ghost use Rattle.qh_pred.specs.Planes.{PlaneValue, height};
+
+use crate::components::Components;
+use crate::normal::Normal;
+use crate::predicates::product;
+use qh_model::Point;
+use std::marker::Model;
+
+/// The plane of a triangle: its normal, and the scalar product of the normal with each point of the
+/// plane. A point's side of it costs three products of 64 bits, since the normal is worked out once.
+///
+/// A contract sees it as these whole numbers, without bound.
+///
+/// Source: Barber, Dobkin and Huhdanpaa 1996 (a facet keeps its hyperplane).
+#[derive(Clone, Copy)]
+pub struct Plane {
+    x: i64,
+    y: i64,
+    z: i64,
+    offset: i128,
+}
+
+impl Model for Plane {
+    ghost use Rattle.qh_pred.specs.Planes.{PlaneValue, plane_code, IsPlane};
+
+    ghost Value = { PlaneValue };
+
+    ghost coded = { plane_code };
+
+    ghost view = { λ p. record { normal = record { x = p.x; y = p.y; z = p.z }; offset = p.offset } };
+
+    ghost invariant = { λ p. IsPlane (record { normal = record { x = p.x; y = p.y; z = p.z }; offset = p.offset }) };
+
+    ghost inverse = { λ p. record { x = p.normal.x; y = p.normal.y; z = p.normal.z; offset = p.offset } };
+}
+
+impl Plane {
+    /// The plane of the triangle a, b, c, with the side above from which it goes counterclockwise.
+    pub fn through(a: Point, b: Point, c: Point) -> Plane
+        ensures { (p : Vector) → height result p ≡ vol a b c p }
+    {
+        let normal = product(a, b, c);
+        Plane {
+            x: normal.x(),
+            y: normal.y(),
+            z: normal.z(),
+            offset: normal.dot(Components::of_point(a)),
+        }
+    }
+
+    /// Its normal, which points to the side above.
+    pub fn normal(&self) -> Normal
+        ensures { result ≡ self.now.normal }
+    {
+        Normal::of_product(Components::new(self.x, self.y, self.z))
+    }
+
+    /// The scalar product of the normal and each point of the plane.
+    pub fn offset(&self) -> i128
+        ensures { result ≡ self.now.offset }
+    {
+        self.offset
+    }
+
+    /// The scalar product of the normal and a point.
+    fn reach(&self, p: Point) -> i128
+        ensures value { result ≡ dot self.now.normal p }
+        ensures limit { unsigned_abs result ≤ offset_limit }
+    {
+        Components::new(self.x, self.y, self.z).dot(Components::of_point(p))
+    }
+
+    /// Six times the volume of the triangle's tetrahedron with `p`: above 0 where `p` is above the
+    /// plane, 0 where it is on it.
+    pub fn height(&self, p: Point) -> i128
+        ensures { result ≡ height self.now p }
+    {
+        self.reach(p) - self.offset
+    }
+
+    /// Whether `p` is above the plane, so that the triangle strictly sees it.
+    pub fn sees(&self, p: Point) -> bool
+        ensures { IsTrue result ↔ (pos 0 <ℤ height self.now p) }
+    {
+        self.reach(p) > self.offset
+    }
+}
