@@ -12,6 +12,7 @@ mod bodies;
 mod face_order;
 mod faces;
 mod flat_sets;
+mod hulls;
 mod normals;
 mod plane_walk;
 mod quickhull;
@@ -22,4 +23,5 @@ mod solids;
 mod tests;
 
 pub use flat_sets::flat_hull;
+pub use hulls::{extremes, hull};
 pub use quickhull::surface;

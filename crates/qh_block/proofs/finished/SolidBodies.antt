@@ -18,6 +18,9 @@ use Rattle.qh_model.proofs.surfaces.Complete.{finished_is_solid, polygons_of_fac
 use Rattle.qh_model.proofs.surfaces.FacetPlanes.{level_itself}
 use Rattle.qh_model.proofs.surfaces.Finished.{extremes_are_corners}
 use Rattle.qh_model.proofs.surfaces.Stored.{live_is_marked}
+use Rattle.qh_model.proofs.Members.{All-In}
+use Rattle.qh_plane.specs.PlaceKeys.{AreIndices}
+use Rattle.qh_block.specs.PlaneWalks.{AreCornersBelow}
 use Rattle.qh_block.specs.Faces.{AreFacetFaces, all_members, IsListed}
 use Rattle.qh_block.specs.SolidEdges.{all_edges_up}
 use Rattle.qh_block.proofs.finished.EdgeCounts.{edges_of_faces}
@@ -103,3 +106,14 @@ all_members_more qs n q xs ys h e is f =
         plain [] = refl
         plain (x ∷ q) = ap (λ t. x ∷ t) (plain q)
     push (p ∷ qs) q = ap (λ t. p ++ t) (push qs q) ∙ sym (append_assoc p (all_members qs) q)
+
+-- the corners of a finished mesh are ids of the points
+pub finished_corners : (pts : List Vector) (ids : List ℕ) (fs : List StoredFacet) → AreIndices pts ids → IsFinished (place pts) ids (surface_of fs) → AreCornersBelow (length pts) fs
+finished_corners pts ids fs all z = record {
+  i_in = λ f l. inside (z.corners f ((live_is_marked fs f).1 l) ((surface_of fs).i f) (inl refl));
+  j_in = λ f l. inside (z.corners f ((live_is_marked fs f).1 l) ((surface_of fs).j f) (inr (inl refl)));
+  k_in = λ f l. inside (z.corners f ((live_is_marked fs f).1 l) ((surface_of fs).k f) (inr (inr refl)));
+}
+  where
+    inside : {i : ℕ} → Members ids i → i < length pts
+    inside {i} m = All-In (λ i. i < length pts) ids i all m
