@@ -1,5 +1,5 @@
 -- The number of edges of a solid: each is gone along from its lower id to its higher one by one face.
-use Rattle.std.proofs.Common.{◌≡◌, ◌≢◌, ◌∙◌, ◌⊎◌, inl, inr, ℕ, zero, suc, ◌+◌, ◌-◌, ◌<◌, List, [], ◌∷◌, ◌++◌, length, take, ap, sym, subst, refl, arith, Bool, true, false, cond, get_or}
+use Rattle.std.proofs.Common.{◌≡◌, ◌∙◌, ◌⊎◌, inl, inr, ℕ, suc, ◌+◌, ◌-◌, ◌<◌, List, [], ◌∷◌, ◌++◌, length, take, ap, sym, subst, refl, arith, Bool, true, false, cond, get_or}
 use Rattle.std.specs.Prelude.{◌↔◌, nat_lt}
 use Rattle.std.proofs.lemmas.Bool.{lt-ltb, ltb-true}
 use Rattle.std.proofs.lemmas.List.{take_more}
@@ -7,8 +7,8 @@ use Rattle.qh_model.specs.Vector.{Vector}
 use Rattle.qh_model.specs.Sets.{In, Once, Members}
 use Rattle.qh_model.specs.DistinctIds.{HasDistinctPoints}
 use Rattle.qh_model.specs.Dimension.{IsDimension}
-use Rattle.qh_model.specs.Polygons.{RiseStrictly, AreFaces, FollowsAlong, Follows, IsEdge, IsEdgeCount}
-use Rattle.qh_model.proofs.polygons.Edges.{one_face_each_way, other_face, follows_members}
+use Rattle.qh_model.specs.Polygons.{AreFaces, FollowsAlong, Follows, IsEdge, IsEdgeCount}
+use Rattle.qh_model.proofs.polygons.Edges.{one_face_each_way, other_face}
 use Rattle.qh_block.specs.SolidEdges.{steps_up, last_of, edges_up, all_edges_up}
 use Rattle.qh_block.proofs.finished.FaceLists.{in_append, of_append}
 

@@ -1,14 +1,11 @@
 -- Faces that are gathered one after the other, each plane once.
-use Rattle.std.proofs.Common.{◌≡◌, ◌≢◌, ◌∙◌, ◌⊎◌, inl, inr, ℕ, ◌<◌, List, [], ◌∷◌, ◌++◌, length, map, take, ap, sym, subst, refl, arith, Bool, true, false}
-use Rattle.std.specs.Prelude.{◌↔◌, pos, ◌*ℤ◌, ◌<ℤ◌}
+use Rattle.std.proofs.Common.{◌≡◌, ◌∙◌, ◌⊎◌, inl, inr, ℕ, ◌<◌, List, [], ◌∷◌, ◌++◌, length, map, take, ap, sym, subst, refl, arith, Bool, true, false}
+use Rattle.std.specs.Prelude.{pos}
 use Rattle.qh_model.specs.Vector.{Vector}
-use Rattle.qh_model.specs.Predicates.{cross, vol, left}
+use Rattle.qh_model.specs.Predicates.{cross, vol}
 use Rattle.qh_model.specs.Sets.{In, Once, Members}
-use Rattle.qh_model.specs.Dimension.{HasTriangle}
 use Rattle.qh_model.specs.DistinctIds.{HasDistinctPoints}
-use Rattle.qh_model.specs.Extreme.{Extreme}
 use Rattle.qh_model.specs.FaceLaws.{IsAlong, SpannedByExtremes}
-use Rattle.qh_model.specs.SupportingPlane.{OnPlane}
 use Rattle.qh_model.specs.Surface.{Surface}
 use Rattle.qh_model.specs.FinishedSurface.{IsFinished}
 use Rattle.qh_model.specs.FacetPlanes.{IsLevelWith, IsLevelFacet}
@@ -23,7 +20,7 @@ use Rattle.qh_model.proofs.surfaces.Finished.{facet_area, facets_support}
 use Rattle.qh_model.proofs.surfaces.Stored.{live_is_marked}
 use Rattle.qh_mesh.specs.Replacement.{IsLive}
 use Rattle.qh_block.specs.PlaneWalks.{mark_at}
-use Rattle.qh_block.specs.Faces.{IsFacetPolygon, IsNewPlane, IsNewFace, AreApart, AreMarkedFaces, AreFacetFaces}
+use Rattle.qh_block.specs.Faces.{IsFacetPolygon, IsNewPlane, IsNewFace, AreMarkedFaces, AreFacetFaces}
 use Rattle.qh_block.proofs.flats.Polygons.{three_members}
 
 -- ---- lists

@@ -1,5 +1,5 @@
 -- The loop over the live facets of a mesh that gathers its faces.
-use Rattle.std.proofs.Common.{◌≡◌, ◌∙◌, ◌⊎◌, inl, inr, ℕ, ◌<◌, ◌≤◌, List, [], ◌∷◌, ◌++◌, length, map, replicate, ap, sym, subst, refl, arith, Bool, true, false, get_or}
+use Rattle.std.proofs.Common.{◌≡◌, ◌∙◌, ◌⊎◌, inl, inr, ℕ, ◌<◌, List, [], ◌∷◌, ◌++◌, length, replicate, ap, sym, subst, refl, arith, Bool, true, false}
 use Rattle.std.proofs.lemmas.List.{get_or-replicate, get_or_past, length-replicate}
 use Rattle.qh_mesh.proofs.Weaving.{by_le}
 use Rattle.qh_model.specs.Vector.{Vector}
@@ -12,7 +12,7 @@ use Rattle.qh_model.proofs.surfaces.Stored.{live_is_marked}
 use Rattle.qh_mesh.specs.declared.facets.FacetNo.{FacetNo}
 use Rattle.qh_mesh.specs.LiveNumbers.{numbers}
 use Rattle.qh_mesh.specs.Replacement.{IsLive}
-use Rattle.qh_block.specs.PlaneWalks.{mark_at, IsExtension}
+use Rattle.qh_block.specs.PlaneWalks.{mark_at}
 use Rattle.qh_block.specs.Faces.{IsNewPlane, IsNewFace, AreMarkedFaces, AreFacetFaces}
 use Rattle.qh_block.proofs.finished.Extensions.{live_within}
 use Rattle.qh_block.proofs.finished.FaceLists.{in_map, no_faces, new_plane, next_face, all_faces}

@@ -14,7 +14,7 @@ use Rattle.qh_model.specs.Surface.Side.{first, second, third}
 use Rattle.qh_model.specs.FinishedSurface.{IsFinished}
 use Rattle.qh_model.specs.FacetPlanes.{IsLevelFacet}
 use Rattle.qh_model.specs.CompletenessLaws.{CornerInPlane}
-use Rattle.qh_model.specs.StoredSurface.{StoredFacet, facet_at, surface_of}
+use Rattle.qh_model.specs.StoredSurface.{StoredFacet, surface_of}
 use Rattle.qh_model.proofs.extremes.Directions.{along_itself}
 use Rattle.qh_model.proofs.extremes.ExtremeIds.{combination_within}
 use Rattle.qh_model.proofs.polygons.Direction.{polygon_as}

@@ -10,7 +10,7 @@ use Rattle.qh_model.specs.DistinctIds.{IsIdSet}
 use Rattle.qh_model.specs.Extreme.{Extreme}
 use Rattle.qh_model.specs.FinishedSurface.{IsFinished}
 use Rattle.qh_model.specs.Hull.{AreExtremes, IsBody}
-use Rattle.qh_model.specs.Polygons.{ComesBefore, RiseStrictly, AreFaces, IsEdgeCount}
+use Rattle.qh_model.specs.Polygons.{ComesBefore, RiseStrictly, AreFaces}
 use Rattle.qh_model.specs.StoredSurface.{StoredFacet, surface_of}
 use Rattle.qh_model.proofs.lists.Lexicographic.{before-asymmetric, rising-ordered}
 use Rattle.qh_model.proofs.lists.Ordered.{Ordered}

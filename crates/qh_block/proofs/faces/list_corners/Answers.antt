@@ -1,5 +1,3 @@
-use Rattle.std.proofs.Common.{◌≡◌, List, [], ◌∷◌, ◌++◌, ap, ◌∙◌, get_or}
-use Rattle.qh_model.specs.StoredSurface.{facet_at}
 use Rattle.qh_mesh.specs.Replacement.{number}
 use Rattle.qh_block.proofs.finished.Extensions.{listed_at}
 use Rattle.qh_block.proofs.finished.Corners.{corners_more}

@@ -8,7 +8,7 @@ use Rattle.qh_model.specs.Predicates.{cross, place}
 use Rattle.qh_model.specs.Sets.{In, Members}
 use Rattle.qh_model.specs.StoredSurface.{facet_at, surface_of}
 use Rattle.qh_mesh.specs.declared.facets.FacetNo.{FacetNo}
-use Rattle.qh_mesh.specs.Replacement.{IsLive, is_listed}
+use Rattle.qh_mesh.specs.Replacement.{is_listed}
 use Rattle.qh_plane.specs.PlaceKeys.{AreIndices}
 use Rattle.qh_plane.specs.PlanarSets.{IsPlanarSet}
 use Rattle.qh_block.specs.Faces.{IsListedCorner, IsNewPlane, IsNewFace}

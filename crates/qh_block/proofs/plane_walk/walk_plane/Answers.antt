@@ -1,10 +1,9 @@
 use Rattle.std.proofs.Common.{rules, set, ◌≡◌, ◌∙◌, ◌<◌, ◌++◌, List, [], ◌∷◌, length, arith, ap, sym, subst, true}
 use Rattle.qh_model.specs.Predicates.{place}
-use Rattle.qh_model.specs.FacetPlanes.{IsLevelFacet}
 use Rattle.qh_model.specs.StoredSurface.{surface_of}
 use Rattle.qh_model.proofs.surfaces.FacetPlanes.{level_itself}
 use Rattle.qh_mesh.specs.declared.facets.FacetNo.{FacetNo}
-use Rattle.qh_mesh.specs.Replacement.{IsLive, is_listed, number}
+use Rattle.qh_mesh.specs.Replacement.{is_listed}
 use Rattle.qh_block.specs.PlaneWalks.{IsExtension}
 use Rattle.qh_block.proofs.finished.Extensions.{live_within, extension_one, extension_trans, listed_at, listed_append, or_left, read_number, walked_live, walked_level, crossed_more, crossed_all}
 use Rattle.qh_block.proofs.plane_walk.walk_plane.Goals as goal

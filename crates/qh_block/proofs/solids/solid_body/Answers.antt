@@ -1,5 +1,5 @@
 use Rattle.std.proofs.Common.{◌≡◌, ◌↔◌, ◌∙◌, ℕ, List, ap, sym, subst}
-use Rattle.qh_model.specs.Hull.{BodyValue, IsBody}
+use Rattle.qh_model.specs.Hull.{IsBody}
 use Rattle.qh_model.specs.Predicates.{place}
 use Rattle.qh_model.specs.Sets.{In, Members}
 use Rattle.qh_block.specs.Faces.{IsListed}

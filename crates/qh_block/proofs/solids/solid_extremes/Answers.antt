@@ -1,4 +1,4 @@
-use Rattle.std.proofs.Common.{◌≡◌, ◌↔◌, ℕ, List, subst}
+use Rattle.std.proofs.Common.{◌↔◌, ℕ, List, subst}
 use Rattle.std.proofs.lemmas.Result.{IfOk-weaker}
 use Rattle.std.specs.List.Sorted.{IsStrictlyIncreasing}
 use Rattle.qh_model.specs.DistinctIds.{IsIdSet}
