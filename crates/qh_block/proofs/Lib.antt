@@ -1,5 +1,6 @@
 pub mod SegmentSteps
 pub mod flats
+pub mod finished
 pub mod ChainWrites
 pub mod HeldSets
 pub mod SetCalls

@@ -1,5 +1,9 @@
 pub mod Segments
 pub mod FlatBodies
+pub mod PlaneWalks
+pub mod Faces
+pub mod FaceKeys
+pub mod SolidEdges
 pub mod Planes
 pub mod OutsideSets
 pub mod PositionChains

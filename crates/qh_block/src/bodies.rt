@@ -25,7 +25,7 @@ fn one_polygon(alloc: Global, polygon: Polygon) -> Result<Vec<Polygon>, Memory>
 }
 
 /// The ids of a list, rising, each once.
-fn rising_ids(alloc: Global, ids: &[Id]) -> Result<Vec<Id>, Memory>
+pub fn rising_ids(alloc: Global, ids: &[Id]) -> Result<Vec<Id>, Memory>
     ensures rising { IfOk result (λ v. IsStrictlyIncreasing v.items) }
     ensures members { IfOk result (λ v. (i : ℕ) → In i v.items ↔ In i ids.now) }
 {

@@ -16,7 +16,7 @@ use qh_pred::{cross, point_at};
 use std::alloc::Global;
 
 /// The hull of a set in the line of its first two ids, `i` and `j`.
-fn segment_hull(alloc: Global, pts: &[Point], ids: &[Id], i: Id, j: Id) -> Result<Body, Memory>
+pub(crate) fn segment_hull(alloc: Global, pts: &[Point], ids: &[Id], i: Id, j: Id) -> Result<Body, Memory>
     requires indices { AreIndices pts.now ids.now }
     requires two { AreFirstTwo ids.now i j }
     requires line { Each (IsInLine pts.now i j) ids.now }
@@ -35,7 +35,7 @@ fn segment_hull(alloc: Global, pts: &[Point], ids: &[Id], i: Id, j: Id) -> Resul
 }
 
 /// The hull of a set in the plane of `i`, `j` and `k`: its first two ids and the first off their line.
-fn polygon_hull(
+pub(crate) fn polygon_hull(
     alloc: Global,
     pts: &[Point],
     ids: &[Id],

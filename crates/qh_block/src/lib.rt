@@ -9,14 +9,19 @@
 #![tactic(auto)]
 
 mod bodies;
+mod face_order;
+mod faces;
 mod flat_sets;
+mod hulls;
 mod normals;
+mod plane_walk;
 mod quickhull;
 mod segment;
-mod stub;
+mod solid_edges;
+mod solids;
 #[cfg(test)]
 mod tests;
 
 pub use flat_sets::flat_hull;
+pub use hulls::{extremes, hull};
 pub use quickhull::surface;
-pub use stub::{extremes, hull};

@@ -11,3 +11,4 @@ mod tests;
 mod walk;
 
 pub use surfaces::surface;
+pub(crate) use surfaces::surface_from;

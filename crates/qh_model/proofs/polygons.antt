@@ -1,3 +1,4 @@
 -- Polygons: one list for each set and direction.
 pub mod Unique
 pub mod Direction
+pub mod Edges

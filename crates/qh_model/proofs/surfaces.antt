@@ -22,3 +22,4 @@ pub mod Stored
 pub mod Finished
 pub mod Complete
 pub mod Closed
+pub mod FacetPlanes

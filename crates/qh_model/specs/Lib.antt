@@ -38,3 +38,5 @@ pub mod ClosedSurface
 pub mod ClosedSurfaceLaws
 pub mod Cut
 pub mod CutLaws
+pub mod EdgeLaws
+pub mod FacetPlanes

@@ -36,7 +36,7 @@ in_line-last a b = vector_path (cross a b b) origin (none (b.y -ℤ a.y) (b.z -�
     none p q = ring (p ∷ q ∷ []) (less (mul (var 0) (var 1)) (mul (var 1) (var 0))) (con (pos 0)) refl
 
 -- a list with a triangle has three members
-three_members : (at : ℕ → Vector) (q : List ℕ) → HasTriangle at (λ i. In i q) → 2 < length q
+pub three_members : (at : ℕ → Vector) (q : List ℕ) → HasTriangle at (λ i. In i q) → 2 < length q
 three_members at q t = go q t.has_i t.has_j t.has_k
   where
     same : (x : ℕ) → t.i ≡ x → t.j ≡ x → ⊥

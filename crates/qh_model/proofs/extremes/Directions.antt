@@ -108,7 +108,7 @@ positive_number (pos (suc m)) h = (m, refl)
 positive_number (negsuc m) h = absurd (omega (arith, ints))
 
 -- one direction by whole factors
-along_by : (n m : Vector) (s t : ℤ) → pos 0 <ℤ s → pos 0 <ℤ t → s *ℤ n.x ≡ t *ℤ m.x → s *ℤ n.y ≡ t *ℤ m.y → s *ℤ n.z ≡ t *ℤ m.z → IsAlong n m
+pub along_by : (n m : Vector) (s t : ℤ) → pos 0 <ℤ s → pos 0 <ℤ t → s *ℤ n.x ≡ t *ℤ m.x → s *ℤ n.y ≡ t *ℤ m.y → s *ℤ n.z ≡ t *ℤ m.z → IsAlong n m
 along_by n m s t h k x y z = let a = positive_number s h in let b = positive_number t k in record {
   s = suc a.0;
   t = suc b.0;

@@ -6,7 +6,7 @@ use Rattle.qh_model.specs.Polygons.{ComesBefore, RisesFrom, RiseStrictly}
 use Rattle.qh_model.proofs.lists.Ordered.{Ordered, IsAsymmetric, ordered_unique}
 
 -- no two lists come before each other
-before-asymmetric : IsAsymmetric ComesBefore
+pub before-asymmetric : IsAsymmetric ComesBefore
 before-asymmetric [] [] h k = h
 before-asymmetric [] (v ∷ q) h k = k
 before-asymmetric (u ∷ p) [] h k = h
@@ -41,7 +41,7 @@ rises-ordered q [] h = ((λ p i. absurd i), tt)
 rises-ordered q (r ∷ ps) h = (before-all q (r ∷ ps) h, rises-ordered r ps h.1)
 
 -- a rising list is ordered
-rising-ordered : (qs : List (List ℕ)) → RiseStrictly qs → Ordered ComesBefore qs
+pub rising-ordered : (qs : List (List ℕ)) → RiseStrictly qs → Ordered ComesBefore qs
 rising-ordered [] h = tt
 rising-ordered (q ∷ qs) h = rises-ordered q qs h
 

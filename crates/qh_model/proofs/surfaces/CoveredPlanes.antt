@@ -19,7 +19,7 @@ use Rattle.qh_model.proofs.surfaces.CramersRule.{cramer}
 use Rattle.qh_model.proofs.surfaces.Located.{Located, located}
 
 -- a point drawn, as the last
-above-last : (a b c p o : Weighted) (n k : ℤ) → above a b c (towards o n p k) ≡ n *ℤ above a b c p +ℤ k *ℤ above a b c o
+pub above-last : (a b c p o : Weighted) (n k : ℤ) → above a b c (towards o n p k) ≡ n *ℤ above a b c p +ℤ k *ℤ above a b c o
 unfolding above
 above-last a b c p o n k =
     ring (put4 a (put4 b (put4 c (put4 p (put4 o (n ∷ k ∷ [])))))) (aboveE (quad 0) (quad 1) (quad 2) (towardsE (quad 4) (var 20) (quad 3) (var 21)))
@@ -75,7 +75,7 @@ large x k b n h q l = by_lt_z (pos 0) x (λ p. absurd (no (pos n *ℤ x +ℤ k) 
     no x h k = omega (arith, ints)
 
 -- 0 < n x + k with x ≤ 0 and n past k
-zero_there : (x k : ℤ) (b n : ℕ) → k <ℤ pos b → suc b ≤ n → pos 0 <ℤ (pos n *ℤ x +ℤ k) → x ≤ℤ pos 0 → x ≡ pos 0
+pub zero_there : (x k : ℤ) (b n : ℕ) → k <ℤ pos b → suc b ≤ n → pos 0 <ℤ (pos n *ℤ x +ℤ k) → x ≤ℤ pos 0 → x ≡ pos 0
 zero_there x k b n h q l g = by_lt_z x (pos 0) (λ p. absurd (no (pos n *ℤ x +ℤ k) l (flip (pos n) x k (scale (neg_ℤ k) (neg_ℤ x) b n (twice k h) q (up x p))))) (λ p. both x g p)
   where
     no : (x : ℤ) → pos 0 <ℤ x → x <ℤ pos 0 → ⊥
@@ -113,7 +113,7 @@ sum_zero n e t h z he ht = let p = mul-nonneg_nonpos n e (lt_le n h) he in (canc
     other p t z h k = omega (arith, ints)
 
 -- three numbers not above 0 that add up to 0
-three_zero : (i j k : ℤ) → i +ℤ j +ℤ k ≡ pos 0 → i ≤ℤ pos 0 → j ≤ℤ pos 0 → k ≤ℤ pos 0 → (i ≡ pos 0) × (j ≡ pos 0) × (k ≡ pos 0)
+pub three_zero : (i j k : ℤ) → i +ℤ j +ℤ k ≡ pos 0 → i ≤ℤ pos 0 → j ≤ℤ pos 0 → k ≤ℤ pos 0 → (i ≡ pos 0) × (j ≡ pos 0) × (k ≡ pos 0)
 three_zero i j k z hi hj hk = (omega (arith, ints), omega (arith, ints), omega (arith, ints))
 
 -- and a sum of three

@@ -117,7 +117,7 @@ too_low all u v w t L A B C O p hu hv hw ht weights mix a b c o =
     none z = total all u v w t p weights (gone u A L a z.0) (gone v B L b z.1) (gone w C L c z.2) (gone t O (pos 4 *ℤ L) o z.3)
 
 -- ---- what the record says in terms of `above`
-unseen_above : (at : ℕ → Vector) (ids : List ℕ) (m : Surface) → IsFinished at ids m → (f : ℕ) → In f m.live → (l : ℕ) → Members ids l → rise m (weighted_at at) f (weighted (at l)) ≤ℤ pos 0
+pub unseen_above : (at : ℕ → Vector) (ids : List ℕ) (m : Surface) → IsFinished at ids m → (f : ℕ) → In f m.live → (l : ℕ) → Members ids l → rise m (weighted_at at) f (weighted (at l)) ≤ℤ pos 0
 unseen_above at ids m z f i l h = subst (λ x. x ≤ℤ pos 0) (sym (rise_is_vol (at (m.i f)) (at (m.j f)) (at (m.k f)) (at l))) (z.unseen f i l h)
 
 -- l is lower than the middle's four ids together, four times, where it is separated from all others
@@ -203,7 +203,7 @@ extremes_are_corners at ids m z l x = found (settled_is_combination m (weighted_
 
 -- ---- facets are supporting triples
 -- the middle is strictly below a facet, so its corners are not in line
-facet_area : (at : ℕ → Vector) (ids : List ℕ) (m : Surface) → IsFinished at ids m → (f : ℕ) → In f m.live → ¬ (AreInLine (at (m.i f)) (at (m.j f)) (at (m.k f)))
+pub facet_area : (at : ℕ → Vector) (ids : List ℕ) (m : Surface) → IsFinished at ids m → (f : ℕ) → In f m.live → ¬ (AreInLine (at (m.i f)) (at (m.j f)) (at (m.k f)))
 facet_area at ids m z f i = inner_area at m z.s z.t z.u z.v f (z.sound.inner f i)
 
 -- the law
@@ -299,7 +299,7 @@ extremes_of_plane_are_corners at ids m z i j k t l x = found (level_member at id
 
 -- ---- one side outside
 -- no two planes that support the set are opposite
-not_opposite : (at : ℕ → Vector) (ids : List ℕ) (m : Surface) (z : IsFinished at ids m) (i j k a b c : ℕ) → IsSupportingTriple at (Members ids) i j k → IsSupportingTriple at (Members ids) a b c
+pub not_opposite : (at : ℕ → Vector) (ids : List ℕ) (m : Surface) (z : IsFinished at ids m) (i j k a b c : ℕ) → IsSupportingTriple at (Members ids) i j k → IsSupportingTriple at (Members ids) a b c
     → vol (at i) (at j) (at k) (at a) ≡ pos 0 → IsAlong (cross (at i) (at j) (at k)) (cross (at a) (at c) (at b)) → ⊥
 not_opposite at ids m z i j k a b c t r e h =
     never (above (weighted (at i)) (weighted (at j)) (weighted (at k)) (middle_at at z.s z.t z.u z.v)) _ _ _ _ (above-together (weighted (at i)) (weighted (at j)) (weighted (at k)) (weighted (at z.s)) (weighted (at z.t)) (weighted (at z.u)) (weighted (at z.v)))

@@ -1,4 +1,5 @@
 //! The laws by which a finished surface is the hull.
+ghost use Rattle.qh_model.specs.FacetPlanes.{LevelFacetsSpan, PlaneWalkFindsAll};
 ghost use Rattle.qh_model.specs.CompletenessLaws.{FacetsSupport, ExtremesAreCorners, ExtremesOfPlaneAreCorners, PlanesHaveFacets, FinishedIsSolid, ExtremesOfCorners, ExtremesOfPlane, PolygonsOfFacets};
 
 /// Each live facet of a finished surface is a supporting triple, each extreme id is a corner, and each
@@ -17,4 +18,11 @@ pub fn finished_surface_is_hull()
     ensures extremes { ExtremesOfCorners }
     ensures plane_extremes { ExtremesOfPlane }
     ensures polygons { PolygonsOfFacets }
+{}
+
+/// The live facets of a finished surface that lie in one plane hang together: a walk over twins from one
+/// of them finds all, and each of them spans the plane. So faces can be put together from neighbours.
+pub fn planes_hang_together()
+    ensures span { LevelFacetsSpan }
+    ensures walk { PlaneWalkFindsAll }
 {}

@@ -1,0 +1,5 @@
+use Rattle.qh_block.proofs.finished.Gathering.{IsGathering}
+use Rattle.qh_block.proofs.faces.faces.Given as goal
+
+abbrev pub invariant-loop-f : goal.invariant-loop-f
+invariant-loop-f l = IsGathering l.pts l.mesh l.f-iterator l.marks l.faces.items

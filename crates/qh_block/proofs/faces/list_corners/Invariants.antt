@@ -1,0 +1,6 @@
+use Rattle.std.proofs.Common.{◌≡◌, take}
+use Rattle.qh_block.specs.Faces.{corners_of}
+use Rattle.qh_block.proofs.faces.list_corners.Given as goal
+
+abbrev pub invariant-loop-f : goal.invariant-loop-f
+invariant-loop-f l = l.corners.items ≡ corners_of l.mesh (take l.f-index l.facets)

@@ -1,0 +1,9 @@
+-- Finished meshes: walks in the planes of facets, the faces that they gather, the order of faces, and edges.
+pub mod Extensions
+pub mod Corners
+pub mod NewFaces
+pub mod FaceLists
+pub mod Gathering
+pub mod FaceOrder
+pub mod EdgeCounts
+pub mod SolidBodies

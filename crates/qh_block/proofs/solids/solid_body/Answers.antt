@@ -1,0 +1,23 @@
+use Rattle.std.proofs.Common.{◌≡◌, ◌↔◌, ◌∙◌, ℕ, List, ap, sym, subst}
+use Rattle.qh_model.specs.Hull.{IsBody}
+use Rattle.qh_model.specs.Predicates.{place}
+use Rattle.qh_model.specs.Sets.{In, Members}
+use Rattle.qh_block.specs.Faces.{IsListed}
+use Rattle.qh_block.specs.SolidEdges.{all_edges_up}
+use Rattle.qh_block.proofs.finished.SolidBodies.{body}
+use Rattle.qh_block.proofs.solids.solid_body.Goals as goal
+
+pub invariant_of-result : goal.invariant_of-result
+invariant_of-result c = record {
+  rising = c.in_ok-extremes.ensures.rising;
+  named = λ q m i h. (c.in_ok-extremes.ensures.members i).1 (q, subst (λ (xs : List (List ℕ)). In q xs) (sym c.deref.ensures.value) m, h);
+}
+
+pub returns : goal.returns
+returns c = λ ids s z.
+    let pts = c.args.pts.now in let fs = c.args.mesh.now in let qs = c.in_ok-faces.faces.items in let ps = c.in_ok-polygons.polygons.items in let v = c.in_ok-extremes.extremes.items in
+    let faces = c.in_ok-faces.ensures ids s z in
+    let edges : all_edges_up ps ≡ c.in_ok-edges.edges = sym (c.in_ok-edges.ensures ∙ ap all_edges_up c.deref-2.ensures.value) in
+    subst (λ n. IsBody (place pts) (Members ids) (record { dim = 3; extremes = v; polygons = ps; edges = n })) edges
+    (body pts ids fs s z qs faces ps v (c.in_ok-polygons.ensures.rising faces.apart) c.in_ok-polygons.ensures.members c.in_ok-extremes.ensures.rising
+    (subst (λ (xs : List (List ℕ)). (i : ℕ) → In i v ↔ IsListed xs i) c.deref.ensures.value c.in_ok-extremes.ensures.members))

@@ -1,0 +1,132 @@
+//! The faces of a solid, gathered plane by plane from the facets of its finished mesh.
+//!
+//! Each live facet that has no mark yet starts a walk over the facets in its plane, which get marks.
+//! Their corners, rising, are the ids of which the face is the polygon. So a plane is looked at once,
+//! and most planes have one triangle.
+ghost use Rattle.std.specs.Prelude.{◌≡◌, ◌≤◌, ◌<◌, ◌↔◌, ℕ, List, IfOk, OnOk, length, true, false, replicate};
+ghost use Rattle.std.specs.List.Sorted.{IsStrictlyIncreasing};
+ghost use Rattle.qh_model.specs.DistinctIds.{IsIdSet};
+ghost use Rattle.qh_model.specs.Extreme.{Extreme};
+ghost use Rattle.qh_model.specs.FinishedSurface.{IsFinished};
+ghost use Rattle.qh_model.specs.Polygon.{IsPolygon};
+ghost use Rattle.qh_model.specs.Predicates.{cross, place};
+ghost use Rattle.qh_model.specs.Sets.{In, Members};
+ghost use Rattle.qh_model.specs.StoredSurface.{facet_at, surface_of};
+ghost use Rattle.qh_mesh.specs.Replacement.{IsLive, is_listed};
+ghost use Rattle.qh_plane.specs.PlaceKeys.{AreIndices};
+ghost use Rattle.qh_plane.specs.PlanarSets.{IsPlanarSet};
+ghost use Rattle.qh_block.specs.PlaneWalks.{AreCornersBelow, mark_at};
+ghost use Rattle.qh_block.specs.Faces.{corners_of, IsListedCorner, IsNewPlane, IsNewFace, AreFacetFaces};
+
+use crate::plane_walk::walk_plane;
+use qh_mesh::{FacetNo, Mesh};
+use qh_model::{Id, Memory, Point, Polygon};
+use qh_plane::polygon;
+use qh_pred::{cross, point_at};
+use std::alloc::{AllocError, Global};
+
+/// Room for the facets of a plane and for their corners, used again from plane to plane.
+#[derive(Drop)]
+pub struct Room {
+    facets: Vec<FacetNo>,
+    corners: Vec<Id>,
+}
+
+/// As many marks, none set.
+fn no_marks(alloc: Global, count: usize) -> Result<Vec<bool>, AllocError>
+    ensures { IfOk result (λ v. v.items ≡ replicate count false) }
+{
+    vec![in alloc; false; count]
+}
+
+/// Lists the corners of live facets, as they come.
+fn list_corners(mesh: &Mesh, facets: &[FacetNo], corners: &mut Vec<Id>) -> Result<(), AllocError>
+    requires { (g : ℕ) → is_listed facets.now g ≡ true → IsLive mesh.now g }
+    ensures { OnOk result (corners.new.items ≡ corners_of mesh.now facets.now) }
+{
+    corners.clear();
+    for f in facets {
+        let [a, b, c] = mesh.facet(*f);
+        corners.push(a)?;
+        corners.push(b)?;
+        corners.push(c)?;
+    }
+    Ok(())
+}
+
+/// Lists the corners of live facets, rising, each once.
+fn gather_corners(mesh: &Mesh, facets: &[FacetNo], corners: &mut Vec<Id>) -> Result<(), AllocError>
+    requires { (g : ℕ) → is_listed facets.now g ≡ true → IsLive mesh.now g }
+    ensures rising { OnOk result (IsStrictlyIncreasing corners.new.items) }
+    ensures members { OnOk result ((i : ℕ) → In i corners.new.items ↔ IsListedCorner mesh.now facets.now i) }
+{
+    list_corners(mesh, facets, corners)?;
+    corners.sort_unstable();
+    corners.dedup();
+    Ok(())
+}
+
+/// The polygon of ids in the plane of a live facet, seen from its outer side.
+fn facet_polygon(
+    alloc: Global,
+    pts: &[Point],
+    mesh: &Mesh,
+    f: FacetNo,
+    ids: &[Id],
+) -> Result<Polygon, Memory>
+    requires corners { AreCornersBelow (length pts.now) mesh.now }
+    requires live { IsLive mesh.now f.0 }
+    requires indices { AreIndices pts.now ids.now }
+    ensures { let n = cross (place pts.now (facet_at mesh.now f.0).i) (place pts.now (facet_at mesh.now f.0).j) (place pts.now (facet_at mesh.now f.0).k) in
+        IfOk result (λ q. IsPlanarSet pts.now ids.now n → IsPolygon (place pts.now) (Extreme (place pts.now) (Members ids.now)) n q) }
+{
+    let [a, b, c] = mesh.facet(f);
+    let normal = cross(point_at(pts, a), point_at(pts, b), point_at(pts, c));
+    polygon(alloc, pts, ids, &normal)
+}
+
+/// The polygon of the plane of a live facet that has no mark; marks the facets in that plane.
+fn new_face(
+    alloc: Global,
+    pts: &[Point],
+    mesh: &Mesh,
+    f: FacetNo,
+    marks: &mut [bool],
+    room: &mut Room,
+) -> Result<Polygon, Memory>
+    requires corners { AreCornersBelow (length pts.now) mesh.now }
+    requires live { IsLive mesh.now f.0 }
+    requires fresh { mark_at marks.old f.0 ≡ false }
+    requires room { length mesh.now ≤ length marks.old }
+    ensures kept { OnOk result ((g : ℕ) → mark_at marks.old g ≡ true → mark_at marks.new g ≡ true) }
+    ensures own { OnOk result (mark_at marks.new f.0 ≡ true) }
+    ensures face { IfOk result (λ q. (ids : List ℕ) → IsIdSet pts.now ids → IsFinished (place pts.now) ids (surface_of mesh.now) → IsNewPlane (place pts.now) mesh.now marks.old f.0
+        → IsNewFace (place pts.now) (Members ids) mesh.now f.0 marks.old marks.new q) }
+{
+    walk_plane(pts, mesh, f, marks, &mut room.facets)?;
+    gather_corners(mesh, &room.facets, &mut room.corners)?;
+    facet_polygon(alloc, pts, mesh, f, &room.corners)
+}
+
+/// The faces of a finished mesh, one for each plane of its live facets, in no order.
+///
+/// The corners of its live facets are ids of the points.
+pub fn faces(alloc: Global, pts: &[Point], mesh: &Mesh) -> Result<Vec<Polygon>, Memory>
+    requires { AreCornersBelow (length pts.now) mesh.now }
+    ensures { IfOk result (λ v. (ids : List ℕ) → IsIdSet pts.now ids → IsFinished (place pts.now) ids (surface_of mesh.now)
+        → AreFacetFaces (place pts.now) (Members ids) mesh.now v.items) }
+{
+    let mut places = no_marks(alloc, mesh.places())?;
+    let marks = places.as_mut_slice();
+    let mut room = Room {
+        facets: Vec::new(alloc),
+        corners: Vec::new(alloc),
+    };
+    let mut faces = Vec::new(alloc);
+    for f in mesh.live() {
+        if !marks[f.0] {
+            faces.push(new_face(alloc, pts, mesh, f, marks, &mut room)?)?;
+        }
+    }
+    Ok(faces)
+}

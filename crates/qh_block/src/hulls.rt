@@ -1,0 +1,93 @@
+//! The extreme ids and the hull of a set, in every dimension.
+ghost use Rattle.std.specs.Prelude.{◌<◌, IfOk, length};
+ghost use Rattle.qh_model.specs.DistinctIds.{IsIdSet};
+ghost use Rattle.qh_model.specs.Hull.{AreExtremes, IsBody};
+ghost use Rattle.qh_model.specs.Predicates.{place};
+ghost use Rattle.qh_model.specs.Sets.{Members};
+ghost use Rattle.qh_model.specs.FinishedSurface.{IsFinished};
+ghost use Rattle.qh_model.specs.StoredSurface.{surface_of};
+ghost use Rattle.qh_plane.specs.PlaceKeys.{AreIndices};
+ghost use Rattle.qh_plane.specs.Shapes.{IsInLine, IsInPlane, IsFirstNot, AreFirstTwo};
+ghost use Rattle.qh_block.specs.PlaneWalks.{AreCornersBelow};
+
+use crate::bodies::body_of_point;
+use crate::flat_sets::{polygon_hull, segment_hull};
+use crate::quickhull::surface_from;
+use crate::solids::{solid_body, solid_extremes};
+use qh_mesh::Mesh;
+use qh_model::{Body, Id, Memory, Point};
+use qh_plane::{Shape, rank};
+use std::alloc::Global;
+
+/// The finished mesh of a set with these first ids off a line and a plane.
+fn solid_mesh(
+    alloc: Global,
+    pts: &[Point],
+    ids: &[Id],
+    i: Id,
+    j: Id,
+    k: Id,
+    l: Id,
+) -> Result<Mesh, Memory>
+    requires indices { AreIndices pts.now ids.now }
+    requires two { AreFirstTwo ids.now i j }
+    requires off_line { IsFirstNot (IsInLine pts.now i j) ids.now k }
+    requires off_plane { IsFirstNot (IsInPlane pts.now i j k) ids.now l }
+    ensures finished { IfOk result (λ m. IsFinished (place pts.now) ids.now (surface_of m)) }
+    ensures corners { IfOk result (λ m. AreCornersBelow (length pts.now) m) }
+{
+    surface_from(alloc, pts, ids, i, j, k, l)
+}
+
+/// The extreme ids of a set, rising.
+///
+/// `ids` has at least one id, each the index of one of the points. That the ids rise and have distinct
+/// points (`IsIdSet`) is the caller's condition.
+///
+/// # Errors
+///
+/// `Memory` where memory was refused.
+///
+/// Source: Barber, Dobkin and Huhdanpaa 1996, for a set of dimension 3.
+pub fn extremes(alloc: Global, pts: &[Point], ids: &[Id]) -> Result<Vec<Id>, Memory>
+    requires some { 0 < length ids.now }
+    requires indices { AreIndices pts.now ids.now }
+    ensures { IfOk result (λ v. IsIdSet pts.now ids.now → AreExtremes (place pts.now) (Members ids.now) v.items) }
+{
+    if let Shape::Solid(i, j, k, l) = rank(pts, ids) {
+        let mesh = solid_mesh(alloc, pts, ids, i, j, k, l)?;
+        return solid_extremes(alloc, pts, &mesh);
+    }
+    let body = hull(alloc, pts, ids)?;
+    Ok(body.extremes)
+}
+
+/// The hull of a set: its dimension, its extreme ids, its faces and the number of its edges.
+///
+/// `ids` has at least one id, each the index of one of the points. That the ids rise and have distinct
+/// points (`IsIdSet`) is the caller's condition.
+///
+/// A set of dimension 3 has the polygon of each plane through three of its points that leaves none
+/// outside, counterclockwise seen from outside; for sets in a point, a line or a plane see
+/// `qh_model/specs/Polygons.antt`.
+///
+/// # Errors
+///
+/// `Memory` where memory was refused.
+///
+/// Source: Barber, Dobkin and Huhdanpaa 1996, for a set of dimension 3.
+pub fn hull(alloc: Global, pts: &[Point], ids: &[Id]) -> Result<Body, Memory>
+    requires some { 0 < length ids.now }
+    requires indices { AreIndices pts.now ids.now }
+    ensures { IfOk result (λ b. IsIdSet pts.now ids.now → IsBody (place pts.now) (Members ids.now) b) }
+{
+    match rank(pts, ids) {
+        Shape::Point(i) => body_of_point(alloc, i),
+        Shape::Segment(i, j) => segment_hull(alloc, pts, ids, i, j),
+        Shape::Flat(i, j, k) => polygon_hull(alloc, pts, ids, i, j, k),
+        Shape::Solid(i, j, k, l) => {
+            let mesh = solid_mesh(alloc, pts, ids, i, j, k, l)?;
+            solid_body(alloc, pts, &mesh)
+        }
+    }
+}

@@ -1,0 +1,71 @@
+//! The hull of a solid set from its finished mesh.
+ghost use Rattle.std.specs.Prelude.{◌≡◌, ◌↔◌, ℕ, List, IfOk, length};
+ghost use Rattle.std.specs.List.Sorted.{IsStrictlyIncreasing};
+ghost use Rattle.qh_model.specs.DistinctIds.{IsIdSet};
+ghost use Rattle.qh_model.specs.FinishedSurface.{IsFinished};
+ghost use Rattle.qh_model.specs.Hull.{AreExtremes, IsBody};
+ghost use Rattle.qh_model.specs.Predicates.{place};
+ghost use Rattle.qh_model.specs.Sets.{In, Members};
+ghost use Rattle.qh_model.specs.StoredSurface.{surface_of};
+ghost use Rattle.qh_block.specs.Faces.{IsListed, all_members};
+ghost use Rattle.qh_block.specs.PlaneWalks.{AreCornersBelow};
+
+use crate::bodies::rising_ids;
+use crate::face_order::in_order;
+use crate::faces::faces;
+use crate::solid_edges::edge_count;
+use qh_mesh::Mesh;
+use qh_model::{Body, Id, Memory, Point, Polygon};
+use std::alloc::{AllocError, Global};
+
+/// The ids of all polygons, one after the other.
+fn listed_ids(alloc: Global, polygons: &[Polygon]) -> Result<Vec<Id>, AllocError>
+    ensures { IfOk result (λ v. v.items ≡ all_members polygons.now) }
+{
+    let mut ids = Vec::new(alloc);
+    for polygon in polygons {
+        ids.extend_from_slice(polygon.ids())?;
+    }
+    Ok(ids)
+}
+
+/// The ids of all polygons, rising, each once.
+fn corners(alloc: Global, polygons: &[Polygon]) -> Result<Vec<Id>, Memory>
+    ensures rising { IfOk result (λ v. IsStrictlyIncreasing v.items) }
+    ensures members { IfOk result (λ v. (i : ℕ) → In i v.items ↔ IsListed polygons.now i) }
+{
+    let ids = listed_ids(alloc, polygons)?;
+    rising_ids(alloc, &ids)
+}
+
+/// The extreme ids of a set with a finished mesh, rising: the members of its faces.
+///
+/// The corners of the mesh's live facets are ids of the points.
+pub fn solid_extremes(alloc: Global, pts: &[Point], mesh: &Mesh) -> Result<Vec<Id>, Memory>
+    requires { AreCornersBelow (length pts.now) mesh.now }
+    ensures { IfOk result (λ v. (ids : List ℕ) → IsIdSet pts.now ids → IsFinished (place pts.now) ids (surface_of mesh.now)
+        → AreExtremes (place pts.now) (Members ids) v.items) }
+{
+    let faces = faces(alloc, pts, mesh)?;
+    corners(alloc, &faces)
+}
+
+/// The hull of a set with a finished mesh.
+///
+/// The corners of the mesh's live facets are ids of the points.
+pub fn solid_body(alloc: Global, pts: &[Point], mesh: &Mesh) -> Result<Body, Memory>
+    requires { AreCornersBelow (length pts.now) mesh.now }
+    ensures { IfOk result (λ b. (ids : List ℕ) → IsIdSet pts.now ids → IsFinished (place pts.now) ids (surface_of mesh.now)
+        → IsBody (place pts.now) (Members ids) b) }
+{
+    let faces = faces(alloc, pts, mesh)?;
+    let polygons = in_order(alloc, faces)?;
+    let extremes = corners(alloc, &polygons)?;
+    let edges = edge_count(&polygons)?;
+    Ok(Body {
+        dim: 3,
+        extremes,
+        polygons,
+        edges,
+    })
+}

@@ -1,0 +1,473 @@
+-- The edges of a solid: one face goes along each this way, and one the other way, found by turning a plane about it.
+use Rattle.std.proofs.Common.{◌≡◌, ◌≢◌, ℕ, arith, refl, sym, ap, subst, ◌∙◌, ◌⊎◌, inl, inr, List, [], ◌∷◌, Bool, true, false}
+use Rattle.std.proofs.lemmas.Int.{ints, by_lt_z}
+use native.Mathlib.Decide.{ℕ_discrete}
+use Rattle.std.specs.Prelude.{ℤ, pos, negsuc, ◌+ℤ◌, ◌-ℤ◌, ◌*ℤ◌, neg_ℤ, ◌≤ℤ◌, ◌<ℤ◌}
+use Rattle.qh_model.specs.Vector.{Vector, origin, minus, cross_product, dot}
+use Rattle.qh_model.specs.Predicates.{cross, vol, left, AreInLine}
+use Rattle.qh_model.specs.Sets.{In, Members}
+use Rattle.qh_model.specs.DistinctIds.{HasDistinctPoints}
+use Rattle.qh_model.specs.Dimension.{HasTetrahedron}
+use Rattle.qh_model.specs.Combination.{Combination}
+use Rattle.qh_model.specs.Extreme.{Extreme}
+use Rattle.qh_model.specs.SupportingPlane.{IsSupportingTriple, OnPlane}
+use Rattle.qh_model.specs.FaceLaws.{IsAlong, SpannedByExtremes}
+use Rattle.qh_model.specs.Polygon.{AlongPath, AroundCycle, TurnsLeft}
+use Rattle.qh_model.specs.Polygons.{IsFacePolygon, FollowsAlong, Follows}
+use Rattle.qh_model.specs.EdgeLaws.{OneFaceEachWay, OtherFace}
+use Rattle.qh_model.proofs.algebra.Order.{mul-pos, mul-nonneg_nonpos, mul-pos_neg, mul-neg_neg, cancel-nonpos, cancel-zero, zero_or_not, le_antisym}
+use Rattle.qh_model.proofs.algebra.Ring.{ring}
+use Rattle.qh_model.proofs.algebra.Ring.Expr.{var, con, add, sub as less, mul}
+use Rattle.qh_model.proofs.algebra.VectorIdentities.{vector_path, opposite, dot-opposite, vec, put, dotE, combine3, edge_product, vol-first, vol-second, vol-third, vol-flip, vol-swap_last, vol-dot, left-dot, left-flip, left-linear, in_line-vol, in_line-left, in_line-twice}
+use Rattle.qh_model.proofs.extremes.Directions.{Parallel, parallel_normal, along_by, square-positive, from_plane, vol_along, in_line-flip, zero_along}
+use Rattle.qh_model.proofs.extremes.ExtremeIds.{Listed, listed_itself, listed_part, combination_of_extremes}
+use Rattle.qh_model.proofs.extremes.Faces.{extremes_of_face}
+use Rattle.qh_model.proofs.extremes.SpanningTriples.{planes_of_extremes}
+use Rattle.qh_model.proofs.combinations.Alternatives.{all_lower}
+use Rattle.qh_model.proofs.polygons.Direction.{polygon_as}
+use Rattle.qh_model.proofs.polygons.Unique.{one_polygon}
+use Rattle.qh_model.proofs.surfaces.VisibleFacets.{Least, least}
+
+-- ---- neighbours round a polygon
+-- what holds of each pair of neighbours on a way
+along_holds : (P : ℕ → ℕ → Type 0) (u v t : ℕ) (r : List ℕ) (e : ℕ) → AlongPath P t r e → FollowsAlong u v t r e → P u v
+along_holds P u v t [] e h f = subst (λ x. P x v) f.0 (subst (P t) f.1 h)
+along_holds P u v t (w ∷ r) e h (inl f) = subst (λ x. P x v) f.0 (subst (P t) f.1 h.0)
+along_holds P u v t (w ∷ r) e h (inr f) = along_holds P u v w r e h.1 f
+
+-- and round a polygon
+round_holds : (P : ℕ → ℕ → Type 0) (u v : ℕ) (q : List ℕ) → AroundCycle P q → Follows u v q → P u v
+round_holds P u v [] h f = absurd f
+round_holds P u v (t ∷ r) h f = along_holds P u v t r t h f
+
+-- neighbours on a way are on it
+along_members : (u v t : ℕ) (r : List ℕ) (e : ℕ) → FollowsAlong u v t r e → In u (t ∷ r) × ((v ≡ e) ⊎ In v r)
+along_members u v t [] e f = (inl (sym f.0), inl (sym f.1))
+along_members u v t (w ∷ r) e (inl f) = (inl (sym f.0), inr (inl (sym f.1)))
+along_members u v t (w ∷ r) e (inr f) = let g = along_members u v w r e f in (inr g.0, later g.1)
+  where
+    later : (v ≡ e) ⊎ In v r → (v ≡ e) ⊎ In v (w ∷ r)
+    later (inl h) = inl h
+    later (inr h) = inr (inr h)
+
+-- neighbours are members
+pub follows_members : (u v : ℕ) (q : List ℕ) → Follows u v q → In u q × In v q
+follows_members u v [] f = absurd f
+follows_members u v (t ∷ r) f = let g = along_members u v t r t f in (g.0, g.1)
+
+-- each id on a way has one after it
+along_next : (u t : ℕ) (r : List ℕ) (e : ℕ) → In u (t ∷ r) → (v : ℕ) × FollowsAlong u v t r e
+along_next u t [] e (inl h) = (e, (sym h, refl))
+along_next u t [] e (inr h) = absurd h
+along_next u t (w ∷ r) e (inl h) = (w, inl (sym h, refl))
+along_next u t (w ∷ r) e (inr h) = let g = along_next u w r e h in (g.0, inr g.1)
+
+-- each member has one after it
+next_member : (u : ℕ) (q : List ℕ) → In u q → (v : ℕ) × Follows u v q
+next_member u [] i = absurd i
+next_member u (t ∷ r) i = along_next u t r t i
+
+-- ---- volumes and turns in a plane
+-- parallel vectors measure alike
+parallel_dot : (n r q : Vector) → Parallel n r → dot n n *ℤ dot r q ≡ dot n r *ℤ dot n q
+parallel_dot n r q h =
+    combine3 (dot n n *ℤ dot r q) (dot n r *ℤ dot n q)
+    q.x (dot n n *ℤ r.x) (dot n r *ℤ n.x)
+    q.y (dot n n *ℤ r.y) (dot n r *ℤ n.y)
+    q.z (dot n n *ℤ r.z) (dot n r *ℤ n.z)
+    (
+    let N = vec 0 in let R = vec 1 in let Q = vec 2 in let S = dotE N N in let T = dotE N R in
+    ring (put n (put r (put q []))) (less (mul S (dotE R Q)) (mul T (dotE N Q)))
+    (add (add (mul Q.x (less (mul S R.x) (mul T N.x))) (mul Q.y (less (mul S R.y) (mul T N.y)))) (mul Q.z (less (mul S R.z) (mul T N.z)))) refl) h.x h.y h.z
+
+-- scalar products commute
+dot_comm : (n p : Vector) → dot n p ≡ dot p n
+dot_comm n p = omega (arith, ints)
+
+-- the triangle of three points of a plane is parallel to it
+level_parallel : (a b c u v l : Vector) → vol a b c u ≡ pos 0 → vol a b c v ≡ pos 0 → vol a b c l ≡ pos 0 → Parallel (cross a b c) (cross u v l)
+level_parallel a b c u v l hu hv hl = parallel_normal (cross a b c) u v l (from_plane a b c u v hu ∙ hv) (from_plane a b c u l hu ∙ hl)
+
+-- the volume over three points of a plane, by their turn and the height of the fourth
+level_volume : (a b c u v l w : Vector) → vol a b c u ≡ pos 0 → vol a b c v ≡ pos 0 → vol a b c l ≡ pos 0
+    → dot (cross a b c) (cross a b c) *ℤ vol u v l w ≡ left (cross a b c) u v l *ℤ vol a b c w
+level_volume a b c u v l w hu hv hl =
+    let n = cross a b c in
+    ap (λ x. dot n n *ℤ x) (vol-dot u v l w) ∙ parallel_dot n (cross u v l) (minus w u) (level_parallel a b c u v l hu hv hl)
+    ∙ ap (λ x. x *ℤ dot n (minus w u)) (dot_comm n (cross u v l) ∙ sym (left-dot n u v l)) ∙ ap (λ x. left n u v l *ℤ x) (from_plane a b c u w hu)
+
+-- three points of a plane that turn left have its direction
+pub level_along : (a b c u v l : Vector) → ¬ (AreInLine a b c) → vol a b c u ≡ pos 0 → vol a b c v ≡ pos 0 → vol a b c l ≡ pos 0 → pos 0 <ℤ left (cross a b c) u v l → IsAlong (cross a b c) (cross u v l)
+level_along a b c u v l area hu hv hl h =
+    let n = cross a b c in let e = level_parallel a b c u v l hu hv hl in
+    along_by n (cross u v l) (dot n (cross u v l)) (dot n n) (subst (λ x. pos 0 <ℤ x) (left-dot n u v l ∙ dot_comm (cross u v l) n) h) (square-positive n area) (sym e.x) (sym e.y) (sym e.z)
+
+-- ---- signs
+-- s x = l y with s above 0
+at_most : (s l x y : ℤ) → pos 0 <ℤ s → s *ℤ x ≡ l *ℤ y → pos 0 ≤ℤ l → y ≤ℤ pos 0 → x ≤ℤ pos 0
+at_most s l x y h e p q = cancel-nonpos s x h (subst (λ v. v ≤ℤ pos 0) (sym e) (mul-nonneg_nonpos l y p q))
+
+-- strictly
+below : (s l x y : ℤ) → pos 0 <ℤ s → s *ℤ x ≡ l *ℤ y → pos 0 <ℤ l → y <ℤ pos 0 → x <ℤ pos 0
+below s l x y h e p q = by_lt_z x (pos 0) (λ k. k) (λ k. absurd (clash (s *ℤ x) (l *ℤ y) e (times s x h k) (mul-pos_neg l y p q)))
+  where
+    times : (s x : ℤ) → pos 0 <ℤ s → pos 0 ≤ℤ x → pos 0 ≤ℤ (s *ℤ x)
+    times s x h k = grind (arith, ints)
+
+    clash : (p q : ℤ) → p ≡ q → pos 0 ≤ℤ p → q <ℤ pos 0 → ⊥
+    clash p q e h k = omega (arith, ints)
+
+-- s x = l y with s above 0, y below 0 and x not above 0
+turn_sign : (s l x y : ℤ) → pos 0 <ℤ s → s *ℤ x ≡ l *ℤ y → y <ℤ pos 0 → x ≤ℤ pos 0 → pos 0 ≤ℤ l
+turn_sign s l x y h e q k = by_lt_z l (pos 0) (λ p. absurd (clash (s *ℤ x) (l *ℤ y) e (times s x h k) (mul-neg_neg l y p q))) (λ p. p)
+  where
+    times : (s x : ℤ) → pos 0 <ℤ s → x ≤ℤ pos 0 → (s *ℤ x) ≤ℤ pos 0
+    times s x h k = grind (arith, ints)
+
+    clash : (p q : ℤ) → p ≡ q → p ≤ℤ pos 0 → pos 0 <ℤ q → ⊥
+    clash p q e h k = omega (arith, ints)
+
+-- above 0 is not below
+positive_le : (x : ℤ) → pos 0 <ℤ x → pos 0 ≤ℤ x
+positive_le x h = omega (arith, ints)
+
+-- nor above 0 and 0
+not_zero : (x : ℤ) → pos 0 <ℤ x → x ≡ pos 0 → ⊥
+not_zero x h e = omega (arith, ints)
+
+-- ---- a third member
+-- of three different numbers one is neither of two
+other_of_three : (x y z u v : ℕ) → x ≢ y → y ≢ z → x ≢ z → (w : ℕ) × ((w ≡ x) ⊎ (w ≡ y) ⊎ (w ≡ z)) × (w ≢ u) × (w ≢ v)
+other_of_three x y z u v xy yz xz = pick (ℕ_discrete x u) (ℕ_discrete x v) (ℕ_discrete y u) (ℕ_discrete y v)
+  where
+    Found : Type 0
+    Found = (w : ℕ) × ((w ≡ x) ⊎ (w ≡ y) ⊎ (w ≡ z)) × (w ≢ u) × (w ≢ v)
+
+    pick : Dec (x ≡ u) → Dec (x ≡ v) → Dec (y ≡ u) → Dec (y ≡ v) → Found
+    pick (no a) (no b) c d = (x, inl refl, a, b)
+    pick a b (no c) (no d) = (y, inr (inl refl), c, d)
+    pick (yes a) b (yes c) d = absurd (xy (a ∙ sym c))
+    pick a (yes b) c (yes d) = absurd (xy (b ∙ sym d))
+    pick (yes a) (no b) (no c) (yes d) = (z, inr (inr refl), (λ e. xz (a ∙ sym e)), (λ e. yz (d ∙ sym e)))
+    pick (no a) (yes b) (yes c) (no d) = (z, inr (inr refl), (λ e. yz (c ∙ sym e)), (λ e. xz (b ∙ sym e)))
+
+-- two equal last points are in line with any first
+in_line_last : (a b : Vector) → AreInLine a b b
+unfolding cross
+in_line_last a b = vector_path (cross a b b) origin (none (b.y -ℤ a.y) (b.z -ℤ a.z)) (none (b.z -ℤ a.z) (b.x -ℤ a.x)) (none (b.x -ℤ a.x) (b.y -ℤ a.y))
+  where
+    none : (p q : ℤ) → p *ℤ q -ℤ q *ℤ p ≡ pos 0
+    none p q = ring (p ∷ q ∷ []) (less (mul (var 0) (var 1)) (mul (var 1) (var 0))) (con (pos 0)) refl
+
+-- a supporting plane, its polygon, and two neighbours on it
+record Way (at : ℕ → Vector) (A : ℕ → Type 0) (i j k : ℕ) (q : List ℕ) (u v : ℕ) : Type 0 where
+  triple : IsSupportingTriple at A i j k
+  face : IsFacePolygon at A i j k q
+  follows : Follows u v q
+
+-- a third member of the polygon, to the left of the way from u to v
+record Third (at : ℕ → Vector) (A : ℕ → Type 0) (i j k u v : ℕ) : Type 0 where
+  w : ℕ
+  member : OnPlane at (Extreme at A) i j k w
+  not_u : w ≢ u
+  not_v : w ≢ v
+  turns : pos 0 <ℤ left (cross (at i) (at j) (at k)) (at u) (at v) (at w)
+
+module _ (at : ℕ → Vector) (ids : List ℕ) (d : HasDistinctPoints at (Members ids)) (i j k : ℕ) (q : List ℕ) (u v : ℕ) (way : Way at (Members ids) i j k q u v) where
+  abbrev n : Vector
+  n = cross (at i) (at j) (at k)
+
+  has_u : OnPlane at (Extreme at (Members ids)) i j k u
+  has_u = (way.face.members u).0 (follows_members u v q way.follows).0
+
+  has_v : OnPlane at (Extreme at (Members ids)) i j k v
+  has_v = (way.face.members v).0 (follows_members u v q way.follows).1
+
+  -- the others lie to the left
+  to_left : (w : ℕ) → OnPlane at (Extreme at (Members ids)) i j k w → w ≢ u → w ≢ v → pos 0 <ℤ left n (at u) (at v) (at w)
+  to_left w h a b = round_holds (TurnsLeft at n q) u v q way.face.round way.follows w ((way.face.members w).1 h) a b
+
+  -- there is a third
+  third : Third at (Members ids) i j k u v
+  third = pick (planes_of_extremes at ids d i j k way.triple)
+    where
+      pick : SpannedByExtremes at (Members ids) i j k → Third at (Members ids) i j k u v
+      pick s = go (other_of_three s.u s.v s.w u v xy yz xz)
+        where
+          xy : s.u ≢ s.v
+          xy e = s.area (subst (λ t. AreInLine (at s.u) (at t) (at s.w)) e (in_line-twice (at s.u) (at s.w)))
+
+          yz : s.v ≢ s.w
+          yz e = s.area (subst (λ t. AreInLine (at s.u) (at s.v) (at t)) e (in_line_last (at s.u) (at s.v)))
+
+          xz : s.u ≢ s.w
+          xz e = s.area (subst (λ t. AreInLine (at s.u) (at s.v) (at t)) e (in_line-flip (at s.u) (at s.v) (at s.u) (in_line-twice (at s.u) (at s.v))))
+
+          on : (w : ℕ) → (w ≡ s.u) ⊎ (w ≡ s.v) ⊎ (w ≡ s.w) → OnPlane at (Extreme at (Members ids)) i j k w
+          on w (inl e) = subst (OnPlane at (Extreme at (Members ids)) i j k) (sym e) (s.has_u, (s.same s.u).1 (vol-first (at s.u) (at s.v) (at s.w)))
+          on w (inr (inl e)) = subst (OnPlane at (Extreme at (Members ids)) i j k) (sym e) (s.has_v, (s.same s.v).1 (vol-second (at s.u) (at s.v) (at s.w)))
+          on w (inr (inr e)) = subst (OnPlane at (Extreme at (Members ids)) i j k) (sym e) (s.has_w, (s.same s.w).1 (vol-third (at s.u) (at s.v) (at s.w)))
+
+          go : (w : ℕ) × ((w ≡ s.u) ⊎ (w ≡ s.v) ⊎ (w ≡ s.w)) × (w ≢ u) × (w ≢ v) → Third at (Members ids) i j k u v
+          go f = record { w = f.0; member = on f.0 f.1; not_u = f.2; not_v = f.3; turns = to_left f.0 (on f.0 f.1) f.2 f.3 }
+
+  -- the square of the normal
+  square : pos 0 <ℤ dot n n
+  square = square-positive n way.triple.area
+
+  -- volumes over u, v and a point of the plane
+  over : (l : ℕ) (y : Vector) → vol (at i) (at j) (at k) (at l) ≡ pos 0 → dot n n *ℤ vol (at u) (at v) (at l) y ≡ left n (at u) (at v) (at l) *ℤ vol (at i) (at j) (at k) y
+  over l y e = level_volume (at i) (at j) (at k) (at u) (at v) (at l) y has_u.1 has_v.1 e
+
+  -- no member of the plane lies to the right
+  not_right : (l : ℕ) → OnPlane at (Members ids) i j k l → pos 0 ≤ℤ left n (at u) (at v) (at l)
+  not_right l h = go (listed_part (Members ids) (λ x. vol (at i) (at j) (at k) (at x) ≡ pos 0) (λ x. zero_or_not (vol (at i) (at j) (at k) (at x))) ids (listed_itself ids))
+    where
+      F : ℕ → Type 0
+      F = OnPlane at (Members ids) i j k
+
+      c : Vector
+      c = cross_product n (minus (at v) (at u))
+
+      level : (x : ℤ) → x ≡ pos 0 → pos 0 ≤ℤ x
+      level x e = omega (arith, ints)
+
+      extreme : (x : ℕ) → OnPlane at (Extreme at (Members ids)) i j k x → pos 0 ≤ℤ left n (at u) (at v) (at x)
+      extreme x e = test (ℕ_discrete x u) (ℕ_discrete x v)
+        where
+          test : Dec (x ≡ u) → Dec (x ≡ v) → pos 0 ≤ℤ left n (at u) (at v) (at x)
+          test (yes p) b = level _ (ap (λ t. left n (at u) (at v) (at t)) p ∙ in_line-left n (at u) (at v) (at u) (in_line-flip (at u) (at v) (at u) (in_line-twice (at u) (at v))))
+          test (no a) (yes p) = level _ (ap (λ t. left n (at u) (at v) (at t)) p ∙ in_line-left n (at u) (at v) (at v) (in_line_last (at u) (at v)))
+          test (no a) (no b) = positive_le _ (to_left x e a b)
+
+      -- along the opposite of c all extremes are lower than what lies to the right
+      lower : (x : ℕ) → Extreme at F x → left n (at u) (at v) (at l) <ℤ pos 0 → dot (opposite c) (at x) <ℤ dot (opposite c) (at l)
+      lower x e r = order _ _ _ _ _ _ _ (left-linear n (at u) (at v) (at l)) (left-linear n (at u) (at v) (at x)) (dot-opposite c (at x)) (dot-opposite c (at l)) r (extreme x ((extremes_of_face at ids i j k way.triple.supports x).0 e))
+        where
+          order : (y z p r m x' l' : ℤ) → y ≡ p +ℤ m → z ≡ r +ℤ m → x' ≡ neg_ℤ r → l' ≡ neg_ℤ p → y <ℤ pos 0 → pos 0 ≤ℤ z → x' <ℤ l'
+          order y z p r m x' l' e f g h a b = omega (arith, ints)
+
+      go : (ys : List ℕ) × Listed F ys → pos 0 ≤ℤ left n (at u) (at v) (at l)
+      go (ys, s) = by_lt_z (left n (at u) (at v) (at l)) (pos 0) (λ r. absurd (clash r (combination_of_extremes at F ys s (λ x y fx fy e. d x y fx.0 fy.0 e) l h))) (λ r. r)
+        where
+          clash : left n (at u) (at v) (at l) <ℤ pos 0 → Combination at (Extreme at F) (at l) → ⊥
+          clash r m = all_lower at (Extreme at F) (at l) (opposite c) m (lower m.a m.has_a r) (lower m.b m.has_b r) (lower m.c m.has_c r) (lower m.d m.has_d r)
+
+-- ---- one face each way
+-- opposite numbers not above 0 are 0
+both_zero : (x y : ℤ) → x ≡ neg_ℤ y → x ≤ℤ pos 0 → y ≤ℤ pos 0 → x ≡ pos 0
+both_zero x y e h k = omega (arith, ints)
+
+-- a product with 0
+product_zero : (l y : ℤ) → y ≡ pos 0 → l *ℤ y ≡ pos 0
+product_zero l y h = ap (λ v. l *ℤ v) h ∙ zero l
+  where
+    zero : (l : ℤ) → l *ℤ pos 0 ≡ pos 0
+    zero l = omega (arith, ints)
+
+-- a face seen from a triangle of its plane
+seen_from : (at : ℕ → Vector) (A : ℕ → Type 0) (i j k u v y : ℕ) (q : List ℕ) → IsFacePolygon at A i j k q → IsAlong (cross (at i) (at j) (at k)) (cross (at u) (at v) (at y)) → vol (at i) (at j) (at k) (at u) ≡ pos 0 → IsFacePolygon at A u v y q
+seen_from at A i j k u v y q p h z =
+    polygon_as at (OnPlane at (Extreme at A) i j k) (OnPlane at (Extreme at A) u v y) (cross (at i) (at j) (at k)) (cross (at u) (at v) (at y)) q
+    (λ l. (λ o. (o.0, zero_along h.s h.t _ _ h.some_t (scale l) o.1), λ o. (o.0, zero_along h.t h.s _ _ h.some_s (sym (scale l)) o.1))) h p
+  where
+    scale : (l : ℕ) → pos h.s *ℤ vol (at i) (at j) (at k) (at l) ≡ pos h.t *ℤ vol (at u) (at v) (at y) (at l)
+    scale l = vol_along (at i) (at j) (at k) (at u) (at v) (at y) (at l) h z
+
+-- the law
+pub one_face_each_way : OneFaceEachWay
+one_face_each_way at ids i j k a b c p q u v d t r f g x y = go (third at ids d i j k p u v one) (third at ids d a b c q u v two)
+  where
+    A : ℕ → Type 0
+    A = Members ids
+
+    one : Way at A i j k p u v
+    one = record { triple = t; face = f; follows = x }
+
+    two : Way at A a b c q u v
+    two = record { triple = r; face = g; follows = y }
+
+    go : Third at A i j k u v → Third at A a b c u v → p ≡ q
+    go w s = one_polygon at (OnPlane at (Extreme at A) u v s.w) (cross (at u) (at v) (at s.w)) p q
+        (seen_from at A i j k u v s.w p f (level_along (at i) (at j) (at k) (at u) (at v) (at s.w) t.area (has_u at ids d i j k p u v one).1 (has_v at ids d i j k p u v one).1 level (to_left at ids d i j k p u v one s.w (s.member.0, level) s.not_u s.not_v)) (has_u at ids d i j k p u v one).1)
+        (seen_from at A a b c u v s.w q g (level_along (at a) (at b) (at c) (at u) (at v) (at s.w) r.area (has_u at ids d a b c q u v two).1 (has_v at ids d a b c q u v two).1 s.member.1 s.turns) (has_u at ids d a b c q u v two).1)
+      where
+        lhs : vol (at u) (at v) (at w.w) (at s.w) ≤ℤ pos 0
+        lhs = at_most _ _ _ _ (square at ids d i j k p u v one) (over at ids d i j k p u v one w.w (at s.w) w.member.1) (positive_le _ w.turns) (t.supports s.w s.member.0.0)
+
+        rhs : vol (at u) (at v) (at s.w) (at w.w) ≤ℤ pos 0
+        rhs = at_most _ _ _ _ (square at ids d a b c q u v two) (over at ids d a b c q u v two s.w (at w.w) s.member.1) (positive_le _ s.turns) (r.supports w.w w.member.0.0)
+
+        flat : left (cross (at i) (at j) (at k)) (at u) (at v) (at w.w) *ℤ vol (at i) (at j) (at k) (at s.w) ≡ pos 0
+        flat = sym (over at ids d i j k p u v one w.w (at s.w) w.member.1) ∙ product_zero _ _ (both_zero _ _ (vol-swap_last (at u) (at v) (at w.w) (at s.w)) lhs rhs)
+
+        level : vol (at i) (at j) (at k) (at s.w) ≡ pos 0
+        level = cancel-zero _ _ w.turns flat
+
+-- ---- the other face
+-- turned about, and with the last two exchanged, a volume is the same
+vol-both : (u v x y : Vector) → vol v u y x ≡ vol u v x y
+vol-both u v x y = vol-flip v u y x ∙ ap neg_ℤ (vol-swap_last u v y x) ∙ twice (vol u v x y)
+  where
+    twice : (z : ℤ) → neg_ℤ (neg_ℤ z) ≡ z
+    twice z = omega (arith, ints)
+
+-- whether a number is below 0
+is_below : ℤ → Bool
+is_below (pos n) = false
+is_below (negsuc n) = true
+
+below_true : (z : ℤ) → z <ℤ pos 0 → is_below z ≡ true
+unfolding is_below
+below_true (pos n) h = absurd (omega (arith, ints))
+below_true (negsuc n) h = refl
+
+true_below : (z : ℤ) → is_below z ≡ true → z <ℤ pos 0
+unfolding is_below
+true_below (pos n) h = cc
+true_below (negsuc n) h = omega (arith, ints)
+
+-- of two points the one beyond the plane of the other and the line u v comes first, by their volumes with a and b
+gift_wrap : (u v a b p y : Vector) → pos 0 <ℤ vol u v a b → pos 0 <ℤ vol u v p y → pos 0 <ℤ (vol u v a p *ℤ vol u v b y -ℤ vol u v b p *ℤ vol u v a y)
+gift_wrap u v a b p y h k = finish (vol u v a p *ℤ vol u v b y) (vol u v a y) (vol u v b p) (vol u v a b *ℤ vol u v p y) (edge_product u v a b p y) (mul-pos (vol u v a b) (vol u v p y) h k)
+  where
+    swapped : (a b : ℤ) → a *ℤ b ≡ b *ℤ a
+    swapped a b = omega (arith, ints)
+
+    order : (x y z g : ℤ) → x -ℤ y ≡ g → z ≡ y → pos 0 <ℤ g → pos 0 <ℤ (x -ℤ z)
+    order x y z g h e k = omega (arith, ints)
+
+    finish : (x s t g : ℤ) → x -ℤ s *ℤ t ≡ g → pos 0 <ℤ g → pos 0 <ℤ (x -ℤ t *ℤ s)
+    finish x s t g e h = order x (s *ℤ t) (t *ℤ s) g e (swapped t s) h
+
+module _ (at : ℕ → Vector) (ids : List ℕ) (d : HasDistinctPoints at (Members ids)) (solid : HasTetrahedron at (Members ids)) (i j k : ℕ) (q : List ℕ) (u v : ℕ) (way : Way at (Members ids) i j k q u v) (x : Third at (Members ids) i j k u v) where
+  abbrev height : ℕ → ℤ
+  height l = vol (at i) (at j) (at k) (at l)
+
+  -- below the plane, volumes over the face's triangle are below 0
+  under : (l : ℕ) → height l <ℤ pos 0 → vol (at u) (at v) (at x.w) (at l) <ℤ pos 0
+  under l h = below _ _ _ _ (square at ids d i j k q u v way) (over at ids d i j k q u v way x.w (at l) x.member.1) x.turns h
+
+  -- for no member are they above
+  not_over : (l : ℕ) → Members ids l → vol (at u) (at v) (at x.w) (at l) ≤ℤ pos 0
+  not_over l h = at_most _ _ _ _ (square at ids d i j k q u v way) (over at ids d i j k q u v way x.w (at l) x.member.1) (positive_le _ x.turns) (way.triple.supports l h)
+
+  -- over the edge turned about, they are above 0
+  turned : (l : ℕ) → height l <ℤ pos 0 → pos 0 <ℤ vol (at v) (at u) (at x.w) (at l)
+  turned l h = flip _ _ (vol-flip (at v) (at u) (at x.w) (at l)) (under l h)
+    where
+      flip : (p r : ℤ) → p ≡ neg_ℤ r → r <ℤ pos 0 → pos 0 <ℤ p
+      flip p r e h = omega (arith, ints)
+
+  -- a member below the plane with no member below the plane beyond the plane of the edge and it
+  record Next : Type 0 where
+    w : ℕ
+    has_w : Members ids w
+    low : height w <ℤ pos 0
+    first : (l : ℕ) → Members ids l → height l <ℤ pos 0 → vol (at v) (at u) (at w) (at l) ≤ℤ pos 0
+
+  -- some member is below the plane
+  some_below : ((l : ℕ) → Members ids l → height l <ℤ pos 0 → ⊥) → ⊥
+  some_below none = solid.volume (cancel-zero _ _ (square at ids d i j k q u v way) (product ∙ product_zero _ _ (level solid.l solid.has_l)))
+    where
+      level : (l : ℕ) → Members ids l → height l ≡ pos 0
+      level l h = by_lt_z (height l) (pos 0) (λ r. absurd (none l h r)) (λ r. le_antisym (height l) (pos 0) (way.triple.supports l h) r)
+
+      product : dot (cross (at i) (at j) (at k)) (cross (at i) (at j) (at k)) *ℤ vol (at solid.i) (at solid.j) (at solid.k) (at solid.l) ≡ left (cross (at i) (at j) (at k)) (at solid.i) (at solid.j) (at solid.k) *ℤ height solid.l
+      product = level_volume (at i) (at j) (at k) (at solid.i) (at solid.j) (at solid.k) (at solid.l) (level solid.i solid.has_i) (level solid.j solid.has_j) (level solid.k solid.has_k)
+
+  abbrev marked : ℕ → Bool
+  marked l = is_below (height l)
+
+  -- the plane turned about the edge as far as the first member
+  next : Next
+  next = base (least marked (λ l. vol (at v) (at u) (at x.w) (at l)) (λ l. pos 0) ids positive)
+    where
+      positive : (g : ℕ) → In g ids → marked g ≡ true → pos 0 <ℤ vol (at v) (at u) (at x.w) (at g)
+      positive g m e = turned g (true_below (height g) e)
+
+      none : ((g : ℕ) → In g ids → marked g ≡ true → ⊥) → ⊥
+      none f = some_below (λ l h r. f l h (below_true (height l) r))
+
+      base : ((g : ℕ) → In g ids → marked g ≡ true → ⊥) ⊎ Least marked (λ l. vol (at v) (at u) (at x.w) (at l)) (λ l. pos 0) ids → Next
+      base (inl f) = absurd (none f)
+      base (inr b) = pick (least marked (λ l. vol (at v) (at u) (at x.w) (at l)) (λ l. vol (at v) (at u) (at b.m) (at l)) ids positive)
+        where
+          pick : ((g : ℕ) → In g ids → marked g ≡ true → ⊥) ⊎ Least marked (λ l. vol (at v) (at u) (at x.w) (at l)) (λ l. vol (at v) (at u) (at b.m) (at l)) ids → Next
+          pick (inl f) = absurd (none f)
+          pick (inr m) = record { w = m.m; has_w = m.there; low = true_below (height m.m) m.marked; first = first }
+            where
+              first : (l : ℕ) → Members ids l → height l <ℤ pos 0 → vol (at v) (at u) (at m.m) (at l) ≤ℤ pos 0
+              first l h r = by_lt_z (pos 0) (vol (at v) (at u) (at m.m) (at l)) (λ s. absurd (m.least l h (below_true (height l) r) (beyond s))) (λ s. s)
+                where
+                  beyond : pos 0 <ℤ vol (at v) (at u) (at m.m) (at l) → pos 0 <ℤ (vol (at v) (at u) (at x.w) (at m.m) *ℤ vol (at v) (at u) (at b.m) (at l) -ℤ vol (at v) (at u) (at b.m) (at m.m) *ℤ vol (at v) (at u) (at x.w) (at l))
+                  beyond s = gift_wrap (at v) (at u) (at x.w) (at b.m) (at m.m) (at l) (positive b.m b.there b.marked) s
+
+  -- the plane of the edge and that member supports the set
+  triple : (w : Next) → IsSupportingTriple at (Members ids) v u w.w
+  triple w = record { has_i = (has_v at ids d i j k q u v way).0.0; has_j = (has_u at ids d i j k q u v way).0.0; has_k = w.has_w; area = area; supports = supports }
+    where
+      area : ¬ (AreInLine (at v) (at u) (at w.w))
+      area e = never _ (under w.w w.low) (sym (vol-both (at u) (at v) (at x.w) (at w.w)) ∙ in_line-vol (at v) (at u) (at w.w) (at x.w) e)
+        where
+          never : (x : ℤ) → x <ℤ pos 0 → x ≡ pos 0 → ⊥
+          never x h e = omega (arith, ints)
+
+      supports : (l : ℕ) → Members ids l → vol (at v) (at u) (at w.w) (at l) ≤ℤ pos 0
+      supports l h = by_lt_z (height l) (pos 0) (w.first l h) (λ r. level (le_antisym (height l) (pos 0) (way.triple.supports l h) r))
+        where
+          level : height l ≡ pos 0 → vol (at v) (at u) (at w.w) (at l) ≤ℤ pos 0
+          level e = subst (λ y. y ≤ℤ pos 0) (sym (vol-both (at u) (at v) (at l) (at w.w)))
+              (at_most _ _ _ _ (square at ids d i j k q u v way) (over at ids d i j k q u v way l (at w.w) e) (not_right at ids d i j k q u v way l (h, e)) (way.triple.supports w.w w.has_w))
+
+  -- in its polygon u comes after v
+  comes_back : (w : Next) (p : List ℕ) → IsFacePolygon at (Members ids) v u w.w p → Follows v u p
+  comes_back w p f = go (next_member v p has)
+    where
+      has : In v p
+      has = (f.members v).1 ((has_v at ids d i j k q u v way).0, vol-first (at v) (at u) (at w.w))
+
+      has' : In u p
+      has' = (f.members u).1 ((has_u at ids d i j k q u v way).0, vol-second (at v) (at u) (at w.w))
+
+      differ : u ≢ v
+      differ e = not_zero _ x.turns (in_line-left (cross (at i) (at j) (at k)) (at u) (at v) (at x.w) (subst (λ t. AreInLine (at u) (at t) (at x.w)) e (in_line-twice (at u) (at x.w))))
+
+      -- no member of the new plane lies to the right of the edge turned about
+      not_right' : (y : ℕ) → In y p → pos 0 ≤ℤ left (cross (at v) (at u) (at w.w)) (at v) (at u) (at y)
+      not_right' y m = let o = (f.members y).0 m in
+          turn_sign _ _ _ _ (square-positive (cross (at v) (at u) (at w.w)) (triple w).area)
+          (level_volume (at v) (at u) (at w.w) (at v) (at u) (at y) (at x.w) (vol-first (at v) (at u) (at w.w)) (vol-second (at v) (at u) (at w.w)) o.1)
+          (subst (λ z. z <ℤ pos 0) (sym (vol-both (at u) (at v) (at x.w) (at w.w))) (under w.w w.low))
+          (subst (λ z. z ≤ℤ pos 0) (sym (vol-both (at u) (at v) (at x.w) (at y))) (not_over y o.0.0))
+
+      go : (y : ℕ) × Follows v y p → Follows v u p
+      go (y, h) = test (ℕ_discrete u y)
+        where
+          clash : (a b : ℤ) → a ≡ neg_ℤ b → pos 0 <ℤ a → pos 0 ≤ℤ b → ⊥
+          clash a b e h k = omega (arith, ints)
+
+          test : Dec (u ≡ y) → Follows v u p
+          test (yes e) = subst (λ t. Follows v t p) (sym e) h
+          test (no n) = absurd (clash _ _ (left-flip (cross (at v) (at u) (at w.w)) (at v) (at y) (at u))
+              (round_holds (TurnsLeft at (cross (at v) (at u) (at w.w)) p) v y p f.round h u has' differ n)
+              (not_right' y (follows_members v y p h).1))
+
+-- the law
+pub other_face : OtherFace
+other_face at ids qs d (inr (inl e)) faces q m u v f = absurd (omega arith)
+other_face at ids qs d (inr (inr (inl e))) faces q m u v f = absurd (omega arith)
+other_face at ids qs d (inr (inr (inr e))) faces q m u v f = absurd (omega arith)
+other_face at ids qs d (inl solid) faces q m u v f = go (faces.only q m)
+  where
+    go : (i : ℕ) × (j : ℕ) × (k : ℕ) × IsSupportingTriple at (Members ids) i j k × IsFacePolygon at (Members ids) i j k q → (p : List ℕ) × In p qs × Follows v u p
+    go (i, j, k, t, g) = turn (next at ids d solid.1 i j k q u v way x)
+      where
+        way : Way at (Members ids) i j k q u v
+        way = record { triple = t; face = g; follows = f }
+
+        x : Third at (Members ids) i j k u v
+        x = third at ids d i j k q u v way
+
+        turn : Next at ids d solid.1 i j k q u v way x → (p : List ℕ) × In p qs × Follows v u p
+        turn w = let r = faces.each v u w.w (triple at ids d solid.1 i j k q u v way x w) in (r.0, r.1, comes_back at ids d solid.1 i j k q u v way x w r.0 r.2)
