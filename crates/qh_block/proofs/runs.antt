@@ -1,3 +1,10 @@
 -- Runs of Quickhull: their steps.
 pub mod NamedFacets
+pub mod SetWrites
+pub mod PickedApexes
+pub mod SettledOrphans
+pub mod WaitingFacets
+pub mod RenewedPlanes
 pub mod Rounds
+pub mod FirstSimplexes
+pub mod FinishedRuns

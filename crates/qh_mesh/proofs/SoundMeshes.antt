@@ -93,7 +93,7 @@ simplex_is_sound at a b c d h = (
 vol-turned : (a b c d : Vector) → vol a c b d ≡ neg_ℤ (vol a b c d)
 vol-turned a b c d = vol-flip a c b d ∙ ap neg_ℤ (vol-turn c a b d)
 
-middle-turned : (a b c d : Weighted) → middle_of a c b d ≡ middle_of a b c d
+pub middle-turned : (a b c d : Weighted) → middle_of a c b d ≡ middle_of a b c d
 middle-turned a b c d = λ i. record { w = swap a.w b.w c.w d.w i; x = swap a.x b.x c.x d.x i; y = swap a.y b.y c.y d.y i; z = swap a.z b.z c.z d.z i }
   where
     swap : (p q r s : ℤ) → p +ℤ r +ℤ q +ℤ s ≡ p +ℤ q +ℤ r +ℤ s

@@ -1,7 +1,8 @@
 -- A round of Quickhull: where a cone replaces what the apex sees, the released points are all that must be looked at.
-use Rattle.std.proofs.Common.{◌≡◌, ◌≢◌, ℕ, ◌<◌, ◌≤◌, arith, ap, sym, ◌∙◌, refl, Bool, true, false, ◌⊎◌, inl, inr, List, [], ◌∷◌, length, subst}
+use Rattle.std.proofs.Common.{◌≡◌, ◌≢◌, ℕ, ◌<◌, ◌≤◌, arith, ap, sym, ◌∙◌, refl, Bool, true, false, ◌⊎◌, inl, inr, List, [], ◌∷◌, length, map, get_or, subst}
 use Rattle.std.specs.Prelude.{slice_index, ℤ, pos, ◌<ℤ◌, ◌≤ℤ◌}
 use Rattle.std.proofs.lemmas.Int.{ints}
+use Rattle.std.proofs.lemmas.List.{get_or-map}
 use Rattle.qh_model.specs.Vector.{Vector}
 use Rattle.qh_model.specs.Predicates.{vol, place}
 use Rattle.qh_model.specs.Sets.{In}
@@ -11,6 +12,7 @@ use Rattle.qh_model.specs.Surface.{Side, Surface, start, end, IsCorner, Sees, Is
 use Rattle.qh_model.specs.Surface.Side.{first, second, third}
 use Rattle.qh_model.specs.Rewired.{IsHorizonSide, IsConeUnseen, IsRewired}
 use Rattle.qh_model.specs.StoredSurface.{StoredFacet, facet_at, surface_of}
+use Rattle.qh_model.proofs.Members.{In-get_or}
 use Rattle.qh_model.proofs.surfaces.SurfaceLaws.{rise_is_vol, settled_stay_unseen, corners_are_settled, added_is_settled}
 use Rattle.qh_model.proofs.surfaces.Unseen.{dropped_stay_unseen}
 use Rattle.qh_pred.specs.Planes.{PlaneValue, height}
@@ -19,7 +21,7 @@ use Rattle.qh_mesh.specs.Replacement.{number, is_listed, IsLive, AreFacets, IsKe
 use Rattle.qh_mesh.specs.SoundMesh.{facet_vol, IsSoundMesh, IsClosedMesh, AreVisible}
 use Rattle.qh_mesh.proofs.Rewiring.{live_in, in_live}
 use Rattle.qh_mesh.proofs.Replacing.{decide}
-use Rattle.qh_block.specs.Planes.{plane_at}
+use Rattle.qh_block.specs.Planes.{plane_at, ArePlanes}
 use Rattle.qh_block.specs.OutsideSets.{OutsideValue, set_of}
 use Rattle.qh_block.specs.Runs.{height_at, IsDone, Names, AreWithin, IsOutside, HasCornersIn, IsGrown, IsPicked, IsSettling, IsPlaneOf, IsRemade}
 use Rattle.qh_block.specs.Settling.{AreReleased}
@@ -205,3 +207,38 @@ remade pts ids old new ps v w pending vs made f a k d m rel e n = record {
         let b = k.outside g p i in
         drop_done pts ids old new vs (slice_index ids a) made (middle_at (place pts) k.grown.s k.grown.t k.grown.u k.grown.v) p g k.grown.sound d.visible d.replaced d.rewired
         b.0 (Rattle.qh_block.proofs.runs.NamedFacets.names_listed vs g c) b.1 u
+
+-- the same, of what the steps of the code tell: the walk's facets `walk` are handed on as vs and us, those made as ms,
+-- the apex is l, and its point and the planes are read from copies
+pub remade_by : (pts : List Vector) (ids : List ℕ) (old new : List StoredFacet) (ps qs : List PlaneValue) (v w : OutsideValue) (pending walk vs us made ms : List FacetNo) (f a l : ℕ) (point : Vector)
+    → IsPicked pts ids old ps v pending f a → l ≡ slice_index ids a → point ≡ place pts (slice_index ids a) → qs ≡ ps → vs ≡ walk → us ≡ walk → ms ≡ made
+    → ((at : ℕ → Vector) (o : Weighted) (n : ℕ) → at n ≡ point → ArePlanes at old qs → IsSoundMesh at old o → AreVisible at old walk n)
+    → AreReleased v w vs → w.positions ≡ v.positions → length w.sets ≡ length v.sets → IsReplacement old new us l made
+    → ((o : Weighted) → IsSoundMesh (place pts) old o → AreVisible (place pts) old us l → IsRewired (surface_of old) (surface_of new) (weighted_at (place pts)) l)
+    → ((o : Weighted) → IsSoundMesh (place pts) old o → AreVisible (place pts) old us l → IsSoundMesh (place pts) new o)
+    → ((s t u v : ℕ) → IsSoundMesh (place pts) old (middle_at (place pts) s t u v) → AreVisible (place pts) old us l → IsClosedMesh (place pts) new)
+    → IsRemade pts ids new ps w pending ms
+remade_by pts ids old new ps qs v w pending walk vs us made ms f a l point k el ep eq ev eu em see rel e n d r z c =
+    remade pts ids old new ps v w pending vs ms f a k round (In-get_or ids a 0 k.apex) rel e n
+  where
+    o : Weighted
+    o = middle_at (place pts) k.grown.s k.grown.t k.grown.u k.grown.v
+
+    seen : AreVisible (place pts) old walk (slice_index ids a)
+    seen = see (place pts) (middle_at (place pts) k.grown.s k.grown.t k.grown.u k.grown.v) (slice_index ids a) (sym ep) (subst (ArePlanes (place pts) old) (sym eq) k.planes) k.grown.sound
+
+    handed : AreVisible (place pts) old us l
+    handed = subst (λ (xs : List FacetNo). AreVisible (place pts) old xs l) (sym eu) (subst (AreVisible (place pts) old walk) (sym el) seen)
+
+    round : IsRound pts old new vs (slice_index ids a) ms
+    round = record {
+      visible = subst (λ (xs : List FacetNo). AreVisible (place pts) old xs (slice_index ids a)) (sym ev) seen;
+      replaced = subst (IsReplacement old new vs (slice_index ids a)) (sym em) (subst (λ x. IsReplacement old new vs x made) el (subst (λ (xs : List FacetNo). IsReplacement old new xs l made) (eu ∙ sym ev) d));
+      rewired = subst (IsRewired (surface_of old) (surface_of new) (weighted_at (place pts))) el (r (middle_at (place pts) k.grown.s k.grown.t k.grown.u k.grown.v) k.grown.sound handed);
+      sound = λ q h. z q h handed;
+      closed = c k.grown.s k.grown.t k.grown.u k.grown.v k.grown.sound handed;
+    }
+
+-- the point at a position, read from the points of the ids
+pub read_point : (pts : List Vector) (ids : List ℕ) (points : List Vector) (a : ℕ) (point : Vector) → points ≡ map (place pts) ids → a < length ids → point ≡ get_or points a point → point ≡ place pts (slice_index ids a)
+read_point pts ids points a point e l h = h ∙ ap (λ (xs : List Vector). get_or xs a point) e ∙ get_or-map (place pts) ids a 0 point l

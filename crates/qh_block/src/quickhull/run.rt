@@ -42,7 +42,7 @@ fn points_of(alloc: Global, pts: &[Point], ids: &[Id]) -> Result<Vec<Point>, Mem
 {
     let mut points = Vec::with_capacity(alloc, ids.len())?;
     for id in ids {
-        points.push_reserved(point_at(pts, *id));
+        points.push(point_at(pts, *id))?;
     }
     Ok(points)
 }

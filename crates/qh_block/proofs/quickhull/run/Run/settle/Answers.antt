@@ -1,0 +1,35 @@
+use Rattle.std.proofs.Common.{◌≡◌, ◌≤◌, ◌<◌, ◌∙◌, ◌-◌, ap, sym, subst, List, [], length, replicate, get_or, arith, ℕ}
+use Rattle.std.proofs.lemmas.List.{length-append}
+use Rattle.qh_model.specs.Predicates.{place}
+use Rattle.qh_block.specs.Planes.{ArePlanes}
+use Rattle.qh_block.specs.OutsideSets.{set_of}
+use Rattle.qh_block.specs.Runs.{AreWithin}
+use Rattle.qh_block.proofs.runs.NamedFacets.{within_more}
+use Rattle.qh_block.proofs.runs.SetWrites.{grown-set}
+use Rattle.qh_block.proofs.runs.SettledOrphans.{same_settling}
+use Rattle.qh_block.proofs.runs.RenewedPlanes.{roomy}
+use Rattle.qh_block.proofs.runs.FinishedRuns.{next_round}
+use Rattle.qh_block.proofs.quickhull.run.Run.settle.Goals as goal
+
+pub returns-clause-under_way : goal.returns-clause-under_way
+returns-clause-under_way c ids same k =
+    let pts = c.args.pts.now in
+    let fs = c.args.self.now.mesh in
+    let places = c.places-places.ensures in
+    let planes : ArePlanes (place c.args.pts.now) c.args.self.now.mesh c.renew.new.planes.items = record {
+      room = let r = c.in_ok-make_room.ensures.room in let n = c.renew.ensures.len in omega arith;
+      right = λ f l p. (c.renew.ensures.planes f l (roomy c.args.pts.now c.args.self.now.mesh c.args.self.now.planes.items c.make_room.new.planes.items c.args.made.now c.make_room.ensures.kept f (k.planes f l))).1 p;
+    } in
+    let sets = c.in_ok-make_room-2.ensures.sets in
+    let more = ap (λ (xs : List (List ℕ)). length xs) sets ∙ length-append c.args.self.now.sets.sets (replicate (c.places-places.result - length c.args.self.now.sets.sets) []) in
+    let long = c.in_ok-make_room-2.ensures.places in
+    let stays = c.settle_orphans.ensures.places in
+    next_round c.args.pts.now ids c.args.self.now.mesh c.args.self.now.planes.items c.renew.new.planes.items c.args.self.now.sets c.settle_orphans.new.sets c.args.self.now.pending.items c.args.made.now c.enqueue.new.pending.items
+    k planes
+    (c.settle_orphans.ensures.settled c.args.pts.now ids c.args.self.now.mesh c.args.self.now.pending.items (c.deref-2.ensures.value ∙ same) c.requires.live (subst (ArePlanes (place c.args.pts.now) c.args.self.now.mesh) (sym c.deref.ensures.value) planes)
+    (same_settling c.args.pts.now ids c.args.self.now.mesh c.args.self.now.sets c.make_room-2.new.self c.args.self.now.pending.items c.args.made.now
+    (λ f. ap (λ (xs : List (List ℕ)). get_or xs f []) sets ∙ grown-set c.args.self.now.sets.sets (c.places-places.result - length c.args.self.now.sets.sets) f) c.make_room-2.ensures.orphans k.settling))
+    c.settle_orphans.ensures.none (c.settle_orphans.ensures.positions ∙ c.make_room-2.ensures.positions)
+    (omega (arith, places, long, stays))
+    (c.enqueue.ensures.within (within_more (length c.args.self.now.sets.sets) (length c.settle_orphans.new.sets.sets) c.args.self.now.pending.items (omega (arith, more, stays)) k.range))
+    c.enqueue.ensures.kept c.in_ok-enqueue.ensures.made

@@ -1,0 +1,9 @@
+use Rattle.std.proofs.Common.{ℕ, ◌<◌}
+use Rattle.std.specs.Prelude.{pos, ◌≤ℤ◌}
+use Rattle.qh_pred.specs.Planes.{height}
+use Rattle.qh_mesh.specs.Replacement.{number}
+use Rattle.qh_block.specs.Planes.{plane_at}
+use Rattle.qh_block.proofs.quickhull.settling.first_below.Given as goal
+
+abbrev pub invariant-loop-facet : goal.invariant-loop-facet
+invariant-loop-facet l = (j : ℕ) → j < l.facet-index → height (plane_at l.planes (number l.made j)) l.point ≤ℤ pos 0

@@ -1,0 +1,23 @@
+use Rattle.std.proofs.Common.{◌≡◌, ◌<◌, ◌≤◌, ℕ, List, length, map}
+use Rattle.qh_model.specs.Vector.{Vector}
+use Rattle.qh_model.specs.Predicates.{place}
+use Rattle.qh_model.specs.StoredSurface.{StoredFacet}
+use Rattle.qh_mesh.specs.declared.facets.FacetNo.{FacetNo}
+use Rattle.qh_mesh.specs.Replacement.{IsLive, number}
+use Rattle.qh_block.specs.Planes.{ArePlanes}
+use Rattle.qh_block.specs.OutsideSets.{listed}
+use Rattle.qh_block.specs.Runs.{IsSettling}
+use Rattle.qh_block.proofs.quickhull.settling.settle_orphans.Given as goal
+
+abbrev pub invariant-loop-orphan : goal.invariant-loop-orphan
+invariant-loop-orphan l = record {
+  places : length l.sets.sets ≡ length l.initial.sets.sets;
+  positions : l.sets.positions ≡ l.initial.sets.positions;
+  fewer : listed l.sets ≤ listed l.initial.sets;
+  settled : (pts : List Vector) (ids : List ℕ) (fs : List StoredFacet) (pending : List FacetNo) → l.points ≡ map (place pts) ids
+      → ((j : ℕ) → j < length l.made → IsLive fs (number l.made j)) → ArePlanes (place pts) fs l.planes
+      → IsSettling pts ids fs l.initial.sets pending l.made → IsSettling pts ids fs l.sets pending l.made
+}
+
+abbrev pub decreases-loop-orphan : goal.decreases-loop-orphan
+decreases-loop-orphan l = length l.sets.orphans

@@ -1,0 +1,92 @@
+-- Members of outside sets after one of them is written.
+use Rattle.std.proofs.Common.{◌≡◌, ℕ, ◌+◌, ◌-◌, ◌<◌, ◌≤◌, arith, ap, sym, ◌∙◌, refl, Bool, true, false, ◌⊎◌, inl, inr, List, [], ◌∷◌, ◌++◌, length, get_or, replicate, subst}
+use Rattle.std.proofs.Math.ListN.{set}
+use Rattle.std.proofs.lemmas.Bool.{cases_eq}
+use Rattle.std.proofs.lemmas.List.{get_or-set_same, get_or-set_other, set_past, set-get_or, get_or_past, get_or_append_left, get_or-append_right, get_or-replicate, length-replicate}
+use Rattle.qh_model.specs.Sets.{In}
+use Rattle.qh_mesh.proofs.Weaving.{by_le}
+use Rattle.qh_block.specs.OutsideSets.{OutsideValue, set_of, joined}
+
+-- a member after a write is one of what was written, or was one
+pub of_write : (xs : List (List ℕ)) (f : ℕ) (ys : List ℕ) (g q : ℕ) → In q (get_or (set xs f ys) g []) → ((g ≡ f) × In q ys) ⊎ In q (get_or xs g [])
+of_write xs f ys g q i = by (cases_eq g f)
+  where
+    here : g ≡ f → ((g ≡ f) × In q ys) ⊎ In q (get_or xs g [])
+    here e =
+        by_le (((g ≡ f) × In q ys) ⊎ In q (get_or xs g [])) f (length xs)
+        (λ l. inl (e, subst (In q) (ap (λ n. get_or (set xs f ys) n []) e ∙ get_or-set_same xs f ys [] l) i))
+        (λ l. inr (subst (In q) (ap (λ (zs : List (List ℕ)). get_or zs g []) (set_past xs f ys l)) i))
+
+    by : (g ≡ f) ⊎ (g ≡ f → ⊥) → ((g ≡ f) × In q ys) ⊎ In q (get_or xs g [])
+    by (inl e) = here e
+    by (inr n) = inr (subst (In q) (get_or-set_other xs f g ys [] n) i)
+
+-- what was written are members
+pub write_has : (xs : List (List ℕ)) (f : ℕ) (ys : List ℕ) (g q : ℕ) → f < length xs → g ≡ f → In q ys → In q (get_or (set xs f ys) g [])
+write_has xs f ys g q l e i = subst (In q) (sym (ap (λ n. get_or (set xs f ys) n []) e ∙ get_or-set_same xs f ys [] l)) i
+
+-- and the members of other sets stay
+pub write_keeps : (xs : List (List ℕ)) (f : ℕ) (ys : List ℕ) (g q : ℕ) → (g ≡ f → ⊥) → In q (get_or xs g []) → In q (get_or (set xs f ys) g [])
+write_keeps xs f ys g q n i = subst (In q) (sym (get_or-set_other xs f g ys [] n)) i
+
+-- an empty set that was written is empty
+pub write_empty : (xs : List (List ℕ)) (f g : ℕ) → (g ≡ f) ⊎ (get_or xs g [] ≡ []) → get_or (set xs f []) g [] ≡ []
+write_empty xs f g h = by (cases_eq g f) h
+  where
+    by : (g ≡ f) ⊎ (g ≡ f → ⊥) → (g ≡ f) ⊎ (get_or xs g [] ≡ []) → get_or (set xs f []) g [] ≡ []
+    by (inl e) _ =
+        by_le (get_or (set xs f []) g [] ≡ []) f (length xs)
+        (λ l. ap (λ n. get_or (set xs f []) n []) e ∙ get_or-set_same xs f [] [] l)
+        (λ l. ap (λ (zs : List (List ℕ)). get_or zs g []) (set_past xs f [] l) ∙ get_or_past xs g [] (omega arith))
+    by (inr n) (inl e) = absurd (n e)
+    by (inr n) (inr k) = get_or-set_other xs f g [] [] n ∙ k
+
+-- members of a set that a position joined
+pub of_joined : (b : Bool) (p q : ℕ) (xs : List ℕ) → In q (joined b p xs) → (q ≡ p) ⊎ In q xs
+of_joined b p q [] (inl e) = inl e
+of_joined b p q [] (inr i) = absurd i
+of_joined true p q (x ∷ xs) (inl e) = inl e
+of_joined true p q (x ∷ xs) (inr i) = inr i
+of_joined false p q (x ∷ xs) (inl e) = inr (inl e)
+of_joined false p q (x ∷ xs) (inr (inl e)) = inl e
+of_joined false p q (x ∷ xs) (inr (inr i)) = inr (inr i)
+
+pub joined_has : (b : Bool) (p : ℕ) (xs : List ℕ) → In p (joined b p xs)
+joined_has b p [] = inl refl
+joined_has true p (x ∷ xs) = inl refl
+joined_has false p (x ∷ xs) = inr (inl refl)
+
+pub joined_keeps : (b : Bool) (p q : ℕ) (xs : List ℕ) → In q xs → In q (joined b p xs)
+joined_keeps b p q [] i = absurd i
+joined_keeps true p q (x ∷ xs) i = inr i
+joined_keeps false p q (x ∷ xs) (inl e) = inl e
+joined_keeps false p q (x ∷ xs) (inr i) = inr (inr i)
+
+-- members of joined lists
+pub of_append : (xs ys : List ℕ) (q : ℕ) → In q (xs ++ ys) → In q xs ⊎ In q ys
+of_append [] ys q i = inr i
+of_append (x ∷ xs) ys q (inl e) = inl (inl e)
+of_append (x ∷ xs) ys q (inr i) = by (of_append xs ys q i)
+  where
+    by : In q xs ⊎ In q ys → In q (x ∷ xs) ⊎ In q ys
+    by (inl h) = inl (inr h)
+    by (inr h) = inr h
+
+pub append_left : (xs ys : List ℕ) (q : ℕ) → In q xs → In q (xs ++ ys)
+append_left [] ys q i = absurd i
+append_left (x ∷ xs) ys q (inl e) = inl e
+append_left (x ∷ xs) ys q (inr i) = inr (append_left xs ys q i)
+
+pub append_right : (xs ys : List ℕ) (q : ℕ) → In q ys → In q (xs ++ ys)
+append_right [] ys q i = i
+append_right (x ∷ xs) ys q i = inr (append_right xs ys q i)
+
+-- room for more sets changes none
+pub grown-set : (xs : List (List ℕ)) (n f : ℕ) → get_or (xs ++ replicate n []) f [] ≡ get_or xs f []
+grown-set xs n f =
+    by_le (get_or (xs ++ replicate n []) f [] ≡ get_or xs f []) f (length xs)
+    (λ l. get_or_append_left xs (replicate n []) [] f l)
+    (λ l. get_or-append_right xs (replicate n []) (length xs) f [] refl l ∙ none (f - length xs) ∙ sym (get_or_past xs f [] l))
+  where
+    none : (i : ℕ) → get_or (replicate {A = List ℕ} n []) i [] ≡ []
+    none i = by_le (get_or (replicate {A = List ℕ} n []) i [] ≡ []) i n (λ l. get_or-replicate n i [] [] l) (λ l. get_or_past (replicate {A = List ℕ} n []) i [] (let e = length-replicate {A = List ℕ} n [] in omega arith))

@@ -1,0 +1,40 @@
+-- The facets that were made wait for their turn if they have an outside set.
+use Rattle.std.proofs.Common.{◌≡◌, ℕ, ◌+◌, ◌<◌, arith, ap, sym, ◌∙◌, refl, ◌⊎◌, inl, inr, List, [], ◌∷◌, ◌++◌, length, take, subst}
+use Rattle.qh_model.specs.Sets.{In}
+use Rattle.qh_mesh.specs.declared.facets.FacetNo.{FacetNo}
+use Rattle.qh_block.specs.OutsideSets.{OutsideValue, set_of}
+use Rattle.qh_block.specs.Runs.{Names, AreWithin}
+use Rattle.qh_block.proofs.runs.NamedFacets.{names_kept, names_last, names_push, within_push}
+
+-- those that waited, and of those made the ones with an outside set
+pub record AreQueued (v : OutsideValue) (old new made : List FacetNo) : Type 0 where
+  pub within : AreWithin (length v.sets) old → AreWithin (length v.sets) new
+  pub kept : (f : ℕ) → Names old f → Names new f
+  pub added : (f p : ℕ) → Names made f → In p (set_of v f) → Names new f
+
+-- none is added
+pub none_queued : (v : OutsideValue) (old : List FacetNo) → AreQueued v old old []
+none_queued v old = record { within = λ h. h; kept = λ f n. n; added = λ f p n i. absurd (nothing f n) }
+  where
+    nothing : (f : ℕ) → Names [] f → ⊥
+    nothing f (j, h, e) = omega arith
+
+-- one with a set is
+pub more_queued : (v : OutsideValue) (old new made : List FacetNo) (x : FacetNo) → x.0 < length v.sets → AreQueued v old new made → AreQueued v old (new ++ x ∷ []) (made ++ x ∷ [])
+more_queued v old new made x l q = record {
+  within = λ h. within_push (length v.sets) new x (q.within h) l;
+  kept = λ f n. names_kept new x f (q.kept f n);
+  added = λ f p n i. by f p i (names_push made x f n);
+}
+  where
+    by : (f p : ℕ) → In p (set_of v f) → Names made f ⊎ (f ≡ x.0) → Names (new ++ x ∷ []) f
+    by f p i (inl n) = names_kept new x f (q.added f p n i)
+    by f p i (inr e) = subst (Names (new ++ x ∷ [])) (sym e) (names_last new x)
+
+-- one without need not be
+pub more_idle : (v : OutsideValue) (old new made : List FacetNo) (x : FacetNo) → set_of v x.0 ≡ [] → AreQueued v old new made → AreQueued v old new (made ++ x ∷ [])
+more_idle v old new made x e q = record { within = q.within; kept = q.kept; added = λ f p n i. by f p i (names_push made x f n) }
+  where
+    by : (f p : ℕ) → In p (set_of v f) → Names made f ⊎ (f ≡ x.0) → Names new f
+    by f p i (inl n) = q.added f p n i
+    by f p i (inr h) = absurd (subst (In p) (ap (set_of v) h ∙ e) i)
