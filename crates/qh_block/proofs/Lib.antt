@@ -7,3 +7,4 @@ pub mod NewSets
 pub mod runs
 pub mod WalkSteps
 pub mod FoundFacets
+pub mod LiveFacets
