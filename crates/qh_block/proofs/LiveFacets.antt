@@ -1,5 +1,5 @@
 -- What a loop over the live facets of a mesh comes to.
-use Rattle.std.proofs.Common.{◌≡◌, ◌<◌, ℕ, List, [], ◌∷◌, refl, sym, inl, inr, subst, All, length}
+use Rattle.std.proofs.Common.{◌≡◌, ℕ, List, [], ◌∷◌, refl, sym, inl, inr, subst, All}
 use Rattle.std.proofs.lemmas.List.Elements.{All-head, All-tail, All-from_recursion}
 use Rattle.std.specs.List.{AllByRecursion as Every}
 use Rattle.qh_model.specs.Sets.{In}
