@@ -1,21 +1,21 @@
 -- A walk that went over all its facets found all that the apex sees.
 use Rattle.std.proofs.Common.{◌≡◌, ◌≢◌, ℕ, ◌+◌, ◌*◌, ◌/◌, ◌<◌, ◌≤◌, arith, ap, sym, ◌∙◌, refl, true, false, ◌⊎◌, inl, inr, List, length, subst}
-use Rattle.std.specs.Prelude.{ℤ, pos, ◌<ℤ◌, ◌≤ℤ◌}
-use Rattle.std.proofs.lemmas.Int.{ints, by_lt_z}
+use Rattle.std.specs.Prelude.{pos, ◌<ℤ◌}
+use Rattle.std.proofs.lemmas.Int.{by_lt_z}
 use Rattle.qh_model.specs.Vector.{Vector}
-use Rattle.qh_model.specs.Weighted.{Weighted, weighted}
+use Rattle.qh_model.specs.Weighted.{Weighted}
 use Rattle.qh_model.specs.FinishedSurface.{weighted_at}
 use Rattle.qh_model.specs.Sets.{In}
-use Rattle.qh_model.specs.Surface.{Side, Sees, rise}
+use Rattle.qh_model.specs.Surface.{Side, Sees}
 use Rattle.qh_model.specs.Rewired.{IsWalked}
 use Rattle.qh_model.specs.StoredSurface.{StoredFacet, facet_at, surface_of}
 use Rattle.qh_model.proofs.surfaces.SurfaceLaws.{rise_is_vol, walk_finds_all}
 use Rattle.qh_pred.specs.Planes.{PlaneValue, height}
 use Rattle.qh_mesh.specs.declared.facets.FacetNo.{FacetNo}
-use Rattle.qh_mesh.specs.Replacement.{IsLive, AreFacets, number, is_listed, twin_of}
+use Rattle.qh_mesh.specs.Replacement.{IsLive, number, is_listed, twin_of}
 use Rattle.qh_mesh.specs.SoundMesh.{facet_vol, IsSoundMesh, AreVisible}
 use Rattle.qh_mesh.proofs.ListLemmas.{listed_at, listed_find}
-use Rattle.qh_mesh.proofs.Rewiring.{edge_of, edge-facet, twin_at, twin-is, over-is, live_in, in_live}
+use Rattle.qh_mesh.proofs.Rewiring.{edge_of, edge-facet, twin-is, over-is, live_in, in_live}
 use Rattle.qh_block.specs.Planes.{plane_at, ArePlanes}
 use Rattle.qh_block.specs.Walks.{mark_at, IsWalk, IsCrossed}
 use Rattle.qh_block.proofs.WalkSteps.{live_below}

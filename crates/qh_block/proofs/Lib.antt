@@ -8,3 +8,4 @@ pub mod NewSets
 pub mod runs
 pub mod WalkSteps
 pub mod FoundFacets
+pub mod LiveFacets

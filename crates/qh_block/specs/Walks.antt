@@ -5,7 +5,7 @@ use Rattle.qh_model.specs.Vector.{Vector}
 use Rattle.qh_model.specs.StoredSurface.{StoredFacet}
 use Rattle.qh_pred.specs.Planes.{PlaneValue, height}
 use Rattle.qh_mesh.specs.declared.facets.FacetNo.{FacetNo}
-use Rattle.qh_mesh.specs.Replacement.{IsLive, AreFacets, number, is_listed, twin_of}
+use Rattle.qh_mesh.specs.Replacement.{AreFacets, number, is_listed, twin_of}
 use Rattle.qh_block.specs.Planes.{plane_at}
 
 -- the round that met the facet at a place last; 0 past the end

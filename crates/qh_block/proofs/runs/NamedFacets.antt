@@ -1,16 +1,11 @@
--- Lists of facets: which ones a list names, and where live facets stand.
-use Rattle.std.proofs.Common.{◌≡◌, ◌≢◌, ℕ, zero, suc, ◌+◌, ◌<◌, ◌≤◌, arith, ap, sym, ◌∙◌, refl, ◌⊎◌, inl, inr, List, [], ◌∷◌, ◌++◌, length, take, subst, true}
-use Rattle.std.proofs.lemmas.List.{get_or_append_left, get_or_push, length_push, take_more, get_or_past, length-take-le}
-use Rattle.qh_model.specs.StoredSurface.{StoredFacet, facet_at, no_facet}
+-- Lists of facets: which ones a list names.
+use Rattle.std.proofs.Common.{◌≡◌, ℕ, ◌<◌, ◌≤◌, arith, ap, sym, ◌∙◌, refl, ◌⊎◌, inl, inr, List, [], ◌∷◌, ◌++◌, length, true}
+use Rattle.std.proofs.lemmas.List.{get_or_append_left, get_or_push, length_push}
 use Rattle.qh_mesh.specs.declared.facets.FacetNo.{FacetNo}
-use Rattle.qh_mesh.specs.Replacement.{number, is_listed, IsLive}
+use Rattle.qh_mesh.specs.Replacement.{number, is_listed}
 use Rattle.qh_mesh.proofs.Weaving.{by_le}
 use Rattle.qh_mesh.proofs.ListLemmas.{listed_at, listed_find}
 use Rattle.qh_block.specs.Runs.{Names, AreWithin}
-
--- a live facet has a place
-pub live_within : (fs : List StoredFacet) (f : ℕ) → IsLive fs f → f < length fs
-live_within fs f l = by_le (f < length fs) f (length fs) (λ h. h) (λ h. let e = ap (λ (g : StoredFacet). g.live) (get_or_past fs f no_facet h) in absurd (cc))
 
 -- a list names what it named before a facet was added
 pub names_kept : (vs : List FacetNo) (x : FacetNo) (f : ℕ) → Names vs f → Names (vs ++ x ∷ []) f

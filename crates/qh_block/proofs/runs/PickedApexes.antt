@@ -1,6 +1,6 @@
 -- The next apex: facets without an outside set are passed over, and the first point of a set is taken out of it.
-use Rattle.std.proofs.Common.{◌≡◌, ℕ, ◌+◌, ◌<◌, ◌≤◌, arith, ap, sym, ◌∙◌, refl, ◌⊎◌, inl, inr, List, [], ◌∷◌, ◌++◌, length, drop, subst}
-use Rattle.std.specs.Prelude.{slice_set, slice_index_or, pos, ◌<ℤ◌}
+use Rattle.std.proofs.Common.{◌≡◌, ℕ, ◌<◌, arith, ap, sym, ◌∙◌, refl, ◌⊎◌, inl, inr, List, [], ◌∷◌, ◌++◌, length, drop, subst}
+use Rattle.std.specs.Prelude.{slice_set, slice_index_or}
 use Rattle.std.proofs.lemmas.Bool.{cases_eq}
 use Rattle.std.proofs.lemmas.List.{set-get_or, length-set}
 use Rattle.qh_model.specs.Vector.{Vector}
@@ -8,9 +8,8 @@ use Rattle.qh_model.specs.Sets.{In}
 use Rattle.qh_model.specs.StoredSurface.{StoredFacet}
 use Rattle.qh_pred.specs.Planes.{PlaneValue}
 use Rattle.qh_mesh.specs.declared.facets.FacetNo.{FacetNo}
-use Rattle.qh_mesh.specs.Replacement.{IsLive}
 use Rattle.qh_block.specs.OutsideSets.{OutsideValue, set_of}
-use Rattle.qh_block.specs.Runs.{height_at, IsDone, Names, AreWithin, IsOutside, IsUnderWay, IsPicked}
+use Rattle.qh_block.specs.Runs.{IsDone, Names, IsOutside, IsUnderWay, IsPicked}
 use Rattle.qh_block.proofs.runs.NamedFacets.{names_push, within_rest, within_last}
 use Rattle.qh_block.proofs.runs.SetWrites.{of_write, write_has, write_keeps}
 

@@ -1,5 +1,5 @@
 -- The planes of facets that were made, written one after the other.
-use Rattle.std.proofs.Common.{◌≡◌, ℕ, ◌+◌, ◌<◌, ◌≤◌, arith, ap, sym, ◌∙◌, refl, ◌⊎◌, inl, inr, List, [], ◌∷◌, length, subst}
+use Rattle.std.proofs.Common.{◌≡◌, ℕ, ◌+◌, ◌<◌, ◌≤◌, arith, ap, sym, ◌∙◌, ◌⊎◌, inl, inr, List, length}
 use Rattle.std.specs.Prelude.{slice_set, slice_index_or}
 use Rattle.std.proofs.lemmas.Bool.{cases_eq}
 use Rattle.std.proofs.lemmas.List.{get_or-set_same, get_or-set_other, length-set}
@@ -11,7 +11,7 @@ use Rattle.qh_mesh.specs.declared.facets.FacetNo.{FacetNo}
 use Rattle.qh_mesh.specs.Replacement.{number, IsLive}
 use Rattle.qh_mesh.specs.SoundMesh.{facet_vol}
 use Rattle.qh_mesh.proofs.Weaving.{by_le}
-use Rattle.qh_block.specs.Planes.{no_plane, plane_at, ArePlanes}
+use Rattle.qh_block.specs.Planes.{no_plane, plane_at}
 use Rattle.qh_block.specs.Runs.{Names, IsPlaneOf}
 
 -- facet f is one of those from i on

@@ -1,31 +1,32 @@
 -- A round of Quickhull: where a cone replaces what the apex sees, the released points are all that must be looked at.
-use Rattle.std.proofs.Common.{◌≡◌, ◌≢◌, ℕ, ◌<◌, ◌≤◌, arith, ap, sym, ◌∙◌, refl, Bool, true, false, ◌⊎◌, inl, inr, List, [], ◌∷◌, length, map, get_or, subst}
+use Rattle.std.proofs.Common.{◌≡◌, ℕ, ◌<◌, arith, ap, sym, ◌∙◌, true, false, ◌⊎◌, inl, inr, List, length, map, get_or, subst}
 use Rattle.std.specs.Prelude.{slice_index, ℤ, pos, ◌<ℤ◌, ◌≤ℤ◌}
 use Rattle.std.proofs.lemmas.Int.{ints}
 use Rattle.std.proofs.lemmas.List.{get_or-map}
 use Rattle.qh_model.specs.Vector.{Vector}
 use Rattle.qh_model.specs.Predicates.{vol, place}
 use Rattle.qh_model.specs.Sets.{In}
-use Rattle.qh_model.specs.Weighted.{Weighted, weighted, above}
+use Rattle.qh_model.specs.Weighted.{Weighted, above}
 use Rattle.qh_model.specs.FinishedSurface.{weighted_at, middle_at}
-use Rattle.qh_model.specs.Surface.{Side, Surface, start, end, IsCorner, Sees, IsBlindTo, rise}
+use Rattle.qh_model.specs.Surface.{Side, start, end, IsBlindTo, rise}
 use Rattle.qh_model.specs.Surface.Side.{first, second, third}
 use Rattle.qh_model.specs.Rewired.{IsHorizonSide, IsConeUnseen, IsRewired}
 use Rattle.qh_model.specs.StoredSurface.{StoredFacet, facet_at, surface_of}
 use Rattle.qh_model.proofs.Members.{In-get_or}
 use Rattle.qh_model.proofs.surfaces.SurfaceLaws.{rise_is_vol, settled_stay_unseen, corners_are_settled, added_is_settled}
 use Rattle.qh_model.proofs.surfaces.Unseen.{dropped_stay_unseen}
-use Rattle.qh_pred.specs.Planes.{PlaneValue, height}
+use Rattle.qh_pred.specs.Planes.{PlaneValue}
 use Rattle.qh_mesh.specs.declared.facets.FacetNo.{FacetNo}
-use Rattle.qh_mesh.specs.Replacement.{number, is_listed, IsLive, AreFacets, IsKept, StaysFacet, IsReplacement}
+use Rattle.qh_mesh.specs.Replacement.{number, is_listed, IsLive, IsKept, StaysFacet, IsReplacement}
 use Rattle.qh_mesh.specs.SoundMesh.{facet_vol, IsSoundMesh, IsClosedMesh, AreVisible}
 use Rattle.qh_mesh.proofs.Rewiring.{live_in, in_live}
 use Rattle.qh_mesh.proofs.Replacing.{decide}
-use Rattle.qh_block.specs.Planes.{plane_at, ArePlanes}
+use Rattle.qh_block.specs.Planes.{ArePlanes}
 use Rattle.qh_block.specs.OutsideSets.{OutsideValue, set_of}
-use Rattle.qh_block.specs.Runs.{height_at, IsDone, Names, AreWithin, IsOutside, HasCornersIn, IsGrown, IsPicked, IsSettling, IsPlaneOf, IsRemade}
+use Rattle.qh_block.specs.Runs.{height_at, IsDone, Names, IsOutside, HasCornersIn, IsPicked, IsPlaneOf, IsRemade}
 use Rattle.qh_block.specs.Settling.{AreReleased}
-use Rattle.qh_block.proofs.runs.NamedFacets.{live_within, listed_names}
+use Rattle.qh_block.proofs.WalkSteps.{live_below}
+use Rattle.qh_block.proofs.runs.NamedFacets.{names_listed, listed_names}
 
 never : (x : ℤ) → pos 0 <ℤ x → x ≤ℤ pos 0 → Prim.⊥
 never x a b = omega (arith, ints)
@@ -170,7 +171,7 @@ remade pts ids old new ps v w pending vs made f a k d m rel e n = record {
 
     planes : (g : ℕ) → IsKept old vs g ⊎ ((j : ℕ) × (j < length made) × (g ≡ number made j)) → IsPlaneOf pts new ps g ⊎ Names made g
     planes g (inl h) = inl (
-      (let l = live_within old g h.live in let r = k.planes.room in omega arith),
+      (let l = live_below old g h.live in let r = k.planes.room in omega arith),
       λ p. k.planes.right g h.live p ∙ sym (stays-vol (place pts) old new vs g p (d.replaced.kept g h)),
     )
     planes g (inr h) = inr h
@@ -206,7 +207,7 @@ remade pts ids old new ps v w pending vs made f a k d m rel e n = record {
     drops p (inr (g, c, i)) u =
         let b = k.outside g p i in
         drop_done pts ids old new vs (slice_index ids a) made (middle_at (place pts) k.grown.s k.grown.t k.grown.u k.grown.v) p g k.grown.sound d.visible d.replaced d.rewired
-        b.0 (Rattle.qh_block.proofs.runs.NamedFacets.names_listed vs g c) b.1 u
+        b.0 (names_listed vs g c) b.1 u
 
 -- the same, of what the steps of the code tell: the walk's facets `walk` are handed on as vs and us, those made as ms,
 -- the apex is l, and its point and the planes are read from copies

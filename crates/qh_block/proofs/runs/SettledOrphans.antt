@@ -1,5 +1,5 @@
 -- How orphans are released and settled.
-use Rattle.std.proofs.Common.{◌≡◌, ℕ, ◌+◌, ◌<◌, ◌≤◌, arith, ap, sym, ◌∙◌, refl, Bool, ◌⊎◌, inl, inr, List, [], ◌∷◌, ◌++◌, length, drop, get_or, map, subst}
+use Rattle.std.proofs.Common.{◌≡◌, ℕ, ◌<◌, arith, ap, sym, ◌∙◌, refl, ◌⊎◌, inl, inr, List, [], ◌∷◌, ◌++◌, length, drop, map, subst}
 use Rattle.std.specs.Prelude.{slice_set, slice_index, slice_index_or, pos, ◌<ℤ◌, ◌≤ℤ◌}
 use Rattle.std.proofs.lemmas.Bool.{cases_eq}
 use Rattle.std.proofs.lemmas.List.{get_or-map}
@@ -10,11 +10,10 @@ use Rattle.qh_model.specs.StoredSurface.{StoredFacet}
 use Rattle.qh_pred.specs.Planes.{PlaneValue, height}
 use Rattle.qh_mesh.specs.declared.facets.FacetNo.{FacetNo}
 use Rattle.qh_mesh.specs.Replacement.{number, IsLive}
-use Rattle.qh_mesh.specs.SoundMesh.{facet_vol}
 use Rattle.qh_block.specs.Planes.{plane_at, ArePlanes}
 use Rattle.qh_block.specs.OutsideSets.{OutsideValue, set_of, joined}
-use Rattle.qh_block.specs.Runs.{height_at, IsDone, Names, AreWithin, AreOutside, IsOutside, IsSettling}
-use Rattle.qh_block.specs.Settling.{IsAboveNone, IsDropped, IsAssigned, IsOneSettled, AreReleased}
+use Rattle.qh_block.specs.Runs.{height_at, IsDone, Names, AreWithin, IsOutside, IsSettling}
+use Rattle.qh_block.specs.Settling.{IsDropped, IsAssigned, IsOneSettled, AreReleased}
 use Rattle.qh_block.proofs.runs.NamedFacets.{names_kept, names_last, names_push, names_within}
 use Rattle.qh_block.proofs.runs.SetWrites.{of_write, write_has, write_keeps, write_empty, of_joined, joined_has, joined_keeps, of_append, append_left, append_right}
 

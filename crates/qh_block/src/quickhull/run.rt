@@ -124,7 +124,9 @@ impl Run {
         let point = self.points[apex as usize];
         self.walk.find(&self.mesh, &self.planes, facet, point)?;
         release(&mut self.sets, self.walk.visible());
-        let made = self.mesh.replace(alloc, pts, self.walk.visible(), ids[apex as usize])?;
+        let made = self
+            .mesh
+            .replace(alloc, pts, self.walk.visible(), ids[apex as usize])?;
         self.settle(pts, &made)
     }
 

@@ -94,12 +94,7 @@ fn settle_orphan(
 }
 
 /// Settles all orphans among the facets that were made.
-pub fn settle_orphans(
-    sets: &mut OutsideSets,
-    planes: &[Plane],
-    points: &[Point],
-    made: &[FacetNo],
-)
+pub fn settle_orphans(sets: &mut OutsideSets, planes: &[Plane], points: &[Point], made: &[FacetNo])
     requires points { sets.old.positions ≡ length points.now }
     requires planes { AreWithin (length planes.now) made.now }
     requires places { AreWithin (length sets.old.sets) made.now }

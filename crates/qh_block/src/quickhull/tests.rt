@@ -99,20 +99,29 @@ fn no_positions_make_no_orphans(rt: HostRuntime) -> Result<(), Fail> {
     Ok(())
 }
 
+/// The plane of three points.
+fn plane_of(pts: &[Point], corners: [Id; 3]) -> Plane {
+    let [a, b, c] = corners;
+    match (pts.get(a.index()), pts.get(b.index()), pts.get(c.index())) {
+        (Some(a), Some(b), Some(c)) => Plane::through(*a, *b, *c),
+        _ => no_plane(),
+    }
+}
+
+/// The plane of no facet.
+fn no_plane() -> Plane {
+    let origin = Point::new(0, 0, 0);
+    Plane::through(origin, origin, origin)
+}
+
 /// The planes of a mesh, by place.
 fn planes_of(alloc: Global, mesh: &Mesh, pts: &[Point]) -> Result<Vec<Plane>, AllocError>
     ensures { IfOk result (λ v. length mesh.now ≤ length v.items) }
 {
-    let origin = Point::new(0, 0, 0);
     let mut planes = Vec::new(alloc);
-    planes.resize(mesh.places(), Plane::through(origin, origin, origin))?;
+    planes.resize(mesh.places(), no_plane())?;
     for f in mesh.live() {
-        let [a, b, c] = mesh.facet(f);
-        if let (Some(a), Some(b), Some(c)) =
-            (pts.get(a.index()), pts.get(b.index()), pts.get(c.index()))
-        {
-            planes[f.0] = Plane::through(*a, *b, *c);
-        }
+        planes[f.0] = plane_of(pts, mesh.facet(f));
     }
     Ok(planes)
 }
@@ -124,12 +133,11 @@ fn seen_by(
     planes: &[Plane],
     apex: Point,
 ) -> Result<Vec<FacetNo>, AllocError>
-    requires { length mesh.now ≤ length planes.now }
     ensures { IfOk result (λ v. All (λ f. IsLive mesh.now f.0 × (pos 0 <ℤ height (plane_at planes.now f.0) apex)) v.items) }
 {
     let mut seen = Vec::new(alloc);
     for f in mesh.live() {
-        if planes[f.0].sees(apex) {
+        if f.0 < planes.len() && planes[f.0].sees(apex) {
             seen.push(f)?;
         }
     }

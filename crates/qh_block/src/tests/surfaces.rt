@@ -1,10 +1,11 @@
 //! The surfaces of solid sets, against a plain checker: each edge has its opposite, each triangle
 //! supports all points, and the counts are Euler's.
-ghost use Rattle.std.specs.Prelude.{IfOk};
+ghost use Rattle.qh_model.specs.DistinctIds.{IsIdSet};
+ghost use Rattle.qh_plane.specs.PlaceKeys.{AreIndices};
 
 use crate::surface;
 use qh_mesh::Mesh;
-use qh_model::{Memory, POINT_LIMIT, Point};
+use qh_model::{Id, Memory, POINT_LIMIT, Point};
 use qh_plane::{Shape, distinct, rank};
 use qh_pred::Plane;
 use std::alloc::{AllocError, Global};
@@ -52,6 +53,20 @@ fn paraboloid(alloc: Global) -> Result<Vec<Point>, AllocError> {
     Ok(pts)
 }
 
+/// The surface of a set, if it is solid.
+fn surface_of_set(alloc: Global, pts: &[Point], ids: &[Id]) -> Result<Option<Mesh>, Memory>
+    requires indices { AreIndices pts.now ids.now }
+    requires set { IsIdSet pts.now ids.now }
+{
+    if ids.is_empty() {
+        return Ok(None);
+    }
+    match rank(pts, ids) {
+        Shape::Solid(_, _, _, _) => Ok(Some(surface(alloc, pts, ids)?)),
+        _ => Ok(None),
+    }
+}
+
 /// The surface of the distinct points of a list, if they are solid.
 fn solid_surface<R: Threads + Sync>(
     rt: &R,
@@ -62,13 +77,7 @@ fn solid_surface<R: Threads + Sync>(
         return Ok(None);
     }
     let ids = distinct(rt, alloc, pts)?;
-    if ids.is_empty() {
-        return Ok(None);
-    }
-    match rank(pts, &ids) {
-        Shape::Solid(_, _, _, _) => Ok(Some(surface(alloc, pts, &ids)?)),
-        _ => Ok(None),
-    }
+    surface_of_set(alloc, pts, ids.as_slice())
 }
 
 /// The triangles of a mesh.
@@ -100,7 +109,11 @@ fn closes(alloc: Global, triangles: &[Triangle]) -> Result<bool, AllocError> {
 /// Whether a triangle strictly sees none of the points.
 fn supports(pts: &[Point], triangle: Triangle) -> bool {
     let (a, b, c) = triangle;
-    match (pts.get(a as usize), pts.get(b as usize), pts.get(c as usize)) {
+    match (
+        pts.get(a as usize),
+        pts.get(b as usize),
+        pts.get(c as usize),
+    ) {
         (Some(a), Some(b), Some(c)) => {
             let plane = Plane::through(*a, *b, *c);
             pts.iter().all(|p| !plane.sees(*p))
@@ -123,15 +136,13 @@ fn corner_count(alloc: Global, triangles: &[Triangle]) -> Result<usize, AllocErr
 }
 
 /// Whether the triangles close up, support all points, and are 2 V - 4, as on a sphere.
-fn is_surface(
-    alloc: Global,
-    pts: &[Point],
-    triangles: &[Triangle],
-) -> Result<bool, AllocError> {
+fn is_surface(alloc: Global, pts: &[Point], triangles: &[Triangle]) -> Result<bool, AllocError> {
     let corners = corner_count(alloc, triangles)?;
-    Ok(closes(alloc, triangles)?
-        && triangles.iter().all(|t| supports(pts, *t))
-        && triangles.len().checked_add(4) == corners.checked_mul(2))
+    Ok(
+        closes(alloc, triangles)?
+            && triangles.iter().all(|t| supports(pts, *t))
+            && triangles.len().checked_add(4) == corners.checked_mul(2),
+    )
 }
 
 #[test]
@@ -247,15 +258,33 @@ fn grid(
 fn small_grids(rt: HostRuntime) -> Result<(), Fail> {
     let alloc = rt.alloc();
     for seed in 0..40u32 {
-        for sides in [(2, 2, 2), (3, 3, 3), (2, 5, 2), (9, 9, 2), (6, 6, 6), (40, 3, 40)] {
+        for sides in [
+            (2, 2, 2),
+            (3, 3, 3),
+            (2, 5, 2),
+            (9, 9, 2),
+            (6, 6, 6),
+            (40, 3, 40),
+        ] {
             let pts = grid(alloc, seed, 60, sides)?;
             let mesh = solid_surface(&rt, alloc, &pts)?.expect(&rt, "a solid set");
             let triangles = triangles(alloc, &mesh)?;
             assert!(rt; is_surface(alloc, &pts, &triangles)?, "{seed} {}", sides.0);
         }
-        for sides in [(1, 1, 1), (1, 1, 9), (1, 5, 1), (1, 6, 6), (6, 1, 6), (6, 6, 1)] {
+        for sides in [
+            (1, 1, 1),
+            (1, 1, 9),
+            (1, 5, 1),
+            (1, 6, 6),
+            (6, 1, 6),
+            (6, 6, 1),
+        ] {
             let pts = grid(alloc, seed, 60, sides)?;
-            assert!(rt; solid_surface(&rt, alloc, &pts)?.is_none(), "{seed} {}", sides.0);
+            assert!(rt;
+                solid_surface(&rt, alloc, &pts)?.is_none(),
+                "{seed} {}",
+                sides.0
+            );
         }
     }
     Ok(())

@@ -1,4 +1,4 @@
-use Rattle.std.proofs.Common.{◌≡◌, ◌++◌, ◌∷◌, ◌∙◌, ap, [], List, Vec, Global, length, refl, sym, subst, take, take_all, get_or}
+use Rattle.std.proofs.Common.{◌++◌, ◌∷◌, ◌∙◌, ap, [], List, Vec, Global, length, sym, subst, take, take_all, get_or}
 use Rattle.std.proofs.lemmas.List.{take_more}
 use Rattle.qh_mesh.specs.declared.facets.FacetNo.{FacetNo}
 use Rattle.qh_block.specs.Runs.{Names, AreWithin}

@@ -1,6 +1,5 @@
-use Rattle.std.proofs.Common.{◌≡◌, ◌∙◌, ap, sym, subst, List, [], length, refl, arith}
+use Rattle.std.proofs.Common.{◌∙◌, sym, subst, length, refl, arith}
 use Rattle.std.proofs.lemmas.List.{nil_from_length}
-use Rattle.qh_mesh.specs.declared.facets.FacetNo.{FacetNo}
 use Rattle.qh_block.specs.OutsideSets.{OutsideValue}
 use Rattle.qh_block.specs.Runs.{AreWithin, IsUnderWay}
 use Rattle.qh_block.proofs.runs.NamedFacets.{within_rest}

@@ -2,7 +2,6 @@ use Rattle.std.proofs.Common.{◌≡◌, ℕ, List, length}
 use Rattle.qh_model.specs.Vector.{Vector}
 use Rattle.qh_model.specs.StoredSurface.{StoredFacet}
 use Rattle.qh_pred.specs.Planes.{PlaneValue}
-use Rattle.qh_block.specs.OutsideSets.{listed}
 use Rattle.qh_block.specs.Runs.{AreWithin, IsUnderWay}
 use Rattle.qh_block.proofs.quickhull.queue.next_apex.Given as goal
 
@@ -10,7 +9,7 @@ abbrev pub invariant-loop-facet : goal.invariant-loop-facet
 invariant-loop-facet l = record {
   within : AreWithin (length l.sets.sets) l.pending.items;
   same : l.sets ≡ l.initial.sets;
-  under_way : (pts : List Vector) (ids : List ℕ) (fs : List StoredFacet) (ps : List PlaneValue) → IsUnderWay pts ids fs ps l.initial.sets l.initial.pending.items → IsUnderWay pts ids fs ps l.sets l.pending.items
+  under_way : (pts : List Vector) (ids : List ℕ) (fs : List StoredFacet) (ps : List PlaneValue) → IsUnderWay pts ids fs ps l.initial.sets l.initial.pending.items → IsUnderWay pts ids fs ps l.sets l.pending.items;
 }
 
 abbrev pub decreases-loop-facet : goal.decreases-loop-facet

@@ -8,5 +8,5 @@ invariant-loop-facet l = record {
   released : AreReleased l.initial.sets l.sets (take l.facet-index l.gone);
   places : length l.sets.sets ≡ length l.initial.sets.sets;
   positions : l.sets.positions ≡ l.initial.sets.positions;
-  listed_same : listed l.sets ≡ listed l.initial.sets
+  listed_same : listed l.sets ≡ listed l.initial.sets;
 }

@@ -16,7 +16,7 @@ invariant-loop-orphan l = record {
   fewer : listed l.sets ≤ listed l.initial.sets;
   settled : (pts : List Vector) (ids : List ℕ) (fs : List StoredFacet) (pending : List FacetNo) → l.points ≡ map (place pts) ids
       → ((j : ℕ) → j < length l.made → IsLive fs (number l.made j)) → ArePlanes (place pts) fs l.planes
-      → IsSettling pts ids fs l.initial.sets pending l.made → IsSettling pts ids fs l.sets pending l.made
+      → IsSettling pts ids fs l.initial.sets pending l.made → IsSettling pts ids fs l.sets pending l.made;
 }
 
 abbrev pub decreases-loop-orphan : goal.decreases-loop-orphan

@@ -1,7 +1,5 @@
-use Rattle.std.proofs.Common.{◌≡◌, ◌∙◌, ap, sym, subst}
-use Rattle.std.proofs.lemmas.List.{get_or_read, get_or-map}
+use Rattle.std.proofs.lemmas.List.{get_or_read}
 use Rattle.std.proofs.lemmas.Result.{on_ok_weaker}
-use Rattle.qh_model.specs.Predicates.{place}
 use Rattle.qh_block.proofs.runs.FinishedRuns.{corners_below}
 use Rattle.qh_block.proofs.runs.Rounds.{remade_by, read_point}
 use Rattle.qh_block.proofs.quickhull.run.Run.add.Goals as goal

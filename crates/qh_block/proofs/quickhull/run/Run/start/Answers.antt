@@ -1,6 +1,5 @@
-use Rattle.std.proofs.Common.{◌≡◌, ◌<◌, ◌∙◌, ap, sym, subst, List, [], length}
+use Rattle.std.proofs.Common.{◌<◌, ◌∙◌, ap, sym, subst, List, [], length}
 use Rattle.std.specs.List.{range_with_len}
-use Rattle.qh_model.specs.Sets.{In}
 use Rattle.qh_model.proofs.Members.{All-In}
 use Rattle.qh_pred.specs.Planes.{PlaneValue}
 use Rattle.qh_mesh.specs.declared.facets.FacetNo.{FacetNo}

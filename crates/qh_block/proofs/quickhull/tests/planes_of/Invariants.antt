@@ -1,0 +1,6 @@
+use Rattle.std.proofs.Common.{◌≤◌, length}
+use Rattle.qh_block.proofs.LiveFacets.{AreAllLive}
+use Rattle.qh_block.proofs.quickhull.tests.planes_of.Given as goal
+
+abbrev pub invariant-loop-f : goal.invariant-loop-f
+invariant-loop-f l = AreAllLive l.mesh l.f-iterator × (length l.mesh ≤ length l.planes.items)
