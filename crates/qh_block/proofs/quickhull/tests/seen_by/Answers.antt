@@ -24,7 +24,8 @@ pub loop-f-preserved-then-sees : goal.loop-f-preserved-then-sees
 loop-f-preserved-then-sees c = (
   rest_live c.args.mesh.now c.loop-f.f-iterator c.next.new.self c.in-Some.f c.loop-f.invariant.0 c.in-Some.ensures.steps,
   subst (λ (vs : List FacetNo). All (λ (f : FacetNo). IsLive c.args.mesh.now f.0 × (pos 0 <ℤ height (plane_at c.args.planes.now f.0) c.args.apex)) vs) (sym c.in_ok-push.ensures.items)
-      (All-push (λ (f : FacetNo). IsLive c.args.mesh.now f.0 × (pos 0 <ℤ height (plane_at c.args.planes.now f.0) c.args.apex)) c.loop-f.seen.items c.in-Some.f c.loop-f.invariant.1
-      (next_live c.args.mesh.now c.loop-f.f-iterator c.next.new.self c.in-Some.f c.loop-f.invariant.0 c.in-Some.ensures.steps,
-      subst (λ (p : PlaneValue). pos 0 <ℤ height p c.args.apex) (get_or_read c.args.planes.now c.in-Some.f.0 c.index-planes-f.result c.if-f-planes.true c.index-planes-f.is no_plane) (c.if-sees.ensures.0 refl))),
+      (All-push (λ (f : FacetNo). IsLive c.args.mesh.now f.0 × (pos 0 <ℤ height (plane_at c.args.planes.now f.0) c.args.apex)) c.loop-f.seen.items c.in-Some.f c.loop-f.invariant.1 (
+        next_live c.args.mesh.now c.loop-f.f-iterator c.next.new.self c.in-Some.f c.loop-f.invariant.0 c.in-Some.ensures.steps,
+        subst (λ (p : PlaneValue). pos 0 <ℤ height p c.args.apex) (get_or_read c.args.planes.now c.in-Some.f.0 c.index-planes-f.result c.if-f-planes.true c.index-planes-f.is no_plane) (c.if-sees.ensures.0 refl),
+      )),
 )
