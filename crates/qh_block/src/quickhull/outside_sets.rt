@@ -217,12 +217,12 @@ impl OutsideSets {
         ensures positions { self.new.positions ≡ self.old.positions }
         ensures listed { listed self.new ≡ listed self.old }
     {
-        let orphan = self.orphan;
+        let second = self.orphan;
         let ends = self.ends[facet.0];
-        self.ends[facet.0] = ends.with_second(orphan);
-        self.orphan = self.links[orphan as usize];
-        self.links[orphan as usize] = self.links[ends.first as usize];
-        self.links[ends.first as usize] = orphan;
+        self.ends[facet.0] = ends.with_second(second);
+        self.orphan = self.links[second as usize];
+        self.links[second as usize] = self.links[ends.first as usize];
+        self.links[ends.first as usize] = second;
     }
 
     /// The first position of the outside set of a facet, if it has one.
