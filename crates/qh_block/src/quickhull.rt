@@ -1,4 +1,14 @@
-//! The hull of a solid set by Quickhull.
+//! The surface of a solid set by Quickhull.
+//!
+//! A `run` keeps a mesh, the points of the ids by position, and the planes of the facets by place.
+//! Each point that is not settled stands in the outside set of a facet that it is above
+//! (`outside_sets`), and the facets that have one wait for their turn (`queue`). In a round the first
+//! point of the next facet's set is the apex; a walk over twins finds the facets that it sees
+//! (`walk`), and its cone replaces them. The points of the facets that went are tested against the new
+//! facets alone: one that is above none of these is above none at all (`settling`, `planes`). When no
+//! facet waits, no facet sees a point, and the surface is that of the hull (`surfaces`).
+//!
+//! Source: Barber, Dobkin and Huhdanpaa 1996.
 
 mod outside_sets;
 mod planes;

@@ -62,16 +62,7 @@ joined_keeps true p q (x ∷ xs) i = inr i
 joined_keeps false p q (x ∷ xs) (inl e) = inl e
 joined_keeps false p q (x ∷ xs) (inr i) = inr (inr i)
 
--- members of joined lists
-pub of_append : (xs ys : List ℕ) (q : ℕ) → In q (xs ++ ys) → In q xs ⊎ In q ys
-of_append [] ys q i = inr i
-of_append (x ∷ xs) ys q (inl e) = inl (inl e)
-of_append (x ∷ xs) ys q (inr i) = by (of_append xs ys q i)
-  where
-    by : In q xs ⊎ In q ys → In q (x ∷ xs) ⊎ In q ys
-    by (inl h) = inl (inr h)
-    by (inr h) = inr h
-
+-- members of either list are members of both together
 pub append_left : (xs ys : List ℕ) (q : ℕ) → In q xs → In q (xs ++ ys)
 append_left [] ys q i = absurd i
 append_left (x ∷ xs) ys q (inl e) = inl e
