@@ -1,4 +1,4 @@
-use Rattle.std.proofs.Common.{◌≡◌, ◌<◌, ◌≤◌, ◌∙◌, [], List, length, refl, sym, subst, arith, All}
+use Rattle.std.proofs.Common.{◌∙◌, List, refl, sym, subst, All}
 use Rattle.std.specs.Prelude.{pos, ◌<ℤ◌}
 use Rattle.std.proofs.lemmas.List.{get_or_read}
 use Rattle.std.proofs.lemmas.List.Elements.{All-nil, All-push}
@@ -6,7 +6,6 @@ use Rattle.qh_pred.specs.Planes.{PlaneValue, height}
 use Rattle.qh_mesh.specs.declared.facets.FacetNo.{FacetNo}
 use Rattle.qh_mesh.specs.Replacement.{IsLive}
 use Rattle.qh_block.specs.Planes.{plane_at, no_plane}
-use Rattle.qh_block.proofs.WalkSteps.{live_below}
 use Rattle.qh_block.proofs.LiveFacets.{all_live, next_live, rest_live}
 use Rattle.qh_block.proofs.quickhull.tests.seen_by.Goals as goal
 

@@ -1,14 +1,13 @@
-use Rattle.std.proofs.Common.{◌≡◌, ◌≢◌, ◌+◌, ◌/◌, ◌<◌, ◌≤◌, ℕ, length, arith, ap, sym, subst, get_or, set, refl, true, false, List}
+use Rattle.std.proofs.Common.{◌≡◌, ◌/◌, ◌≤◌, ℕ, length, arith, sym, subst, get_or, set, refl, true, false, List}
 use Rattle.std.specs.Prelude.{pos, ◌<ℤ◌}
 use Rattle.std.proofs.lemmas.List.{get_or_read}
-use Rattle.qh_model.specs.Vector.{Vector}
 use Rattle.qh_model.specs.StoredSurface.{StoredFacet}
 use Rattle.qh_pred.specs.Planes.{PlaneValue, height}
 use Rattle.qh_mesh.specs.declared.facets.FacetNo.{FacetNo}
 use Rattle.qh_mesh.specs.Replacement.{IsLive}
 use Rattle.qh_block.specs.Planes.{no_plane, plane_at}
-use Rattle.qh_block.specs.Walks.{IsWalk, mark_at}
-use Rattle.qh_block.proofs.WalkSteps.{has_room, passed, joined_walk, live_below, with_facet}
+use Rattle.qh_block.specs.Walks.{IsWalk}
+use Rattle.qh_block.proofs.WalkSteps.{has_room, passed, joined_walk, live_below}
 use Rattle.qh_block.proofs.quickhull.walk.cross.Goals as goal
 
 -- the plane that was read is the facet's

@@ -1,4 +1,4 @@
-use Rattle.std.proofs.Common.{◌≡◌, ◌<◌, ◌≤◌, length, arith}
+use Rattle.std.proofs.Common.{arith}
 use Rattle.qh_block.proofs.WalkSteps.{facets_fit}
 use Rattle.qh_block.proofs.quickhull.walk.go_on.Goals as goal
 

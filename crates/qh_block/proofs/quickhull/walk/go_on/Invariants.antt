@@ -1,4 +1,4 @@
-use Rattle.std.proofs.Common.{◌≡◌, ◌+◌, ◌-◌, ◌<◌, ◌≤◌, ℕ, length, vec_capacity}
+use Rattle.std.proofs.Common.{◌-◌, ◌≤◌, length, vec_capacity}
 use Rattle.qh_block.specs.Walks.{IsWalk, IsCrossed, IsFurther}
 use Rattle.qh_block.proofs.quickhull.walk.go_on.Given as goal
 

@@ -1,4 +1,4 @@
-use Rattle.std.proofs.Common.{◌≡◌, ◌≤◌, ◌<◌, List, ℕ, [], ◌∷◌, ◌++◌, ◌∙◌, length, length-set, arith, ap, sym, subst, set}
+use Rattle.std.proofs.Common.{List, ℕ, [], ◌∷◌, ◌++◌, ◌∙◌, length, length-set, arith, ap, sym, subst, set}
 use Rattle.std.proofs.lemmas.List.{length_push}
 use Rattle.qh_model.specs.Vector.{Vector}
 use Rattle.qh_mesh.specs.declared.facets.FacetNo.{FacetNo}
