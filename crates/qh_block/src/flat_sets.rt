@@ -16,7 +16,13 @@ use qh_pred::{cross, point_at};
 use std::alloc::Global;
 
 /// The hull of a set in the line of its first two ids, `i` and `j`.
-pub(crate) fn segment_hull(alloc: Global, pts: &[Point], ids: &[Id], i: Id, j: Id) -> Result<Body, Memory>
+pub(crate) fn segment_hull(
+    alloc: Global,
+    pts: &[Point],
+    ids: &[Id],
+    i: Id,
+    j: Id,
+) -> Result<Body, Memory>
     requires indices { AreIndices pts.now ids.now }
     requires two { AreFirstTwo ids.now i j }
     requires line { Each (IsInLine pts.now i j) ids.now }

@@ -1,11 +1,14 @@
 //! The hull of one set of ids of distinct points.
 //!
-//! [`flat_hull`] answers the hull of a set that lies in a point, a line or a plane: a point, the
-//! segment between the ends of the line, or the polygon in the plane. A set of dimension 3 has none
-//! of these.
+//! [`hull`] answers the hull of a set of any dimension, and [`extremes`] its extreme ids alone. A solid
+//! set gets a closed surface of triangles by Quickhull, [`surface`]; the faces are gathered from its
+//! triangles plane by plane. A set in a point, a line or a plane gets its body at once: a point, the
+//! segment between the ends of the line, or the polygon in the plane ([`flat_hull`]).
 //!
-//! `segment` finds the ends of a line, `normals` the side from which a polygon is seen, and `bodies`
-//! puts the parts of a hull together.
+//! `quickhull` makes the surface. `plane_walk` walks over the triangles of one plane, `faces` makes the
+//! polygon of each plane, `face_order` and `solid_edges` order the faces and count their edges, and
+//! `solids` puts them together. `segment` finds the ends of a line, `normals` the side from which a
+//! polygon is seen, and `bodies` puts the hulls of flat sets together.
 #![tactic(auto)]
 
 mod bodies;

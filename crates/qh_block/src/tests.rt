@@ -6,6 +6,7 @@ use qh_model::{Body, Id, Point};
 use qh_plane::rank;
 use std::test::Fail;
 
+mod solid_rows;
 mod surfaces;
 
 /// The ids of four points.
