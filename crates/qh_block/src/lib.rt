@@ -3,7 +3,7 @@
 //! [`hull`] answers the hull of a set of any dimension, and [`extremes`] its extreme ids alone. A solid
 //! set gets a closed surface of triangles by Quickhull, [`surface`]; the faces are gathered from its
 //! triangles plane by plane. A set in a point, a line or a plane gets its body at once: a point, the
-//! segment between the ends of the line, or the polygon in the plane ([`flat_hull`]).
+//! segment between the ends of the line, or the polygon in the plane.
 //!
 //! `quickhull` makes the surface. `plane_walk` walks over the triangles of one plane, `faces` makes the
 //! polygon of each plane, `face_order` and `solid_edges` order the faces and count their edges, and
@@ -25,6 +25,5 @@ mod solids;
 #[cfg(test)]
 mod tests;
 
-pub use flat_sets::flat_hull;
 pub use hulls::{extremes, hull};
 pub use quickhull::surface;

@@ -1,9 +1,8 @@
 //! Rows of sets in a point, a line and a plane.
 ghost use Rattle.std.specs.Prelude.{◌≡◌, [], ◌∷◌};
 
-use crate::flat_hull;
+use crate::hull;
 use qh_model::{Body, Id, Point};
-use qh_plane::rank;
 use std::test::Fail;
 
 mod solid_rows;
@@ -40,9 +39,7 @@ fn only_polygon(body: &Body) -> &[Id] {
 fn one_point(rt: HostRuntime) -> Result<(), Fail> {
     let pts = [Point::new(3, 1, 0), Point::new(5, 5, 5)];
     let ids = [Id::new(1)];
-    let shape = rank(&pts, &ids);
-    let hull = flat_hull(rt.alloc(), &pts, &ids, shape).expect(&rt, "memory");
-    let body = hull.expect(&rt, "a flat set");
+    let body = hull(rt.alloc(), &pts, &ids).expect(&rt, "memory");
     assert_eq!(rt; body.dim, 0u8);
     assert_eq!(rt; body.extremes.as_slice(), ids.as_slice());
     assert_eq!(rt; only_polygon(&body), ids.as_slice());
@@ -60,9 +57,7 @@ fn five_in_line(rt: HostRuntime) -> Result<(), Fail> {
         Point::new(3, 3, 3),
     ];
     let ids = five_ids();
-    let shape = rank(&pts, &ids);
-    let hull = flat_hull(rt.alloc(), &pts, &ids, shape).expect(&rt, "memory");
-    let body = hull.expect(&rt, "a flat set");
+    let body = hull(rt.alloc(), &pts, &ids).expect(&rt, "memory");
     let ends = [Id::new(1), Id::new(2)];
     assert_eq!(rt; body.dim, 1u8);
     assert_eq!(rt; body.extremes.as_slice(), ends.as_slice());
@@ -81,9 +76,7 @@ fn square_with_centre(rt: HostRuntime) -> Result<(), Fail> {
         Point::new(1, 1, 0),
     ];
     let ids = five_ids();
-    let shape = rank(&pts, &ids);
-    let hull = flat_hull(rt.alloc(), &pts, &ids, shape).expect(&rt, "memory");
-    let body = hull.expect(&rt, "a flat set");
+    let body = hull(rt.alloc(), &pts, &ids).expect(&rt, "memory");
     assert_eq!(rt; body.dim, 2u8);
     assert_eq!(rt; body.extremes.as_slice(), four_ids().as_slice());
     assert_eq!(rt; only_polygon(&body), four_ids().as_slice());
@@ -173,26 +166,10 @@ fn squares(rt: HostRuntime) -> Result<(), Fail> {
     ];
     for (pts, polygon) in rows {
         let ids = four_ids();
-        let shape = rank(&pts, &ids);
-        let hull = flat_hull(rt.alloc(), &pts, &ids, shape).expect(&rt, "memory");
-        let body = hull.expect(&rt, "a flat set");
+        let body = hull(rt.alloc(), &pts, &ids).expect(&rt, "memory");
         assert_eq!(rt; body.extremes.as_slice(), ids.as_slice());
         assert_eq!(rt; only_polygon(&body), polygon.as_slice());
         assert_eq!(rt; body.edges, 4u64);
     }
-    Ok(())
-}
-
-#[test]
-fn solids(rt: HostRuntime) -> Result<(), Fail> {
-    let pts = from_origin(
-        Point::new(1, 0, 0),
-        Point::new(0, 1, 0),
-        Point::new(0, 0, 1),
-    );
-    let ids = four_ids();
-    let shape = rank(&pts, &ids);
-    let hull = flat_hull(rt.alloc(), &pts, &ids, shape).expect(&rt, "memory");
-    assert!(rt; hull.is_none());
     Ok(())
 }

@@ -110,6 +110,16 @@ impl OutsideSets {
         })
     }
 
+    /// Takes the memory for sets of so many more facets; nothing else changes.
+    ///
+    /// `Err` says that memory was refused.
+    pub fn reserve(&mut self, facets: usize) -> Result<(), Memory>
+        ensures { self.new ≡ self.old }
+    {
+        self.ends.reserve(facets)?;
+        Ok(())
+    }
+
     /// Makes sure that the facets below so many places have sets: the new ones are empty, the old ones
     /// and the orphans as they were.
     ///

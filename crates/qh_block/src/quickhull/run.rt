@@ -47,6 +47,25 @@ fn points_of(alloc: Global, pts: &[Point], ids: &[Id]) -> Result<Vec<Point>, Mem
     Ok(points)
 }
 
+/// Takes the memory that a round needs after its mesh has changed: the cone over the horizon of so
+/// many facets has at most three times as many.
+fn make_ready(
+    planes: &mut Vec<Plane>,
+    sets: &mut OutsideSets,
+    pending: &mut Vec<FacetNo>,
+    visible: usize,
+) -> Result<(), Memory>
+    ensures planes { planes.new.items ≡ planes.old.items }
+    ensures sets { sets.new ≡ sets.old }
+    ensures pending { pending.new.items ≡ pending.old.items }
+{
+    let most = visible.saturating_mul(3);
+    planes.reserve(most)?;
+    sets.reserve(most)?;
+    pending.reserve(most)?;
+    Ok(())
+}
+
 impl Run {
     /// A run that has the four facets of a first simplex.
     pub fn start(
@@ -123,6 +142,8 @@ impl Run {
     {
         let point = self.points[apex as usize];
         self.walk.find(&self.mesh, &self.planes, facet, point)?;
+        let visible = self.walk.visible().len();
+        make_ready(&mut self.planes, &mut self.sets, &mut self.pending, visible)?;
         release(&mut self.sets, self.walk.visible());
         let made = self
             .mesh
