@@ -1,14 +1,14 @@
 -- Sets with the same members have the same hull, and a part of a set with all its extreme ids has its hull.
-use Rattle.std.proofs.Common.{ℕ, ◌⊎◌, inl, inr, List}
+use Rattle.std.proofs.Common.{ℕ, inl, inr, List}
 use Rattle.std.specs.Prelude.{◌↔◌}
 use Rattle.qh_model.specs.Vector.{Vector}
 use Rattle.qh_model.specs.Predicates.{cross}
-use Rattle.qh_model.specs.Sets.{In, Members}
+use Rattle.qh_model.specs.Sets.{Members}
 use Rattle.qh_model.specs.DistinctIds.{HasDistinctPoints}
 use Rattle.qh_model.specs.Dimension.{HasTetrahedron, HasTriangle, HasSegment, IsDimension}
 use Rattle.qh_model.specs.Extreme.{Extreme}
 use Rattle.qh_model.specs.SupportingPlane.{IsSupportingTriple, OnPlane}
-use Rattle.qh_model.specs.Polygons.{AreFaces, IsFacePolygon, IsFlatFace, IsSegmentFace, IsPointFace, ArePolygons}
+use Rattle.qh_model.specs.Polygons.{AreFaces, IsFacePolygon, IsFlatFace, ArePolygons}
 use Rattle.qh_model.specs.Hull.{BodyValue, IsBody}
 use Rattle.qh_model.specs.HullLaws.{ExtremesOfPart, BodyOfPart}
 use Rattle.qh_model.proofs.extremes.ExtremeIds.{listed_itself, extremes_between, combination_within}
@@ -57,7 +57,7 @@ face_as : (at : ℕ → Vector) (A B : ℕ → Type 0) → Same A B → (i j k :
 face_as at A B s i j k q p =
     let e = extreme_as at A B s in
     polygon_as at (OnPlane at (Extreme at A) i j k) (OnPlane at (Extreme at B) i j k) (cross (at i) (at j) (at k)) (cross (at i) (at j) (at k)) q
-        (λ l. (λ h. ((e l).0 h.0, h.1), λ h. ((e l).1 h.0, h.1))) (along_itself _) p
+    (λ l. (λ h. ((e l).0 h.0, h.1), λ h. ((e l).1 h.0, h.1))) (along_itself _) p
 
 faces_as : (at : ℕ → Vector) (A B : ℕ → Type 0) (qs : List (List ℕ)) → Same A B → AreFaces at A qs → AreFaces at B qs
 faces_as at A B qs s f =

@@ -1,5 +1,5 @@
 -- Rising lists of numbers by position, their parts, and one after the other.
-use Rattle.std.proofs.Common.{ℕ, ◌≡◌, ◌+◌, ◌-◌, ◌≤◌, ◌<◌, List, ◌++◌, length, get_or, take, drop, subst, arith}
+use Rattle.std.proofs.Common.{ℕ, ◌≡◌, ◌+◌, ◌-◌, ◌≤◌, ◌<◌, List, ◌++◌, length, get_or, take, drop, arith}
 use Rattle.std.proofs.lemmas.Grind.{common_steps}
 use Rattle.std.proofs.lemmas.List.{get_or_append_left}
 use Rattle.std.proofs.Math.Seq.{get_or-append_right}
@@ -32,7 +32,7 @@ pub rising_append : (xs ys : List ℕ) → IsStrictlyIncreasing xs → IsStrictl
 rising_append xs ys f g below k l =
     let first : k + 1 < length xs → get_or (xs ++ ys) k 0 < get_or (xs ++ ys) (k + 1) 0 = (λ h. grind (arith, f k h, get_or_append_left xs ys 0 k, get_or_append_left xs ys 0 (k + 1))) in
     let seam : k + 1 ≡ length xs → get_or (xs ++ ys) k 0 < get_or (xs ++ ys) (k + 1) 0 =
-      (λ h. grind (arith, h, l, common_steps, below (get_or xs k 0) (get_or ys 0 0) (In-get_or xs k 0 (grind (arith, h))) (In-get_or ys 0 0 (grind (arith, common_steps, h, l))), get_or_append_left xs ys 0 k, get_or-append_right xs ys (k + 1) 0)) in
+    (λ h. grind (arith, h, l, common_steps, below (get_or xs k 0) (get_or ys 0 0) (In-get_or xs k 0 (grind (arith, h))) (In-get_or ys 0 0 (grind (arith, common_steps, h, l))), get_or_append_left xs ys 0 k, get_or-append_right xs ys (k + 1) 0)) in
     let second : length xs ≤ k → get_or (xs ++ ys) k 0 < get_or (xs ++ ys) (k + 1) 0 =
-      (λ h. grind (arith, h, g (k - length xs) (grind (arith, common_steps, h, l)), get_or-append_right xs ys k 0, get_or-append_right xs ys (k + 1) 0)) in
+    (λ h. grind (arith, h, g (k - length xs) (grind (arith, common_steps, h, l)), get_or-append_right xs ys k 0, get_or-append_right xs ys (k + 1) 0)) in
     grind (arith, first, seam, second)
