@@ -1,4 +1,6 @@
 //! Rows of solid sets: their extreme ids, faces and edges.
+ghost use Rattle.qh_model.specs.Limits.{IsCoordinate};
+
 use crate::{extremes, hull};
 use qh_model::{Body, Id, Memory, POINT_LIMIT, Point};
 use qh_plane::distinct;
@@ -25,24 +27,27 @@ fn hull_of<R: Threads + Sync>(
 }
 
 /// The faces as numbers: of each the number of its ids, then its ids.
-fn faces_of(alloc: Global, body: &Body) -> Result<Vec<u32>, AllocError> {
+fn faces_of(alloc: Global, body: &Body) -> Result<Vec<usize>, AllocError> {
     let mut numbers = Vec::new(alloc);
     for polygon in &body.polygons {
-        numbers.push(polygon.ids().len() as u32)?;
+        numbers.push(polygon.ids().len())?;
         for id in polygon.ids() {
-            numbers.push(id.number())?;
+            numbers.push(id.index())?;
         }
     }
     Ok(numbers)
 }
 
 /// The numbers of ids.
-fn numbers_of(alloc: Global, ids: &[Id]) -> Result<Vec<u32>, AllocError> {
-    ids.iter().map(|id| id.number()).collect(alloc)
+fn numbers_of(alloc: Global, ids: &[Id]) -> Result<Vec<usize>, AllocError> {
+    ids.iter().map(|id| id.index()).collect(alloc)
 }
 
 /// The corners of a cube, in rising order of their coordinates.
-fn cube(low: i32, high: i32) -> [Point; 8] {
+fn cube(low: i32, high: i32) -> [Point; 8]
+    requires low { IsCoordinate low }
+    requires high { IsCoordinate high }
+{
     [
         Point::new(low, low, low),
         Point::new(low, low, high),
@@ -69,11 +74,11 @@ fn tetrahedron(rt: HostRuntime) -> Result<(), Fail> {
     let faces = faces_of(alloc, &body).expect(&rt, "memory");
     let numbers = numbers_of(alloc, &corners).expect(&rt, "memory");
     assert_eq!(rt; body.dim, 3u8);
-    assert_eq!(rt; numbers.as_slice(), [0u32, 1, 2, 3].as_slice());
+    assert_eq!(rt; numbers.as_slice(), [0usize, 1, 2, 3].as_slice());
     assert_eq!(rt; body.extremes.as_slice(), corners.as_slice());
     assert_eq!(rt;
         faces.as_slice(),
-        [3u32, 0, 1, 3, 3, 0, 2, 1, 3, 0, 3, 2, 3, 1, 2, 3].as_slice()
+        [3usize, 0, 1, 3, 3, 0, 2, 1, 3, 0, 3, 2, 3, 1, 2, 3].as_slice()
     );
     assert_eq!(rt; body.edges, 6u64);
     Ok(())
@@ -88,9 +93,13 @@ fn unit_cube(rt: HostRuntime) -> Result<(), Fail> {
     let faces = faces_of(alloc, &body).expect(&rt, "memory");
     let numbers = numbers_of(alloc, &corners).expect(&rt, "memory");
     let expected = [
-        4u32, 0, 1, 3, 2, 4, 0, 2, 6, 4, 4, 0, 4, 5, 1, 4, 1, 5, 7, 3, 4, 2, 3, 7, 6, 4, 4, 6, 7, 5,
+        4usize, 0, 1, 3, 2, 4, 0, 2, 6, 4, 4, 0, 4, 5, 1, 4, 1, 5, 7, 3, 4, 2, 3, 7, 6, 4, 4, 6, 7,
+        5,
     ];
-    assert_eq!(rt; numbers.as_slice(), [0u32, 1, 2, 3, 4, 5, 6, 7].as_slice());
+    assert_eq!(rt;
+        numbers.as_slice(),
+        [0usize, 1, 2, 3, 4, 5, 6, 7].as_slice()
+    );
     assert_eq!(rt; body.extremes.as_slice(), corners.as_slice());
     assert_eq!(rt; faces.as_slice(), expected.as_slice());
     assert_eq!(rt; body.edges, 12u64);
@@ -106,9 +115,13 @@ fn cube_at_the_limit(rt: HostRuntime) -> Result<(), Fail> {
     let faces = faces_of(alloc, &body).expect(&rt, "memory");
     let numbers = numbers_of(alloc, &corners).expect(&rt, "memory");
     let expected = [
-        4u32, 0, 1, 3, 2, 4, 0, 2, 6, 4, 4, 0, 4, 5, 1, 4, 1, 5, 7, 3, 4, 2, 3, 7, 6, 4, 4, 6, 7, 5,
+        4usize, 0, 1, 3, 2, 4, 0, 2, 6, 4, 4, 0, 4, 5, 1, 4, 1, 5, 7, 3, 4, 2, 3, 7, 6, 4, 4, 6, 7,
+        5,
     ];
-    assert_eq!(rt; numbers.as_slice(), [0u32, 1, 2, 3, 4, 5, 6, 7].as_slice());
+    assert_eq!(rt;
+        numbers.as_slice(),
+        [0usize, 1, 2, 3, 4, 5, 6, 7].as_slice()
+    );
     assert_eq!(rt; body.extremes.as_slice(), corners.as_slice());
     assert_eq!(rt; faces.as_slice(), expected.as_slice());
     assert_eq!(rt; body.edges, 12u64);
@@ -129,12 +142,12 @@ fn doubled_cube(rt: HostRuntime) -> Result<(), Fail> {
     let faces = faces_of(alloc, &body).expect(&rt, "memory");
     let numbers = numbers_of(alloc, &corners).expect(&rt, "memory");
     let expected = [
-        4u32, 0, 2, 6, 4, 4, 0, 4, 12, 8, 4, 0, 8, 10, 2, 4, 2, 10, 14, 6, 4, 4, 6, 14, 12, 4, 8,
+        4usize, 0, 2, 6, 4, 4, 0, 4, 12, 8, 4, 0, 8, 10, 2, 4, 2, 10, 14, 6, 4, 4, 6, 14, 12, 4, 8,
         12, 14, 10,
     ];
     assert_eq!(rt;
         numbers.as_slice(),
-        [0u32, 2, 4, 6, 8, 10, 12, 14].as_slice()
+        [0usize, 2, 4, 6, 8, 10, 12, 14].as_slice()
     );
     assert_eq!(rt; body.extremes.as_slice(), corners.as_slice());
     assert_eq!(rt; faces.as_slice(), expected.as_slice());
@@ -158,12 +171,12 @@ fn lattice_of_27(rt: HostRuntime) -> Result<(), Fail> {
     let faces = faces_of(alloc, &body).expect(&rt, "memory");
     let numbers = numbers_of(alloc, &corners).expect(&rt, "memory");
     let expected = [
-        4u32, 0, 2, 8, 6, 4, 0, 6, 24, 18, 4, 0, 18, 20, 2, 4, 2, 20, 26, 8, 4, 6, 8, 26, 24, 4,
+        4usize, 0, 2, 8, 6, 4, 0, 6, 24, 18, 4, 0, 18, 20, 2, 4, 2, 20, 26, 8, 4, 6, 8, 26, 24, 4,
         18, 24, 26, 20,
     ];
     assert_eq!(rt;
         numbers.as_slice(),
-        [0u32, 2, 6, 8, 18, 20, 24, 26].as_slice()
+        [0usize, 2, 6, 8, 18, 20, 24, 26].as_slice()
     );
     assert_eq!(rt; body.extremes.as_slice(), corners.as_slice());
     assert_eq!(rt; faces.as_slice(), expected.as_slice());
@@ -199,10 +212,10 @@ fn octahedron_with_midpoints(rt: HostRuntime) -> Result<(), Fail> {
     let faces = faces_of(alloc, &body).expect(&rt, "memory");
     let numbers = numbers_of(alloc, &corners).expect(&rt, "memory");
     let expected = [
-        3u32, 0, 2, 6, 3, 0, 5, 9, 3, 0, 6, 5, 3, 0, 9, 2, 3, 2, 3, 6, 3, 2, 9, 3, 3, 3, 5, 6, 3,
+        3usize, 0, 2, 6, 3, 0, 5, 9, 3, 0, 6, 5, 3, 0, 9, 2, 3, 2, 3, 6, 3, 2, 9, 3, 3, 3, 5, 6, 3,
         3, 9, 5,
     ];
-    assert_eq!(rt; numbers.as_slice(), [0u32, 2, 3, 5, 6, 9].as_slice());
+    assert_eq!(rt; numbers.as_slice(), [0usize, 2, 3, 5, 6, 9].as_slice());
     assert_eq!(rt; body.extremes.as_slice(), corners.as_slice());
     assert_eq!(rt; faces.as_slice(), expected.as_slice());
     assert_eq!(rt; body.edges, 12u64);
