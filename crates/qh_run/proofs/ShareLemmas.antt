@@ -37,8 +37,8 @@ shares_from pts ids cut n a (suc k) (v ∷ vs) rise is p h all =
     let same : a + 1 + k ≡ a + suc k = omega arith in
     let end : first_of_share (a + 1 + k) n blocks ≤ blocks = subst (λ t. first_of_share (a + 1 + k) n blocks ≤ t) (last_share n blocks p) (shares_rise (a + 1 + k) n n blocks p (omega (arith, h))) in
     subst (λ t. AreBlockExtremes pts ids cut (first_of_share a n blocks) (first_of_share t n blocks) (flat_map (λ list. list.items) (v ∷ vs))) same
-        (more_blocks pts ids cut (first_of_share a n blocks) (first_of_share (a + 1) n blocks) (first_of_share (a + 1 + k) n blocks) v.items (flat_map (λ list. list.items) vs) rise is
-            (shares_rise a (a + 1) n blocks p (omega arith)) (shares_rise (a + 1) (a + 1 + k) n blocks p (omega arith)) end all.0 rest)
+    (more_blocks pts ids cut (first_of_share a n blocks) (first_of_share (a + 1) n blocks) (first_of_share (a + 1 + k) n blocks) v.items (flat_map (λ list. list.items) vs) rise is
+    (shares_rise a (a + 1) n blocks p (omega arith)) (shares_rise (a + 1) (a + 1 + k) n blocks p (omega arith)) end all.0 rest)
 
 -- what all shares found
 pub all_shares : (pts : List Vector) (ids cut : List ℕ) (n : ℕ) (lists : List (Vec Id Global)) → IsStrictlyIncreasing ids → IsCut cut → 0 < n
@@ -50,4 +50,4 @@ all_shares pts ids cut n lists rise is p all =
     let last : first_of_share (0 + n) n blocks ≡ blocks = ap (λ t. first_of_share t n blocks) (zero-add n) ∙ last_share n blocks p in
     let found = shares_from pts ids cut n 0 n lists rise is p (omega arith) all in
     subst (λ t. AreBlockExtremes pts ids cut 0 t (flat_map (λ list. list.items) lists)) last
-        (subst (λ t. AreBlockExtremes pts ids cut t (first_of_share (0 + n) n blocks) (flat_map (λ list. list.items) lists)) first found)
+    (subst (λ t. AreBlockExtremes pts ids cut t (first_of_share (0 + n) n blocks) (flat_map (λ list. list.items) lists)) first found)

@@ -1,4 +1,4 @@
-use Rattle.std.proofs.Common.{◌∙◌, sym, subst}
+use Rattle.std.proofs.Common.{sym, subst}
 use Rattle.std.proofs.lemmas.Result.{IfOk-weaker}
 use Rattle.std.specs.Prelude.{◌<◌, length}
 use Rattle.qh_model.specs.Hull.{IsBody}
@@ -29,7 +29,7 @@ hull-requires-2-clause-some g c =
     let ids = c.args.ids.now in
     let set = id_set pts ids c.requires.distinct in
     subst (λ xs. 0 < length xs) (sym c.deref.ensures.value)
-        (found_some pts ids c.args.cut.now c.in_ok-found.found.items set (record { cut = c.blocks-2.ensures.cut; whole = c.requires.cut }) c.requires.some_ids (c.in_ok-found.ensures set))
+    (found_some pts ids c.args.cut.now c.in_ok-found.found.items set (record { cut = c.blocks-2.ensures.cut; whole = c.requires.cut }) c.requires.some_ids (c.in_ok-found.ensures set))
 
 -- src/run.rt:56:5
 pub hull-requires-2-clause-indices : goal.hull-requires-2-clause-indices
