@@ -40,6 +40,7 @@ pub not_rest : (s0 s3 s4 s5 : List Side) (vs : List FacetNo) (rim : List ℕ) (m
 not_rest s0 s3 s4 s5 vs rim made spokes apex a d i j l h k e =
     let r : length rim ≤ j = d.rest j h k in d.vs_apart i j (omega arith) k (sym (d.again i l (omega arith)) ∙ e)
 
+-- freeing the rest leaves the sides of the cone
 cone_cell : (s0 s3 s4 s5 : List Side) (vs : List FacetNo) (rim : List ℕ) (made : List FacetNo) (spokes : List Spoke) (apex a : ℕ) → Ended s0 s3 s4 s5 vs rim made spokes apex a
     → (x j : ℕ) → j < length rim → x / 3 ≡ number made j → cell s5 x ≡ cell s4 x
 cone_cell s0 s3 s4 s5 vs rim made spokes apex a d x j l e = d.released.others x (λ i h k q. not_rest s0 s3 s4 s5 vs rim made spokes apex a d j i l h k (sym e ∙ q))
@@ -52,11 +53,13 @@ away s0 s3 s4 s5 vs rim made spokes apex a d x n r =
     let m = next_of s0 s3 vs rim made d.tied j (spoke_at spokes j) (d.kinds j l) in
     (λ e. n j l (omega arith), (λ e. n j l (omega arith), λ e. let q : (spoke_at spokes j).next ≡ 3 * number made m.0 = m.1.number_is in n m.0 m.1.inside (omega (arith, q, e)))))
 
+-- a side that stays has the cell that it had when the outer twins were set
 kept_away : (s0 s3 s4 s5 : List Side) (vs : List FacetNo) (rim : List ℕ) (made : List FacetNo) (spokes : List Spoke) (apex a : ℕ) → Ended s0 s3 s4 s5 vs rim made spokes apex a
     → (x : ℕ) → Kept (live_in s0) (seen_in s3) x → cell s5 x ≡ cell s3 x
 kept_away s0 s3 s4 s5 vs rim made spokes apex a d x k =
     away s0 s3 s4 s5 vs rim made spokes apex a d x (λ j l e. d.tied.made_fresh x j k.0 k.1 l e) (λ j h l e. not_both (seen_in s3 x) (d.unlisted x j l e) k.1)
 
+-- the rim and its cone are a horizon as the lemma of cones wants it
 pub horizon_is : (s0 s3 s4 s5 : List Side) (vs : List FacetNo) (rim : List ℕ) (made : List FacetNo) (spokes : List Spoke) (apex a : ℕ) → (d : Ended s0 s3 s4 s5 vs rim made spokes apex a)
     → Horizon (twin_in s0) (start_in s0) (live_in s0) (seen_in s3) (length rim) (at rim) (number made) (λ j. (choice s0 s3 vs rim made spokes d.tied d.kinds j).0)
 horizon_is s0 s3 s4 s5 vs rim made spokes apex a d = record {
@@ -72,6 +75,7 @@ horizon_is s0 s3 s4 s5 vs rim made spokes apex a d = record {
   next_ends = λ j l. next_ends s0 s3 vs rim made d.tied j (choice s0 s3 vs rim made spokes d.tied d.kinds j).0 (spoke_at spokes j) ((choice s0 s3 vs rim made spokes d.tied d.kinds j).1 l);
 }
 
+-- what the last steps wrote is a cone over it
 pub coned_is : (s0 s3 s4 s5 : List Side) (vs : List FacetNo) (rim : List ℕ) (made : List FacetNo) (spokes : List Spoke) (apex a : ℕ) → (d : Ended s0 s3 s4 s5 vs rim made spokes apex a)
     → Coned (twin_in s0) (start_in s0) (live_in s0) (seen_in s3) (length rim) (at rim) (number made) (λ j. (choice s0 s3 vs rim made spokes d.tied d.kinds j).0) apex (twin_in s5) (start_in s5) (live_in s5)
 coned_is s0 s3 s4 s5 vs rim made spokes apex a d = record {

@@ -13,6 +13,7 @@ use Rattle.qh_mesh.proofs.ListLemmas.{listed_at, listed_find}
 use Rattle.qh_mesh.proofs.Replacing.{next_of, nexts_apart, Tied, decide, not_both, seen_find}
 use Rattle.qh_mesh.proofs.Endings.{Ended, choice, horizon_is, coned_is, ended_net, ended_unseen}
 
+-- after the marking the seen sides are those of the listed facets
 pub seen_is : (s0 s1 : List Side) (vs : List FacetNo) → ((x : ℕ) → seen_in s0 x ≡ false) → Marked s0 s1 vs → (x : ℕ) → seen_in s1 x ≡ is_listed vs (x / 3)
 seen_is s0 s1 vs u m x = by (decide (is_listed vs (x / 3))) (decide (seen_in s1 x))
   where
@@ -21,12 +22,14 @@ seen_is s0 s1 vs u m x = by (decide (is_listed vs (x / 3))) (decide (seen_in s1 
     by (inr e) (inl q) = let p = seen_find s0 s1 vs u m x q in absurd (not_both (is_listed vs (x / 3)) (listed_at vs (x / 3) p.0 p.1.0 p.1.1) e)
     by (inr e) (inr q) = q ∙ sym e
 
+-- the rim by marks is the rim by the list
 pub rim_is_horizon : (s0 s1 : List Side) (vs : List FacetNo) → ((x : ℕ) → seen_in s0 x ≡ false) → Marked s0 s1 vs → rim_of s1 vs ≡ rim_from s0 vs
 rim_is_horizon s0 s1 vs u m =
     let e : (x : ℕ) → not (seen_in s1 (twin_in s1 x)) ≡ not (is_listed vs (twin_in s0 x / 3)) = λ x. ap not (ap (seen_in s1) (m.twins x) ∙ seen_is s0 s1 vs u m (twin_in s0 x)) in
     let f : ◌≡◌ {A = ℕ → Bool} (λ x. not (seen_in s1 (twin_in s1 x))) (λ x. not (is_listed vs (twin_in s0 x / 3))) = λ i. λ x. e x i in
     ap (λ (p : ℕ → Bool). filter p (sides_of vs)) f
 
+-- a part of a list is no longer than it
 length_filter : (p : ℕ → Bool) (xs : List ℕ) → length (filter p xs) ≤ length xs
 length_filter p [] = omega arith
 length_filter p (x ∷ xs) = by (p x) (length_filter p xs)
@@ -35,10 +38,12 @@ length_filter p (x ∷ xs) = by (p x) (length_filter p xs)
     by true h = omega arith
     by false h = omega arith
 
+-- a facet has three sides
 length_sides : (vs : List FacetNo) → length (sides_of vs) ≡ 3 * length vs
 length_sides [] = omega arith
 length_sides (v ∷ vs) = let e = length_sides vs in omega arith
 
+-- the rim has at most three sides a facet
 pub rim_short : (ss : List Side) (vs : List FacetNo) → length (rim_of ss vs) ≤ 3 * length vs
 rim_short ss vs = let a = length_filter (λ e. not (seen_in ss (twin_in ss e))) (sides_of vs) in let b = length_sides vs in omega arith
 
@@ -57,6 +62,7 @@ tied_is s2 s3 vs rim made r j = record {
   made_in = λ i l. let a = r.made_in i l in let e = j.len in omega arith;
 }
 
+-- the clauses of the last steps give all that is known of them
 pub ended_is : (s2 s3 s4 s5 : List Side) (vs : List FacetNo) (rim : List ℕ) (made : List FacetNo) (spokes : List Spoke) (apex a : ℕ) → Ready s2 vs rim made → Joined s2 s3 rim made
     → ((j : ℕ) → j < length rim → IsSpoke s3 (at rim j) (spoke_at spokes j)) → Written s3 s4 made spokes apex (length made) → Released s4 s5 vs a (length vs)
     → ((j : ℕ) → a ≤ j → j < length vs → length rim ≤ j) → a ≤ length rim → Ended s2 s3 s4 s5 vs rim made spokes apex a
@@ -73,6 +79,7 @@ ended_is s2 s3 s4 s5 vs rim made spokes apex a r j k w f g g' = record {
   vs_apart = r.vs_apart;
 }
 
+-- the last steps leave a rebuilt surface
 pub rebuilt_is : (s2 s3 s4 s5 : List Side) (vs : List FacetNo) (rim : List ℕ) (made : List FacetNo) (spokes : List Spoke) (apex a : ℕ) → Joined s2 s3 rim made → Ended s2 s3 s4 s5 vs rim made spokes apex a
     → Rebuilt s2 s5 rim apex made
 rebuilt_is s0 s3 s4 s5 vs rim made spokes apex a q d = record {
@@ -109,6 +116,7 @@ pub spoke_next : (s2 s3 : List Side) (vs : List FacetNo) (rim : List ℕ) (made 
     → (j : ℕ) → j < length rim → (i : ℕ) × ((i < length rim) × ((spoke_at spokes j).next ≡ 3 * number made i))
 spoke_next s2 s3 vs rim made spokes t k j l = let n = next_of s2 s3 vs rim made t j (spoke_at spokes j) (k j l) in (n.0, (n.1.inside, n.1.number_is))
 
+-- no two facets of the cone have one next facet
 pub spoke_apart : (s2 s3 : List Side) (vs : List FacetNo) (rim : List ℕ) (made : List FacetNo) (spokes : List Spoke) → Tied s2 s3 vs rim made → ((j : ℕ) → j < length rim → IsSpoke s3 (at rim j) (spoke_at spokes j))
     → (i j : ℕ) → i < j → j < length rim → (spoke_at spokes i).next ≢ (spoke_at spokes j).next
 spoke_apart s2 s3 vs rim made spokes t k i j l m =
@@ -133,17 +141,21 @@ pub data Kind (free : List ℕ) (vs : List FacetNo) (n i c : ℕ) : Type 0 where
   freed : length vs ≤ i → i < length vs + length free → c ≡ at free (length vs + length free - 1 - i) → Kind free vs n i c
   fresh : length vs + length free ≤ i → c ≡ n + (i - (length vs + length free)) → Kind free vs n i c
 
+-- each place of the cone was a visible facet's, a free one or a new one
 pub kind : (s0 : List Side) (free : List ℕ) (vs : List FacetNo) (k : ℕ) (made : List FacetNo) → Placed s0 free vs k made → (i : ℕ) → i < k → Kind free vs (length s0 / 3) i (number made i)
 kind s0 free vs k made p i l =
     by_le (Kind free vs (length s0 / 3) i (number made i)) i (length vs) (λ h. again h (p.places.again i l h))
     (λ h. by_le (Kind free vs (length s0 / 3) i (number made i)) i (length vs + length free) (λ g. freed h g (p.places.freed i l h g)) (λ g. fresh g (p.places.fresh i l g)))
 
+-- a live facet is at no free place
 dead : (s0 : List Side) (free : List ℕ) → IsSurface s0 free → (j c : ℕ) → j < length free → live_in s0 (3 * c) ≡ true → c ≢ at free j
 dead s0 free s j c l v e = not_both (live_in s0 (3 * c)) v (s.free_dead (3 * c) j l (omega arith))
 
+-- a live facet is below the number of places
 below : (s0 : List Side) (c n : ℕ) → live_in s0 (3 * c) ≡ true → length s0 % 3 ≡ 0 → n ≡ length s0 / 3 → c < n
 below s0 c n v w e = let h = live_inside s0 (3 * c) v in omega arith
 
+-- no two facets of the cone have one place
 pub placed_apart : (s0 : List Side) (free : List ℕ) (vs : List FacetNo) (k : ℕ) (made : List FacetNo) → Placed s0 free vs k made → (i j : ℕ) → i < j → j < k → number made i ≢ number made j
 placed_apart s0 free vs k made p i j l m = by (kind s0 free vs k made p i (omega arith)) (kind s0 free vs k made p j m)
   where

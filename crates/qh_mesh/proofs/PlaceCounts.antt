@@ -36,6 +36,7 @@ other_at (g ∷ fs) zero e = (omega arith, from_not g.live e)
     from_not false h = refl
 other_at (g ∷ fs) (suc f) e = let r = other_at fs f e in (omega (arith, r.0), r.1)
 
+-- a place of no facet has the other mark
 at_other : (fs : List StoredFacet) (f : ℕ) → f < length fs → (facet_at fs f).live ≡ false → (facet_at (map other fs) f).live ≡ true
 at_other [] f l e = absurd (omega arith)
 at_other (g ∷ fs) zero l e = ap not e

@@ -6,6 +6,7 @@ use Rattle.qh_mesh.specs.Cells.{Places}
 use Rattle.qh_mesh.specs.Replacement.{at, number}
 use Rattle.qh_mesh.proofs.StepLemmas.{below_next}
 
+-- one more place is chosen
 pub places_more : (vs : List FacetNo) (free : List ℕ) (n k : ℕ) (made new : List FacetNo) (p : FacetNo) → Places vs free n k made → new ≡ made ++ p ∷ []
     → (k < length vs → p.0 ≡ number vs k)
     → (length vs ≤ k → k < length vs + length free → p.0 ≡ at free (length vs + length free - 1 - k))
@@ -28,5 +29,6 @@ places_more vs free n k made new p m e a b c = record {
 pub at_take : (free xs : List ℕ) (n : ℕ) → xs ≡ take n free → 0 < n → at xs (n - 1) ≡ at free (n - 1)
 at_take free xs n e h = ap (λ v. at v (n - 1)) e ∙ get_or-take n free (n - 1) 0 (omega arith)
 
+-- a beginning of a beginning is a beginning
 pub take_take : (free xs : List ℕ) (m n : ℕ) → xs ≡ take n free → m ≤ n → take m xs ≡ take m free
 take_take free xs m n e h = ap (take m) e ∙ Rattle.std.proofs.lemmas.List.take-take m n free h

@@ -13,17 +13,21 @@ use Rattle.qh_mesh.proofs.Walks.{find}
 use Rattle.qh_mesh.proofs.Weaving.{live_inside, turns_apart}
 use Rattle.qh_mesh.proofs.ListLemmas.{In, filter_from, filter_to, filter_apart, sides_from, sides_to, sides_apart}
 
+-- a Boolean is true or false
 pub decide : (b : Bool) → (b ≡ true) ⊎ (b ≡ false)
 decide true = inl refl
 decide false = inr refl
 
+-- nothing is both true and false
 pub not_both : (b : Bool) → b ≡ true → b ≡ false → Prim.⊥
 not_both b p q = cc
 
+-- what is not is false
 from_not : (b : Bool) → not b ≡ true → b ≡ false
 from_not true e = cc
 from_not false e = refl
 
+-- what is false is not
 to_not : (b : Bool) → b ≡ false → not b ≡ true
 to_not true e = cc
 to_not false e = refl
@@ -40,6 +44,7 @@ facet_live ss n x c l e = by (side_of x c e)
     by (second h) = ap (live_in ss) h ∙ one
     by (third h) = ap (live_in ss) (h ∙ sym (after-side c).1) ∙ n.around (3 * c + 1) one
 
+-- live facets have their three sides in the list
 pub facets_inside : (ss : List Side) (vs : List FacetNo) → IsNet (twin_in ss) (start_in ss) (live_in ss) → AreLive ss vs → (j : ℕ) → j < length vs → 3 * number vs j + 2 < length ss
 facets_inside ss vs n f j l = live_inside ss (3 * number vs j + 2) (facet_live ss n (3 * number vs j + 2) (number vs j) (f.live j l) (omega arith))
 
@@ -47,6 +52,7 @@ facets_inside ss vs n f j l = live_inside ss (3 * number vs j + 2) (facet_live s
 listed_or : (vs : List FacetNo) (f : ℕ) → ((j : ℕ) × ((j < length vs) × (number vs j ≡ f))) ⊎ ((j : ℕ) → j < length vs → number vs j ≢ f)
 listed_or vs f = find (length vs) (number vs) f
 
+-- a seen side is of a listed facet
 pub seen_find : (s0 s1 : List Side) (vs : List FacetNo) → ((x : ℕ) → seen_in s0 x ≡ false) → Marked s0 s1 vs → (x : ℕ) → seen_in s1 x ≡ true → (j : ℕ) × ((j < length vs) × (x / 3 ≡ number vs j))
 seen_find s0 s1 vs u m x s = by (listed_or vs (x / 3))
   where
@@ -54,6 +60,7 @@ seen_find s0 s1 vs u m x s = by (listed_or vs (x / 3))
     by (inl p) = (p.0, (p.1.0, sym p.1.1))
     by (inr n) = absurd (not_both (seen_in s1 x) s (m.only x (λ j l e. n j l (sym e)) ∙ u x))
 
+-- the marked surface and its rim are a cut
 pub cut_is : (s0 s1 : List Side) (vs : List FacetNo) (rim : List ℕ) → IsNet (twin_in s0) (start_in s0) (live_in s0) → ((x : ℕ) → seen_in s0 x ≡ false) → AreLive s0 vs → Marked s0 s1 vs → rim ≡ rim_of s1 vs → Cut s0 (seen_in s1) vs rim
 cut_is s0 s1 vs rim net u f m e = record {
   net = net;
@@ -105,6 +112,7 @@ pub outers_apart : (s0 : List Side) (sn : ℕ → Bool) (vs : List FacetNo) (rim
 outers_apart s0 sn vs rim c i j l k e =
     c.rim_apart i j l k (sym (c.net.twin (at rim i) (c.seen_live (at rim i) (c.rim_seen i (omega arith)))) ∙ ap (twin_in s0) e ∙ c.net.twin (at rim j) (c.seen_live (at rim j) (c.rim_seen j k)))
 
+-- a side across the rim is not on the rim
 pub outers_out : (s0 : List Side) (sn : ℕ → Bool) (vs : List FacetNo) (rim : List ℕ) → Cut s0 sn vs rim → (i j : ℕ) → i < length rim → j < length rim → twin_in s0 (at rim i) ≢ at rim j
 outers_out s0 sn vs rim c i j l k e = not_both (sn (at rim j)) (c.rim_seen j k) (ap sn (sym e) ∙ c.rim_out i l)
 
@@ -125,6 +133,7 @@ pub record Tied (s0 s3 : List Side) (vs : List FacetNo) (rim : List ℕ) (made :
 pub seen_twin : (s0 s3 : List Side) (vs : List FacetNo) (rim : List ℕ) (made : List FacetNo) → Tied s0 s3 vs rim made → (x : ℕ) → seen_in s3 x ≡ true → twin_in s3 x ≡ twin_in s0 x
 seen_twin s0 s3 vs rim made t x s = t.others x (λ j l e. not_both (seen_in s3 x) s (ap (seen_in s3) (sym e) ∙ t.cut.rim_out j l))
 
+-- the seen facets are woven still
 pub tied_woven : (s0 s3 : List Side) (vs : List FacetNo) (rim : List ℕ) (made : List FacetNo) → Tied s0 s3 vs rim made → IsWoven s3
 tied_woven s0 s3 vs rim made t = record {
   facet = λ x s. t.cut.facet x ∙ s;
@@ -132,11 +141,9 @@ tied_woven s0 s3 vs rim made t = record {
   in_range = λ x s. let l = live_inside s0 (twin_in s0 x) (t.cut.net.live x (t.cut.seen_live x s)) in let e = seen_twin s0 s3 vs rim made t x s in let n = t.longer in omega arith;
 }
 
+-- the twins of rim sides are not seen still
 pub tied_out : (s0 s3 : List Side) (vs : List FacetNo) (rim : List ℕ) (made : List FacetNo) → Tied s0 s3 vs rim made → (j : ℕ) → j < length rim → seen_in s3 (twin_in s3 (at rim j)) ≡ false
 tied_out s0 s3 vs rim made t j l = ap (seen_in s3) (seen_twin s0 s3 vs rim made t (at rim j) (t.cut.rim_seen j l)) ∙ t.cut.rim_out j l
-
-walk_ends : (st : ℕ → ℕ) (q : ℕ → ℕ) → ℕ
-walk_ends st q = 0
 
 -- the next side on the rim
 pub record Next (s0 s3 : List Side) (rim : List ℕ) (made : List FacetNo) (j : ℕ) (s : Spoke) (i : ℕ) : Type 0 where
@@ -144,6 +151,7 @@ pub record Next (s0 s3 : List Side) (rim : List ℕ) (made : List FacetNo) (j : 
   pub turned : Turned s3 (at rim j) (at rim i)
   pub number_is : s.next ≡ 3 * number made i
 
+-- the turn about the end of a rim side leads to a rim side
 pub next_of : (s0 s3 : List Side) (vs : List FacetNo) (rim : List ℕ) (made : List FacetNo) → Tied s0 s3 vs rim made → (j : ℕ) (s : Spoke) → IsSpoke s3 (at rim j) s → (i : ℕ) × Next s0 s3 rim made j s i
 next_of s0 s3 vs rim made t j s k =
     let g : ℕ = k.turned.0 in
@@ -172,9 +180,11 @@ turn_starts s0 s3 vs rim made t h (suc k) d =
     ∙ ap (start_in s0) (t.cut.net.twin (after (walk (step s3) h k)) ly)
     ∙ turn_starts s0 s3 vs rim made t h k (λ i l. d i (omega arith))
 
+-- the next rim side starts where this one ends
 pub next_ends : (s0 s3 : List Side) (vs : List FacetNo) (rim : List ℕ) (made : List FacetNo) → Tied s0 s3 vs rim made → (j i : ℕ) (s : Spoke) → Next s0 s3 rim made j s i → start_in s0 (at rim i) ≡ start_in s0 (after (at rim j))
 next_ends s0 s3 vs rim made t j i s n = ap (start_in s0) n.turned.ends ∙ turn_starts s0 s3 vs rim made t (at rim j) n.turned.steps n.turned.seen
 
+-- no two rim sides have one next side
 pub nexts_apart : (s0 s3 : List Side) (vs : List FacetNo) (rim : List ℕ) (made : List FacetNo) → Tied s0 s3 vs rim made → (i j a b : ℕ) (s r : Spoke) → i < j → j < length rim → Next s0 s3 rim made i s a → Next s0 s3 rim made j r b → a ≢ b
 nexts_apart s0 s3 vs rim made t i j a b s r l k n m e =
     t.cut.rim_apart i j l k (turns_apart s3 (at rim i) (at rim j) (at rim b) (tied_woven s0 s3 vs rim made t)

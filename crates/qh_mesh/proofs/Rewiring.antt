@@ -30,11 +30,13 @@ side_no s = by_side 0 1 2 s
 abbrev pub edge_of : ℕ → Side → ℕ
 edge_of f s = 3 * f + side_no s
 
+-- an edge by its facet and side is of that facet
 pub edge-facet : (f : ℕ) (s : Side) → edge_of f s / 3 ≡ f
 edge-facet f first = omega arith
 edge-facet f second = omega arith
 edge-facet f third = omega arith
 
+-- and is that side
 pub edge-side : (f : ℕ) (s : Side) → side_of_edge (edge_of f s) ≡ s
 edge-side f first = ap (one_of first second third third) (let e : edge_of f first % 3 ≡ 0 = omega arith in e)
 edge-side f second = ap (one_of first second third third) (let e : edge_of f second % 3 ≡ 1 = omega arith in e)
@@ -47,12 +49,15 @@ left-over (suc zero) l = refl
 left-over (suc (suc zero)) l = refl
 left-over (suc (suc (suc r))) l = absurd (omega arith)
 
+-- each edge is that of its facet and side
 pub edge-is : (x : ℕ) → edge_of (x / 3) (side_of_edge x) ≡ x
 edge-is x = let e : side_no (side_of_edge x) ≡ x % 3 = left-over (x % 3) (omega arith) in omega arith
 
+-- an edge starts where the surface says
 pub start-is : (fs : List StoredFacet) (f : ℕ) (s : Side) → edge_start fs (edge_of f s) ≡ start (surface_of fs) f s
 start-is fs f s = λ i. start (surface_of fs) (edge-facet f s i) (edge-side f s i)
 
+-- and ends where it says
 pub end-is : (fs : List StoredFacet) (f : ℕ) (s : Side) → edge_end fs (edge_of f s) ≡ end (surface_of fs) f s
 end-is fs f s = λ i. end (surface_of fs) (edge-facet f s i) (edge-side f s i)
 
@@ -60,14 +65,17 @@ end-is fs f s = λ i. end (surface_of fs) (edge-facet f s i) (edge-side f s i)
 abbrev pub twin_at : List StoredFacet → ℕ → Side → ℕ
 twin_at fs f s = by_side (facet_at fs f).ij (facet_at fs f).jk (facet_at fs f).ki s
 
+-- the twin of an edge by its facet and side
 pub twin-is : (fs : List StoredFacet) (f : ℕ) (s : Side) → twin_of fs (edge_of f s) ≡ twin_at fs f s
 twin-is fs f s = λ i. twin_at fs (edge-facet f s i) (edge-side f s i)
 
+-- the neighbour is the facet of the twin
 pub over-is : (fs : List StoredFacet) (f : ℕ) (s : Side) → (surface_of fs).over f s ≡ twin_at fs f s / 3
 over-is fs f first = refl
 over-is fs f second = refl
 over-is fs f third = refl
 
+-- the side of the neighbour is that of the twin
 pub back-is : (fs : List StoredFacet) (f : ℕ) (s : Side) → (surface_of fs).back f s ≡ side_of_edge (twin_at fs f s)
 back-is fs f first = refl
 back-is fs f second = refl
@@ -88,12 +96,15 @@ twin-edge fs f s = (λ i. edge_of (over-is fs f s i) (back-is fs f s i)) ∙ edg
 pub live_in : (fs : List StoredFacet) (f : ℕ) → In f (surface_of fs).live → IsLive fs f
 live_in fs f i = (live_is_marked fs f).0 i
 
+-- a live facet is one of the surface's
 pub in_live : (fs : List StoredFacet) (f : ℕ) → IsLive fs f → In f (surface_of fs).live
 in_live fs f l = (live_is_marked fs f).1 l
 
+-- how far a point is above a facet is the volume with it
 rise-vol : (at : ℕ → Vector) (fs : List StoredFacet) (f p : ℕ) → rise (surface_of fs) (weighted_at at) f (weighted_at at p) ≡ facet_vol at fs f (at p)
 rise-vol at fs f p = rise_is_vol (at (facet_at fs f).i) (at (facet_at fs f).j) (at (facet_at fs f).k) (at p)
 
+-- nothing is both above 0 and at most 0
 never : (x : ℤ) → pos 0 <ℤ x → x ≤ℤ pos 0 → Prim.⊥
 never x a b = omega (arith, ints)
 
@@ -117,6 +128,7 @@ seen_listed at fs vs p f v l b = by (decide (is_listed vs f))
 pub listed_seen : (at : ℕ → Vector) (fs : List StoredFacet) (vs : List FacetNo) (p f : ℕ) → AreVisible at fs vs p → IsLive fs f → is_listed vs f ≡ true → Sees (surface_of fs) (weighted_at at) f (weighted_at at p)
 listed_seen at fs vs p f v l e = subst (λ z. pos 0 <ℤ z) (sym (rise-vol at fs f p)) (v.seen f l e)
 
+-- a facet that is not listed is blind to the apex
 unlisted_blind : (at : ℕ → Vector) (fs : List StoredFacet) (vs : List FacetNo) (p f : ℕ) → AreVisible at fs vs p → IsLive fs f → is_listed vs f ≡ false → IsBlindTo (surface_of fs) (weighted_at at) f (weighted_at at p)
 unlisted_blind at fs vs p f v l e = subst (λ z. z ≤ℤ pos 0) (sym (rise-vol at fs f p)) (v.unseen f l e)
 
@@ -137,10 +149,12 @@ pub record IsStep (at : ℕ → Vector) (old new : List StoredFacet) (vs : List 
   pub visible : AreVisible at old vs p
   pub sound : IsSoundMesh at old o
 
+-- what is not is false
 from_not : (b : Bool) → not b ≡ true → b ≡ false
 from_not true e = cc
 from_not false e = refl
 
+-- what is false is not
 to_not : (b : Bool) → b ≡ false → not b ≡ true
 to_not true e = cc
 to_not false e = refl

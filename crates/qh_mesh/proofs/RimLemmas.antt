@@ -8,15 +8,18 @@ use Rattle.qh_mesh.specs.declared.facets.FacetNo.{FacetNo}
 use Rattle.qh_mesh.specs.Cells.{rim_of, seen_in, twin_in}
 use Rattle.qh_mesh.specs.Replacement.{sides_of}
 
+-- the sides of two lists, one after the other
 pub sides_of-append : (us vs : List FacetNo) → sides_of (us ++ vs) ≡ sides_of us ++ sides_of vs
 sides_of-append [] vs = refl
 sides_of-append (u ∷ us) vs = ap (λ t. (3 * u.0) ∷ (3 * u.0 + 1) ∷ (3 * u.0 + 2) ∷ t) (sides_of-append us vs)
 
+-- three filters of one side each are the filter of the three
 three : (p : ℕ → Bool) (a b c : ℕ) (r : List ℕ) → r ++ filter p (a ∷ []) ++ filter p (b ∷ []) ++ filter p (c ∷ []) ≡ r ++ filter p (a ∷ b ∷ c ∷ [])
 three p a b c r =
     ap (λ t. t ++ filter p (c ∷ [])) (append_assoc r (filter p (a ∷ [])) (filter p (b ∷ [])) ∙ ap (λ t. r ++ t) (sym (filter-append p (a ∷ []) (b ∷ []))))
     ∙ append_assoc r (filter p (a ∷ b ∷ [])) (filter p (c ∷ [])) ∙ ap (λ t. r ++ t) (sym (filter-append p (a ∷ b ∷ []) (c ∷ [])))
 
+-- the rim with one more facet
 pub rim_more : (ss : List Side) (vs : List FacetNo) (k : ℕ) (d : FacetNo) (r0 r1 r2 r3 : List ℕ) → k < length vs → let v : ℕ = (get_or vs k d).0 in
     r0 ≡ rim_of ss (take k vs)
     → r1 ≡ r0 ++ filter (λ e. not (seen_in ss (twin_in ss e))) ((3 * v) ∷ [])

@@ -47,20 +47,23 @@ whole_of fs t f i s = record {
     over-twin = over-is fs f s ∙ ap (λ v. v / 3) (sym (twin-is fs f s))
 
 -- ---- sound
--- a surface whose facets have the corners of a sound one's is sound
+-- a point is as far above a facet with the same corners
 rise-same : (m m' : Surface) (at : ℕ → Weighted) (f : ℕ) (y : Weighted) → KeepsCorners m' m f → rise m at f y ≡ rise m' at f y
 rise-same m m' at f y k = λ i. above (at (k.i_is i)) (at (k.j_is i)) (at (k.k_is i)) y
 
+-- a corner after is a corner before
 corner_to : (m m' : Surface) (f l : ℕ) → KeepsCorners m' m f → IsCorner m' f l → IsCorner m f l
 corner_to m m' f l k (inl e) = inl (e ∙ sym k.i_is)
 corner_to m m' f l k (inr (inl e)) = inr (inl (e ∙ sym k.j_is))
 corner_to m m' f l k (inr (inr e)) = inr (inr (e ∙ sym k.k_is))
 
+-- a corner before is a corner after
 corner_from : (m m' : Surface) (f l : ℕ) → KeepsCorners m' m f → IsCorner m f l → IsCorner m' f l
 corner_from m m' f l k (inl e) = inl (e ∙ k.i_is)
 corner_from m m' f l k (inr (inl e)) = inr (inl (e ∙ k.j_is))
 corner_from m m' f l k (inr (inr e)) = inr (inr (e ∙ k.k_is))
 
+-- a surface whose facets have the corners of a sound one's is sound
 sound_as : (m m' : Surface) (home : ℕ → Weighted) (o : Weighted) → ((f : ℕ) → In f m'.live → KeepsCorners m' m f) → IsSound m home o → IsSound m' home o
 sound_as m m' home o k z = record {
   inner = λ f i. subst (λ v. v <ℤ pos 0) (rise-same m m' home f o (k f i)) (z.inner f (k f i).live);
@@ -82,6 +85,7 @@ simplex_keeps a b c d f (inr (inr (inl e))) = subst (λ g. KeepsCorners (surface
 simplex_keeps a b c d f (inr (inr (inr (inl e)))) = subst (λ g. KeepsCorners (surface_of (simplex_facets a b c d)) (simplex_surface a b c d) g) (sym e) (record { live = inr (inr (inr (inl refl))); i_is = refl; j_is = refl; k_is = refl })
 simplex_keeps a b c d f (inr (inr (inr (inr e)))) = absurd e
 
+-- a simplex with volume below 0 is sound around its middle
 pub simplex_is_sound : (at : ℕ → Vector) (a b c d : ℕ) → vol (at a) (at b) (at c) (at d) <ℤ pos 0 → IsSoundMesh at (simplex_facets a b c d) (middle_at at a b c d)
 simplex_is_sound at a b c d h = (
   whole_of (simplex_facets a b c d) (has_twins (simplex_of a b c d) [] (simplex_kept a b c d)),
@@ -93,12 +97,14 @@ simplex_is_sound at a b c d h = (
 vol-turned : (a b c d : Vector) → vol a c b d ≡ neg_ℤ (vol a b c d)
 vol-turned a b c d = vol-flip a c b d ∙ ap neg_ℤ (vol-turn c a b d)
 
+-- the middle is the same in another order
 pub middle-turned : (a b c d : Weighted) → middle_of a c b d ≡ middle_of a b c d
 middle-turned a b c d = λ i. record { w = swap a.w b.w c.w d.w i; x = swap a.x b.x c.x d.x i; y = swap a.y b.y c.y d.y i; z = swap a.z b.z c.z d.z i }
   where
     swap : (p q r s : ℤ) → p +ℤ r +ℤ q +ℤ s ≡ p +ℤ q +ℤ r +ℤ s
     swap p q r s = omega (arith, ints)
 
+-- a simplex with volume above 0, turned about, is sound
 pub turned_is_sound : (at : ℕ → Vector) (a b c d : ℕ) → pos 0 <ℤ vol (at a) (at b) (at c) (at d) → IsSoundMesh at (simplex_facets a c b d) (middle_at at a b c d)
 turned_is_sound at a b c d h =
     subst (IsSoundMesh at (simplex_facets a c b d)) (middle-turned (weighted (at a)) (weighted (at b)) (weighted (at c)) (weighted (at d)))
@@ -148,6 +154,7 @@ step_is_closed at old new vs p made s t u v d = let f = step_leaves at old new v
 pub simplex_is_closed : (at : ℕ → Vector) (a b c d : ℕ) → vol (at a) (at b) (at c) (at d) <ℤ pos 0 → IsClosedMesh at (simplex_facets a b c d)
 simplex_is_closed at a b c d h = closed_of at (simplex_facets a b c d) a b c d 0 refl (simplex_is_sound at a b c d h)
 
+-- and is closed
 pub turned_is_closed : (at : ℕ → Vector) (a b c d : ℕ) → pos 0 <ℤ vol (at a) (at b) (at c) (at d) → IsClosedMesh at (simplex_facets a c b d)
 turned_is_closed at a b c d h = closed_of at (simplex_facets a c b d) a b c d 0 refl (turned_is_sound at a b c d h)
 

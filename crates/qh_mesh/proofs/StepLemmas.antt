@@ -24,6 +24,7 @@ below_next P k h p i l = by_eq (P i) i k (λ e. subst P (sym e) p) (λ n. h i (o
 pub cell_same : (ss : List Side) (i : ℕ) (s : Side) → i < length ss → cell (slice_set ss i s) i ≡ s
 cell_same ss i s h = get_or-set_same ss i s blank h
 
+-- a write leaves the other cells
 pub cell_other : (ss : List Side) (i x : ℕ) (s : Side) → x ≢ i → cell (slice_set ss i s) x ≡ cell ss x
 cell_other ss i x s n = get_or-set_other ss i x s blank n
 
@@ -33,12 +34,15 @@ keeps {X} f ss i s h e x = by_eq (f (cell (slice_set ss i s) x) ≡ f (cell ss x
     (λ q. ap (λ v. f (cell (slice_set ss i s) v)) q ∙ ap f (cell_same ss i s h) ∙ e ∙ ap (λ v. f (cell ss v)) (sym q))
     (λ n. ap f (cell_other ss i x s n))
 
+-- no two sides of the rim have one twin
 abbrev pub Apart : (old : List Side) (rim : List ℕ) → Type 0
 Apart old rim = (i j : ℕ) → i < j → j < length rim → twin_in old (at rim i) ≢ twin_in old (at rim j)
 
+-- a beginning has the same numbers
 take_at_in : (xs : List ℕ) (k i : ℕ) → k ≤ length xs → i < k → at (take k xs) i ≡ at xs i
 take_at_in xs k i h l = get_or-take k xs i 0 l
 
+-- one more side across the rim is joined
 pub joined_more : (old ss : List Side) (rim : List ℕ) (made : List FacetNo) (k o : ℕ) (new : Side) → k < length rim
     → ((j : ℕ) → j < length rim → (at rim j < length old) × (twin_in old (at rim j) < length old))
     → Apart old rim → ((i j : ℕ) → i < length rim → j < length rim → twin_in old (at rim i) ≢ at rim j)

@@ -68,6 +68,7 @@ pub record IsStored (ss : List Side) (x : ℕ) : Type 0 where
   pub starts : edge_start (facets_of ss) x ≡ start_in ss x
   pub ends : edge_end (facets_of ss) x ≡ start_in ss (after x)
 
+-- each side is stored as its facet's
 pub is_stored : (ss : List Side) (x : ℕ) → length ss % 3 ≡ 0 → IsStored ss x
 is_stored ss x w = by (side-at x (x / 3) (side_of x (x / 3) refl))
   where

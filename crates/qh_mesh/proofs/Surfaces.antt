@@ -18,6 +18,7 @@ pub record Same (s0 s2 : List Side) : Type 0 where
   pub twins : (x : ℕ) → twin_in s2 x ≡ twin_in s0 x
   pub lives : (x : ℕ) → live_in s2 x ≡ live_in s0 x
 
+-- surfaces with the same sides are nets together
 same_net : (s0 s2 : List Side) → Same s0 s2 → IsNet (twin_in s0) (start_in s0) (live_in s0) → IsNet (twin_in s2) (start_in s2) (live_in s2)
 same_net s0 s2 e n = record {
   around = λ x l. e.lives (after x) ∙ n.around x (sym (e.lives x) ∙ l);
@@ -26,6 +27,7 @@ same_net s0 s2 e n = record {
   ends = λ x l. ap (start_in s2) (e.twins x) ∙ e.starts (twin_in s0 x) ∙ n.ends x (sym (e.lives x) ∙ l) ∙ sym (e.starts (after x));
 }
 
+-- and have the same cuts
 same_cut : (s0 s2 : List Side) (sn : ℕ → Bool) (vs : List FacetNo) (rim : List ℕ) → Same s0 s2 → ((x : ℕ) → seen_in s2 x ≡ sn x) → Cut s0 sn vs rim → Cut s2 (seen_in s2) vs rim
 same_cut s0 s2 sn vs rim e s c = record {
   net = same_net s0 s2 e c.net;
@@ -37,6 +39,7 @@ same_cut s0 s2 sn vs rim e s c = record {
   rim_all = λ x h o. c.rim_all x (sym (s x) ∙ h) (sym (s (twin_in s0 x)) ∙ ap (seen_in s2) (sym (e.twins x)) ∙ o);
 }
 
+-- marks and new places at the end leave the sides the same
 pub same_is : (s0 s1 s2 : List Side) (vs : List FacetNo) → Marked s0 s1 vs → ((x : ℕ) → cell s2 x ≡ cell s1 x) → Same s0 s2
 same_is s0 s1 s2 vs m c = record {
   starts = λ x. ap (λ (v : Side). v.start) (c x) ∙ m.starts x;
@@ -44,6 +47,7 @@ same_is s0 s1 s2 vs m c = record {
   lives = λ x. ap (λ (v : Side). v.live) (c x) ∙ m.lives x;
 }
 
+-- after the choice of places all is ready for the last steps
 pub ready_is : (s0 s1 s2 : List Side) (free : List ℕ) (vs : List FacetNo) (rim : List ℕ) (made : List FacetNo) → IsSurface s0 free → AreLive s0 vs → Marked s0 s1 vs → rim ≡ rim_of s1 vs
     → ((x : ℕ) → cell s2 x ≡ cell s1 x) → Places vs free (length s0 / 3) (length rim) made → length s2 ≡ length s0 + 3 * (length rim - (length vs + length free)) → Ready s2 vs rim made
 ready_is s0 s1 s2 free vs rim made s f m e c p n = record {
@@ -68,6 +72,7 @@ ready_is s0 s1 s2 free vs rim made s f m e c p n = record {
     d : Placed s0 free vs (length rim) made
     d = record { surface = s; facets = f; places = p }
 
+-- a rebuilt surface is a replaced one
 pub replaced_from : (s0 s1 s2 s5 : List Side) (vs : List FacetNo) (rim : List ℕ) (apex : ℕ) (made : List FacetNo) → ((x : ℕ) → seen_in s0 x ≡ false) → Marked s0 s1 vs → rim ≡ rim_of s1 vs → ((x : ℕ) → cell s2 x ≡ cell s1 x)
     → Ready s2 vs rim made → Rebuilt s2 s5 rim apex made → Replaced s0 s5 vs apex made
 replaced_from s0 s1 s2 s5 vs rim apex made u m e c y r = record {
@@ -127,6 +132,7 @@ pub record Frees (free free5 : List ℕ) (vs : List FacetNo) (m : ℕ) : Type 0 
   pub kept : (j : ℕ) → j < length free - (m - length vs) → at free5 j ≡ at free j
   pub freed : (j : ℕ) → m ≤ j → j < length vs → at free5 (length free - (m - length vs) + (j - m)) ≡ number vs j
 
+-- each free place stayed free or was left over
 was : (free free5 : List ℕ) (vs : List FacetNo) (m : ℕ) → Frees free free5 vs m → (j : ℕ) → j < length free5 → Was free vs m j (at free5 j)
 was free free5 vs m f j l =
     by_le (Was free vs m j (at free5 j)) j (length free - (m - length vs)) (λ h. stays h (f.kept j h))
@@ -135,6 +141,7 @@ was free free5 vs m f j l =
     let e : j ≡ length free - (m - length vs) + (m + (j - (length free - (m - length vs))) - m) = omega arith in
     left (m + (j - (length free - (m - length vs)))) (omega arith) i (omega arith) (ap (at free5) e ∙ f.freed (m + (j - (length free - (m - length vs)))) (omega arith) i))
 
+-- a rebuilt surface is a surface
 pub surface_is : (s0 s1 s2 s5 : List Side) (free free5 : List ℕ) (vs : List FacetNo) (rim : List ℕ) (apex : ℕ) (made : List FacetNo) → IsSurface s0 free → AreLive s0 vs → Marked s0 s1 vs → ((x : ℕ) → cell s2 x ≡ cell s1 x)
     → Places vs free (length s0 / 3) (length rim) made → length s2 ≡ length s0 + 3 * (length rim - (length vs + length free)) → Ready s2 vs rim made → Rebuilt s2 s5 rim apex made → Frees free free5 vs (length rim) → IsSurface s5 free5
 surface_is s0 s1 s2 s5 free free5 vs rim apex made s f m c p n y r z = record {
@@ -214,12 +221,15 @@ surface_is s0 s1 s2 s5 free free5 vs rim apex made s f m c p n y r z = record {
         by (inl t) = let i = listed_find vs (3 * g / 3) t in listed_place g i.0 i.1.0 (omega (arith, i.1.1)) e
         by (inr t) = absurd (not_both (live_in s5 (3 * g)) (r.kept_live (3 * g) (q.lives (3 * g) ∙ o) (ap (λ (v : Side). v.seen) (c (3 * g)) ∙ seen_is s0 s1 vs s.unseen m (3 * g) ∙ t)) e)
 
+-- the places by equal numbers
 pub fix_places : (vs : List FacetNo) (free : List ℕ) (n n' k k' : ℕ) (made : List FacetNo) → n ≡ n' → k ≡ k' → Places vs free (n / 3) k made → Places vs free (n' / 3) k' made
 fix_places vs free n n' k k' made e q p = subst (λ v. Places vs free (n' / 3) v made) q (subst (λ v. Places vs free (v / 3) k made) e p)
 
+-- the written part of a buffer is taken back from it
 pub back : (new old : List Side) (n : ℕ) → length new ≡ n → take n (Rattle.std.proofs.Common.◌++◌ new (Rattle.std.proofs.Common.drop (length new) old)) ≡ new
 back new old n e = Rattle.std.proofs.lemmas.List.take_at new (Rattle.std.proofs.Common.drop (length new) old) n e
 
+-- the clauses of the last steps give the free places after them
 pub frees_is : (free free1 free5 : List ℕ) (vs : List FacetNo) (m f l : ℕ) → f ≡ length free → l ≡ f - (m - length vs) → free1 ≡ take (f - (m - length vs)) free
     → length free5 ≡ l + (length vs - m) → ((j : ℕ) → j < l → at free5 j ≡ at free1 j) → ((j : ℕ) → m ≤ j → j < length vs → at free5 (l + (j - m)) ≡ number vs j) → Frees free free5 vs m
 frees_is free free1 free5 vs m f l e d t n k g = record {

@@ -14,12 +14,15 @@ either P x N last onyes onno = split (eqb_tells x N)
     split (inl t) = at true t.0 (onyes t.1)
     split (inr f) = at false f.0 (onno f.1)
 
+-- f with its value at k in the place of N
 abbrev moved : (ℕ → ℕ) → ℕ → ℕ → ℕ → ℕ
 moved f N k i = cond (eqb (f i) N) (f k) (f i)
 
+-- f with the value i at m
 abbrev with_last : (ℕ → ℕ) → ℕ → ℕ → ℕ → ℕ
 with_last f m i j = cond (eqb j m) i (f j)
 
+-- what holds of i and of the values of f holds of it
 with_last-at : (f : ℕ → ℕ) (m i : ℕ) (P : ℕ → Type 0) (j : ℕ) → (j ≡ m → P i) → (j ≢ m → P (f j)) → P (with_last f m i j)
 with_last-at f m i P j onyes onno = split (eqb_tells j m)
   where
@@ -59,6 +62,7 @@ pigeon (suc N) (suc k) f below apart =
 pub record Steps (q : ℕ → ℕ) (D : ℕ → Type 0) : Type 0 where
   pub back : (x y : ℕ) → D x → D y → D (q x) → q x ≡ q y → x ≡ y
 
+-- h is in D, and no step leads to it
 abbrev pub Root : (ℕ → ℕ) → (ℕ → Type 0) → ℕ → Type 0
 Root q D h = D h × ((x : ℕ) → D x → q x ≢ h)
 

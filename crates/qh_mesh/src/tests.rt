@@ -1,12 +1,14 @@
-//! The mesh of seven points, step by step.
+//! Meshes of seven and of five points, step by step.
 ghost use Rattle.std.specs.Prelude.{IfOk, length, ◌<◌};
 ghost use Rattle.qh_mesh.specs.Replacement.{AreFacets};
 
 use crate::{FacetNo, Mesh};
-use qh_model::{Id, Point};
-use qh_pred::vol;
+use qh_model::{Id, Memory, Point};
+use qh_pred::{point_at, vol};
 use std::alloc::{AllocError, Global};
 use std::test::Fail;
+
+mod refusals;
 
 /// A triangle as its ids, written from the least.
 type Triangle = (u32, u32, u32);
@@ -95,10 +97,27 @@ fn has_twins(mesh: &Mesh, f: FacetNo) -> bool {
     true
 }
 
-#[test]
-fn replaces(rt: HostRuntime) -> Result<(), Fail> {
-    let alloc = rt.alloc();
-    let pts = [
+/// The simplex of the first four points. `Err` says that memory was refused, or that they are in one plane.
+fn first_simplex(alloc: Global, pts: &[Point]) -> Result<Mesh, Memory> {
+    let (a, b, c, d) = (Id::new(0), Id::new(1), Id::new(2), Id::new(3));
+    if pts.len() < 4 {
+        return Err(Memory);
+    }
+    let volume = vol(
+        point_at(pts, a),
+        point_at(pts, b),
+        point_at(pts, c),
+        point_at(pts, d),
+    );
+    if volume == 0 {
+        return Err(Memory);
+    }
+    Mesh::simplex(alloc, pts, a, b, c, d)
+}
+
+/// Seven points, of which each after the fourth is outside the hull of those before it.
+fn seven() -> [Point; 7] {
+    [
         Point::new(0, 0, 0),
         Point::new(1, 0, 0),
         Point::new(0, 1, 0),
@@ -106,37 +125,104 @@ fn replaces(rt: HostRuntime) -> Result<(), Fail> {
         Point::new(1, 1, 1),
         Point::new(3, 1, 1),
         Point::new(100, 100, 100),
-    ];
-    let mut mesh = Mesh::simplex(alloc, &pts, Id::new(0), Id::new(1), Id::new(2), Id::new(3))?;
+    ]
+}
+
+/// A step: its apex, the triangles that it sees, those of its cone, and the live facets and the
+/// places after it.
+type Row = (u32, &'static [Triangle], &'static [Triangle], usize, usize);
+
+/// The steps from the simplex of the first four of the seven points.
+const ROWS: [Row; 3] = [
+    (4, &[(1, 2, 3)], &[(1, 2, 4), (1, 4, 3), (2, 3, 4)], 6, 6),
+    (
+        5,
+        &[(1, 2, 4), (1, 4, 3)],
+        &[(1, 2, 5), (1, 5, 3), (2, 4, 5), (3, 5, 4)],
+        8,
+        8,
+    ),
+    (
+        6,
+        &[(2, 3, 4), (2, 4, 5), (3, 5, 4)],
+        &[(2, 3, 6), (2, 6, 5), (3, 5, 6)],
+        8,
+        8,
+    ),
+];
+
+#[test]
+fn replaces(rt: HostRuntime) -> Result<(), Fail> {
+    let alloc = rt.alloc();
+    let pts = seven();
+    let mut mesh = first_simplex(alloc, &pts)?;
     let first = live(alloc, &mesh)?;
     assert_eq!(rt;
         triangles(alloc, &mesh, first.as_slice())?.as_slice(),
         [(0, 1, 3), (0, 2, 1), (0, 3, 2), (1, 2, 3)].as_slice()
     );
     assert_eq!(rt; mesh.places(), 4usize);
-    for (apex, want, count, places) in [
-        (
-            4,
-            [(1, 2, 4), (1, 4, 3), (2, 3, 4), (0, 0, 0)],
-            3usize,
-            6usize,
-        ),
-        (5, [(1, 2, 5), (1, 5, 3), (2, 4, 5), (3, 5, 4)], 4, 8),
-        (6, [(2, 3, 6), (2, 6, 5), (3, 5, 6), (0, 0, 0)], 3, 8),
-    ] {
+    for (apex, seen, cone, facets, places) in ROWS {
         let visible = seen_by(alloc, &mesh, &pts, apex)?;
+        assert_eq!(rt;
+            triangles(alloc, &mesh, visible.as_slice())?.as_slice(),
+            seen,
+            "{apex}"
+        );
         let made = mesh.replace(alloc, &pts, visible.as_slice(), Id::new(apex))?;
         assert_eq!(rt;
             triangles(alloc, &mesh, made.as_slice())?.as_slice(),
-            &want[..count],
+            cone,
             "{apex}"
         );
         let all = live(alloc, &mesh)?;
-        assert_eq!(rt; all.len(), places, "{apex}");
+        assert_eq!(rt; all.len(), facets, "{apex}");
         assert_eq!(rt; mesh.places(), places, "{apex}");
         for f in &all {
             assert!(rt; has_twins(&mesh, *f), "{apex}");
         }
+    }
+    Ok(())
+}
+
+#[test]
+fn keeps_a_facet_in_one_plane_with_the_apex(rt: HostRuntime) -> Result<(), Fail> {
+    let alloc = rt.alloc();
+    let pts = [
+        Point::new(0, 0, 0),
+        Point::new(1, 0, 0),
+        Point::new(0, 1, 0),
+        Point::new(0, 0, 1),
+        Point::new(1, 1, 0),
+    ];
+    let mut mesh = first_simplex(alloc, &pts)?;
+    let visible = seen_by(alloc, &mesh, &pts, 4)?;
+    assert_eq!(rt;
+        triangles(alloc, &mesh, visible.as_slice())?.as_slice(),
+        [(1, 2, 3)].as_slice()
+    );
+    let made = mesh.replace(alloc, &pts, visible.as_slice(), Id::new(4))?;
+    assert_eq!(rt;
+        triangles(alloc, &mesh, made.as_slice())?.as_slice(),
+        [(1, 2, 4), (1, 4, 3), (2, 3, 4)].as_slice()
+    );
+    let all = live(alloc, &mesh)?;
+    assert_eq!(rt;
+        triangles(alloc, &mesh, all.as_slice())?.as_slice(),
+        [
+            (0, 1, 3),
+            (0, 2, 1),
+            (0, 3, 2),
+            (1, 2, 4),
+            (1, 4, 3),
+            (2, 3, 4)
+        ]
+        .as_slice()
+    );
+    assert_eq!(rt; vol(pts[0], pts[2], pts[1], pts[4]), 0i128);
+    assert_eq!(rt; mesh.places(), 6usize);
+    for f in &all {
+        assert!(rt; has_twins(&mesh, *f));
     }
     Ok(())
 }
