@@ -1,3 +1,4 @@
 pub mod BlockExtremes
 pub mod Collected
 pub mod ShareLemmas
+pub mod EvenCuts

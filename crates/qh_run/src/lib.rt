@@ -10,7 +10,5 @@
 mod blocks;
 mod run;
 mod shares;
-#[cfg(test)]
-mod tests;
 
 pub use run::{RunError, run_hull};

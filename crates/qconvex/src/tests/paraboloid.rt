@@ -3,7 +3,8 @@ use super::{answered, settings};
 use std::alloc::{AllocError, Global};
 use std::test::Fail;
 
-const SUMMARY: &str = "Convex hull of 20000 points in 3-d:\n  dimension: 3\n  distinct points: 20000\n  extreme points: 20000\n  facets: 19706\n  edges: 39704\n";
+const SUMMARY: &str =
+    "Convex hull of 20000 points in 3-d:\n  dimension: 3\n  distinct points: 20000\n  extreme points: 20000\n  facets: 19706\n  edges: 39704\n";
 
 const LINES: [&str; 4] = [
     "--workers 1 --block 20000 s Fx off",

@@ -7,43 +7,47 @@ const TETRAHEDRON: &str = "3\n4\n0 0 0\n1 0 0\n0 1 0\n0 0 1\n";
 const TETRAHEDRON_OFF: &str =
     "OFF\n4 4 6\n0 0 0\n1 0 0\n0 1 0\n0 0 1\n3 0 1 3\n3 0 2 1\n3 0 3 2\n3 1 2 3\n";
 
-const CUBE: &str =
-    "3\n8\n0 0 0\n0 0 1\n0 1 0\n0 1 1\n1 0 0\n1 0 1\n1 1 0\n1 1 1\n";
+const CUBE: &str = "3\n8\n0 0 0\n0 0 1\n0 1 0\n0 1 1\n1 0 0\n1 0 1\n1 1 0\n1 1 1\n";
 
-const CUBE_OFF: &str = "OFF\n8 6 12\n0 0 0\n0 0 1\n0 1 0\n0 1 1\n1 0 0\n1 0 1\n1 1 0\n1 1 1\n4 0 1 3 2\n4 0 2 6 4\n4 0 4 5 1\n4 1 5 7 3\n4 2 3 7 6\n4 4 6 7 5\n";
+const CUBE_OFF: &str =
+    "OFF\n8 6 12\n0 0 0\n0 0 1\n0 1 0\n0 1 1\n1 0 0\n1 0 1\n1 1 0\n1 1 1\n4 0 1 3 2\n4 0 2 6 4\n4 0 4 5 1\n4 1 5 7 3\n4 2 3 7 6\n4 4 6 7 5\n";
 
 /// The corners of a cube, each twice.
-const DOUBLED_CUBE: &str = "3\n16\n0 0 0\n0 0 0\n0 0 1\n0 0 1\n0 1 0\n0 1 0\n0 1 1\n0 1 1\n1 0 0\n1 0 0\n1 0 1\n1 0 1\n1 1 0\n1 1 0\n1 1 1\n1 1 1\n";
+const DOUBLED_CUBE: &str =
+    "3\n16\n0 0 0\n0 0 0\n0 0 1\n0 0 1\n0 1 0\n0 1 0\n0 1 1\n0 1 1\n1 0 0\n1 0 0\n1 0 1\n1 0 1\n1 1 0\n1 1 0\n1 1 1\n1 1 1\n";
 
-const LATTICE: &str = "3\n27\n0 0 0\n0 0 1\n0 0 2\n0 1 0\n0 1 1\n0 1 2\n0 2 0\n0 2 1\n0 2 2\n1 0 0\n1 0 1\n1 0 2\n1 1 0\n1 1 1\n1 1 2\n1 2 0\n1 2 1\n1 2 2\n2 0 0\n2 0 1\n2 0 2\n2 1 0\n2 1 1\n2 1 2\n2 2 0\n2 2 1\n2 2 2\n";
+const LATTICE: &str =
+    "3\n27\n0 0 0\n0 0 1\n0 0 2\n0 1 0\n0 1 1\n0 1 2\n0 2 0\n0 2 1\n0 2 2\n1 0 0\n1 0 1\n1 0 2\n1 1 0\n1 1 1\n1 1 2\n1 2 0\n1 2 1\n1 2 2\n2 0 0\n2 0 1\n2 0 2\n2 1 0\n2 1 1\n2 1 2\n2 2 0\n2 2 1\n2 2 2\n";
 
-const LATTICE_OFF: &str = "OFF\n8 6 12\n0 0 0\n0 0 2\n0 2 0\n0 2 2\n2 0 0\n2 0 2\n2 2 0\n2 2 2\n4 0 1 3 2\n4 0 2 6 4\n4 0 4 5 1\n4 1 5 7 3\n4 2 3 7 6\n4 4 6 7 5\n";
+const LATTICE_OFF: &str =
+    "OFF\n8 6 12\n0 0 0\n0 0 2\n0 2 0\n0 2 2\n2 0 0\n2 0 2\n2 2 0\n2 2 2\n4 0 1 3 2\n4 0 2 6 4\n4 0 4 5 1\n4 1 5 7 3\n4 2 3 7 6\n4 4 6 7 5\n";
 
-const LIMIT_CUBE: &str = "3\n8\n-1048576 -1048576 -1048576\n-1048576 -1048576 1048576\n-1048576 1048576 -1048576\n-1048576 1048576 1048576\n1048576 -1048576 -1048576\n1048576 -1048576 1048576\n1048576 1048576 -1048576\n1048576 1048576 1048576\n";
+const LIMIT_CUBE: &str =
+    "3\n8\n-1048576 -1048576 -1048576\n-1048576 -1048576 1048576\n-1048576 1048576 -1048576\n-1048576 1048576 1048576\n1048576 -1048576 -1048576\n1048576 -1048576 1048576\n1048576 1048576 -1048576\n1048576 1048576 1048576\n";
 
-const LIMIT_CUBE_OFF: &str = "OFF\n8 6 12\n-1048576 -1048576 -1048576\n-1048576 -1048576 1048576\n-1048576 1048576 -1048576\n-1048576 1048576 1048576\n1048576 -1048576 -1048576\n1048576 -1048576 1048576\n1048576 1048576 -1048576\n1048576 1048576 1048576\n4 0 1 3 2\n4 0 2 6 4\n4 0 4 5 1\n4 1 5 7 3\n4 2 3 7 6\n4 4 6 7 5\n";
+const LIMIT_CUBE_OFF: &str =
+    "OFF\n8 6 12\n-1048576 -1048576 -1048576\n-1048576 -1048576 1048576\n-1048576 1048576 -1048576\n-1048576 1048576 1048576\n1048576 -1048576 -1048576\n1048576 -1048576 1048576\n1048576 1048576 -1048576\n1048576 1048576 1048576\n4 0 1 3 2\n4 0 2 6 4\n4 0 4 5 1\n4 1 5 7 3\n4 2 3 7 6\n4 4 6 7 5\n";
 
 /// An octahedron and the middles of its edges.
-const OCTAHEDRON: &str = "3\n18\n2 0 0\n1 1 0\n0 2 0\n-2 0 0\n-1 -1 0\n0 -2 0\n0 0 2\n1 0 1\n0 1 1\n0 0 -2\n-1 0 -1\n0 -1 -1\n1 -1 0\n-1 1 0\n-1 0 1\n1 0 -1\n0 -1 1\n0 1 -1\n";
+const OCTAHEDRON: &str =
+    "3\n18\n2 0 0\n1 1 0\n0 2 0\n-2 0 0\n-1 -1 0\n0 -2 0\n0 0 2\n1 0 1\n0 1 1\n0 0 -2\n-1 0 -1\n0 -1 -1\n1 -1 0\n-1 1 0\n-1 0 1\n1 0 -1\n0 -1 1\n0 1 -1\n";
 
-const OCTAHEDRON_OFF: &str = "OFF\n6 8 12\n2 0 0\n0 2 0\n-2 0 0\n0 -2 0\n0 0 2\n0 0 -2\n3 0 1 4\n3 0 3 5\n3 0 4 3\n3 0 5 1\n3 1 2 4\n3 1 5 2\n3 2 3 4\n3 2 5 3\n";
+const OCTAHEDRON_OFF: &str =
+    "OFF\n6 8 12\n2 0 0\n0 2 0\n-2 0 0\n0 -2 0\n0 0 2\n0 0 -2\n3 0 1 4\n3 0 3 5\n3 0 4 3\n3 0 5 1\n3 1 2 4\n3 1 5 2\n3 2 3 4\n3 2 5 3\n";
 
-const OCTAHEDRON_SUMMARY: &str = "Convex hull of 18 points in 3-d:\n  dimension: 3\n  distinct points: 18\n  extreme points: 6\n  facets: 8\n  edges: 12\n";
+const OCTAHEDRON_SUMMARY: &str =
+    "Convex hull of 18 points in 3-d:\n  dimension: 3\n  distinct points: 18\n  extreme points: 6\n  facets: 8\n  edges: 12\n";
 
 /// Four points at the limit of the coordinates of which the volume is -1.
-const NEAR_FLAT: &str =
-    "3\n4\n0 0 0\n1048576 1048575 0\n1048575 1048574 0\n1048576 1048576 1\n";
+const NEAR_FLAT: &str = "3\n4\n0 0 0\n1048576 1048575 0\n1048575 1048574 0\n1048576 1048576 1\n";
 
-const NEAR_FLAT_OFF: &str = "OFF\n4 4 6\n0 0 0\n1048576 1048575 0\n1048575 1048574 0\n1048576 1048576 1\n3 0 1 2\n3 0 2 3\n3 0 3 1\n3 1 3 2\n";
+const NEAR_FLAT_OFF: &str =
+    "OFF\n4 4 6\n0 0 0\n1048576 1048575 0\n1048575 1048574 0\n1048576 1048576 1\n3 0 1 2\n3 0 2 3\n3 0 3 1\n3 1 3 2\n";
 
 /// A command line, an input and the text that it answers.
 const ROWS: [(&str, &str, &str); 19] = [
     ("off", TETRAHEDRON, TETRAHEDRON_OFF),
-    (
-        "off",
-        "4 3\n0 0 0\n1 0 0\n0 1 0\n0 0 1\n",
-        TETRAHEDRON_OFF,
-    ),
+    ("off", "4 3\n0 0 0\n1 0 0\n0 1 0\n0 0 1\n", TETRAHEDRON_OFF),
     (
         "off",
         "3 rbox c z\r\n4\r\n0 0 0 origin\r\n1 0 0 # 7 8\r\n0 1 0\r\n0 0 1",
@@ -78,7 +82,11 @@ const ROWS: [(&str, &str, &str); 19] = [
         "6 4 3\n4\n0\n1\n2\n4\n",
     ),
     // Each corner is cut into a block of its own.
-    ("--block 1 s", CUBE, "Convex hull of 8 points in 3-d:\n  dimension: 3\n  distinct points: 8\n  extreme points: 8\n  facets: 6\n  edges: 12\n"),
+    (
+        "--block 1 s",
+        CUBE,
+        "Convex hull of 8 points in 3-d:\n  dimension: 3\n  distinct points: 8\n  extreme points: 8\n  facets: 6\n  edges: 12\n",
+    ),
 ];
 
 #[test]
