@@ -1,11 +1,11 @@
 #!/usr/bin/env python3
 """All families of points, this program beside its peers, as rows of a table.
 
-    bench/families.py --peer '/usr/bin/qconvex s' --peer cgal-hull --counts 10000,100000,1000000
+    bench/families.py --peer '/usr/bin/qconvex s' --peer ./cgal --peer ./bullet --counts 10000,100000,1000000
 
-Each row is one seeded file that all programs read in turn. It prints this program's CPU and wall time
-and peak memory, each peer's CPU time with its ratio, and whether Qhull, where it is a peer, finds as many
-extreme points (by `Fx`). Nothing is asserted.
+Each row is one seeded file that all programs read in turn. It prints this program's CPU time, wall time,
+peak memory and number of extreme points, then the same of each peer with the ratio of this program's CPU
+time to its own. The peers beside Qhull are made by `peers.py`. Nothing is asserted.
 """
 import argparse
 import os
@@ -20,11 +20,14 @@ SOLID = ["cube", "ball", "sphere", "paraboloid", "grid", "cube-surface"]
 
 
 def extremes(command, path):
-    """The number of extreme points that a program's `Fx` begins with."""
+    """The number of extreme points that a program finds: the first number that it prints, which of
+    programs named qconvex is that of `Fx`."""
+    if "qconvex" in os.path.basename(command[0]):
+        command = [command[0], "Fx"]
     with open(path, "rb") as source:
-        text = subprocess.run(command + ["Fx"], stdin=source, stdout=subprocess.PIPE, stderr=subprocess.DEVNULL).stdout
-    first = text.split(b"\n", 1)[0]
-    return int(first) if first.isdigit() else None
+        text = subprocess.run(command, stdin=source, stdout=subprocess.PIPE, stderr=subprocess.DEVNULL).stdout
+    first = text.split(maxsplit=1)[:1]
+    return first[0].decode() if first and first[0].isdigit() else "none"
 
 
 def row(given, family, count, path):
@@ -35,14 +38,12 @@ def row(given, family, count, path):
         for command, rows in zip(commands, results):
             rows.append(compare.run(command, path))
     ours = compare.best(results[0])
-    cells = [family, str(count), "%.2f" % ours[0], "%.2f" % ours[1], "%.0f" % ours[2]]
-    for rows in results[1:]:
+    cells = [family, str(count), "%.2f" % ours[0], "%.2f" % ours[1], "%.0f" % ours[2], extremes(commands[0], path)]
+    for command, rows in zip(commands[1:], results[1:]):
         peer = compare.best(rows)
-        cells += ["%.2f" % peer[0], "%.2f" % (ours[0] / peer[0]) if peer[3] == 0 else "refused"]
-    found = extremes([given.ours], path)
-    qhull = next((c[0] for c in commands[1:] if "qconvex" in c[0]), None)
-    same = "" if qhull is None else "yes" if extremes([qhull], path) == found else "no"
-    return "| " + " | ".join(cells + [str(found), same]) + " |"
+        ratio = "%.2f" % (ours[0] / peer[0]) if peer[3] == 0 else "refused"
+        cells += ["%.2f" % peer[0], "%.2f" % peer[1], "%.0f" % peer[2], extremes(command, path), ratio]
+    return "| " + " | ".join(cells) + " |"
 
 
 def main():

@@ -1,0 +1,82 @@
+#!/usr/bin/env python3
+"""Builds the peers that are libraries into small programs: each reads a point file and prints the numbers of
+vertices and faces of its hull.
+
+    bench/peers.py cgal PROGRAM      CGAL's convex_hull_3 with its exact-predicates kernel (Debian's libcgal-dev)
+    bench/peers.py bullet PROGRAM    Bullet's btConvexHullComputer (Debian's libbullet-dev)
+"""
+import os
+import subprocess
+import sys
+import tempfile
+
+# Reads the points of standard input and calls `add(x, y, z)` for each.
+READ = r"""
+#include <cstdio>
+#include <cstdlib>
+#include <string>
+#include <vector>
+
+template <typename Add> void read(Add add) {
+    std::string text;
+    char buffer[1 << 16];
+    for (size_t n; (n = std::fread(buffer, 1, sizeof buffer, stdin)) > 0;) text.append(buffer, n);
+    char *at = &text[0];
+    std::strtol(at, &at, 10);
+    long count = std::strtol(at, &at, 10);
+    for (long i = 0; i < count; i++) {
+        long x = std::strtol(at, &at, 10), y = std::strtol(at, &at, 10), z = std::strtol(at, &at, 10);
+        add(x, y, z);
+    }
+}
+"""
+
+CGAL = READ + r"""
+#include <CGAL/Exact_predicates_inexact_constructions_kernel.h>
+#include <CGAL/Polyhedron_3.h>
+#include <CGAL/convex_hull_3.h>
+
+typedef CGAL::Exact_predicates_inexact_constructions_kernel Kernel;
+typedef Kernel::Point_3 Point;
+
+int main() {
+    std::vector<Point> points;
+    read([&](long x, long y, long z) { points.emplace_back(x, y, z); });
+    CGAL::Object object;
+    CGAL::convex_hull_3(points.begin(), points.end(), object);
+    CGAL::Polyhedron_3<Kernel> mesh;
+    if (CGAL::assign(mesh, object)) std::printf("%zu %zu\n", (size_t)mesh.size_of_vertices(), (size_t)mesh.size_of_facets());
+    else std::printf("degenerate\n");
+}
+"""
+
+BULLET = READ + r"""
+#include <LinearMath/btConvexHullComputer.h>
+
+int main() {
+    std::vector<double> points;
+    read([&](long x, long y, long z) { points.insert(points.end(), {double(x), double(y), double(z)}); });
+    btConvexHullComputer hull;
+    hull.compute(points.data(), 3 * sizeof(double), int(points.size() / 3), 0, 0);
+    std::printf("%d %d\n", hull.vertices.size(), hull.faces.size());
+}
+"""
+
+PEERS = {
+    "cgal": (CGAL, ["-frounding-math"], ["-lgmp", "-lmpfr"]),
+    "bullet": (BULLET, ["-I/usr/include/bullet"], ["-lLinearMath"]),
+}
+
+
+def main():
+    source, flags, libraries = PEERS[sys.argv[1]]
+    target = os.path.abspath(sys.argv[2])
+    with tempfile.TemporaryDirectory() as folder:
+        path = os.path.join(folder, "hull.cpp")
+        with open(path, "w", encoding="ascii") as out:
+            out.write(source)
+        subprocess.run(["g++", "-O3", "-DNDEBUG", "-std=c++17", *flags, path, "-o", target, *libraries], check=True)
+
+
+if __name__ == "__main__":
+    main()
