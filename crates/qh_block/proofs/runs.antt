@@ -8,3 +8,4 @@ pub mod RenewedPlanes
 pub mod Rounds
 pub mod FirstSimplexes
 pub mod FinishedRuns
+pub mod OrderedIds

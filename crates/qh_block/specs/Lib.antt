@@ -7,6 +7,7 @@ pub mod SolidEdges
 pub mod Planes
 pub mod OutsideSets
 pub mod PositionChains
+pub mod NearOrder
 pub mod Runs
 pub mod Settling
 pub mod Walks

@@ -1,6 +1,7 @@
 //! The surface of a solid set by Quickhull.
 //!
-//! A `run` keeps a mesh, the points of the ids by position, and the planes of the facets by place.
+//! A `run` keeps a mesh, the points of the ids by position, and the planes of the facets by place. A
+//! large one takes the ids in an order that keeps near points together (`near_order`).
 //! Each point that is not settled stands in the outside set of a facet that it is above
 //! (`outside_sets`), and the facets that have one wait for their turn (`queue`). In a round the first
 //! point of the next facet's set is the apex; a walk over twins finds the facets that it sees
@@ -10,6 +11,7 @@
 //!
 //! Source: Barber, Dobkin and Huhdanpaa 1996.
 
+mod near_order;
 mod outside_sets;
 mod planes;
 mod queue;

@@ -11,14 +11,18 @@ ghost use Rattle.qh_mesh.specs.Replacement.{IsLive};
 ghost use Rattle.qh_mesh.specs.SoundMesh.{IsClosedMesh};
 ghost use Rattle.qh_plane.specs.PlaceKeys.{AreIndices};
 
+use crate::quickhull::near_order::near_order;
 use crate::quickhull::run::Run;
 use qh_mesh::Mesh;
 use qh_model::{Id, Memory, Point};
 use qh_plane::{Shape, rank};
 use std::alloc::Global;
 
-/// The surface of a set from a first simplex: four of its ids whose points are not in one plane.
-pub(crate) fn surface_from(
+/// From so many ids on, a run takes them in an order that keeps near points together.
+const LARGE: usize = 16384;
+
+/// The surface of a set by a run over its ids as they come.
+fn surface_along(
     alloc: Global,
     pts: &[Point],
     ids: &[Id],
@@ -39,6 +43,32 @@ pub(crate) fn surface_from(
     let mut run = Run::start(alloc, pts, ids, i, j, k, l)?;
     run.finish(alloc, pts, ids)?;
     Ok(run.mesh)
+}
+
+/// The surface of a set from a first simplex: four of its ids whose points are not in one plane.
+pub(crate) fn surface_from(
+    alloc: Global,
+    pts: &[Point],
+    ids: &[Id],
+    i: Id,
+    j: Id,
+    k: Id,
+    l: Id,
+) -> Result<Mesh, Memory>
+    requires indices { AreIndices pts.now ids.now }
+    requires has_i { Members ids.now i }
+    requires has_j { Members ids.now j }
+    requires has_k { Members ids.now k }
+    requires has_l { Members ids.now l }
+    requires volume { vol (place pts.now i) (place pts.now j) (place pts.now k) (place pts.now l) ≢ pos 0 }
+    ensures finished { IfOk result (λ m. IsFinished (place pts.now) ids.now (surface_of m)) }
+    ensures closed { IfOk result (λ m. IsClosedMesh (place pts.now) m) }
+{
+    if ids.len() < LARGE {
+        return surface_along(alloc, pts, ids, i, j, k, l);
+    }
+    let near = near_order(alloc, pts, ids)?;
+    surface_along(alloc, pts, &near, i, j, k, l)
 }
 
 /// The surface of the hull of a set of dimension 3, by Quickhull: a closed surface of triangles over
