@@ -1,5 +1,5 @@
 -- What holds of the devices after `serve`.
-use Rattle.std.specs.Prelude.{ℕ, ◌≡◌, ◌+◌, ◌<◌, ◌≤◌, List, Option, length}
+use Rattle.std.specs.Prelude.{ℕ, ◌≡◌, ◌+◌, ◌<◌, ◌≤◌, List, Bool, true, Option, length}
 use Rattle.std.specs.Io.KnownBytes.{Appends, Keeps}
 use Rattle.qh_model.specs.declared.limits.TheConstants.{BYTE_LIMIT}
 use Rattle.qh_write.specs.declared.out.Out.{Out}
@@ -13,13 +13,14 @@ use Rattle.qconvex.specs.Answers.{IsTextOf, ReadsAs}
 use Rattle.qconvex.specs.declared.fault.Fault.{Fault}
 use Rattle.qconvex.specs.declared.fault.Fault.TheVariants.{Read, Send, Usage}
 
--- the bytes that the source has still to give and that went out of the sink, where the devices tell them, and
--- how many calls of each have failed
+-- the bytes that the source has still to give and that went out of the sink, where the devices tell them, how many
+-- calls of each have failed, and whether the sink holds nothing back
 pub record Devices : Type 0 where
   pub to_come : Option (List ℕ)
   pub went : Option (List ℕ)
   pub source_failures : ℕ
   pub sink_failures : ℕ
+  pub flushed : Bool
 
 -- neither device failed
 pub record IsQuiet (old new : Devices) : Type 0 where
@@ -31,11 +32,12 @@ pub record IsUnsent (old new : Devices) : Type 0 where
   pub went : Keeps old.went new.went
   pub quiet : IsQuiet old new
 
--- the source came to its end; its bytes read as some points, whose text went out
+-- the source came to its end; its bytes read as some points, whose text went out, none of it held back
 pub record IsServed (outs : List Out) (old new : Devices) : Type 0 where
   pub text : List ℕ
   pub answer : GivesAll old.to_come new.to_come (λ bytes. ReadsAs bytes (λ pts. IsTextOf pts outs text))
   pub went : Appends old.went new.went text
+  pub flushed : new.flushed ≡ true
   pub quiet : IsQuiet old new
 
 -- the source came to its end; this is the first fault of its bytes; nothing went out

@@ -1,6 +1,7 @@
 ghost use Rattle.std.specs.Prelude.{◌≡◌, Some, false, map, codes, IfOk, IfSome, string_bytes};
-ghost use Rattle.clap.specs.Words.{app_of, rule_of, found_of, one_text};
-ghost use Rattle.qconvex.specs.CommandLine.{program, number_option, outs_rule, NumberOf, HasOptions};
+ghost use Rattle.std.specs.Option.{option_map};
+ghost use Rattle.clap.specs.Words.{app_of, rule_of, found_of, matched_of, one_text, raw_values};
+ghost use Rattle.qconvex.specs.CommandLine.{program, number_option, outs_rule, word_of, NumberOf, AreOutsOf, AreSettingsOf};
 
 use crate::settings::{BLOCK_SIZE_LIMIT, Settings, SettingsError};
 use clap::builder::ValueParser;
@@ -77,7 +78,9 @@ fn command<'a>(alloc: Global) -> Result<Command<'a>, AllocError>
 }
 
 /// The output of a word.
-fn out_of(name: &str) -> Option<Out> {
+fn out_of(name: &str) -> Option<Out>
+    ensures { IfSome result (λ out. word_of out ≡ name.now) }
+{
     match name {
         "rank" => Some(Out::Rank),
         "s" => Some(Out::Summary),
@@ -88,7 +91,9 @@ fn out_of(name: &str) -> Option<Out> {
 }
 
 /// The outputs of the words, or the summary where there are none.
-fn outs_of(alloc: Global, names: Option<&[&str]>) -> Result<Vec<Out>, ArgFault> {
+fn outs_of(alloc: Global, names: Option<&[&str]>) -> Result<Vec<Out>, ArgFault>
+    ensures { IfOk result (λ v. AreOutsOf (option_map (λ s. map (λ w. w.now) s.now) names.entry) v.items) }
+{
     let mut outs = Vec::new(alloc);
     let Some(names) = names else {
         outs.push(Out::Summary).map_err(|_| ArgFault::Memory)?;
@@ -123,7 +128,8 @@ fn number(matches: &ArgMatches, id: &str) -> Option<u32>
 /// The settings that matched words say.
 fn settings_from(alloc: Global, matches: &ArgMatches) -> Result<Settings, ArgFault>
     ensures { IfOk result (λ s. NumberOf (one_text (found_of matches.now) (codes "workers")) s.workers
-        × NumberOf (one_text (found_of matches.now) (codes "block")) s.block) }
+        × NumberOf (one_text (found_of matches.now) (codes "block")) s.block
+        × AreOutsOf (option_map raw_values (matched_of (found_of matches.now) (codes "outs"))) s.outs) }
 {
     let workers = number(matches, "workers").ok_or(ArgFault::Usage)?;
     let block = number(matches, "block").ok_or(ArgFault::Usage)?;
@@ -137,7 +143,7 @@ fn settings_from(alloc: Global, matches: &ArgMatches) -> Result<Settings, ArgFau
 
 /// The settings that these words ask for.
 fn settings_in<'a>(alloc: Global, words: &'a [String]) -> Result<Settings, ArgFault>
-    ensures { IfOk result (λ s. HasOptions (map string_bytes words.entry.now) s.workers s.block) }
+    ensures { IfOk result (AreSettingsOf (map string_bytes words.entry.now)) }
 {
     let Ok(command) = command::<'a>(alloc) else {
         return Err(ArgFault::Memory);
@@ -150,7 +156,7 @@ fn settings_in<'a>(alloc: Global, words: &'a [String]) -> Result<Settings, ArgFa
 
 /// The settings that a command line asks for; the first word is the program's name.
 pub fn settings_of(alloc: Global, words: Vec<String>) -> Result<Settings, ArgFault>
-    ensures { IfOk result (λ s. HasOptions (map string_bytes words.items) s.workers s.block) }
+    ensures { IfOk result (AreSettingsOf (map string_bytes words.items)) }
 {
     settings_in(alloc, words.as_slice())
 }

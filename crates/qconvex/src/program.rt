@@ -1,3 +1,7 @@
+ghost use Rattle.std.specs.Prelude.{◌≡◌, IfErr, OnOk};
+ghost use Rattle.std.specs.Process.{exit_status};
+ghost use Rattle.qconvex.specs.FaultLines.{status_of};
+
 use crate::command_line::{ArgFault, settings_of};
 use crate::fault::Fault;
 use crate::serve::serve;
@@ -47,13 +51,22 @@ fn serve_once<R: Env + Input + Print + AllocGlobal + Threads + Sync>(rt: &R) -> 
     }
 }
 
+/// The exit status of an outcome: 0, or that of the fault.
+fn exit_code(outcome: Result<(), Fault>) -> ExitCode
+    ensures done { OnOk outcome (exit_status result ≡ 0) }
+    ensures fault { IfErr outcome (λ f. exit_status result ≡ status_of f) }
+{
+    match outcome {
+        Ok(()) => ExitCode::SUCCESS,
+        Err(fault) => ExitCode::from(fault.status()),
+    }
+}
+
 /// Runs the program, and says with which status it ends.
 pub fn run<R: Env + Input + Print + Eprint + AllocGlobal + Threads + Sync>(rt: &R) -> ExitCode {
-    match serve_once(rt) {
-        Ok(()) => ExitCode::SUCCESS,
-        Err(fault) => {
-            let _ = eprintln!(rt; "{fault}");
-            ExitCode::from(fault.status())
-        }
+    let outcome = serve_once(rt);
+    if let Err(fault) = outcome {
+        let _ = eprintln!(rt; "{fault}");
     }
+    exit_code(outcome)
 }

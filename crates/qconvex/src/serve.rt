@@ -22,8 +22,8 @@ pub fn serve<R: Threads + Sync, S: Source, K: Sink>(
 ) -> Result<(), Fault>
     requires source { S.failure_count source.old < 2 ^ 64 - 1 }
     requires sink { K.count sink.old < 2 ^ 64 - 1 }
-    ensures { let old : Devices = record { to_come = S.remaining source.old; went = K.went sink.old; source_failures = S.failure_count source.old; sink_failures = K.count sink.old } in
-        let new : Devices = record { to_come = S.remaining source.new; went = K.went sink.new; source_failures = S.failure_count source.new; sink_failures = K.count sink.new } in
+    ensures { let old : Devices = record { to_come = S.remaining source.old; went = K.went sink.old; source_failures = S.failure_count source.old; sink_failures = K.count sink.old; flushed = K.is_flushed sink.old } in
+        let new : Devices = record { to_come = S.remaining source.new; went = K.went sink.new; source_failures = S.failure_count source.new; sink_failures = K.count sink.new; flushed = K.is_flushed sink.new } in
         MatchResult result (λ _. IsServed settings.now.outs old new) (IsServeFault settings.now.outs old new) }
 {
     let points = read_from(alloc, source)?;

@@ -4,9 +4,11 @@ mod command_lines;
 mod devices;
 mod faults;
 mod paraboloid;
+mod programs;
 mod ranks;
 mod rows;
 mod solids;
+mod stand_in;
 
 use crate::answer::answer;
 use crate::command_line::{ArgFault, settings_of};

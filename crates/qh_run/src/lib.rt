@@ -10,5 +10,7 @@
 mod blocks;
 mod run;
 mod shares;
+#[cfg(test)]
+mod tests;
 
 pub use run::{RunError, run_hull};

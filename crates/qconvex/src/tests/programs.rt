@@ -1,0 +1,87 @@
+use super::stand_in::{StandIn, Stream};
+use crate::program::run;
+use std::process::ExitCode;
+use std::test::Fail;
+use std::thread::Threads;
+
+const ONE_POINT: &str = "3\n1\n5 5 5\n";
+
+/// Words, an input, how many bytes standard output takes; and the exit status, what stands on standard
+/// output, and what on standard error.
+const RUNS: [(&[&str], &str, usize, u8, &str, &str); 7] = [
+    (&["qconvex", "rank"], ONE_POINT, 99, 0, "1 1 0\n", ""),
+    (
+        &["qconvex", "rank", "Fx"],
+        ONE_POINT,
+        99,
+        0,
+        "1 1 0\n1\n0\n",
+        "",
+    ),
+    (
+        &["qconvex", "off"],
+        "3\n1\n5 5\n",
+        99,
+        1,
+        "",
+        "qconvex: 7: Short\n",
+    ),
+    (
+        &["qconvex"],
+        "3\n1\n5 5 0.5\n",
+        99,
+        1,
+        "",
+        "qconvex: 2: BadNumber at line 3\n",
+    ),
+    (
+        &["qconvex", "--workers", "0"],
+        ONE_POINT,
+        99,
+        2,
+        "",
+        "qconvex: 12: Usage\n",
+    ),
+    (
+        &["qconvex", "rank"],
+        ONE_POINT,
+        5,
+        4,
+        "",
+        "qconvex: 11: Send\n",
+    ),
+    (&[], ONE_POINT, 99, 2, "", "qconvex: 12: Usage\n"),
+];
+
+/// How the program ends on these words and this input, and whether what came on standard output and on
+/// standard error is what was wanted.
+fn outcome<'a, R: AllocGlobal + Threads + Sync>(
+    rt: &R,
+    words: &'a [&'a str],
+    input: &'a str,
+    output: Stream<'a>,
+    error: Stream<'a>,
+) -> (ExitCode, bool, bool) {
+    let stand_in = StandIn {
+        rt,
+        words,
+        input: input.as_bytes(),
+        output,
+        error,
+    };
+    let code = run(&stand_in);
+    (code, stand_in.output.is_whole(), stand_in.error.is_whole())
+}
+
+#[test]
+fn runs(rt: HostRuntime) -> Result<(), Fail> {
+    for (words, input, room, status, wanted, line) in RUNS {
+        let output = Stream::new(wanted.as_bytes(), room);
+        let error = Stream::new(line.as_bytes(), 99);
+        let (code, whole, told) = outcome(&rt, words, input, output, error);
+        assert_eq!(rt; code, ExitCode::from(status), "at {words:?}");
+        assert!(rt; whole, "standard output at {words:?}");
+        assert!(rt; told, "standard error at {words:?}");
+    }
+    Ok(())
+}
