@@ -10,25 +10,6 @@ pub last_in : (x : ℕ) (xs : List ℕ) (l : ℕ) → IsLast (x ∷ xs) l → In
 last_in x [] l e = inl e
 last_in x (y ∷ ys) l e = inr (last_in y ys l e)
 
--- a member of two lists one after the other is one of either
-pub in_joined : (xs ys : List ℕ) (x : ℕ) → In x (xs ++ ys) → In x xs ⊎ In x ys
-in_joined [] ys x i = inr i
-in_joined (y ∷ xs) ys x (inl e) = inl (inl e)
-in_joined (y ∷ xs) ys x (inr i) = by (in_joined xs ys x i)
-  where
-    by : In x xs ⊎ In x ys → ((x ≡ y) ⊎ In x xs) ⊎ In x ys
-    by (inl j) = inl (inr j)
-    by (inr j) = inr j
-
--- two lists apart, one after the other, have each member once
-pub once_joined : (xs ys : List ℕ) → Once xs → Once ys → ((x : ℕ) → In x xs → ¬ (In x ys)) → Once (xs ++ ys)
-once_joined [] ys o p n = p
-once_joined (x ∷ xs) ys o p n = (λ i. by (in_joined xs ys x i), once_joined xs ys o.1 p (λ z i. n z (inr i)))
-  where
-    by : In x xs ⊎ In x ys → ⊥
-    by (inl i) = o.0 i
-    by (inr i) = n x (inl refl) i
-
 -- ---- chains
 -- they have positions alone
 pub chain_within : (links : List ℕ) (p : ℕ) (xs : List ℕ) → IsChain links p xs → (x : ℕ) → In x xs → x < length links

@@ -36,10 +36,6 @@ ends_read links es o now f e d h r = get_or_read es f e (place_in links es o now
 pub orphan_in : (links : List ℕ) (es : List Ends) (o : ℕ) (now : OutsideValue) → Fields links es o now → 0 < length now.orphans → o < length links
 orphan_in links es o now d h = begins links o now.orphans (kept links es o now d).orphans.chain h
 
--- a list by its chain's first number: empty, or with that first
-pub none_from : (links : List ℕ) (p : ℕ) (xs : List ℕ) → IsChain links p xs → length links ≤ p → xs ≡ []
-none_from = chain_empty
-
 pub some_from : (links : List ℕ) (p : ℕ) (xs : List ℕ) → IsChain links p xs → p < length links → xs ≡ p ∷ drop 1 xs
 some_from links p [] c h = absurd (omega (arith, c))
 some_from links p (x ∷ xs) c h = ap (λ t. t ∷ xs) (sym c.0)

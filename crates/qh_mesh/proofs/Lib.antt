@@ -1,11 +1,14 @@
+pub mod NumberCases
+pub mod Pigeonhole
 pub mod Walks
 pub mod Around
 pub mod Cones
 pub mod Weaving
-pub mod RimLemmas
+pub mod HorizonSides
 pub mod StepLemmas
 pub mod PlaceLemmas
-pub mod ListLemmas
+pub mod Filters
+pub mod ListedFacets
 pub mod Replacing
 pub mod StoredSides
 pub mod Endings

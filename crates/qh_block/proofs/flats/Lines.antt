@@ -9,6 +9,7 @@ use Rattle.qh_model.proofs.algebra.Order.{cancel-zero}
 use Rattle.qh_model.proofs.algebra.Ring.{ring}
 use Rattle.qh_model.proofs.algebra.Ring.Expr.{var, con, add, sub as less, mul, neg}
 use Rattle.qh_model.proofs.algebra.VectorIdentities.{vec, crossE, dotE, put, combine3, vector_path}
+use Rattle.qh_model.proofs.algebra.Signs.{gap_positive}
 
 -- ---- a vector v in the direction d or against it: (d . d) v = (d . v) d, in each coordinate
 -- the first
@@ -103,10 +104,6 @@ some m n x y z e f g h = omega (arith, ints)
 apart : (a b : ℤ) → a ≤ℤ b → pos 0 ≤ℤ (b -ℤ a)
 apart a b h = omega (arith, ints)
 
--- a difference above 0
-apart_more : (a b : ℤ) → a <ℤ b → pos 0 <ℤ (b -ℤ a)
-apart_more a b h = omega (arith, ints)
-
 -- two differences in a row
 in_a_row : (e k g : ℤ) → (g -ℤ k) +ℤ (k -ℤ e) ≡ g -ℤ e
 in_a_row e k g = omega (arith, ints)
@@ -129,7 +126,7 @@ between at B i j k e g n lk le lg he hg ek kg eg = record {
   w2 = l.0;
   w3 = 0;
   w4 = 0;
-  some_weight = some m.0 l.0 _ _ _ m.1 l.1 whole (apart_more te tg eg);
+  some_weight = some m.0 l.0 _ _ _ m.1 l.1 whole (gap_positive te tg eg);
   x = balanced m.0 l.0 (tg -ℤ tk) (tk -ℤ te) (tg -ℤ te) k.x (at e).x (at g).x m.1 l.1 whole (level_mean (dot d d) d.x i.x k.x (at e).x (at g).x tk te tg n (along_x d (minus k i) lk) (along_x d (minus (at e) i) le) (along_x d (minus (at g) i) lg));
   y = balanced m.0 l.0 (tg -ℤ tk) (tk -ℤ te) (tg -ℤ te) k.y (at e).y (at g).y m.1 l.1 whole (level_mean (dot d d) d.y i.y k.y (at e).y (at g).y tk te tg n (along_y d (minus k i) lk) (along_y d (minus (at e) i) le) (along_y d (minus (at g) i) lg));
   z = balanced m.0 l.0 (tg -ℤ tk) (tk -ℤ te) (tg -ℤ te) k.z (at e).z (at g).z m.1 l.1 whole (level_mean (dot d d) d.z i.z k.z (at e).z (at g).z tk te tg n (along_z d (minus k i) lk) (along_z d (minus (at e) i) le) (along_z d (minus (at g) i) lg));

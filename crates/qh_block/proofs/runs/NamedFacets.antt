@@ -3,8 +3,8 @@ use Rattle.std.proofs.Common.{◌≡◌, ℕ, ◌<◌, ◌≤◌, arith, ap, sym
 use Rattle.std.proofs.lemmas.List.{get_or_append_left, get_or_push, length_push}
 use Rattle.qh_mesh.specs.declared.facets.FacetNo.{FacetNo}
 use Rattle.qh_mesh.specs.Replacement.{number, is_listed}
-use Rattle.qh_mesh.proofs.Weaving.{by_le}
-use Rattle.qh_mesh.proofs.ListLemmas.{listed_at, listed_find}
+use Rattle.qh_mesh.proofs.ListedFacets.{listed_at, listed_find}
+use Rattle.qh_mesh.proofs.NumberCases.{by_le}
 use Rattle.qh_block.specs.Runs.{Names, AreWithin}
 
 -- a list names what it named before a facet was added

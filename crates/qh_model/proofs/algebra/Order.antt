@@ -6,6 +6,7 @@ use Rattle.std.specs.Prelude.{ℤ, pos, negsuc, ◌+ℤ◌, ◌-ℤ◌, ◌*ℤ�
 use lib.IntN.{ℤ_discrete}
 use borrow.Author.Differences.{product_is}
 use Rattle.qh_model.proofs.algebra.Integers.{mul_add, mul_neg}
+use Rattle.qh_model.proofs.algebra.Signs.{not_less}
 
 -- two numbers not below 0
 pub mul-nonneg : (a b : ℤ) → pos 0 ≤ℤ a → pos 0 ≤ℤ b → pos 0 ≤ℤ (a *ℤ b)
@@ -50,13 +51,9 @@ mul-le a b c h k =
 pub cancel-nonneg : (a b : ℤ) → pos 0 <ℤ a → pos 0 ≤ℤ (a *ℤ b) → pos 0 ≤ℤ b
 cancel-nonneg a b h k = grind (arith, ints)
 
--- not above 0 and above 0
-no_lt_and_ge : (x : ℤ) → x ≤ℤ pos 0 → pos 0 <ℤ x → ⊥
-no_lt_and_ge x p q = omega (arith, ints)
-
 -- the same of a product not above 0
 pub cancel-nonpos : (a b : ℤ) → pos 0 <ℤ a → (a *ℤ b) ≤ℤ pos 0 → b ≤ℤ pos 0
-cancel-nonpos a b h k = by_lt_z (pos 0) b (λ q. absurd (no_lt_and_ge (a *ℤ b) k (mul-pos a b h q))) (λ q. q)
+cancel-nonpos a b h k = by_lt_z (pos 0) b (λ q. absurd (not_less (pos 0) (a *ℤ b) (mul-pos a b h q) k)) (λ q. q)
 
 -- of a positive product
 pub cancel-pos : (a b : ℤ) → pos 0 <ℤ a → pos 0 <ℤ (a *ℤ b) → pos 0 <ℤ b
@@ -93,17 +90,18 @@ sign_step ap by ay bp ab py e h1 h2 h3 h4 h5 = grind (arith, ints, mul-nonneg, m
 
 -- a negative number and a positive one
 pub mul-neg_pos : (a b : ℤ) → a <ℤ pos 0 → pos 0 <ℤ b → (a *ℤ b) <ℤ pos 0
-mul-neg_pos a b h k = by_lt_z (a *ℤ b) (pos 0) (λ q. q) (λ q. absurd (no_lt_and_ge a (cancel_right a b k q) h))
+mul-neg_pos a b h k = by_lt_z (a *ℤ b) (pos 0) (λ q. q) (λ q. absurd (not_less a (pos 0) h (cancel_right a b k q)))
   where
     cancel_right : (a b : ℤ) → pos 0 <ℤ b → pos 0 ≤ℤ (a *ℤ b) → pos 0 ≤ℤ a
     cancel_right a b k q = grind (arith, ints)
 
-    no_lt_and_ge : (x : ℤ) → pos 0 ≤ℤ x → x <ℤ pos 0 → ⊥
-    no_lt_and_ge x p q = omega (arith, ints)
-
 -- not above and not below is equal
 pub le_antisym : (a b : ℤ) → a ≤ℤ b → b ≤ℤ a → a ≡ b
 le_antisym a b h k = omega (arith, ints)
+
+-- what is at most as much and not equal is less
+pub le_less : (a b : ℤ) → a ≤ℤ b → (a ≡ b → ⊥) → a <ℤ b
+le_less a b h k = by_lt_z a b (λ l. l) (λ l. absurd (k (le_antisym a b h l)))
 
 -- a number is 0 or not
 pub zero_or_not : (v : ℤ) → (v ≡ pos 0) ⊎ (¬ (v ≡ pos 0))

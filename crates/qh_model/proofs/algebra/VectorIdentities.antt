@@ -249,6 +249,18 @@ in_line-twice a c = vector_path (cross a a c) origin (flat a.y c.z a.z c.y) (fla
     flat : (p q r s : ℤ) → (p -ℤ p) *ℤ (q -ℤ r) -ℤ (r -ℤ r) *ℤ (s -ℤ p) ≡ pos 0
     flat p q r s = ring (p ∷ q ∷ r ∷ s ∷ []) (less (mul (less (var 0) (var 0)) (less (var 1) (var 2))) (mul (less (var 2) (var 2)) (less (var 3) (var 0)))) (con (pos 0)) refl
 
+-- and a point with one that stands twice
+pub in_line-last : (a b : Vector) → AreInLine a b b
+unfolding cross
+in_line-last a b = vector_path (cross a b b) origin (none (b.y -ℤ a.y) (b.z -ℤ a.z)) (none (b.z -ℤ a.z) (b.x -ℤ a.x)) (none (b.x -ℤ a.x) (b.y -ℤ a.y))
+  where
+    none : (p q : ℤ) → p *ℤ q -ℤ q *ℤ p ≡ pos 0
+    none p q = ring (p ∷ q ∷ []) (less (mul (var 0) (var 1)) (mul (var 1) (var 0))) (con (pos 0)) refl
+
+-- scalar products commute
+pub dot_comm : (n p : Vector) → dot n p ≡ dot p n
+dot_comm n p = omega (arith, ints)
+
 -- the triangle the other way round
 pub vol-flip_last : (a b c d : Vector) → vol a c b d ≡ neg_ℤ (vol a b c d)
 unfolding vol

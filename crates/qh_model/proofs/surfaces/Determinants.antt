@@ -47,6 +47,11 @@ pub above-turn : (a b c p : Weighted) → above a b c p ≡ above b c a p
 unfolding above
 above-turn a b c p = ring (put4 a (put4 b (put4 c (put4 p [])))) (aboveE (quad 0) (quad 1) (quad 2) (quad 3)) (aboveE (quad 1) (quad 2) (quad 0) (quad 3)) refl
 
+-- the last three turn
+pub above-turn_last : (a b c p : Weighted) → above a c p b ≡ above a b c p
+unfolding above
+above-turn_last a b c p = ring (put4 a (put4 b (put4 c (put4 p [])))) (aboveE (quad 0) (quad 2) (quad 3) (quad 1)) (aboveE (quad 0) (quad 1) (quad 2) (quad 3)) refl
+
 -- the other way round
 pub above-flip : (a b c p : Weighted) → above b a c p ≡ neg_ℤ (above a b c p)
 unfolding above

@@ -7,12 +7,12 @@ use Rattle.qh_model.specs.Weighted.{Weighted, above, weighted_dot, plane_of}
 use Rattle.std.proofs.Common.{◌≡◌, ◌≢◌, ℕ, zero, suc, refl, [], arith, ap, sym, ◌∙◌, subst, Bool, true, false, ◌⊎◌, inl, inr}
 use native.Mathlib.Decide.{ℕ_discrete}
 use Rattle.std.proofs.lemmas.Int.{ints}
+use Rattle.std.proofs.lemmas.Bool.{and_parts, both_ways, not-true}
 use Rattle.std.specs.Prelude.{ℤ, pos, negsuc, ◌+ℤ◌, neg_ℤ, ◌≤ℤ◌, ◌<ℤ◌, ◌&&◌, not}
 use Rattle.qh_model.proofs.algebra.Ring.{ring}
 use Rattle.qh_model.proofs.algebra.Ring.Expr.{add}
 use Rattle.qh_model.proofs.surfaces.Determinants.{put4, quad, dot4E, above-turn, above-flip, above-first, above-second, above-third}
 use Rattle.qh_model.proofs.surfaces.VisibleFacets.{Corners, Over, Cut, none_cut_off}
-use Rattle.qh_model.proofs.Booleans.{both_true, true_false, not_true}
 
 -- the corners of a facet at their places
 abbrev pub placed : Surface → (ℕ → Weighted) → ℕ → Corners
@@ -154,9 +154,9 @@ positive (negsuc n) = false
 -- the test is right
 pub positive-is : (x : ℤ) → positive x ≡ true → pos 0 <ℤ x
 unfolding positive
-positive-is (pos zero) e = absurd (true_false true refl (sym e))
+positive-is (pos zero) e = absurd (both_ways true (sym e) refl)
 positive-is (pos (suc n)) e = omega (arith, ints)
-positive-is (negsuc n) e = absurd (true_false true refl (sym e))
+positive-is (negsuc n) e = absurd (both_ways true (sym e) refl)
 
 -- and finds all
 pub positive-true : (x : ℤ) → pos 0 <ℤ x → positive x ≡ true
@@ -270,10 +270,10 @@ connected_at m at real o w n h d p sees up down c r f i e = by_bool (c f) refl
     marked g a b = rw (a, b) refl
 
     parts : (g : ℕ) → mark g ≡ true → (sees g ≡ true) × (c g ≡ false)
-    parts g k = let b = both_true (sees g) (not (c g)) k in (b.0, not_true (c g) b.1)
+    parts g k = let b = and_parts (sees g) (not (c g)) k in (b.0, not-true (c g) b.1)
 
     apart : (g : ℕ) → mark g ≡ true → r.f0 ≢ g
-    apart g k q = true_false (c g) (ap c (sym q) ∙ r.has) (parts g k).1
+    apart g k q = both_ways (c g) (parts g k).1 (ap c (sym q) ∙ r.has)
 
     joined : (g : ℕ) → In g m.live → mark g ≡ true → (s : Side) → pos 0 <ℤ rise m at (m.over g s) p → mark (m.over g s) ≡ true
     joined g j k s q = marked (m.over g s) sees_g (by (c (m.over g s)) refl)
@@ -286,7 +286,7 @@ connected_at m at real o w n h d p sees up down c r f i e = by_bool (c f) refl
 
         by : (b : Bool) → c (m.over g s) ≡ b → c (m.over g s) ≡ false
         by false z = z
-        by true z = absurd (true_false (c g) (ap c (sym t.returns) ∙ r.grows (m.over g s) t.live (m.back g s) z (ap sees t.returns ∙ (parts g k).0)) (parts g k).1)
+        by true z = absurd (both_ways (c g) (parts g k).1 (ap c (sym t.returns) ∙ r.grows (m.over g s) t.live (m.back g s) z (ap sees t.returns ∙ (parts g k).0)))
 
     side : (g : ℕ) → In g m.live → mark g ≡ true → (s : Side) → Over (placed m at) m.live mark y p g (at (start m g s)) (at (end m g s)) (at (rest m g s))
     side g j k s =

@@ -20,6 +20,7 @@ use Rattle.qh_model.proofs.algebra.Order.{mul-nonneg, cancel-zero, le_antisym}
 use Rattle.qh_model.proofs.algebra.Ring.{ring}
 use Rattle.qh_model.proofs.algebra.Ring.Expr.{var, con, add, sub as less, mul}
 use Rattle.qh_model.proofs.algebra.VectorIdentities.{vec, dotE, crossE, subE, put, VE, vol-first, in_line-vol, in_line-twice, vol-flip_last}
+use Rattle.qh_model.proofs.algebra.Signs.{gap_positive}
 use Rattle.qh_model.proofs.extremes.ExtremeIds.{Listed, listed_itself, listed_part, apart, alternative_in}
 use Rattle.qh_model.proofs.extremes.Directions.{at_least_along, normal_along, from_plane, vol_along, zero_along, square-positive}
 use Rattle.qh_model.proofs.surfaces.Determinants.{QE, aboveE}
@@ -76,9 +77,6 @@ separated at ids l e = go (listed_part (Members ids) (λ j. j ≢ l) (apart l) i
     go (ys, k) = sides (alternative_in at (Others (Members ids) l) ys k (at l))
 
 -- ---- no combination of what is lower reaches up
--- what is lower has a positive gap
-positive_gap : (a b : ℤ) → a <ℤ b → pos 0 <ℤ (b -ℤ a)
-positive_gap a b h = omega (arith, ints)
 
 -- four numbers not below 0 that add up to 0
 four_zero : (a b c d : ℤ) → a +ℤ b +ℤ c +ℤ d ≡ pos 0 → pos 0 ≤ℤ a → pos 0 ≤ℤ b → pos 0 ≤ℤ c → pos 0 ≤ℤ d → (a ≡ pos 0) × (b ≡ pos 0) × (c ≡ pos 0) × (d ≡ pos 0)
@@ -94,7 +92,7 @@ too_low all u v w t L A B C O p hu hv hw ht weights mix a b c o =
     at_least x h = omega (arith, ints)
 
     times : (k x y : ℤ) → pos 0 ≤ℤ k → x <ℤ y → pos 0 ≤ℤ (k *ℤ (y -ℤ x))
-    times k x y h l = mul-nonneg k (y -ℤ x) h (at_least (y -ℤ x) (positive_gap x y l))
+    times k x y h l = mul-nonneg k (y -ℤ x) h (at_least (y -ℤ x) (gap_positive x y l))
 
     gaps : u *ℤ (L -ℤ A) +ℤ v *ℤ (L -ℤ B) +ℤ w *ℤ (L -ℤ C) +ℤ t *ℤ (pos 4 *ℤ L -ℤ O) ≡ pos 0
     gaps =
@@ -108,7 +106,7 @@ too_low all u v w t L A B C O p hu hv hw ht weights mix a b c o =
         level x y e = omega (arith, ints)
 
     gone : (k x y : ℤ) → x <ℤ y → k *ℤ (y -ℤ x) ≡ pos 0 → k ≡ pos 0
-    gone k x y l e = cancel-zero (y -ℤ x) k (positive_gap x y l) (ring (k ∷ x ∷ y ∷ []) (mul (less (var 2) (var 1)) (var 0)) (mul (var 0) (less (var 2) (var 1))) refl ∙ e)
+    gone k x y l e = cancel-zero (y -ℤ x) k (gap_positive x y l) (ring (k ∷ x ∷ y ∷ []) (mul (less (var 2) (var 1)) (var 0)) (mul (var 0) (less (var 2) (var 1))) refl ∙ e)
 
     total : (all u v w t : ℤ) → pos 0 <ℤ all → all ≡ u +ℤ v +ℤ w +ℤ t *ℤ pos 4 → u ≡ pos 0 → v ≡ pos 0 → w ≡ pos 0 → t ≡ pos 0 → ⊥
     total all u v w t h e a b c d = omega (arith, ints)

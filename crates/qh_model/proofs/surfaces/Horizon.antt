@@ -7,19 +7,20 @@ use Rattle.qh_model.specs.Weighted.{Weighted, above}
 use Rattle.std.proofs.Common.{◌≡◌, ◌≢◌, ℕ, ◌+◌, ◌≤◌, refl, [], arith, ap, sym, ◌∙◌, subst, ◌⊎◌, inl, inr, Bool, true}
 use native.Mathlib.Decide.{ℕ_discrete}
 use Rattle.std.proofs.lemmas.Int.{ints, by_lt_z}
+use Rattle.std.proofs.lemmas.Bool.{and_parts}
 use Rattle.std.specs.Prelude.{ℤ, pos, ◌-ℤ◌, ◌*ℤ◌, neg_ℤ, ◌≤ℤ◌, ◌<ℤ◌, ◌&&◌}
 use Rattle.qh_model.proofs.algebra.Order.{mul-pos, neg-positive}
 use Rattle.qh_model.proofs.algebra.Ring.{ring}
 use Rattle.qh_model.proofs.algebra.Ring.Expr.{neg}
+use Rattle.qh_model.proofs.algebra.Signs.{less_one_way, opposite_positive}
 use Rattle.qh_model.proofs.surfaces.VisibleFacets.{Least, least}
 use Rattle.qh_model.proofs.surfaces.Facets.{rise_over, positive, positive-is, positive-true, corner_start, corner_rest, ends_differ, rest_differs}
 use Rattle.qh_model.proofs.surfaces.DrawnInwards.{Choice, choose}
-use Rattle.qh_model.proofs.surfaces.Determinants.{quad, aboveE, put4}
+use Rattle.qh_model.proofs.surfaces.Determinants.{quad, aboveE, put4, above-turn_last}
 use Rattle.qh_model.proofs.surfaces.PlanesThroughLine.{line_product}
 use Rattle.qh_model.proofs.surfaces.Cone.{Old}
 use Rattle.qh_model.proofs.surfaces.KeptSound.{edge_once, side_once}
-use Rattle.qh_model.proofs.Booleans.{both_true}
-use Rattle.qh_model.proofs.surfaces.Rim.{swap23, turned_last, side_prev, start_prev, end_prev, from, from_is, back_pos, apart_signs, Scene, Rim, rim_below, rim_once, has_corner, has_corner-is, has_corner-true, rim_next}
+use Rattle.qh_model.proofs.surfaces.Rim.{swap23, side_prev, start_prev, end_prev, from, from_is, Scene, Rim, rim_below, rim_once, has_corner, has_corner-is, has_corner-true, rim_next}
 
 -- ---- and where it starts another ends
 swap14 : (a b c d : Weighted) → above d b c a ≡ neg_ℤ (above a b c d)
@@ -32,8 +33,8 @@ rim_once_end m home o c f g s t a b e = pick (ℕ_discrete (start m f s) (start 
   where
     never : start m f s ≢ start m g t → ⊥
     never n =
-        apart_signs (above (c.at (start m f s)) (c.at (end m f s)) c.top (c.at (start m g t)))
-        (back_pos (above (c.at (start m g t)) (c.at (end m f s)) c.top (c.at (start m f s))) _ (swap14 (c.at (start m f s)) (c.at (end m f s)) c.top (c.at (start m g t)))
+        less_one_way (pos 0) (above (c.at (start m f s)) (c.at (end m f s)) c.top (c.at (start m g t)))
+        (opposite_positive (above (c.at (start m g t)) (c.at (end m f s)) c.top (c.at (start m f s))) _ (swap14 (c.at (start m f s)) (c.at (end m f s)) c.top (c.at (start m g t)))
         (subst (λ u. above (c.at (start m g t)) (c.at u) c.top (c.at (start m f s)) <ℤ pos 0) (sym e)
         (rim_below m home o c g t b (start m f s) (f, a.live, corner_start m f s) n (λ q. ends_differ m home o c.sound.inner f a.live s (q ∙ sym e)))))
         (rim_below m home o c f s a (start m g t) (g, b.live, corner_start m g t) (λ q. n (sym q)) (λ q. ends_differ m home o c.sound.inner g b.live t (q ∙ e)))
@@ -81,10 +82,10 @@ rim_prev m home o c f s r = pick (least mark p q m.live (λ g i e. p_pos g i e))
     q g = above (at u) top (at w) (at (inn g))
 
     seen : (g : ℕ) → mark g ≡ true → pos 0 <ℤ rise m at g top
-    seen g e = positive-is (rise m at g top) (both_true (positive (rise m at g top)) (has_corner m g u) e).0
+    seen g e = positive-is (rise m at g top) (and_parts (positive (rise m at g top)) (has_corner m g u) e).0
 
     corner : (g : ℕ) → mark g ≡ true → IsCorner m g u
-    corner g e = has_corner-is m g u (both_true (positive (rise m at g top)) (has_corner m g u) e).1
+    corner g e = has_corner-is m g u (and_parts (positive (rise m at g top)) (has_corner m g u) e).1
 
     marked : (g : ℕ) → pos 0 <ℤ rise m at g top → IsCorner m g u → mark g ≡ true
     marked g a b = rw (positive-true (rise m at g top) a, has_corner-true m g u b) refl
@@ -97,7 +98,7 @@ rim_prev m home o c f s r = pick (least mark p q m.live (λ g i e. p_pos g i e))
 
     inn_not_v : (g : ℕ) → In g m.live → mark g ≡ true → inn g ≢ v
     inn_not_v g i e k =
-        apart_signs (rise m at g top) (seen g e)
+        less_one_way (pos 0) (rise m at g top) (seen g e)
         (subst (λ h. rise m at h top <ℤ pos 0) (sym (edge_once m home o c.sound g (m.over f s) i t.live (side_prev (from m g u)) (m.back f s) (start_prev m g (from m g u) ∙ k ∙ sym t.start_is) (end_prev m g (from m g u) ∙ starts g e ∙ sym t.end_is))) r.blind)
 
     over_plane : (l : ℕ) → Old m l → l ≢ u → l ≢ v → pos 0 <ℤ above (at u) top (at v) (at l)
@@ -148,7 +149,7 @@ rim_prev m home o c f s r = pick (least mark p q m.live (λ g i e. p_pos g i e))
             ∙ ap (λ z. above (at z) (at (start m g d)) (at (far m g d)) top) ends
             ∙ ap (λ z. above (at u) (at z) (at (far m g d)) top) begins
             ∙ ap (λ z. above (at u) (at (inn g)) (at z) top) (sym inn')
-            ∙ turned_last (at u) top (at (inn g)) (at (inn g'))
+            ∙ above-turn_last (at u) top (at (inn g)) (at (inn g'))
 
         less_ : pos 0 <ℤ (p g *ℤ q g' -ℤ q g *ℤ p g')
         less_ =
@@ -213,10 +214,10 @@ shown m home o w z p =
     known f i = by_lt_z (pos 0) (rise m home f p) (λ k. inl (up f i k)) (λ k. inr (down f i k))
 
     up' : (f : ℕ) → In f m.live → pos 0 <ℤ rise m at f top → pos 0 <ℤ rise m home f p
-    up' f i h = by_lt_z (pos 0) (rise m home f p) (λ k. k) (λ k. absurd (apart_signs (rise m at f top) h (down f i k)))
+    up' f i h = by_lt_z (pos 0) (rise m home f p) (λ k. k) (λ k. absurd (less_one_way (pos 0) (rise m at f top) h (down f i k)))
 
     down' : (f : ℕ) → In f m.live → rise m at f top <ℤ pos 0 → rise m home f p ≤ℤ pos 0
-    down' f i h = by_lt_z (pos 0) (rise m home f p) (λ k. absurd (apart_signs (rise m at f top) (up f i k) h)) (λ k. k)
+    down' f i h = by_lt_z (pos 0) (rise m home f p) (λ k. absurd (less_one_way (pos 0) (rise m at f top) (up f i k) h)) (λ k. k)
 
 -- THEOREM: each horizon edge has one next and one before, told by its ends alone
 pub edge_next : (m : Surface) (home : ℕ → Weighted) (o : Weighted) → IsWhole m → IsSound m home o → (p : Weighted) (f : ℕ) (s : Side) → IsHorizonSide m home p f s → HasHorizonSide m home p (λ g t. start m g t ≡ end m f s)

@@ -3,21 +3,21 @@ use Rattle.qh_model.specs.Surface.{IsCorner, Side, Surface, HasTwin, IsWhole, en
 use Rattle.qh_model.specs.Sets.{In}
 use Rattle.qh_model.specs.SoundSurface.{IsSound, IsStrict}
 use Rattle.qh_model.specs.Weighted.{Weighted, above}
-use Rattle.std.proofs.Common.{◌≡◌, ◌≢◌, ℕ, refl, [], ◌∷◌, arith, ap, sym, ◌∙◌, subst, ◌⊎◌, inl, inr, Bool, true, false}
+use Rattle.std.proofs.Common.{◌≡◌, ◌≢◌, ℕ, refl, [], ◌∷◌, ap, sym, ◌∙◌, subst, ◌⊎◌, inl, inr, Bool, true, false}
 use native.Mathlib.Decide.{ℕ_discrete}
-use Rattle.std.proofs.lemmas.Int.{ints}
+use Rattle.std.proofs.lemmas.Bool.{and_parts}
 use Rattle.std.specs.Prelude.{ℤ, pos, ◌-ℤ◌, ◌*ℤ◌, neg_ℤ, ◌<ℤ◌, ◌&&◌}
 use Rattle.qh_model.proofs.algebra.Order.{mul-neg_neg, neg-positive}
 use Rattle.qh_model.proofs.algebra.Ring.{ring}
 use Rattle.qh_model.proofs.algebra.Ring.Expr.{var, sub as less, mul, neg}
+use Rattle.qh_model.proofs.algebra.Signs.{less_one_way, equal_nonpos, equal_negative, equal_positive, opposite_nonneg, opposite_positive, opposite_negative}
 use Rattle.qh_model.proofs.surfaces.VisibleFacets.{Least, least}
 use Rattle.qh_model.proofs.surfaces.Facets.{rise_side, rise_over, bends, weak, positive, positive-is, positive-true, corner_end, corner_rest, corner_test, ends_differ, rest_differs}
 use Rattle.qh_model.specs.Surface.Side.{first, second, third}
 use Rattle.qh_model.proofs.surfaces.Determinants.{quad, aboveE, put4, above-turn}
 use Rattle.qh_model.proofs.surfaces.PlanesThroughLine.{line_product}
-use Rattle.qh_model.proofs.surfaces.Cone.{Old, over_flip, opposite_nonneg, opposite_positive, equal_le, equal_negative, equal_positive, cone_strict, below_one}
+use Rattle.qh_model.proofs.surfaces.Cone.{Old, over_flip, cone_strict, below_one}
 use Rattle.qh_model.proofs.surfaces.KeptSound.{edge_once, side_once}
-use Rattle.qh_model.proofs.Booleans.{both_true}
 
 -- ---- orders of four
 -- the second and the fourth change places
@@ -34,11 +34,6 @@ swap23 a b c d = ring (put4 a (put4 b (put4 c (put4 d [])))) (aboveE (quad 0) (q
 turned_first : (v t x y : Weighted) → above x v y t ≡ neg_ℤ (above v t x y)
 unfolding above
 turned_first v t x y = ring (put4 v (put4 t (put4 x (put4 y [])))) (aboveE (quad 2) (quad 0) (quad 3) (quad 1)) (neg (aboveE (quad 0) (quad 1) (quad 2) (quad 3))) refl
-
--- the last three turn
-pub turned_last : (u t y z : Weighted) → above u y z t ≡ above u t y z
-unfolding above
-turned_last u t y z = ring (put4 u (put4 t (put4 y (put4 z [])))) (aboveE (quad 0) (quad 2) (quad 3) (quad 1)) (aboveE (quad 0) (quad 1) (quad 2) (quad 3)) refl
 
 -- ---- sides in turn
 abbrev pub side_next : Side → Side
@@ -98,19 +93,6 @@ from_is m f v c = split (ℕ_discrete v (m.i f)) (ℕ_discrete v (m.j f)) c
     split (no a) (no b) (inr (inl e)) = absurd (b e)
     split (no a) (no b) (inr (inr e)) = sym e
 
--- ---- signs
--- the opposite of a positive number
-back_neg : (x r : ℤ) → x ≡ neg_ℤ r → pos 0 <ℤ x → r <ℤ pos 0
-back_neg x r e h = omega (arith, ints)
-
--- of a negative number
-pub back_pos : (x r : ℤ) → x ≡ neg_ℤ r → x <ℤ pos 0 → pos 0 <ℤ r
-back_pos x r e h = omega (arith, ints)
-
--- no number is above and below 0
-pub apart_signs : (x : ℤ) → pos 0 <ℤ x → x <ℤ pos 0 → ⊥
-apart_signs x h k = omega (arith, ints)
-
 -- ---- at drawn places: every facet sees top or is seen to be above it
 pub record Scene (m : Surface) (home : ℕ → Weighted) (o : Weighted) : Type 0 where
   pub whole : IsWhole m
@@ -134,7 +116,7 @@ rim_below m home o c f s r l (g, j, k) ns ne =
     (equal_positive (rise m c.at f c.top) _ (rise_side m c.at f s c.top) r.seen)
     (opposite_positive (rise m c.at (m.over f s) c.top) _ (over_flip m c.at c.whole f r.live s c.top) r.blind)
     (bends m c.at home o c.whole c.sound.inner c.strict f r.live s)
-    (equal_le (rise m c.at f (c.at l)) _ (rise_side m c.at f s (c.at l)) (weak m c.at c.strict f g r.live j l k))
+    (equal_nonpos (rise m c.at f (c.at l)) _ (rise_side m c.at f s (c.at l)) (weak m c.at c.strict f g r.live j l k))
     (opposite_nonneg (rise m c.at (m.over f s) (c.at l)) _ (over_flip m c.at c.whole f r.live s (c.at l)) (weak m c.at c.strict (m.over f s) g (c.whole f r.live s).live j l k))
     (below_one m home o c.whole c.sound.inner c.at c.strict f r.live s l (g, j, k) ns ne)
 
@@ -147,8 +129,8 @@ rim_once m home o c f g s t a b e = pick (ℕ_discrete (end m f s) (end m g t))
 
     never : end m f s ≢ end m g t → ⊥
     never n =
-        apart_signs (above (c.at (start m f s)) (c.at (end m f s)) c.top (c.at (end m g t)))
-        (back_pos (above (c.at (start m f s)) (c.at (end m g t)) c.top (c.at (end m f s))) _ (swap24 (c.at (start m f s)) (c.at (end m f s)) c.top (c.at (end m g t)))
+        less_one_way (pos 0) (above (c.at (start m f s)) (c.at (end m f s)) c.top (c.at (end m g t)))
+        (opposite_positive (above (c.at (start m f s)) (c.at (end m g t)) c.top (c.at (end m f s))) _ (swap24 (c.at (start m f s)) (c.at (end m f s)) c.top (c.at (end m g t)))
         (subst (λ u. above (c.at u) (c.at (end m g t)) c.top (c.at (end m f s)) <ℤ pos 0) (sym e)
         (rim_below m home o c g t b (end m f s) (f, a.live, corner_end m f s) (λ q. ends_differ m home o c.sound.inner f a.live s (e ∙ sym q)) n)))
         (rim_below m home o c f s a (end m g t) (g, b.live, corner_end m g t) (λ q. ends_differ m home o c.sound.inner g b.live t (sym e ∙ sym q)) (λ q. n (sym q)))
@@ -219,10 +201,10 @@ rim_next m home o c f s r = pick (least mark p q m.live (λ g i e. p_pos g i e))
     q g = neg_ℤ (above (at v) top (at w) (at (out g)))
 
     seen : (g : ℕ) → mark g ≡ true → pos 0 <ℤ rise m at g top
-    seen g e = positive-is (rise m at g top) (both_true (positive (rise m at g top)) (has_corner m g v) e).0
+    seen g e = positive-is (rise m at g top) (and_parts (positive (rise m at g top)) (has_corner m g v) e).0
 
     corner : (g : ℕ) → mark g ≡ true → IsCorner m g v
-    corner g e = has_corner-is m g v (both_true (positive (rise m at g top)) (has_corner m g v) e).1
+    corner g e = has_corner-is m g v (and_parts (positive (rise m at g top)) (has_corner m g v) e).1
 
     marked : (g : ℕ) → pos 0 <ℤ rise m at g top → IsCorner m g v → mark g ≡ true
     marked g a b = rw (positive-true (rise m at g top) a, has_corner-true m g v b) refl
@@ -236,7 +218,7 @@ rim_next m home o c f s r = pick (least mark p q m.live (λ g i e. p_pos g i e))
     -- the way back over the rim side is no seen facet's
     out_not_u : (g : ℕ) → In g m.live → mark g ≡ true → out g ≢ u
     out_not_u g i e k =
-        apart_signs (rise m at g top) (seen g e)
+        less_one_way (pos 0) (rise m at g top) (seen g e)
         (subst (λ h. rise m at h top <ℤ pos 0) (sym (edge_once m home o c.sound g (m.over f s) i t.live (from m g v) (m.back f s) (starts g e ∙ sym t.start_is) (k ∙ sym t.end_is))) r.blind)
 
     below : (l : ℕ) → Old m l → l ≢ u → l ≢ v → above (at v) top (at u) (at l) <ℤ pos 0
@@ -294,7 +276,7 @@ rim_next m home o c f s r = pick (least mark p q m.live (λ g i e. p_pos g i e))
         less_ =
             products (above (at v) top (at u) (at (out g))) (above (at v) top (at w) (at (out g'))) (above (at v) top (at u) (at (out g'))) (above (at v) top (at w) (at (out g))) (above (at v) top (at u) (at w) *ℤ above (at v) top (at (out g)) (at (out g')))
             (line_product (at v) top (at u) (at w) (at (out g)) (at (out g')))
-            (mul-neg_neg (above (at v) top (at u) (at w)) (above (at v) top (at (out g)) (at (out g'))) vw (back_neg (rise m at g' top) _ rising k))
+            (mul-neg_neg (above (at v) top (at u) (at w)) (above (at v) top (at (out g)) (at (out g'))) vw (opposite_negative (rise m at g' top) _ rising k))
 
     last : (l : Least mark p q m.live) → Joined m at top v
     last l = by (c.known (m.over l.m d) (c.whole l.m l.there d).live)

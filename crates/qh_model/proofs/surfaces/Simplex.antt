@@ -11,7 +11,7 @@ use Rattle.std.proofs.lemmas.Int.{ints, by_lt_z}
 use Rattle.std.specs.Prelude.{ℤ, pos, ◌+ℤ◌, ◌*ℤ◌, ◌<ℤ◌, ◌≤ℤ◌}
 use Rattle.qh_model.proofs.algebra.Ring.{ring}
 use Rattle.qh_model.proofs.algebra.Ring.Expr.{add}
-use Rattle.qh_model.proofs.surfaces.Determinants.{quad, QE, aboveE, put4, above-first, above-second, above-third}
+use Rattle.qh_model.proofs.surfaces.Determinants.{quad, QE, aboveE, put4, above-first, above-second, above-third, above-turn_last}
 use Rattle.qh_model.proofs.surfaces.Facets.{rise_own, plane-is}
 use Rattle.qh_model.proofs.surfaces.CramersRule.{cramer}
 use Rattle.qh_model.proofs.algebra.Order.{zero_product}
@@ -53,15 +53,10 @@ twins3 a b c d third = record { live = inl refl; start_is = refl; end_is = refl;
 whole : (a b c d : ℕ) → IsWhole (simplex_surface a b c d)
 whole a b c d = four (λ f. (s : Side) → HasTwin (simplex_surface a b c d) f s) (twins0 a b c d) (twins1 a b c d) (twins2 a b c d) (twins3 a b c d)
 
--- the facets' orders are even: a d b c
+-- the facets' orders are even, as `above-turn_last` says of a c d b: a d b c
 order_adb : (a b c d : Weighted) → above a d b c ≡ above a b c d
 unfolding above
 order_adb a b c d = ring (put4 a (put4 b (put4 c (put4 d [])))) (aboveE (quad 0) (quad 3) (quad 1) (quad 2)) (aboveE (quad 0) (quad 1) (quad 2) (quad 3)) refl
-
--- a c d b
-order_acd : (a b c d : Weighted) → above a c d b ≡ above a b c d
-unfolding above
-order_acd a b c d = ring (put4 a (put4 b (put4 c (put4 d [])))) (aboveE (quad 0) (quad 2) (quad 3) (quad 1)) (aboveE (quad 0) (quad 1) (quad 2) (quad 3)) refl
 
 -- b d c a
 order_bdc : (a b c d : Weighted) → above b d c a ≡ above a b c d
@@ -104,7 +99,7 @@ inside home a b c d h =
     four (λ f. rise (simplex_surface a b c d) home f (middle_of A B C D) <ℤ pos 0)
     (sum_lt (above A B C (middle_of A B C D)) (above A B C A) (above A B C B) (above A B C C) (above A B C D) (above A B C D) (above-together A B C A B C D) (above-first A B C) (above-second A B C) (above-third A B C) refl h)
     (sum_lt (above A D B (middle_of A B C D)) (above A D B A) (above A D B D) (above A D B B) (above A D B C) (above A B C D) (order_second _ (above A D B A) (above A D B B) (above A D B C) (above A D B D) (above-together A D B A B C D)) (above-first A D B) (above-second A D B) (above-third A D B) (order_adb A B C D) h)
-    (sum_lt (above A C D (middle_of A B C D)) (above A C D A) (above A C D C) (above A C D D) (above A C D B) (above A B C D) (order_third _ (above A C D A) (above A C D B) (above A C D C) (above A C D D) (above-together A C D A B C D)) (above-first A C D) (above-second A C D) (above-third A C D) (order_acd A B C D) h)
+    (sum_lt (above A C D (middle_of A B C D)) (above A C D A) (above A C D C) (above A C D D) (above A C D B) (above A B C D) (order_third _ (above A C D A) (above A C D B) (above A C D C) (above A C D D) (above-together A C D A B C D)) (above-first A C D) (above-second A C D) (above-third A C D) (above-turn_last A B C D) h)
     (sum_lt (above B D C (middle_of A B C D)) (above B D C B) (above B D C D) (above B D C C) (above B D C A) (above A B C D) (order_fourth _ (above B D C A) (above B D C B) (above B D C C) (above B D C D) (above-together B D C A B C D)) (above-first B D C) (above-second B D C) (above-third B D C) (order_bdc A B C D) h)
   where
     A : Weighted
@@ -223,7 +218,7 @@ boundary home a b c d h =
     below =
         four (λ f. rise (simplex_surface a b c d) home f (home (missing a b c d f)) <ℤ pos 0) h
         (lt_as _ (above (home a) (home b) (home c) (home d)) (order_adb (home a) (home b) (home c) (home d)) h)
-        (lt_as _ (above (home a) (home b) (home c) (home d)) (order_acd (home a) (home b) (home c) (home d)) h)
+        (lt_as _ (above (home a) (home b) (home c) (home d)) (above-turn_last (home a) (home b) (home c) (home d)) h)
         (lt_as _ (above (home a) (home b) (home c) (home d)) (order_bdc (home a) (home b) (home c) (home d)) h)
 
     no : (x y : ℤ) → x ≡ y → x <ℤ pos 0 → y ≡ pos 0 → ⊥
