@@ -1,5 +1,5 @@
 -- A walk that went over all its facets found all that the apex sees.
-use Rattle.std.proofs.Common.{◌≡◌, ◌≢◌, ℕ, ◌+◌, ◌*◌, ◌/◌, ◌<◌, ◌≤◌, arith, ap, sym, ◌∙◌, refl, true, false, ◌⊎◌, inl, inr, List, length, subst}
+use Rattle.std.proofs.Common.{◌≡◌, ℕ, ◌/◌, ◌<◌, ◌≤◌, arith, ap, sym, ◌∙◌, refl, true, false, List, length, subst}
 use Rattle.std.specs.Prelude.{pos, ◌<ℤ◌}
 use Rattle.std.proofs.lemmas.Int.{by_lt_z}
 use Rattle.qh_model.specs.Vector.{Vector}

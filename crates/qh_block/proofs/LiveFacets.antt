@@ -1,5 +1,5 @@
 -- The live facets of a mesh: where they are, and what a loop over them comes to.
-use Rattle.std.proofs.Common.{◌≡◌, ℕ, List, [], ◌∷◌, refl, sym, inl, inr, subst, All, ◌<◌, ◌≤◌, ◌⊎◌, length, ap, true}
+use Rattle.std.proofs.Common.{◌≡◌, ℕ, List, [], ◌∷◌, refl, sym, inl, inr, subst, All, ◌<◌, ◌≤◌, ◌⊎◌, length, ap}
 use Rattle.std.proofs.lemmas.List.Elements.{All-head, All-tail, All-from_recursion}
 use Rattle.std.proofs.lemmas.List.{get_or_past}
 use Rattle.std.proofs.lemmas.Bool.{cases_lt}

@@ -1,10 +1,10 @@
 -- The steps of a walk over twins.
-use Rattle.std.proofs.Common.{◌≡◌, ◌≢◌, ℕ, zero, suc, ◌+◌, ◌*◌, ◌/◌, ◌<◌, ◌≤◌, arith, ap, sym, ◌∙◌, refl, true, ◌⊎◌, inl, inr, List, [], ◌∷◌, ◌++◌, length, subst, set, length-set, get_or-set_same, get_or-set_other}
+use Rattle.std.proofs.Common.{◌≡◌, ◌≢◌, ℕ, zero, suc, ◌+◌, ◌/◌, ◌<◌, ◌≤◌, arith, ap, sym, ◌∙◌, refl, true, ◌⊎◌, inl, inr, List, [], ◌∷◌, ◌++◌, length, subst, set, length-set, get_or-set_same, get_or-set_other}
 use Rattle.std.specs.Prelude.{pos, ◌<ℤ◌}
 use Rattle.std.proofs.lemmas.Bool.{cases_eq, cases_lt}
-use Rattle.std.proofs.lemmas.List.{get_or_append_left, get_or_push, get_or_past, length_push}
+use Rattle.std.proofs.lemmas.List.{get_or_append_left, get_or_push, length_push}
 use Rattle.qh_model.specs.Vector.{Vector}
-use Rattle.qh_model.specs.StoredSurface.{StoredFacet, facet_at, no_facet}
+use Rattle.qh_model.specs.StoredSurface.{StoredFacet}
 use Rattle.qh_pred.specs.Planes.{PlaneValue, height}
 use Rattle.qh_mesh.specs.declared.facets.FacetNo.{FacetNo}
 use Rattle.qh_mesh.specs.Replacement.{IsLive, AreFacets, number, is_listed, twin_of}
@@ -148,13 +148,6 @@ joined_walk fs ps apex round marks found g w h l n s = record {
     all f k e t (inr m) = listed_old found g f (w.all f (let r = length-set marks g round in omega arith) (sym (get_or-set_other marks g f round 0 m) ∙ e) t)
 
 -- ---- steps one after the other
-pub further_both : (round : ℕ) (m0 m1 m2 : List ℕ) (f0 f1 f2 : List FacetNo) → IsFurther round m0 m1 f0 f1 → IsFurther round m1 m2 f1 f2 → IsFurther round m0 m2 f0 f2
-further_both round m0 m1 m2 f0 f1 f2 a b = record {
-  len = b.len ∙ a.len;
-  met = λ f e. b.met f (a.met f e);
-  longer = let x = a.longer in let y = b.longer in omega arith;
-  same = λ j h. b.same j (let x = a.longer in omega arith) ∙ a.same j h;
-}
 
 -- what was crossed stays so, and one facet more
 pub crossed_more : (fs : List StoredFacet) (round : ℕ) (m0 m1 : List ℕ) (f0 f1 : List FacetNo) (n : ℕ) → IsFurther round m0 m1 f0 f1 → n < length f0 → IsCrossed fs round m0 f0 n → ((e : ℕ) → e / 3 ≡ number f0 n → mark_at m1 (twin_of fs e / 3) ≡ round)

@@ -1,11 +1,7 @@
 -- Members of lists of numbers by their places, and what a filter keeps of them.
-use Rattle.std.proofs.Common.{◌≡◌, ◌≢◌, ℕ, zero, suc, ◌+◌, ◌*◌, ◌/◌, ◌<◌, ◌≤◌, arith, ap, sym, ◌∙◌, refl, Bool, true, false, cond, nat_eq, ◌⊎◌, inl, inr, List, [], ◌∷◌, length}
+use Rattle.std.proofs.Common.{◌≡◌, ◌≢◌, ℕ, zero, suc, ◌<◌, ◌≤◌, arith, sym, ◌∙◌, refl, Bool, true, false, cond, List, [], ◌∷◌, length}
 use Rattle.std.specs.Prelude.{filter}
-use Rattle.std.proofs.lemmas.Bool.Decides.{eqb_tells}
-use Rattle.qh_mesh.specs.declared.facets.FacetNo.{FacetNo}
-use Rattle.qh_mesh.specs.Replacement.{at, number, sides_of, is_listed}
-use Rattle.qh_mesh.proofs.Around.{SideOf, side_of}
-use Rattle.qh_mesh.proofs.Around.SideOf.{first, second, third}
+use Rattle.qh_mesh.specs.Replacement.{at}
 
 -- x stands in xs
 abbrev pub StandsIn : ℕ → List ℕ → Type 0

@@ -5,8 +5,8 @@ pub mod Around
 pub mod Cones
 pub mod Weaving
 pub mod HorizonSides
-pub mod StepLemmas
-pub mod PlaceLemmas
+pub mod LoopSteps
+pub mod ConePlaces
 pub mod Filters
 pub mod ListedFacets
 pub mod Replacing

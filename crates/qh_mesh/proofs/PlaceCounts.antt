@@ -1,5 +1,5 @@
 -- The live and the free places are all places.
-use Rattle.std.proofs.Common.{◌≡◌, ◌≢◌, ℕ, zero, suc, ◌+◌, ◌-◌, ◌*◌, ◌<◌, max, arith, ap, sym, ◌∙◌, refl, Bool, true, false, cond, List, [], ◌∷◌, length, map, subst, inl, inr}
+use Rattle.std.proofs.Common.{◌≡◌, ◌≢◌, ℕ, zero, suc, ◌+◌, ◌-◌, ◌*◌, ◌<◌, max, arith, ap, sym, ◌∙◌, refl, Bool, true, false, cond, List, [], ◌∷◌, length, map, subst}
 use Rattle.std.proofs.lemmas.Bool.{not-true}
 use Rattle.std.specs.Prelude.{not}
 use Rattle.qh_model.specs.Sets.{In, Once}

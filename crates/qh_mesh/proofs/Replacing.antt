@@ -1,5 +1,5 @@
 -- From the steps of a replacement to what it leaves.
-use Rattle.std.proofs.Common.{◌≡◌, ◌≢◌, ℕ, zero, suc, ◌+◌, ◌-◌, ◌*◌, ◌/◌, ◌%◌, ◌<◌, ◌≤◌, arith, ap, sym, ◌∙◌, refl, Bool, true, false, ◌⊎◌, inl, inr, List, length}
+use Rattle.std.proofs.Common.{◌≡◌, ◌≢◌, ℕ, zero, suc, ◌+◌, ◌*◌, ◌/◌, ◌<◌, ◌≤◌, arith, ap, sym, ◌∙◌, refl, Bool, true, false, ◌⊎◌, inl, inr, List, length}
 use Rattle.std.proofs.lemmas.Bool.{both_ways, not-true, not_from_false}
 use Rattle.std.specs.Prelude.{not}
 use Rattle.qh_mesh.specs.declared.facets.Side.{Side}
@@ -98,10 +98,6 @@ marked_woven s0 s1 vs horizon m c = record {
 pub outers_apart : (s0 : List Side) (sn : ℕ → Bool) (vs : List FacetNo) (horizon : List ℕ) → Cut s0 sn vs horizon → (i j : ℕ) → i < j → j < length horizon → twin_in s0 (at horizon i) ≢ twin_in s0 (at horizon j)
 outers_apart s0 sn vs horizon c i j l k e =
     c.horizon_apart i j l k (sym (c.net.twin (at horizon i) (c.seen_live (at horizon i) (c.horizon_seen i (omega arith)))) ∙ ap (twin_in s0) e ∙ c.net.twin (at horizon j) (c.seen_live (at horizon j) (c.horizon_seen j k)))
-
--- a side across the horizon is not on the horizon
-pub outers_out : (s0 : List Side) (sn : ℕ → Bool) (vs : List FacetNo) (horizon : List ℕ) → Cut s0 sn vs horizon → (i j : ℕ) → i < length horizon → j < length horizon → twin_in s0 (at horizon i) ≢ at horizon j
-outers_out s0 sn vs horizon c i j l k e = both_ways (sn (at horizon j)) (ap sn (sym e) ∙ c.horizon_out i l) (c.horizon_seen j k)
 
 -- the surface after its outer twins name the cone
 pub record Tied (s0 s3 : List Side) (vs : List FacetNo) (horizon : List ℕ) (made : List FacetNo) : Type 0 where

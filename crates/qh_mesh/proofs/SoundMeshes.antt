@@ -1,6 +1,6 @@
 -- Meshes that are sound: the simplex, what a step leaves, and that both close up.
 use Rattle.std.proofs.Common.{◌≡◌, ◌≢◌, ℕ, ◌/◌, arith, ap, sym, ◌∙◌, refl, true, false, ◌⊎◌, inl, inr, List, [], ◌∷◌, subst}
-use Rattle.std.specs.Prelude.{ℤ, pos, ◌+ℤ◌, ◌<ℤ◌, ◌≤ℤ◌, neg_ℤ}
+use Rattle.std.specs.Prelude.{ℤ, pos, ◌+ℤ◌, ◌<ℤ◌, ◌≤ℤ◌}
 use Rattle.std.proofs.lemmas.Int.{ints, by_lt_z}
 use Rattle.std.proofs.lemmas.Bool.{cases_Bool}
 use Rattle.qh_model.specs.Vector.{Vector}
@@ -19,7 +19,7 @@ use Rattle.qh_model.proofs.surfaces.SurfaceLaws.{rise_is_vol}
 use Rattle.qh_model.proofs.surfaces.Simplex.{simplex_sound}
 use Rattle.qh_model.proofs.surfaces.Rewired.{replace_keeps}
 use Rattle.qh_model.proofs.surfaces.Closed.{sound_is_closed, sound_has_volume}
-use Rattle.qh_model.proofs.algebra.VectorIdentities.{vol-flip, vol-turn, vol-flip_last}
+use Rattle.qh_model.proofs.algebra.VectorIdentities.{vol-flip_last}
 use Rattle.qh_mesh.specs.declared.facets.FacetNo.{FacetNo}
 use Rattle.qh_mesh.specs.Cells.{simplex_of}
 use Rattle.qh_mesh.specs.Replacement.{number, is_listed, IsLive, edge_start, edge_end, twin_of, HasTwins}

@@ -1,6 +1,5 @@
 -- Walks that can be walked back: they do not repeat, so they end; and two of them that meet began together.
-use Rattle.std.proofs.Common.{◌≡◌, ◌≢◌, ℕ, zero, suc, ◌<◌, ◌≤◌, arith, ap, sym, ◌∙◌, Bool, true, false, cond, eqb, ◌⊎◌, inl, inr}
-use Rattle.std.proofs.lemmas.Bool.Decides.{eqb_tells}
+use Rattle.std.proofs.Common.{◌≡◌, ◌≢◌, ℕ, zero, suc, ◌<◌, ◌≤◌, arith, sym}
 use Rattle.qh_mesh.specs.Nets.{walk}
 use Rattle.qh_mesh.proofs.Pigeonhole.{pigeon}
 

@@ -1,16 +1,15 @@
 -- The blocks of a rising list, their extreme ids, and the hull of these.
-use Rattle.std.proofs.Common.{ℕ, zero, suc, ◌≡◌, ◌+◌, ◌-◌, ◌*◌, ◌≤◌, ◌<◌, ◌⊎◌, inl, inr, List, [], ◌∷◌, ◌++◌, length, get_or, take, drop, All, sym, subst, refl, arith}
-use Rattle.std.specs.Prelude.{◌↔◌}
+use Rattle.std.proofs.Common.{ℕ, ◌≡◌, ◌+◌, ◌-◌, ◌≤◌, ◌<◌, ◌⊎◌, inl, inr, List, [], ◌++◌, length, get_or, take, drop, All, subst, arith}
 use Rattle.std.specs.List.Sorted.{IsStrictlyIncreasing}
 use Rattle.std.proofs.lemmas.Grind.{common_steps}
 use Rattle.qh_model.specs.Vector.{Vector}
 use Rattle.qh_model.specs.Predicates.{place}
 use Rattle.qh_model.specs.Sets.{In, Members}
-use Rattle.qh_model.specs.Cut.{IsCut, IsInBlock, bound, block_count, positions}
+use Rattle.qh_model.specs.Cut.{IsCut, IsInBlock, bound, block_count}
 use Rattle.qh_model.specs.DistinctIds.{IsIdSet}
 use Rattle.qh_model.specs.Extreme.{Extreme, Others}
 use Rattle.qh_model.specs.Hull.{AreExtremes, BodyValue, IsBody}
-use Rattle.qh_model.proofs.Cuts.{block_ends, blocks_cover, bounds_order, cut_rises}
+use Rattle.qh_model.proofs.Cuts.{blocks_cover, bounds_order, cut_rises}
 use Rattle.qh_model.proofs.Members.{All-In, In-get_or, in_at, All-of}
 use Rattle.qh_model.proofs.lists.Rising.{rising_between, rising_part, rising_append, part_at}
 use Rattle.qh_model.proofs.lists.Joined.{in_append, of_append}
@@ -53,10 +52,6 @@ in_block ids bounds k p b h =
 -- an id of a block is one of the list
 block_within : (ids bounds : List ℕ) (k i : ℕ) → k < block_count bounds → In i (block_ids ids bounds k) → In i ids
 block_within ids bounds k i h m = let s = stands ids bounds k i h m in subst (λ x. In x ids) s.is (In-get_or ids s.at 0 s.inside)
-
--- the ids of a block are indices
-pub block_indices : (pts : List Vector) (ids bounds : List ℕ) (k : ℕ) → k < block_count bounds → AreIndices pts ids → AreIndices pts (block_ids ids bounds k)
-block_indices pts ids bounds k h all = All-of (λ i. i < length pts) (block_ids ids bounds k) (λ i m. All-In (λ i. i < length pts) ids i all (block_within ids bounds k i h m))
 
 -- they rise and have distinct points
 pub block_set : (pts : List Vector) (ids bounds : List ℕ) (k : ℕ) → k < block_count bounds → IsIdSet pts ids → IsIdSet pts (block_ids ids bounds k)

@@ -17,7 +17,6 @@ use Rattle.qh_mesh.proofs.ListedFacets.{listed_at}
 use Rattle.qh_plane.specs.PlaceKeys.{AreIndices}
 use Rattle.qh_block.specs.PlaneWalks.{AreCornersBelow}
 use Rattle.qh_block.specs.Faces.{corners_of, IsListedCorner}
-use Rattle.qh_block.proofs.finished.Extensions.{read_number}
 
 -- ---- sorted, and freed from repeated ids
 -- the members stay
@@ -28,9 +27,6 @@ kept_members given sorted kept p is i = (
 )
 
 -- ---- corners
--- a facet that was read from the list is listed
-pub read_listed : (vs : List FacetNo) (j : ℕ) (f : FacetNo) → j < length vs → f ≡ get_or vs j f → is_listed vs f.0 ≡ true
-read_listed vs j f h e = subst (λ g. is_listed vs g ≡ true) (read_number vs j f h e) (listed_at vs (number vs j) j h refl)
 
 -- one facet more
 corners_push : (fs : List StoredFacet) (vs : List FacetNo) (f : FacetNo) → corners_of fs (vs ++ f ∷ []) ≡ corners_of fs vs ++ (facet_at fs f.0).i ∷ (facet_at fs f.0).j ∷ (facet_at fs f.0).k ∷ []

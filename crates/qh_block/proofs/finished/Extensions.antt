@@ -1,15 +1,14 @@
 -- Walks in one plane that go on.
-use Rattle.std.proofs.Common.{◌≡◌, ◌∙◌, get_or-set_same, get_or-set_other, set, ◌⊎◌, inl, inr, ℕ, zero, suc, ◌+◌, ◌*◌, ◌/◌, ◌<◌, ◌≤◌, List, [], ◌∷◌, ◌++◌, length, ap, sym, subst, refl, arith, Bool, true, false, cond, append_assoc, get_or, below_more, eq-eqb}
+use Rattle.std.proofs.Common.{◌≡◌, ◌∙◌, get_or-set_same, get_or-set_other, set, ◌⊎◌, inl, inr, ℕ, suc, ◌+◌, ◌/◌, ◌<◌, ◌≤◌, List, [], ◌∷◌, ◌++◌, length, ap, sym, subst, refl, arith, Bool, true, false, cond, append_assoc, get_or, below_more, eq-eqb}
 use Rattle.std.proofs.lemmas.Bool.{eqb-true, or_cases, or_left, or_right}
 use Rattle.std.proofs.lemmas.List.Sums.{sum_by-set}
-use Rattle.std.proofs.lemmas.List.{length-set, get_or_append_left, get_or_past, get_or_read}
+use Rattle.std.proofs.lemmas.List.{length-set, get_or_append_left, get_or_read}
 use Rattle.std.specs.Prelude.{◌||◌, nat_eq, not}
 use Rattle.qh_model.specs.Vector.{Vector}
-use Rattle.qh_model.specs.StoredSurface.{StoredFacet, no_facet, surface_of}
+use Rattle.qh_model.specs.StoredSurface.{StoredFacet, surface_of}
 use Rattle.qh_model.specs.FacetPlanes.{IsLevelFacet}
 use Rattle.qh_mesh.specs.declared.facets.FacetNo.{FacetNo}
 use Rattle.qh_mesh.specs.Replacement.{IsLive, is_listed, number}
-use Rattle.qh_mesh.proofs.NumberCases.{by_le}
 use Rattle.qh_block.specs.PlaneWalks.{mark_at, IsCrossed, IsExtension, AreCrossed}
 
 -- three tests

@@ -7,7 +7,7 @@ use Rattle.qh_model.specs.Vector.{Vector}
 use Rattle.qh_model.specs.Predicates.{place, cross}
 use Rattle.qh_model.specs.Sets.{In, Members}
 use Rattle.qh_model.specs.DistinctIds.{IsIdSet}
-use Rattle.qh_model.specs.Extreme.{Others, Extreme}
+use Rattle.qh_model.specs.Extreme.{Extreme}
 use Rattle.qh_model.specs.SupportingPlane.{OnPlane}
 use Rattle.qh_model.specs.Polygon.{IsPolygon}
 use Rattle.qh_model.specs.Surface.{Surface, Side, IsCorner}
@@ -17,7 +17,6 @@ use Rattle.qh_model.specs.FacetPlanes.{IsLevelFacet}
 use Rattle.qh_model.specs.CompletenessLaws.{CornerInPlane}
 use Rattle.qh_model.specs.StoredSurface.{StoredFacet, surface_of}
 use Rattle.qh_model.proofs.extremes.Directions.{along_itself}
-use Rattle.qh_model.proofs.extremes.ExtremeIds.{combination_within}
 use Rattle.qh_model.proofs.polygons.Direction.{polygon_as}
 use Rattle.qh_model.proofs.surfaces.Complete.{extremes_of_plane}
 use Rattle.qh_model.proofs.surfaces.FacetPlanes.{plane_walk_finds_all}

@@ -1,6 +1,7 @@
 -- Signs of products. In a signature brackets are needed: `≤ℤ` binds tighter than `+ℤ` and `*ℤ`.
 use Rattle.std.proofs.Common.{◌≡◌, ℕ, zero, suc, ◌*◌, ◌≤◌, arith, ap, sym, ◌∙◌, refl, ◌⊎◌, inl, inr}
 use Rattle.std.proofs.Math.Nat.{mul-le-mul}
+use Rattle.std.proofs.Math.IntN.{*ℤ-zero}
 use Rattle.std.proofs.lemmas.Int.{ints, by_lt_z}
 use Rattle.std.specs.Prelude.{ℤ, pos, negsuc, ◌+ℤ◌, ◌-ℤ◌, ◌*ℤ◌, neg_ℤ, ◌≤ℤ◌, ◌<ℤ◌}
 use lib.IntN.{ℤ_discrete}
@@ -75,6 +76,10 @@ both_le x p q = omega (arith, ints)
 pub cancel-zero : (a b : ℤ) → pos 0 <ℤ a → a *ℤ b ≡ pos 0 → b ≡ pos 0
 cancel-zero a b h k = let t = le_both (a *ℤ b) k in both_le b (cancel-nonpos a b h t.0) (cancel-nonneg a b h t.1)
 
+-- a product with 0
+pub product_zero : (l y : ℤ) → y ≡ pos 0 → l *ℤ y ≡ pos 0
+product_zero l y e = ap (λ v. l *ℤ v) e ∙ *ℤ-zero l
+
 -- a product that is 0 has a factor 0
 pub zero_product : (a b : ℤ) → a *ℤ b ≡ pos 0 → (a ≡ pos 0) ⊎ (b ≡ pos 0)
 zero_product (pos zero) b k = inl refl
@@ -83,10 +88,6 @@ zero_product (negsuc n) b k = inr (cancel-zero (pos (suc n)) b (omega (arith, in
   where
     turned : (n : ℕ) (b : ℤ) → negsuc n *ℤ b ≡ pos 0 → pos (suc n) *ℤ b ≡ pos 0
     turned n b k = omega (arith, ints, product_is (negsuc n) b, product_is (pos (suc n)) b)
-
--- the sign step of the horizon, over abstract numbers
-pub sign_step : (ap by ay bp ab py : ℤ) → ap *ℤ by -ℤ ay *ℤ bp ≡ ab *ℤ py → pos 0 <ℤ ap → pos 0 ≤ℤ by → ay ≤ℤ pos 0 → pos 0 ≤ℤ bp → ab <ℤ pos 0 → py ≤ℤ pos 0
-sign_step ap by ay bp ab py e h1 h2 h3 h4 h5 = grind (arith, ints, mul-nonneg, mul-nonpos_nonneg, mul-pos)
 
 -- a negative number and a positive one
 pub mul-neg_pos : (a b : ℤ) → a <ℤ pos 0 → pos 0 <ℤ b → (a *ℤ b) <ℤ pos 0

@@ -228,7 +228,7 @@ zeros-value env [] e = refl
 zeros-value env (t ∷ p) e = zeros-split env t.0 (value_m env t.1) (value_p env p) (is_zero t.0) (zeros p) refl (zeros-value env p) e
 
 -- what differ by 0 are equal
-equal_from_zero : (a b : ℤ) → a -ℤ b ≡ pos 0 → a ≡ b
+pub equal_from_zero : (a b : ℤ) → a -ℤ b ≡ pos 0 → a ≡ b
 equal_from_zero a b e = omega (arith, ints)
 
 -- the two sides are equal where the normal form of their difference is zero

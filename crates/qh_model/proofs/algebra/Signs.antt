@@ -11,6 +11,10 @@ not_less a b h k = omega (arith, ints)
 pub less_one_way : (a b : ℤ) → a <ℤ b → b <ℤ a → ⊥
 less_one_way a b h k = omega (arith, ints)
 
+-- what is less is not equal
+pub less_differ : (a b : ℤ) → a <ℤ b → a ≡ b → ⊥
+less_differ a b h e = omega (arith, ints)
+
 -- what is less is at most as much
 pub less_le : (a b : ℤ) → a <ℤ b → a ≤ℤ b
 less_le a b h = omega (arith, ints)

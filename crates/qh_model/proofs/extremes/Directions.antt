@@ -5,11 +5,12 @@ use Rattle.std.specs.Prelude.{ℤ, pos, negsuc, ◌+ℤ◌, ◌*ℤ◌, neg_ℤ,
 use Rattle.qh_model.specs.Vector.{Vector, origin, minus, cross_product, dot}
 use Rattle.qh_model.specs.Predicates.{cross, vol, left, AreInLine}
 use Rattle.qh_model.specs.FaceLaws.{IsAlong}
-use Rattle.qh_model.proofs.algebra.Order.{mul-nonneg, mul-pos, cancel-nonneg, cancel-nonpos, cancel-pos, cancel-zero, le_antisym, square-nonneg}
+use Rattle.qh_model.proofs.algebra.Order.{mul-nonneg, mul-pos, cancel-nonneg, cancel-nonpos, cancel-pos, cancel-zero, le_antisym, square-nonneg, neg-positive, product_zero}
 use Rattle.qh_model.proofs.algebra.Ring.{ring}
 use Rattle.qh_model.proofs.algebra.Ring.Expr.{var, con, add, sub as less, mul, neg}
 use Rattle.qh_model.proofs.algebra.VectorIdentities.{vec, put, dotE, crossE, subE, combine3, opposite, vector_path, dot-minus, vol-dot, vol-linear, left-dot, dot_comm}
 use Rattle.qh_model.proofs.algebra.Signs.{equal_nonpos, equal_positive}
+use Rattle.qh_model.proofs.algebra.Integers.{zero_mul}
 
 -- ---- signs under a positive scale
 -- a scale above 0
@@ -36,10 +37,7 @@ positive_along s t v w h k e l = cancel-pos (pos t) w (positive_factor t k) (equ
 
 -- 0
 pub zero_along : (s t : ℕ) (v w : ℤ) → 0 < t → pos s *ℤ v ≡ pos t *ℤ w → v ≡ pos 0 → w ≡ pos 0
-zero_along s t v w k e z = cancel-zero (pos t) w (positive_factor t k) (sym e ∙ ap (λ x. pos s *ℤ x) z ∙ times_zero (pos s))
-  where
-    times_zero : (s : ℤ) → s *ℤ pos 0 ≡ pos 0
-    times_zero s = omega (arith, ints)
+zero_along s t v w k e z = cancel-zero (pos t) w (positive_factor t k) (sym e ∙ product_zero (pos s) v z)
 
 -- ---- scalar products and turns along one direction
 -- scalar products
@@ -140,10 +138,7 @@ along_or_opposite n r h k e = by_lt_z (pos 0) s (λ l. inl (along_by n r s t l p
     p = square-positive n h
 
     above : s <ℤ pos 0 → pos 0 <ℤ neg_ℤ s
-    above q = turn s q
-      where
-        turn : (s : ℤ) → s <ℤ pos 0 → pos 0 <ℤ neg_ℤ s
-        turn s q = omega (arith, ints)
+    above q = neg-positive s q
 
     turned : (x y : ℤ) → t *ℤ y ≡ s *ℤ x → neg_ℤ s *ℤ x ≡ t *ℤ neg_ℤ y
     turned x y e = signs s t x y e
@@ -153,10 +148,7 @@ along_or_opposite n r h k e = by_lt_z (pos 0) s (λ l. inl (along_by n r s t l p
             ring (s ∷ t ∷ x ∷ y ∷ []) (mul (neg (var 0)) (var 2)) (neg (mul (var 0) (var 2))) refl ∙ ap neg_ℤ (sym e) ∙ ring (s ∷ t ∷ x ∷ y ∷ []) (neg (mul (var 1) (var 3))) (mul (var 1) (neg (var 3))) refl
 
     none : (x y : ℤ) → t *ℤ y ≡ s *ℤ x → s ≡ pos 0 → y ≡ pos 0
-    none x y e z = cancel-zero t y p (e ∙ ap (λ v. v *ℤ x) z ∙ zero_times x)
-      where
-        zero_times : (x : ℤ) → pos 0 *ℤ x ≡ pos 0
-        zero_times x = omega (arith, ints)
+    none x y e z = cancel-zero t y p (e ∙ ap (λ v. v *ℤ x) z ∙ zero_mul x)
 
     flat : s ≡ pos 0 → r ≡ origin
     flat z = vector_path r origin (none n.x r.x e.x z) (none n.y r.y e.y z) (none n.z r.z e.z z)

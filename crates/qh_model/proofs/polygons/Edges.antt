@@ -15,10 +15,12 @@ use Rattle.qh_model.specs.FaceLaws.{IsAlong, SpannedByExtremes}
 use Rattle.qh_model.specs.Polygon.{AlongPath, AroundCycle, TurnsLeft}
 use Rattle.qh_model.specs.Polygons.{IsFacePolygon, FollowsAlong, Follows}
 use Rattle.qh_model.specs.EdgeLaws.{OneFaceEachWay, OtherFace}
-use Rattle.qh_model.proofs.algebra.Order.{mul-pos, mul-nonneg_nonpos, mul-pos_neg, mul-neg_neg, cancel-nonpos, cancel-zero, zero_or_not, le_antisym, positive_le}
+use Rattle.qh_model.proofs.algebra.Order.{mul-pos, mul-nonneg_nonpos, mul-pos_neg, mul-neg_neg, cancel-nonpos, cancel-zero, zero_or_not, le_antisym, positive_le, product_zero}
 use Rattle.qh_model.proofs.algebra.Ring.{ring}
 use Rattle.qh_model.proofs.algebra.Ring.Expr.{add, sub as less, mul}
 use Rattle.qh_model.proofs.algebra.VectorIdentities.{opposite, dot-opposite, vec, put, dotE, combine3, edge_product, vol-first, vol-second, vol-third, vol-flip, vol-swap_last, vol-dot, left-dot, left-flip, left-linear, in_line-vol, in_line-left, in_line-twice, dot_comm, in_line-last}
+use Rattle.qh_model.proofs.algebra.Signs.{less_differ}
+use Rattle.qh_model.proofs.algebra.Integers.{mul_comm}
 use Rattle.qh_model.proofs.extremes.Directions.{Parallel, parallel_normal, along_by, square-positive, from_plane, vol_along, in_line-flip, zero_along}
 use Rattle.qh_model.proofs.extremes.ExtremeIds.{Listed, listed_itself, listed_part, combination_of_extremes}
 use Rattle.qh_model.proofs.extremes.Faces.{extremes_of_face}
@@ -242,13 +244,6 @@ module _ (at : ℕ → Vector) (ids : List ℕ) (d : HasDistinctPoints at (Membe
 both_zero : (x y : ℤ) → x ≡ neg_ℤ y → x ≤ℤ pos 0 → y ≤ℤ pos 0 → x ≡ pos 0
 both_zero x y e h k = omega (arith, ints)
 
--- a product with 0
-product_zero : (l y : ℤ) → y ≡ pos 0 → l *ℤ y ≡ pos 0
-product_zero l y h = ap (λ v. l *ℤ v) h ∙ zero l
-  where
-    zero : (l : ℤ) → l *ℤ pos 0 ≡ pos 0
-    zero l = omega (arith, ints)
-
 -- a face seen from a triangle of its plane
 seen_from : (at : ℕ → Vector) (A : ℕ → Type 0) (i j k u v y : ℕ) (q : List ℕ) → IsFacePolygon at A i j k q → IsAlong (cross (at i) (at j) (at k)) (cross (at u) (at v) (at y)) → vol (at i) (at j) (at k) (at u) ≡ pos 0 → IsFacePolygon at A u v y q
 seen_from at A i j k u v y q p h z =
@@ -315,14 +310,11 @@ true_below (negsuc n) h = omega (arith, ints)
 gift_wrap : (u v a b p y : Vector) → pos 0 <ℤ vol u v a b → pos 0 <ℤ vol u v p y → pos 0 <ℤ (vol u v a p *ℤ vol u v b y -ℤ vol u v b p *ℤ vol u v a y)
 gift_wrap u v a b p y h k = finish (vol u v a p *ℤ vol u v b y) (vol u v a y) (vol u v b p) (vol u v a b *ℤ vol u v p y) (edge_product u v a b p y) (mul-pos (vol u v a b) (vol u v p y) h k)
   where
-    swapped : (a b : ℤ) → a *ℤ b ≡ b *ℤ a
-    swapped a b = omega (arith, ints)
-
     order : (x y z g : ℤ) → x -ℤ y ≡ g → z ≡ y → pos 0 <ℤ g → pos 0 <ℤ (x -ℤ z)
     order x y z g h e k = omega (arith, ints)
 
     finish : (x s t g : ℤ) → x -ℤ s *ℤ t ≡ g → pos 0 <ℤ g → pos 0 <ℤ (x -ℤ t *ℤ s)
-    finish x s t g e h = order x (s *ℤ t) (t *ℤ s) g e (swapped t s) h
+    finish x s t g e h = order x (s *ℤ t) (t *ℤ s) g e (mul_comm t s) h
 
 module _ (at : ℕ → Vector) (ids : List ℕ) (d : HasDistinctPoints at (Members ids)) (solid : HasTetrahedron at (Members ids)) (i j k : ℕ) (q : List ℕ) (u v : ℕ) (way : Way at (Members ids) i j k q u v) (x : Third at (Members ids) i j k u v) where
   abbrev height : ℕ → ℤ
@@ -392,10 +384,7 @@ module _ (at : ℕ → Vector) (ids : List ℕ) (d : HasDistinctPoints at (Membe
   triple w = record { has_i = (has_v at ids d i j k q u v way).0.0; has_j = (has_u at ids d i j k q u v way).0.0; has_k = w.has_w; area = area; supports = supports }
     where
       area : ¬ (AreInLine (at v) (at u) (at w.w))
-      area e = never _ (under w.w w.low) (sym (vol-both (at u) (at v) (at x.w) (at w.w)) ∙ in_line-vol (at v) (at u) (at w.w) (at x.w) e)
-        where
-          never : (x : ℤ) → x <ℤ pos 0 → x ≡ pos 0 → ⊥
-          never x h e = omega (arith, ints)
+      area e = less_differ _ (pos 0) (under w.w w.low) (sym (vol-both (at u) (at v) (at x.w) (at w.w)) ∙ in_line-vol (at v) (at u) (at w.w) (at x.w) e)
 
       supports : (l : ℕ) → Members ids l → vol (at v) (at u) (at w.w) (at l) ≤ℤ pos 0
       supports l h = by_lt_z (height l) (pos 0) (w.first l h) (λ r. level (le_antisym (height l) (pos 0) (way.triple.supports l h) r))

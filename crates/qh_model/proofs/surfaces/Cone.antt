@@ -197,10 +197,6 @@ share_other h p k l a = pick (ℕ_discrete l p)
     pick (yes e) = absurd (a e)
     pick (no n) = refl
 
--- a sign, told otherwise
-cone_case : (x y : ℤ) → x ≡ y → x <ℤ pos 0 → y <ℤ pos 0
-cone_case x y e h = omega (arith, ints)
-
 -- a corner of the surface that's none of a side's ends is strictly below the facet or its neighbour
 pub below_one : (m : Surface) (home : ℕ → Weighted) (o : Weighted) → IsWhole m → IsInner m home o → (at : ℕ → Weighted) → IsStrict m at → (f : ℕ) → In f m.live → (s : Side) (l : ℕ) → Old m l → l ≢ start m f s → l ≢ end m f s
     → (above (at (start m f s)) (at (end m f s)) (at (rest m f s)) (at l) <ℤ pos 0) ⊎ (pos 0 <ℤ above (at (start m f s)) (at (end m f s)) (at (far m f s)) (at l))

@@ -11,6 +11,8 @@ use Rattle.std.proofs.lemmas.Bool.{and_parts, both_ways, not-true}
 use Rattle.std.specs.Prelude.{ℤ, pos, negsuc, ◌+ℤ◌, neg_ℤ, ◌≤ℤ◌, ◌<ℤ◌, ◌&&◌, not}
 use Rattle.qh_model.proofs.algebra.Ring.{ring}
 use Rattle.qh_model.proofs.algebra.Ring.Expr.{add}
+use Rattle.qh_model.proofs.algebra.Signs.{less_differ, equal_negative}
+use Rattle.qh_model.proofs.algebra.Order.{negative_le}
 use Rattle.qh_model.proofs.surfaces.Determinants.{put4, quad, dot4E, above-turn, above-flip, above-first, above-second, above-third}
 use Rattle.qh_model.proofs.surfaces.VisibleFacets.{Corners, Over, Cut, none_cut_off}
 
@@ -59,14 +61,10 @@ rise_over m at w f i s y =
     rise_side m at (m.over f s) (m.back f s) y ∙ ap (λ u. above (at u) (at (end m (m.over f s) (m.back f s))) (at (far m f s)) y) t.start_is ∙ ap (λ v. above (at (end m f s)) (at v) (at (far m f s)) y) t.end_is
 
 -- ---- what lies strictly below a facet shows its corners to be different
--- no number is below 0 and 0
-lt_zero : (x : ℤ) → x <ℤ pos 0 → x ≡ pos 0 → ⊥
-lt_zero x h e = omega (arith, ints)
-
 -- the ends of a side differ
 pub ends_differ : (m : Surface) (at : ℕ → Weighted) (c : Weighted) → IsInner m at c → (f : ℕ) → In f m.live → (s : Side) → start m f s ≢ end m f s
 ends_differ m at c h f i s e =
-    lt_zero (rise m at f c) (h f i)
+    less_differ (rise m at f c) (pos 0) (h f i)
     (rise_side m at f s c ∙ ap (λ u. above (at u) (at (end m f s)) (at (rest m f s)) c) e ∙ twice (at (end m f s)) (at (rest m f s)) c)
   where
     own : (x : ℤ) → x ≡ neg_ℤ x → x ≡ pos 0
@@ -129,20 +127,14 @@ weak m at h f g i j l c = pick (corner_test m f l)
     zero_le : (x : ℤ) → x ≡ pos 0 → x ≤ℤ pos 0
     zero_le x e = omega (arith, ints)
 
-    lt_le : (x : ℤ) → x <ℤ pos 0 → x ≤ℤ pos 0
-    lt_le x e = omega (arith, ints)
-
     pick : IsCorner m f l ⊎ (¬ (IsCorner m f l)) → rise m at f (at l) ≤ℤ pos 0
     pick (inl k) = zero_le (rise m at f (at l)) (rise_own m at f l k)
-    pick (inr k) = lt_le (rise m at f (at l)) (h f g i j l c k)
+    pick (inr k) = negative_le (rise m at f (at l)) (h f g i j l c k)
 
 -- each side bends
 pub bends : (m : Surface) (at : ℕ → Weighted) (real : ℕ → Weighted) (c : Weighted) → IsWhole m → IsInner m real c → IsStrict m at → (f : ℕ) → In f m.live → (s : Side) → above (at (start m f s)) (at (end m f s)) (at (rest m f s)) (at (far m f s)) <ℤ pos 0
 bends m at real c w n h f i s =
-    moved (rise m at f (at (far m f s))) _ (rise_side m at f s (at (far m f s))) (h f (m.over f s) i (w f i s).live (far m f s) (corner_rest m (m.over f s) (m.back f s)) (far_apart m real c w n f i s))
-  where
-    moved : (x y : ℤ) → x ≡ y → x <ℤ pos 0 → y <ℤ pos 0
-    moved x y e h = omega (arith, ints)
+    equal_negative (rise m at f (at (far m f s))) _ (rise_side m at f s (at (far m f s))) (h f (m.over f s) i (w f i s).live (far m f s) (corner_rest m (m.over f s) (m.back f s)) (far_apart m real c w n f i s))
 
 -- ---- connectedness over weighted points
 -- is a number above 0?

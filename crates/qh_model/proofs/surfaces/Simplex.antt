@@ -14,7 +14,8 @@ use Rattle.qh_model.proofs.algebra.Ring.Expr.{add}
 use Rattle.qh_model.proofs.surfaces.Determinants.{quad, QE, aboveE, put4, above-first, above-second, above-third, above-turn_last}
 use Rattle.qh_model.proofs.surfaces.Facets.{rise_own, plane-is}
 use Rattle.qh_model.proofs.surfaces.CramersRule.{cramer}
-use Rattle.qh_model.proofs.algebra.Order.{zero_product}
+use Rattle.qh_model.proofs.algebra.Order.{zero_product, product_zero}
+use Rattle.qh_model.proofs.algebra.Signs.{less_differ}
 use Rattle.qh_model.proofs.surfaces.SimplexBoundary.{simplex_boundary_sound}
 
 -- what holds of 0, 1, 2 and 3
@@ -239,25 +240,16 @@ middle_is_below a b c s t u v p h hs ht hu hv off = by_lt_z (above a b c (middle
     zeros : (x a b c d : ℤ) → x ≡ a +ℤ b +ℤ c +ℤ d → pos 0 ≤ℤ x → a ≤ℤ pos 0 → b ≤ℤ pos 0 → c ≤ℤ pos 0 → d ≤ℤ pos 0 → (a ≡ pos 0) × (b ≡ pos 0) × (c ≡ pos 0) × (d ≡ pos 0)
     zeros x a b c d e h ha hb hc hd = (omega (arith, ints), omega (arith, ints), omega (arith, ints), omega (arith, ints))
 
-    times_zero : (d x : ℤ) → x ≡ pos 0 → d *ℤ x ≡ pos 0
-    times_zero d x e = ap (λ v. d *ℤ v) e ∙ zero d
-      where
-        zero : (d : ℤ) → d *ℤ pos 0 ≡ pos 0
-        zero d = omega (arith, ints)
-
     total : (l a b c d : ℤ) → l ≡ a +ℤ b +ℤ c +ℤ d → a ≡ pos 0 → b ≡ pos 0 → c ≡ pos 0 → d ≡ pos 0 → l ≡ pos 0
     total l a b c d e ha hb hc hd = omega (arith, ints)
-
-    below : (x : ℤ) → x <ℤ pos 0 → x ≡ pos 0 → ⊥
-    below x h e = omega (arith, ints)
 
     on : (y : Weighted) → above a b c y ≡ pos 0 → weighted_dot (plane_of a b c) y ≡ pos 0
     on y e = plane-is a b c y ∙ e
 
     never : (above a b c s ≡ pos 0) × (above a b c t ≡ pos 0) × (above a b c u ≡ pos 0) × (above a b c v ≡ pos 0) → ⊥
     never z = pick (zero_product (above s t u v) (weighted_dot (plane_of a b c) p) (total (above s t u v *ℤ weighted_dot (plane_of a b c) p) (above p t u v *ℤ weighted_dot (plane_of a b c) s) (above s p u v *ℤ weighted_dot (plane_of a b c) t) (above s t p v *ℤ weighted_dot (plane_of a b c) u) (above s t u p *ℤ weighted_dot (plane_of a b c) v) (cramer (plane_of a b c) s t u v p)
-        (times_zero (above p t u v) (weighted_dot (plane_of a b c) s) (on s z.0)) (times_zero (above s p u v) (weighted_dot (plane_of a b c) t) (on t z.1)) (times_zero (above s t p v) (weighted_dot (plane_of a b c) u) (on u z.2)) (times_zero (above s t u p) (weighted_dot (plane_of a b c) v) (on v z.3))))
+        (product_zero (above p t u v) (weighted_dot (plane_of a b c) s) (on s z.0)) (product_zero (above s p u v) (weighted_dot (plane_of a b c) t) (on t z.1)) (product_zero (above s t p v) (weighted_dot (plane_of a b c) u) (on u z.2)) (product_zero (above s t u p) (weighted_dot (plane_of a b c) v) (on v z.3))))
       where
         pick : (above s t u v ≡ pos 0) ⊎ (weighted_dot (plane_of a b c) p ≡ pos 0) → ⊥
-        pick (inl e) = below (above s t u v) h e
+        pick (inl e) = less_differ (above s t u v) (pos 0) h e
         pick (inr e) = off (sym (plane-is a b c p) ∙ e)

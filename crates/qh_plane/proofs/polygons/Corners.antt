@@ -6,7 +6,7 @@ use Rattle.qh_model.proofs.algebra.Order.{le_antisym, mul-pos, cancel-nonpos, ca
 use Rattle.qh_model.proofs.algebra.Ring.{ring}
 use Rattle.qh_model.proofs.algebra.Ring.Expr.{var, add, sub as less, mul}
 use Rattle.qh_model.proofs.algebra.VectorIdentities.{vec, subE, crossE, dotE, put, dot-minus, left-flip}
-use Rattle.qh_model.proofs.algebra.Signs.{opposite_zero}
+use Rattle.qh_model.proofs.algebra.Signs.{opposite_zero, gap_positive}
 use Rattle.qh_model.specs.Vector.{Vector, minus, cross_product, dot}
 use Rattle.qh_model.specs.Predicates.{left}
 use Rattle.qh_model.specs.Extreme.{Extreme, Others}
@@ -92,13 +92,10 @@ across_sign : (N ha hb wa wb P : ℤ) → N *ℤ (ha *ℤ wb -ℤ hb *ℤ wa) �
 across_sign N ha hb wa wb P e p s b ab w aw =
     let k : (N *ℤ (ha *ℤ wb -ℤ hb *ℤ wa)) ≤ℤ pos 0 = subst (λ v. v ≤ℤ pos 0) (sym e) p in
     let d : (ha *ℤ wb -ℤ hb *ℤ wa) ≤ℤ pos 0 = cancel-nonpos N (ha *ℤ wb -ℤ hb *ℤ wa) s k in
-    let x : pos 0 <ℤ ((ha -ℤ hb) *ℤ wb) = mul-pos (ha -ℤ hb) wb (gap hb ha ab) w in
-    let y : pos 0 <ℤ (hb *ℤ (wb -ℤ wa)) = mul-pos hb (wb -ℤ wa) b (gap wa wb aw) in
+    let x : pos 0 <ℤ ((ha -ℤ hb) *ℤ wb) = mul-pos (ha -ℤ hb) wb (gap_positive hb ha ab) w in
+    let y : pos 0 <ℤ (hb *ℤ (wb -ℤ wa)) = mul-pos hb (wb -ℤ wa) b (gap_positive wa wb aw) in
     against (ha *ℤ wb -ℤ hb *ℤ wa) ((ha -ℤ hb) *ℤ wb) (hb *ℤ (wb -ℤ wa)) (split ha hb wa wb) d x y
   where
-    gap : (a b : ℤ) → a <ℤ b → pos 0 <ℤ (b -ℤ a)
-    gap a b h = omega (arith, ints)
-
     split : (ha hb wa wb : ℤ) → ha *ℤ wb -ℤ hb *ℤ wa ≡ (ha -ℤ hb) *ℤ wb +ℤ hb *ℤ (wb -ℤ wa)
     split ha hb wa wb =
         ring (ha ∷ hb ∷ wa ∷ wb ∷ []) (less (mul (var 0) (var 3)) (mul (var 1) (var 2))) (add (mul (less (var 0) (var 1)) (var 3)) (mul (var 1) (less (var 3) (var 2)))) refl

@@ -4,7 +4,8 @@ use Rattle.std.proofs.lemmas.Int.{ints}
 use Rattle.std.proofs.Math.Nat.{ne_of_lt}
 use Rattle.std.specs.Prelude.{ℤ, pos, neg_ℤ, ◌+ℤ◌, ◌*ℤ◌, ◌≤ℤ◌, ◌<ℤ◌, ◌↔◌}
 use Rattle.qh_model.proofs.algebra.Order.{cancel-zero, le_less}
-use Rattle.qh_model.proofs.algebra.VectorIdentities.{vector_path, left-dot, left-linear, left-turn, left-flip, in_line-twice, in_line-last}
+use Rattle.qh_model.proofs.algebra.VectorIdentities.{vector_path, left-dot, left-linear, left-turn, left-flip, in_line-twice, in_line-last, dot_comm}
+use Rattle.qh_model.proofs.algebra.Integers.{zero_mul}
 use Rattle.qh_model.proofs.extremes.Directions.{Parallel, parallel_normal, in_line-flip, square-positive}
 use Rattle.qh_model.specs.Extreme.{Extreme}
 use Rattle.qh_model.specs.Polygon.{IsPolygon, TurnsLeft}
@@ -93,14 +94,8 @@ turn_zero n a b c s p q z = vector_path (cross a b c) origin (none n.x (cross a 
     along : Parallel n (cross a b c)
     along = parallel_normal n a b c p q
 
-    commuted : (u v : Vector) → dot u v ≡ dot v u
-    commuted u v = omega (arith, ints)
-
-    zero_times : (x : ℤ) → pos 0 *ℤ x ≡ pos 0
-    zero_times x = omega (arith, ints)
-
     none : (x y : ℤ) → dot n n *ℤ y ≡ dot n (cross a b c) *ℤ x → y ≡ pos 0
-    none x y e = cancel-zero (dot n n) y s (e ∙ ap (λ t. t *ℤ x) (commuted n (cross a b c) ∙ sym (left-dot n a b c) ∙ z) ∙ zero_times x)
+    none x y e = cancel-zero (dot n n) y s (e ∙ ap (λ t. t *ℤ x) (dot_comm n (cross a b c) ∙ sym (left-dot n a b c) ∙ z) ∙ zero_mul x)
 
 module _ (pts : List Vector) (n : Vector) (i j k : ℕ) (h : IsPlanarSet pts (i ∷ j ∷ k ∷ []) n) (ij : i < j) (jk : j < k) where
   -- they are flat across the normal

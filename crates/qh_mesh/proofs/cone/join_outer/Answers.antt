@@ -1,7 +1,7 @@
 use Rattle.std.proofs.Common.{refl}
 use Rattle.qh_mesh.specs.Cells.{twin_in}
 use Rattle.qh_mesh.specs.Replacement.{at}
-use Rattle.qh_mesh.proofs.StepLemmas.{joined_more}
+use Rattle.qh_mesh.proofs.LoopSteps.{joined_more}
 use Rattle.qh_mesh.proofs.cone.join_outer.Goals as goal
 
 pub loop-j-preserved : goal.loop-j-preserved
