@@ -10,6 +10,7 @@ ghost use Rattle.qh_mesh.specs.Replacement.{number, at};
 use crate::facets::{ConeFacet, FacetNo, Side};
 use crate::turning::{after, turn};
 
+/// Marks the sides of a facet as seen.
 fn mark_facet(sides: &mut [Side], f: usize)
     requires { 3 * f + 2 < length sides.old }
     ensures { MarkedFacet sides.old sides.new f }
@@ -29,6 +30,7 @@ pub fn mark(sides: &mut [Side], visible: &[FacetNo])
     }
 }
 
+/// Adds a side to the horizon if its twin is not seen.
 fn add_horizon_side(sides: &[Side], e: usize, horizon: &mut Vec<usize>)
     requires side { e < length sides.now }
     requires twin { twin_in sides.now e < length sides.now }
@@ -209,6 +211,7 @@ pub fn write_cones(sides: &mut [Side], made: &[FacetNo], cone_facets: &[ConeFace
     }
 }
 
+/// Empties the place of a facet.
 fn blank_facet(sides: &mut [Side], f: usize)
     requires { 3 * f + 2 < length sides.old }
     ensures { BlankFacet sides.old sides.new f }

@@ -1,6 +1,7 @@
 -- The ids that are marked at the first key of each place are the distinct ids.
 use Rattle.std.proofs.Common.{◌≡◌, ◌≢◌, ℕ, ◌+◌, ◌*◌, ◌%◌, ◌/◌, ◌<◌, ◌≤◌, List, length, get_or, map, replicate, arith, ap, sym, subst, ◌∙◌, refl, ◌⊎◌, inl, inr, ⊎_elim, true, false, Bool}
 use Rattle.std.proofs.lemmas.Bool.Decides.{nat_tests}
+use Rattle.std.proofs.lemmas.Bool.{cases_lt}
 use Rattle.std.proofs.lemmas.List.{length-replicate}
 use Rattle.std.specs.Prelude.{IsPermutation}
 use Rattle.std.specs.List.{All, AllByRecursion as Every}
@@ -143,16 +144,13 @@ module _ (pts : List Vector) (all keys : List ℕ) (a : AllIds (length pts) all)
           off {c} h e = omega arith
 
       least : (y : ℕ) → In y keys → y / ROOM ≡ key_at pts i / ROOM → key_at pts i ≤ y
-      least y m e = go (lt_or (y % ROOM) i)
+      least y m e = go (cases_lt (y % ROOM) i)
         where
           t : IsKeyOf pts all y
           t = every_at (IsKeyOf pts all) keys y told m
 
           codes : place_code (place pts (y % ROOM)) ≡ place_code (place pts i)
           codes = sym (code_in_key pts (y % ROOM) t.known.small) ∙ sym (ap (λ v. v / ROOM) t.is) ∙ e ∙ code_in_key pts i ki.small
-
-          lt_or : (p q : ℕ) → (p < q) ⊎ (q ≤ p)
-          lt_or p q = grind (arith, nat_tests)
 
           go : (y % ROOM < i) ⊎ (i ≤ y % ROOM) → key_at pts i ≤ y
           go (inl h) = absurd (f.1 (y % ROOM) h (place_code-same _ _ t.known.place_in ki.place_in codes))

@@ -2,6 +2,7 @@
 use Rattle.std.proofs.Common.{ℕ, ◌≡◌, ◌+◌, ◌-◌, ◌≤◌, ◌<◌, ◌⊎◌, inl, inr, List, [], ◌++◌, length, get_or, take, drop, All, subst, arith}
 use Rattle.std.specs.List.Sorted.{IsStrictlyIncreasing}
 use Rattle.std.proofs.lemmas.Grind.{common_steps}
+use Rattle.std.proofs.lemmas.Bool.{cases_lt}
 use Rattle.qh_model.specs.Vector.{Vector}
 use Rattle.qh_model.specs.Predicates.{place}
 use Rattle.qh_model.specs.Sets.{In, Members}
@@ -91,7 +92,7 @@ pub more_blocks : (pts : List Vector) (ids bounds : List ℕ) (a b c : ℕ) (xs 
 more_blocks pts ids bounds a b c xs ys rise cut ab bc end x y =
     record {
       rising = rising_append xs ys x.rising y.rising (λ i j m n. above i j ((x.members i).0 m) ((y.members j).0 n));
-      members = λ i. (λ m. found i (of_append xs ys i m), λ e. in_append xs ys i (listed i e (side e.0 b)));
+      members = λ i. (λ m. found i (of_append xs ys i m), λ e. in_append xs ys i (listed i e (cases_lt e.0 b)));
     }
   where
     above : (i j : ℕ) → IsExtremeOfBlocks pts ids bounds a b i → IsExtremeOfBlocks pts ids bounds b c j → i < j
@@ -100,9 +101,6 @@ more_blocks pts ids bounds a b c xs ys rise cut ab bc end x y =
     found : (i : ℕ) → In i xs ⊎ In i ys → IsExtremeOfBlocks pts ids bounds a c i
     found i (inl m) = let e = (x.members i).0 m in let u = e.2 in (e.0, e.1, omega (arith, u, bc), e.3)
     found i (inr m) = let e = (y.members i).0 m in let l = e.1 in (e.0, omega (arith, l, ab), e.2, e.3)
-
-    side : (k n : ℕ) → (k < n) ⊎ (n ≤ k)
-    side k n = grind (arith)
 
     listed : (i : ℕ) (e : IsExtremeOfBlocks pts ids bounds a c i) → (e.0 < b) ⊎ (b ≤ e.0) → In i xs ⊎ In i ys
     listed i e (inl h) = inl ((x.members i).1 (e.0, e.1, h, e.3))

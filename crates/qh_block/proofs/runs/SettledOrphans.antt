@@ -1,5 +1,5 @@
 -- How orphans are released and settled.
-use Rattle.std.proofs.Common.{◌≡◌, ℕ, ◌<◌, arith, ap, sym, ◌∙◌, refl, ◌⊎◌, inl, inr, List, [], ◌∷◌, ◌++◌, length, drop, map, subst}
+use Rattle.std.proofs.Common.{◌≡◌, ℕ, ◌<◌, ap, sym, ◌∙◌, refl, ◌⊎◌, inl, inr, List, [], ◌∷◌, ◌++◌, length, drop, map, subst}
 use Rattle.std.specs.Prelude.{slice_set, slice_index, slice_index_or, pos, ◌<ℤ◌, ◌≤ℤ◌}
 use Rattle.std.proofs.lemmas.Bool.{cases_eq}
 use Rattle.std.proofs.lemmas.List.{get_or-map}
@@ -15,16 +15,13 @@ use Rattle.qh_block.specs.Planes.{plane_at, ArePlanes}
 use Rattle.qh_block.specs.OutsideSets.{OutsideValue, set_of, joined}
 use Rattle.qh_block.specs.Runs.{height_at, IsDone, Names, AreWithin, IsOutside, IsSettling}
 use Rattle.qh_block.specs.Settling.{IsDropped, IsAssigned, IsOneSettled, AreReleased}
-use Rattle.qh_block.proofs.runs.NamedFacets.{names_kept, names_last, names_push, names_within}
+use Rattle.qh_block.proofs.runs.NamedFacets.{names_kept, names_last, names_push, names_within, names_none}
 use Rattle.qh_block.proofs.runs.SetWrites.{of_write, write_has, write_keeps, write_empty, of_joined, joined_has, joined_keeps, append_left, append_right}
 
 -- ---- released
 -- of no facet
 pub none_released : (v : OutsideValue) → AreReleased v v []
-none_released v = record { emptied = λ f n. absurd (nothing f n); kept = λ f p i. i; moved = λ f p i. inl i; orphans = λ p i. inl i }
-  where
-    nothing : (f : ℕ) → Names [] f → ⊥
-    nothing f (j, h, e) = omega arith
+none_released v = record { emptied = λ f n. absurd (names_none f n); kept = λ f p i. i; moved = λ f p i. inl i; orphans = λ p i. inl i }
 
 -- of one facet more
 pub more_released : (v0 v w : OutsideValue) (vs : List FacetNo) (x : FacetNo) → AreReleased v0 v vs
