@@ -1,5 +1,5 @@
 -- Chains of positions: what a write to one link leaves of them.
-use Rattle.std.proofs.Common.{◌≡◌, ◌≢◌, ℕ, zero, suc, ◌<◌, ◌≤◌, arith, ap, sym, ◌∙◌, refl, ◌⊎◌, inl, inr, List, [], ◌∷◌, ◌++◌, length, subst, get_or, set, length-set, get_or-set_same, get_or-set_other}
+use Rattle.std.proofs.Common.{◌≡◌, ◌≢◌, ℕ, zero, suc, ◌<◌, ◌≤◌, arith, ap, sym, ◌∙◌, refl, inl, inr, List, [], ◌∷◌, ◌++◌, length, subst, get_or, set, length-set, get_or-set_same, get_or-set_other}
 use Rattle.std.proofs.lemmas.Bool.{lt-ltb, le-ltb}
 use Rattle.qh_model.specs.Sets.{In, Once}
 use Rattle.qh_block.specs.PositionChains.{chain_from, IsChain, IsLast}
@@ -9,25 +9,6 @@ use Rattle.qh_block.specs.PositionChains.{chain_from, IsChain, IsLast}
 pub last_in : (x : ℕ) (xs : List ℕ) (l : ℕ) → IsLast (x ∷ xs) l → In l (x ∷ xs)
 last_in x [] l e = inl e
 last_in x (y ∷ ys) l e = inr (last_in y ys l e)
-
--- a member of two lists one after the other is one of either
-pub in_joined : (xs ys : List ℕ) (x : ℕ) → In x (xs ++ ys) → In x xs ⊎ In x ys
-in_joined [] ys x i = inr i
-in_joined (y ∷ xs) ys x (inl e) = inl (inl e)
-in_joined (y ∷ xs) ys x (inr i) = by (in_joined xs ys x i)
-  where
-    by : In x xs ⊎ In x ys → ((x ≡ y) ⊎ In x xs) ⊎ In x ys
-    by (inl j) = inl (inr j)
-    by (inr j) = inr j
-
--- two lists apart, one after the other, have each member once
-pub once_joined : (xs ys : List ℕ) → Once xs → Once ys → ((x : ℕ) → In x xs → ¬ (In x ys)) → Once (xs ++ ys)
-once_joined [] ys o p n = p
-once_joined (x ∷ xs) ys o p n = (λ i. by (in_joined xs ys x i), once_joined xs ys o.1 p (λ z i. n z (inr i)))
-  where
-    by : In x xs ⊎ In x ys → ⊥
-    by (inl i) = o.0 i
-    by (inr i) = n x (inl refl) i
 
 -- ---- chains
 -- they have positions alone
@@ -40,11 +21,6 @@ chain_within links p (y ∷ ys) c x (inr i) = chain_within links (get_or links y
 pub chain_empty : (links : List ℕ) (p : ℕ) (xs : List ℕ) → IsChain links p xs → length links ≤ p → xs ≡ []
 chain_empty links p [] c h = refl
 chain_empty links p (x ∷ xs) c h = let e = c.0 in let l = c.1 in absurd (omega arith)
-
--- one that begins at a position goes on from there
-pub chain_first : (links : List ℕ) (p : ℕ) (xs : List ℕ) → IsChain links p xs → p < length links → (ys : List ℕ) × (xs ≡ p ∷ ys) × IsChain links (get_or links p 0) ys
-chain_first links p [] c h = absurd (omega arith)
-chain_first links p (x ∷ xs) c h = (xs, ap (λ t. t ∷ xs) (sym c.0), subst (λ t. IsChain links (get_or links t 0) xs) (sym c.0) c.2)
 
 -- a link of no position of the chain may change
 pub chain_kept : (links : List ℕ) (y v p : ℕ) (xs : List ℕ) → ¬ (In y xs) → IsChain links p xs → IsChain (set links y v) p xs

@@ -1,5 +1,5 @@
 -- A walk that went over all its facets found all that the apex sees.
-use Rattle.std.proofs.Common.{◌≡◌, ◌≢◌, ℕ, ◌+◌, ◌*◌, ◌/◌, ◌<◌, ◌≤◌, arith, ap, sym, ◌∙◌, refl, true, false, ◌⊎◌, inl, inr, List, length, subst}
+use Rattle.std.proofs.Common.{◌≡◌, ℕ, ◌/◌, ◌<◌, ◌≤◌, arith, ap, sym, ◌∙◌, refl, true, false, List, length, subst}
 use Rattle.std.specs.Prelude.{pos, ◌<ℤ◌}
 use Rattle.std.proofs.lemmas.Int.{by_lt_z}
 use Rattle.qh_model.specs.Vector.{Vector}
@@ -14,11 +14,11 @@ use Rattle.qh_pred.specs.Planes.{PlaneValue, height}
 use Rattle.qh_mesh.specs.declared.facets.FacetNo.{FacetNo}
 use Rattle.qh_mesh.specs.Replacement.{IsLive, number, is_listed, twin_of}
 use Rattle.qh_mesh.specs.SoundMesh.{facet_vol, IsSoundMesh, AreVisible}
-use Rattle.qh_mesh.proofs.ListLemmas.{listed_at, listed_find}
+use Rattle.qh_mesh.proofs.ListedFacets.{listed_at, listed_find}
 use Rattle.qh_mesh.proofs.Rewiring.{edge_of, edge-facet, twin-is, over-is, live_in, in_live}
 use Rattle.qh_block.specs.Planes.{plane_at, ArePlanes}
 use Rattle.qh_block.specs.Walks.{mark_at, IsWalk, IsCrossed}
-use Rattle.qh_block.proofs.WalkSteps.{live_below}
+use Rattle.qh_block.proofs.LiveFacets.{live_below}
 
 -- the facets that a facet is next to
 over-twin : (fs : List StoredFacet) (f : ℕ) (s : Side) → (surface_of fs).over f s ≡ twin_of fs (edge_of f s) / 3

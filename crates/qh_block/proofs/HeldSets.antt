@@ -5,10 +5,11 @@ use Rattle.std.proofs.lemmas.Bool.Decides.{eqb_tells}
 use Rattle.std.proofs.lemmas.List.{ext_get_or, length-map, get_or-map}
 use Rattle.std.proofs.lemmas.List.Sums.{sum_by-set, get_or-le-sum_by}
 use Rattle.qh_model.specs.Sets.{In}
+use Rattle.qh_model.proofs.lists.Joined.{of_append, once_append}
 use Rattle.qh_block.specs.OutsideSets.{OutsideValue, set_of, listed}
 use Rattle.qh_block.specs.PositionChains.{none, ends_at, chain_from, value_of, IsChain, IsLast, IsHeld, IsKept}
 use Rattle.qh_block.specs.declared.quickhull.outside_sets.Ends.{Ends}
-use Rattle.qh_block.proofs.ChainWrites.{chain_is, chain_kept, chain_front, chain_joined, last_in, in_joined, once_joined}
+use Rattle.qh_block.proofs.ChainWrites.{chain_is, chain_kept, chain_front, chain_joined, last_in}
 
 -- ---- what the fields stand for
 -- no list is longer than there are positions
@@ -220,8 +221,8 @@ released links es o v f e k h l first-is =
     joined : IsHeld (set links last o) owner' 0 first ((first ∷ drop 1 (set_of v f)) ++ v.orphans)
     joined = record {
       chain = chain_joined links last o first first (drop 1 (set_of v f)) v.orphans s.1.once last-is (apart last (last_in first (drop 1 (set_of v f)) last last-is)) s.1.chain k.orphans.chain;
-      once = once_joined (first ∷ drop 1 (set_of v f)) v.orphans s.1.once k.orphans.once apart;
-      owns = λ x i. owns x (in_joined (first ∷ drop 1 (set_of v f)) v.orphans x i);
+      once = once_append (first ∷ drop 1 (set_of v f)) v.orphans s.1.once k.orphans.once apart;
+      owns = λ x i. owns x (of_append (first ∷ drop 1 (set_of v f)) v.orphans x i);
     }
       where
         owns : (x : ℕ) → In x (first ∷ drop 1 (set_of v f)) ⊎ In x v.orphans → owner' x ≡ 0

@@ -9,3 +9,4 @@ pub mod runs
 pub mod WalkSteps
 pub mod FoundFacets
 pub mod LiveFacets
+pub mod FacetEdges

@@ -1,13 +1,23 @@
--- What a loop over the live facets of a mesh comes to.
-use Rattle.std.proofs.Common.{◌≡◌, ℕ, List, [], ◌∷◌, refl, sym, inl, inr, subst, All}
+-- The live facets of a mesh: where they are, and what a loop over them comes to.
+use Rattle.std.proofs.Common.{◌≡◌, ℕ, List, [], ◌∷◌, refl, sym, inl, inr, subst, All, ◌<◌, ◌≤◌, ◌⊎◌, length, ap}
 use Rattle.std.proofs.lemmas.List.Elements.{All-head, All-tail, All-from_recursion}
+use Rattle.std.proofs.lemmas.List.{get_or_past}
+use Rattle.std.proofs.lemmas.Bool.{cases_lt}
 use Rattle.std.specs.List.{AllByRecursion as Every}
 use Rattle.qh_model.specs.Sets.{In}
-use Rattle.qh_model.specs.StoredSurface.{StoredFacet, surface_of}
+use Rattle.qh_model.specs.StoredSurface.{StoredFacet, surface_of, facet_at, no_facet}
 use Rattle.qh_model.proofs.surfaces.Stored.{live_is_marked}
 use Rattle.qh_mesh.specs.declared.facets.FacetNo.{FacetNo}
 use Rattle.qh_mesh.specs.Replacement.{IsLive}
 use Rattle.qh_mesh.specs.LiveNumbers.{numbers}
+
+-- a live facet is at a place
+pub live_below : (fs : List StoredFacet) (f : ℕ) → IsLive fs f → f < length fs
+live_below fs f l = by (cases_lt f (length fs))
+  where
+    by : (f < length fs) ⊎ (length fs ≤ f) → f < length fs
+    by (inl h) = h
+    by (inr h) = let e : facet_at fs f ≡ no_facet = get_or_past fs f no_facet h in let q = ap (λ (t : StoredFacet). t.live) e in absurd (cc)
 
 -- each of a list is live
 abbrev pub AreAllLive : List StoredFacet → List FacetNo → Type 0

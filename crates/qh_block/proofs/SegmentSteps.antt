@@ -14,9 +14,6 @@ le_trans x y z h k = omega (arith, ints)
 pub le_refl : (x : ℤ) → x ≤ℤ x
 le_refl x = omega (arith, ints)
 
-pub lt_le : (x y : ℤ) → x <ℤ y → x ≤ℤ y
-lt_le x y h = omega (arith, ints)
-
 pub not_lt : (x y : ℤ) → ¬ (x <ℤ y) → y ≤ℤ x
 not_lt x y h = grind (arith, ints)
 

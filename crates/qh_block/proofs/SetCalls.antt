@@ -5,8 +5,8 @@ use Rattle.std.proofs.lemmas.List.{get_or_read}
 use Rattle.qh_block.specs.OutsideSets.{OutsideValue, set_of, joined}
 use Rattle.qh_block.specs.PositionChains.{none, ends_at, value_of, IsChain, IsLast, IsKept}
 use Rattle.qh_block.specs.declared.quickhull.outside_sets.Ends.{Ends}
-use Rattle.qh_block.proofs.ChainWrites.{chain_empty, chain_within, last_in}
-use Rattle.qh_block.proofs.HeldSets.{kept_as, begins, with_set, without_orphan, without_first, released, with_front, with_second}
+use Rattle.qh_block.proofs.ChainWrites.{chain_within, last_in}
+use Rattle.qh_block.proofs.HeldSets.{kept_as, begins, with_set, without_first, released, with_front, with_second}
 
 -- what is not below is at least as much
 pub not_below : (a b : ℕ) → (a < b → ⊥) → b ≤ a
@@ -36,10 +36,6 @@ ends_read links es o now f e d h r = get_or_read es f e (place_in links es o now
 pub orphan_in : (links : List ℕ) (es : List Ends) (o : ℕ) (now : OutsideValue) → Fields links es o now → 0 < length now.orphans → o < length links
 orphan_in links es o now d h = begins links o now.orphans (kept links es o now d).orphans.chain h
 
--- a list by its chain's first number: empty, or with that first
-pub none_from : (links : List ℕ) (p : ℕ) (xs : List ℕ) → IsChain links p xs → length links ≤ p → xs ≡ []
-none_from = chain_empty
-
 pub some_from : (links : List ℕ) (p : ℕ) (xs : List ℕ) → IsChain links p xs → p < length links → xs ≡ p ∷ drop 1 xs
 some_from links p [] c h = absurd (omega (arith, c))
 some_from links p (x ∷ xs) c h = ap (λ t. t ∷ xs) (sym c.0)
@@ -50,12 +46,6 @@ from_some links p q xs ys c e =
     let d : IsChain links p (q ∷ ys) = subst (λ (t : List ℕ). IsChain links p t) e c in (d.0, let a = d.0 in let b = d.1 in omega arith)
 
 -- ---- the calls
--- the first orphan is dropped
-pub after_drop : (links : List ℕ) (es : List Ends) (o o' : ℕ) (now : OutsideValue) → Fields links es o now → 0 < length now.orphans → o' ≡ get_or links o o'
-    → IsKept links es o' (record { positions = now.positions; orphans = drop 1 now.orphans; sets = now.sets })
-after_drop links es o o' now d h r =
-    let l = orphan_in links es o now d h in
-    subst (λ t. IsKept links es t (record { positions = now.positions; orphans = drop 1 now.orphans; sets = now.sets })) (sym (get_or_read links o o' l r 0)) (without_orphan links es o now (kept links es o now d) l)
 
 -- the first of a set is taken
 pub after_take : (links : List ℕ) (es : List Ends) (o : ℕ) (now : OutsideValue) (f p p' : ℕ) (e : Ends) → Fields links es o now → f < length now.sets → set_of now f ≡ p ∷ drop 1 (set_of now f)

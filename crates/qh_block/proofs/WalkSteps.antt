@@ -1,26 +1,20 @@
 -- The steps of a walk over twins.
-use Rattle.std.proofs.Common.{◌≡◌, ◌≢◌, ℕ, zero, suc, ◌+◌, ◌*◌, ◌/◌, ◌<◌, ◌≤◌, arith, ap, sym, ◌∙◌, refl, true, ◌⊎◌, inl, inr, List, [], ◌∷◌, ◌++◌, length, subst, set, length-set, get_or-set_same, get_or-set_other}
+use Rattle.std.proofs.Common.{◌≡◌, ◌≢◌, ℕ, zero, suc, ◌+◌, ◌/◌, ◌<◌, ◌≤◌, arith, ap, sym, ◌∙◌, refl, true, ◌⊎◌, inl, inr, List, [], ◌∷◌, ◌++◌, length, subst, set, length-set, get_or-set_same, get_or-set_other}
 use Rattle.std.specs.Prelude.{pos, ◌<ℤ◌}
 use Rattle.std.proofs.lemmas.Bool.{cases_eq, cases_lt}
-use Rattle.std.proofs.lemmas.List.{get_or_append_left, get_or_push, get_or_past, length_push}
+use Rattle.std.proofs.lemmas.List.{get_or_append_left, get_or_push, length_push}
 use Rattle.qh_model.specs.Vector.{Vector}
-use Rattle.qh_model.specs.StoredSurface.{StoredFacet, facet_at, no_facet}
+use Rattle.qh_model.specs.StoredSurface.{StoredFacet}
 use Rattle.qh_pred.specs.Planes.{PlaneValue, height}
 use Rattle.qh_mesh.specs.declared.facets.FacetNo.{FacetNo}
 use Rattle.qh_mesh.specs.Replacement.{IsLive, AreFacets, number, is_listed, twin_of}
-use Rattle.qh_mesh.proofs.ListLemmas.{listed_at, listed_find}
-use Rattle.qh_mesh.proofs.Walks.{pigeon}
+use Rattle.qh_mesh.proofs.ListedFacets.{listed_at, listed_find}
+use Rattle.qh_mesh.proofs.Pigeonhole.{pigeon}
 use Rattle.qh_block.specs.Planes.{plane_at}
 use Rattle.qh_block.specs.Walks.{mark_at, IsWalk, IsCrossed, IsFurther}
+use Rattle.qh_block.proofs.LiveFacets.{live_below}
 
 -- ---- lists of facets
--- a live facet is at a place
-pub live_below : (fs : List StoredFacet) (f : ℕ) → IsLive fs f → f < length fs
-live_below fs f l = by (cases_lt f (length fs))
-  where
-    by : (f < length fs) ⊎ (length fs ≤ f) → f < length fs
-    by (inl h) = h
-    by (inr h) = let e : facet_at fs f ≡ no_facet = get_or_past fs f no_facet h in let q = ap (λ (t : StoredFacet). t.live) e in absurd (cc)
 
 -- the list with one facet more
 abbrev pub with_facet : List FacetNo → ℕ → List FacetNo
@@ -154,22 +148,6 @@ joined_walk fs ps apex round marks found g w h l n s = record {
     all f k e t (inr m) = listed_old found g f (w.all f (let r = length-set marks g round in omega arith) (sym (get_or-set_other marks g f round 0 m) ∙ e) t)
 
 -- ---- steps one after the other
-pub further_both : (round : ℕ) (m0 m1 m2 : List ℕ) (f0 f1 f2 : List FacetNo) → IsFurther round m0 m1 f0 f1 → IsFurther round m1 m2 f1 f2 → IsFurther round m0 m2 f0 f2
-further_both round m0 m1 m2 f0 f1 f2 a b = record {
-  len = b.len ∙ a.len;
-  met = λ f e. b.met f (a.met f e);
-  longer = let x = a.longer in let y = b.longer in omega arith;
-  same = λ j h. b.same j (let x = a.longer in omega arith) ∙ a.same j h;
-}
-
--- an edge of a facet is one of three
-pub three_edges : (P : ℕ → Type 0) (f : ℕ) → P (3 * f + 0) → P (3 * f + 1) → P (3 * f + 2) → (e : ℕ) → e / 3 ≡ f → P e
-three_edges P f a b c e q = by (cases_eq e (3 * f + 0)) (cases_eq e (3 * f + 1))
-  where
-    by : (e ≡ 3 * f + 0) ⊎ (e ≢ 3 * f + 0) → (e ≡ 3 * f + 1) ⊎ (e ≢ 3 * f + 1) → P e
-    by (inl x) y = subst P (sym x) a
-    by (inr x) (inl y) = subst P (sym y) b
-    by (inr x) (inr y) = let z : 3 * f + 2 ≡ e = omega arith in subst P z c
 
 -- what was crossed stays so, and one facet more
 pub crossed_more : (fs : List StoredFacet) (round : ℕ) (m0 m1 : List ℕ) (f0 f1 : List FacetNo) (n : ℕ) → IsFurther round m0 m1 f0 f1 → n < length f0 → IsCrossed fs round m0 f0 n → ((e : ℕ) → e / 3 ≡ number f0 n → mark_at m1 (twin_of fs e / 3) ≡ round)

@@ -4,7 +4,7 @@ use Rattle.std.proofs.lemmas.List.{get_or_append_left, get_or_push, length_push}
 use Rattle.qh_model.specs.StoredSurface.{StoredFacet, facet_at}
 use Rattle.qh_mesh.specs.declared.facets.FacetNo.{FacetNo}
 use Rattle.qh_mesh.specs.Replacement.{number, IsLive, AreFacets}
-use Rattle.qh_mesh.proofs.Weaving.{by_le}
+use Rattle.qh_mesh.proofs.NumberCases.{by_le}
 
 -- live facets below n, each once
 pub record AreBelow (fs : List StoredFacet) (vs : List FacetNo) (n : ℕ) : Type 0 where

@@ -1,9 +1,10 @@
 -- The live and the free places are all places.
-use Rattle.std.proofs.Common.{◌≡◌, ◌≢◌, ℕ, zero, suc, ◌+◌, ◌-◌, ◌*◌, ◌<◌, max, arith, ap, sym, ◌∙◌, refl, Bool, true, false, cond, List, [], ◌∷◌, length, map, subst, inl, inr}
+use Rattle.std.proofs.Common.{◌≡◌, ◌≢◌, ℕ, zero, suc, ◌+◌, ◌-◌, ◌*◌, ◌<◌, max, arith, ap, sym, ◌∙◌, refl, Bool, true, false, cond, List, [], ◌∷◌, length, map, subst}
+use Rattle.std.proofs.lemmas.Bool.{not-true}
 use Rattle.std.specs.Prelude.{not}
 use Rattle.qh_model.specs.Sets.{In, Once}
 use Rattle.qh_model.specs.StoredSurface.{StoredFacet, facet_at, live_from, surface_of}
-use Rattle.qh_model.proofs.Members.{In-get_or}
+use Rattle.qh_model.proofs.Members.{In-get_or, in_at}
 use Rattle.qh_model.proofs.lists.OnceEach.{once_length}
 use Rattle.qh_model.proofs.surfaces.Stored.{live_is_marked, live_is_listed_once}
 use Rattle.qh_mesh.specs.declared.facets.Side.{Side}
@@ -29,11 +30,7 @@ both n (f ∷ fs) = by f.live (both (n + 1) fs)
 -- the other mark of a place that is there, and none past the end
 other_at : (fs : List StoredFacet) (f : ℕ) → (facet_at (map other fs) f).live ≡ true → (f < length fs) × ((facet_at fs f).live ≡ false)
 other_at [] f e = cc
-other_at (g ∷ fs) zero e = (omega arith, from_not g.live e)
-  where
-    from_not : (b : Bool) → not b ≡ true → b ≡ false
-    from_not true h = cc
-    from_not false h = refl
+other_at (g ∷ fs) zero e = (omega arith, not-true g.live e)
 other_at (g ∷ fs) (suc f) e = let r = other_at fs f e in (omega (arith, r.0), r.1)
 
 -- a place of no facet has the other mark
@@ -42,16 +39,10 @@ at_other [] f l e = absurd (omega arith)
 at_other (g ∷ fs) zero l e = ap not e
 at_other (g ∷ fs) (suc f) l e = at_other fs f (omega arith) e
 
--- a member stands at a place
-in_at : (xs : List ℕ) (z : ℕ) → In z xs → (j : ℕ) × ((j < length xs) × (at xs j ≡ z))
-in_at [] z i = absurd i
-in_at (x ∷ xs) z (inl e) = (0, (omega arith, sym e))
-in_at (x ∷ xs) z (inr i) = let r = in_at xs z i in (suc r.0, (omega (arith, r.1.0), r.1.1))
-
 -- a list with no two equal
 once_of : (xs : List ℕ) → ((i j : ℕ) → i < j → j < length xs → at xs i ≢ at xs j) → Once xs
 once_of [] d = tt
-once_of (x ∷ xs) d = ((λ i. let r = in_at xs x i in d 0 (suc r.0) (omega arith) (omega (arith, r.1.0)) (sym r.1.1)), once_of xs (λ i j l k. d (suc i) (suc j) (omega arith) (omega arith)))
+once_of (x ∷ xs) d = ((λ i. let r = in_at xs x i in d 0 (suc r.0) (omega arith) (omega (arith, r.1)) (sym r.2)), once_of xs (λ i j l k. d (suc i) (suc j) (omega arith) (omega arith)))
 
 -- live and free places together
 pub counted : (ss : List Side) (free : List ℕ) → IsSurface ss free → length (surface_of (facets_of ss)).live + length free ≡ length (facets_of ss)
@@ -71,8 +62,8 @@ counted ss free s =
     from z i =
         let r = in_at free z i in
         let n = stored_len ss s.whole in
-        let l = s.free_in r.0 r.1.0 in
-        (live_is_marked (map other (facets_of ss)) z).1 (at_other (facets_of ss) z (omega (arith, r.1.1)) (live_stored ss z s.whole ∙ s.free_dead (3 * z) r.0 r.1.0 (omega (arith, r.1.1))))
+        let l = s.free_in r.0 r.1 in
+        (live_is_marked (map other (facets_of ss)) z).1 (at_other (facets_of ss) z (omega (arith, r.2)) (live_stored ss z s.whole ∙ s.free_dead (3 * z) r.0 r.1 (omega (arith, r.2))))
 
 -- places are given out again before there are more
 pub places_are : (s0 s5 : List Side) (free free5 : List ℕ) (v m : ℕ) → IsSurface s0 free → IsSurface s5 free5 → length s5 ≡ length s0 + 3 * (m - (v + length free)) → length free5 ≡ length free - (m - v) + (v - m)

@@ -1,7 +1,7 @@
 -- A replacement of what a point sees is one step of Quickhull.
-use Rattle.std.proofs.Common.{◌≡◌, ◌≢◌, ℕ, zero, suc, ◌+◌, ◌*◌, ◌/◌, ◌%◌, ◌<◌, arith, ap, sym, ◌∙◌, refl, Bool, true, false, ◌⊎◌, inl, inr, List, length, subst}
+use Rattle.std.proofs.Common.{◌≡◌, ◌≢◌, ℕ, zero, suc, ◌+◌, ◌*◌, ◌/◌, ◌%◌, ◌<◌, arith, ap, sym, ◌∙◌, refl, true, false, ◌⊎◌, inl, inr, List, length, subst}
 use Rattle.std.specs.Prelude.{not, ℤ, pos, ◌<ℤ◌, ◌≤ℤ◌}
-use Rattle.std.proofs.lemmas.Int.{ints}
+use Rattle.std.proofs.lemmas.Bool.{cases_Bool, not-true, not_from_false}
 use Rattle.qh_model.specs.Vector.{Vector}
 use Rattle.qh_model.specs.Sets.{In}
 use Rattle.qh_model.specs.Simplex.{one_of, by_side}
@@ -13,13 +13,14 @@ use Rattle.qh_model.specs.Rewired.{IsHorizonSide, LinksTo, IsRewired}
 use Rattle.qh_model.specs.StoredSurface.{StoredFacet, facet_at, surface_of}
 use Rattle.qh_model.proofs.surfaces.Stored.{live_is_marked}
 use Rattle.qh_model.proofs.surfaces.SurfaceLaws.{rise_is_vol, horizon_is_known}
+use Rattle.qh_model.proofs.algebra.Signs.{not_less}
 use Rattle.qh_mesh.specs.declared.facets.FacetNo.{FacetNo}
 use Rattle.qh_mesh.specs.Replacement.{number, at, sides_of, is_listed, horizon, side_of_edge, IsLive, AreFacets, IsKept, IsReplacement, edge_start, edge_end, twin_of, HasTwins}
 use Rattle.qh_mesh.specs.SoundMesh.{facet_vol, IsSoundMesh, AreVisible}
-use Rattle.qh_mesh.proofs.Walks.{find}
-use Rattle.qh_mesh.proofs.ListLemmas.{filter_from, filter_to, filter_apart, sides_from, sides_to, sides_apart, listed_at, listed_find}
-use Rattle.qh_mesh.proofs.Replacing.{decide}
-use Rattle.qh_mesh.proofs.Weaving.{by_le}
+use Rattle.qh_mesh.proofs.Filters.{filter_from, filter_to, filter_apart}
+use Rattle.qh_mesh.proofs.ListedFacets.{sides_from, sides_to, sides_apart, listed_at, listed_find}
+use Rattle.qh_mesh.proofs.NumberCases.{by_le}
+use Rattle.qh_mesh.proofs.Pigeonhole.{find}
 
 -- ---- edges and sides
 -- the number of a side
@@ -101,28 +102,24 @@ pub in_live : (fs : List StoredFacet) (f : ℕ) → IsLive fs f → In f (surfac
 in_live fs f l = (live_is_marked fs f).1 l
 
 -- how far a point is above a facet is the volume with it
-rise-vol : (at : ℕ → Vector) (fs : List StoredFacet) (f p : ℕ) → rise (surface_of fs) (weighted_at at) f (weighted_at at p) ≡ facet_vol at fs f (at p)
+pub rise-vol : (at : ℕ → Vector) (fs : List StoredFacet) (f p : ℕ) → rise (surface_of fs) (weighted_at at) f (weighted_at at p) ≡ facet_vol at fs f (at p)
 rise-vol at fs f p = rise_is_vol (at (facet_at fs f).i) (at (facet_at fs f).j) (at (facet_at fs f).k) (at p)
-
--- nothing is both above 0 and at most 0
-never : (x : ℤ) → pos 0 <ℤ x → x ≤ℤ pos 0 → Prim.⊥
-never x a b = omega (arith, ints)
 
 -- a facet that does not see p is not listed
 blind_unlisted : (at : ℕ → Vector) (fs : List StoredFacet) (vs : List FacetNo) (p f : ℕ) → AreVisible at fs vs p → IsLive fs f → IsBlindTo (surface_of fs) (weighted_at at) f (weighted_at at p) → is_listed vs f ≡ false
-blind_unlisted at fs vs p f v l b = by (decide (is_listed vs f))
+blind_unlisted at fs vs p f v l b = by (cases_Bool (is_listed vs f))
   where
     by : (is_listed vs f ≡ true) ⊎ (is_listed vs f ≡ false) → is_listed vs f ≡ false
-    by (inl e) = absurd (never (facet_vol at fs f (at p)) (v.seen f l e) (subst (λ z. z ≤ℤ pos 0) (rise-vol at fs f p) b))
+    by (inl e) = absurd (not_less (pos 0) (facet_vol at fs f (at p)) (v.seen f l e) (subst (λ z. z ≤ℤ pos 0) (rise-vol at fs f p) b))
     by (inr e) = e
 
 -- one that does is
 seen_listed : (at : ℕ → Vector) (fs : List StoredFacet) (vs : List FacetNo) (p f : ℕ) → AreVisible at fs vs p → IsLive fs f → Sees (surface_of fs) (weighted_at at) f (weighted_at at p) → is_listed vs f ≡ true
-seen_listed at fs vs p f v l b = by (decide (is_listed vs f))
+seen_listed at fs vs p f v l b = by (cases_Bool (is_listed vs f))
   where
     by : (is_listed vs f ≡ true) ⊎ (is_listed vs f ≡ false) → is_listed vs f ≡ true
     by (inl e) = e
-    by (inr e) = absurd (never (facet_vol at fs f (at p)) (subst (λ z. pos 0 <ℤ z) (rise-vol at fs f p) b) (v.unseen f l e))
+    by (inr e) = absurd (not_less (pos 0) (facet_vol at fs f (at p)) (subst (λ z. pos 0 <ℤ z) (rise-vol at fs f p) b) (v.unseen f l e))
 
 -- and the other way round
 pub listed_seen : (at : ℕ → Vector) (fs : List StoredFacet) (vs : List FacetNo) (p f : ℕ) → AreVisible at fs vs p → IsLive fs f → is_listed vs f ≡ true → Sees (surface_of fs) (weighted_at at) f (weighted_at at p)
@@ -149,16 +146,6 @@ pub record IsStep (at : ℕ → Vector) (old new : List StoredFacet) (vs : List 
   pub visible : AreVisible at old vs p
   pub sound : IsSoundMesh at old o
 
--- what is not is false
-from_not : (b : Bool) → not b ≡ true → b ≡ false
-from_not true e = cc
-from_not false e = refl
-
--- what is false is not
-to_not : (b : Bool) → b ≡ false → not b ≡ true
-to_not true e = cc
-to_not false e = refl
-
 -- an edge of the list is a horizon side
 horizon_side : (at' : ℕ → Vector) (old new : List StoredFacet) (vs : List FacetNo) (p : ℕ) (made : List FacetNo) (o : Weighted) → IsStep at' old new vs p made o
     → (j : ℕ) → j < length (horizon old vs) → IsHorizonSide (surface_of old) (weighted_at at') (weighted_at at' p) (at (horizon old vs) j / 3) (side_of_edge (at (horizon old vs) j))
@@ -166,7 +153,7 @@ horizon_side at' old new vs p made o d j l = record {
   live = in_live old (at (horizon old vs) j / 3) live;
   seen = listed_seen at' old vs p (at (horizon old vs) j / 3) d.visible live (listed_at vs (at (horizon old vs) j / 3) q.0 q.1.0 e);
   blind = subst (λ g. IsBlindTo (surface_of old) (weighted_at at') g (weighted_at at' p)) (sym (over-is old (at (horizon old vs) j / 3) (side_of_edge (at (horizon old vs) j))))
-      (unlisted_blind at' old vs p (twin_of old (at (horizon old vs) j) / 3) d.visible (d.twins.live (at (horizon old vs) j) live) (from_not (is_listed vs (twin_of old (at (horizon old vs) j) / 3)) c.1));
+      (unlisted_blind at' old vs p (twin_of old (at (horizon old vs) j) / 3) d.visible (d.twins.live (at (horizon old vs) j) live) (not-true (is_listed vs (twin_of old (at (horizon old vs) j) / 3)) c.1));
 }
   where
     c : ((i : ℕ) × ((i < length (sides_of vs)) × (at (sides_of vs) i ≡ at (horizon old vs) j))) × (not (is_listed vs (twin_of old (at (horizon old vs) j) / 3)) ≡ true)
@@ -189,7 +176,7 @@ horizon_has at' old new vs p made o d f s h =
     let i = sides_to vs (edge_of f s) q.0 q.1.0 (edge-facet f s ∙ q.1.1) in
     let g : (surface_of old).over f s ≡ twin_of old (edge_of f s) / 3 = over-is old f s ∙ ap (λ v. v / 3) (sym (twin-is old f s)) in
     let u : is_listed vs (twin_of old (edge_of f s) / 3) ≡ false = ap (is_listed vs) (sym g) ∙ blind_unlisted at' old vs p ((surface_of old).over f s) d.visible (live_in old ((surface_of old).over f s) (d.sound.0 f h.live s).live) h.blind in
-    let t = filter_to (λ x. not (is_listed vs (twin_of old x / 3))) (sides_of vs) i.0 i.1.0 (ap (λ x. not (is_listed vs (twin_of old x / 3))) i.1.1 ∙ to_not (is_listed vs (twin_of old (edge_of f s) / 3)) u) in
+    let t = filter_to (λ x. not (is_listed vs (twin_of old x / 3))) (sides_of vs) i.0 i.1.0 (ap (λ x. not (is_listed vs (twin_of old x / 3))) i.1.1 ∙ not_from_false (is_listed vs (twin_of old (edge_of f s) / 3)) u) in
     (t.0, (t.1.0, t.1.1 ∙ i.1.1))
 
 -- no edge is listed twice

@@ -1,7 +1,8 @@
 -- Meshes that are sound: the simplex, what a step leaves, and that both close up.
 use Rattle.std.proofs.Common.{◌≡◌, ◌≢◌, ℕ, ◌/◌, arith, ap, sym, ◌∙◌, refl, true, false, ◌⊎◌, inl, inr, List, [], ◌∷◌, subst}
-use Rattle.std.specs.Prelude.{ℤ, pos, ◌+ℤ◌, ◌<ℤ◌, ◌≤ℤ◌, neg_ℤ}
+use Rattle.std.specs.Prelude.{ℤ, pos, ◌+ℤ◌, ◌<ℤ◌, ◌≤ℤ◌}
 use Rattle.std.proofs.lemmas.Int.{ints, by_lt_z}
+use Rattle.std.proofs.lemmas.Bool.{cases_Bool}
 use Rattle.qh_model.specs.Vector.{Vector}
 use Rattle.qh_model.specs.Predicates.{vol}
 use Rattle.qh_model.specs.Sets.{In}
@@ -18,14 +19,13 @@ use Rattle.qh_model.proofs.surfaces.SurfaceLaws.{rise_is_vol}
 use Rattle.qh_model.proofs.surfaces.Simplex.{simplex_sound}
 use Rattle.qh_model.proofs.surfaces.Rewired.{replace_keeps}
 use Rattle.qh_model.proofs.surfaces.Closed.{sound_is_closed, sound_has_volume}
-use Rattle.qh_model.proofs.algebra.VectorIdentities.{vol-flip, vol-turn}
+use Rattle.qh_model.proofs.algebra.VectorIdentities.{vol-flip_last}
 use Rattle.qh_mesh.specs.declared.facets.FacetNo.{FacetNo}
 use Rattle.qh_mesh.specs.Cells.{simplex_of}
 use Rattle.qh_mesh.specs.Replacement.{number, is_listed, IsLive, edge_start, edge_end, twin_of, HasTwins}
 use Rattle.qh_mesh.specs.SoundMesh.{facet_vol, IsSoundMesh, simplex_facets, IsClosedMesh}
 use Rattle.qh_mesh.proofs.Simplexes.{simplex_surface as simplex_kept}
 use Rattle.qh_mesh.proofs.StoredSides.{has_twins}
-use Rattle.qh_mesh.proofs.Replacing.{decide}
 use Rattle.qh_mesh.proofs.Rewiring.{edge_of, edge-facet, start-is, end-is, twin_at, twin-is, over-is, back-is, live_in, in_live, IsStep, rewired}
 
 -- ---- whole
@@ -93,10 +93,6 @@ simplex_is_sound at a b c d h = (
       (simplex_sound (weighted_at at) a b c d (subst (λ v. v <ℤ pos 0) (sym (rise_is_vol (at a) (at b) (at c) (at d))) h)).1,
 )
 
--- turned about
-vol-turned : (a b c d : Vector) → vol a c b d ≡ neg_ℤ (vol a b c d)
-vol-turned a b c d = vol-flip a c b d ∙ ap neg_ℤ (vol-turn c a b d)
-
 -- the middle is the same in another order
 pub middle-turned : (a b c d : Weighted) → middle_of a c b d ≡ middle_of a b c d
 middle-turned a b c d = λ i. record { w = swap a.w b.w c.w d.w i; x = swap a.x b.x c.x d.x i; y = swap a.y b.y c.y d.y i; z = swap a.z b.z c.z d.z i }
@@ -108,7 +104,7 @@ middle-turned a b c d = λ i. record { w = swap a.w b.w c.w d.w i; x = swap a.x 
 pub turned_is_sound : (at : ℕ → Vector) (a b c d : ℕ) → pos 0 <ℤ vol (at a) (at b) (at c) (at d) → IsSoundMesh at (simplex_facets a c b d) (middle_at at a b c d)
 turned_is_sound at a b c d h =
     subst (IsSoundMesh at (simplex_facets a c b d)) (middle-turned (weighted (at a)) (weighted (at b)) (weighted (at c)) (weighted (at d)))
-    (simplex_is_sound at a c b d (let e = vol-turned (at a) (at b) (at c) (at d) in omega (arith, ints)))
+    (simplex_is_sound at a c b d (let e = vol-flip_last (at a) (at b) (at c) (at d) in omega (arith, ints)))
 
 -- ---- closed
 -- a sound mesh with a facet is closed
@@ -133,7 +129,7 @@ pub step_leaves : (at : ℕ → Vector) (old new : List StoredFacet) (vs : List 
 step_leaves at old new vs p made s t u v d = by (surface_of new).live refl
   where
     all_seen : (surface_of new).live ≡ [] → (f : ℕ) → In f (surface_of old).live → pos 0 <ℤ facet_vol at old f (at p)
-    all_seen e f i = listed (decide (is_listed vs f))
+    all_seen e f i = listed (cases_Bool (is_listed vs f))
       where
         listed : (is_listed vs f ≡ true) ⊎ (is_listed vs f ≡ false) → pos 0 <ℤ facet_vol at old f (at p)
         listed (inl l) = d.visible.seen f (live_in old f i) l

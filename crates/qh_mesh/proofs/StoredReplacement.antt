@@ -1,14 +1,18 @@
 -- What the steps of a replacement leave, as a stored surface.
 use Rattle.std.proofs.Common.{◌≡◌, ◌≢◌, ℕ, ◌+◌, ◌*◌, ◌/◌, ◌%◌, ◌<◌, arith, ap, sym, ◌∙◌, Bool, true, false, ◌⊎◌, inl, inr, List, length, subst}
+use Rattle.std.proofs.lemmas.Bool.{both_ways}
 use Rattle.std.specs.Prelude.{filter, not}
 use Rattle.qh_model.specs.StoredSurface.{StoredFacet}
 use Rattle.qh_mesh.specs.declared.facets.Side.{Side}
 use Rattle.qh_mesh.specs.declared.facets.FacetNo.{FacetNo}
-use Rattle.qh_mesh.specs.Cells.{start_in, twin_in, live_in, IsSurface, AreLive, HasCone, AreJoined, Replaced, rim_from}
+use Rattle.qh_mesh.specs.Cells.{start_in, twin_in, live_in, IsSurface, AreLive}
+use Rattle.qh_mesh.specs.MarkedFacets.{listed_horizon}
+use Rattle.qh_mesh.specs.ReplacedSides.{HasCone, AreJoined, Replaced}
 use Rattle.qh_mesh.specs.Stored.{facets_of}
 use Rattle.qh_mesh.specs.Replacement.{number, at, sides_of, is_listed, horizon, IsLive, AreFacets, IsCone, IsKept, StaysFacet, IsReplacement, twin_of}
-use Rattle.qh_mesh.proofs.ListLemmas.{filter_from, sides_from, listed_at}
-use Rattle.qh_mesh.proofs.Replacing.{not_both, facet_live}
+use Rattle.qh_mesh.proofs.Filters.{filter_from}
+use Rattle.qh_mesh.proofs.ListedFacets.{sides_from, listed_at}
+use Rattle.qh_mesh.proofs.Replacing.{facet_live}
 use Rattle.qh_mesh.proofs.StoredSides.{stored_at, live_stored, is_stored}
 
 -- listed facets of the stored surface are live sides
@@ -16,7 +20,7 @@ pub are_live : (ss : List Side) (vs : List FacetNo) → length ss % 3 ≡ 0 → 
 are_live ss vs w f = record { live = λ j l. sym (live_stored ss (number vs j) w) ∙ f.live j l; apart = f.apart }
 
 -- the horizon of the stored surface
-pub horizon_is : (ss : List Side) (vs : List FacetNo) → length ss % 3 ≡ 0 → rim_from ss vs ≡ horizon (facets_of ss) vs
+pub horizon_is : (ss : List Side) (vs : List FacetNo) → length ss % 3 ≡ 0 → listed_horizon ss vs ≡ horizon (facets_of ss) vs
 horizon_is ss vs w =
     let e : (x : ℕ) → not (is_listed vs (twin_in ss x / 3)) ≡ not (is_listed vs (twin_of (facets_of ss) x / 3)) = λ x. ap (λ v. not (is_listed vs (v / 3))) (sym (is_stored ss x w).twin) in
     let f : ◌≡◌ {A = ℕ → Bool} (λ x. not (is_listed vs (twin_in ss x / 3))) (λ x. not (is_listed vs (twin_of (facets_of ss) x / 3))) = λ i. λ x. e x i in
@@ -47,7 +51,7 @@ replacement_is s0 s5 free free5 vs apex made a b f r = record {
   only = λ g l. only g (r.live_only (3 * g) (live_side s5 g b.whole l));
 }
   where
-    h : rim_from s0 vs ≡ horizon (facets_of s0) vs
+    h : listed_horizon s0 vs ≡ horizon (facets_of s0) vs
     h = horizon_is s0 vs a.whole
 
     n : AreJoined s0 s5 (horizon (facets_of s0) vs) made
@@ -72,19 +76,19 @@ replacement_is s0 s5 free free5 vs apex made a b f r = record {
         }
 
     -- a side of the horizon is of a listed facet, and live
-    rim_listed : (j : ℕ) → j < length (rim_from s0 vs) → (is_listed vs (at (rim_from s0 vs) j / 3) ≡ true) × (live_in s0 (at (rim_from s0 vs) j) ≡ true)
-    rim_listed j l =
+    horizon_listed : (j : ℕ) → j < length (listed_horizon s0 vs) → (is_listed vs (at (listed_horizon s0 vs) j / 3) ≡ true) × (live_in s0 (at (listed_horizon s0 vs) j) ≡ true)
+    horizon_listed j l =
         let i = (filter_from (λ e. not (is_listed vs (twin_in s0 e / 3))) (sides_of vs) j l).0 in
         let p = sides_from vs i.0 i.1.0 in
-        let e : at (rim_from s0 vs) j / 3 ≡ number vs p.0 = ap (λ v. v / 3) (sym i.1.1) ∙ p.1.1 in
-        (listed_at vs (at (rim_from s0 vs) j / 3) p.0 p.1.0 e, facet_live s0 a.net (at (rim_from s0 vs) j) (number vs p.0) (f.live p.0 p.1.0) e)
+        let e : at (listed_horizon s0 vs) j / 3 ≡ number vs p.0 = ap (λ v. v / 3) (sym i.1.1) ∙ p.1.1 in
+        (listed_at vs (at (listed_horizon s0 vs) j / 3) p.0 p.1.0 e, facet_live s0 a.net (at (listed_horizon s0 vs) j) (number vs p.0) (f.live p.0 p.1.0) e)
 
     -- a side whose neighbour stays is across no side of the horizon
-    off_rim : (x : ℕ) → is_listed vs (twin_of (facets_of s0) x / 3) ≡ false → (j : ℕ) → j < length (rim_from s0 vs) → twin_in s0 (at (rim_from s0 vs) j) ≢ x
-    off_rim x u j l e =
-        let p = rim_listed j l in
-        let t : twin_of (facets_of s0) x ≡ at (rim_from s0 vs) j = (is_stored s0 x a.whole).twin ∙ ap (twin_in s0) (sym e) ∙ a.net.twin (at (rim_from s0 vs) j) p.1 in
-        not_both (is_listed vs (at (rim_from s0 vs) j / 3)) p.0 (ap (λ v. is_listed vs (v / 3)) (sym t) ∙ u)
+    off_horizon : (x : ℕ) → is_listed vs (twin_of (facets_of s0) x / 3) ≡ false → (j : ℕ) → j < length (listed_horizon s0 vs) → twin_in s0 (at (listed_horizon s0 vs) j) ≢ x
+    off_horizon x u j l e =
+        let p = horizon_listed j l in
+        let t : twin_of (facets_of s0) x ≡ at (listed_horizon s0 vs) j = (is_stored s0 x a.whole).twin ∙ ap (twin_in s0) (sym e) ∙ a.net.twin (at (listed_horizon s0 vs) j) p.1 in
+        both_ways (is_listed vs (at (listed_horizon s0 vs) j / 3)) (ap (λ v. is_listed vs (v / 3)) (sym t) ∙ u) p.0
 
     -- a corner of a kept facet
     corner : (g x : ℕ) → IsKept (facets_of s0) vs g → x / 3 ≡ g → start_in s5 x ≡ start_in s0 x
@@ -96,7 +100,7 @@ replacement_is s0 s5 free free5 vs apex made a b f r = record {
       i_is = ap (λ (v : StoredFacet). v.i) (stored_at s5 g b.whole) ∙ corner g (3 * g) k (omega arith) ∙ sym (ap (λ (v : StoredFacet). v.i) (stored_at s0 g a.whole));
       j_is = ap (λ (v : StoredFacet). v.j) (stored_at s5 g b.whole) ∙ corner g (3 * g + 1) k (omega arith) ∙ sym (ap (λ (v : StoredFacet). v.j) (stored_at s0 g a.whole));
       k_is = ap (λ (v : StoredFacet). v.k) (stored_at s5 g b.whole) ∙ corner g (3 * g + 2) k (omega arith) ∙ sym (ap (λ (v : StoredFacet). v.k) (stored_at s0 g a.whole));
-      twins = λ x e u. (is_stored s5 x b.whole).twin ∙ r.kept_twin x (facet_live s0 a.net x g (live_side s0 g a.whole k.live) e) (ap (is_listed vs) e ∙ k.unlisted) (off_rim x u) ∙ sym (is_stored s0 x a.whole).twin;
+      twins = λ x e u. (is_stored s5 x b.whole).twin ∙ r.kept_twin x (facet_live s0 a.net x g (live_side s0 g a.whole k.live) e) (ap (is_listed vs) e ∙ k.unlisted) (off_horizon x u) ∙ sym (is_stored s0 x a.whole).twin;
     }
 
     only : (g : ℕ) → ((live_in s0 (3 * g) ≡ true) × (is_listed vs (3 * g / 3) ≡ false)) ⊎ ((j : ℕ) × ((j < length made) × (3 * g / 3 ≡ number made j))) → IsKept (facets_of s0) vs g ⊎ ((j : ℕ) × (j < length made) × (g ≡ number made j))

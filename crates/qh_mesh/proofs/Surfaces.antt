@@ -1,16 +1,20 @@
 -- From surface to surface.
-use Rattle.std.proofs.Common.{◌≡◌, ◌≢◌, ℕ, zero, suc, ◌+◌, ◌-◌, ◌*◌, ◌/◌, ◌%◌, ◌<◌, ◌≤◌, arith, ap, sym, ◌∙◌, refl, Bool, true, false, ◌⊎◌, inl, inr, List, length, subst, take}
+use Rattle.std.proofs.Common.{◌≡◌, ◌≢◌, ℕ, ◌+◌, ◌-◌, ◌*◌, ◌/◌, ◌<◌, ◌≤◌, arith, ap, sym, ◌∙◌, Bool, true, false, ◌⊎◌, inl, inr, List, length, subst, take}
 use Rattle.std.proofs.lemmas.List.{get_or-take}
+use Rattle.std.proofs.lemmas.Bool.{cases_Bool, both_ways}
 use Rattle.qh_mesh.specs.declared.facets.Side.{Side}
 use Rattle.qh_mesh.specs.declared.facets.FacetNo.{FacetNo}
 use Rattle.qh_mesh.specs.Nets.{after, IsNet}
-use Rattle.qh_mesh.specs.Cells.{cell, start_in, twin_in, live_in, seen_in, rim_of, rim_from, Marked, Replaced, HasCone, AreJoined, IsSurface, AreLive, Places, Cut, Ready, Rebuilt}
+use Rattle.qh_mesh.specs.Cells.{cell, start_in, twin_in, live_in, seen_in, IsSurface, AreLive}
+use Rattle.qh_mesh.specs.MarkedFacets.{marked_horizon, listed_horizon, Marked}
+use Rattle.qh_mesh.specs.ConeSteps.{Places}
+use Rattle.qh_mesh.specs.ReplacedSides.{Replaced, HasCone, AreJoined, Cut, Ready, Rebuilt}
 use Rattle.qh_mesh.specs.Replacement.{at, number, is_listed}
-use Rattle.qh_mesh.proofs.Weaving.{by_le}
-use Rattle.qh_mesh.proofs.ListLemmas.{listed_find}
-use Rattle.qh_mesh.proofs.Replacing.{decide, not_both, seen_find, cut_is, facets_inside}
-use Rattle.qh_mesh.proofs.Finals.{seen_is, rim_is_horizon, Placed, Kind, kind, placed_apart, placed_fresh, placed_in}
+use Rattle.qh_mesh.proofs.ListedFacets.{listed_find}
+use Rattle.qh_mesh.proofs.Replacing.{seen_find, cut_is, facets_inside}
+use Rattle.qh_mesh.proofs.Finals.{seen_is, marked_is_listed, Placed, Kind, kind, placed_apart, placed_fresh, placed_in}
 use Rattle.qh_mesh.proofs.Finals.Kind.{again, freed, fresh}
+use Rattle.qh_mesh.proofs.NumberCases.{by_le}
 
 -- the same parts, apart from the marks
 pub record Same (s0 s2 : List Side) : Type 0 where
@@ -28,15 +32,15 @@ same_net s0 s2 e n = record {
 }
 
 -- and have the same cuts
-same_cut : (s0 s2 : List Side) (sn : ℕ → Bool) (vs : List FacetNo) (rim : List ℕ) → Same s0 s2 → ((x : ℕ) → seen_in s2 x ≡ sn x) → Cut s0 sn vs rim → Cut s2 (seen_in s2) vs rim
-same_cut s0 s2 sn vs rim e s c = record {
+same_cut : (s0 s2 : List Side) (sn : ℕ → Bool) (vs : List FacetNo) (horizon : List ℕ) → Same s0 s2 → ((x : ℕ) → seen_in s2 x ≡ sn x) → Cut s0 sn vs horizon → Cut s2 (seen_in s2) vs horizon
+same_cut s0 s2 sn vs horizon e s c = record {
   net = same_net s0 s2 e c.net;
   seen_live = λ x h. e.lives x ∙ c.seen_live x (sym (s x) ∙ h);
   facet = λ x. s (after x) ∙ c.facet x ∙ sym (s x);
-  rim_seen = λ j l. s (at rim j) ∙ c.rim_seen j l;
-  rim_out = λ j l. ap (seen_in s2) (e.twins (at rim j)) ∙ s (twin_in s0 (at rim j)) ∙ c.rim_out j l;
-  rim_apart = c.rim_apart;
-  rim_all = λ x h o. c.rim_all x (sym (s x) ∙ h) (sym (s (twin_in s0 x)) ∙ ap (seen_in s2) (sym (e.twins x)) ∙ o);
+  horizon_seen = λ j l. s (at horizon j) ∙ c.horizon_seen j l;
+  horizon_out = λ j l. ap (seen_in s2) (e.twins (at horizon j)) ∙ s (twin_in s0 (at horizon j)) ∙ c.horizon_out j l;
+  horizon_apart = c.horizon_apart;
+  horizon_all = λ x h o. c.horizon_all x (sym (s x) ∙ h) (sym (s (twin_in s0 x)) ∙ ap (seen_in s2) (sym (e.twins x)) ∙ o);
 }
 
 -- marks and new places at the end leave the sides the same
@@ -48,16 +52,16 @@ same_is s0 s1 s2 vs m c = record {
 }
 
 -- after the choice of places all is ready for the last steps
-pub ready_is : (s0 s1 s2 : List Side) (free : List ℕ) (vs : List FacetNo) (rim : List ℕ) (made : List FacetNo) → IsSurface s0 free → AreLive s0 vs → Marked s0 s1 vs → rim ≡ rim_of s1 vs
-    → ((x : ℕ) → cell s2 x ≡ cell s1 x) → Places vs free (length s0 / 3) (length rim) made → length s2 ≡ length s0 + 3 * (length rim - (length vs + length free)) → Ready s2 vs rim made
-ready_is s0 s1 s2 free vs rim made s f m e c p n = record {
-  cut = same_cut s0 s2 (seen_in s1) vs rim q sn (cut_is s0 s1 vs rim s.net s.unseen f m e);
+pub ready_is : (s0 s1 s2 : List Side) (free : List ℕ) (vs : List FacetNo) (horizon : List ℕ) (made : List FacetNo) → IsSurface s0 free → AreLive s0 vs → Marked s0 s1 vs → horizon ≡ marked_horizon s1 vs
+    → ((x : ℕ) → cell s2 x ≡ cell s1 x) → Places vs free (length s0 / 3) (length horizon) made → length s2 ≡ length s0 + 3 * (length horizon - (length vs + length free)) → Ready s2 vs horizon made
+ready_is s0 s1 s2 free vs horizon made s f m e c p n = record {
+  cut = same_cut s0 s2 (seen_in s1) vs horizon q sn (cut_is s0 s1 vs horizon s.net s.unseen f m e);
   listed = λ x h. seen_find s0 s1 vs s.unseen m x (sym (sn x) ∙ h);
   unlisted = λ x j l h. sn x ∙ m.listed x j l h;
   len = p.len;
-  made_apart = placed_apart s0 free vs (length rim) made d;
-  made_fresh = λ x j l h k. placed_fresh s0 free vs (length rim) made d x j (sym (q.lives x) ∙ l) (sym (seen_is s0 s1 vs s.unseen m x) ∙ sym (sn x) ∙ h) k;
-  made_in = placed_in s0 free vs (length rim) (length s2) made d n (facets_inside s0 vs s.net f);
+  made_apart = placed_apart s0 free vs (length horizon) made d;
+  made_fresh = λ x j l h k. placed_fresh s0 free vs (length horizon) made d x j (sym (q.lives x) ∙ l) (sym (seen_is s0 s1 vs s.unseen m x) ∙ sym (sn x) ∙ h) k;
+  made_in = placed_in s0 free vs (length horizon) (length s2) made d n (facets_inside s0 vs s.net f);
   again = p.again;
   vs_apart = f.apart;
   vs_in = λ j l. let h = facets_inside s0 vs s.net f j l in omega arith;
@@ -69,13 +73,13 @@ ready_is s0 s1 s2 free vs rim made s f m e c p n = record {
     sn : (x : ℕ) → seen_in s2 x ≡ seen_in s1 x
     sn x = ap (λ (v : Side). v.seen) (c x)
 
-    d : Placed s0 free vs (length rim) made
+    d : Placed s0 free vs (length horizon) made
     d = record { surface = s; facets = f; places = p }
 
 -- a rebuilt surface is a replaced one
-pub replaced_from : (s0 s1 s2 s5 : List Side) (vs : List FacetNo) (rim : List ℕ) (apex : ℕ) (made : List FacetNo) → ((x : ℕ) → seen_in s0 x ≡ false) → Marked s0 s1 vs → rim ≡ rim_of s1 vs → ((x : ℕ) → cell s2 x ≡ cell s1 x)
-    → Ready s2 vs rim made → Rebuilt s2 s5 rim apex made → Replaced s0 s5 vs apex made
-replaced_from s0 s1 s2 s5 vs rim apex made u m e c y r = record {
+pub replaced_from : (s0 s1 s2 s5 : List Side) (vs : List FacetNo) (horizon : List ℕ) (apex : ℕ) (made : List FacetNo) → ((x : ℕ) → seen_in s0 x ≡ false) → Marked s0 s1 vs → horizon ≡ marked_horizon s1 vs → ((x : ℕ) → cell s2 x ≡ cell s1 x)
+    → Ready s2 vs horizon made → Rebuilt s2 s5 horizon apex made → Replaced s0 s5 vs apex made
+replaced_from s0 s1 s2 s5 vs horizon apex made u m e c y r = record {
   len = y.len ∙ ap length h;
   apart = λ i j l k. y.made_apart i j l (omega (arith, y.len));
   cone = λ j l. subst (λ (v : List ℕ). HasCone s0 s5 (at v j) apex (number made j)) h (cone j (omega (arith, y.len)));
@@ -84,12 +88,12 @@ replaced_from s0 s1 s2 s5 vs rim apex made u m e c y r = record {
   fresh = λ x j l n k. y.made_fresh x j (q.lives x ∙ l) (sn x ∙ n) (omega (arith, y.len));
   kept_live = λ x l n. r.kept_live x (q.lives x ∙ l) (sn x ∙ n);
   kept_start = λ x l n. r.kept_start x (q.lives x ∙ l) (sn x ∙ n) ∙ q.starts x;
-  kept_twin = λ x l n o. r.kept_twin x (q.lives x ∙ l) (sn x ∙ n) (λ j k t. o j (let z : length rim ≡ length (rim_from s0 vs) = ap length h in omega arith) (ap (λ (v : List ℕ). twin_in s0 (at v j)) (sym h) ∙ sym (q.twins (at rim j)) ∙ t)) ∙ q.twins x;
+  kept_twin = λ x l n o. r.kept_twin x (q.lives x ∙ l) (sn x ∙ n) (λ j k t. o j (let z : length horizon ≡ length (listed_horizon s0 vs) = ap length h in omega arith) (ap (λ (v : List ℕ). twin_in s0 (at v j)) (sym h) ∙ sym (q.twins (at horizon j)) ∙ t)) ∙ q.twins x;
   live_only = λ x l. by x (r.live_only x l);
 }
   where
-    h : rim ≡ rim_from s0 vs
-    h = e ∙ rim_is_horizon s0 s1 vs u m
+    h : horizon ≡ listed_horizon s0 vs
+    h = e ∙ marked_is_listed s0 s1 vs u m
 
     q : Same s0 s2
     q = same_is s0 s1 s2 vs m c
@@ -97,27 +101,27 @@ replaced_from s0 s1 s2 s5 vs rim apex made u m e c y r = record {
     sn : (x : ℕ) → seen_in s2 x ≡ is_listed vs (x / 3)
     sn x = ap (λ (v : Side). v.seen) (c x) ∙ seen_is s0 s1 vs u m x
 
-    joined : AreJoined s0 s5 rim made
+    joined : AreJoined s0 s5 horizon made
     joined = record {
       next = r.joined.next;
       inside = r.joined.inside;
-      starts = λ j l. sym (q.starts (at rim (r.joined.next j))) ∙ r.joined.starts j l ∙ q.starts (after (at rim j));
+      starts = λ j l. sym (q.starts (at horizon (r.joined.next j))) ∙ r.joined.starts j l ∙ q.starts (after (at horizon j));
       twin = r.joined.twin;
       back = r.joined.back;
     }
 
-    cone : (j : ℕ) → j < length rim → HasCone s0 s5 (at rim j) apex (number made j)
+    cone : (j : ℕ) → j < length horizon → HasCone s0 s5 (at horizon j) apex (number made j)
     cone j l =
         let k = r.cone j l in
         record {
-          first = k.first ∙ q.starts (at rim j);
-          second = k.second ∙ q.starts (after (at rim j));
+          first = k.first ∙ q.starts (at horizon j);
+          second = k.second ∙ q.starts (after (at horizon j));
           third = k.third;
-          outward = k.outward ∙ q.twins (at rim j);
-          inward = ap (twin_in s5) (sym (q.twins (at rim j))) ∙ k.inward;
+          outward = k.outward ∙ q.twins (at horizon j);
+          inward = ap (twin_in s5) (sym (q.twins (at horizon j))) ∙ k.inward;
         }
 
-    by : (x : ℕ) → ((live_in s2 x ≡ true) × (seen_in s2 x ≡ false)) ⊎ ((j : ℕ) × ((j < length rim) × (x / 3 ≡ number made j))) → ((live_in s0 x ≡ true) × (is_listed vs (x / 3) ≡ false)) ⊎ ((j : ℕ) × ((j < length made) × (x / 3 ≡ number made j)))
+    by : (x : ℕ) → ((live_in s2 x ≡ true) × (seen_in s2 x ≡ false)) ⊎ ((j : ℕ) × ((j < length horizon) × (x / 3 ≡ number made j))) → ((live_in s0 x ≡ true) × (is_listed vs (x / 3) ≡ false)) ⊎ ((j : ℕ) × ((j < length made) × (x / 3 ≡ number made j)))
     by x (inl k) = inl (sym (q.lives x) ∙ k.0, sym (sn x) ∙ k.1)
     by x (inr p) = inr (p.0, (omega (arith, y.len, p.1.0), p.1.1))
 
@@ -142,49 +146,49 @@ was free free5 vs m f j l =
     left (m + (j - (length free - (m - length vs)))) (omega arith) i (omega arith) (ap (at free5) e ∙ f.freed (m + (j - (length free - (m - length vs)))) (omega arith) i))
 
 -- a rebuilt surface is a surface
-pub surface_is : (s0 s1 s2 s5 : List Side) (free free5 : List ℕ) (vs : List FacetNo) (rim : List ℕ) (apex : ℕ) (made : List FacetNo) → IsSurface s0 free → AreLive s0 vs → Marked s0 s1 vs → ((x : ℕ) → cell s2 x ≡ cell s1 x)
-    → Places vs free (length s0 / 3) (length rim) made → length s2 ≡ length s0 + 3 * (length rim - (length vs + length free)) → Ready s2 vs rim made → Rebuilt s2 s5 rim apex made → Frees free free5 vs (length rim) → IsSurface s5 free5
-surface_is s0 s1 s2 s5 free free5 vs rim apex made s f m c p n y r z = record {
+pub surface_is : (s0 s1 s2 s5 : List Side) (free free5 : List ℕ) (vs : List FacetNo) (horizon : List ℕ) (apex : ℕ) (made : List FacetNo) → IsSurface s0 free → AreLive s0 vs → Marked s0 s1 vs → ((x : ℕ) → cell s2 x ≡ cell s1 x)
+    → Places vs free (length s0 / 3) (length horizon) made → length s2 ≡ length s0 + 3 * (length horizon - (length vs + length free)) → Ready s2 vs horizon made → Rebuilt s2 s5 horizon apex made → Frees free free5 vs (length horizon) → IsSurface s5 free5
+surface_is s0 s1 s2 s5 free free5 vs horizon apex made s f m c p n y r z = record {
   whole = let a = r.len in let b = s.whole in omega arith;
   unseen = r.unseen;
   net = r.net;
-  free_in = λ j l. inside j (was free free5 vs (length rim) z j l);
-  free_dead = λ x j l e. dead x j e (was free free5 vs (length rim) z j l) (decide (live_in s5 x));
-  free_apart = λ i j l k. apart i j l (was free free5 vs (length rim) z i (omega arith)) (was free free5 vs (length rim) z j k);
-  free_all = λ g l e. by_le (Found g) (3 * g) (length s0) (λ h. old_place g h e (decide (live_in s0 (3 * g)))) (λ h. new_place g h l e);
+  free_in = λ j l. inside j (was free free5 vs (length horizon) z j l);
+  free_dead = λ x j l e. dead x j e (was free free5 vs (length horizon) z j l) (cases_Bool (live_in s5 x));
+  free_apart = λ i j l k. apart i j l (was free free5 vs (length horizon) z i (omega arith)) (was free free5 vs (length horizon) z j k);
+  free_all = λ g l e. by_le (Found g) (3 * g) (length s0) (λ h. old_place g h e (cases_Bool (live_in s0 (3 * g)))) (λ h. new_place g h l e);
 }
   where
     q : Same s0 s2
     q = same_is s0 s1 s2 vs m c
 
-    d : Placed s0 free vs (length rim) made
+    d : Placed s0 free vs (length horizon) made
     d = record { surface = s; facets = f; places = p }
 
-    inside : (j : ℕ) → Was free vs (length rim) j (at free5 j) → 3 * at free5 j + 2 < length s5
+    inside : (j : ℕ) → Was free vs (length horizon) j (at free5 j) → 3 * at free5 j + 2 < length s5
     inside j (stays h e) = let a = s.free_in j (omega arith) in let b = r.len in omega arith
     inside j (left i h k g e) = let a = facets_inside s0 vs s.net f i k in let b = r.len in omega arith
 
     -- a place of the cone is not free
-    taken : (x j i : ℕ) → i < length rim → x / 3 ≡ number made i → x / 3 ≡ at free5 j → Was free vs (length rim) j (at free5 j) → Kind free vs (length s0 / 3) i (number made i) → Prim.⊥
-    taken x j i l a b (stays h e) (again g t) = not_both (live_in s0 (3 * number vs i)) (f.live i g) (s.free_dead (3 * number vs i) j (omega arith) (omega arith))
+    taken : (x j i : ℕ) → i < length horizon → x / 3 ≡ number made i → x / 3 ≡ at free5 j → Was free vs (length horizon) j (at free5 j) → Kind free vs (length s0 / 3) i (number made i) → Prim.⊥
+    taken x j i l a b (stays h e) (again g t) = both_ways (live_in s0 (3 * number vs i)) (s.free_dead (3 * number vs i) j (omega arith) (omega arith)) (f.live i g)
     taken x j i l a b (stays h e) (freed g k t) = s.free_apart j (length vs + length free - 1 - i) (omega arith) (omega arith) (sym e ∙ sym b ∙ a ∙ t)
     taken x j i l a b (stays h e) (fresh g t) = let w = s.free_in j (omega arith) in let v = s.whole in absurd (omega arith)
     taken x j i l a b (left i' h k o e) (again g t) = f.apart i i' (omega arith) k (sym t ∙ sym a ∙ b ∙ e)
     taken x j i l a b (left i' h k o e) (freed g w t) = absurd (omega arith)
     taken x j i l a b (left i' h k o e) (fresh g t) = absurd (omega arith)
 
-    dead : (x j : ℕ) → x / 3 ≡ at free5 j → Was free vs (length rim) j (at free5 j) → ((live_in s5 x ≡ true) ⊎ (live_in s5 x ≡ false)) → live_in s5 x ≡ false
+    dead : (x j : ℕ) → x / 3 ≡ at free5 j → Was free vs (length horizon) j (at free5 j) → ((live_in s5 x ≡ true) ⊎ (live_in s5 x ≡ false)) → live_in s5 x ≡ false
     dead x j e w (inr l) = l
     dead x j e w (inl l) = absurd (by w (r.live_only x l))
       where
-        by : Was free vs (length rim) j (at free5 j) → ((live_in s2 x ≡ true) × (seen_in s2 x ≡ false)) ⊎ ((j : ℕ) × ((j < length rim) × (x / 3 ≡ number made j))) → Prim.⊥
-        by w' (inr t) = taken x j t.0 t.1.0 t.1.1 e w' (kind s0 free vs (length rim) made d t.0 t.1.0)
-        by (stays h g) (inl t) = not_both (live_in s0 x) (sym (q.lives x) ∙ t.0) (s.free_dead x j (omega arith) (e ∙ g))
-        by (left i h k o g) (inl t) = not_both (seen_in s2 x) (y.unlisted x i k (e ∙ g)) t.1
+        by : Was free vs (length horizon) j (at free5 j) → ((live_in s2 x ≡ true) × (seen_in s2 x ≡ false)) ⊎ ((j : ℕ) × ((j < length horizon) × (x / 3 ≡ number made j))) → Prim.⊥
+        by w' (inr t) = taken x j t.0 t.1.0 t.1.1 e w' (kind s0 free vs (length horizon) made d t.0 t.1.0)
+        by (stays h g) (inl t) = both_ways (live_in s0 x) (s.free_dead x j (omega arith) (e ∙ g)) (sym (q.lives x) ∙ t.0)
+        by (left i h k o g) (inl t) = both_ways (seen_in s2 x) t.1 (y.unlisted x i k (e ∙ g))
 
-    apart : (i j : ℕ) → i < j → Was free vs (length rim) i (at free5 i) → Was free vs (length rim) j (at free5 j) → at free5 i ≢ at free5 j
+    apart : (i j : ℕ) → i < j → Was free vs (length horizon) i (at free5 i) → Was free vs (length horizon) j (at free5 j) → at free5 i ≢ at free5 j
     apart i j l (stays h e) (stays g t) = λ v. s.free_apart i j l (omega arith) (sym e ∙ v ∙ t)
-    apart i j l (stays h e) (left a b k o t) = λ v. not_both (live_in s0 (3 * number vs a)) (f.live a k) (s.free_dead (3 * number vs a) i (omega arith) (omega arith))
+    apart i j l (stays h e) (left a b k o t) = λ v. both_ways (live_in s0 (3 * number vs a)) (s.free_dead (3 * number vs a) i (omega arith) (omega arith)) (f.live a k)
     apart i j l (left a b k o e) (stays g t) = absurd (omega arith)
     apart i j l (left a b k o e) (left a' b' k' o' t) = λ v. f.apart a a' (omega arith) k' (sym e ∙ v ∙ t)
 
@@ -192,8 +196,8 @@ surface_is s0 s1 s2 s5 free free5 vs rim apex made s f m c p n y r z = record {
     Found g = (j : ℕ) × ((j < length free5) × (at free5 j ≡ g))
 
     -- a place of the cone is live
-    made_live : (g i : ℕ) → i < length rim → number made i ≡ g → live_in s5 (3 * g) ≡ false → Prim.⊥
-    made_live g i l e o = not_both (live_in s5 (3 * g)) (r.cone_live (3 * g) i l (omega arith)) o
+    made_live : (g i : ℕ) → i < length horizon → number made i ≡ g → live_in s5 (3 * g) ≡ false → Prim.⊥
+    made_live g i l e o = both_ways (live_in s5 (3 * g)) o (r.cone_live (3 * g) i l (omega arith))
 
     -- a place at the end is one of the cone's
     new_place : (g : ℕ) → length s0 ≤ 3 * g → 3 * g < length s5 → live_in s5 (3 * g) ≡ false → Found g
@@ -204,22 +208,22 @@ surface_is s0 s1 s2 s5 free free5 vs rim apex made s f m c p n y r z = record {
     -- a free place is free again, or one of the cone's
     free_place : (g j : ℕ) → j < length free → at free j ≡ g → live_in s5 (3 * g) ≡ false → Found g
     free_place g j l q e =
-        by_le (Found g) j (length free - (length rim - length vs)) (λ h. (j, (let a = z.len in omega arith, z.kept j h ∙ q)))
+        by_le (Found g) j (length free - (length horizon - length vs)) (λ h. (j, (let a = z.len in omega arith, z.kept j h ∙ q)))
         (λ h. absurd (made_live g (length vs + length free - 1 - j) (omega arith) (p.freed (length vs + length free - 1 - j) (omega arith) (omega arith) (omega arith) ∙ ap (at free) (let b : length vs + length free - 1 - (length vs + length free - 1 - j) ≡ j = omega arith in b) ∙ q) e))
 
     -- the place of a listed facet is the cone's, or free now
     listed_place : (g i : ℕ) → i < length vs → g ≡ number vs i → live_in s5 (3 * g) ≡ false → Found g
     listed_place g i l q e =
-        by_le (Found g) i (length rim) (λ h. absurd (made_live g i h (p.again i h l ∙ sym q) e))
-        (λ h. (length free - (length rim - length vs) + (i - length rim), (let a = z.len in omega arith, z.freed i h l ∙ sym q)))
+        by_le (Found g) i (length horizon) (λ h. absurd (made_live g i h (p.again i h l ∙ sym q) e))
+        (λ h. (length free - (length horizon - length vs) + (i - length horizon), (let a = z.len in omega arith, z.freed i h l ∙ sym q)))
 
     old_place : (g : ℕ) → 3 * g < length s0 → live_in s5 (3 * g) ≡ false → ((live_in s0 (3 * g) ≡ true) ⊎ (live_in s0 (3 * g) ≡ false)) → Found g
     old_place g h e (inr o) = let t = s.free_all g h o in free_place g t.0 t.1.0 t.1.1 e
-    old_place g h e (inl o) = by (decide (is_listed vs (3 * g / 3)))
+    old_place g h e (inl o) = by (cases_Bool (is_listed vs (3 * g / 3)))
       where
         by : ((is_listed vs (3 * g / 3) ≡ true) ⊎ (is_listed vs (3 * g / 3) ≡ false)) → Found g
         by (inl t) = let i = listed_find vs (3 * g / 3) t in listed_place g i.0 i.1.0 (omega (arith, i.1.1)) e
-        by (inr t) = absurd (not_both (live_in s5 (3 * g)) (r.kept_live (3 * g) (q.lives (3 * g) ∙ o) (ap (λ (v : Side). v.seen) (c (3 * g)) ∙ seen_is s0 s1 vs s.unseen m (3 * g) ∙ t)) e)
+        by (inr t) = absurd (both_ways (live_in s5 (3 * g)) e (r.kept_live (3 * g) (q.lives (3 * g) ∙ o) (ap (λ (v : Side). v.seen) (c (3 * g)) ∙ seen_is s0 s1 vs s.unseen m (3 * g) ∙ t)))
 
 -- the places by equal numbers
 pub fix_places : (vs : List FacetNo) (free : List ℕ) (n n' k k' : ℕ) (made : List FacetNo) → n ≡ n' → k ≡ k' → Places vs free (n / 3) k made → Places vs free (n' / 3) k' made

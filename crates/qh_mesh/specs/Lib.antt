@@ -1,4 +1,8 @@
 pub mod Cells
+pub mod Turns
+pub mod MarkedFacets
+pub mod ConeSteps
+pub mod ReplacedSides
 pub mod Nets
 pub mod Stored
 pub mod Replacement

@@ -1,12 +1,16 @@
 //! The steps of a replacement.
 ghost use Rattle.std.specs.Prelude.{◌≡◌, ◌≢◌, ◌+◌, ◌*◌, ◌/◌, ◌%◌, ◌<◌, ◌≤◌, ◌^◌, ◌-◌, length, true, false, not, filter, [], ◌∷◌, ◌++◌, vec_len, vec_capacity, ℕ, take};
 ghost use Rattle.qh_mesh.specs.Nets.{after};
-ghost use Rattle.qh_mesh.specs.Cells.{IsWoven, Turned, seen_in, twin_in, start_in, live_in, cell, rim_of, Marked, MarkedFacet, spoke_at, Joined, IsSpoke, Written, Places, BlankFacet, Released};
+ghost use Rattle.qh_mesh.specs.Cells.{seen_in, twin_in, start_in, live_in, cell};
+ghost use Rattle.qh_mesh.specs.Turns.{IsWoven, Turned};
+ghost use Rattle.qh_mesh.specs.MarkedFacets.{marked_horizon, Marked, MarkedFacet};
+ghost use Rattle.qh_mesh.specs.ConeSteps.{cone_facet_at, Joined, IsConeFacet, Written, Places, BlankFacet, Released};
 ghost use Rattle.qh_mesh.specs.Replacement.{number, at};
 
-use crate::facets::{FacetNo, Side, Spoke};
+use crate::facets::{ConeFacet, FacetNo, Side};
 use crate::turning::{after, turn};
 
+/// Marks the sides of a facet as seen.
 fn mark_facet(sides: &mut [Side], f: usize)
     requires { 3 * f + 2 < length sides.old }
     ensures { MarkedFacet sides.old sides.new f }
@@ -26,36 +30,37 @@ pub fn mark(sides: &mut [Side], visible: &[FacetNo])
     }
 }
 
-fn add_rim(sides: &[Side], e: usize, rim: &mut Vec<usize>)
+/// Adds a side to the horizon if its twin is not seen.
+fn add_horizon_side(sides: &[Side], e: usize, horizon: &mut Vec<usize>)
     requires side { e < length sides.now }
     requires twin { twin_in sides.now e < length sides.now }
-    requires room { vec_len rim.old < vec_capacity rim.old }
-    ensures items { rim.new.items
-        ≡ rim.old.items ++ filter (λ e. not (seen_in sides.now (twin_in sides.now e))) (e ∷ []) }
-    ensures len { vec_len rim.new ≤ vec_len rim.old + 1 }
-    ensures capacity { vec_capacity rim.new ≡ vec_capacity rim.old }
+    requires room { vec_len horizon.old < vec_capacity horizon.old }
+    ensures items { horizon.new.items
+        ≡ horizon.old.items ++ filter (λ e. not (seen_in sides.now (twin_in sides.now e))) (e ∷ []) }
+    ensures len { vec_len horizon.new ≤ vec_len horizon.old + 1 }
+    ensures capacity { vec_capacity horizon.new ≡ vec_capacity horizon.old }
 {
     if !sides[sides[e].twin].seen {
-        rim.push_reserved(e);
+        horizon.push_reserved(e);
     }
 }
 
 /// The sides of seen facets whose twin is not seen.
-pub fn gather(sides: &[Side], visible: &[FacetNo], rim: &mut Vec<usize>)
+pub fn gather(sides: &[Side], visible: &[FacetNo], horizon: &mut Vec<usize>)
     requires small { length sides.now < 2 ^ 64 - 1 }
     requires woven { IsWoven sides.now }
     requires listed { (x j : ℕ)
         → j < length visible.now → x / 3 ≡ number visible.now j → seen_in sides.now x ≡ true }
-    requires empty { rim.old.items ≡ [] }
-    requires len { vec_len rim.old ≡ 0 }
-    requires room { 3 * length visible.now ≤ vec_capacity rim.old }
-    ensures items { rim.new.items ≡ rim_of sides.now visible.now }
-    ensures capacity { vec_capacity rim.new ≡ vec_capacity rim.old }
+    requires empty { horizon.old.items ≡ [] }
+    requires len { vec_len horizon.old ≡ 0 }
+    requires room { 3 * length visible.now ≤ vec_capacity horizon.old }
+    ensures items { horizon.new.items ≡ marked_horizon sides.now visible.now }
+    ensures capacity { vec_capacity horizon.new ≡ vec_capacity horizon.old }
 {
     for f in visible {
-        add_rim(sides, 3 * f.0, rim);
-        add_rim(sides, 3 * f.0 + 1, rim);
-        add_rim(sides, 3 * f.0 + 2, rim);
+        add_horizon_side(sides, 3 * f.0, horizon);
+        add_horizon_side(sides, 3 * f.0 + 1, horizon);
+        add_horizon_side(sides, 3 * f.0 + 2, horizon);
     }
 }
 
@@ -128,39 +133,39 @@ pub fn choose(
 }
 
 /// Each side across the horizon gets its twin in the cone.
-pub fn join_outer(sides: &mut [Side], rim: &[usize], made: &[FacetNo])
-    requires len { length rim.now ≡ length made.now }
+pub fn join_outer(sides: &mut [Side], horizon: &[usize], made: &[FacetNo])
+    requires len { length horizon.now ≡ length made.now }
     requires inside { (j : ℕ)
-        → j < length rim.now → (at rim.now j < length sides.old) × (twin_in sides.old (at rim.now j) < length sides.old) }
-    requires fits { (j : ℕ) → j < length rim.now → 3 * number made.now j < 2 ^ 64 }
+        → j < length horizon.now → (at horizon.now j < length sides.old) × (twin_in sides.old (at horizon.now j) < length sides.old) }
+    requires fits { (j : ℕ) → j < length horizon.now → 3 * number made.now j < 2 ^ 64 }
     requires apart { (i j : ℕ)
-        → i < j → j < length rim.now → twin_in sides.old (at rim.now i) ≢ twin_in sides.old (at rim.now j) }
+        → i < j → j < length horizon.now → twin_in sides.old (at horizon.now i) ≢ twin_in sides.old (at horizon.now j) }
     requires out { (i j : ℕ)
-        → i < length rim.now → j < length rim.now → twin_in sides.old (at rim.now i) ≢ at rim.now j }
-    ensures { Joined sides.old sides.new rim.now made.now }
+        → i < length horizon.now → j < length horizon.now → twin_in sides.old (at horizon.now i) ≢ at horizon.now j }
+    ensures { Joined sides.old sides.new horizon.now made.now }
 {
-    for j in 0..rim.len() {
-        let outer = sides[rim[j]].twin;
+    for j in 0..horizon.len() {
+        let outer = sides[horizon[j]].twin;
         sides[outer].twin = 3 * made[j].0;
     }
 }
 
 /// What each cone facet needs of the facets that go.
-pub fn gather_spokes(sides: &[Side], rim: &[usize], spokes: &mut Vec<Spoke>)
+pub fn gather_cone_facets(sides: &[Side], horizon: &[usize], cone_facets: &mut Vec<ConeFacet>)
     requires small { length sides.now < 2 ^ 64 - 1 }
     requires woven { IsWoven sides.now }
-    requires seen { (j : ℕ) → j < length rim.now → seen_in sides.now (at rim.now j) ≡ true }
+    requires seen { (j : ℕ) → j < length horizon.now → seen_in sides.now (at horizon.now j) ≡ true }
     requires out { (j : ℕ)
-        → j < length rim.now → seen_in sides.now (twin_in sides.now (at rim.now j)) ≡ false }
-    requires empty { vec_len spokes.old ≡ 0 }
-    requires room { length rim.now ≤ vec_capacity spokes.old }
-    ensures len { length spokes.new.items ≡ length rim.now }
+        → j < length horizon.now → seen_in sides.now (twin_in sides.now (at horizon.now j)) ≡ false }
+    requires empty { vec_len cone_facets.old ≡ 0 }
+    requires room { length horizon.now ≤ vec_capacity cone_facets.old }
+    ensures len { length cone_facets.new.items ≡ length horizon.now }
     ensures each { (j : ℕ)
-        → j < length rim.now → IsSpoke sides.now (at rim.now j) (spoke_at spokes.new.items j) }
+        → j < length horizon.now → IsConeFacet sides.now (at horizon.now j) (cone_facet_at cone_facets.new.items j) }
 {
-    for h in rim {
+    for h in horizon {
         let next = turn(sides, *h);
-        spokes.push_reserved(Spoke {
+        cone_facets.push_reserved(ConeFacet {
             from: sides[*h].start,
             to: sides[after(*h)].start,
             outer: sides[*h].twin,
@@ -170,34 +175,34 @@ pub fn gather_spokes(sides: &[Side], rim: &[usize], spokes: &mut Vec<Spoke>)
 }
 
 /// Writes the cone.
-pub fn write_cones(sides: &mut [Side], made: &[FacetNo], spokes: &[Spoke], apex: u32)
-    requires len { length made.now ≡ length spokes.now }
+pub fn write_cones(sides: &mut [Side], made: &[FacetNo], cone_facets: &[ConeFacet], apex: u32)
+    requires len { length made.now ≡ length cone_facets.now }
     requires small { length sides.old < 2 ^ 64 - 1 }
     requires inside { (j : ℕ) → j < length made.now → 3 * number made.now j + 2 < length sides.old }
     requires next_inside { (j : ℕ)
-        → j < length made.now → (spoke_at spokes.now j).next + 2 < length sides.old }
-    requires next_whole { (j : ℕ) → j < length made.now → (spoke_at spokes.now j).next % 3 ≡ 0 }
+        → j < length made.now → (cone_facet_at cone_facets.now j).next + 2 < length sides.old }
+    requires next_whole { (j : ℕ) → j < length made.now → (cone_facet_at cone_facets.now j).next % 3 ≡ 0 }
     requires apart { (i j : ℕ) → i < j → j < length made.now → number made.now i ≢ number made.now j }
     requires next_apart { (i j : ℕ)
-        → i < j → j < length made.now → (spoke_at spokes.now i).next ≢ (spoke_at spokes.now j).next }
-    ensures { Written sides.old sides.new made.now spokes.now apex (length made.now) }
+        → i < j → j < length made.now → (cone_facet_at cone_facets.now i).next ≢ (cone_facet_at cone_facets.now j).next }
+    ensures { Written sides.old sides.new made.now cone_facets.now apex (length made.now) }
 {
     for j in 0..made.len() {
         let place = 3 * made[j].0;
-        let spoke = spokes[j];
+        let facet = cone_facets[j];
         sides[place] = Side {
-            start: spoke.from,
+            start: facet.from,
             live: true,
             seen: false,
-            twin: spoke.outer,
+            twin: facet.outer,
         };
         sides[place + 1] = Side {
-            start: spoke.to,
+            start: facet.to,
             live: true,
             seen: false,
-            twin: spoke.next + 2,
+            twin: facet.next + 2,
         };
-        sides[spoke.next + 2] = Side {
+        sides[facet.next + 2] = Side {
             start: apex,
             live: true,
             seen: false,
@@ -206,6 +211,7 @@ pub fn write_cones(sides: &mut [Side], made: &[FacetNo], spokes: &[Spoke], apex:
     }
 }
 
+/// Empties the place of a facet.
 fn blank_facet(sides: &mut [Side], f: usize)
     requires { 3 * f + 2 < length sides.old }
     ensures { BlankFacet sides.old sides.new f }

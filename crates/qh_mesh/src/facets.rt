@@ -22,7 +22,7 @@ pub struct Side {
 /// What a facet of a cone is made of: the ends of its horizon side, the side across, and the first
 /// side of the facet that comes next around the cone.
 #[derive(Clone, Copy, Drop)]
-pub struct Spoke {
+pub struct ConeFacet {
     pub from: u32,
     pub to: u32,
     pub outer: usize,

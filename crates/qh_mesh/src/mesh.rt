@@ -11,7 +11,7 @@ ghost use Rattle.qh_mesh.specs.LiveNumbers.{numbers};
 ghost use Rattle.qh_mesh.specs.SoundMesh.{simplex_facets, IsSoundMesh, IsClosedMesh, AreVisible};
 ghost use Rattle.qh_model.specs.Rewired.{IsRewired};
 
-use crate::facets::{EdgeNo, FacetNo, Side, Spoke};
+use crate::facets::{ConeFacet, EdgeNo, FacetNo, Side};
 use crate::live::Live;
 use crate::rebuild::rebuild;
 use crate::sides::{corners, ends};
@@ -30,9 +30,9 @@ pub struct Mesh {
     /// The places of no facet.
     free: Vec<usize>,
     /// Room for the horizon of a replacement.
-    rim: Vec<usize>,
+    horizon: Vec<usize>,
     /// Room for the facets of its cone.
-    spokes: Vec<Spoke>,
+    cone_facets: Vec<ConeFacet>,
 }
 
 impl Model for Mesh {
@@ -100,27 +100,27 @@ fn four(a: u32, b: u32, c: u32, d: u32) -> [Side; 12]
 fn make_room(
     sides: &mut Vec<Side>,
     free: &mut Vec<usize>,
-    rim: &mut Vec<usize>,
-    spokes: &mut Vec<Spoke>,
+    horizon: &mut Vec<usize>,
+    cone_facets: &mut Vec<ConeFacet>,
     count: usize,
 ) -> Result<(), AllocError>
     ensures sides { sides.new.items ≡ sides.old.items }
     ensures free { free.new.items ≡ free.old.items }
-    ensures rim { vec_len rim.new ≡ 0 }
-    ensures spokes { vec_len spokes.new ≡ 0 }
-    ensures rim_room { OnOk result (3 * count ≤ vec_capacity rim.new) }
-    ensures spokes_room { OnOk result (3 * count ≤ vec_capacity spokes.new) }
+    ensures horizon { vec_len horizon.new ≡ 0 }
+    ensures cone_facets { vec_len cone_facets.new ≡ 0 }
+    ensures horizon_room { OnOk result (3 * count ≤ vec_capacity horizon.new) }
+    ensures cone_facets_room { OnOk result (3 * count ≤ vec_capacity cone_facets.new) }
     ensures free_room { OnOk result (vec_len free.new + count ≤ vec_capacity free.new) }
     ensures spare { OnOk result (vec_len sides.new + 3 * (2 * count - vec_len free.new) ≤ vec_capacity sides.new) }
 {
-    rim.clear();
-    spokes.clear();
+    horizon.clear();
+    cone_facets.clear();
     let Some(most) = count.checked_mul(6) else {
         return Err(AllocError);
     };
     let free_len = free.len();
-    rim.reserve(most / 2)?;
-    spokes.reserve(most / 2)?;
+    horizon.reserve(most / 2)?;
+    cone_facets.reserve(most / 2)?;
     free.reserve(count)?;
     sides.reserve(3 * (2 * count).saturating_sub(free_len))?;
     Ok(())
@@ -161,8 +161,8 @@ impl Mesh {
         Ok(Mesh {
             sides,
             free: Vec::new(alloc),
-            rim: Vec::new(alloc),
-            spokes: Vec::new(alloc),
+            horizon: Vec::new(alloc),
+            cone_facets: Vec::new(alloc),
         })
     }
 
@@ -258,8 +258,8 @@ impl Mesh {
         let Ok(()) = make_room(
             &mut self.sides,
             &mut self.free,
-            &mut self.rim,
-            &mut self.spokes,
+            &mut self.horizon,
+            &mut self.cone_facets,
             count,
         ) else {
             return Err(Memory);
@@ -270,8 +270,8 @@ impl Mesh {
         rebuild(
             &mut self.sides,
             &mut self.free,
-            &mut self.rim,
-            &mut self.spokes,
+            &mut self.horizon,
+            &mut self.cone_facets,
             &mut made,
             visible,
             apex.number(),

@@ -1,7 +1,8 @@
 //! Turning about a corner.
 ghost use Rattle.std.specs.Prelude.{◌≡◌, ◌<◌, ◌^◌, ◌-◌, length, true, false};
 ghost use Rattle.qh_mesh.specs.Nets.{after};
-ghost use Rattle.qh_mesh.specs.Cells.{IsWoven, Turned, seen_in, twin_in};
+ghost use Rattle.qh_mesh.specs.Cells.{seen_in, twin_in};
+ghost use Rattle.qh_mesh.specs.Turns.{IsWoven, Turned};
 
 use crate::facets::Side;
 

@@ -1,5 +1,4 @@
 pub mod algebra
-pub mod Booleans
 pub mod Members
 pub mod lists
 pub mod combinations

@@ -1,7 +1,8 @@
--- Members of lists: by index, in lists of rising numbers, and under facts of each member.
-use Rattle.std.proofs.Common.{ℕ, zero, suc, ◌<◌, List, [], ◌∷◌, length, add-one, arith, refl, sym, subst, inl, inr, All, get_or}
-use Rattle.std.proofs.lemmas.List.Elements.{All-head, All-tail}
-use Rattle.std.specs.List.{AllByRecursion as Every}
+-- Members of lists: by index, by the words of std, in lists of rising numbers, and under facts of each member.
+use Rattle.std.proofs.Common.{ℕ, zero, suc, ◌<◌, List, [], ◌∷◌, length, add-one, arith, refl, sym, subst, inl, inr, All, get_or, ◌≡◌, IsPermutation}
+use Rattle.std.proofs.lemmas.List.Elements.{All-head, All-tail, All-from_recursion}
+use Rattle.std.proofs.lemmas.List.Sorted.{Contains-permutation}
+use Rattle.std.specs.List.{AllByRecursion as Every, Contains}
 use Rattle.std.specs.List.Sorted.{IsStrictlyIncreasing}
 use Rattle.qh_model.specs.Sets.{In, Once}
 
@@ -16,6 +17,31 @@ pub In-get_or : {X : Type 0} (xs : List X) (k : ℕ) (d : X) → k < length xs �
 In-get_or [] k d h = absurd (omega arith)
 In-get_or (x ∷ xs) zero d h = inl refl
 In-get_or (x ∷ xs) (suc k) d h = inr (In-get_or xs k d (omega arith))
+
+-- a member stands at an index
+pub in_at : (xs : List ℕ) (x : ℕ) → In x xs → (k : ℕ) × (k < length xs) × (get_or xs k 0 ≡ x)
+in_at [] x m = absurd m
+in_at (y ∷ xs) x (inl e) = (0, omega arith, sym e)
+in_at (y ∷ xs) x (inr m) = let r = in_at xs x m in let h = r.1 in (suc r.0, omega arith, r.2)
+
+-- a member, in the word of std
+pub to_contains : {X : Type 0} (xs : List X) (x : X) → In x xs → Contains xs x
+to_contains [] x m = absurd m
+to_contains (y ∷ xs) x (inl e) = (0, omega arith, sym e)
+to_contains (y ∷ xs) x (inr m) = let r = to_contains xs x m in let h = r.1 in (suc r.0, omega arith, r.2)
+
+-- and back
+pub of_contains : {X : Type 0} (xs : List X) (x : X) → Contains xs x → In x xs
+of_contains {X} xs x c = go xs c.0 c.1 c.2
+  where
+    go : (ys : List X) (k : ℕ) → k < length ys → get_or ys k x ≡ x → In x ys
+    go [] k h e = absurd (omega arith)
+    go (y ∷ ys) zero h e = inl (sym e)
+    go (y ∷ ys) (suc k) h e = inr (go ys k (omega arith) e)
+
+-- a member of a list is one of the list in another order
+pub in_permutation : {X : Type 0} (xs ys : List X) → IsPermutation xs ys → (x : X) → In x xs → In x ys
+in_permutation xs ys p x m = of_contains ys x (Contains-permutation xs ys x p (to_contains xs x m))
 
 -- a rising list goes on rising after its first
 pub rising_tail : (x : ℕ) (xs : List ℕ) → IsStrictlyIncreasing (x ∷ xs) → IsStrictlyIncreasing xs
@@ -38,7 +64,16 @@ pub rising_once : (xs : List ℕ) → IsStrictlyIncreasing xs → Once xs
 rising_once [] h = tt
 rising_once (x ∷ xs) h = (λ i. let below : x < x = rising_first x xs h x i in omega (arith, below), rising_once xs (rising_tail x xs h))
 
--- the same of a list by recursion
+-- what holds of each member holds of the list, by recursion
+pub every_of : {X : Type 0} (P : X → Type 0) (xs : List X) → ((x : X) → In x xs → P x) → Every P xs
+every_of P [] f = tt
+every_of P (x ∷ xs) f = (f x (inl refl), every_of P xs (λ y i. f y (inr i)))
+
+-- and in the word of std
+pub All-of : {X : Type 0} (P : X → Type 0) (xs : List X) → ((x : X) → In x xs → P x) → All P xs
+All-of P xs f = All-from_recursion P xs (every_of P xs f)
+
+-- what holds of a list by recursion holds of a member
 pub every_at : {X : Type 0} (P : X → Type 0) (xs : List X) (x : X) → Every P xs → In x xs → P x
 every_at P (y ∷ ys) x h (inl e) = subst P (sym e) h.0
 every_at P (y ∷ ys) x h (inr m) = every_at P ys x h.1 m

@@ -1,5 +1,7 @@
--- Lists as sets: ordered lists, and lists that have each member once.
+-- Lists as sets: ordered lists, lists that have each member once, lists joined, and images.
 pub mod Ordered
 pub mod OnceEach
 pub mod Lexicographic
 pub mod Rising
+pub mod Joined
+pub mod Images

@@ -11,7 +11,8 @@ pub mod KeptSound
 pub mod Unseen
 pub mod SimplexBoundary
 pub mod Located
-pub mod Rim
+pub mod FacetSides
+pub mod DrawnHorizon
 pub mod Horizon
 pub mod Rewired
 pub mod CoveredPlanes

@@ -1,18 +1,19 @@
 -- The ids that are marked at the first key of each place are the distinct ids.
-use Rattle.std.proofs.Common.{◌≡◌, ◌≢◌, ℕ, ◌+◌, ◌*◌, ◌%◌, ◌/◌, ◌<◌, ◌≤◌, List, [], ◌∷◌, length, get_or, map, replicate, arith, ap, sym, subst, ◌∙◌, refl, ◌⊎◌, inl, inr, ⊎_elim, true, false, Bool}
+use Rattle.std.proofs.Common.{◌≡◌, ◌≢◌, ℕ, ◌+◌, ◌*◌, ◌%◌, ◌/◌, ◌<◌, ◌≤◌, List, length, get_or, map, replicate, arith, ap, sym, subst, ◌∙◌, refl, ◌⊎◌, inl, inr, ⊎_elim, true, false, Bool}
 use Rattle.std.proofs.lemmas.Bool.Decides.{nat_tests}
+use Rattle.std.proofs.lemmas.Bool.{cases_lt}
 use Rattle.std.proofs.lemmas.List.{length-replicate}
 use Rattle.std.specs.Prelude.{IsPermutation}
 use Rattle.std.specs.List.{All, AllByRecursion as Every}
 use Rattle.std.specs.List.Sorted.{IsStrictlyIncreasing, IsNonDecreasing}
-use Rattle.qh_model.proofs.Members.{All-In, In-get_or, every_at}
+use Rattle.qh_model.proofs.Members.{All-In, In-get_or, every_at, All-of, every_of, in_at}
+use Rattle.qh_model.proofs.lists.Images.{in_map, of_map}
 use Rattle.qh_model.specs.DistinctIds.{IsDistinctId, AreDistinctIds, IsIdSet}
 use Rattle.qh_model.specs.Predicates.{place}
 use Rattle.qh_model.specs.Sets.{In}
 use Rattle.qh_model.specs.Vector.{Vector}
 use Rattle.qh_plane.proofs.KeyOrder.{IsKeyOf, sorted_keys, rising_keys, key_parts, key_id, place_code-same, raised_small, sorted-all}
 use Rattle.qh_plane.proofs.MarkedIds.{IsMarked, in_marked_ids, of_marked_ids, marked_ids-rise, marked_only, marked_has, blank}
-use Rattle.qh_plane.proofs.Members.{All-of, every_of, in_at, in_map, of_map, Rises, rises_above}
 use Rattle.qh_plane.proofs.PlaceStarts.{Start, IsBefore, starts_only, starts_all}
 use Rattle.qh_plane.specs.declared.place_keys.TheConstants.{ROOM}
 use Rattle.qh_plane.specs.declared.distinct_points.TheConstants.{NO_PLACE}
@@ -78,11 +79,6 @@ module _ (pts : List Vector) (all keys : List ℕ) (a : AllIds (length pts) all)
   unfolding b
   up = rising_keys pts all (ids_in keys) b known (rises_each (length pts) all a)
 
-  -- the same by recursion
-  up_list : (ks : List ℕ) → IsStrictlyIncreasing ks → Rises ks
-  up_list [] r = tt
-  up_list (k ∷ ks) r = rises_above k ks r
-
   -- each index has a key
   known_at : (i : ℕ) → i < length pts → HasKey pts i
   known_at i h = All-In (HasKey pts) all i known (all_in (length pts) all a i h)
@@ -111,7 +107,7 @@ module _ (pts : List Vector) (all keys : List ℕ) (a : AllIds (length pts) all)
       r = of_map (λ k. k % ROOM) (place_starts NO_PLACE keys) i m
 
       s : Start NO_PLACE keys r.0
-      s = starts_only NO_PLACE keys r.0 (up_list keys up) fresh r.1
+      s = starts_only NO_PLACE keys r.0 up fresh r.1
 
       t : IsKeyOf pts all r.0
       t = every_at (IsKeyOf pts all) keys r.0 told s.has
@@ -136,7 +132,7 @@ module _ (pts : List Vector) (all keys : List ℕ) (a : AllIds (length pts) all)
   from_first : (i : ℕ) → IsDistinctId pts i → In i (ids_in (place_starts NO_PLACE keys))
   from_first i f =
       subst (λ v. In v (ids_in (place_starts NO_PLACE keys))) (key_id pts i ki.small)
-      (in_map (λ k. k % ROOM) (place_starts NO_PLACE keys) (key_at pts i) (starts_all NO_PLACE keys (key_at pts i) (up_list keys up) (record { has = key_listed i f.0; new = new; least = least })))
+      (in_map (λ k. k % ROOM) (place_starts NO_PLACE keys) (key_at pts i) (starts_all NO_PLACE keys (key_at pts i) up (record { has = key_listed i f.0; new = new; least = least })))
     where
       ki : HasKey pts i
       ki = known_at i f.0
@@ -148,16 +144,13 @@ module _ (pts : List Vector) (all keys : List ℕ) (a : AllIds (length pts) all)
           off {c} h e = omega arith
 
       least : (y : ℕ) → In y keys → y / ROOM ≡ key_at pts i / ROOM → key_at pts i ≤ y
-      least y m e = go (lt_or (y % ROOM) i)
+      least y m e = go (cases_lt (y % ROOM) i)
         where
           t : IsKeyOf pts all y
           t = every_at (IsKeyOf pts all) keys y told m
 
           codes : place_code (place pts (y % ROOM)) ≡ place_code (place pts i)
           codes = sym (code_in_key pts (y % ROOM) t.known.small) ∙ sym (ap (λ v. v / ROOM) t.is) ∙ e ∙ code_in_key pts i ki.small
-
-          lt_or : (p q : ℕ) → (p < q) ⊎ (q ≤ p)
-          lt_or p q = grind (arith, nat_tests)
 
           go : (y % ROOM < i) ⊎ (i ≤ y % ROOM) → key_at pts i ≤ y
           go (inl h) = absurd (f.1 (y % ROOM) h (place_code-same _ _ t.known.place_in ki.place_in codes))
@@ -174,7 +167,7 @@ module _ (pts : List Vector) (all keys : List ℕ) (a : AllIds (length pts) all)
   within =
       every_of (λ k. k % ROOM < length (replicate (length pts) false)) (place_starts NO_PLACE keys) (λ k m.
       subst (λ v. k % ROOM < v) (sym (length-replicate (length pts) false))
-      (in_all (length pts) all a (k % ROOM) (every_at (IsKeyOf pts all) keys k told (starts_only NO_PLACE keys k (up_list keys up) fresh m).has).has))
+      (in_all (length pts) all a (k % ROOM) (every_at (IsKeyOf pts all) keys k told (starts_only NO_PLACE keys k up fresh m).has).has))
 
   -- the ids that are marked at the starts are the distinct ids
   pub distinct_ids : AreDistinctIds pts (marked_ids 0 (marked (replicate (length pts) false) (place_starts NO_PLACE keys)))

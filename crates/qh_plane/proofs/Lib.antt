@@ -1,5 +1,3 @@
-pub mod Signs
-pub mod Members
 pub mod KeyOrder
 pub mod MarkedIds
 pub mod PlaceStarts

@@ -1,8 +1,9 @@
 -- Of rising keys, those at which a new place begins: the least key of each place.
-use Rattle.std.proofs.Common.{◌≡◌, ◌≢◌, ℕ, ◌/◌, ◌<◌, ◌≤◌, List, [], ◌∷◌, arith, ap, sym, ◌∙◌, refl, ◌⊎◌, inl, inr, ⊎_elim, eqb, true, false, Bool, cond, rules}
-use Rattle.std.proofs.lemmas.Bool.Decides.{nat_tests}
+use Rattle.std.proofs.Common.{◌≡◌, ◌≢◌, ℕ, ◌/◌, ◌<◌, ◌≤◌, List, [], ◌∷◌, arith, ap, sym, ◌∙◌, refl, ◌⊎◌, inl, inr, ⊎_elim, eqb, true, false, Bool, cond}
+use Rattle.std.proofs.lemmas.Bool.{eqb-true, eqb-false}
+use Rattle.std.specs.List.Sorted.{IsStrictlyIncreasing}
 use Rattle.qh_model.specs.Sets.{In}
-use Rattle.qh_plane.proofs.Members.{Rises, RisesAbove, above, rises_tail}
+use Rattle.qh_model.proofs.Members.{rising_first, rising_tail}
 use Rattle.qh_plane.specs.declared.place_keys.TheConstants.{ROOM}
 use Rattle.qh_plane.specs.Marks.{place_starts}
 
@@ -20,17 +21,9 @@ IsBefore c ks = ((x : ℕ) → In x ks → c ≤ x / ROOM) ⊎ ((x : ℕ) → In
 code_le : (a b : ℕ) → a < b → a / ROOM ≤ b / ROOM
 code_le a b h = omega arith
 
--- a test of equality that holds
-eqb_is : (a b : ℕ) → eqb a b ≡ true → a ≡ b
-eqb_is a b e = search (rules, e)
-
--- one that fails
-eqb_not : (a b : ℕ) → eqb a b ≡ false → a ≡ b → ⊥
-eqb_not a b e = grind (arith, nat_tests)
-
 -- the place of a key is not after those of later keys
-next_below : (k : ℕ) (ks : List ℕ) → RisesAbove k ks → IsBefore (k / ROOM) ks
-next_below k ks c = inl (λ x i. code_le k x (above k ks c x i))
+next_below : (k : ℕ) (ks : List ℕ) → IsStrictlyIncreasing (k ∷ ks) → IsBefore (k / ROOM) ks
+next_below k ks c = inl (λ x i. code_le k x (rising_first k ks c x i))
 
 -- the same of the later keys alone
 below_tail : (c k : ℕ) (ks : List ℕ) → IsBefore c (k ∷ ks) → IsBefore c ks
@@ -38,16 +31,16 @@ below_tail c k ks (inl f) = inl (λ x i. f x (inr i))
 below_tail c k ks (inr f) = inr (λ x i. f x (inr i))
 
 -- one key more, by whether its place is the last one
-starts_only-split : (c k : ℕ) (ks : List ℕ) (x : ℕ) (b : Bool) → eqb (k / ROOM) c ≡ b → RisesAbove k ks → IsBefore c (k ∷ ks)
+starts_only-split : (c k : ℕ) (ks : List ℕ) (x : ℕ) (b : Bool) → eqb (k / ROOM) c ≡ b → IsStrictlyIncreasing (k ∷ ks) → IsBefore c (k ∷ ks)
     → (In x (place_starts c ks) → Start c ks x) → (In x (place_starts (k / ROOM) ks) → Start (k / ROOM) ks x)
     → In x (cond b (place_starts c ks) (k ∷ place_starts (k / ROOM) ks)) → Start c (k ∷ ks) x
 starts_only-split c k ks x true e r l f g i =
     let s = f i in
-    record { has = inr s.has; new = s.new; least = λ y m h. ⊎_elim (λ p. absurd (s.new (sym h ∙ ap (λ v. v / ROOM) p ∙ eqb_is _ _ e))) (λ m. s.least y m h) m }
+    record { has = inr s.has; new = s.new; least = λ y m h. ⊎_elim (λ p. absurd (s.new (sym h ∙ ap (λ v. v / ROOM) p ∙ eqb-true _ _ e))) (λ m. s.least y m h) m }
 starts_only-split c k ks x false e r l f g (inl p) = record {
   has = inl p;
-  new = λ q. eqb_not _ _ e (ap (λ v. v / ROOM) (sym p) ∙ q);
-  least = λ y m h. ⊎_elim (λ q. flat (p ∙ sym q)) (λ m. below (above k ks r y m)) m;
+  new = λ q. eqb-false _ _ e (ap (λ v. v / ROOM) (sym p) ∙ q);
+  least = λ y m h. ⊎_elim (λ q. flat (p ∙ sym q)) (λ m. below (rising_first k ks r y m)) m;
 }
   where
     flat : {y : ℕ} → x ≡ y → x ≤ y
@@ -60,33 +53,33 @@ starts_only-split c k ks x false e r l f g (inr i) =
     record { has = inr s.has; new = fresh l s.has s.new; least = λ y m h. ⊎_elim (λ p. absurd (s.new (sym h ∙ ap (λ v. v / ROOM) p))) (λ m. s.least y m h) m }
   where
     fresh : IsBefore c (k ∷ ks) → In x ks → x / ROOM ≢ k / ROOM → x / ROOM ≢ c
-    fresh (inl f) m ne q = ne (squeeze (f k (inl refl)) (code_le k x (above k ks r x m)) q)
+    fresh (inl f) m ne q = ne (squeeze (f k (inl refl)) (code_le k x (rising_first k ks r x m)) q)
       where
         squeeze : c ≤ k / ROOM → k / ROOM ≤ x / ROOM → x / ROOM ≡ c → x / ROOM ≡ k / ROOM
         squeeze h g q = omega arith
     fresh (inr f) m ne q = f x (inr m) q
 
 -- what is listed begins a place
-pub starts_only : (c : ℕ) (ks : List ℕ) (x : ℕ) → Rises ks → IsBefore c ks → In x (place_starts c ks) → Start c ks x
+pub starts_only : (c : ℕ) (ks : List ℕ) (x : ℕ) → IsStrictlyIncreasing ks → IsBefore c ks → In x (place_starts c ks) → Start c ks x
 starts_only c [] x r l i = absurd i
 starts_only c (k ∷ ks) x r l i =
-    starts_only-split c k ks x (eqb (k / ROOM) c) refl r l (starts_only c ks x (rises_tail k ks r) (below_tail c k ks l)) (starts_only (k / ROOM) ks x (rises_tail k ks r) (next_below k ks r)) i
+    starts_only-split c k ks x (eqb (k / ROOM) c) refl r l (starts_only c ks x (rising_tail k ks r) (below_tail c k ks l)) (starts_only (k / ROOM) ks x (rising_tail k ks r) (next_below k ks r)) i
 
 -- the same, the other way
-starts_all-split : (c k : ℕ) (ks : List ℕ) (x : ℕ) (b : Bool) → eqb (k / ROOM) c ≡ b → RisesAbove k ks
+starts_all-split : (c k : ℕ) (ks : List ℕ) (x : ℕ) (b : Bool) → eqb (k / ROOM) c ≡ b → IsStrictlyIncreasing (k ∷ ks)
     → (Start c ks x → In x (place_starts c ks)) → (Start (k / ROOM) ks x → In x (place_starts (k / ROOM) ks))
     → In x (k ∷ ks) → Start c (k ∷ ks) x → In x (cond b (place_starts c ks) (k ∷ place_starts (k / ROOM) ks))
-starts_all-split c k ks x true e r f g (inl p) s = absurd (s.new (ap (λ v. v / ROOM) p ∙ eqb_is _ _ e))
+starts_all-split c k ks x true e r f g (inl p) s = absurd (s.new (ap (λ v. v / ROOM) p ∙ eqb-true _ _ e))
 starts_all-split c k ks x true e r f g (inr i) s = f (record { has = i; new = s.new; least = λ y m h. s.least y (inr m) h })
 starts_all-split c k ks x false e r f g (inl p) s = inl p
 starts_all-split c k ks x false e r f g (inr i) s =
-    inr (g (record { has = i; new = λ q. late (s.least k (inl refl) (sym q)) (above k ks r x i); least = λ y m h. s.least y (inr m) h }))
+    inr (g (record { has = i; new = λ q. late (s.least k (inl refl) (sym q)) (rising_first k ks r x i); least = λ y m h. s.least y (inr m) h }))
   where
     late : x ≤ k → k < x → ⊥
     late h g = omega arith
 
 -- what begins a place is listed
-pub starts_all : (c : ℕ) (ks : List ℕ) (x : ℕ) → Rises ks → Start c ks x → In x (place_starts c ks)
+pub starts_all : (c : ℕ) (ks : List ℕ) (x : ℕ) → IsStrictlyIncreasing ks → Start c ks x → In x (place_starts c ks)
 starts_all c [] x r s = absurd s.has
 starts_all c (k ∷ ks) x r s =
-    starts_all-split c k ks x (eqb (k / ROOM) c) refl r (starts_all c ks x (rises_tail k ks r)) (starts_all (k / ROOM) ks x (rises_tail k ks r)) s.has s
+    starts_all-split c k ks x (eqb (k / ROOM) c) refl r (starts_all c ks x (rising_tail k ks r)) (starts_all (k / ROOM) ks x (rising_tail k ks r)) s.has s

@@ -1,8 +1,9 @@
 -- The shape of a set of ids tells its dimension.
 use Rattle.std.proofs.Common.{◌≡◌, ℕ, ◌<◌, List, length, get_or, arith, sym, subst, ◌∙◌, refl, inl, inr}
 use Rattle.std.proofs.lemmas.Grind.{get_or_default_zero}
+use Rattle.std.proofs.Math.Nat.{ne_of_lt}
 use Rattle.std.specs.List.Sorted.{IsStrictlyIncreasing}
-use Rattle.qh_model.proofs.Members.{In-get_or}
+use Rattle.qh_model.proofs.Members.{In-get_or, in_at}
 use Rattle.qh_model.proofs.extremes.Directions.{square-positive}
 use Rattle.qh_model.specs.Dimension.{HasTriangle, HasSegment, IsDimension}
 use Rattle.qh_model.specs.DistinctIds.{IsIdSet}
@@ -10,7 +11,6 @@ use Rattle.qh_model.specs.Predicates.{place}
 use Rattle.qh_model.specs.Sets.{In, Members}
 use Rattle.qh_model.specs.Vector.{Vector, minus}
 use Rattle.qh_plane.proofs.LinesAndPlanes.{three_line, four_plane, same_point}
-use Rattle.qh_plane.proofs.Members.{less_differ, in_at}
 use Rattle.qh_plane.specs.Shapes.{IsInLine, IsInPlane, IsFirstNot, Each, AreFirstTwo}
 
 -- what holds of each position holds of each member
@@ -27,7 +27,7 @@ first_two ids i j h p q = record { two = h; first = sym (get_or_default_zero ids
 
 -- the first two are a segment
 two : (ids : List ℕ) (i j : ℕ) → AreFirstTwo ids i j → IsStrictlyIncreasing ids → HasSegment (Members ids)
-two ids i j t r = record { i = i; j = j; has_i = listed ids 0 i (let h = t.two in omega arith) t.first; has_j = listed ids 1 j t.two t.second; differ = λ e. less_differ (get_or ids 0 0) (get_or ids 1 0) (r 0 t.two) (t.first ∙ e ∙ sym t.second) }
+two ids i j t r = record { i = i; j = j; has_i = listed ids 0 i (let h = t.two in omega arith) t.first; has_j = listed ids 1 j t.two t.second; differ = λ e. ne_of_lt (r 0 t.two) (t.first ∙ e ∙ sym t.second) }
 
 -- all in line with the first two: a segment
 pub segment : (pts : List Vector) (ids : List ℕ) (i j : ℕ) → AreFirstTwo ids i j → Each (IsInLine pts i j) ids → IsIdSet pts ids → IsDimension (place pts) (Members ids) 1

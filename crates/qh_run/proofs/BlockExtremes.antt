@@ -1,22 +1,22 @@
 -- The blocks of a rising list, their extreme ids, and the hull of these.
-use Rattle.std.proofs.Common.{ℕ, zero, suc, ◌≡◌, ◌+◌, ◌-◌, ◌*◌, ◌≤◌, ◌<◌, ◌⊎◌, inl, inr, List, [], ◌∷◌, ◌++◌, length, get_or, take, drop, All, sym, subst, refl, arith}
-use Rattle.std.specs.Prelude.{◌↔◌}
+use Rattle.std.proofs.Common.{ℕ, ◌≡◌, ◌+◌, ◌-◌, ◌≤◌, ◌<◌, ◌⊎◌, inl, inr, List, [], ◌++◌, length, get_or, take, drop, All, subst, arith}
 use Rattle.std.specs.List.Sorted.{IsStrictlyIncreasing}
 use Rattle.std.proofs.lemmas.Grind.{common_steps}
+use Rattle.std.proofs.lemmas.Bool.{cases_lt}
 use Rattle.qh_model.specs.Vector.{Vector}
 use Rattle.qh_model.specs.Predicates.{place}
 use Rattle.qh_model.specs.Sets.{In, Members}
-use Rattle.qh_model.specs.Cut.{IsCut, IsInBlock, bound, block_count, positions}
+use Rattle.qh_model.specs.Cut.{IsCut, IsInBlock, bound, block_count}
 use Rattle.qh_model.specs.DistinctIds.{IsIdSet}
 use Rattle.qh_model.specs.Extreme.{Extreme, Others}
 use Rattle.qh_model.specs.Hull.{AreExtremes, BodyValue, IsBody}
-use Rattle.qh_model.proofs.Cuts.{block_ends, blocks_cover, bounds_order, cut_rises}
-use Rattle.qh_model.proofs.Members.{All-In, In-get_or}
-use Rattle.qh_model.proofs.lists.Rising.{rising_between, rising_part, rising_append}
+use Rattle.qh_model.proofs.Cuts.{blocks_cover, bounds_order, cut_rises}
+use Rattle.qh_model.proofs.Members.{All-In, In-get_or, in_at, All-of}
+use Rattle.qh_model.proofs.lists.Rising.{rising_between, rising_part, rising_append, part_at}
+use Rattle.qh_model.proofs.lists.Joined.{in_append, of_append}
 use Rattle.qh_model.proofs.extremes.ExtremeIds.{combination_within, members_are_combinations}
 use Rattle.qh_model.proofs.hulls.SameSets.{body_of_part}
 use Rattle.qh_plane.specs.PlaceKeys.{AreIndices}
-use Rattle.qh_plane.proofs.Members.{in_at, All-of}
 use Rattle.qh_run.specs.Blocks.{IsCutOf, block_ids, IsExtremeOfBlocks, AreBlockExtremes}
 
 -- where an id of a block stands in the list
@@ -25,10 +25,6 @@ record Stands (ids bounds : List ℕ) (k i : ℕ) : Type 0 where
   block : IsInBlock bounds k at
   inside : at < length ids
   is : get_or ids at 0 ≡ i
-
--- the number at a position of a part
-part_at : (xs : List ℕ) (f n k : ℕ) → k < length (take n (drop f xs)) → get_or (take n (drop f xs)) k 0 ≡ get_or xs (f + k) 0
-part_at xs f n k h = grind (arith, common_steps)
 
 -- an id of a block stands at one of its positions
 stands : (ids bounds : List ℕ) (k i : ℕ) → k < block_count bounds → In i (block_ids ids bounds k) → Stands ids bounds k i
@@ -57,10 +53,6 @@ in_block ids bounds k p b h =
 -- an id of a block is one of the list
 block_within : (ids bounds : List ℕ) (k i : ℕ) → k < block_count bounds → In i (block_ids ids bounds k) → In i ids
 block_within ids bounds k i h m = let s = stands ids bounds k i h m in subst (λ x. In x ids) s.is (In-get_or ids s.at 0 s.inside)
-
--- the ids of a block are indices
-pub block_indices : (pts : List Vector) (ids bounds : List ℕ) (k : ℕ) → k < block_count bounds → AreIndices pts ids → AreIndices pts (block_ids ids bounds k)
-block_indices pts ids bounds k h all = All-of (λ i. i < length pts) (block_ids ids bounds k) (λ i m. All-In (λ i. i < length pts) ids i all (block_within ids bounds k i h m))
 
 -- they rise and have distinct points
 pub block_set : (pts : List Vector) (ids bounds : List ℕ) (k : ℕ) → k < block_count bounds → IsIdSet pts ids → IsIdSet pts (block_ids ids bounds k)
@@ -94,35 +86,13 @@ one_block pts ids bounds k xs x =
     same : (l : ℕ) → k ≤ l → l < k + 1 → l ≡ k
     same l h m = grind (arith, h, m)
 
--- the members of two lists, one after the other
-pub in_both : (xs ys : List ℕ) (i : ℕ) → In i (xs ++ ys) ↔ (In i xs ⊎ In i ys)
-in_both [] ys i = (λ m. inr m, none)
-  where
-    none : In i [] ⊎ In i ys → In i ys
-    none (inl m) = absurd m
-    none (inr m) = m
-in_both (x ∷ xs) ys i = (apart (in_both xs ys i), together (in_both xs ys i))
-  where
-    apart : (In i (xs ++ ys) ↔ (In i xs ⊎ In i ys)) → (i ≡ x) ⊎ In i (xs ++ ys) → ((i ≡ x) ⊎ In i xs) ⊎ In i ys
-    apart r (inl e) = inl (inl e)
-    apart r (inr m) = more (r.0 m)
-      where
-        more : In i xs ⊎ In i ys → ((i ≡ x) ⊎ In i xs) ⊎ In i ys
-        more (inl m) = inl (inr m)
-        more (inr m) = inr m
-
-    together : (In i (xs ++ ys) ↔ (In i xs ⊎ In i ys)) → ((i ≡ x) ⊎ In i xs) ⊎ In i ys → (i ≡ x) ⊎ In i (xs ++ ys)
-    together r (inl (inl e)) = inl e
-    together r (inl (inr m)) = inr (r.1 (inl m))
-    together r (inr m) = inr (r.1 (inr m))
-
 -- the extreme ids of blocks and of those after them
 pub more_blocks : (pts : List Vector) (ids bounds : List ℕ) (a b c : ℕ) (xs ys : List ℕ) → IsStrictlyIncreasing ids → IsCut bounds → a ≤ b → b ≤ c → c ≤ block_count bounds
     → AreBlockExtremes pts ids bounds a b xs → AreBlockExtremes pts ids bounds b c ys → AreBlockExtremes pts ids bounds a c (xs ++ ys)
 more_blocks pts ids bounds a b c xs ys rise cut ab bc end x y =
     record {
       rising = rising_append xs ys x.rising y.rising (λ i j m n. above i j ((x.members i).0 m) ((y.members j).0 n));
-      members = λ i. (λ m. found i ((in_both xs ys i).0 m), λ e. (in_both xs ys i).1 (listed i e (side e.0 b)));
+      members = λ i. (λ m. found i (of_append xs ys i m), λ e. in_append xs ys i (listed i e (cases_lt e.0 b)));
     }
   where
     above : (i j : ℕ) → IsExtremeOfBlocks pts ids bounds a b i → IsExtremeOfBlocks pts ids bounds b c j → i < j
@@ -131,9 +101,6 @@ more_blocks pts ids bounds a b c xs ys rise cut ab bc end x y =
     found : (i : ℕ) → In i xs ⊎ In i ys → IsExtremeOfBlocks pts ids bounds a c i
     found i (inl m) = let e = (x.members i).0 m in let u = e.2 in (e.0, e.1, omega (arith, u, bc), e.3)
     found i (inr m) = let e = (y.members i).0 m in let l = e.1 in (e.0, omega (arith, l, ab), e.2, e.3)
-
-    side : (k n : ℕ) → (k < n) ⊎ (n ≤ k)
-    side k n = grind (arith)
 
     listed : (i : ℕ) (e : IsExtremeOfBlocks pts ids bounds a c i) → (e.0 < b) ⊎ (b ≤ e.0) → In i xs ⊎ In i ys
     listed i e (inl h) = inl ((x.members i).1 (e.0, e.1, h, e.3))

@@ -1,5 +1,5 @@
 -- The shares of the workers together are all blocks.
-use Rattle.std.proofs.Common.{ℕ, zero, suc, ◌≡◌, ◌+◌, ◌*◌, ◌/◌, ◌≤◌, ◌<◌, List, [], ◌∷◌, ◌∙◌, Vec, Global, ap, sym, subst, arith, le_refl}
+use Rattle.std.proofs.Common.{ℕ, zero, suc, ◌≡◌, ◌+◌, ◌*◌, ◌/◌, ◌≤◌, ◌<◌, List, [], ◌∷◌, ◌∙◌, Vec, Global, ap, subst, arith, le_refl}
 use Rattle.std.specs.List.{AllZip, flat_map, range_with_len}
 use Rattle.std.specs.List.Sorted.{IsStrictlyIncreasing}
 use Rattle.std.proofs.Math.Nat.{mul-div_cancel, mul_comm, div-mul-le_self, zero-div, zero-mul, zero-add}

@@ -10,14 +10,13 @@ use Rattle.qh_model.specs.Vector.{Vector}
 use Rattle.qh_model.specs.Sets.{In}
 use Rattle.qh_model.specs.Surface.{IsCorner}
 use Rattle.qh_model.specs.StoredSurface.{StoredFacet, facet_at, surface_of}
-use Rattle.qh_model.proofs.Members.{In-get_or}
+use Rattle.qh_model.proofs.Members.{In-get_or, to_contains, of_contains}
 use Rattle.qh_mesh.specs.declared.facets.FacetNo.{FacetNo}
 use Rattle.qh_mesh.specs.Replacement.{IsLive, is_listed, number}
-use Rattle.qh_plane.proofs.Members.{to_contains, of_contains}
+use Rattle.qh_mesh.proofs.ListedFacets.{listed_at}
 use Rattle.qh_plane.specs.PlaceKeys.{AreIndices}
 use Rattle.qh_block.specs.PlaneWalks.{AreCornersBelow}
 use Rattle.qh_block.specs.Faces.{corners_of, IsListedCorner}
-use Rattle.qh_block.proofs.finished.Extensions.{listed_at, read_number}
 
 -- ---- sorted, and freed from repeated ids
 -- the members stay
@@ -28,9 +27,6 @@ kept_members given sorted kept p is i = (
 )
 
 -- ---- corners
--- a facet that was read from the list is listed
-pub read_listed : (vs : List FacetNo) (j : ℕ) (f : FacetNo) → j < length vs → f ≡ get_or vs j f → is_listed vs f.0 ≡ true
-read_listed vs j f h e = subst (λ g. is_listed vs g ≡ true) (read_number vs j f h e) (listed_at vs j h)
 
 -- one facet more
 corners_push : (fs : List StoredFacet) (vs : List FacetNo) (f : FacetNo) → corners_of fs (vs ++ f ∷ []) ≡ corners_of fs vs ++ (facet_at fs f.0).i ∷ (facet_at fs f.0).j ∷ (facet_at fs f.0).k ∷ []
@@ -64,7 +60,7 @@ in_corners fs [] l = (λ i. absurd i, λ c. none c.1)
 in_corners fs (v ∷ vs) l = (to (in_corners fs vs l).0, λ c. from (in_corners fs vs l).1 c (nat_eq v.0 c.0) refl c.1)
   where
     own : is_listed (v ∷ vs) v.0 ≡ true
-    own = listed_at (v ∷ vs) 0 (omega arith)
+    own = listed_at (v ∷ vs) v.0 0 (omega arith) refl
 
     more : (g : ℕ) → is_listed vs g ≡ true → is_listed (v ∷ vs) g ≡ true
     more g h = by (nat_eq v.0 g)

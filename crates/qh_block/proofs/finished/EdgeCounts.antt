@@ -9,8 +9,8 @@ use Rattle.qh_model.specs.DistinctIds.{HasDistinctPoints}
 use Rattle.qh_model.specs.Dimension.{IsDimension}
 use Rattle.qh_model.specs.Polygons.{AreFaces, FollowsAlong, Follows, IsEdge, IsEdgeCount}
 use Rattle.qh_model.proofs.polygons.Edges.{one_face_each_way, other_face}
+use Rattle.qh_model.proofs.lists.Joined.{in_append, of_append, once_append}
 use Rattle.qh_block.specs.SolidEdges.{steps_up, last_of, edges_up, all_edges_up}
-use Rattle.qh_block.proofs.finished.FaceLists.{in_append, of_append}
 
 -- ---- the code's sums
 -- the last of a list
@@ -168,15 +168,6 @@ unfolding all_pairs
 to_all u v [] q i h f = absurd i
 to_all u v (p ∷ qs) q (inl e) h f = in_append (pairs_of p) (all_pairs qs) (u, v) (inl ((in_pairs u v p).1 (h, subst (Follows u v) e f)))
 to_all u v (p ∷ qs) q (inr i) h f = in_append (pairs_of p) (all_pairs qs) (u, v) (inr (to_all u v qs q i h f))
-
--- lists with nothing in common
-once_append : (xs ys : List Pair) → Once xs → Once ys → ((x : Pair) → In x xs → In x ys → ⊥) → Once (xs ++ ys)
-once_append [] ys o p n = p
-once_append (x ∷ xs) ys o p n = (λ i. pick (of_append xs ys x i), once_append xs ys o.1 p (λ y a b. n y (inr a) b))
-  where
-    pick : In x xs ⊎ In x ys → ⊥
-    pick (inl i) = o.0 i
-    pick (inr i) = n x (inl refl) i
 
 -- where no two polygons go one way each pair is there once
 all_once : (qs : List (List ℕ)) → Once qs → ((q : List ℕ) → In q qs → Once q) → ((p q : List ℕ) → In p qs → In q qs → (u v : ℕ) → Follows u v p → Follows u v q → p ≡ q) → Once (all_pairs qs)

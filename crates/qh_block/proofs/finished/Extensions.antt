@@ -1,30 +1,15 @@
 -- Walks in one plane that go on.
-use Rattle.std.proofs.Common.{◌≡◌, ◌∙◌, get_or-set_same, get_or-set_other, set, ◌⊎◌, inl, inr, ℕ, zero, suc, ◌+◌, ◌*◌, ◌/◌, ◌<◌, ◌≤◌, List, [], ◌∷◌, ◌++◌, length, ap, sym, subst, refl, arith, Bool, true, false, cond, append_assoc, get_or, below_more, eq-eqb}
-use Rattle.std.proofs.lemmas.Bool.{eqb-true}
+use Rattle.std.proofs.Common.{◌≡◌, ◌∙◌, get_or-set_same, get_or-set_other, set, ◌⊎◌, inl, inr, ℕ, suc, ◌+◌, ◌/◌, ◌<◌, ◌≤◌, List, [], ◌∷◌, ◌++◌, length, ap, sym, subst, refl, arith, Bool, true, false, cond, append_assoc, get_or, below_more, eq-eqb}
+use Rattle.std.proofs.lemmas.Bool.{eqb-true, or_cases, or_left, or_right}
 use Rattle.std.proofs.lemmas.List.Sums.{sum_by-set}
-use Rattle.std.proofs.lemmas.List.{length-set, get_or_append_left, get_or_past, get_or_read}
+use Rattle.std.proofs.lemmas.List.{length-set, get_or_append_left, get_or_read}
 use Rattle.std.specs.Prelude.{◌||◌, nat_eq, not}
 use Rattle.qh_model.specs.Vector.{Vector}
-use Rattle.qh_model.specs.StoredSurface.{StoredFacet, no_facet, surface_of}
-use Rattle.qh_mesh.proofs.Weaving.{by_le}
+use Rattle.qh_model.specs.StoredSurface.{StoredFacet, surface_of}
 use Rattle.qh_model.specs.FacetPlanes.{IsLevelFacet}
 use Rattle.qh_mesh.specs.declared.facets.FacetNo.{FacetNo}
 use Rattle.qh_mesh.specs.Replacement.{IsLive, is_listed, number}
 use Rattle.qh_block.specs.PlaneWalks.{mark_at, IsCrossed, IsExtension, AreCrossed}
-
--- one of two tests
-pub or_true : (a b : Bool) → (a || b) ≡ true → (a ≡ true) ⊎ (b ≡ true)
-or_true true b e = inl refl
-or_true false b e = inr e
-
--- the first of two tests
-pub or_left : (a b : Bool) → a ≡ true → (a || b) ≡ true
-or_left a b e = ap (λ x. x || b) e
-
--- the second
-pub or_right : (a b : Bool) → b ≡ true → (a || b) ≡ true
-or_right true b e = refl
-or_right false b e = e
 
 -- three tests
 or_assoc : (a b c : Bool) → ((a || b) || c) ≡ (a || (b || c))
@@ -46,8 +31,8 @@ pub extension_trans : (at : ℕ → Vector) (fs : List StoredFacet) (f : ℕ) (a
 extension_trans at fs f a b c us vs ws p q = record {
   more = p.more ++ q.more;
   is = q.is ∙ ap (λ x. x ++ q.more) p.is ∙ append_assoc us p.more q.more;
-  live = λ g h. pick (IsLive fs g) (or_true (is_listed p.more g) (is_listed q.more g) (sym (listed_append p.more q.more g) ∙ h)) (p.live g) (q.live g);
-  level = λ g h. pick (IsLevelFacet at (surface_of fs) f g) (or_true (is_listed p.more g) (is_listed q.more g) (sym (listed_append p.more q.more g) ∙ h)) (p.level g) (q.level g);
+  live = λ g h. pick (IsLive fs g) (or_cases (is_listed p.more g) (is_listed q.more g) (sym (listed_append p.more q.more g) ∙ h)) (p.live g) (q.live g);
+  level = λ g h. pick (IsLevelFacet at (surface_of fs) f g) (or_cases (is_listed p.more g) (is_listed q.more g) (sym (listed_append p.more q.more g) ∙ h)) (p.level g) (q.level g);
   marked = λ g. q.marked g ∙ ap (λ x. x || is_listed q.more g) (p.marked g) ∙ or_assoc (mark_at a g) (is_listed p.more g) (is_listed q.more g) ∙ ap (λ x. mark_at a g || x) (sym (listed_append p.more q.more g));
   room = q.room ∙ p.room;
   count = q.count ∙ p.count;
@@ -62,18 +47,6 @@ pub crossed_grows : (at : ℕ → Vector) (fs : List StoredFacet) (f : ℕ) (a b
     → IsExtension at fs f a b us vs → IsCrossed at fs f a e → IsCrossed at fs f b e
 crossed_grows at fs f a b us vs e p (inl h) = inl (p.marked _ ∙ or_left _ _ h)
 crossed_grows at fs f a b us vs e p (inr h) = inr h
-
--- the edges of a facet are three
-pub three_edges : (P : ℕ → Type 0) (f : ℕ) → P (3 * f + 0) → P (3 * f + 1) → P (3 * f + 2) → (e : ℕ) → e / 3 ≡ f → P e
-three_edges P f p q r e h = go (cases e f h)
-  where
-    cases : (e f : ℕ) → e / 3 ≡ f → (e ≡ 3 * f + 0) ⊎ (e ≡ 3 * f + 1) ⊎ (e ≡ 3 * f + 2)
-    cases e f h = grind arith
-
-    go : (e ≡ 3 * f + 0) ⊎ (e ≡ 3 * f + 1) ⊎ (e ≡ 3 * f + 2) → P e
-    go (inl k) = subst P (sym k) p
-    go (inr (inl k)) = subst P (sym k) q
-    go (inr (inr k)) = subst P (sym k) r
 
 -- one facet, live and in the plane, that had no mark
 pub extension_one : (at : ℕ → Vector) (fs : List StoredFacet) (f : ℕ) (a : List Bool) (g : FacetNo) → g.0 < length a → mark_at a g.0 ≡ false → IsLive fs g.0 → IsLevelFacet at (surface_of fs) f g.0
@@ -106,23 +79,6 @@ extension_one at fs f a g h n live level = record {
     counted : (x y : ℕ) (b : Bool) → x + cond (not b) 1 0 ≡ y + 0 → b ≡ false → x + 1 ≡ y + 0
     counted x y true e k = cc
     counted x y false e k = e
-
--- a live facet stands at a place
-pub live_within : (fs : List StoredFacet) (f : ℕ) → IsLive fs f → f < length fs
-live_within fs f l = by_le (f < length fs) f (length fs) (λ h. h) (λ h. absurd (past (ap (λ (v : StoredFacet). v.live) (get_or_past fs f no_facet h)) l))
-  where
-    past : {b : Bool} → b ≡ false → b ≡ true → ⊥
-    past e k = cc
-
--- a facet of the list is listed
-pub listed_at : (vs : List FacetNo) (j : ℕ) → j < length vs → is_listed vs (number vs j) ≡ true
-listed_at [] j h = absurd (omega arith)
-listed_at (v ∷ vs) zero h = rw (eq-eqb v.0 v.0 refl) refl
-listed_at (v ∷ vs) (suc j) h = by (nat_eq v.0 (number vs j)) (listed_at vs j (omega arith))
-  where
-    by : (b : Bool) → is_listed vs (number vs j) ≡ true → cond b true (is_listed vs (number vs j)) ≡ true
-    by true e = refl
-    by false e = e
 
 -- and stands at a place of it
 pub listed_place : (vs : List FacetNo) (g : ℕ) → is_listed vs g ≡ true → (j : ℕ) × (j < length vs) × (number vs j ≡ g)

@@ -1,5 +1,6 @@
 -- Faces that are gathered one after the other, each plane once.
 use Rattle.std.proofs.Common.{◌≡◌, ◌∙◌, ◌⊎◌, inl, inr, ℕ, ◌<◌, List, [], ◌∷◌, ◌++◌, length, map, take, ap, sym, subst, refl, arith, Bool, true, false}
+use Rattle.std.proofs.lemmas.List.{map-append}
 use Rattle.std.specs.Prelude.{pos}
 use Rattle.qh_model.specs.Vector.{Vector}
 use Rattle.qh_model.specs.Predicates.{cross, vol}
@@ -18,49 +19,12 @@ use Rattle.qh_model.proofs.polygons.Edges.{level_along}
 use Rattle.qh_model.proofs.surfaces.FacetPlanes.{level_facets_span, level_itself, level_back, level_on}
 use Rattle.qh_model.proofs.surfaces.Finished.{facet_area, facets_support}
 use Rattle.qh_model.proofs.surfaces.Stored.{live_is_marked}
+use Rattle.qh_model.proofs.lists.Joined.{in_append, of_append, once_append}
+use Rattle.qh_model.proofs.lists.Images.{of_map}
 use Rattle.qh_mesh.specs.Replacement.{IsLive}
 use Rattle.qh_block.specs.PlaneWalks.{mark_at}
 use Rattle.qh_block.specs.Faces.{IsFacetPolygon, IsNewPlane, IsNewFace, AreMarkedFaces, AreFacetFaces}
 use Rattle.qh_block.proofs.flats.Polygons.{three_members}
-
--- ---- lists
--- a member of a longer list
-pub in_append : {X : Type 0} (xs ys : List X) (x : X) → In x xs ⊎ In x ys → In x (xs ++ ys)
-in_append [] ys x (inl h) = absurd h
-in_append [] ys x (inr h) = h
-in_append (y ∷ xs) ys x (inl (inl e)) = inl e
-in_append (y ∷ xs) ys x (inl (inr h)) = inr (in_append xs ys x (inl h))
-in_append (y ∷ xs) ys x (inr h) = inr (in_append xs ys x (inr h))
-
--- is one of the parts
-pub of_append : {X : Type 0} (xs ys : List X) (x : X) → In x (xs ++ ys) → In x xs ⊎ In x ys
-of_append [] ys x h = inr h
-of_append (y ∷ xs) ys x (inl e) = inl (inl e)
-of_append {X} (y ∷ xs) ys x (inr h) = go (of_append xs ys x h)
-  where
-    go : In x xs ⊎ In x ys → In x (y ∷ xs) ⊎ In x ys
-    go (inl k) = inl (inr k)
-    go (inr k) = inr k
-
--- a list with one more, not among them
-once_push : {X : Type 0} (xs : List X) (x : X) → Once xs → ¬ (In x xs) → Once (xs ++ x ∷ [])
-once_push [] x o n = (λ h. h, tt)
-once_push {X} (y ∷ xs) x o n = (λ h. go (of_append xs (x ∷ []) y h), once_push xs x o.1 (λ h. n (inr h)))
-  where
-    go : In y xs ⊎ In y (x ∷ []) → ⊥
-    go (inl h) = o.0 h
-    go (inr (inl e)) = n (inl (sym e))
-    go (inr (inr h)) = h
-
--- a member of the results
-pub in_map : {X Y : Type 0} (f : X → Y) (xs : List X) (y : Y) → In y (map f xs) → (x : X) × In x xs × (y ≡ f x)
-in_map f [] y h = absurd h
-in_map f (x ∷ xs) y (inl e) = (x, inl refl, e)
-in_map f (x ∷ xs) y (inr h) = let r = in_map f xs y h in (r.0, inr r.1, r.2)
-
-map_push : {X Y : Type 0} (f : X → Y) (xs : List X) (x : X) → map f (xs ++ x ∷ []) ≡ map f xs ++ f x ∷ []
-map_push f [] x = refl
-map_push f (y ∷ xs) x = ap (λ t. f y ∷ t) (map_push f xs x)
 
 -- ---- the first three ids of a face
 record FirstThree (at : ℕ → Vector) (A : ℕ → Type 0) (fs : List StoredFacet) (f : ℕ) (p : List ℕ) : Type 0 where
@@ -160,7 +124,7 @@ module _ (at : ℕ → Vector) (ids : List ℕ) (fs : List StoredFacet) (d : Has
 
     -- and its face is one more
     pub next_face : (after : List Bool) (q : List ℕ) → IsNewFace at (Members ids) fs f marks after q → AreMarkedFaces at (Members ids) fs after (qs ++ q ∷ [])
-    next_face after q new = record { each = each; only = only; whole = whole; apart = record { three = all_three; once = subst Once (sym (map_push (take 3) qs q)) (once_push (map (take 3) qs) (take 3 q) old.apart.once other) } }
+    next_face after q new = record { each = each; only = only; whole = whole; apart = record { three = all_three; once = subst Once (sym (map-append (take 3) qs (q ∷ []))) (once_append (map (take 3) qs) (take 3 q ∷ []) old.apart.once ((λ h. h), tt) apart) } }
       where
         each : (g : ℕ) → IsLive fs g → mark_at after g ≡ true → (p : List ℕ) × In p (qs ++ q ∷ []) × IsFacetPolygon at (Members ids) fs g p
         each g l' h = go (new.only g h)
@@ -200,8 +164,13 @@ module _ (at : ℕ → Vector) (ids : List ℕ) (fs : List StoredFacet) (d : Has
 
         -- it begins with other ids than the faces before
         other : In (take 3 q) (map (take 3) qs) → ⊥
-        other i = let r = in_map (take 3) qs (take 3 q) i in let o = old.only r.0 r.1 in
+        other i = let r = of_map (take 3) qs (take 3 q) i in let o = old.only r.0 r.1 in
             unmarked (old.whole o.0 f o.1 l o.2 (same_plane at (Members ids) fs o.0 f (take 3 r.0) (take 3 q) (first_three at ids fs z o.0 o.1 r.0 o.3 (old.apart.three r.0 r.1)) (first_three at ids fs z f l q new.polygon q_three) (sym r.2)))
+
+        -- so together with them each beginning stands once
+        apart : (p : List ℕ) → In p (map (take 3) qs) → In p (take 3 q ∷ []) → ⊥
+        apart p i (inl e) = other (subst (λ (x : List ℕ). In x (map (take 3) qs)) e i)
+        apart p i (inr h) = h
 
   -- where all live facets are marked these are all faces
   pub all_faces : (marks : List Bool) (qs : List (List ℕ)) → AreMarkedFaces at (Members ids) fs marks qs → ((g : ℕ) → IsLive fs g → mark_at marks g ≡ true) → AreFacetFaces at (Members ids) fs qs

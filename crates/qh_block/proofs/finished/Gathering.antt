@@ -1,7 +1,6 @@
 -- The loop over the live facets of a mesh that gathers its faces.
 use Rattle.std.proofs.Common.{◌≡◌, ◌∙◌, ◌⊎◌, inl, inr, ℕ, ◌<◌, List, [], ◌∷◌, ◌++◌, length, replicate, ap, sym, subst, refl, arith, Bool, true, false}
 use Rattle.std.proofs.lemmas.List.{get_or-replicate, get_or_past, length-replicate}
-use Rattle.qh_mesh.proofs.Weaving.{by_le}
 use Rattle.qh_model.specs.Vector.{Vector}
 use Rattle.qh_model.specs.Predicates.{place}
 use Rattle.qh_model.specs.Sets.{In, Members}
@@ -9,13 +8,15 @@ use Rattle.qh_model.specs.DistinctIds.{IsIdSet}
 use Rattle.qh_model.specs.FinishedSurface.{IsFinished}
 use Rattle.qh_model.specs.StoredSurface.{StoredFacet, surface_of}
 use Rattle.qh_model.proofs.surfaces.Stored.{live_is_marked}
+use Rattle.qh_model.proofs.lists.Images.{of_map}
 use Rattle.qh_mesh.specs.declared.facets.FacetNo.{FacetNo}
 use Rattle.qh_mesh.specs.LiveNumbers.{numbers}
 use Rattle.qh_mesh.specs.Replacement.{IsLive}
+use Rattle.qh_mesh.proofs.NumberCases.{by_le}
 use Rattle.qh_block.specs.PlaneWalks.{mark_at}
 use Rattle.qh_block.specs.Faces.{IsNewPlane, IsNewFace, AreMarkedFaces, AreFacetFaces}
-use Rattle.qh_block.proofs.finished.Extensions.{live_within}
-use Rattle.qh_block.proofs.finished.FaceLists.{in_map, no_faces, new_plane, next_face, all_faces}
+use Rattle.qh_block.proofs.finished.FaceLists.{no_faces, new_plane, next_face, all_faces}
+use Rattle.qh_block.proofs.LiveFacets.{live_below}
 
 -- where facets are left to be looked at
 pub record IsGathering (pts : List Vector) (fs : List StoredFacet) (left : List FacetNo) (marks : List Bool) (qs : List (List ℕ)) : Type 0 where
@@ -41,7 +42,7 @@ none_marked n g e = by_le ⊥ g n (λ h. wrong (sym (get_or-replicate n g false 
 pub gathering_starts : (pts : List Vector) (fs : List StoredFacet) → IsGathering pts fs (numbers (surface_of fs).live) (replicate (length fs) false) []
 gathering_starts pts fs = record {
   room = length-replicate (length fs) false;
-  live = λ v i. (let r = in_map (λ n. record { 0 = n }) (surface_of fs).live v i in subst (IsLive fs) (sym (ap (λ (x : FacetNo). x.0) r.2)) ((live_is_marked fs r.0).0 r.1));
+  live = λ v i. (let r = of_map (λ n. record { 0 = n }) (surface_of fs).live v i in subst (IsLive fs) (sym (ap (λ (x : FacetNo). x.0) r.2)) ((live_is_marked fs r.0).0 r.1));
   rest = λ g l. inr (in_numbers (surface_of fs).live g ((live_is_marked fs g).1 l));
   faces = λ ids s z. no_faces (place pts) ids fs s.distinct z (replicate (length fs) false) (none_marked (length fs));
 }
@@ -54,7 +55,7 @@ module _ (pts : List Vector) (fs : List StoredFacet) (all left : List FacetNo) (
   next_live = live_here
 
   pub next_within : f.0 < length marks
-  next_within = let h = live_within fs f.0 live_here in let r = old.room in omega arith
+  next_within = let h = live_below fs f.0 live_here in let r = old.room in omega arith
 
   left_live : (v : FacetNo) → In v left → IsLive fs v.0
   left_live v i = old.live v (subst (In v) (sym is) (inr i))

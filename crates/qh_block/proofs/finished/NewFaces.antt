@@ -1,12 +1,13 @@
 -- A walk in the plane of a facet gathers the face of that plane.
 use Rattle.std.proofs.Common.{◌≡◌, ◌∙◌, ◌⊎◌, inl, inr, ℕ, ◌+◌, ◌*◌, ◌/◌, ◌%◌, List, [], ap, sym, subst, refl, arith, Bool, true}
+use Rattle.std.proofs.lemmas.Bool.{or_cases, or_left, or_right}
 use Rattle.std.specs.Prelude.{◌↔◌, ◌||◌}
 use Rattle.std.specs.List.Sorted.{IsStrictlyIncreasing}
 use Rattle.qh_model.specs.Vector.{Vector}
 use Rattle.qh_model.specs.Predicates.{place, cross}
 use Rattle.qh_model.specs.Sets.{In, Members}
 use Rattle.qh_model.specs.DistinctIds.{IsIdSet}
-use Rattle.qh_model.specs.Extreme.{Others, Extreme}
+use Rattle.qh_model.specs.Extreme.{Extreme}
 use Rattle.qh_model.specs.SupportingPlane.{OnPlane}
 use Rattle.qh_model.specs.Polygon.{IsPolygon}
 use Rattle.qh_model.specs.Surface.{Surface, Side, IsCorner}
@@ -16,22 +17,18 @@ use Rattle.qh_model.specs.FacetPlanes.{IsLevelFacet}
 use Rattle.qh_model.specs.CompletenessLaws.{CornerInPlane}
 use Rattle.qh_model.specs.StoredSurface.{StoredFacet, surface_of}
 use Rattle.qh_model.proofs.extremes.Directions.{along_itself}
-use Rattle.qh_model.proofs.extremes.ExtremeIds.{combination_within}
 use Rattle.qh_model.proofs.polygons.Direction.{polygon_as}
 use Rattle.qh_model.proofs.surfaces.Complete.{extremes_of_plane}
 use Rattle.qh_model.proofs.surfaces.FacetPlanes.{plane_walk_finds_all}
 use Rattle.qh_model.proofs.surfaces.Finished.{facet_area, facets_support}
 use Rattle.qh_model.proofs.surfaces.Stored.{live_is_marked}
+use Rattle.qh_model.proofs.hulls.SameSets.{extreme_as}
 use Rattle.qh_mesh.specs.declared.facets.FacetNo.{FacetNo}
 use Rattle.qh_mesh.specs.Replacement.{IsLive, is_listed, twin_of}
 use Rattle.qh_plane.specs.PlanarSets.{IsPlanarSet}
 use Rattle.qh_block.specs.PlaneWalks.{mark_at, IsExtension, AreCrossed, IsCrossed}
 use Rattle.qh_block.specs.Faces.{IsListedCorner, IsNewPlane, IsNewFace}
-use Rattle.qh_block.proofs.finished.Extensions.{or_true, or_left, or_right, walked_live, walked_level}
-
--- an extreme of a set is one of a set with the same members
-extreme_as : (at : ℕ → Vector) (A B : ℕ → Type 0) → ((i : ℕ) → A i ↔ B i) → (l : ℕ) → Extreme at A l → Extreme at B l
-extreme_as at A B f l h = ((f l).0 h.0, λ m. h.1 (combination_within at (Others B l) (Others A l) (at l) m (λ j o. ((f j).1 o.0, o.1))))
+use Rattle.qh_block.proofs.finished.Extensions.{walked_live, walked_level}
 
 -- the neighbours over the sides of a facet, by its edges
 over_edge : (fs : List StoredFacet) (f : ℕ) (s : Side) → (e : ℕ) × (e / 3 ≡ f) × (twin_of fs e / 3 ≡ (surface_of fs).over f s)
@@ -91,7 +88,7 @@ module _ (pts : List Vector) (ids : List ℕ) (fs : List StoredFacet) (f : ℕ) 
           go (x, p, q) = pick (crossed x (subst (λ y. is_listed vs y ≡ true) (sym p) e))
             where
               pick : IsCrossed at fs f after x → is_listed vs (m.over g s) ≡ true
-              pick (inl h) = listed (or_true _ _ (sym (marks (m.over g s)) ∙ subst (λ y. mark_at after y ≡ true) q h))
+              pick (inl h) = listed (or_cases _ _ (sym (marks (m.over g s)) ∙ subst (λ y. mark_at after y ≡ true) q h))
               pick (inr n) = absurd (n (subst (IsLevelFacet at m f) (sym q) level))
 
   on_live : (g : ℕ) → is_listed vs g ≡ true → IsLive fs g
@@ -133,8 +130,8 @@ module _ (pts : List Vector) (ids : List ℕ) (fs : List StoredFacet) (f : ℕ) 
 
     extreme : (l : ℕ) → Extreme at (Members corners) l ↔ OnPlane at (Extreme at (Members ids)) (m.i f) (m.j f) (m.k f) l
     extreme l = let law = extremes_of_plane at ids m set.distinct z (m.i f) (m.j f) (m.k f) (facets_support at ids m z f (lives f live)) l in (
-      λ x. law.0 (extreme_as at (Members corners) (CornerInPlane at m (m.i f) (m.j f) (m.k f)) corner l x),
-      λ x. extreme_as at (CornerInPlane at m (m.i f) (m.j f) (m.k f)) (Members corners) (λ i. ((corner i).1, (corner i).0)) l (law.1 x),
+      λ x. law.0 ((extreme_as at (Members corners) (CornerInPlane at m (m.i f) (m.j f) (m.k f)) corner l).0 x),
+      λ x. (extreme_as at (Members corners) (CornerInPlane at m (m.i f) (m.j f) (m.k f)) corner l).1 (law.1 x),
     )
 
     -- so the face is new
@@ -142,7 +139,7 @@ module _ (pts : List Vector) (ids : List ℕ) (fs : List StoredFacet) (f : ℕ) 
     new_face = record {
       kept = λ g h. marks g ∙ or_left _ _ h;
       marked = λ g l level. marks g ∙ or_right _ _ (found g l level);
-      only = λ g h. only g (or_true _ _ (sym (marks g) ∙ h));
+      only = λ g h. only g (or_cases _ _ (sym (marks g) ∙ h));
       polygon = polygon_as at (Extreme at (Members corners)) (OnPlane at (Extreme at (Members ids)) (m.i f) (m.j f) (m.k f)) (cross (at (m.i f)) (at (m.j f)) (at (m.k f))) (cross (at (m.i f)) (at (m.j f)) (at (m.k f))) q
           extreme (along_itself (cross (at (m.i f)) (at (m.j f)) (at (m.k f)))) (polygon planar);
     }

@@ -14,6 +14,7 @@ use Rattle.qh_model.specs.Polygons.{ComesBefore, RiseStrictly, AreFaces}
 use Rattle.qh_model.specs.StoredSurface.{StoredFacet, surface_of}
 use Rattle.qh_model.proofs.lists.Lexicographic.{before-asymmetric, rising-ordered}
 use Rattle.qh_model.proofs.lists.Ordered.{Ordered}
+use Rattle.qh_model.proofs.lists.Joined.{in_append, of_append}
 use Rattle.qh_model.proofs.surfaces.Complete.{finished_is_solid, polygons_of_facets}
 use Rattle.qh_model.proofs.surfaces.FacetPlanes.{level_itself}
 use Rattle.qh_model.proofs.surfaces.Finished.{extremes_are_corners}
@@ -24,7 +25,6 @@ use Rattle.qh_block.specs.PlaneWalks.{AreCornersBelow}
 use Rattle.qh_block.specs.Faces.{AreFacetFaces, all_members, IsListed}
 use Rattle.qh_block.specs.SolidEdges.{all_edges_up}
 use Rattle.qh_block.proofs.finished.EdgeCounts.{edges_of_faces}
-use Rattle.qh_block.proofs.finished.FaceLists.{in_append, of_append}
 
 -- two facts of one value
 pub both_ok : {T E : Type 0} (r : Result T E) (P Q : T → Type 0) → IfOk r P → IfOk r Q → IfOk r (λ v. P v × Q v)

@@ -1,5 +1,6 @@
 -- The hulls of a point and of a segment.
 use Rattle.std.proofs.Common.{◌≡◌, ◌∙◌, ℕ, zero, suc, ◌<◌, [], ◌∷◌, List, length, get_or, ap, sym, subst, ◌⊎◌, inl, inr, arith, refl}
+use Rattle.std.proofs.Math.Nat.{ne_of_lt}
 use Rattle.std.specs.Prelude.{◌↔◌}
 use Rattle.std.specs.List.Sorted.{IsStrictlyIncreasing}
 use Rattle.qh_model.specs.Dimension.{IsDimension}
@@ -10,8 +11,7 @@ use Rattle.qh_model.specs.Polygons.{Follows, IsEdge, IsEdgeCount}
 use Rattle.qh_model.specs.Predicates.{place, AreInLine}
 use Rattle.qh_model.specs.Sets.{In, Members}
 use Rattle.qh_model.specs.Vector.{Vector}
-use Rattle.qh_model.proofs.Members.{In-get_or}
-use Rattle.qh_plane.proofs.Members.{less_differ, in_at}
+use Rattle.qh_model.proofs.Members.{In-get_or, in_at}
 use Rattle.qh_plane.proofs.ShapeDimension.{segment}
 use Rattle.qh_plane.specs.Shapes.{IsInLine, Each, AreFirstTwo}
 use Rattle.qh_block.specs.FlatBodies.{point_body, segment_body}
@@ -123,7 +123,7 @@ module _ (pts : List Vector) (ids : List ℕ) (i j e g : ℕ) (two : AreFirstTwo
   has_j = subst (λ v. In v ids) two.second (In-get_or ids 1 0 two.two)
 
   differ : i ≡ j → ⊥
-  differ h = less_differ (get_or ids 0 0) (get_or ids 1 0) (set.rising 0 two.two) (two.first ∙ h ∙ sym two.second)
+  differ h = ne_of_lt (set.rising 0 two.two) (two.first ∙ h ∙ sym two.second)
 
   in_line : (k : ℕ) → In k ids → AreInLine (place pts i) (place pts j) (place pts k)
   in_line k m = let r = in_at ids k m in subst (IsInLine pts i j) r.2 (line r.0 r.1)

@@ -12,6 +12,7 @@ use Rattle.qh_model.proofs.algebra.Order.{le_antisym}
 use Rattle.qh_model.proofs.algebra.Ring.{ring}
 use Rattle.qh_model.proofs.algebra.Ring.Expr.{con, sub as less}
 use Rattle.qh_model.proofs.algebra.VectorIdentities.{vec, subE, dotE, put, opposite, dot-opposite, dot-minus}
+use Rattle.qh_model.proofs.algebra.Signs.{less_differ, lt_neg}
 use Rattle.qh_model.proofs.combinations.Alternatives.{all_lower}
 use Rattle.qh_model.proofs.extremes.Directions.{square-positive}
 use Rattle.qh_plane.proofs.LinesAndPlanes.{same_point}
@@ -45,14 +46,6 @@ strictly x y h n = by_lt_z x y (λ q. q) (λ q. absurd (n (le_antisym x y h q)))
 lower : (ta tb pa pb o : ℤ) → ta ≡ pa +ℤ neg_ℤ o → tb ≡ pb +ℤ neg_ℤ o → ta <ℤ tb → pa <ℤ pb
 lower ta tb pa pb o e f h = omega (arith, ints)
 
--- the opposite scalar products have the opposite order
-flipped : (pa pb na nb : ℤ) → na ≡ neg_ℤ pa → nb ≡ neg_ℤ pb → pa <ℤ pb → nb <ℤ na
-flipped pa pb na nb e f h = omega (arith, ints)
-
--- what is less than itself
-irreflexive : (x y : ℤ) → x <ℤ y → x ≡ y → ⊥
-irreflexive x y h e = omega (arith, ints)
-
 module _ (pts : List Vector) (ids : List ℕ) (i j e g : ℕ) (set : IsIdSet pts ids) (has_i : In i ids) (has_j : In j ids) (differ : i ≢ j) (line : (k : ℕ) → In k ids → AreInLine (place pts i) (place pts j) (place pts k)) (first : IsFirstAlong pts ids i j e) (last : IsFirstAlong pts ids j i g) where
   -- the way
   abbrev d : Vector
@@ -77,7 +70,7 @@ module _ (pts : List Vector) (ids : List ℕ) (i j e g : ℕ) (set : IsIdSet pts
 
   -- so they differ
   pub ends_differ : e ≢ g
-  ends_differ h = irreflexive (position pts i j e) (position pts i j g) first_last (ap (position pts i j) h)
+  ends_differ h = less_differ (position pts i j e) (position pts i j g) first_last (ap (position pts i j) h)
 
   -- an order of positions is one of scalar products along the way
   by_way : (a b : ℕ) → position pts i j a <ℤ position pts i j b → dot d (place pts a) <ℤ dot d (place pts b)
@@ -95,7 +88,7 @@ module _ (pts : List Vector) (ids : List ℕ) (i j e g : ℕ) (set : IsIdSet pts
   first_extreme = (first.member, λ m. all_lower (place pts) (Others (Members ids) e) (place pts e) (opposite d) m (low m.a m.has_a) (low m.b m.has_b) (low m.c m.has_c) (low m.d m.has_d))
     where
       low : (a : ℕ) → Others (Members ids) e a → dot (opposite d) (place pts a) <ℤ dot (opposite d) (place pts e)
-      low a h = flipped (dot d (place pts e)) (dot d (place pts a)) (dot (opposite d) (place pts e)) (dot (opposite d) (place pts a)) (dot-opposite d (place pts e)) (dot-opposite d (place pts a))
+      low a h = lt_neg (dot (opposite d) (place pts a)) (dot (opposite d) (place pts e)) (dot d (place pts a)) (dot d (place pts e)) (dot-opposite d (place pts a)) (dot-opposite d (place pts e))
           (by_way e a (strictly (position pts i j e) (position pts i j a) (first.first a h.0) (λ q. h.1 (sym (one e a first.member h.0 q)))))
 
   -- and no other is

@@ -6,9 +6,10 @@ use Rattle.qh_model.specs.Vector.{Vector, origin, minus, cross_product, dot}
 use Rattle.qh_model.specs.Predicates.{cross, AreInLine}
 use Rattle.qh_model.specs.Combination.{Combination, IsBalanced}
 use Rattle.qh_model.proofs.algebra.Order.{cancel-zero}
-use Rattle.qh_model.proofs.algebra.Ring.{ring}
+use Rattle.qh_model.proofs.algebra.Ring.{ring, equal_from_zero}
 use Rattle.qh_model.proofs.algebra.Ring.Expr.{var, con, add, sub as less, mul, neg}
 use Rattle.qh_model.proofs.algebra.VectorIdentities.{vec, crossE, dotE, put, combine3, vector_path}
+use Rattle.qh_model.proofs.algebra.Signs.{gap_positive}
 
 -- ---- a vector v in the direction d or against it: (d . d) v = (d . v) d, in each coordinate
 -- the first
@@ -40,30 +41,24 @@ along_z d v e =
 level_same : (s d i a b ta tb : ℤ) → pos 0 <ℤ s → s *ℤ (a -ℤ i) ≡ ta *ℤ d → s *ℤ (b -ℤ i) ≡ tb *ℤ d → ta ≡ tb → a ≡ b
 level_same s d i a b ta tb h p q e =
     let S = var 0 in let D = var 1 in let I = var 2 in let A = var 3 in let B = var 4 in let TA = var 5 in let TB = var 6 in
-    equal a b (cancel-zero s (a -ℤ b) h (combine3 (s *ℤ (a -ℤ b)) (pos 0) (pos 1) (s *ℤ (a -ℤ i)) (ta *ℤ d) (negsuc 0) (s *ℤ (b -ℤ i)) (tb *ℤ d) d ta tb
+    equal_from_zero a b (cancel-zero s (a -ℤ b) h (combine3 (s *ℤ (a -ℤ b)) (pos 0) (pos 1) (s *ℤ (a -ℤ i)) (ta *ℤ d) (negsuc 0) (s *ℤ (b -ℤ i)) (tb *ℤ d) d ta tb
     (ring (s ∷ d ∷ i ∷ a ∷ b ∷ ta ∷ tb ∷ [])
     (less (mul S (less A B)) (con (pos 0)))
     (add (add (mul (con (pos 1)) (less (mul S (less A I)) (mul TA D))) (mul (con (negsuc 0)) (less (mul S (less B I)) (mul TB D)))) (mul D (less TA TB))) refl)
     p q e))
-  where
-    equal : (a b : ℤ) → a -ℤ b ≡ pos 0 → a ≡ b
-    equal a b e = omega (arith, ints)
 
 -- a point is the mean of two others, by its distances to them
 level_mean : (s d i k e g tk te tg : ℤ) → pos 0 <ℤ s → s *ℤ (k -ℤ i) ≡ tk *ℤ d → s *ℤ (e -ℤ i) ≡ te *ℤ d → s *ℤ (g -ℤ i) ≡ tg *ℤ d
     → (tg -ℤ te) *ℤ k ≡ (tg -ℤ tk) *ℤ e +ℤ (tk -ℤ te) *ℤ g
 level_mean s d i k e g tk te tg h p q r =
     let S = var 0 in let D = var 1 in let I = var 2 in let K = var 3 in let E = var 4 in let G = var 5 in let TK = var 6 in let TE = var 7 in let TG = var 8 in
-    equal ((tg -ℤ te) *ℤ k) ((tg -ℤ tk) *ℤ e +ℤ (tk -ℤ te) *ℤ g) (cancel-zero s ((tg -ℤ te) *ℤ k -ℤ ((tg -ℤ tk) *ℤ e +ℤ (tk -ℤ te) *ℤ g)) h
+    equal_from_zero ((tg -ℤ te) *ℤ k) ((tg -ℤ tk) *ℤ e +ℤ (tk -ℤ te) *ℤ g) (cancel-zero s ((tg -ℤ te) *ℤ k -ℤ ((tg -ℤ tk) *ℤ e +ℤ (tk -ℤ te) *ℤ g)) h
     (combine3 (s *ℤ ((tg -ℤ te) *ℤ k -ℤ ((tg -ℤ tk) *ℤ e +ℤ (tk -ℤ te) *ℤ g))) (pos 0)
     (tg -ℤ te) (s *ℤ (k -ℤ i)) (tk *ℤ d) (tk -ℤ tg) (s *ℤ (e -ℤ i)) (te *ℤ d) (te -ℤ tk) (s *ℤ (g -ℤ i)) (tg *ℤ d)
     (ring (s ∷ d ∷ i ∷ k ∷ e ∷ g ∷ tk ∷ te ∷ tg ∷ [])
     (less (mul S (less (mul (less TG TE) K) (add (mul (less TG TK) E) (mul (less TK TE) G)))) (con (pos 0)))
     (add (add (mul (less TG TE) (less (mul S (less K I)) (mul TK D))) (mul (less TK TG) (less (mul S (less E I)) (mul TE D)))) (mul (less TE TK) (less (mul S (less G I)) (mul TG D)))) refl)
     p q r))
-  where
-    equal : (a b : ℤ) → a -ℤ b ≡ pos 0 → a ≡ b
-    equal a b e = omega (arith, ints)
 
 -- ---- points in line with i and j
 -- how far p lies along the way from i to j
@@ -103,10 +98,6 @@ some m n x y z e f g h = omega (arith, ints)
 apart : (a b : ℤ) → a ≤ℤ b → pos 0 ≤ℤ (b -ℤ a)
 apart a b h = omega (arith, ints)
 
--- a difference above 0
-apart_more : (a b : ℤ) → a <ℤ b → pos 0 <ℤ (b -ℤ a)
-apart_more a b h = omega (arith, ints)
-
 -- two differences in a row
 in_a_row : (e k g : ℤ) → (g -ℤ k) +ℤ (k -ℤ e) ≡ g -ℤ e
 in_a_row e k g = omega (arith, ints)
@@ -129,7 +120,7 @@ between at B i j k e g n lk le lg he hg ek kg eg = record {
   w2 = l.0;
   w3 = 0;
   w4 = 0;
-  some_weight = some m.0 l.0 _ _ _ m.1 l.1 whole (apart_more te tg eg);
+  some_weight = some m.0 l.0 _ _ _ m.1 l.1 whole (gap_positive te tg eg);
   x = balanced m.0 l.0 (tg -ℤ tk) (tk -ℤ te) (tg -ℤ te) k.x (at e).x (at g).x m.1 l.1 whole (level_mean (dot d d) d.x i.x k.x (at e).x (at g).x tk te tg n (along_x d (minus k i) lk) (along_x d (minus (at e) i) le) (along_x d (minus (at g) i) lg));
   y = balanced m.0 l.0 (tg -ℤ tk) (tk -ℤ te) (tg -ℤ te) k.y (at e).y (at g).y m.1 l.1 whole (level_mean (dot d d) d.y i.y k.y (at e).y (at g).y tk te tg n (along_y d (minus k i) lk) (along_y d (minus (at e) i) le) (along_y d (minus (at g) i) lg));
   z = balanced m.0 l.0 (tg -ℤ tk) (tk -ℤ te) (tg -ℤ te) k.z (at e).z (at g).z m.1 l.1 whole (level_mean (dot d d) d.z i.z k.z (at e).z (at g).z tk te tg n (along_z d (minus k i) lk) (along_z d (minus (at e) i) le) (along_z d (minus (at g) i) lg));

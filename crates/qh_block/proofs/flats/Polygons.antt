@@ -1,7 +1,7 @@
 -- The hull of a set in one plane is its polygon.
 use Rattle.std.proofs.Common.{◌≡◌, ◌∙◌, ℕ, ◌<◌, [], ◌∷◌, List, length, sym, subst, ◌⊎◌, inl, inr, arith, refl}
 use Rattle.std.proofs.lemmas.Int.{ints}
-use Rattle.std.specs.Prelude.{ℤ, pos, ◌-ℤ◌, ◌*ℤ◌, neg_ℤ, ◌↔◌}
+use Rattle.std.specs.Prelude.{ℤ, pos, ◌-ℤ◌, neg_ℤ, ◌↔◌}
 use Rattle.std.specs.List.Sorted.{IsStrictlyIncreasing}
 use Rattle.qh_model.specs.Dimension.{HasTriangle}
 use Rattle.qh_model.specs.DistinctIds.{IsIdSet}
@@ -12,14 +12,11 @@ use Rattle.qh_model.specs.Polygons.{IsFlatFace, PointsForward}
 use Rattle.qh_model.specs.Predicates.{place, cross, AreInLine}
 use Rattle.qh_model.specs.Sets.{In, Members}
 use Rattle.qh_model.specs.Vector.{Vector, origin, minus}
-use Rattle.qh_model.proofs.Members.{In-get_or}
-use Rattle.qh_model.proofs.algebra.Ring.{ring}
-use Rattle.qh_model.proofs.algebra.Ring.Expr.{var, con, sub as less, mul}
-use Rattle.qh_model.proofs.algebra.VectorIdentities.{vector_path, in_line-twice, opposite}
+use Rattle.qh_model.proofs.Members.{In-get_or, in_at}
+use Rattle.qh_model.proofs.algebra.VectorIdentities.{vector_path, in_line-twice, opposite, in_line-last}
 use Rattle.qh_model.proofs.extremes.Dimensions.{triangle_of}
 use Rattle.qh_model.proofs.extremes.Directions.{cross-flip, in_line-flip}
 use Rattle.qh_model.proofs.extremes.ExtremeIds.{listed_itself, combination_of_extremes}
-use Rattle.qh_plane.proofs.Members.{in_at}
 use Rattle.qh_plane.proofs.ShapeDimension.{flat}
 use Rattle.qh_plane.specs.PlanarSets.{IsPlanarSet}
 use Rattle.qh_plane.specs.Shapes.{IsInLine, IsInPlane, Each, IsFirstNot, AreFirstTwo}
@@ -27,13 +24,6 @@ use Rattle.qh_block.specs.FlatBodies.{polygon_body}
 use Rattle.qh_block.proofs.flats.Edges.{edge_count}
 
 -- ---- at least three members
--- two equal last points are in line with any first
-in_line-last : (a b : Vector) → AreInLine a b b
-unfolding cross
-in_line-last a b = vector_path (cross a b b) origin (none (b.y -ℤ a.y) (b.z -ℤ a.z)) (none (b.z -ℤ a.z) (b.x -ℤ a.x)) (none (b.x -ℤ a.x) (b.y -ℤ a.y))
-  where
-    none : (p q : ℤ) → p *ℤ q -ℤ q *ℤ p ≡ pos 0
-    none p q = ring (p ∷ q ∷ []) (less (mul (var 0) (var 1)) (mul (var 1) (var 0))) (con (pos 0)) refl
 
 -- a list with a triangle has three members
 pub three_members : (at : ℕ → Vector) (q : List ℕ) → HasTriangle at (λ i. In i q) → 2 < length q

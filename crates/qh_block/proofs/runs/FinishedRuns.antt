@@ -10,11 +10,10 @@ use Rattle.qh_model.specs.Surface.{IsCorner}
 use Rattle.qh_model.specs.StoredSurface.{StoredFacet, facet_at, surface_of}
 use Rattle.qh_model.specs.SupportingPlane.{IsSupportingTriple}
 use Rattle.qh_model.specs.ClosedSurface.{signed_volume, triples_from}
-use Rattle.qh_model.proofs.Members.{All-In}
+use Rattle.qh_model.proofs.Members.{All-In, in_at}
 use Rattle.qh_model.proofs.surfaces.Finished.{facets_support}
 use Rattle.qh_pred.specs.Planes.{PlaneValue}
 use Rattle.qh_plane.specs.PlaceKeys.{AreIndices}
-use Rattle.qh_plane.proofs.Members.{in_at}
 use Rattle.qh_mesh.specs.declared.facets.FacetNo.{FacetNo}
 use Rattle.qh_mesh.specs.Replacement.{IsLive}
 use Rattle.qh_mesh.specs.SoundMesh.{facet_vol, IsClosedMesh}

@@ -3,9 +3,13 @@ use Rattle.std.proofs.Common.{◌≡◌, ℕ, ◌<◌, ◌≤◌, arith, ap, sym
 use Rattle.std.proofs.lemmas.List.{get_or_append_left, get_or_push, length_push}
 use Rattle.qh_mesh.specs.declared.facets.FacetNo.{FacetNo}
 use Rattle.qh_mesh.specs.Replacement.{number, is_listed}
-use Rattle.qh_mesh.proofs.Weaving.{by_le}
-use Rattle.qh_mesh.proofs.ListLemmas.{listed_at, listed_find}
+use Rattle.qh_mesh.proofs.ListedFacets.{listed_at, listed_find}
+use Rattle.qh_mesh.proofs.NumberCases.{by_le}
 use Rattle.qh_block.specs.Runs.{Names, AreWithin}
+
+-- the empty list names none
+pub names_none : (f : ℕ) → Names [] f → ⊥
+names_none f (j, h, e) = omega arith
 
 -- a list names what it named before a facet was added
 pub names_kept : (vs : List FacetNo) (x : FacetNo) (f : ℕ) → Names vs f → Names (vs ++ x ∷ []) f
@@ -26,6 +30,7 @@ names_push vs x f (j, l, e) =
 pub names_within : (n : ℕ) (vs : List FacetNo) (f : ℕ) → AreWithin n vs → Names vs f → f < n
 names_within n vs f h (j, l, e) = let k = h j l in omega arith
 
+-- and a bound of what it names is its bound
 pub within_of : (n : ℕ) (vs : List FacetNo) → ((f : ℕ) → Names vs f → f < n) → AreWithin n vs
 within_of n vs h j l = h (number vs j) (j, l, refl)
 
@@ -37,9 +42,11 @@ within_push n vs x h k = within_of n (vs ++ x ∷ []) (λ f i. by f (names_push 
     by f (inl i) = names_within n vs f h i
     by f (inr e) = omega arith
 
+-- a bound of a list and of one more is one of the list
 pub within_rest : (n : ℕ) (vs : List FacetNo) (x : FacetNo) → AreWithin n (vs ++ x ∷ []) → AreWithin n vs
 within_rest n vs x h = within_of n vs (λ f i. names_within n (vs ++ x ∷ []) f h (names_kept vs x f i))
 
+-- and of that facet
 pub within_last : (n : ℕ) (vs : List FacetNo) (x : FacetNo) → AreWithin n (vs ++ x ∷ []) → x.0 < n
 within_last n vs x h = names_within n (vs ++ x ∷ []) x.0 h (names_last vs x)
 
@@ -51,5 +58,6 @@ within_more m n vs l h j k = let e = h j k in omega arith
 pub names_listed : (vs : List FacetNo) (f : ℕ) → Names vs f → is_listed vs f ≡ true
 names_listed vs f (j, l, e) = listed_at vs f j l e
 
+-- and back
 pub listed_names : (vs : List FacetNo) (f : ℕ) → is_listed vs f ≡ true → Names vs f
 listed_names vs f e = let r = listed_find vs f e in (r.0, r.1.0, r.1.1)

@@ -10,7 +10,7 @@ use Rattle.qh_pred.specs.Planes.{PlaneValue}
 use Rattle.qh_mesh.specs.declared.facets.FacetNo.{FacetNo}
 use Rattle.qh_block.specs.OutsideSets.{OutsideValue, set_of}
 use Rattle.qh_block.specs.Runs.{IsDone, Names, IsOutside, IsUnderWay, IsPicked}
-use Rattle.qh_block.proofs.runs.NamedFacets.{names_push, within_rest, within_last}
+use Rattle.qh_block.proofs.runs.NamedFacets.{names_push, within_rest, within_last, names_none}
 use Rattle.qh_block.proofs.runs.SetWrites.{of_write, write_has, write_keeps}
 
 -- to take the first of an empty set changes nothing
@@ -103,9 +103,6 @@ picked pts ids fs ps v w rest f a k e l p o s = record {
 pub all_done : (pts : List Vector) (ids : List ℕ) (fs : List StoredFacet) (ps : List PlaneValue) (v : OutsideValue) → IsUnderWay pts ids fs ps v [] → (p : ℕ) → p < length ids → IsDone pts ids fs p
 all_done pts ids fs ps v k p l = by (k.all p l)
   where
-    nothing : (f : ℕ) → Names [] f → ⊥
-    nothing f (j, h, e) = omega arith
-
     by : IsOutside v p ⊎ IsDone pts ids fs p → IsDone pts ids fs p
-    by (inl (f, i)) = absurd (nothing f (k.waits f p i))
+    by (inl (f, i)) = absurd (names_none f (k.waits f p i))
     by (inr d) = d

@@ -10,7 +10,7 @@ use Rattle.qh_pred.specs.Planes.{PlaneValue, height}
 use Rattle.qh_mesh.specs.declared.facets.FacetNo.{FacetNo}
 use Rattle.qh_mesh.specs.Replacement.{number, IsLive}
 use Rattle.qh_mesh.specs.SoundMesh.{facet_vol}
-use Rattle.qh_mesh.proofs.Weaving.{by_le}
+use Rattle.qh_mesh.proofs.NumberCases.{by_le}
 use Rattle.qh_block.specs.Planes.{no_plane, plane_at}
 use Rattle.qh_block.specs.Runs.{Names, IsPlaneOf}
 

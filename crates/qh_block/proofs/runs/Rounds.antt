@@ -1,8 +1,8 @@
 -- A round of Quickhull: where a cone replaces what the apex sees, the released points are all that must be looked at.
 use Rattle.std.proofs.Common.{◌≡◌, ℕ, ◌<◌, arith, ap, sym, ◌∙◌, true, false, ◌⊎◌, inl, inr, List, length, map, get_or, subst}
 use Rattle.std.specs.Prelude.{slice_index, ℤ, pos, ◌<ℤ◌, ◌≤ℤ◌}
-use Rattle.std.proofs.lemmas.Int.{ints}
 use Rattle.std.proofs.lemmas.List.{get_or-map}
+use Rattle.std.proofs.lemmas.Bool.{cases_Bool}
 use Rattle.qh_model.specs.Vector.{Vector}
 use Rattle.qh_model.specs.Predicates.{vol, place}
 use Rattle.qh_model.specs.Sets.{In}
@@ -15,25 +15,18 @@ use Rattle.qh_model.specs.StoredSurface.{StoredFacet, facet_at, surface_of}
 use Rattle.qh_model.proofs.Members.{In-get_or}
 use Rattle.qh_model.proofs.surfaces.SurfaceLaws.{rise_is_vol, settled_stay_unseen, corners_are_settled, added_is_settled}
 use Rattle.qh_model.proofs.surfaces.Unseen.{dropped_stay_unseen}
+use Rattle.qh_model.proofs.algebra.Signs.{not_less}
 use Rattle.qh_pred.specs.Planes.{PlaneValue}
 use Rattle.qh_mesh.specs.declared.facets.FacetNo.{FacetNo}
 use Rattle.qh_mesh.specs.Replacement.{number, is_listed, IsLive, IsKept, StaysFacet, IsReplacement}
 use Rattle.qh_mesh.specs.SoundMesh.{facet_vol, IsSoundMesh, IsClosedMesh, AreVisible}
-use Rattle.qh_mesh.proofs.Rewiring.{live_in, in_live}
-use Rattle.qh_mesh.proofs.Replacing.{decide}
+use Rattle.qh_mesh.proofs.Rewiring.{live_in, in_live, rise-vol}
 use Rattle.qh_block.specs.Planes.{ArePlanes}
 use Rattle.qh_block.specs.OutsideSets.{OutsideValue, set_of}
 use Rattle.qh_block.specs.Runs.{height_at, IsDone, Names, IsOutside, HasCornersIn, IsPicked, IsPlaneOf, IsRemade}
 use Rattle.qh_block.specs.Settling.{AreReleased}
-use Rattle.qh_block.proofs.WalkSteps.{live_below}
 use Rattle.qh_block.proofs.runs.NamedFacets.{names_listed, listed_names}
-
-never : (x : ℤ) → pos 0 <ℤ x → x ≤ℤ pos 0 → Prim.⊥
-never x a b = omega (arith, ints)
-
--- for points of space a rise is a volume
-rise-vol : (at : ℕ → Vector) (fs : List StoredFacet) (f p : ℕ) → rise (surface_of fs) (weighted_at at) f (weighted_at at p) ≡ facet_vol at fs f (at p)
-rise-vol at fs f p = rise_is_vol (at (facet_at fs f).i) (at (facet_at fs f).j) (at (facet_at fs f).k) (at p)
+use Rattle.qh_block.proofs.LiveFacets.{live_below}
 
 -- a facet that stays has its volumes
 stays-vol : (at : ℕ → Vector) (old new : List StoredFacet) (vs : List FacetNo) (f : ℕ) (q : Vector) → StaysFacet old new vs f → facet_vol at new f q ≡ facet_vol at old f q
@@ -87,7 +80,7 @@ cone_unseen at old new vs p made o q z d r h f i s k b = subst (λ v. v ≤ℤ p
     by : IsKept old vs (r.number f s) ⊎ ((j : ℕ) × (j < length made) × (r.number f s ≡ number made j)) → facet_vol at new (r.number f s) (at q) ≤ℤ pos 0
     by (inl a) =
         let c : p ≡ (surface_of old).k (r.number f s) = sym t.k_is ∙ (d.kept (r.number f s) a).k_is in
-        absurd (never (rise (surface_of old) (weighted_at at) r.f0 (weighted_at at p)) r.seen (corners_are_settled (surface_of old) (weighted_at at) o z.1 r.f0 (r.number f s) r.live (in_live old (r.number f s) a.live) p (inr (inr c))))
+        absurd (not_less (pos 0) (rise (surface_of old) (weighted_at at) r.f0 (weighted_at at p)) r.seen (corners_are_settled (surface_of old) (weighted_at at) o z.1 r.f0 (r.number f s) r.live (in_live old (r.number f s) a.live) p (inr (inr c))))
     by (inr (j, l, e)) = subst (λ n. facet_vol at new n (at q) ≤ℤ pos 0) (sym e) (h j l)
 
 -- a point that no facet saw is seen by none
@@ -178,7 +171,7 @@ remade pts ids old new ps v w pending vs made f a k d m rel e n = record {
 
     -- a facet with an outside set stays
     stays : (g p : ℕ) → In p (set_of w g) → IsKept old vs g
-    stays g p i = by (decide (is_listed vs g))
+    stays g p i = by (cases_Bool (is_listed vs g))
       where
         by : (is_listed vs g ≡ true) ⊎ (is_listed vs g ≡ false) → IsKept old vs g
         by (inl h) = absurd (subst (In p) (rel.emptied g (listed_names vs g h)) i)
@@ -187,7 +180,7 @@ remade pts ids old new ps v w pending vs made f a k d m rel e n = record {
     -- and is not the one whose turn it was
     other : (g p : ℕ) → In p (set_of w g) → g ≡ f → ⊥
     other g p i q =
-        never (facet_vol (place pts) old f (place pts (slice_index ids a))) k.seen (d.visible.unseen f k.live (ap (is_listed vs) (sym q) ∙ (stays g p i).unlisted))
+        not_less (pos 0) (facet_vol (place pts) old f (place pts (slice_index ids a))) k.seen (d.visible.unseen f k.live (ap (is_listed vs) (sym q) ∙ (stays g p i).unlisted))
 
     waits : (g p : ℕ) → In p (set_of w g) → Names pending g ⊎ (g ≡ f) → Names pending g ⊎ Names made g
     waits g p i (inl h) = inl h

@@ -4,7 +4,7 @@ use Rattle.std.proofs.Math.ListN.{set}
 use Rattle.std.proofs.lemmas.Bool.{cases_eq}
 use Rattle.std.proofs.lemmas.List.{get_or-set_same, get_or-set_other, set_past, get_or_past, get_or_append_left, get_or-append_right, get_or-replicate, length-replicate}
 use Rattle.qh_model.specs.Sets.{In}
-use Rattle.qh_mesh.proofs.Weaving.{by_le}
+use Rattle.qh_mesh.proofs.NumberCases.{by_le}
 use Rattle.qh_block.specs.OutsideSets.{joined}
 
 -- a member after a write is one of what was written, or was one

@@ -1,5 +1,5 @@
 -- How orphans are released and settled.
-use Rattle.std.proofs.Common.{◌≡◌, ℕ, ◌<◌, arith, ap, sym, ◌∙◌, refl, ◌⊎◌, inl, inr, List, [], ◌∷◌, ◌++◌, length, drop, map, subst}
+use Rattle.std.proofs.Common.{◌≡◌, ℕ, ◌<◌, ap, sym, ◌∙◌, refl, ◌⊎◌, inl, inr, List, [], ◌∷◌, ◌++◌, length, drop, map, subst}
 use Rattle.std.specs.Prelude.{slice_set, slice_index, slice_index_or, pos, ◌<ℤ◌, ◌≤ℤ◌}
 use Rattle.std.proofs.lemmas.Bool.{cases_eq}
 use Rattle.std.proofs.lemmas.List.{get_or-map}
@@ -7,6 +7,7 @@ use Rattle.qh_model.specs.Vector.{Vector, origin}
 use Rattle.qh_model.specs.Predicates.{place}
 use Rattle.qh_model.specs.Sets.{In}
 use Rattle.qh_model.specs.StoredSurface.{StoredFacet}
+use Rattle.qh_model.proofs.lists.Joined.{of_append}
 use Rattle.qh_pred.specs.Planes.{PlaneValue, height}
 use Rattle.qh_mesh.specs.declared.facets.FacetNo.{FacetNo}
 use Rattle.qh_mesh.specs.Replacement.{number, IsLive}
@@ -14,17 +15,13 @@ use Rattle.qh_block.specs.Planes.{plane_at, ArePlanes}
 use Rattle.qh_block.specs.OutsideSets.{OutsideValue, set_of, joined}
 use Rattle.qh_block.specs.Runs.{height_at, IsDone, Names, AreWithin, IsOutside, IsSettling}
 use Rattle.qh_block.specs.Settling.{IsDropped, IsAssigned, IsOneSettled, AreReleased}
-use Rattle.qh_block.proofs.ChainWrites.{in_joined}
-use Rattle.qh_block.proofs.runs.NamedFacets.{names_kept, names_last, names_push, names_within}
+use Rattle.qh_block.proofs.runs.NamedFacets.{names_kept, names_last, names_push, names_within, names_none}
 use Rattle.qh_block.proofs.runs.SetWrites.{of_write, write_has, write_keeps, write_empty, of_joined, joined_has, joined_keeps, append_left, append_right}
 
 -- ---- released
 -- of no facet
 pub none_released : (v : OutsideValue) → AreReleased v v []
-none_released v = record { emptied = λ f n. absurd (nothing f n); kept = λ f p i. i; moved = λ f p i. inl i; orphans = λ p i. inl i }
-  where
-    nothing : (f : ℕ) → Names [] f → ⊥
-    nothing f (j, h, e) = omega arith
+none_released v = record { emptied = λ f n. absurd (names_none f n); kept = λ f p i. i; moved = λ f p i. inl i; orphans = λ p i. inl i }
 
 -- of one facet more
 pub more_released : (v0 v w : OutsideValue) (vs : List FacetNo) (x : FacetNo) → AreReleased v0 v vs
@@ -33,7 +30,7 @@ more_released v0 v w vs x r o s = record {
   emptied = λ f n. ap (λ (xs : List (List ℕ)). slice_index_or xs f []) s ∙ write_empty v.sets x.0 f (gone f (names_push vs x f n));
   kept = λ f p i. r.kept f p (was f p i);
   moved = λ f p i. moved f p (r.moved f p i);
-  orphans = λ p i. orphans p (in_joined (set_of v x.0) v.orphans p (subst (In p) o i));
+  orphans = λ p i. orphans p (of_append (set_of v x.0) v.orphans p (subst (In p) o i));
 }
   where
     gone : (f : ℕ) → Names vs f ⊎ (f ≡ x.0) → (f ≡ x.0) ⊎ (set_of v f ≡ [])

@@ -1,10 +1,10 @@
 -- The facets that were made wait for their turn if they have an outside set.
-use Rattle.std.proofs.Common.{◌≡◌, ℕ, ◌<◌, arith, ap, sym, ◌∙◌, ◌⊎◌, inl, inr, List, [], ◌∷◌, ◌++◌, length, subst}
+use Rattle.std.proofs.Common.{◌≡◌, ℕ, ◌<◌, ap, sym, ◌∙◌, ◌⊎◌, inl, inr, List, [], ◌∷◌, ◌++◌, length, subst}
 use Rattle.qh_model.specs.Sets.{In}
 use Rattle.qh_mesh.specs.declared.facets.FacetNo.{FacetNo}
 use Rattle.qh_block.specs.OutsideSets.{OutsideValue, set_of}
 use Rattle.qh_block.specs.Runs.{Names, AreWithin}
-use Rattle.qh_block.proofs.runs.NamedFacets.{names_kept, names_last, names_push, within_push}
+use Rattle.qh_block.proofs.runs.NamedFacets.{names_kept, names_last, names_push, within_push, names_none}
 
 -- those that waited, and of those made the ones with an outside set
 pub record AreQueued (v : OutsideValue) (old new made : List FacetNo) : Type 0 where
@@ -14,10 +14,7 @@ pub record AreQueued (v : OutsideValue) (old new made : List FacetNo) : Type 0 w
 
 -- none is added
 pub none_queued : (v : OutsideValue) (old : List FacetNo) → AreQueued v old old []
-none_queued v old = record { within = λ h. h; kept = λ f n. n; added = λ f p n i. absurd (nothing f n) }
-  where
-    nothing : (f : ℕ) → Names [] f → ⊥
-    nothing f (j, h, e) = omega arith
+none_queued v old = record { within = λ h. h; kept = λ f n. n; added = λ f p n i. absurd (names_none f n) }
 
 -- one with a set is
 pub more_queued : (v : OutsideValue) (old new made : List FacetNo) (x : FacetNo) → x.0 < length v.sets → AreQueued v old new made → AreQueued v old (new ++ x ∷ []) (made ++ x ∷ [])

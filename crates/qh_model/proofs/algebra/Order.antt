@@ -1,11 +1,13 @@
 -- Signs of products. In a signature brackets are needed: `≤ℤ` binds tighter than `+ℤ` and `*ℤ`.
 use Rattle.std.proofs.Common.{◌≡◌, ℕ, zero, suc, ◌*◌, ◌≤◌, arith, ap, sym, ◌∙◌, refl, ◌⊎◌, inl, inr}
 use Rattle.std.proofs.Math.Nat.{mul-le-mul}
+use Rattle.std.proofs.Math.IntN.{*ℤ-zero}
 use Rattle.std.proofs.lemmas.Int.{ints, by_lt_z}
 use Rattle.std.specs.Prelude.{ℤ, pos, negsuc, ◌+ℤ◌, ◌-ℤ◌, ◌*ℤ◌, neg_ℤ, ◌≤ℤ◌, ◌<ℤ◌}
 use lib.IntN.{ℤ_discrete}
 use borrow.Author.Differences.{product_is}
 use Rattle.qh_model.proofs.algebra.Integers.{mul_add, mul_neg}
+use Rattle.qh_model.proofs.algebra.Signs.{not_less}
 
 -- two numbers not below 0
 pub mul-nonneg : (a b : ℤ) → pos 0 ≤ℤ a → pos 0 ≤ℤ b → pos 0 ≤ℤ (a *ℤ b)
@@ -50,13 +52,9 @@ mul-le a b c h k =
 pub cancel-nonneg : (a b : ℤ) → pos 0 <ℤ a → pos 0 ≤ℤ (a *ℤ b) → pos 0 ≤ℤ b
 cancel-nonneg a b h k = grind (arith, ints)
 
--- not above 0 and above 0
-no_lt_and_ge : (x : ℤ) → x ≤ℤ pos 0 → pos 0 <ℤ x → ⊥
-no_lt_and_ge x p q = omega (arith, ints)
-
 -- the same of a product not above 0
 pub cancel-nonpos : (a b : ℤ) → pos 0 <ℤ a → (a *ℤ b) ≤ℤ pos 0 → b ≤ℤ pos 0
-cancel-nonpos a b h k = by_lt_z (pos 0) b (λ q. absurd (no_lt_and_ge (a *ℤ b) k (mul-pos a b h q))) (λ q. q)
+cancel-nonpos a b h k = by_lt_z (pos 0) b (λ q. absurd (not_less (pos 0) (a *ℤ b) (mul-pos a b h q) k)) (λ q. q)
 
 -- of a positive product
 pub cancel-pos : (a b : ℤ) → pos 0 <ℤ a → pos 0 <ℤ (a *ℤ b) → pos 0 <ℤ b
@@ -78,6 +76,10 @@ both_le x p q = omega (arith, ints)
 pub cancel-zero : (a b : ℤ) → pos 0 <ℤ a → a *ℤ b ≡ pos 0 → b ≡ pos 0
 cancel-zero a b h k = let t = le_both (a *ℤ b) k in both_le b (cancel-nonpos a b h t.0) (cancel-nonneg a b h t.1)
 
+-- a product with 0
+pub product_zero : (l y : ℤ) → y ≡ pos 0 → l *ℤ y ≡ pos 0
+product_zero l y e = ap (λ v. l *ℤ v) e ∙ *ℤ-zero l
+
 -- a product that is 0 has a factor 0
 pub zero_product : (a b : ℤ) → a *ℤ b ≡ pos 0 → (a ≡ pos 0) ⊎ (b ≡ pos 0)
 zero_product (pos zero) b k = inl refl
@@ -87,23 +89,20 @@ zero_product (negsuc n) b k = inr (cancel-zero (pos (suc n)) b (omega (arith, in
     turned : (n : ℕ) (b : ℤ) → negsuc n *ℤ b ≡ pos 0 → pos (suc n) *ℤ b ≡ pos 0
     turned n b k = omega (arith, ints, product_is (negsuc n) b, product_is (pos (suc n)) b)
 
--- the sign step of the horizon, over abstract numbers
-pub sign_step : (ap by ay bp ab py : ℤ) → ap *ℤ by -ℤ ay *ℤ bp ≡ ab *ℤ py → pos 0 <ℤ ap → pos 0 ≤ℤ by → ay ≤ℤ pos 0 → pos 0 ≤ℤ bp → ab <ℤ pos 0 → py ≤ℤ pos 0
-sign_step ap by ay bp ab py e h1 h2 h3 h4 h5 = grind (arith, ints, mul-nonneg, mul-nonpos_nonneg, mul-pos)
-
 -- a negative number and a positive one
 pub mul-neg_pos : (a b : ℤ) → a <ℤ pos 0 → pos 0 <ℤ b → (a *ℤ b) <ℤ pos 0
-mul-neg_pos a b h k = by_lt_z (a *ℤ b) (pos 0) (λ q. q) (λ q. absurd (no_lt_and_ge a (cancel_right a b k q) h))
+mul-neg_pos a b h k = by_lt_z (a *ℤ b) (pos 0) (λ q. q) (λ q. absurd (not_less a (pos 0) h (cancel_right a b k q)))
   where
     cancel_right : (a b : ℤ) → pos 0 <ℤ b → pos 0 ≤ℤ (a *ℤ b) → pos 0 ≤ℤ a
     cancel_right a b k q = grind (arith, ints)
 
-    no_lt_and_ge : (x : ℤ) → pos 0 ≤ℤ x → x <ℤ pos 0 → ⊥
-    no_lt_and_ge x p q = omega (arith, ints)
-
 -- not above and not below is equal
 pub le_antisym : (a b : ℤ) → a ≤ℤ b → b ≤ℤ a → a ≡ b
 le_antisym a b h k = omega (arith, ints)
+
+-- what is at most as much and not equal is less
+pub le_less : (a b : ℤ) → a ≤ℤ b → (a ≡ b → ⊥) → a <ℤ b
+le_less a b h k = by_lt_z a b (λ l. l) (λ l. absurd (k (le_antisym a b h l)))
 
 -- a number is 0 or not
 pub zero_or_not : (v : ℤ) → (v ≡ pos 0) ⊎ (¬ (v ≡ pos 0))

@@ -1,7 +1,8 @@
 -- A normal form of whole-number polynomials, by which an identity is proved by computing.
-use Rattle.std.proofs.Common.{◌≡◌, ℕ, arith, ap, sym, ◌∙◌, refl, List, [], ◌∷◌, Bool, true, false, eqb, ltb, get_or, rules}
+use Rattle.std.proofs.Common.{◌≡◌, ℕ, arith, ap, sym, ◌∙◌, refl, List, [], ◌∷◌, Bool, true, false, eqb, ltb, get_or}
 use Rattle.std.proofs.Math.IntN.{+ℤ_assoc, +ℤ_idl, +ℤ_idr, *ℤ-zero, neg_ℤ-+ℤ}
 use Rattle.std.proofs.lemmas.Int.{ints}
+use Rattle.std.proofs.lemmas.Bool.{eqb-true}
 use Rattle.std.specs.Prelude.{ℤ, pos, negsuc, ◌+ℤ◌, ◌-ℤ◌, ◌*ℤ◌, neg_ℤ}
 use Rattle.qh_model.proofs.algebra.Integers.{mul_add, mul_assoc, mul_swap, neg_mul, one_mul, mul_one, zero_mul, add_mul}
 
@@ -110,12 +111,10 @@ zeros [] = true
 zeros (t ∷ p) = elim (is_zero t.0) [ true ↦ zeros p | false ↦ false ]
 
 -- ---- soundness
-pub eqb-is : (i j : ℕ) → eqb i j ≡ true → i ≡ j
-eqb-is i j e = search (rules, e)
 
 -- a step of the next
 eq_m-split : (i j : ℕ) (m n : Mono) (b : Bool) → eqb i j ≡ b → (eq_m m n ≡ true → m ≡ n) → elim b [ true ↦ eq_m m n | false ↦ false ] ≡ true → (i ∷ m) ≡ (j ∷ n)
-eq_m-split i j m n true f h e = cc (eqb-is i j f, h e)
+eq_m-split i j m n true f h e = cc (eqb-true i j f, h e)
 eq_m-split i j m n false f h e = cc
 
 -- the test of monomials is right
@@ -150,7 +149,7 @@ later_term x y r s e = omega (arith, ints)
 
 -- the test of coefficients is right
 is_zero-is : (c : ℤ) → is_zero c ≡ true → c ≡ pos 0
-is_zero-is (pos n) e = ap pos (eqb-is n 0 e)
+is_zero-is (pos n) e = ap pos (eqb-true n 0 e)
 is_zero-is (negsuc n) e = cc
 
 -- a term that may have vanished
@@ -229,7 +228,7 @@ zeros-value env [] e = refl
 zeros-value env (t ∷ p) e = zeros-split env t.0 (value_m env t.1) (value_p env p) (is_zero t.0) (zeros p) refl (zeros-value env p) e
 
 -- what differ by 0 are equal
-equal_from_zero : (a b : ℤ) → a -ℤ b ≡ pos 0 → a ≡ b
+pub equal_from_zero : (a b : ℤ) → a -ℤ b ≡ pos 0 → a ≡ b
 equal_from_zero a b e = omega (arith, ints)
 
 -- the two sides are equal where the normal form of their difference is zero

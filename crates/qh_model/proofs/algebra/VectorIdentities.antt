@@ -2,8 +2,7 @@
 use Rattle.std.proofs.Common.{◌≡◌, ℕ, ◌+◌, ◌*◌, refl, List, [], ◌∷◌, arith, ap, ◌∙◌}
 use Rattle.std.proofs.Math.IntN.{*ℤ-zero}
 use Rattle.std.proofs.lemmas.Int.{ints}
-use Rattle.std.specs.Prelude.{ℤ, pos, ◌+ℤ◌, ◌-ℤ◌, ◌*ℤ◌, neg_ℤ, ◌≤ℤ◌, ◌<ℤ◌}
-use Rattle.qh_model.proofs.algebra.Order.{sign_step}
+use Rattle.std.specs.Prelude.{ℤ, pos, ◌+ℤ◌, ◌-ℤ◌, ◌*ℤ◌, neg_ℤ}
 use Rattle.qh_model.proofs.algebra.Ring.{Expr, ring, ring_zero}
 use Rattle.qh_model.proofs.algebra.Ring.Expr.{var, con, add, sub as less, mul, neg}
 use Rattle.qh_model.specs.Vector.{Vector, origin, minus, cross_product, dot}
@@ -57,11 +56,6 @@ unfolding vol
 vol-flip u v o p =
     ring (put u (put v (put o (put p [])))) (volE (vec 0) (vec 1) (vec 2) (vec 3)) (neg (volE (vec 1) (vec 0) (vec 2) (vec 3))) refl
 
--- a volume turns with its triangle
-pub vol-turn : (a b c p : Vector) → vol a b c p ≡ vol b c a p
-unfolding vol
-vol-turn a b c p = ring (put a (put b (put c (put p [])))) (volE (vec 0) (vec 1) (vec 2) (vec 3)) (volE (vec 1) (vec 2) (vec 0) (vec 3)) refl
-
 -- and changes its sign where two points change places
 pub vol-swap_last : (a b c p : Vector) → vol a b c p ≡ neg_ℤ (vol a b p c)
 unfolding vol
@@ -98,51 +92,6 @@ sum_up l r x y z e p q t = omega (arith, ints)
 pub combine3 : (l r c₁ l₁ r₁ c₂ l₂ r₂ c₃ l₃ r₃ : ℤ) → l -ℤ r ≡ c₁ *ℤ (l₁ -ℤ r₁) +ℤ c₂ *ℤ (l₂ -ℤ r₂) +ℤ c₃ *ℤ (l₃ -ℤ r₃) → l₁ ≡ r₁ → l₂ ≡ r₂ → l₃ ≡ r₃ → l ≡ r
 combine3 l r c₁ l₁ r₁ c₂ l₂ r₂ c₃ l₃ r₃ e e₁ e₂ e₃ =
     sum_up l r (c₁ *ℤ (l₁ -ℤ r₁)) (c₂ *ℤ (l₂ -ℤ r₂)) (c₃ *ℤ (l₃ -ℤ r₃)) e (no_term c₁ l₁ r₁ e₁) (no_term c₂ l₂ r₂ e₂) (no_term c₃ l₃ r₃ e₃)
-
--- (s + t + u + w) p = s a + t b + u c + w d, in one coordinate
-abbrev pub Mixes : (s t u w p a b c d : ℤ) → Type 0
-Mixes s t u w p a b c d = (s +ℤ t +ℤ u +ℤ w) *ℤ p ≡ s *ℤ a +ℤ t *ℤ b +ℤ u *ℤ c +ℤ w *ℤ d
-
--- n . (a point - i), over the variables of the next lemma
-abbrev plane_at : ℕ → Expr
-plane_at m = dotE (vec 0) (subE (vec m) (vec 1))
-
--- the weighted sum over the four points
-abbrev weighted : (ℕ → Expr) → Expr
-weighted f = add (add (add (mul (var 21) (f 3)) (mul (var 22) (f 4))) (mul (var 23) (f 5))) (mul (var 24) (f 6))
-
--- the sum of the weights times a term
-abbrev weighed : Expr → Expr
-weighed e = mul (add (add (add (var 21) (var 22)) (var 23)) (var 24)) e
-
--- how far one coordinate is from balance
-abbrev gap : (ℕ → Expr) → Expr
-gap f = less (weighed (f 2)) (weighted f)
-
--- a balanced point has balanced volumes
-pub vol-mix : (i j k p a b c d : Vector) (s t u w : ℤ)
-    → Mixes s t u w p.x a.x b.x c.x d.x → Mixes s t u w p.y a.y b.y c.y d.y → Mixes s t u w p.z a.z b.z c.z d.z
-    → Mixes s t u w (vol i j k p) (vol i j k a) (vol i j k b) (vol i j k c) (vol i j k d)
-unfolding vol
-vol-mix i j k p a b c d s t u w ex ey ez =
-    let n = cross_product (minus j i) (minus k i) in
-    combine3 ((s +ℤ t +ℤ u +ℤ w) *ℤ vol i j k p) (s *ℤ vol i j k a +ℤ t *ℤ vol i j k b +ℤ u *ℤ vol i j k c +ℤ w *ℤ vol i j k d)
-    n.x ((s +ℤ t +ℤ u +ℤ w) *ℤ p.x) (s *ℤ a.x +ℤ t *ℤ b.x +ℤ u *ℤ c.x +ℤ w *ℤ d.x)
-    n.y ((s +ℤ t +ℤ u +ℤ w) *ℤ p.y) (s *ℤ a.y +ℤ t *ℤ b.y +ℤ u *ℤ c.y +ℤ w *ℤ d.y)
-    n.z ((s +ℤ t +ℤ u +ℤ w) *ℤ p.z) (s *ℤ a.z +ℤ t *ℤ b.z +ℤ u *ℤ c.z +ℤ w *ℤ d.z)
-    (ring (put n (put i (put p (put a (put b (put c (put d (s ∷ t ∷ u ∷ w ∷ [])))))))) (less (weighed (plane_at 2)) (weighted plane_at)) (add (add (mul (var 0) (gap (λ m. var (3 * m)))) (mul (var 1) (gap (λ m. var (3 * m + 1))))) (mul (var 2) (gap (λ m. var (3 * m + 2))))) refl) ex ey ez
-
--- the horizon: u v a is visible and u v b its hidden neighbour's other corner, turned about; y is any point
-pub cone_supports : (u v a b p y : Vector) → pos 0 <ℤ vol u v a p → pos 0 ≤ℤ vol u v b p → vol u v a y ≤ℤ pos 0 → pos 0 ≤ℤ vol u v b y → vol u v a b <ℤ pos 0 → vol u v p y ≤ℤ pos 0
-cone_supports u v a b p y h1 h2 h3 h4 h5 =
-    sign_step (vol u v a p) (vol u v b y) (vol u v a y) (vol u v b p) (vol u v a b) (vol u v p y) (edge_product u v a b p y) h1 h4 h3 h2 h5
-
--- the same in a plane, for the orders of points about u
-pub left_product : (n u a b c d : Vector) → left n u a b *ℤ left n u c d -ℤ left n u a c *ℤ left n u b d +ℤ left n u a d *ℤ left n u b c ≡ pos 0
-unfolding left
-left_product n u a b c d =
-    ring_zero (put n (put (minus a u) (put (minus b u) (put (minus c u) (put (minus d u) [])))))
-    (add (less (mul (detE (vec 1) (vec 2) (vec 0)) (detE (vec 3) (vec 4) (vec 0))) (mul (detE (vec 1) (vec 3) (vec 0)) (detE (vec 2) (vec 4) (vec 0)))) (mul (detE (vec 1) (vec 4) (vec 0)) (detE (vec 2) (vec 3) (vec 0)))) refl
 
 -- vectors are equal by their coordinates
 pub vector_path : (p q : Vector) → p.x ≡ q.x → p.y ≡ q.y → p.z ≡ q.z → p ≡ q
@@ -248,6 +197,18 @@ in_line-twice a c = vector_path (cross a a c) origin (flat a.y c.z a.z c.y) (fla
   where
     flat : (p q r s : ℤ) → (p -ℤ p) *ℤ (q -ℤ r) -ℤ (r -ℤ r) *ℤ (s -ℤ p) ≡ pos 0
     flat p q r s = ring (p ∷ q ∷ r ∷ s ∷ []) (less (mul (less (var 0) (var 0)) (less (var 1) (var 2))) (mul (less (var 2) (var 2)) (less (var 3) (var 0)))) (con (pos 0)) refl
+
+-- and a point with one that stands twice
+pub in_line-last : (a b : Vector) → AreInLine a b b
+unfolding cross
+in_line-last a b = vector_path (cross a b b) origin (none (b.y -ℤ a.y) (b.z -ℤ a.z)) (none (b.z -ℤ a.z) (b.x -ℤ a.x)) (none (b.x -ℤ a.x) (b.y -ℤ a.y))
+  where
+    none : (p q : ℤ) → p *ℤ q -ℤ q *ℤ p ≡ pos 0
+    none p q = ring (p ∷ q ∷ []) (less (mul (var 0) (var 1)) (mul (var 1) (var 0))) (con (pos 0)) refl
+
+-- scalar products commute
+pub dot_comm : (n p : Vector) → dot n p ≡ dot p n
+dot_comm n p = omega (arith, ints)
 
 -- the triangle the other way round
 pub vol-flip_last : (a b c d : Vector) → vol a c b d ≡ neg_ℤ (vol a b c d)

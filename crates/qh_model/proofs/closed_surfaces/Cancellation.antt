@@ -2,6 +2,7 @@
 -- corners along a direction. With the depth of each corner as a common multiple, the terms of each edge cancel.
 use Rattle.std.proofs.Common.{◌≡◌, ℕ, ◌+◌, ◌<◌, ◌≤◌, arith, ap, sym, ◌∙◌, refl, List, [], ◌∷◌, Bool, true, false, cond, eqb, inl, inr}
 use Rattle.std.proofs.lemmas.Int.{ints}
+use Rattle.std.proofs.lemmas.Bool.{eqb-true}
 use Rattle.std.specs.Prelude.{ℤ, pos, ◌+ℤ◌, ◌*ℤ◌, neg_ℤ, ◌≤ℤ◌, ◌<ℤ◌}
 use Rattle.std.specs.List.{AllByRecursion as Each}
 use Rattle.qh_model.specs.Vector.{Vector, dot, minus}
@@ -12,7 +13,7 @@ use Rattle.qh_model.specs.ClosedSurfaceLaws.{IsCornerOf, NoneBelowAndBeyond}
 use Rattle.qh_model.proofs.Members.{every_map}
 use Rattle.qh_model.proofs.algebra.Integers.{mul_swap}
 use Rattle.qh_model.proofs.algebra.Order.{mul-pos, mul-neg_pos}
-use Rattle.qh_model.proofs.algebra.Ring.{ring, eqb-is}
+use Rattle.qh_model.proofs.algebra.Ring.{ring}
 use Rattle.qh_model.proofs.algebra.Ring.Expr.{var, add, sub as less, mul, neg}
 use Rattle.qh_model.proofs.algebra.VectorIdentities.{vol-flip, vol-depths, depth, dot-minus, combine3}
 use Rattle.qh_model.proofs.closed_surfaces.Sums.{sum_z, count, drop_first, later}
@@ -118,7 +119,7 @@ prod_step f x y ys r false e h = rw (h refl) (mul_swap (f y) (f x) (prod_z f r))
 -- a product with one factor taken out
 prod-drop_first : (f : ℕ → ℤ) (x : ℕ) (ys : List ℕ) → 0 < count (eqb x) ys → prod_z f ys ≡ f x *ℤ prod_z f (drop_first (eqb x) ys)
 prod-drop_first f x [] h = absurd (omega arith)
-prod-drop_first f x (y ∷ ys) h = prod_step f x y ys (drop_first (eqb x) ys) (eqb x y) (eqb-is x y) (λ e. prod-drop_first f x ys (later (eqb x y) (count (eqb x) ys) h e))
+prod-drop_first f x (y ∷ ys) h = prod_step f x y ys (drop_first (eqb x) ys) (eqb x y) (eqb-true x y) (λ e. prod-drop_first f x ys (later (eqb x y) (count (eqb x) ys) h e))
 
 -- a longer list counts no less
 more_there : (x y : ℕ) (n : ℕ) → 0 < n → 0 < cond (eqb x y) 1 0 + n

@@ -1,15 +1,14 @@
 -- The signed volume of a closed surface: what changes its sign with an edge's direction adds up to nothing.
 use Rattle.std.proofs.Common.{◌≡◌, ℕ, arith, ap, sym, ◌∙◌, refl, List, [], ◌∷◌, map, Bool, true, false, eqb, rules}
 use Rattle.std.proofs.lemmas.Int.{ints}
+use Rattle.std.proofs.lemmas.Bool.{and_parts, eqb-true}
 use Rattle.std.specs.Prelude.{ℤ, pos, ◌+ℤ◌, neg_ℤ, ◌&&◌}
 use Rattle.qh_model.specs.Vector.{Vector}
 use Rattle.qh_model.specs.Predicates.{vol}
 use Rattle.qh_model.specs.ClosedSurface.{Triple, edges, is_edge, IsClosed, signed_volume}
 use Rattle.qh_model.specs.ClosedSurfaceLaws.{VolumeIsConstant}
-use Rattle.qh_model.proofs.algebra.Ring.{eqb-is}
 use Rattle.qh_model.proofs.algebra.VectorIdentities.{vol-boundary, vol-flip}
 use Rattle.qh_model.proofs.closed_surfaces.Sums.{sum_z, count, Tests, sum_z-same_counts, count-is}
-use Rattle.qh_model.proofs.Booleans.{both_true}
 
 -- an edge turned round
 abbrev pub back : (ℕ × ℕ) → (ℕ × ℕ)
@@ -22,7 +21,7 @@ eqb-refl i = search rules
 -- the test of edges tests equality
 pub edge_tests : Tests is_edge
 edge_tests = record {
-  same = λ e f h. let b = both_true (eqb e.0 f.0) (eqb e.1 f.1) h in pair_is e.0 e.1 f.0 f.1 (eqb-is e.0 f.0 b.0) (eqb-is e.1 f.1 b.1);
+  same = λ e f h. let b = and_parts (eqb e.0 f.0) (eqb e.1 f.1) h in pair_is e.0 e.1 f.0 f.1 (eqb-true e.0 f.0 b.0) (eqb-true e.1 f.1 b.1);
   itself = λ e. rw (eqb-refl e.0, eqb-refl e.1) refl;
 }
   where

@@ -1,8 +1,8 @@
 -- Sums of whole numbers over a list, by how often each element is there.
 use Rattle.std.proofs.Common.{◌≡◌, ℕ, ◌+◌, ◌<◌, arith, ap, sym, ◌∙◌, refl, List, [], ◌∷◌, Bool, true, false, cond}
-use Rattle.std.proofs.lemmas.Int.{ints}
 use Rattle.std.specs.Prelude.{ℤ, pos, ◌+ℤ◌, count_by}
 use Rattle.std.proofs.lemmas.List.Sums.{sum_by-cons}
+use Rattle.qh_model.proofs.algebra.Integers.{add_swap}
 
 -- the sum of f over a list
 abbrev pub sum_z : {X : Type 0} → (X → ℤ) → List X → ℤ
@@ -28,10 +28,7 @@ pub record Tests {X : Type 0} (eq : X → X → Bool) : Type 0 where
 sum_step : {X : Type 0} (f : X → ℤ) (x y : X) (ys r : List X) (b : Bool) → (b ≡ true → x ≡ y)
     → (b ≡ false → sum_z f ys ≡ f x +ℤ sum_z f r) → f y +ℤ sum_z f ys ≡ f x +ℤ sum_z f (cond b ys (y ∷ r))
 sum_step f x y ys r true e h = ap (λ v. f v +ℤ sum_z f ys) (sym (e refl))
-sum_step f x y ys r false e h = rw (h refl) (swap (f y) (f x) (sum_z f r))
-  where
-    swap : (a b c : ℤ) → a +ℤ (b +ℤ c) ≡ b +ℤ (a +ℤ c)
-    swap a b c = omega (arith, ints)
+sum_step f x y ys r false e h = rw (h refl) (add_swap (f y) (f x) (sum_z f r))
 
 -- if the first does not pass a later one does
 pub later : (b : Bool) (n : ℕ) → 0 < cond b 1 0 + n → b ≡ false → 0 < n

@@ -12,6 +12,7 @@ use Rattle.qh_model.specs.Extreme.{Extreme}
 use Rattle.qh_model.specs.DimensionLaws.{DimensionIsUnique, DimensionOfExtremes}
 use Rattle.qh_model.proofs.algebra.Order.{zero_or_not}
 use Rattle.qh_model.proofs.algebra.VectorIdentities.{vector_path, vol-linear, vol-first_last, vol-second_last, vol-third_last, left-dot, left-linear, left-turn, in_line-vol, in_line-left, in_line-twice, opposite, dot-opposite}
+use Rattle.qh_model.proofs.algebra.Ring.{equal_from_zero}
 use Rattle.qh_model.proofs.extremes.ExtremeIds.{listed_itself, combination_of_extremes}
 use Rattle.qh_model.proofs.extremes.AffineForms.{Form, form_as, NonZero, non_zero_member}
 
@@ -77,22 +78,19 @@ record Differ (p q : Vector) : Type 0 where
 differ : (p q : Vector) → p ≢ q → Differ p q
 differ p q n = on_x (zero_or_not (p.x -ℤ q.x))
   where
-    same : (a b : ℤ) → a -ℤ b ≡ pos 0 → a ≡ b
-    same a b e = omega (arith, ints)
-
     apart : (a b c d : ℤ) → c ≡ a → d ≡ b → c ≡ d → a -ℤ b ≡ pos 0
     apart a b c d e f h = omega (arith, ints)
 
     on_z : p.x ≡ q.x → p.y ≡ q.y → (p.z -ℤ q.z ≡ pos 0) ⊎ (¬ (p.z -ℤ q.z ≡ pos 0)) → Differ p q
-    on_z x y (inl z) = absurd (n (vector_path p q x y (same p.z q.z z)))
+    on_z x y (inl z) = absurd (n (vector_path p q x y (equal_from_zero p.z q.z z)))
     on_z x y (inr k) = record { axis = axis_z; differs = λ e. k (apart p.z q.z _ _ (dot-axis_z p) (dot-axis_z q) e) }
 
     on_y : p.x ≡ q.x → (p.y -ℤ q.y ≡ pos 0) ⊎ (¬ (p.y -ℤ q.y ≡ pos 0)) → Differ p q
-    on_y x (inl y) = on_z x (same p.y q.y y) (zero_or_not (p.z -ℤ q.z))
+    on_y x (inl y) = on_z x (equal_from_zero p.y q.y y) (zero_or_not (p.z -ℤ q.z))
     on_y x (inr k) = record { axis = axis_y; differs = λ e. k (apart p.y q.y _ _ (dot-axis_y p) (dot-axis_y q) e) }
 
     on_x : (p.x -ℤ q.x ≡ pos 0) ⊎ (¬ (p.x -ℤ q.x ≡ pos 0)) → Differ p q
-    on_x (inl x) = on_y (same p.x q.x x) (zero_or_not (p.y -ℤ q.y))
+    on_x (inl x) = on_y (equal_from_zero p.x q.x x) (zero_or_not (p.y -ℤ q.y))
     on_x (inr k) = record { axis = axis_x; differs = λ e. k (apart p.x q.x _ _ (dot-axis_x p) (dot-axis_x q) e) }
 
 -- ---- three points
@@ -140,9 +138,6 @@ segment_of at A E d m h = along (differ (at h.i) (at h.j) (λ e. h.differ (d h.i
     none : (a b : ℤ) → a ≡ b → a -ℤ b ≡ pos 0
     none a b e = omega (arith, ints)
 
-    some : (a b : ℤ) → a -ℤ b ≡ pos 0 → a ≡ b
-    some a b e = omega (arith, ints)
-
     second : (u : Vector) (i' : ℕ) → E i' → NonZero at E (λ q. dot u (at i') -ℤ dot u q) → HasSegment E
     second u i' ei r = record { i = i'; j = r.e; has_i = ei; has_j = r.has; differ = λ e. r.differs (none (dot u (at i')) (dot u (at r.e)) (ap (λ t. dot u (at t)) e)) }
 
@@ -150,7 +145,7 @@ segment_of at A E d m h = along (differ (at h.i) (at h.j) (λ e. h.differ (d h.i
     first u r = second u r.e r.has (non_zero_member at E (at h.j) (m h.j h.has_j) (λ q. dot u (at r.e) -ℤ dot u q) (record { u = opposite u; c = dot u (at r.e); is = λ q. turned (dot u (at r.e)) (dot u q) (dot (opposite u) q) (dot-opposite u q) }) r.differs)
 
     along : Differ (at h.i) (at h.j) → HasSegment E
-    along k = first k.axis (non_zero_member at E (at h.i) (m h.i h.has_i) (λ q. dot k.axis q -ℤ dot k.axis (at h.j)) (record { u = k.axis; c = neg_ℤ (dot k.axis (at h.j)); is = λ q. plus_neg (dot k.axis q) (dot k.axis (at h.j)) }) (λ e. k.differs (some (dot k.axis (at h.i)) (dot k.axis (at h.j)) e)))
+    along k = first k.axis (non_zero_member at E (at h.i) (m h.i h.has_i) (λ q. dot k.axis q -ℤ dot k.axis (at h.j)) (record { u = k.axis; c = neg_ℤ (dot k.axis (at h.j)); is = λ q. plus_neg (dot k.axis q) (dot k.axis (at h.j)) }) (λ e. k.differs (equal_from_zero (dot k.axis (at h.i)) (dot k.axis (at h.j)) e)))
 
 -- ---- one dimension
 -- corners of a tetrahedron are not in line, and corners of a triangle differ

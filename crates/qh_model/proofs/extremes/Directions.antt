@@ -5,27 +5,21 @@ use Rattle.std.specs.Prelude.{ℤ, pos, negsuc, ◌+ℤ◌, ◌*ℤ◌, neg_ℤ,
 use Rattle.qh_model.specs.Vector.{Vector, origin, minus, cross_product, dot}
 use Rattle.qh_model.specs.Predicates.{cross, vol, left, AreInLine}
 use Rattle.qh_model.specs.FaceLaws.{IsAlong}
-use Rattle.qh_model.proofs.algebra.Order.{mul-nonneg, mul-pos, cancel-nonneg, cancel-nonpos, cancel-pos, cancel-zero, le_antisym, square-nonneg}
+use Rattle.qh_model.proofs.algebra.Order.{mul-nonneg, mul-pos, cancel-nonneg, cancel-nonpos, cancel-pos, cancel-zero, le_antisym, square-nonneg, neg-positive, product_zero}
 use Rattle.qh_model.proofs.algebra.Ring.{ring}
 use Rattle.qh_model.proofs.algebra.Ring.Expr.{var, con, add, sub as less, mul, neg}
-use Rattle.qh_model.proofs.algebra.VectorIdentities.{vec, put, dotE, crossE, subE, combine3, opposite, vector_path, dot-minus, vol-dot, vol-linear, left-dot}
+use Rattle.qh_model.proofs.algebra.VectorIdentities.{vec, put, dotE, crossE, subE, combine3, opposite, vector_path, dot-minus, vol-dot, vol-linear, left-dot, dot_comm}
+use Rattle.qh_model.proofs.algebra.Signs.{equal_nonpos, equal_positive}
+use Rattle.qh_model.proofs.algebra.Integers.{zero_mul}
 
 -- ---- signs under a positive scale
 -- a scale above 0
 positive_factor : (s : ℕ) → 0 < s → pos 0 <ℤ pos s
 positive_factor s h = omega (arith, ints)
 
--- a sign, told otherwise
-scaled_le : (x y : ℤ) → x ≡ y → x ≤ℤ pos 0 → y ≤ℤ pos 0
-scaled_le x y e h = omega (arith, ints)
-
--- the same above 0
-scaled_lt : (x y : ℤ) → x ≡ y → pos 0 <ℤ x → pos 0 <ℤ y
-scaled_lt x y e h = omega (arith, ints)
-
 -- where s v = t w with positive s and t, v and w have one sign
 pub at_most_along : (s t : ℕ) (v w : ℤ) → 0 < s → 0 < t → pos s *ℤ v ≡ pos t *ℤ w → v ≤ℤ pos 0 → w ≤ℤ pos 0
-at_most_along s t v w h k e l = cancel-nonpos (pos t) w (positive_factor t k) (scaled_le (pos s *ℤ v) (pos t *ℤ w) e (times_le s v h l))
+at_most_along s t v w h k e l = cancel-nonpos (pos t) w (positive_factor t k) (equal_nonpos (pos s *ℤ v) (pos t *ℤ w) e (times_le s v h l))
   where
     times_le : (s : ℕ) (v : ℤ) → 0 < s → v ≤ℤ pos 0 → (pos s *ℤ v) ≤ℤ pos 0
     times_le s v h l = grind (arith, ints)
@@ -39,14 +33,11 @@ at_least_along s t v w h k e l = cancel-nonneg (pos t) w (positive_factor t k) (
 
 -- above 0
 pub positive_along : (s t : ℕ) (v w : ℤ) → 0 < s → 0 < t → pos s *ℤ v ≡ pos t *ℤ w → pos 0 <ℤ v → pos 0 <ℤ w
-positive_along s t v w h k e l = cancel-pos (pos t) w (positive_factor t k) (scaled_lt (pos s *ℤ v) (pos t *ℤ w) e (mul-pos (pos s) v (positive_factor s h) l))
+positive_along s t v w h k e l = cancel-pos (pos t) w (positive_factor t k) (equal_positive (pos s *ℤ v) (pos t *ℤ w) e (mul-pos (pos s) v (positive_factor s h) l))
 
 -- 0
 pub zero_along : (s t : ℕ) (v w : ℤ) → 0 < t → pos s *ℤ v ≡ pos t *ℤ w → v ≡ pos 0 → w ≡ pos 0
-zero_along s t v w k e z = cancel-zero (pos t) w (positive_factor t k) (sym e ∙ ap (λ x. pos s *ℤ x) z ∙ times_zero (pos s))
-  where
-    times_zero : (s : ℤ) → s *ℤ pos 0 ≡ pos 0
-    times_zero s = omega (arith, ints)
+zero_along s t v w k e z = cancel-zero (pos t) w (positive_factor t k) (sym e ∙ product_zero (pos s) v z)
 
 -- ---- scalar products and turns along one direction
 -- scalar products
@@ -60,10 +51,6 @@ dot_along n m h q =
     let N = vec 0 in let M = vec 1 in let Q = vec 2 in let S = var 9 in let T = var 10 in
     ring (put n (put m (put q (pos h.s ∷ pos h.t ∷ [])))) (less (mul S (dotE N Q)) (mul T (dotE M Q)))
     (add (add (mul Q.x (less (mul S N.x) (mul T M.x))) (mul Q.y (less (mul S N.y) (mul T M.y)))) (mul Q.z (less (mul S N.z) (mul T M.z)))) refl) h.x h.y h.z
-
--- scalar products commute
-dot_comm : (n p : Vector) → dot n p ≡ dot p n
-dot_comm n p = omega (arith, ints)
 
 -- turns
 pub left_along : (n m : Vector) (h : IsAlong n m) (u v w : Vector) → pos h.s *ℤ left n u v w ≡ pos h.t *ℤ left m u v w
@@ -151,10 +138,7 @@ along_or_opposite n r h k e = by_lt_z (pos 0) s (λ l. inl (along_by n r s t l p
     p = square-positive n h
 
     above : s <ℤ pos 0 → pos 0 <ℤ neg_ℤ s
-    above q = turn s q
-      where
-        turn : (s : ℤ) → s <ℤ pos 0 → pos 0 <ℤ neg_ℤ s
-        turn s q = omega (arith, ints)
+    above q = neg-positive s q
 
     turned : (x y : ℤ) → t *ℤ y ≡ s *ℤ x → neg_ℤ s *ℤ x ≡ t *ℤ neg_ℤ y
     turned x y e = signs s t x y e
@@ -164,10 +148,7 @@ along_or_opposite n r h k e = by_lt_z (pos 0) s (λ l. inl (along_by n r s t l p
             ring (s ∷ t ∷ x ∷ y ∷ []) (mul (neg (var 0)) (var 2)) (neg (mul (var 0) (var 2))) refl ∙ ap neg_ℤ (sym e) ∙ ring (s ∷ t ∷ x ∷ y ∷ []) (neg (mul (var 1) (var 3))) (mul (var 1) (neg (var 3))) refl
 
     none : (x y : ℤ) → t *ℤ y ≡ s *ℤ x → s ≡ pos 0 → y ≡ pos 0
-    none x y e z = cancel-zero t y p (e ∙ ap (λ v. v *ℤ x) z ∙ zero_times x)
-      where
-        zero_times : (x : ℤ) → pos 0 *ℤ x ≡ pos 0
-        zero_times x = omega (arith, ints)
+    none x y e z = cancel-zero t y p (e ∙ ap (λ v. v *ℤ x) z ∙ zero_mul x)
 
     flat : s ≡ pos 0 → r ≡ origin
     flat z = vector_path r origin (none n.x r.x e.x z) (none n.y r.y e.y z) (none n.z r.z e.z z)

@@ -1,5 +1,5 @@
 -- The greatest member in a direction is extreme, members are mixes of extremes, and extremes of a union.
-use Rattle.std.proofs.Common.{◌≡◌, ◌≢◌, ℕ, zero, suc, ◌<◌, arith, sym, subst, ◌⊎◌, inl, inr, ◌↔◌, List, [], ◌∷◌}
+use Rattle.std.proofs.Common.{◌≡◌, ◌≢◌, ℕ, zero, suc, ◌<◌, arith, sym, subst, ◌⊎◌, inl, inr, ◌↔◌, List, [], ◌∷◌, ◌++◌}
 use Rattle.std.proofs.lemmas.Int.{ints}
 use Rattle.std.specs.Prelude.{ℤ, pos, ◌+ℤ◌, ◌*ℤ◌, ◌<ℤ◌}
 use Rattle.std.specs.List.{AllByRecursion as Every}
@@ -11,6 +11,7 @@ use Rattle.qh_model.proofs.combinations.Vectors.{V, dot as vdot}
 use Rattle.qh_model.proofs.Members.{every_at}
 use Rattle.qh_model.proofs.combinations.Alternatives.{combination_or_separator, all_lower}
 use Rattle.qh_model.proofs.extremes.LexicographicOrder.{Less, Same, AtMost, Greatest, greatest, collapse}
+use Rattle.qh_model.proofs.lists.Joined.{in_append, of_append}
 use Rattle.qh_model.specs.Vector.{Vector, dot}
 use Rattle.qh_model.specs.Sets.{In, Members}
 use Rattle.qh_model.specs.DistinctIds.{HasDistinctPoints}
@@ -218,33 +219,11 @@ extremes_between at A B xs l d sub sup i = (down, up)
     up h = (sup i h, λ m. h.1 (combination_within at (Others B i) (Others A i) (at i) m (λ j o. (sub j o.0, o.1))))
 
 -- ---- the union of blocks
--- two lists, one after the other
-abbrev joint : List ℕ → List ℕ → List ℕ
-joint [] ys = ys
-joint (x ∷ xs) ys = x ∷ joint xs ys
-
--- their members
-to_joint : (xs ys : List ℕ) (j : ℕ) → In j xs ⊎ In j ys → In j (joint xs ys)
-to_joint [] ys j (inl m) = absurd m
-to_joint [] ys j (inr m) = m
-to_joint (x ∷ xs) ys j (inl (inl e)) = inl e
-to_joint (x ∷ xs) ys j (inl (inr m)) = inr (to_joint xs ys j (inl m))
-to_joint (x ∷ xs) ys j (inr m) = inr (to_joint xs ys j (inr m))
-
--- and no others
-of_joint : (xs ys : List ℕ) (j : ℕ) → In j (joint xs ys) → In j xs ⊎ In j ys
-of_joint [] ys j m = inr m
-of_joint (x ∷ xs) ys j (inl e) = inl (inl e)
-of_joint (x ∷ xs) ys j (inr m) = more (of_joint xs ys j m)
-  where
-    more : In j xs ⊎ In j ys → In j (x ∷ xs) ⊎ In j ys
-    more (inl m) = inl (inr m)
-    more (inr m) = inr m
 
 -- all blocks together
 abbrev gathered : ℕ → (ℕ → List ℕ) → List ℕ
 gathered zero block = []
-gathered (suc n) block = joint (block n) (gathered n block)
+gathered (suc n) block = block n ++ gathered n block
 
 -- their members
 in_gathered : (n : ℕ) (block : ℕ → List ℕ) (j k : ℕ) → k < n → In j (block k) → In j (gathered n block)
@@ -252,13 +231,13 @@ in_gathered zero block j k h m = absurd (omega arith)
 in_gathered (suc n) block j k h m = go (ℕ_discrete k n) (λ q. in_gathered n block j k q m)
   where
     go : Dec (k ≡ n) → (k < n → In j (gathered n block)) → In j (gathered (suc n) block)
-    go (yes e) f = to_joint (block n) (gathered n block) j (inl (subst (λ t. In j (block t)) e m))
-    go (no e) f = to_joint (block n) (gathered n block) j (inr (f (omega arith)))
+    go (yes e) f = in_append (block n) (gathered n block) j (inl (subst (λ t. In j (block t)) e m))
+    go (no e) f = in_append (block n) (gathered n block) j (inr (f (omega arith)))
 
 -- and no others
 of_gathered : (n : ℕ) (block : ℕ → List ℕ) (j : ℕ) → In j (gathered n block) → InBlocks n (λ k. Members (block k)) j
 of_gathered zero block j m = absurd m
-of_gathered (suc n) block j m = go (of_joint (block n) (gathered n block) j m) (of_gathered n block j)
+of_gathered (suc n) block j m = go (of_append (block n) (gathered n block) j m) (of_gathered n block j)
   where
     go : In j (block n) ⊎ In j (gathered n block) → (In j (gathered n block) → InBlocks n (λ k. Members (block k)) j) → InBlocks (suc n) (λ k. Members (block k)) j
     go (inl h) f = (n, omega arith, h)

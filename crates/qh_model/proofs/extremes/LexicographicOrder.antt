@@ -10,6 +10,7 @@ use Rattle.qh_model.proofs.combinations.WeightedTerms.{bound}
 use Rattle.qh_model.proofs.Members.{every_map, every_zip}
 use Rattle.qh_model.specs.Sets.{In}
 use Rattle.qh_model.proofs.algebra.Order.{le_antisym}
+use Rattle.qh_model.proofs.algebra.Signs.{less_le, equal_le}
 
 -- u comes before v
 abbrev pub Less : (n : ℕ) → V n → V n → Type 0
@@ -98,19 +99,11 @@ regroup Q F E T (inl q) = inl (inl q)
 regroup Q F E T (inr (inl f)) = inl (inr f)
 regroup Q F E T (inr (inr p)) = inr p.1
 
--- less is at most
-lt_le : (a b : ℤ) → a <ℤ b → a ≤ℤ b
-lt_le a b h = omega (arith, ints)
-
--- equal is at most
-eq_le : (a b : ℤ) → a ≡ b → a ≤ℤ b
-eq_le a b h = omega (arith, ints)
-
 -- the first coordinate is at most
 first : (Q T : Type 0) (a b : ℤ) → Q ⊎ ((a <ℤ b) ⊎ ((a ≡ b) × T)) → Q ⊎ (a ≤ℤ b)
 first Q T a b (inl q) = inl q
-first Q T a b (inr (inl h)) = inr (lt_le a b h)
-first Q T a b (inr (inr p)) = inr (eq_le a b p.0)
+first Q T a b (inr (inl h)) = inr (less_le a b h)
+first Q T a b (inr (inr p)) = inr (equal_le a b p.0)
 
 -- a large factor lets the first coordinate decide
 first_decides : (N : ℕ) (a b t s : ℤ) → a <ℤ b → neg_ℤ (s -ℤ t) <ℤ pos N → (pos N *ℤ a +ℤ t) <ℤ (pos N *ℤ b +ℤ s)

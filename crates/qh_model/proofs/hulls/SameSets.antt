@@ -17,7 +17,7 @@ use Rattle.qh_model.proofs.polygons.Direction.{polygon_as}
 use Rattle.qh_model.proofs.hulls.OfExtremes.{body_of_extremes}
 
 -- both have the same members
-abbrev Same : (ℕ → Type 0) → (ℕ → Type 0) → Type 0
+abbrev pub Same : (ℕ → Type 0) → (ℕ → Type 0) → Type 0
 Same A B = (i : ℕ) → A i ↔ B i
 
 -- the other way round
@@ -25,7 +25,7 @@ back : (A B : ℕ → Type 0) → Same A B → Same B A
 back A B s i = ((s i).1, (s i).0)
 
 -- the same extremes
-extreme_as : (at : ℕ → Vector) (A B : ℕ → Type 0) → Same A B → Same (Extreme at A) (Extreme at B)
+pub extreme_as : (at : ℕ → Vector) (A B : ℕ → Type 0) → Same A B → Same (Extreme at A) (Extreme at B)
 extreme_as at A B s i = (one A B s, one B A (back A B s))
   where
     one : (C D : ℕ → Type 0) → Same C D → Extreme at C i → Extreme at D i

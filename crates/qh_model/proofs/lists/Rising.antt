@@ -16,7 +16,7 @@ rising_between xs p q h l m =
     grind (arith, step, rest)
 
 -- the number at a position of a part
-part_at : (xs : List ℕ) (f n k : ℕ) → k < length (take n (drop f xs)) → get_or (take n (drop f xs)) k 0 ≡ get_or xs (f + k) 0
+pub part_at : (xs : List ℕ) (f n k : ℕ) → k < length (take n (drop f xs)) → get_or (take n (drop f xs)) k 0 ≡ get_or xs (f + k) 0
 part_at xs f n k h = grind (arith, common_steps)
 
 -- a part of a rising list rises

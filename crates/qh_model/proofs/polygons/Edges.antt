@@ -3,7 +3,7 @@ use Rattle.std.proofs.Common.{◌≡◌, ◌≢◌, ℕ, arith, refl, sym, ap, s
 use Rattle.std.proofs.lemmas.Int.{ints, by_lt_z}
 use native.Mathlib.Decide.{ℕ_discrete}
 use Rattle.std.specs.Prelude.{ℤ, pos, negsuc, ◌+ℤ◌, ◌-ℤ◌, ◌*ℤ◌, neg_ℤ, ◌≤ℤ◌, ◌<ℤ◌}
-use Rattle.qh_model.specs.Vector.{Vector, origin, minus, cross_product, dot}
+use Rattle.qh_model.specs.Vector.{Vector, minus, cross_product, dot}
 use Rattle.qh_model.specs.Predicates.{cross, vol, left, AreInLine}
 use Rattle.qh_model.specs.Sets.{In, Members}
 use Rattle.qh_model.specs.DistinctIds.{HasDistinctPoints}
@@ -15,10 +15,12 @@ use Rattle.qh_model.specs.FaceLaws.{IsAlong, SpannedByExtremes}
 use Rattle.qh_model.specs.Polygon.{AlongPath, AroundCycle, TurnsLeft}
 use Rattle.qh_model.specs.Polygons.{IsFacePolygon, FollowsAlong, Follows}
 use Rattle.qh_model.specs.EdgeLaws.{OneFaceEachWay, OtherFace}
-use Rattle.qh_model.proofs.algebra.Order.{mul-pos, mul-nonneg_nonpos, mul-pos_neg, mul-neg_neg, cancel-nonpos, cancel-zero, zero_or_not, le_antisym}
+use Rattle.qh_model.proofs.algebra.Order.{mul-pos, mul-nonneg_nonpos, mul-pos_neg, mul-neg_neg, cancel-nonpos, cancel-zero, zero_or_not, le_antisym, positive_le, product_zero}
 use Rattle.qh_model.proofs.algebra.Ring.{ring}
-use Rattle.qh_model.proofs.algebra.Ring.Expr.{var, con, add, sub as less, mul}
-use Rattle.qh_model.proofs.algebra.VectorIdentities.{vector_path, opposite, dot-opposite, vec, put, dotE, combine3, edge_product, vol-first, vol-second, vol-third, vol-flip, vol-swap_last, vol-dot, left-dot, left-flip, left-linear, in_line-vol, in_line-left, in_line-twice}
+use Rattle.qh_model.proofs.algebra.Ring.Expr.{add, sub as less, mul}
+use Rattle.qh_model.proofs.algebra.VectorIdentities.{opposite, dot-opposite, vec, put, dotE, combine3, edge_product, vol-first, vol-second, vol-third, vol-flip, vol-swap_last, vol-dot, left-dot, left-flip, left-linear, in_line-vol, in_line-left, in_line-twice, dot_comm, in_line-last}
+use Rattle.qh_model.proofs.algebra.Signs.{less_differ}
+use Rattle.qh_model.proofs.algebra.Integers.{mul_comm}
 use Rattle.qh_model.proofs.extremes.Directions.{Parallel, parallel_normal, along_by, square-positive, from_plane, vol_along, in_line-flip, zero_along}
 use Rattle.qh_model.proofs.extremes.ExtremeIds.{Listed, listed_itself, listed_part, combination_of_extremes}
 use Rattle.qh_model.proofs.extremes.Faces.{extremes_of_face}
@@ -80,10 +82,6 @@ parallel_dot n r q h =
     ring (put n (put r (put q []))) (less (mul S (dotE R Q)) (mul T (dotE N Q)))
     (add (add (mul Q.x (less (mul S R.x) (mul T N.x))) (mul Q.y (less (mul S R.y) (mul T N.y)))) (mul Q.z (less (mul S R.z) (mul T N.z)))) refl) h.x h.y h.z
 
--- scalar products commute
-dot_comm : (n p : Vector) → dot n p ≡ dot p n
-dot_comm n p = omega (arith, ints)
-
 -- the triangle of three points of a plane is parallel to it
 level_parallel : (a b c u v l : Vector) → vol a b c u ≡ pos 0 → vol a b c v ≡ pos 0 → vol a b c l ≡ pos 0 → Parallel (cross a b c) (cross u v l)
 level_parallel a b c u v l hu hv hl = parallel_normal (cross a b c) u v l (from_plane a b c u v hu ∙ hv) (from_plane a b c u l hu ∙ hl)
@@ -127,11 +125,7 @@ turn_sign s l x y h e q k = by_lt_z l (pos 0) (λ p. absurd (clash (s *ℤ x) (l
     clash : (p q : ℤ) → p ≡ q → p ≤ℤ pos 0 → pos 0 <ℤ q → ⊥
     clash p q e h k = omega (arith, ints)
 
--- above 0 is not below
-positive_le : (x : ℤ) → pos 0 <ℤ x → pos 0 ≤ℤ x
-positive_le x h = omega (arith, ints)
-
--- nor above 0 and 0
+-- no number is above 0 and 0
 not_zero : (x : ℤ) → pos 0 <ℤ x → x ≡ pos 0 → ⊥
 not_zero x h e = omega (arith, ints)
 
@@ -150,14 +144,6 @@ other_of_three x y z u v xy yz xz = pick (ℕ_discrete x u) (ℕ_discrete x v) (
     pick a (yes b) c (yes d) = absurd (xy (b ∙ sym d))
     pick (yes a) (no b) (no c) (yes d) = (z, inr (inr refl), (λ e. xz (a ∙ sym e)), (λ e. yz (d ∙ sym e)))
     pick (no a) (yes b) (yes c) (no d) = (z, inr (inr refl), (λ e. yz (c ∙ sym e)), (λ e. xz (b ∙ sym e)))
-
--- two equal last points are in line with any first
-in_line_last : (a b : Vector) → AreInLine a b b
-unfolding cross
-in_line_last a b = vector_path (cross a b b) origin (none (b.y -ℤ a.y) (b.z -ℤ a.z)) (none (b.z -ℤ a.z) (b.x -ℤ a.x)) (none (b.x -ℤ a.x) (b.y -ℤ a.y))
-  where
-    none : (p q : ℤ) → p *ℤ q -ℤ q *ℤ p ≡ pos 0
-    none p q = ring (p ∷ q ∷ []) (less (mul (var 0) (var 1)) (mul (var 1) (var 0))) (con (pos 0)) refl
 
 -- a supporting plane, its polygon, and two neighbours on it
 record Way (at : ℕ → Vector) (A : ℕ → Type 0) (i j k : ℕ) (q : List ℕ) (u v : ℕ) : Type 0 where
@@ -198,7 +184,7 @@ module _ (at : ℕ → Vector) (ids : List ℕ) (d : HasDistinctPoints at (Membe
           xy e = s.area (subst (λ t. AreInLine (at s.u) (at t) (at s.w)) e (in_line-twice (at s.u) (at s.w)))
 
           yz : s.v ≢ s.w
-          yz e = s.area (subst (λ t. AreInLine (at s.u) (at s.v) (at t)) e (in_line_last (at s.u) (at s.v)))
+          yz e = s.area (subst (λ t. AreInLine (at s.u) (at s.v) (at t)) e (in_line-last (at s.u) (at s.v)))
 
           xz : s.u ≢ s.w
           xz e = s.area (subst (λ t. AreInLine (at s.u) (at s.v) (at t)) e (in_line-flip (at s.u) (at s.v) (at s.u) (in_line-twice (at s.u) (at s.v))))
@@ -237,7 +223,7 @@ module _ (at : ℕ → Vector) (ids : List ℕ) (d : HasDistinctPoints at (Membe
         where
           test : Dec (x ≡ u) → Dec (x ≡ v) → pos 0 ≤ℤ left n (at u) (at v) (at x)
           test (yes p) b = level _ (ap (λ t. left n (at u) (at v) (at t)) p ∙ in_line-left n (at u) (at v) (at u) (in_line-flip (at u) (at v) (at u) (in_line-twice (at u) (at v))))
-          test (no a) (yes p) = level _ (ap (λ t. left n (at u) (at v) (at t)) p ∙ in_line-left n (at u) (at v) (at v) (in_line_last (at u) (at v)))
+          test (no a) (yes p) = level _ (ap (λ t. left n (at u) (at v) (at t)) p ∙ in_line-left n (at u) (at v) (at v) (in_line-last (at u) (at v)))
           test (no a) (no b) = positive_le _ (to_left x e a b)
 
       -- along the opposite of c all extremes are lower than what lies to the right
@@ -257,13 +243,6 @@ module _ (at : ℕ → Vector) (ids : List ℕ) (d : HasDistinctPoints at (Membe
 -- opposite numbers not above 0 are 0
 both_zero : (x y : ℤ) → x ≡ neg_ℤ y → x ≤ℤ pos 0 → y ≤ℤ pos 0 → x ≡ pos 0
 both_zero x y e h k = omega (arith, ints)
-
--- a product with 0
-product_zero : (l y : ℤ) → y ≡ pos 0 → l *ℤ y ≡ pos 0
-product_zero l y h = ap (λ v. l *ℤ v) h ∙ zero l
-  where
-    zero : (l : ℤ) → l *ℤ pos 0 ≡ pos 0
-    zero l = omega (arith, ints)
 
 -- a face seen from a triangle of its plane
 seen_from : (at : ℕ → Vector) (A : ℕ → Type 0) (i j k u v y : ℕ) (q : List ℕ) → IsFacePolygon at A i j k q → IsAlong (cross (at i) (at j) (at k)) (cross (at u) (at v) (at y)) → vol (at i) (at j) (at k) (at u) ≡ pos 0 → IsFacePolygon at A u v y q
@@ -331,14 +310,11 @@ true_below (negsuc n) h = omega (arith, ints)
 gift_wrap : (u v a b p y : Vector) → pos 0 <ℤ vol u v a b → pos 0 <ℤ vol u v p y → pos 0 <ℤ (vol u v a p *ℤ vol u v b y -ℤ vol u v b p *ℤ vol u v a y)
 gift_wrap u v a b p y h k = finish (vol u v a p *ℤ vol u v b y) (vol u v a y) (vol u v b p) (vol u v a b *ℤ vol u v p y) (edge_product u v a b p y) (mul-pos (vol u v a b) (vol u v p y) h k)
   where
-    swapped : (a b : ℤ) → a *ℤ b ≡ b *ℤ a
-    swapped a b = omega (arith, ints)
-
     order : (x y z g : ℤ) → x -ℤ y ≡ g → z ≡ y → pos 0 <ℤ g → pos 0 <ℤ (x -ℤ z)
     order x y z g h e k = omega (arith, ints)
 
     finish : (x s t g : ℤ) → x -ℤ s *ℤ t ≡ g → pos 0 <ℤ g → pos 0 <ℤ (x -ℤ t *ℤ s)
-    finish x s t g e h = order x (s *ℤ t) (t *ℤ s) g e (swapped t s) h
+    finish x s t g e h = order x (s *ℤ t) (t *ℤ s) g e (mul_comm t s) h
 
 module _ (at : ℕ → Vector) (ids : List ℕ) (d : HasDistinctPoints at (Members ids)) (solid : HasTetrahedron at (Members ids)) (i j k : ℕ) (q : List ℕ) (u v : ℕ) (way : Way at (Members ids) i j k q u v) (x : Third at (Members ids) i j k u v) where
   abbrev height : ℕ → ℤ
@@ -408,10 +384,7 @@ module _ (at : ℕ → Vector) (ids : List ℕ) (d : HasDistinctPoints at (Membe
   triple w = record { has_i = (has_v at ids d i j k q u v way).0.0; has_j = (has_u at ids d i j k q u v way).0.0; has_k = w.has_w; area = area; supports = supports }
     where
       area : ¬ (AreInLine (at v) (at u) (at w.w))
-      area e = never _ (under w.w w.low) (sym (vol-both (at u) (at v) (at x.w) (at w.w)) ∙ in_line-vol (at v) (at u) (at w.w) (at x.w) e)
-        where
-          never : (x : ℤ) → x <ℤ pos 0 → x ≡ pos 0 → ⊥
-          never x h e = omega (arith, ints)
+      area e = less_differ _ (pos 0) (under w.w w.low) (sym (vol-both (at u) (at v) (at x.w) (at w.w)) ∙ in_line-vol (at v) (at u) (at w.w) (at x.w) e)
 
       supports : (l : ℕ) → Members ids l → vol (at v) (at u) (at w.w) (at l) ≤ℤ pos 0
       supports l h = by_lt_z (height l) (pos 0) (w.first l h) (λ r. level (le_antisym (height l) (pos 0) (way.triple.supports l h) r))

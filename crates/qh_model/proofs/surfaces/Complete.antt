@@ -1,7 +1,6 @@
 -- A finished surface tells the hull: its dimension, its extreme ids and its polygons.
-use Rattle.std.proofs.Common.{◌≡◌, ℕ, arith, refl, inl, List}
-use Rattle.std.proofs.lemmas.Int.{ints}
-use Rattle.std.specs.Prelude.{ℤ, pos, ◌<ℤ◌, ◌↔◌}
+use Rattle.std.proofs.Common.{◌≡◌, ℕ, refl, inl, List}
+use Rattle.std.specs.Prelude.{pos, ◌↔◌}
 use Rattle.qh_model.specs.Predicates.{cross, vol}
 use Rattle.qh_model.specs.Sets.{In, Members}
 use Rattle.qh_model.specs.Extreme.{Extreme}
@@ -9,6 +8,7 @@ use Rattle.qh_model.specs.SupportingPlane.{IsSupportingTriple, OnPlane}
 use Rattle.qh_model.specs.Polygons.{IsFacePolygon}
 use Rattle.qh_model.specs.CompletenessLaws.{CornerInPlane, IsLiveCorner, FacetOfPlane, FinishedIsSolid, ExtremesOfCorners, ExtremesOfPlane, PolygonsOfFacets}
 use Rattle.qh_model.proofs.algebra.Order.{zero_or_not}
+use Rattle.qh_model.proofs.algebra.Signs.{less_differ}
 use Rattle.qh_model.proofs.extremes.ExtremeIds.{Listed, listed_itself, listed_part, extremes_between}
 use Rattle.qh_model.proofs.extremes.Faces.{extremes_of_face}
 use Rattle.qh_model.proofs.extremes.Directions.{along_back}
@@ -17,10 +17,7 @@ use Rattle.qh_model.proofs.surfaces.Finished.{extremes_are_corners, extremes_of_
 
 -- the four ids of the middle are a tetrahedron
 pub finished_is_solid : FinishedIsSolid
-finished_is_solid at ids m z = inl (refl, record { i = z.s; j = z.t; k = z.u; l = z.v; has_i = z.has_s; has_j = z.has_t; has_k = z.has_u; has_l = z.has_v; volume = λ e. never (vol (at z.s) (at z.t) (at z.u) (at z.v)) z.volume e })
-  where
-    never : (x : ℤ) → x <ℤ pos 0 → x ≡ pos 0 → ⊥
-    never x h e = omega (arith, ints)
+finished_is_solid at ids m z = inl (refl, record { i = z.s; j = z.t; k = z.u; l = z.v; has_i = z.has_s; has_j = z.has_t; has_k = z.has_u; has_l = z.has_v; volume = λ e. less_differ (vol (at z.s) (at z.t) (at z.u) (at z.v)) (pos 0) z.volume e })
 
 -- the law
 pub extremes_of_corners : ExtremesOfCorners

@@ -8,6 +8,7 @@ use native.Mathlib.Decide.{ℕ_discrete}
 use Rattle.std.proofs.lemmas.Int.{ints, by_lt_z}
 use Rattle.std.specs.Prelude.{ℤ, pos, ◌-ℤ◌, ◌*ℤ◌, neg_ℤ, ◌≤ℤ◌, ◌<ℤ◌}
 use Rattle.qh_model.proofs.algebra.Order.{mul-pos, mul-nonneg, mul-nonneg_nonpos, mul-nonpos_nonneg, mul-nonpos, mul-neg_pos, mul-pos_neg, positive_le, negative_le}
+use Rattle.qh_model.proofs.algebra.Signs.{not_less, equal_nonpos, equal_negative, equal_positive, opposite_nonneg, opposite_positive}
 use Rattle.qh_model.proofs.surfaces.Facets.{rise_side, rise_over, corner_start, corner_end, corner_rest, corner_cases, corner_test, weak, bends, far_apart, rest_differs}
 use Rattle.qh_model.proofs.surfaces.DrawnInwards.{Choice, choose}
 use Rattle.qh_model.proofs.surfaces.Determinants.{above-flip}
@@ -31,25 +32,17 @@ difference_nonneg x y r e h k = omega (arith, ints)
 difference_neg : (x y r : ℤ) → x -ℤ y ≡ r → x <ℤ pos 0 → pos 0 ≤ℤ y → r <ℤ pos 0
 difference_neg x y r e h k = omega (arith, ints)
 
--- no number is above 0 and not
-pub above_and_not : (x : ℤ) → pos 0 <ℤ x → x ≤ℤ pos 0 → ⊥
-above_and_not x h k = omega (arith, ints)
-
--- nor below 0 and not
-pub below_and_not : (x : ℤ) → x <ℤ pos 0 → pos 0 ≤ℤ x → ⊥
-below_and_not x h k = omega (arith, ints)
-
 -- a ≤ 0 with a positive product
 other_neg : (a b : ℤ) → a ≤ℤ pos 0 → pos 0 <ℤ (a *ℤ b) → b <ℤ pos 0
-other_neg a b h k = by_lt_z b (pos 0) (λ q. q) (λ q. absurd (above_and_not (a *ℤ b) k (mul-nonpos_nonneg a b h q)))
+other_neg a b h k = by_lt_z b (pos 0) (λ q. q) (λ q. absurd (not_less (pos 0) (a *ℤ b) k (mul-nonpos_nonneg a b h q)))
 
 -- the same with a negative product
 other_pos : (a b : ℤ) → a ≤ℤ pos 0 → (a *ℤ b) <ℤ pos 0 → pos 0 <ℤ b
-other_pos a b h k = by_lt_z (pos 0) b (λ q. q) (λ q. absurd (below_and_not (a *ℤ b) k (mul-nonpos a b h q)))
+other_pos a b h k = by_lt_z (pos 0) b (λ q. q) (λ q. absurd (not_less (a *ℤ b) (pos 0) k (mul-nonpos a b h q)))
 
 -- a factor of a positive product, by the other
 first_neg : (a b : ℤ) → b <ℤ pos 0 → pos 0 <ℤ (a *ℤ b) → a <ℤ pos 0
-first_neg a b h k = by_lt_z a (pos 0) (λ q. q) (λ q. absurd (above_and_not (a *ℤ b) k (mul-nonneg_nonpos a b q (negative_le b h))))
+first_neg a b h k = by_lt_z a (pos 0) (λ q. q) (λ q. absurd (not_less (pos 0) (a *ℤ b) k (mul-nonneg_nonpos a b q (negative_le b h))))
 
 -- y is strictly below one of the two
 pub cone_strict : (u v a b p y : Weighted) → pos 0 <ℤ above u v a p → pos 0 <ℤ above u v b p → above u v a b <ℤ pos 0 → above u v a y ≤ℤ pos 0 → pos 0 ≤ℤ above u v b y
@@ -76,7 +69,7 @@ cone_inner u v a b p o ap bp ab ao bo = (first_neg (above u v a b) (above u v p 
 pub cone_weak : (u v a b p y : Weighted) → pos 0 <ℤ above u v a p → pos 0 ≤ℤ above u v b p → above u v a b <ℤ pos 0 → above u v a y ≤ℤ pos 0 → pos 0 ≤ℤ above u v b y → above u v p y ≤ℤ pos 0
 cone_weak u v a b p y ap bp ab ay by =
     by_lt_z (pos 0) (above u v p y)
-    (λ q. absurd (below_and_not (above u v a b *ℤ above u v p y) (mul-neg_pos (above u v a b) (above u v p y) ab q)
+    (λ q. absurd (not_less (above u v a b *ℤ above u v p y) (pos 0) (mul-neg_pos (above u v a b) (above u v p y) ab q)
     (difference_nonneg (above u v a p *ℤ above u v b y) (above u v a y *ℤ above u v b p) (above u v a b *ℤ above u v p y) (line_product u v a b p y) (mul-nonneg (above u v a p) (above u v b y) (positive_le (above u v a p) ap) by) (mul-nonpos_nonneg (above u v a y) (above u v b p) ay bp))))
     (λ q. q)
 
@@ -120,7 +113,7 @@ Old m l = (g : ℕ) × In g m.live × IsCorner m g l
 
 -- the point is no corner of the old surface
 pub p_fresh : (m m' : Surface) (home : ℕ → Weighted) (o : Weighted) (p : ℕ) → IsStrictWhenDrawn m home o → Replaced m m' home p → ¬ (Old m p)
-p_fresh m m' home o p t r (g, i, c) = above_and_not (rise m home r.f0 (home p)) r.seen (cert m home o t r.f0 g r.live i p c)
+p_fresh m m' home o p t r (g, i, c) = not_less (pos 0) (rise m home r.f0 (home p)) r.seen (cert m home o t r.f0 g r.live i p c)
 
 -- a corner of the new surface is an old one or the point
 pub old_or_apex : (m m' : Surface) (home : ℕ → Weighted) (p : ℕ) (r : Replaced m m' home p) (f' l : ℕ) → In f' m'.live → IsCorner m' f' l → Old m l ⊎ (l ≡ p)
@@ -150,30 +143,6 @@ corner_kept m m' home p f' l k (inr (inr e)) = inr (inr (e ∙ k.k_is))
 pub over_flip : (m : Surface) (at : ℕ → Weighted) → IsWhole m → (f : ℕ) → In f m.live → (s : Side) (y : Weighted) → rise m at (m.over f s) y ≡ neg_ℤ (above (at (start m f s)) (at (end m f s)) (at (far m f s)) y)
 over_flip m at w f i s y = rise_over m at w f i s y ∙ above-flip (at (start m f s)) (at (end m f s)) (at (far m f s)) y
 
--- the opposite of a number not above 0
-pub opposite_nonneg : (x r : ℤ) → x ≡ neg_ℤ r → x ≤ℤ pos 0 → pos 0 ≤ℤ r
-opposite_nonneg x r e h = omega (arith, ints)
-
--- of a negative number
-pub opposite_positive : (x r : ℤ) → x ≡ neg_ℤ r → x <ℤ pos 0 → pos 0 <ℤ r
-opposite_positive x r e h = omega (arith, ints)
-
--- of a positive number
-pub opposite_negative : (x r : ℤ) → x ≡ neg_ℤ r → pos 0 <ℤ x → r <ℤ pos 0
-opposite_negative x r e h = omega (arith, ints)
-
--- a sign, told otherwise: not above 0
-pub equal_le : (x r : ℤ) → x ≡ r → x ≤ℤ pos 0 → r ≤ℤ pos 0
-equal_le x r e h = omega (arith, ints)
-
--- below 0
-pub equal_negative : (x r : ℤ) → x ≡ r → x <ℤ pos 0 → r <ℤ pos 0
-equal_negative x r e h = omega (arith, ints)
-
--- above 0
-pub equal_positive : (x r : ℤ) → x ≡ r → pos 0 <ℤ x → pos 0 <ℤ r
-equal_positive x r e h = omega (arith, ints)
-
 -- how far a point is above the cone's facet
 pub cone_rise : (m m' : Surface) (home : ℕ → Weighted) (p : ℕ) (number : ℕ → Side → ℕ) (f' : ℕ) (n : ConeOf m m' home p number f') (at : ℕ → Weighted) (y : Weighted) → above (at (start m n.f n.s)) (at (end m n.f n.s)) (at p) y ≡ rise m' at f' y
 cone_rise m m' home p number f' n at y = rw (n.i_is, n.j_is, n.k_is) refl
@@ -189,7 +158,7 @@ cone_inside m m' home o p w q number f' n =
     cone_inner (home (start m n.f n.s)) (home (end m n.f n.s)) (home (rest m n.f n.s)) (home (far m n.f n.s)) (home p) o
     (equal_positive (rise m home n.f (home p)) _ (rise_side m home n.f n.s (home p)) n.seen)
     (opposite_nonneg (rise m home (m.over n.f n.s) (home p)) _ (over_flip m home w n.f n.live n.s (home p)) n.blind)
-    (equal_le (rise m home n.f (home (far m n.f n.s))) _ (rise_side m home n.f n.s (home (far m n.f n.s))) (cert m home o q.lifted n.f (m.over n.f n.s) n.live (w n.f n.live n.s).live (far m n.f n.s) (corner_rest m (m.over n.f n.s) (m.back n.f n.s))))
+    (equal_nonpos (rise m home n.f (home (far m n.f n.s))) _ (rise_side m home n.f n.s (home (far m n.f n.s))) (cert m home o q.lifted n.f (m.over n.f n.s) n.live (w n.f n.live n.s).live (far m n.f n.s) (corner_rest m (m.over n.f n.s) (m.back n.f n.s))))
     (equal_negative (rise m home n.f o) _ (rise_side m home n.f n.s o) (q.inner n.f n.live))
     (opposite_positive (rise m home (m.over n.f n.s) o) _ (over_flip m home w n.f n.live n.s o) (q.inner (m.over n.f n.s) (w n.f n.live n.s).live))
 
@@ -227,10 +196,6 @@ share_other h p k l a = pick (ℕ_discrete l p)
     pick : (d : Dec (l ≡ p)) → share_of k (h l) d ≡ h l
     pick (yes e) = absurd (a e)
     pick (no n) = refl
-
--- a sign, told otherwise
-cone_case : (x y : ℤ) → x ≡ y → x <ℤ pos 0 → y <ℤ pos 0
-cone_case x y e h = omega (arith, ints)
 
 -- a corner of the surface that's none of a side's ends is strictly below the facet or its neighbour
 pub below_one : (m : Surface) (home : ℕ → Weighted) (o : Weighted) → IsWhole m → IsInner m home o → (at : ℕ → Weighted) → IsStrict m at → (f : ℕ) → In f m.live → (s : Side) (l : ℕ) → Old m l → l ≢ start m f s → l ≢ end m f s
@@ -342,7 +307,7 @@ lifted_kept m m' home o p w q r = record { h = h; from = t.from + ch.from; stric
             ab = bends m at home o w q.inner st a.f a.live a.s
 
             ay : above (at u) (at v) (at (rest m a.f a.s)) (at l) ≤ℤ pos 0
-            ay = equal_le (rise m at a.f (at l)) _ (rise_side m at a.f a.s (at l)) (weak m at st a.f g a.live e l z)
+            ay = equal_nonpos (rise m at a.f (at l)) _ (rise_side m at a.f a.s (at l)) (weak m at st a.f g a.live e l z)
 
             by : pos 0 ≤ℤ above (at u) (at v) (at (far m a.f a.s)) (at l)
             by = opposite_nonneg (rise m at (m.over a.f a.s) (at l)) _ (over_flip m at w a.f a.live a.s (at l)) (weak m at st (m.over a.f a.s) g gl e l z)

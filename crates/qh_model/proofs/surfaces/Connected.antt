@@ -7,6 +7,7 @@ use Rattle.std.proofs.Common.{◌≡◌, ℕ, suc, ◌+◌, ◌≤◌, arith, sy
 use Rattle.std.proofs.lemmas.Int.{ints, by_lt_z}
 use Rattle.std.specs.Prelude.{ℤ, pos, ◌+ℤ◌, ◌*ℤ◌, neg_ℤ, ◌≤ℤ◌, ◌<ℤ◌}
 use Rattle.qh_model.proofs.algebra.Order.{mul-pos}
+use Rattle.qh_model.proofs.algebra.Signs.{not_less, less_one_way}
 use Rattle.qh_model.proofs.surfaces.Facets.{Grown, connected_at, positive, positive-is, positive-true, weak}
 use Rattle.qh_model.proofs.surfaces.DrawnInwards.{tilt, above-drawn_all, Choice, choose, size, size_le, cube, scale}
 
@@ -22,20 +23,12 @@ at_least a b = omega arith
 at_least_second : (a b : ℕ) → b ≤ a + b
 at_least_second a b = omega arith
 
--- no number is above and below 0
-not_both : (x : ℤ) → pos 0 <ℤ x → x <ℤ pos 0 → ⊥
-not_both x h k = omega (arith, ints)
-
--- nor above 0 and not
-not_above_and_not : (x : ℤ) → pos 0 <ℤ x → x ≤ℤ pos 0 → ⊥
-not_above_and_not x h k = omega (arith, ints)
-
 -- THEOREM: the facets that p sees are all reached from one of them over sides
 pub connected : (m : Surface) (home : ℕ → Weighted) (o : Weighted) → IsWhole m → IsSound m home o → (p : Weighted) (c : ℕ → Bool) → Grown m (sees m home p) c → (f : ℕ) → In f m.live → pos 0 <ℤ rise m home f p → c f ≡ true
 connected m home o w s p c g f i q =
     connected_at m (drawn home o l.h n) home o w s.inner (l.strict n (at_least l.from ch.from)) s.distinct (towards o (pos n) p (pos ch.k)) (sees m home p)
     (λ f j e. ch.up n (at_least_second l.from ch.from) f j (positive-is (rise m home f p) e))
-    (λ f j e. by_lt_z (pos 0) (rise m home f p) (positive-true (rise m home f p)) (λ k. absurd (not_both (rise m (drawn home o l.h n) f (towards o (pos n) p (pos ch.k))) e (ch.down n (at_least_second l.from ch.from) f j k))))
+    (λ f j e. by_lt_z (pos 0) (rise m home f p) (positive-true (rise m home f p)) (λ k. absurd (less_one_way (pos 0) (rise m (drawn home o l.h n) f (towards o (pos n) p (pos ch.k))) e (ch.down n (at_least_second l.from ch.from) f j k))))
     c g f i (positive-true (rise m home f p) q)
   where
     l : IsStrictWhenDrawn m home o
@@ -51,7 +44,7 @@ connected m home o w s p c g f i q =
 pub cert : (m : Surface) (home : ℕ → Weighted) (o : Weighted) → IsStrictWhenDrawn m home o → (f g : ℕ) → In f m.live → In g m.live → (l : ℕ) → IsCorner m g l → rise m home f (home l) ≤ℤ pos 0
 cert m home o t f g i j l c =
     by_lt_z (pos 0) (rise m home f (home l))
-    (λ q. absurd (not_above_and_not (rise m (drawn home o t.h n) f (drawn home o t.h n l))
+    (λ q. absurd (not_less (pos 0) (rise m (drawn home o t.h n) f (drawn home o t.h n l))
     (subst (λ v. pos 0 <ℤ v) (sym value) (mul-pos (pos n *ℤ pos n *ℤ pos n) (pos n *ℤ rise m home f (home l) +ℤ e) (cube (suc (size e)) n big) (scale e (rise m home f (home l)) (suc (size e)) n (under e) big q)))
     (weak m (drawn home o t.h n) (t.strict n (at_least t.from (suc (suc (size e))))) f g i j l c)))
     (λ q. q)

@@ -8,9 +8,11 @@ use Rattle.qh_model.specs.Weighted.{Weighted, above, weighted_dot, plane_of}
 use Rattle.std.proofs.Common.{◌≡◌, ℕ, suc, ◌+◌, ◌≤◌, refl, [], ◌∷◌, arith, ap, sym, ◌∙◌, subst, ◌⊎◌, inl, inr}
 use Rattle.std.proofs.lemmas.Int.{ints, by_lt_z}
 use Rattle.std.specs.Prelude.{ℤ, pos, ◌+ℤ◌, ◌*ℤ◌, neg_ℤ, ◌≤ℤ◌, ◌<ℤ◌}
-use Rattle.qh_model.proofs.algebra.Order.{mul-nonpos, mul-nonneg_nonpos, cancel-nonpos, cancel-zero, zero_product, mul-neg_pos}
+use Rattle.qh_model.proofs.algebra.Order.{mul-nonpos, mul-nonneg_nonpos, cancel-nonpos, cancel-zero, zero_product, mul-neg_pos, product_zero, le_antisym, neg-positive, positive_le, negative_le}
 use Rattle.qh_model.proofs.algebra.Ring.{ring}
 use Rattle.qh_model.proofs.algebra.Ring.Expr.{var, add, mul, neg}
+use Rattle.qh_model.proofs.algebra.Signs.{less_differ, not_less, less_one_way}
+use Rattle.qh_model.proofs.algebra.Integers.{one_mul}
 use Rattle.qh_model.proofs.surfaces.Facets.{rise_own, sum4, above-sum, plane-is}
 use Rattle.qh_model.specs.Surface.Side.{first, second, third}
 use Rattle.qh_model.proofs.surfaces.DrawnInwards.{towardsE, bound, scale}
@@ -69,24 +71,12 @@ nothing_outside m home o w z f0 i0 n x corners n_o settled = pick (located m hom
 
 -- ---- a supporting plane
 large : (x k : ℤ) (b n : ℕ) → neg_ℤ k <ℤ pos b → suc b ≤ n → (pos n *ℤ x +ℤ k) ≤ℤ pos 0 → x ≤ℤ pos 0
-large x k b n h q l = by_lt_z (pos 0) x (λ p. absurd (no (pos n *ℤ x +ℤ k) (scale k x b n h q p) l)) (λ p. p)
-  where
-    no : (x : ℤ) → pos 0 <ℤ x → x ≤ℤ pos 0 → ⊥
-    no x h k = omega (arith, ints)
+large x k b n h q l = by_lt_z (pos 0) x (λ p. absurd (not_less (pos 0) (pos n *ℤ x +ℤ k) (scale k x b n h q p) l)) (λ p. p)
 
 -- 0 < n x + k with x ≤ 0 and n past k
 pub zero_there : (x k : ℤ) (b n : ℕ) → k <ℤ pos b → suc b ≤ n → pos 0 <ℤ (pos n *ℤ x +ℤ k) → x ≤ℤ pos 0 → x ≡ pos 0
-zero_there x k b n h q l g = by_lt_z x (pos 0) (λ p. absurd (no (pos n *ℤ x +ℤ k) l (flip (pos n) x k (scale (neg_ℤ k) (neg_ℤ x) b n (twice k h) q (up x p))))) (λ p. both x g p)
+zero_there x k b n h q l g = by_lt_z x (pos 0) (λ p. absurd (less_one_way (pos 0) (pos n *ℤ x +ℤ k) l (flip (pos n) x k (scale (neg_ℤ k) (neg_ℤ x) b n (twice k h) q (neg-positive x p))))) (λ p. le_antisym x (pos 0) g p)
   where
-    no : (x : ℤ) → pos 0 <ℤ x → x <ℤ pos 0 → ⊥
-    no x h k = omega (arith, ints)
-
-    both : (x : ℤ) → x ≤ℤ pos 0 → pos 0 ≤ℤ x → x ≡ pos 0
-    both x h k = omega (arith, ints)
-
-    up : (x : ℤ) → x <ℤ pos 0 → pos 0 <ℤ neg_ℤ x
-    up x h = omega (arith, ints)
-
     twice : (k : ℤ) → k <ℤ pos b → neg_ℤ (neg_ℤ k) <ℤ pos b
     twice k h = omega (arith, ints)
 
@@ -101,11 +91,8 @@ zero_there x k b n h q l g = by_lt_z x (pos 0) (λ p. absurd (no (pos n *ℤ x +
 
 -- a sum of numbers not above 0 that isn't below 0
 sum_zero : (n e t : ℤ) → pos 0 <ℤ n → (n *ℤ e +ℤ t) ≡ pos 0 → e ≤ℤ pos 0 → t ≤ℤ pos 0 → (e ≡ pos 0) × (t ≡ pos 0)
-sum_zero n e t h z he ht = let p = mul-nonneg_nonpos n e (lt_le n h) he in (cancel-zero n e h (one (n *ℤ e) t z p ht), other (n *ℤ e) t z p ht)
+sum_zero n e t h z he ht = let p = mul-nonneg_nonpos n e (positive_le n h) he in (cancel-zero n e h (one (n *ℤ e) t z p ht), other (n *ℤ e) t z p ht)
   where
-    lt_le : (n : ℤ) → pos 0 <ℤ n → pos 0 ≤ℤ n
-    lt_le n h = omega (arith, ints)
-
     one : (p t : ℤ) → p +ℤ t ≡ pos 0 → p ≤ℤ pos 0 → t ≤ℤ pos 0 → p ≡ pos 0
     one p t z h k = omega (arith, ints)
 
@@ -125,24 +112,15 @@ level_at : (n a b c o p : Weighted) → weighted_dot n a ≡ pos 0 → weighted_
 level_at n a b c o p ha hb hc hp ho =
     pick (zero_product (above a b c p) (weighted_dot n o) (sym (finish (above a b c o) (above p b c o) (above a p c o) (above a b p o) (above a b c p) (weighted_dot n a) (weighted_dot n b) (weighted_dot n c) (weighted_dot n o) (weighted_dot n p) (cramer n a b c o p) ha hb hc hp)))
   where
-    times_zero : (d x : ℤ) → x ≡ pos 0 → d *ℤ x ≡ pos 0
-    times_zero d x e = ap (λ v. d *ℤ v) e ∙ zero d
-      where
-        zero : (d : ℤ) → d *ℤ pos 0 ≡ pos 0
-        zero d = omega (arith, ints)
-
     total : (l a b c d : ℤ) → l ≡ a +ℤ b +ℤ c +ℤ d → l ≡ pos 0 → a ≡ pos 0 → b ≡ pos 0 → c ≡ pos 0 → pos 0 ≡ d
     total l a b c d e hl ha hb hc = omega (arith, ints)
 
     finish : (l x y z d a b c o p : ℤ) → l *ℤ p ≡ x *ℤ a +ℤ y *ℤ b +ℤ z *ℤ c +ℤ d *ℤ o → a ≡ pos 0 → b ≡ pos 0 → c ≡ pos 0 → p ≡ pos 0 → pos 0 ≡ d *ℤ o
-    finish l x y z d a b c o p e ha hb hc hp = total (l *ℤ p) (x *ℤ a) (y *ℤ b) (z *ℤ c) (d *ℤ o) e (times_zero l p hp) (times_zero x a ha) (times_zero y b hb) (times_zero z c hc)
-
-    below : (x : ℤ) → x <ℤ pos 0 → x ≡ pos 0 → ⊥
-    below x h e = omega (arith, ints)
+    finish l x y z d a b c o p e ha hb hc hp = total (l *ℤ p) (x *ℤ a) (y *ℤ b) (z *ℤ c) (d *ℤ o) e (product_zero l p hp) (product_zero x a ha) (product_zero y b hb) (product_zero z c hc)
 
     pick : (above a b c p ≡ pos 0) ⊎ (weighted_dot n o ≡ pos 0) → above a b c p ≡ pos 0
     pick (inl e) = e
-    pick (inr e) = absurd (below (weighted_dot n o) ho e)
+    pick (inr e) = absurd (less_differ (weighted_dot n o) (pos 0) ho e)
 
 -- THEOREM: a, b, c, e seen by no facet, no corner beyond the plane of a, b, c, and e on it
 plane_covered : (m : Surface) (home : ℕ → Weighted) (o : Weighted) → IsWhole m → IsSound m home o → (f0 : ℕ) → In f0 m.live → (a b c e : Weighted)
@@ -195,12 +173,6 @@ plane_covered m home o w z f0 i0 a b c e inner corners level settled = result (l
         zeros : (p q r : ℤ) → p ≡ pos 0 → q ≡ pos 0 → r ≡ pos 0 → p +ℤ q +ℤ r ≡ pos 0
         zeros p q r a b c = omega (arith, ints)
 
-        times_zero : (d x : ℤ) → x ≡ pos 0 → d *ℤ x ≡ pos 0
-        times_zero d x e = ap (λ v. d *ℤ v) e ∙ zero d
-          where
-            zero : (d : ℤ) → d *ℤ pos 0 ≡ pos 0
-            zero d = omega (arith, ints)
-
         first_zero : (y p q : ℤ) → y ≡ p +ℤ q → p ≡ pos 0 → q ≡ pos 0 → y ≡ pos 0
         first_zero y p q e a b = omega (arith, ints)
 
@@ -208,7 +180,7 @@ plane_covered m home o w z f0 i0 a b c e inner corners level settled = result (l
         over_zero x p o e a b = omega (arith, ints)
 
         finish : (e s y x o : ℤ) → e ≡ pos 0 → s ≡ pos 0 → y ≡ pos n *ℤ e +ℤ pos 1 *ℤ s → x ≡ pos k *ℤ y +ℤ neg_ℤ (pos 1) *ℤ o → o <ℤ pos 0 → pos 0 <ℤ x
-        finish e s y x o he hs hy hx ho = over_zero x (pos k *ℤ y) o hx (times_zero (pos k) y (first_zero y (pos n *ℤ e) (pos 1 *ℤ s) hy (times_zero (pos n) e he) (times_zero (pos 1) s hs))) ho
+        finish e s y x o he hs hy hx ho = over_zero x (pos k *ℤ y) o hx (product_zero (pos k) y (first_zero y (pos n *ℤ e) (pos 1 *ℤ s) hy (product_zero (pos n) e he) (product_zero (pos 1) s hs))) ho
 
     result : Located m home o x → FacetInPlane m home o a b c e
     result l = record { f = t; live = l.live; level = level_t; on = all.0; within = within }
@@ -230,16 +202,10 @@ plane_covered m home o w z f0 i0 a b c e inner corners level settled = result (l
 
         -- the facet sees x
         above_x : pos 0 <ℤ rise m home t x
-        above_x = by_lt_z (pos 0) (rise m home t x) (λ p. p) (λ p. absurd (at_facet m home o x (plane_of a b c) l (z.inner t l.live) (λ g i j c'. subst (λ v. v ≤ℤ pos 0) (sym (plane-is a b c (home j))) (corners g i j c')) (subst (λ v. v ≤ℤ pos 0) (sym (plane-is a b c o)) (neg_le (above a b c o) inner)) plane_x p))
-          where
-            neg_le : (x : ℤ) → x <ℤ pos 0 → x ≤ℤ pos 0
-            neg_le x h = omega (arith, ints)
+        above_x = by_lt_z (pos 0) (rise m home t x) (λ p. p) (λ p. absurd (at_facet m home o x (plane_of a b c) l (z.inner t l.live) (λ g i j c'. subst (λ v. v ≤ℤ pos 0) (sym (plane-is a b c (home j))) (corners g i j c')) (subst (λ v. v ≤ℤ pos 0) (sym (plane-is a b c o)) (negative_le (above a b c o) inner)) plane_x p))
 
         y_is : rise m home t y ≡ pos n *ℤ rise m home t e +ℤ rise m home t mid
-        y_is = above-last (home (m.i t)) (home (m.j t)) (home (m.k t)) e mid (pos n) (pos 1) ∙ ap (λ v. pos n *ℤ rise m home t e +ℤ v) (once (rise m home t mid))
-          where
-            once : (x : ℤ) → pos 1 *ℤ x ≡ x
-            once x = omega (arith, ints)
+        y_is = above-last (home (m.i t)) (home (m.j t)) (home (m.k t)) e mid (pos n) (pos 1) ∙ ap (λ v. pos n *ℤ rise m home t e +ℤ v) (one_mul (rise m home t mid))
 
         y_le : rise m home t y ≤ℤ pos 0
         y_le = two (pos n *ℤ rise m home t e) (rise m home t mid) (rise m home t y) y_is (mul-nonneg_nonpos (pos n) (rise m home t e) (omega (arith, ints)) s4.3) mid_le

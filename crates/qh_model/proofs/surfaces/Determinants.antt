@@ -47,6 +47,11 @@ pub above-turn : (a b c p : Weighted) → above a b c p ≡ above b c a p
 unfolding above
 above-turn a b c p = ring (put4 a (put4 b (put4 c (put4 p [])))) (aboveE (quad 0) (quad 1) (quad 2) (quad 3)) (aboveE (quad 1) (quad 2) (quad 0) (quad 3)) refl
 
+-- the last three turn
+pub above-turn_last : (a b c p : Weighted) → above a c p b ≡ above a b c p
+unfolding above
+above-turn_last a b c p = ring (put4 a (put4 b (put4 c (put4 p [])))) (aboveE (quad 0) (quad 2) (quad 3) (quad 1)) (aboveE (quad 0) (quad 1) (quad 2) (quad 3)) refl
+
 -- the other way round
 pub above-flip : (a b c p : Weighted) → above b a c p ≡ neg_ℤ (above a b c p)
 unfolding above
@@ -71,3 +76,24 @@ above-second a b c = ring_zero (put4 a (put4 b (put4 c []))) (aboveE (quad 0) (q
 pub above-third : (a b c : Weighted) → above a b c c ≡ pos 0
 unfolding above
 above-third a b c = ring_zero (put4 a (put4 b (put4 c []))) (aboveE (quad 0) (quad 1) (quad 2) (quad 2)) refl
+
+-- ---- other odd orders
+-- the second and the fourth change places
+pub swap24 : (a b c d : Weighted) → above a d c b ≡ neg_ℤ (above a b c d)
+unfolding above
+swap24 a b c d = ring (put4 a (put4 b (put4 c (put4 d [])))) (aboveE (quad 0) (quad 3) (quad 2) (quad 1)) (neg (aboveE (quad 0) (quad 1) (quad 2) (quad 3))) refl
+
+-- the second and the third change places
+pub swap23 : (a b c d : Weighted) → above a c b d ≡ neg_ℤ (above a b c d)
+unfolding above
+swap23 a b c d = ring (put4 a (put4 b (put4 c (put4 d [])))) (aboveE (quad 0) (quad 2) (quad 1) (quad 3)) (neg (aboveE (quad 0) (quad 1) (quad 2) (quad 3))) refl
+
+-- all four change places
+pub turned_first : (v t x y : Weighted) → above x v y t ≡ neg_ℤ (above v t x y)
+unfolding above
+turned_first v t x y = ring (put4 v (put4 t (put4 x (put4 y [])))) (aboveE (quad 2) (quad 0) (quad 3) (quad 1)) (neg (aboveE (quad 0) (quad 1) (quad 2) (quad 3))) refl
+
+-- the first and the fourth change places
+pub swap14 : (a b c d : Weighted) → above d b c a ≡ neg_ℤ (above a b c d)
+unfolding above
+swap14 a b c d = ring (put4 a (put4 b (put4 c (put4 d [])))) (aboveE (quad 3) (quad 1) (quad 2) (quad 0)) (neg (aboveE (quad 0) (quad 1) (quad 2) (quad 3))) refl

@@ -1,6 +1,7 @@
 -- The live facets in one plane are those that a point a little beyond one of them sees, so they hang together.
 use Rattle.std.proofs.Common.{◌≡◌, ℕ, suc, ◌≤◌, arith, refl, sym, subst, ◌∙◌, ap, ◌⊎◌, inl, inr, Bool, true, List}
 use Rattle.std.proofs.lemmas.Int.{ints}
+use Rattle.std.proofs.Math.IntN.{*ℤ-zero}
 use Rattle.std.specs.Prelude.{ℤ, pos, ◌+ℤ◌, ◌*ℤ◌, neg_ℤ, ◌≤ℤ◌, ◌<ℤ◌}
 use Rattle.qh_model.specs.Vector.{Vector}
 use Rattle.qh_model.specs.Predicates.{cross, vol}
@@ -121,14 +122,11 @@ module _ (at : ℕ → Vector) (ids : List ℕ) (m : Surface) (z : IsFinished at
       flat : (s i j k : ℤ) → s ≡ i +ℤ j +ℤ k → i ≡ pos 0 → j ≡ pos 0 → k ≡ pos 0 → s ≡ pos 0
       flat s i j k e hi hj hk = omega (arith, ints)
 
-      times_zero : (n : ℤ) → n *ℤ pos 0 ≡ pos 0
-      times_zero n = omega (arith, ints)
-
       rest : (x p r : ℤ) → x ≡ p +ℤ neg_ℤ (pos 1) *ℤ r → p ≡ pos 0 → r <ℤ pos 0 → pos 0 <ℤ x
       rest x p r e h k = omega (arith, ints)
 
       over : (n x y r : ℤ) → x ≡ n *ℤ y +ℤ neg_ℤ (pos 1) *ℤ r → y ≡ pos 0 → r <ℤ pos 0 → pos 0 <ℤ x
-      over n x y r e h k = rest x (n *ℤ y) r e (ap (λ v. n *ℤ v) h ∙ times_zero n) k
+      over n x y r e h k = rest x (n *ℤ y) r e (ap (λ v. n *ℤ v) h ∙ *ℤ-zero n) k
 
   -- a walk in the plane is one over what the point sees
   found : (c : ℕ → Bool) → IsPlaneWalk at m f c → (g : ℕ) → In g m.live → IsLevelFacet at m f g → c g ≡ true

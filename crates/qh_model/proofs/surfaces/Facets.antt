@@ -7,12 +7,14 @@ use Rattle.qh_model.specs.Weighted.{Weighted, above, weighted_dot, plane_of}
 use Rattle.std.proofs.Common.{◌≡◌, ◌≢◌, ℕ, zero, suc, refl, [], arith, ap, sym, ◌∙◌, subst, Bool, true, false, ◌⊎◌, inl, inr}
 use native.Mathlib.Decide.{ℕ_discrete}
 use Rattle.std.proofs.lemmas.Int.{ints}
+use Rattle.std.proofs.lemmas.Bool.{and_parts, both_ways, not-true}
 use Rattle.std.specs.Prelude.{ℤ, pos, negsuc, ◌+ℤ◌, neg_ℤ, ◌≤ℤ◌, ◌<ℤ◌, ◌&&◌, not}
 use Rattle.qh_model.proofs.algebra.Ring.{ring}
 use Rattle.qh_model.proofs.algebra.Ring.Expr.{add}
+use Rattle.qh_model.proofs.algebra.Signs.{less_differ, equal_negative}
+use Rattle.qh_model.proofs.algebra.Order.{negative_le}
 use Rattle.qh_model.proofs.surfaces.Determinants.{put4, quad, dot4E, above-turn, above-flip, above-first, above-second, above-third}
 use Rattle.qh_model.proofs.surfaces.VisibleFacets.{Corners, Over, Cut, none_cut_off}
-use Rattle.qh_model.proofs.Booleans.{both_true, true_false, not_true}
 
 -- the corners of a facet at their places
 abbrev pub placed : Surface → (ℕ → Weighted) → ℕ → Corners
@@ -59,14 +61,10 @@ rise_over m at w f i s y =
     rise_side m at (m.over f s) (m.back f s) y ∙ ap (λ u. above (at u) (at (end m (m.over f s) (m.back f s))) (at (far m f s)) y) t.start_is ∙ ap (λ v. above (at (end m f s)) (at v) (at (far m f s)) y) t.end_is
 
 -- ---- what lies strictly below a facet shows its corners to be different
--- no number is below 0 and 0
-lt_zero : (x : ℤ) → x <ℤ pos 0 → x ≡ pos 0 → ⊥
-lt_zero x h e = omega (arith, ints)
-
 -- the ends of a side differ
 pub ends_differ : (m : Surface) (at : ℕ → Weighted) (c : Weighted) → IsInner m at c → (f : ℕ) → In f m.live → (s : Side) → start m f s ≢ end m f s
 ends_differ m at c h f i s e =
-    lt_zero (rise m at f c) (h f i)
+    less_differ (rise m at f c) (pos 0) (h f i)
     (rise_side m at f s c ∙ ap (λ u. above (at u) (at (end m f s)) (at (rest m f s)) c) e ∙ twice (at (end m f s)) (at (rest m f s)) c)
   where
     own : (x : ℤ) → x ≡ neg_ℤ x → x ≡ pos 0
@@ -129,20 +127,14 @@ weak m at h f g i j l c = pick (corner_test m f l)
     zero_le : (x : ℤ) → x ≡ pos 0 → x ≤ℤ pos 0
     zero_le x e = omega (arith, ints)
 
-    lt_le : (x : ℤ) → x <ℤ pos 0 → x ≤ℤ pos 0
-    lt_le x e = omega (arith, ints)
-
     pick : IsCorner m f l ⊎ (¬ (IsCorner m f l)) → rise m at f (at l) ≤ℤ pos 0
     pick (inl k) = zero_le (rise m at f (at l)) (rise_own m at f l k)
-    pick (inr k) = lt_le (rise m at f (at l)) (h f g i j l c k)
+    pick (inr k) = negative_le (rise m at f (at l)) (h f g i j l c k)
 
 -- each side bends
 pub bends : (m : Surface) (at : ℕ → Weighted) (real : ℕ → Weighted) (c : Weighted) → IsWhole m → IsInner m real c → IsStrict m at → (f : ℕ) → In f m.live → (s : Side) → above (at (start m f s)) (at (end m f s)) (at (rest m f s)) (at (far m f s)) <ℤ pos 0
 bends m at real c w n h f i s =
-    moved (rise m at f (at (far m f s))) _ (rise_side m at f s (at (far m f s))) (h f (m.over f s) i (w f i s).live (far m f s) (corner_rest m (m.over f s) (m.back f s)) (far_apart m real c w n f i s))
-  where
-    moved : (x y : ℤ) → x ≡ y → x <ℤ pos 0 → y <ℤ pos 0
-    moved x y e h = omega (arith, ints)
+    equal_negative (rise m at f (at (far m f s))) _ (rise_side m at f s (at (far m f s))) (h f (m.over f s) i (w f i s).live (far m f s) (corner_rest m (m.over f s) (m.back f s)) (far_apart m real c w n f i s))
 
 -- ---- connectedness over weighted points
 -- is a number above 0?
@@ -154,9 +146,9 @@ positive (negsuc n) = false
 -- the test is right
 pub positive-is : (x : ℤ) → positive x ≡ true → pos 0 <ℤ x
 unfolding positive
-positive-is (pos zero) e = absurd (true_false true refl (sym e))
+positive-is (pos zero) e = absurd (both_ways true (sym e) refl)
 positive-is (pos (suc n)) e = omega (arith, ints)
-positive-is (negsuc n) e = absurd (true_false true refl (sym e))
+positive-is (negsuc n) e = absurd (both_ways true (sym e) refl)
 
 -- and finds all
 pub positive-true : (x : ℤ) → pos 0 <ℤ x → positive x ≡ true
@@ -270,10 +262,10 @@ connected_at m at real o w n h d p sees up down c r f i e = by_bool (c f) refl
     marked g a b = rw (a, b) refl
 
     parts : (g : ℕ) → mark g ≡ true → (sees g ≡ true) × (c g ≡ false)
-    parts g k = let b = both_true (sees g) (not (c g)) k in (b.0, not_true (c g) b.1)
+    parts g k = let b = and_parts (sees g) (not (c g)) k in (b.0, not-true (c g) b.1)
 
     apart : (g : ℕ) → mark g ≡ true → r.f0 ≢ g
-    apart g k q = true_false (c g) (ap c (sym q) ∙ r.has) (parts g k).1
+    apart g k q = both_ways (c g) (parts g k).1 (ap c (sym q) ∙ r.has)
 
     joined : (g : ℕ) → In g m.live → mark g ≡ true → (s : Side) → pos 0 <ℤ rise m at (m.over g s) p → mark (m.over g s) ≡ true
     joined g j k s q = marked (m.over g s) sees_g (by (c (m.over g s)) refl)
@@ -286,7 +278,7 @@ connected_at m at real o w n h d p sees up down c r f i e = by_bool (c f) refl
 
         by : (b : Bool) → c (m.over g s) ≡ b → c (m.over g s) ≡ false
         by false z = z
-        by true z = absurd (true_false (c g) (ap c (sym t.returns) ∙ r.grows (m.over g s) t.live (m.back g s) z (ap sees t.returns ∙ (parts g k).0)) (parts g k).1)
+        by true z = absurd (both_ways (c g) (parts g k).1 (ap c (sym t.returns) ∙ r.grows (m.over g s) t.live (m.back g s) z (ap sees t.returns ∙ (parts g k).0)))
 
     side : (g : ℕ) → In g m.live → mark g ≡ true → (s : Side) → Over (placed m at) m.live mark y p g (at (start m g s)) (at (end m g s)) (at (rest m g s))
     side g j k s =

@@ -16,10 +16,11 @@ use Rattle.qh_model.specs.Surface.{Surface, IsCorner, rise}
 use Rattle.qh_model.specs.CoveredPoints.{CombinationWithInner, CombinationInPlane}
 use Rattle.qh_model.specs.FinishedSurface.{weighted_at, middle_at, IsFinished}
 use Rattle.qh_model.specs.CompletenessLaws.{FacetsSupport, ExtremesAreCorners, CornerInPlane, ExtremesOfPlaneAreCorners, FacetOfPlane, PlanesHaveFacets}
-use Rattle.qh_model.proofs.algebra.Order.{mul-nonneg, cancel-zero, le_antisym}
+use Rattle.qh_model.proofs.algebra.Order.{mul-nonneg, cancel-zero, le_antisym, positive_le}
 use Rattle.qh_model.proofs.algebra.Ring.{ring}
 use Rattle.qh_model.proofs.algebra.Ring.Expr.{var, con, add, sub as less, mul}
 use Rattle.qh_model.proofs.algebra.VectorIdentities.{vec, dotE, crossE, subE, put, VE, vol-first, in_line-vol, in_line-twice, vol-flip_last}
+use Rattle.qh_model.proofs.algebra.Signs.{gap_positive, less_differ, equal_le, less_le}
 use Rattle.qh_model.proofs.extremes.ExtremeIds.{Listed, listed_itself, listed_part, apart, alternative_in}
 use Rattle.qh_model.proofs.extremes.Directions.{at_least_along, normal_along, from_plane, vol_along, zero_along, square-positive}
 use Rattle.qh_model.proofs.surfaces.Determinants.{QE, aboveE}
@@ -76,9 +77,6 @@ separated at ids l e = go (listed_part (Members ids) (λ j. j ≢ l) (apart l) i
     go (ys, k) = sides (alternative_in at (Others (Members ids) l) ys k (at l))
 
 -- ---- no combination of what is lower reaches up
--- what is lower has a positive gap
-positive_gap : (a b : ℤ) → a <ℤ b → pos 0 <ℤ (b -ℤ a)
-positive_gap a b h = omega (arith, ints)
 
 -- four numbers not below 0 that add up to 0
 four_zero : (a b c d : ℤ) → a +ℤ b +ℤ c +ℤ d ≡ pos 0 → pos 0 ≤ℤ a → pos 0 ≤ℤ b → pos 0 ≤ℤ c → pos 0 ≤ℤ d → (a ≡ pos 0) × (b ≡ pos 0) × (c ≡ pos 0) × (d ≡ pos 0)
@@ -90,11 +88,8 @@ too_low : (all u v w t L A B C O : ℤ) → pos 0 <ℤ all → pos 0 ≤ℤ u �
 too_low all u v w t L A B C O p hu hv hw ht weights mix a b c o =
     none (four_zero (u *ℤ (L -ℤ A)) (v *ℤ (L -ℤ B)) (w *ℤ (L -ℤ C)) (t *ℤ (pos 4 *ℤ L -ℤ O)) gaps (times u A L hu a) (times v B L hv b) (times w C L hw c) (times t O (pos 4 *ℤ L) ht o))
   where
-    at_least : (x : ℤ) → pos 0 <ℤ x → pos 0 ≤ℤ x
-    at_least x h = omega (arith, ints)
-
     times : (k x y : ℤ) → pos 0 ≤ℤ k → x <ℤ y → pos 0 ≤ℤ (k *ℤ (y -ℤ x))
-    times k x y h l = mul-nonneg k (y -ℤ x) h (at_least (y -ℤ x) (positive_gap x y l))
+    times k x y h l = mul-nonneg k (y -ℤ x) h (positive_le (y -ℤ x) (gap_positive x y l))
 
     gaps : u *ℤ (L -ℤ A) +ℤ v *ℤ (L -ℤ B) +ℤ w *ℤ (L -ℤ C) +ℤ t *ℤ (pos 4 *ℤ L -ℤ O) ≡ pos 0
     gaps =
@@ -108,7 +103,7 @@ too_low all u v w t L A B C O p hu hv hw ht weights mix a b c o =
         level x y e = omega (arith, ints)
 
     gone : (k x y : ℤ) → x <ℤ y → k *ℤ (y -ℤ x) ≡ pos 0 → k ≡ pos 0
-    gone k x y l e = cancel-zero (y -ℤ x) k (positive_gap x y l) (ring (k ∷ x ∷ y ∷ []) (mul (less (var 2) (var 1)) (var 0)) (mul (var 0) (less (var 2) (var 1))) refl ∙ e)
+    gone k x y l e = cancel-zero (y -ℤ x) k (gap_positive x y l) (ring (k ∷ x ∷ y ∷ []) (mul (less (var 2) (var 1)) (var 0)) (mul (var 0) (less (var 2) (var 1))) refl ∙ e)
 
     total : (all u v w t : ℤ) → pos 0 <ℤ all → all ≡ u +ℤ v +ℤ w +ℤ t *ℤ pos 4 → u ≡ pos 0 → v ≡ pos 0 → w ≡ pos 0 → t ≡ pos 0 → ⊥
     total all u v w t h e a b c d = omega (arith, ints)
@@ -134,14 +129,8 @@ middle_low at ids m z l e = pick (ℕ_discrete z.s l) (ℕ_discrete z.t l)
     not_above : (j : ℕ) → Members ids j → dot e.w (at j) ≤ℤ L
     not_above j h = test (ℕ_discrete j l)
       where
-        same : (x y : ℤ) → x ≡ y → x ≤ℤ y
-        same x y e = omega (arith, ints)
-
-        less_le : (x y : ℤ) → x <ℤ y → x ≤ℤ y
-        less_le x y e = omega (arith, ints)
-
         test : Dec (j ≡ l) → dot e.w (at j) ≤ℤ L
-        test (yes q) = same (dot e.w (at j)) L (ap (λ t. dot e.w (at t)) q)
+        test (yes q) = equal_le (dot e.w (at j)) L (ap (λ t. dot e.w (at t)) q)
         test (no q) = less_le (dot e.w (at j)) L (lower j h q)
 
     first : (a b c d L : ℤ) → a <ℤ L → b ≤ℤ L → c ≤ℤ L → d ≤ℤ L → (a +ℤ b +ℤ c +ℤ d) <ℤ (pos 4 *ℤ L)
@@ -150,13 +139,10 @@ middle_low at ids m z l e = pick (ℕ_discrete z.s l) (ℕ_discrete z.t l)
     second : (a b c d L : ℤ) → a ≤ℤ L → b <ℤ L → c ≤ℤ L → d ≤ℤ L → (a +ℤ b +ℤ c +ℤ d) <ℤ (pos 4 *ℤ L)
     second a b c d L h i j k = omega (arith, ints)
 
-    never : (x : ℤ) → x <ℤ pos 0 → x ≡ pos 0 → ⊥
-    never x h e = omega (arith, ints)
-
     pick : Dec (z.s ≡ l) → Dec (z.t ≡ l) → (dot e.w (at z.s) +ℤ dot e.w (at z.t) +ℤ dot e.w (at z.u) +ℤ dot e.w (at z.v)) <ℤ (pos 4 *ℤ L)
     pick (no n) q = first (dot e.w (at z.s)) (dot e.w (at z.t)) (dot e.w (at z.u)) (dot e.w (at z.v)) L (lower z.s z.has_s n) (not_above z.t z.has_t) (not_above z.u z.has_u) (not_above z.v z.has_v)
     pick (yes p) (no n) = second (dot e.w (at z.s)) (dot e.w (at z.t)) (dot e.w (at z.u)) (dot e.w (at z.v)) L (not_above z.s z.has_s) (lower z.t z.has_t n) (not_above z.u z.has_u) (not_above z.v z.has_v)
-    pick (yes p) (yes q) = absurd (never (vol (at z.s) (at z.t) (at z.u) (at z.v)) z.volume (in_line-vol (at z.s) (at z.t) (at z.u) (at z.v) (subst (λ j. AreInLine (at z.s) (at j) (at z.u)) (p ∙ sym q) (in_line-twice (at z.s) (at z.u)))))
+    pick (yes p) (yes q) = absurd (less_differ (vol (at z.s) (at z.t) (at z.u) (at z.v)) (pos 0) z.volume (in_line-vol (at z.s) (at z.t) (at z.u) (at z.v) (subst (λ j. AreInLine (at z.s) (at j) (at z.u)) (p ∙ sym q) (in_line-twice (at z.s) (at z.u)))))
 
 -- a corner of a facet that l is no corner of is another id
 other_corner : (at : ℕ → Vector) (ids : List ℕ) (m : Surface) → IsFinished at ids m → (f l : ℕ) → In f m.live → ¬ (IsCorner m f l) → (h : ℕ) → IsCorner m f h → Others (Members ids) l h

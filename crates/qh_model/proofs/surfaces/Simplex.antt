@@ -11,10 +11,11 @@ use Rattle.std.proofs.lemmas.Int.{ints, by_lt_z}
 use Rattle.std.specs.Prelude.{ℤ, pos, ◌+ℤ◌, ◌*ℤ◌, ◌<ℤ◌, ◌≤ℤ◌}
 use Rattle.qh_model.proofs.algebra.Ring.{ring}
 use Rattle.qh_model.proofs.algebra.Ring.Expr.{add}
-use Rattle.qh_model.proofs.surfaces.Determinants.{quad, QE, aboveE, put4, above-first, above-second, above-third}
+use Rattle.qh_model.proofs.surfaces.Determinants.{quad, QE, aboveE, put4, above-first, above-second, above-third, above-turn_last}
 use Rattle.qh_model.proofs.surfaces.Facets.{rise_own, plane-is}
 use Rattle.qh_model.proofs.surfaces.CramersRule.{cramer}
-use Rattle.qh_model.proofs.algebra.Order.{zero_product}
+use Rattle.qh_model.proofs.algebra.Order.{zero_product, product_zero}
+use Rattle.qh_model.proofs.algebra.Signs.{less_differ}
 use Rattle.qh_model.proofs.surfaces.SimplexBoundary.{simplex_boundary_sound}
 
 -- what holds of 0, 1, 2 and 3
@@ -53,15 +54,10 @@ twins3 a b c d third = record { live = inl refl; start_is = refl; end_is = refl;
 whole : (a b c d : ℕ) → IsWhole (simplex_surface a b c d)
 whole a b c d = four (λ f. (s : Side) → HasTwin (simplex_surface a b c d) f s) (twins0 a b c d) (twins1 a b c d) (twins2 a b c d) (twins3 a b c d)
 
--- the facets' orders are even: a d b c
+-- the facets' orders are even, as `above-turn_last` says of a c d b: a d b c
 order_adb : (a b c d : Weighted) → above a d b c ≡ above a b c d
 unfolding above
 order_adb a b c d = ring (put4 a (put4 b (put4 c (put4 d [])))) (aboveE (quad 0) (quad 3) (quad 1) (quad 2)) (aboveE (quad 0) (quad 1) (quad 2) (quad 3)) refl
-
--- a c d b
-order_acd : (a b c d : Weighted) → above a c d b ≡ above a b c d
-unfolding above
-order_acd a b c d = ring (put4 a (put4 b (put4 c (put4 d [])))) (aboveE (quad 0) (quad 2) (quad 3) (quad 1)) (aboveE (quad 0) (quad 1) (quad 2) (quad 3)) refl
 
 -- b d c a
 order_bdc : (a b c d : Weighted) → above b d c a ≡ above a b c d
@@ -104,7 +100,7 @@ inside home a b c d h =
     four (λ f. rise (simplex_surface a b c d) home f (middle_of A B C D) <ℤ pos 0)
     (sum_lt (above A B C (middle_of A B C D)) (above A B C A) (above A B C B) (above A B C C) (above A B C D) (above A B C D) (above-together A B C A B C D) (above-first A B C) (above-second A B C) (above-third A B C) refl h)
     (sum_lt (above A D B (middle_of A B C D)) (above A D B A) (above A D B D) (above A D B B) (above A D B C) (above A B C D) (order_second _ (above A D B A) (above A D B B) (above A D B C) (above A D B D) (above-together A D B A B C D)) (above-first A D B) (above-second A D B) (above-third A D B) (order_adb A B C D) h)
-    (sum_lt (above A C D (middle_of A B C D)) (above A C D A) (above A C D C) (above A C D D) (above A C D B) (above A B C D) (order_third _ (above A C D A) (above A C D B) (above A C D C) (above A C D D) (above-together A C D A B C D)) (above-first A C D) (above-second A C D) (above-third A C D) (order_acd A B C D) h)
+    (sum_lt (above A C D (middle_of A B C D)) (above A C D A) (above A C D C) (above A C D D) (above A C D B) (above A B C D) (order_third _ (above A C D A) (above A C D B) (above A C D C) (above A C D D) (above-together A C D A B C D)) (above-first A C D) (above-second A C D) (above-third A C D) (above-turn_last A B C D) h)
     (sum_lt (above B D C (middle_of A B C D)) (above B D C B) (above B D C D) (above B D C C) (above B D C A) (above A B C D) (order_fourth _ (above B D C A) (above B D C B) (above B D C C) (above B D C D) (above-together B D C A B C D)) (above-first B D C) (above-second B D C) (above-third B D C) (order_bdc A B C D) h)
   where
     A : Weighted
@@ -223,7 +219,7 @@ boundary home a b c d h =
     below =
         four (λ f. rise (simplex_surface a b c d) home f (home (missing a b c d f)) <ℤ pos 0) h
         (lt_as _ (above (home a) (home b) (home c) (home d)) (order_adb (home a) (home b) (home c) (home d)) h)
-        (lt_as _ (above (home a) (home b) (home c) (home d)) (order_acd (home a) (home b) (home c) (home d)) h)
+        (lt_as _ (above (home a) (home b) (home c) (home d)) (above-turn_last (home a) (home b) (home c) (home d)) h)
         (lt_as _ (above (home a) (home b) (home c) (home d)) (order_bdc (home a) (home b) (home c) (home d)) h)
 
     no : (x y : ℤ) → x ≡ y → x <ℤ pos 0 → y ≡ pos 0 → ⊥
@@ -244,25 +240,16 @@ middle_is_below a b c s t u v p h hs ht hu hv off = by_lt_z (above a b c (middle
     zeros : (x a b c d : ℤ) → x ≡ a +ℤ b +ℤ c +ℤ d → pos 0 ≤ℤ x → a ≤ℤ pos 0 → b ≤ℤ pos 0 → c ≤ℤ pos 0 → d ≤ℤ pos 0 → (a ≡ pos 0) × (b ≡ pos 0) × (c ≡ pos 0) × (d ≡ pos 0)
     zeros x a b c d e h ha hb hc hd = (omega (arith, ints), omega (arith, ints), omega (arith, ints), omega (arith, ints))
 
-    times_zero : (d x : ℤ) → x ≡ pos 0 → d *ℤ x ≡ pos 0
-    times_zero d x e = ap (λ v. d *ℤ v) e ∙ zero d
-      where
-        zero : (d : ℤ) → d *ℤ pos 0 ≡ pos 0
-        zero d = omega (arith, ints)
-
     total : (l a b c d : ℤ) → l ≡ a +ℤ b +ℤ c +ℤ d → a ≡ pos 0 → b ≡ pos 0 → c ≡ pos 0 → d ≡ pos 0 → l ≡ pos 0
     total l a b c d e ha hb hc hd = omega (arith, ints)
-
-    below : (x : ℤ) → x <ℤ pos 0 → x ≡ pos 0 → ⊥
-    below x h e = omega (arith, ints)
 
     on : (y : Weighted) → above a b c y ≡ pos 0 → weighted_dot (plane_of a b c) y ≡ pos 0
     on y e = plane-is a b c y ∙ e
 
     never : (above a b c s ≡ pos 0) × (above a b c t ≡ pos 0) × (above a b c u ≡ pos 0) × (above a b c v ≡ pos 0) → ⊥
     never z = pick (zero_product (above s t u v) (weighted_dot (plane_of a b c) p) (total (above s t u v *ℤ weighted_dot (plane_of a b c) p) (above p t u v *ℤ weighted_dot (plane_of a b c) s) (above s p u v *ℤ weighted_dot (plane_of a b c) t) (above s t p v *ℤ weighted_dot (plane_of a b c) u) (above s t u p *ℤ weighted_dot (plane_of a b c) v) (cramer (plane_of a b c) s t u v p)
-        (times_zero (above p t u v) (weighted_dot (plane_of a b c) s) (on s z.0)) (times_zero (above s p u v) (weighted_dot (plane_of a b c) t) (on t z.1)) (times_zero (above s t p v) (weighted_dot (plane_of a b c) u) (on u z.2)) (times_zero (above s t u p) (weighted_dot (plane_of a b c) v) (on v z.3))))
+        (product_zero (above p t u v) (weighted_dot (plane_of a b c) s) (on s z.0)) (product_zero (above s p u v) (weighted_dot (plane_of a b c) t) (on t z.1)) (product_zero (above s t p v) (weighted_dot (plane_of a b c) u) (on u z.2)) (product_zero (above s t u p) (weighted_dot (plane_of a b c) v) (on v z.3))))
       where
         pick : (above s t u v ≡ pos 0) ⊎ (weighted_dot (plane_of a b c) p ≡ pos 0) → ⊥
-        pick (inl e) = below (above s t u v) h e
+        pick (inl e) = less_differ (above s t u v) (pos 0) h e
         pick (inr e) = off (sym (plane-is a b c p) ∙ e)

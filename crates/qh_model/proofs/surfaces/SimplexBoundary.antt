@@ -11,6 +11,7 @@ use Rattle.qh_model.proofs.surfaces.Facets.{rise_own}
 use Rattle.qh_model.proofs.surfaces.DrawnInwards.{above-drawn_all, cube}
 use Rattle.qh_model.proofs.algebra.Ring.{ring}
 use Rattle.qh_model.proofs.algebra.Ring.Expr.{var, con, add, mul}
+use Rattle.qh_model.proofs.algebra.Signs.{less_differ}
 
 -- all is strict as it stands
 strict_home : (m : Surface) (home : ℕ → Weighted) → IsSimplexBoundary m home → IsStrict m home
@@ -24,11 +25,8 @@ strict_home m home r f g i j l c n = pick (r.covers f g i j l c)
 distinct_home : (m : Surface) (home : ℕ → Weighted) → IsSimplexBoundary m home → HasDistinctFacets m
 distinct_home m home r f g i j within = pick (r.known f g i j)
   where
-    no : (x : ℤ) → x <ℤ pos 0 → x ≡ pos 0 → ⊥
-    no x h e = omega (arith, ints)
-
     pick : IsCorner m f (r.missing g) ⊎ (r.missing g ≡ r.missing f) → f ≡ g
-    pick (inl k) = absurd (no (rise m home g (home (r.missing g))) (r.below g j) (rise_own m home g (r.missing g) (within (r.missing g) k)))
+    pick (inl k) = absurd (less_differ (rise m home g (home (r.missing g))) (pos 0) (r.below g j) (rise_own m home g (r.missing g) (within (r.missing g) k)))
     pick (inr e) = r.once f g i j (sym e)
 
 -- with no share at all

@@ -2,10 +2,7 @@
 use Rattle.qh_model.specs.Sets.{In, Once}
 use Rattle.qh_model.specs.StoredSurface.{StoredFacet, facet_at, live_from, LiveIsMarked, LiveIsListedOnce}
 use Rattle.std.proofs.Common.{◌≡◌, ℕ, zero, suc, ◌+◌, ◌≤◌, refl, sym, ◌∙◌, subst, arith, List, [], ◌∷◌, inl, inr, Bool, true, false, cond}
-
--- no boolean is both
-never : (b : Bool) → b ≡ false → b ≡ true → ⊥
-never b e f = cc
+use Rattle.std.proofs.lemmas.Bool.{both_ways}
 
 -- a step of the next
 marked_step : (n : ℕ) (f : StoredFacet) (fs : List StoredFacet) (g : ℕ) → (In g (live_from (n + 1) fs) → (k : ℕ) × (g ≡ n + 1 + k) × ((facet_at fs k).live ≡ true)) → In g (live_from n (f ∷ fs)) → (k : ℕ) × (g ≡ n + k) × ((facet_at (f ∷ fs) k).live ≡ true)
@@ -32,7 +29,7 @@ marked_of n (f ∷ fs) g i = marked_step n f fs g (marked_of (n + 1) fs g) i
 
 -- a marked place has a live number
 live_of : (n : ℕ) (fs : List StoredFacet) (k : ℕ) → (facet_at fs k).live ≡ true → In (n + k) (live_from n fs)
-live_of n [] k e = absurd (never false refl e)
+live_of n [] k e = absurd (both_ways false refl e)
 live_of n (f ∷ fs) zero e = subst (λ b. In (n + zero) (cond b (n ∷ live_from (n + 1) fs) (live_from (n + 1) fs))) (sym e) (inl (none n))
   where
     none : (n : ℕ) → n + zero ≡ n

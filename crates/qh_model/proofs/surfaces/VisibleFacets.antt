@@ -4,9 +4,10 @@ use Rattle.qh_model.specs.Weighted.{Weighted, above, weighted_dot}
 use Rattle.std.proofs.Common.{◌≡◌, refl, List, [], ◌∷◌, arith, ap, sym, ◌∙◌, Bool, true, false, ◌⊎◌, inl, inr, subst}
 use Rattle.std.proofs.lemmas.Int.{ints, by_lt_z}
 use Rattle.std.specs.Prelude.{ℤ, pos, ◌+ℤ◌, ◌-ℤ◌, ◌*ℤ◌, neg_ℤ, ◌≤ℤ◌, ◌<ℤ◌}
-use Rattle.qh_model.proofs.algebra.Order.{mul-nonneg_nonpos, mul-nonpos, mul-pos, cancel-pos, mul-neg_pos}
+use Rattle.qh_model.proofs.algebra.Order.{mul-nonneg_nonpos, mul-nonpos, mul-pos, cancel-pos, mul-neg_pos, product_zero, positive_le, negative_le}
 use Rattle.qh_model.proofs.algebra.Ring.{ring}
 use Rattle.qh_model.proofs.algebra.Ring.Expr.{var, add, sub as less, mul, neg}
+use Rattle.qh_model.proofs.algebra.Signs.{not_less}
 use Rattle.qh_model.proofs.surfaces.Determinants.{above-turn, above-flip}
 use Rattle.qh_model.proofs.surfaces.PlanesThroughLine.{line_product}
 use Rattle.qh_model.proofs.surfaces.CramersRule.{cramer}
@@ -27,12 +28,9 @@ three : (l a b c x y z d e : ℤ) → l ≡ a *ℤ x +ℤ b *ℤ y +ℤ c *ℤ z
     → a ≤ℤ pos 0 → b ≤ℤ pos 0 → c ≤ℤ pos 0 → ⊥
 three l a b c x y z d e q h hx hy hz he ha hb hc =
     let p1 = mul-nonpos a x ha hx in let p2 = mul-nonpos b y hb hy in let p3 = mul-nonpos c z hc hz in
-    let p4 : d *ℤ e ≡ pos 0 = ap (λ v. d *ℤ v) he ∙ times_zero d in
+    let p4 : d *ℤ e ≡ pos 0 = product_zero d e he in
     finish l (a *ℤ x) (b *ℤ y) (c *ℤ z) (d *ℤ e) q h p1 p2 p3 p4
   where
-    times_zero : (d : ℤ) → d *ℤ pos 0 ≡ pos 0
-    times_zero d = omega (arith, ints)
-
     finish : (l p q r s : ℤ) → l ≡ p +ℤ q +ℤ r +ℤ s → l <ℤ pos 0 → pos 0 ≤ℤ p → pos 0 ≤ℤ q → pos 0 ≤ℤ r → s ≡ pos 0 → ⊥
     finish l p q r s e h hp hq hr hs = omega (arith, ints)
 
@@ -135,10 +133,7 @@ least {X} W P Q (x ∷ xs) h = split (W x) refl (least W P Q xs (λ g i e. h g (
 
     split : (b : Bool) → W x ≡ b → ((g : X) → In g xs → W g ≡ true → ⊥) ⊎ Least W P Q xs → ((g : X) → In g (x ∷ xs) → W g ≡ true → ⊥) ⊎ Least W P Q (x ∷ xs)
     split true e (inl n) = inr (alone e n)
-    split true e (inr l) = inr (by_lt_z (pos 0) (P l.m *ℤ Q x -ℤ Q l.m *ℤ P x) (new e l) (λ k. keep l (λ q. both (P l.m *ℤ Q x -ℤ Q l.m *ℤ P x) q k)))
-      where
-        both : (z : ℤ) → pos 0 <ℤ z → z ≤ℤ pos 0 → ⊥
-        both z h k = omega (arith, ints)
+    split true e (inr l) = inr (by_lt_z (pos 0) (P l.m *ℤ Q x -ℤ Q l.m *ℤ P x) (new e l) (λ k. keep l (λ q. not_less (pos 0) (P l.m *ℤ Q x -ℤ Q l.m *ℤ P x) q k)))
     split false e (inl n) = inl (λ g i w. one n g w i)
       where
         one : ((g : X) → In g xs → W g ≡ true → ⊥) → (g : X) → W g ≡ true → In g (x ∷ xs) → ⊥
@@ -182,14 +177,8 @@ pub record Earlier {X : Type 0} (at : X → Corners) (live : List X) (W : X → 
 
 -- the neighbour that is met before sees p as well
 sees_too : (fp gy fy gp : ℤ) → pos 0 <ℤ (fp *ℤ gy -ℤ fy *ℤ gp) → pos 0 <ℤ fp → fy <ℤ pos 0 → gy ≤ℤ pos 0 → pos 0 <ℤ gp
-sees_too fp gy fy gp h hf hy hg = by_lt_z (pos 0) gp (λ q. q) (λ q. absurd (finish (fp *ℤ gy) (fy *ℤ gp) h (mul-nonneg_nonpos fp gy (lt_le fp hf) hg) (mul-nonpos fy gp (lt_le' fy hy) q)))
+sees_too fp gy fy gp h hf hy hg = by_lt_z (pos 0) gp (λ q. q) (λ q. absurd (finish (fp *ℤ gy) (fy *ℤ gp) h (mul-nonneg_nonpos fp gy (positive_le fp hf) hg) (mul-nonpos fy gp (negative_le fy hy) q)))
   where
-    lt_le : (x : ℤ) → pos 0 <ℤ x → pos 0 ≤ℤ x
-    lt_le x h = omega (arith, ints)
-
-    lt_le' : (x : ℤ) → x <ℤ pos 0 → x ≤ℤ pos 0
-    lt_le' x h = omega (arith, ints)
-
     finish : (x y : ℤ) → pos 0 <ℤ (x -ℤ y) → x ≤ℤ pos 0 → pos 0 ≤ℤ y → ⊥
     finish x y h a b = omega (arith, ints)
 

@@ -2,16 +2,16 @@
 use Rattle.std.proofs.Common.{◌≡◌, ◌≢◌, ℕ, refl, [], ◌∷◌, arith, sym, subst, ◌∙◌}
 use Rattle.std.proofs.lemmas.Int.{ints, by_lt_z}
 use Rattle.std.specs.Prelude.{ℤ, pos, neg_ℤ, ◌+ℤ◌, ◌-ℤ◌, ◌*ℤ◌, ◌≤ℤ◌, ◌<ℤ◌}
-use Rattle.qh_model.proofs.algebra.Order.{le_antisym, mul-pos, cancel-nonpos, cancel-zero}
+use Rattle.qh_model.proofs.algebra.Order.{le_antisym, mul-pos, cancel-nonpos, cancel-zero, le_less}
 use Rattle.qh_model.proofs.algebra.Ring.{ring}
 use Rattle.qh_model.proofs.algebra.Ring.Expr.{var, add, sub as less, mul}
 use Rattle.qh_model.proofs.algebra.VectorIdentities.{vec, subE, crossE, dotE, put, dot-minus, left-flip}
+use Rattle.qh_model.proofs.algebra.Signs.{opposite_zero, gap_positive}
 use Rattle.qh_model.specs.Vector.{Vector, minus, cross_product, dot}
 use Rattle.qh_model.specs.Predicates.{left}
 use Rattle.qh_model.specs.Extreme.{Extreme, Others}
 use Rattle.qh_model.proofs.combinations.Alternatives.{all_lower}
 use Rattle.qh_plane.proofs.PlaneDirections.{bracket, bracketE, bracket-fan}
-use Rattle.qh_plane.proofs.Signs.{le_less}
 use Rattle.qh_plane.proofs.polygons.TurnLaws.{HasOnLeft}
 use Rattle.qh_plane.proofs.polygons.Turns.{IsFlat, IsKeyed, turn_about, height_of, step, forward, left-middle, left-bracket, left-swap}
 
@@ -92,13 +92,10 @@ across_sign : (N ha hb wa wb P : ℤ) → N *ℤ (ha *ℤ wb -ℤ hb *ℤ wa) �
 across_sign N ha hb wa wb P e p s b ab w aw =
     let k : (N *ℤ (ha *ℤ wb -ℤ hb *ℤ wa)) ≤ℤ pos 0 = subst (λ v. v ≤ℤ pos 0) (sym e) p in
     let d : (ha *ℤ wb -ℤ hb *ℤ wa) ≤ℤ pos 0 = cancel-nonpos N (ha *ℤ wb -ℤ hb *ℤ wa) s k in
-    let x : pos 0 <ℤ ((ha -ℤ hb) *ℤ wb) = mul-pos (ha -ℤ hb) wb (gap hb ha ab) w in
-    let y : pos 0 <ℤ (hb *ℤ (wb -ℤ wa)) = mul-pos hb (wb -ℤ wa) b (gap wa wb aw) in
+    let x : pos 0 <ℤ ((ha -ℤ hb) *ℤ wb) = mul-pos (ha -ℤ hb) wb (gap_positive hb ha ab) w in
+    let y : pos 0 <ℤ (hb *ℤ (wb -ℤ wa)) = mul-pos hb (wb -ℤ wa) b (gap_positive wa wb aw) in
     against (ha *ℤ wb -ℤ hb *ℤ wa) ((ha -ℤ hb) *ℤ wb) (hb *ℤ (wb -ℤ wa)) (split ha hb wa wb) d x y
   where
-    gap : (a b : ℤ) → a <ℤ b → pos 0 <ℤ (b -ℤ a)
-    gap a b h = omega (arith, ints)
-
     split : (ha hb wa wb : ℤ) → ha *ℤ wb -ℤ hb *ℤ wa ≡ (ha -ℤ hb) *ℤ wb +ℤ hb *ℤ (wb -ℤ wa)
     split ha hb wa wb =
         ring (ha ∷ hb ∷ wa ∷ wb ∷ []) (less (mul (var 0) (var 3)) (mul (var 1) (var 2))) (add (mul (less (var 0) (var 1)) (var 3)) (mul (var 1) (less (var 3) (var 2)))) refl
@@ -131,18 +128,14 @@ lined n h at A flat u v m au av c nu nv um mv z =
     none : (x : ℤ) → (pos 0 *ℤ x) ≤ℤ pos 0
     none x = omega (arith, ints)
 
--- the opposite of zero is zero
-zero_neg : (x y : ℤ) → x ≡ neg_ℤ y → y ≡ pos 0 → x ≡ pos 0
-zero_neg x y e h = omega (arith, ints)
-
 module _ (n h : Vector) (at : ℕ → Vector) (A : ℕ → Type 0) (flat : IsFlat n at A) (keyed : IsKeyed h at A) where
   -- a turn that is zero, with its ends exchanged
   flipped : (u v x : ℕ) → turn_about n at u v x ≡ pos 0 → turn_about n at u x v ≡ pos 0
-  flipped u v x z = zero_neg _ _ (left-flip n (at u) (at x) (at v)) z
+  flipped u v x z = opposite_zero _ _ (left-flip n (at u) (at x) (at v)) z
 
   -- the same, with its beginning exchanged
   swapped : (u v x : ℕ) → turn_about n at u v x ≡ pos 0 → turn_about n at v u x ≡ pos 0
-  swapped u v x z = zero_neg _ _ (left-swap n (at v) (at u) (at x)) z
+  swapped u v x z = opposite_zero _ _ (left-swap n (at v) (at u) (at x)) z
 
   -- one of two different members comes first
   ordered : (C : Type 0) (u v : ℕ) → A u → A v → u ≢ v → (height_of h at u <ℤ height_of h at v → C) → (height_of h at v <ℤ height_of h at u → C) → C

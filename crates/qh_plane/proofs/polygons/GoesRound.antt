@@ -1,5 +1,5 @@
 -- The list that goes round the extremes, from a rising list and its turn.
-use Rattle.std.proofs.Common.{◌≡◌, ℕ, refl, List, [], ◌∷◌, ◌++◌, arith, ap, sym, subst, ◌⊎◌, inl, inr, ⊎_elim}
+use Rattle.std.proofs.Common.{◌≡◌, ℕ, List, [], ◌∷◌, ◌++◌, arith, ap, sym, subst, inl, inr, ⊎_elim}
 use Rattle.std.proofs.lemmas.Int.{ints}
 use Rattle.std.specs.Prelude.{ℤ, pos, ◌≤ℤ◌, ◌<ℤ◌, ◌↔◌}
 use Rattle.qh_model.specs.Vector.{Vector}
@@ -8,6 +8,7 @@ use Rattle.qh_model.specs.Extreme.{Extreme}
 use Rattle.qh_model.specs.Polygon.{AroundCycle, TurnsLeft}
 use Rattle.qh_model.proofs.algebra.VectorIdentities.{opposite}
 use Rattle.qh_model.proofs.polygons.Direction.{cycle_map}
+use Rattle.qh_model.proofs.lists.Joined.{in_append, of_append, once_append}
 use Rattle.qh_plane.proofs.polygons.TurnLaws.{RisesBy, IsChain}
 use Rattle.qh_plane.proofs.polygons.Chain.{Passed, passed-before, passed-in, in-passed, IsChained, chain-good}
 use Rattle.qh_plane.proofs.polygons.Turns.{IsFlat, IsKeyed, turn_about, height_of, turn_laws}
@@ -81,45 +82,21 @@ goes_round n h at A flat keyed p q ap aq l l' x₀ xs y₀ ys i j r r' =
     up : Half n (opposite h) at A (chain (turn_about n at) [] (y₀ ∷ ys))
     up = half_of n (opposite h) at A flat (keyed_opposite h at A keyed) y₀ ys j r'
 
--- a member of two lists joined
-in-append : (xs ys : List ℕ) (x : ℕ) → In x (xs ++ ys) → In x ys ⊎ In x xs
-in-append [] ys x i = inl i
-in-append (y ∷ xs) ys x (inl e) = inr (inl e)
-in-append (y ∷ xs) ys x (inr i) = ⊎_elim (λ k. inl k) (λ k. inr (inr k)) (in-append xs ys x i)
-
--- and back
-append-in : (xs ys : List ℕ) (x : ℕ) → In x ys ⊎ In x xs → In x (xs ++ ys)
-append-in [] ys x (inl i) = i
-append-in [] ys x (inr i) = absurd i
-append-in (y ∷ xs) ys x (inl i) = inr (append-in xs ys x (inl i))
-append-in (y ∷ xs) ys x (inr (inl e)) = inl e
-append-in (y ∷ xs) ys x (inr (inr i)) = inr (append-in xs ys x (inr i))
-
--- the cases exchanged
-other : (P Q : Type 0) → P ⊎ Q → Q ⊎ P
-other P Q (inl p) = inr p
-other P Q (inr q) = inl q
-
 -- a turned list has the same members
 pub in-rotate : (xs ys : List ℕ) (x : ℕ) → In x (xs ++ ys) → In x (ys ++ xs)
-in-rotate xs ys x i = append-in ys xs x (other _ _ (in-append xs ys x i))
+in-rotate xs ys x i = in_append ys xs x (⊎_elim (λ k. inr k) (λ k. inl k) (of_append xs ys x i))
 
 -- parts of a list that repeats nothing
 once-parts : (xs ys : List ℕ) → Once (xs ++ ys) → Once xs × (Once ys × ((x : ℕ) → In x xs → In x ys → ⊥))
 once-parts [] ys o = (tt, (o, λ x i j. i))
 once-parts (x ∷ xs) ys o =
     let k = once-parts xs ys o.1 in
-    ((λ i. o.0 (append-in xs ys x (inr i)), k.0), (k.1.0, λ v i j. ⊎_elim (λ e. o.0 (append-in xs ys x (inl (subst (λ t. In t ys) e j)))) (λ l. k.1.1 v l j) i))
-
--- and back
-once-join : (xs ys : List ℕ) → Once xs → Once ys → ((x : ℕ) → In x xs → In x ys → ⊥) → Once (xs ++ ys)
-once-join [] ys o p d = p
-once-join (x ∷ xs) ys o p d = (λ i. ⊎_elim (λ k. d x (inl refl) k) (λ k. o.0 k) (in-append xs ys x i), once-join xs ys o.1 p (λ v i j. d v (inr i) j))
+    ((λ i. o.0 (in_append xs ys x (inl i)), k.0), (k.1.0, λ v i j. ⊎_elim (λ e. o.0 (in_append xs ys x (inr (subst (λ t. In t ys) e j)))) (λ l. k.1.1 v l j) i))
 
 -- turned on
 pub goes_round-rotate : (n : Vector) (at : ℕ → Vector) (A : ℕ → Type 0) (xs ys : List ℕ) → GoesRound n at A (xs ++ ys) → GoesRound n at A (ys ++ xs)
 goes_round-rotate n at A xs ys c = record {
   members = λ i. (λ k. (c.members i).0 (in-rotate ys xs i k), λ e. in-rotate xs ys i ((c.members i).1 e));
-  once = let k = once-parts xs ys c.once in once-join ys xs k.1.0 k.0 (λ x i j. k.1.1 x j i);
+  once = let k = once-parts xs ys c.once in once_append ys xs k.1.0 k.0 (λ x i j. k.1.1 x j i);
   round = cycle_map (TurnsLeft at n (xs ++ ys)) (TurnsLeft at n (ys ++ xs)) (λ u v f w i. f w (in-rotate ys xs w i)) (ys ++ xs) (cycle-rotate (TurnsLeft at n (xs ++ ys)) xs ys c.round);
 }

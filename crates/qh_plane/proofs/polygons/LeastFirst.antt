@@ -5,7 +5,7 @@ use Rattle.qh_model.specs.Extreme.{Extreme}
 use Rattle.qh_model.specs.Polygon.{IsPolygon}
 use Rattle.qh_model.specs.Sets.{In, BeginsWithLeast}
 use Rattle.qh_model.specs.Vector.{Vector}
-use Rattle.qh_plane.proofs.Members.{in_at}
+use Rattle.qh_model.proofs.Members.{in_at}
 use Rattle.qh_plane.proofs.polygons.GoesRound.{GoesRound, goes_round-rotate, in-rotate}
 
 -- the empty list begins with its least

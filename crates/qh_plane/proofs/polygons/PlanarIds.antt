@@ -5,6 +5,7 @@ use Rattle.std.specs.Prelude.{ℤ, pos, ◌-ℤ◌, neg_ℤ}
 use Rattle.qh_model.proofs.algebra.Ring.{ring}
 use Rattle.qh_model.proofs.algebra.Ring.Expr.{con, sub as less, neg}
 use Rattle.qh_model.proofs.algebra.VectorIdentities.{vec, dotE, put, vector_path, vol-dot}
+use Rattle.qh_model.proofs.algebra.Signs.{opposite_zero}
 use Rattle.qh_model.proofs.extremes.Dimensions.{segment_of_triangle}
 use Rattle.qh_model.proofs.extremes.Directions.{square-positive}
 use Rattle.qh_model.specs.Predicates.{place, cross}
@@ -18,11 +19,7 @@ use Rattle.qh_plane.specs.PlanarSets.{IsPlanarSet}
 negated : (c v : Vector) → dot (minus origin c) v ≡ neg_ℤ (dot c v)
 negated c v = ring (put c (put v [])) (dotE (record { x = less (con (pos 0)) (vec 0).x; y = less (con (pos 0)) (vec 0).y; z = less (con (pos 0)) (vec 0).z }) (vec 1)) (neg (dotE (vec 0) (vec 1))) refl
 
--- the opposite of zero is zero
-neg_zero : (x y : ℤ) → x ≡ neg_ℤ y → y ≡ pos 0 → x ≡ pos 0
-neg_zero x y e h = omega (arith, ints)
-
--- and back
+-- what has the opposite zero is zero
 back_zero : (x : ℤ) → pos 0 -ℤ x ≡ pos 0 → x ≡ pos 0
 back_zero x e = omega (arith, ints)
 
@@ -40,7 +37,7 @@ module _ (pts : List Vector) (ids : List ℕ) (n : Vector) (p : IsPlanarSet pts 
 
       go : (n ≡ c) ⊎ (n ≡ minus origin c) → dot n (minus (place pts l) (place pts p.i)) ≡ pos 0
       go (inl e) = ap (λ v. dot v (minus (place pts l) (place pts p.i))) e ∙ zero_c
-      go (inr e) = ap (λ v. dot v (minus (place pts l) (place pts p.i))) e ∙ neg_zero _ _ (negated c (minus (place pts l) (place pts p.i))) zero_c
+      go (inr e) = ap (λ v. dot v (minus (place pts l) (place pts p.i))) e ∙ opposite_zero _ _ (negated c (minus (place pts l) (place pts p.i))) zero_c
 
   -- the normal is not zero
   some : n ≢ origin

@@ -1,9 +1,9 @@
 -- Sides of the polygon: two corners with all members on the left. The edges of a chain are sides.
-use Rattle.std.proofs.Common.{◌≡◌, ◌≢◌, ℕ, List, [], ◌∷◌, arith, ap, sym, subst, inl, inr}
-use Rattle.std.proofs.lemmas.Int.{ints}
+use Rattle.std.proofs.Common.{◌≢◌, ℕ, List, [], ◌∷◌, ap, sym, subst, inl, inr}
 use Rattle.std.specs.Prelude.{ℤ, ◌≤ℤ◌, ◌<ℤ◌}
 use Rattle.qh_model.specs.Vector.{Vector}
 use Rattle.qh_model.specs.Sets.{In}
+use Rattle.qh_model.proofs.algebra.Signs.{less_differ}
 use Rattle.qh_plane.proofs.polygons.TurnLaws.{HasOnLeft, TurnsAt, IsChain, chain_top}
 use Rattle.qh_plane.proofs.polygons.Turns.{IsFlat, IsKeyed, turn_about, height_of}
 use Rattle.qh_plane.proofs.polygons.Corners.{Corner, inner}
@@ -29,10 +29,7 @@ module _ (n h : Vector) (at : ℕ → Vector) (A : ℕ → Type 0) (flat : IsFla
 
   -- ids of different heights differ
   differ : (u v : ℕ) → height_of h at u <ℤ height_of h at v → u ≢ v
-  differ u v l e = no_less (height_of h at u) (height_of h at v) l (ap (height_of h at) e)
-    where
-      no_less : (a b : ℤ) → a <ℤ b → a ≡ b → ⊥
-      no_less a b l e = omega (arith, ints)
+  differ u v l e = less_differ (height_of h at u) (height_of h at v) l (ap (height_of h at) e)
 
   -- the edges of a chain are sides
   pub sides : (t : ℕ) (s : List ℕ) → Corner at A t → IsChain (turn_about n at) (height_of h at) A t s → Down (Side n at A) t s

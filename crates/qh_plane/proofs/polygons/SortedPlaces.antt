@@ -2,24 +2,24 @@
 use Rattle.std.proofs.Common.{◌≡◌, ℕ, ◌+◌, ◌*◌, ◌%◌, ◌<◌, List, [], ◌∷◌, length, map, reverse, arith, ap, sym, subst, ◌∙◌, refl, inl, inr, ⊎_elim}
 use Rattle.std.proofs.lemmas.List.{length-map}
 use Rattle.std.proofs.lemmas.List.Sorted.{length_permutation}
+use Rattle.std.proofs.Math.Nat.{ne_of_lt}
 use Rattle.std.specs.Prelude.{ℤ, ◌<ℤ◌, ◌↔◌}
 use Rattle.std.specs.List.{All, AllByRecursion as Every}
 use Rattle.std.specs.List.Sorted.{IsStrictlyIncreasing}
-use Rattle.qh_model.proofs.Members.{All-In}
+use Rattle.qh_model.proofs.Members.{All-In, All-of, rising_tail}
 use Rattle.qh_model.proofs.algebra.VectorIdentities.{opposite, dot-opposite}
+use Rattle.qh_model.proofs.algebra.Signs.{lt_neg}
 use Rattle.qh_model.specs.DistinctIds.{HasDistinctPoints}
 use Rattle.qh_model.specs.Predicates.{place}
 use Rattle.qh_model.specs.Sets.{In}
 use Rattle.qh_model.specs.Vector.{Vector}
 use Rattle.qh_plane.proofs.KeyOrder.{IsKeyOf, sorted_keys, rising_keys, key_parts, place_code-same, sorted-only, sorted-all}
-use Rattle.qh_plane.proofs.Members.{All-of, less_differ, RisesAbove, rises_above}
 use Rattle.qh_plane.proofs.polygons.Cycles.{in-turned_onto, turned_onto-in}
 use Rattle.qh_plane.proofs.polygons.GoesRound.{GoesRound, goes_round}
 use Rattle.qh_plane.proofs.polygons.PlaceHeights.{order, place_code-less, keyed_of}
 use Rattle.qh_plane.proofs.polygons.Stacks.{reverse-turned_onto}
 use Rattle.qh_plane.proofs.polygons.TurnLaws.{RisesBy}
 use Rattle.qh_plane.proofs.polygons.Turns.{IsFlat, IsKeyed, turn_about, height_of}
-use Rattle.qh_plane.proofs.Signs.{lt_neg}
 use Rattle.qh_plane.specs.declared.place_keys.TheConstants.{ROOM}
 use Rattle.qh_plane.specs.Chains.{turned_onto, joined, chain}
 use Rattle.qh_plane.specs.PlaceKeys.{place_code, key_at, ids_in, HasKey, AreByPlace}
@@ -35,13 +35,13 @@ step_up : (pts : List Vector) (ids : List ℕ) (k l : ℕ) → HasDistinctPoints
 step_up pts ids k l d t u lt =
     place_code-less (place pts (k % ROOM)) (place pts (l % ROOM)) t.known.place_in u.known.place_in
     (less_code (place_code (place pts (k % ROOM))) (place_code (place pts (l % ROOM))) (k % ROOM) (l % ROOM) k l (t.is ∙ key_parts pts (k % ROOM)) (u.is ∙ key_parts pts (l % ROOM)) t.known.small u.known.small lt
-    (λ e. less_differ k l lt (t.is ∙ ap (key_at pts) (d (k % ROOM) (l % ROOM) t.has u.has (place_code-same _ _ t.known.place_in u.known.place_in e)) ∙ sym u.is)))
+    (λ e. ne_of_lt lt (t.is ∙ ap (key_at pts) (d (k % ROOM) (l % ROOM) t.has u.has (place_code-same _ _ t.known.place_in u.known.place_in e)) ∙ sym u.is)))
 
 -- the same along a list
-rises_of : (pts : List Vector) (ids : List ℕ) (k : ℕ) (ks : List ℕ) → HasDistinctPoints (place pts) (λ x. In x ids) → Every (IsKeyOf pts ids) (k ∷ ks) → RisesAbove k ks
+rises_of : (pts : List Vector) (ids : List ℕ) (k : ℕ) (ks : List ℕ) → HasDistinctPoints (place pts) (λ x. In x ids) → Every (IsKeyOf pts ids) (k ∷ ks) → IsStrictlyIncreasing (k ∷ ks)
     → RisesBy (height_of order (place pts)) (k % ROOM) (ids_in ks)
 rises_of pts ids k [] d t c = tt
-rises_of pts ids k (l ∷ ks) d t c = (step_up pts ids k l d t.0 t.1.0 c.0, rises_of pts ids l ks d t.1 c.1)
+rises_of pts ids k (l ∷ ks) d t c = (step_up pts ids k l d t.0 t.1.0 (c 0 (omega arith)), rises_of pts ids l ks d t.1 (rising_tail k (l ∷ ks) c))
 
 -- ---- turned round
 -- the keys rise along the list from its first
@@ -69,7 +69,7 @@ round_keys : (pts : List Vector) (ids keys : List ℕ) (n : Vector) → Every (I
 round_keys pts ids [] n t r l m k d flat = absurd (omega arith)
 round_keys pts ids (a ∷ []) n t r l m k d flat = absurd (omega arith)
 round_keys pts ids (a ∷ b ∷ ks) n t r l m k d flat =
-    let up = rises_of pts ids a (b ∷ ks) d t (rises_above a (b ∷ ks) r) in
+    let up = rises_of pts ids a (b ∷ ks) d t r in
     let R : List ℕ = ids_in (a ∷ b ∷ ks) in
     subst (λ v. GoesRound n (place pts) (λ x. In x ids) (joined (chain (turn_about n (place pts)) [] (ids_in (a ∷ b ∷ ks))) (chain (turn_about n (place pts)) [] v)))
     (sym (reverse-turned_onto (ids_in (a ∷ b ∷ ks))))

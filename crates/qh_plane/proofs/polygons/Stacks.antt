@@ -1,30 +1,7 @@
 -- The steps of the code of a chain, in the words of std.
-use Rattle.std.proofs.Common.{◌≡◌, ℕ, refl, List, [], ◌∷◌, ◌++◌, arith, ap, sym, ◌∙◌, Bool, true, false, cond, reverse, take, length, ◌-◌}
+use Rattle.std.proofs.Common.{◌≡◌, ℕ, refl, List, [], ◌∷◌, ◌++◌, arith, ap, sym, ◌∙◌, reverse, take, length, ◌-◌}
 use Rattle.std.proofs.lemmas.List.{reverse-append, reverse-reverse, append_assoc, append-nil, length-reverse, take_at}
-use Rattle.std.specs.Prelude.{ℤ, not}
-use Rattle.qh_plane.specs.Chains.{is_left, kept_below, kept, is_dropped, turned_onto, after_first, joined}
-
--- a turn to the left stops the pops
-stop : (turn : ℕ → ℕ → ℕ → ℤ) (y t r : ℕ) (s : List ℕ) (b : Bool) → not b ≡ false → cond b (t ∷ r ∷ s) (kept_below turn y r s) ≡ t ∷ r ∷ s
-stop turn y t r s true e = refl
-stop turn y t r s false e = cc
-
--- a top that stays ends the drops
-pub kept-stop : (turn : ℕ → ℕ → ℕ → ℤ) (y : ℕ) (s : List ℕ) → is_dropped turn y s ≡ false → kept turn y s ≡ s
-kept-stop turn y [] e = refl
-kept-stop turn y (t ∷ []) e = refl
-kept-stop turn y (t ∷ r ∷ s) e = stop turn y t r s (is_left (turn r t y)) e
-
--- another goes on
-more : (turn : ℕ → ℕ → ℕ → ℤ) (y t r : ℕ) (s : List ℕ) (b : Bool) → not b ≡ true → cond b (t ∷ r ∷ s) (kept_below turn y r s) ≡ kept_below turn y r s
-more turn y t r s true e = cc
-more turn y t r s false e = refl
-
--- a top that goes is dropped
-pub kept-more : (turn : ℕ → ℕ → ℕ → ℤ) (y : ℕ) (s : List ℕ) → is_dropped turn y s ≡ true → kept turn y s ≡ kept turn y (after_first s)
-kept-more turn y [] e = refl
-kept-more turn y (t ∷ []) e = cc
-kept-more turn y (t ∷ r ∷ s) e = more turn y t r s (is_left (turn r t y)) e
+use Rattle.qh_plane.specs.Chains.{turned_onto, after_first, joined}
 
 -- turning onto a list, in the words of std
 pub turned_onto-is : (s acc : List ℕ) → turned_onto s acc ≡ reverse s ++ acc

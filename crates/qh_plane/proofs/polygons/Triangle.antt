@@ -1,9 +1,11 @@
 -- The polygon of three points that are not in line.
 use Rattle.std.proofs.Common.{◌≡◌, ◌≢◌, ℕ, ◌<◌, ◌≤◌, List, [], ◌∷◌, arith, ap, sym, subst, ◌∙◌, ◌⊎◌, inl, inr, ⊎_elim, Bool, true, false, cond, refl, length, get_or}
 use Rattle.std.proofs.lemmas.Int.{ints}
-use Rattle.std.specs.Prelude.{ℤ, pos, neg_ℤ, ◌+ℤ◌, ◌-ℤ◌, ◌*ℤ◌, ◌≤ℤ◌, ◌<ℤ◌, ◌↔◌}
-use Rattle.qh_model.proofs.algebra.Order.{cancel-zero}
-use Rattle.qh_model.proofs.algebra.VectorIdentities.{vector_path, left-dot, left-linear, left-turn, left-flip, in_line-twice}
+use Rattle.std.proofs.Math.Nat.{ne_of_lt}
+use Rattle.std.specs.Prelude.{ℤ, pos, neg_ℤ, ◌+ℤ◌, ◌*ℤ◌, ◌≤ℤ◌, ◌<ℤ◌, ◌↔◌}
+use Rattle.qh_model.proofs.algebra.Order.{cancel-zero, le_less}
+use Rattle.qh_model.proofs.algebra.VectorIdentities.{vector_path, left-dot, left-linear, left-turn, left-flip, in_line-twice, in_line-last, dot_comm}
+use Rattle.qh_model.proofs.algebra.Integers.{zero_mul}
 use Rattle.qh_model.proofs.extremes.Directions.{Parallel, parallel_normal, in_line-flip, square-positive}
 use Rattle.qh_model.specs.Extreme.{Extreme}
 use Rattle.qh_model.specs.Polygon.{IsPolygon, TurnsLeft}
@@ -11,12 +13,10 @@ use Rattle.qh_model.specs.Predicates.{place, cross, left, AreInLine}
 use Rattle.qh_model.specs.Sets.{In, Members}
 use Rattle.qh_model.specs.Vector.{Vector, origin, minus, cross_product, dot}
 use Rattle.qh_plane.proofs.LinesAndPlanes.{three_line, same_point}
-use Rattle.qh_plane.proofs.Members.{less_differ}
 use Rattle.qh_plane.proofs.polygons.Chain.{is_left-yes, is_left-no}
 use Rattle.qh_plane.proofs.polygons.Corners.{Corner, corner_extreme}
 use Rattle.qh_plane.proofs.polygons.PlanarIds.{flat_of}
 use Rattle.qh_plane.proofs.polygons.Turns.{IsFlat, left-back, left-there}
-use Rattle.qh_plane.proofs.Signs.{le_less}
 use Rattle.qh_plane.specs.Chains.{is_left, turn_of, triangle}
 use Rattle.qh_plane.specs.PlanarSets.{IsPlanarSet}
 
@@ -40,7 +40,7 @@ left_triangle : (n : Vector) (at : ℕ → Vector) (A : ℕ → Type 0) (a b c :
     → pos 0 <ℤ left n (at a) (at b) (at c) → IsPolygon at (Extreme at A) n (a ∷ b ∷ c ∷ [])
 left_triangle n at A a b c l ab ac bc h = record {
   members = λ x. (λ i. corner_extreme at A x (corner x i), λ e. (l x).0 e.0);
-  once = (λ i. ⊎_elim (less_differ a b ab) (λ j. ⊎_elim (less_differ a c ac) (λ k. k) j) i, (λ i. ⊎_elim bc (λ k. k) i, (λ k. k, tt)));
+  once = (λ i. ⊎_elim (ne_of_lt ab) (λ j. ⊎_elim (ne_of_lt ac) (λ k. k) j) i, (λ i. ⊎_elim bc (λ k. k) i, (λ k. k, tt)));
   round = (turns_ab, (turns_bc, turns_ca));
   least = λ v i. ⊎_elim (λ e. at_most a b v ab e) (λ j. ⊎_elim (λ e. at_most a c v ac e) (λ k. absurd k) j) i;
 }
@@ -87,14 +87,6 @@ left_triangle n at A a b c l ab ac bc h = record {
 in_line-back : (a b : Vector) → AreInLine a b a
 in_line-back a b = in_line-flip a b a (in_line-twice a b)
 
--- and one that is the other
-in_line-there : (a b : Vector) → AreInLine a b b
-unfolding cross
-in_line-there a b = vector_path (cross a b b) origin (level (b.y -ℤ a.y) (b.z -ℤ a.z)) (level (b.z -ℤ a.z) (b.x -ℤ a.x)) (level (b.x -ℤ a.x) (b.y -ℤ a.y))
-  where
-    level : (p q : ℤ) → p *ℤ q -ℤ q *ℤ p ≡ pos 0
-    level p q = omega (arith, ints)
-
 -- no turn about the normal of the plane: the three are in line
 turn_zero : (n a b c : Vector) → pos 0 <ℤ dot n n → dot n (minus b a) ≡ pos 0 → dot n (minus c a) ≡ pos 0 → left n a b c ≡ pos 0 → AreInLine a b c
 turn_zero n a b c s p q z = vector_path (cross a b c) origin (none n.x (cross a b c).x along.x) (none n.y (cross a b c).y along.y) (none n.z (cross a b c).z along.z)
@@ -102,14 +94,8 @@ turn_zero n a b c s p q z = vector_path (cross a b c) origin (none n.x (cross a 
     along : Parallel n (cross a b c)
     along = parallel_normal n a b c p q
 
-    commuted : (u v : Vector) → dot u v ≡ dot v u
-    commuted u v = omega (arith, ints)
-
-    zero_times : (x : ℤ) → pos 0 *ℤ x ≡ pos 0
-    zero_times x = omega (arith, ints)
-
     none : (x y : ℤ) → dot n n *ℤ y ≡ dot n (cross a b c) *ℤ x → y ≡ pos 0
-    none x y e = cancel-zero (dot n n) y s (e ∙ ap (λ t. t *ℤ x) (commuted n (cross a b c) ∙ sym (left-dot n a b c) ∙ z) ∙ zero_times x)
+    none x y e = cancel-zero (dot n n) y s (e ∙ ap (λ t. t *ℤ x) (dot_comm n (cross a b c) ∙ sym (left-dot n a b c) ∙ z) ∙ zero_mul x)
 
 module _ (pts : List Vector) (n : Vector) (i j k : ℕ) (h : IsPlanarSet pts (i ∷ j ∷ k ∷ []) n) (ij : i < j) (jk : j < k) where
   -- they are flat across the normal
@@ -124,11 +110,11 @@ module _ (pts : List Vector) (n : Vector) (i j k : ℕ) (h : IsPlanarSet pts (i 
       line = turn_zero n (place pts i) (place pts j) (place pts k) flat.some (flat.even i j (inl refl) (inr (inl refl))) (flat.even i k (inl refl) (inr (inr (inl refl)))) z
 
       apart : pos 0 <ℤ dot (minus (place pts j) (place pts i)) (minus (place pts j) (place pts i))
-      apart = square-positive (minus (place pts j) (place pts i)) (λ e. less_differ i j ij (h.set.distinct i j (inl refl) (inr (inl refl)) (same_point (place pts i) (place pts j) e)))
+      apart = square-positive (minus (place pts j) (place pts i)) (λ e. ne_of_lt ij (h.set.distinct i j (inl refl) (inr (inl refl)) (same_point (place pts i) (place pts j) e)))
 
       each : (x : ℕ) → In x (i ∷ j ∷ k ∷ []) → AreInLine (place pts i) (place pts j) (place pts x)
       each x (inl e) = subst (λ t. AreInLine (place pts i) (place pts j) (place pts t)) (sym e) (in_line-back (place pts i) (place pts j))
-      each x (inr (inl e)) = subst (λ t. AreInLine (place pts i) (place pts j) (place pts t)) (sym e) (in_line-there (place pts i) (place pts j))
+      each x (inr (inl e)) = subst (λ t. AreInLine (place pts i) (place pts j) (place pts t)) (sym e) (in_line-last (place pts i) (place pts j))
       each x (inr (inr (inl e))) = subst (λ t. AreInLine (place pts i) (place pts j) (place pts t)) (sym e) line
       each x (inr (inr (inr m))) = absurd m
 
@@ -158,8 +144,8 @@ module _ (pts : List Vector) (n : Vector) (i j k : ℕ) (h : IsPlanarSet pts (i 
           flipped x y e l = omega (arith, ints)
 
       by_side : (b : Bool) → is_left (turn_of pts n i j k) ≡ b → IsPolygon (place pts) (Extreme (place pts) (Members (i ∷ j ∷ k ∷ []))) n (cond b (i ∷ j ∷ k ∷ []) (i ∷ k ∷ j ∷ []))
-      by_side true e = left_triangle n (place pts) (Members (i ∷ j ∷ k ∷ [])) i j k (λ x. (λ m. m, λ m. m)) ij ik (less_differ j k jk) (is_left-yes _ e)
-      by_side false e = left_triangle n (place pts) (Members (i ∷ j ∷ k ∷ [])) i k j (λ x. (exchanged x, back x)) ik ij (λ q. less_differ j k jk (sym q))
+      by_side true e = left_triangle n (place pts) (Members (i ∷ j ∷ k ∷ [])) i j k (λ x. (λ m. m, λ m. m)) ij ik (ne_of_lt jk) (is_left-yes _ e)
+      by_side false e = left_triangle n (place pts) (Members (i ∷ j ∷ k ∷ [])) i k j (λ x. (exchanged x, back x)) ik ij (λ q. ne_of_lt jk (sym q))
           (turned _ _ (left-flip n (place pts i) (place pts k) (place pts j)) (is_left-no _ e) turns)
 
 -- ---- the same of a list of three

@@ -4,6 +4,7 @@ use Rattle.std.proofs.lemmas.Int.{ints}
 use Rattle.std.specs.Prelude.{ℤ, pos, ◌+ℤ◌, neg_ℤ, ◌≤ℤ◌, ◌<ℤ◌}
 use Rattle.qh_model.proofs.algebra.Ring.{Expr, ring}
 use Rattle.qh_model.proofs.algebra.VectorIdentities.{vec, subE, crossE, dotE, put, left-flip, dot-minus, left-turn}
+use Rattle.qh_model.proofs.algebra.Signs.{opposite_nonneg}
 use Rattle.qh_model.specs.Vector.{Vector, minus, dot}
 use Rattle.qh_model.specs.Predicates.{left}
 use Rattle.qh_plane.proofs.PlaneDirections.{bracket, bracket-fan, fan_sign, fan_sign_left}
@@ -69,10 +70,6 @@ turn_about n at u v w = left n (at u) (at v) (at w)
 abbrev pub height_of : Vector → (ℕ → Vector) → ℕ → ℤ
 height_of h at u = dot h (at u)
 
--- not to the left, turned about
-other_side : (x y : ℤ) → x ≡ neg_ℤ y → x ≤ℤ pos 0 → pos 0 ≤ℤ y
-other_side x y e h = omega (arith, ints)
-
 -- the way between two ids
 abbrev pub step : (ℕ → Vector) → ℕ → ℕ → Vector
 step at u v = minus (at v) (at u)
@@ -83,7 +80,7 @@ turn_laws n h at A flat keyed = record {
   about = λ t c x y at' ac ax ay tc tx ty nl l. subst (λ v. pos 0 ≤ℤ v) (sym (left-bracket n (at t) (at y) (at x)))
       (fan_sign (bracket n (step at t y) (step at t x)) (dot h (step at t c)) (bracket n (step at t y) (step at t c)) (dot h (step at t x)) (bracket n (step at t c) (step at t x)) (dot h (step at t y))
       (bracket-fan n h (step at t y) (step at t c) (step at t x) flat.some (flat.even t y at' ay) (flat.even t c at' ac) (flat.even t x at' ax)) (fwd t y ty) (fwd t c tc) (fwd t x tx)
-      (subst (λ v. pos 0 ≤ℤ v) (left-bracket n (at t) (at y) (at c)) (other_side _ _ (left-flip n (at t) (at c) (at y)) nl))
+      (subst (λ v. pos 0 ≤ℤ v) (left-bracket n (at t) (at y) (at c)) (opposite_nonneg _ _ (left-flip n (at t) (at c) (at y)) nl))
       (subst (λ v. pos 0 ≤ℤ v) (left-bracket n (at t) (at c) (at x)) l));
   onward = λ u v w y au av aw ay uv vw vy sh l. subst (λ v. pos 0 <ℤ v) (sym (left-middle n (at u) (at v) (at y)))
       (fan_sign_left (bracket n (step at u v) (step at v y)) (dot h (step at v w)) (bracket n (step at u v) (step at v w)) (dot h (step at v y)) (bracket n (step at v w) (step at v y)) (dot h (step at u v))

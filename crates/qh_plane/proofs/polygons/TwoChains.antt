@@ -3,10 +3,11 @@ use Rattle.std.proofs.Common.{◌≡◌, ℕ, refl, List, [], ◌∷◌, arith, 
 use Rattle.std.proofs.lemmas.Int.{ints, by_lt_z}
 use Rattle.std.specs.Prelude.{ℤ, pos, neg_ℤ, ◌≤ℤ◌, ◌<ℤ◌, ◌↔◌}
 use native.Mathlib.Decide.{ℕ_discrete}
-use Rattle.qh_model.proofs.algebra.Order.{le_antisym, mul-nonneg_nonpos}
+use Rattle.qh_model.proofs.algebra.Order.{le_antisym, mul-nonneg_nonpos, le_less}
 use Rattle.qh_model.proofs.algebra.Ring.{ring}
 use Rattle.qh_model.proofs.algebra.Ring.Expr.{neg}
 use Rattle.qh_model.proofs.algebra.VectorIdentities.{vec, crossE, dotE, put, opposite, oppositeE, dot-opposite}
+use Rattle.qh_model.proofs.algebra.Signs.{not_less, opposite_same, neg_le, le_neg, neg_lt, lt_neg}
 use Rattle.qh_model.specs.Vector.{Vector, cross_product, dot}
 use Rattle.qh_model.specs.Sets.{In, Once}
 use Rattle.qh_model.specs.Extreme.{Extreme, Others}
@@ -14,7 +15,6 @@ use Rattle.qh_model.specs.Separator.{Separator}
 use Rattle.qh_model.specs.Polygon.{AroundCycle, TurnsLeft}
 use Rattle.qh_model.proofs.extremes.ExtremeIds.{combination_within, alternative_in, listed_itself}
 use Rattle.qh_model.proofs.polygons.Direction.{cycle_map}
-use Rattle.qh_plane.proofs.Signs.{not_less, le_less, opposite_same, neg_le, le_neg, neg_lt, lt_neg}
 use Rattle.qh_plane.proofs.polygons.TurnLaws.{IsChain}
 use Rattle.qh_plane.proofs.polygons.Turns.{IsFlat, IsKeyed, turn_about, height_of, turn_laws}
 use Rattle.qh_plane.proofs.polygons.Corners.{Corner, greatest_corner, corner_extreme, core, strict}

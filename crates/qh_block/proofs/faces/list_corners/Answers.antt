@@ -1,10 +1,11 @@
 use Rattle.qh_mesh.specs.Replacement.{number}
-use Rattle.qh_block.proofs.finished.Extensions.{listed_at}
+use Rattle.qh_mesh.proofs.ListedFacets.{listed_at}
 use Rattle.qh_block.proofs.finished.Corners.{corners_more}
 use Rattle.qh_block.proofs.faces.list_corners.Goals as goal
+use Rattle.std.proofs.Common.{refl}
 
 pub facet-requires : goal.facet-requires
-facet-requires c = c.requires (number c.args.facets.now c.loop-f.f-index) (listed_at c.args.facets.now c.loop-f.f-index c.loop-f-test.true)
+facet-requires c = c.requires (number c.args.facets.now c.loop-f.f-index) (listed_at c.args.facets.now (number c.args.facets.now c.loop-f.f-index) c.loop-f.f-index c.loop-f-test.true refl)
 
 pub loop-f-preserved : goal.loop-f-preserved
 loop-f-preserved c =

@@ -1,8 +1,9 @@
 use Rattle.std.proofs.Common.{subst}
 use Rattle.qh_model.specs.Predicates.{place}
 use Rattle.qh_block.specs.PlaneWalks.{IsCrossed}
-use Rattle.qh_block.proofs.finished.Extensions.{extension_trans, crossed_grows, three_edges}
+use Rattle.qh_block.proofs.finished.Extensions.{extension_trans, crossed_grows}
 use Rattle.qh_block.proofs.plane_walk.cross_edges.Goals as goal
+use Rattle.qh_block.proofs.FacetEdges.{three_edges}
 
 pub returns-clause-grown : goal.returns-clause-grown
 returns-clause-grown c =

@@ -1,21 +1,24 @@
-use Rattle.std.proofs.Common.{rules, set, ◌≡◌, ◌∙◌, ◌<◌, ◌++◌, List, [], ◌∷◌, length, arith, ap, sym, subst, true}
+use Rattle.std.proofs.Common.{rules, set, ◌≡◌, ◌∙◌, ◌<◌, ◌++◌, List, [], ◌∷◌, length, arith, ap, sym, subst, true, refl}
+use Rattle.std.proofs.lemmas.Bool.{or_left}
 use Rattle.qh_model.specs.Predicates.{place}
 use Rattle.qh_model.specs.StoredSurface.{surface_of}
 use Rattle.qh_model.proofs.surfaces.FacetPlanes.{level_itself}
 use Rattle.qh_mesh.specs.declared.facets.FacetNo.{FacetNo}
-use Rattle.qh_mesh.specs.Replacement.{is_listed}
+use Rattle.qh_mesh.specs.Replacement.{is_listed, number}
+use Rattle.qh_mesh.proofs.ListedFacets.{listed_at}
 use Rattle.qh_block.specs.PlaneWalks.{IsExtension}
-use Rattle.qh_block.proofs.finished.Extensions.{live_within, extension_one, extension_trans, listed_at, listed_append, or_left, read_number, walked_live, walked_level, crossed_more, crossed_all}
+use Rattle.qh_block.proofs.finished.Extensions.{extension_one, extension_trans, listed_append, read_number, walked_live, walked_level, crossed_more, crossed_all}
 use Rattle.qh_block.proofs.plane_walk.walk_plane.Goals as goal
+use Rattle.qh_block.proofs.LiveFacets.{live_below}
 
 pub loop-next-init : goal.loop-next-init
 loop-next-init c =
     let at = place c.args.pts.now in let fs = c.args.mesh.now in let s = c.args.start in
     let is : c.push.new.self.items ≡ s ∷ [] = c.in_ok-push.ensures.items ∙ ap (λ (xs : List FacetNo). xs ++ s ∷ []) c.clear.ensures.items in
-    let within : s.0 < length c.args.marks.now = let l = live_within fs s.0 c.requires.start in let r = c.requires.room in omega arith in
+    let within : s.0 < length c.args.marks.now = let l = live_below fs s.0 c.requires.start in let r = c.requires.room in omega arith in
     record {
       grown = subst (λ (xs : List FacetNo). IsExtension at fs s.0 c.args.marks.now (set c.args.marks.now s.0 true) [] xs) (sym is) (extension_one at fs s.0 c.args.marks.now s within c.requires.fresh c.requires.start (level_itself at (surface_of fs) s.0));
-      has = subst (λ (xs : List FacetNo). is_listed xs s.0 ≡ true) (sym is) (listed_at (s ∷ []) 0 (omega arith));
+      has = subst (λ (xs : List FacetNo). is_listed xs s.0 ≡ true) (sym is) (listed_at (s ∷ []) s.0 0 (omega arith) refl);
       crossed = λ j h. absurd (omega (arith, h));
     }
 
@@ -23,13 +26,13 @@ pub cross_edges-requires-clause-live : goal.cross_edges-requires-clause-live
 cross_edges-requires-clause-live c =
     let h : c.loop-next.next < length c.loop-next.facets.items = search rules in
     walked_live (place c.args.pts.now) c.args.mesh.now c.args.start.0 c.args.marks.now c.loop-next.marks c.loop-next.facets.items c.loop-next.invariant.grown c.index-f.result.now.0
-    (subst (λ g. is_listed c.loop-next.facets.items g ≡ true) (read_number c.loop-next.facets.items c.loop-next.next c.index-f.result.now h c.index-f.ensures) (listed_at c.loop-next.facets.items c.loop-next.next h))
+    (subst (λ g. is_listed c.loop-next.facets.items g ≡ true) (read_number c.loop-next.facets.items c.loop-next.next c.index-f.result.now h c.index-f.ensures) (listed_at c.loop-next.facets.items (number c.loop-next.facets.items c.loop-next.next) c.loop-next.next h refl))
 
 pub cross_edges-requires-clause-level : goal.cross_edges-requires-clause-level
 cross_edges-requires-clause-level c =
     let h : c.loop-next.next < length c.loop-next.facets.items = search rules in
     walked_level (place c.args.pts.now) c.args.mesh.now c.args.start.0 c.args.marks.now c.loop-next.marks c.loop-next.facets.items c.loop-next.invariant.grown c.index-f.result.now.0
-    (subst (λ g. is_listed c.loop-next.facets.items g ≡ true) (read_number c.loop-next.facets.items c.loop-next.next c.index-f.result.now h c.index-f.ensures) (listed_at c.loop-next.facets.items c.loop-next.next h))
+    (subst (λ g. is_listed c.loop-next.facets.items g ≡ true) (read_number c.loop-next.facets.items c.loop-next.next c.index-f.result.now h c.index-f.ensures) (listed_at c.loop-next.facets.items (number c.loop-next.facets.items c.loop-next.next) c.loop-next.next h refl))
 
 pub loop-next-preserved : goal.loop-next-preserved
 loop-next-preserved c =

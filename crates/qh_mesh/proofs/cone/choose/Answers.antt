@@ -1,9 +1,9 @@
 use Rattle.std.proofs.Common.{◌≡◌, ◌-◌, ◌/◌, ◌<◌, ◌≤◌, length, take, arith, ap, ◌∙◌}
 use Rattle.std.specs.Prelude.{vec_len}
 use Rattle.qh_mesh.specs.Replacement.{at}
-use Rattle.qh_mesh.proofs.Weaving.{by_le}
-use Rattle.qh_mesh.proofs.PlaceLemmas.{places_more, at_take, take_take}
+use Rattle.qh_mesh.proofs.ConePlaces.{places_more, at_take, take_take}
 use Rattle.qh_mesh.proofs.cone.choose.Goals as goal
+use Rattle.qh_mesh.proofs.NumberCases.{by_le}
 
 pub loop-j-preserved : goal.loop-j-preserved
 loop-j-preserved c =

@@ -1,6 +1,6 @@
 use Rattle.std.proofs.Common.{ℕ, ◌≡◌, ◌<◌, ◌≤◌, ◌+◌, ◌-◌}
 use Rattle.std.specs.Prelude.{vec_len, vec_capacity}
-use Rattle.qh_mesh.specs.Cells.{Released}
+use Rattle.qh_mesh.specs.ConeSteps.{Released}
 use Rattle.qh_mesh.specs.Replacement.{at, number}
 use Rattle.qh_mesh.proofs.cone.release.Given as goal
 

@@ -1,9 +1,9 @@
 use Rattle.std.proofs.Common.{◌<◌, length, arith, refl, ◌∙◌}
 use Rattle.std.proofs.lemmas.List.{length-set}
 use Rattle.qh_mesh.specs.Replacement.{number}
-use Rattle.qh_block.proofs.WalkSteps.{live_below}
 use Rattle.qh_block.proofs.runs.RenewedPlanes.{none_renewed, more_renewed, all_renewed}
 use Rattle.qh_block.proofs.quickhull.planes.renew.Goals as goal
+use Rattle.qh_block.proofs.LiveFacets.{live_below}
 
 pub loop-facet-init : goal.loop-facet-init
 loop-facet-init c = record { len = refl; renewed = none_renewed c.args.pts.now c.args.mesh.now c.args.planes.now.items c.args.made.now }

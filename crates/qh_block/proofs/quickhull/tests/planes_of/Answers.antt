@@ -1,6 +1,5 @@
 use Rattle.std.proofs.Common.{◌∙◌, length-set, arith}
-use Rattle.qh_block.proofs.WalkSteps.{live_below}
-use Rattle.qh_block.proofs.LiveFacets.{all_live, next_live, rest_live}
+use Rattle.qh_block.proofs.LiveFacets.{all_live, next_live, rest_live, live_below}
 use Rattle.qh_block.proofs.quickhull.tests.planes_of.Goals as goal
 
 pub loop-f-init : goal.loop-f-init

@@ -7,8 +7,9 @@ use Rattle.qh_mesh.specs.declared.facets.FacetNo.{FacetNo}
 use Rattle.qh_mesh.specs.Replacement.{IsLive}
 use Rattle.qh_block.specs.Planes.{no_plane, plane_at}
 use Rattle.qh_block.specs.Walks.{IsWalk}
-use Rattle.qh_block.proofs.WalkSteps.{has_room, passed, joined_walk, live_below}
+use Rattle.qh_block.proofs.WalkSteps.{has_room, passed, joined_walk}
 use Rattle.qh_block.proofs.quickhull.walk.cross.Goals as goal
+use Rattle.qh_block.proofs.LiveFacets.{live_below}
 
 -- the plane that was read is the facet's
 plane_read : (fs : List StoredFacet) (ps : List PlaneValue) (g : ℕ) (p : PlaneValue) → IsLive fs g → length fs ≤ length ps → p ≡ get_or ps g p → p ≡ plane_at ps g

@@ -1,4 +1,4 @@
-use Rattle.std.proofs.Common.{ℕ, ◌<◌, List, length, get_or}
+use Rattle.std.proofs.Common.{ℕ, List, get_or}
 use Rattle.qh_model.specs.Vector.{Vector}
 use Rattle.qh_model.specs.DistinctIds.{AreDistinctIds}
 use Rattle.qh_model.proofs.Members.{In-get_or}

@@ -7,7 +7,8 @@ use Rattle.qh_model.specs.Vector.{Vector}
 use Rattle.qh_model.specs.Predicates.{place}
 use Rattle.qh_model.specs.Weighted.{Weighted}
 use Rattle.qh_model.specs.FinishedSurface.{middle_at}
-use Rattle.qh_mesh.specs.Cells.{IsSurface, AreLive, Replaced}
+use Rattle.qh_mesh.specs.Cells.{IsSurface, AreLive}
+use Rattle.qh_mesh.specs.ReplacedSides.{Replaced}
 use Rattle.qh_mesh.specs.SoundMesh.{IsSoundMesh, AreVisible}
 use Rattle.qh_mesh.proofs.StoredSides.{has_twins}
 use Rattle.qh_mesh.proofs.Rewiring.{IsStep, rewired}

@@ -2,9 +2,9 @@
 use Rattle.std.proofs.Common.{◌≡◌, ℕ, ◌+◌, ◌-◌, ◌<◌, ◌≤◌, arith, ap, ◌∙◌, List, [], ◌∷◌, ◌++◌, length, take}
 use Rattle.std.proofs.lemmas.List.{get_or-take, get_or_append_left, get_or_push, length_push}
 use Rattle.qh_mesh.specs.declared.facets.FacetNo.{FacetNo}
-use Rattle.qh_mesh.specs.Cells.{Places}
+use Rattle.qh_mesh.specs.ConeSteps.{Places}
 use Rattle.qh_mesh.specs.Replacement.{at, number}
-use Rattle.qh_mesh.proofs.StepLemmas.{below_next}
+use Rattle.qh_mesh.proofs.NumberCases.{below_next}
 
 -- one more place is chosen
 pub places_more : (vs : List FacetNo) (free : List ℕ) (n k : ℕ) (made new : List FacetNo) (p : FacetNo) → Places vs free n k made → new ≡ made ++ p ∷ []

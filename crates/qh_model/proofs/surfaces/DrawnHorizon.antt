@@ -1,115 +1,23 @@
--- The rim at drawn places: where one of its sides ends exactly one begins.
+-- The horizon at drawn places: where one of its sides ends exactly one begins.
 use Rattle.qh_model.specs.Surface.{IsCorner, Side, Surface, HasTwin, IsWhole, end, far, rest, rise, start}
 use Rattle.qh_model.specs.Sets.{In}
 use Rattle.qh_model.specs.SoundSurface.{IsSound, IsStrict}
 use Rattle.qh_model.specs.Weighted.{Weighted, above}
-use Rattle.std.proofs.Common.{◌≡◌, ◌≢◌, ℕ, refl, [], ◌∷◌, arith, ap, sym, ◌∙◌, subst, ◌⊎◌, inl, inr, Bool, true, false}
+use Rattle.std.proofs.Common.{◌≡◌, ◌≢◌, ℕ, refl, [], ◌∷◌, ap, sym, ◌∙◌, subst, ◌⊎◌, inl, inr, Bool, true, false}
 use native.Mathlib.Decide.{ℕ_discrete}
-use Rattle.std.proofs.lemmas.Int.{ints}
+use Rattle.std.proofs.lemmas.Bool.{and_parts}
 use Rattle.std.specs.Prelude.{ℤ, pos, ◌-ℤ◌, ◌*ℤ◌, neg_ℤ, ◌<ℤ◌, ◌&&◌}
 use Rattle.qh_model.proofs.algebra.Order.{mul-neg_neg, neg-positive}
 use Rattle.qh_model.proofs.algebra.Ring.{ring}
 use Rattle.qh_model.proofs.algebra.Ring.Expr.{var, sub as less, mul, neg}
+use Rattle.qh_model.proofs.algebra.Signs.{less_one_way, equal_nonpos, equal_negative, equal_positive, opposite_nonneg, opposite_positive, opposite_negative}
 use Rattle.qh_model.proofs.surfaces.VisibleFacets.{Least, least}
 use Rattle.qh_model.proofs.surfaces.Facets.{rise_side, rise_over, bends, weak, positive, positive-is, positive-true, corner_end, corner_rest, corner_test, ends_differ, rest_differs}
-use Rattle.qh_model.specs.Surface.Side.{first, second, third}
-use Rattle.qh_model.proofs.surfaces.Determinants.{quad, aboveE, put4, above-turn}
+use Rattle.qh_model.proofs.surfaces.FacetSides.{side_next, start_next, end_next, from, from_is}
+use Rattle.qh_model.proofs.surfaces.Determinants.{above-turn, swap24, turned_first}
 use Rattle.qh_model.proofs.surfaces.PlanesThroughLine.{line_product}
-use Rattle.qh_model.proofs.surfaces.Cone.{Old, over_flip, opposite_nonneg, opposite_positive, equal_le, equal_negative, equal_positive, cone_strict, below_one}
+use Rattle.qh_model.proofs.surfaces.Cone.{Old, over_flip, cone_strict, below_one}
 use Rattle.qh_model.proofs.surfaces.KeptSound.{edge_once, side_once}
-use Rattle.qh_model.proofs.Booleans.{both_true}
-
--- ---- orders of four
--- the second and the fourth change places
-swap24 : (a b c d : Weighted) → above a d c b ≡ neg_ℤ (above a b c d)
-unfolding above
-swap24 a b c d = ring (put4 a (put4 b (put4 c (put4 d [])))) (aboveE (quad 0) (quad 3) (quad 2) (quad 1)) (neg (aboveE (quad 0) (quad 1) (quad 2) (quad 3))) refl
-
--- the second and the third change places
-pub swap23 : (a b c d : Weighted) → above a c b d ≡ neg_ℤ (above a b c d)
-unfolding above
-swap23 a b c d = ring (put4 a (put4 b (put4 c (put4 d [])))) (aboveE (quad 0) (quad 2) (quad 1) (quad 3)) (neg (aboveE (quad 0) (quad 1) (quad 2) (quad 3))) refl
-
--- another odd order
-turned_first : (v t x y : Weighted) → above x v y t ≡ neg_ℤ (above v t x y)
-unfolding above
-turned_first v t x y = ring (put4 v (put4 t (put4 x (put4 y [])))) (aboveE (quad 2) (quad 0) (quad 3) (quad 1)) (neg (aboveE (quad 0) (quad 1) (quad 2) (quad 3))) refl
-
--- the last three turn
-pub turned_last : (u t y z : Weighted) → above u y z t ≡ above u t y z
-unfolding above
-turned_last u t y z = ring (put4 u (put4 t (put4 y (put4 z [])))) (aboveE (quad 0) (quad 2) (quad 3) (quad 1)) (aboveE (quad 0) (quad 1) (quad 2) (quad 3)) refl
-
--- ---- sides in turn
-abbrev pub side_next : Side → Side
-side_next first = second
-side_next second = third
-side_next third = first
-
--- the side before
-abbrev pub side_prev : Side → Side
-side_prev first = third
-side_prev second = first
-side_prev third = second
-
--- the next side starts where this one ends
-start_next : (m : Surface) (f : ℕ) (s : Side) → start m f (side_next s) ≡ end m f s
-start_next m f first = refl
-start_next m f second = refl
-start_next m f third = refl
-
--- and ends at the id across
-end_next : (m : Surface) (f : ℕ) (s : Side) → end m f (side_next s) ≡ rest m f s
-end_next m f first = refl
-end_next m f second = refl
-end_next m f third = refl
-
--- the side before starts at the id across
-pub start_prev : (m : Surface) (f : ℕ) (s : Side) → start m f (side_prev s) ≡ rest m f s
-start_prev m f first = refl
-start_prev m f second = refl
-start_prev m f third = refl
-
--- and ends where this one starts
-pub end_prev : (m : Surface) (f : ℕ) (s : Side) → end m f (side_prev s) ≡ start m f s
-end_prev m f first = refl
-end_prev m f second = refl
-end_prev m f third = refl
-
--- the side that starts at v
-pick_side : {P Q : Type 0} → Dec P → Dec Q → Side
-pick_side (yes a) b = first
-pick_side (no a) (yes b) = second
-pick_side (no a) (no b) = third
-
--- the side itself
-pub from : (m : Surface) (f v : ℕ) → Side
-from m f v = pick_side (ℕ_discrete v (m.i f)) (ℕ_discrete v (m.j f))
-
--- it starts there
-pub from_is : (m : Surface) (f v : ℕ) → IsCorner m f v → start m f (from m f v) ≡ v
-unfolding from pick_side
-from_is m f v c = split (ℕ_discrete v (m.i f)) (ℕ_discrete v (m.j f)) c
-  where
-    split : (a : Dec (v ≡ m.i f)) (b : Dec (v ≡ m.j f)) → IsCorner m f v → start m f (pick_side a b) ≡ v
-    split (yes a) b k = sym a
-    split (no a) (yes b) k = sym b
-    split (no a) (no b) (inl e) = absurd (a e)
-    split (no a) (no b) (inr (inl e)) = absurd (b e)
-    split (no a) (no b) (inr (inr e)) = sym e
-
--- ---- signs
--- the opposite of a positive number
-back_neg : (x r : ℤ) → x ≡ neg_ℤ r → pos 0 <ℤ x → r <ℤ pos 0
-back_neg x r e h = omega (arith, ints)
-
--- of a negative number
-pub back_pos : (x r : ℤ) → x ≡ neg_ℤ r → x <ℤ pos 0 → pos 0 <ℤ r
-back_pos x r e h = omega (arith, ints)
-
--- no number is above and below 0
-pub apart_signs : (x : ℤ) → pos 0 <ℤ x → x <ℤ pos 0 → ⊥
-apart_signs x h k = omega (arith, ints)
 
 -- ---- at drawn places: every facet sees top or is seen to be above it
 pub record Scene (m : Surface) (home : ℕ → Weighted) (o : Weighted) : Type 0 where
@@ -121,43 +29,43 @@ pub record Scene (m : Surface) (home : ℕ → Weighted) (o : Weighted) : Type 0
   pub known : (f : ℕ) → In f m.live → (pos 0 <ℤ rise m at f top) ⊎ (rise m at f top <ℤ pos 0)
 
 -- a side of the horizon
-pub record Rim (m : Surface) (at : ℕ → Weighted) (top : Weighted) (f : ℕ) (s : Side) : Type 0 where
+pub record HorizonSide (m : Surface) (at : ℕ → Weighted) (top : Weighted) (f : ℕ) (s : Side) : Type 0 where
   pub live : In f m.live
   pub seen : pos 0 <ℤ rise m at f top
   pub blind : rise m at (m.over f s) top <ℤ pos 0
 
--- all other corners are strictly below the plane through a rim side and top
-pub rim_below : (m : Surface) (home : ℕ → Weighted) (o : Weighted) (c : Scene m home o) (f : ℕ) (s : Side) → Rim m c.at c.top f s → (l : ℕ) → Old m l → l ≢ start m f s → l ≢ end m f s
+-- all other corners are strictly below the plane through a horizon side and top
+pub horizon_below : (m : Surface) (home : ℕ → Weighted) (o : Weighted) (c : Scene m home o) (f : ℕ) (s : Side) → HorizonSide m c.at c.top f s → (l : ℕ) → Old m l → l ≢ start m f s → l ≢ end m f s
     → above (c.at (start m f s)) (c.at (end m f s)) c.top (c.at l) <ℤ pos 0
-rim_below m home o c f s r l (g, j, k) ns ne =
+horizon_below m home o c f s r l (g, j, k) ns ne =
     cone_strict (c.at (start m f s)) (c.at (end m f s)) (c.at (rest m f s)) (c.at (far m f s)) c.top (c.at l)
     (equal_positive (rise m c.at f c.top) _ (rise_side m c.at f s c.top) r.seen)
     (opposite_positive (rise m c.at (m.over f s) c.top) _ (over_flip m c.at c.whole f r.live s c.top) r.blind)
     (bends m c.at home o c.whole c.sound.inner c.strict f r.live s)
-    (equal_le (rise m c.at f (c.at l)) _ (rise_side m c.at f s (c.at l)) (weak m c.at c.strict f g r.live j l k))
+    (equal_nonpos (rise m c.at f (c.at l)) _ (rise_side m c.at f s (c.at l)) (weak m c.at c.strict f g r.live j l k))
     (opposite_nonneg (rise m c.at (m.over f s) (c.at l)) _ (over_flip m c.at c.whole f r.live s (c.at l)) (weak m c.at c.strict (m.over f s) g (c.whole f r.live s).live j l k))
     (below_one m home o c.whole c.sound.inner c.at c.strict f r.live s l (g, j, k) ns ne)
 
--- a rim side is known by its start, and by its end
-pub rim_once : (m : Surface) (home : ℕ → Weighted) (o : Weighted) (c : Scene m home o) (f g : ℕ) (s t : Side) → Rim m c.at c.top f s → Rim m c.at c.top g t → start m f s ≡ start m g t → (f ≡ g) × (s ≡ t)
-rim_once m home o c f g s t a b e = pick (ℕ_discrete (end m f s) (end m g t))
+-- a horizon side is known by its start, and by its end
+pub horizon_once : (m : Surface) (home : ℕ → Weighted) (o : Weighted) (c : Scene m home o) (f g : ℕ) (s t : Side) → HorizonSide m c.at c.top f s → HorizonSide m c.at c.top g t → start m f s ≡ start m g t → (f ≡ g) × (s ≡ t)
+horizon_once m home o c f g s t a b e = pick (ℕ_discrete (end m f s) (end m g t))
   where
     same : end m f s ≡ end m g t → (f ≡ g) × (s ≡ t)
     same k = let q = edge_once m home o c.sound f g a.live b.live s t e k in (q, side_once m home o c.sound.inner g b.live s t (ap (λ h. start m h s) (sym q) ∙ e))
 
     never : end m f s ≢ end m g t → ⊥
     never n =
-        apart_signs (above (c.at (start m f s)) (c.at (end m f s)) c.top (c.at (end m g t)))
-        (back_pos (above (c.at (start m f s)) (c.at (end m g t)) c.top (c.at (end m f s))) _ (swap24 (c.at (start m f s)) (c.at (end m f s)) c.top (c.at (end m g t)))
+        less_one_way (pos 0) (above (c.at (start m f s)) (c.at (end m f s)) c.top (c.at (end m g t)))
+        (opposite_positive (above (c.at (start m f s)) (c.at (end m g t)) c.top (c.at (end m f s))) _ (swap24 (c.at (start m f s)) (c.at (end m f s)) c.top (c.at (end m g t)))
         (subst (λ u. above (c.at u) (c.at (end m g t)) c.top (c.at (end m f s)) <ℤ pos 0) (sym e)
-        (rim_below m home o c g t b (end m f s) (f, a.live, corner_end m f s) (λ q. ends_differ m home o c.sound.inner f a.live s (e ∙ sym q)) n)))
-        (rim_below m home o c f s a (end m g t) (g, b.live, corner_end m g t) (λ q. ends_differ m home o c.sound.inner g b.live t (sym e ∙ sym q)) (λ q. n (sym q)))
+        (horizon_below m home o c g t b (end m f s) (f, a.live, corner_end m f s) (λ q. ends_differ m home o c.sound.inner f a.live s (e ∙ sym q)) n)))
+        (horizon_below m home o c f s a (end m g t) (g, b.live, corner_end m g t) (λ q. ends_differ m home o c.sound.inner g b.live t (sym e ∙ sym q)) (λ q. n (sym q)))
 
     pick : Dec (end m f s ≡ end m g t) → (f ≡ g) × (s ≡ t)
     pick (yes k) = same k
     pick (no n) = absurd (never n)
 
--- ---- where a rim side ends another begins
+-- ---- where a horizon side ends another begins
 -- is v a corner of the facet?
 pub has_corner : (m : Surface) (f v : ℕ) → Bool
 has_corner m f v = elim (corner_test m f v) [ inl c ↦ true | inr n ↦ false ]
@@ -180,16 +88,16 @@ has_corner-true m f v c = pick (corner_test m f v)
     pick (inl k) = refl
     pick (inr n) = absurd (n c)
 
--- a rim side that starts at v
+-- a horizon side that starts at v
 pub record Joined (m : Surface) (at : ℕ → Weighted) (top : Weighted) (v : ℕ) : Type 0 where
   pub f : ℕ
   pub s : Side
-  pub rim : Rim m at top f s
+  pub horizon : HorizonSide m at top f s
   pub starts : start m f s ≡ v
 
--- where a rim side ends another starts
-pub rim_next : (m : Surface) (home : ℕ → Weighted) (o : Weighted) (c : Scene m home o) (f : ℕ) (s : Side) → Rim m c.at c.top f s → Joined m c.at c.top (end m f s)
-rim_next m home o c f s r = pick (least mark p q m.live (λ g i e. p_pos g i e))
+-- where a horizon side ends another starts
+pub horizon_next : (m : Surface) (home : ℕ → Weighted) (o : Weighted) (c : Scene m home o) (f : ℕ) (s : Side) → HorizonSide m c.at c.top f s → Joined m c.at c.top (end m f s)
+horizon_next m home o c f s r = pick (least mark p q m.live (λ g i e. p_pos g i e))
   where
     at : ℕ → Weighted
     at = c.at
@@ -219,10 +127,10 @@ rim_next m home o c f s r = pick (least mark p q m.live (λ g i e. p_pos g i e))
     q g = neg_ℤ (above (at v) top (at w) (at (out g)))
 
     seen : (g : ℕ) → mark g ≡ true → pos 0 <ℤ rise m at g top
-    seen g e = positive-is (rise m at g top) (both_true (positive (rise m at g top)) (has_corner m g v) e).0
+    seen g e = positive-is (rise m at g top) (and_parts (positive (rise m at g top)) (has_corner m g v) e).0
 
     corner : (g : ℕ) → mark g ≡ true → IsCorner m g v
-    corner g e = has_corner-is m g v (both_true (positive (rise m at g top)) (has_corner m g v) e).1
+    corner g e = has_corner-is m g v (and_parts (positive (rise m at g top)) (has_corner m g v) e).1
 
     marked : (g : ℕ) → pos 0 <ℤ rise m at g top → IsCorner m g v → mark g ≡ true
     marked g a b = rw (positive-true (rise m at g top) a, has_corner-true m g v b) refl
@@ -233,14 +141,14 @@ rim_next m home o c f s r = pick (least mark p q m.live (λ g i e. p_pos g i e))
     t : HasTwin m f s
     t = c.whole f r.live s
 
-    -- the way back over the rim side is no seen facet's
+    -- the way back over the horizon side is no seen facet's
     out_not_u : (g : ℕ) → In g m.live → mark g ≡ true → out g ≢ u
     out_not_u g i e k =
-        apart_signs (rise m at g top) (seen g e)
+        less_one_way (pos 0) (rise m at g top) (seen g e)
         (subst (λ h. rise m at h top <ℤ pos 0) (sym (edge_once m home o c.sound g (m.over f s) i t.live (from m g v) (m.back f s) (starts g e ∙ sym t.start_is) (k ∙ sym t.end_is))) r.blind)
 
     below : (l : ℕ) → Old m l → l ≢ u → l ≢ v → above (at v) top (at u) (at l) <ℤ pos 0
-    below l k a b = equal_negative (above (at u) (at v) top (at l)) _ (above-turn (at u) (at v) top (at l)) (rim_below m home o c f s r l k a b)
+    below l k a b = equal_negative (above (at u) (at v) top (at l)) _ (above-turn (at u) (at v) top (at l)) (horizon_below m home o c f s r l k a b)
 
     p_pos : (g : ℕ) → In g m.live → mark g ≡ true → pos 0 <ℤ p g
     p_pos g i e = neg-positive (above (at v) top (at u) (at (out g))) (below (out g) (g, i, corner_end m g (from m g v)) (out_not_u g i e) (λ k. ends_differ m home o c.sound.inner g i (from m g v) (starts g e ∙ sym k)))
@@ -294,7 +202,7 @@ rim_next m home o c f s r = pick (least mark p q m.live (λ g i e. p_pos g i e))
         less_ =
             products (above (at v) top (at u) (at (out g))) (above (at v) top (at w) (at (out g'))) (above (at v) top (at u) (at (out g'))) (above (at v) top (at w) (at (out g))) (above (at v) top (at u) (at w) *ℤ above (at v) top (at (out g)) (at (out g')))
             (line_product (at v) top (at u) (at w) (at (out g)) (at (out g')))
-            (mul-neg_neg (above (at v) top (at u) (at w)) (above (at v) top (at (out g)) (at (out g'))) vw (back_neg (rise m at g' top) _ rising k))
+            (mul-neg_neg (above (at v) top (at u) (at w)) (above (at v) top (at (out g)) (at (out g'))) vw (opposite_negative (rise m at g' top) _ rising k))
 
     last : (l : Least mark p q m.live) → Joined m at top v
     last l = by (c.known (m.over l.m d) (c.whole l.m l.there d).live)
@@ -304,7 +212,7 @@ rim_next m home o c f s r = pick (least mark p q m.live (λ g i e. p_pos g i e))
 
         by : (pos 0 <ℤ rise m at (m.over l.m d) top) ⊎ (rise m at (m.over l.m d) top <ℤ pos 0) → Joined m at top v
         by (inl k) = let h = further l.m l.there l.marked d refl k in absurd (l.least (m.over l.m d) (c.whole l.m l.there d).live h.0 h.1)
-        by (inr k) = record { f = l.m; s = d; rim = record { live = l.there; seen = seen l.m l.marked; blind = k }; starts = starts l.m l.marked }
+        by (inr k) = record { f = l.m; s = d; horizon = record { live = l.there; seen = seen l.m l.marked; blind = k }; starts = starts l.m l.marked }
 
     pick : ((g : ℕ) → In g m.live → mark g ≡ true → ⊥) ⊎ Least mark p q m.live → Joined m at top v
     pick (inl n) = absurd (n f r.live (marked f r.seen (corner_end m f s)))

@@ -1,0 +1,79 @@
+-- Orders of whole numbers, of equal ones and of opposites.
+use Rattle.std.proofs.Common.{◌≡◌, arith}
+use Rattle.std.proofs.lemmas.Int.{ints}
+use Rattle.std.specs.Prelude.{ℤ, pos, ◌-ℤ◌, neg_ℤ, ◌≤ℤ◌, ◌<ℤ◌}
+
+-- what is less is not as much
+pub not_less : (a b : ℤ) → a <ℤ b → b ≤ℤ a → ⊥
+not_less a b h k = omega (arith, ints)
+
+-- no two numbers are less than each other
+pub less_one_way : (a b : ℤ) → a <ℤ b → b <ℤ a → ⊥
+less_one_way a b h k = omega (arith, ints)
+
+-- what is less is not equal
+pub less_differ : (a b : ℤ) → a <ℤ b → a ≡ b → ⊥
+less_differ a b h e = omega (arith, ints)
+
+-- what is less is at most as much
+pub less_le : (a b : ℤ) → a <ℤ b → a ≤ℤ b
+less_le a b h = omega (arith, ints)
+
+-- equal numbers are at most each other
+pub equal_le : (a b : ℤ) → a ≡ b → a ≤ℤ b
+equal_le a b e = omega (arith, ints)
+
+-- what is less has a positive gap
+pub gap_positive : (a b : ℤ) → a <ℤ b → pos 0 <ℤ (b -ℤ a)
+gap_positive a b h = omega (arith, ints)
+
+-- ---- the sign of a number, told of one that is equal
+-- not above 0
+pub equal_nonpos : (x r : ℤ) → x ≡ r → x ≤ℤ pos 0 → r ≤ℤ pos 0
+equal_nonpos x r e h = omega (arith, ints)
+
+-- below 0
+pub equal_negative : (x r : ℤ) → x ≡ r → x <ℤ pos 0 → r <ℤ pos 0
+equal_negative x r e h = omega (arith, ints)
+
+-- above 0
+pub equal_positive : (x r : ℤ) → x ≡ r → pos 0 <ℤ x → pos 0 <ℤ r
+equal_positive x r e h = omega (arith, ints)
+
+-- ---- the sign of an opposite
+-- of a number not above 0
+pub opposite_nonneg : (x r : ℤ) → x ≡ neg_ℤ r → x ≤ℤ pos 0 → pos 0 ≤ℤ r
+opposite_nonneg x r e h = omega (arith, ints)
+
+-- of a negative number
+pub opposite_positive : (x r : ℤ) → x ≡ neg_ℤ r → x <ℤ pos 0 → pos 0 <ℤ r
+opposite_positive x r e h = omega (arith, ints)
+
+-- of a positive number
+pub opposite_negative : (x r : ℤ) → x ≡ neg_ℤ r → pos 0 <ℤ x → r <ℤ pos 0
+opposite_negative x r e h = omega (arith, ints)
+
+-- of 0
+pub opposite_zero : (x r : ℤ) → x ≡ neg_ℤ r → r ≡ pos 0 → x ≡ pos 0
+opposite_zero x r e h = omega (arith, ints)
+
+-- ---- where a and b are the opposites of x and y
+-- equal numbers have equal opposites
+pub opposite_same : (a b x y : ℤ) → a ≡ neg_ℤ x → b ≡ neg_ℤ y → a ≡ b → x ≡ y
+opposite_same a b x y e f h = omega (arith, ints)
+
+-- opposites are in the opposite order
+pub neg_le : (a b x y : ℤ) → a ≡ neg_ℤ x → b ≡ neg_ℤ y → a ≤ℤ b → y ≤ℤ x
+neg_le a b x y e f h = omega (arith, ints)
+
+-- and back
+pub le_neg : (a b x y : ℤ) → a ≡ neg_ℤ x → b ≡ neg_ℤ y → y ≤ℤ x → a ≤ℤ b
+le_neg a b x y e f h = omega (arith, ints)
+
+-- the same, strictly
+pub neg_lt : (a b x y : ℤ) → a ≡ neg_ℤ x → b ≡ neg_ℤ y → a <ℤ b → y <ℤ x
+neg_lt a b x y e f h = omega (arith, ints)
+
+-- and back
+pub lt_neg : (a b x y : ℤ) → a ≡ neg_ℤ x → b ≡ neg_ℤ y → y <ℤ x → a <ℤ b
+lt_neg a b x y e f h = omega (arith, ints)

@@ -1,0 +1,63 @@
+-- The sides of a facet in turn, and the one that starts at a corner.
+use Rattle.qh_model.specs.Surface.{IsCorner, Side, Surface, end, rest, start}
+use Rattle.std.proofs.Common.{◌≡◌, ℕ, refl, sym, inl, inr}
+use native.Mathlib.Decide.{ℕ_discrete}
+use Rattle.qh_model.specs.Surface.Side.{first, second, third}
+
+-- the next side
+abbrev pub side_next : Side → Side
+side_next first = second
+side_next second = third
+side_next third = first
+
+-- the side before
+abbrev pub side_prev : Side → Side
+side_prev first = third
+side_prev second = first
+side_prev third = second
+
+-- the next side starts where this one ends
+pub start_next : (m : Surface) (f : ℕ) (s : Side) → start m f (side_next s) ≡ end m f s
+start_next m f first = refl
+start_next m f second = refl
+start_next m f third = refl
+
+-- and ends at the id across
+pub end_next : (m : Surface) (f : ℕ) (s : Side) → end m f (side_next s) ≡ rest m f s
+end_next m f first = refl
+end_next m f second = refl
+end_next m f third = refl
+
+-- the side before starts at the id across
+pub start_prev : (m : Surface) (f : ℕ) (s : Side) → start m f (side_prev s) ≡ rest m f s
+start_prev m f first = refl
+start_prev m f second = refl
+start_prev m f third = refl
+
+-- and ends where this one starts
+pub end_prev : (m : Surface) (f : ℕ) (s : Side) → end m f (side_prev s) ≡ start m f s
+end_prev m f first = refl
+end_prev m f second = refl
+end_prev m f third = refl
+
+-- the side that starts at v
+pick_side : {P Q : Type 0} → Dec P → Dec Q → Side
+pick_side (yes a) b = first
+pick_side (no a) (yes b) = second
+pick_side (no a) (no b) = third
+
+-- the side itself
+pub from : (m : Surface) (f v : ℕ) → Side
+from m f v = pick_side (ℕ_discrete v (m.i f)) (ℕ_discrete v (m.j f))
+
+-- it starts there
+pub from_is : (m : Surface) (f v : ℕ) → IsCorner m f v → start m f (from m f v) ≡ v
+unfolding from pick_side
+from_is m f v c = split (ℕ_discrete v (m.i f)) (ℕ_discrete v (m.j f)) c
+  where
+    split : (a : Dec (v ≡ m.i f)) (b : Dec (v ≡ m.j f)) → IsCorner m f v → start m f (pick_side a b) ≡ v
+    split (yes a) b k = sym a
+    split (no a) (yes b) k = sym b
+    split (no a) (no b) (inl e) = absurd (a e)
+    split (no a) (no b) (inr (inl e)) = absurd (b e)
+    split (no a) (no b) (inr (inr e)) = sym e
