@@ -5,10 +5,8 @@ use Rattle.qh_model.specs.Vector.{Vector}
 use Rattle.qh_model.specs.Sets.{Members}
 use Rattle.qh_model.specs.FinishedSurface.{IsFinished}
 use Rattle.qh_model.specs.Surface.{Surface}
-use Rattle.qh_model.proofs.Members.{All-In}
+use Rattle.qh_model.proofs.Members.{All-In, All-of, in_permutation}
 use Rattle.qh_plane.specs.PlaceKeys.{AreIndices}
-use Rattle.qh_plane.proofs.Members.{All-of}
-use Rattle.qh_block.proofs.finished.FaceOrder.{in_permutation}
 
 -- a slice of a vector has its ids
 pub lent : (ids items now : List ℕ) → IsPermutation ids items → now ≡ items → IsPermutation ids now

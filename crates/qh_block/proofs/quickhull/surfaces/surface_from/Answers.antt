@@ -2,7 +2,7 @@ use Rattle.std.proofs.lemmas.Result.{IfOk-weaker}
 use Rattle.qh_model.specs.FinishedSurface.{IsFinished}
 use Rattle.qh_model.specs.Predicates.{place}
 use Rattle.qh_model.specs.StoredSurface.{surface_of}
-use Rattle.qh_block.proofs.finished.FaceOrder.{in_permutation}
+use Rattle.qh_model.proofs.Members.{in_permutation}
 use Rattle.qh_block.proofs.runs.OrderedIds.{lent, finished_reordered, indices_reordered}
 use Rattle.qh_block.proofs.quickhull.surfaces.surface_from.Goals as goal
 
