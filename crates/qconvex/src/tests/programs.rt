@@ -8,7 +8,7 @@ const ONE_POINT: &str = "3\n1\n5 5 5\n";
 
 /// Words, an input, how many bytes standard output takes; and the exit status, what stands on standard
 /// output, and what on standard error.
-const RUNS: [(&[&str], &str, usize, u8, &str, &str); 7] = [
+const RUNS: [(&[&str], &str, usize, u8, &str, &str); 6] = [
     (&["qconvex", "rank"], ONE_POINT, 99, 0, "1 1 0\n", ""),
     (
         &["qconvex", "rank", "Fx"],
@@ -50,7 +50,6 @@ const RUNS: [(&[&str], &str, usize, u8, &str, &str); 7] = [
         "",
         "qconvex: 11: Send\n",
     ),
-    (&[], ONE_POINT, 99, 2, "", "qconvex: 12: Usage\n"),
 ];
 
 /// How the program ends on these words and this input, and whether what came on standard output and on
