@@ -1,6 +1,6 @@
 -- A round of Quickhull: where a cone replaces what the apex sees, the released points are all that must be looked at.
 use Rattle.std.proofs.Common.{◌≡◌, ℕ, ◌<◌, arith, ap, sym, ◌∙◌, true, false, ◌⊎◌, inl, inr, List, length, map, get_or, subst}
-use Rattle.std.specs.Prelude.{slice_index, ℤ, pos, ◌<ℤ◌, ◌≤ℤ◌}
+use Rattle.std.specs.Prelude.{slice_index, pos, ◌<ℤ◌, ◌≤ℤ◌}
 use Rattle.std.proofs.lemmas.List.{get_or-map}
 use Rattle.std.proofs.lemmas.Bool.{cases_Bool}
 use Rattle.qh_model.specs.Vector.{Vector}

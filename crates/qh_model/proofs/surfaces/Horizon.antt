@@ -10,7 +10,6 @@ use Rattle.std.proofs.lemmas.Int.{ints, by_lt_z}
 use Rattle.std.proofs.lemmas.Bool.{and_parts}
 use Rattle.std.specs.Prelude.{ℤ, pos, ◌-ℤ◌, ◌*ℤ◌, ◌≤ℤ◌, ◌<ℤ◌, ◌&&◌}
 use Rattle.qh_model.proofs.algebra.Order.{mul-pos, neg-positive}
-use Rattle.qh_model.proofs.algebra.Ring.Expr.{neg}
 use Rattle.qh_model.proofs.algebra.Signs.{less_one_way, opposite_positive}
 use Rattle.qh_model.proofs.surfaces.VisibleFacets.{Least, least}
 use Rattle.qh_model.proofs.surfaces.Facets.{rise_over, positive, positive-is, positive-true, corner_start, corner_rest, ends_differ, rest_differs}
