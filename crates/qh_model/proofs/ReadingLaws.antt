@@ -4,6 +4,7 @@ use Rattle.std.specs.Prelude.{ℤ, pos, negsuc, Option, Some, None, nat_le}
 use Rattle.std.specs.List.{AllByRecursion}
 use Rattle.std.proofs.lemmas.Bool.{leb-true, le-leb}
 use Rattle.std.proofs.lemmas.Bool.Decides.{nat_tests}
+use Rattle.qh_model.specs.declared.limits.TheConstants.{POINT_LIMIT, BYTE_LIMIT}
 use Rattle.qh_model.specs.Vector.{Vector}
 use Rattle.qh_model.specs.Limits.{IsCoordinate, is_coordinate}
 use Rattle.qh_model.specs.Words.{Word, data_words}
@@ -91,17 +92,17 @@ record Counted (z : ℤ) (ws : List Word) : Type 0 where
   n : ℕ
   is : z ≡ pos n
   some : 1 ≤ n
-  few : n ≤ 1048576
+  few : n ≤ POINT_LIMIT
   filled : Filled ws (3 * n)
 
 counted : (z : ℤ) (ws : List Word) → counted_fault z ws ≡ None → Counted z ws
 counted (negsuc n) ws h = cc
-counted (pos n) ws h = by (nat_le 1 n && nat_le n 1048576) refl h
+counted (pos n) ws h = by (nat_le 1 n && nat_le n POINT_LIMIT) refl h
   where
-    by : (b : Bool) → (nat_le 1 n && nat_le n 1048576) ≡ b → cond b (coordinates_fault (3 * n) ws) (fault 4) ≡ None → Counted (pos n) ws
+    by : (b : Bool) → (nat_le 1 n && nat_le n POINT_LIMIT) ≡ b → cond b (coordinates_fault (3 * n) ws) (fault 4) ≡ None → Counted (pos n) ws
     by false e h = cc
     by true e h =
-        let range : (1 ≤ n) × (n ≤ 1048576) = grind (arith, nat_tests) in
+        let range : (1 ≤ n) × (n ≤ POINT_LIMIT) = grind (arith, nat_tests) in
         record { n = n; is = refl; some = range.0; few = range.1; filled = filled (3 * n) ws h }
 
 three : (z : ℤ) → is_three z ≡ true → z ≡ pos 3
@@ -115,7 +116,7 @@ record Whole (ws : List Word) : Type 0 where
   are : numbers ws ≡ map Some (first ∷ second ∷ coordinates points)
   header : IsHeader first second (length points)
   some : 1 ≤ length points
-  few : length points ≤ 1048576
+  few : length points ≤ POINT_LIMIT
   limit : AllByRecursion IsCoordinate (coordinates points)
 
 made : (w v : Word) (vs : List Word) (a b z : ℤ) → number_of w.text ≡ Some a → number_of v.text ≡ Some b → ((n : ℕ) → z ≡ pos n → IsHeader a b n) → Counted z vs → Whole (w ∷ v ∷ vs)
@@ -159,14 +160,14 @@ whole (w ∷ ws) h = one ws (number_of w.text) refl h
 pub one_or_other : HasListOrFault
 one_or_other bytes = by (first_fault bytes) refl
   where
-    small : (b : Bool) → nat_lt 268435456 (length bytes) ≡ b → cond b (fault 10) (words_fault (data_words bytes)) ≡ None → (ps : List Vector) × Reads bytes ps
+    small : (b : Bool) → nat_lt BYTE_LIMIT (length bytes) ≡ b → cond b (fault 10) (words_fault (data_words bytes)) ≡ None → (ps : List Vector) × Reads bytes ps
     small true e h = cc
     small false e h =
         let w = whole (data_words bytes) h in
         (w.points, record { small = grind (arith, nat_tests); first = w.first; second = w.second; numbers = w.are; header = w.header; some = w.some; few = w.few; limit = w.limit })
 
     by : (o : Option FileFault) → first_fault bytes ≡ o → ((ps : List Vector) × Reads bytes ps × (first_fault bytes ≡ None)) ⊎ ((f : FileFault) × (first_fault bytes ≡ Some f))
-    by None e = let r = small (nat_lt 268435456 (length bytes)) refl e in inl (r.0, r.1, e)
+    by None e = let r = small (nat_lt BYTE_LIMIT (length bytes)) refl e in inl (r.0, r.1, e)
     by (Some f) e = inr (f, e)
 
 -- coordinates in range, and no word more, have no fault
@@ -181,13 +182,14 @@ clear (z ∷ zs) (w ∷ ws) e l =
     subst (λ (o : Option ℤ). number_or o w.line (λ z. cond (is_coordinate z) (coordinates_fault (length zs) ws) (fault_on 5 w.line)) ≡ None) (sym head)
     (subst (λ (b : Bool). cond b (coordinates_fault (length zs) ws) (fault_on 5 w.line) ≡ None) (sym in_range) (clear zs ws rest l.1))
 
-thrice : (ps : List Vector) → length (coordinates ps) ≡ 3 * length ps
+-- a point has three coordinates
+pub thrice : (ps : List Vector) → length (coordinates ps) ≡ 3 * length ps
 thrice [] = refl
 thrice (p ∷ ps) = let rest : length (coordinates ps) ≡ 3 * length ps = thrice ps in omega (arith, rest)
 
-counted_clear : (n : ℕ) (ws : List Word) → 1 ≤ n → n ≤ 1048576 → coordinates_fault (3 * n) ws ≡ None → counted_fault (pos n) ws ≡ None
+counted_clear : (n : ℕ) (ws : List Word) → 1 ≤ n → n ≤ POINT_LIMIT → coordinates_fault (3 * n) ws ≡ None → counted_fault (pos n) ws ≡ None
 counted_clear n ws some few h =
-    let range : (nat_le 1 n && nat_le n 1048576) ≡ true = grind (arith, nat_tests) in
+    let range : (nat_le 1 n && nat_le n POINT_LIMIT) ≡ true = grind (arith, nat_tests) in
     subst (λ (b : Bool). cond b (coordinates_fault (3 * n) ws) (fault 4) ≡ None) (sym range) h
 
 headed_clear : (a b : ℤ) (n : ℕ) (ws : List Word) → IsHeader a b n → counted_fault (pos n) ws ≡ None → headed_fault a b ws ≡ None
@@ -201,7 +203,7 @@ headed_clear a b n ws (inr (other, second, first)) h =
     by false e = subst (λ (z : ℤ). counted_fault z ws ≡ None) (sym first) h
 
 words_clear : (ws : List Word) (a b : ℤ) (ps : List Vector) → numbers ws ≡ map Some (a ∷ b ∷ coordinates ps) → IsHeader a b (length ps)
-    → 1 ≤ length ps → length ps ≤ 1048576 → AllByRecursion IsCoordinate (coordinates ps) → words_fault ws ≡ None
+    → 1 ≤ length ps → length ps ≤ POINT_LIMIT → AllByRecursion IsCoordinate (coordinates ps) → words_fault ws ≡ None
 words_clear [] a b ps e header some few l = cc
 words_clear (w ∷ []) a b ps e header some few l = cc
 words_clear (w ∷ v ∷ ws) a b ps e header some few l =
@@ -215,9 +217,9 @@ words_clear (w ∷ v ∷ ws) a b ps e header some few l =
 
 pub never_both : IsNeverBoth
 never_both bytes ps r =
-    let fits : nat_lt 268435456 (length bytes) ≡ false = small (length bytes) r.small in
+    let fits : nat_lt BYTE_LIMIT (length bytes) ≡ false = small (length bytes) r.small in
     subst (λ (b : Bool). cond b (fault 10) (words_fault (data_words bytes)) ≡ None) (sym fits)
     (words_clear (data_words bytes) r.first r.second ps r.numbers r.header r.some r.few r.limit)
   where
-    small : (n : ℕ) → n ≤ 268435456 → nat_lt 268435456 n ≡ false
+    small : (n : ℕ) → n ≤ BYTE_LIMIT → nat_lt BYTE_LIMIT n ≡ false
     small n h = grind (arith, nat_tests)

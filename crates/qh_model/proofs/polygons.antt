@@ -1,4 +1,6 @@
 -- Polygons: one list for each set and direction.
 pub mod Unique
 pub mod Direction
+pub mod Neighbours
+pub mod PlaneTurns
 pub mod Edges

@@ -1,5 +1,6 @@
 -- What a reader holds is what the words of its bytes make of the file.
 use Rattle.std.proofs.Common.{◌≡◌, ◌∙◌, ◌++◌, [], ◌∷◌, ◌+◌, ◌-◌, ◌*◌, ◌≤◌, ◌==◌, ℕ, List, Bool, true, false, cond, refl, ap, sym, arith, length, map, subst, length-append}
+use Rattle.std.proofs.lemmas.List.{append-nil}
 use Rattle.std.specs.Prelude.{ℤ, Option, Some}
 use Rattle.std.specs.List.{AllByRecursion}
 use Rattle.std.specs.Char.{is_ascii_digit}
@@ -8,6 +9,7 @@ use Rattle.qh_model.specs.Words.{Word, is_blank, is_data, data_words}
 use Rattle.qh_model.specs.declared.limits.TheConstants.{BYTE_LIMIT}
 use Rattle.qh_model.specs.PointFile.{coordinates, IsHeader, Reads}
 use Rattle.qh_model.specs.Vector.{Vector}
+use Rattle.qh_model.proofs.ReadingLaws.{thrice}
 use Rattle.qh_read.proofs.Lexing.{Lexed, start, ended, begun, next, lexed}
 use Rattle.qh_read.specs.Tokens.{cap, grown, value_of}
 use Rattle.qh_read.specs.Progress.{Progress, wants_first, wants, after}
@@ -63,12 +65,8 @@ begun_solid h (Sign minus) c s = refl
 begun_solid h (Digits minus k) c s = refl
 begun_solid h Other c s = refl
 
-append_none : (ws : List Word) → ws ++ [] ≡ ws
-append_none [] = refl
-append_none (w ∷ ws) = ap (λ (t : List Word). w ∷ t) (append_none ws)
-
 word_ends : (ws : List Word) (n : ℕ) (w : List ℕ) → judged wants_first (ws ++ ended n w) ≡ word_ended (judged wants_first ws) (grown_by Empty w) n
-word_ends ws n [] = ap (judged wants_first) (append_none ws)
+word_ends ws n [] = ap (judged wants_first) (append-nil ws)
 word_ends ws n (c ∷ w) =
     judged-append wants_first ws (ended n (c ∷ w))
     ∙ ap (λ (o : Option ℤ). after (judged wants_first ws) o n) (sym (value-number (c ∷ w)))
@@ -106,20 +104,12 @@ progress-words bs =
     ∙ sym (word_ends s.words s.line s.under_way)
     ∙ ap (judged wants_first) (data_words-lexed bs)
 
-length-coordinates : (ps : List Vector) → length (coordinates ps) ≡ 3 * length ps
-length-coordinates [] = refl
-length-coordinates (p ∷ ps) = let e = length-coordinates ps in omega arith
-
-append_nothing : (t : List ℤ) → t ++ [] ≡ t
-append_nothing [] = refl
-append_nothing (z ∷ t) = ap (λ (x : List ℤ). z ∷ x) (append_nothing t)
-
 none_left : (ps : List Vector) (q : Pending) (k : ℕ) → length (coordinates ps ++ pending_list q) ≡ 3 * k → (coordinates ps ++ pending_list q ≡ coordinates ps) × (length ps ≡ k)
 none_left ps pendings.Zero k h =
-    let none = append_nothing (coordinates ps) in
-    (none, omega (arith, length-coordinates ps, length-append (coordinates ps) []))
-none_left ps (pendings.One x) k h = absurd (omega (arith, length-coordinates ps, length-append (coordinates ps) (x.value ∷ [])))
-none_left ps (pendings.Two x y) k h = absurd (omega (arith, length-coordinates ps, length-append (coordinates ps) (x.value ∷ y.value ∷ [])))
+    let none = append-nil (coordinates ps) in
+    (none, omega (arith, thrice ps, length-append (coordinates ps) []))
+none_left ps (pendings.One x) k h = absurd (omega (arith, thrice ps, length-append (coordinates ps) (x.value ∷ [])))
+none_left ps (pendings.Two x y) k h = absurd (omega (arith, thrice ps, length-append (coordinates ps) (x.value ∷ y.value ∷ [])))
 
 -- where all that the header asks for was taken, the points are those of the file
 pub reads : (bs : List ℕ) (ps : List Vector) (q : Pending) → length bs ≤ BYTE_LIMIT

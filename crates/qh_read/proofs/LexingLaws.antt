@@ -1,5 +1,6 @@
 -- The words of bytes that come one at a time are the data words of the whole.
 use Rattle.std.proofs.Common.{◌≡◌, ◌∙◌, ◌++◌, [], ◌∷◌, ◌+◌, ◌==◌, ℕ, ◌<◌, length, List, Bool, true, false, cond, refl, ap, sym, append_assoc, arith, filter}
+use Rattle.std.proofs.lemmas.List.{append-nil}
 use Rattle.std.specs.List.{slice_split, onto_first}
 use Rattle.std.proofs.lemmas.List.Splits.{slice_split-cons_yes, slice_split-cons_no, length-slice_split}
 use Rattle.qh_model.specs.Words.{Word, is_blank, is_data, lines_of, words_of, before_comment, on_line, words_from, data_words, is_word}
@@ -37,10 +38,6 @@ module _ (p : ℕ → Bool) where
   split_whole [] h = refl
   split_whole (b ∷ w) (nb, h) = slice_split-cons_no p b w nb ∙ ap (onto_first b) (split_whole w h)
 
-append_none : (w : List ℕ) → w ++ [] ≡ w
-append_none [] = refl
-append_none (c ∷ w) = ap (λ t. c ∷ t) (append_none w)
-
 clear_append : (p : ℕ → Bool) (w : List ℕ) (c : ℕ) → clear p w → p c ≡ false → clear p (w ++ c ∷ [])
 clear_append p [] c h e = (e, tt)
 clear_append p (b ∷ w) c (nb, h) e = (nb, clear_append p w c h e)
@@ -56,7 +53,7 @@ ends n true [] h d q = refl
 ends n false [] h d q = refl
 ends n true (c ∷ w) h d q = cc (q refl)
 ends n false (c ∷ w) h d q =
-    sym (ap (λ t. on_line n (before_comment (filter is_word t))) (ap (slice_split is_blank) (append_none (c ∷ w)) ∙ split_whole is_blank (c ∷ w) h)
+    sym (ap (λ t. on_line n (before_comment (filter is_word t))) (ap (slice_split is_blank) (append-nil (c ∷ w)) ∙ split_whole is_blank (c ∷ w) h)
     ∙ ap (λ t. on_line n (cond t ((c ∷ w) ∷ []) [])) d)
 
 -- a blank ends the word under way
@@ -74,10 +71,6 @@ onto_other c (part ∷ parts) e = ap (λ t. cond t ((c ∷ part) ∷ before_comm
 
 comments : (c : ℕ) (l : List ℕ) → is_blank c ≡ false → is_data (c ∷ []) ≡ false → own false (c ∷ l) ≡ []
 comments c l nb e = ap (λ t. before_comment (filter is_word t)) (slice_split-cons_no is_blank c l nb) ∙ onto_other c (slice_split is_blank l) e
-
-silent : (b : Bool) (x y : List ℕ) → b ≡ true → own b x ≡ own b y
-silent true x y e = refl
-silent false x y e = cc
 
 -- what one byte does
 record Good (s : Lexed) (c : ℕ) (over : Bool) (t : Lexed) : Type 0 where
@@ -132,12 +125,8 @@ good s c v = good_at s.words s.line s.comment s.under_way c (c == 10) v
 some_line : (bs : List ℕ) → 0 < length (lines_of bs)
 some_line bs = omega (arith, length-slice_split (λ c. c == 10) bs)
 
-append_nothing : (ws : List Word) → ws ++ [] ≡ ws
-append_nothing [] = refl
-append_nothing (w ∷ ws) = ap (λ t. w ∷ t) (append_nothing ws)
-
 total : (bs : List ℕ) (s : Lexed) → Valid s → closed (lexed s bs) ≡ s.words ++ rest s.line s.comment s.under_way (lines_of bs)
-total [] s v = ap (λ t. s.words ++ t) (ends s.line s.comment s.under_way v.clean v.data_word v.quiet ∙ sym (append_nothing _))
+total [] s v = ap (λ t. s.words ++ t) (ends s.line s.comment s.under_way v.clean v.data_word v.quiet ∙ sym (append-nil _))
 total (c ∷ cs) s v =
     let g = good s c v in
     total cs (next s c) g.valid ∙ at_line (lines_of cs) (some_line cs)

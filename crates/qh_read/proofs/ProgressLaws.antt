@@ -1,5 +1,6 @@
 -- A file that is filled in has a header and as many coordinates as it says.
 use Rattle.std.proofs.Common.{◌≡◌, ◌≢◌, ◌∙◌, ◌++◌, [], ◌∷◌, ◌*◌, ◌≤◌, ◌&&◌, ℕ, List, Bool, true, false, cond, refl, ap, sym, arith, zero, suc, min, length, map, inl, inr, append_assoc, subst}
+use Rattle.std.proofs.lemmas.List.{append-nil}
 use Rattle.std.specs.Prelude.{ℤ, pos, negsuc, Option, Some, None, option_map, nat_le}
 use Rattle.std.specs.List.{AllByRecursion}
 use Rattle.std.proofs.lemmas.Bool.{leb-true}
@@ -45,10 +46,6 @@ in_limit (negsuc n) h =
     let same : min n COORDINATE_LIMIT ≡ n = omega arith in
     (ap negsuc same, omega arith)
 
-append_none : (t : List ℤ) → t ++ [] ≡ t
-append_none [] = refl
-append_none (z ∷ t) = ap (λ (x : List ℤ). z ∷ x) (append_none t)
-
 -- what the words after the header are
 record Filled (ws : List Word) (k : ℕ) (t u : List ℤ) : Type 0 where
   pub more : List ℤ
@@ -58,7 +55,7 @@ record Filled (ws : List Word) (k : ℕ) (t u : List ℤ) : Type 0 where
   pub limit : AllByRecursion IsCoordinate more
 
 filled : (ws : List Word) (k : ℕ) (t u : List ℤ) → judged (wants k t) ws ≡ wants 0 u → Filled ws k t u
-filled [] k t u h = record { more = []; are = refl; all = cc (append_none t); count = cc; limit = tt }
+filled [] k t u h = record { more = []; are = refl; all = cc (append-nil t); count = cc; limit = tt }
 filled (w ∷ ws) zero t u h = cc (stays (faults.Long w.line) ws)
 filled (w ∷ ws) (suc k) t u h = by (λ z. filled ws k (t ++ z ∷ []) u) (number_of w.text) refl h
   where

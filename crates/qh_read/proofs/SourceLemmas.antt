@@ -1,13 +1,8 @@
 -- The bytes that a source gives over several reads.
-use Rattle.std.proofs.Common.{◌∙◌, ◌++◌, [], ℕ, List, ap, sym, refl, append_assoc}
+use Rattle.std.proofs.Common.{◌∙◌, ◌++◌, ℕ, List, ap, sym, append_assoc}
 use Rattle.std.specs.Prelude.{Option, Some, None}
 use Rattle.std.specs.Io.KnownBytes.{Consumes}
 use Rattle.qh_read.specs.Holding.{Reading, Fed}
-
--- nothing was given yet
-pub Consumes-nothing : (old : Option (List ℕ)) → Consumes old old []
-Consumes-nothing None = tt
-Consumes-nothing (Some xs) = refl
 
 -- what two reads give, one after the other
 pub Consumes-append : (old mid new : Option (List ℕ)) (xs ys : List ℕ) → Consumes old mid xs → Consumes mid new ys → Consumes old new (xs ++ ys)

@@ -15,7 +15,7 @@ use Rattle.qh_model.proofs.algebra.VectorIdentities.{vol-first, vol-second, vol-
 use Rattle.qh_model.proofs.extremes.Directions.{vol_along, zero_along}
 use Rattle.qh_model.proofs.extremes.SpanningTriples.{planes_of_extremes}
 use Rattle.qh_model.proofs.polygons.Direction.{polygon_as}
-use Rattle.qh_model.proofs.polygons.Edges.{level_along}
+use Rattle.qh_model.proofs.polygons.PlaneTurns.{level_along}
 use Rattle.qh_model.proofs.surfaces.FacetPlanes.{level_facets_span, level_itself, level_back, level_on}
 use Rattle.qh_model.proofs.surfaces.Finished.{facet_area, facets_support}
 use Rattle.qh_model.proofs.surfaces.Stored.{live_is_marked}

@@ -23,7 +23,7 @@ fn plane_of(pts: &[Point], mesh: &Mesh, facet: FacetNo) -> Plane
     Plane::through(point_at(pts, a), point_at(pts, b), point_at(pts, c))
 }
 
-/// The plane that stands at a place until a facet is there: no point is above it.
+/// The plane that stands at a place until a facet is there.
 fn no_plane() -> Plane {
     let origin = Point::new(0, 0, 0);
     Plane::through(origin, origin, origin)

@@ -1,5 +1,5 @@
 -- The edges of a solid: one face goes along each this way, and one the other way, found by turning a plane about it.
-use Rattle.std.proofs.Common.{◌≡◌, ◌≢◌, ℕ, arith, refl, sym, ap, subst, ◌∙◌, ◌⊎◌, inl, inr, List, [], ◌∷◌, Bool, true, false}
+use Rattle.std.proofs.Common.{◌≡◌, ◌≢◌, ℕ, arith, refl, sym, ap, subst, ◌∙◌, ◌⊎◌, inl, inr, List, Bool, true, false}
 use Rattle.std.proofs.lemmas.Int.{ints, by_lt_z}
 use native.Mathlib.Decide.{ℕ_discrete}
 use Rattle.std.specs.Prelude.{ℤ, pos, negsuc, ◌+ℤ◌, ◌-ℤ◌, ◌*ℤ◌, neg_ℤ, ◌≤ℤ◌, ◌<ℤ◌}
@@ -12,16 +12,14 @@ use Rattle.qh_model.specs.Combination.{Combination}
 use Rattle.qh_model.specs.Extreme.{Extreme}
 use Rattle.qh_model.specs.SupportingPlane.{IsSupportingTriple, OnPlane}
 use Rattle.qh_model.specs.FaceLaws.{IsAlong, SpannedByExtremes}
-use Rattle.qh_model.specs.Polygon.{AlongPath, AroundCycle, TurnsLeft}
-use Rattle.qh_model.specs.Polygons.{IsFacePolygon, FollowsAlong, Follows}
+use Rattle.qh_model.specs.Polygon.{TurnsLeft}
+use Rattle.qh_model.specs.Polygons.{IsFacePolygon, Follows}
 use Rattle.qh_model.specs.EdgeLaws.{OneFaceEachWay, OtherFace}
 use Rattle.qh_model.proofs.algebra.Order.{mul-pos, mul-nonneg_nonpos, mul-pos_neg, mul-neg_neg, cancel-nonpos, cancel-zero, zero_or_not, le_antisym, positive_le, product_zero}
-use Rattle.qh_model.proofs.algebra.Ring.{ring}
-use Rattle.qh_model.proofs.algebra.Ring.Expr.{add, sub as less, mul}
-use Rattle.qh_model.proofs.algebra.VectorIdentities.{opposite, dot-opposite, vec, put, dotE, combine3, edge_product, vol-first, vol-second, vol-third, vol-flip, vol-swap_last, vol-dot, left-dot, left-flip, left-linear, in_line-vol, in_line-left, in_line-twice, dot_comm, in_line-last}
+use Rattle.qh_model.proofs.algebra.VectorIdentities.{opposite, dot-opposite, edge_product, vol-first, vol-second, vol-third, vol-flip, vol-swap_last, left-flip, left-linear, in_line-vol, in_line-left, in_line-twice, in_line-last}
 use Rattle.qh_model.proofs.algebra.Signs.{less_differ}
 use Rattle.qh_model.proofs.algebra.Integers.{mul_comm}
-use Rattle.qh_model.proofs.extremes.Directions.{Parallel, parallel_normal, along_by, square-positive, from_plane, vol_along, in_line-flip, zero_along}
+use Rattle.qh_model.proofs.extremes.Directions.{square-positive, vol_along, in_line-flip, zero_along}
 use Rattle.qh_model.proofs.extremes.ExtremeIds.{Listed, listed_itself, listed_part, combination_of_extremes}
 use Rattle.qh_model.proofs.extremes.Faces.{extremes_of_face}
 use Rattle.qh_model.proofs.extremes.SpanningTriples.{planes_of_extremes}
@@ -29,76 +27,8 @@ use Rattle.qh_model.proofs.combinations.Alternatives.{all_lower}
 use Rattle.qh_model.proofs.polygons.Direction.{polygon_as}
 use Rattle.qh_model.proofs.polygons.Unique.{one_polygon}
 use Rattle.qh_model.proofs.surfaces.VisibleFacets.{Least, least}
-
--- ---- neighbours round a polygon
--- what holds of each pair of neighbours on a way
-along_holds : (P : ℕ → ℕ → Type 0) (u v t : ℕ) (r : List ℕ) (e : ℕ) → AlongPath P t r e → FollowsAlong u v t r e → P u v
-along_holds P u v t [] e h f = subst (λ x. P x v) f.0 (subst (P t) f.1 h)
-along_holds P u v t (w ∷ r) e h (inl f) = subst (λ x. P x v) f.0 (subst (P t) f.1 h.0)
-along_holds P u v t (w ∷ r) e h (inr f) = along_holds P u v w r e h.1 f
-
--- and round a polygon
-round_holds : (P : ℕ → ℕ → Type 0) (u v : ℕ) (q : List ℕ) → AroundCycle P q → Follows u v q → P u v
-round_holds P u v [] h f = absurd f
-round_holds P u v (t ∷ r) h f = along_holds P u v t r t h f
-
--- neighbours on a way are on it
-along_members : (u v t : ℕ) (r : List ℕ) (e : ℕ) → FollowsAlong u v t r e → In u (t ∷ r) × ((v ≡ e) ⊎ In v r)
-along_members u v t [] e f = (inl (sym f.0), inl (sym f.1))
-along_members u v t (w ∷ r) e (inl f) = (inl (sym f.0), inr (inl (sym f.1)))
-along_members u v t (w ∷ r) e (inr f) = let g = along_members u v w r e f in (inr g.0, later g.1)
-  where
-    later : (v ≡ e) ⊎ In v r → (v ≡ e) ⊎ In v (w ∷ r)
-    later (inl h) = inl h
-    later (inr h) = inr (inr h)
-
--- neighbours are members
-pub follows_members : (u v : ℕ) (q : List ℕ) → Follows u v q → In u q × In v q
-follows_members u v [] f = absurd f
-follows_members u v (t ∷ r) f = let g = along_members u v t r t f in (g.0, g.1)
-
--- each id on a way has one after it
-along_next : (u t : ℕ) (r : List ℕ) (e : ℕ) → In u (t ∷ r) → (v : ℕ) × FollowsAlong u v t r e
-along_next u t [] e (inl h) = (e, (sym h, refl))
-along_next u t [] e (inr h) = absurd h
-along_next u t (w ∷ r) e (inl h) = (w, inl (sym h, refl))
-along_next u t (w ∷ r) e (inr h) = let g = along_next u w r e h in (g.0, inr g.1)
-
--- each member has one after it
-next_member : (u : ℕ) (q : List ℕ) → In u q → (v : ℕ) × Follows u v q
-next_member u [] i = absurd i
-next_member u (t ∷ r) i = along_next u t r t i
-
--- ---- volumes and turns in a plane
--- parallel vectors measure alike
-parallel_dot : (n r q : Vector) → Parallel n r → dot n n *ℤ dot r q ≡ dot n r *ℤ dot n q
-parallel_dot n r q h =
-    combine3 (dot n n *ℤ dot r q) (dot n r *ℤ dot n q)
-    q.x (dot n n *ℤ r.x) (dot n r *ℤ n.x)
-    q.y (dot n n *ℤ r.y) (dot n r *ℤ n.y)
-    q.z (dot n n *ℤ r.z) (dot n r *ℤ n.z)
-    (
-    let N = vec 0 in let R = vec 1 in let Q = vec 2 in let S = dotE N N in let T = dotE N R in
-    ring (put n (put r (put q []))) (less (mul S (dotE R Q)) (mul T (dotE N Q)))
-    (add (add (mul Q.x (less (mul S R.x) (mul T N.x))) (mul Q.y (less (mul S R.y) (mul T N.y)))) (mul Q.z (less (mul S R.z) (mul T N.z)))) refl) h.x h.y h.z
-
--- the triangle of three points of a plane is parallel to it
-level_parallel : (a b c u v l : Vector) → vol a b c u ≡ pos 0 → vol a b c v ≡ pos 0 → vol a b c l ≡ pos 0 → Parallel (cross a b c) (cross u v l)
-level_parallel a b c u v l hu hv hl = parallel_normal (cross a b c) u v l (from_plane a b c u v hu ∙ hv) (from_plane a b c u l hu ∙ hl)
-
--- the volume over three points of a plane, by their turn and the height of the fourth
-level_volume : (a b c u v l w : Vector) → vol a b c u ≡ pos 0 → vol a b c v ≡ pos 0 → vol a b c l ≡ pos 0
-    → dot (cross a b c) (cross a b c) *ℤ vol u v l w ≡ left (cross a b c) u v l *ℤ vol a b c w
-level_volume a b c u v l w hu hv hl =
-    let n = cross a b c in
-    ap (λ x. dot n n *ℤ x) (vol-dot u v l w) ∙ parallel_dot n (cross u v l) (minus w u) (level_parallel a b c u v l hu hv hl)
-    ∙ ap (λ x. x *ℤ dot n (minus w u)) (dot_comm n (cross u v l) ∙ sym (left-dot n u v l)) ∙ ap (λ x. left n u v l *ℤ x) (from_plane a b c u w hu)
-
--- three points of a plane that turn left have its direction
-pub level_along : (a b c u v l : Vector) → ¬ (AreInLine a b c) → vol a b c u ≡ pos 0 → vol a b c v ≡ pos 0 → vol a b c l ≡ pos 0 → pos 0 <ℤ left (cross a b c) u v l → IsAlong (cross a b c) (cross u v l)
-level_along a b c u v l area hu hv hl h =
-    let n = cross a b c in let e = level_parallel a b c u v l hu hv hl in
-    along_by n (cross u v l) (dot n (cross u v l)) (dot n n) (subst (λ x. pos 0 <ℤ x) (left-dot n u v l ∙ dot_comm (cross u v l) n) h) (square-positive n area) (sym e.x) (sym e.y) (sym e.z)
+use Rattle.qh_model.proofs.polygons.Neighbours.{round_holds, follows_members, next_member}
+use Rattle.qh_model.proofs.polygons.PlaneTurns.{level_volume, level_along}
 
 -- ---- signs
 -- s x = l y with s above 0

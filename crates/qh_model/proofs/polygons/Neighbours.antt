@@ -1,0 +1,43 @@
+-- Neighbours on the way round a polygon.
+use Rattle.std.proofs.Common.{◌≡◌, ℕ, refl, sym, subst, ◌⊎◌, inl, inr, List, [], ◌∷◌}
+use Rattle.qh_model.specs.Sets.{In}
+use Rattle.qh_model.specs.Polygon.{AlongPath, AroundCycle}
+use Rattle.qh_model.specs.Polygons.{FollowsAlong, Follows}
+
+-- what holds of each pair of neighbours on a way
+pub along_holds : (P : ℕ → ℕ → Type 0) (u v t : ℕ) (r : List ℕ) (e : ℕ) → AlongPath P t r e → FollowsAlong u v t r e → P u v
+along_holds P u v t [] e h f = subst (λ x. P x v) f.0 (subst (P t) f.1 h)
+along_holds P u v t (w ∷ r) e h (inl f) = subst (λ x. P x v) f.0 (subst (P t) f.1 h.0)
+along_holds P u v t (w ∷ r) e h (inr f) = along_holds P u v w r e h.1 f
+
+-- and round a polygon
+pub round_holds : (P : ℕ → ℕ → Type 0) (u v : ℕ) (q : List ℕ) → AroundCycle P q → Follows u v q → P u v
+round_holds P u v [] h f = absurd f
+round_holds P u v (t ∷ r) h f = along_holds P u v t r t h f
+
+-- neighbours on a way are on it
+pub along_members : (u v t : ℕ) (r : List ℕ) (e : ℕ) → FollowsAlong u v t r e → In u (t ∷ r) × ((v ≡ e) ⊎ In v r)
+along_members u v t [] e f = (inl (sym f.0), inl (sym f.1))
+along_members u v t (w ∷ r) e (inl f) = (inl (sym f.0), inr (inl (sym f.1)))
+along_members u v t (w ∷ r) e (inr f) = let g = along_members u v w r e f in (inr g.0, later g.1)
+  where
+    later : (v ≡ e) ⊎ In v r → (v ≡ e) ⊎ In v (w ∷ r)
+    later (inl h) = inl h
+    later (inr h) = inr (inr h)
+
+-- neighbours are members
+pub follows_members : (u v : ℕ) (q : List ℕ) → Follows u v q → In u q × In v q
+follows_members u v [] f = absurd f
+follows_members u v (t ∷ r) f = let g = along_members u v t r t f in (g.0, g.1)
+
+-- each id on a way has one after it
+pub along_next : (u t : ℕ) (r : List ℕ) (e : ℕ) → In u (t ∷ r) → (v : ℕ) × FollowsAlong u v t r e
+along_next u t [] e (inl h) = (e, (sym h, refl))
+along_next u t [] e (inr h) = absurd h
+along_next u t (w ∷ r) e (inl h) = (w, inl (sym h, refl))
+along_next u t (w ∷ r) e (inr h) = let g = along_next u w r e h in (g.0, inr g.1)
+
+-- each member has one after it
+pub next_member : (u : ℕ) (q : List ℕ) → In u q → (v : ℕ) × Follows u v q
+next_member u [] i = absurd i
+next_member u (t ∷ r) i = along_next u t r t i
