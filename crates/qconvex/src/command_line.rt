@@ -29,6 +29,7 @@ static NAMES: [&str; 4] = ["rank", "s", "Fx", "off"];
 fn number_arg<'a>(
     alloc: Global,
     name: &'a str,
+    help: &'a str,
     default: &'a str,
     parser: ValueParser<'a>,
 ) -> Arg<'a>
@@ -38,6 +39,7 @@ fn number_arg<'a>(
     Arg::new(alloc, name)
         .long(name)
         .value_name("N")
+        .help(help)
         .action(ArgAction::Set)
         .default_value(default)
         .value_parser(parser)
@@ -50,6 +52,7 @@ fn outs_arg<'a>(alloc: Global) -> Arg<'a>
 {
     Arg::new(alloc, "outs")
         .value_name("OUT")
+        .help("What to print, in this order [default: s]")
         .action(ArgAction::Append)
         .value_parser(NAMES.as_slice())
 }
@@ -61,12 +64,14 @@ fn command<'a>(alloc: Global) -> Result<Command<'a>, AllocError>
     let workers = number_arg(
         alloc,
         "workers",
+        "How many workers share the work",
         "4",
         value_parser!(u32).range(1..=i64::from(WORKER_LIMIT)),
     );
     let block = number_arg(
         alloc,
         "block",
+        "How many points a block has, whose hull is taken first",
         "4096",
         value_parser!(u32).range(1..=i64::from(BLOCK_SIZE_LIMIT)),
     );
