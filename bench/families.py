@@ -24,9 +24,10 @@ def extremes(command, path):
     programs named qconvex is that of `Fx`."""
     if "qconvex" in os.path.basename(command[0]):
         command = [command[0], "Fx"]
-    with open(path, "rb") as source:
-        text = subprocess.run(command, stdin=source, stdout=subprocess.PIPE, stderr=subprocess.DEVNULL).stdout
-    first = text.split(maxsplit=1)[:1]
+    with open(path, "rb") as source, tempfile.TemporaryFile() as text:
+        subprocess.run(command, stdin=source, stdout=text, stderr=subprocess.DEVNULL)
+        text.seek(0)
+        first = text.readline().split()[:1]
     return first[0].decode() if first and first[0].isdigit() else "none"
 
 
@@ -38,11 +39,11 @@ def row(given, family, count, path):
         for command, rows in zip(commands, results):
             rows.append(compare.run(command, path))
     ours = compare.best(results[0])
-    cells = [family, str(count), "%.2f" % ours[0], "%.2f" % ours[1], "%.0f" % ours[2], extremes(commands[0], path)]
+    cells = [family, str(count), "%.3f" % ours[0], "%.3f" % ours[1], "%.0f" % ours[2], extremes(commands[0], path)]
     for command, rows in zip(commands[1:], results[1:]):
         peer = compare.best(rows)
         ratio = "%.2f" % (ours[0] / peer[0]) if peer[3] == 0 else "refused"
-        cells += ["%.2f" % peer[0], "%.2f" % peer[1], "%.0f" % peer[2], extremes(command, path), ratio]
+        cells += ["%.3f" % peer[0], "%.3f" % peer[1], "%.0f" % peer[2], extremes(command, path), ratio]
     return "| " + " | ".join(cells) + " |"
 
 
@@ -55,6 +56,11 @@ def main():
     parser.add_argument("--families", default=",".join(SOLID))
     parser.add_argument("--rounds", type=int, default=2)
     given = parser.parse_args()
+    columns = ["family", "points"] + ["cpu s", "wall s", "MB", "extreme"]
+    for peer in given.peer or []:
+        columns += [os.path.basename(peer) + " cpu s", "wall s", "MB", "extreme", "cpu ratio"]
+    print("| " + " | ".join(columns) + " |")
+    print("|---" * len(columns) + "|")
     for count in map(int, given.counts.split(",")):
         for family in given.families.split(","):
             with tempfile.TemporaryDirectory() as folder:
