@@ -40,3 +40,5 @@ pub mod Cut
 pub mod CutLaws
 pub mod EdgeLaws
 pub mod FacetPlanes
+pub mod BoardMachine
+pub mod BoardLaws

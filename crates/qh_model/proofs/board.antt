@@ -1,0 +1,9 @@
+-- The board: updates of functions and their sums, what each event keeps, how many events there are, the root, and spans.
+pub mod Updates
+pub mod Kept
+pub mod Counts
+pub mod Root
+pub mod Histories
+pub mod Reached
+pub mod Laws
+pub mod Spans

@@ -1,0 +1,60 @@
+-- The spans of nodes.
+use Rattle.std.proofs.Common.{◌≡◌, ◌⊎◌, inl, inr, ⊎_elim, ℕ, zero, suc, ◌+◌, ◌-◌, ◌*◌, ◌<◌, ◌≤◌, sym, refl, ap, ◌∙◌, subst, arith}
+use mathlib.Core.Logic.{dite}
+use native.Mathlib.Decide.{ℕ_discrete, dec_le}
+use Rattle.qh_model.specs.BoardMachine.{parent, ancestor, InSpan}
+use Rattle.qh_model.specs.BoardLaws.{SpanOfLeaf, SpanOfNode, SpansApart, SpanOfRoot}
+
+-- a node's ancestor is not greater, and above it at most half
+no_greater : (k n : ℕ) → ancestor k n ≤ n
+no_greater zero n = omega arith
+no_greater (suc k) n = let h = no_greater k n in omega arith
+
+-- the steps in two parts
+ancestor_more : (d k n : ℕ) → ancestor (d + k) n ≡ ancestor d (ancestor k n)
+ancestor_more zero k n = ap (λ (z : ℕ). ancestor z n) (omega arith)
+ancestor_more (suc d) k n = let e : suc d + k ≡ suc (d + k) = omega arith in ap (λ (z : ℕ). ancestor z n) e ∙ ap parent (ancestor_more d k n)
+
+-- the first step apart
+ancestor_first : (k n : ℕ) → ancestor (suc k) n ≡ ancestor k (parent n)
+ancestor_first zero n = refl
+ancestor_first (suc k) n = ap parent (ancestor_first k n)
+
+-- the ancestor of one that is an ancestor further down is at most half of it
+half_below : (k l n : ℕ) → k < l → 2 * ancestor l n ≤ ancestor k n
+half_below k l n h =
+    let d : ℕ = l - suc k in
+    let e : l ≡ suc d + k = omega arith in
+    let m : ancestor l n ≡ parent (ancestor d (ancestor k n)) = ap (λ (z : ℕ). ancestor z n) e ∙ ancestor_more (suc d) k n in
+    let s = no_greater d (ancestor k n) in omega arith
+
+-- each node but 0 has the root above it
+to_root : (n m : ℕ) → m ≤ n → 0 < m → (k : ℕ) × (ancestor k m ≡ 1)
+to_root zero m h lo = absurd (omega arith)
+to_root (suc n) m h lo = dite (ℕ_discrete m 1)
+    (λ e. (0, e))
+    (λ ne. let t = to_root n (parent m) (omega arith) (omega arith) in (suc t.0, ancestor_first t.0 m ∙ t.1))
+
+pub span_of_leaf : SpanOfLeaf
+span_of_leaf B i j h = (there, λ e. (subst (λ (z : ℕ). z < B) (sym e) h, (0, ap (λ (z : ℕ). B + z) e)))
+  where
+    there : InSpan B (B + i) j → j ≡ i
+    there (lt, (zero, e)) = omega arith
+    there (lt, (suc k, e)) = let s = no_greater k (B + j) in absurd (omega arith)
+
+pub span_of_node : SpanOfNode
+span_of_node B i j lo hi = (down, ⊎_elim (λ (t : InSpan B (2 * i) j). (t.0, (suc t.1.0, ap parent t.1.1 ∙ omega arith))) (λ (t : InSpan B (2 * i + 1) j). (t.0, (suc t.1.0, ap parent t.1.1 ∙ omega arith))))
+  where
+    down : InSpan B i j → InSpan B (2 * i) j ⊎ InSpan B (2 * i + 1) j
+    down (lt, (zero, e)) = absurd (omega arith)
+    down (lt, (suc k, e)) = dite (ℕ_discrete (ancestor k (B + j)) (2 * i)) (λ q. inl (lt, (k, q))) (λ ne. inr (lt, (k, omega arith)))
+
+pub spans_apart : SpansApart
+spans_apart B i j lo a b = go a.1.0 b.1.0 a.1.1 b.1.1
+  where
+    go : (k l : ℕ) → ancestor k (B + j) ≡ 2 * i → ancestor l (B + j) ≡ 2 * i + 1 → ⊥
+    go k l e f = dite (ℕ_discrete k l) (λ q. let z : ancestor k (B + j) ≡ ancestor l (B + j) = ap (λ (x : ℕ). ancestor x (B + j)) q in omega arith)
+        (λ ne. dite (dec_le k l) (λ le. let h = half_below k l (B + j) (omega arith) in omega arith) (λ gt. let h = half_below l k (B + j) (omega arith) in omega arith))
+
+pub span_of_root : SpanOfRoot
+span_of_root B j = ((λ t. t.0), λ h. (h, to_root (B + j) (B + j) (omega arith) (omega arith)))
