@@ -3,3 +3,4 @@ pub mod Unique
 pub mod FlatSets
 pub mod OfExtremes
 pub mod SameSets
+pub mod RightValues

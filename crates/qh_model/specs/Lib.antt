@@ -42,3 +42,5 @@ pub mod EdgeLaws
 pub mod FacetPlanes
 pub mod BoardMachine
 pub mod BoardLaws
+pub mod RightValue
+pub mod RightValueLaws

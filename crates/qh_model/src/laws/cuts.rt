@@ -1,5 +1,6 @@
-//! The laws of cuts.
+//! The laws of cuts, and of what is found for their blocks.
 ghost use Rattle.qh_model.specs.CutLaws.{BlocksCover, BlocksAreApart, BlocksAreInside, BlocksAreNotEmpty};
+ghost use Rattle.qh_model.specs.RightValueLaws.{RightOfLeaf, RightOfNode, HullOfRoot};
 
 /// The blocks of a cut have each position once and nothing else, and none is empty.
 pub fn blocks_share_positions()
@@ -7,4 +8,13 @@ pub fn blocks_share_positions()
     ensures apart { BlocksAreApart }
     ensures inside { BlocksAreInside }
     ensures full { BlocksAreNotEmpty }
+{}
+
+/// The extreme ids of a block are right for its leaf in a tree over the blocks, those of what is right
+/// for both children of a node are right for the node, and the hull of what is right for the root is that
+/// of all ids. So blocks can be put together two and two, in any order.
+pub fn right_values_rise()
+    ensures leaf { RightOfLeaf }
+    ensures node { RightOfNode }
+    ensures root { HullOfRoot }
 {}
