@@ -1,0 +1,42 @@
+-- What a contract sees of a board and of the tokens of its passes.
+-- Source: this project's own.
+use Rattle.std.specs.Prelude.{◌≡◌, ℕ, ◌<◌, List, length, slice_index_or, Option, Some, None}
+use Rattle.atomic_table.specs.Seated.{TableId}
+use Rattle.qh_model.specs.BoardMachine.{InSpan}
+use Rattle.qh_board.specs.declared.view.Setup.{Setup}
+use Rattle.qh_board.specs.declared.view.Record.{Record}
+use Rattle.qh_board.specs.contract.Records.{fresh_record}
+
+-- a board: the table that it is, and what it was told when it was made
+pub record BoardValue (S : Type 0) : Type 0 where
+  pub table : TableId
+  pub setup : Setup S
+
+-- a token, be it a Pass, a Task or a Left: the table and what its board was told, and the record of its pass
+pub record Token (S : Type 0) : Type 0 where
+  pub table : TableId
+  pub setup : Option (Setup S)
+  pub pass : Record
+
+-- 0, or the node
+abbrev pub node_or : Option ℕ → ℕ
+node_or None = 0
+node_or (Some i) = i
+
+module _ {S : Type 0} where
+  -- the token is one of the board's
+  pub record IsOf (b : BoardValue S) (t : Token S) : Type 0 where
+    pub table : t.table ≡ b.table
+    pub setup : t.setup ≡ Some b.setup
+
+  -- the node that a task holds
+  abbrev pub task_node : Token S → ℕ
+  task_node t = node_or t.pass.node
+
+  -- the passes of a new board: each has the number of its place, and has done nothing yet
+  abbrev pub AreFresh : List (Token S) → Type 0
+  AreFresh ts = (k : ℕ) (d : Token S) → k < length ts → (slice_index_or ts k d).pass ≡ fresh_record k
+
+  -- the value is right for the span of node i
+  abbrev pub IsRightAt : {X : Type 0} → (S → (ℕ → Type 0) → X → Type 0) → BoardValue S → ℕ → X → Type 0
+  IsRightAt right b i value = right b.setup.spans (InSpan b.setup.blocks i) value
