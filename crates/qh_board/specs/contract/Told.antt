@@ -1,6 +1,6 @@
 -- What the calls of passes tell: the record of the pass after its step, by what the step found.
 -- Source: this project's own.
-use Rattle.std.specs.Prelude.{◌≡◌, ◌≢◌, ℕ, ◌+◌, ◌*◌, ◌/◌, ◌<◌, ◌≤◌, All}
+use Rattle.std.specs.Prelude.{◌≡◌, ℕ, ◌+◌, ◌*◌, ◌/◌, ◌<◌, ◌≤◌, All}
 use Rattle.qh_board.specs.declared.view.Mark.{Mark}
 use Rattle.qh_board.specs.declared.calls.Claim.{Claim}
 use Rattle.qh_board.specs.declared.calls.Claim.TheVariants.{Block, Over}
@@ -28,7 +28,7 @@ module _ {S : Type 0} where
 
   -- the arrival found nobody
   pub record CameFirst (b : BoardValue S) (task after : Token S) : Type 0 where
-    pub inner : task_node task ≢ 1
+    pub inner : 1 < task_node task
     pub mine : IsOf b after
     pub done : after.pass ≡ come_first task.pass
 
@@ -40,7 +40,7 @@ module _ {S : Type 0} where
 
   -- the arrival found the sibling there: the values of the parent's children, each right for its node, and the own one as handed in
   pub record CameSecond {X : Type 0} (right : S → (ℕ → Type 0) → X → Type 0) (b : BoardValue S) (task : Token S) (value : X) (after : Token S) (even odd : X) : Type 0 where
-    pub inner : task_node task ≢ 1
+    pub inner : 1 < task_node task
     pub mine : IsOf b after
     pub done : after.pass ≡ come_second (task_node task / 2) task.pass
     pub even_right : IsRightAt right b (2 * (task_node task / 2)) even
