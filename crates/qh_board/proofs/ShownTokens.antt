@@ -1,8 +1,7 @@
 -- What a token of a board shows of its seat.
-use Rattle.std.proofs.Common.{◌≡◌, ℕ, Bool, false, List, [], ◌∷◌, ap, sym, ◌∙◌, subst, Option, Some, None}
+use Rattle.std.proofs.Common.{◌≡◌, ℕ, Bool, false, ap, sym, ◌∙◌, subst, Option, Some}
 use Rattle.atomic_table.specs.Seated.{TableId}
 use Rattle.qh_board.specs.declared.view.Setup.{Setup}
-use Rattle.qh_board.specs.declared.view.Record.{Record}
 use Rattle.qh_board.specs.declared.view.View.{View}
 use Rattle.qh_board.specs.declared.view.Mark.{Mark}
 use Rattle.qh_model.specs.BoardMachine.{InSpan}

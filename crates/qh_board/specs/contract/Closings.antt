@@ -1,6 +1,6 @@
 -- What a closed board shows.
 -- Source: this project's own.
-use Rattle.std.specs.Prelude.{if◌then◌else◌, ◌==◌, ℕ, ◌+◌, length, slice_index, sum_by, count_by, List, Option, true, false, Bool}
+use Rattle.std.specs.Prelude.{if◌then◌else◌, ◌==◌, ℕ, ◌+◌, length, slice_index, count_by, List, Option}
 use Rattle.std.specs.Slots.{slots_items}
 use Rattle.qh_board.specs.declared.view.Setup.{Setup}
 use Rattle.qh_board.specs.declared.view.Mark as ended

@@ -48,11 +48,13 @@ fn climb(
     }
 }
 
-/// Claims all that is left, and leaves. Each claim is later than the one before, so this ends.
-pub fn work(
+/// Claims all that is left, and leaves; gives up where it gets one block. Each claim is later than the
+/// one before, so this ends.
+pub fn work_but(
     alloc: Global,
     board: &Board<Numbers>,
     pass: Pass<Numbers>,
+    gives_up_at: Option<u32>,
     log: &mut Vec<Met>,
 ) -> Result<Left<Numbers>, AllocError>
     requires board { IsOf board.now pass }
@@ -69,10 +71,27 @@ pub fn work(
             Claim::Block(task) => {
                 let block = task.node() - board.setup.blocks;
                 log.push(Met::Block(block))?;
+                if gives_up_at == Some(block) {
+                    return Ok(board.give_up(task));
+                }
                 pass = climb(board, task, alone(alloc, block)?, log)?;
             }
         }
     }
+}
+
+/// Claims all that is left, and leaves.
+pub fn work(
+    alloc: Global,
+    board: &Board<Numbers>,
+    pass: Pass<Numbers>,
+    log: &mut Vec<Met>,
+) -> Result<Left<Numbers>, AllocError>
+    requires board { IsOf board.now pass }
+    requires going { pass.pass.over ≡ false }
+    ensures { IfOk result (IsOf board.now) }
+{
+    work_but(alloc, board, pass, None, log)
 }
 
 /// Works each pass to its end, the last first.

@@ -5,7 +5,7 @@ use Rattle.qh_board.specs.declared.view.Record.{Record}
 use Rattle.qh_board.specs.contract.Tokens.{BoardValue, node_or, task_node}
 use Rattle.qh_board.specs.steps.Rising.{IsRisingListOf}
 use Rattle.qh_board.proofs.RisingLists.{alone_rises}
-use Rattle.qh_board.proofs.tests.passes.work.Goals as goal
+use Rattle.qh_board.proofs.tests.passes.work_but.Goals as goal
 
 pub climb-requires-clause-right : goal.climb-requires-clause-right
 climb-requires-clause-right c =
