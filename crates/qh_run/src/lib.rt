@@ -7,10 +7,16 @@
 //! Source: Preparata and Hong 1977 (the hull of a set from the hulls of its parts).
 #![tactic(auto)]
 
-mod blocks;
+mod gate;
+mod job;
+mod passes;
+mod reduction;
 mod run;
-mod shares;
-#[cfg(test)]
-mod tests;
+mod turn;
+mod unions;
+mod worker;
 
+pub use gate::{Gate, NoGate};
+pub use job::{Extremes, Job};
 pub use run::{RunError, run_hull};
+pub use worker::work;
