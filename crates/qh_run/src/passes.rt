@@ -27,7 +27,7 @@ pub(crate) fn run_passes<S: Reduction, R: Threads + Sync, G: Gate>(
     if passes.len() < 2 {
         let mut lefts = Vec::with_capacity(alloc, 1)?;
         if let Some(pass) = passes.pop() {
-            lefts.push(run_pass(alloc, board, pass, gate))?;
+            lefts.push_reserved(run_pass(alloc, board, pass, gate));
         }
         return Ok(lefts);
     }
