@@ -11,7 +11,7 @@ use crate::settings::Settings;
 use qh_model::{BLOCK_LIMIT, Cut, CutError, Hull, Id, Memory, Point};
 use qh_plane::distinct;
 use qh_read::read_points;
-use qh_run::{RunError, run_hull};
+use qh_run::{Gate, RunError, run_hull};
 use qh_write::text;
 use std::alloc::Global;
 use std::thread::Threads;
@@ -34,14 +34,15 @@ fn even_cut(alloc: Global, count: u32, wanted: u32) -> Result<Cut, Memory>
     }
 }
 
-/// The hull of the points, by as many workers as the settings say.
-fn hull_of<R: Threads + Sync>(
+/// The hull of the points, by as many workers as the settings say, watched by the gate.
+fn hull_of<R: Threads + Sync, G: Gate>(
     rt: &R,
     alloc: Global,
     pts: &[Point],
     ids: &[Id],
     cut: &Cut,
     settings: &Settings,
+    gate: &G,
 ) -> Result<Hull, Memory>
     requires few { length pts.now ≤ POINT_LIMIT }
     requires some { 0 < length ids.now }
@@ -49,7 +50,7 @@ fn hull_of<R: Threads + Sync>(
     requires cut { positions cut.now ≡ length ids.now }
     ensures { IfOk result (λ h. IsHull pts.now h) }
 {
-    match run_hull(rt, alloc, pts, ids, cut, settings.workers()) {
+    match run_hull(rt, alloc, pts, ids, cut, settings.workers(), gate) {
         Ok(hull) => Ok(hull),
         Err(RunError::Memory) => Err(Memory),
         Err(RunError::BadWorkers) => unreachable!(),
@@ -57,14 +58,16 @@ fn hull_of<R: Threads + Sync>(
 }
 
 /// The texts of the outputs that the settings ask for, of at least one point and at most `POINT_LIMIT`
-/// points. Neither the number of workers nor the size of blocks changes them.
+/// points. Neither the number of workers nor the size of blocks changes them. The gate is told of the
+/// workers' blocks, and takes the hull at the end of their run.
 ///
 /// `Err` says that memory was refused.
-pub fn text_of<R: Threads + Sync>(
+pub fn text_of<R: Threads + Sync, G: Gate>(
     rt: &R,
     alloc: Global,
     pts: &[Point],
     settings: &Settings,
+    gate: &G,
 ) -> Result<Vec<u8>, Memory>
     requires some { 0 < length pts.now }
     requires few { length pts.now ≤ POINT_LIMIT }
@@ -72,24 +75,27 @@ pub fn text_of<R: Threads + Sync>(
 {
     let ids = distinct(rt, alloc, pts)?;
     let cut = even_cut(alloc, ids.len() as u32, settings.block())?;
-    let hull = hull_of(rt, alloc, pts, &ids, &cut, settings)?;
+    let hull = hull_of(rt, alloc, pts, &ids, &cut, settings, gate)?;
     text(alloc, &hull, pts, settings.outs())
 }
 
 /// The texts that the settings ask for, of the points in the input: the one text that the points alone
 /// define.
 ///
+/// The gate is told of the workers' blocks, and takes the hull at the end of their run.
+///
 /// The fault is the first of the input, or want of memory.
-pub fn answer<R: Threads + Sync>(
+pub fn answer<R: Threads + Sync, G: Gate>(
     rt: &R,
     alloc: Global,
     input: &[u8],
     settings: &Settings,
+    gate: &G,
 ) -> Result<Vec<u8>, Fault>
     ensures answered { IfOk result (λ t. IsAnswer input.now settings.now.outs t.items) }
     ensures fault { IfErr result (IsAnswerFault input.now) }
 {
     let points = read_points(alloc, input)?;
-    let text = text_of(rt, alloc, &points, settings)?;
+    let text = text_of(rt, alloc, &points, settings, gate)?;
     Ok(text)
 }

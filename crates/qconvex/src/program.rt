@@ -6,6 +6,7 @@ use crate::command_line::{ArgFault, settings_of};
 use crate::fault::Fault;
 use crate::serve::serve;
 use qh_read::{ReadFault, StdSource};
+use qh_run::NoGate;
 use qh_write::{StdSink, send};
 use std::process::ExitCode;
 use std::rt::Env;
@@ -43,7 +44,7 @@ fn serve_once<R: Env + Input + Print + AllocGlobal + Threads + Sync>(rt: &R) -> 
         Ok(settings) => {
             let mut source = StdSource::new(rt.reader());
             let mut sink = StdSink::new(io::writer(rt));
-            serve(rt, rt.alloc(), &mut source, &mut sink, &settings)
+            serve(rt, rt.alloc(), &mut source, &mut sink, &settings, &NoGate)
         }
         Err(ArgFault::Help(text)) => write_output(rt, text.as_bytes()),
         Err(ArgFault::Usage) => Err(Fault::Usage),

@@ -5,6 +5,7 @@ use crate::answer::text_of;
 use crate::fault::Fault;
 use crate::settings::Settings;
 use qh_read::{Source, read_from};
+use qh_run::Gate;
 use qh_write::{Sink, send};
 use std::alloc::Global;
 use std::thread::Threads;
@@ -13,12 +14,14 @@ use std::thread::Threads;
 ///
 /// Nothing is sent before the whole text stands. The answer tells what the devices did: the table of
 /// `IsServed` and `IsServeFault` has a line for each. After a failure neither device is called again.
-pub fn serve<R: Threads + Sync, S: Source, K: Sink>(
+/// The gate is told of the workers' blocks, and takes the hull at the end of their run.
+pub fn serve<R: Threads + Sync, S: Source, K: Sink, G: Gate>(
     rt: &R,
     alloc: Global,
     source: &mut S,
     sink: &mut K,
     settings: &Settings,
+    gate: &G,
 ) -> Result<(), Fault>
     requires source { S.failure_count source.old < 2 ^ 64 - 1 }
     requires sink { K.count sink.old < 2 ^ 64 - 1 }
@@ -27,7 +30,7 @@ pub fn serve<R: Threads + Sync, S: Source, K: Sink>(
         MatchResult result (λ _. IsServed settings.now.outs old new) (IsServeFault settings.now.outs old new) }
 {
     let points = read_from(alloc, source)?;
-    let text = text_of(rt, alloc, &points, settings)?;
+    let text = text_of(rt, alloc, &points, settings, gate)?;
     send(sink, &text)?;
     Ok(())
 }

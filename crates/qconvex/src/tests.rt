@@ -3,6 +3,7 @@
 mod command_lines;
 mod devices;
 mod faults;
+mod gated;
 mod paraboloid;
 mod programs;
 mod ranks;
@@ -16,6 +17,7 @@ use crate::fault::Fault;
 use crate::serve::serve;
 use crate::settings::Settings;
 use qh_read::MemSource;
+use qh_run::{Gate, NoGate};
 use qh_write::MemSink;
 use std::alloc::{AllocError, Global};
 use std::thread::Threads;
@@ -57,6 +59,36 @@ fn words(alloc: Global, line: &str) -> Result<Vec<String>, AllocError> {
     Ok(words)
 }
 
+/// The outcome of `answer`, watched by a gate.
+fn answered_by<R: Threads + Sync, G: Gate>(
+    rt: &R,
+    alloc: Global,
+    input: &[u8],
+    settings: &Settings,
+    gate: &G,
+) -> Result<Outcome, AllocError> {
+    match answer(rt, alloc, input, settings, gate) {
+        Ok(text) => shown(alloc, &text),
+        Err(fault) => refusal(alloc, &fault),
+    }
+}
+
+/// The outcome of `serve` between memory devices, watched by a gate.
+fn served_by<R: Threads + Sync, G: Gate>(
+    rt: &R,
+    alloc: Global,
+    input: &[u8],
+    settings: &Settings,
+    gate: &G,
+) -> Result<Outcome, AllocError> {
+    let mut source = MemSource::new(input);
+    let mut sink = MemSink::new(alloc);
+    match serve(rt, alloc, &mut source, &mut sink, settings, gate) {
+        Ok(()) => shown(alloc, sink.bytes()),
+        Err(fault) => refusal(alloc, &fault),
+    }
+}
+
 /// The outcome of `answer`.
 fn answered<R: Threads + Sync>(
     rt: &R,
@@ -64,10 +96,7 @@ fn answered<R: Threads + Sync>(
     input: &[u8],
     settings: &Settings,
 ) -> Result<Outcome, AllocError> {
-    match answer(rt, alloc, input, settings) {
-        Ok(text) => shown(alloc, &text),
-        Err(fault) => refusal(alloc, &fault),
-    }
+    answered_by(rt, alloc, input, settings, &NoGate)
 }
 
 /// The outcome of `serve` between memory devices.
@@ -77,12 +106,7 @@ fn served<R: Threads + Sync>(
     input: &[u8],
     settings: &Settings,
 ) -> Result<Outcome, AllocError> {
-    let mut source = MemSource::new(input);
-    let mut sink = MemSink::new(alloc);
-    match serve(rt, alloc, &mut source, &mut sink, settings) {
-        Ok(()) => shown(alloc, sink.bytes()),
-        Err(fault) => refusal(alloc, &fault),
-    }
+    served_by(rt, alloc, input, settings, &NoGate)
 }
 
 /// The settings of a line, or the outcome where it has none.

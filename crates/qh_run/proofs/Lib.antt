@@ -1,4 +1,3 @@
-pub mod BlockExtremes
-pub mod Collected
-pub mod ShareLemmas
 pub mod EvenCuts
+pub mod UnionLemmas
+pub mod RightUnions

@@ -1,2 +1,1 @@
-pub mod Blocks
-pub mod Shares
+pub mod Turns

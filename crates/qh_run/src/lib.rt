@@ -1,16 +1,28 @@
 //! The hull of many points, by workers that share the blocks of a cut.
 //!
-//! [`run_hull`] takes the extreme ids of each block, each worker those of its share of the blocks, and
-//! the hull of all that they found: an id that is not extreme in its block is not extreme in the set.
-//! So the hull is the same for every cut and every number of workers.
+//! [`run_hull`] puts the blocks on a board of `qh_board`, a combining tree. Workers claim blocks and
+//! deliver their extreme ids ([`work`]); whoever comes second at a node takes the extreme ids of both
+//! children's: an id that is not extreme in its part is not extreme in the whole. The calling thread
+//! takes the hull of what comes out at the root, or of all ids where a worker gave up. So the hull is
+//! the same for every cut, every number of workers and every order of their steps.
+//!
+//! A [`Gate`] is told of the blocks, and takes that hull; [`NoGate`] lets them pass.
 //!
 //! Source: Preparata and Hong 1977 (the hull of a set from the hulls of its parts).
 #![tactic(auto)]
 
-mod blocks;
+mod gate;
+mod job;
+mod passes;
+mod reduction;
 mod run;
-mod shares;
 #[cfg(test)]
 mod tests;
+mod turn;
+mod unions;
+mod worker;
 
+pub use gate::{Gate, NoGate};
+pub use job::{Extremes, Job};
 pub use run::{RunError, run_hull};
+pub use worker::work;

@@ -1,5 +1,6 @@
 //! The run of the workers, and the hull of what they found.
-ghost use Rattle.std.specs.Prelude.{◌≡◌, ◌↔◌, ◌<◌, ◌≤◌, IfOk, IsErrOf, length};
+ghost use Rattle.std.specs.Prelude.{◌≡◌, ◌↔◌, ◌<◌, ◌≤◌, IfOk, IfSome, IsErrOf, length};
+ghost use Rattle.qh_model.specs.BoardMachine.{InSpan};
 ghost use Rattle.qh_model.specs.Cut.{positions};
 ghost use Rattle.qh_model.specs.DistinctIds.{AreDistinctIds};
 ghost use Rattle.qh_model.specs.Hull.{IsBody, IsHull};
@@ -7,8 +8,11 @@ ghost use Rattle.qh_model.specs.Predicates.{place};
 ghost use Rattle.qh_model.specs.Sets.{Members};
 ghost use Rattle.qh_model.specs.declared.limits.TheConstants.{POINT_LIMIT, WORKER_LIMIT};
 
-use crate::shares::extremes_by_workers;
-use qh_block::hull;
+use crate::gate::Gate;
+use crate::job::Job;
+use crate::passes::run_passes;
+use crate::reduction::Reduction;
+use qh_board::{Board, BoardError};
 use qh_model::{Body, Cut, Hull, Id, Memory, Point, WORKER_LIMIT};
 use std::alloc::Global;
 use std::thread::Threads;
@@ -33,27 +37,43 @@ impl From<Memory> for RunError {
     }
 }
 
-/// The hull of the ids: at once where they are one block, else that of the blocks' extreme ids.
-fn body<R: Threads + Sync>(
+/// What is right for all blocks, by so many passes; none where a pass gave up.
+fn reduced<S: Reduction, R: Threads + Sync, G: Gate>(
+    rt: &R,
+    alloc: Global,
+    spans: S,
+    passes: u32,
+    gate: &G,
+) -> Result<Option<S::Value>, BoardError>
+    ensures { IfOk result (λ r. IfSome r (S.right spans (InSpan (S.count spans) 1))) }
+{
+    let blocks = spans.blocks();
+    let (board, passes) = Board::new(alloc, spans, blocks, passes)?;
+    let lefts = run_passes(rt, alloc, &board, passes, gate)?;
+    Ok(board.close(lefts).into_root())
+}
+
+/// The hull of the ids: that of the root's list, or of all ids where there is no root.
+fn body<R: Threads + Sync, G: Gate>(
     rt: &R,
     alloc: Global,
     pts: &[Point],
     ids: &[Id],
     cut: &Cut,
     workers: u32,
+    gate: &G,
 ) -> Result<Body, Memory>
-    requires distinct { AreDistinctIds pts.now ids.now }
     requires some_ids { 0 < length ids.now }
+    requires distinct { AreDistinctIds pts.now ids.now }
     requires cut { positions cut.now ≡ length ids.now }
-    requires some { 0 < workers }
-    requires few { workers ≤ WORKER_LIMIT }
     ensures { IfOk result (λ b. IsBody (place pts.now) (Members ids.now) b) }
 {
-    if cut.blocks() == 1 {
-        return hull(alloc, pts, ids);
+    let passes = workers.min(cut.blocks());
+    let job = Job { pts, ids, cut };
+    match reduced(rt, alloc, job, passes, gate) {
+        Ok(Some(root)) => gate.finish(alloc, pts, &root.ids),
+        _ => gate.finish(alloc, pts, ids),
     }
-    let found = extremes_by_workers(rt, alloc, pts, ids, cut, workers)?;
-    hull(alloc, pts, &found)
 }
 
 /// The hull of a list of points.
@@ -67,13 +87,14 @@ fn body<R: Threads + Sync>(
 ///
 /// `BadWorkers` for a number of workers that is not from 1 to `WORKER_LIMIT`, before all else;
 /// `Memory` where memory was refused.
-pub fn run_hull<R: Threads + Sync>(
+pub fn run_hull<R: Threads + Sync, G: Gate>(
     rt: &R,
     alloc: Global,
     pts: &[Point],
     ids: &[Id],
     cut: &Cut,
     workers: u32,
+    gate: &G,
 ) -> Result<Hull, RunError>
     requires few { length pts.now ≤ POINT_LIMIT }
     requires some { 0 < length ids.now }
@@ -85,7 +106,7 @@ pub fn run_hull<R: Threads + Sync>(
     if workers < 1 || workers > WORKER_LIMIT {
         return Err(RunError::BadWorkers);
     }
-    let body = body(rt, alloc, pts, ids, cut, workers)?;
+    let body = body(rt, alloc, pts, ids, cut, workers, gate)?;
     Ok(Hull {
         given: pts.len() as u32,
         distinct: ids.len() as u32,

@@ -1,6 +1,10 @@
 //! Rows of points and their hulls, by several cuts and numbers of workers.
+ghost use Rattle.std.specs.Prelude.{◌≡◌, IfOk};
+ghost use Rattle.qh_board.specs.Tokens.{closed_setup};
+ghost use Rattle.qh_model.specs.DistinctIds.{AreDistinctIds};
 
-use crate::{RunError, run_hull};
+use crate::{Job, NoGate, RunError, run_hull, work};
+use qh_board::{Board, BoardError, Closed, Mark};
 use qh_model::{Cut, CutError, Hull, Id, POINT_LIMIT, Point};
 use qh_plane::distinct;
 use std::alloc::{AllocError, Global};
@@ -91,7 +95,7 @@ fn hull_by<R: Threads + Sync>(
     if end as usize != ids.len() {
         return Ok(None);
     }
-    Ok(Some(run_hull(rt, alloc, points, &ids, cut, workers)?))
+    Ok(Some(run_hull(rt, alloc, points, &ids, cut, workers, &NoGate)?))
 }
 
 /// The number of ids, and the ids.
@@ -116,6 +120,50 @@ fn numbers_of(alloc: Global, hull: &Hull) -> Result<Vec<usize>, AllocError> {
         push_ids(&mut numbers, polygon.ids())?;
     }
     Ok(numbers)
+}
+
+/// The board of a job whose one pass was worked to its end.
+fn worked_by_one<'a>(alloc: Global, job: Job<'a>) -> Result<Closed<Job<'a>>, BoardError>
+    ensures { IfOk result (λ c. (closed_setup c).passes ≡ 1) }
+{
+    let blocks = job.cut.blocks();
+    let (board, mut passes) = Board::new(alloc, job, blocks, 1)?;
+    let mut lefts = Vec::with_capacity(alloc, 1)?;
+    if let Some(pass) = passes.pop() {
+        lefts.push_reserved(work(alloc, &board, pass, &NoGate));
+    }
+    Ok(board.close(lefts))
+}
+
+/// The points, their distinct ids and a cut of them as a job; none where the cut is of another number
+/// of positions.
+fn job<'a>(pts: &'a [Point], ids: &'a [Id], cut: &'a Cut) -> Option<Job<'a>>
+    requires { AreDistinctIds pts.now ids.now }
+{
+    let (_, end) = cut.block(cut.blocks() - 1);
+    if end as usize != ids.len() {
+        return None;
+    }
+    Some(Job { pts, ids, cut })
+}
+
+#[test]
+fn one_pass_reduces_all_blocks(rt: HostRuntime) -> Result<(), Fail> {
+    let alloc = rt.alloc();
+    let points = octahedron();
+    let ids = distinct(&rt, alloc, &points)?;
+    let cut = Cut::even(alloc, 18, 3)?;
+    let job = job(&points, &ids, &cut).ok_or("another cut")?;
+    let Ok(closed) = worked_by_one(alloc, job) else {
+        return Err("no memory".into());
+    };
+    assert_eq!(rt; closed.claims(), 7);
+    assert_eq!(rt; closed.mark(0), Mark::Left);
+    let root = closed.into_root().ok_or("no root")?;
+    let mut numbers = Vec::new(alloc);
+    push_ids(&mut numbers, &root.ids)?;
+    assert_eq!(rt; numbers.as_slice(), [6, 0, 2, 3, 5, 6, 9].as_slice());
+    Ok(())
 }
 
 #[test]

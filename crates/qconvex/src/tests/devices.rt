@@ -3,6 +3,7 @@ use crate::fault::Fault;
 use crate::serve::serve;
 use qh_read::fakes::FailSource;
 use qh_read::{MemSource, ReadFault, Source};
+use qh_run::NoGate;
 use qh_write::fakes::{FailSink, SinkPlan};
 use qh_write::{MemSink, Sink};
 use std::test::Fail;
@@ -19,7 +20,7 @@ fn a_failing_source_sends_nothing(rt: HostRuntime) -> Result<(), Fail> {
     for k in 1..30u64 {
         let mut source = FailSource::new(TETRAHEDRON.as_bytes(), 1, Some(k));
         let mut sink = MemSink::new(alloc);
-        let outcome = serve(&rt, alloc, &mut source, &mut sink, &settings);
+        let outcome = serve(&rt, alloc, &mut source, &mut sink, &settings, &NoGate);
         assert_eq!(rt; outcome, Err(Fault::Read(ReadFault::Device)), "at read {k}");
         assert!(rt; sink.bytes().is_empty());
         assert_eq!(rt; source.failures(), 1);
@@ -27,7 +28,7 @@ fn a_failing_source_sends_nothing(rt: HostRuntime) -> Result<(), Fail> {
     let mut source = FailSource::new(TETRAHEDRON.as_bytes(), 1, Some(30));
     let mut sink = MemSink::new(alloc);
     assert_eq!(rt;
-        serve(&rt, alloc, &mut source, &mut sink, &settings),
+        serve(&rt, alloc, &mut source, &mut sink, &settings, &NoGate),
         Ok(())
     );
     assert_eq!(rt; sink.bytes(), b"4 4 3\n".as_slice());
@@ -49,7 +50,7 @@ fn a_failing_sink_has_a_beginning(rt: HostRuntime) -> Result<(), Fail> {
         };
         let mut source = MemSource::new(TETRAHEDRON.as_bytes());
         let mut sink = FailSink::new(alloc, plan);
-        let outcome = serve(&rt, alloc, &mut source, &mut sink, &settings);
+        let outcome = serve(&rt, alloc, &mut source, &mut sink, &settings, &NoGate);
         assert_eq!(rt; outcome, Err(Fault::Send), "at {room}");
         assert_eq!(rt; sink.bytes(), &b"4 4 3\n"[..room]);
         assert_eq!(rt; sink.failures(), 1);
@@ -71,7 +72,7 @@ fn the_worked_failures(rt: HostRuntime) -> Result<(), Fail> {
     };
     let mut source = MemSource::new(b"3\n1\n5 5 5\n");
     let mut full = FailSink::new(alloc, plan);
-    let outcome = serve(&rt, alloc, &mut source, &mut full, &settings);
+    let outcome = serve(&rt, alloc, &mut source, &mut full, &settings, &NoGate);
     assert_eq!(rt; outcome, Err(Fault::Send));
     assert_eq!(rt; full.bytes(), b"OFF\n1 1".as_slice());
     let mut source = MemSource::new(b"3\n1\n5 5 5\n");
@@ -81,13 +82,13 @@ fn the_worked_failures(rt: HostRuntime) -> Result<(), Fail> {
         ..plan
     };
     let mut unflushed = FailSink::new(alloc, stuck);
-    let outcome = serve(&rt, alloc, &mut source, &mut unflushed, &settings);
+    let outcome = serve(&rt, alloc, &mut source, &mut unflushed, &settings, &NoGate);
     assert_eq!(rt; outcome, Err(Fault::Send));
     assert_eq!(rt; unflushed.bytes(), b"OFF\n1 1 0\n5 5 5\n1 0\n".as_slice());
     // The first read gives 4 bytes, the second fails.
     let mut source = FailSource::new(TETRAHEDRON.as_bytes(), 4, Some(2));
     let mut sink = MemSink::new(alloc);
-    let outcome = serve(&rt, alloc, &mut source, &mut sink, &settings);
+    let outcome = serve(&rt, alloc, &mut source, &mut sink, &settings, &NoGate);
     assert_eq!(rt; outcome, Err(Fault::Read(ReadFault::Device)));
     assert!(rt; sink.bytes().is_empty());
     Ok(())

@@ -29,10 +29,10 @@ const LIMIT_CUBE_OFF: &str =
     "OFF\n8 6 12\n-1048576 -1048576 -1048576\n-1048576 -1048576 1048576\n-1048576 1048576 -1048576\n-1048576 1048576 1048576\n1048576 -1048576 -1048576\n1048576 -1048576 1048576\n1048576 1048576 -1048576\n1048576 1048576 1048576\n4 0 1 3 2\n4 0 2 6 4\n4 0 4 5 1\n4 1 5 7 3\n4 2 3 7 6\n4 4 6 7 5\n";
 
 /// An octahedron and the middles of its edges.
-const OCTAHEDRON: &str =
+pub(super) const OCTAHEDRON: &str =
     "3\n18\n2 0 0\n1 1 0\n0 2 0\n-2 0 0\n-1 -1 0\n0 -2 0\n0 0 2\n1 0 1\n0 1 1\n0 0 -2\n-1 0 -1\n0 -1 -1\n1 -1 0\n-1 1 0\n-1 0 1\n1 0 -1\n0 -1 1\n0 1 -1\n";
 
-const OCTAHEDRON_OFF: &str =
+pub(super) const OCTAHEDRON_OFF: &str =
     "OFF\n6 8 12\n2 0 0\n0 2 0\n-2 0 0\n0 -2 0\n0 0 2\n0 0 -2\n3 0 1 4\n3 0 3 5\n3 0 4 3\n3 0 5 1\n3 1 2 4\n3 1 5 2\n3 2 3 4\n3 2 5 3\n";
 
 const OCTAHEDRON_SUMMARY: &str =

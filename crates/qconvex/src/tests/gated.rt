@@ -1,0 +1,195 @@
+//! Workers that are held back until others have done something, which they see only where they run at
+//! once.
+//!
+//! The points are those of an octahedron and the middles of its edges, in blocks of 3. The gates take
+//! the hull of no other list than that of the extreme ids.
+ghost use Rattle.std.specs.Prelude.{◌<◌, length};
+ghost use Rattle.qh_model.specs.Hull.{IsHull};
+
+use super::solids::{OCTAHEDRON, OCTAHEDRON_OFF};
+use super::{answered_by, served_by, settings};
+use crate::fault::Fault;
+use crate::settings::Settings;
+use qh_model::{Body, Cut, CutError, Id, Memory, POINT_LIMIT, Point};
+use qh_plane::distinct;
+use qh_read::read_points;
+use qh_run::{Gate, NoGate, RunError, run_hull};
+use qh_write::text;
+use std::alloc::Global;
+use std::sync::atomic::{AtomicU64, Ordering};
+use std::test::Fail;
+use std::thread::Threads;
+
+/// How many turns a worker is held back at most.
+const TURNS: u64 = 1000000000;
+
+/// The extreme ids.
+const EXTREMES: [usize; 6] = [0, 2, 3, 5, 6, 9];
+
+/// Which blocks are held back once they are claimed.
+#[derive(Clone, Copy, Debug, Drop)]
+enum Holds {
+    /// Block 0, until block 1 was delivered.
+    FirstUntilSecond,
+    /// Blocks 0, 1 and 2, until all three were claimed.
+    ThreeUntilAll,
+}
+
+/// A gate that holds blocks back.
+#[derive(Drop)]
+struct Hold {
+    holds: Holds,
+    /// How many of the events came that it waits for.
+    came: AtomicU64,
+    /// How many workers went on before all came.
+    late: AtomicU64,
+}
+
+impl Hold {
+    fn new(holds: Holds) -> Hold {
+        Hold {
+            holds,
+            came: AtomicU64::new(0),
+            late: AtomicU64::new(0),
+        }
+    }
+
+    /// An event came.
+    fn tell(&self) {
+        self.came.fetch_add(1, Ordering::SeqCst);
+    }
+
+    /// Waits until so many events came, for `TURNS` turns at most.
+    fn wait(&self, events: u64) {
+        for _ in 0..TURNS {
+            if self.came.load(Ordering::SeqCst) >= events {
+                return;
+            }
+        }
+        self.late.fetch_add(1, Ordering::SeqCst);
+    }
+
+    /// Whether the events came, and before any worker went on.
+    fn came_in_time(&self) -> bool {
+        self.came.load(Ordering::SeqCst) > 0 && self.late.load(Ordering::SeqCst) == 0
+    }
+}
+
+impl Gate for Hold {
+    fn claimed(&self, _pass: u32, block: u32) {
+        match self.holds {
+            Holds::FirstUntilSecond if block == 0 => self.wait(1),
+            Holds::ThreeUntilAll if block < 3 => {
+                self.tell();
+                self.wait(3);
+            }
+            _ => (),
+        }
+    }
+
+    fn delivered(&self, _pass: u32, block: u32) {
+        match self.holds {
+            Holds::FirstUntilSecond if block == 1 => self.tell(),
+            _ => (),
+        }
+    }
+
+    fn finish(&self, alloc: Global, pts: &[Point], ids: &[Id]) -> Result<Body, Memory> {
+        let mut numbers = Vec::new(alloc);
+        for id in ids {
+            numbers.push(id.index())?;
+        }
+        if numbers.as_slice() != EXTREMES.as_slice() {
+            return Err(Memory);
+        }
+        NoGate.finish(alloc, pts, ids)
+    }
+}
+
+/// A gate that takes no hull.
+struct NoHull;
+
+impl Gate for NoHull {
+    fn claimed(&self, _pass: u32, _block: u32) {}
+
+    fn delivered(&self, _pass: u32, _block: u32) {}
+
+    fn finish(&self, _alloc: Global, _pts: &[Point], _ids: &[Id]) -> Result<Body, Memory> {
+        Err(Memory)
+    }
+}
+
+/// The text of the hull that `run_hull` takes of the points, in blocks of 3; none where there is a fault.
+fn hulled_by<R: Threads + Sync, G: Gate>(
+    rt: &R,
+    alloc: Global,
+    settings: &Settings,
+    gate: &G,
+) -> Option<Vec<u8>> {
+    let points = read_points(alloc, OCTAHEDRON.as_bytes()).ok()?;
+    let ids = distinct(rt, alloc, &points).ok()?;
+    let cut = Cut::from_bounds(Vec::from_slice(alloc, &[0, 3, 6, 9, 12, 15, 18]).ok()?).ok()?;
+    if ids.len() != 18 {
+        return None;
+    }
+    let hull = run_hull(rt, alloc, &points, &ids, &cut, settings.workers(), gate).ok()?;
+    text(alloc, &hull, &points, settings.outs()).ok()
+}
+
+/// Lines, and what a gate holds back under them.
+const HELD: [(&str, Holds); 2] = [
+    ("--block 3 --workers 2 off", Holds::FirstUntilSecond),
+    ("--block 3 --workers 3 off", Holds::ThreeUntilAll),
+];
+
+#[test]
+fn workers_run_at_once(rt: HostRuntime) -> Result<(), Fail> {
+    let alloc = rt.alloc();
+    for (line, holds) in HELD {
+        let Ok(settings) = settings(alloc, line)? else {
+            return Err("the line is a command line".into());
+        };
+        let gate = Hold::new(holds);
+        let hulled = hulled_by(&rt, alloc, &settings, &gate).ok_or("a hull")?;
+        assert!(rt; gate.came_in_time(), "run_hull, {holds:?}");
+        assert_eq!(rt; hulled.as_slice(), OCTAHEDRON_OFF.as_bytes());
+        let gate = Hold::new(holds);
+        let answered = answered_by(&rt, alloc, OCTAHEDRON.as_bytes(), &settings, &gate)?;
+        assert!(rt; gate.came_in_time(), "answer, {holds:?}");
+        assert_eq!(rt; answered.output.as_str(), OCTAHEDRON_OFF);
+        let gate = Hold::new(holds);
+        let served = served_by(&rt, alloc, OCTAHEDRON.as_bytes(), &settings, &gate)?;
+        assert!(rt; gate.came_in_time(), "serve, {holds:?}");
+        assert_eq!(rt; served.output.as_str(), OCTAHEDRON_OFF);
+    }
+    Ok(())
+}
+
+#[test]
+fn the_gate_takes_the_hull(rt: HostRuntime) -> Result<(), Fail> {
+    let alloc = rt.alloc();
+    for line in [
+        "--block 3 --workers 1 off",
+        "--block 3 --workers 3 off",
+        "off",
+    ] {
+        let Ok(settings) = settings(alloc, line)? else {
+            return Err("the line is a command line".into());
+        };
+        let hulled = hulled_by(&rt, alloc, &settings, &NoHull);
+        assert!(rt; hulled.is_none(), "run_hull, {line}");
+        let answered = answered_by(&rt, alloc, OCTAHEDRON.as_bytes(), &settings, &NoHull)?;
+        assert_eq!(rt;
+            answered.error.as_str(),
+            "qconvex: 8: Memory",
+            "answer, {line}"
+        );
+        let served = served_by(&rt, alloc, OCTAHEDRON.as_bytes(), &settings, &NoHull)?;
+        assert_eq!(rt;
+            served.error.as_str(),
+            "qconvex: 8: Memory",
+            "serve, {line}"
+        );
+    }
+    Ok(())
+}

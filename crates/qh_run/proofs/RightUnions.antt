@@ -1,0 +1,27 @@
+-- The union of two right values, as a set of ids.
+use Rattle.std.proofs.Common.{ℕ, ◌≡◌, ◌<◌, ◌⊎◌, ◌↔◌, inl, inr, List, length}
+use Rattle.std.specs.List.Sorted.{IsStrictlyIncreasing}
+use Rattle.qh_model.specs.Vector.{Vector}
+use Rattle.qh_model.specs.Sets.{In}
+use Rattle.qh_model.specs.DistinctIds.{IsIdSet}
+use Rattle.qh_model.specs.RightValue.{RightValue}
+use Rattle.qh_model.proofs.Members.{All-In, All-of}
+use Rattle.qh_model.proofs.hulls.RightValues.{right_within}
+use Rattle.qh_plane.specs.PlaceKeys.{AreIndices}
+
+-- an id of the union is one of the list
+pub union_within : (pts : List Vector) (ids bounds : List ℕ) (J K : ℕ → Type 0) (xs ys both : List ℕ) → RightValue pts ids bounds J xs → RightValue pts ids bounds K ys
+    → ((i : ℕ) → In i both ↔ (In i xs ⊎ In i ys)) → (i : ℕ) → In i both → In i ids
+union_within pts ids bounds J K xs ys both x y union i m = go ((union i).0 m)
+  where
+    go : In i xs ⊎ In i ys → In i ids
+    go (inl h) = right_within pts ids bounds J xs x i h
+    go (inr h) = right_within pts ids bounds K ys y i h
+
+-- ids of a list of indices are indices
+pub part_indices : (pts : List Vector) (ids both : List ℕ) → AreIndices pts ids → ((i : ℕ) → In i both → In i ids) → AreIndices pts both
+part_indices pts ids both indices within = All-of (λ i. i < length pts) both (λ i m. All-In (λ i. i < length pts) ids i indices (within i m))
+
+-- rising ids of a list of ids of distinct points have distinct points
+pub part_set : (pts : List Vector) (ids both : List ℕ) → IsIdSet pts ids → IsStrictlyIncreasing both → ((i : ℕ) → In i both → In i ids) → IsIdSet pts both
+part_set pts ids both set rising within = record { rising = rising; distinct = λ i j m n e. set.distinct i j (within i m) (within j n) e }

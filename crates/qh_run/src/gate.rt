@@ -1,0 +1,46 @@
+//! What the workers tell of their run, and who takes its last hull.
+ghost use Rattle.std.specs.Prelude.{◌<◌, IfOk, length};
+ghost use Rattle.qh_model.specs.DistinctIds.{IsIdSet};
+ghost use Rattle.qh_model.specs.Hull.{IsBody};
+ghost use Rattle.qh_model.specs.Predicates.{place};
+ghost use Rattle.qh_model.specs.Sets.{Members};
+ghost use Rattle.qh_plane.specs.PlaceKeys.{AreIndices};
+
+use qh_block::hull;
+use qh_model::{Body, Id, Memory, Point};
+use std::alloc::Global;
+
+/// What is told of the blocks of a run, by the workers' threads, and takes the hull at its end.
+///
+/// A gate may hold back the thread that calls it. No other worker waits for that one.
+pub trait Gate: Sync {
+    /// Is told that a pass has claimed a block, before the pass works at it.
+    fn claimed(&self, pass: u32, block: u32);
+
+    /// Is told that a pass has delivered the extreme ids of a block, once the board has answered.
+    fn delivered(&self, pass: u32, block: u32);
+
+    /// The hull of a set, under the condition of `qh_block::hull`, which is also the caller's.
+    ///
+    /// # Errors
+    ///
+    /// `Memory` where memory was refused; a gate may say that it was.
+    fn finish(&self, alloc: Global, pts: &[Point], ids: &[Id]) -> Result<Body, Memory>
+        requires some { 0 < length ids.now }
+        requires indices { AreIndices pts.now ids.now }
+        ensures { IfOk result (λ b. IsIdSet pts.now ids.now → IsBody (place pts.now) (Members ids.now) b) };
+}
+
+/// A gate that lets all blocks pass, and takes the hull by `qh_block::hull`.
+#[derive(Clone, Copy, Debug, Drop)]
+pub struct NoGate;
+
+impl Gate for NoGate {
+    fn claimed(&self, _pass: u32, _block: u32) {}
+
+    fn delivered(&self, _pass: u32, _block: u32) {}
+
+    fn finish(&self, alloc: Global, pts: &[Point], ids: &[Id]) -> Result<Body, Memory> {
+        hull(alloc, pts, ids)
+    }
+}

@@ -1,0 +1,51 @@
+//! Passes side by side.
+ghost use Rattle.std.specs.Prelude.{◌≡◌, false, length, IfOk, All};
+ghost use Rattle.qh_board.specs.Tokens.{IsPassOf, IsLeftOf, board_setup, is_over};
+
+use crate::gate::Gate;
+use crate::reduction::Reduction;
+use crate::worker::run_pass;
+use qh_board::{Board, Left, Pass};
+use std::alloc::{AllocError, Global};
+use std::thread::{Threads, join};
+
+/// Works each pass of a list to its end: the two halves of the list side by side, in threads of `rt`, and
+/// so again the halves of each, down to one pass.
+pub(crate) fn run_passes<S: Reduction, R: Threads + Sync, G: Gate>(
+    rt: &R,
+    alloc: Global,
+    board: &Board<S>,
+    passes: Vec<Pass<S>>,
+    gate: &G,
+) -> Result<Vec<Left<S>>, AllocError>
+    requires board { All (IsPassOf board.now) passes.items }
+    requires going { All (λ p. is_over p ≡ false) passes.items }
+    requires blocks { (board_setup board.now).blocks ≡ S.count (board_setup board.now).spans }
+    ensures { IfOk result (λ v. (length v.items ≡ length passes.items) × All (IsLeftOf board.now) v.items) }
+{
+    let mut passes = passes;
+    if passes.len() < 2 {
+        let mut lefts = Vec::with_capacity(alloc, 1)?;
+        if let Some(pass) = passes.pop() {
+            lefts.push_reserved(run_pass(alloc, board, pass, gate));
+        }
+        return Ok(lefts);
+    }
+    let half = passes.len() / 2;
+    let others = passes.split_off(half)?;
+    let (one, two) = join(
+        rt,
+        || -> Result<Vec<Left<S>>, AllocError>
+            requires { All (IsPassOf board.now) passes.items × All (λ p. is_over p ≡ false) passes.items × ((board_setup board.now).blocks ≡ S.count (board_setup board.now).spans) }
+            ensures { IfOk result (λ v. (length v.items ≡ length passes.items) × All (IsLeftOf board.entry.now) v.items) }
+        { run_passes(rt, alloc, board, passes, gate) },
+        || -> Result<Vec<Left<S>>, AllocError>
+            requires { All (IsPassOf board.now) others.items × All (λ p. is_over p ≡ false) others.items × ((board_setup board.now).blocks ≡ S.count (board_setup board.now).spans) }
+            ensures { IfOk result (λ v. (length v.items ≡ length others.items) × All (IsLeftOf board.entry.now) v.items) }
+        { run_passes(rt, alloc, board, others, gate) },
+    );
+    let mut lefts = one?;
+    let mut more = two?;
+    lefts.append(&mut more)?;
+    Ok(lefts)
+}

@@ -1,0 +1,46 @@
+//! What a pass finds for the nodes of a tree over blocks.
+ghost use Rattle.std.specs.Prelude.{◌≡◌, ◌+◌, ◌*◌, ◌<◌, ℕ, IfOk};
+ghost use Rattle.qh_model.specs.BoardMachine.{InSpan};
+
+use qh_board::Spans;
+use qh_model::Memory;
+use std::alloc::Global;
+
+/// Why a pass gives up: memory was refused, or going on would cost more than it saves.
+#[derive(Clone, Copy, Debug, Drop)]
+pub(crate) struct GivesUp;
+
+impl From<Memory> for GivesUp {
+    fn from(_memory: Memory) -> GivesUp {
+        GivesUp
+    }
+}
+
+/// A reduction over blocks: what is found for a block, and for an inner node from what was found for
+/// its children. A value is right for a node where it is right for the blocks of its span.
+pub(crate) trait Reduction: Spans {
+    // The number of blocks.
+    ghost count: { Self → ℕ };
+
+    /// The number of blocks.
+    fn blocks(&self) -> u32
+        ensures { result ≡ Self.count self.now };
+
+    /// What is found for a block.
+    fn reduce(&self, alloc: Global, block: u32) -> Result<Self::Value, GivesUp>
+        requires { block < Self.count self.now }
+        ensures { IfOk result (Self.right self.now (InSpan (Self.count self.now) (Self.count self.now + block))) };
+
+    /// What is found for an inner node, from the values of its even child and of its odd child.
+    fn combine(
+        &self,
+        alloc: Global,
+        node: u32,
+        even: Self::Value,
+        odd: Self::Value,
+    ) -> Result<Self::Value, GivesUp>
+        requires inner { (0 < node) × (node < Self.count self.now) }
+        requires even { Self.right self.now (InSpan (Self.count self.now) (2 * node)) even }
+        requires odd { Self.right self.now (InSpan (Self.count self.now) (2 * node + 1)) odd }
+        ensures { IfOk result (Self.right self.now (InSpan (Self.count self.now) node)) };
+}

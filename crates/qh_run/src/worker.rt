@@ -1,0 +1,113 @@
+//! What one pass does.
+ghost use Rattle.std.specs.Prelude.{◌≡◌, ◌+◌, ◌<◌, ℕ, false, true};
+ghost use Rattle.qh_model.specs.Cut.{block_count};
+ghost use Rattle.qh_board.specs.declared.view.Mark.TheVariants as marks;
+ghost use Rattle.qh_board.specs.Tokens.{IsPassOf, IsTaskOf, IsLeftOf, board_setup, is_over, pass_number, task_node, task_number, task_over, left_number, left_over, left_mark};
+ghost use Rattle.qh_run.specs.Turns.{IsAnswerOf, IsTurnOf, answered_number, answered_over};
+
+use crate::gate::Gate;
+use crate::job::Job;
+use crate::reduction::Reduction;
+use crate::turn::Turn;
+use qh_board::{Board, Claim, Delivered, Left, Pass, Task};
+use std::alloc::Global;
+
+/// Goes up the tree from a deliver that was answered: wherever the pass came second, it combines the
+/// values of both children and delivers the parent's.
+fn climb<S: Reduction>(alloc: Global, board: &Board<S>, answer: Delivered<S>) -> Turn<S>
+    requires answer { IsAnswerOf S.right board.now answer }
+    requires blocks { (board_setup board.now).blocks ≡ S.count (board_setup board.now).spans }
+    ensures { IsTurnOf board.now (answered_number answer) (answered_over answer) result }
+{
+    let mut answer = answer;
+    'up: loop {
+        match answer {
+            Delivered::Parked(pass) => return Turn::Ended(pass),
+            Delivered::Root(pass) => return Turn::Ended(pass),
+            Delivered::Both(task, even, odd) => {
+                match board.spans().combine(alloc, task.node(), even, odd) {
+                    Ok(value) => answer = board.deliver(task, value),
+                    Err(_) => return Turn::GaveUp(board.give_up(task)),
+                }
+            }
+        }
+    }
+}
+
+/// Works at a block that was claimed: reduces it, delivers its value, and goes up the tree.
+fn take_turn<S: Reduction, G: Gate>(
+    alloc: Global,
+    board: &Board<S>,
+    task: Task<S>,
+    gate: &G,
+) -> Turn<S>
+    requires board { IsTaskOf board.now task }
+    requires blocks { (board_setup board.now).blocks ≡ S.count (board_setup board.now).spans }
+    requires leaf { (j : ℕ) × (j < (board_setup board.now).blocks) × (task_node task ≡ (board_setup board.now).blocks + j) }
+    ensures { IsTurnOf board.now (task_number task) (task_over task) result }
+{
+    let pass = task.pass();
+    let block = task.node() - board.spans().blocks();
+    gate.claimed(pass, block);
+    match board.spans().reduce(alloc, block) {
+        Ok(value) => {
+            let answer = board.deliver(task, value);
+            gate.delivered(pass, block);
+            climb(alloc, board, answer)
+        }
+        Err(_) => Turn::GaveUp(board.give_up(task)),
+    }
+}
+
+/// Works a pass to its end, for whatever is reduced.
+pub(crate) fn run_pass<S: Reduction, G: Gate>(
+    alloc: Global,
+    board: &Board<S>,
+    pass: Pass<S>,
+    gate: &G,
+) -> Left<S>
+    requires board { IsPassOf board.now pass }
+    requires going { is_over pass ≡ false }
+    requires blocks { (board_setup board.now).blocks ≡ S.count (board_setup board.now).spans }
+    ensures board { IsLeftOf board.now result }
+    ensures number { left_number result ≡ pass_number pass }
+    ensures over { left_mark result ≡ marks.Left → left_over result ≡ true }
+{
+    let mut pass = pass;
+    for _ in 0..board.spans().blocks() {
+        match board.claim(pass) {
+            Claim::Over(over) => return board.leave(over),
+            Claim::Block(task) => match take_turn(alloc, board, task, gate) {
+                Turn::Ended(next) => pass = next,
+                Turn::GaveUp(left) => return left,
+            },
+        }
+    }
+    match board.claim(pass) {
+        Claim::Over(over) => board.leave(over),
+        Claim::Block(task) => board.give_up(task),
+    }
+}
+
+/// Works a pass of a board to its end: claims blocks, delivers their extreme ids, and takes the extreme
+/// ids of both children's wherever it came second. It leaves once all blocks are claimed.
+///
+/// The board's blocks are those of the job's cut.
+///
+/// The pass gives up where memory is refused; where the tree does not pay, since its blocks have many
+/// ids and most of them are extreme; and at the one block of a board of one.
+pub fn work<'a, G: Gate>(
+    alloc: Global,
+    board: &Board<Job<'a>>,
+    pass: Pass<Job<'a>>,
+    gate: &G,
+) -> Left<Job<'a>>
+    requires board { IsPassOf board.now pass }
+    requires going { is_over pass ≡ false }
+    requires blocks { (board_setup board.now).blocks ≡ block_count (board_setup board.now).spans.cut.now }
+    ensures board { IsLeftOf board.now result }
+    ensures number { left_number result ≡ pass_number pass.entry }
+    ensures over { left_mark result ≡ marks.Left → left_over result ≡ true }
+{
+    run_pass(alloc, board, pass, gate)
+}
