@@ -1,6 +1,6 @@
 //! Passes side by side.
 ghost use Rattle.std.specs.Prelude.{◌≡◌, false, length, IfOk, All};
-ghost use Rattle.qh_board.specs.Tokens.{IsPassOf, IsLeftOf, board_setup, is_over};
+ghost use Rattle.qh_board.specs.contract.Tokens.{IsOf};
 
 use crate::gate::Gate;
 use crate::reduction::Reduction;
@@ -18,10 +18,10 @@ pub(crate) fn run_passes<S: Reduction, R: Threads + Sync, G: Gate>(
     passes: Vec<Pass<S>>,
     gate: &G,
 ) -> Result<Vec<Left<S>>, AllocError>
-    requires board { All (IsPassOf board.now) passes.items }
-    requires going { All (λ p. is_over p ≡ false) passes.items }
-    requires blocks { (board_setup board.now).blocks ≡ S.count (board_setup board.now).spans }
-    ensures { IfOk result (λ v. (length v.items ≡ length passes.items) × All (IsLeftOf board.now) v.items) }
+    requires board { All (IsOf board.now) passes.items }
+    requires going { All (λ p. p.pass.over ≡ false) passes.items }
+    requires blocks { board.now.setup.blocks ≡ S.count board.now.setup.spans }
+    ensures { IfOk result (λ v. (length v.items ≡ length passes.items) × All (IsOf board.now) v.items) }
 {
     let mut passes = passes;
     if passes.len() < 2 {
@@ -36,12 +36,12 @@ pub(crate) fn run_passes<S: Reduction, R: Threads + Sync, G: Gate>(
     let (one, two) = join(
         rt,
         || -> Result<Vec<Left<S>>, AllocError>
-            requires { All (IsPassOf board.now) passes.items × All (λ p. is_over p ≡ false) passes.items × ((board_setup board.now).blocks ≡ S.count (board_setup board.now).spans) }
-            ensures { IfOk result (λ v. (length v.items ≡ length passes.items) × All (IsLeftOf board.entry.now) v.items) }
+            requires { All (IsOf board.now) passes.items × All (λ p. p.pass.over ≡ false) passes.items × (board.now.setup.blocks ≡ S.count board.now.setup.spans) }
+            ensures { IfOk result (λ v. (length v.items ≡ length passes.items) × All (IsOf board.entry.now) v.items) }
         { run_passes(rt, alloc, board, passes, gate) },
         || -> Result<Vec<Left<S>>, AllocError>
-            requires { All (IsPassOf board.now) others.items × All (λ p. is_over p ≡ false) others.items × ((board_setup board.now).blocks ≡ S.count (board_setup board.now).spans) }
-            ensures { IfOk result (λ v. (length v.items ≡ length others.items) × All (IsLeftOf board.entry.now) v.items) }
+            requires { All (IsOf board.now) others.items × All (λ p. p.pass.over ≡ false) others.items × (board.now.setup.blocks ≡ S.count board.now.setup.spans) }
+            ensures { IfOk result (λ v. (length v.items ≡ length others.items) × All (IsOf board.entry.now) v.items) }
         { run_passes(rt, alloc, board, others, gate) },
     );
     let mut lefts = one?;

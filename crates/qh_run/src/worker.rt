@@ -1,9 +1,9 @@
 //! What one pass does.
-ghost use Rattle.std.specs.Prelude.{◌≡◌, ◌+◌, ◌<◌, ℕ, false, true};
+ghost use Rattle.std.specs.Prelude.{◌≡◌, ◌+◌, ◌<◌, ℕ, Some, false};
 ghost use Rattle.qh_model.specs.Cut.{block_count};
 ghost use Rattle.qh_board.specs.declared.view.Mark.TheVariants as marks;
-ghost use Rattle.qh_board.specs.Tokens.{IsPassOf, IsTaskOf, IsLeftOf, board_setup, is_over, pass_number, task_node, task_number, task_over, left_number, left_over, left_mark};
-ghost use Rattle.qh_run.specs.Turns.{IsAnswerOf, IsTurnOf, answered_number, answered_over};
+ghost use Rattle.qh_board.specs.contract.Tokens.{IsOf, task_node};
+ghost use Rattle.qh_run.specs.Turns.{IsAnswerOf, IsTurnOf, answered};
 
 use crate::gate::Gate;
 use crate::job::Job;
@@ -16,8 +16,8 @@ use std::alloc::Global;
 /// values of both children and delivers the parent's.
 fn climb<S: Reduction>(alloc: Global, board: &Board<S>, answer: Delivered<S>) -> Turn<S>
     requires answer { IsAnswerOf S.right board.now answer }
-    requires blocks { (board_setup board.now).blocks ≡ S.count (board_setup board.now).spans }
-    ensures { IsTurnOf board.now (answered_number answer) (answered_over answer) result }
+    requires blocks { board.now.setup.blocks ≡ S.count board.now.setup.spans }
+    ensures { IsTurnOf board.now (answered answer) result }
 {
     let mut answer = answer;
     'up: loop {
@@ -41,10 +41,10 @@ fn take_turn<S: Reduction, G: Gate>(
     task: Task<S>,
     gate: &G,
 ) -> Turn<S>
-    requires board { IsTaskOf board.now task }
-    requires blocks { (board_setup board.now).blocks ≡ S.count (board_setup board.now).spans }
-    requires leaf { (j : ℕ) × (j < (board_setup board.now).blocks) × (task_node task ≡ (board_setup board.now).blocks + j) }
-    ensures { IsTurnOf board.now (task_number task) (task_over task) result }
+    requires board { IsOf board.now task }
+    requires blocks { board.now.setup.blocks ≡ S.count board.now.setup.spans }
+    requires leaf { (j : ℕ) × (j < board.now.setup.blocks) × (task_node task ≡ board.now.setup.blocks + j) }
+    ensures { IsTurnOf board.now task.pass result }
 {
     let pass = task.pass();
     let block = task.node() - board.spans().blocks();
@@ -59,22 +59,22 @@ fn take_turn<S: Reduction, G: Gate>(
     }
 }
 
-/// Works a pass to its end, for whatever is reduced.
+/// Works a pass to its end, for whatever is reduced. Each claim finds more claims than the one before.
 pub(crate) fn run_pass<S: Reduction, G: Gate>(
     alloc: Global,
     board: &Board<S>,
     pass: Pass<S>,
     gate: &G,
 ) -> Left<S>
-    requires board { IsPassOf board.now pass }
-    requires going { is_over pass ≡ false }
-    requires blocks { (board_setup board.now).blocks ≡ S.count (board_setup board.now).spans }
-    ensures board { IsLeftOf board.now result }
-    ensures number { left_number result ≡ pass_number pass }
-    ensures over { left_mark result ≡ marks.Left → left_over result ≡ true }
+    requires board { IsOf board.now pass }
+    requires going { pass.pass.over ≡ false }
+    requires blocks { board.now.setup.blocks ≡ S.count board.now.setup.spans }
+    ensures board { IsOf board.now result }
+    ensures number { result.pass.number ≡ pass.pass.number }
+    ensures all_claimed { result.pass.mark ≡ Some marks.Left → board.now.setup.blocks < result.pass.claims }
 {
     let mut pass = pass;
-    for _ in 0..board.spans().blocks() {
+    'claims: loop {
         match board.claim(pass) {
             Claim::Over(over) => return board.leave(over),
             Claim::Block(task) => match take_turn(alloc, board, task, gate) {
@@ -82,10 +82,6 @@ pub(crate) fn run_pass<S: Reduction, G: Gate>(
                 Turn::GaveUp(left) => return left,
             },
         }
-    }
-    match board.claim(pass) {
-        Claim::Over(over) => board.leave(over),
-        Claim::Block(task) => board.give_up(task),
     }
 }
 
@@ -102,12 +98,14 @@ pub fn work<'a, G: Gate>(
     pass: Pass<Job<'a>>,
     gate: &G,
 ) -> Left<Job<'a>>
-    requires board { IsPassOf board.now pass }
-    requires going { is_over pass ≡ false }
-    requires blocks { (board_setup board.now).blocks ≡ block_count (board_setup board.now).spans.cut.now }
-    ensures board { IsLeftOf board.now result }
-    ensures number { left_number result ≡ pass_number pass.entry }
-    ensures over { left_mark result ≡ marks.Left → left_over result ≡ true }
+    requires board { IsOf board.now pass }
+    requires going { pass.pass.over ≡ false }
+    requires blocks { board.now.setup.blocks ≡ block_count board.now.setup.spans.cut.now }
+    ensures board { IsOf board.now result }
+    ensures number { result.pass.number ≡ pass.entry.pass.number }
+
+    // Its last claim found all blocks claimed.
+    ensures all_claimed { result.pass.mark ≡ Some marks.Left → board.now.setup.blocks < result.pass.claims }
 {
     run_pass(alloc, board, pass, gate)
 }

@@ -1,7 +1,14 @@
-use Rattle.std.proofs.Common.{◌≡◌, false}
-use Rattle.qh_board.specs.Tokens.{IsPassOf, is_over, pass_number}
+use Rattle.std.proofs.Common.{◌≡◌, ◌-◌, false}
+use Rattle.qh_board.specs.contract.Tokens.{IsOf}
 use Rattle.qh_run.proofs.worker.run_pass.Given as goal
 
--- the pass goes on
-abbrev pub invariant-loop : goal.invariant-loop
-invariant-loop g l = IsPassOf l.board l.pass × (is_over l.pass ≡ false) × (pass_number l.pass ≡ pass_number l.fn.pass)
+abbrev pub invariant-claims : goal.invariant-claims
+invariant-claims g l = record {
+  board : IsOf l.board l.pass;
+  going : l.pass.pass.over ≡ false;
+  number : l.pass.pass.number ≡ l.fn.pass.pass.number;
+}
+
+-- a claim finds more claims than the one before
+abbrev pub decreases-claims : goal.decreases-claims
+decreases-claims g l = l.board.setup.blocks - l.pass.pass.claims
