@@ -3,14 +3,13 @@
 //!
 //! The points are those of an octahedron and the middles of its edges, in blocks of 3. The gates take
 //! the hull of no other list than that of the extreme ids.
-ghost use Rattle.std.specs.Prelude.{◌<◌, length};
-ghost use Rattle.qh_model.specs.Hull.{IsHull};
+ghost use Rattle.std.specs.Prelude.{◌≤◌, length};
+ghost use Rattle.qh_model.specs.declared.limits.TheConstants.{POINT_LIMIT};
 
 use super::solids::{OCTAHEDRON, OCTAHEDRON_OFF};
 use super::{answered_by, served_by, settings};
-use crate::fault::Fault;
 use crate::settings::Settings;
-use qh_model::{Body, Cut, CutError, Id, Memory, POINT_LIMIT, Point};
+use qh_model::{Body, Cut, Id, Memory, Point};
 use qh_plane::distinct;
 use qh_read::read_points;
 use qh_run::{Gate, NoGate, RunError, run_hull};
@@ -119,21 +118,24 @@ impl Gate for NoHull {
     }
 }
 
-/// The text of the hull that `run_hull` takes of the points, in blocks of 3; none where there is a fault.
+/// The text of the hull that `run_hull` takes of the points, in blocks of 3.
 fn hulled_by<R: Threads + Sync, G: Gate>(
     rt: &R,
     alloc: Global,
+    points: &[Point],
     settings: &Settings,
     gate: &G,
-) -> Option<Vec<u8>> {
-    let points = read_points(alloc, OCTAHEDRON.as_bytes()).ok()?;
-    let ids = distinct(rt, alloc, &points).ok()?;
-    let cut = Cut::from_bounds(Vec::from_slice(alloc, &[0, 3, 6, 9, 12, 15, 18]).ok()?).ok()?;
+) -> Result<Vec<u8>, RunError>
+    requires { length points.now ≤ POINT_LIMIT }
+{
+    let ids = distinct(rt, alloc, points)?;
+    let bounds = Vec::from_slice(alloc, &[0, 3, 6, 9, 12, 15, 18]).map_err(|_| RunError::Memory)?;
+    let cut = Cut::from_bounds(bounds).map_err(|_| RunError::Memory)?;
     if ids.len() != 18 {
-        return None;
+        return Err(RunError::Memory);
     }
-    let hull = run_hull(rt, alloc, &points, &ids, &cut, settings.workers(), gate).ok()?;
-    text(alloc, &hull, &points, settings.outs()).ok()
+    let hull = run_hull(rt, alloc, points, &ids, &cut, settings.workers(), gate)?;
+    Ok(text(alloc, &hull, points, settings.outs())?)
 }
 
 /// Lines, and what a gate holds back under them.
@@ -145,12 +147,15 @@ const HELD: [(&str, Holds); 2] = [
 #[test]
 fn workers_run_at_once(rt: HostRuntime) -> Result<(), Fail> {
     let alloc = rt.alloc();
+    let Ok(points) = read_points(alloc, OCTAHEDRON.as_bytes()) else {
+        return Err("the text is a point file".into());
+    };
     for (line, holds) in HELD {
         let Ok(settings) = settings(alloc, line)? else {
             return Err("the line is a command line".into());
         };
         let gate = Hold::new(holds);
-        let hulled = hulled_by(&rt, alloc, &settings, &gate).ok_or("a hull")?;
+        let hulled = hulled_by(&rt, alloc, &points, &settings, &gate)?;
         assert!(rt; gate.came_in_time(), "run_hull, {holds:?}");
         assert_eq!(rt; hulled.as_slice(), OCTAHEDRON_OFF.as_bytes());
         let gate = Hold::new(holds);
@@ -168,6 +173,9 @@ fn workers_run_at_once(rt: HostRuntime) -> Result<(), Fail> {
 #[test]
 fn the_gate_takes_the_hull(rt: HostRuntime) -> Result<(), Fail> {
     let alloc = rt.alloc();
+    let Ok(points) = read_points(alloc, OCTAHEDRON.as_bytes()) else {
+        return Err("the text is a point file".into());
+    };
     for line in [
         "--block 3 --workers 1 off",
         "--block 3 --workers 3 off",
@@ -176,8 +184,8 @@ fn the_gate_takes_the_hull(rt: HostRuntime) -> Result<(), Fail> {
         let Ok(settings) = settings(alloc, line)? else {
             return Err("the line is a command line".into());
         };
-        let hulled = hulled_by(&rt, alloc, &settings, &NoHull);
-        assert!(rt; hulled.is_none(), "run_hull, {line}");
+        let hulled = hulled_by(&rt, alloc, &points, &settings, &NoHull);
+        assert_eq!(rt; hulled.err(), Some(RunError::Memory), "run_hull, {line}");
         let answered = answered_by(&rt, alloc, OCTAHEDRON.as_bytes(), &settings, &NoHull)?;
         assert_eq!(rt;
             answered.error.as_str(),
