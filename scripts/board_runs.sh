@@ -12,5 +12,5 @@ printf 'qh_model:\nqh_board: qh_model atomic_table\n' > "$work/crates.txt"
 sed -i "s/^const RUNS: u32 = .*;/const RUNS: u32 = $runs;/" "$work/crates/qh_board/src/tests/runs.rt"
 cd "$work/crates/qh_board"
 rt test > "$work/log" 2>&1 || { tail -20 "$work/log"; exit 1; }
-grep 'runs::' "$work/log"
+grep '^test .*runs::' "$work/log"
 echo "$runs boards were run"
