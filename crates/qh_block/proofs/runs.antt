@@ -9,3 +9,4 @@ pub mod Rounds
 pub mod FirstSimplexes
 pub mod FinishedRuns
 pub mod OrderedIds
+pub mod ConeRings

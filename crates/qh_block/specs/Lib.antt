@@ -11,3 +11,4 @@ pub mod NearOrder
 pub mod Runs
 pub mod Settling
 pub mod Walks
+pub mod Cones

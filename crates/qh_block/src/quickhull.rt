@@ -11,6 +11,8 @@
 //!
 //! Source: Barber, Dobkin and Huhdanpaa 1996.
 
+mod cone_ring;
+mod cone_search;
 mod near_order;
 mod outside_sets;
 mod planes;

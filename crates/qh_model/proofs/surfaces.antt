@@ -24,3 +24,4 @@ pub mod Finished
 pub mod Complete
 pub mod Closed
 pub mod FacetPlanes
+pub mod ConeRays

@@ -30,6 +30,7 @@ pub mod CoveredPoints
 pub mod StoredSurface
 pub mod SurfaceLaws
 pub mod CoverageLaws
+pub mod ConeLaws
 pub mod FinishedSurface
 pub mod CompletenessLaws
 pub mod PolygonLaws

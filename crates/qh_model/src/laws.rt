@@ -6,6 +6,7 @@ mod board;
 mod closed_surfaces;
 mod combinations;
 mod completeness;
+mod cones;
 mod cuts;
 mod edges;
 mod extremes;
@@ -18,6 +19,7 @@ pub use board::{board_core, spans_share_blocks};
 pub use closed_surfaces::{closed_surface_encloses, sound_surface_closes};
 pub use combinations::combination_or_separator;
 pub use completeness::{finished_surface_is_hull, nothing_is_missed, planes_hang_together};
+pub use cones::between_rays_is_unseen;
 pub use cuts::{blocks_share_positions, right_values_rise};
 pub use edges::edges_lie_in_two_faces;
 pub use extremes::{

@@ -6,8 +6,10 @@ ghost use Rattle.qh_model.specs.Sets.{Members};
 ghost use Rattle.qh_mesh.specs.Replacement.{IsLive, number};
 ghost use Rattle.qh_plane.specs.PlaceKeys.{AreIndices};
 ghost use Rattle.qh_block.specs.OutsideSets.{listed};
+ghost use Rattle.qh_block.specs.Cones.{HasNoCornerAbove, IsFan};
 ghost use Rattle.qh_block.specs.Runs.{HasCornersBelow, IsDone, IsGrown, IsUnderWay, IsPicked, IsRemade};
 
+use crate::quickhull::cone_ring::{ConeRing, SCANNED};
 use crate::quickhull::outside_sets::OutsideSets;
 use crate::quickhull::planes::{make_room, renew};
 use crate::quickhull::queue::{enqueue, next_apex};
@@ -31,6 +33,8 @@ pub struct Run {
     sets: OutsideSets,
     /// The facets that the apex of a round sees.
     walk: Walk,
+    /// The facets that the last round made, if they are many.
+    ring: ConeRing,
     /// The facets that wait for their turn.
     pending: Vec<FacetNo>,
 }
@@ -52,6 +56,7 @@ fn points_of(alloc: Global, pts: &[Point], ids: &[Id]) -> Result<Vec<Point>, Mem
 fn make_ready(
     planes: &mut Vec<Plane>,
     sets: &mut OutsideSets,
+    ring: &mut ConeRing,
     pending: &mut Vec<FacetNo>,
     visible: usize,
 ) -> Result<(), Memory>
@@ -62,6 +67,9 @@ fn make_ready(
     let most = visible.saturating_mul(3);
     planes.reserve(most)?;
     sets.reserve(most)?;
+    if most > SCANNED {
+        ring.reserve(most)?;
+    }
     pending.reserve(most)?;
     Ok(())
 }
@@ -96,6 +104,7 @@ impl Run {
             planes: Vec::new(alloc),
             sets: OutsideSets::new(alloc, positions)?,
             walk: Walk::new(alloc),
+            ring: ConeRing::new(alloc),
             pending: Vec::new(alloc),
         };
         run.settle(pts, &[FacetNo(0), FacetNo(1), FacetNo(2), FacetNo(3)])?;
@@ -107,6 +116,8 @@ impl Run {
     fn settle(&mut self, pts: &[Point], made: &[FacetNo]) -> Result<(), Memory>
         requires live { (j : ℕ) → j < length made.now → IsLive self.old.mesh (number made.now j) }
         requires corners { HasCornersBelow (length pts.now) self.old.mesh }
+        requires below { HasNoCornerAbove pts.now self.old.mesh }
+        requires fan { SCANNED < length made.now → IsFan self.old.mesh made.now }
         requires positions { self.old.sets.positions ≡ length self.old.points.items }
         ensures points { self.new.points.items ≡ self.old.points.items }
         ensures under_way { OnOk result ((ids : List ℕ) → self.old.points.items ≡ map (place pts.now) ids
@@ -118,7 +129,8 @@ impl Run {
         make_room(&mut self.planes, places)?;
         self.sets.make_room(places)?;
         renew(pts, &self.mesh, made, &mut self.planes);
-        settle_orphans(&mut self.sets, &self.planes, &self.points, made);
+        self.ring.take(pts, &self.mesh, &self.planes, made)?;
+        settle_orphans(&mut self.sets, &self.planes, &self.points, &self.ring, made);
         enqueue(&mut self.pending, &self.sets, made)?;
         Ok(())
     }
@@ -143,7 +155,13 @@ impl Run {
         let point = self.points[apex as usize];
         self.walk.find(&self.mesh, &self.planes, facet, point)?;
         let visible = self.walk.visible().len();
-        make_ready(&mut self.planes, &mut self.sets, &mut self.pending, visible)?;
+        make_ready(
+            &mut self.planes,
+            &mut self.sets,
+            &mut self.ring,
+            &mut self.pending,
+            visible,
+        )?;
         release(&mut self.sets, self.walk.visible());
         let made = self
             .mesh

@@ -10,7 +10,10 @@ ghost use Rattle.qh_block.specs.Planes.{plane_at, ArePlanes};
 ghost use Rattle.qh_block.specs.OutsideSets.{listed};
 ghost use Rattle.qh_block.specs.Runs.{Names, AreWithin, IsSettling};
 ghost use Rattle.qh_block.specs.Settling.{IsAboveNone, IsOneSettled, AreReleased};
+ghost use Rattle.qh_block.specs.Cones.{AreWedges};
 
+use crate::quickhull::cone_ring::ConeRing;
+use crate::quickhull::cone_search::Asked;
 use crate::quickhull::outside_sets::OutsideSets;
 use qh_mesh::FacetNo;
 use qh_model::Point;
@@ -44,6 +47,22 @@ fn first_below(planes: &[Plane], made: &[FacetNo], point: Point) -> Option<Facet
     None
 }
 
+/// A facet of those made that the point is above: found in their ring, where they are many, or else by
+/// a look at each.
+fn one_below(planes: &[Plane], ring: &ConeRing, made: &[FacetNo], point: Point) -> Option<FacetNo>
+    requires planes { AreWithin (length planes.now) made.now }
+    requires ring { AreWedges planes.now made.now ring.now.apex ring.now.wedges.items }
+    ensures none { IfNone result (IsAboveNone planes.now made.now point) }
+    ensures named { IfSome result (λ facet. Names made.now facet.0) }
+    ensures seen { IfSome result (λ facet. pos 0 <ℤ height (plane_at planes.now facet.0) point) }
+{
+    match ring.asked(point) {
+        Asked::Seen(facet) => Some(facet),
+        Asked::Unseen => None,
+        Asked::Unknown => first_below(planes, made, point),
+    }
+}
+
 /// Whether the point is further above the facet than the first point of its outside set, or that set
 /// is empty.
 fn is_furthest(
@@ -64,12 +83,13 @@ fn is_furthest(
     }
 }
 
-/// Puts the first orphan into the outside set of the first of the facets that it is above: in front,
+/// Puts the first orphan into the outside set of one of the facets that it is above: in front,
 /// if no other point of that set is known to be further. An orphan that is above none is dropped.
 fn settle_orphan(
     sets: &mut OutsideSets,
     planes: &[Plane],
     points: &[Point],
+    ring: &ConeRing,
     made: &[FacetNo],
     orphan: u32,
 )
@@ -78,13 +98,14 @@ fn settle_orphan(
     requires places { AreWithin (length sets.old.sets) made.now }
     requires orphan { sets.old.orphans ≡ orphan ∷ drop 1 sets.old.orphans }
     requires position { orphan < sets.old.positions }
+    requires ring { AreWedges planes.now made.now ring.now.apex ring.now.wedges.items }
     ensures settled { IsOneSettled planes.now points.now made.now sets.old sets.new }
     ensures places { length sets.new.sets ≡ length sets.old.sets }
     ensures positions { sets.new.positions ≡ sets.old.positions }
     ensures listed { listed sets.new ≤ listed sets.old }
 {
     let point = points[orphan as usize];
-    match first_below(planes, made, point) {
+    match one_below(planes, ring, made, point) {
         Some(facet) => {
             let in_front = is_furthest(sets, planes, points, facet, point);
             sets.assign_orphan(facet, in_front);
@@ -94,10 +115,17 @@ fn settle_orphan(
 }
 
 /// Settles all orphans among the facets that were made.
-pub fn settle_orphans(sets: &mut OutsideSets, planes: &[Plane], points: &[Point], made: &[FacetNo])
+pub fn settle_orphans(
+    sets: &mut OutsideSets,
+    planes: &[Plane],
+    points: &[Point],
+    ring: &ConeRing,
+    made: &[FacetNo],
+)
     requires points { sets.old.positions ≡ length points.now }
     requires planes { AreWithin (length planes.now) made.now }
     requires places { AreWithin (length sets.old.sets) made.now }
+    requires ring { AreWedges planes.now made.now ring.now.apex ring.now.wedges.items }
     ensures none { sets.new.orphans ≡ [] }
     ensures settled { (pts : List Vector) (ids : List ℕ) (fs : List StoredFacet) (pending : List FacetNo) → points.now ≡ map (place pts) ids
         → ((j : ℕ) → j < length made.now → IsLive fs (number made.now j)) → ArePlanes (place pts) fs planes.now
@@ -107,6 +135,6 @@ pub fn settle_orphans(sets: &mut OutsideSets, planes: &[Plane], points: &[Point]
     ensures listed { listed sets.new ≤ listed sets.old }
 {
     while let Some(orphan) = sets.first_orphan() {
-        settle_orphan(sets, planes, points, made, orphan);
+        settle_orphan(sets, planes, points, ring, made, orphan);
     }
 }

@@ -1,14 +1,11 @@
 use Rattle.std.proofs.Common.{below_more, subst}
-use Rattle.std.specs.Prelude.{ℤ, pos, ◌<ℤ◌, ◌≤ℤ◌}
-use Rattle.std.proofs.lemmas.Int.{by_lt_z}
+use Rattle.std.specs.Prelude.{pos, ◌≤ℤ◌}
 use Rattle.std.proofs.lemmas.List.{get_or_read}
 use Rattle.qh_pred.specs.Planes.{PlaneValue, height}
 use Rattle.qh_mesh.specs.Replacement.{number}
 use Rattle.qh_block.specs.Planes.{no_plane}
+use Rattle.qh_block.proofs.runs.ConeRings.{not_above}
 use Rattle.qh_block.proofs.quickhull.settling.first_below.Goals as goal
-
-not_above : (z : ℤ) → (pos 0 <ℤ z → ⊥) → z ≤ℤ pos 0
-not_above z n = by_lt_z (pos 0) z (λ h. absurd (n h)) (λ h. h)
 
 pub loop-facet-preserved : goal.loop-facet-preserved
 loop-facet-preserved c =

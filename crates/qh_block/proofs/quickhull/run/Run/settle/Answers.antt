@@ -24,7 +24,7 @@ returns-clause-under_way c ids same k =
     let stays = c.settle_orphans.ensures.places in
     next_round c.args.pts.now ids c.args.self.now.mesh c.args.self.now.planes.items c.renew.new.planes.items c.args.self.now.sets c.settle_orphans.new.sets c.args.self.now.pending.items c.args.made.now c.enqueue.new.pending.items
     k planes
-    (c.settle_orphans.ensures.settled c.args.pts.now ids c.args.self.now.mesh c.args.self.now.pending.items (c.deref-2.ensures.value ∙ same) c.requires.live (subst (ArePlanes (place c.args.pts.now) c.args.self.now.mesh) (sym c.deref.ensures.value) planes)
+    (c.settle_orphans.ensures.settled c.args.pts.now ids c.args.self.now.mesh c.args.self.now.pending.items (c.deref-3.ensures.value ∙ same) c.requires.live (subst (ArePlanes (place c.args.pts.now) c.args.self.now.mesh) (sym c.deref-2.ensures.value) planes)
     (same_settling c.args.pts.now ids c.args.self.now.mesh c.args.self.now.sets c.make_room-2.new.self c.args.self.now.pending.items c.args.made.now
     (λ f. ap (λ (xs : List (List ℕ)). get_or xs f []) sets ∙ grown-set c.args.self.now.sets.sets (c.places-places.result - length c.args.self.now.sets.sets) f) c.make_room-2.ensures.orphans k.settling))
     c.settle_orphans.ensures.none (c.settle_orphans.ensures.positions ∙ c.make_room-2.ensures.positions)

@@ -5,6 +5,9 @@ use Rattle.qh_pred.specs.Planes.{PlaneValue}
 use Rattle.qh_mesh.specs.declared.facets.FacetNo.{FacetNo}
 use Rattle.qh_block.specs.Runs.{IsRemade}
 use Rattle.qh_block.proofs.runs.FirstSimplexes.{four_facets, IsFirst, first_corners, first_remade}
+use Rattle.qh_model.specs.Predicates.{place}
+use Rattle.qh_model.specs.FinishedSurface.{middle_at}
+use Rattle.qh_block.proofs.runs.ConeRings.{no_corner_above}
 use Rattle.qh_block.proofs.runs.FinishedRuns.{corners_below}
 use Rattle.qh_block.proofs.quickhull.run.Run.start.Goals as goal
 
@@ -35,6 +38,10 @@ settle-requires-clause-corners c =
     } in
     corners_below c.args.pts.now c.args.ids.now c.in_ok-mesh.mesh c.requires.indices (first_corners c.args.pts.now c.args.ids.now c.in_ok-mesh.mesh c.args.i c.args.j c.args.k c.args.l first)
 
+pub settle-requires-clause-below : goal.settle-requires-clause-below
+settle-requires-clause-below c =
+    no_corner_above c.args.pts.now c.in_ok-mesh.mesh (middle_at (place c.args.pts.now) c.args.i c.args.j c.args.k c.args.l) c.in_ok-mesh.ensures.sound
+
 pub returns-clause-under_way : goal.returns-clause-under_way
 returns-clause-under_way c =
     let first : IsFirst c.args.pts.now c.args.ids.now c.in_ok-mesh.mesh c.args.i c.args.j c.args.k c.args.l = record {
@@ -50,7 +57,7 @@ returns-clause-under_way c =
     } in
     let count = c.in-Ok.ensures.1 in
     c.in_ok-settle.ensures.under_way c.args.ids.now c.in_ok-points_of.ensures
-    (subst (λ (ps : List PlaneValue). IsRemade c.args.pts.now c.args.ids.now c.in_ok-mesh.mesh ps c.in_ok-new.field-0 c.new-4.result.items four_facets) (sym c.new.ensures.items)
-    (subst (λ (ns : List FacetNo). IsRemade c.args.pts.now c.args.ids.now c.in_ok-mesh.mesh [] c.in_ok-new.field-0 ns four_facets) (sym c.new-4.ensures.items)
+    (subst (λ (ps : List PlaneValue). IsRemade c.args.pts.now c.args.ids.now c.in_ok-mesh.mesh ps c.in_ok-new.field-0 c.new-5.result.items four_facets) (sym c.new.ensures.items)
+    (subst (λ (ns : List FacetNo). IsRemade c.args.pts.now c.args.ids.now c.in_ok-mesh.mesh [] c.in_ok-new.field-0 ns four_facets) (sym c.new-5.ensures.items)
     (first_remade c.args.pts.now c.args.ids.now c.in_ok-mesh.mesh c.in_ok-new.field-0 c.args.i c.args.j c.args.k c.args.l first
     (c.in_ok-new.ensures.positions ∙ count) (c.in_ok-new.ensures.orphans ∙ ap (range_with_len 0) count) c.in_ok-new.ensures.sets)))

@@ -1,0 +1,4 @@
+use Rattle.qh_block.proofs.quickhull.cone_ring.ConeRing.take.Goals as goal
+
+pub first_facet-first-requires-clause-planes : goal.first_facet-first-requires-clause-planes
+first_facet-first-requires-clause-planes c f n = (c.requires.planes f n).0

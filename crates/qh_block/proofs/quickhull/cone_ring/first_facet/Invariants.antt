@@ -1,0 +1,5 @@
+use Rattle.qh_block.specs.Runs.{Names}
+use Rattle.qh_block.proofs.quickhull.cone_ring.first_facet.Given as goal
+
+abbrev pub invariant-loop : goal.invariant-loop
+invariant-loop l = Names l.made l.before.facet.0

@@ -1,0 +1,9 @@
+use Rattle.qh_block.specs.Runs.{Names}
+use Rattle.qh_block.specs.Cones.{AreWedges, apex_of}
+use Rattle.qh_block.proofs.quickhull.cone_ring.go_round.Given as goal
+
+abbrev pub invariant-loop : goal.invariant-loop
+invariant-loop l = record {
+  named : Names l.made l.facet.0;
+  wedges : AreWedges l.planes l.made (apex_of l.pts l.mesh l.made) l.wedges.items;
+}

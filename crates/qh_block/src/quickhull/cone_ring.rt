@@ -1,0 +1,179 @@
+//! The facets of a large cone in a ring round its apex.
+//!
+//! Two neighbours of a cone meet in an edge from the apex, so going over these edges from one facet all
+//! are met. In that order a search can find the one facet of which a point need be asked
+//! (`cone_search`). The ring begins where the cone is strictly convex.
+ghost use Rattle.std.specs.Prelude.{◌≡◌, ◌+◌, ◌*◌, ◌/◌, ◌<◌, ◌⊎◌, ℕ, List, length, OnOk, [], pos, IfOk};
+ghost use Rattle.qh_model.specs.Predicates.{place};
+ghost use Rattle.qh_model.specs.StoredSurface.{facet_at};
+ghost use Rattle.qh_mesh.specs.Replacement.{IsLive, number, twin_of};
+ghost use Rattle.qh_block.specs.Planes.{plane_at};
+ghost use Rattle.qh_block.specs.Runs.{HasCornersBelow, IsPlaneOf, Names};
+ghost use Rattle.qh_block.specs.Cones.{HasNoCornerAbove, IsFan, AreWedges, apex_of};
+
+use qh_mesh::{FacetNo, Mesh};
+use qh_model::{Memory, Point};
+use qh_pred::{Plane, point_at};
+use std::alloc::{AllocError, Global};
+
+/// A cone of so many facets or fewer is scanned: its ring would cost more than it saves.
+pub const SCANNED: usize = 16;
+
+/// A facet of a cone, between two rays from the apex.
+#[derive(Clone, Copy, Drop)]
+pub struct Wedge {
+    /// Its number.
+    pub facet: FacetNo,
+    /// Its plane.
+    pub plane: Plane,
+    /// The corner of the ray where it begins.
+    pub from: Point,
+    /// The corner of the ray where it ends and the next one begins.
+    pub to: Point,
+}
+
+/// The ring of a large cone, with room that it keeps from round to round. That of a small cone is empty.
+#[derive(Drop)]
+pub struct ConeRing {
+    /// The corner that the facets have in common.
+    pub apex: Point,
+    /// The facets, each followed by its neighbour over the ray where it ends.
+    pub wedges: Vec<Wedge>,
+    /// The place of a wedge whose plane has the first ray strictly below.
+    pub opposite: usize,
+}
+
+/// The neighbour of a facet over the ray where it ends.
+fn next_facet(mesh: &Mesh, facet: FacetNo) -> FacetNo
+    requires { IsLive mesh.now facet.0 }
+    ensures { result.0 ≡ twin_of mesh.now (3 * facet.0 + 1) / 3 }
+{
+    FacetNo(mesh.twin(mesh.edge(facet, 1)).0 / 3)
+}
+
+/// The wedge of a facet.
+fn wedge_of(pts: &[Point], mesh: &Mesh, planes: &[Plane], facet: FacetNo) -> Wedge
+    requires live { IsLive mesh.now facet.0 }
+    requires corners { HasCornersBelow (length pts.now) mesh.now }
+    requires plane { facet.0 < length planes.now }
+    ensures facet { result.facet ≡ facet }
+    ensures plane { result.plane ≡ plane_at planes.now facet.0 }
+    ensures from { result.from ≡ place pts.now (facet_at mesh.now facet.0).i }
+    ensures to { result.to ≡ place pts.now (facet_at mesh.now facet.0).j }
+{
+    let [from, to, _] = mesh.facet(facet);
+    Wedge {
+        facet,
+        plane: planes[facet.0],
+        from: point_at(pts, from),
+        to: point_at(pts, to),
+    }
+}
+
+/// A facet where the cone is strictly convex: the ray before it is strictly below its plane. There is
+/// one, since no plane has all rays of a cone.
+fn first_facet(pts: &[Point], mesh: &Mesh, planes: &[Plane], made: &[FacetNo]) -> FacetNo
+    requires some { 0 < length made.now }
+    requires live { (j : ℕ) → j < length made.now → IsLive mesh.now (number made.now j) }
+    requires corners { HasCornersBelow (length pts.now) mesh.now }
+    requires planes { (f : ℕ) → Names made.now f → f < length planes.now }
+    requires fan { IsFan mesh.now made.now }
+    ensures { Names made.now result.0 }
+{
+    let mut before = wedge_of(pts, mesh, planes, made[0]);
+    for _ in 0..made.len() {
+        let wedge = wedge_of(pts, mesh, planes, next_facet(mesh, before.facet));
+        if wedge.plane.height(before.from) < 0 {
+            return wedge.facet;
+        }
+        before = wedge;
+    }
+    before.facet
+}
+
+/// Lists so many wedges from a facet on, each after its neighbour.
+fn go_round(
+    wedges: &mut Vec<Wedge>,
+    pts: &[Point],
+    mesh: &Mesh,
+    planes: &[Plane],
+    made: &[FacetNo],
+    first: FacetNo,
+) -> Result<(), AllocError>
+    requires live { (j : ℕ) → j < length made.now → IsLive mesh.now (number made.now j) }
+    requires corners { HasCornersBelow (length pts.now) mesh.now }
+    requires below { HasNoCornerAbove pts.now mesh.now }
+    requires planes { (f : ℕ) → Names made.now f → IsPlaneOf pts.now mesh.now planes.now f }
+    requires fan { IsFan mesh.now made.now }
+    requires first { Names made.now first.0 }
+    requires empty { wedges.old.items ≡ [] }
+    ensures { OnOk result (AreWedges planes.now made.now (apex_of pts.now mesh.now made.now) wedges.new.items) }
+{
+    let mut facet = first;
+    for _ in 0..made.len() {
+        wedges.push(wedge_of(pts, mesh, planes, facet))?;
+        facet = next_facet(mesh, facet);
+    }
+    Ok(())
+}
+
+/// The place of a wedge whose plane has the first ray strictly below; 0 where there is none.
+fn opposite_of(wedges: &[Wedge]) -> usize {
+    for place in 1..wedges.len() {
+        if wedges[place].plane.height(wedges[0].from) < 0 {
+            return place;
+        }
+    }
+    0
+}
+
+impl ConeRing {
+    /// A ring with no wedge. It takes no memory.
+    pub fn new(alloc: Global) -> ConeRing
+        ensures { result.wedges.items ≡ [] }
+    {
+        ConeRing {
+            apex: Point::new(0, 0, 0),
+            wedges: Vec::new(alloc),
+            opposite: 0,
+        }
+    }
+
+    /// Takes the memory for so many wedges; nothing else changes.
+    ///
+    /// `Err` says that memory was refused.
+    pub fn reserve(&mut self, wedges: usize) -> Result<(), Memory>
+        ensures { self.new.wedges.items ≡ self.old.wedges.items }
+    {
+        self.wedges.reserve(wedges)?;
+        Ok(())
+    }
+
+    /// Takes the facets that were made, if they are more than [`SCANNED`], and else none.
+    ///
+    /// `Err` says that memory was refused.
+    pub fn take(
+        &mut self,
+        pts: &[Point],
+        mesh: &Mesh,
+        planes: &[Plane],
+        made: &[FacetNo],
+    ) -> Result<(), Memory>
+        requires live { (j : ℕ) → j < length made.now → IsLive mesh.now (number made.now j) }
+        requires corners { HasCornersBelow (length pts.now) mesh.now }
+        requires below { HasNoCornerAbove pts.now mesh.now }
+        requires planes { (f : ℕ) → Names made.now f → IsPlaneOf pts.now mesh.now planes.now f }
+        requires fan { SCANNED < length made.now → IsFan mesh.now made.now }
+        ensures { OnOk result (AreWedges planes.now made.now self.new.apex self.new.wedges.items) }
+    {
+        self.wedges.clear();
+        if made.len() > SCANNED {
+            let [_, _, apex] = mesh.facet(made[0]);
+            self.apex = point_at(pts, apex);
+            let first = first_facet(pts, mesh, planes, made);
+            go_round(&mut self.wedges, pts, mesh, planes, made, first)?;
+            self.opposite = opposite_of(self.wedges.as_slice());
+        }
+        Ok(())
+    }
+}
