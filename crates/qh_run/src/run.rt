@@ -37,7 +37,7 @@ impl From<Memory> for RunError {
     }
 }
 
-/// What is right for all blocks, by so many passes; none where a pass gave up.
+/// What is right for all blocks, by so many passes of a board; none where a pass gave up.
 fn reduced<S: Reduction, R: Threads + Sync, G: Gate>(
     rt: &R,
     alloc: Global,
@@ -53,7 +53,8 @@ fn reduced<S: Reduction, R: Threads + Sync, G: Gate>(
     Ok(board.close(lefts).into_root())
 }
 
-/// The hull of the ids: that of the root's list, or of all ids where there is no root.
+/// The hull of the ids: that of the root's list, or of all ids where there is no root. There are no more
+/// passes than blocks.
 fn body<R: Threads + Sync, G: Gate>(
     rt: &R,
     alloc: Global,
@@ -81,12 +82,15 @@ fn body<R: Threads + Sync, G: Gate>(
 /// `ids` are its distinct ids, rising, as `qh_plane::distinct` gives them, and `cut` a cut of as many
 /// positions; the list has at most `POINT_LIMIT` points. These are the caller's conditions.
 ///
-/// The answer does not depend on the cut, nor on the number of workers, which share the blocks.
+/// The workers share the blocks, and the gate is told of each. Then the calling thread hands to the
+/// gate's `finish`, once, the extreme ids that came out of all blocks, or all ids where none did: a
+/// worker gave up, or the board or a worker could not be made. The answer does not depend on the cut, nor
+/// on the number of workers or the order of their steps.
 ///
 /// # Errors
 ///
 /// `BadWorkers` for a number of workers that is not from 1 to `WORKER_LIMIT`, before all else;
-/// `Memory` where memory was refused.
+/// `Memory` where the gate's `finish` says so.
 pub fn run_hull<R: Threads + Sync, G: Gate>(
     rt: &R,
     alloc: Global,

@@ -41,6 +41,27 @@ const OCTAHEDRON_HULL: [usize; 43] = [
     3, 2, 9, 3, 3, 3, 5, 6, 3, 3, 9, 5,
 ];
 
+/// The points (x, y, x² + y²) for x below 64 and y below 32: all are extreme.
+fn paraboloid(alloc: Global) -> Result<Vec<Point>, AllocError> {
+    let mut points = Vec::new(alloc);
+    for number in 0..2048u32 {
+        let (x, y) = (number / 32, number % 32);
+        let height = x * x + y * y;
+        points.push(Point::new(x as i32, y as i32, height as i32))?;
+    }
+    Ok(points)
+}
+
+/// The points (x, y, z) for x and y below 16 and z below 8: 8 are extreme.
+fn lattice(alloc: Global) -> Result<Vec<Point>, AllocError> {
+    let mut points = Vec::new(alloc);
+    for number in 0..2048u32 {
+        let (x, y, z) = (number / 128, number / 8 % 16, number % 8);
+        points.push(Point::new(x as i32, y as i32, z as i32))?;
+    }
+    Ok(points)
+}
+
 /// The corners of a cube, each twice.
 fn doubled_cube(alloc: Global) -> Result<Vec<Point>, AllocError> {
     let mut points = Vec::new(alloc);
@@ -163,6 +184,51 @@ fn one_pass_reduces_all_blocks(rt: HostRuntime) -> Result<(), Fail> {
     let mut numbers = Vec::new(alloc);
     push_ids(&mut numbers, &root.ids)?;
     assert_eq!(rt; numbers.as_slice(), [6, 0, 2, 3, 5, 6, 9].as_slice());
+    Ok(())
+}
+
+/// How one pass ends on 2,048 points in blocks of a size: the number of claims, and the mark.
+fn end_of<R: Threads + Sync>(
+    rt: &R,
+    alloc: Global,
+    points: &[Point],
+    size: u32,
+) -> Result<Option<(u64, Mark)>, BoardError> {
+    if points.len() > POINT_LIMIT as usize {
+        return Ok(None);
+    }
+    let ids = distinct(rt, alloc, points).map_err(|_| BoardError::Memory)?;
+    let Ok(cut) = Cut::even(alloc, 2048, size) else {
+        return Ok(None);
+    };
+    let Some(job) = job(points, &ids, &cut) else {
+        return Ok(None);
+    };
+    let closed = worked_by_one(alloc, job)?;
+    Ok(Some((closed.claims(), closed.mark(0))))
+}
+
+#[test]
+fn gives_up_where_the_tree_does_not_pay(rt: HostRuntime) -> Result<(), Fail> {
+    let alloc = rt.alloc();
+    let paraboloid = paraboloid(alloc)?;
+    let lattice = lattice(alloc)?;
+    let rows = [
+        // One block, then blocks that tell by themselves, then by the first two joined, and the first four.
+        (paraboloid.as_slice(), 2048, 1, Mark::GaveUp),
+        (paraboloid.as_slice(), 1024, 1, Mark::GaveUp),
+        (paraboloid.as_slice(), 512, 2, Mark::GaveUp),
+        (paraboloid.as_slice(), 256, 4, Mark::GaveUp),
+        (lattice.as_slice(), 2048, 1, Mark::GaveUp),
+        (lattice.as_slice(), 1024, 3, Mark::Left),
+        (lattice.as_slice(), 512, 5, Mark::Left),
+    ];
+    for (points, size, claims, mark) in rows {
+        let Ok(end) = end_of(&rt, alloc, points, size) else {
+            return Err("no memory".into());
+        };
+        assert_eq!(rt; end, Some((claims, mark)), "blocks of {size}");
+    }
     Ok(())
 }
 
