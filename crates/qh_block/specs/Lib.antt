@@ -12,3 +12,4 @@ pub mod Runs
 pub mod Settling
 pub mod Walks
 pub mod Cones
+pub mod Simplexes

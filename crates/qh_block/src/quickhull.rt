@@ -13,6 +13,7 @@
 
 mod cone_ring;
 mod cone_search;
+mod far_simplex;
 mod near_order;
 mod outside_sets;
 mod planes;

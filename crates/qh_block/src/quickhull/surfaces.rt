@@ -11,6 +11,7 @@ ghost use Rattle.qh_mesh.specs.Replacement.{IsLive};
 ghost use Rattle.qh_mesh.specs.SoundMesh.{IsClosedMesh};
 ghost use Rattle.qh_plane.specs.PlaceKeys.{AreIndices};
 
+use crate::quickhull::far_simplex::{Simplex, far_simplex};
 use crate::quickhull::near_order::near_order;
 use crate::quickhull::run::Run;
 use qh_mesh::Mesh;
@@ -64,11 +65,12 @@ pub(crate) fn surface_from(
     ensures finished { IfOk result (λ m. IsFinished (place pts.now) ids.now (surface_of m)) }
     ensures closed { IfOk result (λ m. IsClosedMesh (place pts.now) m) }
 {
+    let far = far_simplex(pts, ids, Simplex { i, j, k, l });
     if ids.len() < LARGE {
-        return surface_along(alloc, pts, ids, i, j, k, l);
+        return surface_along(alloc, pts, ids, far.i, far.j, far.k, far.l);
     }
     let near = near_order(alloc, pts, ids)?;
-    surface_along(alloc, pts, &near, i, j, k, l)
+    surface_along(alloc, pts, &near, far.i, far.j, far.k, far.l)
 }
 
 /// The surface of the hull of a set of dimension 3, by Quickhull: a closed surface of triangles over

@@ -10,16 +10,16 @@ pub surface_along-requires-2-clause-indices : goal.surface_along-requires-2-clau
 surface_along-requires-2-clause-indices c = indices_reordered c.args.pts.now c.deref.result.now c.args.ids.now (lent c.args.ids.now c.in_ok-near.near.items c.deref.result.now c.in_ok-near.ensures c.deref.ensures.value) c.requires.indices
 
 pub surface_along-requires-2-clause-has_i : goal.surface_along-requires-2-clause-has_i
-surface_along-requires-2-clause-has_i c = in_permutation c.args.ids.now c.deref.result.now (lent c.args.ids.now c.in_ok-near.near.items c.deref.result.now c.in_ok-near.ensures c.deref.ensures.value) c.args.i c.requires.has_i
+surface_along-requires-2-clause-has_i c = in_permutation c.args.ids.now c.deref.result.now (lent c.args.ids.now c.in_ok-near.near.items c.deref.result.now c.in_ok-near.ensures c.deref.ensures.value) c.far_simplex-far.result.i c.far_simplex-far.ensures.has_i
 
 pub surface_along-requires-2-clause-has_j : goal.surface_along-requires-2-clause-has_j
-surface_along-requires-2-clause-has_j c = in_permutation c.args.ids.now c.deref.result.now (lent c.args.ids.now c.in_ok-near.near.items c.deref.result.now c.in_ok-near.ensures c.deref.ensures.value) c.args.j c.requires.has_j
+surface_along-requires-2-clause-has_j c = in_permutation c.args.ids.now c.deref.result.now (lent c.args.ids.now c.in_ok-near.near.items c.deref.result.now c.in_ok-near.ensures c.deref.ensures.value) c.far_simplex-far.result.j c.far_simplex-far.ensures.has_j
 
 pub surface_along-requires-2-clause-has_k : goal.surface_along-requires-2-clause-has_k
-surface_along-requires-2-clause-has_k c = in_permutation c.args.ids.now c.deref.result.now (lent c.args.ids.now c.in_ok-near.near.items c.deref.result.now c.in_ok-near.ensures c.deref.ensures.value) c.args.k c.requires.has_k
+surface_along-requires-2-clause-has_k c = in_permutation c.args.ids.now c.deref.result.now (lent c.args.ids.now c.in_ok-near.near.items c.deref.result.now c.in_ok-near.ensures c.deref.ensures.value) c.far_simplex-far.result.k c.far_simplex-far.ensures.has_k
 
 pub surface_along-requires-2-clause-has_l : goal.surface_along-requires-2-clause-has_l
-surface_along-requires-2-clause-has_l c = in_permutation c.args.ids.now c.deref.result.now (lent c.args.ids.now c.in_ok-near.near.items c.deref.result.now c.in_ok-near.ensures c.deref.ensures.value) c.args.l c.requires.has_l
+surface_along-requires-2-clause-has_l c = in_permutation c.args.ids.now c.deref.result.now (lent c.args.ids.now c.in_ok-near.near.items c.deref.result.now c.in_ok-near.ensures c.deref.ensures.value) c.far_simplex-far.result.l c.far_simplex-far.ensures.has_l
 
 pub returns-clause-finished : goal.returns-clause-finished
 returns-clause-finished c =

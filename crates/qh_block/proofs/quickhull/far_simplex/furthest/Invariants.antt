@@ -1,0 +1,6 @@
+use Rattle.qh_model.specs.Sets.{Members}
+use Rattle.qh_block.proofs.quickhull.far_simplex.furthest.Given as goal
+
+-- what was found is one of the ids
+abbrev pub invariant-loop-id : goal.invariant-loop-id
+invariant-loop-id l = Members l.ids l.found

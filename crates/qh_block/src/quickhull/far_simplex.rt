@@ -1,0 +1,99 @@
+//! A first simplex whose corners are far apart.
+//!
+//! The larger the simplex that a run begins with, the more points lie inside it and are never asked
+//! again. No answer depends on which simplex it is.
+//!
+//! Source: Barber, Dobkin and Huhdanpaa 1996 (the first simplex has points with the least and the
+//! greatest coordinates).
+ghost use Rattle.std.specs.Prelude.{◌≡◌, ◌≢◌, ◌<◌, pos, length};
+ghost use Rattle.qh_model.specs.Predicates.{place, vol};
+ghost use Rattle.qh_model.specs.Sets.{Members};
+ghost use Rattle.qh_plane.specs.PlaceKeys.{AreIndices};
+ghost use Rattle.qh_block.specs.Simplexes.{IsSimplexOf};
+
+use qh_model::{COORDINATE_LIMIT, Id, Point};
+use qh_pred::{Plane, cross, point_at, vol};
+
+/// Four ids whose points are not in one plane.
+#[derive(Clone, Copy, Drop)]
+pub struct Simplex {
+    pub i: Id,
+    pub j: Id,
+    pub k: Id,
+    pub l: Id,
+}
+
+/// What the next corner of a simplex is to be far from.
+#[derive(Clone, Copy, Drop)]
+enum From {
+    /// The side of the greatest x.
+    Right,
+    /// The side of the least x.
+    Left,
+    /// The line through two points.
+    Line(Point, Point),
+    /// A plane.
+    Plane(Plane),
+}
+
+impl From {
+    /// A number that grows with the distance of a point.
+    fn distance(&self, p: Point) -> u128 {
+        match *self {
+            From::Right => {
+                u128::from((i64::from(p.x()) - i64::from(COORDINATE_LIMIT)).unsigned_abs())
+            }
+            From::Left => {
+                u128::from((i64::from(p.x()) + i64::from(COORDINATE_LIMIT)).unsigned_abs())
+            }
+            From::Line(a, b) => {
+                let normal = cross(a, b, p);
+                let flat = normal
+                    .x()
+                    .unsigned_abs()
+                    .saturating_add(normal.y().unsigned_abs());
+                flat.saturating_add(normal.z().unsigned_abs())
+            }
+            From::Plane(plane) => plane.height(p).unsigned_abs(),
+        }
+    }
+}
+
+/// The first of the ids whose points are furthest.
+fn furthest(pts: &[Point], ids: &[Id], from: From) -> Id
+    requires some { 0 < length ids.now }
+    requires indices { AreIndices pts.now ids.now }
+    ensures { Members ids.now result }
+{
+    let mut found = ids[0];
+    let mut most = 0;
+    for id in ids {
+        let distance = from.distance(point_at(pts, *id));
+        if distance > most {
+            most = distance;
+            found = *id;
+        }
+    }
+    found
+}
+
+/// A simplex of ids that are far apart: those of the least and the greatest x, the one that is
+/// furthest from their line, and the one that is furthest from the plane of the three; or the one that
+/// is given, if these are in one plane.
+pub fn far_simplex(pts: &[Point], ids: &[Id], given: Simplex) -> Simplex
+    requires some { 0 < length ids.now }
+    requires indices { AreIndices pts.now ids.now }
+    requires given { IsSimplexOf pts.now ids.now given }
+    ensures { IsSimplexOf pts.now ids.now result }
+{
+    let i = furthest(pts, ids, From::Right);
+    let j = furthest(pts, ids, From::Left);
+    let (a, b) = (point_at(pts, i), point_at(pts, j));
+    let k = furthest(pts, ids, From::Line(a, b));
+    let c = point_at(pts, k);
+    let l = furthest(pts, ids, From::Plane(Plane::through(a, b, c)));
+    if vol(a, b, c, point_at(pts, l)) == 0 {
+        return given;
+    }
+    Simplex { i, j, k, l }
+}
