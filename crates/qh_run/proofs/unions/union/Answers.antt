@@ -7,7 +7,7 @@ use Rattle.qh_run.proofs.unions.union.Goals as goal
 use Rattle.qh_run.proofs.unions.union.Goals.{then-loop-i-test+else-j-two, else-loop-i-test}
 
 pub loop-i-init : goal.loop-i-init
-loop-i-init c = (rw (c.new-all.ensures.items) (none_merged c.args.one.now c.args.two.now), omega arith, omega arith)
+loop-i-init c = (rw (c.in_ok-all.ensures.items) (none_merged c.args.one.now c.args.two.now), omega arith, omega arith)
 
 pub loop-i-preserved-then-lt : goal.loop-i-preserved-then-lt
 loop-i-preserved-then-lt c =
