@@ -118,7 +118,7 @@ fn go_round(
 }
 
 /// The place of a wedge whose plane has the first ray strictly below; 0 where there is none.
-fn opposite_of(wedges: &[Wedge]) -> usize {
+pub fn opposite_of(wedges: &[Wedge]) -> usize {
     for place in 1..wedges.len() {
         if wedges[place].plane.height(wedges[0].from) < 0 {
             return place;
