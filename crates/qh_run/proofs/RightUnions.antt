@@ -1,11 +1,14 @@
--- The union of two right values, as a set of ids.
-use Rattle.std.proofs.Common.{ℕ, ◌≡◌, ◌<◌, ◌⊎◌, ◌↔◌, inl, inr, List, length}
+-- The union of two right values, as a set of ids, and that there are extreme ids.
+use Rattle.std.proofs.Common.{ℕ, ◌<◌, ◌⊎◌, ◌↔◌, inl, inr, List, length, get_or, arith}
 use Rattle.std.specs.List.Sorted.{IsStrictlyIncreasing}
 use Rattle.qh_model.specs.Vector.{Vector}
-use Rattle.qh_model.specs.Sets.{In}
+use Rattle.qh_model.specs.Sets.{In, Members}
 use Rattle.qh_model.specs.DistinctIds.{IsIdSet}
 use Rattle.qh_model.specs.RightValue.{RightValue}
-use Rattle.qh_model.proofs.Members.{All-In, All-of}
+use Rattle.qh_model.specs.Predicates.{place}
+use Rattle.qh_model.specs.Hull.{AreExtremes}
+use Rattle.qh_model.proofs.extremes.ExtremeIds.{members_are_combinations}
+use Rattle.qh_model.proofs.Members.{All-In, All-of, In-get_or, in_at}
 use Rattle.qh_model.proofs.hulls.RightValues.{right_within}
 use Rattle.qh_plane.specs.PlaceKeys.{AreIndices}
 
@@ -25,3 +28,15 @@ part_indices pts ids both indices within = All-of (λ i. i < length pts) both (�
 -- rising ids of a list of ids of distinct points have distinct points
 pub part_set : (pts : List Vector) (ids both : List ℕ) → IsIdSet pts ids → IsStrictlyIncreasing both → ((i : ℕ) → In i both → In i ids) → IsIdSet pts both
 part_set pts ids both set rising within = record { rising = rising; distinct = λ i j m n e. set.distinct i j (within i m) (within j n) e }
+
+-- a list that has the ids of another isn't empty where that isn't
+pub some_within : (xs ys : List ℕ) → 0 < length xs → ((i : ℕ) → In i xs → In i ys) → 0 < length ys
+some_within xs ys h within = let p = in_at ys (get_or xs 0 0) (within (get_or xs 0 0) (In-get_or xs 0 0 h)) in let l = p.1 in omega (arith, l)
+
+-- some ids have extreme ids
+pub some_extreme : (pts : List Vector) (ids xs : List ℕ) → IsIdSet pts ids → 0 < length ids → AreExtremes (place pts) (Members ids) xs → 0 < length xs
+some_extreme pts ids xs set h x =
+    let mix = members_are_combinations (place pts) ids set.distinct (get_or ids 0 0) (In-get_or ids 0 0 h) in
+    let p = in_at xs mix.a ((x.members mix.a).1 mix.has_a) in
+    let l = p.1 in
+    omega (arith, l)

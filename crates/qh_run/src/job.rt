@@ -1,5 +1,5 @@
 //! What the workers' board keeps: the points, and how they are cut into blocks.
-ghost use Rattle.std.specs.Prelude.{◌≡◌, IfOk, length};
+ghost use Rattle.std.specs.Prelude.{◌≡◌, ◌<◌, IfOk, length};
 ghost use Rattle.std.specs.List.Sorted.{IsStrictlyIncreasing};
 ghost use Rattle.qh_model.specs.Cut.{positions};
 ghost use Rattle.qh_model.specs.DistinctIds.{HasDistinctPoints};
@@ -36,6 +36,7 @@ pub struct Extremes {
     pub ids: Vec<Id>,
     /// How many ids the blocks have.
     pub among: usize,
+    ghost some: { 0 < length ids.items },
 }
 
 impl<'a> Spans for Job<'a> {
@@ -89,10 +90,6 @@ impl<'a> Reduction for Job<'a> {
         odd: Extremes,
     ) -> Result<Extremes, GivesUp> {
         let both = union(alloc, &even.ids, &odd.ids)?;
-        // It has ids, since the blocks have; no clause says so.
-        if both.is_empty() {
-            return Err(GivesUp);
-        }
         let found = Extremes {
             ids: extremes(alloc, self.pts, &both)?,
             among: even.among.saturating_add(odd.among),

@@ -13,7 +13,7 @@ pub(crate) fn union(alloc: Global, one: &[Id], two: &[Id]) -> Result<Vec<Id>, Me
     ensures rising { IfOk result (λ v. IsStrictlyIncreasing v.items) }
     ensures members { IfOk result (λ v. (i : ℕ) → In i v.items ↔ (In i one.now ⊎ In i two.now)) }
 {
-    let mut all = Vec::new(alloc);
+    let mut all = Vec::with_capacity(alloc, one.len() + two.len())?;
     let mut i = 0;
     let mut j = 0;
     while i < one.len() && j < two.len() {

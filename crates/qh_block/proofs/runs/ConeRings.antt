@@ -123,12 +123,12 @@ read_wedge pts fs ps made f w live above planes fan n r = record {
 pub no_wedges : (ps : List PlaneValue) (made : List FacetNo) (a : Vector) (ws : List Wedge) → ws ≡ [] → AreWedges ps made a ws
 no_wedges ps made a ws e i l = absurd (let h = ap (λ (xs : List Wedge). length xs) e in omega arith)
 
--- one more
-pub more_wedges : (ps : List PlaneValue) (made : List FacetNo) (a : Vector) (ws : List Wedge) (w : Wedge) → AreWedges ps made a ws → IsWedge ps made a w → AreWedges ps made a (ws ++ w ∷ [])
-more_wedges ps made a ws w k h i l =
-    by_le (IsWedge ps made a (wedge_at (ws ++ w ∷ []) i)) i (length ws)
-    (λ m. subst (IsWedge ps made a) (sym (get_or_append_left ws (w ∷ []) (record { facet = record { 0 = 0 }; plane = record { normal = origin; offset = pos 0 }; from = origin; to = origin }) i m)) (k i m))
-    (λ m. subst (IsWedge ps made a) (sym (get_or_push ws w (record { facet = record { 0 = 0 }; plane = record { normal = origin; offset = pos 0 }; from = origin; to = origin }) i (let n = length_push ws w in omega arith))) h)
+-- what holds of each wedge, and of one more
+pub each_more : (P : Wedge → Type 0) (ws : List Wedge) (w : Wedge) → ((i : ℕ) → i < length ws → P (wedge_at ws i)) → P w → (i : ℕ) → i < length (ws ++ w ∷ []) → P (wedge_at (ws ++ w ∷ []) i)
+each_more P ws w k h i l =
+    by_le (P (wedge_at (ws ++ w ∷ []) i)) i (length ws)
+    (λ m. subst P (sym (get_or_append_left ws (w ∷ []) (record { facet = record { 0 = 0 }; plane = record { normal = origin; offset = pos 0 }; from = origin; to = origin }) i m)) (k i m))
+    (λ m. subst P (sym (get_or_push ws w (record { facet = record { 0 = 0 }; plane = record { normal = origin; offset = pos 0 }; from = origin; to = origin }) i (let n = length_push ws w in omega arith))) h)
 
 -- ---- the answers
 -- what the tests of the search tell is its certificate

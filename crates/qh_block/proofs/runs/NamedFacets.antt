@@ -1,6 +1,6 @@
 -- Lists of facets: which ones a list names.
-use Rattle.std.proofs.Common.{◌≡◌, ℕ, ◌<◌, ◌≤◌, arith, ap, sym, ◌∙◌, refl, ◌⊎◌, inl, inr, List, [], ◌∷◌, ◌++◌, length, true}
-use Rattle.std.proofs.lemmas.List.{get_or_append_left, get_or_push, length_push}
+use Rattle.std.proofs.Common.{◌≡◌, ℕ, ◌<◌, ◌≤◌, arith, ap, sym, ◌∙◌, refl, ◌⊎◌, inl, inr, List, [], ◌∷◌, ◌++◌, length, true, take}
+use Rattle.std.proofs.lemmas.List.{get_or_append_left, get_or_push, length_push, get_or-take, length-take-le}
 use Rattle.qh_mesh.specs.declared.facets.FacetNo.{FacetNo}
 use Rattle.qh_mesh.specs.Replacement.{number, is_listed}
 use Rattle.qh_mesh.proofs.ListedFacets.{listed_at, listed_find}
@@ -49,6 +49,15 @@ within_rest n vs x h = within_of n vs (λ f i. names_within n (vs ++ x ∷ []) f
 -- and of that facet
 pub within_last : (n : ℕ) (vs : List FacetNo) (x : FacetNo) → AreWithin n (vs ++ x ∷ []) → x.0 < n
 within_last n vs x h = names_within n (vs ++ x ∷ []) x.0 h (names_last vs x)
+
+-- what the first n name, all name
+pub names_take : (n : ℕ) (vs : List FacetNo) (f : ℕ) → n ≤ length vs → Names (take n vs) f → Names vs f
+names_take n vs f h (j, l, e) =
+    let k = length-take-le n vs h in (j, omega (arith, l, k, h), e ∙ ap (λ (v : FacetNo). v.0) (get_or-take n vs j (record { 0 = 0 }) (omega (arith, l, k))))
+
+-- so their bound is one of the first n
+pub within_take : (m n : ℕ) (vs : List FacetNo) → n ≤ length vs → AreWithin m vs → AreWithin m (take n vs)
+within_take m n vs l h = within_of m (take n vs) (λ f i. names_within m vs f h (names_take n vs f l i))
 
 -- a greater bound
 pub within_more : (m n : ℕ) (vs : List FacetNo) → m ≤ n → AreWithin m vs → AreWithin n vs

@@ -16,7 +16,7 @@ use qh_model::{Memory, Point};
 use qh_pred::{Plane, point_at};
 use std::alloc::{AllocError, Global};
 
-/// A cone of so many facets or fewer is scanned: its ring would cost more than it saves.
+/// So many facets of a cone are looked at one by one. A cone that has more is searched.
 pub const SCANNED: usize = 16;
 
 /// A facet of a cone, between two rays from the apex.
@@ -118,7 +118,7 @@ fn go_round(
 }
 
 /// The place of a wedge whose plane has the first ray strictly below; 0 where there is none.
-fn opposite_of(wedges: &[Wedge]) -> usize {
+pub fn opposite_of(wedges: &[Wedge]) -> usize {
     for place in 1..wedges.len() {
         if wedges[place].plane.height(wedges[0].from) < 0 {
             return place;

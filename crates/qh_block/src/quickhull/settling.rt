@@ -12,7 +12,7 @@ ghost use Rattle.qh_block.specs.Runs.{Names, AreWithin, IsSettling};
 ghost use Rattle.qh_block.specs.Settling.{IsAboveNone, IsOneSettled, AreReleased};
 ghost use Rattle.qh_block.specs.Cones.{AreWedges};
 
-use crate::quickhull::cone_ring::ConeRing;
+use crate::quickhull::cone_ring::{ConeRing, SCANNED};
 use crate::quickhull::cone_search::Asked;
 use crate::quickhull::outside_sets::OutsideSets;
 use qh_mesh::FacetNo;
@@ -47,8 +47,8 @@ fn first_below(planes: &[Plane], made: &[FacetNo], point: Point) -> Option<Facet
     None
 }
 
-/// A facet of those made that the point is above: found in their ring, where they are many, or else by
-/// a look at each.
+/// A facet of those made that the point is above. The first few are looked at one by one, so that points
+/// gather in few sets, and where there are more, a search through their ring tells of the others.
 fn one_below(planes: &[Plane], ring: &ConeRing, made: &[FacetNo], point: Point) -> Option<FacetNo>
     requires planes { AreWithin (length planes.now) made.now }
     requires ring { AreWedges planes.now made.now ring.now.apex ring.now.wedges.items }
@@ -56,6 +56,12 @@ fn one_below(planes: &[Plane], ring: &ConeRing, made: &[FacetNo], point: Point) 
     ensures named { IfSome result (λ facet. Names made.now facet.0) }
     ensures seen { IfSome result (λ facet. pos 0 <ℤ height (plane_at planes.now facet.0) point) }
 {
+    if made.len() <= SCANNED {
+        return first_below(planes, made, point);
+    }
+    if let Some(facet) = first_below(planes, &made[..SCANNED], point) {
+        return Some(facet);
+    }
     match ring.asked(point) {
         Asked::Seen(facet) => Some(facet),
         Asked::Unseen => None,

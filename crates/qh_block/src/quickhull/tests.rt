@@ -12,6 +12,8 @@ use qh_pred::Plane;
 use std::alloc::{AllocError, Global};
 use std::test::Fail;
 
+mod cones;
+
 /// Puts the first orphan into the set of a facet, if there are both.
 fn assign(sets: &mut OutsideSets, facet: usize, in_front: bool) {
     if facet < sets.places() && sets.first_orphan().is_some() {

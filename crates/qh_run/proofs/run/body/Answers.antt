@@ -1,9 +1,9 @@
-use Rattle.std.proofs.Common.{◌≡◌, ◌<◌, length, subst, sym}
+use Rattle.std.proofs.Common.{subst, sym}
 use Rattle.std.proofs.lemmas.Result.{IfOk-weaker}
 use Rattle.qh_model.specs.BoardMachine.{InSpan}
 use Rattle.qh_model.specs.Cut.{block_count}
 use Rattle.qh_model.proofs.DistinctIds.{ids_within}
-use Rattle.qh_model.proofs.hulls.RightValues.{hull_of_root, right_within, root_has_ids}
+use Rattle.qh_model.proofs.hulls.RightValues.{hull_of_root, right_within}
 use Rattle.qh_plane.specs.PlaceKeys.{AreIndices}
 use Rattle.qh_plane.proofs.DistinctLists.{id_set}
 use Rattle.qh_run.proofs.RightUnions.{part_indices, part_set}
@@ -13,14 +13,6 @@ pub invariant_of-job : goal.invariant_of-job
 invariant_of-job g c =
     let set = id_set c.args.pts.now c.args.ids.now c.requires.distinct in
     record { indices = ids_within c.args.pts.now c.args.ids.now c.requires.distinct; rising = set.rising; distinct = set.distinct; whole = c.requires.cut }
-
-pub finish-requires-clause-some : goal.finish-requires-clause-some
-finish-requires-clause-some g c =
-    let pts = c.args.pts.now in
-    let ids = c.args.ids.now in
-    let set = id_set pts ids c.requires.distinct in
-    subst (λ xs. 0 < length xs) (sym c.deref.ensures.value)
-    (root_has_ids pts ids c.args.cut.now c.in-Ok-Some.root.ids.items set.distinct c.blocks-2.ensures.cut c.requires.cut c.requires.some_ids (rw (c.in-Ok-Some.field-0-is) at c.in-Ok-Some.ensures))
 
 pub finish-requires-clause-indices : goal.finish-requires-clause-indices
 finish-requires-clause-indices g c =

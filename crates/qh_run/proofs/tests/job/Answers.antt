@@ -1,4 +1,4 @@
-use Rattle.std.proofs.Common.{rules, arith}
+use Rattle.std.proofs.Common.{arith}
 use Rattle.std.proofs.lemmas.Grind.{common_steps}
 use Rattle.qh_model.proofs.DistinctIds.{ids_within}
 use Rattle.qh_plane.proofs.DistinctLists.{id_set}

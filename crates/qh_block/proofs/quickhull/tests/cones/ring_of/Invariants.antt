@@ -1,0 +1,5 @@
+use Rattle.qh_block.specs.Cones.{AreTriangles}
+use Rattle.qh_block.proofs.quickhull.tests.cones.ring_of.Given as goal
+
+abbrev pub invariant-loop-place : goal.invariant-loop-place
+invariant-loop-place l = AreTriangles l.apex l.wedges.items
