@@ -13,6 +13,7 @@
 
 mod gate;
 mod job;
+mod leaves;
 mod passes;
 mod reduction;
 mod run;

@@ -10,6 +10,7 @@ ghost use Rattle.qh_model.specs.declared.limits.TheConstants.{POINT_LIMIT, WORKE
 
 use crate::gate::Gate;
 use crate::job::Job;
+use crate::leaves::leaves_of;
 use crate::passes::run_passes;
 use crate::reduction::Reduction;
 use qh_board::{Board, BoardError};
@@ -54,8 +55,8 @@ fn reduced<S: Reduction, R: Threads + Sync, G: Gate>(
 }
 
 /// The hull of the ids: that of the root's list, or of all ids where there is no root. There are no more
-/// passes than blocks.
-fn body<R: Threads + Sync, G: Gate>(
+/// passes than leaves.
+fn body_by_leaves<R: Threads + Sync, G: Gate>(
     rt: &R,
     alloc: Global,
     pts: &[Point],
@@ -77,12 +78,34 @@ fn body<R: Threads + Sync, G: Gate>(
     }
 }
 
+/// The hull of the ids, by workers that share the leaves of a tree over the blocks.
+fn body<R: Threads + Sync, G: Gate>(
+    rt: &R,
+    alloc: Global,
+    pts: &[Point],
+    ids: &[Id],
+    cut: &Cut,
+    workers: u32,
+    gate: &G,
+) -> Result<Body, Memory>
+    requires some_ids { 0 < length ids.now }
+    requires distinct { AreDistinctIds pts.now ids.now }
+    requires cut { positions cut.now ≡ length ids.now }
+    ensures { IfOk result (λ b. IsBody (place pts.now) (Members ids.now) b) }
+{
+    match leaves_of(alloc, cut, workers) {
+        Some(leaves) => body_by_leaves(rt, alloc, pts, ids, &leaves, workers, gate),
+        None => body_by_leaves(rt, alloc, pts, ids, cut, workers, gate),
+    }
+}
+
 /// The hull of a list of points.
 ///
 /// `ids` are its distinct ids, rising, as `qh_plane::distinct` gives them, and `cut` a cut of as many
 /// positions; the list has at most `POINT_LIMIT` points. These are the caller's conditions.
 ///
-/// The workers share the blocks, and the gate is told of each. Then the calling thread hands to the
+/// The workers share the blocks, and the gate is told of each; where there are more than 16, and more
+/// than four a worker, neighbours are put together first. Then the calling thread hands to the
 /// gate's `finish`, once, the extreme ids that came out of all blocks, or all ids where none did: a
 /// worker gave up, or the board or a worker could not be made. The answer does not depend on the cut, nor
 /// on the number of workers or the order of their steps.

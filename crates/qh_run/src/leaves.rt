@@ -1,0 +1,48 @@
+//! The leaves of the tree: the blocks of a cut, neighbours put together where they are many.
+//!
+//! Each level of a tree takes the hull of what the level below found, and most of that is extreme
+//! again. So a tree of many small blocks costs more than it saves: it needs leaves enough that no worker
+//! is left without one, and no more.
+ghost use Rattle.std.specs.Prelude.{◌≡◌, ◌<◌, IfOk, IfSome};
+ghost use Rattle.qh_model.specs.Cut.{positions};
+
+use qh_model::Cut;
+use std::alloc::{AllocError, Global};
+
+/// A tree has at most so many leaves, or [`LEAVES_EACH`] a worker where that is more.
+const LEAVES: u32 = 16;
+
+/// How many leaves a worker has at least to choose from, where there are so many blocks.
+const LEAVES_EACH: u32 = 4;
+
+/// The bounds of a cut whose blocks are so many neighbouring blocks of another, the last perhaps fewer.
+fn wider_bounds(alloc: Global, cut: &Cut, together: u32) -> Result<Vec<u32>, AllocError>
+    requires { 0 < together }
+    ensures { IfOk result (λ v. positions v.items ≡ positions cut.now) }
+{
+    let blocks = cut.blocks();
+    let mut bounds = Vec::new(alloc);
+    let mut block = 0;
+    while block < blocks {
+        let (from, _) = cut.block(block);
+        bounds.push(from)?;
+        block = block.saturating_add(together);
+    }
+    let (_, end) = cut.block(blocks - 1);
+    bounds.push(end)?;
+    Ok(bounds)
+}
+
+/// The leaves of a tree for so many workers, where they are not just the blocks of the cut; none where
+/// they are, or where memory was refused.
+pub(crate) fn leaves_of(alloc: Global, cut: &Cut, workers: u32) -> Option<Cut>
+    ensures { IfSome result (λ leaves. positions leaves ≡ positions cut.now) }
+{
+    let most = LEAVES.max(workers.saturating_mul(LEAVES_EACH));
+    let blocks = cut.blocks();
+    if blocks <= most {
+        return None;
+    }
+    let bounds = wider_bounds(alloc, cut, blocks / most + 1).ok()?;
+    Cut::from_bounds(bounds).ok()
+}
