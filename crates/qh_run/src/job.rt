@@ -2,7 +2,8 @@
 ghost use Rattle.std.specs.Prelude.{◌≡◌, ◌<◌, IfOk, length};
 ghost use Rattle.std.specs.List.Sorted.{IsStrictlyIncreasing};
 ghost use Rattle.qh_model.specs.Cut.{positions};
-ghost use Rattle.qh_model.specs.DistinctIds.{HasDistinctPoints};
+ghost use Rattle.qh_model.specs.DistinctIds.{HasDistinctPoints, IsIdSet};
+ghost use Rattle.qh_model.specs.Hull.{AreExtremes};
 ghost use Rattle.qh_model.specs.Predicates.{place};
 ghost use Rattle.qh_model.specs.Sets.{Members};
 ghost use Rattle.qh_plane.specs.PlaceKeys.{AreIndices};
@@ -47,16 +48,26 @@ impl<'a> Spans for Job<'a> {
     ghost right = { λ job span found. RightValue job.pts.now job.ids.now job.cut.now span found.ids.items };
 }
 
-impl Extremes {
-    /// These, unless they are more than half of many ids: where most ids are extreme, each level of a
-    /// tree takes the hull of nearly all ids again.
-    fn if_few(self) -> Result<Extremes, GivesUp>
-        ensures { IfOk result (λ found. found ≡ self) }
+/// Whether a tree pays where so many of so many ids are extreme: not where they are more than half of
+/// many, since each of its levels would take the hull of nearly all ids again.
+fn tree_pays(extremes: usize, among: usize) -> bool {
+    among < SAMPLE_LEAST || extremes <= among / 2
+}
+
+impl<'a> Job<'a> {
+    /// The extreme ids of a part of the ids, which has all that are extreme among so many; none where
+    /// they tell that a tree does not pay.
+    fn extremes_among(&self, alloc: Global, part: &[Id], among: usize) -> Result<Extremes, GivesUp>
+        requires some { 0 < length part.now }
+        requires indices { AreIndices self.now.pts.now part.now }
+        requires set { IsIdSet self.now.pts.now part.now }
+        ensures { IfOk result (λ found. AreExtremes (place self.now.pts.now) (Members part.now) found.ids.items) }
     {
-        if self.among >= SAMPLE_LEAST && self.ids.len() > self.among / 2 {
+        let ids = extremes(alloc, self.pts, part)?;
+        if !tree_pays(ids.len(), among) {
             return Err(GivesUp);
         }
-        Ok(self)
+        Ok(Extremes { ids, among })
     }
 }
 
@@ -75,11 +86,7 @@ impl<'a> Reduction for Job<'a> {
         }
         let (from, to) = self.cut.block(block);
         let block = &self.ids[from as usize..to as usize];
-        let found = Extremes {
-            ids: extremes(alloc, self.pts, block)?,
-            among: block.len(),
-        };
-        found.if_few()
+        self.extremes_among(alloc, block, block.len())
     }
 
     fn combine(
@@ -90,10 +97,6 @@ impl<'a> Reduction for Job<'a> {
         odd: Extremes,
     ) -> Result<Extremes, GivesUp> {
         let both = union(alloc, &even.ids, &odd.ids)?;
-        let found = Extremes {
-            ids: extremes(alloc, self.pts, &both)?,
-            among: even.among.saturating_add(odd.among),
-        };
-        found.if_few()
+        self.extremes_among(alloc, &both, even.among.saturating_add(odd.among))
     }
 }
