@@ -6,8 +6,10 @@
 //! (`outside_sets`), and the facets that have one wait for their turn (`queue`). In a round the first
 //! point of the next facet's set is the apex; a walk over twins finds the facets that it sees
 //! (`walk`), and its cone replaces them. The points of the facets that went are tested against the new
-//! facets alone: one that is above none of these is above none at all (`settling`, `planes`). When no
-//! facet waits, no facet sees a point, and the surface is that of the hull (`surfaces`).
+//! facets alone: one that is above none of these is above none at all (`settling`, `planes`). A cone of
+//! many facets is searched, not scanned (`cone_ring`, `cone_search`): else a point under a cone of h
+//! facets would cost h tests. When no facet waits, no facet sees a point, and the surface is that of
+//! the hull (`surfaces`).
 //!
 //! Source: Barber, Dobkin and Huhdanpaa 1996.
 

@@ -7,6 +7,7 @@ use std::test::Fail;
 
 mod solid_rows;
 mod surfaces;
+mod tents;
 
 /// The ids of four points.
 fn four_ids() -> [Id; 4]

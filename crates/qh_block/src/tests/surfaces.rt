@@ -18,7 +18,7 @@ const LIMIT: i32 = 1048576;
 type Triangle = (u32, u32, u32);
 
 /// The point with these coordinates, kept within the limit.
-fn point(x: i32, y: i32, z: i32) -> Point {
+pub fn point(x: i32, y: i32, z: i32) -> Point {
     Point::new(
         x.clamp(-LIMIT, LIMIT),
         y.clamp(-LIMIT, LIMIT),
@@ -68,7 +68,7 @@ fn surface_of_set(alloc: Global, pts: &[Point], ids: &[Id]) -> Result<Option<Mes
 }
 
 /// The surface of the distinct points of a list, if they are solid.
-fn solid_surface<R: Threads + Sync>(
+pub fn solid_surface<R: Threads + Sync>(
     rt: &R,
     alloc: Global,
     pts: &[Point],
