@@ -5,8 +5,7 @@ use Rattle.qh_board.specs.declared.view.Mark.TheVariants as marks
 use Rattle.qh_board.specs.declared.view.Record.{Record}
 use Rattle.qh_board.specs.declared.calls.Delivered.{Delivered}
 use Rattle.qh_board.specs.declared.calls.Delivered.TheVariants.{Parked, Both, Root}
-use Rattle.qh_board.specs.contract.Records.{fresh_record}
-use Rattle.qh_board.specs.contract.Tokens.{BoardValue, Token, IsOf, IsRightAt, task_node}
+use Rattle.qh_board.specs.contract.Tokens.{BoardValue, IsOf, IsRightAt, task_node}
 use Rattle.qh_run.specs.declared.turn.Turn.{Turn}
 use Rattle.qh_run.specs.declared.turn.Turn.TheVariants.{Ended, GaveUp}
 

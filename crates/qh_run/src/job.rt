@@ -48,6 +48,9 @@ impl<'a> Spans for Job<'a> {
     ghost right = { λ job span found. RightValue job.pts.now job.ids.now job.cut.now span found.ids.items };
 }
 
+/// How many ids of a larger block are asked first.
+const SAMPLE: usize = 4096;
+
 /// Whether a tree pays where so many of so many ids are extreme: not where they are more than half of
 /// many, since each of its levels would take the hull of nearly all ids again.
 fn tree_pays(extremes: usize, among: usize) -> bool {
@@ -55,6 +58,20 @@ fn tree_pays(extremes: usize, among: usize) -> bool {
 }
 
 impl<'a> Job<'a> {
+    /// Asks the first ids of a large block whether the tree pays, before the whole block is worked at.
+    fn ask_sample(&self, alloc: Global, block: &[Id]) -> Result<(), GivesUp>
+        requires { AreIndices self.now.pts.now block.now }
+    {
+        if block.len() > SAMPLE {
+            let (sample, _) = block.split_at(SAMPLE);
+            let found = extremes(alloc, self.pts, sample)?;
+            if !tree_pays(found.len(), SAMPLE) {
+                return Err(GivesUp);
+            }
+        }
+        Ok(())
+    }
+
     /// The extreme ids of a part of the ids, which has all that are extreme among so many; none where
     /// they tell that a tree does not pay.
     fn extremes_among(&self, alloc: Global, part: &[Id], among: usize) -> Result<Extremes, GivesUp>
@@ -86,6 +103,7 @@ impl<'a> Reduction for Job<'a> {
         }
         let (from, to) = self.cut.block(block);
         let block = &self.ids[from as usize..to as usize];
+        self.ask_sample(alloc, block)?;
         self.extremes_among(alloc, block, block.len())
     }
 

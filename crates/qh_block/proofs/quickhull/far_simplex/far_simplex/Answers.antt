@@ -1,5 +1,4 @@
 use Rattle.std.proofs.Common.{◌<◌, length}
-use Rattle.qh_model.specs.Sets.{Members}
 use Rattle.qh_model.proofs.Members.{All-In}
 use Rattle.qh_block.proofs.quickhull.far_simplex.far_simplex.Goals as goal
 

@@ -1,0 +1,7 @@
+use Rattle.std.proofs.Common.{arith, subst, sym}
+use Rattle.std.proofs.lemmas.Grind.{common_steps}
+use Rattle.qh_plane.specs.PlaceKeys.{AreIndices}
+use Rattle.qh_run.proofs.job.Job.ask_sample.Goals as goal
+
+pub extremes-requires-clause-indices : goal.extremes-requires-clause-indices
+extremes-requires-clause-indices c = subst (AreIndices c.args.self.now.pts.now) (sym c.split_at.ensures.front) (λ k d h. let r = c.requires k d (grind (arith, common_steps, h)) in grind (arith, common_steps, h, r))
