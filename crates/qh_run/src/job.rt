@@ -15,8 +15,8 @@ use qh_board::Spans;
 use qh_model::{Cut, Id, Point};
 use std::alloc::Global;
 
-/// The least number of ids that tell by their extremes whether a tree pays.
-const SAMPLE_LEAST: usize = 1024;
+/// How many ids tell by their extremes whether a tree pays; fewer tell nothing.
+const SAMPLE: usize = 1024;
 
 /// The points, their distinct ids, rising, and a cut of as many positions.
 #[derive(Drop)]
@@ -48,13 +48,10 @@ impl<'a> Spans for Job<'a> {
     ghost right = { λ job span found. RightValue job.pts.now job.ids.now job.cut.now span found.ids.items };
 }
 
-/// How many ids of a larger block are asked first.
-const SAMPLE: usize = 4096;
-
 /// Whether a tree pays where so many of so many ids are extreme: not where they are more than half of
 /// many, since each of its levels would take the hull of nearly all ids again.
 fn tree_pays(extremes: usize, among: usize) -> bool {
-    among < SAMPLE_LEAST || extremes <= among / 2
+    among < SAMPLE || extremes <= among / 2
 }
 
 impl<'a> Job<'a> {
