@@ -7,7 +7,6 @@ use std::test::Fail;
 
 mod solid_rows;
 mod surfaces;
-mod tents;
 
 /// The ids of four points.
 fn four_ids() -> [Id; 4]

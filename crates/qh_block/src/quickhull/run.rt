@@ -37,6 +37,8 @@ pub struct Run {
     ring: ConeRing,
     /// The facets that wait for their turn.
     pending: Vec<FacetNo>,
+    /// How many facets were made so far: what the run costs.
+    pub made: usize,
 }
 
 /// The points of ids, in their order.
@@ -106,6 +108,7 @@ impl Run {
             walk: Walk::new(alloc),
             ring: ConeRing::new(alloc),
             pending: Vec::new(alloc),
+            made: 0,
         };
         run.settle(pts, &[FacetNo(0), FacetNo(1), FacetNo(2), FacetNo(3)])?;
         Ok(run)
@@ -131,6 +134,7 @@ impl Run {
         renew(pts, &self.mesh, made, &mut self.planes);
         self.ring.take(pts, &self.mesh, &self.planes, made)?;
         settle_orphans(&mut self.sets, &self.planes, &self.points, &self.ring, made);
+        self.made = self.made.saturating_add(made.len());
         enqueue(&mut self.pending, &self.sets, made)?;
         Ok(())
     }

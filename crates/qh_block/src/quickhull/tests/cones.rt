@@ -13,7 +13,7 @@ use std::test::Fail;
 const LIMIT: i32 = 1048576;
 
 /// The point with these coordinates, kept within the limit.
-fn point(x: i32, y: i32, z: i32) -> Point {
+pub fn point(x: i32, y: i32, z: i32) -> Point {
     Point::new(
         x.clamp(-LIMIT, LIMIT),
         y.clamp(-LIMIT, LIMIT),

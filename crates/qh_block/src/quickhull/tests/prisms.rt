@@ -1,0 +1,62 @@
+//! A prism over a polygon of many sides: each of its ends has a facet for each side when it is begun. A
+//! run that gave all points to the first facet that sees them would make a cone over all sides again
+//! and again; a search spreads them over the facets, and few are made.
+ghost use Rattle.qh_model.specs.DistinctIds.{IsIdSet};
+ghost use Rattle.qh_plane.specs.PlaceKeys.{AreIndices};
+
+use super::cones::point;
+use crate::quickhull::run::Run;
+use qh_model::{Id, Memory, POINT_LIMIT, Point};
+use qh_plane::{Shape, distinct, rank};
+use std::alloc::{AllocError, Global};
+use std::test::Fail;
+use std::thread::Threads;
+
+/// The corners (t, t^2) of a polygon, with t from -1000 to 1000, below and then above.
+fn prism(alloc: Global) -> Result<Vec<Point>, AllocError> {
+    let mut corners = Vec::new(alloc);
+    for z in [-1_000_000, 1_000_000] {
+        for t in -1000..=1000i32 {
+            corners.push(point(t, t.wrapping_mul(t), z))?;
+        }
+    }
+    Ok(corners)
+}
+
+/// How many facets a run over a set makes; none where it is not solid.
+fn made_by_run(alloc: Global, pts: &[Point], ids: &[Id]) -> Result<Option<usize>, Memory>
+    requires indices { AreIndices pts.now ids.now }
+    requires set { IsIdSet pts.now ids.now }
+{
+    if ids.is_empty() {
+        return Ok(None);
+    }
+    let Shape::Solid(i, j, k, l) = rank(pts, ids) else {
+        return Ok(None);
+    };
+    let mut run = Run::start(alloc, pts, ids, i, j, k, l)?;
+    run.finish(alloc, pts, ids)?;
+    Ok(Some(run.made))
+}
+
+/// How many facets a run over the distinct points of a list makes; none where they are not solid.
+fn facets_made<R: Threads + Sync>(
+    rt: &R,
+    alloc: Global,
+    pts: &[Point],
+) -> Result<Option<usize>, Memory> {
+    if pts.len() > POINT_LIMIT as usize {
+        return Ok(None);
+    }
+    let ids = distinct(rt, alloc, pts)?;
+    made_by_run(alloc, pts, ids.as_slice())
+}
+
+#[test]
+fn few_facets_are_made_of_a_prism(rt: HostRuntime) -> Result<(), Fail> {
+    let pts = prism(rt.alloc())?;
+    // Each of the 4,002 points becomes a corner, by a cone of about six facets.
+    let made = facets_made(&rt, rt.alloc(), pts.as_slice())?;
+    assert!(rt; made.is_some_and(|made| made < 40_000), "{made:?}");
+    Ok(())
+}
