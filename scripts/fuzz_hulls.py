@@ -146,21 +146,32 @@ def edges(faces):
     return sum(len(pair) == 2 for pair in pairs)
 
 
-def hull_text(points):
-    """What the program writes of the points for `rank s Fx off`, and the dimension."""
+def hull_text(points, outputs):
+    """What the program writes of the points for these outputs, and the dimension."""
     ids = distinct_ids(points)
     dim = dimension(points, ids)
     faces = polygons(points, ids, dim)
     extremes = sorted({index for face in faces for index in face})
     place = {index: number for number, index in enumerate(extremes)}
-    lines = [f"{len(points)} {len(ids)} {dim}"]
-    lines += [f"Convex hull of {len(points)} points in 3-d:", f"  dimension: {dim}", f"  distinct points: {len(ids)}"]
-    lines += [f"  extreme points: {len(extremes)}", f"  facets: {len(faces)}", f"  edges: {edges(faces)}"]
-    lines += [str(len(extremes)), *map(str, extremes)]
-    lines += ["OFF", f"{len(extremes)} {len(faces)} {edges(faces)}"]
-    lines += [" ".join(map(str, points[index])) for index in extremes]
-    lines += [" ".join(map(str, [len(face), *(place[index] for index in face)])) for face in faces]
-    return "".join(line + "\n" for line in lines).encode(), dim
+    lines = {
+        "rank": [f"{len(points)} {len(ids)} {dim}"],
+        "s": [
+            f"Convex hull of {len(points)} points in 3-d:",
+            f"  dimension: {dim}",
+            f"  distinct points: {len(ids)}",
+            f"  extreme points: {len(extremes)}",
+            f"  facets: {len(faces)}",
+            f"  edges: {edges(faces)}",
+        ],
+        "Fx": [str(len(extremes)), *map(str, extremes)],
+        "off": [
+            "OFF",
+            f"{len(extremes)} {len(faces)} {edges(faces)}",
+            *(" ".join(map(str, points[index])) for index in extremes),
+            *(" ".join(map(str, [len(face), *(place[index] for index in face)])) for face in faces),
+        ],
+    }
+    return "".join(f"{line}\n" for output in outputs for line in lines[output]).encode(), dim
 
 
 # The sets.
@@ -336,7 +347,7 @@ def main():
     for _ in range(options.cases):
         points, family = small_set(rng)
         words = ["--workers", str(rng.choice(WORKERS)), "--block", str(rng.choice(BLOCKS)), *OUTPUTS]
-        want, dim = hull_text(points)
+        want, dim = hull_text(points, OUTPUTS)
         families[family] += 1
         dimensions[dim] += 1
         got = differs(options.program, words, file_of(points), want)
