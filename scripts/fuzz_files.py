@@ -154,7 +154,7 @@ def valid_file(rng):
 # Mutations. Each answers the file's bytes with one thing changed.
 
 BYTES = bytes(range(0x2A, 0x3C)) + b"\n\n\t\r\x0b\x0c  \x00\x1c\x1d\x1e\x1f\x85\xa0\xff#exE_3300"
-LIMITS = [0, 1, 2, 3, COORDINATE_LIMIT, 1 << 28, 1 << 31, 1 << 32, 1 << 63, 1 << 64, 1 << 128]
+LIMITS = [0, 1, 2, 3, *[COORDINATE_LIMIT] * 5, 1 << 28, 1 << 31, 1 << 32, 1 << 63, 1 << 64, 1 << 128]
 WORDS = [b"7.", b".7", b"7e0", b"2nd", b"+", b"-", b".", b"--7", b"+-7", b"-+7", b"7-", b"x7", b"#7", b"(7", b"5/", b"5:"]
 WORDS += [b"1,5", b"*5", b"0x3", b"3L", b"1_0", b"\xd9\xa3", b"3\x00", b"inf", b"nan", b"-inf", b"3\xa0", b"\xef\xbb\xbf3"]
 
@@ -166,7 +166,7 @@ def limit_word(rng):
         return rng.choice(WORDS)
     if kind < 0.4:
         return rng.choice([b"", b"-", b"+"]) + rng.choice([b"9", b"0", b"1"]) * rng.choice([19, 20, 39, 40, 300, 5000])
-    value = rng.choice(LIMITS) + rng.choice([-3, -1, 0, 0, 0, 1, 2, 3])
+    value = rng.choice(LIMITS) + rng.choice([-3, -1, 0, 0, 1, 1, 2, 3])
     zeros = b"0" * rng.choice([0, 0, 0, 1, 20, 300])
     return rng.choice([b"", b"", b"-", b"+"]) + zeros + b"%d" % abs(value)
 
