@@ -8,10 +8,11 @@
 
      REFUSE_GROWTH=N   REFUSE_GROWTHS_FROM=N   the Nth growth is refused, or all from the Nth on: NULL, errno ENOMEM
      REFUSE_THREAD=N   REFUSE_THREADS_FROM=N   the same of threads: EAGAIN
-     REFUSE_REPORT=D   one byte for each event is written to the descriptor D: m a new block, r a block made to grow,
-                       f a block given back, t a thread started, G a growth refused, T a thread refused
+     REFUSE_REPORT=D   the descriptor of a file of at least six 64-bit numbers, all 0 at first, into which the library
+                       counts the events in this order: new blocks, blocks made to grow, blocks given back, growths
+                       refused, threads started, threads refused
 
-   The report outlives a crash, since each byte is written at once. Without these nothing is refused and nothing written. */
+   The file is mapped and shared, so what it tells outlives a crash. Without these nothing is refused and nothing told. */
 #define _GNU_SOURCE
 #include <dlfcn.h>
 #include <errno.h>
@@ -19,7 +20,7 @@
 #include <pthread.h>
 #include <stdint.h>
 #include <stdlib.h>
-#include <unistd.h>
+#include <sys/mman.h>
 
 extern void *__libc_malloc(size_t size);
 extern void *__libc_realloc(void *block, size_t size);
@@ -33,9 +34,12 @@ struct refusals {
     long from; /* The number of the first call from which on all are refused, or 0. */
 };
 
+enum event { NEW_BLOCK, GROWN_BLOCK, BLOCK_BACK, GROWTH_REFUSED, THREAD_STARTED, THREAD_REFUSED, EVENTS };
+
 static struct refusals growths, threads;
 static uintptr_t program_begin, program_end;
-static int report = -1;
+static int64_t untold[EVENTS];
+static int64_t *report = untold; /* How many events there were of each kind. */
 static create_thread *real_create;
 
 static int is_program(void *return_address)
@@ -44,12 +48,9 @@ static int is_program(void *return_address)
     return program_begin <= address && address < program_end;
 }
 
-static void tell(char event)
+static void tell(enum event event)
 {
-    int before = errno;
-    if (report >= 0 && write(report, &event, 1) != 1)
-        report = -1;
-    errno = before;
+    __atomic_add_fetch(&report[event], 1, __ATOMIC_SEQ_CST);
 }
 
 static int is_refused(struct refusals *calls)
@@ -59,11 +60,11 @@ static int is_refused(struct refusals *calls)
 }
 
 /* What a growth answers where it was refused or the C library refused it, and where it was made. */
-static void *growth_done(void *grown, char event)
+static void *growth_done(void *grown, enum event event)
 {
     if (grown == NULL)
         errno = ENOMEM;
-    tell(grown == NULL ? 'G' : event);
+    tell(grown == NULL ? GROWTH_REFUSED : event);
     return grown;
 }
 
@@ -71,20 +72,21 @@ void *malloc(size_t size)
 {
     if (!is_program(__builtin_return_address(0)))
         return __libc_malloc(size);
-    return growth_done(is_refused(&growths) ? NULL : __libc_malloc(size), 'm');
+    return growth_done(is_refused(&growths) ? NULL : __libc_malloc(size), NEW_BLOCK);
 }
 
 void *realloc(void *block, size_t size)
 {
     if (!is_program(__builtin_return_address(0)))
         return __libc_realloc(block, size);
-    return growth_done(is_refused(&growths) ? NULL : __libc_realloc(block, size), block == NULL ? 'm' : 'r');
+    enum event event = block == NULL ? NEW_BLOCK : GROWN_BLOCK;
+    return growth_done(is_refused(&growths) ? NULL : __libc_realloc(block, size), event);
 }
 
 void free(void *block)
 {
     if (block != NULL && is_program(__builtin_return_address(0)))
-        tell('f');
+        tell(BLOCK_BACK);
     __libc_free(block);
 }
 
@@ -93,7 +95,7 @@ int pthread_create(pthread_t *thread, const pthread_attr_t *attributes, void *(*
     if (!is_program(__builtin_return_address(0)))
         return real_create(thread, attributes, body, argument);
     int refusal = is_refused(&threads) ? EAGAIN : real_create(thread, attributes, body, argument);
-    tell(refusal == 0 ? 't' : 'T');
+    tell(refusal == 0 ? THREAD_STARTED : THREAD_REFUSED);
     return refusal;
 }
 
@@ -118,6 +120,15 @@ static long number_in(const char *name, long otherwise)
     return value == NULL ? otherwise : atol(value);
 }
 
+static void map_report(int descriptor)
+{
+    if (descriptor < 0)
+        return;
+    void *mapped = mmap(NULL, sizeof untold, PROT_READ | PROT_WRITE, MAP_SHARED, descriptor, 0);
+    if (mapped != MAP_FAILED)
+        report = mapped;
+}
+
 __attribute__((constructor)) static void make_ready(void)
 {
     real_create = (create_thread *)dlsym(RTLD_NEXT, "pthread_create");
@@ -125,6 +136,6 @@ __attribute__((constructor)) static void make_ready(void)
     growths.from = number_in("REFUSE_GROWTHS_FROM", 0);
     threads.only = number_in("REFUSE_THREAD", 0);
     threads.from = number_in("REFUSE_THREADS_FROM", 0);
-    report = (int)number_in("REFUSE_REPORT", -1);
+    map_report((int)number_in("REFUSE_REPORT", -1));
     dl_iterate_phdr(note_program, NULL);
 }

@@ -8,20 +8,20 @@ the Nth on, or the same of pthread_create, and runs the program with it: over th
 points, with 1, 2 and 7 workers, N from 1 upward until a run meets no refusal. Of the 2,000 points N goes up by --step;
 without it, so that a sweep has about 100 runs. Each run must end with status 0 and the right text of `rank s Fx off`,
 or with status 3, `qconvex: 8: Memory` on standard error and nothing on standard output; never otherwise, and within a
-minute. The right text of the examples is that of fuzz_hulls.py; of the 2,000 points it is that of a run of one worker
+minute; and it must have given back as many blocks as it took. The right text of the examples is that of fuzz_hulls.py; of the 2,000 points it is that of a run of one worker
 with one block that meets no refusal.
 
-It prints a line for each sweep: how many runs met a refusal, how many of them gave the text and how many Memory, and the
-most blocks that the program had not given back when it ended, with and without a refusal. Then it prints each
-difference and how many refusals were tried. The status is 1 if there was a difference.
+It prints each difference, and a line for each sweep: how many runs met a refusal, and how many of these gave the text
+and how many Memory; then how many refusals were tried. The status is 1 if there was a difference.
 """
 import argparse
 import os
 import random
+import struct
 import subprocess
 import sys
 import tempfile
-from collections import Counter
+from collections import Counter, namedtuple
 
 from fuzz_hulls import file_of, hull_text
 
@@ -35,8 +35,11 @@ MANY = "2000-points"
 RUNS_OF_A_SWEEP = 100
 SECONDS = 60
 MEMORY = (3, b"", b"qconvex: 8: Memory\n")
-# What to refuse, by the library's variable, and the byte by which the library reports it.
-KINDS = {"REFUSE_GROWTH": "G", "REFUSE_GROWTHS_FROM": "G", "REFUSE_THREAD": "T", "REFUSE_THREADS_FROM": "T"}
+# What the library counts, in its order.
+Report = namedtuple("Report", "new grown given_back growths_refused threads_started threads_refused")
+REPORT = struct.Struct("6q")
+# The library's variables, which say what to refuse.
+VARIABLES = ["REFUSE_GROWTH", "REFUSE_GROWTHS_FROM", "REFUSE_THREAD", "REFUSE_THREADS_FROM"]
 
 
 # The inputs.
@@ -81,43 +84,47 @@ def build(folder):
 
 
 def run(command, data, library, settings):
-    """What a run says with these variables of the library, and how often it reported which event."""
-    report = os.memfd_create("report")
+    """What a run says with these variables of the library, and what the library counted."""
+    file = os.memfd_create("report")
+    os.truncate(file, REPORT.size)
+    variables = {"LD_PRELOAD": library, "REFUSE_REPORT": str(file), **settings}
     try:
-        variables = {"LD_PRELOAD": library, "REFUSE_REPORT": str(report), **settings}
         done = subprocess.run(
-            command, input=data, capture_output=True, env=os.environ | variables, pass_fds=[report], timeout=SECONDS
+            command, input=data, capture_output=True, env=os.environ | variables, pass_fds=[file], timeout=SECONDS
         )
         said = done.returncode, done.stdout, done.stderr
     except subprocess.TimeoutExpired:
         said = "no end", b"", b""
-    finally:
-        events = Counter(os.pread(report, os.fstat(report).st_size, 0).decode())
-        os.close(report)
-    return said, events
+    report = Report(*REPORT.unpack(os.pread(file, REPORT.size, 0)))
+    os.close(file)
+    return said, report
 
 
-def outcome(said, text, refused):
+def outcome(said, text, report):
     """What a run's answer is: the text, Memory where something was refused, or neither."""
+    if report.new != report.given_back:
+        return "DIFFERENT"
     if said == (0, text, b""):
         return "text"
-    return "Memory" if refused and said == MEMORY else "DIFFERENT"
+    return "Memory" if is_refusal(report) and said == MEMORY else "DIFFERENT"
+
+
+def is_refusal(report):
+    return report.growths_refused + report.threads_refused > 0
 
 
 def sweep(command, data, library, text, variable, step):
-    """How many runs that met a refusal had which outcome, and the most blocks left with and without a refusal."""
-    outcomes, left, number = Counter(), {True: 0, False: 0}, 1
+    """How many runs had which outcome; the last, which met no refusal, is counted only where it was different."""
+    outcomes, number = Counter(), 1
     while True:
-        said, events = run(command, data, library, {variable: str(number)})
-        refused = events[KINDS[variable]]
-        found = outcome(said, text, refused)
-        left[refused > 0] = max(left[refused > 0], events["m"] - events["f"])
+        said, report = run(command, data, library, {variable: str(number)})
+        found = outcome(said, text, report)
         if found == "DIFFERENT":
-            print(f"DIFFERENT with {variable}={number} {' '.join(command)}: {said}, of {data[:300]!r}", flush=True)
-        if not refused:
-            outcomes["DIFFERENT"] += found == "DIFFERENT"
-            return outcomes, left
-        outcomes[found] += 1
+            print(f"DIFFERENT with {variable}={number} {' '.join(command)}: {said}, {report}, of {data[:300]!r}", flush=True)
+        if is_refusal(report) or found == "DIFFERENT":
+            outcomes[found] += 1
+        if not is_refusal(report):
+            return outcomes
         number += step
 
 
@@ -125,8 +132,8 @@ def step_of(command, data, library, wanted):
     """The step of a sweep over many growths."""
     if wanted:
         return wanted
-    _, events = run(command, data, library, {})
-    return max(1, (events["m"] + events["r"]) // RUNS_OF_A_SWEEP)
+    _, report = run(command, data, library, {})
+    return max(1, (report.new + report.grown) // RUNS_OF_A_SWEEP)
 
 
 def arguments():
@@ -146,8 +153,8 @@ def sweeps(options, library):
         for workers in [options.workers] if options.workers else WORKERS:
             command = [options.program, "--workers", str(workers), "--block", str(block), *OUTPUTS]
             growths = step_of(command, data, library, options.step) if name == MANY else 1
-            for variable in KINDS:
-                step = growths if KINDS[variable] == "G" else 1
+            for variable in VARIABLES:
+                step = growths if "GROWTH" in variable else 1
                 yield f"{name}, {workers} workers, {variable}", sweep(command, data, library, text, variable, step)
 
 
@@ -155,13 +162,12 @@ def main():
     options = arguments()
     totals = Counter()
     with tempfile.TemporaryDirectory() as folder:
-        for name, (outcomes, left) in sweeps(options, build(folder)):
-            refused = sum(outcomes.values())
+        for name, outcomes in sweeps(options, build(folder)):
             shown = ", ".join(f"{found} {outcomes[found]}" for found in ["text", "Memory", "DIFFERENT"])
-            print(f"{name}: {refused} refused: {shown}; blocks left: {left[True]}, {left[False]} unrefused", flush=True)
+            print(f"{name}: {sum(outcomes.values())} refused: {shown}", flush=True)
             totals += outcomes
-    print(f"{sum(totals.values())} refusals tried: {totals['text']} texts, {totals['Memory']} Memory,", end=" ")
-    print(f"{totals['DIFFERENT']} differences")
+    tried = sum(totals.values())
+    print(f"{tried} refusals tried: {totals['text']} texts, {totals['Memory']} Memory, {totals['DIFFERENT']} differences")
     sys.exit(1 if totals["DIFFERENT"] else 0)
 
 
