@@ -13,8 +13,9 @@ fuzz_hulls.py has it, and end with status 0.
 With --large, five large inputs come first: 2^20 points, a point more, 2^28 bytes, a byte more, and a byte more with a
 fault at the start. They take about a gigabyte of memory.
 
-It prints each difference with the file's bytes, and with the fewest of its bytes that still make one; then how many files
-it tried, and how many had which fault. The status is 1 if there was a difference. The files are seeded.
+It prints each difference with the file's bytes, and with the fewest of its bytes that still make one; then how many
+files it tried, and how many had which fault. The status is 1 if there was a difference. The same seed gives the same
+files.
 """
 import argparse
 import os
@@ -155,8 +156,10 @@ def valid_file(rng):
 
 BYTES = bytes(range(0x2A, 0x3C)) + b"\n\n\t\r\x0b\x0c  \x00\x1c\x1d\x1e\x1f\x85\xa0\xff#exE_3300"
 LIMITS = [0, 1, 2, 3, *[COORDINATE_LIMIT] * 5, 1 << 28, 1 << 31, 1 << 32, 1 << 63, 1 << 64, 1 << 128]
-WORDS = [b"7.", b".7", b"7e0", b"2nd", b"+", b"-", b".", b"--7", b"+-7", b"-+7", b"7-", b"x7", b"#7", b"(7", b"5/", b"5:"]
-WORDS += [b"1,5", b"*5", b"0x3", b"3L", b"1_0", b"\xd9\xa3", b"3\x00", b"inf", b"nan", b"-inf", b"3\xa0", b"\xef\xbb\xbf3"]
+# Words that are no numbers, some of which begin a comment.
+WORDS = [b"7.", b".7", b"7e0", b"2nd", b"+", b"-", b".", b"--7", b"+-7", b"-+7", b"7-", b"x7", b"#7", b"(7", b"5/"]
+WORDS += [b"5:", b"1,5", b"*5", b"0x3", b"3L", b"1_0", b"inf", b"nan", b"-inf", b"3\x00", b"3\xa0", b"\xd9\xa3"]
+WORDS += [b"\xef\xbb\xbf3"]
 
 
 def limit_word(rng):

@@ -1,15 +1,15 @@
 /* A library for LD_PRELOAD that refuses growths and threads of the program that it is loaded into. scripts/refuse.py
    builds it and runs the program with it.
 
-   A growth is a call of malloc or realloc that the program itself makes, not the dynamic loader nor the C library on its
-   own account: the address that the call returns to lies in the program. A thread is such a call of pthread_create.
-   Growths are counted from 1 over all threads, in the order in which they come; so are threads. Nothing is counted before
-   this library was made ready, which comes before main.
+   A growth is a call of malloc or realloc that the program itself makes, not the dynamic loader nor the C library on
+   its own account: the address that the call returns to lies in the program. A thread is such a call of
+   pthread_create. Growths are counted from 1 over all threads, in the order in which they come; so are threads.
+   Nothing is counted before this library was made ready, which comes before main.
 
-     REFUSE_GROWTH=N   REFUSE_GROWTHS_FROM=N   the Nth growth is refused, or all from the Nth on: NULL, errno ENOMEM
+     REFUSE_GROWTH=N   REFUSE_GROWTHS_FROM=N   the Nth growth is refused, or all from the Nth on: NULL and ENOMEM
      REFUSE_THREAD=N   REFUSE_THREADS_FROM=N   the same of threads: EAGAIN
-     REFUSE_REPORT=D   the descriptor of a file of at least six 64-bit numbers, all 0 at first, into which the library
-                       counts the events in this order: new blocks, blocks made to grow, blocks given back, growths
+     REFUSE_REPORT=D   the descriptor of a file of six 64-bit numbers, all 0 at first, into which the library counts
+                       the events in this order: new blocks, blocks made to grow, blocks given back, growths
                        refused, threads started, threads refused
 
    The file is mapped and shared, so what it tells outlives a crash. Without these nothing is refused and nothing told. */

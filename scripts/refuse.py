@@ -3,13 +3,13 @@
 
     scripts/refuse.py [--program PATH] [--only INPUT] [--workers N] [--step N]      from the top of the repository
 
-It builds scripts/refuse.c, a library that refuses the Nth call of malloc or realloc that the program makes, or all from
-the Nth on, or the same of pthread_create, and runs the program with it: over three examples and a seeded set of 2,000
-points, with 1, 2 and 7 workers, N from 1 upward until a run meets no refusal. Of the 2,000 points N goes up by --step;
-without it, so that a sweep has about 100 runs. Each run must end with status 0 and the right text of `rank s Fx off`,
-or with status 3, `qconvex: 8: Memory` on standard error and nothing on standard output; never otherwise, and within a
-minute; and it must have given back as many blocks as it took. The right text of the examples is that of fuzz_hulls.py; of the 2,000 points it is that of a run of one worker
-with one block that meets no refusal.
+It builds scripts/refuse.c, a library that refuses the Nth call of malloc or realloc that the program makes, or all
+from the Nth on, or the same of pthread_create, and runs the program with it: over three examples and a seeded set of
+2,000 points, with 1, 2 and 7 workers, N from 1 upward until a run meets no refusal. Of the 2,000 points N goes up by
+--step; without it, so that a sweep has about 100 runs. Each run must end with status 0 and the right text of `rank s
+Fx off`, or with status 3, `qconvex: 8: Memory` on standard error and nothing on standard output; never otherwise, and
+within a minute; and it must have given back as many blocks as it took. The right text of the examples is that of
+fuzz_hulls.py; of the 2,000 points it is that of a run of one worker with one block that meets no refusal.
 
 It prints each difference, and a line for each sweep: how many runs met a refusal, and how many of these gave the text
 and how many Memory; then how many refusals were tried. The status is 1 if there was a difference.
@@ -120,7 +120,8 @@ def sweep(command, data, library, text, variable, step):
         said, report = run(command, data, library, {variable: str(number)})
         found = outcome(said, text, report)
         if found == "DIFFERENT":
-            print(f"DIFFERENT with {variable}={number} {' '.join(command)}: {said}, {report}, of {data[:300]!r}", flush=True)
+            words = f"{variable}={number} {' '.join(command)}"
+            print(f"DIFFERENT with {words}: {said}, {report}, of {data[:300]!r}", flush=True)
         if is_refusal(report) or found == "DIFFERENT":
             outcomes[found] += 1
         if not is_refusal(report):
@@ -167,8 +168,9 @@ def main():
             print(f"{name}: {sum(outcomes.values())} refused: {shown}", flush=True)
             totals += outcomes
     tried = sum(totals.values())
-    print(f"{tried} refusals tried: {totals['text']} texts, {totals['Memory']} Memory, {totals['DIFFERENT']} differences")
-    sys.exit(1 if totals["DIFFERENT"] else 0)
+    differences = totals["DIFFERENT"]
+    print(f"{tried} refusals tried: {totals['text']} texts, {totals['Memory']} Memory, {differences} differences")
+    sys.exit(1 if differences else 0)
 
 
 if __name__ == "__main__":
