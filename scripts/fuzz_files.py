@@ -282,8 +282,7 @@ def on_pipe(program, pieces, flags=0):
     return run_on(program, source, feed)
 
 
-def in_one_piece(rng, program, data):
-    del rng
+def in_one_piece(_rng, program, data):
     return on_pipe(program, [data[first : first + (1 << 20)] for first in range(0, len(data), 1 << 20)])
 
 
@@ -291,8 +290,7 @@ def in_pieces(rng, program, data):
     return on_pipe(program, pieces_of(rng, data), os.O_DIRECT)
 
 
-def from_file(rng, program, data):
-    del rng
+def from_file(_rng, program, data):
     with tempfile.TemporaryFile() as source:
         source.write(data)
         source.seek(0)

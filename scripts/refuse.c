@@ -12,7 +12,7 @@
                        the events in this order: new blocks, blocks made to grow, blocks given back, growths
                        refused, threads started, threads refused
 
-   The file is mapped and shared, so what it tells outlives a crash. Without these nothing is refused and nothing told. */
+   The file is mapped and shared, so what it tells outlives a crash. Without these nothing is refused or told. */
 #define _GNU_SOURCE
 #include <dlfcn.h>
 #include <errno.h>
