@@ -3,19 +3,19 @@
 
     scripts/fuzz_files.py [--cases N] [--seed N] [--program PATH] [--large]      from the top of the repository
 
-The reader here is written from README.md and docs/DEFINITIONS.md. The files are small valid ones, of every layout that
-a point file may have, whose bytes are inserted, deleted, flipped, exchanged and cut, and whose words are exchanged for
-words at every limit. A third of the files comes on a pipe in one piece, a third from a file, and a third in pieces of
-random length on a packet pipe, where each read of the program gets just one piece. For a fault the program must write
-its line, and nothing else, and end with status 1; for points it must write the `rank Fx off` of their hull, as
-fuzz_hulls.py has it, and end with status 0.
+The reader here is written from README.md and docs/DEFINITIONS.md. The files are small valid ones, of every layout
+that a point file may have, whose bytes are inserted, deleted, flipped, exchanged and cut, and whose words are
+exchanged for words at every limit. About a third of the files comes on a pipe in one piece, a third from a file, and
+a third in pieces of random length on a packet pipe, where each read of the program gets just one piece. For a fault
+the program must write its line, and nothing else, and end with status 1; for points it must write the `rank Fx off`
+of their hull, as fuzz_hulls.py has it, and end with status 0.
 
 With --large, five large inputs come first: 2^20 points, a point more, 2^28 bytes, a byte more, and a byte more with a
 fault at the start. They take about a gigabyte of memory.
 
-It prints each difference with the file's bytes, and with the fewest of its bytes that still make one; then how many
-files it tried, and how many had which fault. The status is 1 if there was a difference. The same seed gives the same
-files.
+It prints each difference with the file's bytes, and of the first ten also the fewest of its bytes that still make one;
+then how many files it tried, and how many had which fault. The status is 1 if there was a difference. The same seed
+gives the same files.
 """
 import argparse
 import os
@@ -34,8 +34,10 @@ COORDINATE_LIMIT = 1 << 20
 COUNT_LIMIT = 1 << 20
 BYTE_LIMIT = 1 << 28
 OUTPUTS = ["rank", "Fx", "off"]
-# No piece is longer: a packet pipe keeps no longer one whole.
-GREATEST_PIECE = 4096
+# Of how many differences the fewest bytes are looked for.
+REDUCED = 10
+# The greatest pieces of a file that comes in pieces; a packet pipe keeps 4,096 bytes together.
+PIECES = [1, 2, 5, 20, 200]
 
 
 # The reader.
@@ -249,10 +251,10 @@ def mutated_file(rng):
 
 def pieces_of(rng, data):
     """The bytes cut into pieces of random length."""
-    most = rng.choice([1, 2, 5, 20, 200])
+    most = rng.choice(PIECES)
     first = 0
     while first < len(data):
-        past = first + rng.randint(1, min(most, GREATEST_PIECE))
+        past = first + rng.randint(1, most)
         yield data[first:past]
         first = past
 
@@ -367,7 +369,8 @@ def main():
         if got != want:
             differences += 1
             print(f"DIFFERENT {way.__name__}: {got}, not {want}, of {data!r}", flush=True)
-            print(f"    smallest in one piece: {smallest(options.program, data)!r}", flush=True)
+            if differences <= REDUCED:
+                print(f"    in one piece, the fewest bytes: {smallest(options.program, data)!r}", flush=True)
     print("faults:", ", ".join(f"{name} {faults[name]}" for name in sorted(faults)))
     print(f"{options.cases} files tried, {differences} differences")
     sys.exit(1 if differences else 0)
