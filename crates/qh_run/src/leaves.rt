@@ -10,10 +10,10 @@ use qh_model::Cut;
 use std::alloc::{AllocError, Global};
 
 /// A tree has at most so many leaves, or [`LEAVES_EACH`] a worker where that is more.
-const LEAVES: u32 = 16;
+const LEAVES: u32 = 8;
 
 /// How many leaves a worker has at least to choose from, where there are so many blocks.
-const LEAVES_EACH: u32 = 4;
+const LEAVES_EACH: u32 = 2;
 
 /// The bounds of a cut whose blocks are so many neighbouring blocks of another, the last perhaps fewer.
 fn wider_bounds(alloc: Global, cut: &Cut, together: u32) -> Result<Vec<u32>, AllocError>

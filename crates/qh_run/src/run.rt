@@ -104,8 +104,8 @@ fn body<R: Threads + Sync, G: Gate>(
 /// `ids` are its distinct ids, rising, as `qh_plane::distinct` gives them, and `cut` a cut of as many
 /// positions; the list has at most `POINT_LIMIT` points. These are the caller's conditions.
 ///
-/// The workers share the blocks, and the gate is told of each; where there are more than 16, and more
-/// than four a worker, neighbours are put together first. Then the calling thread hands to the
+/// The workers share the blocks, and the gate is told of each; where there are more than 8, and more
+/// than two a worker, neighbours are put together first. Then the calling thread hands to the
 /// gate's `finish`, once, the extreme ids that came out of all blocks, or all ids where none did: a
 /// worker gave up, or the board or a worker could not be made. The answer does not depend on the cut, nor
 /// on the number of workers or the order of their steps.
