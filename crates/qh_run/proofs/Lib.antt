@@ -1,3 +1,2 @@
 pub mod EvenCuts
-pub mod UnionLemmas
 pub mod RightUnions

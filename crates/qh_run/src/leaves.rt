@@ -43,6 +43,6 @@ pub(crate) fn leaves_of(alloc: Global, cut: &Cut, workers: u32) -> Option<Cut>
     if blocks <= most {
         return None;
     }
-    let bounds = wider_bounds(alloc, cut, blocks / most + 1).ok()?;
+    let bounds = wider_bounds(alloc, cut, blocks.div_ceil(most)).ok()?;
     Cut::from_bounds(bounds).ok()
 }

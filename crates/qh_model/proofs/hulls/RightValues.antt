@@ -19,7 +19,7 @@ use Rattle.qh_model.proofs.Members.{In-get_or, in_at}
 use Rattle.qh_model.proofs.board.Spans.{span_of_leaf, span_of_node, span_of_root}
 use Rattle.qh_model.proofs.lists.Joined.{in_append, of_append}
 use Rattle.qh_model.proofs.lists.Rising.{part_at, rising_part}
-use Rattle.qh_model.proofs.extremes.ExtremeIds.{combination_within, extremes_between, members_are_combinations}
+use Rattle.qh_model.proofs.extremes.ExtremeIds.{combination_within, extremes_between}
 use Rattle.qh_model.proofs.hulls.SameSets.{Same, extreme_as, body_of_part}
 
 -- ---- the ids of a block
@@ -152,14 +152,6 @@ module _ (pts : List Vector) (ids bounds : List ℕ) (J : ℕ → Type 0) (xs : 
   root_body : (b : BodyValue) → HasDistinctPoints (place pts) (Members ids) → IsBody (place pts) (Members xs) b → IsBody (place pts) (Members ids) b
   root_body b apart h = body_of_part (place pts) ids xs b apart (right_within pts ids bounds J xs x) root_has h
 
-  -- it isn't empty
-  root_some : HasDistinctPoints (place pts) (Members ids) → 0 < length ids → 0 < length xs
-  root_some apart h =
-      let mix = members_are_combinations (place pts) ids apart (get_or ids 0 0) (In-get_or ids 0 0 h) in
-      let p = in_at xs mix.a (root_has mix.a mix.has_a) in
-      let l = p.1 in
-      omega (arith, l)
-
 -- ---- the laws
 pub right_of_leaf : RightOfLeaf
 right_of_leaf pts ids bounds k xs h x = right_of_block pts ids bounds k (InSpan (block_count bounds) (block_count bounds + k)) xs h (λ l. span_of_leaf (block_count bounds) k l h) x
@@ -170,8 +162,3 @@ right_of_node pts ids bounds i xs ys zs vs apart lo hi x y union v = right_of_bo
 
 pub hull_of_root : HullOfRoot
 hull_of_root pts ids bounds xs b apart cut whole x h = root_body pts ids bounds (InSpan (block_count bounds) 1) xs cut whole (λ k l. (span_of_root (block_count bounds) k).1 l) x b apart h
-
--- what is right for the root of some ids isn't empty
-pub root_has_ids : (pts : List Vector) (ids bounds xs : List ℕ) → HasDistinctPoints (place pts) (Members ids) → IsCut bounds → positions bounds ≡ length ids → 0 < length ids
-    → RightValue pts ids bounds (InSpan (block_count bounds) 1) xs → 0 < length xs
-root_has_ids pts ids bounds xs apart cut whole h x = root_some pts ids bounds (InSpan (block_count bounds) 1) xs cut whole (λ k l. (span_of_root (block_count bounds) k).1 l) x apart h
