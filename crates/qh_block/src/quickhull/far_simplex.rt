@@ -25,7 +25,7 @@ pub struct Simplex {
 
 /// What the next corner of a simplex is to be far from.
 #[derive(Clone, Copy, Drop)]
-enum From {
+enum FarFrom {
     /// The side of the greatest x.
     Right,
     /// The side of the least x.
@@ -36,17 +36,17 @@ enum From {
     Plane(Plane),
 }
 
-impl From {
+impl FarFrom {
     /// A number that grows with the distance of a point.
     fn distance(&self, p: Point) -> u128 {
         match *self {
-            From::Right => {
+            FarFrom::Right => {
                 u128::from((i64::from(p.x()) - i64::from(COORDINATE_LIMIT)).unsigned_abs())
             }
-            From::Left => {
+            FarFrom::Left => {
                 u128::from((i64::from(p.x()) + i64::from(COORDINATE_LIMIT)).unsigned_abs())
             }
-            From::Line(a, b) => {
+            FarFrom::Line(a, b) => {
                 let normal = cross(a, b, p);
                 let flat = normal
                     .x()
@@ -54,13 +54,13 @@ impl From {
                     .saturating_add(normal.y().unsigned_abs());
                 flat.saturating_add(normal.z().unsigned_abs())
             }
-            From::Plane(plane) => plane.height(p).unsigned_abs(),
+            FarFrom::Plane(plane) => plane.height(p).unsigned_abs(),
         }
     }
 }
 
 /// The first of the ids whose points are furthest.
-fn furthest(pts: &[Point], ids: &[Id], from: From) -> Id
+fn furthest(pts: &[Point], ids: &[Id], from: FarFrom) -> Id
     requires some { 0 < length ids.now }
     requires indices { AreIndices pts.now ids.now }
     ensures { Members ids.now result }
@@ -86,12 +86,12 @@ pub fn far_simplex(pts: &[Point], ids: &[Id], given: Simplex) -> Simplex
     requires given { IsSimplexOf pts.now ids.now given }
     ensures { IsSimplexOf pts.now ids.now result }
 {
-    let i = furthest(pts, ids, From::Right);
-    let j = furthest(pts, ids, From::Left);
+    let i = furthest(pts, ids, FarFrom::Right);
+    let j = furthest(pts, ids, FarFrom::Left);
     let (a, b) = (point_at(pts, i), point_at(pts, j));
-    let k = furthest(pts, ids, From::Line(a, b));
+    let k = furthest(pts, ids, FarFrom::Line(a, b));
     let c = point_at(pts, k);
-    let l = furthest(pts, ids, From::Plane(Plane::through(a, b, c)));
+    let l = furthest(pts, ids, FarFrom::Plane(Plane::through(a, b, c)));
     if vol(a, b, c, point_at(pts, l)) == 0 {
         return given;
     }
