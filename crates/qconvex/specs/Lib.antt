@@ -1,5 +1,2 @@
-pub mod SettingsValue
-pub mod FaultLines
-pub mod CommandLine
-pub mod Answers
-pub mod Serving
+pub mod headline
+pub mod contract

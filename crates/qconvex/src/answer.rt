@@ -1,10 +1,11 @@
 //! The answer to an input: the texts of its hull.
 ghost use Rattle.std.specs.Prelude.{◌≡◌, ◌<◌, ◌≤◌, IfOk, IfErr, length};
-ghost use Rattle.qh_model.specs.Cut.{positions};
-ghost use Rattle.qh_model.specs.DistinctIds.{AreDistinctIds};
-ghost use Rattle.qh_model.specs.Hull.{IsHull};
+ghost use Rattle.qh_model.specs.contract.Cut.{positions};
+ghost use Rattle.qh_model.specs.headline.DistinctIds.{AreDistinctIds};
+ghost use Rattle.qh_model.specs.headline.Hull.{IsHull};
 ghost use Rattle.qh_model.specs.declared.limits.TheConstants.{POINT_LIMIT};
-ghost use Rattle.qconvex.specs.Answers.{IsAnswer, IsAnswerFault, IsTextOf};
+ghost use Rattle.qconvex.specs.headline.Answers.{IsAnswer, IsAnswerFault};
+ghost use Rattle.qh_model.specs.headline.Text.{IsText};
 
 use crate::fault::Fault;
 use crate::settings::Settings;
@@ -71,7 +72,7 @@ pub fn text_of<R: Threads + Sync, G: Gate>(
 ) -> Result<Vec<u8>, Memory>
     requires some { 0 < length pts.now }
     requires few { length pts.now ≤ POINT_LIMIT }
-    ensures { IfOk result (λ t. IsTextOf pts.now settings.now.outs t.items) }
+    ensures { IfOk result (λ t. IsText pts.now settings.now.outs t.items) }
 {
     let ids = distinct(rt, alloc, pts)?;
     let cut = even_cut(alloc, ids.len() as u32, settings.block())?;

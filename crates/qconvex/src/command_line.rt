@@ -1,7 +1,7 @@
 ghost use Rattle.std.specs.Prelude.{◌≡◌, Some, false, map, codes, IfOk, IfSome, string_bytes};
 ghost use Rattle.std.specs.Option.{option_map};
 ghost use Rattle.clap.specs.Words.{app_of, rule_of, found_of, matched_of, one_text, raw_values};
-ghost use Rattle.qconvex.specs.CommandLine.{program, number_option, outs_rule, word_of, NumberOf, AreOutsOf, AreSettingsOf};
+ghost use Rattle.qconvex.specs.contract.CommandLine.{program, number_option, outs_rule, word_of, NumberOf, AreOutsOf, AreSettingsOf};
 
 use crate::settings::{BLOCK_SIZE_LIMIT, Settings, SettingsError};
 use clap::builder::ValueParser;

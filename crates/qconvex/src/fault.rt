@@ -1,7 +1,7 @@
 ghost use Rattle.std.specs.Prelude.{◌≡◌, Some};
-ghost use Rattle.qconvex.specs.FaultLines.{fault_line, status_of};
+ghost use Rattle.qconvex.specs.contract.FaultLines.{fault_line, status_of};
 ghost use Rattle.qconvex.specs.declared.fault.Fault.TheVariants.{Read, Send};
-ghost use Rattle.qh_read.specs.declared.fault.ReadFault.TheVariants as reads;
+ghost use Rattle.qh_model.specs.declared.read_fault.ReadFault.TheVariants as reads;
 
 use qh_model::Memory;
 use qh_read::ReadFault;

@@ -1,6 +1,6 @@
 ghost use Rattle.std.specs.Prelude.{◌≡◌, IfErr, OnOk};
 ghost use Rattle.std.specs.Process.{exit_status};
-ghost use Rattle.qconvex.specs.FaultLines.{status_of};
+ghost use Rattle.qconvex.specs.contract.FaultLines.{status_of};
 
 use crate::command_line::{ArgFault, settings_of};
 use crate::fault::Fault;

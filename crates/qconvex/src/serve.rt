@@ -1,5 +1,5 @@
 ghost use Rattle.std.specs.Prelude.{◌≡◌, ◌-◌, ◌^◌, ◌<◌, MatchResult};
-ghost use Rattle.qconvex.specs.Serving.{Devices, IsServed, IsServeFault};
+ghost use Rattle.qconvex.specs.headline.Serving.{Devices, IsServed, IsServeFault};
 
 use crate::answer::text_of;
 use crate::fault::Fault;

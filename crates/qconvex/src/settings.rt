@@ -20,7 +20,8 @@ pub struct Settings {
 }
 
 impl Model for Settings {
-    ghost use Rattle.qconvex.specs.SettingsValue.{SettingsValue, IsInRange};
+    ghost use Rattle.qconvex.specs.headline.SettingsValue.{SettingsValue};
+    ghost use Rattle.qconvex.specs.contract.Ranges.{IsInRange};
 
     ghost Value = { SettingsValue };
 
@@ -44,7 +45,7 @@ pub enum SettingsError {
 }
 
 impl Settings {
-    ghost use Rattle.qconvex.specs.SettingsValue.{IsWorkers, IsBlockSize};
+    ghost use Rattle.qconvex.specs.contract.Ranges.{IsWorkers, IsBlockSize};
 
     /// Settings with these workers, block size and outputs.
     ///

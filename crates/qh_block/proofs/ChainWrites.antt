@@ -1,8 +1,8 @@
 -- Chains of positions: what a write to one link leaves of them.
 use Rattle.std.proofs.Common.{◌≡◌, ◌≢◌, ℕ, zero, suc, ◌<◌, ◌≤◌, arith, ap, sym, ◌∙◌, refl, inl, inr, List, [], ◌∷◌, ◌++◌, length, subst, get_or, set, length-set, get_or-set_same, get_or-set_other}
 use Rattle.std.proofs.lemmas.Bool.{lt-ltb, le-ltb}
-use Rattle.qh_model.specs.Sets.{In, Once}
-use Rattle.qh_block.specs.PositionChains.{chain_from, IsChain, IsLast}
+use Rattle.qh_model.specs.headline.Sets.{In, Once}
+use Rattle.qh_block.specs.steps.PositionChains.{chain_from, IsChain, IsLast}
 
 -- ---- lists
 -- the last of a list is a member

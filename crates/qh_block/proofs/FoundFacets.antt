@@ -2,22 +2,22 @@
 use Rattle.std.proofs.Common.{◌≡◌, ℕ, ◌/◌, ◌<◌, ◌≤◌, arith, ap, sym, ◌∙◌, refl, true, false, List, length, subst}
 use Rattle.std.specs.Prelude.{pos, ◌<ℤ◌}
 use Rattle.std.proofs.lemmas.Int.{by_lt_z}
-use Rattle.qh_model.specs.Vector.{Vector}
-use Rattle.qh_model.specs.Weighted.{Weighted}
-use Rattle.qh_model.specs.FinishedSurface.{weighted_at}
-use Rattle.qh_model.specs.Sets.{In}
-use Rattle.qh_model.specs.Surface.{Side, Sees}
-use Rattle.qh_model.specs.Rewired.{IsWalked}
-use Rattle.qh_model.specs.StoredSurface.{StoredFacet, facet_at, surface_of}
+use Rattle.qh_model.specs.headline.Vector.{Vector}
+use Rattle.qh_model.specs.contract.Weighted.{Weighted}
+use Rattle.qh_model.specs.contract.FinishedSurface.{weighted_at}
+use Rattle.qh_model.specs.headline.Sets.{In}
+use Rattle.qh_model.specs.contract.Surface.{Side, Sees}
+use Rattle.qh_model.specs.laws.Horizons.{IsWalked}
+use Rattle.qh_model.specs.contract.StoredSurface.{StoredFacet, facet_at, surface_of}
 use Rattle.qh_model.proofs.surfaces.SurfaceLaws.{rise_is_vol, walk_finds_all}
-use Rattle.qh_pred.specs.Planes.{PlaneValue, height}
+use Rattle.qh_pred.specs.contract.Planes.{PlaneValue, height}
 use Rattle.qh_mesh.specs.declared.facets.FacetNo.{FacetNo}
-use Rattle.qh_mesh.specs.Replacement.{IsLive, number, is_listed, twin_of}
-use Rattle.qh_mesh.specs.SoundMesh.{facet_vol, IsSoundMesh, AreVisible}
+use Rattle.qh_mesh.specs.contract.Replacement.{IsLive, number, is_listed, twin_of}
+use Rattle.qh_mesh.specs.contract.SoundMesh.{facet_vol, IsSoundMesh, AreVisible}
 use Rattle.qh_mesh.proofs.ListedFacets.{listed_at, listed_find}
 use Rattle.qh_mesh.proofs.Rewiring.{edge_of, edge-facet, twin-is, over-is, live_in, in_live}
-use Rattle.qh_block.specs.Planes.{plane_at, ArePlanes}
-use Rattle.qh_block.specs.Walks.{mark_at, IsWalk, IsCrossed}
+use Rattle.qh_block.specs.steps.Planes.{plane_at, ArePlanes}
+use Rattle.qh_block.specs.steps.Walks.{mark_at, IsWalk, IsCrossed}
 use Rattle.qh_block.proofs.LiveFacets.{live_below}
 
 -- the facets that a facet is next to

@@ -4,10 +4,10 @@ use Rattle.std.proofs.lemmas.Bool.{cases_eq}
 use Rattle.std.proofs.lemmas.Bool.Decides.{eqb_tells}
 use Rattle.std.proofs.lemmas.List.{ext_get_or, length-map, get_or-map}
 use Rattle.std.proofs.lemmas.List.Sums.{sum_by-set, get_or-le-sum_by}
-use Rattle.qh_model.specs.Sets.{In}
+use Rattle.qh_model.specs.headline.Sets.{In}
 use Rattle.qh_model.proofs.lists.Joined.{of_append, once_append}
-use Rattle.qh_block.specs.OutsideSets.{OutsideValue, set_of, listed}
-use Rattle.qh_block.specs.PositionChains.{none, ends_at, chain_from, value_of, IsChain, IsLast, IsHeld, IsKept}
+use Rattle.qh_block.specs.steps.OutsideSets.{OutsideValue, set_of, listed}
+use Rattle.qh_block.specs.steps.PositionChains.{none, ends_at, chain_from, value_of, IsChain, IsLast, IsHeld, IsKept}
 use Rattle.qh_block.specs.declared.quickhull.outside_sets.Ends.{Ends}
 use Rattle.qh_block.proofs.ChainWrites.{chain_is, chain_kept, chain_front, chain_joined, last_in}
 

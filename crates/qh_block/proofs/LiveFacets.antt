@@ -4,12 +4,12 @@ use Rattle.std.proofs.lemmas.List.Elements.{All-head, All-tail, All-from_recursi
 use Rattle.std.proofs.lemmas.List.{get_or_past}
 use Rattle.std.proofs.lemmas.Bool.{cases_lt}
 use Rattle.std.specs.List.{AllByRecursion as Every}
-use Rattle.qh_model.specs.Sets.{In}
-use Rattle.qh_model.specs.StoredSurface.{StoredFacet, surface_of, facet_at, no_facet}
+use Rattle.qh_model.specs.headline.Sets.{In}
+use Rattle.qh_model.specs.contract.StoredSurface.{StoredFacet, surface_of, facet_at, no_facet}
 use Rattle.qh_model.proofs.surfaces.Stored.{live_is_marked}
 use Rattle.qh_mesh.specs.declared.facets.FacetNo.{FacetNo}
-use Rattle.qh_mesh.specs.Replacement.{IsLive}
-use Rattle.qh_mesh.specs.LiveNumbers.{numbers}
+use Rattle.qh_mesh.specs.contract.Replacement.{IsLive}
+use Rattle.qh_mesh.specs.contract.LiveNumbers.{numbers}
 
 -- a live facet is at a place
 pub live_below : (fs : List StoredFacet) (f : ℕ) → IsLive fs f → f < length fs

@@ -4,9 +4,9 @@ use Rattle.std.specs.List.{sum_by, range_with_len}
 use Rattle.std.proofs.lemmas.List.{length-replicate}
 use Rattle.std.proofs.lemmas.List.FromFn.{length-range_with_len}
 use Rattle.std.proofs.lemmas.List.Sums.{sum_by-append, sum_by-cons}
-use Rattle.qh_model.specs.Sets.{In, Once}
-use Rattle.qh_block.specs.OutsideSets.{OutsideValue, listed}
-use Rattle.qh_block.specs.PositionChains.{none, ends_at, IsChain, IsLast, IsHeld, IsKept}
+use Rattle.qh_model.specs.headline.Sets.{In, Once}
+use Rattle.qh_block.specs.steps.OutsideSets.{OutsideValue, listed}
+use Rattle.qh_block.specs.steps.PositionChains.{none, ends_at, IsChain, IsLast, IsHeld, IsKept}
 use Rattle.qh_block.specs.declared.quickhull.outside_sets.Ends.{Ends}
 
 -- ---- the first sets

@@ -3,10 +3,10 @@ use Rattle.std.proofs.Common.{◌≡◌, ◌<◌, ◌+◌, ◌⊎◌, ℕ, List,
 use Rattle.std.proofs.lemmas.Int.{ints}
 use Rattle.std.proofs.lemmas.List.Elements.{All-more, All-weaker}
 use Rattle.std.specs.Prelude.{ℤ, ◌≤ℤ◌, ◌<ℤ◌}
-use Rattle.qh_model.specs.Sets.{In}
-use Rattle.qh_model.specs.Vector.{Vector}
+use Rattle.qh_model.specs.headline.Sets.{In}
+use Rattle.qh_model.specs.headline.Vector.{Vector}
 use Rattle.qh_model.proofs.Members.{In-get_or}
-use Rattle.qh_block.specs.Segments.{position}
+use Rattle.qh_block.specs.steps.Segments.{position}
 
 le_trans : (x y z : ℤ) → x ≤ℤ y → y ≤ℤ z → x ≤ℤ z
 le_trans x y z h k = omega (arith, ints)

@@ -2,8 +2,8 @@
 use Rattle.std.proofs.Common.{◌≡◌, ◌≢◌, ℕ, ◌+◌, ◌<◌, ◌≤◌, arith, ap, sym, ◌∙◌, refl, Bool, true, false, leb, ◌⊎◌, inl, inr, List, [], ◌∷◌, ◌++◌, length, drop, subst, get_or, set}
 use Rattle.std.proofs.lemmas.Bool.{cases_lt, le-leb, lt-leb}
 use Rattle.std.proofs.lemmas.List.{get_or_read}
-use Rattle.qh_block.specs.OutsideSets.{OutsideValue, set_of, joined}
-use Rattle.qh_block.specs.PositionChains.{none, ends_at, value_of, IsChain, IsLast, IsKept}
+use Rattle.qh_block.specs.steps.OutsideSets.{OutsideValue, set_of, joined}
+use Rattle.qh_block.specs.steps.PositionChains.{none, ends_at, value_of, IsChain, IsLast, IsKept}
 use Rattle.qh_block.specs.declared.quickhull.outside_sets.Ends.{Ends}
 use Rattle.qh_block.proofs.ChainWrites.{chain_within, last_in}
 use Rattle.qh_block.proofs.HeldSets.{kept_as, begins, with_set, without_first, released, with_front, with_second}

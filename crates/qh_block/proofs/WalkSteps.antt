@@ -3,15 +3,15 @@ use Rattle.std.proofs.Common.{◌≡◌, ◌≢◌, ℕ, zero, suc, ◌+◌, ◌
 use Rattle.std.specs.Prelude.{pos, ◌<ℤ◌}
 use Rattle.std.proofs.lemmas.Bool.{cases_eq, cases_lt}
 use Rattle.std.proofs.lemmas.List.{get_or_append_left, get_or_push, length_push}
-use Rattle.qh_model.specs.Vector.{Vector}
-use Rattle.qh_model.specs.StoredSurface.{StoredFacet}
-use Rattle.qh_pred.specs.Planes.{PlaneValue, height}
+use Rattle.qh_model.specs.headline.Vector.{Vector}
+use Rattle.qh_model.specs.contract.StoredSurface.{StoredFacet}
+use Rattle.qh_pred.specs.contract.Planes.{PlaneValue, height}
 use Rattle.qh_mesh.specs.declared.facets.FacetNo.{FacetNo}
-use Rattle.qh_mesh.specs.Replacement.{IsLive, AreFacets, number, is_listed, twin_of}
+use Rattle.qh_mesh.specs.contract.Replacement.{IsLive, AreFacets, number, is_listed, twin_of}
 use Rattle.qh_mesh.proofs.ListedFacets.{listed_at, listed_find}
 use Rattle.qh_mesh.proofs.Pigeonhole.{pigeon}
-use Rattle.qh_block.specs.Planes.{plane_at}
-use Rattle.qh_block.specs.Walks.{mark_at, IsWalk, IsCrossed, IsFurther}
+use Rattle.qh_block.specs.steps.Planes.{plane_at}
+use Rattle.qh_block.specs.steps.Walks.{mark_at, IsWalk, IsCrossed, IsFurther}
 use Rattle.qh_block.proofs.LiveFacets.{live_below}
 
 -- ---- lists of facets

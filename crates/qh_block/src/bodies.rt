@@ -1,8 +1,8 @@
 //! Bodies of points, segments and polygons.
 ghost use Rattle.std.specs.Prelude.{◌≡◌, ◌<◌, ◌↔◌, ℕ, [], ◌∷◌, IfOk};
 ghost use Rattle.std.specs.List.Sorted.{IsStrictlyIncreasing};
-ghost use Rattle.qh_model.specs.Sets.{In};
-ghost use Rattle.qh_block.specs.FlatBodies.{point_body, segment_body, IsPolygonBody};
+ghost use Rattle.qh_model.specs.headline.Sets.{In};
+ghost use Rattle.qh_block.specs.steps.FlatBodies.{point_body, segment_body, IsPolygonBody};
 
 use qh_model::{Body, Id, Memory, Polygon};
 use std::alloc::Global;

@@ -5,18 +5,18 @@
 //! and most planes have one triangle.
 ghost use Rattle.std.specs.Prelude.{◌≡◌, ◌≤◌, ◌<◌, ◌↔◌, ℕ, List, IfOk, OnOk, length, true, false, replicate};
 ghost use Rattle.std.specs.List.Sorted.{IsStrictlyIncreasing};
-ghost use Rattle.qh_model.specs.DistinctIds.{IsIdSet};
-ghost use Rattle.qh_model.specs.Extreme.{Extreme};
-ghost use Rattle.qh_model.specs.FinishedSurface.{IsFinished};
-ghost use Rattle.qh_model.specs.Polygon.{IsPolygon};
-ghost use Rattle.qh_model.specs.Predicates.{cross, place};
-ghost use Rattle.qh_model.specs.Sets.{In, Members};
-ghost use Rattle.qh_model.specs.StoredSurface.{facet_at, surface_of};
-ghost use Rattle.qh_mesh.specs.Replacement.{IsLive, is_listed};
-ghost use Rattle.qh_plane.specs.PlaceKeys.{AreIndices};
-ghost use Rattle.qh_plane.specs.PlanarSets.{IsPlanarSet};
-ghost use Rattle.qh_block.specs.PlaneWalks.{AreCornersBelow, mark_at};
-ghost use Rattle.qh_block.specs.Faces.{corners_of, IsListedCorner, IsNewPlane, IsNewFace, AreFacetFaces};
+ghost use Rattle.qh_model.specs.contract.IdSets.{IsIdSet};
+ghost use Rattle.qh_model.specs.headline.Extreme.{Extreme};
+ghost use Rattle.qh_model.specs.contract.FinishedSurface.{IsFinished};
+ghost use Rattle.qh_model.specs.headline.Polygon.{IsPolygon};
+ghost use Rattle.qh_model.specs.headline.Predicates.{cross, place};
+ghost use Rattle.qh_model.specs.headline.Sets.{In, Members};
+ghost use Rattle.qh_model.specs.contract.StoredSurface.{facet_at, surface_of};
+ghost use Rattle.qh_mesh.specs.contract.Replacement.{IsLive, is_listed};
+ghost use Rattle.qh_model.specs.contract.IdSets.{AreIndices};
+ghost use Rattle.qh_plane.specs.contract.PlanarSets.{IsPlanarSet};
+ghost use Rattle.qh_block.specs.steps.PlaneWalks.{AreCornersBelow, mark_at};
+ghost use Rattle.qh_block.specs.steps.Faces.{corners_of, IsListedCorner, IsNewPlane, IsNewFace, AreFacetFaces};
 
 use crate::plane_walk::walk_plane;
 use qh_mesh::{FacetNo, Mesh};

@@ -1,11 +1,11 @@
 //! The hulls of sets in a point, a line or a plane.
 ghost use Rattle.std.specs.Prelude.{◌≡◌, ◌<◌, IfOk, length};
-ghost use Rattle.qh_model.specs.DistinctIds.{IsIdSet};
-ghost use Rattle.qh_model.specs.Hull.{IsBody};
-ghost use Rattle.qh_model.specs.Predicates.{place};
-ghost use Rattle.qh_model.specs.Sets.{Members};
-ghost use Rattle.qh_plane.specs.PlaceKeys.{AreIndices};
-ghost use Rattle.qh_plane.specs.Shapes.{IsInLine, IsInPlane, Each, IsFirstNot, AreFirstTwo};
+ghost use Rattle.qh_model.specs.contract.IdSets.{IsIdSet};
+ghost use Rattle.qh_model.specs.headline.Hull.{IsBody};
+ghost use Rattle.qh_model.specs.headline.Predicates.{place};
+ghost use Rattle.qh_model.specs.headline.Sets.{Members};
+ghost use Rattle.qh_model.specs.contract.IdSets.{AreIndices};
+ghost use Rattle.qh_plane.specs.contract.Shapes.{IsInLine, IsInPlane, Each, IsFirstNot, AreFirstTwo};
 
 use crate::bodies::{body_of_point, body_of_polygon, body_of_segment};
 use crate::normals::forward;

@@ -1,14 +1,14 @@
 //! The extreme ids and the hull of a set, in every dimension.
 ghost use Rattle.std.specs.Prelude.{◌<◌, IfOk, length};
-ghost use Rattle.qh_model.specs.DistinctIds.{IsIdSet};
-ghost use Rattle.qh_model.specs.Hull.{AreExtremes, IsBody};
-ghost use Rattle.qh_model.specs.Predicates.{place};
-ghost use Rattle.qh_model.specs.Sets.{Members};
-ghost use Rattle.qh_model.specs.FinishedSurface.{IsFinished};
-ghost use Rattle.qh_model.specs.StoredSurface.{surface_of};
-ghost use Rattle.qh_plane.specs.PlaceKeys.{AreIndices};
-ghost use Rattle.qh_plane.specs.Shapes.{IsInLine, IsInPlane, IsFirstNot, AreFirstTwo};
-ghost use Rattle.qh_block.specs.PlaneWalks.{AreCornersBelow};
+ghost use Rattle.qh_model.specs.contract.IdSets.{IsIdSet};
+ghost use Rattle.qh_model.specs.headline.Hull.{AreExtremes, IsBody};
+ghost use Rattle.qh_model.specs.headline.Predicates.{place};
+ghost use Rattle.qh_model.specs.headline.Sets.{Members};
+ghost use Rattle.qh_model.specs.contract.FinishedSurface.{IsFinished};
+ghost use Rattle.qh_model.specs.contract.StoredSurface.{surface_of};
+ghost use Rattle.qh_model.specs.contract.IdSets.{AreIndices};
+ghost use Rattle.qh_plane.specs.contract.Shapes.{IsInLine, IsInPlane, IsFirstNot, AreFirstTwo};
+ghost use Rattle.qh_block.specs.steps.PlaneWalks.{AreCornersBelow};
 
 use crate::bodies::body_of_point;
 use crate::flat_sets::{polygon_hull, segment_hull};

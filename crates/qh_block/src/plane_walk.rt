@@ -1,11 +1,11 @@
 //! The walk over the facets of a mesh that lie in the plane of one of them.
 ghost use Rattle.std.specs.Prelude.{◌≡◌, ◌≤◌, ◌<◌, ◌/◌, ◌↔◌, IsTrue, ℕ, OnOk, [], length, true, false};
-ghost use Rattle.qh_model.specs.Predicates.{place};
-ghost use Rattle.qh_model.specs.FacetPlanes.{IsLevelWith, IsLevelFacet};
-ghost use Rattle.qh_model.specs.StoredSurface.{surface_of};
-ghost use Rattle.qh_model.specs.Surface.{rest};
-ghost use Rattle.qh_mesh.specs.Replacement.{IsLive, is_listed, side_of_edge};
-ghost use Rattle.qh_block.specs.PlaneWalks.{AreCornersBelow, mark_at, IsCrossed, IsExtension, AreCrossed};
+ghost use Rattle.qh_model.specs.headline.Predicates.{place};
+ghost use Rattle.qh_model.specs.laws.FacetPlanes.{IsLevelWith, IsLevelFacet};
+ghost use Rattle.qh_model.specs.contract.StoredSurface.{surface_of};
+ghost use Rattle.qh_model.specs.steps.FarCorners.{rest};
+ghost use Rattle.qh_mesh.specs.contract.Replacement.{IsLive, is_listed, side_of_edge};
+ghost use Rattle.qh_block.specs.steps.PlaneWalks.{AreCornersBelow, mark_at, IsCrossed, IsExtension, AreCrossed};
 
 use qh_mesh::{EdgeNo, FacetNo, Mesh};
 use qh_model::{Id, Point};

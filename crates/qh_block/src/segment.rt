@@ -1,7 +1,7 @@
 //! The ends of a set of points in one line.
 ghost use Rattle.std.specs.Prelude.{◌≡◌, ◌<◌, ◌<ℤ◌, ◌≤ℤ◌, ◌⊎◌, ◌↔◌, IsTrue, length};
-ghost use Rattle.qh_plane.specs.PlaceKeys.{AreIndices};
-ghost use Rattle.qh_block.specs.Segments.{position, IsFirstAlong};
+ghost use Rattle.qh_model.specs.contract.IdSets.{AreIndices};
+ghost use Rattle.qh_block.specs.steps.Segments.{position, IsFirstAlong};
 
 use qh_model::{Id, Point};
 use qh_pred::{along, point_at};

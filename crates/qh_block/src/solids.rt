@@ -1,14 +1,14 @@
 //! The hull of a solid set from its finished mesh.
 ghost use Rattle.std.specs.Prelude.{◌≡◌, ◌↔◌, ℕ, List, IfOk, length};
 ghost use Rattle.std.specs.List.Sorted.{IsStrictlyIncreasing};
-ghost use Rattle.qh_model.specs.DistinctIds.{IsIdSet};
-ghost use Rattle.qh_model.specs.FinishedSurface.{IsFinished};
-ghost use Rattle.qh_model.specs.Hull.{AreExtremes, IsBody};
-ghost use Rattle.qh_model.specs.Predicates.{place};
-ghost use Rattle.qh_model.specs.Sets.{In, Members};
-ghost use Rattle.qh_model.specs.StoredSurface.{surface_of};
-ghost use Rattle.qh_block.specs.Faces.{IsListed, all_members};
-ghost use Rattle.qh_block.specs.PlaneWalks.{AreCornersBelow};
+ghost use Rattle.qh_model.specs.contract.IdSets.{IsIdSet};
+ghost use Rattle.qh_model.specs.contract.FinishedSurface.{IsFinished};
+ghost use Rattle.qh_model.specs.headline.Hull.{AreExtremes, IsBody};
+ghost use Rattle.qh_model.specs.headline.Predicates.{place};
+ghost use Rattle.qh_model.specs.headline.Sets.{In, Members};
+ghost use Rattle.qh_model.specs.contract.StoredSurface.{surface_of};
+ghost use Rattle.qh_block.specs.steps.Faces.{IsListed, all_members};
+ghost use Rattle.qh_block.specs.steps.PlaneWalks.{AreCornersBelow};
 
 use crate::bodies::rising_ids;
 use crate::face_order::in_order;

@@ -4,7 +4,7 @@ use Rattle.atomic_table.specs.Seated.{TableId}
 use Rattle.qh_board.specs.declared.view.Setup.{Setup}
 use Rattle.qh_board.specs.declared.view.View.{View}
 use Rattle.qh_board.specs.declared.view.Mark.{Mark}
-use Rattle.qh_model.specs.BoardMachine.{InSpan}
+use Rattle.qh_model.specs.contract.BoardMachine.{InSpan}
 use Rattle.qh_board.specs.contract.Tokens.{BoardValue, Token, IsOf, IsRightAt, node_or, task_node}
 use Rattle.qh_board.specs.steps.Views.{HasRecord, record_of}
 use Rattle.qh_board.specs.steps.Seats.{token_of}

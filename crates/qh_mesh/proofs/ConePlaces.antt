@@ -2,8 +2,8 @@
 use Rattle.std.proofs.Common.{◌≡◌, ℕ, ◌+◌, ◌-◌, ◌<◌, ◌≤◌, arith, ap, ◌∙◌, List, [], ◌∷◌, ◌++◌, length, take}
 use Rattle.std.proofs.lemmas.List.{get_or-take, get_or_append_left, get_or_push, length_push}
 use Rattle.qh_mesh.specs.declared.facets.FacetNo.{FacetNo}
-use Rattle.qh_mesh.specs.ConeSteps.{Places}
-use Rattle.qh_mesh.specs.Replacement.{at, number}
+use Rattle.qh_mesh.specs.steps.ConeSteps.{Places}
+use Rattle.qh_mesh.specs.contract.Replacement.{at, number}
 use Rattle.qh_mesh.proofs.NumberCases.{below_next}
 
 -- one more place is chosen

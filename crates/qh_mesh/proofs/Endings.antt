@@ -4,10 +4,10 @@ use Rattle.std.proofs.lemmas.Bool.{cases_Bool, both_ways}
 use Rattle.qh_mesh.specs.declared.facets.Side.{Side}
 use Rattle.qh_mesh.specs.declared.facets.FacetNo.{FacetNo}
 use Rattle.qh_mesh.specs.declared.facets.ConeFacet.{ConeFacet}
-use Rattle.qh_mesh.specs.Nets.{after, IsNet}
-use Rattle.qh_mesh.specs.Cells.{cell, start_in, twin_in, live_in, seen_in}
-use Rattle.qh_mesh.specs.ConeSteps.{cone_facet_at, IsConeFacet, Written, Released}
-use Rattle.qh_mesh.specs.Replacement.{at, number}
+use Rattle.qh_mesh.specs.steps.Nets.{after, IsNet}
+use Rattle.qh_mesh.specs.steps.Cells.{cell, start_in, twin_in, live_in, seen_in}
+use Rattle.qh_mesh.specs.steps.ConeSteps.{cone_facet_at, IsConeFacet, Written, Released}
+use Rattle.qh_mesh.specs.contract.Replacement.{at, number}
 use Rattle.qh_mesh.proofs.Around.{SideOf, side_of}
 use Rattle.qh_mesh.proofs.Around.SideOf.{first, second, third}
 use Rattle.qh_mesh.proofs.Cones.{Kept, Horizon, Coned, coned_is_net}

@@ -1,9 +1,9 @@
 -- Lists of live facets by rising numbers.
 use Rattle.std.proofs.Common.{◌≡◌, ◌≢◌, ℕ, ◌+◌, ◌<◌, ◌≤◌, arith, ap, sym, ◌∙◌, true, List, [], ◌∷◌, ◌++◌, length, subst}
 use Rattle.std.proofs.lemmas.List.{get_or_append_left, get_or_push, length_push}
-use Rattle.qh_model.specs.StoredSurface.{StoredFacet, facet_at}
+use Rattle.qh_model.specs.contract.StoredSurface.{StoredFacet, facet_at}
 use Rattle.qh_mesh.specs.declared.facets.FacetNo.{FacetNo}
-use Rattle.qh_mesh.specs.Replacement.{number, IsLive, AreFacets}
+use Rattle.qh_mesh.specs.contract.Replacement.{number, IsLive, AreFacets}
 use Rattle.qh_mesh.proofs.NumberCases.{by_le}
 
 -- live facets below n, each once

@@ -1,7 +1,7 @@
 -- Members of lists of numbers by their places, and what a filter keeps of them.
 use Rattle.std.proofs.Common.{◌≡◌, ◌≢◌, ℕ, zero, suc, ◌<◌, ◌≤◌, arith, sym, ◌∙◌, refl, Bool, true, false, cond, List, [], ◌∷◌, length}
 use Rattle.std.specs.Prelude.{filter}
-use Rattle.qh_mesh.specs.Replacement.{at}
+use Rattle.qh_mesh.specs.contract.Replacement.{at}
 
 -- x stands in xs
 abbrev pub StandsIn : ℕ → List ℕ → Type 0

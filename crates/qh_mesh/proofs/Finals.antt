@@ -5,11 +5,11 @@ use Rattle.std.specs.Prelude.{filter, not}
 use Rattle.qh_mesh.specs.declared.facets.Side.{Side}
 use Rattle.qh_mesh.specs.declared.facets.FacetNo.{FacetNo}
 use Rattle.qh_mesh.specs.declared.facets.ConeFacet.{ConeFacet}
-use Rattle.qh_mesh.specs.Cells.{start_in, twin_in, live_in, seen_in, IsSurface, AreLive}
-use Rattle.qh_mesh.specs.MarkedFacets.{marked_horizon, listed_horizon, Marked}
-use Rattle.qh_mesh.specs.ConeSteps.{cone_facet_at, Places, Joined, IsConeFacet, Written, Released}
-use Rattle.qh_mesh.specs.ReplacedSides.{HasCone, Cut, Ready, Rebuilt}
-use Rattle.qh_mesh.specs.Replacement.{at, number, sides_of, is_listed}
+use Rattle.qh_mesh.specs.steps.Cells.{start_in, twin_in, live_in, seen_in, IsSurface, AreLive}
+use Rattle.qh_mesh.specs.steps.MarkedFacets.{marked_horizon, listed_horizon, Marked}
+use Rattle.qh_mesh.specs.steps.ConeSteps.{cone_facet_at, Places, Joined, IsConeFacet, Written, Released}
+use Rattle.qh_mesh.specs.steps.ReplacedSides.{HasCone, Cut, Ready, Rebuilt}
+use Rattle.qh_mesh.specs.contract.Replacement.{at, number, sides_of, is_listed}
 use Rattle.qh_mesh.proofs.Weaving.{live_inside}
 use Rattle.qh_mesh.proofs.Cones.{Kept, Horizon, Coned}
 use Rattle.qh_mesh.proofs.ListedFacets.{listed_at, listed_find}

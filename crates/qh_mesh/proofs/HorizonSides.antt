@@ -5,9 +5,9 @@ use Rattle.std.proofs.lemmas.List.{take_more, append_assoc}
 use Rattle.std.proofs.lemmas.List.Elements.{filter-append}
 use Rattle.qh_mesh.specs.declared.facets.Side.{Side}
 use Rattle.qh_mesh.specs.declared.facets.FacetNo.{FacetNo}
-use Rattle.qh_mesh.specs.Cells.{seen_in, twin_in}
-use Rattle.qh_mesh.specs.MarkedFacets.{marked_horizon}
-use Rattle.qh_mesh.specs.Replacement.{sides_of}
+use Rattle.qh_mesh.specs.steps.Cells.{seen_in, twin_in}
+use Rattle.qh_mesh.specs.steps.MarkedFacets.{marked_horizon}
+use Rattle.qh_mesh.specs.contract.Replacement.{sides_of}
 
 -- the sides of two lists, one after the other
 pub sides_of-append : (us vs : List FacetNo) → sides_of (us ++ vs) ≡ sides_of us ++ sides_of vs

@@ -2,7 +2,7 @@
 use Rattle.std.proofs.Common.{◌≡◌, ◌≢◌, ℕ, zero, suc, ◌+◌, ◌*◌, ◌/◌, ◌<◌, arith, ap, sym, ◌∙◌, refl, Bool, true, false, cond, nat_eq, ◌⊎◌, inl, inr, List, [], ◌∷◌, length}
 use Rattle.std.proofs.lemmas.Bool.Decides.{eqb_tells}
 use Rattle.qh_mesh.specs.declared.facets.FacetNo.{FacetNo}
-use Rattle.qh_mesh.specs.Replacement.{at, number, sides_of, is_listed}
+use Rattle.qh_mesh.specs.contract.Replacement.{at, number, sides_of, is_listed}
 use Rattle.qh_mesh.proofs.Around.{SideOf, side_of}
 use Rattle.qh_mesh.proofs.Around.SideOf.{first, second, third}
 use Rattle.qh_mesh.proofs.Filters.{StandsIn, Distinct, in_later}

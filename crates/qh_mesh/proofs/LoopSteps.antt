@@ -4,9 +4,9 @@ use Rattle.std.proofs.lemmas.List.{get_or-set_same, get_or-set_other, length-set
 use Rattle.qh_mesh.specs.declared.facets.Side.{Side}
 use Rattle.qh_mesh.specs.declared.facets.FacetNo.{FacetNo}
 use Rattle.qh_mesh.specs.declared.facets.ConeFacet.{ConeFacet}
-use Rattle.qh_mesh.specs.Cells.{blank, cell, start_in, twin_in, live_in, seen_in}
-use Rattle.qh_mesh.specs.ConeSteps.{cone_facet_at, Joined, IsConeFacet}
-use Rattle.qh_mesh.specs.Replacement.{at, number}
+use Rattle.qh_mesh.specs.steps.Cells.{blank, cell, start_in, twin_in, live_in, seen_in}
+use Rattle.qh_mesh.specs.steps.ConeSteps.{cone_facet_at, Joined, IsConeFacet}
+use Rattle.qh_mesh.specs.contract.Replacement.{at, number}
 use Rattle.qh_mesh.proofs.NumberCases.{by_eq, below_next}
 
 -- a cell is written

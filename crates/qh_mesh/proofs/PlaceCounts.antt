@@ -2,15 +2,15 @@
 use Rattle.std.proofs.Common.{◌≡◌, ◌≢◌, ℕ, zero, suc, ◌+◌, ◌-◌, ◌*◌, ◌<◌, max, arith, ap, sym, ◌∙◌, refl, Bool, true, false, cond, List, [], ◌∷◌, length, map, subst}
 use Rattle.std.proofs.lemmas.Bool.{not-true}
 use Rattle.std.specs.Prelude.{not}
-use Rattle.qh_model.specs.Sets.{In, Once}
-use Rattle.qh_model.specs.StoredSurface.{StoredFacet, facet_at, live_from, surface_of}
+use Rattle.qh_model.specs.headline.Sets.{In, Once}
+use Rattle.qh_model.specs.contract.StoredSurface.{StoredFacet, facet_at, live_from, surface_of}
 use Rattle.qh_model.proofs.Members.{In-get_or, in_at}
 use Rattle.qh_model.proofs.lists.OnceEach.{once_length}
 use Rattle.qh_model.proofs.surfaces.Stored.{live_is_marked, live_is_listed_once}
 use Rattle.qh_mesh.specs.declared.facets.Side.{Side}
-use Rattle.qh_mesh.specs.Cells.{IsSurface}
-use Rattle.qh_mesh.specs.Replacement.{at}
-use Rattle.qh_mesh.specs.Stored.{facets_of}
+use Rattle.qh_mesh.specs.steps.Cells.{IsSurface}
+use Rattle.qh_mesh.specs.contract.Replacement.{at}
+use Rattle.qh_mesh.specs.steps.Stored.{facets_of}
 use Rattle.qh_mesh.proofs.StoredSides.{stored_len, live_stored}
 
 -- the facet with the other mark

@@ -5,13 +5,13 @@ use Rattle.std.specs.Prelude.{not}
 use Rattle.qh_mesh.specs.declared.facets.Side.{Side}
 use Rattle.qh_mesh.specs.declared.facets.FacetNo.{FacetNo}
 use Rattle.qh_mesh.specs.declared.facets.ConeFacet.{ConeFacet}
-use Rattle.qh_mesh.specs.Nets.{after, walk, IsNet}
-use Rattle.qh_mesh.specs.Cells.{start_in, twin_in, live_in, seen_in, AreLive}
-use Rattle.qh_mesh.specs.Turns.{IsWoven, Turned, step}
-use Rattle.qh_mesh.specs.MarkedFacets.{marked_horizon, Marked}
-use Rattle.qh_mesh.specs.ConeSteps.{IsConeFacet}
-use Rattle.qh_mesh.specs.ReplacedSides.{Cut}
-use Rattle.qh_mesh.specs.Replacement.{at, number, sides_of}
+use Rattle.qh_mesh.specs.steps.Nets.{after, walk, IsNet}
+use Rattle.qh_mesh.specs.steps.Cells.{start_in, twin_in, live_in, seen_in, AreLive}
+use Rattle.qh_mesh.specs.steps.Turns.{IsWoven, Turned, step}
+use Rattle.qh_mesh.specs.steps.MarkedFacets.{marked_horizon, Marked}
+use Rattle.qh_mesh.specs.steps.ConeSteps.{IsConeFacet}
+use Rattle.qh_mesh.specs.steps.ReplacedSides.{Cut}
+use Rattle.qh_mesh.specs.contract.Replacement.{at, number, sides_of}
 use Rattle.qh_mesh.proofs.Around.{after-facet, after-side, SideOf, side_of}
 use Rattle.qh_mesh.proofs.Around.SideOf.{first, second, third}
 use Rattle.qh_mesh.proofs.Weaving.{live_inside, turns_apart}

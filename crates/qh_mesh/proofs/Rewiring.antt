@@ -2,21 +2,22 @@
 use Rattle.std.proofs.Common.{◌≡◌, ◌≢◌, ℕ, zero, suc, ◌+◌, ◌*◌, ◌/◌, ◌%◌, ◌<◌, arith, ap, sym, ◌∙◌, refl, true, false, ◌⊎◌, inl, inr, List, length, subst}
 use Rattle.std.specs.Prelude.{not, pos, ◌<ℤ◌, ◌≤ℤ◌}
 use Rattle.std.proofs.lemmas.Bool.{cases_Bool, not-true, not_from_false}
-use Rattle.qh_model.specs.Vector.{Vector}
-use Rattle.qh_model.specs.Sets.{In}
-use Rattle.qh_model.specs.Simplex.{one_of, by_side}
-use Rattle.qh_model.specs.Weighted.{Weighted}
-use Rattle.qh_model.specs.FinishedSurface.{weighted_at}
-use Rattle.qh_model.specs.Surface.{Side, Surface, start, end, Sees, IsBlindTo, rise}
-use Rattle.qh_model.specs.Surface.Side.{first, second, third}
-use Rattle.qh_model.specs.Rewired.{IsHorizonSide, LinksTo, IsRewired}
-use Rattle.qh_model.specs.StoredSurface.{StoredFacet, facet_at, surface_of}
+use Rattle.qh_model.specs.headline.Vector.{Vector}
+use Rattle.qh_model.specs.headline.Sets.{In}
+use Rattle.qh_model.specs.contract.Simplex.{one_of, by_side}
+use Rattle.qh_model.specs.contract.Weighted.{Weighted}
+use Rattle.qh_model.specs.contract.FinishedSurface.{weighted_at}
+use Rattle.qh_model.specs.contract.Surface.{Side, Surface, start, end, Sees, IsBlindTo, rise}
+use Rattle.qh_model.specs.contract.Surface.Side.{first, second, third}
+use Rattle.qh_model.specs.contract.Rewired.{IsHorizonSide, LinksTo, IsRewired}
+use Rattle.qh_model.specs.contract.StoredSurface.{StoredFacet, facet_at, surface_of}
 use Rattle.qh_model.proofs.surfaces.Stored.{live_is_marked}
 use Rattle.qh_model.proofs.surfaces.SurfaceLaws.{rise_is_vol, horizon_is_known}
 use Rattle.qh_model.proofs.algebra.Signs.{not_less}
 use Rattle.qh_mesh.specs.declared.facets.FacetNo.{FacetNo}
-use Rattle.qh_mesh.specs.Replacement.{number, at, sides_of, is_listed, horizon, side_of_edge, IsLive, AreFacets, IsKept, IsReplacement, edge_start, edge_end, twin_of, HasTwins}
-use Rattle.qh_mesh.specs.SoundMesh.{facet_vol, IsSoundMesh, AreVisible}
+use Rattle.qh_mesh.specs.contract.Replacement.{number, at, sides_of, is_listed, horizon, side_of_edge, IsLive, AreFacets, IsKept, IsReplacement, edge_start, edge_end, twin_of}
+use Rattle.qh_mesh.specs.steps.Twins.{HasTwins}
+use Rattle.qh_mesh.specs.contract.SoundMesh.{facet_vol, IsSoundMesh, AreVisible}
 use Rattle.qh_mesh.proofs.Filters.{filter_from, filter_to, filter_apart}
 use Rattle.qh_mesh.proofs.ListedFacets.{sides_from, sides_to, sides_apart, listed_at, listed_find}
 use Rattle.qh_mesh.proofs.NumberCases.{by_le}

@@ -3,17 +3,17 @@ use Rattle.std.proofs.Common.{◌≡◌, ◌≢◌, ℕ, ◌/◌, arith, ap, sym
 use Rattle.std.specs.Prelude.{ℤ, pos, ◌+ℤ◌, ◌<ℤ◌, ◌≤ℤ◌}
 use Rattle.std.proofs.lemmas.Int.{ints, by_lt_z}
 use Rattle.std.proofs.lemmas.Bool.{cases_Bool}
-use Rattle.qh_model.specs.Vector.{Vector}
-use Rattle.qh_model.specs.Predicates.{vol}
-use Rattle.qh_model.specs.Sets.{In}
-use Rattle.qh_model.specs.Weighted.{Weighted, weighted, above, middle_of}
-use Rattle.qh_model.specs.FinishedSurface.{weighted_at, middle_at}
-use Rattle.qh_model.specs.Surface.{Surface, start, end, IsCorner, IsWhole, rise}
-use Rattle.qh_model.specs.SoundSurface.{IsSound, drawn}
-use Rattle.qh_model.specs.Simplex.{simplex_surface}
-use Rattle.qh_model.specs.Rewired.{KeepsCorners}
-use Rattle.qh_model.specs.StoredSurface.{StoredFacet, surface_of}
-use Rattle.qh_model.specs.ClosedSurface.{signed_volume, triples_of, triples_from}
+use Rattle.qh_model.specs.headline.Vector.{Vector}
+use Rattle.qh_model.specs.headline.Predicates.{vol}
+use Rattle.qh_model.specs.headline.Sets.{In}
+use Rattle.qh_model.specs.contract.Weighted.{Weighted, weighted, above, middle_of}
+use Rattle.qh_model.specs.contract.FinishedSurface.{weighted_at, middle_at}
+use Rattle.qh_model.specs.contract.Surface.{Surface, start, end, IsCorner, IsWhole, rise}
+use Rattle.qh_model.specs.contract.SoundSurface.{IsSound, drawn}
+use Rattle.qh_model.specs.laws.SimplexSurface.{simplex_surface}
+use Rattle.qh_model.specs.contract.Rewired.{KeepsCorners}
+use Rattle.qh_model.specs.contract.StoredSurface.{StoredFacet, surface_of}
+use Rattle.qh_model.specs.contract.ClosedSurface.{signed_volume, triples_of, triples_from}
 use Rattle.qh_model.proofs.surfaces.Stored.{live_is_listed_once}
 use Rattle.qh_model.proofs.surfaces.SurfaceLaws.{rise_is_vol}
 use Rattle.qh_model.proofs.surfaces.Simplex.{simplex_sound}
@@ -21,9 +21,10 @@ use Rattle.qh_model.proofs.surfaces.Rewired.{replace_keeps}
 use Rattle.qh_model.proofs.surfaces.Closed.{sound_is_closed, sound_has_volume}
 use Rattle.qh_model.proofs.algebra.VectorIdentities.{vol-flip_last}
 use Rattle.qh_mesh.specs.declared.facets.FacetNo.{FacetNo}
-use Rattle.qh_mesh.specs.Cells.{simplex_of}
-use Rattle.qh_mesh.specs.Replacement.{number, is_listed, IsLive, edge_start, edge_end, twin_of, HasTwins}
-use Rattle.qh_mesh.specs.SoundMesh.{facet_vol, IsSoundMesh, simplex_facets, IsClosedMesh}
+use Rattle.qh_mesh.specs.steps.Tetrahedra.{simplex_of}
+use Rattle.qh_mesh.specs.contract.Replacement.{number, is_listed, IsLive, edge_start, edge_end, twin_of}
+use Rattle.qh_mesh.specs.steps.Twins.{HasTwins}
+use Rattle.qh_mesh.specs.contract.SoundMesh.{facet_vol, IsSoundMesh, simplex_facets, IsClosedMesh}
 use Rattle.qh_mesh.proofs.Simplexes.{simplex_surface as simplex_kept}
 use Rattle.qh_mesh.proofs.StoredSides.{has_twins}
 use Rattle.qh_mesh.proofs.Rewiring.{edge_of, edge-facet, start-is, end-is, twin_at, twin-is, over-is, back-is, live_in, in_live, IsStep, rewired}

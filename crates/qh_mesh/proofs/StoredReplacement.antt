@@ -2,14 +2,14 @@
 use Rattle.std.proofs.Common.{◌≡◌, ◌≢◌, ℕ, ◌+◌, ◌*◌, ◌/◌, ◌%◌, ◌<◌, arith, ap, sym, ◌∙◌, Bool, true, false, ◌⊎◌, inl, inr, List, length, subst}
 use Rattle.std.proofs.lemmas.Bool.{both_ways}
 use Rattle.std.specs.Prelude.{filter, not}
-use Rattle.qh_model.specs.StoredSurface.{StoredFacet}
+use Rattle.qh_model.specs.contract.StoredSurface.{StoredFacet}
 use Rattle.qh_mesh.specs.declared.facets.Side.{Side}
 use Rattle.qh_mesh.specs.declared.facets.FacetNo.{FacetNo}
-use Rattle.qh_mesh.specs.Cells.{start_in, twin_in, live_in, IsSurface, AreLive}
-use Rattle.qh_mesh.specs.MarkedFacets.{listed_horizon}
-use Rattle.qh_mesh.specs.ReplacedSides.{HasCone, AreJoined, Replaced}
-use Rattle.qh_mesh.specs.Stored.{facets_of}
-use Rattle.qh_mesh.specs.Replacement.{number, at, sides_of, is_listed, horizon, IsLive, AreFacets, IsCone, IsKept, StaysFacet, IsReplacement, twin_of}
+use Rattle.qh_mesh.specs.steps.Cells.{start_in, twin_in, live_in, IsSurface, AreLive}
+use Rattle.qh_mesh.specs.steps.MarkedFacets.{listed_horizon}
+use Rattle.qh_mesh.specs.steps.ReplacedSides.{HasCone, AreJoined, Replaced}
+use Rattle.qh_mesh.specs.steps.Stored.{facets_of}
+use Rattle.qh_mesh.specs.contract.Replacement.{number, at, sides_of, is_listed, horizon, IsLive, AreFacets, IsCone, IsKept, StaysFacet, IsReplacement, twin_of}
 use Rattle.qh_mesh.proofs.Filters.{filter_from}
 use Rattle.qh_mesh.proofs.ListedFacets.{sides_from, listed_at}
 use Rattle.qh_mesh.proofs.Replacing.{facet_live}

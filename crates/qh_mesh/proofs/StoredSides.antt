@@ -1,15 +1,16 @@
 -- The facets of a list of sides, read side by side.
 use Rattle.std.proofs.Common.{◌≡◌, ℕ, zero, suc, ◌+◌, ◌*◌, ◌/◌, ◌%◌, ◌≤◌, arith, ap, sym, ◌∙◌, refl, true, List, [], ◌∷◌, length, subst, ◌⊎◌, inl, inr}
 use Rattle.std.proofs.lemmas.List.{get_or_past}
-use Rattle.qh_model.specs.Simplex.{one_of, by_side}
-use Rattle.qh_model.specs.Surface.{start, end}
-use Rattle.qh_model.specs.Surface.Side.{first, second, third}
-use Rattle.qh_model.specs.StoredSurface.{StoredFacet, facet_at, no_facet, surface_of}
+use Rattle.qh_model.specs.contract.Simplex.{one_of, by_side}
+use Rattle.qh_model.specs.contract.Surface.{start, end}
+use Rattle.qh_model.specs.contract.Surface.Side.{first, second, third}
+use Rattle.qh_model.specs.contract.StoredSurface.{StoredFacet, facet_at, no_facet, surface_of}
 use Rattle.qh_mesh.specs.declared.facets.Side.{Side}
-use Rattle.qh_mesh.specs.Nets.{after}
-use Rattle.qh_mesh.specs.Cells.{blank, cell, start_in, twin_in, live_in, IsSurface}
-use Rattle.qh_mesh.specs.Stored.{facets_of}
-use Rattle.qh_mesh.specs.Replacement.{IsLive, side_of_edge, edge_start, edge_end, twin_of, HasTwins}
+use Rattle.qh_mesh.specs.steps.Nets.{after}
+use Rattle.qh_mesh.specs.steps.Cells.{blank, cell, start_in, twin_in, live_in, IsSurface}
+use Rattle.qh_mesh.specs.steps.Stored.{facets_of}
+use Rattle.qh_mesh.specs.contract.Replacement.{IsLive, side_of_edge, edge_start, edge_end, twin_of}
+use Rattle.qh_mesh.specs.steps.Twins.{HasTwins}
 use Rattle.qh_mesh.proofs.Around.{after-side, SideOf, side_of}
 use Rattle.qh_mesh.proofs.Replacing.{facet_live}
 

@@ -4,12 +4,12 @@ use Rattle.std.proofs.lemmas.List.{get_or-take}
 use Rattle.std.proofs.lemmas.Bool.{cases_Bool, both_ways}
 use Rattle.qh_mesh.specs.declared.facets.Side.{Side}
 use Rattle.qh_mesh.specs.declared.facets.FacetNo.{FacetNo}
-use Rattle.qh_mesh.specs.Nets.{after, IsNet}
-use Rattle.qh_mesh.specs.Cells.{cell, start_in, twin_in, live_in, seen_in, IsSurface, AreLive}
-use Rattle.qh_mesh.specs.MarkedFacets.{marked_horizon, listed_horizon, Marked}
-use Rattle.qh_mesh.specs.ConeSteps.{Places}
-use Rattle.qh_mesh.specs.ReplacedSides.{Replaced, HasCone, AreJoined, Cut, Ready, Rebuilt}
-use Rattle.qh_mesh.specs.Replacement.{at, number, is_listed}
+use Rattle.qh_mesh.specs.steps.Nets.{after, IsNet}
+use Rattle.qh_mesh.specs.steps.Cells.{cell, start_in, twin_in, live_in, seen_in, IsSurface, AreLive}
+use Rattle.qh_mesh.specs.steps.MarkedFacets.{marked_horizon, listed_horizon, Marked}
+use Rattle.qh_mesh.specs.steps.ConeSteps.{Places}
+use Rattle.qh_mesh.specs.steps.ReplacedSides.{Replaced, HasCone, AreJoined, Cut, Ready, Rebuilt}
+use Rattle.qh_mesh.specs.contract.Replacement.{at, number, is_listed}
 use Rattle.qh_mesh.proofs.ListedFacets.{listed_find}
 use Rattle.qh_mesh.proofs.Replacing.{seen_find, cut_is, facets_inside}
 use Rattle.qh_mesh.proofs.Finals.{seen_is, marked_is_listed, Placed, Kind, kind, placed_apart, placed_fresh, placed_in}

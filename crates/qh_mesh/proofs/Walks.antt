@@ -1,6 +1,6 @@
 -- Walks that can be walked back: they do not repeat, so they end; and two of them that meet began together.
 use Rattle.std.proofs.Common.{◌≡◌, ◌≢◌, ℕ, zero, suc, ◌<◌, ◌≤◌, arith, sym}
-use Rattle.qh_mesh.specs.Nets.{walk}
+use Rattle.qh_mesh.specs.steps.Nets.{walk}
 use Rattle.qh_mesh.proofs.Pigeonhole.{pigeon}
 
 -- what a step does: from a place of D it can be walked back, and nowhere in D leads to h

@@ -1,10 +1,2 @@
-pub mod Cells
-pub mod Turns
-pub mod MarkedFacets
-pub mod ConeSteps
-pub mod ReplacedSides
-pub mod Nets
-pub mod Stored
-pub mod Replacement
-pub mod SoundMesh
-pub mod LiveNumbers
+pub mod contract
+pub mod steps

@@ -1,11 +1,11 @@
 //! The steps of a replacement.
 ghost use Rattle.std.specs.Prelude.{◌≡◌, ◌≢◌, ◌+◌, ◌*◌, ◌/◌, ◌%◌, ◌<◌, ◌≤◌, ◌^◌, ◌-◌, length, true, false, not, filter, [], ◌∷◌, ◌++◌, vec_len, vec_capacity, ℕ, take};
-ghost use Rattle.qh_mesh.specs.Nets.{after};
-ghost use Rattle.qh_mesh.specs.Cells.{seen_in, twin_in, start_in, live_in, cell};
-ghost use Rattle.qh_mesh.specs.Turns.{IsWoven, Turned};
-ghost use Rattle.qh_mesh.specs.MarkedFacets.{marked_horizon, Marked, MarkedFacet};
-ghost use Rattle.qh_mesh.specs.ConeSteps.{cone_facet_at, Joined, IsConeFacet, Written, Places, BlankFacet, Released};
-ghost use Rattle.qh_mesh.specs.Replacement.{number, at};
+ghost use Rattle.qh_mesh.specs.steps.Nets.{after};
+ghost use Rattle.qh_mesh.specs.steps.Cells.{seen_in, twin_in, start_in, live_in, cell};
+ghost use Rattle.qh_mesh.specs.steps.Turns.{IsWoven, Turned};
+ghost use Rattle.qh_mesh.specs.steps.MarkedFacets.{marked_horizon, Marked, MarkedFacet};
+ghost use Rattle.qh_mesh.specs.steps.ConeSteps.{cone_facet_at, Joined, IsConeFacet, Written, Places, BlankFacet, Released};
+ghost use Rattle.qh_mesh.specs.contract.Replacement.{number, at};
 
 use crate::facets::{ConeFacet, FacetNo, Side};
 use crate::turning::{after, turn};

@@ -1,9 +1,9 @@
 //! The walk over the live facets.
 ghost use Rattle.std.specs.Prelude.{◌≡◌, ◌<◌, ◌≤◌, length};
 ghost use Rattle.std.specs.Iterator.{YieldsFirst, item_count};
-ghost use Rattle.qh_mesh.specs.LiveNumbers.{live_after, numbers};
-ghost use Rattle.qh_model.specs.StoredSurface.{surface_of};
-ghost use Rattle.qh_mesh.specs.Replacement.{IsLive};
+ghost use Rattle.qh_mesh.specs.contract.LiveNumbers.{live_after, numbers};
+ghost use Rattle.qh_model.specs.contract.StoredSurface.{surface_of};
+ghost use Rattle.qh_mesh.specs.contract.Replacement.{IsLive};
 
 use crate::facets::FacetNo;
 use crate::mesh::Mesh;
@@ -19,7 +19,7 @@ pub struct Live<'a> {
 impl<'a> Model for Live<'a> {
     ghost use Rattle.std.specs.Prelude.{List};
     ghost use Rattle.qh_mesh.specs.declared.facets.FacetNo.{FacetNo};
-    ghost use Rattle.qh_mesh.specs.LiveNumbers.{numbers, live_after};
+    ghost use Rattle.qh_mesh.specs.contract.LiveNumbers.{numbers, live_after};
 
     ghost Value = { List FacetNo };
 

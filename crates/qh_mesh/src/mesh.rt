@@ -1,15 +1,15 @@
 //! The mesh, its questions, and how it is made and grows.
 ghost use Rattle.std.specs.Prelude.{◌≡◌, ◌↔◌, IsTrue, ◌≢◌, ◌+◌, ◌*◌, ◌-◌, ◌/◌, ◌≤◌, ◌<◌, length, max, vec_len, vec_capacity, OnOk, OnErr, IfOk, true, false, pos, [], ◌∷◌, ℕ, ◌<ℤ◌};
-ghost use Rattle.qh_model.specs.Predicates.{vol, place};
-ghost use Rattle.qh_model.specs.Vector.{Vector};
-ghost use Rattle.qh_model.specs.Weighted.{Weighted};
-ghost use Rattle.qh_model.specs.FinishedSurface.{weighted_at, middle_at};
-ghost use Rattle.qh_model.specs.StoredSurface.{facet_at, surface_of};
-ghost use Rattle.qh_mesh.specs.Cells.{simplex_of};
-ghost use Rattle.qh_mesh.specs.Replacement.{IsLive, AreFacets, IsReplacement, edge_start, edge_end, twin_of};
-ghost use Rattle.qh_mesh.specs.LiveNumbers.{numbers};
-ghost use Rattle.qh_mesh.specs.SoundMesh.{simplex_facets, IsSoundMesh, IsClosedMesh, AreVisible};
-ghost use Rattle.qh_model.specs.Rewired.{IsRewired};
+ghost use Rattle.qh_model.specs.headline.Predicates.{vol, place};
+ghost use Rattle.qh_model.specs.headline.Vector.{Vector};
+ghost use Rattle.qh_model.specs.contract.Weighted.{Weighted};
+ghost use Rattle.qh_model.specs.contract.FinishedSurface.{weighted_at, middle_at};
+ghost use Rattle.qh_model.specs.contract.StoredSurface.{facet_at, surface_of};
+ghost use Rattle.qh_mesh.specs.steps.Tetrahedra.{simplex_of};
+ghost use Rattle.qh_mesh.specs.contract.Replacement.{IsLive, AreFacets, IsReplacement, edge_start, edge_end, twin_of};
+ghost use Rattle.qh_mesh.specs.contract.LiveNumbers.{numbers};
+ghost use Rattle.qh_mesh.specs.contract.SoundMesh.{simplex_facets, IsSoundMesh, IsClosedMesh, AreVisible};
+ghost use Rattle.qh_model.specs.contract.Rewired.{IsRewired};
 
 use crate::facets::{ConeFacet, EdgeNo, FacetNo, Side};
 use crate::live::Live;
@@ -37,9 +37,9 @@ pub struct Mesh {
 
 impl Model for Mesh {
     ghost use Rattle.std.specs.Prelude.{List};
-    ghost use Rattle.qh_model.specs.StoredSurface.{StoredFacet};
-    ghost use Rattle.qh_mesh.specs.Stored.{facets_of};
-    ghost use Rattle.qh_mesh.specs.Cells.{IsSurface};
+    ghost use Rattle.qh_model.specs.contract.StoredSurface.{StoredFacet};
+    ghost use Rattle.qh_mesh.specs.steps.Stored.{facets_of};
+    ghost use Rattle.qh_mesh.specs.steps.Cells.{IsSurface};
 
     ghost Value = { List StoredFacet };
 

@@ -1,10 +1,10 @@
 //! A replacement, once there is room for it.
 ghost use Rattle.std.specs.Prelude.{◌≡◌, ◌+◌, ◌*◌, ◌-◌, ◌≤◌, ◌<◌, ◌/◌, ◌^◌, length, vec_len, vec_capacity, ℕ, true, false};
-ghost use Rattle.qh_mesh.specs.Cells.{IsSurface, AreLive, live_in, seen_in, twin_in, start_in};
-ghost use Rattle.qh_mesh.specs.MarkedFacets.{Marked, marked_horizon};
-ghost use Rattle.qh_mesh.specs.ReplacedSides.{Replaced, Ready, Rebuilt};
-ghost use Rattle.qh_mesh.specs.Replacement.{at, number};
-ghost use Rattle.qh_mesh.specs.Nets.{IsNet};
+ghost use Rattle.qh_mesh.specs.steps.Cells.{IsSurface, AreLive, live_in, seen_in, twin_in, start_in};
+ghost use Rattle.qh_mesh.specs.steps.MarkedFacets.{Marked, marked_horizon};
+ghost use Rattle.qh_mesh.specs.steps.ReplacedSides.{Replaced, Ready, Rebuilt};
+ghost use Rattle.qh_mesh.specs.contract.Replacement.{at, number};
+ghost use Rattle.qh_mesh.specs.steps.Nets.{IsNet};
 
 use crate::cone::{choose, gather, gather_cone_facets, join_outer, mark, release, write_cones};
 use crate::facets::{ConeFacet, FacetNo, Side};

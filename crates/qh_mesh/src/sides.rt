@@ -1,7 +1,7 @@
 //! What is read of a list of sides.
 ghost use Rattle.std.specs.Prelude.{◌≡◌, ◌+◌, ◌*◌, ◌<◌, ◌-◌, ◌^◌, length, [], ◌∷◌};
-ghost use Rattle.qh_mesh.specs.Nets.{after};
-ghost use Rattle.qh_mesh.specs.Cells.{start_in};
+ghost use Rattle.qh_mesh.specs.steps.Nets.{after};
+ghost use Rattle.qh_mesh.specs.steps.Cells.{start_in};
 
 use crate::facets::Side;
 use crate::turning::after;

@@ -1,6 +1,6 @@
 //! Meshes of seven and of five points, step by step.
 ghost use Rattle.std.specs.Prelude.{IfOk, length, ◌<◌};
-ghost use Rattle.qh_mesh.specs.Replacement.{AreFacets};
+ghost use Rattle.qh_mesh.specs.contract.Replacement.{AreFacets};
 
 use crate::{FacetNo, Mesh};
 use qh_model::{Id, Memory, Point};

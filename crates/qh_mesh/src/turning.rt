@@ -1,13 +1,13 @@
 //! Turning about a corner.
 ghost use Rattle.std.specs.Prelude.{◌≡◌, ◌<◌, ◌^◌, ◌-◌, length, true, false};
-ghost use Rattle.qh_mesh.specs.Nets.{after};
-ghost use Rattle.qh_mesh.specs.Cells.{seen_in, twin_in};
-ghost use Rattle.qh_mesh.specs.Turns.{IsWoven, Turned};
+ghost use Rattle.qh_mesh.specs.steps.Nets.{after};
+ghost use Rattle.qh_mesh.specs.steps.Cells.{seen_in, twin_in};
+ghost use Rattle.qh_mesh.specs.steps.Turns.{IsWoven, Turned};
 
 use crate::facets::Side;
 
 /// The next side of the same facet.
-#[tactic(auto, unfolding(crate::specs::Nets::after))]
+#[tactic(auto, unfolding(crate::specs::steps::Nets::after))]
 pub fn after(e: usize) -> usize
     requires { e < 2 ^ 64 - 1 }
     ensures { result ≡ after e }

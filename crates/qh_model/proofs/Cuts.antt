@@ -5,8 +5,9 @@ use Rattle.std.proofs.lemmas.Nat.{mul-le}
 use Rattle.std.proofs.lemmas.List.{get_or_append_left}
 use Rattle.std.proofs.Math.Seq.{get_or-append_seam}
 use Rattle.qh_model.specs.declared.limits.TheConstants.{BLOCK_LIMIT, POINT_LIMIT}
-use Rattle.qh_model.specs.Cut.{IsCut, IsEvenCut, IsInBlock, block_count, bound, blocks_of, positions}
-use Rattle.qh_model.specs.CutLaws.{BlocksCover, BlocksAreApart, BlocksAreInside, BlocksAreNotEmpty}
+use Rattle.qh_model.specs.contract.Cut.{IsCut, IsEvenCut, block_count, bound, blocks_of, positions}
+use Rattle.qh_model.specs.laws.CutLaws.{IsInBlock}
+use Rattle.qh_model.specs.laws.CutLaws.{BlocksCover, BlocksAreApart, BlocksAreInside, BlocksAreNotEmpty}
 
 -- a multiple of the size before the end of the last block is below m
 below_end : (m size n j : ℕ) → n * size < m + size → j < n → j * size < m

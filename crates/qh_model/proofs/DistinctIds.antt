@@ -2,9 +2,9 @@
 use Rattle.std.proofs.Common.{ℕ, zero, suc, ◌+◌, ◌<◌, ◌≤◌, List, [], ◌∷◌, length, get_or, add-one, arith, All}
 use Rattle.std.proofs.lemmas.List.Elements.{All-from_get_or}
 use Rattle.std.specs.List.Sorted.{IsStrictlyIncreasing}
-use Rattle.qh_model.specs.Vector.{Vector}
-use Rattle.qh_model.specs.Sets.{In}
-use Rattle.qh_model.specs.DistinctIds.{AreDistinctIds}
+use Rattle.qh_model.specs.headline.Vector.{Vector}
+use Rattle.qh_model.specs.headline.Sets.{In}
+use Rattle.qh_model.specs.headline.DistinctIds.{AreDistinctIds}
 use Rattle.qh_model.proofs.Members.{In-get_or}
 
 -- they are indices of points

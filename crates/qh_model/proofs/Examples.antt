@@ -2,15 +2,16 @@
 use Rattle.std.proofs.Common.{◌≡◌, ℕ, refl, List, [], ◌∷◌, arith, subst, sym, inl, inr, false}
 use Rattle.std.proofs.lemmas.Int.{ints}
 use Rattle.std.specs.Prelude.{pos, negsuc, Some, None, ◌<ℤ◌}
-use Rattle.qh_model.specs.Vector.{Vector}
-use Rattle.qh_model.specs.Predicates.{left}
-use Rattle.qh_model.specs.Sets.{In, Members}
-use Rattle.qh_model.specs.Combination.{Combination}
-use Rattle.qh_model.specs.Extreme.{Others, Extreme}
-use Rattle.qh_model.specs.Polygon.{TurnsLeft, IsPolygon}
-use Rattle.qh_model.specs.Simplex.{one_of}
-use Rattle.qh_model.specs.Words.{Word, data_words, is_data}
-use Rattle.qh_model.specs.Numbers.{number_of}
+use Rattle.qh_model.specs.headline.Vector.{Vector}
+use Rattle.qh_model.specs.headline.Predicates.{left, cross}
+use Rattle.qh_model.specs.headline.Sets.{In, Members}
+use Rattle.qh_model.specs.headline.Combination.{Combination}
+use Rattle.qh_model.specs.headline.Extreme.{Others, Extreme}
+use Rattle.qh_model.specs.headline.Polygon.{TurnsLeft, IsPolygon}
+use Rattle.qh_model.specs.contract.Simplex.{one_of}
+use Rattle.qh_model.specs.headline.Words.{Word, data_words, is_data}
+use Rattle.qh_model.specs.headline.Numbers.{number_of}
+use Rattle.qh_model.proofs.polygons.Cycles.{round_holds}
 
 -- ---- three points of a line
 abbrev on_line : ℕ → Vector
@@ -75,25 +76,25 @@ corners P p q r s w (inr (inr (inr (inr n)))) = absurd n
 
 -- the way from 0 to 1 has the others to its left
 turn_0 : TurnsLeft square upward around 0 1
-unfolding left
+unfolding left cross
 turn_0 = corners (λ w. ¬ (w ≡ 0) → ¬ (w ≡ 1) → pos 0 <ℤ left upward (square 0) (square 1) (square w))
     (λ a b. absurd (a refl)) (λ a b. absurd (b refl)) (λ a b. omega (arith, ints)) (λ a b. omega (arith, ints))
 
 -- so has the way from 1 to 2
 turn_1 : TurnsLeft square upward around 1 2
-unfolding left
+unfolding left cross
 turn_1 = corners (λ w. ¬ (w ≡ 1) → ¬ (w ≡ 2) → pos 0 <ℤ left upward (square 1) (square 2) (square w))
     (λ a b. omega (arith, ints)) (λ a b. absurd (a refl)) (λ a b. absurd (b refl)) (λ a b. omega (arith, ints))
 
 -- and that from 2 to 3
 turn_2 : TurnsLeft square upward around 2 3
-unfolding left
+unfolding left cross
 turn_2 = corners (λ w. ¬ (w ≡ 2) → ¬ (w ≡ 3) → pos 0 <ℤ left upward (square 2) (square 3) (square w))
     (λ a b. omega (arith, ints)) (λ a b. omega (arith, ints)) (λ a b. absurd (a refl)) (λ a b. absurd (b refl))
 
 -- and that from 3 to 0
 turn_3 : TurnsLeft square upward around 3 0
-unfolding left
+unfolding left cross
 turn_3 = corners (λ w. ¬ (w ≡ 3) → ¬ (w ≡ 0) → pos 0 <ℤ left upward (square 3) (square 0) (square w))
     (λ a b. absurd (b refl)) (λ a b. omega (arith, ints)) (λ a b. omega (arith, ints)) (λ a b. absurd (a refl))
 
@@ -102,7 +103,7 @@ pub polygon_of_square : IsPolygon square (Members around) upward around
 polygon_of_square = record {
   members = λ i. (λ h. h, λ h. h);
   once = (λ h. no_first h, (λ h. no_second h, (λ h. no_third h, (λ h. h, tt))));
-  round = (turn_0, (turn_1, (turn_2, turn_3)));
+  round = round_holds (TurnsLeft square upward around) around (turn_0, (turn_1, (turn_2, turn_3)));
   least = λ v i. omega arith;
 }
   where

@@ -2,16 +2,19 @@
 use Rattle.std.proofs.Common.{◌≡◌, ◌∙◌, [], ◌∷◌, ◌*◌, ◌≤◌, ◌⊎◌, ◌&&◌, ℕ, List, Bool, true, false, cond, refl, ap, sym, arith, zero, suc, length, map, inl, inr, subst, nat_lt}
 use Rattle.std.specs.Prelude.{ℤ, pos, negsuc, Option, Some, None, nat_le}
 use Rattle.std.specs.List.{AllByRecursion}
+use Rattle.std.specs.Option.{option_or}
 use Rattle.std.proofs.lemmas.Bool.{leb-true, le-leb}
 use Rattle.std.proofs.lemmas.Bool.Decides.{nat_tests}
 use Rattle.qh_model.specs.declared.limits.TheConstants.{POINT_LIMIT, BYTE_LIMIT}
-use Rattle.qh_model.specs.Vector.{Vector}
-use Rattle.qh_model.specs.Limits.{IsCoordinate, is_coordinate}
-use Rattle.qh_model.specs.Words.{Word, data_words}
-use Rattle.qh_model.specs.Numbers.{number_of}
-use Rattle.qh_model.specs.PointFile.{coordinates, IsHeader, Reads}
-use Rattle.qh_model.specs.FileFault.{FileFault, fault, fault_on, number_or, is_three, coordinates_fault, counted_fault, headed_fault, after_first_fault, words_fault, first_fault}
-use Rattle.qh_model.specs.Readings.{ReadsOneList, HasListOrFault, IsNeverBoth}
+use Rattle.qh_model.specs.headline.Vector.{Vector}
+use Rattle.qh_model.specs.headline.Limits.{IsCoordinate, is_coordinate}
+use Rattle.qh_model.specs.headline.Words.{Word, data_words}
+use Rattle.qh_model.specs.headline.Numbers.{number_of}
+use Rattle.qh_model.specs.headline.PointFile.{coordinates, IsHeader, Reads}
+use Rattle.qh_model.specs.declared.read_fault.ReadFault.{ReadFault}
+use Rattle.qh_model.specs.declared.read_fault.ReadFault.TheVariants.{NotThree, Count, Range, Big}
+use Rattle.qh_model.specs.headline.FileFault.{is_three, coordinate_fault, coordinates_fault, counted_fault, headed_fault, second_fault, header_fault, words_fault, first_fault, IsFirstFault}
+use Rattle.qh_model.specs.laws.Readings.{ReadsOneList, HasListOrFault, IsNeverBoth}
 use Rattle.qh_model.proofs.algebra.VectorIdentities.{vector_path}
 
 same_some : (xs ys : List ℤ) → map Some xs ≡ map Some ys → xs ≡ ys
@@ -60,12 +63,12 @@ filled (suc k) [] h = cc
 filled (suc k) (w ∷ ws) h = by (filled k ws) (number_of w.text) refl h
   where
     by : (coordinates_fault k ws ≡ None → Filled ws k) → (o : Option ℤ) → number_of w.text ≡ o
-        → number_or o w.line (λ z. cond (is_coordinate z) (coordinates_fault k ws) (fault_on 5 w.line)) ≡ None → Filled (w ∷ ws) (suc k)
+        → option_or (coordinate_fault o w.line) (coordinates_fault k ws) ≡ None → Filled (w ∷ ws) (suc k)
     by rest None e h = cc
     by rest (Some z) e h = within z e (is_coordinate z) refl rest h
       where
         within : (z : ℤ) → number_of w.text ≡ Some z → (b : Bool) → is_coordinate z ≡ b → (coordinates_fault k ws ≡ None → Filled ws k)
-            → cond b (coordinates_fault k ws) (fault_on 5 w.line) ≡ None → Filled (w ∷ ws) (suc k)
+            → option_or (cond b None (Some (Range w.line))) (coordinates_fault k ws) ≡ None → Filled (w ∷ ws) (suc k)
         within z e false c rest h = cc
         within z e true c rest h =
             let f = rest h in
@@ -99,7 +102,7 @@ counted : (z : ℤ) (ws : List Word) → counted_fault z ws ≡ None → Counted
 counted (negsuc n) ws h = cc
 counted (pos n) ws h = by (nat_le 1 n && nat_le n POINT_LIMIT) refl h
   where
-    by : (b : Bool) → (nat_le 1 n && nat_le n POINT_LIMIT) ≡ b → cond b (coordinates_fault (3 * n) ws) (fault 4) ≡ None → Counted (pos n) ws
+    by : (b : Bool) → (nat_le 1 n && nat_le n POINT_LIMIT) ≡ b → cond b (coordinates_fault (3 * n) ws) (Some Count) ≡ None → Counted (pos n) ws
     by false e h = cc
     by true e h =
         let range : (1 ≤ n) × (n ≤ POINT_LIMIT) = grind (arith, nat_tests) in
@@ -140,33 +143,30 @@ whole [] h = cc
 whole (w ∷ ws) h = one ws (number_of w.text) refl h
   where
     head : (v : Word) (vs : List Word) (a b : ℤ) → number_of w.text ≡ Some a → number_of v.text ≡ Some b → (p q : Bool) → is_three a ≡ p → is_three b ≡ q
-        → cond p (counted_fault b vs) (cond q (counted_fault a vs) (fault 3)) ≡ None → Whole (w ∷ v ∷ vs)
+        → cond p (counted_fault b vs) (cond q (counted_fault a vs) (Some NotThree)) ≡ None → Whole (w ∷ v ∷ vs)
     head v vs a b e f true q pe qe h = made w v vs a b b e f (λ n is. inl (three a pe, is)) (counted b vs h)
     head v vs a b e f false true pe qe h = made w v vs a b a e f (λ n is. inr ((λ t. let at : is_three (pos 3) ≡ false = subst (λ (y : ℤ). is_three y ≡ false) t pe in cc), three b qe, is)) (counted a vs h)
     head v vs a b e f false false pe qe h = cc
 
-    two : (v : Word) (vs : List Word) (a : ℤ) → number_of w.text ≡ Some a → (o : Option ℤ) → number_of v.text ≡ o → number_or o v.line (λ b. headed_fault a b vs) ≡ None → Whole (w ∷ v ∷ vs)
+    two : (v : Word) (vs : List Word) (a : ℤ) → number_of w.text ≡ Some a → (o : Option ℤ) → number_of v.text ≡ o → second_fault a o v.line vs ≡ None → Whole (w ∷ v ∷ vs)
     two v vs a e None f h = cc
     two v vs a e (Some b) f h = head v vs a b e f (is_three a) (is_three b) refl refl h
 
-    more : (ws : List Word) (a : ℤ) → number_of w.text ≡ Some a → after_first_fault a ws ≡ None → Whole (w ∷ ws)
-    more [] a e h = cc
-    more (v ∷ vs) a e h = two v vs a e (number_of v.text) refl h
-
-    one : (ws : List Word) (o : Option ℤ) → number_of w.text ≡ o → number_or o w.line (λ a. after_first_fault a ws) ≡ None → Whole (w ∷ ws)
+    one : (ws : List Word) (o : Option ℤ) → number_of w.text ≡ o → header_fault o w.line ws ≡ None → Whole (w ∷ ws)
     one ws None e h = cc
-    one ws (Some a) e h = more ws a e h
+    one [] (Some a) e h = cc
+    one (v ∷ vs) (Some a) e h = two v vs a e (number_of v.text) refl h
 
 pub one_or_other : HasListOrFault
 one_or_other bytes = by (first_fault bytes) refl
   where
-    small : (b : Bool) → nat_lt BYTE_LIMIT (length bytes) ≡ b → cond b (fault 10) (words_fault (data_words bytes)) ≡ None → (ps : List Vector) × Reads bytes ps
+    small : (b : Bool) → nat_lt BYTE_LIMIT (length bytes) ≡ b → cond b (Some Big) (words_fault (data_words bytes)) ≡ None → (ps : List Vector) × Reads bytes ps
     small true e h = cc
     small false e h =
         let w = whole (data_words bytes) h in
         (w.points, record { small = grind (arith, nat_tests); first = w.first; second = w.second; numbers = w.are; header = w.header; some = w.some; few = w.few; limit = w.limit })
 
-    by : (o : Option FileFault) → first_fault bytes ≡ o → ((ps : List Vector) × Reads bytes ps × (first_fault bytes ≡ None)) ⊎ ((f : FileFault) × (first_fault bytes ≡ Some f))
+    by : (o : Option ReadFault) → first_fault bytes ≡ o → ((ps : List Vector) × Reads bytes ps × (first_fault bytes ≡ None)) ⊎ ((f : ReadFault) × IsFirstFault bytes f)
     by None e = let r = small (nat_lt BYTE_LIMIT (length bytes)) refl e in inl (r.0, r.1, e)
     by (Some f) e = inr (f, e)
 
@@ -179,8 +179,8 @@ clear (z ∷ zs) (w ∷ ws) e l =
     let head : number_of w.text ≡ Some z = cc in
     let rest : numbers ws ≡ map Some zs = cc in
     let in_range : is_coordinate z ≡ true = le-leb _ _ l.0 in
-    subst (λ (o : Option ℤ). number_or o w.line (λ z. cond (is_coordinate z) (coordinates_fault (length zs) ws) (fault_on 5 w.line)) ≡ None) (sym head)
-    (subst (λ (b : Bool). cond b (coordinates_fault (length zs) ws) (fault_on 5 w.line) ≡ None) (sym in_range) (clear zs ws rest l.1))
+    subst (λ (o : Option ℤ). option_or (coordinate_fault o w.line) (coordinates_fault (length zs) ws) ≡ None) (sym head)
+    (subst (λ (b : Bool). option_or (cond b None (Some (Range w.line))) (coordinates_fault (length zs) ws) ≡ None) (sym in_range) (clear zs ws rest l.1))
 
 -- a point has three coordinates
 pub thrice : (ps : List Vector) → length (coordinates ps) ≡ 3 * length ps
@@ -190,7 +190,7 @@ thrice (p ∷ ps) = let rest : length (coordinates ps) ≡ 3 * length ps = thric
 counted_clear : (n : ℕ) (ws : List Word) → 1 ≤ n → n ≤ POINT_LIMIT → coordinates_fault (3 * n) ws ≡ None → counted_fault (pos n) ws ≡ None
 counted_clear n ws some few h =
     let range : (nat_le 1 n && nat_le n POINT_LIMIT) ≡ true = grind (arith, nat_tests) in
-    subst (λ (b : Bool). cond b (coordinates_fault (3 * n) ws) (fault 4) ≡ None) (sym range) h
+    subst (λ (b : Bool). cond b (coordinates_fault (3 * n) ws) (Some Count) ≡ None) (sym range) h
 
 headed_clear : (a b : ℤ) (n : ℕ) (ws : List Word) → IsHeader a b n → counted_fault (pos n) ws ≡ None → headed_fault a b ws ≡ None
 headed_clear a b n ws (inl (first, second)) h =
@@ -211,14 +211,14 @@ words_clear (w ∷ v ∷ ws) a b ps e header some few l =
     let next : number_of v.text ≡ Some b = cc in
     let rest : numbers ws ≡ map Some (coordinates ps) = cc in
     let none : coordinates_fault (3 * length ps) ws ≡ None = subst (λ (k : ℕ). coordinates_fault k ws ≡ None) (thrice ps) (clear (coordinates ps) ws rest l) in
-    subst (λ (o : Option ℤ). number_or o w.line (λ a. after_first_fault a (v ∷ ws)) ≡ None) (sym head)
-    (subst (λ (o : Option ℤ). number_or o v.line (λ b. headed_fault a b ws) ≡ None) (sym next)
+    subst (λ (o : Option ℤ). header_fault o w.line (v ∷ ws) ≡ None) (sym head)
+    (subst (λ (o : Option ℤ). second_fault a o v.line ws ≡ None) (sym next)
     (headed_clear a b (length ps) ws header (counted_clear (length ps) ws some few none)))
 
 pub never_both : IsNeverBoth
 never_both bytes ps r =
     let fits : nat_lt BYTE_LIMIT (length bytes) ≡ false = small (length bytes) r.small in
-    subst (λ (b : Bool). cond b (fault 10) (words_fault (data_words bytes)) ≡ None) (sym fits)
+    subst (λ (b : Bool). cond b (Some Big) (words_fault (data_words bytes)) ≡ None) (sym fits)
     (words_clear (data_words bytes) r.first r.second ps r.numbers r.header r.some r.few r.limit)
   where
     small : (n : ℕ) → n ≤ BYTE_LIMIT → nat_lt BYTE_LIMIT n ≡ false

@@ -1,4 +1,5 @@
 -- Polygons: one list for each set and direction.
+pub mod Cycles
 pub mod Unique
 pub mod Direction
 pub mod Neighbours

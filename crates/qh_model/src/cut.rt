@@ -1,6 +1,6 @@
 //! Cuts of a list into blocks.
 ghost use Rattle.std.specs.Prelude.{◌≡◌, ◌≢◌, ◌↔◌, ◌+◌, ◌≤◌, ◌<◌, IfOk, IsErrOf, IsTrue, length};
-ghost use Rattle.qh_model.specs.Cut.{AreBounds, IsCut, IsEvenCut, Rises, block_count, blocks_of, bound, positions};
+ghost use Rattle.qh_model.specs.contract.Cut.{AreBounds, IsCut, IsEvenCut, Rises, block_count, blocks_of, bound, positions};
 
 use crate::limits::{BLOCK_LIMIT, POINT_LIMIT};
 use std::alloc::{AllocError, Global};
@@ -17,7 +17,7 @@ pub struct Cut {
 
 impl Model for Cut {
     ghost use Rattle.std.specs.Prelude.{ℕ, List};
-    ghost use Rattle.qh_model.specs.Cut.{IsCut};
+    ghost use Rattle.qh_model.specs.contract.Cut.{IsCut};
 
     ghost Value = { List ℕ };
 

@@ -42,7 +42,8 @@ pub struct Body {
 }
 
 impl Model for Body {
-    ghost use Rattle.qh_model.specs.Hull.{BodyValue, IsBodyInOrder};
+    ghost use Rattle.qh_model.specs.headline.Hull.{BodyValue};
+    ghost use Rattle.qh_model.specs.contract.Bodies.{IsBodyInOrder};
 
     ghost Value = { BodyValue };
 
@@ -63,7 +64,7 @@ pub struct Hull {
 }
 
 impl Model for Hull {
-    ghost use Rattle.qh_model.specs.Hull.{HullValue};
+    ghost use Rattle.qh_model.specs.headline.Hull.{HullValue};
 
     ghost Value = { HullValue };
 

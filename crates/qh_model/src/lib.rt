@@ -10,7 +10,9 @@ mod hull;
 pub mod laws;
 mod limits;
 mod memory;
+mod out;
 mod point;
+mod read_fault;
 #[cfg(test)]
 mod tests;
 
@@ -18,4 +20,6 @@ pub use cut::{Cut, CutError};
 pub use hull::{Body, Hull, Polygon};
 pub use limits::{BLOCK_LIMIT, BYTE_LIMIT, COORDINATE_LIMIT, POINT_LIMIT, WORKER_LIMIT};
 pub use memory::Memory;
+pub use out::Out;
 pub use point::{Id, Point};
+pub use read_fault::ReadFault;

@@ -1,6 +1,6 @@
 ghost use Rattle.std.specs.Prelude.{◌≡◌};
-ghost use Rattle.qh_model.specs.Vector.{Vector};
-ghost use Rattle.qh_model.specs.Limits.{IsPlace};
+ghost use Rattle.qh_model.specs.headline.Vector.{Vector};
+ghost use Rattle.qh_model.specs.contract.Places.{IsPlace};
 
 use std::marker::Model;
 
@@ -15,8 +15,9 @@ pub struct Point {
 }
 
 impl Model for Point {
-    ghost use Rattle.qh_model.specs.Vector.{Vector, vector_code};
-    ghost use Rattle.qh_model.specs.Limits.{IsPlace};
+    ghost use Rattle.qh_model.specs.headline.Vector.{Vector};
+    ghost use Rattle.qh_model.specs.contract.Places.{vector_code};
+    ghost use Rattle.qh_model.specs.contract.Places.{IsPlace};
 
     ghost Value = { Vector };
 

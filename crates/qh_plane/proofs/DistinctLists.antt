@@ -8,17 +8,18 @@ use Rattle.std.specs.List.{All, AllByRecursion as Every}
 use Rattle.std.specs.List.Sorted.{IsStrictlyIncreasing, IsNonDecreasing}
 use Rattle.qh_model.proofs.Members.{All-In, In-get_or, every_at, All-of, every_of, in_at}
 use Rattle.qh_model.proofs.lists.Images.{in_map, of_map}
-use Rattle.qh_model.specs.DistinctIds.{IsDistinctId, AreDistinctIds, IsIdSet}
-use Rattle.qh_model.specs.Predicates.{place}
-use Rattle.qh_model.specs.Sets.{In}
-use Rattle.qh_model.specs.Vector.{Vector}
+use Rattle.qh_model.specs.headline.DistinctIds.{IsDistinctId, AreDistinctIds}
+use Rattle.qh_model.specs.contract.IdSets.{IsIdSet}
+use Rattle.qh_model.specs.headline.Predicates.{place}
+use Rattle.qh_model.specs.headline.Sets.{In}
+use Rattle.qh_model.specs.headline.Vector.{Vector}
 use Rattle.qh_plane.proofs.KeyOrder.{IsKeyOf, sorted_keys, rising_keys, key_parts, key_id, place_code-same, raised_small, sorted-all}
 use Rattle.qh_plane.proofs.MarkedIds.{IsMarked, in_marked_ids, of_marked_ids, marked_ids-rise, marked_only, marked_has, blank}
 use Rattle.qh_plane.proofs.PlaceStarts.{Start, IsBefore, starts_only, starts_all}
 use Rattle.qh_plane.specs.declared.place_keys.TheConstants.{ROOM}
 use Rattle.qh_plane.specs.declared.distinct_points.TheConstants.{NO_PLACE}
-use Rattle.qh_plane.specs.Marks.{place_starts, marked, marked_ids}
-use Rattle.qh_plane.specs.PlaceKeys.{raised, place_code, key_at, ids_in, HasKey, AreByPlace}
+use Rattle.qh_plane.specs.steps.Marks.{place_starts, marked, marked_ids}
+use Rattle.qh_plane.specs.steps.PlaceKeys.{raised, place_code, key_at, ids_in, HasKey, AreByPlace}
 
 -- a key tells its place
 key_over : (c i : ℕ) → i < ROOM → (c * ROOM + i) / ROOM ≡ c

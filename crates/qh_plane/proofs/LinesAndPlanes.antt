@@ -7,8 +7,8 @@ use Rattle.qh_model.proofs.algebra.Ring.{ring}
 use Rattle.qh_model.proofs.algebra.Ring.Expr.{add, sub as less, mul, neg}
 use Rattle.qh_model.proofs.algebra.VectorIdentities.{vec, subE, crossE, dotE, put, vector_path}
 use Rattle.qh_model.proofs.extremes.Directions.{square-positive}
-use Rattle.qh_model.specs.Predicates.{cross, vol, AreInLine}
-use Rattle.qh_model.specs.Vector.{Vector, origin, minus, cross_product, dot}
+use Rattle.qh_model.specs.headline.Predicates.{cross, vol, AreInLine}
+use Rattle.qh_model.specs.headline.Vector.{Vector, origin, minus, cross_product, dot}
 use Rattle.qh_plane.proofs.PlaneDirections.{determinant-zero}
 
 -- ---- lines

@@ -2,10 +2,10 @@
 use Rattle.std.proofs.Common.{◌≡◌, ◌≢◌, ℕ, ◌/◌, ◌<◌, ◌≤◌, List, [], ◌∷◌, arith, ap, sym, ◌∙◌, refl, ◌⊎◌, inl, inr, ⊎_elim, eqb, true, false, Bool, cond}
 use Rattle.std.proofs.lemmas.Bool.{eqb-true, eqb-false}
 use Rattle.std.specs.List.Sorted.{IsStrictlyIncreasing}
-use Rattle.qh_model.specs.Sets.{In}
+use Rattle.qh_model.specs.headline.Sets.{In}
 use Rattle.qh_model.proofs.Members.{rising_first, rising_tail}
 use Rattle.qh_plane.specs.declared.place_keys.TheConstants.{ROOM}
-use Rattle.qh_plane.specs.Marks.{place_starts}
+use Rattle.qh_plane.specs.steps.Marks.{place_starts}
 
 -- x is the least key of its place, which is not c
 pub record Start (c : ℕ) (ks : List ℕ) (x : ℕ) : Type 0 where

@@ -7,7 +7,7 @@ use Rattle.qh_model.proofs.algebra.Integers.{mul_comm}
 use Rattle.qh_model.proofs.algebra.Ring.{Expr, ring}
 use Rattle.qh_model.proofs.algebra.Ring.Expr.{add, sub as less, mul}
 use Rattle.qh_model.proofs.algebra.VectorIdentities.{vec, crossE, dotE, detE, put}
-use Rattle.qh_model.specs.Vector.{Vector, cross_product, dot}
+use Rattle.qh_model.specs.headline.Vector.{Vector, cross_product, dot}
 
 -- the bracket of two directions, seen along n
 abbrev pub bracket : Vector → Vector → Vector → ℤ

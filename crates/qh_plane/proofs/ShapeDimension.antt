@@ -5,13 +5,13 @@ use Rattle.std.proofs.Math.Nat.{ne_of_lt}
 use Rattle.std.specs.List.Sorted.{IsStrictlyIncreasing}
 use Rattle.qh_model.proofs.Members.{In-get_or, in_at}
 use Rattle.qh_model.proofs.extremes.Directions.{square-positive}
-use Rattle.qh_model.specs.Dimension.{HasTriangle, HasSegment, IsDimension}
-use Rattle.qh_model.specs.DistinctIds.{IsIdSet}
-use Rattle.qh_model.specs.Predicates.{place}
-use Rattle.qh_model.specs.Sets.{In, Members}
-use Rattle.qh_model.specs.Vector.{Vector, minus}
+use Rattle.qh_model.specs.headline.Dimension.{HasTriangle, HasSegment, IsDimension}
+use Rattle.qh_model.specs.contract.IdSets.{IsIdSet}
+use Rattle.qh_model.specs.headline.Predicates.{place}
+use Rattle.qh_model.specs.headline.Sets.{In, Members}
+use Rattle.qh_model.specs.headline.Vector.{Vector, minus}
 use Rattle.qh_plane.proofs.LinesAndPlanes.{three_line, four_plane, same_point}
-use Rattle.qh_plane.specs.Shapes.{IsInLine, IsInPlane, IsFirstNot, Each, AreFirstTwo}
+use Rattle.qh_plane.specs.contract.Shapes.{IsInLine, IsInPlane, IsFirstNot, Each, AreFirstTwo}
 
 -- what holds of each position holds of each member
 each_in : (P : ℕ → Type 0) (ids : List ℕ) → Each P ids → (x : ℕ) → In x ids → P x

@@ -1,5 +1,2 @@
-pub mod PlaceKeys
-pub mod Marks
-pub mod Shapes
-pub mod Chains
-pub mod PlanarSets
+pub mod contract
+pub mod steps

@@ -1,7 +1,7 @@
 //! Chains of ids that turn left, in a plane that is seen from the side of a normal.
 ghost use Rattle.std.specs.Prelude.{◌≡◌, ◌<◌, IfOk, reverse, length, [], vec_len};
-ghost use Rattle.qh_plane.specs.Chains.{turn_of, is_left, is_dropped, kept, chain};
-ghost use Rattle.qh_plane.specs.PlaceKeys.{AreIndices};
+ghost use Rattle.qh_plane.specs.steps.Chains.{turn_of, is_left, is_dropped, kept, chain};
+ghost use Rattle.qh_model.specs.contract.IdSets.{AreIndices};
 
 use qh_model::{Id, Point};
 use qh_pred::{Normal, left, point_at};

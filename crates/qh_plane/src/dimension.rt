@@ -1,5 +1,5 @@
 ghost use Rattle.std.specs.Prelude.{◌≡◌};
-ghost use Rattle.qh_plane.specs.Shapes.{dimension_of};
+ghost use Rattle.qh_plane.specs.contract.Shapes.{dimension_of};
 
 use crate::shape::Shape;
 

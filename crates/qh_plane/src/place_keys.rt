@@ -2,8 +2,10 @@
 //! then z, then id, so that a sort of numbers sorts points, and faster than a sort of records.
 ghost use Rattle.std.specs.Prelude.{◌≡◌, ◌+◌, ◌*◌, ◌/◌, ◌%◌, ◌^◌, ◌<◌, IfOk, map, unsigned_abs};
 ghost use Rattle.std.specs.List.{All};
-ghost use Rattle.qh_model.specs.Limits.{IsCoordinate, IsPlace};
-ghost use Rattle.qh_plane.specs.PlaceKeys.{raised, place_code, place_key, key_at, AreIndices, HasKey};
+ghost use Rattle.qh_model.specs.headline.Limits.{IsCoordinate};
+ghost use Rattle.qh_model.specs.contract.Places.{IsPlace};
+ghost use Rattle.qh_plane.specs.steps.PlaceKeys.{raised, place_code, place_key, key_at, HasKey};
+ghost use Rattle.qh_model.specs.contract.IdSets.{AreIndices};
 
 use qh_model::{COORDINATE_LIMIT, Id, Point};
 use qh_pred::point_at;
@@ -22,7 +24,7 @@ fn raised(coordinate: i32) -> u128
 }
 
 /// The number of a place, which orders points by x, then y, then z.
-#[tactic(auto, unfolding(crate::specs::PlaceKeys::place_code))]
+#[tactic(auto, unfolding(crate::specs::steps::PlaceKeys::place_code))]
 fn place_code(point: Point) -> u128
     ensures value { result ≡ place_code point }
     ensures limit { result < ROOM * ROOM * ROOM }
@@ -32,7 +34,7 @@ fn place_code(point: Point) -> u128
 }
 
 /// The key of a point and its id.
-#[tactic(auto, unfolding(crate::specs::PlaceKeys::place_key))]
+#[tactic(auto, unfolding(crate::specs::steps::PlaceKeys::place_key))]
 fn place_key(point: Point, id: Id) -> u128
     ensures value { result ≡ place_key point id }
     ensures place { IsPlace point }

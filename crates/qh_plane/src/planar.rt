@@ -1,13 +1,14 @@
 //! The polygon of points in one plane.
 ghost use Rattle.std.specs.Prelude.{◌≡◌, ◌<◌, ◌≤◌, ◌-◌, ◌++◌, ℕ, IfOk, [], length, slice_index, reverse, take};
 ghost use Rattle.std.specs.List.{All};
-ghost use Rattle.qh_model.specs.Predicates.{place};
-ghost use Rattle.qh_model.specs.Sets.{Members};
-ghost use Rattle.qh_model.specs.Extreme.{Extreme};
-ghost use Rattle.qh_model.specs.Polygon.{IsPolygon};
-ghost use Rattle.qh_plane.specs.Chains.{turn_of, chain, joined, triangle};
-ghost use Rattle.qh_plane.specs.PlaceKeys.{AreIndices, AreByPlace, HasKey};
-ghost use Rattle.qh_plane.specs.PlanarSets.{IsPlanarSet};
+ghost use Rattle.qh_model.specs.headline.Predicates.{place};
+ghost use Rattle.qh_model.specs.headline.Sets.{Members};
+ghost use Rattle.qh_model.specs.headline.Extreme.{Extreme};
+ghost use Rattle.qh_model.specs.headline.Polygon.{IsPolygon};
+ghost use Rattle.qh_plane.specs.steps.Chains.{turn_of, chain, joined, triangle};
+ghost use Rattle.qh_plane.specs.steps.PlaceKeys.{AreByPlace, HasKey};
+ghost use Rattle.qh_model.specs.contract.IdSets.{AreIndices};
+ghost use Rattle.qh_plane.specs.contract.PlanarSets.{IsPlanarSet};
 
 use crate::chains::{chain, turns_left};
 use crate::place_keys::{id_in, place_keys};

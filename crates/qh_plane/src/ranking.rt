@@ -1,11 +1,11 @@
 //! The rank of a set of points: its shape and dimension.
 ghost use Rattle.std.specs.Prelude.{◌≡◌, ◌<◌, ◌↔◌, ℕ, IsTrue, MatchOption, IfSome, length};
-ghost use Rattle.qh_model.specs.Predicates.{place};
-ghost use Rattle.qh_model.specs.Sets.{Members};
-ghost use Rattle.qh_model.specs.DistinctIds.{IsIdSet};
-ghost use Rattle.qh_model.specs.Dimension.{IsDimension};
-ghost use Rattle.qh_plane.specs.PlaceKeys.{AreIndices};
-ghost use Rattle.qh_plane.specs.Shapes.{IsInLine, IsInPlane, Each, IsFirstNot, IsShape, dimension_of};
+ghost use Rattle.qh_model.specs.headline.Predicates.{place};
+ghost use Rattle.qh_model.specs.headline.Sets.{Members};
+ghost use Rattle.qh_model.specs.contract.IdSets.{IsIdSet};
+ghost use Rattle.qh_model.specs.headline.Dimension.{IsDimension};
+ghost use Rattle.qh_model.specs.contract.IdSets.{AreIndices};
+ghost use Rattle.qh_plane.specs.contract.Shapes.{IsInLine, IsInPlane, Each, IsFirstNot, IsShape, dimension_of};
 
 use crate::shape::Shape;
 use qh_model::{Id, Point};

@@ -3,8 +3,9 @@ use Rattle.std.proofs.Common.{◌≡◌, ℕ, ◌+◌, ◌*◌, ◌^◌, ◌≤�
 use Rattle.std.proofs.Math.Nat.{mul-le-mul}
 use Rattle.std.proofs.lemmas.Int.{to_z-of_z, ints, unsigned_abs-mul, fits_signed_from_abs}
 use Rattle.std.specs.Prelude.{ℤ, ◌+ℤ◌, ◌-ℤ◌, ◌*ℤ◌, unsigned_abs}
-use Rattle.qh_model.specs.Vector.{Vector, dot}
-use Rattle.qh_pred.specs.Bounds.{normal_limit, offset_limit, IsNormal}
+use Rattle.qh_model.specs.headline.Vector.{Vector, dot}
+use Rattle.qh_pred.specs.contract.Bounds.{normal_limit, IsNormal}
+use Rattle.qh_pred.specs.steps.Differences.{offset_limit}
 use mir.Syntax.{w64, w128}
 use mir.Val.{to_z, of_z}
 

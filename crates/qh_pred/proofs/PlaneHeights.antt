@@ -2,11 +2,13 @@
 use Rattle.std.proofs.Common.{rules, ◌≡◌, ◌+◌, ◌≤◌, ◌∙◌, sym, ap, FitsSigned, lit<, IsTrue, ◌↔◌}
 use Rattle.std.proofs.lemmas.Int.{to_z-of_z}
 use Rattle.std.specs.Prelude.{ℤ, pos, ◌-ℤ◌, ◌<ℤ◌, unsigned_abs}
-use Rattle.qh_model.specs.Vector.{Vector, dot}
-use Rattle.qh_model.specs.Predicates.{cross, vol}
+use Rattle.qh_model.specs.headline.Vector.{Vector, dot}
+use Rattle.qh_model.specs.headline.Predicates.{cross, vol}
 use Rattle.qh_model.proofs.algebra.VectorIdentities.{vol-linear}
-use Rattle.qh_pred.specs.Bounds.{normal_limit, offset_limit, IsNormal}
-use Rattle.qh_pred.specs.Planes.{PlaneValue, height, IsPlane}
+use Rattle.qh_pred.specs.contract.Bounds.{normal_limit, IsNormal}
+use Rattle.qh_pred.specs.steps.Differences.{offset_limit}
+use Rattle.qh_pred.specs.contract.Planes.{PlaneValue, height}
+use Rattle.qh_pred.specs.steps.StoredPlanes.{IsPlane}
 use Rattle.qh_pred.proofs.Bounds.{through, through_half, within-sub, fits, fits_wide}
 use mir.Syntax.{w64, w128}
 use lib.Signed.{lt_z}

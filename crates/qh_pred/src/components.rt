@@ -1,9 +1,10 @@
 //! Differences of points and their products, in 64 bits; only the last product of a predicate has
 //! 128 bits.
 ghost use Rattle.std.specs.Prelude.{◌≡◌, ◌≤◌, ◌*ℤ◌, ◌-ℤ◌, ◌↔◌, IsTrue, unsigned_abs};
-ghost use Rattle.qh_model.specs.Vector.{Vector, origin, minus, cross_product, dot};
-ghost use Rattle.qh_model.specs.Limits.{IsCoordinate};
-ghost use Rattle.qh_pred.specs.Bounds.{difference_limit, normal_limit, offset_limit, IsDifference, IsNormal};
+ghost use Rattle.qh_model.specs.headline.Vector.{Vector, origin, minus, cross_product, dot};
+ghost use Rattle.qh_model.specs.headline.Limits.{IsCoordinate};
+ghost use Rattle.qh_pred.specs.contract.Bounds.{difference_limit, normal_limit, IsNormal};
+ghost use Rattle.qh_pred.specs.steps.Differences.{offset_limit, IsDifference};
 
 use qh_model::Point;
 use std::marker::Model;
@@ -17,8 +18,9 @@ pub struct Difference {
 }
 
 impl Model for Difference {
-    ghost use Rattle.qh_model.specs.Vector.{Vector, vector_code};
-    ghost use Rattle.qh_pred.specs.Bounds.{IsDifference};
+    ghost use Rattle.qh_model.specs.headline.Vector.{Vector};
+    ghost use Rattle.qh_model.specs.contract.Places.{vector_code};
+    ghost use Rattle.qh_pred.specs.steps.Differences.{IsDifference};
 
     ghost Value = { Vector };
 
@@ -40,8 +42,9 @@ pub struct Components {
 }
 
 impl Model for Components {
-    ghost use Rattle.qh_model.specs.Vector.{Vector, vector_code};
-    ghost use Rattle.qh_pred.specs.Bounds.{IsNormal};
+    ghost use Rattle.qh_model.specs.headline.Vector.{Vector};
+    ghost use Rattle.qh_model.specs.contract.Places.{vector_code};
+    ghost use Rattle.qh_pred.specs.contract.Bounds.{IsNormal};
 
     ghost Value = { Vector };
 

@@ -1,7 +1,7 @@
 //! The normal of three points.
 ghost use Rattle.std.specs.Prelude.{◌≡◌};
-ghost use Rattle.qh_model.specs.Vector.{Vector, origin, minus};
-ghost use Rattle.qh_pred.specs.Bounds.{IsNormal};
+ghost use Rattle.qh_model.specs.headline.Vector.{Vector, origin, minus};
+ghost use Rattle.qh_pred.specs.contract.Bounds.{IsNormal};
 
 use crate::components::Components;
 use std::marker::Model;
@@ -18,8 +18,9 @@ pub struct Normal {
 }
 
 impl Model for Normal {
-    ghost use Rattle.qh_model.specs.Vector.{Vector, vector_code};
-    ghost use Rattle.qh_pred.specs.Bounds.{IsNormal};
+    ghost use Rattle.qh_model.specs.headline.Vector.{Vector};
+    ghost use Rattle.qh_model.specs.contract.Places.{vector_code};
+    ghost use Rattle.qh_pred.specs.contract.Bounds.{IsNormal};
 
     ghost Value = { Vector };
 

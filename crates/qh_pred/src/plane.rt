@@ -1,9 +1,9 @@
 //! The planes of triangles.
 ghost use Rattle.std.specs.Prelude.{◌≡◌, ◌≤◌, ◌↔◌, IsTrue, pos, ◌<ℤ◌, unsigned_abs};
-ghost use Rattle.qh_model.specs.Vector.{Vector, dot};
-ghost use Rattle.qh_model.specs.Predicates.{vol};
-ghost use Rattle.qh_pred.specs.Bounds.{offset_limit};
-ghost use Rattle.qh_pred.specs.Planes.{PlaneValue, height};
+ghost use Rattle.qh_model.specs.headline.Vector.{Vector, dot};
+ghost use Rattle.qh_model.specs.headline.Predicates.{vol};
+ghost use Rattle.qh_pred.specs.steps.Differences.{offset_limit};
+ghost use Rattle.qh_pred.specs.contract.Planes.{PlaneValue, height};
 
 use crate::components::Components;
 use crate::normal::Normal;
@@ -26,7 +26,8 @@ pub struct Plane {
 }
 
 impl Model for Plane {
-    ghost use Rattle.qh_pred.specs.Planes.{PlaneValue, plane_code, IsPlane};
+    ghost use Rattle.qh_pred.specs.contract.Planes.{PlaneValue};
+    ghost use Rattle.qh_pred.specs.steps.StoredPlanes.{plane_code, IsPlane};
 
     ghost Value = { PlaneValue };
 

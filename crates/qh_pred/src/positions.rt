@@ -1,6 +1,6 @@
 //! Positions along a line.
 ghost use Rattle.std.specs.Prelude.{◌≡◌};
-ghost use Rattle.qh_model.specs.Vector.{minus, dot};
+ghost use Rattle.qh_model.specs.headline.Vector.{minus, dot};
 
 use crate::components::Difference;
 use qh_model::Point;

@@ -1,13 +1,13 @@
 //! The predicates of points.
 ghost use Rattle.std.specs.Prelude.{◌≡◌, ◌<◌, ◌↔◌, IsTrue, length};
-ghost use Rattle.qh_model.specs.Predicates.{vol, cross, left, place, AreInLine};
+ghost use Rattle.qh_model.specs.headline.Predicates.{vol, cross, left, place, AreInLine};
 
 use crate::components::{Components, Difference};
 use crate::normal::Normal;
 use qh_model::{Id, Point};
 
 /// The cross product of the ways from a to b and to c.
-#[tactic(auto, unfolding(qh_model::specs::Predicates::cross))]
+#[tactic(auto, unfolding(qh_model::specs::headline::Predicates::cross))]
 pub(crate) fn product(a: Point, b: Point, c: Point) -> Components
     ensures { result ≡ cross a b c }
 {
@@ -46,7 +46,7 @@ pub fn left(n: &Normal, u: Point, v: Point, w: Point) -> i128
 }
 
 /// The point of an id, which is the index of one of the points.
-#[tactic(auto, unfolding(qh_model::specs::Predicates::place))]
+#[tactic(auto, unfolding(qh_model::specs::headline::Predicates::place))]
 pub fn point_at(pts: &[Point], id: Id) -> Point
     requires { id < length pts.now }
     ensures { result ≡ place pts.now id }

@@ -4,17 +4,17 @@ use Rattle.std.proofs.lemmas.List.{append-nil}
 use Rattle.std.specs.Prelude.{ℤ, Option, Some}
 use Rattle.std.specs.List.{AllByRecursion}
 use Rattle.std.specs.Char.{is_ascii_digit}
-use Rattle.qh_model.specs.Limits.{IsCoordinate}
-use Rattle.qh_model.specs.Words.{Word, is_blank, is_data, data_words}
+use Rattle.qh_model.specs.headline.Limits.{IsCoordinate}
+use Rattle.qh_model.specs.headline.Words.{Word, is_blank, is_data, data_words}
 use Rattle.qh_model.specs.declared.limits.TheConstants.{BYTE_LIMIT}
-use Rattle.qh_model.specs.PointFile.{coordinates, IsHeader, Reads}
-use Rattle.qh_model.specs.Vector.{Vector}
+use Rattle.qh_model.specs.headline.PointFile.{coordinates, IsHeader, Reads}
+use Rattle.qh_model.specs.headline.Vector.{Vector}
 use Rattle.qh_model.proofs.ReadingLaws.{thrice}
 use Rattle.qh_read.proofs.Lexing.{Lexed, start, ended, begun, next, lexed}
-use Rattle.qh_read.specs.Tokens.{cap, grown, value_of}
-use Rattle.qh_read.specs.Progress.{Progress, wants_first, wants, after}
-use Rattle.qh_read.specs.Stages.{pending_list}
-use Rattle.qh_read.specs.Holding.{Held, held_at_start, word_ended, held_begun, ended_held, next_held, held_by}
+use Rattle.qh_read.specs.contract.Tokens.{cap, grown, value_of}
+use Rattle.qh_read.specs.contract.Progress.{Progress, wants_first, wants, after}
+use Rattle.qh_read.specs.steps.Stages.{pending_list}
+use Rattle.qh_read.specs.contract.Holding.{Held, held_at_start, word_ended, held_begun, ended_held, next_held, held_by}
 use Rattle.qh_read.specs.declared.token.Token.{Token}
 use Rattle.qh_read.specs.declared.token.Token.TheVariants.{Empty, Sign, Digits, Other}
 use Rattle.qh_read.specs.declared.builder.Pending.{Pending}

@@ -5,16 +5,17 @@ use Rattle.std.specs.Prelude.{ℤ, pos, negsuc, Option, Some, None, option_map, 
 use Rattle.std.specs.List.{AllByRecursion}
 use Rattle.std.proofs.lemmas.Bool.{leb-true}
 use Rattle.std.proofs.lemmas.Bool.Decides.{nat_tests}
-use Rattle.qh_model.specs.Limits.{IsCoordinate, is_coordinate}
-use Rattle.qh_model.specs.FileFault.{is_three}
+use Rattle.qh_model.specs.headline.Limits.{IsCoordinate, is_coordinate}
+use Rattle.qh_model.specs.headline.FileFault.{is_three}
 use Rattle.qh_model.specs.declared.limits.TheConstants.{COORDINATE_LIMIT, POINT_LIMIT}
-use Rattle.qh_model.specs.Words.{Word}
-use Rattle.qh_model.specs.Numbers.{number_of}
-use Rattle.qh_model.specs.PointFile.{IsHeader}
-use Rattle.qh_read.specs.Tokens.{cap, capped}
-use Rattle.qh_read.specs.Progress.{Progress, wants_first, wants_second, wants, fails, counted, after}
-use Rattle.qh_read.specs.declared.fault.ReadFault.{ReadFault}
-use Rattle.qh_read.specs.declared.fault.ReadFault.TheVariants as faults
+use Rattle.qh_model.specs.headline.Words.{Word}
+use Rattle.qh_model.specs.headline.Numbers.{number_of}
+use Rattle.qh_model.specs.headline.PointFile.{IsHeader}
+use Rattle.qh_read.specs.contract.Tokens.{cap}
+use Rattle.qh_read.specs.steps.SmallTokens.{capped}
+use Rattle.qh_read.specs.contract.Progress.{Progress, wants_first, wants_second, wants, fails, counted, after}
+use Rattle.qh_model.specs.declared.read_fault.ReadFault.{ReadFault}
+use Rattle.qh_model.specs.declared.read_fault.ReadFault.TheVariants as faults
 
 -- the number of a word, as far as it is told apart
 abbrev pub number_in : Word → Option ℤ

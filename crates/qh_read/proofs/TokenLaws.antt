@@ -4,8 +4,9 @@ use Rattle.std.specs.Prelude.{pos, neg_ℤ, Option, Some, None, option_map}
 use Rattle.std.specs.Char.{is_ascii_digit}
 use Rattle.std.proofs.lemmas.Bool.Decides.{nat_tests}
 use Rattle.qh_model.specs.declared.limits.TheConstants.{COORDINATE_LIMIT}
-use Rattle.qh_model.specs.Numbers.{read_digits, are_digits, magnitude_of, number_of}
-use Rattle.qh_read.specs.Tokens.{cap, capped, grown, signed, value_of}
+use Rattle.qh_model.specs.headline.Numbers.{read_digits, are_digits, magnitude_of, number_of}
+use Rattle.qh_read.specs.contract.Tokens.{cap, grown, signed, value_of}
+use Rattle.qh_read.specs.steps.SmallTokens.{capped}
 use Rattle.qh_read.specs.declared.token.Token.{Token}
 use Rattle.qh_read.specs.declared.token.Token.TheVariants.{Empty, Sign, Digits, Other}
 

@@ -1,9 +1,3 @@
-pub mod ReadFaults
-pub mod Tokens
-pub mod Progress
-pub mod Stages
-pub mod Building
-pub mod Holding
-pub mod Scanning
-pub mod Reader
-pub mod SourceBytes
+pub mod headline
+pub mod contract
+pub mod steps

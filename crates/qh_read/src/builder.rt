@@ -1,11 +1,10 @@
 //! The points that the words so far make up.
 ghost use Rattle.std.specs.Prelude.{◌≡◌, ◌≤◌, ◌+◌, ◌*◌, [], true, vec_len};
-ghost use Rattle.qh_read.specs.Progress as progress;
-ghost use Rattle.qh_read.specs.Stages.{stage_shown, stage_fault, is_header, pending_count};
+ghost use Rattle.qh_read.specs.contract.Progress as progress;
+ghost use Rattle.qh_read.specs.steps.Stages.{stage_shown, HasTextFault, is_header, pending_count};
 
 use crate::coordinate::Coordinate;
-use crate::fault::ReadFault;
-use qh_model::{COORDINATE_LIMIT, POINT_LIMIT, Point};
+use qh_model::{COORDINATE_LIMIT, POINT_LIMIT, Point, ReadFault};
 use std::alloc::{AllocError, Global};
 
 /// What the next data word is to be.
@@ -36,13 +35,13 @@ pub struct Builder {
     pub points: Vec<Point>,
     pub pending: Pending,
     ghost fresh: { is_header stage ≡ true → 3 * vec_len points + pending_count pending ≡ 0 },
-    ghost text_fault: { stage_fault stage ≤ 7 },
+    ghost text_fault: { HasTextFault stage },
 }
 
 /// The stage after a header that gives this count.
 fn counted(count: i32) -> Stage
     ensures shown { stage_shown result [] ≡ progress.counted count }
-    ensures text_fault { stage_fault result ≤ 7 }
+    ensures text_fault { HasTextFault result }
 {
     if count >= 1 && count <= POINT_LIMIT as i32 {
         Stage::Coordinates(3 * count as u32)
@@ -54,7 +53,7 @@ fn counted(count: i32) -> Stage
 /// The stage after a header of these two numbers.
 fn headed(first: i32, second: i32) -> Stage
     ensures shown { stage_shown result [] ≡ progress.headed first second }
-    ensures text_fault { stage_fault result ≤ 7 }
+    ensures text_fault { HasTextFault result }
 {
     if first == 3 {
         counted(second)
@@ -66,9 +65,9 @@ fn headed(first: i32, second: i32) -> Stage
 }
 
 impl Builder {
-    ghost use Rattle.std.specs.Prelude.{◌≡◌, ◌≤◌, ◌<◌, ◌+◌, ◌*◌, ◌++◌, [], ◌∷◌, false, OnOk, IfOk, IfErr, vec_len, vec_capacity};
-    ghost use Rattle.qh_read.specs.ReadFaults.{fault_shown, IsTextFault};
-    ghost use Rattle.qh_read.specs.Building.{shown, taken, taken_count, lack, AreAll};
+    ghost use Rattle.std.specs.Prelude.{◌≡◌, ◌≤◌, ◌<◌, ◌+◌, ◌*◌, ◌++◌, [], ◌∷◌, false, Some, OnOk, IfOk, IfErr, vec_len, vec_capacity};
+    ghost use Rattle.qh_read.specs.contract.ReadFaults.{IsTextFault};
+    ghost use Rattle.qh_read.specs.steps.Building.{shown, taken, taken_count, lack, AreAll};
 
     /// Nothing read yet.
     pub fn new(alloc: Global) -> Builder
@@ -151,7 +150,7 @@ impl Builder {
     /// The points, if the text ends here, or what it lacks.
     pub fn finish(self) -> Result<Vec<Point>, ReadFault>
         ensures all { IfOk result (λ points. AreAll (shown self) points.items) }
-        ensures lack { IfErr result (λ e. lack (shown self) ≡ fault_shown e) }
+        ensures lack { IfErr result (λ e. lack (shown self) ≡ Some e) }
         ensures text { IfErr result IsTextFault }
     {
         match self.stage {

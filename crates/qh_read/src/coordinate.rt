@@ -1,5 +1,5 @@
 //! A number in the range of coordinates.
-ghost use Rattle.qh_model.specs.Limits.{IsCoordinate};
+ghost use Rattle.qh_model.specs.headline.Limits.{IsCoordinate};
 
 /// A number from -`COORDINATE_LIMIT` to `COORDINATE_LIMIT`.
 #[derive(Clone, Copy, Debug)]

@@ -17,7 +17,8 @@ mod tests;
 mod token;
 mod whole;
 
-pub use fault::{FeedFault, ReadFault};
+pub use fault::FeedFault;
+pub use qh_model::ReadFault;
 pub use reader::Reader;
 pub use source::{DeviceFault, MemSource, Source, StdSource};
 pub use whole::{PIECE_LENGTH, read_from, read_points};

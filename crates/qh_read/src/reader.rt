@@ -1,13 +1,14 @@
 //! Reading in pieces, and of whole byte strings.
 ghost use Rattle.std.specs.Prelude.{◌≡◌, ◌<◌, ◌+◌, ◌++◌, ◌↔◌, List, ℕ, [], length, IfOk, IfErr, OnOk, OnErr, Err};
-ghost use Rattle.qh_model.specs.PointFile.{Reads};
-ghost use Rattle.qh_read.specs.ReadFaults.{IsFaultOf, IsFirstFault, IsTextFault};
-ghost use Rattle.qh_read.specs.Holding.{Fed};
+ghost use Rattle.qh_model.specs.headline.PointFile.{Reads};
+ghost use Rattle.qh_read.specs.contract.ReadFaults.{IsFaultOf, IsTextFault};
+ghost use Rattle.qh_model.specs.headline.FileFault.{IsFirstFault};
+ghost use Rattle.qh_read.specs.contract.Holding.{Fed};
 
-use crate::fault::{FeedFault, ReadFault};
+use crate::fault::FeedFault;
 use crate::scanner::Scanner;
 use crate::token::Token;
-use qh_model::{BYTE_LIMIT, Point};
+use qh_model::{BYTE_LIMIT, Point, ReadFault};
 use std::alloc::Global;
 use std::marker::Model;
 
@@ -24,11 +25,11 @@ pub struct Reader {
 }
 
 impl Model for Reader {
-    ghost use Rattle.qh_read.specs.Holding.{Reading};
+    ghost use Rattle.qh_read.specs.contract.Holding.{Reading};
 
     ghost Value = { Reading };
 
-    ghost use Rattle.qh_read.specs.Reader.{reading_shown, IsSound};
+    ghost use Rattle.qh_read.specs.steps.Reader.{reading_shown, IsSound};
 
     ghost view = { reading_shown };
 

@@ -1,9 +1,9 @@
 //! The step from bytes to words, in any pieces.
 ghost use Rattle.std.specs.Prelude.{ℕ, ◌≡◌, ◌≤◌, ◌<◌, ◌+◌, ◌^◌, length, OnOk, vec_len, vec_capacity};
-ghost use Rattle.qh_read.specs.Tokens.{IsSmall};
-ghost use Rattle.qh_read.specs.Building.{shown, taken_count};
-ghost use Rattle.qh_read.specs.Holding.{held_at_start, ended_held, next_held, held_by};
-ghost use Rattle.qh_read.specs.Scanning.{held, under_way, HasRoom};
+ghost use Rattle.qh_read.specs.steps.SmallTokens.{IsSmall};
+ghost use Rattle.qh_read.specs.steps.Building.{shown, taken_count};
+ghost use Rattle.qh_read.specs.contract.Holding.{held_at_start, ended_held, next_held, held_by};
+ghost use Rattle.qh_read.specs.steps.Scanning.{held, under_way, HasRoom};
 
 use crate::builder::Builder;
 use crate::token::{Token, begins_data, blank, with_digit};

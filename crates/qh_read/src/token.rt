@@ -1,8 +1,9 @@
 //! The word under way, of which only what tells its number is kept.
 ghost use Rattle.std.specs.Prelude.{◌≡◌, ◌≤◌, ◌<◌, ◌+◌, ◌*◌, ◌↔◌, [], ◌∷◌, true, false, IsTrue};
 ghost use Rattle.std.specs.Char.{is_ascii_digit};
-ghost use Rattle.qh_read.specs.Tokens.{cap, grown, value_of, IsSmall};
-ghost use Rattle.qh_model.specs.Words.{is_blank, is_data};
+ghost use Rattle.qh_read.specs.contract.Tokens.{cap, grown, value_of};
+ghost use Rattle.qh_read.specs.steps.SmallTokens.{IsSmall};
+ghost use Rattle.qh_model.specs.headline.Words.{is_blank, is_data};
 
 use qh_model::COORDINATE_LIMIT;
 

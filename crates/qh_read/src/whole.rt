@@ -1,13 +1,13 @@
 //! Reading of a whole input.
 ghost use Rattle.std.specs.Prelude.{◌≡◌, ◌≢◌, ◌≤◌, ◌<◌, ◌+◌, ◌-◌, ◌^◌, length, vec_len, IfOk, IfErr, Err};
-ghost use Rattle.qh_model.specs.PointFile.{Reads};
-ghost use Rattle.qh_read.specs.ReadFaults.{IsFaultOf, IsFirstFault, IsTextFault};
-ghost use Rattle.qh_read.specs.SourceBytes.{Gives, GivesAll};
+ghost use Rattle.qh_model.specs.headline.PointFile.{Reads};
+ghost use Rattle.qh_read.specs.contract.ReadFaults.{IsFaultOf, IsTextFault};
+ghost use Rattle.qh_model.specs.headline.FileFault.{IsFirstFault};
+ghost use Rattle.qh_read.specs.headline.SourceBytes.{Gives, GivesAll};
 
-use crate::fault::ReadFault;
 use crate::reader::Reader;
 use crate::source::Source;
-use qh_model::{BYTE_LIMIT, Point};
+use qh_model::{BYTE_LIMIT, Point, ReadFault};
 use std::alloc::{AllocError, Global};
 
 /// How many bytes are taken at once, so that the room made for them stays small.

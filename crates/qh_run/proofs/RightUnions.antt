@@ -1,16 +1,16 @@
 -- The union of two right values, as a set of ids, and that there are extreme ids.
 use Rattle.std.proofs.Common.{ℕ, ◌<◌, ◌⊎◌, ◌↔◌, inl, inr, List, length, get_or, arith}
 use Rattle.std.specs.List.Sorted.{IsStrictlyIncreasing}
-use Rattle.qh_model.specs.Vector.{Vector}
-use Rattle.qh_model.specs.Sets.{In, Members}
-use Rattle.qh_model.specs.DistinctIds.{IsIdSet}
-use Rattle.qh_model.specs.RightValue.{RightValue}
-use Rattle.qh_model.specs.Predicates.{place}
-use Rattle.qh_model.specs.Hull.{AreExtremes}
+use Rattle.qh_model.specs.headline.Vector.{Vector}
+use Rattle.qh_model.specs.headline.Sets.{In, Members}
+use Rattle.qh_model.specs.contract.IdSets.{IsIdSet}
+use Rattle.qh_model.specs.contract.RightValue.{RightValue}
+use Rattle.qh_model.specs.headline.Predicates.{place}
+use Rattle.qh_model.specs.headline.Hull.{AreExtremes}
 use Rattle.qh_model.proofs.extremes.ExtremeIds.{members_are_combinations}
 use Rattle.qh_model.proofs.Members.{All-In, All-of, In-get_or, in_at}
 use Rattle.qh_model.proofs.hulls.RightValues.{right_within}
-use Rattle.qh_plane.specs.PlaceKeys.{AreIndices}
+use Rattle.qh_model.specs.contract.IdSets.{AreIndices}
 
 -- an id of the union is one of the list
 pub union_within : (pts : List Vector) (ids bounds : List ℕ) (J K : ℕ → Type 0) (xs ys both : List ℕ) → RightValue pts ids bounds J xs → RightValue pts ids bounds K ys

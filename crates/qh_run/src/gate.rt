@@ -1,10 +1,10 @@
 //! What the workers tell of their run, and who takes its last hull.
 ghost use Rattle.std.specs.Prelude.{◌<◌, IfOk, length};
-ghost use Rattle.qh_model.specs.DistinctIds.{IsIdSet};
-ghost use Rattle.qh_model.specs.Hull.{IsBody};
-ghost use Rattle.qh_model.specs.Predicates.{place};
-ghost use Rattle.qh_model.specs.Sets.{Members};
-ghost use Rattle.qh_plane.specs.PlaceKeys.{AreIndices};
+ghost use Rattle.qh_model.specs.contract.IdSets.{IsIdSet};
+ghost use Rattle.qh_model.specs.headline.Hull.{IsBody};
+ghost use Rattle.qh_model.specs.headline.Predicates.{place};
+ghost use Rattle.qh_model.specs.headline.Sets.{Members};
+ghost use Rattle.qh_model.specs.contract.IdSets.{AreIndices};
 
 use qh_block::hull;
 use qh_model::{Body, Id, Memory, Point};

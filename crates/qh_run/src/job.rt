@@ -1,12 +1,12 @@
 //! What the workers' board keeps: the points, and how they are cut into blocks.
 ghost use Rattle.std.specs.Prelude.{◌≡◌, ◌<◌, IfOk, length};
 ghost use Rattle.std.specs.List.Sorted.{IsStrictlyIncreasing};
-ghost use Rattle.qh_model.specs.Cut.{positions};
-ghost use Rattle.qh_model.specs.DistinctIds.{HasDistinctPoints, IsIdSet};
-ghost use Rattle.qh_model.specs.Hull.{AreExtremes};
-ghost use Rattle.qh_model.specs.Predicates.{place};
-ghost use Rattle.qh_model.specs.Sets.{Members};
-ghost use Rattle.qh_plane.specs.PlaceKeys.{AreIndices};
+ghost use Rattle.qh_model.specs.contract.Cut.{positions};
+ghost use Rattle.qh_model.specs.contract.IdSets.{HasDistinctPoints, IsIdSet};
+ghost use Rattle.qh_model.specs.headline.Hull.{AreExtremes};
+ghost use Rattle.qh_model.specs.headline.Predicates.{place};
+ghost use Rattle.qh_model.specs.headline.Sets.{Members};
+ghost use Rattle.qh_model.specs.contract.IdSets.{AreIndices};
 
 use crate::reduction::{GivesUp, Reduction};
 use crate::unions::union;
@@ -41,7 +41,7 @@ pub struct Extremes {
 }
 
 impl<'a> Spans for Job<'a> {
-    ghost use Rattle.qh_model.specs.RightValue.{RightValue};
+    ghost use Rattle.qh_model.specs.contract.RightValue.{RightValue};
 
     type Value = Extremes;
 
@@ -86,7 +86,7 @@ impl<'a> Job<'a> {
 }
 
 impl<'a> Reduction for Job<'a> {
-    ghost use Rattle.qh_model.specs.Cut.{block_count};
+    ghost use Rattle.qh_model.specs.contract.Cut.{block_count};
 
     ghost count = { λ job. block_count job.cut.now };
 

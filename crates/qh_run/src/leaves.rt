@@ -4,7 +4,7 @@
 //! again. So a tree of many small blocks costs more than it saves: it needs leaves enough that no worker
 //! is left without one, and no more.
 ghost use Rattle.std.specs.Prelude.{◌≡◌, ◌<◌, IfOk, IfSome};
-ghost use Rattle.qh_model.specs.Cut.{positions};
+ghost use Rattle.qh_model.specs.contract.Cut.{positions};
 
 use qh_model::Cut;
 use std::alloc::{AllocError, Global};

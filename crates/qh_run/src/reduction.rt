@@ -1,6 +1,6 @@
 //! What a pass finds for the nodes of a tree over blocks.
 ghost use Rattle.std.specs.Prelude.{◌≡◌, ◌+◌, ◌*◌, ◌<◌, ℕ, IfOk};
-ghost use Rattle.qh_model.specs.BoardMachine.{InSpan};
+ghost use Rattle.qh_model.specs.contract.BoardMachine.{InSpan};
 
 use qh_board::Spans;
 use qh_model::Memory;

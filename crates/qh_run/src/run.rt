@@ -1,11 +1,11 @@
 //! The run of the workers, and the hull of what they found.
 ghost use Rattle.std.specs.Prelude.{◌≡◌, ◌↔◌, ◌<◌, ◌≤◌, IfOk, IfSome, IsErrOf, length};
-ghost use Rattle.qh_model.specs.BoardMachine.{InSpan};
-ghost use Rattle.qh_model.specs.Cut.{positions};
-ghost use Rattle.qh_model.specs.DistinctIds.{AreDistinctIds};
-ghost use Rattle.qh_model.specs.Hull.{IsBody, IsHull};
-ghost use Rattle.qh_model.specs.Predicates.{place};
-ghost use Rattle.qh_model.specs.Sets.{Members};
+ghost use Rattle.qh_model.specs.contract.BoardMachine.{InSpan};
+ghost use Rattle.qh_model.specs.contract.Cut.{positions};
+ghost use Rattle.qh_model.specs.headline.DistinctIds.{AreDistinctIds};
+ghost use Rattle.qh_model.specs.headline.Hull.{IsBody, IsHull};
+ghost use Rattle.qh_model.specs.headline.Predicates.{place};
+ghost use Rattle.qh_model.specs.headline.Sets.{Members};
 ghost use Rattle.qh_model.specs.declared.limits.TheConstants.{POINT_LIMIT, WORKER_LIMIT};
 
 use crate::gate::Gate;

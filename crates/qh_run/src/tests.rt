@@ -1,7 +1,7 @@
 //! Rows of points and their hulls, by several cuts and numbers of workers.
 ghost use Rattle.std.specs.Prelude.{◌≡◌, IfOk};
 ghost use Rattle.qh_board.specs.contract.Closings.{closed_setup};
-ghost use Rattle.qh_model.specs.DistinctIds.{AreDistinctIds};
+ghost use Rattle.qh_model.specs.headline.DistinctIds.{AreDistinctIds};
 
 use crate::{Job, NoGate, RunError, run_hull, work};
 use qh_board::{Board, BoardError, Closed, Mark};

@@ -1,7 +1,7 @@
 //! Two lists of ids as one.
 ghost use Rattle.std.specs.Prelude.{◌↔◌, ◌⊎◌, ℕ, IfOk};
 ghost use Rattle.std.specs.List.Sorted.{IsStrictlyIncreasing};
-ghost use Rattle.qh_model.specs.Sets.{In};
+ghost use Rattle.qh_model.specs.headline.Sets.{In};
 
 use qh_model::{Id, Memory};
 use std::alloc::Global;

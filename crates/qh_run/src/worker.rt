@@ -1,9 +1,9 @@
 //! What one pass does.
 ghost use Rattle.std.specs.Prelude.{◌≡◌, ◌+◌, ◌<◌, ℕ, Some, false};
-ghost use Rattle.qh_model.specs.Cut.{block_count};
+ghost use Rattle.qh_model.specs.contract.Cut.{block_count};
 ghost use Rattle.qh_board.specs.declared.view.Mark.TheVariants as marks;
 ghost use Rattle.qh_board.specs.contract.Tokens.{IsOf, task_node};
-ghost use Rattle.qh_run.specs.Turns.{IsAnswerOf, IsTurnOf, answered};
+ghost use Rattle.qh_run.specs.steps.Turns.{IsAnswerOf, IsTurnOf, answered};
 
 use crate::gate::Gate;
 use crate::job::Job;

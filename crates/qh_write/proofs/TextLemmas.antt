@@ -6,11 +6,11 @@ use Rattle.std.proofs.lemmas.List.Elements.{All-from_get_or}
 use Rattle.std.specs.Prelude.{◌==◌}
 use Rattle.std.specs.List.{flat_map}
 use Rattle.std.specs.List.Sorted.{IsStrictlyIncreasing}
-use Rattle.qh_model.specs.Sets.{In, Once}
+use Rattle.qh_model.specs.headline.Sets.{In, Once}
 use Rattle.qh_model.proofs.Members.{All-In, In-get_or, rising_once}
-use Rattle.qh_model.specs.Hull.{IsBodyInOrder}
-use Rattle.qh_model.specs.Text.{line, spaced, vertex_number, face_text}
-use Rattle.qh_write.specs.Outs.{numbered, AreNumbered, face_by_table}
+use Rattle.qh_model.specs.contract.Bodies.{IsBodyInOrder}
+use Rattle.qh_model.specs.headline.Text.{line, spaced, vertex_number, face_text}
+use Rattle.qh_write.specs.steps.VertexTables.{numbered, AreNumbered, face_by_table}
 
 -- texts of mapped members
 pub flat_map-map : {X Y : Type 0} (f : Y → List ℕ) (g : X → Y) (xs : List X) → flat_map f (map g xs) ≡ flat_map (λ x. f (g x)) xs

@@ -1,2 +1,3 @@
-pub mod Sinks
-pub mod Outs
+pub mod headline
+pub mod contract
+pub mod steps

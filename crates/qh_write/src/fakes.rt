@@ -28,7 +28,7 @@ pub struct FailSink {
 }
 
 impl FailSink {
-    ghost use Rattle.qh_write.specs.Sinks.{kept_before_failing, plan_of};
+    ghost use Rattle.qh_write.specs.contract.Devices.{kept_before_failing, plan_of};
 
     /// A sink that has nothing yet and fails by `plan`.
     pub fn new(alloc: Global, plan: SinkPlan) -> FailSink

@@ -6,7 +6,6 @@
 
 pub mod fakes;
 mod mem_sink;
-mod out;
 mod sending;
 mod sink;
 mod std_sink;
@@ -15,7 +14,7 @@ mod tests;
 mod texts;
 
 pub use mem_sink::MemSink;
-pub use out::Out;
+pub use qh_model::Out;
 pub use sending::{SendFault, send};
 pub use sink::{Sink, SinkFault};
 pub use std_sink::StdSink;

@@ -11,7 +11,7 @@ pub struct MemSink {
 }
 
 impl MemSink {
-    ghost use Rattle.qh_write.specs.Sinks.{kept};
+    ghost use Rattle.qh_write.specs.contract.Devices.{kept};
 
     /// A sink that has nothing yet and grows by `alloc`.
     pub fn new(alloc: Global) -> MemSink

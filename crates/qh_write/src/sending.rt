@@ -1,6 +1,6 @@
 ghost use Rattle.std.specs.Prelude.{◌≡◌, ℕ, ◌+◌, ◌-◌, ◌^◌, ◌<◌, OnOk, OnErr, true};
 ghost use Rattle.std.specs.Io.KnownBytes.{Appends};
-ghost use Rattle.qh_write.specs.Sinks.{AppendsBeginning};
+ghost use Rattle.qh_write.specs.headline.Sinks.{AppendsBeginning};
 
 use crate::sink::Sink;
 

@@ -1,6 +1,6 @@
 ghost use Rattle.std.specs.Prelude.{◌≡◌, ◌++◌, ◌<◌, IfOk, OnOk, All, length};
-ghost use Rattle.qh_model.specs.Text.{hull_text, output_text};
-ghost use Rattle.qh_write.specs.Outs.{out_number, out_numbers, NamesPoints};
+ghost use Rattle.qh_model.specs.headline.Text.{hull_text, output_text};
+ghost use Rattle.qh_model.specs.contract.IdSets.{AreIndices};
 
 mod lines;
 mod numbering;
@@ -8,8 +8,7 @@ mod off;
 mod room;
 mod summary;
 
-use crate::out::Out;
-use qh_model::{Hull, Memory, Point};
+use qh_model::{Hull, Memory, Out, Point};
 use std::alloc::{AllocError, Global};
 
 /// Appends the text of one output.
@@ -20,8 +19,8 @@ fn push_output(
     pts: &[Point],
     out: Out,
 ) -> Result<(), AllocError>
-    requires { NamesPoints hull.now pts.now }
-    ensures { OnOk result (text.new.items ≡ text.old.items ++ output_text hull.now pts.now (out_number out)) }
+    requires { AreIndices pts.now hull.now.body.extremes }
+    ensures { OnOk result (text.new.items ≡ text.old.items ++ output_text hull.now pts.now out) }
 {
     match out {
         Out::Rank => summary::push_rank(text, hull),
@@ -38,8 +37,8 @@ fn push_outputs(
     pts: &[Point],
     outs: &[Out],
 ) -> Result<(), AllocError>
-    requires { NamesPoints hull.now pts.now }
-    ensures { OnOk result (text.new.items ≡ text.old.items ++ hull_text hull.now pts.now (out_numbers outs.now)) }
+    requires { AreIndices pts.now hull.now.body.extremes }
+    ensures { OnOk result (text.new.items ≡ text.old.items ++ hull_text hull.now pts.now outs.now) }
 {
     for out in outs {
         push_output(text, alloc, hull, pts, *out)?;
@@ -52,8 +51,8 @@ fn push_outputs(
 /// The caller sees to it that every id in the hull is the index of a point in `pts`. The only error
 /// is want of memory. Source: Qhull manual (`Fx`), Geomview OFF.
 pub fn text(alloc: Global, hull: &Hull, pts: &[Point], outs: &[Out]) -> Result<Vec<u8>, Memory>
-    requires { NamesPoints hull.now pts.now }
-    ensures { IfOk result (λ t. t.items ≡ hull_text hull.now pts.now (out_numbers outs.now)) }
+    requires { AreIndices pts.now hull.now.body.extremes }
+    ensures { IfOk result (λ t. t.items ≡ hull_text hull.now pts.now outs.now) }
 {
     let mut text = Vec::with_capacity(alloc, room::room_for(&hull.body, outs))?;
     push_outputs(&mut text, alloc, hull, pts, outs)?;

@@ -6,17 +6,17 @@ use Rattle.std.proofs.lemmas.List.Kept.{Contains-dedup_nat, Contains-from_dedup}
 use Rattle.std.proofs.lemmas.List.Sorted.{Contains-permutation, IsPermutation-sym}
 use Rattle.std.specs.List.{Contains, dedup}
 use Rattle.std.specs.Prelude.{◌↔◌, nat_eq}
-use Rattle.qh_model.specs.Vector.{Vector}
-use Rattle.qh_model.specs.Sets.{In}
-use Rattle.qh_model.specs.Surface.{IsCorner}
-use Rattle.qh_model.specs.StoredSurface.{StoredFacet, facet_at, surface_of}
+use Rattle.qh_model.specs.headline.Vector.{Vector}
+use Rattle.qh_model.specs.headline.Sets.{In}
+use Rattle.qh_model.specs.contract.Surface.{IsCorner}
+use Rattle.qh_model.specs.contract.StoredSurface.{StoredFacet, facet_at, surface_of}
 use Rattle.qh_model.proofs.Members.{In-get_or, to_contains, of_contains}
 use Rattle.qh_mesh.specs.declared.facets.FacetNo.{FacetNo}
-use Rattle.qh_mesh.specs.Replacement.{IsLive, is_listed, number}
+use Rattle.qh_mesh.specs.contract.Replacement.{IsLive, is_listed, number}
 use Rattle.qh_mesh.proofs.ListedFacets.{listed_at}
-use Rattle.qh_plane.specs.PlaceKeys.{AreIndices}
-use Rattle.qh_block.specs.PlaneWalks.{AreCornersBelow}
-use Rattle.qh_block.specs.Faces.{corners_of, IsListedCorner}
+use Rattle.qh_model.specs.contract.IdSets.{AreIndices}
+use Rattle.qh_block.specs.steps.PlaneWalks.{AreCornersBelow}
+use Rattle.qh_block.specs.steps.Faces.{corners_of, IsListedCorner}
 
 -- ---- sorted, and freed from repeated ids
 -- the members stay

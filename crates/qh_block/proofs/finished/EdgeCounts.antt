@@ -3,14 +3,15 @@ use Rattle.std.proofs.Common.{◌≡◌, ◌∙◌, ◌⊎◌, inl, inr, ℕ, su
 use Rattle.std.specs.Prelude.{◌↔◌, nat_lt}
 use Rattle.std.proofs.lemmas.Bool.{lt-ltb, ltb-true}
 use Rattle.std.proofs.lemmas.List.{take_more}
-use Rattle.qh_model.specs.Vector.{Vector}
-use Rattle.qh_model.specs.Sets.{In, Once, Members}
-use Rattle.qh_model.specs.DistinctIds.{HasDistinctPoints}
-use Rattle.qh_model.specs.Dimension.{IsDimension}
-use Rattle.qh_model.specs.Polygons.{AreFaces, FollowsAlong, Follows, IsEdge, IsEdgeCount}
+use Rattle.qh_model.specs.headline.Vector.{Vector}
+use Rattle.qh_model.specs.headline.Sets.{In, Once, Members}
+use Rattle.qh_model.specs.contract.IdSets.{HasDistinctPoints}
+use Rattle.qh_model.specs.headline.Dimension.{IsDimension}
+use Rattle.qh_model.specs.headline.Polygon.{FollowsAlong, Follows}
+use Rattle.qh_model.specs.headline.Polygons.{AreFaces, IsEdge, IsEdgeCount}
 use Rattle.qh_model.proofs.polygons.Edges.{one_face_each_way, other_face}
 use Rattle.qh_model.proofs.lists.Joined.{in_append, of_append, once_append}
-use Rattle.qh_block.specs.SolidEdges.{steps_up, last_of, edges_up, all_edges_up}
+use Rattle.qh_block.specs.steps.SolidEdges.{steps_up, last_of, edges_up, all_edges_up}
 
 -- ---- the code's sums
 -- the last of a list

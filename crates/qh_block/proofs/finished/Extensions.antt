@@ -4,12 +4,12 @@ use Rattle.std.proofs.lemmas.Bool.{eqb-true, or_cases, or_left, or_right}
 use Rattle.std.proofs.lemmas.List.Sums.{sum_by-set}
 use Rattle.std.proofs.lemmas.List.{length-set, get_or_append_left, get_or_read}
 use Rattle.std.specs.Prelude.{◌||◌, nat_eq, not}
-use Rattle.qh_model.specs.Vector.{Vector}
-use Rattle.qh_model.specs.StoredSurface.{StoredFacet, surface_of}
-use Rattle.qh_model.specs.FacetPlanes.{IsLevelFacet}
+use Rattle.qh_model.specs.headline.Vector.{Vector}
+use Rattle.qh_model.specs.contract.StoredSurface.{StoredFacet, surface_of}
+use Rattle.qh_model.specs.laws.FacetPlanes.{IsLevelFacet}
 use Rattle.qh_mesh.specs.declared.facets.FacetNo.{FacetNo}
-use Rattle.qh_mesh.specs.Replacement.{IsLive, is_listed, number}
-use Rattle.qh_block.specs.PlaneWalks.{mark_at, IsCrossed, IsExtension, AreCrossed}
+use Rattle.qh_mesh.specs.contract.Replacement.{IsLive, is_listed, number}
+use Rattle.qh_block.specs.steps.PlaneWalks.{mark_at, IsCrossed, IsExtension, AreCrossed}
 
 -- three tests
 or_assoc : (a b c : Bool) → ((a || b) || c) ≡ (a || (b || c))

@@ -2,15 +2,15 @@
 use Rattle.std.proofs.Common.{◌≡◌, ◌∙◌, ◌⊎◌, inl, inr, ℕ, ◌<◌, List, [], ◌∷◌, ◌++◌, length, map, take, ap, sym, subst, refl, arith, Bool, true, false}
 use Rattle.std.proofs.lemmas.List.{map-append}
 use Rattle.std.specs.Prelude.{pos}
-use Rattle.qh_model.specs.Vector.{Vector}
-use Rattle.qh_model.specs.Predicates.{cross, vol}
-use Rattle.qh_model.specs.Sets.{In, Once, Members}
-use Rattle.qh_model.specs.DistinctIds.{HasDistinctPoints}
-use Rattle.qh_model.specs.FaceLaws.{IsAlong, SpannedByExtremes}
-use Rattle.qh_model.specs.Surface.{Surface}
-use Rattle.qh_model.specs.FinishedSurface.{IsFinished}
-use Rattle.qh_model.specs.FacetPlanes.{IsLevelWith, IsLevelFacet}
-use Rattle.qh_model.specs.StoredSurface.{StoredFacet, surface_of}
+use Rattle.qh_model.specs.headline.Vector.{Vector}
+use Rattle.qh_model.specs.headline.Predicates.{cross, vol}
+use Rattle.qh_model.specs.headline.Sets.{In, Once, Members}
+use Rattle.qh_model.specs.contract.IdSets.{HasDistinctPoints}
+use Rattle.qh_model.specs.laws.FaceLaws.{IsAlong, SpannedByExtremes}
+use Rattle.qh_model.specs.contract.Surface.{Surface}
+use Rattle.qh_model.specs.contract.FinishedSurface.{IsFinished}
+use Rattle.qh_model.specs.laws.FacetPlanes.{IsLevelWith, IsLevelFacet}
+use Rattle.qh_model.specs.contract.StoredSurface.{StoredFacet, surface_of}
 use Rattle.qh_model.proofs.algebra.VectorIdentities.{vol-first, vol-second, vol-third}
 use Rattle.qh_model.proofs.extremes.Directions.{vol_along, zero_along}
 use Rattle.qh_model.proofs.extremes.SpanningTriples.{planes_of_extremes}
@@ -21,9 +21,9 @@ use Rattle.qh_model.proofs.surfaces.Finished.{facet_area, facets_support}
 use Rattle.qh_model.proofs.surfaces.Stored.{live_is_marked}
 use Rattle.qh_model.proofs.lists.Joined.{in_append, of_append, once_append}
 use Rattle.qh_model.proofs.lists.Images.{of_map}
-use Rattle.qh_mesh.specs.Replacement.{IsLive}
-use Rattle.qh_block.specs.PlaneWalks.{mark_at}
-use Rattle.qh_block.specs.Faces.{IsFacetPolygon, IsNewPlane, IsNewFace, AreMarkedFaces, AreFacetFaces}
+use Rattle.qh_mesh.specs.contract.Replacement.{IsLive}
+use Rattle.qh_block.specs.steps.PlaneWalks.{mark_at}
+use Rattle.qh_block.specs.steps.Faces.{IsFacetPolygon, IsNewPlane, IsNewFace, AreMarkedFaces, AreFacetFaces}
 use Rattle.qh_block.proofs.flats.Polygons.{three_members}
 
 -- ---- the first three ids of a face
@@ -48,7 +48,7 @@ first_three at ids fs z f l (a ∷ b ∷ c ∷ q) p h = record {
   is = refl;
   has_a = on a (inl refl);
   along = level_along (at (m.i f)) (at (m.j f)) (at (m.k f)) (at a) (at b) (at c) (facet_area at ids m z f ((live_is_marked fs f).1 l)) (on a (inl refl)) (on b (inr (inl refl))) (on c (inr (inr (inl refl))))
-      (p.round.0 c (inr (inr (inl refl))) (λ e. p.once.0 (inr (inl (sym e)))) (λ e. p.once.1.0 (inl (sym e))));
+      (p.round a b (inl (refl, refl)) c (inr (inr (inl refl))) (λ e. p.once.0 (inr (inl (sym e)))) (λ e. p.once.1.0 (inl (sym e))));
 }
   where
     m : Surface

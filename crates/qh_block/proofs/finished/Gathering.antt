@@ -1,20 +1,20 @@
 -- The loop over the live facets of a mesh that gathers its faces.
 use Rattle.std.proofs.Common.{◌≡◌, ◌∙◌, ◌⊎◌, inl, inr, ℕ, ◌<◌, List, [], ◌∷◌, ◌++◌, length, replicate, ap, sym, subst, refl, arith, Bool, true, false}
 use Rattle.std.proofs.lemmas.List.{get_or-replicate, get_or_past, length-replicate}
-use Rattle.qh_model.specs.Vector.{Vector}
-use Rattle.qh_model.specs.Predicates.{place}
-use Rattle.qh_model.specs.Sets.{In, Members}
-use Rattle.qh_model.specs.DistinctIds.{IsIdSet}
-use Rattle.qh_model.specs.FinishedSurface.{IsFinished}
-use Rattle.qh_model.specs.StoredSurface.{StoredFacet, surface_of}
+use Rattle.qh_model.specs.headline.Vector.{Vector}
+use Rattle.qh_model.specs.headline.Predicates.{place}
+use Rattle.qh_model.specs.headline.Sets.{In, Members}
+use Rattle.qh_model.specs.contract.IdSets.{IsIdSet}
+use Rattle.qh_model.specs.contract.FinishedSurface.{IsFinished}
+use Rattle.qh_model.specs.contract.StoredSurface.{StoredFacet, surface_of}
 use Rattle.qh_model.proofs.surfaces.Stored.{live_is_marked}
 use Rattle.qh_model.proofs.lists.Images.{of_map}
 use Rattle.qh_mesh.specs.declared.facets.FacetNo.{FacetNo}
-use Rattle.qh_mesh.specs.LiveNumbers.{numbers}
-use Rattle.qh_mesh.specs.Replacement.{IsLive}
+use Rattle.qh_mesh.specs.contract.LiveNumbers.{numbers}
+use Rattle.qh_mesh.specs.contract.Replacement.{IsLive}
 use Rattle.qh_mesh.proofs.NumberCases.{by_le}
-use Rattle.qh_block.specs.PlaneWalks.{mark_at}
-use Rattle.qh_block.specs.Faces.{IsNewPlane, IsNewFace, AreMarkedFaces, AreFacetFaces}
+use Rattle.qh_block.specs.steps.PlaneWalks.{mark_at}
+use Rattle.qh_block.specs.steps.Faces.{IsNewPlane, IsNewFace, AreMarkedFaces, AreFacetFaces}
 use Rattle.qh_block.proofs.finished.FaceLists.{no_faces, new_plane, next_face, all_faces}
 use Rattle.qh_block.proofs.LiveFacets.{live_below}
 

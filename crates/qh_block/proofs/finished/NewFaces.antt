@@ -3,19 +3,19 @@ use Rattle.std.proofs.Common.{◌≡◌, ◌∙◌, ◌⊎◌, inl, inr, ℕ, �
 use Rattle.std.proofs.lemmas.Bool.{or_cases, or_left, or_right}
 use Rattle.std.specs.Prelude.{◌↔◌, ◌||◌}
 use Rattle.std.specs.List.Sorted.{IsStrictlyIncreasing}
-use Rattle.qh_model.specs.Vector.{Vector}
-use Rattle.qh_model.specs.Predicates.{place, cross}
-use Rattle.qh_model.specs.Sets.{In, Members}
-use Rattle.qh_model.specs.DistinctIds.{IsIdSet}
-use Rattle.qh_model.specs.Extreme.{Extreme}
-use Rattle.qh_model.specs.SupportingPlane.{OnPlane}
-use Rattle.qh_model.specs.Polygon.{IsPolygon}
-use Rattle.qh_model.specs.Surface.{Surface, Side, IsCorner}
-use Rattle.qh_model.specs.Surface.Side.{first, second, third}
-use Rattle.qh_model.specs.FinishedSurface.{IsFinished}
-use Rattle.qh_model.specs.FacetPlanes.{IsLevelFacet}
-use Rattle.qh_model.specs.CompletenessLaws.{CornerInPlane}
-use Rattle.qh_model.specs.StoredSurface.{StoredFacet, surface_of}
+use Rattle.qh_model.specs.headline.Vector.{Vector}
+use Rattle.qh_model.specs.headline.Predicates.{place, cross}
+use Rattle.qh_model.specs.headline.Sets.{In, Members}
+use Rattle.qh_model.specs.contract.IdSets.{IsIdSet}
+use Rattle.qh_model.specs.headline.Extreme.{Extreme}
+use Rattle.qh_model.specs.headline.SupportingPlane.{OnPlane}
+use Rattle.qh_model.specs.headline.Polygon.{IsPolygon}
+use Rattle.qh_model.specs.contract.Surface.{Surface, Side, IsCorner}
+use Rattle.qh_model.specs.contract.Surface.Side.{first, second, third}
+use Rattle.qh_model.specs.contract.FinishedSurface.{IsFinished}
+use Rattle.qh_model.specs.laws.FacetPlanes.{IsLevelFacet}
+use Rattle.qh_model.specs.laws.CompletenessLaws.{CornerInPlane}
+use Rattle.qh_model.specs.contract.StoredSurface.{StoredFacet, surface_of}
 use Rattle.qh_model.proofs.extremes.Directions.{along_itself}
 use Rattle.qh_model.proofs.polygons.Direction.{polygon_as}
 use Rattle.qh_model.proofs.surfaces.Complete.{extremes_of_plane}
@@ -24,10 +24,10 @@ use Rattle.qh_model.proofs.surfaces.Finished.{facet_area, facets_support}
 use Rattle.qh_model.proofs.surfaces.Stored.{live_is_marked}
 use Rattle.qh_model.proofs.hulls.SameSets.{extreme_as}
 use Rattle.qh_mesh.specs.declared.facets.FacetNo.{FacetNo}
-use Rattle.qh_mesh.specs.Replacement.{IsLive, is_listed, twin_of}
-use Rattle.qh_plane.specs.PlanarSets.{IsPlanarSet}
-use Rattle.qh_block.specs.PlaneWalks.{mark_at, IsExtension, AreCrossed, IsCrossed}
-use Rattle.qh_block.specs.Faces.{IsListedCorner, IsNewPlane, IsNewFace}
+use Rattle.qh_mesh.specs.contract.Replacement.{IsLive, is_listed, twin_of}
+use Rattle.qh_plane.specs.contract.PlanarSets.{IsPlanarSet}
+use Rattle.qh_block.specs.steps.PlaneWalks.{mark_at, IsExtension, AreCrossed, IsCrossed}
+use Rattle.qh_block.specs.steps.Faces.{IsListedCorner, IsNewPlane, IsNewFace}
 use Rattle.qh_block.proofs.finished.Extensions.{walked_live, walked_level}
 
 -- the neighbours over the sides of a facet, by its edges

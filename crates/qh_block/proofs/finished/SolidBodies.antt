@@ -3,15 +3,15 @@ use Rattle.std.proofs.Common.{◌≡◌, ◌∙◌, ◌⊎◌, inl, inr, ℕ, �
 use Rattle.std.proofs.lemmas.List.{take_more}
 use Rattle.std.specs.Prelude.{◌↔◌, Result, Ok, Err, IfOk}
 use Rattle.std.specs.List.Sorted.{IsStrictlyIncreasing}
-use Rattle.qh_model.specs.Vector.{Vector}
-use Rattle.qh_model.specs.Predicates.{place}
-use Rattle.qh_model.specs.Sets.{In, Once, Members}
-use Rattle.qh_model.specs.DistinctIds.{IsIdSet}
-use Rattle.qh_model.specs.Extreme.{Extreme}
-use Rattle.qh_model.specs.FinishedSurface.{IsFinished}
-use Rattle.qh_model.specs.Hull.{AreExtremes, IsBody}
-use Rattle.qh_model.specs.Polygons.{ComesBefore, RiseStrictly, AreFaces}
-use Rattle.qh_model.specs.StoredSurface.{StoredFacet, surface_of}
+use Rattle.qh_model.specs.headline.Vector.{Vector}
+use Rattle.qh_model.specs.headline.Predicates.{place}
+use Rattle.qh_model.specs.headline.Sets.{In, Once, Members}
+use Rattle.qh_model.specs.contract.IdSets.{IsIdSet}
+use Rattle.qh_model.specs.headline.Extreme.{Extreme}
+use Rattle.qh_model.specs.contract.FinishedSurface.{IsFinished}
+use Rattle.qh_model.specs.headline.Hull.{AreExtremes, IsBody}
+use Rattle.qh_model.specs.headline.Polygons.{ComesBefore, RiseStrictly, AreFaces}
+use Rattle.qh_model.specs.contract.StoredSurface.{StoredFacet, surface_of}
 use Rattle.qh_model.proofs.lists.Lexicographic.{before-asymmetric, rising-ordered}
 use Rattle.qh_model.proofs.lists.Ordered.{Ordered}
 use Rattle.qh_model.proofs.lists.Joined.{in_append, of_append}
@@ -20,10 +20,10 @@ use Rattle.qh_model.proofs.surfaces.FacetPlanes.{level_itself}
 use Rattle.qh_model.proofs.surfaces.Finished.{extremes_are_corners}
 use Rattle.qh_model.proofs.surfaces.Stored.{live_is_marked}
 use Rattle.qh_model.proofs.Members.{All-In}
-use Rattle.qh_plane.specs.PlaceKeys.{AreIndices}
-use Rattle.qh_block.specs.PlaneWalks.{AreCornersBelow}
-use Rattle.qh_block.specs.Faces.{AreFacetFaces, all_members, IsListed}
-use Rattle.qh_block.specs.SolidEdges.{all_edges_up}
+use Rattle.qh_model.specs.contract.IdSets.{AreIndices}
+use Rattle.qh_block.specs.steps.PlaneWalks.{AreCornersBelow}
+use Rattle.qh_block.specs.steps.Faces.{AreFacetFaces, all_members, IsListed}
+use Rattle.qh_block.specs.steps.SolidEdges.{all_edges_up}
 use Rattle.qh_block.proofs.finished.EdgeCounts.{edges_of_faces}
 
 -- two facts of one value

@@ -3,19 +3,20 @@ use Rattle.std.proofs.Common.{◌≡◌, ◌∙◌, ℕ, zero, suc, ◌<◌, [],
 use Rattle.std.proofs.Math.Nat.{ne_of_lt}
 use Rattle.std.specs.Prelude.{◌↔◌}
 use Rattle.std.specs.List.Sorted.{IsStrictlyIncreasing}
-use Rattle.qh_model.specs.Dimension.{IsDimension}
-use Rattle.qh_model.specs.DistinctIds.{IsIdSet}
-use Rattle.qh_model.specs.Extreme.{Extreme}
-use Rattle.qh_model.specs.Hull.{IsBody}
-use Rattle.qh_model.specs.Polygons.{Follows, IsEdge, IsEdgeCount}
-use Rattle.qh_model.specs.Predicates.{place, AreInLine}
-use Rattle.qh_model.specs.Sets.{In, Members}
-use Rattle.qh_model.specs.Vector.{Vector}
+use Rattle.qh_model.specs.headline.Dimension.{IsDimension}
+use Rattle.qh_model.specs.contract.IdSets.{IsIdSet}
+use Rattle.qh_model.specs.headline.Extreme.{Extreme}
+use Rattle.qh_model.specs.headline.Hull.{IsBody}
+use Rattle.qh_model.specs.headline.Polygon.{Follows}
+use Rattle.qh_model.specs.headline.Polygons.{IsEdge, IsEdgeCount}
+use Rattle.qh_model.specs.headline.Predicates.{place, AreInLine}
+use Rattle.qh_model.specs.headline.Sets.{In, Members}
+use Rattle.qh_model.specs.headline.Vector.{Vector}
 use Rattle.qh_model.proofs.Members.{In-get_or, in_at}
 use Rattle.qh_plane.proofs.ShapeDimension.{segment}
-use Rattle.qh_plane.specs.Shapes.{IsInLine, Each, AreFirstTwo}
-use Rattle.qh_block.specs.FlatBodies.{point_body, segment_body}
-use Rattle.qh_block.specs.Segments.{IsFirstAlong}
+use Rattle.qh_plane.specs.contract.Shapes.{IsInLine, Each, AreFirstTwo}
+use Rattle.qh_block.specs.steps.FlatBodies.{point_body, segment_body}
+use Rattle.qh_block.specs.steps.Segments.{IsFirstAlong}
 use Rattle.qh_block.proofs.flats.Ends.{ends_differ, two_ends}
 
 -- ---- one id

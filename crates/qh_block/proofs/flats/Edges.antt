@@ -1,8 +1,9 @@
 -- The edges of one polygon, each once: as many as it has members, where it has at least three.
 use Rattle.std.proofs.Common.{◌≡◌, ◌≢◌, ◌∙◌, ℕ, suc, ◌<◌, [], ◌∷◌, List, length, ap, sym, subst, ◌⊎◌, inl, inr, arith, refl, Bool, true, false, cond, ltb}
 use Rattle.std.proofs.lemmas.Bool.{lt-ltb, ltb-true}
-use Rattle.qh_model.specs.Polygons.{Follows, FollowsAlong, IsEdge, IsEdgeCount}
-use Rattle.qh_model.specs.Sets.{In, Once}
+use Rattle.qh_model.specs.headline.Polygon.{Follows, FollowsAlong}
+use Rattle.qh_model.specs.headline.Polygons.{IsEdge, IsEdgeCount}
+use Rattle.qh_model.specs.headline.Sets.{In, Once}
 
 -- ---- two ids in order
 -- a pair of ids

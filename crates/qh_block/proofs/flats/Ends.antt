@@ -3,11 +3,11 @@ use Rattle.std.proofs.Common.{◌≡◌, ◌≢◌, ℕ, [], List, ap, sym, ◌�
 use Rattle.std.proofs.lemmas.Int.{ints, by_lt_z}
 use Rattle.std.specs.Prelude.{ℤ, pos, ◌+ℤ◌, ◌-ℤ◌, neg_ℤ, ◌≤ℤ◌, ◌<ℤ◌, ◌↔◌}
 use native.Mathlib.Decide.{ℕ_discrete}
-use Rattle.qh_model.specs.DistinctIds.{IsIdSet}
-use Rattle.qh_model.specs.Extreme.{Extreme, Others}
-use Rattle.qh_model.specs.Predicates.{place, AreInLine}
-use Rattle.qh_model.specs.Sets.{In, Members}
-use Rattle.qh_model.specs.Vector.{Vector, minus, dot}
+use Rattle.qh_model.specs.contract.IdSets.{IsIdSet}
+use Rattle.qh_model.specs.headline.Extreme.{Extreme, Others}
+use Rattle.qh_model.specs.headline.Predicates.{place, AreInLine}
+use Rattle.qh_model.specs.headline.Sets.{In, Members}
+use Rattle.qh_model.specs.headline.Vector.{Vector, minus, dot}
 use Rattle.qh_model.proofs.algebra.Order.{le_antisym}
 use Rattle.qh_model.proofs.algebra.Ring.{ring}
 use Rattle.qh_model.proofs.algebra.Ring.Expr.{con, sub as less}
@@ -16,7 +16,7 @@ use Rattle.qh_model.proofs.algebra.Signs.{less_differ, lt_neg}
 use Rattle.qh_model.proofs.combinations.Alternatives.{all_lower}
 use Rattle.qh_model.proofs.extremes.Directions.{square-positive}
 use Rattle.qh_plane.proofs.LinesAndPlanes.{same_point}
-use Rattle.qh_block.specs.Segments.{position, IsFirstAlong}
+use Rattle.qh_block.specs.steps.Segments.{position, IsFirstAlong}
 use Rattle.qh_block.proofs.flats.Lines.{along, same_place, between}
 
 -- ---- positions from either end

@@ -2,9 +2,9 @@
 use Rattle.std.proofs.Common.{◌≡◌, ◌∙◌, ℕ, ◌+◌, ◌<◌, [], ◌∷◌, arith, ap, refl, sym}
 use Rattle.std.proofs.lemmas.Int.{ints}
 use Rattle.std.specs.Prelude.{ℤ, pos, negsuc, ◌+ℤ◌, ◌-ℤ◌, ◌*ℤ◌, neg_ℤ, ◌≤ℤ◌, ◌<ℤ◌}
-use Rattle.qh_model.specs.Vector.{Vector, origin, minus, cross_product, dot}
-use Rattle.qh_model.specs.Predicates.{cross, AreInLine}
-use Rattle.qh_model.specs.Combination.{Combination, IsBalanced}
+use Rattle.qh_model.specs.headline.Vector.{Vector, origin, minus, cross_product, dot}
+use Rattle.qh_model.specs.headline.Predicates.{cross, AreInLine}
+use Rattle.qh_model.specs.headline.Combination.{Combination, IsBalanced}
 use Rattle.qh_model.proofs.algebra.Order.{cancel-zero}
 use Rattle.qh_model.proofs.algebra.Ring.{ring, equal_from_zero}
 use Rattle.qh_model.proofs.algebra.Ring.Expr.{var, con, add, sub as less, mul, neg}

@@ -3,24 +3,24 @@ use Rattle.std.proofs.Common.{◌≡◌, ◌∙◌, ℕ, ◌<◌, [], ◌∷◌,
 use Rattle.std.proofs.lemmas.Int.{ints}
 use Rattle.std.specs.Prelude.{ℤ, pos, ◌-ℤ◌, neg_ℤ, ◌↔◌}
 use Rattle.std.specs.List.Sorted.{IsStrictlyIncreasing}
-use Rattle.qh_model.specs.Dimension.{HasTriangle}
-use Rattle.qh_model.specs.DistinctIds.{IsIdSet}
-use Rattle.qh_model.specs.Extreme.{Extreme}
-use Rattle.qh_model.specs.Hull.{IsBody}
-use Rattle.qh_model.specs.Polygon.{IsPolygon}
-use Rattle.qh_model.specs.Polygons.{IsFlatFace, PointsForward}
-use Rattle.qh_model.specs.Predicates.{place, cross, AreInLine}
-use Rattle.qh_model.specs.Sets.{In, Members}
-use Rattle.qh_model.specs.Vector.{Vector, origin, minus}
+use Rattle.qh_model.specs.headline.Dimension.{HasTriangle}
+use Rattle.qh_model.specs.contract.IdSets.{IsIdSet}
+use Rattle.qh_model.specs.headline.Extreme.{Extreme}
+use Rattle.qh_model.specs.headline.Hull.{IsBody}
+use Rattle.qh_model.specs.headline.Polygon.{IsPolygon}
+use Rattle.qh_model.specs.headline.Polygons.{IsFlatFace, PointsForward}
+use Rattle.qh_model.specs.headline.Predicates.{place, cross, AreInLine}
+use Rattle.qh_model.specs.headline.Sets.{In, Members}
+use Rattle.qh_model.specs.headline.Vector.{Vector, origin, minus}
 use Rattle.qh_model.proofs.Members.{In-get_or, in_at}
 use Rattle.qh_model.proofs.algebra.VectorIdentities.{vector_path, in_line-twice, opposite, in_line-last}
 use Rattle.qh_model.proofs.extremes.Dimensions.{triangle_of}
 use Rattle.qh_model.proofs.extremes.Directions.{cross-flip, in_line-flip}
 use Rattle.qh_model.proofs.extremes.ExtremeIds.{listed_itself, combination_of_extremes}
 use Rattle.qh_plane.proofs.ShapeDimension.{flat}
-use Rattle.qh_plane.specs.PlanarSets.{IsPlanarSet}
-use Rattle.qh_plane.specs.Shapes.{IsInLine, IsInPlane, Each, IsFirstNot, AreFirstTwo}
-use Rattle.qh_block.specs.FlatBodies.{polygon_body}
+use Rattle.qh_plane.specs.contract.PlanarSets.{IsPlanarSet}
+use Rattle.qh_plane.specs.contract.Shapes.{IsInLine, IsInPlane, Each, IsFirstNot, AreFirstTwo}
+use Rattle.qh_block.specs.steps.FlatBodies.{polygon_body}
 use Rattle.qh_block.proofs.flats.Edges.{edge_count}
 
 -- ---- at least three members

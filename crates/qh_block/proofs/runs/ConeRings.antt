@@ -3,27 +3,27 @@ use Rattle.std.proofs.Common.{◌≡◌, ℕ, ◌+◌, ◌*◌, ◌/◌, ◌%◌
 use Rattle.std.specs.Prelude.{ℤ, pos, ◌≤ℤ◌, ◌<ℤ◌, neg_ℤ}
 use Rattle.std.proofs.lemmas.Int.{ints, by_lt_z}
 use Rattle.std.proofs.lemmas.List.{get_or_append_left, get_or_push, length_push}
-use Rattle.qh_model.specs.Vector.{Vector, origin}
-use Rattle.qh_model.specs.Predicates.{vol, place}
-use Rattle.qh_model.specs.Weighted.{Weighted}
-use Rattle.qh_model.specs.FinishedSurface.{weighted_at, middle_at}
-use Rattle.qh_model.specs.Simplex.{one_of, by_side}
-use Rattle.qh_model.specs.Surface.Side.{first, second, third}
-use Rattle.qh_model.specs.StoredSurface.{StoredFacet, facet_at, surface_of}
+use Rattle.qh_model.specs.headline.Vector.{Vector, origin}
+use Rattle.qh_model.specs.headline.Predicates.{vol, place}
+use Rattle.qh_model.specs.contract.Weighted.{Weighted}
+use Rattle.qh_model.specs.contract.FinishedSurface.{weighted_at, middle_at}
+use Rattle.qh_model.specs.contract.Simplex.{one_of, by_side}
+use Rattle.qh_model.specs.contract.Surface.Side.{first, second, third}
+use Rattle.qh_model.specs.contract.StoredSurface.{StoredFacet, facet_at, surface_of}
 use Rattle.qh_model.proofs.algebra.Signs.{equal_nonpos, equal_negative}
 use Rattle.qh_model.proofs.algebra.VectorIdentities.{vol-flip, vol-flip_last, vol-swap_last}
 use Rattle.qh_model.proofs.surfaces.ConeRays.{between_rays}
 use Rattle.qh_model.proofs.surfaces.SurfaceLaws.{corners_are_settled}
-use Rattle.qh_pred.specs.Planes.{PlaneValue, height}
+use Rattle.qh_pred.specs.contract.Planes.{PlaneValue, height}
 use Rattle.qh_mesh.specs.declared.facets.FacetNo.{FacetNo}
-use Rattle.qh_mesh.specs.Replacement.{number, IsLive, IsReplacement, twin_of, side_of_edge}
-use Rattle.qh_mesh.specs.SoundMesh.{IsSoundMesh}
+use Rattle.qh_mesh.specs.contract.Replacement.{number, IsLive, IsReplacement, twin_of, side_of_edge}
+use Rattle.qh_mesh.specs.contract.SoundMesh.{IsSoundMesh}
 use Rattle.qh_mesh.proofs.Rewiring.{in_live, rise-vol}
 use Rattle.qh_mesh.proofs.NumberCases.{by_le}
-use Rattle.qh_block.specs.Planes.{plane_at}
-use Rattle.qh_block.specs.Runs.{Names, IsPlaneOf, IsGrown}
-use Rattle.qh_block.specs.Settling.{IsAboveNone}
-use Rattle.qh_block.specs.Cones.{IsFan, apex_of, HasNoCornerAbove, wedge_at, IsConePlane, IsWedge, AreWedges, AreTriangles, IsSeenBy, IsBetweenRays, IsAmongRays}
+use Rattle.qh_block.specs.steps.Planes.{plane_at}
+use Rattle.qh_block.specs.steps.Runs.{Names, IsPlaneOf, IsGrown}
+use Rattle.qh_block.specs.steps.Settling.{IsAboveNone}
+use Rattle.qh_block.specs.steps.Cones.{IsFan, apex_of, HasNoCornerAbove, wedge_at, IsConePlane, IsWedge, AreWedges, AreTriangles, IsSeenBy, IsBetweenRays, IsAmongRays}
 use Rattle.qh_block.specs.declared.quickhull.cone_ring.Wedge.{Wedge}
 
 -- ---- the facets of a cone

@@ -2,25 +2,25 @@
 use Rattle.std.proofs.Common.{◌≡◌, ℕ, ◌<◌, ◌≤◌, arith, sym, ◌∙◌, refl, ◌⊎◌, inl, inr, List, [], ◌∷◌, length, subst}
 use Rattle.std.specs.Prelude.{pos, ◌<ℤ◌, ◌≤ℤ◌}
 use Rattle.std.proofs.lemmas.Int.{ints}
-use Rattle.qh_model.specs.Vector.{Vector, origin}
-use Rattle.qh_model.specs.Predicates.{place}
-use Rattle.qh_model.specs.Sets.{In, Members}
-use Rattle.qh_model.specs.FinishedSurface.{IsFinished}
-use Rattle.qh_model.specs.Surface.{IsCorner}
-use Rattle.qh_model.specs.StoredSurface.{StoredFacet, facet_at, surface_of}
-use Rattle.qh_model.specs.SupportingPlane.{IsSupportingTriple}
-use Rattle.qh_model.specs.ClosedSurface.{signed_volume, triples_from}
+use Rattle.qh_model.specs.headline.Vector.{Vector, origin}
+use Rattle.qh_model.specs.headline.Predicates.{place}
+use Rattle.qh_model.specs.headline.Sets.{In, Members}
+use Rattle.qh_model.specs.contract.FinishedSurface.{IsFinished}
+use Rattle.qh_model.specs.contract.Surface.{IsCorner}
+use Rattle.qh_model.specs.contract.StoredSurface.{StoredFacet, facet_at, surface_of}
+use Rattle.qh_model.specs.headline.SupportingPlane.{IsSupportingTriple}
+use Rattle.qh_model.specs.contract.ClosedSurface.{signed_volume, triples_from}
 use Rattle.qh_model.proofs.Members.{All-In, in_at}
 use Rattle.qh_model.proofs.surfaces.Finished.{facets_support}
-use Rattle.qh_pred.specs.Planes.{PlaneValue}
-use Rattle.qh_plane.specs.PlaceKeys.{AreIndices}
+use Rattle.qh_pred.specs.contract.Planes.{PlaneValue}
+use Rattle.qh_model.specs.contract.IdSets.{AreIndices}
 use Rattle.qh_mesh.specs.declared.facets.FacetNo.{FacetNo}
-use Rattle.qh_mesh.specs.Replacement.{IsLive}
-use Rattle.qh_mesh.specs.SoundMesh.{facet_vol, IsClosedMesh}
+use Rattle.qh_mesh.specs.contract.Replacement.{IsLive}
+use Rattle.qh_mesh.specs.contract.SoundMesh.{facet_vol, IsClosedMesh}
 use Rattle.qh_mesh.proofs.Rewiring.{live_in, in_live}
-use Rattle.qh_block.specs.Planes.{ArePlanes}
-use Rattle.qh_block.specs.OutsideSets.{OutsideValue, set_of}
-use Rattle.qh_block.specs.Runs.{IsDone, Names, AreWithin, IsOutside, HasCornersIn, HasCornersBelow, IsGrown, IsUnderWay, IsSettling, IsRemade}
+use Rattle.qh_block.specs.steps.Planes.{ArePlanes}
+use Rattle.qh_block.specs.steps.OutsideSets.{OutsideValue, set_of}
+use Rattle.qh_block.specs.steps.Runs.{IsDone, Names, AreWithin, IsOutside, HasCornersIn, HasCornersBelow, IsGrown, IsUnderWay, IsSettling, IsRemade}
 
 -- ids are indices
 pub corners_below : (pts : List Vector) (ids : List ℕ) (fs : List StoredFacet) → AreIndices pts ids → HasCornersIn ids fs → HasCornersBelow (length pts) fs

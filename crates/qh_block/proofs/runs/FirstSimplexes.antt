@@ -4,23 +4,23 @@ use Rattle.std.specs.Prelude.{slice_index_or, ℤ, pos, ◌<ℤ◌, ◌≤ℤ◌
 use Rattle.std.specs.List.{range_with_len}
 use Rattle.std.proofs.lemmas.List.FromFn.{get_or-range_with_len, length-range_with_len}
 use Rattle.std.proofs.lemmas.Int.{ints, by_lt_z}
-use Rattle.qh_model.specs.Vector.{Vector}
-use Rattle.qh_model.specs.Predicates.{place, vol}
-use Rattle.qh_model.specs.Sets.{In, Members}
-use Rattle.qh_model.specs.Weighted.{weighted}
-use Rattle.qh_model.specs.FinishedSurface.{middle_at}
-use Rattle.qh_model.specs.StoredSurface.{StoredFacet}
+use Rattle.qh_model.specs.headline.Vector.{Vector}
+use Rattle.qh_model.specs.headline.Predicates.{place, vol}
+use Rattle.qh_model.specs.headline.Sets.{In, Members}
+use Rattle.qh_model.specs.contract.Weighted.{weighted}
+use Rattle.qh_model.specs.contract.FinishedSurface.{middle_at}
+use Rattle.qh_model.specs.contract.StoredSurface.{StoredFacet}
 use Rattle.qh_model.proofs.Members.{In-get_or}
 use Rattle.qh_model.proofs.algebra.VectorIdentities.{vol-flip_last}
-use Rattle.qh_plane.specs.Shapes.{IsFirstNot, dimension_of}
+use Rattle.qh_plane.specs.contract.Shapes.{IsFirstNot, dimension_of}
 use Rattle.qh_plane.specs.declared.shape.Shape.{Shape}
 use Rattle.qh_plane.specs.declared.shape.Shape.TheVariants.{Point, Segment, Flat, Solid}
 use Rattle.qh_mesh.specs.declared.facets.FacetNo.{FacetNo}
-use Rattle.qh_mesh.specs.Replacement.{number, IsLive}
-use Rattle.qh_mesh.specs.SoundMesh.{IsSoundMesh, IsClosedMesh, simplex_facets}
+use Rattle.qh_mesh.specs.contract.Replacement.{number, IsLive}
+use Rattle.qh_mesh.specs.contract.SoundMesh.{IsSoundMesh, IsClosedMesh, simplex_facets}
 use Rattle.qh_mesh.proofs.SoundMeshes.{middle-turned}
-use Rattle.qh_block.specs.OutsideSets.{OutsideValue, set_of}
-use Rattle.qh_block.specs.Runs.{height_at, Names, HasCornersIn, IsRemade}
+use Rattle.qh_block.specs.steps.OutsideSets.{OutsideValue, set_of}
+use Rattle.qh_block.specs.steps.Runs.{height_at, Names, HasCornersIn, IsRemade}
 
 -- the four facets of a simplex
 abbrev pub four_facets : List FacetNo

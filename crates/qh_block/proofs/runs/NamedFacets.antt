@@ -2,10 +2,10 @@
 use Rattle.std.proofs.Common.{◌≡◌, ℕ, ◌<◌, ◌≤◌, arith, ap, sym, ◌∙◌, refl, ◌⊎◌, inl, inr, List, [], ◌∷◌, ◌++◌, length, true, take}
 use Rattle.std.proofs.lemmas.List.{get_or_append_left, get_or_push, length_push, get_or-take, length-take-le}
 use Rattle.qh_mesh.specs.declared.facets.FacetNo.{FacetNo}
-use Rattle.qh_mesh.specs.Replacement.{number, is_listed}
+use Rattle.qh_mesh.specs.contract.Replacement.{number, is_listed}
 use Rattle.qh_mesh.proofs.ListedFacets.{listed_at, listed_find}
 use Rattle.qh_mesh.proofs.NumberCases.{by_le}
-use Rattle.qh_block.specs.Runs.{Names, AreWithin}
+use Rattle.qh_block.specs.steps.Runs.{Names, AreWithin}
 
 -- the empty list names none
 pub names_none : (f : ℕ) → Names [] f → ⊥

@@ -1,12 +1,12 @@
 -- A run over the ids in another order.
 use Rattle.std.proofs.Common.{◌≡◌, ℕ, ◌<◌, List, length, sym, subst, IsPermutation}
 use Rattle.std.proofs.lemmas.List.Sorted.{IsPermutation-sym}
-use Rattle.qh_model.specs.Vector.{Vector}
-use Rattle.qh_model.specs.Sets.{Members}
-use Rattle.qh_model.specs.FinishedSurface.{IsFinished}
-use Rattle.qh_model.specs.Surface.{Surface}
+use Rattle.qh_model.specs.headline.Vector.{Vector}
+use Rattle.qh_model.specs.headline.Sets.{Members}
+use Rattle.qh_model.specs.contract.FinishedSurface.{IsFinished}
+use Rattle.qh_model.specs.contract.Surface.{Surface}
 use Rattle.qh_model.proofs.Members.{All-In, All-of, in_permutation}
-use Rattle.qh_plane.specs.PlaceKeys.{AreIndices}
+use Rattle.qh_model.specs.contract.IdSets.{AreIndices}
 
 -- a slice of a vector has its ids
 pub lent : (ids items now : List ℕ) → IsPermutation ids items → now ≡ items → IsPermutation ids now

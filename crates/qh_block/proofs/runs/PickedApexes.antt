@@ -3,13 +3,13 @@ use Rattle.std.proofs.Common.{◌≡◌, ℕ, ◌<◌, arith, ap, sym, ◌∙◌
 use Rattle.std.specs.Prelude.{slice_set, slice_index_or}
 use Rattle.std.proofs.lemmas.Bool.{cases_eq}
 use Rattle.std.proofs.lemmas.List.{set-get_or, length-set}
-use Rattle.qh_model.specs.Vector.{Vector}
-use Rattle.qh_model.specs.Sets.{In}
-use Rattle.qh_model.specs.StoredSurface.{StoredFacet}
-use Rattle.qh_pred.specs.Planes.{PlaneValue}
+use Rattle.qh_model.specs.headline.Vector.{Vector}
+use Rattle.qh_model.specs.headline.Sets.{In}
+use Rattle.qh_model.specs.contract.StoredSurface.{StoredFacet}
+use Rattle.qh_pred.specs.contract.Planes.{PlaneValue}
 use Rattle.qh_mesh.specs.declared.facets.FacetNo.{FacetNo}
-use Rattle.qh_block.specs.OutsideSets.{OutsideValue, set_of}
-use Rattle.qh_block.specs.Runs.{IsDone, Names, IsOutside, IsUnderWay, IsPicked}
+use Rattle.qh_block.specs.steps.OutsideSets.{OutsideValue, set_of}
+use Rattle.qh_block.specs.steps.Runs.{IsDone, Names, IsOutside, IsUnderWay, IsPicked}
 use Rattle.qh_block.proofs.runs.NamedFacets.{names_push, within_rest, within_last, names_none}
 use Rattle.qh_block.proofs.runs.SetWrites.{of_write, write_has, write_keeps}
 

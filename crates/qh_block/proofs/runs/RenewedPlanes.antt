@@ -3,16 +3,16 @@ use Rattle.std.proofs.Common.{◌≡◌, ℕ, ◌+◌, ◌<◌, ◌≤◌, arith
 use Rattle.std.specs.Prelude.{slice_set, slice_index_or}
 use Rattle.std.proofs.lemmas.Bool.{cases_eq}
 use Rattle.std.proofs.lemmas.List.{get_or-set_same, get_or-set_other, length-set}
-use Rattle.qh_model.specs.Vector.{Vector}
-use Rattle.qh_model.specs.Predicates.{place}
-use Rattle.qh_model.specs.StoredSurface.{StoredFacet}
-use Rattle.qh_pred.specs.Planes.{PlaneValue, height}
+use Rattle.qh_model.specs.headline.Vector.{Vector}
+use Rattle.qh_model.specs.headline.Predicates.{place}
+use Rattle.qh_model.specs.contract.StoredSurface.{StoredFacet}
+use Rattle.qh_pred.specs.contract.Planes.{PlaneValue, height}
 use Rattle.qh_mesh.specs.declared.facets.FacetNo.{FacetNo}
-use Rattle.qh_mesh.specs.Replacement.{number, IsLive}
-use Rattle.qh_mesh.specs.SoundMesh.{facet_vol}
+use Rattle.qh_mesh.specs.contract.Replacement.{number, IsLive}
+use Rattle.qh_mesh.specs.contract.SoundMesh.{facet_vol}
 use Rattle.qh_mesh.proofs.NumberCases.{by_le}
-use Rattle.qh_block.specs.Planes.{no_plane, plane_at}
-use Rattle.qh_block.specs.Runs.{Names, IsPlaneOf}
+use Rattle.qh_block.specs.steps.Planes.{no_plane, plane_at}
+use Rattle.qh_block.specs.steps.Runs.{Names, IsPlaneOf}
 
 -- facet f is one of those from i on
 abbrev pub IsLater : List FacetNo → ℕ → ℕ → Type 0

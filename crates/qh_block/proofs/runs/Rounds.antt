@@ -3,28 +3,29 @@ use Rattle.std.proofs.Common.{◌≡◌, ℕ, ◌<◌, arith, ap, sym, ◌∙◌
 use Rattle.std.specs.Prelude.{slice_index, pos, ◌<ℤ◌, ◌≤ℤ◌}
 use Rattle.std.proofs.lemmas.List.{get_or-map}
 use Rattle.std.proofs.lemmas.Bool.{cases_Bool}
-use Rattle.qh_model.specs.Vector.{Vector}
-use Rattle.qh_model.specs.Predicates.{vol, place}
-use Rattle.qh_model.specs.Sets.{In}
-use Rattle.qh_model.specs.Weighted.{Weighted, above}
-use Rattle.qh_model.specs.FinishedSurface.{weighted_at, middle_at}
-use Rattle.qh_model.specs.Surface.{Side, start, end, IsBlindTo, rise}
-use Rattle.qh_model.specs.Surface.Side.{first, second, third}
-use Rattle.qh_model.specs.Rewired.{IsHorizonSide, IsConeUnseen, IsRewired}
-use Rattle.qh_model.specs.StoredSurface.{StoredFacet, facet_at, surface_of}
+use Rattle.qh_model.specs.headline.Vector.{Vector}
+use Rattle.qh_model.specs.headline.Predicates.{vol, place}
+use Rattle.qh_model.specs.headline.Sets.{In}
+use Rattle.qh_model.specs.contract.Weighted.{Weighted, above}
+use Rattle.qh_model.specs.contract.FinishedSurface.{weighted_at, middle_at}
+use Rattle.qh_model.specs.contract.Surface.{Side, start, end, IsBlindTo, rise}
+use Rattle.qh_model.specs.contract.Surface.Side.{first, second, third}
+use Rattle.qh_model.specs.contract.Rewired.{IsHorizonSide, IsRewired}
+use Rattle.qh_model.specs.laws.Horizons.{IsConeUnseen}
+use Rattle.qh_model.specs.contract.StoredSurface.{StoredFacet, facet_at, surface_of}
 use Rattle.qh_model.proofs.Members.{In-get_or}
 use Rattle.qh_model.proofs.surfaces.SurfaceLaws.{rise_is_vol, settled_stay_unseen, corners_are_settled, added_is_settled}
 use Rattle.qh_model.proofs.surfaces.Unseen.{dropped_stay_unseen}
 use Rattle.qh_model.proofs.algebra.Signs.{not_less}
-use Rattle.qh_pred.specs.Planes.{PlaneValue}
+use Rattle.qh_pred.specs.contract.Planes.{PlaneValue}
 use Rattle.qh_mesh.specs.declared.facets.FacetNo.{FacetNo}
-use Rattle.qh_mesh.specs.Replacement.{number, is_listed, IsLive, IsKept, StaysFacet, IsReplacement}
-use Rattle.qh_mesh.specs.SoundMesh.{facet_vol, IsSoundMesh, IsClosedMesh, AreVisible}
+use Rattle.qh_mesh.specs.contract.Replacement.{number, is_listed, IsLive, IsKept, StaysFacet, IsReplacement}
+use Rattle.qh_mesh.specs.contract.SoundMesh.{facet_vol, IsSoundMesh, IsClosedMesh, AreVisible}
 use Rattle.qh_mesh.proofs.Rewiring.{live_in, in_live, rise-vol}
-use Rattle.qh_block.specs.Planes.{ArePlanes}
-use Rattle.qh_block.specs.OutsideSets.{OutsideValue, set_of}
-use Rattle.qh_block.specs.Runs.{height_at, IsDone, Names, IsOutside, HasCornersIn, IsPicked, IsPlaneOf, IsRemade}
-use Rattle.qh_block.specs.Settling.{AreReleased}
+use Rattle.qh_block.specs.steps.Planes.{ArePlanes}
+use Rattle.qh_block.specs.steps.OutsideSets.{OutsideValue, set_of}
+use Rattle.qh_block.specs.steps.Runs.{height_at, IsDone, Names, IsOutside, HasCornersIn, IsPicked, IsPlaneOf, IsRemade}
+use Rattle.qh_block.specs.steps.Settling.{AreReleased}
 use Rattle.qh_block.proofs.runs.NamedFacets.{names_listed, listed_names}
 use Rattle.qh_block.proofs.LiveFacets.{live_below}
 
@@ -71,7 +72,7 @@ cone_unseen at old new vs p made o q z d r h f i s k b = subst (λ v. v ≤ℤ p
     g : ℕ
     g = r.number f s
 
-    t : Rattle.qh_model.specs.Rewired.IsTriangle (surface_of new) (r.number f s) (start (surface_of old) f s) (end (surface_of old) f s) p
+    t : Rattle.qh_model.specs.contract.Rewired.IsTriangle (surface_of new) (r.number f s) (start (surface_of old) f s) (end (surface_of old) f s) p
     t = r.cone f s (record { live = i; seen = k; blind = b })
 
     same : above (weighted_at at (start (surface_of old) f s)) (weighted_at at (end (surface_of old) f s)) (weighted_at at p) (weighted_at at q) ≡ facet_vol at new (r.number f s) (at q)

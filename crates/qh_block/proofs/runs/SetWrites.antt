@@ -3,9 +3,9 @@ use Rattle.std.proofs.Common.{◌≡◌, ℕ, ◌-◌, ◌<◌, arith, ap, sym, 
 use Rattle.std.proofs.Math.ListN.{set}
 use Rattle.std.proofs.lemmas.Bool.{cases_eq}
 use Rattle.std.proofs.lemmas.List.{get_or-set_same, get_or-set_other, set_past, get_or_past, get_or_append_left, get_or-append_right, get_or-replicate, length-replicate}
-use Rattle.qh_model.specs.Sets.{In}
+use Rattle.qh_model.specs.headline.Sets.{In}
 use Rattle.qh_mesh.proofs.NumberCases.{by_le}
-use Rattle.qh_block.specs.OutsideSets.{joined}
+use Rattle.qh_block.specs.steps.OutsideSets.{joined}
 
 -- a member after a write is one of what was written, or was one
 pub of_write : (xs : List (List ℕ)) (f : ℕ) (ys : List ℕ) (g q : ℕ) → In q (get_or (set xs f ys) g []) → ((g ≡ f) × In q ys) ⊎ In q (get_or xs g [])

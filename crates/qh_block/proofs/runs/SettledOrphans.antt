@@ -3,18 +3,18 @@ use Rattle.std.proofs.Common.{◌≡◌, ℕ, ◌<◌, ap, sym, ◌∙◌, refl,
 use Rattle.std.specs.Prelude.{slice_set, slice_index, slice_index_or, pos, ◌<ℤ◌, ◌≤ℤ◌}
 use Rattle.std.proofs.lemmas.Bool.{cases_eq}
 use Rattle.std.proofs.lemmas.List.{get_or-map}
-use Rattle.qh_model.specs.Vector.{Vector, origin}
-use Rattle.qh_model.specs.Predicates.{place}
-use Rattle.qh_model.specs.Sets.{In}
-use Rattle.qh_model.specs.StoredSurface.{StoredFacet}
+use Rattle.qh_model.specs.headline.Vector.{Vector, origin}
+use Rattle.qh_model.specs.headline.Predicates.{place}
+use Rattle.qh_model.specs.headline.Sets.{In}
+use Rattle.qh_model.specs.contract.StoredSurface.{StoredFacet}
 use Rattle.qh_model.proofs.lists.Joined.{of_append}
-use Rattle.qh_pred.specs.Planes.{PlaneValue, height}
+use Rattle.qh_pred.specs.contract.Planes.{PlaneValue, height}
 use Rattle.qh_mesh.specs.declared.facets.FacetNo.{FacetNo}
-use Rattle.qh_mesh.specs.Replacement.{number, IsLive}
-use Rattle.qh_block.specs.Planes.{plane_at, ArePlanes}
-use Rattle.qh_block.specs.OutsideSets.{OutsideValue, set_of, joined}
-use Rattle.qh_block.specs.Runs.{height_at, IsDone, Names, AreWithin, IsOutside, IsSettling}
-use Rattle.qh_block.specs.Settling.{IsDropped, IsAssigned, IsOneSettled, AreReleased}
+use Rattle.qh_mesh.specs.contract.Replacement.{number, IsLive}
+use Rattle.qh_block.specs.steps.Planes.{plane_at, ArePlanes}
+use Rattle.qh_block.specs.steps.OutsideSets.{OutsideValue, set_of, joined}
+use Rattle.qh_block.specs.steps.Runs.{height_at, IsDone, Names, AreWithin, IsOutside, IsSettling}
+use Rattle.qh_block.specs.steps.Settling.{IsDropped, IsAssigned, IsOneSettled, AreReleased}
 use Rattle.qh_block.proofs.runs.NamedFacets.{names_kept, names_last, names_push, names_within, names_none}
 use Rattle.qh_block.proofs.runs.SetWrites.{of_write, write_has, write_keeps, write_empty, of_joined, joined_has, joined_keeps, append_left, append_right}
 

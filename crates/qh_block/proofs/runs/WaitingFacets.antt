@@ -1,9 +1,9 @@
 -- The facets that were made wait for their turn if they have an outside set.
 use Rattle.std.proofs.Common.{◌≡◌, ℕ, ◌<◌, ap, sym, ◌∙◌, ◌⊎◌, inl, inr, List, [], ◌∷◌, ◌++◌, length, subst}
-use Rattle.qh_model.specs.Sets.{In}
+use Rattle.qh_model.specs.headline.Sets.{In}
 use Rattle.qh_mesh.specs.declared.facets.FacetNo.{FacetNo}
-use Rattle.qh_block.specs.OutsideSets.{OutsideValue, set_of}
-use Rattle.qh_block.specs.Runs.{Names, AreWithin}
+use Rattle.qh_block.specs.steps.OutsideSets.{OutsideValue, set_of}
+use Rattle.qh_block.specs.steps.Runs.{Names, AreWithin}
 use Rattle.qh_block.proofs.runs.NamedFacets.{names_kept, names_last, names_push, within_push, names_none}
 
 -- those that waited, and of those made the ones with an outside set

@@ -4,12 +4,12 @@
 //! are met. In that order a search can find the one facet of which a point need be asked
 //! (`cone_search`). The ring begins where the cone is strictly convex.
 ghost use Rattle.std.specs.Prelude.{◌≡◌, ◌+◌, ◌*◌, ◌/◌, ◌<◌, ◌⊎◌, ℕ, List, length, OnOk, [], pos, IfOk};
-ghost use Rattle.qh_model.specs.Predicates.{place};
-ghost use Rattle.qh_model.specs.StoredSurface.{facet_at};
-ghost use Rattle.qh_mesh.specs.Replacement.{IsLive, number, twin_of};
-ghost use Rattle.qh_block.specs.Planes.{plane_at};
-ghost use Rattle.qh_block.specs.Runs.{HasCornersBelow, IsPlaneOf, Names};
-ghost use Rattle.qh_block.specs.Cones.{HasNoCornerAbove, IsFan, AreWedges, apex_of};
+ghost use Rattle.qh_model.specs.headline.Predicates.{place};
+ghost use Rattle.qh_model.specs.contract.StoredSurface.{facet_at};
+ghost use Rattle.qh_mesh.specs.contract.Replacement.{IsLive, number, twin_of};
+ghost use Rattle.qh_block.specs.steps.Planes.{plane_at};
+ghost use Rattle.qh_block.specs.steps.Runs.{HasCornersBelow, IsPlaneOf, Names};
+ghost use Rattle.qh_block.specs.steps.Cones.{HasNoCornerAbove, IsFan, AreWedges, apex_of};
 
 use qh_mesh::{FacetNo, Mesh};
 use qh_model::{Memory, Point};

@@ -6,10 +6,10 @@
 //! Source: Barber, Dobkin and Huhdanpaa 1996 (the first simplex has points with the least and the
 //! greatest coordinates).
 ghost use Rattle.std.specs.Prelude.{◌≡◌, ◌≢◌, ◌<◌, pos, length};
-ghost use Rattle.qh_model.specs.Predicates.{place, vol};
-ghost use Rattle.qh_model.specs.Sets.{Members};
-ghost use Rattle.qh_plane.specs.PlaceKeys.{AreIndices};
-ghost use Rattle.qh_block.specs.Simplexes.{IsSimplexOf};
+ghost use Rattle.qh_model.specs.headline.Predicates.{place, vol};
+ghost use Rattle.qh_model.specs.headline.Sets.{Members};
+ghost use Rattle.qh_model.specs.contract.IdSets.{AreIndices};
+ghost use Rattle.qh_block.specs.steps.Simplexes.{IsSimplexOf};
 
 use qh_model::{COORDINATE_LIMIT, Id, Point};
 use qh_pred::{Plane, cross, point_at, vol};

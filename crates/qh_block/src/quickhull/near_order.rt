@@ -5,8 +5,8 @@
 //!
 //! Source: Morton 1966 (the order of cells along a Z-shaped curve).
 ghost use Rattle.std.specs.Prelude.{◌≡◌, IfOk, map, IsPermutation};
-ghost use Rattle.qh_plane.specs.PlaceKeys.{AreIndices};
-ghost use Rattle.qh_block.specs.NearOrder.{id_of};
+ghost use Rattle.qh_model.specs.contract.IdSets.{AreIndices};
+ghost use Rattle.qh_block.specs.steps.NearOrder.{id_of};
 
 use qh_model::{COORDINATE_LIMIT, Id, Memory, Point};
 use qh_pred::point_at;

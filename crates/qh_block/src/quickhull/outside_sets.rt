@@ -11,7 +11,7 @@
 //! go are partitioned among the new facets).
 ghost use Rattle.std.specs.Prelude.{◌≡◌, ◌+◌, ◌-◌, ◌<◌, ◌≤◌, ◌↔◌, ℕ, IsTrue, IfSome, IsNone, IfOk, OnOk, OnErr, length, drop, [], ◌∷◌, ◌++◌, slice_set, slice_index, replicate, true, false, ◌≢◌};
 ghost use Rattle.std.specs.List.{range_with_len};
-ghost use Rattle.qh_block.specs.OutsideSets.{set_of, listed, joined};
+ghost use Rattle.qh_block.specs.steps.OutsideSets.{set_of, listed, joined};
 
 use qh_mesh::FacetNo;
 use qh_model::Memory;
@@ -69,11 +69,11 @@ pub struct OutsideSets {
 }
 
 impl Model for OutsideSets {
-    ghost use Rattle.qh_block.specs.OutsideSets.{OutsideValue};
+    ghost use Rattle.qh_block.specs.steps.OutsideSets.{OutsideValue};
 
     ghost Value = { OutsideValue };
 
-    ghost use Rattle.qh_block.specs.PositionChains.{value_of, IsKept};
+    ghost use Rattle.qh_block.specs.steps.PositionChains.{value_of, IsKept};
 
     ghost view = { λ s. value_of s.links.items s.ends.items s.orphan };
 

@@ -1,12 +1,12 @@
 //! The planes of a mesh, by the places of its facets.
 ghost use Rattle.std.specs.Prelude.{◌≡◌, ◌≤◌, ◌<◌, ◌⊎◌, ℕ, length, OnOk};
-ghost use Rattle.qh_model.specs.Vector.{Vector};
-ghost use Rattle.qh_model.specs.Predicates.{place};
-ghost use Rattle.qh_pred.specs.Planes.{height};
-ghost use Rattle.qh_mesh.specs.Replacement.{IsLive, number};
-ghost use Rattle.qh_mesh.specs.SoundMesh.{facet_vol};
-ghost use Rattle.qh_block.specs.Planes.{plane_at};
-ghost use Rattle.qh_block.specs.Runs.{IsPlaneOf, Names, HasCornersBelow};
+ghost use Rattle.qh_model.specs.headline.Vector.{Vector};
+ghost use Rattle.qh_model.specs.headline.Predicates.{place};
+ghost use Rattle.qh_pred.specs.contract.Planes.{height};
+ghost use Rattle.qh_mesh.specs.contract.Replacement.{IsLive, number};
+ghost use Rattle.qh_mesh.specs.contract.SoundMesh.{facet_vol};
+ghost use Rattle.qh_block.specs.steps.Planes.{plane_at};
+ghost use Rattle.qh_block.specs.steps.Runs.{IsPlaneOf, Names, HasCornersBelow};
 
 use qh_mesh::{FacetNo, Mesh};
 use qh_model::Point;

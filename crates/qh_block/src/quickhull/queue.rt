@@ -1,11 +1,11 @@
 //! The facets that wait for their turn, the last one first.
 ghost use Rattle.std.specs.Prelude.{◌≡◌, ◌+◌, ◌<◌, ℕ, List, length, OnOk, IfNone, IfSome};
-ghost use Rattle.qh_model.specs.Vector.{Vector};
-ghost use Rattle.qh_model.specs.Sets.{In};
-ghost use Rattle.qh_model.specs.StoredSurface.{StoredFacet};
-ghost use Rattle.qh_pred.specs.Planes.{PlaneValue};
-ghost use Rattle.qh_block.specs.OutsideSets.{set_of, listed};
-ghost use Rattle.qh_block.specs.Runs.{Names, AreWithin, IsDone, IsUnderWay, IsPicked};
+ghost use Rattle.qh_model.specs.headline.Vector.{Vector};
+ghost use Rattle.qh_model.specs.headline.Sets.{In};
+ghost use Rattle.qh_model.specs.contract.StoredSurface.{StoredFacet};
+ghost use Rattle.qh_pred.specs.contract.Planes.{PlaneValue};
+ghost use Rattle.qh_block.specs.steps.OutsideSets.{set_of, listed};
+ghost use Rattle.qh_block.specs.steps.Runs.{Names, AreWithin, IsDone, IsUnderWay, IsPicked};
 
 use crate::quickhull::outside_sets::OutsideSets;
 use qh_mesh::FacetNo;

@@ -1,13 +1,13 @@
 //! A run of Quickhull: rounds in each of which one point becomes a corner.
 ghost use Rattle.std.specs.Prelude.{◌≡◌, ◌≤◌, ◌<◌, ◌≢◌, ℕ, List, length, map, pos, OnOk, IfOk};
-ghost use Rattle.qh_model.specs.Vector.{Vector};
-ghost use Rattle.qh_model.specs.Predicates.{place, vol};
-ghost use Rattle.qh_model.specs.Sets.{Members};
-ghost use Rattle.qh_mesh.specs.Replacement.{IsLive, number};
-ghost use Rattle.qh_plane.specs.PlaceKeys.{AreIndices};
-ghost use Rattle.qh_block.specs.OutsideSets.{listed};
-ghost use Rattle.qh_block.specs.Cones.{HasNoCornerAbove, IsFan};
-ghost use Rattle.qh_block.specs.Runs.{HasCornersBelow, IsDone, IsGrown, IsUnderWay, IsPicked, IsRemade};
+ghost use Rattle.qh_model.specs.headline.Vector.{Vector};
+ghost use Rattle.qh_model.specs.headline.Predicates.{place, vol};
+ghost use Rattle.qh_model.specs.headline.Sets.{Members};
+ghost use Rattle.qh_mesh.specs.contract.Replacement.{IsLive, number};
+ghost use Rattle.qh_model.specs.contract.IdSets.{AreIndices};
+ghost use Rattle.qh_block.specs.steps.OutsideSets.{listed};
+ghost use Rattle.qh_block.specs.steps.Cones.{HasNoCornerAbove, IsFan};
+ghost use Rattle.qh_block.specs.steps.Runs.{HasCornersBelow, IsDone, IsGrown, IsUnderWay, IsPicked, IsRemade};
 
 use crate::quickhull::cone_ring::{ConeRing, SCANNED};
 use crate::quickhull::outside_sets::OutsideSets;

@@ -1,16 +1,16 @@
 //! How the points of facets that go find their new outside sets.
 ghost use Rattle.std.specs.Prelude.{◌≡◌, ◌≤◌, ◌<◌, ℕ, List, [], ◌∷◌, length, drop, map, pos, ◌<ℤ◌, IfNone, IfSome};
-ghost use Rattle.qh_model.specs.Vector.{Vector};
-ghost use Rattle.qh_model.specs.Predicates.{place};
-ghost use Rattle.qh_model.specs.StoredSurface.{StoredFacet};
-ghost use Rattle.qh_pred.specs.Planes.{height};
+ghost use Rattle.qh_model.specs.headline.Vector.{Vector};
+ghost use Rattle.qh_model.specs.headline.Predicates.{place};
+ghost use Rattle.qh_model.specs.contract.StoredSurface.{StoredFacet};
+ghost use Rattle.qh_pred.specs.contract.Planes.{height};
 ghost use Rattle.qh_mesh.specs.declared.facets.FacetNo.{FacetNo};
-ghost use Rattle.qh_mesh.specs.Replacement.{IsLive, number};
-ghost use Rattle.qh_block.specs.Planes.{plane_at, ArePlanes};
-ghost use Rattle.qh_block.specs.OutsideSets.{listed};
-ghost use Rattle.qh_block.specs.Runs.{Names, AreWithin, IsSettling};
-ghost use Rattle.qh_block.specs.Settling.{IsAboveNone, IsOneSettled, AreReleased};
-ghost use Rattle.qh_block.specs.Cones.{AreWedges};
+ghost use Rattle.qh_mesh.specs.contract.Replacement.{IsLive, number};
+ghost use Rattle.qh_block.specs.steps.Planes.{plane_at, ArePlanes};
+ghost use Rattle.qh_block.specs.steps.OutsideSets.{listed};
+ghost use Rattle.qh_block.specs.steps.Runs.{Names, AreWithin, IsSettling};
+ghost use Rattle.qh_block.specs.steps.Settling.{IsAboveNone, IsOneSettled, AreReleased};
+ghost use Rattle.qh_block.specs.steps.Cones.{AreWedges};
 
 use crate::quickhull::cone_ring::{ConeRing, SCANNED};
 use crate::quickhull::cone_search::Asked;

@@ -1,15 +1,15 @@
 //! The surface of a solid set.
 ghost use Rattle.std.specs.Prelude.{◌≡◌, ◌≢◌, ℕ, pos, IfOk};
-ghost use Rattle.qh_model.specs.Predicates.{place, vol};
-ghost use Rattle.qh_model.specs.Sets.{Members};
-ghost use Rattle.qh_model.specs.DistinctIds.{IsIdSet};
-ghost use Rattle.qh_model.specs.Dimension.{IsDimension};
-ghost use Rattle.qh_model.specs.SupportingPlane.{IsSupportingTriple};
-ghost use Rattle.qh_model.specs.FinishedSurface.{IsFinished};
-ghost use Rattle.qh_model.specs.StoredSurface.{facet_at, surface_of};
-ghost use Rattle.qh_mesh.specs.Replacement.{IsLive};
-ghost use Rattle.qh_mesh.specs.SoundMesh.{IsClosedMesh};
-ghost use Rattle.qh_plane.specs.PlaceKeys.{AreIndices};
+ghost use Rattle.qh_model.specs.headline.Predicates.{place, vol};
+ghost use Rattle.qh_model.specs.headline.Sets.{Members};
+ghost use Rattle.qh_model.specs.contract.IdSets.{IsIdSet};
+ghost use Rattle.qh_model.specs.headline.Dimension.{IsDimension};
+ghost use Rattle.qh_model.specs.headline.SupportingPlane.{IsSupportingTriple};
+ghost use Rattle.qh_model.specs.contract.FinishedSurface.{IsFinished};
+ghost use Rattle.qh_model.specs.contract.StoredSurface.{facet_at, surface_of};
+ghost use Rattle.qh_mesh.specs.contract.Replacement.{IsLive};
+ghost use Rattle.qh_mesh.specs.contract.SoundMesh.{IsClosedMesh};
+ghost use Rattle.qh_model.specs.contract.IdSets.{AreIndices};
 
 use crate::quickhull::far_simplex::{Simplex, far_simplex};
 use crate::quickhull::near_order::near_order;

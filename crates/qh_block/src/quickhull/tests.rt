@@ -1,8 +1,8 @@
 //! Outside sets against lists worked out by hand, and the walk against a look at every facet.
 ghost use Rattle.std.specs.Prelude.{◌<◌, ◌≤◌, ◌<ℤ◌, pos, IfOk, All, length};
-ghost use Rattle.qh_mesh.specs.Replacement.{IsLive};
-ghost use Rattle.qh_pred.specs.Planes.{height};
-ghost use Rattle.qh_block.specs.Planes.{plane_at};
+ghost use Rattle.qh_mesh.specs.contract.Replacement.{IsLive};
+ghost use Rattle.qh_pred.specs.contract.Planes.{height};
+ghost use Rattle.qh_block.specs.steps.Planes.{plane_at};
 
 use crate::quickhull::outside_sets::OutsideSets;
 use crate::quickhull::walk::Walk;

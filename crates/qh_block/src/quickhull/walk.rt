@@ -6,13 +6,13 @@
 //!
 //! Source: Barber, Dobkin and Huhdanpaa 1996 (the visible set is found by a search over neighbours).
 ghost use Rattle.std.specs.Prelude.{◌≡◌, ◌+◌, ◌/◌, ◌<◌, ◌≤◌, ◌<ℤ◌, pos, ℕ, OnOk, length, [], ◌∷◌, vec_len, vec_capacity};
-ghost use Rattle.qh_model.specs.Vector.{Vector};
-ghost use Rattle.qh_model.specs.Weighted.{Weighted};
-ghost use Rattle.qh_mesh.specs.Replacement.{IsLive, AreFacets, number, twin_of};
-ghost use Rattle.qh_mesh.specs.SoundMesh.{IsSoundMesh, AreVisible};
-ghost use Rattle.qh_pred.specs.Planes.{height};
-ghost use Rattle.qh_block.specs.Planes.{plane_at, ArePlanes};
-ghost use Rattle.qh_block.specs.Walks.{mark_at, IsCrossed, IsFurther, IsWalk};
+ghost use Rattle.qh_model.specs.headline.Vector.{Vector};
+ghost use Rattle.qh_model.specs.contract.Weighted.{Weighted};
+ghost use Rattle.qh_mesh.specs.contract.Replacement.{IsLive, AreFacets, number, twin_of};
+ghost use Rattle.qh_mesh.specs.contract.SoundMesh.{IsSoundMesh, AreVisible};
+ghost use Rattle.qh_pred.specs.contract.Planes.{height};
+ghost use Rattle.qh_block.specs.steps.Planes.{plane_at, ArePlanes};
+ghost use Rattle.qh_block.specs.steps.Walks.{mark_at, IsCrossed, IsFurther, IsWalk};
 
 use qh_mesh::{EdgeNo, FacetNo, Mesh};
 use qh_model::{Memory, Point};
@@ -36,7 +36,7 @@ pub struct Walk {
 impl Model for Walk {
     ghost use Rattle.std.specs.Prelude.{List, ℕ, ◌≤◌};
     ghost use Rattle.qh_mesh.specs.declared.facets.FacetNo.{FacetNo};
-    ghost use Rattle.qh_block.specs.Walks.{mark_at};
+    ghost use Rattle.qh_block.specs.steps.Walks.{mark_at};
 
     ghost Value = { List FacetNo };
 

@@ -1,5 +1,5 @@
 //! Rows of solid sets: their extreme ids, faces and edges.
-ghost use Rattle.qh_model.specs.Limits.{IsCoordinate};
+ghost use Rattle.qh_model.specs.headline.Limits.{IsCoordinate};
 
 use crate::{extremes, hull};
 use qh_model::{Body, Id, Memory, POINT_LIMIT, Point};

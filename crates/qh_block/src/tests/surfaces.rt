@@ -1,7 +1,7 @@
 //! The surfaces of solid sets, against a plain checker: each edge has its opposite, each triangle
 //! supports all points, and the counts are Euler's.
-ghost use Rattle.qh_model.specs.DistinctIds.{IsIdSet};
-ghost use Rattle.qh_plane.specs.PlaceKeys.{AreIndices};
+ghost use Rattle.qh_model.specs.contract.IdSets.{IsIdSet};
+ghost use Rattle.qh_model.specs.contract.IdSets.{AreIndices};
 
 use crate::surface;
 use qh_mesh::Mesh;

@@ -2,7 +2,7 @@
 -- Source: this project's own.
 use Rattle.std.specs.Prelude.{◌≡◌, ℕ, ◌<◌, List, length, slice_index_or, Option, Some, None}
 use Rattle.atomic_table.specs.Seated.{TableId}
-use Rattle.qh_model.specs.BoardMachine.{InSpan}
+use Rattle.qh_model.specs.contract.BoardMachine.{InSpan}
 use Rattle.qh_board.specs.declared.view.Setup.{Setup}
 use Rattle.qh_board.specs.declared.view.Record.{Record}
 use Rattle.qh_board.specs.contract.Records.{fresh_record}

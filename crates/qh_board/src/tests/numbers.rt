@@ -1,6 +1,6 @@
 //! What the tests reduce: the rising lists of the numbers of blocks.
 ghost use Rattle.std.specs.Prelude.{◌≡◌, ◌+◌, ◌*◌, [], ◌∷◌, ◌<◌, ℕ, IfOk};
-ghost use Rattle.qh_model.specs.BoardMachine.{InSpan};
+ghost use Rattle.qh_model.specs.contract.BoardMachine.{InSpan};
 ghost use Rattle.qh_board.specs.steps.Rising.{IsRisingListOf};
 
 use crate::Spans;

@@ -1,6 +1,6 @@
 //! Passes at work, and what they met.
 ghost use Rattle.std.specs.Prelude.{◌≡◌, IfOk, All, false, length};
-ghost use Rattle.qh_model.specs.BoardMachine.{InSpan};
+ghost use Rattle.qh_model.specs.contract.BoardMachine.{InSpan};
 ghost use Rattle.qh_board.specs.contract.Tokens.{IsOf, task_node};
 ghost use Rattle.qh_board.specs.steps.Rising.{IsRisingListOf};
 

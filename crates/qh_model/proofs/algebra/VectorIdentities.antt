@@ -5,8 +5,8 @@ use Rattle.std.proofs.lemmas.Int.{ints}
 use Rattle.std.specs.Prelude.{ℤ, pos, ◌+ℤ◌, ◌-ℤ◌, ◌*ℤ◌, neg_ℤ}
 use Rattle.qh_model.proofs.algebra.Ring.{Expr, ring, ring_zero}
 use Rattle.qh_model.proofs.algebra.Ring.Expr.{var, con, add, sub as less, mul, neg}
-use Rattle.qh_model.specs.Vector.{Vector, origin, minus, cross_product, dot}
-use Rattle.qh_model.specs.Predicates.{cross, vol, left, AreInLine}
+use Rattle.qh_model.specs.headline.Vector.{Vector, origin, minus, cross_product, dot}
+use Rattle.qh_model.specs.headline.Predicates.{cross, vol, left, AreInLine}
 
 -- a vector of expressions
 pub record VE : Type 0 where
@@ -44,7 +44,7 @@ put p env = p.x ∷ p.y ∷ p.z ∷ env
 
 -- planes through one line: the key to the horizon
 pub edge_product : (u v a b p y : Vector) → vol u v a p *ℤ vol u v b y -ℤ vol u v a y *ℤ vol u v b p ≡ vol u v a b *ℤ vol u v p y
-unfolding vol
+unfolding vol cross
 edge_product u v a b p y =
     ring (put (minus v u) (put (minus a u) (put (minus b u) (put (minus p u) (put (minus y u) [])))))
     (less (mul (detE (vec 0) (vec 1) (vec 3)) (detE (vec 0) (vec 2) (vec 4))) (mul (detE (vec 0) (vec 1) (vec 4)) (detE (vec 0) (vec 2) (vec 3))))
@@ -52,18 +52,18 @@ edge_product u v a b p y =
 
 -- signed volume: vol of the fourth point: antisymmetric, cyclic
 pub vol-flip : (u v o p : Vector) → vol u v o p ≡ neg_ℤ (vol v u o p)
-unfolding vol
+unfolding vol cross
 vol-flip u v o p =
     ring (put u (put v (put o (put p [])))) (volE (vec 0) (vec 1) (vec 2) (vec 3)) (neg (volE (vec 1) (vec 0) (vec 2) (vec 3))) refl
 
 -- and changes its sign where two points change places
 pub vol-swap_last : (a b c p : Vector) → vol a b c p ≡ neg_ℤ (vol a b p c)
-unfolding vol
+unfolding vol cross
 vol-swap_last a b c p = ring (put a (put b (put c (put p [])))) (volE (vec 0) (vec 1) (vec 2) (vec 3)) (neg (volE (vec 0) (vec 1) (vec 3) (vec 2))) refl
 
 -- the volume with p is that with o and those of the three edges with o and p
 pub vol-boundary : (a b c o p : Vector) → vol a b c p ≡ vol a b c o +ℤ (vol a b o p +ℤ vol b c o p +ℤ vol c a o p)
-unfolding vol
+unfolding vol cross
 vol-boundary a b c o p =
     ring (put a (put b (put c (put o (put p []))))) (volE (vec 0) (vec 1) (vec 2) (vec 4))
     (add (volE (vec 0) (vec 1) (vec 2) (vec 3)) (add (add (volE (vec 0) (vec 1) (vec 3) (vec 4)) (volE (vec 1) (vec 2) (vec 3) (vec 4))) (volE (vec 2) (vec 0) (vec 3) (vec 4)))) refl
@@ -74,7 +74,7 @@ depth w p x = dot w (minus p x)
 
 -- one triangle's part in the cancellation
 pub vol-depths : (w a b c r p : Vector) → vol a b c p *ℤ depth w p r ≡ vol a b r p *ℤ depth w p c +ℤ vol b c r p *ℤ depth w p a +ℤ vol c a r p *ℤ depth w p b
-unfolding vol depth
+unfolding vol cross depth
 vol-depths w a b c r p =
     ring (put w (put a (put b (put c (put r (put p []))))))
     (mul (volE (vec 1) (vec 2) (vec 3) (vec 5)) (dotE (vec 0) (subE (vec 5) (vec 4))))
@@ -112,32 +112,32 @@ vol-linear a b c q = vol-dot a b c q ∙ dot-minus (cross a b c) q a
 
 -- a volume with a point twice
 pub vol-first : (a b c : Vector) → vol a b c a ≡ pos 0
-unfolding vol
+unfolding vol cross
 vol-first a b c = ring_zero (put a (put b (put c []))) (volE (vec 0) (vec 1) (vec 2) (vec 0)) refl
 
 -- so with the second
 pub vol-second : (a b c : Vector) → vol a b c b ≡ pos 0
-unfolding vol
+unfolding vol cross
 vol-second a b c = ring_zero (put a (put b (put c []))) (volE (vec 0) (vec 1) (vec 2) (vec 1)) refl
 
 -- so with the third
 pub vol-third : (a b c : Vector) → vol a b c c ≡ pos 0
-unfolding vol
+unfolding vol cross
 vol-third a b c = ring_zero (put a (put b (put c []))) (volE (vec 0) (vec 1) (vec 2) (vec 2)) refl
 
 -- each point of a volume can be brought to its end
 pub vol-first_last : (a b c d : Vector) → vol a b c d ≡ vol d c b a
-unfolding vol
+unfolding vol cross
 vol-first_last a b c d = ring (put a (put b (put c (put d [])))) (volE (vec 0) (vec 1) (vec 2) (vec 3)) (volE (vec 3) (vec 2) (vec 1) (vec 0)) refl
 
 -- the second, to the end
 pub vol-second_last : (a b c d : Vector) → vol a b c d ≡ vol c d a b
-unfolding vol
+unfolding vol cross
 vol-second_last a b c d = ring (put a (put b (put c (put d [])))) (volE (vec 0) (vec 1) (vec 2) (vec 3)) (volE (vec 2) (vec 3) (vec 0) (vec 1)) refl
 
 -- the third, to the end
 pub vol-third_last : (a b c d : Vector) → vol a b c d ≡ vol b a d c
-unfolding vol
+unfolding vol cross
 vol-third_last a b c d = ring (put a (put b (put c (put d [])))) (volE (vec 0) (vec 1) (vec 2) (vec 3)) (volE (vec 1) (vec 0) (vec 3) (vec 2)) refl
 
 -- the opposite direction
@@ -163,7 +163,7 @@ left-dot n a b c = refl
 
 -- it is a linear form of its last point
 pub left-linear : (n a b q : Vector) → left n a b q ≡ dot (cross_product n (minus b a)) q +ℤ neg_ℤ (dot (cross_product n (minus b a)) a)
-unfolding left
+unfolding left cross
 left-linear n a b q =
     ring (put n (put a (put b (put q [])))) (dotE (crossE (subE (vec 2) (vec 1)) (subE (vec 3) (vec 1))) (vec 0))
     (add (dotE (crossE (vec 0) (subE (vec 2) (vec 1))) (vec 3)) (neg (dotE (crossE (vec 0) (subE (vec 2) (vec 1))) (vec 1)))) refl
@@ -174,12 +174,12 @@ leftE n u v w = dotE (crossE (subE v u) (subE w u)) n
 
 -- a turn goes round, and the other way round is the other turn
 pub left-turn : (n a b c : Vector) → left n a b c ≡ left n b c a
-unfolding left
+unfolding left cross
 left-turn n a b c = ring (put n (put a (put b (put c [])))) (leftE (vec 0) (vec 1) (vec 2) (vec 3)) (leftE (vec 0) (vec 2) (vec 3) (vec 1)) refl
 
 -- and changes its sign the other way round
 pub left-flip : (n a b c : Vector) → left n a b c ≡ neg_ℤ (left n a c b)
-unfolding left
+unfolding left cross
 left-flip n a b c = ring (put n (put a (put b (put c [])))) (leftE (vec 0) (vec 1) (vec 2) (vec 3)) (neg (leftE (vec 0) (vec 1) (vec 3) (vec 2))) refl
 
 -- three points in line have no volume with a fourth, and no turn
@@ -212,5 +212,5 @@ dot_comm n p = omega (arith, ints)
 
 -- the triangle the other way round
 pub vol-flip_last : (a b c d : Vector) → vol a c b d ≡ neg_ℤ (vol a b c d)
-unfolding vol
+unfolding vol cross
 vol-flip_last a b c d = ring (put a (put b (put c (put d [])))) (volE (vec 0) (vec 2) (vec 1) (vec 3)) (neg (volE (vec 0) (vec 1) (vec 2) (vec 3))) refl

@@ -1,6 +1,7 @@
 -- Each event is counted once: by a claim, a delivered node or a mark.
 use Rattle.std.proofs.Common.{◌≡◌, ℕ, ◌+◌, ◌-◌, ◌*◌, ◌<◌, ◌≤◌, Bool, true, false, List, [], ◌∷◌, length, sym, refl, ap, ◌∙◌, subst, arith}
-use Rattle.qh_model.specs.BoardMachine.{Place, untouched, held, parked, used, published, Mark, none, left, gave_up, Machine, start, put, parent, sibling, Event, claim_got, claim_over, arrive_first, arrive_second, publish, leave, give_up, Can, after, run, CanRun, settled, ended, sum_to}
+use Rattle.qh_model.specs.contract.BoardMachine.{Place, untouched, held, parked, used, published, Mark, none, left, gave_up, Machine, start, put, parent, sibling, Event, claim_got, claim_over, arrive_first, arrive_second, publish, leave, give_up, Can, after, run, CanRun, settled, sum_to}
+use Rattle.qh_model.specs.steps.Endings.{ended}
 use Rattle.qh_model.proofs.board.Updates.{put_here, put_else, sum_put, sum_most, sum_zero, sum_less}
 use Rattle.qh_model.proofs.board.Kept.{Consistent, ranged, keeps_good, r_i, n_i, fresh}
 

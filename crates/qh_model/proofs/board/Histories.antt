@@ -2,7 +2,7 @@
 use Rattle.std.proofs.Common.{◌≡◌, ◌≢◌, ◌⊎◌, inl, inr, ⊎_elim, ℕ, ◌+◌, ◌<◌, ◌≤◌, true, false, List, [], ◌∷◌, ◌++◌, sym, refl, ap, ◌∙◌, arith}
 use mathlib.Core.Logic.{dite}
 use native.Mathlib.Decide.{ℕ_discrete}
-use Rattle.qh_model.specs.BoardMachine.{untouched, held, parked, published, none, left, gave_up, Machine, start, put, Event, claim_got, claim_over, arrive_first, arrive_second, publish, leave, give_up, Can, after, run, CanRun, settled}
+use Rattle.qh_model.specs.contract.BoardMachine.{untouched, held, parked, published, none, left, gave_up, Machine, start, put, Event, claim_got, claim_over, arrive_first, arrive_second, publish, leave, give_up, Can, after, run, CanRun, settled}
 use Rattle.qh_model.proofs.board.Updates.{put_here, put_else, at_put}
 use Rattle.qh_model.proofs.board.Kept.{Consistent, Cases, same, spent, got, joined, cases, fresh, keeps_good, all_good}
 

@@ -2,7 +2,7 @@
 use Rattle.std.proofs.Common.{◌≡◌, ◌≢◌, ◌⊎◌, inl, inr, ℕ, ◌+◌, ◌-◌, ◌*◌, ◌%◌, ◌<◌, ◌≤◌, true, List, [], ◌∷◌, sym, refl, ap, ◌∙◌, subst, arith, eq-eqb, ne_eqb}
 use mathlib.Core.Logic.{dite}
 use native.Mathlib.Decide.{ℕ_discrete, dec_le}
-use Rattle.qh_model.specs.BoardMachine.{Place, untouched, held, parked, used, published, Mark, none, left, gave_up, Machine, start, put, parent, sibling, Event, claim_got, claim_over, arrive_first, arrive_second, publish, leave, give_up, HoldsNothing, Acts, Can, after, run, CanRun}
+use Rattle.qh_model.specs.contract.BoardMachine.{Place, untouched, held, parked, used, published, Mark, none, left, gave_up, Machine, start, put, parent, sibling, Event, claim_got, claim_over, arrive_first, arrive_second, publish, leave, give_up, HoldsNothing, Acts, Can, after, run, CanRun}
 use Rattle.qh_model.proofs.board.Updates.{put_here, put_else, at_put}
 
 pub record Consistent (B W : ℕ) (m : Machine) : Type 0 where

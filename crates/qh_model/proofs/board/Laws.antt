@@ -1,5 +1,5 @@
 -- The laws of the board.
-use Rattle.qh_model.specs.BoardLaws.{SingleHolder, HeldOnce, ChildrenFirst, RootAtTheEnd, RootWhereAllLeft, NoRootWhereGivenUp, StepBound}
+use Rattle.qh_model.specs.laws.BoardLaws.{SingleHolder, HeldOnce, ChildrenFirst, RootAtTheEnd, RootWhereAllLeft, NoRootWhereGivenUp, StepBound}
 use Rattle.qh_model.proofs.board.Root.{published_only, done_is_published}
 use Rattle.qh_model.proofs.board.Histories.{held_once}
 use Rattle.qh_model.proofs.board.Reached.{reach_good, reach_ended, run_bound}

@@ -2,7 +2,7 @@
 use Rattle.std.proofs.Common.{◌≡◌, ◌≢◌, ◌⊎◌, inl, inr, ℕ, zero, suc, ◌+◌, ◌*◌, ◌<◌, ◌≤◌, sym, refl, ap, ◌∙◌, subst, arith}
 use mathlib.Core.Logic.{dite}
 use native.Mathlib.Decide.{ℕ_discrete, dec_le}
-use Rattle.qh_model.specs.BoardMachine.{Place, untouched, held, parked, used, published, Machine, parent, sibling, settled}
+use Rattle.qh_model.specs.contract.BoardMachine.{Place, untouched, held, parked, used, published, Machine, parent, sibling, settled}
 use Rattle.qh_model.proofs.board.Kept.{Consistent, near, ranged, sibling_even}
 
 module _ (B W : ℕ) (some : 0 < B) where

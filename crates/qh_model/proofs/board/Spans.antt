@@ -2,8 +2,8 @@
 use Rattle.std.proofs.Common.{◌≡◌, ◌⊎◌, inl, inr, ⊎_elim, ℕ, zero, suc, ◌+◌, ◌-◌, ◌*◌, ◌<◌, ◌≤◌, sym, refl, ap, ◌∙◌, subst, arith}
 use mathlib.Core.Logic.{dite}
 use native.Mathlib.Decide.{ℕ_discrete, dec_le}
-use Rattle.qh_model.specs.BoardMachine.{parent, ancestor, InSpan}
-use Rattle.qh_model.specs.BoardLaws.{SpanOfLeaf, SpanOfNode, SpansApart, SpanOfRoot}
+use Rattle.qh_model.specs.contract.BoardMachine.{parent, ancestor, InSpan}
+use Rattle.qh_model.specs.laws.BoardLaws.{SpanOfLeaf, SpanOfNode, SpansApart, SpanOfRoot}
 
 -- a node's ancestor is not greater, and above it at most half
 no_greater : (k n : ℕ) → ancestor k n ≤ n

@@ -5,11 +5,11 @@ use Rattle.std.proofs.lemmas.Int.{ints}
 use Rattle.std.proofs.lemmas.Bool.{eqb-true}
 use Rattle.std.specs.Prelude.{ℤ, pos, ◌+ℤ◌, ◌*ℤ◌, neg_ℤ, ◌≤ℤ◌, ◌<ℤ◌}
 use Rattle.std.specs.List.{AllByRecursion as Each}
-use Rattle.qh_model.specs.Vector.{Vector, dot, minus}
-use Rattle.qh_model.specs.Predicates.{vol}
-use Rattle.qh_model.specs.Sets.{In}
-use Rattle.qh_model.specs.ClosedSurface.{Triple, edges, IsClosed}
-use Rattle.qh_model.specs.ClosedSurfaceLaws.{IsCornerOf, NoneBelowAndBeyond}
+use Rattle.qh_model.specs.headline.Vector.{Vector, dot, minus}
+use Rattle.qh_model.specs.headline.Predicates.{vol}
+use Rattle.qh_model.specs.headline.Sets.{In}
+use Rattle.qh_model.specs.contract.ClosedSurface.{Triple, edges, IsClosed}
+use Rattle.qh_model.specs.laws.ClosedSurfaceLaws.{IsCornerOf, NoneBelowAndBeyond}
 use Rattle.qh_model.proofs.Members.{every_map}
 use Rattle.qh_model.proofs.algebra.Integers.{mul_swap}
 use Rattle.qh_model.proofs.algebra.Order.{mul-pos, mul-neg_pos}

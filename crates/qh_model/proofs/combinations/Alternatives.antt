@@ -8,11 +8,11 @@ use Rattle.qh_model.proofs.algebra.Integers.{ring_rules, add_mul}
 use Rattle.qh_model.proofs.combinations.Vectors.{V, dot as vdot}
 use Rattle.qh_model.proofs.combinations.WeightedTerms.{total, weight, count, Among, Balanced, Separated, alternative}
 use Rattle.qh_model.proofs.Members.{every_at}
-use Rattle.qh_model.specs.Vector.{Vector, dot}
-use Rattle.qh_model.specs.Sets.{In, Members}
-use Rattle.qh_model.specs.Combination.{IsBalanced, Combination}
-use Rattle.qh_model.specs.Separator.{Separator}
-use Rattle.qh_model.specs.CombinationLaws.{CombinationOrSeparator, NeverBoth}
+use Rattle.qh_model.specs.headline.Vector.{Vector, dot}
+use Rattle.qh_model.specs.headline.Sets.{In, Members}
+use Rattle.qh_model.specs.headline.Combination.{IsBalanced, Combination}
+use Rattle.qh_model.specs.laws.Separator.{Separator}
+use Rattle.qh_model.specs.laws.CombinationLaws.{CombinationOrSeparator, NeverBoth}
 
 -- ---- four terms
 record Four {A : Type 0} (xs : List A) (ts : List (ℕ × A)) : Type 0 where

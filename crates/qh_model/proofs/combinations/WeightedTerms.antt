@@ -5,7 +5,7 @@ use Rattle.std.proofs.Math.Nat.{mul-le-mul_left}
 use Rattle.std.specs.Prelude.{ℤ, pos, negsuc, ◌+ℤ◌, ◌*ℤ◌, neg_ℤ, nat_abs, ◌<ℤ◌, ◌≤ℤ◌}
 use Rattle.std.specs.List.{AllByRecursion as Every}
 use lib.IntN.{*ℤ_comm, *ℤ-zero, +ℤ_idr}
-use Rattle.qh_model.specs.Sets.{In}
+use Rattle.qh_model.specs.headline.Sets.{In}
 use Rattle.qh_model.proofs.Members.{every_at, every_map, every_zip}
 use borrow.Author.Differences.{lt_out}
 use Rattle.qh_model.proofs.algebra.Integers.{ring_rules, mul_add, mul_assoc}

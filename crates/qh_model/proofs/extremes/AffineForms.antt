@@ -2,8 +2,8 @@
 use Rattle.std.proofs.Common.{◌≡◌, ◌≢◌, ℕ, arith, ◌∙◌, ◌⊎◌, inl, inr}
 use Rattle.std.proofs.lemmas.Int.{ints, by_lt_z}
 use Rattle.std.specs.Prelude.{ℤ, pos, ◌+ℤ◌, neg_ℤ, ◌<ℤ◌}
-use Rattle.qh_model.specs.Vector.{Vector, dot}
-use Rattle.qh_model.specs.Combination.{Combination}
+use Rattle.qh_model.specs.headline.Vector.{Vector, dot}
+use Rattle.qh_model.specs.headline.Combination.{Combination}
 use Rattle.qh_model.proofs.algebra.Order.{le_antisym, zero_or_not}
 use Rattle.qh_model.proofs.algebra.VectorIdentities.{opposite, dot-opposite}
 use Rattle.qh_model.proofs.combinations.Alternatives.{all_lower}

@@ -2,14 +2,14 @@
 use Rattle.std.proofs.Common.{◌≡◌, ◌≢◌, ℕ, arith, ap, sym, subst, ◌∙◌, ◌⊎◌, inl, inr}
 use Rattle.std.proofs.lemmas.Int.{ints}
 use Rattle.std.specs.Prelude.{ℤ, pos, ◌+ℤ◌, ◌-ℤ◌, neg_ℤ}
-use Rattle.qh_model.specs.Vector.{Vector, origin, minus, cross_product, dot}
-use Rattle.qh_model.specs.Predicates.{cross, vol, left, AreInLine}
-use Rattle.qh_model.specs.Sets.{Members}
-use Rattle.qh_model.specs.DistinctIds.{HasDistinctPoints}
-use Rattle.qh_model.specs.Dimension.{HasTetrahedron, HasTriangle, HasSegment, IsDimension}
-use Rattle.qh_model.specs.Combination.{Combination}
-use Rattle.qh_model.specs.Extreme.{Extreme}
-use Rattle.qh_model.specs.DimensionLaws.{DimensionIsUnique, DimensionOfExtremes}
+use Rattle.qh_model.specs.headline.Vector.{Vector, origin, minus, cross_product, dot}
+use Rattle.qh_model.specs.headline.Predicates.{cross, vol, left, AreInLine}
+use Rattle.qh_model.specs.headline.Sets.{Members}
+use Rattle.qh_model.specs.contract.IdSets.{HasDistinctPoints}
+use Rattle.qh_model.specs.headline.Dimension.{HasTetrahedron, HasTriangle, HasSegment, IsDimension}
+use Rattle.qh_model.specs.headline.Combination.{Combination}
+use Rattle.qh_model.specs.headline.Extreme.{Extreme}
+use Rattle.qh_model.specs.laws.DimensionLaws.{DimensionIsUnique, DimensionOfExtremes}
 use Rattle.qh_model.proofs.algebra.Order.{zero_or_not}
 use Rattle.qh_model.proofs.algebra.VectorIdentities.{vector_path, vol-linear, vol-first_last, vol-second_last, vol-third_last, left-dot, left-linear, left-turn, in_line-vol, in_line-left, in_line-twice, opposite, dot-opposite}
 use Rattle.qh_model.proofs.algebra.Ring.{equal_from_zero}

@@ -2,9 +2,9 @@
 use Rattle.std.proofs.Common.{◌≡◌, ◌≢◌, ℕ, zero, suc, ◌<◌, arith, refl, sym, ap, subst, ◌∙◌, ◌⊎◌, inl, inr, [], ◌∷◌}
 use Rattle.std.proofs.lemmas.Int.{ints, by_lt_z}
 use Rattle.std.specs.Prelude.{ℤ, pos, negsuc, ◌+ℤ◌, ◌*ℤ◌, neg_ℤ, ◌<ℤ◌, ◌≤ℤ◌}
-use Rattle.qh_model.specs.Vector.{Vector, origin, minus, cross_product, dot}
-use Rattle.qh_model.specs.Predicates.{cross, vol, left, AreInLine}
-use Rattle.qh_model.specs.FaceLaws.{IsAlong}
+use Rattle.qh_model.specs.headline.Vector.{Vector, origin, minus, cross_product, dot}
+use Rattle.qh_model.specs.headline.Predicates.{cross, vol, left, AreInLine}
+use Rattle.qh_model.specs.laws.FaceLaws.{IsAlong}
 use Rattle.qh_model.proofs.algebra.Order.{mul-nonneg, mul-pos, cancel-nonneg, cancel-nonpos, cancel-pos, cancel-zero, le_antisym, square-nonneg, neg-positive, product_zero}
 use Rattle.qh_model.proofs.algebra.Ring.{ring}
 use Rattle.qh_model.proofs.algebra.Ring.Expr.{var, con, add, sub as less, mul, neg}

@@ -12,13 +12,13 @@ use Rattle.qh_model.proofs.Members.{every_at}
 use Rattle.qh_model.proofs.combinations.Alternatives.{combination_or_separator, all_lower}
 use Rattle.qh_model.proofs.extremes.LexicographicOrder.{Less, Same, AtMost, Greatest, greatest, collapse}
 use Rattle.qh_model.proofs.lists.Joined.{in_append, of_append}
-use Rattle.qh_model.specs.Vector.{Vector, dot}
-use Rattle.qh_model.specs.Sets.{In, Members}
-use Rattle.qh_model.specs.DistinctIds.{HasDistinctPoints}
-use Rattle.qh_model.specs.Combination.{Combination}
-use Rattle.qh_model.specs.Separator.{Separator}
-use Rattle.qh_model.specs.Extreme.{Others, Extreme}
-use Rattle.qh_model.specs.ExtremeLaws.{IsLower, InBlocks, GreatestIsExtreme, MembersAreCombinations, UnionOfExtremes}
+use Rattle.qh_model.specs.headline.Vector.{Vector, dot}
+use Rattle.qh_model.specs.headline.Sets.{In, Members}
+use Rattle.qh_model.specs.contract.IdSets.{HasDistinctPoints}
+use Rattle.qh_model.specs.headline.Combination.{Combination}
+use Rattle.qh_model.specs.laws.Separator.{Separator}
+use Rattle.qh_model.specs.headline.Extreme.{Others, Extreme}
+use Rattle.qh_model.specs.laws.ExtremeLaws.{IsLower, InBlocks, GreatestIsExtreme, MembersAreCombinations, UnionOfExtremes}
 
 -- what the order goes by
 abbrev key : Vector → Vector → V 4

@@ -8,14 +8,14 @@ use Rattle.qh_model.proofs.combinations.Vectors.{V, dot as vdot}
 use Rattle.qh_model.proofs.combinations.Alternatives.{all_lower}
 use Rattle.qh_model.proofs.extremes.LexicographicOrder.{Less}
 use Rattle.qh_model.proofs.extremes.ExtremeIds.{Listed, listed_itself, listed_part, alternative_in, combination_within, combination_of_extremes, no_combination_by}
-use Rattle.qh_model.specs.Vector.{Vector, dot}
-use Rattle.qh_model.specs.Predicates.{cross, vol}
-use Rattle.qh_model.specs.Sets.{Members}
-use Rattle.qh_model.specs.Combination.{Combination}
-use Rattle.qh_model.specs.Separator.{Separator}
-use Rattle.qh_model.specs.Extreme.{Others, Extreme}
-use Rattle.qh_model.specs.SupportingPlane.{Supports, OnPlane}
-use Rattle.qh_model.specs.FaceLaws.{ExtremesOfFace, SupportOfExtremes}
+use Rattle.qh_model.specs.headline.Vector.{Vector, dot}
+use Rattle.qh_model.specs.headline.Predicates.{cross, vol}
+use Rattle.qh_model.specs.headline.Sets.{Members}
+use Rattle.qh_model.specs.headline.Combination.{Combination}
+use Rattle.qh_model.specs.laws.Separator.{Separator}
+use Rattle.qh_model.specs.headline.Extreme.{Others, Extreme}
+use Rattle.qh_model.specs.headline.SupportingPlane.{Supports, OnPlane}
+use Rattle.qh_model.specs.laws.FaceLaws.{ExtremesOfFace, SupportOfExtremes}
 use Rattle.qh_model.proofs.algebra.Order.{le_antisym, zero_or_not}
 use Rattle.qh_model.proofs.algebra.VectorIdentities.{vol-linear}
 

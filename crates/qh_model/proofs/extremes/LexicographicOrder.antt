@@ -8,7 +8,7 @@ use borrow.Author.Differences.{lt_out, le_out}
 use Rattle.qh_model.proofs.combinations.Vectors.{V, dot}
 use Rattle.qh_model.proofs.combinations.WeightedTerms.{bound}
 use Rattle.qh_model.proofs.Members.{every_map, every_zip}
-use Rattle.qh_model.specs.Sets.{In}
+use Rattle.qh_model.specs.headline.Sets.{In}
 use Rattle.qh_model.proofs.algebra.Order.{le_antisym}
 use Rattle.qh_model.proofs.algebra.Signs.{less_le, equal_le}
 

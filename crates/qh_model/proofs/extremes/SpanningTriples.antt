@@ -1,13 +1,13 @@
 -- Each supporting plane of a set is spanned by extreme ids.
 use Rattle.std.proofs.Common.{◌≡◌, ℕ, sym, ◌∙◌, ◌⊎◌, inl, inr, List}
 use Rattle.std.specs.Prelude.{pos, ◌*ℤ◌}
-use Rattle.qh_model.specs.Vector.{Vector}
-use Rattle.qh_model.specs.Predicates.{cross, vol, AreInLine}
-use Rattle.qh_model.specs.Sets.{Members}
-use Rattle.qh_model.specs.Dimension.{HasTriangle}
-use Rattle.qh_model.specs.Extreme.{Extreme}
-use Rattle.qh_model.specs.SupportingPlane.{Supports, OnPlane}
-use Rattle.qh_model.specs.FaceLaws.{IsAlong, SpannedByExtremes, PlanesOfExtremes}
+use Rattle.qh_model.specs.headline.Vector.{Vector}
+use Rattle.qh_model.specs.headline.Predicates.{cross, vol, AreInLine}
+use Rattle.qh_model.specs.headline.Sets.{Members}
+use Rattle.qh_model.specs.headline.Dimension.{HasTriangle}
+use Rattle.qh_model.specs.headline.Extreme.{Extreme}
+use Rattle.qh_model.specs.headline.SupportingPlane.{Supports, OnPlane}
+use Rattle.qh_model.specs.laws.FaceLaws.{IsAlong, SpannedByExtremes, PlanesOfExtremes}
 use Rattle.qh_model.proofs.algebra.Order.{zero_or_not}
 use Rattle.qh_model.proofs.algebra.VectorIdentities.{vol-first, vol-second, vol-third}
 use Rattle.qh_model.proofs.extremes.ExtremeIds.{Listed, listed_itself, listed_part, combination_of_extremes}

@@ -1,16 +1,16 @@
 -- A set and its extreme ids have the same supporting planes and the same polygons.
 use Rattle.std.proofs.Common.{ℕ, ◌⊎◌, inl, inr, List}
 use Rattle.std.specs.Prelude.{◌↔◌}
-use Rattle.qh_model.specs.Vector.{Vector}
-use Rattle.qh_model.specs.Predicates.{cross}
-use Rattle.qh_model.specs.Sets.{In, Members}
-use Rattle.qh_model.specs.DistinctIds.{HasDistinctPoints}
-use Rattle.qh_model.specs.Dimension.{HasTetrahedron, HasTriangle, HasSegment}
-use Rattle.qh_model.specs.Extreme.{Extreme}
-use Rattle.qh_model.specs.SupportingPlane.{IsSupportingTriple, OnPlane}
-use Rattle.qh_model.specs.FaceLaws.{IsAlong, SpannedByExtremes}
-use Rattle.qh_model.specs.Polygons.{AreFaces, IsFacePolygon, IsFlatFace, IsSegmentFace, IsPointFace, ArePolygons, PointsForward}
-use Rattle.qh_model.specs.HullLaws.{BodyOfExtremes, TriplesOfExtremes, PolygonsOfExtremes}
+use Rattle.qh_model.specs.headline.Vector.{Vector}
+use Rattle.qh_model.specs.headline.Predicates.{cross}
+use Rattle.qh_model.specs.headline.Sets.{In, Members}
+use Rattle.qh_model.specs.contract.IdSets.{HasDistinctPoints}
+use Rattle.qh_model.specs.headline.Dimension.{HasTetrahedron, HasTriangle, HasSegment}
+use Rattle.qh_model.specs.headline.Extreme.{Extreme}
+use Rattle.qh_model.specs.headline.SupportingPlane.{IsSupportingTriple, OnPlane}
+use Rattle.qh_model.specs.laws.FaceLaws.{IsAlong, SpannedByExtremes}
+use Rattle.qh_model.specs.headline.Polygons.{AreFaces, IsFacePolygon, IsFlatFace, IsSegmentFace, IsPointFace, ArePolygons, PointsForward}
+use Rattle.qh_model.specs.laws.HullLaws.{BodyOfExtremes, TriplesOfExtremes, PolygonsOfExtremes}
 use Rattle.qh_model.proofs.extremes.ExtremeIds.{listed_itself, extremes_between, combination_of_extremes}
 use Rattle.qh_model.proofs.extremes.Faces.{support_of_extremes}
 use Rattle.qh_model.proofs.extremes.SpanningTriples.{planes_of_extremes}

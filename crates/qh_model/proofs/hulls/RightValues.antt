@@ -4,16 +4,17 @@ use Rattle.std.specs.Prelude.{◌↔◌}
 use native.Mathlib.Decide.{ℕ_discrete}
 use mathlib.Core.Logic.{dite}
 use Rattle.std.proofs.lemmas.Grind.{common_steps}
-use Rattle.qh_model.specs.Vector.{Vector}
-use Rattle.qh_model.specs.Predicates.{place}
-use Rattle.qh_model.specs.Sets.{In, Members}
-use Rattle.qh_model.specs.Cut.{IsCut, IsInBlock, bound, block_count, positions}
-use Rattle.qh_model.specs.DistinctIds.{HasDistinctPoints, IsIdSet}
-use Rattle.qh_model.specs.Extreme.{Extreme, Others}
-use Rattle.qh_model.specs.Hull.{AreExtremes, BodyValue, IsBody}
-use Rattle.qh_model.specs.BoardMachine.{InSpan}
-use Rattle.qh_model.specs.RightValue.{block_ids, IsIdOfBlocks, RightValue}
-use Rattle.qh_model.specs.RightValueLaws.{RightOfLeaf, RightOfNode, HullOfRoot}
+use Rattle.qh_model.specs.headline.Vector.{Vector}
+use Rattle.qh_model.specs.headline.Predicates.{place}
+use Rattle.qh_model.specs.headline.Sets.{In, Members}
+use Rattle.qh_model.specs.contract.Cut.{IsCut, bound, block_count, positions}
+use Rattle.qh_model.specs.laws.CutLaws.{IsInBlock}
+use Rattle.qh_model.specs.contract.IdSets.{HasDistinctPoints, IsIdSet}
+use Rattle.qh_model.specs.headline.Extreme.{Extreme, Others}
+use Rattle.qh_model.specs.headline.Hull.{AreExtremes, BodyValue, IsBody}
+use Rattle.qh_model.specs.contract.BoardMachine.{InSpan}
+use Rattle.qh_model.specs.contract.RightValue.{block_ids, IsIdOfBlocks, RightValue}
+use Rattle.qh_model.specs.laws.RightValueLaws.{RightOfLeaf, RightOfNode, HullOfRoot}
 use Rattle.qh_model.proofs.Cuts.{blocks_cover}
 use Rattle.qh_model.proofs.Members.{In-get_or, in_at}
 use Rattle.qh_model.proofs.board.Spans.{span_of_leaf, span_of_node, span_of_root}

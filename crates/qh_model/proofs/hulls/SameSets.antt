@@ -1,16 +1,16 @@
 -- Sets with the same members have the same hull, and a part of a set with all its extreme ids has its hull.
 use Rattle.std.proofs.Common.{ℕ, inl, inr, List}
 use Rattle.std.specs.Prelude.{◌↔◌}
-use Rattle.qh_model.specs.Vector.{Vector}
-use Rattle.qh_model.specs.Predicates.{cross}
-use Rattle.qh_model.specs.Sets.{Members}
-use Rattle.qh_model.specs.DistinctIds.{HasDistinctPoints}
-use Rattle.qh_model.specs.Dimension.{HasTetrahedron, HasTriangle, HasSegment, IsDimension}
-use Rattle.qh_model.specs.Extreme.{Extreme}
-use Rattle.qh_model.specs.SupportingPlane.{IsSupportingTriple, OnPlane}
-use Rattle.qh_model.specs.Polygons.{AreFaces, IsFacePolygon, IsFlatFace, ArePolygons}
-use Rattle.qh_model.specs.Hull.{BodyValue, IsBody}
-use Rattle.qh_model.specs.HullLaws.{ExtremesOfPart, BodyOfPart}
+use Rattle.qh_model.specs.headline.Vector.{Vector}
+use Rattle.qh_model.specs.headline.Predicates.{cross}
+use Rattle.qh_model.specs.headline.Sets.{Members}
+use Rattle.qh_model.specs.contract.IdSets.{HasDistinctPoints}
+use Rattle.qh_model.specs.headline.Dimension.{HasTetrahedron, HasTriangle, HasSegment, IsDimension}
+use Rattle.qh_model.specs.headline.Extreme.{Extreme}
+use Rattle.qh_model.specs.headline.SupportingPlane.{IsSupportingTriple, OnPlane}
+use Rattle.qh_model.specs.headline.Polygons.{AreFaces, IsFacePolygon, IsFlatFace, ArePolygons}
+use Rattle.qh_model.specs.headline.Hull.{BodyValue, IsBody}
+use Rattle.qh_model.specs.laws.HullLaws.{ExtremesOfPart, BodyOfPart}
 use Rattle.qh_model.proofs.extremes.ExtremeIds.{listed_itself, extremes_between, combination_within}
 use Rattle.qh_model.proofs.extremes.Directions.{along_itself}
 use Rattle.qh_model.proofs.polygons.Direction.{polygon_as}

@@ -1,6 +1,6 @@
 -- Two lists, one after the other: their members, and when they have each once.
 use Rattle.std.proofs.Common.{List, [], ◌∷◌, ◌++◌, ◌⊎◌, inl, inr, refl}
-use Rattle.qh_model.specs.Sets.{In, Once}
+use Rattle.qh_model.specs.headline.Sets.{In, Once}
 
 -- a member of either is one of both
 pub in_append : {X : Type 0} (xs ys : List X) (x : X) → In x xs ⊎ In x ys → In x (xs ++ ys)

@@ -1,7 +1,7 @@
 -- Lists that have each member once: their length is known by their members.
 use Rattle.std.proofs.Common.{◌≡◌, ◌+◌, refl, List, [], ◌∷◌, length, arith, sym, subst, ◌∙◌, ◌⊎◌, inl, inr}
 use Rattle.std.specs.Prelude.{◌↔◌}
-use Rattle.qh_model.specs.Sets.{In, Once}
+use Rattle.qh_model.specs.headline.Sets.{In, Once}
 
 -- the list without the member at this place
 without : {X : Type 0} (x : X) (xs : List X) → In x xs → List X

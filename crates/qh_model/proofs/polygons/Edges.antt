@@ -3,18 +3,18 @@ use Rattle.std.proofs.Common.{◌≡◌, ◌≢◌, ℕ, arith, refl, sym, ap, s
 use Rattle.std.proofs.lemmas.Int.{ints, by_lt_z}
 use native.Mathlib.Decide.{ℕ_discrete}
 use Rattle.std.specs.Prelude.{ℤ, pos, negsuc, ◌+ℤ◌, ◌-ℤ◌, ◌*ℤ◌, neg_ℤ, ◌≤ℤ◌, ◌<ℤ◌}
-use Rattle.qh_model.specs.Vector.{Vector, minus, cross_product, dot}
-use Rattle.qh_model.specs.Predicates.{cross, vol, left, AreInLine}
-use Rattle.qh_model.specs.Sets.{In, Members}
-use Rattle.qh_model.specs.DistinctIds.{HasDistinctPoints}
-use Rattle.qh_model.specs.Dimension.{HasTetrahedron}
-use Rattle.qh_model.specs.Combination.{Combination}
-use Rattle.qh_model.specs.Extreme.{Extreme}
-use Rattle.qh_model.specs.SupportingPlane.{IsSupportingTriple, OnPlane}
-use Rattle.qh_model.specs.FaceLaws.{IsAlong, SpannedByExtremes}
-use Rattle.qh_model.specs.Polygon.{TurnsLeft}
-use Rattle.qh_model.specs.Polygons.{IsFacePolygon, Follows}
-use Rattle.qh_model.specs.EdgeLaws.{OneFaceEachWay, OtherFace}
+use Rattle.qh_model.specs.headline.Vector.{Vector, minus, cross_product, dot}
+use Rattle.qh_model.specs.headline.Predicates.{cross, vol, left, AreInLine}
+use Rattle.qh_model.specs.headline.Sets.{In, Members}
+use Rattle.qh_model.specs.contract.IdSets.{HasDistinctPoints}
+use Rattle.qh_model.specs.headline.Dimension.{HasTetrahedron}
+use Rattle.qh_model.specs.headline.Combination.{Combination}
+use Rattle.qh_model.specs.headline.Extreme.{Extreme}
+use Rattle.qh_model.specs.headline.SupportingPlane.{IsSupportingTriple, OnPlane}
+use Rattle.qh_model.specs.laws.FaceLaws.{IsAlong, SpannedByExtremes}
+use Rattle.qh_model.specs.headline.Polygon.{Follows}
+use Rattle.qh_model.specs.headline.Polygons.{IsFacePolygon}
+use Rattle.qh_model.specs.laws.EdgeLaws.{OneFaceEachWay, OtherFace}
 use Rattle.qh_model.proofs.algebra.Order.{mul-pos, mul-nonneg_nonpos, mul-pos_neg, mul-neg_neg, cancel-nonpos, cancel-zero, zero_or_not, le_antisym, positive_le, product_zero}
 use Rattle.qh_model.proofs.algebra.VectorIdentities.{opposite, dot-opposite, edge_product, vol-first, vol-second, vol-third, vol-flip, vol-swap_last, left-flip, left-linear, in_line-vol, in_line-left, in_line-twice, in_line-last}
 use Rattle.qh_model.proofs.algebra.Signs.{less_differ}
@@ -27,7 +27,7 @@ use Rattle.qh_model.proofs.combinations.Alternatives.{all_lower}
 use Rattle.qh_model.proofs.polygons.Direction.{polygon_as}
 use Rattle.qh_model.proofs.polygons.Unique.{one_polygon}
 use Rattle.qh_model.proofs.surfaces.VisibleFacets.{Least, least}
-use Rattle.qh_model.proofs.polygons.Neighbours.{round_holds, follows_members, next_member}
+use Rattle.qh_model.proofs.polygons.Neighbours.{follows_members, next_member}
 use Rattle.qh_model.proofs.polygons.PlaneTurns.{level_volume, level_along}
 
 -- ---- signs
@@ -101,7 +101,7 @@ module _ (at : ℕ → Vector) (ids : List ℕ) (d : HasDistinctPoints at (Membe
 
   -- the others lie to the left
   to_left : (w : ℕ) → OnPlane at (Extreme at (Members ids)) i j k w → w ≢ u → w ≢ v → pos 0 <ℤ left n (at u) (at v) (at w)
-  to_left w h a b = round_holds (TurnsLeft at n q) u v q way.face.round way.follows w ((way.face.members w).1 h) a b
+  to_left w h a b = way.face.round u v way.follows w ((way.face.members w).1 h) a b
 
   -- there is a third
   third : Third at (Members ids) i j k u v
@@ -353,7 +353,7 @@ module _ (at : ℕ → Vector) (ids : List ℕ) (d : HasDistinctPoints at (Membe
           test : Dec (u ≡ y) → Follows v u p
           test (yes e) = subst (λ t. Follows v t p) (sym e) h
           test (no n) = absurd (clash _ _ (left-flip (cross (at v) (at u) (at w.w)) (at v) (at y) (at u))
-              (round_holds (TurnsLeft at (cross (at v) (at u) (at w.w)) p) v y p f.round h u has' differ n)
+              (f.round v y h u has' differ n)
               (not_right' y (follows_members v y p h).1))
 
 -- the law

@@ -1,19 +1,7 @@
 -- Neighbours on the way round a polygon.
-use Rattle.std.proofs.Common.{◌≡◌, ℕ, refl, sym, subst, ◌⊎◌, inl, inr, List, [], ◌∷◌}
-use Rattle.qh_model.specs.Sets.{In}
-use Rattle.qh_model.specs.Polygon.{AlongPath, AroundCycle}
-use Rattle.qh_model.specs.Polygons.{FollowsAlong, Follows}
-
--- what holds of each pair of neighbours on a way
-pub along_holds : (P : ℕ → ℕ → Type 0) (u v t : ℕ) (r : List ℕ) (e : ℕ) → AlongPath P t r e → FollowsAlong u v t r e → P u v
-along_holds P u v t [] e h f = subst (λ x. P x v) f.0 (subst (P t) f.1 h)
-along_holds P u v t (w ∷ r) e h (inl f) = subst (λ x. P x v) f.0 (subst (P t) f.1 h.0)
-along_holds P u v t (w ∷ r) e h (inr f) = along_holds P u v w r e h.1 f
-
--- and round a polygon
-pub round_holds : (P : ℕ → ℕ → Type 0) (u v : ℕ) (q : List ℕ) → AroundCycle P q → Follows u v q → P u v
-round_holds P u v [] h f = absurd f
-round_holds P u v (t ∷ r) h f = along_holds P u v t r t h f
+use Rattle.std.proofs.Common.{◌≡◌, ℕ, refl, sym, ◌⊎◌, inl, inr, List, [], ◌∷◌}
+use Rattle.qh_model.specs.headline.Sets.{In}
+use Rattle.qh_model.specs.headline.Polygon.{FollowsAlong, Follows}
 
 -- neighbours on a way are on it
 pub along_members : (u v t : ℕ) (r : List ℕ) (e : ℕ) → FollowsAlong u v t r e → In u (t ∷ r) × ((v ≡ e) ⊎ In v r)

@@ -1,9 +1,9 @@
 -- Volumes and turns of points in one plane.
 use Rattle.std.proofs.Common.{◌≡◌, refl, sym, ap, subst, ◌∙◌, []}
 use Rattle.std.specs.Prelude.{pos, ◌*ℤ◌, ◌<ℤ◌}
-use Rattle.qh_model.specs.Vector.{Vector, minus, dot}
-use Rattle.qh_model.specs.Predicates.{cross, vol, left, AreInLine}
-use Rattle.qh_model.specs.FaceLaws.{IsAlong}
+use Rattle.qh_model.specs.headline.Vector.{Vector, minus, dot}
+use Rattle.qh_model.specs.headline.Predicates.{cross, vol, left, AreInLine}
+use Rattle.qh_model.specs.laws.FaceLaws.{IsAlong}
 use Rattle.qh_model.proofs.algebra.Ring.{ring}
 use Rattle.qh_model.proofs.algebra.Ring.Expr.{add, sub as less, mul}
 use Rattle.qh_model.proofs.algebra.VectorIdentities.{vec, put, dotE, combine3, vol-dot, left-dot, dot_comm}

@@ -3,12 +3,13 @@ use Rattle.std.proofs.Common.{◌≡◌, ◌≢◌, ℕ, refl, List, [], ◌∷�
 use Rattle.std.proofs.lemmas.Int.{ints}
 use native.Mathlib.Decide.{ℕ_discrete}
 use Rattle.std.specs.Prelude.{ℤ, pos, neg_ℤ, ◌<ℤ◌, ◌↔◌}
-use Rattle.qh_model.specs.Vector.{Vector}
-use Rattle.qh_model.specs.Predicates.{left}
-use Rattle.qh_model.specs.Sets.{In, Once, BeginsWithLeast, Members}
-use Rattle.qh_model.specs.Polygon.{AlongPath, TurnsLeft, IsPolygon}
-use Rattle.qh_model.specs.PolygonLaws.{PolygonIsUnique}
+use Rattle.qh_model.specs.headline.Vector.{Vector}
+use Rattle.qh_model.specs.headline.Predicates.{left}
+use Rattle.qh_model.specs.headline.Sets.{In, Once, BeginsWithLeast, Members}
+use Rattle.qh_model.specs.headline.Polygon.{TurnsLeft, IsPolygon}
+use Rattle.qh_model.specs.laws.PolygonLaws.{PolygonIsUnique}
 use Rattle.qh_model.proofs.algebra.VectorIdentities.{left-flip}
+use Rattle.qh_model.proofs.polygons.Cycles.{AlongPath, round_told}
 
 -- two opposite turns are not both to the left
 both_positive : (x y : ℤ) → x ≡ neg_ℤ y → pos 0 <ℤ x → pos 0 <ℤ y → ⊥
@@ -65,7 +66,8 @@ one_polygon at X n (u ∷ p) (v ∷ q) a b = finish (heads u v p q a.least b.lea
     finish : u ≡ v → (u ∷ p) ≡ (v ∷ q)
     finish e =
         let t : p ≡ q = follow n at (u ∷ p) (v ∷ q) m u p q u (λ x i. i) (λ x i. subst (λ t. In x (t ∷ q)) e i)
-        (λ x. (λ i. subst (λ t. In x (t ∷ q)) (sym e) ((m x).0 i), λ i. (m x).1 (subst (λ t. In x (t ∷ q)) e i))) a.once (subst (λ t. Once (t ∷ q)) (sym e) b.once) a.round (subst (λ t. AlongPath (TurnsLeft at n (v ∷ q)) t q t) (sym e) b.round) in
+        (λ x. (λ i. subst (λ t. In x (t ∷ q)) (sym e) ((m x).0 i), λ i. (m x).1 (subst (λ t. In x (t ∷ q)) e i))) a.once (subst (λ t. Once (t ∷ q)) (sym e) b.once) (round_told (TurnsLeft at n (u ∷ p)) (u ∷ p) a.round)
+        (subst (λ t. AlongPath (TurnsLeft at n (v ∷ q)) t q t) (sym e) (round_told (TurnsLeft at n (v ∷ q)) (v ∷ q) b.round)) in
         cc
 
 -- the law

@@ -3,16 +3,16 @@
 use Rattle.std.proofs.Common.{◌≡◌, ℕ, zero, suc, ◌+◌, ◌<◌, ◌≤◌, arith, refl, sym, ap, subst, ◌∙◌, inl, inr, List, [], ◌∷◌, length, Bool, true, false, cond}
 use Rattle.std.proofs.lemmas.Int.{ints}
 use Rattle.std.specs.Prelude.{ℤ, pos, ◌+ℤ◌, ◌≤ℤ◌, ◌<ℤ◌}
-use Rattle.qh_model.specs.Vector.{Vector}
-use Rattle.qh_model.specs.Predicates.{vol, AreInLine}
-use Rattle.qh_model.specs.Sets.{In, Once}
-use Rattle.qh_model.specs.Weighted.{Weighted, weighted, above}
-use Rattle.qh_model.specs.Surface.{Surface, Side, start, end, IsWhole, rise}
-use Rattle.qh_model.specs.Surface.Side.{first, second, third}
-use Rattle.qh_model.specs.SoundSurface.{IsSound, IsInner}
-use Rattle.qh_model.specs.FinishedSurface.{weighted_at, middle_at}
-use Rattle.qh_model.specs.ClosedSurface.{Triple, edges, is_edge, IsClosed, signed_volume, triples_from, triples_of}
-use Rattle.qh_model.specs.ClosedSurfaceLaws.{SoundIsClosed, SoundHasVolume}
+use Rattle.qh_model.specs.headline.Vector.{Vector}
+use Rattle.qh_model.specs.headline.Predicates.{vol, AreInLine}
+use Rattle.qh_model.specs.headline.Sets.{In, Once}
+use Rattle.qh_model.specs.contract.Weighted.{Weighted, weighted, above}
+use Rattle.qh_model.specs.contract.Surface.{Surface, Side, start, end, IsWhole, rise}
+use Rattle.qh_model.specs.contract.Surface.Side.{first, second, third}
+use Rattle.qh_model.specs.contract.SoundSurface.{IsSound, IsInner}
+use Rattle.qh_model.specs.contract.FinishedSurface.{weighted_at, middle_at}
+use Rattle.qh_model.specs.contract.ClosedSurface.{Triple, edges, is_edge, IsClosed, signed_volume, triples_from, triples_of}
+use Rattle.qh_model.specs.laws.ClosedSurfaceLaws.{SoundIsClosed, SoundHasVolume}
 use Rattle.qh_model.proofs.algebra.VectorIdentities.{in_line-vol}
 use Rattle.qh_model.proofs.closed_surfaces.Sums.{count, count-is}
 use Rattle.qh_model.proofs.closed_surfaces.SignedVolume.{edge_tests, volume_is_constant}

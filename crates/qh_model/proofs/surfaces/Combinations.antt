@@ -1,8 +1,8 @@
 -- Located points as mixes.
-use Rattle.qh_model.specs.Weighted.{Weighted, above, weighted_dot}
-use Rattle.qh_model.specs.CoveredPoints.{FacetInPlane, CombinationWithInner, CombinationInPlane}
-use Rattle.qh_model.specs.CoverageLaws.{SettledIsCombination, LevelIsCombination}
-use Rattle.qh_model.specs.Surface.Side.{first, second, third}
+use Rattle.qh_model.specs.contract.Weighted.{Weighted, above, weighted_dot}
+use Rattle.qh_model.specs.laws.CoveredPoints.{FacetInPlane, CombinationWithInner, CombinationInPlane}
+use Rattle.qh_model.specs.laws.CoverageLaws.{SettledIsCombination, LevelIsCombination}
+use Rattle.qh_model.specs.contract.Surface.Side.{first, second, third}
 use Rattle.std.proofs.Common.{◌≡◌, ◌∙◌, ap, arith}
 use Rattle.std.proofs.lemmas.Int.{ints}
 use Rattle.std.specs.Prelude.{ℤ, pos, ◌+ℤ◌, ◌*ℤ◌, neg_ℤ, ◌≤ℤ◌}

@@ -1,12 +1,12 @@
 -- A finished surface tells the hull: its dimension, its extreme ids and its polygons.
 use Rattle.std.proofs.Common.{◌≡◌, ℕ, refl, inl, List}
 use Rattle.std.specs.Prelude.{pos, ◌↔◌}
-use Rattle.qh_model.specs.Predicates.{cross, vol}
-use Rattle.qh_model.specs.Sets.{In, Members}
-use Rattle.qh_model.specs.Extreme.{Extreme}
-use Rattle.qh_model.specs.SupportingPlane.{IsSupportingTriple, OnPlane}
-use Rattle.qh_model.specs.Polygons.{IsFacePolygon}
-use Rattle.qh_model.specs.CompletenessLaws.{CornerInPlane, IsLiveCorner, FacetOfPlane, FinishedIsSolid, ExtremesOfCorners, ExtremesOfPlane, PolygonsOfFacets}
+use Rattle.qh_model.specs.headline.Predicates.{cross, vol}
+use Rattle.qh_model.specs.headline.Sets.{In, Members}
+use Rattle.qh_model.specs.headline.Extreme.{Extreme}
+use Rattle.qh_model.specs.headline.SupportingPlane.{IsSupportingTriple, OnPlane}
+use Rattle.qh_model.specs.headline.Polygons.{IsFacePolygon}
+use Rattle.qh_model.specs.laws.CompletenessLaws.{CornerInPlane, IsLiveCorner, FacetOfPlane, FinishedIsSolid, ExtremesOfCorners, ExtremesOfPlane, PolygonsOfFacets}
 use Rattle.qh_model.proofs.algebra.Order.{zero_or_not}
 use Rattle.qh_model.proofs.algebra.Signs.{less_differ}
 use Rattle.qh_model.proofs.extremes.ExtremeIds.{Listed, listed_itself, listed_part, extremes_between}

@@ -1,8 +1,9 @@
 -- A surface whose facets that see an id are replaced by its cone over the horizon.
-use Rattle.qh_model.specs.Surface.{IsCorner, Side, Surface, HasTwin, IsWhole, end, far, rest, rise, start}
-use Rattle.qh_model.specs.Sets.{In}
-use Rattle.qh_model.specs.SoundSurface.{IsInner, IsStrictWhenDrawn, IsSound, IsStrict, drawn, towards}
-use Rattle.qh_model.specs.Weighted.{Weighted, above}
+use Rattle.qh_model.specs.contract.Surface.{IsCorner, Side, Surface, HasTwin, IsWhole, end, rise, start}
+use Rattle.qh_model.specs.steps.FarCorners.{far, rest}
+use Rattle.qh_model.specs.headline.Sets.{In}
+use Rattle.qh_model.specs.contract.SoundSurface.{IsInner, IsStrictWhenDrawn, IsSound, IsStrict, drawn, towards}
+use Rattle.qh_model.specs.contract.Weighted.{Weighted, above}
 use Rattle.std.proofs.Common.{◌≡◌, ◌≢◌, ℕ, ◌+◌, ◌≤◌, refl, arith, ap, sym, ◌∙◌, subst, ◌⊎◌, inl, inr}
 use native.Mathlib.Decide.{ℕ_discrete}
 use Rattle.std.proofs.lemmas.Int.{ints, by_lt_z}

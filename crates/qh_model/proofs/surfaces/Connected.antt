@@ -1,8 +1,8 @@
 -- Surfaces whose corners may be drawn inwards so that all is strict: what a real point sees hangs together.
-use Rattle.qh_model.specs.Surface.{IsCorner, Surface, IsWhole, rise}
-use Rattle.qh_model.specs.Sets.{In}
-use Rattle.qh_model.specs.SoundSurface.{IsStrictWhenDrawn, IsSound, drawn, towards}
-use Rattle.qh_model.specs.Weighted.{Weighted}
+use Rattle.qh_model.specs.contract.Surface.{IsCorner, Surface, IsWhole, rise}
+use Rattle.qh_model.specs.headline.Sets.{In}
+use Rattle.qh_model.specs.contract.SoundSurface.{IsStrictWhenDrawn, IsSound, drawn, towards}
+use Rattle.qh_model.specs.contract.Weighted.{Weighted}
 use Rattle.std.proofs.Common.{◌≡◌, ℕ, suc, ◌+◌, ◌≤◌, arith, sym, subst, Bool, true}
 use Rattle.std.proofs.lemmas.Int.{ints, by_lt_z}
 use Rattle.std.specs.Prelude.{ℤ, pos, ◌+ℤ◌, ◌*ℤ◌, neg_ℤ, ◌≤ℤ◌, ◌<ℤ◌}

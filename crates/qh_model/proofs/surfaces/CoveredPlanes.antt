@@ -1,10 +1,10 @@
 -- In a plane that no corner is beyond, each point that no facet sees lies in a live triangle of that plane.
-use Rattle.qh_model.specs.Surface.{IsCorner, Side, Surface, IsWhole, end, rise, start}
-use Rattle.qh_model.specs.Sets.{In}
-use Rattle.qh_model.specs.CoverageLaws.{PlaneIsCovered}
-use Rattle.qh_model.specs.CoveredPoints.{FacetInPlane}
-use Rattle.qh_model.specs.SoundSurface.{IsSound, towards}
-use Rattle.qh_model.specs.Weighted.{Weighted, above, weighted_dot, plane_of}
+use Rattle.qh_model.specs.contract.Surface.{IsCorner, Side, Surface, IsWhole, end, rise, start}
+use Rattle.qh_model.specs.headline.Sets.{In}
+use Rattle.qh_model.specs.laws.CoverageLaws.{PlaneIsCovered}
+use Rattle.qh_model.specs.laws.CoveredPoints.{FacetInPlane}
+use Rattle.qh_model.specs.contract.SoundSurface.{IsSound, towards}
+use Rattle.qh_model.specs.contract.Weighted.{Weighted, above, weighted_dot, plane_of}
 use Rattle.std.proofs.Common.{◌≡◌, ℕ, suc, ◌+◌, ◌≤◌, refl, [], ◌∷◌, arith, ap, sym, ◌∙◌, subst, ◌⊎◌, inl, inr}
 use Rattle.std.proofs.lemmas.Int.{ints, by_lt_z}
 use Rattle.std.specs.Prelude.{ℤ, pos, ◌+ℤ◌, ◌*ℤ◌, neg_ℤ, ◌≤ℤ◌, ◌<ℤ◌}
@@ -14,7 +14,7 @@ use Rattle.qh_model.proofs.algebra.Ring.Expr.{var, add, mul, neg}
 use Rattle.qh_model.proofs.algebra.Signs.{less_differ, not_less, less_one_way}
 use Rattle.qh_model.proofs.algebra.Integers.{one_mul}
 use Rattle.qh_model.proofs.surfaces.Facets.{rise_own, sum4, above-sum, plane-is}
-use Rattle.qh_model.specs.Surface.Side.{first, second, third}
+use Rattle.qh_model.specs.contract.Surface.Side.{first, second, third}
 use Rattle.qh_model.proofs.surfaces.DrawnInwards.{towardsE, bound, scale}
 use Rattle.qh_model.proofs.surfaces.Determinants.{quad, aboveE, put4, above-turn, above-first, above-second, above-third}
 use Rattle.qh_model.proofs.surfaces.CramersRule.{cramer}

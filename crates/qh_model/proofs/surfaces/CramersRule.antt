@@ -1,5 +1,5 @@
 -- A plane's value at a point, by the point's coordinates over four others.
-use Rattle.qh_model.specs.Weighted.{Weighted, above, weighted_dot}
+use Rattle.qh_model.specs.contract.Weighted.{Weighted, above, weighted_dot}
 use Rattle.std.proofs.Common.{◌≡◌, refl, []}
 use Rattle.std.specs.Prelude.{◌+ℤ◌, ◌*ℤ◌}
 use Rattle.qh_model.proofs.algebra.Ring.{ring}

@@ -1,5 +1,5 @@
 -- Vectors of four whole numbers, and the identities of their determinant.
-use Rattle.qh_model.specs.Weighted.{Weighted, above}
+use Rattle.qh_model.specs.contract.Weighted.{Weighted, above}
 use Rattle.std.proofs.Common.{◌≡◌, ℕ, ◌+◌, ◌*◌, refl, List, [], ◌∷◌}
 use Rattle.std.specs.Prelude.{ℤ, pos, neg_ℤ}
 use Rattle.qh_model.proofs.algebra.Ring.{Expr, ring, ring_zero}

@@ -1,8 +1,9 @@
 -- The horizon at drawn places: where one of its sides ends exactly one begins.
-use Rattle.qh_model.specs.Surface.{IsCorner, Side, Surface, HasTwin, IsWhole, end, far, rest, rise, start}
-use Rattle.qh_model.specs.Sets.{In}
-use Rattle.qh_model.specs.SoundSurface.{IsSound, IsStrict}
-use Rattle.qh_model.specs.Weighted.{Weighted, above}
+use Rattle.qh_model.specs.contract.Surface.{IsCorner, Side, Surface, HasTwin, IsWhole, end, rise, start}
+use Rattle.qh_model.specs.steps.FarCorners.{far, rest}
+use Rattle.qh_model.specs.headline.Sets.{In}
+use Rattle.qh_model.specs.contract.SoundSurface.{IsSound, IsStrict}
+use Rattle.qh_model.specs.contract.Weighted.{Weighted, above}
 use Rattle.std.proofs.Common.{◌≡◌, ◌≢◌, ℕ, refl, [], ◌∷◌, ap, sym, ◌∙◌, subst, ◌⊎◌, inl, inr, Bool, true, false}
 use native.Mathlib.Decide.{ℕ_discrete}
 use Rattle.std.proofs.lemmas.Bool.{and_parts}

@@ -1,8 +1,8 @@
 -- Corners drawn a very little towards an inner point, each by its own share: what was level is then strictly below.
-use Rattle.qh_model.specs.Sets.{In}
-use Rattle.qh_model.specs.SoundSurface.{IsInner, drawn, towards}
-use Rattle.qh_model.specs.Surface.{Surface, rise}
-use Rattle.qh_model.specs.Weighted.{Weighted, above}
+use Rattle.qh_model.specs.headline.Sets.{In}
+use Rattle.qh_model.specs.contract.SoundSurface.{IsInner, drawn, towards}
+use Rattle.qh_model.specs.contract.Surface.{Surface, rise}
+use Rattle.qh_model.specs.contract.Weighted.{Weighted, above}
 use Rattle.std.proofs.Common.{◌≡◌, ℕ, zero, suc, ◌+◌, ◌≤◌, refl, List, [], ◌∷◌, arith, sym, subst, ◌⊎◌, inl, inr}
 use Rattle.std.proofs.lemmas.Int.{ints}
 use Rattle.std.specs.Prelude.{ℤ, pos, negsuc, ◌+ℤ◌, ◌-ℤ◌, ◌*ℤ◌, neg_ℤ, ◌≤ℤ◌, ◌<ℤ◌}

@@ -3,15 +3,15 @@ use Rattle.std.proofs.Common.{◌≡◌, ℕ, suc, ◌≤◌, arith, refl, sym, 
 use Rattle.std.proofs.lemmas.Int.{ints}
 use Rattle.std.proofs.Math.IntN.{*ℤ-zero}
 use Rattle.std.specs.Prelude.{ℤ, pos, ◌+ℤ◌, ◌*ℤ◌, neg_ℤ, ◌≤ℤ◌, ◌<ℤ◌}
-use Rattle.qh_model.specs.Vector.{Vector}
-use Rattle.qh_model.specs.Predicates.{cross, vol}
-use Rattle.qh_model.specs.Sets.{In}
-use Rattle.qh_model.specs.FaceLaws.{IsAlong}
-use Rattle.qh_model.specs.Weighted.{Weighted}
-use Rattle.qh_model.specs.Surface.{Surface, IsCorner, rise, Sees}
-use Rattle.qh_model.specs.SoundSurface.{towards}
-use Rattle.qh_model.specs.FinishedSurface.{weighted_at, middle_at, IsFinished}
-use Rattle.qh_model.specs.FacetPlanes.{IsLevelWith, IsLevelFacet, HaveOnePlane, IsPlaneWalk, LevelFacetsSpan, PlaneWalkFindsAll}
+use Rattle.qh_model.specs.headline.Vector.{Vector}
+use Rattle.qh_model.specs.headline.Predicates.{cross, vol}
+use Rattle.qh_model.specs.headline.Sets.{In}
+use Rattle.qh_model.specs.laws.FaceLaws.{IsAlong}
+use Rattle.qh_model.specs.contract.Weighted.{Weighted}
+use Rattle.qh_model.specs.contract.Surface.{Surface, IsCorner, rise, Sees}
+use Rattle.qh_model.specs.contract.SoundSurface.{towards}
+use Rattle.qh_model.specs.contract.FinishedSurface.{weighted_at, middle_at, IsFinished}
+use Rattle.qh_model.specs.laws.FacetPlanes.{IsLevelWith, IsLevelFacet, HaveOnePlane, IsPlaneWalk, LevelFacetsSpan, PlaneWalkFindsAll}
 use Rattle.qh_model.proofs.algebra.VectorIdentities.{vol-first, vol-second, vol-third}
 use Rattle.qh_model.proofs.extremes.Directions.{normal_along, from_plane, vol_along, zero_along}
 use Rattle.qh_model.proofs.surfaces.Facets.{sum4, above-sum}

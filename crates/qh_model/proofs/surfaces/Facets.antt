@@ -1,9 +1,10 @@
 -- Facets with neighbours over their sides, and what weighted points of their corners may have: no corner above a facet.
-use Rattle.qh_model.specs.Surface.Side.{first, second, third}
-use Rattle.qh_model.specs.Surface.{IsCorner, Side, Surface, HasTwin, IsWhole, end, far, rest, rise, start}
-use Rattle.qh_model.specs.SoundSurface.{HasDistinctFacets, IsInner, IsStrict}
-use Rattle.qh_model.specs.Sets.{In}
-use Rattle.qh_model.specs.Weighted.{Weighted, above, weighted_dot, plane_of}
+use Rattle.qh_model.specs.contract.Surface.Side.{first, second, third}
+use Rattle.qh_model.specs.contract.Surface.{IsCorner, Side, Surface, HasTwin, IsWhole, end, rise, start}
+use Rattle.qh_model.specs.steps.FarCorners.{far, rest}
+use Rattle.qh_model.specs.contract.SoundSurface.{HasDistinctFacets, IsInner, IsStrict}
+use Rattle.qh_model.specs.headline.Sets.{In}
+use Rattle.qh_model.specs.contract.Weighted.{Weighted, above, weighted_dot, plane_of}
 use Rattle.std.proofs.Common.{◌≡◌, ◌≢◌, ℕ, zero, suc, refl, [], arith, ap, sym, ◌∙◌, subst, Bool, true, false, ◌⊎◌, inl, inr}
 use native.Mathlib.Decide.{ℕ_discrete}
 use Rattle.std.proofs.lemmas.Int.{ints}

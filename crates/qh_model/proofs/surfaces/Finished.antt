@@ -3,19 +3,19 @@ use Rattle.std.proofs.Common.{◌≡◌, ◌≢◌, ℕ, arith, refl, sym, ap, s
 use Rattle.std.proofs.lemmas.Int.{ints}
 use native.Mathlib.Decide.{ℕ_discrete}
 use Rattle.std.specs.Prelude.{ℤ, pos, ◌+ℤ◌, ◌-ℤ◌, ◌*ℤ◌, neg_ℤ, ◌≤ℤ◌, ◌<ℤ◌}
-use Rattle.qh_model.specs.Vector.{Vector, dot}
-use Rattle.qh_model.specs.Predicates.{cross, vol, AreInLine}
-use Rattle.qh_model.specs.Sets.{In, Members}
-use Rattle.qh_model.specs.Combination.{Combination}
-use Rattle.qh_model.specs.Separator.{Separator}
-use Rattle.qh_model.specs.Extreme.{Others, Extreme}
-use Rattle.qh_model.specs.SupportingPlane.{IsSupportingTriple, OnPlane}
-use Rattle.qh_model.specs.FaceLaws.{IsAlong}
-use Rattle.qh_model.specs.Weighted.{Weighted, weighted, weighted_dot, above}
-use Rattle.qh_model.specs.Surface.{Surface, IsCorner, rise}
-use Rattle.qh_model.specs.CoveredPoints.{CombinationWithInner, CombinationInPlane}
-use Rattle.qh_model.specs.FinishedSurface.{weighted_at, middle_at, IsFinished}
-use Rattle.qh_model.specs.CompletenessLaws.{FacetsSupport, ExtremesAreCorners, CornerInPlane, ExtremesOfPlaneAreCorners, FacetOfPlane, PlanesHaveFacets}
+use Rattle.qh_model.specs.headline.Vector.{Vector, dot}
+use Rattle.qh_model.specs.headline.Predicates.{cross, vol, AreInLine}
+use Rattle.qh_model.specs.headline.Sets.{In, Members}
+use Rattle.qh_model.specs.headline.Combination.{Combination}
+use Rattle.qh_model.specs.laws.Separator.{Separator}
+use Rattle.qh_model.specs.headline.Extreme.{Others, Extreme}
+use Rattle.qh_model.specs.headline.SupportingPlane.{IsSupportingTriple, OnPlane}
+use Rattle.qh_model.specs.laws.FaceLaws.{IsAlong}
+use Rattle.qh_model.specs.contract.Weighted.{Weighted, weighted, weighted_dot, above}
+use Rattle.qh_model.specs.contract.Surface.{Surface, IsCorner, rise}
+use Rattle.qh_model.specs.laws.CoveredPoints.{CombinationWithInner, CombinationInPlane}
+use Rattle.qh_model.specs.contract.FinishedSurface.{weighted_at, middle_at, IsFinished}
+use Rattle.qh_model.specs.laws.CompletenessLaws.{FacetsSupport, ExtremesAreCorners, CornerInPlane, ExtremesOfPlaneAreCorners, FacetOfPlane, PlanesHaveFacets}
 use Rattle.qh_model.proofs.algebra.Order.{mul-nonneg, cancel-zero, le_antisym, positive_le}
 use Rattle.qh_model.proofs.algebra.Ring.{ring}
 use Rattle.qh_model.proofs.algebra.Ring.Expr.{var, con, add, sub as less, mul}

@@ -1,9 +1,11 @@
 -- The horizon: where one side of it ends exactly one begins, and the other way round.
-use Rattle.qh_model.specs.Surface.{IsCorner, Side, Surface, HasTwin, IsWhole, end, far, rest, rise, start}
-use Rattle.qh_model.specs.Rewired.{IsHorizonSide, HasHorizonSide}
-use Rattle.qh_model.specs.Sets.{In}
-use Rattle.qh_model.specs.SoundSurface.{IsSound, drawn, towards}
-use Rattle.qh_model.specs.Weighted.{Weighted, above}
+use Rattle.qh_model.specs.contract.Surface.{IsCorner, Side, Surface, HasTwin, IsWhole, end, rise, start}
+use Rattle.qh_model.specs.steps.FarCorners.{far, rest}
+use Rattle.qh_model.specs.contract.Rewired.{IsHorizonSide}
+use Rattle.qh_model.specs.laws.Horizons.{HasHorizonSide}
+use Rattle.qh_model.specs.headline.Sets.{In}
+use Rattle.qh_model.specs.contract.SoundSurface.{IsSound, drawn, towards}
+use Rattle.qh_model.specs.contract.Weighted.{Weighted, above}
 use Rattle.std.proofs.Common.{◌≡◌, ◌≢◌, ℕ, ◌+◌, ◌≤◌, refl, arith, ap, sym, ◌∙◌, subst, ◌⊎◌, inl, inr, Bool, true}
 use native.Mathlib.Decide.{ℕ_discrete}
 use Rattle.std.proofs.lemmas.Int.{ints, by_lt_z}

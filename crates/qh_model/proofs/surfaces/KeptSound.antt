@@ -1,13 +1,14 @@
 -- What a surface keeps where a cone replaces the facets that see an id, and which points see none of it.
-use Rattle.qh_model.specs.Surface.{IsCorner, Side, Surface, HasTwin, IsWhole, end, rest, rise, start}
-use Rattle.qh_model.specs.SoundSurface.{HasDistinctFacets, IsInner, IsSound, IsStrict, drawn}
-use Rattle.qh_model.specs.Sets.{In}
-use Rattle.qh_model.specs.Weighted.{Weighted, above}
+use Rattle.qh_model.specs.contract.Surface.{IsCorner, Side, Surface, HasTwin, IsWhole, end, rise, start}
+use Rattle.qh_model.specs.steps.FarCorners.{rest}
+use Rattle.qh_model.specs.contract.SoundSurface.{HasDistinctFacets, IsInner, IsSound, IsStrict, drawn}
+use Rattle.qh_model.specs.headline.Sets.{In}
+use Rattle.qh_model.specs.contract.Weighted.{Weighted, above}
 use Rattle.std.proofs.Common.{◌≡◌, ◌≢◌, ℕ, ◌≤◌, refl, arith, ap, sym, ◌∙◌, subst, ◌⊎◌, inl, inr}
 use Rattle.std.proofs.lemmas.Int.{ints}
 use Rattle.std.specs.Prelude.{ℤ, pos, neg_ℤ, ◌≤ℤ◌, ◌<ℤ◌}
 use Rattle.qh_model.proofs.surfaces.Facets.{rise_side, corner_start, corner_end, corner_rest, corner_cases, corner_test, ends_differ}
-use Rattle.qh_model.specs.Surface.Side.{first, second, third}
+use Rattle.qh_model.specs.contract.Surface.Side.{first, second, third}
 use Rattle.qh_model.proofs.surfaces.Determinants.{above-swap_last}
 use Rattle.qh_model.proofs.surfaces.Cone.{KeptOf, ConeOf, Replaced, Old, p_fresh, kept_corner, corner_kept, inner_kept, lifted_kept}
 

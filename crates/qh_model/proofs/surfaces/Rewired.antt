@@ -1,13 +1,13 @@
 -- The cone's twins, told by the horizon's ends alone, make a whole surface again.
-use Rattle.qh_model.specs.Rewired.{IsHorizonSide, LinksTo, IsRewired, KeepsCorners}
-use Rattle.qh_model.specs.Sets.{In}
-use Rattle.qh_model.specs.Surface.{Side, Surface, HasTwin, IsWhole, end, rise, start}
-use Rattle.qh_model.specs.SoundSurface.{IsSound}
-use Rattle.qh_model.specs.Weighted.{Weighted}
+use Rattle.qh_model.specs.contract.Rewired.{IsHorizonSide, LinksTo, IsRewired, KeepsCorners}
+use Rattle.qh_model.specs.headline.Sets.{In}
+use Rattle.qh_model.specs.contract.Surface.{Side, Surface, HasTwin, IsWhole, end, rise, start}
+use Rattle.qh_model.specs.contract.SoundSurface.{IsSound}
+use Rattle.qh_model.specs.contract.Weighted.{Weighted}
 use Rattle.std.proofs.Common.{◌≡◌, ℕ, ap, sym, ◌∙◌, subst, ◌⊎◌, inl, inr}
 use Rattle.std.proofs.lemmas.Int.{by_lt_z}
 use Rattle.std.specs.Prelude.{pos, ◌≤ℤ◌, ◌<ℤ◌}
-use Rattle.qh_model.specs.Surface.Side.{first, second, third}
+use Rattle.qh_model.specs.contract.Surface.Side.{first, second, third}
 use Rattle.qh_model.proofs.surfaces.Cone.{KeptOf, ConeOf, Replaced}
 use Rattle.qh_model.proofs.surfaces.KeptSound.{side_once, sound_kept}
 use Rattle.qh_model.proofs.surfaces.Horizon.{edge_next, edge_prev}

@@ -1,11 +1,12 @@
 -- The surface of a simplex.
-use Rattle.qh_model.specs.Weighted.{Weighted, above, middle_of, weighted_dot, plane_of}
-use Rattle.qh_model.specs.Sets.{In}
-use Rattle.qh_model.specs.Surface.{Side, IsWhole, HasTwin, IsCorner, rise}
-use Rattle.qh_model.specs.SoundSurface.{IsInner}
-use Rattle.qh_model.specs.Simplex.{IsSimplexBoundary, one_of, simplex_surface}
-use Rattle.qh_model.specs.SurfaceLaws.{SimplexIsSound, MiddleIsBelow}
-use Rattle.qh_model.specs.Surface.Side.{first, second, third}
+use Rattle.qh_model.specs.contract.Weighted.{Weighted, above, middle_of, weighted_dot, plane_of}
+use Rattle.qh_model.specs.headline.Sets.{In}
+use Rattle.qh_model.specs.contract.Surface.{Side, IsWhole, HasTwin, IsCorner, rise}
+use Rattle.qh_model.specs.contract.SoundSurface.{IsInner}
+use Rattle.qh_model.specs.laws.SimplexSurface.{IsSimplexBoundary, simplex_surface}
+use Rattle.qh_model.specs.contract.Simplex.{one_of}
+use Rattle.qh_model.specs.laws.SurfaceLaws.{SimplexIsSound, MiddleIsBelow}
+use Rattle.qh_model.specs.contract.Surface.Side.{first, second, third}
 use Rattle.std.proofs.Common.{◌∙◌, ◌≡◌, ℕ, refl, sym, subst, arith, ap, [], ◌∷◌, ◌⊎◌, inl, inr}
 use Rattle.std.proofs.lemmas.Int.{ints, by_lt_z}
 use Rattle.std.specs.Prelude.{ℤ, pos, ◌+ℤ◌, ◌*ℤ◌, ◌<ℤ◌, ◌≤ℤ◌}

@@ -1,8 +1,8 @@
 -- The first simplex.
-use Rattle.qh_model.specs.Surface.{IsCorner, Surface, rise}
-use Rattle.qh_model.specs.SoundSurface.{HasDistinctFacets, IsInner, IsSound, IsStrict, drawn}
-use Rattle.qh_model.specs.Simplex.{IsSimplexBoundary}
-use Rattle.qh_model.specs.Weighted.{Weighted, above}
+use Rattle.qh_model.specs.contract.Surface.{IsCorner, Surface, rise}
+use Rattle.qh_model.specs.contract.SoundSurface.{HasDistinctFacets, IsInner, IsSound, IsStrict, drawn}
+use Rattle.qh_model.specs.laws.SimplexSurface.{IsSimplexBoundary}
+use Rattle.qh_model.specs.contract.Weighted.{Weighted, above}
 use Rattle.std.proofs.Common.{◌≡◌, ℕ, ◌≤◌, refl, [], ◌∷◌, arith, sym, ◌∙◌, subst, ◌⊎◌, inl, inr}
 use Rattle.std.proofs.lemmas.Int.{ints}
 use Rattle.std.specs.Prelude.{ℤ, pos, ◌+ℤ◌, ◌*ℤ◌, ◌<ℤ◌}

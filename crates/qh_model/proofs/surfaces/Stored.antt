@@ -1,6 +1,7 @@
 -- The live facets of a stored surface.
-use Rattle.qh_model.specs.Sets.{In, Once}
-use Rattle.qh_model.specs.StoredSurface.{StoredFacet, facet_at, live_from, LiveIsMarked, LiveIsListedOnce}
+use Rattle.qh_model.specs.headline.Sets.{In, Once}
+use Rattle.qh_model.specs.contract.StoredSurface.{StoredFacet, facet_at, live_from}
+use Rattle.qh_model.specs.laws.LiveFacets.{LiveIsMarked, LiveIsListedOnce}
 use Rattle.std.proofs.Common.{◌≡◌, ℕ, zero, suc, ◌+◌, ◌≤◌, refl, sym, ◌∙◌, subst, arith, List, [], ◌∷◌, inl, inr, Bool, true, false, cond}
 use Rattle.std.proofs.lemmas.Bool.{both_ways}
 

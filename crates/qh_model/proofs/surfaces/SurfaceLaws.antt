@@ -1,10 +1,10 @@
 -- The laws, from their proofs.
-use Rattle.qh_model.specs.SurfaceLaws.{CornersAreSettled, AddedIsSettled, RiseIsVol, WalkFindsAll, SettledStayUnseen, HorizonGoesOn, HorizonIsKnown}
-use Rattle.qh_model.specs.Weighted.{above}
-use Rattle.qh_model.specs.Surface.{rise}
+use Rattle.qh_model.specs.laws.SurfaceLaws.{CornersAreSettled, AddedIsSettled, RiseIsVol, WalkFindsAll, SettledStayUnseen, HorizonGoesOn, HorizonIsKnown}
+use Rattle.qh_model.specs.contract.Weighted.{above}
+use Rattle.qh_model.specs.contract.Surface.{rise}
 use Rattle.std.proofs.Common.{refl, [], inl, inr}
 use Rattle.std.specs.Prelude.{pos}
-use Rattle.qh_model.specs.Predicates.{vol}
+use Rattle.qh_model.specs.headline.Predicates.{cross, vol}
 use Rattle.qh_model.proofs.algebra.VectorIdentities.{vec, volE, put, VE}
 use Rattle.qh_model.proofs.algebra.Ring.{ring}
 use Rattle.qh_model.proofs.algebra.Ring.Expr.{con}
@@ -21,7 +21,7 @@ weightedE p = record { w = con (pos 1); x = p.x; y = p.y; z = p.z }
 
 -- the law
 pub rise_is_vol : RiseIsVol
-unfolding above vol
+unfolding above vol cross
 rise_is_vol a b c p = ring (put a (put b (put c (put p [])))) (aboveE (weightedE (vec 0)) (weightedE (vec 1)) (weightedE (vec 2)) (weightedE (vec 3))) (volE (vec 0) (vec 1) (vec 2) (vec 3)) refl
 
 -- the law

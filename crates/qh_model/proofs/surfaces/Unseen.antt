@@ -1,9 +1,10 @@
 -- Points that see a removed facet and none of the cone see nothing; points that see nothing see nothing of the cone.
-use Rattle.qh_model.specs.Rewired.{IsConeUnseen}
-use Rattle.qh_model.specs.Sets.{In}
-use Rattle.qh_model.specs.Surface.{Side, Surface, IsWhole, end, far, rest, rise, start}
-use Rattle.qh_model.specs.SoundSurface.{IsSound}
-use Rattle.qh_model.specs.Weighted.{Weighted, above}
+use Rattle.qh_model.specs.laws.Horizons.{IsConeUnseen}
+use Rattle.qh_model.specs.headline.Sets.{In}
+use Rattle.qh_model.specs.contract.Surface.{Side, Surface, IsWhole, end, rise, start}
+use Rattle.qh_model.specs.steps.FarCorners.{far, rest}
+use Rattle.qh_model.specs.contract.SoundSurface.{IsSound}
+use Rattle.qh_model.specs.contract.Weighted.{Weighted, above}
 use Rattle.std.proofs.Common.{◌≡◌, ℕ, refl, arith, sym, ◌∙◌, ◌⊎◌, inl, inr, Bool, true}
 use Rattle.std.proofs.lemmas.Int.{ints, by_lt_z}
 use Rattle.std.proofs.lemmas.Bool.{and_parts}

@@ -1,5 +1,5 @@
 //! The laws of closed surfaces of triangles.
-ghost use Rattle.qh_model.specs.ClosedSurfaceLaws.{VolumeIsConstant, NoneBelowAndBeyond, SoundIsClosed, SoundHasVolume};
+ghost use Rattle.qh_model.specs.laws.ClosedSurfaceLaws.{VolumeIsConstant, NoneBelowAndBeyond, SoundIsClosed, SoundHasVolume};
 
 /// The signed volume of a closed surface does not depend on the fourth point, and no point is strictly
 /// below every triangle of it and strictly beyond all its corners. So a list of supporting triangles

@@ -1,6 +1,6 @@
 //! The laws of cuts, and of what is found for their blocks.
-ghost use Rattle.qh_model.specs.CutLaws.{BlocksCover, BlocksAreApart, BlocksAreInside, BlocksAreNotEmpty};
-ghost use Rattle.qh_model.specs.RightValueLaws.{RightOfLeaf, RightOfNode, HullOfRoot};
+ghost use Rattle.qh_model.specs.laws.CutLaws.{BlocksCover, BlocksAreApart, BlocksAreInside, BlocksAreNotEmpty};
+ghost use Rattle.qh_model.specs.laws.RightValueLaws.{RightOfLeaf, RightOfNode, HullOfRoot};
 
 /// The blocks of a cut have each position once and nothing else, and none is empty.
 pub fn blocks_share_positions()

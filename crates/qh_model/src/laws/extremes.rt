@@ -1,8 +1,8 @@
 //! The laws of extreme ids and of supporting planes.
-ghost use Rattle.qh_model.specs.ExtremeLaws.{GreatestIsExtreme, MembersAreCombinations, UnionOfExtremes};
-ghost use Rattle.qh_model.specs.FaceLaws.{ExtremesOfFace, SupportOfExtremes, PlanesOfExtremes};
-ghost use Rattle.qh_model.specs.DimensionLaws.{DimensionOfExtremes};
-ghost use Rattle.qh_model.specs.HullLaws.{BodyOfExtremes, BodyOfPart, ExtremesOfPart, PolygonsOfExtremes, TriplesOfExtremes};
+ghost use Rattle.qh_model.specs.laws.ExtremeLaws.{GreatestIsExtreme, MembersAreCombinations, UnionOfExtremes};
+ghost use Rattle.qh_model.specs.laws.FaceLaws.{ExtremesOfFace, SupportOfExtremes, PlanesOfExtremes};
+ghost use Rattle.qh_model.specs.laws.DimensionLaws.{DimensionOfExtremes};
+ghost use Rattle.qh_model.specs.laws.HullLaws.{BodyOfExtremes, BodyOfPart, ExtremesOfPart, PolygonsOfExtremes, TriplesOfExtremes};
 
 /// The member that is greatest along a direction, by its coordinates among level ones, is extreme.
 /// It gives a hull its first corners.

@@ -1,6 +1,6 @@
 //! The laws by which a hull is one value.
-ghost use Rattle.qh_model.specs.DimensionLaws.{DimensionIsUnique};
-ghost use Rattle.qh_model.specs.HullLaws.{PolygonsAreUnique, EdgeCountIsUnique, RisingListIsUnique, DistinctIdsAreUnique, BodyIsUnique, HullIsUnique, TextIsUnique};
+ghost use Rattle.qh_model.specs.laws.DimensionLaws.{DimensionIsUnique};
+ghost use Rattle.qh_model.specs.laws.HullLaws.{PolygonsAreUnique, EdgeCountIsUnique, RisingListIsUnique, DistinctIdsAreUnique, BodyIsUnique, HullIsUnique, TextIsUnique};
 
 /// No two hulls are right for one list of points, and no two texts for one list of points and outputs.
 /// So an answer says nothing of how it was found.

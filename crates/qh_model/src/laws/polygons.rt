@@ -1,5 +1,5 @@
 //! The laws of the polygon of a face.
-ghost use Rattle.qh_model.specs.PolygonLaws.{PolygonIsUnique, PolygonByDirection};
+ghost use Rattle.qh_model.specs.laws.PolygonLaws.{PolygonIsUnique, PolygonByDirection};
 
 /// No two lists are the polygon of one set and normal, so a face has one right list.
 pub fn one_polygon()

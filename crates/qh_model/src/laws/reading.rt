@@ -1,5 +1,5 @@
 //! The law of the point file.
-ghost use Rattle.qh_model.specs.Readings.{ReadsOneList, HasListOrFault, IsNeverBoth};
+ghost use Rattle.qh_model.specs.laws.Readings.{ReadsOneList, HasListOrFault, IsNeverBoth};
 
 /// A byte string is the file of one list of points and has no fault, or it has one first fault and
 /// is the file of none. So a reader has one right answer.

@@ -1,7 +1,7 @@
 //! The laws of surfaces of facets, by which Quickhull's steps are right.
-ghost use Rattle.qh_model.specs.SurfaceLaws.{RiseIsVol, SimplexBoundaryIsSound, SimplexIsSound, MiddleIsBelow, WalkFindsAll, HorizonGoesOn, HorizonIsKnown, ReplaceKeeps, CornersAreSettled, AddedIsSettled, SettledStayUnseen, DroppedStayUnseen};
-ghost use Rattle.qh_model.specs.CoverageLaws.{NothingOutside, PlaneIsCovered, SettledIsCombination, LevelIsCombination};
-ghost use Rattle.qh_model.specs.StoredSurface.{LiveIsMarked, LiveIsListedOnce};
+ghost use Rattle.qh_model.specs.laws.SurfaceLaws.{RiseIsVol, SimplexBoundaryIsSound, SimplexIsSound, MiddleIsBelow, WalkFindsAll, HorizonGoesOn, HorizonIsKnown, ReplaceKeeps, CornersAreSettled, AddedIsSettled, SettledStayUnseen, DroppedStayUnseen};
+ghost use Rattle.qh_model.specs.laws.CoverageLaws.{NothingOutside, PlaneIsCovered, SettledIsCombination, LevelIsCombination};
+ghost use Rattle.qh_model.specs.laws.LiveFacets.{LiveIsMarked, LiveIsListedOnce};
 
 /// For points of space, a facet sees a point by the sign of their volume.
 pub fn rise_is_vol()

@@ -4,8 +4,8 @@ use Rattle.std.proofs.lemmas.Int.{ints, by_lt_z}
 use Rattle.std.specs.Prelude.{ℤ, pos, negsuc, ◌≤ℤ◌, ◌<ℤ◌}
 use Rattle.qh_model.proofs.algebra.Order.{le_antisym, positive_le}
 use Rattle.qh_model.proofs.algebra.Signs.{not_less, less_le, equal_le}
-use Rattle.qh_model.specs.Sets.{In}
-use Rattle.qh_plane.specs.Chains.{is_left, kept_below, chain}
+use Rattle.qh_model.specs.headline.Sets.{In}
+use Rattle.qh_plane.specs.steps.Chains.{is_left, kept_below, chain}
 use Rattle.qh_plane.proofs.polygons.TurnLaws.{RisesBy, TurnLaws, TurnsAt, HasOnLeft, IsChain, Added, chain_top}
 
 -- what the pops leave

@@ -2,7 +2,7 @@
 use Rattle.std.proofs.Common.{◌≡◌, ℕ, refl, List, [], ◌∷◌, arith, sym, subst, ◌⊎◌, inl, inr}
 use Rattle.std.proofs.lemmas.Int.{ints, by_lt_z}
 use Rattle.std.specs.Prelude.{ℤ, pos, ◌≤ℤ◌, ◌<ℤ◌}
-use Rattle.qh_model.specs.Sets.{In, Once}
+use Rattle.qh_model.specs.headline.Sets.{In, Once}
 use Rattle.qh_model.proofs.algebra.Order.{le_antisym}
 use Rattle.qh_model.proofs.algebra.Signs.{not_less}
 use Rattle.qh_plane.proofs.polygons.TurnLaws.{HasOnLeft, IsChain, chain_top}

@@ -7,9 +7,9 @@ use Rattle.qh_model.proofs.algebra.Ring.{ring}
 use Rattle.qh_model.proofs.algebra.Ring.Expr.{var, add, sub as less, mul}
 use Rattle.qh_model.proofs.algebra.VectorIdentities.{vec, subE, crossE, dotE, put, dot-minus, left-flip}
 use Rattle.qh_model.proofs.algebra.Signs.{opposite_zero, gap_positive}
-use Rattle.qh_model.specs.Vector.{Vector, minus, cross_product, dot}
-use Rattle.qh_model.specs.Predicates.{left}
-use Rattle.qh_model.specs.Extreme.{Extreme, Others}
+use Rattle.qh_model.specs.headline.Vector.{Vector, minus, cross_product, dot}
+use Rattle.qh_model.specs.headline.Predicates.{cross, left}
+use Rattle.qh_model.specs.headline.Extreme.{Extreme, Others}
 use Rattle.qh_model.proofs.combinations.Alternatives.{all_lower}
 use Rattle.qh_plane.proofs.PlaneDirections.{bracket, bracketE, bracket-fan}
 use Rattle.qh_plane.proofs.polygons.TurnLaws.{HasOnLeft}
@@ -24,7 +24,7 @@ pub record Corner (at : ℕ → Vector) (A : ℕ → Type 0) (m : ℕ) : Type 0 
 
 -- how far r lies beyond x across the way from q to t
 corner_eq : (n q r t x : Vector) → dot (cross_product (minus t q) n) r -ℤ dot (cross_product (minus t q) n) x ≡ left n q r x +ℤ left n r t x
-unfolding left
+unfolding left cross
 corner_eq n q r t x =
     ring (put n (put q (put r (put t (put x [])))))
     (less (dotE (crossE (subE (vec 3) (vec 1)) (vec 0)) (vec 2)) (dotE (crossE (subE (vec 3) (vec 1)) (vec 0)) (vec 4)))

@@ -1,9 +1,9 @@
 -- Lists that go round: from two stacks, and from another beginning.
 use Rattle.std.proofs.Common.{◌≡◌, ℕ, refl, List, [], ◌∷◌, ◌++◌, sym, subst, ◌⊎◌, inl, inr}
 use Rattle.std.proofs.lemmas.List.{append-nil}
-use Rattle.qh_model.specs.Sets.{In, Once}
-use Rattle.qh_model.specs.Polygon.{AlongPath, AroundCycle}
-use Rattle.qh_plane.specs.Chains.{turned_onto}
+use Rattle.qh_model.specs.headline.Sets.{In, Once}
+use Rattle.qh_model.proofs.polygons.Cycles.{AlongPath, AroundCycle}
+use Rattle.qh_plane.specs.steps.Chains.{turned_onto}
 use Rattle.qh_plane.proofs.polygons.Sides.{Down}
 
 -- P holds along the list to e

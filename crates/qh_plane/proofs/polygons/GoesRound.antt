@@ -2,19 +2,19 @@
 use Rattle.std.proofs.Common.{◌≡◌, ℕ, List, [], ◌∷◌, ◌++◌, arith, ap, sym, subst, inl, inr, ⊎_elim}
 use Rattle.std.proofs.lemmas.Int.{ints}
 use Rattle.std.specs.Prelude.{ℤ, pos, ◌≤ℤ◌, ◌<ℤ◌, ◌↔◌}
-use Rattle.qh_model.specs.Vector.{Vector}
-use Rattle.qh_model.specs.Sets.{In, Once}
-use Rattle.qh_model.specs.Extreme.{Extreme}
-use Rattle.qh_model.specs.Polygon.{AroundCycle, TurnsLeft}
+use Rattle.qh_model.specs.headline.Vector.{Vector}
+use Rattle.qh_model.specs.headline.Sets.{In, Once}
+use Rattle.qh_model.specs.headline.Extreme.{Extreme}
+use Rattle.qh_model.specs.headline.Polygon.{TurnsLeft}
 use Rattle.qh_model.proofs.algebra.VectorIdentities.{opposite}
-use Rattle.qh_model.proofs.polygons.Direction.{cycle_map}
+use Rattle.qh_model.proofs.polygons.Cycles.{AroundCycle, cycle_map}
 use Rattle.qh_model.proofs.lists.Joined.{in_append, of_append, once_append}
 use Rattle.qh_plane.proofs.polygons.TurnLaws.{RisesBy, IsChain}
 use Rattle.qh_plane.proofs.polygons.Chain.{Passed, passed-before, passed-in, in-passed, IsChained, chain-good}
 use Rattle.qh_plane.proofs.polygons.Turns.{IsFlat, IsKeyed, turn_about, height_of, turn_laws}
 use Rattle.qh_plane.proofs.polygons.TwoChains.{keyed_opposite, Chains, ring_members, ring_once, ring_round}
 use Rattle.qh_plane.proofs.polygons.Cycles.{cycle-rotate}
-use Rattle.qh_plane.specs.Chains.{chain, turned_onto, joined}
+use Rattle.qh_plane.specs.steps.Chains.{chain, turned_onto, joined}
 
 -- q goes once round the extreme ids of A, counterclockwise
 pub record GoesRound (n : Vector) (at : ℕ → Vector) (A : ℕ → Type 0) (q : List ℕ) : Type 0 where

@@ -5,15 +5,16 @@ use Rattle.std.specs.Prelude.{ℤ, pos, ◌+ℤ◌, ◌*ℤ◌, ◌<ℤ◌}
 use Rattle.std.specs.List.{All}
 use Rattle.qh_model.proofs.Members.{All-In}
 use Rattle.qh_model.specs.declared.limits.TheConstants.{COORDINATE_LIMIT}
-use Rattle.qh_model.specs.DistinctIds.{HasDistinctPoints}
-use Rattle.qh_model.specs.Limits.{IsPlace, IsCoordinate}
-use Rattle.qh_model.specs.Predicates.{place}
-use Rattle.qh_model.specs.Sets.{In}
-use Rattle.qh_model.specs.Vector.{Vector, dot}
+use Rattle.qh_model.specs.contract.IdSets.{HasDistinctPoints}
+use Rattle.qh_model.specs.contract.Places.{IsPlace}
+use Rattle.qh_model.specs.headline.Limits.{IsCoordinate}
+use Rattle.qh_model.specs.headline.Predicates.{place}
+use Rattle.qh_model.specs.headline.Sets.{In}
+use Rattle.qh_model.specs.headline.Vector.{Vector, dot}
 use Rattle.qh_plane.proofs.KeyOrder.{place_code-same}
 use Rattle.qh_plane.proofs.polygons.Turns.{IsKeyed}
 use Rattle.qh_plane.specs.declared.place_keys.TheConstants.{ROOM}
-use Rattle.qh_plane.specs.PlaceKeys.{raised, place_code, HasKey}
+use Rattle.qh_plane.specs.steps.PlaceKeys.{raised, place_code, HasKey}
 
 -- the direction along which places rise by x, then y, then z
 abbrev pub order : Vector

@@ -8,12 +8,12 @@ use Rattle.qh_model.proofs.algebra.VectorIdentities.{vec, dotE, put, vector_path
 use Rattle.qh_model.proofs.algebra.Signs.{opposite_zero}
 use Rattle.qh_model.proofs.extremes.Dimensions.{segment_of_triangle}
 use Rattle.qh_model.proofs.extremes.Directions.{square-positive}
-use Rattle.qh_model.specs.Predicates.{place, cross}
-use Rattle.qh_model.specs.Sets.{In, Members}
-use Rattle.qh_model.specs.Vector.{Vector, origin, minus, dot}
+use Rattle.qh_model.specs.headline.Predicates.{place, cross}
+use Rattle.qh_model.specs.headline.Sets.{In, Members}
+use Rattle.qh_model.specs.headline.Vector.{Vector, origin, minus, dot}
 use Rattle.qh_plane.proofs.LinesAndPlanes.{between_eq, none}
 use Rattle.qh_plane.proofs.polygons.Turns.{IsFlat}
-use Rattle.qh_plane.specs.PlanarSets.{IsPlanarSet}
+use Rattle.qh_plane.specs.contract.PlanarSets.{IsPlanarSet}
 
 -- the scalar product with the opposite
 negated : (c v : Vector) → dot (minus origin c) v ≡ neg_ℤ (dot c v)

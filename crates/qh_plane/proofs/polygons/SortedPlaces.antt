@@ -9,10 +9,10 @@ use Rattle.std.specs.List.Sorted.{IsStrictlyIncreasing}
 use Rattle.qh_model.proofs.Members.{All-In, All-of, rising_tail}
 use Rattle.qh_model.proofs.algebra.VectorIdentities.{opposite, dot-opposite}
 use Rattle.qh_model.proofs.algebra.Signs.{lt_neg}
-use Rattle.qh_model.specs.DistinctIds.{HasDistinctPoints}
-use Rattle.qh_model.specs.Predicates.{place}
-use Rattle.qh_model.specs.Sets.{In}
-use Rattle.qh_model.specs.Vector.{Vector}
+use Rattle.qh_model.specs.contract.IdSets.{HasDistinctPoints}
+use Rattle.qh_model.specs.headline.Predicates.{place}
+use Rattle.qh_model.specs.headline.Sets.{In}
+use Rattle.qh_model.specs.headline.Vector.{Vector}
 use Rattle.qh_plane.proofs.KeyOrder.{IsKeyOf, sorted_keys, rising_keys, key_parts, place_code-same, sorted-only, sorted-all}
 use Rattle.qh_plane.proofs.polygons.Cycles.{in-turned_onto, turned_onto-in}
 use Rattle.qh_plane.proofs.polygons.GoesRound.{GoesRound, goes_round}
@@ -21,8 +21,8 @@ use Rattle.qh_plane.proofs.polygons.Stacks.{reverse-turned_onto}
 use Rattle.qh_plane.proofs.polygons.TurnLaws.{RisesBy}
 use Rattle.qh_plane.proofs.polygons.Turns.{IsFlat, IsKeyed, turn_about, height_of}
 use Rattle.qh_plane.specs.declared.place_keys.TheConstants.{ROOM}
-use Rattle.qh_plane.specs.Chains.{turned_onto, joined, chain}
-use Rattle.qh_plane.specs.PlaceKeys.{place_code, key_at, ids_in, HasKey, AreByPlace}
+use Rattle.qh_plane.specs.steps.Chains.{turned_onto, joined, chain}
+use Rattle.qh_plane.specs.steps.PlaceKeys.{place_code, key_at, ids_in, HasKey, AreByPlace}
 
 -- ---- rising keys are rising places
 -- of keys in order with different places, the places are in order

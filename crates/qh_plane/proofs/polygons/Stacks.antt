@@ -1,7 +1,7 @@
 -- The steps of the code of a chain, in the words of std.
 use Rattle.std.proofs.Common.{◌≡◌, ℕ, refl, List, [], ◌∷◌, ◌++◌, arith, ap, sym, ◌∙◌, reverse, take, length, ◌-◌}
 use Rattle.std.proofs.lemmas.List.{reverse-append, reverse-reverse, append_assoc, append-nil, length-reverse, take_at}
-use Rattle.qh_plane.specs.Chains.{turned_onto, after_first, joined}
+use Rattle.qh_plane.specs.steps.Chains.{turned_onto, after_first, joined}
 
 -- turning onto a list, in the words of std
 pub turned_onto-is : (s acc : List ℕ) → turned_onto s acc ≡ reverse s ++ acc

@@ -6,19 +6,20 @@ use Rattle.std.specs.Prelude.{ℤ, pos, neg_ℤ, ◌+ℤ◌, ◌*ℤ◌, ◌≤�
 use Rattle.qh_model.proofs.algebra.Order.{cancel-zero, le_less}
 use Rattle.qh_model.proofs.algebra.VectorIdentities.{vector_path, left-dot, left-linear, left-turn, left-flip, in_line-twice, in_line-last, dot_comm}
 use Rattle.qh_model.proofs.algebra.Integers.{zero_mul}
+use Rattle.qh_model.proofs.polygons.Cycles.{round_holds}
 use Rattle.qh_model.proofs.extremes.Directions.{Parallel, parallel_normal, in_line-flip, square-positive}
-use Rattle.qh_model.specs.Extreme.{Extreme}
-use Rattle.qh_model.specs.Polygon.{IsPolygon, TurnsLeft}
-use Rattle.qh_model.specs.Predicates.{place, cross, left, AreInLine}
-use Rattle.qh_model.specs.Sets.{In, Members}
-use Rattle.qh_model.specs.Vector.{Vector, origin, minus, cross_product, dot}
+use Rattle.qh_model.specs.headline.Extreme.{Extreme}
+use Rattle.qh_model.specs.headline.Polygon.{IsPolygon, TurnsLeft}
+use Rattle.qh_model.specs.headline.Predicates.{place, cross, left, AreInLine}
+use Rattle.qh_model.specs.headline.Sets.{In, Members}
+use Rattle.qh_model.specs.headline.Vector.{Vector, origin, minus, cross_product, dot}
 use Rattle.qh_plane.proofs.LinesAndPlanes.{three_line, same_point}
 use Rattle.qh_plane.proofs.polygons.Chain.{is_left-yes, is_left-no}
 use Rattle.qh_plane.proofs.polygons.Corners.{Corner, corner_extreme}
 use Rattle.qh_plane.proofs.polygons.PlanarIds.{flat_of}
 use Rattle.qh_plane.proofs.polygons.Turns.{IsFlat, left-back, left-there}
-use Rattle.qh_plane.specs.Chains.{is_left, turn_of, triangle}
-use Rattle.qh_plane.specs.PlanarSets.{IsPlanarSet}
+use Rattle.qh_plane.specs.steps.Chains.{is_left, turn_of, triangle}
+use Rattle.qh_plane.specs.contract.PlanarSets.{IsPlanarSet}
 
 -- what lies on the way is lower than what lies to its left
 lower : (l m p q k : ℤ) → l ≡ p +ℤ k → m ≡ q +ℤ k → l ≡ pos 0 → pos 0 <ℤ m → p <ℤ q
@@ -41,7 +42,7 @@ left_triangle : (n : Vector) (at : ℕ → Vector) (A : ℕ → Type 0) (a b c :
 left_triangle n at A a b c l ab ac bc h = record {
   members = λ x. (λ i. corner_extreme at A x (corner x i), λ e. (l x).0 e.0);
   once = (λ i. ⊎_elim (ne_of_lt ab) (λ j. ⊎_elim (ne_of_lt ac) (λ k. k) j) i, (λ i. ⊎_elim bc (λ k. k) i, (λ k. k, tt)));
-  round = (turns_ab, (turns_bc, turns_ca));
+  round = round_holds (TurnsLeft at n (a ∷ b ∷ c ∷ [])) (a ∷ b ∷ c ∷ []) (turns_ab, (turns_bc, turns_ca));
   least = λ v i. ⊎_elim (λ e. at_most a b v ab e) (λ j. ⊎_elim (λ e. at_most a c v ac e) (λ k. absurd k) j) i;
 }
   where

@@ -5,8 +5,8 @@ use Rattle.std.specs.Prelude.{ℤ, pos, ◌+ℤ◌, neg_ℤ, ◌≤ℤ◌, ◌<�
 use Rattle.qh_model.proofs.algebra.Ring.{Expr, ring}
 use Rattle.qh_model.proofs.algebra.VectorIdentities.{vec, subE, crossE, dotE, put, left-flip, dot-minus, left-turn}
 use Rattle.qh_model.proofs.algebra.Signs.{opposite_nonneg}
-use Rattle.qh_model.specs.Vector.{Vector, minus, dot}
-use Rattle.qh_model.specs.Predicates.{left}
+use Rattle.qh_model.specs.headline.Vector.{Vector, minus, dot}
+use Rattle.qh_model.specs.headline.Predicates.{cross, left}
 use Rattle.qh_plane.proofs.PlaneDirections.{bracket, bracket-fan, fan_sign, fan_sign_left}
 use Rattle.qh_plane.proofs.polygons.TurnLaws.{TurnLaws}
 
@@ -18,22 +18,22 @@ pub record IsFlat (n : Vector) (at : ℕ → Vector) (A : ℕ → Type 0) : Type
 -- ---- in points
 -- the turn as a bracket of the two steps
 pub left-middle : (n u v w : Vector) → left n u v w ≡ bracket n (minus v u) (minus w v)
-unfolding left
+unfolding left cross
 left-middle n u v w = ring (put n (put u (put v (put w [])))) (dotE (crossE (subE (vec 2) (vec 1)) (subE (vec 3) (vec 1))) (vec 0)) (dotE (crossE (subE (vec 2) (vec 1)) (subE (vec 3) (vec 2))) (vec 0)) refl
 
 -- the turn as a bracket of the ways from the first point
 pub left-bracket : (n u v w : Vector) → left n u v w ≡ bracket n (minus v u) (minus w u)
-unfolding left
+unfolding left cross
 left-bracket n u v w = refl
 
 -- with the first and last turned: L r t x = [t - x, t - r]
 left-last : (n r t x : Vector) → left n r t x ≡ bracket n (minus t x) (minus t r)
-unfolding left
+unfolding left cross
 left-last n r t x = ring (put n (put r (put t (put x [])))) (dotE (crossE (subE (vec 2) (vec 1)) (subE (vec 3) (vec 1))) (vec 0)) (dotE (crossE (subE (vec 2) (vec 3)) (subE (vec 2) (vec 1))) (vec 0)) refl
 
 -- L t y x = [t - x, y - t]
 left-across : (n t y x : Vector) → left n t y x ≡ bracket n (minus t x) (minus y t)
-unfolding left
+unfolding left cross
 left-across n t y x = ring (put n (put t (put y (put x [])))) (dotE (crossE (subE (vec 2) (vec 1)) (subE (vec 3) (vec 1))) (vec 0)) (dotE (crossE (subE (vec 1) (vec 3)) (subE (vec 2) (vec 1))) (vec 0)) refl
 
 -- the turn the other way along its first step
@@ -42,12 +42,12 @@ left-swap n u v w = left-turn n u v w ∙ left-flip n v w u
 
 -- there and back is no turn
 pub left-back : (n t y : Vector) → left n t y t ≡ pos 0
-unfolding left
+unfolding left cross
 left-back n t y = ring (put n (put t (put y []))) (dotE (crossE (subE (vec 2) (vec 1)) (subE (vec 1) (vec 1))) (vec 0)) (Expr.con (pos 0)) refl
 
 -- nor is staying
 pub left-there : (n t y : Vector) → left n t y y ≡ pos 0
-unfolding left
+unfolding left cross
 left-there n t y = ring (put n (put t (put y []))) (dotE (crossE (subE (vec 2) (vec 1)) (subE (vec 2) (vec 1))) (vec 0)) (Expr.con (pos 0)) refl
 
 -- a difference above 0

@@ -8,20 +8,20 @@ use Rattle.qh_model.proofs.algebra.Ring.{ring}
 use Rattle.qh_model.proofs.algebra.Ring.Expr.{neg}
 use Rattle.qh_model.proofs.algebra.VectorIdentities.{vec, crossE, dotE, put, opposite, oppositeE, dot-opposite}
 use Rattle.qh_model.proofs.algebra.Signs.{not_less, opposite_same, neg_le, le_neg, neg_lt, lt_neg}
-use Rattle.qh_model.specs.Vector.{Vector, cross_product, dot}
-use Rattle.qh_model.specs.Sets.{In, Once}
-use Rattle.qh_model.specs.Extreme.{Extreme, Others}
-use Rattle.qh_model.specs.Separator.{Separator}
-use Rattle.qh_model.specs.Polygon.{AroundCycle, TurnsLeft}
+use Rattle.qh_model.specs.headline.Vector.{Vector, cross_product, dot}
+use Rattle.qh_model.specs.headline.Sets.{In, Once}
+use Rattle.qh_model.specs.headline.Extreme.{Extreme, Others}
+use Rattle.qh_model.specs.laws.Separator.{Separator}
+use Rattle.qh_model.specs.headline.Polygon.{TurnsLeft}
 use Rattle.qh_model.proofs.extremes.ExtremeIds.{combination_within, alternative_in, listed_itself}
-use Rattle.qh_model.proofs.polygons.Direction.{cycle_map}
+use Rattle.qh_model.proofs.polygons.Cycles.{AroundCycle, cycle_map}
 use Rattle.qh_plane.proofs.polygons.TurnLaws.{IsChain}
 use Rattle.qh_plane.proofs.polygons.Turns.{IsFlat, IsKeyed, turn_about, height_of, turn_laws}
 use Rattle.qh_plane.proofs.polygons.Corners.{Corner, greatest_corner, corner_extreme, core, strict}
 use Rattle.qh_plane.proofs.polygons.Sides.{Side, Down, sides, down_corner}
 use Rattle.qh_plane.proofs.polygons.Cycles.{bottom, bottom-in, cycle-of, in-turned_onto, turned_onto-in, once-turned_onto}
 use Rattle.qh_plane.proofs.polygons.ChainMembers.{Under, Inside, Span, chain-in, chain-below, chain-once, chain-bottom, under, inside, span}
-use Rattle.qh_plane.specs.Chains.{turned_onto}
+use Rattle.qh_plane.specs.steps.Chains.{turned_onto}
 
 -- a bracket along the opposite direction
 bracket-opposite : (h w n : Vector) → dot (cross_product (opposite h) w) n ≡ neg_ℤ (dot (cross_product h w) n)

@@ -1,7 +1,7 @@
 //! Appending bytes and numbers to a text.
 ghost use Rattle.std.specs.Prelude.{◌≡◌, ◌++◌, [], ◌∷◌, OnOk, decimal};
 ghost use Rattle.std.specs.Fmt.{signed_decimal};
-ghost use Rattle.qh_model.specs.Text.{spaced};
+ghost use Rattle.qh_model.specs.headline.Text.{spaced};
 
 use itoa::Buffer;
 use std::alloc::AllocError;

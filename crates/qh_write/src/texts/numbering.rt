@@ -1,6 +1,6 @@
 //! The numbers of vertices.
 ghost use Rattle.std.specs.Prelude.{◌≡◌, ◌<◌, ◌≤◌, ◌^◌, IfOk, All, length, replicate};
-ghost use Rattle.qh_write.specs.Outs.{numbered};
+ghost use Rattle.qh_write.specs.steps.VertexTables.{numbered};
 
 use qh_model::Id;
 use std::alloc::{AllocError, Global};

@@ -1,10 +1,11 @@
 //! The texts of `Fx` and `off`.
 ghost use Rattle.std.specs.Prelude.{◌≡◌, ◌++◌, ◌∷◌, ◌<◌, OnOk, All, length, slice_index, decimal};
 ghost use Rattle.std.specs.List.{flat_map};
-ghost use Rattle.qh_model.specs.Text.{line, spaced, extremes_text, vertex_text, face_text, off_text};
-ghost use Rattle.qh_model.specs.Hull.{IsBodyInOrder};
-ghost use Rattle.qh_model.specs.Predicates.{place};
-ghost use Rattle.qh_write.specs.Outs.{BodyNamesPoints, AreNumbered, face_by_table};
+ghost use Rattle.qh_model.specs.headline.Text.{line, spaced, extremes_text, vertex_text, face_text, off_text};
+ghost use Rattle.qh_model.specs.contract.Bodies.{IsBodyInOrder};
+ghost use Rattle.qh_model.specs.headline.Predicates.{place};
+ghost use Rattle.qh_write.specs.steps.VertexTables.{AreNumbered, face_by_table};
+ghost use Rattle.qh_model.specs.contract.IdSets.{AreIndices};
 
 use super::lines::{push_line_end, push_number, push_signed, push_spaced};
 use super::numbering::vertex_numbers;
@@ -48,7 +49,7 @@ fn push_vertex(text: &mut Vec<u8>, point: Point) -> Result<(), AllocError>
     push_line_end(text)
 }
 
-#[tactic(auto, unfolding(qh_model::specs::Predicates::place))]
+#[tactic(auto, unfolding(qh_model::specs::headline::Predicates::place))]
 fn push_vertices(text: &mut Vec<u8>, pts: &[Point], ids: &[Id]) -> Result<(), AllocError>
     requires { All (λ i. i < length pts.now) ids.now }
     ensures { OnOk result (text.new.items ≡ text.old.items ++ flat_map (λ i. vertex_text (place pts.now i)) ids.now) }
@@ -121,7 +122,7 @@ pub fn push_off(
     body: &Body,
     pts: &[Point],
 ) -> Result<(), AllocError>
-    requires { BodyNamesPoints body.now pts.now }
+    requires { AreIndices pts.now body.now.extremes }
     ensures { OnOk result (text.new.items ≡ text.old.items ++ off_text body.now pts.now) }
 {
     text.extend_from_slice(b"OFF\n")?;

@@ -1,7 +1,6 @@
 //! How long a text can be, so that its memory is taken once.
 
-use crate::out::Out;
-use qh_model::{Body, Polygon};
+use qh_model::{Body, Out, Polygon};
 
 /// The most bytes of a number with a blank or a line end.
 const NUMBER: usize = 12;

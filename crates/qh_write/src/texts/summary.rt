@@ -1,6 +1,6 @@
 //! The texts of `rank` and `s`.
 ghost use Rattle.std.specs.Prelude.{◌≡◌, ◌++◌, OnOk, codes, decimal};
-ghost use Rattle.qh_model.specs.Text.{line, rank_text, given_text, found_text, summary_text};
+ghost use Rattle.qh_model.specs.headline.Text.{line, rank_text, given_text, found_text, summary_text};
 
 use super::lines::{push_line_end, push_number, push_spaced};
 use qh_model::{Body, Hull};

@@ -1,5 +1,5 @@
 use Rattle.std.proofs.Common.{◌≡◌, map, take}
-use Rattle.qconvex.specs.CommandLine.{word_of}
+use Rattle.qconvex.specs.contract.CommandLine.{word_of}
 use Rattle.qconvex.proofs.command_line.outs_of.Given as goal
 
 -- the words before this one are those of the outputs so far

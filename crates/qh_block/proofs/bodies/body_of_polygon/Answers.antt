@@ -1,6 +1,6 @@
 use Rattle.std.proofs.Common.{◌≡◌, ℕ, List, [], ◌∷◌, length, ap, subst, inl, inr}
 use Rattle.std.specs.Prelude.{◌↔◌}
-use Rattle.qh_model.specs.Sets.{In}
+use Rattle.qh_model.specs.headline.Sets.{In}
 use Rattle.qh_block.proofs.bodies.body_of_polygon.Goals as goal
 
 -- the members of one list of all are members of the whole

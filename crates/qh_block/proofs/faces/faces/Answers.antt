@@ -1,7 +1,7 @@
 use Rattle.std.proofs.Common.{◌≡◌, ◌∙◌, ℕ, List, length, replicate, ap, sym, subst, Bool, false}
-use Rattle.qh_model.specs.StoredSurface.{surface_of}
+use Rattle.qh_model.specs.contract.StoredSurface.{surface_of}
 use Rattle.qh_mesh.specs.declared.facets.FacetNo.{FacetNo}
-use Rattle.qh_mesh.specs.LiveNumbers.{numbers}
+use Rattle.qh_mesh.specs.contract.LiveNumbers.{numbers}
 use Rattle.qh_block.proofs.finished.Gathering.{IsGathering, gathering_starts, next_within, gathering_goes, gathering_ends}
 use Rattle.qh_block.proofs.faces.faces.Goals as goal
 

@@ -2,7 +2,7 @@ use Rattle.std.proofs.Common.{eqb, sym, subst}
 use Rattle.std.proofs.lemmas.List.Filters.{dedup_is}
 use Rattle.std.proofs.lemmas.Map.Keys.{IsStrictlyIncreasing-dedup}
 use Rattle.std.specs.List.Sorted.{IsStrictlyIncreasing}
-use Rattle.qh_model.specs.Sets.{In}
+use Rattle.qh_model.specs.headline.Sets.{In}
 use Rattle.qh_block.proofs.finished.Corners.{kept_members, in_corners}
 use Rattle.qh_block.proofs.faces.gather_corners.Goals as goal
 

@@ -1,4 +1,4 @@
-use Rattle.qh_mesh.specs.Replacement.{number}
+use Rattle.qh_mesh.specs.contract.Replacement.{number}
 use Rattle.qh_mesh.proofs.ListedFacets.{listed_at}
 use Rattle.qh_block.proofs.finished.Corners.{corners_more}
 use Rattle.qh_block.proofs.faces.list_corners.Goals as goal

@@ -1,5 +1,5 @@
 use Rattle.std.proofs.Common.{◌≡◌, take}
-use Rattle.qh_block.specs.Faces.{corners_of}
+use Rattle.qh_block.specs.steps.Faces.{corners_of}
 use Rattle.qh_block.proofs.faces.list_corners.Given as goal
 
 abbrev pub invariant-loop-f : goal.invariant-loop-f

@@ -1,17 +1,17 @@
 use Rattle.std.proofs.Common.{◌≡◌, ◌↔◌, ℕ, List, sym, subst, true}
 use Rattle.std.proofs.lemmas.Result.{IfOk-weaker}
-use Rattle.qh_model.specs.DistinctIds.{IsIdSet}
-use Rattle.qh_model.specs.Extreme.{Extreme}
-use Rattle.qh_model.specs.FinishedSurface.{IsFinished}
-use Rattle.qh_model.specs.Polygon.{IsPolygon}
-use Rattle.qh_model.specs.Predicates.{cross, place}
-use Rattle.qh_model.specs.Sets.{In, Members}
-use Rattle.qh_model.specs.StoredSurface.{facet_at, surface_of}
+use Rattle.qh_model.specs.contract.IdSets.{IsIdSet}
+use Rattle.qh_model.specs.headline.Extreme.{Extreme}
+use Rattle.qh_model.specs.contract.FinishedSurface.{IsFinished}
+use Rattle.qh_model.specs.headline.Polygon.{IsPolygon}
+use Rattle.qh_model.specs.headline.Predicates.{cross, place}
+use Rattle.qh_model.specs.headline.Sets.{In, Members}
+use Rattle.qh_model.specs.contract.StoredSurface.{facet_at, surface_of}
 use Rattle.qh_mesh.specs.declared.facets.FacetNo.{FacetNo}
-use Rattle.qh_mesh.specs.Replacement.{is_listed}
-use Rattle.qh_plane.specs.PlaceKeys.{AreIndices}
-use Rattle.qh_plane.specs.PlanarSets.{IsPlanarSet}
-use Rattle.qh_block.specs.Faces.{IsListedCorner, IsNewPlane, IsNewFace}
+use Rattle.qh_mesh.specs.contract.Replacement.{is_listed}
+use Rattle.qh_model.specs.contract.IdSets.{AreIndices}
+use Rattle.qh_plane.specs.contract.PlanarSets.{IsPlanarSet}
+use Rattle.qh_block.specs.steps.Faces.{IsListedCorner, IsNewPlane, IsNewFace}
 use Rattle.qh_block.proofs.finished.Corners.{corners_in}
 use Rattle.qh_block.proofs.finished.Extensions.{walked_live}
 use Rattle.qh_block.proofs.finished.NewFaces.{new_face}

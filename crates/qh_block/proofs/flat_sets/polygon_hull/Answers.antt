@@ -1,11 +1,11 @@
 use Rattle.std.proofs.Common.{◌≡◌, ◌⊎◌, sym, subst}
 use Rattle.std.proofs.lemmas.Result.{IfOk-weaker}
-use Rattle.qh_model.specs.DistinctIds.{IsIdSet}
-use Rattle.qh_model.specs.Hull.{IsBody}
-use Rattle.qh_model.specs.Predicates.{place, cross}
-use Rattle.qh_model.specs.Sets.{Members}
-use Rattle.qh_model.specs.Vector.{Vector, origin, minus}
-use Rattle.qh_block.specs.FlatBodies.{IsPolygonBody}
+use Rattle.qh_model.specs.contract.IdSets.{IsIdSet}
+use Rattle.qh_model.specs.headline.Hull.{IsBody}
+use Rattle.qh_model.specs.headline.Predicates.{place, cross}
+use Rattle.qh_model.specs.headline.Sets.{Members}
+use Rattle.qh_model.specs.headline.Vector.{Vector, origin, minus}
+use Rattle.qh_block.specs.steps.FlatBodies.{IsPolygonBody}
 use Rattle.qh_block.proofs.flats.Polygons.{planar, polygon_is_body}
 use Rattle.qh_block.proofs.flat_sets.polygon_hull.Goals as goal
 

@@ -1,10 +1,10 @@
 use Rattle.std.proofs.Common.{rules, ◌≡◌, sym, subst}
 use Rattle.std.proofs.lemmas.Result.{IfOk-weaker}
-use Rattle.qh_model.specs.DistinctIds.{IsIdSet}
-use Rattle.qh_model.specs.Hull.{IsBody}
-use Rattle.qh_model.specs.Predicates.{place}
-use Rattle.qh_model.specs.Sets.{Members}
-use Rattle.qh_block.specs.FlatBodies.{point_body, segment_body}
+use Rattle.qh_model.specs.contract.IdSets.{IsIdSet}
+use Rattle.qh_model.specs.headline.Hull.{IsBody}
+use Rattle.qh_model.specs.headline.Predicates.{place}
+use Rattle.qh_model.specs.headline.Sets.{Members}
+use Rattle.qh_block.specs.steps.FlatBodies.{point_body, segment_body}
 use Rattle.qh_block.proofs.flats.Bodies.{first_lower, last_lower, not_same}
 use Rattle.qh_block.proofs.flat_sets.segment_hull.Goals as goal
 

@@ -1,11 +1,11 @@
 use Rattle.std.proofs.Common.{List, ℕ}
 use Rattle.std.proofs.lemmas.Result.{IfOk-weaker}
-use Rattle.qh_model.specs.DistinctIds.{IsIdSet}
-use Rattle.qh_model.specs.FinishedSurface.{IsFinished}
-use Rattle.qh_model.specs.Hull.{AreExtremes}
-use Rattle.qh_model.specs.Predicates.{place}
-use Rattle.qh_model.specs.Sets.{Members}
-use Rattle.qh_model.specs.StoredSurface.{surface_of}
+use Rattle.qh_model.specs.contract.IdSets.{IsIdSet}
+use Rattle.qh_model.specs.contract.FinishedSurface.{IsFinished}
+use Rattle.qh_model.specs.headline.Hull.{AreExtremes}
+use Rattle.qh_model.specs.headline.Predicates.{place}
+use Rattle.qh_model.specs.headline.Sets.{Members}
+use Rattle.qh_model.specs.contract.StoredSurface.{surface_of}
 use Rattle.qh_block.proofs.hulls.extremes.Goals as goal
 
 pub returns-in-Solid : goal.returns-in-Solid

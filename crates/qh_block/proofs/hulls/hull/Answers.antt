@@ -1,12 +1,12 @@
 use Rattle.std.proofs.Common.{◌≡◌, List, ℕ, sym, subst}
 use Rattle.std.proofs.lemmas.Result.{IfOk-weaker}
-use Rattle.qh_model.specs.DistinctIds.{IsIdSet}
-use Rattle.qh_model.specs.FinishedSurface.{IsFinished}
-use Rattle.qh_model.specs.Hull.{BodyValue, IsBody}
-use Rattle.qh_model.specs.Predicates.{place}
-use Rattle.qh_model.specs.Sets.{Members}
-use Rattle.qh_model.specs.StoredSurface.{surface_of}
-use Rattle.qh_block.specs.FlatBodies.{point_body}
+use Rattle.qh_model.specs.contract.IdSets.{IsIdSet}
+use Rattle.qh_model.specs.contract.FinishedSurface.{IsFinished}
+use Rattle.qh_model.specs.headline.Hull.{BodyValue, IsBody}
+use Rattle.qh_model.specs.headline.Predicates.{place}
+use Rattle.qh_model.specs.headline.Sets.{Members}
+use Rattle.qh_model.specs.contract.StoredSurface.{surface_of}
+use Rattle.qh_block.specs.steps.FlatBodies.{point_body}
 use Rattle.qh_block.proofs.flats.Bodies.{point_is_body}
 use Rattle.qh_block.proofs.hulls.hull.Goals as goal
 

@@ -1,10 +1,10 @@
 use Rattle.std.proofs.Common.{length}
 use Rattle.std.proofs.lemmas.Result.{IfOk-weaker}
-use Rattle.qh_model.specs.FinishedSurface.{IsFinished}
-use Rattle.qh_model.specs.Predicates.{place}
-use Rattle.qh_model.specs.StoredSurface.{surface_of}
-use Rattle.qh_plane.specs.Shapes.{IsInLine, IsInPlane}
-use Rattle.qh_block.specs.PlaneWalks.{AreCornersBelow}
+use Rattle.qh_model.specs.contract.FinishedSurface.{IsFinished}
+use Rattle.qh_model.specs.headline.Predicates.{place}
+use Rattle.qh_model.specs.contract.StoredSurface.{surface_of}
+use Rattle.qh_plane.specs.contract.Shapes.{IsInLine, IsInPlane}
+use Rattle.qh_block.specs.steps.PlaneWalks.{AreCornersBelow}
 use Rattle.qh_block.proofs.finished.SolidBodies.{finished_corners}
 use Rattle.qh_block.proofs.runs.FirstSimplexes.{first_not_in}
 use Rattle.qh_block.proofs.hulls.solid_mesh.Goals as goal

@@ -1,6 +1,6 @@
 use Rattle.std.proofs.Common.{subst}
-use Rattle.qh_model.specs.Predicates.{place}
-use Rattle.qh_block.specs.PlaneWalks.{IsCrossed}
+use Rattle.qh_model.specs.headline.Predicates.{place}
+use Rattle.qh_block.specs.steps.PlaneWalks.{IsCrossed}
 use Rattle.qh_block.proofs.finished.Extensions.{extension_trans, crossed_grows}
 use Rattle.qh_block.proofs.plane_walk.cross_edges.Goals as goal
 use Rattle.qh_block.proofs.FacetEdges.{three_edges}

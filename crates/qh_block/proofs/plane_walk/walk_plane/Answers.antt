@@ -1,12 +1,12 @@
 use Rattle.std.proofs.Common.{rules, set, ◌≡◌, ◌∙◌, ◌<◌, ◌++◌, List, [], ◌∷◌, length, arith, ap, sym, subst, true, refl}
 use Rattle.std.proofs.lemmas.Bool.{or_left}
-use Rattle.qh_model.specs.Predicates.{place}
-use Rattle.qh_model.specs.StoredSurface.{surface_of}
+use Rattle.qh_model.specs.headline.Predicates.{place}
+use Rattle.qh_model.specs.contract.StoredSurface.{surface_of}
 use Rattle.qh_model.proofs.surfaces.FacetPlanes.{level_itself}
 use Rattle.qh_mesh.specs.declared.facets.FacetNo.{FacetNo}
-use Rattle.qh_mesh.specs.Replacement.{is_listed, number}
+use Rattle.qh_mesh.specs.contract.Replacement.{is_listed, number}
 use Rattle.qh_mesh.proofs.ListedFacets.{listed_at}
-use Rattle.qh_block.specs.PlaneWalks.{IsExtension}
+use Rattle.qh_block.specs.steps.PlaneWalks.{IsExtension}
 use Rattle.qh_block.proofs.finished.Extensions.{extension_one, extension_trans, listed_append, read_number, walked_live, walked_level, crossed_more, crossed_all}
 use Rattle.qh_block.proofs.plane_walk.walk_plane.Goals as goal
 use Rattle.qh_block.proofs.LiveFacets.{live_below}

@@ -1,7 +1,7 @@
 use Rattle.std.proofs.Common.{◌≡◌, ◌+◌, ◌-◌, [], length, true}
-use Rattle.qh_model.specs.Predicates.{place}
-use Rattle.qh_mesh.specs.Replacement.{is_listed}
-use Rattle.qh_block.specs.PlaneWalks.{IsExtension, unmarked_count}
+use Rattle.qh_model.specs.headline.Predicates.{place}
+use Rattle.qh_mesh.specs.contract.Replacement.{is_listed}
+use Rattle.qh_block.specs.steps.PlaneWalks.{IsExtension, unmarked_count}
 use Rattle.qh_block.proofs.finished.Extensions.{AreCrossedBelow}
 use Rattle.qh_block.proofs.plane_walk.walk_plane.Given as goal
 

@@ -1,9 +1,9 @@
 use Rattle.std.proofs.Common.{◌<◌, ℕ, length, All, take_all, arith, sym, subst}
 use Rattle.std.specs.Prelude.{◌≤ℤ◌}
 use Rattle.qh_model.proofs.Members.{All-In, In-get_or}
-use Rattle.qh_block.specs.Segments.{position}
+use Rattle.qh_block.specs.steps.Segments.{position}
 use Rattle.qh_block.proofs.SegmentSteps.{one_of, first_more}
-use Rattle.qh_model.specs.Sets.{In}
+use Rattle.qh_model.specs.headline.Sets.{In}
 use Rattle.qh_block.proofs.segment.first_along.Goals as goal
 
 pub loop-id-init : goal.loop-id-init

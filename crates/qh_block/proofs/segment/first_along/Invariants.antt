@@ -1,7 +1,7 @@
 use Rattle.std.proofs.Common.{◌<◌, length, take, All}
 use Rattle.std.specs.Prelude.{◌≤ℤ◌}
-use Rattle.qh_model.specs.Sets.{In}
-use Rattle.qh_block.specs.Segments.{position}
+use Rattle.qh_model.specs.headline.Sets.{In}
+use Rattle.qh_block.specs.steps.Segments.{position}
 use Rattle.qh_block.proofs.segment.first_along.Given as goal
 
 abbrev pub invariant-loop-id : goal.invariant-loop-id

@@ -1,5 +1,5 @@
 use Rattle.std.proofs.Common.{◌≡◌, ◌∙◌, ◌+◌, arith, ap, take}
-use Rattle.qh_block.specs.SolidEdges.{edges_up, all_edges_up}
+use Rattle.qh_block.specs.steps.SolidEdges.{edges_up, all_edges_up}
 use Rattle.qh_block.proofs.finished.EdgeCounts.{all_more}
 use Rattle.qh_block.proofs.solid_edges.edge_count.Goals as goal
 

@@ -1,5 +1,5 @@
 use Rattle.std.proofs.Common.{◌≡◌, ◌∙◌, arith, ap}
-use Rattle.qh_block.specs.SolidEdges.{steps_up, edges_up}
+use Rattle.qh_block.specs.steps.SolidEdges.{steps_up, edges_up}
 use Rattle.qh_block.proofs.finished.EdgeCounts.{last_is}
 use Rattle.qh_block.proofs.solid_edges.edges_up.Goals as goal
 

@@ -1,5 +1,5 @@
 use Rattle.std.proofs.Common.{◌≡◌, ◌+◌, ◌≤◌, drop}
-use Rattle.qh_block.specs.SolidEdges.{steps_up, edges_up}
+use Rattle.qh_block.specs.steps.SolidEdges.{steps_up, edges_up}
 use Rattle.qh_block.proofs.solid_edges.edges_up.Given as goal
 
 abbrev pub invariant-loop-id : goal.invariant-loop-id

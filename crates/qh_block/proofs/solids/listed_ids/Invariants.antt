@@ -1,5 +1,5 @@
 use Rattle.std.proofs.Common.{◌≡◌, take}
-use Rattle.qh_block.specs.Faces.{all_members}
+use Rattle.qh_block.specs.steps.Faces.{all_members}
 use Rattle.qh_block.proofs.solids.listed_ids.Given as goal
 
 abbrev pub invariant-loop-polygon : goal.invariant-loop-polygon

@@ -1,9 +1,9 @@
 use Rattle.std.proofs.Common.{◌≡◌, ◌↔◌, ◌∙◌, ℕ, List, ap, sym, subst}
-use Rattle.qh_model.specs.Hull.{IsBody}
-use Rattle.qh_model.specs.Predicates.{place}
-use Rattle.qh_model.specs.Sets.{In, Members}
-use Rattle.qh_block.specs.Faces.{IsListed}
-use Rattle.qh_block.specs.SolidEdges.{all_edges_up}
+use Rattle.qh_model.specs.headline.Hull.{IsBody}
+use Rattle.qh_model.specs.headline.Predicates.{place}
+use Rattle.qh_model.specs.headline.Sets.{In, Members}
+use Rattle.qh_block.specs.steps.Faces.{IsListed}
+use Rattle.qh_block.specs.steps.SolidEdges.{all_edges_up}
 use Rattle.qh_block.proofs.finished.SolidBodies.{body}
 use Rattle.qh_block.proofs.solids.solid_body.Goals as goal
 

@@ -1,13 +1,13 @@
 use Rattle.std.proofs.Common.{◌↔◌, ℕ, List, subst}
 use Rattle.std.proofs.lemmas.Result.{IfOk-weaker}
 use Rattle.std.specs.List.Sorted.{IsStrictlyIncreasing}
-use Rattle.qh_model.specs.DistinctIds.{IsIdSet}
-use Rattle.qh_model.specs.FinishedSurface.{IsFinished}
-use Rattle.qh_model.specs.Hull.{AreExtremes}
-use Rattle.qh_model.specs.Predicates.{place}
-use Rattle.qh_model.specs.Sets.{In, Members}
-use Rattle.qh_model.specs.StoredSurface.{surface_of}
-use Rattle.qh_block.specs.Faces.{IsListed}
+use Rattle.qh_model.specs.contract.IdSets.{IsIdSet}
+use Rattle.qh_model.specs.contract.FinishedSurface.{IsFinished}
+use Rattle.qh_model.specs.headline.Hull.{AreExtremes}
+use Rattle.qh_model.specs.headline.Predicates.{place}
+use Rattle.qh_model.specs.headline.Sets.{In, Members}
+use Rattle.qh_model.specs.contract.StoredSurface.{surface_of}
+use Rattle.qh_block.specs.steps.Faces.{IsListed}
 use Rattle.qh_block.proofs.finished.SolidBodies.{both_ok, extremes}
 use Rattle.qh_block.proofs.solids.solid_extremes.Goals as goal
 

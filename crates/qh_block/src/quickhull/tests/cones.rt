@@ -1,6 +1,6 @@
 //! A large cone is searched: no point under it or about it is left to a look at every facet.
 ghost use Rattle.std.specs.Prelude.{IfOk, length, ◌<◌};
-ghost use Rattle.qh_block.specs.Cones.{AreTriangles};
+ghost use Rattle.qh_block.specs.steps.Cones.{AreTriangles};
 
 use crate::quickhull::cone_ring::{ConeRing, Wedge, opposite_of};
 use crate::quickhull::cone_search::Asked;

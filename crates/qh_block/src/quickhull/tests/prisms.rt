@@ -1,8 +1,8 @@
 //! A prism over a polygon of many sides: each of its ends has a facet for each side when it is begun. A
 //! run that gave all points to the first facet that sees them would make a cone over all sides again
 //! and again; a search spreads them over the facets, and few are made.
-ghost use Rattle.qh_model.specs.DistinctIds.{IsIdSet};
-ghost use Rattle.qh_plane.specs.PlaceKeys.{AreIndices};
+ghost use Rattle.qh_model.specs.contract.IdSets.{IsIdSet};
+ghost use Rattle.qh_model.specs.contract.IdSets.{AreIndices};
 
 use super::cones::point;
 use crate::quickhull::run::Run;

@@ -1,6 +1,6 @@
 use Rattle.std.proofs.Common.{◌≡◌, ◌-◌, ◌/◌, ◌<◌, ◌≤◌, length, take, arith, ap, ◌∙◌}
 use Rattle.std.specs.Prelude.{vec_len}
-use Rattle.qh_mesh.specs.Replacement.{at}
+use Rattle.qh_mesh.specs.contract.Replacement.{at}
 use Rattle.qh_mesh.proofs.ConePlaces.{places_more, at_take, take_take}
 use Rattle.qh_mesh.proofs.cone.choose.Goals as goal
 use Rattle.qh_mesh.proofs.NumberCases.{by_le}

@@ -1,5 +1,5 @@
 use Rattle.std.proofs.Common.{ℕ, ◌+◌, ◌*◌, ◌<◌, length, arith, ◌∙◌}
-use Rattle.qh_mesh.specs.Replacement.{number}
+use Rattle.qh_mesh.specs.contract.Replacement.{number}
 use Rattle.qh_mesh.proofs.Weaving.{seen_inside}
 use Rattle.qh_mesh.proofs.HorizonSides.{horizon_more}
 use Rattle.qh_mesh.proofs.cone.gather.Goals as goal

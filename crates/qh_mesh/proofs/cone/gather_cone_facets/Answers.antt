@@ -1,5 +1,5 @@
 use Rattle.std.proofs.Common.{refl, ap, ◌∙◌, length, ◌+◌}
-use Rattle.qh_mesh.specs.Cells.{start_in}
+use Rattle.qh_mesh.specs.steps.Cells.{start_in}
 use Rattle.std.proofs.lemmas.List.{length_push}
 use Rattle.qh_mesh.proofs.LoopSteps.{cone_facets_more}
 use Rattle.qh_mesh.proofs.cone.gather_cone_facets.Goals as goal

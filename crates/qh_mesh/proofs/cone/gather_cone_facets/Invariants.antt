@@ -1,7 +1,7 @@
 use Rattle.std.proofs.Common.{ℕ, ◌≡◌, ◌<◌, length}
 use Rattle.std.specs.Prelude.{vec_capacity}
-use Rattle.qh_mesh.specs.ConeSteps.{IsConeFacet, cone_facet_at}
-use Rattle.qh_mesh.specs.Replacement.{at}
+use Rattle.qh_mesh.specs.steps.ConeSteps.{IsConeFacet, cone_facet_at}
+use Rattle.qh_mesh.specs.contract.Replacement.{at}
 use Rattle.qh_mesh.proofs.cone.gather_cone_facets.Given as goal
 
 abbrev pub invariant-loop-h : goal.invariant-loop-h

@@ -1,6 +1,6 @@
 use Rattle.std.proofs.Common.{refl}
-use Rattle.qh_mesh.specs.Cells.{twin_in}
-use Rattle.qh_mesh.specs.Replacement.{at}
+use Rattle.qh_mesh.specs.steps.Cells.{twin_in}
+use Rattle.qh_mesh.specs.contract.Replacement.{at}
 use Rattle.qh_mesh.proofs.LoopSteps.{joined_more}
 use Rattle.qh_mesh.proofs.cone.join_outer.Goals as goal
 

@@ -1,7 +1,7 @@
 use Rattle.std.proofs.Common.{ℕ, ◌≡◌, ◌<◌, ◌≤◌, ◌+◌, ◌-◌}
 use Rattle.std.specs.Prelude.{vec_len, vec_capacity}
-use Rattle.qh_mesh.specs.ConeSteps.{Released}
-use Rattle.qh_mesh.specs.Replacement.{at, number}
+use Rattle.qh_mesh.specs.steps.ConeSteps.{Released}
+use Rattle.qh_mesh.specs.contract.Replacement.{at, number}
 use Rattle.qh_mesh.proofs.cone.release.Given as goal
 
 abbrev pub invariant-loop-j : goal.invariant-loop-j

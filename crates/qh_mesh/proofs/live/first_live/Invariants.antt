@@ -1,5 +1,5 @@
 use Rattle.std.proofs.Common.{◌≡◌}
-use Rattle.qh_mesh.specs.LiveNumbers.{live_after}
+use Rattle.qh_mesh.specs.contract.LiveNumbers.{live_after}
 use Rattle.qh_mesh.proofs.live.first_live.Given as goal
 
 abbrev pub invariant-loop-f : goal.invariant-loop-f

@@ -1,8 +1,8 @@
 use Rattle.std.proofs.Common.{ℕ, ◌<◌, length, List, arith, sym, subst}
 use Rattle.qh_mesh.specs.declared.facets.ConeFacet.{ConeFacet}
-use Rattle.qh_mesh.specs.Cells.{seen_in}
-use Rattle.qh_mesh.specs.ConeSteps.{cone_facet_at, IsConeFacet}
-use Rattle.qh_mesh.specs.Replacement.{at}
+use Rattle.qh_mesh.specs.steps.Cells.{seen_in}
+use Rattle.qh_mesh.specs.steps.ConeSteps.{cone_facet_at, IsConeFacet}
+use Rattle.qh_mesh.specs.contract.Replacement.{at}
 use Rattle.qh_mesh.proofs.Replacing.{outers_apart, tied_woven, tied_out}
 use Rattle.qh_mesh.proofs.Finals.{tied_is, ended_is, rebuilt_is, cone_facet_next, cone_facets_apart}
 use Rattle.qh_mesh.proofs.rebuild.finish.Goals as goal

@@ -3,11 +3,11 @@ use Rattle.std.specs.Prelude.{vec_len}
 use Rattle.std.proofs.lemmas.List.{length-take-le}
 use Rattle.qh_mesh.specs.declared.facets.Side.{Side}
 use Rattle.qh_mesh.specs.declared.facets.FacetNo.{FacetNo}
-use Rattle.qh_mesh.specs.Cells.{cell, IsSurface}
-use Rattle.qh_mesh.specs.MarkedFacets.{Marked}
-use Rattle.qh_mesh.specs.ConeSteps.{Places}
-use Rattle.qh_mesh.specs.ReplacedSides.{Ready, Rebuilt, Replaced}
-use Rattle.qh_mesh.specs.Replacement.{at}
+use Rattle.qh_mesh.specs.steps.Cells.{cell, IsSurface}
+use Rattle.qh_mesh.specs.steps.MarkedFacets.{Marked}
+use Rattle.qh_mesh.specs.steps.ConeSteps.{Places}
+use Rattle.qh_mesh.specs.steps.ReplacedSides.{Ready, Rebuilt, Replaced}
+use Rattle.qh_mesh.specs.contract.Replacement.{at}
 use Rattle.qh_mesh.proofs.Surfaces.{ready_is, replaced_from, surface_is, fix_places, back, frees_is, Frees}
 use Rattle.qh_mesh.proofs.rebuild.rebuild.Goals as goal
 

@@ -1,6 +1,6 @@
 use Rattle.std.proofs.Common.{◌≡◌, reverse, drop, []}
-use Rattle.qh_plane.specs.Chains.{turn_of, chain}
-use Rattle.qh_plane.specs.PlaceKeys.{AreIndices}
+use Rattle.qh_plane.specs.steps.Chains.{turn_of, chain}
+use Rattle.qh_model.specs.contract.IdSets.{AreIndices}
 use Rattle.qh_plane.proofs.chains.chain.Given as goal
 
 abbrev pub invariant-loop-next : goal.invariant-loop-next

@@ -1,6 +1,6 @@
 use Rattle.std.proofs.Common.{◌≡◌, reverse, vec_len}
-use Rattle.qh_plane.specs.Chains.{turn_of, kept}
-use Rattle.qh_plane.specs.PlaceKeys.{AreIndices}
+use Rattle.qh_plane.specs.steps.Chains.{turn_of, kept}
+use Rattle.qh_model.specs.contract.IdSets.{AreIndices}
 use Rattle.qh_plane.proofs.chains.drop_tops.Given as goal
 
 abbrev pub invariant-loop-next : goal.invariant-loop-next

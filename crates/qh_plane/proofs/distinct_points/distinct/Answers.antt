@@ -4,11 +4,11 @@ use Rattle.std.proofs.lemmas.List.Sorted.{IsNonDecreasingBy-from_sort}
 use Rattle.std.specs.Prelude.{IsPermutation}
 use Rattle.std.specs.List.Sorted.{IsNonDecreasing}
 use Rattle.qh_model.specs.declared.limits.TheConstants.{POINT_LIMIT}
-use Rattle.qh_model.specs.DistinctIds.{AreDistinctIds}
+use Rattle.qh_model.specs.headline.DistinctIds.{AreDistinctIds}
 use Rattle.qh_plane.proofs.DistinctLists.{AllIds, all_within, distinct_ids}
 use Rattle.qh_plane.proofs.MarkedIds.{length-marked}
 use Rattle.qh_plane.specs.declared.distinct_points.TheConstants.{NO_PLACE}
-use Rattle.qh_plane.specs.Marks.{place_starts, marked_ids}
+use Rattle.qh_plane.specs.steps.Marks.{place_starts, marked_ids}
 use Rattle.qh_plane.proofs.distinct_points.distinct.Goals as goal
 
 pub mark_first_ids-requires : goal.mark_first_ids-requires

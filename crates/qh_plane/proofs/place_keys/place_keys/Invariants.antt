@@ -1,6 +1,6 @@
 use Rattle.std.proofs.Common.{◌≡◌, map, take}
 use Rattle.std.specs.List.{All}
-use Rattle.qh_plane.specs.PlaceKeys.{key_at, HasKey}
+use Rattle.qh_plane.specs.steps.PlaceKeys.{key_at, HasKey}
 use Rattle.qh_plane.proofs.place_keys.place_keys.Given as goal
 
 abbrev pub invariant-loop-id : goal.invariant-loop-id

@@ -4,7 +4,7 @@ use Rattle.std.proofs.lemmas.List.Sorted.{IsNonDecreasingBy-from_sort}
 use Rattle.std.specs.Prelude.{IsPermutation}
 use Rattle.std.specs.List.Sorted.{IsNonDecreasing}
 use Rattle.qh_plane.proofs.polygons.SortedPlaces.{sorted_indices}
-use Rattle.qh_plane.specs.PlaceKeys.{ids_in}
+use Rattle.qh_plane.specs.steps.PlaceKeys.{ids_in}
 use Rattle.qh_plane.proofs.planar.by_place.Goals as goal
 
 pub returns-clause-order : goal.returns-clause-order

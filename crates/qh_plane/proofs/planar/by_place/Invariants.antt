@@ -1,5 +1,5 @@
 use Rattle.std.proofs.Common.{◌≡◌, take}
-use Rattle.qh_plane.specs.PlaceKeys.{ids_in}
+use Rattle.qh_plane.specs.steps.PlaceKeys.{ids_in}
 use Rattle.qh_plane.proofs.planar.by_place.Given as goal
 
 abbrev pub invariant-loop-key : goal.invariant-loop-key

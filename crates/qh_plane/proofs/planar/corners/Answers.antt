@@ -1,6 +1,6 @@
 use Rattle.std.proofs.Common.{◌<◌, ◌≤◌, ℕ, length, get_or, sym, subst}
-use Rattle.qh_model.specs.Predicates.{place}
-use Rattle.qh_model.specs.Sets.{Members}
+use Rattle.qh_model.specs.headline.Predicates.{place}
+use Rattle.qh_model.specs.headline.Sets.{Members}
 use Rattle.qh_plane.proofs.polygons.GoesRound.{GoesRound}
 use Rattle.qh_plane.proofs.polygons.LeastFirst.{polygon_of}
 use Rattle.qh_plane.proofs.polygons.PlanarIds.{flat_of, two_of}

@@ -1,7 +1,7 @@
 use Rattle.std.proofs.Common.{ap, sym, ◌∙◌, take, length, ◌-◌, ◌++◌, [], reverse}
 use Rattle.rayon.proofs.ListFacts.{IfOk-then}
 use Rattle.qh_plane.proofs.polygons.Stacks.{fronts}
-use Rattle.qh_plane.specs.Chains.{turn_of, joined, chain}
+use Rattle.qh_plane.specs.steps.Chains.{turn_of, joined, chain}
 use Rattle.qh_plane.proofs.planar.cycle.Goals as goal
 
 pub returns : goal.returns

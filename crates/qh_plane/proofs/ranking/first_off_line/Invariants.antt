@@ -1,5 +1,5 @@
 use Rattle.std.proofs.Common.{◌<◌, ℕ, get_or}
-use Rattle.qh_plane.specs.Shapes.{IsInLine}
+use Rattle.qh_plane.specs.contract.Shapes.{IsInLine}
 use Rattle.qh_plane.proofs.ranking.first_off_line.Given as goal
 
 abbrev pub invariant-loop-k : goal.invariant-loop-k

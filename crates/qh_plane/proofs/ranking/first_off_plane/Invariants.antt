@@ -1,5 +1,5 @@
 use Rattle.std.proofs.Common.{◌<◌, ℕ, get_or}
-use Rattle.qh_plane.specs.Shapes.{IsInPlane}
+use Rattle.qh_plane.specs.contract.Shapes.{IsInPlane}
 use Rattle.qh_plane.proofs.ranking.first_off_plane.Given as goal
 
 abbrev pub invariant-loop-l : goal.invariant-loop-l

@@ -1,7 +1,7 @@
 use Rattle.std.proofs.Common.{◌≡◌, rules, FitsSigned, ◌∙◌, refl}
 use Rattle.std.proofs.lemmas.Int.{to_z-of_z}
-use Rattle.qh_model.specs.Vector.{Vector, dot}
-use Rattle.qh_model.specs.Predicates.{cross, left}
+use Rattle.qh_model.specs.headline.Vector.{Vector, dot}
+use Rattle.qh_model.specs.headline.Predicates.{cross, left}
 use Rattle.qh_pred.proofs.predicates.left.Goals as goal
 use mir.Syntax.{w128}
 

@@ -1,7 +1,7 @@
 use Rattle.std.proofs.Common.{◌≡◌, rules, FitsSigned, ◌∙◌, refl}
 use Rattle.std.proofs.lemmas.Int.{to_z-of_z}
-use Rattle.qh_model.specs.Vector.{Vector, dot, minus}
-use Rattle.qh_model.specs.Predicates.{cross, vol}
+use Rattle.qh_model.specs.headline.Vector.{Vector, dot, minus}
+use Rattle.qh_model.specs.headline.Predicates.{cross, vol}
 use Rattle.qh_pred.proofs.predicates.vol.Goals as goal
 use mir.Syntax.{w128}
 

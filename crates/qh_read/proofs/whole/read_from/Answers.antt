@@ -1,9 +1,9 @@
 use Rattle.std.proofs.Common.{◌≡◌, ◌≤◌, ◌<◌, ◌+◌, ◌++◌, ◌∙◌, ℕ, List, arith, ap, length, length-append, length-take, take, refl, sym, Err}
 use Rattle.std.proofs.lemmas.Result.{err_from_is_err_and}
 use Rattle.qh_model.specs.declared.limits.TheConstants.{BYTE_LIMIT}
-use Rattle.qh_read.specs.ReadFaults.{read_fault}
+use Rattle.qh_read.specs.contract.ReadFaults.{read_fault}
 use Rattle.qh_read.specs.declared.whole.TheConstants.{PIECE_LENGTH}
-use Rattle.qh_read.specs.declared.fault.ReadFault.TheVariants as faults
+use Rattle.qh_model.specs.declared.read_fault.ReadFault.TheVariants as faults
 use Rattle.qh_read.specs.declared.fault.FeedFault.{FeedFault}
 use Rattle.qh_read.specs.declared.fault.FeedFault.TheVariants as feed_faults
 use Rattle.qh_read.proofs.SourceLemmas.{Consumes-append}

@@ -1,6 +1,6 @@
 use Rattle.std.proofs.Common.{◌≡◌, ◌<◌, ◌++◌, ℕ, List}
 use Rattle.std.specs.Slice.Iter.{chunks_rest, chunks_size}
-use Rattle.qh_read.specs.Holding.{Reading, Fed}
+use Rattle.qh_read.specs.contract.Holding.{Reading, Fed}
 use Rattle.qh_read.proofs.whole.read_points.Given as goal
 
 -- the bytes fed, and then what is left, are all bytes

@@ -1,10 +1,10 @@
 use Rattle.std.proofs.Common.{subst, sym}
 use Rattle.std.proofs.lemmas.Result.{IfOk-weaker}
-use Rattle.qh_model.specs.BoardMachine.{InSpan}
-use Rattle.qh_model.specs.Cut.{block_count}
+use Rattle.qh_model.specs.contract.BoardMachine.{InSpan}
+use Rattle.qh_model.specs.contract.Cut.{block_count}
 use Rattle.qh_model.proofs.DistinctIds.{ids_within}
 use Rattle.qh_model.proofs.hulls.RightValues.{hull_of_root, right_within}
-use Rattle.qh_plane.specs.PlaceKeys.{AreIndices}
+use Rattle.qh_model.specs.contract.IdSets.{AreIndices}
 use Rattle.qh_plane.proofs.DistinctLists.{id_set}
 use Rattle.qh_run.proofs.RightUnions.{part_indices, part_set}
 use Rattle.qh_run.proofs.run.body_by_leaves.Goals as goal

@@ -1,4 +1,4 @@
-use Rattle.qh_run.specs.Turns.{IsAnswerOf, SinceClaim, answered, answered_node}
+use Rattle.qh_run.specs.steps.Turns.{IsAnswerOf, SinceClaim, answered, answered_node}
 use Rattle.qh_run.proofs.worker.climb.Given as goal
 
 -- the answer is still this pass's

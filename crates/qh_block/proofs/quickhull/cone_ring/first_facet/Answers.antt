@@ -1,4 +1,4 @@
-use Rattle.qh_mesh.specs.Replacement.{number}
+use Rattle.qh_mesh.specs.contract.Replacement.{number}
 use Rattle.qh_block.proofs.runs.ConeRings.{named_live, names_first, fan_next, named_by}
 use Rattle.qh_block.proofs.quickhull.cone_ring.first_facet.Goals as goal
 

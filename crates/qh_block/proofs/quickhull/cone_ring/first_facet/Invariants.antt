@@ -1,4 +1,4 @@
-use Rattle.qh_block.specs.Runs.{Names}
+use Rattle.qh_block.specs.steps.Runs.{Names}
 use Rattle.qh_block.proofs.quickhull.cone_ring.first_facet.Given as goal
 
 abbrev pub invariant-loop : goal.invariant-loop

@@ -1,5 +1,5 @@
 use Rattle.std.proofs.Common.{sym, subst, List}
-use Rattle.qh_block.specs.Cones.{IsWedge, AreWedges, apex_of}
+use Rattle.qh_block.specs.steps.Cones.{IsWedge, AreWedges, apex_of}
 use Rattle.qh_block.specs.declared.quickhull.cone_ring.Wedge.{Wedge}
 use Rattle.qh_block.proofs.runs.ConeRings.{fan_next, read_wedge, each_more}
 use Rattle.qh_block.proofs.quickhull.cone_ring.go_round.Goals as goal

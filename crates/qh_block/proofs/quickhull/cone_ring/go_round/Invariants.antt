@@ -1,5 +1,5 @@
-use Rattle.qh_block.specs.Runs.{Names}
-use Rattle.qh_block.specs.Cones.{AreWedges, apex_of}
+use Rattle.qh_block.specs.steps.Runs.{Names}
+use Rattle.qh_block.specs.steps.Cones.{AreWedges, apex_of}
 use Rattle.qh_block.proofs.quickhull.cone_ring.go_round.Given as goal
 
 abbrev pub invariant-loop : goal.invariant-loop

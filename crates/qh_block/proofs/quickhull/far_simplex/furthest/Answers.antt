@@ -1,5 +1,5 @@
 use Rattle.std.proofs.Common.{◌∙◌, subst, sym}
-use Rattle.qh_model.specs.Sets.{Members}
+use Rattle.qh_model.specs.headline.Sets.{Members}
 use Rattle.qh_model.proofs.Members.{In-get_or}
 use Rattle.qh_block.proofs.quickhull.far_simplex.furthest.Goals.{then-distance-most, else-distance-most}
 use Rattle.qh_block.proofs.quickhull.far_simplex.furthest.Goals as goal

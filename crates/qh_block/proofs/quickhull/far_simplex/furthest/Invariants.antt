@@ -1,4 +1,4 @@
-use Rattle.qh_model.specs.Sets.{Members}
+use Rattle.qh_model.specs.headline.Sets.{Members}
 use Rattle.qh_block.proofs.quickhull.far_simplex.furthest.Given as goal
 
 -- what was found is one of the ids

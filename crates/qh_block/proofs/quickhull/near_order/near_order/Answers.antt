@@ -1,6 +1,6 @@
 use Rattle.std.proofs.Common.{ℕ, List, map, sym, subst, IsPermutation}
 use Rattle.std.proofs.lemmas.List.Sorted.{IsPermutation-map}
-use Rattle.qh_block.specs.NearOrder.{id_of}
+use Rattle.qh_block.specs.steps.NearOrder.{id_of}
 use Rattle.qh_block.proofs.quickhull.near_order.near_order.Goals as goal
 
 pub returns : goal.returns

@@ -1,5 +1,5 @@
 use Rattle.std.proofs.Common.{◌≡◌, map, take}
-use Rattle.qh_block.specs.NearOrder.{id_of}
+use Rattle.qh_block.specs.steps.NearOrder.{id_of}
 use Rattle.qh_block.proofs.quickhull.near_order.with_cells.Given as goal
 
 abbrev pub invariant-loop-id : goal.invariant-loop-id

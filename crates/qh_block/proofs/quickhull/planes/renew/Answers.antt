@@ -1,6 +1,6 @@
 use Rattle.std.proofs.Common.{◌<◌, length, arith, refl, ◌∙◌}
 use Rattle.std.proofs.lemmas.List.{length-set}
-use Rattle.qh_mesh.specs.Replacement.{number}
+use Rattle.qh_mesh.specs.contract.Replacement.{number}
 use Rattle.qh_block.proofs.runs.RenewedPlanes.{none_renewed, more_renewed, all_renewed}
 use Rattle.qh_block.proofs.quickhull.planes.renew.Goals as goal
 use Rattle.qh_block.proofs.LiveFacets.{live_below}

@@ -1,7 +1,7 @@
 use Rattle.std.proofs.Common.{◌++◌, ◌∷◌, ◌∙◌, ap, [], List, Vec, Global, length, sym, subst, take, take_all, get_or}
 use Rattle.std.proofs.lemmas.List.{take_more}
 use Rattle.qh_mesh.specs.declared.facets.FacetNo.{FacetNo}
-use Rattle.qh_block.specs.Runs.{Names, AreWithin}
+use Rattle.qh_block.specs.steps.Runs.{Names, AreWithin}
 use Rattle.qh_block.proofs.runs.WaitingFacets.{AreQueued, none_queued, more_queued, more_idle}
 use Rattle.qh_block.proofs.quickhull.queue.enqueue.Goals as goal
 use Rattle.qh_block.proofs.quickhull.queue.enqueue.Goals.{then-is_some+in_ok-push, else-is_some}

@@ -1,7 +1,7 @@
 use Rattle.std.proofs.Common.{◌∙◌, sym, subst, length, refl, arith}
 use Rattle.std.proofs.lemmas.List.{nil_from_length}
-use Rattle.qh_block.specs.OutsideSets.{OutsideValue}
-use Rattle.qh_block.specs.Runs.{AreWithin, IsUnderWay}
+use Rattle.qh_block.specs.steps.OutsideSets.{OutsideValue}
+use Rattle.qh_block.specs.steps.Runs.{AreWithin, IsUnderWay}
 use Rattle.qh_block.proofs.runs.NamedFacets.{within_rest}
 use Rattle.qh_block.proofs.runs.PickedApexes.{none_taken, passed_over, picked, all_done}
 use Rattle.qh_block.proofs.quickhull.queue.next_apex.Goals as goal

@@ -1,8 +1,8 @@
 use Rattle.std.proofs.Common.{◌≡◌, ℕ, List, length}
-use Rattle.qh_model.specs.Vector.{Vector}
-use Rattle.qh_model.specs.StoredSurface.{StoredFacet}
-use Rattle.qh_pred.specs.Planes.{PlaneValue}
-use Rattle.qh_block.specs.Runs.{AreWithin, IsUnderWay}
+use Rattle.qh_model.specs.headline.Vector.{Vector}
+use Rattle.qh_model.specs.contract.StoredSurface.{StoredFacet}
+use Rattle.qh_pred.specs.contract.Planes.{PlaneValue}
+use Rattle.qh_block.specs.steps.Runs.{AreWithin, IsUnderWay}
 use Rattle.qh_block.proofs.quickhull.queue.next_apex.Given as goal
 
 abbrev pub invariant-loop-facet : goal.invariant-loop-facet

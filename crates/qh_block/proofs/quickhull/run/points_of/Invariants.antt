@@ -1,5 +1,5 @@
 use Rattle.std.proofs.Common.{◌≡◌, map, take}
-use Rattle.qh_model.specs.Predicates.{place}
+use Rattle.qh_model.specs.headline.Predicates.{place}
 use Rattle.qh_block.proofs.quickhull.run.points_of.Given as goal
 
 abbrev pub invariant-loop-id : goal.invariant-loop-id

@@ -1,9 +1,9 @@
 use Rattle.std.proofs.Common.{below_more, subst}
 use Rattle.std.specs.Prelude.{pos, ◌≤ℤ◌}
 use Rattle.std.proofs.lemmas.List.{get_or_read}
-use Rattle.qh_pred.specs.Planes.{PlaneValue, height}
-use Rattle.qh_mesh.specs.Replacement.{number}
-use Rattle.qh_block.specs.Planes.{no_plane}
+use Rattle.qh_pred.specs.contract.Planes.{PlaneValue, height}
+use Rattle.qh_mesh.specs.contract.Replacement.{number}
+use Rattle.qh_block.specs.steps.Planes.{no_plane}
 use Rattle.qh_block.proofs.runs.ConeRings.{not_above}
 use Rattle.qh_block.proofs.quickhull.settling.first_below.Goals as goal
 

@@ -1,8 +1,8 @@
 use Rattle.std.proofs.Common.{ℕ, ◌<◌}
 use Rattle.std.specs.Prelude.{pos, ◌≤ℤ◌}
-use Rattle.qh_pred.specs.Planes.{height}
-use Rattle.qh_mesh.specs.Replacement.{number}
-use Rattle.qh_block.specs.Planes.{plane_at}
+use Rattle.qh_pred.specs.contract.Planes.{height}
+use Rattle.qh_mesh.specs.contract.Replacement.{number}
+use Rattle.qh_block.specs.steps.Planes.{plane_at}
 use Rattle.qh_block.proofs.quickhull.settling.first_below.Given as goal
 
 abbrev pub invariant-loop-facet : goal.invariant-loop-facet

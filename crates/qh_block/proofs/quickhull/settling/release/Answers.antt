@@ -1,8 +1,8 @@
 use Rattle.std.proofs.Common.{◌∙◌, ap, sym, subst, List, [], ℕ, length, get_or, refl, take_all}
 use Rattle.std.proofs.lemmas.List.{take_more, length-set}
 use Rattle.qh_mesh.specs.declared.facets.FacetNo.{FacetNo}
-use Rattle.qh_mesh.specs.Replacement.{number}
-use Rattle.qh_block.specs.Settling.{AreReleased}
+use Rattle.qh_mesh.specs.contract.Replacement.{number}
+use Rattle.qh_block.specs.steps.Settling.{AreReleased}
 use Rattle.qh_block.proofs.runs.SettledOrphans.{none_released, more_released}
 use Rattle.qh_block.proofs.quickhull.settling.release.Goals as goal
 

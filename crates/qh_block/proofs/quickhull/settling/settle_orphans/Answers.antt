@@ -1,7 +1,7 @@
 use Rattle.std.proofs.Common.{◌∙◌, ap, sym, subst, length, arith}
 use Rattle.std.proofs.lemmas.List.{length-map}
-use Rattle.qh_model.specs.Predicates.{place}
-use Rattle.qh_block.specs.Runs.{AreWithin}
+use Rattle.qh_model.specs.headline.Predicates.{place}
+use Rattle.qh_block.specs.steps.Runs.{AreWithin}
 use Rattle.qh_block.proofs.runs.SettledOrphans.{one_settled}
 use Rattle.qh_block.proofs.quickhull.settling.settle_orphans.Goals as goal
 

@@ -1,12 +1,12 @@
 use Rattle.std.proofs.Common.{◌≡◌, ◌<◌, ◌≤◌, ℕ, List, length, map}
-use Rattle.qh_model.specs.Vector.{Vector}
-use Rattle.qh_model.specs.Predicates.{place}
-use Rattle.qh_model.specs.StoredSurface.{StoredFacet}
+use Rattle.qh_model.specs.headline.Vector.{Vector}
+use Rattle.qh_model.specs.headline.Predicates.{place}
+use Rattle.qh_model.specs.contract.StoredSurface.{StoredFacet}
 use Rattle.qh_mesh.specs.declared.facets.FacetNo.{FacetNo}
-use Rattle.qh_mesh.specs.Replacement.{IsLive, number}
-use Rattle.qh_block.specs.Planes.{ArePlanes}
-use Rattle.qh_block.specs.OutsideSets.{listed}
-use Rattle.qh_block.specs.Runs.{IsSettling}
+use Rattle.qh_mesh.specs.contract.Replacement.{IsLive, number}
+use Rattle.qh_block.specs.steps.Planes.{ArePlanes}
+use Rattle.qh_block.specs.steps.OutsideSets.{listed}
+use Rattle.qh_block.specs.steps.Runs.{IsSettling}
 use Rattle.qh_block.proofs.quickhull.settling.settle_orphans.Given as goal
 
 abbrev pub invariant-loop-orphan : goal.invariant-loop-orphan

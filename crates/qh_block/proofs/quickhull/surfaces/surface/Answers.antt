@@ -1,12 +1,12 @@
 use Rattle.std.proofs.lemmas.Result.{IfOk-weaker}
-use Rattle.qh_model.specs.FinishedSurface.{IsFinished}
-use Rattle.qh_model.specs.Predicates.{place}
-use Rattle.qh_model.specs.Sets.{Members}
-use Rattle.qh_model.specs.StoredSurface.{facet_at, surface_of}
-use Rattle.qh_model.specs.SupportingPlane.{IsSupportingTriple}
+use Rattle.qh_model.specs.contract.FinishedSurface.{IsFinished}
+use Rattle.qh_model.specs.headline.Predicates.{place}
+use Rattle.qh_model.specs.headline.Sets.{Members}
+use Rattle.qh_model.specs.contract.StoredSurface.{facet_at, surface_of}
+use Rattle.qh_model.specs.headline.SupportingPlane.{IsSupportingTriple}
 use Rattle.qh_model.proofs.extremes.Dimensions.{dimension_is_unique}
-use Rattle.qh_plane.specs.Shapes.{IsInLine, IsInPlane, dimension_of}
-use Rattle.qh_mesh.specs.Replacement.{IsLive}
+use Rattle.qh_plane.specs.contract.Shapes.{IsInLine, IsInPlane, dimension_of}
+use Rattle.qh_mesh.specs.contract.Replacement.{IsLive}
 use Rattle.qh_block.proofs.runs.FirstSimplexes.{first_not_in, solid_only}
 use Rattle.qh_block.proofs.runs.FinishedRuns.{supporting}
 use Rattle.qh_block.proofs.quickhull.surfaces.surface.Goals as goal

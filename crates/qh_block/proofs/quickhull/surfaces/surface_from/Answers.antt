@@ -1,7 +1,7 @@
 use Rattle.std.proofs.lemmas.Result.{IfOk-weaker}
-use Rattle.qh_model.specs.FinishedSurface.{IsFinished}
-use Rattle.qh_model.specs.Predicates.{place}
-use Rattle.qh_model.specs.StoredSurface.{surface_of}
+use Rattle.qh_model.specs.contract.FinishedSurface.{IsFinished}
+use Rattle.qh_model.specs.headline.Predicates.{place}
+use Rattle.qh_model.specs.contract.StoredSurface.{surface_of}
 use Rattle.qh_model.proofs.Members.{in_permutation}
 use Rattle.qh_block.proofs.runs.OrderedIds.{lent, finished_reordered, indices_reordered}
 use Rattle.qh_block.proofs.quickhull.surfaces.surface_from.Goals as goal

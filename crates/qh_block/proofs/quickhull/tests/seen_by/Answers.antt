@@ -2,10 +2,10 @@ use Rattle.std.proofs.Common.{◌∙◌, List, refl, sym, subst, All}
 use Rattle.std.specs.Prelude.{pos, ◌<ℤ◌}
 use Rattle.std.proofs.lemmas.List.{get_or_read}
 use Rattle.std.proofs.lemmas.List.Elements.{All-nil, All-push}
-use Rattle.qh_pred.specs.Planes.{PlaneValue, height}
+use Rattle.qh_pred.specs.contract.Planes.{PlaneValue, height}
 use Rattle.qh_mesh.specs.declared.facets.FacetNo.{FacetNo}
-use Rattle.qh_mesh.specs.Replacement.{IsLive}
-use Rattle.qh_block.specs.Planes.{plane_at, no_plane}
+use Rattle.qh_mesh.specs.contract.Replacement.{IsLive}
+use Rattle.qh_block.specs.steps.Planes.{plane_at, no_plane}
 use Rattle.qh_block.proofs.LiveFacets.{all_live, next_live, rest_live}
 use Rattle.qh_block.proofs.quickhull.tests.seen_by.Goals as goal
 

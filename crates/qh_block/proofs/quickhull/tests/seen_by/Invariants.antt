@@ -1,9 +1,9 @@
 use Rattle.std.proofs.Common.{All}
 use Rattle.std.specs.Prelude.{pos, ◌<ℤ◌}
 use Rattle.qh_mesh.specs.declared.facets.FacetNo.{FacetNo}
-use Rattle.qh_mesh.specs.Replacement.{IsLive}
-use Rattle.qh_pred.specs.Planes.{height}
-use Rattle.qh_block.specs.Planes.{plane_at}
+use Rattle.qh_mesh.specs.contract.Replacement.{IsLive}
+use Rattle.qh_pred.specs.contract.Planes.{height}
+use Rattle.qh_block.specs.steps.Planes.{plane_at}
 use Rattle.qh_block.proofs.LiveFacets.{AreAllLive}
 use Rattle.qh_block.proofs.quickhull.tests.seen_by.Given as goal
 

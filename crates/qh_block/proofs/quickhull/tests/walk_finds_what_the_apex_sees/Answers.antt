@@ -1,14 +1,14 @@
 use Rattle.std.proofs.Common.{◌≡◌, ◌≢◌, ℕ, List, [], ◌∷◌, arith}
 use Rattle.std.specs.Prelude.{ℤ, pos}
 use Rattle.std.proofs.lemmas.Int.{ints}
-use Rattle.qh_model.specs.Vector.{Vector}
-use Rattle.qh_model.specs.Predicates.{vol, place}
+use Rattle.qh_model.specs.headline.Vector.{Vector}
+use Rattle.qh_model.specs.headline.Predicates.{cross, vol, place}
 use Rattle.qh_block.proofs.quickhull.tests.walk_finds_what_the_apex_sees.Goals as goal
 
 -- the corner of a cube of side 10 has volume 1000
 corner : (a b c d : Vector) (rest : List Vector) (i j k l : ℕ) → a ≡ record { x = pos 0; y = pos 0; z = pos 0 } → b ≡ record { x = pos 10; y = pos 0; z = pos 0 } → c ≡ record { x = pos 0; y = pos 10; z = pos 0 } → d ≡ record { x = pos 0; y = pos 0; z = pos 10 }
     → i ≡ 0 → j ≡ 1 → k ≡ 2 → l ≡ 3 → vol (place (a ∷ b ∷ c ∷ d ∷ rest) i) (place (a ∷ b ∷ c ∷ d ∷ rest) j) (place (a ∷ b ∷ c ∷ d ∷ rest) k) (place (a ∷ b ∷ c ∷ d ∷ rest) l) ≡ pos 1000
-unfolding vol place
+unfolding vol cross place
 corner a b c d rest i j k l ea eb ec ed ei ej ek el =
     λ t. vol (place (ea t ∷ eb t ∷ ec t ∷ ed t ∷ rest) (ei t)) (place (ea t ∷ eb t ∷ ec t ∷ ed t ∷ rest) (ej t)) (place (ea t ∷ eb t ∷ ec t ∷ ed t ∷ rest) (ek t)) (place (ea t ∷ eb t ∷ ec t ∷ ed t ∷ rest) (el t))
 

@@ -1,12 +1,12 @@
 use Rattle.std.proofs.Common.{◌≡◌, ◌/◌, ◌≤◌, ℕ, length, arith, sym, subst, get_or, set, refl, true, false, List}
 use Rattle.std.specs.Prelude.{pos, ◌<ℤ◌}
 use Rattle.std.proofs.lemmas.List.{get_or_read}
-use Rattle.qh_model.specs.StoredSurface.{StoredFacet}
-use Rattle.qh_pred.specs.Planes.{PlaneValue, height}
+use Rattle.qh_model.specs.contract.StoredSurface.{StoredFacet}
+use Rattle.qh_pred.specs.contract.Planes.{PlaneValue, height}
 use Rattle.qh_mesh.specs.declared.facets.FacetNo.{FacetNo}
-use Rattle.qh_mesh.specs.Replacement.{IsLive}
-use Rattle.qh_block.specs.Planes.{no_plane, plane_at}
-use Rattle.qh_block.specs.Walks.{IsWalk}
+use Rattle.qh_mesh.specs.contract.Replacement.{IsLive}
+use Rattle.qh_block.specs.steps.Planes.{no_plane, plane_at}
+use Rattle.qh_block.specs.steps.Walks.{IsWalk}
 use Rattle.qh_block.proofs.WalkSteps.{has_room, passed, joined_walk}
 use Rattle.qh_block.proofs.quickhull.walk.cross.Goals as goal
 use Rattle.qh_block.proofs.LiveFacets.{live_below}

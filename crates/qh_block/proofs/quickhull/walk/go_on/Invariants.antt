@@ -1,5 +1,5 @@
 use Rattle.std.proofs.Common.{◌-◌, ◌≤◌, length, vec_capacity}
-use Rattle.qh_block.specs.Walks.{IsWalk, IsCrossed, IsFurther}
+use Rattle.qh_block.specs.steps.Walks.{IsWalk, IsCrossed, IsFurther}
 use Rattle.qh_block.proofs.quickhull.walk.go_on.Given as goal
 
 abbrev pub invariant-loop-next : goal.invariant-loop-next

@@ -1,8 +1,8 @@
 use Rattle.std.proofs.Common.{ℕ, List, get_or}
-use Rattle.qh_model.specs.Vector.{Vector}
-use Rattle.qh_model.specs.DistinctIds.{AreDistinctIds}
+use Rattle.qh_model.specs.headline.Vector.{Vector}
+use Rattle.qh_model.specs.headline.DistinctIds.{AreDistinctIds}
 use Rattle.qh_model.proofs.Members.{In-get_or}
-use Rattle.qh_plane.specs.PlaceKeys.{AreIndices}
+use Rattle.qh_model.specs.contract.IdSets.{AreIndices}
 use Rattle.qh_block.proofs.tests.solid_rows.hull_of.Goals as goal
 
 -- distinct ids are indices of points

@@ -1,6 +1,6 @@
 use Rattle.std.proofs.Common.{◌≡◌, ◌+◌, ◌-◌, ◌∙◌, ap, sym, subst, arith, [], ◌∷◌}
 use Rattle.std.specs.Prelude.{ℕ}
-use Rattle.qh_model.specs.BoardMachine.{InSpan}
+use Rattle.qh_model.specs.contract.BoardMachine.{InSpan}
 use Rattle.qh_board.specs.declared.view.Record.{Record}
 use Rattle.qh_board.specs.contract.Tokens.{BoardValue, node_or, task_node}
 use Rattle.qh_board.specs.steps.Rising.{IsRisingListOf}

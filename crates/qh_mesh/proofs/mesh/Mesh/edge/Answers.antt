@@ -1,8 +1,8 @@
 use Rattle.std.proofs.Common.{◌≡◌, ℕ, ◌*◌, ◌%◌, ◌<◌, List, length, arith, ap, sym, ◌∙◌}
-use Rattle.qh_model.specs.StoredSurface.{StoredFacet, facet_at}
+use Rattle.qh_model.specs.contract.StoredSurface.{StoredFacet, facet_at}
 use Rattle.qh_mesh.specs.declared.facets.Side.{Side}
-use Rattle.qh_mesh.specs.Stored.{facets_of}
-use Rattle.qh_mesh.specs.Replacement.{IsLive}
+use Rattle.qh_mesh.specs.steps.Stored.{facets_of}
+use Rattle.qh_mesh.specs.contract.Replacement.{IsLive}
 use Rattle.qh_mesh.proofs.Weaving.{live_inside}
 use Rattle.qh_mesh.proofs.StoredSides.{live_stored}
 use Rattle.qh_mesh.proofs.mesh.Mesh.edge.Goals as goal

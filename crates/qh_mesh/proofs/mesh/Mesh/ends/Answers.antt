@@ -1,9 +1,9 @@
 use Rattle.std.proofs.Common.{◌≡◌, ◌/◌, List, length, arith, ap, sym, ◌∙◌, subst, true}
-use Rattle.qh_model.specs.StoredSurface.{StoredFacet}
+use Rattle.qh_model.specs.contract.StoredSurface.{StoredFacet}
 use Rattle.qh_mesh.specs.declared.facets.Side.{Side}
-use Rattle.qh_mesh.specs.Nets.{after}
-use Rattle.qh_mesh.specs.Cells.{live_in, start_in}
-use Rattle.qh_mesh.specs.Replacement.{IsLive, edge_start, edge_end}
+use Rattle.qh_mesh.specs.steps.Nets.{after}
+use Rattle.qh_mesh.specs.steps.Cells.{live_in, start_in}
+use Rattle.qh_mesh.specs.contract.Replacement.{IsLive, edge_start, edge_end}
 use Rattle.qh_mesh.proofs.Weaving.{live_inside}
 use Rattle.qh_mesh.proofs.StoredSides.{is_stored, edge_live}
 use Rattle.qh_mesh.proofs.mesh.Mesh.ends.Goals as goal

@@ -1,7 +1,7 @@
 use Rattle.std.proofs.Common.{◌≡◌, ℕ, ◌+◌, ◌*◌, ◌∷◌, [], List, length, arith, ap, sym, ◌∙◌, true}
-use Rattle.qh_model.specs.StoredSurface.{StoredFacet, facet_at}
+use Rattle.qh_model.specs.contract.StoredSurface.{StoredFacet, facet_at}
 use Rattle.qh_mesh.specs.declared.facets.Side.{Side}
-use Rattle.qh_mesh.specs.Cells.{live_in}
+use Rattle.qh_mesh.specs.steps.Cells.{live_in}
 use Rattle.qh_mesh.proofs.Weaving.{live_inside}
 use Rattle.qh_mesh.proofs.StoredSides.{facet_in, stored_at, live_stored}
 use Rattle.qh_mesh.proofs.Replacing.{facet_live}

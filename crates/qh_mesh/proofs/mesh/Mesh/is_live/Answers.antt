@@ -1,8 +1,8 @@
 use Rattle.std.proofs.Common.{◌≡◌, ℕ, ◌+◌, ◌*◌, ◌%◌, ◌<◌, List, length, arith, ap, sym, ◌∙◌}
-use Rattle.qh_model.specs.StoredSurface.{StoredFacet, facet_at}
+use Rattle.qh_model.specs.contract.StoredSurface.{StoredFacet, facet_at}
 use Rattle.qh_mesh.specs.declared.facets.Side.{Side}
-use Rattle.qh_mesh.specs.Cells.{blank, cell}
-use Rattle.qh_mesh.specs.Stored.{facets_of}
+use Rattle.qh_mesh.specs.steps.Cells.{blank, cell}
+use Rattle.qh_mesh.specs.steps.Stored.{facets_of}
 use Rattle.qh_mesh.proofs.StoredSides.{stored_len, live_stored}
 use Rattle.std.proofs.lemmas.List.{get_or_read}
 use Rattle.qh_mesh.proofs.mesh.Mesh.is_live.Goals as goal

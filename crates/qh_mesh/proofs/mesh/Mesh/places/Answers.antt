@@ -1,5 +1,5 @@
 use Rattle.std.proofs.Common.{◌≡◌, length, arith, ap}
-use Rattle.qh_mesh.specs.Stored.{facets_of}
+use Rattle.qh_mesh.specs.steps.Stored.{facets_of}
 use Rattle.qh_mesh.proofs.StoredSides.{stored_len}
 use Rattle.qh_mesh.proofs.mesh.Mesh.places.Goals as goal
 

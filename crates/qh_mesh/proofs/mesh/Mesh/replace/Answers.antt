@@ -1,20 +1,21 @@
 use Rattle.std.proofs.Common.{◌≡◌, ℕ, ◌+◌, ◌-◌, ◌*◌, max, ◌%◌, List, length, ap, sym, ◌∙◌, subst}
-use Rattle.qh_model.specs.StoredSurface.{StoredFacet, surface_of}
+use Rattle.qh_model.specs.contract.StoredSurface.{StoredFacet, surface_of}
 use Rattle.qh_mesh.proofs.PlaceCounts.{places_are}
 use Rattle.qh_mesh.specs.declared.facets.Side.{Side}
 use Rattle.qh_mesh.specs.declared.facets.FacetNo.{FacetNo}
-use Rattle.qh_model.specs.Vector.{Vector}
-use Rattle.qh_model.specs.Predicates.{place}
-use Rattle.qh_model.specs.Weighted.{Weighted}
-use Rattle.qh_model.specs.FinishedSurface.{middle_at}
-use Rattle.qh_mesh.specs.Cells.{IsSurface, AreLive}
-use Rattle.qh_mesh.specs.ReplacedSides.{Replaced}
-use Rattle.qh_mesh.specs.SoundMesh.{IsSoundMesh, AreVisible}
+use Rattle.qh_model.specs.headline.Vector.{Vector}
+use Rattle.qh_model.specs.headline.Predicates.{place}
+use Rattle.qh_model.specs.contract.Weighted.{Weighted}
+use Rattle.qh_model.specs.contract.FinishedSurface.{middle_at}
+use Rattle.qh_mesh.specs.steps.Cells.{IsSurface, AreLive}
+use Rattle.qh_mesh.specs.steps.ReplacedSides.{Replaced}
+use Rattle.qh_mesh.specs.contract.SoundMesh.{IsSoundMesh, AreVisible}
 use Rattle.qh_mesh.proofs.StoredSides.{has_twins}
 use Rattle.qh_mesh.proofs.Rewiring.{IsStep, rewired}
 use Rattle.qh_mesh.proofs.SoundMeshes.{step_is_sound, step_is_closed}
-use Rattle.qh_mesh.specs.Stored.{facets_of}
-use Rattle.qh_mesh.specs.Replacement.{AreFacets, IsReplacement, HasTwins}
+use Rattle.qh_mesh.specs.steps.Stored.{facets_of}
+use Rattle.qh_mesh.specs.contract.Replacement.{AreFacets, IsReplacement}
+use Rattle.qh_mesh.specs.steps.Twins.{HasTwins}
 use Rattle.qh_mesh.proofs.StoredReplacement.{are_live, replacement_is}
 use Rattle.qh_mesh.proofs.mesh.Mesh.replace.Goals as goal
 

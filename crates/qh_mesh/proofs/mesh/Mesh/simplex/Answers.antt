@@ -1,10 +1,10 @@
 use Rattle.std.proofs.Common.{List, sym, subst}
 use Rattle.std.proofs.lemmas.Result.{IfOk-weaker}
 use Rattle.std.proofs.lemmas.Bool.{both_ways}
-use Rattle.qh_model.specs.Predicates.{place}
-use Rattle.qh_model.specs.FinishedSurface.{middle_at}
-use Rattle.qh_model.specs.StoredSurface.{StoredFacet}
-use Rattle.qh_mesh.specs.SoundMesh.{IsSoundMesh, IsClosedMesh}
+use Rattle.qh_model.specs.headline.Predicates.{place}
+use Rattle.qh_model.specs.contract.FinishedSurface.{middle_at}
+use Rattle.qh_model.specs.contract.StoredSurface.{StoredFacet}
+use Rattle.qh_mesh.specs.contract.SoundMesh.{IsSoundMesh, IsClosedMesh}
 use Rattle.qh_mesh.proofs.SoundMeshes.{turned_is_sound, simplex_is_sound, turned_is_closed, simplex_is_closed, below_zero}
 use Rattle.qh_mesh.proofs.mesh.Mesh.simplex.Goals as goal
 

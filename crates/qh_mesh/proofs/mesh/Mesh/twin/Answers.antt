@@ -1,8 +1,9 @@
 use Rattle.std.proofs.Common.{◌≡◌, ◌/◌, List, arith, ap, sym, ◌∙◌, subst, true}
-use Rattle.qh_model.specs.StoredSurface.{StoredFacet}
+use Rattle.qh_model.specs.contract.StoredSurface.{StoredFacet}
 use Rattle.qh_mesh.specs.declared.facets.Side.{Side}
-use Rattle.qh_mesh.specs.Cells.{blank, cell, live_in}
-use Rattle.qh_mesh.specs.Replacement.{IsLive, twin_of, edge_start, edge_end, HasTwins}
+use Rattle.qh_mesh.specs.steps.Cells.{blank, cell, live_in}
+use Rattle.qh_mesh.specs.contract.Replacement.{IsLive, twin_of, edge_start, edge_end}
+use Rattle.qh_mesh.specs.steps.Twins.{HasTwins}
 use Rattle.qh_mesh.proofs.Weaving.{live_inside}
 use Rattle.qh_mesh.proofs.StoredSides.{is_stored, edge_live, has_twins}
 use Rattle.std.proofs.lemmas.List.{get_or_read}

@@ -1,6 +1,6 @@
 use Rattle.std.proofs.Common.{◌≡◌, ◌+◌, ◌<◌, arith}
 use Rattle.std.proofs.lemmas.Grind.{common_steps}
-use Rattle.qh_model.specs.Cut.{block_count, bound}
+use Rattle.qh_model.specs.contract.Cut.{block_count, bound}
 use Rattle.qh_model.proofs.Cuts.{block_ends}
 use Rattle.qh_model.proofs.cut.Cut.block.Goals as goal
 

@@ -1,10 +1,10 @@
 use Rattle.std.proofs.Common.{ℕ, List, ◌≡◌, ◌≤◌, ◌∙◌, arith, ap, sym, length}
 use Rattle.std.proofs.lemmas.Result.{MatchResult-weaker}
 use Rattle.qh_model.specs.declared.limits.TheConstants.{BYTE_LIMIT}
-use Rattle.qh_model.specs.Words.{data_words}
-use Rattle.qh_read.specs.Building.{shown, lack}
-use Rattle.qh_read.specs.Holding.{Held, Reading, Fed, ended_held}
-use Rattle.qh_read.specs.Progress.{wants_first}
+use Rattle.qh_model.specs.headline.Words.{data_words}
+use Rattle.qh_read.specs.steps.Building.{shown, lack}
+use Rattle.qh_read.specs.contract.Holding.{Held, Reading, Fed, ended_held}
+use Rattle.qh_read.specs.contract.Progress.{wants_first}
 use Rattle.qh_read.proofs.ProgressLaws.{judged}
 use Rattle.qh_read.proofs.HoldingLaws.{progress-words, reads}
 use Rattle.qh_read.proofs.FaultLaws.{found}

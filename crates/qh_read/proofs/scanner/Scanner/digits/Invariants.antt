@@ -1,8 +1,8 @@
 use Rattle.std.proofs.Common.{◌≡◌, ◌≤◌, false, drop}
 use Rattle.qh_read.specs.declared.token.TheConstants.{MAGNITUDE_CAP}
 use Rattle.qh_read.specs.declared.token.Token.TheVariants.{Digits}
-use Rattle.qh_read.specs.Holding.{held_by}
-use Rattle.qh_read.specs.Scanning.{held, under_way}
+use Rattle.qh_read.specs.contract.Holding.{held_by}
+use Rattle.qh_read.specs.steps.Scanning.{held, under_way}
 use Rattle.qh_read.proofs.scanner.Scanner.digits.Given as goal
 
 -- the digits so far, and then what is left, are all bytes

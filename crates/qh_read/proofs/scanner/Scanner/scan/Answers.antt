@@ -1,7 +1,7 @@
 use Rattle.std.proofs.Common.{arith, length, ◌+◌, ◌≡◌, ◌∷◌, ◌∙◌, ap, subst, sym, ℕ}
 use Rattle.std.proofs.lemmas.Grind.{common_steps}
-use Rattle.qh_read.specs.Holding.{Held, held_by}
-use Rattle.qh_read.specs.Scanning.{held, HasRoom}
+use Rattle.qh_read.specs.contract.Holding.{Held, held_by}
+use Rattle.qh_read.specs.steps.Scanning.{held, HasRoom}
 use Rattle.qh_read.proofs.scanner.Scanner.scan.Goals as goal
 
 pub loop-byte-preserved : goal.loop-byte-preserved

@@ -1,7 +1,7 @@
 use Rattle.std.proofs.Common.{◌≡◌, ◌≤◌, ◌+◌, length}
-use Rattle.qh_read.specs.Tokens.{IsSmall}
-use Rattle.qh_read.specs.Holding.{held_by}
-use Rattle.qh_read.specs.Scanning.{held, HasRoom}
+use Rattle.qh_read.specs.steps.SmallTokens.{IsSmall}
+use Rattle.qh_read.specs.contract.Holding.{held_by}
+use Rattle.qh_read.specs.steps.Scanning.{held, HasRoom}
 use Rattle.qh_read.proofs.scanner.Scanner.scan.Given as goal
 
 -- the bytes so far, and then what is left, are all bytes

@@ -1,6 +1,6 @@
 use Rattle.std.proofs.Common.{arith, subst, sym}
 use Rattle.std.proofs.lemmas.Grind.{common_steps}
-use Rattle.qh_plane.specs.PlaceKeys.{AreIndices}
+use Rattle.qh_model.specs.contract.IdSets.{AreIndices}
 use Rattle.qh_run.proofs.job.Job.ask_sample.Goals as goal
 
 pub extremes-requires-clause-indices : goal.extremes-requires-clause-indices

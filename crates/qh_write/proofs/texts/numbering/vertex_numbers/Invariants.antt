@@ -1,5 +1,5 @@
 use Rattle.std.proofs.Common.{◌≡◌, length, drop}
-use Rattle.qh_write.specs.Outs.{numbered}
+use Rattle.qh_write.specs.steps.VertexTables.{numbered}
 use Rattle.qh_write.proofs.texts.numbering.vertex_numbers.Given as goal
 
 abbrev pub invariant-loop-number : goal.invariant-loop-number

@@ -1,6 +1,6 @@
 use Rattle.std.proofs.Common.{◌≡◌, ◌++◌, take}
 use Rattle.std.specs.List.{flat_map}
-use Rattle.qh_write.specs.Outs.{face_by_table}
+use Rattle.qh_write.specs.steps.VertexTables.{face_by_table}
 use Rattle.qh_write.proofs.texts.off.push_faces.Given as goal
 
 abbrev pub invariant-loop-face : goal.invariant-loop-face

@@ -1,6 +1,6 @@
 use Rattle.std.proofs.Common.{◌≡◌, ◌++◌, take, decimal}
 use Rattle.std.specs.List.{flat_map}
-use Rattle.qh_model.specs.Text.{line}
+use Rattle.qh_model.specs.headline.Text.{line}
 use Rattle.qh_write.proofs.texts.off.push_ids.Given as goal
 
 abbrev pub invariant-loop-id : goal.invariant-loop-id

@@ -1,6 +1,6 @@
 use Rattle.std.proofs.Common.{◌≡◌, ◌++◌, take, slice_index}
 use Rattle.std.specs.List.{flat_map}
-use Rattle.qh_model.specs.Text.{spaced}
+use Rattle.qh_model.specs.headline.Text.{spaced}
 use Rattle.qh_write.proofs.texts.off.push_vertex_numbers.Given as goal
 
 abbrev pub invariant-loop-id : goal.invariant-loop-id

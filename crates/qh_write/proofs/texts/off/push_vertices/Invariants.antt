@@ -1,7 +1,7 @@
 use Rattle.std.proofs.Common.{◌≡◌, ◌++◌, take}
 use Rattle.std.specs.List.{flat_map}
-use Rattle.qh_model.specs.Text.{vertex_text}
-use Rattle.qh_model.specs.Predicates.{place}
+use Rattle.qh_model.specs.headline.Text.{vertex_text}
+use Rattle.qh_model.specs.headline.Predicates.{place}
 use Rattle.qh_write.proofs.texts.off.push_vertices.Given as goal
 
 abbrev pub invariant-loop-id : goal.invariant-loop-id

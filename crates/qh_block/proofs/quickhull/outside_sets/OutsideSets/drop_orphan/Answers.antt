@@ -1,7 +1,7 @@
 use Rattle.std.proofs.Common.{◌≡◌, ◌<◌, ℕ, List, length, length-drop, drop, arith, ap, sym, subst, get_or}
 use Rattle.std.proofs.lemmas.List.{get_or_read}
-use Rattle.qh_block.specs.OutsideSets.{OutsideValue, listed}
-use Rattle.qh_block.specs.PositionChains.{IsKept, value_of}
+use Rattle.qh_block.specs.steps.OutsideSets.{OutsideValue, listed}
+use Rattle.qh_block.specs.steps.PositionChains.{IsKept, value_of}
 use Rattle.qh_block.specs.declared.quickhull.outside_sets.Ends.{Ends}
 use Rattle.qh_block.proofs.HeldSets.{kept_as, begins, without_orphan, value_kept}
 use Rattle.qh_block.proofs.quickhull.outside_sets.OutsideSets.drop_orphan.Goals as goal

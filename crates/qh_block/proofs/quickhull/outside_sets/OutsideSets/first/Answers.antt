@@ -1,8 +1,8 @@
 use Rattle.std.proofs.Common.{◌≡◌, length, arith, refl, sym, false, true, subst}
 use Rattle.qh_block.specs.declared.quickhull.outside_sets.Ends.{Ends}
 use Rattle.qh_block.proofs.SetCalls.{kept, place_in, ends_read, some_from, not_below}
-use Rattle.qh_block.specs.OutsideSets.{set_of}
-use Rattle.qh_block.specs.PositionChains.{IsChain}
+use Rattle.qh_block.specs.steps.OutsideSets.{set_of}
+use Rattle.qh_block.specs.steps.PositionChains.{IsChain}
 use Rattle.qh_block.proofs.quickhull.outside_sets.OutsideSets.first.Goals as goal
 use Rattle.qh_block.proofs.ChainWrites.{chain_empty}
 

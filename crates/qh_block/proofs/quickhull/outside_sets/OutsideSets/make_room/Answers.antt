@@ -1,7 +1,7 @@
 use Rattle.std.proofs.Common.{◌≡◌, ◌-◌, ◌<◌, ◌≤◌, ◌++◌, [], List, ℕ, length, length-append, take, take_all, arith, ap, sym, ◌∙◌, subst, replicate}
 use Rattle.std.proofs.lemmas.List.{length-replicate, append-nil}
-use Rattle.qh_block.specs.OutsideSets.{OutsideValue, listed}
-use Rattle.qh_block.specs.PositionChains.{IsKept}
+use Rattle.qh_block.specs.steps.OutsideSets.{OutsideValue, listed}
+use Rattle.qh_block.specs.steps.PositionChains.{IsKept}
 use Rattle.qh_block.specs.declared.quickhull.outside_sets.Ends.{Ends}
 use Rattle.qh_block.proofs.HeldSets.{value_kept}
 use Rattle.qh_block.proofs.NewSets.{with_room, room_kept, listed-with_room}

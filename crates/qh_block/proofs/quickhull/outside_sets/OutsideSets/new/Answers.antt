@@ -1,8 +1,8 @@
 use Rattle.std.proofs.Common.{[], List, ℕ, arith, ap, sym, subst}
 use Rattle.std.specs.List.{range_with_len}
 use Rattle.std.proofs.lemmas.List.FromFn.{length-range_with_len}
-use Rattle.qh_block.specs.OutsideSets.{OutsideValue, listed}
-use Rattle.qh_block.specs.PositionChains.{IsKept}
+use Rattle.qh_block.specs.steps.OutsideSets.{OutsideValue, listed}
+use Rattle.qh_block.specs.steps.PositionChains.{IsKept}
 use Rattle.qh_block.specs.declared.quickhull.outside_sets.Ends.{Ends}
 use Rattle.qh_block.proofs.HeldSets.{value_kept}
 use Rattle.qh_block.proofs.NewSets.{new_kept}

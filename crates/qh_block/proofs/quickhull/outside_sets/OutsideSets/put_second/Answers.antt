@@ -1,5 +1,5 @@
 use Rattle.std.proofs.Common.{length-drop, drop, arith, ap, get_or, set, false}
-use Rattle.qh_block.specs.OutsideSets.{OutsideValue, set_of, listed, joined}
+use Rattle.qh_block.specs.steps.OutsideSets.{OutsideValue, set_of, listed, joined}
 use Rattle.qh_block.proofs.HeldSets.{value_kept, with_set, listed-with_set}
 use Rattle.qh_block.proofs.SetCalls.{place_in, orphan_in, first_in, length-joined, after_second}
 use Rattle.qh_block.proofs.quickhull.outside_sets.OutsideSets.put_second.Goals as goal

@@ -1,5 +1,5 @@
 use Rattle.std.proofs.Common.{◌++◌, [], length-append, arith, ap, set}
-use Rattle.qh_block.specs.OutsideSets.{OutsideValue, set_of, listed}
+use Rattle.qh_block.specs.steps.OutsideSets.{OutsideValue, set_of, listed}
 use Rattle.qh_block.proofs.HeldSets.{value_kept, with_set, listed-with_set}
 use Rattle.qh_block.proofs.SetCalls.{place_in, last_in_links, after_release}
 use Rattle.qh_block.proofs.quickhull.outside_sets.OutsideSets.release.Goals as goal

@@ -1,5 +1,5 @@
 use Rattle.std.proofs.Common.{length, drop, arith, ap, set}
-use Rattle.qh_block.specs.OutsideSets.{OutsideValue, set_of, listed}
+use Rattle.qh_block.specs.steps.OutsideSets.{OutsideValue, set_of, listed}
 use Rattle.qh_block.proofs.HeldSets.{value_kept, with_set, listed-with_set}
 use Rattle.qh_block.proofs.SetCalls.{place_in, kept, after_take}
 use Rattle.qh_block.proofs.quickhull.outside_sets.OutsideSets.take_first.Goals as goal

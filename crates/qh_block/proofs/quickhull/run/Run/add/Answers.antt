@@ -1,7 +1,7 @@
 use Rattle.std.proofs.Common.{sym, subst}
 use Rattle.std.proofs.lemmas.List.{get_or_read}
 use Rattle.std.proofs.lemmas.Result.{on_ok_weaker}
-use Rattle.qh_block.specs.Cones.{IsFan}
+use Rattle.qh_block.specs.steps.Cones.{IsFan}
 use Rattle.qh_block.proofs.runs.ConeRings.{cone_fan, grown_corners}
 use Rattle.qh_block.proofs.runs.FinishedRuns.{corners_below}
 use Rattle.qh_block.proofs.runs.Rounds.{remade_by, read_point}

@@ -1,7 +1,7 @@
 use Rattle.std.proofs.Common.{◌≡◌, map}
-use Rattle.qh_model.specs.Predicates.{place}
-use Rattle.qh_block.specs.OutsideSets.{listed}
-use Rattle.qh_block.specs.Runs.{IsUnderWay}
+use Rattle.qh_model.specs.headline.Predicates.{place}
+use Rattle.qh_block.specs.steps.OutsideSets.{listed}
+use Rattle.qh_block.specs.steps.Runs.{IsUnderWay}
 use Rattle.qh_block.proofs.quickhull.run.Run.finish.Given as goal
 
 abbrev pub invariant-loop-facet : goal.invariant-loop-facet

@@ -1,7 +1,7 @@
 use Rattle.std.proofs.Common.{◌∙◌, ◌-◌, ap, sym, subst, List, [], length, replicate, get_or, arith, ℕ}
 use Rattle.std.proofs.lemmas.List.{length-append}
-use Rattle.qh_model.specs.Predicates.{place}
-use Rattle.qh_block.specs.Planes.{ArePlanes}
+use Rattle.qh_model.specs.headline.Predicates.{place}
+use Rattle.qh_block.specs.steps.Planes.{ArePlanes}
 use Rattle.qh_block.proofs.runs.NamedFacets.{within_more}
 use Rattle.qh_block.proofs.runs.SetWrites.{grown-set}
 use Rattle.qh_block.proofs.runs.SettledOrphans.{same_settling}

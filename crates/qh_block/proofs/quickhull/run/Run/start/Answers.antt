@@ -1,12 +1,12 @@
 use Rattle.std.proofs.Common.{◌<◌, ◌∙◌, ap, sym, subst, List, [], length}
 use Rattle.std.specs.List.{range_with_len}
 use Rattle.qh_model.proofs.Members.{All-In}
-use Rattle.qh_pred.specs.Planes.{PlaneValue}
+use Rattle.qh_pred.specs.contract.Planes.{PlaneValue}
 use Rattle.qh_mesh.specs.declared.facets.FacetNo.{FacetNo}
-use Rattle.qh_block.specs.Runs.{IsRemade}
+use Rattle.qh_block.specs.steps.Runs.{IsRemade}
 use Rattle.qh_block.proofs.runs.FirstSimplexes.{four_facets, IsFirst, first_corners, first_remade}
-use Rattle.qh_model.specs.Predicates.{place}
-use Rattle.qh_model.specs.FinishedSurface.{middle_at}
+use Rattle.qh_model.specs.headline.Predicates.{place}
+use Rattle.qh_model.specs.contract.FinishedSurface.{middle_at}
 use Rattle.qh_block.proofs.runs.ConeRings.{no_corner_above}
 use Rattle.qh_block.proofs.runs.FinishedRuns.{corners_below}
 use Rattle.qh_block.proofs.quickhull.run.Run.start.Goals as goal

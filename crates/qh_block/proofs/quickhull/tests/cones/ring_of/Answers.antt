@@ -1,9 +1,9 @@
 use Rattle.std.proofs.Common.{sym, subst}
-use Rattle.qh_model.specs.Vector.{Vector}
+use Rattle.qh_model.specs.headline.Vector.{Vector}
 use Rattle.std.specs.Prelude.{◌≡◌}
-use Rattle.qh_model.specs.Predicates.{vol}
-use Rattle.qh_pred.specs.Planes.{height}
-use Rattle.qh_block.specs.Cones.{AreTriangles}
+use Rattle.qh_model.specs.headline.Predicates.{vol}
+use Rattle.qh_pred.specs.contract.Planes.{height}
+use Rattle.qh_block.specs.steps.Cones.{AreTriangles}
 use Rattle.qh_block.specs.declared.quickhull.cone_ring.Wedge.{Wedge}
 use Rattle.qh_block.proofs.runs.ConeRings.{each_more}
 use Rattle.qh_block.proofs.quickhull.tests.cones.ring_of.Goals as goal

@@ -1,4 +1,4 @@
-use Rattle.qh_block.specs.Cones.{AreTriangles}
+use Rattle.qh_block.specs.steps.Cones.{AreTriangles}
 use Rattle.qh_block.proofs.quickhull.tests.cones.ring_of.Given as goal
 
 abbrev pub invariant-loop-place : goal.invariant-loop-place

@@ -1,5 +1,5 @@
 use Rattle.std.proofs.Common.{◌<◌, length, sym, subst}
-use Rattle.qh_model.specs.DistinctIds.{AreDistinctIds}
+use Rattle.qh_model.specs.headline.DistinctIds.{AreDistinctIds}
 use Rattle.qh_model.proofs.Members.{All-of}
 use Rattle.qh_plane.proofs.DistinctLists.{id_set}
 use Rattle.qh_block.proofs.quickhull.tests.prisms.facets_made.Goals as goal

@@ -1,4 +1,4 @@
-use Rattle.qh_plane.specs.Shapes.{IsInLine, IsInPlane}
+use Rattle.qh_plane.specs.contract.Shapes.{IsInLine, IsInPlane}
 use Rattle.qh_block.proofs.runs.FirstSimplexes.{first_not_in}
 use Rattle.qh_block.proofs.quickhull.tests.prisms.made_by_run.Goals as goal
 

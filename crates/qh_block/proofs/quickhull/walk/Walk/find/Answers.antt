@@ -1,8 +1,8 @@
 use Rattle.std.proofs.Common.{List, ℕ, [], ◌∷◌, ◌++◌, ◌∙◌, length, length-set, arith, ap, sym, subst, set}
 use Rattle.std.proofs.lemmas.List.{length_push}
-use Rattle.qh_model.specs.Vector.{Vector}
+use Rattle.qh_model.specs.headline.Vector.{Vector}
 use Rattle.qh_mesh.specs.declared.facets.FacetNo.{FacetNo}
-use Rattle.qh_block.specs.Walks.{IsWalk}
+use Rattle.qh_block.specs.steps.Walks.{IsWalk}
 use Rattle.qh_block.proofs.FoundFacets.{finds_all}
 use Rattle.qh_block.proofs.WalkSteps.{begun}
 use Rattle.qh_block.proofs.quickhull.walk.Walk.find.Goals as goal

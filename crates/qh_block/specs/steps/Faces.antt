@@ -1,0 +1,62 @@
+-- The faces of a solid, gathered plane by plane from the facets of its finished mesh.
+use Rattle.std.specs.Prelude.{◌≡◌, ◌⊎◌, ℕ, ◌<◌, List, [], ◌∷◌, ◌++◌, length, map, take, Bool, true}
+use Rattle.qh_model.specs.headline.Vector.{Vector}
+use Rattle.qh_model.specs.headline.Sets.{In, Once}
+use Rattle.qh_model.specs.contract.Surface.{IsCorner}
+use Rattle.qh_model.specs.laws.FacetPlanes.{IsLevelFacet}
+use Rattle.qh_model.specs.contract.StoredSurface.{StoredFacet, facet_at, surface_of}
+use Rattle.qh_model.specs.headline.Polygons.{IsFacePolygon}
+use Rattle.qh_mesh.specs.declared.facets.FacetNo.{FacetNo}
+use Rattle.qh_mesh.specs.contract.Replacement.{IsLive, is_listed}
+use Rattle.qh_block.specs.steps.PlaneWalks.{mark_at}
+
+-- the corners of the listed facets, as listed
+abbrev pub corners_of : List StoredFacet → List FacetNo → List ℕ
+corners_of fs [] = []
+corners_of fs (v ∷ vs) = (facet_at fs v.0).i ∷ (facet_at fs v.0).j ∷ (facet_at fs v.0).k ∷ corners_of fs vs
+
+-- l is a corner of a listed facet
+abbrev pub IsListedCorner : List StoredFacet → List FacetNo → ℕ → Type 0
+IsListedCorner fs vs l = (g : ℕ) × (is_listed vs g ≡ true) × IsCorner (surface_of fs) g l
+
+-- q is the polygon of the plane of facet f
+abbrev pub IsFacetPolygon : (ℕ → Vector) → (ℕ → Type 0) → List StoredFacet → ℕ → List ℕ → Type 0
+IsFacetPolygon at A fs f q = IsFacePolygon at A (facet_at fs f).i (facet_at fs f).j (facet_at fs f).k q
+
+-- the live facets in the plane of facet f, and no others, were marked; q is the polygon of the plane
+pub record IsNewFace (at : ℕ → Vector) (A : ℕ → Type 0) (fs : List StoredFacet) (f : ℕ) (before after : List Bool) (q : List ℕ) : Type 0 where
+  pub kept : (g : ℕ) → mark_at before g ≡ true → mark_at after g ≡ true
+  pub marked : (g : ℕ) → IsLive fs g → IsLevelFacet at (surface_of fs) f g → mark_at after g ≡ true
+  pub only : (g : ℕ) → mark_at after g ≡ true → (mark_at before g ≡ true) ⊎ (IsLive fs g × IsLevelFacet at (surface_of fs) f g)
+  pub polygon : IsFacetPolygon at A fs f q
+
+-- no marked live facet is in the plane of facet f
+abbrev pub IsNewPlane : (ℕ → Vector) → List StoredFacet → List Bool → ℕ → Type 0
+IsNewPlane at fs marks f = (g : ℕ) → IsLive fs g → mark_at marks g ≡ true → ¬ (IsLevelFacet at (surface_of fs) f g)
+
+-- each has at least three members, and no two begin with the same three
+pub record AreApart (qs : List (List ℕ)) : Type 0 where
+  pub three : (q : List ℕ) → In q qs → 2 < length q
+  pub once : Once (map (take 3) qs)
+
+-- the polygons of the planes of the marked facets, each plane once
+pub record AreMarkedFaces (at : ℕ → Vector) (A : ℕ → Type 0) (fs : List StoredFacet) (marks : List Bool) (qs : List (List ℕ)) : Type 0 where
+  pub each : (f : ℕ) → IsLive fs f → mark_at marks f ≡ true → (q : List ℕ) × In q qs × IsFacetPolygon at A fs f q
+  pub only : (q : List ℕ) → In q qs → (f : ℕ) × IsLive fs f × (mark_at marks f ≡ true) × IsFacetPolygon at A fs f q
+  pub whole : (f g : ℕ) → IsLive fs f → IsLive fs g → mark_at marks f ≡ true → IsLevelFacet at (surface_of fs) f g → mark_at marks g ≡ true
+  pub apart : AreApart qs
+
+-- the polygons of the planes of all live facets, each plane once
+pub record AreFacetFaces (at : ℕ → Vector) (A : ℕ → Type 0) (fs : List StoredFacet) (qs : List (List ℕ)) : Type 0 where
+  pub each : (f : ℕ) → IsLive fs f → (q : List ℕ) × In q qs × IsFacetPolygon at A fs f q
+  pub only : (q : List ℕ) → In q qs → (f : ℕ) × IsLive fs f × IsFacetPolygon at A fs f q
+  pub apart : AreApart qs
+
+-- the members of all polygons, one after the other
+abbrev pub all_members : List (List ℕ) → List ℕ
+all_members [] = []
+all_members (q ∷ qs) = q ++ all_members qs
+
+-- i is a member of a polygon
+abbrev pub IsListed : List (List ℕ) → ℕ → Type 0
+IsListed qs i = (q : List ℕ) × In q qs × In i q

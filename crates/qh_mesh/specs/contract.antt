@@ -1,0 +1,4 @@
+-- What else the contracts of public functions cite.
+pub mod LiveNumbers
+pub mod Replacement
+pub mod SoundMesh

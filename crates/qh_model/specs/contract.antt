@@ -1,0 +1,15 @@
+-- What else the contracts of public functions cite.
+pub mod BoardMachine
+pub mod Bodies
+pub mod ClosedSurface
+pub mod Cut
+pub mod FinishedSurface
+pub mod IdSets
+pub mod Places
+pub mod Rewired
+pub mod RightValue
+pub mod Simplex
+pub mod SoundSurface
+pub mod StoredSurface
+pub mod Surface
+pub mod Weighted

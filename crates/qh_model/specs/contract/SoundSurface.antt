@@ -1,0 +1,39 @@
+-- Sound surfaces: strictly convex as soon as their corners are drawn a very little towards an inner point,
+-- each by a share of its own. Level facets and points are so told apart with no special case.
+-- Source: simulation of simplicity, Edelsbrunner and Mücke 1990, here along lines to one inner point.
+use Rattle.std.specs.Prelude.{◌≡◌, ℕ, ◌≤◌, ℤ, pos, ◌+ℤ◌, ◌*ℤ◌, ◌<ℤ◌}
+use Rattle.qh_model.specs.headline.Sets.{In}
+use Rattle.qh_model.specs.contract.Surface.{Surface, IsCorner, rise}
+use Rattle.qh_model.specs.contract.Weighted.{Weighted}
+
+-- each corner of the surface that is not the facet's own is strictly below it
+abbrev pub IsStrict : Surface → (ℕ → Weighted) → Type 0
+IsStrict m at = (f g : ℕ) → In f m.live → In g m.live → (l : ℕ) → IsCorner m g l → ¬ (IsCorner m f l) → rise m at f (at l) <ℤ pos 0
+
+-- c is strictly below each facet
+abbrev pub IsInner : Surface → (ℕ → Weighted) → Weighted → Type 0
+IsInner m at c = (f : ℕ) → In f m.live → rise m at f c <ℤ pos 0
+
+-- no two live facets have the same corners
+abbrev pub HasDistinctFacets : Surface → Type 0
+HasDistinctFacets m = (f g : ℕ) → In f m.live → In g m.live → ((l : ℕ) → IsCorner m f l → IsCorner m g l) → f ≡ g
+
+-- p drawn towards o, by k to n
+abbrev pub towards : Weighted → ℤ → Weighted → ℤ → Weighted
+towards o n p k = record { w = n *ℤ p.w +ℤ k *ℤ o.w; x = n *ℤ p.x +ℤ k *ℤ o.x; y = n *ℤ p.y +ℤ k *ℤ o.y; z = n *ℤ p.z +ℤ k *ℤ o.z }
+
+-- each place drawn towards o by its own share h, at scale n
+abbrev pub drawn : (home : ℕ → Weighted) (o : Weighted) (h : ℕ → ℕ) (n : ℕ) → ℕ → Weighted
+drawn home o h n l = towards o (pos n) (home l) (pos (h l))
+
+-- shares by which the corners are drawn towards o, and a scale from which on all is strict
+pub record IsStrictWhenDrawn (m : Surface) (home : ℕ → Weighted) (o : Weighted) : Type 0 where
+  pub h : ℕ → ℕ
+  pub from : ℕ
+  pub strict : (n : ℕ) → from ≤ n → IsStrict m (drawn home o h n)
+
+-- what a surface keeps while points are added: o is inside, the facets differ, and it is strict when drawn
+pub record IsSound (m : Surface) (home : ℕ → Weighted) (o : Weighted) : Type 0 where
+  pub inner : IsInner m home o
+  pub distinct : HasDistinctFacets m
+  pub lifted : IsStrictWhenDrawn m home o

@@ -1,0 +1,24 @@
+-- The laws: what follows from the definitions.
+pub mod BoardLaws
+pub mod ClosedSurfaceLaws
+pub mod CombinationLaws
+pub mod CompletenessLaws
+pub mod ConeLaws
+pub mod CoverageLaws
+pub mod CoveredPoints
+pub mod CutLaws
+pub mod DimensionLaws
+pub mod EdgeLaws
+pub mod ExtremeLaws
+pub mod FaceLaws
+pub mod FacetPlanes
+pub mod Horizons
+pub mod HullLaws
+pub mod LiveFacets
+pub mod PolygonLaws
+pub mod Readings
+pub mod RightValueLaws
+pub mod Separator
+pub mod SimplexSurface
+pub mod SurfaceLaws
+pub mod UnseenPoints

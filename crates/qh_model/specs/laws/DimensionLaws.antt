@@ -1,0 +1,16 @@
+-- Laws of the dimension of a set of ids.
+use Rattle.std.specs.Prelude.{ℕ, ◌≡◌, ◌↔◌, List}
+use Rattle.qh_model.specs.headline.Vector.{Vector}
+use Rattle.qh_model.specs.headline.Sets.{Members}
+use Rattle.qh_model.specs.contract.IdSets.{HasDistinctPoints}
+use Rattle.qh_model.specs.headline.Dimension.{IsDimension}
+use Rattle.qh_model.specs.headline.Extreme.{Extreme}
+
+-- a set has no two dimensions
+abbrev pub DimensionIsUnique : Type 0
+DimensionIsUnique = (at : ℕ → Vector) (ids : List ℕ) (k l : ℕ) → IsDimension at (Members ids) k → IsDimension at (Members ids) l → k ≡ l
+
+-- a set and its extreme ids have one dimension
+abbrev pub DimensionOfExtremes : Type 0
+DimensionOfExtremes = (at : ℕ → Vector) (ids : List ℕ) (k : ℕ) → HasDistinctPoints at (Members ids)
+    → IsDimension at (Extreme at (Members ids)) k ↔ IsDimension at (Members ids) k

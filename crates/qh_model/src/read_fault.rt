@@ -1,0 +1,41 @@
+//! Why a text is no file of points.
+ghost use Rattle.std.specs.Prelude.{◌≡◌};
+ghost use Rattle.qh_model.specs.declared.read_fault.ReadFault.TheVariants as faults;
+
+use std::alloc::AllocError;
+
+/// Why a point file could not be read. A line is counted from 1 and ends at byte 10.
+///
+/// Each has the number of its place in this list, from 1. The first seven are faults of the text,
+/// of which the first in the order of reading is given; `Big` goes before all of them.
+#[derive(Clone, Copy, Debug, PartialEq, Eq)]
+pub enum ReadFault {
+    /// There are fewer than two data words.
+    NoHeader,
+    /// A data word on this line, where a number is to stand, is none.
+    BadNumber(u32),
+    /// Neither number of the header is 3.
+    NotThree,
+    /// The count of points is not from 1 to `POINT_LIMIT`.
+    Count,
+    /// A coordinate on this line is past `COORDINATE_LIMIT`.
+    Range(u32),
+    /// On this line stands a data word after the last coordinate.
+    Long(u32),
+    /// The text ends before the last coordinate.
+    Short,
+    /// Memory was refused.
+    Memory,
+    /// The source of the bytes failed.
+    Device,
+    /// There are more than `BYTE_LIMIT` bytes.
+    Big,
+}
+
+impl From<AllocError> for ReadFault {
+    ghost from_gives = { λ _ e. e ≡ faults.Memory };
+
+    fn from(_: AllocError) -> ReadFault {
+        ReadFault::Memory
+    }
+}

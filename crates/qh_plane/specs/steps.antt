@@ -1,0 +1,4 @@
+-- What private functions speak of: nothing to believe.
+pub mod Chains
+pub mod Marks
+pub mod PlaceKeys

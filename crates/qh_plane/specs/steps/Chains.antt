@@ -1,0 +1,54 @@
+-- The chain of a list of ids in order: a stack that turns left at each id. Only private functions speak of it.
+-- Source: Andrew's monotone chain (1979), after Graham's scan.
+use Rattle.std.specs.Prelude.{ℕ, ℤ, pos, negsuc, zero, suc, List, [], ◌∷◌, Bool, true, false, cond, not}
+use Rattle.qh_model.specs.headline.Predicates.{place, left}
+use Rattle.qh_model.specs.headline.Vector.{Vector}
+
+-- the turn of three ids about a normal
+abbrev pub turn_of : List Vector → Vector → ℕ → ℕ → ℕ → ℤ
+turn_of pts n u v w = left n (place pts u) (place pts v) (place pts w)
+
+-- whether a turn is to the left
+abbrev pub is_left : ℤ → Bool
+is_left (pos zero) = false
+is_left (pos (suc n)) = true
+is_left (negsuc n) = false
+
+-- the stack with top t over s, its top first, without the tops at which the way to y does not turn left
+abbrev pub kept_below : (ℕ → ℕ → ℕ → ℤ) → ℕ → ℕ → List ℕ → List ℕ
+kept_below turn y t [] = t ∷ []
+kept_below turn y t (r ∷ s) = cond (is_left (turn r t y)) (t ∷ r ∷ s) (kept_below turn y r s)
+
+-- the same of any stack
+abbrev pub kept : (ℕ → ℕ → ℕ → ℤ) → ℕ → List ℕ → List ℕ
+kept turn y [] = []
+kept turn y (t ∷ s) = kept_below turn y t s
+
+-- whether the top goes before y comes
+abbrev pub is_dropped : (ℕ → ℕ → ℕ → ℤ) → ℕ → List ℕ → Bool
+is_dropped turn y [] = false
+is_dropped turn y (t ∷ []) = false
+is_dropped turn y (t ∷ r ∷ s) = not (is_left (turn r t y))
+
+-- the stack after the list
+abbrev pub chain : (ℕ → ℕ → ℕ → ℤ) → List ℕ → List ℕ → List ℕ
+chain turn s [] = s
+chain turn s (y ∷ ys) = chain turn (y ∷ kept turn y s) ys
+
+-- the list turned round, before the rest
+abbrev pub turned_onto : List ℕ → List ℕ → List ℕ
+turned_onto [] rest = rest
+turned_onto (x ∷ s) rest = turned_onto s (x ∷ rest)
+
+-- the list without its first
+abbrev pub after_first : List ℕ → List ℕ
+after_first [] = []
+after_first (x ∷ xs) = xs
+
+-- the way round over two chains, there and back: each without its top, where the other begins
+abbrev pub joined : List ℕ → List ℕ → List ℕ
+joined there back = turned_onto (after_first there) (turned_onto (after_first back) [])
+
+-- three ids, the first of which stays first, in the order that turns left
+abbrev pub triangle : (ℕ → ℕ → ℕ → ℤ) → ℕ → ℕ → ℕ → List ℕ
+triangle turn i j k = cond (is_left (turn i j k)) (i ∷ j ∷ k ∷ []) (i ∷ k ∷ j ∷ [])

@@ -1,0 +1,18 @@
+-- How large a difference and a cross product of points get: the limits follow from that of coordinates.
+use Rattle.std.specs.Prelude.{ℕ, ◌*◌, ◌≤◌, unsigned_abs}
+use Rattle.qh_model.specs.declared.limits.TheConstants.{COORDINATE_LIMIT}
+use Rattle.qh_model.specs.headline.Vector.{Vector}
+
+-- the greatest size of a difference of two coordinates
+abbrev pub difference_limit : ℕ
+difference_limit = 2 * COORDINATE_LIMIT
+
+-- the greatest size of a component of a cross product of two differences, by its two products
+abbrev pub normal_limit : ℕ
+normal_limit = 2 * (difference_limit * difference_limit)
+
+-- each component is in the range of a cross product
+pub record IsNormal (v : Vector) : Type 0 where
+  pub x : unsigned_abs v.x ≤ normal_limit
+  pub y : unsigned_abs v.y ≤ normal_limit
+  pub z : unsigned_abs v.z ≤ normal_limit

@@ -1,0 +1,5 @@
+-- What else the contracts of public functions cite.
+pub mod Holding
+pub mod Progress
+pub mod ReadFaults
+pub mod Tokens

@@ -1,0 +1,56 @@
+-- What a reader holds of the bytes so far.
+use Rattle.std.specs.Prelude.{ℕ, ◌≡◌, ◌+◌, Bool, true, false, List, [], ◌∷◌, ◌==◌, if◌then◌else◌, length}
+use Rattle.qh_model.specs.headline.Words.{is_blank, is_data}
+use Rattle.qh_read.specs.contract.Tokens.{grown, value_of}
+use Rattle.qh_read.specs.contract.Progress.{Progress, wants_first, after}
+use Rattle.qh_read.specs.declared.token.Token.{Token}
+use Rattle.qh_read.specs.declared.token.Token.TheVariants.{Empty, Sign, Digits, Other}
+
+-- how far the words fill the file in, the word under way, whether a comment runs, and the line
+pub record Held : Type 0 where
+  pub progress : Progress
+  pub token : Token
+  pub comment : Bool
+  pub line : ℕ
+
+abbrev pub held_at_start : Held
+held_at_start = record { progress = wants_first; token = Empty; comment = false; line = 1 }
+
+-- the word under way ends
+abbrev pub word_ended : Progress → Token → ℕ → Progress
+word_ended p Empty line = p
+word_ended p (Sign minus) line = after p (value_of (Sign minus)) line
+word_ended p (Digits minus n) line = after p (value_of (Digits minus n)) line
+word_ended p Other line = after p (value_of Other) line
+
+abbrev pub ended_held : Held → Held
+ended_held h = record h { progress = word_ended h.progress h.token h.line; token = Empty }
+
+-- the byte goes on with a word, or begins one, or begins a comment
+abbrev pub held_begun : Held → Token → ℕ → Held
+held_begun h Empty c = if is_data (c ∷ []) then record h { token = grown Empty c } else record h { comment = true }
+held_begun h (Sign minus) c = record h { token = grown (Sign minus) c }
+held_begun h (Digits minus n) c = record h { token = grown (Digits minus n) c }
+held_begun h Other c = record h { token = grown Other c }
+
+-- one byte more
+abbrev pub next_held : Held → ℕ → Held
+next_held h c =
+    if c == 10 then record { progress = word_ended h.progress h.token h.line; token = Empty; comment = false; line = h.line + 1 }
+    else if h.comment then h
+    else if is_blank c then ended_held h
+    else held_begun h h.token c
+
+abbrev pub held_by : Held → List ℕ → Held
+held_by h [] = h
+held_by h (c ∷ cs) = held_by (next_held h c) cs
+
+-- what a reader holds, and of how many bytes
+pub record Reading : Type 0 where
+  pub held : Held
+  pub count : ℕ
+
+-- the reader holds what these bytes make, and their number
+pub record Fed (r : Reading) (bytes : List ℕ) : Type 0 where
+  pub count : r.count ≡ length bytes
+  pub held : r.held ≡ held_by held_at_start bytes

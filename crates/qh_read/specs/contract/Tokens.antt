@@ -1,0 +1,31 @@
+-- What is kept of the word under way: a sign, and digits with their value up to a cap.
+use Rattle.std.specs.Prelude.{ℕ, ℤ, pos, neg_ℤ, Bool, true, false, ◌==◌, ◌+◌, ◌-◌, ◌*◌, min, if◌then◌else◌, Option, Some, None}
+use Rattle.std.specs.Char.{is_ascii_digit}
+use Rattle.qh_read.specs.declared.token.TheConstants.{MAGNITUDE_CAP}
+use Rattle.qh_read.specs.declared.token.Token.{Token}
+use Rattle.qh_read.specs.declared.token.Token.TheVariants.{Empty, Sign, Digits, Other}
+
+-- a magnitude, as far as magnitudes are told apart
+abbrev pub cap : ℕ → ℕ
+cap n = min n MAGNITUDE_CAP
+
+-- the word with one byte more
+abbrev pub grown : Token → ℕ → Token
+grown Empty c =
+    if c == 43 then Sign false
+    else if c == 45 then Sign true
+    else if is_ascii_digit c then Digits false (c - 48)
+    else Other
+grown (Sign minus) c = if is_ascii_digit c then Digits minus (c - 48) else Other
+grown (Digits minus n) c = if is_ascii_digit c then Digits minus (cap (10 * n + (c - 48))) else Other
+grown Other c = Other
+
+abbrev pub signed : Bool → ℕ → ℤ
+signed minus n = if minus then neg_ℤ (pos n) else pos n
+
+-- the number of a word that ends here
+abbrev pub value_of : Token → Option ℤ
+value_of Empty = None
+value_of (Sign minus) = None
+value_of (Digits minus n) = Some (signed minus n)
+value_of Other = None

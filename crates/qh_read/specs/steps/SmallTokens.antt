@@ -1,0 +1,19 @@
+-- Words whose magnitude is within the cap.
+use Rattle.std.specs.Prelude.{ℤ, pos, negsuc, ◌-◌, ◌≤◌, min}
+use Rattle.qh_model.specs.declared.limits.TheConstants.{COORDINATE_LIMIT}
+use Rattle.qh_read.specs.declared.token.TheConstants.{MAGNITUDE_CAP}
+use Rattle.qh_read.specs.declared.token.Token.{Token}
+use Rattle.qh_read.specs.declared.token.Token.TheVariants.{Empty, Sign, Digits, Other}
+use Rattle.qh_read.specs.contract.Tokens.{cap}
+
+-- a number, as far as numbers are told apart
+abbrev pub capped : ℤ → ℤ
+capped (pos n) = pos (cap n)
+capped (negsuc n) = negsuc (min n COORDINATE_LIMIT)
+
+-- the magnitude is within the cap
+abbrev pub IsSmall : Token → Type 0
+IsSmall Empty = Unit {0}
+IsSmall (Sign minus) = Unit {0}
+IsSmall (Digits minus n) = n ≤ MAGNITUDE_CAP
+IsSmall Other = Unit {0}

@@ -1,0 +1,46 @@
+-- What the parts of a builder show of the file so far.
+use Rattle.std.specs.Prelude.{ℕ, ℤ, ◌≡◌, Bool, true, false, List, [], ◌∷◌, Option, Some, None}
+use Rattle.qh_model.specs.declared.read_fault.ReadFault.{ReadFault}
+use Rattle.qh_read.specs.contract.ReadFaults.{IsTextFault}
+use Rattle.qh_read.specs.contract.Progress.{Progress, wants_first, wants_second, wants, fails}
+use Rattle.qh_read.specs.declared.builder.Stage.{Stage}
+use Rattle.qh_read.specs.declared.builder.Stage.TheVariants as stages
+use Rattle.qh_read.specs.declared.builder.Pending.{Pending}
+use Rattle.qh_read.specs.declared.builder.Pending.TheVariants as pendings
+
+-- a stage, with the coordinates that were taken
+abbrev pub stage_shown : Stage → List ℤ → Progress
+stage_shown stages.First t = wants_first
+stage_shown (stages.Second first) t = wants_second first
+stage_shown (stages.Coordinates left) t = wants left t
+stage_shown (stages.Failed fault) t = fails fault
+
+-- the header is still to come, or a part of it
+abbrev pub is_header : Stage → Bool
+is_header stages.First = true
+is_header (stages.Second first) = true
+is_header (stages.Coordinates left) = false
+is_header (stages.Failed fault) = false
+
+-- the fault that was found
+abbrev pub stage_fault : Stage → Option ReadFault
+stage_fault stages.First = None
+stage_fault (stages.Second first) = None
+stage_fault (stages.Coordinates left) = None
+stage_fault (stages.Failed fault) = Some fault
+
+-- it is one of the text
+abbrev pub HasTextFault : Stage → Type 0
+HasTextFault stage = (fault : ReadFault) → stage_fault stage ≡ Some fault → IsTextFault fault
+
+-- the coordinates of the next point so far
+abbrev pub pending_list : Pending → List ℤ
+pending_list pendings.Zero = []
+pending_list (pendings.One x) = x.value ∷ []
+pending_list (pendings.Two x y) = x.value ∷ y.value ∷ []
+
+-- their number
+abbrev pub pending_count : Pending → ℕ
+pending_count pendings.Zero = 0
+pending_count (pendings.One x) = 1
+pending_count (pendings.Two x y) = 2

@@ -1,0 +1,2 @@
+-- What else the contracts of public functions cite.
+pub mod Devices

@@ -1,0 +1,2 @@
+-- What a reader of the headline must believe.
+pub mod Sinks
