@@ -1,7 +1,12 @@
-ghost use Rattle.std.specs.Prelude.{◌≡◌, Some, false, map, codes, IfOk, IfSome, string_bytes};
+ghost use Rattle.std.specs.Prelude.{◌≡◌, ◌≢◌, ◌<◌, ◌^◌, ℕ, [], ◌∷◌, true, false, map, codes, IfOk, IfErr, IfSome, IfNone, string_bytes};
 ghost use Rattle.std.specs.Option.{option_map};
-ghost use Rattle.clap.specs.Words.{app_of, rule_of, found_of, matched_of, one_text, raw_values};
-ghost use Rattle.qconvex.specs.contract.CommandLine.{program, number_option, outs_rule, word_of, NumberOf, AreOutsOf, AreSettingsOf};
+ghost use Rattle.clap.specs.Words.{app_of, kind_of, rule_of, found_of, matched_of, one_text, raw_values};
+ghost use Rattle.qh_model.specs.declared.out.Out.{Out};
+ghost use Rattle.qh_model.specs.declared.out.Out.TheVariants.{Rank, Summary, Fx, Off};
+ghost use Rattle.qconvex.specs.headline.SettingsValue.{SettingsValue};
+ghost use Rattle.qconvex.specs.contract.Ranges.{IsInRange};
+ghost use Rattle.qconvex.specs.contract.CommandLine.{AreOutsOf, AreSettingsOf, IsArgFaultOf, IsProgram, NumberOf, from_one_to, number_option, outs_rule, word_of, words_taken};
+ghost use Rattle.qconvex.specs.steps.Matches.{AreSettingsFound, IsFindingFault, IsOutsFault, IsRefusalOf};
 
 use crate::settings::{BLOCK_SIZE_LIMIT, Settings, SettingsError};
 use clap::builder::ValueParser;
@@ -25,15 +30,24 @@ pub enum ArgFault {
 /// The words of the outputs.
 static NAMES: [&str; 4] = ["rank", "s", "Fx", "off"];
 
-/// An option `--name N` with a default.
+/// The parser of whole numbers from 1 to a limit.
+fn up_to<'a>(limit: u32) -> ValueParser<'a>
+    requires { 0 < limit }
+    ensures { result ≡ from_one_to limit }
+{
+    value_parser!(u32).range(1..=i64::from(limit))
+}
+
+/// An option `--name N` with a default, for numbers from 1 to a limit.
 fn number_arg<'a>(
     alloc: Global,
     name: &'a str,
     help: &'a str,
     default: &'a str,
-    parser: ValueParser<'a>,
+    limit: u32,
 ) -> Arg<'a>
-    ensures rule { rule_of result ≡ number_option name.entry.now default.entry.now (Some parser.entry) }
+    requires { 0 < limit }
+    ensures rule { rule_of result ≡ number_option name.entry.now default.entry.now limit }
     ensures local { result.global ≡ false }
 {
     Arg::new(alloc, name)
@@ -42,12 +56,12 @@ fn number_arg<'a>(
         .help(help)
         .action(ArgAction::Set)
         .default_value(default)
-        .value_parser(parser)
+        .value_parser(up_to(limit))
 }
 
 /// The words OUT, which may stand between options.
 fn outs_arg<'a>(alloc: Global) -> Arg<'a>
-    ensures rule { (p : _) × (rule_of result ≡ outs_rule p) }
+    ensures rule { (p : _) × (words_taken p ≡ map word_of (Rank ∷ Summary ∷ Fx ∷ Off ∷ [])) × (rule_of result ≡ outs_rule p) }
     ensures local { result.global ≡ false }
 {
     Arg::new(alloc, "outs")
@@ -59,21 +73,21 @@ fn outs_arg<'a>(alloc: Global) -> Arg<'a>
 
 /// The command line of the program.
 fn command<'a>(alloc: Global) -> Result<Command<'a>, AllocError>
-    ensures { IfOk result (λ c. (p q r : _) × (app_of c ≡ program p q r)) }
+    ensures { IfOk result (λ c. IsProgram (app_of c)) }
 {
     let workers = number_arg(
         alloc,
         "workers",
         "How many workers share the work",
         "4",
-        value_parser!(u32).range(1..=i64::from(WORKER_LIMIT)),
+        WORKER_LIMIT,
     );
     let block = number_arg(
         alloc,
         "block",
         "How many points a block has, whose hull is taken first",
         "4096",
-        value_parser!(u32).range(1..=i64::from(BLOCK_SIZE_LIMIT)),
+        BLOCK_SIZE_LIMIT,
     );
     let outs = outs_arg(alloc);
     Command::new(alloc, "qconvex")
@@ -84,7 +98,8 @@ fn command<'a>(alloc: Global) -> Result<Command<'a>, AllocError>
 
 /// The output of a word.
 fn out_of(name: &str) -> Option<Out>
-    ensures { IfSome result (λ out. word_of out ≡ name.now) }
+    ensures some { IfSome result (λ out. word_of out ≡ name.now) }
+    ensures none { IfNone result ((out : Out) → word_of out ≢ name.now) }
 {
     match name {
         "rank" => Some(Out::Rank),
@@ -97,7 +112,8 @@ fn out_of(name: &str) -> Option<Out>
 
 /// The outputs of the words, or the summary where there are none.
 fn outs_of(alloc: Global, names: Option<&[&str]>) -> Result<Vec<Out>, ArgFault>
-    ensures { IfOk result (λ v. AreOutsOf (option_map (λ s. map (λ w. w.now) s.now) names.entry) v.items) }
+    ensures outs { IfOk result (λ v. AreOutsOf (option_map (λ s. map (λ w. w.now) s.now) names.entry) v.items) }
+    ensures fault { IfErr result (IsOutsFault (option_map (λ s. map (λ w. w.now) s.now) names.entry)) }
 {
     let mut outs = Vec::new(alloc);
     let Some(names) = names else {
@@ -105,14 +121,18 @@ fn outs_of(alloc: Global, names: Option<&[&str]>) -> Result<Vec<Out>, ArgFault>
         return Ok(outs);
     };
     for name in names {
-        let out = out_of(name).ok_or(ArgFault::Usage)?;
+        let Some(out) = out_of(name) else {
+            return Err(ArgFault::Usage);
+        };
         outs.push(out).map_err(|_| ArgFault::Memory)?;
     }
     Ok(outs)
 }
 
 /// What stands for an error of clap.
-fn refused(alloc: Global, error: &Error) -> ArgFault {
+fn refused(alloc: Global, error: &Error) -> ArgFault
+    ensures { IsRefusalOf (kind_of error.now) result }
+{
     match error.kind() {
         ErrorKind::OutOfMemory => ArgFault::Memory,
         ErrorKind::DisplayHelp => match error.to_string(alloc) {
@@ -125,20 +145,27 @@ fn refused(alloc: Global, error: &Error) -> ArgFault {
 
 /// The value of an option.
 fn number(matches: &ArgMatches, id: &str) -> Option<u32>
-    ensures { IfSome result (λ n. NumberOf (one_text (found_of matches.now) id.now) n) }
+    ensures some { IfSome result (λ n. NumberOf (one_text (found_of matches.now) id.now) n) }
+    ensures none { IfNone result ((n : ℕ) → n < 2 ^ 32 → ¬ (NumberOf (one_text (found_of matches.now) id.now) n)) }
 {
     matches.get_one::<u32>(id)
 }
 
 /// The settings that matched words say.
 fn settings_from(alloc: Global, matches: &ArgMatches) -> Result<Settings, ArgFault>
-    ensures { IfOk result (λ s. NumberOf (one_text (found_of matches.now) (codes "workers")) s.workers
-        × NumberOf (one_text (found_of matches.now) (codes "block")) s.block
-        × AreOutsOf (option_map raw_values (matched_of (found_of matches.now) (codes "outs"))) s.outs) }
+    ensures found { IfOk result (AreSettingsFound (found_of matches.now)) }
+    ensures fault { IfErr result (IsFindingFault (found_of matches.now)) }
 {
-    let workers = number(matches, "workers").ok_or(ArgFault::Usage)?;
-    let block = number(matches, "block").ok_or(ArgFault::Usage)?;
-    let outs = outs_of(alloc, matches.get_strs("outs"))?;
+    let Some(workers) = number(matches, "workers") else {
+        return Err(ArgFault::Usage);
+    };
+    let Some(block) = number(matches, "block") else {
+        return Err(ArgFault::Usage);
+    };
+    let outs = match outs_of(alloc, matches.get_strs("outs")) {
+        Ok(outs) => outs,
+        Err(fault) => return Err(fault),
+    };
     match Settings::new(alloc, workers, block, outs.as_slice()) {
         Ok(settings) => Ok(settings),
         Err(SettingsError::Memory) => Err(ArgFault::Memory),
@@ -148,7 +175,8 @@ fn settings_from(alloc: Global, matches: &ArgMatches) -> Result<Settings, ArgFau
 
 /// The settings that these words ask for.
 fn settings_in<'a>(alloc: Global, words: &'a [String]) -> Result<Settings, ArgFault>
-    ensures { IfOk result (AreSettingsOf (map string_bytes words.entry.now)) }
+    ensures settings { IfOk result (AreSettingsOf (map string_bytes words.entry.now)) }
+    ensures fault { IfErr result (IsArgFaultOf (map string_bytes words.entry.now)) }
 {
     let Ok(command) = command::<'a>(alloc) else {
         return Err(ArgFault::Memory);
@@ -160,8 +188,14 @@ fn settings_in<'a>(alloc: Global, words: &'a [String]) -> Result<Settings, ArgFa
 }
 
 /// The settings that a command line asks for; the first word is the program's name.
+///
+/// # Errors
+///
+/// `Help` with the help text where it is asked for, `Usage` where the words are no command line, and `Memory` where
+/// memory was refused.
 pub fn settings_of(alloc: Global, words: Vec<String>) -> Result<Settings, ArgFault>
-    ensures { IfOk result (AreSettingsOf (map string_bytes words.items)) }
+    ensures settings { IfOk result (AreSettingsOf (map string_bytes words.items)) }
+    ensures fault { IfErr result (IsArgFaultOf (map string_bytes words.items)) }
 {
     settings_in(alloc, words.as_slice())
 }

@@ -1,34 +1,43 @@
 -- The options of the program, as clap reads them.
-use Rattle.std.specs.Prelude.{ℕ, ◌≡◌, List, [], ◌∷◌, Option, None, Some, codes, map}
-use Rattle.std.specs.Str.Parse.{digits_value, without_leading_plus}
-use Rattle.clap.specs.Words.{App, Rule, Text, new_app, new_rule, with_rule, all_of, matches_of, one_of}
+-- Source: this project's own, in the words of clap's contracts.
+use Rattle.std.specs.Prelude.{ℕ, ◌≡◌, ◌⊎◌, pos, false, List, [], ◌∷◌, Option, None, Some, codes, map}
+use Rattle.std.specs.Str.Parse.{IsNumeral, digits_value, without_leading_plus}
+use Rattle.clap.specs.Words.{App, Rule, Text, new_app, new_rule, with_rule, all_of, matches_of, one_of, takes, fault_of, IsAmong}
 use Rattle.clap.specs.declared.builder.action.ArgAction.TheVariants.{Set, Append}
 use Rattle.clap.specs.declared.builder.value_parser.ValueParser.{ValueParser}
+use Rattle.clap.specs.declared.builder.value_parser.ValueParser.TheVariants.{Signed, Names}
+use Rattle.clap.specs.declared.error.kind.ErrorKind.TheVariants.{DisplayHelp}
+use Rattle.qh_model.specs.declared.limits.TheConstants.{WORKER_LIMIT}
 use Rattle.qh_model.specs.declared.out.Out.{Out}
 use Rattle.qh_model.specs.declared.out.Out.TheVariants.{Rank, Summary, Fx, Off}
+use Rattle.qconvex.specs.declared.command_line.ArgFault.{ArgFault}
+use Rattle.qconvex.specs.declared.command_line.ArgFault.TheVariants.{Help, Usage, Memory}
+use Rattle.qconvex.specs.declared.settings.TheConstants.{BLOCK_SIZE_LIMIT}
 use Rattle.qconvex.specs.headline.SettingsValue.{SettingsValue}
+use Rattle.qconvex.specs.contract.Ranges.{IsInRange}
 
--- an option `--name N` with a default
-abbrev pub number_option : Text → Text → Option ValueParser → Rule
-number_option name default parser = record (new_rule name) {
+-- the parser of whole numbers from 1 to a limit
+abbrev pub from_one_to : ℕ → ValueParser
+from_one_to limit = Signed (pos 1) (pos limit)
+
+-- an option `--name N` with a default, for numbers from 1 to a limit
+abbrev pub number_option : Text → Text → ℕ → Rule
+number_option name default limit = record (new_rule name) {
   long = Some name;
   action = Some Set;
   value_names = 1;
   defaults = default ∷ [];
-  parser = parser;
+  parser = Some (from_one_to limit);
 }
 
-abbrev pub outs_rule : Option ValueParser → Rule
-outs_rule parser = record (new_rule (codes "outs")) { action = Some Append; value_names = 1; parser = parser }
+-- the words OUT, each of which this parser takes
+abbrev pub outs_rule : ValueParser → Rule
+outs_rule parser = record (new_rule (codes "outs")) { action = Some Append; value_names = 1; parser = Some parser }
 
--- the command; what OUT is taken is said by its parser
-abbrev pub program : Option ValueParser → Option ValueParser → Option ValueParser → App
-program workers block outs =
-    with_rule (with_rule (with_rule (new_app (codes "qconvex")) (number_option (codes "workers") (codes "4") workers)) (number_option (codes "block") (codes "4096") block)) (outs_rule outs)
-
--- the number that a text stands for
-abbrev pub NumberOf : Option Text → ℕ → Type 0
-NumberOf text n = (t : Text) × (text ≡ Some t) × (n ≡ digits_value 10 (without_leading_plus t))
+-- the command
+abbrev pub program : ValueParser → App
+program outs = with_rule (with_rule (with_rule (new_app (codes "qconvex"))
+    (number_option (codes "workers") (codes "4") WORKER_LIMIT)) (number_option (codes "block") (codes "4096") BLOCK_SIZE_LIMIT)) (outs_rule outs)
 
 -- the word of an output
 abbrev pub word_of : Out → Text
@@ -37,14 +46,40 @@ word_of Summary = codes "s"
 word_of Fx = codes "Fx"
 word_of Off = codes "off"
 
+-- the words that a parser takes, where it takes some words and no other
+abbrev pub words_taken : ValueParser → List Text
+words_taken (Names names) = map (λ w. w.now) names.now
+words_taken _ = []
+
+-- the command whose OUT is the word of an output
+abbrev pub IsProgram : App → Type 0
+IsProgram app = (outs : ValueParser) × (words_taken outs ≡ map word_of (Rank ∷ Summary ∷ Fx ∷ Off ∷ [])) × (app ≡ program outs)
+
+-- the number that a text stands for
+abbrev pub NumberOf : Option Text → ℕ → Type 0
+NumberOf text n = (t : Text) × (text ≡ Some t) × IsNumeral 10 (without_leading_plus t) × (n ≡ digits_value 10 (without_leading_plus t))
+
 -- the outputs of the words OUT, in their order; with no such word the summary alone
 abbrev pub AreOutsOf : Option (List Text) → List Out → Type 0
 AreOutsOf None outs = outs ≡ Summary ∷ []
 AreOutsOf (Some words) outs = map word_of outs ≡ words
 
--- the settings have the values of both options and the outputs, in clap's matches of the words
+-- the settings have the values of both options and the outputs, in the command's matches of the words
+pub record AreSettingsIn (app : App) (words : List Text) (s : SettingsValue) : Type 0 where
+  pub workers : NumberOf (one_of (codes "workers") (matches_of app words)) s.workers
+  pub block : NumberOf (one_of (codes "block") (matches_of app words)) s.block
+  pub outs : AreOutsOf (all_of (codes "outs") (matches_of app words)) s.outs
+
+-- the same, in those of the program
 abbrev pub AreSettingsOf : List Text → SettingsValue → Type 0
-AreSettingsOf words s = (p q r : Option ValueParser)
-    × NumberOf (one_of (codes "workers") (matches_of (program p q r) words)) s.workers
-    × NumberOf (one_of (codes "block") (matches_of (program p q r) words)) s.block
-    × AreOutsOf (all_of (codes "outs") (matches_of (program p q r) words)) s.outs
+AreSettingsOf words s = (app : App) × IsProgram app × AreSettingsIn app words s
+
+-- the command does not take the words, or its matches have no settings in range
+abbrev pub IsUsageOf : App → List Text → Type 0
+IsUsageOf app words = (takes app words ≡ false) ⊎ ((s : SettingsValue) → AreSettingsIn app words s → ¬ (IsInRange s.workers s.block))
+
+-- why there are no settings: help is what the words ask for; a bad command line; or memory was refused
+abbrev pub IsArgFaultOf : List Text → ArgFault → Type 0
+IsArgFaultOf words (Help text) = (app : App) × IsProgram app × IsAmong DisplayHelp (fault_of app words)
+IsArgFaultOf words Usage = (app : App) × IsProgram app × IsUsageOf app words
+IsArgFaultOf words Memory = Unit {0}

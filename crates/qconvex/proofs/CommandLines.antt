@@ -1,0 +1,68 @@
+-- Why a command line has no settings.
+use Rattle.std.proofs.Common.{◌≡◌, ◌∙◌, ◌<◌, ap, sym, subst, refl, arith, ℕ, zero, suc, Bool, true, false, inl, inr, List, [], ◌∷◌, length, map, Option, codes}
+use Rattle.std.specs.Prelude.{slice_index_or}
+use Rattle.std.specs.Borrow.{Bor}
+use Rattle.std.specs.Option.{option_map}
+use Rattle.clap.specs.Words.{App, Text, IsAmong, HasKind, all_of, fault_of, found_of, kind_of, matched_of, matches_of, one_of, one_text, raw_values, rows_of, takes}
+use Rattle.clap.specs.declared.error.Error.{Error}
+use Rattle.clap.specs.declared.error.kind.ErrorKind.{ErrorKind}
+use Rattle.clap.specs.declared.error.kind.ErrorKind.TheVariants.{DisplayHelp, OutOfMemory}
+use Rattle.clap.specs.declared.parser.matches.Found.{Found}
+use Rattle.clap.proofs.WalkLemmas.{one_text-rows, raw_values-rows}
+use Rattle.qh_model.specs.declared.out.Out.{Out}
+use Rattle.qconvex.specs.declared.command_line.ArgFault.{ArgFault}
+use Rattle.qconvex.specs.declared.command_line.ArgFault.TheVariants.{Help, Usage, Memory}
+use Rattle.qconvex.specs.headline.SettingsValue.{SettingsValue}
+use Rattle.qconvex.specs.contract.CommandLine.{AreOutsOf, AreSettingsIn, IsArgFaultOf, IsProgram, NumberOf, word_of}
+use Rattle.qconvex.specs.steps.Matches.{AreSettingsFound, IsFindingFault, IsOutsFault, IsRefusalOf}
+
+-- each of some outputs' words is that of an output
+pub word_at : (outs : List Out) (names : List (Bor Text)) (k : ℕ) (d : Bor Text) → map word_of outs ≡ map (λ w. w.now) names → k < length names → (out : Out) × (word_of out ≡ (slice_index_or names k d).now)
+word_at [] [] k d e h = absurd (omega arith)
+word_at [] (n ∷ ns) k d e h = cc
+word_at (o ∷ os) [] k d e h = cc
+word_at (o ∷ os) (n ∷ ns) zero d e h = (o, cc)
+word_at (o ∷ os) (n ∷ ns) (suc k) d e h = let rest : map word_of os ≡ map (λ w. w.now) ns = cc in word_at os ns k d rest (omega arith)
+
+-- what is found in the matches of the words is what the words say
+pub found_in : (app : App) (words : List Text) (found : Found) → rows_of found ≡ matches_of app words → (s : SettingsValue) → AreSettingsFound found s → AreSettingsIn app words s
+found_in app words found rows s h = record {
+  workers = subst (λ (t : Option Text). NumberOf t s.workers) (one_text-rows found (codes "workers") ∙ ap (one_of (codes "workers")) rows) h.workers;
+  block = subst (λ (t : Option Text). NumberOf t s.block) (one_text-rows found (codes "block") ∙ ap (one_of (codes "block")) rows) h.block;
+  outs = subst (λ (t : Option (List Text)). AreOutsOf t s.outs) (raw_values-rows found (codes "outs") ∙ ap (all_of (codes "outs")) rows) h.outs;
+}
+
+-- and the other way round
+said_found : (app : App) (words : List Text) (found : Found) → rows_of found ≡ matches_of app words → (s : SettingsValue) → AreSettingsIn app words s → AreSettingsFound found s
+said_found app words found rows s h = record {
+  workers = subst (λ (t : Option Text). NumberOf t s.workers) (sym (one_text-rows found (codes "workers") ∙ ap (one_of (codes "workers")) rows)) h.workers;
+  block = subst (λ (t : Option Text). NumberOf t s.block) (sym (one_text-rows found (codes "block") ∙ ap (one_of (codes "block")) rows)) h.block;
+  outs = subst (λ (t : Option (List Text)). AreOutsOf t s.outs) (sym (raw_values-rows found (codes "outs") ∙ ap (all_of (codes "outs")) rows)) h.outs;
+}
+
+-- a fault of the matches is one of the words
+pub unfound : (app : App) (words : List Text) (found : Found) → IsProgram app → rows_of found ≡ matches_of app words → (f : ArgFault) → IsFindingFault found f → IsArgFaultOf words f
+unfound app words found is rows (Help text) h = absurd h
+unfound app words found is rows Usage h = (app, is, inr (λ s g. h s (said_found app words found rows s g)))
+unfound app words found is rows Memory h = tt
+
+-- a fault of the outputs is one of the matches
+pub no_outs : (found : Found) (f : ArgFault) → IsOutsFault (option_map raw_values (matched_of found (codes "outs"))) f → IsFindingFault found f
+no_outs found (Help text) h = absurd h
+no_outs found Usage h = λ s g r. h s.outs g.outs
+no_outs found Memory h = tt
+
+-- an error of clap: help is what the words ask for; else clap takes them only where memory was refused
+pub refusal : (app : App) (words : List Text) (e : Error) → IsProgram app → HasKind (fault_of app words) e → (takes app words ≡ true → kind_of e ≡ OutOfMemory)
+    → (f : ArgFault) → IsRefusalOf (kind_of e) f → IsArgFaultOf words f
+refusal app words e is kinds passes (Help text) h = (app, is, among kinds)
+  where
+    among : HasKind (fault_of app words) e → IsAmong DisplayHelp (fault_of app words)
+    among (inl m) = let bad : DisplayHelp ≡ OutOfMemory = sym h ∙ m in cc
+    among (inr a) = subst (λ (k : ErrorKind). IsAmong k (fault_of app words)) h a
+refusal app words e is kinds passes Usage h = (app, is, inl (by (takes app words) refl))
+  where
+    by : (b : Bool) → takes app words ≡ b → takes app words ≡ false
+    by true t = absurd (h (passes t))
+    by false t = t
+refusal app words e is kinds passes Memory h = tt

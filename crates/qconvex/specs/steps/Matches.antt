@@ -1,0 +1,37 @@
+-- What is read from clap's matches, and what a fault on the way says.
+use Rattle.std.specs.Prelude.{ℕ, ◌≡◌, ◌≢◌, List, Option, codes}
+use Rattle.std.specs.Option.{option_map}
+use Rattle.clap.specs.Words.{Text, matched_of, one_text, raw_values}
+use Rattle.clap.specs.declared.parser.matches.Found.{Found}
+use Rattle.clap.specs.declared.error.kind.ErrorKind.{ErrorKind}
+use Rattle.clap.specs.declared.error.kind.ErrorKind.TheVariants.{DisplayHelp, OutOfMemory}
+use Rattle.qh_model.specs.declared.out.Out.{Out}
+use Rattle.qconvex.specs.declared.command_line.ArgFault.{ArgFault}
+use Rattle.qconvex.specs.declared.command_line.ArgFault.TheVariants.{Help, Usage, Memory}
+use Rattle.qconvex.specs.headline.SettingsValue.{SettingsValue}
+use Rattle.qconvex.specs.contract.Ranges.{IsInRange}
+use Rattle.qconvex.specs.contract.CommandLine.{AreOutsOf, NumberOf}
+
+-- the settings that the values found say
+pub record AreSettingsFound (found : Found) (s : SettingsValue) : Type 0 where
+  pub workers : NumberOf (one_text found (codes "workers")) s.workers
+  pub block : NumberOf (one_text found (codes "block")) s.block
+  pub outs : AreOutsOf (option_map raw_values (matched_of found (codes "outs"))) s.outs
+
+-- why no settings were found: none are in range, or memory was refused
+abbrev pub IsFindingFault : Found → ArgFault → Type 0
+IsFindingFault found (Help text) = ⊥
+IsFindingFault found Usage = (s : SettingsValue) → AreSettingsFound found s → ¬ (IsInRange s.workers s.block)
+IsFindingFault found Memory = Unit {0}
+
+-- why there are no outputs: a word is that of none, or memory was refused
+abbrev pub IsOutsFault : Option (List Text) → ArgFault → Type 0
+IsOutsFault words (Help text) = ⊥
+IsOutsFault words Usage = (outs : List Out) → ¬ (AreOutsOf words outs)
+IsOutsFault words Memory = Unit {0}
+
+-- what stands for an error of clap
+abbrev pub IsRefusalOf : ErrorKind → ArgFault → Type 0
+IsRefusalOf kind (Help text) = kind ≡ DisplayHelp
+IsRefusalOf kind Usage = kind ≢ OutOfMemory
+IsRefusalOf kind Memory = Unit {0}
