@@ -11,4 +11,4 @@ pub mod board
 pub mod DistinctIds
 pub mod Cuts
 pub mod ReadingLaws
-pub mod Examples
+pub mod examples

@@ -1,0 +1,148 @@
+-- The unit square and small lists, computed: polygons, their order and their edges.
+use Rattle.std.proofs.Common.{◌≡◌, ℕ, refl, List, [], ◌∷◌, arith, subst, sym, inl, inr}
+use Rattle.std.proofs.lemmas.Int.{ints}
+use Rattle.std.specs.Prelude.{pos, negsuc, ◌<ℤ◌}
+use Rattle.qh_model.specs.headline.Vector.{Vector}
+use Rattle.qh_model.specs.headline.Predicates.{left, cross}
+use Rattle.qh_model.specs.headline.Sets.{In, Members}
+use Rattle.qh_model.specs.headline.Polygon.{Follows, TurnsLeft, IsPolygon}
+use Rattle.qh_model.specs.headline.Polygons.{ComesBefore, PointsForward, IsEdge}
+use Rattle.qh_model.specs.contract.Simplex.{one_of}
+use Rattle.qh_model.proofs.polygons.Cycles.{round_holds}
+
+-- ---- the unit square
+abbrev flat : ℕ → ℕ → Vector
+flat x y = record { x = pos x; y = pos y; z = pos 0 }
+
+-- the corners of the unit square
+abbrev square : ℕ → Vector
+square = one_of (flat 0 0) (flat 1 0) (flat 1 1) (flat 0 1)
+
+-- straight up
+abbrev upward : Vector
+upward = record { x = pos 0; y = pos 0; z = pos 1 }
+
+-- the corners in their order
+abbrev around : List ℕ
+around = 0 ∷ 1 ∷ 2 ∷ 3 ∷ []
+
+-- what holds of the four corners
+corners : (P : ℕ → Type 0) → P 0 → P 1 → P 2 → P 3 → (w : ℕ) → In w around → P w
+corners P p q r s w (inl e) = subst P (sym e) p
+corners P p q r s w (inr (inl e)) = subst P (sym e) q
+corners P p q r s w (inr (inr (inl e))) = subst P (sym e) r
+corners P p q r s w (inr (inr (inr (inl e)))) = subst P (sym e) s
+corners P p q r s w (inr (inr (inr (inr n)))) = absurd n
+
+-- the way from 0 to 1 has the others to its left
+turn_0 : TurnsLeft square upward around 0 1
+unfolding left cross
+turn_0 = corners (λ w. ¬ (w ≡ 0) → ¬ (w ≡ 1) → pos 0 <ℤ left upward (square 0) (square 1) (square w))
+    (λ a b. absurd (a refl)) (λ a b. absurd (b refl)) (λ a b. omega (arith, ints)) (λ a b. omega (arith, ints))
+
+-- so has the way from 1 to 2
+turn_1 : TurnsLeft square upward around 1 2
+unfolding left cross
+turn_1 = corners (λ w. ¬ (w ≡ 1) → ¬ (w ≡ 2) → pos 0 <ℤ left upward (square 1) (square 2) (square w))
+    (λ a b. omega (arith, ints)) (λ a b. absurd (a refl)) (λ a b. absurd (b refl)) (λ a b. omega (arith, ints))
+
+-- and that from 2 to 3
+turn_2 : TurnsLeft square upward around 2 3
+unfolding left cross
+turn_2 = corners (λ w. ¬ (w ≡ 2) → ¬ (w ≡ 3) → pos 0 <ℤ left upward (square 2) (square 3) (square w))
+    (λ a b. omega (arith, ints)) (λ a b. omega (arith, ints)) (λ a b. absurd (a refl)) (λ a b. absurd (b refl))
+
+-- and that from 3 to 0
+turn_3 : TurnsLeft square upward around 3 0
+unfolding left cross
+turn_3 = corners (λ w. ¬ (w ≡ 3) → ¬ (w ≡ 0) → pos 0 <ℤ left upward (square 3) (square 0) (square w))
+    (λ a b. absurd (b refl)) (λ a b. omega (arith, ints)) (λ a b. omega (arith, ints)) (λ a b. absurd (a refl))
+
+-- its polygon from above
+pub polygon_of_square : IsPolygon square (Members around) upward around
+polygon_of_square = record {
+  members = λ i. (λ h. h, λ h. h);
+  once = (λ h. no_first h, (λ h. no_second h, (λ h. no_third h, (λ h. h, tt))));
+  round = round_holds (TurnsLeft square upward around) around (turn_0, (turn_1, (turn_2, turn_3)));
+  least = λ v i. omega arith;
+}
+  where
+    no_first : Members (1 ∷ 2 ∷ 3 ∷ []) 0 → ⊥
+    no_first (inl e) = omega arith
+    no_first (inr (inl e)) = omega arith
+    no_first (inr (inr (inl e))) = omega arith
+    no_first (inr (inr (inr n))) = n
+
+    no_second : Members (2 ∷ 3 ∷ []) 1 → ⊥
+    no_second (inl e) = omega arith
+    no_second (inr (inl e)) = omega arith
+    no_second (inr (inr n)) = n
+
+    no_third : Members (3 ∷ []) 2 → ⊥
+    no_third (inl e) = omega arith
+    no_third (inr n) = n
+
+-- the other way round it is none: from 0 to 3 it would have to turn left to 1
+pub not_clockwise : ¬ (IsPolygon square (Members around) upward (0 ∷ 3 ∷ 2 ∷ 1 ∷ []))
+unfolding left cross
+not_clockwise p =
+    let turn = p.round 0 3 (inl (refl, refl)) 1 (inr (inr (inr (inl refl)))) (λ e. omega (arith, e)) (λ e. omega (arith, e)) in
+    omega (arith, ints, turn)
+
+-- begun elsewhere it is none: its first is not the least
+pub not_from_1 : ¬ (IsPolygon square (Members around) upward (1 ∷ 2 ∷ 3 ∷ 0 ∷ []))
+not_from_1 p = let least = p.least 0 (inr (inr (inl refl))) in omega (arith, least)
+
+-- with a corner left out it is none
+pub not_three_corners : ¬ (IsPolygon square (Members around) upward (0 ∷ 1 ∷ 2 ∷ []))
+not_three_corners p = none ((p.members 3).1 (inr (inr (inr (inl refl)))))
+  where
+    none : In {X = ℕ} 3 (0 ∷ 1 ∷ 2 ∷ []) → ⊥
+    none (inl e) = omega arith
+    none (inr (inl e)) = omega arith
+    none (inr (inr (inl e))) = omega arith
+    none (inr (inr (inr n))) = n
+
+-- ---- neighbours: the first follows the last
+pub last_and_first : Follows 3 0 around
+last_and_first = inr (inr (inr (refl, refl)))
+
+-- 2 does not follow 0
+pub not_across : ¬ (Follows 0 2 around)
+not_across (inl e) = omega (arith, e.1)
+not_across (inr (inl e)) = omega (arith, e.0)
+not_across (inr (inr (inl e))) = omega (arith, e.0)
+not_across (inr (inr (inr e))) = omega (arith, e.0)
+
+-- a pair of neighbours is an edge, the lower first, whichever follows the other
+pub edge : IsEdge (around ∷ []) 0 3
+edge = (omega arith, (around, inl refl, inr last_and_first))
+
+-- ---- lexicographic order
+-- a list comes before one that it begins
+pub beginning : ComesBefore (0 ∷ 1 ∷ []) (0 ∷ 1 ∷ 3 ∷ [])
+beginning = inr (refl, inr (refl, tt))
+
+-- and not after
+pub not_after : ¬ (ComesBefore (0 ∷ 1 ∷ 3 ∷ []) (0 ∷ 1 ∷ []))
+not_after (inl h) = omega (arith, h)
+not_after (inr (e, inl h)) = omega (arith, h)
+not_after (inr (e, inr (f, n))) = n
+
+-- nor does it come before itself
+pub not_itself : ¬ (ComesBefore (4 ∷ []) (4 ∷ []))
+not_itself (inl h) = omega (arith, h)
+not_itself (inr (e, n)) = n
+
+-- numbers decide, not digits
+pub nine_and_ten : ComesBefore (9 ∷ []) (10 ∷ [])
+nine_and_ten = inl (omega arith)
+
+-- ---- the side that a flat set is seen from
+-- the first component that is not 0 decides
+pub forward : PointsForward (record { x = pos 0; y = pos 1; z = negsuc 4 })
+forward = inr (refl, inl (omega (arith, ints)))
+
+pub not_forward : ¬ (PointsForward (record { x = negsuc 0; y = pos 1; z = pos 5 }))
+not_forward (inl h) = omega (arith, ints, h)
+not_forward (inr (e, h)) = cc

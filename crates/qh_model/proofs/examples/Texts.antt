@@ -1,0 +1,51 @@
+-- The texts of the hull of a tetrahedron, computed.
+use Rattle.std.proofs.Common.{◌≡◌, ℕ, refl, List, [], ◌∷◌, ◌++◌}
+use Rattle.std.specs.Prelude.{pos, codes}
+use Rattle.std.specs.Fmt.{digits}
+use Rattle.qh_model.specs.declared.out.Out.TheVariants.{Rank, Fx, Off}
+use Rattle.qh_model.specs.headline.Vector.{Vector}
+use Rattle.qh_model.specs.headline.Predicates.{place}
+use Rattle.qh_model.specs.headline.Hull.{HullValue}
+use Rattle.qh_model.specs.headline.Text.{line, hull_text, vertex_number}
+
+abbrev point : ℕ → ℕ → ℕ → Vector
+point x y z = record { x = pos x; y = pos y; z = pos z }
+
+-- the corners of the tetrahedron at the origin
+abbrev corners : List Vector
+corners = point 0 0 0 ∷ point 1 0 0 ∷ point 0 1 0 ∷ point 0 0 1 ∷ []
+
+abbrev hull : HullValue
+hull = record {
+  given = 4;
+  distinct = 4;
+  body = record {
+    dim = 3;
+    extremes = 0 ∷ 1 ∷ 2 ∷ 3 ∷ [];
+    polygons = (0 ∷ 1 ∷ 3 ∷ []) ∷ (0 ∷ 2 ∷ 1 ∷ []) ∷ (0 ∷ 3 ∷ 2 ∷ []) ∷ (1 ∷ 2 ∷ 3 ∷ []) ∷ [];
+    edges = 6;
+  };
+}
+
+-- `rank`
+pub rank : hull_text hull corners (Rank ∷ []) ≡ line (codes "4 4 3")
+unfolding digits
+rank = refl
+
+-- `Fx` and then `rank`: outputs are joined in their order
+pub extremes : hull_text hull corners (Fx ∷ Rank ∷ [])
+    ≡ line (codes "4") ++ line (codes "0") ++ line (codes "1") ++ line (codes "2") ++ line (codes "3") ++ line (codes "4 4 3")
+unfolding digits
+extremes = refl
+
+-- `off`
+pub off : hull_text hull corners (Off ∷ [])
+    ≡ line (codes "OFF") ++ line (codes "4 4 6")
+    ++ line (codes "0 0 0") ++ line (codes "1 0 0") ++ line (codes "0 1 0") ++ line (codes "0 0 1")
+    ++ line (codes "3 0 1 3") ++ line (codes "3 0 2 1") ++ line (codes "3 0 3 2") ++ line (codes "3 1 2 3")
+unfolding digits place
+off = refl
+
+-- a vertex number is a position among the extreme ids, not an id
+pub third_vertex : vertex_number (4 ∷ 7 ∷ 9 ∷ []) 9 ≡ 2
+third_vertex = refl
