@@ -108,6 +108,18 @@ def polygon(points, ids, normal):
     return corners
 
 
+def one_sided_heights(points, ids, normal, offset):
+    """The heights of all points over a plane, or None where some lie above it and some below."""
+    heights, least, greatest = [], 0, 0
+    for index in ids:
+        height = dot(normal, points[index]) - offset
+        least, greatest = min(least, height), max(greatest, height)
+        if least < 0 < greatest:
+            return None
+        heights.append(height)
+    return heights
+
+
 def supporting_planes(points, ids):
     """Of each plane through three points that leaves none outside: its members, and its normal that points outside."""
     planes = {}
@@ -115,9 +127,8 @@ def supporting_planes(points, ids):
         normal = cross(points[i], points[j], points[k])
         if not any(normal):
             continue
-        origin = dot(normal, points[i])
-        heights = [dot(normal, points[index]) - origin for index in ids]
-        if max(heights) > 0 and min(heights) < 0:
+        heights = one_sided_heights(points, ids, normal, dot(normal, points[i]))
+        if heights is None:
             continue
         members = tuple(index for index, height in zip(ids, heights) if height == 0)
         planes[members] = normal if max(heights) == 0 else negated(normal)
