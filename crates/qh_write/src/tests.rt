@@ -6,6 +6,7 @@ use qh_model::{Body, Hull, Id, Memory, Point, Polygon};
 use std::alloc::Global;
 use std::test::Fail;
 
+mod refusals;
 mod writers;
 
 /// The hull of one point that was given once.
