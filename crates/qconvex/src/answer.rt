@@ -1,11 +1,12 @@
 //! The answer to an input: the texts of its hull.
-ghost use Rattle.std.specs.Prelude.{◌≡◌, ◌<◌, ◌≤◌, IfOk, IfErr, length};
+ghost use Rattle.std.specs.Prelude.{◌≡◌, ◌≢◌, ◌<◌, ◌≤◌, IfOk, IfErr, Err, length};
 ghost use Rattle.qh_model.specs.contract.Cut.{positions};
 ghost use Rattle.qh_model.specs.headline.DistinctIds.{AreDistinctIds};
 ghost use Rattle.qh_model.specs.headline.Hull.{IsHull};
-ghost use Rattle.qh_model.specs.declared.limits.TheConstants.{POINT_LIMIT};
-ghost use Rattle.qconvex.specs.headline.Answers.{IsAnswer, IsAnswerFault};
 ghost use Rattle.qh_model.specs.headline.Text.{IsText};
+ghost use Rattle.qh_model.specs.declared.limits.TheConstants.{BYTE_LIMIT, POINT_LIMIT};
+ghost use Rattle.qh_model.specs.declared.read_fault.ReadFault.TheVariants as reads;
+ghost use Rattle.qconvex.specs.headline.Answers.{IsAnswer, IsAnswerFault};
 
 use crate::fault::Fault;
 use crate::settings::Settings;
@@ -85,7 +86,9 @@ pub fn text_of<R: Threads + Sync, G: Gate>(
 ///
 /// The gate is told of the workers' blocks, and takes the hull at the end of their run.
 ///
-/// The fault is the first of the input, or want of memory.
+/// The fault is the first of the input, or want of memory. `Big` goes before all other faults, want of
+/// memory too; that a device failed, that the text could not be sent or that a command line is none is
+/// never answered.
 pub fn answer<R: Threads + Sync, G: Gate>(
     rt: &R,
     alloc: Global,
@@ -95,6 +98,10 @@ pub fn answer<R: Threads + Sync, G: Gate>(
 ) -> Result<Vec<u8>, Fault>
     ensures answered { IfOk result (λ t. IsAnswer input.now settings.now.outs t.items) }
     ensures fault { IfErr result (IsAnswerFault input.now) }
+    ensures big { BYTE_LIMIT < length input.now → result ≡ Err (Fault.Read reads.Big) }
+    ensures no_device { result ≢ Err (Fault.Read reads.Device) }
+    ensures no_send { result ≢ Err Fault.Send }
+    ensures no_usage { result ≢ Err Fault.Usage }
 {
     let points = read_points(alloc, input)?;
     let text = text_of(rt, alloc, &points, settings, gate)?;

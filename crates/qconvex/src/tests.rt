@@ -4,9 +4,12 @@ mod command_lines;
 mod devices;
 mod faults;
 mod gated;
+mod hostile;
+mod limits;
 mod paraboloid;
 mod programs;
 mod ranks;
+mod refusals;
 mod rows;
 mod solids;
 mod stand_in;
@@ -28,6 +31,13 @@ struct Outcome {
     output: String,
     error: String,
     status: u8,
+}
+
+impl Outcome {
+    /// What stands on standard output and on standard error.
+    fn streams(&self) -> (&str, &str) {
+        (self.output.as_str(), self.error.as_str())
+    }
 }
 
 fn refusal(alloc: Global, fault: &Fault) -> Result<Outcome, AllocError> {

@@ -4,6 +4,8 @@ use crate::{BLOCK_LIMIT, Cut, CutError, POINT_LIMIT};
 use std::alloc::Global;
 use std::test::Fail;
 
+mod refusals;
+
 /// How a cut was answered: the bounds of its first block and of its last, or why it was refused.
 fn ends(cut: Result<Cut, CutError>) -> Result<(u32, (u32, u32), (u32, u32)), CutError> {
     let cut = cut?;

@@ -6,6 +6,8 @@ use qh_model::{Id, Point};
 use qh_pred::cross;
 use std::test::Fail;
 
+mod refusals;
+
 /// The corners of a square, the middles of its sides but one, and its centre.
 fn square() -> [Point; 8] {
     [

@@ -1,6 +1,8 @@
-//! Rows of the specification: what each text stands for, in whatever way it comes.
+//! Rows: what each text stands for, in whatever way it comes.
 
 mod pieces;
+mod readers;
+mod refusals;
 mod rows;
 mod sources;
 
@@ -16,6 +18,18 @@ const TETRAHEDRON: [(i32, i32, i32); 4] = [(0, 0, 0), (1, 0, 0), (0, 1, 0), (0, 
 
 /// The unit cube, 52 bytes.
 const CUBE: &str = "3\n8\n0 0 0\n0 0 1\n0 1 0\n0 1 1\n1 0 0\n1 0 1\n1 1 0\n1 1 1\n";
+
+/// Its corners.
+const CUBE_CORNERS: [(i32, i32, i32); 8] = [
+    (0, 0, 0),
+    (0, 0, 1),
+    (0, 1, 0),
+    (0, 1, 1),
+    (1, 0, 0),
+    (1, 0, 1),
+    (1, 1, 0),
+    (1, 1, 1),
+];
 
 /// Whether the reading gave just these points, in this order.
 fn gave(outcome: &Result<Vec<Point>, ReadFault>, places: &[(i32, i32, i32)]) -> bool {

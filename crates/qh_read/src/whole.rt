@@ -21,6 +21,7 @@ pub fn read_points(alloc: Global, bytes: &[u8]) -> Result<Vec<Point>, ReadFault>
     ensures read { IfOk result (λ points. Reads bytes.now points.items) }
     ensures fault { IfErr result (λ e. IsFaultOf bytes.now e) }
     ensures big { BYTE_LIMIT < length bytes.now → result ≡ Err ReadFault.Big }
+    ensures no_device { result ≢ Err ReadFault.Device }
 {
     if bytes.len() > BYTE_LIMIT as usize {
         return Err(ReadFault::Big);

@@ -6,6 +6,9 @@ use qh_model::{Body, Hull, Id, Memory, Point, Polygon};
 use std::alloc::Global;
 use std::test::Fail;
 
+mod refusals;
+mod writers;
+
 /// The hull of one point that was given once.
 fn one_point(alloc: Global) -> Result<Hull, Memory>
     ensures { IfOk result (λ h. h.body.extremes ≡ 0 ∷ []) }

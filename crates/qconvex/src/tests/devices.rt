@@ -1,4 +1,7 @@
+//! Devices that fail: of each the call that failed is its last, and what stands on the output is a
+//! beginning of the text.
 use super::settings;
+use super::solids::{CUBE, CUBE_OFF, TETRAHEDRON, TETRAHEDRON_OFF};
 use crate::fault::Fault;
 use crate::serve::serve;
 use qh_read::fakes::FailSource;
@@ -8,52 +11,60 @@ use qh_write::fakes::{FailSink, SinkPlan};
 use qh_write::{MemSink, Sink};
 use std::test::Fail;
 
-const TETRAHEDRON: &str = "3\n4\n0 0 0\n1 0 0\n0 1 0\n0 0 1\n";
+/// A plan that never fails.
+const FREE: SinkPlan = SinkPlan {
+    greatest_piece: 100,
+    room: 100,
+    failing_write: None,
+    flush_fails: false,
+};
 
 #[test]
 fn a_failing_source_sends_nothing(rt: HostRuntime) -> Result<(), Fail> {
     let alloc = rt.alloc();
-    let Ok(settings) = settings(alloc, "rank")? else {
+    let Ok(settings) = settings(alloc, "off")? else {
         return Err("the line is a command line".into());
     };
-    // One byte a read: each of the 28 bytes and the end.
-    for k in 1..30u64 {
-        let mut source = FailSource::new(TETRAHEDRON.as_bytes(), 1, Some(k));
+    // One byte a read: each of the 52 bytes and the end.
+    for k in 1..54u64 {
+        let mut source = FailSource::new(CUBE.as_bytes(), 1, Some(k));
         let mut sink = MemSink::new(alloc);
         let outcome = serve(&rt, alloc, &mut source, &mut sink, &settings, &NoGate);
         assert_eq!(rt; outcome, Err(Fault::Read(ReadFault::Device)), "at read {k}");
         assert!(rt; sink.bytes().is_empty());
         assert_eq!(rt; source.failures(), 1);
+        assert_eq!(rt; sink.failures(), 0);
     }
-    let mut source = FailSource::new(TETRAHEDRON.as_bytes(), 1, Some(30));
+    let mut source = FailSource::new(CUBE.as_bytes(), 1, Some(54));
     let mut sink = MemSink::new(alloc);
-    assert_eq!(rt;
-        serve(&rt, alloc, &mut source, &mut sink, &settings, &NoGate),
-        Ok(())
-    );
-    assert_eq!(rt; sink.bytes(), b"4 4 3\n".as_slice());
+    let outcome = serve(&rt, alloc, &mut source, &mut sink, &settings, &NoGate);
+    assert_eq!(rt; outcome, Ok(()));
+    assert_eq!(rt; sink.bytes(), CUBE_OFF.as_bytes());
+    assert_eq!(rt; source.failures(), 0);
     Ok(())
 }
 
 #[test]
 fn a_failing_sink_has_a_beginning(rt: HostRuntime) -> Result<(), Fail> {
     let alloc = rt.alloc();
-    let Ok(settings) = settings(alloc, "rank")? else {
+    let Ok(settings) = settings(alloc, "off")? else {
         return Err("the line is a command line".into());
     };
-    for room in 0..6usize {
+    let text = TETRAHEDRON_OFF.as_bytes();
+    assert_eq!(rt; text.len(), 66);
+    for k in 1..67usize {
         let plan = SinkPlan {
             greatest_piece: 1,
-            room,
-            failing_write: None,
-            flush_fails: false,
+            failing_write: Some(k as u64),
+            ..FREE
         };
         let mut source = MemSource::new(TETRAHEDRON.as_bytes());
         let mut sink = FailSink::new(alloc, plan);
         let outcome = serve(&rt, alloc, &mut source, &mut sink, &settings, &NoGate);
-        assert_eq!(rt; outcome, Err(Fault::Send), "at {room}");
-        assert_eq!(rt; sink.bytes(), &b"4 4 3\n"[..room]);
+        assert_eq!(rt; outcome, Err(Fault::Send), "at write {k}");
+        assert_eq!(rt; sink.bytes(), &text[..k - 1]);
         assert_eq!(rt; sink.failures(), 1);
+        assert_eq!(rt; source.failures(), 0);
     }
     Ok(())
 }
@@ -64,27 +75,35 @@ fn the_worked_failures(rt: HostRuntime) -> Result<(), Fail> {
     let Ok(settings) = settings(alloc, "off")? else {
         return Err("the line is a command line".into());
     };
-    let plan = SinkPlan {
-        greatest_piece: 100,
-        room: 7,
-        failing_write: None,
-        flush_fails: false,
-    };
-    let mut source = MemSource::new(b"3\n1\n5 5 5\n");
-    let mut full = FailSink::new(alloc, plan);
-    let outcome = serve(&rt, alloc, &mut source, &mut full, &settings, &NoGate);
-    assert_eq!(rt; outcome, Err(Fault::Send));
-    assert_eq!(rt; full.bytes(), b"OFF\n1 1".as_slice());
-    let mut source = MemSource::new(b"3\n1\n5 5 5\n");
-    let stuck = SinkPlan {
-        room: 100,
-        flush_fails: true,
-        ..plan
-    };
-    let mut unflushed = FailSink::new(alloc, stuck);
-    let outcome = serve(&rt, alloc, &mut source, &mut unflushed, &settings, &NoGate);
-    assert_eq!(rt; outcome, Err(Fault::Send));
-    assert_eq!(rt; unflushed.bytes(), b"OFF\n1 1 0\n5 5 5\n1 0\n".as_slice());
+    // An input, a plan of the sink, and what goes out before it fails.
+    let rows = [
+        ("3\n1\n5 5 5\n", SinkPlan { room: 7, ..FREE }, "OFF\n1 1"),
+        (
+            "3\n1\n5 5 5\n",
+            SinkPlan {
+                flush_fails: true,
+                ..FREE
+            },
+            "OFF\n1 1 0\n5 5 5\n1 0\n",
+        ),
+        (
+            TETRAHEDRON,
+            SinkPlan {
+                greatest_piece: 1,
+                flush_fails: true,
+                ..FREE
+            },
+            TETRAHEDRON_OFF,
+        ),
+    ];
+    for (input, plan, sent) in rows {
+        let mut source = MemSource::new(input.as_bytes());
+        let mut sink = FailSink::new(alloc, plan);
+        let outcome = serve(&rt, alloc, &mut source, &mut sink, &settings, &NoGate);
+        assert_eq!(rt; outcome, Err(Fault::Send), "{plan:?}");
+        assert_eq!(rt; sink.bytes(), sent.as_bytes(), "{plan:?}");
+        assert_eq!(rt; sink.failures(), 1);
+    }
     // The first read gives 4 bytes, the second fails.
     let mut source = FailSource::new(TETRAHEDRON.as_bytes(), 4, Some(2));
     let mut sink = MemSink::new(alloc);

@@ -1,8 +1,10 @@
 use super::{answered, served, settings};
+use crate::fault::Fault;
+use qh_read::ReadFault;
 use std::test::Fail;
 
 /// Inputs and the fault line that each gets, with status 1 and nothing on standard output.
-const FAULTS: [(&str, &str); 32] = [
+const FAULTS: [(&str, &str); 33] = [
     ("3\n4\n0 0 0\n1 0 0\n0 1 0\n0 0\n", "qconvex: 7: Short"),
     (
         "3\n4\n0 0 0\n1 0 0\n0 1 0\n0 0 1\n7\n",
@@ -35,6 +37,8 @@ const FAULTS: [(&str, &str); 32] = [
     ("4 4.0\n", "qconvex: 2: BadNumber at line 1"),
     ("0 3\n", "qconvex: 4: Count"),
     ("-3 3\n", "qconvex: 4: Count"),
+    // A byte order mark begins a comment, so the header is `1 5`.
+    ("\u{feff}3\n1\n5 5 5\n", "qconvex: 3: NotThree"),
     // Numbers that wrap to 3 or into range in 32, 64 or 128 bits.
     ("4294967299\n4\n", "qconvex: 3: NotThree"),
     ("18446744073709551619\n4\n", "qconvex: 3: NotThree"),
@@ -69,6 +73,43 @@ fn refuses_inputs(rt: HostRuntime) -> Result<(), Fail> {
             let served = served(&rt, alloc, input.as_bytes(), &settings)?;
             assert_eq!(rt; served.error.as_str(), want, "at {input:?}");
         }
+    }
+    Ok(())
+}
+
+/// Each fault with its line and the exit status.
+const LINES: [(Fault, &str, u8); 12] = [
+    (Fault::Read(ReadFault::NoHeader), "qconvex: 1: NoHeader", 1),
+    (
+        Fault::Read(ReadFault::BadNumber(3)),
+        "qconvex: 2: BadNumber at line 3",
+        1,
+    ),
+    (Fault::Read(ReadFault::NotThree), "qconvex: 3: NotThree", 1),
+    (Fault::Read(ReadFault::Count), "qconvex: 4: Count", 1),
+    (
+        Fault::Read(ReadFault::Range(10)),
+        "qconvex: 5: Range at line 10",
+        1,
+    ),
+    (
+        Fault::Read(ReadFault::Long(268435456)),
+        "qconvex: 6: Long at line 268435456",
+        1,
+    ),
+    (Fault::Read(ReadFault::Short), "qconvex: 7: Short", 1),
+    (Fault::Read(ReadFault::Memory), "qconvex: 8: Memory", 3),
+    (Fault::Read(ReadFault::Device), "qconvex: 9: Device", 4),
+    (Fault::Read(ReadFault::Big), "qconvex: 10: Big", 1),
+    (Fault::Send, "qconvex: 11: Send", 4),
+    (Fault::Usage, "qconvex: 12: Usage", 2),
+];
+
+#[test]
+fn each_fault_has_its_line_and_status(rt: HostRuntime) -> Result<(), Fail> {
+    for (fault, line, status) in LINES {
+        assert_eq!(rt; fault.to_string(rt.alloc())?.as_str(), line);
+        assert_eq!(rt; fault.status(), status, "{line}");
     }
     Ok(())
 }

@@ -41,6 +41,7 @@ fn has_one_text_in_all_settings(rt: HostRuntime) -> Result<(), Fail> {
             return Err("the line is a command line".into());
         };
         let outcome = answered(&rt, alloc, input.as_bytes(), &settings)?;
+        assert!(rt; outcome.output.starts_with(SUMMARY), "at {line}");
         assert!(rt; outcome.output == want.output, "at {line}");
     }
     Ok(())

@@ -2,7 +2,7 @@ use super::{answered, served, settings};
 use std::test::Fail;
 
 /// Inputs and what `rank` answers.
-const RANKS: [(&str, &str); 13] = [
+const RANKS: [(&str, &str); 16] = [
     ("3\n1\n5 5 5\n", "1 1 0\n"),
     ("3 2\n0 0 0\n2 2 2\n", "2 2 1\n"),
     ("4 3\n0 0 0\n1 0 0\n0 1 0\n0 0 1\n", "4 4 3\n"),
@@ -28,6 +28,10 @@ const RANKS: [(&str, &str); 13] = [
     // Byte 13 is a blank, and so are bytes 11 and 12.
     ("3\n1\n5 5\r5\n", "1 1 0\n"),
     ("3\n1\n5\x0b5\x0c5\n", "1 1 0\n"),
+    ("3\n1\n5\t5\t5\n", "1 1 0\n"),
+    // Comments: byte 0 begins one, and one in the midst hides the rest of its line.
+    ("3\n1\n0 0 0 \0 9", "1 1 0\n"),
+    ("3\n4\n0 0 0\n1 x 0\n0 1 0\n0 0 1 5 5\n", "4 3 2\n"),
 ];
 
 #[test]

@@ -2,14 +2,14 @@
 use super::{answered, served, settings};
 use std::test::Fail;
 
-const TETRAHEDRON: &str = "3\n4\n0 0 0\n1 0 0\n0 1 0\n0 0 1\n";
+pub(super) const TETRAHEDRON: &str = "3\n4\n0 0 0\n1 0 0\n0 1 0\n0 0 1\n";
 
-const TETRAHEDRON_OFF: &str =
+pub(super) const TETRAHEDRON_OFF: &str =
     "OFF\n4 4 6\n0 0 0\n1 0 0\n0 1 0\n0 0 1\n3 0 1 3\n3 0 2 1\n3 0 3 2\n3 1 2 3\n";
 
-const CUBE: &str = "3\n8\n0 0 0\n0 0 1\n0 1 0\n0 1 1\n1 0 0\n1 0 1\n1 1 0\n1 1 1\n";
+pub(super) const CUBE: &str = "3\n8\n0 0 0\n0 0 1\n0 1 0\n0 1 1\n1 0 0\n1 0 1\n1 1 0\n1 1 1\n";
 
-const CUBE_OFF: &str =
+pub(super) const CUBE_OFF: &str =
     "OFF\n8 6 12\n0 0 0\n0 0 1\n0 1 0\n0 1 1\n1 0 0\n1 0 1\n1 1 0\n1 1 1\n4 0 1 3 2\n4 0 2 6 4\n4 0 4 5 1\n4 1 5 7 3\n4 2 3 7 6\n4 4 6 7 5\n";
 
 /// The corners of a cube, each twice.

@@ -35,6 +35,11 @@ impl<'a> Stream<'a> {
         self.came.load(Ordering::SeqCst) == self.wanted.len()
     }
 
+    /// Whether nothing came.
+    pub fn is_untouched(&self) -> bool {
+        self.came.load(Ordering::SeqCst) == 0
+    }
+
     /// Takes bytes, or fails where there is no room for them.
     fn take(&self, bytes: &[u8]) -> io::Result<()> {
         let came = self.came.load(Ordering::SeqCst);

@@ -4,7 +4,7 @@ use crate::{ReadFault, read_points};
 
 #[test]
 fn reads_files(rt: HostRuntime) {
-    let rows: [(&str, &[(i32, i32, i32)]); 13] = [
+    let rows: [(&str, &[(i32, i32, i32)]); 15] = [
         ("3\n1\n5 5 5\n", &[(5, 5, 5)]),
         ("3 2\n0 0 0\n2 2 2\n", &[(0, 0, 0), (2, 2, 2)]),
         ("4 3\n0 0 0\n1 0 0\n0 1 0\n0 0 1\n", &TETRAHEDRON),
@@ -17,6 +17,11 @@ fn reads_files(rt: HostRuntime) {
         ("3\n1\n1 *5 6\n2 /5\n3 :5\n", &[(1, 2, 3)]),
         ("3\n1\n5 5\r5\n", &[(5, 5, 5)]),
         ("3\n1\n5\x0b5\x0c5\n", &[(5, 5, 5)]),
+        ("3\n1\n5\t5\t5\n", &[(5, 5, 5)]),
+        (
+            "3\n4\n0 0 0\n1 x 0\n0 1 0\n0 0 1 5 5\n",
+            &[(0, 0, 0), (1, 0, 1), (0, 0, 0), (1, 5, 5)],
+        ),
         ("3\n1\n0 0 0 \0 9", &[(0, 0, 0)]),
     ];
     for (text, places) in rows {
@@ -39,6 +44,8 @@ fn finds_first_faults(rt: HostRuntime) {
         ("4 4.0\n", ReadFault::BadNumber(1)),
         ("2\n4\n", ReadFault::NotThree),
         ("2\n0\n", ReadFault::NotThree),
+        // A byte order mark begins a comment, so the header is `1 5`.
+        ("\u{feff}3\n1\n5 5 5\n", ReadFault::NotThree),
         ("4294967299\n1\n5 5 5\n", ReadFault::NotThree),
         ("18446744073709551619\n1\n5 5 5\n", ReadFault::NotThree),
         (
