@@ -7,9 +7,10 @@ use Rattle.qh_model.specs.Vector.{Vector}
 abbrev pub difference_limit : ℕ
 difference_limit = 2 * COORDINATE_LIMIT
 
--- the greatest size of a component of a cross product of two differences, by its two products
+-- the greatest size of a component of a cross product of two differences from one point: twice the area of a triangle
+-- in a square of that side
 abbrev pub normal_limit : ℕ
-normal_limit = 2 * (difference_limit * difference_limit)
+normal_limit = difference_limit * difference_limit
 
 -- the greatest size of a scalar product of two such vectors, by its three products
 abbrev pub offset_limit : ℕ
