@@ -6,12 +6,13 @@ import math
 import random
 import sys
 
-LIMIT = 1 << 20
+# The families go to this size either way, whatever the limit of the program: times stay comparable.
+SIZE = 1 << 20
 
 
 def cube(rng, n):
     """Uniform in a cube."""
-    return [tuple(rng.randint(-LIMIT, LIMIT) for _ in range(3)) for _ in range(n)]
+    return [tuple(rng.randint(-SIZE, SIZE) for _ in range(3)) for _ in range(n)]
 
 
 def direction(rng):
@@ -25,14 +26,14 @@ def direction(rng):
 
 def sphere(rng, n):
     """On a sphere, rounded to whole numbers."""
-    return [tuple(round(LIMIT * c) for c in direction(rng)) for _ in range(n)]
+    return [tuple(round(SIZE * c) for c in direction(rng)) for _ in range(n)]
 
 
 def ball(rng, n):
     """Uniform in a ball."""
     points = []
     for _ in range(n):
-        radius = LIMIT * rng.random() ** (1 / 3)
+        radius = SIZE * rng.random() ** (1 / 3)
         points.append(tuple(round(radius * c) for c in direction(rng)))
     return points
 
@@ -55,8 +56,8 @@ def cube_surface(rng, n):
     """On the six faces of a cube."""
     points = []
     for _ in range(n):
-        p = [rng.randint(-LIMIT, LIMIT) for _ in range(3)]
-        p[rng.randrange(3)] = rng.choice((-LIMIT, LIMIT))
+        p = [rng.randint(-SIZE, SIZE) for _ in range(3)]
+        p[rng.randrange(3)] = rng.choice((-SIZE, SIZE))
         points.append(tuple(p))
     return points
 
@@ -65,14 +66,14 @@ def flat(rng, n):
     """In the plane x + y + z = 0."""
     points = []
     for _ in range(n):
-        x, y = rng.randint(-LIMIT // 2, LIMIT // 2), rng.randint(-LIMIT // 2, LIMIT // 2)
+        x, y = rng.randint(-SIZE // 2, SIZE // 2), rng.randint(-SIZE // 2, SIZE // 2)
         points.append((x, y, -x - y))
     return points
 
 
 def line(rng, n):
     """On one line; nearly all points are repeats or neighbours."""
-    return [(t, t, -t) for t in (rng.randint(-LIMIT, LIMIT) for _ in range(n))]
+    return [(t, t, -t) for t in (rng.randint(-SIZE, SIZE) for _ in range(n))]
 
 
 FAMILIES = {

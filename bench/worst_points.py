@@ -11,7 +11,7 @@ import sys
 
 import points
 
-LIMIT = points.LIMIT
+SIZE = points.SIZE
 BLOCK = 4096  # the ids of a block of this program, by default
 
 
@@ -61,8 +61,8 @@ def cap(rng, count, radius, height, base=0):
 def tent(corners, rng, count):
     """A polygon, a point below its middle, a cap above it, and last the apex of a roof over all."""
     rim = [(x, y, 0) for x, y in polygon(corners)]
-    under_roof = cap(rng, count - corners - 2, radius_of(corners) / 2, LIMIT / 4, 16)
-    return rim + [(0, 0, -LIMIT)] + under_roof + [(0, 0, LIMIT)]
+    under_roof = cap(rng, count - corners - 2, radius_of(corners) / 2, SIZE / 4, 16)
+    return rim + [(0, 0, -SIZE)] + under_roof + [(0, 0, SIZE)]
 
 
 def shuffled_tent(corners, rng, count):
@@ -77,13 +77,13 @@ def block_tents(rng, count):
     found = []
     blocks = max(1, count // BLOCK)
     for block in range(blocks):
-        base = -LIMIT // 2 + block
+        base = -SIZE // 2 + block
         rim = polygon(2000)
         scale = max(1, 900000 // max(x for x, _ in rim))
         found += [(scale * x + block, scale * y - block, base) for x, y in rim]
-        found.append((0, 0, base - LIMIT // 4))
-        found += cap(rng, BLOCK - 2002, scale * radius_of(2000) / 2, LIMIT / 4, base + 16)
-        found.append((0, 0, base + LIMIT))
+        found.append((0, 0, base - SIZE // 4))
+        found += cap(rng, BLOCK - 2002, scale * radius_of(2000) / 2, SIZE / 4, base + 16)
+        found.append((0, 0, base + SIZE))
     return found
 
 
@@ -92,7 +92,7 @@ def shells(rng, count):
     each = max(1, count // 100)
     found = []
     for shell in range(100):
-        radius = LIMIT * (shell + 1) / 100
+        radius = SIZE * (shell + 1) / 100
         found += [rounded(*(radius * c for c in points.direction(rng))) for _ in range(each)]
     return found
 
@@ -101,7 +101,7 @@ def spheres(rng, count):
     """Ten spheres one in the other, shuffled."""
     found = []
     for shell in range(10):
-        radius = LIMIT * (0.5 + 0.05 * (shell + 1))
+        radius = SIZE * (0.5 + 0.05 * (shell + 1))
         found += [rounded(*(radius * c for c in points.direction(rng))) for _ in range(count // 10)]
     rng.shuffle(found)
     return found
@@ -122,11 +122,11 @@ def disc_and_dome(rng, count):
     """A disc's points, and then half a sphere above it."""
     found = []
     for _ in range(count // 2):
-        r, t = LIMIT * math.sqrt(rng.random()), rng.random() * math.tau
+        r, t = SIZE * math.sqrt(rng.random()), rng.random() * math.tau
         found.append(rounded(r * math.cos(t), r * math.sin(t), 0))
     for _ in range(count - count // 2):
         x, y, z = points.direction(rng)
-        found.append(rounded(LIMIT * x, LIMIT * y, abs(LIMIT * z)))
+        found.append(rounded(SIZE * x, SIZE * y, abs(SIZE * z)))
     return found
 
 
@@ -134,16 +134,16 @@ def prism(rng, count):
     """A polygon's corners at heights from below to above."""
     corners = most_corners(count)
     levels = max(2, count // corners)
-    return [(x, y, round(LIMIT * (2 * level / (levels - 1) - 1))) for level in range(levels) for x, y in polygon(corners)]
+    return [(x, y, round(SIZE * (2 * level / (levels - 1) - 1))) for level in range(levels) for x, y in polygon(corners)]
 
 
 def cone(rng, count):
     """A cone's surface, from the rim to the apex."""
     found = []
     for k in range(count - 1):
-        r, t = LIMIT * math.sqrt(1 - k / count), rng.random() * math.tau
-        found.append(rounded(r * math.cos(t), r * math.sin(t), LIMIT - r))
-    return found + [(0, 0, LIMIT)]
+        r, t = SIZE * math.sqrt(1 - k / count), rng.random() * math.tau
+        found.append(rounded(r * math.cos(t), r * math.sin(t), SIZE - r))
+    return found + [(0, 0, SIZE)]
 
 
 def ring(count, radius, z, turn=0.0):
@@ -154,19 +154,19 @@ def few_rings(rng, count):
     """Four rings on a sphere."""
     found = []
     for k, share in enumerate((-0.6, -0.2, 0.2, 0.6)):
-        found += ring(count // 4, LIMIT * math.sqrt(1 - share * share), round(LIMIT * share), k)
+        found += ring(count // 4, SIZE * math.sqrt(1 - share * share), round(SIZE * share), k)
     rng.shuffle(found)
     return found
 
 
 def circle(rng, count):
     """A circle in its order, and a point above and below its middle."""
-    return ring(count - 2, LIMIT, 0) + [(0, 0, LIMIT), (0, 0, -LIMIT)]
+    return ring(count - 2, SIZE, 0) + [(0, 0, SIZE), (0, 0, -SIZE)]
 
 
 def circles(rng, count):
     """Two equal circles, one above the other, each in its order."""
-    return ring(count // 2, LIMIT, -LIMIT // 2) + ring(count // 2, LIMIT, LIMIT // 2)
+    return ring(count // 2, SIZE, -SIZE // 2) + ring(count // 2, SIZE, SIZE // 2)
 
 
 def spiral(rng, count):
@@ -174,7 +174,7 @@ def spiral(rng, count):
     found = []
     for k in range(count):
         t = 40 * math.tau * k / count
-        found.append(rounded(LIMIT * math.cos(t), LIMIT * math.sin(t), LIMIT * (2 * k / count - 1)))
+        found.append(rounded(SIZE * math.cos(t), SIZE * math.sin(t), SIZE * (2 * k / count - 1)))
     return found
 
 
@@ -184,7 +184,7 @@ def sphere_spiral(rng, count):
     for k in range(count):
         z, t = 2 * k / count - 1, 200 * math.tau * k / count
         r = math.sqrt(1 - z * z)
-        found.append(rounded(LIMIT * r * math.cos(t), LIMIT * r * math.sin(t), LIMIT * z))
+        found.append(rounded(SIZE * r * math.cos(t), SIZE * r * math.sin(t), SIZE * z))
     return found
 
 
@@ -193,8 +193,8 @@ def skew_curves(rng, count):
     found = []
     for k in range(count // 2):
         t = 2 * k / (count // 2) - 1
-        found.append(rounded(LIMIT * t, 0, LIMIT * (t * t - 1) / 2))
-        found.append(rounded(0, LIMIT * t, LIMIT * (1 - t * t) / 2))
+        found.append(rounded(SIZE * t, 0, SIZE * (t * t - 1) / 2))
+        found.append(rounded(0, SIZE * t, SIZE * (1 - t * t) / 2))
     return found
 
 

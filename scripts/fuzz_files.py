@@ -30,7 +30,7 @@ from fuzz_hulls import hull_text
 
 PROGRAM = "crates/qconvex/out/qconvex"
 CASES = 100_000
-COORDINATE_LIMIT = 1 << 20
+COORDINATE_LIMIT = 1 << 30
 COUNT_LIMIT = 1 << 20
 BYTE_LIMIT = 1 << 28
 OUTPUTS = ["rank", "Fx", "off"]
@@ -137,7 +137,7 @@ def gap(rng, plain, line_end):
 
 
 def some_points(rng):
-    side = rng.choice([1, 1, 2, 9, COORDINATE_LIMIT])
+    side = rng.choice([1, 1, 2, 9, 1 << 20, COORDINATE_LIMIT])
     count = rng.choice([1, 1, 2, 3, 3, 4, 5, 8])
     values = [-side, side, 0] if rng.random() < 0.2 else range(-side, side + 1)
     return [[rng.choice(values) for _ in range(3)] for _ in range(count)]
@@ -157,7 +157,7 @@ def valid_file(rng):
 # Mutations. Each answers the file's bytes with one thing changed.
 
 BYTES = bytes(range(0x2A, 0x3C)) + b"\n\n\t\r\x0b\x0c  \x00\x1c\x1d\x1e\x1f\x85\xa0\xff#exE_3300"
-LIMITS = [0, 1, 2, 3, *[COORDINATE_LIMIT] * 5, 1 << 28, 1 << 31, 1 << 32, 1 << 63, 1 << 64, 1 << 128]
+LIMITS = [0, 1, 2, 3, *[COORDINATE_LIMIT] * 4, 1 << 20, 1 << 20, 1 << 28, 1 << 31, 1 << 32, 1 << 63, 1 << 64, 1 << 128]
 # Words that are no numbers, some of which begin a comment.
 WORDS = [b"7.", b".7", b"7e0", b"2nd", b"+", b"-", b".", b"--7", b"+-7", b"-+7", b"7-", b"x7", b"#7", b"(7", b"5/"]
 WORDS += [b"5:", b"1,5", b"*5", b"0x3", b"3L", b"1_0", b"inf", b"nan", b"-inf", b"3\x00", b"3\xa0", b"\xd9\xa3"]

@@ -22,7 +22,7 @@ from itertools import combinations, permutations
 
 PROGRAM = "crates/qconvex/out/qconvex"
 CASES = 100_000
-COORDINATE_LIMIT = 1 << 20
+COORDINATE_LIMIT = 1 << 30
 GREATEST_SET = 14
 WORKERS = [1, 1, 2, 2, 3, 4, 5, 7, 16, 64]
 BLOCKS = [1, 1, 2, 3, 4, 5, 7, 13, 4096, 1_048_576]
@@ -271,22 +271,24 @@ def within(rng):
 
 
 def range_corners(rng):
-    values = [-COORDINATE_LIMIT, COORDINATE_LIMIT]
+    side = rng.choice([1 << 20, COORDINATE_LIMIT])
+    values = [-side, side]
     corners = [(x, y, z) for x in values for y in values for z in values]
-    near = rng.choice([[], [-COORDINATE_LIMIT + 1, COORDINATE_LIMIT - 1], [0], [-1, 0, 1]])
+    near = rng.choice([[], [-side + 1, side - 1], [0], [-1, 0, 1]])
     inner = [tuple(rng.choice(values + near) for _ in range(3)) for _ in range(rng.randint(0, 6))]
     return some(rng, corners, 4) + inner
 
 
 def sliver(rng):
     """Points near a plane or a line of great extent, off it by one or not at all."""
-    u, v = (tuple(rng.randint(-200_000, 200_000) for _ in range(3)) for _ in range(2))
+    side = rng.choice([200_000, 200_000_000])
+    u, v = (tuple(rng.randint(-side, side) for _ in range(3)) for _ in range(2))
     factors = [(rng.randint(-2, 2), rng.randint(-2, 2)) for _ in range(rng.randint(3, 12))]
     return [combined(small_vector(rng, rng.choice([0, 0, 1])), (i, u), (j, v)) for i, j in factors]
 
 
 def cloud(rng):
-    side = rng.choice([1, 2, 5, COORDINATE_LIMIT])
+    side = rng.choice([1, 2, 5, 1 << 20, COORDINATE_LIMIT])
     return [small_vector(rng, side) for _ in range(rng.randint(1, GREATEST_SET))]
 
 
@@ -300,7 +302,7 @@ def in_range(points):
 def sheared(rng, points):
     """The points times a small whole matrix, which may flatten them, and shifted."""
     columns = [small_vector(rng, 2) for _ in range(3)]
-    shift = small_vector(rng, rng.choice([0, 3, 1_000_000]))
+    shift = small_vector(rng, rng.choice([0, 3, 1_000_000, 1_000_000_000]))
     return [combined(shift, *zip(point, columns)) for point in points]
 
 

@@ -1,7 +1,7 @@
 //! The limits of the input, each stated here and nowhere else.
 
 /// The greatest size of a coordinate, either way.
-pub const COORDINATE_LIMIT: u32 = 1048576;
+pub const COORDINATE_LIMIT: u32 = 1073741824;
 
 /// The greatest number of points.
 pub const POINT_LIMIT: u32 = 1048576;

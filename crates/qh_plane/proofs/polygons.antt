@@ -10,6 +10,7 @@ pub mod ChainMembers
 pub mod TwoChains
 pub mod GoesRound
 pub mod PlaceHeights
+pub mod ComponentTurns
 pub mod SortedPlaces
 pub mod LeastFirst
 pub mod PlanarIds

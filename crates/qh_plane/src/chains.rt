@@ -14,7 +14,7 @@ pub fn turns_left(pts: &[Point], normal: &Normal, u: Id, v: Id, w: Id) -> bool
     requires w_in { w < length pts.now }
     ensures { result ≡ is_left (turn_of pts.now normal.now u v w) }
 {
-    left(normal, point_at(pts, u), point_at(pts, v), point_at(pts, w)) > 0
+    left(normal, point_at(pts, u), point_at(pts, v), point_at(pts, w)).is_gt()
 }
 
 /// Whether the top of the stack goes before the next id comes: the way over it does not turn left.

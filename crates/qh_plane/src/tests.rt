@@ -1,8 +1,9 @@
-//! Rows of eight points of a square, of repeated points, and of a point above the square.
+//! Rows of eight points of a square, of repeated points, of a point above the square, and of parallelograms in planes of
+//! each axis and in a slanted one, up to the limit.
 ghost use Rattle.std.specs.Prelude.{◌≡◌, [], ◌∷◌};
 
 use crate::{Shape, distinct, polygon, rank};
-use qh_model::{Id, Point};
+use qh_model::{COORDINATE_LIMIT, Id, Point};
 use qh_pred::cross;
 use std::test::Fail;
 
@@ -76,6 +77,66 @@ fn polygons(rt: HostRuntime) -> Result<(), Fail> {
         below.ids(),
         [Id::new(0), Id::new(6), Id::new(4), Id::new(2)].as_slice()
     );
+    Ok(())
+}
+
+/// Parallelograms in the planes of each axis and in a slanted one, at the limit: the corners, and then the centre.
+fn limit_parallelograms() -> [[Point; 5]; 5] {
+    const LIMIT: i32 = COORDINATE_LIMIT as i32;
+    [
+        [
+            Point::new(-LIMIT, -LIMIT, 0),
+            Point::new(LIMIT, -LIMIT, 0),
+            Point::new(LIMIT, LIMIT, 0),
+            Point::new(-LIMIT, LIMIT, 0),
+            Point::new(0, 0, 0),
+        ],
+        [
+            Point::new(-LIMIT, LIMIT, -LIMIT),
+            Point::new(LIMIT, LIMIT, -LIMIT),
+            Point::new(LIMIT, LIMIT, LIMIT),
+            Point::new(-LIMIT, LIMIT, LIMIT),
+            Point::new(0, LIMIT, 0),
+        ],
+        [
+            Point::new(-LIMIT, -LIMIT, -LIMIT),
+            Point::new(-LIMIT, LIMIT, -LIMIT),
+            Point::new(-LIMIT, LIMIT, LIMIT),
+            Point::new(-LIMIT, -LIMIT, LIMIT),
+            Point::new(-LIMIT, 0, 0),
+        ],
+        [
+            Point::new(LIMIT, -LIMIT, -LIMIT),
+            Point::new(LIMIT, 0, LIMIT),
+            Point::new(-LIMIT, LIMIT, LIMIT),
+            Point::new(-LIMIT, 0, -LIMIT),
+            Point::new(0, 0, 0),
+        ],
+        [
+            Point::new(-LIMIT, 0, 0),
+            Point::new(0, -LIMIT, LIMIT),
+            Point::new(LIMIT, 0, 0),
+            Point::new(0, LIMIT, -LIMIT),
+            Point::new(0, 0, 0),
+        ],
+    ]
+}
+
+#[test]
+fn polygons_of_every_plane(rt: HostRuntime) -> Result<(), Fail> {
+    let ids = [Id::new(0), Id::new(1), Id::new(2), Id::new(3), Id::new(4)];
+    for pts in limit_parallelograms() {
+        let normal = cross(pts[0], pts[1], pts[2]);
+        let above = polygon(rt.alloc(), &pts, &ids, &normal).expect(&rt, "memory");
+        let forth = [Id::new(0), Id::new(1), Id::new(2), Id::new(3)];
+        assert_eq!(rt; above.ids(), forth.as_slice());
+        let below = polygon(rt.alloc(), &pts, &ids, &normal.opposite()).expect(&rt, "memory");
+        let back = [Id::new(0), Id::new(3), Id::new(2), Id::new(1)];
+        assert_eq!(rt; below.ids(), back.as_slice());
+        let half = [Id::new(0), Id::new(1), Id::new(2)];
+        let corners = polygon(rt.alloc(), &pts, &half, &normal).expect(&rt, "memory");
+        assert_eq!(rt; corners.ids(), half.as_slice());
+    }
     Ok(())
 }
 

@@ -1,11 +1,14 @@
 -- Bounds of sums and products of whole numbers by their sizes, and what code of a bounded size computes.
-use Rattle.std.proofs.Common.{◌≡◌, ℕ, ◌+◌, ◌*◌, ◌^◌, ◌≤◌, ◌<◌, arith, FitsSigned, lit<}
-use Rattle.std.proofs.Math.Nat.{mul-le-mul}
-use Rattle.std.proofs.lemmas.Int.{to_z-of_z, ints, unsigned_abs-mul, fits_signed_from_abs}
-use Rattle.std.specs.Prelude.{ℤ, ◌+ℤ◌, ◌-ℤ◌, ◌*ℤ◌, unsigned_abs}
-use Rattle.qh_model.specs.headline.Vector.{Vector, dot}
-use Rattle.qh_pred.specs.contract.Bounds.{normal_limit, IsNormal}
-use Rattle.qh_pred.specs.steps.Differences.{offset_limit}
+use Rattle.std.proofs.Common.{◌≡◌, ℕ, ◌+◌, ◌*◌, ◌^◌, ◌≤◌, ◌<◌, arith, FitsSigned, lit<, ◌⊎◌, inl, inr}
+use Rattle.std.proofs.Math.Nat.{mul-le-mul, mul-le-mul_left}
+use Rattle.std.proofs.lemmas.Int.{to_z-of_z, ints, by_lt_z, unsigned_abs-mul, fits_signed_from_abs}
+use Rattle.std.specs.Prelude.{ℤ, pos, ◌+ℤ◌, ◌-ℤ◌, ◌*ℤ◌, ◌≤ℤ◌, unsigned_abs}
+use Rattle.qh_model.proofs.algebra.Order.{mul-nonneg, mul-nonneg_nonpos, mul-nonpos_nonneg, mul-nonpos, negative_le}
+use Rattle.qh_model.specs.headline.Limits.{IsCoordinate}
+use Rattle.qh_model.specs.contract.Places.{IsPlace}
+use Rattle.qh_model.specs.headline.Vector.{Vector, minus, dot}
+use Rattle.qh_pred.specs.contract.Bounds.{difference_limit, normal_limit, IsNormal}
+use Rattle.qh_pred.specs.steps.Differences.{offset_limit, IsDifference}
 use mir.Syntax.{w64, w128}
 use mir.Val.{to_z, of_z}
 
@@ -36,18 +39,66 @@ pub record MinorFits (a b c d : ℤ) (k : ℕ) : Type 0 where
   pub whole : FitsSigned w64 (a *ℤ b -ℤ c *ℤ d)
   pub bound : unsigned_abs (a *ℤ b -ℤ c *ℤ d) ≤ k
 
--- a minor of numbers of size m fits, and is of size 2 m^2
-pub minor_fits : (m : ℕ) (a b c d : ℤ) → 2 * (m * m) < 2 ^ 63 → unsigned_abs a ≤ m → unsigned_abs b ≤ m → unsigned_abs c ≤ m → unsigned_abs d ≤ m → MinorFits a b c d (2 * (m * m))
-minor_fits m a b c d s ha hb hc hd =
-    let p = within-mul a b m m ha hb in
-    let q = within-mul c d m m hc hd in
-    let r = within-sub (a *ℤ b) (c *ℤ d) (m * m) (m * m) p q in
+-- two rectangles side by side in a square
+rectangles : (m a b c d : ℕ) → a + d ≤ m → b ≤ m → c ≤ m → a * b + c * d ≤ m * m
+rectangles m a b c d s hb hc =
+    let p : a * b ≤ a * m = mul-le-mul_left a hb in
+    let q : d * c ≤ d * m = mul-le-mul_left d hc in
+    let r : m * (a + d) ≤ m * m = mul-le-mul_left m s in
+    omega (arith, p, q, r)
+
+-- two numbers on one side of 0
+abbrev OnOneSide : ℤ → ℤ → Type 0
+OnOneSide x y = ((pos 0 ≤ℤ x) × (pos 0 ≤ℤ y)) ⊎ ((x ≤ℤ pos 0) × (y ≤ℤ pos 0))
+
+-- numbers that are no further apart than m are on one side of 0, or have sizes of the sum m at most
+sizes_apart : (m : ℕ) (x y : ℤ) → unsigned_abs (x -ℤ y) ≤ m → (unsigned_abs x + unsigned_abs y ≤ m) ⊎ OnOneSide x y
+sizes_apart m x y h = by_lt_z x (pos 0) (λ l. by_lt_z (pos 0) y (λ k. inl (omega (arith, ints))) (λ k. inr (inr (negative_le x l, k)))) (λ l. by_lt_z y (pos 0) (λ k. inl (omega (arith, ints))) (λ k. inr (inl (l, k))))
+
+-- numbers on one side of 0 are no further apart than the larger of them
+one_side-sub : (m : ℕ) (x y : ℤ) → OnOneSide x y → unsigned_abs x ≤ m → unsigned_abs y ≤ m → unsigned_abs (x -ℤ y) ≤ m
+one_side-sub m x y (inl s) h k = let p = s.0 in let q = s.1 in omega (arith, ints)
+one_side-sub m x y (inr s) h k = let p = s.0 in let q = s.1 in omega (arith, ints)
+
+-- products of pairs on one side each are on one side
+one_side-mul : (a b c d : ℤ) → OnOneSide a d → OnOneSide c b → OnOneSide (a *ℤ b) (c *ℤ d)
+one_side-mul a b c d (inl s) (inl t) = inl (mul-nonneg a b s.0 t.1, mul-nonneg c d t.0 s.1)
+one_side-mul a b c d (inl s) (inr t) = inr (mul-nonneg_nonpos a b s.0 t.1, mul-nonpos_nonneg c d t.0 s.1)
+one_side-mul a b c d (inr s) (inl t) = inr (mul-nonpos_nonneg a b s.0 t.1, mul-nonneg_nonpos c d t.0 s.1)
+one_side-mul a b c d (inr s) (inr t) = inl (mul-nonpos a b s.0 t.1, mul-nonpos c d t.0 s.1)
+
+-- twice the area of a triangle in a square of side m, by its two sides (a, c) and (d, b) from one corner
+area-within : (m : ℕ) (a b c d : ℤ) → unsigned_abs a ≤ m → unsigned_abs b ≤ m → unsigned_abs c ≤ m → unsigned_abs d ≤ m → unsigned_abs (a -ℤ d) ≤ m → unsigned_abs (c -ℤ b) ≤ m
+    → unsigned_abs (a *ℤ b -ℤ c *ℤ d) ≤ m * m
+area-within m a b c d ha hb hc hd wide high = go (sizes_apart m a d wide) (sizes_apart m c b high)
+  where
+    sum : unsigned_abs a * unsigned_abs b + unsigned_abs c * unsigned_abs d ≤ m * m → unsigned_abs (a *ℤ b -ℤ c *ℤ d) ≤ m * m
+    sum l = let r = within-sub (a *ℤ b) (c *ℤ d) (unsigned_abs a * unsigned_abs b) (unsigned_abs c * unsigned_abs d) (within-mul a b _ _ (omega arith) (omega arith)) (within-mul c d _ _ (omega arith) (omega arith)) in omega (arith, r, l)
+
+    go : (unsigned_abs a + unsigned_abs d ≤ m) ⊎ OnOneSide a d → (unsigned_abs c + unsigned_abs b ≤ m) ⊎ OnOneSide c b → unsigned_abs (a *ℤ b -ℤ c *ℤ d) ≤ m * m
+    go (inl l) k = sum (rectangles m (unsigned_abs a) (unsigned_abs b) (unsigned_abs c) (unsigned_abs d) l hb hc)
+    go (inr s) (inl l) = let r = rectangles m (unsigned_abs c) (unsigned_abs d) (unsigned_abs a) (unsigned_abs b) l hd ha in sum (omega (arith, r))
+    go (inr s) (inr t) = one_side-sub (m * m) (a *ℤ b) (c *ℤ d) (one_side-mul a b c d s t) (within-mul a b m m ha hb) (within-mul c d m m hc hd)
+
+-- such an area fits, with its two products
+pub minor_fits : (m : ℕ) (a b c d : ℤ) → m * m < 2 ^ 63 → unsigned_abs a ≤ m → unsigned_abs b ≤ m → unsigned_abs c ≤ m → unsigned_abs d ≤ m → unsigned_abs (a -ℤ d) ≤ m → unsigned_abs (c -ℤ b) ≤ m
+    → MinorFits a b c d (m * m)
+minor_fits m a b c d s ha hb hc hd wide high =
+    let r = area-within m a b c d ha hb hc hd wide high in
     record {
-      first = fits (a *ℤ b) (m * m) p (omega arith);
-      second = fits (c *ℤ d) (m * m) q (omega arith);
-      whole = fits (a *ℤ b -ℤ c *ℤ d) (m * m + m * m) r (omega arith);
-      bound = omega (arith, r);
+      first = fits (a *ℤ b) (m * m) (within-mul a b m m ha hb) s;
+      second = fits (c *ℤ d) (m * m) (within-mul c d m m hc hd) s;
+      whole = fits (a *ℤ b -ℤ c *ℤ d) (m * m) r s;
+      bound = r;
     }
+
+-- the difference of two ways from a to b and c is one of points
+pub differences : (a b c p q : Vector) → p ≡ minus b a → q ≡ minus c a → IsPlace b → IsPlace c → IsDifference (minus p q)
+differences a b c p q e f hb hc =
+    rw (e, f) (record { x = between b.x a.x c.x hb.x hc.x; y = between b.y a.y c.y hb.y hc.y; z = between b.z a.z c.z hb.z hc.z })
+  where
+    between : (x o y : ℤ) → IsCoordinate x → IsCoordinate y → unsigned_abs ((x -ℤ o) -ℤ (y -ℤ o)) ≤ difference_limit
+    between x o y h k = omega (arith, ints)
 
 -- a number that went to its 128 bits and came back
 abbrev pub through : ℤ → ℤ

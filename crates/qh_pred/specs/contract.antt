@@ -1,3 +1,4 @@
 -- What else the contracts of public functions cite.
 pub mod Bounds
 pub mod Planes
+pub mod Turns

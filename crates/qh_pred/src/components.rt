@@ -1,12 +1,15 @@
-//! Differences of points and their products, in 64 bits; only the last product of a predicate has
-//! 128 bits.
+//! Differences of points and their products, in 64 bits; only the last product of a volume has 128
+//! bits.
 ghost use Rattle.std.specs.Prelude.{◌≡◌, ◌≤◌, ◌*ℤ◌, ◌-ℤ◌, ◌↔◌, IsTrue, unsigned_abs};
 ghost use Rattle.qh_model.specs.headline.Vector.{Vector, origin, minus, cross_product, dot};
 ghost use Rattle.qh_model.specs.headline.Limits.{IsCoordinate};
+ghost use Rattle.qh_model.specs.contract.Places.{IsPlace};
 ghost use Rattle.qh_pred.specs.contract.Bounds.{difference_limit, normal_limit, IsNormal};
 ghost use Rattle.qh_pred.specs.steps.Differences.{offset_limit, IsDifference};
+ghost use Rattle.qh_pred.specs.contract.Turns.{sign, first_product};
 
 use qh_model::Point;
+use std::cmp::Ordering;
 use std::marker::Model;
 
 /// A difference of two points.
@@ -67,16 +70,30 @@ fn coordinate_difference(b: i32, a: i32) -> i64
     i64::from(b) - i64::from(a)
 }
 
-/// A component of a cross product: a b - c d.
+/// A component of a cross product, a b - c d: twice the area of the triangle whose sides from one
+/// corner are (a, c) and (d, b), in a square of side `difference_limit`.
 fn minor(a: i64, b: i64, c: i64, d: i64) -> i64
     requires a_within { unsigned_abs a ≤ difference_limit }
     requires b_within { unsigned_abs b ≤ difference_limit }
     requires c_within { unsigned_abs c ≤ difference_limit }
     requires d_within { unsigned_abs d ≤ difference_limit }
+    requires wide { unsigned_abs (a -ℤ d) ≤ difference_limit }
+    requires high { unsigned_abs (c -ℤ b) ≤ difference_limit }
     ensures value { result ≡ a *ℤ b -ℤ c *ℤ d }
     ensures limit { unsigned_abs result ≤ normal_limit }
 {
     a * b - c * d
+}
+
+/// The sign of the product of two numbers, without the product.
+fn product_sign(a: i64, b: i64) -> Ordering
+    ensures { result ≡ sign (a *ℤ b) }
+{
+    match a.cmp(&0) {
+        Ordering::Less => 0.cmp(&b),
+        Ordering::Equal => Ordering::Equal,
+        Ordering::Greater => b.cmp(&0),
+    }
 }
 
 /// The product of two numbers of 64 bits, in 128.
@@ -89,7 +106,9 @@ fn wide_product(a: i64, b: i64) -> i128
 impl Difference {
     /// The way from a to b.
     pub fn between(a: Point, b: Point) -> Difference
-        ensures { result ≡ minus b a }
+        ensures value { result ≡ minus b a }
+        ensures from { IsPlace a }
+        ensures to { IsPlace b }
     {
         Difference {
             x: coordinate_difference(b.x(), a.x()),
@@ -98,8 +117,9 @@ impl Difference {
         }
     }
 
-    /// The cross product of two differences.
+    /// The cross product of two differences from one point, whose own difference is one of points too.
     pub fn cross(self, other: Difference) -> Components
+        requires { IsDifference (minus self other) }
         ensures { result ≡ cross_product self other }
     {
         Components {
@@ -170,6 +190,19 @@ impl Components {
         ensures { IsTrue result ↔ (self ≡ origin) }
     {
         self.x == 0 && self.y == 0 && self.z == 0
+    }
+
+    /// The sign of the first component that is not 0, times the same component of another vector.
+    pub fn first_sign(self, other: Components) -> Ordering
+        ensures { result ≡ sign (first_product self other) }
+    {
+        if self.x != 0 {
+            product_sign(self.x, other.x)
+        } else if self.y != 0 {
+            product_sign(self.y, other.y)
+        } else {
+            product_sign(self.z, other.z)
+        }
     }
 
     /// The scalar product of two vectors.

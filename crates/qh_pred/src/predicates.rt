@@ -1,10 +1,12 @@
 //! The predicates of points.
 ghost use Rattle.std.specs.Prelude.{◌≡◌, ◌<◌, ◌↔◌, IsTrue, length};
 ghost use Rattle.qh_model.specs.headline.Predicates.{vol, cross, left, place, AreInLine};
+ghost use Rattle.qh_pred.specs.contract.Turns.{sign, first_product, IsAcross};
 
 use crate::components::{Components, Difference};
 use crate::normal::Normal;
 use qh_model::{Id, Point};
+use std::cmp::Ordering;
 
 /// The cross product of the ways from a to b and to c.
 #[tactic(auto, unfolding(qh_model::specs::headline::Predicates::cross))]
@@ -37,12 +39,17 @@ pub fn vol(a: Point, b: Point, c: Point, d: Point) -> i128
     product(a, b, c).dot(Difference::between(a, d).components())
 }
 
-/// The turn from u over v to w in the plane of the normal n: above 0 where it is to the left seen
-/// from the side to which n points, 0 where the three lie in one line.
-pub fn left(n: &Normal, u: Point, v: Point, w: Point) -> i128
-    ensures { result ≡ left n.now u v w }
+/// The turn from u over v to w in a plane of the normal n: `Greater` where it is to the left seen from
+/// the side to which n points, `Equal` where the three lie in one line.
+///
+/// The caller keeps `IsAcross`: n is not zero, and the three points lie in a plane of that normal. Their
+/// own normal is then a multiple of n, whose sign each component of n that is not 0 tells: no product of
+/// the two normals is formed.
+pub fn left(n: &Normal, u: Point, v: Point, w: Point) -> Ordering
+    ensures turn { IsAcross n.now u v w → result ≡ sign (left n.now u v w) }
+    ensures component { result ≡ sign (first_product n.now (cross u v w)) }
 {
-    product(u, v, w).dot(n.components())
+    n.components().first_sign(product(u, v, w))
 }
 
 /// The point of an id, which is the index of one of the points.

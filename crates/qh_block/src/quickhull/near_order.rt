@@ -4,11 +4,11 @@
 //! also lie together in memory, a large run seldom waits for it. No answer depends on the order.
 //!
 //! Source: Morton 1966 (the order of cells along a Z-shaped curve).
-ghost use Rattle.std.specs.Prelude.{◌≡◌, IfOk, map, IsPermutation};
+ghost use Rattle.std.specs.Prelude.{◌≡◌, ◌≤◌, IfOk, map, IsPermutation};
 ghost use Rattle.qh_model.specs.contract.IdSets.{AreIndices};
 ghost use Rattle.qh_block.specs.steps.NearOrder.{id_of};
 
-use qh_model::{COORDINATE_LIMIT, Id, Memory, Point};
+use qh_model::{Id, Memory, Point};
 use qh_pred::point_at;
 use std::alloc::{AllocError, Global};
 
@@ -19,6 +19,9 @@ pub struct Celled {
     id: Id,
 }
 
+/// The bits of a place along one axis. Three of them fit a cell's number.
+const PLACE_BITS: u32 = 21;
+
 /// The lowest 21 bits of a number, each with two zeros before it.
 fn spread(number: u64) -> u64 {
     let halves = (number | number << 32) & 0x001f_0000_0000_ffff;
@@ -28,17 +31,46 @@ fn spread(number: u64) -> u64 {
     (pairs | pairs << 2) & 0x1249_2492_4924_9249
 }
 
-/// A coordinate, raised above zero.
-fn raised(coordinate: i32) -> u64 {
-    (i64::from(coordinate) + i64::from(COORDINATE_LIMIT)).unsigned_abs()
+/// How many of the lowest bits of coordinates up to a size a place leaves out: none where all bits fit.
+fn bits_left_out(size: u32) -> u32
+    ensures { result ≤ 12 }
+{
+    let bits = u32::BITS - size.saturating_sub(1).leading_zeros();
+    bits.saturating_sub(PLACE_BITS - 1)
 }
 
-/// The number of a point's cell: the bits of its coordinates, taken in turn.
-fn cell_of(point: Point) -> u64 {
-    let x = spread(raised(point.x()));
-    let y = spread(raised(point.y()));
-    let z = spread(raised(point.z()));
+/// The place of a coordinate along its axis, from 0. The greatest has the last place, with the one below it.
+fn place_along(coordinate: i32, left_out: u32) -> u64
+    requires { left_out ≤ 12 }
+{
+    let middle = 1i64 << (PLACE_BITS - 1);
+    let place = (i64::from(coordinate) >> left_out) + middle;
+    place.clamp(0, 2 * middle - 1) as u64
+}
+
+/// The number of a point's cell: the bits of its places, taken in turn.
+fn cell_of(point: Point, left_out: u32) -> u64
+    requires { left_out ≤ 12 }
+{
+    let x = spread(place_along(point.x(), left_out));
+    let y = spread(place_along(point.y(), left_out));
+    let z = spread(place_along(point.z(), left_out));
     x << 2 | y << 1 | z
+}
+
+/// The size of the greatest coordinate, either way.
+fn greatest_size(pts: &[Point], ids: &[Id]) -> u32
+    requires { AreIndices pts.now ids.now }
+{
+    let mut size = 0;
+    for id in ids {
+        let point = point_at(pts, *id);
+        size = size
+            .max(point.x().unsigned_abs())
+            .max(point.y().unsigned_abs())
+            .max(point.z().unsigned_abs());
+    }
+    size
 }
 
 /// The ids with the cells of their points.
@@ -46,9 +78,10 @@ fn with_cells(alloc: Global, pts: &[Point], ids: &[Id]) -> Result<Vec<Celled>, A
     requires { AreIndices pts.now ids.now }
     ensures { IfOk result (λ v. map id_of v.items ≡ ids.now) }
 {
+    let left_out = bits_left_out(greatest_size(pts, ids));
     let mut all = Vec::with_capacity(alloc, ids.len())?;
     for id in ids {
-        let cell = cell_of(point_at(pts, *id));
+        let cell = cell_of(point_at(pts, *id), left_out);
         all.push(Celled { cell, id: *id })?;
     }
     Ok(all)

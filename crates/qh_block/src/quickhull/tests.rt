@@ -13,6 +13,7 @@ use std::alloc::{AllocError, Global};
 use std::test::Fail;
 
 mod cones;
+mod orders;
 mod prisms;
 
 /// Puts the first orphan into the set of a facet, if there are both.

@@ -1,12 +1,15 @@
 //! Rows of solid sets: their extreme ids, faces and edges.
 ghost use Rattle.qh_model.specs.headline.Limits.{IsCoordinate};
 
+use crate::tests::surfaces::point;
 use crate::{extremes, hull};
-use qh_model::{Body, Id, Memory, POINT_LIMIT, Point};
+use qh_model::{Body, COORDINATE_LIMIT, Id, Memory, POINT_LIMIT, Point};
 use qh_plane::distinct;
 use std::alloc::{AllocError, Global};
 use std::test::Fail;
 use std::thread::Threads;
+
+const LIMIT: i32 = COORDINATE_LIMIT as i32;
 
 /// The hull of the distinct points of a list that is not too long and not empty, and their extreme ids.
 fn hull_of<R: Threads + Sync>(
@@ -107,24 +110,61 @@ fn unit_cube(rt: HostRuntime) -> Result<(), Fail> {
 }
 
 #[test]
-fn cube_at_the_limit(rt: HostRuntime) -> Result<(), Fail> {
+fn cubes_up_to_the_limit(rt: HostRuntime) -> Result<(), Fail> {
     let alloc = rt.alloc();
-    let pts = cube(-1048576, 1048576);
-    let rows = hull_of(&rt, alloc, &pts).expect(&rt, "memory");
-    let (body, corners) = rows.expect(&rt, "some points");
-    let faces = faces_of(alloc, &body).expect(&rt, "memory");
-    let numbers = numbers_of(alloc, &corners).expect(&rt, "memory");
-    let expected = [
-        4usize, 0, 1, 3, 2, 4, 0, 2, 6, 4, 4, 0, 4, 5, 1, 4, 1, 5, 7, 3, 4, 2, 3, 7, 6, 4, 4, 6, 7,
-        5,
-    ];
-    assert_eq!(rt;
-        numbers.as_slice(),
-        [0usize, 1, 2, 3, 4, 5, 6, 7].as_slice()
-    );
-    assert_eq!(rt; body.extremes.as_slice(), corners.as_slice());
-    assert_eq!(rt; faces.as_slice(), expected.as_slice());
-    assert_eq!(rt; body.edges, 12u64);
+    for pts in [cube(-1048576, 1048576), cube(-LIMIT, LIMIT)] {
+        let rows = hull_of(&rt, alloc, &pts).expect(&rt, "memory");
+        let (body, corners) = rows.expect(&rt, "some points");
+        let faces = faces_of(alloc, &body).expect(&rt, "memory");
+        let numbers = numbers_of(alloc, &corners).expect(&rt, "memory");
+        let expected = [
+            4usize, 0, 1, 3, 2, 4, 0, 2, 6, 4, 4, 0, 4, 5, 1, 4, 1, 5, 7, 3, 4, 2, 3, 7, 6, 4, 4,
+            6, 7, 5,
+        ];
+        assert_eq!(rt;
+            numbers.as_slice(),
+            [0usize, 1, 2, 3, 4, 5, 6, 7].as_slice()
+        );
+        assert_eq!(rt; body.extremes.as_slice(), corners.as_slice());
+        assert_eq!(rt; faces.as_slice(), expected.as_slice());
+        assert_eq!(rt; body.edges, 12u64);
+    }
+    Ok(())
+}
+
+/// 20,000 points, each second one with the greatest x and the others with the least.
+fn greatest_and_least(alloc: Global, greatest: i32) -> Result<Vec<Point>, AllocError> {
+    let mut pts = Vec::new(alloc);
+    for y in 0..100i32 {
+        for z in 0..100i32 {
+            pts.push(point(greatest, y, z))?;
+            pts.push(point(greatest.wrapping_neg(), y, z))?;
+        }
+    }
+    Ok(pts)
+}
+
+#[test]
+fn points_at_the_greatest_and_least_coordinate(rt: HostRuntime) -> Result<(), Fail> {
+    let alloc = rt.alloc();
+    for greatest in [1048576, LIMIT] {
+        let pts = greatest_and_least(alloc, greatest)?;
+        let rows = hull_of(&rt, alloc, pts.as_slice()).expect(&rt, "memory");
+        let (body, corners) = rows.expect(&rt, "some points");
+        let faces = faces_of(alloc, &body).expect(&rt, "memory");
+        let numbers = numbers_of(alloc, &corners).expect(&rt, "memory");
+        // Those of the unit cube, by its corners.
+        let expected = [
+            4usize, 0, 1, 19801, 19800, 4, 0, 198, 199, 1, 4, 0, 19800, 19998, 198, 4, 1, 199,
+            19999, 19801, 4, 198, 19998, 19999, 199, 4, 19800, 19801, 19999, 19998,
+        ];
+        assert_eq!(rt;
+            numbers.as_slice(),
+            [0usize, 1, 198, 199, 19800, 19801, 19998, 19999].as_slice()
+        );
+        assert_eq!(rt; faces.as_slice(), expected.as_slice());
+        assert_eq!(rt; body.edges, 12u64);
+    }
     Ok(())
 }
 

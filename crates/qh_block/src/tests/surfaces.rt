@@ -5,14 +5,14 @@ ghost use Rattle.qh_model.specs.contract.IdSets.{AreIndices};
 
 use crate::surface;
 use qh_mesh::Mesh;
-use qh_model::{Id, Memory, POINT_LIMIT, Point};
+use qh_model::{COORDINATE_LIMIT, Id, Memory, POINT_LIMIT, Point};
 use qh_plane::{Shape, distinct, rank};
 use qh_pred::Plane;
 use std::alloc::{AllocError, Global};
 use std::test::Fail;
 use std::thread::Threads;
 
-const LIMIT: i32 = 1048576;
+const LIMIT: i32 = COORDINATE_LIMIT as i32;
 
 /// The corners of a triangle, counterclockwise seen from outside.
 type Triangle = (u32, u32, u32);
@@ -166,6 +166,7 @@ fn cubes(rt: HostRuntime) -> Result<(), Fail> {
     for (pts, name) in [
         (lattice(alloc, &[0, 1], 1)?, "unit cube"),
         (lattice(alloc, &[0, 1], 2)?, "doubled cube"),
+        (lattice(alloc, &[-1048576, 1048576], 1)?, "cube up to 2^20"),
         (lattice(alloc, &[-LIMIT, LIMIT], 1)?, "cube at the limit"),
     ] {
         let mesh = solid_surface(&rt, alloc, &pts)?.expect(&rt, name);

@@ -1,10 +1,15 @@
 -- The chain of a rising list: its edges have all that was passed on their left, and it turns left at each corner.
-use Rattle.std.proofs.Common.{◌≡◌, ℕ, zero, suc, refl, List, [], ◌∷◌, arith, ap, sym, subst, ◌⊎◌, inl, inr, Bool, true, false, cond}
+use Rattle.std.proofs.Common.{◌≡◌, ℕ, refl, List, [], ◌∷◌, arith, ap, sym, subst, ◌⊎◌, inl, inr, Bool, true, false, cond}
 use Rattle.std.proofs.lemmas.Int.{ints, by_lt_z}
-use Rattle.std.specs.Prelude.{ℤ, pos, negsuc, ◌≤ℤ◌, ◌<ℤ◌}
+use Rattle.std.specs.Cmp.{int_ranks}
+use Rattle.std.specs.Ordering.{MatchOrdering, is_gt}
+use Rattle.std.specs.Prelude.{ℤ, pos, ◌≤ℤ◌, ◌<ℤ◌}
+use Rattle.std.specs.declared.cmp.Ordering.{Ordering}
+use Rattle.std.specs.declared.cmp.Ordering.TheVariants.{Less, Equal, Greater}
 use Rattle.qh_model.proofs.algebra.Order.{le_antisym, positive_le}
 use Rattle.qh_model.proofs.algebra.Signs.{not_less, less_le, equal_le}
 use Rattle.qh_model.specs.headline.Sets.{In}
+use Rattle.qh_pred.specs.contract.Turns.{sign}
 use Rattle.qh_plane.specs.steps.Chains.{is_left, kept_below, chain}
 use Rattle.qh_plane.proofs.polygons.TurnLaws.{RisesBy, TurnLaws, TurnsAt, HasOnLeft, IsChain, Added, chain_top}
 
@@ -14,15 +19,21 @@ IsCapped turn key D y t = (x : ℕ) → D x → key t <ℤ key x → pos 0 ≤�
 
 -- a turn to the left is above 0
 pub is_left-yes : (z : ℤ) → is_left z ≡ true → pos 0 <ℤ z
-is_left-yes (pos zero) e = cc
-is_left-yes (pos (suc n)) e = omega (arith, ints)
-is_left-yes (negsuc n) e = cc
+is_left-yes z e = told (sign z) (int_ranks z (pos 0)) e
+  where
+    told : (r : Ordering) → MatchOrdering r (z <ℤ pos 0) (z ≡ pos 0) (pos 0 <ℤ z) → is_gt r ≡ true → pos 0 <ℤ z
+    told Less k e = cc
+    told Equal k e = cc
+    told Greater k e = k
 
 -- another is not
 pub is_left-no : (z : ℤ) → is_left z ≡ false → z ≤ℤ pos 0
-is_left-no (pos zero) e = omega (arith, ints)
-is_left-no (pos (suc n)) e = cc
-is_left-no (negsuc n) e = omega (arith, ints)
+is_left-no z e = told (sign z) (int_ranks z (pos 0)) e
+  where
+    told : (r : Ordering) → MatchOrdering r (z <ℤ pos 0) (z ≡ pos 0) (pos 0 <ℤ z) → is_gt r ≡ false → z ≤ℤ pos 0
+    told Less k e = less_le z (pos 0) k
+    told Equal k e = equal_le z (pos 0) k
+    told Greater k e = cc
 
 -- zero is not below 0
 at_least : (z : ℤ) → z ≡ pos 0 → pos 0 ≤ℤ z

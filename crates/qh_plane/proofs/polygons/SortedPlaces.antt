@@ -14,6 +14,7 @@ use Rattle.qh_model.specs.headline.Predicates.{place}
 use Rattle.qh_model.specs.headline.Sets.{In}
 use Rattle.qh_model.specs.headline.Vector.{Vector}
 use Rattle.qh_plane.proofs.KeyOrder.{IsKeyOf, sorted_keys, rising_keys, key_parts, place_code-same, sorted-only, sorted-all}
+use Rattle.qh_plane.proofs.polygons.ComponentTurns.{joined-same}
 use Rattle.qh_plane.proofs.polygons.Cycles.{in-turned_onto, turned_onto-in}
 use Rattle.qh_plane.proofs.polygons.GoesRound.{GoesRound, goes_round}
 use Rattle.qh_plane.proofs.polygons.PlaceHeights.{order, place_code-less, keyed_of}
@@ -21,7 +22,7 @@ use Rattle.qh_plane.proofs.polygons.Stacks.{reverse-turned_onto}
 use Rattle.qh_plane.proofs.polygons.TurnLaws.{RisesBy}
 use Rattle.qh_plane.proofs.polygons.Turns.{IsFlat, IsKeyed, turn_about, height_of}
 use Rattle.qh_plane.specs.declared.place_keys.TheConstants.{ROOM}
-use Rattle.qh_plane.specs.steps.Chains.{turned_onto, joined, chain}
+use Rattle.qh_plane.specs.steps.Chains.{turn_of, turned_onto, joined, chain}
 use Rattle.qh_plane.specs.steps.PlaceKeys.{place_code, key_at, ids_in, HasKey, AreByPlace}
 
 -- ---- rising keys are rising places
@@ -80,11 +81,12 @@ round_keys pts ids (a ∷ b ∷ ks) n t r l m k d flat =
 -- the polygon, before it is turned to its least id
 pub round_sorted : (pts : List Vector) (ids sorted : List ℕ) (n : Vector) → AreByPlace pts ids sorted → All (HasKey pts) ids → IsStrictlyIncreasing ids → HasDistinctPoints (place pts) (λ x. In x ids)
     → 1 < length ids → IsFlat n (place pts) (λ x. In x ids)
-    → GoesRound n (place pts) (λ x. In x ids) (joined (chain (turn_about n (place pts)) [] sorted) (chain (turn_about n (place pts)) [] (reverse sorted)))
+    → GoesRound n (place pts) (λ x. In x ids) (joined (chain (turn_of pts n) [] sorted) (chain (turn_of pts n) [] (reverse sorted)))
 round_sorted pts ids sorted n b k r d l flat =
-    subst (λ v. GoesRound n (place pts) (λ x. In x ids) (joined (chain (turn_about n (place pts)) [] v) (chain (turn_about n (place pts)) [] (reverse v)))) (sym b.is)
+    subst (GoesRound n (place pts) (λ x. In x ids)) (joined-same pts n (λ x. In x ids) sorted flat (sorted-only pts ids sorted b k))
+    (subst (λ v. GoesRound n (place pts) (λ x. In x ids) (joined (chain (turn_about n (place pts)) [] v) (chain (turn_about n (place pts)) [] (reverse v)))) (sym b.is)
     (round_keys pts ids b.keys n (sorted_keys pts ids sorted b k) (rising_keys pts ids sorted b k r) long
-    (λ x. (λ i. sorted-only pts ids sorted b k x (subst (λ v. In x v) (sym b.is) i), λ i. subst (λ v. In x v) b.is (sorted-all pts ids sorted b k x i))) k d flat)
+    (λ x. (λ i. sorted-only pts ids sorted b k x (subst (λ v. In x v) (sym b.is) i), λ i. subst (λ v. In x v) b.is (sorted-all pts ids sorted b k x i))) k d flat))
   where
     long : 1 < length b.keys
     long = let e = length_permutation (map (key_at pts) ids) b.keys b.same in let f = length-map ids (key_at pts) in omega arith

@@ -15,6 +15,7 @@ use Rattle.qh_model.specs.headline.Sets.{In, Members}
 use Rattle.qh_model.specs.headline.Vector.{Vector, origin, minus, cross_product, dot}
 use Rattle.qh_plane.proofs.LinesAndPlanes.{three_line, same_point}
 use Rattle.qh_plane.proofs.polygons.Chain.{is_left-yes, is_left-no}
+use Rattle.qh_plane.proofs.polygons.ComponentTurns.{turns_agree}
 use Rattle.qh_plane.proofs.polygons.Corners.{Corner, corner_extreme}
 use Rattle.qh_plane.proofs.polygons.PlanarIds.{flat_of}
 use Rattle.qh_plane.proofs.polygons.Turns.{IsFlat, left-back, left-there}
@@ -121,7 +122,7 @@ module _ (pts : List Vector) (n : Vector) (i j k : ℕ) (h : IsPlanarSet pts (i 
 
   -- so one order of them is their polygon
   pub triangle_polygon : IsPolygon (place pts) (Extreme (place pts) (Members (i ∷ j ∷ k ∷ []))) n (triangle (turn_of pts n) i j k)
-  triangle_polygon = by_side (is_left (turn_of pts n i j k)) refl
+  triangle_polygon = by_side (is_left (turn_of pts n i j k)) (sym (turns_agree pts n (λ x. In x (i ∷ j ∷ k ∷ [])) flat i j k (inl refl) (inr (inl refl)) (inr (inr (inl refl)))))
     where
       ik : i < k
       ik = omega arith
@@ -144,7 +145,7 @@ module _ (pts : List Vector) (n : Vector) (i j k : ℕ) (h : IsPlanarSet pts (i 
           flipped : (x y : ℤ) → x ≡ neg_ℤ y → y <ℤ pos 0 → pos 0 <ℤ x
           flipped x y e l = omega (arith, ints)
 
-      by_side : (b : Bool) → is_left (turn_of pts n i j k) ≡ b → IsPolygon (place pts) (Extreme (place pts) (Members (i ∷ j ∷ k ∷ []))) n (cond b (i ∷ j ∷ k ∷ []) (i ∷ k ∷ j ∷ []))
+      by_side : (b : Bool) → is_left (left n (place pts i) (place pts j) (place pts k)) ≡ b → IsPolygon (place pts) (Extreme (place pts) (Members (i ∷ j ∷ k ∷ []))) n (cond b (i ∷ j ∷ k ∷ []) (i ∷ k ∷ j ∷ []))
       by_side true e = left_triangle n (place pts) (Members (i ∷ j ∷ k ∷ [])) i j k (λ x. (λ m. m, λ m. m)) ij ik (ne_of_lt jk) (is_left-yes _ e)
       by_side false e = left_triangle n (place pts) (Members (i ∷ j ∷ k ∷ [])) i k j (λ x. (exchanged x, back x)) ik ij (λ q. ne_of_lt jk (sym q))
           (turned _ _ (left-flip n (place pts i) (place pts k) (place pts j)) (is_left-no _ e) turns)

@@ -1,18 +1,18 @@
 -- The chain of a list of ids in order: a stack that turns left at each id. Only private functions speak of it.
 -- Source: Andrew's monotone chain (1979), after Graham's scan.
-use Rattle.std.specs.Prelude.{ℕ, ℤ, pos, negsuc, zero, suc, List, [], ◌∷◌, Bool, true, false, cond, not}
-use Rattle.qh_model.specs.headline.Predicates.{place, left}
+use Rattle.std.specs.Prelude.{ℕ, ℤ, List, [], ◌∷◌, Bool, false, cond, not}
+use Rattle.std.specs.Ordering.{is_gt}
+use Rattle.qh_model.specs.headline.Predicates.{place, cross}
 use Rattle.qh_model.specs.headline.Vector.{Vector}
+use Rattle.qh_pred.specs.contract.Turns.{sign, first_product}
 
--- the turn of three ids about a normal
+-- the turn of three ids about a normal, as one component of the normal tells it
 abbrev pub turn_of : List Vector → Vector → ℕ → ℕ → ℕ → ℤ
-turn_of pts n u v w = left n (place pts u) (place pts v) (place pts w)
+turn_of pts n u v w = first_product n (cross (place pts u) (place pts v) (place pts w))
 
 -- whether a turn is to the left
 abbrev pub is_left : ℤ → Bool
-is_left (pos zero) = false
-is_left (pos (suc n)) = true
-is_left (negsuc n) = false
+is_left turn = is_gt (sign turn)
 
 -- the stack with top t over s, its top first, without the tops at which the way to y does not turn left
 abbrev pub kept_below : (ℕ → ℕ → ℕ → ℤ) → ℕ → ℕ → List ℕ → List ℕ

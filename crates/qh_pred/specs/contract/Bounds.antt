@@ -7,9 +7,10 @@ use Rattle.qh_model.specs.headline.Vector.{Vector}
 abbrev pub difference_limit : ℕ
 difference_limit = 2 * COORDINATE_LIMIT
 
--- the greatest size of a component of a cross product of two differences, by its two products
+-- the greatest size of a component of a cross product of two differences from one point: twice the area of a triangle
+-- in a square of that side
 abbrev pub normal_limit : ℕ
-normal_limit = 2 * (difference_limit * difference_limit)
+normal_limit = difference_limit * difference_limit
 
 -- each component is in the range of a cross product
 pub record IsNormal (v : Vector) : Type 0 where

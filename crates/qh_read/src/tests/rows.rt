@@ -4,7 +4,7 @@ use crate::{ReadFault, read_points};
 
 #[test]
 fn reads_files(rt: HostRuntime) {
-    let rows: [(&str, &[(i32, i32, i32)]); 15] = [
+    let rows: [(&str, &[(i32, i32, i32)]); 18] = [
         ("3\n1\n5 5 5\n", &[(5, 5, 5)]),
         ("3 2\n0 0 0\n2 2 2\n", &[(0, 0, 0), (2, 2, 2)]),
         ("4 3\n0 0 0\n1 0 0\n0 1 0\n0 0 1\n", &TETRAHEDRON),
@@ -13,6 +13,15 @@ fn reads_files(rt: HostRuntime) {
         ("3\n1\n007 +7 7\n", &[(7, 7, 7)]),
         ("3\n1\n-0 +0 000", &[(0, 0, 0)]),
         ("3\n1\n-1048576 1048576 -1\n", &[(-1048576, 1048576, -1)]),
+        ("3\n1\n0 0 1048577\n", &[(0, 0, 1048577)]),
+        (
+            "3\n1\n-1073741824 1073741824 -1\n",
+            &[(-1073741824, 1073741824, -1)],
+        ),
+        (
+            "3\n1\n0001073741823 +1073741824 0\n",
+            &[(1073741823, 1073741824, 0)],
+        ),
         ("3\n1\n1 x7\n2 #7\n3 (7\n", &[(1, 2, 3)]),
         ("3\n1\n1 *5 6\n2 /5\n3 :5\n", &[(1, 2, 3)]),
         ("3\n1\n5 5\r5\n", &[(5, 5, 5)]),
@@ -54,11 +63,17 @@ fn finds_first_faults(rt: HostRuntime) {
         ),
         ("3\n0\n", ReadFault::Count),
         ("3\n1048577\n", ReadFault::Count),
+        ("3\n1073741824\n", ReadFault::Count),
+        ("3\n1073741825\n", ReadFault::Count),
         ("3\n4294967299\n", ReadFault::Count),
         ("0 3\n", ReadFault::Count),
         ("-3 3\n", ReadFault::Count),
-        ("3\n1\n0 0 1048577\n", ReadFault::Range(3)),
-        ("3\n1\n0 -1048577 0\n", ReadFault::Range(3)),
+        ("3\n1\n0 0 1073741825\n", ReadFault::Range(3)),
+        ("3\n1\n0 -1073741825 0\n", ReadFault::Range(3)),
+        ("3\n1\n0 0 2147483649\n", ReadFault::Range(3)),
+        ("3\n1\n0 0 -4294967296\n", ReadFault::Range(3)),
+        ("3\n1\n0 0 10737418240\n", ReadFault::Range(3)),
+        ("3\n1\n0 0 42949672961\n", ReadFault::Range(3)),
         ("3\n1\n0 0 4294967299\n", ReadFault::Range(3)),
         ("3\n1\n0 0 18446744073709551619\n", ReadFault::Range(3)),
         (

@@ -1,16 +1,17 @@
-//! A large cone is searched: no point under it or about it is left to a look at every facet.
+//! A large cone is searched: no point under it or about it is left to a look at every facet, neither of the cone as it
+//! is nor scaled up to coordinates near the limit.
 ghost use Rattle.std.specs.Prelude.{IfOk, length, ◌<◌};
 ghost use Rattle.qh_block.specs.steps.Cones.{AreTriangles};
 
 use crate::quickhull::cone_ring::{ConeRing, Wedge, opposite_of};
 use crate::quickhull::cone_search::Asked;
 use qh_mesh::FacetNo;
-use qh_model::Point;
+use qh_model::{COORDINATE_LIMIT, Point};
 use qh_pred::Plane;
 use std::alloc::{AllocError, Global};
 use std::test::Fail;
 
-const LIMIT: i32 = 1048576;
+const LIMIT: i32 = COORDINATE_LIMIT as i32;
 
 /// The point with these coordinates, kept within the limit.
 pub fn point(x: i32, y: i32, z: i32) -> Point {
@@ -19,6 +20,17 @@ pub fn point(x: i32, y: i32, z: i32) -> Point {
         y.clamp(-LIMIT, LIMIT),
         z.clamp(-LIMIT, LIMIT),
     )
+}
+
+/// The points, with all coordinates so many times as large.
+fn scaled(alloc: Global, points: &[Point], factor: i32) -> Result<Vec<Point>, AllocError> {
+    let mut all = Vec::new(alloc);
+    for p in points {
+        let x = p.x().wrapping_mul(factor);
+        let y = p.y().wrapping_mul(factor);
+        all.push(point(x, y, p.z().wrapping_mul(factor)))?;
+    }
+    Ok(all)
 }
 
 /// The corners (t, t^2) with t from -500 to 500, and on the edge that closes them three more.
@@ -83,22 +95,46 @@ fn orphans(alloc: Global, apex: Point, rim: &[Point]) -> Result<Vec<Point>, Allo
     Ok(points)
 }
 
-#[test]
-fn large_cones_are_searched(rt: HostRuntime) -> Result<(), Fail> {
-    let apex = point(0, 125_000, 1_000_000);
-    let rim = rim(rt.alloc())?;
-    let ring = ring_of(rt.alloc(), apex, rim.as_slice())?;
+/// How many points a facet of the cone sees, how many none sees, and of how many the search does not tell.
+fn told(
+    alloc: Global,
+    apex: Point,
+    rim: &[Point],
+    points: &[Point],
+) -> Result<[u32; 3], AllocError> {
+    let ring = ring_of(alloc, apex, rim)?;
     let (mut seen, mut unseen, mut unknown) = (0u32, 0u32, 0u32);
-    for orphan in &orphans(rt.alloc(), apex, rim.as_slice())? {
-        match ring.asked(*orphan) {
+    for point in points {
+        match ring.asked(*point) {
             Asked::Seen(_) => seen = seen.wrapping_add(1),
             Asked::Unseen => unseen = unseen.wrapping_add(1),
             Asked::Unknown => unknown = unknown.wrapping_add(1),
         }
     }
-    assert_eq!(rt; unknown, 0u32);
+    Ok([seen, unseen, unknown])
+}
+
+#[test]
+fn large_cones_are_searched(rt: HostRuntime) -> Result<(), Fail> {
+    let alloc = rt.alloc();
+    let apex = point(0, 125_000, 1_000_000);
+    let rim = rim(alloc)?;
+    let orphans = orphans(alloc, apex, rim.as_slice())?;
     // Counted by determinants of whole numbers without bound.
-    assert_eq!(rt; seen, 921u32);
-    assert_eq!(rt; unseen, 1163u32);
+    let want = [921u32, 1163, 0];
+    assert_eq!(rt;
+        told(alloc, apex, rim.as_slice(), orphans.as_slice())?,
+        want
+    );
+    let wide_rim = scaled(alloc, rim.as_slice(), 1000)?;
+    let wide_orphans = scaled(alloc, orphans.as_slice(), 1000)?;
+    let wide_apex = point(0, 125_000_000, 1_000_000_000);
+    let wide = told(
+        alloc,
+        wide_apex,
+        wide_rim.as_slice(),
+        wide_orphans.as_slice(),
+    )?;
+    assert_eq!(rt; wide, want);
     Ok(())
 }

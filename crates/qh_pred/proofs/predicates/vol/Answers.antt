@@ -13,4 +13,4 @@ vol_from a b c d n e h k = rw (h, k) refl
 pub returns : goal.returns
 returns c =
     let fits : FitsSigned w128 c.dot.result = search rules in
-    to_z-of_z _ _ fits ∙ c.dot.ensures.value ∙ vol_from _ _ _ _ _ _ c.product.ensures (c.components.ensures ∙ c.between.ensures)
+    to_z-of_z _ _ fits ∙ c.dot.ensures.value ∙ vol_from _ _ _ _ _ _ c.product.ensures (c.components.ensures ∙ c.between.ensures.value)

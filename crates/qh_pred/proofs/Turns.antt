@@ -1,0 +1,64 @@
+-- The sign of a turn in a plane, told by one component of the plane's normal.
+use Rattle.std.proofs.Common.{◌≡◌, ◌≢◌, [], ◌∷◌, refl, ap, sym, ◌∙◌, Bool, true, false, cond}
+use Rattle.std.proofs.lemmas.Int.{by_lt_z}
+use Rattle.std.specs.Cmp.{int_ranks, int_cmp_is, signed_Decides}
+use Rattle.std.specs.Ordering.{MatchOrdering, int_eq}
+use Rattle.std.specs.Prelude.{ℤ, pos, ◌*ℤ◌, ◌<ℤ◌}
+use Rattle.std.specs.declared.cmp.Ordering.{Ordering}
+use Rattle.std.specs.declared.cmp.Ordering.TheVariants.{Less, Equal, Greater}
+use Rattle.qh_model.proofs.algebra.Order.{mul-pos, mul-pos_neg, mul-neg_neg, product_zero, le_less}
+use Rattle.qh_model.proofs.algebra.Ring.{ring}
+use Rattle.qh_model.proofs.algebra.Ring.Expr.{var, mul}
+use Rattle.qh_model.proofs.algebra.VectorIdentities.{vector_path, left-dot, dot_comm}
+use Rattle.qh_model.proofs.extremes.Directions.{Parallel, parallel_normal, square-positive}
+use Rattle.qh_model.specs.headline.Predicates.{cross, left}
+use Rattle.qh_model.specs.headline.Vector.{Vector, origin, dot}
+use Rattle.qh_pred.specs.contract.Turns.{sign, IsAcross, first_product}
+
+-- numbers that are below, at and above 0 together have one sign
+same_sign : (x y : ℤ) → (x <ℤ pos 0 → y <ℤ pos 0) → (x ≡ pos 0 → y ≡ pos 0) → (pos 0 <ℤ x → pos 0 <ℤ y) → sign x ≡ sign y
+same_sign x y f g h = int_cmp_is y (pos 0) (sign x) (told (sign x) (int_ranks x (pos 0)))
+  where
+    told : (r : Ordering) → MatchOrdering r (x <ℤ pos 0) (x ≡ pos 0) (pos 0 <ℤ x) → MatchOrdering r (y <ℤ pos 0) (y ≡ pos 0) (pos 0 <ℤ y)
+    told Less k = f k
+    told Equal k = g k
+    told Greater k = h k
+
+-- a positive factor keeps the sign
+pub sign-mul : (s z : ℤ) → pos 0 <ℤ s → sign z ≡ sign (s *ℤ z)
+sign-mul s z h = same_sign z (s *ℤ z) (λ k. mul-pos_neg s z h k) (λ k. product_zero s z k) (λ k. mul-pos s z h k)
+
+-- a square of another number than 0
+square_above : (x : ℤ) → x ≢ pos 0 → pos 0 <ℤ (x *ℤ x)
+square_above x h = by_lt_z x (pos 0) (λ l. mul-neg_neg x x l l) (λ l. let p = le_less (pos 0) x l (λ e. h (sym e)) in mul-pos x x p p)
+
+-- x and y are components of two parallel vectors, of squares s and with the scalar product t
+component-sign : (s t x y : ℤ) → pos 0 <ℤ s → s *ℤ y ≡ t *ℤ x → x ≢ pos 0 → sign (x *ℤ y) ≡ sign t
+component-sign s t x y h e ne = sign-mul s (x *ℤ y) h ∙ ap sign both ∙ sym (sign-mul (x *ℤ x) t (square_above x ne))
+  where
+    both : s *ℤ (x *ℤ y) ≡ (x *ℤ x) *ℤ t
+    both = ring (s ∷ x ∷ y ∷ []) (mul (var 0) (mul (var 1) (var 2))) (mul (var 1) (mul (var 0) (var 2))) refl
+        ∙ ap (λ v. x *ℤ v) e
+        ∙ ring (t ∷ x ∷ []) (mul (var 1) (mul (var 0) (var 1))) (mul (mul (var 1) (var 1)) (var 0)) refl
+
+-- of parallel vectors the first component of n that is not 0 tells the sign of their scalar product
+first_product-sign : (n c : Vector) → n ≢ origin → Parallel n c → sign (first_product n c) ≡ sign (dot n c)
+first_product-sign n c some along = by_x (int_eq n.x (pos 0)) refl
+  where
+    told : (x y : ℤ) → dot n n *ℤ y ≡ dot n c *ℤ x → x ≢ pos 0 → sign (x *ℤ y) ≡ sign (dot n c)
+    told x y e ne = component-sign (dot n n) (dot n c) x y (square-positive n some) e ne
+
+    differ : (x : ℤ) → int_eq x (pos 0) ≡ false → x ≢ pos 0
+    differ x e z = cc (e, (signed_Decides x (pos 0)).1 z)
+
+    by_y : (b : Bool) → int_eq n.y (pos 0) ≡ b → n.x ≡ pos 0 → sign (cond b (n.z *ℤ c.z) (n.y *ℤ c.y)) ≡ sign (dot n c)
+    by_y true e ex = told n.z c.z along.z (λ ez. some (vector_path n origin ex ((signed_Decides n.y (pos 0)).0 e) ez))
+    by_y false e ex = told n.y c.y along.y (differ n.y e)
+
+    by_x : (b : Bool) → int_eq n.x (pos 0) ≡ b → sign (cond b (cond (int_eq n.y (pos 0)) (n.z *ℤ c.z) (n.y *ℤ c.y)) (n.x *ℤ c.x)) ≡ sign (dot n c)
+    by_x true e = by_y (int_eq n.y (pos 0)) refl ((signed_Decides n.x (pos 0)).0 e)
+    by_x false e = told n.x c.x along.x (differ n.x e)
+
+-- so it tells the sign of a turn in a plane of the normal n
+pub turn_sign : (n u v w : Vector) → IsAcross n u v w → sign (first_product n (cross u v w)) ≡ sign (left n u v w)
+turn_sign n u v w h = first_product-sign n (cross u v w) h.some (parallel_normal n u v w h.to_v h.to_w) ∙ ap sign (dot_comm n (cross u v w) ∙ sym (left-dot n u v w))

@@ -1,0 +1,15 @@
+use Rattle.std.proofs.Common.{◌∙◌, ap, FitsSigned}
+use Rattle.std.proofs.lemmas.Cmp.{int_ranked}
+use Rattle.std.proofs.lemmas.Int.{to_z-of_z}
+use Rattle.std.specs.Prelude.{pos, ◌<ℤ◌}
+use Rattle.qh_pred.specs.contract.Turns.{sign}
+use Rattle.qh_pred.proofs.Turns.{sign-mul}
+use Rattle.qh_pred.proofs.components.product_sign.Goals as goal
+use mir.Syntax.{w64}
+
+pub returns-in-Greater : goal.returns-in-Greater
+returns-in-Greater c =
+    let a_fits : FitsSigned w64 c.args.a = c.ranges.a in
+    let b_fits : FitsSigned w64 c.args.b = c.ranges.b in
+    let positive : pos 0 <ℤ c.args.a = int_ranked c.args.a (pos 0) _ (c.in-Greater.ensures ∙ ap sign (to_z-of_z _ _ a_fits)) in
+    c.cmp-in-Greater.ensures ∙ ap sign (to_z-of_z _ _ b_fits) ∙ sign-mul c.args.a c.args.b positive
