@@ -52,7 +52,7 @@ no_outs found (Help text) h = absurd h
 no_outs found Usage h = λ s g r. h s.outs g.outs
 no_outs found Memory h = tt
 
--- an error of clap: help is what the words ask for; else clap takes them only where memory was refused
+-- an error of clap: help is what the words ask for; else clap refuses them, unless memory was refused
 pub refusal : (app : App) (words : List Text) (e : Error) → IsProgram app → HasKind (fault_of app words) e → (takes app words ≡ true → kind_of e ≡ OutOfMemory)
     → (f : ArgFault) → IsRefusalOf (kind_of e) f → IsArgFaultOf words f
 refusal app words e is kinds passes (Help text) h = (app, is, among kinds)
@@ -60,9 +60,13 @@ refusal app words e is kinds passes (Help text) h = (app, is, among kinds)
     among : HasKind (fault_of app words) e → IsAmong DisplayHelp (fault_of app words)
     among (inl m) = let bad : DisplayHelp ≡ OutOfMemory = sym h ∙ m in cc
     among (inr a) = subst (λ (k : ErrorKind). IsAmong k (fault_of app words)) h a
-refusal app words e is kinds passes Usage h = (app, is, inl (by (takes app words) refl))
+refusal app words e is kinds passes Usage h = (app, is, inl (record { refused = by (takes app words) refl; kind = kind_of e; among = told kinds; other = h.1 }))
   where
     by : (b : Bool) → takes app words ≡ b → takes app words ≡ false
-    by true t = absurd (h (passes t))
+    by true t = absurd (h.0 (passes t))
     by false t = t
+
+    told : HasKind (fault_of app words) e → IsAmong (kind_of e) (fault_of app words)
+    told (inl m) = absurd (h.0 m)
+    told (inr a) = a
 refusal app words e is kinds passes Memory h = tt

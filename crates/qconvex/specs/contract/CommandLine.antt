@@ -1,11 +1,12 @@
 -- The options of the program, as clap reads them.
 -- Source: this project's own, in the words of clap's contracts.
-use Rattle.std.specs.Prelude.{ℕ, ◌≡◌, ◌⊎◌, pos, false, List, [], ◌∷◌, Option, None, Some, codes, map}
+use Rattle.std.specs.Prelude.{ℕ, ◌≡◌, ◌≢◌, ◌⊎◌, pos, false, List, [], ◌∷◌, Option, None, Some, codes, map}
 use Rattle.std.specs.Str.Parse.{IsNumeral, digits_value, without_leading_plus}
 use Rattle.clap.specs.Words.{App, Rule, Text, new_app, new_rule, with_rule, all_of, matches_of, one_of, takes, fault_of, IsAmong}
 use Rattle.clap.specs.declared.builder.action.ArgAction.TheVariants.{Set, Append}
 use Rattle.clap.specs.declared.builder.value_parser.ValueParser.{ValueParser}
 use Rattle.clap.specs.declared.builder.value_parser.ValueParser.TheVariants.{Signed, Names}
+use Rattle.clap.specs.declared.error.kind.ErrorKind.{ErrorKind}
 use Rattle.clap.specs.declared.error.kind.ErrorKind.TheVariants.{DisplayHelp}
 use Rattle.qh_model.specs.declared.limits.TheConstants.{WORKER_LIMIT}
 use Rattle.qh_model.specs.declared.out.Out.{Out}
@@ -74,9 +75,16 @@ pub record AreSettingsIn (app : App) (words : List Text) (s : SettingsValue) : T
 abbrev pub AreSettingsOf : List Text → SettingsValue → Type 0
 AreSettingsOf words s = (app : App) × IsProgram app × AreSettingsIn app words s
 
--- the command does not take the words, or its matches have no settings in range
+-- the command does not take the words, for another cause than that they ask for help
+pub record IsRefused (app : App) (words : List Text) : Type 0 where
+  pub refused : takes app words ≡ false
+  pub kind : ErrorKind
+  pub among : IsAmong kind (fault_of app words)
+  pub other : kind ≢ DisplayHelp
+
+-- the command refuses the words, or its matches have no settings in range
 abbrev pub IsUsageOf : App → List Text → Type 0
-IsUsageOf app words = (takes app words ≡ false) ⊎ ((s : SettingsValue) → AreSettingsIn app words s → ¬ (IsInRange s.workers s.block))
+IsUsageOf app words = IsRefused app words ⊎ ((s : SettingsValue) → AreSettingsIn app words s → ¬ (IsInRange s.workers s.block))
 
 -- why there are no settings: help is what the words ask for; a bad command line; or memory was refused
 abbrev pub IsArgFaultOf : List Text → ArgFault → Type 0

@@ -33,5 +33,5 @@ IsOutsFault words Memory = Unit {0}
 -- what stands for an error of clap
 abbrev pub IsRefusalOf : ErrorKind → ArgFault → Type 0
 IsRefusalOf kind (Help text) = kind ≡ DisplayHelp
-IsRefusalOf kind Usage = kind ≢ OutOfMemory
+IsRefusalOf kind Usage = (kind ≢ OutOfMemory) × (kind ≢ DisplayHelp)
 IsRefusalOf kind Memory = Unit {0}
