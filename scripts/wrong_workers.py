@@ -51,7 +51,8 @@ BODIES = [
 
 def tests_of(top):
     """What the tests of qconvex say: a line for each, and whether all pass."""
-    run = subprocess.run(["rt", "try", "--test"], cwd=top / "crates/qconvex", capture_output=True, text=True)
+    command = ["rt", "try", "--test", "--seconds", "1200"]
+    run = subprocess.run(command, cwd=top / "crates/qconvex", capture_output=True, text=True)
     said = run.stdout + run.stderr
     return said, "test result: ok." in said
 

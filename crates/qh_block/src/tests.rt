@@ -5,6 +5,7 @@ use crate::hull;
 use qh_model::{Body, Id, Point};
 use std::test::Fail;
 
+mod refusals;
 mod solid_rows;
 mod surfaces;
 

@@ -11,6 +11,8 @@ use std::alloc::{AllocError, Global};
 use std::test::Fail;
 use std::thread::Threads;
 
+mod refusals;
+
 /// A regular octahedron and the middles of its edges.
 fn octahedron() -> [Point; 18] {
     [

@@ -12,7 +12,7 @@ use std::thread::Threads;
 const LIMIT: i32 = COORDINATE_LIMIT as i32;
 
 /// The hull of the distinct points of a list that is not too long and not empty, and their extreme ids.
-fn hull_of<R: Threads + Sync>(
+pub(super) fn hull_of<R: Threads + Sync>(
     rt: &R,
     alloc: Global,
     pts: &[Point],
@@ -47,7 +47,7 @@ fn numbers_of(alloc: Global, ids: &[Id]) -> Result<Vec<usize>, AllocError> {
 }
 
 /// The corners of a cube, in rising order of their coordinates.
-fn cube(low: i32, high: i32) -> [Point; 8]
+pub(super) fn cube(low: i32, high: i32) -> [Point; 8]
     requires low { IsCoordinate low }
     requires high { IsCoordinate high }
 {
@@ -60,6 +60,30 @@ fn cube(low: i32, high: i32) -> [Point; 8]
         Point::new(high, low, high),
         Point::new(high, high, low),
         Point::new(high, high, high),
+    ]
+}
+
+/// An octahedron and the middles of its edges.
+pub(super) fn octahedron() -> [Point; 18] {
+    [
+        Point::new(2, 0, 0),
+        Point::new(1, 1, 0),
+        Point::new(0, 2, 0),
+        Point::new(-2, 0, 0),
+        Point::new(-1, -1, 0),
+        Point::new(0, -2, 0),
+        Point::new(0, 0, 2),
+        Point::new(1, 0, 1),
+        Point::new(0, 1, 1),
+        Point::new(0, 0, -2),
+        Point::new(-1, 0, -1),
+        Point::new(0, -1, -1),
+        Point::new(1, -1, 0),
+        Point::new(-1, 1, 0),
+        Point::new(-1, 0, 1),
+        Point::new(1, 0, -1),
+        Point::new(0, -1, 1),
+        Point::new(0, 1, -1),
     ]
 }
 
@@ -227,26 +251,7 @@ fn lattice_of_27(rt: HostRuntime) -> Result<(), Fail> {
 #[test]
 fn octahedron_with_midpoints(rt: HostRuntime) -> Result<(), Fail> {
     let alloc = rt.alloc();
-    let pts = [
-        Point::new(2, 0, 0),
-        Point::new(1, 1, 0),
-        Point::new(0, 2, 0),
-        Point::new(-2, 0, 0),
-        Point::new(-1, -1, 0),
-        Point::new(0, -2, 0),
-        Point::new(0, 0, 2),
-        Point::new(1, 0, 1),
-        Point::new(0, 1, 1),
-        Point::new(0, 0, -2),
-        Point::new(-1, 0, -1),
-        Point::new(0, -1, -1),
-        Point::new(1, -1, 0),
-        Point::new(-1, 1, 0),
-        Point::new(-1, 0, 1),
-        Point::new(1, 0, -1),
-        Point::new(0, -1, 1),
-        Point::new(0, 1, -1),
-    ];
+    let pts = octahedron();
     let rows = hull_of(&rt, alloc, &pts).expect(&rt, "memory");
     let (body, corners) = rows.expect(&rt, "some points");
     let faces = faces_of(alloc, &body).expect(&rt, "memory");

@@ -81,7 +81,7 @@ pub fn solid_surface<R: Threads + Sync>(
 }
 
 /// The triangles of a mesh.
-fn triangles(alloc: Global, mesh: &Mesh) -> Result<Vec<Triangle>, AllocError> {
+pub fn triangles(alloc: Global, mesh: &Mesh) -> Result<Vec<Triangle>, AllocError> {
     let mut triangles = Vec::new(alloc);
     for f in mesh.live() {
         let [a, b, c] = mesh.facet(f);
@@ -136,7 +136,11 @@ fn corner_count(alloc: Global, triangles: &[Triangle]) -> Result<usize, AllocErr
 }
 
 /// Whether the triangles close up, support all points, and are 2 V - 4, as on a sphere.
-fn is_surface(alloc: Global, pts: &[Point], triangles: &[Triangle]) -> Result<bool, AllocError> {
+pub fn is_surface(
+    alloc: Global,
+    pts: &[Point],
+    triangles: &[Triangle],
+) -> Result<bool, AllocError> {
     let corners = corner_count(alloc, triangles)?;
     Ok(
         closes(alloc, triangles)?

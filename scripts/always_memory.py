@@ -1,0 +1,97 @@
+#!/usr/bin/env python3
+"""Plants a body of `answer` that always wants memory, and shows that each row that calls it fails.
+
+    scripts/always_memory.py        from the top of the repository
+
+No clause can tell that a growth was refused, so but for inputs that are too long the contract lets this body through.
+A test ends at its first row that fails, so the script turns the rows round: in a copy of the repository each comparison
+of what `answer` gave with what it should give asks for a difference. There the tests run with no proof, and all must
+pass. A test that fails names a row that a program passes which always wants memory. Only the rows that ask for want of
+memory stay as they are: those of the gate that takes no hull.
+
+It prints how many comparisons it turned round in each file. The status is 1 if such a row was found.
+"""
+import re
+import shutil
+import subprocess
+import sys
+import tempfile
+from pathlib import Path
+
+CRATE = "crates/qconvex"
+ANSWER = f"{CRATE}/src/answer.rt"
+RIGHT_BODY = """{
+    let points = read_points(alloc, input)?;
+    let text = text_of(rt, alloc, &points, settings, gate)?;
+    Ok(text)
+}
+"""
+PLANTED_BODY = "{\n    Err(Fault::from(Memory))\n}\n"
+# The longest input. The planted body does not look at it, so a short one serves as well.
+LONGEST, SHORT = "const TOO_MANY: usize = 268435457;", "const TOO_MANY: usize = 1000;"
+
+# The comparisons, and what stands for each. A name before a dot is one that the tests give to an outcome of `answer`.
+TURNED = [
+    (r'assert_eq!(\(rt;\s*(?:answered|longer)\.(?!error\.as_str\(\),\s*"qconvex: 8: Memory"))', r"assert_ne!\1"),
+    (r"assert!\(rt; ((?:want|outcome)\.output\.starts_with\()", r"assert!(rt; !\1"),
+    (r'assert!\(rt; (gate\.came_in_time\(\), "answer)', r"assert!(rt; !\1"),
+    (r"assert!\(rt; (text\.is_ok_and\()", r"assert!(rt; !\1"),
+    (r"if !(answers\()", r"if \1"),
+]
+# The line that tells how a test ended.
+ENDS = re.compile(r"^test (\S+) \.\.\. (\w+)$", re.MULTILINE)
+
+
+def replace_once(path, old, new):
+    text = path.read_text()
+    if text.count(old) != 1:
+        sys.exit(f"{path}: not once: {old!r}")
+    path.write_text(text.replace(old, new))
+
+
+def turn_round(path):
+    """Turns the comparisons of a file round, and answers how many there were."""
+    text, count = path.read_text(), 0
+    for old, new in TURNED:
+        text, found = re.subn(old, new, text)
+        count += found
+    path.write_text(text)
+    return count
+
+
+def plant(top):
+    """Plants the body and turns the rows round in a copy, and answers how many comparisons there were."""
+    shutil.copytree("crates", top / "crates", symlinks=True, ignore=shutil.ignore_patterns("out"))
+    for name in ["crates.txt", "HANDLES"]:
+        shutil.copy(name, top / name)
+    replace_once(top / ANSWER, RIGHT_BODY, PLANTED_BODY)
+    replace_once(top / CRATE / "src/tests/limits.rt", LONGEST, SHORT)
+    total = 0
+    for path in sorted((top / CRATE / "src/tests").glob("*.rt")):
+        count = turn_round(path)
+        total += count
+        if count:
+            print(f"{path.name}: {count} comparisons turned round")
+    return total
+
+
+def main():
+    with tempfile.TemporaryDirectory() as folder:
+        top = Path(folder)
+        total = plant(top)
+        command = ["rt", "try", "--test", "--seconds", "600"]
+        run = subprocess.run(command, cwd=top / CRATE, capture_output=True, text=True)
+    said = run.stdout + run.stderr
+    ends = ENDS.findall(said)
+    if not ends:
+        sys.exit(f"no test was run:\n{said[-2000:]}")
+    passing = [name for name, end in ends if end != "ok"]
+    if passing:
+        print("WRONG: rows of these tests pass where `answer` always wants memory:", *passing, said, sep="\n    ")
+    else:
+        print(f"ok: where `answer` always wants memory, none of {total} comparisons with what it should give holds")
+    sys.exit(1 if passing else 0)
+
+
+if __name__ == "__main__":
+    main()
