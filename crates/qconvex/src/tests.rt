@@ -4,6 +4,7 @@ mod command_lines;
 mod devices;
 mod faults;
 mod gated;
+mod near_flat_sets;
 mod paraboloid;
 mod programs;
 mod ranks;
