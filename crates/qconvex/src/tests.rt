@@ -6,6 +6,7 @@ mod faults;
 mod gated;
 mod hostile;
 mod limits;
+mod near_flat_sets;
 mod paraboloid;
 mod programs;
 mod ranks;

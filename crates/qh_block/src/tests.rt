@@ -2,6 +2,7 @@
 ghost use Rattle.std.specs.Prelude.{◌≡◌, [], ◌∷◌};
 
 use crate::hull;
+use crate::tests::surfaces::point;
 use qh_model::{Body, Id, Point};
 use std::test::Fail;
 
@@ -85,11 +86,32 @@ fn square_with_centre(rt: HostRuntime) -> Result<(), Fail> {
     Ok(())
 }
 
+/// Four points, with all coordinates so many times as large.
+fn scaled(pts: [Point; 4], factor: i32) -> [Point; 4] {
+    let [a, b, c, d] = pts;
+    [
+        times(a, factor),
+        times(b, factor),
+        times(c, factor),
+        times(d, factor),
+    ]
+}
+
+/// The point with all coordinates so many times as large, kept within the limit.
+fn times(p: Point, factor: i32) -> Point {
+    point(
+        p.x().wrapping_mul(factor),
+        p.y().wrapping_mul(factor),
+        p.z().wrapping_mul(factor),
+    )
+}
+
 #[test]
 fn squares(rt: HostRuntime) -> Result<(), Fail> {
     let rising = four_ids();
     let falling = [Id::new(0), Id::new(3), Id::new(2), Id::new(1)];
-    // A square at x = 5, then squares of which the normals have each pattern of signs.
+    // A square at x = 5, then squares of which the normals have each pattern of signs: as they are, and scaled up to
+    // 2^20 and to 2^30.
     let rows = [
         (
             [
@@ -166,11 +188,14 @@ fn squares(rt: HostRuntime) -> Result<(), Fail> {
         ),
     ];
     for (pts, polygon) in rows {
-        let ids = four_ids();
-        let body = hull(rt.alloc(), &pts, &ids).expect(&rt, "memory");
-        assert_eq!(rt; body.extremes.as_slice(), ids.as_slice());
-        assert_eq!(rt; only_polygon(&body), polygon.as_slice());
-        assert_eq!(rt; body.edges, 4u64);
+        for factor in [1, 262144, 268435456] {
+            let wide = scaled(pts, factor);
+            let ids = four_ids();
+            let body = hull(rt.alloc(), &wide, &ids).expect(&rt, "memory");
+            assert_eq!(rt; body.extremes.as_slice(), ids.as_slice());
+            assert_eq!(rt; only_polygon(&body), polygon.as_slice());
+            assert_eq!(rt; body.edges, 4u64);
+        }
     }
     Ok(())
 }

@@ -4,7 +4,7 @@ use qh_read::ReadFault;
 use std::test::Fail;
 
 /// Inputs and the fault line that each gets, with status 1 and nothing on standard output.
-const FAULTS: [(&str, &str); 33] = [
+const FAULTS: [(&str, &str); 35] = [
     ("3\n4\n0 0 0\n1 0 0\n0 1 0\n0 0\n", "qconvex: 7: Short"),
     (
         "3\n4\n0 0 0\n1 0 0\n0 1 0\n0 0 1\n7\n",
@@ -14,7 +14,8 @@ const FAULTS: [(&str, &str); 33] = [
         "3\n2\n0 0 0 2nd\n1 1 1\n",
         "qconvex: 2: BadNumber at line 3",
     ),
-    ("3\n1\n0 0 1048577\n", "qconvex: 5: Range at line 3"),
+    ("3\n1\n0 0 1073741825\n", "qconvex: 5: Range at line 3"),
+    ("3\n1\n0 -1073741825 0\n", "qconvex: 5: Range at line 3"),
     ("3\n1\n0 0.5 0\n", "qconvex: 2: BadNumber at line 3"),
     ("3\n1\n- 0 0\n", "qconvex: 2: BadNumber at line 3"),
     ("3\n0\n", "qconvex: 4: Count"),
@@ -43,6 +44,7 @@ const FAULTS: [(&str, &str); 33] = [
     ("4294967299\n4\n", "qconvex: 3: NotThree"),
     ("18446744073709551619\n4\n", "qconvex: 3: NotThree"),
     ("3\n1\n0 0 4294967299\n", "qconvex: 5: Range at line 3"),
+    ("3\n1\n0 0 42949672961\n", "qconvex: 5: Range at line 3"),
     (
         "3\n1\n0 0 18446744073709551619\n",
         "qconvex: 5: Range at line 3",

@@ -6,7 +6,7 @@ const ONE_POINT: &str = "3\n1\n5 5 5\n";
 const FIVE_IN_LINE: &str = "3\n5\n1 1 1\n0 0 0\n4 4 4\n2 2 2\n3 3 3\n";
 
 /// A command line, an input and the text that it answers, for points in one plane.
-const ROWS: [(&str, &str, &str); 12] = [
+const ROWS: [(&str, &str, &str); 13] = [
     (
         "rank Fx off rank",
         ONE_POINT,
@@ -60,6 +60,11 @@ const ROWS: [(&str, &str, &str); 12] = [
         "off",
         "3\n2\n-1048576 1048576 0\n1048576 -1048576 0\n",
         "OFF\n2 1 1\n-1048576 1048576 0\n1048576 -1048576 0\n2 0 1\n",
+    ),
+    (
+        "off",
+        "3\n2\n-1073741824 1073741824 0\n1073741824 -1073741824 0\n",
+        "OFF\n2 1 1\n-1073741824 1073741824 0\n1073741824 -1073741824 0\n2 0 1\n",
     ),
 ];
 

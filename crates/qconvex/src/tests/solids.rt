@@ -22,11 +22,17 @@ const LATTICE: &str =
 const LATTICE_OFF: &str =
     "OFF\n8 6 12\n0 0 0\n0 0 2\n0 2 0\n0 2 2\n2 0 0\n2 0 2\n2 2 0\n2 2 2\n4 0 1 3 2\n4 0 2 6 4\n4 0 4 5 1\n4 1 5 7 3\n4 2 3 7 6\n4 4 6 7 5\n";
 
-const LIMIT_CUBE: &str =
+const WIDE_CUBE: &str =
     "3\n8\n-1048576 -1048576 -1048576\n-1048576 -1048576 1048576\n-1048576 1048576 -1048576\n-1048576 1048576 1048576\n1048576 -1048576 -1048576\n1048576 -1048576 1048576\n1048576 1048576 -1048576\n1048576 1048576 1048576\n";
 
-const LIMIT_CUBE_OFF: &str =
+const WIDE_CUBE_OFF: &str =
     "OFF\n8 6 12\n-1048576 -1048576 -1048576\n-1048576 -1048576 1048576\n-1048576 1048576 -1048576\n-1048576 1048576 1048576\n1048576 -1048576 -1048576\n1048576 -1048576 1048576\n1048576 1048576 -1048576\n1048576 1048576 1048576\n4 0 1 3 2\n4 0 2 6 4\n4 0 4 5 1\n4 1 5 7 3\n4 2 3 7 6\n4 4 6 7 5\n";
+
+const LIMIT_CUBE: &str =
+    "3\n8\n-1073741824 -1073741824 -1073741824\n-1073741824 -1073741824 1073741824\n-1073741824 1073741824 -1073741824\n-1073741824 1073741824 1073741824\n1073741824 -1073741824 -1073741824\n1073741824 -1073741824 1073741824\n1073741824 1073741824 -1073741824\n1073741824 1073741824 1073741824\n";
+
+const LIMIT_CUBE_OFF: &str =
+    "OFF\n8 6 12\n-1073741824 -1073741824 -1073741824\n-1073741824 -1073741824 1073741824\n-1073741824 1073741824 -1073741824\n-1073741824 1073741824 1073741824\n1073741824 -1073741824 -1073741824\n1073741824 -1073741824 1073741824\n1073741824 1073741824 -1073741824\n1073741824 1073741824 1073741824\n4 0 1 3 2\n4 0 2 6 4\n4 0 4 5 1\n4 1 5 7 3\n4 2 3 7 6\n4 4 6 7 5\n";
 
 /// An octahedron and the middles of its edges.
 pub(super) const OCTAHEDRON: &str =
@@ -38,14 +44,34 @@ pub(super) const OCTAHEDRON_OFF: &str =
 const OCTAHEDRON_SUMMARY: &str =
     "Convex hull of 18 points in 3-d:\n  dimension: 3\n  distinct points: 18\n  extreme points: 6\n  facets: 8\n  edges: 12\n";
 
-/// Four points at the limit of the coordinates of which the volume is -1.
+/// Four points far apart, with coordinates to 2^20, of which the volume is -1.
 const NEAR_FLAT: &str = "3\n4\n0 0 0\n1048576 1048575 0\n1048575 1048574 0\n1048576 1048576 1\n";
 
 const NEAR_FLAT_OFF: &str =
     "OFF\n4 4 6\n0 0 0\n1048576 1048575 0\n1048575 1048574 0\n1048576 1048576 1\n3 0 1 2\n3 0 2 3\n3 0 3 1\n3 1 3 2\n";
 
+/// Four points far apart, with coordinates to the limit, of which the volume is -1.
+const LIMIT_NEAR_FLAT: &str =
+    "3\n4\n0 0 0\n1073741824 1073741823 0\n1073741823 1073741822 0\n1073741824 1073741824 1\n";
+
+const LIMIT_NEAR_FLAT_OFF: &str =
+    "OFF\n4 4 6\n0 0 0\n1073741824 1073741823 0\n1073741823 1073741822 0\n1073741824 1073741824 1\n3 0 1 2\n3 0 2 3\n3 0 3 1\n3 1 3 2\n";
+
+/// Four points of which the last is one lattice step over the middle of the others. The volume is 9.
+const SLIVER: &str = "3\n4\n0 0 0\n900000 899997 0\n0 900000 899997\n300001 600001 300000\n";
+
+const SLIVER_OFF: &str =
+    "OFF\n4 4 6\n0 0 0\n900000 899997 0\n0 900000 899997\n300001 600001 300000\n3 0 1 3\n3 0 2 1\n3 0 3 2\n3 1 2 3\n";
+
+/// The same with coordinates to the limit.
+const LIMIT_SLIVER: &str =
+    "3\n4\n0 0 0\n1073741823 1073741820 0\n0 1073741823 1073741820\n357913942 715827883 357913941\n";
+
+const LIMIT_SLIVER_OFF: &str =
+    "OFF\n4 4 6\n0 0 0\n1073741823 1073741820 0\n0 1073741823 1073741820\n357913942 715827883 357913941\n3 0 1 3\n3 0 2 1\n3 0 3 2\n3 1 2 3\n";
+
 /// A command line, an input and the text that it answers.
-const ROWS: [(&str, &str, &str); 19] = [
+const ROWS: [(&str, &str, &str); 23] = [
     ("off", TETRAHEDRON, TETRAHEDRON_OFF),
     ("off", "4 3\n0 0 0\n1 0 0\n0 1 0\n0 0 1\n", TETRAHEDRON_OFF),
     (
@@ -65,6 +91,7 @@ const ROWS: [(&str, &str, &str); 19] = [
     ("off", LATTICE, LATTICE_OFF),
     ("--block 1 --workers 64 off", LATTICE, LATTICE_OFF),
     ("--block 7 --workers 3 off", LATTICE, LATTICE_OFF),
+    ("off", WIDE_CUBE, WIDE_CUBE_OFF),
     ("off", LIMIT_CUBE, LIMIT_CUBE_OFF),
     ("off", OCTAHEDRON, OCTAHEDRON_OFF),
     ("--block 3 off", OCTAHEDRON, OCTAHEDRON_OFF),
@@ -75,6 +102,9 @@ const ROWS: [(&str, &str, &str); 19] = [
     ),
     ("s", OCTAHEDRON, OCTAHEDRON_SUMMARY),
     ("off", NEAR_FLAT, NEAR_FLAT_OFF),
+    ("off", LIMIT_NEAR_FLAT, LIMIT_NEAR_FLAT_OFF),
+    ("off", SLIVER, SLIVER_OFF),
+    ("off", LIMIT_SLIVER, LIMIT_SLIVER_OFF),
     // One point three times, and three others: the lowest index of the three stands.
     (
         "rank Fx",

@@ -22,6 +22,9 @@ pub struct Celled {
 /// The bits of a place along one axis. Three of them fit a cell's number.
 const PLACE_BITS: u32 = 21;
 
+/// A place leaves out no more bits than this.
+const MOST_LEFT_OUT: u32 = 12;
+
 /// The lowest 21 bits of a number, each with two zeros before it.
 fn spread(number: u64) -> u64 {
     let halves = (number | number << 32) & 0x001f_0000_0000_ffff;
@@ -33,7 +36,7 @@ fn spread(number: u64) -> u64 {
 
 /// How many of the lowest bits of coordinates up to a size a place leaves out: none where all bits fit.
 fn bits_left_out(size: u32) -> u32
-    ensures { result ≤ 12 }
+    ensures { result ≤ MOST_LEFT_OUT }
 {
     let bits = u32::BITS - size.saturating_sub(1).leading_zeros();
     bits.saturating_sub(PLACE_BITS - 1)
@@ -41,7 +44,7 @@ fn bits_left_out(size: u32) -> u32
 
 /// The place of a coordinate along its axis, from 0. The greatest has the last place, with the one below it.
 fn place_along(coordinate: i32, left_out: u32) -> u64
-    requires { left_out ≤ 12 }
+    requires { left_out ≤ MOST_LEFT_OUT }
 {
     let middle = 1i64 << (PLACE_BITS - 1);
     let place = (i64::from(coordinate) >> left_out) + middle;
@@ -50,7 +53,7 @@ fn place_along(coordinate: i32, left_out: u32) -> u64
 
 /// The number of a point's cell: the bits of its places, taken in turn.
 fn cell_of(point: Point, left_out: u32) -> u64
-    requires { left_out ≤ 12 }
+    requires { left_out ≤ MOST_LEFT_OUT }
 {
     let x = spread(place_along(point.x(), left_out));
     let y = spread(place_along(point.y(), left_out));

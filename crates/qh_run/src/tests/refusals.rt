@@ -1,7 +1,7 @@
 //! Runs of which one growth is refused: the hull is right, or memory was wanted and the same call gives
 //! it. A worker whose growth is refused gives up. `scripts/refusals.py` refuses each growth in turn.
 ghost use Rattle.std.specs.Prelude.{◌<◌, ◌≤◌};
-ghost use Rattle.qh_model.specs.DistinctIds.{AreDistinctIds};
+ghost use Rattle.qh_model.specs.headline.DistinctIds.{AreDistinctIds};
 
 use super::{OCTAHEDRON_HULL, hull_by, job, numbers_of, octahedron, worked_by_one};
 use crate::RunError;
