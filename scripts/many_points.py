@@ -19,6 +19,7 @@ If a round takes away fewer than one point in a hundred, what is left is given t
 it takes, there is no answer: the hull has then very many corners. The status is 0, or 1 with a line that says what was wrong.
 """
 import argparse
+import re
 import shlex
 import subprocess
 import sys
@@ -28,9 +29,12 @@ from itertools import islice
 from queue import Queue
 
 from limits import POINT_LIMIT, PROGRAM
-from point_files import DATA_WORD, WORD
 
 OUTPUTS = ["Fx", "off"]
+# A data word begins with one of these bytes; any other word begins a comment.
+DATA_WORD_STARTS = b"0123456789+-."
+# Where the program tells the line of a part: two lines of header, then a point a line.
+AT_LINE = re.compile(r" at line (\d+)$")
 
 
 class Refused(Exception):
@@ -40,18 +44,13 @@ class Refused(Exception):
 # Reading.
 
 
-def data_words(line):
-    """The words of a line before its comment."""
-    for found in WORD.finditer(line):
-        if not DATA_WORD.match(found.group()):
-            return
-        yield found.group()
-
-
 def words_of(source):
-    """The data words of a stream."""
+    """The data words of a stream: of each line those before its comment."""
     for line in source:
-        yield from data_words(line)
+        for word in line.split():
+            if word[0] not in DATA_WORD_STARTS:
+                break
+            yield word
 
 
 def count_of(words):
@@ -87,6 +86,15 @@ def parts_of(points, size):
 # Working.
 
 
+def refusal(part, command, done):
+    """Why a command failed, with the point that it means where it tells a line."""
+    why = done.stderr.decode(errors="replace").strip() or f"status {done.returncode}"
+    line = AT_LINE.search(why)
+    first, last = part[0][0], part[-1][0]
+    where = f"point {part[int(line.group(1)) - 3][0]}" if line else f"points {first} to {last}"
+    return Refused(f"{where}: {command}: {AT_LINE.sub('', why)}")
+
+
 class Workers:
     """Commands that take parts as they are free."""
 
@@ -105,8 +113,7 @@ class Workers:
         finally:
             self.free.put(command)
         if done.returncode:
-            why = done.stderr.decode(errors="replace").strip()
-            raise Refused(f"points {part[0][0]} to {part[-1][0]}: {command} {output}: {why or done.returncode}")
+            raise refusal(part, command, done)
         return done.stdout
 
     def extremes(self, part):
