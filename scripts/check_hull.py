@@ -23,7 +23,7 @@ from collections import defaultdict
 from off_files import read_off_file
 from point_boxes import Box
 from point_files import points_of_file
-from vectors import cross, dot, lowest_terms, minus, polygon_normal, times, triangle_normal
+from vectors import cross, dot, lowest_terms, minus, polygon_normal, triangle_normal
 
 
 class Wrong(Exception):
@@ -53,6 +53,7 @@ class Checker:
             self.number.setdefault(point, number)
         self.ways = span(list(self.number))
         self.box = Box(list(self.number))
+        self.total = tuple(sum(point[axis] for point in self.number) for axis in range(3))
 
     def named(self, point):
         """A point as a message names it."""
@@ -103,10 +104,10 @@ class Checker:
         if outside is not None:
             raise Wrong(f"face {place}: {self.named(outside)} lies outside its plane")
 
-    def is_inward(self, polygon, normal):
-        """Whether all points lie on or above a face, and some above."""
-        offset = dot(normal, polygon[0])
-        return self.box.above(normal, offset) is not None and self.box.above(times(-1, normal), -offset) is None
+    def is_inward(self, polygon):
+        """Whether the middle of all points lies above a face."""
+        normal = polygon_normal(polygon)
+        return dot(normal, self.total) > len(self.number) * dot(normal, polygon[0])
 
     def pair_sides(self, polygons):
         """The sides that no face runs along the other way, each with its face; no side may be run along twice."""
@@ -132,11 +133,11 @@ class Checker:
 
 
 def outward(checker, polygons, unoriented):
-    """The faces turned outward, where all of them point inward or any may; and whether they were turned."""
-    turned = [checker.is_inward(polygon, polygon_normal(polygon)) for polygon in polygons[: None if unoriented else 1]]
+    """The faces turned outward, where most of them point inward or any may; and whether they were turned."""
+    inward = [checker.is_inward(polygon) for polygon in polygons]
     if not unoriented:
-        turned *= len(polygons)
-    return [polygon[::-1] if turn else polygon for polygon, turn in zip(polygons, turned)], any(turned)
+        inward = [2 * sum(inward) > len(inward)] * len(polygons)
+    return [polygon[::-1] if turn else polygon for polygon, turn in zip(polygons, inward)], any(inward)
 
 
 def normals_of(checker, polygons):

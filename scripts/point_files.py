@@ -103,10 +103,29 @@ def triples(numbers):
     return list(zip(numbers[0::3], numbers[1::3], numbers[2::3]))
 
 
+def plain_points(data):
+    """The points of a file that has nothing but right numbers after its first two lines; None for any other."""
+    head, _, rest = data.partition(b"\n")
+    second, _, rest = rest.partition(b"\n")
+    words, _ = words_and_comments(head + b"\n" + second)
+    if len(words) != 2 or header_fault(words) or b"_" in rest:
+        return None
+    try:
+        numbers = list(map(int, rest.split()))
+    except ValueError:
+        return None
+    in_range = numbers and -COORDINATE_LIMIT <= min(numbers) and max(numbers) <= COORDINATE_LIMIT
+    return triples(numbers) if in_range and len(numbers) == 3 * count_of(words) else None
+
+
 def points_of_file(path):
     """The points of a file; a file that has a fault ends the script."""
     with open(path, "rb") as source:
-        reading = read(source.read())
+        data = source.read()
+    points = plain_points(data)
+    if points is not None:
+        return points
+    reading = read(data)
     if reading.fault:
         sys.exit(f"{path}: {message(reading.fault)}; scripts/explain.py {path} shows where")
     return triples(reading.numbers)
