@@ -145,8 +145,10 @@ def normals_of(checker, polygons):
     normals = []
     for place, polygon in enumerate(polygons):
         normals.append(lowest_terms(polygon_normal(polygon)))
-        if len(polygon) < 3 or not any(normals[-1]):
+        if len(span(polygon)) < 2:
             raise Wrong(f"face {place} has no plane: its corners {', '.join(map(checker.named, polygon))} are in line")
+        if not any(normals[-1]):
+            raise Wrong(f"face {place} is no convex polygon: its sides cross")
     return normals
 
 

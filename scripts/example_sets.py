@@ -12,6 +12,7 @@
     ball            the 113,081 lattice points of a ball of radius 30
     ball7           the 1,419 lattice points of a ball of radius 7
     knot            a tube along the trefoil knot, as an OBJ mesh in decimals
+    dodecahedron    the regular dodecahedron's corners, as an OFF mesh in decimals
 
 The slanted sets stand on three vectors whose determinant is 1: u = (M, M-1, 0), v = (0, M, M-1), w = (1, 2, 1). So they
 make the whole lattice, but u and v are long and the lattice steps from plane to plane along them are tiny.
@@ -120,16 +121,28 @@ def knot_text():
     return "".join(f"{line}\n" for line in lines)
 
 
+def dodecahedron_text():
+    """The corners of the regular dodecahedron with five digits, as an OFF text without faces."""
+    golden, signs = (1 + math.sqrt(5)) / 2, (-1.0, 1.0)
+    points = [(x, y, z) for x in signs for y in signs for z in signs]
+    for short in (-1 / golden, 1 / golden):
+        for long in (-golden, golden):
+            points += [(0.0, short, long), (short, long, 0.0), (long, 0.0, short)]
+    rows = "".join("%.5f %.5f %.5f\n" % point for point in points)
+    return f"OFF\n{len(points)} 0 0\n{rows}"
+
+
+MESHES = {"knot": knot_text, "dodecahedron": dodecahedron_text}
 SETS = {"sliver4": sliver4, "roof5": roof5, "bowl122": bowl122, "basis": basis, "octahedron": octahedron, "reeve": reeve}
 SETS |= {"ball": lambda: ball(30), "ball7": lambda: ball(7)}
 
 
 def main():
-    if len(sys.argv) != 2 or sys.argv[1] not in {*SETS, "knot"}:
+    if len(sys.argv) != 2 or sys.argv[1] not in {*SETS, *MESHES}:
         print(__doc__)
         sys.exit(0 if sys.argv[1:] in (["--help"], ["-h"]) else 2)
     name = sys.argv[1]
-    sys.stdout.write(knot_text() if name == "knot" else text_of(SETS[name](), name))
+    sys.stdout.write(MESHES[name]() if name in MESHES else text_of(SETS[name](), name))
 
 
 if __name__ == "__main__":
