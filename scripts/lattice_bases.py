@@ -25,6 +25,7 @@ from example_sets import ball
 from limits import COORDINATE_LIMIT, PROGRAM, TOP
 from off_files import Malformed, read_off
 from point_files import text_of
+from points_of_mesh import Map, vertices_of_mesh, whole_point
 from vectors import dot
 
 sys.path.insert(0, os.path.join(TOP, "bench"))
@@ -96,6 +97,13 @@ def grids():
     return [[(x, y, z) for x in range(a) for y in range(b) for z in range(c)] for a, b, c in sides]
 
 
+def meshes():
+    """The mesh of examples/ on grids of several widths."""
+    vertices, centre = vertices_of_mesh(os.path.join(TOP, "examples", "knot.obj")), (0, 0, 0)
+    scales = [10, 100, 1_000, 10_000, 100_000]
+    return [[whole_point(vertex, Map(scale, centre)) for vertex in vertices] for scale in scales]
+
+
 def ordinary(options):
     """The rows of ordinary sets."""
     print("| Sets | number | Qhull wrong | Qhull refused | this program right |")
@@ -105,6 +113,7 @@ def ordinary(options):
         sets = [FAMILIES[name](random.Random(options.seed), count) for count in counts]
         print(row(f"{name}, {counts[0]} to {counts[-1]} points", *counted(sets)), flush=True)
     print(row("boxes of a grid", *counted(grids())), flush=True)
+    print(row("a mesh at five scales", *counted(meshes())), flush=True)
 
 
 def arguments():

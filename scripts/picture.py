@@ -9,8 +9,8 @@ picture has a view box, so it can be shown at any size, and colours for a light 
 
     crates/qconvex/out/qconvex off < examples/unit-cube.txt | scripts/picture.py > cube.svg
 
-With --points the points that lie outside the drawn faces, which a right hull has none of, are drawn as red dots.
-With --mesh the faces of an OBJ mesh in the same units are drawn within. Faces that run clockwise, as Qhull's do, are turned.
+Of several hulls, the corners that the first has and another lacks are drawn in the other as red dots. With --mesh the faces of
+an OBJ mesh in the same units are drawn within. Faces that run clockwise, as Qhull's do, are turned.
 """
 import argparse
 import functools
@@ -19,7 +19,6 @@ import sys
 from collections import namedtuple
 
 from off_files import read_off_file
-from point_files import points_of_file
 from vectors import cross, dot, minus, plus, polygon_normal, times
 
 SIZE = 240
@@ -34,17 +33,17 @@ STYLE = """
 .mesh { stroke: #8a4a22; stroke-width: 0.3 }
 .veil { stroke: none; fill-opacity: 0.3 }
 .corner { fill: #1d3b5c }
-.outside { fill: #d22 }
+.lost { fill: #d22 }
 .title { fill: #1d3b5c; font: 13px sans-serif; text-anchor: middle }
 @media (prefers-color-scheme: dark) {
 .edge { stroke: #dce9f7 } .hidden { stroke: #7f93a9 } .corner { fill: #dce9f7 }
-.outside { fill: #ff6a5a } .title { fill: #dce9f7 }
+.lost { fill: #ff6a5a } .title { fill: #dce9f7 }
 }"""
 
 # Directions at right angles: to the right, up, and towards the eye; right x up = eye, so nothing is mirrored.
 View = namedtuple("View", "right up eye")
-# What is drawn side by side: its faces, the points that lie outside, and its title.
-Panel = namedtuple("Panel", "points faces outside title")
+# What is drawn side by side: its corners and faces, the corners that it lacks, and its title.
+Panel = namedtuple("Panel", "points faces lost title")
 
 
 def unit(vector):
@@ -91,12 +90,6 @@ def outward(points, faces):
     return [face[::-1] for face in faces] if inward else faces
 
 
-def outside_points(points, faces, given):
-    """The given points that lie outside a face."""
-    planes = [(polygon_normal([points[corner] for corner in face]), points[face[0]]) for face in faces]
-    return [point for point in given if any(dot(normal, minus(point, corner)) > 0 for normal, corner in planes)]
-
-
 def used(hull):
     """The points that faces name, and the faces by their places among these."""
     corners = sorted({corner for face in hull.faces for corner in face})
@@ -104,11 +97,14 @@ def used(hull):
     return [hull.points[corner] for corner in corners], [[place[corner] for corner in face] for face in hull.faces]
 
 
-def panel_of(path, given, title):
-    """What is drawn of a file."""
-    points, faces = used(read_off_file(path))
-    faces = outward(points, faces)
-    return Panel(points, faces, outside_points(points, faces, given), title)
+def panels_of(paths, titles):
+    """What is drawn of each file."""
+    panels = []
+    for path, title in zip(paths, titles):
+        points, faces = used(read_off_file(path))
+        lost = sorted(set(panels[0].points) - set(points)) if panels else []
+        panels.append(Panel(points, outward(points, faces), lost, title))
+    return panels
 
 
 # Drawing.
@@ -173,7 +169,7 @@ def drawn(panel, place, view, width, mesh):
     yield from drawn_edges(panel, place, edges, "edge", True, width)
     if len(edges) <= 1:
         yield from dots(panel.points, place, "corner", 3.0)
-    yield from dots(panel.outside, place, "outside", 1.6)
+    yield from dots(panel.lost, place, "lost", 1.6)
 
 
 def bounds(points, view):
@@ -199,7 +195,7 @@ def placing(points, view, size):
 
 def svg(panels, view, size=SIZE, mesh=None):
     """The picture."""
-    everything = [point for panel in panels for point in [*panel.points, *panel.outside]]
+    everything = [point for panel in panels for point in [*panel.points, *panel.lost]]
     place, below = placing(everything, view, size)
     width, height = size * len(panels), below + TITLE_HEIGHT * any(panel.title for panel in panels)
     thick = stroke(max(sum(map(len, panel.faces)) // 2 for panel in panels))
@@ -237,7 +233,6 @@ def arguments():
     parser.add_argument("--eye", type=direction, default=EYE, metavar="X,Y,Z", help="where the eye is (--eye=-1,0,0)")
     parser.add_argument("--up", type=direction, default=UP, metavar="X,Y,Z", help="what is up on the page")
     parser.add_argument("--size", type=int, default=SIZE, help=f"width of a picture (default {SIZE})")
-    parser.add_argument("--points", metavar="POINTS", help="a point file; those outside the faces are drawn")
     parser.add_argument("--mesh", metavar="OBJ", help="a mesh in the units of the faces, drawn within")
     parser.add_argument("--title", action="append", default=[], help="a title below a picture; one for each FILE")
     parser.add_argument("files", nargs="*", default=["-"], metavar="FILE", help="OFF texts")
@@ -246,9 +241,7 @@ def arguments():
 
 def main():
     options = arguments()
-    given = sorted(set(points_of_file(options.points))) if options.points else []
-    titles = options.title + [""] * len(options.files)
-    panels = [panel_of(path, given, title) for path, title in zip(options.files, titles)]
+    panels = panels_of(options.files, options.title + [""] * len(options.files))
     mesh = mesh_of(options.mesh) if options.mesh else None
     sys.stdout.write(svg(panels, view_from(options.eye, options.up), options.size, mesh))
 

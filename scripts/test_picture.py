@@ -81,7 +81,8 @@ class Pictures(unittest.TestCase):
             points = [(x, y, 0) for x in range(side) for y in range(side)]
             faces = [[x * side + y, (x + 1) * side + y, (x + 1) * side + y + 1, x * side + y + 1]
                      for x in range(side - 1) for y in range(side - 1)]  # fmt: skip
-            return float(re.search(r'stroke-width="([\d.]+)"', svg([Panel(points, faces, [], "")], view_from(UP, (0, 1, 0))))[1])
+            text = svg([Panel(points, faces, [], "")], view_from(UP, (0, 1, 0)))
+            return float(re.search(r'stroke-width="([\d.]+)"', text)[1])
 
         self.assertGreater(width(3), 2 * width(30))
 
