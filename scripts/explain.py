@@ -16,6 +16,7 @@ import signal
 import sys
 from collections import Counter
 
+from contents import bytes_of
 from limits import BYTE_LIMIT, COORDINATE_LIMIT, POINT_LIMIT
 from point_files import message, read, value_of
 
@@ -193,11 +194,7 @@ def main():
     parser.add_argument("file", metavar="FILE", help="a point file, or - for standard input")
     options = parser.parse_args()
     signal.signal(signal.SIGPIPE, signal.SIG_DFL)
-    if options.file == "-":
-        data = sys.stdin.buffer.read()
-    else:
-        with open(options.file, "rb") as source:
-            data = source.read()
+    data = bytes_of(options.file)
     reading = read(data)
     lines = explanation(data, reading, options.comments) if reading.fault else whole(reading, options.comments)
     print("\n".join(lines))

@@ -3,6 +3,8 @@ import sys
 from collections import namedtuple
 from fractions import Fraction
 
+import contents
+
 # The points that faces name by their places, each with three exact numbers, and the faces as lists of places.
 Faces = namedtuple("Faces", "points faces")
 
@@ -56,10 +58,7 @@ def read_off(text):
 def read_off_file(path):
     """The points and the faces of a file, or of standard input where the path is `-`; a wrong file ends the script."""
     try:
-        if path == "-":
-            return read_off(sys.stdin.read())
-        with open(path, encoding="utf-8", errors="replace") as source:
-            return read_off(source.read())
+        return read_off(contents.text_of(path))
     except Malformed as wrong:
         sys.exit(f"{path}: {wrong}")
 

@@ -18,6 +18,7 @@ import math
 import sys
 from collections import namedtuple
 
+from contents import text_of
 from off_files import read_off_file
 from vectors import cross, dot, minus, plus, polygon_normal, times
 
@@ -213,12 +214,11 @@ def svg(panels, view, size=SIZE, mesh=None):
 def mesh_of(path):
     """The vertices and the faces of an OBJ file, in numbers of the machine."""
     points, faces = [], []
-    with open(path, encoding="utf-8") as source:
-        for row in map(str.split, source):
-            if row[:1] == ["v"]:
-                points.append(tuple(map(float, row[1:4])))
-            elif row[:1] == ["f"]:
-                faces.append([int(word.split("/")[0]) - 1 for word in row[1:]])
+    for row in map(str.split, text_of(path).split("\n")):
+        if row[:1] == ["v"]:
+            points.append(tuple(map(float, row[1:4])))
+        elif row[:1] == ["f"]:
+            faces.append([int(word.split("/")[0]) - 1 for word in row[1:]])
     return Panel(points, faces, [], "")
 
 

@@ -3,6 +3,7 @@ import re
 import sys
 from collections import namedtuple
 
+from contents import bytes_of
 from limits import BYTE_LIMIT, COORDINATE_LIMIT, POINT_LIMIT
 
 # A word, the line and the column where it begins, both from 1, counted in bytes.
@@ -120,8 +121,7 @@ def plain_points(data):
 
 def points_of_file(path):
     """The points of a file; a file that has a fault ends the script."""
-    with open(path, "rb") as source:
-        data = source.read()
+    data = bytes_of(path)
     points = plain_points(data)
     if points is not None:
         return points

@@ -21,8 +21,9 @@ from collections import namedtuple
 from fractions import Fraction
 from math import ceil, floor
 
+import contents
 from limits import COORDINATE_LIMIT, POINT_LIMIT
-from off_files import Malformed, off_text, read_off, rows_of
+from off_files import Malformed, off_text, read_off_file, rows_of
 
 # How a mesh is turned into whole numbers.
 Map = namedtuple("Map", "scale centre")
@@ -72,8 +73,7 @@ def vertices_of_mesh(path):
     ending = os.path.splitext(path)[1].lower()
     if ending not in READERS:
         sys.exit(f"{path}: of meshes, {', '.join(READERS)} are read")
-    with open(path, encoding="utf-8", errors="replace") as source:
-        text = source.read()
+    text = contents.text_of(path)
     try:
         vertices = [tuple(map(Fraction, row)) for row in READERS[ending](text)]
         if not vertices or any(len(vertex) != 3 for vertex in vertices):
@@ -126,8 +126,7 @@ def write_points(vertices, by):
 
 def map_of(path):
     """The map that a point file's first line tells."""
-    with open(path, encoding="utf-8", errors="replace") as source:
-        found = NOTE.search(source.readline())
+    found = NOTE.search(contents.text_of(path).split("\n", 1)[0])
     if not found:
         sys.exit(f"{path}: its first line has no scale and centre")
     scale, *centre = map(Fraction, found.groups())
@@ -142,7 +141,7 @@ def decimal(value):
 
 def write_back(by):
     """Writes the hull of standard input in the mesh's units."""
-    hull = read_off(sys.stdin.read())
+    hull = read_off_file("-")
     points = [[decimal(part / by.scale + middle) for part, middle in zip(point, by.centre)] for point in hull.points]
     sys.stdout.write(off_text(points, hull.faces))
 
