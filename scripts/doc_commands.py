@@ -9,7 +9,7 @@ commands of one document run one after the other in one shell, in a new folder t
 repository has; so files that one writes, the next can read. A comment just before a block says what is special:
 
     <!-- needs: qhull -->          left out where one of these programs is missing
-    <!-- seconds vary -->          numbers with a point in them are not compared
+    <!-- seconds vary -->          numbers with a point in them, and `over N`, are not compared
     <!-- long -->                  left out without --all
 
 The script prints each difference, what it left out, and how many commands it ran; the status is 1 after a difference.
@@ -32,6 +32,7 @@ Command = namedtuple("Command", "words wanted line marks")
 MARK = re.compile(r"<!--\s*(.*?)\s*-->$")
 INDENT = "    "
 END = "end-of-command-"
+SECONDS = r"(?:\d+\.\d+|over \d+)"
 # A command of this many seconds is stopped.
 TIME_LIMIT = 7200
 
@@ -106,8 +107,8 @@ def pattern(line, vary):
     """The regular expression of a line."""
     if not vary:
         return re.escape(line.rstrip())
-    parts = re.split(r"\d+\.\d+", " ".join(line.split()))
-    return r"\d+\.\d+".join(re.escape(part) for part in parts)
+    parts = re.split(SECONDS, " ".join(line.split()))
+    return SECONDS.join(re.escape(part) for part in parts)
 
 
 def agrees(command, lines):
