@@ -3,6 +3,7 @@ ghost use Rattle.std.specs.Option.{option_map};
 ghost use Rattle.clap.specs.Words.{app_of, rule_of, found_of, matched_of, one_text, raw_values};
 ghost use Rattle.qconvex.specs.CommandLine.{program, number_option, outs_rule, word_of, NumberOf, AreOutsOf, AreSettingsOf};
 
+use crate::help::HELP;
 use crate::settings::{BLOCK_SIZE_LIMIT, Settings, SettingsError};
 use clap::builder::ValueParser;
 use clap::error::ErrorKind;
@@ -29,7 +30,6 @@ static NAMES: [&str; 4] = ["rank", "s", "Fx", "off"];
 fn number_arg<'a>(
     alloc: Global,
     name: &'a str,
-    help: &'a str,
     default: &'a str,
     parser: ValueParser<'a>,
 ) -> Arg<'a>
@@ -39,7 +39,6 @@ fn number_arg<'a>(
     Arg::new(alloc, name)
         .long(name)
         .value_name("N")
-        .help(help)
         .action(ArgAction::Set)
         .default_value(default)
         .value_parser(parser)
@@ -52,7 +51,6 @@ fn outs_arg<'a>(alloc: Global) -> Arg<'a>
 {
     Arg::new(alloc, "outs")
         .value_name("OUT")
-        .help("What to print, in this order [default: s]")
         .action(ArgAction::Append)
         .value_parser(NAMES.as_slice())
 }
@@ -64,19 +62,18 @@ fn command<'a>(alloc: Global) -> Result<Command<'a>, AllocError>
     let workers = number_arg(
         alloc,
         "workers",
-        "How many workers share the work",
         "4",
         value_parser!(u32).range(1..=i64::from(WORKER_LIMIT)),
     );
     let block = number_arg(
         alloc,
         "block",
-        "How many points a block has, whose hull is taken first",
         "4096",
         value_parser!(u32).range(1..=i64::from(BLOCK_SIZE_LIMIT)),
     );
     let outs = outs_arg(alloc);
     Command::new(alloc, "qconvex")
+        .override_help(HELP)
         .arg(workers)?
         .arg(block)?
         .arg(outs)
