@@ -3,6 +3,7 @@
 vertices and faces of its hull.
 
     bench/peers.py cgal PROGRAM      CGAL's convex_hull_3 with its exact-predicates kernel (Debian's libcgal-dev)
+    bench/peers.py cgal-plain PROGRAM    the same over plain doubles, whose predicates are rounded
     bench/peers.py bullet PROGRAM    Bullet's btConvexHullComputer (Debian's libbullet-dev)
 """
 import os
@@ -33,10 +34,15 @@ template <typename Add> void read(Add add) {
 
 CGAL = READ + r"""
 #include <CGAL/Exact_predicates_inexact_constructions_kernel.h>
+#include <CGAL/Simple_cartesian.h>
 #include <CGAL/Polyhedron_3.h>
 #include <CGAL/convex_hull_3.h>
 
+#ifdef PLAIN
+typedef CGAL::Simple_cartesian<double> Kernel;
+#else
 typedef CGAL::Exact_predicates_inexact_constructions_kernel Kernel;
+#endif
 typedef Kernel::Point_3 Point;
 
 int main() {
@@ -64,6 +70,7 @@ int main() {
 
 PEERS = {
     "cgal": (CGAL, ["-frounding-math"], ["-lgmp", "-lmpfr"]),
+    "cgal-plain": (CGAL, ["-frounding-math", "-DPLAIN"], ["-lgmp", "-lmpfr"]),
     "bullet": (BULLET, ["-I/usr/include/bullet"], ["-lLinearMath"]),
 }
 

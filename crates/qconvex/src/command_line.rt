@@ -8,6 +8,7 @@ ghost use Rattle.qconvex.specs.contract.Ranges.{IsInRange};
 ghost use Rattle.qconvex.specs.contract.CommandLine.{AreOutsOf, AreSettingsOf, IsArgFaultOf, IsProgram, NumberOf, from_one_to, number_option, outs_rule, word_of, words_taken};
 ghost use Rattle.qconvex.specs.steps.Matches.{AreSettingsFound, IsFindingFault, IsOutsFault, IsRefusalOf};
 
+use crate::help::HELP;
 use crate::settings::{BLOCK_SIZE_LIMIT, Settings, SettingsError};
 use clap::builder::ValueParser;
 use clap::error::ErrorKind;
@@ -42,7 +43,6 @@ fn up_to<'a>(limit: u32) -> ValueParser<'a>
 fn number_arg<'a>(
     alloc: Global,
     name: &'a str,
-    help: &'a str,
     default: &'a str,
     limit: u32,
 ) -> Arg<'a>
@@ -53,7 +53,6 @@ fn number_arg<'a>(
     Arg::new(alloc, name)
         .long(name)
         .value_name("N")
-        .help(help)
         .action(ArgAction::Set)
         .default_value(default)
         .value_parser(up_to(limit))
@@ -66,7 +65,6 @@ fn outs_arg<'a>(alloc: Global) -> Arg<'a>
 {
     Arg::new(alloc, "outs")
         .value_name("OUT")
-        .help("What to print, in this order [default: s]")
         .action(ArgAction::Append)
         .value_parser(NAMES.as_slice())
 }
@@ -78,19 +76,18 @@ fn command<'a>(alloc: Global) -> Result<Command<'a>, AllocError>
     let workers = number_arg(
         alloc,
         "workers",
-        "How many workers share the work",
         "4",
         WORKER_LIMIT,
     );
     let block = number_arg(
         alloc,
         "block",
-        "How many points a block has, whose hull is taken first",
         "4096",
         BLOCK_SIZE_LIMIT,
     );
     let outs = outs_arg(alloc);
     Command::new(alloc, "qconvex")
+        .override_help(HELP)
         .arg(workers)?
         .arg(block)?
         .arg(outs)

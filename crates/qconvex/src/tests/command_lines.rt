@@ -51,6 +51,24 @@ fn judges_command_lines(rt: HostRuntime) -> Result<(), Fail> {
     Ok(())
 }
 
+/// Some of what the help text says: the options with their ranges, each output and each exit status.
+const HELPED: [&str; 14] = [
+    "Usage: qconvex [--workers N] [--block N] [OUT]...\n",
+    "standard input",
+    "\n  rank ",
+    "\n  s ",
+    "\n  Fx ",
+    "\n  off ",
+    "\n  --workers N ",
+    "1 to 64 [default: 4]",
+    "\n  --block N ",
+    "1 to 1048576 [default: 4096]",
+    "\n  1  the input is refused",
+    "\n  2  the command line is refused",
+    "\n  3  memory was refused",
+    "\n  4  a device failed",
+];
+
 #[test]
 fn helps(rt: HostRuntime) -> Result<(), Fail> {
     let alloc = rt.alloc();
@@ -58,8 +76,9 @@ fn helps(rt: HostRuntime) -> Result<(), Fail> {
         let Err(outcome) = settings(alloc, line)? else {
             return Err("the line asks for help".into());
         };
-        assert!(rt; outcome.output.contains("--workers <N>"), "at {line}");
-        assert!(rt; outcome.output.contains("--block <N>"), "at {line}");
+        for words in HELPED {
+            assert!(rt; outcome.output.contains(words), "{words} at {line}");
+        }
         assert_eq!(rt; outcome.status, 0);
     }
     Ok(())

@@ -1,14 +1,11 @@
 use super::stand_in::{StandIn, Stream};
+use crate::help::HELP;
 use crate::program::run;
 use std::process::ExitCode;
 use std::test::Fail;
 use std::thread::Threads;
 
 const ONE_POINT: &str = "3\n1\n5 5 5\n";
-
-/// The help text.
-const HELP: &str =
-    "Usage: qconvex [OPTIONS] [OUT]...\n\nArguments:\n  [OUT]...  What to print, in this order [default: s] [possible values: rank, s, Fx, off]\n\nOptions:\n      --workers <N>  How many workers share the work [default: 4]\n      --block <N>    How many points a block has, whose hull is taken first [default: 4096]\n  -h, --help         Print help\n";
 
 /// Words, an input, how many bytes standard output takes; and the exit status, what stands on standard
 /// output, and what on standard error.
@@ -38,7 +35,7 @@ const RUNS: [(&[&str], &str, usize, u8, &str, &str); 8] = [
         "",
         "qconvex: 2: BadNumber at line 3\n",
     ),
-    (&["qconvex", "--help"], "", 999, 0, HELP, ""),
+    (&["qconvex", "--help"], "", 9999, 0, HELP, ""),
     (&["qconvex", "-h"], "", 9, 4, "", "qconvex: 11: Send\n"),
     (
         &["qconvex", "--workers", "0"],

@@ -1,0 +1,35 @@
+/// What `--help` prints; the manual page is made of it, too (`scripts/man_page.py`).
+pub const HELP: &str = "qconvex 0.2.0: the exact convex hull of whole-number points in space
+
+Usage: qconvex [--workers N] [--block N] [OUT]...
+
+Reads points on standard input and writes their hull on standard output:
+
+    printf '3\\n4\\n0 0 0\\n1 0 0\\n0 1 0\\n0 0 1\\n' | qconvex off
+
+The input is the dimension 3, the number of points, then x, y and z of each
+point. A word that begins with no digit, sign or point starts a comment to the
+end of its line.
+
+OUT, any of these in any order [default: s]:
+  rank  the numbers of points and of distinct points, and the dimension
+  s     a summary: dimension, distinct points, extreme points, facets, edges
+  Fx    the number of extreme points, then their indices from 0, one a line
+  off   OFF: the extreme points and each face, counterclockwise from outside
+
+Options:
+  --workers N  how many workers share the work, 1 to 64 [default: 4]
+  --block N    how many points a block has, whose hull is taken first,
+               1 to 1048576 [default: 4096]
+  -h, --help   print this text
+
+Exit status:
+  0  answered
+  1  the input is refused: 1 NoHeader, 2 BadNumber, 3 NotThree, 4 Count,
+     5 Range, 6 Long, 7 Short, 10 Big
+  2  the command line is refused: 12 Usage
+  3  memory was refused: 8 Memory
+  4  a device failed: 9 Device, 11 Send
+
+docs/FAULTS.md explains each fault; scripts/explain.py FILE shows where it is.
+";

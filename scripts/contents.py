@@ -1,0 +1,18 @@
+"""What files have, or standard input."""
+import sys
+
+
+def bytes_of(path):
+    """The bytes of a file, or of standard input where the path is `-`; a file that can't be read ends the script."""
+    try:
+        if path == "-":
+            return sys.stdin.buffer.read()
+        with open(path, "rb") as source:
+            return source.read()
+    except OSError as wrong:
+        sys.exit(f"{path}: {wrong.strerror}")
+
+
+def text_of(path):
+    """The same as text; bytes that are none are marked."""
+    return bytes_of(path).decode("utf-8", "replace")

@@ -1,0 +1,137 @@
+"""Point files: their words and comments with the places where they stand, their points, and their first fault."""
+import re
+import sys
+from collections import namedtuple
+
+from contents import bytes_of
+from limits import BYTE_LIMIT, COORDINATE_LIMIT, POINT_LIMIT
+
+# A word, the line and the column where it begins, both from 1, counted in bytes.
+Word = namedtuple("Word", "text line column")
+# What the program says of a file that it refuses, and the word that it means, or None.
+Fault = namedtuple("Fault", "number name line word")
+# What a point file has: its header's two words, the count, its numbers so far, and the first fault or None.
+Reading = namedtuple("Reading", "header count numbers fault words comments")
+
+# In a line: a longest run of bytes that are no blanks.
+WORD = re.compile(rb"[^\x09\x0b\x0c\x0d\x20]+")
+# A data word begins with a digit, a sign or a point.
+DATA_WORD = re.compile(rb"[0-9+.-]")
+NUMBER = re.compile(rb"[+-]?[0-9]+")
+
+
+def value_of(word):
+    """The value of a number; of one that is far out of every range, one that is, too."""
+    sign, digits = (-1 if word.text[:1] == b"-" else 1), word.text.lstrip(b"+-").lstrip(b"0")
+    return sign * (int(digits or b"0") if len(digits) < 40 else 10**40)
+
+
+def words_and_comments(data):
+    """The data words of a file, and its comments, each from its first word to the end of its line."""
+    words, comments = [], []
+    for number, line in enumerate(data.split(b"\n"), 1):
+        for found in WORD.finditer(line):
+            if not DATA_WORD.match(found.group()):
+                comments.append(Word(line[found.start() :].rstrip(), number, found.start() + 1))
+                break
+            words.append(Word(found.group(), number, found.start() + 1))
+    return words, comments
+
+
+def bad_number(words):
+    """The fault of the first of these words that is no number, or None."""
+    wrong = next((word for word in words if not NUMBER.fullmatch(word.text)), None)
+    return wrong and Fault(2, "BadNumber", wrong.line, wrong)
+
+
+def header_fault(header):
+    """The fault of the header's words, or None."""
+    fault = bad_number(header)
+    if fault:
+        return fault
+    if len(header) < 2:
+        return Fault(1, "NoHeader", None, None)
+    if 3 not in map(value_of, header):
+        return Fault(3, "NotThree", None, None)
+    count = count_of(header)
+    return None if 1 <= count <= POINT_LIMIT else Fault(4, "Count", None, None)
+
+
+def count_of(header):
+    """The number of points that a header tells; a 3 that stands first is the dimension."""
+    first, second = map(value_of, header)
+    return second if first == 3 else first
+
+
+def coordinates_of(words, wanted):
+    """The coordinates up to the first fault, and the fault or None."""
+    numbers = []
+    for word in words[:wanted]:
+        if not NUMBER.fullmatch(word.text):
+            return numbers, Fault(2, "BadNumber", word.line, word)
+        numbers.append(value_of(word))
+        if abs(numbers[-1]) > COORDINATE_LIMIT:
+            return numbers[:-1], Fault(5, "Range", word.line, word)
+    if len(numbers) < wanted:
+        return numbers, Fault(7, "Short", None, None)
+    if len(words) > wanted:
+        return numbers, Fault(6, "Long", words[wanted].line, words[wanted])
+    return numbers, None
+
+
+def read(data):
+    """What the bytes of a point file have, up to their first fault."""
+    if len(data) > BYTE_LIMIT:
+        return Reading([], None, [], Fault(10, "Big", None, None), [], [])
+    words, comments = words_and_comments(data)
+    header = words[:2]
+    fault = header_fault(header)
+    if fault:
+        return Reading(header, None, [], fault, words, comments)
+    count = count_of(header)
+    numbers, fault = coordinates_of(words[2:], 3 * count)
+    return Reading(header, count, numbers, fault, words, comments)
+
+
+def message(fault):
+    """What the program writes of a fault, without the name of the program."""
+    where = "" if fault.line is None else f" at line {fault.line}"
+    return f"{fault.number}: {fault.name}{where}"
+
+
+def triples(numbers):
+    """The points of a list of coordinates."""
+    return list(zip(numbers[0::3], numbers[1::3], numbers[2::3]))
+
+
+def plain_points(data):
+    """The points of a file that has nothing but right numbers after its first two lines; None for any other."""
+    head, _, rest = data.partition(b"\n")
+    second, _, rest = rest.partition(b"\n")
+    words, _ = words_and_comments(head + b"\n" + second)
+    if len(words) != 2 or header_fault(words) or b"_" in rest:
+        return None
+    try:
+        numbers = list(map(int, rest.split()))
+    except ValueError:
+        return None
+    in_range = numbers and -COORDINATE_LIMIT <= min(numbers) and max(numbers) <= COORDINATE_LIMIT
+    return triples(numbers) if in_range and len(numbers) == 3 * count_of(words) else None
+
+
+def points_of_file(path):
+    """The points of a file; a file that has a fault ends the script."""
+    data = bytes_of(path)
+    points = plain_points(data)
+    if points is not None:
+        return points
+    reading = read(data)
+    if reading.fault:
+        sys.exit(f"{path}: {message(reading.fault)}; scripts/explain.py {path} shows where")
+    return triples(reading.numbers)
+
+
+def text_of(points, comment=""):
+    """The points as a point file, with a comment in its first line."""
+    first = f"3 {comment}".rstrip()
+    return "".join([f"{first}\n{len(points)}\n", *("%d %d %d\n" % point for point in points)])
