@@ -40,12 +40,7 @@ fn up_to<'a>(limit: u32) -> ValueParser<'a>
 }
 
 /// An option `--name N` with a default, for numbers from 1 to a limit.
-fn number_arg<'a>(
-    alloc: Global,
-    name: &'a str,
-    default: &'a str,
-    limit: u32,
-) -> Arg<'a>
+fn number_arg<'a>(alloc: Global, name: &'a str, default: &'a str, limit: u32) -> Arg<'a>
     requires { 0 < limit }
     ensures rule { rule_of result ≡ number_option name.entry.now default.entry.now limit }
     ensures local { result.global ≡ false }
@@ -73,18 +68,8 @@ fn outs_arg<'a>(alloc: Global) -> Arg<'a>
 fn command<'a>(alloc: Global) -> Result<Command<'a>, AllocError>
     ensures { IfOk result (λ c. IsProgram (app_of c)) }
 {
-    let workers = number_arg(
-        alloc,
-        "workers",
-        "4",
-        WORKER_LIMIT,
-    );
-    let block = number_arg(
-        alloc,
-        "block",
-        "4096",
-        BLOCK_SIZE_LIMIT,
-    );
+    let workers = number_arg(alloc, "workers", "4", WORKER_LIMIT);
+    let block = number_arg(alloc, "block", "4096", BLOCK_SIZE_LIMIT);
     let outs = outs_arg(alloc);
     Command::new(alloc, "qconvex")
         .override_help(HELP)
