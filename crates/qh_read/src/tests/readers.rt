@@ -1,5 +1,6 @@
 //! A source over a reader of std: what its failures are, and that none is read on.
 use crate::{ReadFault, Source, StdSource, read_from};
+use qh_model::BYTE_LIMIT;
 use std::io;
 use std::io::{ErrorKind, Read};
 use std::sync::atomic::{AtomicU64, Ordering};
@@ -28,6 +29,33 @@ impl Read for Failing<'_> {
         self.rest = rest;
         Ok(count)
     }
+}
+
+/// Gives blanks without end, and counts them.
+#[derive(Drop)]
+struct Endless<'a> {
+    given: &'a AtomicU64,
+}
+
+impl Read for Endless<'_> {
+    fn read(&mut self, buf: &mut [u8]) -> io::Result<usize> {
+        buf.fill(b' ');
+        self.given.fetch_add(buf.len() as u64, Ordering::SeqCst);
+        Ok(buf.len())
+    }
+}
+
+#[test]
+fn reads_one_piece_too_many(rt: HostRuntime) {
+    let given = AtomicU64::new(0);
+    let mut source = StdSource::new(Endless { given: &given });
+    let outcome = read_from(rt.alloc(), &mut source);
+    assert_eq!(rt; outcome.err(), Some(ReadFault::Big));
+    let given = given.load(Ordering::SeqCst);
+    assert!(rt;
+        given > u64::from(BYTE_LIMIT) && given <= u64::from(BYTE_LIMIT) + 65536,
+        "{given} bytes"
+    );
 }
 
 #[test]
