@@ -19,8 +19,8 @@ from types import SimpleNamespace
 
 from check_hull import Checker, Wrong, check
 from fuzz_hulls import small_set
-from limits import COORDINATE_LIMIT, PROGRAM
-from off_files import Faces, Malformed, read_off
+from limits import PROGRAM
+from off_files import Faces, read_off
 from point_files import text_of
 from vectors import minus, plus, times
 
@@ -163,8 +163,7 @@ def corner_within_face(rng, points, faces):
         total = plus(total, faces.points[corner])
     middle, apex = tuple(part // size for part in total), len(faces.points)
     parts = [[start, end, apex] for start, end in zip(face, face[1:] + face[:1])]
-    _, faces = points, with_face(faces, place, *parts)
-    return [*points, middle], Faces([*faces.points, middle], faces.faces)
+    return [*points, middle], Faces([*faces.points, middle], with_face(faces, place, *parts).faces)
 
 
 def all_twice(rng, points, faces):

@@ -3,8 +3,8 @@
 
     scripts/doc_commands.py [--all] [FILE]...      from anywhere; with no FILE: README, WHY-EXACT, TUTORIAL, FAULTS
 
-In an indented block of a document a line that begins with `$ ` is a command, and the lines up to the next one or the end
-of the block are what it prints, on standard output and standard error together. A line `...` stands for any lines. The
+In an indented block of a document a line that begins with `$ ` is a command, with the lines after it that begin with `> `,
+and the lines up to the next one or the end of the block are what it prints, on standard output and standard error together. A line `...` stands for any lines. The
 commands of one document run one after the other in one shell, in a new folder that has all that the top of the
 repository has; so files that one writes, the next can read. A comment just before a block says what is special:
 
@@ -69,8 +69,8 @@ def commands(text):
         starts = [index for index, line in enumerate(block) if line.startswith("$ ")]
         for start, end in zip(starts, [*starts[1:], len(block)]):
             words, rest = [block[start][2:]], block[start + 1 : end]
-            while words[-1].endswith("\\"):
-                words.append(rest.pop(0))
+            while rest and rest[0].startswith("> "):
+                words.append(rest.pop(0)[2:])
             found.append(Command("\n".join(words), without_blank_end(rest), first + start, marks))
     return found
 
