@@ -1,7 +1,7 @@
 //! The program `qconvex`: reads a point file, writes the outputs that are asked for.
 //!
 //! `settings` and `command_line` say what is wanted, `help` what there is, `answer` makes the text of a byte string,
-//! `fault` says why there is none, and `program` runs it all between the standard streams.
+//! `serve` does so between streams, `fault` says why there is none, and `program` runs it all between the standard ones.
 #![tactic(auto)]
 
 mod answer;
