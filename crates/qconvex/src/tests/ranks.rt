@@ -2,7 +2,7 @@ use super::{answered, served, settings};
 use std::test::Fail;
 
 /// Inputs and what `rank` answers.
-const RANKS: [(&str, &str); 16] = [
+const RANKS: [(&str, &str); 19] = [
     ("3\n1\n5 5 5\n", "1 1 0\n"),
     ("3 2\n0 0 0\n2 2 2\n", "2 2 1\n"),
     ("4 3\n0 0 0\n1 0 0\n0 1 0\n0 0 1\n", "4 4 3\n"),
