@@ -19,6 +19,7 @@ use Rattle.qh_plane.proofs.PlaceStarts.{Start, IsBefore, starts_only, starts_all
 use Rattle.qh_plane.specs.declared.place_keys.TheConstants.{ROOM}
 use Rattle.qh_plane.specs.declared.distinct_points.TheConstants.{NO_PLACE}
 use Rattle.qh_plane.specs.steps.Marks.{place_starts, marked, marked_ids}
+use Rattle.qh_plane.specs.steps.PlaceNumbers.{AllDiffer}
 use Rattle.qh_plane.specs.steps.PlaceKeys.{raised, place_code, key_at, ids_in, HasKey, AreByPlace}
 
 -- a key tells its place
@@ -64,6 +65,13 @@ in_all n all a i m =
     let r = in_at all i m in
     let lt : r.0 < n = subst (λ v. r.0 < v) a.len r.1 in
     subst (λ v. v < n) (sym (a.each r.0 lt) ∙ r.2) lt
+
+-- where all points differ, all ids are distinct
+pub all_distinct : (pts : List Vector) (all : List ℕ) → AllIds (length pts) all → AllDiffer pts → AreDistinctIds pts all
+all_distinct pts all a differ = record {
+  rising = rises_each (length pts) all a;
+  members = λ i. ((λ m. let lt = in_all (length pts) all a i m in (lt, λ j l. differ j i l lt)), (λ d. all_in (length pts) all a i d.0));
+}
 
 module _ (pts : List Vector) (all keys : List ℕ) (a : AllIds (length pts) all) (known : All (HasKey pts) all) (same : IsPermutation (map (key_at pts) all) keys) (rising : IsNonDecreasing keys) where
   -- the ids in the order of their places

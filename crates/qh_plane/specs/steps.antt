@@ -2,3 +2,4 @@
 pub mod Chains
 pub mod Marks
 pub mod PlaceKeys
+pub mod PlaceNumbers

@@ -8,6 +8,7 @@ mod chains;
 mod dimension;
 mod distinct_points;
 mod place_keys;
+mod place_numbers;
 mod planar;
 mod ranking;
 mod shape;

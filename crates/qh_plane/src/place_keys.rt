@@ -15,12 +15,12 @@ use std::alloc::{AllocError, Global};
 pub const ROOM: u128 = 4294967296;
 
 /// A coordinate, raised above 0.
-fn raised(coordinate: i32) -> u128
+pub fn raised(coordinate: i32) -> u64
     requires { IsCoordinate coordinate }
     ensures value { result ≡ raised coordinate }
     ensures limit { result < ROOM }
 {
-    (i64::from(coordinate) + i64::from(COORDINATE_LIMIT)) as u128
+    (i64::from(coordinate) + i64::from(COORDINATE_LIMIT)) as u64
 }
 
 /// The number of a place, which orders points by x, then y, then z.
@@ -30,7 +30,8 @@ fn place_code(point: Point) -> u128
     ensures limit { result < ROOM * ROOM * ROOM }
     ensures place { IsPlace point }
 {
-    (raised(point.x()) * ROOM + raised(point.y())) * ROOM + raised(point.z())
+    let line = u128::from(raised(point.x())) * ROOM + u128::from(raised(point.y()));
+    line * ROOM + u128::from(raised(point.z()))
 }
 
 /// The key of a point and its id.

@@ -7,6 +7,7 @@ use qh_model::{COORDINATE_LIMIT, Id, Point};
 use qh_pred::cross;
 use std::test::Fail;
 
+mod many_points;
 mod refusals;
 
 /// The corners of a square, the middles of its sides but one, and its centre.

@@ -44,10 +44,11 @@ pub fn with_digit(magnitude: u32, digit: u8) -> u32
     requires digit { digit < 10 }
     ensures { result ≡ cap (10 * magnitude + digit) }
 {
-    // In 64 bits: ten times the cap is past 32.
-    let next = 10 * u64::from(magnitude) + u64::from(digit);
-    if next < u64::from(MAGNITUDE_CAP) {
-        next as u32
+    // Ten times the cap is past 32 bits.
+    if magnitude < MAGNITUDE_CAP / 10 {
+        10 * magnitude + digit as u32
+    } else if magnitude == MAGNITUDE_CAP / 10 && digit < (MAGNITUDE_CAP % 10) as u8 {
+        MAGNITUDE_CAP / 10 * 10 + digit as u32
     } else {
         MAGNITUDE_CAP
     }
