@@ -1,10 +1,9 @@
 //! Bodies of points, segments and polygons.
-ghost use Rattle.std.specs.Prelude.{◌≡◌, ◌<◌, ◌↔◌, ℕ, [], ◌∷◌, IfOk};
-ghost use Rattle.std.specs.List.Sorted.{IsStrictlyIncreasing};
-ghost use Rattle.qh_model.specs.headline.Sets.{In};
+ghost use Rattle.std.specs.Prelude.{◌≡◌, ◌<◌, [], ◌∷◌, IfOk};
 ghost use Rattle.qh_block.specs.steps.FlatBodies.{point_body, segment_body, IsPolygonBody};
 
 use qh_model::{Body, Id, Memory, Polygon};
+use qh_plane::rising_ids;
 use std::alloc::Global;
 
 /// A list of one or two ids.
@@ -22,17 +21,6 @@ fn one_polygon(alloc: Global, polygon: Polygon) -> Result<Vec<Polygon>, Memory>
     let mut polygons = Vec::new(alloc);
     polygons.push(polygon)?;
     Ok(polygons)
-}
-
-/// The ids of a list, rising, each once.
-pub fn rising_ids(alloc: Global, ids: &[Id]) -> Result<Vec<Id>, Memory>
-    ensures rising { IfOk result (λ v. IsStrictlyIncreasing v.items) }
-    ensures members { IfOk result (λ v. (i : ℕ) → In i v.items ↔ In i ids.now) }
-{
-    let mut rising = Vec::from_slice(alloc, ids)?;
-    rising.sort_unstable();
-    rising.dedup();
-    Ok(rising)
 }
 
 /// The hull of one id.

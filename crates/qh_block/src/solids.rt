@@ -10,12 +10,12 @@ ghost use Rattle.qh_model.specs.contract.StoredSurface.{surface_of};
 ghost use Rattle.qh_block.specs.steps.Faces.{IsListed, all_members};
 ghost use Rattle.qh_block.specs.steps.PlaneWalks.{AreCornersBelow};
 
-use crate::bodies::rising_ids;
 use crate::face_order::in_order;
 use crate::faces::faces;
 use crate::solid_edges::edge_count;
 use qh_mesh::Mesh;
 use qh_model::{Body, Id, Memory, Point, Polygon};
+use qh_plane::rising_ids;
 use std::alloc::{AllocError, Global};
 
 /// The ids of all polygons, one after the other.
@@ -59,8 +59,9 @@ pub fn solid_body(alloc: Global, pts: &[Point], mesh: &Mesh) -> Result<Body, Mem
         → IsBody (place pts.now) (Members ids) b) }
 {
     let faces = faces(alloc, pts, mesh)?;
+    // Before the faces are sorted, each stands beside the next in memory.
+    let extremes = corners(alloc, &faces)?;
     let polygons = in_order(alloc, faces)?;
-    let extremes = corners(alloc, &polygons)?;
     let edges = edge_count(&polygons)?;
     Ok(Body {
         dim: 3,

@@ -3,6 +3,7 @@ pub mod MarkedIds
 pub mod PlaceStarts
 pub mod DistinctLists
 pub mod PlacesDiffer
+pub mod KeptIds
 pub mod PlaneDirections
 pub mod LinesAndPlanes
 pub mod ShapeDimension

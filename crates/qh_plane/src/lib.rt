@@ -1,5 +1,5 @@
 //! Points in order: the distinct points of a list, the shape of a set of them, and the polygon of a
-//! set that lies in one plane.
+//! set that lies in one plane. Beside these, ids in rising order.
 //!
 //! All three go by the exact predicates of `qh_pred` alone, so no answer is rounded.
 #![tactic(auto)]
@@ -7,6 +7,7 @@
 mod chains;
 mod dimension;
 mod distinct_points;
+mod id_lists;
 mod place_keys;
 mod place_numbers;
 mod planar;
@@ -16,6 +17,7 @@ mod shape;
 mod tests;
 
 pub use distinct_points::distinct;
+pub use id_lists::rising_ids;
 pub use planar::polygon;
 pub use ranking::rank;
 pub use shape::Shape;

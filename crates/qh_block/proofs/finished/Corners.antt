@@ -1,30 +1,19 @@
--- The corners of a list of facets, and lists of ids that were sorted and freed from repeated ones.
-use Rattle.std.proofs.Common.{◌≡◌, ◌∙◌, inl, inr, ℕ, ◌+◌, ◌<◌, List, [], ◌∷◌, ◌++◌, length, take, ap, sym, subst, refl, arith, Bool, true, false, cond, eqb, get_or, IsPermutation}
+-- The corners of a list of facets.
+use Rattle.std.proofs.Common.{◌≡◌, ◌∙◌, inl, inr, ℕ, ◌+◌, ◌<◌, List, [], ◌∷◌, ◌++◌, length, take, ap, sym, subst, refl, arith, Bool, true, false, cond, get_or}
 use Rattle.std.proofs.lemmas.Bool.{eqb-true}
 use Rattle.std.proofs.lemmas.List.{take_more}
-use Rattle.std.proofs.lemmas.List.Kept.{Contains-dedup_nat, Contains-from_dedup}
-use Rattle.std.proofs.lemmas.List.Sorted.{Contains-permutation, IsPermutation-sym}
-use Rattle.std.specs.List.{Contains, dedup}
 use Rattle.std.specs.Prelude.{◌↔◌, nat_eq}
 use Rattle.qh_model.specs.headline.Vector.{Vector}
 use Rattle.qh_model.specs.headline.Sets.{In}
 use Rattle.qh_model.specs.contract.Surface.{IsCorner}
 use Rattle.qh_model.specs.contract.StoredSurface.{StoredFacet, facet_at, surface_of}
-use Rattle.qh_model.proofs.Members.{In-get_or, to_contains, of_contains}
+use Rattle.qh_model.proofs.Members.{In-get_or}
 use Rattle.qh_mesh.specs.declared.facets.FacetNo.{FacetNo}
 use Rattle.qh_mesh.specs.contract.Replacement.{IsLive, is_listed, number}
 use Rattle.qh_mesh.proofs.ListedFacets.{listed_at}
 use Rattle.qh_model.specs.contract.IdSets.{AreIndices}
 use Rattle.qh_block.specs.steps.PlaneWalks.{AreCornersBelow}
 use Rattle.qh_block.specs.steps.Faces.{corners_of, IsListedCorner}
-
--- ---- sorted, and freed from repeated ids
--- the members stay
-pub kept_members : (given sorted kept : List ℕ) → IsPermutation given sorted → kept ≡ dedup eqb sorted → (i : ℕ) → In i kept ↔ In i given
-kept_members given sorted kept p is i = (
-  λ m. of_contains given i (Contains-permutation sorted given i (IsPermutation-sym given sorted p) (Contains-from_dedup eqb sorted i (subst (λ v. Contains v i) is (to_contains kept i m)))),
-  λ m. of_contains kept i (subst (λ v. Contains v i) (sym is) (Contains-dedup_nat sorted i (Contains-permutation given sorted i p (to_contains given i m)))),
-)
 
 -- ---- corners
 

@@ -3,7 +3,8 @@ use Rattle.std.proofs.lemmas.List.Filters.{dedup_is}
 use Rattle.std.proofs.lemmas.Map.Keys.{IsStrictlyIncreasing-dedup}
 use Rattle.std.specs.List.Sorted.{IsStrictlyIncreasing}
 use Rattle.qh_model.specs.headline.Sets.{In}
-use Rattle.qh_block.proofs.finished.Corners.{kept_members, in_corners}
+use Rattle.qh_block.proofs.finished.Corners.{in_corners}
+use Rattle.qh_plane.proofs.KeptIds.{kept_members}
 use Rattle.qh_block.proofs.faces.gather_corners.Goals as goal
 
 pub returns-clause-rising : goal.returns-clause-rising
