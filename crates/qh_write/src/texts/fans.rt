@@ -77,7 +77,7 @@ fn push_numbered_fans(
 }
 
 /// How many faces the fan of a face has.
-fn fan_size(face: &[Id]) -> usize
+pub fn fan_size(face: &[Id]) -> usize
     ensures { result ≡ length (fan face.now) }
 {
     if face.len() < 3 { 1 } else { face.len() - 2 }

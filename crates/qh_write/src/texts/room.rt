@@ -1,5 +1,6 @@
 //! How long a text can be, so that its memory is taken once.
 
+use super::fans::fan_size;
 use qh_model::{Body, Out, Polygon};
 
 /// The most bytes of a number with a blank or a line end.
@@ -17,13 +18,13 @@ fn face_numbers(faces: &[Polygon]) -> usize {
     numbers
 }
 
-/// How many numbers the fans of the faces have at most, their lengths with them: four for each corner of a face.
+/// How many numbers the fans of the faces have at most, their lengths with them.
 fn fan_numbers(faces: &[Polygon]) -> usize {
-    let mut corners = 0usize;
+    let mut triangles = 0usize;
     for face in faces {
-        corners = corners.saturating_add(face.ids().len());
+        triangles = triangles.saturating_add(fan_size(face.ids()));
     }
-    corners.saturating_mul(4)
+    triangles.saturating_mul(4)
 }
 
 fn output_room(body: &Body, out: Out) -> usize {
