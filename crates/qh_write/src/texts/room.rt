@@ -1,5 +1,6 @@
 //! How long a text can be, so that its memory is taken once.
 
+use super::fans::fan_size;
 use qh_model::{Body, Out, Polygon};
 
 /// The most bytes of a number with a blank or a line end.
@@ -17,6 +18,15 @@ fn face_numbers(faces: &[Polygon]) -> usize {
     numbers
 }
 
+/// How many numbers the fans of the faces have at most, their lengths with them.
+fn fan_numbers(faces: &[Polygon]) -> usize {
+    let mut triangles = 0usize;
+    for face in faces {
+        triangles = triangles.saturating_add(fan_size(face.ids()));
+    }
+    triangles.saturating_mul(4)
+}
+
 fn output_room(body: &Body, out: Out) -> usize {
     let vertices = body.extremes.len().saturating_mul(NUMBER);
     match out {
@@ -25,6 +35,9 @@ fn output_room(body: &Body, out: Out) -> usize {
         Out::Off => SUMMARY
             .saturating_add(vertices.saturating_mul(3))
             .saturating_add(face_numbers(&body.polygons).saturating_mul(NUMBER)),
+        Out::OffTriangles => SUMMARY
+            .saturating_add(vertices.saturating_mul(3))
+            .saturating_add(fan_numbers(&body.polygons).saturating_mul(NUMBER)),
     }
 }
 
