@@ -13,7 +13,7 @@ use Rattle.qh_model.specs.declared.out.Out.{Out}
 use Rattle.qconvex.specs.declared.command_line.ArgFault.{ArgFault}
 use Rattle.qconvex.specs.declared.command_line.ArgFault.TheVariants.{Help, Usage, Memory}
 use Rattle.qconvex.specs.headline.SettingsValue.{SettingsValue}
-use Rattle.qconvex.specs.contract.CommandLine.{AreOutsOf, AreSettingsIn, IsArgFaultOf, IsProgram, NumberOf, word_of}
+use Rattle.qconvex.specs.contract.CommandLine.{AreOutsOf, AreSettingsIn, IsArgFaultOf, IsFormOf, IsProgram, NumberOf, word_of}
 use Rattle.qconvex.specs.steps.Matches.{AreSettingsFound, IsFindingFault, IsOutsFault, IsRefusalOf}
 
 -- each of some outputs' words is that of an output
@@ -30,6 +30,7 @@ found_in app words found rows s h = record {
   workers = subst (λ (t : Option Text). NumberOf t s.workers) (one_text-rows found (codes "workers") ∙ ap (one_of (codes "workers")) rows) h.workers;
   block = subst (λ (t : Option Text). NumberOf t s.block) (one_text-rows found (codes "block") ∙ ap (one_of (codes "block")) rows) h.block;
   outs = subst (λ (t : Option (List Text)). AreOutsOf t s.outs) (raw_values-rows found (codes "outs") ∙ ap (all_of (codes "outs")) rows) h.outs;
+  form = subst (λ (t : Option (List Text)). IsFormOf t s.form) (raw_values-rows found (codes "from") ∙ ap (all_of (codes "from")) rows) h.form;
 }
 
 -- and the other way round
@@ -38,6 +39,7 @@ said_found app words found rows s h = record {
   workers = subst (λ (t : Option Text). NumberOf t s.workers) (sym (one_text-rows found (codes "workers") ∙ ap (one_of (codes "workers")) rows)) h.workers;
   block = subst (λ (t : Option Text). NumberOf t s.block) (sym (one_text-rows found (codes "block") ∙ ap (one_of (codes "block")) rows)) h.block;
   outs = subst (λ (t : Option (List Text)). AreOutsOf t s.outs) (sym (raw_values-rows found (codes "outs") ∙ ap (all_of (codes "outs")) rows)) h.outs;
+  form = subst (λ (t : Option (List Text)). IsFormOf t s.form) (sym (raw_values-rows found (codes "from") ∙ ap (all_of (codes "from")) rows)) h.form;
 }
 
 -- a fault of the matches is one of the words
