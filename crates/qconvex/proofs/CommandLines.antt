@@ -24,6 +24,12 @@ word_at (o ∷ os) [] k d e h = cc
 word_at (o ∷ os) (n ∷ ns) zero d e h = (o, cc)
 word_at (o ∷ os) (n ∷ ns) (suc k) d e h = let rest : map word_of os ≡ map (λ w. w.now) ns = cc in word_at os ns k d rest (omega arith)
 
+-- the words of one word
+pub only_word : (names : List (Bor Text)) (d : Bor Text) → length names ≡ 1 → map (λ w. w.now) names ≡ (slice_index_or names 0 d).now ∷ []
+only_word [] d h = absurd (omega arith)
+only_word (n ∷ []) d h = refl
+only_word (n ∷ m ∷ ns) d h = absurd (omega arith)
+
 -- what is found in the matches of the words is what the words say
 pub found_in : (app : App) (words : List Text) (found : Found) → rows_of found ≡ matches_of app words → (s : SettingsValue) → AreSettingsFound found s → AreSettingsIn app words s
 found_in app words found rows s h = record {

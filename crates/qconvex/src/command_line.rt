@@ -131,20 +131,30 @@ fn outs_of(alloc: Global, names: Option<&[&str]>) -> Result<Vec<Out>, ArgFault>
     Ok(outs)
 }
 
-/// The form of the word.
-fn form_of(names: Option<&[&str]>) -> Option<Form>
-    ensures some { IfSome result (λ form. IsFormOf (option_map (λ s. map (λ w. w.now) s.now) names.entry) form) }
-    ensures none { IfNone result ((form : Form) → ¬ (IsFormOf (option_map (λ s. map (λ w. w.now) s.now) names.entry) form)) }
+/// The form of a word.
+fn form_named(name: &str) -> Option<Form>
+    ensures some { IfSome result (λ form. form_word form ≡ name.now) }
+    ensures none { IfNone result ((form : Form) → form_word form ≢ name.now) }
 {
-    let names = names?;
-    if names.len() != 1 {
-        return None;
-    }
-    match names[0] {
+    match name {
         "qhull" => Some(Form::Qhull),
         "off" => Some(Form::Off),
         _ => None,
     }
+}
+
+/// The form of the words, where there is one word.
+fn form_of(names: Option<&[&str]>) -> Option<Form>
+    ensures some { IfSome result (λ form. IsFormOf (option_map (λ s. map (λ w. w.now) s.now) names.entry) form) }
+    ensures none { IfNone result ((form : Form) → ¬ (IsFormOf (option_map (λ s. map (λ w. w.now) s.now) names.entry) form)) }
+{
+    let Some(names) = names else {
+        return None;
+    };
+    if names.len() != 1 {
+        return None;
+    }
+    form_named(names[0])
 }
 
 /// What stands for an error of clap.
@@ -184,7 +194,8 @@ fn settings_from(alloc: Global, matches: &ArgMatches) -> Result<Settings, ArgFau
         Ok(outs) => outs,
         Err(fault) => return Err(fault),
     };
-    let Some(form) = form_of(matches.get_strs("from")) else {
+    let forms = matches.get_strs("from");
+    let Some(form) = form_of(forms) else {
         return Err(ArgFault::Usage);
     };
     match Settings::new(alloc, workers, block, outs.as_slice(), form) {
