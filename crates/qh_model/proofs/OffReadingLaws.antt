@@ -58,7 +58,7 @@ one_reading bytes ps qs a b =
     let as_many : length a.numbered ≡ length b.numbered = omega (arith, left, right, thrice ps, thrice qs, count) in
     let front : a.numbered ≡ b.numbered = same_front a.numbered b.numbered a.rest b.rest as_many after in
     let all : pos (length ps) ∷ a.faces ∷ a.edges ∷ coordinates ps ≡ pos (length qs) ∷ b.faces ∷ b.edges ∷ coordinates qs =
-        same_some _ _ (sym a.numbers ∙ ap numbers front ∙ b.numbers) in
+    same_some _ _ (sym a.numbers ∙ ap numbers front ∙ b.numbers) in
     let same : coordinates ps ≡ coordinates qs = cc in
     same_points ps qs same
 
@@ -155,21 +155,23 @@ whole bytes (w ∷ ws) small e h = by (bytes_eq w.text (codes "OFF")) refl h
     by : (b : Bool) → bytes_eq w.text (codes "OFF") ≡ b → cond b (counts_fault ws) (Some NotOff) ≡ None → (ps : List Vector) × ReadsOff bytes ps
     by false t h = cc
     by true t h =
-        let r = numbered ws h in
-        (r.points, record {
-          small = small;
-          keyword = w;
-          numbered = r.numbered;
-          rest = r.rest;
-          words = e ∙ ap (λ (t : List Word). w ∷ t) r.are;
-          is_off = same_text w.text (codes "OFF") (sym t);
-          faces = r.faces;
-          edges = r.edges;
-          numbers = r.numbers;
-          some = r.some;
-          few = r.few;
-          limit = r.limit;
-        })
+        let r = numbered ws h in (
+          r.points,
+          record {
+            small = small;
+            keyword = w;
+            numbered = r.numbered;
+            rest = r.rest;
+            words = e ∙ ap (λ (t : List Word). w ∷ t) r.are;
+            is_off = same_text w.text (codes "OFF") (sym t);
+            faces = r.faces;
+            edges = r.edges;
+            numbers = r.numbers;
+            some = r.some;
+            few = r.few;
+            limit = r.limit;
+          },
+        )
 
 pub one_or_other : (bytes : List ℕ) → ((ps : List Vector) × ReadsOff bytes ps × (first_off_fault bytes ≡ None)) ⊎ ((f : ReadFault) × (first_off_fault bytes ≡ Some f))
 one_or_other bytes = by (first_off_fault bytes) refl

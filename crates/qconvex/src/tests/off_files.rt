@@ -38,7 +38,10 @@ const FAULTS: [(&str, &str); 9] = [
     ("OFF\n0 0 0\n", "qconvex: 4: Count"),
     ("OFF\n2 0 0\n1 2 3\n4 5\n", "qconvex: 7: Short"),
     ("OFF\n1 0 0\n1 2 3.0\n", "qconvex: 2: BadNumber at line 3"),
-    ("OFF\n1 0 0\n1 2 1073741825\n", "qconvex: 5: Range at line 3"),
+    (
+        "OFF\n1 0 0\n1 2 1073741825\n",
+        "qconvex: 5: Range at line 3",
+    ),
 ];
 
 #[test]

@@ -7,6 +7,7 @@ use crate::fault::Fault;
 use crate::program::run;
 use crate::serve::serve;
 use crate::settings::{Settings, SettingsError};
+use qh_model::Form;
 use qh_read::{MemSource, ReadFault};
 use qh_run::NoGate;
 use qh_write::{MemSink, Out, Sink};
@@ -29,7 +30,13 @@ const ROWS: [(&str, u32, &str); 3] = [
 /// Settings for `off`, asked for again where memory was refused.
 fn settings_again(alloc: Global, workers: u32, block: u32) -> Result<Settings, SettingsError> {
     match Settings::new(alloc, workers, block, &[Out::Off], Form::Qhull) {
-        Err(SettingsError::Memory) => Settings::new(alloc, workers, block, &[Out::Off], Form::Qhull),
+        Err(SettingsError::Memory) => Settings::new(
+            alloc,
+            workers,
+            block,
+            &[Out::Off],
+            Form::Qhull,
+        ),
         settings => settings,
     }
 }
