@@ -1,7 +1,7 @@
 #!/usr/bin/env python3
-"""Compares what the program reads of mutated point files with an independent reader.
+"""Compares what the program reads of mutated point files, or OFF files, with an independent reader.
 
-    scripts/fuzz_files.py [--cases N] [--seed N] [--program PATH] [--large]      from the top of the repository
+    scripts/fuzz_files.py [--off] [--cases N] [--seed N] [--program PATH] [--large]      from the top of the repository
 
 The reader here is written from README.md and docs/DEFINITIONS.md. The files are small valid ones, of every layout
 that a point file may have, whose bytes are inserted, deleted, flipped, exchanged and cut, and whose words are
@@ -10,7 +10,10 @@ a third in pieces of random length on a packet pipe, where each read of the prog
 the program must write its line, and nothing else, and end with status 1; for points it must write the `rank Fx off`
 of their hull, as fuzz_hulls.py has it, and end with status 0.
 
-With --large, five large inputs come first: 2^20 points, a point more, 2^28 bytes, a byte more, and a byte more with a
+With --off the files are OFF files, with comments, with faces and with junk in their place, and the program reads them
+by `--from off`.
+
+With --large, five large inputs of point files come first: 2^20 points, a point more, 2^28 bytes, a byte more, and a byte more with a
 fault at the start. They take about a gigabyte of memory.
 
 It prints each difference with the file's bytes, and of the first ten also the fewest of its bytes that still make one;
@@ -114,6 +117,34 @@ def points_of(data):
     return points
 
 
+def off_words(data):
+    """The words of an OFF file, each with its line: a comment begins at any `#`."""
+    for line, text in enumerate(data.split(b"\n"), 1):
+        for found in WORD.finditer(text.partition(b"#")[0]):
+            yield found.group(), line
+
+
+def off_points_of(data):
+    """The vertices of an OFF file, or its first fault, raised. What follows them is not looked at."""
+    if len(data) > BYTE_LIMIT:
+        raise Fault(10, "Big")
+    words = off_words(data)
+    keyword, _ = next(words, (None, None))
+    if keyword is None:
+        raise Fault(1, "NoHeader")
+    if keyword != b"OFF":
+        raise Fault(14, "NotOff")
+    counts = []
+    for _ in range(3):
+        word, line = next(words, (None, None))
+        if word is None:
+            raise Fault(1, "NoHeader")
+        counts.append(number_of(word, line))
+    if not 1 <= counts[0] <= COUNT_LIMIT:
+        raise Fault(4, "Count")
+    return [tuple(coordinate_of(words) for _ in range(3)) for _ in range(counts[0])]
+
+
 # Valid files.
 
 
@@ -151,6 +182,36 @@ def valid_file(rng):
     words = [spelling(rng, value, plain) for value in [*header, *(value for point in points for value in point)]]
     data = b"" if rng.random() < 0.9 else gap(rng, plain, line_end)
     data += b"".join(word + gap(rng, plain, line_end) for word in words)
+    return data if rng.random() < 0.6 else data.rstrip()
+
+
+OFF_COMMENTS = [b"#", b"# 7 8", b"#OFF", b"##", b"#x y", b"#\x00\xff", b"# one\t0"]
+
+
+def off_gap(rng, plain, line_end):
+    """What stands between two words of an OFF file, a comment right behind the first among others."""
+    if plain or rng.random() < 0.7:
+        return rng.choice([b" ", b"\t", line_end])
+    return rng.choice([b"", b" "]) + rng.choice(OFF_COMMENTS) + line_end
+
+
+def some_faces(rng, count):
+    """Faces, or what may stand in their place."""
+    if rng.random() < 0.3:
+        return [rng.choice([b"zero", b"OFF", b"7.5", b"3", b"--", b"99999999999"]) for _ in range(rng.randint(0, 5))]
+    face = [rng.randrange(count) for _ in range(rng.randint(1, 4))]
+    return [b"%d" % value for value in [len(face), *face]]
+
+
+def valid_off_file(rng):
+    """An OFF file: plain or not, with either kind of line ends."""
+    points = some_points(rng)
+    plain, line_end = rng.random() < 0.4, rng.choice([b"\n", b"\n", b"\r\n"])
+    counts = [len(points), rng.choice([0, 1, 6, 1 << 40]), rng.choice([0, -1, 12])]
+    numbers = [*counts, *(value for point in points for value in point)]
+    words = [b"OFF", *(spelling(rng, value, plain) for value in numbers), *some_faces(rng, len(points))]
+    data = b"" if rng.random() < 0.9 else off_gap(rng, plain, line_end)
+    data += b"".join(word + off_gap(rng, plain, line_end) for word in words)
     return data if rng.random() < 0.6 else data.rstrip()
 
 
@@ -239,8 +300,11 @@ MUTATIONS = [insert, insert_any, delete, exchange, flip, cut, cut_front, copy_sl
 MUTATIONS += [insert_word, more_words]
 
 
-def mutated_file(rng):
-    data = valid_file(rng)
+OFF_WORDS = [b"OFF", b"OFF", b"OF", b"OFFF", b"COFF", b"off", b"O", b"OFF#", b"#OFF", b"BINARY", b"5#5", b"#"]
+
+
+def mutated_file(rng, valid):
+    data = valid(rng)
     for _ in range(rng.choice([0, 1, 1, 1, 2, 2, 3, 5])):
         data = rng.choice(MUTATIONS)(rng, data)
     return data
@@ -259,15 +323,15 @@ def pieces_of(rng, data):
         first = past
 
 
-def run_on(program, source, feed):
+def run_on(command, source, feed):
     """What a run says whose standard input is this descriptor, while its other end is fed."""
-    with subprocess.Popen([program, *OUTPUTS], stdin=source, stdout=subprocess.PIPE, stderr=subprocess.PIPE) as running:
+    with subprocess.Popen(command, stdin=source, stdout=subprocess.PIPE, stderr=subprocess.PIPE) as running:
         feed()
         said, told = running.communicate()
     return running.returncode, said, told
 
 
-def on_pipe(program, pieces, flags=0):
+def on_pipe(command, pieces, flags=0):
     """What a run says that gets its input on a pipe in these pieces."""
     source, sink = os.pipe2(os.O_CLOEXEC | flags)
 
@@ -281,42 +345,42 @@ def on_pipe(program, pieces, flags=0):
         finally:
             os.close(sink)
 
-    return run_on(program, source, feed)
+    return run_on(command, source, feed)
 
 
-def in_one_piece(_rng, program, data):
-    return on_pipe(program, [data[first : first + (1 << 20)] for first in range(0, len(data), 1 << 20)])
+def in_one_piece(_rng, command, data):
+    return on_pipe(command, [data[first : first + (1 << 20)] for first in range(0, len(data), 1 << 20)])
 
 
-def in_pieces(rng, program, data):
-    return on_pipe(program, pieces_of(rng, data), os.O_DIRECT)
+def in_pieces(rng, command, data):
+    return on_pipe(command, pieces_of(rng, data), os.O_DIRECT)
 
 
-def from_file(_rng, program, data):
+def from_file(_rng, command, data):
     with tempfile.TemporaryFile() as source:
         source.write(data)
         source.seek(0)
-        return run_on(program, source, lambda: None)
+        return run_on(command, source, lambda: None)
 
 
 WAYS = [in_one_piece, from_file, in_pieces]
 
 
-def wanted(data):
-    """What a run must say of these bytes, and the name of the fault."""
+def wanted(data, reader):
+    """What a run must say of these bytes, by a reader of them, and the name of the fault."""
     try:
-        points = points_of(data)
+        points = reader(data)
     except Fault as fault:
         return (1, b"", fault.message), fault.name
     return (0, hull_text(points, OUTPUTS)[0], b""), "none"
 
 
-def smallest(program, data):
+def smallest(command, reader, data):
     """As few of the bytes as still make a difference in one piece, by leaving out one at a time."""
     place = 0
     while place < len(data):
         fewer = data[:place] + data[place + 1 :]
-        if in_one_piece(None, program, fewer) != wanted(fewer)[0]:
+        if in_one_piece(None, command, fewer) != wanted(fewer, reader)[0]:
             data = fewer
         else:
             place += 1
@@ -335,11 +399,11 @@ def large_files():
     yield b"3\n1\n0.5\n".ljust(BYTE_LIMIT + 1), (1, b"", big)
 
 
-def differing_large(program):
+def differing_large(command):
     """How many of the large inputs are answered wrong."""
     differences = 0
     for data, want in large_files():
-        got = in_one_piece(None, program, data)
+        got = in_one_piece(None, command, data)
         if got != want:
             differences += 1
             print(f"DIFFERENT: {got}, not {want}, of {len(data)} bytes that begin with {data[:20]!r}", flush=True)
@@ -351,6 +415,7 @@ def arguments():
     parser.add_argument("--cases", type=int, default=CASES, help="how many files (default 100000)")
     parser.add_argument("--seed", type=int, default=1, help="the seed of the files (default 1)")
     parser.add_argument("--program", default=PROGRAM, help=f"the built program (default {PROGRAM})")
+    parser.add_argument("--off", action="store_true", help="OFF files in place of point files")
     parser.add_argument("--large", action="store_true", help="the five large inputs first")
     return parser.parse_args()
 
@@ -360,17 +425,23 @@ def main():
     sys.set_int_max_str_digits(0)
     rng = random.Random(options.seed)
     faults = Counter()
-    differences = differing_large(options.program) if options.large else 0
+    command = [options.program, *OUTPUTS]
+    differences = differing_large(command) if options.large else 0
+    reader, valid = points_of, valid_file
+    if options.off:
+        reader, valid = off_points_of, valid_off_file
+        command += ["--from", "off"]
+        WORDS.extend(OFF_WORDS)
     for _ in range(options.cases):
-        data, way = mutated_file(rng), rng.choice(WAYS)
-        want, fault = wanted(data)
+        data, way = mutated_file(rng, valid), rng.choice(WAYS)
+        want, fault = wanted(data, reader)
         faults[fault] += 1
-        got = way(rng, options.program, data)
+        got = way(rng, command, data)
         if got != want:
             differences += 1
             print(f"DIFFERENT {way.__name__}: {got}, not {want}, of {data!r}", flush=True)
             if differences <= REDUCED:
-                print(f"    in one piece, the fewest bytes: {smallest(options.program, data)!r}", flush=True)
+                print(f"    in one piece, the fewest bytes: {smallest(command, reader, data)!r}", flush=True)
     print("faults:", ", ".join(f"{name} {faults[name]}" for name in sorted(faults)))
     print(f"{options.cases} files tried, {differences} differences")
     sys.exit(1 if differences else 0)

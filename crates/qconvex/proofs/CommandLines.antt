@@ -13,7 +13,7 @@ use Rattle.qh_model.specs.declared.out.Out.{Out}
 use Rattle.qconvex.specs.declared.command_line.ArgFault.{ArgFault}
 use Rattle.qconvex.specs.declared.command_line.ArgFault.TheVariants.{Help, Usage, Memory}
 use Rattle.qconvex.specs.headline.SettingsValue.{SettingsValue}
-use Rattle.qconvex.specs.contract.CommandLine.{AreOutsOf, AreSettingsIn, IsArgFaultOf, IsProgram, NumberOf, word_of}
+use Rattle.qconvex.specs.contract.CommandLine.{AreOutsOf, AreSettingsIn, IsArgFaultOf, IsFormOf, IsProgram, NumberOf, word_of}
 use Rattle.qconvex.specs.steps.Matches.{AreSettingsFound, IsFindingFault, IsOutsFault, IsRefusalOf}
 
 -- each of some outputs' words is that of an output
@@ -24,12 +24,19 @@ word_at (o ∷ os) [] k d e h = cc
 word_at (o ∷ os) (n ∷ ns) zero d e h = (o, cc)
 word_at (o ∷ os) (n ∷ ns) (suc k) d e h = let rest : map word_of os ≡ map (λ w. w.now) ns = cc in word_at os ns k d rest (omega arith)
 
+-- the words of one word
+pub only_word : (names : List (Bor Text)) (d : Bor Text) → length names ≡ 1 → map (λ w. w.now) names ≡ (slice_index_or names 0 d).now ∷ []
+only_word [] d h = absurd (omega arith)
+only_word (n ∷ []) d h = refl
+only_word (n ∷ m ∷ ns) d h = absurd (omega arith)
+
 -- what is found in the matches of the words is what the words say
 pub found_in : (app : App) (words : List Text) (found : Found) → rows_of found ≡ matches_of app words → (s : SettingsValue) → AreSettingsFound found s → AreSettingsIn app words s
 found_in app words found rows s h = record {
   workers = subst (λ (t : Option Text). NumberOf t s.workers) (one_text-rows found (codes "workers") ∙ ap (one_of (codes "workers")) rows) h.workers;
   block = subst (λ (t : Option Text). NumberOf t s.block) (one_text-rows found (codes "block") ∙ ap (one_of (codes "block")) rows) h.block;
   outs = subst (λ (t : Option (List Text)). AreOutsOf t s.outs) (raw_values-rows found (codes "outs") ∙ ap (all_of (codes "outs")) rows) h.outs;
+  form = subst (λ (t : Option (List Text)). IsFormOf t s.form) (raw_values-rows found (codes "from") ∙ ap (all_of (codes "from")) rows) h.form;
 }
 
 -- and the other way round
@@ -38,6 +45,7 @@ said_found app words found rows s h = record {
   workers = subst (λ (t : Option Text). NumberOf t s.workers) (sym (one_text-rows found (codes "workers") ∙ ap (one_of (codes "workers")) rows)) h.workers;
   block = subst (λ (t : Option Text). NumberOf t s.block) (sym (one_text-rows found (codes "block") ∙ ap (one_of (codes "block")) rows)) h.block;
   outs = subst (λ (t : Option (List Text)). AreOutsOf t s.outs) (sym (raw_values-rows found (codes "outs") ∙ ap (all_of (codes "outs")) rows)) h.outs;
+  form = subst (λ (t : Option (List Text)). IsFormOf t s.form) (sym (raw_values-rows found (codes "from") ∙ ap (all_of (codes "from")) rows)) h.form;
 }
 
 -- a fault of the matches is one of the words

@@ -12,7 +12,7 @@ use crate::fault::Fault;
 use crate::settings::Settings;
 use qh_model::{BLOCK_LIMIT, Cut, CutError, Hull, Id, Memory, Point};
 use qh_plane::distinct;
-use qh_read::read_points;
+use qh_read::read_form;
 use qh_run::{Gate, RunError, run_hull};
 use qh_write::text;
 use std::alloc::Global;
@@ -96,14 +96,14 @@ pub fn answer<R: Threads + Sync, G: Gate>(
     settings: &Settings,
     gate: &G,
 ) -> Result<Vec<u8>, Fault>
-    ensures answered { IfOk result (λ t. IsAnswer input.now settings.now.outs t.items) }
-    ensures fault { IfErr result (IsAnswerFault input.now) }
+    ensures answered { IfOk result (λ t. IsAnswer settings.now.form input.now settings.now.outs t.items) }
+    ensures fault { IfErr result (IsAnswerFault settings.now.form input.now) }
     ensures big { BYTE_LIMIT < length input.now → result ≡ Err (Fault.Read reads.Big) }
     ensures no_device { result ≢ Err (Fault.Read reads.Device) }
     ensures no_send { result ≢ Err Fault.Send }
     ensures no_usage { result ≢ Err Fault.Usage }
 {
-    let points = read_points(alloc, input)?;
+    let points = read_form(alloc, settings.form(), input)?;
     let text = text_of(rt, alloc, &points, settings, gate)?;
     Ok(text)
 }

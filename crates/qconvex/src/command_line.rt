@@ -1,11 +1,13 @@
 ghost use Rattle.std.specs.Prelude.{◌≡◌, ◌≢◌, ◌<◌, ◌^◌, ℕ, [], ◌∷◌, true, false, map, codes, IfOk, IfErr, IfSome, IfNone, string_bytes};
 ghost use Rattle.std.specs.Option.{option_map};
 ghost use Rattle.clap.specs.Words.{app_of, kind_of, rule_of, found_of, matched_of, one_text, raw_values};
+ghost use Rattle.qh_model.specs.declared.form.Form.{Form};
+ghost use Rattle.qh_model.specs.declared.form.Form.TheVariants as forms;
 ghost use Rattle.qh_model.specs.declared.out.Out.{Out};
 ghost use Rattle.qh_model.specs.declared.out.Out.TheVariants.{Rank, Summary, Fx, Off, OffTriangles};
 ghost use Rattle.qconvex.specs.headline.SettingsValue.{SettingsValue};
 ghost use Rattle.qconvex.specs.contract.Ranges.{IsInRange};
-ghost use Rattle.qconvex.specs.contract.CommandLine.{AreOutsOf, AreSettingsOf, IsArgFaultOf, IsProgram, NumberOf, from_one_to, number_option, outs_rule, word_of, words_taken};
+ghost use Rattle.qconvex.specs.contract.CommandLine.{AreOutsOf, AreSettingsOf, IsArgFaultOf, IsFormOf, IsProgram, NumberOf, form_word, from_one_to, from_option, number_option, outs_rule, word_of, words_taken};
 ghost use Rattle.qconvex.specs.steps.Matches.{AreSettingsFound, IsFindingFault, IsOutsFault, IsRefusalOf};
 
 use crate::help::HELP;
@@ -13,7 +15,7 @@ use crate::settings::{BLOCK_SIZE_LIMIT, Settings, SettingsError};
 use clap::builder::ValueParser;
 use clap::error::ErrorKind;
 use clap::{Arg, ArgAction, ArgMatches, Command, Error, value_parser};
-use qh_model::WORKER_LIMIT;
+use qh_model::{Form, WORKER_LIMIT};
 use qh_write::Out;
 use std::alloc::{AllocError, Global};
 
@@ -53,6 +55,22 @@ fn number_arg<'a>(alloc: Global, name: &'a str, default: &'a str, limit: u32) ->
         .value_parser(up_to(limit))
 }
 
+/// The words of the forms.
+static FORMS: [&str; 2] = ["qhull", "off"];
+
+/// The option `--from FORM`.
+fn from_arg<'a>(alloc: Global) -> Arg<'a>
+    ensures rule { (p : _) × (words_taken p ≡ map form_word (forms.Qhull ∷ forms.Off ∷ [])) × (rule_of result ≡ from_option p) }
+    ensures local { result.global ≡ false }
+{
+    Arg::new(alloc, "from")
+        .long("from")
+        .value_name("FORM")
+        .action(ArgAction::Set)
+        .default_value("qhull")
+        .value_parser(FORMS.as_slice())
+}
+
 /// The words OUT, which may stand between options.
 fn outs_arg<'a>(alloc: Global) -> Arg<'a>
     ensures rule { (p : _) × (words_taken p ≡ map word_of (Rank ∷ Summary ∷ Fx ∷ Off ∷ OffTriangles ∷ [])) × (rule_of result ≡ outs_rule p) }
@@ -68,11 +86,13 @@ fn outs_arg<'a>(alloc: Global) -> Arg<'a>
 fn command<'a>(alloc: Global) -> Result<Command<'a>, AllocError>
     ensures { IfOk result (λ c. IsProgram (app_of c)) }
 {
+    let from = from_arg(alloc);
     let workers = number_arg(alloc, "workers", "4", WORKER_LIMIT);
     let block = number_arg(alloc, "block", "4096", BLOCK_SIZE_LIMIT);
     let outs = outs_arg(alloc);
     Command::new(alloc, "qconvex")
         .override_help(HELP)
+        .arg(from)?
         .arg(workers)?
         .arg(block)?
         .arg(outs)
@@ -112,6 +132,32 @@ fn outs_of(alloc: Global, names: Option<&[&str]>) -> Result<Vec<Out>, ArgFault>
     Ok(outs)
 }
 
+/// The form of a word.
+fn form_named(name: &str) -> Option<Form>
+    ensures some { IfSome result (λ form. form_word form ≡ name.now) }
+    ensures none { IfNone result ((form : Form) → form_word form ≢ name.now) }
+{
+    match name {
+        "qhull" => Some(Form::Qhull),
+        "off" => Some(Form::Off),
+        _ => None,
+    }
+}
+
+/// The form of the words, where there is one word.
+fn form_of(names: Option<&[&str]>) -> Option<Form>
+    ensures some { IfSome result (λ form. IsFormOf (option_map (λ s. map (λ w. w.now) s.now) names.entry) form) }
+    ensures none { IfNone result ((form : Form) → ¬ (IsFormOf (option_map (λ s. map (λ w. w.now) s.now) names.entry) form)) }
+{
+    let Some(names) = names else {
+        return None;
+    };
+    if names.len() != 1 {
+        return None;
+    }
+    form_named(names[0])
+}
+
 /// What stands for an error of clap.
 fn refused(alloc: Global, error: &Error) -> ArgFault
     ensures { IsRefusalOf (kind_of error.now) result }
@@ -149,7 +195,11 @@ fn settings_from(alloc: Global, matches: &ArgMatches) -> Result<Settings, ArgFau
         Ok(outs) => outs,
         Err(fault) => return Err(fault),
     };
-    match Settings::new(alloc, workers, block, outs.as_slice()) {
+    let forms = matches.get_strs("from");
+    let Some(form) = form_of(forms) else {
+        return Err(ArgFault::Usage);
+    };
+    match Settings::new(alloc, workers, block, outs.as_slice(), form) {
         Ok(settings) => Ok(settings),
         Err(SettingsError::Memory) => Err(ArgFault::Memory),
         Err(_) => Err(ArgFault::Usage),

@@ -11,7 +11,7 @@ use std::fmt;
 /// Why the program gave no answer. Its text is the line on standard error, without its end.
 #[derive(Clone, Copy, Debug, PartialEq, Eq)]
 pub enum Fault {
-    /// 1 to 10: the input could not be read, or memory was refused.
+    /// 1 to 10, and 14: the input could not be read, or memory was refused.
     Read(ReadFault),
     /// 11: the output could not be sent.
     Send,
@@ -74,6 +74,7 @@ impl fmt::Display for Fault {
             Fault::Read(ReadFault::Memory) => write!(f, "qconvex: 8: Memory"),
             Fault::Read(ReadFault::Device) => write!(f, "qconvex: 9: Device"),
             Fault::Read(ReadFault::Big) => write!(f, "qconvex: 10: Big"),
+            Fault::Read(ReadFault::NotOff) => write!(f, "qconvex: 14: NotOff"),
             Fault::Send => write!(f, "qconvex: 11: Send"),
             Fault::Usage => write!(f, "qconvex: 12: Usage"),
         }

@@ -1,7 +1,7 @@
 /// What `--help` prints; the manual page is made of it, too (`scripts/man_page.py`).
 pub const HELP: &str = "qconvex 0.2.0: the exact convex hull of whole-number points in space
 
-Usage: qconvex [--workers N] [--block N] [OUT]...
+Usage: qconvex [--from FORM] [--workers N] [--block N] [OUT]...
 
 Reads points on standard input and writes their hull on standard output:
 
@@ -19,6 +19,9 @@ OUT, any of these in any order [default: s]:
   offt  the same with each face as triangles, all from its first corner
 
 Options:
+  --from FORM  how the input tells its points: qhull, as above, or off, an
+               OFF file, of which the vertices are read and the faces
+               dropped; byte # starts a comment there [default: qhull]
   --workers N  how many workers share the work, 1 to 64 [default: 4]
   --block N    how many points a block has, whose hull is taken first,
                1 to 1048576 [default: 4096]
@@ -27,7 +30,7 @@ Options:
 Exit status:
   0  answered
   1  the input is refused: 1 NoHeader, 2 BadNumber, 3 NotThree, 4 Count,
-     5 Range, 6 Long, 7 Short, 10 Big
+     5 Range, 6 Long, 7 Short, 10 Big, 14 NotOff
   2  the command line is refused: 12 Usage
   3  memory was refused: 8 Memory
   4  a device failed: 9 Device, 11 Send

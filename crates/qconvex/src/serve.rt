@@ -4,7 +4,7 @@ ghost use Rattle.qconvex.specs.headline.Serving.{Devices, IsServed, IsServeFault
 use crate::answer::text_of;
 use crate::fault::Fault;
 use crate::settings::Settings;
-use qh_read::{Source, read_from};
+use qh_read::{Source, read_form_from};
 use qh_run::Gate;
 use qh_write::{Sink, send};
 use std::alloc::Global;
@@ -27,9 +27,9 @@ pub fn serve<R: Threads + Sync, S: Source, K: Sink, G: Gate>(
     requires sink { K.count sink.old < 2 ^ 64 - 1 }
     ensures { let old : Devices = record { to_come = S.remaining source.old; went = K.went sink.old; source_failures = S.failure_count source.old; sink_failures = K.count sink.old; flushed = K.is_flushed sink.old } in
         let new : Devices = record { to_come = S.remaining source.new; went = K.went sink.new; source_failures = S.failure_count source.new; sink_failures = K.count sink.new; flushed = K.is_flushed sink.new } in
-        MatchResult result (λ _. IsServed settings.now.outs old new) (IsServeFault settings.now.outs old new) }
+        MatchResult result (λ _. IsServed settings.now.form settings.now.outs old new) (IsServeFault settings.now.form settings.now.outs old new) }
 {
-    let points = read_from(alloc, source)?;
+    let points = read_form_from(alloc, settings.form(), source)?;
     let text = text_of(rt, alloc, &points, settings, gate)?;
     send(sink, &text)?;
     Ok(())

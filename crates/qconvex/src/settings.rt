@@ -1,6 +1,6 @@
 ghost use Rattle.std.specs.Prelude.{◌≡◌, ◌≤◌, ◌<◌, ◌↔◌, IfOk, IsErrOf};
 
-use qh_model::{POINT_LIMIT, WORKER_LIMIT};
+use qh_model::{Form, POINT_LIMIT, WORKER_LIMIT};
 use qh_write::Out;
 use std::alloc::Global;
 use std::marker::Model;
@@ -9,14 +9,15 @@ use thiserror::Error;
 /// The greatest block size that can be wanted: all points in one block.
 pub const BLOCK_SIZE_LIMIT: u32 = POINT_LIMIT;
 
-/// How the hull is to be made, and which outputs are to be written.
+/// How the input is to be read, how the hull is to be made, and which outputs are to be written.
 ///
-/// A contract sees settings as their number of workers, block size and list of outputs.
+/// A contract sees settings as their number of workers, block size, list of outputs and form of the input.
 #[derive(Debug, Drop)]
 pub struct Settings {
     workers: u32,
     block: u32,
     outs: Vec<Out>,
+    form: Form,
 }
 
 impl Model for Settings {
@@ -25,7 +26,7 @@ impl Model for Settings {
 
     ghost Value = { SettingsValue };
 
-    ghost view = { λ s. record { workers = s.workers; block = s.block; outs = s.outs.items } };
+    ghost view = { λ s. record { workers = s.workers; block = s.block; outs = s.outs.items; form = s.form } };
 
     ghost invariant = { λ s. IsInRange s.workers s.block };
 }
@@ -47,7 +48,7 @@ pub enum SettingsError {
 impl Settings {
     ghost use Rattle.qconvex.specs.contract.Ranges.{IsWorkers, IsBlockSize};
 
-    /// Settings with these workers, block size and outputs.
+    /// Settings with these workers, block size and outputs, for an input of this form.
     ///
     /// Where two errors apply, the first in the order of `SettingsError` is given; memory is asked
     /// for last.
@@ -56,8 +57,9 @@ impl Settings {
         workers: u32,
         block: u32,
         outs: &[Out],
+        form: Form,
     ) -> Result<Settings, SettingsError>
-        ensures ok { IfOk result (λ s. s ≡ record { workers = workers; block = block; outs = outs.now }) }
+        ensures ok { IfOk result (λ s. s ≡ record { workers = workers; block = block; outs = outs.now; form = form }) }
         ensures workers { IsErrOf result SettingsError.BadWorkers ↔ (¬ (IsWorkers workers)) }
         ensures block { IsErrOf result SettingsError.BadBlock ↔ (IsWorkers workers × ¬ (IsBlockSize block)) }
     {
@@ -74,6 +76,7 @@ impl Settings {
             workers,
             block,
             outs,
+            form,
         })
     }
 
@@ -98,5 +101,12 @@ impl Settings {
         ensures { result.now ≡ self.now.outs }
     {
         self.outs.as_slice()
+    }
+
+    /// How the input tells its points.
+    pub fn form(&self) -> Form
+        ensures { result ≡ self.now.form }
+    {
+        self.form
     }
 }

@@ -8,6 +8,7 @@ mod gated;
 mod hostile;
 mod limits;
 mod near_flat_sets;
+mod off_files;
 mod paraboloid;
 mod programs;
 mod ranks;

@@ -11,4 +11,6 @@ pub mod board
 pub mod DistinctIds
 pub mod Cuts
 pub mod ReadingLaws
+pub mod OffReadingLaws
+pub mod Readings
 pub mod examples

@@ -13,11 +13,10 @@ use Rattle.qh_model.specs.headline.Numbers.{number_of}
 use Rattle.qh_model.specs.headline.PointFile.{coordinates, IsHeader, Reads}
 use Rattle.qh_model.specs.declared.read_fault.ReadFault.{ReadFault}
 use Rattle.qh_model.specs.declared.read_fault.ReadFault.TheVariants.{NotThree, Count, Range, Big}
-use Rattle.qh_model.specs.headline.FileFault.{is_three, coordinate_fault, coordinates_fault, counted_fault, headed_fault, second_fault, header_fault, words_fault, first_fault, IsFirstFault}
-use Rattle.qh_model.specs.laws.Readings.{ReadsOneList, HasListOrFault, IsNeverBoth}
+use Rattle.qh_model.specs.headline.FileFault.{is_three, coordinate_fault, coordinates_fault, counted_fault, headed_fault, second_fault, header_fault, words_fault, first_fault}
 use Rattle.qh_model.proofs.algebra.VectorIdentities.{vector_path}
 
-same_some : (xs ys : List ℤ) → map Some xs ≡ map Some ys → xs ≡ ys
+pub same_some : (xs ys : List ℤ) → map Some xs ≡ map Some ys → xs ≡ ys
 same_some [] [] h = refl
 same_some [] (y ∷ ys) h = cc
 same_some (x ∷ xs) [] h = cc
@@ -26,7 +25,7 @@ same_some (x ∷ xs) (y ∷ ys) h =
     let rest : map Some xs ≡ map Some ys = cc in
     let tail : xs ≡ ys = same_some xs ys rest in cc
 
-same_points : (ps qs : List Vector) → coordinates ps ≡ coordinates qs → ps ≡ qs
+pub same_points : (ps qs : List Vector) → coordinates ps ≡ coordinates qs → ps ≡ qs
 same_points [] [] h = refl
 same_points [] (q ∷ qs) h = cc
 same_points (p ∷ ps) [] h = cc
@@ -38,49 +37,57 @@ same_points (p ∷ ps) (q ∷ qs) h =
     let tail : ps ≡ qs = same_points ps qs rest in
     let head : p ≡ q = vector_path p q x y z in cc
 
-pub one_reading : ReadsOneList
+-- a byte string is the file of one list of points at most
+pub one_reading : (bytes : List ℕ) (ps qs : List Vector) → Reads bytes ps → Reads bytes qs → ps ≡ qs
 one_reading bytes ps qs a b =
     let all : a.first ∷ a.second ∷ coordinates ps ≡ b.first ∷ b.second ∷ coordinates qs = same_some _ _ (sym a.numbers ∙ b.numbers) in
     let same : coordinates ps ≡ coordinates qs = cc in
     same_points ps qs same
 
-abbrev numbers : List Word → List (Option ℤ)
+abbrev pub numbers : List Word → List (Option ℤ)
 numbers ws = map (λ w. number_of w.text) ws
 
-record Filled (ws : List Word) (k : ℕ) : Type 0 where
-  all : List ℤ
-  are : numbers ws ≡ map Some all
-  count : length all ≡ k
-  limit : AllByRecursion IsCoordinate all
+pub record Filled (ws : List Word) (k : ℕ) : Type 0 where
+  pub all : List ℤ
+  pub are : numbers ws ≡ map Some all
+  pub count : length all ≡ k
+  pub limit : AllByRecursion IsCoordinate all
 
-in_limit : (z : ℤ) → is_coordinate z ≡ true → IsCoordinate z
+pub in_limit : (z : ℤ) → is_coordinate z ≡ true → IsCoordinate z
 in_limit z h = leb-true _ _ h
+
+-- a coordinate that has no fault, and what follows it
+pub in_range : (w : Word) (after : Option ReadFault) → option_or (coordinate_fault (number_of w.text) w.line) after ≡ None
+    → (z : ℤ) × (number_of w.text ≡ Some z) × IsCoordinate z × (after ≡ None)
+in_range w after h = by (number_of w.text) refl h
+  where
+    within : (z : ℤ) → number_of w.text ≡ Some z → (b : Bool) → is_coordinate z ≡ b → option_or (cond b None (Some (Range w.line))) after ≡ None
+        → (z : ℤ) × (number_of w.text ≡ Some z) × IsCoordinate z × (after ≡ None)
+    within z e false c h = cc
+    within z e true c h = (z, e, in_limit z c, h)
+
+    by : (o : Option ℤ) → number_of w.text ≡ o → option_or (coordinate_fault o w.line) after ≡ None
+        → (z : ℤ) × (number_of w.text ≡ Some z) × IsCoordinate z × (after ≡ None)
+    by None e h = cc
+    by (Some z) e h = within z e (is_coordinate z) refl h
+
+-- one coordinate before others
+pub filled_more : (w : Word) (ws : List Word) (k : ℕ) (z : ℤ) → number_of w.text ≡ Some z → IsCoordinate z → Filled ws k → Filled (w ∷ ws) (suc k)
+filled_more w ws k z e l f = record { all = z ∷ f.all; are = cc (f.are, e); count = ap suc f.count; limit = (l, f.limit) }
 
 filled : (k : ℕ) (ws : List Word) → coordinates_fault k ws ≡ None → Filled ws k
 filled zero [] h = record { all = []; are = refl; count = refl; limit = tt }
 filled zero (w ∷ ws) h = cc
 filled (suc k) [] h = cc
-filled (suc k) (w ∷ ws) h = by (filled k ws) (number_of w.text) refl h
-  where
-    by : (coordinates_fault k ws ≡ None → Filled ws k) → (o : Option ℤ) → number_of w.text ≡ o
-        → option_or (coordinate_fault o w.line) (coordinates_fault k ws) ≡ None → Filled (w ∷ ws) (suc k)
-    by rest None e h = cc
-    by rest (Some z) e h = within z e (is_coordinate z) refl rest h
-      where
-        within : (z : ℤ) → number_of w.text ≡ Some z → (b : Bool) → is_coordinate z ≡ b → (coordinates_fault k ws ≡ None → Filled ws k)
-            → option_or (cond b None (Some (Range w.line))) (coordinates_fault k ws) ≡ None → Filled (w ∷ ws) (suc k)
-        within z e false c rest h = cc
-        within z e true c rest h =
-            let f = rest h in
-            record { all = z ∷ f.all; are = cc (f.are, e); count = ap suc f.count; limit = (in_limit z c, f.limit) }
+filled (suc k) (w ∷ ws) h = let r = in_range w (coordinates_fault k ws) h in filled_more w ws k r.0 r.1 r.2 (filled k ws r.3)
 
 -- the triples of a list
-record Grouped (zs : List ℤ) (n : ℕ) : Type 0 where
-  points : List Vector
-  are : coordinates points ≡ zs
-  count : length points ≡ n
+pub record Grouped (zs : List ℤ) (n : ℕ) : Type 0 where
+  pub points : List Vector
+  pub are : coordinates points ≡ zs
+  pub count : length points ≡ n
 
-grouped : (n : ℕ) (zs : List ℤ) → length zs ≡ 3 * n → Grouped zs n
+pub grouped : (n : ℕ) (zs : List ℤ) → length zs ≡ 3 * n → Grouped zs n
 grouped zero [] h = record { points = []; are = refl; count = refl }
 grouped zero (z ∷ zs) h = absurd (omega arith)
 grouped (suc n) [] h = absurd (omega arith)
@@ -157,7 +164,8 @@ whole (w ∷ ws) h = one ws (number_of w.text) refl h
     one [] (Some a) e h = cc
     one (v ∷ vs) (Some a) e h = two v vs a e (number_of v.text) refl h
 
-pub one_or_other : HasListOrFault
+-- it is the file of some points, or it has a fault
+pub one_or_other : (bytes : List ℕ) → ((ps : List Vector) × Reads bytes ps × (first_fault bytes ≡ None)) ⊎ ((f : ReadFault) × (first_fault bytes ≡ Some f))
 one_or_other bytes = by (first_fault bytes) refl
   where
     small : (b : Bool) → nat_lt BYTE_LIMIT (length bytes) ≡ b → cond b (Some Big) (words_fault (data_words bytes)) ≡ None → (ps : List Vector) × Reads bytes ps
@@ -166,9 +174,17 @@ one_or_other bytes = by (first_fault bytes) refl
         let w = whole (data_words bytes) h in
         (w.points, record { small = grind (arith, nat_tests); first = w.first; second = w.second; numbers = w.are; header = w.header; some = w.some; few = w.few; limit = w.limit })
 
-    by : (o : Option ReadFault) → first_fault bytes ≡ o → ((ps : List Vector) × Reads bytes ps × (first_fault bytes ≡ None)) ⊎ ((f : ReadFault) × IsFirstFault bytes f)
+    by : (o : Option ReadFault) → first_fault bytes ≡ o → ((ps : List Vector) × Reads bytes ps × (first_fault bytes ≡ None)) ⊎ ((f : ReadFault) × (first_fault bytes ≡ Some f))
     by None e = let r = small (nat_lt BYTE_LIMIT (length bytes)) refl e in inl (r.0, r.1, e)
     by (Some f) e = inr (f, e)
+
+-- a coordinate in range has no fault
+pub clear_more : (w : Word) (z : ℤ) (after : Option ReadFault) → number_of w.text ≡ Some z → IsCoordinate z → after ≡ None
+    → option_or (coordinate_fault (number_of w.text) w.line) after ≡ None
+clear_more w z after e l h =
+    let in_range : is_coordinate z ≡ true = le-leb _ _ l in
+    subst (λ (o : Option ℤ). option_or (coordinate_fault o w.line) after ≡ None) (sym e)
+    (subst (λ (b : Bool). option_or (cond b None (Some (Range w.line))) after ≡ None) (sym in_range) h)
 
 -- coordinates in range, and no word more, have no fault
 clear : (zs : List ℤ) (ws : List Word) → numbers ws ≡ map Some zs → AllByRecursion IsCoordinate zs → coordinates_fault (length zs) ws ≡ None
@@ -178,9 +194,7 @@ clear (z ∷ zs) [] e l = cc
 clear (z ∷ zs) (w ∷ ws) e l =
     let head : number_of w.text ≡ Some z = cc in
     let rest : numbers ws ≡ map Some zs = cc in
-    let in_range : is_coordinate z ≡ true = le-leb _ _ l.0 in
-    subst (λ (o : Option ℤ). option_or (coordinate_fault o w.line) (coordinates_fault (length zs) ws) ≡ None) (sym head)
-    (subst (λ (b : Bool). option_or (cond b None (Some (Range w.line))) (coordinates_fault (length zs) ws) ≡ None) (sym in_range) (clear zs ws rest l.1))
+    clear_more w z (coordinates_fault (length zs) ws) head l.0 (clear zs ws rest l.1)
 
 -- a point has three coordinates
 pub thrice : (ps : List Vector) → length (coordinates ps) ≡ 3 * length ps
@@ -215,11 +229,11 @@ words_clear (w ∷ v ∷ ws) a b ps e header some few l =
     (subst (λ (o : Option ℤ). second_fault a o v.line ws ≡ None) (sym next)
     (headed_clear a b (length ps) ws header (counted_clear (length ps) ws some few none)))
 
-pub never_both : IsNeverBoth
+pub not_big : (n : ℕ) → n ≤ BYTE_LIMIT → nat_lt BYTE_LIMIT n ≡ false
+not_big n h = grind (arith, nat_tests)
+
+-- and never both
+pub never_both : (bytes : List ℕ) (ps : List Vector) → Reads bytes ps → first_fault bytes ≡ None
 never_both bytes ps r =
-    let fits : nat_lt BYTE_LIMIT (length bytes) ≡ false = small (length bytes) r.small in
-    subst (λ (b : Bool). cond b (Some Big) (words_fault (data_words bytes)) ≡ None) (sym fits)
+    subst (λ (b : Bool). cond b (Some Big) (words_fault (data_words bytes)) ≡ None) (sym (not_big (length bytes) r.small))
     (words_clear (data_words bytes) r.first r.second ps r.numbers r.header r.some r.few r.limit)
-  where
-    small : (n : ℕ) → n ≤ BYTE_LIMIT → nat_lt BYTE_LIMIT n ≡ false
-    small n h = grind (arith, nat_tests)

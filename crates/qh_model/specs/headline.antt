@@ -5,9 +5,12 @@ pub mod DistinctIds
 pub mod Extreme
 pub mod Fan
 pub mod FileFault
+pub mod Forms
 pub mod Hull
 pub mod Limits
 pub mod Numbers
+pub mod OffFault
+pub mod OffFile
 pub mod PointFile
 pub mod Polygon
 pub mod Polygons

@@ -1,11 +1,12 @@
-//! What the whole of qconvex speaks of: points, ids, limits, and the definitions of a point file,
-//! of the predicates, of extreme points and of a hull.
+//! What the whole of qconvex speaks of: points, ids, limits, and the definitions of a point file
+//! and of an OFF file, of the predicates, of extreme points and of a hull.
 //!
 //! The definitions stand in `specs/`, one idea a file. Contracts of every crate cite them, and the
 //! functions of [`laws`] prove what follows from them alone.
 #![tactic(auto)]
 
 mod cut;
+mod form;
 mod hull;
 pub mod laws;
 mod limits;
@@ -17,6 +18,7 @@ mod read_fault;
 mod tests;
 
 pub use cut::{Cut, CutError};
+pub use form::Form;
 pub use hull::{Body, Hull, Polygon};
 pub use limits::{BLOCK_LIMIT, BYTE_LIMIT, COORDINATE_LIMIT, POINT_LIMIT, WORKER_LIMIT};
 pub use memory::Memory;

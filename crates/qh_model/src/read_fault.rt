@@ -6,13 +6,14 @@ use std::alloc::AllocError;
 
 /// Why a point file could not be read. A line is counted from 1 and ends at byte 10.
 ///
-/// Each has the number of its place in this list, from 1. The first seven are faults of the text,
-/// of which the first in the order of reading is given; `Big` goes before all of them.
+/// Each has the number of its place in this list, from 1, save `NotOff`, which has 14. The first seven and
+/// `NotOff` are faults of the text, of which the first in the order of reading is given; `Big` goes before all
+/// of them.
 #[derive(Clone, Copy, Debug, PartialEq, Eq)]
 pub enum ReadFault {
-    /// There are fewer than two data words.
+    /// There are fewer than two data words; in an OFF file no keyword, or fewer than three words after it.
     NoHeader,
-    /// A data word on this line, where a number is to stand, is none.
+    /// A word on this line, where a number is to stand, is none.
     BadNumber(u32),
     /// Neither number of the header is 3.
     NotThree,
@@ -30,6 +31,8 @@ pub enum ReadFault {
     Device,
     /// There are more than `BYTE_LIMIT` bytes.
     Big,
+    /// The first word of an OFF file is not `OFF`.
+    NotOff,
 }
 
 impl From<AllocError> for ReadFault {

@@ -7,19 +7,19 @@ use Rattle.qh_model.specs.declared.limits.TheConstants.{POINT_LIMIT, BYTE_LIMIT}
 use Rattle.qh_model.specs.headline.Limits.{is_coordinate}
 use Rattle.qh_model.specs.headline.Words.{Word, data_words}
 use Rattle.qh_model.specs.headline.Numbers.{number_of}
-use Rattle.qh_model.specs.headline.FileFault.{is_three, coordinate_fault, coordinates_fault, counted_fault, headed_fault, second_fault, header_fault, words_fault, first_fault, IsFirstFault}
+use Rattle.qh_model.specs.headline.FileFault.{is_three, coordinate_fault, coordinates_fault, counted_fault, headed_fault, second_fault, header_fault, words_fault, first_fault}
 use Rattle.qh_read.specs.steps.Building.{lack}
 use Rattle.qh_read.specs.contract.Tokens.{cap}
 use Rattle.qh_read.specs.steps.SmallTokens.{capped}
 use Rattle.qh_read.specs.contract.Progress.{Progress, wants_first, wants_second, wants, fails, counted, headed, after}
 use Rattle.qh_model.specs.declared.read_fault.ReadFault.{ReadFault}
 use Rattle.qh_model.specs.declared.read_fault.ReadFault.TheVariants as faults
-use Rattle.qh_read.proofs.ProgressLaws.{stays, judged}
+use Rattle.qh_read.proofs.ProgressLaws.{stays, judged, is_off}
 
-fallen : (f : ReadFault) (ws : List Word) → lack (judged (fails f) ws) ≡ Some f
+pub fallen : (f : ReadFault) (ws : List Word) → lack (judged (fails f) ws) ≡ Some f
 fallen f ws = ap lack (stays f ws)
 
-same_limit : (z : ℤ) → is_coordinate (capped z) ≡ is_coordinate z
+pub same_limit : (z : ℤ) → is_coordinate (capped z) ≡ is_coordinate z
 same_limit (pos n) = grind (arith, nat_tests)
 same_limit (negsuc n) = grind (arith, nat_tests)
 
@@ -28,11 +28,16 @@ same_three (pos n) = grind (arith, nat_tests)
 same_three (negsuc n) = refl
 
 -- a test that chooses what goes on
-chosen : (b d : Bool) (p q : Progress) (ws : List Word) (x y : Option ReadFault) → b ≡ d → lack (judged p ws) ≡ x → lack (judged q ws) ≡ y → lack (judged (cond b p q) ws) ≡ cond d x y
+pub chosen : (b d : Bool) (p q : Progress) (ws : List Word) (x y : Option ReadFault) → b ≡ d → lack (judged p ws) ≡ x → lack (judged q ws) ≡ y → lack (judged (cond b p q) ws) ≡ cond d x y
 chosen true true p q ws x y e f g = f
 chosen false false p q ws x y e f g = g
 chosen true false p q ws x y e f g = cc
 chosen false true p q ws x y e f g = cc
+
+-- a test before or behind the choice of the earlier fault
+pub either : (b : Bool) (x : Option ReadFault) (f : ReadFault) → cond b x (Some f) ≡ option_or (cond b None (Some f)) x
+either true x f = refl
+either false x f = refl
 
 coordinates : (ws : List Word) (k : ℕ) (t : List ℤ) → lack (judged (wants k t) ws) ≡ coordinates_fault k ws
 coordinates [] zero t = refl
@@ -41,18 +46,13 @@ coordinates (w ∷ ws) zero t = fallen (faults.Long w.line) ws
 coordinates (w ∷ ws) (suc k) t = by (λ z. coordinates ws k (t ++ z ∷ [])) (number_of w.text)
   where
     by : ((z : ℤ) → lack (judged (wants k (t ++ z ∷ [])) ws) ≡ coordinates_fault k ws) → (o : Option ℤ)
-        → lack (judged (after (wants (suc k) t) (option_map capped o) w.line) ws) ≡ option_or (coordinate_fault o w.line) (coordinates_fault k ws)
+        → lack (judged (after (wants (suc k) t) (is_off w) (option_map capped o) w.line) ws) ≡ option_or (coordinate_fault o w.line) (coordinates_fault k ws)
     by rest None = fallen (faults.BadNumber w.line) ws
     by rest (Some z) = chosen (is_coordinate (capped z)) (is_coordinate z) (wants k (t ++ capped z ∷ [])) (fails (faults.Range w.line)) ws (coordinates_fault k ws) (Some (faults.Range w.line))
         (same_limit z) (rest (capped z)) (fallen (faults.Range w.line) ws)
-        ∙ either (is_coordinate z)
-      where
-        -- a test before or behind the choice of the earlier fault
-        either : (b : Bool) → cond b (coordinates_fault k ws) (Some (faults.Range w.line)) ≡ option_or (cond b None (Some (faults.Range w.line))) (coordinates_fault k ws)
-        either true = refl
-        either false = refl
+        ∙ either (is_coordinate z) (coordinates_fault k ws) (faults.Range w.line)
 
-counts : (z : ℤ) (ws : List Word) → lack (judged (counted (capped z)) ws) ≡ counted_fault z ws
+counts : (z : ℤ) (ws : List Word) → lack (judged (counted wants (capped z)) ws) ≡ counted_fault z ws
 counts (negsuc n) ws = fallen faults.Count ws
 counts (pos n) ws = by (nat_le 1 (cap n) && nat_le (cap n) POINT_LIMIT) refl
   where
@@ -67,14 +67,14 @@ counts (pos n) ws = by (nat_le 1 (cap n) && nat_le (cap n) POINT_LIMIT) refl
         fallen faults.Count ws ∙ ap (λ (b : Bool). cond b (coordinates_fault (3 * n) ws) (Some faults.Count)) (sym test)
 
 heads : (a b : ℤ) (ws : List Word) → lack (judged (headed (capped a) (capped b)) ws) ≡ headed_fault a b ws
-heads a b ws = chosen (is_three (capped a)) (is_three a) (counted (capped b)) _ ws (counted_fault b ws) _ (same_three a) (counts b ws)
-    (chosen (is_three (capped b)) (is_three b) (counted (capped a)) (fails faults.NotThree) ws (counted_fault a ws) (Some faults.NotThree) (same_three b) (counts a ws) (fallen faults.NotThree ws))
+heads a b ws = chosen (is_three (capped a)) (is_three a) (counted wants (capped b)) _ ws (counted_fault b ws) _ (same_three a) (counts b ws)
+    (chosen (is_three (capped b)) (is_three b) (counted wants (capped a)) (fails faults.NotThree) ws (counted_fault a ws) (Some faults.NotThree) (same_three b) (counts a ws) (fallen faults.NotThree ws))
 
 seconds : (a : ℤ) (line : ℕ) (ws : List Word) → lack (judged (wants_second (capped a)) ws) ≡ header_fault (Some a) line ws
 seconds a line [] = refl
 seconds a line (w ∷ ws) = by (number_of w.text)
   where
-    by : (o : Option ℤ) → lack (judged (after (wants_second (capped a)) (option_map capped o) w.line) ws) ≡ second_fault a o w.line ws
+    by : (o : Option ℤ) → lack (judged (after (wants_second (capped a)) (is_off w) (option_map capped o) w.line) ws) ≡ second_fault a o w.line ws
     by None = fallen (faults.BadNumber w.line) ws
     by (Some b) = heads a b ws
 
@@ -82,12 +82,12 @@ pub lacks : (ws : List Word) → lack (judged wants_first ws) ≡ words_fault ws
 lacks [] = refl
 lacks (w ∷ ws) = by (number_of w.text)
   where
-    by : (o : Option ℤ) → lack (judged (after wants_first (option_map capped o) w.line) ws) ≡ header_fault o w.line ws
+    by : (o : Option ℤ) → lack (judged (after wants_first (is_off w) (option_map capped o) w.line) ws) ≡ header_fault o w.line ws
     by None = fallen (faults.BadNumber w.line) ws
     by (Some a) = seconds a w.line ws
 
 first : (bs : List ℕ) → length bs ≤ BYTE_LIMIT → first_fault bs ≡ words_fault (data_words bs)
 first bs h = let e : nat_lt BYTE_LIMIT (length bs) ≡ false = grind (arith, nat_tests) in ap (λ (b : Bool). cond b (Some faults.Big) (words_fault (data_words bs))) e
 
-pub found : (bs : List ℕ) (e : ReadFault) → length bs ≤ BYTE_LIMIT → lack (judged wants_first (data_words bs)) ≡ Some e → IsFirstFault bs e
+pub found : (bs : List ℕ) (e : ReadFault) → length bs ≤ BYTE_LIMIT → lack (judged wants_first (data_words bs)) ≡ Some e → first_fault bs ≡ Some e
 found bs e small h = first bs small ∙ sym (lacks (data_words bs)) ∙ h

@@ -4,6 +4,7 @@ use Rattle.std.proofs.lemmas.List.{append-nil}
 use Rattle.std.specs.List.{slice_split, onto_first}
 use Rattle.std.proofs.lemmas.List.Splits.{slice_split-cons_yes, slice_split-cons_no, length-slice_split}
 use Rattle.qh_model.specs.headline.Words.{Word, is_blank, is_data, lines_of, words_of, before_comment, on_line, words_from, data_words, is_word}
+use Rattle.qh_model.specs.declared.form.Form.TheVariants.{Qhull}
 use Rattle.qh_read.proofs.Lexing.{Lexed, start, ended, closed, begun, next, lexed}
 
 pub push_cond : {A B : Type 0} (f : A → B) (b : Bool) (x y : A) (u v : B) → (b ≡ true → f x ≡ u) → (b ≡ false → f y ≡ v) → f (cond b x y) ≡ cond b u v
@@ -26,19 +27,19 @@ data_or_none [] = Unit {0}
 data_or_none (c ∷ w) = is_data (c ∷ []) ≡ true
 
 module _ (p : ℕ → Bool) where
-  abbrev clear : List ℕ → Type 0
+  abbrev pub clear : List ℕ → Type 0
   clear [] = Unit {0}
   clear (c ∷ w) = (p c ≡ false) × clear w
 
-  split_clear : (w : List ℕ) (c : ℕ) (l : List ℕ) → clear w → p c ≡ true → slice_split p (w ++ c ∷ l) ≡ w ∷ slice_split p l
+  pub split_clear : (w : List ℕ) (c : ℕ) (l : List ℕ) → clear w → p c ≡ true → slice_split p (w ++ c ∷ l) ≡ w ∷ slice_split p l
   split_clear [] c l h e = slice_split-cons_yes p c l e
   split_clear (b ∷ w) c l (nb, h) e = slice_split-cons_no p b (w ++ c ∷ l) nb ∙ ap (onto_first b) (split_clear w c l h e)
 
-  split_whole : (w : List ℕ) → clear w → slice_split p w ≡ w ∷ []
+  pub split_whole : (w : List ℕ) → clear w → slice_split p w ≡ w ∷ []
   split_whole [] h = refl
   split_whole (b ∷ w) (nb, h) = slice_split-cons_no p b w nb ∙ ap (onto_first b) (split_whole w h)
 
-clear_append : (p : ℕ → Bool) (w : List ℕ) (c : ℕ) → clear p w → p c ≡ false → clear p (w ++ c ∷ [])
+pub clear_append : (p : ℕ → Bool) (w : List ℕ) (c : ℕ) → clear p w → p c ≡ false → clear p (w ++ c ∷ [])
 clear_append p [] c h e = (e, tt)
 clear_append p (b ∷ w) c (nb, h) e = (nb, clear_append p w c h e)
 
@@ -78,7 +79,7 @@ record Good (s : Lexed) (c : ℕ) (over : Bool) (t : Lexed) : Type 0 where
   same : (l : List ℕ) (ls : List (List ℕ)) → t.words ++ rest t.line t.comment t.under_way (l ∷ ls)
       ≡ s.words ++ rest s.line s.comment s.under_way (cond over ([] ∷ l ∷ ls) (onto_first c (l ∷ ls)))
 
-in_cond : {A : Type 0} (P : A → Type 0) (b : Bool) (x y : A) → (b ≡ true → P x) → (b ≡ false → P y) → P (cond b x y)
+pub in_cond : {A : Type 0} (P : A → Type 0) (b : Bool) (x y : A) → (b ≡ true → P x) → (b ≡ false → P y) → P (cond b x y)
 in_cond P true x y f g = f refl
 in_cond P false x y f g = g refl
 
@@ -118,25 +119,25 @@ good_at ws n false w c false v =
     })
     (λ e. begun_good ws n w c v e)
 
-good : (s : Lexed) (c : ℕ) → Valid s → Good s c (c == 10) (next s c)
+good : (s : Lexed) (c : ℕ) → Valid s → Good s c (c == 10) (next Qhull s c)
 good s c v = good_at s.words s.line s.comment s.under_way c (c == 10) v
 
 -- the lines of bytes are never none
-some_line : (bs : List ℕ) → 0 < length (lines_of bs)
+pub some_line : (bs : List ℕ) → 0 < length (lines_of bs)
 some_line bs = omega (arith, length-slice_split (λ c. c == 10) bs)
 
-total : (bs : List ℕ) (s : Lexed) → Valid s → closed (lexed s bs) ≡ s.words ++ rest s.line s.comment s.under_way (lines_of bs)
+total : (bs : List ℕ) (s : Lexed) → Valid s → closed (lexed Qhull s bs) ≡ s.words ++ rest s.line s.comment s.under_way (lines_of bs)
 total [] s v = ap (λ t. s.words ++ t) (ends s.line s.comment s.under_way v.clean v.data_word v.quiet ∙ sym (append-nil _))
 total (c ∷ cs) s v =
     let g = good s c v in
-    total cs (next s c) g.valid ∙ at_line (lines_of cs) (some_line cs)
+    total cs (next Qhull s c) g.valid ∙ at_line (lines_of cs) (some_line cs)
   where
-    at_line : (ls : List (List ℕ)) → 0 < length ls → (next s c).words ++ rest (next s c).line (next s c).comment (next s c).under_way ls
+    at_line : (ls : List (List ℕ)) → 0 < length ls → (next Qhull s c).words ++ rest (next Qhull s c).line (next Qhull s c).comment (next Qhull s c).under_way ls
         ≡ s.words ++ rest s.line s.comment s.under_way (cond (c == 10) ([] ∷ ls) (onto_first c ls))
     at_line [] h = absurd (omega arith)
     at_line (l ∷ ls) h = (good s c v).same l ls
 
-pub data_words-lexed : (bs : List ℕ) → closed (lexed start bs) ≡ data_words bs
+pub data_words-lexed : (bs : List ℕ) → closed (lexed Qhull start bs) ≡ data_words bs
 data_words-lexed bs = total bs start (record { clean = tt; data_word = tt; quiet = λ q. refl }) ∙ whole (lines_of bs) (some_line bs)
   where
     whole : (ls : List (List ℕ)) → 0 < length ls → rest 1 false [] ls ≡ words_from 1 ls

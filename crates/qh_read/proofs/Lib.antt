@@ -2,7 +2,11 @@ pub mod BuildingLemmas
 pub mod SourceLemmas
 pub mod Lexing
 pub mod LexingLaws
+pub mod OffLexingLaws
 pub mod TokenLaws
 pub mod ProgressLaws
+pub mod OffProgressLaws
 pub mod HoldingLaws
 pub mod FaultLaws
+pub mod OffFaultLaws
+pub mod FormLaws

@@ -2,6 +2,7 @@
 use Rattle.std.proofs.Common.{◌∙◌, ◌++◌, ℕ, List, ap, sym, append_assoc}
 use Rattle.std.specs.Prelude.{Option, Some, None}
 use Rattle.std.specs.Io.KnownBytes.{Consumes}
+use Rattle.qh_model.specs.declared.form.Form.{Form}
 use Rattle.qh_read.specs.contract.Holding.{Reading, Fed}
 
 -- what two reads give, one after the other
@@ -12,7 +13,7 @@ Consumes-append (Some a) (Some b) None xs ys h k = absurd k
 Consumes-append (Some a) (Some b) (Some d) xs ys h k = h ∙ ap (λ (t : List ℕ). xs ++ t) k ∙ sym (append_assoc xs ys d)
 
 -- the reader was fed all that the source gave
-pub record FedFrom (reader : Reading) (old new : Option (List ℕ)) : Type 0 where
+pub record FedFrom (form : Form) (reader : Reading) (old new : Option (List ℕ)) : Type 0 where
   pub given : List ℕ
-  pub fed : Fed reader given
+  pub fed : Fed form reader given
   pub took : Consumes old new given

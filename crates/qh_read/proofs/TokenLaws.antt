@@ -1,14 +1,15 @@
 -- The token of a word tells its number, as far as numbers are told apart.
-use Rattle.std.proofs.Common.{◌≡◌, ◌∙◌, [], ◌∷◌, ◌+◌, ◌-◌, ◌*◌, ◌≤◌, ◌==◌, ◌&&◌, ℕ, List, Bool, true, false, cond, refl, ap, arith, zero, suc, min}
-use Rattle.std.specs.Prelude.{pos, neg_ℤ, Option, Some, None, option_map}
+use Rattle.std.proofs.Common.{◌≡◌, ◌∙◌, [], ◌∷◌, ◌+◌, ◌-◌, ◌*◌, ◌≤◌, ◌==◌, ◌&&◌, ℕ, List, Bool, true, false, cond, refl, ap, sym, arith, zero, suc, min}
+use Rattle.std.specs.Prelude.{codes, pos, neg_ℤ, Option, Some, None, option_map}
 use Rattle.std.specs.Char.{is_ascii_digit}
+use Rattle.std.specs.Str.{bytes_eq}
 use Rattle.std.proofs.lemmas.Bool.Decides.{nat_tests}
 use Rattle.qh_model.specs.declared.limits.TheConstants.{COORDINATE_LIMIT}
 use Rattle.qh_model.specs.headline.Numbers.{read_digits, are_digits, magnitude_of, number_of}
-use Rattle.qh_read.specs.contract.Tokens.{cap, grown, signed, value_of}
+use Rattle.qh_read.specs.contract.Tokens.{cap, grown, signed, value_of, is_keyword}
 use Rattle.qh_read.specs.steps.SmallTokens.{capped}
 use Rattle.qh_read.specs.declared.token.Token.{Token}
-use Rattle.qh_read.specs.declared.token.Token.TheVariants.{Empty, Sign, Digits, Other}
+use Rattle.qh_read.specs.declared.token.Token.TheVariants.{Empty, Sign, Digits, Keyword, Other}
 
 -- the token after these bytes
 abbrev pub grown_by : Token → List ℕ → Token
@@ -65,12 +66,91 @@ minus_of : (o : Option ℕ) → option_map (λ k. signed true (cap k)) o ≡ opt
 minus_of None = refl
 minus_of (Some n) = ap Some (negated n)
 
+-- letters of the keyword are no number, whatever follows
+no_number : (cs : List ℕ) (letters : ℕ) → value_of (grown_by (Keyword letters) cs) ≡ None
+no_number [] letters = refl
+no_number (c ∷ cs) letters = at (no_number cs) (c == 70) (letters == 1) (letters == 2)
+  where
+    at : ((letters : ℕ) → value_of (grown_by (Keyword letters) cs) ≡ None) → (a b d : Bool)
+        → value_of (grown_by (cond a (cond b (Keyword 2) (cond d (Keyword 3) Other)) Other) cs) ≡ None
+    at rest true true d = rest 2
+    at rest true false true = rest 3
+    at rest true false false = ap value_of (others cs)
+    at rest false b d = ap value_of (others cs)
+
+-- a byte that begins no number begins none with letters of the keyword either
+plain_start : (a b : Bool) (t : Token) (cs : List ℕ) → value_of (grown_by (cond a t (cond b (Keyword 1) Other)) cs) ≡ value_of (grown_by (cond a t Other) cs)
+plain_start true b t cs = refl
+plain_start false true t cs = no_number cs 1 ∙ sym (ap value_of (others cs))
+plain_start false false t cs = refl
+
 pub value-number : (w : List ℕ) → value_of (grown_by Empty w) ≡ option_map capped (number_of w)
 value-number [] = refl
-value-number (c ∷ cs) = at (c == 43) (c == 45)
+value-number (c ∷ cs) = at (c == 43) (c == 45) (c == 79)
   where
-    at : (b d : Bool) → value_of (grown_by (cond b (Sign false) (cond d (Sign true) (grown (Sign false) c))) cs)
+    at : (b d o : Bool) → value_of (grown_by (cond b (Sign false) (cond d (Sign true) (cond (is_ascii_digit c) (Digits false (c - 48)) (cond o (Keyword 1) Other)))) cs)
         ≡ option_map capped (cond b (option_map pos (magnitude_of cs)) (cond d (option_map (λ n. neg_ℤ (pos n)) (magnitude_of cs)) (option_map pos (magnitude_of (c ∷ cs)))))
-    at true d = magnitude false cs ∙ plain (magnitude_of cs)
-    at false true = magnitude true cs ∙ minus_of (magnitude_of cs)
-    at false false = magnitude false (c ∷ cs) ∙ plain (magnitude_of (c ∷ cs))
+    at true d o = magnitude false cs ∙ plain (magnitude_of cs)
+    at false true o = magnitude true cs ∙ minus_of (magnitude_of cs)
+    at false false o = plain_start (is_ascii_digit c) o (Digits false (c - 48)) cs ∙ magnitude false (c ∷ cs) ∙ plain (magnitude_of (c ∷ cs))
+
+-- ---- which word is the keyword
+other_word : (cs : List ℕ) → is_keyword (grown_by Other cs) ≡ false
+other_word cs = ap is_keyword (others cs)
+
+digits_word : (cs : List ℕ) (minus : Bool) (n : ℕ) → is_keyword (grown_by (Digits minus n) cs) ≡ false
+digits_word [] minus n = refl
+digits_word (c ∷ cs) minus n = at (digits_word cs minus (cap (10 * n + (c - 48)))) (is_ascii_digit c)
+  where
+    at : is_keyword (grown_by (Digits minus (cap (10 * n + (c - 48)))) cs) ≡ false → (b : Bool)
+        → is_keyword (grown_by (cond b (Digits minus (cap (10 * n + (c - 48)))) Other) cs) ≡ false
+    at rest true = rest
+    at rest false = other_word cs
+
+signed_word : (cs : List ℕ) (minus : Bool) → is_keyword (grown_by (Sign minus) cs) ≡ false
+signed_word [] minus = refl
+signed_word (c ∷ cs) minus = at (is_ascii_digit c)
+  where
+    at : (b : Bool) → is_keyword (grown_by (cond b (Digits minus (c - 48)) Other) cs) ≡ false
+    at true = digits_word cs minus (c - 48)
+    at false = other_word cs
+
+after_off : (w : List ℕ) → is_keyword (grown_by (Keyword 3) w) ≡ bytes_eq w []
+after_off [] = refl
+after_off (c ∷ w) = at (c == 70)
+  where
+    at : (b : Bool) → is_keyword (grown_by (cond b Other Other) w) ≡ false
+    at true = other_word w
+    at false = other_word w
+
+after_of : (w : List ℕ) → is_keyword (grown_by (Keyword 2) w) ≡ bytes_eq w (70 ∷ [])
+after_of [] = refl
+after_of (c ∷ w) = at (c == 70)
+  where
+    at : (b : Bool) → is_keyword (grown_by (cond b (Keyword 3) Other) w) ≡ (b && bytes_eq w [])
+    at true = after_off w
+    at false = other_word w
+
+after_o : (w : List ℕ) → is_keyword (grown_by (Keyword 1) w) ≡ bytes_eq w (70 ∷ 70 ∷ [])
+after_o [] = refl
+after_o (c ∷ w) = at (c == 70)
+  where
+    at : (b : Bool) → is_keyword (grown_by (cond b (Keyword 2) Other) w) ≡ (b && bytes_eq w (70 ∷ []))
+    at true = after_of w
+    at false = other_word w
+
+-- the token of a word tells whether it is the keyword
+pub keyword-off : (w : List ℕ) → is_keyword (grown_by Empty w) ≡ bytes_eq w (codes "OFF")
+keyword-off [] = refl
+keyword-off (c ∷ w) = at (c == 43) (c == 45) (is_ascii_digit c) (c == 79) refl refl refl refl
+  where
+    at : (a b d o : Bool) → (c == 43) ≡ a → (c == 45) ≡ b → is_ascii_digit c ≡ d → (c == 79) ≡ o
+        → is_keyword (grown_by (cond a (Sign false) (cond b (Sign true) (cond d (Digits false (c - 48)) (cond o (Keyword 1) Other)))) w) ≡ (o && bytes_eq w (70 ∷ 70 ∷ []))
+    at true b d true p q r s = absurd (grind (arith, nat_tests))
+    at true b d false p q r s = signed_word w false
+    at false true d true p q r s = absurd (grind (arith, nat_tests))
+    at false true d false p q r s = signed_word w true
+    at false false true true p q r s = absurd (grind (arith, nat_tests))
+    at false false true false p q r s = digits_word w false (c - 48)
+    at false false false true p q r s = after_o w
+    at false false false false p q r s = other_word w

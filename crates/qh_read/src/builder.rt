@@ -1,21 +1,32 @@
 //! The points that the words so far make up.
-ghost use Rattle.std.specs.Prelude.{◌≡◌, ◌≤◌, ◌+◌, ◌*◌, [], true, vec_len};
+ghost use Rattle.std.specs.Prelude.{◌≡◌, ◌≤◌, ◌+◌, ◌*◌, [], true, false, vec_len};
 ghost use Rattle.qh_read.specs.contract.Progress as progress;
 ghost use Rattle.qh_read.specs.steps.Stages.{stage_shown, HasTextFault, is_header, pending_count};
 
 use crate::coordinate::Coordinate;
-use qh_model::{COORDINATE_LIMIT, POINT_LIMIT, Point, ReadFault};
+use crate::token::Token;
+use qh_model::{COORDINATE_LIMIT, Form, POINT_LIMIT, Point, ReadFault};
 use std::alloc::{AllocError, Global};
 
-/// What the next data word is to be.
+/// What the next word is to be.
 #[derive(Clone, Copy, Debug, PartialEq, Eq)]
 pub enum Stage {
     /// The first number of the header.
     First,
     /// The second number of the header, after this one.
     Second(i32),
-    /// One of so many coordinates.
+    /// One of so many coordinates, or none.
     Coordinates(u32),
+    /// The keyword of an OFF file.
+    Keyword,
+    /// The number of vertices.
+    VertexCount,
+    /// The number of faces, after this number of vertices.
+    FaceCount(i32),
+    /// The number of edges, after this number of vertices.
+    EdgeCount(i32),
+    /// One of so many coordinates of vertices, or whatever.
+    Vertices(u32),
     /// Nothing: the text has this fault.
     Failed(ReadFault),
 }
@@ -40,11 +51,23 @@ pub struct Builder {
 
 /// The stage after a header that gives this count.
 fn counted(count: i32) -> Stage
-    ensures shown { stage_shown result [] ≡ progress.counted count }
+    ensures shown { stage_shown result [] ≡ progress.counted progress.wants count }
     ensures text_fault { HasTextFault result }
 {
     if count >= 1 && count <= POINT_LIMIT as i32 {
         Stage::Coordinates(3 * count as u32)
+    } else {
+        Stage::Failed(ReadFault::Count)
+    }
+}
+
+/// The stage after the counts of an OFF file with so many vertices.
+fn counted_vertices(count: i32) -> Stage
+    ensures shown { stage_shown result [] ≡ progress.counted progress.wants_vertices count }
+    ensures text_fault { HasTextFault result }
+{
+    if count >= 1 && count <= POINT_LIMIT as i32 {
+        Stage::Vertices(3 * count as u32)
     } else {
         Stage::Failed(ReadFault::Count)
     }
@@ -64,18 +87,35 @@ fn headed(first: i32, second: i32) -> Stage
     }
 }
 
+/// The stage after the first word of an OFF file.
+fn after_keyword(is_keyword: bool) -> Stage
+    ensures keyword { is_keyword ≡ true → result ≡ Stage.VertexCount }
+    ensures other { is_keyword ≡ false → result ≡ Stage.Failed ReadFault.NotOff }
+{
+    if is_keyword {
+        Stage::VertexCount
+    } else {
+        Stage::Failed(ReadFault::NotOff)
+    }
+}
+
 impl Builder {
-    ghost use Rattle.std.specs.Prelude.{◌≡◌, ◌≤◌, ◌<◌, ◌+◌, ◌*◌, ◌++◌, [], ◌∷◌, false, Some, OnOk, IfOk, IfErr, vec_len, vec_capacity};
+    ghost use Rattle.std.specs.Prelude.{◌≡◌, ◌≤◌, ◌<◌, ◌+◌, ◌*◌, ◌++◌, [], ◌∷◌, Some, OnOk, IfOk, IfErr, vec_len, vec_capacity};
     ghost use Rattle.qh_read.specs.contract.ReadFaults.{IsTextFault};
+    ghost use Rattle.qh_read.specs.contract.Tokens.{is_keyword, value_of};
+    ghost use Rattle.qh_read.specs.steps.SmallTokens.{IsSmall};
     ghost use Rattle.qh_read.specs.steps.Building.{shown, taken, taken_count, lack, AreAll};
 
     /// Nothing read yet.
-    pub fn new(alloc: Global) -> Builder
-        ensures shown { shown result ≡ progress.wants_first }
+    pub fn new(alloc: Global, form: Form) -> Builder
+        ensures shown { shown result ≡ progress.started form }
         ensures count { taken_count result ≡ 0 }
     {
         Builder {
-            stage: Stage::First,
+            stage: match form {
+                Form::Qhull => Stage::First,
+                Form::Off => Stage::Keyword,
+            },
             points: Vec::new(alloc),
             pending: Pending::Zero,
         }
@@ -112,11 +152,14 @@ impl Builder {
         }
     }
 
-    /// Takes one coordinate more, if it is in range, after which so many are left.
-    fn coordinate(&mut self, left: u32, value: i32, line: u32)
+    /// Takes one coordinate more, if it is in range, after which this stage comes.
+    fn coordinate(&mut self, next: Stage, value: i32, line: u32)
         requires room { taken_count self.old < 3 * vec_capacity self.old.points + 2 }
         requires after_header { is_header self.old.stage ≡ false }
-        ensures shown { shown self.new ≡ progress.took left (taken self.old) line value }
+        requires next { is_header next ≡ false }
+        requires next_fault { HasTextFault next }
+        ensures shown { shown self.new
+            ≡ progress.took (stage_shown next) (taken self.old) line value }
         ensures count { taken_count self.new ≤ taken_count self.old + 1 }
         ensures kept { vec_capacity self.old.points ≤ vec_capacity self.new.points }
     {
@@ -124,26 +167,37 @@ impl Builder {
             self.stage = Stage::Failed(ReadFault::Range(line));
         } else {
             self.push(Coordinate { value });
-            self.stage = Stage::Coordinates(left);
+            self.stage = next;
         }
     }
 
-    /// Takes the next data word, by its number if it is one, and its line.
+    /// Takes the next word, by what is known of it and its line.
     ///
     /// Where it completes a point, there is room for it.
-    pub fn take(&mut self, value: Option<i32>, line: u32)
+    pub fn take(&mut self, token: Token, line: u32)
+        requires small { IsSmall token }
         requires room { taken_count self.old < 3 * vec_capacity self.old.points + 2 }
-        ensures shown { shown self.new ≡ progress.after (shown self.old) value line }
+        ensures shown { shown self.new ≡ progress.after (shown self.old) (is_keyword token) (value_of token) line }
         ensures count { taken_count self.new ≤ taken_count self.old + 1 }
         ensures kept { vec_capacity self.old.points ≤ vec_capacity self.new.points }
     {
-        match (self.stage, value) {
+        match (self.stage, token.value()) {
             (Stage::Coordinates(0), _) => self.stage = Stage::Failed(ReadFault::Long(line)),
-            (Stage::Coordinates(left), Some(value)) => self.coordinate(left - 1, value, line),
+            (Stage::Coordinates(left), Some(value)) => {
+                self.coordinate(Stage::Coordinates(left - 1), value, line)
+            }
+            (Stage::Vertices(0), _) => {}
+            (Stage::Vertices(left), Some(value)) => {
+                self.coordinate(Stage::Vertices(left - 1), value, line)
+            }
             (Stage::Failed(_), _) => {}
+            (Stage::Keyword, _) => self.stage = after_keyword(token.is_keyword()),
             (_, None) => self.stage = Stage::Failed(ReadFault::BadNumber(line)),
             (Stage::First, Some(first)) => self.stage = Stage::Second(first),
             (Stage::Second(first), Some(second)) => self.stage = headed(first, second),
+            (Stage::VertexCount, Some(vertices)) => self.stage = Stage::FaceCount(vertices),
+            (Stage::FaceCount(vertices), Some(_)) => self.stage = Stage::EdgeCount(vertices),
+            (Stage::EdgeCount(vertices), Some(_)) => self.stage = counted_vertices(vertices),
         }
     }
 
@@ -155,8 +209,11 @@ impl Builder {
     {
         match self.stage {
             Stage::First | Stage::Second(_) => Err(ReadFault::NoHeader),
+            Stage::Keyword | Stage::VertexCount => Err(ReadFault::NoHeader),
+            Stage::FaceCount(_) | Stage::EdgeCount(_) => Err(ReadFault::NoHeader),
             Stage::Coordinates(0) => Ok(self.points),
-            Stage::Coordinates(_) => Err(ReadFault::Short),
+            Stage::Vertices(0) => Ok(self.points),
+            Stage::Coordinates(_) | Stage::Vertices(_) => Err(ReadFault::Short),
             Stage::Failed(fault) => Err(fault),
         }
     }

@@ -1,8 +1,9 @@
-//! Reads point files: the text of a dimension, a number of points and their coordinates.
+//! Reads point files, which are the text of a dimension, a number of points and their coordinates, and the
+//! vertices of OFF files.
 //!
-//! [`read_points`] answers the points of a byte string, or the first fault that it has, and
-//! [`read_from`] those of the bytes that a [`Source`] gives. Both stand on [`Reader`], which takes
-//! the bytes in pieces and keeps none of them.
+//! [`read_points`] and [`read_off`] answer the points of a byte string, or the first fault that it has,
+//! [`read_from`] and [`read_off_from`] those of the bytes that a [`Source`] gives. All stand on [`Reader`],
+//! which takes the bytes in pieces and keeps none of them.
 #![tactic(auto)]
 
 mod builder;
@@ -21,4 +22,6 @@ pub use fault::FeedFault;
 pub use qh_model::ReadFault;
 pub use reader::Reader;
 pub use source::{DeviceFault, MemSource, Source, StdSource};
-pub use whole::{PIECE_LENGTH, read_from, read_points};
+pub use whole::{
+    PIECE_LENGTH, read_form, read_form_from, read_from, read_off, read_off_from, read_points,
+};

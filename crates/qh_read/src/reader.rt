@@ -1,18 +1,19 @@
-//! Reading in pieces, and of whole byte strings.
+//! Reading in pieces.
 ghost use Rattle.std.specs.Prelude.{◌≡◌, ◌<◌, ◌+◌, ◌++◌, ◌↔◌, List, ℕ, [], length, IfOk, IfErr, OnOk, OnErr, Err};
-ghost use Rattle.qh_model.specs.headline.PointFile.{Reads};
-ghost use Rattle.qh_read.specs.contract.ReadFaults.{IsFaultOf, IsTextFault};
-ghost use Rattle.qh_model.specs.headline.FileFault.{IsFirstFault};
+ghost use Rattle.qh_model.specs.declared.form.Form.{Form};
+ghost use Rattle.qh_model.specs.declared.form.Form.TheVariants as forms;
+ghost use Rattle.qh_model.specs.headline.Forms.{ReadsIn, IsFirstFault};
+ghost use Rattle.qh_read.specs.contract.ReadFaults.{IsTextFault};
 ghost use Rattle.qh_read.specs.contract.Holding.{Fed};
 
 use crate::fault::FeedFault;
 use crate::scanner::Scanner;
 use crate::token::Token;
-use qh_model::{BYTE_LIMIT, Point, ReadFault};
+use qh_model::{BYTE_LIMIT, Form, Point, ReadFault};
 use std::alloc::Global;
 use std::marker::Model;
 
-/// Reads a point file that comes in pieces, cut anywhere.
+/// Reads a point file, or an OFF file, that comes in pieces, cut anywhere.
 ///
 /// It keeps the points so far and no bytes: of the word under way only what tells its number. It
 /// goes on after a fault of the text, which `finish` answers. A contract sees what it holds and of
@@ -37,12 +38,26 @@ impl Model for Reader {
 }
 
 impl Reader {
-    /// A reader that was fed nothing. It takes no memory yet, and grows by `alloc`.
+    /// A reader of a point file that was fed nothing. It takes no memory yet, and grows by `alloc`.
     pub fn new(alloc: Global) -> Reader
-        ensures { Fed result [] }
+        ensures { Fed forms.Qhull result [] }
+    {
+        Reader::of_form(alloc, Form::Qhull)
+    }
+
+    /// A reader of an OFF file that was fed nothing. It takes no memory yet, and grows by `alloc`.
+    pub fn new_off(alloc: Global) -> Reader
+        ensures { Fed forms.Off result [] }
+    {
+        Reader::of_form(alloc, Form::Off)
+    }
+
+    /// A reader of a file of this form.
+    pub(crate) fn of_form(alloc: Global, form: Form) -> Reader
+        ensures { Fed form result [] }
     {
         Reader {
-            scanner: Scanner::new(alloc),
+            scanner: Scanner::new(alloc, form),
             token: Token::Empty,
             count: 0,
         }
@@ -55,7 +70,8 @@ impl Reader {
     /// first change, so a refusal leaves the reader as it was.
     pub fn feed(&mut self, piece: &[u8]) -> Result<(), FeedFault>
         ensures fed { OnOk result
-            ((before : List ℕ) → Fed self.old before → Fed self.new (before ++ piece.now)) }
+            ((form : Form) (before : List ℕ)
+            → Fed form self.old before → Fed form self.new (before ++ piece.now)) }
         ensures big { (result ≡ Err FeedFault.Big)
             ↔ (BYTE_LIMIT < self.old.count + length piece.now) }
         ensures refused { OnErr result (self.new ≡ self.old) }
@@ -69,14 +85,16 @@ impl Reader {
         Ok(())
     }
 
-    /// The points of the bytes fed, or their first fault, from `NoHeader` to `Short`.
+    /// The points of the bytes fed, or their first fault, from `NoHeader` to `Short` or `NotOff`.
     ///
     /// It takes no memory.
     pub fn finish(self) -> Result<Vec<Point>, ReadFault>
         ensures read { IfOk result
-            (λ points. (bytes : List ℕ) → Fed self bytes → Reads bytes points.items) }
+            (λ points. (form : Form) (bytes : List ℕ)
+            → Fed form self bytes → ReadsIn form bytes points.items) }
         ensures fault { IfErr result
-            (λ e. (bytes : List ℕ) → Fed self bytes → IsFirstFault bytes e) }
+            (λ e. (form : Form) (bytes : List ℕ)
+            → Fed form self bytes → IsFirstFault form bytes e) }
         ensures text { IfErr result IsTextFault }
     {
         let Reader {

@@ -1,18 +1,22 @@
 //! The step from bytes to words, in any pieces.
-ghost use Rattle.std.specs.Prelude.{ℕ, ◌≡◌, ◌≤◌, ◌<◌, ◌+◌, ◌^◌, length, OnOk, vec_len, vec_capacity};
+ghost use Rattle.std.specs.Prelude.{ℕ, ◌≡◌, ◌≤◌, ◌<◌, ◌+◌, ◌^◌, false, length, OnOk, vec_len, vec_capacity};
+ghost use Rattle.std.specs.Char.{is_ascii_digit};
 ghost use Rattle.qh_read.specs.steps.SmallTokens.{IsSmall};
 ghost use Rattle.qh_read.specs.steps.Building.{shown, taken_count};
-ghost use Rattle.qh_read.specs.contract.Holding.{held_at_start, ended_held, next_held, held_by};
+ghost use Rattle.qh_read.specs.contract.Holding.{held_at_start, ended_held, held_marked, next_held, held_by};
 ghost use Rattle.qh_read.specs.steps.Scanning.{held, under_way, HasRoom};
 
 use crate::builder::Builder;
 use crate::token::{Token, begins_data, blank, with_digit};
+use qh_model::Form;
 use std::alloc::{AllocError, Global};
 
 /// What is known of the bytes so far, save of the word under way, whose token goes beside it.
 #[derive(Drop)]
 pub struct Scanner {
     pub builder: Builder,
+    /// How the bytes tell points.
+    pub form: Form,
     /// A comment runs, to the end of the line.
     pub comment: bool,
     /// The line, from 1.
@@ -21,13 +25,14 @@ pub struct Scanner {
 
 impl Scanner {
     /// No byte yet.
-    pub fn new(alloc: Global) -> Scanner
-        ensures held { held result Token.Empty ≡ held_at_start }
+    pub fn new(alloc: Global, form: Form) -> Scanner
+        ensures held { held result Token.Empty ≡ held_at_start form }
         ensures line { result.line ≡ 1 }
         ensures room { HasRoom result Token.Empty 0 }
     {
         Scanner {
-            builder: Builder::new(alloc),
+            builder: Builder::new(alloc, form),
+            form,
             comment: false,
             line: 1,
         }
@@ -55,7 +60,41 @@ impl Scanner {
             → HasRoom self.new Token.Empty bytes }
     {
         if !token.is_empty() {
-            self.builder.take(token.value(), self.line);
+            self.builder.take(token, self.line);
+        }
+    }
+
+    /// Takes a byte that is no digit and parts no words, where no comment runs. It answers the word
+    /// under way after it.
+    #[inline]
+    fn mark(&mut self, token: Token, byte: u8) -> Token
+        requires small { IsSmall token }
+        requires room { HasRoom self.old token 1 }
+        requires quiet { self.old.comment ≡ false }
+        requires other { is_ascii_digit byte ≡ false }
+        ensures held { held self.new result
+            ≡ held_marked self.old.form (held self.old token) byte }
+        ensures small { IsSmall result }
+        ensures line { self.new.line ≡ self.old.line }
+        ensures room { (bytes : ℕ) → HasRoom self.old token (bytes + 1)
+            → HasRoom self.new result bytes }
+    {
+        match self.form {
+            Form::Qhull => {
+                if !token.is_empty() || begins_data(byte) {
+                    return token.grow_other(byte);
+                }
+                self.comment = true;
+                token
+            }
+            Form::Off => {
+                if byte != b'#' {
+                    return token.grow_other(byte);
+                }
+                self.end_word(token);
+                self.comment = true;
+                Token::Empty
+            }
         }
     }
 
@@ -82,11 +121,8 @@ impl Scanner {
             token
         } else if byte.is_ascii_digit() {
             token.grow_digit(byte)
-        } else if !token.is_empty() || begins_data(byte) {
-            token.grow_other(byte)
         } else {
-            self.comment = true;
-            token
+            self.mark(token, byte)
         }
     }
 

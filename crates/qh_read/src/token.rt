@@ -1,7 +1,7 @@
 //! The word under way, of which only what tells its number is kept.
 ghost use Rattle.std.specs.Prelude.{◌≡◌, ◌≤◌, ◌<◌, ◌+◌, ◌*◌, ◌↔◌, [], ◌∷◌, true, false, IsTrue};
 ghost use Rattle.std.specs.Char.{is_ascii_digit};
-ghost use Rattle.qh_read.specs.contract.Tokens.{cap, grown, value_of};
+ghost use Rattle.qh_read.specs.contract.Tokens.{cap, grown, value_of, is_keyword};
 ghost use Rattle.qh_read.specs.steps.SmallTokens.{IsSmall};
 ghost use Rattle.qh_model.specs.headline.Words.{is_blank, is_data};
 
@@ -19,7 +19,9 @@ pub enum Token {
     Sign(bool),
     /// Digits after a sign or none, whether it is a minus, and their value up to the cap.
     Digits(bool, u32),
-    /// A data word that is no number.
+    /// So many letters of the keyword `OFF`, from 1 to 3, and no more.
+    Keyword(u8),
+    /// A word that is no number and not the keyword.
     Other,
 }
 
@@ -75,7 +77,7 @@ impl Token {
             Token::Digits(minus, magnitude) => Token::Digits(minus, with_digit(magnitude, digit)),
             Token::Sign(minus) => Token::Digits(minus, digit as u32),
             Token::Empty => Token::Digits(false, digit as u32),
-            Token::Other => Token::Other,
+            Token::Keyword(_) | Token::Other => Token::Other,
         }
     }
 
@@ -88,8 +90,18 @@ impl Token {
         match (self, byte) {
             (Token::Empty, b'+') => Token::Sign(false),
             (Token::Empty, b'-') => Token::Sign(true),
+            (Token::Empty, b'O') => Token::Keyword(1),
+            (Token::Keyword(1), b'F') => Token::Keyword(2),
+            (Token::Keyword(2), b'F') => Token::Keyword(3),
             _ => Token::Other,
         }
+    }
+
+    /// Whether the word is the keyword `OFF`.
+    pub fn is_keyword(self) -> bool
+        ensures { result ≡ is_keyword self }
+    {
+        matches!(self, Token::Keyword(3))
     }
 
     /// The number of the word, up to the cap, if it is one.

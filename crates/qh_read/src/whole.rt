@@ -1,36 +1,57 @@
 //! Reading of a whole input.
 ghost use Rattle.std.specs.Prelude.{◌≡◌, ◌≢◌, ◌≤◌, ◌<◌, ◌+◌, ◌-◌, ◌^◌, length, vec_len, IfOk, IfErr, Err};
-ghost use Rattle.qh_model.specs.headline.PointFile.{Reads};
+ghost use Rattle.qh_model.specs.declared.form.Form.TheVariants as forms;
+ghost use Rattle.qh_model.specs.headline.Forms.{ReadsIn, IsFirstFault};
 ghost use Rattle.qh_read.specs.contract.ReadFaults.{IsFaultOf, IsTextFault};
-ghost use Rattle.qh_model.specs.headline.FileFault.{IsFirstFault};
 ghost use Rattle.qh_read.specs.headline.SourceBytes.{Gives, GivesAll};
 
 use crate::reader::Reader;
 use crate::source::Source;
-use qh_model::{BYTE_LIMIT, Point, ReadFault};
+use qh_model::{BYTE_LIMIT, Form, Point, ReadFault};
 use std::alloc::{AllocError, Global};
 
 /// How many bytes are taken at once, so that the room made for them stays small.
 pub const PIECE_LENGTH: usize = 65536;
 
-/// The points of a file, in its order, or its first fault.
+/// The points of a file of this form, in its order, or its first fault.
 ///
 /// `Big` goes before all other faults, and is found before any growth. `Memory` is answered where
 /// room for the points was refused; `Device` never.
-pub fn read_points(alloc: Global, bytes: &[u8]) -> Result<Vec<Point>, ReadFault>
-    ensures read { IfOk result (λ points. Reads bytes.now points.items) }
-    ensures fault { IfErr result (λ e. IsFaultOf bytes.now e) }
+pub fn read_form(alloc: Global, form: Form, bytes: &[u8]) -> Result<Vec<Point>, ReadFault>
+    ensures read { IfOk result (λ points. ReadsIn form bytes.now points.items) }
+    ensures fault { IfErr result (λ e. IsFaultOf form bytes.now e) }
     ensures big { BYTE_LIMIT < length bytes.now → result ≡ Err ReadFault.Big }
     ensures no_device { result ≢ Err ReadFault.Device }
 {
     if bytes.len() > BYTE_LIMIT as usize {
         return Err(ReadFault::Big);
     }
-    let mut reader = Reader::new(alloc);
+    let mut reader = Reader::of_form(alloc, form);
     for piece in bytes.chunks(PIECE_LENGTH) {
         reader.feed(piece)?;
     }
     reader.finish()
+}
+
+/// The points of a point file, in its order, or its first fault, with the answers of [`read_form`].
+pub fn read_points(alloc: Global, bytes: &[u8]) -> Result<Vec<Point>, ReadFault>
+    ensures read { IfOk result (λ points. ReadsIn forms.Qhull bytes.now points.items) }
+    ensures fault { IfErr result (λ e. IsFaultOf forms.Qhull bytes.now e) }
+    ensures big { BYTE_LIMIT < length bytes.now → result ≡ Err ReadFault.Big }
+    ensures no_device { result ≢ Err ReadFault.Device }
+{
+    read_form(alloc, Form::Qhull, bytes)
+}
+
+/// The points that are the vertices of an OFF file, in its order, or its first fault, with the answers of
+/// [`read_form`].
+pub fn read_off(alloc: Global, bytes: &[u8]) -> Result<Vec<Point>, ReadFault>
+    ensures read { IfOk result (λ points. ReadsIn forms.Off bytes.now points.items) }
+    ensures fault { IfErr result (λ e. IsFaultOf forms.Off bytes.now e) }
+    ensures big { BYTE_LIMIT < length bytes.now → result ≡ Err ReadFault.Big }
+    ensures no_device { result ≢ Err ReadFault.Device }
+{
+    read_form(alloc, Form::Off, bytes)
 }
 
 /// Room for a piece, on the heap.
@@ -40,20 +61,24 @@ fn new_buffer(alloc: Global) -> Result<Vec<u8>, AllocError>
     vec![in alloc; 0; PIECE_LENGTH]
 }
 
-/// The points of the file that a source gives, in its order, or its first fault.
+/// The points of the file of this form that a source gives, in its order, or its first fault.
 ///
 /// Points and faults of the text are answered only once the end was read, of all bytes that came.
 /// `Device` is answered where a read failed, and no call follows that read; `Big` where more than
 /// `BYTE_LIMIT` bytes came, of which at most `PIECE_LENGTH` are too many; `Memory` where memory was
 /// refused. The source's count of failures has room for one more.
-pub fn read_from<S: Source>(alloc: Global, source: &mut S) -> Result<Vec<Point>, ReadFault>
+pub fn read_form_from<S: Source>(
+    alloc: Global,
+    form: Form,
+    source: &mut S,
+) -> Result<Vec<Point>, ReadFault>
     requires { S.failure_count source.old < 2 ^ 64 - 1 }
     ensures read { IfOk result (λ points.
         GivesAll (S.remaining source.old) (S.remaining source.new)
-        (λ bytes. Reads bytes points.items)) }
+        (λ bytes. ReadsIn form bytes points.items)) }
     ensures text { IfErr result (λ e. IsTextFault e →
         GivesAll (S.remaining source.old) (S.remaining source.new)
-        (λ bytes. IsFirstFault bytes e)) }
+        (λ bytes. IsFirstFault form bytes e)) }
     ensures big { result ≡ Err ReadFault.Big →
         Gives (S.remaining source.old) (S.remaining source.new)
         (λ bytes. (BYTE_LIMIT < length bytes) × (length bytes ≤ BYTE_LIMIT + PIECE_LENGTH)) }
@@ -65,7 +90,7 @@ pub fn read_from<S: Source>(alloc: Global, source: &mut S) -> Result<Vec<Point>,
         → S.failure_count source.new ≡ S.failure_count source.old }
 {
     let mut buffer = new_buffer(alloc)?;
-    let mut reader = Reader::new(alloc);
+    let mut reader = Reader::of_form(alloc, form);
     loop {
         let count = source.read(&mut buffer)?;
         if count == 0 {
@@ -73,4 +98,50 @@ pub fn read_from<S: Source>(alloc: Global, source: &mut S) -> Result<Vec<Point>,
         }
         reader.feed(&buffer[..count])?;
     }
+}
+
+/// The points of the point file that a source gives, in its order, or its first fault, with the answers
+/// of [`read_form_from`].
+pub fn read_from<S: Source>(alloc: Global, source: &mut S) -> Result<Vec<Point>, ReadFault>
+    requires { S.failure_count source.old < 2 ^ 64 - 1 }
+    ensures read { IfOk result (λ points.
+        GivesAll (S.remaining source.old) (S.remaining source.new)
+        (λ bytes. ReadsIn forms.Qhull bytes points.items)) }
+    ensures text { IfErr result (λ e. IsTextFault e →
+        GivesAll (S.remaining source.old) (S.remaining source.new)
+        (λ bytes. IsFirstFault forms.Qhull bytes e)) }
+    ensures big { result ≡ Err ReadFault.Big →
+        Gives (S.remaining source.old) (S.remaining source.new)
+        (λ bytes. (BYTE_LIMIT < length bytes) × (length bytes ≤ BYTE_LIMIT + PIECE_LENGTH)) }
+
+    // One read failed just where `Device` is answered.
+    ensures device { result ≡ Err ReadFault.Device
+        → S.failure_count source.new ≡ S.failure_count source.old + 1 }
+    ensures no_device { result ≢ Err ReadFault.Device
+        → S.failure_count source.new ≡ S.failure_count source.old }
+{
+    read_form_from(alloc, Form::Qhull, source)
+}
+
+/// The points that are the vertices of the OFF file that a source gives, in its order, or its first fault,
+/// with the answers of [`read_form_from`].
+pub fn read_off_from<S: Source>(alloc: Global, source: &mut S) -> Result<Vec<Point>, ReadFault>
+    requires { S.failure_count source.old < 2 ^ 64 - 1 }
+    ensures read { IfOk result (λ points.
+        GivesAll (S.remaining source.old) (S.remaining source.new)
+        (λ bytes. ReadsIn forms.Off bytes points.items)) }
+    ensures text { IfErr result (λ e. IsTextFault e →
+        GivesAll (S.remaining source.old) (S.remaining source.new)
+        (λ bytes. IsFirstFault forms.Off bytes e)) }
+    ensures big { result ≡ Err ReadFault.Big →
+        Gives (S.remaining source.old) (S.remaining source.new)
+        (λ bytes. (BYTE_LIMIT < length bytes) × (length bytes ≤ BYTE_LIMIT + PIECE_LENGTH)) }
+
+    // One read failed just where `Device` is answered.
+    ensures device { result ≡ Err ReadFault.Device
+        → S.failure_count source.new ≡ S.failure_count source.old + 1 }
+    ensures no_device { result ≢ Err ReadFault.Device
+        → S.failure_count source.new ≡ S.failure_count source.old }
+{
+    read_form_from(alloc, Form::Off, source)
 }

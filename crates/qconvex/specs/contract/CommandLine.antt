@@ -9,6 +9,8 @@ use Rattle.clap.specs.declared.builder.value_parser.ValueParser.TheVariants.{Sig
 use Rattle.clap.specs.declared.error.kind.ErrorKind.{ErrorKind}
 use Rattle.clap.specs.declared.error.kind.ErrorKind.TheVariants.{DisplayHelp}
 use Rattle.qh_model.specs.declared.limits.TheConstants.{WORKER_LIMIT}
+use Rattle.qh_model.specs.declared.form.Form.{Form}
+use Rattle.qh_model.specs.declared.form.Form.TheVariants as forms
 use Rattle.qh_model.specs.declared.out.Out.{Out}
 use Rattle.qh_model.specs.declared.out.Out.TheVariants.{Rank, Summary, Fx, Off, OffTriangles}
 use Rattle.qconvex.specs.declared.command_line.ArgFault.{ArgFault}
@@ -35,9 +37,19 @@ number_option name default limit = record (new_rule name) {
 abbrev pub outs_rule : ValueParser → Rule
 outs_rule parser = record (new_rule (codes "outs")) { action = Some Append; value_names = 1; parser = Some parser }
 
+-- the option `--from FORM`, with the point file as its default, each of whose words this parser takes
+abbrev pub from_option : ValueParser → Rule
+from_option parser = record (new_rule (codes "from")) {
+  long = Some (codes "from");
+  action = Some Set;
+  value_names = 1;
+  defaults = codes "qhull" ∷ [];
+  parser = Some parser;
+}
+
 -- the command
-abbrev pub program : ValueParser → App
-program outs = with_rule (with_rule (with_rule (new_app (codes "qconvex"))
+abbrev pub program : ValueParser → ValueParser → App
+program from outs = with_rule (with_rule (with_rule (with_rule (new_app (codes "qconvex")) (from_option from))
     (number_option (codes "workers") (codes "4") WORKER_LIMIT)) (number_option (codes "block") (codes "4096") BLOCK_SIZE_LIMIT)) (outs_rule outs)
 
 -- the word of an output
@@ -48,14 +60,20 @@ word_of Fx = codes "Fx"
 word_of Off = codes "off"
 word_of OffTriangles = codes "offt"
 
+-- the word of a form
+abbrev pub form_word : Form → Text
+form_word forms.Qhull = codes "qhull"
+form_word forms.Off = codes "off"
+
 -- the words that a parser takes, where it takes some words and no other
 abbrev pub words_taken : ValueParser → List Text
 words_taken (Names names) = map (λ w. w.now) names.now
 words_taken _ = []
 
--- the command whose OUT is the word of an output
+-- the command whose FORM is the word of a form, and whose OUT is that of an output
 abbrev pub IsProgram : App → Type 0
-IsProgram app = (outs : ValueParser) × (words_taken outs ≡ map word_of (Rank ∷ Summary ∷ Fx ∷ Off ∷ OffTriangles ∷ [])) × (app ≡ program outs)
+IsProgram app = (from : ValueParser) × (outs : ValueParser) × (words_taken from ≡ map form_word (forms.Qhull ∷ forms.Off ∷ []))
+    × (words_taken outs ≡ map word_of (Rank ∷ Summary ∷ Fx ∷ Off ∷ OffTriangles ∷ [])) × (app ≡ program from outs)
 
 -- the number that a text stands for
 abbrev pub NumberOf : Option Text → ℕ → Type 0
@@ -66,11 +84,16 @@ abbrev pub AreOutsOf : Option (List Text) → List Out → Type 0
 AreOutsOf None outs = outs ≡ Summary ∷ []
 AreOutsOf (Some words) outs = map word_of outs ≡ words
 
--- the settings have the values of both options and the outputs, in the command's matches of the words
+-- the form of the word FORM
+abbrev pub IsFormOf : Option (List Text) → Form → Type 0
+IsFormOf words form = words ≡ Some (form_word form ∷ [])
+
+-- the settings have the values of the options and the outputs, in the command's matches of the words
 pub record AreSettingsIn (app : App) (words : List Text) (s : SettingsValue) : Type 0 where
   pub workers : NumberOf (one_of (codes "workers") (matches_of app words)) s.workers
   pub block : NumberOf (one_of (codes "block") (matches_of app words)) s.block
   pub outs : AreOutsOf (all_of (codes "outs") (matches_of app words)) s.outs
+  pub form : IsFormOf (all_of (codes "from") (matches_of app words)) s.form
 
 -- the same, in those of the program
 abbrev pub AreSettingsOf : List Text → SettingsValue → Type 0

@@ -15,6 +15,7 @@ fault_line (Read read.Short) = codes "qconvex: 7: Short"
 fault_line (Read read.Memory) = codes "qconvex: 8: Memory"
 fault_line (Read read.Device) = codes "qconvex: 9: Device"
 fault_line (Read read.Big) = codes "qconvex: 10: Big"
+fault_line (Read read.NotOff) = codes "qconvex: 14: NotOff"
 fault_line Send = codes "qconvex: 11: Send"
 fault_line Usage = codes "qconvex: 12: Usage"
 
@@ -29,5 +30,6 @@ status_of (Read read.Short) = 1
 status_of (Read read.Memory) = 3
 status_of (Read read.Device) = 4
 status_of (Read read.Big) = 1
+status_of (Read read.NotOff) = 1
 status_of Send = 4
 status_of Usage = 2

@@ -10,13 +10,14 @@ use Rattle.qconvex.specs.declared.command_line.ArgFault.{ArgFault}
 use Rattle.qconvex.specs.declared.command_line.ArgFault.TheVariants.{Help, Usage, Memory}
 use Rattle.qconvex.specs.headline.SettingsValue.{SettingsValue}
 use Rattle.qconvex.specs.contract.Ranges.{IsInRange}
-use Rattle.qconvex.specs.contract.CommandLine.{AreOutsOf, NumberOf}
+use Rattle.qconvex.specs.contract.CommandLine.{AreOutsOf, IsFormOf, NumberOf}
 
 -- the settings that the values found say
 pub record AreSettingsFound (found : Found) (s : SettingsValue) : Type 0 where
   pub workers : NumberOf (one_text found (codes "workers")) s.workers
   pub block : NumberOf (one_text found (codes "block")) s.block
   pub outs : AreOutsOf (option_map raw_values (matched_of found (codes "outs"))) s.outs
+  pub form : IsFormOf (option_map raw_values (matched_of found (codes "from"))) s.form
 
 -- why no settings were found: none are in range, or memory was refused
 abbrev pub IsFindingFault : Found → ArgFault → Type 0

@@ -1,8 +1,9 @@
 use super::settings;
+use qh_model::Form;
 use std::test::Fail;
 
 /// Lines that are refused.
-const REFUSED: [&str; 13] = [
+const REFUSED: [&str; 18] = [
     "--workers 0",
     "--workers 65",
     "--block 0",
@@ -16,19 +17,27 @@ const REFUSED: [&str; 13] = [
     "-V",
     "help",
     "--workers two",
+    "--from",
+    "--from obj",
+    "--from OFF",
+    "--from off --from off",
+    "--from off,qhull",
 ];
 
-/// Lines that are accepted, with their workers, block size and number of outputs.
-const ACCEPTED: [(&str, u32, u32, usize); 9] = [
-    ("", 4, 4096, 1),
-    ("rank", 4, 4096, 1),
-    ("rank --workers 2 s", 2, 4096, 2),
-    ("--block=3 rank", 4, 3, 1),
-    ("-- rank", 4, 4096, 1),
-    ("off Fx s rank off", 4, 4096, 5),
-    ("offt rank off offt", 4, 4096, 4),
-    ("--workers 64 --block 1048576", 64, 1048576, 1),
-    ("--workers +4 --block 004", 4, 4, 1),
+/// Lines that are accepted, with their workers, block size, number of outputs and form.
+const ACCEPTED: [(&str, u32, u32, usize, Form); 12] = [
+    ("", 4, 4096, 1, Form::Qhull),
+    ("rank", 4, 4096, 1, Form::Qhull),
+    ("rank --workers 2 s", 2, 4096, 2, Form::Qhull),
+    ("--block=3 rank", 4, 3, 1, Form::Qhull),
+    ("-- rank", 4, 4096, 1, Form::Qhull),
+    ("off Fx s rank off", 4, 4096, 5, Form::Qhull),
+    ("offt rank off offt", 4, 4096, 4, Form::Qhull),
+    ("--workers 64 --block 1048576", 64, 1048576, 1, Form::Qhull),
+    ("--workers +4 --block 004", 4, 4, 1, Form::Qhull),
+    ("--from qhull", 4, 4096, 1, Form::Qhull),
+    ("--from off rank", 4, 4096, 1, Form::Off),
+    ("off --from=off --block 2 Fx", 4, 2, 2, Form::Off),
 ];
 
 #[test]
@@ -42,26 +51,28 @@ fn judges_command_lines(rt: HostRuntime) -> Result<(), Fail> {
         assert!(rt; outcome.output.is_empty());
         assert_eq!(rt; outcome.status, 2);
     }
-    for (line, workers, block, outs) in ACCEPTED {
+    for (line, workers, block, outs, form) in ACCEPTED {
         let Ok(settings) = settings(alloc, line)? else {
             return Err("the line is a command line".into());
         };
         assert_eq!(rt; settings.workers(), workers, "at {line}");
         assert_eq!(rt; settings.block(), block, "at {line}");
         assert_eq!(rt; settings.outs().len(), outs, "at {line}");
+        assert_eq!(rt; settings.form(), form, "at {line}");
     }
     Ok(())
 }
 
 /// Some of what the help text says: the options with their ranges, each output and each exit status.
-const HELPED: [&str; 15] = [
-    "Usage: qconvex [--workers N] [--block N] [OUT]...\n",
+const HELPED: [&str; 16] = [
+    "Usage: qconvex [--from FORM] [--workers N] [--block N] [OUT]...\n",
     "standard input",
     "\n  rank ",
     "\n  s ",
     "\n  Fx ",
     "\n  off ",
     "\n  offt ",
+    "\n  --from FORM ",
     "\n  --workers N ",
     "1 to 64 [default: 4]",
     "\n  --block N ",

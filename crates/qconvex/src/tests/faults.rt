@@ -80,7 +80,7 @@ fn refuses_inputs(rt: HostRuntime) -> Result<(), Fail> {
 }
 
 /// Each fault with its line and the exit status.
-const LINES: [(Fault, &str, u8); 12] = [
+const LINES: [(Fault, &str, u8); 13] = [
     (Fault::Read(ReadFault::NoHeader), "qconvex: 1: NoHeader", 1),
     (
         Fault::Read(ReadFault::BadNumber(3)),
@@ -105,6 +105,7 @@ const LINES: [(Fault, &str, u8); 12] = [
     (Fault::Read(ReadFault::Big), "qconvex: 10: Big", 1),
     (Fault::Send, "qconvex: 11: Send", 4),
     (Fault::Usage, "qconvex: 12: Usage", 2),
+    (Fault::Read(ReadFault::NotOff), "qconvex: 14: NotOff", 1),
 ];
 
 #[test]

@@ -9,7 +9,7 @@ const ONE_POINT: &str = "3\n1\n5 5 5\n";
 
 /// Words, an input, how many bytes standard output takes; and the exit status, what stands on standard
 /// output, and what on standard error.
-const RUNS: [(&[&str], &str, usize, u8, &str, &str); 8] = [
+const RUNS: [(&[&str], &str, usize, u8, &str, &str); 10] = [
     (&["qconvex", "rank"], ONE_POINT, 99, 0, "1 1 0\n", ""),
     (
         &["qconvex", "rank", "Fx"],
@@ -34,6 +34,22 @@ const RUNS: [(&[&str], &str, usize, u8, &str, &str); 8] = [
         1,
         "",
         "qconvex: 2: BadNumber at line 3\n",
+    ),
+    (
+        &["qconvex", "--from", "off", "rank"],
+        "OFF\n1 1 0\n5 5 5\n1 0\n",
+        99,
+        0,
+        "1 1 0\n",
+        "",
+    ),
+    (
+        &["qconvex", "--from=off"],
+        ONE_POINT,
+        99,
+        1,
+        "",
+        "qconvex: 14: NotOff\n",
     ),
     (&["qconvex", "--help"], "", 9999, 0, HELP, ""),
     (&["qconvex", "-h"], "", 9, 4, "", "qconvex: 11: Send\n"),

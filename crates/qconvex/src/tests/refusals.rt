@@ -7,6 +7,7 @@ use crate::fault::Fault;
 use crate::program::run;
 use crate::serve::serve;
 use crate::settings::{Settings, SettingsError};
+use qh_model::Form;
 use qh_read::{MemSource, ReadFault};
 use qh_run::NoGate;
 use qh_write::{MemSink, Out, Sink};
@@ -28,8 +29,14 @@ const ROWS: [(&str, u32, &str); 3] = [
 
 /// Settings for `off`, asked for again where memory was refused.
 fn settings_again(alloc: Global, workers: u32, block: u32) -> Result<Settings, SettingsError> {
-    match Settings::new(alloc, workers, block, &[Out::Off]) {
-        Err(SettingsError::Memory) => Settings::new(alloc, workers, block, &[Out::Off]),
+    match Settings::new(alloc, workers, block, &[Out::Off], Form::Qhull) {
+        Err(SettingsError::Memory) => Settings::new(
+            alloc,
+            workers,
+            block,
+            &[Out::Off],
+            Form::Qhull,
+        ),
         settings => settings,
     }
 }
@@ -124,7 +131,7 @@ fn tries_again_with_seven_workers(rt: HostRuntime) -> Result<(), Fail> {
 /// hull in its place; where one of the calling thread's was, it fails.
 #[test]
 fn falls_back(rt: HostRuntime) -> Result<(), Fail> {
-    let settings = Settings::new(rt.alloc(), 1, 3, &[Out::Off])?;
+    let settings = Settings::new(rt.alloc(), 1, 3, &[Out::Off], Form::Qhull)?;
     let text = answer(&rt, rt.alloc(), OCTAHEDRON.as_bytes(), &settings, &NoGate);
     assert!(rt; text.is_ok_and(|text| text.as_slice() == OCTAHEDRON_OFF.as_bytes()));
     Ok(())

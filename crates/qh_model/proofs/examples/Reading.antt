@@ -7,7 +7,9 @@ use Rattle.qh_model.specs.headline.Vector.{Vector}
 use Rattle.qh_model.specs.headline.Words.{Word, data_words, is_blank, is_data}
 use Rattle.qh_model.specs.headline.Numbers.{number_of}
 use Rattle.qh_model.specs.headline.PointFile.{Reads}
-use Rattle.qh_model.specs.headline.FileFault.{first_fault, IsFirstFault}
+use Rattle.qh_model.specs.headline.FileFault.{first_fault}
+use Rattle.qh_model.specs.declared.form.Form.TheVariants.{Qhull}
+use Rattle.qh_model.specs.headline.Forms.{IsFirstFault}
 
 -- ---- a point file with comments
 -- a word of one byte
@@ -137,28 +139,28 @@ one_point_has_no_fault = refl
 abbrev after_header : List ℕ → List ℕ
 after_header text = codes "3" ++ 10 ∷ codes "1" ++ 10 ∷ text
 
-pub nothing : IsFirstFault [] NoHeader
+pub nothing : IsFirstFault Qhull [] NoHeader
 nothing = refl
 
-pub three_alone : IsFirstFault (codes "3") NoHeader
+pub three_alone : IsFirstFault Qhull (codes "3") NoHeader
 three_alone = refl
 
-pub two_and_four : IsFirstFault (codes "2" ++ 10 ∷ codes "4") NotThree
+pub two_and_four : IsFirstFault Qhull (codes "2" ++ 10 ∷ codes "4") NotThree
 two_and_four = refl
 
-pub no_points : IsFirstFault (codes "3" ++ 10 ∷ codes "0") Count
+pub no_points : IsFirstFault Qhull (codes "3" ++ 10 ∷ codes "0") Count
 no_points = refl
 
-pub half : IsFirstFault (after_header (codes "0 0.5 0")) (BadNumber 3)
+pub half : IsFirstFault Qhull (after_header (codes "0 0.5 0")) (BadNumber 3)
 half = refl
 
-pub far_away : IsFirstFault (after_header (codes "0 0 99999999999 x")) (Range 3)
+pub far_away : IsFirstFault Qhull (after_header (codes "0 0 99999999999 x")) (Range 3)
 far_away = refl
 
-pub two_numbers : IsFirstFault (after_header (codes "0 0")) Short
+pub two_numbers : IsFirstFault Qhull (after_header (codes "0 0")) Short
 two_numbers = refl
 
-pub four_numbers : IsFirstFault (after_header (codes "0 0 0 7")) (Long 3)
+pub four_numbers : IsFirstFault Qhull (after_header (codes "0 0 0 7")) (Long 3)
 four_numbers = refl
 
 -- a comment is no word too many

@@ -1,5 +1,5 @@
--- The first fault of a byte string that stands for no points. The order of the faults is this project's profile.
-use Rattle.std.specs.Prelude.{ℕ, ℤ, pos, negsuc, ◌≡◌, List, [], ◌∷◌, ◌*◌, ◌==◌, ◌&&◌, nat_le, nat_lt, length, Option, Some, None, Bool, false, if◌then◌else◌, zero, suc}
+-- The first fault of a byte string that is no point file. The order of the faults is this project's profile.
+use Rattle.std.specs.Prelude.{ℕ, ℤ, pos, negsuc, List, [], ◌∷◌, ◌*◌, ◌==◌, ◌&&◌, nat_le, nat_lt, length, Option, Some, None, Bool, false, if◌then◌else◌, zero, suc}
 use Rattle.std.specs.Option.{option_or}
 use Rattle.qh_model.specs.declared.limits.TheConstants.{POINT_LIMIT, BYTE_LIMIT}
 use Rattle.qh_model.specs.declared.read_fault.ReadFault.{ReadFault}
@@ -54,7 +54,3 @@ words_fault (w ∷ ws) = header_fault (number_of w.text) w.line ws
 -- the first fault; more bytes than the limit go before all others
 abbrev pub first_fault : List ℕ → Option ReadFault
 first_fault bytes = if nat_lt BYTE_LIMIT (length bytes) then Some Big else words_fault (data_words bytes)
-
--- this is the first fault of the bytes
-abbrev pub IsFirstFault : List ℕ → ReadFault → Type 0
-IsFirstFault bytes f = first_fault bytes ≡ Some f

@@ -1,45 +1,57 @@
 -- What a reader holds of the bytes so far.
 use Rattle.std.specs.Prelude.{ℕ, ◌≡◌, ◌+◌, Bool, true, false, List, [], ◌∷◌, ◌==◌, if◌then◌else◌, length}
 use Rattle.qh_model.specs.headline.Words.{is_blank, is_data}
-use Rattle.qh_read.specs.contract.Tokens.{grown, value_of}
-use Rattle.qh_read.specs.contract.Progress.{Progress, wants_first, after}
+use Rattle.std.specs.Char.{is_ascii_digit}
+use Rattle.qh_model.specs.declared.form.Form.{Form}
+use Rattle.qh_model.specs.declared.form.Form.TheVariants.{Qhull, Off}
+use Rattle.qh_read.specs.contract.Tokens.{grown, value_of, is_keyword}
+use Rattle.qh_read.specs.contract.Progress.{Progress, started, after}
 use Rattle.qh_read.specs.declared.token.Token.{Token}
-use Rattle.qh_read.specs.declared.token.Token.TheVariants.{Empty, Sign, Digits, Other}
+use Rattle.qh_read.specs.declared.token.Token.TheVariants.{Empty, Sign, Digits, Keyword, Other}
 
--- how far the words fill the file in, the word under way, whether a comment runs, and the line
+-- the form, how far the words fill the file in, the word under way, whether a comment runs, and the line
 pub record Held : Type 0 where
+  pub form : Form
   pub progress : Progress
   pub token : Token
   pub comment : Bool
   pub line : ℕ
 
-abbrev pub held_at_start : Held
-held_at_start = record { progress = wants_first; token = Empty; comment = false; line = 1 }
+abbrev pub held_at_start : Form → Held
+held_at_start form = record { form = form; progress = started form; token = Empty; comment = false; line = 1 }
 
 -- the word under way ends
 abbrev pub word_ended : Progress → Token → ℕ → Progress
 word_ended p Empty line = p
-word_ended p (Sign minus) line = after p (value_of (Sign minus)) line
-word_ended p (Digits minus n) line = after p (value_of (Digits minus n)) line
-word_ended p Other line = after p (value_of Other) line
+word_ended p (Sign minus) line = after p (is_keyword (Sign minus)) (value_of (Sign minus)) line
+word_ended p (Digits minus n) line = after p (is_keyword (Digits minus n)) (value_of (Digits minus n)) line
+word_ended p (Keyword letters) line = after p (is_keyword (Keyword letters)) (value_of (Keyword letters)) line
+word_ended p Other line = after p (is_keyword Other) (value_of Other) line
 
 abbrev pub ended_held : Held → Held
 ended_held h = record h { progress = word_ended h.progress h.token h.line; token = Empty }
 
--- the byte goes on with a word, or begins one, or begins a comment
+-- in a point file, the byte goes on with a word, or begins one, or begins a comment
 abbrev pub held_begun : Held → Token → ℕ → Held
 held_begun h Empty c = if is_data (c ∷ []) then record h { token = grown Empty c } else record h { comment = true }
 held_begun h (Sign minus) c = record h { token = grown (Sign minus) c }
 held_begun h (Digits minus n) c = record h { token = grown (Digits minus n) c }
+held_begun h (Keyword letters) c = record h { token = grown (Keyword letters) c }
 held_begun h Other c = record h { token = grown Other c }
+
+-- a byte that is no digit and parts no words; in an OFF file, `#` ends a word and begins a comment
+abbrev pub held_marked : Form → Held → ℕ → Held
+held_marked Qhull h c = held_begun h h.token c
+held_marked Off h c = if c == 35 then record (ended_held h) { comment = true } else record h { token = grown h.token c }
 
 -- one byte more
 abbrev pub next_held : Held → ℕ → Held
 next_held h c =
-    if c == 10 then record { progress = word_ended h.progress h.token h.line; token = Empty; comment = false; line = h.line + 1 }
+    if c == 10 then record (ended_held h) { comment = false; line = h.line + 1 }
     else if h.comment then h
     else if is_blank c then ended_held h
-    else held_begun h h.token c
+    else if is_ascii_digit c then record h { token = grown h.token c }
+    else held_marked h.form h c
 
 abbrev pub held_by : Held → List ℕ → Held
 held_by h [] = h
@@ -50,7 +62,7 @@ pub record Reading : Type 0 where
   pub held : Held
   pub count : ℕ
 
--- the reader holds what these bytes make, and their number
-pub record Fed (r : Reading) (bytes : List ℕ) : Type 0 where
+-- the reader holds what these bytes make in this form, and their number
+pub record Fed (form : Form) (r : Reading) (bytes : List ℕ) : Type 0 where
   pub count : r.count ≡ length bytes
-  pub held : r.held ≡ held_by held_at_start bytes
+  pub held : r.held ≡ held_by (held_at_start form) bytes

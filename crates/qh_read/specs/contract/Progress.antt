@@ -1,41 +1,66 @@
 -- How far the words have filled the file in.
-use Rattle.std.specs.Prelude.{ℕ, ℤ, pos, negsuc, List, [], ◌∷◌, ◌++◌, ◌*◌, ◌&&◌, if◌then◌else◌, nat_le, zero, suc, Option, Some, None}
+use Rattle.std.specs.Prelude.{ℕ, ℤ, pos, negsuc, Bool, true, false, List, [], ◌∷◌, ◌++◌, ◌*◌, ◌&&◌, if◌then◌else◌, nat_le, zero, suc, Option, Some, None}
 use Rattle.qh_model.specs.declared.limits.TheConstants.{POINT_LIMIT}
 use Rattle.qh_model.specs.headline.Limits.{is_coordinate}
 use Rattle.qh_model.specs.headline.FileFault.{is_three}
+use Rattle.qh_model.specs.declared.form.Form.{Form}
+use Rattle.qh_model.specs.declared.form.Form.TheVariants.{Qhull, Off}
 use Rattle.qh_model.specs.declared.read_fault.ReadFault.{ReadFault}
 use Rattle.qh_model.specs.declared.read_fault.ReadFault.TheVariants as faults
 
--- what the next word is to be; `wants` has the number of coordinates to come and those that came
+-- what the next word is to be; `wants` and `wants_vertices` have the number of coordinates to come and those that came,
+-- and the counts of an OFF file the number of vertices, once it is known
 pub data Progress : Type 0 where
   wants_first : Progress
   wants_second : ℤ → Progress
   wants : ℕ → List ℤ → Progress
+  wants_keyword : Progress
+  wants_vertex_count : Progress
+  wants_face_count : ℤ → Progress
+  wants_edge_count : ℤ → Progress
+  wants_vertices : ℕ → List ℤ → Progress
   fails : ReadFault → Progress
 
-abbrev pub counted : ℤ → Progress
-counted (pos n) = if nat_le 1 n && nat_le n POINT_LIMIT then wants (3 * n) [] else fails faults.Count
-counted (negsuc n) = fails faults.Count
+-- no word yet
+abbrev pub started : Form → Progress
+started Qhull = wants_first
+started Off = wants_keyword
+
+-- the coordinates of so many points are to come
+abbrev pub counted : (ℕ → List ℤ → Progress) → ℤ → Progress
+counted next (pos n) = if nat_le 1 n && nat_le n POINT_LIMIT then next (3 * n) [] else fails faults.Count
+counted next (negsuc n) = fails faults.Count
 
 -- 3 is the dimension, first of all where it stands first
 abbrev pub headed : ℤ → ℤ → Progress
 headed first second =
-    if is_three first then counted second
-    else if is_three second then counted first
+    if is_three first then counted wants second
+    else if is_three second then counted wants first
     else fails faults.NotThree
 
--- one coordinate more, if it is in range, after which so many are to come
-abbrev pub took : ℕ → List ℤ → ℕ → ℤ → Progress
-took left taken line z =
-    if is_coordinate z then wants left (taken ++ z ∷ []) else fails (faults.Range line)
+-- one coordinate more, if it is in range, and what comes next
+abbrev pub took : (List ℤ → Progress) → List ℤ → ℕ → ℤ → Progress
+took next taken line z =
+    if is_coordinate z then next (taken ++ z ∷ []) else fails (faults.Range line)
 
--- one word more, with its number or none
-abbrev pub after : Progress → Option ℤ → ℕ → Progress
-after wants_first None line = fails (faults.BadNumber line)
-after wants_first (Some z) line = wants_second z
-after (wants_second first) None line = fails (faults.BadNumber line)
-after (wants_second first) (Some second) line = headed first second
-after (wants zero taken) value line = fails (faults.Long line)
-after (wants (suc left) taken) None line = fails (faults.BadNumber line)
-after (wants (suc left) taken) (Some z) line = took left taken line z
-after (fails fault) value line = fails fault
+-- one word more: whether it is `OFF`, and its number or none
+abbrev pub after : Progress → Bool → Option ℤ → ℕ → Progress
+after wants_first keyword None line = fails (faults.BadNumber line)
+after wants_first keyword (Some z) line = wants_second z
+after (wants_second first) keyword None line = fails (faults.BadNumber line)
+after (wants_second first) keyword (Some second) line = headed first second
+after (wants zero taken) keyword value line = fails (faults.Long line)
+after (wants (suc left) taken) keyword None line = fails (faults.BadNumber line)
+after (wants (suc left) taken) keyword (Some z) line = took (wants left) taken line z
+after wants_keyword true value line = wants_vertex_count
+after wants_keyword false value line = fails faults.NotOff
+after wants_vertex_count keyword None line = fails (faults.BadNumber line)
+after wants_vertex_count keyword (Some vertices) line = wants_face_count vertices
+after (wants_face_count vertices) keyword None line = fails (faults.BadNumber line)
+after (wants_face_count vertices) keyword (Some faces) line = wants_edge_count vertices
+after (wants_edge_count vertices) keyword None line = fails (faults.BadNumber line)
+after (wants_edge_count vertices) keyword (Some edges) line = counted wants_vertices vertices
+after (wants_vertices zero taken) keyword value line = wants_vertices zero taken
+after (wants_vertices (suc left) taken) keyword None line = fails (faults.BadNumber line)
+after (wants_vertices (suc left) taken) keyword (Some z) line = took (wants_vertices left) taken line z
+after (fails fault) keyword value line = fails fault

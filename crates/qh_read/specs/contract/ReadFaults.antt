@@ -1,6 +1,7 @@
 -- Which fault a call may answer.
 use Rattle.std.specs.Prelude.{ℕ, ◌≡◌, ◌≢◌, ◌⊎◌, List}
-use Rattle.qh_model.specs.headline.FileFault.{IsFirstFault}
+use Rattle.qh_model.specs.headline.Forms.{IsFirstFault}
+use Rattle.qh_model.specs.declared.form.Form.{Form}
 use Rattle.qh_model.specs.declared.read_fault.ReadFault.{ReadFault}
 use Rattle.qh_model.specs.declared.read_fault.ReadFault.TheVariants.{Memory, Device, Big}
 use Rattle.qh_read.specs.declared.fault.FeedFault.{FeedFault}
@@ -10,9 +11,9 @@ use Rattle.qh_read.specs.declared.fault.FeedFault.TheVariants as refusals
 abbrev pub IsTextFault : ReadFault → Type 0
 IsTextFault f = (f ≢ Memory) × (f ≢ Device) × (f ≢ Big)
 
--- memory was refused, or this is the first fault of the bytes
-abbrev pub IsFaultOf : List ℕ → ReadFault → Type 0
-IsFaultOf bytes f = (f ≡ Memory) ⊎ IsFirstFault bytes f
+-- memory was refused, or this is the first fault of the bytes in this form
+abbrev pub IsFaultOf : Form → List ℕ → ReadFault → Type 0
+IsFaultOf form bytes f = (f ≡ Memory) ⊎ IsFirstFault form bytes f
 
 -- a refusal to take a piece, as a fault of reading
 abbrev pub read_fault : FeedFault → ReadFault

@@ -3,18 +3,19 @@ use Rattle.std.specs.Prelude.{ℕ, ◌≤◌, ◌+◌, ◌*◌, vec_capacity}
 use Rattle.qh_read.specs.steps.Building.{shown, taken_count}
 use Rattle.qh_read.specs.contract.Holding.{Held}
 use Rattle.qh_read.specs.declared.token.Token.{Token}
-use Rattle.qh_read.specs.declared.token.Token.TheVariants.{Empty, Sign, Digits, Other}
+use Rattle.qh_read.specs.declared.token.Token.TheVariants.{Empty, Sign, Digits, Keyword, Other}
 use Rattle.qh_read.specs.declared.scanner.Scanner.{Scanner}
 
 -- what a scanner holds, beside the word under way
 abbrev pub held : Scanner → Token → Held
-held s t = record { progress = shown s.builder; token = t; comment = s.comment; line = s.line }
+held s t = record { form = s.form; progress = shown s.builder; token = t; comment = s.comment; line = s.line }
 
 -- the number of words under way
 abbrev pub under_way : Token → ℕ
 under_way Empty = 0
 under_way (Sign minus) = 1
 under_way (Digits minus n) = 1
+under_way (Keyword letters) = 1
 under_way Other = 1
 
 -- whatever so many bytes are, and if the bytes then end, the points find room

@@ -3,7 +3,7 @@ use Rattle.std.specs.Prelude.{ℤ, pos, negsuc, ◌-◌, ◌≤◌, min}
 use Rattle.qh_model.specs.declared.limits.TheConstants.{COORDINATE_LIMIT}
 use Rattle.qh_read.specs.declared.token.TheConstants.{MAGNITUDE_CAP}
 use Rattle.qh_read.specs.declared.token.Token.{Token}
-use Rattle.qh_read.specs.declared.token.Token.TheVariants.{Empty, Sign, Digits, Other}
+use Rattle.qh_read.specs.declared.token.Token.TheVariants.{Empty, Sign, Digits, Keyword, Other}
 use Rattle.qh_read.specs.contract.Tokens.{cap}
 
 -- a number, as far as numbers are told apart
@@ -16,4 +16,5 @@ abbrev pub IsSmall : Token → Type 0
 IsSmall Empty = Unit {0}
 IsSmall (Sign minus) = Unit {0}
 IsSmall (Digits minus n) = n ≤ MAGNITUDE_CAP
+IsSmall (Keyword letters) = Unit {0}
 IsSmall Other = Unit {0}

@@ -1,5 +1,5 @@
-use Rattle.qh_model.proofs.ReadingLaws.{one_reading, one_or_other, never_both}
+use Rattle.qh_model.proofs.Readings.{one_list, list_or_fault, never_both}
 use Rattle.qh_model.proofs.laws.reading.one_reading.Goals as goal
 
 pub returns : goal.returns
-returns c = record { unique = one_reading; either = one_or_other; never_both = never_both }
+returns c = record { unique = one_list; either = list_or_fault; never_both = never_both }

@@ -2,12 +2,12 @@ use Rattle.std.proofs.Common.{◌≡◌, ◌≤◌, ◌-◌, vec_len}
 use Rattle.qh_model.specs.declared.limits.TheConstants.{BYTE_LIMIT}
 use Rattle.qh_read.specs.declared.whole.TheConstants.{PIECE_LENGTH}
 use Rattle.qh_read.proofs.SourceLemmas.{FedFrom}
-use Rattle.qh_read.proofs.whole.read_from.Given as goal
+use Rattle.qh_read.proofs.whole.read_form_from.Given as goal
 
 -- the reader was fed all that the source gave so far, and no read failed
 abbrev pub invariant-loop-reader : goal.invariant-loop-reader
 invariant-loop-reader g l = record {
-  so_far : FedFrom l.reader (g.S.Source.remaining l.fn.source) (g.S.Source.remaining l.source);
+  so_far : FedFrom l.fn.form l.reader (g.S.Source.remaining l.fn.source) (g.S.Source.remaining l.source);
   steady : g.S.Source.failure_count l.source ≡ g.S.Source.failure_count l.fn.source;
   buffer : vec_len l.buffer ≡ PIECE_LENGTH;
   small : l.reader.count ≤ BYTE_LIMIT;

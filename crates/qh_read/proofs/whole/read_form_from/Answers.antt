@@ -7,7 +7,7 @@ use Rattle.qh_model.specs.declared.read_fault.ReadFault.TheVariants as faults
 use Rattle.qh_read.specs.declared.fault.FeedFault.{FeedFault}
 use Rattle.qh_read.specs.declared.fault.FeedFault.TheVariants as feed_faults
 use Rattle.qh_read.proofs.SourceLemmas.{Consumes-append}
-use Rattle.qh_read.proofs.whole.read_from.Goals as goal
+use Rattle.qh_read.proofs.whole.read_form_from.Goals as goal
 
 -- `Big` comes of `Big` alone
 only_big : (f : FeedFault) → read_fault f ≡ faults.Big → f ≡ feed_faults.Big

@@ -1,16 +1,17 @@
 use Rattle.std.proofs.Common.{◌≡◌, ◌<◌, ◌++◌, ℕ, List}
 use Rattle.std.specs.Slice.Iter.{chunks_rest, chunks_size}
+use Rattle.qh_model.specs.declared.form.Form.{Form}
 use Rattle.qh_read.specs.contract.Holding.{Reading, Fed}
-use Rattle.qh_read.proofs.whole.read_points.Given as goal
+use Rattle.qh_read.proofs.whole.read_form.Given as goal
 
 -- the bytes fed, and then what is left, are all bytes
-pub record FedSoFar (reader : Reading) (left bytes : List ℕ) : Type 0 where
+pub record FedSoFar (form : Form) (reader : Reading) (left bytes : List ℕ) : Type 0 where
   pub done : List ℕ
-  pub fed : Fed reader done
+  pub fed : Fed form reader done
   pub whole : done ++ left ≡ bytes
 
 abbrev pub invariant-loop-piece : goal.invariant-loop-piece
 invariant-loop-piece l = record {
-  so_far : FedSoFar l.reader (chunks_rest l.piece-iterator) l.bytes;
+  so_far : FedSoFar l.fn.form l.reader (chunks_rest l.piece-iterator) l.bytes;
   size : 0 < chunks_size l.piece-iterator;
 }

@@ -1,0 +1,227 @@
+-- A byte string has one list of points as an OFF file, or one fault.
+use Rattle.std.proofs.Common.{◌≡◌, ◌∙◌, [], ◌∷◌, ◌++◌, ◌*◌, ◌+◌, ◌≤◌, ◌⊎◌, ◌&&◌, ℕ, List, Bool, true, false, cond, refl, ap, sym, arith, zero, suc, length, map, inl, inr, subst, nat_lt}
+use Rattle.std.specs.Prelude.{ℤ, pos, negsuc, codes, Option, Some, None, nat_le}
+use Rattle.std.specs.List.{AllByRecursion}
+use Rattle.std.specs.Option.{option_or}
+use Rattle.std.specs.Str.{bytes_eq}
+use Rattle.std.specs.Cmp.Lexicographic.{same_text}
+use Rattle.std.proofs.lemmas.Bool.Decides.{nat_tests}
+use Rattle.qh_model.specs.declared.limits.TheConstants.{POINT_LIMIT, BYTE_LIMIT}
+use Rattle.qh_model.specs.headline.Vector.{Vector}
+use Rattle.qh_model.specs.headline.Limits.{IsCoordinate}
+use Rattle.qh_model.specs.headline.Words.{Word}
+use Rattle.qh_model.specs.headline.Numbers.{number_of}
+use Rattle.qh_model.specs.headline.PointFile.{coordinates}
+use Rattle.qh_model.specs.headline.OffFile.{off_words, ReadsOff}
+use Rattle.qh_model.specs.declared.read_fault.ReadFault.{ReadFault}
+use Rattle.qh_model.specs.declared.read_fault.ReadFault.TheVariants.{Count, Big, NotOff}
+use Rattle.qh_model.specs.headline.FileFault.{coordinate_fault}
+use Rattle.qh_model.specs.headline.OffFault.{vertices_fault, vertex_count_fault, count_fault, next_count_fault, counts_fault, off_words_fault, first_off_fault}
+use Rattle.qh_model.proofs.ReadingLaws.{numbers, same_some, same_points, Filled, filled_more, in_range, grouped, clear_more, thrice, not_big}
+
+-- ---- one list at most
+same_front : (us bs xs ys : List Word) → length us ≡ length bs → us ++ xs ≡ bs ++ ys → us ≡ bs
+same_front [] [] xs ys n e = refl
+same_front [] (b ∷ bs) xs ys n e = absurd (omega arith)
+same_front (a ∷ us) [] xs ys n e = absurd (omega arith)
+same_front (a ∷ us) (b ∷ bs) xs ys n e =
+    let fewer : length us ≡ length bs = omega arith in
+    let head : a ≡ b = cc in
+    let rest : us ++ xs ≡ bs ++ ys = cc in
+    let tail : us ≡ bs = same_front us bs xs ys fewer rest in cc
+
+-- so many words are numbers
+many : (ws : List Word) (zs : List ℤ) → numbers ws ≡ map Some zs → length ws ≡ length zs
+many [] [] e = refl
+many [] (z ∷ zs) e = cc
+many (w ∷ ws) [] e = cc
+many (w ∷ ws) (z ∷ zs) e = let rest : numbers ws ≡ map Some zs = cc in ap suc (many ws zs rest)
+
+-- the first numbers of two files with the same words
+same_first : (us bs xs ys : List Word) (m n : ℤ) (ms ns : List ℤ) → us ++ xs ≡ bs ++ ys → numbers us ≡ map Some (m ∷ ms) → numbers bs ≡ map Some (n ∷ ns) → m ≡ n
+same_first [] bs xs ys m n ms ns e f g = cc
+same_first (a ∷ us) [] xs ys m n ms ns e f g = cc
+same_first (a ∷ us) (b ∷ bs) xs ys m n ms ns e f g =
+    let word : a ≡ b = cc in
+    let left : number_of a.text ≡ Some m = cc in
+    let right : number_of b.text ≡ Some n = cc in
+    let same : number_of a.text ≡ number_of b.text = ap (λ (w : Word). number_of w.text) word in cc
+
+pub one_reading : (bytes : List ℕ) (ps qs : List Vector) → ReadsOff bytes ps → ReadsOff bytes qs → ps ≡ qs
+one_reading bytes ps qs a b =
+    let words : a.keyword ∷ a.numbered ++ a.rest ≡ b.keyword ∷ b.numbered ++ b.rest = sym a.words ∙ b.words in
+    let after : a.numbered ++ a.rest ≡ b.numbered ++ b.rest = cc in
+    let counts : pos (length ps) ≡ pos (length qs) = same_first a.numbered b.numbered a.rest b.rest (pos (length ps)) (pos (length qs)) (a.faces ∷ a.edges ∷ coordinates ps) (b.faces ∷ b.edges ∷ coordinates qs) after a.numbers b.numbers in
+    let count : length ps ≡ length qs = cc in
+    let left = many a.numbered (pos (length ps) ∷ a.faces ∷ a.edges ∷ coordinates ps) a.numbers in
+    let right = many b.numbered (pos (length qs) ∷ b.faces ∷ b.edges ∷ coordinates qs) b.numbers in
+    let as_many : length a.numbered ≡ length b.numbered = omega (arith, left, right, thrice ps, thrice qs, count) in
+    let front : a.numbered ≡ b.numbered = same_front a.numbered b.numbered a.rest b.rest as_many after in
+    let all : pos (length ps) ∷ a.faces ∷ a.edges ∷ coordinates ps ≡ pos (length qs) ∷ b.faces ∷ b.edges ∷ coordinates qs =
+    same_some _ _ (sym a.numbers ∙ ap numbers front ∙ b.numbers) in
+    let same : coordinates ps ≡ coordinates qs = cc in
+    same_points ps qs same
+
+-- ---- some list, or a fault
+-- the front of the words is so many coordinates
+record FrontFilled (ws : List Word) (k : ℕ) : Type 0 where
+  front : List Word
+  rest : List Word
+  are : ws ≡ front ++ rest
+  filled : Filled front k
+
+front_filled : (k : ℕ) (ws : List Word) → vertices_fault k ws ≡ None → FrontFilled ws k
+front_filled zero ws h = record { front = []; rest = ws; are = refl; filled = record { all = []; are = refl; count = refl; limit = tt } }
+front_filled (suc k) [] h = cc
+front_filled (suc k) (w ∷ ws) h =
+    let r = in_range w (vertices_fault k ws) h in
+    let f = front_filled k ws r.3 in
+    record { front = w ∷ f.front; rest = f.rest; are = ap (λ (t : List Word). w ∷ t) f.are; filled = filled_more w f.front k r.0 r.1 r.2 f.filled }
+
+record VertexCount (z : ℤ) (ws : List Word) : Type 0 where
+  n : ℕ
+  is : z ≡ pos n
+  some : 1 ≤ n
+  few : n ≤ POINT_LIMIT
+  filled : FrontFilled ws (3 * n)
+
+vertex_count : (z : ℤ) (ws : List Word) → vertex_count_fault z ws ≡ None → VertexCount z ws
+vertex_count (negsuc n) ws h = cc
+vertex_count (pos n) ws h = by (nat_le 1 n && nat_le n POINT_LIMIT) refl h
+  where
+    by : (b : Bool) → (nat_le 1 n && nat_le n POINT_LIMIT) ≡ b → cond b (vertices_fault (3 * n) ws) (Some Count) ≡ None → VertexCount (pos n) ws
+    by false e h = cc
+    by true e h =
+        let range : (1 ≤ n) × (n ≤ POINT_LIMIT) = grind (arith, nat_tests) in
+        record { n = n; is = refl; some = range.0; few = range.1; filled = front_filled (3 * n) ws h }
+
+-- the next word is a number
+record NextCount (after : ℤ → List Word → Option ReadFault) (ws : List Word) : Type 0 where
+  w : Word
+  rest : List Word
+  z : ℤ
+  are : ws ≡ w ∷ rest
+  number : number_of w.text ≡ Some z
+  clear : after z rest ≡ None
+
+next_count : (after : ℤ → List Word → Option ReadFault) (ws : List Word) → next_count_fault after ws ≡ None → NextCount after ws
+next_count after [] h = cc
+next_count after (w ∷ ws) h = by (number_of w.text) refl h
+  where
+    by : (o : Option ℤ) → number_of w.text ≡ o → count_fault after o w.line ws ≡ None → NextCount after (w ∷ ws)
+    by None e h = cc
+    by (Some z) e h = record { w = w; rest = ws; z = z; are = refl; number = e; clear = h }
+
+-- the words after the keyword
+record Numbered (ws : List Word) : Type 0 where
+  points : List Vector
+  numbered : List Word
+  rest : List Word
+  are : ws ≡ numbered ++ rest
+  faces : ℤ
+  edges : ℤ
+  numbers : numbers numbered ≡ map Some (pos (length points) ∷ faces ∷ edges ∷ coordinates points)
+  some : 1 ≤ length points
+  few : length points ≤ POINT_LIMIT
+  limit : AllByRecursion IsCoordinate (coordinates points)
+
+numbered : (ws : List Word) → counts_fault ws ≡ None → Numbered ws
+numbered ws h =
+    let v = next_count _ ws h in
+    let f = next_count _ v.rest v.clear in
+    let e = next_count _ f.rest f.clear in
+    let c = vertex_count v.z e.rest e.clear in
+    let g = grouped c.n c.filled.filled.all c.filled.filled.count in
+    let same : coordinates g.points ≡ c.filled.filled.all = g.are in
+    let count : length g.points ≡ c.n = g.count in
+    let first : number_of v.w.text ≡ Some (pos (length g.points)) = v.number ∙ ap Some (c.is ∙ ap pos (sym count)) in
+    record {
+      points = g.points;
+      numbered = v.w ∷ f.w ∷ e.w ∷ c.filled.front;
+      rest = c.filled.rest;
+      are = v.are ∙ ap (λ (t : List Word). v.w ∷ t) (f.are ∙ ap (λ (t : List Word). f.w ∷ t) (e.are ∙ ap (λ (t : List Word). e.w ∷ t) c.filled.are));
+      faces = f.z;
+      edges = e.z;
+      numbers = cc (first, f.number, e.number, c.filled.filled.are, same);
+      some = omega (arith, c.some, count);
+      few = omega (arith, c.few, count);
+      limit = subst (AllByRecursion IsCoordinate) (sym same) c.filled.filled.limit;
+    }
+
+whole : (bytes : List ℕ) (ws : List Word) → length bytes ≤ BYTE_LIMIT → off_words bytes ≡ ws → off_words_fault ws ≡ None → (ps : List Vector) × ReadsOff bytes ps
+whole bytes [] small e h = cc
+whole bytes (w ∷ ws) small e h = by (bytes_eq w.text (codes "OFF")) refl h
+  where
+    by : (b : Bool) → bytes_eq w.text (codes "OFF") ≡ b → cond b (counts_fault ws) (Some NotOff) ≡ None → (ps : List Vector) × ReadsOff bytes ps
+    by false t h = cc
+    by true t h =
+        let r = numbered ws h in (
+          r.points,
+          record {
+            small = small;
+            keyword = w;
+            numbered = r.numbered;
+            rest = r.rest;
+            words = e ∙ ap (λ (t : List Word). w ∷ t) r.are;
+            is_off = same_text w.text (codes "OFF") (sym t);
+            faces = r.faces;
+            edges = r.edges;
+            numbers = r.numbers;
+            some = r.some;
+            few = r.few;
+            limit = r.limit;
+          },
+        )
+
+pub one_or_other : (bytes : List ℕ) → ((ps : List Vector) × ReadsOff bytes ps × (first_off_fault bytes ≡ None)) ⊎ ((f : ReadFault) × (first_off_fault bytes ≡ Some f))
+one_or_other bytes = by (first_off_fault bytes) refl
+  where
+    small : (b : Bool) → nat_lt BYTE_LIMIT (length bytes) ≡ b → cond b (Some Big) (off_words_fault (off_words bytes)) ≡ None → (ps : List Vector) × ReadsOff bytes ps
+    small true e h = cc
+    small false e h = whole bytes (off_words bytes) (grind (arith, nat_tests)) refl h
+
+    by : (o : Option ReadFault) → first_off_fault bytes ≡ o → ((ps : List Vector) × ReadsOff bytes ps × (first_off_fault bytes ≡ None)) ⊎ ((f : ReadFault) × (first_off_fault bytes ≡ Some f))
+    by None e = let r = small (nat_lt BYTE_LIMIT (length bytes)) refl e in inl (r.0, r.1, e)
+    by (Some f) e = inr (f, e)
+
+-- ---- never both
+-- coordinates in range have no fault, whatever follows
+clear : (zs : List ℤ) (ws rest : List Word) → numbers ws ≡ map Some zs → AllByRecursion IsCoordinate zs → vertices_fault (length zs) (ws ++ rest) ≡ None
+clear [] ws rest e l = refl
+clear (z ∷ zs) [] rest e l = cc
+clear (z ∷ zs) (w ∷ ws) rest e l =
+    let head : number_of w.text ≡ Some z = cc in
+    let tail : numbers ws ≡ map Some zs = cc in
+    clear_more w z (vertices_fault (length zs) (ws ++ rest)) head l.0 (clear zs ws rest tail l.1)
+
+vertex_count_clear : (n : ℕ) (ws : List Word) → 1 ≤ n → n ≤ POINT_LIMIT → vertices_fault (3 * n) ws ≡ None → vertex_count_fault (pos n) ws ≡ None
+vertex_count_clear n ws some few h =
+    let range : (nat_le 1 n && nat_le n POINT_LIMIT) ≡ true = grind (arith, nat_tests) in
+    subst (λ (b : Bool). cond b (vertices_fault (3 * n) ws) (Some Count) ≡ None) (sym range) h
+
+next_clear : (after : ℤ → List Word → Option ReadFault) (w : Word) (ws : List Word) (z : ℤ) → number_of w.text ≡ Some z → after z ws ≡ None → next_count_fault after (w ∷ ws) ≡ None
+next_clear after w ws z e h = subst (λ (o : Option ℤ). count_fault after o w.line ws ≡ None) (sym e) h
+
+counts_clear : (ws rest : List Word) (faces edges : ℤ) (ps : List Vector) → numbers ws ≡ map Some (pos (length ps) ∷ faces ∷ edges ∷ coordinates ps)
+    → 1 ≤ length ps → length ps ≤ POINT_LIMIT → AllByRecursion IsCoordinate (coordinates ps) → counts_fault (ws ++ rest) ≡ None
+counts_clear [] rest faces edges ps e some few l = cc
+counts_clear (v ∷ []) rest faces edges ps e some few l = cc
+counts_clear (v ∷ f ∷ []) rest faces edges ps e some few l = cc
+counts_clear (v ∷ f ∷ g ∷ ws) rest faces edges ps e some few l =
+    let first : number_of v.text ≡ Some (pos (length ps)) = cc in
+    let second : number_of f.text ≡ Some faces = cc in
+    let third : number_of g.text ≡ Some edges = cc in
+    let tail : numbers ws ≡ map Some (coordinates ps) = cc in
+    let none : vertices_fault (3 * length ps) (ws ++ rest) ≡ None = subst (λ (k : ℕ). vertices_fault k (ws ++ rest) ≡ None) (thrice ps) (clear (coordinates ps) ws rest tail l) in
+    next_clear _ v (f ∷ g ∷ (ws ++ rest)) (pos (length ps)) first
+    (next_clear _ f (g ∷ (ws ++ rest)) faces second
+    (next_clear _ g (ws ++ rest) edges third
+    (vertex_count_clear (length ps) (ws ++ rest) some few none)))
+
+pub never_both : (bytes : List ℕ) (ps : List Vector) → ReadsOff bytes ps → first_off_fault bytes ≡ None
+never_both bytes ps r =
+    let keyword : bytes_eq r.keyword.text (codes "OFF") ≡ true = ap (λ (t : List ℕ). bytes_eq t (codes "OFF")) r.is_off in
+    let counts = counts_clear r.numbered r.rest r.faces r.edges ps r.numbers r.some r.few r.limit in
+    let none : off_words_fault (r.keyword ∷ r.numbered ++ r.rest) ≡ None = ap (λ (b : Bool). cond b (counts_fault (r.numbered ++ r.rest)) (Some NotOff)) keyword ∙ counts in
+    subst (λ (b : Bool). cond b (Some Big) (off_words_fault (off_words bytes)) ≡ None) (sym (not_big (length bytes) r.small))
+    (ap off_words_fault r.words ∙ none)

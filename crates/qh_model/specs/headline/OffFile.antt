@@ -1,0 +1,39 @@
+-- The points that a byte string stands for as an OFF file.
+-- Source: Geomview OFF: the keyword, the numbers of vertices, faces and edges, the vertices, the faces. That the keyword
+-- has to stand, that a comment begins at any byte `#`, and that faces are not looked at is this project's profile.
+use Rattle.std.specs.Prelude.{ℕ, ℤ, pos, List, [], ◌∷◌, ◌++◌, ◌≡◌, ◌≤◌, ◌==◌, ◌+◌, if◌then◌else◌, map, length, codes, Some}
+use Rattle.std.specs.List.{AllByRecursion}
+use Rattle.qh_model.specs.declared.limits.TheConstants.{POINT_LIMIT, BYTE_LIMIT}
+use Rattle.qh_model.specs.headline.Vector.{Vector}
+use Rattle.qh_model.specs.headline.Limits.{IsCoordinate}
+use Rattle.qh_model.specs.headline.Words.{Word, lines_of, words_of, on_line}
+use Rattle.qh_model.specs.headline.Numbers.{number_of}
+use Rattle.qh_model.specs.headline.PointFile.{coordinates}
+
+-- a comment begins at the first byte `#`, and runs to the end of the line
+abbrev pub before_hash : List ℕ → List ℕ
+before_hash [] = []
+before_hash (c ∷ cs) = if c == 35 then [] else c ∷ before_hash cs
+
+abbrev pub off_words_from : ℕ → List (List ℕ) → List Word
+off_words_from n [] = []
+off_words_from n (line ∷ lines) = on_line n (words_of (before_hash line)) ++ off_words_from (n + 1) lines
+
+-- all words that stand in no comment, in their order over the whole file
+abbrev pub off_words : List ℕ → List Word
+off_words bytes = off_words_from 1 (lines_of bytes)
+
+-- the bytes are an OFF file of these vertices, whatever its faces are
+pub record ReadsOff (bytes : List ℕ) (points : List Vector) : Type 0 where
+  pub small : length bytes ≤ BYTE_LIMIT
+  pub keyword : Word
+  pub numbered : List Word
+  pub rest : List Word
+  pub words : off_words bytes ≡ keyword ∷ numbered ++ rest
+  pub is_off : keyword.text ≡ codes "OFF"
+  pub faces : ℤ
+  pub edges : ℤ
+  pub numbers : map (λ w. number_of w.text) numbered ≡ map Some (pos (length points) ∷ faces ∷ edges ∷ coordinates points)
+  pub some : 1 ≤ length points
+  pub few : length points ≤ POINT_LIMIT
+  pub limit : AllByRecursion IsCoordinate (coordinates points)

@@ -1,0 +1,8 @@
+/// How a file tells its points.
+#[derive(Clone, Copy, Debug, PartialEq, Eq)]
+pub enum Form {
+    /// The dimension and the count of points, and then the coordinates. Source: Qhull manual.
+    Qhull,
+    /// The keyword `OFF`, the counts, the vertices, and then the faces, which are dropped. Source: Geomview OFF.
+    Off,
+}

@@ -1,0 +1,86 @@
+-- A file that a reader has filled in is that of its points, and one that lacks something has this fault first.
+use Rattle.std.proofs.Common.{◌≡◌, ◌∙◌, ◌++◌, [], ◌∷◌, ◌*◌, ◌≤◌, ℕ, List, ap, sym, arith, length, map, subst, length-append}
+use Rattle.std.proofs.lemmas.List.{append-nil}
+use Rattle.std.specs.Prelude.{ℤ, pos, Some}
+use Rattle.std.specs.List.{AllByRecursion}
+use Rattle.qh_model.specs.declared.form.Form.{Form}
+use Rattle.qh_model.specs.declared.form.Form.TheVariants.{Qhull, Off}
+use Rattle.qh_model.specs.declared.limits.TheConstants.{BYTE_LIMIT}
+use Rattle.qh_model.specs.declared.read_fault.ReadFault.{ReadFault}
+use Rattle.qh_model.specs.headline.Vector.{Vector}
+use Rattle.qh_model.specs.headline.Limits.{IsCoordinate}
+use Rattle.qh_model.specs.headline.Words.{data_words}
+use Rattle.qh_model.specs.headline.PointFile.{coordinates, IsHeader, Reads}
+use Rattle.qh_model.specs.headline.OffFile.{off_words, ReadsOff}
+use Rattle.qh_model.specs.headline.Forms.{ReadsIn, IsFirstFault}
+use Rattle.qh_model.proofs.ReadingLaws.{thrice}
+use Rattle.qh_read.specs.contract.Progress.{wants_first, wants_keyword, started}
+use Rattle.qh_read.specs.steps.Building.{lack, filled_in}
+use Rattle.qh_read.specs.steps.Stages.{pending_list}
+use Rattle.qh_read.specs.declared.builder.Pending.{Pending}
+use Rattle.qh_read.specs.declared.builder.Pending.TheVariants as pendings
+use Rattle.qh_read.proofs.Lexing.{words_in}
+use Rattle.qh_read.proofs.ProgressLaws.{judged, whole, Whole}
+use Rattle.qh_read.proofs.OffProgressLaws as off
+use Rattle.qh_read.proofs.FaultLaws as point_file
+use Rattle.qh_read.proofs.OffFaultLaws as off_file
+
+none_left : (ps : List Vector) (q : Pending) (k : ℕ) → length (coordinates ps ++ pending_list q) ≡ 3 * k → (coordinates ps ++ pending_list q ≡ coordinates ps) × (length ps ≡ k)
+none_left ps pendings.Zero k h =
+    let none = append-nil (coordinates ps) in
+    (none, omega (arith, thrice ps, length-append (coordinates ps) []))
+none_left ps (pendings.One x) k h = absurd (omega (arith, thrice ps, length-append (coordinates ps) (x.value ∷ [])))
+none_left ps (pendings.Two x y) k h = absurd (omega (arith, thrice ps, length-append (coordinates ps) (x.value ∷ y.value ∷ [])))
+
+-- where all that the header asks for was taken, the points are those of the point file
+reads_points : (bs : List ℕ) (ps : List Vector) (q : Pending) → length bs ≤ BYTE_LIMIT
+    → filled_in (judged wants_first (data_words bs)) ≡ Some (coordinates ps ++ pending_list q) → Reads bs ps
+reads_points bs ps q small h =
+    let file : Whole (data_words bs) (coordinates ps ++ pending_list q) = whole (data_words bs) (coordinates ps ++ pending_list q) h in
+    let left = none_left ps q file.n file.count in
+    let all : coordinates ps ++ pending_list q ≡ coordinates ps = left.0 in
+    let many : length ps ≡ file.n = left.1 in
+    record {
+      small = small;
+      first = file.first;
+      second = file.second;
+      numbers = file.are ∙ ap (λ (u : List ℤ). map Some (file.first ∷ file.second ∷ u)) all;
+      header = subst (IsHeader file.first file.second) (sym many) file.header;
+      some = omega (arith, file.some, many);
+      few = omega (arith, file.few, many);
+      limit = subst (AllByRecursion IsCoordinate) all file.limit;
+    }
+
+-- the same of an OFF file
+reads_off : (bs : List ℕ) (ps : List Vector) (q : Pending) → length bs ≤ BYTE_LIMIT
+    → filled_in (judged wants_keyword (off_words bs)) ≡ Some (coordinates ps ++ pending_list q) → ReadsOff bs ps
+reads_off bs ps q small h =
+    let file : off.Whole (off_words bs) (coordinates ps ++ pending_list q) = off.whole (off_words bs) (coordinates ps ++ pending_list q) h in
+    let left = none_left ps q file.n file.count in
+    let all : coordinates ps ++ pending_list q ≡ coordinates ps = left.0 in
+    let many : length ps ≡ file.n = left.1 in
+    record {
+      small = small;
+      keyword = file.keyword;
+      numbered = file.numbered;
+      rest = file.rest;
+      words = file.words;
+      is_off = file.is_off;
+      faces = file.faces;
+      edges = file.edges;
+      numbers = file.are ∙ ap (λ (u : List ℤ). map Some (pos file.n ∷ file.faces ∷ file.edges ∷ u)) all
+          ∙ ap (λ (n : ℕ). map Some (pos n ∷ file.faces ∷ file.edges ∷ coordinates ps)) (sym many);
+      some = omega (arith, file.some, many);
+      few = omega (arith, file.few, many);
+      limit = subst (AllByRecursion IsCoordinate) all file.limit;
+    }
+
+pub reads : (form : Form) (bs : List ℕ) (ps : List Vector) (q : Pending) → length bs ≤ BYTE_LIMIT
+    → filled_in (judged (started form) (words_in form bs)) ≡ Some (coordinates ps ++ pending_list q) → ReadsIn form bs ps
+reads Qhull = reads_points
+reads Off = reads_off
+
+-- what is lacking is the first fault
+pub found : (form : Form) (bs : List ℕ) (e : ReadFault) → length bs ≤ BYTE_LIMIT → lack (judged (started form) (words_in form bs)) ≡ Some e → IsFirstFault form bs e
+found Qhull = point_file.found
+found Off = off_file.found
