@@ -2,6 +2,7 @@ pub mod KeyOrder
 pub mod MarkedIds
 pub mod PlaceStarts
 pub mod DistinctLists
+pub mod SortedKeys
 pub mod PlaneDirections
 pub mod LinesAndPlanes
 pub mod ShapeDimension

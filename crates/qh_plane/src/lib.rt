@@ -14,7 +14,7 @@ mod shape;
 #[cfg(test)]
 mod tests;
 
-pub use distinct_points::distinct;
+pub use distinct_points::{distinct, distinct_alone};
 pub use planar::polygon;
 pub use ranking::rank;
 pub use shape::Shape;

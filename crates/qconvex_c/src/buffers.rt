@@ -1,0 +1,47 @@
+//! Flat lists at the front of the caller's buffers.
+ghost use Rattle.std.specs.Prelude.{◌≡◌, ◌≤◌, ◌<◌, ◌⊎◌, length, take, true, false};
+
+use crate::flat_hull::FlatHull;
+
+/// Writes numbers at the front of a buffer.
+fn put_numbers(buffer: &mut [u32], numbers: &[u32])
+    requires { length numbers.now ≤ length buffer.old }
+    ensures { take (length numbers.now) buffer.new ≡ numbers.now }
+{
+    buffer[..numbers.len()].copy_from_slice(numbers);
+}
+
+/// Writes offsets at the front of a buffer.
+fn put_offsets(buffer: &mut [usize], offsets: &[usize])
+    requires { length offsets.now ≤ length buffer.old }
+    ensures { take (length offsets.now) buffer.new ≡ offsets.now }
+{
+    buffer[..offsets.len()].copy_from_slice(offsets);
+}
+
+/// Writes a flat hull to buffers and answers true, where each is long enough. Else they stay as they are.
+pub fn fill(
+    flat: &FlatHull,
+    extremes: &mut [u32],
+    offsets: &mut [usize],
+    corners: &mut [u32],
+) -> bool
+    ensures done { result ≡ true → (take (length flat.now.extremes.items) extremes.new ≡ flat.now.extremes.items)
+        × (take (length flat.now.offsets.items) offsets.new ≡ flat.now.offsets.items)
+        × (take (length flat.now.corners.items) corners.new ≡ flat.now.corners.items) }
+    ensures short { result ≡ false → (length extremes.old < length flat.now.extremes.items)
+        ⊎ (length offsets.old < length flat.now.offsets.items)
+        ⊎ (length corners.old < length flat.now.corners.items) }
+    ensures kept { result ≡ false → (extremes.new ≡ extremes.old) × (offsets.new ≡ offsets.old) × (corners.new ≡ corners.old) }
+{
+    if extremes.len() < flat.extremes.len()
+        || offsets.len() < flat.offsets.len()
+        || corners.len() < flat.corners.len()
+    {
+        return false;
+    }
+    put_numbers(extremes, &flat.extremes);
+    put_offsets(offsets, &flat.offsets);
+    put_numbers(corners, &flat.corners);
+    true
+}
