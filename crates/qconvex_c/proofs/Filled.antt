@@ -1,5 +1,5 @@
 -- Buffers that begin with the lists of a flat hull.
-use Rattle.std.proofs.Common.{◌≡◌, ℕ, ◌+◌, ◌<◌, List, [], ◌∷◌, length, take, ap, sym, subst, ◌∙◌, refl, ◌⊎◌, inl, inr, arith}
+use Rattle.std.proofs.Common.{◌≡◌, ℕ, ◌+◌, ◌<◌, List, [], ◌∷◌, length, take, drop, ap, sym, subst, ◌∙◌, refl, ◌⊎◌, inl, inr, arith}
 use Rattle.qh_model.specs.headline.Vector.{Vector}
 use Rattle.qconvex_c.specs.contract.Flat.{ends_from, IsFlatHull}
 use Rattle.qconvex_c.specs.contract.Answered.{IsAnswered, NeedsRoom}
@@ -35,6 +35,11 @@ module _ (pts : List Vector) (s : Sizes) (es os cs : List ℕ) (f : IsFlatHull p
       face_corners = ap (λ n. take n cb) (sym corners_len) ∙ c ∙ f.face_corners;
     };
   }
+
+  pub rest_kept : (eb ob cb eb' ob' cb' : List ℕ) → (drop (length es) eb' ≡ drop (length es) eb) × (drop (length os) ob' ≡ drop (length os) ob) × (drop (length cs) cb' ≡ drop (length cs) cb)
+      → (drop s.extremes eb' ≡ drop s.extremes eb) × (drop (s.faces + 1) ob' ≡ drop (s.faces + 1) ob) × (drop s.corners cb' ≡ drop s.corners cb)
+  rest_kept eb ob cb eb' ob' cb' (e, o, c) =
+      (subst (λ n. drop n eb' ≡ drop n eb) extremes_len e, subst (λ n. drop n ob' ≡ drop n ob) offsets_len o, subst (λ n. drop n cb' ≡ drop n cb) corners_len c)
 
   pub needs_room : (eb ob cb : List ℕ) → (length eb < length es) ⊎ (length ob < length os) ⊎ (length cb < length cs) → NeedsRoom pts s eb ob cb
   needs_room eb ob cb h = record { all_extremes = es; all_offsets = os; all_corners = cs; flat = f; short = short h }

@@ -1,12 +1,13 @@
 //! Flat lists at the front of the caller's buffers.
-ghost use Rattle.std.specs.Prelude.{◌≡◌, ◌≤◌, ◌<◌, ◌⊎◌, length, take, true, false};
+ghost use Rattle.std.specs.Prelude.{◌≡◌, ◌≤◌, ◌<◌, ◌⊎◌, length, take, drop, true, false};
 
 use crate::flat_hull::FlatHull;
 
 /// Writes numbers at the front of a buffer.
 fn put_numbers(buffer: &mut [u32], numbers: &[u32])
     requires { length numbers.now ≤ length buffer.old }
-    ensures { take (length numbers.now) buffer.new ≡ numbers.now }
+    ensures numbers { take (length numbers.now) buffer.new ≡ numbers.now }
+    ensures rest { drop (length numbers.now) buffer.new ≡ drop (length numbers.now) buffer.old }
 {
     buffer[..numbers.len()].copy_from_slice(numbers);
 }
@@ -14,7 +15,8 @@ fn put_numbers(buffer: &mut [u32], numbers: &[u32])
 /// Writes offsets at the front of a buffer.
 fn put_offsets(buffer: &mut [usize], offsets: &[usize])
     requires { length offsets.now ≤ length buffer.old }
-    ensures { take (length offsets.now) buffer.new ≡ offsets.now }
+    ensures offsets { take (length offsets.now) buffer.new ≡ offsets.now }
+    ensures rest { drop (length offsets.now) buffer.new ≡ drop (length offsets.now) buffer.old }
 {
     buffer[..offsets.len()].copy_from_slice(offsets);
 }
@@ -29,6 +31,9 @@ pub fn fill(
     ensures done { result ≡ true → (take (length flat.now.extremes.items) extremes.new ≡ flat.now.extremes.items)
         × (take (length flat.now.offsets.items) offsets.new ≡ flat.now.offsets.items)
         × (take (length flat.now.corners.items) corners.new ≡ flat.now.corners.items) }
+    ensures rest { result ≡ true → (drop (length flat.now.extremes.items) extremes.new ≡ drop (length flat.now.extremes.items) extremes.old)
+        × (drop (length flat.now.offsets.items) offsets.new ≡ drop (length flat.now.offsets.items) offsets.old)
+        × (drop (length flat.now.corners.items) corners.new ≡ drop (length flat.now.corners.items) corners.old) }
     ensures short { result ≡ false → (length extremes.old < length flat.now.extremes.items)
         ⊎ (length offsets.old < length flat.now.offsets.items)
         ⊎ (length corners.old < length flat.now.corners.items) }

@@ -1,5 +1,5 @@
 //! The calls that C makes.
-ghost use Rattle.std.specs.Prelude.{◌≡◌, ◌≢◌, ◌≤◌, ◌<◌, ◌↔◌, length, drop};
+ghost use Rattle.std.specs.Prelude.{◌≡◌, ◌≢◌, ◌≤◌, ◌<◌, ◌↔◌, ◌+◌, length, drop};
 ghost use Rattle.std.specs.List.{All};
 ghost use Rattle.qh_model.specs.contract.Places.{IsPlace};
 ghost use Rattle.qh_model.specs.declared.limits.TheConstants.{POINT_LIMIT};
@@ -21,7 +21,7 @@ use std::alloc::Global;
 /// Else it answers `NO_POINT`, `TOO_MANY` for more than `POINT_LIMIT` points, `RANGE` for a coordinate
 /// out of range, `MEMORY` where memory was refused, or `ROOM` where a buffer is too short: then `sizes`
 /// counts the parts of the hull, and so tells how long the buffers have to be. The buffers stay as they
-/// were, and but for `ROOM` so does `sizes`.
+/// were, and but for `ROOM` so does `sizes`. What stands behind an answer in a buffer stays, too.
 #[unsafe(no_mangle)]
 pub extern "C" fn qconvex_hull(
     alloc: Global,
@@ -38,7 +38,10 @@ pub extern "C" fn qconvex_hull(
     ensures room { result ≡ ROOM → NeedsRoom points.now sizes.new extremes.old offsets.old corners.old }
     ensures codes { result ≤ ROOM }
 
-    // What a refusal leaves alone.
+    // What stands behind an answer in a buffer, and what a refusal leaves alone.
+    ensures extremes_rest { result ≡ DONE → drop sizes.new.extremes extremes.new ≡ drop sizes.new.extremes extremes.old }
+    ensures offsets_rest { result ≡ DONE → drop (sizes.new.faces + 1) offsets.new ≡ drop (sizes.new.faces + 1) offsets.old }
+    ensures corners_rest { result ≡ DONE → drop sizes.new.corners corners.new ≡ drop sizes.new.corners corners.old }
     ensures extremes_kept { result ≢ DONE → extremes.new ≡ extremes.old }
     ensures offsets_kept { result ≢ DONE → offsets.new ≡ offsets.old }
     ensures corners_kept { result ≢ DONE → corners.new ≡ corners.old }

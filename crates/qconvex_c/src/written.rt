@@ -1,5 +1,5 @@
 //! The hull of points, written to buffers.
-ghost use Rattle.std.specs.Prelude.{◌≡◌, ◌≢◌, ◌≤◌, ◌<◌, ◌↔◌, length, IfOk, IfErr, IsErrOf, OnOk, OnErr};
+ghost use Rattle.std.specs.Prelude.{◌≡◌, ◌≢◌, ◌≤◌, ◌<◌, ◌↔◌, ◌+◌, length, drop, IfOk, IfErr, IsErrOf, OnOk, OnErr};
 ghost use Rattle.std.specs.List.{All};
 ghost use Rattle.qh_model.specs.contract.Places.{IsPlace};
 ghost use Rattle.qh_model.specs.declared.limits.TheConstants.{POINT_LIMIT};
@@ -43,6 +43,9 @@ pub fn write_hull(
     corners: &mut [u32],
 ) -> Result<(), Fault>
     ensures done { OnOk result (IsAnswered points.now sizes.new extremes.new offsets.new corners.new) }
+    ensures rest { OnOk result ((drop sizes.new.extremes extremes.new ≡ drop sizes.new.extremes extremes.old)
+        × (drop (sizes.new.faces + 1) offsets.new ≡ drop (sizes.new.faces + 1) offsets.old)
+        × (drop sizes.new.corners corners.new ≡ drop sizes.new.corners corners.old)) }
     ensures none { IsErrOf result Fault.NoPoint ↔ (length points.now ≡ 0) }
     ensures many { IsErrOf result Fault.TooMany ↔ (POINT_LIMIT < length points.now) }
     ensures range { IsErrOf result Fault.Range ↔ ((0 < length points.now) × (length points.now ≤ POINT_LIMIT) × ¬ (All IsPlace points.now)) }
