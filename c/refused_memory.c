@@ -1,5 +1,6 @@
-/* Refuses each request for memory in turn: the answer is QCONVEX_MEMORY, the buffers stay as they were, and nothing is
- * kept. The three functions stand in place of the library's own calls of malloc, realloc and free. */
+/* Refuses each request for memory in turn. The answer is QCONVEX_MEMORY, and the buffers stay as they were; or it is the
+ * right one, where the request was for room in advance and the call did with less. Nothing is kept in either case. The
+ * three functions stand in place of the library's own calls of malloc, realloc and free. */
 #include "qconvex.h"
 #include <stdbool.h>
 #include <stdio.h>
@@ -35,10 +36,14 @@ void rattle_dealloc(void *place) {
 
 enum { POINTS = 400, OFFSETS = 2 * POINTS + 2, CORNERS = 6 * POINTS + 4 };
 
+struct buffers {
+    qconvex_sizes sizes;
+    uint32_t extremes[POINTS], corners[CORNERS];
+    size_t offsets[OFFSETS];
+};
+
 static qconvex_point points[POINTS];
-static uint32_t extremes[POINTS], corners[CORNERS];
-static size_t offsets[OFFSETS];
-static qconvex_sizes sizes;
+static struct buffers blank, right, now;
 
 /* The families: solid with large faces, solid without, in a plane, in a line, one point. */
 static void make_points(int family) {
@@ -53,37 +58,32 @@ static void make_points(int family) {
     }
 }
 
-static uint32_t hull(void) {
+/* A hull in blank buffers, of which one request may be refused. */
+static uint32_t hull(struct buffers *to) {
     requests = 0;
-    memset(extremes, 0x55, sizeof extremes);
-    memset(corners, 0x55, sizeof corners);
-    memset(offsets, 0x55, sizeof offsets);
-    memset(&sizes, 0x55, sizeof sizes);
-    return qconvex_hull(points, POINTS, &sizes, extremes, POINTS, offsets, OFFSETS, corners, CORNERS);
+    memcpy(to, &blank, sizeof blank);
+    return qconvex_hull(points, POINTS, &to->sizes, to->extremes, POINTS, to->offsets, OFFSETS, to->corners, CORNERS);
 }
 
-static bool is_kept(const void *bytes, size_t size) {
-    const unsigned char *byte = bytes;
-    for (size_t k = 0; k < size; k++)
-        if (byte[k] != 0x55) return false;
-    return true;
-}
-
-static bool all_kept(void) {
-    return is_kept(extremes, sizeof extremes) && is_kept(corners, sizeof corners) && is_kept(offsets, sizeof offsets)
-        && is_kept(&sizes, sizeof sizes);
+static bool is_right(uint32_t code) {
+    const struct buffers *want = code == QCONVEX_MEMORY ? &blank : &right;
+    return (code == QCONVEX_MEMORY || code == QCONVEX_DONE) && memcmp(&now, want, sizeof now) == 0 && living == 0;
 }
 
 int main(void) {
-    long tried = 0, wrong = 0;
+    long tried = 0, memory = 0, wrong = 0;
+    memset(&blank, 0x55, sizeof blank);
     for (int family = 0; family < 5; family++) {
         make_points(family);
         refused = 0;
-        wrong += hull() != QCONVEX_DONE || living != 0;
+        wrong += hull(&right) != QCONVEX_DONE || living != 0;
         long total = requests;
-        for (refused = 1; refused <= total; refused++, tried++)
-            wrong += hull() != QCONVEX_MEMORY || !all_kept() || living != 0;
+        for (refused = 1; refused <= total; refused++, tried++) {
+            uint32_t code = hull(&now);
+            memory += code == QCONVEX_MEMORY;
+            wrong += !is_right(code);
+        }
     }
-    printf("%ld requests refused in turn, %ld wrong answers\n", tried, wrong);
+    printf("%ld requests refused in turn: %ld times QCONVEX_MEMORY, else the right answer; %ld wrong\n", tried, memory, wrong);
     return wrong != 0;
 }

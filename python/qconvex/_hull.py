@@ -7,7 +7,7 @@ from typing import Any
 import numpy as np
 
 from ._library import COORDINATE_LIMIT, RANGE_REFUSAL, flat_hull
-from ._measures import exact_sum_of_products, normals_of
+from ._triangles import exact_sum_of_products, neighbors_of, normals_of
 
 
 def _whole(points: Any) -> np.ndarray:
@@ -108,9 +108,8 @@ class ConvexHull:
 
         The normals have length 1 and point outside: normal . x + offset <= 0 for the points of the hull.
         """
-        normals = self.normals.astype(np.float64)
-        normals /= np.linalg.norm(normals, axis=1, keepdims=True)
-        heights = np.einsum("ij,ij->i", normals, self.points[self.simplices[:, 0]])
+        normals = self.normals / self._doubled_areas[:, np.newaxis]
+        heights = (normals * self.points[self.simplices[:, 0]]).sum(axis=1)
         return np.column_stack((normals, -heights))
 
     @cached_property
@@ -119,15 +118,7 @@ class ConvexHull:
 
         It is -1 where there is none, as at the rim of a set in a plane.
         """
-        sides = self.simplices.astype(np.int64)
-        count = np.int64(len(self.points))
-        start, end = sides[:, [1, 2, 0]].ravel(), sides[:, [2, 0, 1]].ravel()
-        keys = start * count + end
-        order = np.argsort(keys)
-        twins = end * count + start
-        places = np.minimum(np.searchsorted(keys[order], twins), max(len(keys) - 1, 0))
-        found = order[places] if len(keys) else places
-        return np.where(keys[found] == twins, found // 3, -1).reshape(-1, 3).astype(np.int32)
+        return neighbors_of(self.simplices, len(self.points))
 
     @cached_property
     def six_volumes(self) -> int:
@@ -145,7 +136,13 @@ class ConvexHull:
     @cached_property
     def area(self) -> float:
         """The area of all faces together, rounded; of a set in a plane that of its one face."""
-        return float(np.linalg.norm(self.normals.astype(np.float64), axis=1).sum() / 2)
+        return float(self._doubled_areas.sum()) / 2
+
+    @cached_property
+    def _doubled_areas(self) -> np.ndarray:
+        """Twice the area of each triangle, rounded."""
+        normals = self.normals.astype(np.float64)
+        return np.sqrt((normals * normals).sum(axis=1))
 
     @property
     def nsimplex(self) -> int:

@@ -66,9 +66,11 @@ def test_limits_of_coordinates():
     hull = ConvexHull(ends)
     assert hull.six_volumes == 6 * (2 * COORDINATE_LIMIT) ** 3 and hull.volume == float((2 * COORDINATE_LIMIT) ** 3)
     assert hull.normals[0].tolist() == [-((2 * COORDINATE_LIMIT) ** 2), 0, 0]
-    for far in (COORDINATE_LIMIT + 1, -COORDINATE_LIMIT - 1, -(2**31), 2**31, 2**40, -(2**63), 2**64 - 1, 2**70):
+    for far in (COORDINATE_LIMIT + 1, -COORDINATE_LIMIT - 1, -(2**31), 2**31, 2**40, -(2**63), 2**70):
         with pytest.raises(ValueError, match="coordinate"):
-            ConvexHull([[0, 0, 0], [0, far, 0]] if far < 2**63 else [[0, 0, 0], [0, far, 1]])
+            ConvexHull([[0, 0, 0], [0, far, 0]])
+    with pytest.raises(ValueError, match="coordinate"):
+        ConvexHull(np.array([[0, 0, 0], [0, 2**64 - 1, 1]], np.uint64))
 
 
 def test_floats_are_refused_with_a_way_to_scale():
