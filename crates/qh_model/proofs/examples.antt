@@ -2,4 +2,5 @@
 pub mod Reading
 pub mod Points
 pub mod Polygons
+pub mod Fans
 pub mod Texts

@@ -5,3 +5,5 @@ pub mod Direction
 pub mod Neighbours
 pub mod PlaneTurns
 pub mod Edges
+pub mod Fans
+pub mod EdgeCounts

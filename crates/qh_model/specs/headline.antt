@@ -3,6 +3,7 @@ pub mod Combination
 pub mod Dimension
 pub mod DistinctIds
 pub mod Extreme
+pub mod Fan
 pub mod FileFault
 pub mod Hull
 pub mod Limits

@@ -12,6 +12,7 @@ pub mod EdgeLaws
 pub mod ExtremeLaws
 pub mod FaceLaws
 pub mod FacetPlanes
+pub mod FanLaws
 pub mod Horizons
 pub mod HullLaws
 pub mod LiveFacets

@@ -10,6 +10,7 @@ mod cones;
 mod cuts;
 mod edges;
 mod extremes;
+mod fans;
 mod hulls;
 mod polygons;
 mod reading;
@@ -26,6 +27,7 @@ pub use extremes::{
     extremes_of_faces, greatest_is_extreme, members_are_combinations, parts_with_extremes,
     planes_of_extremes, union_extremes,
 };
+pub use fans::{edges_are_counted, fan_triangles_support};
 pub use hulls::{one_hull, one_value_each};
 pub use polygons::{one_polygon, polygon_by_direction};
 pub use reading::one_reading;

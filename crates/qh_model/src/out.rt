@@ -9,4 +9,6 @@ pub enum Out {
     Fx,
     /// `off`: vertices and faces. Source: Geomview OFF.
     Off,
+    /// `offt`: vertices and faces, each face as a fan of triangles. Source: Geomview OFF.
+    OffTriangles,
 }

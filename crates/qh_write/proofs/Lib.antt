@@ -1,2 +1,4 @@
 pub mod SendingLemmas
 pub mod TextLemmas
+pub mod FanLemmas
+pub mod EdgeKeyLemmas

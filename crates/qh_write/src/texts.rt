@@ -2,6 +2,8 @@ ghost use Rattle.std.specs.Prelude.{◌≡◌, ◌++◌, ◌<◌, IfOk, OnOk, Al
 ghost use Rattle.qh_model.specs.headline.Text.{hull_text, output_text};
 ghost use Rattle.qh_model.specs.contract.IdSets.{AreIndices};
 
+mod edges;
+mod fans;
 mod lines;
 mod numbering;
 mod off;
@@ -27,6 +29,7 @@ fn push_output(
         Out::Summary => summary::push_summary(text, hull),
         Out::Fx => off::push_extremes(text, &hull.body),
         Out::Off => off::push_off(text, alloc, &hull.body, pts),
+        Out::OffTriangles => fans::push_off_triangles(text, alloc, &hull.body, pts),
     }
 }
 

@@ -1,8 +1,8 @@
--- The texts of the hull of a tetrahedron, computed.
+-- The texts of the hulls of a tetrahedron and of a square, computed.
 use Rattle.std.proofs.Common.{◌≡◌, ℕ, refl, List, [], ◌∷◌, ◌++◌}
 use Rattle.std.specs.Prelude.{pos, codes}
 use Rattle.std.specs.Fmt.{digits}
-use Rattle.qh_model.specs.declared.out.Out.TheVariants.{Rank, Fx, Off}
+use Rattle.qh_model.specs.declared.out.Out.TheVariants.{Rank, Fx, Off, OffTriangles}
 use Rattle.qh_model.specs.headline.Vector.{Vector}
 use Rattle.qh_model.specs.headline.Predicates.{place}
 use Rattle.qh_model.specs.headline.Hull.{HullValue}
@@ -45,6 +45,29 @@ pub off : hull_text hull corners (Off ∷ [])
     ++ line (codes "3 0 1 3") ++ line (codes "3 0 2 1") ++ line (codes "3 0 3 2") ++ line (codes "3 1 2 3")
 unfolding digits place
 off = refl
+
+-- `offt`: triangles are their own fans
+pub triangles : hull_text hull corners (OffTriangles ∷ []) ≡ hull_text hull corners (Off ∷ [])
+triangles = refl
+
+-- the square (5,0,0) (5,2,0) (5,2,2) (5,0,2), given after another point of it
+abbrev square_corners : List Vector
+square_corners = point 5 1 1 ∷ point 5 0 0 ∷ point 5 2 0 ∷ point 5 2 2 ∷ point 5 0 2 ∷ []
+
+abbrev square : HullValue
+square = record {
+  given = 5;
+  distinct = 5;
+  body = record { dim = 2; extremes = 1 ∷ 2 ∷ 3 ∷ 4 ∷ []; polygons = (1 ∷ 2 ∷ 3 ∷ 4 ∷ []) ∷ []; edges = 4 };
+}
+
+-- `offt`: two triangles, with five edges
+pub square_in_triangles : hull_text square square_corners (OffTriangles ∷ [])
+    ≡ line (codes "OFF") ++ line (codes "4 2 5")
+    ++ line (codes "5 0 0") ++ line (codes "5 2 0") ++ line (codes "5 2 2") ++ line (codes "5 0 2")
+    ++ line (codes "3 0 1 2") ++ line (codes "3 0 2 3")
+unfolding digits place
+square_in_triangles = refl
 
 -- a vertex number is a position among the extreme ids, not an id
 pub third_vertex : vertex_number (4 ∷ 7 ∷ 9 ∷ []) 9 ≡ 2

@@ -1,5 +1,6 @@
 -- Two lists, one after the other: their members, and when they have each once.
-use Rattle.std.proofs.Common.{List, [], ◌∷◌, ◌++◌, ◌⊎◌, inl, inr, refl}
+use Rattle.std.proofs.Common.{List, [], ◌∷◌, ◌++◌, ◌⊎◌, inl, inr, refl, subst}
+use Rattle.std.specs.List.{flat_map}
 use Rattle.qh_model.specs.headline.Sets.{In, Once}
 
 -- a member of either is one of both
@@ -28,3 +29,18 @@ once_append {X} (x ∷ xs) ys o p n = (λ i. go (of_append xs ys x i), once_appe
     go : In x xs ⊎ In x ys → ⊥
     go (inl i) = o.0 i
     go (inr i) = n x (inl refl) i
+
+-- a member of the list of a member is one of all these lists joined
+pub in_flat_map : {X Y : Type 0} (f : X → List Y) (xs : List X) (x : X) (y : Y) → In x xs → In y (f x) → In y (flat_map f xs)
+in_flat_map f [] x y m h = absurd m
+in_flat_map f (z ∷ xs) x y (inl e) h = in_append (f z) (flat_map f xs) y (inl (subst (λ t. In y (f t)) e h))
+in_flat_map f (z ∷ xs) x y (inr m) h = in_append (f z) (flat_map f xs) y (inr (in_flat_map f xs x y m h))
+
+-- and back
+pub of_flat_map : {X Y : Type 0} (f : X → List Y) (xs : List X) (y : Y) → In y (flat_map f xs) → (x : X) × In x xs × In y (f x)
+of_flat_map f [] y m = absurd m
+of_flat_map {X} {Y} f (z ∷ xs) y m = go (of_flat_map f xs y) (of_append (f z) (flat_map f xs) y m)
+  where
+    go : (In y (flat_map f xs) → (x : X) × In x xs × In y (f x)) → In y (f z) ⊎ In y (flat_map f xs) → (x : X) × In x (z ∷ xs) × In y (f x)
+    go rest (inl h) = (z, inl refl, h)
+    go rest (inr h) = let r = rest h in (r.0, inr r.1, r.2)

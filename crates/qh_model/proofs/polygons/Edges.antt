@@ -76,18 +76,18 @@ other_of_three x y z u v xy yz xz = pick (ℕ_discrete x u) (ℕ_discrete x v) (
     pick (no a) (yes b) (yes c) (no d) = (z, inr (inr refl), (λ e. yz (c ∙ sym e)), (λ e. xz (b ∙ sym e)))
 
 -- a supporting plane, its polygon, and two neighbours on it
-record Way (at : ℕ → Vector) (A : ℕ → Type 0) (i j k : ℕ) (q : List ℕ) (u v : ℕ) : Type 0 where
-  triple : IsSupportingTriple at A i j k
-  face : IsFacePolygon at A i j k q
-  follows : Follows u v q
+pub record Way (at : ℕ → Vector) (A : ℕ → Type 0) (i j k : ℕ) (q : List ℕ) (u v : ℕ) : Type 0 where
+  pub triple : IsSupportingTriple at A i j k
+  pub face : IsFacePolygon at A i j k q
+  pub follows : Follows u v q
 
 -- a third member of the polygon, to the left of the way from u to v
-record Third (at : ℕ → Vector) (A : ℕ → Type 0) (i j k u v : ℕ) : Type 0 where
-  w : ℕ
-  member : OnPlane at (Extreme at A) i j k w
-  not_u : w ≢ u
-  not_v : w ≢ v
-  turns : pos 0 <ℤ left (cross (at i) (at j) (at k)) (at u) (at v) (at w)
+pub record Third (at : ℕ → Vector) (A : ℕ → Type 0) (i j k u v : ℕ) : Type 0 where
+  pub w : ℕ
+  pub member : OnPlane at (Extreme at A) i j k w
+  pub not_u : w ≢ u
+  pub not_v : w ≢ v
+  pub turns : pos 0 <ℤ left (cross (at i) (at j) (at k)) (at u) (at v) (at w)
 
 module _ (at : ℕ → Vector) (ids : List ℕ) (d : HasDistinctPoints at (Members ids)) (i j k : ℕ) (q : List ℕ) (u v : ℕ) (way : Way at (Members ids) i j k q u v) where
   abbrev n : Vector
@@ -104,7 +104,7 @@ module _ (at : ℕ → Vector) (ids : List ℕ) (d : HasDistinctPoints at (Membe
   to_left w h a b = way.face.round u v way.follows w ((way.face.members w).1 h) a b
 
   -- there is a third
-  third : Third at (Members ids) i j k u v
+  pub third : Third at (Members ids) i j k u v
   third = pick (planes_of_extremes at ids d i j k way.triple)
     where
       pick : SpannedByExtremes at (Members ids) i j k → Third at (Members ids) i j k u v

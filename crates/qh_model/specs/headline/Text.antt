@@ -5,9 +5,10 @@ use Rattle.std.specs.Prelude.{◌≡◌, ℕ, suc, List, [], ◌∷◌, ◌++◌
 use Rattle.std.specs.Fmt.{signed_decimal}
 use Rattle.std.specs.List.{flat_map}
 use Rattle.qh_model.specs.declared.out.Out.{Out}
-use Rattle.qh_model.specs.declared.out.Out.TheVariants.{Rank, Summary, Fx, Off}
+use Rattle.qh_model.specs.declared.out.Out.TheVariants.{Rank, Summary, Fx, Off, OffTriangles}
 use Rattle.qh_model.specs.headline.Vector.{Vector}
 use Rattle.qh_model.specs.headline.Predicates.{place}
+use Rattle.qh_model.specs.headline.Fan.{fans, edge_count}
 use Rattle.qh_model.specs.headline.Hull.{HullValue, BodyValue, IsHull}
 
 -- a line ends with byte 10
@@ -65,12 +66,17 @@ off_text b pts =
     ++ flat_map (λ i. vertex_text (place pts i)) b.extremes
     ++ flat_map (face_text b.extremes) b.polygons
 
+-- the fans of the polygons in place of the polygons, and their edges
+abbrev pub in_triangles : BodyValue → BodyValue
+in_triangles b = record b { polygons = fans b.polygons; edges = edge_count (fans b.polygons) }
+
 -- the text of an output
 abbrev pub output_text : HullValue → List Vector → Out → List ℕ
 output_text h pts Rank = rank_text h
 output_text h pts Summary = summary_text h
 output_text h pts Fx = extremes_text h.body
 output_text h pts Off = off_text h.body pts
+output_text h pts OffTriangles = off_text (in_triangles h.body) pts
 
 -- the texts of a list of outputs, joined in its order
 abbrev pub hull_text : HullValue → List Vector → List Out → List ℕ

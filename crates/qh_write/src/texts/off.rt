@@ -49,8 +49,9 @@ fn push_vertex(text: &mut Vec<u8>, point: Point) -> Result<(), AllocError>
     push_line_end(text)
 }
 
+/// Appends the points of ids.
 #[tactic(auto, unfolding(qh_model::specs::headline::Predicates::place))]
-fn push_vertices(text: &mut Vec<u8>, pts: &[Point], ids: &[Id]) -> Result<(), AllocError>
+pub fn push_vertices(text: &mut Vec<u8>, pts: &[Point], ids: &[Id]) -> Result<(), AllocError>
     requires { All (λ i. i < length pts.now) ids.now }
     ensures { OnOk result (text.new.items ≡ text.old.items ++ flat_map (λ i. vertex_text (place pts.now i)) ids.now) }
 {
@@ -70,7 +71,8 @@ fn push_vertex_numbers(text: &mut Vec<u8>, numbers: &[usize], face: &[Id]) -> Re
     Ok(())
 }
 
-fn push_face(text: &mut Vec<u8>, numbers: &[usize], face: &[Id]) -> Result<(), AllocError>
+/// Appends a face, each vertex by its number.
+pub fn push_face(text: &mut Vec<u8>, numbers: &[usize], face: &[Id]) -> Result<(), AllocError>
     requires { AreNumbered numbers.now face.now }
     ensures { OnOk result (text.new.items ≡ text.old.items ++ face_by_table numbers.now face.now) }
 {

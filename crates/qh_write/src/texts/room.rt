@@ -17,6 +17,15 @@ fn face_numbers(faces: &[Polygon]) -> usize {
     numbers
 }
 
+/// How many numbers the fans of the faces have at most, their lengths with them: four for each corner of a face.
+fn fan_numbers(faces: &[Polygon]) -> usize {
+    let mut corners = 0usize;
+    for face in faces {
+        corners = corners.saturating_add(face.ids().len());
+    }
+    corners.saturating_mul(4)
+}
+
 fn output_room(body: &Body, out: Out) -> usize {
     let vertices = body.extremes.len().saturating_mul(NUMBER);
     match out {
@@ -25,6 +34,9 @@ fn output_room(body: &Body, out: Out) -> usize {
         Out::Off => SUMMARY
             .saturating_add(vertices.saturating_mul(3))
             .saturating_add(face_numbers(&body.polygons).saturating_mul(NUMBER)),
+        Out::OffTriangles => SUMMARY
+            .saturating_add(vertices.saturating_mul(3))
+            .saturating_add(fan_numbers(&body.polygons).saturating_mul(NUMBER)),
     }
 }
 

@@ -1,0 +1,125 @@
+-- Fans of triangles: their triangles are of their polygons, and support the set.
+use Rattle.std.proofs.Common.{ℕ, ◌≡◌, ◌≢◌, List, [], ◌∷◌, ◌⊎◌, inl, inr, refl, sym, subst, ◌∙◌}
+use Rattle.std.specs.Prelude.{pos, ◌<ℤ◌, ◌≤ℤ◌}
+use Rattle.qh_model.specs.headline.Vector.{Vector, dot}
+use Rattle.qh_model.specs.headline.Predicates.{cross, vol, left}
+use Rattle.qh_model.specs.headline.Sets.{In, Members, Once}
+use Rattle.qh_model.specs.contract.IdSets.{HasDistinctPoints}
+use Rattle.qh_model.specs.headline.SupportingPlane.{IsSupportingTriple, OnPlane}
+use Rattle.qh_model.specs.headline.Extreme.{Extreme}
+use Rattle.qh_model.specs.headline.Polygon.{FollowsAlong, Follows, TurnsLeft}
+use Rattle.qh_model.specs.headline.Polygons.{IsFacePolygon, AreFaces}
+use Rattle.qh_model.specs.headline.Fan.{triangles_along, fan, fans}
+use Rattle.qh_model.specs.laws.FanLaws.{CornersSupport, FansSupport, IsSupportingTriangle}
+use Rattle.qh_model.specs.laws.FaceLaws.{SpannedByExtremes}
+use Rattle.qh_model.proofs.algebra.Order.{cancel-nonpos, mul-nonneg_nonpos, positive_le}
+use Rattle.qh_model.proofs.algebra.Signs.{less_differ}
+use Rattle.qh_model.proofs.algebra.VectorIdentities.{vol-first, in_line-left, left-turn}
+use Rattle.qh_model.proofs.extremes.Directions.{square-positive}
+use Rattle.qh_model.proofs.extremes.SpanningTriples.{planes_of_extremes}
+use Rattle.qh_model.proofs.lists.Joined.{of_flat_map}
+use Rattle.qh_model.proofs.polygons.Edges.{Way, Third, third}
+use Rattle.qh_model.proofs.polygons.Neighbours.{follows_members}
+use Rattle.qh_model.proofs.polygons.PlaneTurns.{level_volume}
+
+-- the law
+pub corners_support : CornersSupport
+corners_support at ids i j k q t p u v w f m wu wv =
+    let n = cross (at i) (at j) (at k) in
+    let in_u = (p.members u).0 (follows_members u v q f).0 in
+    let in_v = (p.members v).0 (follows_members u v q f).1 in
+    let in_w = (p.members w).0 m in
+    let turn : pos 0 <ℤ left n (at w) (at u) (at v) = subst (λ x. pos 0 <ℤ x) (sym (left-turn n (at w) (at u) (at v))) (p.round u v f w m wu wv) in
+    record {
+      has_i = in_w.0.0;
+      has_j = in_u.0.0;
+      has_k = in_v.0.0;
+      area = λ e. less_differ (pos 0) (left n (at w) (at u) (at v)) turn (sym (in_line-left n (at w) (at u) (at v) e));
+      supports = λ l a. cancel-nonpos (dot n n) (vol (at w) (at u) (at v) (at l)) (square-positive n t.area)
+          (subst (λ x. x ≤ℤ pos 0) (sym (level_volume (at i) (at j) (at k) (at w) (at u) (at v) (at l) in_w.1 in_u.1 in_v.1))
+          (mul-nonneg_nonpos (left n (at w) (at u) (at v)) (vol (at i) (at j) (at k) (at l)) (positive_le _ turn) (t.supports l a)));
+    }
+
+-- ---- the triangles of a fan
+-- a triangle of the first and of two neighbours on the way from u along the list
+record IsTriangleAlong (first u : ℕ) (r t : List ℕ) : Type 0 where
+  v : ℕ
+  w : ℕ
+  is : t ≡ first ∷ v ∷ w ∷ []
+  has_v : In v (u ∷ r)
+  has_w : In w r
+  follows : (e : ℕ) → FollowsAlong v w u r e
+
+-- so is each of a fan
+triangle_along : (first u : ℕ) (r t : List ℕ) → In t (triangles_along first u r) → IsTriangleAlong first u r t
+triangle_along first u [] t m = absurd m
+triangle_along first u (x ∷ r) t (inl e) = record { v = u; w = x; is = e; has_v = inl refl; has_w = inl refl; follows = λ e. inl (refl, refl) }
+triangle_along first u (x ∷ r) t (inr m) =
+    let s = triangle_along first x r t m in
+    record { v = s.v; w = s.w; is = s.is; has_v = inr s.has_v; has_w = inr s.has_w; follows = λ e. inr (s.follows e) }
+
+-- the members of a fan have no other ids than the polygon
+pub fan_members : (q t : List ℕ) → In t (fan q) → (i : ℕ) → In i t → In i q
+fan_members [] t (inl e) i h = subst (In i) e h
+fan_members [] t (inr n) i h = absurd n
+fan_members (a ∷ []) t (inl e) i h = subst (In i) e h
+fan_members (a ∷ []) t (inr n) i h = absurd n
+fan_members (a ∷ b ∷ []) t (inl e) i h = subst (In i) e h
+fan_members (a ∷ b ∷ []) t (inr n) i h = absurd n
+fan_members (a ∷ b ∷ c ∷ r) t m i h = go (triangle_along a b (c ∷ r) t m)
+  where
+    go : IsTriangleAlong a b (c ∷ r) t → In i (a ∷ b ∷ c ∷ r)
+    go s = pick (subst (In i) s.is h)
+      where
+        pick : In i (a ∷ s.v ∷ s.w ∷ []) → In i (a ∷ b ∷ c ∷ r)
+        pick (inl e) = inl e
+        pick (inr (inl e)) = inr (subst (λ x. In x (b ∷ c ∷ r)) (sym e) s.has_v)
+        pick (inr (inr (inl e))) = inr (inr (subst (λ x. In x (c ∷ r)) (sym e) s.has_w))
+        pick (inr (inr (inr n))) = absurd n
+
+-- ---- the fans of faces
+module _ (at : ℕ → Vector) (ids : List ℕ) (d : HasDistinctPoints at (Members ids)) (i j k : ℕ) (triple : IsSupportingTriple at (Members ids) i j k) where
+  -- a face has three corners or more, so its fan has triangles alone
+  face_fan : (q t : List ℕ) → IsFacePolygon at (Members ids) i j k q → In t (fan q) → IsSupportingTriangle at (Members ids) t
+  face_fan [] t p m = absurd (none (planes_of_extremes at ids d i j k triple))
+    where
+      none : SpannedByExtremes at (Members ids) i j k → ⊥
+      none s = (p.members s.u).1 (s.has_u, (s.same s.u).1 (vol-first (at s.u) (at s.v) (at s.w)))
+  face_fan (a ∷ []) t p m = absurd (none (third at ids d i j k (a ∷ []) a a (record { triple = triple; face = p; follows = (refl, refl) })))
+    where
+      none : Third at (Members ids) i j k a a → ⊥
+      none x = pick ((p.members x.w).1 x.member)
+        where
+          pick : In x.w (a ∷ []) → ⊥
+          pick (inl e) = x.not_u e
+          pick (inr n) = n
+  face_fan (a ∷ b ∷ []) t p m = absurd (none (third at ids d i j k (a ∷ b ∷ []) a b (record { triple = triple; face = p; follows = inl (refl, refl) })))
+    where
+      none : Third at (Members ids) i j k a b → ⊥
+      none x = pick ((p.members x.w).1 x.member)
+        where
+          pick : In x.w (a ∷ b ∷ []) → ⊥
+          pick (inl e) = x.not_u e
+          pick (inr (inl e)) = x.not_v e
+          pick (inr (inr n)) = n
+  face_fan (a ∷ b ∷ c ∷ r) t p m = go (triangle_along a b (c ∷ r) t m)
+    where
+      go : IsTriangleAlong a b (c ∷ r) t → IsSupportingTriangle at (Members ids) t
+      go s = (
+        a,
+        s.v,
+        s.w,
+        s.is,
+        corners_support at ids i j k (a ∷ b ∷ c ∷ r) triple p s.v s.w a (inr (s.follows a)) (inl refl)
+            (λ e. p.once.0 (subst (λ x. In x (b ∷ c ∷ r)) (sym e) s.has_v)) (λ e. p.once.0 (inr (subst (λ x. In x (c ∷ r)) (sym e) s.has_w))),
+      )
+
+-- the law
+pub fans_support : FansSupport
+fans_support at ids qs d f t m = go (of_flat_map fan qs t m)
+  where
+    go : (q : List ℕ) × In q qs × In t (fan q) → IsSupportingTriangle at (Members ids) t
+    go (q, has, h) = face (f.only q has)
+      where
+        face : (i : ℕ) × (j : ℕ) × (k : ℕ) × IsSupportingTriple at (Members ids) i j k × IsFacePolygon at (Members ids) i j k q → IsSupportingTriangle at (Members ids) t
+        face (i, j, k, triple, p) = face_fan at ids d i j k triple q t p h

@@ -1,0 +1,121 @@
+-- Edges counted by numbers of pairs: what is added, and how many numbers differ.
+use Rattle.std.proofs.Common.{◌≡◌, ◌≢◌, ◌∙◌, ℕ, ◌+◌, ◌*◌, ◌<◌, List, [], ◌∷◌, ◌++◌, length, arith, ap, sym, refl, subst, inl, inr, map, drop, get_or, append_assoc, min, max, IsPermutation, Bool, true, false, cond, eqb-true, nat_cmp}
+use Rattle.std.proofs.lemmas.Bool.{eqb-false}
+use Rattle.std.proofs.lemmas.Grind.{flat_map-append}
+use Rattle.std.proofs.lemmas.List.{length-map}
+use Rattle.std.proofs.lemmas.List.Kept.{Contains-dedup_nat, Contains-from_dedup}
+use Rattle.std.proofs.lemmas.Map.Keys.{IsStrictlyIncreasing-dedup}
+use Rattle.std.specs.Prelude.{◌==◌, ◌↔◌, eqb}
+use Rattle.std.proofs.lemmas.List.Sorted.{IsPermutation-sym}
+use Rattle.std.specs.List.{flat_map, dedup, AllByRecursion}
+use Rattle.std.specs.List.Sorted.{IsSorted}
+use Rattle.qh_model.specs.headline.Sets.{In, Once}
+use Rattle.qh_model.specs.headline.Fan.{triangles_along, fan, fans, pairs_along, pairs_round, edge_count}
+use Rattle.qh_model.proofs.Members.{to_contains, of_contains, in_permutation, rising_once, every_at}
+use Rattle.qh_model.proofs.lists.Images.{in_map, of_map}
+use Rattle.qh_model.proofs.lists.Joined.{in_flat_map, of_flat_map}
+use Rattle.qh_model.proofs.lists.OnceEach.{once_length}
+use Rattle.qh_model.proofs.polygons.EdgeCounts.{distinct, length-distinct, of_distinct, in_distinct, once_distinct}
+use Rattle.qh_write.specs.declared.texts.edges.TheConstants.{ROOM}
+use Rattle.qh_write.specs.steps.EdgeKeys.{pair_key, HasRoom, AddsPairs, Completes, pairs_of}
+use Rattle.qh_write.proofs.FanLemmas.{drop_next}
+
+-- ---- adding
+-- nothing added
+pub adds_none : (keys : List ℕ) → AddsPairs [] keys keys
+adds_none keys = record { keys = none keys; told = tt }
+  where
+    none : (xs : List ℕ) → xs ≡ xs ++ []
+    none [] = refl
+    none (x ∷ xs) = ap (λ t. x ∷ t) (none xs)
+
+-- some pairs and then others
+pub adds_then : (ps qs : List (ℕ × ℕ)) (a b c : List ℕ) → AddsPairs ps a b → AddsPairs qs b c → AddsPairs (ps ++ qs) a c
+adds_then ps qs a b c s t = record {
+  keys = t.keys ∙ ap (λ x. x ++ flat_map pair_key qs) s.keys ∙ append_assoc a (flat_map pair_key ps) (flat_map pair_key qs)
+      ∙ ap (λ x. a ++ x) (sym (flat_map-append pair_key ps qs));
+  told = both ps qs s.told t.told;
+}
+  where
+    both : (ps qs : List (ℕ × ℕ)) → AllByRecursion HasRoom ps → AllByRecursion HasRoom qs → AllByRecursion HasRoom (ps ++ qs)
+    both [] qs h k = k
+    both (p ∷ ps) qs h k = (h.0, both ps qs h.1 k)
+
+-- a part of what is left is added
+pub completes_more : (one left left' all : List (ℕ × ℕ)) (now next start : List ℕ) → left ≡ one ++ left' → AddsPairs one now next → Completes left all now start → Completes left' all next start
+completes_more one left left' all now next start e s h end t = h end (subst (λ x. AddsPairs x now end) (sym e) (adds_then one left' now next end s t))
+
+-- what is left along a list
+pub way_left : (last to x : ℕ) (along : List ℕ) (i : ℕ) → i < length along → x ≡ get_or along i x
+    → pairs_along last (drop i along) to ≡ ((min last x, max last x) ∷ []) ++ pairs_along x (drop (i + 1) along) to
+way_left last to x along i h e = ap (λ t. pairs_along last t to) (drop_next along i x h e)
+
+-- and of a fan
+pub triangles_left : (first last x : ℕ) (along : List ℕ) (i : ℕ) → i < length along → x ≡ get_or along i x
+    → pairs_of (triangles_along first last (drop i along)) ≡ pairs_round (first ∷ last ∷ x ∷ []) ++ pairs_of (triangles_along first x (drop (i + 1) along))
+triangles_left first last x along i h e = ap (λ t. pairs_of (triangles_along first last t)) (drop_next along i x h e)
+
+-- and of fans
+pub fans_left : (qs : List (List ℕ)) (i : ℕ) (q : List ℕ) → i < length qs → q ≡ get_or qs i q → pairs_of (fans (drop i qs)) ≡ pairs_of (fan q) ++ pairs_of (fans (drop (i + 1) qs))
+fans_left qs i q h e = ap (λ t. pairs_of (fans t)) (drop_next qs i q h e) ∙ flat_map-append pairs_round (fan q) (fans (drop (i + 1) qs))
+
+-- ---- counting
+-- the number of a pair of two different ids
+abbrev code : ℕ × ℕ → ℕ
+code p = p.0 * ROOM + p.1
+
+-- it tells the pair
+one_code : (a b u v : ℕ) → b < ROOM → v < ROOM → a * ROOM + b ≡ u * ROOM + v → (a ≡ u) × (b ≡ v)
+one_code a b u v h k e = (omega arith, omega arith)
+
+-- a number of a pair
+of_key : (u v z : ℕ) → In z (pair_key (u, v)) → (u ≢ v) × (z ≡ code (u, v))
+of_key u v z m = by (u == v) refl m
+  where
+    by : (b : Bool) → (u == v) ≡ b → In z (cond b [] ((u * ROOM + v) ∷ [])) → (u ≢ v) × (z ≡ code (u, v))
+    by true p m = absurd m
+    by false p (inl e) = (eqb-false u v p, e)
+    by false p (inr n) = absurd n
+
+in_key : (u v : ℕ) → u ≢ v → In (code (u, v)) (pair_key (u, v))
+in_key u v d = by (u == v) refl
+  where
+    by : (b : Bool) → (u == v) ≡ b → In (code (u, v)) (cond b [] ((u * ROOM + v) ∷ []))
+    by true p = absurd (d (eqb-true u v p))
+    by false p = inl refl
+
+-- pairs with different numbers stand once, as their numbers do
+once_codes : (ps : List (ℕ × ℕ)) → ((u v : ℕ) → In (u, v) ps → v < ROOM) → Once ps → Once (map code ps)
+once_codes [] small o = tt
+once_codes ((a, b) ∷ ps) small o = ((λ m. go (of_map code ps (code (a, b)) m)), once_codes ps (λ u v i. small u v (inr i)) o.1)
+  where
+    go : (x : ℕ × ℕ) × In x ps × (code (a, b) ≡ code x) → ⊥
+    go ((u, v), i, e) = let s = one_code a b u v (small a b (inl refl)) (small u v (inr i)) e in
+        o.0 (subst (λ x. In (x, b) ps) (sym s.0) (subst (λ y. In (u, y) ps) (sym s.1) i))
+
+-- as many different numbers as distinct pairs
+pub edges_by_keys : (faces : List (List ℕ)) (keys sorted : List ℕ) → AddsPairs (pairs_of faces) [] keys → IsPermutation keys sorted → IsSorted nat_cmp sorted
+    → length (dedup eqb sorted) ≡ edge_count faces
+edges_by_keys faces keys sorted added same rising =
+    once_length (dedup eqb sorted) (map code (distinct ps)) (rising_once (dedup eqb sorted) (IsStrictlyIncreasing-dedup sorted rising)) (once_codes (distinct ps) small (once_distinct ps)) members
+    ∙ length-map (distinct ps) code ∙ length-distinct ps
+  where
+    ps : List (ℕ × ℕ)
+    ps = pairs_of faces
+
+    small : (u v : ℕ) → In (u, v) (distinct ps) → v < ROOM
+    small u v m = every_at HasRoom ps (u, v) added.told (of_distinct ps u v m).0
+
+    there : (z : ℕ) → (p : ℕ × ℕ) × In p ps × In z (pair_key p) → In z (map code (distinct ps))
+    there z ((u, v), i, h) = let k = of_key u v z h in subst (λ x. In x (map code (distinct ps))) (sym k.1) (in_map code (distinct ps) (u, v) (in_distinct ps u v i k.0))
+
+    back : (z : ℕ) → (p : ℕ × ℕ) × In p (distinct ps) × (z ≡ code p) → In z keys
+    back z ((u, v), i, e) = let r = of_distinct ps u v i in
+        subst (λ x. In z x) (sym added.keys) (subst (λ x. In x (flat_map pair_key ps)) (sym e) (in_flat_map pair_key ps (u, v) (code (u, v)) r.0 (in_key u v r.1)))
+
+    members : (z : ℕ) → In z (dedup eqb sorted) ↔ In z (map code (distinct ps))
+    members z = (
+      λ m. there z (of_flat_map pair_key ps z (subst (λ x. In z x) added.keys
+          (in_permutation sorted keys (IsPermutation-sym keys sorted same) z (of_contains sorted z (Contains-from_dedup eqb sorted z (to_contains (dedup eqb sorted) z m)))))),
+      λ m. of_contains (dedup eqb sorted) z (Contains-dedup_nat sorted z (to_contains sorted z (in_permutation keys sorted same z (back z (of_map code (distinct ps) z m))))),
+    )

@@ -1,0 +1,46 @@
+-- Fans as they are written: their ids, their number, and what is left of them.
+use Rattle.std.proofs.Common.{◌≡◌, ◌∙◌, ℕ, suc, ◌+◌, ◌-◌, ◌<◌, ◌≤◌, List, [], ◌∷◌, ◌++◌, length, arith, ap, sym, refl, get_or, take, drop, drop-cons, add-one}
+use Rattle.std.proofs.lemmas.Grind.{flat_map-append}
+use Rattle.std.proofs.lemmas.List.{take_more}
+use Rattle.qh_model.specs.headline.Fan.{triangles_along, fan, fans}
+use Rattle.qh_model.specs.contract.Bodies.{IsBodyInOrder}
+use Rattle.qh_model.proofs.lists.Joined.{of_flat_map}
+use Rattle.qh_model.proofs.polygons.Fans.{fan_members}
+
+-- the fans name no other ids than the polygons
+pub fans_in_order : (extremes : List ℕ) (qs : List (List ℕ)) → IsBodyInOrder extremes qs → IsBodyInOrder extremes (fans qs)
+fans_in_order extremes qs order = record {
+  rising = order.rising;
+  named = λ t m i h. let r = of_flat_map fan qs t m in order.named r.0 r.1 i (fan_members r.0 t r.2 i h);
+}
+
+-- as many triangles as ids along the list
+length-triangles_along : (first u : ℕ) (r : List ℕ) → length (triangles_along first u r) ≡ length r
+length-triangles_along first u [] = refl
+length-triangles_along first u (v ∷ r) = ap suc (length-triangles_along first v r)
+
+-- the fan of a polygon with three members or more
+pub length-fan : (q : List ℕ) → 3 ≤ length q → length (fan q) ≡ length q - 2
+length-fan [] h = absurd (omega arith)
+length-fan (a ∷ []) h = absurd (omega arith)
+length-fan (a ∷ b ∷ []) h = absurd (omega arith)
+length-fan (a ∷ b ∷ c ∷ r) h = let e = length-triangles_along a b (c ∷ r) in omega arith
+
+-- that of a shorter one
+pub length-fan_short : (q : List ℕ) → length q < 3 → length (fan q) ≡ 1
+length-fan_short [] h = refl
+length-fan_short (a ∷ []) h = refl
+length-fan_short (a ∷ b ∷ []) h = refl
+length-fan_short (a ∷ b ∷ c ∷ r) h = absurd (omega arith)
+
+-- what is left of a list, from a place on
+pub drop_next : {X : Type 0} (xs : List X) (i : ℕ) (x : X) → i < length xs → x ≡ get_or xs i x → drop i xs ≡ x ∷ drop (i + 1) xs
+drop_next xs i x h e = drop-cons xs i x h ∙ ap (λ t. t ∷ drop (suc i) xs) (sym e) ∙ ap (λ k. x ∷ drop k xs) (sym (add-one i))
+
+-- the fans of one polygon more
+pub fans_more : (qs : List (List ℕ)) (i : ℕ) (q : List ℕ) → i < length qs → q ≡ get_or qs i q → fans (take (i + 1) qs) ≡ fans (take i qs) ++ fan q
+fans_more qs i q h e = ap fans (take_more qs i q h ∙ ap (λ (x : List ℕ). take i qs ++ x ∷ []) (sym e)) ∙ flat_map-append fan (take i qs) (q ∷ []) ∙ ap (λ t. fans (take i qs) ++ t) (none (fan q))
+  where
+    none : (xs : List (List ℕ)) → xs ++ [] ≡ xs
+    none [] = refl
+    none (x ∷ xs) = ap (λ t. x ∷ t) (none xs)

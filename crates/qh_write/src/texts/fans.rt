@@ -1,0 +1,127 @@
+//! The text of `offt`: that of `off`, with fans of triangles in place of the faces.
+ghost use Rattle.std.specs.Prelude.{◌≡◌, ◌++◌, ◌<◌, ℕ, OnOk, IfOk, All, length, decimal, List};
+ghost use Rattle.std.specs.List.{flat_map};
+ghost use Rattle.qh_model.specs.headline.Fan.{triangles_along, fan, fans, edge_count};
+ghost use Rattle.qh_model.specs.headline.Text.{line, spaced, face_text, off_text, in_triangles};
+ghost use Rattle.qh_model.specs.contract.Bodies.{IsBodyInOrder};
+ghost use Rattle.qh_model.specs.contract.IdSets.{AreIndices};
+ghost use Rattle.qh_write.specs.steps.VertexTables.{AreNumbered, face_by_table};
+
+use super::edges::fan_edges;
+use super::lines::{push_line_end, push_number, push_spaced};
+use super::numbering::vertex_numbers;
+use super::off::{push_face, push_vertices};
+use qh_model::{Body, Id, Point, Polygon};
+use std::alloc::{AllocError, Global};
+
+/// Appends the triangles of a first id and each two neighbours along a list.
+fn push_triangles(
+    text: &mut Vec<u8>,
+    numbers: &[usize],
+    first: Id,
+    second: Id,
+    along: &[Id],
+) -> Result<(), AllocError>
+    requires first { first < length numbers.now }
+    requires second { second < length numbers.now }
+    requires along { AreNumbered numbers.now along.now }
+    ensures { OnOk result (text.new.items ≡ text.old.items ++ flat_map (face_by_table numbers.now) (triangles_along first second along.now)) }
+{
+    let mut last = second;
+    for id in along {
+        push_face(text, numbers, &[first, last, *id])?;
+        last = *id;
+    }
+    Ok(())
+}
+
+/// Appends a face as a fan of triangles.
+fn push_fan(text: &mut Vec<u8>, numbers: &[usize], face: &[Id]) -> Result<(), AllocError>
+    requires { AreNumbered numbers.now face.now }
+    ensures { OnOk result (text.new.items ≡ text.old.items ++ flat_map (face_by_table numbers.now) (fan face.now)) }
+{
+    match face {
+        [first, second, rest @ ..] if !rest.is_empty() => {
+            push_triangles(text, numbers, *first, *second, rest)
+        }
+        _ => push_face(text, numbers, face),
+    }
+}
+
+/// Appends faces as fans of triangles.
+fn push_fans(text: &mut Vec<u8>, numbers: &[usize], faces: &[Polygon]) -> Result<(), AllocError>
+    requires { All (AreNumbered numbers.now) faces.now }
+    ensures { OnOk result (text.new.items ≡ text.old.items ++ flat_map (face_by_table numbers.now) (fans faces.now)) }
+{
+    for face in faces {
+        push_fan(text, numbers, face.ids())?;
+    }
+    Ok(())
+}
+
+/// Appends the fans of faces, each vertex by its number.
+fn push_numbered_fans(
+    text: &mut Vec<u8>,
+    alloc: Global,
+    extremes: &[Id],
+    faces: &[Polygon],
+    count: usize,
+) -> Result<(), AllocError>
+    requires within { All (λ i. i < count) extremes.now }
+    requires order { IsBodyInOrder extremes.now faces.now }
+    ensures { OnOk result (text.new.items ≡ text.old.items ++ flat_map (face_text extremes.now) (fans faces.now)) }
+{
+    let numbers = vertex_numbers(alloc, extremes, count)?;
+    push_fans(text, &numbers, faces)?;
+    Ok(())
+}
+
+/// How many faces the fan of a face has.
+fn fan_size(face: &[Id]) -> usize
+    ensures { result ≡ length (fan face.now) }
+{
+    if face.len() < 3 { 1 } else { face.len() - 2 }
+}
+
+/// How many faces the fans of faces have.
+fn fan_faces(faces: &[Polygon]) -> Result<usize, AllocError>
+    ensures { IfOk result (λ n. n ≡ length (fans faces.now)) }
+{
+    let mut count: usize = 0;
+    for face in faces {
+        // A sum past the range would need more ids than fit into memory.
+        let Some(sum) = count.checked_add(fan_size(face.ids())) else {
+            return Err(AllocError);
+        };
+        count = sum;
+    }
+    Ok(count)
+}
+
+/// Appends the numbers of vertices, of triangles and of their edges.
+fn push_fan_counts(text: &mut Vec<u8>, alloc: Global, body: &Body) -> Result<(), AllocError>
+    ensures { OnOk result (text.new.items ≡ text.old.items ++ line (decimal (length body.now.extremes) ++ spaced (length (fans body.now.polygons)) ++ spaced (edge_count (fans body.now.polygons)))) }
+{
+    let faces = fan_faces(&body.polygons)?;
+    let edges = fan_edges(alloc, &body.polygons, faces)?;
+    push_number(text, body.extremes.len() as u64)?;
+    push_spaced(text, faces as u64)?;
+    push_spaced(text, edges as u64)?;
+    push_line_end(text)
+}
+
+/// Appends the text of `offt`.
+pub fn push_off_triangles(
+    text: &mut Vec<u8>,
+    alloc: Global,
+    body: &Body,
+    pts: &[Point],
+) -> Result<(), AllocError>
+    requires { AreIndices pts.now body.now.extremes }
+    ensures { OnOk result (text.new.items ≡ text.old.items ++ off_text (in_triangles body.now) pts.now) }
+{
+    text.extend_from_slice(b"OFF\n")?;
+    push_fan_counts(text, alloc, body)?;
+    push_vertices(text, pts, &body.extremes)?;
+    push_numbered_fans(text, alloc, &body.extremes, &body.polygons, pts.len())
+}
