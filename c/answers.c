@@ -83,8 +83,41 @@ static void bad_points_are_refused(void) {
     free(many);
 }
 
+static void fans_of_a_cube(void) {
+    enum { ROOM = 36 };
+    static uint32_t triangles[ROOM + 1];
+    static int64_t normals[ROOM + 1];
+    size_t count = UNTOUCHED;
+    for (size_t k = 0; k <= ROOM; k++) triangles[k] = normals[k] = UNTOUCHED;
+    expect(qconvex_fans(cube, 9, &count, triangles, ROOM - 1, normals, ROOM) == QCONVEX_ROOM && count == 12, "room for corners");
+    count = UNTOUCHED;
+    expect(qconvex_fans(cube, 9, &count, triangles, ROOM, normals, ROOM - 1) == QCONVEX_ROOM && count == 12, "room for normals");
+    for (size_t k = 0; k <= ROOM; k++) expect(triangles[k] == UNTOUCHED && normals[k] == UNTOUCHED, "buffers of fans are kept");
+    count = UNTOUCHED;
+    expect(qconvex_fans(cube, 0, &count, triangles, ROOM, normals, ROOM) == QCONVEX_NO_POINT && count == UNTOUCHED, "no point");
+    expect(qconvex_fans(cube, 9, &count, triangles, ROOM + 1, normals, ROOM + 1) == QCONVEX_DONE && count == 12, "fans of the cube");
+    static const uint32_t first[6] = {0, 1, 3, 0, 3, 2}, last[6] = {4, 6, 7, 4, 7, 5};
+    static const int64_t left[6] = {-1, 0, 0, -1, 0, 0}, right[6] = {1, 0, 0, 1, 0, 0};
+    expect(memcmp(triangles, first, sizeof first) == 0 && memcmp(triangles + 30, last, sizeof last) == 0, "triangles of the cube");
+    expect(memcmp(normals, left, sizeof left) == 0 && memcmp(normals + 30, right, sizeof right) == 0, "normals of the cube");
+    expect(triangles[ROOM] == UNTOUCHED && normals[ROOM] == UNTOUCHED, "what stands behind the fans");
+}
+
+static void longest_normal(void) {
+    static const int32_t end = QCONVEX_COORDINATE_LIMIT;
+    const qconvex_point square[4] = {{-end, -end, end}, {end, -end, end}, {end, end, end}, {-end, end, end}};
+    uint32_t triangles[6] = {0};
+    int64_t normals[6] = {0};
+    size_t count = 0;
+    expect(qconvex_fans(square, 4, &count, triangles, 6, normals, 6) == QCONVEX_DONE && count == 2, "a square at the limit");
+    expect(normals[2] == (int64_t)1 << 62 && normals[5] == (int64_t)1 << 62, "the longest normal");
+    expect(qconvex_fans(square, 2, &count, triangles, 6, normals, 6) == QCONVEX_DONE && count == 0, "a segment has no triangles");
+}
+
 int main(void) {
     cube_is_done();
+    fans_of_a_cube();
+    longest_normal();
     short_buffers_are_refused();
     bad_points_are_refused();
     printf(wrong ? "%d answers are wrong\n" : "all answers are right\n", wrong);

@@ -8,7 +8,7 @@
  *  - every pointer is aligned for what it points to and is not null, also for a count or a room of 0;
  *  - `count` points are there to read; each buffer has as many elements as its room says, all of them initialised
  *    (calloc does it, and takes no memory for pages that stay unwritten), and nobody else uses it during the call;
- *    no two of sizes, the buffers and the points overlap;
+ *    no two of the sizes or the count, the buffers and the points overlap;
  *  - malloc, realloc and free are of one allocator, and align to 16 bytes, as the C library's do;
  *  - no call from a signal handler, or from the forked child of a process that has threads, where malloc may hang;
  *  - the processor has the level x86-64-v2 (SSE4.2).
@@ -63,6 +63,19 @@ uint32_t qconvex_hull(const qconvex_point *points, size_t count, qconvex_sizes *
                       uint32_t *extremes, size_t extremes_room,
                       size_t *offsets, size_t offsets_room,
                       uint32_t *corners, size_t corners_room);
+
+/* The same faces as triangles: each face of three corners or more as the fan of its first corner, a, and any two
+ * neighbours after it. QCONVEX_DONE: *triangle_count is their number, and the buffers begin with
+ *   triangles  [3 * *triangle_count]  the corners of each, counterclockwise seen from outside
+ *   normals    [3 * *triangle_count]  the outer normal of each, (b - a) x (c - a), twice as long as its area; exact,
+ *                                     since a component is at most 2^62 in size
+ * In dimension 3 each triangle has an area, and no point is above its plane. Points in a line have no triangles.
+ *
+ * The other answers are those of qconvex_hull; for QCONVEX_ROOM *triangle_count says how many triangles there are, and
+ * otherwise it stays as it was. Room for 6 * count + 3 elements each is enough (Euler's formula, not proved). */
+uint32_t qconvex_fans(const qconvex_point *points, size_t count, size_t *triangle_count,
+                      uint32_t *triangles, size_t triangles_room,
+                      int64_t *normals, size_t normals_room);
 
 #ifdef __cplusplus
 }

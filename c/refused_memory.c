@@ -39,7 +39,9 @@ enum { POINTS = 400, OFFSETS = 2 * POINTS + 2, CORNERS = 6 * POINTS + 4 };
 struct buffers {
     qconvex_sizes sizes;
     uint32_t extremes[POINTS], corners[CORNERS];
-    size_t offsets[OFFSETS];
+    size_t offsets[OFFSETS], count;
+    uint32_t triangles[CORNERS];
+    int64_t normals[CORNERS];
 };
 
 static qconvex_point points[POINTS];
@@ -58,10 +60,11 @@ static void make_points(int family) {
     }
 }
 
-/* A hull in blank buffers, of which one request may be refused. */
-static uint32_t hull(struct buffers *to) {
+/* A hull, or its fans, in blank buffers; one request may be refused. */
+static uint32_t call(bool fans, struct buffers *to) {
     requests = 0;
     memcpy(to, &blank, sizeof blank);
+    if (fans) return qconvex_fans(points, POINTS, &to->count, to->triangles, CORNERS, to->normals, CORNERS);
     return qconvex_hull(points, POINTS, &to->sizes, to->extremes, POINTS, to->offsets, OFFSETS, to->corners, CORNERS);
 }
 
@@ -70,19 +73,25 @@ static bool is_right(uint32_t code) {
     return (code == QCONVEX_MEMORY || code == QCONVEX_DONE) && memcmp(&now, want, sizeof now) == 0 && living == 0;
 }
 
+/* Refuses each request of one call in turn. */
+static void refuse_each(bool fans, long *tried, long *memory, long *wrong) {
+    refused = 0;
+    *wrong += call(fans, &right) != QCONVEX_DONE || living != 0;
+    long total = requests;
+    for (refused = 1; refused <= total; refused++, ++*tried) {
+        uint32_t code = call(fans, &now);
+        *memory += code == QCONVEX_MEMORY;
+        *wrong += !is_right(code);
+    }
+}
+
 int main(void) {
     long tried = 0, memory = 0, wrong = 0;
     memset(&blank, 0x55, sizeof blank);
     for (int family = 0; family < 5; family++) {
         make_points(family);
-        refused = 0;
-        wrong += hull(&right) != QCONVEX_DONE || living != 0;
-        long total = requests;
-        for (refused = 1; refused <= total; refused++, tried++) {
-            uint32_t code = hull(&now);
-            memory += code == QCONVEX_MEMORY;
-            wrong += !is_right(code);
-        }
+        refuse_each(false, &tried, &memory, &wrong);
+        refuse_each(true, &tried, &memory, &wrong);
     }
     printf("%ld requests refused in turn: %ld times QCONVEX_MEMORY, else the right answer; %ld wrong\n", tried, memory, wrong);
     return wrong != 0;

@@ -4,7 +4,7 @@ ghost use Rattle.std.specs.Prelude.{◌≡◌, ◌≤◌, ◌<◌, ◌⊎◌, le
 use crate::flat_hull::FlatHull;
 
 /// Writes numbers at the front of a buffer.
-fn put_numbers(buffer: &mut [u32], numbers: &[u32])
+pub fn put_numbers(buffer: &mut [u32], numbers: &[u32])
     requires { length numbers.now ≤ length buffer.old }
     ensures numbers { take (length numbers.now) buffer.new ≡ numbers.now }
     ensures rest { drop (length numbers.now) buffer.new ≡ drop (length numbers.now) buffer.old }
@@ -19,6 +19,15 @@ fn put_offsets(buffer: &mut [usize], offsets: &[usize])
     ensures rest { drop (length offsets.now) buffer.new ≡ drop (length offsets.now) buffer.old }
 {
     buffer[..offsets.len()].copy_from_slice(offsets);
+}
+
+/// Writes components of normals at the front of a buffer.
+pub fn put_components(buffer: &mut [i64], components: &[i64])
+    requires { length components.now ≤ length buffer.old }
+    ensures components { take (length components.now) buffer.new ≡ components.now }
+    ensures rest { drop (length components.now) buffer.new ≡ drop (length components.now) buffer.old }
+{
+    buffer[..components.len()].copy_from_slice(components);
 }
 
 /// Writes a flat hull to buffers and answers true, where each is long enough. Else they stay as they are.

@@ -1,5 +1,5 @@
 //! Rows with expected values from outside: the lists of Geomview's OFF for a cube and a point.
-use crate::{DONE, Given, NO_POINT, RANGE, ROOM, Sizes, qconvex_hull};
+use crate::{DONE, Given, NO_POINT, RANGE, ROOM, Sizes, qconvex_fans, qconvex_hull};
 use std::test::Fail;
 
 /// No sizes yet.
@@ -100,5 +100,35 @@ fn refused(rt: HostRuntime) -> Result<(), Fail> {
     let code = qconvex_hull(rt.alloc(), &[], &mut sizes, &mut [], &mut [], &mut []);
     assert_eq!(rt; code, NO_POINT);
     assert_eq!(rt; sizes.dimension, 9u32);
+    Ok(())
+}
+
+#[test]
+fn fans_of_a_pyramid(rt: HostRuntime) -> Result<(), Fail> {
+    let (mut triangles, mut normals) = ([99u32; 19], [99i64; 19]);
+    let mut count = 0usize;
+    let pyramid = [
+        Given::new(0, 0, 0),
+        Given::new(2, 0, 0),
+        Given::new(2, 2, 0),
+        Given::new(0, 2, 0),
+        Given::new(0, 0, 1),
+    ];
+    let code = qconvex_fans(rt.alloc(), &pyramid, &mut count, &mut triangles, &mut normals);
+    assert_eq!(rt; code, DONE);
+    assert_eq!(rt; count, 6usize);
+    assert_eq!(rt;
+        triangles.as_slice(),
+        [0u32, 1, 4, 0, 3, 2, 0, 2, 1, 0, 4, 3, 1, 2, 4, 2, 3, 4, 99].as_slice()
+    );
+    assert_eq!(rt;
+        normals.as_slice(),
+        [
+            0i64, -2, 0, 0, 0, -4, 0, 0, -4, -2, 0, 0, 2, 0, 4, 0, 2, 4, 99
+        ]
+        .as_slice()
+    );
+    let code = qconvex_fans(rt.alloc(), &pyramid, &mut count, &mut [], &mut normals);
+    assert_eq!(rt; code, ROOM);
     Ok(())
 }
