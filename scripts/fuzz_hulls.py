@@ -7,7 +7,7 @@ The hull here is written from README.md and docs/DEFINITIONS.md, over whole numb
 distinct points whose plane leaves none outside gives a face, every pair of a face's points that has all others to its
 left gives a side. The sets are grids, planes, lines, repeats, prisms, antiprisms, cones, corners of the range of
 coordinates, slivers, and solids with points within their faces and edges, moved and turned at random; each has at most
-14 points. The program must write the same bytes of `rank s Fx off` on standard output, nothing on standard error, and
+14 points. The program must write the same bytes of `rank s Fx off offt` on standard output, nothing on standard error, and
 end with status 0, under a random number of workers and a random block size.
 
 It prints each difference with the words of the run and the file's bytes, then how many sets it tried of each family and
@@ -26,7 +26,7 @@ COORDINATE_LIMIT = 1 << 30
 GREATEST_SET = 14
 WORKERS = [1, 1, 2, 2, 3, 4, 5, 7, 16, 64]
 BLOCKS = [1, 1, 2, 3, 4, 5, 7, 13, 4096, 1_048_576]
-OUTPUTS = ["rank", "s", "Fx", "off"]
+OUTPUTS = ["rank", "s", "Fx", "off", "offt"]
 
 
 # Vectors.
@@ -157,11 +157,17 @@ def edges(faces):
     return sum(len(pair) == 2 for pair in pairs)
 
 
+def fan(face):
+    """A face as triangles from its first corner, or as it is where it has fewer than three."""
+    return [[face[0], *pair] for pair in zip(face[1:], face[2:])] or [face]
+
+
 def hull_text(points, outputs):
     """What the program writes of the points for these outputs, and the dimension."""
     ids = distinct_ids(points)
     dim = dimension(points, ids)
     faces = polygons(points, ids, dim)
+    triangles = [part for face in faces for part in fan(face)]
     extremes = sorted({index for face in faces for index in face})
     place = {index: number for number, index in enumerate(extremes)}
     lines = {
@@ -180,6 +186,12 @@ def hull_text(points, outputs):
             f"{len(extremes)} {len(faces)} {edges(faces)}",
             *(" ".join(map(str, points[index])) for index in extremes),
             *(" ".join(map(str, [len(face), *(place[index] for index in face)])) for face in faces),
+        ],
+        "offt": [
+            "OFF",
+            f"{len(extremes)} {len(triangles)} {edges(triangles)}",
+            *(" ".join(map(str, points[index])) for index in extremes),
+            *(" ".join(map(str, [len(face), *(place[index] for index in face)])) for face in triangles),
         ],
     }
     return "".join(f"{line}\n" for output in outputs for line in lines[output]).encode(), dim

@@ -13,7 +13,7 @@ import sys
 from concurrent.futures import ThreadPoolExecutor
 
 PROGRAM = "crates/qconvex/out/qconvex"
-OUTPUTS = ["rank", "s", "Fx", "off"]
+OUTPUTS = ["rank", "s", "Fx", "off", "offt"]
 RUNS = 20_000
 # How many runs there are of each input.
 EACH = 25

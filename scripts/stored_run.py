@@ -17,7 +17,7 @@ from fuzz_hulls import hull_text
 
 FOLDER = Path("crates/qconvex")
 ARGS = ["--block", "3", "--workers", "7", "rank", "s", "Fx", "off"]
-OUTPUTS = ["rank", "s", "Fx", "off"]
+OUTPUTS = ["rank", "s", "Fx", "off", "offt"]
 SEED = 20261123
 RADIUS = 1000
 ON_SPHERE = 200

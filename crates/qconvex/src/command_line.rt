@@ -2,7 +2,7 @@ ghost use Rattle.std.specs.Prelude.{◌≡◌, ◌≢◌, ◌<◌, ◌^◌, ℕ,
 ghost use Rattle.std.specs.Option.{option_map};
 ghost use Rattle.clap.specs.Words.{app_of, kind_of, rule_of, found_of, matched_of, one_text, raw_values};
 ghost use Rattle.qh_model.specs.declared.out.Out.{Out};
-ghost use Rattle.qh_model.specs.declared.out.Out.TheVariants.{Rank, Summary, Fx, Off};
+ghost use Rattle.qh_model.specs.declared.out.Out.TheVariants.{Rank, Summary, Fx, Off, OffTriangles};
 ghost use Rattle.qconvex.specs.headline.SettingsValue.{SettingsValue};
 ghost use Rattle.qconvex.specs.contract.Ranges.{IsInRange};
 ghost use Rattle.qconvex.specs.contract.CommandLine.{AreOutsOf, AreSettingsOf, IsArgFaultOf, IsProgram, NumberOf, from_one_to, number_option, outs_rule, word_of, words_taken};
@@ -29,7 +29,7 @@ pub enum ArgFault {
 }
 
 /// The words of the outputs.
-static NAMES: [&str; 4] = ["rank", "s", "Fx", "off"];
+static NAMES: [&str; 5] = ["rank", "s", "Fx", "off", "offt"];
 
 /// The parser of whole numbers from 1 to a limit.
 fn up_to<'a>(limit: u32) -> ValueParser<'a>
@@ -55,7 +55,7 @@ fn number_arg<'a>(alloc: Global, name: &'a str, default: &'a str, limit: u32) ->
 
 /// The words OUT, which may stand between options.
 fn outs_arg<'a>(alloc: Global) -> Arg<'a>
-    ensures rule { (p : _) × (words_taken p ≡ map word_of (Rank ∷ Summary ∷ Fx ∷ Off ∷ [])) × (rule_of result ≡ outs_rule p) }
+    ensures rule { (p : _) × (words_taken p ≡ map word_of (Rank ∷ Summary ∷ Fx ∷ Off ∷ OffTriangles ∷ [])) × (rule_of result ≡ outs_rule p) }
     ensures local { result.global ≡ false }
 {
     Arg::new(alloc, "outs")
@@ -88,6 +88,7 @@ fn out_of(name: &str) -> Option<Out>
         "s" => Some(Out::Summary),
         "Fx" => Some(Out::Fx),
         "off" => Some(Out::Off),
+        "offt" => Some(Out::OffTriangles),
         _ => None,
     }
 }

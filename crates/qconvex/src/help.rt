@@ -16,6 +16,7 @@ OUT, any of these in any order [default: s]:
   s     a summary: dimension, distinct points, extreme points, facets, edges
   Fx    the number of extreme points, then their indices from 0, one a line
   off   OFF: the extreme points and each face, counterclockwise from outside
+  offt  the same with each face as triangles, all from its first corner
 
 Options:
   --workers N  how many workers share the work, 1 to 64 [default: 4]

@@ -2,6 +2,7 @@
 
 mod command_lines;
 mod devices;
+mod fans;
 mod faults;
 mod gated;
 mod hostile;

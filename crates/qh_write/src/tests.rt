@@ -37,11 +37,11 @@ fn texts_of_one_point(rt: HostRuntime) -> Result<(), Fail> {
     let alloc = rt.alloc();
     let pts = [Point::new(5, 5, 5)];
     let hull = one_point(alloc)?;
-    let outs = [Out::Rank, Out::Fx, Out::Off, Out::Rank];
+    let outs = [Out::Rank, Out::Fx, Out::Off, Out::OffTriangles, Out::Rank];
     let joined = text(alloc, &hull, &pts, &outs)?;
     assert_eq!(rt;
         joined.as_slice(),
-        b"1 1 0\n1\n0\nOFF\n1 1 0\n5 5 5\n1 0\n1 1 0\n".as_slice()
+        b"1 1 0\n1\n0\nOFF\n1 1 0\n5 5 5\n1 0\nOFF\n1 1 0\n5 5 5\n1 0\n1 1 0\n".as_slice()
     );
     let summary = text(alloc, &hull, &pts, &[Out::Summary])?;
     let want =

@@ -10,7 +10,7 @@ use Rattle.clap.specs.declared.error.kind.ErrorKind.{ErrorKind}
 use Rattle.clap.specs.declared.error.kind.ErrorKind.TheVariants.{DisplayHelp}
 use Rattle.qh_model.specs.declared.limits.TheConstants.{WORKER_LIMIT}
 use Rattle.qh_model.specs.declared.out.Out.{Out}
-use Rattle.qh_model.specs.declared.out.Out.TheVariants.{Rank, Summary, Fx, Off}
+use Rattle.qh_model.specs.declared.out.Out.TheVariants.{Rank, Summary, Fx, Off, OffTriangles}
 use Rattle.qconvex.specs.declared.command_line.ArgFault.{ArgFault}
 use Rattle.qconvex.specs.declared.command_line.ArgFault.TheVariants.{Help, Usage, Memory}
 use Rattle.qconvex.specs.declared.settings.TheConstants.{BLOCK_SIZE_LIMIT}
@@ -46,6 +46,7 @@ word_of Rank = codes "rank"
 word_of Summary = codes "s"
 word_of Fx = codes "Fx"
 word_of Off = codes "off"
+word_of OffTriangles = codes "offt"
 
 -- the words that a parser takes, where it takes some words and no other
 abbrev pub words_taken : ValueParser → List Text
@@ -54,7 +55,7 @@ words_taken _ = []
 
 -- the command whose OUT is the word of an output
 abbrev pub IsProgram : App → Type 0
-IsProgram app = (outs : ValueParser) × (words_taken outs ≡ map word_of (Rank ∷ Summary ∷ Fx ∷ Off ∷ [])) × (app ≡ program outs)
+IsProgram app = (outs : ValueParser) × (words_taken outs ≡ map word_of (Rank ∷ Summary ∷ Fx ∷ Off ∷ OffTriangles ∷ [])) × (app ≡ program outs)
 
 -- the number that a text stands for
 abbrev pub NumberOf : Option Text → ℕ → Type 0

@@ -2,13 +2,14 @@ use super::settings;
 use std::test::Fail;
 
 /// Lines that are refused.
-const REFUSED: [&str; 12] = [
+const REFUSED: [&str; 13] = [
     "--workers 0",
     "--workers 65",
     "--block 0",
     "--block 1048577",
     "Fy",
     "fx",
+    "OFFT",
     "--workers 2 --workers 2",
     "--block 2 --block 3",
     "--work 2",
@@ -18,13 +19,14 @@ const REFUSED: [&str; 12] = [
 ];
 
 /// Lines that are accepted, with their workers, block size and number of outputs.
-const ACCEPTED: [(&str, u32, u32, usize); 8] = [
+const ACCEPTED: [(&str, u32, u32, usize); 9] = [
     ("", 4, 4096, 1),
     ("rank", 4, 4096, 1),
     ("rank --workers 2 s", 2, 4096, 2),
     ("--block=3 rank", 4, 3, 1),
     ("-- rank", 4, 4096, 1),
     ("off Fx s rank off", 4, 4096, 5),
+    ("offt rank off offt", 4, 4096, 4),
     ("--workers 64 --block 1048576", 64, 1048576, 1),
     ("--workers +4 --block 004", 4, 4, 1),
 ];
@@ -52,13 +54,14 @@ fn judges_command_lines(rt: HostRuntime) -> Result<(), Fail> {
 }
 
 /// Some of what the help text says: the options with their ranges, each output and each exit status.
-const HELPED: [&str; 14] = [
+const HELPED: [&str; 15] = [
     "Usage: qconvex [--workers N] [--block N] [OUT]...\n",
     "standard input",
     "\n  rank ",
     "\n  s ",
     "\n  Fx ",
     "\n  off ",
+    "\n  offt ",
     "\n  --workers N ",
     "1 to 64 [default: 4]",
     "\n  --block N ",

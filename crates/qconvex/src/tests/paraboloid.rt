@@ -46,3 +46,26 @@ fn has_one_text_in_all_settings(rt: HostRuntime) -> Result<(), Fail> {
     }
     Ok(())
 }
+
+/// How `offt` begins: as many vertices as points, 39,996 triangles, and their edges.
+const TRIANGLES: &str = "OFF\n20000 39996 59994\n";
+
+#[test]
+fn has_its_triangles(rt: HostRuntime) -> Result<(), Fail> {
+    let alloc = rt.alloc();
+    let input = points(alloc)?;
+    let Ok(settings) = settings(alloc, "offt")? else {
+        return Err("the line is a command line".into());
+    };
+    let outcome = answered(&rt, alloc, input.as_bytes(), &settings)?;
+    assert!(rt; outcome.output.starts_with(TRIANGLES));
+    // Two lines of counts, and one for each vertex; all that follow are triangles.
+    let triangles = outcome.output.lines().skip(2 + 20000);
+    let mut count = 0usize;
+    for line in triangles {
+        assert!(rt; line.starts_with("3 "));
+        count += 1;
+    }
+    assert_eq!(rt; count, 39996);
+    Ok(())
+}

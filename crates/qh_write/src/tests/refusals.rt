@@ -29,10 +29,16 @@ fn square(alloc: Global) -> Result<Hull, Memory>
     })
 }
 
-const OUTS: [Out; 4] = [Out::Rank, Out::Summary, Out::Fx, Out::Off];
+const OUTS: [Out; 5] = [
+    Out::Rank,
+    Out::Summary,
+    Out::Fx,
+    Out::Off,
+    Out::OffTriangles,
+];
 
 const SQUARE_TEXT: &str =
-    "5 5 2\nConvex hull of 5 points in 3-d:\n  dimension: 2\n  distinct points: 5\n  extreme points: 4\n  facets: 1\n  edges: 4\n4\n0\n1\n2\n3\nOFF\n4 1 4\n0 0 0\n2 0 0\n2 2 0\n0 2 0\n4 0 1 2 3\n";
+    "5 5 2\nConvex hull of 5 points in 3-d:\n  dimension: 2\n  distinct points: 5\n  extreme points: 4\n  facets: 1\n  edges: 4\n4\n0\n1\n2\n3\nOFF\n4 1 4\n0 0 0\n2 0 0\n2 2 0\n0 2 0\n4 0 1 2 3\nOFF\n4 2 5\n0 0 0\n2 0 0\n2 2 0\n0 2 0\n3 0 1 2\n3 0 2 3\n";
 
 #[test]
 fn tries_again_for_texts(rt: HostRuntime) -> Result<(), Fail> {
