@@ -114,7 +114,13 @@ fn fans_of_a_pyramid(rt: HostRuntime) -> Result<(), Fail> {
         Given::new(0, 2, 0),
         Given::new(0, 0, 1),
     ];
-    let code = qconvex_fans(rt.alloc(), &pyramid, &mut count, &mut triangles, &mut normals);
+    let code = qconvex_fans(
+        rt.alloc(),
+        &pyramid,
+        &mut count,
+        &mut triangles,
+        &mut normals,
+    );
     assert_eq!(rt; code, DONE);
     assert_eq!(rt; count, 6usize);
     assert_eq!(rt;
