@@ -1,11 +1,13 @@
 """Rows of hulls: expected values are Geomview's OFF of a cube, counts and volumes of known solids, and scipy's."""
 from __future__ import annotations
 
+import ctypes
+
 import numpy as np
 import pytest
 
 import qconvex
-from qconvex import COORDINATE_LIMIT, POINT_LIMIT, ConvexHull
+from qconvex import COORDINATE_LIMIT, POINT_LIMIT, ConvexHull, _library
 
 CUBE = [[x, y, z] for x in (0, 1) for y in (0, 1) for z in (0, 1)]
 CUBE_FACES = [[0, 1, 3, 2], [0, 2, 6, 4], [0, 4, 5, 1], [1, 5, 7, 3], [2, 3, 7, 6], [4, 6, 7, 5]]
@@ -94,8 +96,6 @@ def test_other_refusals():
 
 
 def test_room_is_asked_for_again_where_it_is_too_little(monkeypatch):
-    from qconvex import _library
-
     call, rooms = _library._call, []
 
     def with_less(points, sizes, room):
@@ -105,6 +105,20 @@ def test_room_is_asked_for_again_where_it_is_too_little(monkeypatch):
     monkeypatch.setattr(_library, "_call", with_less)
     assert [face.tolist() for face in ConvexHull(CUBE).faces] == CUBE_FACES
     assert rooms[1] == (8, 7, 24)
+
+
+def test_triangles_and_normals_are_those_of_the_library():
+    random = np.random.default_rng(11)
+    fans = _library._LIBRARY.qconvex_fans
+    fans.argtypes = [ctypes.c_void_p, ctypes.c_size_t, ctypes.c_void_p] + 2 * [ctypes.c_void_p, ctypes.c_size_t]
+    for reach, flatten in ((3, (1, 1, 1)), (COORDINATE_LIMIT, (1, 1, 1)), (9, (1, 1, 0)), (9, (1, 0, 0))):
+        points = (random.integers(-reach, reach + 1, (100, 3)) * flatten).astype(np.int32)
+        hull, count = ConvexHull(points), ctypes.c_size_t()
+        triangles, normals = np.zeros((200, 3), np.uint32), np.zeros((200, 3), np.int64)
+        rooms = (triangles.ctypes.data, triangles.size, normals.ctypes.data, normals.size)
+        assert fans(points.ctypes.data, len(points), ctypes.addressof(count), *rooms) == 0
+        assert np.array_equal(hull.simplices, triangles[: count.value])
+        assert np.array_equal(hull.normals, normals[: count.value])
 
 
 def test_agrees_with_scipy():
