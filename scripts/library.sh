@@ -6,7 +6,11 @@ make -s -C c test
 # The lines of README, as they stand.
 block() { awk -v start="\`\`\`$1" '$0 == start { on = 1; next } $0 == "```" { on = 0 } on' README.md; }
 expect() {
-    if [ "$2" = '8 extreme points, 6 faces, 12 edges' ]; then echo "ok: README's lines of $1"; else echo "WRONG: README's $1: $2"; exit 1; fi
+    if [ "$2" != '8 extreme points, 6 faces, 12 edges' ]; then
+        echo "WRONG: README's lines of $1 print: $2"
+        exit 1
+    fi
+    echo "ok: README's lines of $1"
 }
 block c > c/build/readme.c
 gcc -std=c11 -Wall -Wextra -Werror -I c -o c/build/readme c/build/readme.c c/build/libqconvex.a

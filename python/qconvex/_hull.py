@@ -73,9 +73,9 @@ class ConvexHull:
         self.dimension: int = hull.dimension
         self.distinct: int = hull.distinct
         self.nedges: int = hull.edges
-        self.vertices: np.ndarray = hull.extremes.astype(np.int32)
-        self.corners: np.ndarray = hull.corners.astype(np.int32)
-        self.offsets: np.ndarray = hull.offsets.astype(np.intp)
+        self.vertices: np.ndarray = hull.extremes.view(np.int32)
+        self.corners: np.ndarray = hull.corners.view(np.int32)
+        self.offsets: np.ndarray = hull.offsets.view(np.intp)
 
     @cached_property
     def faces(self) -> list[np.ndarray]:
