@@ -20,7 +20,7 @@ use Rattle.qh_plane.specs.declared.place_keys.TheConstants.{ROOM}
 use Rattle.qh_plane.specs.declared.distinct_points.TheConstants.{NO_PLACE}
 use Rattle.qh_plane.specs.steps.Marks.{place_starts, marked, marked_ids}
 use Rattle.qh_plane.specs.steps.PlaceNumbers.{AllDiffer}
-use Rattle.qh_plane.specs.steps.PlaceKeys.{raised, place_code, key_at, ids_in, HasKey, AreByPlace}
+use Rattle.qh_plane.specs.steps.PlaceKeys.{raised, place_code, key_at, ids_in, HasKey, AreByPlace, AllIds}
 
 -- a key tells its place
 key_over : (c i : ℕ) → i < ROOM → (c * ROOM + i) / ROOM ≡ c
@@ -45,11 +45,6 @@ key_order c i j h = omega arith
 -- and back
 order_key : (c i j : ℕ) → i ≤ j → c * ROOM + i ≤ c * ROOM + j
 order_key c i j h = omega arith
-
--- all ids, in order
-pub record AllIds (count : ℕ) (all : List ℕ) : Type 0 where
-  pub len : length all ≡ count
-  pub each : (k : ℕ) → k < count → get_or all k 0 ≡ k
 
 -- the ids below a count rise
 rises_each : (n : ℕ) (all : List ℕ) → AllIds n all → IsStrictlyIncreasing all

@@ -16,7 +16,7 @@ mod shape;
 #[cfg(test)]
 mod tests;
 
-pub use distinct_points::distinct;
+pub use distinct_points::{distinct, distinct_alone};
 pub use id_lists::rising_ids;
 pub use planar::polygon;
 pub use ranking::rank;

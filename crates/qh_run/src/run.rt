@@ -14,6 +14,7 @@ use crate::leaves::leaves_of;
 use crate::passes::run_passes;
 use crate::reduction::Reduction;
 use qh_board::{Board, BoardError};
+use qh_hull::hull_of_body;
 use qh_model::{Body, Cut, Hull, Id, Memory, Point, WORKER_LIMIT};
 use std::alloc::Global;
 use std::thread::Threads;
@@ -134,9 +135,5 @@ pub fn run_hull<R: Threads + Sync, G: Gate>(
         return Err(RunError::BadWorkers);
     }
     let body = body(rt, alloc, pts, ids, cut, workers, gate)?;
-    Ok(Hull {
-        given: pts.len() as u32,
-        distinct: ids.len() as u32,
-        body,
-    })
+    Ok(hull_of_body(pts, ids, body))
 }

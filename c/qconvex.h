@@ -1,0 +1,83 @@
+/* The convex hull of whole-number points in space, exact and proved.
+ *
+ * Each call is proved, for every input that keeps the duties below: it returns, reads and writes only what it is
+ * given, and answers as said here; the one answer that the input does not decide is QCONVEX_MEMORY. Nothing is kept
+ * between calls and no thread is started, so any number of threads may call at once, each with buffers of its own.
+ *
+ * The caller's duties, which nothing checks:
+ *  - every pointer is aligned for what it points to and is not null, also for a count or a room of 0;
+ *  - `count` points are there to read; each buffer has as many elements as its room says, all of them initialised
+ *    (calloc does it, and takes no memory for pages that stay unwritten), and nobody else uses it during the call;
+ *    no two of the sizes or the count, the buffers and the points overlap;
+ *  - malloc, realloc and free are of one allocator, and align to 16 bytes, as the C library's do;
+ *  - no call from a signal handler, or from the forked child of a process that has threads, where malloc may hang;
+ *  - the processor has the level x86-64-v2 (SSE4.2).
+ */
+#ifndef QCONVEX_H
+#define QCONVEX_H
+#include <stddef.h>
+#include <stdint.h>
+#ifdef __cplusplus
+extern "C" {
+#endif
+
+#define QCONVEX_COORDINATE_LIMIT 1073741824 /* the greatest size of a coordinate, either way: 2^30 */
+#define QCONVEX_POINT_LIMIT 1048576         /* the greatest number of points */
+
+typedef struct {
+    int32_t x, y, z;
+} qconvex_point;
+
+typedef struct {
+    uint32_t points;    /* the points as given */
+    uint32_t distinct;  /* the distinct ones: of equal points the lowest index stands for all */
+    uint32_t dimension; /* 0 to 3 */
+    size_t extremes;    /* the extreme points */
+    size_t faces;       /* the faces: exactly one where the dimension is below 3 */
+    size_t corners;     /* the corners of all faces */
+    uint64_t edges;
+} qconvex_sizes;
+
+enum {
+    QCONVEX_DONE = 0,
+    QCONVEX_NO_POINT = 1, /* exactly where count is 0 */
+    QCONVEX_TOO_MANY = 2, /* exactly where count is above QCONVEX_POINT_LIMIT */
+    QCONVEX_RANGE = 3,    /* else exactly where a coordinate is past QCONVEX_COORDINATE_LIMIT */
+    QCONVEX_MEMORY = 4,   /* malloc or realloc refused; all that was taken is given back */
+    QCONVEX_ROOM = 5      /* a buffer is too short: sizes says how long they have to be */
+};
+
+/* The hull. QCONVEX_DONE: sizes is filled in, and the buffers begin with
+ *   extremes  [sizes.extremes]   the indices of the extreme points, rising, none missed and none else
+ *   offsets   [sizes.faces + 1]  the corners of face j stand from corners[offsets[j]] to before corners[offsets[j + 1]]
+ *   corners   [sizes.corners]    the polygon of every plane through three points not in line that leaves no point
+ *                                outside, counterclockwise seen from outside, each from its least index on; the faces in
+ *                                rising lexicographic order. Points inside a face or an edge are no corners.
+ * A set in a plane has one face, seen from the side of the normal whose first component that is not 0 is above 0; a set
+ * in a line has its two ends; one point has itself. What stands behind these in a buffer stays as it was.
+ *
+ * Every other answer leaves the three buffers as they were; QCONVEX_ROOM fills sizes in, the others leave it, too.
+ * Room for count, 2 * count + 2 and 6 * count + 4 elements is enough (Euler's formula; not part of the proof: a call
+ * that finds too little says QCONVEX_ROOM). */
+uint32_t qconvex_hull(const qconvex_point *points, size_t count, qconvex_sizes *sizes,
+                      uint32_t *extremes, size_t extremes_room,
+                      size_t *offsets, size_t offsets_room,
+                      uint32_t *corners, size_t corners_room);
+
+/* The same faces as triangles: each face of three corners or more as the fan of its first corner, a, and any two
+ * neighbours after it. QCONVEX_DONE: *triangle_count is their number, and the buffers begin with
+ *   triangles  [3 * *triangle_count]  the corners of each, counterclockwise seen from outside
+ *   normals    [3 * *triangle_count]  the outer normal of each, (b - a) x (c - a), twice as long as its area; exact,
+ *                                     since a component is at most 2^62 in size
+ * In dimension 3 each triangle has an area, and no point is above its plane. Points in a line have no triangles.
+ *
+ * The other answers are those of qconvex_hull; for QCONVEX_ROOM *triangle_count says how many triangles there are, and
+ * otherwise it stays as it was. Room for 6 * count + 3 elements each is enough (Euler's formula, not proved). */
+uint32_t qconvex_fans(const qconvex_point *points, size_t count, size_t *triangle_count,
+                      uint32_t *triangles, size_t triangles_room,
+                      int64_t *normals, size_t normals_room);
+
+#ifdef __cplusplus
+}
+#endif
+#endif

@@ -1,0 +1,98 @@
+/* Refuses each request for memory in turn. The answer is QCONVEX_MEMORY, and the buffers stay as they were; or it is the
+ * right one, where the request was for room in advance and the call did with less. Nothing is kept in either case. The
+ * three functions stand in place of the library's own calls of malloc, realloc and free. */
+#include "qconvex.h"
+#include <stdbool.h>
+#include <stdio.h>
+#include <stdlib.h>
+#include <string.h>
+
+/* What a request gives: whether it was met, and where; a refused one gives an aligned address that is not used. */
+struct request {
+    bool met;
+    void *place;
+};
+
+static long requests, refused, living;
+
+static bool is_refused(void) { return ++requests == refused; }
+
+struct request rattle_alloc(size_t size, size_t align) {
+    void *place = is_refused() ? NULL : malloc(size ? size : align);
+    living += place != NULL;
+    return (struct request){place != NULL, place ? place : (void *)align};
+}
+
+struct request rattle_realloc(void *old, size_t kept, size_t size, size_t align) {
+    (void)kept;
+    void *place = is_refused() ? NULL : realloc(old, size ? size : align);
+    return (struct request){place != NULL, place ? place : (void *)align};
+}
+
+void rattle_dealloc(void *place) {
+    free(place);
+    living--;
+}
+
+enum { POINTS = 400, OFFSETS = 2 * POINTS + 2, CORNERS = 6 * POINTS + 4 };
+
+struct buffers {
+    qconvex_sizes sizes;
+    uint32_t extremes[POINTS], corners[CORNERS];
+    size_t offsets[OFFSETS], count;
+    uint32_t triangles[CORNERS];
+    int64_t normals[CORNERS];
+};
+
+static qconvex_point points[POINTS];
+static struct buffers blank, right, now;
+
+/* The families: solid with large faces, solid without, in a plane, in a line, one point. */
+static void make_points(int family) {
+    srand(5);
+    for (int k = 0; k < POINTS; k++) {
+        int reach = family == 1 ? 1000000 : 10;
+        int x = rand() % (2 * reach + 1) - reach, y = rand() % (2 * reach + 1) - reach, z = rand() % (2 * reach + 1) - reach;
+        if (family == 2) z = x + 2 * y;
+        if (family == 3) y = z = x;
+        if (family == 4) x = y = z = 7;
+        points[k] = (qconvex_point){x, y, z};
+    }
+}
+
+/* A hull, or its fans, in blank buffers; one request may be refused. */
+static uint32_t call(bool fans, struct buffers *to) {
+    requests = 0;
+    memcpy(to, &blank, sizeof blank);
+    if (fans) return qconvex_fans(points, POINTS, &to->count, to->triangles, CORNERS, to->normals, CORNERS);
+    return qconvex_hull(points, POINTS, &to->sizes, to->extremes, POINTS, to->offsets, OFFSETS, to->corners, CORNERS);
+}
+
+static bool is_right(uint32_t code) {
+    const struct buffers *want = code == QCONVEX_MEMORY ? &blank : &right;
+    return (code == QCONVEX_MEMORY || code == QCONVEX_DONE) && memcmp(&now, want, sizeof now) == 0 && living == 0;
+}
+
+/* Refuses each request of one call in turn. */
+static void refuse_each(bool fans, long *tried, long *memory, long *wrong) {
+    refused = 0;
+    *wrong += call(fans, &right) != QCONVEX_DONE || living != 0;
+    long total = requests;
+    for (refused = 1; refused <= total; refused++, ++*tried) {
+        uint32_t code = call(fans, &now);
+        *memory += code == QCONVEX_MEMORY;
+        *wrong += !is_right(code);
+    }
+}
+
+int main(void) {
+    long tried = 0, memory = 0, wrong = 0;
+    memset(&blank, 0x55, sizeof blank);
+    for (int family = 0; family < 5; family++) {
+        make_points(family);
+        refuse_each(false, &tried, &memory, &wrong);
+        refuse_each(true, &tried, &memory, &wrong);
+    }
+    printf("%ld requests refused in turn: %ld times QCONVEX_MEMORY, else the right answer; %ld wrong\n", tried, memory, wrong);
+    return wrong != 0;
+}

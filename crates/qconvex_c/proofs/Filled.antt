@@ -1,0 +1,50 @@
+-- Buffers that begin with the lists of a flat hull.
+use Rattle.std.proofs.Common.{◌≡◌, ℕ, ◌+◌, ◌<◌, List, [], ◌∷◌, length, take, drop, ap, sym, subst, ◌∙◌, refl, ◌⊎◌, inl, inr, arith}
+use Rattle.qh_model.specs.headline.Vector.{Vector}
+use Rattle.qconvex_c.specs.contract.Flat.{ends_from, IsFlatHull}
+use Rattle.qconvex_c.specs.contract.Answered.{IsAnswered, NeedsRoom}
+use Rattle.qconvex_c.specs.declared.sizes.Sizes.{Sizes}
+
+-- as many ends as faces
+length-ends : (n : ℕ) (qs : List (List ℕ)) → length (ends_from n qs) ≡ length qs
+length-ends n [] = refl
+length-ends n (q ∷ qs) = let e = length-ends (n + length q) qs in omega (arith, e)
+
+module _ (pts : List Vector) (s : Sizes) (es os cs : List ℕ) (f : IsFlatHull pts s es os cs) where
+  extremes_len : length es ≡ s.extremes
+  extremes_len = ap length f.extreme_ids ∙ sym f.sizes.extremes
+
+  offsets_len : length os ≡ s.faces + 1
+  offsets_len =
+      let os_len = ap length f.face_offsets in
+      let ends = length-ends 0 f.hull.body.polygons in
+      let faces = f.sizes.faces in
+      omega (arith, os_len, ends, faces)
+
+  corners_len : length cs ≡ s.corners
+  corners_len = ap length f.face_corners ∙ sym f.sizes.corners
+
+  pub filled : (eb ob cb : List ℕ) → take (length es) eb ≡ es → take (length os) ob ≡ os → take (length cs) cb ≡ cs → IsAnswered pts s eb ob cb
+  filled eb ob cb e o c = record {
+    flat = record {
+      hull = f.hull;
+      right = f.right;
+      sizes = f.sizes;
+      extreme_ids = ap (λ n. take n eb) (sym extremes_len) ∙ e ∙ f.extreme_ids;
+      face_offsets = ap (λ n. take n ob) (sym offsets_len) ∙ o ∙ f.face_offsets;
+      face_corners = ap (λ n. take n cb) (sym corners_len) ∙ c ∙ f.face_corners;
+    };
+  }
+
+  pub rest_kept : (eb ob cb eb' ob' cb' : List ℕ) → (drop (length es) eb' ≡ drop (length es) eb) × (drop (length os) ob' ≡ drop (length os) ob) × (drop (length cs) cb' ≡ drop (length cs) cb)
+      → (drop s.extremes eb' ≡ drop s.extremes eb) × (drop (s.faces + 1) ob' ≡ drop (s.faces + 1) ob) × (drop s.corners cb' ≡ drop s.corners cb)
+  rest_kept eb ob cb eb' ob' cb' (e, o, c) =
+      (subst (λ n. drop n eb' ≡ drop n eb) extremes_len e, subst (λ n. drop n ob' ≡ drop n ob) offsets_len o, subst (λ n. drop n cb' ≡ drop n cb) corners_len c)
+
+  pub needs_room : (eb ob cb : List ℕ) → (length eb < length es) ⊎ (length ob < length os) ⊎ (length cb < length cs) → NeedsRoom pts s eb ob cb
+  needs_room eb ob cb h = record { all_extremes = es; all_offsets = os; all_corners = cs; flat = f; short = short h }
+    where
+      short : (length eb < length es) ⊎ (length ob < length os) ⊎ (length cb < length cs) → (length eb < s.extremes) ⊎ (length ob < s.faces + 1) ⊎ (length cb < s.corners)
+      short (inl h) = inl (subst (λ n. length eb < n) extremes_len h)
+      short (inr (inl h)) = inr (inl (subst (λ n. length ob < n) offsets_len h))
+      short (inr (inr h)) = inr (inr (subst (λ n. length cb < n) corners_len h))

@@ -1,0 +1,10 @@
+use Rattle.std.proofs.Common.{sym, subst}
+use Rattle.std.specs.List.{All}
+use Rattle.qh_model.specs.contract.IdSets.{AreIndices}
+use Rattle.qconvex_c.proofs.FanLists.{faces_within}
+use Rattle.qconvex_c.proofs.fans.body_normals.Goals as goal
+
+pub fan_normals-requires : goal.fan_normals-requires
+fan_normals-requires c =
+    subst (All (AreIndices c.args.pts.now)) (sym c.deref.ensures.value)
+    (faces_within _ _ _ (subst (λ b. AreIndices c.args.pts.now b.extremes) (sym c.body.view_is) c.requires) c.body.invariant)

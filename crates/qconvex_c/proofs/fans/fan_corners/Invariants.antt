@@ -1,0 +1,7 @@
+use Rattle.std.proofs.Common.{◌≡◌, ◌++◌, drop}
+use Rattle.std.specs.List.{flat_map}
+use Rattle.qconvex_c.specs.steps.FaceFans.{face_corners}
+use Rattle.qconvex_c.proofs.fans.fan_corners.Given as goal
+
+abbrev pub invariant-loop-face : goal.invariant-loop-face
+invariant-loop-face l = l.numbers.items ++ flat_map face_corners (drop l.face-index l.faces) ≡ flat_map face_corners l.faces

@@ -1,0 +1,4 @@
+-- What else the contracts of public functions cite.
+pub mod Flat
+pub mod Answered
+pub mod Triangles

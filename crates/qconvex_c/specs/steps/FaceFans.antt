@@ -1,0 +1,14 @@
+-- The lists of fans, made face by face.
+use Rattle.std.specs.Prelude.{ℕ, ℤ, List}
+use Rattle.std.specs.List.{flat_map}
+use Rattle.qh_model.specs.headline.Vector.{Vector}
+use Rattle.qconvex_c.specs.contract.Flat.{corners_of}
+use Rattle.qconvex_c.specs.contract.Triangles.{face_triangles, normal_of}
+
+-- the corners of the triangles of a face
+abbrev pub face_corners : List ℕ → List ℕ
+face_corners q = corners_of (face_triangles q)
+
+-- their normals
+abbrev pub face_normals : (ℕ → Vector) → List ℕ → List ℤ
+face_normals at q = flat_map (normal_of at) (face_triangles q)

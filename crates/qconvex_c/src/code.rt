@@ -1,0 +1,19 @@
+//! The answers of a call, as numbers for C.
+
+/// The buffers hold the answer.
+pub const DONE: u32 = 0;
+
+/// There is no point.
+pub const NO_POINT: u32 = 1;
+
+/// There are more than `POINT_LIMIT` points.
+pub const TOO_MANY: u32 = 2;
+
+/// A coordinate is out of range.
+pub const RANGE: u32 = 3;
+
+/// Memory was refused.
+pub const MEMORY: u32 = 4;
+
+/// A buffer is too short.
+pub const ROOM: u32 = 5;

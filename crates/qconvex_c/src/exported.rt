@@ -1,0 +1,93 @@
+//! The calls that C makes.
+ghost use Rattle.std.specs.Prelude.{◌≡◌, ◌≢◌, ◌≤◌, ◌<◌, ◌↔◌, ◌+◌, ◌*◌, length, take, drop};
+ghost use Rattle.std.specs.List.{All};
+ghost use Rattle.qh_model.specs.contract.Places.{IsPlace};
+ghost use Rattle.qh_model.specs.declared.limits.TheConstants.{POINT_LIMIT};
+ghost use Rattle.qconvex_c.specs.contract.Answered.{IsAnswered, NeedsRoom};
+ghost use Rattle.qconvex_c.specs.contract.Triangles.{AreFans, NeedsFanRoom};
+ghost use Rattle.qconvex_c.specs.declared.code.TheConstants.{DONE, NO_POINT, TOO_MANY, RANGE, ROOM};
+
+use crate::code::DONE;
+use crate::fan_lists::write_fans;
+use crate::given::Given;
+use crate::sizes::Sizes;
+use crate::written::write_hull;
+use std::alloc::Global;
+
+/// The hull of points, in buffers of the caller.
+///
+/// It answers `DONE` where `sizes` counts the parts of the hull, `extremes` begins with the extreme ids,
+/// rising, and `corners` with the corners of the faces, one face after the other: those of face j stand
+/// from `offsets[j]` to before `offsets[j + 1]`, counterclockwise seen from outside.
+///
+/// Else it answers `NO_POINT`, `TOO_MANY` for more than `POINT_LIMIT` points, `RANGE` for a coordinate
+/// out of range, `MEMORY` where memory was refused, or `ROOM` where a buffer is too short: then `sizes`
+/// counts the parts of the hull, and so tells how long the buffers have to be. The buffers stay as they
+/// were, and but for `ROOM` so does `sizes`. What stands behind an answer in a buffer stays, too.
+#[unsafe(no_mangle)]
+pub extern "C" fn qconvex_hull(
+    alloc: Global,
+    points: &[Given],
+    sizes: &mut Sizes,
+    extremes: &mut [u32],
+    offsets: &mut [usize],
+    corners: &mut [u32],
+) -> u32
+    ensures done { result ≡ DONE → IsAnswered points.now sizes.new extremes.new offsets.new corners.new }
+    ensures none { (result ≡ NO_POINT) ↔ (length points.now ≡ 0) }
+    ensures many { (result ≡ TOO_MANY) ↔ (POINT_LIMIT < length points.now) }
+    ensures range { (result ≡ RANGE) ↔ ((0 < length points.now) × (length points.now ≤ POINT_LIMIT) × ¬ (All IsPlace points.now)) }
+    ensures room { result ≡ ROOM → NeedsRoom points.now sizes.new extremes.old offsets.old corners.old }
+    ensures codes { result ≤ ROOM }
+
+    // What stands behind an answer in a buffer, and what a refusal leaves alone.
+    ensures extremes_rest { result ≡ DONE → drop sizes.new.extremes extremes.new ≡ drop sizes.new.extremes extremes.old }
+    ensures offsets_rest { result ≡ DONE → drop (sizes.new.faces + 1) offsets.new ≡ drop (sizes.new.faces + 1) offsets.old }
+    ensures corners_rest { result ≡ DONE → drop sizes.new.corners corners.new ≡ drop sizes.new.corners corners.old }
+    ensures extremes_kept { result ≢ DONE → extremes.new ≡ extremes.old }
+    ensures offsets_kept { result ≢ DONE → offsets.new ≡ offsets.old }
+    ensures corners_kept { result ≢ DONE → corners.new ≡ corners.old }
+    ensures sizes_kept { result ≢ DONE → result ≢ ROOM → sizes.new ≡ sizes.old }
+{
+    match write_hull(alloc, points, sizes, extremes, offsets, corners) {
+        Ok(()) => DONE,
+        Err(fault) => fault.code(),
+    }
+}
+
+/// The faces of the hull of points as fans of triangles, with their normals, in buffers of the caller.
+///
+/// It answers `DONE` where `count` is the number of triangles, `triangles` begins with the corners of each,
+/// counterclockwise seen from outside, and `normals` with the three components of the outer normal of
+/// each: the cross product of two of its sides, exact, since 64 bits hold it for all coordinates in range.
+/// Points in a line have no triangles.
+///
+/// Else it answers as [`qconvex_hull`] does; for `ROOM` each of the two buffers has to have three times as
+/// many elements as `count` says. The buffers stay as they were, and but for `ROOM` so does `count`.
+#[unsafe(no_mangle)]
+pub extern "C" fn qconvex_fans(
+    alloc: Global,
+    points: &[Given],
+    count: &mut usize,
+    triangles: &mut [u32],
+    normals: &mut [i64],
+) -> u32
+    ensures done { result ≡ DONE → AreFans points.now count.new (take (3 * count.new) triangles.new) (take (3 * count.new) normals.new) }
+    ensures none { (result ≡ NO_POINT) ↔ (length points.now ≡ 0) }
+    ensures many { (result ≡ TOO_MANY) ↔ (POINT_LIMIT < length points.now) }
+    ensures range { (result ≡ RANGE) ↔ ((0 < length points.now) × (length points.now ≤ POINT_LIMIT) × ¬ (All IsPlace points.now)) }
+    ensures room { result ≡ ROOM → NeedsFanRoom points.now count.new triangles.old normals.old }
+    ensures codes { result ≤ ROOM }
+
+    // What stands behind an answer in a buffer, and what a refusal leaves alone.
+    ensures triangles_rest { result ≡ DONE → drop (3 * count.new) triangles.new ≡ drop (3 * count.new) triangles.old }
+    ensures normals_rest { result ≡ DONE → drop (3 * count.new) normals.new ≡ drop (3 * count.new) normals.old }
+    ensures triangles_kept { result ≢ DONE → triangles.new ≡ triangles.old }
+    ensures normals_kept { result ≢ DONE → normals.new ≡ normals.old }
+    ensures count_kept { result ≢ DONE → result ≢ ROOM → count.new ≡ count.old }
+{
+    match write_fans(alloc, points, count, triangles, normals) {
+        Ok(()) => DONE,
+        Err(fault) => fault.code(),
+    }
+}

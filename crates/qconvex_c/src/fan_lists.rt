@@ -1,0 +1,100 @@
+//! The fans of the hull of points, written to buffers.
+ghost use Rattle.std.specs.Prelude.{◌≡◌, ◌≢◌, ◌*◌, ◌≤◌, ◌<◌, ◌↔◌, ◌⊎◌, length, take, drop, true, false, IfOk, IfErr, IsErrOf, OnOk, OnErr, List};
+ghost use Rattle.std.specs.List.{All};
+ghost use Rattle.qh_model.specs.contract.Places.{IsPlace};
+ghost use Rattle.qh_model.specs.headline.Hull.{IsHull};
+ghost use Rattle.qh_model.specs.declared.limits.TheConstants.{POINT_LIMIT};
+ghost use Rattle.qconvex_c.specs.contract.Triangles.{AreFans, NeedsFanRoom};
+
+use crate::buffers::{put_components, put_numbers};
+use crate::fans::{body_corners, body_normals};
+use crate::fault::Fault;
+use crate::given::{Given, points_of};
+use crate::judging::judge;
+use qh_hull::hull_alone;
+use qh_model::{Hull, Memory, Point};
+use std::alloc::Global;
+
+/// Triangles, by their corners and their normals.
+#[derive(Drop)]
+struct FanLists {
+    count: usize,
+    triangles: Vec<u32>,
+    normals: Vec<i64>,
+}
+
+/// The fans of a hull.
+fn fan_lists(alloc: Global, pts: &[Point], hull: &Hull) -> Result<FanLists, Memory>
+    requires { IsHull pts.now hull.now }
+    ensures { IfOk result (λ f. AreFans pts.now f.count f.triangles.items f.normals.items) }
+{
+    let triangles = body_corners(alloc, &hull.body)?;
+    let normals = body_normals(alloc, pts, &hull.body)?;
+    Ok(FanLists {
+        count: triangles.len() / 3,
+        triangles,
+        normals,
+    })
+}
+
+/// The fans of the hull of points that are fit.
+fn fan_lists_of(alloc: Global, points: &[Given]) -> Result<FanLists, Memory>
+    requires some { 0 < length points.now }
+    requires few { length points.now ≤ POINT_LIMIT }
+    requires places { All IsPlace points.now }
+    ensures { IfOk result (λ f. AreFans points.now f.count f.triangles.items f.normals.items) }
+{
+    let pts = points_of(alloc, points)?;
+    let hull = hull_alone(alloc, &pts)?;
+    fan_lists(alloc, &pts, &hull)
+}
+
+/// Writes fans to buffers and answers true, where each is long enough. Else they stay as they are.
+fn fill_fans(fans: &FanLists, triangles: &mut [u32], normals: &mut [i64]) -> bool
+    ensures done { result ≡ true → (take (length fans.now.triangles.items) triangles.new ≡ fans.now.triangles.items)
+        × (take (length fans.now.normals.items) normals.new ≡ fans.now.normals.items) }
+    ensures rest { result ≡ true → (drop (length fans.now.triangles.items) triangles.new ≡ drop (length fans.now.triangles.items) triangles.old)
+        × (drop (length fans.now.normals.items) normals.new ≡ drop (length fans.now.normals.items) normals.old) }
+    ensures short { result ≡ false → (length triangles.old < length fans.now.triangles.items) ⊎ (length normals.old < length fans.now.normals.items) }
+    ensures kept { result ≡ false → (triangles.new ≡ triangles.old) × (normals.new ≡ normals.old) }
+{
+    if triangles.len() < fans.triangles.len() || normals.len() < fans.normals.len() {
+        return false;
+    }
+    put_numbers(triangles, &fans.triangles);
+    put_components(normals, &fans.normals);
+    true
+}
+
+/// The fans of the hull of points, in buffers.
+///
+/// # Errors
+///
+/// `NoPoint`, `TooMany`, `Range` and `Memory` leave all as it was; `Room` leaves the buffers as they
+/// were, and counts the triangles.
+pub fn write_fans(
+    alloc: Global,
+    points: &[Given],
+    count: &mut usize,
+    triangles: &mut [u32],
+    normals: &mut [i64],
+) -> Result<(), Fault>
+    ensures done { OnOk result (AreFans points.now count.new (take (3 * count.new) triangles.new) (take (3 * count.new) normals.new)) }
+    ensures rest { OnOk result ((drop (3 * count.new) triangles.new ≡ drop (3 * count.new) triangles.old)
+        × (drop (3 * count.new) normals.new ≡ drop (3 * count.new) normals.old)) }
+    ensures none { IsErrOf result Fault.NoPoint ↔ (length points.now ≡ 0) }
+    ensures many { IsErrOf result Fault.TooMany ↔ (POINT_LIMIT < length points.now) }
+    ensures range { IsErrOf result Fault.Range ↔ ((0 < length points.now) × (length points.now ≤ POINT_LIMIT) × ¬ (All IsPlace points.now)) }
+    ensures room { IsErrOf result Fault.Room → NeedsFanRoom points.now count.new triangles.old normals.old }
+    ensures kept { OnErr result ((triangles.new ≡ triangles.old) × (normals.new ≡ normals.old)) }
+    ensures count_kept { IfErr result (λ f. f ≢ Fault.Room → count.new ≡ count.old) }
+{
+    judge(points)?;
+    let fans = fan_lists_of(alloc, points)?;
+    *count = fans.count;
+    if fill_fans(&fans, triangles, normals) {
+        Ok(())
+    } else {
+        Err(Fault::Room)
+    }
+}

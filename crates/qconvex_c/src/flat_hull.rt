@@ -1,0 +1,85 @@
+ghost use Rattle.std.specs.Prelude.{◌≡◌, ◌++◌, IfOk, OnOk, List, length};
+ghost use Rattle.qh_model.specs.headline.Hull.{IsHull};
+ghost use Rattle.qh_model.specs.headline.Vector.{Vector};
+ghost use Rattle.qconvex_c.specs.contract.Flat.{IsFlatHull, corners_of, offsets_of};
+
+use crate::sizes::Sizes;
+use qh_model::{Hull, Id, Memory, Polygon};
+use std::alloc::{AllocError, Global};
+
+/// The corners of faces, one face after the other, and where each face begins and ends.
+#[derive(Drop)]
+pub struct Faces {
+    pub corners: Vec<u32>,
+    pub offsets: Vec<usize>,
+}
+
+/// A hull in flat lists.
+#[derive(Drop)]
+pub struct FlatHull {
+    pub sizes: Sizes,
+    pub extremes: Vec<u32>,
+    pub offsets: Vec<usize>,
+    pub corners: Vec<u32>,
+}
+
+/// Appends the numbers of ids.
+fn push_numbers(numbers: &mut Vec<u32>, ids: &[Id]) -> Result<(), AllocError>
+    ensures { OnOk result (numbers.new.items ≡ numbers.old.items ++ ids.now) }
+{
+    for id in ids {
+        numbers.push(id.number())?;
+    }
+    Ok(())
+}
+
+/// The numbers of ids.
+fn numbers_of(alloc: Global, ids: &[Id]) -> Result<Vec<u32>, AllocError>
+    ensures { IfOk result (λ v. v.items ≡ ids.now) }
+{
+    let mut numbers = Vec::with_capacity(alloc, ids.len())?;
+    push_numbers(&mut numbers, ids)?;
+    Ok(numbers)
+}
+
+/// The faces in flat lists.
+fn faces_of(alloc: Global, faces: &[Polygon]) -> Result<Faces, AllocError>
+    ensures corners { IfOk result (λ f. f.corners.items ≡ corners_of faces.now) }
+    ensures offsets { IfOk result (λ f. f.offsets.items ≡ offsets_of faces.now) }
+{
+    let mut corners = Vec::new(alloc);
+    let mut offsets = Vec::new(alloc);
+    offsets.push(0usize)?;
+    for face in faces {
+        push_numbers(&mut corners, face.ids())?;
+        offsets.push(corners.len())?;
+    }
+    Ok(Faces { corners, offsets })
+}
+
+/// The hull in flat lists.
+///
+/// # Errors
+///
+/// `Memory` where memory was refused.
+pub fn flat_hull(alloc: Global, hull: &Hull) -> Result<FlatHull, Memory>
+    ensures { IfOk result (λ f. (pts : List Vector) → IsHull pts hull.now → IsFlatHull pts f.sizes f.extremes.items f.offsets.items f.corners.items) }
+{
+    let extremes = numbers_of(alloc, &hull.body.extremes)?;
+    let faces = faces_of(alloc, &hull.body.polygons)?;
+    let sizes = Sizes {
+        points: hull.given,
+        distinct: hull.distinct,
+        dimension: u32::from(hull.body.dim),
+        extremes: extremes.len(),
+        faces: hull.body.polygons.len(),
+        corners: faces.corners.len(),
+        edges: hull.body.edges,
+    };
+    Ok(FlatHull {
+        sizes,
+        extremes,
+        offsets: faces.offsets,
+        corners: faces.corners,
+    })
+}

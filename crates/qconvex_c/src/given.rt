@@ -1,0 +1,84 @@
+//! Points as C gives them.
+ghost use Rattle.std.specs.Prelude.{◌≡◌, ◌≤◌, ◌<◌, ◌↔◌, IsTrue, IfOk};
+ghost use Rattle.std.specs.List.{All};
+ghost use Rattle.qh_model.specs.headline.Limits.{IsCoordinate};
+ghost use Rattle.qh_model.specs.contract.Places.{IsPlace};
+
+use qh_model::{COORDINATE_LIMIT, Memory, Point};
+use std::alloc::Global;
+use std::marker::Model;
+
+/// A point as C gives it, with coordinates of any size.
+///
+/// A contract sees it as its three whole numbers.
+#[repr(C)]
+#[derive(Clone, Copy, Debug)]
+pub struct Given {
+    x: i32,
+    y: i32,
+    z: i32,
+}
+
+impl Model for Given {
+    ghost use Rattle.qh_model.specs.headline.Vector.{Vector};
+    ghost use Rattle.qh_model.specs.contract.Places.{vector_code};
+
+    ghost Value = { Vector };
+
+    ghost coded = { vector_code };
+
+    ghost view = { λ p. record { x = p.x; y = p.y; z = p.z } };
+
+    ghost inverse = { λ p. record { x = p.x; y = p.y; z = p.z } };
+}
+
+impl Given {
+    /// The point with these coordinates.
+    pub fn new(x: i32, y: i32, z: i32) -> Given
+        ensures { result ≡ record { x = x; y = y; z = z } }
+    {
+        Given { x, y, z }
+    }
+}
+
+/// Whether a coordinate is in range.
+fn is_coordinate(coordinate: i32) -> bool
+    ensures { IsTrue result ↔ IsCoordinate coordinate }
+{
+    coordinate.unsigned_abs() <= COORDINATE_LIMIT
+}
+
+/// Whether each coordinate of a point is in range.
+fn is_place(point: Given) -> bool
+    ensures { IsTrue result ↔ IsPlace point }
+{
+    is_coordinate(point.x) && is_coordinate(point.y) && is_coordinate(point.z)
+}
+
+/// Whether each point is in range.
+pub fn are_places(points: &[Given]) -> bool
+    ensures { IsTrue result ↔ All IsPlace points.now }
+{
+    for point in points {
+        if !is_place(*point) {
+            return false;
+        }
+    }
+    true
+}
+
+/// The same points, as a hull is made of them.
+///
+/// # Errors
+///
+/// `Memory` where memory was refused.
+pub fn points_of(alloc: Global, given: &[Given]) -> Result<Vec<Point>, Memory>
+    requires { All IsPlace given.now }
+    ensures { IfOk result (λ v. v.items ≡ given.now) }
+{
+    let mut points = Vec::with_capacity(alloc, given.len())?;
+    for point in given {
+        points.push(Point::new(point.x, point.y, point.z))?;
+    }
+    Ok(points)
+}

@@ -1,0 +1,26 @@
+//! The hull for C: points in, the extreme ids and the faces out, in buffers of the caller; or the faces
+//! as triangles with their normals.
+//!
+//! `given` takes the points, `judging` refuses those that have no hull here, `flat_hull` and `fans` lay a
+//! hull out in flat lists, and `buffers`, `written` and `fan_lists` fill the caller's buffers. Nothing
+//! here starts a thread or keeps anything between calls.
+#![tactic(auto)]
+
+mod buffers;
+mod code;
+mod exported;
+mod fan_lists;
+mod fans;
+mod fault;
+mod flat_hull;
+mod given;
+mod judging;
+mod sizes;
+#[cfg(test)]
+mod tests;
+mod written;
+
+pub use code::{DONE, MEMORY, NO_POINT, RANGE, ROOM, TOO_MANY};
+pub use exported::{qconvex_fans, qconvex_hull};
+pub use given::Given;
+pub use sizes::Sizes;

@@ -1,0 +1,47 @@
+//! The hull of a list of points.
+ghost use Rattle.std.specs.Prelude.{◌≡◌, ◌≤◌, ◌<◌, IfOk, length};
+ghost use Rattle.qh_model.specs.headline.DistinctIds.{AreDistinctIds};
+ghost use Rattle.qh_model.specs.headline.Hull.{IsBody, IsHull};
+ghost use Rattle.qh_model.specs.headline.Predicates.{place};
+ghost use Rattle.qh_model.specs.headline.Sets.{Members};
+ghost use Rattle.qh_model.specs.declared.limits.TheConstants.{POINT_LIMIT};
+
+use qh_block::hull;
+use qh_model::{Body, Hull, Id, Memory, Point};
+use qh_plane::distinct_alone;
+use std::alloc::Global;
+
+/// The hull of a list of points, given that of its distinct ids.
+///
+/// `ids` are the distinct ids, rising, as `qh_plane::distinct` gives them, and the list has at most
+/// `POINT_LIMIT` points. These are the caller's conditions.
+pub fn hull_of_body(pts: &[Point], ids: &[Id], body: Body) -> Hull
+    requires few { length pts.now ≤ POINT_LIMIT }
+    requires distinct { AreDistinctIds pts.now ids.now }
+    requires body { IsBody (place pts.now) (Members ids.now) body }
+    ensures hull { IsHull pts.now result }
+    ensures body { result.body ≡ body }
+{
+    Hull {
+        given: pts.len() as u32,
+        distinct: ids.len() as u32,
+        body,
+    }
+}
+
+/// The hull of a list of points, by the calling thread alone.
+///
+/// The list has at least one point and at most `POINT_LIMIT` points, which the caller keeps.
+///
+/// # Errors
+///
+/// `Memory` where memory was refused.
+pub fn hull_alone(alloc: Global, pts: &[Point]) -> Result<Hull, Memory>
+    requires some { 0 < length pts.now }
+    requires few { length pts.now ≤ POINT_LIMIT }
+    ensures { IfOk result (λ h. IsHull pts.now h) }
+{
+    let ids = distinct_alone(alloc, pts)?;
+    let body = hull(alloc, pts, &ids)?;
+    Ok(hull_of_body(pts, &ids, body))
+}

@@ -1,0 +1,11 @@
+//! The hull of a list of points, put together from that of its distinct ids.
+//!
+//! [`hull_of_body`] is the last step of every way to a hull. [`hull_alone`] is the whole way of one
+//! thread, which takes all points as one block.
+#![tactic(auto)]
+
+mod hulls;
+#[cfg(test)]
+mod tests;
+
+pub use hulls::{hull_alone, hull_of_body};

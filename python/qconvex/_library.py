@@ -1,0 +1,99 @@
+"""The calls of libqconvex.so, whose header is c/qconvex.h."""
+from __future__ import annotations
+
+import ctypes
+import os
+from pathlib import Path
+from typing import NamedTuple
+
+import numpy as np
+
+COORDINATE_LIMIT = 1 << 30
+"""The greatest size of a coordinate, either way."""
+
+POINT_LIMIT = 1 << 20
+"""The greatest number of points."""
+
+_DONE, _NO_POINT, _TOO_MANY, _RANGE, _MEMORY, _ROOM = range(6)
+_REFUSALS = {
+    _NO_POINT: "there is no point",
+    _TOO_MANY: f"there are more than {POINT_LIMIT} points",
+    _RANGE: f"a coordinate is not from {-COORDINATE_LIMIT} to {COORDINATE_LIMIT}",
+}
+RANGE_REFUSAL = _REFUSALS[_RANGE]
+
+
+class _Sizes(ctypes.Structure):
+    _fields_ = [
+        ("points", ctypes.c_uint32),
+        ("distinct", ctypes.c_uint32),
+        ("dimension", ctypes.c_uint32),
+        ("extremes", ctypes.c_size_t),
+        ("faces", ctypes.c_size_t),
+        ("corners", ctypes.c_size_t),
+        ("edges", ctypes.c_uint64),
+    ]
+
+
+class FlatHull(NamedTuple):
+    """A hull in flat lists, as the library writes it."""
+
+    dimension: int
+    distinct: int
+    edges: int
+    extremes: np.ndarray  # uint32, rising
+    offsets: np.ndarray  # uintp: the corners of face j stand from offsets[j] to before offsets[j + 1]
+    corners: np.ndarray  # uint32
+
+
+def _path() -> str:
+    """Where the library is: what QCONVEX_LIBRARY names, else beside this file, else where `make -C c` puts it."""
+    here = Path(__file__).resolve().parent
+    places = [here / "libqconvex.so", here.parents[1] / "c" / "build" / "libqconvex.so"]
+    found = [str(place) for place in places if place.exists()]
+    return os.environ.get("QCONVEX_LIBRARY") or (found or ["libqconvex.so"])[0]
+
+
+def _load() -> ctypes.CDLL:
+    library = ctypes.CDLL(_path())
+    buffer = [ctypes.c_void_p, ctypes.c_size_t]
+    library.qconvex_hull.restype = ctypes.c_uint32
+    library.qconvex_hull.argtypes = [*buffer, ctypes.POINTER(_Sizes), *buffer, *buffer, *buffer]
+    return library
+
+
+_LIBRARY = _load()
+
+
+def _call(points: np.ndarray, sizes: _Sizes, room: tuple[int, int, int]):
+    """One call with so much room for extreme points, offsets and corners: its answer, and the buffers."""
+    buffers = np.zeros(room[0], np.uint32), np.zeros(room[1], np.uintp), np.zeros(room[2], np.uint32)
+    source = points if len(points) else np.zeros((1, 3), np.int32)  # a pointer that is not null, also for no points
+    arguments = [word for buffer in buffers for word in (buffer.ctypes.data, len(buffer))]
+    code = _LIBRARY.qconvex_hull(source.ctypes.data, len(points), ctypes.byref(sizes), *arguments)
+    return code, buffers
+
+
+def flat_hull(points: np.ndarray) -> FlatHull:
+    """The hull of an (n, 3) array of int32 whose rows lie one after the other.
+
+    Raises ValueError where the library refuses the points, and MemoryError where memory was refused.
+    """
+    count, sizes = len(points), _Sizes()
+    # Enough by Euler's formula; pages that stay unwritten take no memory. Should it not be, the sizes say what is.
+    code, buffers = _call(points, sizes, (max(count, 1), 2 * min(count, POINT_LIMIT) + 2, 6 * min(count, POINT_LIMIT) + 4))
+    if code == _ROOM:
+        code, buffers = _call(points, sizes, (sizes.extremes, sizes.faces + 1, sizes.corners))
+    if code == _MEMORY:
+        raise MemoryError("memory was refused")
+    if code != _DONE:
+        raise ValueError(_REFUSALS[code])
+    extremes, offsets, corners = buffers
+    return FlatHull(
+        sizes.dimension,
+        sizes.distinct,
+        sizes.edges,
+        extremes[: sizes.extremes].copy(),
+        offsets[: sizes.faces + 1].copy(),
+        corners[: sizes.corners].copy(),
+    )
