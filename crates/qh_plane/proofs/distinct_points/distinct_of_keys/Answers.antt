@@ -23,5 +23,5 @@ returns c =
     let k = c.requires.keys in
     IfOk-weaker c.marked_ids.result _ _
     (λ v e. subst (AreDistinctIds c.args.pts.now) (sym (e ∙ ap (marked_ids 0) (c.deref.ensures.value ∙ c.in_ok-marks.ensures)))
-        (distinct_ids c.args.pts.now k.ids c.args.keys.now k.all k.known k.same c.requires.sorted))
+    (distinct_ids c.args.pts.now k.ids c.args.keys.now k.all k.known k.same c.requires.sorted))
     c.marked_ids.ensures
