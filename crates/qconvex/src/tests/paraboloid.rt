@@ -64,7 +64,7 @@ fn has_its_triangles(rt: HostRuntime) -> Result<(), Fail> {
     let mut count = 0usize;
     for line in triangles {
         assert!(rt; line.starts_with("3 "));
-        count += 1;
+        count = count.wrapping_add(1);
     }
     assert_eq!(rt; count, 39996);
     Ok(())
