@@ -13,17 +13,31 @@ abbrev pub coordinate_fault : Option ℤ → ℕ → Option ReadFault
 coordinate_fault None line = Some (BadNumber line)
 coordinate_fault (Some z) line = if is_coordinate z then None else Some (Range line)
 
--- so many coordinates are to come and nothing else; of two faults the one of the earlier word
-abbrev pub coordinates_fault : ℕ → List Word → Option ReadFault
-coordinates_fault zero [] = None
-coordinates_fault zero (w ∷ ws) = Some (Long w.line)
-coordinates_fault (suc k) [] = Some Short
-coordinates_fault (suc k) (w ∷ ws) = option_or (coordinate_fault (number_of w.text) w.line) (coordinates_fault k ws)
+-- so many coordinates are to come, and then what is wrong with the rest; of two faults the one of the earlier word
+abbrev pub coordinates_fault : (List Word → Option ReadFault) → ℕ → List Word → Option ReadFault
+coordinates_fault after zero ws = after ws
+coordinates_fault after (suc k) [] = Some Short
+coordinates_fault after (suc k) (w ∷ ws) = option_or (coordinate_fault (number_of w.text) w.line) (coordinates_fault after k ws)
 
 -- the count is from 1 to the limit, and then the coordinates follow
-abbrev pub counted_fault : ℤ → List Word → Option ReadFault
-counted_fault (pos n) ws = if nat_le 1 n && nat_le n POINT_LIMIT then coordinates_fault (3 * n) ws else Some Count
-counted_fault (negsuc n) ws = Some Count
+abbrev pub counted_fault : (List Word → Option ReadFault) → ℤ → List Word → Option ReadFault
+counted_fault after (pos n) ws = if nat_le 1 n && nat_le n POINT_LIMIT then coordinates_fault after (3 * n) ws else Some Count
+counted_fault after (negsuc n) ws = Some Count
+
+-- a number of the header, the line of its word, the words after it, and what is wrong with these
+abbrev pub number_fault : (ℤ → List Word → Option ReadFault) → Option ℤ → ℕ → List Word → Option ReadFault
+number_fault after None line ws = Some (BadNumber line)
+number_fault after (Some z) line ws = after z ws
+
+-- the next word is a number of the header
+abbrev pub next_number_fault : (ℤ → List Word → Option ReadFault) → List Word → Option ReadFault
+next_number_fault after [] = Some NoHeader
+next_number_fault after (w ∷ ws) = number_fault after (number_of w.text) w.line ws
+
+-- no word may follow the last coordinate
+abbrev pub long_fault : List Word → Option ReadFault
+long_fault [] = None
+long_fault (w ∷ ws) = Some (Long w.line)
 
 abbrev pub is_three : ℤ → Bool
 is_three (pos n) = n == 3
@@ -32,24 +46,13 @@ is_three (negsuc n) = false
 -- a 3 that stands first is the dimension, and the other number the count
 abbrev pub headed_fault : ℤ → ℤ → List Word → Option ReadFault
 headed_fault first second ws =
-    if is_three first then counted_fault second ws
-    else if is_three second then counted_fault first ws
+    if is_three first then counted_fault long_fault second ws
+    else if is_three second then counted_fault long_fault first ws
     else Some NotThree
 
--- its second number, the line of its word, and the words after it
-abbrev pub second_fault : ℤ → Option ℤ → ℕ → List Word → Option ReadFault
-second_fault first None line ws = Some (BadNumber line)
-second_fault first (Some second) line ws = headed_fault first second ws
-
--- the first number of the header, the line of its word, and the words after it
-abbrev pub header_fault : Option ℤ → ℕ → List Word → Option ReadFault
-header_fault None line ws = Some (BadNumber line)
-header_fault (Some first) line [] = Some NoHeader
-header_fault (Some first) line (w ∷ ws) = second_fault first (number_of w.text) w.line ws
-
+-- the two numbers of the header, and then the rest
 abbrev pub words_fault : List Word → Option ReadFault
-words_fault [] = Some NoHeader
-words_fault (w ∷ ws) = header_fault (number_of w.text) w.line ws
+words_fault ws = next_number_fault (λ first. next_number_fault (headed_fault first)) ws
 
 -- the first fault; more bytes than the limit go before all others
 abbrev pub first_fault : List ℕ → Option ReadFault

@@ -6,7 +6,7 @@ use Rattle.std.specs.List.{AllByRecursion}
 use Rattle.qh_model.specs.declared.limits.TheConstants.{POINT_LIMIT, BYTE_LIMIT}
 use Rattle.qh_model.specs.headline.Vector.{Vector}
 use Rattle.qh_model.specs.headline.Limits.{IsCoordinate}
-use Rattle.qh_model.specs.headline.Words.{Word, lines_of, words_of, on_line}
+use Rattle.qh_model.specs.headline.Words.{Word, lines_of, words_of, words_from}
 use Rattle.qh_model.specs.headline.Numbers.{number_of}
 use Rattle.qh_model.specs.headline.PointFile.{coordinates}
 
@@ -15,13 +15,9 @@ abbrev pub before_hash : List ℕ → List ℕ
 before_hash [] = []
 before_hash (c ∷ cs) = if c == 35 then [] else c ∷ before_hash cs
 
-abbrev pub off_words_from : ℕ → List (List ℕ) → List Word
-off_words_from n [] = []
-off_words_from n (line ∷ lines) = on_line n (words_of (before_hash line)) ++ off_words_from (n + 1) lines
-
 -- all words that stand in no comment, in their order over the whole file
 abbrev pub off_words : List ℕ → List Word
-off_words bytes = off_words_from 1 (lines_of bytes)
+off_words bytes = words_from (λ line. words_of (before_hash line)) 1 (lines_of bytes)
 
 -- the bytes are an OFF file of these vertices, whatever its faces are
 pub record ReadsOff (bytes : List ℕ) (points : List Vector) : Type 0 where

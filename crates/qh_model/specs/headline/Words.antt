@@ -38,10 +38,11 @@ pub record Word : Type 0 where
 abbrev pub on_line : ℕ → List (List ℕ) → List Word
 on_line n ws = map (λ w. record { text = w; line = n }) ws
 
-abbrev pub words_from : ℕ → List (List ℕ) → List Word
-words_from n [] = []
-words_from n (line ∷ lines) = on_line n (before_comment (words_of line)) ++ words_from (n + 1) lines
+-- the words of lines from line n on, given which bytes of a line are words
+abbrev pub words_from : (List ℕ → List (List ℕ)) → ℕ → List (List ℕ) → List Word
+words_from parts n [] = []
+words_from parts n (line ∷ lines) = on_line n (parts line) ++ words_from parts (n + 1) lines
 
 -- all words that stand in no comment, in their order over the whole file
 abbrev pub data_words : List ℕ → List Word
-data_words bytes = words_from 1 (lines_of bytes)
+data_words bytes = words_from (λ line. before_comment (words_of line)) 1 (lines_of bytes)
