@@ -1,8 +1,7 @@
 -- A byte string has one list of points as an OFF file, or one fault.
-use Rattle.std.proofs.Common.{◌≡◌, ◌∙◌, [], ◌∷◌, ◌++◌, ◌*◌, ◌+◌, ◌≤◌, ◌⊎◌, ◌&&◌, ℕ, List, Bool, true, false, cond, refl, ap, sym, arith, zero, suc, length, map, inl, inr, subst, nat_lt}
-use Rattle.std.specs.Prelude.{ℤ, pos, negsuc, codes, Option, Some, None, nat_le}
+use Rattle.std.proofs.Common.{◌≡◌, ◌∙◌, [], ◌∷◌, ◌++◌, ◌≤◌, ◌⊎◌, ℕ, List, Bool, true, false, cond, refl, ap, sym, arith, suc, length, map, inl, inr, subst, nat_lt}
+use Rattle.std.specs.Prelude.{ℤ, pos, codes, Option, Some, None}
 use Rattle.std.specs.List.{AllByRecursion}
-use Rattle.std.specs.Option.{option_or}
 use Rattle.std.specs.Str.{bytes_eq}
 use Rattle.std.specs.Cmp.Lexicographic.{same_text}
 use Rattle.std.proofs.lemmas.Bool.Decides.{nat_tests}
@@ -14,7 +13,7 @@ use Rattle.qh_model.specs.headline.Numbers.{number_of}
 use Rattle.qh_model.specs.headline.PointFile.{coordinates}
 use Rattle.qh_model.specs.headline.OffFile.{off_words, ReadsOff}
 use Rattle.qh_model.specs.declared.read_fault.ReadFault.{ReadFault}
-use Rattle.qh_model.specs.declared.read_fault.ReadFault.TheVariants.{Count, Big, NotOff}
+use Rattle.qh_model.specs.declared.read_fault.ReadFault.TheVariants.{Big, NotOff}
 use Rattle.qh_model.specs.headline.OffFault.{counts_fault, off_words_fault, first_off_fault}
 use Rattle.qh_model.proofs.ReadingLaws.{numbers, same_some, same_points, counted, next_number, grouped, thrice, counted_clear, next_clear, not_big}
 
