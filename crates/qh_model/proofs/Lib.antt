@@ -7,6 +7,7 @@ pub mod surfaces
 pub mod closed_surfaces
 pub mod polygons
 pub mod hulls
+pub mod renamed
 pub mod board
 pub mod DistinctIds
 pub mod Cuts

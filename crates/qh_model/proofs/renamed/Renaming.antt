@@ -1,0 +1,139 @@
+-- A set of ids renamed in its order, each with its point: its extreme ids and its dimension.
+use Rattle.std.proofs.Common.{◌≡◌, ℕ, ◌<◌, arith, sym, ap, subst, ◌∙◌, inl, inr}
+use Rattle.std.specs.Prelude.{ℤ}
+use Rattle.qh_model.specs.headline.Vector.{Vector}
+use Rattle.qh_model.specs.headline.Predicates.{vol, AreInLine}
+use Rattle.qh_model.specs.headline.Combination.{Combination, IsBalanced}
+use Rattle.qh_model.specs.headline.Dimension.{HasTetrahedron, HasTriangle, HasSegment, IsDimension}
+use Rattle.qh_model.specs.headline.Extreme.{Others, Extreme}
+
+-- f names each id of A by one of B, g back, with the same points and in the same order
+pub record IsRenaming (at at' : ℕ → Vector) (A B : ℕ → Type 0) (f g : ℕ → ℕ) : Type 0 where
+  pub to : (i : ℕ) → A i → B (f i)
+  pub from : (k : ℕ) → B k → A (g k)
+  pub over : (i : ℕ) → A i → g (f i) ≡ i
+  pub under : (k : ℕ) → B k → f (g k) ≡ k
+  pub point : (i : ℕ) → A i → at' (f i) ≡ at i
+  pub rises : (i j : ℕ) → A i → A j → i < j → f i < f j
+
+-- along one coordinate, with other names of the same numbers
+balanced_as : (w1 w2 w3 w4 : ℕ) (p a b c d a' b' c' d' : ℤ) → a' ≡ a → b' ≡ b → c' ≡ c → d' ≡ d → IsBalanced w1 w2 w3 w4 p a b c d → IsBalanced w1 w2 w3 w4 p a' b' c' d'
+balanced_as w1 w2 w3 w4 p a b c d a' b' c' d' e f g h m = cc
+
+-- a volume of the same points
+pub volume_as : (p q u v p' q' u' v' : Vector) → p' ≡ p → q' ≡ q → u' ≡ u → v' ≡ v → vol p' q' u' v' ≡ vol p q u v
+volume_as p q u v p' q' u' v' d e f g = cc
+
+module _ (at at' : ℕ → Vector) (A B : ℕ → Type 0) (f g : ℕ → ℕ) (r : IsRenaming at at' A B f g) where
+  -- two ids with one name are one
+  pub renaming_apart : (i j : ℕ) → A i → A j → f i ≡ f j → i ≡ j
+  renaming_apart i j a b e = sym (r.over i a) ∙ ap g e ∙ r.over j b
+
+  -- the names in order are of ids in order
+  pub renaming_falls : (i j : ℕ) → A i → A j → f i < f j → i < j
+  renaming_falls i j a b h =
+      let above : j < i → f j < f i = r.rises j i b a in
+      let same : j ≡ i → f j ≡ f i = ap f in
+      grind (arith, above, same, h)
+
+  -- the names back to the ids
+  pub renaming_back : IsRenaming at' at B A g f
+  renaming_back = record {
+    to = r.from;
+    from = r.to;
+    over = r.under;
+    under = r.over;
+    point = λ k b. sym (r.point (g k) (r.from k b)) ∙ ap at' (r.under k b);
+    rises = λ k l b c h. renaming_falls (g k) (g l) (r.from k b) (r.from l c) (subst (λ (n : ℕ). n < f (g l)) (sym (r.under k b)) (subst (λ (n : ℕ). k < n) (sym (r.under l c)) h));
+  }
+
+  -- a combination of members is one of their names
+  pub combination_renamed : (C D : ℕ → Type 0) → ((j : ℕ) → C j → A j) → ((j : ℕ) → C j → D (f j)) → (p : Vector) → Combination at C p → Combination at' D p
+  combination_renamed C D within named p c = record {
+    a = f c.a;
+    b = f c.b;
+    c = f c.c;
+    d = f c.d;
+    has_a = named c.a c.has_a;
+    has_b = named c.b c.has_b;
+    has_c = named c.c c.has_c;
+    has_d = named c.d c.has_d;
+    w1 = c.w1;
+    w2 = c.w2;
+    w3 = c.w3;
+    w4 = c.w4;
+    some_weight = c.some_weight;
+    x = along (λ v. v.x) p.x c.x;
+    y = along (λ v. v.y) p.y c.y;
+    z = along (λ v. v.z) p.z c.z;
+  }
+    where
+      same : (j : ℕ) → C j → at' (f j) ≡ at j
+      same j h = r.point j (within j h)
+
+      along : (h : Vector → ℤ) (m : ℤ) → IsBalanced c.w1 c.w2 c.w3 c.w4 m (h (at c.a)) (h (at c.b)) (h (at c.c)) (h (at c.d))
+          → IsBalanced c.w1 c.w2 c.w3 c.w4 m (h (at' (f c.a))) (h (at' (f c.b))) (h (at' (f c.c))) (h (at' (f c.d)))
+      along h m = balanced_as c.w1 c.w2 c.w3 c.w4 m _ _ _ _ _ _ _ _ (ap h (same c.a c.has_a)) (ap h (same c.b c.has_b)) (ap h (same c.c c.has_c)) (ap h (same c.d c.has_d))
+
+  -- four members that are not in one plane
+  tetrahedron_renamed : HasTetrahedron at A → HasTetrahedron at' B
+  tetrahedron_renamed t =
+      record {
+        i = f t.i;
+        j = f t.j;
+        k = f t.k;
+        l = f t.l;
+        has_i = r.to t.i t.has_i;
+        has_j = r.to t.j t.has_j;
+        has_k = r.to t.k t.has_k;
+        has_l = r.to t.l t.has_l;
+        volume = λ e. t.volume (sym (volume_as _ _ _ _ _ _ _ _ (r.point t.i t.has_i) (r.point t.j t.has_j) (r.point t.k t.has_k) (r.point t.l t.has_l)) ∙ e);
+      }
+
+  -- three points in line by their names
+  pub in_line_renamed : (i j k : ℕ) → A i → A j → A k → AreInLine (at' (f i)) (at' (f j)) (at' (f k)) → AreInLine (at i) (at j) (at k)
+  in_line_renamed i j k a b c h =
+      subst (λ p. AreInLine p (at j) (at k)) (r.point i a) (subst (λ p. AreInLine (at' (f i)) p (at k)) (r.point j b) (subst (λ p. AreInLine (at' (f i)) (at' (f j)) p) (r.point k c) h))
+
+  -- three that are not in one line
+  triangle_renamed : HasTriangle at A → HasTriangle at' B
+  triangle_renamed t = record {
+    i = f t.i;
+    j = f t.j;
+    k = f t.k;
+    has_i = r.to t.i t.has_i;
+    has_j = r.to t.j t.has_j;
+    has_k = r.to t.k t.has_k;
+    area = λ e. t.area (in_line_renamed t.i t.j t.k t.has_i t.has_j t.has_k e);
+  }
+
+  -- two that differ
+  segment_renamed : HasSegment A → HasSegment B
+  segment_renamed s =
+      record { i = f s.i; j = f s.j; has_i = r.to s.i s.has_i; has_j = r.to s.j s.has_j; differ = λ e. s.differ (renaming_apart s.i s.j s.has_i s.has_j e) }
+
+-- an extreme id is extreme by its name
+pub extreme_renamed : (at at' : ℕ → Vector) (A B : ℕ → Type 0) (f g : ℕ → ℕ) → IsRenaming at at' A B f g → (i : ℕ) → Extreme at A i → Extreme at' B (f i)
+extreme_renamed at at' A B f g r i h =
+    (r.to i h.0, λ m. h.1 (subst (Combination at (Others A i)) (r.point i h.0)
+    (combination_renamed at' at B A g f (renaming_back at at' A B f g r) (Others B (f i)) (Others A i) (λ j o. o.0) (λ j o. (r.from j o.0, λ e. o.1 (sym (r.under j o.0) ∙ ap f e))) (at' (f i)) m)))
+
+-- the names of the extreme ids
+pub extremes_renamed : (at at' : ℕ → Vector) (A B : ℕ → Type 0) (f g : ℕ → ℕ) → IsRenaming at at' A B f g → IsRenaming at at' (Extreme at A) (Extreme at' B) f g
+extremes_renamed at at' A B f g r = record {
+  to = extreme_renamed at at' A B f g r;
+  from = extreme_renamed at' at B A g f (renaming_back at at' A B f g r);
+  over = λ i h. r.over i h.0;
+  under = λ k h. r.under k h.0;
+  point = λ i h. r.point i h.0;
+  rises = λ i j h k. r.rises i j h.0 k.0;
+}
+
+-- the dimension stays
+pub dimension_renamed : (at at' : ℕ → Vector) (A B : ℕ → Type 0) (f g : ℕ → ℕ) → IsRenaming at at' A B f g → (k : ℕ) → IsDimension at A k → IsDimension at' B k
+dimension_renamed at at' A B f g r k (inl (e, t)) = inl (e, tetrahedron_renamed at at' A B f g r t)
+dimension_renamed at at' A B f g r k (inr (inl (e, t, n))) =
+    inr (inl (e, triangle_renamed at at' A B f g r t, λ h. n (tetrahedron_renamed at' at B A g f (renaming_back at at' A B f g r) h)))
+dimension_renamed at at' A B f g r k (inr (inr (inl (e, s, n)))) =
+    inr (inr (inl (e, segment_renamed at at' A B f g r s, λ h. n (triangle_renamed at' at B A g f (renaming_back at at' A B f g r) h))))
+dimension_renamed at at' A B f g r k (inr (inr (inr (e, n)))) = inr (inr (inr (e, λ h. n (segment_renamed at' at B A g f (renaming_back at at' A B f g r) h))))
