@@ -2,3 +2,4 @@
 pub mod Renaming
 pub mod Lists
 pub mod Faces
+pub mod Positions
