@@ -60,6 +60,11 @@ number_rises xs rise i j m n h =
         grind (arith, e, d, up, same, h)
 
 -- ---- the points at the positions
+-- the point at a member's position is its own
+pub point_at : (pts : List Vector) (xs : List ℕ) (i : ℕ) → In i xs → place (map (place pts) xs) (vertex_number xs i) ≡ place pts i
+unfolding place
+point_at pts xs i m = let r = at_number xs i m in get_or-map (place pts) xs (vertex_number xs i) 0 origin r.0 ∙ ap (place pts) r.1
+
 module _ (pts : List Vector) (A : ℕ → Type 0) (xs : List ℕ) (rising : IsStrictlyIncreasing xs) (members : (i : ℕ) → In i xs ↔ A i) where
   -- they are the numbers below the length
   position_below : (k : ℕ) → In k (map (vertex_number xs) xs) → k < length xs
@@ -68,11 +73,6 @@ module _ (pts : List Vector) (A : ℕ → Type 0) (xs : List ℕ) (rising : IsSt
   position_of : (k : ℕ) → k < length xs → In k (map (vertex_number xs) xs)
   position_of k h = subst (λ n. In n (map (vertex_number xs) xs)) (number_at xs k (rising_once xs rising) h) (in_map (vertex_number xs) xs (get_or xs k 0) (In-get_or xs k 0 h))
 
-  -- the point at a position
-  point_at : (i : ℕ) → In i xs → place (map (place pts) xs) (vertex_number xs i) ≡ place pts i
-  unfolding place
-  point_at i m = let r = at_number xs i m in get_or-map (place pts) xs (vertex_number xs i) 0 origin r.0 ∙ ap (place pts) r.1
-
   -- the members are renamed
   by_position : IsRenaming (place pts) (place (map (place pts) xs)) A (Members (map (vertex_number xs) xs)) (vertex_number xs) (λ k. get_or xs k 0)
   by_position = record {
@@ -80,7 +80,7 @@ module _ (pts : List Vector) (A : ℕ → Type 0) (xs : List ℕ) (rising : IsSt
     from = λ k m. (members (get_or xs k 0)).0 (In-get_or xs k 0 (position_below k m));
     over = λ i a. (at_number xs i ((members i).1 a)).1;
     under = λ k m. number_at xs k (rising_once xs rising) (position_below k m);
-    point = λ i a. point_at i ((members i).1 a);
+    point = λ i a. point_at pts xs i ((members i).1 a);
     rises = λ i j a b h. number_rises xs rising i j ((members i).1 a) ((members j).1 b) h;
   }
 

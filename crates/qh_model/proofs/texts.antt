@@ -1,0 +1,2 @@
+-- Texts: what they say when they are read.
+pub mod RenamedTexts
