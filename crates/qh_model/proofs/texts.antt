@@ -1,2 +1,3 @@
 -- Texts: what they say when they are read.
 pub mod RenamedTexts
+pub mod Decimals
