@@ -1,3 +1,4 @@
 -- Texts: what they say when they are read.
 pub mod RenamedTexts
 pub mod Decimals
+pub mod Lines
