@@ -2,3 +2,4 @@
 pub mod RenamedTexts
 pub mod Decimals
 pub mod Lines
+pub mod OffTexts

@@ -90,12 +90,11 @@ last_word (c ∷ w) h = ap (filter is_word) (split_whole is_blank (c ∷ w) (num
 -- ---- lines of three numbers
 -- three words with a blank between
 abbrev pub three : List ℕ → List ℕ → List ℕ → List ℕ
-three u v w = u ++ 32 ∷ (v ++ 32 ∷ w)
+three u v w = u ++ 32 ∷ v ++ 32 ∷ w
 
 three_clear : (p : ℕ → Bool) → ((c : ℕ) → IsOfNumber c → p c ≡ false) → p 32 ≡ false → (u v w : List ℕ) → IsNumberWord u → IsNumberWord v → IsNumberWord w → Clear p (three u v w)
 three_clear p f blank u v w a b c =
-    let tail : Clear p (v ++ 32 ∷ w) = every_append (λ k. p k ≡ false) v (32 ∷ w) (number_clear p f v b) (blank, number_clear p f w c) in
-    every_append (λ k. p k ≡ false) u (32 ∷ (v ++ 32 ∷ w)) (number_clear p f u a) (blank, tail)
+    every_append (λ k. p k ≡ false) (u ++ 32 ∷ v) (32 ∷ w) (every_append (λ k. p k ≡ false) u (32 ∷ v) (number_clear p f u a) (blank, number_clear p f v b)) (blank, number_clear p f w c)
 
 -- they stand in one line
 pub three_in_line : (u v w : List ℕ) → IsNumberWord u → IsNumberWord v → IsNumberWord w → Clear ends_line (three u v w)
@@ -105,5 +104,6 @@ three_in_line = three_clear ends_line not_end refl
 pub three_words : (u v w : List ℕ) → IsNumberWord u → IsNumberWord v → IsNumberWord w → words_of (before_hash (three u v w)) ≡ u ∷ v ∷ w ∷ []
 three_words u v w a b c =
     ap words_of (before_hash_clear (three u v w) (three_clear is_hash not_hash refl u v w a b c))
+    ∙ ap words_of (append_assoc u (32 ∷ v) (32 ∷ w))
     ∙ first_word u (v ++ 32 ∷ w) a
     ∙ ap (λ (t : List (List ℕ)). u ∷ t) (first_word v w b ∙ ap (λ (t : List (List ℕ)). v ∷ t) (last_word w c))

@@ -1,0 +1,108 @@
+-- The text of vertices and faces, read as an OFF file.
+use Rattle.std.proofs.Common.{◌≡◌, ℕ, suc, ◌+◌, ◌<◌, ◌≤◌, ◌^◌, refl, List, [], ◌∷◌, ◌++◌, length, map, append_assoc, arith, sym, ap, ap₂, subst, ◌∙◌, decimal}
+use Rattle.std.proofs.lemmas.List.{map-append}
+use Rattle.std.specs.Prelude.{ℤ, pos, codes, Option, Some, unsigned_abs}
+use Rattle.std.specs.Fmt.{signed_decimal}
+use Rattle.std.specs.List.{AllByRecursion as Every, flat_map}
+use Rattle.qh_model.specs.declared.limits.TheConstants.{POINT_LIMIT, BYTE_LIMIT, COORDINATE_LIMIT}
+use Rattle.qh_model.specs.headline.Vector.{Vector}
+use Rattle.qh_model.specs.headline.Limits.{IsCoordinate}
+use Rattle.qh_model.specs.headline.Words.{Word, lines_of, words_of, on_line, words_from}
+use Rattle.qh_model.specs.headline.Numbers.{read_digits, number_of}
+use Rattle.qh_model.specs.headline.PointFile.{coordinates}
+use Rattle.qh_model.specs.headline.OffFile.{before_hash, off_words, ReadsOff}
+use Rattle.qh_model.specs.headline.Text.{line, spaced, vertex_text}
+use Rattle.qh_model.proofs.texts.Decimals.{decimal_digits, number_of_digits, number_of_decimal, number_of_signed, decimal_word, signed_word}
+use Rattle.qh_model.proofs.texts.Lines.{ends_line, Clear, first_line, joined_lines, words_from-append, three, three_in_line, three_words}
+
+-- the words of a line that stand in no comment
+abbrev parts : List ℕ → List (List ℕ)
+parts l = words_of (before_hash l)
+
+-- ---- lines
+-- the line of a vertex
+abbrev vertex_line : Vector → List ℕ
+vertex_line p = three (signed_decimal p.x) (signed_decimal p.y) (signed_decimal p.z)
+
+-- its words
+vertex_words : (p : Vector) → parts (vertex_line p) ≡ signed_decimal p.x ∷ signed_decimal p.y ∷ signed_decimal p.z ∷ []
+vertex_words p = three_words (signed_decimal p.x) (signed_decimal p.y) (signed_decimal p.z) (signed_word p.x) (signed_word p.y) (signed_word p.z)
+
+-- the line of the counts
+abbrev counts_line : ℕ → ℕ → ℕ → List ℕ
+counts_line m f e = decimal m ++ spaced f ++ spaced e
+
+counts_words : (m f e : ℕ) → parts (counts_line m f e) ≡ decimal m ∷ decimal f ∷ decimal e ∷ []
+counts_words m f e = three_words (decimal m) (decimal f) (decimal e) (decimal_word m) (decimal_word f) (decimal_word e)
+
+-- the text of vertices and of faces, of which only the number is told
+abbrev pub surface_text : List Vector → ℕ → ℕ → List ℕ → List ℕ
+surface_text ps faces edges rest = line (codes "OFF") ++ line (counts_line (length ps) faces edges) ++ flat_map vertex_text ps ++ rest
+
+-- its lines
+lines_of_surface : (ps : List Vector) (faces edges : ℕ) (rest : List ℕ)
+    → lines_of (surface_text ps faces edges rest) ≡ codes "OFF" ∷ counts_line (length ps) faces edges ∷ (map vertex_line ps ++ lines_of rest)
+lines_of_surface ps faces edges rest =
+    ap lines_of (append_assoc (line (codes "OFF") ++ line counts) (flat_map vertex_text ps) rest ∙ append_assoc (line (codes "OFF")) (line counts) (flat_map vertex_text ps ++ rest))
+    ∙ first_line (codes "OFF") (line counts ++ (flat_map vertex_text ps ++ rest)) (refl, (refl, (refl, tt)))
+    ∙ ap (λ (t : List (List ℕ)). codes "OFF" ∷ t)
+    (first_line counts (flat_map vertex_text ps ++ rest) (three_in_line (decimal (length ps)) (decimal faces) (decimal edges) (decimal_word (length ps)) (decimal_word faces) (decimal_word edges))
+    ∙ ap (λ (t : List (List ℕ)). counts ∷ t)
+    (joined_lines vertex_line ps rest (λ p. three_in_line (signed_decimal p.x) (signed_decimal p.y) (signed_decimal p.z) (signed_word p.x) (signed_word p.y) (signed_word p.z))))
+  where
+    counts : List ℕ
+    counts = counts_line (length ps) faces edges
+
+-- ---- words
+-- the first three numbers, and those of the vertices
+abbrev numbered_words : List Vector → ℕ → ℕ → List Word
+numbered_words ps faces edges = on_line 2 (decimal (length ps) ∷ decimal faces ∷ decimal edges ∷ []) ++ words_from parts 3 (map vertex_line ps)
+
+-- the words of the text
+words_of_surface : (ps : List Vector) (faces edges : ℕ) (rest : List ℕ)
+    → off_words (surface_text ps faces edges rest)
+    ≡ record { text = codes "OFF"; line = 1 } ∷ numbered_words ps faces edges ++ words_from parts (3 + length (map vertex_line ps)) (lines_of rest)
+words_of_surface ps faces edges rest =
+    ap (words_from parts 1) (lines_of_surface ps faces edges rest)
+    ∙ ap (λ (t : List Word). record { text = codes "OFF"; line = 1 } ∷ t)
+    (ap₂ (λ (a : List (List ℕ)) (b : List Word). on_line 2 a ++ b) (counts_words (length ps) faces edges) (words_from-append parts 3 (map vertex_line ps) (lines_of rest)))
+
+-- ---- numbers
+-- a coordinate is small enough to be written
+number_of_coordinate : (z : ℤ) → IsCoordinate z → number_of (signed_decimal z) ≡ Some z
+number_of_coordinate z h = number_of_signed z (omega (arith, h))
+
+-- the words of the vertices are their coordinates
+vertex_numbers : (ps : List Vector) (n : ℕ) → Every IsCoordinate (coordinates ps) → map (λ w. number_of w.text) (words_from parts n (map vertex_line ps)) ≡ map Some (coordinates ps)
+vertex_numbers [] n h = refl
+vertex_numbers (p ∷ ps) n h =
+    let x = number_of_coordinate p.x h.0 in
+    let y = number_of_coordinate p.y h.1.0 in
+    let z = number_of_coordinate p.z h.1.1.0 in
+    let rest = vertex_numbers ps (n + 1) h.1.1.1 in
+    ap (λ (t : List (List ℕ)). map (λ (w : Word). number_of w.text) (on_line n t ++ words_from parts (n + 1) (map vertex_line ps))) (vertex_words p)
+    ∙ cc (x, y, z, rest)
+
+-- ---- the reading
+-- the text of vertices in range is an OFF file of them, whatever its faces are
+pub reads_surface : (ps : List Vector) (faces edges : ℕ) (rest : List ℕ) → 1 ≤ length ps → length ps ≤ POINT_LIMIT → Every IsCoordinate (coordinates ps)
+    → length (surface_text ps faces edges rest) ≤ BYTE_LIMIT → ReadsOff (surface_text ps faces edges rest) ps
+reads_surface ps faces edges rest some few limit small =
+    let count : number_of (decimal (length ps)) ≡ Some (pos (length ps)) = number_of_decimal (length ps) (omega (arith, few)) in
+    let second : number_of (decimal faces) ≡ Some (pos (read_digits 0 (decimal faces))) = number_of_digits (decimal faces) (decimal_digits faces) in
+    let third : number_of (decimal edges) ≡ Some (pos (read_digits 0 (decimal edges))) = number_of_digits (decimal edges) (decimal_digits edges) in
+    let vertices = vertex_numbers ps 3 limit in
+    record {
+      small = small;
+      keyword = record { text = codes "OFF"; line = 1 };
+      numbered = numbered_words ps faces edges;
+      rest = words_from parts (3 + length (map vertex_line ps)) (lines_of rest);
+      words = words_of_surface ps faces edges rest;
+      is_off = refl;
+      faces = pos (read_digits 0 (decimal faces));
+      edges = pos (read_digits 0 (decimal edges));
+      numbers = cc (count, second, third, vertices);
+      some = some;
+      few = few;
+      limit = limit;
+    }
