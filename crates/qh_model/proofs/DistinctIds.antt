@@ -29,13 +29,17 @@ rising_least xs r (suc k) h =
     let next : get_or xs k 0 < get_or xs (k + 1) 0 = r k (omega arith) in
     rw (← add-one k) (let up : k + 1 ≤ get_or xs (k + 1) 0 = omega (arith, before, next) in up)
 
--- there are at most as many as points
-pub few_ids : (pts : List Vector) (ids : List ℕ) → AreDistinctIds pts ids → length ids ≤ length pts
-few_ids pts [] d = omega arith
-few_ids pts (i ∷ ids) d =
-    let last : length ids ≤ get_or (i ∷ ids) (length ids) 0 = rising_least (i ∷ ids) d.rising (length ids) (omega arith) in
-    let small : get_or (i ∷ ids) (length ids) 0 < length pts = ((d.members (get_or (i ∷ ids) (length ids) 0)).0 (In-get_or (i ∷ ids) (length ids) 0 (omega arith))).0 in
+-- there are at most n rising numbers below n
+pub few_below : (n : ℕ) (xs : List ℕ) → IsStrictlyIncreasing xs → ((i : ℕ) → In i xs → i < n) → length xs ≤ n
+few_below n [] r below = omega arith
+few_below n (x ∷ xs) r below =
+    let last : length xs ≤ get_or (x ∷ xs) (length xs) 0 = rising_least (x ∷ xs) r (length xs) (omega arith) in
+    let small : get_or (x ∷ xs) (length xs) 0 < n = below _ (In-get_or (x ∷ xs) (length xs) 0 (omega arith)) in
     omega (arith, last, small)
+
+-- so at most as many distinct ids as points
+pub few_ids : (pts : List Vector) (ids : List ℕ) → AreDistinctIds pts ids → length ids ≤ length pts
+few_ids pts ids d = few_below (length pts) ids d.rising (λ i m. ((d.members i).0 m).0)
 
 -- they have distinct points
 pub distinct_apart : (pts : List Vector) (ids : List ℕ) → AreDistinctIds pts ids → HasDistinctPoints (place pts) (Members ids)

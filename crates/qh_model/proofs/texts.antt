@@ -3,3 +3,4 @@ pub mod RenamedTexts
 pub mod Decimals
 pub mod Lines
 pub mod OffTexts
+pub mod RoundTrip

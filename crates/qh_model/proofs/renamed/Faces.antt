@@ -196,7 +196,7 @@ module _ (at at' : ℕ → Vector) (A B : ℕ → Type 0) (f g : ℕ → ℕ) (r
               (o.1, o.0, (lower o.1 o.0 (within q i o.1 e.1) (within q i o.0 e.0) o.4 o.3, (q, i, inr o.2)), o.4, o.3)
 
   -- their number stays
-  edge_count_renamed : (qs : List (List ℕ)) (n : ℕ) → ((q : List ℕ) → In q qs → (i : ℕ) → In i q → A i) → IsEdgeCount qs n → IsEdgeCount (map (map f) qs) n
+  pub edge_count_renamed : (qs : List (List ℕ)) (n : ℕ) → ((q : List ℕ) → In q qs → (i : ℕ) → In i q → A i) → IsEdgeCount qs n → IsEdgeCount (map (map f) qs) n
   edge_count_renamed qs n within c = record {
     list = map both c.list;
     once = once_map both c.list (λ p q i j e. same p q (edge p i) (edge q j) e) c.once;

@@ -74,7 +74,7 @@ module _ (pts : List Vector) (A : ℕ → Type 0) (xs : List ℕ) (rising : IsSt
   position_of k h = subst (λ n. In n (map (vertex_number xs) xs)) (number_at xs k (rising_once xs rising) h) (in_map (vertex_number xs) xs (get_or xs k 0) (In-get_or xs k 0 h))
 
   -- the members are renamed
-  by_position : IsRenaming (place pts) (place (map (place pts) xs)) A (Members (map (vertex_number xs) xs)) (vertex_number xs) (λ k. get_or xs k 0)
+  pub by_position : IsRenaming (place pts) (place (map (place pts) xs)) A (Members (map (vertex_number xs) xs)) (vertex_number xs) (λ k. get_or xs k 0)
   by_position = record {
     to = λ i a. in_map (vertex_number xs) xs i ((members i).1 a);
     from = λ k m. (members (get_or xs k 0)).0 (In-get_or xs k 0 (position_below k m));

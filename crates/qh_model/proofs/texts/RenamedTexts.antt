@@ -1,13 +1,14 @@
 -- The text of faces, of the points of the extreme ids, is that of the set.
 use Rattle.std.proofs.Common.{◌≡◌, ℕ, suc, Bool, true, false, cond, refl, List, [], ◌∷◌, ◌++◌, length, map, sym, ap, ap₂, ◌∙◌, inl, inr, eqb-true, eq-eqb, ne_eqb, get_or, decimal}
 use Rattle.std.proofs.lemmas.Bool.{eqb-false}
-use Rattle.std.proofs.lemmas.List.{length-map}
+use Rattle.std.proofs.lemmas.List.{length-map, map-append}
 use Rattle.std.proofs.lemmas.List.Folds.{flat_map-map}
 use Rattle.std.specs.Prelude.{◌==◌}
 use Rattle.std.specs.List.{flat_map}
 use Rattle.qh_model.specs.headline.Vector.{Vector}
 use Rattle.qh_model.specs.headline.Predicates.{place}
 use Rattle.qh_model.specs.headline.Sets.{In}
+use Rattle.qh_model.specs.headline.Fan.{triangles_along, fan, fans, edge_count}
 use Rattle.qh_model.specs.headline.Hull.{BodyValue}
 use Rattle.qh_model.specs.headline.Text.{line, spaced, vertex_number, vertex_text, face_text, off_text}
 use Rattle.qh_model.proofs.renamed.Faces.{renamed_body}
@@ -59,3 +60,19 @@ off_text_renamed pts b within = cc (counts, faces_count, vertices, faces)
 
     faces : flat_map (face_text (map (vertex_number xs) xs)) (map (map (vertex_number xs)) b.polygons) ≡ flat_map (face_text xs) b.polygons
     faces = flat_map-map (face_text (map (vertex_number xs) xs)) (map (vertex_number xs)) b.polygons ∙ flat_map_same _ _ b.polygons (λ q m. face_text_renamed xs q (within q m))
+
+-- ---- the same in triangles
+-- triangles by other names
+triangles_along-map : (f : ℕ → ℕ) (t u : ℕ) (r : List ℕ) → triangles_along (f t) (f u) (map f r) ≡ map (map f) (triangles_along t u r)
+triangles_along-map f t u [] = refl
+triangles_along-map f t u (v ∷ r) = ap (λ (ts : List (List ℕ)). (f t ∷ f u ∷ f v ∷ []) ∷ ts) (triangles_along-map f t v r)
+
+fan-map : (f : ℕ → ℕ) (q : List ℕ) → fan (map f q) ≡ map (map f) (fan q)
+fan-map f [] = refl
+fan-map f (a ∷ []) = refl
+fan-map f (a ∷ b ∷ []) = refl
+fan-map f (a ∷ b ∷ c ∷ r) = triangles_along-map f a b (c ∷ r)
+
+pub fans-map : (f : ℕ → ℕ) (qs : List (List ℕ)) → fans (map (map f) qs) ≡ map (map f) (fans qs)
+fans-map f [] = refl
+fans-map f (q ∷ qs) = ap₂ (λ (a b : List (List ℕ)). a ++ b) (fan-map f q) (fans-map f qs) ∙ sym (map-append (map f) (fan q) (fans qs))
