@@ -40,9 +40,10 @@ module _ (at at' : ℕ → Vector) (A B : ℕ → Type 0) (f g : ℕ → ℕ) (r
   -- a list has the members of a part of A: its image has their names
   members_renamed : (X Y : ℕ → Type 0) (q : List ℕ) → ((i : ℕ) → X i → Y (f i)) → ((k : ℕ) → Y k → B k) → ((k : ℕ) → Y k → X (g k))
       → ((i : ℕ) → (In i q → X i) × (X i → In i q)) → (k : ℕ) → (In k (map f q) → Y k) × (Y k → In k (map f q))
-  members_renamed X Y q named within back members k =
-      (λ m. let s = of_map f q k m in subst Y (sym s.2) (named s.0 ((members s.0).0 s.1)),
-       λ y. subst (λ n. In n (map f q)) (r.under k (within k y)) (in_map f q (g k) ((members (g k)).1 (back k y))))
+  members_renamed X Y q named within back members k = (
+    λ m. let s = of_map f q k m in subst Y (sym s.2) (named s.0 ((members s.0).0 s.1)),
+    λ y. subst (λ n. In n (map f q)) (r.under k (within k y)) (in_map f q (g k) ((members (g k)).1 (back k y))),
+  )
 
   -- the polygon of a part of A
   polygon_renamed : (X Y : ℕ → Type 0) (n m : Vector) (q : List ℕ) → n ≡ m → ((i : ℕ) → X i → A i) → ((i : ℕ) → X i → Y (f i)) → ((k : ℕ) → Y k → B k) → ((k : ℕ) → Y k → X (g k))
@@ -78,8 +79,10 @@ module _ (at at' : ℕ → Vector) (A B : ℕ → Type 0) (f g : ℕ → ℕ) (r
       (λ l h. h.0.0)
       (λ l h. (extreme_renamed at at' A B f g r l h.0, volume_as _ _ _ _ _ _ _ _ (r.point i a) (r.point j b) (r.point k c) (r.point l h.0.0) ∙ h.1))
       (λ l h. h.0.0)
-      (λ l h. (extreme_renamed at' at B A g f (renaming_back at at' A B f g r) l h.0,
-               sym (volume_as _ _ _ _ _ _ _ _ (r.point i a) (r.point j b) (r.point k c) (ap at' (sym (r.under l h.0.0)) ∙ r.point (g l) (r.from l h.0.0))) ∙ h.1))
+      (λ l h. (
+        extreme_renamed at' at B A g f (renaming_back at at' A B f g r) l h.0,
+        sym (volume_as _ _ _ _ _ _ _ _ (r.point i a) (r.point j b) (r.point k c) (ap at' (sym (r.under l h.0.0)) ∙ r.point (g l) (r.from l h.0.0))) ∙ h.1,
+      ))
       p
 
   -- the polygons

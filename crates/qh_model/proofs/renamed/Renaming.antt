@@ -114,9 +114,11 @@ module _ (at at' : ℕ → Vector) (A B : ℕ → Type 0) (f g : ℕ → ℕ) (r
 
 -- an extreme id is extreme by its name
 pub extreme_renamed : (at at' : ℕ → Vector) (A B : ℕ → Type 0) (f g : ℕ → ℕ) → IsRenaming at at' A B f g → (i : ℕ) → Extreme at A i → Extreme at' B (f i)
-extreme_renamed at at' A B f g r i h =
-    (r.to i h.0, λ m. h.1 (subst (Combination at (Others A i)) (r.point i h.0)
-    (combination_renamed at' at B A g f (renaming_back at at' A B f g r) (Others B (f i)) (Others A i) (λ j o. o.0) (λ j o. (r.from j o.0, λ e. o.1 (sym (r.under j o.0) ∙ ap f e))) (at' (f i)) m)))
+extreme_renamed at at' A B f g r i h = (
+  r.to i h.0,
+  λ m. h.1 (subst (Combination at (Others A i)) (r.point i h.0)
+      (combination_renamed at' at B A g f (renaming_back at at' A B f g r) (Others B (f i)) (Others A i) (λ j o. o.0) (λ j o. (r.from j o.0, λ e. o.1 (sym (r.under j o.0) ∙ ap f e))) (at' (f i)) m)),
+)
 
 -- the names of the extreme ids
 pub extremes_renamed : (at at' : ℕ → Vector) (A B : ℕ → Type 0) (f g : ℕ → ℕ) → IsRenaming at at' A B f g → IsRenaming at at' (Extreme at A) (Extreme at' B) f g

@@ -102,7 +102,8 @@ extreme_points_have_text pts h out text s o t = record {
 -- the law
 pub is_written_again : IsWrittenAgain
 is_written_again pts out text c o t small =
-    let same : text ≡ output_text t.hull pts out = t.is ∙ append-nil (output_text t.hull pts out) in
-    (extreme_points pts t.hull,
-     subst (λ bytes. ReadsOff bytes (extreme_points pts t.hull)) (sym same) (is_read_as_extreme_points pts t.hull out c t.right o (subst (λ bytes. length bytes ≤ BYTE_LIMIT) same small)),
-     extreme_points_have_text pts t.hull out text t.right o t)
+    let same : text ≡ output_text t.hull pts out = t.is ∙ append-nil (output_text t.hull pts out) in (
+      extreme_points pts t.hull,
+      subst (λ bytes. ReadsOff bytes (extreme_points pts t.hull)) (sym same) (is_read_as_extreme_points pts t.hull out c t.right o (subst (λ bytes. length bytes ≤ BYTE_LIMIT) same small)),
+      extreme_points_have_text pts t.hull out text t.right o t,
+    )
