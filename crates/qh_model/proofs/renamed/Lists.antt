@@ -46,6 +46,10 @@ of_follows_map f u v [] h = absurd h
 of_follows_map f u v (t ∷ r) h = let s = of_along_map f u v t r t h in (s.a, s.b, s.follows, s.first, s.second)
 
 -- ---- images under a function that rises on a set
+-- each member of each list is one of A
+abbrev pub AreWithin : (ℕ → Type 0) → List (List ℕ) → Type 0
+AreWithin A qs = (q : List ℕ) → In q qs → (i : ℕ) → In i q → A i
+
 module _ (A : ℕ → Type 0) (f : ℕ → ℕ) (rises : (i j : ℕ) → A i → A j → i < j → f i < f j) where
   -- the least stays first
   pub least_map : (q : List ℕ) → ((i : ℕ) → In i q → A i) → BeginsWithLeast q → BeginsWithLeast (map f q)
@@ -67,12 +71,12 @@ module _ (A : ℕ → Type 0) (f : ℕ → ℕ) (rises : (i j : ℕ) → A i →
   before_map (u ∷ p) (v ∷ q) a b (inl h) = inl (rises u v (a u (inl refl)) (b v (inl refl)) h)
   before_map (u ∷ p) (v ∷ q) a b (inr h) = inr (ap f h.0, before_map p q (λ i m. a i (inr m)) (λ i m. b i (inr m)) h.1)
 
-  rises_map : (q : List ℕ) (ps : List (List ℕ)) → ((i : ℕ) → In i q → A i) → ((p : List ℕ) → In p ps → (i : ℕ) → In i p → A i) → RisesFrom q ps → RisesFrom (map f q) (map (map f) ps)
+  rises_map : (q : List ℕ) (ps : List (List ℕ)) → ((i : ℕ) → In i q → A i) → AreWithin A ps → RisesFrom q ps → RisesFrom (map f q) (map (map f) ps)
   rises_map q [] a b h = tt
   rises_map q (p ∷ ps) a b h = (before_map q p a (b p (inl refl)) h.0, rises_map p ps (b p (inl refl)) (λ t i. b t (inr i)) h.1)
 
   -- lists of lists go on rising
-  pub rise_map : (qs : List (List ℕ)) → ((q : List ℕ) → In q qs → (i : ℕ) → In i q → A i) → RiseStrictly qs → RiseStrictly (map (map f) qs)
+  pub rise_map : (qs : List (List ℕ)) → AreWithin A qs → RiseStrictly qs → RiseStrictly (map (map f) qs)
   rise_map [] within h = tt
   rise_map (q ∷ qs) within h = rises_map q qs (within q (inl refl)) (λ t i. within t (inr i)) h
 

@@ -19,7 +19,7 @@ use Rattle.qh_model.proofs.lists.Rising.{rising_between}
 use Rattle.qh_model.proofs.hulls.OfExtremes.{body_of_extremes}
 use Rattle.qh_model.proofs.renamed.Renaming.{IsRenaming, renaming_back}
 use Rattle.qh_model.proofs.renamed.Lists.{rising_map}
-use Rattle.qh_model.proofs.renamed.Faces.{renamed_body, body_renamed}
+use Rattle.qh_model.proofs.renamed.Bodies.{renamed_body, body_renamed}
 
 -- ---- positions
 -- a member's position is one of the list, and it stands there
@@ -97,7 +97,7 @@ module _ (pts : List Vector) (A : ℕ → Type 0) (xs : List ℕ) (rising : IsSt
       below : (k j : ℕ) → In k (map (vertex_number xs) xs) → j < k → place (map (place pts) xs) j ≡ place (map (place pts) xs) k → ⊥
       below k j m h e =
           let low = position_below k m in
-          let back = renaming_back (place pts) (place (map (place pts) xs)) A (Members (map (vertex_number xs) xs)) (vertex_number xs) (λ k. get_or xs k 0) by_position in
+          let back = renaming_back by_position in
           let n : In j (map (vertex_number xs) xs) = position_of j (omega (arith, low, h)) in
           let same : get_or xs j 0 ≡ get_or xs k 0 = apart (get_or xs j 0) (get_or xs k 0) (back.to j n) (back.to k m) (back.point j n ∙ e ∙ sym (back.point k m)) in
           let equal : j ≡ k = sym (by_position.under j n) ∙ ap (vertex_number xs) same ∙ by_position.under k m in
@@ -119,8 +119,7 @@ extreme_points_have_hull pts h s = record {
   distinct_ids = positions_distinct pts E xs s.body.extremes.rising s.body.extremes.members (λ i j a b. apart i j a.0 b.0);
   given = sym (length-map xs (place pts));
   distinct = sym (length-map xs (vertex_number xs));
-  body = body_renamed (place pts) (place (map (place pts) xs)) E (Members (map (vertex_number xs) xs)) (vertex_number xs) (λ k. get_or xs k 0)
-      (by_position pts E xs s.body.extremes.rising s.body.extremes.members) h.body ((body_of_extremes (place pts) s.ids h.body apart).1 s.body);
+  body = body_renamed (by_position pts E xs s.body.extremes.rising s.body.extremes.members) h.body ((body_of_extremes (place pts) s.ids h.body apart).1 s.body);
 }
   where
     xs : List ℕ

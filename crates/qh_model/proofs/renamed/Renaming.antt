@@ -6,6 +6,7 @@ use Rattle.qh_model.specs.headline.Predicates.{vol, AreInLine}
 use Rattle.qh_model.specs.headline.Combination.{Combination, IsBalanced}
 use Rattle.qh_model.specs.headline.Dimension.{HasTetrahedron, HasTriangle, HasSegment, IsDimension}
 use Rattle.qh_model.specs.headline.Extreme.{Others, Extreme}
+use Rattle.qh_model.proofs.extremes.Dimensions.{dimension_as}
 
 -- f names each id of A by one of B, g back, with the same points and in the same order
 pub record IsRenaming (at at' : ℕ → Vector) (A B : ℕ → Type 0) (f g : ℕ → ℕ) : Type 0 where
@@ -24,7 +25,7 @@ balanced_as w1 w2 w3 w4 p a b c d a' b' c' d' e f g h m = cc
 pub volume_as : (p q u v p' q' u' v' : Vector) → p' ≡ p → q' ≡ q → u' ≡ u → v' ≡ v → vol p' q' u' v' ≡ vol p q u v
 volume_as p q u v p' q' u' v' d e f g = cc
 
-module _ (at at' : ℕ → Vector) (A B : ℕ → Type 0) (f g : ℕ → ℕ) (r : IsRenaming at at' A B f g) where
+module _ {at at' : ℕ → Vector} {A B : ℕ → Type 0} {f g : ℕ → ℕ} (r : IsRenaming at at' A B f g) where
   -- two ids with one name are one
   pub renaming_apart : (i j : ℕ) → A i → A j → f i ≡ f j → i ≡ j
   renaming_apart i j a b e = sym (r.over i a) ∙ ap g e ∙ r.over j b
@@ -112,30 +113,18 @@ module _ (at at' : ℕ → Vector) (A B : ℕ → Type 0) (f g : ℕ → ℕ) (r
   segment_renamed s =
       record { i = f s.i; j = f s.j; has_i = r.to s.i s.has_i; has_j = r.to s.j s.has_j; differ = λ e. s.differ (renaming_apart s.i s.j s.has_i s.has_j e) }
 
--- an extreme id is extreme by its name
-pub extreme_renamed : (at at' : ℕ → Vector) (A B : ℕ → Type 0) (f g : ℕ → ℕ) → IsRenaming at at' A B f g → (i : ℕ) → Extreme at A i → Extreme at' B (f i)
-extreme_renamed at at' A B f g r i h = (
-  r.to i h.0,
-  λ m. h.1 (subst (Combination at (Others A i)) (r.point i h.0)
-      (combination_renamed at' at B A g f (renaming_back at at' A B f g r) (Others B (f i)) (Others A i) (λ j o. o.0) (λ j o. (r.from j o.0, λ e. o.1 (sym (r.under j o.0) ∙ ap f e))) (at' (f i)) m)),
-)
+module _ {at at' : ℕ → Vector} {A B : ℕ → Type 0} {f g : ℕ → ℕ} (r : IsRenaming at at' A B f g) where
+  -- an extreme id is extreme by its name
+  pub extreme_renamed : (i : ℕ) → Extreme at A i → Extreme at' B (f i)
+  extreme_renamed i h = (r.to i h.0, λ m. h.1 (subst (Combination at (Others A i)) (r.point i h.0) (back m)))
+    where
+      back : Combination at' (Others B (f i)) (at' (f i)) → Combination at (Others A i) (at' (f i))
+      back m =
+          combination_renamed (renaming_back r) (Others B (f i)) (Others A i) (λ j o. o.0)
+          (λ j o. (r.from j o.0, λ e. o.1 (sym (r.under j o.0) ∙ ap f e))) (at' (f i)) m
 
--- the names of the extreme ids
-pub extremes_renamed : (at at' : ℕ → Vector) (A B : ℕ → Type 0) (f g : ℕ → ℕ) → IsRenaming at at' A B f g → IsRenaming at at' (Extreme at A) (Extreme at' B) f g
-extremes_renamed at at' A B f g r = record {
-  to = extreme_renamed at at' A B f g r;
-  from = extreme_renamed at' at B A g f (renaming_back at at' A B f g r);
-  over = λ i h. r.over i h.0;
-  under = λ k h. r.under k h.0;
-  point = λ i h. r.point i h.0;
-  rises = λ i j h k. r.rises i j h.0 k.0;
-}
-
--- the dimension stays
-pub dimension_renamed : (at at' : ℕ → Vector) (A B : ℕ → Type 0) (f g : ℕ → ℕ) → IsRenaming at at' A B f g → (k : ℕ) → IsDimension at A k → IsDimension at' B k
-dimension_renamed at at' A B f g r k (inl (e, t)) = inl (e, tetrahedron_renamed at at' A B f g r t)
-dimension_renamed at at' A B f g r k (inr (inl (e, t, n))) =
-    inr (inl (e, triangle_renamed at at' A B f g r t, λ h. n (tetrahedron_renamed at' at B A g f (renaming_back at at' A B f g r) h)))
-dimension_renamed at at' A B f g r k (inr (inr (inl (e, s, n)))) =
-    inr (inr (inl (e, segment_renamed at at' A B f g r s, λ h. n (triangle_renamed at' at B A g f (renaming_back at at' A B f g r) h))))
-dimension_renamed at at' A B f g r k (inr (inr (inr (e, n)))) = inr (inr (inr (e, λ h. n (segment_renamed at' at B A g f (renaming_back at at' A B f g r) h))))
+  -- the dimension stays
+  pub dimension_renamed : (k : ℕ) → IsDimension at A k → IsDimension at' B k
+  dimension_renamed =
+      let q = renaming_back r in
+      dimension_as at at' A B (tetrahedron_renamed r, tetrahedron_renamed q) (triangle_renamed r, triangle_renamed q) (segment_renamed r, segment_renamed q)

@@ -11,7 +11,7 @@ use Rattle.qh_model.specs.headline.Sets.{In}
 use Rattle.qh_model.specs.headline.Fan.{triangles_along, fan, fans, edge_count}
 use Rattle.qh_model.specs.headline.Hull.{BodyValue}
 use Rattle.qh_model.specs.headline.Text.{line, spaced, vertex_number, vertex_text, face_text, off_text}
-use Rattle.qh_model.proofs.renamed.Faces.{renamed_body}
+use Rattle.qh_model.proofs.renamed.Bodies.{renamed_body}
 use Rattle.qh_model.proofs.renamed.Positions.{at_number, point_at}
 
 -- texts that are the same for each member are the same joined

@@ -22,7 +22,8 @@ use Rattle.qh_model.proofs.polygons.Fans.{fan_members}
 use Rattle.qh_model.proofs.hulls.Unique.{edge_count_is_unique, hull_is_unique}
 use Rattle.qh_model.proofs.hulls.OfExtremes.{body_of_extremes}
 use Rattle.qh_model.proofs.hulls.ExtremePoints.{some_extreme, few_extremes, extremes_in_range}
-use Rattle.qh_model.proofs.renamed.Faces.{edge_count_renamed, polygon_members, renamed_body}
+use Rattle.qh_model.proofs.renamed.Bodies.{polygon_members, renamed_body}
+use Rattle.qh_model.proofs.renamed.Edges.{edge_count_renamed}
 use Rattle.qh_model.proofs.renamed.Positions.{by_position, hull_of_extremes, extreme_points_have_hull}
 use Rattle.qh_model.proofs.texts.OffTexts.{surface_text, reads_surface}
 use Rattle.qh_model.proofs.texts.RenamedTexts.{fans-map, off_text_renamed}
@@ -75,7 +76,7 @@ module _ (pts : List Vector) (h : HullValue) (s : IsHull pts h) where
   edges_renamed =
       let xs : List ℕ = h.body.extremes in
       let r = by_position pts (Extreme (place pts) (Members s.ids)) xs s.body.extremes.rising s.body.extremes.members in
-      let renamed = edge_count_renamed (place pts) (place (map (place pts) xs)) (Extreme (place pts) (Members s.ids)) (Members (map (vertex_number xs) xs)) (vertex_number xs) (λ k. get_or xs k 0) r
+      let renamed = edge_count_renamed r
       (fans h.body.polygons) (edge_count (fans h.body.polygons)) (λ t m i j. (s.body.extremes.members i).0 (triangles_listed t m i j)) (edges_are_counted (fans h.body.polygons)) in
       ap edge_count (fans-map (vertex_number xs) h.body.polygons)
       ∙ edge_count_is_unique (map (map (vertex_number xs)) (fans h.body.polygons)) _ _ (edges_are_counted (map (map (vertex_number xs)) (fans h.body.polygons))) renamed
