@@ -6,7 +6,7 @@ use Rattle.qh_model.specs.headline.Sets.{In, Once, BeginsWithLeast}
 use Rattle.qh_model.specs.headline.Polygon.{FollowsAlong, Follows}
 use Rattle.qh_model.specs.headline.Polygons.{ComesBefore, RisesFrom, RiseStrictly}
 use Rattle.qh_model.proofs.Members.{In-get_or}
-use Rattle.qh_model.proofs.lists.Images.{in_map, of_map}
+use Rattle.qh_model.proofs.lists.Images.{of_map}
 
 -- ---- any image
 -- the image of a list that has each member once, under a function that keeps its members apart

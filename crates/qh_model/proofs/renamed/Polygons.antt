@@ -1,13 +1,13 @@
 -- The polygons of a set renamed in its order.
-use Rattle.std.proofs.Common.{◌≡◌, ℕ, ◌<◌, ◌⊎◌, List, [], ◌∷◌, length, map, arith, refl, sym, ap, subst, ◌∙◌, inl, inr}
+use Rattle.std.proofs.Common.{◌≡◌, ℕ, ◌<◌, ◌⊎◌, List, map, refl, sym, ap, subst, ◌∙◌, inl, inr}
 use Rattle.std.specs.Prelude.{pos, ◌<ℤ◌, ◌≤ℤ◌}
 use Rattle.qh_model.specs.headline.Vector.{Vector}
 use Rattle.qh_model.specs.headline.Predicates.{cross, vol, left}
-use Rattle.qh_model.specs.headline.Sets.{In, Once}
+use Rattle.qh_model.specs.headline.Sets.{In}
 use Rattle.qh_model.specs.headline.Extreme.{Extreme}
 use Rattle.qh_model.specs.headline.SupportingPlane.{IsSupportingTriple, OnPlane}
 use Rattle.qh_model.specs.headline.Polygon.{Follows, TurnsLeft, IsPolygon}
-use Rattle.qh_model.specs.headline.Polygons.{IsFacePolygon, AreFaces, PointsForward, IsFlatFace, IsSegmentFace, IsPointFace, ArePolygons}
+use Rattle.qh_model.specs.headline.Polygons.{IsFacePolygon, AreFaces, PointsForward, IsFlatFace, IsSegmentFace, ArePolygons}
 use Rattle.qh_model.proofs.lists.Images.{in_map, of_map}
 use Rattle.qh_model.proofs.polygons.Neighbours.{follows_members}
 use Rattle.qh_model.proofs.renamed.Lists.{AreWithin, once_map, of_follows_map, least_map, rise_map}

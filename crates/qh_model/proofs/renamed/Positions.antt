@@ -1,5 +1,5 @@
 -- The members of a rising list named by their positions: the list of their points has the same hull, by these names.
-use Rattle.std.proofs.Common.{◌≡◌, ℕ, zero, suc, ◌+◌, ◌<◌, ◌≤◌, Bool, true, false, cond, refl, List, [], ◌∷◌, length, get_or, map, arith, sym, ap, subst, ◌∙◌, ◌⊎◌, inl, inr, eqb-true}
+use Rattle.std.proofs.Common.{◌≡◌, ℕ, zero, suc, ◌<◌, Bool, true, false, cond, refl, List, [], ◌∷◌, length, get_or, map, arith, sym, ap, subst, ◌∙◌, ◌⊎◌, inl, inr, eqb-true}
 use Rattle.std.proofs.lemmas.Bool.{eqb-false}
 use Rattle.std.proofs.lemmas.List.{length-map, get_or-map}
 use Rattle.std.specs.Prelude.{◌==◌, ◌↔◌}
@@ -7,9 +7,9 @@ use Rattle.std.specs.List.Sorted.{IsStrictlyIncreasing}
 use Rattle.qh_model.specs.headline.Vector.{Vector, origin}
 use Rattle.qh_model.specs.headline.Predicates.{place}
 use Rattle.qh_model.specs.headline.Sets.{In, Once, Members}
-use Rattle.qh_model.specs.headline.DistinctIds.{IsDistinctId, AreDistinctIds}
+use Rattle.qh_model.specs.headline.DistinctIds.{AreDistinctIds}
 use Rattle.qh_model.specs.headline.Extreme.{Extreme}
-use Rattle.qh_model.specs.headline.Hull.{BodyValue, HullValue, AreExtremes, IsBody, IsHull}
+use Rattle.qh_model.specs.headline.Hull.{HullValue, IsHull}
 use Rattle.qh_model.specs.headline.Text.{vertex_number}
 use Rattle.qh_model.specs.contract.IdSets.{HasDistinctPoints}
 use Rattle.qh_model.proofs.Members.{In-get_or, rising_once}

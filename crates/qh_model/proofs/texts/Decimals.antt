@@ -1,14 +1,14 @@
 -- Decimals as they are written are numbers: what they stand for, and their bytes.
-use Rattle.std.proofs.Common.{◌≡◌, ◌≢◌, ℕ, zero, suc, ◌+◌, ◌-◌, ◌*◌, ◌/◌, ◌%◌, ◌^◌, ◌<◌, ◌≤◌, ◌&&◌, ◌==◌, Bool, true, false, cond, refl, List, [], ◌∷◌, length, arith, sym, ap, ap₂, subst, ◌∙◌, decimal, ne_eqb}
-use Rattle.std.proofs.lemmas.Bool.{leb-true, le-leb, lt-ltb}
+use Rattle.std.proofs.Common.{◌≡◌, ℕ, zero, suc, ◌+◌, ◌-◌, ◌*◌, ◌/◌, ◌%◌, ◌^◌, ◌<◌, ◌≤◌, ◌&&◌, ◌==◌, Bool, true, false, cond, refl, List, [], ◌∷◌, length, arith, sym, ap, ap₂, subst, ◌∙◌, decimal, ne_eqb}
+use Rattle.std.proofs.lemmas.Bool.{le-leb, lt-ltb}
 use Rattle.std.proofs.lemmas.Fmt.{decimal_is_IsNumeral_wide}
 use Rattle.std.proofs.lemmas.Str.{digit_value_digit}
-use Rattle.std.specs.Prelude.{ℤ, pos, negsuc, neg_ℤ, Option, Some, None, option_map, unsigned_abs}
-use Rattle.std.specs.Char.{digit_value, is_ascii_digit}
+use Rattle.std.specs.Prelude.{ℤ, pos, negsuc, neg_ℤ, Some, None, option_map, unsigned_abs}
+use Rattle.std.specs.Char.{digit_value}
 use Rattle.std.specs.Fmt.{digits_onto, digits, digit_glyph, signed_decimal}
 use Rattle.std.specs.Int.{IsInRange}
 use Rattle.std.specs.List.{AllByRecursion as Every}
-use Rattle.std.specs.Str.Parse.{digits_value_after, digits_value}
+use Rattle.std.specs.Str.Parse.{digits_value_after}
 use Rattle.qh_model.specs.headline.Numbers.{read_digits, are_digits, magnitude_of, number_of}
 use Rattle.qh_model.proofs.Members.{every_map}
 

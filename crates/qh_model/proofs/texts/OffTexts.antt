@@ -1,10 +1,9 @@
 -- The text of vertices and faces, read as an OFF file.
-use Rattle.std.proofs.Common.{◌≡◌, ℕ, suc, ◌+◌, ◌<◌, ◌≤◌, ◌^◌, refl, List, [], ◌∷◌, ◌++◌, length, map, append_assoc, arith, sym, ap, ap₂, subst, ◌∙◌, decimal}
-use Rattle.std.proofs.lemmas.List.{map-append}
-use Rattle.std.specs.Prelude.{ℤ, pos, codes, Option, Some, unsigned_abs}
+use Rattle.std.proofs.Common.{◌≡◌, ℕ, ◌+◌, ◌≤◌, refl, List, [], ◌∷◌, ◌++◌, length, map, append_assoc, arith, ap, ap₂, ◌∙◌, decimal}
+use Rattle.std.specs.Prelude.{ℤ, pos, codes, Some}
 use Rattle.std.specs.Fmt.{signed_decimal}
 use Rattle.std.specs.List.{AllByRecursion as Every, flat_map}
-use Rattle.qh_model.specs.declared.limits.TheConstants.{POINT_LIMIT, BYTE_LIMIT, COORDINATE_LIMIT}
+use Rattle.qh_model.specs.declared.limits.TheConstants.{POINT_LIMIT, BYTE_LIMIT}
 use Rattle.qh_model.specs.headline.Vector.{Vector}
 use Rattle.qh_model.specs.headline.Limits.{IsCoordinate}
 use Rattle.qh_model.specs.headline.Words.{Word, lines_of, words_of, on_line, words_from}
@@ -13,7 +12,7 @@ use Rattle.qh_model.specs.headline.PointFile.{coordinates}
 use Rattle.qh_model.specs.headline.OffFile.{before_hash, off_words, ReadsOff}
 use Rattle.qh_model.specs.headline.Text.{line, spaced, vertex_text}
 use Rattle.qh_model.proofs.texts.Decimals.{decimal_digits, number_of_digits, number_of_decimal, number_of_signed, decimal_word, signed_word}
-use Rattle.qh_model.proofs.texts.Lines.{ends_line, Clear, first_line, joined_lines, words_from-append, three, three_in_line, three_words}
+use Rattle.qh_model.proofs.texts.Lines.{first_line, joined_lines, words_from-append, three, three_in_line, three_words}
 
 -- the words of a line that stand in no comment
 abbrev parts : List ℕ → List (List ℕ)

@@ -8,7 +8,7 @@ use Rattle.std.specs.List.{flat_map}
 use Rattle.qh_model.specs.headline.Vector.{Vector}
 use Rattle.qh_model.specs.headline.Predicates.{place}
 use Rattle.qh_model.specs.headline.Sets.{In}
-use Rattle.qh_model.specs.headline.Fan.{triangles_along, fan, fans, edge_count}
+use Rattle.qh_model.specs.headline.Fan.{triangles_along, fan, fans}
 use Rattle.qh_model.specs.headline.Hull.{BodyValue}
 use Rattle.qh_model.specs.headline.Text.{line, spaced, vertex_number, vertex_text, face_text, off_text}
 use Rattle.qh_model.proofs.renamed.Bodies.{renamed_body}

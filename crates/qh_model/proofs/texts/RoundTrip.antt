@@ -1,5 +1,5 @@
 -- What is written as an OFF file is read as the extreme points, which are written as the same bytes.
-use Rattle.std.proofs.Common.{◌≡◌, ℕ, ◌≤◌, refl, List, [], ◌∷◌, ◌++◌, length, get_or, map, arith, sym, ap, subst, ◌∙◌}
+use Rattle.std.proofs.Common.{◌≡◌, ℕ, ◌≤◌, List, [], ◌∷◌, ◌++◌, length, map, arith, sym, ap, subst, ◌∙◌}
 use Rattle.std.proofs.lemmas.List.{length-map, append-nil}
 use Rattle.std.proofs.lemmas.List.Folds.{flat_map-map}
 use Rattle.std.specs.List.{flat_map}
@@ -12,8 +12,8 @@ use Rattle.qh_model.specs.headline.Sets.{In, Members}
 use Rattle.qh_model.specs.headline.OffFile.{ReadsOff}
 use Rattle.qh_model.specs.headline.Fan.{fan, fans, edge_count}
 use Rattle.qh_model.specs.headline.Extreme.{Extreme}
-use Rattle.qh_model.specs.headline.Hull.{BodyValue, HullValue, IsBody, IsHull}
-use Rattle.qh_model.specs.headline.Text.{vertex_text, vertex_number, face_text, off_text, in_triangles, output_text, hull_text, IsText}
+use Rattle.qh_model.specs.headline.Hull.{BodyValue, HullValue, IsHull}
+use Rattle.qh_model.specs.headline.Text.{vertex_text, vertex_number, face_text, off_text, in_triangles, output_text, hull_text}
 use Rattle.qh_model.specs.laws.RoundTrip.{CanBeRead, IsOffOutput, extreme_points, IsReadAsExtremePoints, ExtremePointsHaveText, IsWrittenAgain}
 use Rattle.qh_model.proofs.DistinctIds.{distinct_apart}
 use Rattle.qh_model.proofs.lists.Joined.{of_flat_map}
