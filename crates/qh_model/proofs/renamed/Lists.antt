@@ -17,7 +17,7 @@ once_map {X} f (x ∷ xs) apart o = (λ m. twice (of_map f xs (f x) m), once_map
     twice : (y : X) × In y xs × (f x ≡ f y) → ⊥
     twice (y, i, e) = o.0 (subst (λ t. In t xs) (sym (apart x y (inl refl) (inr i) e)) i)
 
--- neighbours on a way and their images
+-- the neighbours that neighbours on the image of a way come from
 record OldNeighbours (f : ℕ → ℕ) (u v t : ℕ) (r : List ℕ) (e : ℕ) : Type 0 where
   a : ℕ
   b : ℕ
@@ -25,15 +25,19 @@ record OldNeighbours (f : ℕ → ℕ) (u v t : ℕ) (r : List ℕ) (e : ℕ) : 
   first : u ≡ f a
   second : v ≡ f b
 
+-- neighbours on a way have neighbours as images
 along_map : (f : ℕ → ℕ) (u v t : ℕ) (r : List ℕ) (e : ℕ) → FollowsAlong u v t r e → FollowsAlong (f u) (f v) (f t) (map f r) (f e)
 along_map f u v t [] e h = (ap f h.0, ap f h.1)
 along_map f u v t (w ∷ r) e (inl h) = inl (ap f h.0, ap f h.1)
 along_map f u v t (w ∷ r) e (inr h) = inr (along_map f u v w r e h)
 
+-- and those on the image come from neighbours
 of_along_map : (f : ℕ → ℕ) (u v t : ℕ) (r : List ℕ) (e : ℕ) → FollowsAlong u v (f t) (map f r) (f e) → OldNeighbours f u v t r e
 of_along_map f u v t [] e h = record { a = t; b = e; follows = (refl, refl); first = sym h.0; second = sym h.1 }
 of_along_map f u v t (w ∷ r) e (inl h) = record { a = t; b = w; follows = inl (refl, refl); first = sym h.0; second = sym h.1 }
-of_along_map f u v t (w ∷ r) e (inr h) = let s = of_along_map f u v w r e h in record { a = s.a; b = s.b; follows = inr s.follows; first = s.first; second = s.second }
+of_along_map f u v t (w ∷ r) e (inr h) =
+    let s = of_along_map f u v w r e h in
+    record { a = s.a; b = s.b; follows = inr s.follows; first = s.first; second = s.second }
 
 -- neighbours round a polygon have neighbours as images
 pub follows_map : (f : ℕ → ℕ) (u v : ℕ) (q : List ℕ) → Follows u v q → Follows (f u) (f v) (map f q)
@@ -71,7 +75,9 @@ module _ (A : ℕ → Type 0) (f : ℕ → ℕ) (rises : (i j : ℕ) → A i →
   before_map (u ∷ p) (v ∷ q) a b (inl h) = inl (rises u v (a u (inl refl)) (b v (inl refl)) h)
   before_map (u ∷ p) (v ∷ q) a b (inr h) = inr (ap f h.0, before_map p q (λ i m. a i (inr m)) (λ i m. b i (inr m)) h.1)
 
-  rises_map : (q : List ℕ) (ps : List (List ℕ)) → ((i : ℕ) → In i q → A i) → AreWithin A ps → RisesFrom q ps → RisesFrom (map f q) (map (map f) ps)
+  -- and each the next
+  rises_map : (q : List ℕ) (ps : List (List ℕ)) → ((i : ℕ) → In i q → A i) → AreWithin A ps
+      → RisesFrom q ps → RisesFrom (map f q) (map (map f) ps)
   rises_map q [] a b h = tt
   rises_map q (p ∷ ps) a b h = (before_map q p a (b p (inl refl)) h.0, rises_map p ps (b p (inl refl)) (λ t i. b t (inr i)) h.1)
 
@@ -86,6 +92,7 @@ module _ (A : ℕ → Type 0) (f : ℕ → ℕ) (rises : (i j : ℕ) → A i →
       let inside : k + 1 < length xs = subst (λ n. k + 1 < n) (length-map xs f) l in
       let here : get_or (map f xs) k 0 ≡ f (get_or xs k 0) = get_or-map f xs k 0 0 (omega (arith, inside)) in
       let next : get_or (map f xs) (k + 1) 0 ≡ f (get_or xs (k + 1) 0) = get_or-map f xs (k + 1) 0 0 inside in
-      let up : f (get_or xs k 0) < f (get_or xs (k + 1) 0) =
-      rises (get_or xs k 0) (get_or xs (k + 1) 0) (within _ (In-get_or xs k 0 (omega (arith, inside)))) (within _ (In-get_or xs (k + 1) 0 inside)) (h k inside) in
+      let first = within (get_or xs k 0) (In-get_or xs k 0 (omega (arith, inside))) in
+      let second = within (get_or xs (k + 1) 0) (In-get_or xs (k + 1) 0 inside) in
+      let up : f (get_or xs k 0) < f (get_or xs (k + 1) 0) = rises (get_or xs k 0) (get_or xs (k + 1) 0) first second (h k inside) in
       omega (arith, here, next, up)

@@ -1,5 +1,5 @@
 -- The polygons of a set renamed in its order.
-use Rattle.std.proofs.Common.{◌≡◌, ℕ, ◌<◌, ◌⊎◌, List, map, refl, sym, ap, subst, ◌∙◌, inl, inr}
+use Rattle.std.proofs.Common.{◌≡◌, ℕ, ◌⊎◌, List, map, refl, sym, ap, subst, ◌∙◌, inl, inr}
 use Rattle.std.specs.Prelude.{pos, ◌<ℤ◌, ◌≤ℤ◌}
 use Rattle.qh_model.specs.headline.Vector.{Vector}
 use Rattle.qh_model.specs.headline.Predicates.{cross, vol, left}
@@ -33,7 +33,9 @@ module _ {at at' : ℕ → Vector} {A B : ℕ → Type 0} {f g : ℕ → ℕ} (r
   }
     where
       volume : (l : ℕ) (h : B l) → vol (at' (f i)) (at' (f j)) (at' (f k)) (at' l) ≡ vol (at i) (at j) (at k) (at (g l))
-      volume l h = volume_as _ _ _ _ _ _ _ _ (r.point i t.has_i) (r.point j t.has_j) (r.point k t.has_k) (ap at' (sym (r.under l h)) ∙ r.point (g l) (r.from l h))
+      volume l h =
+          volume_as _ _ _ _ _ _ _ _
+          (r.point i t.has_i) (r.point j t.has_j) (r.point k t.has_k) (sym ((renaming_back r).point l h))
 
 module _ {at at' : ℕ → Vector} {A B : ℕ → Type 0} {f g : ℕ → ℕ} (r : IsRenaming at at' A B f g) where
   -- a list has the members of a part of A: its image has their names
@@ -45,7 +47,8 @@ module _ {at at' : ℕ → Vector} {A B : ℕ → Type 0} {f g : ℕ → ℕ} (r
   )
 
   -- the polygon of a part of A
-  polygon_renamed : (X Y : ℕ → Type 0) (n m : Vector) (q : List ℕ) → n ≡ m → ((i : ℕ) → X i → A i) → ((i : ℕ) → X i → Y (f i)) → ((k : ℕ) → Y k → B k) → ((k : ℕ) → Y k → X (g k))
+  polygon_renamed : (X Y : ℕ → Type 0) (n m : Vector) (q : List ℕ) → n ≡ m
+      → ((i : ℕ) → X i → A i) → ((i : ℕ) → X i → Y (f i)) → ((k : ℕ) → Y k → B k) → ((k : ℕ) → Y k → X (g k))
       → IsPolygon at X n q → IsPolygon at' Y m (map f q)
   polygon_renamed X Y n m q same part named within back p = record {
     members = members_renamed X Y q named within back p.members;
@@ -67,26 +70,32 @@ module _ {at at' : ℕ → Vector} {A B : ℕ → Type 0} {f g : ℕ → ℕ} (r
               let place_v : at' v ≡ at b = ap at' d ∙ r.point b (of b ends.1) in
               let place_w : at' w ≡ at c = ap at' s ∙ r.point c (of c j) in
               let turned = p.round a b h c j (λ t. not_u (s ∙ ap f t ∙ sym e)) (λ t. not_v (s ∙ ap f t ∙ sym d)) in
-              subst (λ z. pos 0 <ℤ z) (sym (left_as m _ _ _ _ _ _ place_u place_v place_w)) (subst (λ t. pos 0 <ℤ left t (at a) (at b) (at c)) same turned)
+              subst (λ z. pos 0 <ℤ z) (sym (left_as m _ _ _ _ _ _ place_u place_v place_w))
+              (subst (λ t. pos 0 <ℤ left t (at a) (at b) (at c)) same turned)
 
   -- ---- dimension 3
-  -- its polygon
+  -- the polygon of a supporting triple
   face_renamed : (i j k : ℕ) (q : List ℕ) → A i → A j → A k → IsFacePolygon at A i j k q → IsFacePolygon at' B (f i) (f j) (f k) (map f q)
   face_renamed i j k q a b c p =
-      polygon_renamed (OnPlane at (Extreme at A) i j k) (OnPlane at' (Extreme at' B) (f i) (f j) (f k)) (cross (at i) (at j) (at k)) (cross (at' (f i)) (at' (f j)) (at' (f k))) q
+      polygon_renamed (OnPlane at (Extreme at A) i j k) (OnPlane at' (Extreme at' B) (f i) (f j) (f k))
+      (cross (at i) (at j) (at k)) (cross (at' (f i)) (at' (f j)) (at' (f k))) q
       (sym (cross_as _ _ _ _ _ _ (r.point i a) (r.point j b) (r.point k c)))
       (λ l h. h.0.0)
       (λ l h. (extreme_renamed r l h.0, volume_as _ _ _ _ _ _ _ _ (r.point i a) (r.point j b) (r.point k c) (r.point l h.0.0) ∙ h.1))
       (λ l h. h.0.0)
       (λ l h. (
         extreme_renamed (renaming_back r) l h.0,
-        sym (volume_as _ _ _ _ _ _ _ _ (r.point i a) (r.point j b) (r.point k c) (ap at' (sym (r.under l h.0.0)) ∙ r.point (g l) (r.from l h.0.0))) ∙ h.1,
+        sym (volume_as _ _ _ _ _ _ _ _ (r.point i a) (r.point j b) (r.point k c) (sym ((renaming_back r).point l h.0.0))) ∙ h.1,
       ))
       p
 
   -- the polygons
   faces_renamed : (qs : List (List ℕ)) → AreWithin A qs → AreFaces at A qs → AreFaces at' B (map (map f) qs)
-  faces_renamed qs within h = record { rising = rise_map A f r.rises qs within h.rising; each = each; only = λ q m. only q (of_map (map f) qs q m) }
+  faces_renamed qs within h = record {
+    rising = rise_map A f r.rises qs within h.rising;
+    each = each;
+    only = λ q m. only q (of_map (map f) qs q m);
+  }
     where
       each : (i j k : ℕ) → IsSupportingTriple at' B i j k → (q : List ℕ) × In q (map (map f) qs) × IsFacePolygon at' B i j k q
       each i j k t = (map f s.0, in_map (map f) qs s.0 s.1, polygon)
@@ -101,11 +110,13 @@ module _ {at at' : ℕ → Vector} {A B : ℕ → Type 0} {f g : ℕ → ℕ} (r
               (subst (λ l. IsFacePolygon at' B (f (g i)) (f (g j)) l (map f s.0)) (r.under k t.has_k)
               (face_renamed (g i) (g j) (g k) s.0 (r.from i t.has_i) (r.from j t.has_j) (r.from k t.has_k) s.2)))
 
-      only : (p : List ℕ) → (q : List ℕ) × In q qs × (p ≡ map f q) → (i : ℕ) × (j : ℕ) × (k : ℕ) × IsSupportingTriple at' B i j k × IsFacePolygon at' B i j k p
+      only : (p : List ℕ) → (q : List ℕ) × In q qs × (p ≡ map f q)
+          → (i : ℕ) × (j : ℕ) × (k : ℕ) × IsSupportingTriple at' B i j k × IsFacePolygon at' B i j k p
       only p (q, m, e) =
           let s = h.only q m in
           let t = s.3 in
-          (f s.0, f s.1, f s.2, triple_renamed r s.0 s.1 s.2 t, subst (IsFacePolygon at' B (f s.0) (f s.1) (f s.2)) (sym e) (face_renamed s.0 s.1 s.2 q t.has_i t.has_j t.has_k s.4))
+          let polygon = face_renamed s.0 s.1 s.2 q t.has_i t.has_j t.has_k s.4 in
+          (f s.0, f s.1, f s.2, triple_renamed r s.0 s.1 s.2 t, subst (IsFacePolygon at' B (f s.0) (f s.1) (f s.2)) (sym e) polygon)
 
   -- ---- lower dimensions
   -- the polygon of a flat set
@@ -118,8 +129,8 @@ module _ {at at' : ℕ → Vector} {A B : ℕ → Type 0} {f g : ℕ → ℕ} (r
     has_j = r.to h.j h.has_j;
     has_k = r.to h.k h.has_k;
     forward = subst PointsForward normal h.forward;
-    polygon = polygon_renamed (Extreme at A) (Extreme at' B) (cross (at h.i) (at h.j) (at h.k)) (cross (at' (f h.i)) (at' (f h.j)) (at' (f h.k))) q normal
-        (λ l e. e.0) (extreme_renamed r) (λ l e. e.0) (extreme_renamed (renaming_back r)) h.polygon;
+    polygon = polygon_renamed (Extreme at A) (Extreme at' B) (cross (at h.i) (at h.j) (at h.k)) (cross (at' (f h.i)) (at' (f h.j)) (at' (f h.k))) q
+        normal (λ l e. e.0) (extreme_renamed r) (λ l e. e.0) (extreme_renamed (renaming_back r)) h.polygon;
   }
     where
       normal : cross (at h.i) (at h.j) (at h.k) ≡ cross (at' (f h.i)) (at' (f h.j)) (at' (f h.k))
@@ -156,6 +167,7 @@ module _ {at at' : ℕ → Vector} {A B : ℕ → Type 0} {f g : ℕ → ℕ} (r
   pub polygons_renamed : (k : ℕ) (qs : List (List ℕ)) → AreWithin A qs → ArePolygons at A k qs → ArePolygons at' B k (map (map f) qs)
   polygons_renamed k qs within (inl (e, h)) = inl (e, faces_renamed qs within h)
   polygons_renamed k qs within (inr (inl (e, (q, h, s)))) = inr (inl (e, (map f q, flat_renamed q h, ap (map (map f)) s)))
-  polygons_renamed k qs within (inr (inr (inl (e, (q, h, s))))) = inr (inr (inl (e, (map f q, segment_face_renamed q h, ap (map (map f)) s))))
+  polygons_renamed k qs within (inr (inr (inl (e, (q, h, s))))) =
+      inr (inr (inl (e, (map f q, segment_face_renamed q h, ap (map (map f)) s))))
   polygons_renamed k qs within (inr (inr (inr (e, (q, h, s))))) =
       inr (inr (inr (e, (map f q, record { i = f h.i; has_i = r.to h.i h.has_i; is = ap (map f) h.is }, ap (map (map f)) s))))

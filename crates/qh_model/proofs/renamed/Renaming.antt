@@ -18,7 +18,8 @@ pub record IsRenaming (at at' : ℕ → Vector) (A B : ℕ → Type 0) (f g : �
   pub rises : (i j : ℕ) → A i → A j → i < j → f i < f j
 
 -- along one coordinate, with other names of the same numbers
-balanced_as : (w1 w2 w3 w4 : ℕ) (p a b c d a' b' c' d' : ℤ) → a' ≡ a → b' ≡ b → c' ≡ c → d' ≡ d → IsBalanced w1 w2 w3 w4 p a b c d → IsBalanced w1 w2 w3 w4 p a' b' c' d'
+balanced_as : (w1 w2 w3 w4 : ℕ) (p a b c d a' b' c' d' : ℤ) → a' ≡ a → b' ≡ b → c' ≡ c → d' ≡ d
+    → IsBalanced w1 w2 w3 w4 p a b c d → IsBalanced w1 w2 w3 w4 p a' b' c' d'
 balanced_as w1 w2 w3 w4 p a b c d a' b' c' d' e f g h m = cc
 
 -- a volume of the same points
@@ -37,6 +38,12 @@ module _ {at at' : ℕ → Vector} {A B : ℕ → Type 0} {f g : ℕ → ℕ} (r
       let same : j ≡ i → f j ≡ f i = ap f in
       grind (arith, above, same, h)
 
+  -- names that rise are of ids that rise, told by the names
+  rises_back : (k l : ℕ) → B k → B l → k < l → g k < g l
+  rises_back k l b c h =
+      let up : f (g k) < f (g l) = subst (λ n. n < f (g l)) (sym (r.under k b)) (subst (λ n. k < n) (sym (r.under l c)) h) in
+      renaming_falls (g k) (g l) (r.from k b) (r.from l c) up
+
   -- the names back to the ids
   pub renaming_back : IsRenaming at' at B A g f
   renaming_back = record {
@@ -45,11 +52,12 @@ module _ {at at' : ℕ → Vector} {A B : ℕ → Type 0} {f g : ℕ → ℕ} (r
     over = r.under;
     under = r.over;
     point = λ k b. sym (r.point (g k) (r.from k b)) ∙ ap at' (r.under k b);
-    rises = λ k l b c h. renaming_falls (g k) (g l) (r.from k b) (r.from l c) (subst (λ (n : ℕ). n < f (g l)) (sym (r.under k b)) (subst (λ (n : ℕ). k < n) (sym (r.under l c)) h));
+    rises = rises_back;
   }
 
   -- a combination of members is one of their names
-  pub combination_renamed : (C D : ℕ → Type 0) → ((j : ℕ) → C j → A j) → ((j : ℕ) → C j → D (f j)) → (p : Vector) → Combination at C p → Combination at' D p
+  pub combination_renamed : (C D : ℕ → Type 0) → ((j : ℕ) → C j → A j) → ((j : ℕ) → C j → D (f j))
+      → (p : Vector) → Combination at C p → Combination at' D p
   combination_renamed C D within named p c = record {
     a = f c.a;
     b = f c.b;
@@ -74,11 +82,14 @@ module _ {at at' : ℕ → Vector} {A B : ℕ → Type 0} {f g : ℕ → ℕ} (r
 
       along : (h : Vector → ℤ) (m : ℤ) → IsBalanced c.w1 c.w2 c.w3 c.w4 m (h (at c.a)) (h (at c.b)) (h (at c.c)) (h (at c.d))
           → IsBalanced c.w1 c.w2 c.w3 c.w4 m (h (at' (f c.a))) (h (at' (f c.b))) (h (at' (f c.c))) (h (at' (f c.d)))
-      along h m = balanced_as c.w1 c.w2 c.w3 c.w4 m _ _ _ _ _ _ _ _ (ap h (same c.a c.has_a)) (ap h (same c.b c.has_b)) (ap h (same c.c c.has_c)) (ap h (same c.d c.has_d))
+      along h m =
+          balanced_as c.w1 c.w2 c.w3 c.w4 m _ _ _ _ _ _ _ _
+          (ap h (same c.a c.has_a)) (ap h (same c.b c.has_b)) (ap h (same c.c c.has_c)) (ap h (same c.d c.has_d))
 
   -- four members that are not in one plane
   tetrahedron_renamed : HasTetrahedron at A → HasTetrahedron at' B
   tetrahedron_renamed t =
+      let same = volume_as _ _ _ _ _ _ _ _ (r.point t.i t.has_i) (r.point t.j t.has_j) (r.point t.k t.has_k) (r.point t.l t.has_l) in
       record {
         i = f t.i;
         j = f t.j;
@@ -88,13 +99,15 @@ module _ {at at' : ℕ → Vector} {A B : ℕ → Type 0} {f g : ℕ → ℕ} (r
         has_j = r.to t.j t.has_j;
         has_k = r.to t.k t.has_k;
         has_l = r.to t.l t.has_l;
-        volume = λ e. t.volume (sym (volume_as _ _ _ _ _ _ _ _ (r.point t.i t.has_i) (r.point t.j t.has_j) (r.point t.k t.has_k) (r.point t.l t.has_l)) ∙ e);
+        volume = λ e. t.volume (sym same ∙ e);
       }
 
   -- three points in line by their names
   pub in_line_renamed : (i j k : ℕ) → A i → A j → A k → AreInLine (at' (f i)) (at' (f j)) (at' (f k)) → AreInLine (at i) (at j) (at k)
   in_line_renamed i j k a b c h =
-      subst (λ p. AreInLine p (at j) (at k)) (r.point i a) (subst (λ p. AreInLine (at' (f i)) p (at k)) (r.point j b) (subst (λ p. AreInLine (at' (f i)) (at' (f j)) p) (r.point k c) h))
+      subst (λ p. AreInLine p (at j) (at k)) (r.point i a)
+      (subst (λ p. AreInLine (at' (f i)) p (at k)) (r.point j b)
+      (subst (λ p. AreInLine (at' (f i)) (at' (f j)) p) (r.point k c) h))
 
   -- three that are not in one line
   triangle_renamed : HasTriangle at A → HasTriangle at' B
@@ -110,8 +123,13 @@ module _ {at at' : ℕ → Vector} {A B : ℕ → Type 0} {f g : ℕ → ℕ} (r
 
   -- two that differ
   segment_renamed : HasSegment A → HasSegment B
-  segment_renamed s =
-      record { i = f s.i; j = f s.j; has_i = r.to s.i s.has_i; has_j = r.to s.j s.has_j; differ = λ e. s.differ (renaming_apart s.i s.j s.has_i s.has_j e) }
+  segment_renamed s = record {
+    i = f s.i;
+    j = f s.j;
+    has_i = r.to s.i s.has_i;
+    has_j = r.to s.j s.has_j;
+    differ = λ e. s.differ (renaming_apart s.i s.j s.has_i s.has_j e);
+  }
 
 module _ {at at' : ℕ → Vector} {A B : ℕ → Type 0} {f g : ℕ → ℕ} (r : IsRenaming at at' A B f g) where
   -- an extreme id is extreme by its name
@@ -127,4 +145,5 @@ module _ {at at' : ℕ → Vector} {A B : ℕ → Type 0} {f g : ℕ → ℕ} (r
   pub dimension_renamed : (k : ℕ) → IsDimension at A k → IsDimension at' B k
   dimension_renamed =
       let q = renaming_back r in
-      dimension_as at at' A B (tetrahedron_renamed r, tetrahedron_renamed q) (triangle_renamed r, triangle_renamed q) (segment_renamed r, segment_renamed q)
+      dimension_as at at' A B
+      (tetrahedron_renamed r, tetrahedron_renamed q) (triangle_renamed r, triangle_renamed q) (segment_renamed r, segment_renamed q)
