@@ -32,8 +32,11 @@ read = record {
   small = omega arith;
   keyword = record { text = codes "OFF"; line = 1 };
   numbered =
-      on_line 2 (codes "4" ∷ codes "1" ∷ codes "4" ∷ []) ++ on_line 3 (codes "5" ∷ codes "0" ∷ codes "0" ∷ []) ++ on_line 4 (codes "5" ∷ codes "2" ∷ codes "0" ∷ [])
-      ++ on_line 5 (codes "5" ∷ codes "2" ∷ codes "2" ∷ []) ++ on_line 6 (codes "5" ∷ codes "0" ∷ codes "2" ∷ []);
+      on_line 2 (codes "4" ∷ codes "1" ∷ codes "4" ∷ [])
+      ++ on_line 3 (codes "5" ∷ codes "0" ∷ codes "0" ∷ [])
+      ++ on_line 4 (codes "5" ∷ codes "2" ∷ codes "0" ∷ [])
+      ++ on_line 5 (codes "5" ∷ codes "2" ∷ codes "2" ∷ [])
+      ++ on_line 6 (codes "5" ∷ codes "0" ∷ codes "2" ∷ []);
   rest = on_line 7 (codes "4" ∷ codes "0" ∷ codes "1" ∷ codes "2" ∷ codes "3" ∷ []);
   words = refl;
   is_off = refl;

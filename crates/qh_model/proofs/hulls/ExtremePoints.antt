@@ -1,5 +1,6 @@
--- The extreme ids of a list of points: there are some, at most as many as points, and their points are points of the list.
-use Rattle.std.proofs.Common.{ℕ, zero, suc, ◌<◌, ◌≤◌, List, [], ◌∷◌, length, get_or, map, arith, refl, inl, inr}
+-- The points of the extreme ids can be read where the points can: there are some, not too many, and they are in range.
+use Rattle.std.proofs.Common.{◌≡◌, ℕ, zero, suc, ◌<◌, ◌≤◌, List, [], ◌∷◌, length, get_or, map, arith, refl, inl, inr}
+use Rattle.std.proofs.lemmas.List.{length-map}
 use Rattle.std.specs.List.{AllByRecursion as Every}
 use Rattle.qh_model.specs.headline.Vector.{Vector, origin}
 use Rattle.qh_model.specs.headline.Predicates.{place}
@@ -8,6 +9,7 @@ use Rattle.qh_model.specs.headline.PointFile.{coordinates}
 use Rattle.qh_model.specs.headline.Sets.{In}
 use Rattle.qh_model.specs.headline.Hull.{HullValue, IsHull}
 use Rattle.qh_model.specs.contract.Places.{IsPlace}
+use Rattle.qh_model.specs.laws.RoundTrip.{CanBeRead, extreme_points}
 use Rattle.qh_model.proofs.Members.{In-get_or}
 use Rattle.qh_model.proofs.DistinctIds.{distinct_apart, some_id, few_below}
 use Rattle.qh_model.proofs.extremes.ExtremeIds.{members_are_combinations}
@@ -18,7 +20,7 @@ module _ (pts : List Vector) (h : HullValue) (s : IsHull pts h) where
   extreme_within i m = ((s.distinct_ids.members i).0 ((s.body.extremes.members i).0 m).0).0
 
   -- of some points some are extreme
-  pub some_extreme : 1 ≤ length pts → 1 ≤ length h.body.extremes
+  some_extreme : 1 ≤ length pts → 1 ≤ length h.body.extremes
   some_extreme some =
       let first = In-get_or s.ids 0 0 (some_id pts s.ids s.distinct_ids some) in
       let c = members_are_combinations (place pts) s.ids (distinct_apart pts s.ids s.distinct_ids) (get_or s.ids 0 0) first in
@@ -29,7 +31,7 @@ module _ (pts : List Vector) (h : HullValue) (s : IsHull pts h) where
       member i (x ∷ xs) m = omega arith
 
   -- at most as many as there are
-  pub few_extremes : length h.body.extremes ≤ length pts
+  few_extremes : length h.body.extremes ≤ length pts
   few_extremes = few_below (length pts) h.body.extremes s.body.extremes.rising extreme_within
 
 -- a point of points in range is in range
@@ -39,13 +41,20 @@ place_in_range (p ∷ ps) h zero l = record { x = h.0; y = h.1.0; z = h.1.1.0 }
 place_in_range (p ∷ ps) h (suc i) l = place_in_range ps h.1.1.1 i (omega arith)
 
 -- so are some of them
-places_in_range : (pts : List Vector) → Every IsCoordinate (coordinates pts) → (xs : List ℕ) → ((i : ℕ) → In i xs → i < length pts) → Every IsCoordinate (coordinates (map (place pts) xs))
+places_in_range : (pts : List Vector) → Every IsCoordinate (coordinates pts) → (xs : List ℕ) → ((i : ℕ) → In i xs → i < length pts)
+    → Every IsCoordinate (coordinates (map (place pts) xs))
 unfolding place
 places_in_range pts h [] within = tt
 places_in_range pts h (x ∷ xs) within =
     let p = place_in_range pts h x (within x (inl refl)) in
     (p.x, (p.y, (p.z, places_in_range pts h xs (λ i m. within i (inr m)))))
 
--- and the extreme ones
-pub extremes_in_range : (pts : List Vector) (h : HullValue) → IsHull pts h → Every IsCoordinate (coordinates pts) → Every IsCoordinate (coordinates (map (place pts) h.body.extremes))
-extremes_in_range pts h s limit = places_in_range pts limit h.body.extremes (extreme_within pts h s)
+-- the points of the extreme ids can be read
+pub extreme_points_can_be_read : (pts : List Vector) (h : HullValue) → IsHull pts h → CanBeRead pts → CanBeRead (extreme_points pts h)
+extreme_points_can_be_read pts h s can =
+    let count : length (extreme_points pts h) ≡ length h.body.extremes = length-map h.body.extremes (place pts) in
+    record {
+      some = omega (arith, count, some_extreme pts h s can.some);
+      few = omega (arith, count, few_extremes pts h s, can.few);
+      limit = places_in_range pts can.limit h.body.extremes (extreme_within pts h s);
+    }

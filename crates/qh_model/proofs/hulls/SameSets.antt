@@ -19,7 +19,14 @@ Same A B = (i : ℕ) → A i ↔ B i
 
 -- each id under its own name
 own_names : (at : ℕ → Vector) (A B : ℕ → Type 0) → Same A B → IsRenaming at at A B (λ i. i) (λ i. i)
-own_names at A B s = record { to = λ i. (s i).0; from = λ i. (s i).1; over = λ i a. refl; under = λ i b. refl; point = λ i a. refl; rises = λ i j a b h. h }
+own_names at A B s = record {
+  to = λ i. (s i).0;
+  from = λ i. (s i).1;
+  over = λ i a. refl;
+  under = λ i b. refl;
+  point = λ i a. refl;
+  rises = λ i j a b h. h;
+}
 
 -- the same extremes
 pub extreme_as : (at : ℕ → Vector) (A B : ℕ → Type 0) → Same A B → Same (Extreme at A) (Extreme at B)
@@ -29,8 +36,11 @@ extreme_as at A B s i = (extreme_renamed (own_names at A B s) i, extreme_renamed
 body_as : (at : ℕ → Vector) (A B : ℕ → Type 0) (b : BodyValue) → Same A B → IsBody at A b → IsBody at B b
 body_as at A B b s f = subst (IsBody at B) same (body_renamed (own_names at A B s) b f)
   where
+    polygons : map (map (λ i. i)) b.polygons ≡ b.polygons
+    polygons = ap (λ (f : List ℕ → List ℕ). map f b.polygons) (λ j q. map-id q j) ∙ map-id b.polygons
+
     same : renamed_body (λ i. i) b ≡ b
-    same = λ i. record b { extremes = map-id b.extremes i; polygons = (ap (λ (f : List ℕ → List ℕ). map f b.polygons) (λ j q. map-id q j) ∙ map-id b.polygons) i }
+    same = λ i. record b { extremes = map-id b.extremes i; polygons = polygons i }
 
 -- the law
 pub extremes_of_part : ExtremesOfPart
