@@ -51,4 +51,5 @@ pub body_of_part : BodyOfPart
 body_of_part at ids part b d sub sup f =
     let apart : HasDistinctPoints at (Members part) = (λ i j h k e. d i j (sub i h) (sub j k) e) in
     let same : Same (Extreme at (Members part)) (Extreme at (Members ids)) = extremes_of_part at ids part d sub sup in
-    (body_of_extremes at ids b d).0 (body_as at (Extreme at (Members part)) (Extreme at (Members ids)) b same ((body_of_extremes at part b apart).1 f))
+    (body_of_extremes at ids b d).0
+    (body_as at (Extreme at (Members part)) (Extreme at (Members ids)) b same ((body_of_extremes at part b apart).1 f))

@@ -129,8 +129,8 @@ module _ {at at' : ℕ → Vector} {A B : ℕ → Type 0} {f g : ℕ → ℕ} (r
     has_j = r.to h.j h.has_j;
     has_k = r.to h.k h.has_k;
     forward = subst PointsForward normal h.forward;
-    polygon = polygon_renamed (Extreme at A) (Extreme at' B) (cross (at h.i) (at h.j) (at h.k)) (cross (at' (f h.i)) (at' (f h.j)) (at' (f h.k))) q
-        normal (λ l e. e.0) (extreme_renamed r) (λ l e. e.0) (extreme_renamed (renaming_back r)) h.polygon;
+    polygon = polygon_renamed (Extreme at A) (Extreme at' B) _ _ q normal
+        (λ l e. e.0) (extreme_renamed r) (λ l e. e.0) (extreme_renamed (renaming_back r)) h.polygon;
   }
     where
       normal : cross (at h.i) (at h.j) (at h.k) ≡ cross (at' (f h.i)) (at' (f h.j)) (at' (f h.k))

@@ -98,7 +98,8 @@ module _ (pts : List Vector) (A : ℕ → Type 0) (xs : List ℕ) (rising : IsSt
       subst (λ n. In n (vertex_numbers xs)) (number_here k h) (in_map (vertex_number xs) xs (get_or xs k 0) (In-get_or xs k 0 h))
 
   -- the members are renamed
-  pub by_position : IsRenaming (place pts) (place (points_of pts xs)) A (Members (vertex_numbers xs)) (vertex_number xs) (λ k. get_or xs k 0)
+  pub by_position : let back : ℕ → ℕ = λ k. get_or xs k 0 in
+      IsRenaming (place pts) (place (points_of pts xs)) A (Members (vertex_numbers xs)) (vertex_number xs) back
   by_position = record {
     to = λ i a. in_map (vertex_number xs) xs i ((members i).1 a);
     from = λ k m. (members (get_or xs k 0)).0 (In-get_or xs k 0 (position_below xs k m));
@@ -119,11 +120,14 @@ module _ (pts : List Vector) (A : ℕ → Type 0) (xs : List ℕ) (rising : IsSt
   positions_distinct : HasDistinctPoints (place pts) A → AreDistinctIds (points_of pts xs) (vertex_numbers xs)
   positions_distinct apart = record {
     rising = rising_map A (vertex_number xs) by_position.rises xs (λ i m. (members i).0 m) rising;
-    members = λ k. (λ m. (subst (λ n. k < n) (sym count) (position_below xs k m), below k m), λ d. position_of k (subst (λ n. k < n) count d.0));
+    members = λ k. (λ m. (within k m, below k m), λ d. position_of k (subst (λ n. k < n) count d.0));
   }
     where
       count : length (points_of pts xs) ≡ length xs
       count = length-map xs (place pts)
+
+      within : (k : ℕ) → In k (vertex_numbers xs) → k < length (points_of pts xs)
+      within k m = subst (λ n. k < n) (sym count) (position_below xs k m)
 
       below : (k : ℕ) → In k (vertex_numbers xs) → (j : ℕ) → j < k → place (points_of pts xs) j ≡ place (points_of pts xs) k → ⊥
       below k m j h e =
@@ -141,7 +145,8 @@ hull_of_extremes h = record {
 }
 
 -- it is that of the list of their points
-pub extreme_points_have_hull : (pts : List Vector) (h : HullValue) → IsHull pts h → IsHull (points_of pts h.body.extremes) (hull_of_extremes h)
+pub extreme_points_have_hull : (pts : List Vector) (h : HullValue) → IsHull pts h
+    → IsHull (points_of pts h.body.extremes) (hull_of_extremes h)
 extreme_points_have_hull pts h s = record {
   ids = vertex_numbers xs;
   distinct_ids = positions_distinct pts E xs s.body.extremes.rising s.body.extremes.members (λ i j a b. apart i j a.0 b.0);

@@ -45,7 +45,8 @@ lines_of_surface : (ps : List Vector) (faces edges : ℕ) (rest : List ℕ) → 
 lines_of_surface ps faces edges rest =
     ap lines_of (append_assoc (keyword ++ line counts) vertices rest ∙ append_assoc keyword (line counts) (vertices ++ rest))
     ∙ first_line (codes "OFF") (line counts ++ (vertices ++ rest)) (refl, (refl, (refl, tt)))
-    ∙ ap (λ (t : List (List ℕ)). codes "OFF" ∷ t) (first_line counts (vertices ++ rest) counted ∙ ap (λ (t : List (List ℕ)). counts ∷ t) others)
+    ∙ ap (λ (t : List (List ℕ)). codes "OFF" ∷ t)
+    (first_line counts (vertices ++ rest) counted ∙ ap (λ (t : List (List ℕ)). counts ∷ t) others)
   where
     keyword : List ℕ
     keyword = line (codes "OFF")

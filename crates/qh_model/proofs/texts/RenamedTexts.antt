@@ -43,10 +43,12 @@ number_again : (xs : List ℕ) (i : ℕ) → In i xs → vertex_number (vertex_n
 number_again xs i m = vertex_number-map (vertex_number xs) xs i (λ j n. number_apart xs i j m n)
 
 -- a face of members has its text
-face_text_renamed : (xs q : List ℕ) → ((i : ℕ) → In i q → In i xs) → face_text (vertex_numbers xs) (map (vertex_number xs) q) ≡ face_text xs q
+face_text_renamed : (xs q : List ℕ) → ((i : ℕ) → In i q → In i xs)
+    → face_text (vertex_numbers xs) (map (vertex_number xs) q) ≡ face_text xs q
 face_text_renamed xs q within = ap₂ (λ (n : ℕ) (t : List ℕ). line (decimal n ++ t)) (length-map q (vertex_number xs)) numbers
   where
-    numbers : flat_map (λ i. spaced (vertex_number (vertex_numbers xs) i)) (map (vertex_number xs) q) ≡ flat_map (λ i. spaced (vertex_number xs i)) q
+    numbers : flat_map (λ i. spaced (vertex_number (vertex_numbers xs) i)) (map (vertex_number xs) q)
+        ≡ flat_map (λ i. spaced (vertex_number xs i)) q
     numbers =
         flat_map-map (λ i. spaced (vertex_number (vertex_numbers xs) i)) (vertex_number xs) q
         ∙ flat_map_same _ _ q (λ i m. ap spaced (number_again xs i (within i m)))

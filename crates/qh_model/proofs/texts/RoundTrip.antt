@@ -52,7 +52,8 @@ is_read_as_extreme_points pts h Rank can s o small = absurd o
 is_read_as_extreme_points pts h Summary can s o small = absurd o
 is_read_as_extreme_points pts h Fx can s o small = absurd o
 is_read_as_extreme_points pts h Off can s o small = reads_body pts h.body (extreme_points_can_be_read pts h s can) small
-is_read_as_extreme_points pts h OffTriangles can s o small = reads_body pts (in_triangles h.body) (extreme_points_can_be_read pts h s can) small
+is_read_as_extreme_points pts h OffTriangles can s o small =
+    reads_body pts (in_triangles h.body) (extreme_points_can_be_read pts h s can) small
 
 -- ---- writing again
 module _ (pts : List Vector) (h : HullValue) (s : IsHull pts h) where
@@ -81,7 +82,8 @@ module _ (pts : List Vector) (h : HullValue) (s : IsHull pts h) where
       ∙ edge_count_is_unique (map (map f) triangles) _ _ (edges_are_counted (map (map f) triangles)) renamed
 
   -- the triangles by positions
-  triangles_again : let f : ℕ → ℕ = vertex_number h.body.extremes in in_triangles (renamed_body f h.body) ≡ renamed_body f (in_triangles h.body)
+  triangles_again : let f : ℕ → ℕ = vertex_number h.body.extremes in
+      in_triangles (renamed_body f h.body) ≡ renamed_body f (in_triangles h.body)
   triangles_again =
       let f : ℕ → ℕ = vertex_number h.body.extremes in
       λ i. record (renamed_body f h.body) { polygons = fans-map f h.body.polygons i; edges = edges_again i }
