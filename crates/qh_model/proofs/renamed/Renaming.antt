@@ -1,11 +1,11 @@
 -- A set of ids renamed in its order, each with its point: its extreme ids and its dimension.
 use Rattle.std.proofs.Common.{◌≡◌, ℕ, ◌<◌, arith, sym, ap, subst, ◌∙◌}
-use Rattle.std.specs.Prelude.{ℤ}
 use Rattle.qh_model.specs.headline.Vector.{Vector}
 use Rattle.qh_model.specs.headline.Predicates.{vol, AreInLine}
-use Rattle.qh_model.specs.headline.Combination.{Combination, IsBalanced}
+use Rattle.qh_model.specs.headline.Combination.{Combination}
 use Rattle.qh_model.specs.headline.Dimension.{HasTetrahedron, HasTriangle, HasSegment, IsDimension}
 use Rattle.qh_model.specs.headline.Extreme.{Others, Extreme}
+use Rattle.qh_model.proofs.combinations.OtherNames.{combination_by_names}
 use Rattle.qh_model.proofs.extremes.Dimensions.{dimension_as}
 
 -- f names each id of A by one of B, g back, with the same points and in the same order
@@ -16,11 +16,6 @@ pub record IsRenaming (at at' : ℕ → Vector) (A B : ℕ → Type 0) (f g : �
   pub under : (k : ℕ) → B k → f (g k) ≡ k
   pub point : (i : ℕ) → A i → at' (f i) ≡ at i
   pub rises : (i j : ℕ) → A i → A j → i < j → f i < f j
-
--- along one coordinate, with other names of the same numbers
-balanced_as : (w1 w2 w3 w4 : ℕ) (p a b c d a' b' c' d' : ℤ) → a' ≡ a → b' ≡ b → c' ≡ c → d' ≡ d
-    → IsBalanced w1 w2 w3 w4 p a b c d → IsBalanced w1 w2 w3 w4 p a' b' c' d'
-balanced_as w1 w2 w3 w4 p a b c d a' b' c' d' e f g h m = cc
 
 -- a volume of the same points
 pub volume_as : (p q u v p' q' u' v' : Vector) → p' ≡ p → q' ≡ q → u' ≡ u → v' ≡ v → vol p' q' u' v' ≡ vol p q u v
@@ -54,37 +49,6 @@ module _ {at at' : ℕ → Vector} {A B : ℕ → Type 0} {f g : ℕ → ℕ} (r
     point = λ k b. sym (r.point (g k) (r.from k b)) ∙ ap at' (r.under k b);
     rises = rises_back;
   }
-
-  -- a combination of members is one of their names
-  pub combination_renamed : (C D : ℕ → Type 0) → ((j : ℕ) → C j → A j) → ((j : ℕ) → C j → D (f j))
-      → (p : Vector) → Combination at C p → Combination at' D p
-  combination_renamed C D within named p c = record {
-    a = f c.a;
-    b = f c.b;
-    c = f c.c;
-    d = f c.d;
-    has_a = named c.a c.has_a;
-    has_b = named c.b c.has_b;
-    has_c = named c.c c.has_c;
-    has_d = named c.d c.has_d;
-    w1 = c.w1;
-    w2 = c.w2;
-    w3 = c.w3;
-    w4 = c.w4;
-    some_weight = c.some_weight;
-    x = along (λ v. v.x) p.x c.x;
-    y = along (λ v. v.y) p.y c.y;
-    z = along (λ v. v.z) p.z c.z;
-  }
-    where
-      same : (j : ℕ) → C j → at' (f j) ≡ at j
-      same j h = r.point j (within j h)
-
-      along : (h : Vector → ℤ) (m : ℤ) → IsBalanced c.w1 c.w2 c.w3 c.w4 m (h (at c.a)) (h (at c.b)) (h (at c.c)) (h (at c.d))
-          → IsBalanced c.w1 c.w2 c.w3 c.w4 m (h (at' (f c.a))) (h (at' (f c.b))) (h (at' (f c.c))) (h (at' (f c.d)))
-      along h m =
-          balanced_as c.w1 c.w2 c.w3 c.w4 m _ _ _ _ _ _ _ _
-          (ap h (same c.a c.has_a)) (ap h (same c.b c.has_b)) (ap h (same c.c c.has_c)) (ap h (same c.d c.has_d))
 
   -- four members that are not in one plane
   tetrahedron_renamed : HasTetrahedron at A → HasTetrahedron at' B
@@ -137,9 +101,9 @@ module _ {at at' : ℕ → Vector} {A B : ℕ → Type 0} {f g : ℕ → ℕ} (r
   extreme_renamed i h = (r.to i h.0, λ m. h.1 (subst (Combination at (Others A i)) (r.point i h.0) (back m)))
     where
       back : Combination at' (Others B (f i)) (at' (f i)) → Combination at (Others A i) (at' (f i))
-      back m =
-          combination_renamed (renaming_back r) (Others B (f i)) (Others A i) (λ j o. o.0)
-          (λ j o. (r.from j o.0, λ e. o.1 (sym (r.under j o.0) ∙ ap f e))) (at' (f i)) m
+      back =
+          combination_by_names at' at (Others B (f i)) (Others A i) g (λ j o. (r.from j o.0, λ e. o.1 (sym (r.under j o.0) ∙ ap f e)))
+          (λ j o. (renaming_back r).point j o.0) (at' (f i))
 
   -- the dimension stays
   pub dimension_renamed : (k : ℕ) → IsDimension at A k → IsDimension at' B k
