@@ -1,0 +1,9 @@
+-- The ids that a polygon keeps.
+use Rattle.std.specs.Prelude.{ℕ, List}
+use Rattle.qh_model.specs.declared.polygon.Corners.{Corners}
+use Rattle.qh_model.specs.declared.polygon.Corners.TheVariants.{Three, Listed}
+
+-- in their order
+abbrev pub ids_of : Corners → List ℕ
+ids_of (Three ids) = ids
+ids_of (Listed ids) = ids.items
