@@ -38,7 +38,8 @@ returns-clause-face c =
     (λ (q : List ℕ). IsPlanarSet pts c.deref-2.result.now n → IsPolygon (place pts) (Extreme (place pts) (Members c.deref-2.result.now)) n q)
     (λ (q : List ℕ). (ids : List ℕ) → IsIdSet pts ids → IsFinished (place pts) ids (surface_of fs) → IsNewPlane (place pts) fs c.args.marks.now f → IsNewFace (place pts) (Members ids) fs f c.args.marks.now c.walk_plane.new.marks q)
     (λ q h ids s z new. new_face pts ids fs f c.args.marks.now c.walk_plane.new.marks vs s z c.requires.live new c.in_ok-walk_plane.ensures.grown c.in_ok-walk_plane.ensures.has c.in_ok-walk_plane.ensures.crossed
-    corners q c.in_ok-gather_corners.ensures.rising
+    corners q
     (subst (λ (xs : List FacetNo). (i : ℕ) → In i corners ↔ IsListedCorner fs xs i) c.deref.ensures.value c.in_ok-gather_corners.ensures.members)
+    c.in_ok-gather_corners.ensures.rising
     (subst (λ (xs : List ℕ). IsPlanarSet pts xs n → IsPolygon (place pts) (Extreme (place pts) (Members xs)) n q) c.deref-2.ensures.value h))
     c.facet_polygon.ensures
