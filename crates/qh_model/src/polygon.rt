@@ -4,10 +4,12 @@ ghost use Rattle.std.specs.Prelude.{◌≡◌, [], ◌∷◌};
 use crate::point::Id;
 use std::marker::Model;
 
-/// How the ids of a polygon are kept. Most faces are triangles, and these need no memory of their own.
+/// How the ids of a polygon are kept. Most faces have three corners or four, and these need no memory
+/// of their own.
 #[derive(Debug, Drop)]
 enum Corners {
     Three([Id; 3]),
+    Four([Id; 4]),
     Listed(Vec<Id>),
 }
 
@@ -38,13 +40,17 @@ impl Polygon {
         }
     }
 
-    /// The polygon of a list of ids, which it keeps.
+    /// The polygon of a list of ids. It takes no memory, and keeps the list where there are more than
+    /// four.
     pub fn of(ids: Vec<Id>) -> Polygon
         ensures { result ≡ ids.items }
     {
-        Polygon {
-            corners: Corners::Listed(ids),
-        }
+        let corners = match ids.as_slice() {
+            [i, j, k] => Corners::Three([*i, *j, *k]),
+            [i, j, k, l] => Corners::Four([*i, *j, *k, *l]),
+            _ => Corners::Listed(ids),
+        };
+        Polygon { corners }
     }
 
     /// The ids, from the least on.
@@ -53,6 +59,7 @@ impl Polygon {
     {
         match &self.corners {
             Corners::Three(ids) => ids,
+            Corners::Four(ids) => ids,
             Corners::Listed(ids) => ids.as_slice(),
         }
     }
