@@ -1,5 +1,5 @@
 -- A plane with one facet has the corners of that facet, from the least on, as its polygon.
-use Rattle.std.proofs.Common.{◌≡◌, ◌≢◌, ◌⊎◌, inl, inr, ℕ, ◌<◌, List, [], ◌∷◌, length, sym, subst, refl, arith, Bool, true, false, cond, ◌∙◌}
+use Rattle.std.proofs.Common.{◌≡◌, ◌≢◌, inl, inr, ℕ, ◌<◌, List, [], ◌∷◌, length, sym, subst, refl, arith, Bool, true, false, cond, ◌∙◌}
 use Rattle.std.proofs.lemmas.Bool.{eqb-true}
 use Rattle.std.proofs.lemmas.Bool.Decides.{nat_tests}
 use Rattle.std.specs.Prelude.{◌↔◌, ◌&&◌, nat_lt, nat_eq, pos, ◌<ℤ◌}
