@@ -2,6 +2,7 @@
 pub mod Extensions
 pub mod Corners
 pub mod NewFaces
+pub mod LoneTriangles
 pub mod FaceLists
 pub mod Gathering
 pub mod FaceOrder

@@ -28,7 +28,7 @@ pub fn body_of_point(alloc: Global, id: Id) -> Result<Body, Memory>
     ensures { IfOk result (λ b. b ≡ point_body id) }
 {
     let extremes = ids_of(alloc, &[id])?;
-    let polygons = one_polygon(alloc, Polygon(ids_of(alloc, &[id])?))?;
+    let polygons = one_polygon(alloc, Polygon::of(ids_of(alloc, &[id])?))?;
     Ok(Body {
         dim: 0,
         extremes,
@@ -43,7 +43,7 @@ pub fn body_of_segment(alloc: Global, low: Id, high: Id) -> Result<Body, Memory>
     ensures { IfOk result (λ b. b ≡ segment_body low high) }
 {
     let extremes = ids_of(alloc, &[low, high])?;
-    let polygons = one_polygon(alloc, Polygon(ids_of(alloc, &[low, high])?))?;
+    let polygons = one_polygon(alloc, Polygon::of(ids_of(alloc, &[low, high])?))?;
     Ok(Body {
         dim: 1,
         extremes,

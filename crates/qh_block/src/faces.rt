@@ -16,7 +16,7 @@ ghost use Rattle.qh_mesh.specs.contract.Replacement.{IsLive, is_listed};
 ghost use Rattle.qh_model.specs.contract.IdSets.{AreIndices};
 ghost use Rattle.qh_plane.specs.contract.PlanarSets.{IsPlanarSet};
 ghost use Rattle.qh_block.specs.steps.PlaneWalks.{AreCornersBelow, mark_at};
-ghost use Rattle.qh_block.specs.steps.Faces.{corners_of, IsListedCorner, IsNewPlane, IsNewFace, AreFacetFaces};
+ghost use Rattle.qh_block.specs.steps.Faces.{corners_of, from_least, IsListedCorner, IsNewPlane, IsNewFace, AreFacetFaces};
 
 use crate::plane_walk::walk_plane;
 use qh_mesh::{FacetNo, Mesh};
@@ -85,6 +85,21 @@ fn facet_polygon(
     polygon(alloc, pts, ids, &normal)
 }
 
+/// The corners of a live facet, from the least on.
+fn lone_triangle(mesh: &Mesh, f: FacetNo) -> Polygon
+    requires { IsLive mesh.now f.0 }
+    ensures { result ≡ from_least (facet_at mesh.now f.0).i (facet_at mesh.now f.0).j (facet_at mesh.now f.0).k }
+{
+    let [a, b, c] = mesh.facet(f);
+    if a < b && a < c {
+        Polygon::triangle(a, b, c)
+    } else if b < c {
+        Polygon::triangle(b, c, a)
+    } else {
+        Polygon::triangle(c, a, b)
+    }
+}
+
 /// The polygon of the plane of a live facet that has no mark; marks the facets in that plane.
 fn new_face(
     alloc: Global,
@@ -104,6 +119,10 @@ fn new_face(
         → IsNewFace (place pts.now) (Members ids) mesh.now f.0 marks.old marks.new q) }
 {
     walk_plane(pts, mesh, f, marks, &mut room.facets)?;
+    // Most planes have one facet: its corners are the face.
+    if room.facets.len() == 1 {
+        return Ok(lone_triangle(mesh, f));
+    }
     gather_corners(mesh, &room.facets, &mut room.corners)?;
     facet_polygon(alloc, pts, mesh, f, &room.corners)
 }

@@ -10,7 +10,7 @@ ghost use Rattle.qh_model.specs.contract.StoredSurface.{surface_of};
 ghost use Rattle.qh_block.specs.steps.Faces.{IsListed, all_members};
 ghost use Rattle.qh_block.specs.steps.PlaneWalks.{AreCornersBelow};
 
-use crate::face_order::in_order;
+use crate::face_order::sort_faces;
 use crate::faces::faces;
 use crate::solid_edges::edge_count;
 use qh_mesh::Mesh;
@@ -58,10 +58,9 @@ pub fn solid_body(alloc: Global, pts: &[Point], mesh: &Mesh) -> Result<Body, Mem
     ensures { IfOk result (λ b. (ids : List ℕ) → IsIdSet pts.now ids → IsFinished (place pts.now) ids (surface_of mesh.now)
         → IsBody (place pts.now) (Members ids) b) }
 {
-    let faces = faces(alloc, pts, mesh)?;
-    // Before the faces are sorted, each stands beside the next in memory.
-    let extremes = corners(alloc, &faces)?;
-    let polygons = in_order(alloc, faces)?;
+    let mut polygons = faces(alloc, pts, mesh)?;
+    let extremes = corners(alloc, &polygons)?;
+    sort_faces(&mut polygons);
     let edges = edge_count(&polygons)?;
     Ok(Body {
         dim: 3,

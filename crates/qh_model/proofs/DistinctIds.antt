@@ -1,10 +1,12 @@
 -- Facts of the distinct ids of a list of points.
-use Rattle.std.proofs.Common.{ℕ, zero, suc, ◌+◌, ◌<◌, ◌≤◌, List, [], ◌∷◌, length, get_or, add-one, arith, All}
+use Rattle.std.proofs.Common.{ℕ, zero, suc, ◌+◌, ◌<◌, ◌≤◌, List, [], ◌∷◌, length, get_or, add-one, arith, sym, All}
 use Rattle.std.proofs.lemmas.List.Elements.{All-from_get_or}
 use Rattle.std.specs.List.Sorted.{IsStrictlyIncreasing}
 use Rattle.qh_model.specs.headline.Vector.{Vector}
-use Rattle.qh_model.specs.headline.Sets.{In}
+use Rattle.qh_model.specs.headline.Predicates.{place}
+use Rattle.qh_model.specs.headline.Sets.{In, Members}
 use Rattle.qh_model.specs.headline.DistinctIds.{AreDistinctIds}
+use Rattle.qh_model.specs.contract.IdSets.{HasDistinctPoints}
 use Rattle.qh_model.proofs.Members.{In-get_or}
 
 -- they are indices of points
@@ -27,10 +29,21 @@ rising_least xs r (suc k) h =
     let next : get_or xs k 0 < get_or xs (k + 1) 0 = r k (omega arith) in
     rw (← add-one k) (let up : k + 1 ≤ get_or xs (k + 1) 0 = omega (arith, before, next) in up)
 
--- there are at most as many as points
-pub few_ids : (pts : List Vector) (ids : List ℕ) → AreDistinctIds pts ids → length ids ≤ length pts
-few_ids pts [] d = omega arith
-few_ids pts (i ∷ ids) d =
-    let last : length ids ≤ get_or (i ∷ ids) (length ids) 0 = rising_least (i ∷ ids) d.rising (length ids) (omega arith) in
-    let small : get_or (i ∷ ids) (length ids) 0 < length pts = ((d.members (get_or (i ∷ ids) (length ids) 0)).0 (In-get_or (i ∷ ids) (length ids) 0 (omega arith))).0 in
+-- there are at most n rising numbers below n
+pub few_below : (n : ℕ) (xs : List ℕ) → IsStrictlyIncreasing xs → ((i : ℕ) → In i xs → i < n) → length xs ≤ n
+few_below n [] r below = omega arith
+few_below n (x ∷ xs) r below =
+    let last : length xs ≤ get_or (x ∷ xs) (length xs) 0 = rising_least (x ∷ xs) r (length xs) (omega arith) in
+    let small : get_or (x ∷ xs) (length xs) 0 < n = below _ (In-get_or (x ∷ xs) (length xs) 0 (omega arith)) in
     omega (arith, last, small)
+
+-- so at most as many distinct ids as points
+pub few_ids : (pts : List Vector) (ids : List ℕ) → AreDistinctIds pts ids → length ids ≤ length pts
+few_ids pts ids d = few_below (length pts) ids d.rising (λ i m. ((d.members i).0 m).0)
+
+-- they have distinct points
+pub distinct_apart : (pts : List Vector) (ids : List ℕ) → AreDistinctIds pts ids → HasDistinctPoints (place pts) (Members ids)
+distinct_apart pts ids d i j m n e =
+    let below : i < j → ⊥ = λ h. ((d.members j).0 n).1 i h e in
+    let above : j < i → ⊥ = λ h. ((d.members i).0 m).1 j h (sym e) in
+    grind (arith, below, above)

@@ -7,6 +7,8 @@ pub mod surfaces
 pub mod closed_surfaces
 pub mod polygons
 pub mod hulls
+pub mod renamed
+pub mod texts
 pub mod board
 pub mod DistinctIds
 pub mod Cuts

@@ -2,3 +2,4 @@
 pub mod Vectors
 pub mod WeightedTerms
 pub mod Alternatives
+pub mod OtherNames

@@ -4,3 +4,4 @@ pub mod FlatSets
 pub mod OfExtremes
 pub mod SameSets
 pub mod RightValues
+pub mod ExtremePoints

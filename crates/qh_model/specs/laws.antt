@@ -19,6 +19,7 @@ pub mod LiveFacets
 pub mod PolygonLaws
 pub mod Readings
 pub mod RightValueLaws
+pub mod RoundTrip
 pub mod Separator
 pub mod SimplexSurface
 pub mod SurfaceLaws

@@ -1,30 +1,6 @@
-ghost use Rattle.std.specs.Prelude.{◌≡◌};
-
 use crate::point::Id;
+use crate::polygon::Polygon;
 use std::marker::Model;
-
-/// The ids round a face, counterclockwise seen from outside, from the least id on.
-///
-/// A contract sees a polygon as the list of its ids.
-#[derive(Debug, Drop)]
-pub struct Polygon(pub Vec<Id>);
-
-impl Model for Polygon {
-    ghost use Rattle.std.specs.Prelude.{ℕ, List};
-
-    ghost Value = { List ℕ };
-
-    ghost view = { λ q. q.0.items };
-}
-
-impl Polygon {
-    /// The ids, from the least on.
-    pub fn ids(&self) -> &[Id]
-        ensures { result.now ≡ self.now }
-    {
-        self.0.as_slice()
-    }
-}
 
 /// The hull of a set of ids of distinct points.
 ///

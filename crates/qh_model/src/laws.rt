@@ -14,6 +14,7 @@ mod fans;
 mod hulls;
 mod polygons;
 mod reading;
+mod round_trips;
 mod surfaces;
 
 pub use board::{board_core, spans_share_blocks};
@@ -31,6 +32,7 @@ pub use fans::{edges_are_counted, fan_triangles_support};
 pub use hulls::{one_hull, one_value_each};
 pub use polygons::{one_polygon, polygon_by_direction};
 pub use reading::one_reading;
+pub use round_trips::off_is_read_back;
 pub use surfaces::{
     horizon_goes_round, live_is_marked, replace_keeps, rise_is_vol, settled_stay_unseen,
     simplex_is_sound, surface_covers, walk_finds_all,

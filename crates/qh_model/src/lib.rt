@@ -13,15 +13,17 @@ mod limits;
 mod memory;
 mod out;
 mod point;
+mod polygon;
 mod read_fault;
 #[cfg(test)]
 mod tests;
 
 pub use cut::{Cut, CutError};
 pub use form::Form;
-pub use hull::{Body, Hull, Polygon};
+pub use hull::{Body, Hull};
 pub use limits::{BLOCK_LIMIT, BYTE_LIMIT, COORDINATE_LIMIT, POINT_LIMIT, WORKER_LIMIT};
 pub use memory::Memory;
 pub use out::Out;
 pub use point::{Id, Point};
+pub use polygon::Polygon;
 pub use read_fault::ReadFault;

@@ -77,25 +77,17 @@ fn least_position(ids: &[Id]) -> usize
 }
 
 /// The cycle of three ids, from the first on, that turns left.
-fn triangle(
-    alloc: Global,
-    pts: &[Point],
-    normal: &Normal,
-    i: Id,
-    j: Id,
-    k: Id,
-) -> Result<Vec<Id>, AllocError>
+fn triangle(pts: &[Point], normal: &Normal, i: Id, j: Id, k: Id) -> Polygon
     requires i_in { i < length pts.now }
     requires j_in { j < length pts.now }
     requires k_in { k < length pts.now }
-    ensures { IfOk result (λ v. v.items ≡ triangle (turn_of pts.now normal.now) i j k) }
+    ensures { result ≡ triangle (turn_of pts.now normal.now) i j k }
 {
-    let corners = if turns_left(pts, normal, i, j, k) {
-        [i, j, k]
+    if turns_left(pts, normal, i, j, k) {
+        Polygon::triangle(i, j, k)
     } else {
-        [i, k, j]
-    };
-    Ok(Vec::from_array(alloc, corners)?)
+        Polygon::triangle(i, k, j)
+    }
 }
 
 /// The cycle of more ids in one plane, over the two chains of their order, from the least on.
@@ -128,7 +120,7 @@ pub fn polygon(alloc: Global, pts: &[Point], ids: &[Id], normal: &Normal) -> Res
 {
     // Most faces are triangles: one turn tells the order of their ids.
     if ids.len() == 3 {
-        return Ok(Polygon(triangle(alloc, pts, normal, ids[0], ids[1], ids[2])?));
+        return Ok(triangle(pts, normal, ids[0], ids[1], ids[2]));
     }
-    Ok(Polygon(corners(alloc, pts, normal, ids)?))
+    Ok(Polygon::of(corners(alloc, pts, normal, ids)?))
 }

@@ -18,7 +18,7 @@ fn one_point(alloc: Global) -> Result<Hull, Memory>
     let mut face = Vec::new(alloc);
     face.push(Id::new(0))?;
     let mut polygons = Vec::new(alloc);
-    polygons.push(Polygon(face))?;
+    polygons.push(Polygon::of(face))?;
     let body = Body {
         dim: 0,
         extremes,

@@ -97,29 +97,13 @@ module _ (pts : List Vector) (ids : List ℕ) (fs : List StoredFacet) (f : ℕ) 
   on_level : (g : ℕ) → is_listed vs g ≡ true → IsLevelFacet at m f g
   on_level = walked_level at fs f before after vs grown
 
-  module _ (corners q : List ℕ) (rising : IsStrictlyIncreasing corners) (members : (i : ℕ) → In i corners ↔ IsListedCorner fs vs i)
-      (polygon : IsPlanarSet pts corners (cross (at (m.i f)) (at (m.j f)) (at (m.k f))) → IsPolygon at (Extreme at (Members corners)) (cross (at (m.i f)) (at (m.j f)) (at (m.k f))) q) where
+  module _ (corners q : List ℕ) (members : (i : ℕ) → In i corners ↔ IsListedCorner fs vs i) where
     -- the corners are ids
     among : (l : ℕ) → In l corners → Members ids l
     among l i = let c = (members l).0 i in z.corners c.0 (lives c.0 (on_live c.0 c.1)) l c.2
 
     own : (l : ℕ) → IsCorner m f l → In l corners
     own l c = (members l).1 (f, has, c)
-
-    -- and a planar set
-    planar : IsPlanarSet pts corners (cross (at (m.i f)) (at (m.j f)) (at (m.k f)))
-    planar = record {
-      set = record { rising = rising; distinct = λ x y i j e. set.distinct x y (among x i) (among y j) e };
-      i = m.i f;
-      j = m.j f;
-      k = m.k f;
-      has_i = own (m.i f) (inl refl);
-      has_j = own (m.j f) (inr (inl refl));
-      has_k = own (m.k f) (inr (inr refl));
-      area = facet_area at ids m z f (lives f live);
-      plane = λ l i. (let c = (members l).0 i in on_level c.0 c.1 l c.2);
-      normal = inl refl;
-    }
 
     -- of the corners of the plane's facets
     corner : (l : ℕ) → Members corners l ↔ CornerInPlane at m (m.i f) (m.j f) (m.k f) l
@@ -134,16 +118,36 @@ module _ (pts : List Vector) (ids : List ℕ) (fs : List StoredFacet) (f : ℕ) 
       λ x. (extreme_as at (Members corners) (CornerInPlane at m (m.i f) (m.j f) (m.k f)) corner l).1 (law.1 x),
     )
 
-    -- so the face is new
-    pub new_face : IsNewFace at (Members ids) fs f before after q
-    new_face = record {
+    -- so a polygon of the corners is the face
+    pub face_of_corners : IsPolygon at (Extreme at (Members corners)) (cross (at (m.i f)) (at (m.j f)) (at (m.k f))) q → IsNewFace at (Members ids) fs f before after q
+    face_of_corners polygon = record {
       kept = λ g h. marks g ∙ or_left _ _ h;
       marked = λ g l level. marks g ∙ or_right _ _ (found g l level);
       only = λ g h. only g (or_cases _ _ (sym (marks g) ∙ h));
       polygon = polygon_as at (Extreme at (Members corners)) (OnPlane at (Extreme at (Members ids)) (m.i f) (m.j f) (m.k f)) (cross (at (m.i f)) (at (m.j f)) (at (m.k f))) (cross (at (m.i f)) (at (m.j f)) (at (m.k f))) q
-          extreme (along_itself (cross (at (m.i f)) (at (m.j f)) (at (m.k f)))) (polygon planar);
+          extreme (along_itself (cross (at (m.i f)) (at (m.j f)) (at (m.k f)))) polygon;
     }
       where
         only : (g : ℕ) → (mark_at before g ≡ true) ⊎ (is_listed vs g ≡ true) → (mark_at before g ≡ true) ⊎ (IsLive fs g × IsLevelFacet at m f g)
         only g (inl h) = inl h
         only g (inr h) = inr (on_live g h, on_level g h)
+
+    -- the corners, rising, are a planar set
+    planar : IsStrictlyIncreasing corners → IsPlanarSet pts corners (cross (at (m.i f)) (at (m.j f)) (at (m.k f)))
+    planar rising = record {
+      set = record { rising = rising; distinct = λ x y i j e. set.distinct x y (among x i) (among y j) e };
+      i = m.i f;
+      j = m.j f;
+      k = m.k f;
+      has_i = own (m.i f) (inl refl);
+      has_j = own (m.j f) (inr (inl refl));
+      has_k = own (m.k f) (inr (inr refl));
+      area = facet_area at ids m z f (lives f live);
+      plane = λ l i. (let c = (members l).0 i in on_level c.0 c.1 l c.2);
+      normal = inl refl;
+    }
+
+    -- the face by the polygon of a planar set
+    pub new_face : IsStrictlyIncreasing corners → (IsPlanarSet pts corners (cross (at (m.i f)) (at (m.j f)) (at (m.k f)))
+        → IsPolygon at (Extreme at (Members corners)) (cross (at (m.i f)) (at (m.j f)) (at (m.k f))) q) → IsNewFace at (Members ids) fs f before after q
+    new_face rising polygon = face_of_corners (polygon (planar rising))

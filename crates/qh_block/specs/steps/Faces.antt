@@ -1,5 +1,5 @@
 -- The faces of a solid, gathered plane by plane from the facets of its finished mesh.
-use Rattle.std.specs.Prelude.{◌≡◌, ◌⊎◌, ℕ, ◌<◌, List, [], ◌∷◌, ◌++◌, length, map, take, Bool, true}
+use Rattle.std.specs.Prelude.{◌≡◌, ◌⊎◌, ℕ, ◌<◌, List, [], ◌∷◌, ◌++◌, length, map, take, Bool, true, nat_lt, ◌&&◌, if◌then◌else◌}
 use Rattle.qh_model.specs.headline.Vector.{Vector}
 use Rattle.qh_model.specs.headline.Sets.{In, Once}
 use Rattle.qh_model.specs.contract.Surface.{IsCorner}
@@ -14,6 +14,13 @@ use Rattle.qh_block.specs.steps.PlaneWalks.{mark_at}
 abbrev pub corners_of : List StoredFacet → List FacetNo → List ℕ
 corners_of fs [] = []
 corners_of fs (v ∷ vs) = (facet_at fs v.0).i ∷ (facet_at fs v.0).j ∷ (facet_at fs v.0).k ∷ corners_of fs vs
+
+-- three ids in their turn, from the least on
+abbrev pub from_least : ℕ → ℕ → ℕ → List ℕ
+from_least i j k =
+    if nat_lt i j && nat_lt i k then i ∷ j ∷ k ∷ []
+    else if nat_lt j k then j ∷ k ∷ i ∷ []
+    else k ∷ i ∷ j ∷ []
 
 -- l is a corner of a listed facet
 abbrev pub IsListedCorner : List StoredFacet → List FacetNo → ℕ → Type 0

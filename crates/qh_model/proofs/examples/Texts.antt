@@ -8,7 +8,7 @@ use Rattle.qh_model.specs.headline.Predicates.{place}
 use Rattle.qh_model.specs.headline.Hull.{HullValue}
 use Rattle.qh_model.specs.headline.Text.{line, hull_text, vertex_number}
 
-abbrev point : ℕ → ℕ → ℕ → Vector
+abbrev pub point : ℕ → ℕ → ℕ → Vector
 point x y z = record { x = pos x; y = pos y; z = pos z }
 
 -- the corners of the tetrahedron at the origin
@@ -51,10 +51,10 @@ pub triangles : hull_text hull corners (OffTriangles ∷ []) ≡ hull_text hull 
 triangles = refl
 
 -- the square (5,0,0) (5,2,0) (5,2,2) (5,0,2), given after another point of it
-abbrev square_corners : List Vector
+abbrev pub square_corners : List Vector
 square_corners = point 5 1 1 ∷ point 5 0 0 ∷ point 5 2 0 ∷ point 5 2 2 ∷ point 5 0 2 ∷ []
 
-abbrev square : HullValue
+abbrev pub square : HullValue
 square = record {
   given = 5;
   distinct = 5;

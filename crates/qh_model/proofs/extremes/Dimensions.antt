@@ -181,16 +181,16 @@ dimension_is_unique at ids k l d e = one_dimension at (Members ids) k l d e
 
 -- ---- the same dimension
 -- each follows of the other
-abbrev Both : Type 0 → Type 0 → Type 0
+abbrev pub Both : Type 0 → Type 0 → Type 0
 Both P Q = (P → Q) × (Q → P)
 
--- the dimension of another set with the same
-dimension_as : (at : ℕ → Vector) (A B : ℕ → Type 0) → Both (HasTetrahedron at A) (HasTetrahedron at B) → Both (HasTriangle at A) (HasTriangle at B) → Both (HasSegment A) (HasSegment B)
-    → (k : ℕ) → IsDimension at A k → IsDimension at B k
-dimension_as at A B f g h k (inl (e, t)) = inl (e, f.0 t)
-dimension_as at A B f g h k (inr (inl (e, t, n))) = inr (inl (e, g.0 t, λ u. n (f.1 u)))
-dimension_as at A B f g h k (inr (inr (inl (e, t, n)))) = inr (inr (inl (e, h.0 t, λ u. n (g.1 u))))
-dimension_as at A B f g h k (inr (inr (inr (e, n)))) = inr (inr (inr (e, λ u. n (h.1 u))))
+-- the dimension of another set with the same, of other points too
+pub dimension_as : (at at' : ℕ → Vector) (A B : ℕ → Type 0) → Both (HasTetrahedron at A) (HasTetrahedron at' B) → Both (HasTriangle at A) (HasTriangle at' B) → Both (HasSegment A) (HasSegment B)
+    → (k : ℕ) → IsDimension at A k → IsDimension at' B k
+dimension_as at at' A B f g h k (inl (e, t)) = inl (e, f.0 t)
+dimension_as at at' A B f g h k (inr (inl (e, t, n))) = inr (inl (e, g.0 t, λ u. n (f.1 u)))
+dimension_as at at' A B f g h k (inr (inr (inl (e, t, n)))) = inr (inr (inl (e, h.0 t, λ u. n (g.1 u))))
+dimension_as at at' A B f g h k (inr (inr (inr (e, n)))) = inr (inr (inr (e, λ u. n (h.1 u))))
 
 -- a part has no more than the set
 tetrahedron_in : (at : ℕ → Vector) (A B : ℕ → Type 0) → ((i : ℕ) → A i → B i) → HasTetrahedron at A → HasTetrahedron at B
@@ -206,7 +206,7 @@ segment_in A B f h = record { i = h.i; j = h.j; has_i = f h.i h.has_i; has_j = f
 
 -- the law
 pub dimension_of_extremes : DimensionOfExtremes
-dimension_of_extremes at ids k d = (dimension_as at E A (four.1, four.0) (three.1, three.0) (two.1, two.0) k, dimension_as at A E four three two k)
+dimension_of_extremes at ids k d = (dimension_as at at E A (four.1, four.0) (three.1, three.0) (two.1, two.0) k, dimension_as at at A E four three two k)
   where
     A : ℕ → Type 0
     A = Members ids

@@ -1,5 +1,5 @@
 -- The greatest member in a direction is extreme, members are mixes of extremes, and extremes of a union.
-use Rattle.std.proofs.Common.{◌≡◌, ◌≢◌, ℕ, zero, suc, ◌<◌, arith, sym, subst, ◌⊎◌, inl, inr, ◌↔◌, List, [], ◌∷◌, ◌++◌}
+use Rattle.std.proofs.Common.{◌≡◌, ◌≢◌, ℕ, zero, suc, ◌<◌, arith, refl, sym, subst, ◌⊎◌, inl, inr, ◌↔◌, List, [], ◌∷◌, ◌++◌}
 use Rattle.std.proofs.lemmas.Int.{ints}
 use Rattle.std.specs.Prelude.{ℤ, pos, ◌+ℤ◌, ◌*ℤ◌, ◌<ℤ◌}
 use Rattle.std.specs.List.{AllByRecursion as Every}
@@ -9,6 +9,7 @@ use Rattle.qh_model.proofs.algebra.Integers.{ring_rules}
 use Rattle.qh_model.proofs.algebra.VectorIdentities.{vector_path}
 use Rattle.qh_model.proofs.combinations.Vectors.{V, dot as vdot}
 use Rattle.qh_model.proofs.Members.{every_at}
+use Rattle.qh_model.proofs.combinations.OtherNames.{combination_by_names}
 use Rattle.qh_model.proofs.combinations.Alternatives.{combination_or_separator, all_lower}
 use Rattle.qh_model.proofs.extremes.LexicographicOrder.{Less, Same, AtMost, Greatest, greatest, collapse}
 use Rattle.qh_model.proofs.lists.Joined.{in_append, of_append}
@@ -87,24 +88,7 @@ listed_itself xs j = (λ h. h, λ h. h)
 
 -- a convex combination of a part
 pub combination_within : (at : ℕ → Vector) (A B : ℕ → Type 0) (p : Vector) → Combination at A p → ((j : ℕ) → A j → B j) → Combination at B p
-combination_within at A B p m f = record {
-  a = m.a;
-  b = m.b;
-  c = m.c;
-  d = m.d;
-  has_a = f m.a m.has_a;
-  has_b = f m.b m.has_b;
-  has_c = f m.c m.has_c;
-  has_d = f m.d m.has_d;
-  w1 = m.w1;
-  w2 = m.w2;
-  w3 = m.w3;
-  w4 = m.w4;
-  some_weight = m.some_weight;
-  x = m.x;
-  y = m.y;
-  z = m.z;
-}
+combination_within at A B p m f = combination_by_names at at A B (λ j. j) f (λ j a. refl) p m
 
 -- a listed set combines to p or is separated from it
 pub alternative_in : (at : ℕ → Vector) (A : ℕ → Type 0) (xs : List ℕ) → Listed A xs → (p : Vector) → Combination at A p ⊎ Separator at A p

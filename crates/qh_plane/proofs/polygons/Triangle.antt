@@ -38,7 +38,7 @@ left_corner n at a b c A ac only h = record { member = ac; w = cross_product n (
     beat x (inr e) = below (at x) (subst (λ t. left n (at a) (at b) (at t) ≡ pos 0) (sym e) (left-there n (at a) (at b)))
 
 -- a left turn over three members from the least on is their polygon
-left_triangle : (n : Vector) (at : ℕ → Vector) (A : ℕ → Type 0) (a b c : ℕ) → ((x : ℕ) → A x ↔ In x (a ∷ b ∷ c ∷ [])) → a < b → a < c → b ≢ c
+pub left_triangle : (n : Vector) (at : ℕ → Vector) (A : ℕ → Type 0) (a b c : ℕ) → ((x : ℕ) → A x ↔ In x (a ∷ b ∷ c ∷ [])) → a < b → a < c → b ≢ c
     → pos 0 <ℤ left n (at a) (at b) (at c) → IsPolygon at (Extreme at A) n (a ∷ b ∷ c ∷ [])
 left_triangle n at A a b c l ab ac bc h = record {
   members = λ x. (λ i. corner_extreme at A x (corner x i), λ e. (l x).0 e.0);

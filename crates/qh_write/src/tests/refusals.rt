@@ -15,7 +15,7 @@ fn square(alloc: Global) -> Result<Hull, Memory>
     let extremes = Vec::from_array(alloc, corners)?;
     let face = Vec::from_array(alloc, corners)?;
     let mut polygons = Vec::new(alloc);
-    polygons.push(Polygon(face))?;
+    polygons.push(Polygon::of(face))?;
     let body = Body {
         dim: 2,
         extremes,

@@ -1,0 +1,38 @@
+-- A convex combination of points is one of the same points by other names, among more of them too.
+use Rattle.std.proofs.Common.{◌≡◌, ℕ, ap}
+use Rattle.std.specs.Prelude.{ℤ}
+use Rattle.qh_model.specs.headline.Vector.{Vector}
+use Rattle.qh_model.specs.headline.Combination.{Combination, IsBalanced}
+
+-- along one coordinate, with other names of the same numbers
+balanced_as : (w1 w2 w3 w4 : ℕ) (p a b c d a' b' c' d' : ℤ) → a' ≡ a → b' ≡ b → c' ≡ c → d' ≡ d
+    → IsBalanced w1 w2 w3 w4 p a b c d → IsBalanced w1 w2 w3 w4 p a' b' c' d'
+balanced_as w1 w2 w3 w4 p a b c d a' b' c' d' e f g h m = cc
+
+-- f names the members, with the same points
+pub combination_by_names : (at at' : ℕ → Vector) (A B : ℕ → Type 0) (f : ℕ → ℕ) → ((j : ℕ) → A j → B (f j)) → ((j : ℕ) → A j → at' (f j) ≡ at j)
+    → (p : Vector) → Combination at A p → Combination at' B p
+combination_by_names at at' A B f named same p m = record {
+  a = f m.a;
+  b = f m.b;
+  c = f m.c;
+  d = f m.d;
+  has_a = named m.a m.has_a;
+  has_b = named m.b m.has_b;
+  has_c = named m.c m.has_c;
+  has_d = named m.d m.has_d;
+  w1 = m.w1;
+  w2 = m.w2;
+  w3 = m.w3;
+  w4 = m.w4;
+  some_weight = m.some_weight;
+  x = along (λ v. v.x) p.x m.x;
+  y = along (λ v. v.y) p.y m.y;
+  z = along (λ v. v.z) p.z m.z;
+}
+  where
+    along : (h : Vector → ℤ) (n : ℤ) → IsBalanced m.w1 m.w2 m.w3 m.w4 n (h (at m.a)) (h (at m.b)) (h (at m.c)) (h (at m.d))
+        → IsBalanced m.w1 m.w2 m.w3 m.w4 n (h (at' (f m.a))) (h (at' (f m.b))) (h (at' (f m.c))) (h (at' (f m.d)))
+    along h n =
+        balanced_as m.w1 m.w2 m.w3 m.w4 n _ _ _ _ _ _ _ _
+        (ap h (same m.a m.has_a)) (ap h (same m.b m.has_b)) (ap h (same m.c m.has_c)) (ap h (same m.d m.has_d))

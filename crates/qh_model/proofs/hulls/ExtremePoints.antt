@@ -1,0 +1,60 @@
+-- The points of the extreme ids can be read where the points can: there are some, not too many, and they are in range.
+use Rattle.std.proofs.Common.{◌≡◌, ℕ, zero, suc, ◌<◌, ◌≤◌, List, [], ◌∷◌, length, get_or, map, arith, refl, inl, inr}
+use Rattle.std.proofs.lemmas.List.{length-map}
+use Rattle.std.specs.List.{AllByRecursion as Every}
+use Rattle.qh_model.specs.headline.Vector.{Vector, origin}
+use Rattle.qh_model.specs.headline.Predicates.{place}
+use Rattle.qh_model.specs.headline.Limits.{IsCoordinate}
+use Rattle.qh_model.specs.headline.PointFile.{coordinates}
+use Rattle.qh_model.specs.headline.Sets.{In}
+use Rattle.qh_model.specs.headline.Hull.{HullValue, IsHull}
+use Rattle.qh_model.specs.contract.Places.{IsPlace}
+use Rattle.qh_model.specs.laws.RoundTrip.{CanBeRead, extreme_points}
+use Rattle.qh_model.proofs.Members.{In-get_or}
+use Rattle.qh_model.proofs.DistinctIds.{distinct_apart, some_id, few_below}
+use Rattle.qh_model.proofs.extremes.ExtremeIds.{members_are_combinations}
+
+module _ (pts : List Vector) (h : HullValue) (s : IsHull pts h) where
+  -- an extreme id is the index of a point
+  extreme_within : (i : ℕ) → In i h.body.extremes → i < length pts
+  extreme_within i m = ((s.distinct_ids.members i).0 ((s.body.extremes.members i).0 m).0).0
+
+  -- of some points some are extreme
+  some_extreme : 1 ≤ length pts → 1 ≤ length h.body.extremes
+  some_extreme some =
+      let first = In-get_or s.ids 0 0 (some_id pts s.ids s.distinct_ids some) in
+      let c = members_are_combinations (place pts) s.ids (distinct_apart pts s.ids s.distinct_ids) (get_or s.ids 0 0) first in
+      member c.a h.body.extremes ((s.body.extremes.members c.a).1 c.has_a)
+    where
+      member : (i : ℕ) (xs : List ℕ) → In i xs → 1 ≤ length xs
+      member i [] m = absurd m
+      member i (x ∷ xs) m = omega arith
+
+  -- at most as many as there are
+  few_extremes : length h.body.extremes ≤ length pts
+  few_extremes = few_below (length pts) h.body.extremes s.body.extremes.rising extreme_within
+
+-- a point of points in range is in range
+place_in_range : (pts : List Vector) → Every IsCoordinate (coordinates pts) → (i : ℕ) → i < length pts → IsPlace (get_or pts i origin)
+place_in_range [] h i l = absurd (omega arith)
+place_in_range (p ∷ ps) h zero l = record { x = h.0; y = h.1.0; z = h.1.1.0 }
+place_in_range (p ∷ ps) h (suc i) l = place_in_range ps h.1.1.1 i (omega arith)
+
+-- so are some of them
+places_in_range : (pts : List Vector) → Every IsCoordinate (coordinates pts) → (xs : List ℕ) → ((i : ℕ) → In i xs → i < length pts)
+    → Every IsCoordinate (coordinates (map (place pts) xs))
+unfolding place
+places_in_range pts h [] within = tt
+places_in_range pts h (x ∷ xs) within =
+    let p = place_in_range pts h x (within x (inl refl)) in
+    (p.x, (p.y, (p.z, places_in_range pts h xs (λ i m. within i (inr m)))))
+
+-- the points of the extreme ids can be read
+pub extreme_points_can_be_read : (pts : List Vector) (h : HullValue) → IsHull pts h → CanBeRead pts → CanBeRead (extreme_points pts h)
+extreme_points_can_be_read pts h s can =
+    let count : length (extreme_points pts h) ≡ length h.body.extremes = length-map h.body.extremes (place pts) in
+    record {
+      some = omega (arith, count, some_extreme pts h s can.some);
+      few = omega (arith, count, few_extremes pts h s, can.few);
+      limit = places_in_range pts can.limit h.body.extremes (extreme_within pts h s);
+    }

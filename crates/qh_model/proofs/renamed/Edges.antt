@@ -1,0 +1,77 @@
+-- The edges of a set renamed in its order.
+use Rattle.std.proofs.Common.{◌≡◌, ℕ, ◌<◌, ◌⊎◌, List, map, sym, ap, subst, ◌∙◌, inl, inr}
+use Rattle.std.proofs.lemmas.List.{length-map}
+use Rattle.qh_model.specs.headline.Vector.{Vector}
+use Rattle.qh_model.specs.headline.Sets.{In}
+use Rattle.qh_model.specs.headline.Polygon.{Follows}
+use Rattle.qh_model.specs.headline.Polygons.{IsEdge, IsEdgeCount}
+use Rattle.qh_model.proofs.lists.Images.{in_map, of_map}
+use Rattle.qh_model.proofs.polygons.Neighbours.{follows_members}
+use Rattle.qh_model.proofs.renamed.Lists.{AreWithin, once_map, follows_map, of_follows_map}
+use Rattle.qh_model.proofs.renamed.Renaming.{IsRenaming, renaming_apart, renaming_falls}
+
+module _ {at at' : ℕ → Vector} {A B : ℕ → Type 0} {f g : ℕ → ℕ} (r : IsRenaming at at' A B f g) where
+  -- the members of an edge
+  edge_members : (qs : List (List ℕ)) → AreWithin A qs → (u v : ℕ) → IsEdge qs u v → A u × A v
+  edge_members qs within u v (h, (q, m, inl s)) = let e = follows_members u v q s in (within q m u e.0, within q m v e.1)
+  edge_members qs within u v (h, (q, m, inr s)) = let e = follows_members v u q s in (within q m u e.1, within q m v e.0)
+
+  -- an edge by its names
+  edge_renamed : (qs : List (List ℕ)) → AreWithin A qs → (u v : ℕ) → IsEdge qs u v → IsEdge (map (map f) qs) (f u) (f v)
+  edge_renamed qs within u v (h, (q, m, n)) =
+      let ends = edge_members qs within u v (h, (q, m, n)) in
+      (r.rises u v ends.0 ends.1 h, (map f q, in_map (map f) qs q m, next n))
+    where
+      next : Follows u v q ⊎ Follows v u q → Follows (f u) (f v) (map f q) ⊎ Follows (f v) (f u) (map f q)
+      next (inl s) = inl (follows_map f u v q s)
+      next (inr s) = inr (follows_map f v u q s)
+
+  -- an edge of the names is one of ids
+  of_edge_renamed : (qs : List (List ℕ)) → AreWithin A qs → (u v : ℕ) → IsEdge (map (map f) qs) u v
+      → (a : ℕ) × (b : ℕ) × IsEdge qs a b × (u ≡ f a) × (v ≡ f b)
+  of_edge_renamed qs within u v (h, (p, m, n)) = go (of_map (map f) qs p m)
+    where
+      lower : (a b : ℕ) → A a → A b → u ≡ f a → v ≡ f b → a < b
+      lower a b x y d e = renaming_falls r a b x y (subst (λ t. t < f b) d (subst (λ t. u < t) e h))
+
+      go : (q : List ℕ) × In q qs × (p ≡ map f q) → (a : ℕ) × (b : ℕ) × IsEdge qs a b × (u ≡ f a) × (v ≡ f b)
+      go (q, i, s) = pick n
+        where
+          pick : Follows u v p ⊎ Follows v u p → (a : ℕ) × (b : ℕ) × IsEdge qs a b × (u ≡ f a) × (v ≡ f b)
+          pick (inl w) =
+              let o = of_follows_map f u v q (subst (Follows u v) s w) in
+              let e = follows_members o.0 o.1 q o.2 in
+              (o.0, o.1, (lower o.0 o.1 (within q i o.0 e.0) (within q i o.1 e.1) o.3 o.4, (q, i, inl o.2)), o.3, o.4)
+          pick (inr w) =
+              let o = of_follows_map f v u q (subst (Follows v u) s w) in
+              let e = follows_members o.0 o.1 q o.2 in
+              (o.1, o.0, (lower o.1 o.0 (within q i o.1 e.1) (within q i o.0 e.0) o.4 o.3, (q, i, inr o.2)), o.4, o.3)
+
+  -- their number stays
+  pub edge_count_renamed : (qs : List (List ℕ)) (n : ℕ) → AreWithin A qs → IsEdgeCount qs n → IsEdgeCount (map (map f) qs) n
+  edge_count_renamed qs n within c = record {
+    list = map both c.list;
+    once = once_map both c.list (λ p q i j e. same p q (edge p i) (edge q j) e) c.once;
+    all = λ u v. (λ m. there u v (of_map both c.list (u, v) m), λ e. back u v (of_edge_renamed qs within u v e));
+    count = length-map c.list both ∙ c.count;
+  }
+    where
+      both : ℕ × ℕ → ℕ × ℕ
+      both p = (f p.0, f p.1)
+
+      edge : (p : ℕ × ℕ) → In p c.list → IsEdge qs p.0 p.1
+      edge (u, v) i = (c.all u v).0 i
+
+      same : (p q : ℕ × ℕ) → IsEdge qs p.0 p.1 → IsEdge qs q.0 q.1 → both p ≡ both q → p ≡ q
+      same p q d e h =
+          let ends_p = edge_members qs within p.0 p.1 d in
+          let ends_q = edge_members qs within q.0 q.1 e in
+          let first = renaming_apart r p.0 q.0 ends_p.0 ends_q.0 (ap (λ (x : ℕ × ℕ). x.0) h) in
+          let second = renaming_apart r p.1 q.1 ends_p.1 ends_q.1 (ap (λ (x : ℕ × ℕ). x.1) h) in
+          λ i. (first i, second i)
+
+      there : (u v : ℕ) → (p : ℕ × ℕ) × In p c.list × ((u, v) ≡ both p) → IsEdge (map (map f) qs) u v
+      there u v (p, i, e) = subst (λ (x : ℕ × ℕ). IsEdge (map (map f) qs) x.0 x.1) (sym e) (edge_renamed qs within p.0 p.1 (edge p i))
+
+      back : (u v : ℕ) → (a : ℕ) × (b : ℕ) × IsEdge qs a b × (u ≡ f a) × (v ≡ f b) → In (u, v) (map both c.list)
+      back u v (a, b, e, d, s) = subst (λ x. In x (map both c.list)) (λ i. (sym d i, sym s i)) (in_map both c.list (a, b) ((c.all a b).1 e))

@@ -1,0 +1,98 @@
+-- Images of lists of ids under a renaming: members once, neighbours, the least first, and lexicographic order.
+use Rattle.std.proofs.Common.{◌≡◌, ℕ, ◌+◌, ◌<◌, ◌≤◌, refl, List, [], ◌∷◌, length, get_or, map, arith, ap, sym, subst, inl, inr}
+use Rattle.std.proofs.lemmas.List.{length-map, get_or-map}
+use Rattle.std.specs.List.Sorted.{IsStrictlyIncreasing}
+use Rattle.qh_model.specs.headline.Sets.{In, Once, BeginsWithLeast}
+use Rattle.qh_model.specs.headline.Polygon.{FollowsAlong, Follows}
+use Rattle.qh_model.specs.headline.Polygons.{ComesBefore, RisesFrom, RiseStrictly}
+use Rattle.qh_model.proofs.Members.{In-get_or}
+use Rattle.qh_model.proofs.lists.Images.{of_map}
+
+-- ---- any image
+-- the image of a list that has each member once, under a function that keeps its members apart
+pub once_map : {X Y : Type 0} (f : X → Y) (xs : List X) → ((x y : X) → In x xs → In y xs → f x ≡ f y → x ≡ y) → Once xs → Once (map f xs)
+once_map f [] apart o = tt
+once_map {X} f (x ∷ xs) apart o = (λ m. twice (of_map f xs (f x) m), once_map f xs (λ y z i j. apart y z (inr i) (inr j)) o.1)
+  where
+    twice : (y : X) × In y xs × (f x ≡ f y) → ⊥
+    twice (y, i, e) = o.0 (subst (λ t. In t xs) (sym (apart x y (inl refl) (inr i) e)) i)
+
+-- the neighbours that neighbours on the image of a way come from
+record OldNeighbours (f : ℕ → ℕ) (u v t : ℕ) (r : List ℕ) (e : ℕ) : Type 0 where
+  a : ℕ
+  b : ℕ
+  follows : FollowsAlong a b t r e
+  first : u ≡ f a
+  second : v ≡ f b
+
+-- neighbours on a way have neighbours as images
+along_map : (f : ℕ → ℕ) (u v t : ℕ) (r : List ℕ) (e : ℕ) → FollowsAlong u v t r e → FollowsAlong (f u) (f v) (f t) (map f r) (f e)
+along_map f u v t [] e h = (ap f h.0, ap f h.1)
+along_map f u v t (w ∷ r) e (inl h) = inl (ap f h.0, ap f h.1)
+along_map f u v t (w ∷ r) e (inr h) = inr (along_map f u v w r e h)
+
+-- and those on the image come from neighbours
+of_along_map : (f : ℕ → ℕ) (u v t : ℕ) (r : List ℕ) (e : ℕ) → FollowsAlong u v (f t) (map f r) (f e) → OldNeighbours f u v t r e
+of_along_map f u v t [] e h = record { a = t; b = e; follows = (refl, refl); first = sym h.0; second = sym h.1 }
+of_along_map f u v t (w ∷ r) e (inl h) = record { a = t; b = w; follows = inl (refl, refl); first = sym h.0; second = sym h.1 }
+of_along_map f u v t (w ∷ r) e (inr h) =
+    let s = of_along_map f u v w r e h in
+    record { a = s.a; b = s.b; follows = inr s.follows; first = s.first; second = s.second }
+
+-- neighbours round a polygon have neighbours as images
+pub follows_map : (f : ℕ → ℕ) (u v : ℕ) (q : List ℕ) → Follows u v q → Follows (f u) (f v) (map f q)
+follows_map f u v [] h = absurd h
+follows_map f u v (t ∷ r) h = along_map f u v t r t h
+
+-- and those round the image are images of neighbours
+pub of_follows_map : (f : ℕ → ℕ) (u v : ℕ) (q : List ℕ) → Follows u v (map f q) → (a : ℕ) × (b : ℕ) × Follows a b q × (u ≡ f a) × (v ≡ f b)
+of_follows_map f u v [] h = absurd h
+of_follows_map f u v (t ∷ r) h = let s = of_along_map f u v t r t h in (s.a, s.b, s.follows, s.first, s.second)
+
+-- ---- images under a function that rises on a set
+-- each member of each list is one of A
+abbrev pub AreWithin : (ℕ → Type 0) → List (List ℕ) → Type 0
+AreWithin A qs = (q : List ℕ) → In q qs → (i : ℕ) → In i q → A i
+
+module _ (A : ℕ → Type 0) (f : ℕ → ℕ) (rises : (i j : ℕ) → A i → A j → i < j → f i < f j) where
+  -- the least stays first
+  pub least_map : (q : List ℕ) → ((i : ℕ) → In i q → A i) → BeginsWithLeast q → BeginsWithLeast (map f q)
+  least_map [] within h = tt
+  least_map (u ∷ us) within h = λ v m. go v (of_map f us v m)
+    where
+      go : (v : ℕ) → (w : ℕ) × In w us × (v ≡ f w) → f u ≤ v
+      go v (w, i, e) =
+          let low : u ≤ w = h w i in
+          let up : u < w → f u < f w = rises u w (within u (inl refl)) (within w (inr i)) in
+          let same : u ≡ w → f u ≡ f w = ap f in
+          grind (arith, low, up, same, e)
+
+  -- lists keep their order
+  pub before_map : (p q : List ℕ) → ((i : ℕ) → In i p → A i) → ((i : ℕ) → In i q → A i) → ComesBefore p q → ComesBefore (map f p) (map f q)
+  before_map [] [] a b h = h
+  before_map (u ∷ p) [] a b h = h
+  before_map [] (v ∷ q) a b h = tt
+  before_map (u ∷ p) (v ∷ q) a b (inl h) = inl (rises u v (a u (inl refl)) (b v (inl refl)) h)
+  before_map (u ∷ p) (v ∷ q) a b (inr h) = inr (ap f h.0, before_map p q (λ i m. a i (inr m)) (λ i m. b i (inr m)) h.1)
+
+  -- and each the next
+  rises_map : (q : List ℕ) (ps : List (List ℕ)) → ((i : ℕ) → In i q → A i) → AreWithin A ps
+      → RisesFrom q ps → RisesFrom (map f q) (map (map f) ps)
+  rises_map q [] a b h = tt
+  rises_map q (p ∷ ps) a b h = (before_map q p a (b p (inl refl)) h.0, rises_map p ps (b p (inl refl)) (λ t i. b t (inr i)) h.1)
+
+  -- lists of lists go on rising
+  pub rise_map : (qs : List (List ℕ)) → AreWithin A qs → RiseStrictly qs → RiseStrictly (map (map f) qs)
+  rise_map [] within h = tt
+  rise_map (q ∷ qs) within h = rises_map q qs (within q (inl refl)) (λ t i. within t (inr i)) h
+
+  -- and so do lists of numbers
+  pub rising_map : (xs : List ℕ) → ((i : ℕ) → In i xs → A i) → IsStrictlyIncreasing xs → IsStrictlyIncreasing (map f xs)
+  rising_map xs within h k l =
+      let inside : k + 1 < length xs = subst (λ n. k + 1 < n) (length-map xs f) l in
+      let here : get_or (map f xs) k 0 ≡ f (get_or xs k 0) = get_or-map f xs k 0 0 (omega (arith, inside)) in
+      let next : get_or (map f xs) (k + 1) 0 ≡ f (get_or xs (k + 1) 0) = get_or-map f xs (k + 1) 0 0 inside in
+      let first = within (get_or xs k 0) (In-get_or xs k 0 (omega (arith, inside))) in
+      let second = within (get_or xs (k + 1) 0) (In-get_or xs (k + 1) 0 inside) in
+      let up : f (get_or xs k 0) < f (get_or xs (k + 1) 0) = rises (get_or xs k 0) (get_or xs (k + 1) 0) first second (h k inside) in
+      omega (arith, here, next, up)

@@ -1,0 +1,6 @@
+-- Texts: what they say when they are read.
+pub mod RenamedTexts
+pub mod Decimals
+pub mod Lines
+pub mod OffTexts
+pub mod RoundTrip

@@ -1,0 +1,119 @@
+-- Decimals as they are written are numbers: what they stand for, and their bytes.
+use Rattle.std.proofs.Common.{◌≡◌, ℕ, zero, suc, ◌+◌, ◌-◌, ◌*◌, ◌/◌, ◌%◌, ◌^◌, ◌<◌, ◌≤◌, ◌==◌, Bool, true, false, cond, refl, List, [], ◌∷◌, length, arith, sym, ap, subst, ◌∙◌, decimal, ne_eqb}
+use Rattle.std.proofs.lemmas.Bool.{le-leb, lt-ltb}
+use Rattle.std.proofs.lemmas.Fmt.{decimal_is_IsNumeral_wide}
+use Rattle.std.proofs.lemmas.Str.{digit_value_digit}
+use Rattle.std.specs.Prelude.{ℤ, pos, negsuc, neg_ℤ, Some, None, option_map, unsigned_abs}
+use Rattle.std.specs.Char.{digit_value}
+use Rattle.std.specs.Fmt.{digits_onto, digits, digit_glyph, signed_decimal}
+use Rattle.std.specs.Int.{IsInRange}
+use Rattle.std.specs.List.{AllByRecursion as Every}
+use Rattle.std.specs.Str.Parse.{digits_value_after}
+use Rattle.qh_model.specs.headline.Numbers.{read_digits, are_digits, magnitude_of, number_of}
+use Rattle.qh_model.proofs.Members.{every_map}
+
+-- a digit
+abbrev pub IsDigit : ℕ → Type 0
+IsDigit c = IsInRange 48 57 c
+
+-- one or more digits
+abbrev pub AreSomeDigits : List ℕ → Type 0
+AreSomeDigits cs = (0 < length cs) × Every IsDigit cs
+
+-- ---- the bytes of decimals
+-- the last digit
+glyph_digit : (n : ℕ) → IsDigit (digit_glyph false (n % 10))
+glyph_digit n = by (n % 10) (omega arith)
+  where
+    by : (d : ℕ) → d < 10 → IsDigit (digit_glyph false d)
+    by d h = subst (λ (b : Bool). IsDigit (cond b (48 + d) (87 + d))) (sym (lt-ltb d 10 h)) (omega arith, omega arith)
+
+-- digits either way
+either_digits : (b : Bool) (cs ds : List ℕ) → AreSomeDigits cs → AreSomeDigits ds → AreSomeDigits (cond b cs ds)
+either_digits true cs ds h k = h
+either_digits false cs ds h k = k
+
+-- digits before digits
+onto_digits : (k n : ℕ) (acc : List ℕ) → AreSomeDigits acc → AreSomeDigits (digits_onto k 10 false n acc)
+onto_digits zero n acc h = h
+onto_digits (suc k) n acc h =
+    let longer : List ℕ = digit_glyph false (n % 10) ∷ acc in
+    let more : AreSomeDigits longer = (omega arith, (glyph_digit n, h.1)) in
+    either_digits (n / 10 == 0) longer (digits_onto k 10 false (n / 10) longer) more (onto_digits k (n / 10) longer more)
+
+-- a decimal of any size has some digits
+pub decimal_digits : (n : ℕ) → AreSomeDigits (decimal n)
+unfolding digits
+decimal_digits n =
+    let ones : List ℕ = digit_glyph false (n % 10) ∷ [] in
+    let one : AreSomeDigits ones = (omega arith, (glyph_digit n, tt)) in
+    either_digits (n / 10 == 0) ones (digits_onto 63 10 false (n / 10) ones) one (onto_digits 63 (n / 10) ones one)
+
+-- ---- what digits stand for
+-- the test
+digits_told : (cs : List ℕ) → Every IsDigit cs → are_digits cs ≡ true
+digits_told [] h = refl
+digits_told (c ∷ cs) h = cc (le-leb 48 c h.0.0, le-leb c 57 h.0.1, digits_told cs h.1)
+
+-- digits are a magnitude
+magnitude_of_digits : (cs : List ℕ) → AreSomeDigits cs → magnitude_of cs ≡ Some (read_digits 0 cs)
+magnitude_of_digits [] h = absurd (omega (arith, h.0))
+magnitude_of_digits (c ∷ cs) h = ap (λ (b : Bool). cond b (Some (read_digits 0 (c ∷ cs))) None) (digits_told (c ∷ cs) h.1)
+
+-- neither of two tests
+neither : {X : Type 0} (p q : Bool) (x y z : X) → p ≡ false → q ≡ false → cond p x (cond q y z) ≡ z
+neither p q x y z e f = ap (λ (b : Bool). cond b x (cond q y z)) e ∙ ap (λ (b : Bool). cond b y z) f
+
+-- and a number
+pub number_of_digits : (cs : List ℕ) → AreSomeDigits cs → number_of cs ≡ Some (pos (read_digits 0 cs))
+number_of_digits [] h = absurd (omega (arith, h.0))
+number_of_digits (c ∷ cs) h =
+    let low : 48 ≤ c = h.1.0.0 in
+    let plus : (c == 43) ≡ false = ne_eqb c 43 (λ e. omega arith) in
+    let minus : (c == 45) ≡ false = ne_eqb c 45 (λ e. omega arith) in
+    neither (c == 43) (c == 45) (option_map pos (magnitude_of cs)) (option_map (λ n. neg_ℤ (pos n)) (magnitude_of cs)) _ plus minus
+    ∙ ap (option_map pos) (magnitude_of_digits (c ∷ cs) h)
+
+-- their value is that of std
+value_of_digits : (n : ℕ) (cs : List ℕ) → Every IsDigit cs → read_digits n cs ≡ digits_value_after 10 n cs
+value_of_digits n [] h = refl
+value_of_digits n (c ∷ cs) h =
+    let value = digit_value_digit c h.0 in
+    let same : 10 * n + (c - 48) ≡ n * 10 + digit_value c = omega (arith, value) in
+    ap (λ m. read_digits m cs) same ∙ value_of_digits (n * 10 + digit_value c) cs h.1
+
+decimal_value : (n : ℕ) → n < 10 ^ 64 → read_digits 0 (decimal n) ≡ n
+decimal_value n h = value_of_digits 0 (decimal n) (decimal_digits n).1 ∙ (decimal_is_IsNumeral_wide n h).1
+
+-- ---- decimals are numbers
+-- of a natural number
+pub number_of_decimal : (n : ℕ) → n < 10 ^ 64 → number_of (decimal n) ≡ Some (pos n)
+number_of_decimal n h = number_of_digits (decimal n) (decimal_digits n) ∙ ap (λ m. Some (pos m)) (decimal_value n h)
+
+-- of a whole number
+pub number_of_signed : (z : ℤ) → unsigned_abs z < 10 ^ 64 → number_of (signed_decimal z) ≡ Some z
+number_of_signed (pos n) h = number_of_decimal n h
+number_of_signed (negsuc n) h =
+    let magnitude = magnitude_of_digits (decimal (suc n)) (decimal_digits (suc n)) ∙ ap (λ m. Some m) (decimal_value (suc n) h) in
+    ap (option_map (λ m. neg_ℤ (pos m))) magnitude
+
+-- ---- decimals as words
+-- a byte of a number: from `-` to `9`
+abbrev pub IsOfNumber : ℕ → Type 0
+IsOfNumber c = IsInRange 45 57 c
+
+-- one or more such bytes
+abbrev pub IsNumberWord : List ℕ → Type 0
+IsNumberWord cs = (0 < length cs) × Every IsOfNumber cs
+
+digits_of_number : (cs : List ℕ) → Every IsDigit cs → Every IsOfNumber cs
+digits_of_number cs h = every_map IsDigit IsOfNumber cs (λ c d. (omega (arith, d.0), omega (arith, d.1))) h
+
+-- a decimal is made of them
+pub decimal_word : (n : ℕ) → IsNumberWord (decimal n)
+decimal_word n = let d = decimal_digits n in (d.0, digits_of_number (decimal n) d.1)
+
+-- with a sign too
+pub signed_word : (z : ℤ) → IsNumberWord (signed_decimal z)
+signed_word (pos n) = decimal_word n
+signed_word (negsuc n) = (omega arith, ((omega arith, omega arith), (decimal_word (suc n)).1))

@@ -1,0 +1,91 @@
+-- The text of faces, of the points of the extreme ids, is that of the set.
+use Rattle.std.proofs.Common.{◌≡◌, ℕ, suc, Bool, true, false, cond, refl, List, [], ◌∷◌, ◌++◌, map, sym, ap, ap₂, ◌∙◌, inl, inr, eqb-true, eq-eqb, ne_eqb, get_or, decimal}
+use Rattle.std.proofs.lemmas.Bool.{eqb-false}
+use Rattle.std.proofs.lemmas.List.{length-map, map-append}
+use Rattle.std.proofs.lemmas.List.Folds.{flat_map-map}
+use Rattle.std.specs.Prelude.{◌==◌}
+use Rattle.std.specs.List.{flat_map}
+use Rattle.qh_model.specs.headline.Vector.{Vector}
+use Rattle.qh_model.specs.headline.Predicates.{place}
+use Rattle.qh_model.specs.headline.Sets.{In, Members}
+use Rattle.qh_model.specs.headline.Fan.{triangles_along, fan, fans}
+use Rattle.qh_model.specs.headline.Hull.{BodyValue}
+use Rattle.qh_model.specs.headline.Text.{line, spaced, vertex_number, vertex_text, face_text, off_text}
+use Rattle.qh_model.proofs.renamed.Lists.{AreWithin}
+use Rattle.qh_model.proofs.renamed.Bodies.{renamed_body}
+use Rattle.qh_model.proofs.renamed.Positions.{vertex_numbers, points_of, at_number, point_at}
+
+-- texts that are the same for each member are the same joined
+pub flat_map_same : {X : Type 0} (s t : X → List ℕ) (xs : List X) → ((x : X) → In x xs → s x ≡ t x) → flat_map s xs ≡ flat_map t xs
+flat_map_same s t [] h = refl
+flat_map_same s t (x ∷ xs) h = ap₂ (λ (a b : List ℕ). a ++ b) (h x (inl refl)) (flat_map_same s t xs (λ y m. h y (inr m)))
+
+-- names that keep members apart keep positions
+vertex_number-map : (f : ℕ → ℕ) (xs : List ℕ) (i : ℕ) → ((j : ℕ) → In j xs → f j ≡ f i → j ≡ i)
+    → vertex_number (map f xs) (f i) ≡ vertex_number xs i
+vertex_number-map f [] i apart = refl
+vertex_number-map f (x ∷ xs) i apart = by (vertex_number-map f xs i (λ j m. apart j (inr m))) (x == i) refl
+  where
+    either : Bool → ℕ → ℕ
+    either b n = cond b 0 (suc n)
+
+    by : vertex_number (map f xs) (f i) ≡ vertex_number xs i → (b : Bool) → (x == i) ≡ b
+        → either (f x == f i) (vertex_number (map f xs) (f i)) ≡ either b (vertex_number xs i)
+    by rest true e = ap (λ b. either b (vertex_number (map f xs) (f i))) (eq-eqb (f x) (f i) (ap f (eqb-true x i e)))
+    by rest false e = ap₂ either (ne_eqb (f x) (f i) (λ d. eqb-false x i e (apart x (inl refl) d))) rest
+
+-- members have their own positions
+number_apart : (xs : List ℕ) (i j : ℕ) → In i xs → In j xs → vertex_number xs j ≡ vertex_number xs i → j ≡ i
+number_apart xs i j m n e = sym (at_number xs j n).1 ∙ ap (λ k. get_or xs k 0) e ∙ (at_number xs i m).1
+
+-- the position of a position is the same
+number_again : (xs : List ℕ) (i : ℕ) → In i xs → vertex_number (vertex_numbers xs) (vertex_number xs i) ≡ vertex_number xs i
+number_again xs i m = vertex_number-map (vertex_number xs) xs i (λ j n. number_apart xs i j m n)
+
+-- a face of members has its text
+face_text_renamed : (xs q : List ℕ) → ((i : ℕ) → In i q → In i xs)
+    → face_text (vertex_numbers xs) (map (vertex_number xs) q) ≡ face_text xs q
+face_text_renamed xs q within = ap₂ (λ (n : ℕ) (t : List ℕ). line (decimal n ++ t)) (length-map q (vertex_number xs)) numbers
+  where
+    numbers : flat_map (λ i. spaced (vertex_number (vertex_numbers xs) i)) (map (vertex_number xs) q)
+        ≡ flat_map (λ i. spaced (vertex_number xs i)) q
+    numbers =
+        flat_map-map (λ i. spaced (vertex_number (vertex_numbers xs) i)) (vertex_number xs) q
+        ∙ flat_map_same _ _ q (λ i m. ap spaced (number_again xs i (within i m)))
+
+-- the text of the points of the extreme ids, by their positions
+pub off_text_renamed : (pts : List Vector) (b : BodyValue) → AreWithin (Members b.extremes) b.polygons
+    → off_text (renamed_body (vertex_number b.extremes) b) (points_of pts b.extremes) ≡ off_text b pts
+off_text_renamed pts b within = cc (length-map xs number, length-map b.polygons (map number), vertices, faces)
+  where
+    xs : List ℕ
+    xs = b.extremes
+
+    number : ℕ → ℕ
+    number = vertex_number xs
+
+    vertices : flat_map (λ i. vertex_text (place (points_of pts xs) i)) (vertex_numbers xs) ≡ flat_map (λ i. vertex_text (place pts i)) xs
+    vertices =
+        flat_map-map (λ i. vertex_text (place (points_of pts xs) i)) number xs
+        ∙ flat_map_same _ _ xs (λ i m. ap vertex_text (point_at pts xs i m))
+
+    faces : flat_map (face_text (vertex_numbers xs)) (map (map number) b.polygons) ≡ flat_map (face_text xs) b.polygons
+    faces =
+        flat_map-map (face_text (vertex_numbers xs)) (map number) b.polygons
+        ∙ flat_map_same _ _ b.polygons (λ q m. face_text_renamed xs q (within q m))
+
+-- ---- the same in triangles
+-- triangles by other names
+triangles_along-map : (f : ℕ → ℕ) (t u : ℕ) (r : List ℕ) → triangles_along (f t) (f u) (map f r) ≡ map (map f) (triangles_along t u r)
+triangles_along-map f t u [] = refl
+triangles_along-map f t u (v ∷ r) = ap (λ (ts : List (List ℕ)). (f t ∷ f u ∷ f v ∷ []) ∷ ts) (triangles_along-map f t v r)
+
+fan-map : (f : ℕ → ℕ) (q : List ℕ) → fan (map f q) ≡ map (map f) (fan q)
+fan-map f [] = refl
+fan-map f (a ∷ []) = refl
+fan-map f (a ∷ b ∷ []) = refl
+fan-map f (a ∷ b ∷ c ∷ r) = triangles_along-map f a b (c ∷ r)
+
+pub fans-map : (f : ℕ → ℕ) (qs : List (List ℕ)) → fans (map (map f) qs) ≡ map (map f) (fans qs)
+fans-map f [] = refl
+fans-map f (q ∷ qs) = ap₂ (λ (a b : List (List ℕ)). a ++ b) (fan-map f q) (fans-map f qs) ∙ sym (map-append (map f) (fan q) (fans qs))

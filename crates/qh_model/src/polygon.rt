@@ -1,0 +1,66 @@
+//! The polygon of a face.
+ghost use Rattle.std.specs.Prelude.{◌≡◌, [], ◌∷◌};
+
+use crate::point::Id;
+use std::marker::Model;
+
+/// How the ids of a polygon are kept. Most faces have three corners or four, and these need no memory
+/// of their own.
+#[derive(Debug, Drop)]
+enum Corners {
+    Three([Id; 3]),
+    Four([Id; 4]),
+    Listed(Vec<Id>),
+}
+
+/// The ids round a face, counterclockwise seen from outside, from the least id on.
+///
+/// A contract sees a polygon as the list of its ids.
+#[derive(Debug, Drop)]
+pub struct Polygon {
+    corners: Corners,
+}
+
+impl Model for Polygon {
+    ghost use Rattle.std.specs.Prelude.{ℕ, List};
+    ghost use Rattle.qh_model.specs.steps.Corners.{ids_of};
+
+    ghost Value = { List ℕ };
+
+    ghost view = { λ q. ids_of q.corners };
+}
+
+impl Polygon {
+    /// The polygon of three ids. It takes no memory.
+    pub fn triangle(i: Id, j: Id, k: Id) -> Polygon
+        ensures { result ≡ i ∷ j ∷ k ∷ [] }
+    {
+        Polygon {
+            corners: Corners::Three([i, j, k]),
+        }
+    }
+
+    /// The polygon of a list of ids. It takes no memory, and keeps the list where there are more than
+    /// four.
+    pub fn of(ids: Vec<Id>) -> Polygon
+        ensures { result ≡ ids.items }
+    {
+        let corners = match ids.as_slice() {
+            [i, j, k] => Corners::Three([*i, *j, *k]),
+            [i, j, k, l] => Corners::Four([*i, *j, *k, *l]),
+            _ => Corners::Listed(ids),
+        };
+        Polygon { corners }
+    }
+
+    /// The ids, from the least on.
+    pub fn ids(&self) -> &[Id]
+        ensures { result.now ≡ self.now }
+    {
+        match &self.corners {
+            Corners::Three(ids) => ids,
+            Corners::Four(ids) => ids,
+            Corners::Listed(ids) => ids.as_slice(),
+        }
+    }
+}
