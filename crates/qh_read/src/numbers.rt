@@ -31,13 +31,12 @@ fn after_blanks(line: u32, bytes: &[u8]) -> (u32, &[u8])
 {
     let mut later = line;
     for (i, byte) in bytes.iter().enumerate() {
-        if *byte > b' ' {
+        // Mostly the first byte is past all blanks.
+        if *byte > b' ' || (*byte != b'\n' && !blank(*byte)) {
             return (later, &bytes[i..]);
         }
         if *byte == b'\n' {
             later += 1;
-        } else if !blank(*byte) {
-            return (later, &bytes[i..]);
         }
     }
     (later, &[])
@@ -109,10 +108,10 @@ fn after_end(line: u32, bytes: &[u8]) -> Option<(u32, &[u8])>
     ensures lines { IfSome result (λ r. r.0 + length r.1.now ≤ line + length bytes.now) }
 {
     let (end, rest) = bytes.split_first()?;
+    // Mostly it is a space.
     if *end == b' ' {
-        return Some((line, rest));
-    }
-    if *end == b'\n' {
+        Some((line, rest))
+    } else if *end == b'\n' {
         Some((line + 1, rest))
     } else if blank(*end) {
         Some((line, rest))
