@@ -18,7 +18,8 @@ quiet form progress line token = record { form = form; progress = progress; toke
 
 -- between words the bytes part words until this rest, where this line goes on
 abbrev pub IsParted : ℕ → List ℕ → ℕ → List ℕ → Type 0
-IsParted line bytes later rest = (form : Form) (p : Progress) → held_by (quiet form p line Empty) bytes ≡ held_by (quiet form p later Empty) rest
+IsParted line bytes later rest = (form : Form) (p : Progress) →
+    held_by (quiet form p line Empty) bytes ≡ held_by (quiet form p later Empty) rest
 
 -- between words the bytes begin a number of these digits, with this rest
 abbrev pub IsBegun : List ℕ → Bool → ℕ → List ℕ → Type 0
@@ -32,12 +33,14 @@ IsContinued magnitude bytes more rest = (form : Form) (p : Progress) (line : ℕ
 
 -- a number ends before this rest, where this line goes on
 abbrev pub IsEnded : ℕ → List ℕ → ℕ → List ℕ → Type 0
-IsEnded line bytes later rest = (form : Form) (p : Progress) (minus : Bool) (magnitude : ℕ) → held_by (quiet form p line (Digits minus magnitude)) bytes
+IsEnded line bytes later rest = (form : Form) (p : Progress) (minus : Bool) (magnitude : ℕ) →
+    held_by (quiet form p line (Digits minus magnitude)) bytes
     ≡ held_by (quiet form (after p false (Some (signed minus magnitude)) line) later Empty) rest
 
 -- between words the bytes tell a number, and then come this line and this rest
 pub record IsNumber (line : ℕ) (bytes : List ℕ) (z : ℤ) (later : ℕ) (rest : List ℕ) : Type 0 where
-  pub held : (form : Form) (p : Progress) → (n : ℕ) × (held_by (quiet form p line Empty) bytes ≡ held_by (quiet form (after p false (Some z) n) later Empty) rest)
+  pub held : (form : Form) (p : Progress) → (n : ℕ) × (held_by (quiet form p line Empty) bytes
+      ≡ held_by (quiet form (after p false (Some z) n) later Empty) rest)
   pub left : length rest + 2 ≤ length bytes
   pub lines : later + length rest ≤ line + length bytes
 
@@ -54,4 +57,5 @@ pub record AwaitsPoint (b : Builder) (next : Stage) : Type 0 where
   pub after_header : is_header next ≡ false
   pub text_fault : HasTextFault next
   pub led : (t : List ℤ) (x y z : ℤ) (i j k : ℕ) → IsCoordinate x → IsCoordinate y → IsCoordinate z
-      → after (after (after (stage_shown b.stage t) false (Some x) i) false (Some y) j) false (Some z) k ≡ stage_shown next (t ++ x ∷ y ∷ z ∷ [])
+      → after (after (after (stage_shown b.stage t) false (Some x) i) false (Some y) j) false (Some z) k
+      ≡ stage_shown next (t ++ x ∷ y ∷ z ∷ [])

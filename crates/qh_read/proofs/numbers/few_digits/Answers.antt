@@ -13,8 +13,8 @@ use Rattle.qh_read.proofs.DigitLaws.{greatest, greatest-rises}
 use Rattle.qh_read.proofs.numbers.few_digits.Goals as goal
 
 -- one digit more, below the cap
-digit_more : (form : Form) (p : Progress) (line : ℕ) (minus : Bool) (n d : ℕ) → is_ascii_digit d ≡ true → 10 * n + (d - 48) ≤ MAGNITUDE_CAP
-    → next_held (quiet form p line (Digits minus n)) d ≡ quiet form p line (Digits minus (10 * n + (d - 48)))
+digit_more : (form : Form) (p : Progress) (line : ℕ) (minus : Bool) (n d : ℕ) → is_ascii_digit d ≡ true
+    → 10 * n + (d - 48) ≤ MAGNITUDE_CAP → next_held (quiet form p line (Digits minus n)) d ≡ quiet form p line (Digits minus (10 * n + (d - 48)))
 digit_more form p line minus n d h k = grind (arith, common_steps)
 
 pub loop-i-preserved : goal.loop-i-preserved
@@ -29,7 +29,8 @@ loop-i-preserved c =
     let bound : 10 * n + (d - 48) ≤ greatest (c.loop-i.i + 1) = rw add-one (omega arith) in
     let small : 10 * n + (d - 48) ≤ MAGNITUDE_CAP = omega (arith, greatest-rises (c.loop-i.i + 1) 8 (omega arith)) in
     record {
-      continued = λ form p line minus. c.loop-i.invariant.continued form p line minus ∙ ap (held_by (quiet form p line (Digits minus n))) cut
+      continued = λ form p line minus. c.loop-i.invariant.continued form p line minus
+          ∙ ap (held_by (quiet form p line (Digits minus n))) cut
           ∙ ap (λ (h : Held). held_by h (drop (c.loop-i.i + 1) bytes)) (digit_more form p line minus n d digit small);
       small = bound;
     }
@@ -37,5 +38,6 @@ loop-i-preserved c =
 pub returns-clause-held : goal.returns-clause-held
 returns-clause-held c form p line minus =
     let eight : c.loop-i.i ≡ 8 = omega arith in
-    let all : drop c.loop-i.i c.args.bytes.now ≡ take (length c.args.bytes.now - 8) (drop 8 c.args.bytes.now) = rw (eight, take_rest) refl in
+    let bytes : List ℕ = c.args.bytes.now in
+    let all : drop c.loop-i.i bytes ≡ take (length bytes - 8) (drop 8 bytes) = rw (eight, take_rest) refl in
     c.loop-i.invariant.continued form p line minus ∙ ap (held_by (quiet form p line (Digits minus c.loop-i.magnitude))) all

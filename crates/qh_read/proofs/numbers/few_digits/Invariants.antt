@@ -11,6 +11,7 @@ use Rattle.qh_read.proofs.numbers.few_digits.Given as goal
 abbrev pub invariant-loop-i : goal.invariant-loop-i
 invariant-loop-i l = record {
   continued : (form : Form) (p : Progress) (line : ℕ) (minus : Bool)
-      → held_by (quiet form p line (Digits minus l.fn.first)) l.bytes ≡ held_by (quiet form p line (Digits minus l.magnitude)) (drop l.i l.bytes);
+      → held_by (quiet form p line (Digits minus l.fn.first)) l.bytes
+      ≡ held_by (quiet form p line (Digits minus l.magnitude)) (drop l.i l.bytes);
   small : l.magnitude ≤ greatest l.i;
 }

@@ -13,9 +13,11 @@ returns c =
     record {
       held = λ form p. (
         line,
-        c.after_blanks-line.ensures.held form p ∙ c.in_ok-minus.ensures.held form p line ∙ c.few_digits-magnitude.ensures.held form p line c.in_ok-minus.minus
+        c.after_blanks-line.ensures.held form p ∙ c.in_ok-minus.ensures.held form p line
+            ∙ c.few_digits-magnitude.ensures.held form p line c.in_ok-minus.minus
             ∙ c.in_ok-line.ensures.held form p c.in_ok-minus.minus c.few_digits-magnitude.result.0
-            ∙ ap (λ (z : ℤ). held_by (quiet form (after p false (Some z) line) c.in_ok-line.line Empty) c.in_ok-line.rest.now) (sym c.signed_coordinate-coordinate.ensures),
+            ∙ ap (λ (z : ℤ). held_by (quiet form (after p false (Some z) line) c.in_ok-line.line Empty) c.in_ok-line.rest.now)
+            (sym c.signed_coordinate-coordinate.ensures),
       );
       left = omega (arith, c.in_ok-minus.ensures, c.in_ok-line.ensures);
       lines = omega (arith, c.in_ok-minus.ensures, c.in_ok-line.ensures);

@@ -9,6 +9,11 @@ use Rattle.qh_read.proofs.builder.Builder.take_point.Goals as goal
 pub returns-clause-shown : goal.returns-clause-shown
 returns-clause-shown c i j k =
     let items : c.push.new.self.items ≡ c.args.self.now.points.items ++ c.new-point.result ∷ [] = grind (arith, common_steps) in
-    let all : coordinates c.push.new.self.items ++ pending_list c.args.self.now.pending ≡ taken c.args.self.now ++ c.args.x.value ∷ c.args.y.value ∷ c.args.z.value ∷ [] =
+    let was = c.args.self.now in
+    let x = c.args.x in
+    let y = c.args.y in
+    let z = c.args.z in
+    let all : coordinates c.push.new.self.items ++ pending_list was.pending ≡ taken was ++ x.value ∷ y.value ∷ z.value ∷ [] =
     rw (items, coordinates-push, c.requires.awaits.begins) (grind (arith, common_steps)) in
-    ap (stage_shown c.args.next) all ∙ sym (c.requires.awaits.led (taken c.args.self.now) c.args.x.value c.args.y.value c.args.z.value i j k c.args.x.in_limit c.args.y.in_limit c.args.z.in_limit)
+    ap (stage_shown c.args.next) all
+    ∙ sym (c.requires.awaits.led (taken was) x.value y.value z.value i j k x.in_limit y.in_limit z.in_limit)

@@ -15,9 +15,10 @@ loop-next-preserved c =
     let none = c.loop-next.invariant.quiet in
     let point = c.in-Some-next_point.ensures.held form (shown was.builder) in
     record {
-      told = ap (λ (b : Bool). held_by (record { form = form; progress = shown c.take_point.new.self; token = Empty; comment = b; line = z.line }) z.rest.now) none
-          ∙ ap (λ (p : Progress). held_by (quiet form p z.line Empty) z.rest.now) (c.take_point.ensures.shown point.0 point.1 point.2) ∙ sym point.3
-          ∙ ap (λ (b : Bool). held_by (record { form = form; progress = shown was.builder; token = Empty; comment = b; line = was.line }) c.loop-next.rest.now) (sym none)
+      told = ap (λ (b : Bool). held_by (record (quiet form (shown c.take_point.new.self) z.line Empty) { comment = b }) z.rest.now) none
+          ∙ ap (λ (p : Progress). held_by (quiet form p z.line Empty) z.rest.now) (c.take_point.ensures.shown point.0 point.1 point.2)
+          ∙ sym point.3
+          ∙ ap (λ (b : Bool). held_by (record (quiet form (shown was.builder) was.line Empty) { comment = b }) c.loop-next.rest.now) (sym none)
           ∙ c.loop-next.invariant.told;
       token = c.loop-next.invariant.token;
       quiet = none;

@@ -19,7 +19,8 @@ loop-byte-preserved c =
     let cut : c.loop-byte.rest.now ≡ c.in-Some.byte.now ∷ c.in-Some.after.now = grind (arith, common_steps) in
     let count : length c.loop-byte.rest.now ≡ length c.in-Some.after.now + 1 = rw cut (omega arith) in
     record {
-      told = c.points-rest.ensures.held ∙ c.digits-digits.ensures.held ∙ ap (λ (h : Held). held_by h c.in-Some.after.now) c.step-grown.ensures.held
+      told = c.points-rest.ensures.held ∙ c.digits-digits.ensures.held
+          ∙ ap (λ (h : Held). held_by h c.in-Some.after.now) c.step-grown.ensures.held
           ∙ ap (held_by before) (sym cut) ∙ c.loop-byte.invariant.told;
       small = c.digits-digits.ensures.small;
       room = c.points-rest.ensures.room;
