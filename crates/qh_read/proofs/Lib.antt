@@ -1,4 +1,5 @@
 pub mod BuildingLemmas
+pub mod DigitLaws
 pub mod SourceLemmas
 pub mod Lexing
 pub mod LexingLaws

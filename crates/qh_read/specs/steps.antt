@@ -1,5 +1,6 @@
 -- What private functions speak of: nothing to believe.
 pub mod Building
+pub mod Numbers
 pub mod Reader
 pub mod Scanning
 pub mod SmallTokens

@@ -100,11 +100,12 @@ fn after_keyword(is_keyword: bool) -> Stage
 }
 
 impl Builder {
-    ghost use Rattle.std.specs.Prelude.{◌≡◌, ◌≤◌, ◌<◌, ◌+◌, ◌*◌, ◌++◌, [], ◌∷◌, Some, OnOk, IfOk, IfErr, vec_len, vec_capacity};
+    ghost use Rattle.std.specs.Prelude.{◌≡◌, ◌≤◌, ◌<◌, ◌+◌, ◌*◌, ◌++◌, [], ◌∷◌, ℕ, Some, OnOk, IfOk, IfErr, IfSome, vec_len, vec_capacity};
     ghost use Rattle.qh_read.specs.contract.ReadFaults.{IsTextFault};
     ghost use Rattle.qh_read.specs.contract.Tokens.{is_keyword, value_of};
     ghost use Rattle.qh_read.specs.steps.SmallTokens.{IsSmall};
     ghost use Rattle.qh_read.specs.steps.Building.{shown, taken, taken_count, lack, AreAll};
+    ghost use Rattle.qh_read.specs.steps.Numbers.{AwaitsPoint};
 
     /// Nothing read yet.
     pub fn new(alloc: Global, form: Form) -> Builder
@@ -169,6 +170,36 @@ impl Builder {
             self.push(Coordinate { value });
             self.stage = next;
         }
+    }
+
+    /// The stage after one point more, where a point begins and all its coordinates are to come.
+    #[inline]
+    pub fn after_point(&self) -> Option<Stage>
+        ensures { IfSome result (AwaitsPoint self.now) }
+    {
+        match (self.pending, self.stage) {
+            (Pending::Zero, Stage::Coordinates(left)) if left >= 3 => {
+                Some(Stage::Coordinates(left - 3))
+            }
+            (Pending::Zero, Stage::Vertices(left)) if left >= 3 => Some(Stage::Vertices(left - 3)),
+            _ => None,
+        }
+    }
+
+    /// Takes the three coordinates of a point, after which this stage comes. There is room for it.
+    #[inline]
+    pub fn take_point(&mut self, next: Stage, x: Coordinate, y: Coordinate, z: Coordinate)
+        requires room { vec_len self.old.points < vec_capacity self.old.points }
+        requires awaits { AwaitsPoint self.old next }
+        ensures shown { (i j k : ℕ) → shown self.new
+            ≡ progress.after (progress.after (progress.after (shown self.old)
+            false (Some x.value) i) false (Some y.value) j) false (Some z.value) k }
+        ensures count { taken_count self.new ≡ taken_count self.old + 3 }
+        ensures kept { vec_capacity self.old.points ≤ vec_capacity self.new.points }
+    {
+        let point = Point::new(x.value, y.value, z.value);
+        self.points.push(point).unwrap();
+        self.stage = next;
     }
 
     /// Takes the next word, by what is known of it and its line.

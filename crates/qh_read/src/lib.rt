@@ -10,6 +10,7 @@ mod builder;
 mod coordinate;
 pub mod fakes;
 mod fault;
+mod numbers;
 mod reader;
 mod scanner;
 mod source;

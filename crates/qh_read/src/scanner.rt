@@ -7,6 +7,7 @@ ghost use Rattle.qh_read.specs.contract.Holding.{held_at_start, ended_held, held
 ghost use Rattle.qh_read.specs.steps.Scanning.{held, under_way, HasRoom};
 
 use crate::builder::Builder;
+use crate::numbers::next_point;
 use crate::token::{Token, begins_data, blank, with_digit};
 use qh_model::Form;
 use std::alloc::{AllocError, Global};
@@ -128,8 +129,6 @@ impl Scanner {
 
     /// Takes the digits that the bytes begin with, where digits are under way. It answers the word
     /// under way after them, and the bytes that are left.
-    ///
-    /// Most bytes of a file go this way.
     #[inline]
     fn digits<'a>(&self, token: Token, bytes: &'a [u8]) -> (Token, &'a [u8])
         requires { IsSmall token }
@@ -154,6 +153,36 @@ impl Scanner {
         (Token::Digits(minus, magnitude), &[])
     }
 
+    /// Takes the points that the bytes begin with, where no word is under way, no comment runs and
+    /// coordinates are to come. It answers the bytes that are left.
+    ///
+    /// Most bytes of a file go this way.
+    #[inline]
+    fn points<'a>(&mut self, token: Token, bytes: &'a [u8]) -> &'a [u8]
+        requires room { HasRoom self.old token (length bytes.now) }
+        requires line { self.old.line + length bytes.now < 2 ^ 31 }
+        ensures held { held_by (held self.new token) result.now
+            ≡ held_by (held self.old token) bytes.now }
+        ensures room { HasRoom self.new token (length result.now) }
+        ensures line { self.new.line + length result.now ≤ self.old.line + length bytes.now }
+        ensures left { length result.now ≤ length bytes.now }
+    {
+        if self.comment || !token.is_empty() {
+            return bytes;
+        }
+        let mut rest = bytes;
+        while let Some(next) = self.builder.after_point() {
+            let Some((x, y, z)) = next_point(self.line, rest) else {
+                return rest;
+            };
+            self.builder
+                .take_point(next, x.coordinate, y.coordinate, z.coordinate);
+            self.line = z.line;
+            rest = z.rest;
+        }
+        rest
+    }
+
     /// Takes the next bytes. It answers the word under way after them.
     pub fn scan(&mut self, token: Token, piece: &[u8]) -> Token
         requires small { IsSmall token }
@@ -168,7 +197,9 @@ impl Scanner {
         let mut rest = piece;
         while let Some((byte, after)) = rest.split_first() {
             let grown = self.step(token, *byte);
-            (token, rest) = self.digits(grown, after);
+            let (digits, left) = self.digits(grown, after);
+            token = digits;
+            rest = self.points(digits, left);
         }
         token
     }

@@ -1,5 +1,6 @@
 //! Rows: what each text stands for, in whatever way it comes.
 
+mod numbers;
 mod off;
 mod pieces;
 mod readers;

@@ -1,0 +1,27 @@
+use Rattle.std.proofs.Common.{arith, ◌∙◌, Bool, ap, sym}
+use Rattle.qh_read.specs.contract.Holding.{held_by}
+use Rattle.qh_read.specs.contract.Progress.{Progress}
+use Rattle.qh_read.specs.steps.Building.{shown}
+use Rattle.qh_read.specs.steps.Numbers.{quiet}
+use Rattle.qh_read.specs.declared.token.Token.TheVariants.{Empty}
+use Rattle.qh_read.proofs.scanner.Scanner.points.Goals as goal
+
+-- the three numbers lead the builder from what it showed to what it shows
+pub loop-next-preserved : goal.loop-next-preserved
+loop-next-preserved c =
+    let was = c.loop-next.self in
+    let z = c.in-Some-next_point.z in
+    let form = was.form in
+    let none = c.loop-next.invariant.quiet in
+    let point = c.in-Some-next_point.ensures.held form (shown was.builder) in
+    record {
+      told = ap (λ (b : Bool). held_by (record { form = form; progress = shown c.take_point.new.self; token = Empty; comment = b; line = z.line }) z.rest.now) none
+          ∙ ap (λ (p : Progress). held_by (quiet form p z.line Empty) z.rest.now) (c.take_point.ensures.shown point.0 point.1 point.2) ∙ sym point.3
+          ∙ ap (λ (b : Bool). held_by (record { form = form; progress = shown was.builder; token = Empty; comment = b; line = was.line }) c.loop-next.rest.now) (sym none)
+          ∙ c.loop-next.invariant.told;
+      token = c.loop-next.invariant.token;
+      quiet = none;
+      room = omega (arith, c.in-Some-next_point.ensures);
+      line = omega (arith, c.in-Some-next_point.ensures);
+      left = omega (arith, c.in-Some-next_point.ensures);
+    }

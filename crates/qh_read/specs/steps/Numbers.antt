@@ -1,0 +1,57 @@
+-- Whole numbers that are taken at once.
+use Rattle.std.specs.Prelude.{ℕ, ℤ, ◌≡◌, ◌≤◌, ◌+◌, ◌++◌, Bool, false, List, [], ◌∷◌, Some, length}
+use Rattle.qh_model.specs.declared.form.Form.{Form}
+use Rattle.qh_model.specs.headline.Limits.{IsCoordinate}
+use Rattle.qh_read.specs.contract.Holding.{Held, held_by}
+use Rattle.qh_read.specs.contract.Progress.{Progress, after}
+use Rattle.qh_read.specs.contract.Tokens.{signed}
+use Rattle.qh_read.specs.steps.Stages.{stage_shown, is_header, HasTextFault}
+use Rattle.qh_read.specs.declared.builder.Stage.{Stage}
+use Rattle.qh_read.specs.declared.builder.Builder.{Builder}
+use Rattle.qh_read.specs.declared.builder.Pending.TheVariants as pendings
+use Rattle.qh_read.specs.declared.token.Token.{Token}
+use Rattle.qh_read.specs.declared.token.Token.TheVariants.{Empty, Digits}
+
+-- what is held where no comment runs
+abbrev pub quiet : Form → Progress → ℕ → Token → Held
+quiet form progress line token = record { form = form; progress = progress; token = token; comment = false; line = line }
+
+-- between words the bytes part words until this rest, where this line goes on
+abbrev pub IsParted : ℕ → List ℕ → ℕ → List ℕ → Type 0
+IsParted line bytes later rest = (form : Form) (p : Progress) → held_by (quiet form p line Empty) bytes ≡ held_by (quiet form p later Empty) rest
+
+-- between words the bytes begin a number of these digits, with this rest
+abbrev pub IsBegun : List ℕ → Bool → ℕ → List ℕ → Type 0
+IsBegun bytes minus magnitude rest = (form : Form) (p : Progress) (line : ℕ) →
+    held_by (quiet form p line Empty) bytes ≡ held_by (quiet form p line (Digits minus magnitude)) rest
+
+-- within a number the bytes go on with digits until this rest
+abbrev pub IsContinued : ℕ → List ℕ → ℕ → List ℕ → Type 0
+IsContinued magnitude bytes more rest = (form : Form) (p : Progress) (line : ℕ) (minus : Bool) →
+    held_by (quiet form p line (Digits minus magnitude)) bytes ≡ held_by (quiet form p line (Digits minus more)) rest
+
+-- a number ends before this rest, where this line goes on
+abbrev pub IsEnded : ℕ → List ℕ → ℕ → List ℕ → Type 0
+IsEnded line bytes later rest = (form : Form) (p : Progress) (minus : Bool) (magnitude : ℕ) → held_by (quiet form p line (Digits minus magnitude)) bytes
+    ≡ held_by (quiet form (after p false (Some (signed minus magnitude)) line) later Empty) rest
+
+-- between words the bytes tell a number, and then come this line and this rest
+pub record IsNumber (line : ℕ) (bytes : List ℕ) (z : ℤ) (later : ℕ) (rest : List ℕ) : Type 0 where
+  pub held : (form : Form) (p : Progress) → (n : ℕ) × (held_by (quiet form p line Empty) bytes ≡ held_by (quiet form (after p false (Some z) n) later Empty) rest)
+  pub left : length rest + 2 ≤ length bytes
+  pub lines : later + length rest ≤ line + length bytes
+
+-- between words the bytes tell three numbers, and then come this line and this rest
+pub record ArePoint (line : ℕ) (bytes : List ℕ) (x y z : ℤ) (later : ℕ) (rest : List ℕ) : Type 0 where
+  pub held : (form : Form) (p : Progress) → (i j k : ℕ) × (held_by (quiet form p line Empty) bytes
+      ≡ held_by (quiet form (after (after (after p false (Some x) i) false (Some y) j) false (Some z) k) later Empty) rest)
+  pub left : length rest + 6 ≤ length bytes
+  pub lines : later + length rest ≤ line + length bytes
+
+-- a point begins, its coordinates are to come, and after them this stage
+pub record AwaitsPoint (b : Builder) (next : Stage) : Type 0 where
+  pub begins : b.pending ≡ pendings.Zero
+  pub after_header : is_header next ≡ false
+  pub text_fault : HasTextFault next
+  pub led : (t : List ℤ) (x y z : ℤ) (i j k : ℕ) → IsCoordinate x → IsCoordinate y → IsCoordinate z
+      → after (after (after (stage_shown b.stage t) false (Some x) i) false (Some y) j) false (Some z) k ≡ stage_shown next (t ++ x ∷ y ∷ z ∷ [])
