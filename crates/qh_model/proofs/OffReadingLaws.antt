@@ -1,8 +1,7 @@
 -- A byte string has one list of points as an OFF file, or one fault.
-use Rattle.std.proofs.Common.{◌≡◌, ◌∙◌, [], ◌∷◌, ◌++◌, ◌*◌, ◌+◌, ◌≤◌, ◌⊎◌, ◌&&◌, ℕ, List, Bool, true, false, cond, refl, ap, sym, arith, zero, suc, length, map, inl, inr, subst, nat_lt}
-use Rattle.std.specs.Prelude.{ℤ, pos, negsuc, codes, Option, Some, None, nat_le}
+use Rattle.std.proofs.Common.{◌≡◌, ◌∙◌, [], ◌∷◌, ◌++◌, ◌≤◌, ◌⊎◌, ℕ, List, Bool, true, false, cond, refl, ap, sym, arith, suc, length, map, inl, inr, subst, nat_lt}
+use Rattle.std.specs.Prelude.{ℤ, pos, codes, Option, Some, None}
 use Rattle.std.specs.List.{AllByRecursion}
-use Rattle.std.specs.Option.{option_or}
 use Rattle.std.specs.Str.{bytes_eq}
 use Rattle.std.specs.Cmp.Lexicographic.{same_text}
 use Rattle.std.proofs.lemmas.Bool.Decides.{nat_tests}
@@ -14,10 +13,9 @@ use Rattle.qh_model.specs.headline.Numbers.{number_of}
 use Rattle.qh_model.specs.headline.PointFile.{coordinates}
 use Rattle.qh_model.specs.headline.OffFile.{off_words, ReadsOff}
 use Rattle.qh_model.specs.declared.read_fault.ReadFault.{ReadFault}
-use Rattle.qh_model.specs.declared.read_fault.ReadFault.TheVariants.{Count, Big, NotOff}
-use Rattle.qh_model.specs.headline.FileFault.{coordinate_fault}
-use Rattle.qh_model.specs.headline.OffFault.{vertices_fault, vertex_count_fault, count_fault, next_count_fault, counts_fault, off_words_fault, first_off_fault}
-use Rattle.qh_model.proofs.ReadingLaws.{numbers, same_some, same_points, Filled, filled_more, in_range, grouped, clear_more, thrice, not_big}
+use Rattle.qh_model.specs.declared.read_fault.ReadFault.TheVariants.{Big, NotOff}
+use Rattle.qh_model.specs.headline.OffFault.{counts_fault, off_words_fault, first_off_fault}
+use Rattle.qh_model.proofs.ReadingLaws.{numbers, same_some, same_points, counted, next_number, grouped, thrice, counted_clear, next_clear, not_big}
 
 -- ---- one list at most
 same_front : (us bs xs ys : List Word) → length us ≡ length bs → us ++ xs ≡ bs ++ ys → us ≡ bs
@@ -63,55 +61,6 @@ one_reading bytes ps qs a b =
     same_points ps qs same
 
 -- ---- some list, or a fault
--- the front of the words is so many coordinates
-record FrontFilled (ws : List Word) (k : ℕ) : Type 0 where
-  front : List Word
-  rest : List Word
-  are : ws ≡ front ++ rest
-  filled : Filled front k
-
-front_filled : (k : ℕ) (ws : List Word) → vertices_fault k ws ≡ None → FrontFilled ws k
-front_filled zero ws h = record { front = []; rest = ws; are = refl; filled = record { all = []; are = refl; count = refl; limit = tt } }
-front_filled (suc k) [] h = cc
-front_filled (suc k) (w ∷ ws) h =
-    let r = in_range w (vertices_fault k ws) h in
-    let f = front_filled k ws r.3 in
-    record { front = w ∷ f.front; rest = f.rest; are = ap (λ (t : List Word). w ∷ t) f.are; filled = filled_more w f.front k r.0 r.1 r.2 f.filled }
-
-record VertexCount (z : ℤ) (ws : List Word) : Type 0 where
-  n : ℕ
-  is : z ≡ pos n
-  some : 1 ≤ n
-  few : n ≤ POINT_LIMIT
-  filled : FrontFilled ws (3 * n)
-
-vertex_count : (z : ℤ) (ws : List Word) → vertex_count_fault z ws ≡ None → VertexCount z ws
-vertex_count (negsuc n) ws h = cc
-vertex_count (pos n) ws h = by (nat_le 1 n && nat_le n POINT_LIMIT) refl h
-  where
-    by : (b : Bool) → (nat_le 1 n && nat_le n POINT_LIMIT) ≡ b → cond b (vertices_fault (3 * n) ws) (Some Count) ≡ None → VertexCount (pos n) ws
-    by false e h = cc
-    by true e h =
-        let range : (1 ≤ n) × (n ≤ POINT_LIMIT) = grind (arith, nat_tests) in
-        record { n = n; is = refl; some = range.0; few = range.1; filled = front_filled (3 * n) ws h }
-
--- the next word is a number
-record NextCount (after : ℤ → List Word → Option ReadFault) (ws : List Word) : Type 0 where
-  w : Word
-  rest : List Word
-  z : ℤ
-  are : ws ≡ w ∷ rest
-  number : number_of w.text ≡ Some z
-  clear : after z rest ≡ None
-
-next_count : (after : ℤ → List Word → Option ReadFault) (ws : List Word) → next_count_fault after ws ≡ None → NextCount after ws
-next_count after [] h = cc
-next_count after (w ∷ ws) h = by (number_of w.text) refl h
-  where
-    by : (o : Option ℤ) → number_of w.text ≡ o → count_fault after o w.line ws ≡ None → NextCount after (w ∷ ws)
-    by None e h = cc
-    by (Some z) e h = record { w = w; rest = ws; z = z; are = refl; number = e; clear = h }
-
 -- the words after the keyword
 record Numbered (ws : List Word) : Type 0 where
   points : List Vector
@@ -127,25 +76,25 @@ record Numbered (ws : List Word) : Type 0 where
 
 numbered : (ws : List Word) → counts_fault ws ≡ None → Numbered ws
 numbered ws h =
-    let v = next_count _ ws h in
-    let f = next_count _ v.rest v.clear in
-    let e = next_count _ f.rest f.clear in
-    let c = vertex_count v.z e.rest e.clear in
-    let g = grouped c.n c.filled.filled.all c.filled.filled.count in
-    let same : coordinates g.points ≡ c.filled.filled.all = g.are in
+    let v = next_number _ ws h in
+    let f = next_number _ v.rest v.clear in
+    let e = next_number _ f.rest f.clear in
+    let c = counted _ v.z e.rest e.clear in
+    let g = grouped c.n c.filled.all c.filled.count in
+    let same : coordinates g.points ≡ c.filled.all = g.are in
     let count : length g.points ≡ c.n = g.count in
     let first : number_of v.w.text ≡ Some (pos (length g.points)) = v.number ∙ ap Some (c.is ∙ ap pos (sym count)) in
     record {
       points = g.points;
       numbered = v.w ∷ f.w ∷ e.w ∷ c.filled.front;
       rest = c.filled.rest;
-      are = v.are ∙ ap (λ (t : List Word). v.w ∷ t) (f.are ∙ ap (λ (t : List Word). f.w ∷ t) (e.are ∙ ap (λ (t : List Word). e.w ∷ t) c.filled.are));
+      are = v.are ∙ ap (λ (t : List Word). v.w ∷ t) (f.are ∙ ap (λ (t : List Word). f.w ∷ t) (e.are ∙ ap (λ (t : List Word). e.w ∷ t) c.filled.whole));
       faces = f.z;
       edges = e.z;
-      numbers = cc (first, f.number, e.number, c.filled.filled.are, same);
+      numbers = cc (first, f.number, e.number, c.filled.are, same);
       some = omega (arith, c.some, count);
       few = omega (arith, c.few, count);
-      limit = subst (AllByRecursion IsCoordinate) (sym same) c.filled.filled.limit;
+      limit = subst (AllByRecursion IsCoordinate) (sym same) c.filled.limit;
     }
 
 whole : (bytes : List ℕ) (ws : List Word) → length bytes ≤ BYTE_LIMIT → off_words bytes ≡ ws → off_words_fault ws ≡ None → (ps : List Vector) × ReadsOff bytes ps
@@ -185,23 +134,6 @@ one_or_other bytes = by (first_off_fault bytes) refl
     by (Some f) e = inr (f, e)
 
 -- ---- never both
--- coordinates in range have no fault, whatever follows
-clear : (zs : List ℤ) (ws rest : List Word) → numbers ws ≡ map Some zs → AllByRecursion IsCoordinate zs → vertices_fault (length zs) (ws ++ rest) ≡ None
-clear [] ws rest e l = refl
-clear (z ∷ zs) [] rest e l = cc
-clear (z ∷ zs) (w ∷ ws) rest e l =
-    let head : number_of w.text ≡ Some z = cc in
-    let tail : numbers ws ≡ map Some zs = cc in
-    clear_more w z (vertices_fault (length zs) (ws ++ rest)) head l.0 (clear zs ws rest tail l.1)
-
-vertex_count_clear : (n : ℕ) (ws : List Word) → 1 ≤ n → n ≤ POINT_LIMIT → vertices_fault (3 * n) ws ≡ None → vertex_count_fault (pos n) ws ≡ None
-vertex_count_clear n ws some few h =
-    let range : (nat_le 1 n && nat_le n POINT_LIMIT) ≡ true = grind (arith, nat_tests) in
-    subst (λ (b : Bool). cond b (vertices_fault (3 * n) ws) (Some Count) ≡ None) (sym range) h
-
-next_clear : (after : ℤ → List Word → Option ReadFault) (w : Word) (ws : List Word) (z : ℤ) → number_of w.text ≡ Some z → after z ws ≡ None → next_count_fault after (w ∷ ws) ≡ None
-next_clear after w ws z e h = subst (λ (o : Option ℤ). count_fault after o w.line ws ≡ None) (sym e) h
-
 counts_clear : (ws rest : List Word) (faces edges : ℤ) (ps : List Vector) → numbers ws ≡ map Some (pos (length ps) ∷ faces ∷ edges ∷ coordinates ps)
     → 1 ≤ length ps → length ps ≤ POINT_LIMIT → AllByRecursion IsCoordinate (coordinates ps) → counts_fault (ws ++ rest) ≡ None
 counts_clear [] rest faces edges ps e some few l = cc
@@ -212,11 +144,10 @@ counts_clear (v ∷ f ∷ g ∷ ws) rest faces edges ps e some few l =
     let second : number_of f.text ≡ Some faces = cc in
     let third : number_of g.text ≡ Some edges = cc in
     let tail : numbers ws ≡ map Some (coordinates ps) = cc in
-    let none : vertices_fault (3 * length ps) (ws ++ rest) ≡ None = subst (λ (k : ℕ). vertices_fault k (ws ++ rest) ≡ None) (thrice ps) (clear (coordinates ps) ws rest tail l) in
     next_clear _ v (f ∷ g ∷ (ws ++ rest)) (pos (length ps)) first
     (next_clear _ f (g ∷ (ws ++ rest)) faces second
     (next_clear _ g (ws ++ rest) edges third
-    (vertex_count_clear (length ps) (ws ++ rest) some few none)))
+    (counted_clear _ ps ws rest tail some few l refl)))
 
 pub never_both : (bytes : List ℕ) (ps : List Vector) → ReadsOff bytes ps → first_off_fault bytes ≡ None
 never_both bytes ps r =

@@ -7,7 +7,7 @@ use Rattle.qh_model.specs.declared.limits.TheConstants.{POINT_LIMIT, BYTE_LIMIT}
 use Rattle.qh_model.specs.headline.Limits.{is_coordinate}
 use Rattle.qh_model.specs.headline.Words.{Word, data_words}
 use Rattle.qh_model.specs.headline.Numbers.{number_of}
-use Rattle.qh_model.specs.headline.FileFault.{is_three, coordinate_fault, coordinates_fault, counted_fault, headed_fault, second_fault, header_fault, words_fault, first_fault}
+use Rattle.qh_model.specs.headline.FileFault.{is_three, coordinate_fault, coordinates_fault, counted_fault, number_fault, next_number_fault, long_fault, headed_fault, words_fault, first_fault}
 use Rattle.qh_read.specs.steps.Building.{lack}
 use Rattle.qh_read.specs.contract.Tokens.{cap}
 use Rattle.qh_read.specs.steps.SmallTokens.{capped}
@@ -39,42 +39,49 @@ pub either : (b : Bool) (x : Option ReadFault) (f : ReadFault) → cond b x (Som
 either true x f = refl
 either false x f = refl
 
-coordinates : (ws : List Word) (k : ℕ) (t : List ℤ) → lack (judged (wants k t) ws) ≡ coordinates_fault k ws
+coordinates : (ws : List Word) (k : ℕ) (t : List ℤ) → lack (judged (wants k t) ws) ≡ coordinates_fault long_fault k ws
 coordinates [] zero t = refl
 coordinates [] (suc k) t = refl
 coordinates (w ∷ ws) zero t = fallen (faults.Long w.line) ws
 coordinates (w ∷ ws) (suc k) t = by (λ z. coordinates ws k (t ++ z ∷ [])) (number_of w.text)
   where
-    by : ((z : ℤ) → lack (judged (wants k (t ++ z ∷ [])) ws) ≡ coordinates_fault k ws) → (o : Option ℤ)
-        → lack (judged (after (wants (suc k) t) (is_off w) (option_map capped o) w.line) ws) ≡ option_or (coordinate_fault o w.line) (coordinates_fault k ws)
+    by : ((z : ℤ) → lack (judged (wants k (t ++ z ∷ [])) ws) ≡ coordinates_fault long_fault k ws) → (o : Option ℤ)
+        → lack (judged (after (wants (suc k) t) (is_off w) (option_map capped o) w.line) ws) ≡ option_or (coordinate_fault o w.line) (coordinates_fault long_fault k ws)
     by rest None = fallen (faults.BadNumber w.line) ws
-    by rest (Some z) = chosen (is_coordinate (capped z)) (is_coordinate z) (wants k (t ++ capped z ∷ [])) (fails (faults.Range w.line)) ws (coordinates_fault k ws) (Some (faults.Range w.line))
+    by rest (Some z) = chosen (is_coordinate (capped z)) (is_coordinate z) (wants k (t ++ capped z ∷ [])) (fails (faults.Range w.line)) ws (coordinates_fault long_fault k ws) (Some (faults.Range w.line))
         (same_limit z) (rest (capped z)) (fallen (faults.Range w.line) ws)
-        ∙ either (is_coordinate z) (coordinates_fault k ws) (faults.Range w.line)
+        ∙ either (is_coordinate z) (coordinates_fault long_fault k ws) (faults.Range w.line)
 
-counts : (z : ℤ) (ws : List Word) → lack (judged (counted wants (capped z)) ws) ≡ counted_fault z ws
-counts (negsuc n) ws = fallen faults.Count ws
-counts (pos n) ws = by (nat_le 1 (cap n) && nat_le (cap n) POINT_LIMIT) refl
+-- the count, and then the coordinates, if a reader finds what is wrong with these
+pub counts : (next : ℕ → List ℤ → Progress) (rest : List Word → Option ReadFault) (ws : List Word) → ((k : ℕ) → lack (judged (next k []) ws) ≡ coordinates_fault rest k ws)
+    → (z : ℤ) → lack (judged (counted next (capped z)) ws) ≡ counted_fault rest z ws
+counts next rest ws h (negsuc n) = fallen faults.Count ws
+counts next rest ws h (pos n) = by (nat_le 1 (cap n) && nat_le (cap n) POINT_LIMIT) refl
   where
-    by : (b : Bool) → (nat_le 1 (cap n) && nat_le (cap n) POINT_LIMIT) ≡ b → lack (judged (cond b (wants (3 * cap n) []) (fails faults.Count)) ws)
-        ≡ cond (nat_le 1 n && nat_le n POINT_LIMIT) (coordinates_fault (3 * n) ws) (Some faults.Count)
+    by : (b : Bool) → (nat_le 1 (cap n) && nat_le (cap n) POINT_LIMIT) ≡ b → lack (judged (cond b (next (3 * cap n) []) (fails faults.Count)) ws)
+        ≡ cond (nat_le 1 n && nat_le n POINT_LIMIT) (coordinates_fault rest (3 * n) ws) (Some faults.Count)
     by true e =
         let same : cap n ≡ n = grind (arith, nat_tests) in
         let test : (nat_le 1 n && nat_le n POINT_LIMIT) ≡ true = grind (arith, nat_tests) in
-        coordinates ws (3 * cap n) [] ∙ ap (λ (k : ℕ). coordinates_fault (3 * k) ws) same ∙ ap (λ (b : Bool). cond b (coordinates_fault (3 * n) ws) (Some faults.Count)) (sym test)
+        h (3 * cap n) ∙ ap (λ (k : ℕ). coordinates_fault rest (3 * k) ws) same ∙ ap (λ (b : Bool). cond b (coordinates_fault rest (3 * n) ws) (Some faults.Count)) (sym test)
     by false e =
         let test : (nat_le 1 n && nat_le n POINT_LIMIT) ≡ false = grind (arith, nat_tests) in
-        fallen faults.Count ws ∙ ap (λ (b : Bool). cond b (coordinates_fault (3 * n) ws) (Some faults.Count)) (sym test)
+        fallen faults.Count ws ∙ ap (λ (b : Bool). cond b (coordinates_fault rest (3 * n) ws) (Some faults.Count)) (sym test)
+
+-- the count of a point file
+counts_whole : (ws : List Word) (z : ℤ) → lack (judged (counted wants (capped z)) ws) ≡ counted_fault long_fault z ws
+counts_whole ws z = counts wants long_fault ws (λ k. coordinates ws k []) z
 
 heads : (a b : ℤ) (ws : List Word) → lack (judged (headed (capped a) (capped b)) ws) ≡ headed_fault a b ws
-heads a b ws = chosen (is_three (capped a)) (is_three a) (counted wants (capped b)) _ ws (counted_fault b ws) _ (same_three a) (counts b ws)
-    (chosen (is_three (capped b)) (is_three b) (counted wants (capped a)) (fails faults.NotThree) ws (counted_fault a ws) (Some faults.NotThree) (same_three b) (counts a ws) (fallen faults.NotThree ws))
+heads a b ws = chosen (is_three (capped a)) (is_three a) (counted wants (capped b)) _ ws (counted_fault long_fault b ws) _ (same_three a) (counts_whole ws b)
+    (chosen (is_three (capped b)) (is_three b) (counted wants (capped a)) (fails faults.NotThree) ws (counted_fault long_fault a ws) (Some faults.NotThree)
+    (same_three b) (counts_whole ws a) (fallen faults.NotThree ws))
 
-seconds : (a : ℤ) (line : ℕ) (ws : List Word) → lack (judged (wants_second (capped a)) ws) ≡ header_fault (Some a) line ws
-seconds a line [] = refl
-seconds a line (w ∷ ws) = by (number_of w.text)
+seconds : (a : ℤ) (ws : List Word) → lack (judged (wants_second (capped a)) ws) ≡ next_number_fault (headed_fault a) ws
+seconds a [] = refl
+seconds a (w ∷ ws) = by (number_of w.text)
   where
-    by : (o : Option ℤ) → lack (judged (after (wants_second (capped a)) (is_off w) (option_map capped o) w.line) ws) ≡ second_fault a o w.line ws
+    by : (o : Option ℤ) → lack (judged (after (wants_second (capped a)) (is_off w) (option_map capped o) w.line) ws) ≡ number_fault (headed_fault a) o w.line ws
     by None = fallen (faults.BadNumber w.line) ws
     by (Some b) = heads a b ws
 
@@ -82,9 +89,9 @@ pub lacks : (ws : List Word) → lack (judged wants_first ws) ≡ words_fault ws
 lacks [] = refl
 lacks (w ∷ ws) = by (number_of w.text)
   where
-    by : (o : Option ℤ) → lack (judged (after wants_first (is_off w) (option_map capped o) w.line) ws) ≡ header_fault o w.line ws
+    by : (o : Option ℤ) → lack (judged (after wants_first (is_off w) (option_map capped o) w.line) ws) ≡ number_fault (λ first. next_number_fault (headed_fault first)) o w.line ws
     by None = fallen (faults.BadNumber w.line) ws
-    by (Some a) = seconds a w.line ws
+    by (Some a) = seconds a ws
 
 first : (bs : List ℕ) → length bs ≤ BYTE_LIMIT → first_fault bs ≡ words_fault (data_words bs)
 first bs h = let e : nat_lt BYTE_LIMIT (length bs) ≡ false = grind (arith, nat_tests) in ap (λ (b : Bool). cond b (Some faults.Big) (words_fault (data_words bs))) e

@@ -19,7 +19,7 @@ own false w = before_comment (words_of w)
 -- the words that lines give to what was read before them
 abbrev rest : ℕ → Bool → List ℕ → List (List ℕ) → List Word
 rest line comment w [] = []
-rest line comment w (l ∷ ls) = on_line line (own comment (w ++ l)) ++ words_from (line + 1) ls
+rest line comment w (l ∷ ls) = on_line line (own comment (w ++ l)) ++ words_from (own false) (line + 1) ls
 
 -- what begins so is no comment
 abbrev data_or_none : List ℕ → Type 0
@@ -91,12 +91,12 @@ begun_good ws n [] c v nb =
     (λ e. record { valid = record { clean = (nb, tt); data_word = e; quiet = λ q. cc }; same = λ l ls. refl })
     (λ e. record {
       valid = record { clean = tt; data_word = tt; quiet = λ q. refl };
-      same = λ l ls. ap (λ t. ws ++ (on_line n t ++ words_from (n + 1) ls)) (sym (comments c l nb e));
+      same = λ l ls. ap (λ t. ws ++ (on_line n t ++ words_from (own false) (n + 1) ls)) (sym (comments c l nb e));
     })
 begun_good ws n (b ∷ w) c v nb =
     record {
       valid = record { clean = clear_append is_blank (b ∷ w) c v.clean nb; data_word = v.data_word; quiet = λ q. cc };
-      same = λ l ls. ap (λ t. ws ++ (on_line n (before_comment (words_of (b ∷ t))) ++ words_from (n + 1) ls)) (append_assoc w (c ∷ []) l);
+      same = λ l ls. ap (λ t. ws ++ (on_line n (before_comment (words_of (b ∷ t))) ++ words_from (own false) (n + 1) ls)) (append_assoc w (c ∷ []) l);
     }
 
 good_at : (ws : List Word) (n : ℕ) (b : Bool) (w : List ℕ) (c : ℕ) (over : Bool) → let s : Lexed = record { words = ws; line = n; comment = b; under_way = w } in
@@ -105,7 +105,7 @@ good_at : (ws : List Word) (n : ℕ) (b : Bool) (w : List ℕ) (c : ℕ) (over :
 good_at ws n b w c true v =
     record {
       valid = record { clean = tt; data_word = tt; quiet = λ q. refl };
-      same = λ l ls. append_assoc ws (ended n w) _ ∙ ap (λ t. ws ++ (t ++ words_from (n + 1) (l ∷ ls))) (ends n b w v.clean v.data_word v.quiet);
+      same = λ l ls. append_assoc ws (ended n w) _ ∙ ap (λ t. ws ++ (t ++ words_from (own false) (n + 1) (l ∷ ls))) (ends n b w v.clean v.data_word v.quiet);
     }
 good_at ws n true w c false v =
     record { valid = v; same = λ l ls. refl }
@@ -114,8 +114,8 @@ good_at ws n false w c false v =
     in_cond (Good s c false) (is_blank c) (record s { words = closed s; under_way = [] }) (begun s w c)
     (λ e. record {
       valid = record { clean = tt; data_word = tt; quiet = λ q. refl };
-      same = λ l ls. append_assoc ws (ended n w) _ ∙ ap (λ t. ws ++ t) (sym (append_assoc (ended n w) (on_line n (own false l)) (words_from (n + 1) ls)))
-          ∙ ap (λ t. ws ++ (t ++ words_from (n + 1) ls)) (sym (blank_ends n w c l v.clean v.data_word e));
+      same = λ l ls. append_assoc ws (ended n w) _ ∙ ap (λ t. ws ++ t) (sym (append_assoc (ended n w) (on_line n (own false l)) (words_from (own false) (n + 1) ls)))
+          ∙ ap (λ t. ws ++ (t ++ words_from (own false) (n + 1) ls)) (sym (blank_ends n w c l v.clean v.data_word e));
     })
     (λ e. begun_good ws n w c v e)
 
@@ -140,6 +140,6 @@ total (c ∷ cs) s v =
 pub data_words-lexed : (bs : List ℕ) → closed (lexed Qhull start bs) ≡ data_words bs
 data_words-lexed bs = total bs start (record { clean = tt; data_word = tt; quiet = λ q. refl }) ∙ whole (lines_of bs) (some_line bs)
   where
-    whole : (ls : List (List ℕ)) → 0 < length ls → rest 1 false [] ls ≡ words_from 1 ls
+    whole : (ls : List (List ℕ)) → 0 < length ls → rest 1 false [] ls ≡ words_from (own false) 1 ls
     whole [] h = absurd (omega arith)
     whole (l ∷ ls) h = refl

@@ -4,8 +4,8 @@ use Rattle.std.proofs.lemmas.List.{append-nil}
 use Rattle.std.proofs.lemmas.Bool.Decides.{nat_tests}
 use Rattle.std.specs.List.{slice_split, onto_first}
 use Rattle.qh_model.specs.declared.form.Form.TheVariants.{Off}
-use Rattle.qh_model.specs.headline.Words.{Word, is_blank, lines_of, words_of, on_line, is_word}
-use Rattle.qh_model.specs.headline.OffFile.{before_hash, off_words_from, off_words}
+use Rattle.qh_model.specs.headline.Words.{Word, is_blank, lines_of, words_of, words_from, on_line, is_word}
+use Rattle.qh_model.specs.headline.OffFile.{before_hash, off_words}
 use Rattle.qh_read.proofs.Lexing.{Lexed, start, ended, closed, next, lexed}
 use Rattle.qh_read.proofs.LexingLaws.{clear, split_clear, split_whole, clear_append, in_cond, some_line}
 
@@ -20,7 +20,7 @@ own false w = words_of (before_hash w)
 -- the words that lines give to what was read before them
 abbrev rest : ℕ → Bool → List ℕ → List (List ℕ) → List Word
 rest line comment w [] = []
-rest line comment w (l ∷ ls) = on_line line (own comment (w ++ l)) ++ off_words_from (line + 1) ls
+rest line comment w (l ∷ ls) = on_line line (own comment (w ++ l)) ++ words_from (own false) (line + 1) ls
 
 record Valid (s : Lexed) : Type 0 where
   clean : clear is_blank s.under_way
@@ -76,12 +76,12 @@ marked_good ws n w c v nb =
     in_cond (Good s c false) (c == 35) (record s { words = closed s; under_way = []; comment = true }) (record s { under_way = w ++ c ∷ [] })
     (λ e. record {
       valid = record { clean = tt; plain = tt; quiet = λ q. refl };
-      same = λ l ls. append_assoc ws (ended n w) (off_words_from (n + 1) ls)
-          ∙ ap (λ t. ws ++ (t ++ off_words_from (n + 1) ls)) (sym (ends n w (c ∷ l) v.clean v.plain (ap (λ (t : Bool). cond t [] (c ∷ before_hash l)) e)));
+      same = λ l ls. append_assoc ws (ended n w) (words_from (own false) (n + 1) ls)
+          ∙ ap (λ t. ws ++ (t ++ words_from (own false) (n + 1) ls)) (sym (ends n w (c ∷ l) v.clean v.plain (ap (λ (t : Bool). cond t [] (c ∷ before_hash l)) e)));
     })
     (λ e. record {
       valid = record { clean = clear_append is_blank w c v.clean nb; plain = clear_append is_hash w c v.plain e; quiet = λ q. cc };
-      same = λ l ls. ap (λ (t : List ℕ). ws ++ (on_line n (words_of (before_hash t)) ++ off_words_from (n + 1) ls)) (append_assoc w (c ∷ []) l);
+      same = λ l ls. ap (λ (t : List ℕ). ws ++ (on_line n (words_of (before_hash t)) ++ words_from (own false) (n + 1) ls)) (append_assoc w (c ∷ []) l);
     })
 
 good_at : (ws : List Word) (n : ℕ) (b : Bool) (w : List ℕ) (c : ℕ) (over : Bool) → let s : Lexed = record { words = ws; line = n; comment = b; under_way = w } in
@@ -91,7 +91,7 @@ good_at : (ws : List Word) (n : ℕ) (b : Bool) (w : List ℕ) (c : ℕ) (over :
 good_at ws n b w c true v =
     record {
       valid = record { clean = tt; plain = tt; quiet = λ q. refl };
-      same = λ l ls. append_assoc ws (ended n w) _ ∙ ap (λ t. ws ++ (t ++ off_words_from (n + 1) (l ∷ ls))) (line_ends n b w v.clean v.plain v.quiet);
+      same = λ l ls. append_assoc ws (ended n w) _ ∙ ap (λ t. ws ++ (t ++ words_from (own false) (n + 1) (l ∷ ls))) (line_ends n b w v.clean v.plain v.quiet);
     }
 good_at ws n true w c false v =
     record { valid = v; same = λ l ls. refl }
@@ -100,8 +100,8 @@ good_at ws n false w c false v =
     in_cond (Good s c false) (is_blank c) (record s { words = closed s; under_way = [] }) (cond (c == 35) (record s { words = closed s; under_way = []; comment = true }) (record s { under_way = w ++ c ∷ [] }))
     (λ e. record {
       valid = record { clean = tt; plain = tt; quiet = λ q. refl };
-      same = λ l ls. append_assoc ws (ended n w) _ ∙ ap (λ t. ws ++ t) (sym (append_assoc (ended n w) (on_line n (own false l)) (off_words_from (n + 1) ls)))
-          ∙ ap (λ t. ws ++ (t ++ off_words_from (n + 1) ls)) (sym (blank_ends n w c l v.clean v.plain e));
+      same = λ l ls. append_assoc ws (ended n w) _ ∙ ap (λ t. ws ++ t) (sym (append_assoc (ended n w) (on_line n (own false l)) (words_from (own false) (n + 1) ls)))
+          ∙ ap (λ t. ws ++ (t ++ words_from (own false) (n + 1) ls)) (sym (blank_ends n w c l v.clean v.plain e));
     })
     (λ e. marked_good ws n w c v e)
 
@@ -122,6 +122,6 @@ total (c ∷ cs) s v =
 pub off_words-lexed : (bs : List ℕ) → closed (lexed Off start bs) ≡ off_words bs
 off_words-lexed bs = total bs start (record { clean = tt; plain = tt; quiet = λ q. refl }) ∙ whole (lines_of bs) (some_line bs)
   where
-    whole : (ls : List (List ℕ)) → 0 < length ls → rest 1 false [] ls ≡ off_words_from 1 ls
+    whole : (ls : List (List ℕ)) → 0 < length ls → rest 1 false [] ls ≡ words_from (own false) 1 ls
     whole [] h = absurd (omega arith)
     whole (l ∷ ls) h = refl

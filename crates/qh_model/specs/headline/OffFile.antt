@@ -1,7 +1,7 @@
 -- The points that a byte string stands for as an OFF file.
 -- Source: Geomview OFF: the keyword, the numbers of vertices, faces and edges, the vertices, the faces. That the keyword
 -- has to stand, that a comment begins at any byte `#`, and that faces are not looked at is this project's profile.
-use Rattle.std.specs.Prelude.{ℕ, ℤ, pos, List, [], ◌∷◌, ◌++◌, ◌≡◌, ◌≤◌, ◌==◌, ◌+◌, if◌then◌else◌, map, length, codes, Some}
+use Rattle.std.specs.Prelude.{ℕ, ℤ, pos, List, [], ◌∷◌, ◌++◌, ◌≡◌, ◌≤◌, ◌==◌, if◌then◌else◌, map, length, codes, Some}
 use Rattle.std.specs.List.{AllByRecursion}
 use Rattle.qh_model.specs.declared.limits.TheConstants.{POINT_LIMIT, BYTE_LIMIT}
 use Rattle.qh_model.specs.headline.Vector.{Vector}

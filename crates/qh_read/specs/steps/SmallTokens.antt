@@ -1,5 +1,5 @@
 -- Words whose magnitude is within the cap.
-use Rattle.std.specs.Prelude.{ℤ, pos, negsuc, ◌-◌, ◌≤◌, min}
+use Rattle.std.specs.Prelude.{ℤ, pos, negsuc, ◌≤◌, min}
 use Rattle.qh_model.specs.declared.limits.TheConstants.{COORDINATE_LIMIT}
 use Rattle.qh_read.specs.declared.token.TheConstants.{MAGNITUDE_CAP}
 use Rattle.qh_read.specs.declared.token.Token.{Token}
