@@ -76,7 +76,14 @@ fn many_bounds(rt: HostRuntime) -> Result<(), Fail> {
 fn ids_of_polygons(rt: HostRuntime) -> Result<(), Fail> {
     let alloc = rt.alloc();
     let ids = [2, 7, 3, 5, 4].map(Id::new);
-    for part in [&ids[..0], &ids[..1], &ids[..2], &ids[..3], &ids[..4], &ids[..]] {
+    for part in [
+        &ids[..0],
+        &ids[..1],
+        &ids[..2],
+        &ids[..3],
+        &ids[..4],
+        &ids[..],
+    ] {
         let list = Vec::from_slice(alloc, part).expect(&rt, "memory");
         assert_eq!(rt; Polygon::of(list).ids(), part);
     }
