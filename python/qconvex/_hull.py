@@ -23,8 +23,9 @@ def _whole(points: Any) -> np.ndarray:
             "convert them, as in numpy.rint(points * 1000).astype(numpy.int64); lengths of the hull are then as many "
             "times longer"
         )
-    if given.dtype.itemsize >= 4 and len(given) and not -COORDINATE_LIMIT <= given.min() <= given.max() <= COORDINATE_LIMIT:
-        raise ValueError(RANGE_REFUSAL)
+    if len(given) and not np.can_cast(given.dtype, np.int32):  # what int32 holds the library judges
+        if not -COORDINATE_LIMIT <= given.min() <= given.max() <= COORDINATE_LIMIT:
+            raise ValueError(RANGE_REFUSAL)
     return np.ascontiguousarray(given, dtype=np.int32)
 
 
@@ -73,9 +74,9 @@ class ConvexHull:
         self.dimension: int = hull.dimension
         self.distinct: int = hull.distinct
         self.nedges: int = hull.edges
-        self.vertices: np.ndarray = hull.extremes.view(np.int32)
-        self.corners: np.ndarray = hull.corners.view(np.int32)
-        self.offsets: np.ndarray = hull.offsets.view(np.intp)
+        self.vertices: np.ndarray = hull.extremes
+        self.corners: np.ndarray = hull.corners
+        self.offsets: np.ndarray = hull.offsets
 
     @cached_property
     def faces(self) -> list[np.ndarray]:
@@ -83,7 +84,8 @@ class ConvexHull:
 
         A set in a plane has one face; a set in a line its two ends; one point itself.
         """
-        return np.split(self.corners, self.offsets[1:-1])
+        ends = self.offsets.tolist()
+        return [self.corners[start:end] for start, end in zip(ends, ends[1:])]
 
     @cached_property
     def simplices(self) -> np.ndarray:

@@ -41,9 +41,9 @@ class FlatHull(NamedTuple):
     dimension: int
     distinct: int
     edges: int
-    extremes: np.ndarray  # uint32, rising
-    offsets: np.ndarray  # uintp: the corners of face j stand from offsets[j] to before offsets[j + 1]
-    corners: np.ndarray  # uint32
+    extremes: np.ndarray  # int32, rising
+    offsets: np.ndarray  # intp: the corners of face j stand from offsets[j] to before offsets[j + 1]
+    corners: np.ndarray  # int32
 
 
 def _path() -> str:
@@ -65,12 +65,35 @@ def _load() -> ctypes.CDLL:
 _LIBRARY = _load()
 
 
-def _call(points: np.ndarray, sizes: _Sizes, room: tuple[int, int, int]):
+class _Buffers:
+    """Room for so many offsets, extreme points and corners, one after the other in one piece of memory."""
+
+    def __init__(self, extremes: int, offsets: int, corners: int) -> None:
+        self.rooms = extremes, offsets, corners
+        # Pages that stay unwritten take no memory.
+        self.words = np.zeros(offsets + (extremes + corners + 1) // 2, np.intp)
+
+    def addresses(self) -> tuple[int, int, int]:
+        """Where the extreme points, the offsets and the corners begin."""
+        extremes, offsets, _corners = self.rooms
+        start = self.words.ctypes.data
+        return start + 8 * offsets, start, start + 8 * offsets + 4 * extremes
+
+    def lists(self, extremes: int, offsets: int, corners: int) -> tuple[np.ndarray, np.ndarray, np.ndarray]:
+        """So many of each, in memory of their own: the buffers are mostly longer than what stands in them."""
+        numbers = self.words[self.rooms[1] :].view(np.int32)
+        first = self.rooms[0]
+        return numbers[:extremes].copy(), self.words[:offsets].copy(), numbers[first : first + corners].copy()
+
+
+def _call(points: np.ndarray, sizes: _Sizes, room: tuple[int, int, int]) -> tuple[int, _Buffers]:
     """One call with so much room for extreme points, offsets and corners: its answer, and the buffers."""
-    buffers = np.zeros(room[0], np.uint32), np.zeros(room[1], np.uintp), np.zeros(room[2], np.uint32)
+    buffers = _Buffers(*room)
+    extremes, offsets, corners = buffers.addresses()
     source = points if len(points) else np.zeros((1, 3), np.int32)  # a pointer that is not null, also for no points
-    arguments = [word for buffer in buffers for word in (buffer.ctypes.data, len(buffer))]
-    code = _LIBRARY.qconvex_hull(source.ctypes.data, len(points), ctypes.byref(sizes), *arguments)
+    code = _LIBRARY.qconvex_hull(
+        source.ctypes.data, len(points), ctypes.byref(sizes), extremes, room[0], offsets, room[1], corners, room[2]
+    )
     return code, buffers
 
 
@@ -80,7 +103,7 @@ def flat_hull(points: np.ndarray) -> FlatHull:
     Raises ValueError where the library refuses the points, and MemoryError where memory was refused.
     """
     count, sizes = len(points), _Sizes()
-    # Enough by Euler's formula; pages that stay unwritten take no memory. Should it not be, the sizes say what is.
+    # Enough by Euler's formula. Should it not be, the sizes say what is.
     code, buffers = _call(points, sizes, (max(count, 1), 2 * min(count, POINT_LIMIT) + 2, 6 * min(count, POINT_LIMIT) + 4))
     if code == _ROOM:
         code, buffers = _call(points, sizes, (sizes.extremes, sizes.faces + 1, sizes.corners))
@@ -88,12 +111,5 @@ def flat_hull(points: np.ndarray) -> FlatHull:
         raise MemoryError("memory was refused")
     if code != _DONE:
         raise ValueError(_REFUSALS[code])
-    extremes, offsets, corners = buffers
-    return FlatHull(
-        sizes.dimension,
-        sizes.distinct,
-        sizes.edges,
-        extremes[: sizes.extremes].copy(),
-        offsets[: sizes.faces + 1].copy(),
-        corners[: sizes.corners].copy(),
-    )
+    lists = buffers.lists(sizes.extremes, sizes.faces + 1, sizes.corners)
+    return FlatHull(sizes.dimension, sizes.distinct, sizes.edges, *lists)

@@ -6,7 +6,7 @@ ghost use Rattle.qh_model.specs.headline.Predicates.{place};
 ghost use Rattle.qh_model.specs.headline.Sets.{Members};
 ghost use Rattle.qh_model.specs.declared.limits.TheConstants.{POINT_LIMIT};
 
-use qh_block::hull;
+use crate::blocks::body_alone;
 use qh_model::{Body, Hull, Id, Memory, Point};
 use qh_plane::distinct_alone;
 use std::alloc::Global;
@@ -42,6 +42,6 @@ pub fn hull_alone(alloc: Global, pts: &[Point]) -> Result<Hull, Memory>
     ensures { IfOk result (λ h. IsHull pts.now h) }
 {
     let ids = distinct_alone(alloc, pts)?;
-    let body = hull(alloc, pts, &ids)?;
+    let body = body_alone(alloc, pts, &ids)?;
     Ok(hull_of_body(pts, &ids, body))
 }

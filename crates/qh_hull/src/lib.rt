@@ -4,6 +4,7 @@
 //! thread, which takes all points as one block.
 #![tactic(auto)]
 
+mod blocks;
 mod hulls;
 #[cfg(test)]
 mod tests;

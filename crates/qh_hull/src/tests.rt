@@ -3,6 +3,8 @@ use crate::hull_alone;
 use qh_model::{Memory, Point};
 use std::test::Fail;
 
+mod large_sets;
+
 #[test]
 fn cube_with_a_point_twice(rt: HostRuntime) -> Result<(), Fail> {
     let points = [

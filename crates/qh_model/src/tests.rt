@@ -1,6 +1,6 @@
-//! Rows of cuts.
+//! Rows of cuts, and of polygons.
 
-use crate::{BLOCK_LIMIT, Cut, CutError, POINT_LIMIT};
+use crate::{BLOCK_LIMIT, Cut, CutError, Id, POINT_LIMIT, Polygon};
 use std::alloc::Global;
 use std::test::Fail;
 
@@ -69,5 +69,25 @@ fn many_bounds(rt: HostRuntime) -> Result<(), Fail> {
     );
     let many = ends(Cut::from_bounds(more));
     assert_eq!(rt; many, Err(CutError::TooManyBlocks));
+    Ok(())
+}
+
+#[test]
+fn ids_of_polygons(rt: HostRuntime) -> Result<(), Fail> {
+    let alloc = rt.alloc();
+    let ids = [2, 7, 3, 5, 4].map(Id::new);
+    for part in [
+        &ids[..0],
+        &ids[..1],
+        &ids[..2],
+        &ids[..3],
+        &ids[..4],
+        &ids[..],
+    ] {
+        let list = Vec::from_slice(alloc, part).expect(&rt, "memory");
+        assert_eq!(rt; Polygon::of(list).ids(), part);
+    }
+    let triangle = Polygon::triangle(ids[0], ids[1], ids[2]);
+    assert_eq!(rt; triangle.ids(), &ids[..3]);
     Ok(())
 }

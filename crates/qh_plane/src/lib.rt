@@ -13,6 +13,7 @@ mod place_numbers;
 mod planar;
 mod ranking;
 mod shape;
+mod sorting;
 #[cfg(test)]
 mod tests;
 

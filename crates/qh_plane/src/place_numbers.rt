@@ -8,10 +8,9 @@ ghost use Rattle.std.specs.List.Sorted.{IsStrictlyIncreasing};
 ghost use Rattle.qh_plane.specs.steps.PlaceNumbers.{AllDiffer, place_number};
 
 use crate::place_keys::raised;
+use crate::sorting::Sorter;
 use qh_model::Point;
-use rayon::slice::par_sort_unstable;
 use std::alloc::{AllocError, Global};
-use std::thread::Threads;
 
 /// Points with coordinates up to this far from 0 have numbers of their own: the third power of
 /// `SPREAD` is below 2^64.
@@ -55,30 +54,24 @@ fn rise(numbers: &[u64]) -> bool
 }
 
 /// Whether the numbers of points all differ.
-fn numbers_differ<R: Threads + Sync>(
-    rt: &R,
-    alloc: Global,
-    pts: &[Point],
-) -> Result<bool, AllocError>
+fn numbers_differ<S: Sorter>(sorter: &S, alloc: Global, pts: &[Point]) -> Result<bool, AllocError>
+    requires { S.ready sorter.now }
     ensures { IfOk result (λ differ. IsTrue differ → AllDiffer pts.now) }
 {
     let mut numbers = place_numbers(alloc, pts)?;
-    par_sort_unstable(rt, &mut numbers);
+    sorter.sort_numbers(&mut numbers);
     Ok(rise(&numbers))
 }
 
 /// Whether points are seen to differ, all of them. Where they are not, they may still differ.
-pub fn all_differ<R: Threads + Sync>(
-    rt: &R,
-    alloc: Global,
-    pts: &[Point],
-) -> Result<bool, AllocError>
+pub fn all_differ<S: Sorter>(sorter: &S, alloc: Global, pts: &[Point]) -> Result<bool, AllocError>
+    requires { S.ready sorter.now }
     ensures { IfOk result (λ differ. IsTrue differ → AllDiffer pts.now) }
 {
     if let Some(sample) = pts.get(..SAMPLE) {
-        if !numbers_differ(rt, alloc, sample)? {
+        if !numbers_differ(sorter, alloc, sample)? {
             return Ok(false);
         }
     }
-    numbers_differ(rt, alloc, pts)
+    numbers_differ(sorter, alloc, pts)
 }

@@ -2,7 +2,7 @@
 //! each axis and in a slanted one, up to the limit.
 ghost use Rattle.std.specs.Prelude.{◌≡◌, [], ◌∷◌};
 
-use crate::{Shape, distinct, polygon, rank};
+use crate::{Shape, distinct, distinct_alone, polygon, rank};
 use qh_model::{COORDINATE_LIMIT, Id, Point};
 use qh_pred::cross;
 use std::test::Fail;
@@ -53,6 +53,11 @@ fn repeated_points(rt: HostRuntime) -> Result<(), Fail> {
     let ids = distinct(&rt, rt.alloc(), &pts).expect(&rt, "memory");
     assert_eq!(rt;
         ids.as_slice(),
+        [Id::new(0), Id::new(1), Id::new(3), Id::new(5)].as_slice()
+    );
+    let alone = distinct_alone(rt.alloc(), &pts).expect(&rt, "memory");
+    assert_eq!(rt;
+        alone.as_slice(),
         [Id::new(0), Id::new(1), Id::new(3), Id::new(5)].as_slice()
     );
     let none: [Point; 0] = [];

@@ -5,6 +5,7 @@ use Rattle.std.specs.List.{slice_split, onto_first}
 use Rattle.std.proofs.lemmas.List.Splits.{slice_split-cons_yes, slice_split-cons_no, length-slice_split}
 use Rattle.qh_model.specs.headline.Words.{Word, is_blank, is_data, lines_of, words_of, before_comment, on_line, words_from, data_words, is_word}
 use Rattle.qh_model.specs.declared.form.Form.TheVariants.{Qhull}
+use Rattle.qh_model.proofs.texts.Lines.{Clear, split_clear, split_whole}
 use Rattle.qh_read.proofs.Lexing.{Lexed, start, ended, closed, begun, next, lexed}
 
 pub push_cond : {A B : Type 0} (f : A → B) (b : Bool) (x y : A) (u v : B) → (b ≡ true → f x ≡ u) → (b ≡ false → f y ≡ v) → f (cond b x y) ≡ cond b u v
@@ -26,30 +27,18 @@ abbrev data_or_none : List ℕ → Type 0
 data_or_none [] = Unit {0}
 data_or_none (c ∷ w) = is_data (c ∷ []) ≡ true
 
-module _ (p : ℕ → Bool) where
-  abbrev pub clear : List ℕ → Type 0
-  clear [] = Unit {0}
-  clear (c ∷ w) = (p c ≡ false) × clear w
-
-  pub split_clear : (w : List ℕ) (c : ℕ) (l : List ℕ) → clear w → p c ≡ true → slice_split p (w ++ c ∷ l) ≡ w ∷ slice_split p l
-  split_clear [] c l h e = slice_split-cons_yes p c l e
-  split_clear (b ∷ w) c l (nb, h) e = slice_split-cons_no p b (w ++ c ∷ l) nb ∙ ap (onto_first b) (split_clear w c l h e)
-
-  pub split_whole : (w : List ℕ) → clear w → slice_split p w ≡ w ∷ []
-  split_whole [] h = refl
-  split_whole (b ∷ w) (nb, h) = slice_split-cons_no p b w nb ∙ ap (onto_first b) (split_whole w h)
-
-pub clear_append : (p : ℕ → Bool) (w : List ℕ) (c : ℕ) → clear p w → p c ≡ false → clear p (w ++ c ∷ [])
+-- a list without bytes of a kind, and one more of another
+pub clear_append : (p : ℕ → Bool) (w : List ℕ) (c : ℕ) → Clear p w → p c ≡ false → Clear p (w ++ c ∷ [])
 clear_append p [] c h e = (e, tt)
 clear_append p (b ∷ w) c (nb, h) e = (nb, clear_append p w c h e)
 
 record Valid (s : Lexed) : Type 0 where
-  clean : clear is_blank s.under_way
+  clean : Clear is_blank s.under_way
   data_word : data_or_none s.under_way
   quiet : s.comment ≡ true → s.under_way ≡ []
 
 -- the word under way is the only one of a line that ends here
-ends : (n : ℕ) (b : Bool) (w : List ℕ) → clear is_blank w → data_or_none w → (b ≡ true → w ≡ []) → ended n w ≡ on_line n (own b (w ++ []))
+ends : (n : ℕ) (b : Bool) (w : List ℕ) → Clear is_blank w → data_or_none w → (b ≡ true → w ≡ []) → ended n w ≡ on_line n (own b (w ++ []))
 ends n true [] h d q = refl
 ends n false [] h d q = refl
 ends n true (c ∷ w) h d q = cc (q refl)
@@ -58,7 +47,7 @@ ends n false (c ∷ w) h d q =
     ∙ ap (λ t. on_line n (cond t ((c ∷ w) ∷ []) [])) d)
 
 -- a blank ends the word under way
-blank_ends : (n : ℕ) (w : List ℕ) (c : ℕ) (l : List ℕ) → clear is_blank w → data_or_none w → is_blank c ≡ true
+blank_ends : (n : ℕ) (w : List ℕ) (c : ℕ) (l : List ℕ) → Clear is_blank w → data_or_none w → is_blank c ≡ true
     → on_line n (own false (w ++ c ∷ l)) ≡ ended n w ++ on_line n (own false l)
 blank_ends n [] c l h d e = ap (λ t. on_line n (before_comment (filter is_word t))) (split_clear is_blank [] c l h e)
 blank_ends n (b ∷ w) c l h d e =

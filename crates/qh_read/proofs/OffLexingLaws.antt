@@ -6,8 +6,9 @@ use Rattle.std.specs.List.{slice_split, onto_first}
 use Rattle.qh_model.specs.declared.form.Form.TheVariants.{Off}
 use Rattle.qh_model.specs.headline.Words.{Word, is_blank, lines_of, words_of, words_from, on_line, is_word}
 use Rattle.qh_model.specs.headline.OffFile.{before_hash, off_words}
+use Rattle.qh_model.proofs.texts.Lines.{Clear, split_clear, split_whole}
 use Rattle.qh_read.proofs.Lexing.{Lexed, start, ended, closed, next, lexed}
-use Rattle.qh_read.proofs.LexingLaws.{clear, split_clear, split_whole, clear_append, in_cond, some_line}
+use Rattle.qh_read.proofs.LexingLaws.{clear_append, in_cond, some_line}
 
 abbrev is_hash : ℕ → Bool
 is_hash c = c == 35
@@ -23,22 +24,22 @@ rest line comment w [] = []
 rest line comment w (l ∷ ls) = on_line line (own comment (w ++ l)) ++ words_from (own false) (line + 1) ls
 
 record Valid (s : Lexed) : Type 0 where
-  clean : clear is_blank s.under_way
-  plain : clear is_hash s.under_way
+  clean : Clear is_blank s.under_way
+  plain : Clear is_hash s.under_way
   quiet : s.comment ≡ true → s.under_way ≡ []
 
 -- a word has no `#`
-hash_later : (w l : List ℕ) → clear is_hash w → before_hash (w ++ l) ≡ w ++ before_hash l
+hash_later : (w l : List ℕ) → Clear is_hash w → before_hash (w ++ l) ≡ w ++ before_hash l
 hash_later [] l h = refl
 hash_later (b ∷ w) l (n, h) = ap (λ (t : Bool). cond t [] (b ∷ before_hash (w ++ l))) n ∙ ap (λ (t : List ℕ). b ∷ t) (hash_later w l h)
 
 -- the word under way is the only one of the bytes of it
-only_word : (n : ℕ) (w : List ℕ) → clear is_blank w → on_line n (words_of w) ≡ ended n w
+only_word : (n : ℕ) (w : List ℕ) → Clear is_blank w → on_line n (words_of w) ≡ ended n w
 only_word n [] h = refl
 only_word n (c ∷ w) h = ap (λ t. on_line n (filter is_word t)) (split_whole is_blank (c ∷ w) h)
 
 -- where a line ends, or its comment begins
-ends : (n : ℕ) (w l : List ℕ) → clear is_blank w → clear is_hash w → before_hash l ≡ [] → on_line n (own false (w ++ l)) ≡ ended n w
+ends : (n : ℕ) (w l : List ℕ) → Clear is_blank w → Clear is_hash w → before_hash l ≡ [] → on_line n (own false (w ++ l)) ≡ ended n w
 ends n w l h d e = ap (λ (t : List ℕ). on_line n (words_of t)) (hash_later w l d ∙ ap (λ (t : List ℕ). w ++ t) e ∙ append-nil w) ∙ only_word n w h
 
 -- a blank is no `#`
@@ -46,7 +47,7 @@ blank_plain : (c : ℕ) → is_blank c ≡ true → is_hash c ≡ false
 blank_plain c e = grind (arith, nat_tests)
 
 -- a blank ends the word under way
-blank_ends : (n : ℕ) (w : List ℕ) (c : ℕ) (l : List ℕ) → clear is_blank w → clear is_hash w → is_blank c ≡ true
+blank_ends : (n : ℕ) (w : List ℕ) (c : ℕ) (l : List ℕ) → Clear is_blank w → Clear is_hash w → is_blank c ≡ true
     → on_line n (own false (w ++ c ∷ l)) ≡ ended n w ++ on_line n (own false l)
 blank_ends n w c l h d e =
     ap (λ (t : List ℕ). on_line n (words_of t)) (hash_later w (c ∷ l) d ∙ ap (λ (t : Bool). w ++ cond t [] (c ∷ before_hash l)) (blank_plain c e))
@@ -64,7 +65,7 @@ record Good (s : Lexed) (c : ℕ) (over : Bool) (t : Lexed) : Type 0 where
       ≡ s.words ++ rest s.line s.comment s.under_way (cond over ([] ∷ l ∷ ls) (onto_first c (l ∷ ls)))
 
 -- a line ends, with a comment or without
-line_ends : (n : ℕ) (b : Bool) (w : List ℕ) → clear is_blank w → clear is_hash w → (b ≡ true → w ≡ []) → ended n w ≡ on_line n (own b (w ++ []))
+line_ends : (n : ℕ) (b : Bool) (w : List ℕ) → Clear is_blank w → Clear is_hash w → (b ≡ true → w ≡ []) → ended n w ≡ on_line n (own b (w ++ []))
 line_ends n true w h d q = subst (λ (t : List ℕ). ended n t ≡ []) (sym (q refl)) refl
 line_ends n false w h d q = sym (ends n w [] h d refl)
 

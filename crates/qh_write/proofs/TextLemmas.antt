@@ -12,11 +12,6 @@ use Rattle.qh_model.specs.contract.Bodies.{IsBodyInOrder}
 use Rattle.qh_model.specs.headline.Text.{line, spaced, vertex_number, face_text}
 use Rattle.qh_write.specs.steps.VertexTables.{numbered, AreNumbered, face_by_table}
 
--- texts of mapped members
-pub flat_map-map : {X Y : Type 0} (f : Y → List ℕ) (g : X → Y) (xs : List X) → flat_map f (map g xs) ≡ flat_map (λ x. f (g x)) xs
-flat_map-map f g [] = refl
-flat_map-map f g (x ∷ xs) = ap (λ (t : List ℕ). f (g x) ++ t) (flat_map-map f g xs)
-
 -- the table keeps its length
 pub length-numbered : (table es : List ℕ) (n : ℕ) → length (numbered table n es) ≡ length table
 length-numbered table [] n = refl

@@ -1,5 +1,5 @@
 //! Rows of more points than are looked at first for repeats.
-use crate::distinct;
+use crate::{distinct, distinct_alone};
 use qh_model::Point;
 use std::test::Fail;
 
@@ -30,6 +30,8 @@ fn moved_points(rt: HostRuntime) -> Result<(), Fail> {
         let ids = distinct(&rt, rt.alloc(), &pts).expect(&rt, "memory");
         assert_eq!(rt; ids.len(), count);
         assert_eq!(rt; ids.last().map(|id| id.number()), Some(last));
+        let alone = distinct_alone(rt.alloc(), &pts).expect(&rt, "memory");
+        assert_eq!(rt; alone.as_slice(), ids.as_slice());
     }
     Ok(())
 }

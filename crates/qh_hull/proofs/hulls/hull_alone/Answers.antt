@@ -1,5 +1,5 @@
 use Rattle.std.proofs.Common.{◌<◌, length, subst, sym}
-use Rattle.qh_model.specs.contract.IdSets.{AreIndices}
+use Rattle.qh_model.specs.contract.IdSets.{AreIndices, IsIdSet}
 use Rattle.qh_model.specs.headline.Hull.{IsBody}
 use Rattle.qh_model.specs.headline.Predicates.{place}
 use Rattle.qh_model.specs.headline.Sets.{Members}
@@ -7,15 +7,16 @@ use Rattle.qh_model.proofs.DistinctIds.{ids_within, some_id}
 use Rattle.qh_plane.proofs.DistinctLists.{id_set}
 use Rattle.qh_hull.proofs.hulls.hull_alone.Goals as goal
 
-pub hull-requires-clause-some : goal.hull-requires-clause-some
-hull-requires-clause-some c = subst (λ xs. 0 < length xs) (sym c.deref.ensures.value) (some_id c.args.pts.now c.in_ok-ids.ids.items c.in_ok-ids.ensures c.requires.some)
+pub body_alone-requires-clause-some : goal.body_alone-requires-clause-some
+body_alone-requires-clause-some c = subst (λ xs. 0 < length xs) (sym c.deref.ensures.value) (some_id c.args.pts.now c.in_ok-ids.ids.items c.in_ok-ids.ensures c.requires.some)
 
-pub hull-requires-clause-indices : goal.hull-requires-clause-indices
-hull-requires-clause-indices c = subst (AreIndices c.args.pts.now) (sym c.deref.ensures.value) (ids_within c.args.pts.now c.in_ok-ids.ids.items c.in_ok-ids.ensures)
+pub body_alone-requires-clause-indices : goal.body_alone-requires-clause-indices
+body_alone-requires-clause-indices c = subst (AreIndices c.args.pts.now) (sym c.deref.ensures.value) (ids_within c.args.pts.now c.in_ok-ids.ids.items c.in_ok-ids.ensures)
+
+pub body_alone-requires-clause-set : goal.body_alone-requires-clause-set
+body_alone-requires-clause-set c = subst (IsIdSet c.args.pts.now) (sym c.deref.ensures.value) (id_set c.args.pts.now c.in_ok-ids.ids.items c.in_ok-ids.ensures)
 
 pub hull_of_body-requires-clause-body : goal.hull_of_body-requires-clause-body
 hull_of_body-requires-clause-body c =
     let pts = c.args.pts.now in
-    let ids = c.in_ok-ids.ids.items in
-    let right = rw (c.deref.ensures.value) at c.in_ok-body.ensures in
-    subst (λ xs. IsBody (place pts) (Members xs) c.in_ok-body.body) (sym c.deref-2.ensures.value) (right (id_set pts ids c.in_ok-ids.ensures))
+    subst (λ xs. IsBody (place pts) (Members xs) c.in_ok-body.body) (sym c.deref-2.ensures.value) (rw (c.deref.ensures.value) at c.in_ok-body.ensures)

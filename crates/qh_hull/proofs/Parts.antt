@@ -1,0 +1,105 @@
+-- Parts of a set that have all its extreme ids: gathered block after block, and hulled.
+use Rattle.std.proofs.Common.{ℕ, ◌≡◌, ◌+◌, ◌<◌, ◌⊎◌, inl, inr, List, ◌++◌, length, get_or, take, drop, arith, subst, sym}
+use Rattle.std.specs.Prelude.{◌↔◌}
+use Rattle.std.proofs.lemmas.Grind.{common_steps}
+use Rattle.std.proofs.lemmas.List.{get_or_append_left, take-append-drop}
+use Rattle.std.proofs.Math.Seq.{get_or-append_right}
+use Rattle.std.specs.List.Sorted.{IsStrictlyIncreasing}
+use Rattle.qh_model.specs.headline.Vector.{Vector}
+use Rattle.qh_model.specs.headline.Predicates.{place}
+use Rattle.qh_model.specs.headline.Sets.{In, Members}
+use Rattle.qh_model.specs.headline.Extreme.{Extreme, Others}
+use Rattle.qh_model.specs.headline.Hull.{AreExtremes, BodyValue, IsBody}
+use Rattle.qh_model.specs.contract.IdSets.{AreIndices, IsIdSet}
+use Rattle.qh_model.proofs.Members.{All-In, All-of, In-get_or, in_at}
+use Rattle.qh_model.proofs.extremes.ExtremeIds.{combination_within, members_are_combinations}
+use Rattle.qh_model.proofs.hulls.SameSets.{body_of_part}
+use Rattle.qh_model.proofs.lists.Joined.{in_append, of_append}
+use Rattle.qh_hull.specs.steps.Parts.{HasExtremes, HasExtremesBefore}
+
+-- ---- block after block
+-- the front of a rising list rises
+rising_front : (xs ys : List ℕ) → IsStrictlyIncreasing (xs ++ ys) → IsStrictlyIncreasing xs
+rising_front xs ys h k l = grind (arith, common_steps, h k (grind (arith, common_steps, l)), get_or_append_left xs ys 0 k, get_or_append_left xs ys 0 (k + 1), l)
+
+-- so does what is behind it
+rising_back : (xs ys : List ℕ) → IsStrictlyIncreasing (xs ++ ys) → IsStrictlyIncreasing ys
+rising_back xs ys h k l =
+    let next : get_or (xs ++ ys) (length xs + k) 0 < get_or (xs ++ ys) (length xs + k + 1) 0 = h (length xs + k) (grind (arith, common_steps, l)) in
+    grind (arith, common_steps, next, get_or-append_right xs ys (length xs + k) 0, get_or-append_right xs ys (length xs + k + 1) 0, l)
+
+-- the front of a set of ids is one
+pub set_front : (pts : List Vector) (xs ys : List ℕ) → IsIdSet pts (xs ++ ys) → IsIdSet pts xs
+set_front pts xs ys s = record { rising = rising_front xs ys s.rising; distinct = λ i j m n e. s.distinct i j (in_append xs ys i (inl m)) (in_append xs ys j (inl n)) e }
+
+-- and the rest
+set_back : (pts : List Vector) (xs ys : List ℕ) → IsIdSet pts (xs ++ ys) → IsIdSet pts ys
+set_back pts xs ys s = record { rising = rising_back xs ys s.rising; distinct = λ i j m n e. s.distinct i j (in_append xs ys i (inr m)) (in_append xs ys j (inr n)) e }
+
+-- with the extremes of a block, only what is behind it is left
+pub block_kept : (pts : List Vector) (ids block later kept found : List ℕ) → HasExtremesBefore pts ids (block ++ later) kept → AreExtremes (place pts) (Members block) found
+    → HasExtremesBefore pts ids later (kept ++ found)
+block_kept pts ids block later kept found h x = record {
+  set = set_back pts block later h.set;
+  later = λ i m. h.later i (in_append block later i (inr m));
+  within = λ i m. inside i (of_append kept found i m);
+  extremes = λ i e. sorted i e (h.extremes i e);
+}
+  where
+    inside : (i : ℕ) → In i kept ⊎ In i found → In i ids
+    inside i (inl m) = h.within i m
+    inside i (inr m) = h.later i (in_append block later i (inl ((x.members i).0 m).0))
+
+    of_block : (i : ℕ) → Extreme (place pts) (Members ids) i → In i block → Extreme (place pts) (Members block) i
+    of_block i e m = (m, λ c. e.1 (combination_within (place pts) (Others (Members block) i) (Others (Members ids) i) (place pts i) c (λ j o. (h.later j (in_append block later j (inl o.0)), o.1))))
+
+    split : (i : ℕ) → Extreme (place pts) (Members ids) i → In i block ⊎ In i later → In i (kept ++ found) ⊎ In i later
+    split i e (inl m) = inl (in_append kept found i (inr ((x.members i).1 (of_block i e m))))
+    split i e (inr m) = inr m
+
+    sorted : (i : ℕ) → Extreme (place pts) (Members ids) i → In i kept ⊎ In i (block ++ later) → In i (kept ++ found) ⊎ In i later
+    sorted i e (inl m) = inl (in_append kept found i (inl m))
+    sorted i e (inr m) = split i e (of_append block later i m)
+
+-- the same, of a block that was cut off
+pub cut_kept : (pts : List Vector) (ids rest block later kept found : List ℕ) (n : ℕ) → block ≡ take n rest → later ≡ drop n rest → HasExtremesBefore pts ids rest kept
+    → (IsIdSet pts block → AreExtremes (place pts) (Members block) found) → HasExtremesBefore pts ids later (kept ++ found)
+cut_kept pts ids rest block later kept found n e f h x =
+    let h' : HasExtremesBefore pts ids (block ++ later) kept = subst (λ r. HasExtremesBefore pts ids r kept) (sym (rw (e, f) (take-append-drop n rest))) h in
+    block_kept pts ids block later kept found h' (x (set_front pts block later h'.set))
+
+-- what is left are indices
+pub left_indices : (pts : List Vector) (ids rest kept : List ℕ) → AreIndices pts ids → HasExtremesBefore pts ids rest kept → AreIndices pts rest
+left_indices pts ids rest kept indices h = All-of (λ i. i < length pts) rest (λ i m. All-In (λ i. i < length pts) ids i indices (h.later i m))
+
+-- with all that was left, nothing is
+pub rest_kept : (pts : List Vector) (ids rest kept : List ℕ) → HasExtremesBefore pts ids rest kept → HasExtremes pts ids (kept ++ rest)
+rest_kept pts ids rest kept h = record { within = λ i m. inside i (of_append kept rest i m); extremes = λ i e. in_append kept rest i (h.extremes i e) }
+  where
+    inside : (i : ℕ) → In i kept ⊎ In i rest → In i ids
+    inside i (inl m) = h.within i m
+    inside i (inr m) = h.later i m
+
+-- ---- the part
+-- a part in another order
+pub part_as : (pts : List Vector) (ids kept part : List ℕ) → ((i : ℕ) → In i part ↔ In i kept) → HasExtremes pts ids kept → HasExtremes pts ids part
+part_as pts ids kept part same h = record { within = λ i m. h.within i ((same i).0 m); extremes = λ i e. (same i).1 (h.extremes i e) }
+
+-- its ids are indices
+pub part_indices : (pts : List Vector) (ids part : List ℕ) → AreIndices pts ids → HasExtremes pts ids part → AreIndices pts part
+part_indices pts ids part indices h = All-of (λ i. i < length pts) part (λ i m. All-In (λ i. i < length pts) ids i indices (h.within i m))
+
+-- where there are ids, it has some
+pub part_some : (pts : List Vector) (ids part : List ℕ) → IsIdSet pts ids → 0 < length ids → HasExtremes pts ids part → 0 < length part
+part_some pts ids part set some h =
+    let mix = members_are_combinations (place pts) ids set.distinct (get_or ids 0 0) (In-get_or ids 0 0 some) in
+    let p = in_at part mix.a (h.extremes mix.a mix.has_a) in
+    let l = p.1 in
+    omega (arith, l)
+
+-- its hull is that of the set
+pub part_body : (pts : List Vector) (ids part : List ℕ) (b : BodyValue) → IsIdSet pts ids → IsStrictlyIncreasing part → HasExtremes pts ids part
+    → (IsIdSet pts part → IsBody (place pts) (Members part) b) → IsBody (place pts) (Members ids) b
+part_body pts ids part b set rising h f =
+    body_of_part (place pts) ids part b set.distinct h.within h.extremes
+    (f (record { rising = rising; distinct = λ i j m n e. set.distinct i j (h.within i m) (h.within j n) e }))

@@ -1,0 +1,19 @@
+-- Parts of a set that have all its extreme ids. Only private functions speak of them.
+use Rattle.std.specs.Prelude.{ℕ, ◌⊎◌, List}
+use Rattle.qh_model.specs.headline.Vector.{Vector}
+use Rattle.qh_model.specs.headline.Predicates.{place}
+use Rattle.qh_model.specs.headline.Sets.{In, Members}
+use Rattle.qh_model.specs.headline.Extreme.{Extreme}
+use Rattle.qh_model.specs.contract.IdSets.{IsIdSet}
+
+-- ids of a set, all its extreme ids among them
+pub record HasExtremes (pts : List Vector) (ids part : List ℕ) : Type 0 where
+  pub within : (i : ℕ) → In i part → In i ids
+  pub extremes : (i : ℕ) → Extreme (place pts) (Members ids) i → In i part
+
+-- the same, where the rest of the ids was not looked at yet
+pub record HasExtremesBefore (pts : List Vector) (ids rest kept : List ℕ) : Type 0 where
+  pub set : IsIdSet pts rest
+  pub later : (i : ℕ) → In i rest → In i ids
+  pub within : (i : ℕ) → In i kept → In i ids
+  pub extremes : (i : ℕ) → Extreme (place pts) (Members ids) i → In i kept ⊎ In i rest

@@ -1,0 +1,83 @@
+//! The hull of a set of ids by the calling thread. In a large set of which few ids are extreme, most go by a
+//! look at their block alone.
+ghost use Rattle.std.specs.Prelude.{◌<◌, IfOk, length};
+ghost use Rattle.qh_model.specs.contract.IdSets.{AreIndices, IsIdSet};
+ghost use Rattle.qh_model.specs.headline.Hull.{IsBody};
+ghost use Rattle.qh_model.specs.headline.Predicates.{place};
+ghost use Rattle.qh_model.specs.headline.Sets.{Members};
+ghost use Rattle.qh_hull.specs.steps.Parts.{HasExtremes};
+
+use qh_block::{extremes, hull};
+use qh_model::{Body, Id, Memory, Point};
+use qh_plane::rising_ids;
+use std::alloc::Global;
+
+/// So many ids of a large set are looked at together.
+const BLOCK: usize = 65536;
+
+/// So many ids tell by their extremes whether blocks pay.
+const SAMPLE: usize = 1024;
+
+/// Whether so many extremes of so many ids are few.
+fn are_few(extremes: usize, among: usize) -> bool {
+    extremes <= among / 2
+}
+
+/// Whether blocks pay: the set is large, and of its first ids few are extreme.
+fn blocks_pay(alloc: Global, pts: &[Point], ids: &[Id]) -> Result<bool, Memory>
+    requires { AreIndices pts.now ids.now }
+{
+    if ids.len() <= 2 * BLOCK {
+        return Ok(false);
+    }
+    let (sample, _) = ids.split_at(SAMPLE);
+    let found = extremes(alloc, pts, sample)?;
+    Ok(are_few(found.len(), SAMPLE))
+}
+
+/// The ids that are extreme in their block, and all ids from behind the first block of which most are.
+fn extremes_of_blocks(alloc: Global, pts: &[Point], ids: &[Id]) -> Result<Vec<Id>, Memory>
+    requires indices { AreIndices pts.now ids.now }
+    requires set { IsIdSet pts.now ids.now }
+    ensures { IfOk result (λ v. HasExtremes pts.now ids.now v.items) }
+{
+    let mut kept = Vec::new(alloc);
+    let mut rest = ids;
+    while !rest.is_empty() {
+        let (block, later) = rest.split_at(rest.len().min(BLOCK));
+        let found = extremes(alloc, pts, block)?;
+        kept.extend_from_slice(&found)?;
+        if !are_few(found.len(), block.len()) {
+            kept.extend_from_slice(later)?;
+            return Ok(kept);
+        }
+        rest = later;
+    }
+    Ok(kept)
+}
+
+/// The hull of a set of ids by the extremes of its blocks.
+fn hull_by_blocks(alloc: Global, pts: &[Point], ids: &[Id]) -> Result<Body, Memory>
+    requires some { 0 < length ids.now }
+    requires indices { AreIndices pts.now ids.now }
+    requires set { IsIdSet pts.now ids.now }
+    ensures { IfOk result (IsBody (place pts.now) (Members ids.now)) }
+{
+    let kept = extremes_of_blocks(alloc, pts, ids)?;
+    let part = rising_ids(alloc, &kept)?;
+    hull(alloc, pts, &part)
+}
+
+/// The hull of a set of ids.
+pub fn body_alone(alloc: Global, pts: &[Point], ids: &[Id]) -> Result<Body, Memory>
+    requires some { 0 < length ids.now }
+    requires indices { AreIndices pts.now ids.now }
+    requires set { IsIdSet pts.now ids.now }
+    ensures { IfOk result (IsBody (place pts.now) (Members ids.now)) }
+{
+    if blocks_pay(alloc, pts, ids)? {
+        hull_by_blocks(alloc, pts, ids)
+    } else {
+        hull(alloc, pts, ids)
+    }
+}
