@@ -4,7 +4,8 @@
     bench/python.py [--counts 1000,10000,100000,1000000] [--families cube,ball,sphere] [--rounds N]
 
 Each row is one seeded set of points (`points.py`), which lies in memory as both want it: int32 for this module, float64
-for scipy. Both make the hull in turn, round after round; the best CPU time of each counts. scipy's constructor computes
+for scipy. Both make the hull in turn, round after round, at least N times and sets of few points so often that they come to
+200,000 points; the best CPU time of each counts. scipy's constructor computes
 the triangles, their neighbours and equations, the area and the volume, so the second column of this module's times is
 with all of these. Needs numpy, scipy and the library of `make -C c`. Nothing is asserted.
 """
@@ -67,7 +68,7 @@ def main():
     print("|---|---|---|---|---|---|---|---|---|")
     for family in given.families.split(","):
         for count in map(int, given.counts.split(",")):
-            print(row(family, min(count, POINT_LIMIT), given.rounds), flush=True)
+            print(row(family, min(count, POINT_LIMIT), max(given.rounds, 200_000 // count)), flush=True)
 
 
 if __name__ == "__main__":

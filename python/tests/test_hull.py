@@ -71,8 +71,9 @@ def test_limits_of_coordinates():
     for far in (COORDINATE_LIMIT + 1, -COORDINATE_LIMIT - 1, -(2**31), 2**31, 2**40, -(2**63), 2**70):
         with pytest.raises(ValueError, match="coordinate"):
             ConvexHull([[0, 0, 0], [0, far, 0]])
-    with pytest.raises(ValueError, match="coordinate"):
-        ConvexHull(np.array([[0, 0, 0], [0, 2**64 - 1, 1]], np.uint64))
+    for far, kind in ((COORDINATE_LIMIT + 1, np.int32), (-(2**31), np.int32), (2**32 - 1, np.uint32), (2**64 - 1, np.uint64)):
+        with pytest.raises(ValueError, match="coordinate"):
+            ConvexHull(np.array([[0, 0, 0], [0, far, 1]], kind))
 
 
 def test_floats_are_refused_with_a_way_to_scale():

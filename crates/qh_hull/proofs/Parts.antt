@@ -1,5 +1,5 @@
 -- Parts of a set that have all its extreme ids: gathered block after block, and hulled.
-use Rattle.std.proofs.Common.{ℕ, ◌≡◌, ◌+◌, ◌<◌, ◌⊎◌, inl, inr, List, ◌++◌, length, get_or, take, drop, arith, subst, sym}
+use Rattle.std.proofs.Common.{ℕ, ◌≡◌, ◌∙◌, ◌+◌, ◌<◌, ◌⊎◌, inl, inr, List, ◌++◌, length, get_or, take, drop, arith, subst, sym, ap}
 use Rattle.std.specs.Prelude.{◌↔◌}
 use Rattle.std.proofs.lemmas.Grind.{common_steps}
 use Rattle.std.proofs.lemmas.List.{get_or_append_left, take-append-drop}
@@ -62,11 +62,11 @@ block_kept pts ids block later kept found h x = record {
     sorted i e (inr m) = split i e (of_append block later i m)
 
 -- the same, of a block that was cut off
-pub cut_kept : (pts : List Vector) (ids rest block later kept found : List ℕ) (n : ℕ) → block ≡ take n rest → later ≡ drop n rest → HasExtremesBefore pts ids rest kept
-    → (IsIdSet pts block → AreExtremes (place pts) (Members block) found) → HasExtremesBefore pts ids later (kept ++ found)
-cut_kept pts ids rest block later kept found n e f h x =
+pub cut_kept : (pts : List Vector) (ids rest block later kept given found grown : List ℕ) (n : ℕ) → block ≡ take n rest → later ≡ drop n rest → given ≡ found → grown ≡ kept ++ given
+    → HasExtremesBefore pts ids rest kept → (IsIdSet pts block → AreExtremes (place pts) (Members block) found) → HasExtremesBefore pts ids later grown
+cut_kept pts ids rest block later kept given found grown n e f same more h x =
     let h' : HasExtremesBefore pts ids (block ++ later) kept = subst (λ r. HasExtremesBefore pts ids r kept) (sym (rw (e, f) (take-append-drop n rest))) h in
-    block_kept pts ids block later kept found h' (x (set_front pts block later h'.set))
+    subst (HasExtremesBefore pts ids later) (sym (more ∙ ap (λ v. kept ++ v) same)) (block_kept pts ids block later kept found h' (x (set_front pts block later h'.set)))
 
 -- what is left are indices
 pub left_indices : (pts : List Vector) (ids rest kept : List ℕ) → AreIndices pts ids → HasExtremesBefore pts ids rest kept → AreIndices pts rest

@@ -1,7 +1,7 @@
 //! The hull of a list of points, put together from that of its distinct ids.
 //!
 //! [`hull_of_body`] is the last step of every way to a hull. [`hull_alone`] is the whole way of one
-//! thread, which takes all points as one block.
+//! thread, which takes all ids at once, or the extreme ids of blocks of them (`blocks`).
 #![tactic(auto)]
 
 mod blocks;

@@ -1,28 +1,15 @@
-use Rattle.std.proofs.Common.{◌≡◌, ◌++◌, ◌∙◌, ap, sym, subst}
-use Rattle.qh_hull.specs.steps.Parts.{HasExtremes, HasExtremesBefore}
+use Rattle.std.proofs.Common.{sym, subst}
+use Rattle.qh_hull.specs.steps.Parts.{HasExtremes}
 use Rattle.qh_hull.proofs.Parts.{cut_kept, left_indices, rest_kept}
 use Rattle.qh_hull.proofs.blocks.extremes_of_blocks.Goals as goal
 
 pub returns-then-not-are_few : goal.returns-then-not-are_few
 returns-then-not-are_few c =
-    let pts = c.args.pts.now in
-    let ids = c.args.ids.now in
-    let later = c.split_at.result.1.now in
-    let kept = c.loop-rest.kept.items in
-    let found = c.in_ok-found.found.items in
-    let next = cut_kept pts ids c.loop-rest.rest.now c.split_at.result.0.now later kept found _ c.split_at.ensures.front c.split_at.ensures.back c.loop-rest.invariant.kept c.in_ok-found.ensures in
-    let more : c.extend_from_slice.new.self.items ≡ kept ++ found = c.in_ok-extend_from_slice.ensures.items ∙ ap (λ v. kept ++ v) c.deref.ensures.value in
-    subst (HasExtremes pts ids) (sym (c.in_ok-extend_from_slice-2.ensures.items ∙ ap (λ v. v ++ later) more)) (rest_kept pts ids later (kept ++ found) next)
+    subst (HasExtremes c.args.pts.now c.args.ids.now) (sym c.in_ok-extend_from_slice-2.ensures.items)
+    (rest_kept c.args.pts.now c.args.ids.now _ _
+    (cut_kept c.args.pts.now c.args.ids.now _ _ _ _ _ _ _ _ c.split_at.ensures.front c.split_at.ensures.back c.deref.ensures.value c.in_ok-extend_from_slice.ensures.items c.loop-rest.invariant.kept c.in_ok-found.ensures))
 
 pub loop-rest-preserved : goal.loop-rest-preserved
 loop-rest-preserved c =
-    let pts = c.args.pts.now in
-    let ids = c.args.ids.now in
-    let later = c.split_at.result.1.now in
-    let kept = c.loop-rest.kept.items in
-    let found = c.in_ok-found.found.items in
-    let next = cut_kept pts ids c.loop-rest.rest.now c.split_at.result.0.now later kept found _ c.split_at.ensures.front c.split_at.ensures.back c.loop-rest.invariant.kept c.in_ok-found.ensures in
-    record {
-      indices = left_indices pts ids later (kept ++ found) c.requires.indices next;
-      kept = subst (HasExtremesBefore pts ids later) (sym (c.in_ok-extend_from_slice.ensures.items ∙ ap (λ v. kept ++ v) c.deref.ensures.value)) next;
-    }
+    let next = cut_kept c.args.pts.now c.args.ids.now _ _ _ _ _ _ _ _ c.split_at.ensures.front c.split_at.ensures.back c.deref.ensures.value c.in_ok-extend_from_slice.ensures.items c.loop-rest.invariant.kept c.in_ok-found.ensures in
+    record { indices = left_indices c.args.pts.now c.args.ids.now _ _ c.requires.indices next; kept = next }
