@@ -22,7 +22,7 @@ FILES = {
 #![tactic(auto)]
 
 ghost use Rattle.std.specs.Prelude.{IfOk};
-ghost use Rattle.qh_mesh.specs.Replacement.{AreFacets, IsLive};
+ghost use Rattle.qh_mesh.specs.contract.Replacement.{AreFacets, IsLive};
 
 use qh_mesh::{FacetNo, Mesh};
 use qh_model::{Id, Memory, Point};
@@ -94,9 +94,9 @@ fn main(rt: HostRuntime) -> ExitCode {
     "proofs/Lib.antt": "pub mod Cones\n",
     "proofs/Cones.antt": r"""-- Lists of facets.
 use Rattle.std.proofs.Common.{ℕ, List}
-use Rattle.qh_model.specs.StoredSurface.{StoredFacet}
+use Rattle.qh_model.specs.contract.StoredSurface.{StoredFacet}
 use Rattle.qh_mesh.specs.declared.facets.FacetNo.{FacetNo}
-use Rattle.qh_mesh.specs.Replacement.{AreFacets, IsReplacement}
+use Rattle.qh_mesh.specs.contract.Replacement.{AreFacets, IsReplacement}
 
 -- the cone of a replacement is of facets
 pub made_are : (old new : List StoredFacet) (vs : List FacetNo) (p : ℕ) (made : List FacetNo) → IsReplacement old new vs p made → AreFacets new made
@@ -109,7 +109,7 @@ use Rattle.replacing.proofs.cone.Goals as goal
 pub returns : goal.returns
 returns c = IfOk-weaker c.replace.result _ _ (λ made r. made_are _ _ _ _ _ r) c.replace.ensures.replaced
 """,
-    "proofs/replaced/Invariants.antt": r"""use Rattle.qh_mesh.specs.Replacement.{AreFacets}
+    "proofs/replaced/Invariants.antt": r"""use Rattle.qh_mesh.specs.contract.Replacement.{AreFacets}
 use Rattle.replacing.proofs.replaced.Given as goal
 
 abbrev pub invariant-loop-round : goal.invariant-loop-round

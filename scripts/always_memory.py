@@ -21,7 +21,7 @@ from pathlib import Path
 CRATE = "crates/qconvex"
 ANSWER = f"{CRATE}/src/answer.rt"
 RIGHT_BODY = """{
-    let points = read_points(alloc, input)?;
+    let points = read_form(alloc, settings.form(), input)?;
     let text = text_of(rt, alloc, &points, settings, gate)?;
     Ok(text)
 }

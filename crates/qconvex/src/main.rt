@@ -1,4 +1,4 @@
-//! The program `qconvex`: reads a point file, writes the outputs that are asked for.
+//! The program `qconvex`: reads points, writes the outputs that are asked for.
 //!
 //! `settings` and `command_line` say what is wanted, `help` what there is, `answer` makes the text of a byte string,
 //! `serve` does so between streams, `fault` says why there is none, and `program` runs it all between the standard ones.

@@ -1,8 +1,8 @@
 //! The faces of a solid, gathered plane by plane from the facets of its finished mesh.
 //!
 //! Each live facet that has no mark yet starts a walk over the facets in its plane, which get marks.
-//! Their corners, rising, are the ids of which the face is the polygon. So a plane is looked at once,
-//! and most planes have one triangle.
+//! A plane of one facet, as most are, has its corners as its face; else the corners of the facets, rising,
+//! are the ids of which the face is the polygon. So a plane is looked at once.
 ghost use Rattle.std.specs.Prelude.{◌≡◌, ◌≤◌, ◌<◌, ◌↔◌, ℕ, List, IfOk, OnOk, length, true, false, replicate};
 ghost use Rattle.std.specs.List.Sorted.{IsStrictlyIncreasing};
 ghost use Rattle.qh_model.specs.contract.IdSets.{IsIdSet};

@@ -69,7 +69,7 @@ pub fn extremes(alloc: Global, pts: &[Point], ids: &[Id]) -> Result<Vec<Id>, Mem
 ///
 /// A set of dimension 3 has the polygon of each plane through three of its points that leaves none
 /// outside, counterclockwise seen from outside; for sets in a point, a line or a plane see
-/// `qh_model/specs/Polygons.antt`.
+/// `qh_model/specs/headline/Polygons.antt`.
 ///
 /// # Errors
 ///

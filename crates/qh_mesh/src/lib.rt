@@ -5,7 +5,7 @@
 //! 3 f + 2, each with the corner where it starts and the number of its twin, which is the side of the
 //! neighbour. The place of a facet that was taken away is given out again before the vector grows.
 //! A contract sees the mesh as the list of its places, whose surface is that of
-//! `qh_model/specs/StoredSurface.antt`.
+//! `qh_model/specs/contract/StoredSurface.antt`.
 //!
 //! Source: Barber, Dobkin and Huhdanpaa 1996 (facets with neighbours, the horizon, the cone).
 #![tactic(auto)]

@@ -40,7 +40,7 @@ impl Polygon {
         }
     }
 
-    /// The polygon of a list of ids. It takes no memory, and keeps the list where there are more than
+    /// The polygon of a list of ids. It takes no memory, and keeps the list unless there are three or
     /// four.
     pub fn of(ids: Vec<Id>) -> Polygon
         ensures { result ≡ ids.items }

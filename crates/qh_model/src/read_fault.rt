@@ -4,7 +4,7 @@ ghost use Rattle.qh_model.specs.declared.read_fault.ReadFault.TheVariants as fau
 
 use std::alloc::AllocError;
 
-/// Why a point file could not be read. A line is counted from 1 and ends at byte 10.
+/// Why a point file or an OFF file could not be read. A line is counted from 1 and ends at byte 10.
 ///
 /// Each has the number of its place in this list, from 1, save `NotOff`, which has 14. The first seven and
 /// `NotOff` are faults of the text, of which the first in the order of reading is given; `Big` goes before all

@@ -118,7 +118,7 @@ pub fn polygon(alloc: Global, pts: &[Point], ids: &[Id], normal: &Normal) -> Res
     requires { AreIndices pts.now ids.now }
     ensures { IfOk result (λ q. IsPlanarSet pts.now ids.now normal.now → IsPolygon (place pts.now) (Extreme (place pts.now) (Members ids.now)) normal.now q) }
 {
-    // Most faces are triangles: one turn tells the order of their ids.
+    // One turn tells the order of three ids.
     if ids.len() == 3 {
         return Ok(triangle(pts, normal, ids[0], ids[1], ids[2]));
     }

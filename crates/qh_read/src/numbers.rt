@@ -1,7 +1,7 @@
 //! Whole numbers at once, where no word is under way.
 //!
-//! Most bytes of a file go this way: whatever is no plain number between blanks is left to the scanner's
-//! step from byte to byte.
+//! Most bytes of a point file go this way: whatever is no plain number between blanks is left to the
+//! scanner's step from byte to byte.
 ghost use Rattle.std.specs.Prelude.{◌≡◌, ◌≤◌, ◌<◌, ◌+◌, ◌^◌, length, IfSome};
 ghost use Rattle.qh_read.specs.contract.Tokens.{signed};
 ghost use Rattle.qh_read.specs.steps.Numbers.{IsParted, IsBegun, IsContinued, IsEnded, IsNumber, ArePoint};
@@ -23,7 +23,7 @@ pub struct Number<'a> {
 
 /// Skips what parts words. It answers the line after it, and the bytes that are left.
 #[inline(always)]
-fn after_blanks(line: u32, bytes: &[u8]) -> (u32, &[u8])
+pub fn after_blanks(line: u32, bytes: &[u8]) -> (u32, &[u8])
     requires { line + length bytes.now < 2 ^ 31 }
     ensures held { IsParted line bytes.now result.0 result.1.now }
     ensures left { length result.1.now ≤ length bytes.now }
@@ -120,7 +120,8 @@ fn after_end(line: u32, bytes: &[u8]) -> Option<(u32, &[u8])>
     }
 }
 
-/// Takes a number in the range of coordinates and the byte that ends it, if no other word comes next.
+/// Takes a number and the byte that ends it, if one of at most nine digits comes next, with eleven bytes
+/// left or more.
 #[inline(always)]
 pub fn next_number(line: u32, bytes: &[u8]) -> Option<Number<'_>>
     requires { line + length bytes.now < 2 ^ 31 }

@@ -7,7 +7,7 @@ ghost use Rattle.qh_read.specs.contract.Holding.{held_at_start, ended_held, held
 ghost use Rattle.qh_read.specs.steps.Scanning.{held, under_way, HasRoom};
 
 use crate::builder::Builder;
-use crate::numbers::next_point;
+use crate::numbers::{after_blanks, next_point};
 use crate::token::{Token, begins_data, blank, with_digit};
 use qh_model::Form;
 use std::alloc::{AllocError, Global};
@@ -154,9 +154,7 @@ impl Scanner {
     }
 
     /// Takes the points that the bytes begin with, where no word is under way, no comment runs and
-    /// coordinates are to come. It answers the bytes that are left.
-    ///
-    /// Most bytes of a file go this way.
+    /// coordinates are to come, and what parts words behind them. It answers the bytes that are left.
     #[inline]
     fn points<'a>(&mut self, token: Token, bytes: &'a [u8]) -> &'a [u8]
         requires room { HasRoom self.old token (length bytes.now) }
@@ -172,8 +170,11 @@ impl Scanner {
         }
         let mut rest = bytes;
         while let Some(next) = self.builder.after_point() {
-            let Some((x, y, z)) = next_point(self.line, rest) else {
-                return rest;
+            // What parts words is taken even where no point follows, so that it is gone over once.
+            let (line, word) = after_blanks(self.line, rest);
+            self.line = line;
+            let Some((x, y, z)) = next_point(line, word) else {
+                return word;
             };
             self.builder
                 .take_point(next, x.coordinate, y.coordinate, z.coordinate);

@@ -1,5 +1,5 @@
 //! A set of more than two blocks: the lattice points of a cube, of which 8 are extreme, and each block has
-//! some that are not extreme in the whole.
+//! some that are extreme there and not in the whole.
 use crate::hull_alone;
 use qh_model::{POINT_LIMIT, Point};
 use std::alloc::{AllocError, Global};

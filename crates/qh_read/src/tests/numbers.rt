@@ -143,3 +143,19 @@ fn tells_long_files_and_their_lines(rt: HostRuntime) -> Result<(), Fail> {
     assert_eq!(rt; outcome.err(), Some(ReadFault::Long(603)));
     Ok(())
 }
+
+/// Gone over again for each byte, sixteen million of them would take hours.
+#[test]
+fn goes_over_blanks_before_a_point_once(rt: HostRuntime) -> Result<(), Fail> {
+    let blanks = Vec::from_elem(rt.alloc(), b' ', 65536)?;
+    let lines = Vec::from_elem(rt.alloc(), b'\n', 65536)?;
+    let mut reader = Reader::new(rt.alloc());
+    reader.feed(b"3 1 ")?;
+    for _ in 0..128 {
+        reader.feed(&blanks)?;
+        reader.feed(&lines)?;
+    }
+    reader.feed(b"5 5 5")?;
+    assert!(rt; gave(&reader.finish(), &[(5, 5, 5)]));
+    Ok(())
+}

@@ -18,11 +18,12 @@ loop-next-preserved c =
       told = ap (λ (b : Bool). held_by (record (quiet form (shown c.take_point.new.self) z.line Empty) { comment = b }) z.rest.now) none
           ∙ ap (λ (p : Progress). held_by (quiet form p z.line Empty) z.rest.now) (c.take_point.ensures.shown point.0 point.1 point.2)
           ∙ sym point.3
+          ∙ sym (c.after_blanks-line.ensures.held form (shown was.builder))
           ∙ ap (λ (b : Bool). held_by (record (quiet form (shown was.builder) was.line Empty) { comment = b }) c.loop-next.rest.now) (sym none)
           ∙ c.loop-next.invariant.told;
       token = c.loop-next.invariant.token;
       quiet = none;
-      room = omega (arith, c.in-Some-next_point.ensures);
-      line = omega (arith, c.in-Some-next_point.ensures);
-      left = omega (arith, c.in-Some-next_point.ensures);
+      room = omega (arith, c.in-Some-next_point.ensures, c.after_blanks-line.ensures);
+      line = omega (arith, c.in-Some-next_point.ensures, c.after_blanks-line.ensures);
+      left = omega (arith, c.in-Some-next_point.ensures, c.after_blanks-line.ensures);
     }
