@@ -10,3 +10,5 @@ pub mod WalkSteps
 pub mod FoundFacets
 pub mod LiveFacets
 pub mod FacetEdges
+pub mod InnerBoxes
+pub mod InnerPoints

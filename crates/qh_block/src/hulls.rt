@@ -4,39 +4,45 @@ ghost use Rattle.qh_model.specs.contract.IdSets.{IsIdSet};
 ghost use Rattle.qh_model.specs.headline.Hull.{AreExtremes, IsBody};
 ghost use Rattle.qh_model.specs.headline.Predicates.{place};
 ghost use Rattle.qh_model.specs.headline.Sets.{Members};
-ghost use Rattle.qh_model.specs.contract.FinishedSurface.{IsFinished};
-ghost use Rattle.qh_model.specs.contract.StoredSurface.{surface_of};
 ghost use Rattle.qh_model.specs.contract.IdSets.{AreIndices};
-ghost use Rattle.qh_plane.specs.contract.Shapes.{IsInLine, IsInPlane, IsFirstNot, AreFirstTwo};
-ghost use Rattle.qh_block.specs.steps.PlaneWalks.{AreCornersBelow};
 
 use crate::bodies::body_of_point;
 use crate::flat_sets::{polygon_hull, segment_hull};
-use crate::quickhull::surface_from;
-use crate::solids::{solid_body, solid_extremes};
-use qh_mesh::Mesh;
+use crate::inner_points::outer_ids;
+use crate::solids::{solid_body, solid_extremes, solid_mesh};
 use qh_model::{Body, Id, Memory, Point};
 use qh_plane::{Shape, rank};
 use std::alloc::Global;
 
-/// The finished mesh of a set with these first ids off a line and a plane.
-fn solid_mesh(
-    alloc: Global,
-    pts: &[Point],
-    ids: &[Id],
-    i: Id,
-    j: Id,
-    k: Id,
-    l: Id,
-) -> Result<Mesh, Memory>
+/// The extreme ids of a set, rising, by a run over all of its ids.
+fn extremes_of_all(alloc: Global, pts: &[Point], ids: &[Id]) -> Result<Vec<Id>, Memory>
+    requires some { 0 < length ids.now }
     requires indices { AreIndices pts.now ids.now }
-    requires two { AreFirstTwo ids.now i j }
-    requires off_line { IsFirstNot (IsInLine pts.now i j) ids.now k }
-    requires off_plane { IsFirstNot (IsInPlane pts.now i j k) ids.now l }
-    ensures finished { IfOk result (λ m. IsFinished (place pts.now) ids.now (surface_of m)) }
-    ensures corners { IfOk result (λ m. AreCornersBelow (length pts.now) m) }
+    ensures { IfOk result (λ v. IsIdSet pts.now ids.now → AreExtremes (place pts.now) (Members ids.now) v.items) }
 {
-    surface_from(alloc, pts, ids, i, j, k, l)
+    if let Shape::Solid(i, j, k, l) = rank(pts, ids) {
+        let mesh = solid_mesh(alloc, pts, ids, i, j, k, l)?;
+        return solid_extremes(alloc, pts, &mesh);
+    }
+    let body = hull_of_all(alloc, pts, ids)?;
+    Ok(body.extremes)
+}
+
+/// The hull of a set, by a run over all of its ids.
+fn hull_of_all(alloc: Global, pts: &[Point], ids: &[Id]) -> Result<Body, Memory>
+    requires some { 0 < length ids.now }
+    requires indices { AreIndices pts.now ids.now }
+    ensures { IfOk result (λ b. IsIdSet pts.now ids.now → IsBody (place pts.now) (Members ids.now) b) }
+{
+    match rank(pts, ids) {
+        Shape::Point(i) => body_of_point(alloc, i),
+        Shape::Segment(i, j) => segment_hull(alloc, pts, ids, i, j),
+        Shape::Flat(i, j, k) => polygon_hull(alloc, pts, ids, i, j, k),
+        Shape::Solid(i, j, k, l) => {
+            let mesh = solid_mesh(alloc, pts, ids, i, j, k, l)?;
+            solid_body(alloc, pts, &mesh)
+        }
+    }
 }
 
 /// The extreme ids of a set, rising.
@@ -54,12 +60,10 @@ pub fn extremes(alloc: Global, pts: &[Point], ids: &[Id]) -> Result<Vec<Id>, Mem
     requires indices { AreIndices pts.now ids.now }
     ensures { IfOk result (λ v. IsIdSet pts.now ids.now → AreExtremes (place pts.now) (Members ids.now) v.items) }
 {
-    if let Shape::Solid(i, j, k, l) = rank(pts, ids) {
-        let mesh = solid_mesh(alloc, pts, ids, i, j, k, l)?;
-        return solid_extremes(alloc, pts, &mesh);
+    match outer_ids(alloc, pts, ids)? {
+        Some(outer) => extremes_of_all(alloc, pts, &outer),
+        None => extremes_of_all(alloc, pts, ids),
     }
-    let body = hull(alloc, pts, ids)?;
-    Ok(body.extremes)
 }
 
 /// The hull of a set: its dimension, its extreme ids, its faces and the number of its edges.
@@ -81,13 +85,8 @@ pub fn hull(alloc: Global, pts: &[Point], ids: &[Id]) -> Result<Body, Memory>
     requires indices { AreIndices pts.now ids.now }
     ensures { IfOk result (λ b. IsIdSet pts.now ids.now → IsBody (place pts.now) (Members ids.now) b) }
 {
-    match rank(pts, ids) {
-        Shape::Point(i) => body_of_point(alloc, i),
-        Shape::Segment(i, j) => segment_hull(alloc, pts, ids, i, j),
-        Shape::Flat(i, j, k) => polygon_hull(alloc, pts, ids, i, j, k),
-        Shape::Solid(i, j, k, l) => {
-            let mesh = solid_mesh(alloc, pts, ids, i, j, k, l)?;
-            solid_body(alloc, pts, &mesh)
-        }
+    match outer_ids(alloc, pts, ids)? {
+        Some(outer) => hull_of_all(alloc, pts, &outer),
+        None => hull_of_all(alloc, pts, ids),
     }
 }

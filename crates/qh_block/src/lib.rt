@@ -16,6 +16,7 @@ mod face_order;
 mod faces;
 mod flat_sets;
 mod hulls;
+mod inner_points;
 mod normals;
 mod plane_walk;
 mod quickhull;

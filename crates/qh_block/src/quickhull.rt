@@ -27,5 +27,6 @@ mod surfaces;
 mod tests;
 mod walk;
 
+pub(crate) use planes::plane_of;
 pub use surfaces::surface;
 pub(crate) use surfaces::surface_from;

@@ -1,22 +1,44 @@
-//! The hull of a solid set from its finished mesh.
+//! The finished mesh of a solid set, and its hull from it.
 ghost use Rattle.std.specs.Prelude.{◌≡◌, ◌↔◌, ℕ, List, IfOk, length};
 ghost use Rattle.std.specs.List.Sorted.{IsStrictlyIncreasing};
-ghost use Rattle.qh_model.specs.contract.IdSets.{IsIdSet};
+ghost use Rattle.qh_model.specs.contract.IdSets.{AreIndices, IsIdSet};
 ghost use Rattle.qh_model.specs.contract.FinishedSurface.{IsFinished};
 ghost use Rattle.qh_model.specs.headline.Hull.{AreExtremes, IsBody};
 ghost use Rattle.qh_model.specs.headline.Predicates.{place};
 ghost use Rattle.qh_model.specs.headline.Sets.{In, Members};
 ghost use Rattle.qh_model.specs.contract.StoredSurface.{surface_of};
+ghost use Rattle.qh_plane.specs.contract.Shapes.{IsInLine, IsInPlane, IsFirstNot, AreFirstTwo};
 ghost use Rattle.qh_block.specs.steps.Faces.{IsListed, all_members};
 ghost use Rattle.qh_block.specs.steps.PlaneWalks.{AreCornersBelow};
 
 use crate::face_order::sort_faces;
 use crate::faces::faces;
+use crate::quickhull::surface_from;
 use crate::solid_edges::edge_count;
 use qh_mesh::Mesh;
 use qh_model::{Body, Id, Memory, Point, Polygon};
 use qh_plane::rising_ids;
 use std::alloc::{AllocError, Global};
+
+/// The finished mesh of a set with these first ids off a line and a plane.
+pub fn solid_mesh(
+    alloc: Global,
+    pts: &[Point],
+    ids: &[Id],
+    i: Id,
+    j: Id,
+    k: Id,
+    l: Id,
+) -> Result<Mesh, Memory>
+    requires indices { AreIndices pts.now ids.now }
+    requires two { AreFirstTwo ids.now i j }
+    requires off_line { IsFirstNot (IsInLine pts.now i j) ids.now k }
+    requires off_plane { IsFirstNot (IsInPlane pts.now i j k) ids.now l }
+    ensures finished { IfOk result (λ m. IsFinished (place pts.now) ids.now (surface_of m)) }
+    ensures corners { IfOk result (λ m. AreCornersBelow (length pts.now) m) }
+{
+    surface_from(alloc, pts, ids, i, j, k, l)
+}
 
 /// The ids of all polygons, one after the other.
 fn listed_ids(alloc: Global, polygons: &[Polygon]) -> Result<Vec<Id>, AllocError>

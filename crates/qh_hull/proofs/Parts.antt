@@ -1,4 +1,4 @@
--- Parts of a set that have all its extreme ids: gathered block after block, and hulled.
+-- Parts of a set that have all its extreme ids, gathered block after block.
 use Rattle.std.proofs.Common.{ℕ, ◌≡◌, ◌∙◌, ◌+◌, ◌<◌, ◌⊎◌, inl, inr, List, ◌++◌, length, get_or, take, drop, arith, subst, sym, ap}
 use Rattle.std.specs.Prelude.{◌↔◌}
 use Rattle.std.proofs.lemmas.Grind.{common_steps}
@@ -9,13 +9,13 @@ use Rattle.qh_model.specs.headline.Vector.{Vector}
 use Rattle.qh_model.specs.headline.Predicates.{place}
 use Rattle.qh_model.specs.headline.Sets.{In, Members}
 use Rattle.qh_model.specs.headline.Extreme.{Extreme, Others}
-use Rattle.qh_model.specs.headline.Hull.{AreExtremes, BodyValue, IsBody}
+use Rattle.qh_model.specs.headline.Hull.{AreExtremes}
 use Rattle.qh_model.specs.contract.IdSets.{AreIndices, IsIdSet}
-use Rattle.qh_model.proofs.Members.{All-In, All-of, In-get_or, in_at}
-use Rattle.qh_model.proofs.extremes.ExtremeIds.{combination_within, members_are_combinations}
-use Rattle.qh_model.proofs.hulls.SameSets.{body_of_part}
+use Rattle.qh_model.proofs.Members.{All-In, All-of}
+use Rattle.qh_model.proofs.extremes.ExtremeIds.{combination_within}
 use Rattle.qh_model.proofs.lists.Joined.{in_append, of_append}
-use Rattle.qh_hull.specs.steps.Parts.{HasExtremes, HasExtremesBefore}
+use Rattle.qh_model.specs.laws.HullLaws.{HasExtremes}
+use Rattle.qh_hull.specs.steps.Parts.{HasExtremesBefore}
 
 -- ---- block after block
 -- the front of a rising list rises
@@ -84,22 +84,3 @@ rest_kept pts ids rest kept h = record { within = λ i m. inside i (of_append ke
 -- a part in another order
 pub part_as : (pts : List Vector) (ids kept part : List ℕ) → ((i : ℕ) → In i part ↔ In i kept) → HasExtremes pts ids kept → HasExtremes pts ids part
 part_as pts ids kept part same h = record { within = λ i m. h.within i ((same i).0 m); extremes = λ i e. (same i).1 (h.extremes i e) }
-
--- its ids are indices
-pub part_indices : (pts : List Vector) (ids part : List ℕ) → AreIndices pts ids → HasExtremes pts ids part → AreIndices pts part
-part_indices pts ids part indices h = All-of (λ i. i < length pts) part (λ i m. All-In (λ i. i < length pts) ids i indices (h.within i m))
-
--- where there are ids, it has some
-pub part_some : (pts : List Vector) (ids part : List ℕ) → IsIdSet pts ids → 0 < length ids → HasExtremes pts ids part → 0 < length part
-part_some pts ids part set some h =
-    let mix = members_are_combinations (place pts) ids set.distinct (get_or ids 0 0) (In-get_or ids 0 0 some) in
-    let p = in_at part mix.a (h.extremes mix.a mix.has_a) in
-    let l = p.1 in
-    omega (arith, l)
-
--- its hull is that of the set
-pub part_body : (pts : List Vector) (ids part : List ℕ) (b : BodyValue) → IsIdSet pts ids → IsStrictlyIncreasing part → HasExtremes pts ids part
-    → (IsIdSet pts part → IsBody (place pts) (Members part) b) → IsBody (place pts) (Members ids) b
-part_body pts ids part b set rising h f =
-    body_of_part (place pts) ids part b set.distinct h.within h.extremes
-    (f (record { rising = rising; distinct = λ i j m n e. set.distinct i j (h.within i m) (h.within j n) e }))

@@ -5,7 +5,7 @@ ghost use Rattle.qh_model.specs.contract.IdSets.{AreIndices, IsIdSet};
 ghost use Rattle.qh_model.specs.headline.Hull.{IsBody};
 ghost use Rattle.qh_model.specs.headline.Predicates.{place};
 ghost use Rattle.qh_model.specs.headline.Sets.{Members};
-ghost use Rattle.qh_hull.specs.steps.Parts.{HasExtremes};
+ghost use Rattle.qh_model.specs.laws.HullLaws.{HasExtremes};
 
 use qh_block::{extremes, hull};
 use qh_model::{Body, Id, Memory, Point};

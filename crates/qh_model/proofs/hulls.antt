@@ -3,5 +3,6 @@ pub mod Unique
 pub mod FlatSets
 pub mod OfExtremes
 pub mod SameSets
+pub mod ExtremeParts
 pub mod RightValues
 pub mod ExtremePoints

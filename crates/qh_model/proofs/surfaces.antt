@@ -23,5 +23,6 @@ pub mod Stored
 pub mod Finished
 pub mod Complete
 pub mod Closed
+pub mod Inside
 pub mod FacetPlanes
 pub mod ConeRays

@@ -26,7 +26,7 @@ pub record IsGathering (pts : List Vector) (fs : List StoredFacet) (left : List 
   pub faces : (ids : List ℕ) → IsIdSet pts ids → IsFinished (place pts) ids (surface_of fs) → AreMarkedFaces (place pts) (Members ids) fs marks qs
 
 -- a number among the numbers
-in_numbers : (ns : List ℕ) (n : ℕ) → In n ns → In {X = FacetNo} (record { 0 = n }) (numbers ns)
+pub in_numbers : (ns : List ℕ) (n : ℕ) → In n ns → In {X = FacetNo} (record { 0 = n }) (numbers ns)
 in_numbers [] n h = absurd h
 in_numbers (k ∷ ns) n (inl e) = inl (ap (λ x. record { 0 = x }) e)
 in_numbers (k ∷ ns) n (inr h) = inr (in_numbers ns n h)

@@ -14,7 +14,7 @@ use qh_pred::{Plane, point_at};
 use std::alloc::AllocError;
 
 /// The plane of a live facet.
-fn plane_of(pts: &[Point], mesh: &Mesh, facet: FacetNo) -> Plane
+pub fn plane_of(pts: &[Point], mesh: &Mesh, facet: FacetNo) -> Plane
     requires live { IsLive mesh.now facet.0 }
     requires corners { HasCornersBelow (length pts.now) mesh.now }
     ensures { (p : Vector) → height result p ≡ facet_vol (place pts.now) mesh.now facet.0 p }

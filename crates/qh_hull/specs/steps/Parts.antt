@@ -6,12 +6,7 @@ use Rattle.qh_model.specs.headline.Sets.{In, Members}
 use Rattle.qh_model.specs.headline.Extreme.{Extreme}
 use Rattle.qh_model.specs.contract.IdSets.{IsIdSet}
 
--- ids of a set, all its extreme ids among them
-pub record HasExtremes (pts : List Vector) (ids part : List ℕ) : Type 0 where
-  pub within : (i : ℕ) → In i part → In i ids
-  pub extremes : (i : ℕ) → Extreme (place pts) (Members ids) i → In i part
-
--- the same, where the rest of the ids was not looked at yet
+-- ids of a set that have all its extreme ids with the rest of the ids, which was not looked at yet
 pub record HasExtremesBefore (pts : List Vector) (ids rest kept : List ℕ) : Type 0 where
   pub set : IsIdSet pts rest
   pub later : (i : ℕ) → In i rest → In i ids

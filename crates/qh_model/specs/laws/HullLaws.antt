@@ -3,6 +3,7 @@ use Rattle.std.specs.Prelude.{ℕ, ◌≡◌, ◌↔◌, List}
 use Rattle.std.specs.List.Sorted.{IsStrictlyIncreasing}
 use Rattle.qh_model.specs.declared.out.Out.{Out}
 use Rattle.qh_model.specs.headline.Vector.{Vector}
+use Rattle.qh_model.specs.headline.Predicates.{place}
 use Rattle.qh_model.specs.headline.Sets.{In, Members}
 use Rattle.qh_model.specs.contract.IdSets.{HasDistinctPoints}
 use Rattle.qh_model.specs.headline.DistinctIds.{AreDistinctIds}
@@ -45,6 +46,11 @@ DistinctIdsAreUnique = (pts : List Vector) (xs ys : List ℕ) → AreDistinctIds
 abbrev pub BodyOfExtremes : Type 0
 BodyOfExtremes = (at : ℕ → Vector) (ids : List ℕ) (b : BodyValue) → HasDistinctPoints at (Members ids)
     → IsBody at (Extreme at (Members ids)) b ↔ IsBody at (Members ids) b
+
+-- ids of a set, all its extreme ids among them
+pub record HasExtremes (pts : List Vector) (ids part : List ℕ) : Type 0 where
+  pub within : (i : ℕ) → In i part → In i ids
+  pub extremes : (i : ℕ) → Extreme (place pts) (Members ids) i → In i part
 
 -- a part of a set that has all its extreme ids has the same extreme ids
 abbrev pub ExtremesOfPart : Type 0

@@ -1,16 +1,19 @@
-use Rattle.std.proofs.Common.{List, ℕ}
+use Rattle.std.proofs.Common.{List, ℕ, length, sym, subst}
 use Rattle.std.proofs.lemmas.Result.{IfOk-weaker}
-use Rattle.qh_model.specs.contract.IdSets.{IsIdSet}
-use Rattle.qh_model.specs.contract.FinishedSurface.{IsFinished}
-use Rattle.qh_model.specs.headline.Hull.{AreExtremes}
-use Rattle.qh_model.specs.headline.Predicates.{place}
-use Rattle.qh_model.specs.headline.Sets.{Members}
-use Rattle.qh_model.specs.contract.StoredSurface.{surface_of}
+use Rattle.qh_model.specs.contract.IdSets.{AreIndices, IsIdSet}
+use Rattle.qh_model.proofs.hulls.ExtremeParts.{part_indices, part_set, part_extremes}
+use Rattle.qh_block.specs.steps.InnerPoints.{IsOuterPart}
 use Rattle.qh_block.proofs.hulls.extremes.Goals as goal
 
-pub returns-in-Solid : goal.returns-in-Solid
-returns-in-Solid c =
-    let pts = c.args.pts.now in let ids = c.args.ids.now in
-    IfOk-weaker c.solid_extremes.result
-    (λ v. (ids : List ℕ) → IsIdSet pts ids → IsFinished (place pts) ids (surface_of c.in_ok-mesh.mesh) → AreExtremes (place pts) (Members ids) v.items) (λ v. IsIdSet pts ids → AreExtremes (place pts) (Members ids) v.items)
-    (λ v h s. h ids s c.in_ok-mesh.ensures.finished) c.solid_extremes.ensures
+pub extremes_of_all-requires-clause-indices : goal.extremes_of_all-requires-clause-indices
+extremes_of_all-requires-clause-indices c =
+    let part : IsOuterPart c.args.pts.now c.args.ids.now c.in-Some.outer.items = rw (c.in-Some.is) at c.in_ok-outer.ensures.part in
+    subst (AreIndices c.args.pts.now) (sym c.deref.ensures.value) (part_indices c.args.pts.now c.args.ids.now c.in-Some.outer.items c.requires.indices part.extremes)
+
+pub returns-in-Some : goal.returns-in-Some
+returns-in-Some c =
+    let pts = c.args.pts.now in let ids = c.args.ids.now in let outer = c.in-Some.outer.items in
+    let part : IsOuterPart pts ids outer = rw (c.in-Some.is) at c.in_ok-outer.ensures.part in
+    IfOk-weaker c.extremes_of_all.result _ _
+    (λ v h set. part_extremes pts ids outer v.items set part.extremes (h (part_set pts ids outer set (part.rising set.rising) part.extremes)))
+    (rw (c.deref.ensures.value) at c.extremes_of_all.ensures)

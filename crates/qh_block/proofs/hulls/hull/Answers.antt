@@ -1,24 +1,19 @@
-use Rattle.std.proofs.Common.{◌≡◌, List, ℕ, sym, subst}
+use Rattle.std.proofs.Common.{List, ℕ, length, sym, subst}
 use Rattle.std.proofs.lemmas.Result.{IfOk-weaker}
-use Rattle.qh_model.specs.contract.IdSets.{IsIdSet}
-use Rattle.qh_model.specs.contract.FinishedSurface.{IsFinished}
-use Rattle.qh_model.specs.headline.Hull.{BodyValue, IsBody}
-use Rattle.qh_model.specs.headline.Predicates.{place}
-use Rattle.qh_model.specs.headline.Sets.{Members}
-use Rattle.qh_model.specs.contract.StoredSurface.{surface_of}
-use Rattle.qh_block.specs.steps.FlatBodies.{point_body}
-use Rattle.qh_block.proofs.flats.Bodies.{point_is_body}
+use Rattle.qh_model.specs.contract.IdSets.{AreIndices, IsIdSet}
+use Rattle.qh_model.proofs.hulls.ExtremeParts.{part_indices, part_body}
+use Rattle.qh_block.specs.steps.InnerPoints.{IsOuterPart}
 use Rattle.qh_block.proofs.hulls.hull.Goals as goal
 
-pub returns-in-Point : goal.returns-in-Point
-returns-in-Point c =
-    let pts = c.args.pts.now in let ids = c.args.ids.now in let shape = c.in-Point.ensures.shape in
-    IfOk-weaker c.body_of_point.result (λ (b : BodyValue). b ≡ point_body c.in-Point.i) (λ (b : BodyValue). IsIdSet pts ids → IsBody (place pts) (Members ids) b)
-    (λ b is s. subst (IsBody (place pts) (Members ids)) (sym is) (point_is_body pts ids c.in-Point.i shape.0 shape.1)) c.body_of_point.ensures
+pub hull_of_all-requires-clause-indices : goal.hull_of_all-requires-clause-indices
+hull_of_all-requires-clause-indices c =
+    let part : IsOuterPart c.args.pts.now c.args.ids.now c.in-Some.outer.items = rw (c.in-Some.is) at c.in_ok-outer.ensures.part in
+    subst (AreIndices c.args.pts.now) (sym c.deref.ensures.value) (part_indices c.args.pts.now c.args.ids.now c.in-Some.outer.items c.requires.indices part.extremes)
 
-pub returns-in_ok-mesh-in-Solid : goal.returns-in_ok-mesh-in-Solid
-returns-in_ok-mesh-in-Solid c =
-    let pts = c.args.pts.now in let ids = c.args.ids.now in
-    IfOk-weaker c.solid_body.result
-    (λ (b : BodyValue). (ids : List ℕ) → IsIdSet pts ids → IsFinished (place pts) ids (surface_of c.in_ok-mesh-in-Solid.mesh) → IsBody (place pts) (Members ids) b) (λ (b : BodyValue). IsIdSet pts ids → IsBody (place pts) (Members ids) b)
-    (λ b h s. h ids s c.in_ok-mesh-in-Solid.ensures.finished) c.solid_body.ensures
+pub returns-in-Some : goal.returns-in-Some
+returns-in-Some c =
+    let pts = c.args.pts.now in let ids = c.args.ids.now in let outer = c.in-Some.outer.items in
+    let part : IsOuterPart pts ids outer = rw (c.in-Some.is) at c.in_ok-outer.ensures.part in
+    IfOk-weaker c.hull_of_all.result _ _
+    (λ b h set. part_body pts ids outer b set (part.rising set.rising) part.extremes h)
+    (rw (c.deref.ensures.value) at c.hull_of_all.ensures)

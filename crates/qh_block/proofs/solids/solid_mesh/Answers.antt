@@ -7,7 +7,7 @@ use Rattle.qh_plane.specs.contract.Shapes.{IsInLine, IsInPlane}
 use Rattle.qh_block.specs.steps.PlaneWalks.{AreCornersBelow}
 use Rattle.qh_block.proofs.finished.SolidBodies.{finished_corners}
 use Rattle.qh_block.proofs.runs.FirstSimplexes.{first_not_in}
-use Rattle.qh_block.proofs.hulls.solid_mesh.Goals as goal
+use Rattle.qh_block.proofs.solids.solid_mesh.Goals as goal
 
 pub surface_from-requires-clause-has_k : goal.surface_from-requires-clause-has_k
 surface_from-requires-clause-has_k c = first_not_in (IsInLine c.args.pts.now c.args.i c.args.j) c.args.ids.now c.args.k c.requires.off_line

@@ -1,0 +1,52 @@
+-- Points that a look finds inside a set: boxes below all planes of the hull of a sample of it.
+use Rattle.std.specs.Prelude.{◌≡◌, ℕ, List, All, ℤ, pos, ◌≤ℤ◌, ◌<ℤ◌}
+use Rattle.std.specs.List.Sorted.{IsStrictlyIncreasing}
+use Rattle.qh_model.specs.headline.Vector.{Vector}
+use Rattle.qh_model.specs.headline.Predicates.{place}
+use Rattle.qh_model.specs.headline.Sets.{In, Members}
+use Rattle.qh_model.specs.headline.Extreme.{Extreme}
+use Rattle.qh_model.specs.laws.HullLaws.{HasExtremes}
+use Rattle.qh_model.specs.contract.StoredSurface.{StoredFacet}
+use Rattle.qh_pred.specs.contract.Planes.{PlaneValue, height}
+use Rattle.qh_mesh.specs.contract.Replacement.{IsLive}
+use Rattle.qh_mesh.specs.contract.SoundMesh.{facet_vol}
+use Rattle.qh_block.specs.declared.inner_points.bounds.Bounds.{Bounds}
+
+-- a number in a range
+abbrev pub IsBetween : ℤ → ℤ → ℤ → Type 0
+IsBetween low n high = (low ≤ℤ n) × (n ≤ℤ high)
+
+-- a point from one corner of a box to the other
+pub record IsWithin (b : Bounds) (p : Vector) : Type 0 where
+  pub x : IsBetween b.low.x p.x b.high.x
+  pub y : IsBetween b.low.y p.y b.high.y
+  pub z : IsBetween b.low.z p.z b.high.z
+
+-- the plane is strictly above all points of the box
+abbrev pub IsBelow : Bounds → PlaneValue → Type 0
+IsBelow b plane = (p : Vector) → IsWithin b p → height plane p <ℤ pos 0
+
+-- so are all planes
+abbrev pub IsBelowAll : List PlaneValue → Bounds → Type 0
+IsBelowAll planes b = All (IsBelow b) planes
+
+-- a plane of the list is that of facet f
+abbrev pub HasPlane : List Vector → List StoredFacet → List PlaneValue → ℕ → Type 0
+HasPlane pts fs planes f = (plane : PlaneValue) × In plane planes × ((p : Vector) → height plane p ≡ facet_vol (place pts) fs f p)
+
+-- each live facet has its plane in the list
+abbrev pub HasPlanes : List Vector → List StoredFacet → List PlaneValue → Type 0
+HasPlanes pts fs planes = (f : ℕ) → IsLive fs f → HasPlane pts fs planes f
+
+-- no extreme id has its point in the box, in any set with these ids among its own
+abbrev pub HasNoExtreme : List Vector → List ℕ → Bounds → Type 0
+HasNoExtreme pts ids b = (i : ℕ) → In i ids → IsWithin b (place pts i) → ¬ (Extreme (place pts) (Members ids) i)
+
+-- boxes without an extreme id, in each set that has the sample
+abbrev pub AreInner : List Vector → List ℕ → List Bounds → Type 0
+AreInner pts sample bs = (ids : List ℕ) → ((i : ℕ) → In i sample → In i ids) → All (HasNoExtreme pts ids) bs
+
+-- a part of a set with all its extreme ids, rising where the set does
+pub record IsOuterPart (pts : List Vector) (ids part : List ℕ) : Type 0 where
+  pub rising : IsStrictlyIncreasing ids → IsStrictlyIncreasing part
+  pub extremes : HasExtremes pts ids part

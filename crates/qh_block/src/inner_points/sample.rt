@@ -1,0 +1,62 @@
+//! The hull of a few ids of a set, spread over it, as planes.
+ghost use Rattle.std.specs.Prelude.{◌<◌, ℕ, IfOk, IfSome, length};
+ghost use Rattle.qh_model.specs.headline.Sets.{In};
+ghost use Rattle.qh_model.specs.contract.IdSets.{AreIndices};
+ghost use Rattle.qh_block.specs.steps.InnerPoints.{HasPlanes, AreInner};
+ghost use Rattle.qh_block.specs.steps.PlaneWalks.{AreCornersBelow};
+
+use crate::inner_points::columns::Columns;
+use crate::quickhull::plane_of;
+use crate::solids::solid_mesh;
+use qh_mesh::Mesh;
+use qh_model::{Id, Memory, Point};
+use qh_plane::{Shape, rank};
+use qh_pred::Plane;
+use std::alloc::{AllocError, Global};
+
+/// One of so many ids, from the first on.
+pub fn one_of(alloc: Global, ids: &[Id], many: usize) -> Result<Vec<Id>, AllocError>
+    requires some { 0 < length ids.now }
+    requires many { 0 < many }
+    ensures some { IfOk result (λ v. 0 < length v.items) }
+    ensures within { IfOk result (λ v. (i : ℕ) → In i v.items → In i ids.now) }
+{
+    let mut sample = Vec::new(alloc);
+    sample.push(ids[0])?;
+    let mut at = many;
+    while at < ids.len() {
+        sample.push(ids[at])?;
+        at = at.saturating_add(many);
+    }
+    Ok(sample)
+}
+
+/// The planes of the live facets.
+fn planes_of(alloc: Global, pts: &[Point], mesh: &Mesh) -> Result<Vec<Plane>, AllocError>
+    requires corners { AreCornersBelow (length pts.now) mesh.now }
+    ensures { IfOk result (λ v. HasPlanes pts.now mesh.now v.items) }
+{
+    let mut planes = Vec::new(alloc);
+    for facet in mesh.live() {
+        planes.push(plane_of(pts, mesh, facet))?;
+    }
+    Ok(planes)
+}
+
+/// The columns inside the hull of a sample; none where it lies in a plane, or where it has facets so many
+/// that few ids can be inside.
+pub fn inner_columns(alloc: Global, pts: &[Point], sample: &[Id]) -> Result<Option<Columns>, Memory>
+    requires some { 0 < length sample.now }
+    requires indices { AreIndices pts.now sample.now }
+    ensures { IfOk result (λ found. IfSome found (λ columns. AreInner pts.now sample.now columns.boxes.items)) }
+{
+    let Shape::Solid(i, j, k, l) = rank(pts, sample) else {
+        return Ok(None);
+    };
+    let mesh = solid_mesh(alloc, pts, sample, i, j, k, l)?;
+    let planes = planes_of(alloc, pts, &mesh)?;
+    if planes.len() > sample.len() {
+        return Ok(None);
+    }
+    Ok(Some(Columns::below(alloc, &planes, pts, sample)?))
+}
