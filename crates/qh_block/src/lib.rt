@@ -5,10 +5,11 @@
 //! triangles plane by plane. A set in a point, a line or a plane gets its body at once: a point, the
 //! segment between the ends of the line, or the polygon in the plane.
 //!
-//! `quickhull` makes the surface. `plane_walk` walks over the triangles of one plane, `faces` makes the
-//! polygon of each plane, `face_order` and `solid_edges` order the faces and count their edges, and
-//! `solids` puts them together. `segment` finds the ends of a line, `normals` the side from which a
-//! polygon is seen, and `bodies` puts the hulls of flat sets together.
+//! Of a large set `inner_points` drops most of what is inside first. `quickhull` makes the surface.
+//! `plane_walk` walks over the triangles of one plane, `faces` makes the polygon of each plane,
+//! `face_order` and `solid_edges` order the faces and count their edges, and `solids` puts them together.
+//! `segment` finds the ends of a line, `normals` the side from which a polygon is seen, and `bodies`
+//! puts the hulls of flat sets together.
 #![tactic(auto)]
 
 mod bodies;
