@@ -11,7 +11,7 @@ use Rattle.qh_model.specs.headline.Sets.{In, Members}
 use Rattle.qh_model.specs.headline.Extreme.{Extreme, Others}
 use Rattle.qh_model.specs.headline.Hull.{AreExtremes}
 use Rattle.qh_model.specs.contract.IdSets.{AreIndices, IsIdSet}
-use Rattle.qh_model.proofs.Members.{All-In, All-of}
+use Rattle.qh_model.proofs.hulls.ExtremeParts.{part_indices}
 use Rattle.qh_model.proofs.extremes.ExtremeIds.{combination_within}
 use Rattle.qh_model.proofs.lists.Joined.{in_append, of_append}
 use Rattle.qh_model.specs.laws.HullLaws.{HasExtremes}
@@ -70,7 +70,7 @@ cut_kept pts ids rest block later kept given found grown n e f same more h x =
 
 -- what is left are indices
 pub left_indices : (pts : List Vector) (ids rest kept : List ℕ) → AreIndices pts ids → HasExtremesBefore pts ids rest kept → AreIndices pts rest
-left_indices pts ids rest kept indices h = All-of (λ i. i < length pts) rest (λ i m. All-In (λ i. i < length pts) ids i indices (h.later i m))
+left_indices pts ids rest kept indices h = part_indices pts ids rest indices h.later
 
 -- with all that was left, nothing is
 pub rest_kept : (pts : List Vector) (ids rest kept : List ℕ) → HasExtremesBefore pts ids rest kept → HasExtremes pts ids (kept ++ rest)

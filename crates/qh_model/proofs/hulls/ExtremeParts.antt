@@ -1,4 +1,4 @@
--- Parts of a set that have all its extreme ids: they are sets of ids, not empty, and have its hull.
+-- Parts of a set of ids, which are sets of ids; one that has all its extreme ids is not empty and has its hull.
 use Rattle.std.proofs.Common.{ℕ, ◌<◌, List, length, get_or, arith}
 use Rattle.std.specs.Prelude.{◌↔◌}
 use Rattle.std.specs.List.Sorted.{IsStrictlyIncreasing}
@@ -13,21 +13,21 @@ use Rattle.qh_model.proofs.Members.{All-In, All-of, In-get_or, in_at}
 use Rattle.qh_model.proofs.extremes.ExtremeIds.{members_are_combinations}
 use Rattle.qh_model.proofs.hulls.SameSets.{extremes_of_part, body_of_part}
 
--- its ids are indices
-pub part_indices : (pts : List Vector) (ids part : List ℕ) → AreIndices pts ids → HasExtremes pts ids part → AreIndices pts part
-part_indices pts ids part indices h = All-of (λ i. i < length pts) part (λ i m. All-In (λ i. i < length pts) ids i indices (h.within i m))
+-- ids of a list of indices are indices
+pub part_indices : (pts : List Vector) (ids part : List ℕ) → AreIndices pts ids → ((i : ℕ) → In i part → In i ids) → AreIndices pts part
+part_indices pts ids part indices within = All-of (λ i. i < length pts) part (λ i m. All-In (λ i. i < length pts) ids i indices (within i m))
 
--- where there are ids, it has some
-pub part_some : (pts : List Vector) (ids part : List ℕ) → IsIdSet pts ids → 0 < length ids → HasExtremes pts ids part → 0 < length part
-part_some pts ids part set some h =
+-- rising ids of a set of ids are one
+pub part_set : (pts : List Vector) (ids part : List ℕ) → IsIdSet pts ids → IsStrictlyIncreasing part → ((i : ℕ) → In i part → In i ids) → IsIdSet pts part
+part_set pts ids part set rising within = record { rising = rising; distinct = λ i j m n e. set.distinct i j (within i m) (within j n) e }
+
+-- where there are ids, a part with all extreme ids has some
+pub part_some : (pts : List Vector) (ids part : List ℕ) → IsIdSet pts ids → 0 < length ids → ((i : ℕ) → Extreme (place pts) (Members ids) i → In i part) → 0 < length part
+part_some pts ids part set some extremes =
     let mix = members_are_combinations (place pts) ids set.distinct (get_or ids 0 0) (In-get_or ids 0 0 some) in
-    let p = in_at part mix.a (h.extremes mix.a mix.has_a) in
+    let p = in_at part mix.a (extremes mix.a mix.has_a) in
     let l = p.1 in
     omega (arith, l)
-
--- where it rises it is a set of ids
-pub part_set : (pts : List Vector) (ids part : List ℕ) → IsIdSet pts ids → IsStrictlyIncreasing part → HasExtremes pts ids part → IsIdSet pts part
-part_set pts ids part set rising h = record { rising = rising; distinct = λ i j m n e. set.distinct i j (h.within i m) (h.within j n) e }
 
 -- its extreme ids are those of the set
 pub part_extremes : (pts : List Vector) (ids part xs : List ℕ) → IsIdSet pts ids → HasExtremes pts ids part → AreExtremes (place pts) (Members part) xs → AreExtremes (place pts) (Members ids) xs
@@ -39,4 +39,4 @@ part_extremes pts ids part xs set h x = record { rising = x.rising; members = λ
 -- its hull is that of the set
 pub part_body : (pts : List Vector) (ids part : List ℕ) (b : BodyValue) → IsIdSet pts ids → IsStrictlyIncreasing part → HasExtremes pts ids part
     → (IsIdSet pts part → IsBody (place pts) (Members part) b) → IsBody (place pts) (Members ids) b
-part_body pts ids part b set rising h f = body_of_part (place pts) ids part b set.distinct h.within h.extremes (f (part_set pts ids part set rising h))
+part_body pts ids part b set rising h f = body_of_part (place pts) ids part b set.distinct h.within h.extremes (f (part_set pts ids part set rising h.within))

@@ -8,7 +8,7 @@ use Rattle.qh_block.proofs.hulls.hull.Goals as goal
 pub hull_of_all-requires-clause-indices : goal.hull_of_all-requires-clause-indices
 hull_of_all-requires-clause-indices c =
     let part : IsOuterPart c.args.pts.now c.args.ids.now c.in-Some.outer.items = rw (c.in-Some.is) at c.in_ok-outer.ensures.part in
-    subst (AreIndices c.args.pts.now) (sym c.deref.ensures.value) (part_indices c.args.pts.now c.args.ids.now c.in-Some.outer.items c.requires.indices part.extremes)
+    subst (AreIndices c.args.pts.now) (sym c.deref.ensures.value) (part_indices c.args.pts.now c.args.ids.now c.in-Some.outer.items c.requires.indices part.extremes.within)
 
 pub returns-in-Some : goal.returns-in-Some
 returns-in-Some c =

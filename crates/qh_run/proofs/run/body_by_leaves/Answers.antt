@@ -6,7 +6,7 @@ use Rattle.qh_model.proofs.DistinctIds.{ids_within}
 use Rattle.qh_model.proofs.hulls.RightValues.{hull_of_root, right_within}
 use Rattle.qh_model.specs.contract.IdSets.{AreIndices}
 use Rattle.qh_plane.proofs.DistinctLists.{id_set}
-use Rattle.qh_run.proofs.RightUnions.{part_indices, part_set}
+use Rattle.qh_model.proofs.hulls.ExtremeParts.{part_indices, part_set}
 use Rattle.qh_run.proofs.run.body_by_leaves.Goals as goal
 
 pub invariant_of-job : goal.invariant_of-job

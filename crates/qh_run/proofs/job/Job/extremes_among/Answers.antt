@@ -1,5 +1,5 @@
-use Rattle.qh_run.proofs.RightUnions.{some_extreme}
+use Rattle.qh_model.proofs.hulls.ExtremeParts.{part_some}
 use Rattle.qh_run.proofs.job.Job.extremes_among.Goals as goal
 
 pub invariant_of-result : goal.invariant_of-result
-invariant_of-result c = record { some = some_extreme c.args.self.now.pts.now c.args.part.now c.in_ok-ids.ids.items c.requires.set c.requires.some (c.in_ok-ids.ensures c.requires.set) }
+invariant_of-result c = record { some = part_some c.args.self.now.pts.now c.args.part.now c.in_ok-ids.ids.items c.requires.set c.requires.some (λ i e. ((c.in_ok-ids.ensures c.requires.set).members i).1 e) }

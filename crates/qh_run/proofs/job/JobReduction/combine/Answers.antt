@@ -3,7 +3,8 @@ use Rattle.std.proofs.lemmas.Result.{IfOk-weaker}
 use Rattle.qh_model.specs.contract.IdSets.{IsIdSet}
 use Rattle.qh_model.proofs.hulls.RightValues.{right_of_node}
 use Rattle.qh_model.specs.contract.IdSets.{AreIndices}
-use Rattle.qh_run.proofs.RightUnions.{union_within, part_indices, part_set, some_within}
+use Rattle.qh_model.proofs.hulls.ExtremeParts.{part_indices, part_set}
+use Rattle.qh_run.proofs.RightUnions.{union_within, some_within}
 use Rattle.qh_run.proofs.job.JobReduction.combine.Goals as goal
 
 pub extremes_among-requires-clause-some : goal.extremes_among-requires-clause-some
