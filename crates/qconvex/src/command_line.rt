@@ -1,3 +1,4 @@
+//! The words of a command line, judged by clap.
 ghost use Rattle.std.specs.Prelude.{◌≡◌, ◌≢◌, ◌<◌, ◌^◌, ℕ, [], ◌∷◌, true, false, map, codes, IfOk, IfErr, IfSome, IfNone, string_bytes};
 ghost use Rattle.std.specs.Option.{option_map};
 ghost use Rattle.clap.specs.Words.{app_of, kind_of, rule_of, found_of, matched_of, one_text, raw_values};

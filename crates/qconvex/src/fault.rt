@@ -1,3 +1,4 @@
+//! What can be wrong with a run, and its exit status.
 ghost use Rattle.std.specs.Prelude.{◌≡◌, Some};
 ghost use Rattle.qconvex.specs.contract.FaultLines.{fault_line, status_of};
 ghost use Rattle.qconvex.specs.declared.fault.Fault.TheVariants.{Read, Send};

@@ -1,3 +1,5 @@
+//! The help text.
+
 /// What `--help` prints; the manual page is made of it, too (`scripts/man_page.py`).
 pub const HELP: &str = "qconvex 0.2.0: the exact convex hull of whole-number points in space
 

@@ -1,3 +1,4 @@
+//! The program over the standard streams.
 ghost use Rattle.std.specs.Prelude.{◌≡◌, IfErr, OnOk};
 ghost use Rattle.std.specs.Process.{exit_status};
 ghost use Rattle.qconvex.specs.contract.FaultLines.{status_of};

@@ -1,3 +1,4 @@
+//! A run from its source to its sink.
 ghost use Rattle.std.specs.Prelude.{◌≡◌, ◌-◌, ◌^◌, ◌<◌, MatchResult};
 ghost use Rattle.qconvex.specs.headline.Serving.{Devices, IsServed, IsServeFault};
 

@@ -1,3 +1,4 @@
+//! What a run is asked for, and the limits of that.
 ghost use Rattle.std.specs.Prelude.{◌≡◌, ◌≤◌, ◌<◌, ◌↔◌, IfOk, IsErrOf};
 
 use qh_model::{Form, POINT_LIMIT, WORKER_LIMIT};

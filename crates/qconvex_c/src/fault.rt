@@ -1,3 +1,4 @@
+//! The codes of the two calls.
 ghost use Rattle.std.specs.Prelude.{◌≡◌};
 ghost use Rattle.qconvex_c.specs.steps.Codes.{code_of};
 

@@ -1,3 +1,4 @@
+//! A hull as lists of numbers: what the buffers of a caller take.
 ghost use Rattle.std.specs.Prelude.{◌≡◌, ◌++◌, IfOk, OnOk, List, length};
 ghost use Rattle.qh_model.specs.headline.Hull.{IsHull};
 ghost use Rattle.qh_model.specs.headline.Vector.{Vector};

@@ -1,3 +1,4 @@
+//! What is wrong with the coordinates of a caller, told before any hull is made.
 ghost use Rattle.std.specs.Prelude.{◌≡◌, ◌≤◌, ◌<◌, ◌↔◌, length, IsErrOf, OnOk};
 ghost use Rattle.std.specs.List.{All};
 ghost use Rattle.qh_model.specs.contract.Places.{IsPlace};

@@ -1,3 +1,5 @@
+//! The forms of files of points.
+
 /// How a file tells its points.
 #[derive(Clone, Copy, Debug, PartialEq, Eq)]
 pub enum Form {

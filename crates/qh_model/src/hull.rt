@@ -1,3 +1,4 @@
+//! Hulls, and what they are of.
 use crate::point::Id;
 use crate::polygon::Polygon;
 use std::marker::Model;

@@ -1,3 +1,4 @@
+//! The one error of a call that only takes memory.
 use std::alloc::{AllocError, AllocFailed};
 
 /// Memory was refused.

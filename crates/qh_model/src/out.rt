@@ -1,3 +1,5 @@
+//! The outputs.
+
 /// A text that can be made of a hull.
 #[derive(Clone, Copy, Debug, PartialEq, Eq)]
 pub enum Out {

@@ -1,3 +1,4 @@
+//! Points and ids.
 ghost use Rattle.std.specs.Prelude.{◌≡◌};
 ghost use Rattle.qh_model.specs.headline.Vector.{Vector};
 ghost use Rattle.qh_model.specs.contract.Places.{IsPlace};

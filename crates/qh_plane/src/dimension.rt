@@ -1,3 +1,4 @@
+//! The dimension of a shape.
 ghost use Rattle.std.specs.Prelude.{◌≡◌};
 ghost use Rattle.qh_plane.specs.contract.Shapes.{dimension_of};
 

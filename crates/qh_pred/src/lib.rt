@@ -2,8 +2,9 @@
 //! points lie in one line, and the turn of three points seen from a side. A [`Plane`] keeps what the
 //! volumes of one triangle have in common.
 //!
-//! Each answers its definition of `qh_model/specs/headline/Predicates.antt` with no rounding, for all points,
-//! since a [`qh_model::Point`] keeps the limit of coordinates. No call takes memory.
+//! Each answers its definition of `qh_model/specs/headline/Predicates.antt`, `left` the sign of it, with
+//! no rounding, for all points, since a [`qh_model::Point`] keeps the limit of coordinates. No call takes
+//! memory.
 //!
 //! Source: Barber, Dobkin and Huhdanpaa 1996 (a point is above a facet by the sign of a determinant).
 #![tactic(auto)]

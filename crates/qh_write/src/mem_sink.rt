@@ -1,3 +1,4 @@
+//! A sink that keeps what it is sent.
 ghost use Rattle.std.specs.Prelude.{◌≡◌, [], Some, true};
 
 use crate::sink::{Sink, SinkFault};

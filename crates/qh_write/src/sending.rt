@@ -1,3 +1,4 @@
+//! A text on its way to a sink, piece by piece.
 ghost use Rattle.std.specs.Prelude.{◌≡◌, ℕ, ◌+◌, ◌-◌, ◌^◌, ◌<◌, OnOk, OnErr, true};
 ghost use Rattle.std.specs.Io.KnownBytes.{Appends};
 ghost use Rattle.qh_write.specs.headline.Sinks.{AppendsBeginning};

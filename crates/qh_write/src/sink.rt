@@ -1,3 +1,4 @@
+//! What a text is sent to.
 ghost use Rattle.std.specs.Prelude.{◌≡◌, ℕ, ◌+◌, ◌-◌, ◌^◌, ◌<◌, ◌≤◌, List, Bool, true, Option, IfOk, OnOk, length, is_ok, if◌then◌else◌};
 ghost use Rattle.std.specs.Io.KnownBytes.{WriteAppends, Keeps};
 

@@ -1,3 +1,4 @@
+//! A sink over a writer of std.
 ghost use Rattle.std.specs.Prelude.{◌≡◌};
 
 use crate::sink::{Sink, SinkFault};

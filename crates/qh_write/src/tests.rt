@@ -1,3 +1,4 @@
+//! Texts of small hulls, and what sinks keep of them.
 ghost use Rattle.std.specs.Prelude.{◌≡◌, [], ◌∷◌, IfOk};
 
 use crate::fakes::{FailSink, SinkPlan};

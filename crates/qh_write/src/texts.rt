@@ -1,3 +1,4 @@
+//! The text of each output of a hull.
 ghost use Rattle.std.specs.Prelude.{◌≡◌, ◌++◌, ◌<◌, IfOk, OnOk, All, length};
 ghost use Rattle.qh_model.specs.headline.Text.{hull_text, output_text};
 ghost use Rattle.qh_model.specs.contract.IdSets.{AreIndices};

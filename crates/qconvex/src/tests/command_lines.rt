@@ -1,3 +1,4 @@
+//! Command lines, right and wrong.
 use super::settings;
 use qh_model::Form;
 use std::test::Fail;

@@ -1,3 +1,4 @@
+//! Files with faults, and the lines that tell of them.
 use super::{answered, served, settings};
 use crate::fault::Fault;
 use qh_read::ReadFault;

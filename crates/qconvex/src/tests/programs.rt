@@ -1,3 +1,4 @@
+//! The program over streams that stand in for the standard ones.
 use super::stand_in::{StandIn, Stream};
 use crate::help::HELP;
 use crate::program::run;

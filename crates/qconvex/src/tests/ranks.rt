@@ -1,3 +1,4 @@
+//! The rank of point files.
 use super::{answered, served, settings};
 use std::test::Fail;
 

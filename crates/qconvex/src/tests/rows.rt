@@ -1,3 +1,4 @@
+//! Point files with the texts that they give.
 use super::{answered, served, settings};
 use std::test::Fail;
 
