@@ -4,6 +4,7 @@ pub mod PlaceStarts
 pub mod DistinctLists
 pub mod PlacesDiffer
 pub mod KeptIds
+pub mod SeenPlaces
 pub mod SortedKeys
 pub mod PlaneDirections
 pub mod LinesAndPlanes

@@ -1,5 +1,6 @@
 -- What private functions speak of: nothing to believe.
 pub mod Chains
+pub mod CloseBoxes
 pub mod Marks
 pub mod PlaceKeys
 pub mod PlaceNumbers

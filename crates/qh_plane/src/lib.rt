@@ -1,10 +1,12 @@
 //! Points in order: the distinct points of a list, the shape of a set of them, and the polygon of a
 //! set that lies in one plane. Beside these, ids in rising order.
 //!
-//! All three go by the exact predicates of `qh_pred` alone, so no answer is rounded.
+//! Distinct points are told by whole numbers of their places, shapes and polygons by the exact predicates
+//! of `qh_pred`, so no answer is rounded.
 #![tactic(auto)]
 
 mod chains;
+mod close_points;
 mod dimension;
 mod distinct_points;
 mod id_lists;

@@ -1,0 +1,139 @@
+-- The distinct ids of points in a small box, point by point: what stands in the slots, and which ids are kept.
+use Rattle.std.proofs.Common.{◌≡◌, ◌≢◌, ◌∙◌, ℕ, ◌+◌, ◌<◌, ◌≤◌, ◌⊎◌, inl, inr, List, [], ◌∷◌, ◌++◌, length, set, replicate, get_or, arith, ap, sym, subst, refl, get_or-set_same, get_or-set_other}
+use Rattle.std.proofs.lemmas.List.{length-set, get_or-replicate, length-replicate}
+use Rattle.std.specs.Prelude.{◌↔◌}
+use Rattle.std.specs.List.Sorted.{IsStrictlyIncreasing}
+use native.Mathlib.Decide.{ℕ_discrete}
+use Rattle.qh_model.specs.headline.Vector.{Vector}
+use Rattle.qh_model.specs.headline.Predicates.{place}
+use Rattle.qh_model.specs.headline.Sets.{In}
+use Rattle.qh_model.specs.headline.DistinctIds.{IsDistinctId, AreDistinctIds}
+use Rattle.qh_model.specs.declared.limits.TheConstants.{POINT_LIMIT}
+use Rattle.qh_model.proofs.lists.Joined.{in_append, of_append}
+use Rattle.qh_model.proofs.lists.Rising.{rising_append}
+use Rattle.qh_plane.specs.declared.close_points.CloseBox.{CloseBox}
+use Rattle.qh_plane.specs.declared.close_points.TheConstants.{NO_ID}
+use Rattle.qh_plane.specs.steps.CloseBoxes.{slot_of, slot_at, HasFirst, AreSeen}
+
+-- no id of the points stands for none
+id_is_none : (k n : ℕ) → k < n → n ≤ POINT_LIMIT → k ≢ NO_ID
+id_is_none k n l h e = omega (arith, l, h, e)
+
+-- at first no point was seen
+pub none_seen : (pts : List Vector) (b : CloseBox) (n : ℕ) → AreSeen pts b (replicate n NO_ID) 0 []
+none_seen pts b n = record {
+  firsts = λ j l. absurd (omega (arith, l));
+  held = λ s l. inl (get_or-replicate n s NO_ID NO_ID (subst (λ (v : ℕ). s < v) (length-replicate n NO_ID) l));
+  rising = λ k l. absurd (omega (arith, l));
+  members = λ i. ((λ m. absurd m), (λ h. absurd (nothing i h.1)));
+}
+  where
+    nothing : (i : ℕ) → i < 0 → ⊥
+    nothing i l = omega (arith, l)
+
+-- one point more was seen
+more_seen : (pts : List Vector) (b : CloseBox) (slots : List ℕ) (k : ℕ) (p : Vector) → HasFirst pts b slots k p → HasFirst pts b slots (k + 1) p
+more_seen pts b slots k p h = let l = h.seen in record { first = h.first; seen = omega (arith, l); is = h.is; same = h.same }
+
+module _ (pts : List Vector) (b : CloseBox) (slots : List ℕ) (k : ℕ) (ids : List ℕ) (old : AreSeen pts b slots k ids) (within : k < length pts) (few : length pts ≤ POINT_LIMIT) where
+  -- ---- a slot that no point has come to
+  module _ (room : slot_of b (place pts k) < length slots) (free : slot_at slots (slot_of b (place pts k)) ≡ NO_ID) where
+    abbrev pub here : ℕ
+    here = slot_of b (place pts k)
+
+    abbrev pub after : List ℕ
+    after = set slots here k
+
+    -- no point before is equal
+    new_place : (j : ℕ) → j < k → place pts j ≢ place pts k
+    new_place j l e = let f = old.firsts j l in
+        id_is_none f.first (length pts) (let s = f.seen in omega (arith, s, within)) few (sym f.is ∙ ap (λ (p : Vector). slot_at slots (slot_of b p)) e ∙ free)
+
+    kept_slot : (j : ℕ) → j < k → slot_of b (place pts j) ≢ here
+    kept_slot j l e = let f = old.firsts j l in
+        id_is_none f.first (length pts) (let s = f.seen in omega (arith, s, within)) few (sym f.is ∙ ap (slot_at slots) e ∙ free)
+
+    firsts_after : (j : ℕ) → j < k + 1 → HasFirst pts b after (k + 1) (place pts j)
+    firsts_after j l = by (ℕ_discrete j k)
+      where
+        by : Dec (j ≡ k) → HasFirst pts b after (k + 1) (place pts j)
+        by (yes e) = record { first = k; seen = omega arith; is = ap (λ (n : ℕ). slot_at after (slot_of b (place pts n))) e ∙ get_or-set_same slots here k NO_ID room; same = ap (place pts) (sym e) }
+        by (no ne) =
+            let below : j < k = omega (arith, l, ne) in let f = old.firsts j below in let s = f.seen in
+            record { first = f.first; seen = omega (arith, s); is = get_or-set_other slots here (slot_of b (place pts j)) k NO_ID (kept_slot j below) ∙ f.is; same = f.same }
+
+    held_after : (s : ℕ) → s < length after → (slot_at after s ≡ NO_ID) ⊎ (slot_at after s < k + 1)
+    held_after s l = by (ℕ_discrete s here)
+      where
+        lower : (n m : ℕ) → n ≡ m → m < k → n < k + 1
+        lower n m e h = omega (arith, e, h)
+
+        likewise : (n m : ℕ) → n ≡ m → (m ≡ NO_ID) ⊎ (m < k) → (n ≡ NO_ID) ⊎ (n < k + 1)
+        likewise n m e (inl h) = inl (e ∙ h)
+        likewise n m e (inr h) = inr (lower n m e h)
+
+        own : (n : ℕ) → n ≡ k → n < k + 1
+        own n e = omega (arith, e)
+
+        by : Dec (s ≡ here) → (slot_at after s ≡ NO_ID) ⊎ (slot_at after s < k + 1)
+        by (yes e) = inr (own (slot_at after s) (ap (slot_at after) e ∙ get_or-set_same slots here k NO_ID room))
+        by (no ne) = likewise (slot_at after s) (slot_at slots s) (get_or-set_other slots here s k NO_ID ne) (old.held s (subst (λ (n : ℕ). s < n) (length-set slots here k) l))
+
+    -- so it is one more distinct id
+    pub new_seen : AreSeen pts b after (k + 1) (ids ++ k ∷ [])
+    new_seen = record { firsts = firsts_after; held = held_after; rising = rises; members = λ i. (to i, from i) }
+      where
+        one : (i : ℕ) → In i ids ⊎ In i (k ∷ []) → IsDistinctId pts i × (i < k + 1)
+        one i (inl m) = let h = (old.members i).0 m in let l = h.1 in (h.0, omega (arith, l))
+        one i (inr (inl e)) = subst (λ (n : ℕ). IsDistinctId pts n × (n < k + 1)) (sym e) ((within, new_place), omega arith)
+        one i (inr (inr m)) = absurd m
+
+        to : (i : ℕ) → In i (ids ++ k ∷ []) → IsDistinctId pts i × (i < k + 1)
+        to i m = one i (of_append ids (k ∷ []) i m)
+
+        from : (i : ℕ) → IsDistinctId pts i × (i < k + 1) → In i (ids ++ k ∷ [])
+        from i h = by (ℕ_discrete i k)
+          where
+            by : Dec (i ≡ k) → In i (ids ++ k ∷ [])
+            by (yes e) = in_append ids (k ∷ []) i (inr (inl e))
+            by (no ne) = let l = h.1 in in_append ids (k ∷ []) i (inl ((old.members i).1 (h.0, omega (arith, l, ne))))
+
+        rises : IsStrictlyIncreasing (ids ++ k ∷ [])
+        rises = rising_append ids (k ∷ []) old.rising (λ n l. absurd (omega (arith, l))) (λ x y m i. below x y m i)
+          where
+            below : (x y : ℕ) → In x ids → In y (k ∷ []) → x < y
+            below x y m (inl e) = let l = ((old.members x).0 m).1 in subst (λ (n : ℕ). x < n) (sym e) l
+            below x y m (inr n) = absurd n
+
+  -- ---- a slot with the id of an equal point
+  -- there is no distinct id more
+  pub again_seen : (i : ℕ) → slot_at slots (slot_of b (place pts k)) ≡ i → i < k → place pts i ≡ place pts k → AreSeen pts b slots (k + 1) ids
+  again_seen i is l e = record { firsts = firsts; held = λ s h. later s (old.held s h); rising = old.rising; members = λ j. (to j, from j) }
+    where
+      firsts : (j : ℕ) → j < k + 1 → HasFirst pts b slots (k + 1) (place pts j)
+      firsts j h = by (ℕ_discrete j k)
+        where
+          by : Dec (j ≡ k) → HasFirst pts b slots (k + 1) (place pts j)
+          by (yes q) = subst (λ (n : ℕ). HasFirst pts b slots (k + 1) (place pts n)) (sym q) (record { first = i; seen = omega (arith, l); is = is; same = e })
+          by (no ne) = more_seen pts b slots k (place pts j) (old.firsts j (omega (arith, h, ne)))
+
+      later : (s : ℕ) → (slot_at slots s ≡ NO_ID) ⊎ (slot_at slots s < k) → (slot_at slots s ≡ NO_ID) ⊎ (slot_at slots s < k + 1)
+      later s (inl h) = inl h
+      later s (inr h) = inr (omega (arith, h))
+
+      to : (j : ℕ) → In j ids → IsDistinctId pts j × (j < k + 1)
+      to j m = let h = (old.members j).0 m in let n = h.1 in (h.0, omega (arith, n))
+
+      from : (j : ℕ) → IsDistinctId pts j × (j < k + 1) → In j ids
+      from j h = by (ℕ_discrete j k)
+        where
+          by : Dec (j ≡ k) → In j ids
+          by (yes q) = absurd ((subst (IsDistinctId pts) q h.0).1 i l e)
+          by (no ne) = let n = h.1 in (old.members j).1 (h.0, omega (arith, n, ne))
+
+-- when all were seen, the ids are the distinct ones
+pub all_seen : (pts : List Vector) (b : CloseBox) (slots : List ℕ) (k : ℕ) (ids : List ℕ) → AreSeen pts b slots k ids → length pts ≤ k → AreDistinctIds pts ids
+all_seen pts b slots k ids h l = record { rising = h.rising; members = λ i. ((λ m. ((h.members i).0 m).0), (λ d. (h.members i).1 (d, below i d.0))) }
+  where
+    below : (i : ℕ) → i < length pts → i < k
+    below i m = omega (arith, m, l)

@@ -1,0 +1,46 @@
+use Rattle.std.proofs.Common.{rules, ◌≡◌, ◌≢◌, ◌∙◌, ℕ, ◌+◌, ◌<◌, ◌⊎◌, inl, inr, List, [], ◌∷◌, ◌++◌, length, set, slice_index_or, arith, ap, sym, subst, Vec, Global}
+use Rattle.std.proofs.lemmas.List.{get_or_read}
+use Rattle.qh_model.specs.headline.Predicates.{place}
+use Rattle.qh_model.specs.headline.Vector.{Vector, origin}
+use Rattle.qh_plane.specs.declared.close_points.TheConstants.{NO_ID}
+use Rattle.qh_plane.specs.steps.CloseBoxes.{slot_of, slot_at, AreSeen}
+use Rattle.qh_plane.proofs.SeenPlaces.{new_seen, again_seen, all_seen}
+use Rattle.qh_plane.proofs.close_points.distinct_in_box.Goals.{then-index+in_ok-push, else-index+else-not-are_one}
+use Rattle.qh_plane.proofs.close_points.distinct_in_box.Goals as goal
+
+-- a point that was read is that of its id
+point_read : (pts : List Vector) (k : ℕ) (p : Vector) → k < length pts → p ≡ slice_index_or pts k p → p ≡ place pts k
+unfolding place
+point_read pts k p l e = get_or_read pts k p l e origin
+
+-- what stands in a slot that holds an id
+held_id : (k n : ℕ) → (n ≡ NO_ID) ⊎ (n < k) → n ≢ NO_ID → n < k
+held_id k n (inl e) ne = absurd (ne e)
+held_id k n (inr l) ne = l
+
+pub loop-number-preserved : goal.loop-number-preserved
+loop-number-preserved c =
+    let pts = c.args.pts.now in let b = c.in-Some.close in let slots = c.loop-number.slots.items in let ids = c.loop-number.ids.items in let k = c.loop-number.number in
+    let old = c.loop-number.invariant in let s = c.slot-slot.result in
+    let within : k < length pts = c.loop-number-test.true in
+    let room : s < length slots = search rules in
+    let at : s ≡ slot_of b (place pts k) = c.slot-slot.ensures ∙ ap (slot_of b) (point_read pts k c.index-pts-number.result within c.index-pts-number.is) in
+    elim c.if-index.branch [
+      | then-index+in_ok-push w ↦
+          let free : slot_at slots s ≡ NO_ID = sym (get_or_read slots s c.index.result.now room c.index.ensures NO_ID) ∙ w.if-index.true in
+          let next = new_seen pts b slots k ids old within c.requires.few (subst (λ n. n < length slots) at room) (subst (λ n. slot_at slots n ≡ NO_ID) at free) in
+          let slots-are : c.if-index.slots.items ≡ set slots (slot_of b (place pts k)) k = ap (λ (v : Vec ℕ Global). v.items) w.slots-is ∙ ap (λ n. set slots n k) at in
+          let ids-are : c.if-index.ids.items ≡ ids ++ k ∷ [] = ap (λ (v : Vec ℕ Global). v.items) w.ids-is ∙ w.in_ok-push.ensures.items ∙ ap (λ n. ids ++ n ∷ []) w.new.ensures in
+          subst (λ xs. AreSeen pts b xs (k + 1) c.if-index.ids.items) (sym slots-are) (subst (λ xs. AreSeen pts b (set slots (slot_of b (place pts k)) k) (k + 1) xs) (sym ids-are) next)
+      | else-index+else-not-are_one w ↦
+          let i = w.index-else-index.result.now in
+          let read : i ≡ slot_at slots s = get_or_read slots s i room w.index-else-index.ensures NO_ID in
+          let below : i < k = subst (λ n. n < k) (sym read) (held_id k (slot_at slots s) (old.held s room) (λ e. w.if-index.false (get_or_read slots s c.index.result.now room c.index.ensures NO_ID ∙ e))) in
+          let same : place pts i ≡ place pts k = sym (point_read pts i w.index-pts-index.result (omega (arith, below, within)) w.index-pts-index.is) ∙ w.are_one.ensures w.if-not-are_one.false
+          ∙ point_read pts k w.index-pts-number-else-index.result within w.index-pts-number-else-index.is in
+          let next = again_seen pts b slots k ids old within c.requires.few i (subst (λ n. slot_at slots n ≡ i) at (sym read)) below same in
+          subst (λ xs. AreSeen pts b xs (k + 1) c.if-index.ids.items) (sym (ap (λ (v : Vec ℕ Global). v.items) w.slots-is)) (subst (λ xs. AreSeen pts b slots (k + 1) xs) (sym (ap (λ (v : Vec ℕ Global). v.items) w.ids-is)) next)
+    ]
+
+pub returns : goal.returns
+returns c = all_seen c.args.pts.now c.in-Some.close c.loop-number.slots.items c.loop-number.number c.loop-number.ids.items c.loop-number.invariant c.loop-number-test.false

@@ -1,0 +1,32 @@
+-- Slots for the places of a small box. Only private functions speak of them.
+use Rattle.std.specs.Prelude.{ℕ, ◌≡◌, ◌+◌, ◌-◌, ◌*◌, ◌%◌, ◌^◌, ◌<◌, ◌≤◌, ◌⊎◌, ◌↔◌, List, length, slice_index_or}
+use Rattle.std.specs.List.Sorted.{IsStrictlyIncreasing}
+use Rattle.qh_model.specs.headline.Vector.{Vector}
+use Rattle.qh_model.specs.headline.Predicates.{place}
+use Rattle.qh_model.specs.headline.Sets.{In}
+use Rattle.qh_model.specs.headline.DistinctIds.{IsDistinctId}
+use Rattle.qh_plane.specs.declared.close_points.CloseBox.{CloseBox}
+use Rattle.qh_plane.specs.declared.close_points.TheConstants.{NO_ID}
+use Rattle.qh_plane.specs.steps.PlaceKeys.{raised}
+
+-- the slot of a point: of numbers of 64 bits, whatever the box
+abbrev pub slot_of : CloseBox → Vector → ℕ
+slot_of b p = (((raised p.x - b.x) * b.breadth % 2 ^ 64 + (raised p.y - b.y)) % 2 ^ 64 * b.height % 2 ^ 64 + (raised p.z - b.z)) % 2 ^ 64
+
+-- what stands in a slot
+abbrev pub slot_at : List ℕ → ℕ → ℕ
+slot_at slots s = slice_index_or slots s NO_ID
+
+-- the slot of a point has the id of an equal point, one of the first k
+pub record HasFirst (pts : List Vector) (b : CloseBox) (slots : List ℕ) (k : ℕ) (p : Vector) : Type 0 where
+  pub first : ℕ
+  pub seen : first < k
+  pub is : slot_at slots (slot_of b p) ≡ first
+  pub same : place pts first ≡ p
+
+-- the first k points were seen: each has an equal point in its slot, and the ids are the distinct ones of them
+pub record AreSeen (pts : List Vector) (b : CloseBox) (slots : List ℕ) (k : ℕ) (ids : List ℕ) : Type 0 where
+  pub firsts : (j : ℕ) → j < k → HasFirst pts b slots k (place pts j)
+  pub held : (s : ℕ) → s < length slots → (slot_at slots s ≡ NO_ID) ⊎ (slot_at slots s < k)
+  pub rising : IsStrictlyIncreasing ids
+  pub members : (i : ℕ) → In i ids ↔ (IsDistinctId pts i × (i < k))
