@@ -5,3 +5,4 @@ pub mod Lexicographic
 pub mod Rising
 pub mod Joined
 pub mod Images
+pub mod Ranges

@@ -21,6 +21,7 @@ pub mod Simplex
 pub mod Combinations
 pub mod Stored
 pub mod Finished
+pub mod Named
 pub mod Complete
 pub mod Closed
 pub mod Inside

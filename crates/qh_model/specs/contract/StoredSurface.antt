@@ -18,6 +18,10 @@ pub record StoredFacet : Type 0 where
 abbrev pub no_facet : StoredFacet
 no_facet = record { i = 0; j = 0; k = 0; ij = 0; jk = 0; ki = 0; live = false }
 
+-- the facet with the names of its corners
+abbrev pub named_facet : (ℕ → ℕ) → StoredFacet → StoredFacet
+named_facet name f = record f { i = name f.i; j = name f.j; k = name f.k }
+
 -- the facet at a place
 abbrev pub facet_at : List StoredFacet → ℕ → StoredFacet
 facet_at fs f = slice_index_or fs f no_facet

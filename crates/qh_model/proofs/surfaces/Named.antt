@@ -1,0 +1,290 @@
+-- A surface with other names of its corners: where they tell the corners apart and have their points, it is as
+-- sound as before, and as finished. So a surface over positions in a list of points is one over their ids.
+use Rattle.std.proofs.Common.{◌≡◌, ℕ, zero, suc, ◌+◌, ◌<◌, refl, sym, ap, subst, ◌∙◌, inl, inr}
+use Rattle.std.proofs.Common.{List, [], ◌∷◌, length, map, true, false, cond, slice_index}
+use Rattle.std.proofs.lemmas.Bool.{both_ways}
+use Rattle.std.proofs.lemmas.List.{get_or-map}
+use Rattle.std.specs.Prelude.{pos, ◌<ℤ◌, ◌≤ℤ◌}
+use Rattle.std.specs.List.{range_with_len}
+use Rattle.qh_model.specs.headline.Vector.{Vector, origin}
+use Rattle.qh_model.specs.headline.Predicates.{place, vol}
+use Rattle.qh_model.specs.headline.Sets.{In, Once}
+use Rattle.qh_model.specs.headline.Text.{vertex_number}
+use Rattle.qh_model.specs.contract.Weighted.{Weighted, weighted, middle_of, above}
+use Rattle.qh_model.specs.contract.Surface.{Side, Surface, start, end, IsCorner, HasTwin, IsWhole, rise}
+use Rattle.qh_model.specs.contract.Surface.Side.{first, second, third}
+use Rattle.qh_model.specs.contract.SoundSurface.{IsStrict, HasDistinctFacets, IsSound, towards, drawn}
+use Rattle.qh_model.specs.contract.FinishedSurface.{weighted_at, middle_at, IsFinished}
+use Rattle.qh_model.specs.contract.StoredSurface.{StoredFacet, named_facet, facet_at, live_from, surface_of}
+use Rattle.qh_model.specs.contract.Names.{IsNamed, IsNaming}
+use Rattle.qh_model.proofs.lists.Images.{in_map, of_map}
+use Rattle.qh_model.proofs.lists.Ranges.{range_below, range_named}
+use Rattle.qh_model.proofs.renamed.Positions.{number_at}
+use Rattle.qh_model.proofs.renamed.Renaming.{volume_as}
+use Rattle.qh_model.proofs.surfaces.Stored.{live_is_marked}
+
+-- ---- the corners
+module _ {m m' : Surface} {name : ℕ → ℕ} (r : IsNamed m m' name) where
+  -- a live facet after is one before
+  live_named : (f : ℕ) → In f m'.live → In f m.live
+  live_named f = subst (In f) r.live
+
+  -- where a side starts
+  start_named : (f : ℕ) → In f m.live → (s : Side) → start m' f s ≡ name (start m f s)
+  start_named f i first = r.i_is f i
+  start_named f i second = r.j_is f i
+  start_named f i third = r.k_is f i
+
+  -- and ends
+  end_named : (f : ℕ) → In f m.live → (s : Side) → end m' f s ≡ name (end m f s)
+  end_named f i first = r.j_is f i
+  end_named f i second = r.k_is f i
+  end_named f i third = r.i_is f i
+
+  -- a corner by its name
+  corner_named : (f : ℕ) → In f m.live → (l : ℕ) → IsCorner m f l → IsCorner m' f (name l)
+  corner_named f i l (inl e) = inl (ap name e ∙ sym (r.i_is f i))
+  corner_named f i l (inr (inl e)) = inr (inl (ap name e ∙ sym (r.j_is f i)))
+  corner_named f i l (inr (inr e)) = inr (inr (ap name e ∙ sym (r.k_is f i)))
+
+  -- a corner after is the name of one before
+  of_corner_named : (f : ℕ) → In f m.live → (l : ℕ) → IsCorner m' f l → (c : ℕ) × IsCorner m f c × (l ≡ name c)
+  of_corner_named f i l (inl e) = (m.i f, inl refl, e ∙ r.i_is f i)
+  of_corner_named f i l (inr (inl e)) = (m.j f, inr (inl refl), e ∙ r.j_is f i)
+  of_corner_named f i l (inr (inr e)) = (m.k f, inr (inr refl), e ∙ r.k_is f i)
+
+  -- a whole surface stays whole
+  whole_named : IsWhole m → IsWhole m'
+  whole_named w f i' s = record {
+    live = subst (λ g. In g m'.live) (sym over) (subst (In (m.over f s)) (sym r.live) t.live);
+    start_is =
+        (λ k. start m' (over k) (back k)) ∙ start_named (m.over f s) t.live (m.back f s)
+        ∙ ap name t.start_is ∙ sym (end_named f i s);
+    end_is =
+        (λ k. end m' (over k) (back k)) ∙ end_named (m.over f s) t.live (m.back f s)
+        ∙ ap name t.end_is ∙ sym (start_named f i s);
+    returns = (λ k. m'.over (over k) (back k)) ∙ r.over_is (m.over f s) (m.back f s) t.live ∙ t.returns;
+  }
+    where
+      i : In f m.live
+      i = live_named f i'
+
+      t : HasTwin m f s
+      t = w f i s
+
+      over : m'.over f s ≡ m.over f s
+      over = r.over_is f s i
+
+      back : m'.back f s ≡ m.back f s
+      back = r.back_is f s i
+
+-- ---- soundness
+-- the names have the corners' points
+abbrev ArePlaced : Surface → (home home' : ℕ → Weighted) → (ℕ → ℕ) → Type 0
+ArePlaced m home home' name = (f : ℕ) → In f m.live → (l : ℕ) → IsCorner m f l → home' (name l) ≡ home l
+
+-- position leads back from the name of a corner
+abbrev LeadsBack : Surface → (name position : ℕ → ℕ) → Type 0
+LeadsBack m name position = (f : ℕ) → In f m.live → (l : ℕ) → IsCorner m f l → position (name l) ≡ l
+
+module _ {m m' : Surface} {name : ℕ → ℕ} (r : IsNamed m m' name) where
+  -- a point is as far above a facet as before
+  rise_named : (home home' : ℕ → Weighted) → ArePlaced m home home' name
+      → (f : ℕ) → In f m.live → (y : Weighted) → rise m home f y ≡ rise m' home' f y
+  rise_named home home' p f i y = λ k. above (at_i k) (at_j k) (at_k k) y
+    where
+      at_i : home (m.i f) ≡ home' (m'.i f)
+      at_i = sym (ap home' (r.i_is f i) ∙ p f i (m.i f) (inl refl))
+
+      at_j : home (m.j f) ≡ home' (m'.j f)
+      at_j = sym (ap home' (r.j_is f i) ∙ p f i (m.j f) (inr (inl refl)))
+
+      at_k : home (m.k f) ≡ home' (m'.k f)
+      at_k = sym (ap home' (r.k_is f i) ∙ p f i (m.k f) (inr (inr refl)))
+
+  -- a strict surface stays strict
+  strict_named : (home home' : ℕ → Weighted) → ArePlaced m home home' name → IsStrict m home → IsStrict m' home'
+  strict_named home home' p z f g i' j' l c u = below (of_corner_named r g j l c)
+    where
+      i : In f m.live
+      i = live_named r f i'
+
+      j : In g m.live
+      j = live_named r g j'
+
+      below : (c : ℕ) × IsCorner m g c × (l ≡ name c) → rise m' home' f (home' l) <ℤ pos 0
+      below (c, d, e) =
+          let known = z f g i j c d (λ x. u (subst (IsCorner m' f) (sym e) (corner_named r f i c x))) in
+          let same : home c ≡ home' l = sym (ap home' e ∙ p g j c d) in
+          subst (λ y. rise m' home' f y <ℤ pos 0) same (subst (λ x. x <ℤ pos 0) (rise_named home home' p f i (home c)) known)
+
+  -- different facets stay different
+  distinct_named : (position : ℕ → ℕ) → LeadsBack m name position → HasDistinctFacets m → HasDistinctFacets m'
+  distinct_named position b d f g i' j' h =
+      d f g i j (λ l c. kept l c (of_corner_named r g j (name l) (h (name l) (corner_named r f i l c))))
+    where
+      i : In f m.live
+      i = live_named r f i'
+
+      j : In g m.live
+      j = live_named r g j'
+
+      kept : (l : ℕ) → IsCorner m f l → (c : ℕ) × IsCorner m g c × (name l ≡ name c) → IsCorner m g l
+      kept l x (c, y, e) = subst (IsCorner m g) (sym (b g j c y) ∙ ap position (sym e) ∙ b f i l x) y
+
+  -- a sound surface stays sound
+  sound_named : (home home' : ℕ → Weighted) (o : Weighted) (position : ℕ → ℕ)
+      → ArePlaced m home home' name → LeadsBack m name position → IsSound m home o → IsSound m' home' o
+  sound_named home home' o position p b z = record {
+    inner = λ f i. let k = live_named r f i in subst (λ x. x <ℤ pos 0) (rise_named home home' p f k o) (z.inner f k);
+    distinct = distinct_named position b z.distinct;
+    lifted = record {
+      h = share;
+      from = z.lifted.from;
+      strict = λ n e. strict_named (drawn home o z.lifted.h n) (drawn home' o share n) (drawn_placed n) (z.lifted.strict n e);
+    };
+  }
+    where
+      share : ℕ → ℕ
+      share l = z.lifted.h (position l)
+
+      drawn_placed : (n : ℕ) → ArePlaced m (drawn home o z.lifted.h n) (drawn home' o share n) name
+      drawn_placed n f i l c = λ k. towards o (pos n) (p f i l c k) (pos (z.lifted.h (b f i l c k)))
+
+-- ---- the law
+-- the middle of the same points
+middle_as : (p q u v p' q' u' v' : Vector) → p' ≡ p → q' ≡ q → u' ≡ u → v' ≡ v
+    → middle_of (weighted p) (weighted q) (weighted u) (weighted v) ≡ middle_of (weighted p') (weighted q') (weighted u') (weighted v')
+middle_as p q u v p' q' u' v' d e f g =
+    sym (λ k. middle_of (weighted (d k)) (weighted (e k)) (weighted (f k)) (weighted (g k)))
+
+-- a surface finished over numbers is finished over their names
+pub finished_named : (at at' : ℕ → Vector) (n : ℕ) (name position : ℕ → ℕ) (m m' : Surface) → IsNaming at at' n name position
+    → IsNamed m m' name → IsFinished at (range_with_len 0 n) m → IsFinished at' (map name (range_with_len 0 n)) m'
+finished_named at at' n name position m m' a r h = record {
+  s = name h.s;
+  t = name h.t;
+  u = name h.u;
+  v = name h.v;
+  has_s = in_map name ids h.s h.has_s;
+  has_t = in_map name ids h.t h.has_t;
+  has_u = in_map name ids h.u h.has_u;
+  has_v = in_map name ids h.v h.has_v;
+  volume = subst (λ x. x <ℤ pos 0) (sym (volume_as _ _ _ _ _ _ _ _ at_s at_t at_u at_v)) h.volume;
+  whole = whole_named r h.whole;
+  sound = subst (IsSound m' (weighted_at at')) (middle_as _ _ _ _ _ _ _ _ at_s at_t at_u at_v)
+      (sound_named r (weighted_at at) (weighted_at at') (middle_at at h.s h.t h.u h.v) position
+      (λ f i l c. ap weighted (point l (h.corners f i l c))) (λ f i l c. a.back l (range_below n l (h.corners f i l c))) h.sound);
+  some = h.some;
+  some_live = subst (In h.some) (sym r.live) h.some_live;
+  corners = λ f i l c. member f (live_named r f i) l (of_corner_named r f (live_named r f i) l c);
+  unseen = λ f i l k. below f (live_named r f i) l (of_map name ids l k);
+}
+  where
+    ids : List ℕ
+    ids = range_with_len 0 n
+
+    point : (l : ℕ) → In l ids → at' (name l) ≡ at l
+    point l k = a.point l (range_below n l k)
+
+    at_s : at' (name h.s) ≡ at h.s
+    at_s = point h.s h.has_s
+
+    at_t : at' (name h.t) ≡ at h.t
+    at_t = point h.t h.has_t
+
+    at_u : at' (name h.u) ≡ at h.u
+    at_u = point h.u h.has_u
+
+    at_v : at' (name h.v) ≡ at h.v
+    at_v = point h.v h.has_v
+
+    member : (f : ℕ) → In f m.live → (l : ℕ) → (c : ℕ) × IsCorner m f c × (l ≡ name c) → In l (map name ids)
+    member f i l (c, d, e) = subst (λ x. In x (map name ids)) (sym e) (in_map name ids c (h.corners f i c d))
+
+    below : (f : ℕ) → In f m.live → (l : ℕ) → (c : ℕ) × In c ids × (l ≡ name c)
+        → vol (at' (m'.i f)) (at' (m'.j f)) (at' (m'.k f)) (at' l) ≤ℤ pos 0
+    below f i l (c, k, e) = subst (λ x. x ≤ℤ pos 0) (sym (volume_as _ _ _ _ _ _ _ _ at_i at_j at_k at_l)) (h.unseen f i c k)
+      where
+        at_i : at' (m'.i f) ≡ at (m.i f)
+        at_i = ap at' (r.i_is f i) ∙ point (m.i f) (h.corners f i (m.i f) (inl refl))
+
+        at_j : at' (m'.j f) ≡ at (m.j f)
+        at_j = ap at' (r.j_is f i) ∙ point (m.j f) (h.corners f i (m.j f) (inr (inl refl)))
+
+        at_k : at' (m'.k f) ≡ at (m.k f)
+        at_k = ap at' (r.k_is f i) ∙ point (m.k f) (h.corners f i (m.k f) (inr (inr refl)))
+
+        at_l : at' l ≡ at c
+        at_l = ap at' e ∙ point c k
+
+-- ---- stored surfaces
+module _ (name : ℕ → ℕ) where
+  -- the same places are live
+  stored_live : (n : ℕ) (fs : List StoredFacet) → live_from n (map (named_facet name) fs) ≡ live_from n fs
+  stored_live n [] = refl
+  stored_live n (f ∷ fs) = let rest = stored_live (n + 1) fs in λ k. cond f.live (n ∷ rest k) (rest k)
+
+  -- a live place has its facet's corners by their names
+  stored_facet : (fs : List StoredFacet) (f : ℕ) → (facet_at fs f).live ≡ true
+      → facet_at (map (named_facet name) fs) f ≡ named_facet name (facet_at fs f)
+  stored_facet [] f e = absurd (both_ways false refl e)
+  stored_facet (x ∷ fs) zero e = refl
+  stored_facet (x ∷ fs) (suc f) e = stored_facet fs f e
+
+  -- the same lies over each side
+  stored_over : (fs : List StoredFacet) (f : ℕ) (s : Side)
+      → (surface_of (map (named_facet name) fs)).over f s ≡ (surface_of fs).over f s
+  stored_over [] f s = refl
+  stored_over (x ∷ fs) zero s = refl
+  stored_over (x ∷ fs) (suc f) s = stored_over fs f s
+
+  -- and leads back
+  stored_back : (fs : List StoredFacet) (f : ℕ) (s : Side)
+      → (surface_of (map (named_facet name) fs)).back f s ≡ (surface_of fs).back f s
+  stored_back [] f s = refl
+  stored_back (x ∷ fs) zero s = refl
+  stored_back (x ∷ fs) (suc f) s = stored_back fs f s
+
+  -- the corners of a stored surface are named place by place
+  pub stored_named : (fs : List StoredFacet) → IsNamed (surface_of fs) (surface_of (map (named_facet name) fs)) name
+  stored_named fs = record {
+    live = stored_live 0 fs;
+    i_is = λ f i. ap (λ (x : StoredFacet). x.i) (at f i);
+    j_is = λ f i. ap (λ (x : StoredFacet). x.j) (at f i);
+    k_is = λ f i. ap (λ (x : StoredFacet). x.k) (at f i);
+    over_is = λ f s i. stored_over fs f s;
+    back_is = λ f s i. stored_back fs f s;
+  }
+    where
+      at : (f : ℕ) → In f (surface_of fs).live → facet_at (map (named_facet name) fs) f ≡ named_facet name (facet_at fs f)
+      at f i = stored_facet fs f ((live_is_marked fs f).0 i)
+
+-- ---- positions in a list of ids
+-- positions have the points of the ids at them
+positions_are_named : (pts : List Vector) (ids : List ℕ) → Once ids
+    → IsNaming (place (map (place pts) ids)) (place pts) (length ids) (slice_index ids) (vertex_number ids)
+unfolding place
+positions_are_named pts ids once = record {
+  back = λ l h. number_at ids l once h;
+  point = λ l h. sym (get_or-map (place pts) ids l 0 origin h);
+}
+
+-- a surface finished over the positions of ids is finished over the ids
+pub finished_by_position : (pts : List Vector) (ids : List ℕ) (name : ℕ → ℕ) (fs : List StoredFacet) → Once ids
+    → ((l : ℕ) → l < length ids → name l ≡ slice_index ids l)
+    → IsFinished (place (map (place pts) ids)) (range_with_len 0 (length ids)) (surface_of fs)
+    → IsFinished (place pts) ids (surface_of (map (named_facet name) fs))
+finished_by_position pts ids name fs once same h =
+    subst (λ xs. IsFinished (place pts) xs (surface_of (map (named_facet name) fs))) (range_named name ids same)
+    (finished_named (place (map (place pts) ids)) (place pts) (length ids) name (vertex_number ids) (surface_of fs)
+    (surface_of (map (named_facet name) fs)) naming (stored_named name fs) h)
+  where
+    is : IsNaming (place (map (place pts) ids)) (place pts) (length ids) (slice_index ids) (vertex_number ids)
+    is = positions_are_named pts ids once
+
+    naming : IsNaming (place (map (place pts) ids)) (place pts) (length ids) name (vertex_number ids)
+    naming = record {
+      back = λ l b. ap (vertex_number ids) (same l b) ∙ is.back l b;
+      point = λ l b. ap (place pts) (same l b) ∙ is.point l b;
+    }
