@@ -20,3 +20,4 @@ pub mod SoundMeshes
 pub mod PlaceCounts
 pub mod FacetLists
 pub mod Simplexes
+pub mod NamedSides

@@ -7,7 +7,7 @@ use Rattle.qh_model.specs.headline.Vector.{Vector}
 use Rattle.qh_model.specs.headline.Predicates.{vol}
 use Rattle.qh_model.specs.headline.Sets.{In}
 use Rattle.qh_model.specs.contract.Weighted.{Weighted, weighted, above, middle_of}
-use Rattle.qh_model.specs.contract.FinishedSurface.{weighted_at, middle_at}
+use Rattle.qh_model.specs.contract.FinishedSurface.{weighted_at, middle_at, IsFinished}
 use Rattle.qh_model.specs.contract.Surface.{Surface, start, end, IsCorner, IsWhole, rise}
 use Rattle.qh_model.specs.contract.SoundSurface.{IsSound, drawn}
 use Rattle.qh_model.specs.laws.SimplexSurface.{simplex_surface}
@@ -114,6 +114,10 @@ closed_of at fs s t u v f l z = record {
   surface = sound_is_closed at (surface_of fs) s t u v f (in_live fs f l) (live_is_listed_once fs) z.0 z.1;
   volume = sound_has_volume at (surface_of fs) s t u v f (in_live fs f l) (live_is_listed_once fs) z.0 z.1;
 }
+
+-- and so is a finished one
+pub finished_is_closed : (at : ℕ → Vector) (ids : List ℕ) (fs : List StoredFacet) → IsFinished at ids (surface_of fs) → IsClosedMesh at fs
+finished_is_closed at ids fs h = closed_of at fs h.s h.t h.u h.v h.some (live_in fs h.some h.some_live) (h.whole, h.sound)
 
 -- ---- a step
 -- it keeps a mesh sound

@@ -2,6 +2,7 @@
 pub mod Cells
 pub mod ConeSteps
 pub mod MarkedFacets
+pub mod NamedSides
 pub mod Nets
 pub mod ReplacedSides
 pub mod Stored

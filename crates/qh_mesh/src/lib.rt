@@ -14,6 +14,7 @@ mod cone;
 mod facets;
 mod live;
 mod mesh;
+mod naming;
 mod rebuild;
 mod sides;
 #[cfg(test)]

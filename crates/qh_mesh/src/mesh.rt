@@ -1,18 +1,20 @@
 //! The mesh, its questions, and how it is made and grows.
-ghost use Rattle.std.specs.Prelude.{◌≡◌, ◌↔◌, IsTrue, ◌≢◌, ◌+◌, ◌*◌, ◌-◌, ◌/◌, ◌≤◌, ◌<◌, length, max, vec_len, vec_capacity, OnOk, OnErr, IfOk, true, false, pos, [], ◌∷◌, ℕ, ◌<ℤ◌};
+ghost use Rattle.std.specs.Prelude.{◌≡◌, ◌↔◌, IsTrue, ◌≢◌, ◌+◌, ◌*◌, ◌-◌, ◌/◌, ◌≤◌, ◌<◌, length, map, max, vec_len, vec_capacity, OnOk, OnErr, IfOk, true, false, pos, [], ◌∷◌, ℕ, ◌<ℤ◌};
 ghost use Rattle.qh_model.specs.headline.Predicates.{vol, place};
 ghost use Rattle.qh_model.specs.headline.Vector.{Vector};
 ghost use Rattle.qh_model.specs.contract.Weighted.{Weighted};
 ghost use Rattle.qh_model.specs.contract.FinishedSurface.{weighted_at, middle_at};
-ghost use Rattle.qh_model.specs.contract.StoredSurface.{facet_at, surface_of};
+ghost use Rattle.qh_model.specs.contract.StoredSurface.{facet_at, named_facet, surface_of};
 ghost use Rattle.qh_mesh.specs.steps.Tetrahedra.{simplex_of};
 ghost use Rattle.qh_mesh.specs.contract.Replacement.{IsLive, AreFacets, IsReplacement, edge_start, edge_end, twin_of};
+ghost use Rattle.qh_mesh.specs.contract.Names.{name_in};
 ghost use Rattle.qh_mesh.specs.contract.LiveNumbers.{numbers};
 ghost use Rattle.qh_mesh.specs.contract.SoundMesh.{simplex_facets, IsSoundMesh, IsClosedMesh, AreVisible};
 ghost use Rattle.qh_model.specs.contract.Rewired.{IsRewired};
 
 use crate::facets::{ConeFacet, EdgeNo, FacetNo, Side};
 use crate::live::Live;
+use crate::naming::name_starts;
 use crate::rebuild::rebuild;
 use crate::sides::{corners, ends};
 use qh_model::{Id, Memory, Point};
@@ -277,5 +279,13 @@ impl Mesh {
             apex.number(),
         );
         Ok(made)
+    }
+
+    /// Gives the corners, which are positions of a list, their names in it: corner l becomes the id at
+    /// position l. A corner past the end of the list stays.
+    pub fn name_corners(&mut self, ids: &[Id])
+        ensures { self.new ≡ map (named_facet (name_in ids.now)) self.old }
+    {
+        name_starts(&mut self.sides, ids);
     }
 }
