@@ -1,5 +1,5 @@
 -- Boxes below planes: a product over a range is greatest at an end of it, a scalar product over a box at a corner.
-use Rattle.std.proofs.Common.{◌≡◌, ◌<◌, ℕ, FitsSigned, arith}
+use Rattle.std.proofs.Common.{◌≡◌, ◌<◌, FitsSigned, arith}
 use Rattle.std.proofs.lemmas.Int.{ints}
 use Rattle.std.specs.Prelude.{ℤ, pos, ◌+ℤ◌, ◌-ℤ◌, ◌*ℤ◌, neg_ℤ, ◌≤ℤ◌, ◌<ℤ◌}
 use Rattle.qh_model.specs.headline.Vector.{Vector, dot}

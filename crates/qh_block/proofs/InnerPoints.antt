@@ -1,5 +1,5 @@
 -- Points inside the hull of a sample: its planes, the boxes below them, and the ids that are left without them.
-use Rattle.std.proofs.Common.{ℕ, ◌≡◌, ◌∙◌, ◌⊎◌, inl, inr, ◌<◌, List, [], ◌∷◌, ◌++◌, length, get_or, take, drop, All, arith, refl, sym, subst, ap}
+use Rattle.std.proofs.Common.{ℕ, ◌≡◌, ◌⊎◌, inl, inr, ◌<◌, List, [], ◌∷◌, ◌++◌, All, arith, refl, sym, subst, ap}
 use Rattle.std.specs.Prelude.{pos, ◌<ℤ◌}
 use Rattle.std.specs.List.Sorted.{IsStrictlyIncreasing}
 use Rattle.qh_model.specs.headline.Vector.{Vector}
@@ -8,7 +8,6 @@ use Rattle.qh_model.specs.headline.Sets.{In, Members}
 use Rattle.qh_model.specs.headline.Extreme.{Extreme}
 use Rattle.qh_model.specs.contract.FinishedSurface.{IsFinished}
 use Rattle.qh_model.specs.contract.StoredSurface.{StoredFacet, surface_of}
-use Rattle.qh_model.specs.laws.HullLaws.{HasExtremes}
 use Rattle.qh_model.proofs.Members.{All-In, All-of, rising_tail, rising_first}
 use Rattle.qh_model.proofs.lists.Joined.{in_append, of_append}
 use Rattle.qh_model.proofs.lists.Images.{of_map}

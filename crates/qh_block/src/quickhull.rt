@@ -1,7 +1,8 @@
 //! The surface of a solid set by Quickhull.
 //!
-//! A `run` keeps a mesh, the points of the ids by position, and the planes of the facets by place. A
-//! large one takes the ids in an order that keeps near points together (`near_order`).
+//! A `run` works over the points of the ids, gathered into one list: it knows each by its position there,
+//! and its mesh has positions as corners. At its end they get the ids as their names (`surfaces`). A
+//! large set is taken in an order that keeps near points together (`near_order`).
 //! Each point that is not settled stands in the outside set of a facet that it is above
 //! (`outside_sets`), and the facets that have one wait for their turn (`queue`). In a round the first
 //! point of the next facet's set is the apex; a walk over twins finds the facets that it sees
@@ -27,6 +28,7 @@ mod surfaces;
 mod tests;
 mod walk;
 
+pub(crate) use far_simplex::Simplex;
 pub(crate) use planes::plane_of;
 pub use surfaces::surface;
 pub(crate) use surfaces::surface_from;

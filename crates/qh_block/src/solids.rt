@@ -5,7 +5,7 @@ ghost use Rattle.qh_model.specs.contract.IdSets.{AreIndices, IsIdSet};
 ghost use Rattle.qh_model.specs.contract.FinishedSurface.{IsFinished};
 ghost use Rattle.qh_model.specs.headline.Hull.{AreExtremes, IsBody};
 ghost use Rattle.qh_model.specs.headline.Predicates.{place};
-ghost use Rattle.qh_model.specs.headline.Sets.{In, Members};
+ghost use Rattle.qh_model.specs.headline.Sets.{In, Once, Members};
 ghost use Rattle.qh_model.specs.contract.StoredSurface.{surface_of};
 ghost use Rattle.qh_plane.specs.contract.Shapes.{IsInLine, IsInPlane, IsFirstNot, AreFirstTwo};
 ghost use Rattle.qh_block.specs.steps.Faces.{IsListed, all_members};
@@ -13,7 +13,7 @@ ghost use Rattle.qh_block.specs.steps.PlaneWalks.{AreCornersBelow};
 
 use crate::face_order::sort_faces;
 use crate::faces::faces;
-use crate::quickhull::surface_from;
+use crate::quickhull::{Simplex, surface_from};
 use crate::solid_edges::edge_count;
 use qh_mesh::Mesh;
 use qh_model::{Body, Id, Memory, Point, Polygon};
@@ -34,10 +34,10 @@ pub fn solid_mesh(
     requires two { AreFirstTwo ids.now i j }
     requires off_line { IsFirstNot (IsInLine pts.now i j) ids.now k }
     requires off_plane { IsFirstNot (IsInPlane pts.now i j k) ids.now l }
-    ensures finished { IfOk result (λ m. IsFinished (place pts.now) ids.now (surface_of m)) }
+    ensures finished { IfOk result (λ m. Once ids.now → IsFinished (place pts.now) ids.now (surface_of m)) }
     ensures corners { IfOk result (λ m. AreCornersBelow (length pts.now) m) }
 {
-    surface_from(alloc, pts, ids, i, j, k, l)
+    surface_from(alloc, pts, ids, Simplex { i, j, k, l })
 }
 
 /// The ids of all polygons, one after the other.

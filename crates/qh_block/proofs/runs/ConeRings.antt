@@ -64,8 +64,8 @@ no_corner_above pts fs o z f g l m = (
 )
 
 -- nor of one that grows
-pub grown_corners : (pts : List Vector) (ids : List ℕ) (fs : List StoredFacet) → IsGrown pts ids fs → HasNoCornerAbove pts fs
-grown_corners pts ids fs k = no_corner_above pts fs (middle_at (place pts) k.s k.t k.u k.v) k.sound
+pub grown_corners : (pts : List Vector) (fs : List StoredFacet) → IsGrown pts fs → HasNoCornerAbove pts fs
+grown_corners pts fs k = no_corner_above pts fs (middle_at (place pts) k.s k.t k.u k.v) k.sound
 
 -- ---- the wedges
 -- the corners of a triangle in turn

@@ -21,9 +21,9 @@ none_taken v w f e p o s = λ i. record { positions = p i; orphans = o i; sets =
     same = s ∙ ap (λ (xs : List ℕ). slice_set v.sets f (drop 1 xs)) e ∙ ap (slice_set v.sets f) (sym e) ∙ set-get_or v.sets f []
 
 -- a facet whose set is empty need not wait
-pub passed_over : (pts : List Vector) (ids : List ℕ) (fs : List StoredFacet) (ps : List PlaneValue) (v : OutsideValue) (rest : List FacetNo) (f : FacetNo)
-    → IsUnderWay pts ids fs ps v (rest ++ f ∷ []) → set_of v f.0 ≡ [] → IsUnderWay pts ids fs ps v rest
-passed_over pts ids fs ps v rest f k e = record {
+pub passed_over : (pts : List Vector) (fs : List StoredFacet) (ps : List PlaneValue) (v : OutsideValue) (rest : List FacetNo) (f : FacetNo)
+    → IsUnderWay pts fs ps v (rest ++ f ∷ []) → set_of v f.0 ≡ [] → IsUnderWay pts fs ps v rest
+passed_over pts fs ps v rest f k e = record {
   grown = k.grown;
   planes = k.planes;
   positions = k.positions;
@@ -40,10 +40,10 @@ passed_over pts ids fs ps v rest f k e = record {
     by g p i (inr n) = absurd (subst (In p) (ap (set_of v) n ∙ e) i)
 
 -- the first point of a set is the apex
-pub picked : (pts : List Vector) (ids : List ℕ) (fs : List StoredFacet) (ps : List PlaneValue) (v w : OutsideValue) (rest : List FacetNo) (f : FacetNo) (a : ℕ)
-    → IsUnderWay pts ids fs ps v (rest ++ f ∷ []) → set_of v f.0 ≡ a ∷ drop 1 (set_of v f.0) → a < v.positions
-    → w.positions ≡ v.positions → w.orphans ≡ v.orphans → w.sets ≡ slice_set v.sets f.0 (drop 1 (set_of v f.0)) → IsPicked pts ids fs ps w rest f.0 a
-picked pts ids fs ps v w rest f a k e l p o s = record {
+pub picked : (pts : List Vector) (fs : List StoredFacet) (ps : List PlaneValue) (v w : OutsideValue) (rest : List FacetNo) (f : FacetNo) (a : ℕ)
+    → IsUnderWay pts fs ps v (rest ++ f ∷ []) → set_of v f.0 ≡ a ∷ drop 1 (set_of v f.0) → a < v.positions
+    → w.positions ≡ v.positions → w.orphans ≡ v.orphans → w.sets ≡ slice_set v.sets f.0 (drop 1 (set_of v f.0)) → IsPicked pts fs ps w rest f.0 a
+picked pts fs ps v w rest f a k e l p o s = record {
   grown = k.grown;
   planes = k.planes;
   positions = p ∙ k.positions;
@@ -91,18 +91,18 @@ picked pts ids fs ps v w rest f a k e l p o s = record {
         by (inl n) = first_or n (subst (In q) (ap (set_of v) n ∙ e) i)
         by (inr n) = inl (into (write_keeps v.sets f.0 (drop 1 (set_of v f.0)) g q n i))
 
-    all : (q : ℕ) → IsOutside v q ⊎ IsDone pts ids fs q → IsOutside w q ⊎ IsDone pts ids fs q ⊎ (q ≡ a)
+    all : (q : ℕ) → IsOutside v q ⊎ IsDone pts fs q → IsOutside w q ⊎ IsDone pts fs q ⊎ (q ≡ a)
     all q (inl (g, i)) = by (still g q i)
       where
-        by : IsOutside w q ⊎ (q ≡ a) → IsOutside w q ⊎ IsDone pts ids fs q ⊎ (q ≡ a)
+        by : IsOutside w q ⊎ (q ≡ a) → IsOutside w q ⊎ IsDone pts fs q ⊎ (q ≡ a)
         by (inl h) = inl h
         by (inr h) = inr (inr h)
     all q (inr h) = inr (inl h)
 
 -- when no facet waits, no facet sees a point
-pub all_done : (pts : List Vector) (ids : List ℕ) (fs : List StoredFacet) (ps : List PlaneValue) (v : OutsideValue) → IsUnderWay pts ids fs ps v [] → (p : ℕ) → p < length ids → IsDone pts ids fs p
-all_done pts ids fs ps v k p l = by (k.all p l)
+pub all_done : (pts : List Vector) (fs : List StoredFacet) (ps : List PlaneValue) (v : OutsideValue) → IsUnderWay pts fs ps v [] → (p : ℕ) → p < length pts → IsDone pts fs p
+all_done pts fs ps v k p l = by (k.all p l)
   where
-    by : IsOutside v p ⊎ IsDone pts ids fs p → IsDone pts ids fs p
+    by : IsOutside v p ⊎ IsDone pts fs p → IsDone pts fs p
     by (inl (f, i)) = absurd (names_none f (k.waits f p i))
     by (inr d) = d

@@ -1,8 +1,7 @@
 -- How orphans are released and settled.
-use Rattle.std.proofs.Common.{◌≡◌, ℕ, ◌<◌, ap, sym, ◌∙◌, refl, ◌⊎◌, inl, inr, List, [], ◌∷◌, ◌++◌, length, drop, map, subst}
+use Rattle.std.proofs.Common.{◌≡◌, ℕ, ◌<◌, ap, sym, ◌∙◌, refl, ◌⊎◌, inl, inr, List, [], ◌∷◌, ◌++◌, length, drop, subst}
 use Rattle.std.specs.Prelude.{slice_set, slice_index, slice_index_or, pos, ◌<ℤ◌, ◌≤ℤ◌}
 use Rattle.std.proofs.lemmas.Bool.{cases_eq}
-use Rattle.std.proofs.lemmas.List.{get_or-map}
 use Rattle.qh_model.specs.headline.Vector.{Vector, origin}
 use Rattle.qh_model.specs.headline.Predicates.{place}
 use Rattle.qh_model.specs.headline.Sets.{In}
@@ -62,31 +61,31 @@ more_released v0 v w vs x r o s = record {
 
 -- ---- settled
 -- the same sets and orphans, in other values
-pub same_settling : (pts : List Vector) (ids : List ℕ) (fs : List StoredFacet) (v w : OutsideValue) (pending made : List FacetNo)
-    → ((f : ℕ) → set_of w f ≡ set_of v f) → w.orphans ≡ v.orphans → IsSettling pts ids fs v pending made → IsSettling pts ids fs w pending made
-same_settling pts ids fs v w pending made s o k = record {
+pub same_settling : (pts : List Vector) (fs : List StoredFacet) (v w : OutsideValue) (pending made : List FacetNo)
+    → ((f : ℕ) → set_of w f ≡ set_of v f) → w.orphans ≡ v.orphans → IsSettling pts fs v pending made → IsSettling pts fs w pending made
+same_settling pts fs v w pending made s o k = record {
   outside = λ f p i. k.outside f p (subst (In p) (s f) i);
   waits = λ f p i. k.waits f p (subst (In p) (s f) i);
   all = λ p l. by p (k.all p l);
   drops = λ p i. k.drops p (subst (In p) o i);
 }
   where
-    by : (p : ℕ) → In p v.orphans ⊎ IsOutside v p ⊎ IsDone pts ids fs p → In p w.orphans ⊎ IsOutside w p ⊎ IsDone pts ids fs p
+    by : (p : ℕ) → In p v.orphans ⊎ IsOutside v p ⊎ IsDone pts fs p → In p w.orphans ⊎ IsOutside w p ⊎ IsDone pts fs p
     by p (inl i) = inl (subst (In p) (sym o) i)
     by p (inr (inl (f, i))) = inr (inl (f, subst (In p) (sym (s f)) i))
     by p (inr (inr d)) = inr (inr d)
 
 -- the height of a position's point over a live facet, by its plane
-plane_height : (pts : List Vector) (ids : List ℕ) (fs : List StoredFacet) (ps : List PlaneValue) (points : List Vector) (f p : ℕ)
-    → points ≡ map (place pts) ids → ArePlanes (place pts) fs ps → IsLive fs f → p < length ids → height (plane_at ps f) (slice_index_or points p origin) ≡ height_at pts ids fs f p
-plane_height pts ids fs ps points f p e h l b =
-    ap (λ (q : Vector). height (plane_at ps f) q) (ap (λ (xs : List Vector). slice_index_or xs p origin) e ∙ get_or-map (place pts) ids p 0 origin b) ∙ h.right f l (place pts (slice_index ids p))
+plane_height : (pts : List Vector) (fs : List StoredFacet) (ps : List PlaneValue) (f p : ℕ)
+    → ArePlanes (place pts) fs ps → IsLive fs f → height (plane_at ps f) (slice_index_or pts p origin) ≡ height_at pts fs f p
+unfolding place
+plane_height pts fs ps f p h l = h.right f l (place pts p)
 
 -- one orphan is settled
-pub one_settled : (pts : List Vector) (ids : List ℕ) (fs : List StoredFacet) (ps : List PlaneValue) (points : List Vector) (v w : OutsideValue) (pending made : List FacetNo) (o : ℕ)
-    → points ≡ map (place pts) ids → ((j : ℕ) → j < length made → IsLive fs (number made j)) → ArePlanes (place pts) fs ps → AreWithin (length v.sets) made
-    → v.orphans ≡ o ∷ drop 1 v.orphans → o < length ids → IsOneSettled ps points made v w → IsSettling pts ids fs v pending made → IsSettling pts ids fs w pending made
-one_settled pts ids fs ps points v w pending made o e live planes within first l one k = by one.fate
+pub one_settled : (pts : List Vector) (fs : List StoredFacet) (ps : List PlaneValue) (v w : OutsideValue) (pending made : List FacetNo) (o : ℕ)
+    → ((j : ℕ) → j < length made → IsLive fs (number made j)) → ArePlanes (place pts) fs ps → AreWithin (length v.sets) made
+    → v.orphans ≡ o ∷ drop 1 v.orphans → IsOneSettled ps pts made v w → IsSettling pts fs v pending made → IsSettling pts fs w pending made
+one_settled pts fs ps v w pending made o live planes within first one k = by one.fate
   where
     first-is : slice_index v.orphans 0 ≡ o
     first-is = ap (λ (xs : List ℕ). slice_index xs 0) first
@@ -104,7 +103,7 @@ one_settled pts ids fs ps points v w pending made o e live planes within first l
     first_in : In o v.orphans
     first_in = subst (In o) (sym first) (inl refl)
 
-    dropped : IsDropped ps points made v w → IsSettling pts ids fs w pending made
+    dropped : IsDropped ps pts made v w → IsSettling pts fs w pending made
     dropped d = record {
       outside = λ f p i. k.outside f p (subst (In p) (same f) i);
       waits = λ f p i. k.waits f p (subst (In p) (same f) i);
@@ -115,21 +114,21 @@ one_settled pts ids fs ps points v w pending made o e live planes within first l
         same : (f : ℕ) → set_of w f ≡ set_of v f
         same f = ap (λ (xs : List (List ℕ)). slice_index_or xs f []) d.sets
 
-        done : IsDone pts ids fs o
+        done : IsDone pts fs o
         done =
             k.drops o first_in
-            (λ j h. subst (λ x. x ≤ℤ pos 0) (plane_height pts ids fs ps points (number made j) o e planes (live j h) l) (subst (λ n. height (plane_at ps (number made j)) (slice_index_or points n origin) ≤ℤ pos 0) first-is (d.unseen j h)))
+            (λ j h. subst (λ x. x ≤ℤ pos 0) (plane_height pts fs ps (number made j) o planes (live j h)) (subst (λ n. height (plane_at ps (number made j)) (slice_index_or pts n origin) ≤ℤ pos 0) first-is (d.unseen j h)))
 
-        all : (p : ℕ) → In p v.orphans ⊎ IsOutside v p ⊎ IsDone pts ids fs p → In p w.orphans ⊎ IsOutside w p ⊎ IsDone pts ids fs p
+        all : (p : ℕ) → In p v.orphans ⊎ IsOutside v p ⊎ IsDone pts fs p → In p w.orphans ⊎ IsOutside w p ⊎ IsDone pts fs p
         all p (inl i) = cases (first_or p i)
           where
-            cases : (p ≡ o) ⊎ In p w.orphans → In p w.orphans ⊎ IsOutside w p ⊎ IsDone pts ids fs p
-            cases (inl h) = inr (inr (subst (IsDone pts ids fs) (sym h) done))
+            cases : (p ≡ o) ⊎ In p w.orphans → In p w.orphans ⊎ IsOutside w p ⊎ IsDone pts fs p
+            cases (inl h) = inr (inr (subst (IsDone pts fs) (sym h) done))
             cases (inr h) = inl h
         all p (inr (inl (f, i))) = inr (inl (f, subst (In p) (sym (same f)) i))
         all p (inr (inr h)) = inr (inr h)
 
-    assigned : IsAssigned ps points made v w → IsSettling pts ids fs w pending made
+    assigned : IsAssigned ps pts made v w → IsSettling pts fs w pending made
     assigned a = record {
       outside = λ f p i. outside f p (was f p i);
       waits = λ f p i. waits f p (was f p i);
@@ -154,11 +153,11 @@ one_settled pts ids fs ps points v w pending made o e live planes within first l
         facet_live : IsLive fs a.facet
         facet_live = subst (IsLive fs) (sym a.named.2) (live a.named.0 a.named.1)
 
-        seen : pos 0 <ℤ height_at pts ids fs a.facet o
-        seen = subst (λ x. pos 0 <ℤ x) (plane_height pts ids fs ps points a.facet o e planes facet_live l) (subst (λ n. pos 0 <ℤ height (plane_at ps a.facet) (slice_index_or points n origin)) first-is a.seen)
+        seen : pos 0 <ℤ height_at pts fs a.facet o
+        seen = subst (λ x. pos 0 <ℤ x) (plane_height pts fs ps a.facet o planes facet_live) (subst (λ n. pos 0 <ℤ height (plane_at ps a.facet) (slice_index_or pts n origin)) first-is a.seen)
 
-        outside : (f p : ℕ) → ((f ≡ a.facet) × (p ≡ o)) ⊎ In p (set_of v f) → IsLive fs f × (pos 0 <ℤ height_at pts ids fs f p)
-        outside f p (inl (q, h)) = (subst (IsLive fs) (sym q) facet_live, subst (λ x. pos 0 <ℤ x) (λ i. height_at pts ids fs (sym q i) (sym h i)) seen)
+        outside : (f p : ℕ) → ((f ≡ a.facet) × (p ≡ o)) ⊎ In p (set_of v f) → IsLive fs f × (pos 0 <ℤ height_at pts fs f p)
+        outside f p (inl (q, h)) = (subst (IsLive fs) (sym q) facet_live, subst (λ x. pos 0 <ℤ x) (λ i. height_at pts fs (sym q i) (sym h i)) seen)
         outside f p (inr h) = k.outside f p h
 
         waits : (f p : ℕ) → ((f ≡ a.facet) × (p ≡ o)) ⊎ In p (set_of v f) → Names pending f ⊎ Names made f
@@ -185,15 +184,15 @@ one_settled pts ids fs ps points v w pending made o e live planes within first l
                 (joined_keeps a.in_front (slice_index v.orphans 0) p (set_of v a.facet) (subst (λ n. In p (set_of v n)) q i)))
             cases (inr n) = into f p (write_keeps v.sets a.facet (joined a.in_front (slice_index v.orphans 0) (set_of v a.facet)) f p n i)
 
-        all : (p : ℕ) → In p v.orphans ⊎ IsOutside v p ⊎ IsDone pts ids fs p → In p w.orphans ⊎ IsOutside w p ⊎ IsDone pts ids fs p
+        all : (p : ℕ) → In p v.orphans ⊎ IsOutside v p ⊎ IsDone pts fs p → In p w.orphans ⊎ IsOutside w p ⊎ IsDone pts fs p
         all p (inl i) = cases (first_or p i)
           where
-            cases : (p ≡ o) ⊎ In p w.orphans → In p w.orphans ⊎ IsOutside w p ⊎ IsDone pts ids fs p
+            cases : (p ≡ o) ⊎ In p w.orphans → In p w.orphans ⊎ IsOutside w p ⊎ IsDone pts fs p
             cases (inl h) = inr (inl (subst (IsOutside w) (sym h) first_out))
             cases (inr h) = inl h
         all p (inr (inl (f, i))) = inr (inl (still f p i))
         all p (inr (inr h)) = inr (inr h)
 
-    by : IsDropped ps points made v w ⊎ IsAssigned ps points made v w → IsSettling pts ids fs w pending made
+    by : IsDropped ps pts made v w ⊎ IsAssigned ps pts made v w → IsSettling pts fs w pending made
     by (inl d) = dropped d
     by (inr a) = assigned a

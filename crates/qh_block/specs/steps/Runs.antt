@@ -1,9 +1,9 @@
--- A run of Quickhull over the points of ids: what holds between two rounds, and within a round.
+-- A run of Quickhull over a list of points, each known by its position: what holds between two rounds, and within a round.
 -- Source: Barber, Dobkin and Huhdanpaa 1996 (outside sets, the horizon, the cone of new facets).
-use Rattle.std.specs.Prelude.{◌≡◌, ℕ, ◌<◌, ◌≤◌, ◌⊎◌, List, [], length, slice_index, ℤ, pos, ◌≤ℤ◌, ◌<ℤ◌}
+use Rattle.std.specs.Prelude.{◌≡◌, ℕ, ◌<◌, ◌≤◌, ◌⊎◌, List, [], length, ℤ, pos, ◌≤ℤ◌, ◌<ℤ◌}
 use Rattle.qh_model.specs.headline.Vector.{Vector}
 use Rattle.qh_model.specs.headline.Predicates.{vol, place}
-use Rattle.qh_model.specs.headline.Sets.{In, Members}
+use Rattle.qh_model.specs.headline.Sets.{In}
 use Rattle.qh_model.specs.contract.FinishedSurface.{middle_at}
 use Rattle.qh_model.specs.contract.StoredSurface.{StoredFacet, facet_at}
 use Rattle.qh_pred.specs.contract.Planes.{PlaneValue, height}
@@ -14,12 +14,12 @@ use Rattle.qh_block.specs.steps.Planes.{plane_at, ArePlanes}
 use Rattle.qh_block.specs.steps.OutsideSets.{OutsideValue, set_of}
 
 -- six times the volume of facet f and the point at position p: above 0 where the facet strictly sees it
-abbrev pub height_at : List Vector → List ℕ → List StoredFacet → ℕ → ℕ → ℤ
-height_at pts ids fs f p = facet_vol (place pts) fs f (place pts (slice_index ids p))
+abbrev pub height_at : List Vector → List StoredFacet → ℕ → ℕ → ℤ
+height_at pts fs f p = facet_vol (place pts) fs f (place pts p)
 
 -- no facet sees the point at position p
-abbrev pub IsDone : List Vector → List ℕ → List StoredFacet → ℕ → Type 0
-IsDone pts ids fs p = (f : ℕ) → IsLive fs f → height_at pts ids fs f p ≤ℤ pos 0
+abbrev pub IsDone : List Vector → List StoredFacet → ℕ → Type 0
+IsDone pts fs p = (f : ℕ) → IsLive fs f → height_at pts fs f p ≤ℤ pos 0
 
 -- the list names facet f
 abbrev pub Names : List FacetNo → ℕ → Type 0
@@ -34,76 +34,72 @@ abbrev pub IsOutside : OutsideValue → ℕ → Type 0
 IsOutside v p = (f : ℕ) × In p (set_of v f)
 
 -- the points of each outside set are above its facet, which is live
-abbrev pub AreOutside : List Vector → List ℕ → List StoredFacet → OutsideValue → Type 0
-AreOutside pts ids fs v = (f p : ℕ) → In p (set_of v f) → IsLive fs f × (pos 0 <ℤ height_at pts ids fs f p)
-
--- the corners of each facet are ids
-abbrev pub HasCornersIn : List ℕ → List StoredFacet → Type 0
-HasCornersIn ids fs = (f : ℕ) → IsLive fs f → In (facet_at fs f).i ids × In (facet_at fs f).j ids × In (facet_at fs f).k ids
+abbrev pub AreOutside : List Vector → List StoredFacet → OutsideValue → Type 0
+AreOutside pts fs v = (f p : ℕ) → In p (set_of v f) → IsLive fs f × (pos 0 <ℤ height_at pts fs f p)
 
 -- the corners of each facet are below n
 abbrev pub HasCornersBelow : ℕ → List StoredFacet → Type 0
 HasCornersBelow n fs = (f : ℕ) → IsLive fs f → ((facet_at fs f).i < n) × ((facet_at fs f).j < n) × ((facet_at fs f).k < n)
 
--- a mesh over the ids that is sound around the middle of four of them, and closed
-pub record IsGrown (pts : List Vector) (ids : List ℕ) (fs : List StoredFacet) : Type 0 where
+-- a mesh over the points that is sound around the middle of four of them, and closed
+pub record IsGrown (pts : List Vector) (fs : List StoredFacet) : Type 0 where
   pub s : ℕ
   pub t : ℕ
   pub u : ℕ
   pub v : ℕ
-  pub has_s : Members ids s
-  pub has_t : Members ids t
-  pub has_u : Members ids u
-  pub has_v : Members ids v
+  pub s_in : s < length pts
+  pub t_in : t < length pts
+  pub u_in : u < length pts
+  pub v_in : v < length pts
   pub volume : vol (place pts s) (place pts t) (place pts u) (place pts v) <ℤ pos 0
   pub sound : IsSoundMesh (place pts) fs (middle_at (place pts) s t u v)
   pub closed : IsClosedMesh (place pts) fs
-  pub corners : HasCornersIn ids fs
+  pub corners : HasCornersBelow (length pts) fs
 
 -- between rounds: each point stands in the outside set of a facet that it is above, and that waits for its turn,
 -- or no facet sees it
-pub record IsUnderWay (pts : List Vector) (ids : List ℕ) (fs : List StoredFacet) (ps : List PlaneValue) (v : OutsideValue) (pending : List FacetNo) : Type 0 where
-  pub grown : IsGrown pts ids fs
+pub record IsUnderWay (pts : List Vector) (fs : List StoredFacet) (ps : List PlaneValue) (v : OutsideValue) (pending : List FacetNo) : Type 0 where
+  pub grown : IsGrown pts fs
   pub planes : ArePlanes (place pts) fs ps
-  pub positions : v.positions ≡ length ids
+  pub positions : v.positions ≡ length pts
   pub places : length fs ≤ length v.sets
   pub range : AreWithin (length v.sets) pending
-  pub outside : AreOutside pts ids fs v
+  pub outside : AreOutside pts fs v
   pub none : v.orphans ≡ []
   pub waits : (f p : ℕ) → In p (set_of v f) → Names pending f
-  pub all : (p : ℕ) → p < length ids → IsOutside v p ⊎ IsDone pts ids fs p
+  pub all : (p : ℕ) → p < length pts → IsOutside v p ⊎ IsDone pts fs p
 
 -- the position a was taken out of the outside set of facet f, to be the next apex
-pub record IsPicked (pts : List Vector) (ids : List ℕ) (fs : List StoredFacet) (ps : List PlaneValue) (v : OutsideValue) (pending : List FacetNo) (f a : ℕ) : Type 0 where
-  pub grown : IsGrown pts ids fs
+pub record IsPicked (pts : List Vector) (fs : List StoredFacet) (ps : List PlaneValue) (v : OutsideValue) (pending : List FacetNo) (f a : ℕ) : Type 0 where
+  pub grown : IsGrown pts fs
   pub planes : ArePlanes (place pts) fs ps
-  pub positions : v.positions ≡ length ids
+  pub positions : v.positions ≡ length pts
   pub places : length fs ≤ length v.sets
   pub range : AreWithin (length v.sets) pending
-  pub outside : AreOutside pts ids fs v
+  pub outside : AreOutside pts fs v
   pub none : v.orphans ≡ []
   pub waits : (g p : ℕ) → In p (set_of v g) → Names pending g ⊎ (g ≡ f)
-  pub all : (p : ℕ) → p < length ids → IsOutside v p ⊎ IsDone pts ids fs p ⊎ (p ≡ a)
-  pub apex : a < length ids
+  pub all : (p : ℕ) → p < length pts → IsOutside v p ⊎ IsDone pts fs p ⊎ (p ≡ a)
+  pub apex : a < length pts
   pub live : IsLive fs f
-  pub seen : pos 0 <ℤ height_at pts ids fs f a
+  pub seen : pos 0 <ℤ height_at pts fs f a
 
 -- while the orphans go to the facets that were made: an orphan that sees none of these sees no facet
-pub record IsSettling (pts : List Vector) (ids : List ℕ) (fs : List StoredFacet) (v : OutsideValue) (pending made : List FacetNo) : Type 0 where
-  pub outside : AreOutside pts ids fs v
+pub record IsSettling (pts : List Vector) (fs : List StoredFacet) (v : OutsideValue) (pending made : List FacetNo) : Type 0 where
+  pub outside : AreOutside pts fs v
   pub waits : (f p : ℕ) → In p (set_of v f) → Names pending f ⊎ Names made f
-  pub all : (p : ℕ) → p < length ids → In p v.orphans ⊎ IsOutside v p ⊎ IsDone pts ids fs p
-  pub drops : (p : ℕ) → In p v.orphans → ((j : ℕ) → j < length made → height_at pts ids fs (number made j) p ≤ℤ pos 0) → IsDone pts ids fs p
+  pub all : (p : ℕ) → p < length pts → In p v.orphans ⊎ IsOutside v p ⊎ IsDone pts fs p
+  pub drops : (p : ℕ) → In p v.orphans → ((j : ℕ) → j < length made → height_at pts fs (number made j) p ≤ℤ pos 0) → IsDone pts fs p
 
 -- the plane at f is that of the facet
 abbrev pub IsPlaneOf : List Vector → List StoredFacet → List PlaneValue → ℕ → Type 0
 IsPlaneOf pts fs ps f = (f < length ps) × ((p : Vector) → height (plane_at ps f) p ≡ facet_vol (place pts) fs f p)
 
 -- facets were made that have no plane and no outside set yet
-pub record IsRemade (pts : List Vector) (ids : List ℕ) (fs : List StoredFacet) (ps : List PlaneValue) (v : OutsideValue) (pending made : List FacetNo) : Type 0 where
-  pub grown : IsGrown pts ids fs
+pub record IsRemade (pts : List Vector) (fs : List StoredFacet) (ps : List PlaneValue) (v : OutsideValue) (pending made : List FacetNo) : Type 0 where
+  pub grown : IsGrown pts fs
   pub planes : (f : ℕ) → IsLive fs f → IsPlaneOf pts fs ps f ⊎ Names made f
   pub made_live : (j : ℕ) → j < length made → IsLive fs (number made j)
-  pub positions : v.positions ≡ length ids
+  pub positions : v.positions ≡ length pts
   pub range : AreWithin (length v.sets) pending
-  pub settling : IsSettling pts ids fs v pending made
+  pub settling : IsSettling pts fs v pending made

@@ -1,6 +1,6 @@
 -- First simplexes of runs.
 -- Source: Barber, Dobkin and Huhdanpaa 1996.
-use Rattle.std.specs.Prelude.{◌≢◌, ℕ, pos, List}
+use Rattle.std.specs.Prelude.{◌≡◌, ◌≢◌, ℕ, ◌<◌, pos, List, length, slice_index}
 use Rattle.qh_model.specs.headline.Vector.{Vector}
 use Rattle.qh_model.specs.headline.Predicates.{place, vol}
 use Rattle.qh_model.specs.headline.Sets.{Members}
@@ -13,3 +13,22 @@ pub record IsSimplexOf (pts : List Vector) (ids : List ℕ) (s : Simplex) : Type
   pub has_k : Members ids s.k
   pub has_l : Members ids s.l
   pub volume : vol (place pts s.i) (place pts s.j) (place pts s.k) (place pts s.l) ≢ pos 0
+
+-- four positions of a list of points that are not in one plane
+pub record IsSimplexIn (points : List Vector) (s : Simplex) : Type 0 where
+  pub i_in : s.i < length points
+  pub j_in : s.j < length points
+  pub k_in : s.k < length points
+  pub l_in : s.l < length points
+  pub volume : vol (place points s.i) (place points s.j) (place points s.k) (place points s.l) ≢ pos 0
+
+-- p is a position of the list at which the id stands
+abbrev pub IsPositionOf : List ℕ → ℕ → ℕ → Type 0
+IsPositionOf ids id p = (p < length ids) × (slice_index ids p ≡ id)
+
+-- and so for four ids
+pub record ArePositionsOf (ids : List ℕ) (of s : Simplex) : Type 0 where
+  pub i_is : IsPositionOf ids of.i s.i
+  pub j_is : IsPositionOf ids of.j s.j
+  pub k_is : IsPositionOf ids of.k s.k
+  pub l_is : IsPositionOf ids of.l s.l

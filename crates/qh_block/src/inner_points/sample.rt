@@ -1,5 +1,6 @@
 //! The hull of a few ids of a set, spread over it, as planes.
-ghost use Rattle.std.specs.Prelude.{◌<◌, ℕ, IfOk, IfSome, length};
+ghost use Rattle.std.specs.Prelude.{◌<◌, ℕ, IfOk, IfSome, IsTrue, length};
+ghost use Rattle.std.specs.List.Sorted.{IsStrictlyIncreasing};
 ghost use Rattle.qh_model.specs.headline.Sets.{In};
 ghost use Rattle.qh_model.specs.contract.IdSets.{AreIndices};
 ghost use Rattle.qh_block.specs.steps.InnerPoints.{HasPlanes, AreInner};
@@ -43,7 +44,19 @@ fn planes_of(alloc: Global, pts: &[Point], mesh: &Mesh) -> Result<Vec<Plane>, Al
     Ok(planes)
 }
 
-/// The columns inside the hull of a sample; none where it lies in a plane, or where it has facets so many
+/// Whether each id is above the one before.
+fn rise(ids: &[Id]) -> bool
+    ensures { IsTrue result → IsStrictlyIncreasing ids.now }
+{
+    for at in 1..ids.len() {
+        if ids[at - 1] >= ids[at] {
+            return false;
+        }
+    }
+    true
+}
+
+/// The columns inside the hull of a sample; none where it lies in a plane or does not rise, or where it has facets so many
 /// that few ids can be inside.
 pub fn inner_columns(alloc: Global, pts: &[Point], sample: &[Id]) -> Result<Option<Columns>, Memory>
     requires some { 0 < length sample.now }
@@ -53,6 +66,9 @@ pub fn inner_columns(alloc: Global, pts: &[Point], sample: &[Id]) -> Result<Opti
     let Shape::Solid(i, j, k, l) = rank(pts, sample) else {
         return Ok(None);
     };
+    if !rise(sample) {
+        return Ok(None);
+    }
     let mesh = solid_mesh(alloc, pts, sample, i, j, k, l)?;
     let planes = planes_of(alloc, pts, &mesh)?;
     if planes.len() > sample.len() {

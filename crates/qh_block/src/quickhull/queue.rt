@@ -34,10 +34,10 @@ pub fn enqueue(
 /// Facets without one are passed over.
 pub fn next_apex(pending: &mut Vec<FacetNo>, sets: &mut OutsideSets) -> Option<(FacetNo, u32)>
     requires { AreWithin (length sets.old.sets) pending.old.items }
-    ensures done { IfNone result ((pts : List Vector) (ids : List ℕ) (fs : List StoredFacet) (ps : List PlaneValue)
-        → IsUnderWay pts ids fs ps sets.old pending.old.items → (p : ℕ) → p < length ids → IsDone pts ids fs p) }
-    ensures picked { IfSome result (λ next. (pts : List Vector) (ids : List ℕ) (fs : List StoredFacet) (ps : List PlaneValue)
-        → IsUnderWay pts ids fs ps sets.old pending.old.items → IsPicked pts ids fs ps sets.new pending.new.items (next.0).0 next.1) }
+    ensures done { IfNone result ((pts : List Vector) (fs : List StoredFacet) (ps : List PlaneValue)
+        → IsUnderWay pts fs ps sets.old pending.old.items → (p : ℕ) → p < length pts → IsDone pts fs p) }
+    ensures picked { IfSome result (λ next. (pts : List Vector) (fs : List StoredFacet) (ps : List PlaneValue)
+        → IsUnderWay pts fs ps sets.old pending.old.items → IsPicked pts fs ps sets.new pending.new.items (next.0).0 next.1) }
     ensures listed { IfSome result (λ _. listed sets.new + 1 ≡ listed sets.old) }
 {
     while let Some(facet) = pending.pop() {

@@ -133,9 +133,8 @@ pub fn settle_orphans(
     requires places { AreWithin (length sets.old.sets) made.now }
     requires ring { AreWedges planes.now made.now ring.now.apex ring.now.wedges.items }
     ensures none { sets.new.orphans ≡ [] }
-    ensures settled { (pts : List Vector) (ids : List ℕ) (fs : List StoredFacet) (pending : List FacetNo) → points.now ≡ map (place pts) ids
-        → ((j : ℕ) → j < length made.now → IsLive fs (number made.now j)) → ArePlanes (place pts) fs planes.now
-        → IsSettling pts ids fs sets.old pending made.now → IsSettling pts ids fs sets.new pending made.now }
+    ensures settled { (fs : List StoredFacet) (pending : List FacetNo) → ((j : ℕ) → j < length made.now → IsLive fs (number made.now j)) → ArePlanes (place points.now) fs planes.now
+        → IsSettling points.now fs sets.old pending made.now → IsSettling points.now fs sets.new pending made.now }
     ensures places { length sets.new.sets ≡ length sets.old.sets }
     ensures positions { sets.new.positions ≡ sets.old.positions }
     ensures listed { listed sets.new ≤ listed sets.old }

@@ -1,7 +1,8 @@
 //! The surface of a solid set.
-ghost use Rattle.std.specs.Prelude.{◌≡◌, ◌≢◌, ℕ, pos, IfOk};
-ghost use Rattle.qh_model.specs.headline.Predicates.{place, vol};
-ghost use Rattle.qh_model.specs.headline.Sets.{Members};
+ghost use Rattle.std.specs.Prelude.{◌≡◌, ℕ, IfOk, length, map};
+ghost use Rattle.std.specs.List.{range_with_len};
+ghost use Rattle.qh_model.specs.headline.Predicates.{place};
+ghost use Rattle.qh_model.specs.headline.Sets.{Members, Once};
 ghost use Rattle.qh_model.specs.contract.IdSets.{IsIdSet};
 ghost use Rattle.qh_model.specs.headline.Dimension.{IsDimension};
 ghost use Rattle.qh_model.specs.headline.SupportingPlane.{IsSupportingTriple};
@@ -10,6 +11,8 @@ ghost use Rattle.qh_model.specs.contract.StoredSurface.{facet_at, surface_of};
 ghost use Rattle.qh_mesh.specs.contract.Replacement.{IsLive};
 ghost use Rattle.qh_mesh.specs.contract.SoundMesh.{IsClosedMesh};
 ghost use Rattle.qh_model.specs.contract.IdSets.{AreIndices};
+ghost use Rattle.qh_block.specs.steps.PlaneWalks.{AreCornersBelow};
+ghost use Rattle.qh_block.specs.steps.Simplexes.{IsSimplexOf, IsPositionOf, ArePositionsOf};
 
 use crate::quickhull::far_simplex::{Simplex, far_simplex};
 use crate::quickhull::near_order::near_order;
@@ -17,33 +20,87 @@ use crate::quickhull::run::Run;
 use qh_mesh::Mesh;
 use qh_model::{Id, Memory, Point};
 use qh_plane::{Shape, rank};
+use qh_pred::point_at;
 use std::alloc::Global;
 
 /// From so many ids on, a run takes them in an order that keeps near points together.
 const LARGE: usize = 16384;
 
-/// The surface of a set by a run over its ids as they come.
-fn surface_along(
+/// The points of ids, in their order.
+fn points_of(alloc: Global, pts: &[Point], ids: &[Id]) -> Result<Vec<Point>, Memory>
+    requires { AreIndices pts.now ids.now }
+    ensures { IfOk result (λ v. v.items ≡ map (place pts.now) ids.now) }
+{
+    let mut points = Vec::with_capacity(alloc, ids.len())?;
+    for id in ids {
+        points.push(point_at(pts, *id))?;
+    }
+    Ok(points)
+}
+
+/// The position of an id in a list that has it.
+///
+/// `Err` says that positions have no numbers of 32 bits.
+fn position_of(ids: &[Id], id: Id) -> Result<Id, Memory>
+    requires { Members ids.now id }
+    ensures { IfOk result (λ p. IsPositionOf ids.now id p) }
+{
+    let Ok(count) = u32::try_from(ids.len()) else {
+        return Err(Memory);
+    };
+    for position in 0..count {
+        if ids[position as usize] == id {
+            return Ok(Id::new(position));
+        }
+    }
+    unreachable!()
+}
+
+/// The positions of a first simplex in a list that has its corners.
+fn positions_of(ids: &[Id], first: Simplex) -> Result<Simplex, Memory>
+    requires i { Members ids.now first.i }
+    requires j { Members ids.now first.j }
+    requires k { Members ids.now first.k }
+    requires l { Members ids.now first.l }
+    ensures { IfOk result (λ s. ArePositionsOf ids.now first s) }
+{
+    Ok(Simplex {
+        i: position_of(ids, first.i)?,
+        j: position_of(ids, first.j)?,
+        k: position_of(ids, first.k)?,
+        l: position_of(ids, first.l)?,
+    })
+}
+
+/// A run over the points of ids, done: the corners of its surface are positions of the ids.
+pub(super) fn run_over(
     alloc: Global,
     pts: &[Point],
     ids: &[Id],
-    i: Id,
-    j: Id,
-    k: Id,
-    l: Id,
-) -> Result<Mesh, Memory>
+    first: Simplex,
+) -> Result<Run, Memory>
     requires indices { AreIndices pts.now ids.now }
-    requires has_i { Members ids.now i }
-    requires has_j { Members ids.now j }
-    requires has_k { Members ids.now k }
-    requires has_l { Members ids.now l }
-    requires volume { vol (place pts.now i) (place pts.now j) (place pts.now k) (place pts.now l) ≢ pos 0 }
-    ensures finished { IfOk result (λ m. IsFinished (place pts.now) ids.now (surface_of m)) }
-    ensures closed { IfOk result (λ m. IsClosedMesh (place pts.now) m) }
+    requires first { IsSimplexOf pts.now ids.now first }
+    ensures { IfOk result (λ r. IsFinished (place (map (place pts.now) ids.now)) (range_with_len 0 (length ids.now)) (surface_of r.mesh)) }
 {
-    let mut run = Run::start(alloc, pts, ids, i, j, k, l)?;
-    run.finish(alloc, pts, ids)?;
-    Ok(run.mesh)
+    let points = points_of(alloc, pts, ids)?;
+    let first = positions_of(ids, first)?;
+    let mut run = Run::start(alloc, points, first)?;
+    run.finish(alloc)?;
+    Ok(run)
+}
+
+/// The surface of a set by a run over its ids as they come.
+fn surface_along(alloc: Global, pts: &[Point], ids: &[Id], first: Simplex) -> Result<Mesh, Memory>
+    requires indices { AreIndices pts.now ids.now }
+    requires first { IsSimplexOf pts.now ids.now first }
+    ensures finished { IfOk result (λ m. Once ids.now → IsFinished (place pts.now) ids.now (surface_of m)) }
+    ensures corners { IfOk result (λ m. AreCornersBelow (length pts.now) m) }
+{
+    let run = run_over(alloc, pts, ids, first)?;
+    let mut mesh = run.mesh;
+    mesh.name_corners(ids);
+    Ok(mesh)
 }
 
 /// The surface of a set from a first simplex: four of its ids whose points are not in one plane.
@@ -51,26 +108,19 @@ pub(crate) fn surface_from(
     alloc: Global,
     pts: &[Point],
     ids: &[Id],
-    i: Id,
-    j: Id,
-    k: Id,
-    l: Id,
+    first: Simplex,
 ) -> Result<Mesh, Memory>
     requires indices { AreIndices pts.now ids.now }
-    requires has_i { Members ids.now i }
-    requires has_j { Members ids.now j }
-    requires has_k { Members ids.now k }
-    requires has_l { Members ids.now l }
-    requires volume { vol (place pts.now i) (place pts.now j) (place pts.now k) (place pts.now l) ≢ pos 0 }
-    ensures finished { IfOk result (λ m. IsFinished (place pts.now) ids.now (surface_of m)) }
-    ensures closed { IfOk result (λ m. IsClosedMesh (place pts.now) m) }
+    requires first { IsSimplexOf pts.now ids.now first }
+    ensures finished { IfOk result (λ m. Once ids.now → IsFinished (place pts.now) ids.now (surface_of m)) }
+    ensures corners { IfOk result (λ m. AreCornersBelow (length pts.now) m) }
 {
-    let far = far_simplex(pts, ids, Simplex { i, j, k, l });
+    let far = far_simplex(pts, ids, first);
     if ids.len() < LARGE {
-        return surface_along(alloc, pts, ids, far.i, far.j, far.k, far.l);
+        return surface_along(alloc, pts, ids, far);
     }
     let near = near_order(alloc, pts, ids)?;
-    surface_along(alloc, pts, &near, far.i, far.j, far.k, far.l)
+    surface_along(alloc, pts, &near, far)
 }
 
 /// The surface of the hull of a set of dimension 3, by Quickhull: a closed surface of triangles over
@@ -98,5 +148,5 @@ pub fn surface(alloc: Global, pts: &[Point], ids: &[Id]) -> Result<Mesh, Memory>
     let Shape::Solid(i, j, k, l) = rank(pts, ids) else {
         unreachable!();
     };
-    surface_from(alloc, pts, ids, i, j, k, l)
+    surface_from(alloc, pts, ids, Simplex { i, j, k, l })
 }

@@ -1,6 +1,6 @@
-use Rattle.std.proofs.Common.{List, ℕ, length, sym, subst}
+use Rattle.std.proofs.Common.{sym, subst}
 use Rattle.std.proofs.lemmas.Result.{IfOk-weaker}
-use Rattle.qh_model.specs.contract.IdSets.{AreIndices, IsIdSet}
+use Rattle.qh_model.specs.contract.IdSets.{AreIndices}
 use Rattle.qh_model.proofs.hulls.ExtremeParts.{part_indices, part_body}
 use Rattle.qh_block.specs.steps.InnerPoints.{IsOuterPart}
 use Rattle.qh_block.proofs.hulls.hull.Goals as goal

@@ -7,6 +7,7 @@ use Rattle.qh_model.specs.headline.Predicates.{place}
 use Rattle.qh_model.specs.headline.Sets.{Members}
 use Rattle.qh_model.specs.contract.StoredSurface.{surface_of}
 use Rattle.qh_block.specs.steps.FlatBodies.{point_body}
+use Rattle.qh_model.proofs.Members.{rising_once}
 use Rattle.qh_block.proofs.flats.Bodies.{point_is_body}
 use Rattle.qh_block.proofs.hulls.hull_of_all.Goals as goal
 
@@ -21,4 +22,4 @@ returns-in_ok-mesh-in-Solid c =
     let pts = c.args.pts.now in let ids = c.args.ids.now in
     IfOk-weaker c.solid_body.result
     (λ (b : BodyValue). (ids : List ℕ) → IsIdSet pts ids → IsFinished (place pts) ids (surface_of c.in_ok-mesh-in-Solid.mesh) → IsBody (place pts) (Members ids) b) (λ (b : BodyValue). IsIdSet pts ids → IsBody (place pts) (Members ids) b)
-    (λ b h s. h ids s c.in_ok-mesh-in-Solid.ensures.finished) c.solid_body.ensures
+    (λ b h s. h ids s (c.in_ok-mesh-in-Solid.ensures.finished (rising_once ids s.rising))) c.solid_body.ensures

@@ -5,7 +5,8 @@ ghost use Rattle.qh_model.specs.contract.IdSets.{IsIdSet};
 ghost use Rattle.qh_model.specs.contract.IdSets.{AreIndices};
 
 use super::cones::point;
-use crate::quickhull::run::Run;
+use crate::quickhull::far_simplex::Simplex;
+use crate::quickhull::surfaces::run_over;
 use qh_model::{Id, Memory, POINT_LIMIT, Point};
 use qh_plane::{Shape, distinct, rank};
 use std::alloc::{AllocError, Global};
@@ -34,8 +35,7 @@ fn made_by_run(alloc: Global, pts: &[Point], ids: &[Id]) -> Result<Option<usize>
     let Shape::Solid(i, j, k, l) = rank(pts, ids) else {
         return Ok(None);
     };
-    let mut run = Run::start(alloc, pts, ids, i, j, k, l)?;
-    run.finish(alloc, pts, ids)?;
+    let run = run_over(alloc, pts, ids, Simplex { i, j, k, l })?;
     Ok(Some(run.made))
 }
 

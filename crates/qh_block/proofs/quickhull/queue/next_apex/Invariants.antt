@@ -1,4 +1,4 @@
-use Rattle.std.proofs.Common.{◌≡◌, ℕ, List, length}
+use Rattle.std.proofs.Common.{◌≡◌, List, length}
 use Rattle.qh_model.specs.headline.Vector.{Vector}
 use Rattle.qh_model.specs.contract.StoredSurface.{StoredFacet}
 use Rattle.qh_pred.specs.contract.Planes.{PlaneValue}
@@ -9,7 +9,7 @@ abbrev pub invariant-loop-facet : goal.invariant-loop-facet
 invariant-loop-facet l = record {
   within : AreWithin (length l.sets.sets) l.pending.items;
   same : l.sets ≡ l.initial.sets;
-  under_way : (pts : List Vector) (ids : List ℕ) (fs : List StoredFacet) (ps : List PlaneValue) → IsUnderWay pts ids fs ps l.initial.sets l.initial.pending.items → IsUnderWay pts ids fs ps l.sets l.pending.items;
+  under_way : (pts : List Vector) (fs : List StoredFacet) (ps : List PlaneValue) → IsUnderWay pts fs ps l.initial.sets l.initial.pending.items → IsUnderWay pts fs ps l.sets l.pending.items;
 }
 
 abbrev pub decreases-loop-facet : goal.decreases-loop-facet

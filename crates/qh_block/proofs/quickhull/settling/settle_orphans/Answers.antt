@@ -1,6 +1,4 @@
-use Rattle.std.proofs.Common.{◌∙◌, ap, sym, subst, length, arith}
-use Rattle.std.proofs.lemmas.List.{length-map}
-use Rattle.qh_model.specs.headline.Predicates.{place}
+use Rattle.std.proofs.Common.{◌∙◌, sym, subst, arith}
 use Rattle.qh_block.specs.steps.Runs.{AreWithin}
 use Rattle.qh_block.proofs.runs.SettledOrphans.{one_settled}
 use Rattle.qh_block.proofs.quickhull.settling.settle_orphans.Goals as goal
@@ -12,10 +10,9 @@ loop-orphan-preserved c =
       places = c.settle_orphan.ensures.places ∙ c.loop-orphan.invariant.places;
       positions = c.settle_orphan.ensures.positions ∙ c.loop-orphan.invariant.positions;
       fewer = omega (arith, c.settle_orphan.ensures.listed, c.loop-orphan.invariant.fewer);
-      settled = λ pts ids fs pending same live planes k.
-          one_settled pts ids fs c.args.planes.now c.args.points.now c.loop-orphan.sets c.settle_orphan.new.sets pending c.args.made.now c.in-Some.orphan same live planes
+      settled = λ fs pending live planes k.
+          one_settled c.args.points.now fs c.args.planes.now c.loop-orphan.sets c.settle_orphan.new.sets pending c.args.made.now c.in-Some.orphan live planes
           (subst (λ n. AreWithin n c.args.made.now) (sym c.loop-orphan.invariant.places) c.requires.places)
           c.in-Some.ensures.first
-          (let n = length-map ids (place pts) in let p = ap length same in let q = c.in-Some.ensures.position in omega (arith, n, p, q, c.requires.points, c.loop-orphan.invariant.positions))
-          c.settle_orphan.ensures.settled (c.loop-orphan.invariant.settled pts ids fs pending same live planes k);
+          c.settle_orphan.ensures.settled (c.loop-orphan.invariant.settled fs pending live planes k);
     }

@@ -1,5 +1,4 @@
-use Rattle.std.proofs.Common.{◌≡◌, ◌<◌, ◌≤◌, ℕ, List, length, map}
-use Rattle.qh_model.specs.headline.Vector.{Vector}
+use Rattle.std.proofs.Common.{◌≡◌, ◌<◌, ◌≤◌, ℕ, List, length}
 use Rattle.qh_model.specs.headline.Predicates.{place}
 use Rattle.qh_model.specs.contract.StoredSurface.{StoredFacet}
 use Rattle.qh_mesh.specs.declared.facets.FacetNo.{FacetNo}
@@ -14,9 +13,8 @@ invariant-loop-orphan l = record {
   places : length l.sets.sets ≡ length l.initial.sets.sets;
   positions : l.sets.positions ≡ l.initial.sets.positions;
   fewer : listed l.sets ≤ listed l.initial.sets;
-  settled : (pts : List Vector) (ids : List ℕ) (fs : List StoredFacet) (pending : List FacetNo) → l.points ≡ map (place pts) ids
-      → ((j : ℕ) → j < length l.made → IsLive fs (number l.made j)) → ArePlanes (place pts) fs l.planes
-      → IsSettling pts ids fs l.initial.sets pending l.made → IsSettling pts ids fs l.sets pending l.made;
+  settled : (fs : List StoredFacet) (pending : List FacetNo) → ((j : ℕ) → j < length l.made → IsLive fs (number l.made j)) → ArePlanes (place l.points) fs l.planes
+      → IsSettling l.points fs l.initial.sets pending l.made → IsSettling l.points fs l.sets pending l.made;
 }
 
 abbrev pub decreases-loop-orphan : goal.decreases-loop-orphan

@@ -1,9 +1,7 @@
-use Rattle.qh_plane.specs.contract.Shapes.{IsInLine, IsInPlane}
-use Rattle.qh_block.proofs.runs.FirstSimplexes.{first_not_in}
+use Rattle.qh_block.proofs.runs.FirstSimplexes.{simplex_is}
 use Rattle.qh_block.proofs.quickhull.tests.prisms.made_by_run.Goals as goal
 
-pub start-requires-clause-has_k : goal.start-requires-clause-has_k
-start-requires-clause-has_k c = first_not_in (IsInLine c.args.pts.now c.in-Solid.i c.in-Solid.j) c.args.ids.now c.in-Solid.k c.in-Solid.ensures.shape.1
-
-pub start-requires-clause-has_l : goal.start-requires-clause-has_l
-start-requires-clause-has_l c = first_not_in (IsInPlane c.args.pts.now c.in-Solid.i c.in-Solid.j c.in-Solid.k) c.args.ids.now c.in-Solid.l c.in-Solid.ensures.shape.2
+pub run_over-requires-clause-first : goal.run_over-requires-clause-first
+run_over-requires-clause-first c =
+    let shape = c.in-Solid.ensures.shape in
+    simplex_is c.args.pts.now c.args.ids.now c.in-Solid.i c.in-Solid.j c.in-Solid.k c.in-Solid.l shape.0 shape.1 shape.2
