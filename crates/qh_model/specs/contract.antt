@@ -5,7 +5,6 @@ pub mod ClosedSurface
 pub mod Cut
 pub mod FinishedSurface
 pub mod IdSets
-pub mod Names
 pub mod Places
 pub mod Rewired
 pub mod RightValue

@@ -10,10 +10,9 @@ use Rattle.qh_model.specs.headline.Predicates.{place, vol}
 use Rattle.qh_model.specs.headline.Sets.{In, Once, Members}
 use Rattle.qh_model.specs.contract.FinishedSurface.{IsFinished}
 use Rattle.qh_model.specs.contract.Surface.{Surface}
-use Rattle.qh_model.specs.contract.Names.{IsNamed}
+use Rattle.qh_model.proofs.surfaces.Named.{IsNamed, stored_named}
 use Rattle.qh_model.specs.contract.StoredSurface.{StoredFacet, named_facet, surface_of}
 use Rattle.qh_model.proofs.lists.Ranges.{range_below}
-use Rattle.qh_model.proofs.surfaces.Named.{stored_named}
 use Rattle.qh_model.proofs.surfaces.Stored.{live_is_marked}
 use Rattle.qh_mesh.specs.contract.Names.{name_in}
 use Rattle.qh_mesh.specs.contract.Replacement.{IsLive}

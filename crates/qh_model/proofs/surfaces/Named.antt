@@ -16,12 +16,25 @@ use Rattle.qh_model.specs.contract.Surface.Side.{first, second, third}
 use Rattle.qh_model.specs.contract.SoundSurface.{IsStrict, HasDistinctFacets, IsSound, towards, drawn}
 use Rattle.qh_model.specs.contract.FinishedSurface.{weighted_at, middle_at, IsFinished}
 use Rattle.qh_model.specs.contract.StoredSurface.{StoredFacet, named_facet, facet_at, live_from, surface_of}
-use Rattle.qh_model.specs.contract.Names.{IsNamed, IsNaming}
 use Rattle.qh_model.proofs.lists.Images.{in_map, of_map}
 use Rattle.qh_model.proofs.lists.Ranges.{range_below, range_named}
 use Rattle.qh_model.proofs.renamed.Positions.{number_at}
 use Rattle.qh_model.proofs.renamed.Renaming.{volume_as}
 use Rattle.qh_model.proofs.surfaces.Stored.{live_is_marked}
+
+-- m' is m with the names of its corners
+pub record IsNamed (m m' : Surface) (name : ℕ → ℕ) : Type 0 where
+  pub live : m'.live ≡ m.live
+  pub i_is : (f : ℕ) → In f m.live → m'.i f ≡ name (m.i f)
+  pub j_is : (f : ℕ) → In f m.live → m'.j f ≡ name (m.j f)
+  pub k_is : (f : ℕ) → In f m.live → m'.k f ≡ name (m.k f)
+  pub over_is : (f : ℕ) (s : Side) → In f m.live → m'.over f s ≡ m.over f s
+  pub back_is : (f : ℕ) (s : Side) → In f m.live → m'.back f s ≡ m.back f s
+
+-- the numbers below n have different names, since position leads back, and each name has its number's point
+pub record IsNaming (at at' : ℕ → Vector) (n : ℕ) (name position : ℕ → ℕ) : Type 0 where
+  pub back : (l : ℕ) → l < n → position (name l) ≡ l
+  pub point : (l : ℕ) → l < n → at' (name l) ≡ at l
 
 -- ---- the corners
 module _ {m m' : Surface} {name : ℕ → ℕ} (r : IsNamed m m' name) where
