@@ -1,10 +1,7 @@
 pub mod SegmentSteps
 pub mod flats
 pub mod finished
-pub mod ChainWrites
-pub mod HeldSets
-pub mod SetCalls
-pub mod NewSets
+pub mod outside_sets
 pub mod runs
 pub mod WalkSteps
 pub mod FoundFacets

@@ -1,16 +1,12 @@
 -- How outside sets are kept: chains of positions over one list of links.
-use Rattle.std.specs.Prelude.{◌≡◌, ℕ, zero, suc, ◌+◌, ◌<◌, ◌≤◌, List, [], ◌∷◌, length, map, cond, nat_lt, slice_index, slice_index_or}
-use Rattle.qh_model.specs.headline.Sets.{In, Once}
-use Rattle.qh_block.specs.steps.OutsideSets.{OutsideValue, set_of, listed}
+use Rattle.std.specs.Prelude.{◌≡◌, ℕ, zero, suc, ◌+◌, ◌<◌, ◌≤◌, List, [], ◌∷◌, length, map, cond, nat_eq, nat_lt, slice_index}
+use Rattle.std.specs.List.{sum_by}
+use Rattle.qh_block.specs.steps.OutsideSets.{OutsideValue}
 use Rattle.qh_block.specs.declared.quickhull.outside_sets.Ends.{Ends}
 
 -- the number of no position
 abbrev pub none : ℕ
 none = 4294967295
-
--- the ends at a place
-abbrev pub ends_at : List Ends → ℕ → Ends
-ends_at es f = slice_index_or es f (record { first = 4294967295; last = 4294967295 })
 
 -- the first n positions of the chain from p on: it ends at a number that is no position
 unfoldable pub chain_from : List ℕ → ℕ → ℕ → List ℕ
@@ -37,19 +33,29 @@ IsLast [] l = Unit {0}
 IsLast (x ∷ []) l = l ≡ x
 IsLast (x ∷ y ∷ ys) l = IsLast (y ∷ ys) l
 
--- the list is the chain from p on, has each position once, and only positions that k owns
-pub record IsHeld (links : List ℕ) (owner : ℕ → ℕ) (k p : ℕ) (xs : List ℕ) : Type 0 where
-  pub chain : IsChain links p xs
-  pub once : Once xs
-  pub owns : (x : ℕ) → In x xs → owner x ≡ k
+-- the list is the chain between the ends
+abbrev pub IsSet : List ℕ → Ends → List ℕ → Type 0
+IsSet links e xs = IsChain links e.first xs × IsLast xs e.last
 
--- links, ends and a first orphan hold the lists of v: the orphans are owned by 0, the set at place f by f + 1
-pub record IsKept (links : List ℕ) (es : List Ends) (orphan : ℕ) (v : OutsideValue) : Type 0 where
+-- each list is the chain between its ends
+pub data AreSets (links : List ℕ) : List Ends → List (List ℕ) → Type 0 where
+  no_sets : AreSets links [] []
+  one_more : {e : Ends} {es : List Ends} {xs : List ℕ} {xss : List (List ℕ)} → IsSet links e xs → AreSets links es xss
+      → AreSets links (e ∷ es) (xs ∷ xss)
+
+-- how often x stands in a list
+abbrev pub count : ℕ → List ℕ → ℕ
+count x [] = 0
+count x (y ∷ ys) = cond (nat_eq x y) 1 0 + count x ys
+
+-- links, ends and a first orphan hold these orphans and sets: no position stands in them twice
+pub record IsKept (links : List ℕ) (es : List Ends) (orphan : ℕ) (orphans : List ℕ) (sets : List (List ℕ)) : Type 0 where
   pub small : length links ≤ none
-  pub positions : v.positions ≡ length links
-  pub places : length v.sets ≡ length es
-  pub owner : ℕ → ℕ
-  pub orphans : IsHeld links owner 0 orphan v.orphans
-  pub sets : (f : ℕ) → IsHeld links owner (f + 1) (ends_at es f).first (set_of v f)
-  pub lasts : (f : ℕ) → IsLast (set_of v f) (ends_at es f).last
-  pub total : listed v ≤ length links
+  pub chain : IsChain links orphan orphans
+  pub sets_are : AreSets links es sets
+  pub once : (x : ℕ) → count x orphans + sum_by (count x) sets ≤ 1
+  pub total : length orphans + sum_by length sets ≤ length links
+
+-- they hold some
+abbrev pub AreKept : List ℕ → List Ends → ℕ → Type 0
+AreKept links es orphan = (orphans : List ℕ) × (sets : List (List ℕ)) × IsKept links es orphan orphans sets

@@ -73,11 +73,11 @@ impl Model for OutsideSets {
 
     ghost Value = { OutsideValue };
 
-    ghost use Rattle.qh_block.specs.steps.PositionChains.{value_of, IsKept};
+    ghost use Rattle.qh_block.specs.steps.PositionChains.{value_of, AreKept};
 
     ghost view = { λ s. value_of s.links.items s.ends.items s.orphan };
 
-    ghost invariant = { λ s. (v : OutsideValue) × IsKept s.links.items s.ends.items s.orphan v };
+    ghost invariant = { λ s. AreKept s.links.items s.ends.items s.orphan };
 }
 
 /// For each of so many positions the next number.
@@ -124,6 +124,7 @@ impl OutsideSets {
     /// and the orphans as they were.
     ///
     /// `Err` says that memory was refused: everything is as before.
+    #[tactic(auto, using(crate::proofs::outside_sets::Steps::field_facts))]
     pub fn make_room(&mut self, places: usize) -> Result<(), Memory>
         ensures sets { OnOk result (self.new.sets ≡ self.old.sets ++ replicate (places - length self.old.sets) []) }
         ensures places { OnOk result (places ≤ length self.new.sets) }
@@ -143,6 +144,7 @@ impl OutsideSets {
     }
 
     /// The number of places that have a set.
+    #[tactic(auto, using(crate::proofs::outside_sets::Steps::field_facts))]
     pub fn places(&self) -> usize
         ensures { result ≡ length self.now.sets }
     {
@@ -150,6 +152,7 @@ impl OutsideSets {
     }
 
     /// Whether the number is a position.
+    #[tactic(auto, using(crate::proofs::outside_sets::Steps::field_facts))]
     fn is_position(&self, position: u32) -> bool
         ensures { IsTrue result ↔ (position < self.now.positions) }
     {
@@ -157,6 +160,7 @@ impl OutsideSets {
     }
 
     /// The first orphan, if there is one.
+    #[tactic(auto, using(crate::proofs::outside_sets::Steps::field_facts))]
     pub fn first_orphan(&self) -> Option<u32>
         ensures none { IsNone result ↔ (self.now.orphans ≡ []) }
         ensures first { IfSome result (λ p. self.now.orphans ≡ p ∷ drop 1 self.now.orphans) }
@@ -170,6 +174,7 @@ impl OutsideSets {
     }
 
     /// Takes the first orphan out of all lists, for good.
+    #[tactic(auto, using(crate::proofs::outside_sets::Steps::field_facts))]
     pub fn drop_orphan(&mut self)
         requires { 0 < length self.old.orphans }
         ensures orphans { self.new.orphans ≡ drop 1 self.old.orphans }
@@ -199,6 +204,7 @@ impl OutsideSets {
     }
 
     /// Puts the first orphan in front of the outside set of a facet.
+    #[tactic(auto, using(crate::proofs::outside_sets::Steps::field_facts))]
     fn put_in_front(&mut self, facet: FacetNo)
         requires some { 0 < length self.old.orphans }
         requires place { facet.0 < length self.old.sets }
@@ -217,6 +223,7 @@ impl OutsideSets {
     }
 
     /// Puts the first orphan after the first position of the outside set of a facet, which has one.
+    #[tactic(auto, using(crate::proofs::outside_sets::Steps::field_facts))]
     fn put_second(&mut self, facet: FacetNo)
         requires some { 0 < length self.old.orphans }
         requires place { facet.0 < length self.old.sets }
@@ -236,6 +243,7 @@ impl OutsideSets {
     }
 
     /// The first position of the outside set of a facet, if it has one.
+    #[tactic(auto, using(crate::proofs::outside_sets::Steps::field_facts))]
     pub fn first(&self, facet: FacetNo) -> Option<u32>
         requires { facet.0 < length self.now.sets }
         ensures none { IsNone result ↔ (set_of self.now facet.0 ≡ []) }
@@ -252,6 +260,7 @@ impl OutsideSets {
 
     /// Takes the first position of the outside set of a facet out of all lists, for good, and answers
     /// it. An empty set stays so.
+    #[tactic(auto, using(crate::proofs::outside_sets::Steps::field_facts))]
     pub fn take_first(&mut self, facet: FacetNo) -> Option<u32>
         requires { facet.0 < length self.old.sets }
         ensures none { IsNone result ↔ (set_of self.old facet.0 ≡ []) }
@@ -270,6 +279,7 @@ impl OutsideSets {
 
     /// Makes the positions of the outside set of a facet orphans, in front of the others. The set is
     /// empty then.
+    #[tactic(auto, using(crate::proofs::outside_sets::Steps::field_facts))]
     pub fn release(&mut self, facet: FacetNo)
         requires { facet.0 < length self.old.sets }
         ensures orphans { self.new.orphans ≡ set_of self.old facet.0 ++ self.old.orphans }

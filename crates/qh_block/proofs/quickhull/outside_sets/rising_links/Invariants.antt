@@ -1,3 +1,4 @@
+-- Each link so far leads to the next position.
 use Rattle.std.proofs.Common.{◌≡◌, ◌+◌, ◌<◌, ◌≤◌, ℕ, get_or, vec_len, vec_capacity}
 use Rattle.qh_block.proofs.quickhull.outside_sets.rising_links.Given as goal
 

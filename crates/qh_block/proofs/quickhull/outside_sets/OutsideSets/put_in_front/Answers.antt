@@ -1,49 +1,22 @@
-use Rattle.std.proofs.Common.{◌∷◌, length-drop, drop, arith, ap, get_or, set}
-use Rattle.qh_block.specs.steps.OutsideSets.{OutsideValue, set_of, listed}
-use Rattle.qh_block.proofs.HeldSets.{value_kept, with_set, listed-with_set}
-use Rattle.qh_block.proofs.SetCalls.{place_in, orphan_in, after_front}
+-- The first orphan goes in front of a set.
+use Rattle.std.proofs.Common.{length-drop, length-set, arith}
+use Rattle.std.proofs.lemmas.Bool.{le-leb, lt-leb}
+use Rattle.qh_block.proofs.outside_sets.Steps.{kept_some, answered, put_front}
 use Rattle.qh_block.proofs.quickhull.outside_sets.OutsideSets.put_in_front.Goals as goal
 
-pub index-ends-requires : goal.index-ends-requires
-index-ends-requires c =
-    let h = place_in c.self.inside.links.items c.self.inside.ends.items c.self.inside.orphan c.args.self.now c.args.facet.0 (c.self.view_is, c.self.invariant) c.requires.place in
-    omega (arith, c.self.inside.ends.ok)
-
-pub index_mut-requires : goal.index_mut-requires
-index_mut-requires c =
-    let h = place_in c.self.inside.links.items c.self.inside.ends.items c.self.inside.orphan c.args.self.now c.args.facet.0 (c.self.view_is, c.self.invariant) c.requires.place in
-    omega (arith, c.self.inside.ends.ok)
-
-pub index-requires : goal.index-requires
-index-requires c =
-    let h = orphan_in c.self.inside.links.items c.self.inside.ends.items c.self.inside.orphan c.args.self.now (c.self.view_is, c.self.invariant) c.requires.some in
-    omega (arith, c.self.inside.links.ok)
-
-pub index_mut-requires-2 : goal.index_mut-requires-2
-index_mut-requires-2 c =
-    let h = orphan_in c.self.inside.links.items c.self.inside.ends.items c.self.inside.orphan c.args.self.now (c.self.view_is, c.self.invariant) c.requires.some in
-    omega (arith, c.self.inside.links.ok)
-
 pub invariant_of-self : goal.invariant_of-self
-invariant_of-self c = (with_set c.args.self.now (drop 1 c.args.self.now.orphans) c.args.facet.0 (get_or c.args.self.now.orphans 0 0 ∷ set_of c.args.self.now c.args.facet.0), after_front c.self.inside.links.items c.self.inside.ends.items c.self.inside.orphan c.index.result.now c.len.result c.args.self.now c.args.facet.0 c.index-ends.result.now c.with_front.result (c.self.view_is, c.self.invariant) c.requires.some c.requires.place c.index-ends.ensures c.index.ensures (omega (arith, c.self.inside.links.ok)) c.with_front.ensures.first c.with_front.ensures.last c.with_front.ensures.only)
+invariant_of-self c =
+    let n = c.self.inside.links.ok in
+    let w = c.with_front.ensures in
+    let k = kept_some c.self.invariant c.self.view_is c.requires.some in (
+      _,
+      _,
+      put_front k c.index.ensures c.requires.place c.index-ends.ensures _ w.first (λ h. w.only (le-leb _ _ (omega arith)))
+          (λ h. w.last (lt-leb _ _ (omega arith))),
+    )
 
-pub returns-clause-orphans : goal.returns-clause-orphans
+pub returns : goal.returns
 unfolding invariant_of-self
-returns-clause-orphans c = ap (λ (v : OutsideValue). v.orphans) (value_kept (set c.self.inside.links.items c.self.inside.orphan c.index-ends.result.now.first) (set c.self.inside.ends.items c.args.facet.0 c.with_front.result) c.index.result.now (with_set c.args.self.now (drop 1 c.args.self.now.orphans) c.args.facet.0 (get_or c.args.self.now.orphans 0 0 ∷ set_of c.args.self.now c.args.facet.0)) (invariant_of-self c).1)
-
-pub returns-clause-sets : goal.returns-clause-sets
-unfolding invariant_of-self
-returns-clause-sets c = ap (λ (v : OutsideValue). v.sets) (value_kept (set c.self.inside.links.items c.self.inside.orphan c.index-ends.result.now.first) (set c.self.inside.ends.items c.args.facet.0 c.with_front.result) c.index.result.now (with_set c.args.self.now (drop 1 c.args.self.now.orphans) c.args.facet.0 (get_or c.args.self.now.orphans 0 0 ∷ set_of c.args.self.now c.args.facet.0)) (invariant_of-self c).1)
-
-pub returns-clause-positions : goal.returns-clause-positions
-unfolding invariant_of-self
-returns-clause-positions c = ap (λ (v : OutsideValue). v.positions) (value_kept (set c.self.inside.links.items c.self.inside.orphan c.index-ends.result.now.first) (set c.self.inside.ends.items c.args.facet.0 c.with_front.result) c.index.result.now (with_set c.args.self.now (drop 1 c.args.self.now.orphans) c.args.facet.0 (get_or c.args.self.now.orphans 0 0 ∷ set_of c.args.self.now c.args.facet.0)) (invariant_of-self c).1)
-
-pub returns-clause-listed : goal.returns-clause-listed
-unfolding invariant_of-self
-returns-clause-listed c =
-    let e = ap listed (value_kept (set c.self.inside.links.items c.self.inside.orphan c.index-ends.result.now.first) (set c.self.inside.ends.items c.args.facet.0 c.with_front.result) c.index.result.now (with_set c.args.self.now (drop 1 c.args.self.now.orphans) c.args.facet.0 (get_or c.args.self.now.orphans 0 0 ∷ set_of c.args.self.now c.args.facet.0)) (invariant_of-self c).1) in
-    let h = c.requires.some in
-    let d = length-drop 1 c.args.self.now.orphans in
-    let s = listed-with_set c.args.self.now (drop 1 c.args.self.now.orphans) c.args.facet.0 (get_or c.args.self.now.orphans 0 0 ∷ set_of c.args.self.now c.args.facet.0) 0 c.requires.place (omega arith) in
-    omega arith
+returns c =
+    answered c.self.invariant c.self.view_is (length-set _ _ _) _ _ (invariant_of-self c).2 c.requires.place
+    (omega (arith, length-drop 1 c.args.self.now.orphans, c.requires.some))
