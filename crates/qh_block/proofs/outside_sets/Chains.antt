@@ -30,8 +30,7 @@ last_within links p x l (y ∷ ys) c e = last_within links (get_or links x 0) y 
 -- the link of the first leads to the others
 pub next : (links : List ℕ) (p p' x : ℕ) (xs : List ℕ) → IsChain links p (x ∷ xs) → p' ≡ get_or links p p' → IsChain links p' xs
 next links p p' x xs c r =
-    let h : p < length links = (let e = c.0 in let l = c.1 in omega arith) in
-    subst (λ t. IsChain links t xs) (ap (λ t. get_or links t 0) (sym c.0) ∙ sym (get_or_read links p p' h r 0)) c.2
+    subst (λ t. IsChain links t xs) (ap (λ t. get_or links t 0) (sym c.0) ∙ sym (get_or_read links p p' (omega (arith, c.0, c.1)) r 0)) c.2
 
 -- what is read off a chain, given enough steps, is the chain
 pub chain_is : (links : List ℕ) (n p : ℕ) (xs : List ℕ) → IsChain links p xs → length xs ≤ n → chain_from links n p ≡ xs
@@ -40,42 +39,32 @@ chain_is links zero p [] c h = refl
 chain_is links zero p (x ∷ xs) c h = absurd (omega arith)
 chain_is links (suc n) p [] c h = rw (le-ltb p (length links) c) refl
 chain_is links (suc n) p (x ∷ xs) c h =
-    let l : p < length links = (let e = c.0 in let k = c.1 in omega arith) in
     let r = chain_is links n (get_or links x 0) xs c.2 (omega arith) in
-    rw (lt-ltb p (length links) l, c.0, r) refl
+    rw (lt-ltb p (length links) (omega (arith, c.0, c.1)), c.0, r) refl
 
 -- after a write to the link of y
 module _ (links : List ℕ) (y v : ℕ) where
   -- a chain without y stays
   pub chain_kept : (p : ℕ) (xs : List ℕ) → count y xs ≡ 0 → IsChain links p xs → IsChain (set links y v) p xs
   chain_kept p [] n c = rw (length-set links y v) c
-  chain_kept p (x ∷ xs) n c = (
-    c.0,
-    rw (length-set links y v) c.1,
-    rw (get_or-set_other links y x v 0 (λ e. let a = count_at y x xs (sym e) in omega arith))
-        (chain_kept (get_or links x 0) xs (omega arith) c.2),
-  )
+  chain_kept p (x ∷ xs) n c =
+      let a = get_or-set_other links y x v 0 (λ e. omega (arith, count_at y x xs (sym e))) in
+      let r = chain_kept (get_or links x 0) xs (omega arith) c.2 in (c.0, rw (length-set links y v) c.1, rw a r)
 
   -- y stands in front of the chain from v on
   pub chain_front : (p x : ℕ) (xs : List ℕ) → y ≡ x → p ≡ x → y < length links → count y xs ≡ 0 → IsChain links v xs
       → IsChain (set links y v) p (x ∷ xs)
-  chain_front p x xs e q h n c = (
-    q,
-    rw (length-set links y v) (omega (arith, e)),
-    rw (← e, get_or-set_same links y v 0 h) (chain_kept v xs n c),
-  )
+  chain_front p x xs e q h n c =
+      (q, rw (length-set links y v) (omega (arith, e)), rw (← e, get_or-set_same links y v 0 h) (chain_kept v xs n c))
 
   -- the chain from v on stands behind a chain with the last y
   pub chain_joined : (p x : ℕ) (xs ys : List ℕ) → count y (x ∷ xs) ≤ 1 → IsLast (x ∷ xs) y
       → IsChain links p (x ∷ xs) → IsChain (set links y v) v ys → IsChain (set links y v) p ((x ∷ xs) ++ ys)
   chain_joined p x [] ys o e c d =
       let h = c.1 in (c.0, rw (length-set links y v) h, rw (← e, get_or-set_same links y v 0 (omega (arith, e))) d)
-  chain_joined p x (z ∷ xs) ys o e c d = (
-    c.0,
-    rw (length-set links y v) c.1,
-    rw (get_or-set_other links y x v 0 (λ q. let a = count_at y x (z ∷ xs) (sym q) in let b = last_in z xs y e in omega arith))
-        (chain_joined (get_or links x 0) z xs ys (omega arith) e c.2 d),
-  )
+  chain_joined p x (z ∷ xs) ys o e c d =
+      let a = get_or-set_other links y x v 0 (λ q. omega (arith, count_at y x (z ∷ xs) (sym q), last_in z xs y e)) in
+      let r = chain_joined (get_or links x 0) z xs ys (omega arith) e c.2 d in (c.0, rw (length-set links y v) c.1, rw a r)
 
 -- ---- sets
 -- the set of the ends at a place

@@ -42,10 +42,13 @@ abbrev no_positions : List ℕ
 no_positions = []
 
 -- empty sets weigh nothing
-pub empty_sum : (weight : List ℕ → ℕ) → weight [] ≡ 0 → (n : ℕ) → sum_by weight (replicate n no_positions) ≡ 0
+empty_sum : (weight : List ℕ → ℕ) → weight [] ≡ 0 → (n : ℕ) → sum_by weight (replicate n no_positions) ≡ 0
 empty_sum weight e zero = refl
-empty_sum weight e (suc n) =
-    let s = sum_by-cons weight no_positions (replicate n no_positions) in let r = empty_sum weight e n in omega arith
+empty_sum weight e (suc n) = omega (arith, sum_by-cons weight no_positions (replicate n no_positions), empty_sum weight e n)
+
+pub room_sum : (weight : List ℕ → ℕ) → weight [] ≡ 0 → (xss : List (List ℕ)) (n : ℕ)
+    → sum_by weight (xss ++ replicate n []) ≡ sum_by weight xss
+room_sum weight e xss n = omega (arith, sum_by-append weight xss (replicate n no_positions), empty_sum weight e n)
 
 -- empty sets behind the others
 more_sets : {links : List ℕ} {es : List Ends} {xss : List (List ℕ)} (n : ℕ) → length links ≤ none → AreSets links es xss
@@ -58,13 +61,6 @@ pub room_kept : {links : List ℕ} {es es' : List Ends} {o : ℕ} {os : List ℕ
     → IsKept links es o os xss → length es ≤ places → es' ≡ take places es ++ replicate n (record { first = 4294967295; last = 4294967295 })
     → IsKept links es' o os (xss ++ replicate n [])
 room_kept {xss = xss} places n k h r =
-    let t = k.total in
-    let more = replicate n no_positions in
-    let a = sum_by-append length xss more in let z = empty_sum length refl n in
-    rw (r, take_all places _ h) (record {
-      small = k.small;
-      chain = k.chain;
-      sets_are = more_sets n k.small k.sets_are;
-      once = λ x. omega (arith, k.once x, sum_by-append (count x) xss more, empty_sum (count x) refl n);
-      total = omega arith;
-    })
+    let s = more_sets n k.small k.sets_are in
+    let t = rw (← room_sum length refl xss n) at k.total in rw (r, take_all places _ h)
+    (record { small = k.small; chain = k.chain; sets_are = s; once = λ x. rw (room_sum (count x) refl xss n) (k.once x); total = t })

@@ -24,10 +24,8 @@ pub value_is : {links : List ℕ} {es : List Ends} {o : ℕ} {os : List ℕ} {xs
     → value_of links es o ≡ record { positions = length links; orphans = os; sets = xss }
 unfolding value_of
 value_is {links} {es} {o} {os} {xss} k =
-    let t = k.total in
-    let orphans-same = chain_is links (length links) o os k.chain (omega arith) in
-    let sets-same = sets_is (length links) k.sets_are (omega arith) in
-    λ i. record { positions = length links; orphans = orphans-same i; sets = sets-same i }
+    let t = k.total in let a = chain_is links (length links) o os k.chain (omega arith) in
+    let b = sets_is (length links) k.sets_are (omega arith) in λ i. record { positions = length links; orphans = a i; sets = b i }
 
 -- ---- a chain by its first: a position, or it is empty
 some_from : (links : List ℕ) (p : ℕ) (xs : List ℕ) → IsChain links p xs → p < length links → xs ≡ p ∷ drop 1 xs
@@ -64,9 +62,6 @@ module _ {links : List ℕ} {es : List Ends} {o : ℕ} {now : OutsideValue} (k :
   pub kept_some : 0 < length now.orphans → IsKept links es o (get_or now.orphans 0 0 ∷ drop 1 now.orphans) now.sets
   kept_some h = subst (λ (t : List ℕ). IsKept links es o t now.sets) (drop-cons now.orphans 0 0 h) kept
 
-  pub orphan_in : 0 < length now.orphans → o < length links
-  orphan_in h = let c = (kept_some h).chain.0 in let l = (kept_some h).chain.1 in omega arith
-
   -- the ends of a set: its first and its last are positions
   module _ {f : ℕ} {e : Ends} (h : f < length now.sets) (r : e ≡ get_or es f e) where
     pub set_in : IsSet links e (set_of now f)
@@ -77,9 +72,6 @@ module _ {links : List ℕ} {es : List Ends} {o : ℕ} {now : OutsideValue} (k :
 
     pub set_none : now.positions ≤ e.first → set_of now f ≡ []
     set_none m = none_from links e.first (set_of now f) set_in.0 (omega (arith, positions_are))
-
-    pub first_in : 0 < length (set_of now f) → e.first < length links
-    first_in m = let c = subst (IsSet links e) (drop-cons (set_of now f) 0 0 m) set_in in omega (arith, c.0.0, c.0.1)
 
     pub last_in_links : (p : ℕ) (xs : List ℕ) → set_of now f ≡ p ∷ xs → e.last < length links
     last_in_links p xs s = let c = subst (IsSet links e) s set_in in last_within links e.first p e.last xs c.0 c.1
@@ -100,14 +92,11 @@ module _ {links : List ℕ} {es : List Ends} {o : ℕ} {now : OutsideValue} (k :
           listed : listed (value_of links' es' o') ≡ listed now;
         }
     answered f xs k' h l =
-        let e = value_after k' in
-        let s = sum_by-set length now.sets f xs [] h in
-        let a = ap listed e in
+        let e = value_after k' in let a = ap listed e in let s = sum_by-set length now.sets f xs [] h in
         record { orphans = λ i. (e i).orphans; sets = λ i. (e i).sets; positions = λ i. (e i).positions; listed = omega arith }
 
 -- what is known of the fields
-pub ruleset field_facts =
-    (places_are, positions_are, orphan_in, orphans_some, orphans_none, no_orphans, first_in, set_some, set_none, last_in_links)
+pub ruleset field_facts = (places_are, positions_are, orphans_some, orphans_none, no_orphans, set_some, set_none, last_in_links)
 
 -- ---- lasts after a call
 -- the last without the first
@@ -193,11 +182,10 @@ module _ {links : List ℕ} {es : List Ends} {o x : ℕ} {os : List ℕ} {xss : 
         let c = set_at f e h q k.sets_are in
         let i = k.chain.0 in let l = k.chain.1 in
         let a = count_at o x os i in let b = k.once o in let g = get_or-le-sum_by (count o) xss f [] h in
-        put k h e' _ (length-set links o e.first) (chain_kept links o e.first o' os (omega arith) rest)
-        (sets_put o (chain_kept links o e.first) f e' _ h (omega arith) (
-          chain_front links o e.first e'.first x (get_or xss f []) i (first ∙ i) (omega arith) (omega arith) c.0,
-          front_last links e x e'.last (get_or xss f []) c (λ n. only n ∙ i) last,
-        ) k.sets_are)
+        let w = chain_kept links o e.first in
+        let n = chain_front links o e.first e'.first x (get_or xss f []) i (first ∙ i) (omega arith) (omega arith) c.0 in
+        let t = front_last links e x e'.last (get_or xss f []) c (λ n. only n ∙ i) last in
+        put k h e' _ (length-set links o e.first) (w o' os (omega arith) rest) (sets_put o w f e' _ h (omega arith) (n, t) k.sets_are)
         (λ y. omega arith) (omega arith)
 
     -- behind the first
@@ -205,8 +193,7 @@ module _ {links : List ℕ} {es : List Ends} {o x : ℕ} {os : List ℕ} {xss : 
         → (e.first ≡ e.last → e'.last ≡ o) → (e.first ≢ e.last → e'.last ≡ e.last)
         → IsKept (set (set links o p) e.first o) (set es f e') o' os (set xss f (joined false x (get_or xss f [])))
     put_second m p w first alone last =
-        let y = get_or (get_or xss f []) 0 0 in
-        let ys = drop 1 (get_or xss f []) in
+        let y = get_or (get_or xss f []) 0 0 in let ys = drop 1 (get_or xss f []) in
         let s = drop-cons (get_or xss f []) 0 0 m in
         let c = first_set k h e q y ys s in
         let i = k.chain.0 in let l = k.chain.1 in
@@ -215,12 +202,11 @@ module _ {links : List ℕ} {es : List Ends} {o x : ℕ} {os : List ℕ} {xss : 
         let a2 = count_at e.first y ys c.0.0 in let b2 = k.once e.first in
         let g2 = get_or-le-sum_by (count e.first) xss f [] h in let t2 = ap (count e.first) s in
         let links1 = set links o p in
-        rw s (put k h e' _ (length-set links1 e.first o ∙ length-set links o p)
-        (chain_kept links1 e.first o o' os (omega arith) (chain_kept links o p o' os (omega arith) rest))
-        (sets_put e.first (chain_kept links1 e.first o) f e' (y ∷ x ∷ ys) h (omega arith) (
-          chain_front links1 e.first o e'.first y (x ∷ ys) c.0.0 (first ∙ c.0.0)
-              (rw (length-set links o p) (omega (arith, c.0.0, c.0.1))) (omega arith)
-              (chain_front links o p o x ys i i (omega arith) (omega arith) (next links e.first p y ys c.0 w)),
-          second_last e x y e'.last ys c.0.0 c.1 (omega arith) (λ d. alone d ∙ i) last,
-        ) (sets_kept o (chain_kept links o p) (omega arith) k.sets_are))
+        let w1 = chain_kept links o p in let w2 = chain_kept links1 e.first o in
+        let n1 = chain_front links o p o x ys i i (omega arith) (omega arith) (next links e.first p y ys c.0 w) in
+        let n2 = chain_front links1 e.first o e'.first y (x ∷ ys) c.0.0 (first ∙ c.0.0)
+        (rw (length-set links o p) (omega (arith, c.0.0, c.0.1))) (omega arith) n1 in
+        let u = second_last e x y e'.last ys c.0.0 c.1 (omega arith) (λ d. alone d ∙ i) last in
+        rw s (put k h e' _ (length-set links1 e.first o ∙ length-set links o p) (w2 o' os (omega arith) (w1 o' os (omega arith) rest))
+        (sets_put e.first w2 f e' (y ∷ x ∷ ys) h (omega arith) (n2, u) (sets_kept o w1 (omega arith) k.sets_are))
         (λ z. omega (arith, ap (count z) s)) (omega (arith, ap length s)))

@@ -92,6 +92,7 @@ fn rising_links(alloc: Global, positions: u32) -> Result<Vec<u32>, AllocError>
     Ok(links)
 }
 
+#[tactic(auto, using(crate::proofs::outside_sets::Steps::field_facts))]
 impl OutsideSets {
     /// So many positions, all of them orphans, in rising order, and no facet.
     ///
@@ -124,7 +125,6 @@ impl OutsideSets {
     /// and the orphans as they were.
     ///
     /// `Err` says that memory was refused: everything is as before.
-    #[tactic(auto, using(crate::proofs::outside_sets::Steps::field_facts))]
     pub fn make_room(&mut self, places: usize) -> Result<(), Memory>
         ensures sets { OnOk result (self.new.sets ≡ self.old.sets ++ replicate (places - length self.old.sets) []) }
         ensures places { OnOk result (places ≤ length self.new.sets) }
@@ -144,7 +144,6 @@ impl OutsideSets {
     }
 
     /// The number of places that have a set.
-    #[tactic(auto, using(crate::proofs::outside_sets::Steps::field_facts))]
     pub fn places(&self) -> usize
         ensures { result ≡ length self.now.sets }
     {
@@ -152,7 +151,6 @@ impl OutsideSets {
     }
 
     /// Whether the number is a position.
-    #[tactic(auto, using(crate::proofs::outside_sets::Steps::field_facts))]
     fn is_position(&self, position: u32) -> bool
         ensures { IsTrue result ↔ (position < self.now.positions) }
     {
@@ -160,7 +158,6 @@ impl OutsideSets {
     }
 
     /// The first orphan, if there is one.
-    #[tactic(auto, using(crate::proofs::outside_sets::Steps::field_facts))]
     pub fn first_orphan(&self) -> Option<u32>
         ensures none { IsNone result ↔ (self.now.orphans ≡ []) }
         ensures first { IfSome result (λ p. self.now.orphans ≡ p ∷ drop 1 self.now.orphans) }
@@ -174,7 +171,6 @@ impl OutsideSets {
     }
 
     /// Takes the first orphan out of all lists, for good.
-    #[tactic(auto, using(crate::proofs::outside_sets::Steps::field_facts))]
     pub fn drop_orphan(&mut self)
         requires { 0 < length self.old.orphans }
         ensures orphans { self.new.orphans ≡ drop 1 self.old.orphans }
@@ -204,7 +200,6 @@ impl OutsideSets {
     }
 
     /// Puts the first orphan in front of the outside set of a facet.
-    #[tactic(auto, using(crate::proofs::outside_sets::Steps::field_facts))]
     fn put_in_front(&mut self, facet: FacetNo)
         requires some { 0 < length self.old.orphans }
         requires place { facet.0 < length self.old.sets }
@@ -223,7 +218,6 @@ impl OutsideSets {
     }
 
     /// Puts the first orphan after the first position of the outside set of a facet, which has one.
-    #[tactic(auto, using(crate::proofs::outside_sets::Steps::field_facts))]
     fn put_second(&mut self, facet: FacetNo)
         requires some { 0 < length self.old.orphans }
         requires place { facet.0 < length self.old.sets }
@@ -243,7 +237,6 @@ impl OutsideSets {
     }
 
     /// The first position of the outside set of a facet, if it has one.
-    #[tactic(auto, using(crate::proofs::outside_sets::Steps::field_facts))]
     pub fn first(&self, facet: FacetNo) -> Option<u32>
         requires { facet.0 < length self.now.sets }
         ensures none { IsNone result ↔ (set_of self.now facet.0 ≡ []) }
@@ -260,7 +253,6 @@ impl OutsideSets {
 
     /// Takes the first position of the outside set of a facet out of all lists, for good, and answers
     /// it. An empty set stays so.
-    #[tactic(auto, using(crate::proofs::outside_sets::Steps::field_facts))]
     pub fn take_first(&mut self, facet: FacetNo) -> Option<u32>
         requires { facet.0 < length self.old.sets }
         ensures none { IsNone result ↔ (set_of self.old facet.0 ≡ []) }
@@ -279,7 +271,6 @@ impl OutsideSets {
 
     /// Makes the positions of the outside set of a facet orphans, in front of the others. The set is
     /// empty then.
-    #[tactic(auto, using(crate::proofs::outside_sets::Steps::field_facts))]
     pub fn release(&mut self, facet: FacetNo)
         requires { facet.0 < length self.old.sets }
         ensures orphans { self.new.orphans ≡ set_of self.old facet.0 ++ self.old.orphans }

@@ -11,6 +11,5 @@ pub returns : goal.returns
 unfolding invariant_of-self
 returns c =
     let e = value_after c.self.invariant c.self.view_is refl (invariant_of-self c).2 in
-    let l = length-drop 1 c.args.self.now.orphans in
-    let m = c.requires in
-    record { orphans = λ i. (e i).orphans; sets = λ i. (e i).sets; positions = λ i. (e i).positions; listed = omega (arith, ap listed e) }
+    let a = ap listed e in let l = length-drop 1 c.args.self.now.orphans in let m = c.requires in
+    record { orphans = λ i. (e i).orphans; sets = λ i. (e i).sets; positions = λ i. (e i).positions; listed = omega arith }

@@ -1,10 +1,9 @@
 -- Room for more sets.
 use Rattle.std.proofs.Common.{◌≡◌, ◌-◌, ◌≤◌, ◌++◌, [], List, ℕ, length, length-append, arith, rules, ap, sym, refl, ◌∙◌, replicate}
 use Rattle.std.proofs.lemmas.List.{length-replicate, append-nil}
-use Rattle.std.proofs.lemmas.List.Sums.{sum_by-append}
 use Rattle.qh_block.specs.steps.OutsideSets.{listed}
 use Rattle.qh_block.proofs.outside_sets.Steps.{kept, places_are, value_after}
-use Rattle.qh_block.proofs.outside_sets.NewSets.{room_kept, empty_sum}
+use Rattle.qh_block.proofs.outside_sets.NewSets.{room_kept, room_sum}
 use Rattle.qh_block.proofs.quickhull.outside_sets.OutsideSets.make_room.Goals as goal
 
 pub invariant_of-self : goal.invariant_of-self
@@ -16,8 +15,7 @@ pub returns-in_ok-resize : goal.returns-in_ok-resize
 unfolding invariant_of-self
 returns-in_ok-resize c =
     let e = value_after c.self.invariant c.self.view_is refl (invariant_of-self c).2 in
-    let sets = c.args.self.now.sets in
-    let n = c.self.inside.ends.len in
+    let sets = c.args.self.now.sets in let n = c.self.inside.ends.len in
     let q : n ≡ length sets = omega (arith, c.self.inside.ends.ok, places_are c.self.invariant c.self.view_is) in
     let more : List (List ℕ) = replicate (c.args.places - n) [] in
     let m : length more ≡ c.args.places - n = length-replicate _ _ in
@@ -26,7 +24,7 @@ returns-in_ok-resize c =
       places = omega (arith, ap (λ (xs : List (List ℕ)). length xs) (λ i. (e i).sets), length-append sets more);
       orphans = λ i. (e i).orphans;
       positions = λ i. (e i).positions;
-      listed = omega (arith, ap listed e, sum_by-append length sets more, empty_sum length refl (c.args.places - n));
+      listed = omega (arith, ap listed e, room_sum length refl sets (c.args.places - n));
       memory = search rules;
     }
 

@@ -15,6 +15,5 @@ pub returns : goal.returns
 unfolding invariant_of-result
 returns c =
     let e = value_is (invariant_of-result c).2 in
-    let n = (λ i. (e i).positions) ∙ c.in_ok-links.ensures.len in
-    let l = length-range_with_len 0 c.args.positions in
+    let n = (λ i. (e i).positions) ∙ c.in_ok-links.ensures.len in let l = length-range_with_len 0 c.args.positions in
     record { positions = n; orphans = λ i. (e i).orphans; sets = λ i. (e i).sets; listed = omega (arith, ap listed e) }

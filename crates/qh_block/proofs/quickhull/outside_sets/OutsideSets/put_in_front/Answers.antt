@@ -8,12 +8,9 @@ pub invariant_of-self : goal.invariant_of-self
 invariant_of-self c =
     let n = c.self.inside.links.ok in
     let w = c.with_front.ensures in
-    let k = kept_some c.self.invariant c.self.view_is c.requires.some in (
-      _,
-      _,
-      put_front k c.index.ensures c.requires.place c.index-ends.ensures _ w.first (λ h. w.only (le-leb _ _ (omega arith)))
-          (λ h. w.last (lt-leb _ _ (omega arith))),
-    )
+    let k = kept_some c.self.invariant c.self.view_is c.requires.some in
+    let p = put_front k c.index.ensures c.requires.place c.index-ends.ensures c.with_front.result w.first in
+    (_, _, p (λ h. w.only (le-leb _ _ (omega arith))) (λ h. w.last (lt-leb _ _ (omega arith))))
 
 pub returns : goal.returns
 unfolding invariant_of-self

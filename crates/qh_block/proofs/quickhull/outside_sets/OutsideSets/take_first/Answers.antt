@@ -16,14 +16,13 @@ returns c =
     let e = value_after c.self.invariant c.self.view_is refl (invariant_of-self c).2 in
     let f = c.in_ok-first.ensures in
     let s = sum_by-set length c.args.self.now.sets c.args.facet.0 (drop 1 (set_of c.args.self.now c.args.facet.0)) [] c.requires in
-    let l = ap listed e in
-    let n = ap length f.first in record {
+    record {
       none = search rules;
       first = f.first;
       position = f.position;
       sets = λ i. (e i).sets;
       orphans = λ i. (e i).orphans;
       positions = λ i. (e i).positions;
-      listed = omega arith;
+      listed = omega (arith, ap listed e, ap length f.first);
       listed_still = search rules;
     }
