@@ -1,4 +1,3 @@
-pub mod SegmentSteps
 pub mod flats
 pub mod finished
 pub mod outside_sets

@@ -7,7 +7,7 @@ ghost use Rattle.qh_model.specs.headline.Sets.{Members};
 ghost use Rattle.qh_model.specs.contract.IdSets.{AreIndices};
 ghost use Rattle.qh_plane.specs.contract.Shapes.{IsInLine, IsInPlane, Each, IsFirstNot, AreFirstTwo};
 
-use crate::bodies::{body_of_point, body_of_polygon, body_of_segment};
+use crate::bodies::{flat_body, polygon_of};
 use crate::normals::forward;
 use crate::segment::first_along;
 use qh_model::{Body, Id, Memory, Point};
@@ -30,14 +30,12 @@ pub(crate) fn segment_hull(
 {
     let first = first_along(pts, ids, i, j);
     let last = first_along(pts, ids, j, i);
-    if first < last {
-        body_of_segment(alloc, first, last)
-    } else if last < first {
-        body_of_segment(alloc, last, first)
+    let ends = if first < last {
+        [first, last]
     } else {
-        // Only where the two ids have one point.
-        body_of_point(alloc, first)
-    }
+        [last, first]
+    };
+    flat_body(alloc, 1, polygon_of(alloc, &ends)?, 1)
 }
 
 /// The hull of a set in the plane of `i`, `j` and `k`: its first two ids and the first off their line.
@@ -57,5 +55,6 @@ pub(crate) fn polygon_hull(
 {
     let normal = forward(cross(point_at(pts, i), point_at(pts, j), point_at(pts, k)));
     let polygon = polygon(alloc, pts, ids, &normal)?;
-    body_of_polygon(alloc, polygon)
+    let edges = polygon.ids().len() as u64;
+    flat_body(alloc, 2, polygon, edges)
 }

@@ -6,7 +6,7 @@ ghost use Rattle.qh_model.specs.headline.Predicates.{place};
 ghost use Rattle.qh_model.specs.headline.Sets.{Members};
 ghost use Rattle.qh_model.specs.contract.IdSets.{AreIndices};
 
-use crate::bodies::body_of_point;
+use crate::bodies::{flat_body, polygon_of};
 use crate::flat_sets::{polygon_hull, segment_hull};
 use crate::inner_points::outer_ids;
 use crate::solids::{solid_body, solid_extremes, solid_mesh};
@@ -35,7 +35,7 @@ fn hull_of_all(alloc: Global, pts: &[Point], ids: &[Id]) -> Result<Body, Memory>
     ensures { IfOk result (λ b. IsIdSet pts.now ids.now → IsBody (place pts.now) (Members ids.now) b) }
 {
     match rank(pts, ids) {
-        Shape::Point(i) => body_of_point(alloc, i),
+        Shape::Point(i) => flat_body(alloc, 0, polygon_of(alloc, &[i])?, 0),
         Shape::Segment(i, j) => segment_hull(alloc, pts, ids, i, j),
         Shape::Flat(i, j, k) => polygon_hull(alloc, pts, ids, i, j, k),
         Shape::Solid(i, j, k, l) => {

@@ -1,5 +1,5 @@
 //! The ends of a set of points in one line.
-ghost use Rattle.std.specs.Prelude.{◌≡◌, ◌<◌, ◌<ℤ◌, ◌≤ℤ◌, ◌⊎◌, ◌↔◌, IsTrue, length};
+ghost use Rattle.std.specs.Prelude.{◌<◌, ◌<ℤ◌, ◌↔◌, IsTrue, length};
 ghost use Rattle.qh_model.specs.contract.IdSets.{AreIndices};
 ghost use Rattle.qh_block.specs.steps.Segments.{position, IsFirstAlong};
 
@@ -19,31 +19,19 @@ fn comes_before(pts: &[Point], a: Id, b: Id, k: Id, l: Id) -> bool
     along(from, to, point_at(pts, k)) < along(from, to, point_at(pts, l))
 }
 
-/// Of two ids the one whose point comes first along the way from the point of `a` to that of `b`.
-fn earlier(pts: &[Point], a: Id, b: Id, k: Id, l: Id) -> Id
-    requires a_in { a < length pts.now }
-    requires b_in { b < length pts.now }
-    requires k_in { k < length pts.now }
-    requires l_in { l < length pts.now }
-    ensures one { (result ≡ k) ⊎ (result ≡ l) }
-    ensures first { position pts.now a b result ≤ℤ position pts.now a b k }
-    ensures second { position pts.now a b result ≤ℤ position pts.now a b l }
-{
-    if comes_before(pts, a, b, l, k) { l } else { k }
-}
-
 /// The id whose point is the first along the way from the point of `a` to that of `b`.
 pub fn first_along(pts: &[Point], ids: &[Id], a: Id, b: Id) -> Id
     requires some { 0 < length ids.now }
     requires indices { AreIndices pts.now ids.now }
     requires a_in { a < length pts.now }
     requires b_in { b < length pts.now }
-    ensures within { result < length pts.now }
-    ensures first { IsFirstAlong pts.now ids.now a b result }
+    ensures { IsFirstAlong pts.now ids.now a b result }
 {
     let mut first = ids[0];
     for id in ids {
-        first = earlier(pts, a, b, first, *id);
+        if comes_before(pts, a, b, *id, first) {
+            first = *id;
+        }
     }
     first
 }

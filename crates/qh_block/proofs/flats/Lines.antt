@@ -1,148 +1,169 @@
--- Points in one line: their positions along it, and the points between two of them.
-use Rattle.std.proofs.Common.{◌≡◌, ◌∙◌, ℕ, ◌+◌, ◌<◌, [], ◌∷◌, arith, ap, refl, sym}
-use Rattle.std.proofs.lemmas.Int.{ints}
-use Rattle.std.specs.Prelude.{ℤ, pos, negsuc, ◌+ℤ◌, ◌-ℤ◌, ◌*ℤ◌, neg_ℤ, ◌≤ℤ◌, ◌<ℤ◌}
-use Rattle.qh_model.specs.headline.Vector.{Vector, origin, minus, cross_product, dot}
-use Rattle.qh_model.specs.headline.Predicates.{cross, AreInLine}
-use Rattle.qh_model.specs.headline.Combination.{Combination, IsBalanced}
-use Rattle.qh_model.proofs.algebra.Order.{cancel-zero}
-use Rattle.qh_model.proofs.algebra.Ring.{ring, equal_from_zero}
-use Rattle.qh_model.proofs.algebra.Ring.Expr.{var, con, add, sub as less, mul, neg}
-use Rattle.qh_model.proofs.algebra.VectorIdentities.{vec, crossE, dotE, put, combine3, vector_path}
-use Rattle.qh_model.proofs.algebra.Signs.{gap_positive}
+-- A set in one line: its extreme ids are the first and the last along the line.
+use Rattle.std.proofs.Common.{◌≡◌, ◌≢◌, ℕ, ◌<◌, [], ◌∷◌, length, ap, arith, inl, inr, refl, sym, subst, ◌∙◌, ◌⊎◌}
+use Rattle.std.proofs.Math.Nat.{ne_of_lt}
+use Rattle.std.proofs.lemmas.Int.{ints, by_lt_z}
+use Rattle.std.specs.Prelude.{ℤ, pos, ◌+ℤ◌, ◌-ℤ◌, ◌*ℤ◌, neg_ℤ, ◌≤ℤ◌, ◌<ℤ◌, ◌↔◌, List}
+use native.Mathlib.Decide.{ℕ_discrete}
+use Rattle.qh_model.specs.contract.IdSets.{IsIdSet}
+use Rattle.qh_model.specs.headline.Combination.{Combination}
+use Rattle.qh_model.specs.headline.Extreme.{Extreme, Others}
+use Rattle.qh_model.specs.headline.Predicates.{cross, place}
+use Rattle.qh_model.specs.headline.Sets.{In, Members}
+use Rattle.qh_model.specs.headline.Vector.{Vector, minus, cross_product, dot}
+use Rattle.qh_model.specs.laws.Separator.{Separator}
+use Rattle.qh_model.proofs.Members.{In-get_or, in_at}
+use Rattle.qh_model.proofs.algebra.Order.{le_less, mul-pos, mul-nonneg_nonpos, mul-nonpos_nonneg}
+use Rattle.qh_model.proofs.algebra.Ring.{ring}
+use Rattle.qh_model.proofs.algebra.Ring.Expr.{add, sub as less, mul, neg}
+use Rattle.qh_model.proofs.algebra.Signs.{equal_le, gap_positive, less_le, lt_neg, neg_le, not_less}
+use Rattle.qh_model.proofs.algebra.VectorIdentities.{vec, subE, crossE, dotE, put, combine3, dot-minus}
+use Rattle.qh_model.proofs.combinations.Alternatives.{combination_or_separator}
+use Rattle.qh_model.proofs.extremes.Directions.{square-positive}
+use Rattle.qh_model.proofs.extremes.ExtremeIds.{combination_within, greatest_is_extreme}
+use Rattle.qh_plane.proofs.LinesAndPlanes.{same_point}
+use Rattle.qh_plane.specs.contract.Shapes.{IsInLine, Each, AreFirstTwo}
+use Rattle.qh_block.specs.steps.Segments.{IsFirstAlong}
 
--- ---- a vector v in the direction d or against it: (d . d) v = (d . v) d, in each coordinate
--- the first
-along_x : (d v : Vector) → cross_product d v ≡ origin → dot d d *ℤ v.x ≡ dot d v *ℤ d.x
-along_x d v e =
-    let D = vec 0 in let V = vec 1 in let C = crossE D V in let c = cross_product d v in let o = con (pos 0) in
-    combine3 (dot d d *ℤ v.x) (dot d v *ℤ d.x) (pos 0) c.x (pos 0) d.z c.y (pos 0) (neg_ℤ d.y) c.z (pos 0)
-    (ring (put d (put v [])) (less (mul (dotE D D) V.x) (mul (dotE D V) D.x)) (add (add (mul o (less C.x o)) (mul D.z (less C.y o))) (mul (neg D.y) (less C.z o))) refl)
+-- ---- scalar products along a line
+-- a way along d, as any w sees it
+seen_along : (d w i a b : Vector) → cross_product d (minus a i) ≡ cross_product d (minus b i)
+    → dot d d *ℤ (dot w a -ℤ dot w b) ≡ (dot d a -ℤ dot d b) *ℤ dot w d
+seen_along d w i a b e =
+    let D = vec 0 in let W = vec 1 in let I = vec 2 in let A = vec 3 in let B = vec 4 in
+    let N = crossE D W in let P = crossE D (subE A I) in let Q = crossE D (subE B I) in
+    let n = cross_product d w in let p = cross_product d (minus a i) in let q = cross_product d (minus b i) in
+    combine3 (dot d d *ℤ (dot w a -ℤ dot w b)) ((dot d a -ℤ dot d b) *ℤ dot w d) n.x p.x q.x n.y p.y q.y n.z p.z q.z
+    (ring (put d (put w (put i (put a (put b [])))))
+    (less (mul (dotE D D) (less (dotE W A) (dotE W B))) (mul (less (dotE D A) (dotE D B)) (dotE W D)))
+    (add (add (mul N.x (less P.x Q.x)) (mul N.y (less P.y Q.y))) (mul N.z (less P.z Q.z))) refl)
     (ap (λ v. v.x) e) (ap (λ v. v.y) e) (ap (λ v. v.z) e)
 
--- the second
-along_y : (d v : Vector) → cross_product d v ≡ origin → dot d d *ℤ v.y ≡ dot d v *ℤ d.y
-along_y d v e =
-    let D = vec 0 in let V = vec 1 in let C = crossE D V in let c = cross_product d v in let o = con (pos 0) in
-    combine3 (dot d d *ℤ v.y) (dot d v *ℤ d.y) (neg_ℤ d.z) c.x (pos 0) (pos 0) c.y (pos 0) d.x c.z (pos 0)
-    (ring (put d (put v [])) (less (mul (dotE D D) V.y) (mul (dotE D V) D.y)) (add (add (mul (neg D.z) (less C.x o)) (mul o (less C.y o))) (mul D.x (less C.z o))) refl)
-    (ap (λ v. v.x) e) (ap (λ v. v.y) e) (ap (λ v. v.z) e)
+-- what w sees at l, between a and b, is not above both, where t tells the way and s is its square
+not_above : (s wa wl wb ta tl tb r : ℤ) → pos 0 <ℤ s → s *ℤ (wl -ℤ wa) ≡ (tl -ℤ ta) *ℤ r → s *ℤ (wl -ℤ wb) ≡ (tl -ℤ tb) *ℤ r
+    → ta ≤ℤ tl → tl ≤ℤ tb → wa <ℤ wl → wb <ℤ wl → ⊥
+not_above s wa wl wb ta tl tb r h p q ha hb la lb =
+    let a : pos 0 <ℤ ((tl -ℤ ta) *ℤ r) = subst (λ v. pos 0 <ℤ v) p (mul-pos s (wl -ℤ wa) h (gap_positive wa wl la)) in
+    let b : pos 0 <ℤ ((tl -ℤ tb) *ℤ r) = subst (λ v. pos 0 <ℤ v) q (mul-pos s (wl -ℤ wb) h (gap_positive wb wl lb)) in
+    by_lt_z (pos 0) r (λ up. not_less _ _ b (mul-nonpos_nonneg (tl -ℤ tb) r (omega (arith, ints, hb)) (less_le _ _ up)))
+    (λ down. not_less _ _ a (mul-nonneg_nonpos (tl -ℤ ta) r (omega (arith, ints, ha)) down))
 
--- the third
-along_z : (d v : Vector) → cross_product d v ≡ origin → dot d d *ℤ v.z ≡ dot d v *ℤ d.z
-along_z d v e =
-    let D = vec 0 in let V = vec 1 in let C = crossE D V in let c = cross_product d v in let o = con (pos 0) in
-    combine3 (dot d d *ℤ v.z) (dot d v *ℤ d.z) d.y c.x (pos 0) (neg_ℤ d.x) c.y (pos 0) (pos 0) c.z (pos 0)
-    (ring (put d (put v [])) (less (mul (dotE D D) V.z) (mul (dotE D V) D.z)) (add (add (mul D.y (less C.x o)) (mul (neg D.x) (less C.y o))) (mul o (less C.z o))) refl)
-    (ap (λ v. v.x) e) (ap (λ v. v.y) e) (ap (λ v. v.z) e)
-
--- ---- one coordinate of points p with s (p - i) = t d
--- points at one position are equal
-level_same : (s d i a b ta tb : ℤ) → pos 0 <ℤ s → s *ℤ (a -ℤ i) ≡ ta *ℤ d → s *ℤ (b -ℤ i) ≡ tb *ℤ d → ta ≡ tb → a ≡ b
-level_same s d i a b ta tb h p q e =
-    let S = var 0 in let D = var 1 in let I = var 2 in let A = var 3 in let B = var 4 in let TA = var 5 in let TB = var 6 in
-    equal_from_zero a b (cancel-zero s (a -ℤ b) h (combine3 (s *ℤ (a -ℤ b)) (pos 0) (pos 1) (s *ℤ (a -ℤ i)) (ta *ℤ d) (negsuc 0) (s *ℤ (b -ℤ i)) (tb *ℤ d) d ta tb
-    (ring (s ∷ d ∷ i ∷ a ∷ b ∷ ta ∷ tb ∷ [])
-    (less (mul S (less A B)) (con (pos 0)))
-    (add (add (mul (con (pos 1)) (less (mul S (less A I)) (mul TA D))) (mul (con (negsuc 0)) (less (mul S (less B I)) (mul TB D)))) (mul D (less TA TB))) refl)
-    p q e))
-
--- a point is the mean of two others, by its distances to them
-level_mean : (s d i k e g tk te tg : ℤ) → pos 0 <ℤ s → s *ℤ (k -ℤ i) ≡ tk *ℤ d → s *ℤ (e -ℤ i) ≡ te *ℤ d → s *ℤ (g -ℤ i) ≡ tg *ℤ d
-    → (tg -ℤ te) *ℤ k ≡ (tg -ℤ tk) *ℤ e +ℤ (tk -ℤ te) *ℤ g
-level_mean s d i k e g tk te tg h p q r =
-    let S = var 0 in let D = var 1 in let I = var 2 in let K = var 3 in let E = var 4 in let G = var 5 in let TK = var 6 in let TE = var 7 in let TG = var 8 in
-    equal_from_zero ((tg -ℤ te) *ℤ k) ((tg -ℤ tk) *ℤ e +ℤ (tk -ℤ te) *ℤ g) (cancel-zero s ((tg -ℤ te) *ℤ k -ℤ ((tg -ℤ tk) *ℤ e +ℤ (tk -ℤ te) *ℤ g)) h
-    (combine3 (s *ℤ ((tg -ℤ te) *ℤ k -ℤ ((tg -ℤ tk) *ℤ e +ℤ (tk -ℤ te) *ℤ g))) (pos 0)
-    (tg -ℤ te) (s *ℤ (k -ℤ i)) (tk *ℤ d) (tk -ℤ tg) (s *ℤ (e -ℤ i)) (te *ℤ d) (te -ℤ tk) (s *ℤ (g -ℤ i)) (tg *ℤ d)
-    (ring (s ∷ d ∷ i ∷ k ∷ e ∷ g ∷ tk ∷ te ∷ tg ∷ [])
-    (less (mul S (less (mul (less TG TE) K) (add (mul (less TG TK) E) (mul (less TK TE) G)))) (con (pos 0)))
-    (add (add (mul (less TG TE) (less (mul S (less K I)) (mul TK D))) (mul (less TK TG) (less (mul S (less E I)) (mul TE D)))) (mul (less TE TK) (less (mul S (less G I)) (mul TG D)))) refl)
-    p q r))
-
--- ---- points in line with i and j
--- how far p lies along the way from i to j
-abbrev pub along : Vector → Vector → Vector → ℤ
-along i j p = dot (minus j i) (minus p i)
-
--- points at one position are one point
-pub same_place : (i j a b : Vector) → pos 0 <ℤ dot (minus j i) (minus j i) → AreInLine i j a → AreInLine i j b → along i j a ≡ along i j b → a ≡ b
-unfolding cross
-same_place i j a b n p q e =
-    let d = minus j i in let s = dot d d in
-    vector_path a b
-    (level_same s d.x i.x a.x b.x (along i j a) (along i j b) n (along_x d (minus a i) p) (along_x d (minus b i) q) e)
-    (level_same s d.y i.y a.y b.y (along i j a) (along i j b) n (along_y d (minus a i) p) (along_y d (minus b i) q) e)
-    (level_same s d.z i.z a.z b.z (along i j a) (along i j b) n (along_z d (minus a i) p) (along_z d (minus b i) q) e)
-
--- a number not below 0
-natural : (z : ℤ) → pos 0 ≤ℤ z → (n : ℕ) × (pos n ≡ z)
-natural (pos n) h = (n, refl)
-natural (negsuc n) h = absurd (omega (arith, ints))
-
--- weights from distances, in one coordinate
-balanced : (m n : ℕ) (x y z p a b : ℤ) → pos m ≡ x → pos n ≡ y → x +ℤ y ≡ z → z *ℤ p ≡ x *ℤ a +ℤ y *ℤ b → IsBalanced m n 0 0 p a b a a
-balanced m n x y z p a b e f g h = ap (λ t. t *ℤ p) (total m n x y z e f g) ∙ h ∙ ap (λ t. t *ℤ a +ℤ y *ℤ b) (sym e) ∙ ap (λ t. pos m *ℤ a +ℤ t *ℤ b) (sym f) ∙ padded (pos m *ℤ a) (pos n *ℤ b) a
+-- an order of ways from o is one of places
+later : (d o p q : Vector) → dot d (minus p o) ≤ℤ dot d (minus q o) → dot d p ≤ℤ dot d q
+later d o p q = shifted _ _ (dot d p) (dot d q) (dot d o) (dot-minus d p o) (dot-minus d q o)
   where
-    total : (m n : ℕ) (x y z : ℤ) → pos m ≡ x → pos n ≡ y → x +ℤ y ≡ z → pos (m + n + 0 + 0) ≡ z
-    total m n x y z e f g = omega (arith, ints)
+    shifted : (x y p q o : ℤ) → x ≡ p +ℤ neg_ℤ o → y ≡ q +ℤ neg_ℤ o → x ≤ℤ y → p ≤ℤ q
+    shifted x y p q o e f h = omega (arith, ints)
 
-    padded : (u v a : ℤ) → u +ℤ v ≡ u +ℤ v +ℤ pos 0 *ℤ a +ℤ pos 0 *ℤ a
-    padded u v a = omega (arith, ints)
-
--- two weights that are not both 0
-some : (m n : ℕ) (x y z : ℤ) → pos m ≡ x → pos n ≡ y → x +ℤ y ≡ z → pos 0 <ℤ z → 0 < m + n + 0 + 0
-some m n x y z e f g h = omega (arith, ints)
-
--- a difference not below 0
-apart : (a b : ℤ) → a ≤ℤ b → pos 0 ≤ℤ (b -ℤ a)
-apart a b h = omega (arith, ints)
-
--- two differences in a row
-in_a_row : (e k g : ℤ) → (g -ℤ k) +ℤ (k -ℤ e) ≡ g -ℤ e
-in_a_row e k g = omega (arith, ints)
-
--- what lies between two members is a convex combination of them
-pub between : (at : ℕ → Vector) (B : ℕ → Type 0) (i j k : Vector) (e g : ℕ) → pos 0 <ℤ dot (minus j i) (minus j i)
-    → AreInLine i j k → AreInLine i j (at e) → AreInLine i j (at g) → B e → B g
-    → along i j (at e) ≤ℤ along i j k → along i j k ≤ℤ along i j (at g) → along i j (at e) <ℤ along i j (at g) → Combination at B k
-unfolding cross
-between at B i j k e g n lk le lg he hg ek kg eg = record {
-  a = e;
-  b = g;
-  c = e;
-  d = e;
-  has_a = he;
-  has_b = hg;
-  has_c = he;
-  has_d = he;
-  w1 = m.0;
-  w2 = l.0;
-  w3 = 0;
-  w4 = 0;
-  some_weight = some m.0 l.0 _ _ _ m.1 l.1 whole (gap_positive te tg eg);
-  x = balanced m.0 l.0 (tg -ℤ tk) (tk -ℤ te) (tg -ℤ te) k.x (at e).x (at g).x m.1 l.1 whole (level_mean (dot d d) d.x i.x k.x (at e).x (at g).x tk te tg n (along_x d (minus k i) lk) (along_x d (minus (at e) i) le) (along_x d (minus (at g) i) lg));
-  y = balanced m.0 l.0 (tg -ℤ tk) (tk -ℤ te) (tg -ℤ te) k.y (at e).y (at g).y m.1 l.1 whole (level_mean (dot d d) d.y i.y k.y (at e).y (at g).y tk te tg n (along_y d (minus k i) lk) (along_y d (minus (at e) i) le) (along_y d (minus (at g) i) lg));
-  z = balanced m.0 l.0 (tg -ℤ tk) (tk -ℤ te) (tg -ℤ te) k.z (at e).z (at g).z m.1 l.1 whole (level_mean (dot d d) d.z i.z k.z (at e).z (at g).z tk te tg n (along_z d (minus k i) lk) (along_z d (minus (at e) i) le) (along_z d (minus (at g) i) lg));
-}
+-- a way ahead is one to a place further on
+ahead : (d o p : Vector) → pos 0 <ℤ dot d (minus p o) → dot d o <ℤ dot d p
+ahead d o p = above _ (dot d p) (dot d o) (dot-minus d p o)
   where
-    d : Vector
-    d = minus j i
+    above : (x p o : ℤ) → x ≡ p +ℤ neg_ℤ o → pos 0 <ℤ x → o <ℤ p
+    above x p o e h = omega (arith, ints)
 
-    tk : ℤ
-    tk = along i j k
+-- the way back
+back : (i j p : Vector) → dot (minus i j) p ≡ neg_ℤ (dot (minus j i) p)
+back i j p = ring (put i (put j (put p []))) (dotE (subE (vec 0) (vec 1)) (vec 2)) (neg (dotE (subE (vec 1) (vec 0)) (vec 2))) refl
 
-    te : ℤ
-    te = along i j (at e)
+-- what is at most b is not c
+chain : (a b c d : ℤ) → a ≤ℤ b → b <ℤ c → c ≤ℤ d → a ≡ d → ⊥
+chain a b c d h k l e = omega (arith, ints)
 
-    tg : ℤ
-    tg = along i j (at g)
+-- the first two ids are members
+pub first_two_in : (ids : List ℕ) (i j : ℕ) → AreFirstTwo ids i j → In i ids × In j ids
+first_two_in ids i j t =
+    let some : 0 < length ids = (let h = t.two in omega (arith, h)) in
+    (subst (λ v. In v ids) t.first (In-get_or ids 0 0 some), subst (λ v. In v ids) t.second (In-get_or ids 1 0 t.two))
 
-    m : (n : ℕ) × (pos n ≡ tg -ℤ tk)
-    m = natural (tg -ℤ tk) (apart tk tg kg)
+module _ (pts : List Vector) (ids : List ℕ) (i j e g : ℕ) (two : AreFirstTwo ids i j) (line : Each (IsInLine pts i j) ids)
+    (first : IsFirstAlong pts ids i j e) (last : IsFirstAlong pts ids j i g) (set : IsIdSet pts ids) where
+  abbrev at : ℕ → Vector
+  at = place pts
 
-    l : (n : ℕ) × (pos n ≡ tk -ℤ te)
-    l = natural (tk -ℤ te) (apart te tk ek)
+  abbrev IsEnd : ℕ → Type 0
+  IsEnd = Extreme at (Members ids)
 
-    whole : (tg -ℤ tk) +ℤ (tk -ℤ te) ≡ tg -ℤ te
-    whole = in_a_row te tk tg
+  has : In i ids × In j ids
+  has = first_two_in ids i j two
+
+  in_line : (k : ℕ) → In k ids → IsInLine pts i j k
+  in_line k m = let r = in_at ids k m in subst (IsInLine pts i j) r.2 (line r.0 r.1)
+
+  -- the way, and how far an id is along it
+  abbrev way : Vector
+  way = minus (at j) (at i)
+
+  abbrev far : ℕ → ℤ
+  far k = dot way (at k)
+
+  -- different ids are apart
+  apart : (a b : ℕ) → In a ids → In b ids → a ≢ b → pos 0 <ℤ dot (minus (at b) (at a)) (minus (at b) (at a))
+  apart a b ma mb n = square-positive (minus (at b) (at a)) (λ h. n (set.distinct a b ma mb (same_point (at a) (at b) h)))
+
+  long : pos 0 <ℤ dot way way
+  long = apart i j has.0 has.1 (λ h. ne_of_lt (set.rising 0 two.two) (two.first ∙ h ∙ sym two.second))
+
+  -- w has no greatest between two others
+  not_between : (w : Vector) (a l b : ℕ) → In a ids → In l ids → In b ids → far a ≤ℤ far l → far l ≤ℤ far b
+      → dot w (at a) <ℤ dot w (at l) → dot w (at b) <ℤ dot w (at l) → ⊥
+  unfolding cross
+  not_between w a l b ma ml mb =
+      let see : (k : ℕ) → In k ids → dot way way *ℤ (dot w (at l) -ℤ dot w (at k)) ≡ (far l -ℤ far k) *ℤ dot w way =
+      (λ k m. seen_along way w (at i) (at l) (at k) (in_line l ml ∙ sym (in_line k m))) in
+      not_above (dot way way) (dot w (at a)) (dot w (at l)) (dot w (at b)) (far a) (far l) (far b) (dot w way) long (see a ma) (see b mb)
+
+  -- different ids are not as far
+  strictly : (a b : ℕ) → In a ids → In b ids → a ≢ b → far a ≤ℤ far b → far a <ℤ far b
+  strictly a b ma mb n h =
+      let w = minus (at b) (at a) in let up = ahead w (at a) (at b) (apart a b ma mb n) in
+      le_less (far a) (far b) h (λ q. not_between w a b a ma mb ma h (equal_le (far b) (far a) (sym q)) up up)
+
+  -- the first is the least far, and the last the furthest
+  least : (k : ℕ) → In k ids → far e ≤ℤ far k
+  least k m = later way (at i) (at e) (at k) (first.first k m)
+
+  most : (k : ℕ) → In k ids → far k ≤ℤ far g
+  most k m =
+      let d = minus (at i) (at j) in
+      neg_le _ _ (far g) (far k) (back (at i) (at j) (at g)) (back (at i) (at j) (at k)) (later d (at j) (at g) (at k) (last.first k m))
+
+  -- they differ
+  pub ends_differ : e ≢ g
+  ends_differ h = chain (far e) (far i) (far j) (far g) (least i has.0) (ahead way (at i) (at j) long) (most j has.1) (ap far h)
+
+  -- they are extreme, as the greatest along the way or the way back
+  last_extreme : IsEnd g
+  last_extreme = greatest_is_extreme at ids way g last.member (λ a o. inl (strictly a g o.0 last.member o.1 (most a o.0)))
+
+  first_extreme : IsEnd e
+  first_extreme = greatest_is_extreme at ids (minus (at i) (at j)) e first.member
+      (λ a o. (let up = strictly e a first.member o.0 (λ h. o.1 (sym h)) (least a o.0) in
+      inl (lt_neg _ _ (far a) (far e) (back (at i) (at j) (at a)) (back (at i) (at j) (at e)) up)))
+
+  -- and no other is
+  only : (l : ℕ) → IsEnd l → (l ≡ e) ⊎ (l ≡ g)
+  only l x = go (ℕ_discrete l e) (ℕ_discrete l g) (combination_or_separator at ends (at l))
+    where
+      ends : List ℕ
+      ends = e ∷ g ∷ []
+
+      others : ¬ (l ≡ e) → ¬ (l ≡ g) → (a : ℕ) → In a ends → Others (Members ids) l a
+      others n k a (inl h) = (subst (λ v. In v ids) (sym h) first.member, λ q. n (sym q ∙ h))
+      others n k a (inr (inl h)) = (subst (λ v. In v ids) (sym h) last.member, λ q. k (sym q ∙ h))
+      others n k a (inr (inr h)) = absurd h
+
+      go : Dec (l ≡ e) → Dec (l ≡ g) → Combination at (Members ends) (at l) ⊎ Separator at (Members ends) (at l) → (l ≡ e) ⊎ (l ≡ g)
+      go (yes h) f c = inl h
+      go (no n) (yes h) c = inr h
+      go (no n) (no k) (inl c) = absurd (x.1 (combination_within at (Members ends) (Others (Members ids) l) (at l) c (others n k)))
+      go (no n) (no k) (inr s) =
+          let up = s.past e (inl refl) in let over = s.past g (inr (inl refl)) in
+          absurd (not_between s.w e l g first.member x.0 last.member (least l x.0) (most l x.0) up over)
+
+  -- the two ends are the extreme ids
+  pub two_ends : (l : ℕ) → ((l ≡ e) ⊎ (l ≡ g)) ↔ IsEnd l
+  two_ends l = (ends, only l)
+    where
+      ends : (l ≡ e) ⊎ (l ≡ g) → IsEnd l
+      ends (inl h) = rw (h) first_extreme
+      ends (inr h) = rw (h) last_extreme

@@ -1,4 +1,4 @@
-use Rattle.std.proofs.Common.{◌≡◌, List, ℕ, sym, subst}
+use Rattle.std.proofs.Common.{List, ℕ, subst}
 use Rattle.std.proofs.lemmas.Result.{IfOk-weaker}
 use Rattle.qh_model.specs.contract.IdSets.{IsIdSet}
 use Rattle.qh_model.specs.contract.FinishedSurface.{IsFinished}
@@ -6,16 +6,17 @@ use Rattle.qh_model.specs.headline.Hull.{BodyValue, IsBody}
 use Rattle.qh_model.specs.headline.Predicates.{place}
 use Rattle.qh_model.specs.headline.Sets.{Members}
 use Rattle.qh_model.specs.contract.StoredSurface.{surface_of}
-use Rattle.qh_block.specs.steps.FlatBodies.{point_body}
 use Rattle.qh_model.proofs.Members.{rising_once}
+use Rattle.qh_block.specs.steps.FlatBodies.{IsFlatBody}
 use Rattle.qh_block.proofs.flats.Bodies.{point_is_body}
 use Rattle.qh_block.proofs.hulls.hull_of_all.Goals as goal
 
-pub returns-in-Point : goal.returns-in-Point
-returns-in-Point c =
+pub returns-in_ok-polygon_of-in-Point : goal.returns-in_ok-polygon_of-in-Point
+returns-in_ok-polygon_of-in-Point c =
     let pts = c.args.pts.now in let ids = c.args.ids.now in let shape = c.in-Point.ensures.shape in
-    IfOk-weaker c.body_of_point.result (λ (b : BodyValue). b ≡ point_body c.in-Point.i) (λ (b : BodyValue). IsIdSet pts ids → IsBody (place pts) (Members ids) b)
-    (λ b is s. subst (IsBody (place pts) (Members ids)) (sym is) (point_is_body pts ids c.in-Point.i shape.0 shape.1)) c.body_of_point.ensures
+    IfOk-weaker c.flat_body.result _ _
+    (λ b h s. point_is_body pts ids b c.in-Point.i shape.0 shape.1 (c.in-Point.ensures.dimension s) (subst (λ q. IsFlatBody 0 q 0 b) c.in_ok-polygon_of-in-Point.ensures h))
+    c.flat_body.ensures
 
 pub returns-in_ok-mesh-in-Solid : goal.returns-in_ok-mesh-in-Solid
 returns-in_ok-mesh-in-Solid c =

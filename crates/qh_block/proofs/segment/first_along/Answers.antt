@@ -1,26 +1,39 @@
-use Rattle.std.proofs.Common.{◌<◌, ℕ, length, All, take_all, arith, sym, subst}
-use Rattle.std.specs.Prelude.{◌≤ℤ◌}
-use Rattle.qh_model.proofs.Members.{All-In, In-get_or}
-use Rattle.qh_block.specs.steps.Segments.{position}
-use Rattle.qh_block.proofs.SegmentSteps.{one_of, first_more}
+-- The lowest of some ids and one more is the lower one of these two.
+use Rattle.std.proofs.Common.{◌≡◌, ◌<◌, ◌+◌, ℕ, List, length, get_or, arith, refl, subst, sym, ◌∙◌, ◌⊎◌, inl, inr, false, true}
+use Rattle.std.proofs.lemmas.Grind.{get_or_default_zero}
+use Rattle.std.proofs.lemmas.Int.{ints}
+use Rattle.std.specs.Prelude.{ℤ, ◌≤ℤ◌, ◌<ℤ◌}
 use Rattle.qh_model.specs.headline.Sets.{In}
+use Rattle.qh_model.proofs.Members.{In-get_or, All-In, in_at}
+use Rattle.qh_block.specs.steps.Segments.{position}
+use Rattle.qh_block.proofs.segment.first_along.Goals.{then-comes_before, else-comes_before}
 use Rattle.qh_block.proofs.segment.first_along.Goals as goal
 
-pub loop-id-init : goal.loop-id-init
-loop-id-init c =
-    let first : In c.index-ids-0.result c.args.ids.now = subst (λ (v : ℕ). In v c.args.ids.now) (sym c.index-ids-0.is) (In-get_or c.args.ids.now 0 c.index-ids-0.result c.requires.some) in
-    (All-In (λ i. i < length c.args.pts.now) c.args.ids.now c.index-ids-0.result c.requires.indices first, first, λ k d h. absurd (omega (arith, h)))
+lowest : (f : ℕ → ℤ) (ids : List ℕ) (i s k r : ℕ) → i < length ids → k ≡ get_or ids i k
+    → ((r ≡ k) × (f k <ℤ f s)) ⊎ ((r ≡ s) × ¬ (f k <ℤ f s)) → In s ids → ((m : ℕ) → m < i → f s ≤ℤ f (get_or ids m 0))
+    → In r ids × ((m : ℕ) → m < i + 1 → f r ≤ℤ f (get_or ids m 0))
+lowest f ids i s k r l e (inl p) ms low =
+    let is = e ∙ get_or_default_zero ids i k l in
+    (subst (λ v. In v ids) (sym (p.0 ∙ is)) (In-get_or ids i 0 l), λ m n. grind (arith, ints, low, n, is, p))
+lowest f ids i s k r l e (inr p) ms low =
+    let is = e ∙ get_or_default_zero ids i k l in
+    (subst (λ v. In v ids) (sym p.0) ms, λ m n. grind (arith, ints, low, n, is, p))
 
 pub loop-id-preserved : goal.loop-id-preserved
 loop-id-preserved c =
-    let member = one_of c.args.ids.now c.loop-id.id-index c.earlier-first.result c.loop-id.first c.id-item.result c.loop-id-test.true c.id-item.is c.earlier-first.ensures.one c.loop-id.invariant.1 in (
-      All-In (λ i. i < length c.args.pts.now) c.args.ids.now c.earlier-first.result c.requires.indices member,
-      member,
-      first_more c.args.pts.now c.args.ids.now c.args.a c.args.b c.loop-id.id-index c.earlier-first.result c.loop-id.first c.id-item.result c.loop-id-test.true c.id-item.is
-          c.earlier-first.ensures.first c.earlier-first.ensures.second c.loop-id.invariant.2,
-    )
+    let pts = c.args.pts.now in let ids = c.args.ids.now in let r = c.if-comes_before.first in let at = position pts c.args.a c.args.b in
+    let kept = lowest at ids c.loop-id.id-index c.loop-id.first c.id-item.result r c.loop-id-test.true c.id-item.is
+    (elim c.if-comes_before.branch [
+      | then-comes_before w ↦ inl (w.first-is, w.if-comes_before.ensures.0 refl)
+      | else-comes_before w ↦ inr (w.first-is, λ h. let e : false ≡ true = w.if-comes_before.ensures.1 h in cc)
+    ]) c.loop-id.invariant.1 c.loop-id.invariant.2 in
+    (All-In (λ v. v < length pts) ids r c.requires.indices kept.0, kept.0, kept.1)
 
-pub returns-clause-first : goal.returns-clause-first
-returns-clause-first c =
-    let all = subst (λ xs. All (λ k. position c.args.pts.now c.args.a c.args.b c.loop-id.first ≤ℤ position c.args.pts.now c.args.a c.args.b k) xs) (take_all c.loop-id.id-index c.args.ids.now c.loop-id-test.false) c.loop-id.invariant.2 in
-    record { member = c.loop-id.invariant.1; first = λ k h. All-In (λ j. position c.args.pts.now c.args.a c.args.b c.loop-id.first ≤ℤ position c.args.pts.now c.args.a c.args.b j) c.args.ids.now k all h }
+pub returns : goal.returns
+returns c =
+    let at = position c.args.pts.now c.args.a c.args.b in
+    record {
+      member = c.loop-id.invariant.1;
+      first = λ k m. let r = in_at c.args.ids.now k m in
+          subst (λ v. at c.loop-id.first ≤ℤ at v) r.2 (c.loop-id.invariant.2 r.0 (let h = r.1 in omega (arith, h, c.loop-id-test.false)));
+    }

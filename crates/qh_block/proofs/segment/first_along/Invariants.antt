@@ -1,4 +1,5 @@
-use Rattle.std.proofs.Common.{◌<◌, length, take, All}
+-- The first of the ids looked at.
+use Rattle.std.proofs.Common.{◌<◌, ℕ, length, get_or}
 use Rattle.std.specs.Prelude.{◌≤ℤ◌}
 use Rattle.qh_model.specs.headline.Sets.{In}
 use Rattle.qh_block.specs.steps.Segments.{position}
@@ -8,4 +9,4 @@ abbrev pub invariant-loop-id : goal.invariant-loop-id
 invariant-loop-id l =
     (l.first < length l.pts)
     × In l.first l.ids
-    × All (λ k. position l.pts l.a l.b l.first ≤ℤ position l.pts l.a l.b k) (take l.id-index l.ids)
+    × ((m : ℕ) → m < l.id-index → position l.pts l.a l.b l.first ≤ℤ position l.pts l.a l.b (get_or l.ids m 0))
