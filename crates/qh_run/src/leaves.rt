@@ -15,6 +15,9 @@ const LEAVES: u32 = 8;
 /// How many leaves a worker has at least to choose from, where there are so many blocks.
 const LEAVES_EACH: u32 = 2;
 
+/// A tree has a leaf for so many ids at most: in a large leaf one look finds most of the points inside.
+const LEAF: u32 = 65536;
+
 /// The bounds of a cut whose blocks are so many neighbouring blocks of another, the last perhaps fewer.
 fn wider_bounds(alloc: Global, cut: &Cut, together: u32) -> Result<Vec<u32>, AllocError>
     requires { 0 < together }
@@ -43,6 +46,8 @@ pub(crate) fn leaves_of(alloc: Global, cut: &Cut, workers: u32) -> Option<Cut>
     if blocks <= most {
         return None;
     }
-    let bounds = wider_bounds(alloc, cut, blocks.div_ceil(most)).ok()?;
+    let (_, ids) = cut.block(blocks - 1);
+    let leaves = most.min(ids / LEAF).max(1);
+    let bounds = wider_bounds(alloc, cut, blocks.div_ceil(leaves)).ok()?;
     Cut::from_bounds(bounds).ok()
 }

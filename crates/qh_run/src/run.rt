@@ -106,10 +106,10 @@ fn body<R: Threads + Sync, G: Gate>(
 /// positions; the list has at most `POINT_LIMIT` points. These are the caller's conditions.
 ///
 /// The workers share the blocks, and the gate is told of each; where there are more than 8, and more
-/// than two a worker, neighbours are put together first. Then the calling thread hands to the
-/// gate's `finish`, once, the extreme ids that came out of all blocks, or all ids where none did: a
-/// worker gave up, or the board or a worker could not be made. The answer does not depend on the cut, nor
-/// on the number of workers or the order of their steps.
+/// than two a worker, neighbours are put together first, so that there is a block for each 65,536 ids at
+/// most. Then the calling thread hands to the gate's `finish`, once, the extreme ids that came out of all
+/// blocks, or all ids where none did: a worker gave up, or the board or a worker could not be made. The
+/// answer does not depend on the cut, nor on the number of workers or the order of their steps.
 ///
 /// # Errors
 ///
