@@ -3,6 +3,7 @@ pub mod Cones
 pub mod FaceKeys
 pub mod Faces
 pub mod FlatBodies
+pub mod IdSets
 pub mod InnerPoints
 pub mod NearOrder
 pub mod OutsideSets

@@ -5,9 +5,11 @@ ghost use Rattle.qh_model.specs.headline.Hull.{AreExtremes, IsBody};
 ghost use Rattle.qh_model.specs.headline.Predicates.{place};
 ghost use Rattle.qh_model.specs.headline.Sets.{Members};
 ghost use Rattle.qh_model.specs.contract.IdSets.{AreIndices};
+ghost use Rattle.qh_block.specs.steps.IdSets.{AreExtremesOf, IsHullOf};
 
 use crate::bodies::{flat_body, polygon_of};
 use crate::flat_sets::{polygon_hull, segment_hull};
+use crate::id_set::IdSet;
 use crate::inner_points::outer_ids;
 use crate::solids::{solid_body, solid_extremes, solid_mesh};
 use qh_model::{Body, Id, Memory, Point};
@@ -15,32 +17,30 @@ use qh_plane::{Shape, rank};
 use std::alloc::Global;
 
 /// The extreme ids of a set, rising, by a run over all of its ids.
-fn extremes_of_all(alloc: Global, pts: &[Point], ids: &[Id]) -> Result<Vec<Id>, Memory>
-    requires some { 0 < length ids.now }
-    requires indices { AreIndices pts.now ids.now }
-    ensures { IfOk result (λ v. IsIdSet pts.now ids.now → AreExtremes (place pts.now) (Members ids.now) v.items) }
+fn extremes_of_all(alloc: Global, set: IdSet) -> Result<Vec<Id>, Memory>
+    requires some { 0 < length set.ids.now }
+    ensures { IfOk result (λ v. AreExtremesOf set.entry v.items) }
 {
-    if let Shape::Solid(i, j, k, l) = rank(pts, ids) {
-        let mesh = solid_mesh(alloc, pts, ids, i, j, k, l)?;
-        return solid_extremes(alloc, pts, &mesh);
+    if let Shape::Solid(i, j, k, l) = rank(set.pts, set.ids) {
+        let mesh = solid_mesh(alloc, set.pts, set.ids, i, j, k, l)?;
+        return solid_extremes(alloc, set.pts, &mesh);
     }
-    let body = hull_of_all(alloc, pts, ids)?;
+    let body = hull_of_all(alloc, set)?;
     Ok(body.extremes)
 }
 
 /// The hull of a set, by a run over all of its ids.
-fn hull_of_all(alloc: Global, pts: &[Point], ids: &[Id]) -> Result<Body, Memory>
-    requires some { 0 < length ids.now }
-    requires indices { AreIndices pts.now ids.now }
-    ensures { IfOk result (λ b. IsIdSet pts.now ids.now → IsBody (place pts.now) (Members ids.now) b) }
+fn hull_of_all(alloc: Global, set: IdSet) -> Result<Body, Memory>
+    requires some { 0 < length set.ids.now }
+    ensures { IfOk result (IsHullOf set.entry) }
 {
-    match rank(pts, ids) {
+    match rank(set.pts, set.ids) {
         Shape::Point(i) => flat_body(alloc, 0, polygon_of(alloc, &[i])?, 0),
-        Shape::Segment(i, j) => segment_hull(alloc, pts, ids, i, j),
-        Shape::Flat(i, j, k) => polygon_hull(alloc, pts, ids, i, j, k),
+        Shape::Segment(i, j) => segment_hull(alloc, set, i, j),
+        Shape::Flat(i, j, k) => polygon_hull(alloc, set, i, j, k),
         Shape::Solid(i, j, k, l) => {
-            let mesh = solid_mesh(alloc, pts, ids, i, j, k, l)?;
-            solid_body(alloc, pts, &mesh)
+            let mesh = solid_mesh(alloc, set.pts, set.ids, i, j, k, l)?;
+            solid_body(alloc, set.pts, &mesh)
         }
     }
 }
@@ -60,9 +60,10 @@ pub fn extremes(alloc: Global, pts: &[Point], ids: &[Id]) -> Result<Vec<Id>, Mem
     requires indices { AreIndices pts.now ids.now }
     ensures { IfOk result (λ v. IsIdSet pts.now ids.now → AreExtremes (place pts.now) (Members ids.now) v.items) }
 {
-    match outer_ids(alloc, pts, ids)? {
-        Some(outer) => extremes_of_all(alloc, pts, &outer),
-        None => extremes_of_all(alloc, pts, ids),
+    let set = IdSet { pts, ids };
+    match outer_ids(alloc, set)? {
+        Some(outer) => extremes_of_all(alloc, IdSet { pts, ids: &outer }),
+        None => extremes_of_all(alloc, set),
     }
 }
 
@@ -85,8 +86,9 @@ pub fn hull(alloc: Global, pts: &[Point], ids: &[Id]) -> Result<Body, Memory>
     requires indices { AreIndices pts.now ids.now }
     ensures { IfOk result (λ b. IsIdSet pts.now ids.now → IsBody (place pts.now) (Members ids.now) b) }
 {
-    match outer_ids(alloc, pts, ids)? {
-        Some(outer) => hull_of_all(alloc, pts, &outer),
-        None => hull_of_all(alloc, pts, ids),
+    let set = IdSet { pts, ids };
+    match outer_ids(alloc, set)? {
+        Some(outer) => hull_of_all(alloc, IdSet { pts, ids: &outer }),
+        None => hull_of_all(alloc, set),
     }
 }

@@ -17,6 +17,7 @@ mod face_order;
 mod faces;
 mod flat_sets;
 mod hulls;
+mod id_set;
 mod inner_points;
 mod normals;
 mod plane_walk;

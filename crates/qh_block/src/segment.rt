@@ -1,8 +1,8 @@
 //! The ends of a set of points in one line.
 ghost use Rattle.std.specs.Prelude.{◌<◌, ◌<ℤ◌, ◌↔◌, IsTrue, length};
-ghost use Rattle.qh_model.specs.contract.IdSets.{AreIndices};
 ghost use Rattle.qh_block.specs.steps.Segments.{position, IsFirstAlong};
 
+use crate::id_set::IdSet;
 use qh_model::{Id, Point};
 use qh_pred::{along, point_at};
 
@@ -20,16 +20,15 @@ fn comes_before(pts: &[Point], a: Id, b: Id, k: Id, l: Id) -> bool
 }
 
 /// The id whose point is the first along the way from the point of `a` to that of `b`.
-pub fn first_along(pts: &[Point], ids: &[Id], a: Id, b: Id) -> Id
-    requires some { 0 < length ids.now }
-    requires indices { AreIndices pts.now ids.now }
-    requires a_in { a < length pts.now }
-    requires b_in { b < length pts.now }
-    ensures { IsFirstAlong pts.now ids.now a b result }
+pub fn first_along(set: IdSet, a: Id, b: Id) -> Id
+    requires some { 0 < length set.ids.now }
+    requires a_in { a < length set.pts.now }
+    requires b_in { b < length set.pts.now }
+    ensures { IsFirstAlong set.entry.pts.now set.entry.ids.now a b result }
 {
-    let mut first = ids[0];
-    for id in ids {
-        if comes_before(pts, a, b, *id, first) {
+    let mut first = set.ids[0];
+    for id in set.ids {
+        if comes_before(set.pts, a, b, *id, first) {
             first = *id;
         }
     }

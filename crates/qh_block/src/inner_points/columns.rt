@@ -3,12 +3,12 @@ ghost use Rattle.std.specs.Prelude.{IfOk, IsTrue};
 ghost use Rattle.std.specs.List.{All};
 ghost use Rattle.qh_model.specs.headline.Limits.{IsCoordinate};
 ghost use Rattle.qh_model.specs.headline.Sets.{In};
-ghost use Rattle.qh_model.specs.contract.IdSets.{AreIndices};
 ghost use Rattle.qh_block.specs.declared.inner_points.bounds.Bounds.{Bounds};
 ghost use Rattle.qh_block.specs.steps.InnerPoints.{IsWithin, IsBelowAll};
 
+use crate::id_set::IdSet;
 use crate::inner_points::bounds::{Bounds, far_end};
-use qh_model::{COORDINATE_LIMIT, Id, Point};
+use qh_model::{COORDINATE_LIMIT, Point};
 use qh_pred::{Plane, point_at};
 use std::alloc::{AllocError, Global};
 use std::cmp::Ordering;
@@ -51,13 +51,11 @@ fn nearest_coordinate(number: i64) -> i32
 
 impl Grid {
     /// The grid over the points of ids.
-    fn over(pts: &[Point], ids: &[Id]) -> Grid
-        requires { AreIndices pts.now ids.now }
-    {
+    fn over(set: IdSet) -> Grid {
         let (mut west, mut east) = (i32::MAX, i32::MIN);
         let (mut south, mut north) = (i32::MAX, i32::MIN);
-        for id in ids {
-            let point = point_at(pts, *id);
+        for id in set.ids {
+            let point = point_at(set.pts, *id);
             west = west.min(point.x());
             east = east.max(point.x());
             south = south.min(point.y());
@@ -178,16 +176,10 @@ fn box_in(planes: &[Plane], column: &Bounds) -> Bounds
 
 impl Columns {
     /// The columns over the points of ids, with their boxes below all planes.
-    pub fn below(
-        alloc: Global,
-        planes: &[Plane],
-        pts: &[Point],
-        ids: &[Id],
-    ) -> Result<Columns, AllocError>
-        requires { AreIndices pts.now ids.now }
+    pub fn below(alloc: Global, planes: &[Plane], set: IdSet) -> Result<Columns, AllocError>
         ensures { IfOk result (λ c. All (IsBelowAll planes.now) c.boxes.items) }
     {
-        let grid = Grid::over(pts, ids);
+        let grid = Grid::over(set);
         let mut boxes = Vec::new(alloc);
         for number in 0..SIDE * SIDE {
             boxes.push(box_in(planes, &grid.column(number)))?;

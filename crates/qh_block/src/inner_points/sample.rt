@@ -2,10 +2,10 @@
 ghost use Rattle.std.specs.Prelude.{◌<◌, ℕ, IfOk, IfSome, IsTrue, length};
 ghost use Rattle.std.specs.List.Sorted.{IsStrictlyIncreasing};
 ghost use Rattle.qh_model.specs.headline.Sets.{In};
-ghost use Rattle.qh_model.specs.contract.IdSets.{AreIndices};
 ghost use Rattle.qh_block.specs.steps.InnerPoints.{HasPlanes, AreInner};
 ghost use Rattle.qh_block.specs.steps.PlaneWalks.{AreCornersBelow};
 
+use crate::id_set::IdSet;
 use crate::inner_points::columns::Columns;
 use crate::quickhull::plane_of;
 use crate::solids::solid_mesh;
@@ -56,23 +56,22 @@ fn rise(ids: &[Id]) -> bool
     true
 }
 
-/// The columns inside the hull of a sample; none where it lies in a plane or does not rise, or where it has facets so many
-/// that few ids can be inside.
-pub fn inner_columns(alloc: Global, pts: &[Point], sample: &[Id]) -> Result<Option<Columns>, Memory>
-    requires some { 0 < length sample.now }
-    requires indices { AreIndices pts.now sample.now }
-    ensures { IfOk result (λ found. IfSome found (λ columns. AreInner pts.now sample.now columns.boxes.items)) }
+/// The columns inside the hull of a sample; none where it lies in a plane or does not rise, or where it
+/// has facets so many that few ids can be inside.
+pub fn inner_columns(alloc: Global, sample: IdSet) -> Result<Option<Columns>, Memory>
+    requires { 0 < length sample.ids.now }
+    ensures { IfOk result (λ found. IfSome found (λ c. AreInner sample.entry.pts.now sample.entry.ids.now c.boxes.items)) }
 {
-    let Shape::Solid(i, j, k, l) = rank(pts, sample) else {
+    let Shape::Solid(i, j, k, l) = rank(sample.pts, sample.ids) else {
         return Ok(None);
     };
-    if !rise(sample) {
+    if !rise(sample.ids) {
         return Ok(None);
     }
-    let mesh = solid_mesh(alloc, pts, sample, i, j, k, l)?;
-    let planes = planes_of(alloc, pts, &mesh)?;
-    if planes.len() > sample.len() {
+    let mesh = solid_mesh(alloc, sample.pts, sample.ids, i, j, k, l)?;
+    let planes = planes_of(alloc, sample.pts, &mesh)?;
+    if planes.len() > sample.ids.len() {
         return Ok(None);
     }
-    Ok(Some(Columns::below(alloc, &planes, pts, sample)?))
+    Ok(Some(Columns::below(alloc, &planes, sample)?))
 }

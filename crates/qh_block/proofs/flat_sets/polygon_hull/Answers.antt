@@ -10,7 +10,7 @@ use Rattle.qh_block.proofs.flat_sets.polygon_hull.Goals as goal
 
 pub returns : goal.returns
 returns c =
-    let pts = c.args.pts.now in let ids = c.args.ids.now in let i = c.args.i in let j = c.args.j in let k = c.args.k in
+    let pts = c.args.set.pts.now in let ids = c.args.set.ids.now in let i = c.args.i in let j = c.args.j in let k = c.args.k in
     let n = c.forward-normal.result in let q = c.in_ok-polygon.polygon in
     let two = c.requires.two in let off = c.requires.off_line in let plane = c.requires.plane in
     let is : c.cross.result ≡ cross (place pts i) (place pts j) (place pts k) =

@@ -7,7 +7,7 @@ use Rattle.qh_block.proofs.flat_sets.segment_hull.Goals as goal
 
 pub returns : goal.returns
 returns c =
-    let pts = c.args.pts.now in let ids = c.args.ids.now in let i = c.args.i in let j = c.args.j in
+    let pts = c.args.set.pts.now in let ids = c.args.set.ids.now in let i = c.args.i in let j = c.args.j in
     let e = c.first_along-first.result in let g = c.first_along-last.result in
     let first = c.first_along-first.ensures in let last = c.first_along-last.ensures in let is = c.in_ok-polygon_of.ensures in
     IfOk-weaker c.flat_body.result _ _

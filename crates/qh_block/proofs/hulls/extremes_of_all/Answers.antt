@@ -11,7 +11,7 @@ use Rattle.qh_block.proofs.hulls.extremes_of_all.Goals as goal
 
 pub returns-in-Solid : goal.returns-in-Solid
 returns-in-Solid c =
-    let pts = c.args.pts.now in let ids = c.args.ids.now in
+    let pts = c.args.set.pts.now in let ids = c.args.set.ids.now in
     IfOk-weaker c.solid_extremes.result
     (λ v. (ids : List ℕ) → IsIdSet pts ids → IsFinished (place pts) ids (surface_of c.in_ok-mesh.mesh) → AreExtremes (place pts) (Members ids) v.items) (λ v. IsIdSet pts ids → AreExtremes (place pts) (Members ids) v.items)
     (λ v h s. h ids s (c.in_ok-mesh.ensures.finished (rising_once ids s.rising))) c.solid_extremes.ensures

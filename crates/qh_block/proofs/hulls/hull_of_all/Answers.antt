@@ -13,14 +13,14 @@ use Rattle.qh_block.proofs.hulls.hull_of_all.Goals as goal
 
 pub returns-in_ok-polygon_of-in-Point : goal.returns-in_ok-polygon_of-in-Point
 returns-in_ok-polygon_of-in-Point c =
-    let pts = c.args.pts.now in let ids = c.args.ids.now in let shape = c.in-Point.ensures.shape in
+    let pts = c.args.set.pts.now in let ids = c.args.set.ids.now in let shape = c.in-Point.ensures.shape in
     IfOk-weaker c.flat_body.result _ _
     (λ b h s. point_is_body pts ids b c.in-Point.i shape.0 shape.1 (c.in-Point.ensures.dimension s) (subst (λ q. IsFlatBody 0 q 0 b) c.in_ok-polygon_of-in-Point.ensures h))
     c.flat_body.ensures
 
 pub returns-in_ok-mesh-in-Solid : goal.returns-in_ok-mesh-in-Solid
 returns-in_ok-mesh-in-Solid c =
-    let pts = c.args.pts.now in let ids = c.args.ids.now in
+    let pts = c.args.set.pts.now in let ids = c.args.set.ids.now in
     IfOk-weaker c.solid_body.result
     (λ (b : BodyValue). (ids : List ℕ) → IsIdSet pts ids → IsFinished (place pts) ids (surface_of c.in_ok-mesh-in-Solid.mesh) → IsBody (place pts) (Members ids) b) (λ (b : BodyValue). IsIdSet pts ids → IsBody (place pts) (Members ids) b)
     (λ b h s. h ids s (c.in_ok-mesh-in-Solid.ensures.finished (rising_once ids s.rising))) c.solid_body.ensures

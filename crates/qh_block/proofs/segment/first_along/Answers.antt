@@ -21,19 +21,19 @@ lowest f ids i s k r l e (inr p) ms low =
 
 pub loop-id-preserved : goal.loop-id-preserved
 loop-id-preserved c =
-    let pts = c.args.pts.now in let ids = c.args.ids.now in let r = c.if-comes_before.first in let at = position pts c.args.a c.args.b in
+    let pts = c.args.set.pts.now in let ids = c.args.set.ids.now in let r = c.if-comes_before.first in let at = position pts c.args.a c.args.b in
     let kept = lowest at ids c.loop-id.id-index c.loop-id.first c.id-item.result r c.loop-id-test.true c.id-item.is
     (elim c.if-comes_before.branch [
       | then-comes_before w ↦ inl (w.first-is, w.if-comes_before.ensures.0 refl)
       | else-comes_before w ↦ inr (w.first-is, λ h. let e : false ≡ true = w.if-comes_before.ensures.1 h in cc)
     ]) c.loop-id.invariant.1 c.loop-id.invariant.2 in
-    (All-In (λ v. v < length pts) ids r c.requires.indices kept.0, kept.0, kept.1)
+    (All-In (λ v. v < length pts) ids r c.args.set.indices kept.0, kept.0, kept.1)
 
 pub returns : goal.returns
 returns c =
-    let at = position c.args.pts.now c.args.a c.args.b in
+    let at = position c.args.set.pts.now c.args.a c.args.b in
     record {
       member = c.loop-id.invariant.1;
-      first = λ k m. let r = in_at c.args.ids.now k m in
+      first = λ k m. let r = in_at c.args.set.ids.now k m in
           subst (λ v. at c.loop-id.first ≤ℤ at v) r.2 (c.loop-id.invariant.2 r.0 (let h = r.1 in omega (arith, h, c.loop-id-test.false)));
     }

@@ -7,6 +7,6 @@ use Rattle.qh_block.proofs.segment.first_along.Given as goal
 
 abbrev pub invariant-loop-id : goal.invariant-loop-id
 invariant-loop-id l =
-    (l.first < length l.pts)
-    × In l.first l.ids
-    × ((m : ℕ) → m < l.id-index → position l.pts l.a l.b l.first ≤ℤ position l.pts l.a l.b (get_or l.ids m 0))
+    (l.first < length l.set.pts.now)
+    × In l.first l.set.ids.now
+    × ((m : ℕ) → m < l.id-index → position l.set.pts.now l.a l.b l.first ≤ℤ position l.set.pts.now l.a l.b (get_or l.set.ids.now m 0))

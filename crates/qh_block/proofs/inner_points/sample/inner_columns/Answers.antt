@@ -4,5 +4,5 @@ use Rattle.qh_block.proofs.inner_points.sample.inner_columns.Goals as goal
 
 pub returns : goal.returns
 returns c =
-    boxes_are_inner c.args.pts.now c.args.sample.now c.in_ok-mesh.mesh c.in_ok-planes.planes.items c.in_ok-below.field-0.boxes.items (c.in_ok-mesh.ensures.finished (rising_once c.args.sample.now (c.rise.ensures c.if-not-rise.false))) c.in_ok-planes.ensures
+    boxes_are_inner c.args.sample.pts.now c.args.sample.ids.now c.in_ok-mesh.mesh c.in_ok-planes.planes.items c.in_ok-below.field-0.boxes.items (c.in_ok-mesh.ensures.finished (rising_once c.args.sample.ids.now (c.rise.ensures c.if-not-rise.false))) c.in_ok-planes.ensures
     (rw (c.deref.ensures.value) at c.in_ok-below.ensures)
