@@ -21,7 +21,8 @@ lowest f ids i s k r l e (inr p) ms low =
 
 pub loop-id-preserved : goal.loop-id-preserved
 loop-id-preserved c =
-    let pts = c.args.set.pts.now in let ids = c.args.set.ids.now in let r = c.if-comes_before.first in let at = position pts c.args.a c.args.b in
+    let pts = c.args.set.pts.now in let ids = c.args.set.ids.now in
+    let r = c.if-comes_before.first in let at = position pts c.args.a c.args.b in
     let kept = lowest at ids c.loop-id.id-index c.loop-id.first c.id-item.result r c.loop-id-test.true c.id-item.is
     (elim c.if-comes_before.branch [
       | then-comes_before w ↦ inl (w.first-is, w.if-comes_before.ensures.0 refl)
