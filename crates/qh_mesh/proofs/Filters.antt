@@ -1,70 +1,50 @@
--- Members of lists of numbers by their places, and what a filter keeps of them.
-use Rattle.std.proofs.Common.{◌≡◌, ◌≢◌, ℕ, zero, suc, ◌<◌, ◌≤◌, arith, sym, ◌∙◌, refl, Bool, true, false, cond, List, [], ◌∷◌, length}
+-- What a filter keeps of a list, and the place of a member.
+use Rattle.std.proofs.Common.{◌≡◌, ℕ, zero, suc, ◌<◌, ◌≤◌, arith, ap, sym, ◌∙◌, refl, subst, Bool, true, false, cond, inl, inr, ◌⊎◌, List, [], ◌∷◌, length, map, get_or}
 use Rattle.std.specs.Prelude.{filter}
-use Rattle.qh_mesh.specs.contract.Replacement.{at}
+use Rattle.std.proofs.lemmas.Bool.{cases_Bool, both_ways}
+use Rattle.qh_model.specs.headline.Sets.{In, Once}
+use Rattle.qh_model.proofs.Members.{In-get_or}
+use Rattle.qh_model.proofs.lists.Images.{of_map}
 
--- x stands in xs
-abbrev pub StandsIn : ℕ → List ℕ → Type 0
-StandsIn x xs = (j : ℕ) × ((j < length xs) × (at xs j ≡ x))
+module _ {X : Type 0} (p : X → Bool) where
+  -- what passes is kept
+  pub in_filter : (xs : List X) (x : X) → In x xs → p x ≡ true → In x (filter p xs)
+  in_filter [] x i e = i
+  in_filter (y ∷ xs) x (inl q) e = rw (ap p (sym q) ∙ e) (inl q)
+  in_filter (y ∷ xs) x (inr i) e = by (p y) (in_filter xs x i e)
+    where
+      by : (b : Bool) → In x (filter p xs) → In x (cond b (y ∷ filter p xs) (filter p xs))
+      by true j = inr j
+      by false j = j
 
--- no number stands twice
-abbrev pub Distinct : List ℕ → Type 0
-Distinct xs = (i j : ℕ) → i < j → j < length xs → at xs i ≢ at xs j
+  -- and it alone
+  pub of_filter : (xs : List X) (x : X) → In x (filter p xs) → In x xs × (p x ≡ true)
+  of_filter [] x i = absurd i
+  of_filter (y ∷ xs) x i = by (p y) refl (λ j. let r = of_filter xs x j in (inr r.0, r.1)) i
+    where
+      by : (b : Bool) → p y ≡ b → (In x (filter p xs) → In x (y ∷ xs) × (p x ≡ true)) → In x (cond b (y ∷ filter p xs) (filter p xs)) → In x (y ∷ xs) × (p x ≡ true)
+      by true e rest (inl q) = (inl q, ap p q ∙ e)
+      by true e rest (inr j) = rest j
+      by false e rest j = rest j
 
--- a member of the rest is a member
-pub in_later : (x y : ℕ) (xs : List ℕ) → StandsIn x xs → StandsIn x (y ∷ xs)
-in_later x y xs p = (suc p.0, (omega (arith, p.1.0), p.1.1))
+  -- each member once
+  pub once_filter : (xs : List X) → Once xs → Once (filter p xs)
+  once_filter [] o = tt
+  once_filter (y ∷ xs) o = by (p y) (once_filter xs o.1)
+    where
+      by : (b : Bool) → Once (filter p xs) → Once (cond b (y ∷ filter p xs) (filter p xs))
+      by true r = ((λ i. o.0 (of_filter xs y i).0), r)
+      by false r = r
 
--- the step of filter_from, by whether the first number passes
-filter_from_b : (p : ℕ → Bool) (x : ℕ) (xs : List ℕ) (b : Bool) → p x ≡ b → ((j : ℕ) → j < length (filter p xs) → StandsIn (at (filter p xs) j) xs × (p (at (filter p xs) j) ≡ true))
-    → (j : ℕ) → j < length (cond b (x ∷ filter p xs) (filter p xs)) → StandsIn (at (cond b (x ∷ filter p xs) (filter p xs)) j) (x ∷ xs) × (p (at (cond b (x ∷ filter p xs) (filter p xs)) j) ≡ true)
-filter_from_b p x xs true e ih zero l = ((0, (omega arith, refl)), e)
-filter_from_b p x xs true e ih (suc j) l = let r = ih j (omega arith) in (in_later (at (filter p xs) j) x xs r.0, r.1)
-filter_from_b p x xs false e ih j l = let r = ih j l in (in_later (at (filter p xs) j) x xs r.0, r.1)
+-- the image of members that keep apart has each once
+pub once_map : {X Y : Type 0} (f : X → Y) (xs : List X) → ((x y : X) → In x xs → In y xs → f x ≡ f y → x ≡ y) → Once xs → Once (map f xs)
+once_map f [] h o = tt
+once_map f (x ∷ xs) h o = ((λ i. let r = of_map f xs (f x) i in o.0 (subst (λ y. In y xs) (sym (h x r.0 (inl refl) (inr r.1) r.2)) r.1)), once_map f xs (λ y z i j. h y z (inr i) (inr j)) o.1)
 
--- what a filter keeps is of the list and passes
-pub filter_from : (p : ℕ → Bool) (xs : List ℕ) (j : ℕ) → j < length (filter p xs) → StandsIn (at (filter p xs) j) xs × (p (at (filter p xs) j) ≡ true)
-filter_from p [] j l = absurd (omega arith)
-filter_from p (x ∷ xs) j l = filter_from_b p x xs (p x) refl (filter_from p xs) j l
-
--- what the rest of a filter keeps, the whole keeps
-filter_to_b : (p : ℕ → Bool) (x y : ℕ) (xs : List ℕ) (b : Bool) → StandsIn y (filter p xs) → StandsIn y (cond b (x ∷ filter p xs) (filter p xs))
-filter_to_b p x y xs true r = in_later y x (filter p xs) r
-filter_to_b p x y xs false r = r
-
--- a filter keeps a first number that passes
-filter_head : (p : ℕ → Bool) (x : ℕ) (xs : List ℕ) (b : Bool) → b ≡ true → StandsIn x (cond b (x ∷ filter p xs) (filter p xs))
-filter_head p x xs true e = (0, (omega arith, refl))
-filter_head p x xs false e = absurd (cc)
-
--- a filter keeps each number that passes
-pub filter_to : (p : ℕ → Bool) (xs : List ℕ) (i : ℕ) → i < length xs → p (at xs i) ≡ true → StandsIn (at xs i) (filter p xs)
-filter_to p [] i l e = absurd (omega arith)
-filter_to p (x ∷ xs) zero l e = filter_head p x xs (p x) e
-filter_to p (x ∷ xs) (suc i) l e = filter_to_b p x (at xs i) xs (p x) (filter_to p xs i (omega arith) e)
-
--- the rest of distinct numbers is distinct
-later : (x : ℕ) (xs : List ℕ) → Distinct (x ∷ xs) → Distinct xs
-later x xs d i j l m = d (suc i) (suc j) (omega arith) (omega arith)
-
--- the step of filter_apart, by whether the first number passes
-filter_apart_b : (p : ℕ → Bool) (x : ℕ) (xs : List ℕ) (b : Bool) → Distinct (x ∷ xs) → Distinct (filter p xs) → Distinct (cond b (x ∷ filter p xs) (filter p xs))
-filter_apart_b p x xs false d r i j l m = r i j l m
-filter_apart_b p x xs true d r i zero l m = absurd (omega arith)
-filter_apart_b p x xs true d r zero (suc j) l m =
-    let k = (filter_from p xs j (omega arith)).0 in λ e. d 0 (suc k.0) (omega arith) (omega (arith, k.1.0)) (e ∙ sym k.1.1)
-filter_apart_b p x xs true d r (suc i) (suc j) l m = r i j (omega arith) (omega arith)
-
--- a filter of distinct numbers is distinct
-pub filter_apart : (p : ℕ → Bool) (xs : List ℕ) → Distinct xs → Distinct (filter p xs)
-filter_apart p [] d = λ i j l m. absurd (omega arith)
-filter_apart p (x ∷ xs) d = filter_apart_b p x xs (p x) d (filter_apart p xs (later x xs d))
-
--- a part of a list is no longer than it
-pub length_filter : (p : ℕ → Bool) (xs : List ℕ) → length (filter p xs) ≤ length xs
-length_filter p [] = omega arith
-length_filter p (x ∷ xs) = by (p x) (length_filter p xs)
-  where
-    by : (b : Bool) → length (filter p xs) ≤ length xs → length (cond b (x ∷ filter p xs) (filter p xs)) ≤ suc (length xs)
-    by true h = omega arith
-    by false h = omega arith
+-- a member that stands once has one place
+pub once_place : {X : Type 0} (d : X) (xs : List X) → Once xs → (i j : ℕ) → i < length xs → j < length xs → get_or xs i d ≡ get_or xs j d → i ≡ j
+once_place d [] o i j l m e = absurd (omega arith)
+once_place d (x ∷ xs) o zero zero l m e = refl
+once_place d (x ∷ xs) o zero (suc j) l m e = absurd (o.0 (subst (λ y. In y xs) (sym e) (In-get_or xs j d (omega arith))))
+once_place d (x ∷ xs) o (suc i) zero l m e = absurd (o.0 (subst (λ y. In y xs) e (In-get_or xs i d (omega arith))))
+once_place d (x ∷ xs) o (suc i) (suc j) l m e = ap suc (once_place d xs o.1 i j (omega arith) (omega arith) e)

@@ -1,72 +1,84 @@
 -- The live and the free places are all places.
-use Rattle.std.proofs.Common.{◌≡◌, ◌≢◌, ℕ, zero, suc, ◌+◌, ◌-◌, ◌*◌, ◌<◌, max, arith, ap, sym, ◌∙◌, refl, Bool, true, false, cond, List, [], ◌∷◌, length, map, subst}
-use Rattle.std.proofs.lemmas.Bool.{not-true}
-use Rattle.std.specs.Prelude.{not}
+use Rattle.std.proofs.Common.{◌≡◌, ℕ, zero, suc, ◌+◌, ◌<◌, ◌≤◌, ◌⊎◌, inl, inr, max, arith, ap, sym, ◌∙◌, Bool, true, false, List, [], ◌∷◌, ◌++◌, length, map, subst}
+use Rattle.std.specs.Prelude.{◌↔◌}
+use Rattle.std.specs.List.{range_with_len}
+use Rattle.std.proofs.lemmas.Bool.{both_ways, cases_Bool}
+use Rattle.std.proofs.lemmas.List.{length-map, length-append, get_or_past}
 use Rattle.qh_model.specs.headline.Sets.{In, Once}
-use Rattle.qh_model.specs.contract.StoredSurface.{StoredFacet, facet_at, live_from, surface_of}
-use Rattle.qh_model.proofs.Members.{In-get_or, in_at}
+use Rattle.qh_model.specs.contract.StoredSurface.{StoredFacet, facet_at, no_facet, surface_of}
+use Rattle.qh_model.proofs.lists.Images.{in_map, of_map}
+use Rattle.qh_model.proofs.lists.Joined.{in_append, of_append, once_append}
 use Rattle.qh_model.proofs.lists.OnceEach.{once_length}
+use Rattle.qh_model.proofs.lists.Ranges.{range_below}
 use Rattle.qh_model.proofs.surfaces.Stored.{live_is_marked, live_is_listed_once}
-use Rattle.qh_mesh.specs.declared.facets.Side.{Side}
-use Rattle.qh_mesh.specs.steps.Cells.{IsSurface}
-use Rattle.qh_mesh.specs.contract.Replacement.{at}
-use Rattle.qh_mesh.specs.steps.Stored.{facets_of}
-use Rattle.qh_mesh.proofs.StoredSides.{stored_len, live_stored}
+use Rattle.qh_mesh.specs.declared.facets.FacetNo.{FacetNo}
+use Rattle.qh_mesh.specs.contract.Replacement.{IsLive}
+use Rattle.qh_mesh.specs.steps.Places.{IsPool}
+use Rattle.qh_mesh.proofs.Filters.{once_map}
+use Rattle.qh_mesh.proofs.NumberCases.{by_le, by_eq}
 
--- the facet with the other mark
-abbrev other : StoredFacet → StoredFacet
-other f = record { i = f.i; j = f.j; k = f.k; ij = f.ij; jk = f.jk; ki = f.ki; live = not f.live }
+-- each number of a range is a member of it
+in_range : (a n l : ℕ) → a ≤ l → l < a + n → In l (range_with_len a n)
+in_range a zero l h k = absurd (omega arith)
+in_range a (suc n) l h k = by_eq (In l (range_with_len a (suc n))) l a (λ e. inl e) (λ e. inr (in_range (a + 1) n l (omega arith) (omega arith)))
 
--- each place is marked one way or the other
-both : (n : ℕ) (fs : List StoredFacet) → length (live_from n fs) + length (live_from n (map other fs)) ≡ length fs
-both n [] = refl
-both n (f ∷ fs) = by f.live (both (n + 1) fs)
-  where
-    by : (b : Bool) → length (live_from (n + 1) fs) + length (live_from (n + 1) (map other fs)) ≡ length fs
-        → length (cond b (n ∷ live_from (n + 1) fs) (live_from (n + 1) fs)) + length (cond (not b) (n ∷ live_from (n + 1) (map other fs)) (live_from (n + 1) (map other fs))) ≡ suc (length fs)
-    by true e = omega arith
-    by false e = omega arith
+-- and stands once
+range_from : (a n l : ℕ) → In l (range_with_len a n) → a ≤ l
+range_from a zero l i = absurd i
+range_from a (suc n) l (inl e) = omega arith
+range_from a (suc n) l (inr i) = let h = range_from (a + 1) n l i in omega arith
 
--- the other mark of a place that is there, and none past the end
-other_at : (fs : List StoredFacet) (f : ℕ) → (facet_at (map other fs) f).live ≡ true → (f < length fs) × ((facet_at fs f).live ≡ false)
-other_at [] f e = cc
-other_at (g ∷ fs) zero e = (omega arith, not-true g.live e)
-other_at (g ∷ fs) (suc f) e = let r = other_at fs f e in (omega (arith, r.0), r.1)
+once_range : (a n : ℕ) → Once (range_with_len a n)
+once_range a zero = tt
+once_range a (suc n) = ((λ i. let h = range_from (a + 1) n a i in omega arith), once_range (a + 1) n)
 
--- a place of no facet has the other mark
-at_other : (fs : List StoredFacet) (f : ℕ) → f < length fs → (facet_at fs f).live ≡ false → (facet_at (map other fs) f).live ≡ true
-at_other [] f l e = absurd (omega arith)
-at_other (g ∷ fs) zero l e = ap not e
-at_other (g ∷ fs) (suc f) l e = at_other fs f (omega arith) e
+range_len : (a n : ℕ) → length (range_with_len a n) ≡ n
+range_len a zero = Rattle.std.proofs.Common.refl
+range_len a (suc n) = ap suc (range_len (a + 1) n)
 
--- a list with no two equal
-once_of : (xs : List ℕ) → ((i j : ℕ) → i < j → j < length xs → at xs i ≢ at xs j) → Once xs
-once_of [] d = tt
-once_of (x ∷ xs) d = ((λ i. let r = in_at xs x i in d 0 (suc r.0) (omega arith) (omega (arith, r.1)) (sym r.2)), once_of xs (λ i j l k. d (suc i) (suc j) (omega arith) (omega arith)))
+-- a live facet has a place
+pub live_inside : (fs : List StoredFacet) (f : ℕ) → IsLive fs f → f < length fs
+live_inside fs f l = by_le (f < length fs) f (length fs) (λ h. h) (λ h. absurd (both_ways (facet_at fs f).live (ap (λ (t : StoredFacet). t.live) (get_or_past fs f no_facet h)) l))
 
--- live and free places together
-pub counted : (ss : List Side) (free : List ℕ) → IsSurface ss free → length (surface_of (facets_of ss)).live + length free ≡ length (facets_of ss)
-counted ss free s =
-    let e : length (live_from 0 (map other (facets_of ss))) ≡ length free =
-    once_length (live_from 0 (map other (facets_of ss))) free (live_is_listed_once (map other (facets_of ss))) (once_of free s.free_apart) (λ z. (to z, from z)) in
-    let b = both 0 (facets_of ss) in omega arith
-  where
-    to : (z : ℕ) → In z (live_from 0 (map other (facets_of ss))) → In z free
-    to z i =
-        let r = other_at (facets_of ss) z ((live_is_marked (map other (facets_of ss)) z).0 i) in
-        let n = stored_len ss s.whole in
-        let t = s.free_all z (omega (arith, r.0)) (sym (live_stored ss z s.whole) ∙ r.1) in
-        subst (λ v. In v free) t.1.1 (In-get_or free t.0 0 t.1.0)
+module _ (fs : List StoredFacet) (free : List FacetNo) (p : IsPool fs [] free) where
+  -- the numbers of the free places
+  abbrev numbers : List ℕ
+  numbers = map (λ (v : FacetNo). v.0) free
 
-    from : (z : ℕ) → In z free → In z (live_from 0 (map other (facets_of ss)))
-    from z i =
-        let r = in_at free z i in
-        let n = stored_len ss s.whole in
-        let l = s.free_in r.0 r.1 in
-        (live_is_marked (map other (facets_of ss)) z).1 (at_other (facets_of ss) z (omega (arith, r.2)) (live_stored ss z s.whole ∙ s.free_dead (3 * z) r.0 r.1 (omega (arith, r.2))))
+  of_free : (f : ℕ) → In f numbers → (f < length fs) × ((facet_at fs f).live ≡ false)
+  of_free f i = let r = of_map (λ (v : FacetNo). v.0) free f i in subst (λ g. (g < length fs) × ((facet_at fs g).live ≡ false)) (sym r.2) (p.dead r.0 (inr r.1))
 
--- places are given out again before there are more
-pub places_are : (s0 s5 : List Side) (free free5 : List ℕ) (v m : ℕ) → IsSurface s0 free → IsSurface s5 free5 → length s5 ≡ length s0 + 3 * (m - (v + length free)) → length free5 ≡ length free - (m - v) + (v - m)
-    → length (facets_of s5) ≡ max (length (facets_of s0)) (length (surface_of (facets_of s5)).live)
-places_are s0 s5 free free5 v m a b n k =
-    let e0 = stored_len s0 a.whole in let e5 = stored_len s5 b.whole in let c5 = counted s5 free5 b in omega arith
+  in_free : (f : ℕ) → f < length fs → (facet_at fs f).live ≡ false → In f numbers
+  in_free f l d = by (p.all (record { 0 = f }) l d)
+    where
+      by : ⊥ ⊎ In (record { 0 = f }) free → In f numbers
+      by (inl i) = absurd i
+      by (inr i) = in_map (λ (v : FacetNo). v.0) free (record { 0 = f }) i
+
+  -- live and free places together
+  counted : length (surface_of fs).live + length free ≡ length fs
+  counted =
+      ap (λ n. length (surface_of fs).live + n) (sym (length-map free (λ (v : FacetNo). v.0))) ∙ sym (length-append (surface_of fs).live numbers)
+      ∙ once_length ((surface_of fs).live ++ numbers) (range_with_len 0 (length fs)) once (once_range 0 (length fs)) (λ f. (to f, from f)) ∙ range_len 0 (length fs)
+    where
+      once : Once ((surface_of fs).live ++ numbers)
+      once = once_append (surface_of fs).live numbers (live_is_listed_once fs) (once_map (λ (v : FacetNo). v.0) free (λ x y i j e. λ k. record { 0 = e k }) p.free_once)
+          (λ f i j. both_ways (facet_at fs f).live (of_free f j).1 ((live_is_marked fs f).0 i))
+
+      to : (f : ℕ) → In f ((surface_of fs).live ++ numbers) → In f (range_with_len 0 (length fs))
+      to f i = by (of_append (surface_of fs).live numbers f i)
+        where
+          by : In f (surface_of fs).live ⊎ In f numbers → In f (range_with_len 0 (length fs))
+          by (inl j) = in_range 0 (length fs) f (omega arith) (let h = live_inside fs f ((live_is_marked fs f).0 j) in omega arith)
+          by (inr j) = let h = (of_free f j).0 in in_range 0 (length fs) f (omega arith) (omega arith)
+
+      from : (f : ℕ) → In f (range_with_len 0 (length fs)) → In f ((surface_of fs).live ++ numbers)
+      from f i = in_append (surface_of fs).live numbers f (by (cases_Bool (facet_at fs f).live))
+        where
+          by : ((facet_at fs f).live ≡ true) ⊎ ((facet_at fs f).live ≡ false) → In f (surface_of fs).live ⊎ In f numbers
+          by (inl e) = inl ((live_is_marked fs f).1 e)
+          by (inr e) = inr (in_free f (range_below (length fs) f i) e)
+
+  -- places are given out again before there are more
+  pub places_are : (n : ℕ) → n ≤ length fs → (0 < length free → length fs ≡ n) → length fs ≡ max n (length (surface_of fs).live)
+  places_are n l h = let c = counted in by_le (length fs ≡ max n (length (surface_of fs).live)) 0 (length free) (λ k. let e = h k in omega arith) (λ k. omega arith)

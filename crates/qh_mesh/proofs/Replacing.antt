@@ -1,175 +1,255 @@
--- From the steps of a replacement to what it leaves.
-use Rattle.std.proofs.Common.{◌≡◌, ◌≢◌, ℕ, zero, suc, ◌+◌, ◌*◌, ◌/◌, ◌<◌, ◌≤◌, arith, ap, sym, ◌∙◌, refl, Bool, true, false, ◌⊎◌, inl, inr, List, length}
-use Rattle.std.proofs.lemmas.Bool.{both_ways, not-true, not_from_false}
-use Rattle.std.specs.Prelude.{not}
-use Rattle.qh_mesh.specs.declared.facets.Side.{Side}
+-- The steps of a replacement are one, and leave a surface.
+use Rattle.std.proofs.Common.{◌≡◌, ◌≢◌, ℕ, ◌+◌, ◌-◌, ◌*◌, ◌/◌, ◌^◌, ◌<◌, ◌≤◌, arith, ap, sym, ◌∙◌, refl, subst, Bool, true, false, ◌⊎◌, inl, inr, List, [], ◌++◌, length, map}
+use Rattle.std.proofs.lemmas.Bool.{cases_Bool, both_ways}
+use Rattle.std.proofs.lemmas.List.{length-map, get_or-map}
+use Rattle.qh_model.specs.headline.Sets.{In}
+use Rattle.qh_model.specs.contract.Simplex.{by_side}
+use Rattle.qh_model.specs.contract.StoredSurface.{StoredFacet, facet_at, no_facet}
+use Rattle.qh_model.proofs.lists.Joined.{in_append, of_append, once_append}
 use Rattle.qh_mesh.specs.declared.facets.FacetNo.{FacetNo}
-use Rattle.qh_mesh.specs.declared.facets.ConeFacet.{ConeFacet}
-use Rattle.qh_mesh.specs.steps.Nets.{after, walk, IsNet}
-use Rattle.qh_mesh.specs.steps.Cells.{start_in, twin_in, live_in, seen_in, AreLive}
-use Rattle.qh_mesh.specs.steps.Turns.{IsWoven, Turned, step}
-use Rattle.qh_mesh.specs.steps.MarkedFacets.{marked_horizon, Marked}
-use Rattle.qh_mesh.specs.steps.ConeSteps.{IsConeFacet}
-use Rattle.qh_mesh.specs.steps.ReplacedSides.{Cut}
-use Rattle.qh_mesh.specs.contract.Replacement.{at, number, sides_of}
-use Rattle.qh_mesh.proofs.Around.{after-facet, after-side, SideOf, side_of}
-use Rattle.qh_mesh.proofs.Around.SideOf.{first, second, third}
-use Rattle.qh_mesh.proofs.Weaving.{live_inside, turns_apart}
-use Rattle.qh_mesh.proofs.Filters.{StandsIn, filter_from, filter_to, filter_apart}
-use Rattle.qh_mesh.proofs.ListedFacets.{sides_from, sides_to, sides_apart}
-use Rattle.qh_mesh.proofs.Pigeonhole.{find}
+use Rattle.qh_mesh.specs.declared.facets.FacetSide.{FacetSide}
+use Rattle.qh_mesh.specs.contract.Replacement.{number, at, is_listed, horizon, side_of_edge, IsLive, AreFacets, IsCone, IsKept, StaysFacet, IsReplacement, edge_start, edge_end, twin_of}
+use Rattle.qh_mesh.specs.steps.Kept.{removed}
+use Rattle.qh_mesh.specs.steps.Horizons.{side_at, edge_side, IsBalanced, IsMate}
+use Rattle.qh_mesh.specs.steps.Cones.{bare, Joined, Written}
+use Rattle.qh_mesh.specs.steps.Places.{IsPool}
+use Rattle.qh_mesh.specs.steps.Rebuilt.{IsCleared, IsChosen, IsConed, IsReady, IsRebuilt}
+use Rattle.qh_mesh.specs.steps.Surfaces.{IsSurface}
+use Rattle.qh_mesh.specs.steps.Twins.{HasTwin, HasTwins}
+use Rattle.qh_mesh.proofs.BalancedHorizon.{horizon_balanced}
+use Rattle.qh_mesh.proofs.ClosedCones.{on_horizon, same_place, twins_after}
+use Rattle.qh_mesh.proofs.EdgeSides.{edge-is, from-is, to-is}
+use Rattle.qh_mesh.proofs.GatheredHorizon.{gone, stays}
+use Rattle.qh_mesh.proofs.ListedFacets.{listed_at, listed_find, listed_live, in_listed, number_in, in_number, listed_in, once_of, once_apart}
+use Rattle.qh_mesh.proofs.Mates.{mate_back, mate_only}
+use Rattle.qh_mesh.proofs.NumberCases.{by_le}
+use Rattle.qh_mesh.proofs.PlaceCounts.{live_inside, places_are}
 
--- a facet is live as a whole
-pub facet_live : (ss : List Side) → IsNet (twin_in ss) (start_in ss) (live_in ss) → (x c : ℕ) → live_in ss (3 * c) ≡ true → x / 3 ≡ c → live_in ss x ≡ true
-facet_live ss n x c l e = by (side_of x c e)
+-- a choice for each number below n is a function
+choice : (n : ℕ) (P : ℕ → ℕ → Type 0) → ((j : ℕ) → j < n → (i : ℕ) × P j i) → (f : ℕ → ℕ) × ((j : ℕ) → j < n → P j (f j))
+choice n P g = (λ j. (pick j).0, λ j. (pick j).1)
   where
-    one : live_in ss (3 * c + 1) ≡ true
-    one = ap (live_in ss) (sym (after-side c).0) ∙ n.around (3 * c) l
+    pick : (j : ℕ) → (i : ℕ) × (j < n → P j i)
+    pick j = by_le ((i : ℕ) × (j < n → P j i)) j n (λ l. let r = g j l in (r.0, λ _. r.1)) (λ h. (0, λ l. absurd (omega arith)))
 
-    by : SideOf x c → live_in ss x ≡ true
-    by (first h) = ap (live_in ss) h ∙ l
-    by (second h) = ap (live_in ss) h ∙ one
-    by (third h) = ap (live_in ss) (h ∙ sym (after-side c).1) ∙ n.around (3 * c + 1) one
+module _ (old cleared : List StoredFacet) (free vs : List FacetNo) (hs : List FacetSide) (s : IsSurface old free) (a : AreFacets old vs) (c : IsCleared old cleared vs hs) where
+  -- the horizon, side by side
+  horizon_len : length hs ≡ length (horizon old vs)
+  horizon_len = ap length c.noted ∙ length-map (horizon old vs) (edge_side old)
 
--- live facets have their three sides in the list
-pub facets_inside : (ss : List Side) (vs : List FacetNo) → IsNet (twin_in ss) (start_in ss) (live_in ss) → AreLive ss vs → (j : ℕ) → j < length vs → 3 * number vs j + 2 < length ss
-facets_inside ss vs n f j l = live_inside ss (3 * number vs j + 2) (facet_live ss n (3 * number vs j + 2) (number vs j) (f.live j l) (omega arith))
+  horizon_side : (j : ℕ) → j < length hs → side_at hs j ≡ edge_side old (at (horizon old vs) j)
+  horizon_side j l = ap (λ xs. side_at xs j) c.noted ∙ get_or-map (edge_side old) (horizon old vs) j 0 (record { from = 0; to = 0; outer = 0 }) (let e = horizon_len in omega arith)
 
--- x is a side of a listed facet, or not
-listed_or : (vs : List FacetNo) (f : ℕ) → ((j : ℕ) × ((j < length vs) × (number vs j ≡ f))) ⊎ ((j : ℕ) → j < length vs → number vs j ≢ f)
-listed_or vs f = find (length vs) (number vs) f
+  -- an edge of it, and what lies across
+  edge_live : (j : ℕ) → j < length hs → HasTwin old (at (horizon old vs) j / 3) (side_of_edge (at (horizon old vs) j))
+  edge_live j l = let e = horizon_len in s.twins (at (horizon old vs) j / 3) (listed_live old vs a (at (horizon old vs) j / 3) (on_horizon old vs j (omega arith)).0) (side_of_edge (at (horizon old vs) j))
 
--- a seen side is of a listed facet
-pub seen_find : (s0 s1 : List Side) (vs : List FacetNo) → ((x : ℕ) → seen_in s0 x ≡ false) → Marked s0 s1 vs → (x : ℕ) → seen_in s1 x ≡ true → (j : ℕ) × ((j < length vs) × (x / 3 ≡ number vs j))
-seen_find s0 s1 vs u m x s = by (listed_or vs (x / 3))
-  where
-    by : (((j : ℕ) × ((j < length vs) × (number vs j ≡ x / 3))) ⊎ ((j : ℕ) → j < length vs → number vs j ≢ x / 3)) → (j : ℕ) × ((j < length vs) × (x / 3 ≡ number vs j))
-    by (inl p) = (p.0, (p.1.0, sym p.1.1))
-    by (inr n) = absurd (both_ways (seen_in s1 x) (m.only x (λ j l e. n j l (sym e)) ∙ u x) s)
+  outer_is : (j : ℕ) → j < length hs → (side_at hs j).outer ≡ twin_of old (at (horizon old vs) j)
+  outer_is j l = ap (λ (h : FacetSide). h.outer) (horizon_side j l)
 
--- the marked surface and its horizon are a cut
-pub cut_is : (s0 s1 : List Side) (vs : List FacetNo) (horizon : List ℕ) → IsNet (twin_in s0) (start_in s0) (live_in s0) → ((x : ℕ) → seen_in s0 x ≡ false) → AreLive s0 vs → Marked s0 s1 vs → horizon ≡ marked_horizon s1 vs → Cut s0 (seen_in s1) vs horizon
-cut_is s0 s1 vs horizon net u f m e = record {
-  net = net;
-  seen_live = λ x s. let p = seen_find s0 s1 vs u m x s in facet_live s0 net x (number vs p.0) (f.live p.0 p.1.0) p.1.1;
-  facet = facet;
-  horizon_seen = λ j l. let r = (from j l).0 in let p = sides_from vs r.0 r.1.0 in m.listed (at horizon j) p.0 p.1.0 (ap (λ v. v / 3) (horizon_at j ∙ sym r.1.1) ∙ p.1.1);
-  horizon_out = λ j l. ap (λ v. seen_in s1 (twin_in s0 v)) (horizon_at j) ∙ ap (seen_in s1) (sym (m.twins (at (marked_horizon s1 vs) j))) ∙ not-true (seen_in s1 (twin_in s1 (at (marked_horizon s1 vs) j))) (from j l).1;
-  horizon_apart = λ i j l k q. filter_apart p (sides_of vs) (sides_apart vs f.apart) i j l (long j k) (sym (horizon_at i) ∙ q ∙ horizon_at j);
-  horizon_all = all;
-}
-  where
-    p : ℕ → Bool
-    p = λ e. not (seen_in s1 (twin_in s1 e))
+  outer_kept : (j : ℕ) → j < length hs → IsKept old vs (twin_of old (at (horizon old vs) j) / 3)
+  outer_kept j l = let e = horizon_len in record { live = (edge_live j l).live; unlisted = (on_horizon old vs j (omega arith)).1 }
 
-    horizon_at : (j : ℕ) → at horizon j ≡ at (marked_horizon s1 vs) j
-    horizon_at j = ap (λ v. at v j) e
+  -- it is balanced
+  pub is_balanced : IsBalanced hs
+  is_balanced = subst IsBalanced (sym c.noted) (horizon_balanced old vs s.twins (listed_live old vs a) (once_of vs a.apart))
 
-    long : (j : ℕ) → j < length horizon → j < length (marked_horizon s1 vs)
-    long j l = let n : length horizon ≡ length (marked_horizon s1 vs) = ap length e in omega arith
+  -- the listed facets' places are free too
+  pub pool_cleared : IsPool cleared [] (free ++ vs)
+  pool_cleared = record {
+    made_once = tt;
+    free_once = once_append free vs s.pool.free_once (once_of vs a.apart) (λ v i j. both_ways (facet_at old v.0).live (s.pool.dead v (inr i)).1 (listed_live old vs a v.0 (in_listed vs v j)));
+    apart = λ v i j. i;
+    dead = λ v i. dead v i;
+    all = λ v l d. inr (in_append free vs v (all v l d (cases_Bool (is_listed vs v.0))));
+  }
+    where
+      dead : (v : FacetNo) → ⊥ ⊎ In v (free ++ vs) → (v.0 < length cleared) × ((facet_at cleared v.0).live ≡ false)
+      dead v (inl i) = absurd i
+      dead v (inr i) = by (of_append free vs v i) (cases_Bool (is_listed vs v.0))
+        where
+          by : In v free ⊎ In v vs → (is_listed vs v.0 ≡ true) ⊎ (is_listed vs v.0 ≡ false) → (v.0 < length cleared) × ((facet_at cleared v.0).live ≡ false)
+          by k (inl e) = let l = live_inside old v.0 (listed_live old vs a v.0 e) in let n = c.removed.len in (omega arith, ap (λ (t : StoredFacet). t.live) (gone old cleared vs c.removed v.0 e))
+          by (inl k) (inr e) = let d = s.pool.dead v (inr k) in let l = d.0 in let n = c.removed.len in (omega arith, ap (λ (t : StoredFacet). t.live) (stays old cleared vs c.removed v.0 e) ∙ d.1)
+          by (inr k) (inr e) = absurd (both_ways (is_listed vs v.0) e (in_listed vs v k))
 
-    from : (j : ℕ) → j < length horizon → StandsIn (at (marked_horizon s1 vs) j) (sides_of vs) × (not (seen_in s1 (twin_in s1 (at (marked_horizon s1 vs) j))) ≡ true)
-    from j l = filter_from (λ e. not (seen_in s1 (twin_in s1 e))) (sides_of vs) j (long j l)
+      all : (v : FacetNo) → v.0 < length cleared → (facet_at cleared v.0).live ≡ false → (is_listed vs v.0 ≡ true) ⊎ (is_listed vs v.0 ≡ false) → In v free ⊎ In v vs
+      all v l d (inl e) = inr (listed_in vs v e)
+      all v l d (inr e) = by (s.pool.all v (let n = c.removed.len in omega arith) (ap (λ (t : StoredFacet). t.live) (sym (stays old cleared vs c.removed v.0 e)) ∙ d))
+        where
+          by : ⊥ ⊎ In v free → In v free ⊎ In v vs
+          by (inl i) = absurd i
+          by (inr i) = inl i
 
-    facet : (x : ℕ) → seen_in s1 (after x) ≡ seen_in s1 x
-    facet x = by (listed_or vs (x / 3))
+  module _ (chosen : List StoredFacet) (made left : List FacetNo) (h : IsChosen cleared chosen hs made left) (longer : length cleared ≤ length chosen) where
+    -- so the last steps can be made
+    pub is_ready : IsReady chosen hs made
+    is_ready = record {
+      small = h.small;
+      balanced = is_balanced;
+      len = h.len;
+      outers_in = λ j l. let i = live_inside old (twin_of old (at (horizon old vs) j) / 3) (outer_kept j l).live in let e = c.removed.len in rw (outer_is j l) (omega arith);
+      outers_apart = λ i j l m e. apart i j l m (same_place old vs a i j (let n = horizon_len in omega arith) (let n = horizon_len in omega arith)
+          (sym ((edge_live i (omega arith)).back ∙ edge-is (at (horizon old vs) i)) ∙ ap (twin_of old) (sym (outer_is i (omega arith)) ∙ e ∙ outer_is j m) ∙ (edge_live j m).back ∙ edge-is (at (horizon old vs) j)));
+      made_in = λ j l. (h.pool.dead (record { 0 = number made j }) (inl (number_in made (record { 0 = number made j }) j l refl))).0;
+      made_apart = once_apart made h.pool.made_once;
+    }
       where
-        by : (((j : ℕ) × ((j < length vs) × (number vs j ≡ x / 3))) ⊎ ((j : ℕ) → j < length vs → number vs j ≢ x / 3)) → seen_in s1 (after x) ≡ seen_in s1 x
-        by (inl p) = m.listed (after x) p.0 p.1.0 (after-facet x ∙ sym p.1.1) ∙ sym (m.listed x p.0 p.1.0 (sym p.1.1))
-        by (inr n) = (m.only (after x) (λ j l e. n j l (sym e ∙ after-facet x)) ∙ u (after x)) ∙ sym (m.only x (λ j l e. n j l (sym e)) ∙ u x)
+        apart : (i j : ℕ) → i < j → j < length hs → i ≡ j → ⊥
+        apart i j l m e = omega arith
 
-    all : (x : ℕ) → seen_in s1 x ≡ true → seen_in s1 (twin_in s0 x) ≡ false → (j : ℕ) × ((j < length horizon) × (at horizon j ≡ x))
-    all x s o =
-        let q = seen_find s0 s1 vs u m x s in
-        let i = sides_to vs x q.0 q.1.0 q.1.1 in
-        let t = filter_to (λ e. not (seen_in s1 (twin_in s1 e))) (sides_of vs) i.0 i.1.0 (not_from_false (seen_in s1 (twin_in s1 (at (sides_of vs) i.0))) (ap (λ v. seen_in s1 (twin_in s1 v)) i.1.1 ∙ ap (seen_in s1) (m.twins x) ∙ o)) in
-        let n : length horizon ≡ length (marked_horizon s1 vs) = ap length e in
-        (t.0, (omega (arith, t.1.0), horizon_at t.0 ∙ t.1.1 ∙ i.1.1))
+  module _ (chosen new : List StoredFacet) (made left : List FacetNo) (apex : ℕ) (h : IsChosen cleared chosen hs made left) (w : IsConed chosen new hs made apex) where
+    -- a facet that stays has no place of the cone, and its corners
+    kept_at : (f : ℕ) → IsKept old vs f → facet_at chosen f ≡ facet_at old f
+    kept_at f k = h.cells f ∙ stays old cleared vs c.removed f k.unlisted
 
--- the marked surface is woven
-pub marked_woven : (s0 s1 : List Side) (vs : List FacetNo) (horizon : List ℕ) → Marked s0 s1 vs → Cut s0 (seen_in s1) vs horizon → IsWoven s1
-marked_woven s0 s1 vs horizon m c = record {
-  facet = λ x s. c.facet x ∙ s;
-  back = λ x s t. m.twins (twin_in s1 x) ∙ ap (twin_in s0) (m.twins x) ∙ c.net.twin x (c.seen_live x s);
-  in_range = λ x s. let l = live_inside s0 (twin_in s0 x) (c.net.live x (c.seen_live x s)) in let e = m.twins x in let n = m.len in omega arith;
+    fresh : (f j : ℕ) → IsKept old vs f → j < length made → number made j ≢ f
+    fresh f j k l e =
+        both_ways (facet_at old f).live (ap (λ (t : StoredFacet). t.live) (sym (kept_at f k)) ∙ (h.pool.dead (record { 0 = f }) (inl (number_in made (record { 0 = f }) j l (sym e)))).1) k.live
+
+    kept_same : (f : ℕ) → IsKept old vs f → facet_at new f ≡ facet_at w.joined_to f
+    kept_same f k = w.written.others f (λ j l. fresh f j k l)
+
+    kept_bare : (f : ℕ) → IsKept old vs f → bare (facet_at new f) ≡ bare (facet_at old f)
+    kept_bare f k = ap bare (kept_same f k) ∙ w.joined.same f ∙ ap bare (kept_at f k)
+
+    -- the facets of the cone, and those beside each
+    over : (j : ℕ) → j < length made → IsCone old new (at (horizon old vs) j) apex (number made j)
+    over j l =
+        let m : j < length hs = (let e = h.len in omega arith) in let t = (w.written.there j l).is in let o = twin_of old (at (horizon old vs) j) in
+        record {
+          live = ap (λ (t : StoredFacet). t.live) t;
+          first = ap (λ (t : StoredFacet). t.i) t ∙ ap (λ (h : FacetSide). h.from) (horizon_side j m) ∙ from-is old (at (horizon old vs) j / 3) (side_of_edge (at (horizon old vs) j));
+          second = ap (λ (t : StoredFacet). t.j) t ∙ ap (λ (h : FacetSide). h.to) (horizon_side j m) ∙ to-is old (at (horizon old vs) j / 3) (side_of_edge (at (horizon old vs) j));
+          third = ap (λ (t : StoredFacet). t.k) t;
+          outward = ap (λ (t : StoredFacet). t.ij) t ∙ outer_is j m;
+          inward = ap (λ (t : StoredFacet). by_side t.ij t.jk t.ki (side_of_edge o)) (kept_same (o / 3) (outer_kept j m)) ∙ ap (twin_of w.joined_to) (sym (outer_is j m)) ∙ w.joined.outer j m;
+        }
+
+    nexts : (f : ℕ → ℕ) × ((j : ℕ) → j < length made → IsMate hs true j (f j) × ((facet_at new (number made j)).jk ≡ 3 * number made (f j) + 2))
+    nexts = choice (length made) (λ j i. IsMate hs true j i × ((facet_at new (number made j)).jk ≡ 3 * number made i + 2))
+        (λ j l. let t = w.written.there j l in (t.next, (t.next_is, ap (λ (t : StoredFacet). t.jk) t.is)))
+
+    -- the facet before is the one whose next this is
+    befores : (j : ℕ) → j < length made → (i : ℕ) × ((i < length made) × ((nexts.0 i ≡ j) × ((facet_at new (number made j)).ki ≡ 3 * number made i + 1)))
+    befores j l =
+        let e = h.len in let t = w.written.there j l in let i = t.before in let m = t.before_is.inside in let k : i < length made = omega arith in
+        (i, (k, (mate_only hs true i (nexts.0 i) j (nexts.1 i k).0 (mate_back hs false j i (omega arith) t.before_is), ap (λ (t : StoredFacet). t.ki) t.is)))
+
+    next_in : (j : ℕ) → j < length made → nexts.0 j < length made
+    next_in j l = let e = h.len in let m = (nexts.1 j l).0.inside in omega arith
+
+    next_back : (j : ℕ) → j < length made → (facet_at new (number made (nexts.0 j))).ki ≡ 3 * number made j + 1
+    next_back j l =
+        let e = h.len in let b = befores (nexts.0 j) (next_in j l) in let n = (nexts.1 j l).0 in let m = (nexts.1 b.0 b.1.0).0 in
+        let back : IsMate hs false (nexts.0 j) b.0 = subst (λ i. IsMate hs false i b.0) b.1.1.0 (mate_back hs true b.0 (nexts.0 b.0) (omega (arith, b.1.0)) m) in
+        b.1.1.1 ∙ ap (λ i. 3 * number made i + 1) (mate_only hs false (nexts.0 j) b.0 j back (mate_back hs true j (nexts.0 j) (omega arith) n))
+
+    next_starts : (j : ℕ) → j < length made → edge_start old (at (horizon old vs) (nexts.0 j)) ≡ edge_end old (at (horizon old vs) j)
+    next_starts j l =
+        let e = h.len in let n = (nexts.1 j l).0 in let x = at (horizon old vs) (nexts.0 j) in let y = at (horizon old vs) j in
+        sym (ap (λ (h : FacetSide). h.from) (horizon_side (nexts.0 j) n.inside) ∙ from-is old (x / 3) (side_of_edge x)) ∙ n.meets
+        ∙ ap (λ (h : FacetSide). h.to) (horizon_side j (omega arith)) ∙ to-is old (y / 3) (side_of_edge y)
+
+    -- an edge of a facet that stays
+    twins_stay : (f e : ℕ) → IsKept old vs f → e / 3 ≡ f → is_listed vs (twin_of old e / 3) ≡ false → twin_of new e ≡ twin_of old e
+    twins_stay f e k q u =
+        ap (λ (t : StoredFacet). by_side t.ij t.jk t.ki (side_of_edge e)) (kept_same (e / 3) kept)
+        ∙ w.joined.others e none ∙ ap (λ (t : StoredFacet). by_side t.ij t.jk t.ki (side_of_edge e)) (kept_at (e / 3) kept)
+      where
+        kept : IsKept old vs (e / 3)
+        kept = subst (IsKept old vs) (sym q) k
+
+        none : (j : ℕ) → j < length hs → (side_at hs j).outer ≢ e
+        none j l d =
+            let x = at (horizon old vs) j in let n = horizon_len in
+            both_ways (is_listed vs (x / 3)) (ap (λ y. is_listed vs (y / 3)) (sym ((edge_live j l).back ∙ edge-is x) ∙ ap (twin_of old) (sym (outer_is j l) ∙ d)) ∙ u) (on_horizon old vs j (omega arith)).0
+
+    -- a live facet stays, or is of the cone
+    only : (f : ℕ) → IsLive new f → IsKept old vs f ⊎ ((j : ℕ) × (j < length made) × (f ≡ number made j))
+    only f l = by (cases_Bool (is_listed made f))
+      where
+        was : is_listed made f ≡ false → IsLive cleared f
+        was u =
+            ap (λ (t : StoredFacet). t.live) (sym (h.cells f)) ∙ ap (λ (t : StoredFacet). t.live) (sym (w.joined.same f))
+            ∙ ap (λ (t : StoredFacet). t.live) (sym (w.written.others f (λ j m e. both_ways (is_listed made f) u (listed_at made f j m (sym e))))) ∙ l
+
+        kept : IsLive cleared f → (is_listed vs f ≡ true) ⊎ (is_listed vs f ≡ false) → IsKept old vs f
+        kept m (inl e) = absurd (both_ways (facet_at cleared f).live (ap (λ (t : StoredFacet). t.live) (gone old cleared vs c.removed f e)) m)
+        kept m (inr e) = record { live = ap (λ (t : StoredFacet). t.live) (sym (stays old cleared vs c.removed f e)) ∙ m; unlisted = e }
+
+        by : (is_listed made f ≡ true) ⊎ (is_listed made f ≡ false) → IsKept old vs f ⊎ ((j : ℕ) × (j < length made) × (f ≡ number made j))
+        by (inl e) = let q = listed_find made f e in inr (q.0, q.1.0, q.1.1)
+        by (inr u) = inl (kept (was u) (cases_Bool (is_listed vs f)))
+
+    -- so they are a replacement
+    pub replacement : IsReplacement old new vs apex made
+    replacement = record {
+      len = h.len ∙ horizon_len;
+      apart = once_apart made h.pool.made_once;
+      fresh = fresh;
+      cone = over;
+      next = nexts.0;
+      next_in = next_in;
+      next_starts = next_starts;
+      next_twin = λ j l. (nexts.1 j l).1;
+      next_back = next_back;
+      kept = λ f k. record {
+        live = ap (λ (t : StoredFacet). t.live) (kept_bare f k) ∙ k.live;
+        i_is = ap (λ (t : StoredFacet). t.i) (kept_bare f k);
+        j_is = ap (λ (t : StoredFacet). t.j) (kept_bare f k);
+        k_is = ap (λ (t : StoredFacet). t.k) (kept_bare f k);
+        twins = λ e q u. twins_stay f e k q u;
+      };
+      only = only;
+    }
+
+    -- the places of no facet are those left
+    pool_after : IsPool new [] left
+    pool_after = record {
+      made_once = tt;
+      free_once = h.pool.free_once;
+      apart = λ v i j. i;
+      dead = dead;
+      all = λ v l d. inr (not_made v d (h.pool.all v (let e = w.written.len in let n = w.joined.len in omega arith) (sym (same v (λ j m e. live v j m e d)) ∙ d)));
+    }
+      where
+        same : (v : FacetNo) → ((j : ℕ) → j < length made → number made j ≢ v.0) → (facet_at new v.0).live ≡ (facet_at chosen v.0).live
+        same v n = ap (λ (t : StoredFacet). t.live) (w.written.others v.0 n) ∙ ap (λ (t : StoredFacet). t.live) (w.joined.same v.0)
+
+        live : (v : FacetNo) (j : ℕ) → j < length made → number made j ≡ v.0 → (facet_at new v.0).live ≡ false → ⊥
+        live v j l e d = both_ways (facet_at new v.0).live d (subst (IsLive new) e (over j l).live)
+
+        dead : (v : FacetNo) → ⊥ ⊎ In v left → (v.0 < length new) × ((facet_at new v.0).live ≡ false)
+        dead v (inl i) = absurd i
+        dead v (inr i) =
+            let d = h.pool.dead v (inr i) in let k = d.0 in let e = w.written.len in let n = w.joined.len in
+            (omega arith, same v (λ j l q. h.pool.apart v (number_in made v j l (sym q)) i) ∙ d.1)
+
+        not_made : (v : FacetNo) → (facet_at new v.0).live ≡ false → In v made ⊎ In v left → In v left
+        not_made v d (inr i) = i
+        not_made v d (inl i) = let q = in_number made v i in absurd (live v q.0 q.1.0 (sym q.1.1) d)
+
+    -- they leave a surface
+    pub surface_after : IsSurface new left
+    unfolding replacement
+    surface_after = record {
+      twins = twins_after old new vs apex made s.twins (listed_live old vs a) replacement (λ j l. let b = befores j l in (b.0, b.1.0, b.1.1.0));
+      pool = pool_after;
+      small = let e = w.written.len in let n = w.joined.len in let l = h.small in omega arith;
+    }
+
+    -- and no more places than it needs
+    pub rebuilt : length old ≤ length new → (0 < length left → length new ≡ length old) → IsRebuilt old new left vs apex made
+    rebuilt l n = record { surface = surface_after; replaced = replacement; places = places_are new left pool_after (length old) l n }
+
+-- what the choice of places leaves
+pub chosen_is : (old cleared back chosen : List StoredFacet) (hs : List FacetSide) (made left : List FacetNo) (f v : ℕ) → back ≡ cleared → length cleared ≡ length old
+    → ((g : ℕ) → facet_at chosen g ≡ facet_at back g) → IsPool chosen made left → (0 < length left → length chosen ≡ length old) → length chosen + (f + v) ≡ length old + length hs + length left
+    → length made ≡ length hs → length hs ≤ 3 * v → 3 * length old < 2 ^ 32 → 3 * (length old + (2 * v - f)) < 2 ^ 32 → IsChosen cleared chosen hs made left
+chosen_is old cleared back chosen hs made left f v b e cells pool again len m few small spare = record {
+  cells = λ g. cells g ∙ ap (λ (xs : List StoredFacet). facet_at xs g) b;
+  pool = pool;
+  len = m;
+  small = by_le (3 * length chosen < 2 ^ 32) 0 (length left) (λ h. let q = again h in omega arith) (λ h. omega arith);
 }
-
--- the twins across the horizon are apart, and none is on it
-pub outers_apart : (s0 : List Side) (sn : ℕ → Bool) (vs : List FacetNo) (horizon : List ℕ) → Cut s0 sn vs horizon → (i j : ℕ) → i < j → j < length horizon → twin_in s0 (at horizon i) ≢ twin_in s0 (at horizon j)
-outers_apart s0 sn vs horizon c i j l k e =
-    c.horizon_apart i j l k (sym (c.net.twin (at horizon i) (c.seen_live (at horizon i) (c.horizon_seen i (omega arith)))) ∙ ap (twin_in s0) e ∙ c.net.twin (at horizon j) (c.seen_live (at horizon j) (c.horizon_seen j k)))
-
--- the surface after its outer twins name the cone
-pub record Tied (s0 s3 : List Side) (vs : List FacetNo) (horizon : List ℕ) (made : List FacetNo) : Type 0 where
-  pub cut : Cut s0 (seen_in s3) vs horizon
-  pub starts : (x : ℕ) → start_in s3 x ≡ start_in s0 x
-  pub lives : (x : ℕ) → live_in s3 x ≡ live_in s0 x
-  pub outer : (j : ℕ) → j < length horizon → twin_in s3 (twin_in s0 (at horizon j)) ≡ 3 * number made j
-  pub others : (x : ℕ) → ((j : ℕ) → j < length horizon → twin_in s0 (at horizon j) ≢ x) → twin_in s3 x ≡ twin_in s0 x
-  pub longer : length s0 ≤ length s3
-  pub len : length made ≡ length horizon
-  pub made_apart : (i j : ℕ) → i < j → j < length horizon → number made i ≢ number made j
-  pub made_fresh : (x j : ℕ) → live_in s0 x ≡ true → seen_in s3 x ≡ false → j < length horizon → x / 3 ≢ number made j
-  pub made_in : (j : ℕ) → j < length horizon → 3 * number made j + 2 < length s3
-
--- a seen side is no outer one
-pub seen_twin : (s0 s3 : List Side) (vs : List FacetNo) (horizon : List ℕ) (made : List FacetNo) → Tied s0 s3 vs horizon made → (x : ℕ) → seen_in s3 x ≡ true → twin_in s3 x ≡ twin_in s0 x
-seen_twin s0 s3 vs horizon made t x s = t.others x (λ j l e. both_ways (seen_in s3 x) (ap (seen_in s3) (sym e) ∙ t.cut.horizon_out j l) s)
-
--- the seen facets are woven still
-pub tied_woven : (s0 s3 : List Side) (vs : List FacetNo) (horizon : List ℕ) (made : List FacetNo) → Tied s0 s3 vs horizon made → IsWoven s3
-tied_woven s0 s3 vs horizon made t = record {
-  facet = λ x s. t.cut.facet x ∙ s;
-  back = λ x s r. seen_twin s0 s3 vs horizon made t (twin_in s3 x) r ∙ ap (twin_in s0) (seen_twin s0 s3 vs horizon made t x s) ∙ t.cut.net.twin x (t.cut.seen_live x s);
-  in_range = λ x s. let l = live_inside s0 (twin_in s0 x) (t.cut.net.live x (t.cut.seen_live x s)) in let e = seen_twin s0 s3 vs horizon made t x s in let n = t.longer in omega arith;
-}
-
--- the twins of horizon sides are not seen still
-pub tied_out : (s0 s3 : List Side) (vs : List FacetNo) (horizon : List ℕ) (made : List FacetNo) → Tied s0 s3 vs horizon made → (j : ℕ) → j < length horizon → seen_in s3 (twin_in s3 (at horizon j)) ≡ false
-tied_out s0 s3 vs horizon made t j l = ap (seen_in s3) (seen_twin s0 s3 vs horizon made t (at horizon j) (t.cut.horizon_seen j l)) ∙ t.cut.horizon_out j l
-
--- the next side on the horizon
-pub record Next (s0 s3 : List Side) (horizon : List ℕ) (made : List FacetNo) (j : ℕ) (s : ConeFacet) (i : ℕ) : Type 0 where
-  pub inside : i < length horizon
-  pub turned : Turned s3 (at horizon j) (at horizon i)
-  pub number_is : s.next ≡ 3 * number made i
-
--- the turn about the end of a horizon side leads to a horizon side
-pub next_of : (s0 s3 : List Side) (vs : List FacetNo) (horizon : List ℕ) (made : List FacetNo) → Tied s0 s3 vs horizon made → (j : ℕ) (s : ConeFacet) → IsConeFacet s3 (at horizon j) s → (i : ℕ) × Next s0 s3 horizon made j s i
-next_of s0 s3 vs horizon made t j s k =
-    let g : ℕ = k.turned.0 in
-    let u : Turned s3 (at horizon j) k.turned.0 = k.turned.1.0 in
-    let seen : seen_in s3 k.turned.0 ≡ true = ap (seen_in s3) u.ends ∙ t.cut.facet (walk (step s3) (at horizon j) u.steps) ∙ u.seen u.steps (omega arith) in
-    let tw : twin_in s3 k.turned.0 ≡ twin_in s0 k.turned.0 = seen_twin s0 s3 vs horizon made t k.turned.0 seen in
-    let a = t.cut.horizon_all k.turned.0 seen (ap (seen_in s3) (sym tw) ∙ u.out) in (
-      a.0,
-      record {
-        inside = a.1.0;
-        turned = Rattle.std.proofs.Common.subst (λ v. Turned s3 (at horizon j) v) (sym a.1.1) u;
-        number_is = k.turned.1.1 ∙ ap (twin_in s3) (tw ∙ ap (twin_in s0) (sym a.1.1)) ∙ t.outer a.0 a.1.0;
-      },
-    )
-
--- the ends of a turn
-turn_starts : (s0 s3 : List Side) (vs : List FacetNo) (horizon : List ℕ) (made : List FacetNo) → Tied s0 s3 vs horizon made → (h k : ℕ) → ((i : ℕ) → i ≤ k → seen_in s3 (walk (step s3) h i) ≡ true) → start_in s0 (after (walk (step s3) h k)) ≡ start_in s0 (after h)
-turn_starts s0 s3 vs horizon made t h zero d = refl
-turn_starts s0 s3 vs horizon made t h (suc k) d =
-    let y : ℕ = after (walk (step s3) h k) in
-    let sy : seen_in s3 (after (walk (step s3) h k)) ≡ true = t.cut.facet (walk (step s3) h k) ∙ d k (omega arith) in
-    let e : twin_in s3 (after (walk (step s3) h k)) ≡ twin_in s0 (after (walk (step s3) h k)) = seen_twin s0 s3 vs horizon made t (after (walk (step s3) h k)) sy in
-    let ly : live_in s0 (after (walk (step s3) h k)) ≡ true = t.cut.seen_live (after (walk (step s3) h k)) sy in
-    ap (λ v. start_in s0 (after v)) e
-    ∙ sym (t.cut.net.ends (twin_in s0 (after (walk (step s3) h k))) (t.cut.net.live (after (walk (step s3) h k)) ly))
-    ∙ ap (start_in s0) (t.cut.net.twin (after (walk (step s3) h k)) ly)
-    ∙ turn_starts s0 s3 vs horizon made t h k (λ i l. d i (omega arith))
-
--- the next horizon side starts where this one ends
-pub next_ends : (s0 s3 : List Side) (vs : List FacetNo) (horizon : List ℕ) (made : List FacetNo) → Tied s0 s3 vs horizon made → (j i : ℕ) (s : ConeFacet) → Next s0 s3 horizon made j s i → start_in s0 (at horizon i) ≡ start_in s0 (after (at horizon j))
-next_ends s0 s3 vs horizon made t j i s n = ap (start_in s0) n.turned.ends ∙ turn_starts s0 s3 vs horizon made t (at horizon j) n.turned.steps n.turned.seen
-
--- no two horizon sides have one next side
-pub nexts_apart : (s0 s3 : List Side) (vs : List FacetNo) (horizon : List ℕ) (made : List FacetNo) → Tied s0 s3 vs horizon made → (i j a b : ℕ) (s r : ConeFacet) → i < j → j < length horizon → Next s0 s3 horizon made i s a → Next s0 s3 horizon made j r b → a ≢ b
-nexts_apart s0 s3 vs horizon made t i j a b s r l k n m e =
-    t.cut.horizon_apart i j l k (turns_apart s3 (at horizon i) (at horizon j) (at horizon b) (tied_woven s0 s3 vs horizon made t)
-    (t.cut.horizon_seen i (omega arith)) (tied_out s0 s3 vs horizon made t i (omega arith)) (t.cut.horizon_seen j k) (tied_out s0 s3 vs horizon made t j k)
-    (Rattle.std.proofs.Common.subst (λ v. Turned s3 (at horizon i) (at horizon v)) e n.turned) m.turned)

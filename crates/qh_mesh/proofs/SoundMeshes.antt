@@ -21,31 +21,25 @@ use Rattle.qh_model.proofs.surfaces.Rewired.{replace_keeps}
 use Rattle.qh_model.proofs.surfaces.Closed.{sound_is_closed, sound_has_volume}
 use Rattle.qh_model.proofs.algebra.VectorIdentities.{vol-flip_last}
 use Rattle.qh_mesh.specs.declared.facets.FacetNo.{FacetNo}
-use Rattle.qh_mesh.specs.steps.Tetrahedra.{simplex_of}
 use Rattle.qh_mesh.specs.contract.Replacement.{number, is_listed, IsLive, edge_start, edge_end, twin_of}
-use Rattle.qh_mesh.specs.steps.Twins.{HasTwins}
+use Rattle.qh_mesh.specs.steps.Twins.{twin_at, HasTwin, HasTwins}
 use Rattle.qh_mesh.specs.contract.SoundMesh.{facet_vol, IsSoundMesh, simplex_facets, IsClosedMesh}
-use Rattle.qh_mesh.proofs.Simplexes.{simplex_surface as simplex_kept}
-use Rattle.qh_mesh.proofs.StoredSides.{has_twins}
-use Rattle.qh_mesh.proofs.Rewiring.{edge_of, edge-facet, start-is, end-is, twin_at, twin-is, over-is, back-is, live_in, in_live, IsStep, rewired}
+use Rattle.qh_mesh.proofs.Simplexes.{simplex_twins}
+use Rattle.qh_mesh.proofs.EdgeSides.{edge-facet, over-is, back-is}
+use Rattle.qh_mesh.proofs.Rewiring.{live_in, in_live, IsStep, rewired}
 
--- ---- whole
 -- facets with twins are a whole surface
 pub whole_of : (fs : List StoredFacet) → HasTwins fs → IsWhole (surface_of fs)
 whole_of fs t f i s = record {
-  live = in_live fs ((surface_of fs).over f s) (subst (IsLive fs) (sym over-twin) (t.live (edge_of f s) l));
-  start_is = (λ k. start (surface_of fs) (over-is fs f s k) (back-is fs f s k)) ∙ ap (edge_start fs) (sym (twin-is fs f s)) ∙ t.starts (edge_of f s) l ∙ end-is fs f s;
-  end_is = (λ k. end (surface_of fs) (over-is fs f s k) (back-is fs f s k)) ∙ ap (edge_end fs) (sym (twin-is fs f s)) ∙ t.ends (edge_of f s) l ∙ start-is fs f s;
+  live = in_live fs ((surface_of fs).over f s) (subst (IsLive fs) (sym (over-is fs f s)) h.live);
+  start_is = (λ k. start (surface_of fs) (over-is fs f s k) (back-is fs f s k)) ∙ h.starts;
+  end_is = (λ k. end (surface_of fs) (over-is fs f s k) (back-is fs f s k)) ∙ h.ends;
   returns =
-      over-is fs ((surface_of fs).over f s) ((surface_of fs).back f s) ∙ ap (λ v. v / 3) ((λ k. twin_at fs (over-is fs f s k) (back-is fs f s k)) ∙ ap (twin_of fs) (sym (twin-is fs f s)) ∙ t.back (edge_of f s) l)
-      ∙ edge-facet f s;
+      over-is fs ((surface_of fs).over f s) ((surface_of fs).back f s) ∙ ap (λ v. v / 3) ((λ k. twin_at fs (over-is fs f s k) (back-is fs f s k)) ∙ h.back) ∙ edge-facet f s;
 }
   where
-    l : IsLive fs (edge_of f s / 3)
-    l = subst (IsLive fs) (sym (edge-facet f s)) (live_in fs f i)
-
-    over-twin : (surface_of fs).over f s ≡ twin_of fs (edge_of f s) / 3
-    over-twin = over-is fs f s ∙ ap (λ v. v / 3) (sym (twin-is fs f s))
+    h : HasTwin fs f s
+    h = t f (live_in fs f i) s
 
 -- ---- sound
 -- a point is as far above a facet with the same corners
@@ -89,7 +83,7 @@ simplex_keeps a b c d f (inr (inr (inr (inr e)))) = absurd e
 -- a simplex with volume below 0 is sound around its middle
 pub simplex_is_sound : (at : ℕ → Vector) (a b c d : ℕ) → vol (at a) (at b) (at c) (at d) <ℤ pos 0 → IsSoundMesh at (simplex_facets a b c d) (middle_at at a b c d)
 simplex_is_sound at a b c d h = (
-  whole_of (simplex_facets a b c d) (has_twins (simplex_of a b c d) [] (simplex_kept a b c d)),
+  whole_of (simplex_facets a b c d) (simplex_twins a b c d),
   sound_as (simplex_surface a b c d) (surface_of (simplex_facets a b c d)) (weighted_at at) (middle_at at a b c d) (simplex_keeps a b c d)
       (simplex_sound (weighted_at at) a b c d (subst (λ v. v <ℤ pos 0) (sym (rise_is_vol (at a) (at b) (at c) (at d))) h)).1,
 )

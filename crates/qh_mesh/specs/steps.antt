@@ -1,11 +1,9 @@
 -- What private functions speak of: nothing to believe.
-pub mod Cells
-pub mod ConeSteps
-pub mod MarkedFacets
-pub mod NamedSides
-pub mod Nets
-pub mod ReplacedSides
-pub mod Stored
-pub mod Tetrahedra
-pub mod Turns
+pub mod Kept
+pub mod Horizons
+pub mod Cones
+pub mod Places
+pub mod Rebuilt
+pub mod Surfaces
 pub mod Twins
+pub mod Writes

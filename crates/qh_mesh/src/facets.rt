@@ -1,30 +1,161 @@
-//! The numbers of facets and of their sides, and how a side is kept.
+//! The numbers of facets and of their sides, and how a facet is kept.
+ghost use Rattle.std.specs.Prelude.{◌≡◌, map, [], ◌∷◌};
+ghost use Rattle.qh_model.specs.contract.Simplex.{one_of};
+ghost use Rattle.qh_model.specs.contract.Surface.Side.{first, second, third};
+ghost use Rattle.qh_model.specs.contract.StoredSurface.{named_facet, no_facet};
+ghost use Rattle.qh_mesh.specs.contract.Names.{name_in};
+ghost use Rattle.qh_mesh.specs.steps.Kept.{facet_from, removed, side_of, with_twin};
+
+use qh_model::Id;
+use std::marker::Model;
 
 /// The number of a facet: its place in the mesh, from 0.
 #[derive(Clone, Copy, Debug, PartialEq, Eq, Drop)]
 pub struct FacetNo(pub usize);
 
-/// The number of a side of a facet: that of the facet times three, and 0, 1 or 2. It goes from that
-/// corner of the facet to the next.
+/// The number of a side of a facet, a half-edge: that of the facet times three, and 0, 1 or 2. It goes
+/// from that corner of the facet to the next.
 #[derive(Clone, Copy, Debug, PartialEq, Eq, Drop)]
 pub struct EdgeNo(pub usize);
 
-/// One side of a facet: the corner where it starts, its twin, and the state of its facet. The three
-/// sides of a facet stand together, in 48 bytes.
+/// One side of a facet: the corners where it starts and ends, and the half-edge across it.
 #[derive(Clone, Copy, Drop)]
-pub struct Side {
-    pub start: u32,
-    pub live: bool,
-    pub seen: bool,
-    pub twin: usize,
-}
-
-/// What a facet of a cone is made of: the ends of its horizon side, the side across, and the first
-/// side of the facet that comes next around the cone.
-#[derive(Clone, Copy, Drop)]
-pub struct ConeFacet {
+pub struct FacetSide {
     pub from: u32,
     pub to: u32,
-    pub outer: usize,
-    pub next: usize,
+    pub outer: u32,
+}
+
+/// A facet as a mesh keeps it, in 28 bytes: its corners, counterclockwise seen from outside, and the
+/// half-edge across each of its sides. A place of no facet is not live.
+#[derive(Clone, Copy)]
+pub struct Facet {
+    i: u32,
+    j: u32,
+    k: u32,
+    ij: u32,
+    jk: u32,
+    ki: u32,
+    live: bool,
+}
+
+impl Model for Facet {
+    ghost use Rattle.qh_model.specs.contract.StoredSurface.{StoredFacet};
+
+    ghost Value = { StoredFacet };
+
+    ghost view = { λ f. record { i = f.i; j = f.j; k = f.k; ij = f.ij; jk = f.jk; ki = f.ki; live = f.live } };
+
+    ghost inverse = { λ f. record { i = f.i; j = f.j; k = f.k; ij = f.ij; jk = f.jk; ki = f.ki; live = f.live } };
+}
+
+impl Facet {
+    /// The facet of three corners, with the half-edges across its sides.
+    pub fn new(i: u32, j: u32, k: u32, ij: u32, jk: u32, ki: u32) -> Facet
+        ensures { result ≡ facet_from i j k ij jk ki }
+    {
+        Facet {
+            i,
+            j,
+            k,
+            ij,
+            jk,
+            ki,
+            live: true,
+        }
+    }
+
+    /// No facet.
+    pub fn none() -> Facet
+        ensures { result ≡ no_facet }
+    {
+        Facet {
+            i: 0,
+            j: 0,
+            k: 0,
+            ij: 0,
+            jk: 0,
+            ki: 0,
+            live: false,
+        }
+    }
+
+    /// Whether it is one of the surface.
+    pub fn is_live(self) -> bool
+        ensures { result ≡ self.live }
+    {
+        self.live
+    }
+
+    /// The facet, no longer live.
+    pub fn removed(self) -> Facet
+        ensures { result ≡ removed self }
+    {
+        let mut facet = self;
+        facet.live = false;
+        facet
+    }
+
+    /// Its corners.
+    pub fn corners(self) -> [Id; 3]
+        ensures { result ≡ self.i ∷ self.j ∷ self.k ∷ [] }
+    {
+        [Id::new(self.i), Id::new(self.j), Id::new(self.k)]
+    }
+
+    /// Its side 0, 1 or 2.
+    pub fn side(self, number: usize) -> FacetSide
+        ensures { result ≡ side_of self (one_of first second third third number) }
+    {
+        let (from, to, outer) = match number {
+            0 => (self.i, self.j, self.ij),
+            1 => (self.j, self.k, self.jk),
+            _ => (self.k, self.i, self.ki),
+        };
+        FacetSide { from, to, outer }
+    }
+
+    /// The facet with another half-edge across its side 0, 1 or 2.
+    pub fn with_twin(self, number: usize, twin: u32) -> Facet
+        ensures { result ≡ with_twin self (one_of first second third third number) twin }
+    {
+        let mut facet = self;
+        match number {
+            0 => facet.ij = twin,
+            1 => facet.jk = twin,
+            _ => facet.ki = twin,
+        }
+        facet
+    }
+
+    /// The facet with the names of its corners in a list of ids: corner l becomes the id at position l.
+    /// A corner past the end of the list stays.
+    pub fn named(self, ids: &[Id]) -> Facet
+        ensures { result ≡ named_facet (name_in ids.now) self }
+    {
+        let mut facet = self;
+        facet.i = name_at(ids, self.i);
+        facet.j = name_at(ids, self.j);
+        facet.k = name_at(ids, self.k);
+        facet
+    }
+}
+
+/// The id at a position, or the position itself where the list has none.
+fn name_at(ids: &[Id], position: u32) -> u32
+    ensures { result ≡ name_in ids.now position }
+{
+    match ids.get(position as usize) {
+        Some(id) => id.number(),
+        None => position,
+    }
+}
+
+/// Gives the corners of each facet their names in a list of ids.
+pub fn name_all(facets: &mut [Facet], ids: &[Id])
+    ensures { facets.new ≡ map (named_facet (name_in ids.now)) facets.old }
+{
+    for facet in facets.iter_mut() {
+        *facet = facet.named(ids);
+    }
 }

@@ -12,14 +12,14 @@
 
 mod cone;
 mod facets;
+mod horizon;
 mod live;
 mod mesh;
-mod naming;
+mod places;
 mod rebuild;
-mod sides;
+mod slots;
 #[cfg(test)]
 mod tests;
-mod turning;
 
 pub use facets::{EdgeNo, FacetNo};
 pub use live::Live;

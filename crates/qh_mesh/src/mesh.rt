@@ -1,53 +1,52 @@
 //! The mesh, its questions, and how it is made and grows.
-ghost use Rattle.std.specs.Prelude.{◌≡◌, ◌↔◌, IsTrue, ◌≢◌, ◌+◌, ◌*◌, ◌-◌, ◌/◌, ◌≤◌, ◌<◌, length, map, max, vec_len, vec_capacity, OnOk, OnErr, IfOk, true, false, pos, [], ◌∷◌, ℕ, ◌<ℤ◌};
+ghost use Rattle.std.specs.Prelude.{◌≡◌, ◌↔◌, IsTrue, ◌≢◌, ◌+◌, ◌*◌, ◌-◌, ◌/◌, ◌^◌, ◌≤◌, ◌<◌, length, map, max, vec_len, vec_capacity, OnOk, OnErr, IfOk, true, false, pos, [], ◌∷◌, ℕ, ◌<ℤ◌};
 ghost use Rattle.qh_model.specs.headline.Predicates.{vol, place};
 ghost use Rattle.qh_model.specs.headline.Vector.{Vector};
 ghost use Rattle.qh_model.specs.contract.Weighted.{Weighted};
 ghost use Rattle.qh_model.specs.contract.FinishedSurface.{weighted_at, middle_at};
 ghost use Rattle.qh_model.specs.contract.StoredSurface.{facet_at, named_facet, surface_of};
-ghost use Rattle.qh_mesh.specs.steps.Tetrahedra.{simplex_of};
 ghost use Rattle.qh_mesh.specs.contract.Replacement.{IsLive, AreFacets, IsReplacement, edge_start, edge_end, twin_of};
 ghost use Rattle.qh_mesh.specs.contract.Names.{name_in};
 ghost use Rattle.qh_mesh.specs.contract.LiveNumbers.{numbers};
 ghost use Rattle.qh_mesh.specs.contract.SoundMesh.{simplex_facets, IsSoundMesh, IsClosedMesh, AreVisible};
 ghost use Rattle.qh_model.specs.contract.Rewired.{IsRewired};
 
-use crate::facets::{ConeFacet, EdgeNo, FacetNo, Side};
+use crate::facets::{EdgeNo, Facet, FacetNo, FacetSide, name_all};
 use crate::live::Live;
-use crate::naming::name_starts;
 use crate::rebuild::rebuild;
-use crate::sides::{corners, ends};
+use crate::slots::Slot;
 use qh_model::{Id, Memory, Point};
 use qh_pred::{point_at, vol};
 use std::alloc::{AllocError, Global};
 use std::marker::Model;
+
+/// More places than this have half-edges whose numbers don't fit 32 bits.
+const PLACES: usize = 1_431_655_765;
 
 /// A closed surface of triangles, each counterclockwise seen from outside.
 ///
 /// A contract sees it as the list of its places.
 #[derive(Drop)]
 pub struct Mesh {
-    /// Three a facet.
-    sides: Vec<Side>,
+    facets: Vec<Facet>,
     /// The places of no facet.
-    free: Vec<usize>,
-    /// Room for the horizon of a replacement.
-    horizon: Vec<usize>,
-    /// Room for the facets of its cone.
-    cone_facets: Vec<ConeFacet>,
+    free: Vec<FacetNo>,
+    /// A table of the corners, for the horizon of a replacement.
+    slots: Vec<Slot>,
+    /// Room for that horizon.
+    horizon: Vec<FacetSide>,
 }
 
 impl Model for Mesh {
     ghost use Rattle.std.specs.Prelude.{List};
     ghost use Rattle.qh_model.specs.contract.StoredSurface.{StoredFacet};
-    ghost use Rattle.qh_mesh.specs.steps.Stored.{facets_of};
-    ghost use Rattle.qh_mesh.specs.steps.Cells.{IsSurface};
+    ghost use Rattle.qh_mesh.specs.steps.Surfaces.{IsSurface};
 
     ghost Value = { List StoredFacet };
 
-    ghost view = { λ m. facets_of m.sides.items };
+    ghost view = { λ m. m.facets.items };
 
-    ghost invariant = { λ m. IsSurface m.sides.items m.free.items };
+    ghost invariant = { λ m. IsSurface m.facets.items m.free.items };
 }
 
 /// Whether the triangle a b c strictly sees d.
@@ -66,65 +65,54 @@ fn sees(pts: &[Point], a: Id, b: Id, c: Id, d: Id) -> bool
     ) > 0
 }
 
-/// A side of a live facet.
-fn side(start: u32, twin: usize) -> Side
-    ensures { result ≡ record { start = start; live = true; seen = false; twin = twin } }
-{
-    Side {
-        start,
-        live: true,
-        seen: false,
-        twin,
-    }
-}
-
-/// The sides of the facets a b c, a d b, a c d and b d c.
-fn four(a: u32, b: u32, c: u32, d: u32) -> [Side; 12]
-    ensures { result ≡ simplex_of a b c d }
+/// The facets a b c, a d b, a c d and b d c.
+fn four(a: u32, b: u32, c: u32, d: u32) -> [Facet; 4]
+    ensures { result ≡ simplex_facets a b c d }
 {
     [
-        side(a, 5),
-        side(b, 11),
-        side(c, 6),
-        side(a, 8),
-        side(d, 9),
-        side(b, 0),
-        side(a, 2),
-        side(c, 10),
-        side(d, 3),
-        side(b, 4),
-        side(d, 7),
-        side(c, 1),
+        Facet::new(a, b, c, 5, 11, 6),
+        Facet::new(a, d, b, 8, 9, 0),
+        Facet::new(a, c, d, 2, 10, 3),
+        Facet::new(b, d, c, 4, 7, 1),
     ]
 }
 
-/// Makes room for what a replacement of so many facets can need.
+/// Makes room for what a replacement of so many facets can need, at so many points.
 fn make_room(
-    sides: &mut Vec<Side>,
-    free: &mut Vec<usize>,
-    horizon: &mut Vec<usize>,
-    cone_facets: &mut Vec<ConeFacet>,
+    facets: &mut Vec<Facet>,
+    free: &mut Vec<FacetNo>,
+    slots: &mut Vec<Slot>,
+    horizon: &mut Vec<FacetSide>,
+    points: usize,
     count: usize,
 ) -> Result<(), AllocError>
-    ensures sides { sides.new.items ≡ sides.old.items }
+    ensures facets { facets.new.items ≡ facets.old.items }
     ensures free { free.new.items ≡ free.old.items }
-    ensures horizon { vec_len horizon.new ≡ 0 }
-    ensures cone_facets { vec_len cone_facets.new ≡ 0 }
+    ensures horizon { horizon.new.items ≡ [] }
+    ensures horizon_len { vec_len horizon.new ≡ 0 }
     ensures horizon_room { OnOk result (3 * count ≤ vec_capacity horizon.new) }
-    ensures cone_facets_room { OnOk result (3 * count ≤ vec_capacity cone_facets.new) }
     ensures free_room { OnOk result (vec_len free.new + count ≤ vec_capacity free.new) }
-    ensures spare { OnOk result (vec_len sides.new + 3 * (2 * count - vec_len free.new) ≤ vec_capacity sides.new) }
+    ensures spare { OnOk result (vec_len facets.new + 2 * count ≤ vec_capacity facets.new + vec_len free.new) }
+    ensures small { OnOk result (3 * (vec_len facets.new + (2 * count - vec_len free.new)) < 2 ^ 32) }
 {
     horizon.clear();
-    cone_facets.clear();
-    let Some(most) = count.checked_mul(6) else {
+    let Some(most) = count.checked_mul(3) else {
         return Err(AllocError);
     };
-    let free_len = free.len();
-    horizon.reserve(most / 2)?;
-    cone_facets.reserve(most / 2)?;
+    let spare = (2 * count).saturating_sub(free.len());
+    if facets.len() > PLACES || spare > PLACES - facets.len() {
+        return Err(AllocError);
+    }
+    if slots.len() < points {
+        let empty = Slot {
+            starting: 0,
+            ending: 0,
+        };
+        slots.resize(points, empty)?;
+    }
+    horizon.reserve(most)?;
     free.reserve(count)?;
-    sides.reserve(3 * (2 * count).saturating_sub(free_len))?;
+    facets.reserve(spare)?;
     Ok(())
 }
 
@@ -156,15 +144,15 @@ impl Mesh {
     fn of_corners(alloc: Global, a: Id, b: Id, c: Id, d: Id) -> Result<Mesh, Memory>
         ensures { IfOk result (λ m. m ≡ simplex_facets a b c d) }
     {
-        let corners = four(a.number(), b.number(), c.number(), d.number());
-        let Ok(sides) = Vec::from_slice(alloc, &corners) else {
+        let four = four(a.number(), b.number(), c.number(), d.number());
+        let Ok(facets) = Vec::from_slice(alloc, &four) else {
             return Err(Memory);
         };
         Ok(Mesh {
-            sides,
+            facets,
             free: Vec::new(alloc),
+            slots: Vec::new(alloc),
             horizon: Vec::new(alloc),
-            cone_facets: Vec::new(alloc),
         })
     }
 
@@ -172,7 +160,7 @@ impl Mesh {
     pub fn places(&self) -> usize
         ensures { result ≡ length self.now }
     {
-        self.sides.len() / 3
+        self.facets.len()
     }
 
     /// The live facets, each once, by rising numbers.
@@ -187,7 +175,7 @@ impl Mesh {
         requires { f.0 < length self.now }
         ensures { result ≡ (facet_at self.now f.0).live }
     {
-        self.sides[3 * f.0].live
+        self.facets[f.0].is_live()
     }
 
     /// The corners of a live facet, counterclockwise seen from outside.
@@ -195,7 +183,7 @@ impl Mesh {
         requires { IsLive self.now f.0 }
         ensures { result ≡ (facet_at self.now f.0).i ∷ (facet_at self.now f.0).j ∷ (facet_at self.now f.0).k ∷ [] }
     {
-        corners(self.sides.as_slice(), f.0)
+        self.facets[f.0].corners()
     }
 
     /// The edge of a live facet that starts at its corner `side`, which is 0, 1 or 2.
@@ -204,7 +192,7 @@ impl Mesh {
         requires side { side < 3 }
         ensures { result.0 ≡ 3 * f.0 + side }
     {
-        let _ = &self.sides;
+        let _ = &self.facets;
         EdgeNo(3 * f.0 + side)
     }
 
@@ -214,7 +202,8 @@ impl Mesh {
         ensures from { result.0 ≡ edge_start self.now e.0 }
         ensures to { result.1 ≡ edge_end self.now e.0 }
     {
-        ends(self.sides.as_slice(), e.0)
+        let side = self.facets[e.0 / 3].side(e.0 % 3);
+        (Id::new(side.from), Id::new(side.to))
     }
 
     /// The edge of the neighbour that runs against an edge of a live facet.
@@ -226,14 +215,15 @@ impl Mesh {
         ensures starts { edge_start self.now result.0 ≡ edge_end self.now e.0 }
         ensures ends { edge_end self.now result.0 ≡ edge_start self.now e.0 }
     {
-        EdgeNo(self.sides[e.0].twin)
+        EdgeNo(self.facets[e.0 / 3].side(e.0 % 3).outer as usize)
     }
 
     /// Takes the visible facets away and puts the cone from the apex over their horizon. Its facets are
     /// listed in the order of the horizon: the visible facets as listed, of each the sides 0, 1 and 2
     /// across which a facet stays.
     ///
-    /// `Err` says that memory was refused: the mesh is as before.
+    /// `Err` says that memory was refused, or that half-edges would have numbers past 32 bits: the mesh is
+    /// as before.
     pub fn replace(
         &mut self,
         alloc: Global,
@@ -255,13 +245,13 @@ impl Mesh {
         ensures places { IfOk result (λ _. length self.new ≡ max (length self.old) (length (surface_of self.new).live)) }
         ensures memory { OnErr result (self.new ≡ self.old) }
     {
-        let _ = pts;
         let count = visible.len();
         let Ok(()) = make_room(
-            &mut self.sides,
+            &mut self.facets,
             &mut self.free,
+            &mut self.slots,
             &mut self.horizon,
-            &mut self.cone_facets,
+            pts.len(),
             count,
         ) else {
             return Err(Memory);
@@ -270,10 +260,10 @@ impl Mesh {
             return Err(Memory);
         };
         rebuild(
-            &mut self.sides,
+            &mut self.facets,
             &mut self.free,
+            self.slots.as_mut_slice(),
             &mut self.horizon,
-            &mut self.cone_facets,
             &mut made,
             visible,
             apex.number(),
@@ -286,6 +276,6 @@ impl Mesh {
     pub fn name_corners(&mut self, ids: &[Id])
         ensures { self.new ≡ map (named_facet (name_in ids.now)) self.old }
     {
-        name_starts(&mut self.sides, ids);
+        name_all(&mut self.facets, ids);
     }
 }

@@ -46,7 +46,7 @@ fn sees(mesh: &Mesh, pts: &[Point], f: FacetNo, apex: u32) -> bool {
 }
 
 /// The facets that a point sees.
-#[tactic(auto, using(crate::proofs::FacetLists::none_below, crate::proofs::FacetLists::more_below, crate::proofs::FacetLists::push_below))]
+#[tactic(auto, using(crate::proofs::FacetLists::below_facets, crate::proofs::FacetLists::none_below, crate::proofs::FacetLists::more_below, crate::proofs::FacetLists::push_below))]
 fn seen_by(alloc: Global, mesh: &Mesh, pts: &[Point], apex: u32) -> Result<Vec<FacetNo>, AllocError>
     ensures { IfOk result (λ list. AreFacets mesh.now list.items) }
 {

@@ -1,0 +1,32 @@
+-- What the steps of a replacement write: the twins across the horizon, and the facets of the cone.
+use Rattle.std.specs.Prelude.{◌≡◌, ◌≢◌, ℕ, ◌+◌, ◌*◌, ◌<◌, List, length, true, false}
+use Rattle.qh_model.specs.contract.StoredSurface.{StoredFacet, facet_at, no_facet}
+use Rattle.qh_mesh.specs.declared.facets.FacetNo.{FacetNo}
+use Rattle.qh_mesh.specs.declared.facets.FacetSide.{FacetSide}
+use Rattle.qh_mesh.specs.contract.Replacement.{number, twin_of}
+use Rattle.qh_mesh.specs.steps.Kept.{facet_from}
+use Rattle.qh_mesh.specs.steps.Horizons.{side_at, IsMate}
+use Rattle.qh_mesh.specs.steps.Writes.{Scattered}
+
+-- the facet without the half-edges across its sides
+abbrev pub bare : StoredFacet → StoredFacet
+bare t = record { i = t.i; j = t.j; k = t.k; ij = 0; jk = 0; ki = 0; live = t.live }
+
+-- the half-edges across the first k sides of the horizon have their twins in the cone, and nothing else changed
+pub record Joined (old new : List StoredFacet) (hs : List FacetSide) (made : List FacetNo) (k : ℕ) : Type 0 where
+  pub len : length new ≡ length old
+  pub same : (f : ℕ) → bare (facet_at new f) ≡ bare (facet_at old f)
+  pub outer : (j : ℕ) → j < k → twin_of new (side_at hs j).outer ≡ 3 * number made j
+  pub others : (e : ℕ) → ((j : ℕ) → j < k → (side_at hs j).outer ≢ e) → twin_of new e ≡ twin_of old e
+
+-- the facet of the cone over a side of the horizon, beside those over the sides that meet it
+pub record IsOver (hs : List FacetSide) (made : List FacetNo) (apex j : ℕ) (t : StoredFacet) : Type 0 where
+  pub next : ℕ
+  pub next_is : IsMate hs true j next
+  pub before : ℕ
+  pub before_is : IsMate hs false j before
+  pub is : t ≡ facet_from (side_at hs j).from (side_at hs j).to apex (side_at hs j).outer (3 * number made next + 2) (3 * number made before + 1)
+
+-- the first k facets of the cone are written, and nothing else changed
+abbrev pub Written : List StoredFacet → List StoredFacet → List FacetSide → List FacetNo → ℕ → ℕ → Type 0
+Written old new hs made apex k = Scattered no_facet old new (number made) (IsOver hs made apex) k

@@ -1,0 +1,62 @@
+-- The horizon as it is gathered, and which of its sides follow one another.
+use Rattle.std.specs.Prelude.{◌≡◌, ℕ, zero, suc, ◌/◌, ◌<◌, List, [], ◌∷◌, ◌++◌, Bool, true, false, cond, not, nat_eq, length, take, filter, slice_index_or, count_by, flat_map}
+use Rattle.qh_model.specs.contract.Surface.Side.{first, second, third}
+use Rattle.qh_model.specs.contract.StoredSurface.{StoredFacet, facet_at}
+use Rattle.qh_mesh.specs.declared.facets.FacetNo.{FacetNo}
+use Rattle.qh_mesh.specs.declared.facets.FacetSide.{FacetSide}
+use Rattle.qh_mesh.specs.declared.slots.Slot.{Slot}
+use Rattle.qh_mesh.specs.contract.Replacement.{side_of_edge}
+use Rattle.qh_mesh.specs.steps.Kept.{side_of}
+
+-- facet f and those across its sides are in the mesh
+pub record HasSidesInside (fs : List StoredFacet) (f : ℕ) : Type 0 where
+  pub facet : f < length fs
+  pub ij : (facet_at fs f).ij / 3 < length fs
+  pub jk : (facet_at fs f).jk / 3 < length fs
+  pub ki : (facet_at fs f).ki / 3 < length fs
+
+-- is the facet across the side live?
+abbrev pub is_open : List StoredFacet → FacetSide → Bool
+is_open fs h = (facet_at fs (h.outer / 3)).live
+
+-- the three sides of a facet
+abbrev pub three_sides : StoredFacet → List FacetSide
+three_sides t = side_of t first ∷ side_of t second ∷ side_of t third ∷ []
+
+-- those of the listed facets across which a live facet lies, in the order of the list
+abbrev pub open_sides : List StoredFacet → List FacetNo → List FacetSide
+open_sides fs vs = filter (is_open fs) (flat_map (λ v. three_sides (facet_at fs v.0)) vs)
+
+-- the side at a place of the horizon
+abbrev pub side_at : List FacetSide → ℕ → FacetSide
+side_at hs j = slice_index_or hs j (record { from = 0; to = 0; outer = 0 })
+
+-- the corner where a side ends, or where it starts
+abbrev pub corner : Bool → FacetSide → ℕ
+corner ends h = cond ends h.to h.from
+
+-- at each corner as many sides start as end
+abbrev pub IsBalanced : List FacetSide → Type 0
+IsBalanced hs = (l : ℕ) → count_by (λ h. nat_eq (corner true h) l) hs ≡ count_by (λ h. nat_eq (corner false h) l) hs
+
+-- how many of the first n sides end, or start, at a corner
+abbrev pub rank : List FacetSide → Bool → ℕ → ℕ → ℕ
+rank hs ends l n = count_by (λ h. nat_eq (corner ends h) l) (take n hs)
+
+-- side i starts where side j ends, or ends where it starts, and is as late among the sides that do
+pub record IsMate (hs : List FacetSide) (ends : Bool) (j i : ℕ) : Type 0 where
+  pub inside : i < length hs
+  pub meets : corner (not ends) (side_at hs i) ≡ corner ends (side_at hs j)
+  pub rank : rank hs (not ends) (corner ends (side_at hs j)) i ≡ rank hs ends (corner ends (side_at hs j)) j
+
+-- what the table has for a corner: the side that ends there, or the one that starts there
+abbrev pub noted : List Slot → Bool → ℕ → ℕ
+noted ss ends l = cond ends (slice_index_or ss l (record { starting = 0; ending = 0 })).ending (slice_index_or ss l (record { starting = 0; ending = 0 })).starting
+
+-- each side is noted at its corner of this kind
+abbrev pub AreNoted : List Slot → List FacetSide → Type 0
+AreNoted ss hs = (ends : Bool) (j : ℕ) → j < length hs → (corner ends (side_at hs j) < length ss) × (noted ss ends (corner ends (side_at hs j)) ≡ j)
+
+-- the side of a facet that an edge is
+abbrev pub edge_side : List StoredFacet → ℕ → FacetSide
+edge_side fs e = side_of (facet_at fs (e / 3)) (side_of_edge e)

@@ -1,0 +1,68 @@
+//! The places of facets: those of facets that go, and those of a cone.
+ghost use Rattle.std.specs.Prelude.{◌≡◌, ◌≢◌, ◌+◌, ◌<◌, ◌≤◌, ◌⊎◌, ℕ, length, [], ◌∷◌, ◌++◌, vec_len, vec_capacity};
+ghost use Rattle.qh_model.specs.contract.StoredSurface.{facet_at};
+ghost use Rattle.qh_mesh.specs.contract.Replacement.{number};
+ghost use Rattle.qh_mesh.specs.steps.Places.{Removed, IsPool};
+
+use crate::facets::{Facet, FacetNo};
+
+/// Takes the listed facets away: their places are free.
+pub fn remove(facets: &mut [Facet], free: &mut Vec<FacetNo>, visible: &[FacetNo])
+    requires inside { (j : ℕ) → j < length visible.now → number visible.now j < length facets.old }
+    requires apart { (i j : ℕ) → i < j → j < length visible.now → number visible.now i ≢ number visible.now j }
+    requires room { vec_len free.old + length visible.now ≤ vec_capacity free.old }
+    ensures facets { Removed facets.old facets.new visible.now (length visible.now) }
+    ensures free { free.new.items ≡ free.old.items ++ visible.now }
+    ensures len { vec_len free.new ≡ vec_len free.old + length visible.now }
+{
+    for f in visible {
+        facets[f.0] = facets[f.0].removed();
+        free.push_reserved(*f);
+    }
+}
+
+/// Gives out a free place, or else a new one at the end.
+fn give_out(facets: &mut Vec<Facet>, free: &mut Vec<FacetNo>, made: &mut Vec<FacetNo>)
+    requires pool { IsPool facets.old.items made.old.items free.old.items }
+    requires room { vec_len free.old ≡ 0 → vec_len facets.old < vec_capacity facets.old }
+    requires made_room { vec_len made.old < vec_capacity made.old }
+    ensures pool { IsPool facets.new.items made.new.items free.new.items }
+    ensures cells { (f : ℕ) → facet_at facets.new.items f ≡ facet_at facets.old.items f }
+    ensures longer { vec_len facets.old ≤ vec_len facets.new }
+    ensures again { 0 < vec_len free.new → vec_len facets.new ≡ vec_len facets.old }
+    ensures len { vec_len facets.new + vec_len free.old ≡ vec_len facets.old + 1 + vec_len free.new }
+    ensures made { vec_len made.new ≡ vec_len made.old + 1 }
+    ensures capacity { vec_capacity facets.new ≡ vec_capacity facets.old }
+    ensures free_capacity { vec_capacity free.new ≡ vec_capacity free.old }
+    ensures made_capacity { vec_capacity made.new ≡ vec_capacity made.old }
+{
+    if let Some(place) = free.pop() {
+        made.push_reserved(place);
+    } else {
+        made.push_reserved(FacetNo(facets.len()));
+        facets.push_reserved(Facet::none());
+    }
+}
+
+/// So many places for the facets of a cone: free ones first, then new ones at the end.
+pub fn choose(
+    facets: &mut Vec<Facet>,
+    free: &mut Vec<FacetNo>,
+    count: usize,
+    made: &mut Vec<FacetNo>,
+)
+    requires pool { IsPool facets.old.items made.old.items free.old.items }
+    requires empty { vec_len made.old ≡ 0 }
+    requires room { vec_len facets.old + count ≤ vec_capacity facets.old + vec_len free.old }
+    requires made_room { count ≤ vec_capacity made.old }
+    ensures pool { IsPool facets.new.items made.new.items free.new.items }
+    ensures cells { (f : ℕ) → facet_at facets.new.items f ≡ facet_at facets.old.items f }
+    ensures longer { vec_len facets.old ≤ vec_len facets.new }
+    ensures again { 0 < vec_len free.new → vec_len facets.new ≡ vec_len facets.old }
+    ensures len { vec_len facets.new + vec_len free.old ≡ vec_len facets.old + count + vec_len free.new }
+    ensures made { vec_len made.new ≡ count }
+{
+    for j in 0..count {
+        give_out(facets, free, made);
+    }
+}

@@ -1,0 +1,115 @@
+//! The order of the horizon's sides, by a table of the corners.
+ghost use Rattle.std.specs.Prelude.{◌≡◌, ◌+◌, ◌<◌, ◌≤◌, ◌^◌, length, not, true, take, cond, nat_eq, count_by};
+ghost use Rattle.qh_mesh.specs.steps.Horizons.{AreNoted, IsBalanced, IsMate, corner, rank, side_at, noted};
+
+use crate::facets::FacetSide;
+
+/// The sides of a horizon at a corner, by their places in its list: the last one noted that starts
+/// there, and the last one that ends there. They say nothing of the horizons of other calls.
+#[derive(Clone, Copy, Drop)]
+pub struct Slot {
+    pub starting: u32,
+    pub ending: u32,
+}
+
+/// The corner where a side ends, or where it starts.
+fn corner(side: FacetSide, ends: bool) -> u32
+    ensures { result ≡ corner ends side }
+{
+    if ends { side.to } else { side.from }
+}
+
+/// Notes a side at its corners.
+fn note(slots: &mut [Slot], side: FacetSide, j: u32) {
+    if let Some(slot) = slots.get_mut(side.from as usize) {
+        slot.starting = j;
+    }
+    if let Some(slot) = slots.get_mut(side.to as usize) {
+        slot.ending = j;
+    }
+}
+
+/// The side that the table has for a corner: one that ends there, or one that starts there.
+fn noted(slots: &[Slot], ends: bool, at: usize) -> usize
+    requires { at < length slots.now }
+    ensures { result ≡ noted slots.now ends at }
+{
+    if ends {
+        slots[at].ending as usize
+    } else {
+        slots[at].starting as usize
+    }
+}
+
+/// Whether the table has room for a corner of a side and names the side there.
+fn is_noted(slots: &[Slot], side: FacetSide, ends: bool, j: usize) -> bool
+    ensures { result ≡ true → (corner ends side < length slots.now) × (noted slots.now ends (corner ends side) ≡ j) }
+{
+    let at = corner(side, ends) as usize;
+    at < slots.len() && noted(slots, ends, at) == j
+}
+
+/// Notes each side at its corners, and answers whether no two start and no two end at one corner, all
+/// of them in the table.
+pub fn fill(slots: &mut [Slot], horizon: &[FacetSide]) -> bool
+    requires { length horizon.now < 2 ^ 32 }
+    ensures { result ≡ true → AreNoted slots.new horizon.now }
+{
+    for j in 0..horizon.len() {
+        note(slots, horizon[j], j as u32);
+    }
+    for j in 0..horizon.len() {
+        if !is_noted(slots, horizon[j], true, j) || !is_noted(slots, horizon[j], false, j) {
+            return false;
+        }
+    }
+    true
+}
+
+/// How many of the sides before the j-th end where it ends, or start where it starts.
+fn rank(horizon: &[FacetSide], ends: bool, j: usize) -> usize
+    requires { j < length horizon.now }
+    ensures { result ≡ rank horizon.now ends (corner ends (side_at horizon.now j)) j }
+{
+    let at = corner(horizon[j], ends);
+    let mut count = 0;
+    for i in 0..j {
+        if corner(horizon[i], ends) == at {
+            count += 1;
+        }
+    }
+    count
+}
+
+/// The side that meets side j there, found without the table.
+fn find_mate(horizon: &[FacetSide], ends: bool, j: usize) -> usize
+    requires inside { j < length horizon.now }
+    requires balanced { IsBalanced horizon.now }
+    ensures { IsMate horizon.now ends j result }
+{
+    let at = corner(horizon[j], ends);
+    let mut left = rank(horizon, ends, j);
+    for i in 0..horizon.len() {
+        if corner(horizon[i], !ends) == at {
+            if left == 0 {
+                return i;
+            }
+            left -= 1;
+        }
+    }
+    unreachable!()
+}
+
+/// The side of the horizon that starts where side j ends, or ends where it starts.
+pub fn mate(slots: &[Slot], filled: bool, horizon: &[FacetSide], ends: bool, j: usize) -> usize
+    requires inside { j < length horizon.now }
+    requires balanced { IsBalanced horizon.now }
+    requires filled { filled ≡ true → AreNoted slots.now horizon.now }
+    ensures { IsMate horizon.now ends j result }
+{
+    if filled {
+        noted(slots, !ends, corner(horizon[j], ends) as usize)
+    } else {
+        find_mate(horizon, ends, j)
+    }
+}
