@@ -1,6 +1,6 @@
 -- Half-edges by their facet and side.
-use Rattle.std.proofs.Common.{◌≡◌, ℕ, zero, suc, ◌+◌, ◌*◌, ◌/◌, ◌%◌, ◌<◌, arith, ap, refl, List}
-use Rattle.qh_model.specs.contract.Simplex.{one_of, by_side}
+use Rattle.std.proofs.Common.{◌≡◌, ℕ, zero, suc, ◌/◌, ◌%◌, ◌<◌, arith, ap, refl, List}
+use Rattle.qh_model.specs.contract.Simplex.{one_of}
 use Rattle.qh_model.specs.contract.Surface.{Side, start, end}
 use Rattle.qh_model.specs.contract.Surface.Side.{first, second, third}
 use Rattle.qh_model.specs.contract.StoredSurface.{StoredFacet, facet_at, surface_of}
@@ -10,9 +10,7 @@ use Rattle.qh_mesh.specs.steps.Twins.{side_no, edge_of, twin_at}
 
 -- an edge by its facet and side is of that facet
 pub edge-facet : (f : ℕ) (s : Side) → edge_of f s / 3 ≡ f
-edge-facet f first = omega arith
-edge-facet f second = omega arith
-edge-facet f third = omega arith
+edge-facet f = elim [ first ↦ omega arith | second ↦ omega arith | third ↦ omega arith ]
 
 -- and is that side
 pub edge-side : (f : ℕ) (s : Side) → side_of_edge (edge_of f s) ≡ s
@@ -28,42 +26,32 @@ left-over (suc (suc zero)) l = refl
 left-over (suc (suc (suc r))) l = absurd (omega arith)
 
 -- each edge is that of its facet and side
-pub edge-is : (x : ℕ) → edge_of (x / 3) (side_of_edge x) ≡ x
-edge-is x = let e : side_no (side_of_edge x) ≡ x % 3 = left-over (x % 3) (omega arith) in omega arith
+pub edge_is : (x : ℕ) → edge_of (x / 3) (side_of_edge x) ≡ x
+edge_is x = let e : side_no (side_of_edge x) ≡ x % 3 = left-over (x % 3) (omega arith) in omega arith
 
 module _ (fs : List StoredFacet) (f : ℕ) (s : Side) where
-  -- an edge starts where the surface says
+  -- an edge starts and ends where the surface says
   pub start-is : edge_start fs (edge_of f s) ≡ start (surface_of fs) f s
   start-is = λ i. start (surface_of fs) (edge-facet f s i) (edge-side f s i)
 
-  -- and ends where it says
   pub end-is : edge_end fs (edge_of f s) ≡ end (surface_of fs) f s
   end-is = λ i. end (surface_of fs) (edge-facet f s i) (edge-side f s i)
 
-  -- the twin of an edge by its facet and side
+  -- its twin by its facet and side
   pub twin-is : twin_of fs (edge_of f s) ≡ twin_at fs f s
   twin-is = λ i. twin_at fs (edge-facet f s i) (edge-side f s i)
 
--- the neighbour is the facet of the twin
-pub over-is : (fs : List StoredFacet) (f : ℕ) (s : Side) → (surface_of fs).over f s ≡ twin_at fs f s / 3
-over-is fs f first = refl
-over-is fs f second = refl
-over-is fs f third = refl
+module _ (fs : List StoredFacet) (f : ℕ) where
+  -- the neighbour is the facet of the twin, and that side of it
+  pub over-is : (s : Side) → (surface_of fs).over f s ≡ twin_at fs f s / 3
+  over-is = elim [ first ↦ refl | second ↦ refl | third ↦ refl ]
 
--- the side of the neighbour is that of the twin
-pub back-is : (fs : List StoredFacet) (f : ℕ) (s : Side) → (surface_of fs).back f s ≡ side_of_edge (twin_at fs f s)
-back-is fs f first = refl
-back-is fs f second = refl
-back-is fs f third = refl
+  pub back-is : (s : Side) → (surface_of fs).back f s ≡ side_of_edge (twin_at fs f s)
+  back-is = elim [ first ↦ refl | second ↦ refl | third ↦ refl ]
 
--- a side starts where the surface says
-pub from-is : (fs : List StoredFacet) (f : ℕ) (s : Side) → (side_of (facet_at fs f) s).from ≡ start (surface_of fs) f s
-from-is fs f first = refl
-from-is fs f second = refl
-from-is fs f third = refl
+  -- a side starts and ends where the surface says
+  pub from-is : (s : Side) → (side_of (facet_at fs f) s).from ≡ start (surface_of fs) f s
+  from-is = elim [ first ↦ refl | second ↦ refl | third ↦ refl ]
 
--- and ends where it says
-pub to-is : (fs : List StoredFacet) (f : ℕ) (s : Side) → (side_of (facet_at fs f) s).to ≡ end (surface_of fs) f s
-to-is fs f first = refl
-to-is fs f second = refl
-to-is fs f third = refl
+  pub to-is : (s : Side) → (side_of (facet_at fs f) s).to ≡ end (surface_of fs) f s
+  to-is = elim [ first ↦ refl | second ↦ refl | third ↦ refl ]

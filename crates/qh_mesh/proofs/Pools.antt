@@ -1,59 +1,93 @@
--- The places of no facet, as they are given out and come back.
-use Rattle.std.proofs.Common.{◌≡◌, ◌≢◌, ℕ, zero, suc, ◌+◌, ◌<◌, ◌≤◌, ◌⊎◌, inl, inr, arith, ap, sym, ◌∙◌, refl, subst, Bool, true, false, List, [], ◌∷◌, ◌++◌, length, get_or}
-use Rattle.std.proofs.lemmas.Bool.{both_ways, cases_Bool}
-use Rattle.std.proofs.lemmas.List.{length_push}
-use Rattle.qh_model.specs.headline.Sets.{In, Once}
-use Rattle.qh_model.specs.contract.StoredSurface.{StoredFacet, facet_at, no_facet}
-use Rattle.qh_model.proofs.Members.{In-get_or}
-use Rattle.qh_model.proofs.lists.Joined.{in_append, of_append, once_append}
+-- The places of no facet, as they come and go.
+use Rattle.std.proofs.Common.{◌≡◌, ◌≢◌, ℕ, zero, suc, ◌+◌, ◌^◌, ◌<◌, ◌≤◌, inl, inr, max, arith, ap, sym, ◌∙◌, refl, subst, Bool, true}
+use Rattle.std.proofs.Common.{false, cond}
+use Rattle.std.proofs.Common.{List, [], ◌∷◌, ◌++◌, length, reverse, set}
+use Rattle.std.proofs.lemmas.Bool.{both_ways}
+use Rattle.std.proofs.lemmas.List.{length_push, length-reverse, length-set, get_or_past, get_or-set_same, get_or-set_other}
+use Rattle.std.proofs.lemmas.List.{append_assoc, reverse-append, append-nil}
+use Rattle.std.proofs.lemmas.List.Sums.{sum_by-cons, sum_by-set, sum_by_push}
+use Rattle.qh_model.specs.headline.Sets.{In}
+use Rattle.qh_model.specs.contract.StoredSurface.{StoredFacet, facet_at, no_facet, live_from, surface_of}
+use Rattle.qh_model.proofs.lists.Joined.{of_append, once_append}
 use Rattle.qh_mesh.specs.declared.facets.FacetNo.{FacetNo}
-use Rattle.qh_mesh.specs.contract.Replacement.{number, is_listed}
-use Rattle.qh_mesh.specs.steps.Places.{IsPool}
-use Rattle.qh_mesh.proofs.NumberCases.{by_le}
+use Rattle.qh_mesh.specs.declared.facets.FacetSide.{FacetSide}
+use Rattle.qh_mesh.specs.contract.Replacement.{IsLive, number}
+use Rattle.qh_mesh.specs.steps.Cones.{Joined}
+use Rattle.qh_mesh.specs.steps.Kept.{is_live}
+use Rattle.qh_mesh.specs.steps.Places.{IsPool, live_count}
+use Rattle.qh_mesh.specs.steps.Rebuilt.{IsReady}
+use Rattle.qh_mesh.proofs.NumberCases.{order}
+use Rattle.qh_mesh.proofs.Pigeonhole.{pigeon}
 
--- the last of a list that has each member once is none of the others
-once_last : (vs : List FacetNo) (v : FacetNo) → Once (vs ++ v ∷ []) → Once vs × (¬ (In v vs))
-once_last [] v o = (tt, λ i. i)
-once_last (w ∷ vs) v o = let r = once_last vs v o.1 in ((λ i. o.0 (in_append vs (v ∷ []) w (inl i)), r.0), by r.1)
-  where
-    by : (¬ (In v vs)) → In v (w ∷ vs) → ⊥
-    by n (inl e) = o.0 (in_append vs (v ∷ []) w (inr (inl (sym e))))
-    by n (inr i) = n i
+-- a live facet has a place
+pub live_inside : (fs : List StoredFacet) (f : ℕ) → IsLive fs f → f < length fs
+live_inside fs f l = elim (order f (length fs)) [
+  | inl h ↦ h
+  | inr h ↦ absurd (both_ways (facet_at fs f).live (ap is_live (get_or_past fs f no_facet h)) l)
+]
 
-module _ (fs : List StoredFacet) (made free : List FacetNo) (p : FacetNo) where
-  -- a free place is given out
-  pub pool_pops : IsPool fs made (free ++ p ∷ []) → IsPool fs (made ++ p ∷ []) free
-  pool_pops q = record {
-    made_once = once_append made (p ∷ []) q.made_once ((λ i. i), tt) (λ v i j. q.apart v i (in_append free (p ∷ []) v (inr j)));
-    free_once = o.0;
-    apart = λ v i j. by v (of_append made (p ∷ []) v i) j;
-    dead = λ v i. q.dead v (back v i);
-    all = λ v l d. there v (q.all v l d);
+module _ (fs : List StoredFacet) (v : ℕ) (t : StoredFacet) where
+  -- a write changes the count of live facets by its own
+  count_set : (b c : Bool) → v < length fs → (facet_at fs v).live ≡ b → t.live ≡ c
+      → live_count (set fs v t) + cond b 1 0 ≡ live_count fs + cond c 1 0
+  count_set b c l e d = rw (← e, ← d) (sum_by-set (λ t. cond (is_live t) 1 0) fs v t no_facet l)
+
+  -- and leaves vacant what was
+  vacant_set : (w : ℕ) → w ≢ v → (w < length fs) × ((facet_at fs w).live ≡ false)
+      → (w < length (set fs v t)) × ((facet_at (set fs v t) w).live ≡ false)
+  vacant_set w n h = (rw (length-set fs v t) h.0, ap is_live (get_or-set_other fs v w t no_facet n) ∙ h.1)
+
+module _ (fs : List StoredFacet) (places : List FacetNo) (v : FacetNo) (t : StoredFacet) where
+  -- a facet that goes leaves its place
+  pub pool_more : IsPool fs places → IsLive fs v.0 → t.live ≡ false → IsPool (set fs v.0 t) (v ∷ places)
+  pool_more q l e = record {
+    once = ((λ i. apart v i refl), q.once);
+    vacant = λ w. elim [
+      | inl d ↦ subst (λ (u : FacetNo). (u.0 < length (set fs v.0 t)) × ((facet_at (set fs v.0 t) u.0).live ≡ false)) (sym d)
+          (rw (length-set fs v.0 t) inside, ap is_live (get_or-set_same fs v.0 t no_facet inside) ∙ e)
+      | inr i ↦ vacant_set fs v.0 t w.0 (apart w i) (q.vacant w i)
+    ];
+    count = let c = count_set fs v.0 t true false inside l e in let d = q.count in let n = length-set fs v.0 t in omega arith;
   }
     where
-      o : Once free × (¬ (In p free))
-      o = once_last free p q.free_once
+      inside : v.0 < length fs
+      inside = live_inside fs v.0 l
 
-      by : (v : FacetNo) → In v made ⊎ In v (p ∷ []) → In v free → ⊥
-      by v (inl i) j = q.apart v i (in_append free (p ∷ []) v (inl j))
-      by v (inr (inl e)) j = o.1 (subst (λ u. In u free) e j)
-      by v (inr (inr i)) j = i
+      apart : (w : FacetNo) → In w places → w.0 ≢ v.0
+      apart w i d = both_ways (facet_at fs v.0).live (ap (λ g. (facet_at fs g).live) (sym d) ∙ (q.vacant w i).1) l
 
-      back : (v : FacetNo) → In v (made ++ p ∷ []) ⊎ In v free → In v made ⊎ In v (free ++ p ∷ [])
-      back v (inr j) = inr (in_append free (p ∷ []) v (inl j))
-      back v (inl i) = either (of_append made (p ∷ []) v i)
-        where
-          either : In v made ⊎ In v (p ∷ []) → In v made ⊎ In v (free ++ p ∷ [])
-          either (inl j) = inl j
-          either (inr j) = inr (in_append free (p ∷ []) v (inr j))
+  -- and one that comes takes one
+  pub pool_less : IsPool fs (v ∷ places) → t.live ≡ true → IsPool (set fs v.0 t) places
+  pool_less q e = record {
+    once = q.once.1;
+    vacant = λ w i. vacant_set fs v.0 t w.0 (λ d. q.once.0 (subst (λ u. In u places) (λ k. record { 0 = d k }) i)) (q.vacant w (inr i));
+    count =
+        let h = q.vacant v (inl refl) in let c = count_set fs v.0 t false true h.0 h.1 e in let d = q.count in
+        let n = length-set fs v.0 t in omega arith;
+  }
 
-      there : (v : FacetNo) → In v made ⊎ In v (free ++ p ∷ []) → In v (made ++ p ∷ []) ⊎ In v free
-      there v (inl i) = inl (in_append made (p ∷ []) v (inl i))
-      there v (inr i) = either (of_append free (p ∷ []) v i)
-        where
-          either : In v free ⊎ In v (p ∷ []) → In v (made ++ p ∷ []) ⊎ In v free
-          either (inl j) = inr j
-          either (inr j) = inl (in_append made (p ∷ []) v (inr j))
+-- facets with the same marks leave the same places
+pub pool_same : (fs gs : List StoredFacet) (places : List FacetNo) → length gs ≡ length fs
+    → ((f : ℕ) → (facet_at gs f).live ≡ (facet_at fs f).live)
+    → live_count gs ≡ live_count fs → IsPool fs places → IsPool gs places
+pool_same fs gs places n s c q =
+    record { once = q.once; vacant = λ v i. (rw n (q.vacant v i).0, s v.0 ∙ (q.vacant v i).1); count = let d = q.count in omega arith }
+
+-- so what is joined does
+pub pool_joined : (old new : List StoredFacet) (hs : List FacetSide) (made places : List FacetNo) (k : ℕ) → Joined old new hs made k
+    → IsPool old places → IsPool new places
+pool_joined old new hs made places k j q = pool_same old new places j.len (λ f. ap is_live (j.same f)) j.count q
+
+-- and there are no more facets of a cone than places
+pub few_made : (fs : List StoredFacet) (hs : List FacetSide) (made : List FacetNo) → IsReady fs hs made → length hs < 2 ^ 32
+few_made fs hs made r =
+    let n = pigeon (length fs) (length made) (number made) r.made_in r.made_apart in let e = r.len in let s = r.small in omega arith
+
+-- a free place is given out
+pub pool_pops : (fs : List StoredFacet) (made free : List FacetNo) (p : FacetNo) → IsPool fs (made ++ reverse (free ++ p ∷ []))
+    → IsPool fs ((made ++ p ∷ []) ++ reverse free)
+pool_pops fs made free p q = subst (IsPool fs)
+    (ap (λ xs. made ++ xs) (reverse-append free (p ∷ [])) ∙ sym (append_assoc made (p ∷ []) (reverse free))) q
 
 -- one more place of no facet
 blank_same : (fs : List StoredFacet) (f : ℕ) → facet_at (fs ++ no_facet ∷ []) f ≡ facet_at fs f
@@ -62,33 +96,36 @@ blank_same [] (suc f) = refl
 blank_same (t ∷ fs) zero = refl
 blank_same (t ∷ fs) (suc f) = blank_same fs f
 
--- a new place is given out
-pub pool_grows : (fs : List StoredFacet) (made : List FacetNo) (p : FacetNo) → p.0 ≡ length fs → IsPool fs made [] → IsPool (fs ++ no_facet ∷ []) (made ++ p ∷ []) []
-pool_grows fs made p e q = record {
-  made_once = once_append made (p ∷ []) q.made_once ((λ i. i), tt) apart;
-  free_once = tt;
-  apart = λ v i j. j;
-  dead = λ v i. by v i;
-  all = λ v l d. by_le (In v (made ++ p ∷ []) ⊎ ⊥) v.0 (length fs)
-      (λ h. old v (q.all v h (sym (ap (λ (t : StoredFacet). t.live) (blank_same fs v.0)) ∙ d)))
-      (λ h. inl (in_append made (p ∷ []) v (inr (inl (λ i. record { 0 = (let n = length_push fs no_facet in let k : v.0 ≡ p.0 = omega arith in k) i })))));
-}
-  where
-    apart : (v : FacetNo) → In v made → In v (p ∷ []) → ⊥
-    apart v i (inl k) = let h = (q.dead v (inl i)).0 in let n : v.0 ≡ p.0 = ap (λ (u : FacetNo). u.0) k in omega arith
-    apart v i (inr j) = j
+-- it is given out
+pub pool_grows : (fs : List StoredFacet) (made : List FacetNo) (p : FacetNo) → p.0 ≡ length fs → IsPool fs (made ++ [])
+    → IsPool (fs ++ no_facet ∷ []) ((made ++ p ∷ []) ++ [])
+pool_grows fs made p e r =
+    let q = rw append-nil at r in let n = length_push fs no_facet in let m = length_push made p in
+    let same : (v : FacetNo) → v ≡ p → v.0 ≡ length fs = λ v k. ap (λ (u : FacetNo). u.0) k ∙ e in
+    rw (append-nil (made ++ p ∷ [])) (record {
+      once = once_append made (p ∷ []) q.once ((λ i. i), tt)
+          (λ v i. elim [ inl k ↦ (let h = (q.vacant v i).0 in let d = same v k in omega arith) | inr j ↦ j ]);
+      vacant = λ v i. elim (of_append made (p ∷ []) v i) [
+        | inl j ↦ (let l = (q.vacant v j).0 in omega arith, ap is_live (blank_same fs v.0) ∙ (q.vacant v j).1)
+        | inr (inl k) ↦ (let d = same v k in (omega arith, ap is_live (blank_same fs v.0 ∙ get_or_past fs v.0 no_facet (omega arith))))
+        | inr (inr j) ↦ absurd j
+      ];
+      count = let c = sum_by_push (λ t. cond (is_live t) 1 0) fs no_facet in let d = q.count in omega arith;
+    })
 
-    old : (v : FacetNo) → In v made ⊎ ⊥ → In v (made ++ p ∷ []) ⊎ ⊥
-    old v (inl i) = inl (in_append made (p ∷ []) v (inl i))
-    old v (inr j) = inr j
+-- the live facets are as many as are listed
+live_len : (n : ℕ) (fs : List StoredFacet) → length (live_from n fs) ≡ live_count fs
+live_len n [] = refl
+live_len n (t ∷ fs) =
+    let h = live_len (n + 1) fs in
+    let ns = live_from (n + 1) fs in
+    elim t.live as (λ b. length (cond b (n ∷ ns) ns) ≡ cond b 1 0 + live_count fs) [ true ↦ omega arith | false ↦ omega arith ]
+    ∙ sym (sum_by-cons (λ t. cond (is_live t) 1 0) t fs)
 
-    by : (v : FacetNo) → In v (made ++ p ∷ []) ⊎ ⊥ → (v.0 < length (fs ++ no_facet ∷ [])) × ((facet_at (fs ++ no_facet ∷ []) v.0).live ≡ false)
-    by v (inr j) = absurd j
-    by v (inl i) = either (of_append made (p ∷ []) v i)
-      where
-        either : In v made ⊎ In v (p ∷ []) → (v.0 < length (fs ++ no_facet ∷ [])) × ((facet_at (fs ++ no_facet ∷ []) v.0).live ≡ false)
-        either (inl j) = let d = q.dead v (inl j) in let l = d.0 in let n = length_push fs no_facet in (omega arith, ap (λ (t : StoredFacet). t.live) (blank_same fs v.0) ∙ d.1)
-        either (inr (inl k)) =
-            let m : v.0 ≡ p.0 = ap (λ (u : FacetNo). u.0) k in let n = length_push fs no_facet in
-            (omega arith, ap (λ (t : StoredFacet). t.live) (blank_same fs v.0 ∙ Rattle.std.proofs.lemmas.List.get_or_past fs v.0 no_facet (omega arith)))
-        either (inr (inr j)) = absurd j
+-- places are given out again before there are more
+pub places_are : (fs : List StoredFacet) (free : List FacetNo) (n : ℕ) → IsPool fs (reverse free) → n ≤ length fs
+    → (0 < length free → length fs ≡ n)
+    → length fs ≡ max n (length (surface_of fs).live)
+places_are fs free n q l h =
+    let c = q.count in let e : length (surface_of fs).live ≡ live_count fs = live_len 0 fs in let r = length-reverse free in
+    elim (order 0 (length free)) [ inl k ↦ (let m = h k in omega arith) | inr k ↦ omega arith ]

@@ -1,9 +1,7 @@
 -- A replacement of what a point sees is one step of Quickhull.
-use Rattle.std.proofs.Common.{◌≡◌, ℕ, ◌+◌, ◌*◌, ◌/◌, ◌<◌, arith, ap, sym, ◌∙◌, refl, true, false, ◌⊎◌, inl, inr, List, length, subst, nat_eq}
+use Rattle.std.proofs.Common.{◌≡◌, ℕ, ◌/◌, ◌<◌, ◌⊎◌, arith, ap, sym, ◌∙◌, refl, true, false, inl, inr, List, length, subst}
 use Rattle.std.specs.Prelude.{pos, ◌<ℤ◌, ◌≤ℤ◌}
-use Rattle.std.specs.List.{position_or_len}
-use Rattle.std.proofs.lemmas.Bool.{cases_Bool, both_ways}
-use Rattle.std.proofs.lemmas.List.Sums.{passes_at_first, fails_before_first}
+use Rattle.std.proofs.lemmas.Bool.{cases_Bool}
 use Rattle.qh_model.specs.headline.Vector.{Vector}
 use Rattle.qh_model.specs.headline.Sets.{In}
 use Rattle.qh_model.specs.contract.Weighted.{Weighted}
@@ -16,15 +14,14 @@ use Rattle.qh_model.proofs.surfaces.Stored.{live_is_marked}
 use Rattle.qh_model.proofs.surfaces.SurfaceLaws.{rise_is_vol, horizon_is_known}
 use Rattle.qh_model.proofs.algebra.Signs.{not_less}
 use Rattle.qh_mesh.specs.declared.facets.FacetNo.{FacetNo}
-use Rattle.qh_mesh.specs.contract.Replacement.{number, at, is_listed, horizon, side_of_edge, IsLive, AreFacets, IsKept, IsReplacement, edge_start, edge_end, twin_of}
+use Rattle.qh_mesh.specs.contract.Replacement.{number, is_listed, horizon, side_of_edge, edge_end, twin_of}
+use Rattle.qh_mesh.specs.contract.Replacement.{IsLive, AreFacets, IsCone, IsKept, IsReplacement}
 use Rattle.qh_mesh.specs.contract.SoundMesh.{facet_vol, IsSoundMesh, AreVisible}
 use Rattle.qh_mesh.specs.steps.Twins.{twin_at, HasTwins}
 pub use Rattle.qh_mesh.specs.steps.Twins.{edge_of}
-pub use Rattle.qh_mesh.proofs.EdgeSides.{edge-facet, edge-side, edge-is, start-is, end-is, twin-is, over-is, back-is}
-use Rattle.qh_mesh.proofs.ClosedCones.{on_horizon, horizon_at, same_place}
+pub use Rattle.qh_mesh.proofs.EdgeSides.{edge-facet, edge-side, edge_is, start-is, end-is, twin-is, over-is, back-is}
+use Rattle.qh_mesh.proofs.HorizonSides.{edge, on_horizon, horizon_at, same_place}
 use Rattle.qh_mesh.proofs.ListedFacets.{listed_at, listed_live}
-use Rattle.qh_mesh.proofs.Mates.{same_yes, yes_same}
-use Rattle.qh_mesh.proofs.NumberCases.{by_le}
 
 module _ (fs : List StoredFacet) (f : ℕ) where
   -- a facet of the surface is live
@@ -45,145 +42,166 @@ module _ (fs : List StoredFacet) (f : ℕ) (s : Side) where
 
   -- the twin is the edge that lies over the side
   twin-edge : edge_of ((surface_of fs).over f s) ((surface_of fs).back f s) ≡ twin_at fs f s
-  twin-edge = (λ i. edge_of (over-is fs f s i) (back-is fs f s i)) ∙ edge-is (twin_at fs f s)
+  twin-edge = (λ i. edge_of (over-is fs f s i) (back-is fs f s i)) ∙ edge_is (twin_at fs f s)
 
   -- the neighbour is the facet of the edge's twin
   over-twin : (surface_of fs).over f s ≡ twin_of fs (edge_of f s) / 3
   over-twin = over-is fs f s ∙ ap (λ v. v / 3) (sym (twin-is fs f s))
 
 -- how far a point is above a facet is the volume with it
-pub rise-vol : (at : ℕ → Vector) (fs : List StoredFacet) (f p : ℕ) → rise (surface_of fs) (weighted_at at) f (weighted_at at p) ≡ facet_vol at fs f (at p)
+pub rise-vol : (at : ℕ → Vector) (fs : List StoredFacet) (f p : ℕ)
+    → rise (surface_of fs) (weighted_at at) f (weighted_at at p) ≡ facet_vol at fs f (at p)
 rise-vol at fs f p = rise_is_vol (at (facet_at fs f).i) (at (facet_at fs f).j) (at (facet_at fs f).k) (at p)
 
 module _ (place : ℕ → Vector) (fs : List StoredFacet) (vs : List FacetNo) (p f : ℕ) (v : AreVisible place fs vs p) (l : IsLive fs f) where
-  -- a listed facet sees p
-  listed_seen : is_listed vs f ≡ true → Sees (surface_of fs) (weighted_at place) f (weighted_at place p)
+  abbrev Seen : Type 0
+  Seen = Sees (surface_of fs) (weighted_at place) f (weighted_at place p)
+
+  abbrev Blind : Type 0
+  Blind = IsBlindTo (surface_of fs) (weighted_at place) f (weighted_at place p)
+
+  -- a listed facet sees p, and every other one is blind to it
+  listed_seen : is_listed vs f ≡ true → Seen
   listed_seen e = subst (λ z. pos 0 <ℤ z) (sym (rise-vol place fs f p)) (v.seen f l e)
 
-  -- every other one is blind to it
-  unlisted_blind : is_listed vs f ≡ false → IsBlindTo (surface_of fs) (weighted_at place) f (weighted_at place p)
+  unlisted_blind : is_listed vs f ≡ false → Blind
   unlisted_blind e = subst (λ z. z ≤ℤ pos 0) (sym (rise-vol place fs f p)) (v.unseen f l e)
 
-  -- what is blind is not listed
-  blind_unlisted : IsBlindTo (surface_of fs) (weighted_at place) f (weighted_at place p) → is_listed vs f ≡ false
-  blind_unlisted b = by (cases_Bool (is_listed vs f))
-    where
-      by : (is_listed vs f ≡ true) ⊎ (is_listed vs f ≡ false) → is_listed vs f ≡ false
-      by (inl e) = absurd (not_less (pos 0) (rise (surface_of fs) (weighted_at place) f (weighted_at place p)) (listed_seen e) b)
-      by (inr e) = e
+  never : Seen → Blind → ⊥
+  never s b = not_less (pos 0) (rise (surface_of fs) (weighted_at place) f (weighted_at place p)) s b
 
-  -- and what sees it is
-  seen_listed : Sees (surface_of fs) (weighted_at place) f (weighted_at place p) → is_listed vs f ≡ true
-  seen_listed b = by (cases_Bool (is_listed vs f))
-    where
-      by : (is_listed vs f ≡ true) ⊎ (is_listed vs f ≡ false) → is_listed vs f ≡ true
-      by (inl e) = e
-      by (inr e) = absurd (not_less (pos 0) (rise (surface_of fs) (weighted_at place) f (weighted_at place p)) b (unlisted_blind e))
+  -- and the other way round
+  blind_unlisted : Blind → is_listed vs f ≡ false
+  blind_unlisted b = elim (cases_Bool (is_listed vs f)) [ inl e ↦ absurd (never (listed_seen e) b) | inr e ↦ e ]
+
+  seen_listed : Seen → is_listed vs f ≡ true
+  seen_listed s = elim (cases_Bool (is_listed vs f)) [ inl e ↦ e | inr e ↦ absurd (never s (unlisted_blind e)) ]
 
 -- what a replacement of the visible facets of a sound mesh stands on
-pub record IsStep (place : ℕ → Vector) (old new : List StoredFacet) (vs : List FacetNo) (p : ℕ) (made : List FacetNo) (o : Weighted) : Type 0 where
+pub record IsStep (place : ℕ → Vector) (old new : List StoredFacet) (vs : List FacetNo) (p : ℕ) (made : List FacetNo)
+    (o : Weighted) : Type 0 where
   pub twins : HasTwins old
   pub facets : AreFacets old vs
   pub replaced : IsReplacement old new vs p made
   pub visible : AreVisible place old vs p
   pub sound : IsSoundMesh place old o
 
-module _ (place : ℕ → Vector) (old new : List StoredFacet) (vs : List FacetNo) (p : ℕ) (made : List FacetNo) (o : Weighted) (d : IsStep place old new vs p made o) where
+module _ (place : ℕ → Vector) (old new : List StoredFacet) (vs : List FacetNo) (p : ℕ) (made : List FacetNo) (o : Weighted)
+    (d : IsStep place old new vs p made o) where
   abbrev m : Surface
   m = surface_of old
-
-  -- the edges of the horizon, by their places
-  abbrev edge : ℕ → ℕ
-  edge j = at (horizon old vs) j
 
   abbrev IsSide : ℕ → Side → Type 0
   IsSide f s = IsHorizonSide m (weighted_at place) (weighted_at place p) f s
 
-  abbrev Blind : ℕ → Type 0
-  Blind f = IsBlindTo m (weighted_at place) f (weighted_at place p)
+  abbrev IsBlind : ℕ → Type 0
+  IsBlind f = IsBlindTo m (weighted_at place) f (weighted_at place p)
 
   -- an edge of the list is a side of the horizon
-  horizon_side : (j : ℕ) → j < length (horizon old vs) → IsSide (edge j / 3) (side_of_edge (edge j))
+  horizon_side : (j : ℕ) → j < length (horizon old vs) → IsSide (edge old vs j / 3) (side_of_edge (edge old vs j))
   horizon_side j l =
-      let h = on_horizon old vs j l in let live = listed_live old vs d.facets (edge j / 3) h.0 in
+      let e = edge old vs j in let h = on_horizon old vs j l in let live = listed_live old vs d.facets (e / 3) h.0 in
       record {
-        live = in_live old (edge j / 3) live;
-        seen = listed_seen place old vs p (edge j / 3) d.visible live h.0;
-        blind = subst Blind (sym (over-is old (edge j / 3) (side_of_edge (edge j))))
-            (unlisted_blind place old vs p (twin_of old (edge j) / 3) d.visible (d.twins (edge j / 3) live (side_of_edge (edge j))).live h.1);
+        live = in_live old (e / 3) live;
+        seen = listed_seen place old vs p (e / 3) d.visible live h.0;
+        blind = subst IsBlind (sym (over-is old (e / 3) (side_of_edge e)))
+            (unlisted_blind place old vs p (twin_of old e / 3) d.visible (d.twins (e / 3) live (side_of_edge e)).live h.1);
       }
 
   -- where a neighbour is blind, it is not listed
-  over_unlisted : (f : ℕ) (s : Side) → In f m.live → Blind (m.over f s) → is_listed vs (twin_of old (edge_of f s) / 3) ≡ false
-  over_unlisted f s i b = ap (is_listed vs) (sym (over-twin old f s)) ∙ blind_unlisted place old vs p (m.over f s) d.visible (live_in old (m.over f s) (d.sound.0 f i s).live) b
+  over_unlisted : (f : ℕ) (s : Side) → In f m.live → IsBlind (m.over f s) → is_listed vs (twin_of old (edge_of f s) / 3) ≡ false
+  over_unlisted f s i b =
+      ap (is_listed vs) (sym (over-twin old f s))
+      ∙ blind_unlisted place old vs p (m.over f s) d.visible (live_in old (m.over f s) (d.sound.0 f i s).live) b
+
+  -- the facet of the cone over a side of the horizon: the one across from where the side's neighbour was
+  abbrev over : ℕ → Side → ℕ
+  over f s = twin_of new (twin_of old (edge_of f s)) / 3
 
   -- the place of a side on the horizon
-  place_of : ℕ → Side → ℕ
-  place_of f s = position_or_len (λ y. nat_eq y (edge_of f s)) (horizon old vs)
+  record IsPlace (f : ℕ) (s : Side) (j : ℕ) : Type 0 where
+    inside : j < length made
+    edge_is : edge old vs j ≡ edge_of f s
+    over_is : over f s ≡ number made j
 
-  -- it is there
-  place_in : (f : ℕ) (s : Side) → IsSide f s → (place_of f s < length (horizon old vs)) × (edge (place_of f s) ≡ edge_of f s)
-  unfolding place_of
-  place_in f s e =
-      let q = horizon_at old vs (edge_of f s) (ap (is_listed vs) (edge-facet f s) ∙ seen_listed place old vs p f d.visible (live_in old f e.live) e.seen) (over_unlisted f s e.live e.blind) in
-      by_le ((place_of f s < length (horizon old vs)) × (edge (place_of f s) ≡ edge_of f s)) (place_of f s) (length (horizon old vs))
-      (λ l. (l, yes_same (edge (place_of f s)) (edge_of f s) (passes_at_first (λ y. nat_eq y (edge_of f s)) (horizon old vs) 0 l)))
-      (λ l. absurd (both_ways (nat_eq (edge q.0) (edge_of f s)) (fails_before_first (λ y. nat_eq y (edge_of f s)) (horizon old vs) q.0 0 (let k = q.1 in omega arith)) (same_yes (edge q.0) (edge_of f s) q.2)))
+  place_at : (f : ℕ) (s : Side) (j : ℕ) → j < length made → edge old vs j ≡ edge_of f s → IsPlace f s j
+  place_at f s j l e = record {
+    inside = l;
+    edge_is = e;
+    over_is = ap (λ x. twin_of new (twin_of old x) / 3) (sym e) ∙ ap (λ x. x / 3) (d.replaced.cone j l).inward ∙ omega arith;
+  }
 
-  made_in : (f : ℕ) (s : Side) → IsSide f s → place_of f s < length made
-  made_in f s e = let l = (place_in f s e).0 in let n = d.replaced.len in omega arith
+  place_of : (f : ℕ) (s : Side) → IsSide f s → (j : ℕ) × IsPlace f s j
+  place_of f s e =
+      let q = horizon_at old vs (edge_of f s)
+      (ap (is_listed vs) (edge-facet f s) ∙ seen_listed place old vs p f d.visible (live_in old f e.live) e.seen)
+      (over_unlisted f s e.live e.blind) in
+      let l = q.1 in let n = d.replaced.len in (q.0, place_at f s q.0 (omega arith) q.2)
 
-  is_kept : (f : ℕ) → In f m.live → Blind f → IsKept old vs f
+  is_kept : (f : ℕ) → In f m.live → IsBlind f → IsKept old vs f
   is_kept f i b = record { live = live_in old f i; unlisted = blind_unlisted place old vs p f d.visible (live_in old f i) b }
 
-  only : (f : ℕ) → IsKept old vs f ⊎ ((j : ℕ) × (j < length made) × (f ≡ number made j)) → (In f m.live × Blind f) ⊎ ((g : ℕ) × (s : Side) × IsSide g s × (f ≡ number made (place_of g s)))
+  only : (f : ℕ) → IsKept old vs f ⊎ ((j : ℕ) × (j < length made) × (f ≡ number made j))
+      → (In f m.live × IsBlind f) ⊎ ((g : ℕ) × (s : Side) × IsSide g s × (f ≡ over g s))
   only f (inl k) = inl (in_live old f k.live, unlisted_blind place old vs p f d.visible k.live k.unlisted)
   only f (inr (j, l, e)) =
-      let k : j < length (horizon old vs) = (let n = d.replaced.len in omega arith) in
-      let h = horizon_side j k in let q = place_in (edge j / 3) (side_of_edge (edge j)) h in
-      inr (edge j / 3, side_of_edge (edge j), h, e ∙ ap (number made) (sym (same_place old vs d.facets (place_of (edge j / 3) (side_of_edge (edge j))) j q.0 k (q.1 ∙ edge-is (edge j)))))
+      let x = edge old vs j in let n = d.replaced.len in
+      inr (x / 3, side_of_edge x, horizon_side j (omega arith), e ∙ sym (place_at (x / 3) (side_of_edge x) j l (sym (edge_is x))).over_is)
+
+  -- a facet of the cone, by the side of the horizon
+  cone : (f : ℕ) (s : Side) → IsSide f s → IsCone old new (edge_of f s) p (over f s)
+  cone f s e = let j = place_of f s e in rw (j.1.over_is, sym j.1.edge_is) (d.replaced.cone j.0 j.1.inside)
 
   -- a side whose neighbour goes is joined to the cone
-  outward : (f : ℕ) (s : Side) → In f m.live → Blind f → Sees m (weighted_at place) (m.over f s) (weighted_at place p) → twin_of new (edge_of f s) ≡ edge_of (number made (place_of (m.over f s) (m.back f s))) first
+  outward : (f : ℕ) (s : Side) → In f m.live → IsBlind f → Sees m (weighted_at place) (m.over f s) (weighted_at place p)
+      → twin_of new (edge_of f s) ≡ edge_of (over (m.over f s) (m.back f s)) first
   outward f s i b v =
       let t = d.sound.0 f i s in
-      let e : IsSide (m.over f s) (m.back f s) = record { live = t.live; seen = v; blind = subst Blind (sym t.returns) b } in
-      let x : twin_of old (edge (place_of (m.over f s) (m.back f s))) ≡ edge_of f s = ap (twin_of old) ((place_in (m.over f s) (m.back f s) e).1 ∙ twin-edge old f s) ∙ (d.twins f (live_in old f i) s).back in
-      ap (twin_of new) (sym x) ∙ (d.replaced.cone (place_of (m.over f s) (m.back f s)) (made_in (m.over f s) (m.back f s) e)).inward ∙ omega arith
+      let x = ap (twin_of old) (twin-edge old f s) ∙ (d.twins f (live_in old f i) s).back in
+      ap (twin_of new) (sym x)
+      ∙ (cone (m.over f s) (m.back f s) (record { live = t.live; seen = v; blind = subst IsBlind (sym t.returns) b })).inward
+      ∙ omega arith
 
-  -- the facet of the cone after that of (f, s) is that of (g, t)
-  next-is : (f : ℕ) (s : Side) (g : ℕ) (t : Side) → IsSide f s → IsSide g t → start m g t ≡ end m f s → d.replaced.next (place_of f s) ≡ place_of g t
+  -- the one after that of (f, s) is that of (g, t)
+  next-is : (f : ℕ) (s : Side) (g : ℕ) (t : Side) (e : IsSide f s) (e' : IsSide g t) → start m g t ≡ end m f s
+      → d.replaced.next (place_of f s e).0 ≡ (place_of g t e').0
   next-is f s g t e e' q =
-      let n = d.replaced.next (place_of f s) in
-      let l : n < length (horizon old vs) = (let i = d.replaced.next_in (place_of f s) (made_in f s e) in let k = d.replaced.len in omega arith) in
-      let z : edge_start old (edge n) ≡ start m g t = d.replaced.next_starts (place_of f s) (made_in f s e) ∙ ap (edge_end old) (place_in f s e).1 ∙ end-is old f s ∙ sym q in
-      let same = horizon_is_known m (weighted_at place) o d.sound.0 d.sound.1 (weighted_at place p) (edge n / 3) g (side_of_edge (edge n)) t (horizon_side n l) e' (inl z) in
-      same_place old vs d.facets n (place_of g t) l (place_in g t e').0 (sym (edge-is (edge n)) ∙ (λ i. edge_of (same.0 i) (same.1 i)) ∙ sym (place_in g t e').1)
+      let j = place_of f s e in let i = place_of g t e' in let n = d.replaced.next j.0 in let x = edge old vs n in let k = d.replaced.len in
+      let l : n < length (horizon old vs) = (let a = d.replaced.next_in j.0 j.1.inside in omega arith) in let b = i.1.inside in
+      let z = d.replaced.next_starts j.0 j.1.inside ∙ ap (edge_end old) j.1.edge_is ∙ end-is old f s ∙ sym q in
+      let same = horizon_is_known m (weighted_at place) o d.sound.0 d.sound.1 (weighted_at place p)
+      (x / 3) g (side_of_edge x) t (horizon_side n l) e' (inl z) in
+      same_place old vs d.facets n i.0 l (omega arith) (sym (edge_is x) ∙ (λ i. edge_of (same.0 i) (same.1 i)) ∙ sym i.1.edge_is)
+
+  -- they are neighbours
+  next_twin : (f : ℕ) (s : Side) (g : ℕ) (t : Side) → IsSide f s → IsSide g t → start m g t ≡ end m f s
+      → ((facet_at new (over f s)).jk ≡ edge_of (over g t) third) × ((facet_at new (over g t)).ki ≡ edge_of (over f s) second)
+  next_twin f s g t e e' q =
+      let j = place_of f s e in let i = place_of g t e' in let n = next-is f s g t e e' q in
+      rw (j.1.over_is, i.1.over_is, ← n) (d.replaced.next_twin j.0 j.1.inside, d.replaced.next_back j.0 j.1.inside)
 
   -- the step is one of Quickhull
   pub rewired : IsRewired m (surface_of new) (weighted_at place) p
   rewired = record {
-    number = λ f s. number made (place_of f s);
+    number = over;
     f0 = number vs 0;
     live = in_live old (number vs 0) (d.facets.live 0 d.visible.some);
-    seen = listed_seen place old vs p (number vs 0) d.visible (d.facets.live 0 d.visible.some) (listed_at vs (number vs 0) 0 d.visible.some refl);
+    seen = listed_seen place old vs p (number vs 0) d.visible (d.facets.live 0 d.visible.some)
+        (listed_at vs (number vs 0) 0 d.visible.some refl);
     only = λ f i. only f (d.replaced.only f (live_in new f i));
-    kept = λ f i b. let k = d.replaced.kept f (is_kept f i b) in record { live = in_live new f k.live; i_is = k.i_is; j_is = k.j_is; k_is = k.k_is };
+    kept = λ f i b. let k = d.replaced.kept f (is_kept f i b) in
+        record { live = in_live new f k.live; i_is = k.i_is; j_is = k.j_is; k_is = k.k_is };
     cone = λ f s e.
-        let c = d.replaced.cone (place_of f s) (made_in f s e) in
-        record {
-          live = in_live new (number made (place_of f s)) c.live;
-          i_is = c.first ∙ ap (edge_start old) (place_in f s e).1 ∙ start-is old f s;
-          j_is = c.second ∙ ap (edge_end old) (place_in f s e).1 ∙ end-is old f s;
-          k_is = c.third;
-        };
-    inside = λ f s i b b'. links new f s (m.over f s) (m.back f s)
-        (sym (twin-is new f s) ∙ (d.replaced.kept f (is_kept f i b)).twins (edge_of f s) (edge-facet f s) (over_unlisted f s i b') ∙ twin-is old f s ∙ sym (twin-edge old f s));
-    outside = λ f s i b v. links new f s (number made (place_of (m.over f s) (m.back f s))) first (sym (twin-is new f s) ∙ outward f s i b v);
-    base = λ f s e. links new (number made (place_of f s)) first (m.over f s) (m.back f s)
-        ((d.replaced.cone (place_of f s) (made_in f s e)).outward ∙ ap (twin_of old) (place_in f s e).1 ∙ twin-is old f s ∙ sym (twin-edge old f s));
-    next = λ f s g t e e' q. links new (number made (place_of f s)) second (number made (place_of g t)) third
-        (d.replaced.next_twin (place_of f s) (made_in f s e) ∙ ap (λ n. 3 * number made n + 2) (next-is f s g t e e' q));
-    prev = λ f s g t e e' q. links new (number made (place_of f s)) third (number made (place_of g t)) second
-        (ap (λ n. (facet_at new (number made n)).ki) (sym (next-is g t f s e' e (sym q))) ∙ d.replaced.next_back (place_of g t) (made_in g t e'));
+        let c = cone f s e in
+        let i = c.first ∙ start-is old f s in let j = c.second ∙ end-is old f s in
+        record { live = in_live new (over f s) c.live; i_is = i; j_is = j; k_is = c.third };
+    inside = λ f s i b b'.
+        let k = d.replaced.kept f (is_kept f i b) in
+        links new f s (m.over f s) (m.back f s)
+        (sym (twin-is new f s) ∙ k.twins (edge_of f s) (edge-facet f s) (over_unlisted f s i b')
+        ∙ twin-is old f s ∙ sym (twin-edge old f s));
+    outside = λ f s i b v. links new f s (over (m.over f s) (m.back f s)) first (sym (twin-is new f s) ∙ outward f s i b v);
+    base = λ f s e. links new (over f s) first (m.over f s) (m.back f s) ((cone f s e).outward ∙ twin-is old f s ∙ sym (twin-edge old f s));
+    next = λ f s g t e e' q. links new (over f s) second (over g t) third (next_twin f s g t e e' q).0;
+    prev = λ f s g t e e' q. links new (over f s) third (over g t) second (next_twin g t f s e' e (sym q)).1;
   }

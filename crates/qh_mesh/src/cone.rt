@@ -1,10 +1,12 @@
 //! The cone over a horizon, and how it is joined to the facets that stay.
-ghost use Rattle.std.specs.Prelude.{◌≡◌, ◌≢◌, ◌+◌, ◌*◌, ◌/◌, ◌<◌, ◌^◌, ℕ, length, true, slice_set};
+ghost use Rattle.std.specs.Prelude.{◌≡◌, ◌≢◌, ◌+◌, ◌*◌, ◌/◌, ◌<◌, ◌^◌, ℕ, List, ◌++◌, length, true, slice_set};
 ghost use Rattle.qh_model.specs.contract.StoredSurface.{facet_at};
 ghost use Rattle.qh_mesh.specs.contract.Replacement.{number, side_of_edge};
 ghost use Rattle.qh_mesh.specs.steps.Kept.{with_twin};
 ghost use Rattle.qh_mesh.specs.steps.Horizons.{AreNoted, IsBalanced, side_at};
 ghost use Rattle.qh_mesh.specs.steps.Cones.{Joined, Written};
+ghost use Rattle.qh_mesh.specs.steps.Places.{IsPool};
+ghost use Rattle.qh_mesh.specs.declared.facets.FacetNo.{FacetNo};
 
 use crate::facets::{Facet, FacetNo, FacetSide};
 use crate::slots::{Slot, mate};
@@ -18,6 +20,7 @@ fn set_twin(facets: &mut [Facet], e: usize, twin: u32)
 }
 
 /// Each half-edge across the horizon gets its twin in the cone.
+#[tactic(auto, using(crate::proofs::WrittenFacets::joined_more))]
 pub fn join_outer(facets: &mut [Facet], horizon: &[FacetSide], made: &[FacetNo])
     requires len { length made.now ≡ length horizon.now }
     requires inside { (j : ℕ) → j < length horizon.now → (side_at horizon.now j).outer / 3 < length facets.old }
@@ -46,7 +49,8 @@ pub fn write_cone(
     requires inside { (j : ℕ) → j < length made.now → number made.now j < length facets.old }
     requires apart { (i j : ℕ) → i < j → j < length made.now → number made.now i ≢ number made.now j }
     requires fits { (j : ℕ) → j < length made.now → 3 * number made.now j + 2 < 2 ^ 32 }
-    ensures { Written facets.old facets.new horizon.now made.now apex (length made.now) }
+    ensures written { Written facets.old facets.new horizon.now made.now apex (length made.now) }
+    ensures pool { (places : List FacetNo) → IsPool facets.old (made.now ++ places) → IsPool facets.new places }
 {
     for j in 0..made.len() {
         let side = horizon[j];

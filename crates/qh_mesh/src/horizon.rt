@@ -23,7 +23,6 @@ fn add_side(facets: &[Facet], side: FacetSide, horizon: &mut Vec<FacetSide>)
 pub fn gather(facets: &[Facet], visible: &[FacetNo], horizon: &mut Vec<FacetSide>)
     requires inside { (j : ℕ) → j < length visible.now → HasSidesInside facets.now (number visible.now j) }
     requires empty { horizon.old.items ≡ [] }
-    requires len { vec_len horizon.old ≡ 0 }
     requires room { 3 * length visible.now ≤ vec_capacity horizon.old }
     ensures items { horizon.new.items ≡ open_sides facets.now visible.now }
     ensures count { vec_len horizon.new ≤ 3 * length visible.now }

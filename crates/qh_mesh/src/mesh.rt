@@ -1,5 +1,6 @@
 //! The mesh, its questions, and how it is made and grows.
-ghost use Rattle.std.specs.Prelude.{◌≡◌, ◌↔◌, IsTrue, ◌≢◌, ◌+◌, ◌*◌, ◌-◌, ◌/◌, ◌^◌, ◌≤◌, ◌<◌, length, map, max, vec_len, vec_capacity, OnOk, OnErr, IfOk, true, false, pos, [], ◌∷◌, ℕ, ◌<ℤ◌};
+ghost use Rattle.std.specs.Prelude.{◌≡◌, ◌↔◌, IsTrue, ◌≢◌, ◌+◌, ◌*◌, ◌-◌, ◌/◌, ◌^◌, ◌≤◌, ◌<◌, length, map, max, vec_len, vec_capacity};
+ghost use Rattle.std.specs.Prelude.{OnOk, OnErr, IfOk, true, false, pos, [], ◌∷◌, ℕ, ◌<ℤ◌};
 ghost use Rattle.qh_model.specs.headline.Predicates.{vol, place};
 ghost use Rattle.qh_model.specs.headline.Vector.{Vector};
 ghost use Rattle.qh_model.specs.contract.Weighted.{Weighted};
@@ -89,7 +90,6 @@ fn make_room(
     ensures facets { facets.new.items ≡ facets.old.items }
     ensures free { free.new.items ≡ free.old.items }
     ensures horizon { horizon.new.items ≡ [] }
-    ensures horizon_len { vec_len horizon.new ≡ 0 }
     ensures horizon_room { OnOk result (3 * count ≤ vec_capacity horizon.new) }
     ensures free_room { OnOk result (vec_len free.new + count ≤ vec_capacity free.new) }
     ensures spare { OnOk result (vec_len facets.new + 2 * count ≤ vec_capacity facets.new + vec_len free.new) }
@@ -120,6 +120,7 @@ impl Mesh {
     /// The four triangles of the points a, b, c and d, turned outward.
     ///
     /// `Err` says that memory was refused.
+    #[tactic(auto, using(crate::proofs::SoundMeshes::simplex_rules))]
     pub fn simplex(alloc: Global, pts: &[Point], a: Id, b: Id, c: Id, d: Id) -> Result<Mesh, Memory>
         requires a_in { a < length pts.now }
         requires b_in { b < length pts.now }

@@ -1,18 +1,19 @@
 //! The places of facets: those of facets that go, and those of a cone.
-ghost use Rattle.std.specs.Prelude.{◌≡◌, ◌≢◌, ◌+◌, ◌<◌, ◌≤◌, ◌⊎◌, ℕ, length, [], ◌∷◌, ◌++◌, vec_len, vec_capacity};
+ghost use Rattle.std.specs.Prelude.{◌≡◌, ◌≢◌, ◌+◌, ◌<◌, ◌≤◌, ℕ, length, reverse, [], ◌++◌, vec_len, vec_capacity};
 ghost use Rattle.qh_model.specs.contract.StoredSurface.{facet_at};
-ghost use Rattle.qh_mesh.specs.contract.Replacement.{number};
+ghost use Rattle.qh_mesh.specs.contract.Replacement.{IsLive, number};
 ghost use Rattle.qh_mesh.specs.steps.Places.{Removed, IsPool};
 
 use crate::facets::{Facet, FacetNo};
 
 /// Takes the listed facets away: their places are free.
 pub fn remove(facets: &mut [Facet], free: &mut Vec<FacetNo>, visible: &[FacetNo])
-    requires inside { (j : ℕ) → j < length visible.now → number visible.now j < length facets.old }
+    requires pool { IsPool facets.old (reverse free.old.items) }
+    requires live { (j : ℕ) → j < length visible.now → IsLive facets.old (number visible.now j) }
     requires apart { (i j : ℕ) → i < j → j < length visible.now → number visible.now i ≢ number visible.now j }
     requires room { vec_len free.old + length visible.now ≤ vec_capacity free.old }
     ensures facets { Removed facets.old facets.new visible.now (length visible.now) }
-    ensures free { free.new.items ≡ free.old.items ++ visible.now }
+    ensures pool { IsPool facets.new (reverse free.new.items) }
     ensures len { vec_len free.new ≡ vec_len free.old + length visible.now }
 {
     for f in visible {
@@ -22,11 +23,12 @@ pub fn remove(facets: &mut [Facet], free: &mut Vec<FacetNo>, visible: &[FacetNo]
 }
 
 /// Gives out a free place, or else a new one at the end.
+#[tactic(auto, using(crate::proofs::Pools::pool_pops, crate::proofs::Pools::pool_grows))]
 fn give_out(facets: &mut Vec<Facet>, free: &mut Vec<FacetNo>, made: &mut Vec<FacetNo>)
-    requires pool { IsPool facets.old.items made.old.items free.old.items }
+    requires pool { IsPool facets.old.items (made.old.items ++ reverse free.old.items) }
     requires room { vec_len free.old ≡ 0 → vec_len facets.old < vec_capacity facets.old }
     requires made_room { vec_len made.old < vec_capacity made.old }
-    ensures pool { IsPool facets.new.items made.new.items free.new.items }
+    ensures pool { IsPool facets.new.items (made.new.items ++ reverse free.new.items) }
     ensures cells { (f : ℕ) → facet_at facets.new.items f ≡ facet_at facets.old.items f }
     ensures longer { vec_len facets.old ≤ vec_len facets.new }
     ensures again { 0 < vec_len free.new → vec_len facets.new ≡ vec_len facets.old }
@@ -51,11 +53,11 @@ pub fn choose(
     count: usize,
     made: &mut Vec<FacetNo>,
 )
-    requires pool { IsPool facets.old.items made.old.items free.old.items }
-    requires empty { vec_len made.old ≡ 0 }
+    requires pool { IsPool facets.old.items (made.old.items ++ reverse free.old.items) }
+    requires empty { made.old.items ≡ [] }
     requires room { vec_len facets.old + count ≤ vec_capacity facets.old + vec_len free.old }
     requires made_room { count ≤ vec_capacity made.old }
-    ensures pool { IsPool facets.new.items made.new.items free.new.items }
+    ensures pool { IsPool facets.new.items (made.new.items ++ reverse free.new.items) }
     ensures cells { (f : ℕ) → facet_at facets.new.items f ≡ facet_at facets.old.items f }
     ensures longer { vec_len facets.old ≤ vec_len facets.new }
     ensures again { 0 < vec_len free.new → vec_len facets.new ≡ vec_len facets.old }

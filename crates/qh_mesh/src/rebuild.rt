@@ -1,7 +1,8 @@
 //! A replacement, once there is room for it.
-ghost use Rattle.std.specs.Prelude.{◌≡◌, ◌+◌, ◌*◌, ◌-◌, ◌<◌, ◌≤◌, ◌^◌, length, [], ◌++◌, vec_len, vec_capacity};
+ghost use Rattle.std.specs.Prelude.{◌≡◌, ◌+◌, ◌*◌, ◌-◌, ◌<◌, ◌≤◌, ◌^◌, length, reverse, [], vec_len, vec_capacity};
 ghost use Rattle.qh_mesh.specs.contract.Replacement.{AreFacets};
-ghost use Rattle.qh_mesh.specs.steps.Rebuilt.{IsCleared, IsConed, IsReady, IsRebuilt};
+ghost use Rattle.qh_mesh.specs.steps.Places.{IsPool};
+ghost use Rattle.qh_mesh.specs.steps.Rebuilt.{IsCleared, IsConed, IsPrepared, IsReady, IsRebuilt};
 ghost use Rattle.qh_mesh.specs.steps.Surfaces.{IsSurface};
 
 use crate::cone::{join_outer, write_cone};
@@ -11,6 +12,7 @@ use crate::places::{choose, remove};
 use crate::slots::{Slot, fill};
 
 /// Takes the visible facets away and notes their horizon.
+#[tactic(auto, using(crate::proofs::HorizonSides::sides_inside, crate::proofs::HorizonSides::gathered))]
 fn clear(
     facets: &mut [Facet],
     free: &mut Vec<FacetNo>,
@@ -21,11 +23,10 @@ fn clear(
     requires facets { AreFacets facets.old visible.now }
     requires room { vec_len free.old + length visible.now ≤ vec_capacity free.old }
     requires horizon_empty { horizon.old.items ≡ [] }
-    requires horizon_len { vec_len horizon.old ≡ 0 }
     requires horizon_room { 3 * length visible.now ≤ vec_capacity horizon.old }
     ensures cleared { IsCleared facets.old facets.new visible.now horizon.new.items }
     ensures count { vec_len horizon.new ≤ 3 * length visible.now }
-    ensures free { free.new.items ≡ free.old.items ++ visible.now }
+    ensures pool { IsPool facets.new (reverse free.new.items) }
     ensures len { vec_len free.new ≡ vec_len free.old + length visible.now }
 {
     remove(facets, free, visible);
@@ -33,6 +34,7 @@ fn clear(
 }
 
 /// Puts the cone from the apex over the horizon into its places.
+#[tactic(auto, using(crate::proofs::Pools::few_made))]
 fn close(
     facets: &mut [Facet],
     slots: &mut [Slot],
@@ -48,6 +50,29 @@ fn close(
     write_cone(facets, slots, filled, horizon, made, apex);
 }
 
+/// Takes the visible facets away, notes their horizon and gives out places for the cone over it.
+fn prepare(
+    facets: &mut Vec<Facet>,
+    free: &mut Vec<FacetNo>,
+    horizon: &mut Vec<FacetSide>,
+    made: &mut Vec<FacetNo>,
+    visible: &[FacetNo],
+)
+    requires surface { IsSurface facets.old.items free.old.items }
+    requires facets { AreFacets facets.old.items visible.now }
+    requires horizon_empty { horizon.old.items ≡ [] }
+    requires horizon_room { 3 * length visible.now ≤ vec_capacity horizon.old }
+    requires made_empty { made.old.items ≡ [] }
+    requires made_room { 3 * length visible.now ≤ vec_capacity made.old }
+    requires free_room { vec_len free.old + length visible.now ≤ vec_capacity free.old }
+    requires spare { vec_len facets.old + 2 * length visible.now ≤ vec_capacity facets.old + vec_len free.old }
+    requires small { 3 * (vec_len facets.old + (2 * length visible.now - vec_len free.old)) < 2 ^ 32 }
+    ensures { IsPrepared facets.old.items facets.new.items free.new.items visible.now horizon.new.items made.new.items }
+{
+    clear(facets.as_mut_slice(), free, horizon, visible);
+    choose(facets, free, horizon.len(), made);
+}
+
 /// Takes the visible facets away and puts the cone from the apex over their horizon.
 pub fn rebuild(
     facets: &mut Vec<Facet>,
@@ -61,18 +86,15 @@ pub fn rebuild(
     requires surface { IsSurface facets.old.items free.old.items }
     requires facets { AreFacets facets.old.items visible.now }
     requires horizon_empty { horizon.old.items ≡ [] }
-    requires horizon_len { vec_len horizon.old ≡ 0 }
     requires horizon_room { 3 * length visible.now ≤ vec_capacity horizon.old }
     requires made_empty { made.old.items ≡ [] }
-    requires made_len { vec_len made.old ≡ 0 }
     requires made_room { 3 * length visible.now ≤ vec_capacity made.old }
     requires free_room { vec_len free.old + length visible.now ≤ vec_capacity free.old }
     requires spare { vec_len facets.old + 2 * length visible.now ≤ vec_capacity facets.old + vec_len free.old }
     requires small { 3 * (vec_len facets.old + (2 * length visible.now - vec_len free.old)) < 2 ^ 32 }
     ensures { IsRebuilt facets.old.items facets.new.items free.new.items visible.now apex made.new.items }
 {
-    clear(facets.as_mut_slice(), free, horizon, visible);
-    choose(facets, free, horizon.len(), made);
+    prepare(facets, free, horizon, made, visible);
     close(
         facets.as_mut_slice(),
         slots,

@@ -82,6 +82,7 @@ fn rank(horizon: &[FacetSide], ends: bool, j: usize) -> usize
 }
 
 /// The side that meets side j there, found without the table.
+#[tactic(auto, using(crate::proofs::Mates::rank_below))]
 fn find_mate(horizon: &[FacetSide], ends: bool, j: usize) -> usize
     requires inside { j < length horizon.now }
     requires balanced { IsBalanced horizon.now }
@@ -101,6 +102,7 @@ fn find_mate(horizon: &[FacetSide], ends: bool, j: usize) -> usize
 }
 
 /// The side of the horizon that starts where side j ends, or ends where it starts.
+#[tactic(auto, using(crate::proofs::Mates::mate_noted))]
 pub fn mate(slots: &[Slot], filled: bool, horizon: &[FacetSide], ends: bool, j: usize) -> usize
     requires inside { j < length horizon.now }
     requires balanced { IsBalanced horizon.now }

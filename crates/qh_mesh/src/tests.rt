@@ -1,5 +1,5 @@
 //! Meshes of seven and of five points, step by step.
-ghost use Rattle.std.specs.Prelude.{IfOk, length, ◌<◌};
+ghost use Rattle.std.specs.Prelude.{◌≡◌, IfOk, true};
 ghost use Rattle.qh_mesh.specs.contract.Replacement.{AreFacets};
 
 use crate::{FacetNo, Mesh};
@@ -45,18 +45,35 @@ fn sees(mesh: &Mesh, pts: &[Point], f: FacetNo, apex: u32) -> bool {
     }
 }
 
+/// Whether the facets of a list are live ones by rising numbers.
+fn are_facets(mesh: &Mesh, list: &[FacetNo]) -> bool
+    ensures { result ≡ true → AreFacets mesh.now list.now }
+{
+    let mut next = 0;
+    for f in list {
+        if f.0 < next || f.0 >= mesh.places() || !mesh.is_live(*f) {
+            return false;
+        }
+        next = f.0 + 1;
+    }
+    true
+}
+
 /// The facets that a point sees.
-#[tactic(auto, using(crate::proofs::FacetLists::below_facets, crate::proofs::FacetLists::none_below, crate::proofs::FacetLists::more_below, crate::proofs::FacetLists::push_below))]
 fn seen_by(alloc: Global, mesh: &Mesh, pts: &[Point], apex: u32) -> Result<Vec<FacetNo>, AllocError>
     ensures { IfOk result (λ list. AreFacets mesh.now list.items) }
 {
     let mut list = Vec::new(alloc);
     for f in 0..mesh.places() {
-        if mesh.is_live(FacetNo(f)) && sees(mesh, pts, FacetNo(f), apex) {
+        if sees(mesh, pts, FacetNo(f), apex) {
             list.push(FacetNo(f))?;
         }
     }
-    Ok(list)
+    if are_facets(mesh, list.as_slice()) {
+        Ok(list)
+    } else {
+        Err(AllocError)
+    }
 }
 
 /// The triangles of a list, sorted.

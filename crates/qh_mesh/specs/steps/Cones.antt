@@ -6,6 +6,7 @@ use Rattle.qh_mesh.specs.declared.facets.FacetSide.{FacetSide}
 use Rattle.qh_mesh.specs.contract.Replacement.{number, twin_of}
 use Rattle.qh_mesh.specs.steps.Kept.{facet_from}
 use Rattle.qh_mesh.specs.steps.Horizons.{side_at, IsMate}
+use Rattle.qh_mesh.specs.steps.Places.{live_count}
 use Rattle.qh_mesh.specs.steps.Writes.{Scattered}
 
 -- the facet without the half-edges across its sides
@@ -16,6 +17,7 @@ bare t = record { i = t.i; j = t.j; k = t.k; ij = 0; jk = 0; ki = 0; live = t.li
 pub record Joined (old new : List StoredFacet) (hs : List FacetSide) (made : List FacetNo) (k : ℕ) : Type 0 where
   pub len : length new ≡ length old
   pub same : (f : ℕ) → bare (facet_at new f) ≡ bare (facet_at old f)
+  pub count : live_count new ≡ live_count old
   pub outer : (j : ℕ) → j < k → twin_of new (side_at hs j).outer ≡ 3 * number made j
   pub others : (e : ℕ) → ((j : ℕ) → j < k → (side_at hs j).outer ≢ e) → twin_of new e ≡ twin_of old e
 
@@ -25,7 +27,8 @@ pub record IsOver (hs : List FacetSide) (made : List FacetNo) (apex j : ℕ) (t 
   pub next_is : IsMate hs true j next
   pub before : ℕ
   pub before_is : IsMate hs false j before
-  pub is : t ≡ facet_from (side_at hs j).from (side_at hs j).to apex (side_at hs j).outer (3 * number made next + 2) (3 * number made before + 1)
+  pub is : t ≡ facet_from (side_at hs j).from (side_at hs j).to apex (side_at hs j).outer (3 * number made next + 2)
+      (3 * number made before + 1)
 
 -- the first k facets of the cone are written, and nothing else changed
 abbrev pub Written : List StoredFacet → List StoredFacet → List FacetSide → List FacetNo → ℕ → ℕ → Type 0

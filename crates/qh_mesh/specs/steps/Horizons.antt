@@ -1,5 +1,6 @@
 -- The horizon as it is gathered, and which of its sides follow one another.
-use Rattle.std.specs.Prelude.{◌≡◌, ℕ, zero, suc, ◌/◌, ◌<◌, List, [], ◌∷◌, ◌++◌, Bool, true, false, cond, not, nat_eq, length, take, filter, slice_index_or, count_by, flat_map}
+use Rattle.std.specs.Prelude.{◌≡◌, ℕ, ◌/◌, ◌<◌, List, [], ◌∷◌, Bool, true, false, cond, not, nat_eq, length, take, filter, slice_index_or}
+use Rattle.std.specs.Prelude.{count_by, flat_map}
 use Rattle.qh_model.specs.contract.Surface.Side.{first, second, third}
 use Rattle.qh_model.specs.contract.StoredSurface.{StoredFacet, facet_at}
 use Rattle.qh_mesh.specs.declared.facets.FacetNo.{FacetNo}
@@ -27,9 +28,13 @@ three_sides t = side_of t first ∷ side_of t second ∷ side_of t third ∷ []
 abbrev pub open_sides : List StoredFacet → List FacetNo → List FacetSide
 open_sides fs vs = filter (is_open fs) (flat_map (λ v. three_sides (facet_at fs v.0)) vs)
 
+-- what stands past the end
+abbrev pub no_side : FacetSide
+no_side = record { from = 0; to = 0; outer = 0 }
+
 -- the side at a place of the horizon
 abbrev pub side_at : List FacetSide → ℕ → FacetSide
-side_at hs j = slice_index_or hs j (record { from = 0; to = 0; outer = 0 })
+side_at hs j = slice_index_or hs j no_side
 
 -- the corner where a side ends, or where it starts
 abbrev pub corner : Bool → FacetSide → ℕ
@@ -51,11 +56,12 @@ pub record IsMate (hs : List FacetSide) (ends : Bool) (j i : ℕ) : Type 0 where
 
 -- what the table has for a corner: the side that ends there, or the one that starts there
 abbrev pub noted : List Slot → Bool → ℕ → ℕ
-noted ss ends l = cond ends (slice_index_or ss l (record { starting = 0; ending = 0 })).ending (slice_index_or ss l (record { starting = 0; ending = 0 })).starting
+noted ss ends l = let s = slice_index_or ss l (record { starting = 0; ending = 0 }) in cond ends s.ending s.starting
 
 -- each side is noted at its corner of this kind
 abbrev pub AreNoted : List Slot → List FacetSide → Type 0
-AreNoted ss hs = (ends : Bool) (j : ℕ) → j < length hs → (corner ends (side_at hs j) < length ss) × (noted ss ends (corner ends (side_at hs j)) ≡ j)
+AreNoted ss hs = (ends : Bool) (j : ℕ) → j < length hs → (corner ends (side_at hs j) < length ss)
+    × (noted ss ends (corner ends (side_at hs j)) ≡ j)
 
 -- the side of a facet that an edge is
 abbrev pub edge_side : List StoredFacet → ℕ → FacetSide

@@ -1,9 +1,14 @@
 -- What the steps of a replacement leave, one after the other.
-use Rattle.std.specs.Prelude.{◌≡◌, ◌≢◌, ℕ, ◌*◌, ◌/◌, ◌<◌, ◌^◌, List, length, map, max}
+use Rattle.std.specs.Prelude.{◌≡◌, ◌≢◌, ℕ, ◌*◌, ◌/◌, ◌<◌, ◌≤◌, ◌^◌, List, ◌++◌, length, reverse, map, max}
+use Rattle.qh_model.specs.headline.Vector.{Vector}
+use Rattle.qh_model.specs.contract.Weighted.{Weighted}
+use Rattle.qh_model.specs.contract.FinishedSurface.{weighted_at, middle_at}
+use Rattle.qh_model.specs.contract.Rewired.{IsRewired}
 use Rattle.qh_model.specs.contract.StoredSurface.{StoredFacet, facet_at, surface_of}
 use Rattle.qh_mesh.specs.declared.facets.FacetNo.{FacetNo}
 use Rattle.qh_mesh.specs.declared.facets.FacetSide.{FacetSide}
 use Rattle.qh_mesh.specs.contract.Replacement.{number, horizon, IsReplacement}
+use Rattle.qh_mesh.specs.contract.SoundMesh.{IsSoundMesh, IsClosedMesh, AreVisible}
 use Rattle.qh_mesh.specs.steps.Cones.{Joined, Written}
 use Rattle.qh_mesh.specs.steps.Horizons.{edge_side, side_at, IsBalanced}
 use Rattle.qh_mesh.specs.steps.Places.{IsPool, Removed}
@@ -17,15 +22,24 @@ pub record IsCleared (old cleared : List StoredFacet) (vs : List FacetNo) (hs : 
 -- the places of the cone are chosen, and no facet changed
 pub record IsChosen (cleared chosen : List StoredFacet) (hs : List FacetSide) (made free : List FacetNo) : Type 0 where
   pub cells : (f : ℕ) → facet_at chosen f ≡ facet_at cleared f
-  pub pool : IsPool chosen made free
+  pub pool : IsPool chosen (made ++ reverse free)
   pub len : length made ≡ length hs
   pub small : 3 * length chosen < 2 ^ 32
+
+-- both, one after the other, with no more places than the cone needs
+pub record IsPrepared (old chosen : List StoredFacet) (left vs : List FacetNo) (hs : List FacetSide) (made : List FacetNo) : Type 0 where
+  pub between : List StoredFacet
+  pub is_cleared : IsCleared old between vs hs
+  pub is_chosen : IsChosen between chosen hs made left
+  pub longer : length old ≤ length chosen
+  pub again : 0 < length left → length chosen ≡ length old
 
 -- the cone is joined to the facets across the horizon, and written
 pub record IsConed (chosen new : List StoredFacet) (hs : List FacetSide) (made : List FacetNo) (apex : ℕ) : Type 0 where
   pub joined_to : List StoredFacet
   pub joined : Joined chosen joined_to hs made (length hs)
   pub written : Written joined_to new hs made apex (length made)
+  pub pool : (places : List FacetNo) → IsPool chosen (made ++ places) → IsPool new places
 
 -- what the last steps need: a balanced horizon, facets across it, and places for the cone
 pub record IsReady (chosen : List StoredFacet) (hs : List FacetSide) (made : List FacetNo) : Type 0 where
@@ -42,3 +56,7 @@ pub record IsRebuilt (old new : List StoredFacet) (left vs : List FacetNo) (apex
   pub surface : IsSurface new left
   pub replaced : IsReplacement old new vs apex made
   pub places : length new ≡ max (length old) (length (surface_of new).live)
+  pub rewired : (at : ℕ → Vector) (o : Weighted) → IsSoundMesh at old o → AreVisible at old vs apex
+      → IsRewired (surface_of old) (surface_of new) (weighted_at at) apex
+  pub sound : (at : ℕ → Vector) (o : Weighted) → IsSoundMesh at old o → AreVisible at old vs apex → IsSoundMesh at new o
+  pub closed : (at : ℕ → Vector) (s t u v : ℕ) → IsSoundMesh at old (middle_at at s t u v) → AreVisible at old vs apex → IsClosedMesh at new

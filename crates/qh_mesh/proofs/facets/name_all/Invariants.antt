@@ -4,4 +4,5 @@ use Rattle.qh_mesh.specs.contract.Names.{name_in}
 use Rattle.qh_mesh.proofs.facets.name_all.Given as goal
 
 abbrev pub invariant-loop-facet : goal.invariant-loop-facet
-invariant-loop-facet l = take l.facet-index l.facets ++ map (named_facet (name_in l.ids)) (drop l.facet-index l.facets) ≡ map (named_facet (name_in l.ids)) l.initial.facets
+invariant-loop-facet l = take l.facet-index l.facets ++ map (named_facet (name_in l.ids))
+    (drop l.facet-index l.facets) ≡ map (named_facet (name_in l.ids)) l.initial.facets

@@ -1,4 +1,4 @@
-use Rattle.std.proofs.Common.{ℕ, ◌≡◌, ◌+◌, ◌<◌, ◌≤◌}
+use Rattle.std.proofs.Common.{ℕ, ◌++◌, reverse, ◌≡◌, ◌+◌, ◌<◌, ◌≤◌}
 use Rattle.std.specs.Prelude.{vec_len, vec_capacity}
 use Rattle.qh_model.specs.contract.StoredSurface.{facet_at}
 use Rattle.qh_mesh.specs.steps.Places.{IsPool}
@@ -6,7 +6,7 @@ use Rattle.qh_mesh.proofs.places.choose.Given as goal
 
 abbrev pub invariant-loop-j : goal.invariant-loop-j
 invariant-loop-j l = record {
-  pool : IsPool l.facets.items l.made.items l.free.items;
+  pool : IsPool l.facets.items (l.made.items ++ reverse l.free.items);
   cells : (f : ℕ) → facet_at l.facets.items f ≡ facet_at l.initial.facets.items f;
   longer : vec_len l.initial.facets ≤ vec_len l.facets;
   again : 0 < vec_len l.free → vec_len l.facets ≡ vec_len l.initial.facets;

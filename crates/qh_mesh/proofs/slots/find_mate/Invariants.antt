@@ -1,5 +1,5 @@
 use Rattle.std.proofs.Common.{◌≡◌, ◌+◌, not}
-use Rattle.qh_mesh.specs.steps.Horizons.{rank, corner, side_at}
+use Rattle.qh_mesh.specs.steps.Horizons.{rank}
 use Rattle.qh_mesh.proofs.slots.find_mate.Given as goal
 
 abbrev pub invariant-loop-i : goal.invariant-loop-i
