@@ -1,68 +1,95 @@
 -- A walk that went over all its facets found all that the apex sees.
-use Rattle.std.proofs.Common.{◌≡◌, ℕ, ◌/◌, ◌<◌, ◌≤◌, arith, ap, sym, ◌∙◌, refl, true, false, List, length, subst}
-use Rattle.std.specs.Prelude.{pos, ◌<ℤ◌}
+use Rattle.std.proofs.Common.{◌≡◌, ℕ, arith, sym, ◌∙◌, Bool, false, List, subst, ◌⊎◌, inl, inr}
+use Rattle.std.specs.Prelude.{ℤ, pos, ◌<ℤ◌}
 use Rattle.std.proofs.lemmas.Int.{by_lt_z}
 use Rattle.qh_model.specs.headline.Vector.{Vector}
+use Rattle.qh_model.specs.headline.Sets.{In}
 use Rattle.qh_model.specs.contract.Weighted.{Weighted}
 use Rattle.qh_model.specs.contract.FinishedSurface.{weighted_at}
-use Rattle.qh_model.specs.headline.Sets.{In}
-use Rattle.qh_model.specs.contract.Surface.{Side, Sees}
-use Rattle.qh_model.specs.laws.Horizons.{IsWalked}
+use Rattle.qh_model.specs.contract.Surface.{Surface, Side, Sees, rise}
 use Rattle.qh_model.specs.contract.StoredSurface.{StoredFacet, facet_at, surface_of}
+use Rattle.qh_model.specs.laws.Horizons.{IsWalked}
 use Rattle.qh_model.proofs.surfaces.SurfaceLaws.{rise_is_vol, walk_finds_all}
+use Rattle.qh_model.proofs.surfaces.Stored.{live_is_marked}
 use Rattle.qh_pred.specs.contract.Planes.{PlaneValue, height}
 use Rattle.qh_mesh.specs.declared.facets.FacetNo.{FacetNo}
-use Rattle.qh_mesh.specs.contract.Replacement.{IsLive, number, is_listed, twin_of}
+use Rattle.qh_mesh.specs.contract.Replacement.{IsLive, is_listed}
 use Rattle.qh_mesh.specs.contract.SoundMesh.{facet_vol, IsSoundMesh, AreVisible}
-use Rattle.qh_mesh.proofs.ListedFacets.{listed_at, listed_find}
-use Rattle.qh_mesh.proofs.Rewiring.{edge_of, edge-facet, twin-is, over-is, live_in, in_live}
+use Rattle.qh_mesh.proofs.ListedFacets.{listed_find, listed_live}
 use Rattle.qh_block.specs.steps.Planes.{plane_at, ArePlanes}
-use Rattle.qh_block.specs.steps.Walks.{mark_at, IsWalk, IsCrossed}
-use Rattle.qh_block.proofs.LiveFacets.{live_below}
+use Rattle.qh_block.specs.steps.Walks.{mark_at, IsMarked, Has, IsCrossed, IsWalkFrom}
 
--- the facets that a facet is next to
-over-twin : (fs : List StoredFacet) (f : ℕ) (s : Side) → (surface_of fs).over f s ≡ twin_of fs (edge_of f s) / 3
-over-twin fs f s = over-is fs f s ∙ ap (λ v. v / 3) (sym (twin-is fs f s))
+-- what a walk tells of the facets that it found, and of their neighbours
+module _ (P : ℕ → Type 0) (fs : List StoredFacet) (before after : List Bool) (f : ℕ) (vs : List FacetNo)
+    (w : IsWalkFrom P fs before after f vs) where
+  pub found_live : (g : ℕ) → Has vs g → IsLive fs g
+  found_live = listed_live fs vs w.walk.facets
 
--- a facet's plane tells what it sees
-module _ (at : ℕ → Vector) (fs : List StoredFacet) (ps : List PlaneValue) (a : ArePlanes at fs ps) where
-  sees_by : (f l : ℕ) → IsLive fs f → pos 0 <ℤ height (plane_at ps f) (at l) → Sees (surface_of fs) (weighted_at at) f (weighted_at at l)
-  sees_by f l i h = subst (λ z. pos 0 <ℤ z) (a.right f i (at l) ∙ sym (rise_is_vol (at (facet_at fs f).i) (at (facet_at fs f).j) (at (facet_at fs f).k) (at l))) h
+  pub found_passes : (g : ℕ) → Has vs g → P g
+  found_passes g h = let r = listed_find vs g h in subst P (sym r.1.1) (w.walk.passes r.0 r.1.0)
 
-  by_sees : (f l : ℕ) → IsLive fs f → Sees (surface_of fs) (weighted_at at) f (weighted_at at l) → pos 0 <ℤ height (plane_at ps f) (at l)
-  by_sees f l i h = subst (λ z. pos 0 <ℤ z) (sym (a.right f i (at l) ∙ sym (rise_is_vol (at (facet_at fs f).i) (at (facet_at fs f).j) (at (facet_at fs f).k) (at l)))) h
+  pub found_marked : (g : ℕ) → Has vs g → IsMarked after g
+  found_marked g h = let r = listed_find vs g h in subst (IsMarked after) (sym r.1.1) (w.walk.marked r.0 r.1.0)
 
--- so a walk from a facet that the apex sees found all that it sees
-pub finds_all : (at : ℕ → Vector) (fs : List StoredFacet) (ps : List PlaneValue) (o : Weighted) (l round : ℕ) (marks : List ℕ) (found : List FacetNo) → ArePlanes at fs ps → IsSoundMesh at fs o → IsWalk fs ps (at l) round marks found
-    → IsCrossed fs round marks found (length found) → length fs ≤ length marks → 0 < length found → AreVisible at fs found l
-finds_all at fs ps o l round marks found a z w c room some = record {
-  some = some;
-  seen = λ f i e. let p = listed_find found f e in subst (λ t. pos 0 <ℤ t) (a.right f i (at l)) (subst (λ t. pos 0 <ℤ height (plane_at ps t) (at l)) (sym p.1.1) (w.seen p.0 p.1.0));
-  unseen = λ f i e. by_lt_z (pos 0) (facet_vol at fs f (at l)) (λ h. absurd (both (is_listed found f) (walked f i h) e)) (λ h. h);
-}
-  where
-    both : (b : Rattle.std.proofs.Common.Bool) → b ≡ true → b ≡ false → ⊥
-    both b p q = cc
+  pub found_over : (g : ℕ) (s : Side) → Has vs g → P ((surface_of fs).over g s) → ¬ (IsMarked before ((surface_of fs).over g s))
+      → Has vs ((surface_of fs).over g s)
+  found_over g s h p n =
+      let r = listed_find vs g h in pick (w.further.only _ (subst (IsCrossed P fs after) (sym r.1.1) (w.crossed r.0 r.1.0) s p))
+    where
+      pick : IsMarked before ((surface_of fs).over g s) ⊎ Has vs ((surface_of fs).over g s) → Has vs ((surface_of fs).over g s)
+      pick (inl m) = absurd (n m)
+      pick (inr i) = i
 
-    first_live : IsLive fs (number found 0)
-    first_live = w.facets.live 0 some
+-- the facets that the apex, point l, sees by their planes
+abbrev pub IsSeen : (ℕ → Vector) → List PlaneValue → ℕ → ℕ → Type 0
+IsSeen at ps l g = pos 0 <ℤ height (plane_at ps g) (at l)
 
-    grows : (f : ℕ) → In f (surface_of fs).live → (s : Side) → is_listed found f ≡ true → Sees (surface_of fs) (weighted_at at) ((surface_of fs).over f s) (weighted_at at l) → is_listed found ((surface_of fs).over f s) ≡ true
-    grows f i s e t =
-        let p = listed_find found f e in
-        let n : IsLive fs ((surface_of fs).over f s) = live_in fs ((surface_of fs).over f s) (z.0 f i s).live in
-        let m : mark_at marks ((surface_of fs).over f s) ≡ round = ap (mark_at marks) (over-twin fs f s) ∙ c p.0 (edge_of f s) p.1.0 (edge-facet f s ∙ p.1.1) in
-        w.all ((surface_of fs).over f s) (let k = live_below fs ((surface_of fs).over f s) n in omega arith) m (by_sees at fs ps a ((surface_of fs).over f s) l n t)
+-- a walk over them, where no facet had a mark
+module _ (at : ℕ → Vector) (fs : List StoredFacet) (ps : List PlaneValue) (o : Weighted) (l f : ℕ) (before after : List Bool)
+    (vs : List FacetNo) (a : ArePlanes at fs ps) (z : IsSoundMesh at fs o) (none : (g : ℕ) → mark_at before g ≡ false)
+    (w : IsWalkFrom (IsSeen at ps l) fs before after f vs) where
+  abbrev m : Surface
+  m = surface_of fs
 
-    walk : IsWalked (surface_of fs) (weighted_at at) (weighted_at at l) (is_listed found)
-    walk = record {
-      f0 = number found 0;
-      live = in_live fs (number found 0) first_live;
-      seen = sees_by at fs ps a (number found 0) l first_live (w.seen 0 some);
-      has = listed_at found (number found 0) 0 some refl;
-      grows = grows;
-    }
+  abbrev vol : ℕ → ℤ
+  vol g = facet_vol at fs g (at l)
 
-    walked : (f : ℕ) → IsLive fs f → pos 0 <ℤ facet_vol at fs f (at l) → is_listed found f ≡ true
-    walked f i h = walk_finds_all (surface_of fs) (weighted_at at) o z.0 z.1 (weighted_at at l) (is_listed found) walk f (in_live fs f i)
-        (subst (λ t. pos 0 <ℤ t) (sym (rise_is_vol (at (facet_at fs f).i) (at (facet_at fs f).j) (at (facet_at fs f).k) (at l))) h)
+  above : (x y : ℤ) → x ≡ y → pos 0 <ℤ x → pos 0 <ℤ y
+  above x y = subst (λ t. pos 0 <ℤ t)
+
+  live : (g : ℕ) → IsLive fs g → In g m.live
+  live g = (live_is_marked fs g).1
+
+  seen : (g : ℕ) → Has vs g → pos 0 <ℤ vol g
+  seen g h = above _ _ (a.right g (found_live (IsSeen at ps l) fs before after f vs w g h) (at l))
+      (found_passes (IsSeen at ps l) fs before after f vs w g h)
+
+  rise_is : (g : ℕ) → vol g ≡ rise m (weighted_at at) g (weighted_at at l)
+  rise_is g = sym (rise_is_vol (at (facet_at fs g).i) (at (facet_at fs g).j) (at (facet_at fs g).k) (at l))
+
+  grows : (g : ℕ) → In g m.live → (s : Side) → Has vs g → Sees m (weighted_at at) (m.over g s) (weighted_at at l)
+      → Has vs (m.over g s)
+  grows g i s h t =
+      let n = (live_is_marked fs (m.over g s)).0 (z.0 g i s).live in
+      found_over (IsSeen at ps l) fs before after f vs w g s h
+      (above _ _ (sym (a.right (m.over g s) n (at l) ∙ rise_is (m.over g s))) t) (λ q. (let e = none (m.over g s) in cc))
+
+  walk : IsWalked m (weighted_at at) (weighted_at at l) (is_listed vs)
+  walk = record {
+    f0 = f;
+    live = live f (found_live (IsSeen at ps l) fs before after f vs w f w.start);
+    seen = above _ _ (rise_is f) (seen f w.start);
+    has = w.start;
+    grows = grows;
+  }
+
+  all : (g : ℕ) → IsLive fs g → pos 0 <ℤ vol g → Has vs g
+  all g i h = walk_finds_all m (weighted_at at) o z.0 z.1 (weighted_at at l) (is_listed vs) walk g (live g i) (above _ _ (rise_is g) h)
+
+  -- found all that it sees
+  pub finds_all : AreVisible at fs vs l
+  finds_all = record {
+    some = (let r = (listed_find vs f w.start).1.0 in omega arith);
+    seen = λ g i e. seen g e;
+    unseen = λ g i e. by_lt_z (pos 0) (vol g) (λ h. (let t = all g i h in cc)) (λ h. h);
+  }

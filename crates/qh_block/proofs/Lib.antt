@@ -5,6 +5,5 @@ pub mod runs
 pub mod WalkSteps
 pub mod FoundFacets
 pub mod LiveFacets
-pub mod FacetEdges
 pub mod InnerBoxes
 pub mod InnerPoints

@@ -1,5 +1,4 @@
 -- Finished meshes: walks in the planes of facets, the faces that they gather, the order of faces, and edges.
-pub mod Extensions
 pub mod Corners
 pub mod NewFaces
 pub mod LoneTriangles

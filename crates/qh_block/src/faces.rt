@@ -3,7 +3,7 @@
 //! Each live facet that has no mark yet starts a walk over the facets in its plane, which get marks.
 //! A plane of one facet, as most are, has its corners as its face; else the corners of the facets, rising,
 //! are the ids of which the face is the polygon. So a plane is looked at once.
-ghost use Rattle.std.specs.Prelude.{◌≡◌, ◌≤◌, ◌<◌, ◌↔◌, ℕ, List, IfOk, OnOk, length, true, false, replicate};
+ghost use Rattle.std.specs.Prelude.{◌≡◌, ◌≤◌, ◌<◌, ◌↔◌, ℕ, List, IfOk, OnOk, length, true, false};
 ghost use Rattle.std.specs.List.Sorted.{IsStrictlyIncreasing};
 ghost use Rattle.qh_model.specs.contract.IdSets.{IsIdSet};
 ghost use Rattle.qh_model.specs.headline.Extreme.{Extreme};
@@ -15,10 +15,12 @@ ghost use Rattle.qh_model.specs.contract.StoredSurface.{facet_at, surface_of};
 ghost use Rattle.qh_mesh.specs.contract.Replacement.{IsLive, is_listed};
 ghost use Rattle.qh_model.specs.contract.IdSets.{AreIndices};
 ghost use Rattle.qh_plane.specs.contract.PlanarSets.{IsPlanarSet};
-ghost use Rattle.qh_block.specs.steps.PlaneWalks.{AreCornersBelow, mark_at};
+ghost use Rattle.qh_block.specs.steps.PlaneWalks.{AreCornersBelow};
+ghost use Rattle.qh_block.specs.steps.Walks.{mark_at};
 ghost use Rattle.qh_block.specs.steps.Faces.{corners_of, from_least, IsListedCorner, IsNewPlane, IsNewFace, AreFacetFaces};
 
-use crate::plane_walk::walk_plane;
+use crate::plane_walk::IsLevel;
+use crate::walk::walk;
 use qh_mesh::{FacetNo, Mesh};
 use qh_model::{Id, Memory, Point, Polygon};
 use qh_plane::polygon;
@@ -34,7 +36,8 @@ pub struct Room {
 
 /// As many marks, none set.
 fn no_marks(alloc: Global, count: usize) -> Result<Vec<bool>, AllocError>
-    ensures { IfOk result (λ v. v.items ≡ replicate count false) }
+    ensures none { IfOk result (λ v. (f : ℕ) → mark_at v.items f ≡ false) }
+    ensures len { IfOk result (λ v. length v.items ≡ count) }
 {
     vec![in alloc; false; count]
 }
@@ -46,10 +49,7 @@ fn list_corners(mesh: &Mesh, facets: &[FacetNo], corners: &mut Vec<Id>) -> Resul
 {
     corners.clear();
     for f in facets {
-        let [a, b, c] = mesh.facet(*f);
-        corners.push(a)?;
-        corners.push(b)?;
-        corners.push(c)?;
+        corners.extend_from_slice(&mesh.facet(*f))?;
     }
     Ok(())
 }
@@ -77,7 +77,7 @@ fn facet_polygon(
     requires corners { AreCornersBelow (length pts.now) mesh.now }
     requires live { IsLive mesh.now f.0 }
     requires indices { AreIndices pts.now ids.now }
-    ensures { let n = cross (place pts.now (facet_at mesh.now f.0).i) (place pts.now (facet_at mesh.now f.0).j) (place pts.now (facet_at mesh.now f.0).k) in
+    ensures { let t = facet_at mesh.now f.0 in let n = cross (place pts.now t.i) (place pts.now t.j) (place pts.now t.k) in
         IfOk result (λ q. IsPlanarSet pts.now ids.now n → IsPolygon (place pts.now) (Extreme (place pts.now) (Members ids.now)) n q) }
 {
     let [a, b, c] = mesh.facet(f);
@@ -115,10 +115,11 @@ fn new_face(
     requires room { length mesh.now ≤ length marks.old }
     ensures kept { OnOk result ((g : ℕ) → mark_at marks.old g ≡ true → mark_at marks.new g ≡ true) }
     ensures own { OnOk result (mark_at marks.new f.0 ≡ true) }
-    ensures face { IfOk result (λ q. (ids : List ℕ) → IsIdSet pts.now ids → IsFinished (place pts.now) ids (surface_of mesh.now) → IsNewPlane (place pts.now) mesh.now marks.old f.0
-        → IsNewFace (place pts.now) (Members ids) mesh.now f.0 marks.old marks.new q) }
+    ensures face { IfOk result (λ q. (ids : List ℕ) → IsIdSet pts.now ids → IsFinished (place pts.now) ids (surface_of mesh.now)
+        → IsNewPlane (place pts.now) mesh.now marks.old f.0 → IsNewFace (place pts.now) (Members ids) mesh.now f.0 marks.old marks.new q) }
 {
-    walk_plane(pts, mesh, f, marks, &mut room.facets)?;
+    let level = IsLevel { pts, start: f };
+    walk(mesh, &level, f, marks, &mut room.facets)?;
     // Most planes have one facet: its corners are the face.
     if room.facets.len() == 1 {
         return Ok(lone_triangle(mesh, f));

@@ -6,7 +6,8 @@
 //! segment between the ends of the line, or the polygon in the plane.
 //!
 //! Of a large set `inner_points` drops most of what is inside first. `quickhull` makes the surface.
-//! `plane_walk` walks over the triangles of one plane, `faces` makes the polygon of each plane,
+//! `walk` finds the triangles that pass a test and hang together: those that a point sees, or those of
+//! one plane (`plane_walk`), of which `faces` makes the polygon.
 //! `face_order` and `solid_edges` order the faces and count their edges, and `solids` puts them together.
 //! `segment` finds the ends of a line, `normals` the side from which a polygon is seen, and `bodies`
 //! puts the hulls of flat sets together.
@@ -27,6 +28,7 @@ mod solid_edges;
 mod solids;
 #[cfg(test)]
 mod tests;
+mod walk;
 
 pub use hulls::{extremes, hull};
 pub use quickhull::surface;

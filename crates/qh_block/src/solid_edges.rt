@@ -1,24 +1,27 @@
 //! The number of edges of polygons.
 ghost use Rattle.std.specs.Prelude.{◌≡◌, ◌≤◌, IfOk, List, ℕ, length};
-ghost use Rattle.qh_block.specs.steps.SolidEdges.{edges_up, all_edges_up};
+ghost use Rattle.qh_block.specs.steps.SolidEdges.{ups, all_edges_up};
 
 use qh_model::{Id, Memory, Polygon};
 
 /// How often the way round a polygon goes to a higher id.
 fn edges_up(ids: &[Id]) -> usize
-    ensures count { result ≡ edges_up ids.now }
+    ensures count { result ≡ length (ups ids.now) }
     ensures limit { result ≤ length ids.now }
 {
-    let Some(last) = ids.last() else {
+    let [first, rest @ ..] = ids else {
         return 0;
     };
-    let mut from = *last;
+    let mut from = *first;
     let mut count = 0;
-    for id in ids {
+    for id in rest {
         if from < *id {
             count += 1;
         }
         from = *id;
+    }
+    if from < *first {
+        count += 1;
     }
     count
 }

@@ -69,7 +69,8 @@ pub fn solid_extremes(alloc: Global, pts: &[Point], mesh: &Mesh) -> Result<Vec<I
         → AreExtremes (place pts.now) (Members ids) v.items) }
 {
     let faces = faces(alloc, pts, mesh)?;
-    corners(alloc, &faces)
+    let extremes = corners(alloc, &faces)?;
+    Ok(extremes)
 }
 
 /// The hull of a set with a finished mesh.

@@ -1,19 +1,23 @@
 -- The faces of a solid, gathered plane by plane from the facets of its finished mesh.
-use Rattle.std.specs.Prelude.{◌≡◌, ◌⊎◌, ℕ, ◌<◌, List, [], ◌∷◌, ◌++◌, length, map, take, Bool, true, nat_lt, ◌&&◌, if◌then◌else◌}
+use Rattle.std.specs.Cmp.Lexicographic.{pointwise}
+use Rattle.std.specs.List.{IsDistinct, flat_map}
+use Rattle.std.specs.Prelude.{◌≡◌, ◌⊎◌, ℕ, List, [], ◌∷◌, take, Bool, true, nat_eq, nat_lt, ◌&&◌, if◌then◌else◌}
 use Rattle.qh_model.specs.headline.Vector.{Vector}
-use Rattle.qh_model.specs.headline.Sets.{In, Once}
+use Rattle.qh_model.specs.headline.Sets.{In}
 use Rattle.qh_model.specs.contract.Surface.{IsCorner}
 use Rattle.qh_model.specs.laws.FacetPlanes.{IsLevelFacet}
 use Rattle.qh_model.specs.contract.StoredSurface.{StoredFacet, facet_at, surface_of}
 use Rattle.qh_model.specs.headline.Polygons.{IsFacePolygon}
 use Rattle.qh_mesh.specs.declared.facets.FacetNo.{FacetNo}
 use Rattle.qh_mesh.specs.contract.Replacement.{IsLive, is_listed}
-use Rattle.qh_block.specs.steps.PlaneWalks.{mark_at}
+use Rattle.qh_block.specs.steps.Walks.{mark_at}
 
--- the corners of the listed facets, as listed
+-- the corners of a facet, and of the listed facets, as listed
+abbrev pub three_of : List StoredFacet → FacetNo → List ℕ
+three_of fs v = (facet_at fs v.0).i ∷ (facet_at fs v.0).j ∷ (facet_at fs v.0).k ∷ []
+
 abbrev pub corners_of : List StoredFacet → List FacetNo → List ℕ
-corners_of fs [] = []
-corners_of fs (v ∷ vs) = (facet_at fs v.0).i ∷ (facet_at fs v.0).j ∷ (facet_at fs v.0).k ∷ corners_of fs vs
+corners_of fs vs = flat_map (three_of fs) vs
 
 -- three ids in their turn, from the least on
 abbrev pub from_least : ℕ → ℕ → ℕ → List ℕ
@@ -31,7 +35,8 @@ abbrev pub IsFacetPolygon : (ℕ → Vector) → (ℕ → Type 0) → List Store
 IsFacetPolygon at A fs f q = IsFacePolygon at A (facet_at fs f).i (facet_at fs f).j (facet_at fs f).k q
 
 -- the live facets in the plane of facet f, and no others, were marked; q is the polygon of the plane
-pub record IsNewFace (at : ℕ → Vector) (A : ℕ → Type 0) (fs : List StoredFacet) (f : ℕ) (before after : List Bool) (q : List ℕ) : Type 0 where
+pub record IsNewFace (at : ℕ → Vector) (A : ℕ → Type 0) (fs : List StoredFacet) (f : ℕ) (before after : List Bool) (q : List ℕ)
+    : Type 0 where
   pub kept : (g : ℕ) → mark_at before g ≡ true → mark_at after g ≡ true
   pub marked : (g : ℕ) → IsLive fs g → IsLevelFacet at (surface_of fs) f g → mark_at after g ≡ true
   pub only : (g : ℕ) → mark_at after g ≡ true → (mark_at before g ≡ true) ⊎ (IsLive fs g × IsLevelFacet at (surface_of fs) f g)
@@ -41,10 +46,18 @@ pub record IsNewFace (at : ℕ → Vector) (A : ℕ → Type 0) (fs : List Store
 abbrev pub IsNewPlane : (ℕ → Vector) → List StoredFacet → List Bool → ℕ → Type 0
 IsNewPlane at fs marks f = (g : ℕ) → IsLive fs g → mark_at marks g ≡ true → ¬ (IsLevelFacet at (surface_of fs) f g)
 
+-- a list of three or more
+pub data HasThree : List ℕ → Type 0 where
+  three : (a b c : ℕ) (q : List ℕ) → HasThree (a ∷ b ∷ c ∷ q)
+
+-- two lists begin with the same three
+abbrev pub begin_alike : List ℕ → List ℕ → Bool
+begin_alike p q = pointwise nat_eq (take 3 p) (take 3 q)
+
 -- each has at least three members, and no two begin with the same three
 pub record AreApart (qs : List (List ℕ)) : Type 0 where
-  pub three : (q : List ℕ) → In q qs → 2 < length q
-  pub once : Once (map (take 3) qs)
+  pub three : (q : List ℕ) → In q qs → HasThree q
+  pub apart : IsDistinct begin_alike qs
 
 -- the polygons of the planes of the marked facets, each plane once
 pub record AreMarkedFaces (at : ℕ → Vector) (A : ℕ → Type 0) (fs : List StoredFacet) (marks : List Bool) (qs : List (List ℕ)) : Type 0 where
@@ -61,8 +74,7 @@ pub record AreFacetFaces (at : ℕ → Vector) (A : ℕ → Type 0) (fs : List S
 
 -- the members of all polygons, one after the other
 abbrev pub all_members : List (List ℕ) → List ℕ
-all_members [] = []
-all_members (q ∷ qs) = q ++ all_members qs
+all_members qs = flat_map (λ q. q) qs
 
 -- i is a member of a polygon
 abbrev pub IsListed : List (List ℕ) → ℕ → Type 0

@@ -1,21 +1,21 @@
 -- The edges of polygons, each counted where it goes from a lower id to a higher one.
-use Rattle.std.specs.Prelude.{ℕ, ◌+◌, List, [], ◌∷◌, cond, nat_lt}
+use Rattle.std.specs.List.{flat_map}
+use Rattle.std.specs.Prelude.{ℕ, List, [], ◌∷◌, cond, length, nat_lt}
 
--- the steps to a higher id along the list, from p on
-abbrev pub steps_up : ℕ → List ℕ → ℕ
-steps_up p [] = 0
-steps_up p (u ∷ q) = cond (nat_lt p u) (1 + steps_up u q) (steps_up u q)
+-- the pair of u and v before others, if u is the lower
+abbrev pub up : ℕ → ℕ → List (ℕ × ℕ) → List (ℕ × ℕ)
+up u v ps = cond (nat_lt u v) ((u, v) ∷ ps) ps
 
--- the last id, or p where there is none
-abbrev pub last_of : ℕ → List ℕ → ℕ
-last_of p [] = p
-last_of p (u ∷ q) = last_of u q
+-- the steps to a higher id on the way from t along the list to e
+abbrev pub ups_along : ℕ → List ℕ → ℕ → List (ℕ × ℕ)
+ups_along t [] e = up t e []
+ups_along t (w ∷ r) e = up t w (ups_along w r e)
 
--- the steps to a higher id round a polygon, that from the last to the first too
-abbrev pub edges_up : List ℕ → ℕ
-edges_up q = steps_up (last_of 0 q) q
+-- the steps to a higher id round a polygon
+abbrev pub ups : List ℕ → List (ℕ × ℕ)
+ups [] = []
+ups (t ∷ r) = ups_along t r t
 
--- the same over all polygons
+-- how many there are over all polygons
 abbrev pub all_edges_up : List (List ℕ) → ℕ
-all_edges_up [] = 0
-all_edges_up (q ∷ qs) = edges_up q + all_edges_up qs
+all_edges_up qs = length (flat_map ups qs)

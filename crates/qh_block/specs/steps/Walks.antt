@@ -1,32 +1,54 @@
--- A walk over twins from a facet that a point sees: what it keeps on its way.
+-- Walks over twins, from facets that pass a test P: what they keep on their way.
 -- Source: Barber, Dobkin and Huhdanpaa 1996 (the visible set is found by a search over neighbours).
-use Rattle.std.specs.Prelude.{◌≡◌, ℕ, ◌/◌, ◌<◌, ◌≤◌, List, length, slice_index, true, pos, ◌<ℤ◌}
-use Rattle.qh_model.specs.headline.Vector.{Vector}
-use Rattle.qh_model.specs.contract.StoredSurface.{StoredFacet}
-use Rattle.qh_pred.specs.contract.Planes.{PlaneValue, height}
+use Rattle.std.specs.Prelude.{◌≡◌, ◌⊎◌, ℕ, ◌<◌, ◌≤◌, List, [], Bool, length, slice_index_or, true, false}
+use Rattle.qh_model.specs.contract.StoredSurface.{StoredFacet, surface_of}
+use Rattle.qh_model.specs.contract.Surface.{Side}
 use Rattle.qh_mesh.specs.declared.facets.FacetNo.{FacetNo}
-use Rattle.qh_mesh.specs.contract.Replacement.{AreFacets, number, is_listed, twin_of}
-use Rattle.qh_block.specs.steps.Planes.{plane_at}
+use Rattle.qh_mesh.specs.contract.Replacement.{AreFacets, number, is_listed}
 
--- the round that met the facet at a place last; 0 past the end
-abbrev pub mark_at : List ℕ → ℕ → ℕ
-mark_at marks f = slice_index marks f
+-- the mark of place f; past the end there is none
+abbrev pub mark_at : List Bool → ℕ → Bool
+mark_at marks f = slice_index_or marks f false
 
--- the facets found in a round are live, each once, seen and marked; a facet that is marked and seen was found
-pub record IsWalk (fs : List StoredFacet) (ps : List PlaneValue) (apex : Vector) (round : ℕ) (marks : List ℕ) (found : List FacetNo) : Type 0 where
+-- place f is marked
+abbrev pub IsMarked : List Bool → ℕ → Type 0
+IsMarked marks f = mark_at marks f ≡ true
+
+-- f is the number of a facet of the list
+abbrev pub Has : List FacetNo → ℕ → Type 0
+Has vs f = is_listed vs f ≡ true
+
+-- the facets found are live, each once, they pass and are marked
+pub record IsWalk (P : ℕ → Type 0) (fs : List StoredFacet) (marks : List Bool) (found : List FacetNo) : Type 0 where
   pub facets : AreFacets fs found
-  pub seen : (j : ℕ) → j < length found → pos 0 <ℤ height (plane_at ps (number found j)) apex
-  pub marked : (j : ℕ) → j < length found → mark_at marks (number found j) ≡ round
-  pub all : (f : ℕ) → f < length marks → mark_at marks f ≡ round → pos 0 <ℤ height (plane_at ps f) apex → is_listed found f ≡ true
-  pub bound : (f : ℕ) → mark_at marks f ≤ round
+  pub passes : (j : ℕ) → j < length found → P (number found j)
+  pub marked : (j : ℕ) → j < length found → IsMarked marks (number found j)
 
--- the neighbours over the edges of the first n facets found are met
-abbrev pub IsCrossed : List StoredFacet → ℕ → List ℕ → List FacetNo → ℕ → Type 0
-IsCrossed fs round marks found n = (j e : ℕ) → j < n → e / 3 ≡ number found j → mark_at marks (twin_of fs e / 3) ≡ round
+-- facet f is marked if it passes
+abbrev pub IsMet : (ℕ → Type 0) → List Bool → ℕ → Type 0
+IsMet P marks f = P f → IsMarked marks f
 
--- what was met and found before still is, and stands where it stood
-pub record IsFurther (round : ℕ) (marks marks' : List ℕ) (found found' : List FacetNo) : Type 0 where
+-- the neighbours of facet f are
+abbrev pub IsCrossed : (ℕ → Type 0) → List StoredFacet → List Bool → ℕ → Type 0
+IsCrossed P fs marks f = (s : Side) → IsMet P marks ((surface_of fs).over f s)
+
+-- those of the first n facets found are
+abbrev pub AreCrossed : (ℕ → Type 0) → List StoredFacet → List Bool → List FacetNo → ℕ → Type 0
+AreCrossed P fs marks found n = (j : ℕ) → j < n → IsCrossed P fs marks (number found j)
+
+-- what was marked and found before still is, and stands where it stood; what was marked since was found
+pub record IsFurther (marks marks' : List Bool) (found found' : List FacetNo) : Type 0 where
   pub len : length marks' ≡ length marks
-  pub met : (f : ℕ) → mark_at marks f ≡ round → mark_at marks' f ≡ round
+  pub kept : (f : ℕ) → IsMarked marks f → IsMarked marks' f
+  pub only : (f : ℕ) → IsMarked marks' f → IsMarked marks f ⊎ Has found' f
   pub longer : length found ≤ length found'
   pub same : (j : ℕ) → j < length found → number found' j ≡ number found j
+
+-- a walk from facet f over all that it found
+pub record IsWalkFrom (P : ℕ → Type 0) (fs : List StoredFacet) (before after : List Bool) (f : ℕ) (found : List FacetNo)
+    : Type 0 where
+  pub walk : IsWalk P fs after found
+  pub further : IsFurther before after [] found
+  pub start : Has found f
+  pub own : IsMarked after f
+  pub crossed : AreCrossed P fs after found (length found)

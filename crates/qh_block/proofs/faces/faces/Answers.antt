@@ -1,28 +1,26 @@
-use Rattle.std.proofs.Common.{◌≡◌, ◌∙◌, ℕ, List, length, replicate, ap, sym, subst, Bool, false}
-use Rattle.qh_model.specs.contract.StoredSurface.{surface_of}
-use Rattle.qh_mesh.specs.declared.facets.FacetNo.{FacetNo}
-use Rattle.qh_mesh.specs.contract.LiveNumbers.{numbers}
-use Rattle.qh_block.proofs.finished.Gathering.{IsGathering, gathering_starts, next_within, gathering_goes, gathering_ends}
+-- The faces are gathered facet by facet.
+use Rattle.std.proofs.Common.{◌≡◌, ◌∙◌, ℕ, List, Bool, false, arith, ap, length, sym, subst}
+use Rattle.qh_block.specs.steps.Walks.{mark_at}
+use Rattle.qh_block.proofs.finished.Gathering.{gathering_starts, next_within, gathering_goes, gathering_ends}
 use Rattle.qh_block.proofs.faces.faces.Goals as goal
 
 pub loop-f-init : goal.loop-f-init
 loop-f-init c =
-    let pts = c.args.pts.now in let fs = c.args.mesh.now in
-    let left : c.into_iter-f-iterator.result ≡ numbers (surface_of fs).live = c.into_iter-f-iterator.ensures.into_iter_gives ∙ c.live-f-items.ensures in
-    let marks : c.as_mut_slice-marks.result.now ≡ replicate (length fs) false = c.as_mut_slice-marks.ensures.value ∙ c.in_ok-places.ensures ∙ ap (λ n. replicate n false) c.places.ensures in
-    subst (λ (xs : List FacetNo). IsGathering pts fs xs c.as_mut_slice-marks.result.now c.new-faces.result.items) (sym left)
-    (subst (λ (xs : List Bool). IsGathering pts fs (numbers (surface_of fs).live) xs c.new-faces.result.items) (sym marks)
-    (subst (λ (xs : List (List ℕ)). IsGathering pts fs (numbers (surface_of fs).live) (replicate (length fs) false) xs) (sym c.new-faces.ensures.items) (gathering_starts pts fs)))
+    let items = c.as_mut_slice-marks.ensures.value in
+    let long : length c.as_mut_slice-marks.result.now ≡ length c.args.mesh.now =
+    ap (λ (xs : List Bool). length xs) items ∙ c.in_ok-places.ensures.len ∙ c.places.ensures in
+    rw (c.into_iter-f-iterator.ensures.into_iter_gives ∙ c.live-f-items.ensures, c.new-faces.ensures.items)
+    (gathering_starts c.args.pts.now c.args.mesh.now c.as_mut_slice-marks.result.now
+    (subst (λ (xs : List Bool). (f : ℕ) → mark_at xs f ≡ false) (sym items) c.in_ok-places.ensures.none) (omega arith))
 
 pub bounds-marks-f : goal.bounds-marks-f
-bounds-marks-f c = next_within c.args.pts.now c.args.mesh.now c.loop-f.f-iterator c.next.new.self c.in-Some.f c.loop-f.marks c.loop-f.faces.items c.loop-f.invariant c.in-Some.ensures.steps
+bounds-marks-f c = next_within _ _ _ _ _ _ _ c.loop-f.invariant c.in-Some.ensures.steps
 
 pub loop-f-preserved-in_ok-push : goal.loop-f-preserved-in_ok-push
 loop-f-preserved-in_ok-push c =
-    subst (λ (xs : List (List ℕ)). IsGathering c.args.pts.now c.args.mesh.now c.next.new.self c.new_face.new.marks xs) (sym c.in_ok-push.ensures.items)
-    (gathering_goes c.args.pts.now c.args.mesh.now c.loop-f.f-iterator c.next.new.self c.in-Some.f c.loop-f.marks c.loop-f.faces.items c.loop-f.invariant c.in-Some.ensures.steps
-    c.if-not-marks-f.true c.new_face.new.marks c.in_ok-new_face.field-0 c.new_face.auto.marks c.in_ok-new_face.ensures.kept c.in_ok-new_face.ensures.own c.in_ok-new_face.ensures.face)
+    let new = c.in_ok-new_face.ensures in
+    rw c.in_ok-push.ensures.items (gathering_goes _ _ _ _ _ _ _ c.loop-f.invariant c.in-Some.ensures.steps
+    c.if-not-marks-f.true _ _ c.new_face.auto.marks new.kept new.own new.face)
 
 pub returns : goal.returns
-returns c =
-    gathering_ends c.args.pts.now c.args.mesh.now c.loop-f.f-iterator c.loop-f.marks c.loop-f.faces.items c.loop-f.invariant c.in-None.ensures.steps.0
+returns c = gathering_ends _ _ _ _ _ c.loop-f.invariant c.in-None.ensures.steps.0

@@ -1,3 +1,4 @@
+-- The corners of the facets so far.
 use Rattle.std.proofs.Common.{◌≡◌, take}
 use Rattle.qh_block.specs.steps.Faces.{corners_of}
 use Rattle.qh_block.proofs.faces.list_corners.Given as goal

@@ -1,3 +1,4 @@
+-- The first ids of a solid set are a simplex.
 use Rattle.qh_block.proofs.runs.FirstSimplexes.{simplex_is}
 use Rattle.qh_block.proofs.solids.solid_mesh.Goals as goal
 

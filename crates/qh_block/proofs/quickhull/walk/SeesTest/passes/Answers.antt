@@ -1,0 +1,16 @@
+-- The plane that is read is the facet's.
+use Rattle.std.proofs.Common.{◌∙◌, ◌/◌, ◌↔◌, IsTrue, arith, sym, subst}
+use Rattle.std.specs.Prelude.{pos, ◌<ℤ◌}
+use Rattle.std.proofs.lemmas.List.{get_or_read}
+use Rattle.qh_pred.specs.contract.Planes.{PlaneValue, height}
+use Rattle.qh_block.specs.steps.Planes.{no_plane}
+use Rattle.qh_block.proofs.LiveFacets.{live_below}
+use Rattle.qh_block.proofs.quickhull.walk.SeesTest.passes.Goals as goal
+
+pub returns : goal.returns
+returns c =
+    let t = c.args.self.now in let f = c.args.edge.0 / 3 in let p = c.index-self-edge.result in
+    let l = live_below c.args._mesh.now f c.requires.live in let r = c.requires.fits in
+    let read = c.index-self-edge.is in
+    subst (λ (q : PlaneValue). IsTrue c.sees.result ↔ (pos 0 <ℤ height q t.apex))
+    (sym read ∙ get_or_read t.planes.now f p (omega arith) read no_plane) c.sees.ensures
