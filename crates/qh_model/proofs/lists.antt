@@ -1,4 +1,4 @@
--- Lists as sets: ordered lists, lists that have each member once, lists joined, and images.
+-- Lists as sets: ordered lists, lists that have each member once, lists joined, images, and filters.
 pub mod Ordered
 pub mod OnceEach
 pub mod Lexicographic
@@ -6,3 +6,4 @@ pub mod Rising
 pub mod Joined
 pub mod Images
 pub mod Ranges
+pub mod Filters

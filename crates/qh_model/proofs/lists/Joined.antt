@@ -44,3 +44,8 @@ of_flat_map {X} {Y} f (z ∷ xs) y m = go (of_flat_map f xs y) (of_append (f z) 
     go : (In y (flat_map f xs) → (x : X) × In x xs × In y (f x)) → In y (f z) ⊎ In y (flat_map f xs) → (x : X) × In x (z ∷ xs) × In y (f x)
     go rest (inl h) = (z, inl refl, h)
     go rest (inr h) = let r = rest h in (r.0, inr r.1, r.2)
+
+-- a beginning of a list that has each member once has too
+pub once_left : {X : Type 0} (xs ys : List X) → Once (xs ++ ys) → Once xs
+once_left [] ys o = tt
+once_left (x ∷ xs) ys o = ((λ i. o.0 (in_append xs ys x (inl i))), once_left xs ys o.1)

@@ -1,7 +1,8 @@
--- Lists that have each member once: their length is known by their members.
-use Rattle.std.proofs.Common.{◌≡◌, ◌+◌, refl, List, [], ◌∷◌, length, arith, sym, subst, ◌∙◌, ◌⊎◌, inl, inr}
+-- Lists that have each member once: their length is known by their members, and a place by its member.
+use Rattle.std.proofs.Common.{◌≡◌, ℕ, zero, suc, ◌+◌, ◌<◌, ◌≤◌, refl, List, [], ◌∷◌, length, get_or, arith, ap, sym, subst, ◌∙◌, ◌⊎◌, inl, inr}
 use Rattle.std.specs.Prelude.{◌↔◌}
 use Rattle.qh_model.specs.headline.Sets.{In, Once}
+use Rattle.qh_model.proofs.Members.{In-get_or}
 
 -- the list without the member at this place
 without : {X : Type 0} (x : X) (xs : List X) → In x xs → List X
@@ -16,14 +17,6 @@ without-length x [] i = absurd i
 without-length x (y ∷ ys) (inl e) = omega arith
 without-length x (y ∷ ys) (inr i) = let h = without-length x ys i in omega arith
 
--- its members are the list's
-without-in : {X : Type 0} (x : X) (xs : List X) (i : In x xs) (y : X) → In y (without x xs i) → In y xs
-unfolding without
-without-in x [] i y j = absurd i
-without-in x (z ∷ xs) (inl e) y j = inr j
-without-in x (z ∷ xs) (inr i) y (inl e) = inl e
-without-in x (z ∷ xs) (inr i) y (inr j) = inr (without-in x xs i y j)
-
 -- every other member stays
 without-others : {X : Type 0} (x : X) (xs : List X) (i : In x xs) (y : X) → In y xs → (y ≡ x) ⊎ In y (without x xs i)
 unfolding without
@@ -37,39 +30,30 @@ without-others {X} x (z ∷ xs) (inr i) y (inr j) = pick (without-others x xs i 
     pick (inl e) = inl e
     pick (inr k) = inr (inr k)
 
--- it has each once, and x no more
-without-once : {X : Type 0} (x : X) (xs : List X) (i : In x xs) → Once xs → Once (without x xs i) × (¬ (In x (without x xs i)))
-unfolding without
-without-once x [] i o = absurd i
-without-once x (z ∷ xs) (inl e) o = (o.1, λ j. o.0 (subst (λ t. In t xs) e j))
-without-once {X} x (z ∷ xs) (inr i) o = more (without-once x xs i o.1)
+-- a list that has each member once is no longer than one that has its members
+pub once_within : {X : Type 0} (xs ys : List X) → Once xs → ((z : X) → In z xs → In z ys) → length xs ≤ length ys
+once_within [] ys o h = omega arith
+once_within {X} (x ∷ xs) ys o h =
+    let e = without-length x ys there in
+    let r = once_within xs (without x ys there) o.1 (λ z i. other z i (without-others x ys there z (h z (inr i)))) in omega arith
   where
-    more : Once (without x xs i) × (¬ (In x (without x xs i))) → Once (z ∷ without x xs i) × (¬ (In x (z ∷ without x xs i)))
-    more low = (((λ j. o.0 (without-in x xs i z j)), low.0), λ j. pick j)
-      where
-        pick : (x ≡ z) ⊎ In x (without x xs i) → ⊥
-        pick (inl e) = o.0 (subst (λ t. In t xs) e i)
-        pick (inr j) = low.1 j
+    there : In x ys
+    there = h x (inl refl)
+
+    other : (z : X) → In z xs → (z ≡ x) ⊎ In z (without x ys there) → In z (without x ys there)
+    other z i (inl e) = absurd (o.0 (subst (λ t. In t xs) e i))
+    other z i (inr j) = j
 
 -- lists with the same members, each once, have one length
 pub once_length : {X : Type 0} (xs ys : List X) → Once xs → Once ys → ((z : X) → In z xs ↔ In z ys) → length xs ≡ length ys
-once_length [] [] o p h = refl
-once_length [] (y ∷ ys) o p h = absurd ((h y).1 (inl refl))
-once_length {X} (x ∷ xs) ys o p h = joined (once_length xs (without x ys there) o.1 (without-once x ys there p).0 same) (without-length x ys there)
-  where
-    there : In x ys
-    there = (h x).0 (inl refl)
+once_length xs ys o p h =
+    let a = once_within xs ys o (λ z. (h z).0) in let b = once_within ys xs p (λ z. (h z).1) in omega arith
 
-    joined : length xs ≡ length (without x ys there) → length ys ≡ length (without x ys there) + 1 → length (x ∷ xs) ≡ length ys
-    joined e f = omega arith
-
-    same : (z : X) → In z xs ↔ In z (without x ys there)
-    same z = (λ i. other i (without-others x ys there z ((h z).0 (inr i))), λ j. back j ((h z).1 (without-in x ys there z j)))
-      where
-        other : In z xs → (z ≡ x) ⊎ In z (without x ys there) → In z (without x ys there)
-        other i (inl e) = absurd (o.0 (subst (λ t. In t xs) e i))
-        other i (inr j) = j
-
-        back : In z (without x ys there) → (z ≡ x) ⊎ In z xs → In z xs
-        back j (inl e) = absurd ((without-once x ys there p).1 (subst (λ t. In t (without x ys there)) e j))
-        back j (inr i) = i
+-- a member that stands once has one place
+pub once_place : {X : Type 0} (d : X) (xs : List X) → Once xs → (i j : ℕ) → i < length xs → j < length xs
+    → get_or xs i d ≡ get_or xs j d → i ≡ j
+once_place d [] o i j l m e = absurd (omega arith)
+once_place d (x ∷ xs) o zero zero l m e = refl
+once_place d (x ∷ xs) o zero (suc j) l m e = absurd (o.0 (subst (λ y. In y xs) (sym e) (In-get_or xs j d (omega arith))))
+once_place d (x ∷ xs) o (suc i) zero l m e = absurd (o.0 (subst (λ y. In y xs) e (In-get_or xs i d (omega arith))))
+once_place d (x ∷ xs) o (suc i) (suc j) l m e = ap suc (once_place d xs o.1 i j (omega arith) (omega arith) e)

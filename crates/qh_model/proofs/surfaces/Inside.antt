@@ -1,5 +1,5 @@
 -- A point strictly below all facets of the surface of a part of a set is no extreme point of the set.
-use Rattle.std.proofs.Common.{◌≡◌, ℕ, ◌⊎◌, inl, inr, List, ◌∷◌, arith, refl, sym, ap, subst, ◌∙◌}
+use Rattle.std.proofs.Common.{◌≡◌, ℕ, inl, inr, List, ◌∷◌, arith, refl, sym, ap, subst, ◌∙◌}
 use Rattle.std.proofs.lemmas.Int.{ints}
 use Rattle.std.specs.Prelude.{pos, ◌≤ℤ◌, ◌<ℤ◌, ℤ}
 use Rattle.qh_model.specs.headline.Vector.{Vector}

@@ -67,7 +67,7 @@ module _ {m m' : Surface} {name : ℕ → ℕ} (r : IsNamed m m' name) where
   of_corner_named f i l (inr (inr e)) = (m.k f, inr (inr refl), e ∙ r.k_is f i)
 
   -- a whole surface stays whole
-  whole_named : IsWhole m → IsWhole m'
+  pub whole_named : IsWhole m → IsWhole m'
   whole_named w f i' s = record {
     live = subst (λ g. In g m'.live) (sym over) (subst (In (m.over f s)) (sym r.live) t.live);
     start_is =
@@ -146,7 +146,7 @@ module _ {m m' : Surface} {name : ℕ → ℕ} (r : IsNamed m m' name) where
       kept l x (c, y, e) = subst (IsCorner m g) (sym (b g j c y) ∙ ap position (sym e) ∙ b f i l x) y
 
   -- a sound surface stays sound
-  sound_named : (home home' : ℕ → Weighted) (o : Weighted) (position : ℕ → ℕ)
+  pub sound_named : (home home' : ℕ → Weighted) (o : Weighted) (position : ℕ → ℕ)
       → ArePlaced m home home' name → LeadsBack m name position → IsSound m home o → IsSound m' home' o
   sound_named home home' o position p b z = record {
     inner = λ f i. let k = live_named r f i in subst (λ x. x <ℤ pos 0) (rise_named home home' p f k o) (z.inner f k);

@@ -20,7 +20,7 @@ use Rattle.qh_model.proofs.algebra.Signs.{less_differ}
 use Rattle.qh_model.proofs.surfaces.SimplexBoundary.{simplex_boundary_sound}
 
 -- what holds of 0, 1, 2 and 3
-four : (P : ℕ → Type 0) → P 0 → P 1 → P 2 → P 3 → (f : ℕ) → In f (0 ∷ 1 ∷ 2 ∷ 3 ∷ []) → P f
+pub four : (P : ℕ → Type 0) → P 0 → P 1 → P 2 → P 3 → (f : ℕ) → In f (0 ∷ 1 ∷ 2 ∷ 3 ∷ []) → P f
 four P p q r s f (inl e) = subst P (sym e) p
 four P p q r s f (inr (inl e)) = subst P (sym e) q
 four P p q r s f (inr (inr (inl e))) = subst P (sym e) r
