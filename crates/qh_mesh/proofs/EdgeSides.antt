@@ -1,12 +1,13 @@
 -- Half-edges by their facet and side.
-use Rattle.std.proofs.Common.{◌≡◌, ℕ, zero, suc, ◌/◌, ◌%◌, ◌<◌, arith, ap, refl, List}
+use Rattle.std.proofs.Common.{◌≡◌, ℕ, zero, suc, ◌/◌, ◌%◌, ◌<◌, arith, ap, refl, subst, List}
 use Rattle.qh_model.specs.contract.Simplex.{one_of}
 use Rattle.qh_model.specs.contract.Surface.{Side, start, end}
 use Rattle.qh_model.specs.contract.Surface.Side.{first, second, third}
 use Rattle.qh_model.specs.contract.StoredSurface.{StoredFacet, facet_at, surface_of}
-use Rattle.qh_mesh.specs.contract.Replacement.{side_of_edge, edge_start, edge_end, twin_of}
-use Rattle.qh_mesh.specs.steps.Kept.{side_of}
-use Rattle.qh_mesh.specs.steps.Twins.{side_no, edge_of, twin_at}
+use Rattle.qh_mesh.specs.contract.Replacement.{IsLive, side_of_edge, edge_start, edge_end, twin_of}
+use Rattle.qh_mesh.specs.steps.Horizons.{edge_side}
+use Rattle.qh_mesh.specs.steps.Kept.{outer_of, side_of}
+use Rattle.qh_mesh.specs.steps.Twins.{side_no, edge_of, HasTwin, HasTwins}
 
 -- an edge by its facet and side is of that facet
 pub edge-facet : (f : ℕ) (s : Side) → edge_of f s / 3 ≡ f
@@ -29,6 +30,10 @@ left-over (suc (suc (suc r))) l = absurd (omega arith)
 pub edge_is : (x : ℕ) → edge_of (x / 3) (side_of_edge x) ≡ x
 edge_is x = let e : side_no (side_of_edge x) ≡ x % 3 = left-over (x % 3) (omega arith) in omega arith
 
+-- so twins may be told by facet and side
+pub twins_by_side : (fs : List StoredFacet) → ((f : ℕ) → IsLive fs f → (s : Side) → HasTwin fs (edge_of f s)) → HasTwins fs
+twins_by_side fs h e l = subst (HasTwin fs) (edge_is e) (h (e / 3) l (side_of_edge e))
+
 module _ (fs : List StoredFacet) (f : ℕ) (s : Side) where
   -- an edge starts and ends where the surface says
   pub start-is : edge_start fs (edge_of f s) ≡ start (surface_of fs) f s
@@ -37,16 +42,19 @@ module _ (fs : List StoredFacet) (f : ℕ) (s : Side) where
   pub end-is : edge_end fs (edge_of f s) ≡ end (surface_of fs) f s
   end-is = λ i. end (surface_of fs) (edge-facet f s i) (edge-side f s i)
 
-  -- its twin by its facet and side
-  pub twin-is : twin_of fs (edge_of f s) ≡ twin_at fs f s
-  twin-is = λ i. twin_at fs (edge-facet f s i) (edge-side f s i)
+  -- its twin and what is noted of it, by its facet and side
+  pub twin-is : twin_of fs (edge_of f s) ≡ outer_of (facet_at fs f) s
+  twin-is = λ i. outer_of (facet_at fs (edge-facet f s i)) (edge-side f s i)
+
+  pub noted-is : edge_side fs (edge_of f s) ≡ side_of (facet_at fs f) s
+  noted-is = λ i. side_of (facet_at fs (edge-facet f s i)) (edge-side f s i)
 
 module _ (fs : List StoredFacet) (f : ℕ) where
   -- the neighbour is the facet of the twin, and that side of it
-  pub over-is : (s : Side) → (surface_of fs).over f s ≡ twin_at fs f s / 3
+  pub over-is : (s : Side) → (surface_of fs).over f s ≡ outer_of (facet_at fs f) s / 3
   over-is = elim [ first ↦ refl | second ↦ refl | third ↦ refl ]
 
-  pub back-is : (s : Side) → (surface_of fs).back f s ≡ side_of_edge (twin_at fs f s)
+  pub back-is : (s : Side) → (surface_of fs).back f s ≡ side_of_edge (outer_of (facet_at fs f) s)
   back-is = elim [ first ↦ refl | second ↦ refl | third ↦ refl ]
 
   -- a side starts and ends where the surface says

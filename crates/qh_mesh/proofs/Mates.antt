@@ -1,14 +1,13 @@
 -- Which sides of a horizon follow one another: each has one mate at either end, and is the mate of that.
-use Rattle.std.proofs.Common.{◌≡◌, ℕ, zero, suc, ◌<◌, ◌≤◌, ◌⊎◌, inl, inr, arith, ap, sym, ◌∙◌, subst, add-one, Bool, true, false}
-use Rattle.std.proofs.Common.{cond, not, nat_eq, List, length, get_or, take, refl}
+use Rattle.std.proofs.Common.{◌≡◌, ℕ, zero, suc, ◌<◌, ◌≤◌, inl, inr, arith, ap, sym, ◌∙◌, refl, subst, add-one, Bool, true, false}
+use Rattle.std.proofs.Common.{cond, not, nat_eq, List, length, get_or, take}
 use Rattle.std.specs.Prelude.{count_by}
 use Rattle.std.proofs.lemmas.List.{take-take, get_or-take, take_all, length-take-le}
 use Rattle.std.proofs.lemmas.List.Sums.{sum_by_more_le, count_by_more_yes, count_by_more_no}
-use Rattle.std.proofs.lemmas.Bool.{cases_Bool, eq-eqb, eqb-true}
+use Rattle.std.proofs.lemmas.Bool.{cases_Bool, cases_lt, cases_order, eq-eqb, eqb-true}
 use Rattle.qh_mesh.specs.declared.facets.FacetSide.{FacetSide}
 use Rattle.qh_mesh.specs.declared.slots.Slot.{Slot}
 use Rattle.qh_mesh.specs.steps.Horizons.{side_at, no_side, corner, rank, noted, IsBalanced, IsMate, AreNoted}
-use Rattle.qh_mesh.proofs.NumberCases.{order}
 
 module _ {X : Type 0} (p : X → Bool) (d : X) where
   -- one that passes adds to the count
@@ -24,32 +23,23 @@ module _ {X : Type 0} (p : X → Bool) (d : X) where
   -- so it is known by how many pass before it
   counted_apart : (xs : List X) (i j : ℕ) → i < length xs → j < length xs → p (get_or xs i d) ≡ true → p (get_or xs j d) ≡ true
       → count_by p (take i xs) ≡ count_by p (take j xs) → i ≡ j
-  counted_apart xs i j l m e f q = elim (order i j) [
-    | inl h ↦ (let c = counted-first xs i j h (omega arith) e in absurd (omega arith))
-    | inr h ↦ elim (order j i) [ inl g ↦ (let c = counted-first xs j i g (omega arith) f in absurd (omega arith)) | inr g ↦ omega arith ]
+  counted_apart xs i j l m e f q = elim (cases_order i j) [
+    | inl h ↦ h
+    | inr (inl h) ↦ (let c = counted-first xs i j h (omega arith) e in absurd (omega arith))
+    | inr (inr h) ↦ (let c = counted-first xs j i h (omega arith) f in absurd (omega arith))
   ]
 
-  -- a place that passes, with r before it
-  abbrev Counts : List X → ℕ → Type 0
-  Counts xs r = (i : ℕ) × (i < length xs) × (p (get_or xs i d) ≡ true) × (count_by p (take i xs) ≡ r)
-
-  -- among the first n no more than r pass, or one has r before it
-  counted_find : (xs : List X) (r n : ℕ) → n ≤ length xs → (count_by p (take n xs) ≤ r) ⊎ Counts xs r
-  counted_find xs r zero l = inl (omega arith)
-  counted_find xs r (suc n) l = elim (counted_find xs r n (omega arith)) [
-    | inr f ↦ inr f
-    | inl h ↦ elim (cases_Bool (p (get_or xs n d))) [
-      | inr f ↦ inl (rw (← add-one n) (let e = count_by_more_no p xs n d (omega arith) f in omega arith))
-      | inl t ↦ elim (order (count_by p (take n xs)) r) [
-        | inl g ↦ inl (rw (← add-one n) (let e = count_by_more_yes p xs n d (omega arith) t in omega arith))
-        | inr g ↦ inr (n, omega arith, t, omega arith)
-      ]
+  -- each count below that of the first n is that before one that passes
+  counted_at : (xs : List X) (r n : ℕ) → n ≤ length xs → r < count_by p (take n xs)
+      → (i : ℕ) × (i < length xs) × (p (get_or xs i d) ≡ true) × (count_by p (take i xs) ≡ r)
+  counted_at xs r zero l h = absurd (omega arith)
+  counted_at xs r (suc n) l h = let k = rw (← add-one n) at h in elim (cases_lt r (count_by p (take n xs))) [
+    | inl g ↦ counted_at xs r n (omega arith) g
+    | inr g ↦ elim (cases_Bool (p (get_or xs n d))) [
+      | inl t ↦ (let e = count_by_more_yes p xs n d (omega arith) t in (n, omega arith, t, omega arith))
+      | inr f ↦ (let e = count_by_more_no p xs n d (omega arith) f in absurd (omega arith))
     ]
   ]
-
-  -- each count below the whole is that before one that passes
-  counted_at : (xs : List X) (r : ℕ) → r < count_by p (take (length xs) xs) → Counts xs r
-  counted_at xs r l = elim (counted_find xs r (length xs) (omega arith)) [ inl h ↦ absurd (omega arith) | inr f ↦ f ]
 
 module _ (hs : List FacetSide) where
   -- is the corner of this kind l?
@@ -69,11 +59,14 @@ module _ (hs : List FacetSide) where
       let e = balanced b ends l in let a = ap (count_by (meets (not ends) l)) (take_all i hs n) in omega arith
 
   -- so each has a mate
-  has_mate : IsBalanced hs → (ends : Bool) (j : ℕ) → j < length hs → (i : ℕ) × IsMate hs ends j i
-  has_mate b ends j l =
-      let c = corner ends (side_at hs j) in
-      let r = counted_at (meets (not ends) c) no_side hs (rank hs ends c j) (rank_below b ends j (length hs) c l refl (omega arith)) in
-      (r.0, record { inside = r.1; meets = eqb-true (corner (not ends) (side_at hs r.0)) c r.2; rank = r.3 })
+  pub has_mate : IsBalanced hs → (ends : Bool) (j : ℕ) → (i : ℕ) × (j < length hs → IsMate hs ends j i)
+  has_mate b ends j = elim (cases_lt j (length hs)) [
+    | inl l ↦ (let c = corner ends (side_at hs j) in
+        let r = counted_at (meets (not ends) c) no_side hs (rank hs ends c j) (length hs) (omega arith)
+        (rank_below b ends j (length hs) c l refl (omega arith)) in
+        (r.0, λ _. record { inside = r.1; meets = eqb-true (corner (not ends) (side_at hs r.0)) c r.2; rank = r.3 }))
+    | inr h ↦ (0, λ l. absurd (omega arith))
+  ]
 
   -- and no other
   pub mate_only : (ends : Bool) (j i i' : ℕ) → IsMate hs ends j i → IsMate hs ends j i' → i ≡ i'
@@ -83,14 +76,20 @@ module _ (hs : List FacetSide) where
       (eq-eqb (corner (not ends) (side_at hs i')) c m'.meets) (m.rank ∙ sym m'.rank)
 
   -- whose mate it is
-  pub mate_back : (ends : Bool) (j i : ℕ) → j < length hs → IsMate hs ends j i → IsMate hs (not ends) i j
+  mate_back : (ends : Bool) (j i : ℕ) → j < length hs → IsMate hs ends j i → IsMate hs (not ends) i j
   mate_back true j i l m = record { inside = l; meets = sym m.meets; rank = rw m.meets (sym m.rank) }
   mate_back false j i l m = record { inside = l; meets = sym m.meets; rank = rw m.meets (sym m.rank) }
+
+  pub mate_twice : (b : IsBalanced hs) (ends : Bool) (j : ℕ) → j < length hs
+      → (has_mate b (not ends) (has_mate b ends j).0).0 ≡ j
+  mate_twice b ends j l =
+      let i = (has_mate b ends j).0 in let m = (has_mate b ends j).1 l in let k = has_mate b (not ends) i in
+      mate_only (not ends) i k.0 j (k.1 m.inside) (mate_back ends j i l m)
 
   -- the table names it
   pub mate_noted : (ss : List Slot) → IsBalanced hs → AreNoted ss hs → (ends : Bool) (j l : ℕ) → j < length hs
       → l ≡ corner ends (side_at hs j)
       → IsMate hs ends j (noted ss (not ends) l)
   mate_noted ss b n ends j l i q =
-      let m = has_mate b ends j i in
-      subst (IsMate hs ends j) (sym (n (not ends) m.0 m.1.inside).1 ∙ ap (noted ss (not ends)) (m.1.meets ∙ sym q)) m.1
+      let m = has_mate b ends j in let h = m.1 i in
+      subst (IsMate hs ends j) (sym (n (not ends) m.0 h.inside).1 ∙ ap (noted ss (not ends)) (h.meets ∙ sym q)) h

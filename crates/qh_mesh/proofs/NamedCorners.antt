@@ -1,16 +1,16 @@
 -- A surface stays one where its corners get other names.
 use Rattle.std.proofs.Common.{◌≡◌, ℕ, zero, suc, ◌/◌, ap, sym, ◌∙◌, refl, List, [], ◌∷◌, map, reverse}
-use Rattle.std.proofs.lemmas.List.{length-map, get_or-map}
-use Rattle.qh_model.specs.contract.Surface.{Side, start, end}
-use Rattle.qh_model.specs.contract.Surface.Side.{first, second, third}
-use Rattle.qh_model.specs.contract.StoredSurface.{named_facet, StoredFacet, facet_at, no_facet, surface_of}
+use Rattle.std.proofs.lemmas.List.{length-map}
+use Rattle.qh_model.specs.contract.StoredSurface.{named_facet, StoredFacet, facet_at}
+use Rattle.qh_model.proofs.surfaces.Named.{stored_named, start_named, end_named}
 use Rattle.qh_mesh.specs.declared.facets.FacetNo.{FacetNo}
-use Rattle.qh_mesh.specs.contract.Replacement.{IsLive, side_of_edge}
+use Rattle.qh_mesh.specs.contract.Replacement.{IsLive, side_of_edge, edge_start, edge_end, twin_of}
 use Rattle.qh_mesh.specs.steps.Kept.{is_live, outer_of}
 use Rattle.qh_mesh.specs.steps.Surfaces.{IsSurface}
-use Rattle.qh_mesh.specs.steps.Twins.{twin_at, HasTwins}
+use Rattle.qh_mesh.specs.steps.Twins.{HasTwins}
 use Rattle.qh_mesh.proofs.HorizonSides.{count-map}
-use Rattle.qh_mesh.proofs.Pools.{live_inside, pool_same}
+use Rattle.qh_mesh.proofs.Rewiring.{in_live}
+use Rattle.qh_mesh.proofs.Pools.{pool_same}
 
 module _ (name : ℕ → ℕ) where
   -- what a name doesn't touch is as it was
@@ -25,34 +25,27 @@ module _ (name : ℕ → ℕ) where
     abbrev named : List StoredFacet
     named = map (named_facet name) fs
 
-    module _ (f : ℕ) (l : IsLive fs f) where
-      -- a facet has the names of its corners
-      named_at : facet_at named f ≡ named_facet name (facet_at fs f)
-      named_at = get_or-map (named_facet name) fs f no_facet no_facet (live_inside fs f l)
+    -- a side starts and ends at the names of its ends
+    named_start : (e : ℕ) → IsLive fs (e / 3) → edge_start named e ≡ name (edge_start fs e)
+    named_start e l = start_named (stored_named name fs) (e / 3) (in_live fs (e / 3) l) (side_of_edge e)
 
-      corner : (part : StoredFacet → ℕ) → part (facet_at named f) ≡ part (named_facet name (facet_at fs f))
-      corner part = ap part named_at
+    named_end : (e : ℕ) → IsLive fs (e / 3) → edge_end named e ≡ name (edge_end fs e)
+    named_end e l = end_named (stored_named name fs) (e / 3) (in_live fs (e / 3) l) (side_of_edge e)
 
-      named_start : (s : Side) → start (surface_of named) f s ≡ name (start (surface_of fs) f s)
-      named_start = elim [ first ↦ corner (λ t. t.i) | second ↦ corner (λ t. t.j) | third ↦ corner (λ t. t.k) ]
-
-      named_end : (s : Side) → end (surface_of named) f s ≡ name (end (surface_of fs) f s)
-      named_end = elim [ first ↦ corner (λ t. t.j) | second ↦ corner (λ t. t.k) | third ↦ corner (λ t. t.i) ]
-
-    twin_stays : (f : ℕ) (s : Side) → twin_at named f s ≡ twin_at fs f s
-    twin_stays f s = part_stays (λ t. outer_of t s) fs f (λ t. refl)
+    twin_stays : (e : ℕ) → twin_of named e ≡ twin_of fs e
+    twin_stays e = part_stays (λ t. outer_of t (side_of_edge e)) fs (e / 3) (λ t. refl)
 
     live_stays : (f : ℕ) → (facet_at named f).live ≡ (facet_at fs f).live
     live_stays f = part_stays is_live fs f (λ t. refl)
 
     named_twins : HasTwins fs → HasTwins named
-    named_twins t f l s =
-        let m = sym (live_stays f) ∙ l in let h = t f m s in let x = twin_at fs f s in
+    named_twins t e l =
+        let m = sym (live_stays (e / 3)) ∙ l in let h = t e m in let x = twin_of fs e in
         record {
-          live = rw (twin_stays f s) (live_stays (x / 3) ∙ h.live);
-          back = rw (twin_stays f s) (twin_stays (x / 3) (side_of_edge x) ∙ h.back);
-          starts = rw (twin_stays f s) (named_start (x / 3) h.live (side_of_edge x) ∙ ap name h.starts ∙ sym (named_end f m s));
-          ends = rw (twin_stays f s) (named_end (x / 3) h.live (side_of_edge x) ∙ ap name h.ends ∙ sym (named_start f m s));
+          live = rw (twin_stays e) (live_stays (x / 3) ∙ h.live);
+          back = rw (twin_stays e) (twin_stays x ∙ h.back);
+          starts = rw (twin_stays e) (named_start x h.live ∙ ap name h.starts ∙ sym (named_end e m));
+          ends = rw (twin_stays e) (named_end x h.live ∙ ap name h.ends ∙ sym (named_start e m));
         }
 
     -- so the surface stays

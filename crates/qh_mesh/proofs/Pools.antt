@@ -2,7 +2,7 @@
 use Rattle.std.proofs.Common.{◌≡◌, ◌≢◌, ℕ, zero, suc, ◌+◌, ◌^◌, ◌<◌, ◌≤◌, inl, inr, max, arith, ap, sym, ◌∙◌, refl, subst, Bool, true}
 use Rattle.std.proofs.Common.{false, cond}
 use Rattle.std.proofs.Common.{List, [], ◌∷◌, ◌++◌, length, reverse, set}
-use Rattle.std.proofs.lemmas.Bool.{both_ways}
+use Rattle.std.proofs.lemmas.Bool.{both_ways, cases_lt}
 use Rattle.std.proofs.lemmas.List.{length_push, length-reverse, length-set, get_or_past, get_or-set_same, get_or-set_other}
 use Rattle.std.proofs.lemmas.List.{append_assoc, reverse-append, append-nil}
 use Rattle.std.proofs.lemmas.List.Sums.{sum_by-cons, sum_by-set, sum_by_push}
@@ -11,17 +11,15 @@ use Rattle.qh_model.specs.contract.StoredSurface.{StoredFacet, facet_at, no_face
 use Rattle.qh_model.proofs.lists.Joined.{of_append, once_append}
 use Rattle.qh_mesh.specs.declared.facets.FacetNo.{FacetNo}
 use Rattle.qh_mesh.specs.declared.facets.FacetSide.{FacetSide}
-use Rattle.qh_mesh.specs.contract.Replacement.{IsLive, number}
+use Rattle.qh_mesh.specs.contract.Replacement.{IsLive}
 use Rattle.qh_mesh.specs.steps.Cones.{Joined}
 use Rattle.qh_mesh.specs.steps.Kept.{is_live}
-use Rattle.qh_mesh.specs.steps.Places.{IsPool, live_count}
+use Rattle.qh_mesh.specs.steps.Places.{IsPool, IsVacant, live_count}
 use Rattle.qh_mesh.specs.steps.Rebuilt.{IsReady}
-use Rattle.qh_mesh.proofs.NumberCases.{order}
-use Rattle.qh_mesh.proofs.Pigeonhole.{pigeon}
 
 -- a live facet has a place
 pub live_inside : (fs : List StoredFacet) (f : ℕ) → IsLive fs f → f < length fs
-live_inside fs f l = elim (order f (length fs)) [
+live_inside fs f l = elim (cases_lt f (length fs)) [
   | inl h ↦ h
   | inr h ↦ absurd (both_ways (facet_at fs f).live (ap is_live (get_or_past fs f no_facet h)) l)
 ]
@@ -33,8 +31,7 @@ module _ (fs : List StoredFacet) (v : ℕ) (t : StoredFacet) where
   count_set b c l e d = rw (← e, ← d) (sum_by-set (λ t. cond (is_live t) 1 0) fs v t no_facet l)
 
   -- and leaves vacant what was
-  vacant_set : (w : ℕ) → w ≢ v → (w < length fs) × ((facet_at fs w).live ≡ false)
-      → (w < length (set fs v t)) × ((facet_at (set fs v t) w).live ≡ false)
+  vacant_set : (w : ℕ) → w ≢ v → IsVacant fs w → IsVacant (set fs v t) w
   vacant_set w n h = (rw (length-set fs v t) h.0, ap is_live (get_or-set_other fs v w t no_facet n) ∙ h.1)
 
 module _ (fs : List StoredFacet) (places : List FacetNo) (v : FacetNo) (t : StoredFacet) where
@@ -43,7 +40,7 @@ module _ (fs : List StoredFacet) (places : List FacetNo) (v : FacetNo) (t : Stor
   pool_more q l e = record {
     once = ((λ i. apart v i refl), q.once);
     vacant = λ w. elim [
-      | inl d ↦ subst (λ (u : FacetNo). (u.0 < length (set fs v.0 t)) × ((facet_at (set fs v.0 t) u.0).live ≡ false)) (sym d)
+      | inl d ↦ subst (λ (u : FacetNo). IsVacant (set fs v.0 t) u.0) (sym d)
           (rw (length-set fs v.0 t) inside, ap is_live (get_or-set_same fs v.0 t no_facet inside) ∙ e)
       | inr i ↦ vacant_set fs v.0 t w.0 (apart w i) (q.vacant w i)
     ];
@@ -78,10 +75,9 @@ pub pool_joined : (old new : List StoredFacet) (hs : List FacetSide) (made place
     → IsPool old places → IsPool new places
 pool_joined old new hs made places k j q = pool_same old new places j.len (λ f. ap is_live (j.same f)) j.count q
 
--- and there are no more facets of a cone than places
+-- and there are no more facets of a cone than numbers of places
 pub few_made : (fs : List StoredFacet) (hs : List FacetSide) (made : List FacetNo) → IsReady fs hs made → length hs < 2 ^ 32
-few_made fs hs made r =
-    let n = pigeon (length fs) (length made) (number made) r.made_in r.made_apart in let e = r.len in let s = r.small in omega arith
+few_made fs hs made r = let l = r.places in let e = r.len in let s = r.small in omega arith
 
 -- a free place is given out
 pub pool_pops : (fs : List StoredFacet) (made free : List FacetNo) (p : FacetNo) → IsPool fs (made ++ reverse (free ++ p ∷ []))
@@ -128,4 +124,4 @@ pub places_are : (fs : List StoredFacet) (free : List FacetNo) (n : ℕ) → IsP
     → length fs ≡ max n (length (surface_of fs).live)
 places_are fs free n q l h =
     let c = q.count in let e : length (surface_of fs).live ≡ live_count fs = live_len 0 fs in let r = length-reverse free in
-    elim (order 0 (length free)) [ inl k ↦ (let m = h k in omega arith) | inr k ↦ omega arith ]
+    elim (cases_lt 0 (length free)) [ inl k ↦ (let m = h k in omega arith) | inr k ↦ omega arith ]

@@ -17,9 +17,9 @@ use Rattle.qh_mesh.specs.declared.facets.FacetNo.{FacetNo}
 use Rattle.qh_mesh.specs.contract.Replacement.{number, is_listed, horizon, side_of_edge, edge_end, twin_of}
 use Rattle.qh_mesh.specs.contract.Replacement.{IsLive, AreFacets, IsCone, IsKept, IsReplacement}
 use Rattle.qh_mesh.specs.contract.SoundMesh.{facet_vol, IsSoundMesh, AreVisible}
-use Rattle.qh_mesh.specs.steps.Twins.{twin_at, HasTwins}
-pub use Rattle.qh_mesh.specs.steps.Twins.{edge_of}
-pub use Rattle.qh_mesh.proofs.EdgeSides.{edge-facet, edge-side, edge_is, start-is, end-is, twin-is, over-is, back-is}
+use Rattle.qh_mesh.specs.steps.Kept.{outer_of}
+use Rattle.qh_mesh.specs.steps.Twins.{edge_of, HasTwins}
+use Rattle.qh_mesh.proofs.EdgeSides.{edge-facet, edge-side, edge_is, start-is, end-is, twin-is, over-is, back-is}
 use Rattle.qh_mesh.proofs.HorizonSides.{edge, on_horizon, horizon_at, same_place}
 use Rattle.qh_mesh.proofs.ListedFacets.{listed_at, listed_live}
 
@@ -33,20 +33,20 @@ module _ (fs : List StoredFacet) (f : ℕ) where
   in_live l = (live_is_marked fs f).1 l
 
 module _ (fs : List StoredFacet) (f : ℕ) (s : Side) where
-  -- what lies over a side, by its twin
-  links : (g : ℕ) (t : Side) → twin_at fs f s ≡ edge_of g t → LinksTo (surface_of fs) f s g t
-  links g t e = record {
-    over_is = over-is fs f s ∙ ap (λ v. v / 3) e ∙ edge-facet g t;
-    back_is = back-is fs f s ∙ ap side_of_edge e ∙ edge-side g t;
-  }
-
-  -- the twin is the edge that lies over the side
-  twin-edge : edge_of ((surface_of fs).over f s) ((surface_of fs).back f s) ≡ twin_at fs f s
-  twin-edge = (λ i. edge_of (over-is fs f s i) (back-is fs f s i)) ∙ edge_is (twin_at fs f s)
-
-  -- the neighbour is the facet of the edge's twin
+  -- the neighbour is the facet of the twin
   over-twin : (surface_of fs).over f s ≡ twin_of fs (edge_of f s) / 3
   over-twin = over-is fs f s ∙ ap (λ v. v / 3) (sym (twin-is fs f s))
+
+  -- and the twin is the edge that lies over the side
+  twin-edge : twin_of fs (edge_of f s) ≡ edge_of ((surface_of fs).over f s) ((surface_of fs).back f s)
+  twin-edge = twin-is fs f s ∙ sym ((λ i. edge_of (over-is fs f s i) (back-is fs f s i)) ∙ edge_is (outer_of (facet_at fs f) s))
+
+  -- what lies over a side, by its twin
+  links : (g : ℕ) (t : Side) → twin_of fs (edge_of f s) ≡ edge_of g t → LinksTo (surface_of fs) f s g t
+  links g t e = record {
+    over_is = over-twin ∙ ap (λ v. v / 3) e ∙ edge-facet g t;
+    back_is = back-is fs f s ∙ ap side_of_edge (sym (twin-is fs f s) ∙ e) ∙ edge-side g t;
+  }
 
 -- how far a point is above a facet is the volume with it
 pub rise-vol : (at : ℕ → Vector) (fs : List StoredFacet) (f p : ℕ)
@@ -105,7 +105,7 @@ module _ (place : ℕ → Vector) (old new : List StoredFacet) (vs : List FacetN
         live = in_live old (e / 3) live;
         seen = listed_seen place old vs p (e / 3) d.visible live h.0;
         blind = subst IsBlind (sym (over-is old (e / 3) (side_of_edge e)))
-            (unlisted_blind place old vs p (twin_of old e / 3) d.visible (d.twins (e / 3) live (side_of_edge e)).live h.1);
+            (unlisted_blind place old vs p (twin_of old e / 3) d.visible (d.twins e live).live h.1);
       }
 
   -- where a neighbour is blind, it is not listed
@@ -157,8 +157,8 @@ module _ (place : ℕ → Vector) (old new : List StoredFacet) (vs : List FacetN
       → twin_of new (edge_of f s) ≡ edge_of (over (m.over f s) (m.back f s)) first
   outward f s i b v =
       let t = d.sound.0 f i s in
-      let x = ap (twin_of old) (twin-edge old f s) ∙ (d.twins f (live_in old f i) s).back in
-      ap (twin_of new) (sym x)
+      let l = subst (IsLive old) (sym (edge-facet f s)) (live_in old f i) in
+      ap (twin_of new) (sym (ap (twin_of old) (sym (twin-edge old f s)) ∙ (d.twins (edge_of f s) l).back))
       ∙ (cone (m.over f s) (m.back f s) (record { live = t.live; seen = v; blind = subst IsBlind (sym t.returns) b })).inward
       ∙ omega arith
 
@@ -197,11 +197,11 @@ module _ (place : ℕ → Vector) (old new : List StoredFacet) (vs : List FacetN
         record { live = in_live new (over f s) c.live; i_is = i; j_is = j; k_is = c.third };
     inside = λ f s i b b'.
         let k = d.replaced.kept f (is_kept f i b) in
-        links new f s (m.over f s) (m.back f s)
-        (sym (twin-is new f s) ∙ k.twins (edge_of f s) (edge-facet f s) (over_unlisted f s i b')
-        ∙ twin-is old f s ∙ sym (twin-edge old f s));
-    outside = λ f s i b v. links new f s (over (m.over f s) (m.back f s)) first (sym (twin-is new f s) ∙ outward f s i b v);
-    base = λ f s e. links new (over f s) first (m.over f s) (m.back f s) ((cone f s e).outward ∙ twin-is old f s ∙ sym (twin-edge old f s));
-    next = λ f s g t e e' q. links new (over f s) second (over g t) third (next_twin f s g t e e' q).0;
-    prev = λ f s g t e e' q. links new (over f s) third (over g t) second (next_twin g t f s e' e (sym q)).1;
+        links new f s (m.over f s) (m.back f s) (k.twins (edge_of f s) (edge-facet f s) (over_unlisted f s i b') ∙ twin-edge old f s);
+    outside = λ f s i b v. links new f s (over (m.over f s) (m.back f s)) first (outward f s i b v);
+    base = λ f s e. links new (over f s) first (m.over f s) (m.back f s)
+        (twin-is new (over f s) first ∙ (cone f s e).outward ∙ twin-edge old f s);
+    next = λ f s g t e e' q. links new (over f s) second (over g t) third (twin-is new (over f s) second ∙ (next_twin f s g t e e' q).0);
+    prev = λ f s g t e e' q. links new (over f s) third (over g t) second
+        (twin-is new (over f s) third ∙ (next_twin g t f s e' e (sym q)).1);
   }

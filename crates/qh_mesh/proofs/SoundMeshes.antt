@@ -1,82 +1,30 @@
 -- Meshes that are sound: the simplex, what a step leaves, and that both close up.
-use Rattle.std.proofs.Common.{◌≡◌, ℕ, zero, suc, arith, rules, refl, [], ◌≢◌, ◌/◌, ap, sym, ◌∙◌, inl, inr, List, ◌∷◌, subst}
+use Rattle.std.proofs.Common.{◌≡◌, ℕ, arith, refl, [], ◌≢◌, sym, inl, inr, List, ◌∷◌, subst}
 use Rattle.std.specs.Prelude.{ℤ, pos, ◌+ℤ◌, ◌<ℤ◌, ◌≤ℤ◌}
 use Rattle.std.proofs.lemmas.Bool.{cases_Bool}
 use Rattle.std.proofs.lemmas.Int.{ints, by_lt_z}
 use Rattle.qh_model.specs.contract.ClosedSurface.{signed_volume, triples_of, triples_from}
 use Rattle.qh_model.specs.contract.FinishedSurface.{weighted_at, middle_at, IsFinished}
-use Rattle.qh_model.specs.contract.Rewired.{KeepsCorners}
-use Rattle.qh_model.specs.contract.SoundSurface.{IsSound, drawn}
 use Rattle.qh_model.specs.contract.StoredSurface.{StoredFacet, surface_of}
-use Rattle.qh_model.specs.contract.Surface.{Surface, start, end, IsCorner, IsWhole, rise}
+use Rattle.qh_model.specs.contract.Surface.{Surface}
 use Rattle.qh_model.specs.contract.Surface.Side.{first, second, third}
-use Rattle.qh_model.specs.contract.Weighted.{Weighted, weighted, above, middle_of}
+use Rattle.qh_model.specs.contract.Weighted.{Weighted, weighted, middle_of}
 use Rattle.qh_model.specs.headline.Predicates.{vol}
 use Rattle.qh_model.specs.headline.Sets.{In}
 use Rattle.qh_model.specs.headline.Vector.{Vector}
 use Rattle.qh_model.specs.laws.SimplexSurface.{simplex_surface}
 use Rattle.qh_model.proofs.algebra.VectorIdentities.{vol-flip_last}
 use Rattle.qh_model.proofs.surfaces.Closed.{sound_is_closed, sound_has_volume}
+use Rattle.qh_model.proofs.surfaces.Named.{IsNamed, sound_named, whole_named}
 use Rattle.qh_model.proofs.surfaces.Rewired.{replace_keeps}
-use Rattle.qh_model.proofs.surfaces.Simplex.{simplex_sound}
+use Rattle.qh_model.proofs.surfaces.Simplex.{four, simplex_sound}
 use Rattle.qh_model.proofs.surfaces.Stored.{live_is_listed_once}
 use Rattle.qh_model.proofs.surfaces.SurfaceLaws.{rise_is_vol}
 use Rattle.qh_mesh.specs.contract.Replacement.{number, is_listed, IsLive}
 use Rattle.qh_mesh.specs.contract.SoundMesh.{simplex_facets, facet_vol, IsSoundMesh, IsClosedMesh}
 use Rattle.qh_mesh.specs.declared.facets.FacetNo.{FacetNo}
-use Rattle.qh_mesh.specs.steps.Twins.{HasTwins, twin_at}
-use Rattle.qh_mesh.proofs.EdgeSides.{edge-facet, over-is, back-is}
 use Rattle.qh_mesh.proofs.Rewiring.{live_in, in_live, IsStep, rewired}
 
--- each of its twelve sides has its twin
-pub simplex_twins : (a b c d : ℕ) → HasTwins (simplex_facets a b c d)
-simplex_twins a b c d zero l = elim [ first ↦ search rules | second ↦ search rules | third ↦ search rules ]
-simplex_twins a b c d (suc zero) l = elim [ first ↦ search rules | second ↦ search rules | third ↦ search rules ]
-simplex_twins a b c d (suc (suc zero)) l = elim [ first ↦ search rules | second ↦ search rules | third ↦ search rules ]
-simplex_twins a b c d (suc (suc (suc zero))) l = elim [ first ↦ search rules | second ↦ search rules | third ↦ search rules ]
-simplex_twins a b c d (suc (suc (suc (suc f)))) l = absurd (cc)
-
--- facets with twins are a whole surface
-pub whole_of : (fs : List StoredFacet) → HasTwins fs → IsWhole (surface_of fs)
-whole_of fs t f i s =
-    let h = t f (live_in fs f i) s in let m = surface_of fs in
-    record {
-      live = in_live fs (m.over f s) (subst (IsLive fs) (sym (over-is fs f s)) h.live);
-      start_is = (λ k. start m (over-is fs f s k) (back-is fs f s k)) ∙ h.starts;
-      end_is = (λ k. end m (over-is fs f s k) (back-is fs f s k)) ∙ h.ends;
-      returns = over-is fs (m.over f s) (m.back f s) ∙ ap (λ v. v / 3) ((λ k. twin_at fs (over-is fs f s k) (back-is fs f s k)) ∙ h.back)
-          ∙ edge-facet f s;
-    }
-
--- ---- sound
-module _ (m m' : Surface) (k : (f : ℕ) → In f m'.live → KeepsCorners m' m f) where
-  -- a point is as far above a facet with the same corners
-  rise-same : (at : ℕ → Weighted) (f : ℕ) (y : Weighted) (i : In f m'.live) → rise m at f y ≡ rise m' at f y
-  rise-same at f y i = λ j. above (at ((k f i).i_is j)) (at ((k f i).j_is j)) (at ((k f i).k_is j)) y
-
-  -- a corner after is a corner before, and the other way round
-  corner_to : (f l : ℕ) → In f m'.live → IsCorner m' f l → IsCorner m f l
-  corner_to f l i = let c = k f i in
-      elim [ inl e ↦ inl (e ∙ sym c.i_is) | inr (inl e) ↦ inr (inl (e ∙ sym c.j_is)) | inr (inr e) ↦ inr (inr (e ∙ sym c.k_is)) ]
-
-  corner_from : (f l : ℕ) → In f m'.live → IsCorner m f l → IsCorner m' f l
-  corner_from f l i = let c = k f i in
-      elim [ inl e ↦ inl (e ∙ c.i_is) | inr (inl e) ↦ inr (inl (e ∙ c.j_is)) | inr (inr e) ↦ inr (inr (e ∙ c.k_is)) ]
-
-  -- a surface whose facets have the corners of a sound one's is sound
-  sound_as : (home : ℕ → Weighted) (o : Weighted) → IsSound m home o → IsSound m' home o
-  sound_as home o z = record {
-    inner = λ f i. subst (λ v. v <ℤ pos 0) (rise-same home f o i) (z.inner f (k f i).live);
-    distinct = λ f g i j c. z.distinct f g (k f i).live (k g j).live (λ l d. corner_to g l j (c l (corner_from f l i d)));
-    lifted = record {
-      h = z.lifted.h;
-      from = z.lifted.from;
-      strict = λ n e f g i j l c u. subst (λ v. v <ℤ pos 0) (rise-same (drawn home o z.lifted.h n) f (drawn home o z.lifted.h n l) i)
-          (z.lifted.strict n e f g (k f i).live (k g j).live l (corner_to g l j c) (λ d. u (corner_from f l i d)));
-    };
-  }
-
--- ---- closed
 -- a sound mesh with a facet is closed
 pub closed_of : (at : ℕ → Vector) (fs : List StoredFacet) (s t u v f : ℕ) → IsLive fs f → IsSoundMesh at fs (middle_at at s t u v)
     → IsClosedMesh at fs
@@ -95,22 +43,34 @@ below_zero : (x : ℤ) → x ≢ pos 0 → (pos 0 <ℤ x → ⊥) → x <ℤ pos
 below_zero x n l = by_lt_z (pos 0) x (λ h. absurd (l h)) (λ h. omega (arith, ints))
 
 module _ (at : ℕ → Vector) (a b c d : ℕ) where
-  -- it has the corners of the law's
-  simplex_keeps : (f : ℕ) → In f (surface_of (simplex_facets a b c d)).live
-      → KeepsCorners (surface_of (simplex_facets a b c d)) (simplex_surface a b c d) f
-  simplex_keeps zero i = record { live = i; i_is = refl; j_is = refl; k_is = refl }
-  simplex_keeps (suc zero) i = record { live = i; i_is = refl; j_is = refl; k_is = refl }
-  simplex_keeps (suc (suc zero)) i = record { live = i; i_is = refl; j_is = refl; k_is = refl }
-  simplex_keeps (suc (suc (suc zero))) i = record { live = i; i_is = refl; j_is = refl; k_is = refl }
-  simplex_keeps (suc (suc (suc (suc f)))) i = let l = live_in (simplex_facets a b c d) (suc (suc (suc (suc f)))) i in absurd (cc)
+  abbrev law : Surface
+  law = simplex_surface a b c d
+
+  abbrev stored : Surface
+  stored = surface_of (simplex_facets a b c d)
+
+  -- its facets are those of the law's, by computing
+  simplex_named : IsNamed law stored (λ l. l)
+  simplex_named = record {
+    live = refl;
+    i_is = four (λ f. stored.i f ≡ law.i f) refl refl refl refl;
+    j_is = four (λ f. stored.j f ≡ law.j f) refl refl refl refl;
+    k_is = four (λ f. stored.k f ≡ law.k f) refl refl refl refl;
+    over_is = λ f s. four (λ f. stored.over f s ≡ law.over f s) refl refl refl refl f;
+    back_is = λ f. elim [
+      | first ↦ four (λ f. stored.back f first ≡ law.back f first) refl refl refl refl f
+      | second ↦ four (λ f. stored.back f second ≡ law.back f second) refl refl refl refl f
+      | third ↦ four (λ f. stored.back f third ≡ law.back f third) refl refl refl refl f
+    ];
+  }
 
   -- with volume below 0 it is sound around its middle
   below_is_sound : vol (at a) (at b) (at c) (at d) <ℤ pos 0 → IsSoundMesh at (simplex_facets a b c d) (middle_at at a b c d)
-  below_is_sound h = (
-    whole_of (simplex_facets a b c d) (simplex_twins a b c d),
-    sound_as (simplex_surface a b c d) (surface_of (simplex_facets a b c d)) simplex_keeps (weighted_at at) (middle_at at a b c d)
-        (simplex_sound (weighted_at at) a b c d (subst (λ v. v <ℤ pos 0) (sym (rise_is_vol (at a) (at b) (at c) (at d))) h)).1,
-  )
+  below_is_sound h =
+      let below = subst (λ v. v <ℤ pos 0) (sym (rise_is_vol (at a) (at b) (at c) (at d))) h in
+      let z = simplex_sound (weighted_at at) a b c d below in let home = weighted_at at in
+      (whole_named simplex_named z.0,
+      sound_named simplex_named home home (middle_at at a b c d) (λ l. l) (λ f i l c. refl) (λ f i l c. refl) z.1)
 
   -- so it is with volume that is neither 0 nor above, and closed
   module _ (n : vol (at a) (at b) (at c) (at d) ≢ pos 0) (h : pos 0 <ℤ vol (at a) (at b) (at c) (at d) → ⊥) where

@@ -15,8 +15,12 @@ Removed old new vs k = Scattered no_facet old new (number vs) (λ j t. t ≡ rem
 abbrev pub live_count : List StoredFacet → ℕ
 live_count fs = count_by is_live fs
 
+-- the place is one of no facet
+abbrev pub IsVacant : List StoredFacet → ℕ → Type 0
+IsVacant fs f = (f < length fs) × ((facet_at fs f).live ≡ false)
+
 -- the list has the places of no facet, each once
 pub record IsPool (fs : List StoredFacet) (places : List FacetNo) : Type 0 where
   pub once : Once places
-  pub vacant : (v : FacetNo) → In v places → (v.0 < length fs) × ((facet_at fs v.0).live ≡ false)
+  pub vacant : (v : FacetNo) → In v places → IsVacant fs v.0
   pub count : live_count fs + length places ≡ length fs

@@ -43,6 +43,7 @@ pub record IsConed (chosen new : List StoredFacet) (hs : List FacetSide) (made :
 
 -- what the last steps need: a balanced horizon, facets across it, and places for the cone
 pub record IsReady (chosen : List StoredFacet) (hs : List FacetSide) (made : List FacetNo) : Type 0 where
+  pub places : length made ≤ length chosen
   pub small : 3 * length chosen < 2 ^ 32
   pub balanced : IsBalanced hs
   pub len : length made ≡ length hs

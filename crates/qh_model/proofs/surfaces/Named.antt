@@ -43,13 +43,13 @@ module _ {m m' : Surface} {name : ℕ → ℕ} (r : IsNamed m m' name) where
   live_named f = subst (In f) r.live
 
   -- where a side starts
-  start_named : (f : ℕ) → In f m.live → (s : Side) → start m' f s ≡ name (start m f s)
+  pub start_named : (f : ℕ) → In f m.live → (s : Side) → start m' f s ≡ name (start m f s)
   start_named f i first = r.i_is f i
   start_named f i second = r.j_is f i
   start_named f i third = r.k_is f i
 
   -- and ends
-  end_named : (f : ℕ) → In f m.live → (s : Side) → end m' f s ≡ name (end m f s)
+  pub end_named : (f : ℕ) → In f m.live → (s : Side) → end m' f s ≡ name (end m f s)
   end_named f i first = r.j_is f i
   end_named f i second = r.k_is f i
   end_named f i third = r.i_is f i

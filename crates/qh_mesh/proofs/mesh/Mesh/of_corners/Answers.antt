@@ -1,0 +1,24 @@
+use Rattle.std.proofs.Common.{ℕ, zero, suc, rules, ◌∙◌}
+use Rattle.qh_model.specs.contract.Surface.{Side}
+use Rattle.qh_model.specs.contract.Surface.Side.{first, second, third}
+use Rattle.qh_mesh.specs.contract.Replacement.{IsLive}
+use Rattle.qh_mesh.specs.contract.SoundMesh.{simplex_facets}
+use Rattle.qh_mesh.specs.steps.Twins.{edge_of, HasTwin}
+use Rattle.qh_mesh.proofs.EdgeSides.{twins_by_side}
+use Rattle.qh_mesh.proofs.mesh.Mesh.of_corners.Goals as goal
+
+-- each of the twelve sides has its twin
+twelve : (a b c d f : ℕ) → IsLive (simplex_facets a b c d) f → (s : Side) → HasTwin (simplex_facets a b c d) (edge_of f s)
+twelve a b c d zero l = elim [ first ↦ search rules | second ↦ search rules | third ↦ search rules ]
+twelve a b c d (suc zero) l = elim [ first ↦ search rules | second ↦ search rules | third ↦ search rules ]
+twelve a b c d (suc (suc zero)) l = elim [ first ↦ search rules | second ↦ search rules | third ↦ search rules ]
+twelve a b c d (suc (suc (suc zero))) l = elim [ first ↦ search rules | second ↦ search rules | third ↦ search rules ]
+twelve a b c d (suc (suc (suc (suc f)))) l = absurd (cc)
+
+pub invariant_of-result : goal.invariant_of-result
+invariant_of-result c = record {
+  twins = rw (c.in-Ok.ensures.items ∙ c.four-four.ensures)
+      (twins_by_side (simplex_facets _ _ _ _) (twelve _ _ _ _));
+  pool = search rules;
+  small = search rules;
+}
