@@ -1,9 +1,10 @@
 -- Half-edges by their facet and side.
-use Rattle.std.proofs.Common.{◌≡◌, ℕ, zero, suc, ◌/◌, ◌%◌, ◌<◌, arith, ap, refl, subst, List}
+use Rattle.std.proofs.Common.{◌≡◌, ℕ, zero, suc, ◌/◌, ◌%◌, ◌<◌, arith, ap, ◌∙◌, refl, subst, List}
 use Rattle.qh_model.specs.contract.Simplex.{one_of}
 use Rattle.qh_model.specs.contract.Surface.{Side, start, end}
 use Rattle.qh_model.specs.contract.Surface.Side.{first, second, third}
 use Rattle.qh_model.specs.contract.StoredSurface.{StoredFacet, facet_at, surface_of}
+use Rattle.qh_mesh.specs.declared.facets.FacetSide.{FacetSide}
 use Rattle.qh_mesh.specs.contract.Replacement.{IsLive, side_of_edge, edge_start, edge_end, twin_of}
 use Rattle.qh_mesh.specs.steps.Horizons.{edge_side}
 use Rattle.qh_mesh.specs.steps.Kept.{outer_of, side_of}
@@ -42,12 +43,9 @@ module _ (fs : List StoredFacet) (f : ℕ) (s : Side) where
   pub end-is : edge_end fs (edge_of f s) ≡ end (surface_of fs) f s
   end-is = λ i. end (surface_of fs) (edge-facet f s i) (edge-side f s i)
 
-  -- its twin and what is noted of it, by its facet and side
+  -- its twin, by its facet and side
   pub twin-is : twin_of fs (edge_of f s) ≡ outer_of (facet_at fs f) s
   twin-is = λ i. outer_of (facet_at fs (edge-facet f s i)) (edge-side f s i)
-
-  pub noted-is : edge_side fs (edge_of f s) ≡ side_of (facet_at fs f) s
-  noted-is = λ i. side_of (facet_at fs (edge-facet f s i)) (edge-side f s i)
 
 module _ (fs : List StoredFacet) (f : ℕ) where
   -- the neighbour is the facet of the twin, and that side of it
@@ -57,9 +55,14 @@ module _ (fs : List StoredFacet) (f : ℕ) where
   pub back-is : (s : Side) → (surface_of fs).back f s ≡ side_of_edge (outer_of (facet_at fs f) s)
   back-is = elim [ first ↦ refl | second ↦ refl | third ↦ refl ]
 
-  -- a side starts and ends where the surface says
-  pub from-is : (s : Side) → (side_of (facet_at fs f) s).from ≡ start (surface_of fs) f s
-  from-is = elim [ first ↦ refl | second ↦ refl | third ↦ refl ]
+-- what is noted of an edge is that side of its facet
+pub side-is : (fs : List StoredFacet) (e : ℕ) → edge_side fs e ≡ side_of (facet_at fs (e / 3)) (side_of_edge e)
+side-is fs e = elim (side_of_edge e) as (λ s. let t = facet_at fs (e / 3) in let m = surface_of fs in
+    let is : FacetSide = record { from = start m (e / 3) s; to = end m (e / 3) s; outer = outer_of t s } in is ≡ side_of t s) [
+  | first ↦ refl
+  | second ↦ refl
+  | third ↦ refl
+]
 
-  pub to-is : (s : Side) → (side_of (facet_at fs f) s).to ≡ end (surface_of fs) f s
-  to-is = elim [ first ↦ refl | second ↦ refl | third ↦ refl ]
+pub noted-is : (fs : List StoredFacet) (f : ℕ) (s : Side) → edge_side fs (edge_of f s) ≡ side_of (facet_at fs f) s
+noted-is fs f s = side-is fs (edge_of f s) ∙ (λ i. side_of (facet_at fs (edge-facet f s i)) (edge-side f s i))

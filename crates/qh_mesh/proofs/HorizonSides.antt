@@ -16,15 +16,15 @@ use Rattle.qh_model.proofs.lists.Images.{of_map}
 use Rattle.qh_model.proofs.lists.OnceEach.{once_place, once_within}
 use Rattle.qh_model.proofs.renamed.Lists.{once_map}
 use Rattle.qh_mesh.specs.contract.Replacement.{number, at, sides_of, is_listed, horizon, side_of_edge, twin_of}
-use Rattle.qh_mesh.specs.contract.Replacement.{IsLive, AreFacets}
+use Rattle.qh_mesh.specs.contract.Replacement.{IsLive, AreFacets, IsKept}
 use Rattle.qh_mesh.specs.declared.facets.FacetNo.{FacetNo}
 use Rattle.qh_mesh.specs.declared.facets.FacetSide.{FacetSide}
 use Rattle.qh_mesh.specs.steps.Horizons.{corner, edge_side, IsBalanced, HasSidesInside, is_open, three_sides, open_sides}
 use Rattle.qh_mesh.specs.steps.Kept.{side_of, outer_of, is_live, removed}
 use Rattle.qh_mesh.specs.steps.Places.{Removed}
 use Rattle.qh_mesh.specs.steps.Surfaces.{IsSurface}
-use Rattle.qh_mesh.specs.steps.Twins.{edge_of, HasTwins}
-use Rattle.qh_mesh.proofs.EdgeSides.{edge-facet, twin-is, noted-is, from-is, to-is}
+use Rattle.qh_mesh.specs.steps.Twins.{edge_of, HasTwin, HasTwins}
+use Rattle.qh_mesh.proofs.EdgeSides.{edge-facet, twin-is, side-is, noted-is}
 use Rattle.qh_mesh.proofs.ListedFacets.{listed_live, in_sides, of_sides, once_of, once_sides, listed_at, listed_find}
 use Rattle.qh_mesh.proofs.Pools.{live_inside}
 
@@ -45,6 +45,12 @@ module _ (old : List StoredFacet) (vs : List FacetNo) where
   on_horizon j l =
       let r = of_filter leaves (sides_of vs) (edge j) (In-get_or (horizon old vs) j 0 l) in
       (of_sides vs (edge j) r.0, not-true (inner (edge j)) r.1)
+
+  -- so its twin is an edge of a facet that stays
+  pub horizon_twin : HasTwins old → AreFacets old vs → (j : ℕ) → j < length (horizon old vs)
+      → HasTwin old (edge j) × IsKept old vs (twin_of old (edge j) / 3)
+  horizon_twin t a j l =
+      let h = on_horizon j l in let q = t (edge j) (listed_live old vs a (edge j / 3) h.0) in (q, record { live = q.live; unlisted = h.1 })
 
   -- and each such edge is one of it
   pub horizon_at : (x : ℕ) → is_listed vs (x / 3) ≡ true → inner x ≡ false → (j : ℕ) × (j < length (horizon old vs)) × (edge j ≡ x)
@@ -107,11 +113,7 @@ module _ (fs : List StoredFacet) (l : ℕ) where
         paired e i m =
             let k = of_filter (inner fs vs) (sides_of vs) e i in let d = twin_of fs e in let l' = of_sides vs e k.0 in
             let g = t e (listed_live fs vs a (e / 3) l') in
-            let turned : corner (not ends) (edge_side fs d) ≡ corner ends (edge_side fs e) =
-            elim ends as (λ b. corner (not b) (edge_side fs d) ≡ corner b (edge_side fs e)) [
-              | true ↦ from-is fs (d / 3) (side_of_edge d) ∙ g.starts ∙ sym (to-is fs (e / 3) (side_of_edge e))
-              | false ↦ to-is fs (d / 3) (side_of_edge d) ∙ g.ends ∙ sym (from-is fs (e / 3) (side_of_edge e))
-            ] in (
+            let turned = elim ends as (λ b. corner (not b) (edge_side fs d) ≡ corner b (edge_side fs e)) [ true ↦ g.starts | false ↦ g.ends ] in (
               in_filter (inner fs vs) (sides_of vs) d (in_sides vs d k.1) (ap (λ x. is_listed vs (x / 3)) g.back ∙ l'),
               ap (λ c. nat_eq c l) turned ∙ m,
               g.back,
@@ -158,7 +160,8 @@ module _ (old cleared : List StoredFacet) (vs : List FacetNo) (r : Removed old c
     -- what is noted of a side of a listed facet, and that it is open where the facet across stays
     noted : (e : ℕ) → In e (sides_of vs) → (edge_side cleared e ≡ edge_side old e) × (is_open cleared (edge_side cleared e) ≡ leaves old vs e)
     noted e i =
-        let l = of_sides vs e i in let o = twin_of old e / 3 in let same = ap (λ t. side_of t (side_of_edge e)) (gone (e / 3) l) in
+        let l = of_sides vs e i in let o = twin_of old e / 3 in
+        let same = side-is cleared e ∙ ap (λ t. side_of t (side_of_edge e)) (gone (e / 3) l) ∙ sym (side-is old e) in
         (same, ap (is_open cleared) same ∙ elim (cases_Bool (inner old vs e)) [
           | inl h ↦ ap is_live (gone o h) ∙ sym (ap not h)
           | inr h ↦ ap is_live (stays o h) ∙ (s.twins e (listed_live old vs a (e / 3) l)).live ∙ sym (ap not h)

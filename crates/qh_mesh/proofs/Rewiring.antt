@@ -1,7 +1,7 @@
--- A replacement of what a point sees is one step of Quickhull.
+-- After a replacement twins pair off again, and one of what a point sees is a step of Quickhull.
 use Rattle.std.proofs.Common.{◌≡◌, ℕ, ◌/◌, ◌<◌, ◌⊎◌, arith, ap, sym, ◌∙◌, refl, true, false, inl, inr, List, length, subst}
-use Rattle.std.specs.Prelude.{pos, ◌<ℤ◌, ◌≤ℤ◌}
-use Rattle.std.proofs.lemmas.Bool.{cases_Bool}
+use Rattle.std.specs.Prelude.{pos}
+use Rattle.std.proofs.lemmas.Bool.{cases_Bool, true_from_ne_false, false_from_ne_true}
 use Rattle.qh_model.specs.headline.Vector.{Vector}
 use Rattle.qh_model.specs.headline.Sets.{In}
 use Rattle.qh_model.specs.contract.Weighted.{Weighted}
@@ -14,13 +14,13 @@ use Rattle.qh_model.proofs.surfaces.Stored.{live_is_marked}
 use Rattle.qh_model.proofs.surfaces.SurfaceLaws.{rise_is_vol, horizon_is_known}
 use Rattle.qh_model.proofs.algebra.Signs.{not_less}
 use Rattle.qh_mesh.specs.declared.facets.FacetNo.{FacetNo}
-use Rattle.qh_mesh.specs.contract.Replacement.{number, is_listed, horizon, side_of_edge, edge_end, twin_of}
-use Rattle.qh_mesh.specs.contract.Replacement.{IsLive, AreFacets, IsCone, IsKept, IsReplacement}
+use Rattle.qh_mesh.specs.contract.Replacement.{number, is_listed, horizon, side_of_edge, edge_start, edge_end, twin_of}
+use Rattle.qh_mesh.specs.contract.Replacement.{IsLive, AreFacets, IsCone, IsKept, StaysFacet, IsReplacement}
 use Rattle.qh_mesh.specs.contract.SoundMesh.{facet_vol, IsSoundMesh, AreVisible}
 use Rattle.qh_mesh.specs.steps.Kept.{outer_of}
-use Rattle.qh_mesh.specs.steps.Twins.{edge_of, HasTwins}
-use Rattle.qh_mesh.proofs.EdgeSides.{edge-facet, edge-side, edge_is, start-is, end-is, twin-is, over-is, back-is}
-use Rattle.qh_mesh.proofs.HorizonSides.{edge, on_horizon, horizon_at, same_place}
+use Rattle.qh_mesh.specs.steps.Twins.{edge_of, HasTwin, HasTwins}
+use Rattle.qh_mesh.proofs.EdgeSides.{edge-facet, edge-side, edge_is, twins_by_side, start-is, end-is, twin-is, over-is, back-is}
+use Rattle.qh_mesh.proofs.HorizonSides.{edge, on_horizon, horizon_twin, horizon_at, same_place}
 use Rattle.qh_mesh.proofs.ListedFacets.{listed_at, listed_live}
 
 module _ (fs : List StoredFacet) (f : ℕ) where
@@ -53,30 +53,78 @@ pub rise-vol : (at : ℕ → Vector) (fs : List StoredFacet) (f p : ℕ)
     → rise (surface_of fs) (weighted_at at) f (weighted_at at p) ≡ facet_vol at fs f (at p)
 rise-vol at fs f p = rise_is_vol (at (facet_at fs f).i) (at (facet_at fs f).j) (at (facet_at fs f).k) (at p)
 
-module _ (place : ℕ → Vector) (fs : List StoredFacet) (vs : List FacetNo) (p f : ℕ) (v : AreVisible place fs vs p) (l : IsLive fs f) where
-  abbrev Seen : Type 0
-  Seen = Sees (surface_of fs) (weighted_at place) f (weighted_at place p)
+-- ---- twins
+module _ (old new : List StoredFacet) (vs : List FacetNo) (apex : ℕ) (made : List FacetNo) (t : HasTwins old) (a : AreFacets old vs)
+    (r : IsReplacement old new vs apex made) where
+  -- edges of live facets that are each other's twins, by where they start and end
+  both : (x y : ℕ) → IsLive new (x / 3) → IsLive new (y / 3) → twin_of new x ≡ y → twin_of new y ≡ x
+      → edge_start new y ≡ edge_end new x → edge_end new y ≡ edge_start new x → HasTwin new x × HasTwin new y
+  both x y k l e d s n = (
+    record { live = rw e l; back = rw e d; starts = rw e s; ends = rw e n },
+    record { live = rw d k; back = rw d e; starts = rw d (sym n); ends = rw d (sym s) },
+  )
 
-  abbrev Blind : Type 0
-  Blind = IsBlindTo (surface_of fs) (weighted_at place) f (weighted_at place p)
+  -- an edge of a facet that stays has its ends
+  ends_stay : (e : ℕ) → StaysFacet old new vs (e / 3) → (edge_start new e ≡ edge_start old e) × (edge_end new e ≡ edge_end old e)
+  ends_stay e k = let m = surface_of old in let m' = surface_of new in let f = e / 3 in
+      elim (side_of_edge e) as (λ s. (start m' f s ≡ start m f s) × (end m' f s ≡ end m f s)) [
+        | first ↦ (k.i_is, k.j_is)
+        | second ↦ (k.j_is, k.k_is)
+        | third ↦ (k.k_is, k.i_is)
+      ]
 
-  -- a listed facet sees p, and every other one is blind to it
-  listed_seen : is_listed vs f ≡ true → Seen
-  listed_seen e = subst (λ z. pos 0 <ℤ z) (sym (rise-vol place fs f p)) (v.seen f l e)
+  -- a side of the facet of the cone over edge j
+  abbrev side : ℕ → Side → ℕ
+  side j s = edge_of (number made j) s
 
-  unlisted_blind : is_listed vs f ≡ false → Blind
-  unlisted_blind e = subst (λ z. z ≤ℤ pos 0) (sym (rise-vol place fs f p)) (v.unseen f l e)
+  live_side : (j : ℕ) (s : Side) → j < length made → IsLive new (side j s / 3)
+  live_side j s l = subst (IsLive new) (sym (edge-facet (number made j) s)) (r.cone j l).live
 
-  never : Seen → Blind → ⊥
-  never s b = not_less (pos 0) (rise (surface_of fs) (weighted_at place) f (weighted_at place p)) s b
+  -- its first side, and what lies across the horizon
+  across : (j : ℕ) → j < length made → HasTwin new (side j first) × HasTwin new (twin_of old (edge old vs j))
+  across j l =
+      let c = r.cone j l in let f = number made j in let e = edge old vs j in let o = twin_of old e in
+      let n = r.len in let q = horizon_twin old vs t a j (omega arith) in let k = r.kept (o / 3) q.1 in let s = ends_stay o k in
+      both (side j first) o (live_side j first l) k.live (twin-is new f first ∙ c.outward) (c.inward ∙ omega arith)
+      (s.0 ∙ q.0.starts ∙ sym (end-is new f first ∙ c.second)) (s.1 ∙ q.0.ends ∙ sym (start-is new f first ∙ c.first))
 
-  -- and the other way round
-  blind_unlisted : Blind → is_listed vs f ≡ false
-  blind_unlisted b = elim (cases_Bool (is_listed vs f)) [ inl e ↦ absurd (never (listed_seen e) b) | inr e ↦ e ]
+  -- its second side, and the third of the next
+  beside : (j : ℕ) → j < length made → HasTwin new (side j second) × HasTwin new (side (r.next j) third)
+  beside j l =
+      let i = r.next j in let m = r.next_in j l in let c = r.cone j l in let d = r.cone i m in
+      let f = number made j in let g = number made i in
+      both (side j second) (side i third) (live_side j second l) (live_side i third m)
+      (twin-is new f second ∙ r.next_twin j l) (twin-is new g third ∙ r.next_back j l)
+      (start-is new g third ∙ d.third ∙ sym (end-is new f second ∙ c.third))
+      (end-is new g third ∙ d.first ∙ r.next_starts j l ∙ sym (start-is new f second ∙ c.second))
 
-  seen_listed : Seen → is_listed vs f ≡ true
-  seen_listed s = elim (cases_Bool (is_listed vs f)) [ inl e ↦ e | inr e ↦ absurd (never s (unlisted_blind e)) ]
+  -- an edge of a facet that stays, by whether what lies across stays
+  kept : (e : ℕ) → IsKept old vs (e / 3) → HasTwin new e
+  kept e k =
+      let n = r.kept (e / 3) k in let q = t e k.live in let o = twin_of old e in
+      let u = ap (λ x. is_listed vs (x / 3)) q.back ∙ k.unlisted in
+      elim (cases_Bool (is_listed vs (o / 3))) [
+        | inl h ↦ (let p = horizon_at old vs o h u in let l = p.1 in let z = r.len in
+            subst (HasTwin new) (ap (twin_of old) p.2 ∙ q.back) (across p.0 (omega arith)).1)
+        | inr h ↦ (let d = r.kept (o / 3) (record { live = q.live; unlisted = h }) in
+            (both e o n.live d.live (n.twins e refl h) (d.twins o refl u ∙ q.back)
+            ((ends_stay o d).0 ∙ q.starts ∙ sym (ends_stay e n).1) ((ends_stay o d).1 ∙ q.ends ∙ sym (ends_stay e n).0)).0)
+      ]
 
+  -- so each edge of each live facet has its twin, where each facet of the cone is the next of one
+  module _ (before : (j : ℕ) → j < length made → (i : ℕ) × (i < length made) × (r.next i ≡ j)) where
+    cone_twin : (j : ℕ) → j < length made → (s : Side) → HasTwin new (side j s)
+    cone_twin j l first = (across j l).0
+    cone_twin j l second = (beside j l).0
+    cone_twin j l third = let b = before j l in subst (λ i. HasTwin new (side i third)) b.2 (beside b.0 b.1).1
+
+    pub twins_after : HasTwins new
+    twins_after = twins_by_side new (λ f l s. elim (r.only f l) [
+      | inl k ↦ kept (edge_of f s) (subst (IsKept old vs) (sym (edge-facet f s)) k)
+      | inr (j, m, q) ↦ subst (λ g. HasTwin new (edge_of g s)) (sym q) (cone_twin j m s)
+    ])
+
+-- ---- a step
 -- what a replacement of the visible facets of a sound mesh stands on
 pub record IsStep (place : ℕ → Vector) (old new : List StoredFacet) (vs : List FacetNo) (p : ℕ) (made : List FacetNo)
     (o : Weighted) : Type 0 where
@@ -94,25 +142,46 @@ module _ (place : ℕ → Vector) (old new : List StoredFacet) (vs : List FacetN
   abbrev IsSide : ℕ → Side → Type 0
   IsSide f s = IsHorizonSide m (weighted_at place) (weighted_at place p) f s
 
+  abbrev IsSeen : ℕ → Type 0
+  IsSeen f = Sees m (weighted_at place) f (weighted_at place p)
+
   abbrev IsBlind : ℕ → Type 0
   IsBlind f = IsBlindTo m (weighted_at place) f (weighted_at place p)
+
+  module _ (f : ℕ) (l : IsLive old f) where
+    -- a listed facet sees p, and every other one is blind to it
+    listed_seen : is_listed vs f ≡ true → IsSeen f
+    listed_seen e = rw (rise-vol place old f p) (d.visible.seen f l e)
+
+    unlisted_blind : is_listed vs f ≡ false → IsBlind f
+    unlisted_blind e = rw (rise-vol place old f p) (d.visible.unseen f l e)
+
+    never : IsSeen f → IsBlind f → ⊥
+    never = not_less (pos 0) (rise m (weighted_at place) f (weighted_at place p))
+
+    -- and the other way round
+    seen_listed : IsSeen f → is_listed vs f ≡ true
+    seen_listed s = true_from_ne_false (is_listed vs f) (λ e. never s (unlisted_blind e))
+
+    blind_unlisted : IsBlind f → is_listed vs f ≡ false
+    blind_unlisted b = false_from_ne_true (is_listed vs f) (λ e. never (listed_seen e) b)
 
   -- an edge of the list is a side of the horizon
   horizon_side : (j : ℕ) → j < length (horizon old vs) → IsSide (edge old vs j / 3) (side_of_edge (edge old vs j))
   horizon_side j l =
-      let e = edge old vs j in let h = on_horizon old vs j l in let live = listed_live old vs d.facets (e / 3) h.0 in
+      let e = edge old vs j in let h = (on_horizon old vs j l).0 in let live = listed_live old vs d.facets (e / 3) h in
+      let k = (horizon_twin old vs d.twins d.facets j l).1 in
       record {
         live = in_live old (e / 3) live;
-        seen = listed_seen place old vs p (e / 3) d.visible live h.0;
-        blind = subst IsBlind (sym (over-is old (e / 3) (side_of_edge e)))
-            (unlisted_blind place old vs p (twin_of old e / 3) d.visible (d.twins e live).live h.1);
+        seen = listed_seen (e / 3) live h;
+        blind = subst IsBlind (sym (over-is old (e / 3) (side_of_edge e))) (unlisted_blind (twin_of old e / 3) k.live k.unlisted);
       }
 
   -- where a neighbour is blind, it is not listed
   over_unlisted : (f : ℕ) (s : Side) → In f m.live → IsBlind (m.over f s) → is_listed vs (twin_of old (edge_of f s) / 3) ≡ false
   over_unlisted f s i b =
       ap (is_listed vs) (sym (over-twin old f s))
-      ∙ blind_unlisted place old vs p (m.over f s) d.visible (live_in old (m.over f s) (d.sound.0 f i s).live) b
+      ∙ blind_unlisted (m.over f s) (live_in old (m.over f s) (d.sound.0 f i s).live) b
 
   -- the facet of the cone over a side of the horizon: the one across from where the side's neighbour was
   abbrev over : ℕ → Side → ℕ
@@ -134,16 +203,16 @@ module _ (place : ℕ → Vector) (old new : List StoredFacet) (vs : List FacetN
   place_of : (f : ℕ) (s : Side) → IsSide f s → (j : ℕ) × IsPlace f s j
   place_of f s e =
       let q = horizon_at old vs (edge_of f s)
-      (ap (is_listed vs) (edge-facet f s) ∙ seen_listed place old vs p f d.visible (live_in old f e.live) e.seen)
+      (ap (is_listed vs) (edge-facet f s) ∙ seen_listed f (live_in old f e.live) e.seen)
       (over_unlisted f s e.live e.blind) in
       let l = q.1 in let n = d.replaced.len in (q.0, place_at f s q.0 (omega arith) q.2)
 
   is_kept : (f : ℕ) → In f m.live → IsBlind f → IsKept old vs f
-  is_kept f i b = record { live = live_in old f i; unlisted = blind_unlisted place old vs p f d.visible (live_in old f i) b }
+  is_kept f i b = record { live = live_in old f i; unlisted = blind_unlisted f (live_in old f i) b }
 
   only : (f : ℕ) → IsKept old vs f ⊎ ((j : ℕ) × (j < length made) × (f ≡ number made j))
       → (In f m.live × IsBlind f) ⊎ ((g : ℕ) × (s : Side) × IsSide g s × (f ≡ over g s))
-  only f (inl k) = inl (in_live old f k.live, unlisted_blind place old vs p f d.visible k.live k.unlisted)
+  only f (inl k) = inl (in_live old f k.live, unlisted_blind f k.live k.unlisted)
   only f (inr (j, l, e)) =
       let x = edge old vs j in let n = d.replaced.len in
       inr (x / 3, side_of_edge x, horizon_side j (omega arith), e ∙ sym (place_at (x / 3) (side_of_edge x) j l (sym (edge_is x))).over_is)
@@ -186,7 +255,7 @@ module _ (place : ℕ → Vector) (old new : List StoredFacet) (vs : List FacetN
     number = over;
     f0 = number vs 0;
     live = in_live old (number vs 0) (d.facets.live 0 d.visible.some);
-    seen = listed_seen place old vs p (number vs 0) d.visible (d.facets.live 0 d.visible.some)
+    seen = listed_seen (number vs 0) (d.facets.live 0 d.visible.some)
         (listed_at vs (number vs 0) 0 d.visible.some refl);
     only = λ f i. only f (d.replaced.only f (live_in new f i));
     kept = λ f i b. let k = d.replaced.kept f (is_kept f i b) in

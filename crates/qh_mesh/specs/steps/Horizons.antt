@@ -6,7 +6,7 @@ use Rattle.qh_model.specs.contract.StoredSurface.{StoredFacet, facet_at}
 use Rattle.qh_mesh.specs.declared.facets.FacetNo.{FacetNo}
 use Rattle.qh_mesh.specs.declared.facets.FacetSide.{FacetSide}
 use Rattle.qh_mesh.specs.declared.slots.Slot.{Slot}
-use Rattle.qh_mesh.specs.contract.Replacement.{side_of_edge}
+use Rattle.qh_mesh.specs.contract.Replacement.{edge_start, edge_end, twin_of}
 use Rattle.qh_mesh.specs.steps.Kept.{side_of}
 
 -- facet f and those across its sides are in the mesh
@@ -63,6 +63,6 @@ abbrev pub AreNoted : List Slot → List FacetSide → Type 0
 AreNoted ss hs = (ends : Bool) (j : ℕ) → j < length hs → (corner ends (side_at hs j) < length ss)
     × (noted ss ends (corner ends (side_at hs j)) ≡ j)
 
--- the side of a facet that an edge is
+-- what is noted of an edge
 abbrev pub edge_side : List StoredFacet → ℕ → FacetSide
-edge_side fs e = side_of (facet_at fs (e / 3)) (side_of_edge e)
+edge_side fs e = record { from = edge_start fs e; to = edge_end fs e; outer = twin_of fs e }
