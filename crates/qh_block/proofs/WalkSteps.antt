@@ -10,7 +10,7 @@ use Rattle.qh_mesh.specs.contract.Replacement.{IsLive, AreFacets, number, twin_o
 use Rattle.qh_mesh.specs.steps.Twins.{edge_of}
 use Rattle.qh_mesh.proofs.EdgeSides.{over-is, twin-is}
 use Rattle.qh_mesh.proofs.ListedFacets.{listed_at, listed_find}
-use Rattle.qh_mesh.proofs.Pigeonhole.{pigeon}
+use Rattle.qh_model.proofs.lists.Ranges.{pigeon}
 use Rattle.qh_block.specs.steps.Walks.{mark_at, IsMarked, Has, IsWalk, IsCrossed, AreCrossed, IsFurther}
 use Rattle.qh_block.proofs.LiveFacets.{live_below}
 

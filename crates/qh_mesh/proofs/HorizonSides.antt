@@ -12,9 +12,8 @@ use Rattle.qh_model.specs.contract.Surface.Side.{first, second, third}
 use Rattle.qh_model.specs.headline.Sets.{In, Once}
 use Rattle.qh_model.proofs.Members.{In-get_or, in_at}
 use Rattle.qh_model.proofs.lists.Filters.{in_filter, of_filter, once_filter, filter_image}
-use Rattle.qh_model.proofs.lists.Images.{of_map}
+use Rattle.qh_model.proofs.lists.Images.{of_map, once_map}
 use Rattle.qh_model.proofs.lists.OnceEach.{once_place, once_within}
-use Rattle.qh_model.proofs.renamed.Lists.{once_map}
 use Rattle.qh_mesh.specs.contract.Replacement.{number, at, sides_of, is_listed, horizon, side_of_edge, twin_of}
 use Rattle.qh_mesh.specs.contract.Replacement.{IsLive, AreFacets, IsKept}
 use Rattle.qh_mesh.specs.declared.facets.FacetNo.{FacetNo}

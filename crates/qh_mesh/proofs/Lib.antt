@@ -1,5 +1,4 @@
 pub mod NumberCases
-pub mod Pigeonhole
 pub mod EdgeSides
 pub mod ListedFacets
 pub mod Mates

@@ -93,9 +93,6 @@ module _ (old chosen : List StoredFacet) (free left vs : List FacetNo) (hs : Lis
     kept_same : (f : ℕ) → IsKept old vs f → facet_at new f ≡ facet_at w.joined_to f
     kept_same f k = w.written.others f (λ j l. fresh f j k l)
 
-    kept_bare : (f : ℕ) → IsKept old vs f → bare (facet_at new f) ≡ bare (facet_at old f)
-    kept_bare f k = ap bare (kept_same f k) ∙ w.joined.same f ∙ ap bare (kept_at f k)
-
     -- so has the twin of each of its sides whose neighbour stays
     twins_stay : (e : ℕ) → IsKept old vs (e / 3) → is_listed vs (twin_of old e / 3) ≡ false → twin_of new e ≡ twin_of old e
     twins_stay e k u =
@@ -108,13 +105,13 @@ module _ (old chosen : List StoredFacet) (free left vs : List FacetNo) (hs : Lis
     over : (j : ℕ) → j < length made → IsCone old new (edge old vs j) apex (number made j)
     over j l =
         let m : j < length hs = (let e = h.len in omega arith) in let t = (w.written.there j l).is in
-        let o = twin_of old (edge old vs j) in
+        let o = twin_of old (edge old vs j) in let d = side_is j m in
         record {
-          live = ap is_live t;
-          first = ap (λ (t : StoredFacet). t.i) t ∙ ap (corner false) (side_is j m);
-          second = ap (λ (t : StoredFacet). t.j) t ∙ ap (corner true) (side_is j m);
-          third = ap (λ (t : StoredFacet). t.k) t;
-          outward = ap (λ (t : StoredFacet). t.ij) t ∙ outer_is j m;
+          live = rw t;
+          first = rw (t, d);
+          second = rw (t, d);
+          third = rw t;
+          outward = rw (t, d);
           inward = ap (λ t. outer_of t (side_of_edge o)) (kept_same (o / 3) (twin j m).1)
               ∙ ap (twin_of w.joined_to) (sym (outer_is j m)) ∙ w.joined.outer j m;
         }
@@ -133,18 +130,22 @@ module _ (old chosen : List StoredFacet) (free left vs : List FacetNo) (hs : Lis
     mate_back ends j l = mate_twice hs balanced ends j (let e = h.len in omega arith)
 
     next_twin : (j : ℕ) → j < length made → (facet_at new (number made j)).jk ≡ 3 * number made (mate true j) + 2
-    next_twin j l = let t = w.written.there j l in ap (λ (t : StoredFacet). t.jk) t.is
-        ∙ ap (λ i. 3 * number made i + 2) (mate_only hs true j t.next (mate true j) t.next_is (is_mate true j l))
+    next_twin j l = let t = w.written.there j l in rw (t.is, mate_only hs true j t.next (mate true j) t.next_is (is_mate true j l))
 
     before_twin : (j : ℕ) → j < length made → (facet_at new (number made j)).ki ≡ 3 * number made (mate false j) + 1
-    before_twin j l = let t = w.written.there j l in ap (λ (t : StoredFacet). t.ki) t.is
-        ∙ ap (λ i. 3 * number made i + 1) (mate_only hs false j t.before (mate false j) t.before_is (is_mate false j l))
+    before_twin j l = let t = w.written.there j l in rw (t.is, mate_only hs false j t.before (mate false j) t.before_is (is_mate false j l))
+
+    -- what is of no facet of the cone is as the removal left it, but for twins
+    other : (f : ℕ) → ((j : ℕ) → j < length made → number made j ≢ f) → bare (facet_at new f) ≡ bare (facet_at p.between f)
+    other f n = ap bare (w.written.others f n) ∙ w.joined.same f ∙ ap bare (h.cells f)
+
+    kept_bare : (f : ℕ) → IsKept old vs f → bare (facet_at new f) ≡ bare (facet_at old f)
+    kept_bare f k = other f (λ j l. fresh f j k l) ∙ ap bare (stays old p.between vs c.removed f k.unlisted)
 
     -- a live facet stays, or is of the cone
     was_kept : (f : ℕ) → IsLive new f → is_listed made f ≡ false → IsKept old vs f
     was_kept f l u =
-        let d = ap is_live (sym (h.cells f)) ∙ ap is_live (sym (w.joined.same f))
-        ∙ ap is_live (sym (w.written.others f (λ j m e. both_ways (is_listed made f) u (listed_at made f j m (sym e))))) ∙ l in
+        let d = ap is_live (sym (other f (λ j m e. both_ways (is_listed made f) u (listed_at made f j m (sym e))))) ∙ l in
         elim (cases_Bool (is_listed vs f)) [
           | inl e ↦ absurd (both_ways (facet_at p.between f).live (ap is_live (gone old p.between vs c.removed f e)) d)
           | inr e ↦ record { live = ap is_live (sym (stays old p.between vs c.removed f e)) ∙ d; unlisted = e }

@@ -1,7 +1,7 @@
--- The image of a list: its members, and how it grows.
-use Rattle.std.proofs.Common.{◌≡◌, ℕ, ◌+◌, ◌<◌, List, [], ◌∷◌, ◌++◌, length, get_or, map, take, ap, sym, ◌∙◌, refl, inl, inr}
+-- The image of a list: its members, also where each stands once, and how it grows.
+use Rattle.std.proofs.Common.{◌≡◌, ℕ, ◌+◌, ◌<◌, List, [], ◌∷◌, ◌++◌, length, get_or, map, take, ap, sym, ◌∙◌, refl, subst, inl, inr}
 use Rattle.std.proofs.lemmas.List.{take_more, map-append}
-use Rattle.qh_model.specs.headline.Sets.{In}
+use Rattle.qh_model.specs.headline.Sets.{In, Once}
 
 -- the image of a member is a member of the image
 pub in_map : {X Y : Type 0} (f : X → Y) (xs : List X) (x : X) → In x xs → In (f x) (map f xs)
@@ -18,3 +18,11 @@ of_map f (x ∷ xs) y (inr m) = let r = of_map f xs y m in (r.0, inr r.1, r.2)
 -- one more element of an image
 pub map-more : (f : ℕ → ℕ) (xs : List ℕ) (i d v : ℕ) (ks : List ℕ) → i < length xs → ks ≡ map f (take i xs) → v ≡ f (get_or xs i d) → ks ++ v ∷ [] ≡ map f (take (i + 1) xs)
 map-more f xs i d v ks h e k = ap (λ t. t ++ v ∷ []) e ∙ ap (λ t. map f (take i xs) ++ t ∷ []) k ∙ sym (map-append f (take i xs) (get_or xs i d ∷ [])) ∙ ap (map f) (sym (take_more xs i d h))
+
+-- the image of a list that has each member once, under a function that keeps its members apart
+pub once_map : {X Y : Type 0} (f : X → Y) (xs : List X) → ((x y : X) → In x xs → In y xs → f x ≡ f y → x ≡ y) → Once xs → Once (map f xs)
+once_map f [] apart o = tt
+once_map f (x ∷ xs) apart o = (
+  (λ m. let r = of_map f xs (f x) m in o.0 (subst (λ y. In y xs) (sym (apart x r.0 (inl refl) (inr r.1) r.2)) r.1)),
+  once_map f xs (λ y z i j. apart y z (inr i) (inr j)) o.1,
+)

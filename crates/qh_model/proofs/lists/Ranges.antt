@@ -1,9 +1,12 @@
--- The positions of a list: which numbers they are, and the list as their image.
-use Rattle.std.proofs.Common.{◌≡◌, ℕ, zero, suc, ◌+◌, ◌<◌, refl, arith, sym, subst, ◌∙◌, zero-add, inl, inr, List, length, map, slice_index}
+-- The positions of a list: which numbers they are, the list as their image, and how many are apart.
+use Rattle.std.proofs.Common.{◌≡◌, ◌≢◌, ◌≤◌, ℕ, zero, suc, ◌+◌, ◌<◌, refl, arith, sym, subst, ◌∙◌, zero-add, inl, inr, List, length, map, slice_index}
 use Rattle.std.specs.List.{range_with_len}
-use Rattle.std.proofs.lemmas.List.FromFn.{fill_by_all, get_or-range_with_len, length-range_with_len}
-use Rattle.qh_model.specs.headline.Sets.{In}
-use Rattle.qh_model.proofs.Members.{In-get_or}
+use Rattle.std.proofs.lemmas.List.FromFn.{fill_by_all, get_or-range_with_len, length-range_with_len, length-map-range_with_len}
+use Rattle.std.proofs.lemmas.Bool.{cases_order}
+use Rattle.qh_model.specs.headline.Sets.{In, Once}
+use Rattle.qh_model.proofs.Members.{In-get_or, rising_once}
+use Rattle.qh_model.proofs.lists.Images.{of_map, once_map}
+use Rattle.qh_model.proofs.lists.OnceEach.{once_within}
 
 -- a member of a range is below its end
 range_end : (a n l : ℕ) → In l (range_with_len a n) → l < a + n
@@ -23,3 +26,25 @@ range_named name xs same = sym (fill_by_all name xs (length xs) 0 refl (λ k h. 
 pub range_has : (n l : ℕ) → l < n → In l (range_with_len 0 n)
 range_has n l h = subst (λ (k : ℕ). In k (range_with_len 0 n)) (get_or-range_with_len 0 n l 0 h ∙ zero-add l)
     (In-get_or (range_with_len 0 n) l 0 (let e = length-range_with_len 0 n in omega (arith, e, h)))
+
+-- each once
+pub range_once : (n : ℕ) → Once (range_with_len 0 n)
+range_once n = rising_once (range_with_len 0 n) (λ k h. let e = length-range_with_len 0 n in
+    rw (get_or-range_with_len 0 n k 0 (omega arith), get_or-range_with_len 0 n (k + 1) 0 (omega arith)) (omega arith))
+
+-- numbers below N, no two equal, are at most N
+pub pigeon : (N k : ℕ) (f : ℕ → ℕ) → ((i : ℕ) → i < k → f i < N) → ((i j : ℕ) → i < j → j < k → f i ≢ f j) → k ≤ N
+pigeon N k f below apart =
+    let w = once_within (map f (range_with_len 0 k)) (range_with_len 0 N) (once_map f (range_with_len 0 k) same (range_once k)) within in
+    omega (arith, length-map-range_with_len f 0 k, length-range_with_len 0 N)
+  where
+    same : (i j : ℕ) → In i (range_with_len 0 k) → In j (range_with_len 0 k) → f i ≡ f j → i ≡ j
+    same i j p q e = elim (cases_order i j) [
+      | inl h ↦ h
+      | inr (inl h) ↦ absurd (apart i j h (range_below k j q) e)
+      | inr (inr h) ↦ absurd (apart j i h (range_below k i p) (sym e))
+    ]
+
+    within : (z : ℕ) → In z (map f (range_with_len 0 k)) → In z (range_with_len 0 N)
+    within z i = let r = of_map f (range_with_len 0 k) z i in
+        range_has N z (subst (λ y. y < N) (sym r.2) (below r.0 (range_below k r.0 r.1)))

@@ -5,9 +5,9 @@ use Rattle.qh_model.specs.headline.Vector.{Vector}
 use Rattle.qh_model.specs.headline.Sets.{In}
 use Rattle.qh_model.specs.headline.Polygon.{Follows}
 use Rattle.qh_model.specs.headline.Polygons.{IsEdge, IsEdgeCount}
-use Rattle.qh_model.proofs.lists.Images.{in_map, of_map}
+use Rattle.qh_model.proofs.lists.Images.{in_map, of_map, once_map}
 use Rattle.qh_model.proofs.polygons.Neighbours.{follows_members}
-use Rattle.qh_model.proofs.renamed.Lists.{AreWithin, once_map, follows_map, of_follows_map}
+use Rattle.qh_model.proofs.renamed.Lists.{AreWithin, follows_map, of_follows_map}
 use Rattle.qh_model.proofs.renamed.Renaming.{IsRenaming, renaming_apart, renaming_falls}
 
 module _ {at at' : ℕ → Vector} {A B : ℕ → Type 0} {f g : ℕ → ℕ} (r : IsRenaming at at' A B f g) where

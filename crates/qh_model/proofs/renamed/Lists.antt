@@ -2,20 +2,11 @@
 use Rattle.std.proofs.Common.{◌≡◌, ℕ, ◌+◌, ◌<◌, ◌≤◌, refl, List, [], ◌∷◌, length, get_or, map, arith, ap, sym, subst, inl, inr}
 use Rattle.std.proofs.lemmas.List.{length-map, get_or-map}
 use Rattle.std.specs.List.Sorted.{IsStrictlyIncreasing}
-use Rattle.qh_model.specs.headline.Sets.{In, Once, BeginsWithLeast}
+use Rattle.qh_model.specs.headline.Sets.{In, BeginsWithLeast}
 use Rattle.qh_model.specs.headline.Polygon.{FollowsAlong, Follows}
 use Rattle.qh_model.specs.headline.Polygons.{ComesBefore, RisesFrom, RiseStrictly}
 use Rattle.qh_model.proofs.Members.{In-get_or}
 use Rattle.qh_model.proofs.lists.Images.{of_map}
-
--- ---- any image
--- the image of a list that has each member once, under a function that keeps its members apart
-pub once_map : {X Y : Type 0} (f : X → Y) (xs : List X) → ((x y : X) → In x xs → In y xs → f x ≡ f y → x ≡ y) → Once xs → Once (map f xs)
-once_map f [] apart o = tt
-once_map {X} f (x ∷ xs) apart o = (λ m. twice (of_map f xs (f x) m), once_map f xs (λ y z i j. apart y z (inr i) (inr j)) o.1)
-  where
-    twice : (y : X) × In y xs × (f x ≡ f y) → ⊥
-    twice (y, i, e) = o.0 (subst (λ t. In t xs) (sym (apart x y (inl refl) (inr i) e)) i)
 
 -- the neighbours that neighbours on the image of a way come from
 record OldNeighbours (f : ℕ → ℕ) (u v t : ℕ) (r : List ℕ) (e : ℕ) : Type 0 where

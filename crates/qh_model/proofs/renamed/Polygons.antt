@@ -8,9 +8,9 @@ use Rattle.qh_model.specs.headline.Extreme.{Extreme}
 use Rattle.qh_model.specs.headline.SupportingPlane.{IsSupportingTriple, OnPlane}
 use Rattle.qh_model.specs.headline.Polygon.{Follows, TurnsLeft, IsPolygon}
 use Rattle.qh_model.specs.headline.Polygons.{IsFacePolygon, AreFaces, PointsForward, IsFlatFace, IsSegmentFace, ArePolygons}
-use Rattle.qh_model.proofs.lists.Images.{in_map, of_map}
+use Rattle.qh_model.proofs.lists.Images.{in_map, of_map, once_map}
 use Rattle.qh_model.proofs.polygons.Neighbours.{follows_members}
-use Rattle.qh_model.proofs.renamed.Lists.{AreWithin, once_map, of_follows_map, least_map, rise_map}
+use Rattle.qh_model.proofs.renamed.Lists.{AreWithin, of_follows_map, least_map, rise_map}
 use Rattle.qh_model.proofs.renamed.Renaming.{IsRenaming, volume_as, renaming_apart, renaming_back, in_line_renamed, extreme_renamed}
 
 -- a normal of the same points
