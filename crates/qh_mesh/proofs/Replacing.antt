@@ -3,15 +3,11 @@ use Rattle.std.proofs.Common.{◌≡◌, ℕ, ◌+◌, ◌*◌, ◌/◌, ◌<◌
 use Rattle.std.proofs.Common.{◌⊎◌, reverse, length-append}
 use Rattle.std.proofs.lemmas.Bool.{cases_Bool, both_ways}
 use Rattle.std.proofs.lemmas.List.{length-map, get_or-map}
-use Rattle.qh_model.specs.contract.FinishedSurface.{middle_at}
 use Rattle.qh_model.specs.contract.StoredSurface.{StoredFacet, facet_at}
-use Rattle.qh_model.specs.contract.Weighted.{Weighted}
-use Rattle.qh_model.specs.headline.Vector.{Vector}
 use Rattle.qh_model.proofs.Members.{In-get_or}
 use Rattle.qh_model.proofs.lists.Joined.{in_append, once_left}
 use Rattle.qh_mesh.specs.contract.Replacement.{number, is_listed, horizon, side_of_edge, twin_of}
 use Rattle.qh_mesh.specs.contract.Replacement.{IsLive, AreFacets, IsKept, IsReplacement, IsCone}
-use Rattle.qh_mesh.specs.contract.SoundMesh.{IsSoundMesh, AreVisible}
 use Rattle.qh_mesh.specs.declared.facets.FacetNo.{FacetNo}
 use Rattle.qh_mesh.specs.declared.facets.FacetSide.{FacetSide}
 use Rattle.qh_mesh.specs.steps.Cones.{bare}
@@ -180,24 +176,24 @@ module _ (old chosen : List StoredFacet) (free left vs : List FacetNo) (hs : Lis
       only = only;
     }
 
-    step : (at : ℕ → Vector) (o : Weighted) → IsSoundMesh at old o → AreVisible at old vs apex → IsStep at old new vs apex made o
-    step at o z v = record { twins = s.twins; facets = a; replaced = replacement; visible = v; sound = z }
+    step : IsStep old new vs apex made
+    step = record { twins = s.twins; facets = a; replaced = replacement }
 
     len : length new ≡ length chosen
     len = w.written.len ∙ w.joined.len
 
     -- that leaves a surface, and no more places than it needs
     pub rebuilt : IsRebuilt old new left vs apex made
-    unfolding replacement
+    unfolding step replacement
     rebuilt = record {
       surface = record {
-        twins = twins_after old new vs apex made s.twins a replacement (λ j l. (mate false j, mate_in false j l, mate_back false j l));
+        twins = twins_after old new vs apex made step (λ j l. (mate false j, mate_in false j l, mate_back false j l));
         pool = w.pool (reverse left) h.pool;
         small = rw len h.small;
       };
       replaced = replacement;
       places = places_are new left (length old) (w.pool (reverse left) h.pool) (let l = p.longer in rw len l) (λ l. len ∙ p.again l);
-      rewired = λ at o z v. rewired at old new vs apex made o (step at o z v);
-      sound = λ at o z v. step_is_sound at old new vs apex made o (step at o z v);
-      closed = λ at s t u v z i. step_is_closed at old new vs apex made s t u v (step at (middle_at at s t u v) z i);
+      rewired = rewired old new vs apex made step;
+      sound = step_is_sound old new vs apex made step;
+      closed = step_is_closed old new vs apex made step;
     }

@@ -53,9 +53,17 @@ pub rise-vol : (at : ℕ → Vector) (fs : List StoredFacet) (f p : ℕ)
     → rise (surface_of fs) (weighted_at at) f (weighted_at at p) ≡ facet_vol at fs f (at p)
 rise-vol at fs f p = rise_is_vol (at (facet_at fs f).i) (at (facet_at fs f).j) (at (facet_at fs f).k) (at p)
 
--- ---- twins
-module _ (old new : List StoredFacet) (vs : List FacetNo) (apex : ℕ) (made : List FacetNo) (t : HasTwins old) (a : AreFacets old vs)
-    (r : IsReplacement old new vs apex made) where
+-- a replacement of facets of a surface
+pub record IsStep (old new : List StoredFacet) (vs : List FacetNo) (p : ℕ) (made : List FacetNo) : Type 0 where
+  pub twins : HasTwins old
+  pub facets : AreFacets old vs
+  pub replaced : IsReplacement old new vs p made
+
+module _ (old new : List StoredFacet) (vs : List FacetNo) (p : ℕ) (made : List FacetNo) (d : IsStep old new vs p made) where
+  abbrev r : IsReplacement old new vs p made
+  r = d.replaced
+
+  -- ---- twins
   -- edges of live facets that are each other's twins, by where they start and end
   both : (x y : ℕ) → IsLive new (x / 3) → IsLive new (y / 3) → twin_of new x ≡ y → twin_of new y ≡ x
       → edge_start new y ≡ edge_end new x → edge_end new y ≡ edge_start new x → HasTwin new x × HasTwin new y
@@ -84,31 +92,31 @@ module _ (old new : List StoredFacet) (vs : List FacetNo) (apex : ℕ) (made : L
   across : (j : ℕ) → j < length made → HasTwin new (side j first) × HasTwin new (twin_of old (edge old vs j))
   across j l =
       let c = r.cone j l in let f = number made j in let e = edge old vs j in let o = twin_of old e in
-      let n = r.len in let q = horizon_twin old vs t a j (omega arith) in let k = r.kept (o / 3) q.1 in let s = ends_stay o k in
+      let n = r.len in let q = horizon_twin old vs d.twins d.facets j (omega arith) in let k = r.kept (o / 3) q.1 in let s = ends_stay o k in
       both (side j first) o (live_side j first l) k.live (twin-is new f first ∙ c.outward) (c.inward ∙ omega arith)
       (s.0 ∙ q.0.starts ∙ sym (end-is new f first ∙ c.second)) (s.1 ∙ q.0.ends ∙ sym (start-is new f first ∙ c.first))
 
   -- its second side, and the third of the next
   beside : (j : ℕ) → j < length made → HasTwin new (side j second) × HasTwin new (side (r.next j) third)
   beside j l =
-      let i = r.next j in let m = r.next_in j l in let c = r.cone j l in let d = r.cone i m in
+      let i = r.next j in let m = r.next_in j l in let c = r.cone j l in let k = r.cone i m in
       let f = number made j in let g = number made i in
       both (side j second) (side i third) (live_side j second l) (live_side i third m)
       (twin-is new f second ∙ r.next_twin j l) (twin-is new g third ∙ r.next_back j l)
-      (start-is new g third ∙ d.third ∙ sym (end-is new f second ∙ c.third))
-      (end-is new g third ∙ d.first ∙ r.next_starts j l ∙ sym (start-is new f second ∙ c.second))
+      (start-is new g third ∙ k.third ∙ sym (end-is new f second ∙ c.third))
+      (end-is new g third ∙ k.first ∙ r.next_starts j l ∙ sym (start-is new f second ∙ c.second))
 
   -- an edge of a facet that stays, by whether what lies across stays
   kept : (e : ℕ) → IsKept old vs (e / 3) → HasTwin new e
   kept e k =
-      let n = r.kept (e / 3) k in let q = t e k.live in let o = twin_of old e in
+      let n = r.kept (e / 3) k in let q = d.twins e k.live in let o = twin_of old e in
       let u = ap (λ x. is_listed vs (x / 3)) q.back ∙ k.unlisted in
       elim (cases_Bool (is_listed vs (o / 3))) [
         | inl h ↦ (let p = horizon_at old vs o h u in let l = p.1 in let z = r.len in
             subst (HasTwin new) (ap (twin_of old) p.2 ∙ q.back) (across p.0 (omega arith)).1)
-        | inr h ↦ (let d = r.kept (o / 3) (record { live = q.live; unlisted = h }) in
-            (both e o n.live d.live (n.twins e refl h) (d.twins o refl u ∙ q.back)
-            ((ends_stay o d).0 ∙ q.starts ∙ sym (ends_stay e n).1) ((ends_stay o d).1 ∙ q.ends ∙ sym (ends_stay e n).0)).0)
+        | inr h ↦ (let g = r.kept (o / 3) (record { live = q.live; unlisted = h }) in
+            (both e o n.live g.live (n.twins e refl h) (g.twins o refl u ∙ q.back)
+            ((ends_stay o g).0 ∙ q.starts ∙ sym (ends_stay e n).1) ((ends_stay o g).1 ∙ q.ends ∙ sym (ends_stay e n).0)).0)
       ]
 
   -- so each edge of each live facet has its twin, where each facet of the cone is the next of one
@@ -124,153 +132,145 @@ module _ (old new : List StoredFacet) (vs : List FacetNo) (apex : ℕ) (made : L
       | inr (j, m, q) ↦ subst (λ g. HasTwin new (edge_of g s)) (sym q) (cone_twin j m s)
     ])
 
--- ---- a step
--- what a replacement of the visible facets of a sound mesh stands on
-pub record IsStep (place : ℕ → Vector) (old new : List StoredFacet) (vs : List FacetNo) (p : ℕ) (made : List FacetNo)
-    (o : Weighted) : Type 0 where
-  pub twins : HasTwins old
-  pub facets : AreFacets old vs
-  pub replaced : IsReplacement old new vs p made
-  pub visible : AreVisible place old vs p
-  pub sound : IsSoundMesh place old o
+  -- ---- a step of what p sees
+  module _ (place : ℕ → Vector) (o : Weighted) (z : IsSoundMesh place old o) (visible : AreVisible place old vs p) where
+    abbrev m : Surface
+    m = surface_of old
 
-module _ (place : ℕ → Vector) (old new : List StoredFacet) (vs : List FacetNo) (p : ℕ) (made : List FacetNo) (o : Weighted)
-    (d : IsStep place old new vs p made o) where
-  abbrev m : Surface
-  m = surface_of old
+    abbrev home : ℕ → Weighted
+    home = weighted_at place
 
-  abbrev IsSide : ℕ → Side → Type 0
-  IsSide f s = IsHorizonSide m (weighted_at place) (weighted_at place p) f s
+    abbrev IsSide : ℕ → Side → Type 0
+    IsSide f s = IsHorizonSide m home (home p) f s
 
-  abbrev IsSeen : ℕ → Type 0
-  IsSeen f = Sees m (weighted_at place) f (weighted_at place p)
+    abbrev IsSeen : ℕ → Type 0
+    IsSeen f = Sees m home f (home p)
 
-  abbrev IsBlind : ℕ → Type 0
-  IsBlind f = IsBlindTo m (weighted_at place) f (weighted_at place p)
+    abbrev IsBlind : ℕ → Type 0
+    IsBlind f = IsBlindTo m home f (home p)
 
-  module _ (f : ℕ) (l : IsLive old f) where
-    -- a listed facet sees p, and every other one is blind to it
-    listed_seen : is_listed vs f ≡ true → IsSeen f
-    listed_seen e = rw (rise-vol place old f p) (d.visible.seen f l e)
+    module _ (f : ℕ) (l : IsLive old f) where
+      -- a listed facet sees p, and every other one is blind to it
+      listed_seen : is_listed vs f ≡ true → IsSeen f
+      listed_seen e = rw (rise-vol place old f p) (visible.seen f l e)
 
-    unlisted_blind : is_listed vs f ≡ false → IsBlind f
-    unlisted_blind e = rw (rise-vol place old f p) (d.visible.unseen f l e)
+      unlisted_blind : is_listed vs f ≡ false → IsBlind f
+      unlisted_blind e = rw (rise-vol place old f p) (visible.unseen f l e)
 
-    never : IsSeen f → IsBlind f → ⊥
-    never = not_less (pos 0) (rise m (weighted_at place) f (weighted_at place p))
+      never : IsSeen f → IsBlind f → ⊥
+      never = not_less (pos 0) (rise m home f (home p))
 
-    -- and the other way round
-    seen_listed : IsSeen f → is_listed vs f ≡ true
-    seen_listed s = true_from_ne_false (is_listed vs f) (λ e. never s (unlisted_blind e))
+      -- and the other way round
+      seen_listed : IsSeen f → is_listed vs f ≡ true
+      seen_listed s = true_from_ne_false (is_listed vs f) (λ e. never s (unlisted_blind e))
 
-    blind_unlisted : IsBlind f → is_listed vs f ≡ false
-    blind_unlisted b = false_from_ne_true (is_listed vs f) (λ e. never (listed_seen e) b)
+      blind_unlisted : IsBlind f → is_listed vs f ≡ false
+      blind_unlisted b = false_from_ne_true (is_listed vs f) (λ e. never (listed_seen e) b)
 
-  -- an edge of the list is a side of the horizon
-  horizon_side : (j : ℕ) → j < length (horizon old vs) → IsSide (edge old vs j / 3) (side_of_edge (edge old vs j))
-  horizon_side j l =
-      let e = edge old vs j in let h = (on_horizon old vs j l).0 in let live = listed_live old vs d.facets (e / 3) h in
-      let k = (horizon_twin old vs d.twins d.facets j l).1 in
-      record {
-        live = in_live old (e / 3) live;
-        seen = listed_seen (e / 3) live h;
-        blind = subst IsBlind (sym (over-is old (e / 3) (side_of_edge e))) (unlisted_blind (twin_of old e / 3) k.live k.unlisted);
-      }
+    -- an edge of the list is a side of the horizon
+    horizon_side : (j : ℕ) → j < length (horizon old vs) → IsSide (edge old vs j / 3) (side_of_edge (edge old vs j))
+    horizon_side j l =
+        let e = edge old vs j in let h = (on_horizon old vs j l).0 in let live = listed_live old vs d.facets (e / 3) h in
+        let k = (horizon_twin old vs d.twins d.facets j l).1 in
+        record {
+          live = in_live old (e / 3) live;
+          seen = listed_seen (e / 3) live h;
+          blind = subst IsBlind (sym (over-is old (e / 3) (side_of_edge e))) (unlisted_blind (twin_of old e / 3) k.live k.unlisted);
+        }
 
-  -- where a neighbour is blind, it is not listed
-  over_unlisted : (f : ℕ) (s : Side) → In f m.live → IsBlind (m.over f s) → is_listed vs (twin_of old (edge_of f s) / 3) ≡ false
-  over_unlisted f s i b =
-      ap (is_listed vs) (sym (over-twin old f s))
-      ∙ blind_unlisted (m.over f s) (live_in old (m.over f s) (d.sound.0 f i s).live) b
+    -- where a neighbour is blind, it is not listed
+    over_unlisted : (f : ℕ) (s : Side) → In f m.live → IsBlind (m.over f s) → is_listed vs (twin_of old (edge_of f s) / 3) ≡ false
+    over_unlisted f s i b =
+        ap (is_listed vs) (sym (over-twin old f s))
+        ∙ blind_unlisted (m.over f s) (live_in old (m.over f s) (z.0 f i s).live) b
 
-  -- the facet of the cone over a side of the horizon: the one across from where the side's neighbour was
-  abbrev over : ℕ → Side → ℕ
-  over f s = twin_of new (twin_of old (edge_of f s)) / 3
+    -- the facet of the cone over a side of the horizon: the one across from where the side's neighbour was
+    abbrev over : ℕ → Side → ℕ
+    over f s = twin_of new (twin_of old (edge_of f s)) / 3
 
-  -- the place of a side on the horizon
-  record IsPlace (f : ℕ) (s : Side) (j : ℕ) : Type 0 where
-    inside : j < length made
-    edge_is : edge old vs j ≡ edge_of f s
-    over_is : over f s ≡ number made j
+    -- the place of a side on the horizon
+    record IsPlace (f : ℕ) (s : Side) (j : ℕ) : Type 0 where
+      inside : j < length made
+      edge_is : edge old vs j ≡ edge_of f s
+      over_is : over f s ≡ number made j
 
-  place_at : (f : ℕ) (s : Side) (j : ℕ) → j < length made → edge old vs j ≡ edge_of f s → IsPlace f s j
-  place_at f s j l e = record {
-    inside = l;
-    edge_is = e;
-    over_is = ap (λ x. twin_of new (twin_of old x) / 3) (sym e) ∙ ap (λ x. x / 3) (d.replaced.cone j l).inward ∙ omega arith;
-  }
+    place_at : (f : ℕ) (s : Side) (j : ℕ) → j < length made → edge old vs j ≡ edge_of f s → IsPlace f s j
+    place_at f s j l e = record {
+      inside = l;
+      edge_is = e;
+      over_is = ap (λ x. twin_of new (twin_of old x) / 3) (sym e) ∙ ap (λ x. x / 3) (r.cone j l).inward ∙ omega arith;
+    }
 
-  place_of : (f : ℕ) (s : Side) → IsSide f s → (j : ℕ) × IsPlace f s j
-  place_of f s e =
-      let q = horizon_at old vs (edge_of f s)
-      (ap (is_listed vs) (edge-facet f s) ∙ seen_listed f (live_in old f e.live) e.seen)
-      (over_unlisted f s e.live e.blind) in
-      let l = q.1 in let n = d.replaced.len in (q.0, place_at f s q.0 (omega arith) q.2)
+    place_of : (f : ℕ) (s : Side) → IsSide f s → (j : ℕ) × IsPlace f s j
+    place_of f s e =
+        let q = horizon_at old vs (edge_of f s)
+        (ap (is_listed vs) (edge-facet f s) ∙ seen_listed f (live_in old f e.live) e.seen)
+        (over_unlisted f s e.live e.blind) in
+        let l = q.1 in let n = r.len in (q.0, place_at f s q.0 (omega arith) q.2)
 
-  is_kept : (f : ℕ) → In f m.live → IsBlind f → IsKept old vs f
-  is_kept f i b = record { live = live_in old f i; unlisted = blind_unlisted f (live_in old f i) b }
+    is_kept : (f : ℕ) → In f m.live → IsBlind f → IsKept old vs f
+    is_kept f i b = record { live = live_in old f i; unlisted = blind_unlisted f (live_in old f i) b }
 
-  only : (f : ℕ) → IsKept old vs f ⊎ ((j : ℕ) × (j < length made) × (f ≡ number made j))
-      → (In f m.live × IsBlind f) ⊎ ((g : ℕ) × (s : Side) × IsSide g s × (f ≡ over g s))
-  only f (inl k) = inl (in_live old f k.live, unlisted_blind f k.live k.unlisted)
-  only f (inr (j, l, e)) =
-      let x = edge old vs j in let n = d.replaced.len in
-      inr (x / 3, side_of_edge x, horizon_side j (omega arith), e ∙ sym (place_at (x / 3) (side_of_edge x) j l (sym (edge_is x))).over_is)
+    only : (f : ℕ) → IsKept old vs f ⊎ ((j : ℕ) × (j < length made) × (f ≡ number made j))
+        → (In f m.live × IsBlind f) ⊎ ((g : ℕ) × (s : Side) × IsSide g s × (f ≡ over g s))
+    only f (inl k) = inl (in_live old f k.live, unlisted_blind f k.live k.unlisted)
+    only f (inr (j, l, e)) =
+        let x = edge old vs j in let n = r.len in
+        inr (x / 3, side_of_edge x, horizon_side j (omega arith), e ∙ sym (place_at (x / 3) (side_of_edge x) j l (sym (edge_is x))).over_is)
 
-  -- a facet of the cone, by the side of the horizon
-  cone : (f : ℕ) (s : Side) → IsSide f s → IsCone old new (edge_of f s) p (over f s)
-  cone f s e = let j = place_of f s e in rw (j.1.over_is, sym j.1.edge_is) (d.replaced.cone j.0 j.1.inside)
+    -- a facet of the cone, by the side of the horizon
+    cone : (f : ℕ) (s : Side) → IsSide f s → IsCone old new (edge_of f s) p (over f s)
+    cone f s e = let j = place_of f s e in rw (j.1.over_is, sym j.1.edge_is) (r.cone j.0 j.1.inside)
 
-  -- a side whose neighbour goes is joined to the cone
-  outward : (f : ℕ) (s : Side) → In f m.live → IsBlind f → Sees m (weighted_at place) (m.over f s) (weighted_at place p)
-      → twin_of new (edge_of f s) ≡ edge_of (over (m.over f s) (m.back f s)) first
-  outward f s i b v =
-      let t = d.sound.0 f i s in
-      let l = subst (IsLive old) (sym (edge-facet f s)) (live_in old f i) in
-      ap (twin_of new) (sym (ap (twin_of old) (sym (twin-edge old f s)) ∙ (d.twins (edge_of f s) l).back))
-      ∙ (cone (m.over f s) (m.back f s) (record { live = t.live; seen = v; blind = subst IsBlind (sym t.returns) b })).inward
-      ∙ omega arith
+    -- a side whose neighbour goes is joined to the cone
+    outward : (f : ℕ) (s : Side) → In f m.live → IsBlind f → Sees m home (m.over f s) (home p)
+        → twin_of new (edge_of f s) ≡ edge_of (over (m.over f s) (m.back f s)) first
+    outward f s i b v =
+        let t = z.0 f i s in
+        let l = subst (IsLive old) (sym (edge-facet f s)) (live_in old f i) in
+        ap (twin_of new) (sym (ap (twin_of old) (sym (twin-edge old f s)) ∙ (d.twins (edge_of f s) l).back))
+        ∙ (cone (m.over f s) (m.back f s) (record { live = t.live; seen = v; blind = subst IsBlind (sym t.returns) b })).inward
+        ∙ omega arith
 
-  -- the one after that of (f, s) is that of (g, t)
-  next-is : (f : ℕ) (s : Side) (g : ℕ) (t : Side) (e : IsSide f s) (e' : IsSide g t) → start m g t ≡ end m f s
-      → d.replaced.next (place_of f s e).0 ≡ (place_of g t e').0
-  next-is f s g t e e' q =
-      let j = place_of f s e in let i = place_of g t e' in let n = d.replaced.next j.0 in let x = edge old vs n in let k = d.replaced.len in
-      let l : n < length (horizon old vs) = (let a = d.replaced.next_in j.0 j.1.inside in omega arith) in let b = i.1.inside in
-      let z = d.replaced.next_starts j.0 j.1.inside ∙ ap (edge_end old) j.1.edge_is ∙ end-is old f s ∙ sym q in
-      let same = horizon_is_known m (weighted_at place) o d.sound.0 d.sound.1 (weighted_at place p)
-      (x / 3) g (side_of_edge x) t (horizon_side n l) e' (inl z) in
-      same_place old vs d.facets n i.0 l (omega arith) (sym (edge_is x) ∙ (λ i. edge_of (same.0 i) (same.1 i)) ∙ sym i.1.edge_is)
+    -- the one after that of (f, s) is that of (g, t)
+    next-is : (f : ℕ) (s : Side) (g : ℕ) (t : Side) (e : IsSide f s) (e' : IsSide g t) → start m g t ≡ end m f s
+        → r.next (place_of f s e).0 ≡ (place_of g t e').0
+    next-is f s g t e e' q =
+        let j = place_of f s e in let i = place_of g t e' in let n = r.next j.0 in let x = edge old vs n in let k = r.len in
+        let l : n < length (horizon old vs) = (let a = r.next_in j.0 j.1.inside in omega arith) in let b = i.1.inside in
+        let starts = r.next_starts j.0 j.1.inside ∙ ap (edge_end old) j.1.edge_is ∙ end-is old f s ∙ sym q in
+        let same = horizon_is_known m home o z.0 z.1 (home p)
+        (x / 3) g (side_of_edge x) t (horizon_side n l) e' (inl starts) in
+        same_place old vs d.facets n i.0 l (omega arith) (sym (edge_is x) ∙ (λ i. edge_of (same.0 i) (same.1 i)) ∙ sym i.1.edge_is)
 
-  -- they are neighbours
-  next_twin : (f : ℕ) (s : Side) (g : ℕ) (t : Side) → IsSide f s → IsSide g t → start m g t ≡ end m f s
-      → ((facet_at new (over f s)).jk ≡ edge_of (over g t) third) × ((facet_at new (over g t)).ki ≡ edge_of (over f s) second)
-  next_twin f s g t e e' q =
-      let j = place_of f s e in let i = place_of g t e' in let n = next-is f s g t e e' q in
-      rw (j.1.over_is, i.1.over_is, ← n) (d.replaced.next_twin j.0 j.1.inside, d.replaced.next_back j.0 j.1.inside)
+    -- they are neighbours
+    next_twin : (f : ℕ) (s : Side) (g : ℕ) (t : Side) → IsSide f s → IsSide g t → start m g t ≡ end m f s
+        → ((facet_at new (over f s)).jk ≡ edge_of (over g t) third) × ((facet_at new (over g t)).ki ≡ edge_of (over f s) second)
+    next_twin f s g t e e' q =
+        let j = place_of f s e in let i = place_of g t e' in let n = next-is f s g t e e' q in
+        rw (j.1.over_is, i.1.over_is, ← n) (r.next_twin j.0 j.1.inside, r.next_back j.0 j.1.inside)
 
-  -- the step is one of Quickhull
-  pub rewired : IsRewired m (surface_of new) (weighted_at place) p
-  rewired = record {
-    number = over;
-    f0 = number vs 0;
-    live = in_live old (number vs 0) (d.facets.live 0 d.visible.some);
-    seen = listed_seen (number vs 0) (d.facets.live 0 d.visible.some)
-        (listed_at vs (number vs 0) 0 d.visible.some refl);
-    only = λ f i. only f (d.replaced.only f (live_in new f i));
-    kept = λ f i b. let k = d.replaced.kept f (is_kept f i b) in
-        record { live = in_live new f k.live; i_is = k.i_is; j_is = k.j_is; k_is = k.k_is };
-    cone = λ f s e.
-        let c = cone f s e in
-        let i = c.first ∙ start-is old f s in let j = c.second ∙ end-is old f s in
-        record { live = in_live new (over f s) c.live; i_is = i; j_is = j; k_is = c.third };
-    inside = λ f s i b b'.
-        let k = d.replaced.kept f (is_kept f i b) in
-        links new f s (m.over f s) (m.back f s) (k.twins (edge_of f s) (edge-facet f s) (over_unlisted f s i b') ∙ twin-edge old f s);
-    outside = λ f s i b v. links new f s (over (m.over f s) (m.back f s)) first (outward f s i b v);
-    base = λ f s e. links new (over f s) first (m.over f s) (m.back f s)
-        (twin-is new (over f s) first ∙ (cone f s e).outward ∙ twin-edge old f s);
-    next = λ f s g t e e' q. links new (over f s) second (over g t) third (twin-is new (over f s) second ∙ (next_twin f s g t e e' q).0);
-    prev = λ f s g t e e' q. links new (over f s) third (over g t) second
-        (twin-is new (over f s) third ∙ (next_twin g t f s e' e (sym q)).1);
-  }
+    -- the step is one of Quickhull
+    pub rewired : IsRewired m (surface_of new) home p
+    rewired = record {
+      number = over;
+      f0 = number vs 0;
+      live = in_live old (number vs 0) (d.facets.live 0 visible.some);
+      seen = listed_seen (number vs 0) (d.facets.live 0 visible.some) (listed_at vs (number vs 0) 0 visible.some refl);
+      only = λ f i. only f (r.only f (live_in new f i));
+      kept = λ f i b. let k = r.kept f (is_kept f i b) in
+          record { live = in_live new f k.live; i_is = k.i_is; j_is = k.j_is; k_is = k.k_is };
+      cone = λ f s e.
+          let c = cone f s e in
+          let i = c.first ∙ start-is old f s in let j = c.second ∙ end-is old f s in
+          record { live = in_live new (over f s) c.live; i_is = i; j_is = j; k_is = c.third };
+      inside = λ f s i b b'.
+          let k = r.kept f (is_kept f i b) in
+          links new f s (m.over f s) (m.back f s) (k.twins (edge_of f s) (edge-facet f s) (over_unlisted f s i b') ∙ twin-edge old f s);
+      outside = λ f s i b v. links new f s (over (m.over f s) (m.back f s)) first (outward f s i b v);
+      base = λ f s e. links new (over f s) first (m.over f s) (m.back f s)
+          (twin-is new (over f s) first ∙ (cone f s e).outward ∙ twin-edge old f s);
+      next = λ f s g t e e' q. links new (over f s) second (over g t) third (twin-is new (over f s) second ∙ (next_twin f s g t e e' q).0);
+      prev = λ f s g t e e' q. links new (over f s) third (over g t) second
+          (twin-is new (over f s) third ∙ (next_twin g t f s e' e (sym q)).1);
+    }

@@ -14,6 +14,7 @@ use Rattle.qh_model.specs.headline.Sets.{In}
 use Rattle.qh_model.specs.headline.Vector.{Vector}
 use Rattle.qh_model.specs.laws.SimplexSurface.{simplex_surface}
 use Rattle.qh_model.proofs.algebra.VectorIdentities.{vol-flip_last}
+use Rattle.qh_model.proofs.algebra.Signs.{not_less}
 use Rattle.qh_model.proofs.surfaces.Closed.{sound_is_closed, sound_has_volume}
 use Rattle.qh_model.proofs.surfaces.Named.{IsNamed, sound_named, whole_named}
 use Rattle.qh_model.proofs.surfaces.Rewired.{replace_keeps}
@@ -21,7 +22,7 @@ use Rattle.qh_model.proofs.surfaces.Simplex.{four, simplex_sound}
 use Rattle.qh_model.proofs.surfaces.Stored.{live_is_listed_once}
 use Rattle.qh_model.proofs.surfaces.SurfaceLaws.{rise_is_vol}
 use Rattle.qh_mesh.specs.contract.Replacement.{number, is_listed, IsLive}
-use Rattle.qh_mesh.specs.contract.SoundMesh.{simplex_facets, facet_vol, IsSoundMesh, IsClosedMesh}
+use Rattle.qh_mesh.specs.contract.SoundMesh.{simplex_facets, facet_vol, IsSoundMesh, IsClosedMesh, AreVisible}
 use Rattle.qh_mesh.specs.declared.facets.FacetNo.{FacetNo}
 use Rattle.qh_mesh.proofs.Rewiring.{live_in, in_live, IsStep, rewired}
 
@@ -110,32 +111,27 @@ seen_volume : (at : ℕ → Vector) (m : Surface) (p : Vector) (fs : List ℕ)
 seen_volume at m p [] h = omega (arith, ints)
 seen_volume at m p (f ∷ fs) h = let a = h f (inl refl) in let b = seen_volume at m p fs (λ g i. h g (inr i)) in omega (arith, ints)
 
-module _ (at : ℕ → Vector) (old new : List StoredFacet) (vs : List FacetNo) (p : ℕ) (made : List FacetNo) where
+module _ (old new : List StoredFacet) (vs : List FacetNo) (p : ℕ) (made : List FacetNo) (d : IsStep old new vs p made) (at : ℕ → Vector) where
   -- it keeps a mesh sound
-  pub step_is_sound : (o : Weighted) → IsStep at old new vs p made o → IsSoundMesh at new o
-  step_is_sound o d = replace_keeps (surface_of old) (surface_of new)
-      (weighted_at at) o p d.sound.0 d.sound.1 (rewired at old new vs p made o d)
+  pub step_is_sound : (o : Weighted) → IsSoundMesh at old o → AreVisible at old vs p → IsSoundMesh at new o
+  step_is_sound o z v = replace_keeps (surface_of old) (surface_of new) (weighted_at at) o p z.0 z.1 (rewired old new vs p made d at o z v)
 
-  module _ (s t u v : ℕ) (d : IsStep at old new vs p made (middle_at at s t u v)) where
+  module _ (s t u v : ℕ) (z : IsSoundMesh at old (middle_at at s t u v)) (visible : AreVisible at old vs p) where
     -- if it left no facet, all would see p
     all_seen : (surface_of new).live ≡ [] → (f : ℕ) → In f (surface_of old).live → pos 0 <ℤ facet_vol at old f (at p)
     all_seen e f i = elim (cases_Bool (is_listed vs f)) [
-      | inl l ↦ d.visible.seen f (live_in old f i) l
+      | inl l ↦ visible.seen f (live_in old f i) l
       | inr l ↦ absurd (subst (In f) e (in_live new f (d.replaced.kept f (record { live = live_in old f i; unlisted = l })).live))
     ]
 
-    never : (x : ℤ) → x <ℤ pos 0 → pos 0 ≤ℤ x → Prim.⊥
-    never x a b = omega (arith, ints)
-
     -- so it leaves one
     step_leaves : (fs : List ℕ) → (surface_of new).live ≡ fs → (f : ℕ) × IsLive new f
-    step_leaves [] e = absurd (never (signed_volume at (triples_of (surface_of old)) (at p))
-        (sound_has_volume at (surface_of old) s t u v (number vs 0) (in_live old (number vs 0) (d.facets.live 0 d.visible.some))
-        (live_is_listed_once old) d.sound.0 d.sound.1 (at p))
+    step_leaves [] e = absurd (not_less (signed_volume at (triples_of (surface_of old)) (at p)) (pos 0)
+        ((closed_of at old s t u v (number vs 0) (d.facets.live 0 visible.some) z).volume (at p))
         (seen_volume at (surface_of old) (at p) (surface_of old).live (all_seen e)))
     step_leaves (f ∷ fs) e = (f, live_in new f (subst (In f) (sym e) (inl refl)))
 
     -- and a closed mesh
     pub step_is_closed : IsClosedMesh at new
     step_is_closed = let f = step_leaves (surface_of new).live refl in
-        closed_of at new s t u v f.0 f.1 (step_is_sound (middle_at at s t u v) d)
+        closed_of at new s t u v f.0 f.1 (step_is_sound (middle_at at s t u v) z visible)
