@@ -59,10 +59,10 @@ module _ (fs : List StoredFacet) (f : ℕ) where
 pub side-is : (fs : List StoredFacet) (e : ℕ) → edge_side fs e ≡ side_of (facet_at fs (e / 3)) (side_of_edge e)
 side-is fs e = elim (side_of_edge e) as (λ s. let t = facet_at fs (e / 3) in let m = surface_of fs in
     let is : FacetSide = record { from = start m (e / 3) s; to = end m (e / 3) s; outer = outer_of t s } in is ≡ side_of t s) [
-  | first ↦ refl
-  | second ↦ refl
-  | third ↦ refl
-]
+      | first ↦ refl
+      | second ↦ refl
+      | third ↦ refl
+    ]
 
 pub noted-is : (fs : List StoredFacet) (f : ℕ) (s : Side) → edge_side fs (edge_of f s) ≡ side_of (facet_at fs f) s
 noted-is fs f s = side-is fs (edge_of f s) ∙ (λ i. side_of (facet_at fs (edge-facet f s i)) (edge-side f s i))

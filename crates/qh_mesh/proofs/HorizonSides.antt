@@ -25,6 +25,7 @@ use Rattle.qh_mesh.specs.steps.Surfaces.{IsSurface}
 use Rattle.qh_mesh.specs.steps.Twins.{edge_of, HasTwin, HasTwins}
 use Rattle.qh_mesh.proofs.EdgeSides.{edge-facet, twin-is, side-is, noted-is}
 use Rattle.qh_mesh.proofs.ListedFacets.{listed_live, in_sides, of_sides, once_of, once_sides, listed_at, listed_find}
+use Rattle.qh_mesh.proofs.Mates.{meets}
 use Rattle.qh_mesh.proofs.Pools.{live_inside}
 
 module _ (old : List StoredFacet) (vs : List FacetNo) where
@@ -74,7 +75,7 @@ count_twins twin p q xs o h =
     let t = λ (x : ℕ) (i : In x (filter p xs)). let k = of_filter p xs x i in h x k.0 k.1 in
     let images = once_map twin (filter p xs) (λ x y i j e. sym (t x i).2 ∙ ap twin e ∙ (t y j).2) (once_filter p xs o) in
     let within = once_within (map twin (filter p xs)) (filter q xs) images (λ y i. let r = of_map twin (filter p xs) y i in
-        subst (λ z. In z (filter q xs)) (sym r.2) (in_filter q xs (twin r.0) (t r.0 r.1).0 (t r.0 r.1).1)) in
+    subst (λ z. In z (filter q xs)) (sym r.2) (in_filter q xs (twin r.0) (t r.0 r.1).0 (t r.0 r.1).1)) in
     omega (arith, length-filter p xs, length-filter q xs, length-map (filter p xs) twin)
 
 -- what is noted of the edges of facets are their sides
@@ -85,55 +86,41 @@ sides_are fs (v ∷ vs) =
     let z : 3 * v.0 ≡ edge_of v.0 first = omega arith in let a = ap (edge_side fs) z ∙ noted-is fs v.0 first in
     λ i. a i ∷ noted-is fs v.0 second i ∷ noted-is fs v.0 third i ∷ sides_are fs vs i
 
-module _ (fs : List StoredFacet) (l : ℕ) where
-  -- does the side meet l at this corner?
-  abbrev meets : Bool → FacetSide → Bool
-  meets ends h = nat_eq (corner ends h) l
+-- round each facet as many start as end
+round : (fs : List StoredFacet) (l : ℕ) (vs : List FacetNo) → let hs = flat_map (λ v. three_sides (facet_at fs v.0)) vs in
+    count_by (meets true l) hs ≡ count_by (meets false l) hs
+round fs l [] = refl
+round fs l (v ∷ vs) = let r = round fs l vs in simp sum_by-cons (omega arith)
 
-  -- round each facet as many start as end
-  round : (vs : List FacetNo) → let hs = flat_map (λ v. three_sides (facet_at fs v.0)) vs in count_by (meets true) hs ≡ count_by (meets false) hs
-  round [] = refl
-  round (v ∷ vs) = let r = round vs in simp sum_by-cons (omega arith)
+module _ (fs : List StoredFacet) (vs : List FacetNo) (t : HasTwins fs) (a : AreFacets fs vs) (l : ℕ) where
+  abbrev inside : List ℕ
+  inside = filter (inner fs vs) (sides_of vs)
 
-  abbrev count : Bool → List ℕ → ℕ
-  count ends es = count_by (λ e. meets ends (edge_side fs e)) es
+  abbrev meet : Bool → ℕ → Bool
+  meet ends e = meets ends l (edge_side fs e)
 
-  module _ (vs : List FacetNo) (t : HasTwins fs) (a : AreFacets fs vs) where
-    abbrev inside : List ℕ
-    inside = filter (inner fs vs) (sides_of vs)
+  -- of the sides inside as many start as end
+  count_inside : (ends : Bool) → count_by (meet ends) inside ≤ count_by (meet (not ends)) inside
+  count_inside ends = count_twins (twin_of fs) (meet ends) (meet (not ends)) inside
+      (once_filter (inner fs vs) (sides_of vs) (once_sides vs (once_of vs a.apart)))
+      (λ e i m. let k = of_filter (inner fs vs) (sides_of vs) e i in let d = twin_of fs e in let h = of_sides vs e k.0 in
+          let g = t e (listed_live fs vs a (e / 3) h) in
+          let turned = elim ends as (λ b. corner (not b) (edge_side fs d) ≡ corner b (edge_side fs e)) [ true ↦ g.starts | false ↦ g.ends ] in
+          (in_filter (inner fs vs) (sides_of vs) d (in_sides vs d k.1) (rw (g.back, h) refl), rw (turned, m) refl, g.back))
 
-    -- of the sides inside as many start as end
-    count_inside : (ends : Bool) → count ends inside ≤ count (not ends) inside
-    count_inside ends = count_twins (twin_of fs) (λ e. meets ends (edge_side fs e)) (λ e. meets (not ends) (edge_side fs e)) inside
-        (once_filter (inner fs vs) (sides_of vs) (once_sides vs (once_of vs a.apart))) paired
-      where
-        paired : (e : ℕ) → In e inside → meets ends (edge_side fs e) ≡ true → In (twin_of fs e) inside
-            × (meets (not ends) (edge_side fs (twin_of fs e)) ≡ true) × (twin_of fs (twin_of fs e) ≡ e)
-        paired e i m =
-            let k = of_filter (inner fs vs) (sides_of vs) e i in let d = twin_of fs e in let l' = of_sides vs e k.0 in
-            let g = t e (listed_live fs vs a (e / 3) l') in
-            let turned = elim ends as (λ b. corner (not b) (edge_side fs d) ≡ corner b (edge_side fs e)) [ true ↦ g.starts | false ↦ g.ends ] in (
-              in_filter (inner fs vs) (sides_of vs) d (in_sides vs d k.1) (ap (λ x. is_listed vs (x / 3)) g.back ∙ l'),
-              ap (λ c. nat_eq c l) turned ∙ m,
-              g.back,
-            )
-
-    -- so on the horizon too
-    count_horizon : count true (horizon fs vs) ≡ count false (horizon fs vs)
-    count_horizon = omega (arith, count_inside true, count_inside false, both true, both false, all true, all false, round vs)
-      where
-        both : (ends : Bool) → count ends inside + count ends (horizon fs vs) ≡ count ends (sides_of vs)
-        both ends = sum_by-filter_both (inner fs vs) (leaves fs vs) (λ e. refl) (λ e. cond (meets ends (edge_side fs e)) 1 0) (sides_of vs)
-
-        all : (ends : Bool) → count_by (meets ends) (flat_map (λ v. three_sides (facet_at fs v.0)) vs) ≡ count ends (sides_of vs)
-        all ends = ap (count_by (meets ends)) (sym (sides_are fs vs)) ∙ count-map (edge_side fs) (meets ends) (sides_of vs)
+  -- so on the horizon too
+  balance : (ends : Bool) → count_by (meet ends) inside + count_by (meets ends l) (map (edge_side fs) (horizon fs vs))
+      ≡ count_by (meets ends l) (flat_map (λ v. three_sides (facet_at fs v.0)) vs)
+  balance ends =
+      rw (count-map (edge_side fs) (meets ends l) (horizon fs vs))
+      (sum_by-filter_both (inner fs vs) (leaves fs vs) (λ e. refl) (λ e. cond (meet ends e) 1 0) (sides_of vs)
+      ∙ sym (count-map (edge_side fs) (meets ends l) (sides_of vs)) ∙ ap (count_by (meets ends l)) (sides_are fs vs))
 
 -- the horizon of facets of a surface is balanced
 pub horizon_balanced : (fs : List StoredFacet) (vs : List FacetNo) → HasTwins fs → AreFacets fs vs
     → IsBalanced (map (edge_side fs) (horizon fs vs))
-horizon_balanced fs vs t a l =
-    count-map (edge_side fs) (meets fs l true) (horizon fs vs) ∙ count_horizon fs l vs t a
-    ∙ sym (count-map (edge_side fs) (meets fs l false) (horizon fs vs))
+horizon_balanced fs vs t a l = let c = count_inside fs vs t a l in let b = balance fs vs t a l in
+    omega (arith, c true, c false, b true, b false, round fs l vs)
 
 -- ---- gathering
 module _ (old cleared : List StoredFacet) (vs : List FacetNo) (r : Removed old cleared vs (length vs)) where
@@ -142,7 +129,7 @@ module _ (old cleared : List StoredFacet) (vs : List FacetNo) (r : Removed old c
   gone f e = let q = listed_find vs f e in subst (λ g. facet_at cleared g ≡ removed (facet_at old g)) (sym q.1.1) (r.there q.0 q.1.0)
 
   -- every other facet stays
-  pub stays : (f : ℕ) → is_listed vs f ≡ Rattle.std.proofs.Common.false → facet_at cleared f ≡ facet_at old f
+  pub stays : (f : ℕ) → is_listed vs f ≡ false → facet_at cleared f ≡ facet_at old f
   stays f u = r.others f (λ j l e. both_ways (is_listed vs f) u (listed_at vs f j l (sym e)))
 
   module _ (free : List FacetNo) (s : IsSurface old free) (a : AreFacets old vs) where
@@ -160,11 +147,13 @@ module _ (old cleared : List StoredFacet) (vs : List FacetNo) (r : Removed old c
     noted : (e : ℕ) → In e (sides_of vs) → (edge_side cleared e ≡ edge_side old e) × (is_open cleared (edge_side cleared e) ≡ leaves old vs e)
     noted e i =
         let l = of_sides vs e i in let o = twin_of old e / 3 in
-        let same = side-is cleared e ∙ ap (λ t. side_of t (side_of_edge e)) (gone (e / 3) l) ∙ sym (side-is old e) in
-        (same, ap (is_open cleared) same ∙ elim (cases_Bool (inner old vs e)) [
-          | inl h ↦ ap is_live (gone o h) ∙ sym (ap not h)
-          | inr h ↦ ap is_live (stays o h) ∙ (s.twins e (listed_live old vs a (e / 3) l)).live ∙ sym (ap not h)
-        ])
+        let same = side-is cleared e ∙ ap (λ t. side_of t (side_of_edge e)) (gone (e / 3) l) ∙ sym (side-is old e) in (
+          same,
+          ap (is_open cleared) same ∙ elim (cases_Bool (inner old vs e)) [
+            | inl h ↦ ap is_live (gone o h) ∙ sym (ap not h)
+            | inr h ↦ ap is_live (stays o h) ∙ (s.twins e (listed_live old vs a (e / 3) l)).live ∙ sym (ap not h)
+          ],
+        )
 
     -- so the horizon is gathered
     pub gathered : open_sides cleared vs ≡ map (edge_side old) (horizon old vs)

@@ -41,11 +41,11 @@ module _ {X : Type 0} (p : X → Bool) (d : X) where
     ]
   ]
 
-module _ (hs : List FacetSide) where
-  -- is the corner of this kind l?
-  abbrev meets : Bool → ℕ → FacetSide → Bool
-  meets ends l h = nat_eq (corner ends h) l
+-- is the corner of this kind l?
+abbrev pub meets : Bool → ℕ → FacetSide → Bool
+meets ends l h = nat_eq (corner ends h) l
 
+module _ (hs : List FacetSide) where
   -- as many meet l the other way
   balanced : IsBalanced hs → (ends : Bool) (l : ℕ) → count_by (meets ends l) hs ≡ count_by (meets (not ends) l) hs
   balanced b true l = b l

@@ -1,7 +1,7 @@
 -- The steps of a replacement are one, and they leave a surface.
 use Rattle.std.proofs.Common.{◌≡◌, ℕ, ◌+◌, ◌*◌, ◌/◌, ◌<◌, arith, ap, sym, ◌∙◌, refl, subst, true, false, inl, inr, List, length, ◌≢◌, not, Bool}
 use Rattle.std.proofs.Common.{◌⊎◌, reverse, length-append}
-use Rattle.std.proofs.lemmas.Bool.{cases_Bool, both_ways}
+use Rattle.std.proofs.lemmas.Bool.{cases_Bool, both_ways, false_from_ne_true}
 use Rattle.std.proofs.lemmas.List.{length-map, get_or-map}
 use Rattle.qh_model.specs.contract.StoredSurface.{StoredFacet, facet_at}
 use Rattle.qh_model.proofs.Members.{In-get_or}
@@ -142,10 +142,9 @@ module _ (old chosen : List StoredFacet) (free left vs : List FacetNo) (hs : Lis
     was_kept : (f : ℕ) → IsLive new f → is_listed made f ≡ false → IsKept old vs f
     was_kept f l u =
         let d = ap is_live (sym (other f (λ j m e. both_ways (is_listed made f) u (listed_at made f j m (sym e))))) ∙ l in
-        elim (cases_Bool (is_listed vs f)) [
-          | inl e ↦ absurd (both_ways (facet_at p.between f).live (ap is_live (gone old p.between vs c.removed f e)) d)
-          | inr e ↦ record { live = ap is_live (sym (stays old p.between vs c.removed f e)) ∙ d; unlisted = e }
-        ]
+        let u' = false_from_ne_true (is_listed vs f)
+        (λ e. both_ways (facet_at p.between f).live (ap is_live (gone old p.between vs c.removed f e)) d) in
+        record { live = ap is_live (sym (stays old p.between vs c.removed f u')) ∙ d; unlisted = u' }
 
     only : (f : ℕ) → IsLive new f → IsKept old vs f ⊎ ((j : ℕ) × (j < length made) × (f ≡ number made j))
     only f l = elim (cases_Bool (is_listed made f)) [
@@ -166,11 +165,11 @@ module _ (old chosen : List StoredFacet) (free left vs : List FacetNo) (hs : Lis
           ap (corner false) (sym (side_is (mate true j) n.inside)) ∙ n.meets ∙ ap (corner true) (side_is j (omega arith));
       next_twin = next_twin;
       next_back = λ j l. before_twin (mate true j) (mate_in true j l) ∙ ap (λ i. 3 * number made i + 1) (mate_back true j l);
-      kept = λ f k. record {
-        live = ap is_live (kept_bare f k) ∙ k.live;
-        i_is = ap (λ (t : StoredFacet). t.i) (kept_bare f k);
-        j_is = ap (λ (t : StoredFacet). t.j) (kept_bare f k);
-        k_is = ap (λ (t : StoredFacet). t.k) (kept_bare f k);
+      kept = λ f k. let b = kept_bare f k in record {
+        live = ap is_live b ∙ k.live;
+        i_is = ap (λ (t : StoredFacet). t.i) b;
+        j_is = ap (λ (t : StoredFacet). t.j) b;
+        k_is = ap (λ (t : StoredFacet). t.k) b;
         twins = λ e q u. twins_stay e (subst (IsKept old vs) (sym q) k) u;
       };
       only = only;

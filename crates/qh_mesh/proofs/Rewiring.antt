@@ -188,25 +188,15 @@ module _ (old new : List StoredFacet) (vs : List FacetNo) (p : ℕ) (made : List
     abbrev over : ℕ → Side → ℕ
     over f s = twin_of new (twin_of old (edge_of f s)) / 3
 
+    cone_no : (j : ℕ) → j < length made → twin_of new (twin_of old (edge old vs j)) / 3 ≡ number made j
+    cone_no j l = ap (λ x. x / 3) (r.cone j l).inward ∙ omega arith
+
     -- the place of a side on the horizon
-    record IsPlace (f : ℕ) (s : Side) (j : ℕ) : Type 0 where
-      inside : j < length made
-      edge_is : edge old vs j ≡ edge_of f s
-      over_is : over f s ≡ number made j
-
-    place_at : (f : ℕ) (s : Side) (j : ℕ) → j < length made → edge old vs j ≡ edge_of f s → IsPlace f s j
-    place_at f s j l e = record {
-      inside = l;
-      edge_is = e;
-      over_is = ap (λ x. twin_of new (twin_of old x) / 3) (sym e) ∙ ap (λ x. x / 3) (r.cone j l).inward ∙ omega arith;
-    }
-
-    place_of : (f : ℕ) (s : Side) → IsSide f s → (j : ℕ) × IsPlace f s j
+    place_of : (f : ℕ) (s : Side) → IsSide f s → (j : ℕ) × (j < length made) × (edge old vs j ≡ edge_of f s)
     place_of f s e =
-        let q = horizon_at old vs (edge_of f s)
-        (ap (is_listed vs) (edge-facet f s) ∙ seen_listed f (live_in old f e.live) e.seen)
-        (over_unlisted f s e.live e.blind) in
-        let l = q.1 in let n = r.len in (q.0, place_at f s q.0 (omega arith) q.2)
+        let listed = ap (is_listed vs) (edge-facet f s) ∙ seen_listed f (live_in old f e.live) e.seen in
+        let q = horizon_at old vs (edge_of f s) listed (over_unlisted f s e.live e.blind) in
+        let l = q.1 in let n = r.len in (q.0, omega arith, q.2)
 
     is_kept : (f : ℕ) → In f m.live → IsBlind f → IsKept old vs f
     is_kept f i b = record { live = live_in old f i; unlisted = blind_unlisted f (live_in old f i) b }
@@ -214,13 +204,12 @@ module _ (old new : List StoredFacet) (vs : List FacetNo) (p : ℕ) (made : List
     only : (f : ℕ) → IsKept old vs f ⊎ ((j : ℕ) × (j < length made) × (f ≡ number made j))
         → (In f m.live × IsBlind f) ⊎ ((g : ℕ) × (s : Side) × IsSide g s × (f ≡ over g s))
     only f (inl k) = inl (in_live old f k.live, unlisted_blind f k.live k.unlisted)
-    only f (inr (j, l, e)) =
-        let x = edge old vs j in let n = r.len in
-        inr (x / 3, side_of_edge x, horizon_side j (omega arith), e ∙ sym (place_at (x / 3) (side_of_edge x) j l (sym (edge_is x))).over_is)
+    only f (inr (j, l, e)) = let x = edge old vs j in let n = r.len in
+        inr (x / 3, side_of_edge x, horizon_side j (omega arith), rw (edge_is x, cone_no j l) e)
 
     -- a facet of the cone, by the side of the horizon
     cone : (f : ℕ) (s : Side) → IsSide f s → IsCone old new (edge_of f s) p (over f s)
-    cone f s e = let j = place_of f s e in rw (j.1.over_is, sym j.1.edge_is) (r.cone j.0 j.1.inside)
+    cone f s e = let j = place_of f s e in rw (← j.2, cone_no j.0 j.1) (r.cone j.0 j.1)
 
     -- a side whose neighbour goes is joined to the cone
     outward : (f : ℕ) (s : Side) → In f m.live → IsBlind f → Sees m home (m.over f s) (home p)
@@ -237,18 +226,18 @@ module _ (old new : List StoredFacet) (vs : List FacetNo) (p : ℕ) (made : List
         → r.next (place_of f s e).0 ≡ (place_of g t e').0
     next-is f s g t e e' q =
         let j = place_of f s e in let i = place_of g t e' in let n = r.next j.0 in let x = edge old vs n in let k = r.len in
-        let l : n < length (horizon old vs) = (let a = r.next_in j.0 j.1.inside in omega arith) in let b = i.1.inside in
-        let starts = r.next_starts j.0 j.1.inside ∙ ap (edge_end old) j.1.edge_is ∙ end-is old f s ∙ sym q in
+        let l : n < length (horizon old vs) = (let a = r.next_in j.0 j.1 in omega arith) in let b = i.1 in
+        let starts = r.next_starts j.0 j.1 ∙ ap (edge_end old) j.2 ∙ end-is old f s ∙ sym q in
         let same = horizon_is_known m home o z.0 z.1 (home p)
         (x / 3) g (side_of_edge x) t (horizon_side n l) e' (inl starts) in
-        same_place old vs d.facets n i.0 l (omega arith) (sym (edge_is x) ∙ (λ i. edge_of (same.0 i) (same.1 i)) ∙ sym i.1.edge_is)
+        same_place old vs d.facets n i.0 l (omega arith) (sym (edge_is x) ∙ (λ i. edge_of (same.0 i) (same.1 i)) ∙ sym i.2)
 
     -- they are neighbours
     next_twin : (f : ℕ) (s : Side) (g : ℕ) (t : Side) → IsSide f s → IsSide g t → start m g t ≡ end m f s
         → ((facet_at new (over f s)).jk ≡ edge_of (over g t) third) × ((facet_at new (over g t)).ki ≡ edge_of (over f s) second)
     next_twin f s g t e e' q =
         let j = place_of f s e in let i = place_of g t e' in let n = next-is f s g t e e' q in
-        rw (j.1.over_is, i.1.over_is, ← n) (r.next_twin j.0 j.1.inside, r.next_back j.0 j.1.inside)
+        rw (← j.2, ← i.2, cone_no j.0 j.1, cone_no i.0 i.1, ← n) (r.next_twin j.0 j.1, r.next_back j.0 j.1)
 
     -- the step is one of Quickhull
     pub rewired : IsRewired m (surface_of new) home p

@@ -1,5 +1,5 @@
 -- Meshes that are sound: the simplex, what a step leaves, and that both close up.
-use Rattle.std.proofs.Common.{◌≡◌, ℕ, arith, refl, [], ◌≢◌, sym, inl, inr, List, ◌∷◌, subst}
+use Rattle.std.proofs.Common.{◌≡◌, ℕ, arith, rules, refl, [], ◌≢◌, sym, inl, inr, List, ◌∷◌, subst}
 use Rattle.std.specs.Prelude.{ℤ, pos, ◌+ℤ◌, ◌<ℤ◌, ◌≤ℤ◌}
 use Rattle.std.proofs.lemmas.Bool.{cases_Bool}
 use Rattle.std.proofs.lemmas.Int.{ints, by_lt_z}
@@ -44,34 +44,25 @@ below_zero : (x : ℤ) → x ≢ pos 0 → (pos 0 <ℤ x → ⊥) → x <ℤ pos
 below_zero x n l = by_lt_z (pos 0) x (λ h. absurd (l h)) (λ h. omega (arith, ints))
 
 module _ (at : ℕ → Vector) (a b c d : ℕ) where
-  abbrev law : Surface
-  law = simplex_surface a b c d
-
-  abbrev stored : Surface
-  stored = surface_of (simplex_facets a b c d)
-
   -- its facets are those of the law's, by computing
-  simplex_named : IsNamed law stored (λ l. l)
-  simplex_named = record {
+  simplex_named : IsNamed (simplex_surface a b c d) (surface_of (simplex_facets a b c d)) (λ l. l)
+  simplex_named = let law = simplex_surface a b c d in let stored = surface_of (simplex_facets a b c d) in record {
     live = refl;
     i_is = four (λ f. stored.i f ≡ law.i f) refl refl refl refl;
     j_is = four (λ f. stored.j f ≡ law.j f) refl refl refl refl;
     k_is = four (λ f. stored.k f ≡ law.k f) refl refl refl refl;
     over_is = λ f s. four (λ f. stored.over f s ≡ law.over f s) refl refl refl refl f;
-    back_is = λ f. elim [
-      | first ↦ four (λ f. stored.back f first ≡ law.back f first) refl refl refl refl f
-      | second ↦ four (λ f. stored.back f second ≡ law.back f second) refl refl refl refl f
-      | third ↦ four (λ f. stored.back f third ≡ law.back f third) refl refl refl refl f
-    ];
+    back_is = λ f s. four (λ f. stored.back f s ≡ law.back f s) (search rules) (search rules) (search rules) (search rules) f;
   }
 
   -- with volume below 0 it is sound around its middle
   below_is_sound : vol (at a) (at b) (at c) (at d) <ℤ pos 0 → IsSoundMesh at (simplex_facets a b c d) (middle_at at a b c d)
   below_is_sound h =
       let below = subst (λ v. v <ℤ pos 0) (sym (rise_is_vol (at a) (at b) (at c) (at d))) h in
-      let z = simplex_sound (weighted_at at) a b c d below in let home = weighted_at at in
-      (whole_named simplex_named z.0,
-      sound_named simplex_named home home (middle_at at a b c d) (λ l. l) (λ f i l c. refl) (λ f i l c. refl) z.1)
+      let z = simplex_sound (weighted_at at) a b c d below in let home = weighted_at at in (
+        whole_named simplex_named z.0,
+        sound_named simplex_named home home (middle_at at a b c d) (λ l. l) (λ f i l c. refl) (λ f i l c. refl) z.1,
+      )
 
   -- so it is with volume that is neither 0 nor above, and closed
   module _ (n : vol (at a) (at b) (at c) (at d) ≢ pos 0) (h : pos 0 <ℤ vol (at a) (at b) (at c) (at d) → ⊥) where
