@@ -1,23 +1,21 @@
 -- The horizon of listed facets: its edges, that as many of them start at a corner as end there, and how it is gathered.
 use Rattle.std.proofs.Common.{◌≡◌, ℕ, ◌+◌, ◌*◌, ◌/◌, ◌<◌, ◌≤◌, arith, ap, sym, ◌∙◌, refl, subst, true, false, inl, inr, List, length}
-use Rattle.std.proofs.Common.{Bool, cond, not, nat_eq, [], ◌∷◌, map}
+use Rattle.std.proofs.Common.{Bool, cond, not, [], ◌∷◌, map}
 use Rattle.std.specs.Prelude.{filter, count_by, flat_map}
 use Rattle.std.proofs.lemmas.Bool.{cases_Bool, not-true, not_from_false, both_ways}
-use Rattle.std.proofs.lemmas.List.{length-map}
 use Rattle.std.proofs.lemmas.List.Filters.{sum_by-filter_both}
-use Rattle.std.proofs.lemmas.List.Sums.{sum_by-cons, length-filter}
+use Rattle.std.proofs.lemmas.List.Sums.{sum_by-cons}
 use Rattle.qh_model.specs.contract.StoredSurface.{StoredFacet, facet_at}
 use Rattle.qh_model.specs.contract.Surface.{Side}
 use Rattle.qh_model.specs.contract.Surface.Side.{first, second, third}
-use Rattle.qh_model.specs.headline.Sets.{In, Once}
+use Rattle.qh_model.specs.headline.Sets.{In}
 use Rattle.qh_model.proofs.Members.{In-get_or, in_at}
+use Rattle.qh_model.proofs.lists.Counts.{count-map, count_twins}
 use Rattle.qh_model.proofs.lists.Filters.{in_filter, of_filter, once_filter, filter_image}
-use Rattle.qh_model.proofs.lists.Images.{of_map, once_map}
-use Rattle.qh_model.proofs.lists.OnceEach.{once_place, once_within}
+use Rattle.qh_model.proofs.lists.OnceEach.{once_place}
 use Rattle.qh_mesh.specs.contract.Replacement.{number, at, sides_of, is_listed, horizon, side_of_edge, twin_of}
 use Rattle.qh_mesh.specs.contract.Replacement.{IsLive, AreFacets, IsKept}
 use Rattle.qh_mesh.specs.declared.facets.FacetNo.{FacetNo}
-use Rattle.qh_mesh.specs.declared.facets.FacetSide.{FacetSide}
 use Rattle.qh_mesh.specs.steps.Horizons.{corner, edge_side, IsBalanced, HasSidesInside, is_open, three_sides, open_sides}
 use Rattle.qh_mesh.specs.steps.Kept.{side_of, outer_of, is_live, removed}
 use Rattle.qh_mesh.specs.steps.Places.{Removed}
@@ -26,7 +24,7 @@ use Rattle.qh_mesh.specs.steps.Twins.{edge_of, HasTwin, HasTwins}
 use Rattle.qh_mesh.proofs.EdgeSides.{edge-facet, twin-is, side-is, noted-is}
 use Rattle.qh_mesh.proofs.ListedFacets.{listed_live, in_sides, of_sides, once_of, once_sides, listed_at, listed_find}
 use Rattle.qh_mesh.proofs.Mates.{meets}
-use Rattle.qh_mesh.proofs.Pools.{live_inside}
+use Rattle.qh_model.proofs.surfaces.Stored.{live_inside}
 
 module _ (old : List StoredFacet) (vs : List FacetNo) where
   -- an edge of the horizon, by its place
@@ -61,23 +59,6 @@ module _ (old : List StoredFacet) (vs : List FacetNo) where
   same_place a = once_place 0 (horizon old vs) (once_filter leaves (sides_of vs) (once_sides vs (once_of vs a.apart)))
 
 -- ---- balance
--- an image counts as its list
-pub count-map : {X Y : Type 0} (f : X → Y) (p : Y → Bool) (xs : List X) → count_by p (map f xs) ≡ count_by (λ x. p (f x)) xs
-count-map f p [] = refl
-count-map f p (x ∷ xs) =
-    sum_by-cons (λ y. cond (p y) 1 0) (f x) (map f xs) ∙ ap (λ n. cond (p (f x)) 1 0 + n) (count-map f p xs)
-    ∙ sym (sum_by-cons (λ y. cond (p (f y)) 1 0) x xs)
-
--- where each member that passes p has a twin that passes q, no more pass p than q
-count_twins : (twin : ℕ → ℕ) (p q : ℕ → Bool) (xs : List ℕ) → Once xs
-    → ((x : ℕ) → In x xs → p x ≡ true → In (twin x) xs × (q (twin x) ≡ true) × (twin (twin x) ≡ x)) → count_by p xs ≤ count_by q xs
-count_twins twin p q xs o h =
-    let t = λ (x : ℕ) (i : In x (filter p xs)). let k = of_filter p xs x i in h x k.0 k.1 in
-    let images = once_map twin (filter p xs) (λ x y i j e. sym (t x i).2 ∙ ap twin e ∙ (t y j).2) (once_filter p xs o) in
-    let within = once_within (map twin (filter p xs)) (filter q xs) images (λ y i. let r = of_map twin (filter p xs) y i in
-    subst (λ z. In z (filter q xs)) (sym r.2) (in_filter q xs (twin r.0) (t r.0 r.1).0 (t r.0 r.1).1)) in
-    omega (arith, length-filter p xs, length-filter q xs, length-map (filter p xs) twin)
-
 -- what is noted of the edges of facets are their sides
 sides_are : (fs : List StoredFacet) (vs : List FacetNo)
     → map (edge_side fs) (sides_of vs) ≡ flat_map (λ v. three_sides (facet_at fs v.0)) vs

@@ -1,45 +1,13 @@
 -- Which sides of a horizon follow one another: each has one mate at either end, and is the mate of that.
-use Rattle.std.proofs.Common.{◌≡◌, ℕ, zero, suc, ◌<◌, ◌≤◌, inl, inr, arith, ap, sym, ◌∙◌, refl, subst, add-one, Bool, true, false}
-use Rattle.std.proofs.Common.{cond, not, nat_eq, List, length, get_or, take}
+use Rattle.std.proofs.Common.{◌≡◌, ℕ, ◌<◌, ◌≤◌, inl, inr, arith, ap, sym, ◌∙◌, refl, subst, Bool, true, false}
+use Rattle.std.proofs.Common.{not, nat_eq, List, length}
 use Rattle.std.specs.Prelude.{count_by}
-use Rattle.std.proofs.lemmas.List.{take-take, get_or-take, take_all, length-take-le}
-use Rattle.std.proofs.lemmas.List.Sums.{sum_by_more_le, count_by_more_yes, count_by_more_no}
-use Rattle.std.proofs.lemmas.Bool.{cases_Bool, cases_lt, cases_order, eq-eqb, eqb-true}
+use Rattle.std.proofs.lemmas.List.{take_all}
+use Rattle.std.proofs.lemmas.Bool.{cases_lt, eq-eqb, eqb-true}
+use Rattle.qh_model.proofs.lists.Counts.{counted, counted_apart, counted_at}
 use Rattle.qh_mesh.specs.declared.facets.FacetSide.{FacetSide}
 use Rattle.qh_mesh.specs.declared.slots.Slot.{Slot}
 use Rattle.qh_mesh.specs.steps.Horizons.{side_at, no_side, corner, rank, noted, IsBalanced, IsMate, AreNoted}
-
-module _ {X : Type 0} (p : X → Bool) (d : X) where
-  -- one that passes adds to the count
-  counted : (xs : List X) (i : ℕ) → i < length xs → p (get_or xs i d) ≡ true → count_by p (take i xs) < count_by p xs
-  counted xs i l e = let h = rw e at (sum_by_more_le (λ x. cond (p x) 1 0) xs i d l) in omega (arith, h)
-
-  -- also among the first n
-  counted-first : (xs : List X) (i n : ℕ) → i < n → n ≤ length xs → p (get_or xs i d) ≡ true
-      → count_by p (take i xs) < count_by p (take n xs)
-  counted-first xs i n l m e = subst (λ ys. count_by p ys < count_by p (take n xs)) (take-take i n xs (omega arith))
-      (counted (take n xs) i (let q = length-take-le n xs m in omega arith) (ap p (get_or-take n xs i d l) ∙ e))
-
-  -- so it is known by how many pass before it
-  counted_apart : (xs : List X) (i j : ℕ) → i < length xs → j < length xs → p (get_or xs i d) ≡ true → p (get_or xs j d) ≡ true
-      → count_by p (take i xs) ≡ count_by p (take j xs) → i ≡ j
-  counted_apart xs i j l m e f q = elim (cases_order i j) [
-    | inl h ↦ h
-    | inr (inl h) ↦ (let c = counted-first xs i j h (omega arith) e in absurd (omega arith))
-    | inr (inr h) ↦ (let c = counted-first xs j i h (omega arith) f in absurd (omega arith))
-  ]
-
-  -- each count below that of the first n is that before one that passes
-  counted_at : (xs : List X) (r n : ℕ) → n ≤ length xs → r < count_by p (take n xs)
-      → (i : ℕ) × (i < length xs) × (p (get_or xs i d) ≡ true) × (count_by p (take i xs) ≡ r)
-  counted_at xs r zero l h = absurd (omega arith)
-  counted_at xs r (suc n) l h = let k = rw (← add-one n) at h in elim (cases_lt r (count_by p (take n xs))) [
-    | inl g ↦ counted_at xs r n (omega arith) g
-    | inr g ↦ elim (cases_Bool (p (get_or xs n d))) [
-      | inl t ↦ (let e = count_by_more_yes p xs n d (omega arith) t in (n, omega arith, t, omega arith))
-      | inr f ↦ (let e = count_by_more_no p xs n d (omega arith) f in absurd (omega arith))
-    ]
-  ]
 
 -- is the corner of this kind l?
 abbrev pub meets : Bool → ℕ → FacetSide → Bool

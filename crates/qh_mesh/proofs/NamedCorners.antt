@@ -2,13 +2,13 @@
 use Rattle.std.proofs.Common.{◌≡◌, ℕ, zero, suc, ◌/◌, ap, sym, ◌∙◌, refl, List, [], ◌∷◌, map, reverse}
 use Rattle.std.proofs.lemmas.List.{length-map}
 use Rattle.qh_model.specs.contract.StoredSurface.{named_facet, StoredFacet, facet_at}
+use Rattle.qh_model.proofs.lists.Counts.{count-map}
 use Rattle.qh_model.proofs.surfaces.Named.{stored_named, start_named, end_named}
 use Rattle.qh_mesh.specs.declared.facets.FacetNo.{FacetNo}
 use Rattle.qh_mesh.specs.contract.Replacement.{IsLive, side_of_edge, edge_start, edge_end, twin_of}
 use Rattle.qh_mesh.specs.steps.Kept.{is_live, outer_of}
 use Rattle.qh_mesh.specs.steps.Surfaces.{IsSurface}
 use Rattle.qh_mesh.specs.steps.Twins.{HasTwins}
-use Rattle.qh_mesh.proofs.HorizonSides.{count-map}
 use Rattle.qh_mesh.proofs.Rewiring.{in_live}
 use Rattle.qh_mesh.proofs.Pools.{pool_same}
 

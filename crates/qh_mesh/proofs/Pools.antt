@@ -1,13 +1,14 @@
 -- The places of no facet, as they come and go.
-use Rattle.std.proofs.Common.{◌≡◌, ◌≢◌, ℕ, zero, suc, ◌+◌, ◌^◌, ◌<◌, ◌≤◌, inl, inr, max, arith, ap, sym, ◌∙◌, refl, subst, Bool, true}
+use Rattle.std.proofs.Common.{◌≡◌, ◌≢◌, ℕ, zero, suc, ◌^◌, ◌<◌, ◌≤◌, inl, inr, max, arith, ap, sym, ◌∙◌, refl, subst, Bool, true}
 use Rattle.std.proofs.Common.{false, cond}
 use Rattle.std.proofs.Common.{List, [], ◌∷◌, ◌++◌, length, reverse, set}
 use Rattle.std.proofs.lemmas.Bool.{both_ways, cases_lt}
 use Rattle.std.proofs.lemmas.List.{length_push, length-reverse, length-set, get_or_past, get_or-set_same, get_or-set_other}
 use Rattle.std.proofs.lemmas.List.{append_assoc, reverse-append, append-nil}
-use Rattle.std.proofs.lemmas.List.Sums.{sum_by-cons, sum_by-set, sum_by_push}
+use Rattle.std.proofs.lemmas.List.Sums.{sum_by-set, sum_by_push}
 use Rattle.qh_model.specs.headline.Sets.{In}
-use Rattle.qh_model.specs.contract.StoredSurface.{StoredFacet, facet_at, no_facet, live_from, surface_of}
+use Rattle.qh_model.specs.contract.StoredSurface.{StoredFacet, facet_at, no_facet, surface_of}
+use Rattle.qh_model.proofs.surfaces.Stored.{live_inside, live_len}
 use Rattle.qh_model.proofs.lists.Joined.{of_append, once_append}
 use Rattle.qh_mesh.specs.declared.facets.FacetNo.{FacetNo}
 use Rattle.qh_mesh.specs.declared.facets.FacetSide.{FacetSide}
@@ -17,50 +18,37 @@ use Rattle.qh_mesh.specs.steps.Kept.{is_live}
 use Rattle.qh_mesh.specs.steps.Places.{IsPool, IsVacant, live_count}
 use Rattle.qh_mesh.specs.steps.Rebuilt.{IsReady}
 
--- a live facet has a place
-pub live_inside : (fs : List StoredFacet) (f : ℕ) → IsLive fs f → f < length fs
-live_inside fs f l = elim (cases_lt f (length fs)) [
-  | inl h ↦ h
-  | inr h ↦ absurd (both_ways (facet_at fs f).live (ap is_live (get_or_past fs f no_facet h)) l)
-]
+-- what a mark adds to the count of live facets
+abbrev one : Bool → ℕ
+one b = cond b 1 0
 
-module _ (fs : List StoredFacet) (v : ℕ) (t : StoredFacet) where
-  -- a write changes the count of live facets by its own
-  count_set : (b c : Bool) → v < length fs → (facet_at fs v).live ≡ b → t.live ≡ c
-      → live_count (set fs v t) + cond b 1 0 ≡ live_count fs + cond c 1 0
-  count_set b c l e d = rw (← e, ← d) (sum_by-set (λ t. cond (is_live t) 1 0) fs v t no_facet l)
-
-  -- and leaves vacant what was
-  vacant_set : (w : ℕ) → w ≢ v → IsVacant fs w → IsVacant (set fs v t) w
-  vacant_set w n h = (rw (length-set fs v t) h.0, ap is_live (get_or-set_other fs v w t no_facet n) ∙ h.1)
+-- a write leaves vacant what was, elsewhere
+vacant_set : (fs : List StoredFacet) (v : ℕ) (t : StoredFacet) (w : ℕ) → w ≢ v → IsVacant fs w → IsVacant (set fs v t) w
+vacant_set fs v t w n h = (rw (length-set fs v t) h.0, ap is_live (get_or-set_other fs v w t no_facet n) ∙ h.1)
 
 module _ (fs : List StoredFacet) (places : List FacetNo) (v : FacetNo) (t : StoredFacet) where
   -- a facet that goes leaves its place
   pub pool_more : IsPool fs places → IsLive fs v.0 → t.live ≡ false → IsPool (set fs v.0 t) (v ∷ places)
-  pool_more q l e = record {
-    once = ((λ i. apart v i refl), q.once);
-    vacant = λ w. elim [
-      | inl d ↦ subst (λ (u : FacetNo). IsVacant (set fs v.0 t) u.0) (sym d)
-          (rw (length-set fs v.0 t) inside, ap is_live (get_or-set_same fs v.0 t no_facet inside) ∙ e)
-      | inr i ↦ vacant_set fs v.0 t w.0 (apart w i) (q.vacant w i)
-    ];
-    count = let c = count_set fs v.0 t true false inside l e in let d = q.count in let n = length-set fs v.0 t in omega arith;
-  }
-    where
-      inside : v.0 < length fs
-      inside = live_inside fs v.0 l
-
-      apart : (w : FacetNo) → In w places → w.0 ≢ v.0
-      apart w i d = both_ways (facet_at fs v.0).live (ap (λ g. (facet_at fs g).live) (sym d) ∙ (q.vacant w i).1) l
+  pool_more q l e =
+      let inside = live_inside fs v.0 l in let n = length-set fs v.0 t in
+      let apart = λ (w : FacetNo) (i : In w places) (d : w.0 ≡ v.0).
+      both_ways (facet_at fs v.0).live (ap (λ g. (facet_at fs g).live) (sym d) ∙ (q.vacant w i).1) l in
+      record {
+        once = ((λ i. apart v i refl), q.once);
+        vacant = λ w. elim [
+          | inl d ↦ subst (λ (u : FacetNo). IsVacant (set fs v.0 t) u.0) (sym d)
+              (rw n inside, ap is_live (get_or-set_same fs v.0 t no_facet inside) ∙ e)
+          | inr i ↦ vacant_set fs v.0 t w.0 (apart w i) (q.vacant w i)
+        ];
+        count = omega (arith, q.count, rw l at (sum_by-set (λ t. one t.live) fs v.0 t no_facet inside), ap one e);
+      }
 
   -- and one that comes takes one
   pub pool_less : IsPool fs (v ∷ places) → t.live ≡ true → IsPool (set fs v.0 t) places
-  pool_less q e = record {
+  pool_less q e = let h = q.vacant v (inl refl) in let n = length-set fs v.0 t in record {
     once = q.once.1;
     vacant = λ w i. vacant_set fs v.0 t w.0 (λ d. q.once.0 (subst (λ u. In u places) (λ k. record { 0 = d k }) i)) (q.vacant w (inr i));
-    count =
-        let h = q.vacant v (inl refl) in let c = count_set fs v.0 t false true h.0 h.1 e in let d = q.count in
-        let n = length-set fs v.0 t in omega arith;
+    count = omega (arith, q.count, rw h.1 at (sum_by-set (λ t. one t.live) fs v.0 t no_facet h.0), ap one e);
   }
 
 -- facets with the same marks leave the same places
@@ -106,17 +94,8 @@ pool_grows fs made p e r =
         | inr (inl k) ↦ (let d = same v k in (omega arith, ap is_live (blank_same fs v.0 ∙ get_or_past fs v.0 no_facet (omega arith))))
         | inr (inr j) ↦ absurd j
       ];
-      count = let c = sum_by_push (λ t. cond (is_live t) 1 0) fs no_facet in let d = q.count in omega arith;
+      count = let c = sum_by_push (λ t. one t.live) fs no_facet in let d = q.count in omega arith;
     })
-
--- the live facets are as many as are listed
-live_len : (n : ℕ) (fs : List StoredFacet) → length (live_from n fs) ≡ live_count fs
-live_len n [] = refl
-live_len n (t ∷ fs) =
-    let h = live_len (n + 1) fs in
-    let ns = live_from (n + 1) fs in
-    elim t.live as (λ b. length (cond b (n ∷ ns) ns) ≡ cond b 1 0 + live_count fs) [ true ↦ omega arith | false ↦ omega arith ]
-    ∙ sym (sum_by-cons (λ t. cond (is_live t) 1 0) t fs)
 
 -- places are given out again before there are more
 pub places_are : (fs : List StoredFacet) (free : List FacetNo) (n : ℕ) → IsPool fs (reverse free) → n ≤ length fs

@@ -20,7 +20,8 @@ use Rattle.qh_mesh.specs.steps.Twins.{HasTwin}
 use Rattle.qh_mesh.proofs.HorizonSides.{edge, on_horizon, horizon_twin, same_place, horizon_balanced, gone, stays}
 use Rattle.qh_mesh.proofs.ListedFacets.{listed_at, listed_find, once_apart}
 use Rattle.qh_mesh.proofs.Mates.{has_mate, mate_only, mate_twice}
-use Rattle.qh_mesh.proofs.Pools.{live_inside, places_are}
+use Rattle.qh_model.proofs.surfaces.Stored.{live_inside}
+use Rattle.qh_mesh.proofs.Pools.{places_are}
 use Rattle.qh_mesh.proofs.Rewiring.{twins_after, IsStep, rewired}
 use Rattle.qh_mesh.proofs.SoundMeshes.{step_is_sound, step_is_closed}
 

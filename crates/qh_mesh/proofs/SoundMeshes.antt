@@ -7,7 +7,6 @@ use Rattle.qh_model.specs.contract.ClosedSurface.{signed_volume, triples_of, tri
 use Rattle.qh_model.specs.contract.FinishedSurface.{weighted_at, middle_at, IsFinished}
 use Rattle.qh_model.specs.contract.StoredSurface.{StoredFacet, surface_of}
 use Rattle.qh_model.specs.contract.Surface.{Surface}
-use Rattle.qh_model.specs.contract.Surface.Side.{first, second, third}
 use Rattle.qh_model.specs.contract.Weighted.{Weighted, weighted, middle_of}
 use Rattle.qh_model.specs.headline.Predicates.{vol}
 use Rattle.qh_model.specs.headline.Sets.{In}
@@ -29,9 +28,9 @@ use Rattle.qh_mesh.proofs.Rewiring.{live_in, in_live, IsStep, rewired}
 -- a sound mesh with a facet is closed
 pub closed_of : (at : ℕ → Vector) (fs : List StoredFacet) (s t u v f : ℕ) → IsLive fs f → IsSoundMesh at fs (middle_at at s t u v)
     → IsClosedMesh at fs
-closed_of at fs s t u v f l z = record {
-  surface = sound_is_closed at (surface_of fs) s t u v f (in_live fs f l) (live_is_listed_once fs) z.0 z.1;
-  volume = sound_has_volume at (surface_of fs) s t u v f (in_live fs f l) (live_is_listed_once fs) z.0 z.1;
+closed_of at fs s t u v f l z = let i = in_live fs f l in let o = live_is_listed_once fs in record {
+  surface = sound_is_closed at (surface_of fs) s t u v f i o z.0 z.1;
+  volume = sound_has_volume at (surface_of fs) s t u v f i o z.0 z.1;
 }
 
 -- and so is a finished one

@@ -1,4 +1,4 @@
--- Lists as sets: ordered lists, lists that have each member once, lists joined, images, and filters.
+-- Lists as sets: ordered lists, lists that have each member once, lists joined, images, filters, and counts.
 pub mod Ordered
 pub mod OnceEach
 pub mod Lexicographic
@@ -7,3 +7,4 @@ pub mod Joined
 pub mod Images
 pub mod Ranges
 pub mod Filters
+pub mod Counts

@@ -1,9 +1,12 @@
 -- The live facets of a stored surface.
 use Rattle.qh_model.specs.headline.Sets.{In, Once}
-use Rattle.qh_model.specs.contract.StoredSurface.{StoredFacet, facet_at, live_from}
+use Rattle.qh_model.specs.contract.StoredSurface.{StoredFacet, facet_at, live_from, no_facet}
 use Rattle.qh_model.specs.laws.LiveFacets.{LiveIsMarked, LiveIsListedOnce}
-use Rattle.std.proofs.Common.{◌≡◌, ℕ, zero, suc, ◌+◌, ◌≤◌, refl, sym, ◌∙◌, subst, arith, List, [], ◌∷◌, inl, inr, Bool, true, false, cond}
-use Rattle.std.proofs.lemmas.Bool.{both_ways}
+use Rattle.std.proofs.Common.{◌≡◌, ℕ, zero, suc, ◌+◌, ◌<◌, ◌≤◌, length, ap, refl, sym, ◌∙◌, subst, arith, List, [], ◌∷◌, inl, inr, Bool, true, false, cond}
+use Rattle.std.proofs.lemmas.Bool.{both_ways, cases_lt}
+use Rattle.std.proofs.lemmas.List.{get_or_past}
+use Rattle.std.proofs.lemmas.List.Sums.{sum_by-cons}
+use Rattle.std.specs.Prelude.{count_by}
 
 -- a step of the next
 marked_step : (n : ℕ) (f : StoredFacet) (fs : List StoredFacet) (g : ℕ) → (In g (live_from (n + 1) fs) → (k : ℕ) × (g ≡ n + 1 + k) × ((facet_at fs k).live ≡ true)) → In g (live_from n (f ∷ fs)) → (k : ℕ) × (g ≡ n + k) × ((facet_at (f ∷ fs) k).live ≡ true)
@@ -70,3 +73,18 @@ live_once n (f ∷ fs) = by_mark f.live (live_once (n + 1) fs)
 
 pub live_is_listed_once : LiveIsListedOnce
 live_is_listed_once fs = live_once 0 fs
+
+-- a live facet has a place
+pub live_inside : (fs : List StoredFacet) (f : ℕ) → (facet_at fs f).live ≡ true → f < length fs
+live_inside fs f l = elim (cases_lt f (length fs)) [
+  | inl h ↦ h
+  | inr h ↦ absurd (both_ways (facet_at fs f).live (ap (λ (t : StoredFacet). t.live) (get_or_past fs f no_facet h)) l)
+]
+
+-- as many are listed as are marked
+pub live_len : (n : ℕ) (fs : List StoredFacet) → length (live_from n fs) ≡ count_by (λ t. t.live) fs
+live_len n [] = refl
+live_len n (t ∷ fs) =
+    let h = live_len (n + 1) fs in let ns = live_from (n + 1) fs in let m = count_by (λ (t : StoredFacet). t.live) fs in
+    elim t.live as (λ b. length (cond b (n ∷ ns) ns) ≡ cond b 1 0 + m) [ true ↦ omega arith | false ↦ omega arith ]
+    ∙ sym (sum_by-cons (λ t. cond t.live 1 0) t fs)

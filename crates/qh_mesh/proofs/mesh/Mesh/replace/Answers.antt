@@ -3,12 +3,12 @@ use Rattle.qh_mesh.proofs.mesh.Mesh.replace.Goals as goal
 
 pub returns-clause-rewired : goal.returns-clause-rewired
 returns-clause-rewired c =
-    let r = rw (c.make_room.ensures.facets, c.self.view_is, c.number.ensures) at c.rebuild.ensures in r.rewired (place c.args.pts.now)
+    (rw (c.make_room.ensures.facets, c.self.view_is, c.number.ensures) at c.rebuild.ensures).rewired (place c.args.pts.now)
 
 pub returns-clause-sound : goal.returns-clause-sound
 returns-clause-sound c =
-    let r = rw (c.make_room.ensures.facets, c.self.view_is, c.number.ensures) at c.rebuild.ensures in r.sound (place c.args.pts.now)
+    (rw (c.make_room.ensures.facets, c.self.view_is, c.number.ensures) at c.rebuild.ensures).sound (place c.args.pts.now)
 
 pub returns-clause-closed : goal.returns-clause-closed
 returns-clause-closed c =
-    let r = rw (c.make_room.ensures.facets, c.self.view_is, c.number.ensures) at c.rebuild.ensures in r.closed (place c.args.pts.now)
+    (rw (c.make_room.ensures.facets, c.self.view_is, c.number.ensures) at c.rebuild.ensures).closed (place c.args.pts.now)

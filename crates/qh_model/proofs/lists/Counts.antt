@@ -1,0 +1,60 @@
+-- How many members of a list pass: in its images, where members have twins, and before a place of the list.
+use Rattle.std.proofs.Common.{◌≡◌, ℕ, zero, suc, ◌+◌, ◌<◌, ◌≤◌, inl, inr, arith, ap, sym, ◌∙◌, refl, subst, add-one, Bool, true}
+use Rattle.std.proofs.Common.{cond, List, [], ◌∷◌, length, get_or, map, take}
+use Rattle.std.specs.Prelude.{count_by, filter}
+use Rattle.std.proofs.lemmas.List.{take-take, get_or-take, length-take-le, length-map}
+use Rattle.std.proofs.lemmas.List.Sums.{sum_by-cons, sum_by_more_le, count_by_more_yes, count_by_more_no, length-filter}
+use Rattle.std.proofs.lemmas.Bool.{cases_Bool, cases_lt, cases_order}
+use Rattle.qh_model.specs.headline.Sets.{In, Once}
+use Rattle.qh_model.proofs.lists.Filters.{in_filter, of_filter, once_filter}
+use Rattle.qh_model.proofs.lists.Images.{of_map, once_map}
+use Rattle.qh_model.proofs.lists.OnceEach.{once_within}
+
+-- an image counts as its list
+pub count-map : {X Y : Type 0} (f : X → Y) (p : Y → Bool) (xs : List X) → count_by p (map f xs) ≡ count_by (λ x. p (f x)) xs
+count-map f p [] = refl
+count-map f p (x ∷ xs) =
+    sum_by-cons (λ y. cond (p y) 1 0) (f x) (map f xs) ∙ ap (λ n. cond (p (f x)) 1 0 + n) (count-map f p xs)
+    ∙ sym (sum_by-cons (λ y. cond (p (f y)) 1 0) x xs)
+
+-- where each member that passes p has a twin that passes q, no more pass p than q
+pub count_twins : {X : Type 0} (twin : X → X) (p q : X → Bool) (xs : List X) → Once xs
+    → ((x : X) → In x xs → p x ≡ true → In (twin x) xs × (q (twin x) ≡ true) × (twin (twin x) ≡ x)) → count_by p xs ≤ count_by q xs
+count_twins {X} twin p q xs o h =
+    let t = λ (x : X) (i : In x (filter p xs)). let k = of_filter p xs x i in h x k.0 k.1 in
+    let images = once_map twin (filter p xs) (λ x y i j e. sym (t x i).2 ∙ ap twin e ∙ (t y j).2) (once_filter p xs o) in
+    let within = once_within (map twin (filter p xs)) (filter q xs) images (λ y i. let r = of_map twin (filter p xs) y i in
+    subst (λ z. In z (filter q xs)) (sym r.2) (in_filter q xs (twin r.0) (t r.0 r.1).0 (t r.0 r.1).1)) in
+    omega (arith, length-filter p xs, length-filter q xs, length-map (filter p xs) twin)
+
+module _ {X : Type 0} (p : X → Bool) (d : X) where
+  -- one that passes adds to the count
+  pub counted : (xs : List X) (i : ℕ) → i < length xs → p (get_or xs i d) ≡ true → count_by p (take i xs) < count_by p xs
+  counted xs i l e = let h = rw e at (sum_by_more_le (λ x. cond (p x) 1 0) xs i d l) in omega (arith, h)
+
+  -- also among the first n
+  counted-first : (xs : List X) (i n : ℕ) → i < n → n ≤ length xs → p (get_or xs i d) ≡ true
+      → count_by p (take i xs) < count_by p (take n xs)
+  counted-first xs i n l m e = subst (λ ys. count_by p ys < count_by p (take n xs)) (take-take i n xs (omega arith))
+      (counted (take n xs) i (let q = length-take-le n xs m in omega arith) (ap p (get_or-take n xs i d l) ∙ e))
+
+  -- so it is known by how many pass before it
+  pub counted_apart : (xs : List X) (i j : ℕ) → i < length xs → j < length xs → p (get_or xs i d) ≡ true → p (get_or xs j d) ≡ true
+      → count_by p (take i xs) ≡ count_by p (take j xs) → i ≡ j
+  counted_apart xs i j l m e f q = elim (cases_order i j) [
+    | inl h ↦ h
+    | inr (inl h) ↦ (let c = counted-first xs i j h (omega arith) e in absurd (omega arith))
+    | inr (inr h) ↦ (let c = counted-first xs j i h (omega arith) f in absurd (omega arith))
+  ]
+
+  -- each count below that of the first n is that before one that passes
+  pub counted_at : (xs : List X) (r n : ℕ) → n ≤ length xs → r < count_by p (take n xs)
+      → (i : ℕ) × (i < length xs) × (p (get_or xs i d) ≡ true) × (count_by p (take i xs) ≡ r)
+  counted_at xs r zero l h = absurd (omega arith)
+  counted_at xs r (suc n) l h = let k = rw (← add-one n) at h in elim (cases_lt r (count_by p (take n xs))) [
+    | inl g ↦ counted_at xs r n (omega arith) g
+    | inr g ↦ elim (cases_Bool (p (get_or xs n d))) [
+      | inl t ↦ (let e = count_by_more_yes p xs n d (omega arith) t in (n, omega arith, t, omega arith))
+      | inr f ↦ (let e = count_by_more_no p xs n d (omega arith) f in absurd (omega arith))
+    ]
+  ]
