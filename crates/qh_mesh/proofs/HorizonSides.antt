@@ -1,6 +1,6 @@
 -- The horizon of listed facets: its edges, that as many of them start at a corner as end there, and how it is gathered.
-use Rattle.std.proofs.Common.{◌≡◌, ℕ, ◌+◌, ◌*◌, ◌/◌, ◌<◌, ◌≤◌, arith, ap, sym, ◌∙◌, refl, subst, true, false, inl, inr, List, length}
-use Rattle.std.proofs.Common.{Bool, cond, not, [], ◌∷◌, map}
+use Rattle.std.proofs.Common.{◌≡◌, ℕ, ◌+◌, ◌*◌, ◌/◌, ◌<◌, ◌≤◌, arith, ap, sym, ◌∙◌, refl, subst, true, false, inl, inr, List, length, Bool}
+use Rattle.std.proofs.Common.{cond, not, [], ◌∷◌, map}
 use Rattle.std.specs.Prelude.{filter, count_by, flat_map}
 use Rattle.std.proofs.lemmas.Bool.{cases_Bool, not-true, not_from_false, both_ways}
 use Rattle.std.proofs.lemmas.List.Filters.{sum_by-filter_both}
@@ -13,8 +13,7 @@ use Rattle.qh_model.proofs.Members.{In-get_or, in_at}
 use Rattle.qh_model.proofs.lists.Counts.{count-map, count_twins}
 use Rattle.qh_model.proofs.lists.Filters.{in_filter, of_filter, once_filter, filter_image}
 use Rattle.qh_model.proofs.lists.OnceEach.{once_place}
-use Rattle.qh_mesh.specs.contract.Replacement.{number, at, sides_of, is_listed, horizon, side_of_edge, twin_of}
-use Rattle.qh_mesh.specs.contract.Replacement.{IsLive, AreFacets, IsKept}
+use Rattle.qh_mesh.specs.contract.Replacement.{number, at, sides_of, is_listed, horizon, side_of_edge, twin_of, IsLive, AreFacets, IsKept}
 use Rattle.qh_mesh.specs.declared.facets.FacetNo.{FacetNo}
 use Rattle.qh_mesh.specs.steps.Horizons.{corner, edge_side, IsBalanced, HasSidesInside, is_open, three_sides, open_sides}
 use Rattle.qh_mesh.specs.steps.Kept.{side_of, outer_of, is_live, removed}

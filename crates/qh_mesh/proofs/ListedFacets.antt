@@ -1,6 +1,6 @@
 -- Lists of facets that have each once, and the list of their sides.
-use Rattle.std.proofs.Common.{◌≡◌, ℕ, suc, ◌<◌, arith, ap, sym, refl, subst, true, false, cond, inl, inr, List, [], ◌∷◌}
-use Rattle.std.proofs.Common.{length, ◌≢◌, ◌+◌, ◌*◌, ◌/◌, nat_eq}
+use Rattle.std.proofs.Common.{◌≡◌, ℕ, suc, ◌<◌, arith, ap, sym, refl, subst, true, false, cond, inl, inr, List, [], ◌∷◌, length, ◌≢◌, ◌+◌}
+use Rattle.std.proofs.Common.{◌*◌, ◌/◌, nat_eq}
 use Rattle.std.proofs.lemmas.Bool.{cases_lt, eq-eqb}
 use Rattle.std.proofs.lemmas.Bool.Decides.{eqb_tells}
 use Rattle.qh_model.specs.contract.StoredSurface.{StoredFacet}

@@ -1,10 +1,9 @@
 -- The places of no facet, as they come and go.
-use Rattle.std.proofs.Common.{◌≡◌, ◌≢◌, ℕ, zero, suc, ◌^◌, ◌<◌, ◌≤◌, inl, inr, max, arith, ap, sym, ◌∙◌, refl, subst, Bool, true}
-use Rattle.std.proofs.Common.{false, cond}
-use Rattle.std.proofs.Common.{List, [], ◌∷◌, ◌++◌, length, reverse, set}
+use Rattle.std.proofs.Common.{◌≡◌, ◌≢◌, ℕ, zero, suc, ◌^◌, ◌<◌, ◌≤◌, inl, inr, max, arith, ap, sym, ◌∙◌, refl, subst, Bool, true, false}
+use Rattle.std.proofs.Common.{cond, List, [], ◌∷◌, ◌++◌, length, reverse, set}
 use Rattle.std.proofs.lemmas.Bool.{both_ways, cases_lt}
-use Rattle.std.proofs.lemmas.List.{length_push, length-reverse, length-set, get_or_past, get_or-set_same, get_or-set_other}
-use Rattle.std.proofs.lemmas.List.{append_assoc, reverse-append, append-nil}
+use Rattle.std.proofs.lemmas.List.{length_push, length-reverse, length-set, get_or_past, get_or-set_same, get_or-set_other, append_assoc}
+use Rattle.std.proofs.lemmas.List.{reverse-append, append-nil}
 use Rattle.std.proofs.lemmas.List.Sums.{sum_by-set, sum_by_push}
 use Rattle.qh_model.specs.headline.Sets.{In}
 use Rattle.qh_model.specs.contract.StoredSurface.{StoredFacet, facet_at, no_facet, surface_of}
@@ -13,7 +12,6 @@ use Rattle.qh_model.proofs.lists.Joined.{of_append, once_append}
 use Rattle.qh_mesh.specs.declared.facets.FacetNo.{FacetNo}
 use Rattle.qh_mesh.specs.declared.facets.FacetSide.{FacetSide}
 use Rattle.qh_mesh.specs.contract.Replacement.{IsLive}
-use Rattle.qh_mesh.specs.steps.Cones.{Joined}
 use Rattle.qh_mesh.specs.steps.Kept.{is_live}
 use Rattle.qh_mesh.specs.steps.Places.{IsPool, IsVacant, live_count}
 use Rattle.qh_mesh.specs.steps.Rebuilt.{IsReady}
@@ -58,12 +56,7 @@ pub pool_same : (fs gs : List StoredFacet) (places : List FacetNo) → length gs
 pool_same fs gs places n s c q =
     record { once = q.once; vacant = λ v i. (rw n (q.vacant v i).0, s v.0 ∙ (q.vacant v i).1); count = let d = q.count in omega arith }
 
--- so what is joined does
-pub pool_joined : (old new : List StoredFacet) (hs : List FacetSide) (made places : List FacetNo) (k : ℕ) → Joined old new hs made k
-    → IsPool old places → IsPool new places
-pool_joined old new hs made places k j q = pool_same old new places j.len (λ f. ap is_live (j.same f)) j.count q
-
--- and there are no more facets of a cone than numbers of places
+-- there are no more facets of a cone than numbers of places
 pub few_made : (fs : List StoredFacet) (hs : List FacetSide) (made : List FacetNo) → IsReady fs hs made → length hs < 2 ^ 32
 few_made fs hs made r = let l = r.places in let e = r.len in let s = r.small in omega arith
 

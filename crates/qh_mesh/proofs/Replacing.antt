@@ -1,13 +1,13 @@
 -- The steps of a replacement are one, and they leave a surface.
-use Rattle.std.proofs.Common.{◌≡◌, ℕ, ◌+◌, ◌*◌, ◌/◌, ◌<◌, arith, ap, sym, ◌∙◌, refl, subst, true, false, inl, inr, List, length, ◌≢◌, not, Bool}
-use Rattle.std.proofs.Common.{◌⊎◌, reverse, length-append}
+use Rattle.std.proofs.Common.{◌≡◌, ℕ, ◌/◌, ◌<◌, arith, ap, sym, ◌∙◌, refl, subst, true, false, inl, inr, List, length, ◌≢◌, not, Bool, ◌⊎◌}
+use Rattle.std.proofs.Common.{reverse, length-append}
 use Rattle.std.proofs.lemmas.Bool.{cases_Bool, both_ways, false_from_ne_true}
 use Rattle.std.proofs.lemmas.List.{length-map, get_or-map}
 use Rattle.qh_model.specs.contract.StoredSurface.{StoredFacet, facet_at}
 use Rattle.qh_model.proofs.Members.{In-get_or}
 use Rattle.qh_model.proofs.lists.Joined.{in_append, once_left}
-use Rattle.qh_mesh.specs.contract.Replacement.{number, is_listed, horizon, side_of_edge, twin_of}
-use Rattle.qh_mesh.specs.contract.Replacement.{IsLive, AreFacets, IsKept, IsReplacement, IsCone}
+use Rattle.qh_mesh.specs.contract.Replacement.{number, is_listed, horizon, side_of_edge, twin_of, IsLive, AreFacets, IsKept, IsReplacement}
+use Rattle.qh_mesh.specs.contract.Replacement.{IsCone}
 use Rattle.qh_mesh.specs.declared.facets.FacetNo.{FacetNo}
 use Rattle.qh_mesh.specs.declared.facets.FacetSide.{FacetSide}
 use Rattle.qh_mesh.specs.steps.Cones.{bare}
@@ -36,6 +36,9 @@ module _ (old chosen : List StoredFacet) (free left vs : List FacetNo) (hs : Lis
   -- the horizon, side by side
   horizon_len : length hs ≡ length (horizon old vs)
   horizon_len = ap length c.noted ∙ length-map (horizon old vs) (edge_side old)
+
+  in_hs : (j : ℕ) → j < length made → j < length hs
+  in_hs j l = let e = h.len in omega arith
 
   side_is : (j : ℕ) → j < length hs → side_at hs j ≡ edge_side old (edge old vs j)
   side_is j l = ap (λ xs. side_at xs j) c.noted
@@ -101,7 +104,7 @@ module _ (old chosen : List StoredFacet) (free left vs : List FacetNo) (hs : Lis
     -- the facets of the cone
     over : (j : ℕ) → j < length made → IsCone old new (edge old vs j) apex (number made j)
     over j l =
-        let m : j < length hs = (let e = h.len in omega arith) in let t = (w.written.there j l).is in
+        let m = in_hs j l in let t = (w.written.there j l).is in
         let o = twin_of old (edge old vs j) in let d = side_is j m in
         record {
           live = rw t;
@@ -118,19 +121,13 @@ module _ (old chosen : List StoredFacet) (free left vs : List FacetNo) (hs : Lis
     mate ends j = (has_mate hs balanced ends j).0
 
     is_mate : (ends : Bool) (j : ℕ) → j < length made → IsMate hs ends j (mate ends j)
-    is_mate ends j l = (has_mate hs balanced ends j).1 (let e = h.len in omega arith)
+    is_mate ends j l = (has_mate hs balanced ends j).1 (in_hs j l)
 
     mate_in : (ends : Bool) (j : ℕ) → j < length made → mate ends j < length made
     mate_in ends j l = let e = h.len in let m = (is_mate ends j l).inside in omega arith
 
     mate_back : (ends : Bool) (j : ℕ) → j < length made → mate (not ends) (mate ends j) ≡ j
-    mate_back ends j l = mate_twice hs balanced ends j (let e = h.len in omega arith)
-
-    next_twin : (j : ℕ) → j < length made → (facet_at new (number made j)).jk ≡ 3 * number made (mate true j) + 2
-    next_twin j l = let t = w.written.there j l in rw (t.is, mate_only hs true j t.next (mate true j) t.next_is (is_mate true j l))
-
-    before_twin : (j : ℕ) → j < length made → (facet_at new (number made j)).ki ≡ 3 * number made (mate false j) + 1
-    before_twin j l = let t = w.written.there j l in rw (t.is, mate_only hs false j t.before (mate false j) t.before_is (is_mate false j l))
+    mate_back ends j l = mate_twice hs balanced ends j (in_hs j l)
 
     -- what is of no facet of the cone is as the removal left it, but for twins
     other : (f : ℕ) → ((j : ℕ) → j < length made → number made j ≢ f) → bare (facet_at new f) ≡ bare (facet_at p.between f)
@@ -162,10 +159,12 @@ module _ (old chosen : List StoredFacet) (free left vs : List FacetNo) (hs : Lis
       cone = over;
       next = mate true;
       next_in = mate_in true;
-      next_starts = λ j l. let n = is_mate true j l in let e = h.len in
-          ap (corner false) (sym (side_is (mate true j) n.inside)) ∙ n.meets ∙ ap (corner true) (side_is j (omega arith));
-      next_twin = next_twin;
-      next_back = λ j l. before_twin (mate true j) (mate_in true j l) ∙ ap (λ i. 3 * number made i + 1) (mate_back true j l);
+      next_starts = λ j l. let n = is_mate true j l in
+          ap (corner false) (sym (side_is (mate true j) n.inside)) ∙ n.meets ∙ ap (corner true) (side_is j (in_hs j l));
+      next_twin = λ j l. let t = w.written.there j l in
+          rw (t.is, mate_only hs true j t.next (mate true j) t.next_is (is_mate true j l));
+      next_back = λ j l. let i = mate true j in let m = mate_in true j l in let t = w.written.there i m in
+          rw (t.is, mate_only hs false i t.before (mate false i) t.before_is (is_mate false i m), mate_back true j l);
       kept = λ f k. let b = kept_bare f k in record {
         live = ap is_live b ∙ k.live;
         i_is = ap (λ (t : StoredFacet). t.i) b;

@@ -14,8 +14,8 @@ use Rattle.qh_model.proofs.surfaces.Stored.{live_is_marked}
 use Rattle.qh_model.proofs.surfaces.SurfaceLaws.{rise_is_vol, horizon_is_known}
 use Rattle.qh_model.proofs.algebra.Signs.{not_less}
 use Rattle.qh_mesh.specs.declared.facets.FacetNo.{FacetNo}
-use Rattle.qh_mesh.specs.contract.Replacement.{number, is_listed, horizon, side_of_edge, edge_start, edge_end, twin_of}
-use Rattle.qh_mesh.specs.contract.Replacement.{IsLive, AreFacets, IsCone, IsKept, StaysFacet, IsReplacement}
+use Rattle.qh_mesh.specs.contract.Replacement.{number, is_listed, horizon, side_of_edge, edge_start, edge_end, twin_of, IsLive, AreFacets}
+use Rattle.qh_mesh.specs.contract.Replacement.{IsCone, IsKept, StaysFacet, IsReplacement}
 use Rattle.qh_mesh.specs.contract.SoundMesh.{facet_vol, IsSoundMesh, AreVisible}
 use Rattle.qh_mesh.specs.steps.Kept.{outer_of}
 use Rattle.qh_mesh.specs.steps.Twins.{edge_of, HasTwin, HasTwins}

@@ -38,10 +38,6 @@ pub finished_is_closed : (at : ℕ → Vector) (ids : List ℕ) (fs : List Store
 finished_is_closed at ids fs h = closed_of at fs h.s h.t h.u h.v h.some (live_in fs h.some h.some_live) (h.whole, h.sound)
 
 -- ---- the simplex
--- a whole number that is neither 0 nor above
-below_zero : (x : ℤ) → x ≢ pos 0 → (pos 0 <ℤ x → ⊥) → x <ℤ pos 0
-below_zero x n l = by_lt_z (pos 0) x (λ h. absurd (l h)) (λ h. omega (arith, ints))
-
 module _ (at : ℕ → Vector) (a b c d : ℕ) where
   -- its facets are those of the law's, by computing
   simplex_named : IsNamed (simplex_surface a b c d) (surface_of (simplex_facets a b c d)) (λ l. l)
@@ -66,7 +62,8 @@ module _ (at : ℕ → Vector) (a b c d : ℕ) where
   -- so it is with volume that is neither 0 nor above, and closed
   module _ (n : vol (at a) (at b) (at c) (at d) ≢ pos 0) (h : pos 0 <ℤ vol (at a) (at b) (at c) (at d) → ⊥) where
     pub simplex_is_sound : IsSoundMesh at (simplex_facets a b c d) (middle_at at a b c d)
-    simplex_is_sound = below_is_sound (below_zero (vol (at a) (at b) (at c) (at d)) n h)
+    simplex_is_sound = below_is_sound
+        (by_lt_z (pos 0) (vol (at a) (at b) (at c) (at d)) (λ x. absurd (h x)) (λ x. omega (arith, ints)))
 
     pub simplex_is_closed : IsClosedMesh at (simplex_facets a b c d)
     simplex_is_closed = closed_of at (simplex_facets a b c d) a b c d 0 refl simplex_is_sound

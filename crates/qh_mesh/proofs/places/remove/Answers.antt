@@ -1,7 +1,7 @@
-use Rattle.std.proofs.Common.{◌≡◌, ◌≢◌, ℕ, ◌<◌, ◌∙◌, ◌∷◌, [], reverse, arith, ap}
+use Rattle.std.proofs.Common.{◌≡◌, ℕ, ◌<◌, ◌∙◌, ◌∷◌, [], reverse, arith, ap}
 use Rattle.std.proofs.lemmas.List.{get_or_read, reverse-append}
 use Rattle.qh_model.specs.contract.StoredSurface.{facet_at, no_facet}
-use Rattle.qh_mesh.specs.contract.Replacement.{IsLive, number}
+use Rattle.qh_mesh.specs.contract.Replacement.{number}
 use Rattle.qh_mesh.specs.steps.Kept.{is_live, removed}
 use Rattle.qh_model.proofs.surfaces.Stored.{live_inside}
 use Rattle.qh_mesh.proofs.Pools.{pool_more}
@@ -11,14 +11,13 @@ use Rattle.qh_mesh.proofs.places.remove.Goals as goal
 pub loop-f-preserved : goal.loop-f-preserved
 loop-f-preserved c =
     let fs = c.args.facets.now in let ss = c.loop-f.facets in let vs = c.args.visible.now in let k = c.loop-f.f-index in
-    let free = c.loop-f.free.items in let v = number vs k in let lives = c.requires.live k c.loop-f-test.true in let r = c.removed.result in
-    let apart : (j : ℕ) → j < k → number vs j ≢ number vs k = λ j l. c.requires.apart j k l c.loop-f-test.true in
-    let was = c.loop-f.invariant.facets.others v apart in
-    let live : IsLive ss (number vs k) = ap is_live was ∙ lives in
+    let v = number vs k in let l = c.loop-f-test.true in let r = c.removed.result in let free = c.loop-f.free.items in
+    let apart = λ (j : ℕ) (m : j < k). c.requires.apart j k m l in
+    let was = c.loop-f.invariant.facets.others v apart in let live = ap is_live was ∙ c.requires.live k l in
     let read = get_or_read ss v c.index-facets-f.result (live_inside ss v live) c.index-facets-f.is no_facet in
     record {
       facets = scattered_more no_facet fs ss (number vs) (λ j t. t ≡ removed (facet_at fs (number vs j))) k r c.loop-f.invariant.facets
-          (live_inside fs v lives) apart (c.removed.ensures ∙ ap removed (read ∙ was));
+          (live_inside fs v (c.requires.live k l)) apart (c.removed.ensures ∙ ap removed (read ∙ was));
       pool = rw (c.push_reserved.ensures.items, reverse-append free (record { 0 = v } ∷ []))
           (pool_more ss (reverse free) (record { 0 = v }) r c.loop-f.invariant.pool live (ap is_live c.removed.ensures));
       len = omega arith;
