@@ -85,8 +85,8 @@ module _ (fs : List StoredFacet) (vs : List FacetNo) (t : HasTwins fs) (a : AreF
       (once_filter (inner fs vs) (sides_of vs) (once_sides vs (once_of vs a.apart)))
       (λ e i m. let k = of_filter (inner fs vs) (sides_of vs) e i in let d = twin_of fs e in let h = of_sides vs e k.0 in
           let g = t e (listed_live fs vs a (e / 3) h) in
-          let turned = elim ends as (λ b. corner (not b) (edge_side fs d) ≡ corner b (edge_side fs e)) [ true ↦ g.starts | false ↦ g.ends ] in
-          (in_filter (inner fs vs) (sides_of vs) d (in_sides vs d k.1) (rw (g.back, h) refl), rw (turned, m) refl, g.back))
+          let met = elim ends as (λ b. corner (not b) (edge_side fs d) ≡ corner b (edge_side fs e)) [ true ↦ g.starts | false ↦ g.ends ] in
+          (in_filter (inner fs vs) (sides_of vs) d (in_sides vs d k.1) (rw (g.back, h) refl), rw (met, m) refl, g.back))
 
   -- so on the horizon too
   balance : (ends : Bool) → count_by (meet ends) inside + count_by (meets ends l) (map (edge_side fs) (horizon fs vs))
@@ -119,12 +119,12 @@ module _ (old cleared : List StoredFacet) (vs : List FacetNo) (r : Removed old c
         record { facet = rw r.len (live_inside old (number vs j) (a.live j l)); ij = across first; jk = across second; ki = across third }
       where
         across : (i : Side) → outer_of (facet_at cleared (number vs j)) i / 3 < length cleared
-        across i = let e = edge_of (number vs j) i in
-            let live = (s.twins e (subst (IsLive old) (sym (edge-facet (number vs j) i)) (a.live j l))).live in
-            rw (r.there j l, r.len, ← twin-is old (number vs j) i) (live_inside old (twin_of old e / 3) live)
+        across i = let f = number vs j in let live = (s.twins (edge_of f i) (subst (IsLive old) (sym (edge-facet f i)) (a.live j l))).live in
+            rw (r.there j l, r.len, ← twin-is old f i) (live_inside old (twin_of old (edge_of f i) / 3) live)
 
     -- what is noted of a side of a listed facet, and that it is open where the facet across stays
-    noted : (e : ℕ) → In e (sides_of vs) → (edge_side cleared e ≡ edge_side old e) × (is_open cleared (edge_side cleared e) ≡ leaves old vs e)
+    noted : (e : ℕ) → In e (sides_of vs)
+        → (edge_side cleared e ≡ edge_side old e) × (is_open cleared (edge_side cleared e) ≡ leaves old vs e)
     noted e i =
         let l = of_sides vs e i in let o = twin_of old e / 3 in
         let same = side-is cleared e ∙ ap (λ t. side_of t (side_of_edge e)) (gone (e / 3) l) ∙ sym (side-is old e) in (

@@ -1,9 +1,9 @@
 -- A surface stays one where its corners get other names.
-use Rattle.std.proofs.Common.{◌≡◌, ℕ, zero, suc, ◌/◌, ap, sym, ◌∙◌, refl, List, [], ◌∷◌, map, reverse}
+use Rattle.std.proofs.Common.{◌≡◌, ℕ, ◌/◌, ap, sym, ◌∙◌, refl, List, map, reverse}
 use Rattle.std.proofs.lemmas.List.{length-map}
 use Rattle.qh_model.specs.contract.StoredSurface.{named_facet, StoredFacet, facet_at}
 use Rattle.qh_model.proofs.lists.Counts.{count-map}
-use Rattle.qh_model.proofs.surfaces.Named.{stored_named, start_named, end_named}
+use Rattle.qh_model.proofs.surfaces.Named.{stored_named, stored_part, start_named, end_named}
 use Rattle.qh_mesh.specs.declared.facets.FacetNo.{FacetNo}
 use Rattle.qh_mesh.specs.contract.Replacement.{IsLive, side_of_edge, edge_start, edge_end, twin_of}
 use Rattle.qh_mesh.specs.steps.Kept.{is_live, outer_of}
@@ -12,47 +12,38 @@ use Rattle.qh_mesh.specs.steps.Twins.{HasTwins}
 use Rattle.qh_mesh.proofs.Rewiring.{in_live}
 use Rattle.qh_mesh.proofs.Pools.{pool_same}
 
-module _ (name : ℕ → ℕ) where
-  -- what a name doesn't touch is as it was
-  part_stays : {X : Type 0} (part : StoredFacet → X) (fs : List StoredFacet) (f : ℕ)
-      → ((t : StoredFacet) → part (named_facet name t) ≡ part t)
-      → part (facet_at (map (named_facet name) fs) f) ≡ part (facet_at fs f)
-  part_stays part [] f h = refl
-  part_stays part (t ∷ fs) zero h = h t
-  part_stays part (t ∷ fs) (suc f) h = part_stays part fs f h
+module _ (name : ℕ → ℕ) (fs : List StoredFacet) where
+  abbrev named : List StoredFacet
+  named = map (named_facet name) fs
 
-  module _ (fs : List StoredFacet) where
-    abbrev named : List StoredFacet
-    named = map (named_facet name) fs
+  -- a side starts and ends at the names of its ends
+  named_start : (e : ℕ) → IsLive fs (e / 3) → edge_start named e ≡ name (edge_start fs e)
+  named_start e l = start_named (stored_named name fs) (e / 3) (in_live fs (e / 3) l) (side_of_edge e)
 
-    -- a side starts and ends at the names of its ends
-    named_start : (e : ℕ) → IsLive fs (e / 3) → edge_start named e ≡ name (edge_start fs e)
-    named_start e l = start_named (stored_named name fs) (e / 3) (in_live fs (e / 3) l) (side_of_edge e)
+  named_end : (e : ℕ) → IsLive fs (e / 3) → edge_end named e ≡ name (edge_end fs e)
+  named_end e l = end_named (stored_named name fs) (e / 3) (in_live fs (e / 3) l) (side_of_edge e)
 
-    named_end : (e : ℕ) → IsLive fs (e / 3) → edge_end named e ≡ name (edge_end fs e)
-    named_end e l = end_named (stored_named name fs) (e / 3) (in_live fs (e / 3) l) (side_of_edge e)
+  twin_stays : (e : ℕ) → twin_of named e ≡ twin_of fs e
+  twin_stays e = stored_part name (λ t. outer_of t (side_of_edge e)) fs (e / 3) (λ t. refl)
 
-    twin_stays : (e : ℕ) → twin_of named e ≡ twin_of fs e
-    twin_stays e = part_stays (λ t. outer_of t (side_of_edge e)) fs (e / 3) (λ t. refl)
+  live_stays : (f : ℕ) → (facet_at named f).live ≡ (facet_at fs f).live
+  live_stays f = stored_part name is_live fs f (λ t. refl)
 
-    live_stays : (f : ℕ) → (facet_at named f).live ≡ (facet_at fs f).live
-    live_stays f = part_stays is_live fs f (λ t. refl)
+  named_twins : HasTwins fs → HasTwins named
+  named_twins t e l =
+      let m = sym (live_stays (e / 3)) ∙ l in let h = t e m in let x = twin_of fs e in
+      record {
+        live = rw (twin_stays e) (live_stays (x / 3) ∙ h.live);
+        back = rw (twin_stays e) (twin_stays x ∙ h.back);
+        starts = rw (twin_stays e) (named_start x h.live ∙ ap name h.starts ∙ sym (named_end e m));
+        ends = rw (twin_stays e) (named_end x h.live ∙ ap name h.ends ∙ sym (named_start e m));
+      }
 
-    named_twins : HasTwins fs → HasTwins named
-    named_twins t e l =
-        let m = sym (live_stays (e / 3)) ∙ l in let h = t e m in let x = twin_of fs e in
-        record {
-          live = rw (twin_stays e) (live_stays (x / 3) ∙ h.live);
-          back = rw (twin_stays e) (twin_stays x ∙ h.back);
-          starts = rw (twin_stays e) (named_start x h.live ∙ ap name h.starts ∙ sym (named_end e m));
-          ends = rw (twin_stays e) (named_end x h.live ∙ ap name h.ends ∙ sym (named_start e m));
-        }
-
-    -- so the surface stays
-    pub named_surface : (free : List FacetNo) → IsSurface fs free → IsSurface named free
-    named_surface free s = record {
-      twins = named_twins s.twins;
-      pool = pool_same fs named (reverse free)
-          (length-map fs (named_facet name)) live_stays (count-map (named_facet name) is_live fs) s.pool;
-      small = rw (length-map fs (named_facet name)) s.small;
-    }
+  -- so the surface stays
+  pub named_surface : (free : List FacetNo) → IsSurface fs free → IsSurface named free
+  named_surface free s = record {
+    twins = named_twins s.twins;
+    pool = pool_same fs named (reverse free)
+        (length-map fs (named_facet name)) live_stays (count-map (named_facet name) is_live fs) s.pool;
+    small = rw (length-map fs (named_facet name)) s.small;
+  }

@@ -92,7 +92,8 @@ module _ (old new : List StoredFacet) (vs : List FacetNo) (p : ℕ) (made : List
   across : (j : ℕ) → j < length made → HasTwin new (side j first) × HasTwin new (twin_of old (edge old vs j))
   across j l =
       let c = r.cone j l in let f = number made j in let e = edge old vs j in let o = twin_of old e in
-      let n = r.len in let q = horizon_twin old vs d.twins d.facets j (omega arith) in let k = r.kept (o / 3) q.1 in let s = ends_stay o k in
+      let n = r.len in let q = horizon_twin old vs d.twins d.facets j (omega arith) in
+      let k = r.kept (o / 3) q.1 in let s = ends_stay o k in
       both (side j first) o (live_side j first l) k.live (twin-is new f first ∙ c.outward) (c.inward ∙ omega arith)
       (s.0 ∙ q.0.starts ∙ sym (end-is new f first ∙ c.second)) (s.1 ∙ q.0.ends ∙ sym (start-is new f first ∙ c.first))
 

@@ -1,23 +1,22 @@
 -- Meshes that are sound: the simplex, what a step leaves, and that both close up.
 use Rattle.std.proofs.Common.{◌≡◌, ℕ, arith, rules, refl, [], ◌≢◌, sym, inl, inr, List, ◌∷◌, subst}
-use Rattle.std.specs.Prelude.{ℤ, pos, ◌+ℤ◌, ◌<ℤ◌, ◌≤ℤ◌}
+use Rattle.std.specs.Prelude.{pos, ◌<ℤ◌}
 use Rattle.std.proofs.lemmas.Bool.{cases_Bool}
 use Rattle.std.proofs.lemmas.Int.{ints, by_lt_z}
-use Rattle.qh_model.specs.contract.ClosedSurface.{signed_volume, triples_of, triples_from}
+use Rattle.qh_model.specs.contract.ClosedSurface.{signed_volume, triples_of}
 use Rattle.qh_model.specs.contract.FinishedSurface.{weighted_at, middle_at, IsFinished}
 use Rattle.qh_model.specs.contract.StoredSurface.{StoredFacet, surface_of}
-use Rattle.qh_model.specs.contract.Surface.{Surface}
-use Rattle.qh_model.specs.contract.Weighted.{Weighted, weighted, middle_of}
+use Rattle.qh_model.specs.contract.Weighted.{Weighted, weighted}
 use Rattle.qh_model.specs.headline.Predicates.{vol}
 use Rattle.qh_model.specs.headline.Sets.{In}
 use Rattle.qh_model.specs.headline.Vector.{Vector}
 use Rattle.qh_model.specs.laws.SimplexSurface.{simplex_surface}
 use Rattle.qh_model.proofs.algebra.VectorIdentities.{vol-flip_last}
 use Rattle.qh_model.proofs.algebra.Signs.{not_less}
-use Rattle.qh_model.proofs.surfaces.Closed.{sound_is_closed, sound_has_volume}
+use Rattle.qh_model.proofs.surfaces.Closed.{sound_is_closed, sound_has_volume, seen_volume}
 use Rattle.qh_model.proofs.surfaces.Named.{IsNamed, sound_named, whole_named}
 use Rattle.qh_model.proofs.surfaces.Rewired.{replace_keeps}
-use Rattle.qh_model.proofs.surfaces.Simplex.{four, simplex_sound}
+use Rattle.qh_model.proofs.surfaces.Simplex.{four, middle-turned, simplex_sound}
 use Rattle.qh_model.proofs.surfaces.Stored.{live_is_listed_once}
 use Rattle.qh_model.proofs.surfaces.SurfaceLaws.{rise_is_vol}
 use Rattle.qh_mesh.specs.contract.Replacement.{number, is_listed, IsLive}
@@ -68,14 +67,6 @@ module _ (at : ℕ → Vector) (a b c d : ℕ) where
     pub simplex_is_closed : IsClosedMesh at (simplex_facets a b c d)
     simplex_is_closed = closed_of at (simplex_facets a b c d) a b c d 0 refl simplex_is_sound
 
--- the middle is the same in another order
-pub middle-turned : (a b c d : Weighted) → middle_of a c b d ≡ middle_of a b c d
-middle-turned a b c d =
-    λ i. record { w = swap a.w b.w c.w d.w i; x = swap a.x b.x c.x d.x i; y = swap a.y b.y c.y d.y i; z = swap a.z b.z c.z d.z i }
-  where
-    swap : (p q r s : ℤ) → p +ℤ r +ℤ q +ℤ s ≡ p +ℤ q +ℤ r +ℤ s
-    swap p q r s = omega (arith, ints)
-
 -- a simplex with volume above 0, turned about, is so too
 module _ (at : ℕ → Vector) (a b c d : ℕ) (h : pos 0 <ℤ vol (at a) (at b) (at c) (at d)) where
   pub turned_is_sound : IsSoundMesh at (simplex_facets a c b d) (middle_at at a b c d)
@@ -91,14 +82,8 @@ module _ (at : ℕ → Vector) (a b c d : ℕ) (h : pos 0 <ℤ vol (at a) (at b)
 pub ruleset simplex_rules = (turned_is_sound, turned_is_closed, simplex_is_sound, simplex_is_closed)
 
 -- ---- a step
--- facets that all see p have no volume below 0
-seen_volume : (at : ℕ → Vector) (m : Surface) (p : Vector) (fs : List ℕ)
-    → ((f : ℕ) → In f fs → pos 0 <ℤ vol (at (m.i f)) (at (m.j f)) (at (m.k f)) p)
-    → pos 0 ≤ℤ signed_volume at (triples_from m fs) p
-seen_volume at m p [] h = omega (arith, ints)
-seen_volume at m p (f ∷ fs) h = let a = h f (inl refl) in let b = seen_volume at m p fs (λ g i. h g (inr i)) in omega (arith, ints)
-
-module _ (old new : List StoredFacet) (vs : List FacetNo) (p : ℕ) (made : List FacetNo) (d : IsStep old new vs p made) (at : ℕ → Vector) where
+module _ (old new : List StoredFacet) (vs : List FacetNo) (p : ℕ) (made : List FacetNo) (d : IsStep old new vs p made)
+    (at : ℕ → Vector) where
   -- it keeps a mesh sound
   pub step_is_sound : (o : Weighted) → IsSoundMesh at old o → AreVisible at old vs p → IsSoundMesh at new o
   step_is_sound o z v = replace_keeps (surface_of old) (surface_of new) (weighted_at at) o p z.0 z.1 (rewired old new vs p made d at o z v)

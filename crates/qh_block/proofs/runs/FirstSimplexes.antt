@@ -18,7 +18,7 @@ use Rattle.qh_plane.specs.declared.shape.Shape.TheVariants.{Point, Segment, Flat
 use Rattle.qh_mesh.specs.declared.facets.FacetNo.{FacetNo}
 use Rattle.qh_mesh.specs.contract.Replacement.{number, IsLive}
 use Rattle.qh_mesh.specs.contract.SoundMesh.{IsSoundMesh, IsClosedMesh, simplex_facets}
-use Rattle.qh_mesh.proofs.SoundMeshes.{middle-turned}
+use Rattle.qh_model.proofs.surfaces.Simplex.{middle-turned}
 use Rattle.qh_model.proofs.lists.Ranges.{range_has}
 use Rattle.qh_block.specs.steps.OutsideSets.{OutsideValue, set_of}
 use Rattle.qh_block.specs.steps.Runs.{height_at, Names, HasCornersBelow, IsRemade}

@@ -216,3 +216,10 @@ sound_has_volume at m s t u v f0 i once w z p =
 
     quarter : (x a b c d : ℤ) → a ≡ x → b ≡ x → c ≡ x → d ≡ x → (a +ℤ b +ℤ c +ℤ d) <ℤ pos 0 → x <ℤ pos 0
     quarter x a b c d ha hb hc hd h = omega (arith, ints)
+
+-- facets that all see p have no volume below 0
+pub seen_volume : (at : ℕ → Vector) (m : Surface) (p : Vector) (fs : List ℕ)
+    → ((f : ℕ) → In f fs → pos 0 <ℤ vol (at (m.i f)) (at (m.j f)) (at (m.k f)) p)
+    → pos 0 ≤ℤ signed_volume at (triples_from m fs) p
+seen_volume at m p [] h = omega (arith, ints)
+seen_volume at m p (f ∷ fs) h = let a = h f (inl refl) in let b = seen_volume at m p fs (λ g i. h g (inr i)) in omega (arith, ints)

@@ -1,6 +1,6 @@
 -- A surface with other names of its corners: where they tell the corners apart and have their points, it is as
 -- sound as before, and as finished. So a surface over positions in a list of points is one over their ids.
-use Rattle.std.proofs.Common.{◌≡◌, ℕ, zero, suc, ◌+◌, ◌<◌, refl, sym, ap, subst, ◌∙◌, inl, inr}
+use Rattle.std.proofs.Common.{◌≡◌, ℕ, zero, suc, ◌+◌, ◌/◌, ◌%◌, ◌<◌, refl, sym, ap, subst, ◌∙◌, inl, inr}
 use Rattle.std.proofs.Common.{List, [], ◌∷◌, length, map, true, false, cond, slice_index}
 use Rattle.std.proofs.lemmas.Bool.{both_ways}
 use Rattle.std.proofs.lemmas.List.{get_or-map}
@@ -11,6 +11,7 @@ use Rattle.qh_model.specs.headline.Predicates.{place, vol}
 use Rattle.qh_model.specs.headline.Sets.{In, Once}
 use Rattle.qh_model.specs.headline.Text.{vertex_number}
 use Rattle.qh_model.specs.contract.Weighted.{Weighted, weighted, middle_of, above}
+use Rattle.qh_model.specs.contract.Simplex.{one_of, by_side}
 use Rattle.qh_model.specs.contract.Surface.{Side, Surface, start, end, IsCorner, HasTwin, IsWhole, rise}
 use Rattle.qh_model.specs.contract.Surface.Side.{first, second, third}
 use Rattle.qh_model.specs.contract.SoundSurface.{IsStrict, HasDistinctFacets, IsSound, towards, drawn}
@@ -245,19 +246,13 @@ module _ (name : ℕ → ℕ) where
   stored_facet (x ∷ fs) zero e = refl
   stored_facet (x ∷ fs) (suc f) e = stored_facet fs f e
 
-  -- the same lies over each side
-  stored_over : (fs : List StoredFacet) (f : ℕ) (s : Side)
-      → (surface_of (map (named_facet name) fs)).over f s ≡ (surface_of fs).over f s
-  stored_over [] f s = refl
-  stored_over (x ∷ fs) zero s = refl
-  stored_over (x ∷ fs) (suc f) s = stored_over fs f s
-
-  -- and leads back
-  stored_back : (fs : List StoredFacet) (f : ℕ) (s : Side)
-      → (surface_of (map (named_facet name) fs)).back f s ≡ (surface_of fs).back f s
-  stored_back [] f s = refl
-  stored_back (x ∷ fs) zero s = refl
-  stored_back (x ∷ fs) (suc f) s = stored_back fs f s
+  -- what a name doesn't touch is as it was
+  pub stored_part : {X : Type 0} (part : StoredFacet → X) (fs : List StoredFacet) (f : ℕ)
+      → ((x : StoredFacet) → part (named_facet name x) ≡ part x)
+      → part (facet_at (map (named_facet name) fs) f) ≡ part (facet_at fs f)
+  stored_part part [] f h = refl
+  stored_part part (x ∷ fs) zero h = h x
+  stored_part part (x ∷ fs) (suc f) h = stored_part part fs f h
 
   -- the corners of a stored surface are named place by place
   pub stored_named : (fs : List StoredFacet) → IsNamed (surface_of fs) (surface_of (map (named_facet name) fs)) name
@@ -266,8 +261,8 @@ module _ (name : ℕ → ℕ) where
     i_is = λ f i. ap (λ (x : StoredFacet). x.i) (at f i);
     j_is = λ f i. ap (λ (x : StoredFacet). x.j) (at f i);
     k_is = λ f i. ap (λ (x : StoredFacet). x.k) (at f i);
-    over_is = λ f s i. stored_over fs f s;
-    back_is = λ f s i. stored_back fs f s;
+    over_is = λ f s i. stored_part (λ x. by_side (x.ij / 3) (x.jk / 3) (x.ki / 3) s) fs f (λ x. refl);
+    back_is = λ f s i. stored_part (λ x. one_of first second third third (by_side (x.ij % 3) (x.jk % 3) (x.ki % 3) s)) fs f (λ x. refl);
   }
     where
       at : (f : ℕ) → In f (surface_of fs).live → facet_at (map (named_facet name) fs) f ≡ named_facet name (facet_at fs f)

@@ -254,3 +254,11 @@ middle_is_below a b c s t u v p h hs ht hu hv off = by_lt_z (above a b c (middle
         pick : (above s t u v ≡ pos 0) ⊎ (weighted_dot (plane_of a b c) p ≡ pos 0) → ⊥
         pick (inl e) = less_differ (above s t u v) (pos 0) h e
         pick (inr e) = off (sym (plane-is a b c p) ∙ e)
+
+-- the middle is the same in another order
+pub middle-turned : (a b c d : Weighted) → middle_of a c b d ≡ middle_of a b c d
+middle-turned a b c d =
+    λ i. record { w = swap a.w b.w c.w d.w i; x = swap a.x b.x c.x d.x i; y = swap a.y b.y c.y d.y i; z = swap a.z b.z c.z d.z i }
+  where
+    swap : (p q r s : ℤ) → p +ℤ r +ℤ q +ℤ s ≡ p +ℤ q +ℤ r +ℤ s
+    swap p q r s = omega (arith, ints)
