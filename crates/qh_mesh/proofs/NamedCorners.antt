@@ -9,7 +9,7 @@ use Rattle.qh_mesh.specs.contract.Replacement.{IsLive, side_of_edge, edge_start,
 use Rattle.qh_mesh.specs.steps.Kept.{is_live, outer_of}
 use Rattle.qh_mesh.specs.steps.Surfaces.{IsSurface}
 use Rattle.qh_mesh.specs.steps.Twins.{HasTwins}
-use Rattle.qh_mesh.proofs.Rewiring.{in_live}
+use Rattle.qh_model.proofs.surfaces.Stored.{in_live}
 use Rattle.qh_mesh.proofs.Pools.{pool_same}
 
 module _ (name : ℕ → ℕ) (fs : List StoredFacet) where

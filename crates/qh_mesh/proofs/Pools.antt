@@ -1,9 +1,9 @@
 -- The places of no facet, as they come and go.
-use Rattle.std.proofs.Common.{◌≡◌, ◌≢◌, ℕ, zero, suc, ◌^◌, ◌<◌, ◌≤◌, inl, inr, max, arith, ap, sym, ◌∙◌, refl, subst, Bool, true, false}
-use Rattle.std.proofs.Common.{cond, List, [], ◌∷◌, ◌++◌, length, reverse, set}
+use Rattle.std.proofs.Common.{◌≡◌, ◌≢◌, ℕ, ◌^◌, ◌<◌, ◌≤◌, inl, inr, max, arith, ap, sym, ◌∙◌, refl, subst, Bool, true, false, cond, List}
+use Rattle.std.proofs.Common.{[], ◌∷◌, ◌++◌, length, reverse, set}
 use Rattle.std.proofs.lemmas.Bool.{both_ways, cases_lt}
-use Rattle.std.proofs.lemmas.List.{length_push, length-reverse, length-set, get_or_past, get_or-set_same, get_or-set_other, append_assoc}
-use Rattle.std.proofs.lemmas.List.{reverse-append, append-nil}
+use Rattle.std.proofs.lemmas.List.{get_or_append_left, get_or_push, length_push, length-reverse, length-set, get_or-set_same}
+use Rattle.std.proofs.lemmas.List.{get_or-set_other, append_assoc, reverse-append, append-nil}
 use Rattle.std.proofs.lemmas.List.Sums.{sum_by-set, sum_by_push}
 use Rattle.qh_model.specs.headline.Sets.{In}
 use Rattle.qh_model.specs.contract.StoredSurface.{StoredFacet, facet_at, no_facet, surface_of}
@@ -66,14 +66,7 @@ pub pool_pops : (fs : List StoredFacet) (made free : List FacetNo) (p : FacetNo)
 pool_pops fs made free p q = subst (IsPool fs)
     (ap (λ xs. made ++ xs) (reverse-append free (p ∷ [])) ∙ sym (append_assoc made (p ∷ []) (reverse free))) q
 
--- one more place of no facet
-blank_same : (fs : List StoredFacet) (f : ℕ) → facet_at (fs ++ no_facet ∷ []) f ≡ facet_at fs f
-blank_same [] zero = refl
-blank_same [] (suc f) = refl
-blank_same (t ∷ fs) zero = refl
-blank_same (t ∷ fs) (suc f) = blank_same fs f
-
--- it is given out
+-- and one more place of no facet
 pub pool_grows : (fs : List StoredFacet) (made : List FacetNo) (p : FacetNo) → p.0 ≡ length fs → IsPool fs (made ++ [])
     → IsPool (fs ++ no_facet ∷ []) ((made ++ p ∷ []) ++ [])
 pool_grows fs made p e r =
@@ -83,8 +76,9 @@ pool_grows fs made p e r =
       once = once_append made (p ∷ []) q.once ((λ i. i), tt)
           (λ v i. elim [ inl k ↦ (let h = (q.vacant v i).0 in let d = same v k in omega arith) | inr j ↦ j ]);
       vacant = λ v i. elim (of_append made (p ∷ []) v i) [
-        | inl j ↦ (let l = (q.vacant v j).0 in omega arith, ap is_live (blank_same fs v.0) ∙ (q.vacant v j).1)
-        | inr (inl k) ↦ (let d = same v k in (omega arith, ap is_live (blank_same fs v.0 ∙ get_or_past fs v.0 no_facet (omega arith))))
+        | inl j ↦ (let l = (q.vacant v j).0 in
+            (omega arith, ap is_live (get_or_append_left fs (no_facet ∷ []) no_facet v.0 l) ∙ (q.vacant v j).1))
+        | inr (inl k) ↦ (let d = same v k in (omega arith, ap is_live (get_or_push fs no_facet no_facet v.0 (sym d))))
         | inr (inr j) ↦ absurd j
       ];
       count = let c = sum_by_push (λ t. one t.live) fs no_facet in let d = q.count in omega arith;

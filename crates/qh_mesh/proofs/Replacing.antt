@@ -137,17 +137,13 @@ module _ (old chosen : List StoredFacet) (free left vs : List FacetNo) (hs : Lis
     kept_bare f k = other f (λ j l. fresh f j k l) ∙ ap bare (stays old p.between vs c.removed f k.unlisted)
 
     -- a live facet stays, or is of the cone
-    was_kept : (f : ℕ) → IsLive new f → is_listed made f ≡ false → IsKept old vs f
-    was_kept f l u =
-        let d = ap is_live (sym (other f (λ j m e. both_ways (is_listed made f) u (listed_at made f j m (sym e))))) ∙ l in
-        let u' = false_from_ne_true (is_listed vs f)
-        (λ e. both_ways (facet_at p.between f).live (ap is_live (gone old p.between vs c.removed f e)) d) in
-        record { live = ap is_live (sym (stays old p.between vs c.removed f u')) ∙ d; unlisted = u' }
-
     only : (f : ℕ) → IsLive new f → IsKept old vs f ⊎ ((j : ℕ) × (j < length made) × (f ≡ number made j))
     only f l = elim (cases_Bool (is_listed made f)) [
       | inl e ↦ (let q = listed_find made f e in inr (q.0, q.1.0, q.1.1))
-      | inr u ↦ inl (was_kept f l u)
+      | inr u ↦ (let d = ap is_live (sym (other f (λ j m e. both_ways (is_listed made f) u (listed_at made f j m (sym e))))) ∙ l in
+          let u' = false_from_ne_true (is_listed vs f)
+          (λ e. both_ways (facet_at p.between f).live (ap is_live (gone old p.between vs c.removed f e)) d) in
+          inl (record { live = ap is_live (sym (stays old p.between vs c.removed f u')) ∙ d; unlisted = u' }))
     ]
 
     -- so they are a replacement

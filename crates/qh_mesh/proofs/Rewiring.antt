@@ -10,7 +10,7 @@ use Rattle.qh_model.specs.contract.Surface.{Side, Surface, start, end, Sees, IsB
 use Rattle.qh_model.specs.contract.Surface.Side.{first, second, third}
 use Rattle.qh_model.specs.contract.Rewired.{IsHorizonSide, LinksTo, IsRewired}
 use Rattle.qh_model.specs.contract.StoredSurface.{StoredFacet, facet_at, surface_of}
-use Rattle.qh_model.proofs.surfaces.Stored.{live_is_marked}
+pub use Rattle.qh_model.proofs.surfaces.Stored.{live_in, in_live}
 use Rattle.qh_model.proofs.surfaces.SurfaceLaws.{rise_is_vol, horizon_is_known}
 use Rattle.qh_model.proofs.algebra.Signs.{not_less}
 use Rattle.qh_mesh.specs.declared.facets.FacetNo.{FacetNo}
@@ -22,15 +22,6 @@ use Rattle.qh_mesh.specs.steps.Twins.{edge_of, HasTwin, HasTwins}
 use Rattle.qh_mesh.proofs.EdgeSides.{edge-facet, edge-side, edge_is, twins_by_side, start-is, end-is, twin-is, over-is, back-is}
 use Rattle.qh_mesh.proofs.HorizonSides.{edge, on_horizon, horizon_twin, horizon_at, same_place}
 use Rattle.qh_mesh.proofs.ListedFacets.{listed_at, listed_live}
-
-module _ (fs : List StoredFacet) (f : ℕ) where
-  -- a facet of the surface is live
-  pub live_in : In f (surface_of fs).live → IsLive fs f
-  live_in i = (live_is_marked fs f).0 i
-
-  -- and a live one of the surface
-  pub in_live : IsLive fs f → In f (surface_of fs).live
-  in_live l = (live_is_marked fs f).1 l
 
 module _ (fs : List StoredFacet) (f : ℕ) (s : Side) where
   -- the neighbour is the facet of the twin

@@ -17,12 +17,12 @@ use Rattle.qh_model.proofs.surfaces.Closed.{sound_is_closed, sound_has_volume, s
 use Rattle.qh_model.proofs.surfaces.Named.{IsNamed, sound_named, whole_named}
 use Rattle.qh_model.proofs.surfaces.Rewired.{replace_keeps}
 use Rattle.qh_model.proofs.surfaces.Simplex.{four, middle-turned, simplex_sound}
-use Rattle.qh_model.proofs.surfaces.Stored.{live_is_listed_once}
+use Rattle.qh_model.proofs.surfaces.Stored.{live_in, in_live, live_is_listed_once}
 use Rattle.qh_model.proofs.surfaces.SurfaceLaws.{rise_is_vol}
 use Rattle.qh_mesh.specs.contract.Replacement.{number, is_listed, IsLive}
 use Rattle.qh_mesh.specs.contract.SoundMesh.{simplex_facets, facet_vol, IsSoundMesh, IsClosedMesh, AreVisible}
 use Rattle.qh_mesh.specs.declared.facets.FacetNo.{FacetNo}
-use Rattle.qh_mesh.proofs.Rewiring.{live_in, in_live, IsStep, rewired}
+use Rattle.qh_mesh.proofs.Rewiring.{IsStep, rewired}
 
 -- a sound mesh with a facet is closed
 pub closed_of : (at : ℕ → Vector) (fs : List StoredFacet) (s t u v f : ℕ) → IsLive fs f → IsSoundMesh at fs (middle_at at s t u v)

@@ -58,6 +58,13 @@ live_is_marked fs f = (λ i. to (marked_of 0 fs f i), λ e. subst (λ g. In g (l
     to : (k : ℕ) × (f ≡ 0 + k) × ((facet_at fs k).live ≡ true) → (facet_at fs f).live ≡ true
     to (k, e, q) = subst (λ g. (facet_at fs g).live ≡ true) (sym (e ∙ none_before k)) q
 
+-- a facet of the surface is live, and a live one of the surface
+pub live_in : (fs : List StoredFacet) (f : ℕ) → In f (live_from 0 fs) → (facet_at fs f).live ≡ true
+live_in fs f = (live_is_marked fs f).0
+
+pub in_live : (fs : List StoredFacet) (f : ℕ) → (facet_at fs f).live ≡ true → In f (live_from 0 fs)
+in_live fs f = (live_is_marked fs f).1
+
 -- a live number is no less than where counting begins
 live_above : (n : ℕ) (fs : List StoredFacet) (g : ℕ) → In g (live_from n fs) → n ≤ g
 live_above n fs g i = let r = marked_of n fs g i in let e = r.1 in omega arith
