@@ -84,9 +84,9 @@ module _ (fs : List StoredFacet) (vs : List FacetNo) (t : HasTwins fs) (a : AreF
   count_inside ends = count_twins (twin_of fs) (meet ends) (meet (not ends)) inside
       (once_filter (inner fs vs) (sides_of vs) (once_sides vs (once_of vs a.apart)))
       (λ e i m. let k = of_filter (inner fs vs) (sides_of vs) e i in let d = twin_of fs e in let h = of_sides vs e k.0 in
-          let g = t e (listed_live fs vs a (e / 3) h) in
-          let met = elim ends as (λ b. corner (not b) (edge_side fs d) ≡ corner b (edge_side fs e)) [ true ↦ g.starts | false ↦ g.ends ] in
-          (in_filter (inner fs vs) (sides_of vs) d (in_sides vs d k.1) (rw (g.back, h) refl), rw (met, m) refl, g.back))
+      let g = t e (listed_live fs vs a (e / 3) h) in
+      let met = elim ends as (λ b. corner (not b) (edge_side fs d) ≡ corner b (edge_side fs e)) [ true ↦ g.starts | false ↦ g.ends ] in
+      (in_filter (inner fs vs) (sides_of vs) d (in_sides vs d k.1) (rw (g.back, h) refl), rw (met, m) refl, g.back))
 
   -- so on the horizon too
   balance : (ends : Bool) → count_by (meet ends) inside + count_by (meets ends l) (map (edge_side fs) (horizon fs vs))
@@ -99,8 +99,11 @@ module _ (fs : List StoredFacet) (vs : List FacetNo) (t : HasTwins fs) (a : AreF
 -- the horizon of facets of a surface is balanced
 pub horizon_balanced : (fs : List StoredFacet) (vs : List FacetNo) → HasTwins fs → AreFacets fs vs
     → IsBalanced (map (edge_side fs) (horizon fs vs))
-horizon_balanced fs vs t a l = let c = count_inside fs vs t a l in let b = balance fs vs t a l in
-    omega (arith, c true, c false, b true, b false, round fs l vs)
+horizon_balanced fs vs t a = elim [ true ↦ even | false ↦ λ l. sym (even l) ]
+  where
+    even : (l : ℕ) → let hs = map (edge_side fs) (horizon fs vs) in count_by (meets true l) hs ≡ count_by (meets false l) hs
+    even l = let c = count_inside fs vs t a l in let b = balance fs vs t a l in
+        omega (arith, c true, c false, b true, b false, round fs l vs)
 
 -- ---- gathering
 module _ (old cleared : List StoredFacet) (vs : List FacetNo) (r : Removed old cleared vs (length vs)) where
@@ -119,8 +122,9 @@ module _ (old cleared : List StoredFacet) (vs : List FacetNo) (r : Removed old c
         record { facet = rw r.len (live_inside old (number vs j) (a.live j l)); ij = across first; jk = across second; ki = across third }
       where
         across : (i : Side) → outer_of (facet_at cleared (number vs j)) i / 3 < length cleared
-        across i = let f = number vs j in let live = (s.twins (edge_of f i) (subst (IsLive old) (sym (edge-facet f i)) (a.live j l))).live in
-            rw (r.there j l, r.len, ← twin-is old f i) (live_inside old (twin_of old (edge_of f i) / 3) live)
+        across i = let f = number vs j in let e = edge_of f i in
+            let live = (s.twins e (subst (IsLive old) (sym (edge-facet f i)) (a.live j l))).live in
+            rw (r.there j l, r.len, ← twin-is old f i) (live_inside old (twin_of old e / 3) live)
 
     -- what is noted of a side of a listed facet, and that it is open where the facet across stays
     noted : (e : ℕ) → In e (sides_of vs)

@@ -13,17 +13,12 @@ abbrev pub meets : Bool → ℕ → FacetSide → Bool
 meets ends l h = nat_eq (corner ends h) l
 
 module _ (hs : List FacetSide) where
-  -- as many meet l the other way
-  balanced : IsBalanced hs → (ends : Bool) (l : ℕ) → count_by (meets ends l) hs ≡ count_by (meets (not ends) l) hs
-  balanced b true l = b l
-  balanced b false l = sym (b l)
-
   -- no side's rank is past those that meet it
   pub rank_below : IsBalanced hs → (ends : Bool) (j i l : ℕ) → j < length hs → l ≡ corner ends (side_at hs j) → length hs ≤ i
       → rank hs ends l j < rank hs (not ends) l i
   rank_below b ends j i l h q n =
       let c = counted (meets ends l) no_side hs j h (eq-eqb (corner ends (side_at hs j)) l (sym q)) in
-      let e = balanced b ends l in let a = ap (count_by (meets (not ends) l)) (take_all i hs n) in omega arith
+      let e = b ends l in let a = ap (count_by (meets (not ends) l)) (take_all i hs n) in omega arith
 
   -- so each has a mate
   pub has_mate : IsBalanced hs → (ends : Bool) (j : ℕ) → (i : ℕ) × (j < length hs → IsMate hs ends j i)
@@ -55,8 +50,7 @@ module _ (hs : List FacetSide) where
 
   -- the table names it
   pub mate_noted : (ss : List Slot) → IsBalanced hs → AreNoted ss hs → (ends : Bool) (j l : ℕ) → j < length hs
-      → l ≡ corner ends (side_at hs j)
-      → IsMate hs ends j (noted ss (not ends) l)
+      → l ≡ corner ends (side_at hs j) → IsMate hs ends j (noted ss (not ends) l)
   mate_noted ss b n ends j l i q =
       let m = has_mate b ends j in let h = m.1 i in
       subst (IsMate hs ends j) (sym (n (not ends) m.0 h.inside).1 ∙ ap (noted ss (not ends)) (h.meets ∙ sym q)) h

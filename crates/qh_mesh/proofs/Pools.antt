@@ -51,8 +51,7 @@ module _ (fs : List StoredFacet) (places : List FacetNo) (v : FacetNo) (t : Stor
 
 -- facets with the same marks leave the same places
 pub pool_same : (fs gs : List StoredFacet) (places : List FacetNo) → length gs ≡ length fs
-    → ((f : ℕ) → (facet_at gs f).live ≡ (facet_at fs f).live)
-    → live_count gs ≡ live_count fs → IsPool fs places → IsPool gs places
+    → ((f : ℕ) → (facet_at gs f).live ≡ (facet_at fs f).live) → live_count gs ≡ live_count fs → IsPool fs places → IsPool gs places
 pool_same fs gs places n s c q =
     record { once = q.once; vacant = λ v i. (rw n (q.vacant v i).0, s v.0 ∙ (q.vacant v i).1); count = let d = q.count in omega arith }
 
@@ -86,8 +85,7 @@ pool_grows fs made p e r =
 
 -- places are given out again before there are more
 pub places_are : (fs : List StoredFacet) (free : List FacetNo) (n : ℕ) → IsPool fs (reverse free) → n ≤ length fs
-    → (0 < length free → length fs ≡ n)
-    → length fs ≡ max n (length (surface_of fs).live)
+    → (0 < length free → length fs ≡ n) → length fs ≡ max n (length (surface_of fs).live)
 places_are fs free n q l h =
     let c = q.count in let e : length (surface_of fs).live ≡ live_count fs = live_len 0 fs in let r = length-reverse free in
     elim (cases_lt 0 (length free)) [ inl k ↦ (let m = h k in omega arith) | inr k ↦ omega arith ]

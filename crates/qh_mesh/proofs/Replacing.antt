@@ -171,24 +171,19 @@ module _ (old chosen : List StoredFacet) (free left vs : List FacetNo) (hs : Lis
       only = only;
     }
 
-    step : IsStep old new vs apex made
-    step = record { twins = s.twins; facets = a; replaced = replacement }
-
-    len : length new ≡ length chosen
-    len = w.written.len ∙ w.joined.len
-
     -- that leaves a surface, and no more places than it needs
     pub rebuilt : IsRebuilt old new left vs apex made
-    unfolding step replacement
-    rebuilt = record {
-      surface = record {
-        twins = twins_after old new vs apex made step (λ j l. (mate false j, mate_in false j l, mate_back false j l));
-        pool = w.pool (reverse left) h.pool;
-        small = rw len h.small;
-      };
-      replaced = replacement;
-      places = places_are new left (length old) (w.pool (reverse left) h.pool) (let l = p.longer in rw len l) (λ l. len ∙ p.again l);
-      rewired = rewired old new vs apex made step;
-      sound = step_is_sound old new vs apex made step;
-      closed = step_is_closed old new vs apex made step;
-    }
+    unfolding replacement
+    rebuilt = let len = w.written.len ∙ w.joined.len in
+        let step : IsStep old new vs apex made = record { twins = s.twins; facets = a; replaced = replacement } in record {
+          surface = record {
+            twins = twins_after old new vs apex made step (λ j l. (mate false j, mate_in false j l, mate_back false j l));
+            pool = w.pool (reverse left) h.pool;
+            small = rw len h.small;
+          };
+          replaced = replacement;
+          places = places_are new left (length old) (w.pool (reverse left) h.pool) (let l = p.longer in rw len l) (λ l. len ∙ p.again l);
+          rewired = rewired old new vs apex made step;
+          sound = step_is_sound old new vs apex made step;
+          closed = step_is_closed old new vs apex made step;
+        }

@@ -149,15 +149,12 @@ module _ (old new : List StoredFacet) (vs : List FacetNo) (p : ℕ) (made : List
       unlisted_blind : is_listed vs f ≡ false → IsBlind f
       unlisted_blind e = rw (rise-vol place old f p) (visible.unseen f l e)
 
-      never : IsSeen f → IsBlind f → ⊥
-      never = not_less (pos 0) (rise m home f (home p))
-
       -- and the other way round
       seen_listed : IsSeen f → is_listed vs f ≡ true
-      seen_listed s = true_from_ne_false (is_listed vs f) (λ e. never s (unlisted_blind e))
+      seen_listed s = true_from_ne_false (is_listed vs f) (λ e. not_less (pos 0) (rise m home f (home p)) s (unlisted_blind e))
 
       blind_unlisted : IsBlind f → is_listed vs f ≡ false
-      blind_unlisted b = false_from_ne_true (is_listed vs f) (λ e. never (listed_seen e) b)
+      blind_unlisted b = false_from_ne_true (is_listed vs f) (λ e. not_less (pos 0) (rise m home f (home p)) (listed_seen e) b)
 
     -- an edge of the list is a side of the horizon
     horizon_side : (j : ℕ) → j < length (horizon old vs) → IsSide (edge old vs j / 3) (side_of_edge (edge old vs j))

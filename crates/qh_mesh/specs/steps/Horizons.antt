@@ -1,5 +1,5 @@
 -- The horizon as it is gathered, and which of its sides follow one another.
-use Rattle.std.specs.Prelude.{◌≡◌, ℕ, ◌/◌, ◌<◌, List, [], ◌∷◌, Bool, true, false, cond, not, nat_eq, length, take, filter, slice_index_or}
+use Rattle.std.specs.Prelude.{◌≡◌, ℕ, ◌/◌, ◌<◌, List, [], ◌∷◌, Bool, cond, not, nat_eq, length, take, filter, slice_index_or}
 use Rattle.std.specs.Prelude.{count_by, flat_map}
 use Rattle.qh_model.specs.contract.Surface.Side.{first, second, third}
 use Rattle.qh_model.specs.contract.StoredSurface.{StoredFacet, facet_at}
@@ -42,7 +42,8 @@ corner ends h = cond ends h.to h.from
 
 -- at each corner as many sides start as end
 abbrev pub IsBalanced : List FacetSide → Type 0
-IsBalanced hs = (l : ℕ) → count_by (λ h. nat_eq (corner true h) l) hs ≡ count_by (λ h. nat_eq (corner false h) l) hs
+IsBalanced hs = (ends : Bool) (l : ℕ)
+    → count_by (λ h. nat_eq (corner ends h) l) hs ≡ count_by (λ h. nat_eq (corner (not ends) h) l) hs
 
 -- how many of the first n sides end, or start, at a corner
 abbrev pub rank : List FacetSide → Bool → ℕ → ℕ → ℕ
