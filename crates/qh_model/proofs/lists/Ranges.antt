@@ -1,5 +1,6 @@
 -- The positions of a list: which numbers they are, the list as their image, and how many are apart.
-use Rattle.std.proofs.Common.{◌≡◌, ◌≢◌, ◌≤◌, ℕ, zero, suc, ◌+◌, ◌<◌, refl, arith, sym, subst, ◌∙◌, zero-add, inl, inr, List, length, map, slice_index}
+use Rattle.std.proofs.Common.{◌≡◌, ◌≢◌, ◌≤◌, ℕ, zero, suc, ◌+◌, ◌<◌, refl, arith, sym, subst, ◌∙◌, zero-add, inl, inr, List, length, map}
+use Rattle.std.proofs.Common.{slice_index}
 use Rattle.std.specs.List.{range_with_len}
 use Rattle.std.proofs.lemmas.List.FromFn.{fill_by_all, get_or-range_with_len, length-range_with_len, length-map-range_with_len}
 use Rattle.std.proofs.lemmas.Bool.{cases_order}
