@@ -1,22 +1,27 @@
 //! The ends of a set of points in one line.
-ghost use Rattle.std.specs.Prelude.{◌<◌, ◌<ℤ◌, ◌↔◌, IsTrue, length};
+ghost use Rattle.std.specs.Prelude.{◌≡◌, ◌⊎◌, ◌<◌, ◌≤ℤ◌, length};
 ghost use Rattle.qh_block.specs.steps.Segments.{position, IsFirstAlong};
 
 use crate::id_set::IdSet;
 use qh_model::{Id, Point};
 use qh_pred::{along, point_at};
 
-/// Whether the point of `k` comes before that of `l` along the way from the point of `a` to that of `b`.
-fn comes_before(pts: &[Point], a: Id, b: Id, k: Id, l: Id) -> bool
+/// The one of `k` and `l` whose point comes first along the way from the point of `a` to that of `b`.
+fn earlier(pts: &[Point], a: Id, b: Id, k: Id, l: Id) -> Id
     requires a_in { a < length pts.now }
     requires b_in { b < length pts.now }
     requires k_in { k < length pts.now }
     requires l_in { l < length pts.now }
-    ensures { IsTrue result ↔ (position pts.now a b k <ℤ position pts.now a b l) }
+    ensures one { (result ≡ k) ⊎ (result ≡ l) }
+    ensures not_k { position pts.now a b result ≤ℤ position pts.now a b k }
+    ensures not_l { position pts.now a b result ≤ℤ position pts.now a b l }
 {
-    let from = point_at(pts, a);
-    let to = point_at(pts, b);
-    along(from, to, point_at(pts, k)) < along(from, to, point_at(pts, l))
+    let (from, to) = (point_at(pts, a), point_at(pts, b));
+    if along(from, to, point_at(pts, k)) < along(from, to, point_at(pts, l)) {
+        k
+    } else {
+        l
+    }
 }
 
 /// The id whose point is the first along the way from the point of `a` to that of `b`.
@@ -28,9 +33,7 @@ pub fn first_along(set: IdSet, a: Id, b: Id) -> Id
 {
     let mut first = set.ids[0];
     for id in set.ids {
-        if comes_before(set.pts, a, b, *id, first) {
-            first = *id;
-        }
+        first = earlier(set.pts, a, b, *id, first);
     }
     first
 }

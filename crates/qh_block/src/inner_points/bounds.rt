@@ -73,11 +73,6 @@ impl Bounds {
     pub fn is_below_all(&self, planes: &[Plane]) -> bool
         ensures { IsTrue result → All (IsBelow self.now) planes.now }
     {
-        for plane in planes {
-            if !self.is_below(plane) {
-                return false;
-            }
-        }
-        true
+        planes.iter().all(|plane| self.is_below(plane))
     }
 }

@@ -180,10 +180,9 @@ impl Columns {
         ensures { IfOk result (λ c. All (IsBelowAll planes.now) c.boxes.items) }
     {
         let grid = Grid::over(set);
-        let mut boxes = Vec::new(alloc);
-        for number in 0..SIDE * SIDE {
-            boxes.push(box_in(planes, &grid.column(number)))?;
-        }
+        let boxes = (0..SIDE * SIDE)
+            .map(|number| box_in(planes, &grid.column(number)))
+            .collect(alloc)?;
         Ok(Columns { grid, boxes })
     }
 

@@ -1,7 +1,7 @@
 //! The hull of a few ids of a set, spread over it, as planes.
-ghost use Rattle.std.specs.Prelude.{◌<◌, ℕ, IfOk, IfSome, IsTrue, length};
+ghost use Rattle.std.specs.Prelude.{◌≡◌, ◌*◌, ◌<◌, ℕ, slice_index, IfOk, IfSome, IsTrue, length};
 ghost use Rattle.std.specs.List.Sorted.{IsStrictlyIncreasing};
-ghost use Rattle.qh_model.specs.headline.Sets.{In};
+ghost use Rattle.qh_model.specs.headline.Sets.{Members};
 ghost use Rattle.qh_block.specs.steps.InnerPoints.{HasPlanes, AreInner};
 ghost use Rattle.qh_block.specs.steps.PlaneWalks.{AreCornersBelow};
 
@@ -20,16 +20,10 @@ pub fn one_of(alloc: Global, ids: &[Id], many: usize) -> Result<Vec<Id>, AllocEr
     requires some { 0 < length ids.now }
     requires many { 0 < many }
     ensures some { IfOk result (λ v. 0 < length v.items) }
-    ensures within { IfOk result (λ v. (i : ℕ) → In i v.items → In i ids.now) }
+    ensures inside { IfOk result (λ v. (k : ℕ) → k < length v.items → k * many < length ids.now) }
+    ensures each { IfOk result (λ v. (k : ℕ) → k < length v.items → slice_index v.items k ≡ slice_index ids.now (k * many)) }
 {
-    let mut sample = Vec::new(alloc);
-    sample.push(ids[0])?;
-    let mut at = many;
-    while at < ids.len() {
-        sample.push(ids[at])?;
-        at = at.saturating_add(many);
-    }
-    Ok(sample)
+    ids.chunks(many).map(|part| part[0]).collect(alloc)
 }
 
 /// The planes of the live facets.

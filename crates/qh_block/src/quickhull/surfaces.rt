@@ -45,15 +45,13 @@ fn position_of(ids: &[Id], id: Id) -> Result<Id, Memory>
     requires { Members ids.now id }
     ensures { IfOk result (λ p. IsPositionOf ids.now id p) }
 {
-    let Ok(count) = u32::try_from(ids.len()) else {
-        return Err(Memory);
+    let Some(position) = ids.iter().position(|listed| *listed == id) else {
+        unreachable!();
     };
-    for position in 0..count {
-        if ids[position as usize] == id {
-            return Ok(Id::new(position));
-        }
+    match u32::try_from(position) {
+        Ok(position) => Ok(Id::new(position)),
+        Err(_) => Err(Memory),
     }
-    unreachable!()
 }
 
 /// The positions of a first simplex in a list that has its corners.
