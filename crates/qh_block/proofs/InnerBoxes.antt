@@ -1,42 +1,30 @@
 -- Boxes below planes: a product over a range is greatest at an end of it, a scalar product over a box at a corner.
-use Rattle.std.proofs.Common.{◌≡◌, ◌<◌, FitsSigned, arith}
-use Rattle.std.proofs.lemmas.Int.{ints}
+use Rattle.std.proofs.Common.{◌≡◌, arith}
+use Rattle.std.proofs.lemmas.Int.{ints, by_lt_z}
 use Rattle.std.specs.Prelude.{ℤ, pos, ◌+ℤ◌, ◌-ℤ◌, ◌*ℤ◌, neg_ℤ, ◌≤ℤ◌, ◌<ℤ◌}
 use Rattle.qh_model.specs.headline.Vector.{Vector, dot}
 use Rattle.qh_model.proofs.algebra.Order.{mul-le}
 use Rattle.qh_model.proofs.algebra.Integers.{neg_mul}
 use Rattle.qh_pred.specs.contract.Planes.{PlaneValue, height}
-use lib.Signed.{mag}
-use mir.Syntax.{w32, w128}
+use Rattle.qh_block.specs.declared.inner_points.bounds.Bounds.{Bounds}
+use Rattle.qh_block.specs.steps.InnerPoints.{IsBetween, IsWithin, IsFarEnd}
 
--- a number in the range of a word fits it
-pub fits32 : (n : ℤ) → mag n < 2147483648 → FitsSigned w32 n
-fits32 n h = record { sfits = h }
-
-pub fits128 : (n : ℤ) → mag n < 170141183460469231731687303715884105728 → FitsSigned w128 n
-fits128 n h = record { sfits = h }
-
--- with a factor above 0 the greatest number gives the greatest product
-pub greatest_high : (a n h : ℤ) → pos 0 <ℤ a → n ≤ℤ h → (a *ℤ n) ≤ℤ (a *ℤ h)
-greatest_high a n h p k = mul-le a n h (omega (arith, ints)) k
-
--- with one not above 0 the least
-pub greatest_low : (a l n : ℤ) → a ≤ℤ pos 0 → l ≤ℤ n → (a *ℤ n) ≤ℤ (a *ℤ l)
-greatest_low a l n p k = back (a *ℤ l) (a *ℤ n) (neg_ℤ a *ℤ l) (neg_ℤ a *ℤ n) (neg_mul a l) (neg_mul a n) (mul-le (neg_ℤ a) l n (omega (arith, ints)) k)
+-- with a factor above 0 the greatest number gives the greatest product, with one not above 0 the least
+greatest : (a l h e n : ℤ) → IsFarEnd a l h e → IsBetween l n h → (a *ℤ n) ≤ℤ (a *ℤ e)
+greatest a l h e n far in_range = by_lt_z (pos 0) a
+    (λ up. let q = far.0 up in mul-le a n e (omega (arith, ints)) (omega (arith, ints)))
+    (λ down. let q = far.1 down in back _ _ _ _ (neg_mul a e) (neg_mul a n) (mul-le (neg_ℤ a) e n (omega (arith, ints)) (omega (arith, ints))))
   where
     back : (x y u v : ℤ) → u ≡ neg_ℤ x → v ≡ neg_ℤ y → u ≤ℤ v → y ≤ℤ x
     back x y u v e f h = omega (arith, ints)
 
--- three products that are at most three others, one by one, have no greater sum
-pub dot_at_most : (n p q : Vector) → (n.x *ℤ p.x) ≤ℤ (n.x *ℤ q.x) → (n.y *ℤ p.y) ≤ℤ (n.y *ℤ q.y) → (n.z *ℤ p.z) ≤ℤ (n.z *ℤ q.z) → dot n p ≤ℤ dot n q
-dot_at_most n p q x y z = add (n.x *ℤ p.x) (n.x *ℤ q.x) (n.y *ℤ p.y) (n.y *ℤ q.y) (n.z *ℤ p.z) (n.z *ℤ q.z) x y z
+-- so a box is below a plane where its corner that lies furthest along the normal is
+pub below_by_corner : (b : Bounds) (plane : PlaneValue) (n q : Vector) → n ≡ plane.normal → IsFarEnd n.x b.low.x b.high.x q.x
+    → IsFarEnd n.y b.low.y b.high.y q.y → IsFarEnd n.z b.low.z b.high.z q.z → height plane q <ℤ pos 0
+    → (p : Vector) → IsWithin b p → height plane p <ℤ pos 0
+below_by_corner b plane n q e x y z h p w =
+    sum _ _ _ _ _ _ plane.offset (rw e at (greatest n.x b.low.x b.high.x q.x p.x x w.x)) (rw e at (greatest n.y b.low.y b.high.y q.y p.y y w.y))
+    (rw e at (greatest n.z b.low.z b.high.z q.z p.z z w.z)) h
   where
-    add : (a a' b b' c c' : ℤ) → a ≤ℤ a' → b ≤ℤ b' → c ≤ℤ c' → (a +ℤ b +ℤ c) ≤ℤ (a' +ℤ b' +ℤ c')
-    add a a' b b' c c' x y z = omega (arith, ints)
-
--- a point that is no further along a plane's normal than one below it is below it
-pub below_by : (plane : PlaneValue) (n p q : Vector) → n ≡ plane.normal → dot n p ≤ℤ dot n q → height plane q <ℤ pos 0 → height plane p <ℤ pos 0
-below_by plane n p q e h k = go (dot plane.normal p) (dot plane.normal q) plane.offset (rw e at h) k
-  where
-    go : (a b o : ℤ) → a ≤ℤ b → (b -ℤ o) <ℤ pos 0 → (a -ℤ o) <ℤ pos 0
-    go a b o h k = omega (arith, ints)
+    sum : (a a' b b' c c' o : ℤ) → a ≤ℤ a' → b ≤ℤ b' → c ≤ℤ c' → (a' +ℤ b' +ℤ c' -ℤ o) <ℤ pos 0 → (a +ℤ b +ℤ c -ℤ o) <ℤ pos 0
+    sum a a' b b' c c' o x y z h = omega (arith, ints)

@@ -22,6 +22,10 @@ pub record IsWithin (b : Bounds) (p : Vector) : Type 0 where
   pub y : IsBetween b.low.y p.y b.high.y
   pub z : IsBetween b.low.z p.z b.high.z
 
+-- e is the end of a range at which a product with a is greatest
+abbrev pub IsFarEnd : ℤ → ℤ → ℤ → ℤ → Type 0
+IsFarEnd a low high e = (pos 0 <ℤ a → e ≡ high) × (a ≤ℤ pos 0 → e ≡ low)
+
 -- the plane is strictly above all points of the box
 abbrev pub IsBelow : Bounds → PlaneValue → Type 0
 IsBelow b plane = (p : Vector) → IsWithin b p → height plane p <ℤ pos 0

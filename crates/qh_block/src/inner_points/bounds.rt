@@ -1,8 +1,8 @@
 //! Boxes of space with sides along the axes.
-ghost use Rattle.std.specs.Prelude.{◌≡◌, ◌⊎◌, ◌↔◌, ◌≤ℤ◌, ◌*ℤ◌, ℤ, pos, IsTrue};
+ghost use Rattle.std.specs.Prelude.{◌≡◌, ◌⊎◌, ◌↔◌, pos, IsTrue};
 ghost use Rattle.std.specs.List.{All};
-ghost use Rattle.qh_model.specs.headline.Vector.{Vector, dot};
-ghost use Rattle.qh_block.specs.steps.InnerPoints.{IsBetween, IsWithin, IsBelow};
+ghost use Rattle.qh_model.specs.headline.Vector.{Vector};
+ghost use Rattle.qh_block.specs.steps.InnerPoints.{IsBetween, IsWithin, IsFarEnd, IsBelow};
 
 use qh_model::Point;
 use qh_pred::{Normal, Plane};
@@ -23,9 +23,9 @@ fn is_between(low: i32, number: i32, high: i32) -> bool
 }
 
 /// The end of a range at which a product with this factor is greatest.
-pub fn far_end(factor: i128, low: i32, high: i32) -> i32
+fn far_end(factor: i128, low: i32, high: i32) -> i32
     ensures end { (result ≡ low) ⊎ (result ≡ high) }
-    ensures far { (n : ℤ) → low ≤ℤ n → n ≤ℤ high → (factor *ℤ n) ≤ℤ (factor *ℤ result) }
+    ensures far { IsFarEnd factor low high result }
 {
     if factor > 0 { high } else { low }
 }
@@ -52,8 +52,10 @@ impl Bounds {
     }
 
     /// The corner that lies furthest along a normal.
-    fn far_corner(&self, normal: &Normal) -> Point
-        ensures { (p : Vector) → IsWithin self.now p → dot normal.now p ≤ℤ dot normal.now result }
+    pub fn far_corner(&self, normal: &Normal) -> Point
+        ensures x { IsFarEnd normal.now.x self.now.low.x self.now.high.x result.x }
+        ensures y { IsFarEnd normal.now.y self.now.low.y self.now.high.y result.y }
+        ensures z { IsFarEnd normal.now.z self.now.low.z self.now.high.z result.z }
     {
         Point::new(
             far_end(normal.x(), self.low.x(), self.high.x()),

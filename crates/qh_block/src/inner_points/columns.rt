@@ -7,7 +7,7 @@ ghost use Rattle.qh_block.specs.declared.inner_points.bounds.Bounds.{Bounds};
 ghost use Rattle.qh_block.specs.steps.InnerPoints.{IsWithin, IsBelowAll};
 
 use crate::id_set::IdSet;
-use crate::inner_points::bounds::{Bounds, far_end};
+use crate::inner_points::bounds::Bounds;
 use qh_model::{COORDINATE_LIMIT, Point};
 use qh_pred::{Plane, point_at};
 use std::alloc::{AllocError, Global};
@@ -122,11 +122,10 @@ impl Heights {
     fn below(self, plane: &Plane, column: &Bounds) -> Heights {
         let normal = plane.normal();
         let (x, y, z) = (normal.x() as i64, normal.y() as i64, normal.z() as i64);
-        let far_x = far_end(normal.x(), column.low.x(), column.high.x());
-        let far_y = far_end(normal.y(), column.low.y(), column.high.y());
+        let far = column.far_corner(&normal);
         let reach = x
-            .wrapping_mul(i64::from(far_x))
-            .wrapping_add(y.wrapping_mul(i64::from(far_y)));
+            .wrapping_mul(i64::from(far.x()))
+            .wrapping_add(y.wrapping_mul(i64::from(far.y())));
         let offset = i64::try_from(plane.offset()).unwrap_or(0);
         let room = offset.wrapping_sub(reach).wrapping_sub(1);
         let end = room.checked_div_euclid(z.wrapping_abs()).unwrap_or(0);
