@@ -1,20 +1,18 @@
-use Rattle.std.proofs.Common.{List, ◌≡◌, ◌∙◌, sym, subst}
-use Rattle.qh_model.specs.contract.StoredSurface.{surface_of}
+-- The planes of the facets so far.
+use Rattle.std.proofs.Common.{List, ◌∙◌, sym, subst}
 use Rattle.qh_pred.specs.contract.Planes.{PlaneValue}
 use Rattle.qh_mesh.specs.declared.facets.FacetNo.{FacetNo}
-use Rattle.qh_mesh.specs.contract.LiveNumbers.{numbers}
 use Rattle.qh_block.proofs.InnerPoints.{AreListed, none_listed, next_live, next_listed, all_listed}
 use Rattle.qh_block.proofs.inner_points.sample.planes_of.Goals as goal
 
 pub loop-facet-init : goal.loop-facet-init
 loop-facet-init c =
     let pts = c.args.pts.now in let fs = c.args.mesh.now in
-    let left : c.into_iter-facet-iterator.result ≡ numbers (surface_of fs).live = c.into_iter-facet-iterator.ensures.into_iter_gives ∙ c.live-facet-items.ensures in
-    subst (λ (xs : List FacetNo). AreListed pts fs xs c.new-planes.result.items) (sym left)
-    (subst (λ (xs : List PlaneValue). AreListed pts fs (numbers (surface_of fs).live) xs) (sym c.new-planes.ensures.items) (none_listed pts fs))
+    subst (λ (xs : List FacetNo). AreListed pts fs xs c.new-planes.result.items)
+    (sym (c.into_iter-facet-iterator.ensures.into_iter_gives ∙ c.live-facet-items.ensures)) (rw c.new-planes.ensures.items (none_listed pts fs))
 
 pub plane_of-requires-clause-live : goal.plane_of-requires-clause-live
-plane_of-requires-clause-live c = next_live c.args.pts.now c.args.mesh.now c.loop-facet.facet-iterator c.next.new.self c.in-Some.facet c.loop-facet.planes.items c.loop-facet.invariant c.in-Some.ensures.steps
+plane_of-requires-clause-live c = next_live c.loop-facet.invariant c.in-Some.ensures.steps
 
 pub plane_of-requires-clause-corners : goal.plane_of-requires-clause-corners
 plane_of-requires-clause-corners c f l = (c.requires.corners.i_in f l, c.requires.corners.j_in f l, c.requires.corners.k_in f l)
@@ -22,7 +20,7 @@ plane_of-requires-clause-corners c f l = (c.requires.corners.i_in f l, c.require
 pub loop-facet-preserved : goal.loop-facet-preserved
 loop-facet-preserved c =
     subst (λ (xs : List PlaneValue). AreListed c.args.pts.now c.args.mesh.now c.next.new.self xs) (sym c.in_ok-push.ensures.items)
-    (next_listed c.args.pts.now c.args.mesh.now c.loop-facet.facet-iterator c.next.new.self c.in-Some.facet c.loop-facet.planes.items c.loop-facet.invariant c.in-Some.ensures.steps c.plane_of.result c.plane_of.ensures)
+    (next_listed c.loop-facet.invariant c.in-Some.ensures.steps c.plane_of.result c.plane_of.ensures)
 
 pub returns : goal.returns
-returns c = all_listed c.args.pts.now c.args.mesh.now c.loop-facet.facet-iterator c.loop-facet.planes.items c.loop-facet.invariant c.in-None.ensures.steps.0
+returns c = all_listed c.loop-facet.invariant c.in-None.ensures.steps.0
