@@ -1,29 +1,31 @@
-use Rattle.std.proofs.Common.{◌∙◌, sym, subst, length, refl, arith}
+-- A facet without an outside set is passed over, and the first point of a set is the apex.
+use Rattle.std.proofs.Common.{◌≡◌, ◌∙◌, sym, subst, length, refl, arith}
 use Rattle.std.proofs.lemmas.List.{nil_from_length}
 use Rattle.qh_block.specs.steps.OutsideSets.{OutsideValue}
-use Rattle.qh_block.specs.steps.Runs.{AreWithin, IsUnderWay}
+use Rattle.qh_block.specs.steps.Runs.{AreWithin, IsUnderWay, IsPicked}
 use Rattle.qh_block.proofs.runs.NamedFacets.{within_rest}
-use Rattle.qh_block.proofs.runs.PickedApexes.{none_taken, passed_over, picked, all_done}
+use Rattle.qh_block.proofs.runs.PickedApexes.{taken_is, none_taken, passed_over, picked, all_done}
 use Rattle.qh_block.proofs.quickhull.queue.next_apex.Goals as goal
 
 pub returns-in-Some-take_first-clause-picked : goal.returns-in-Some-take_first-clause-picked
 returns-in-Some-take_first-clause-picked c pts fs ps k =
-    picked pts fs ps c.loop-facet.sets c.take_first.new.self c.pop.new.self.items c.in-Some.facet c.in-Some-take_first.apex
-    (subst (IsUnderWay pts fs ps c.loop-facet.sets) c.in-Some.ensures.items (c.loop-facet.invariant.under_way pts fs ps k))
-    c.in-Some-take_first.ensures.first c.in-Some-take_first.ensures.position c.in-Some-take_first.ensures.positions c.in-Some-take_first.ensures.orphans c.in-Some-take_first.ensures.sets
+    let e = c.in-Some-take_first.ensures in
+    subst (λ (v : OutsideValue). IsPicked pts fs ps v c.pop.new.self.items c.in-Some.facet.0 c.in-Some-take_first.apex)
+    (sym (taken_is _ _ _ e.positions e.orphans e.sets))
+    (picked _ _ (subst (IsUnderWay pts fs ps c.loop-facet.sets) c.in-Some.ensures.items (c.loop-facet.invariant.under_way pts fs ps k)) e.first e.position)
 
 pub loop-facet-preserved : goal.loop-facet-preserved
 loop-facet-preserved c =
-    let empty = c.in_default-take_first.ensures.none.0 refl in
-    let same = none_taken c.loop-facet.sets c.take_first.new.self c.in-Some.facet.0 empty c.in_default-take_first.ensures.positions c.in_default-take_first.ensures.orphans c.in_default-take_first.ensures.sets in
-    let within = within_rest (length c.loop-facet.sets.sets) c.pop.new.self.items c.in-Some.facet (subst (AreWithin (length c.loop-facet.sets.sets)) c.in-Some.ensures.items c.loop-facet.invariant.within) in record {
-      within = subst (λ (v : OutsideValue). AreWithin (length v.sets) c.pop.new.self.items) (sym same) within;
+    let sets = c.loop-facet.sets in let rest = c.pop.new.self.items in let e = c.in_default-take_first.ensures in let empty = e.none.0 refl in
+    let same : c.take_first.new.self ≡ sets = taken_is _ _ _ e.positions e.orphans e.sets ∙ none_taken sets c.in-Some.facet.0 empty in record {
+      within = subst (λ (v : OutsideValue). AreWithin (length v.sets) rest) (sym same)
+          (within_rest (length sets.sets) rest c.in-Some.facet (rw c.in-Some.ensures.items at c.loop-facet.invariant.within));
       same = same ∙ c.loop-facet.invariant.same;
-      under_way = λ pts fs ps k. subst (λ (v : OutsideValue). IsUnderWay pts fs ps v c.pop.new.self.items) (sym same)
-          (passed_over pts fs ps c.loop-facet.sets c.pop.new.self.items c.in-Some.facet (subst (IsUnderWay pts fs ps c.loop-facet.sets) c.in-Some.ensures.items (c.loop-facet.invariant.under_way pts fs ps k)) empty);
+      under_way = λ pts fs ps k. subst (λ (v : OutsideValue). IsUnderWay pts fs ps v rest) (sym same)
+          (passed_over _ _ (subst (IsUnderWay pts fs ps sets) c.in-Some.ensures.items (c.loop-facet.invariant.under_way pts fs ps k)) empty);
     }
 
 pub returns-clause-done : goal.returns-clause-done
 returns-clause-done c pts fs ps k =
     let empty = nil_from_length c.loop-facet.pending.items (let k = c.in_default.ensures.cases.0 in let l = c.loop-facet.pending.ok.0 in omega arith) in
-    all_done pts fs ps c.loop-facet.sets (subst (IsUnderWay pts fs ps c.loop-facet.sets) empty (c.loop-facet.invariant.under_way pts fs ps k))
+    all_done (subst (IsUnderWay pts fs ps c.loop-facet.sets) empty (c.loop-facet.invariant.under_way pts fs ps k))
