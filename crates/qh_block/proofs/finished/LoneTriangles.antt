@@ -10,8 +10,8 @@ use Rattle.qh_model.specs.headline.Polygon.{IsPolygon}
 use Rattle.qh_model.specs.contract.FinishedSurface.{IsFinished}
 use Rattle.qh_model.specs.contract.IdSets.{IsIdSet}
 use Rattle.qh_model.specs.contract.StoredSurface.{StoredFacet, facet_at, surface_of}
-use Rattle.qh_model.proofs.algebra.VectorIdentities.{left-dot, left-turn, in_line-twice, in_line-last}
-use Rattle.qh_model.proofs.extremes.Directions.{in_line-flip, square-positive}
+use Rattle.qh_model.proofs.algebra.VectorIdentities.{left-dot, left-turn}
+use Rattle.qh_model.proofs.extremes.Directions.{square-positive}
 use Rattle.qh_model.proofs.surfaces.Finished.{facet_area}
 use Rattle.qh_model.proofs.surfaces.Stored.{live_is_marked}
 use Rattle.qh_mesh.specs.declared.facets.FacetNo.{FacetNo}
@@ -21,6 +21,7 @@ use Rattle.qh_plane.proofs.polygons.Triangle.{left_triangle}
 use Rattle.qh_block.specs.steps.Faces.{corners_of, from_least, IsNewPlane, IsNewFace}
 use Rattle.qh_model.specs.laws.FacetPlanes.{IsLevelFacet}
 use Rattle.qh_block.specs.steps.Walks.{IsWalkFrom}
+use Rattle.qh_block.proofs.flats.Polygons.{corners_differ}
 use Rattle.qh_block.proofs.finished.Corners.{in_corners}
 use Rattle.qh_block.proofs.finished.NewFaces.{face_of_corners}
 
@@ -42,23 +43,17 @@ least_first at i j k area = by (nat_lt i j && nat_lt i k) refl (nat_lt j k) refl
     turn : (a b c : Vector) → pos 0 <ℤ left n a b c → pos 0 <ℤ left n b c a
     turn a b c h = subst (λ t. pos 0 <ℤ t) (left-turn n a b c) h
 
-    ij : i ≢ j
-    ij e = area (subst (λ t. AreInLine (at i) (at t) (at k)) e (in_line-twice (at i) (at k)))
+    d : (i ≢ j) × (j ≢ k) × (i ≢ k)
+    d = corners_differ at i j k area
 
-    ik : i ≢ k
-    ik e = area (subst (λ t. AreInLine (at i) (at j) (at t)) e (in_line-flip (at i) (at j) (at i) (in_line-twice (at i) (at j))))
-
-    jk : j ≢ k
-    jk e = area (subst (λ t. AreInLine (at i) (at j) (at t)) e (in_line-last (at i) (at j)))
-
-    by : (b : Bool) → (nat_lt i j && nat_lt i k) ≡ b → (d : Bool) → nat_lt j k ≡ d
-        → IsPolygon at (Extreme at (Members (i ∷ j ∷ k ∷ []))) n (cond b (i ∷ j ∷ k ∷ []) (cond d (j ∷ k ∷ i ∷ []) (k ∷ i ∷ j ∷ [])))
-    by true e d f = let lower : (i < j) × (i < k) = grind (arith, nat_tests) in
-        left_triangle n at _ i j k (λ x. (λ m. m, λ m. m)) lower.0 lower.1 jk first
-    by false e true f = let lower : (j < k) × (j < i) = grind (arith, nat_tests, ij) in
-        left_triangle n at _ j k i (turned i j k) lower.0 lower.1 (λ q. ik (sym q)) (turn _ _ _ first)
-    by false e false f = let lower : (k < i) × (k < j) = grind (arith, nat_tests, ik, jk) in
-        left_triangle n at _ k i j (λ x. let t = turned k i j x in (t.1, t.0)) lower.0 lower.1 ij (turn _ _ _ (turn _ _ _ first))
+    by : (b : Bool) → (nat_lt i j && nat_lt i k) ≡ b → (e : Bool) → nat_lt j k ≡ e
+        → IsPolygon at (Extreme at (Members (i ∷ j ∷ k ∷ []))) n (cond b (i ∷ j ∷ k ∷ []) (cond e (j ∷ k ∷ i ∷ []) (k ∷ i ∷ j ∷ [])))
+    by true p e q = let lower : (i < j) × (i < k) = grind (arith, nat_tests) in
+        left_triangle n at _ i j k (λ x. (λ m. m, λ m. m)) lower.0 lower.1 d.1 first
+    by false p true q = let lower : (j < k) × (j < i) = grind (arith, nat_tests, d) in
+        left_triangle n at _ j k i (turned i j k) lower.0 lower.1 (λ q. d.2 (sym q)) (turn _ _ _ first)
+    by false p false q = let lower : (k < i) × (k < j) = grind (arith, nat_tests, d) in
+        left_triangle n at _ k i j (λ x. let t = turned k i j x in (t.1, t.0)) lower.0 lower.1 d.0 (turn _ _ _ (turn _ _ _ first))
 
 -- a list of one facet
 alone : (vs : List FacetNo) (f : ℕ) → length vs ≡ 1 → is_listed vs f ≡ true → vs ≡ record { 0 = f } ∷ []

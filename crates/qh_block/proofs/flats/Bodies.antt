@@ -1,5 +1,5 @@
 -- The hulls of a point and of a segment, told of their one polygon.
-use Rattle.std.proofs.Common.{◌≡◌, ◌≢◌, ◌∙◌, ℕ, ◌<◌, [], ◌∷◌, List, length, get_or, sym, subst, ◌⊎◌, inl, inr, arith, refl}
+use Rattle.std.proofs.Common.{◌≡◌, ◌∙◌, ℕ, ◌<◌, [], ◌∷◌, List, length, get_or, sym, subst, ◌⊎◌, inl, inr, arith, refl}
 use Rattle.std.specs.Prelude.{◌↔◌}
 use Rattle.qh_model.specs.contract.IdSets.{IsIdSet}
 use Rattle.qh_model.specs.headline.Dimension.{IsDimension}
@@ -59,17 +59,8 @@ module _ (pts : List Vector) (ids : List ℕ) (b : BodyValue) where
   of_ends : IsDimension (place pts) (Members ids) 1 → (u v : ℕ) → ((l : ℕ) → ((l ≡ u) ⊎ (l ≡ v)) ↔ IsExtreme l) → u < v
       → IsFlatBody 1 (u ∷ v ∷ []) 1 b → IsRight
   of_ends d u v same h f =
-      flat_is_body 1 (u ∷ v ∷ []) 1 f d (λ l. (of l, λ x. to l ((same l).1 x)))
+      flat_is_body 1 (u ∷ v ∷ []) 1 f d (λ l. (λ m. (same l).0 (grind (arith, m)), λ x. (let m = (same l).1 x in grind (arith, m))))
       (inr (inr (inl (refl, (u ∷ v ∷ [], record { i = u; j = v; members = same; lower = h; is = refl }, refl))))) (one_edge u v h)
-    where
-      of : (l : ℕ) → In l (u ∷ v ∷ []) → IsExtreme l
-      of l (inl m) = (same l).0 (inl m)
-      of l (inr (inl m)) = (same l).0 (inr m)
-      of l (inr (inr m)) = absurd m
-
-      to : (l : ℕ) → (l ≡ u) ⊎ (l ≡ v) → In l (u ∷ v ∷ [])
-      to l (inl m) = inl m
-      to l (inr m) = inr (inl m)
 
   -- so of the ends, in either order
   pub segment_is_body : (i j e g : ℕ) (q : List ℕ) → AreFirstTwo ids i j → Each (IsInLine pts i j) ids → IsFirstAlong pts ids i j e
@@ -83,14 +74,7 @@ module _ (pts : List Vector) (ids : List ℕ) (b : BodyValue) where
       members : (l : ℕ) → ((l ≡ e) ⊎ (l ≡ g)) ↔ IsExtreme l
       members = two_ends pts ids i j e g two line first last set
 
-      swapped : {A B : Type 0} → A ⊎ B → B ⊎ A
-      swapped (inl x) = inr x
-      swapped (inr y) = inl y
-
-      falls : (g e : ℕ) → ¬ (e < g) → e ≢ g → g < e
-      falls g e n d = grind (arith, n, d)
-
       go : ((e < g) × (q ≡ e ∷ g ∷ [])) ⊎ (¬ (e < g) × (q ≡ g ∷ e ∷ [])) → IsRight
       go (inl (h, is)) = of_ends dim e g members h (subst (λ q. IsFlatBody 1 q 1 b) is f)
-      go (inr (n, is)) = of_ends dim g e (λ l. (λ m. (members l).0 (swapped m), λ x. swapped ((members l).1 x)))
-          (falls g e n (ends_differ pts ids i j e g two line first last set)) (subst (λ q. IsFlatBody 1 q 1 b) is f)
+      go (inr (n, is)) = of_ends dim g e (λ l. (λ m. (members l).0 (grind (arith, m)), λ x. (let m = (members l).1 x in grind (arith, m))))
+          (let d = ends_differ pts ids i j e g two line first last set in grind (arith, n, d)) (subst (λ q. IsFlatBody 1 q 1 b) is f)

@@ -23,25 +23,22 @@ use Rattle.qh_block.proofs.flats.Bodies.{flat_is_body}
 use Rattle.qh_block.proofs.flats.Edges.{edges_round}
 use Rattle.qh_block.proofs.flats.Lines.{first_two_in}
 
+-- corners that are not in line differ
+pub corners_differ : (at : ℕ → Vector) (i j k : ℕ) → ¬ (AreInLine (at i) (at j) (at k)) → (i ≢ j) × (j ≢ k) × (i ≢ k)
+corners_differ at i j k area = (
+  λ e. area (subst (λ t. AreInLine (at i) (at t) (at k)) e (in_line-twice (at i) (at k))),
+  λ e. area (subst (λ t. AreInLine (at i) (at j) (at t)) e (in_line-last (at i) (at j))),
+  λ e. area (subst (λ t. AreInLine (at i) (at j) (at t)) e (in_line-flip (at i) (at j) (at i) (in_line-twice (at i) (at j)))),
+)
+
 -- a list with a triangle has three members
 pub three_members : (at : ℕ → Vector) (q : List ℕ) → HasTriangle at (λ i. In i q) → 2 < length q
 three_members at q t = go q t.has_i t.has_j t.has_k
   where
-    ij : t.i ≢ t.j
-    ij e = t.area (subst (λ v. AreInLine (at t.i) (at v) (at t.k)) e (in_line-twice (at t.i) (at t.k)))
-
-    jk : t.j ≢ t.k
-    jk e = t.area (subst (λ v. AreInLine (at t.i) (at t.j) (at v)) e (in_line-last (at t.i) (at t.j)))
-
-    ik : t.i ≢ t.k
-    ik e =
-        let flipped = in_line-flip (at t.i) (at t.j) (at t.i) (in_line-twice (at t.i) (at t.j)) in
-        t.area (subst (λ v. AreInLine (at t.i) (at t.j) (at v)) e flipped)
-
     go : (xs : List ℕ) → In t.i xs → In t.j xs → In t.k xs → 2 < length xs
     go [] a b c = absurd a
-    go (x ∷ []) a b c = grind (arith, ij, a, b)
-    go (x ∷ y ∷ []) a b c = grind (arith, ij, jk, ik, a, b, c)
+    go (x ∷ []) a b c = let d = corners_differ at t.i t.j t.k t.area in grind (arith, d, a, b)
+    go (x ∷ y ∷ []) a b c = let d = corners_differ at t.i t.j t.k t.area in grind (arith, d, a, b, c)
     go (x ∷ y ∷ z ∷ xs) a b c = omega arith
 
 -- the opposite of a normal is that of the triangle the other way round

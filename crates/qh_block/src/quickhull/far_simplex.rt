@@ -63,7 +63,8 @@ impl FarFrom {
 fn furthest(pts: &[Point], ids: &[Id], from: FarFrom) -> Id
     requires some { 0 < length ids.now }
     requires indices { AreIndices pts.now ids.now }
-    ensures { Members ids.now result }
+    ensures member { Members ids.now result }
+    ensures inside { result < length pts.now }
 {
     let mut found = ids[0];
     let mut most = 0;
