@@ -4,6 +4,7 @@ use Rattle.std.proofs.Math.ListN.{set}
 use Rattle.std.proofs.lemmas.Bool.{cases_eq}
 use Rattle.std.proofs.lemmas.List.{get_or-set_same, get_or-set_other, set_past, get_or_past, get_or_append_left, get_or-append_right, get_or-replicate, length-replicate}
 use Rattle.qh_model.specs.headline.Sets.{In}
+use Rattle.qh_model.proofs.lists.Joined.{in_append}
 use Rattle.qh_mesh.proofs.NumberCases.{by_le}
 use Rattle.qh_block.specs.steps.OutsideSets.{joined}
 
@@ -43,13 +44,9 @@ write_empty xs f g h = by (cases_eq g f) h
 
 -- members of a set that a position joined
 pub of_joined : (b : Bool) (p q : ℕ) (xs : List ℕ) → In q (joined b p xs) → (q ≡ p) ⊎ In q xs
-of_joined b p q [] (inl e) = inl e
-of_joined b p q [] (inr i) = absurd i
-of_joined true p q (x ∷ xs) (inl e) = inl e
-of_joined true p q (x ∷ xs) (inr i) = inr i
-of_joined false p q (x ∷ xs) (inl e) = inr (inl e)
-of_joined false p q (x ∷ xs) (inr (inl e)) = inl e
-of_joined false p q (x ∷ xs) (inr (inr i)) = inr (inr i)
+of_joined b p q [] i = grind (arith, i)
+of_joined true p q (x ∷ xs) i = grind (arith, i)
+of_joined false p q (x ∷ xs) i = grind (arith, i)
 
 pub joined_has : (b : Bool) (p : ℕ) (xs : List ℕ) → In p (joined b p xs)
 joined_has b p [] = inl refl
@@ -59,18 +56,14 @@ joined_has false p (x ∷ xs) = inr (inl refl)
 pub joined_keeps : (b : Bool) (p q : ℕ) (xs : List ℕ) → In q xs → In q (joined b p xs)
 joined_keeps b p q [] i = absurd i
 joined_keeps true p q (x ∷ xs) i = inr i
-joined_keeps false p q (x ∷ xs) (inl e) = inl e
-joined_keeps false p q (x ∷ xs) (inr i) = inr (inr i)
+joined_keeps false p q (x ∷ xs) i = grind (arith, i)
 
 -- members of either list are members of both together
 pub append_left : (xs ys : List ℕ) (q : ℕ) → In q xs → In q (xs ++ ys)
-append_left [] ys q i = absurd i
-append_left (x ∷ xs) ys q (inl e) = inl e
-append_left (x ∷ xs) ys q (inr i) = inr (append_left xs ys q i)
+append_left xs ys q i = in_append xs ys q (inl i)
 
 pub append_right : (xs ys : List ℕ) (q : ℕ) → In q ys → In q (xs ++ ys)
-append_right [] ys q i = i
-append_right (x ∷ xs) ys q i = inr (append_right xs ys q i)
+append_right xs ys q i = in_append xs ys q (inr i)
 
 -- room for more sets changes none
 pub grown-set : (xs : List (List ℕ)) (n f : ℕ) → get_or (xs ++ replicate n []) f [] ≡ get_or xs f []

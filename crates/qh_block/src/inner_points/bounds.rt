@@ -33,8 +33,7 @@ fn far_end(factor: i128, low: i32, high: i32) -> i32
 impl Bounds {
     /// Bounds with no point between them.
     pub fn none() -> Bounds
-        ensures low { result.low.x ≡ pos 1 }
-        ensures high { result.high.x ≡ pos 0 }
+        ensures { (p : Vector) → ¬ (IsWithin result p) }
     {
         Bounds {
             low: Point::new(1, 1, 1),

@@ -134,6 +134,7 @@ pub(crate) fn surface_from(
 /// `Memory` where memory was refused.
 ///
 /// Source: Barber, Dobkin and Huhdanpaa 1996.
+#[tactic(auto, using(crate::proofs::runs::FirstSimplexes::simplex_is))]
 pub fn surface(alloc: Global, pts: &[Point], ids: &[Id]) -> Result<Mesh, Memory>
     requires indices { AreIndices pts.now ids.now }
     requires set { IsIdSet pts.now ids.now }

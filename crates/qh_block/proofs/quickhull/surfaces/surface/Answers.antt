@@ -1,30 +1,30 @@
+-- A set of dimension 3 has a simplex, and the surface of a run from it is that of the hull.
 use Rattle.std.proofs.lemmas.Result.{IfOk-weaker}
 use Rattle.qh_model.specs.headline.Predicates.{place}
 use Rattle.qh_model.proofs.Members.{rising_once}
 use Rattle.qh_model.proofs.extremes.Dimensions.{dimension_is_unique}
 use Rattle.qh_plane.specs.contract.Shapes.{dimension_of}
 use Rattle.qh_mesh.proofs.SoundMeshes.{finished_is_closed}
-use Rattle.qh_block.proofs.runs.FirstSimplexes.{simplex_is, solid_only}
+use Rattle.qh_block.proofs.runs.FirstSimplexes.{solid_only}
 use Rattle.qh_block.proofs.runs.FinishedRuns.{supporting}
 use Rattle.qh_block.proofs.quickhull.surfaces.surface.Goals as goal
 
 pub unreachable-requires : goal.unreachable-requires
-unreachable-requires c = solid_only c.rank.result
-    (dimension_is_unique (place c.args.pts.now) c.args.ids.now (dimension_of c.rank.result) 3 (c.rank.ensures.dimension c.requires.set) c.requires.solid) c.in_default.not-Solid
-
-pub surface_from-requires-clause-first : goal.surface_from-requires-clause-first
-surface_from-requires-clause-first c =
-    let shape = c.in-Solid.ensures.shape in
-    simplex_is c.args.pts.now c.args.ids.now c.in-Solid.i c.in-Solid.j c.in-Solid.k c.in-Solid.l shape.0 shape.1 shape.2
+unreachable-requires c =
+    let dim = dimension_of c.rank.result in
+    solid_only c.rank.result (dimension_is_unique (place c.args.pts.now) c.args.ids.now dim 3 (c.rank.ensures.dimension c.requires.set) c.requires.solid)
+    c.in_default.not-Solid
 
 pub returns-clause-finished : goal.returns-clause-finished
 returns-clause-finished c =
     IfOk-weaker c.surface_from.result _ _ (λ m h. h (rising_once c.args.ids.now c.requires.set.rising)) c.surface_from.ensures.finished
 
 pub returns-clause-closed : goal.returns-clause-closed
+unfolding returns-clause-finished
 returns-clause-closed c =
-    IfOk-weaker c.surface_from.result _ _ (λ m h. finished_is_closed (place c.args.pts.now) c.args.ids.now m (h (rising_once c.args.ids.now c.requires.set.rising))) c.surface_from.ensures.finished
+    IfOk-weaker c.surface_from.result _ _ (finished_is_closed (place c.args.pts.now) c.args.ids.now) (returns-clause-finished c)
 
 pub returns-clause-supporting : goal.returns-clause-supporting
+unfolding returns-clause-finished
 returns-clause-supporting c =
-    IfOk-weaker c.surface_from.result _ _ (λ m h. supporting c.args.pts.now c.args.ids.now m (h (rising_once c.args.ids.now c.requires.set.rising))) c.surface_from.ensures.finished
+    IfOk-weaker c.surface_from.result _ _ (supporting c.args.pts.now c.args.ids.now) (returns-clause-finished c)
