@@ -1,5 +1,5 @@
 -- A set in one line: its extreme ids are the first and the last along the line.
-use Rattle.std.proofs.Common.{◌≡◌, ◌≢◌, ℕ, ◌<◌, [], ◌∷◌, length, ap, arith, inl, inr, refl, sym, subst, ◌∙◌, ◌⊎◌}
+use Rattle.std.proofs.Common.{◌≡◌, ◌≢◌, ℕ, ◌<◌, [], ◌∷◌, length, ap, arith, inl, inr, refl, sym, subst, ◌∙◌, ◌⊎◌, ⊎_elim}
 use Rattle.std.proofs.Math.Nat.{ne_of_lt}
 use Rattle.std.proofs.lemmas.Int.{ints, by_lt_z}
 use Rattle.std.specs.Prelude.{ℤ, pos, ◌+ℤ◌, ◌-ℤ◌, ◌*ℤ◌, neg_ℤ, ◌≤ℤ◌, ◌<ℤ◌, ◌↔◌, List}
@@ -148,9 +148,7 @@ module _ (pts : List Vector) (ids : List ℕ) (i j e g : ℕ) (two : AreFirstTwo
       ends = e ∷ g ∷ []
 
       others : ¬ (l ≡ e) → ¬ (l ≡ g) → (a : ℕ) → In a ends → Others (Members ids) l a
-      others n k a (inl h) = (subst (λ v. In v ids) (sym h) first.member, λ q. n (sym q ∙ h))
-      others n k a (inr (inl h)) = (subst (λ v. In v ids) (sym h) last.member, λ q. k (sym q ∙ h))
-      others n k a (inr (inr h)) = absurd h
+      others n k a h = let p = first.member in let q = last.member in (grind (arith, h, p, q), λ d. grind (arith, h, d, n, k))
 
       go : Dec (l ≡ e) → Dec (l ≡ g) → Combination at (Members ends) (at l) ⊎ Separator at (Members ends) (at l) → (l ≡ e) ⊎ (l ≡ g)
       go (yes h) f c = inl h
@@ -162,8 +160,4 @@ module _ (pts : List Vector) (ids : List ℕ) (i j e g : ℕ) (two : AreFirstTwo
 
   -- the two ends are the extreme ids
   pub two_ends : (l : ℕ) → ((l ≡ e) ⊎ (l ≡ g)) ↔ IsEnd l
-  two_ends l = (ends, only l)
-    where
-      ends : (l ≡ e) ⊎ (l ≡ g) → IsEnd l
-      ends (inl h) = rw (h) first_extreme
-      ends (inr h) = rw (h) last_extreme
+  two_ends l = (λ m. ⊎_elim (λ h. rw h first_extreme) (λ h. rw h last_extreme) m, only l)

@@ -43,11 +43,7 @@ simplex_facet n a b c d ia ib ic id (suc (suc (suc (suc f)))) l = absurd (cc)
 
 -- and the four are live
 four_live : (a b c d j : ℕ) → j < length four_facets → IsLive (simplex_facets a b c d) (number four_facets j)
-four_live a b c d zero l = refl
-four_live a b c d (suc zero) l = refl
-four_live a b c d (suc (suc zero)) l = refl
-four_live a b c d (suc (suc (suc zero))) l = refl
-four_live a b c d (suc (suc (suc (suc j)))) l = absurd (omega arith)
+four_live a b c d j l = grind (arith, l)
 
 -- the mesh of a simplex of four points
 pub record IsFirst (pts : List Vector) (fs : List StoredFacet) (i j k l : ℕ) : Type 0 where
