@@ -20,7 +20,7 @@ use Rattle.qh_mesh.specs.contract.LiveNumbers.{numbers}
 use Rattle.qh_mesh.specs.contract.Replacement.{IsLive}
 use Rattle.qh_mesh.specs.contract.SoundMesh.{facet_vol}
 use Rattle.qh_block.specs.declared.inner_points.bounds.Bounds.{Bounds}
-use Rattle.qh_block.specs.steps.InnerPoints.{IsWithin, IsBelow, IsBelowAll, HasPlane, HasPlanes, HasNoExtreme, AreInner, IsOuterPart}
+use Rattle.qh_block.specs.steps.InnerPoints.{IsBelow, IsBelowAll, HasPlane, HasPlanes, HasNoExtreme, AreInner, IsOuterPart}
 use Rattle.qh_block.proofs.finished.Gathering.{in_numbers}
 
 -- ---- the planes of the live facets
@@ -71,7 +71,7 @@ pub boxes_are_inner : (pts : List Vector) (sample : List ℕ) (fs : List StoredF
 boxes_are_inner pts sample fs planes bs z has below ids sub =
     All-of (HasNoExtreme pts ids) bs (λ b i l member within. inner_is_not_extreme (place pts) sample (surface_of fs) z l
     (λ f live. (let h = has f ((live_is_marked fs f).0 live) in subst (λ n. n <ℤ pos 0) (h.2 (place pts l))
-        (All-In (IsBelow b) planes h.0 (All-In (IsBelowAll planes) bs b below i) h.1 (place pts l) within))) ids sub)
+    (All-In (IsBelow b) planes h.0 (All-In (IsBelowAll planes) bs b below i) h.1 (place pts l) within))) ids sub)
 
 -- ---- the ids that are left
 -- a member without one of the numbers is one with it

@@ -21,7 +21,7 @@ use Rattle.qh_mesh.specs.contract.SoundMesh.{IsSoundMesh, IsClosedMesh, simplex_
 use Rattle.qh_model.proofs.surfaces.Simplex.{middle-turned}
 use Rattle.qh_model.proofs.lists.Ranges.{range_has}
 use Rattle.qh_block.specs.steps.OutsideSets.{OutsideValue, set_of}
-use Rattle.qh_block.specs.steps.Runs.{height_at, Names, HasCornersBelow, IsGrown, IsRemade}
+use Rattle.qh_block.specs.steps.Runs.{height_at, Names, IsGrown, IsRemade}
 use Rattle.qh_block.proofs.flats.Lines.{first_two_in}
 
 -- the corners of facet f are below n
@@ -102,7 +102,7 @@ module _ {pts : List Vector} {fs : List StoredFacet} {i j k l : ℕ} (h : IsFirs
   started : IsStarted pts fs
   started = by_lt_z (pos 0) (vol (at i) (at j) (at k) (at l))
       (λ up. of_corners i k j l (h.up up) h.i_in h.k_in h.j_in h.l_in (flipped _ _ (vol-flip_last (at i) (at j) (at k) (at l)) up)
-          (subst (IsSoundMesh at fs) (sym (middle-turned (weighted (at i)) (weighted (at j)) (weighted (at k)) (weighted (at l)))) h.sound))
+      (subst (IsSoundMesh at fs) (sym (middle-turned (weighted (at i)) (weighted (at j)) (weighted (at k)) (weighted (at l)))) h.sound))
       (λ low. let down = below _ h.volume low in of_corners i j k l (h.down down) h.i_in h.j_in h.k_in h.l_in down h.sound)
 
 -- with all positions orphans it may be settled

@@ -1,5 +1,5 @@
 -- An id whose point is in a box goes.
-use Rattle.std.proofs.Common.{◌≡◌, [], ◌∷◌, ◌++◌, ◌+◌, drop, ap, sym, subst, ◌∙◌, true}
+use Rattle.std.proofs.Common.{◌≡◌, ◌∷◌, ◌++◌, ◌+◌, drop, ap, sym, subst, ◌∙◌, true}
 use Rattle.std.proofs.lemmas.List.{drop_more, append_assoc, append-nil, drop_all}
 use Rattle.qh_model.specs.headline.Predicates.{place}
 use Rattle.qh_model.specs.headline.Sets.{Members}

@@ -2,7 +2,7 @@
 use Rattle.std.proofs.Common.{◌∙◌, sym, take_all, get_or}
 use Rattle.std.proofs.lemmas.List.{take_more}
 use Rattle.qh_mesh.specs.declared.facets.FacetNo.{FacetNo}
-use Rattle.qh_block.proofs.runs.WaitingFacets.{AreQueued, none_queued, more_queued, more_idle}
+use Rattle.qh_block.proofs.runs.WaitingFacets.{none_queued, more_queued, more_idle}
 use Rattle.qh_block.proofs.quickhull.queue.enqueue.Goals.{then-is_some+in_ok-push, else-is_some}
 use Rattle.qh_block.proofs.quickhull.queue.enqueue.Goals as goal
 
