@@ -1,5 +1,6 @@
 -- Ids of a run in another order, and by their positions.
-use Rattle.std.proofs.Common.{◌≡◌, ◌∙◌, ℕ, ◌<◌, List, [], ◌∷◌, length, map, ap, sym, subst, refl, inl, inr, false, eqb, eq-eqb, slice_index, IsPermutation}
+use Rattle.std.proofs.Common.{◌≡◌, ◌∙◌, ℕ, ◌<◌, List, [], ◌∷◌, length, map, ap}
+use Rattle.std.proofs.Common.{sym, subst, refl, inl, inr, false, eqb, eq-eqb, slice_index, IsPermutation}
 use Rattle.std.specs.List.{IsDistinct, range_with_len}
 use Rattle.std.proofs.lemmas.Bool.{ne_eqb}
 use Rattle.std.proofs.lemmas.List.{get_or-map, get_or_default, length-map}
@@ -121,4 +122,5 @@ named_corners pts ids at fs a z = record {
     corner : (f c i : ℕ) → IsLive gs f → i ≡ name_in ids c → IsCorner (surface_of fs) f c → i < length pts
     corner f c i l e h =
         let b = range_below (length ids) c (z.corners f (was f l) c h) in
-        subst (λ n. n < length pts) (sym (e ∙ name_is ids c b)) (All-In (λ i. i < length pts) ids (slice_index ids c) a (In-get_or ids c 0 b))
+        subst (λ n. n < length pts) (sym (e ∙ name_is ids c b))
+        (All-In (λ i. i < length pts) ids (slice_index ids c) a (In-get_or ids c 0 b))

@@ -9,7 +9,7 @@ use Rattle.qh_model.specs.contract.StoredSurface.{StoredFacet}
 use Rattle.qh_pred.specs.contract.Planes.{PlaneValue}
 use Rattle.qh_mesh.specs.declared.facets.FacetNo.{FacetNo}
 use Rattle.qh_block.specs.steps.OutsideSets.{OutsideValue, set_of}
-use Rattle.qh_block.specs.steps.Runs.{IsDone, IsOutside, IsUnderWay, IsPicked}
+use Rattle.qh_block.specs.steps.Runs.{AreWithin, IsDone, Names, IsOutside, IsUnderWay, IsPicked}
 use Rattle.qh_block.proofs.runs.NamedFacets.{names_push, within_rest, within_last, names_none}
 use Rattle.qh_block.proofs.runs.SetWrites.{of_write, write_has, write_keeps}
 
@@ -28,8 +28,14 @@ none_taken v f e i = record { positions = v.positions; orphans = v.orphans; sets
     same : slice_set v.sets f (drop 1 (set_of v f)) ≡ v.sets
     same = ap (λ (xs : List ℕ). slice_set v.sets f (drop 1 xs)) e ∙ ap (slice_set v.sets f) (sym e) ∙ set-get_or v.sets f []
 
-module _ {pts : List Vector} {fs : List StoredFacet} {ps : List PlaneValue} {v : OutsideValue} (rest : List FacetNo) (f : FacetNo)
-    (k : IsUnderWay pts fs ps v (rest ++ f ∷ [])) where
+module _ {pts : List Vector} {fs : List StoredFacet} {ps : List PlaneValue} {v : OutsideValue} {pending : List FacetNo}
+    (k : IsUnderWay pts fs ps v pending) (rest : List FacetNo) (f : FacetNo) (is : pending ≡ rest ++ f ∷ []) where
+  range : AreWithin (length v.sets) (rest ++ f ∷ [])
+  range = subst (AreWithin (length v.sets)) is k.range
+
+  waits : (g p : ℕ) → In p (set_of v g) → Names rest g ⊎ (g ≡ f.0)
+  waits g p i = names_push rest f g (subst (λ (ns : List FacetNo). Names ns g) is (k.waits g p i))
+
   -- a facet whose set is empty need not wait
   pub passed_over : set_of v f.0 ≡ [] → IsUnderWay pts fs ps v rest
   passed_over e = record {
@@ -37,10 +43,10 @@ module _ {pts : List Vector} {fs : List StoredFacet} {ps : List PlaneValue} {v :
     planes = k.planes;
     positions = k.positions;
     places = k.places;
-    range = within_rest (length v.sets) rest f k.range;
+    range = within_rest (length v.sets) rest f range;
     outside = k.outside;
     none = k.none;
-    waits = λ g p i. ⊎_elim (λ n. n) (λ n. absurd (subst (In p) (ap (set_of v) n ∙ e) i)) (names_push rest f g (k.waits g p i));
+    waits = λ g p i. ⊎_elim (λ n. n) (λ n. absurd (subst (In p) (ap (set_of v) n ∙ e) i)) (waits g p i);
     all = k.all;
   }
 
@@ -51,10 +57,10 @@ module _ {pts : List Vector} {fs : List StoredFacet} {ps : List PlaneValue} {v :
     planes = k.planes;
     positions = k.positions;
     places = let n = same in let h = k.places in omega arith;
-    range = λ j h. let r = within_rest (length v.sets) rest f k.range j h in let n = same in omega arith;
+    range = λ j h. let r = within_rest (length v.sets) rest f range j h in let n = same in omega arith;
     outside = λ g q i. k.outside g q (was g q i);
     none = k.none;
-    waits = λ g q i. names_push rest f g (k.waits g q (was g q i));
+    waits = λ g q i. waits g q (was g q i);
     all = λ q h. ⊎_elim (λ o. ⊎_elim (λ m. inl m) (λ m. inr (inr m)) (still o.0 q o.1)) (λ d. inr (inl d)) (k.all q h);
     apex = let h = k.positions in omega arith;
     live = (k.outside f.0 a first).0;
@@ -78,7 +84,7 @@ module _ {pts : List Vector} {fs : List StoredFacet} {ps : List PlaneValue} {v :
       still g q i = ⊎_elim here (λ n. inl (g, write_keeps v.sets f.0 others g q n i)) (cases_eq g f.0)
         where
           here : g ≡ f.0 → IsOutside (taken v f.0) q ⊎ (q ≡ a)
-          here n = ⊎_elim (λ h. inr h) (λ h. inl (g, write_has v.sets f.0 others g q (within_last (length v.sets) rest f k.range) n h))
+          here n = ⊎_elim (λ h. inr h) (λ h. inl (g, write_has v.sets f.0 others g q (within_last (length v.sets) rest f range) n h))
               (subst (In q) (ap (set_of v) n ∙ e) i)
 
 -- when no facet waits, no facet sees a point

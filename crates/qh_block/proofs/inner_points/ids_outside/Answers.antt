@@ -14,20 +14,23 @@ pub loop-id-init : goal.loop-id-init
 loop-id-init c = rw c.new-kept.ensures.items (all_ids_left c.args.set.pts.now c.args.set.ids.now)
 
 -- an id whose point is in a box is not extreme
-inside : (c : goal.Joined-not-contain) → c.contain.result ≡ true → ¬ (Extreme (place c.args.set.pts.now) (Members c.args.set.ids.now) c.id-item.result)
+inside : (c : goal.Joined-not-contain) → c.contain.result ≡ true
+    → ¬ (Extreme (place c.args.set.pts.now) (Members c.args.set.ids.now) c.id-item.result)
 inside c is =
     let pts = c.args.set.pts.now in let ids = c.args.set.ids.now in let x = c.id-item.result in let found = c.contain.ensures is in
     All-In (HasNoExtreme pts ids) c.args.columns.now.boxes.items found.0 c.requires found.1 x
-    (subst (Members ids) (sym c.id-item.is) (In-get_or ids c.loop-id.id-index x c.loop-id-test.true)) (subst (IsWithin found.0) c.point_at.ensures found.2)
+    (subst (Members ids) (sym c.id-item.is) (In-get_or ids c.loop-id.id-index x c.loop-id-test.true))
+    (subst (IsWithin found.0) c.point_at.ensures found.2)
 
 pub loop-id-preserved : goal.loop-id-preserved
 loop-id-preserved c =
     let pts = c.args.set.pts.now in let ids = c.args.set.ids.now in let i = c.loop-id.id-index in let x = c.id-item.result in
-    let next : drop i ids ≡ x ∷ drop (i + 1) ids = drop_more ids i x c.loop-id-test.true ∙ ap (λ n. n ∷ drop (i + 1) ids) (sym c.id-item.is) in
-    let before : IsOuterPart pts ids (c.loop-id.kept.items ++ x ∷ drop (i + 1) ids) = rw next at c.loop-id.invariant in
+    let rest = drop (i + 1) ids in
+    let next : drop i ids ≡ x ∷ rest = drop_more ids i x c.loop-id-test.true ∙ ap (λ n. n ∷ rest) (sym c.id-item.is) in
+    let before : IsOuterPart pts ids (c.loop-id.kept.items ++ x ∷ rest) = rw next at c.loop-id.invariant in
     elim c.if-not-contain.branch [
       | then-not-contain+in_ok-push w ↦ rw (w.kept-is, w.in_ok-push.ensures.items, append_assoc) before
-      | else-not-contain w ↦ rw w.kept-is (inner_goes pts ids c.loop-id.kept.items (drop (i + 1) ids) x (inside c w.if-not-contain.false) before)
+      | else-not-contain w ↦ rw w.kept-is (inner_goes pts ids c.loop-id.kept.items rest x (inside c w.if-not-contain.false) before)
     ]
 
 pub returns : goal.returns

@@ -24,5 +24,5 @@ invariant_of-sampled c =
 pub ids_outside-requires : goal.ids_outside-requires
 ids_outside-requires c =
     let ids = c.args.set.ids.now in let s = c.in_ok-sample in
-    subst (λ xs. AreInner c.args.set.pts.now xs c.in-Some.columns.boxes.items) c.deref.ensures.value (rw (c.in-Some.is) at c.in_ok-columns.ensures)
-    ids (part ids s.sample.items _ s.ensures.inside s.ensures.each)
+    subst (λ xs. AreInner c.args.set.pts.now xs c.in-Some.columns.boxes.items) c.deref.ensures.value
+    (rw c.in-Some.is at c.in_ok-columns.ensures) ids (part ids s.sample.items _ s.ensures.inside s.ensures.each)

@@ -19,8 +19,8 @@ lowest f ids i s k r l e one a b ms low =
 pub loop-id-preserved : goal.loop-id-preserved
 loop-id-preserved c =
     let pts = c.args.set.pts.now in let ids = c.args.set.ids.now in let e = c.earlier-first.ensures in
-    let kept = lowest (position pts c.args.a c.args.b) ids _ _ _ c.earlier-first.result c.loop-id-test.true c.id-item.is e.one e.not_k e.not_l
-    c.loop-id.invariant.1 c.loop-id.invariant.2 in
+    let kept = lowest (position pts c.args.a c.args.b) ids _ _ _ c.earlier-first.result c.loop-id-test.true c.id-item.is
+    e.one e.not_k e.not_l c.loop-id.invariant.1 c.loop-id.invariant.2 in
     (All-In (λ v. v < length pts) ids c.earlier-first.result c.args.set.indices kept.0, kept.0, kept.1)
 
 pub returns : goal.returns

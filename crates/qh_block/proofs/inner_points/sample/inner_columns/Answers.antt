@@ -1,8 +1,11 @@
+-- Below the planes of a sample's hull there is no extreme id.
 use Rattle.qh_model.proofs.Members.{rising_once}
 use Rattle.qh_block.proofs.InnerPoints.{boxes_are_inner}
 use Rattle.qh_block.proofs.inner_points.sample.inner_columns.Goals as goal
 
 pub returns : goal.returns
 returns c =
-    boxes_are_inner c.args.sample.pts.now c.args.sample.ids.now c.in_ok-mesh.mesh c.in_ok-planes.planes.items c.in_ok-below.field-0.boxes.items (c.in_ok-mesh.ensures.finished (rising_once c.args.sample.ids.now (c.rise.ensures c.if-not-rise.false))) c.in_ok-planes.ensures
-    (rw (c.deref.ensures.value) at c.in_ok-below.ensures)
+    let ids = c.args.sample.ids.now in let below = c.in_ok-below in
+    boxes_are_inner c.args.sample.pts.now ids c.in_ok-mesh.mesh c.in_ok-planes.planes.items below.field-0.boxes.items
+    (c.in_ok-mesh.ensures.finished (rising_once ids (c.rise.ensures c.if-not-rise.false))) c.in_ok-planes.ensures
+    (rw c.deref.ensures.value at below.ensures)

@@ -9,7 +9,8 @@ pub loop-facet-init : goal.loop-facet-init
 loop-facet-init c =
     let pts = c.args.pts.now in let fs = c.args.mesh.now in
     subst (λ (xs : List FacetNo). AreListed pts fs xs c.new-planes.result.items)
-    (sym (c.into_iter-facet-iterator.ensures.into_iter_gives ∙ c.live-facet-items.ensures)) (rw c.new-planes.ensures.items (none_listed pts fs))
+    (sym (c.into_iter-facet-iterator.ensures.into_iter_gives ∙ c.live-facet-items.ensures))
+    (rw c.new-planes.ensures.items (none_listed pts fs))
 
 pub plane_of-requires-clause-live : goal.plane_of-requires-clause-live
 plane_of-requires-clause-live c = next_live c.loop-facet.invariant c.in-Some.ensures.steps

@@ -17,7 +17,8 @@ loop-facet-preserved c =
       | then-is_some+in_ok-push w ↦
           rw (w.pending-is, w.in_ok-push.ensures.items) (more_queued sets old _ _ x (c.requires i test) c.loop-facet.invariant)
       | else-is_some w ↦
-          rw w.pending-is (more_idle sets old _ _ x (c.first.ensures.none.0 (sym c.is_some.ensures ∙ w.if-is_some.false)) c.loop-facet.invariant)
+          let none = c.first.ensures.none.0 (sym c.is_some.ensures ∙ w.if-is_some.false) in
+          rw w.pending-is (more_idle sets old _ _ x none c.loop-facet.invariant)
     ])
 
 pub returns-in_err-push-clause-within : goal.returns-in_err-push-clause-within

@@ -9,7 +9,9 @@ abbrev pub invariant-loop-facet : goal.invariant-loop-facet
 invariant-loop-facet l = record {
   within : AreWithin (length l.sets.sets) l.pending.items;
   same : l.sets ≡ l.initial.sets;
-  under_way : (pts : List Vector) (fs : List StoredFacet) (ps : List PlaneValue) → IsUnderWay pts fs ps l.initial.sets l.initial.pending.items → IsUnderWay pts fs ps l.sets l.pending.items;
+  under_way : (pts : List Vector) (fs : List StoredFacet) (ps : List PlaneValue)
+      → IsUnderWay pts fs ps l.initial.sets l.initial.pending.items
+      → IsUnderWay pts fs ps l.sets l.pending.items;
 }
 
 abbrev pub decreases-loop-facet : goal.decreases-loop-facet

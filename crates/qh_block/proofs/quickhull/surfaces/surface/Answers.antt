@@ -11,9 +11,8 @@ use Rattle.qh_block.proofs.quickhull.surfaces.surface.Goals as goal
 
 pub unreachable-requires : goal.unreachable-requires
 unreachable-requires c =
-    let dim = dimension_of c.rank.result in
-    solid_only c.rank.result (dimension_is_unique (place c.args.pts.now) c.args.ids.now dim 3 (c.rank.ensures.dimension c.requires.set) c.requires.solid)
-    c.in_default.not-Solid
+    let dim = dimension_of c.rank.result in let same = c.rank.ensures.dimension c.requires.set in
+    solid_only c.rank.result (dimension_is_unique (place c.args.pts.now) c.args.ids.now dim 3 same c.requires.solid) c.in_default.not-Solid
 
 pub returns-clause-finished : goal.returns-clause-finished
 returns-clause-finished c =

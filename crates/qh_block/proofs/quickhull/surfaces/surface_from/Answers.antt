@@ -4,7 +4,8 @@ use Rattle.qh_block.proofs.runs.OrderedIds.{finished_reordered, indices_reordere
 use Rattle.qh_block.proofs.quickhull.surfaces.surface_from.Goals as goal
 
 pub surface_along-requires-2-clause-indices : goal.surface_along-requires-2-clause-indices
-surface_along-requires-2-clause-indices c = rw c.deref.ensures.value (indices_reordered c.in_ok-near.ensures c.args.pts.now c.requires.indices)
+surface_along-requires-2-clause-indices c =
+    rw c.deref.ensures.value (indices_reordered c.in_ok-near.ensures c.args.pts.now c.requires.indices)
 
 pub surface_along-requires-2-clause-first : goal.surface_along-requires-2-clause-first
 surface_along-requires-2-clause-first c = rw c.deref.ensures.value (simplex_reordered c.in_ok-near.ensures c.far_simplex-far.ensures)
