@@ -56,14 +56,8 @@ module _ (at : ℕ → Vector) (ids : List ℕ) (fs : List StoredFacet) (d : Has
   three_of_face : (f : ℕ) → IsLive fs f → (q : List ℕ) → IsFace f q → HasThree q
   three_of_face f l q p = go (planes_of_extremes at ids d (m.i f) (m.j f) (m.k f) (facets_support at ids m z f (lives f l)))
     where
-      long : (q : List ℕ) → 2 < length q → HasThree q
-      long [] h = absurd (omega arith)
-      long (a ∷ []) h = absurd (omega arith)
-      long (a ∷ b ∷ []) h = absurd (omega arith)
-      long (a ∷ b ∷ c ∷ q) h = three a b c q
-
       go : SpannedByExtremes at (Members ids) (m.i f) (m.j f) (m.k f) → HasThree q
-      go s = long q (three_members at q (record {
+      go s = three_members at q (record {
         i = s.u;
         j = s.v;
         k = s.w;
@@ -71,7 +65,7 @@ module _ (at : ℕ → Vector) (ids : List ℕ) (fs : List StoredFacet) (d : Has
         has_j = has s.v s.has_v (vol-second _ _ _);
         has_k = has s.w s.has_w (vol-third _ _ _);
         area = s.area;
-      }))
+      })
         where
           has : (y : ℕ) → Extreme at (Members ids) y → vol (at s.u) (at s.v) (at s.w) (at y) ≡ pos 0 → In y q
           has y e h = (p.members y).1 (e, (s.same y).1 h)

@@ -6,6 +6,8 @@ use Rattle.std.specs.Prelude.{◌==◌, ◌&&◌}
 use Rattle.qh_model.specs.headline.Fan.{count_pairs, edge_count, pairs_along}
 use Rattle.qh_model.specs.headline.Polygons.{IsEdgeCount}
 use Rattle.qh_model.specs.headline.Sets.{In, Once}
+use Rattle.qh_block.specs.steps.Faces.{HasThree}
+use Rattle.qh_block.specs.steps.Faces.HasThree.{three}
 use Rattle.qh_model.proofs.polygons.EdgeCounts.{edges_are_counted}
 
 -- a pair with an id that is not on the way is not one of the way's
@@ -37,11 +39,8 @@ no_edges i = counted (i ∷ []) 0 (grind (arith, common_steps))
 pub one_edge : (i j : ℕ) → i < j → IsEdgeCount ((i ∷ j ∷ []) ∷ []) 1
 one_edge i j h = counted (i ∷ j ∷ []) 1 (grind (arith, common_steps, h))
 
-pub edges_round : (q : List ℕ) → 2 < length q → Once q → IsEdgeCount (q ∷ []) (length q)
-edges_round [] h o = absurd (omega (arith, h))
-edges_round (t ∷ []) h o = absurd (omega (arith, h))
-edges_round (t ∷ w ∷ []) h o = absurd (omega (arith, h))
-edges_round (t ∷ w ∷ z ∷ r) h o =
+pub edges_round : (q : List ℕ) → HasThree q → Once q → IsEdgeCount (q ∷ []) (length q)
+edges_round _ (three t w z r) o =
     let k : t ≢ w = (λ q. o.0 (inl q)) in let l : t ≢ z = (λ q. o.0 (inr (inl q))) in
     let rest = unlisted w _ _ z r t (lower_or_higher t w).1 o.1.0 (λ q. o.0 (inl (sym q))) in
     counted (t ∷ w ∷ z ∷ r) (length (t ∷ w ∷ z ∷ r)) (grind (arith, common_steps, k, l, rest, way_count w (z ∷ r) t o.1 o.0))

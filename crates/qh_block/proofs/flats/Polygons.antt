@@ -18,6 +18,8 @@ use Rattle.qh_model.proofs.extremes.Directions.{cross-flip, in_line-flip}
 use Rattle.qh_model.proofs.extremes.ExtremeIds.{listed_itself, combination_of_extremes, combination_within}
 use Rattle.qh_plane.specs.contract.PlanarSets.{IsPlanarSet}
 use Rattle.qh_plane.specs.contract.Shapes.{IsInLine, IsInPlane, Each, IsFirstNot, AreFirstTwo}
+use Rattle.qh_block.specs.steps.Faces.{HasThree}
+use Rattle.qh_block.specs.steps.Faces.HasThree.{three}
 use Rattle.qh_block.specs.steps.FlatBodies.{IsFlatBody}
 use Rattle.qh_block.proofs.flats.Bodies.{flat_is_body}
 use Rattle.qh_block.proofs.flats.Edges.{edges_round}
@@ -32,22 +34,21 @@ corners_differ at i j k area = (
 )
 
 -- a list with a triangle has three members
-pub three_members : (at : ℕ → Vector) (q : List ℕ) → HasTriangle at (λ i. In i q) → 2 < length q
+pub three_members : (at : ℕ → Vector) (q : List ℕ) → HasTriangle at (λ i. In i q) → HasThree q
 three_members at q t = go q t.has_i t.has_j t.has_k
   where
-    go : (xs : List ℕ) → In t.i xs → In t.j xs → In t.k xs → 2 < length xs
+    go : (xs : List ℕ) → In t.i xs → In t.j xs → In t.k xs → HasThree xs
     go [] a b c = absurd a
-    go (x ∷ []) a b c = let d = corners_differ at t.i t.j t.k t.area in grind (arith, d, a, b)
-    go (x ∷ y ∷ []) a b c = let d = corners_differ at t.i t.j t.k t.area in grind (arith, d, a, b, c)
-    go (x ∷ y ∷ z ∷ xs) a b c = omega arith
+    go (x ∷ []) a b c = absurd (let d = corners_differ at t.i t.j t.k t.area in grind (arith, d, a, b))
+    go (x ∷ y ∷ []) a b c = absurd (let d = corners_differ at t.i t.j t.k t.area in grind (arith, d, a, b, c))
+    go (x ∷ y ∷ z ∷ xs) a b c = three x y z xs
 
 -- the opposite of a normal is that of the triangle the other way round
+negated : (v : Vector) → minus origin v ≡ opposite v
+negated v = vector_path (minus origin v) (opposite v) (omega (arith, ints)) (omega (arith, ints)) (omega (arith, ints))
+
 opposite_is : (a b c : Vector) → minus origin (cross a b c) ≡ cross a c b
-opposite_is a b c =
-    let v = cross a b c in vector_path (minus origin v) (opposite v) (turn v.x) (turn v.y) (turn v.z) ∙ sym (cross-flip a b c)
-  where
-    turn : (x : ℤ) → pos 0 -ℤ x ≡ neg_ℤ x
-    turn x = omega (arith, ints)
+opposite_is a b c = negated (cross a b c) ∙ sym (cross-flip a b c)
 
 -- the set of a shape in one plane
 pub planar : (pts : List Vector) (ids : List ℕ) (i j k : ℕ) (n : Vector) → AreFirstTwo ids i j → IsFirstNot (IsInLine pts i j) ids k
@@ -90,8 +91,8 @@ module _ (pts : List Vector) (ids : List ℕ) (n : Vector) (s : IsPlanarSet pts 
   either (inr e) = face s.i s.k s.j s.has_i s.has_k s.has_j (e ∙ opposite_is (at s.i) (at s.j) (at s.k))
 
   -- it has at least three members, since each id is a combination of them
-  three : 2 < length q
-  three = three_members at q (triangle_of at (Members ids) (λ l. In l q) (λ a m.
+  at_least : HasThree q
+  at_least = three_members at q (triangle_of at (Members ids) (λ l. In l q) (λ a m.
       combination_within at (Extreme at (Members ids)) (λ l. In l q) (at a)
       (combination_of_extremes at (Members ids) ids (listed_itself ids) s.set.distinct a m) (λ l x. (p.members l).1 x))
       (record { i = s.i; j = s.j; k = s.k; has_i = s.has_i; has_j = s.has_j; has_k = s.has_k; area = s.area }))
@@ -99,4 +100,4 @@ module _ (pts : List Vector) (ids : List ℕ) (n : Vector) (s : IsPlanarSet pts 
   -- so it is the hull
   pub polygon_is_body : (b : BodyValue) → IsDimension at (Members ids) 2 → IsFlatBody 2 q (length q) b → IsBody at (Members ids) b
   polygon_is_body b d h =
-      flat_is_body pts ids b 2 q (length q) h d p.members (inr (inl (refl, (q, either s.normal, refl)))) (edges_round q three p.once)
+      flat_is_body pts ids b 2 q (length q) h d p.members (inr (inl (refl, (q, either s.normal, refl)))) (edges_round q at_least p.once)

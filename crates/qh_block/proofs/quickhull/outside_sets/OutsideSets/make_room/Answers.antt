@@ -1,6 +1,7 @@
 -- Room for more sets.
 use Rattle.std.proofs.Common.{◌≡◌, ◌-◌, ◌≤◌, ◌++◌, [], List, ℕ, length, length-append, arith, rules, ap, sym, refl, ◌∙◌, replicate}
-use Rattle.std.proofs.lemmas.List.{length-replicate, append-nil}
+use Rattle.std.proofs.lemmas.Grind.{common_steps}
+use Rattle.std.proofs.lemmas.List.{append-nil}
 use Rattle.qh_block.specs.steps.OutsideSets.{listed}
 use Rattle.qh_block.proofs.outside_sets.Steps.{kept, places_are, value_after}
 use Rattle.qh_block.proofs.outside_sets.NewSets.{room_kept, room_sum}
@@ -14,24 +15,21 @@ invariant_of-self c =
 pub returns-in_ok-resize : goal.returns-in_ok-resize
 unfolding invariant_of-self
 returns-in_ok-resize c =
-    let e = value_after c.self.invariant c.self.view_is refl (invariant_of-self c).2 in
-    let sets = c.args.self.now.sets in let n = c.self.inside.ends.len in
-    let q : n ≡ length sets = omega (arith, c.self.inside.ends.ok, places_are c.self.invariant c.self.view_is) in
-    let more : List (List ℕ) = replicate (c.args.places - n) [] in
-    let m : length more ≡ c.args.places - n = length-replicate _ _ in
+    let e = value_after c.self.invariant c.self.view_is refl (invariant_of-self c).2 in let sets = c.args.self.now.sets in
+    let q : c.self.inside.ends.len ≡ length sets = omega (arith, c.self.inside.ends.ok, places_are c.self.invariant c.self.view_is) in
+    let s = (λ i. (e i).sets) ∙ ap (λ n. sets ++ replicate (c.args.places - n) []) q in
     record {
-      sets = (λ i. (e i).sets) ∙ ap (λ n. sets ++ replicate (c.args.places - n) []) q;
-      places = omega (arith, ap (λ (xs : List (List ℕ)). length xs) (λ i. (e i).sets), length-append sets more);
+      sets = s;
+      places = rw s (grind (arith, common_steps));
       orphans = λ i. (e i).orphans;
       positions = λ i. (e i).positions;
-      listed = omega (arith, ap listed e, room_sum length refl sets (c.args.places - n));
+      listed = omega (arith, ap listed e, room_sum length refl sets (c.args.places - c.self.inside.ends.len));
       memory = search rules;
     }
 
 -- no more places, no more sets
-same : (xs : List (List ℕ)) (places : ℕ) → places ≤ length xs → xs ≡ xs ++ replicate (places - length xs) []
-same xs places h = let e : 0 ≡ places - length xs = omega arith in sym (append-nil xs) ∙ ap (λ n. xs ++ replicate n []) e
-
 pub returns-else-len-places-clause-sets : goal.returns-else-len-places-clause-sets
 returns-else-len-places-clause-sets c =
-    same c.args.self.now.sets c.args.places (omega (arith, c.self.inside.ends.ok, places_are c.self.invariant c.self.view_is))
+    let none : 0 ≡ c.args.places - length c.args.self.now.sets =
+        omega (arith, c.self.inside.ends.ok, places_are c.self.invariant c.self.view_is) in
+    rw (← none) (sym (append-nil c.args.self.now.sets))
