@@ -8,7 +8,7 @@ ghost use Rattle.qh_model.specs.headline.Predicates.{place};
 ghost use Rattle.qh_model.specs.headline.Sets.{In, Once, Members};
 ghost use Rattle.qh_model.specs.contract.StoredSurface.{surface_of};
 ghost use Rattle.qh_plane.specs.contract.Shapes.{IsInLine, IsInPlane, IsFirstNot, AreFirstTwo};
-ghost use Rattle.qh_block.specs.steps.Faces.{IsListed, all_members};
+ghost use Rattle.qh_block.specs.steps.Faces.{all_members};
 ghost use Rattle.qh_block.specs.steps.PlaneWalks.{AreCornersBelow};
 
 use crate::face_order::sort_faces;
@@ -54,7 +54,7 @@ fn listed_ids(alloc: Global, polygons: &[Polygon]) -> Result<Vec<Id>, AllocError
 /// The ids of all polygons, rising, each once.
 fn corners(alloc: Global, polygons: &[Polygon]) -> Result<Vec<Id>, Memory>
     ensures rising { IfOk result (λ v. IsStrictlyIncreasing v.items) }
-    ensures members { IfOk result (λ v. (i : ℕ) → In i v.items ↔ IsListed polygons.now i) }
+    ensures members { IfOk result (λ v. (i : ℕ) → In i v.items ↔ In i (all_members polygons.now)) }
 {
     let ids = listed_ids(alloc, polygons)?;
     rising_ids(alloc, &ids)

@@ -54,21 +54,21 @@ module _ (at : ℕ → Vector) (ids : List ℕ) (fs : List StoredFacet) (d : Has
 
   -- a face has three members, since three extreme ids span its plane
   three_of_face : (f : ℕ) → IsLive fs f → (q : List ℕ) → IsFace f q → HasThree q
-  three_of_face f l q p = go (planes_of_extremes at ids d (m.i f) (m.j f) (m.k f) (facets_support at ids m z f (lives f l)))
+  three_of_face f l q p = three_members at q (record {
+    i = s.u;
+    j = s.v;
+    k = s.w;
+    has_i = has s.u s.has_u (vol-first _ _ _);
+    has_j = has s.v s.has_v (vol-second _ _ _);
+    has_k = has s.w s.has_w (vol-third _ _ _);
+    area = s.area;
+  })
     where
-      go : SpannedByExtremes at (Members ids) (m.i f) (m.j f) (m.k f) → HasThree q
-      go s = three_members at q (record {
-        i = s.u;
-        j = s.v;
-        k = s.w;
-        has_i = has s.u s.has_u (vol-first _ _ _);
-        has_j = has s.v s.has_v (vol-second _ _ _);
-        has_k = has s.w s.has_w (vol-third _ _ _);
-        area = s.area;
-      })
-        where
-          has : (y : ℕ) → Extreme at (Members ids) y → vol (at s.u) (at s.v) (at s.w) (at y) ≡ pos 0 → In y q
-          has y e h = (p.members y).1 (e, (s.same y).1 h)
+      s : SpannedByExtremes at (Members ids) (m.i f) (m.j f) (m.k f)
+      s = planes_of_extremes at ids d (m.i f) (m.j f) (m.k f) (facets_support at ids m z f (lives f l))
+
+      has : (y : ℕ) → Extreme at (Members ids) y → vol (at s.u) (at s.v) (at s.w) (at y) ≡ pos 0 → In y q
+      has y e h = (p.members y).1 (e, (s.same y).1 h)
 
   -- its first three ids span its plane
   over : List ℕ → ℕ → ℤ

@@ -19,13 +19,9 @@ use Rattle.qh_model.proofs.surfaces.Complete.{finished_is_solid, polygons_of_fac
 use Rattle.qh_model.proofs.surfaces.FacetPlanes.{level_itself}
 use Rattle.qh_model.proofs.surfaces.Finished.{extremes_are_corners}
 use Rattle.qh_model.proofs.surfaces.Stored.{live_is_marked}
-use Rattle.qh_block.specs.steps.Faces.{AreFacetFaces, all_members, IsListed}
+use Rattle.qh_block.specs.steps.Faces.{AreFacetFaces, all_members}
 use Rattle.qh_block.specs.steps.SolidEdges.{all_edges_up}
 use Rattle.qh_block.proofs.finished.EdgeCounts.{edges_of_faces}
-
--- the members of all polygons
-pub in_members : (qs : List (List ℕ)) (i : ℕ) → In i (all_members qs) ↔ IsListed qs i
-in_members qs i = (of_flat_map (λ q. q) qs i, λ l. in_flat_map (λ q. q) qs l.0 i l.1 l.2)
 
 -- lists in rising order are there once each
 rising_once : (qs : List (List ℕ)) → RiseStrictly qs → Once qs
@@ -38,14 +34,14 @@ rising_once qs r = go qs (rising-ordered qs r)
 module _ (pts : List Vector) (ids : List ℕ) (fs : List StoredFacet) (set : IsIdSet pts ids) (z : IsFinished (place pts) ids (surface_of fs))
     (qs : List (List ℕ)) (faces : AreFacetFaces (place pts) (Members ids) fs qs) where
   -- the members of the faces are the extreme ids
-  face_members : (i : ℕ) → IsListed qs i ↔ Extreme (place pts) (Members ids) i
+  face_members : (i : ℕ) → In i (all_members qs) ↔ Extreme (place pts) (Members ids) i
   face_members i = (
-    λ l. let o = faces.only l.0 l.1 in ((o.2.members i).0 l.2).0,
+    λ m. let l = of_flat_map (λ q. q) qs i m in let o = faces.only l.0 l.1 in ((o.2.members i).0 l.2).0,
     λ x. let c = extremes_are_corners (place pts) ids (surface_of fs) z i x in let r = faces.each c.0 ((live_is_marked fs c.0).0 c.1) in
-        (r.0, r.1, (r.2.members i).1 (x, level_itself (place pts) (surface_of fs) c.0 i c.2)),
+        in_flat_map (λ q. q) qs r.0 i r.1 ((r.2.members i).1 (x, level_itself (place pts) (surface_of fs) c.0 i c.2)),
   )
 
-  pub extremes : (v : List ℕ) → IsStrictlyIncreasing v → ((i : ℕ) → In i v ↔ IsListed qs i) → AreExtremes (place pts) (Members ids) v
+  pub extremes : (v : List ℕ) → IsStrictlyIncreasing v → ((i : ℕ) → In i v ↔ In i (all_members qs)) → AreExtremes (place pts) (Members ids) v
   extremes v rising members = record {
     rising = rising;
     members = λ i. (λ m. (face_members i).0 ((members i).0 m), λ x. (members i).1 ((face_members i).1 x));

@@ -4,7 +4,8 @@ use Rattle.std.specs.List.{sum_by, range_with_len}
 use Rattle.std.proofs.lemmas.Bool.{ne_eqb}
 use Rattle.std.proofs.lemmas.Bool.Decides.{nat_tests}
 use Rattle.std.proofs.lemmas.List.FromFn.{length-range_with_len}
-use Rattle.std.proofs.lemmas.List.Sums.{sum_by-append, sum_by-cons}
+use Rattle.std.proofs.lemmas.List.Folds.{sum_by-replicate}
+use Rattle.std.proofs.lemmas.List.Sums.{sum_by-append}
 use Rattle.qh_block.specs.steps.PositionChains.{none, count, IsChain, AreSets, no_sets, one_more, IsKept}
 use Rattle.qh_block.specs.declared.quickhull.outside_sets.Ends.{Ends}
 
@@ -42,13 +43,10 @@ abbrev no_positions : List ℕ
 no_positions = []
 
 -- empty sets weigh nothing
-empty_sum : (weight : List ℕ → ℕ) → weight [] ≡ 0 → (n : ℕ) → sum_by weight (replicate n no_positions) ≡ 0
-empty_sum weight e zero = refl
-empty_sum weight e (suc n) = omega (arith, sum_by-cons weight no_positions (replicate n no_positions), empty_sum weight e n)
-
 pub room_sum : (weight : List ℕ → ℕ) → weight [] ≡ 0 → (xss : List (List ℕ)) (n : ℕ)
     → sum_by weight (xss ++ replicate n []) ≡ sum_by weight xss
-room_sum weight e xss n = omega (arith, sum_by-append weight xss (replicate n no_positions), empty_sum weight e n)
+room_sum weight e xss n =
+    let none = rw e at (sum_by-replicate {X = List ℕ} weight n no_positions) in omega (arith, sum_by-append weight xss (replicate n no_positions), none)
 
 -- empty sets behind the others
 more_sets : {links : List ℕ} {es : List Ends} {xss : List (List ℕ)} (n : ℕ) → length links ≤ none → AreSets links es xss

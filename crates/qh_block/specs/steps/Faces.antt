@@ -75,7 +75,3 @@ pub record AreFacetFaces (at : ℕ → Vector) (A : ℕ → Type 0) (fs : List S
 -- the members of all polygons, one after the other
 abbrev pub all_members : List (List ℕ) → List ℕ
 all_members qs = flat_map (λ q. q) qs
-
--- i is a member of a polygon
-abbrev pub IsListed : List (List ℕ) → ℕ → Type 0
-IsListed qs i = (q : List ℕ) × In q qs × In i q

@@ -1,5 +1,6 @@
 -- The faces, in order, with their members and edges are the hull.
 use Rattle.std.proofs.Common.{◌≡◌, ◌∙◌, ap}
+use Rattle.qh_model.proofs.lists.Joined.{in_flat_map}
 use Rattle.qh_block.specs.steps.SolidEdges.{all_edges_up}
 use Rattle.qh_block.proofs.finished.SolidBodies.{extremes, body}
 use Rattle.qh_block.proofs.solids.solid_body.Goals as goal
@@ -8,7 +9,7 @@ pub invariant_of-result : goal.invariant_of-result
 invariant_of-result c = record {
   rising = c.in_ok-extremes.ensures.rising;
   named = λ q m i h. (let members = rw c.deref.ensures.value at (c.in_ok-extremes.ensures.members i) in
-      members.1 (q, (c.sort_faces.ensures.members q).0 m, h));
+      members.1 (in_flat_map (λ p. p) _ q i ((c.sort_faces.ensures.members q).0 m) h));
 }
 
 pub returns : goal.returns
