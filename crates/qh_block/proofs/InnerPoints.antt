@@ -10,7 +10,6 @@ use Rattle.qh_model.specs.contract.FinishedSurface.{IsFinished}
 use Rattle.qh_model.specs.contract.StoredSurface.{StoredFacet, surface_of}
 use Rattle.qh_model.proofs.Members.{All-In, All-of, rising_tail, rising_first}
 use Rattle.qh_model.proofs.lists.Joined.{in_append, of_append}
-use Rattle.qh_model.proofs.lists.Images.{of_map}
 use Rattle.qh_model.proofs.lists.Rising.{rising_append}
 use Rattle.qh_model.proofs.surfaces.Inside.{inner_is_not_extreme}
 use Rattle.qh_model.proofs.surfaces.Stored.{live_is_marked}
@@ -21,33 +20,29 @@ use Rattle.qh_mesh.specs.contract.Replacement.{IsLive}
 use Rattle.qh_mesh.specs.contract.SoundMesh.{facet_vol}
 use Rattle.qh_block.specs.declared.inner_points.bounds.Bounds.{Bounds}
 use Rattle.qh_block.specs.steps.InnerPoints.{IsBelow, IsBelowAll, HasPlane, HasPlanes, HasNoExtreme, AreInner, IsOuterPart}
+use Rattle.qh_block.proofs.LiveFacets.{AreAllLive, all_live, rest_live}
 use Rattle.qh_block.proofs.finished.Gathering.{in_numbers}
 
 -- ---- the planes of the live facets
 -- facets whose planes are not listed are left
 pub record AreListed (pts : List Vector) (fs : List StoredFacet) (left : List FacetNo) (planes : List PlaneValue) : Type 0 where
-  pub live : (v : FacetNo) → In v left → IsLive fs v.0
+  pub live : AreAllLive fs left
   pub rest : (g : ℕ) → IsLive fs g → HasPlane pts fs planes g ⊎ In (record { 0 = g }) left
 
 -- at first all are left
 pub none_listed : (pts : List Vector) (fs : List StoredFacet) → AreListed pts fs (numbers (surface_of fs).live) []
 none_listed pts fs = record {
-  live = λ v i. (let r = of_map (λ n. record { 0 = n }) (surface_of fs).live v i in
-      subst (λ (x : FacetNo). IsLive fs x.0) (sym r.2) ((live_is_marked fs r.0).0 r.1));
+  live = all_live fs (numbers (surface_of fs).live) refl;
   rest = λ g l. inr (in_numbers (surface_of fs).live g ((live_is_marked fs g).1 l));
 }
 
 module _ {pts : List Vector} {fs : List StoredFacet} {all left : List FacetNo} {f : FacetNo} {planes : List PlaneValue}
     (old : AreListed pts fs all planes) where
-  -- the next is live
-  pub next_live : all ≡ f ∷ left → IsLive fs f.0
-  next_live is = old.live f (subst (In f) (sym is) (inl refl))
-
-  -- with its plane it is listed
+  -- with its plane the next is listed
   pub next_listed : all ≡ f ∷ left → (plane : PlaneValue) → ((p : Vector) → height plane p ≡ facet_vol (place pts) fs f.0 p)
       → AreListed pts fs left (planes ++ plane ∷ [])
   next_listed is plane own = record {
-    live = λ v i. old.live v (subst (In v) (sym is) (inr i));
+    live = rest_live fs all left f old.live is;
     rest = λ g l. ⊎_elim (λ h. inl (h.0, in_append planes (plane ∷ []) h.0 (inl h.1), h.2))
         (λ i. ⊎_elim (λ e. inl (plane, in_append planes (plane ∷ []) plane (inr (inl refl)), of e)) (λ m. inr m) (subst (In (no g)) is i))
         (old.rest g l);

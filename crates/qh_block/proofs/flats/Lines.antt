@@ -49,17 +49,11 @@ not_above s wa wl wb ta tl tb r h p q ha hb la lb =
 
 -- an order of ways from o is one of places
 later : (d o p q : Vector) → dot d (minus p o) ≤ℤ dot d (minus q o) → dot d p ≤ℤ dot d q
-later d o p q = shifted _ _ (dot d p) (dot d q) (dot d o) (dot-minus d p o) (dot-minus d q o)
-  where
-    shifted : (x y p q o : ℤ) → x ≡ p +ℤ neg_ℤ o → y ≡ q +ℤ neg_ℤ o → x ≤ℤ y → p ≤ℤ q
-    shifted x y p q o e f h = omega (arith, ints)
+later d o p q h = omega (arith, ints, dot-minus d p o, dot-minus d q o)
 
 -- a way ahead is one to a place further on
 ahead : (d o p : Vector) → pos 0 <ℤ dot d (minus p o) → dot d o <ℤ dot d p
-ahead d o p = above _ (dot d p) (dot d o) (dot-minus d p o)
-  where
-    above : (x p o : ℤ) → x ≡ p +ℤ neg_ℤ o → pos 0 <ℤ x → o <ℤ p
-    above x p o e h = omega (arith, ints)
+ahead d o p h = omega (arith, ints, dot-minus d p o)
 
 -- the way back
 back : (i j p : Vector) → dot (minus i j) p ≡ neg_ℤ (dot (minus j i) p)

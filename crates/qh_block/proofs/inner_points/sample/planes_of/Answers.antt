@@ -2,7 +2,8 @@
 use Rattle.std.proofs.Common.{List, ◌∙◌, sym, subst}
 use Rattle.qh_pred.specs.contract.Planes.{PlaneValue}
 use Rattle.qh_mesh.specs.declared.facets.FacetNo.{FacetNo}
-use Rattle.qh_block.proofs.InnerPoints.{AreListed, none_listed, next_live, next_listed, all_listed}
+use Rattle.qh_block.proofs.InnerPoints.{AreListed, none_listed, next_listed, all_listed}
+use Rattle.qh_block.proofs.LiveFacets.{next_live}
 use Rattle.qh_block.proofs.inner_points.sample.planes_of.Goals as goal
 
 pub loop-facet-init : goal.loop-facet-init
@@ -13,7 +14,8 @@ loop-facet-init c =
     (rw c.new-planes.ensures.items (none_listed pts fs))
 
 pub plane_of-requires-clause-live : goal.plane_of-requires-clause-live
-plane_of-requires-clause-live c = next_live c.loop-facet.invariant c.in-Some.ensures.steps
+plane_of-requires-clause-live c =
+    next_live c.args.mesh.now c.loop-facet.facet-iterator c.next.new.self c.in-Some.facet c.loop-facet.invariant.live c.in-Some.ensures.steps
 
 pub plane_of-requires-clause-corners : goal.plane_of-requires-clause-corners
 plane_of-requires-clause-corners c f l = (c.requires.corners.i_in f l, c.requires.corners.j_in f l, c.requires.corners.k_in f l)
