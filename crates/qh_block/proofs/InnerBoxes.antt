@@ -13,20 +13,13 @@ use Rattle.qh_block.specs.steps.InnerPoints.{IsBetween, IsWithin, IsFarEnd}
 greatest : (a l h e n : ℤ) → IsFarEnd a l h e → IsBetween l n h → (a *ℤ n) ≤ℤ (a *ℤ e)
 greatest a l h e n far in_range = by_lt_z (pos 0) a
     (λ up. let q = far.0 up in mul-le a n e (omega (arith, ints)) (omega (arith, ints)))
-    (λ down. let q = far.1 down in
-        back _ _ _ _ (neg_mul a e) (neg_mul a n) (mul-le (neg_ℤ a) e n (omega (arith, ints)) (omega (arith, ints))))
-  where
-    back : (x y u v : ℤ) → u ≡ neg_ℤ x → v ≡ neg_ℤ y → u ≤ℤ v → y ≤ℤ x
-    back x y u v e f h = omega (arith, ints)
+    (λ down. let q = far.1 down in let more = mul-le (neg_ℤ a) e n (omega (arith, ints)) (omega (arith, ints)) in
+        omega (arith, ints, neg_mul a e, neg_mul a n, more))
 
 -- so a box is below a plane where its corner that lies furthest along the normal is
 pub below_by_corner : (b : Bounds) (plane : PlaneValue) (n q : Vector) → n ≡ plane.normal → IsFarEnd n.x b.low.x b.high.x q.x
     → IsFarEnd n.y b.low.y b.high.y q.y → IsFarEnd n.z b.low.z b.high.z q.z → height plane q <ℤ pos 0
     → (p : Vector) → IsWithin b p → height plane p <ℤ pos 0
 below_by_corner b plane n q e x y z h p w =
-    sum _ _ _ _ _ _ plane.offset (rw e at (greatest n.x b.low.x b.high.x q.x p.x x w.x))
-    (rw e at (greatest n.y b.low.y b.high.y q.y p.y y w.y))
-    (rw e at (greatest n.z b.low.z b.high.z q.z p.z z w.z)) h
-  where
-    sum : (a a' b b' c c' o : ℤ) → a ≤ℤ a' → b ≤ℤ b' → c ≤ℤ c' → (a' +ℤ b' +ℤ c' -ℤ o) <ℤ pos 0 → (a +ℤ b +ℤ c -ℤ o) <ℤ pos 0
-    sum a a' b b' c c' o x y z h = omega (arith, ints)
+    let at_x = rw e at (greatest n.x b.low.x b.high.x q.x p.x x w.x) in let at_y = rw e at (greatest n.y b.low.y b.high.y q.y p.y y w.y) in
+    let at_z = rw e at (greatest n.z b.low.z b.high.z q.z p.z z w.z) in omega (arith, ints, at_x, at_y, at_z, h)

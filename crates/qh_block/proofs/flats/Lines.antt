@@ -59,10 +59,6 @@ ahead d o p h = omega (arith, ints, dot-minus d p o)
 back : (i j p : Vector) → dot (minus i j) p ≡ neg_ℤ (dot (minus j i) p)
 back i j p = ring (put i (put j (put p []))) (dotE (subE (vec 0) (vec 1)) (vec 2)) (neg (dotE (subE (vec 1) (vec 0)) (vec 2))) refl
 
--- what is at most b is not c
-chain : (a b c d : ℤ) → a ≤ℤ b → b <ℤ c → c ≤ℤ d → a ≡ d → ⊥
-chain a b c d h k l e = omega (arith, ints)
-
 -- the first two ids are members
 pub first_two_in : (ids : List ℕ) (i j : ℕ) → AreFirstTwo ids i j → In i ids × In j ids
 first_two_in ids i j t =
@@ -123,7 +119,7 @@ module _ (pts : List Vector) (ids : List ℕ) (i j e g : ℕ) (two : AreFirstTwo
 
   -- they differ
   pub ends_differ : e ≢ g
-  ends_differ h = chain (far e) (far i) (far j) (far g) (least i has.0) (ahead way (at i) (at j) long) (most j has.1) (ap far h)
+  ends_differ h = let same = ap far h in omega (arith, ints, least i has.0, ahead way (at i) (at j) long, most j has.1, same)
 
   -- they are extreme, as the greatest along the way or the way back
   last_extreme : IsEnd g

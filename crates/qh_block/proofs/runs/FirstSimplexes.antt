@@ -63,12 +63,6 @@ record IsStarted (pts : List Vector) (fs : List StoredFacet) : Type 0 where
   named : (f : ℕ) → IsLive fs f → Names four_facets f
   live : (j : ℕ) → j < length four_facets → IsLive fs (number four_facets j)
 
-below : (x : ℤ) → x ≢ pos 0 → x ≤ℤ pos 0 → x <ℤ pos 0
-below x n a = omega (arith, ints)
-
-flipped : (x y : ℤ) → y ≡ neg_ℤ x → pos 0 <ℤ x → y <ℤ pos 0
-flipped x y e a = omega (arith, ints)
-
 module _ {pts : List Vector} {fs : List StoredFacet} {i j k l : ℕ} (h : IsFirst pts fs i j k l) where
   abbrev at : ℕ → Vector
   at = place pts
@@ -101,9 +95,10 @@ module _ {pts : List Vector} {fs : List StoredFacet} {i j k l : ℕ} (h : IsFirs
   -- it is turned outward
   started : IsStarted pts fs
   started = by_lt_z (pos 0) (vol (at i) (at j) (at k) (at l))
-      (λ up. of_corners i k j l (h.up up) h.i_in h.k_in h.j_in h.l_in (flipped _ _ (vol-flip_last (at i) (at j) (at k) (at l)) up)
+      (λ up. of_corners i k j l (h.up up) h.i_in h.k_in h.j_in h.l_in (omega (arith, ints, up, vol-flip_last (at i) (at j) (at k) (at l)))
       (subst (IsSoundMesh at fs) (sym (middle-turned (weighted (at i)) (weighted (at j)) (weighted (at k)) (weighted (at l)))) h.sound))
-      (λ low. let down = below _ h.volume low in of_corners i j k l (h.down down) h.i_in h.j_in h.k_in h.l_in down h.sound)
+      (λ low. let n = h.volume in let down : vol (at i) (at j) (at k) (at l) <ℤ pos 0 = omega (arith, ints, low, n) in
+          of_corners i j k l (h.down down) h.i_in h.j_in h.k_in h.l_in down h.sound)
 
 -- with all positions orphans it may be settled
 pub first_remade : (pts : List Vector) (fs : List StoredFacet) (v : OutsideValue) (i j k l : ℕ) → IsFirst pts fs i j k l

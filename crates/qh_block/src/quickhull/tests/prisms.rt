@@ -25,6 +25,7 @@ fn prism(alloc: Global) -> Result<Vec<Point>, AllocError> {
 }
 
 /// How many facets a run over a set makes; none where it is not solid.
+#[tactic(auto, using(crate::proofs::runs::FirstSimplexes::simplex_is))]
 fn made_by_run(alloc: Global, pts: &[Point], ids: &[Id]) -> Result<Option<usize>, Memory>
     requires indices { AreIndices pts.now ids.now }
     requires set { IsIdSet pts.now ids.now }
