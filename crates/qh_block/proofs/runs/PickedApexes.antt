@@ -1,7 +1,7 @@
 -- The next apex: facets without an outside set are passed over, and the first point of a set is taken out of it.
 use Rattle.std.proofs.Common.{◌≡◌, ℕ, ◌<◌, arith, ap, sym, ◌∙◌, refl, ◌⊎◌, ⊎_elim, inl, inr, List, [], ◌∷◌, ◌++◌, length, drop, subst}
 use Rattle.std.specs.Prelude.{slice_set}
-use Rattle.std.proofs.lemmas.Bool.{cases_eq}
+use Rattle.std.proofs.lemmas.Grind.{common_steps}
 use Rattle.std.proofs.lemmas.List.{set-get_or, length-set}
 use Rattle.qh_model.specs.headline.Vector.{Vector}
 use Rattle.qh_model.specs.headline.Sets.{In}
@@ -11,7 +11,7 @@ use Rattle.qh_mesh.specs.declared.facets.FacetNo.{FacetNo}
 use Rattle.qh_block.specs.steps.OutsideSets.{OutsideValue, set_of}
 use Rattle.qh_block.specs.steps.Runs.{AreWithin, IsDone, Names, IsOutside, IsUnderWay, IsPicked}
 use Rattle.qh_block.proofs.runs.NamedFacets.{names_push, within_rest, within_last, names_none}
-use Rattle.qh_block.proofs.runs.SetWrites.{of_write, write_has, write_keeps}
+use Rattle.qh_block.proofs.runs.SetWrites.{of_write}
 
 -- the sets without the first point of the set at f
 abbrev pub taken : OutsideValue → ℕ → OutsideValue
@@ -81,11 +81,10 @@ module _ {pts : List Vector} {fs : List StoredFacet} {ps : List PlaneValue} {v :
           (of_write v.sets f.0 others g q i)
 
       still : (g q : ℕ) → In q (set_of v g) → IsOutside (taken v f.0) q ⊎ (q ≡ a)
-      still g q i = ⊎_elim here (λ n. inl (g, write_keeps v.sets f.0 others g q n i)) (cases_eq g f.0)
-        where
-          here : g ≡ f.0 → IsOutside (taken v f.0) q ⊎ (q ≡ a)
-          here n = ⊎_elim (λ h. inr h) (λ h. inl (g, write_has v.sets f.0 others g q (within_last (length v.sets) rest f range) n h))
-              (subst (In q) (ap (set_of v) n ∙ e) i)
+      still g q i =
+          let n = within_last (length v.sets) rest f range in
+          let there : In q (set_of (taken v f.0) g) ⊎ (q ≡ a) = grind (arith, common_steps, i, e, n) in
+          ⊎_elim (λ h. inl (g, h)) (λ h. inr h) there
 
 -- when no facet waits, no facet sees a point
 pub all_done : {pts : List Vector} {fs : List StoredFacet} {ps : List PlaneValue} {v : OutsideValue} → IsUnderWay pts fs ps v []

@@ -1,26 +1,15 @@
 -- Members of outside sets after one of them is written.
-use Rattle.std.proofs.Common.{◌≡◌, ℕ, ◌-◌, ◌<◌, arith, ap, sym, ◌∙◌, refl, Bool, true, false, ◌⊎◌, inl, inr, List, [], ◌∷◌, ◌++◌, length, get_or, replicate, subst}
+use Rattle.std.proofs.Common.{◌≡◌, ℕ, ◌<◌, arith, ap, sym, ◌∙◌, refl, Bool, true, false, ◌⊎◌, inl, inr, List, [], ◌∷◌, ◌++◌, length, get_or, replicate, subst}
 use Rattle.std.proofs.Math.ListN.{set}
-use Rattle.std.proofs.lemmas.Bool.{cases_eq}
-use Rattle.std.proofs.lemmas.List.{get_or-set_same, get_or-set_other, set_past, get_or_past, get_or_append_left, get_or-append_right, get_or-replicate, length-replicate}
+use Rattle.std.proofs.lemmas.Grind.{common_steps}
+use Rattle.std.proofs.lemmas.List.{get_or-set_same, get_or-set_other, set_past, get_or_past}
 use Rattle.qh_model.specs.headline.Sets.{In}
 use Rattle.qh_model.proofs.lists.Joined.{in_append}
-use Rattle.qh_mesh.proofs.NumberCases.{by_le}
 use Rattle.qh_block.specs.steps.OutsideSets.{joined}
 
 -- a member after a write is one of what was written, or was one
 pub of_write : (xs : List (List ℕ)) (f : ℕ) (ys : List ℕ) (g q : ℕ) → In q (get_or (set xs f ys) g []) → ((g ≡ f) × In q ys) ⊎ In q (get_or xs g [])
-of_write xs f ys g q i = by (cases_eq g f)
-  where
-    here : g ≡ f → ((g ≡ f) × In q ys) ⊎ In q (get_or xs g [])
-    here e =
-        by_le (((g ≡ f) × In q ys) ⊎ In q (get_or xs g [])) f (length xs)
-        (λ l. inl (e, subst (In q) (ap (λ n. get_or (set xs f ys) n []) e ∙ get_or-set_same xs f ys [] l) i))
-        (λ l. inr (subst (In q) (ap (λ (zs : List (List ℕ)). get_or zs g []) (set_past xs f ys l)) i))
-
-    by : (g ≡ f) ⊎ (g ≡ f → ⊥) → ((g ≡ f) × In q ys) ⊎ In q (get_or xs g [])
-    by (inl e) = here e
-    by (inr n) = inr (subst (In q) (get_or-set_other xs f g ys [] n) i)
+of_write xs f ys g q i = grind (arith, common_steps, i, set_past xs f ys)
 
 -- what was written are members
 pub write_has : (xs : List (List ℕ)) (f : ℕ) (ys : List ℕ) (g q : ℕ) → f < length xs → g ≡ f → In q ys → In q (get_or (set xs f ys) g [])
@@ -32,15 +21,7 @@ write_keeps xs f ys g q n i = subst (In q) (sym (get_or-set_other xs f g ys [] n
 
 -- an empty set that was written is empty
 pub write_empty : (xs : List (List ℕ)) (f g : ℕ) → (g ≡ f) ⊎ (get_or xs g [] ≡ []) → get_or (set xs f []) g [] ≡ []
-write_empty xs f g h = by (cases_eq g f) h
-  where
-    by : (g ≡ f) ⊎ (g ≡ f → ⊥) → (g ≡ f) ⊎ (get_or xs g [] ≡ []) → get_or (set xs f []) g [] ≡ []
-    by (inl e) _ =
-        by_le (get_or (set xs f []) g [] ≡ []) f (length xs)
-        (λ l. ap (λ n. get_or (set xs f []) n []) e ∙ get_or-set_same xs f [] [] l)
-        (λ l. ap (λ (zs : List (List ℕ)). get_or zs g []) (set_past xs f [] l) ∙ get_or_past xs g [] (omega arith))
-    by (inr n) (inl e) = absurd (n e)
-    by (inr n) (inr k) = get_or-set_other xs f g [] [] n ∙ k
+write_empty xs f g h = grind (arith, common_steps, h, set_past xs f [], get_or_past xs g [])
 
 -- members of a set that a position joined
 pub of_joined : (b : Bool) (p q : ℕ) (xs : List ℕ) → In q (joined b p xs) → (q ≡ p) ⊎ In q xs
@@ -67,10 +48,4 @@ append_right xs ys q i = in_append xs ys q (inr i)
 
 -- room for more sets changes none
 pub grown-set : (xs : List (List ℕ)) (n f : ℕ) → get_or (xs ++ replicate n []) f [] ≡ get_or xs f []
-grown-set xs n f =
-    by_le (get_or (xs ++ replicate n []) f [] ≡ get_or xs f []) f (length xs)
-    (λ l. get_or_append_left xs (replicate n []) [] f l)
-    (λ l. get_or-append_right xs (replicate n []) (length xs) f [] refl l ∙ none (f - length xs) ∙ sym (get_or_past xs f [] l))
-  where
-    none : (i : ℕ) → get_or (replicate {A = List ℕ} n []) i [] ≡ []
-    none i = by_le (get_or (replicate {A = List ℕ} n []) i [] ≡ []) i n (λ l. get_or-replicate n i [] [] l) (λ l. get_or_past (replicate {A = List ℕ} n []) i [] (let e = length-replicate {A = List ℕ} n [] in omega arith))
+grown-set xs n f = grind (arith, common_steps)
