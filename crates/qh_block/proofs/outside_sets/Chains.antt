@@ -3,6 +3,8 @@ use Rattle.std.proofs.Common.{◌≡◌, ℕ, zero, suc, ◌+◌, ◌<◌, ◌�
 use Rattle.std.proofs.Common.{get_or, set, length-set, get_or-set_same, get_or-set_other}
 use Rattle.std.specs.List.{sum_by}
 use Rattle.std.proofs.lemmas.Bool.{eq-eqb, lt-ltb, le-ltb}
+use Rattle.std.proofs.lemmas.Bool.Decides.{nat_tests}
+use Rattle.std.proofs.lemmas.Grind.{common_steps}
 use Rattle.std.proofs.lemmas.List.{get_or_read}
 use Rattle.std.proofs.lemmas.List.Sums.{sum_by-cons, get_or-le-sum_by}
 use Rattle.qh_block.specs.steps.PositionChains.{count, chain_from, IsChain, IsLast, IsSet, AreSets, no_sets, one_more}
@@ -47,9 +49,7 @@ module _ (links : List ℕ) (y v : ℕ) where
   -- a chain without y stays
   pub chain_kept : (p : ℕ) (xs : List ℕ) → count y xs ≡ 0 → IsChain links p xs → IsChain (set links y v) p xs
   chain_kept p [] n c = rw (length-set links y v) c
-  chain_kept p (x ∷ xs) n c =
-      let a = get_or-set_other links y x v 0 (λ e. omega (arith, count_at y x xs (sym e))) in
-      let r = chain_kept (get_or links x 0) xs (omega arith) c.2 in (c.0, rw (length-set links y v) c.1, rw a r)
+  chain_kept p (x ∷ xs) n c = let r = chain_kept (get_or links x 0) xs in grind (arith, common_steps, nat_tests, n, c, r)
 
   -- y stands in front of the chain from v on
   pub chain_front : (p x : ℕ) (xs : List ℕ) → y ≡ x → p ≡ x → y < length links → count y xs ≡ 0 → IsChain links v xs
@@ -60,11 +60,9 @@ module _ (links : List ℕ) (y v : ℕ) where
   -- the chain from v on stands behind a chain with the last y
   pub chain_joined : (p x : ℕ) (xs ys : List ℕ) → count y (x ∷ xs) ≤ 1 → IsLast (x ∷ xs) y
       → IsChain links p (x ∷ xs) → IsChain (set links y v) v ys → IsChain (set links y v) p ((x ∷ xs) ++ ys)
-  chain_joined p x [] ys o e c d =
-      let h = c.1 in (c.0, rw (length-set links y v) h, rw (← e, get_or-set_same links y v 0 (omega (arith, e))) d)
+  chain_joined p x [] ys o e c d = grind (arith, common_steps, e, c, d)
   chain_joined p x (z ∷ xs) ys o e c d =
-      let a = get_or-set_other links y x v 0 (λ q. omega (arith, count_at y x (z ∷ xs) (sym q), last_in z xs y e)) in
-      let r = chain_joined (get_or links x 0) z xs ys (omega arith) e c.2 d in (c.0, rw (length-set links y v) c.1, rw a r)
+      let l = last_in z xs y e in let r = chain_joined (get_or links x 0) z xs ys in grind (arith, common_steps, nat_tests, o, e, c, d, l, r)
 
 -- ---- sets
 -- the set of the ends at a place

@@ -1,8 +1,8 @@
 -- Ids of a run in another order, and by their positions.
 use Rattle.std.proofs.Common.{◌≡◌, ◌∙◌, ℕ, ◌<◌, List, [], ◌∷◌, length, map, ap}
-use Rattle.std.proofs.Common.{sym, subst, refl, inl, inr, false, eqb, eq-eqb, slice_index, IsPermutation}
+use Rattle.std.proofs.Common.{sym, subst, refl, inl, inr, false, arith, eqb, eq-eqb, slice_index, IsPermutation}
 use Rattle.std.specs.List.{IsDistinct, range_with_len}
-use Rattle.std.proofs.lemmas.Bool.{ne_eqb}
+use Rattle.std.proofs.lemmas.Bool.Decides.{nat_tests}
 use Rattle.std.proofs.lemmas.List.{get_or-map, get_or_default, length-map}
 use Rattle.std.proofs.lemmas.Map.Keys.{IsDistinct-IsPermutation, IsDistinct-cons, IsDistinct-head, IsDistinct-tail}
 use Rattle.std.proofs.lemmas.List.Sorted.{IsPermutation-sym}
@@ -69,8 +69,7 @@ module _ {ids near : List ℕ} (p : IsPermutation ids near) where
     where
       apart : (xs : List ℕ) → Once xs → IsDistinct eqb xs
       apart [] h = tt
-      apart (x ∷ xs) h = IsDistinct-cons eqb x xs
-          (every_of (λ y. eqb x y ≡ false) xs (λ y m. ne_eqb x y (λ e. h.0 (subst (λ (n : ℕ). In n xs) (sym e) m)))) (apart xs h.1)
+      apart (x ∷ xs) h = IsDistinct-cons eqb x xs (every_of (λ y. eqb x y ≡ false) xs (λ y m. grind (arith, nat_tests, h, m))) (apart xs h.1)
 
       once : (xs : List ℕ) → IsDistinct eqb xs → Once xs
       once [] d = tt

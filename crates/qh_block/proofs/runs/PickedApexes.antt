@@ -77,8 +77,7 @@ module _ {pts : List Vector} {fs : List StoredFacet} {ps : List PlaneValue} {v :
       first = subst (In a) (sym e) (inl refl)
 
       was : (g q : ℕ) → In q (set_of (taken v f.0) g) → In q (set_of v g)
-      was g q i = ⊎_elim (λ h. subst (λ n. In q (set_of v n)) (sym h.0) (subst (In q) (sym e) (inr h.1))) (λ h. h)
-          (of_write v.sets f.0 others g q i)
+      was g q i = let h = of_write v.sets f.0 others g q i in grind (arith, h, e)
 
       still : (g q : ℕ) → In q (set_of v g) → IsOutside (taken v f.0) q ⊎ (q ≡ a)
       still g q i =
