@@ -57,8 +57,8 @@ least_first at i j k area = by (nat_lt i j && nat_lt i k) refl (nat_lt j k) refl
 
 -- a list of one facet
 alone : (vs : List FacetNo) (f : ℕ) → length vs ≡ 1 → is_listed vs f ≡ true → vs ≡ record { 0 = f } ∷ []
+alone (g ∷ []) f n has = let i = listed_in (g ∷ []) (record { 0 = f }) has in grind (arith, i)
 alone [] f n has = absurd (omega (arith, n))
-alone (g ∷ []) f n has = ⊎_elim (λ e. ap (λ v. v ∷ []) (sym e)) (λ m. absurd m) (listed_in (g ∷ []) (record { 0 = f }) has)
 alone (g ∷ h ∷ vs) f n has = absurd (omega (arith, n))
 
 -- the face of a plane of which a walk found one facet

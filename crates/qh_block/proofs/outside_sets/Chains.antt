@@ -31,8 +31,7 @@ last_within links p x l (y ∷ ys) c e = last_within links (get_or links x 0) y 
 
 -- the link of the first leads to the others
 pub next : (links : List ℕ) (p p' x : ℕ) (xs : List ℕ) → IsChain links p (x ∷ xs) → p' ≡ get_or links p p' → IsChain links p' xs
-next links p p' x xs c r =
-    subst (λ t. IsChain links t xs) (ap (λ t. get_or links t 0) (sym c.0) ∙ sym (get_or_read links p p' (omega (arith, c.0, c.1)) r 0)) c.2
+next links p p' x xs c r = grind (arith, common_steps, c, r)
 
 -- what is read off a chain, given enough steps, is the chain
 pub chain_is : (links : List ℕ) (n p : ℕ) (xs : List ℕ) → IsChain links p xs → length xs ≤ n → chain_from links n p ≡ xs
@@ -54,8 +53,7 @@ module _ (links : List ℕ) (y v : ℕ) where
   -- y stands in front of the chain from v on
   pub chain_front : (p x : ℕ) (xs : List ℕ) → y ≡ x → p ≡ x → y < length links → count y xs ≡ 0 → IsChain links v xs
       → IsChain (set links y v) p (x ∷ xs)
-  chain_front p x xs e q h n c =
-      (q, rw (length-set links y v) (omega (arith, e)), rw (← e, get_or-set_same links y v 0 h) (chain_kept v xs n c))
+  chain_front p x xs e q h n c = let r = chain_kept v xs in grind (arith, common_steps, e, q, h, n, c, r)
 
   -- the chain from v on stands behind a chain with the last y
   pub chain_joined : (p x : ℕ) (xs ys : List ℕ) → count y (x ∷ xs) ≤ 1 → IsLast (x ∷ xs) y

@@ -107,15 +107,14 @@ last_rest x (y ∷ ys) l e = e
 -- with one more in front
 front_last : (links : List ℕ) (e : Ends) (x l : ℕ) (xs : List ℕ) → IsSet links e xs → (length links ≤ e.first → l ≡ x)
     → (e.first < length links → l ≡ e.last) → IsLast (x ∷ xs) l
-front_last links e x l [] c only last = only c.0
-front_last links e x l (y ∷ ys) c only last = rw (last (let a = c.0.0 in let b = c.0.1 in omega arith)) c.1
+front_last links e x l [] c only last = grind (arith, c, only)
+front_last links e x l (y ∷ ys) c only last = grind (arith, c, last)
 
 -- with one more behind the first
 second_last : (e : Ends) (x y l : ℕ) (xs : List ℕ) → e.first ≡ y → IsLast (y ∷ xs) e.last → count e.first xs ≡ 0
     → (e.first ≡ e.last → l ≡ x) → (e.first ≢ e.last → l ≡ e.last) → IsLast (y ∷ x ∷ xs) l
 second_last e x y l [] q c n alone last = alone (q ∙ sym c)
-second_last e x y l (z ∷ xs) q c n alone last =
-    rw (last (λ d. let a = last_in z xs e.last c in let b = ap (λ t. count t (z ∷ xs)) d in omega arith)) c
+second_last e x y l (z ∷ xs) q c n alone last = let a = last_in z xs e.last c in grind (arith, q, c, n, a, last)
 
 -- ---- the calls
 module _ {links : List ℕ} {es : List Ends} {o : ℕ} {os : List ℕ} {xss : List (List ℕ)} (k : IsKept links es o os xss)
