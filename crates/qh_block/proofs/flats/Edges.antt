@@ -13,10 +13,8 @@ use Rattle.qh_model.proofs.polygons.EdgeCounts.{edges_are_counted}
 -- a pair with an id that is not on the way is not one of the way's
 unlisted : (x u v t : ℕ) (r : List ℕ) (e : ℕ) → (u ≡ x) ⊎ (v ≡ x) → ¬ (In x (t ∷ r)) → x ≢ e
     → list_any (λ p. (p.0 == u) && (p.1 == v)) (pairs_along t r e ++ []) ≡ false
-unlisted x u v t [] e h n d = let k : x ≢ t = (λ q. n (inl q)) in grind (arith, common_steps, h, k, d)
-unlisted x u v t (w ∷ r) e h n d =
-    let k : x ≢ t = (λ q. n (inl q)) in let l : x ≢ w = (λ q. n (inr (inl q))) in
-    grind (arith, common_steps, h, k, l, unlisted x u v w r e h (λ q. n (inr q)) d)
+unlisted x u v t [] e h n d = grind (arith, common_steps, h, n, d)
+unlisted x u v t (w ∷ r) e h n d = let rest = unlisted x u v w r e h in grind (arith, common_steps, h, n, d, rest)
 
 -- the lower or the higher of two is the first, and the second
 lower_or_higher : (a b : ℕ) → ((min a b ≡ a) ⊎ (max a b ≡ a)) × ((min a b ≡ b) ⊎ (max a b ≡ b))
@@ -24,10 +22,10 @@ lower_or_higher a b = grind arith
 
 -- on a way to an id that is not on it all pairs are counted
 way_count : (t : ℕ) (r : List ℕ) (e : ℕ) → Once (t ∷ r) → ¬ (In e (t ∷ r)) → count_pairs (pairs_along t r e ++ []) ≡ suc (length r)
-way_count t [] e o n = let k : t ≢ e = (λ q. n (inl (sym q))) in grind (arith, common_steps, k)
+way_count t [] e o n = grind (arith, common_steps, n)
 way_count t (w ∷ r) e o n =
-    let k : t ≢ w = (λ q. o.0 (inl q)) in let rest = unlisted t _ _ w r e (lower_or_higher t w).0 o.0 (λ q. n (inl (sym q))) in
-    grind (arith, common_steps, k, rest, way_count w r e o.1 (λ i. n (inr i)))
+    let rest = unlisted t _ _ w r e (lower_or_higher t w).0 o.0 (λ q. n (inl (sym q))) in
+    let more = way_count w r e in grind (arith, common_steps, o, n, rest, more)
 
 counted : (q : List ℕ) (n : ℕ) → edge_count (q ∷ []) ≡ n → IsEdgeCount (q ∷ []) n
 counted q n e = subst (IsEdgeCount (q ∷ [])) e (edges_are_counted (q ∷ []))
@@ -41,6 +39,5 @@ one_edge i j h = counted (i ∷ j ∷ []) 1 (grind (arith, common_steps, h))
 
 pub edges_round : (q : List ℕ) → HasThree q → Once q → IsEdgeCount (q ∷ []) (length q)
 edges_round _ (three t w z r) o =
-    let k : t ≢ w = (λ q. o.0 (inl q)) in let l : t ≢ z = (λ q. o.0 (inr (inl q))) in
     let rest = unlisted w _ _ z r t (lower_or_higher t w).1 o.1.0 (λ q. o.0 (inl (sym q))) in
-    counted (t ∷ w ∷ z ∷ r) (length (t ∷ w ∷ z ∷ r)) (grind (arith, common_steps, k, l, rest, way_count w (z ∷ r) t o.1 o.0))
+    counted (t ∷ w ∷ z ∷ r) (length (t ∷ w ∷ z ∷ r)) (grind (arith, common_steps, o, rest, way_count w (z ∷ r) t o.1 o.0))

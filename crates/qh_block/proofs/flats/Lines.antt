@@ -3,14 +3,11 @@ use Rattle.std.proofs.Common.{◌≡◌, ◌≢◌, ℕ, ◌<◌, [], ◌∷◌,
 use Rattle.std.proofs.Math.Nat.{ne_of_lt}
 use Rattle.std.proofs.lemmas.Int.{ints, by_lt_z}
 use Rattle.std.specs.Prelude.{ℤ, pos, ◌+ℤ◌, ◌-ℤ◌, ◌*ℤ◌, neg_ℤ, ◌≤ℤ◌, ◌<ℤ◌, ◌↔◌, List}
-use native.Mathlib.Decide.{ℕ_discrete}
 use Rattle.qh_model.specs.contract.IdSets.{IsIdSet}
-use Rattle.qh_model.specs.headline.Combination.{Combination}
 use Rattle.qh_model.specs.headline.Extreme.{Extreme, Others}
 use Rattle.qh_model.specs.headline.Predicates.{cross, place}
 use Rattle.qh_model.specs.headline.Sets.{In, Members}
 use Rattle.qh_model.specs.headline.Vector.{Vector, minus, cross_product, dot}
-use Rattle.qh_model.specs.laws.Separator.{Separator}
 use Rattle.qh_model.proofs.Members.{In-get_or, in_at}
 use Rattle.qh_model.proofs.algebra.Order.{le_less, mul-pos, mul-nonneg_nonpos, mul-nonpos_nonneg}
 use Rattle.qh_model.proofs.algebra.Ring.{ring}
@@ -132,7 +129,7 @@ module _ (pts : List Vector) (ids : List ℕ) (i j e g : ℕ) (two : AreFirstTwo
 
   -- and no other is
   only : (l : ℕ) → IsEnd l → (l ≡ e) ⊎ (l ≡ g)
-  only l x = go (ℕ_discrete l e) (ℕ_discrete l g) (combination_or_separator at ends (at l))
+  only l x = grind (arith, neither)
     where
       ends : List ℕ
       ends = e ∷ g ∷ []
@@ -140,13 +137,10 @@ module _ (pts : List Vector) (ids : List ℕ) (i j e g : ℕ) (two : AreFirstTwo
       others : ¬ (l ≡ e) → ¬ (l ≡ g) → (a : ℕ) → In a ends → Others (Members ids) l a
       others n k a h = let p = first.member in let q = last.member in (grind (arith, h, p, q), λ d. grind (arith, h, d, n, k))
 
-      go : Dec (l ≡ e) → Dec (l ≡ g) → Combination at (Members ends) (at l) ⊎ Separator at (Members ends) (at l) → (l ≡ e) ⊎ (l ≡ g)
-      go (yes h) f c = inl h
-      go (no n) (yes h) c = inr h
-      go (no n) (no k) (inl c) = absurd (x.1 (combination_within at (Members ends) (Others (Members ids) l) (at l) c (others n k)))
-      go (no n) (no k) (inr s) =
-          let up = s.past e (inl refl) in let over = s.past g (inr (inl refl)) in
-          absurd (not_between s.w e l g first.member x.0 last.member (least l x.0) (most l x.0) up over)
+      neither : ¬ (l ≡ e) → ¬ (l ≡ g) → ⊥
+      neither n k = ⊎_elim (λ c. x.1 (combination_within at (Members ends) (Others (Members ids) l) (at l) c (others n k)))
+          (λ s. not_between s.w e l g first.member x.0 last.member (least l x.0) (most l x.0) (s.past e (inl refl)) (s.past g (inr (inl refl))))
+          (combination_or_separator at ends (at l))
 
   -- the two ends are the extreme ids
   pub two_ends : (l : ℕ) → ((l ≡ e) ⊎ (l ≡ g)) ↔ IsEnd l
