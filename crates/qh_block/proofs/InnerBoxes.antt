@@ -1,7 +1,7 @@
 -- Boxes below planes: a product over a range is greatest at an end of it, a scalar product over a box at a corner.
 use Rattle.std.proofs.Common.{◌≡◌, arith}
 use Rattle.std.proofs.lemmas.Int.{ints, by_lt_z}
-use Rattle.std.specs.Prelude.{ℤ, pos, ◌+ℤ◌, ◌-ℤ◌, ◌*ℤ◌, neg_ℤ, ◌≤ℤ◌, ◌<ℤ◌}
+use Rattle.std.specs.Prelude.{ℤ, pos, ◌*ℤ◌, neg_ℤ, ◌≤ℤ◌, ◌<ℤ◌}
 use Rattle.qh_model.specs.headline.Vector.{Vector}
 use Rattle.qh_model.proofs.algebra.Order.{mul-le}
 use Rattle.qh_model.proofs.algebra.Integers.{neg_mul}
@@ -14,7 +14,7 @@ greatest : (a l h e n : ℤ) → IsFarEnd a l h e → IsBetween l n h → (a *�
 greatest a l h e n far in_range = by_lt_z (pos 0) a
     (λ up. let q = far.0 up in mul-le a n e (omega (arith, ints)) (omega (arith, ints)))
     (λ down. let q = far.1 down in let more = mul-le (neg_ℤ a) e n (omega (arith, ints)) (omega (arith, ints)) in
-        omega (arith, ints, neg_mul a e, neg_mul a n, more))
+    omega (arith, ints, neg_mul a e, neg_mul a n, more))
 
 -- so a box is below a plane where its corner that lies furthest along the normal is
 pub below_by_corner : (b : Bounds) (plane : PlaneValue) (n q : Vector) → n ≡ plane.normal → IsFarEnd n.x b.low.x b.high.x q.x

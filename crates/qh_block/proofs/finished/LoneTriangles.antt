@@ -1,5 +1,5 @@
 -- A plane with one facet has the corners of that facet, from the least on, as its polygon.
-use Rattle.std.proofs.Common.{◌≡◌, ◌≢◌, ⊎_elim, ℕ, ◌<◌, List, [], ◌∷◌, length, ap, sym, subst, refl, arith, Bool, true, false, cond}
+use Rattle.std.proofs.Common.{◌≡◌, ◌≢◌, ℕ, ◌<◌, List, [], ◌∷◌, length, sym, subst, refl, arith, Bool, true, false, cond}
 use Rattle.std.proofs.lemmas.Bool.Decides.{nat_tests}
 use Rattle.std.specs.Prelude.{◌↔◌, ◌&&◌, nat_lt, pos, ◌<ℤ◌}
 use Rattle.qh_model.specs.headline.Vector.{Vector}

@@ -1,7 +1,6 @@
 -- The hull of a set in one plane is its polygon.
-use Rattle.std.proofs.Common.{◌≡◌, ◌≢◌, ◌∙◌, ℕ, ◌<◌, [], ◌∷◌, List, length, sym, subst, ◌⊎◌, inl, inr, arith, refl}
+use Rattle.std.proofs.Common.{◌≡◌, ◌≢◌, ◌∙◌, ℕ, [], ◌∷◌, List, length, sym, subst, ◌⊎◌, inl, inr, arith, refl}
 use Rattle.std.proofs.lemmas.Int.{ints}
-use Rattle.std.specs.Prelude.{ℤ, pos, ◌-ℤ◌, neg_ℤ}
 use Rattle.qh_model.specs.contract.IdSets.{IsIdSet}
 use Rattle.qh_model.specs.headline.Dimension.{HasTriangle, IsDimension}
 use Rattle.qh_model.specs.headline.Extreme.{Extreme}

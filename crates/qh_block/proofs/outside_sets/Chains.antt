@@ -1,11 +1,10 @@
 -- Chains of positions: how often a position stands in them, and what a write to one link leaves of them.
-use Rattle.std.proofs.Common.{◌≡◌, ℕ, zero, suc, ◌+◌, ◌<◌, ◌≤◌, arith, ap, sym, ◌∙◌, refl, List, [], ◌∷◌, ◌++◌, length, subst}
-use Rattle.std.proofs.Common.{get_or, set, length-set, get_or-set_same, get_or-set_other}
+use Rattle.std.proofs.Common.{◌≡◌, ℕ, zero, suc, ◌+◌, ◌<◌, ◌≤◌, arith, sym, refl, List, [], ◌∷◌, ◌++◌, length, subst}
+use Rattle.std.proofs.Common.{get_or, set, length-set}
 use Rattle.std.specs.List.{sum_by}
 use Rattle.std.proofs.lemmas.Bool.{eq-eqb, lt-ltb, le-ltb}
 use Rattle.std.proofs.lemmas.Bool.Decides.{nat_tests}
 use Rattle.std.proofs.lemmas.Grind.{common_steps}
-use Rattle.std.proofs.lemmas.List.{get_or_read}
 use Rattle.std.proofs.lemmas.List.Sums.{sum_by-cons, get_or-le-sum_by}
 use Rattle.qh_block.specs.steps.PositionChains.{count, chain_from, IsChain, IsLast, IsSet, AreSets, no_sets, one_more}
 use Rattle.qh_block.specs.declared.quickhull.outside_sets.Ends.{Ends}

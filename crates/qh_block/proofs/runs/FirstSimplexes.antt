@@ -1,6 +1,6 @@
 -- How a run starts: the facets of a simplex, and every position an orphan.
 use Rattle.std.proofs.Common.{◌≡◌, ◌≢◌, ℕ, zero, suc, ◌<◌, arith, sym, refl, inl, inr, List, [], ◌∷◌, length, subst}
-use Rattle.std.specs.Prelude.{slice_index_or, ℤ, pos, ◌<ℤ◌, ◌≤ℤ◌, neg_ℤ}
+use Rattle.std.specs.Prelude.{slice_index_or, ℤ, pos, ◌<ℤ◌, ◌≤ℤ◌}
 use Rattle.std.specs.List.{range_with_len}
 use Rattle.std.proofs.lemmas.Int.{ints, by_lt_z}
 use Rattle.qh_model.specs.headline.Vector.{Vector}
@@ -98,7 +98,7 @@ module _ {pts : List Vector} {fs : List StoredFacet} {i j k l : ℕ} (h : IsFirs
       (λ up. of_corners i k j l (h.up up) h.i_in h.k_in h.j_in h.l_in (omega (arith, ints, up, vol-flip_last (at i) (at j) (at k) (at l)))
       (subst (IsSoundMesh at fs) (sym (middle-turned (weighted (at i)) (weighted (at j)) (weighted (at k)) (weighted (at l)))) h.sound))
       (λ low. let n = h.volume in let down : vol (at i) (at j) (at k) (at l) <ℤ pos 0 = omega (arith, ints, low, n) in
-          of_corners i j k l (h.down down) h.i_in h.j_in h.k_in h.l_in down h.sound)
+      of_corners i j k l (h.down down) h.i_in h.j_in h.k_in h.l_in down h.sound)
 
 -- with all positions orphans it may be settled
 pub first_remade : (pts : List Vector) (fs : List StoredFacet) (v : OutsideValue) (i j k l : ℕ) → IsFirst pts fs i j k l

@@ -1,5 +1,5 @@
 -- Room for more sets.
-use Rattle.std.proofs.Common.{◌≡◌, ◌-◌, ◌≤◌, ◌++◌, [], List, ℕ, length, length-append, arith, rules, ap, sym, refl, ◌∙◌, replicate}
+use Rattle.std.proofs.Common.{◌≡◌, ◌-◌, ◌++◌, [], length, arith, rules, ap, sym, refl, ◌∙◌, replicate}
 use Rattle.std.proofs.lemmas.Grind.{common_steps}
 use Rattle.std.proofs.lemmas.List.{append-nil}
 use Rattle.qh_block.specs.steps.OutsideSets.{listed}
@@ -31,5 +31,5 @@ returns-in_ok-resize c =
 pub returns-else-len-places-clause-sets : goal.returns-else-len-places-clause-sets
 returns-else-len-places-clause-sets c =
     let none : 0 ≡ c.args.places - length c.args.self.now.sets =
-        omega (arith, c.self.inside.ends.ok, places_are c.self.invariant c.self.view_is) in
+    omega (arith, c.self.inside.ends.ok, places_are c.self.invariant c.self.view_is) in
     rw (← none) (sym (append-nil c.args.self.now.sets))
