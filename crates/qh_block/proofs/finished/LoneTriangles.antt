@@ -25,10 +25,6 @@ use Rattle.qh_block.proofs.flats.Polygons.{corners_differ}
 use Rattle.qh_block.proofs.finished.Corners.{in_corners}
 use Rattle.qh_block.proofs.finished.NewFaces.{face_of_corners}
 
--- three ids turned by one are the same ids
-turned : (i j k x : ℕ) → In x (i ∷ j ∷ k ∷ []) ↔ In x (j ∷ k ∷ i ∷ [])
-turned i j k x = (λ m. grind (arith, m), λ m. grind (arith, m))
-
 -- three ids that are not in line, from the least on, are their polygon
 least_first : (at : ℕ → Vector) (i j k : ℕ) → ¬ (AreInLine (at i) (at j) (at k))
     → IsPolygon at (Extreme at (Members (i ∷ j ∷ k ∷ []))) (cross (at i) (at j) (at k)) (from_least i j k)
@@ -51,9 +47,11 @@ least_first at i j k area = by (nat_lt i j && nat_lt i k) refl (nat_lt j k) refl
     by true p e q = let lower : (i < j) × (i < k) = grind (arith, nat_tests) in
         left_triangle n at _ i j k (λ x. (λ m. m, λ m. m)) lower.0 lower.1 d.1 first
     by false p true q = let lower : (j < k) × (j < i) = grind (arith, nat_tests, d) in
-        left_triangle n at _ j k i (turned i j k) lower.0 lower.1 (λ q. d.2 (sym q)) (turn _ _ _ first)
+        left_triangle n at _ j k i (λ x. (λ m. grind (arith, m), λ m. grind (arith, m)))
+        lower.0 lower.1 (λ q. d.2 (sym q)) (turn _ _ _ first)
     by false p false q = let lower : (k < i) × (k < j) = grind (arith, nat_tests, d) in
-        left_triangle n at _ k i j (λ x. let t = turned k i j x in (t.1, t.0)) lower.0 lower.1 d.0 (turn _ _ _ (turn _ _ _ first))
+        left_triangle n at _ k i j (λ x. (λ m. grind (arith, m), λ m. grind (arith, m)))
+        lower.0 lower.1 d.0 (turn _ _ _ (turn _ _ _ first))
 
 -- a list of one facet
 alone : (vs : List FacetNo) (f : ℕ) → length vs ≡ 1 → is_listed vs f ≡ true → vs ≡ record { 0 = f } ∷ []

@@ -41,7 +41,8 @@ module _ (pts : List Vector) (ids : List ℕ) (fs : List StoredFacet) (set : IsI
         in_flat_map (λ q. q) qs r.0 i r.1 ((r.2.members i).1 (x, level_itself (place pts) (surface_of fs) c.0 i c.2)),
   )
 
-  pub extremes : (v : List ℕ) → IsStrictlyIncreasing v → ((i : ℕ) → In i v ↔ In i (all_members qs)) → AreExtremes (place pts) (Members ids) v
+  pub extremes : (v : List ℕ) → IsStrictlyIncreasing v → ((i : ℕ) → In i v ↔ In i (all_members qs))
+      → AreExtremes (place pts) (Members ids) v
   extremes v rising members = record {
     rising = rising;
     members = λ i. (λ m. (face_members i).0 ((members i).0 m), λ x. (members i).1 ((face_members i).1 x));

@@ -139,7 +139,8 @@ module _ (pts : List Vector) (ids : List ℕ) (i j e g : ℕ) (two : AreFirstTwo
 
       neither : ¬ (l ≡ e) → ¬ (l ≡ g) → ⊥
       neither n k = ⊎_elim (λ c. x.1 (combination_within at (Members ends) (Others (Members ids) l) (at l) c (others n k)))
-          (λ s. not_between s.w e l g first.member x.0 last.member (least l x.0) (most l x.0) (s.past e (inl refl)) (s.past g (inr (inl refl))))
+          (λ s. not_between s.w e l g first.member x.0 last.member (least l x.0) (most l x.0)
+          (s.past e (inl refl)) (s.past g (inr (inl refl))))
           (combination_or_separator at ends (at l))
 
   -- the two ends are the extreme ids

@@ -59,7 +59,8 @@ module _ (links : List ℕ) (y v : ℕ) where
       → IsChain links p (x ∷ xs) → IsChain (set links y v) v ys → IsChain (set links y v) p ((x ∷ xs) ++ ys)
   chain_joined p x [] ys o e c d = grind (arith, common_steps, e, c, d)
   chain_joined p x (z ∷ xs) ys o e c d =
-      let l = last_in z xs y e in let r = chain_joined (get_or links x 0) z xs ys in grind (arith, common_steps, nat_tests, o, e, c, d, l, r)
+      let l = last_in z xs y e in let r = chain_joined (get_or links x 0) z xs ys in
+      grind (arith, common_steps, nat_tests, o, e, c, d, l, r)
 
 -- ---- sets
 -- the set of the ends at a place

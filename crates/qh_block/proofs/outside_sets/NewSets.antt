@@ -46,7 +46,8 @@ no_positions = []
 pub room_sum : (weight : List ℕ → ℕ) → weight [] ≡ 0 → (xss : List (List ℕ)) (n : ℕ)
     → sum_by weight (xss ++ replicate n []) ≡ sum_by weight xss
 room_sum weight e xss n =
-    let none = rw e at (sum_by-replicate {X = List ℕ} weight n no_positions) in omega (arith, sum_by-append weight xss (replicate n no_positions), none)
+    let none = rw e at (sum_by-replicate {X = List ℕ} weight n no_positions) in
+    omega (arith, sum_by-append weight xss (replicate n no_positions), none)
 
 -- empty sets behind the others
 more_sets : {links : List ℕ} {es : List Ends} {xss : List (List ℕ)} (n : ℕ) → length links ≤ none → AreSets links es xss

@@ -69,7 +69,8 @@ module _ {ids near : List ℕ} (p : IsPermutation ids near) where
     where
       apart : (xs : List ℕ) → Once xs → IsDistinct eqb xs
       apart [] h = tt
-      apart (x ∷ xs) h = IsDistinct-cons eqb x xs (every_of (λ y. eqb x y ≡ false) xs (λ y m. grind (arith, nat_tests, h, m))) (apart xs h.1)
+      apart (x ∷ xs) h = IsDistinct-cons eqb x xs
+          (every_of (λ y. eqb x y ≡ false) xs (λ y m. grind (arith, nat_tests, h, m))) (apart xs h.1)
 
       once : (xs : List ℕ) → IsDistinct eqb xs → Once xs
       once [] d = tt

@@ -56,8 +56,8 @@ module _ {pts : List Vector} {fs : List StoredFacet} {ps : List PlaneValue} {v :
     grown = k.grown;
     planes = k.planes;
     positions = k.positions;
-    places = let n = same in let h = k.places in omega arith;
-    range = λ j h. let r = within_rest (length v.sets) rest f range j h in let n = same in omega arith;
+    places = let n = length-set v.sets f.0 others in let h = k.places in omega arith;
+    range = λ j h. let r = within_rest (length v.sets) rest f range j h in let n = length-set v.sets f.0 others in omega arith;
     outside = λ g q i. k.outside g q (was g q i);
     none = k.none;
     waits = λ g q i. waits g q (was g q i);
@@ -69,9 +69,6 @@ module _ {pts : List Vector} {fs : List StoredFacet} {ps : List PlaneValue} {v :
     where
       others : List ℕ
       others = drop 1 (set_of v f.0)
-
-      same : length (slice_set v.sets f.0 others) ≡ length v.sets
-      same = length-set v.sets f.0 others
 
       first : In a (set_of v f.0)
       first = subst (In a) (sym e) (inl refl)

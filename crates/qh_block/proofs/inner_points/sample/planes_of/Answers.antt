@@ -15,7 +15,8 @@ loop-facet-init c =
 
 pub plane_of-requires-clause-live : goal.plane_of-requires-clause-live
 plane_of-requires-clause-live c =
-    next_live c.args.mesh.now c.loop-facet.facet-iterator c.next.new.self c.in-Some.facet c.loop-facet.invariant.live c.in-Some.ensures.steps
+    let l = c.loop-facet in let f = c.in-Some in
+    next_live c.args.mesh.now l.facet-iterator c.next.new.self f.facet l.invariant.live f.ensures.steps
 
 pub plane_of-requires-clause-corners : goal.plane_of-requires-clause-corners
 plane_of-requires-clause-corners c f l = (c.requires.corners.i_in f l, c.requires.corners.j_in f l, c.requires.corners.k_in f l)
