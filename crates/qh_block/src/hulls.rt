@@ -1,10 +1,12 @@
 //! The extreme ids and the hull of a set, in every dimension.
-ghost use Rattle.std.specs.Prelude.{◌<◌, IfOk, length};
+ghost use Rattle.std.specs.Prelude.{◌<◌, IfOk, IfSome, length};
+ghost use Rattle.std.specs.List.Sorted.{IsStrictlyIncreasing};
 ghost use Rattle.qh_model.specs.contract.IdSets.{IsIdSet};
 ghost use Rattle.qh_model.specs.headline.Hull.{AreExtremes, IsBody};
 ghost use Rattle.qh_model.specs.headline.Predicates.{place};
 ghost use Rattle.qh_model.specs.headline.Sets.{Members};
 ghost use Rattle.qh_model.specs.contract.IdSets.{AreIndices};
+ghost use Rattle.qh_model.specs.laws.HullLaws.{HasExtremes};
 ghost use Rattle.qh_block.specs.steps.IdSets.{AreExtremesOf, IsHullOf};
 
 use crate::bodies::{flat_body, polygon_of};
@@ -43,6 +45,39 @@ fn hull_of_all(alloc: Global, set: IdSet) -> Result<Body, Memory>
             solid_body(alloc, set.pts, &mesh)
         }
     }
+}
+
+/// The ids of a large set but some that one look finds inside, strictly between others; none where no
+/// look pays: the set is small, or few points are inside, or the look itself finds few.
+///
+/// `ids` has at least one id, each the index of one of the points. What is left has all extreme ids, so
+/// its hull is that of the set, and rises where `ids` does.
+///
+/// # Errors
+///
+/// `Memory` where memory was refused.
+pub fn outer(alloc: Global, pts: &[Point], ids: &[Id]) -> Result<Option<Vec<Id>>, Memory>
+    requires some { 0 < length ids.now }
+    requires indices { AreIndices pts.now ids.now }
+    ensures some { IfOk result (λ found. IfSome found (λ v. 0 < length v.items)) }
+    ensures rising { IfOk result (λ found. IfSome found (λ v. IsStrictlyIncreasing ids.now → IsStrictlyIncreasing v.items)) }
+    ensures extremes { IfOk result (λ found. IfSome found (λ v. HasExtremes pts.now ids.now v.items)) }
+{
+    outer_ids(alloc, IdSet { pts, ids })
+}
+
+/// The extreme ids of a set, as [`extremes`] gives them, by a run over all of its ids: for a set that
+/// [`outer`] was asked of before, or that is a part of such a one.
+///
+/// # Errors
+///
+/// `Memory` where memory was refused.
+pub fn extremes_unlooked(alloc: Global, pts: &[Point], ids: &[Id]) -> Result<Vec<Id>, Memory>
+    requires some { 0 < length ids.now }
+    requires indices { AreIndices pts.now ids.now }
+    ensures { IfOk result (λ v. IsIdSet pts.now ids.now → AreExtremes (place pts.now) (Members ids.now) v.items) }
+{
+    extremes_of_all(alloc, IdSet { pts, ids })
 }
 
 /// The extreme ids of a set, rising.

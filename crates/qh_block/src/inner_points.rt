@@ -22,7 +22,7 @@ use std::alloc::{AllocError, Global};
 const LARGE: usize = 50_000;
 
 /// About so many ids are the sample of a set.
-const SAMPLE: usize = 1024;
+const SAMPLE: usize = 2048;
 
 /// Whether at least half of the ids lie in the columns, so that it pays to look at all.
 fn hold_most(sample: IdSet, columns: &Columns) -> bool {

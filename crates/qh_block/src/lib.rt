@@ -30,5 +30,5 @@ mod solids;
 mod tests;
 mod walk;
 
-pub use hulls::{extremes, hull};
+pub use hulls::{extremes, extremes_unlooked, hull, outer};
 pub use quickhull::surface;

@@ -157,6 +157,14 @@ impl Mesh {
         })
     }
 
+    /// Asks for room for so many more facets, so that the mesh need not move while it grows. Where it is
+    /// refused, the mesh grows step by step.
+    pub fn ask_for_room(&mut self, facets: usize)
+        ensures { self.new ≡ self.old }
+    {
+        let _ = self.facets.reserve(facets);
+    }
+
     /// The number of places, free ones with them: facet numbers are below it.
     pub fn places(&self) -> usize
         ensures { result ≡ length self.now }

@@ -10,7 +10,7 @@ ghost use Rattle.qh_model.specs.contract.IdSets.{AreIndices};
 
 use crate::reduction::{GivesUp, Reduction};
 use crate::unions::union;
-use qh_block::extremes;
+use qh_block::extremes_unlooked;
 use qh_board::Spans;
 use qh_model::{Cut, Id, Point};
 use std::alloc::Global;
@@ -61,7 +61,7 @@ impl<'a> Job<'a> {
     {
         if block.len() > SAMPLE {
             let (sample, _) = block.split_at(SAMPLE);
-            let found = extremes(alloc, self.pts, sample)?;
+            let found = extremes_unlooked(alloc, self.pts, sample)?;
             if !tree_pays(found.len(), SAMPLE) {
                 return Err(GivesUp);
             }
@@ -77,7 +77,7 @@ impl<'a> Job<'a> {
         requires set { IsIdSet self.now.pts.now part.now }
         ensures { IfOk result (λ found. AreExtremes (place self.now.pts.now) (Members part.now) found.ids.items) }
     {
-        let ids = extremes(alloc, self.pts, part)?;
+        let ids = extremes_unlooked(alloc, self.pts, part)?;
         if !tree_pays(ids.len(), among) {
             return Err(GivesUp);
         }

@@ -6,7 +6,7 @@
 ghost use Rattle.std.specs.Prelude.{◌≡◌, ◌<◌, IfOk, IfSome};
 ghost use Rattle.qh_model.specs.contract.Cut.{positions};
 
-use qh_model::Cut;
+use qh_model::{Cut, POINT_LIMIT};
 use std::alloc::{AllocError, Global};
 
 /// A tree has at most so many leaves, or [`LEAVES_EACH`] a worker where that is more.
@@ -17,6 +17,9 @@ const LEAVES_EACH: u32 = 2;
 
 /// A tree has a leaf for so many ids at most: in a large leaf one look finds most of the points inside.
 const LEAF: u32 = 65536;
+
+/// The ids that a look at all of them left have a block for so many.
+const OUTER_BLOCK: u32 = 32768;
 
 /// The bounds of a cut whose blocks are so many neighbouring blocks of another, the last perhaps fewer.
 fn wider_bounds(alloc: Global, cut: &Cut, together: u32) -> Result<Vec<u32>, AllocError>
@@ -50,4 +53,16 @@ pub(crate) fn leaves_of(alloc: Global, cut: &Cut, workers: u32) -> Option<Cut>
     let leaves = most.min(ids / LEAF).max(1);
     let bounds = wider_bounds(alloc, cut, blocks.div_ceil(leaves)).ok()?;
     Cut::from_bounds(bounds).ok()
+}
+
+/// A cut of as many ids as a look left; none where there are none or too many, or where memory was
+/// refused.
+pub(crate) fn outer_cut(alloc: Global, count: usize) -> Option<Cut>
+    ensures { IfSome result (λ cut. positions cut ≡ count) }
+{
+    let count = u32::try_from(count).ok()?;
+    if count < 1 || count > POINT_LIMIT {
+        return None;
+    }
+    Cut::even(alloc, count, OUTER_BLOCK).ok()
 }

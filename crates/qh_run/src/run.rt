@@ -2,6 +2,7 @@
 ghost use Rattle.std.specs.Prelude.{◌≡◌, ◌↔◌, ◌<◌, ◌≤◌, IfOk, IfSome, IsErrOf, length};
 ghost use Rattle.qh_model.specs.contract.BoardMachine.{InSpan};
 ghost use Rattle.qh_model.specs.contract.Cut.{positions};
+ghost use Rattle.qh_model.specs.contract.IdSets.{AreIndices, IsIdSet};
 ghost use Rattle.qh_model.specs.headline.DistinctIds.{AreDistinctIds};
 ghost use Rattle.qh_model.specs.headline.Hull.{IsBody, IsHull};
 ghost use Rattle.qh_model.specs.headline.Predicates.{place};
@@ -10,9 +11,10 @@ ghost use Rattle.qh_model.specs.declared.limits.TheConstants.{POINT_LIMIT, WORKE
 
 use crate::gate::Gate;
 use crate::job::Job;
-use crate::leaves::leaves_of;
+use crate::leaves::{leaves_of, outer_cut};
 use crate::passes::run_passes;
 use crate::reduction::Reduction;
+use qh_block::outer;
 use qh_board::{Board, BoardError};
 use qh_hull::hull_of_body;
 use qh_model::{Body, Cut, Hull, Id, Memory, Point, WORKER_LIMIT};
@@ -55,8 +57,8 @@ fn reduced<S: Reduction, R: Threads + Sync, G: Gate>(
     Ok(board.close(lefts).into_root())
 }
 
-/// The hull of the ids: that of the root's list, or of all ids where there is no root. There are no more
-/// passes than leaves.
+/// The hull of a set of ids: that of the root's list, or of all ids where there is no root. There are no
+/// more passes than leaves.
 fn body_by_leaves<R: Threads + Sync, G: Gate>(
     rt: &R,
     alloc: Global,
@@ -67,7 +69,8 @@ fn body_by_leaves<R: Threads + Sync, G: Gate>(
     gate: &G,
 ) -> Result<Body, Memory>
     requires some_ids { 0 < length ids.now }
-    requires distinct { AreDistinctIds pts.now ids.now }
+    requires indices { AreIndices pts.now ids.now }
+    requires set { IsIdSet pts.now ids.now }
     requires cut { positions cut.now ≡ length ids.now }
     ensures { IfOk result (λ b. IsBody (place pts.now) (Members ids.now) b) }
 {
@@ -79,7 +82,49 @@ fn body_by_leaves<R: Threads + Sync, G: Gate>(
     }
 }
 
-/// The hull of the ids, by workers that share the leaves of a tree over the blocks.
+/// The hull of a set of ids, by workers that share the leaves of a tree over the blocks.
+fn body_by_tree<R: Threads + Sync, G: Gate>(
+    rt: &R,
+    alloc: Global,
+    pts: &[Point],
+    ids: &[Id],
+    cut: &Cut,
+    workers: u32,
+    gate: &G,
+) -> Result<Body, Memory>
+    requires some_ids { 0 < length ids.now }
+    requires indices { AreIndices pts.now ids.now }
+    requires set { IsIdSet pts.now ids.now }
+    requires cut { positions cut.now ≡ length ids.now }
+    ensures { IfOk result (λ b. IsBody (place pts.now) (Members ids.now) b) }
+{
+    match leaves_of(alloc, cut, workers) {
+        Some(leaves) => body_by_leaves(rt, alloc, pts, ids, &leaves, workers, gate),
+        None => body_by_leaves(rt, alloc, pts, ids, cut, workers, gate),
+    }
+}
+
+/// The hull of the ids that one look left, by a tree over a cut of their own.
+fn body_of_outer<R: Threads + Sync, G: Gate>(
+    rt: &R,
+    alloc: Global,
+    pts: &[Point],
+    outer: &[Id],
+    workers: u32,
+    gate: &G,
+) -> Result<Body, Memory>
+    requires some_ids { 0 < length outer.now }
+    requires indices { AreIndices pts.now outer.now }
+    requires set { IsIdSet pts.now outer.now }
+    ensures { IfOk result (λ b. IsBody (place pts.now) (Members outer.now) b) }
+{
+    match outer_cut(alloc, outer.len()) {
+        Some(cut) => body_by_tree(rt, alloc, pts, outer, &cut, workers, gate),
+        None => gate.finish(alloc, pts, outer),
+    }
+}
+
+/// The hull of the ids: of those that one look at all of them leaves, where it finds most inside.
 fn body<R: Threads + Sync, G: Gate>(
     rt: &R,
     alloc: Global,
@@ -90,13 +135,14 @@ fn body<R: Threads + Sync, G: Gate>(
     gate: &G,
 ) -> Result<Body, Memory>
     requires some_ids { 0 < length ids.now }
-    requires distinct { AreDistinctIds pts.now ids.now }
+    requires indices { AreIndices pts.now ids.now }
+    requires set { IsIdSet pts.now ids.now }
     requires cut { positions cut.now ≡ length ids.now }
     ensures { IfOk result (λ b. IsBody (place pts.now) (Members ids.now) b) }
 {
-    match leaves_of(alloc, cut, workers) {
-        Some(leaves) => body_by_leaves(rt, alloc, pts, ids, &leaves, workers, gate),
-        None => body_by_leaves(rt, alloc, pts, ids, cut, workers, gate),
+    match outer(alloc, pts, ids)? {
+        Some(outer) => body_of_outer(rt, alloc, pts, &outer, workers, gate),
+        None => body_by_tree(rt, alloc, pts, ids, cut, workers, gate),
     }
 }
 
@@ -105,11 +151,13 @@ fn body<R: Threads + Sync, G: Gate>(
 /// `ids` are its distinct ids, rising, as `qh_plane::distinct` gives them, and `cut` a cut of as many
 /// positions; the list has at most `POINT_LIMIT` points. These are the caller's conditions.
 ///
-/// The workers share the blocks, and the gate is told of each; where there are more than 8, and more
-/// than two a worker, neighbours are put together first, so that there is a block for each 65,536 ids at
-/// most. Then the calling thread hands to the gate's `finish`, once, the extreme ids that came out of all
-/// blocks, or all ids where none did: a worker gave up, or the board or a worker could not be made. The
-/// answer does not depend on the cut, nor on the number of workers or the order of their steps.
+/// The calling thread looks at a large set first, and where most of its points are found inside, the ids
+/// that are left are cut anew. The workers share the blocks, and the gate is told of each; where there
+/// are more than 8, and more than two a worker, neighbours are put together first, so that there is a
+/// block for each 65,536 ids at most. Then the calling thread hands to the gate's `finish`, once, the
+/// extreme ids that came out of all blocks, or all ids that were left where none did: a worker gave up,
+/// or the board or a worker could not be made. The answer does not depend on the cut, nor on the number
+/// of workers or the order of their steps.
 ///
 /// # Errors
 ///

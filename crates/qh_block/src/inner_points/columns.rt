@@ -14,7 +14,7 @@ use std::alloc::{AllocError, Global};
 use std::cmp::Ordering;
 
 /// The grid has 2 to this power columns along each axis.
-const SIDE_BITS: u32 = 4;
+const SIDE_BITS: u32 = 5;
 
 /// How many columns lie along each axis.
 const SIDE: u32 = 1 << SIDE_BITS;
@@ -128,6 +128,10 @@ impl Heights {
             .wrapping_add(y.wrapping_mul(i64::from(far.y())));
         let offset = i64::try_from(plane.offset()).unwrap_or(0);
         let room = offset.wrapping_sub(reach).wrapping_sub(1);
+        let far_z = if z > 0 { self.high } else { self.low };
+        if z.wrapping_mul(far_z) <= room {
+            return self;
+        }
         let end = room.checked_div_euclid(z.wrapping_abs()).unwrap_or(0);
         match z.cmp(&0) {
             Ordering::Greater => Heights {

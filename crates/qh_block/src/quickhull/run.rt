@@ -1,5 +1,5 @@
 //! A run of Quickhull: rounds in each of which one point becomes a corner.
-ghost use Rattle.std.specs.Prelude.{◌≡◌, ◌≤◌, ◌<◌, ℕ, length, OnOk, IfOk};
+ghost use Rattle.std.specs.Prelude.{◌≡◌, ◌≤◌, ◌<◌, ℕ, [], length, OnOk, IfOk};
 ghost use Rattle.qh_block.specs.steps.OutsideSets.{listed};
 ghost use Rattle.qh_block.specs.steps.Simplexes.{IsSimplexIn};
 ghost use Rattle.qh_block.specs.steps.Cones.{IsFan};
@@ -16,6 +16,12 @@ use qh_mesh::{FacetNo, Mesh};
 use qh_model::{Id, Memory, Point};
 use qh_pred::Plane;
 use std::alloc::Global;
+
+/// From so many points on, a run asks for room for all its facets at once.
+const LARGE: usize = 262_144;
+
+/// A mesh over points has at most two facets for each, and one more is room to spare.
+const PLACES_EACH: usize = 3;
 
 /// What a run keeps from round to round.
 #[derive(Drop)]
@@ -36,6 +42,24 @@ pub struct Run {
     pending: Vec<FacetNo>,
     /// How many facets were made so far: what the run costs.
     pub made: usize,
+}
+
+/// For how many places a run over so many points asks at its start.
+fn places_asked(points: usize) -> usize {
+    if points < LARGE {
+        0
+    } else {
+        points.saturating_mul(PLACES_EACH)
+    }
+}
+
+/// No planes yet, with room for so many, where it is not refused.
+fn room_for(alloc: Global, places: usize) -> Vec<Plane>
+    ensures { result.items ≡ [] }
+{
+    let mut planes = Vec::new(alloc);
+    let _ = planes.reserve(places);
+    planes
 }
 
 /// Takes the memory that a round needs after its mesh has changed: the cone over the horizon of so
@@ -73,11 +97,13 @@ impl Run {
         let Ok(positions) = u32::try_from(points.len()) else {
             return Err(Memory);
         };
-        let mesh = Mesh::simplex(alloc, &points, first.i, first.j, first.k, first.l)?;
+        let mut mesh = Mesh::simplex(alloc, &points, first.i, first.j, first.k, first.l)?;
+        let places = places_asked(points.len());
+        mesh.ask_for_room(places);
         let mut run = Run {
             mesh,
             points,
-            planes: Vec::new(alloc),
+            planes: room_for(alloc, places),
             sets: OutsideSets::new(alloc, positions)?,
             walk: Walk::new(alloc),
             ring: ConeRing::new(alloc),

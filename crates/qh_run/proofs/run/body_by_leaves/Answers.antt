@@ -2,17 +2,15 @@ use Rattle.std.proofs.Common.{subst, sym}
 use Rattle.std.proofs.lemmas.Result.{IfOk-weaker}
 use Rattle.qh_model.specs.contract.BoardMachine.{InSpan}
 use Rattle.qh_model.specs.contract.Cut.{block_count}
-use Rattle.qh_model.proofs.DistinctIds.{ids_within}
 use Rattle.qh_model.proofs.hulls.RightValues.{hull_of_root, right_within}
 use Rattle.qh_model.specs.contract.IdSets.{AreIndices}
-use Rattle.qh_plane.proofs.DistinctLists.{id_set}
 use Rattle.qh_model.proofs.hulls.ExtremeParts.{part_indices, part_set}
 use Rattle.qh_run.proofs.run.body_by_leaves.Goals as goal
 
 pub invariant_of-job : goal.invariant_of-job
 invariant_of-job g c =
-    let set = id_set c.args.pts.now c.args.ids.now c.requires.distinct in
-    record { indices = ids_within c.args.pts.now c.args.ids.now c.requires.distinct; rising = set.rising; distinct = set.distinct; whole = c.requires.cut }
+    let set = c.requires.set in
+    record { indices = c.requires.indices; rising = set.rising; distinct = set.distinct; whole = c.requires.cut }
 
 pub finish-requires-clause-indices : goal.finish-requires-clause-indices
 finish-requires-clause-indices g c =
@@ -21,7 +19,7 @@ finish-requires-clause-indices g c =
     let cut = c.args.cut.now in
     let xs = c.in-Ok-Some.root.ids.items in
     subst (AreIndices pts) (sym c.deref.ensures.value)
-    (part_indices pts ids xs (ids_within pts ids c.requires.distinct) (right_within pts ids cut (InSpan (block_count cut) 1) xs (rw (c.in-Ok-Some.field-0-is) at c.in-Ok-Some.ensures)))
+    (part_indices pts ids xs c.requires.indices (right_within pts ids cut (InSpan (block_count cut) 1) xs (rw (c.in-Ok-Some.field-0-is) at c.in-Ok-Some.ensures)))
 
 pub returns-in-Ok-Some : goal.returns-in-Ok-Some
 returns-in-Ok-Some g c =
@@ -29,7 +27,7 @@ returns-in-Ok-Some g c =
     let ids = c.args.ids.now in
     let cut = c.args.cut.now in
     let xs = c.in-Ok-Some.root.ids.items in
-    let set = id_set pts ids c.requires.distinct in
+    let set = c.requires.set in
     let right = rw (c.in-Ok-Some.field-0-is) at c.in-Ok-Some.ensures in
     let within = right_within pts ids cut (InSpan (block_count cut) 1) xs right in
     let found = rw (c.deref.ensures.value) at c.finish.ensures in

@@ -23,7 +23,8 @@ first c = record {
 pub settle-requires-clause-remade : goal.settle-requires-clause-remade
 settle-requires-clause-remade c =
     let count = c.in-Ok.ensures.1 ∙ c.len.ensures ∙ c.args.points.ok.0 in
-    subst (λ (ps : List PlaneValue). IsRemade c.args.points.items c.in_ok-mesh.mesh ps c.in_ok-new.field-0 c.new-5.result.items four_facets) (sym c.new.ensures.items)
-    (subst (λ (ns : List FacetNo). IsRemade c.args.points.items c.in_ok-mesh.mesh [] c.in_ok-new.field-0 ns four_facets) (sym c.new-5.ensures.items)
-    (first_remade c.args.points.items c.in_ok-mesh.mesh c.in_ok-new.field-0 c.args.first.i c.args.first.j c.args.first.k c.args.first.l (first c)
-    (c.in_ok-new.ensures.positions ∙ count) (c.in_ok-new.ensures.orphans ∙ ap (range_with_len 0) count) c.in_ok-new.ensures.sets))
+    let pts = c.args.points.items in let fs = c.in_ok-mesh.mesh in let v = c.in_ok-new.field-0 in let s = c.args.first in
+    rw c.ask_for_room.ensures (subst (λ (ps : List PlaneValue). IsRemade pts fs ps v c.new-4.result.items four_facets) (sym c.room_for.ensures)
+    (subst (λ (ns : List FacetNo). IsRemade pts fs [] v ns four_facets) (sym c.new-4.ensures.items)
+    (first_remade pts fs v s.i s.j s.k s.l (first c)
+    (c.in_ok-new.ensures.positions ∙ count) (c.in_ok-new.ensures.orphans ∙ ap (range_with_len 0) count) c.in_ok-new.ensures.sets)))
