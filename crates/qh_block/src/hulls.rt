@@ -1,12 +1,12 @@
 //! The extreme ids and the hull of a set, in every dimension.
-ghost use Rattle.std.specs.Prelude.{◌<◌, IfOk, IfSome, length};
+ghost use Rattle.std.specs.Prelude.{◌<◌, ℕ, IfOk, IfSome, length};
 ghost use Rattle.std.specs.List.Sorted.{IsStrictlyIncreasing};
 ghost use Rattle.qh_model.specs.contract.IdSets.{IsIdSet};
 ghost use Rattle.qh_model.specs.headline.Hull.{AreExtremes, IsBody};
 ghost use Rattle.qh_model.specs.headline.Predicates.{place};
-ghost use Rattle.qh_model.specs.headline.Sets.{Members};
+ghost use Rattle.qh_model.specs.headline.Extreme.{Extreme};
+ghost use Rattle.qh_model.specs.headline.Sets.{In, Members};
 ghost use Rattle.qh_model.specs.contract.IdSets.{AreIndices};
-ghost use Rattle.qh_model.specs.laws.HullLaws.{HasExtremes};
 ghost use Rattle.qh_block.specs.steps.IdSets.{AreExtremesOf, IsHullOf};
 
 use crate::bodies::{flat_body, polygon_of};
@@ -61,7 +61,8 @@ pub fn outer(alloc: Global, pts: &[Point], ids: &[Id]) -> Result<Option<Vec<Id>>
     requires indices { AreIndices pts.now ids.now }
     ensures some { IfOk result (λ found. IfSome found (λ v. 0 < length v.items)) }
     ensures rising { IfOk result (λ found. IfSome found (λ v. IsStrictlyIncreasing ids.now → IsStrictlyIncreasing v.items)) }
-    ensures extremes { IfOk result (λ found. IfSome found (λ v. HasExtremes pts.now ids.now v.items)) }
+    ensures within { IfOk result (λ found. IfSome found (λ v. (i : ℕ) → In i v.items → In i ids.now)) }
+    ensures extremes { IfOk result (λ found. IfSome found (λ v. (i : ℕ) → Extreme (place pts.now) (Members ids.now) i → In i v.items)) }
 {
     outer_ids(alloc, IdSet { pts, ids })
 }
