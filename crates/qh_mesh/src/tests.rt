@@ -173,6 +173,7 @@ fn replaces(rt: HostRuntime) -> Result<(), Fail> {
     let alloc = rt.alloc();
     let pts = seven();
     let mut mesh = first_simplex(alloc, &pts)?;
+    mesh.ask_for_room(16);
     let first = live(alloc, &mesh)?;
     assert_eq!(rt;
         triangles(alloc, &mesh, first.as_slice())?.as_slice(),

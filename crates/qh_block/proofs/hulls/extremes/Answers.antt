@@ -1,3 +1,4 @@
+-- The extreme ids of what a look leaves are those of the set.
 use Rattle.std.proofs.Common.{sym, subst}
 use Rattle.std.proofs.lemmas.Result.{IfOk-weaker}
 use Rattle.qh_model.specs.contract.IdSets.{AreIndices, IsIdSet}

@@ -1,3 +1,4 @@
+-- The extreme ids of a solid are those of its finished mesh.
 use Rattle.std.proofs.Common.{List, ℕ}
 use Rattle.std.proofs.lemmas.Result.{IfOk-weaker}
 use Rattle.qh_model.specs.contract.IdSets.{IsIdSet}

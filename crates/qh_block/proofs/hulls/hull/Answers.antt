@@ -1,3 +1,4 @@
+-- The hull of what a look leaves is that of the set.
 use Rattle.std.proofs.Common.{sym, subst}
 use Rattle.std.proofs.lemmas.Result.{IfOk-weaker}
 use Rattle.qh_model.specs.contract.IdSets.{AreIndices, IsIdSet}

@@ -1,3 +1,4 @@
+-- The hull of a point, and that of a solid from its finished mesh.
 use Rattle.std.proofs.Common.{List, ℕ, subst}
 use Rattle.std.proofs.lemmas.Result.{IfOk-weaker}
 use Rattle.qh_model.specs.contract.IdSets.{IsIdSet}

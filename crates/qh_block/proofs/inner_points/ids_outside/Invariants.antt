@@ -1,3 +1,4 @@
+-- The ids kept so far and those to come have all extreme ids.
 use Rattle.std.proofs.Common.{◌++◌, drop}
 use Rattle.qh_block.specs.steps.InnerPoints.{IsOuterPart}
 use Rattle.qh_block.proofs.inner_points.ids_outside.Given as goal

@@ -1,3 +1,4 @@
+-- One facet of the cone more is written.
 use Rattle.std.proofs.Common.{◌+◌, ◌++◌, ap, drop, slice_index_or}
 use Rattle.std.proofs.lemmas.List.{drop_more}
 use Rattle.qh_model.specs.contract.StoredSurface.{StoredFacet, no_facet}

@@ -1,3 +1,4 @@
+-- The facets of the cone before j are written.
 use Rattle.std.proofs.Common.{List, drop, ◌++◌}
 use Rattle.qh_mesh.specs.declared.facets.FacetNo.{FacetNo}
 use Rattle.qh_mesh.specs.steps.Places.{IsPool}

@@ -1,3 +1,4 @@
+-- No place so far is live.
 use Rattle.std.proofs.Common.{◌≡◌}
 use Rattle.qh_mesh.specs.contract.LiveNumbers.{live_after}
 use Rattle.qh_mesh.proofs.live.first_live.Given as goal

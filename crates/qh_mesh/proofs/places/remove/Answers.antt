@@ -1,3 +1,4 @@
+-- One facet more is gone, and its place is free.
 use Rattle.std.proofs.Common.{◌≡◌, ℕ, ◌<◌, ◌∙◌, ◌∷◌, [], reverse, arith, ap}
 use Rattle.std.proofs.lemmas.List.{get_or_read, reverse-append}
 use Rattle.qh_model.specs.contract.StoredSurface.{facet_at, no_facet}

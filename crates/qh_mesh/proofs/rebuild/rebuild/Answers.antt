@@ -1,3 +1,4 @@
+-- What the steps before leave is what the last ones need, and together they are a replacement.
 use Rattle.std.proofs.Common.{arith}
 use Rattle.std.proofs.lemmas.List.{with_items_is}
 use Rattle.qh_mesh.specs.steps.Rebuilt.{IsConed}

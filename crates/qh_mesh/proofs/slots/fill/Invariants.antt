@@ -1,3 +1,4 @@
+-- Each side so far is what its slots say.
 use Rattle.std.proofs.Common.{◌≡◌, ◌<◌, ℕ, Bool, length}
 use Rattle.qh_mesh.specs.steps.Horizons.{corner, side_at, noted}
 use Rattle.qh_mesh.proofs.slots.fill.Given as goal

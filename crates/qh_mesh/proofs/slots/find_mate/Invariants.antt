@@ -1,3 +1,4 @@
+-- How many sides so far meet at the corner.
 use Rattle.std.proofs.Common.{◌≡◌, ◌+◌, not}
 use Rattle.qh_mesh.specs.steps.Horizons.{rank}
 use Rattle.qh_mesh.proofs.slots.find_mate.Given as goal

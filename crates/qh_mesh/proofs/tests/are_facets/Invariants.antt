@@ -1,3 +1,4 @@
+-- The facets so far are live and listed once.
 use Rattle.std.proofs.Common.{◌≢◌, ℕ, ◌<◌}
 use Rattle.qh_mesh.specs.contract.Replacement.{IsLive, number}
 use Rattle.qh_mesh.proofs.tests.are_facets.Given as goal

@@ -1,3 +1,4 @@
+-- The planes of the facets so far are listed.
 use Rattle.qh_block.proofs.InnerPoints.{AreListed}
 use Rattle.qh_block.proofs.inner_points.sample.planes_of.Given as goal
 

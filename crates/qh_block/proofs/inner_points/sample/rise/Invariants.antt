@@ -1,3 +1,4 @@
+-- The ids so far rise.
 use Rattle.std.proofs.Common.{◌+◌, ◌≤◌, ◌<◌, length, get_or, ℕ}
 use Rattle.qh_block.proofs.inner_points.sample.rise.Given as goal
 

@@ -1,3 +1,4 @@
+-- Each facet on the way round the cone is one that was made.
 use Rattle.qh_mesh.specs.contract.Replacement.{number}
 use Rattle.qh_block.proofs.runs.ConeRings.{named_live, names_first, fan_next, named_by}
 use Rattle.qh_block.proofs.quickhull.cone_ring.first_facet.Goals as goal

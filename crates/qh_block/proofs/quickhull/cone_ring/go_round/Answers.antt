@@ -1,3 +1,4 @@
+-- One wedge of the ring more.
 use Rattle.std.proofs.Common.{sym, subst, List}
 use Rattle.qh_block.specs.steps.Cones.{IsWedge, AreWedges, apex_of}
 use Rattle.qh_block.specs.declared.quickhull.cone_ring.Wedge.{Wedge}

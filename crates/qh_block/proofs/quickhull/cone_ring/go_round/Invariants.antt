@@ -1,3 +1,4 @@
+-- The wedges so far are a ring, and the next facet was made.
 use Rattle.qh_block.specs.steps.Runs.{Names}
 use Rattle.qh_block.specs.steps.Cones.{AreWedges, apex_of}
 use Rattle.qh_block.proofs.quickhull.cone_ring.go_round.Given as goal

@@ -1,3 +1,4 @@
+-- The furthest id so far is one of the set.
 use Rattle.qh_model.specs.headline.Sets.{Members}
 use Rattle.qh_block.proofs.quickhull.far_simplex.furthest.Given as goal
 

@@ -1,3 +1,4 @@
+-- Ids sorted by their cells are the same ids.
 use Rattle.std.proofs.Common.{ℕ, List, map, sym, subst, IsPermutation}
 use Rattle.std.proofs.lemmas.List.Sorted.{IsPermutation-map}
 use Rattle.qh_block.specs.steps.NearOrder.{id_of}

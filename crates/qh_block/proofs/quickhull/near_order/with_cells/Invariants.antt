@@ -1,3 +1,4 @@
+-- The ids so far stand beside their cells.
 use Rattle.std.proofs.Common.{◌≡◌, map, take}
 use Rattle.qh_block.specs.steps.NearOrder.{id_of}
 use Rattle.qh_block.proofs.quickhull.near_order.with_cells.Given as goal

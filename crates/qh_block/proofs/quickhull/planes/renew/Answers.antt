@@ -1,3 +1,4 @@
+-- One plane more is written.
 use Rattle.std.proofs.Common.{◌<◌, length, arith, refl, ◌∙◌}
 use Rattle.std.proofs.lemmas.List.{length-set}
 use Rattle.qh_mesh.specs.contract.Replacement.{number}

@@ -1,3 +1,4 @@
+-- The planes of the facets so far are written.
 use Rattle.std.proofs.Common.{◌≡◌, length}
 use Rattle.qh_block.proofs.runs.RenewedPlanes.{AreRenewed}
 use Rattle.qh_block.proofs.quickhull.planes.renew.Given as goal

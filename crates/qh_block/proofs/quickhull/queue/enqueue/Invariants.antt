@@ -1,3 +1,4 @@
+-- The facets so far wait if they have an outside set.
 use Rattle.std.proofs.Common.{take}
 use Rattle.qh_block.proofs.runs.WaitingFacets.{AreQueued}
 use Rattle.qh_block.proofs.quickhull.queue.enqueue.Given as goal

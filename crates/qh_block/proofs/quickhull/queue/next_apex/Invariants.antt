@@ -1,3 +1,4 @@
+-- The facets passed over had no outside set.
 use Rattle.std.proofs.Common.{◌≡◌, List, length}
 use Rattle.qh_model.specs.headline.Vector.{Vector}
 use Rattle.qh_model.specs.contract.StoredSurface.{StoredFacet}

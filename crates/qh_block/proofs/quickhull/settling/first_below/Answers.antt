@@ -1,3 +1,4 @@
+-- One facet more that the point is not above.
 use Rattle.std.proofs.Common.{below_more, subst}
 use Rattle.std.specs.Prelude.{pos, ◌≤ℤ◌}
 use Rattle.std.proofs.lemmas.List.{get_or_read}

@@ -1,3 +1,4 @@
+-- The point is above none of the facets so far.
 use Rattle.std.proofs.Common.{ℕ, ◌<◌}
 use Rattle.std.specs.Prelude.{pos, ◌≤ℤ◌}
 use Rattle.qh_pred.specs.contract.Planes.{height}

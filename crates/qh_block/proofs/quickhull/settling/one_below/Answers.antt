@@ -1,3 +1,4 @@
+-- What the first facets, the ring and a look at all facets tell of a point.
 use Rattle.std.proofs.Common.{length, arith}
 use Rattle.qh_block.proofs.runs.NamedFacets.{names_take, within_take}
 use Rattle.qh_block.proofs.runs.ConeRings.{among_unseen}

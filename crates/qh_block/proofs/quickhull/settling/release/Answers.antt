@@ -1,3 +1,4 @@
+-- The points of one facet more are orphans.
 use Rattle.std.proofs.Common.{◌∙◌, ap, sym, subst, List, [], ℕ, length, get_or, refl, take_all}
 use Rattle.std.proofs.lemmas.List.{take_more, length-set}
 use Rattle.qh_mesh.specs.declared.facets.FacetNo.{FacetNo}

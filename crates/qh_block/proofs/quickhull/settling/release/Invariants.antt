@@ -1,3 +1,4 @@
+-- The points of the facets so far are orphans.
 use Rattle.std.proofs.Common.{◌≡◌, length, take}
 use Rattle.qh_block.specs.steps.OutsideSets.{listed}
 use Rattle.qh_block.specs.steps.Settling.{AreReleased}

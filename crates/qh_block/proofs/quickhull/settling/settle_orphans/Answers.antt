@@ -1,3 +1,4 @@
+-- One orphan more is settled.
 use Rattle.std.proofs.Common.{◌∙◌, sym, subst, arith}
 use Rattle.qh_block.specs.steps.Runs.{AreWithin}
 use Rattle.qh_block.proofs.runs.SettledOrphans.{one_settled}

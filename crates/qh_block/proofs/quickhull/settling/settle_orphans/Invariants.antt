@@ -1,3 +1,4 @@
+-- What is settled stays so, and each turn has one orphan fewer.
 use Rattle.std.proofs.Common.{◌≡◌, ◌<◌, ◌≤◌, ℕ, List, length}
 use Rattle.qh_model.specs.headline.Predicates.{place}
 use Rattle.qh_model.specs.contract.StoredSurface.{StoredFacet}

@@ -1,3 +1,4 @@
+-- The points of the ids so far.
 use Rattle.std.proofs.Common.{◌≡◌, map, take}
 use Rattle.qh_model.specs.headline.Predicates.{place}
 use Rattle.qh_block.proofs.quickhull.surfaces.points_of.Given as goal

@@ -1,3 +1,4 @@
+-- The plane of one live facet more, for a test.
 use Rattle.std.proofs.Common.{◌∙◌, length-set, arith}
 use Rattle.qh_block.proofs.LiveFacets.{all_live, next_live, rest_live, live_below}
 use Rattle.qh_block.proofs.quickhull.tests.planes_of.Goals as goal

@@ -1,3 +1,4 @@
+-- The facets to come are live, and there is room for their planes.
 use Rattle.std.proofs.Common.{◌≤◌, length}
 use Rattle.qh_block.proofs.LiveFacets.{AreAllLive}
 use Rattle.qh_block.proofs.quickhull.tests.planes_of.Given as goal

@@ -1,3 +1,4 @@
+-- One live facet more that a point sees, or does not.
 use Rattle.std.proofs.Common.{◌∙◌, List, refl, sym, subst, All}
 use Rattle.std.specs.Prelude.{pos, ◌<ℤ◌}
 use Rattle.std.proofs.lemmas.List.{get_or_read}

@@ -1,3 +1,4 @@
+-- The facets to come are live, and those that are listed see the point.
 use Rattle.std.proofs.Common.{All}
 use Rattle.std.specs.Prelude.{pos, ◌<ℤ◌}
 use Rattle.qh_mesh.specs.declared.facets.FacetNo.{FacetNo}

@@ -1,3 +1,4 @@
+-- The distinct ids of points are indices of them.
 use Rattle.std.proofs.Common.{ℕ, List, get_or}
 use Rattle.qh_model.specs.headline.Vector.{Vector}
 use Rattle.qh_model.specs.headline.DistinctIds.{AreDistinctIds}

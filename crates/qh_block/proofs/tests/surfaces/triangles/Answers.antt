@@ -1,3 +1,4 @@
+-- One live facet more is listed.
 use Rattle.std.proofs.Common.{◌∙◌}
 use Rattle.qh_block.proofs.LiveFacets.{all_live, next_live, rest_live}
 use Rattle.qh_block.proofs.tests.surfaces.triangles.Goals as goal

@@ -1,3 +1,4 @@
+-- The facets to come are live.
 use Rattle.qh_block.proofs.LiveFacets.{AreAllLive}
 use Rattle.qh_block.proofs.tests.surfaces.triangles.Given as goal
 

@@ -1,3 +1,4 @@
+-- A mesh stays one where its corners get names.
 use Rattle.std.proofs.Common.{◌≡◌, ◌∙◌, ap, sym, length, map}
 use Rattle.std.proofs.lemmas.List.{with_items_is, length-map}
 use Rattle.qh_model.specs.contract.StoredSurface.{named_facet}

@@ -1,3 +1,4 @@
+-- A tetrahedron is a mesh: each of its twelve sides has its twin.
 use Rattle.std.proofs.Common.{ℕ, zero, suc, rules, ◌∙◌}
 use Rattle.qh_model.specs.contract.Surface.{Side}
 use Rattle.qh_model.specs.contract.Surface.Side.{first, second, third}

@@ -1,3 +1,4 @@
+-- A box whose furthest corner is below a plane is below it.
 use Rattle.std.proofs.Common.{arith}
 use Rattle.std.proofs.lemmas.Int.{ints}
 use Rattle.std.specs.Prelude.{pos, ◌<ℤ◌}

@@ -1,3 +1,4 @@
+-- A point between three rays is above no facet of the cone.
 use Rattle.std.proofs.Common.{arith}
 use Rattle.qh_block.proofs.runs.ConeRings.{among}
 use Rattle.qh_block.proofs.quickhull.cone_ring.ConeRing.asked.Goals as goal

@@ -1,3 +1,4 @@
+-- The search stays within the ring, and its range shrinks.
 use Rattle.std.proofs.Common.{◌<◌, ◌-◌, length}
 use Rattle.qh_block.proofs.quickhull.cone_ring.ConeRing.place_of.Given as goal
 

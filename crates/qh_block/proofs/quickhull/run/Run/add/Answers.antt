@@ -1,3 +1,4 @@
+-- A round: the walk, the replacement, and what is then left to settle.
 use Rattle.std.proofs.Common.{◌∙◌, sym, subst}
 use Rattle.std.specs.Prelude.{pos, ◌<ℤ◌}
 use Rattle.qh_model.specs.headline.Predicates.{place}

@@ -1,3 +1,4 @@
+-- The next apex is picked from the run as it stands.
 use Rattle.std.proofs.Common.{List, sym, subst}
 use Rattle.qh_model.specs.headline.Vector.{Vector}
 use Rattle.qh_block.specs.steps.Runs.{IsPicked}

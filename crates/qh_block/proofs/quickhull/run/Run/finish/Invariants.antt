@@ -1,3 +1,4 @@
+-- The run is under way over the same points, and fewer of them are listed each time.
 use Rattle.std.proofs.Common.{◌≡◌}
 use Rattle.qh_block.specs.steps.OutsideSets.{listed}
 use Rattle.qh_block.specs.steps.Runs.{IsUnderWay}

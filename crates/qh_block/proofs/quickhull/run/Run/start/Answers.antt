@@ -1,3 +1,4 @@
+-- The first simplex, with all points orphans.
 use Rattle.std.proofs.Common.{◌∙◌, ap, sym, subst, List, []}
 use Rattle.std.specs.List.{range_with_len}
 use Rattle.qh_pred.specs.contract.Planes.{PlaneValue}

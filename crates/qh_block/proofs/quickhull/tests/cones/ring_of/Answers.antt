@@ -1,3 +1,4 @@
+-- One wedge more of a ring made for a test.
 use Rattle.std.proofs.Common.{sym, subst}
 use Rattle.qh_model.specs.headline.Vector.{Vector}
 use Rattle.std.specs.Prelude.{◌≡◌}

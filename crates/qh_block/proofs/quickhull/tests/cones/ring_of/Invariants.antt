@@ -1,3 +1,4 @@
+-- The wedges so far, of a ring made for a test.
 use Rattle.qh_block.specs.steps.Cones.{AreTriangles}
 use Rattle.qh_block.proofs.quickhull.tests.cones.ring_of.Given as goal
 

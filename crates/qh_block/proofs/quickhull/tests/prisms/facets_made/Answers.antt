@@ -1,3 +1,4 @@
+-- The distinct ids of a prism are a set of its ids.
 use Rattle.std.proofs.Common.{◌<◌, length, sym, subst}
 use Rattle.qh_model.specs.headline.DistinctIds.{AreDistinctIds}
 use Rattle.qh_model.proofs.Members.{All-of}
