@@ -1,4 +1,4 @@
--- Ids sorted by their cells are the same ids.
+-- Ids of keys that are sorted are the same ids.
 use Rattle.std.proofs.Common.{ℕ, List, map, sym, subst, IsPermutation}
 use Rattle.std.proofs.lemmas.List.Sorted.{IsPermutation-map}
 use Rattle.qh_block.specs.steps.NearOrder.{id_of}
@@ -6,5 +6,5 @@ use Rattle.qh_block.proofs.quickhull.near_order.near_order.Goals as goal
 
 pub returns : goal.returns
 returns c = subst (λ (v : List ℕ). IsPermutation c.args.ids.now v) (sym c.in_ok-ids_of.ensures)
-    (subst (λ (v : List ℕ). IsPermutation v (map id_of c.sort_unstable_by_key.new.self.items)) c.in_ok-all.ensures
-    (IsPermutation-map id_of c.in_ok-all.all.items c.sort_unstable_by_key.new.self.items c.sort_unstable_by_key.ensures.permutation))
+    (subst (λ (v : List ℕ). IsPermutation v (map id_of c.sort_unstable.new.self.items)) c.in_ok-keys.ensures
+    (IsPermutation-map id_of c.in_ok-keys.keys.items c.sort_unstable.new.self.items c.sort_unstable.ensures.permutation))
