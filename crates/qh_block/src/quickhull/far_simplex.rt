@@ -14,6 +14,9 @@ ghost use Rattle.qh_block.specs.steps.Simplexes.{IsSimplexOf};
 use qh_model::{COORDINATE_LIMIT, Id, Point};
 use qh_pred::{Plane, cross, point_at, vol};
 
+/// For each corner about so many ids are looked at, spread over all: those of a large set are as far apart.
+const LOOKED_AT: usize = 16_384;
+
 /// Four ids whose points are not in one plane.
 #[derive(Clone, Copy, Drop)]
 pub struct Simplex {
@@ -59,7 +62,7 @@ impl FarFrom {
     }
 }
 
-/// The first of the ids whose points are furthest.
+/// The first of the ids looked at whose points are furthest.
 fn furthest(pts: &[Point], ids: &[Id], from: FarFrom) -> Id
     requires some { 0 < length ids.now }
     requires indices { AreIndices pts.now ids.now }
@@ -68,11 +71,13 @@ fn furthest(pts: &[Point], ids: &[Id], from: FarFrom) -> Id
 {
     let mut found = ids[0];
     let mut most = 0;
-    for id in ids {
-        let distance = from.distance(point_at(pts, *id));
+    let step = ids.len() / LOOKED_AT + 1;
+    for part in 0..ids.len() / step {
+        let id = ids[part * step];
+        let distance = from.distance(point_at(pts, id));
         if distance > most {
             most = distance;
-            found = *id;
+            found = id;
         }
     }
     found
