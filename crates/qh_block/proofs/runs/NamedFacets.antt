@@ -1,11 +1,16 @@
 -- Lists of facets: which ones a list names.
 use Rattle.std.proofs.Common.{◌≡◌, ℕ, ◌<◌, ◌≤◌, arith, ap, sym, ◌∙◌, refl, ◌⊎◌, inl, inr, List, [], ◌∷◌, ◌++◌, length, true, take}
 use Rattle.std.proofs.lemmas.List.{get_or_append_left, get_or_push, length_push, get_or-take, length-take-le}
+use Rattle.qh_model.specs.contract.StoredSurface.{StoredFacet}
 use Rattle.qh_mesh.specs.declared.facets.FacetNo.{FacetNo}
-use Rattle.qh_mesh.specs.contract.Replacement.{number, is_listed}
+use Rattle.qh_mesh.specs.contract.Replacement.{number, is_listed, IsLive}
 use Rattle.qh_mesh.proofs.ListedFacets.{listed_at, listed_find}
 use Rattle.qh_mesh.proofs.NumberCases.{by_le}
 use Rattle.qh_block.specs.steps.Runs.{Names, AreWithin}
+
+-- each facet of the list is live
+abbrev pub AreLive : List StoredFacet → List FacetNo → Type 0
+AreLive fs made = (j : ℕ) → j < length made → IsLive fs (number made j)
 
 -- the empty list names none
 pub names_none : (f : ℕ) → Names [] f → ⊥

@@ -29,9 +29,13 @@ abbrev pub HasNoCornerAbove : List Vector → List StoredFacet → Type 0
 HasNoCornerAbove pts fs = (f g : ℕ) → IsLive fs f → IsLive fs g
     → (facet_vol (place pts) fs f (place pts (facet_at fs g).i) ≤ℤ pos 0) × (facet_vol (place pts) fs f (place pts (facet_at fs g).j) ≤ℤ pos 0)
 
+-- a wedge past the end
+abbrev pub no_wedge : Wedge
+no_wedge = record { facet = record { 0 = 0 }; plane = record { normal = origin; offset = pos 0 }; from = origin; to = origin }
+
 -- the wedge at a place of a ring
 abbrev pub wedge_at : List Wedge → ℕ → Wedge
-wedge_at ws i = slice_index_or ws i (record { facet = record { 0 = 0 }; plane = record { normal = origin; offset = pos 0 }; from = origin; to = origin })
+wedge_at ws i = slice_index_or ws i no_wedge
 
 -- the plane is that of a triangle at the apex a, and no ray of the wedge is above it
 pub record IsConePlane (a : Vector) (w : Wedge) (plane : PlaneValue) : Type 0 where

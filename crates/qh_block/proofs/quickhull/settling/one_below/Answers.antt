@@ -5,7 +5,7 @@ use Rattle.qh_block.proofs.runs.ConeRings.{among_unseen}
 use Rattle.qh_block.proofs.quickhull.settling.one_below.Goals as goal
 
 pub returns-in-Unseen-clause-none : goal.returns-in-Unseen-clause-none
-returns-in-Unseen-clause-none c = among_unseen c.args.planes.now c.args.made.now c.args.ring.now.apex c.args.ring.now.wedges.items c.args.point c.requires.ring c.in-Unseen.ensures
+returns-in-Unseen-clause-none c = among_unseen c.requires.ring c.in-Unseen.ensures
 
 pub first_below-requires-2 : goal.first_below-requires-2
 first_below-requires-2 c = let many = c.if-made-le-SCANNED.false in within_take (length c.args.planes.now) 16 c.args.made.now (omega (arith, many)) c.requires.planes

@@ -15,8 +15,7 @@ use Rattle.qh_block.proofs.quickhull.run.Run.settle.Goals as goal
 
 pub take-requires-clause-below : goal.take-requires-clause-below
 take-requires-clause-below c =
-    let pts = c.args.self.now.points.items in
-    subst (λ (xs : List Vector). HasNoCornerAbove xs c.args.self.now.mesh) (sym c.deref-2.ensures.value) (grown_corners pts c.args.self.now.mesh c.requires.remade.grown)
+    subst (λ (xs : List Vector). HasNoCornerAbove xs c.args.self.now.mesh) (sym c.deref-2.ensures.value) (grown_corners c.requires.remade.grown)
 
 pub returns-clause-under_way : goal.returns-clause-under_way
 returns-clause-under_way c =
