@@ -1,7 +1,6 @@
 -- From facets that were made to the next round, and from the last round to a finished surface.
-use Rattle.std.proofs.Common.{◌≡◌, ℕ, ◌<◌, ◌≤◌, arith, sym, ◌∙◌, refl, ◌⊎◌, inl, inr, List, [], ◌∷◌, length, subst}
+use Rattle.std.proofs.Common.{◌≡◌, ℕ, ◌<◌, ◌≤◌, sym, ◌∙◌, refl, inl, inr, List, [], ◌∷◌, length, subst}
 use Rattle.std.specs.Prelude.{pos, ◌<ℤ◌}
-use Rattle.std.proofs.lemmas.Int.{ints}
 use Rattle.qh_model.specs.headline.Vector.{Vector, origin}
 use Rattle.qh_model.specs.headline.Predicates.{place}
 use Rattle.qh_model.specs.headline.Sets.{In, Members}
@@ -12,6 +11,7 @@ use Rattle.qh_model.specs.headline.SupportingPlane.{IsSupportingTriple}
 use Rattle.qh_model.specs.contract.ClosedSurface.{signed_volume, triples_from}
 use Rattle.std.specs.List.{range_with_len}
 use Rattle.qh_model.proofs.lists.Ranges.{range_has, range_below}
+use Rattle.qh_model.proofs.algebra.Signs.{less_one_way}
 use Rattle.qh_model.proofs.surfaces.Finished.{facets_support}
 use Rattle.qh_pred.specs.contract.Planes.{PlaneValue}
 use Rattle.qh_mesh.specs.declared.facets.FacetNo.{FacetNo}
@@ -20,14 +20,14 @@ use Rattle.qh_mesh.specs.contract.SoundMesh.{IsClosedMesh}
 use Rattle.qh_mesh.proofs.Rewiring.{live_in, in_live}
 use Rattle.qh_block.specs.steps.Planes.{ArePlanes}
 use Rattle.qh_block.specs.steps.OutsideSets.{OutsideValue, set_of}
-use Rattle.qh_block.specs.steps.Runs.{IsDone, Names, AreWithin, IsOutside, IsGrown, IsUnderWay, IsSettling, IsRemade}
+use Rattle.qh_block.specs.steps.Runs.{IsDone, Names, AreWithin, IsGrown, IsUnderWay, IsSettling, IsRemade}
 
 -- once all orphans are settled and the facets with outside sets wait, the next round may begin
-pub next_round : (pts : List Vector) (fs : List StoredFacet) (old ps : List PlaneValue) (v w : OutsideValue) (pending made waiting : List FacetNo)
-    → IsRemade pts fs old v pending made → ArePlanes (place pts) fs ps → IsSettling pts fs w pending made → w.orphans ≡ [] → w.positions ≡ v.positions
-    → length fs ≤ length w.sets → AreWithin (length w.sets) waiting → ((f : ℕ) → Names pending f → Names waiting f)
+pub next_round : {pts : List Vector} {fs : List StoredFacet} {old ps : List PlaneValue} {v w : OutsideValue} {pending made waiting : List FacetNo}
+    → IsRemade pts fs old v pending made → ArePlanes (place pts) fs ps → IsSettling pts fs w pending made → w.orphans ≡ []
+    → w.positions ≡ v.positions → length fs ≤ length w.sets → AreWithin (length w.sets) waiting → ((f : ℕ) → Names pending f → Names waiting f)
     → ((f p : ℕ) → Names made f → In p (set_of w f) → Names waiting f) → IsUnderWay pts fs ps w waiting
-next_round pts fs old ps v w pending made waiting k planes z o e room within kept more = record {
+next_round k planes z o e room within kept more = record {
   grown = k.grown;
   planes = planes;
   positions = e ∙ k.positions;
@@ -35,34 +35,22 @@ next_round pts fs old ps v w pending made waiting k planes z o e room within kep
   range = within;
   outside = z.outside;
   none = o;
-  waits = λ f p i. waits f p i (z.waits f p i);
-  all = λ p l. all p (z.all p l);
+  waits = λ f p i. elim (z.waits f p i) [ inl n ↦ kept f n | inr n ↦ more f p n i ];
+  all = λ p l. elim (z.all p l) [ inl i ↦ absurd (rw o at i) | inr h ↦ h ];
 }
-  where
-    waits : (f p : ℕ) → In p (set_of w f) → Names pending f ⊎ Names made f → Names waiting f
-    waits f p i (inl n) = kept f n
-    waits f p i (inr n) = more f p n i
-
-    all : (p : ℕ) → In p w.orphans ⊎ IsOutside w p ⊎ IsDone pts fs p → IsOutside w p ⊎ IsDone pts fs p
-    all p (inl i) = absurd (subst (In p) o i)
-    all p (inr h) = h
 
 -- a closed mesh has a facet
 some_facet : (at : ℕ → Vector) (fs : List StoredFacet) → IsClosedMesh at fs → (f : ℕ) × In f (surface_of fs).live
 some_facet at fs c = by (surface_of fs).live refl
   where
-    below : signed_volume at (triples_from (surface_of fs) (surface_of fs).live) origin <ℤ pos 0
-    below = c.volume origin
-
-    never : pos 0 <ℤ pos 0 → ⊥
-    never h = omega (arith, ints)
-
     by : (gs : List ℕ) → (surface_of fs).live ≡ gs → (f : ℕ) × In f (surface_of fs).live
-    by [] e = absurd (never (subst (λ (gs : List ℕ). signed_volume at (triples_from (surface_of fs) gs) origin <ℤ pos 0) e below))
+    by [] e = let h = subst (λ (gs : List ℕ). signed_volume at (triples_from (surface_of fs) gs) origin <ℤ pos 0) e (c.volume origin) in
+        absurd (less_one_way (pos 0) (pos 0) h h)
     by (g ∷ gs) e = (g, subst (In g) (sym e) (inl refl))
 
 -- a mesh that sees no point of the list is finished
-pub finished : (pts : List Vector) (fs : List StoredFacet) → IsGrown pts fs → ((p : ℕ) → p < length pts → IsDone pts fs p) → IsFinished (place pts) (range_with_len 0 (length pts)) (surface_of fs)
+pub finished : (pts : List Vector) (fs : List StoredFacet) → IsGrown pts fs → ((p : ℕ) → p < length pts → IsDone pts fs p)
+    → IsFinished (place pts) (range_with_len 0 (length pts)) (surface_of fs)
 finished pts fs k d = record {
   s = k.s;
   t = k.t;
@@ -81,10 +69,11 @@ finished pts fs k d = record {
   unseen = λ f i l m. d l (range_below (length pts) l m) f (live_in fs f i);
 }
   where
-    corner : (f l : ℕ) → ((facet_at fs f).i < length pts) × ((facet_at fs f).j < length pts) × ((facet_at fs f).k < length pts) → IsCorner (surface_of fs) f l → l < length pts
-    corner f l h (inl e) = subst (λ (n : ℕ). n < length pts) (sym e) h.0
-    corner f l h (inr (inl e)) = subst (λ (n : ℕ). n < length pts) (sym e) h.1
-    corner f l h (inr (inr e)) = subst (λ (n : ℕ). n < length pts) (sym e) h.2
+    corner : (f l : ℕ) → ((facet_at fs f).i < length pts) × ((facet_at fs f).j < length pts) × ((facet_at fs f).k < length pts)
+        → IsCorner (surface_of fs) f l → l < length pts
+    corner f l h (inl e) = rw e h.0
+    corner f l h (inr (inl e)) = rw e h.1
+    corner f l h (inr (inr e)) = rw e h.2
 
 -- and its facets support the set
 pub supporting : (pts : List Vector) (ids : List ℕ) (fs : List StoredFacet) → IsFinished (place pts) ids (surface_of fs)

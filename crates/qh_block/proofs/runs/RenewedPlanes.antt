@@ -1,6 +1,6 @@
 -- The planes of facets that were made, written one after the other.
-use Rattle.std.proofs.Common.{◌≡◌, ℕ, ◌+◌, ◌<◌, ◌≤◌, arith, ap, sym, ◌∙◌, ◌⊎◌, inl, inr, List, length}
-use Rattle.std.specs.Prelude.{slice_set, slice_index_or}
+use Rattle.std.proofs.Common.{◌≡◌, ℕ, ◌+◌, ◌<◌, ◌≤◌, arith, ap, ◌∙◌, ◌⊎◌, inl, inr, List, length}
+use Rattle.std.specs.Prelude.{slice_set}
 use Rattle.std.proofs.lemmas.Bool.{cases_eq}
 use Rattle.std.proofs.lemmas.List.{get_or-set_same, get_or-set_other, length-set}
 use Rattle.qh_model.specs.headline.Vector.{Vector}
@@ -19,51 +19,39 @@ abbrev pub IsLater : List FacetNo → ℕ → ℕ → Type 0
 IsLater made i f = (j : ℕ) × (i ≤ j) × (j < length made) × (f ≡ number made j)
 
 -- the planes of the facets of which there was one, or that were made, stand but for those from i on
-abbrev pub AreRenewed : List Vector → List StoredFacet → List PlaneValue → List FacetNo → ℕ → List PlaneValue → Type 0
-AreRenewed pts fs old made i new = (f : ℕ) → IsLive fs f → IsPlaneOf pts fs old f ⊎ Names made f → IsPlaneOf pts fs new f ⊎ IsLater made i f
+pub record AreRenewed (pts : List Vector) (fs : List StoredFacet) (old : List PlaneValue) (made : List FacetNo)
+    (i : ℕ) (new : List PlaneValue) : Type 0 where
+  pub is : (f : ℕ) → IsLive fs f → IsPlaneOf pts fs old f ⊎ Names made f → IsPlaneOf pts fs new f ⊎ IsLater made i f
 
--- none is written
-pub none_renewed : (pts : List Vector) (fs : List StoredFacet) (ps : List PlaneValue) (made : List FacetNo) → AreRenewed pts fs ps made 0 ps
-none_renewed pts fs ps made f l (inl h) = inl h
-none_renewed pts fs ps made f l (inr (j, h, e)) = inr (j, omega arith, h, e)
+module _ {pts : List Vector} {fs : List StoredFacet} {old : List PlaneValue} {made : List FacetNo} where
+  -- none is written
+  pub none_renewed : AreRenewed pts fs old made 0 old
+  none_renewed = record { is = λ f l h. elim h [ inl p ↦ inl p | inr n ↦ inr (n.0, omega arith, n.1, n.2) ] }
 
--- one more
-pub more_renewed : (pts : List Vector) (fs : List StoredFacet) (old ps : List PlaneValue) (made : List FacetNo) (i n : ℕ) (plane : PlaneValue)
-    → n ≡ number made i → n < length ps → ((p : Vector) → height plane p ≡ facet_vol (place pts) fs n p) → AreRenewed pts fs old made i ps → AreRenewed pts fs old made (i + 1) (slice_set ps n plane)
-more_renewed pts fs old ps made i n plane e b h r f l g = by (cases_eq f n)
-  where
-    long : length (slice_set ps n plane) ≡ length ps
-    long = length-set ps n plane
+  -- one more
+  pub more_renewed : {ps : List PlaneValue} {i : ℕ} (plane : PlaneValue) → number made i < length ps
+      → ((p : Vector) → height plane p ≡ facet_vol (place pts) fs (number made i) p)
+      → AreRenewed pts fs old made i ps → AreRenewed pts fs old made (i + 1) (slice_set ps (number made i) plane)
+  more_renewed {ps} {i} plane b h r = record { is = λ f l g. by f (cases_eq f (number made i)) (r.is f l g) }
+    where
+      long : length (slice_set ps (number made i) plane) ≡ length ps
+      long = length-set ps (number made i) plane
 
-    here : f ≡ n → IsPlaneOf pts fs (slice_set ps n plane) f
-    here q = (
-      omega (arith, long),
-      λ p. ap (λ (x : PlaneValue). height x p) (ap (λ k. slice_index_or (slice_set ps n plane) k no_plane) q ∙ get_or-set_same ps n plane no_plane b) ∙ h p ∙ ap (λ k. facet_vol (place pts) fs k p) (sym q),
-    )
+      by : (f : ℕ) → (f ≡ number made i) ⊎ (f ≡ number made i → ⊥) → IsPlaneOf pts fs ps f ⊎ IsLater made i f
+          → IsPlaneOf pts fs (slice_set ps (number made i) plane) f ⊎ IsLater made (i + 1) f
+      by f (inl q) _ = inl (omega (arith, long), λ p. rw (q, get_or-set_same ps (number made i) plane no_plane b) (h p))
+      by f (inr d) (inl (k, q)) = inl (omega (arith, long), λ p. rw (get_or-set_other ps (number made i) f plane no_plane d) (q p))
+      by f (inr d) (inr (j, k, m, q)) =
+          by_le _ i j (λ a. inr (j, omega arith, m, q)) (λ a. absurd (d (q ∙ ap (number made) (let same : j ≡ i = omega arith in same))))
 
-    there : (f ≡ n → ⊥) → IsPlaneOf pts fs ps f ⊎ IsLater made i f → IsPlaneOf pts fs (slice_set ps n plane) f ⊎ IsLater made (i + 1) f
-    there d (inl (k, q)) = inl (omega (arith, long), λ p. ap (λ (x : PlaneValue). height x p) (get_or-set_other ps n f plane no_plane d) ∙ q p)
-    there d (inr (j, k, m, q)) =
-        by_le (IsPlaneOf pts fs (slice_set ps n plane) f ⊎ IsLater made (i + 1) f) i j
-        (λ a. inr (j, omega arith, m, q))
-        (λ a. absurd (d (q ∙ ap (number made) (let same : j ≡ i = omega arith in same) ∙ sym e)))
-
-    by : (f ≡ n) ⊎ (f ≡ n → ⊥) → IsPlaneOf pts fs (slice_set ps n plane) f ⊎ IsLater made (i + 1) f
-    by (inl q) = inl (here q)
-    by (inr d) = there d (r f l g)
-
--- and all
-pub all_renewed : (pts : List Vector) (fs : List StoredFacet) (old ps : List PlaneValue) (made : List FacetNo) (i : ℕ) → length made ≤ i → AreRenewed pts fs old made i ps
-    → (f : ℕ) → IsLive fs f → IsPlaneOf pts fs old f ⊎ Names made f → IsPlaneOf pts fs ps f
-all_renewed pts fs old ps made i b r f l g = by (r f l g)
-  where
-    by : IsPlaneOf pts fs ps f ⊎ IsLater made i f → IsPlaneOf pts fs ps f
-    by (inl h) = h
-    by (inr (j, k, m, e)) = absurd (omega arith)
+  -- and all
+  pub all_renewed : {ps : List PlaneValue} {i : ℕ} → length made ≤ i → AreRenewed pts fs old made i ps
+      → (f : ℕ) → IsLive fs f → IsPlaneOf pts fs old f ⊎ Names made f → IsPlaneOf pts fs ps f
+  all_renewed b r f l g = elim (r.is f l g) [ inl h ↦ h | inr h ↦ let k = h.1 in let m = h.2 in absurd (omega arith) ]
 
 -- room for more planes changes none
 pub roomy : (pts : List Vector) (fs : List StoredFacet) (ps qs : List PlaneValue) (made : List FacetNo)
     → ((f : ℕ) → f < length ps → (f < length qs) × (plane_at qs f ≡ plane_at ps f))
     → (f : ℕ) → IsPlaneOf pts fs ps f ⊎ Names made f → IsPlaneOf pts fs qs f ⊎ Names made f
-roomy pts fs ps qs made k f (inl (l, h)) = inl ((k f l).0, λ p. ap (λ (x : PlaneValue). height x p) (k f l).1 ∙ h p)
+roomy pts fs ps qs made k f (inl (l, h)) = inl ((k f l).0, λ p. rw (k f l).1 (h p))
 roomy pts fs ps qs made k f (inr n) = inr n

@@ -19,26 +19,20 @@ take-requires-clause-below c =
 
 pub returns-clause-under_way : goal.returns-clause-under_way
 returns-clause-under_way c =
-    let k = c.requires.remade in
-    let pts = c.args.self.now.points.items in
-    let fs = c.args.self.now.mesh in
-    let places = c.places-places.ensures in
+    let k = c.requires.remade in let self = c.args.self.now in let pts = self.points.items in let fs = self.mesh in
+    let places = c.places-places.ensures in let room = c.in_ok-make_room.ensures in let old = self.sets.sets in
     let renewed = rw (c.deref.ensures.value) at c.renew.ensures.planes in
     let planes : ArePlanes (place pts) fs c.renew.new.planes.items = record {
-      room = let r = c.in_ok-make_room.ensures.room in let n = c.renew.ensures.len in omega arith;
-      right = λ f l p. (renewed f l (roomy pts fs c.args.self.now.planes.items c.make_room.new.planes.items c.args.made.now c.make_room.ensures.kept f (k.planes f l))).1 p;
+      room = omega (arith, room.room, c.renew.ensures.len, places);
+      right = λ f l p. (renewed f l (roomy pts fs self.planes.items c.make_room.new.planes.items c.args.made.now room.kept f (k.planes f l))).1 p;
     } in
-    let sets = c.in_ok-make_room-2.ensures.sets in
-    let more = ap (λ (xs : List (List ℕ)). length xs) sets ∙ length-append c.args.self.now.sets.sets (replicate (c.places-places.result - length c.args.self.now.sets.sets) []) in
-    let long = c.in_ok-make_room-2.ensures.places in
-    let stays = c.settle_orphans.ensures.places in
-    let settled = rw (c.deref-4.ensures.value, c.deref-5.ensures.value) at c.settle_orphans.ensures.settled in
-    next_round pts fs c.args.self.now.planes.items c.renew.new.planes.items c.args.self.now.sets c.settle_orphans.new.sets c.args.self.now.pending.items c.args.made.now c.enqueue.new.pending.items
-    k planes
-    (settled fs c.args.self.now.pending.items k.made_live planes
-    (same_settling pts fs c.args.self.now.sets c.make_room-2.new.self c.args.self.now.pending.items c.args.made.now
-    (λ f. ap (λ (xs : List (List ℕ)). get_or xs f []) sets ∙ grown-set c.args.self.now.sets.sets (c.places-places.result - length c.args.self.now.sets.sets) f) c.make_room-2.ensures.orphans k.settling))
-    c.settle_orphans.ensures.none (c.settle_orphans.ensures.positions ∙ c.make_room-2.ensures.positions)
-    (omega (arith, places, long, stays))
-    (c.enqueue.ensures.within (within_more (length c.args.self.now.sets.sets) (length c.settle_orphans.new.sets.sets) c.args.self.now.pending.items (omega (arith, more, stays)) k.range))
+    let sets = c.in_ok-make_room-2.ensures.sets in let new = replicate (c.places-places.result - length old) [] in
+    let more = ap (λ (xs : List (List ℕ)). length xs) sets ∙ length-append old new in
+    let settle = c.settle_orphans.ensures in
+    let settled = rw (c.deref-4.ensures.value, c.deref-5.ensures.value) at settle.settled in
+    next_round k planes
+    (settled fs self.pending.items k.made_live planes (same_settling
+    (λ f. ap (λ (xs : List (List ℕ)). get_or xs f []) sets ∙ grown-set old _ f) c.make_room-2.ensures.orphans k.settling))
+    settle.none (settle.positions ∙ c.make_room-2.ensures.positions) (omega (arith, places, c.in_ok-make_room-2.ensures.places, settle.places))
+    (c.enqueue.ensures.within (within_more (length old) _ _ (omega (arith, more, settle.places)) k.range))
     c.enqueue.ensures.kept c.in_ok-enqueue.ensures.made
