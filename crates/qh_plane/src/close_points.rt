@@ -1,5 +1,6 @@
-//! The distinct points of a list whose points lie close together, as those of lattices and grids do. Each
-//! place of the box around them has a slot for the id that stands for it, so nothing is sorted.
+//! The distinct points of a list whose points lie close together, as those of lattices and grids do, or in
+//! one line. Each place of the box around them has a slot for the id that stands for it, or each place along
+//! the line; so nothing is sorted.
 //!
 //! No proof asks that different places have different slots: a point that comes to the slot of another
 //! place ends the try.
@@ -9,10 +10,17 @@ ghost use Rattle.qh_plane.specs.steps.CloseBoxes.{slot_of};
 
 use crate::place_keys::raised;
 use qh_model::{Id, POINT_LIMIT, Point};
+use qh_pred::in_line;
 use std::alloc::{AllocError, Global};
 
-/// There are at most so many slots for each point.
+/// A box has at most so many slots for each point.
 const SLOTS_FOR_EACH: u64 = 2;
+
+/// A line has at most so many slots for each point.
+const LINE_SLOTS_FOR_EACH: u64 = 3;
+
+/// So many points tell whether all seem to lie in one line.
+const LOOKED_AT: usize = 32;
 
 /// What stands in a slot that no point has come to.
 const NO_ID: u32 = 4294967295;
@@ -24,16 +32,25 @@ struct Span {
     greatest: u64,
 }
 
-/// A box of places, by its least coordinates and its extent along y and z, with the number of its
-/// places.
+/// The coordinates of points along each axis.
+#[derive(Clone, Copy, Drop)]
+struct Spans {
+    x: Span,
+    y: Span,
+    z: Span,
+}
+
+/// The slots of a box of places: its least coordinates, what each coordinate above them counts in a slot's
+/// number, and how many slots there are.
 #[derive(Clone, Copy, Drop)]
 pub struct CloseBox {
     x: u64,
     y: u64,
     z: u64,
-    breadth: u64,
-    height: u64,
-    places: u64,
+    x_factor: u64,
+    y_factor: u64,
+    z_factor: u64,
+    slots: u64,
 }
 
 impl Span {
@@ -59,39 +76,110 @@ impl Span {
     }
 }
 
-impl CloseBox {
-    /// The box around points, where it has few places for so many.
-    fn around(pts: &[Point]) -> Option<CloseBox> {
+impl Spans {
+    /// The coordinates of points.
+    fn of(pts: &[Point]) -> Spans {
         let (mut x, mut y, mut z) = (Span::none(), Span::none(), Span::none());
         for point in pts {
             x = x.with(raised(point.x()));
             y = y.with(raised(point.y()));
             z = z.with(raised(point.z()));
         }
-        let (breadth, height) = (y.extent(), z.extent());
-        let places = x.extent().checked_mul(breadth)?.checked_mul(height)?;
-        if places / SLOTS_FOR_EACH > pts.len() as u64 {
-            return None;
+        Spans { x, y, z }
+    }
+
+    /// As many slots, with a factor for each coordinate.
+    fn with_factors(&self, x_factor: u64, y_factor: u64, z_factor: u64, slots: u64) -> CloseBox {
+        CloseBox {
+            x: self.x.least,
+            y: self.y.least,
+            z: self.z.least,
+            x_factor,
+            y_factor,
+            z_factor,
+            slots,
         }
-        Some(CloseBox {
-            x: x.least,
-            y: y.least,
-            z: z.least,
-            breadth,
-            height,
-            places,
-        })
+    }
+
+    /// A slot for each place of the box; none where there are too many.
+    fn full(&self) -> Option<CloseBox> {
+        let height = self.z.extent();
+        let area = self.y.extent().checked_mul(height)?;
+        let slots = self.x.extent().checked_mul(area)?;
+        Some(self.with_factors(area, height, 1, slots))
+    }
+
+    /// A slot for each place along the longest axis.
+    fn along_axis(&self) -> CloseBox {
+        let (x, y, z) = (self.x.extent(), self.y.extent(), self.z.extent());
+        if x >= y && x >= z {
+            self.with_factors(1, 0, 0, x)
+        } else if y >= z {
+            self.with_factors(0, 1, 0, y)
+        } else {
+            self.with_factors(0, 0, 1, z)
+        }
+    }
+}
+
+/// Whether points seem to lie in one line, as a few of them tell that are spread over the list.
+fn seem_in_line(pts: &[Point]) -> bool
+    requires { length pts.now ≤ POINT_LIMIT }
+{
+    let Some(&first) = pts.first() else {
+        return true;
+    };
+    let step = pts.len() / LOOKED_AT + 1;
+    let mut other = first;
+    for number in 0..LOOKED_AT {
+        let Some(&point) = pts.get(number * step) else {
+            return true;
+        };
+        if are_one(first, other) {
+            other = point;
+        }
+        if !in_line(first, other, point) {
+            return false;
+        }
+    }
+    true
+}
+
+impl CloseBox {
+    /// The slots for points that lie close together, or seem to lie in one line, where they are few for so
+    /// many points.
+    fn around(pts: &[Point]) -> Option<CloseBox>
+        requires { length pts.now ≤ POINT_LIMIT }
+    {
+        let spans = Spans::of(pts);
+        let count = pts.len() as u64;
+        if let Some(full) = spans.full() {
+            if full.slots / SLOTS_FOR_EACH <= count {
+                return Some(full);
+            }
+        }
+        let line = spans.along_axis();
+        if line.slots / LINE_SLOTS_FOR_EACH <= count && seem_in_line(pts) {
+            Some(line)
+        } else {
+            None
+        }
     }
 
     /// The slot of a point.
     fn slot(&self, point: Point) -> u64
         ensures { result ≡ slot_of self.now point }
     {
-        let x = raised(point.x()).saturating_sub(self.x);
-        let y = raised(point.y()).saturating_sub(self.y);
-        let z = raised(point.z()).saturating_sub(self.z);
-        let line = x.wrapping_mul(self.breadth).wrapping_add(y);
-        line.wrapping_mul(self.height).wrapping_add(z)
+        let x = raised(point.x())
+            .saturating_sub(self.x)
+            .wrapping_mul(self.x_factor);
+        let y = raised(point.y())
+            .saturating_sub(self.y)
+            .wrapping_mul(self.y_factor);
+        let z = raised(point.z())
+            .saturating_sub(self.z)
+            .wrapping_mul(self.z_factor);
+        x.wrapping_add(y).wrapping_add(z)
     }
 }
 
@@ -102,7 +190,7 @@ fn are_one(p: Point, q: Point) -> bool
     p.x() == q.x() && p.y() == q.y() && p.z() == q.z()
 }
 
-/// The distinct ids of points in a small box, rising; none where the box is not small.
+/// The distinct ids of points that lie close together or in one line, rising; none where they do not.
 pub fn distinct_in_box(alloc: Global, pts: &[Point]) -> Result<Option<Vec<Id>>, AllocError>
     requires few { length pts.now ≤ POINT_LIMIT }
     ensures { IfOk result (λ found. IfSome found (λ v. AreDistinctIds pts.now v.items)) }
@@ -110,8 +198,8 @@ pub fn distinct_in_box(alloc: Global, pts: &[Point]) -> Result<Option<Vec<Id>>, 
     let Some(close) = CloseBox::around(pts) else {
         return Ok(None);
     };
-    let mut slots = vec![in alloc; NO_ID; close.places as usize]?;
-    let mut ids = Vec::new(alloc);
+    let mut slots = vec![in alloc; NO_ID; close.slots as usize]?;
+    let mut ids = Vec::with_capacity(alloc, pts.len().min(slots.len()))?;
     for number in 0..pts.len() {
         let slot = close.slot(pts[number]) as usize;
         if slot >= slots.len() {

@@ -1,5 +1,5 @@
--- Slots for the places of a small box. Only private functions speak of them.
-use Rattle.std.specs.Prelude.{ℕ, ◌≡◌, ◌+◌, ◌-◌, ◌*◌, ◌%◌, ◌^◌, ◌<◌, ◌≤◌, ◌⊎◌, ◌↔◌, List, length, slice_index_or}
+-- Slots for the places of a small box or of a line. Only private functions speak of them.
+use Rattle.std.specs.Prelude.{ℕ, ◌≡◌, ◌+◌, ◌-◌, ◌*◌, ◌%◌, ◌^◌, ◌<◌, ◌⊎◌, ◌↔◌, List, length, slice_index_or}
 use Rattle.std.specs.List.Sorted.{IsStrictlyIncreasing}
 use Rattle.qh_model.specs.headline.Vector.{Vector}
 use Rattle.qh_model.specs.headline.Predicates.{place}
@@ -11,7 +11,7 @@ use Rattle.qh_plane.specs.steps.PlaceKeys.{raised}
 
 -- the slot of a point: of numbers of 64 bits, whatever the box
 abbrev pub slot_of : CloseBox → Vector → ℕ
-slot_of b p = (((raised p.x - b.x) * b.breadth % 2 ^ 64 + (raised p.y - b.y)) % 2 ^ 64 * b.height % 2 ^ 64 + (raised p.z - b.z)) % 2 ^ 64
+slot_of b p = (((raised p.x - b.x) * b.x_factor % 2 ^ 64 + (raised p.y - b.y) * b.y_factor % 2 ^ 64) % 2 ^ 64 + (raised p.z - b.z) * b.z_factor % 2 ^ 64) % 2 ^ 64
 
 -- what stands in a slot
 abbrev pub slot_at : List ℕ → ℕ → ℕ

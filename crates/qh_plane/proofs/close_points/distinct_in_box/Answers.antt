@@ -2,6 +2,7 @@ use Rattle.std.proofs.Common.{rules, ◌≡◌, ◌≢◌, ◌∙◌, ℕ, ◌+�
 use Rattle.std.proofs.lemmas.List.{get_or_read}
 use Rattle.qh_model.specs.headline.Predicates.{place}
 use Rattle.qh_model.specs.headline.Vector.{Vector, origin}
+use Rattle.qh_plane.specs.declared.close_points.CloseBox.{CloseBox}
 use Rattle.qh_plane.specs.declared.close_points.TheConstants.{NO_ID}
 use Rattle.qh_plane.specs.steps.CloseBoxes.{slot_of, slot_at, AreSeen}
 use Rattle.qh_plane.proofs.SeenPlaces.{new_seen, again_seen, all_seen}
@@ -17,6 +18,18 @@ point_read pts k p l e = get_or_read pts k p l e origin
 held_id : (k n : ℕ) → (n ≡ NO_ID) ⊎ (n < k) → n ≢ NO_ID → n < k
 held_id k n (inl e) ne = absurd (ne e)
 held_id k n (inr l) ne = l
+
+-- the id that is read from such a slot is one that was seen
+seen_id : (pts : List Vector) (b : CloseBox) (slots : List ℕ) (k : ℕ) (ids : List ℕ) → AreSeen pts b slots k ids → (s n i : ℕ) → s < length slots
+    → n ≡ slice_index_or slots s n → n ≢ NO_ID → i ≡ slice_index_or slots s i → i < k
+seen_id pts b slots k ids old s n i room e ne f =
+    subst (λ m. m < k) (sym (get_or_read slots s i room f NO_ID)) (held_id k (slot_at slots s) (old.held s room) (λ q. ne (get_or_read slots s n room e NO_ID ∙ q)))
+
+pub bounds-pts-index : goal.bounds-pts-index
+bounds-pts-index c =
+    let below = seen_id _ _ _ _ _ c.loop-number.invariant c.slot-slot.result c.index.result.now c.index-else-index.result.now (search rules) c.index.ensures c.if-index.false c.index-else-index.ensures in
+    let within = c.loop-number-test.true in
+    omega (arith, below, within)
 
 pub loop-number-preserved : goal.loop-number-preserved
 loop-number-preserved c =
@@ -35,7 +48,7 @@ loop-number-preserved c =
       | else-index+else-not-are_one w ↦
           let i = w.index-else-index.result.now in
           let read : i ≡ slot_at slots s = get_or_read slots s i room w.index-else-index.ensures NO_ID in
-          let below : i < k = subst (λ n. n < k) (sym read) (held_id k (slot_at slots s) (old.held s room) (λ e. w.if-index.false (get_or_read slots s c.index.result.now room c.index.ensures NO_ID ∙ e))) in
+          let below : i < k = seen_id pts b slots k ids old s c.index.result.now i room c.index.ensures w.if-index.false w.index-else-index.ensures in
           let same : place pts i ≡ place pts k = sym (point_read pts i w.index-pts-index.result (omega (arith, below, within)) w.index-pts-index.is) ∙ w.are_one.ensures w.if-not-are_one.false
           ∙ point_read pts k w.index-pts-number-else-index.result within w.index-pts-number-else-index.is in
           let next = again_seen pts b slots k ids old within c.requires.few i (subst (λ n. slot_at slots n ≡ i) at (sym read)) below same in
