@@ -1,0 +1,104 @@
+#!/usr/bin/env python3
+"""Says where this program's CPU time goes: reading, distinct points, the look for inner points, surfaces, faces, text.
+
+    apt-get install linux-perf
+    bench/phases.py --words off
+
+For each family one seeded file; `perf record` takes samples of one run, and each belongs to the phase of the function that
+it is in. Functions that are inlined count with their caller, the sort of 64-bit numbers with the distinct points although a
+large surface begins with one too, and what the system does (memory, pages, pipes) is a column of its own. By hand: no gate
+asks for it.
+"""
+import argparse
+import os
+import re
+import subprocess
+import sys
+import tempfile
+
+import compare
+
+PHASES = ["read", "distinct", "look", "surface", "faces", "text", "system", "else"]
+
+# the phase of the first pattern that a symbol has
+OWNERS = [
+    (r"^qh_write::", "text"),
+    (r"^qh_read::|serve_once", "read"),
+    (r"^qh_plane::(close_points|distinct_points|place_numbers|place_keys|sorting)|^rayon::", "distinct"),
+    (r"^qh_block::inner_points", "look"),
+    (r"^qh_block::(faces|face_order|hulls|walk|plane_walk|solid_edges|bodies|flat_sets)", "faces"),
+    (r"^qh_block::solids::(corners|listed)|^qh_plane::", "faces"),
+    (r"^qh_block::|^qh_mesh::|^qh_pred::", "surface"),
+]
+
+# the sorts, by what is moved: a polygon is more than a number
+SORTS = re.compile(r"^core::slice::sort")
+
+
+def sample(command, path, folder):
+    """The shares of the symbols of one run: pairs of a symbol and its part of 1."""
+    record = os.path.join(folder, "perf.data")
+    with open(path, "rb") as source:
+        subprocess.run(["perf", "record", "-q", "-F", "4000", "-o", record] + command, stdin=source, stdout=subprocess.DEVNULL,
+                       stderr=subprocess.DEVNULL, check=True)
+    text = subprocess.run(["perf", "report", "-i", record, "--stdio", "--no-children", "--sort", "dso,symbol"],
+                          stdout=subprocess.PIPE, stderr=subprocess.DEVNULL, check=True, text=True).stdout
+    for line in text.splitlines():
+        found = re.match(r"\s*([0-9.]+)%\s+(\S+)\s+\[(.)\]\s+(\S.*?)\s*(?:-\s+-\s*)?$", line)
+        if found:
+            yield found.group(2), found.group(3), found.group(4), float(found.group(1)) / 100
+
+
+def sort_phase(name, number_sorts):
+    """A sort of numbers is one of distinct points, any other one of faces."""
+    kind = re.search(r"<#(\w+)>", name)
+    return "distinct" if kind and kind.group(1) in number_sorts else "faces"
+
+
+def phase(dso, space, name, ours, number_sorts):
+    """The phase of a symbol."""
+    if space == "k" or dso != ours:
+        return "system"
+    if SORTS.match(name):
+        return sort_phase(name, number_sorts)
+    for pattern, owner in OWNERS:
+        if re.search(pattern, name):
+            return owner
+    return "else"
+
+
+def number_sorts(command, folder):
+    """The sorts that a set without faces to sort takes: those of numbers."""
+    path = os.path.join(folder, "cube.txt")
+    with open(path, "wb") as out:
+        subprocess.run([sys.executable, compare.POINTS, "cube", "200000"], stdout=out, check=True)
+    names = (name for _, _, name, part in sample(command, path, folder) if SORTS.match(name) and part > 0.01)
+    return {kind.group(1) for kind in (re.search(r"<#(\w+)>", name) for name in names) if kind}
+
+
+def main():
+    parser = argparse.ArgumentParser(description=__doc__.splitlines()[0])
+    parser.add_argument("--ours", default="crates/qconvex/out/qconvex", help="this program")
+    parser.add_argument("--words", default="s", help="the words that it is given")
+    parser.add_argument("--count", type=int, default=1000000)
+    parser.add_argument("--families", default="cube,ball,cube-surface,grid,sphere,paraboloid,flat,line")
+    given = parser.parse_args()
+    command = [given.ours] + given.words.split()
+    print("| Family | CPU s | " + " | ".join(PHASES) + " |")
+    print("|---" * (len(PHASES) + 2) + "|")
+    with tempfile.TemporaryDirectory() as folder:
+        numbers = number_sorts(command, folder)
+        path = os.path.join(folder, "points.txt")
+        for family in given.families.split(","):
+            with open(path, "wb") as out:
+                subprocess.run([sys.executable, compare.POINTS, family, str(given.count)], stdout=out, check=True)
+            cpu = min(compare.run(command, path)[0] for _ in range(3))
+            parts = dict.fromkeys(PHASES, 0.0)
+            for dso, space, name, part in sample(command, path, folder):
+                parts[phase(dso, space, name, os.path.basename(given.ours), numbers)] += part
+            cells = " | ".join("%.0f" % (100 * parts[name]) for name in PHASES)
+            print("| %s | %.3f | %s |" % (family, cpu, cells), flush=True)
+
+
+if __name__ == "__main__":
+    main()
