@@ -37,6 +37,13 @@ module _ (pts : List Vector) (ids : List ℕ) (fs : List StoredFacet) (f : ℕ) 
   abbrev at : ℕ → Vector
   at = place pts
 
+  -- the normal of the facet, and the corners of its plane
+  abbrev normal : Vector
+  normal = cross (at (m.i f)) (at (m.j f)) (at (m.k f))
+
+  abbrev InPlane : ℕ → Type 0
+  InPlane = CornerInPlane at m (m.i f) (m.j f) (m.k f)
+
   lives : (g : ℕ) → IsLive fs g → In g m.live
   lives g l = (live_is_marked fs g).1 l
 
@@ -63,34 +70,36 @@ module _ (pts : List Vector) (ids : List ℕ) (fs : List StoredFacet) (f : ℕ) 
     own l c = (members l).1 (f, w.start, c)
 
     -- of the corners of the plane's facets
-    corner : (l : ℕ) → Members corners l ↔ CornerInPlane at m (m.i f) (m.j f) (m.k f) l
+    corner : (l : ℕ) → Members corners l ↔ InPlane l
     corner l = (
       λ i. (let c = (members l).0 i in record { f = c.0; live = lives c.0 (on_live c.0 c.1); level = on_level c.0 c.1; corner = c.2 }),
       λ c. (members l).1 (c.f, found c.f ((live_is_marked fs c.f).0 c.live) c.level, c.corner),
     )
 
     extreme : (l : ℕ) → Extreme at (Members corners) l ↔ OnPlane at (Extreme at (Members ids)) (m.i f) (m.j f) (m.k f) l
-    extreme l = let law = extremes_of_plane at ids m set.distinct z (m.i f) (m.j f) (m.k f) (facets_support at ids m z f (lives f live)) l in (
-      λ x. law.0 ((extreme_as at (Members corners) (CornerInPlane at m (m.i f) (m.j f) (m.k f)) corner l).0 x),
-      λ x. (extreme_as at (Members corners) (CornerInPlane at m (m.i f) (m.j f) (m.k f)) corner l).1 (law.1 x),
-    )
+    extreme l = let support = facets_support at ids m z f (lives f live) in
+        let law = extremes_of_plane at ids m set.distinct z (m.i f) (m.j f) (m.k f) support l in (
+          λ x. law.0 ((extreme_as at (Members corners) InPlane corner l).0 x),
+          λ x. (extreme_as at (Members corners) InPlane corner l).1 (law.1 x),
+        )
 
     -- so a polygon of the corners is the face
-    pub face_of_corners : IsPolygon at (Extreme at (Members corners)) (cross (at (m.i f)) (at (m.j f)) (at (m.k f))) q → IsNewFace at (Members ids) fs f before after q
+    pub face_of_corners : IsPolygon at (Extreme at (Members corners)) normal q → IsNewFace at (Members ids) fs f before after q
     face_of_corners polygon = record {
       kept = w.further.kept;
       marked = λ g l level. found_marked (IsLevelFacet at m f) fs before after f vs w g (found g l level);
       only = λ g h. only g (w.further.only g h);
-      polygon = polygon_as at (Extreme at (Members corners)) (OnPlane at (Extreme at (Members ids)) (m.i f) (m.j f) (m.k f)) (cross (at (m.i f)) (at (m.j f)) (at (m.k f))) (cross (at (m.i f)) (at (m.j f)) (at (m.k f))) q
-          extreme (along_itself (cross (at (m.i f)) (at (m.j f)) (at (m.k f)))) polygon;
+      polygon = polygon_as at (Extreme at (Members corners)) (OnPlane at (Extreme at (Members ids)) (m.i f) (m.j f) (m.k f)) normal normal q
+          extreme (along_itself normal) polygon;
     }
       where
-        only : (g : ℕ) → (mark_at before g ≡ true) ⊎ (is_listed vs g ≡ true) → (mark_at before g ≡ true) ⊎ (IsLive fs g × IsLevelFacet at m f g)
+        only : (g : ℕ) → (mark_at before g ≡ true) ⊎ (is_listed vs g ≡ true)
+            → (mark_at before g ≡ true) ⊎ (IsLive fs g × IsLevelFacet at m f g)
         only g (inl h) = inl h
         only g (inr h) = inr (on_live g h, on_level g h)
 
     -- the corners, rising, are a planar set
-    planar : IsStrictlyIncreasing corners → IsPlanarSet pts corners (cross (at (m.i f)) (at (m.j f)) (at (m.k f)))
+    planar : IsStrictlyIncreasing corners → IsPlanarSet pts corners normal
     planar rising = record {
       set = record { rising = rising; distinct = λ x y i j e. set.distinct x y (among x i) (among y j) e };
       i = m.i f;
@@ -105,6 +114,6 @@ module _ (pts : List Vector) (ids : List ℕ) (fs : List StoredFacet) (f : ℕ) 
     }
 
     -- the face by the polygon of a planar set
-    pub new_face : IsStrictlyIncreasing corners → (IsPlanarSet pts corners (cross (at (m.i f)) (at (m.j f)) (at (m.k f)))
-        → IsPolygon at (Extreme at (Members corners)) (cross (at (m.i f)) (at (m.j f)) (at (m.k f))) q) → IsNewFace at (Members ids) fs f before after q
+    pub new_face : IsStrictlyIncreasing corners → (IsPlanarSet pts corners normal
+        → IsPolygon at (Extreme at (Members corners)) normal q) → IsNewFace at (Members ids) fs f before after q
     new_face rising polygon = face_of_corners (polygon (planar rising))

@@ -29,7 +29,8 @@ use Rattle.qh_block.proofs.runs.NamedFacets.{AreLive}
 
 -- ---- the facets of a cone
 -- the neighbour over the second side was made
-pub fan_next : {fs : List StoredFacet} {made : List FacetNo} {f g : ℕ} → IsFan fs made → g ≡ twin_of fs (3 * f + 1) / 3 → Names made f → Names made g
+pub fan_next : {fs : List StoredFacet} {made : List FacetNo} {f g : ℕ} → IsFan fs made → g ≡ twin_of fs (3 * f + 1) / 3
+    → Names made f → Names made g
 fan_next k e n = rw e (k.closed _ n)
 
 -- what a replacement made is a cone
@@ -66,32 +67,36 @@ module _ (pts : List Vector) (fs : List StoredFacet) (ps : List PlaneValue) (mad
   to_of f = place pts (facet_at fs f).j
 
   -- of a facet that was made, the plane is that of a triangle at the apex
-  made_plane : IsFan fs made → (f : ℕ) → IsPlaneOf pts fs ps f → Names made f → (q : Vector) → height (plane_at ps f) q ≡ vol (apex_of pts fs made) (from_of f) (to_of f) q
+  made_plane : IsFan fs made → (f : ℕ) → IsPlaneOf pts fs ps f → Names made f
+      → (q : Vector) → height (plane_at ps f) q ≡ vol (apex_of pts fs made) (from_of f) (to_of f) q
   made_plane fan f p (j, l, e) q =
       let turned = ap (λ g. (facet_at fs g).k) e ∙ fan.turned j l ∙ sym (fan.turned 0 (omega arith)) in
       p.1 q ∙ vol_turn (from_of f) (to_of f) (place pts (facet_at fs f).k) q ∙ ap (λ n. vol (place pts n) (from_of f) (to_of f) q) turned
 
   -- a facet that was made is a wedge
-  pub read_wedge : AreLive fs made → HasNoCornerAbove pts fs → ((g : ℕ) → Names made g → IsPlaneOf pts fs ps g) → IsFan fs made → (f : FacetNo) → Names made f.0
+  pub read_wedge : AreLive fs made → HasNoCornerAbove pts fs → ((g : ℕ) → Names made g → IsPlaneOf pts fs ps g) → IsFan fs made
+      → (f : FacetNo) → Names made f.0
       → IsWedge ps made (apex_of pts fs made) (record { facet = f; plane = plane_at ps f.0; from = from_of f.0; to = to_of f.0 })
   read_wedge live above planes fan f n = record {
     named = n;
     plane = refl;
     triangle = made_plane fan f.0 (planes f.0 n) n;
-    below = λ j l. let g = number made j in let p = planes g (j, l, refl) in let h = above g f.0 (live j l) (rw n.2 (live n.0 n.1)) in record {
-      b = from_of g;
-      c = to_of g;
-      triangle = made_plane fan g p (j, l, refl);
-      from_below = rw (p.1 (from_of f.0)) h.0;
-      to_below = rw (p.1 (to_of f.0)) h.1;
-    };
+    below = λ j l. let g = number made j in let p = planes g (j, l, refl) in
+        let h = above g f.0 (live j l) (rw n.2 (live n.0 n.1)) in record {
+          b = from_of g;
+          c = to_of g;
+          triangle = made_plane fan g p (j, l, refl);
+          from_below = rw (p.1 (from_of f.0)) h.0;
+          to_below = rw (p.1 (to_of f.0)) h.1;
+        };
   }
 
 -- what holds of each wedge, and of one more
 pub each_more : (P : Wedge → Type 0) (ws : List Wedge) (w : Wedge) → ((i : ℕ) → i < length ws → P (wedge_at ws i)) → P w
     → (i : ℕ) → i < length (ws ++ w ∷ []) → P (wedge_at (ws ++ w ∷ []) i)
 each_more P ws w k h i l = let n = length_push ws w in
-    by_le _ i (length ws) (λ m. rw (get_or_append_left ws (w ∷ []) no_wedge i m) (k i m)) (λ m. rw (get_or_push ws w no_wedge i (omega arith)) h)
+    by_le _ i (length ws) (λ m. rw (get_or_append_left ws (w ∷ []) no_wedge i m) (k i m))
+    (λ m. rw (get_or_push ws w no_wedge i (omega arith)) h)
 
 -- ---- the answers
 -- a height that is not above 0
@@ -99,8 +104,9 @@ pub not_above : (z : ℤ) → (pos 0 <ℤ z → ⊥) → z ≤ℤ pos 0
 not_above z n = grind (arith, ints)
 
 -- a point that the search places between rays of the ring, those of two wedges v, the first, and w
-pub among : {a p : Vector} {ws : List Wedge} (i : ℕ) (v w : Wedge) (half : PlaneValue) → i < length ws → v ≡ wedge_at ws 0 → w ≡ wedge_at ws i → AreTriangles a ws
-    → ((q : Vector) → height half q ≡ vol a v.from p q) → height w.plane v.from <ℤ pos 0 → height w.plane p ≤ℤ pos 0
+pub among : {a p : Vector} {ws : List Wedge} (i : ℕ) (v w : Wedge) (half : PlaneValue) → i < length ws
+    → v ≡ wedge_at ws 0 → w ≡ wedge_at ws i → AreTriangles a ws → ((q : Vector) → height half q ≡ vol a v.from p q)
+    → height w.plane v.from <ℤ pos 0 → height w.plane p ≤ℤ pos 0
     → pos 0 ≤ℤ height half w.from → height half w.to ≤ℤ pos 0 → IsAmongRays a ws p
 among {a} {p} {ws} i v w half l ev ew t h s u f g = record { place = i; within = l; between = rw (← ev, ← ew) own }
   where
@@ -116,7 +122,8 @@ among {a} {p} {ws} i v w half l ev ew t h s u f g = record { place = i; within =
     }
 
 -- a point among rays is above none of the facets
-pub among_unseen : {ps : List PlaneValue} {made : List FacetNo} {a p : Vector} {ws : List Wedge} → AreWedges ps made a ws → IsAmongRays a ws p → IsAboveNone ps made p
+pub among_unseen : {ps : List PlaneValue} {made : List FacetNo} {a p : Vector} {ws : List Wedge}
+    → AreWedges ps made a ws → IsAmongRays a ws p → IsAboveNone ps made p
 among_unseen {ps} {made} {a} {p} {ws} k r j l =
     rw (own.triangle p) (between_rays a x y z own.b own.c p r.between.spans r.between.after_y r.between.after_z r.between.after_x
     (rw (← own.triangle x) ((k 0 (let h = r.within in omega arith)).below j l).from_below)

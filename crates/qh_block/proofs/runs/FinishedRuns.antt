@@ -23,10 +23,12 @@ use Rattle.qh_block.specs.steps.OutsideSets.{OutsideValue, set_of}
 use Rattle.qh_block.specs.steps.Runs.{IsDone, Names, AreWithin, IsGrown, IsUnderWay, IsSettling, IsRemade}
 
 -- once all orphans are settled and the facets with outside sets wait, the next round may begin
-pub next_round : {pts : List Vector} {fs : List StoredFacet} {old ps : List PlaneValue} {v w : OutsideValue} {pending made waiting : List FacetNo}
+pub next_round : {pts : List Vector} {fs : List StoredFacet} {old ps : List PlaneValue} {v w : OutsideValue}
+    {pending made waiting : List FacetNo}
     → IsRemade pts fs old v pending made → ArePlanes (place pts) fs ps → IsSettling pts fs w pending made → w.orphans ≡ []
-    → w.positions ≡ v.positions → length fs ≤ length w.sets → AreWithin (length w.sets) waiting → ((f : ℕ) → Names pending f → Names waiting f)
-    → ((f p : ℕ) → Names made f → In p (set_of w f) → Names waiting f) → IsUnderWay pts fs ps w waiting
+    → w.positions ≡ v.positions → length fs ≤ length w.sets → AreWithin (length w.sets) waiting
+    → ((f : ℕ) → Names pending f → Names waiting f) → ((f p : ℕ) → Names made f → In p (set_of w f) → Names waiting f)
+    → IsUnderWay pts fs ps w waiting
 next_round k planes z o e room within kept more = record {
   grown = k.grown;
   planes = planes;

@@ -1,5 +1,5 @@
 -- Lists of facets: which ones a list names.
-use Rattle.std.proofs.Common.{◌≡◌, ℕ, ◌<◌, ◌≤◌, arith, ap, sym, ◌∙◌, refl, ◌⊎◌, inl, inr, List, [], ◌∷◌, ◌++◌, length, true, take}
+use Rattle.std.proofs.Common.{◌≡◌, ℕ, ◌<◌, ◌≤◌, arith, ap, ◌∙◌, refl, ◌⊎◌, inl, inr, List, [], ◌∷◌, ◌++◌, length, true, take}
 use Rattle.std.proofs.lemmas.List.{get_or_append_left, get_or_push, length_push, get_or-take, length-take-le}
 use Rattle.qh_model.specs.contract.StoredSurface.{StoredFacet}
 use Rattle.qh_mesh.specs.declared.facets.FacetNo.{FacetNo}
@@ -18,11 +18,13 @@ names_none f (j, h, e) = omega arith
 
 -- a list names what it named before a facet was added
 pub names_kept : (vs : List FacetNo) (x : FacetNo) (f : ℕ) → Names vs f → Names (vs ++ x ∷ []) f
-names_kept vs x f (j, l, e) = (j, (let h = length_push vs x in omega arith), e ∙ sym (ap (λ (v : FacetNo). v.0) (get_or_append_left vs (x ∷ []) (record { 0 = 0 }) j l)))
+names_kept vs x f (j, l, e) =
+    let h = length_push vs x in (j, omega arith, rw (get_or_append_left vs (x ∷ []) (record { 0 = 0 }) j l, number) e)
 
 -- and that facet
 pub names_last : (vs : List FacetNo) (x : FacetNo) → Names (vs ++ x ∷ []) x.0
-names_last vs x = (length vs, (let h = length_push vs x in omega arith), sym (ap (λ (v : FacetNo). v.0) (get_or_push vs x (record { 0 = 0 }) (length vs) refl)))
+names_last vs x =
+    let h = length_push vs x in (length vs, omega arith, rw (get_or_push vs x (record { 0 = 0 }) (length vs) refl, number) refl)
 
 -- and no other
 pub names_push : (vs : List FacetNo) (x : FacetNo) (f : ℕ) → Names (vs ++ x ∷ []) f → Names vs f ⊎ (f ≡ x.0)
@@ -58,7 +60,8 @@ within_last n vs x h = names_within n (vs ++ x ∷ []) x.0 h (names_last vs x)
 -- what the first n name, all name
 pub names_take : (n : ℕ) (vs : List FacetNo) (f : ℕ) → n ≤ length vs → Names (take n vs) f → Names vs f
 names_take n vs f h (j, l, e) =
-    let k = length-take-le n vs h in (j, omega (arith, l, k, h), e ∙ ap (λ (v : FacetNo). v.0) (get_or-take n vs j (record { 0 = 0 }) (omega (arith, l, k))))
+    let k = length-take-le n vs h in
+    (j, omega (arith, l, k, h), rw (get_or-take n vs j (record { 0 = 0 }) (omega (arith, l, k)), number) at e)
 
 -- so their bound is one of the first n
 pub within_take : (m n : ℕ) (vs : List FacetNo) → n ≤ length vs → AreWithin m vs → AreWithin m (take n vs)

@@ -69,7 +69,8 @@ module _ {pts : List Vector} {old new : List StoredFacet} {vs made : List FacetN
       ends g s i = let o = c g i in
           elim s as (λ s. (start m g s < n) × (end m g s < n)) [ first ↦ (o.0, o.1) | second ↦ (o.1, o.2) | third ↦ (o.2, o.0) ]
 
-      by : (In f m.live × IsBlindTo m home f (home a)) ⊎ ((g : ℕ) × (s : Side) × IsHorizonSide m home (home a) g s × (f ≡ d.rewired.number g s))
+      by : (In f m.live × IsBlindTo m home f (home a))
+          ⊎ ((g : ℕ) × (s : Side) × IsHorizonSide m home (home a) g s × (f ≡ d.rewired.number g s))
           → ((facet_at new f).i < n) × ((facet_at new f).j < n) × ((facet_at new f).k < n)
       by (inl (i, b)) = let k = d.rewired.kept f i b in let o = c f (live_in old f i) in (rw k.i_is o.0, rw k.j_is o.1, rw k.k_is o.2)
       by (inr (g, s, i, e)) = let t = d.rewired.cone g s i in let o = ends g s (live_in old g i.live) in
@@ -78,7 +79,8 @@ module _ {pts : List Vector} {old new : List StoredFacet} {vs made : List FacetN
   -- around a point in the old mesh
   module _ {o : Weighted} (z : IsSoundMesh (place pts) old o) where
     -- the cone is made of the facets that were made
-    cone_unseen : (q : ℕ) → ((j : ℕ) → j < length made → height_at pts new (number made j) q ≤ℤ pos 0) → IsConeUnseen m home (home a) (home q)
+    cone_unseen : (q : ℕ) → ((j : ℕ) → j < length made → height_at pts new (number made j) q ≤ℤ pos 0)
+        → IsConeUnseen m home (home a) (home q)
     cone_unseen q h f i s k b = subst (λ v. v ≤ℤ pos 0) (sym same) (by (d.replaced.only g (live_in new g t.live)))
       where
         g : ℕ
@@ -88,9 +90,12 @@ module _ {pts : List Vector} {old new : List StoredFacet} {vs made : List FacetN
         t = d.rewired.cone f s (record { live = i; seen = k; blind = b })
 
         same : above (home (start m f s)) (home (end m f s)) (home a) (home q) ≡ facet_vol at new (d.rewired.number f s) (at q)
-        same = rise_is_vol (at (start m f s)) (at (end m f s)) (at a) (at q) ∙ sym (λ n. vol (at (t.i_is n)) (at (t.j_is n)) (at (t.k_is n)) (at q))
+        same =
+            rise_is_vol (at (start m f s)) (at (end m f s)) (at a) (at q)
+            ∙ sym (λ n. vol (at (t.i_is n)) (at (t.j_is n)) (at (t.k_is n)) (at q))
 
-        by : IsKept old vs (d.rewired.number f s) ⊎ Names made (d.rewired.number f s) → facet_vol at new (d.rewired.number f s) (at q) ≤ℤ pos 0
+        by : IsKept old vs (d.rewired.number f s) ⊎ Names made (d.rewired.number f s)
+            → facet_vol at new (d.rewired.number f s) (at q) ≤ℤ pos 0
         by (inl x) =
             let c = inr (inr (sym t.k_is ∙ (d.replaced.kept g x).k_is)) in let r = d.rewired in
             absurd (not_less _ _ r.seen (corners_are_settled m home o z.1 r.f0 g r.live (in_live old g x.live) a c))
@@ -115,8 +120,8 @@ module _ {pts : List Vector} {old new : List StoredFacet} {vs made : List FacetN
         by (inr (j, i, q)) = rw q (h j i)
 
 -- then the points that were released are all that must be looked at
-pub remade : {pts : List Vector} {old new : List StoredFacet} {ps : List PlaneValue} {v w : OutsideValue} {pending vs made : List FacetNo} {f a : ℕ}
-    → IsPicked pts old ps v pending f a → IsRound pts old new vs a made → AreReleased v w vs
+pub remade : {pts : List Vector} {old new : List StoredFacet} {ps : List PlaneValue} {v w : OutsideValue}
+    {pending vs made : List FacetNo} {f a : ℕ} → IsPicked pts old ps v pending f a → IsRound pts old new vs a made → AreReleased v w vs
     → w.positions ≡ v.positions → length w.sets ≡ length v.sets → IsRemade pts new ps w pending made
 remade {pts} {old} {new} {ps} {v} {w} {pending} {vs} {made} {f} {a} k d rel e n = record {
   grown = record {
@@ -138,7 +143,8 @@ remade {pts} {old} {new} {ps} {v} {w} {pending} {vs} {made} {f} {a} k d rel e n 
   positions = e ∙ k.positions;
   range = λ j l. let h = k.range j l in omega arith;
   settling = record {
-    outside = λ g p i. let h = stays g p i in ((d.replaced.kept g h).live, rw (stays-vol d g (place pts p) h) (k.outside g p (rel.kept g p i)).1);
+    outside = λ g p i. let h = stays g p i in
+        ((d.replaced.kept g h).live, rw (stays-vol d g (place pts p) h) (k.outside g p (rel.kept g p i)).1);
     waits = λ g p i. waits g p i (k.waits g p (rel.kept g p i));
     all = λ p l. all p (k.all p l);
     drops = λ p i. drops p (rel.orphans p i);

@@ -44,7 +44,8 @@ more_released {v0} {v} {w} {vs} x r o s = record {
 
 -- ---- settled
 -- the sets keep their points and get such as are above facets that were made, and orphans stay, are set or seen by none
-settled_by : {pts : List Vector} {fs : List StoredFacet} {v w : OutsideValue} {pending made : List FacetNo} → IsSettling pts fs v pending made
+settled_by : {pts : List Vector} {fs : List StoredFacet} {v w : OutsideValue} {pending made : List FacetNo}
+    → IsSettling pts fs v pending made
     → ((f p : ℕ) → In p (set_of w f) → In p (set_of v f) ⊎ (IsLive fs f × (pos 0 <ℤ height_at pts fs f p) × Names made f))
     → ((p : ℕ) → In p w.orphans → In p v.orphans) → ((f p : ℕ) → In p (set_of v f) → In p (set_of w f))
     → ((p : ℕ) → In p v.orphans → In p w.orphans ⊎ IsOutside w p ⊎ IsDone pts fs p) → IsSettling pts fs w pending made
@@ -68,9 +69,9 @@ unfolding place
 plane_height pts fs ps f p h l = h.right f l (place pts p)
 
 -- one orphan is settled
-pub one_settled : {pts : List Vector} {fs : List StoredFacet} {ps : List PlaneValue} {v w : OutsideValue} {pending made : List FacetNo} {o : ℕ}
-    → AreLive fs made → ArePlanes (place pts) fs ps → AreWithin (length v.sets) made → v.orphans ≡ o ∷ drop 1 v.orphans
-    → IsOneSettled ps pts made v w → IsSettling pts fs v pending made → IsSettling pts fs w pending made
+pub one_settled : {pts : List Vector} {fs : List StoredFacet} {ps : List PlaneValue} {v w : OutsideValue}
+    {pending made : List FacetNo} {o : ℕ} → AreLive fs made → ArePlanes (place pts) fs ps → AreWithin (length v.sets) made
+    → v.orphans ≡ o ∷ drop 1 v.orphans → IsOneSettled ps pts made v w → IsSettling pts fs v pending made → IsSettling pts fs w pending made
 one_settled {pts} {fs} {ps} {v} {w} {pending} {made} {o} live planes within first one k =
     elim one.fate [ inl d ↦ dropped d | inr a ↦ assigned a ]
   where

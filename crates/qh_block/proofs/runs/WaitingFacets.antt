@@ -17,7 +17,8 @@ pub none_queued : (v : OutsideValue) (old : List FacetNo) → AreQueued v old ol
 none_queued v old = record { within = λ h. h; kept = λ f n. n; added = λ f p n i. absurd (names_none f n) }
 
 -- one with a set is
-pub more_queued : (v : OutsideValue) (old new made : List FacetNo) (x : FacetNo) → x.0 < length v.sets → AreQueued v old new made → AreQueued v old (new ++ x ∷ []) (made ++ x ∷ [])
+pub more_queued : (v : OutsideValue) (old new made : List FacetNo) (x : FacetNo) → x.0 < length v.sets
+    → AreQueued v old new made → AreQueued v old (new ++ x ∷ []) (made ++ x ∷ [])
 more_queued v old new made x l q = record {
   within = λ h. within_push (length v.sets) new x (q.within h) l;
   kept = λ f n. names_kept new x f (q.kept f n);
@@ -29,7 +30,8 @@ more_queued v old new made x l q = record {
     by f p i (inr e) = subst (Names (new ++ x ∷ [])) (sym e) (names_last new x)
 
 -- one without need not be
-pub more_idle : (v : OutsideValue) (old new made : List FacetNo) (x : FacetNo) → set_of v x.0 ≡ [] → AreQueued v old new made → AreQueued v old new (made ++ x ∷ [])
+pub more_idle : (v : OutsideValue) (old new made : List FacetNo) (x : FacetNo) → set_of v x.0 ≡ []
+    → AreQueued v old new made → AreQueued v old new (made ++ x ∷ [])
 more_idle v old new made x e q = record { within = q.within; kept = q.kept; added = λ f p n i. by f p i (names_push made x f n) }
   where
     by : (f p : ℕ) → In p (set_of v f) → Names made f ⊎ (f ≡ x.0) → Names new f

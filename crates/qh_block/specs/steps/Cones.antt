@@ -27,7 +27,8 @@ apex_of pts fs made = place pts (facet_at fs (number made 0)).k
 -- no corner of a facet is above a facet
 abbrev pub HasNoCornerAbove : List Vector → List StoredFacet → Type 0
 HasNoCornerAbove pts fs = (f g : ℕ) → IsLive fs f → IsLive fs g
-    → (facet_vol (place pts) fs f (place pts (facet_at fs g).i) ≤ℤ pos 0) × (facet_vol (place pts) fs f (place pts (facet_at fs g).j) ≤ℤ pos 0)
+    → (facet_vol (place pts) fs f (place pts (facet_at fs g).i) ≤ℤ pos 0)
+    × (facet_vol (place pts) fs f (place pts (facet_at fs g).j) ≤ℤ pos 0)
 
 -- a wedge past the end
 abbrev pub no_wedge : Wedge
@@ -58,7 +59,8 @@ AreWedges ps made a ws = (i : ℕ) → i < length ws → IsWedge ps made a (wedg
 
 -- each wedge of a ring is a triangle at the apex a
 abbrev pub AreTriangles : Vector → List Wedge → Type 0
-AreTriangles a ws = (i : ℕ) → i < length ws → (q : Vector) → height (wedge_at ws i).plane q ≡ vol a (wedge_at ws i).from (wedge_at ws i).to q
+AreTriangles a ws = (i : ℕ) → i < length ws
+    → (q : Vector) → height (wedge_at ws i).plane q ≡ vol a (wedge_at ws i).from (wedge_at ws i).to q
 
 -- a wedge's facet f sees p
 pub record IsSeenBy (ws : List Wedge) (p : Vector) (f : ℕ) : Type 0 where

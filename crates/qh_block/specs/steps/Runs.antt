@@ -58,7 +58,8 @@ pub record IsGrown (pts : List Vector) (fs : List StoredFacet) : Type 0 where
 
 -- between rounds: each point stands in the outside set of a facet that it is above, and that waits for its turn,
 -- or no facet sees it
-pub record IsUnderWay (pts : List Vector) (fs : List StoredFacet) (ps : List PlaneValue) (v : OutsideValue) (pending : List FacetNo) : Type 0 where
+pub record IsUnderWay (pts : List Vector) (fs : List StoredFacet) (ps : List PlaneValue) (v : OutsideValue)
+    (pending : List FacetNo) : Type 0 where
   pub grown : IsGrown pts fs
   pub planes : ArePlanes (place pts) fs ps
   pub positions : v.positions ≡ length pts
@@ -70,7 +71,8 @@ pub record IsUnderWay (pts : List Vector) (fs : List StoredFacet) (ps : List Pla
   pub all : (p : ℕ) → p < length pts → IsOutside v p ⊎ IsDone pts fs p
 
 -- the position a was taken out of the outside set of facet f, to be the next apex
-pub record IsPicked (pts : List Vector) (fs : List StoredFacet) (ps : List PlaneValue) (v : OutsideValue) (pending : List FacetNo) (f a : ℕ) : Type 0 where
+pub record IsPicked (pts : List Vector) (fs : List StoredFacet) (ps : List PlaneValue) (v : OutsideValue)
+    (pending : List FacetNo) (f a : ℕ) : Type 0 where
   pub grown : IsGrown pts fs
   pub planes : ArePlanes (place pts) fs ps
   pub positions : v.positions ≡ length pts
@@ -96,7 +98,8 @@ abbrev pub IsPlaneOf : List Vector → List StoredFacet → List PlaneValue → 
 IsPlaneOf pts fs ps f = (f < length ps) × ((p : Vector) → height (plane_at ps f) p ≡ facet_vol (place pts) fs f p)
 
 -- facets were made that have no plane and no outside set yet
-pub record IsRemade (pts : List Vector) (fs : List StoredFacet) (ps : List PlaneValue) (v : OutsideValue) (pending made : List FacetNo) : Type 0 where
+pub record IsRemade (pts : List Vector) (fs : List StoredFacet) (ps : List PlaneValue) (v : OutsideValue)
+    (pending made : List FacetNo) : Type 0 where
   pub grown : IsGrown pts fs
   pub planes : (f : ℕ) → IsLive fs f → IsPlaneOf pts fs ps f ⊎ Names made f
   pub made_live : (j : ℕ) → j < length made → IsLive fs (number made j)

@@ -32,7 +32,8 @@ fn no_plane() -> Plane {
 /// Makes room for the planes of so many places.
 pub fn make_room(planes: &mut Vec<Plane>, places: usize) -> Result<(), AllocError>
     ensures room { OnOk result (places ≤ length planes.new.items) }
-    ensures kept { (f : ℕ) → f < length planes.old.items → (f < length planes.new.items) × (plane_at planes.new.items f ≡ plane_at planes.old.items f) }
+    ensures kept { (f : ℕ) → f < length planes.old.items
+        → (f < length planes.new.items) × (plane_at planes.new.items f ≡ plane_at planes.old.items f) }
 {
     if planes.len() < places {
         planes.resize(places, no_plane())?;
@@ -46,7 +47,8 @@ pub fn renew(pts: &[Point], mesh: &Mesh, made: &[FacetNo], planes: &mut Vec<Plan
     requires corners { HasCornersBelow (length pts.now) mesh.now }
     requires room { length mesh.now ≤ length planes.old.items }
     ensures len { length planes.new.items ≡ length planes.old.items }
-    ensures planes { (f : ℕ) → IsLive mesh.now f → IsPlaneOf pts.now mesh.now planes.old.items f ⊎ Names made.now f → IsPlaneOf pts.now mesh.now planes.new.items f }
+    ensures planes { (f : ℕ) → IsLive mesh.now f → IsPlaneOf pts.now mesh.now planes.old.items f ⊎ Names made.now f
+        → IsPlaneOf pts.now mesh.now planes.new.items f }
 {
     for facet in made {
         planes[facet.0] = plane_of(pts, mesh, *facet);

@@ -120,7 +120,8 @@ impl Run {
         requires remade { IsRemade self.old.points.items self.old.mesh self.old.planes.items self.old.sets self.old.pending.items made.now }
         requires fan { SCANNED < length made.now → IsFan self.old.mesh made.now }
         ensures points { self.new.points.items ≡ self.old.points.items }
-        ensures under_way { OnOk result (IsUnderWay self.old.points.items self.new.mesh self.new.planes.items self.new.sets self.new.pending.items) }
+        ensures under_way { OnOk result (
+            IsUnderWay self.old.points.items self.new.mesh self.new.planes.items self.new.sets self.new.pending.items) }
         ensures listed { OnOk result (listed self.new.sets ≤ listed self.old.sets) }
     {
         let places = self.mesh.places();
@@ -140,7 +141,8 @@ impl Run {
     fn add(&mut self, alloc: Global, facet: FacetNo, apex: u32) -> Result<(), Memory>
         requires { IsPicked self.old.points.items self.old.mesh self.old.planes.items self.old.sets self.old.pending.items facet.0 apex }
         ensures points { self.new.points.items ≡ self.old.points.items }
-        ensures under_way { OnOk result (IsUnderWay self.old.points.items self.new.mesh self.new.planes.items self.new.sets self.new.pending.items) }
+        ensures under_way { OnOk result (
+            IsUnderWay self.old.points.items self.new.mesh self.new.planes.items self.new.sets self.new.pending.items) }
         ensures listed { OnOk result (listed self.new.sets ≤ listed self.old.sets) }
     {
         let point = self.points[apex as usize];

@@ -133,7 +133,8 @@ pub fn settle_orphans(
     requires places { AreWithin (length sets.old.sets) made.now }
     requires ring { AreWedges planes.now made.now ring.now.apex ring.now.wedges.items }
     ensures none { sets.new.orphans ≡ [] }
-    ensures settled { (fs : List StoredFacet) (pending : List FacetNo) → ((j : ℕ) → j < length made.now → IsLive fs (number made.now j)) → ArePlanes (place points.now) fs planes.now
+    ensures settled { (fs : List StoredFacet) (pending : List FacetNo)
+        → ((j : ℕ) → j < length made.now → IsLive fs (number made.now j)) → ArePlanes (place points.now) fs planes.now
         → IsSettling points.now fs sets.old pending made.now → IsSettling points.now fs sets.new pending made.now }
     ensures places { length sets.new.sets ≡ length sets.old.sets }
     ensures positions { sets.new.positions ≡ sets.old.positions }

@@ -1,12 +1,6 @@
 -- The hull of a point, and that of a solid from its finished mesh.
-use Rattle.std.proofs.Common.{List, ℕ, subst}
+use Rattle.std.proofs.Common.{subst}
 use Rattle.std.proofs.lemmas.Result.{IfOk-weaker}
-use Rattle.qh_model.specs.contract.IdSets.{IsIdSet}
-use Rattle.qh_model.specs.contract.FinishedSurface.{IsFinished}
-use Rattle.qh_model.specs.headline.Hull.{BodyValue, IsBody}
-use Rattle.qh_model.specs.headline.Predicates.{place}
-use Rattle.qh_model.specs.headline.Sets.{Members}
-use Rattle.qh_model.specs.contract.StoredSurface.{surface_of}
 use Rattle.qh_model.proofs.Members.{rising_once}
 use Rattle.qh_block.specs.steps.FlatBodies.{IsFlatBody}
 use Rattle.qh_block.proofs.flats.Bodies.{point_is_body}
@@ -16,12 +10,12 @@ pub returns-in_ok-polygon_of-in-Point : goal.returns-in_ok-polygon_of-in-Point
 returns-in_ok-polygon_of-in-Point c =
     let pts = c.args.set.pts.now in let ids = c.args.set.ids.now in let shape = c.in-Point.ensures.shape in
     IfOk-weaker c.flat_body.result _ _
-    (λ b h s. point_is_body pts ids b c.in-Point.i shape.0 shape.1 (c.in-Point.ensures.dimension s) (subst (λ q. IsFlatBody 0 q 0 b) c.in_ok-polygon_of-in-Point.ensures h))
+    (λ b h s. point_is_body pts ids b c.in-Point.i shape.0 shape.1 (c.in-Point.ensures.dimension s)
+    (subst (λ q. IsFlatBody 0 q 0 b) c.in_ok-polygon_of-in-Point.ensures h))
     c.flat_body.ensures
 
 pub returns-in_ok-mesh-in-Solid : goal.returns-in_ok-mesh-in-Solid
 returns-in_ok-mesh-in-Solid c =
-    let pts = c.args.set.pts.now in let ids = c.args.set.ids.now in
-    IfOk-weaker c.solid_body.result
-    (λ (b : BodyValue). (ids : List ℕ) → IsIdSet pts ids → IsFinished (place pts) ids (surface_of c.in_ok-mesh-in-Solid.mesh) → IsBody (place pts) (Members ids) b) (λ (b : BodyValue). IsIdSet pts ids → IsBody (place pts) (Members ids) b)
+    let ids = c.args.set.ids.now in
+    IfOk-weaker c.solid_body.result _ _
     (λ b h s. h ids s (c.in_ok-mesh-in-Solid.ensures.finished (rising_once ids s.rising))) c.solid_body.ensures

@@ -8,7 +8,9 @@ pub returns-in-Unseen-clause-none : goal.returns-in-Unseen-clause-none
 returns-in-Unseen-clause-none c = among_unseen c.requires.ring c.in-Unseen.ensures
 
 pub first_below-requires-2 : goal.first_below-requires-2
-first_below-requires-2 c = let many = c.if-made-le-SCANNED.false in within_take (length c.args.planes.now) 16 c.args.made.now (omega (arith, many)) c.requires.planes
+first_below-requires-2 c =
+    within_take (length c.args.planes.now) 16 c.args.made.now (omega (arith, c.if-made-le-SCANNED.false)) c.requires.planes
 
 pub returns-in-Some-clause-named : goal.returns-in-Some-clause-named
-returns-in-Some-clause-named c = let many = c.if-made-le-SCANNED.false in names_take 16 c.args.made.now c.in-Some.facet.0 (omega (arith, many)) c.in-Some.ensures.named
+returns-in-Some-clause-named c =
+    names_take 16 c.args.made.now c.in-Some.facet.0 (omega (arith, c.if-made-le-SCANNED.false)) c.in-Some.ensures.named

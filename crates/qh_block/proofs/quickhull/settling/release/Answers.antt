@@ -10,7 +10,8 @@ loop-facet-init c = record { released = none_released c.args.sets.now; places = 
 
 pub loop-facet-preserved : goal.loop-facet-preserved
 loop-facet-preserved c =
-    let i = c.loop-facet.facet-index in let gone = c.args.gone.now in let was = c.loop-facet.invariant in let e = c.release.ensures in record {
+    let i = c.loop-facet.facet-index in let gone = c.args.gone.now in let was = c.loop-facet.invariant in
+    let e = c.release.ensures in record {
       released = rw (take_more gone i (record { 0 = 0 }) c.loop-facet-test.true)
           (more_released (get_or gone i (record { 0 = 0 })) was.released e.orphans e.sets);
       places = ap (λ (xs : List (List ℕ)). length xs) e.sets ∙ length-set c.loop-facet.sets.sets (number gone i) [] ∙ was.places;
@@ -19,4 +20,5 @@ loop-facet-preserved c =
     }
 
 pub returns-clause-released : goal.returns-clause-released
-returns-clause-released c = rw (take_all c.loop-facet.facet-index c.args.gone.now c.loop-facet-test.false) at c.loop-facet.invariant.released
+returns-clause-released c =
+    rw (take_all c.loop-facet.facet-index c.args.gone.now c.loop-facet-test.false) at c.loop-facet.invariant.released

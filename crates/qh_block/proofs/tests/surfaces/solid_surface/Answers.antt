@@ -11,4 +11,5 @@ surface_of_set-requires-clause-indices g c =
     All-of (λ i. i < length c.args.pts.now) c.as_slice.result.now (λ i m. ((ids.members i).0 m).0)
 
 pub surface_of_set-requires-clause-set : goal.surface_of_set-requires-clause-set
-surface_of_set-requires-clause-set g c = id_set c.args.pts.now c.as_slice.result.now (subst (AreDistinctIds c.args.pts.now) (sym c.as_slice.ensures.value) c.in_ok-ids.ensures)
+surface_of_set-requires-clause-set g c =
+    id_set c.args.pts.now c.as_slice.result.now (subst (AreDistinctIds c.args.pts.now) (sym c.as_slice.ensures.value) c.in_ok-ids.ensures)

@@ -4,7 +4,8 @@ use Rattle.qh_block.proofs.LiveFacets.{all_live, next_live, rest_live}
 use Rattle.qh_block.proofs.tests.surfaces.triangles.Goals as goal
 
 pub loop-f-init : goal.loop-f-init
-loop-f-init c = all_live c.args.mesh.now c.into_iter-f-iterator.result (c.into_iter-f-iterator.ensures.into_iter_gives ∙ c.live-f-items.ensures)
+loop-f-init c =
+    all_live c.args.mesh.now c.into_iter-f-iterator.result (c.into_iter-f-iterator.ensures.into_iter_gives ∙ c.live-f-items.ensures)
 
 pub facet-requires : goal.facet-requires
 facet-requires c = next_live c.args.mesh.now c.loop-f.f-iterator c.next.new.self c.in-Some.f c.loop-f.invariant c.in-Some.ensures.steps

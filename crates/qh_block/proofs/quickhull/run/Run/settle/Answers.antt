@@ -15,7 +15,8 @@ use Rattle.qh_block.proofs.quickhull.run.Run.settle.Goals as goal
 
 pub take-requires-clause-below : goal.take-requires-clause-below
 take-requires-clause-below c =
-    subst (λ (xs : List Vector). HasNoCornerAbove xs c.args.self.now.mesh) (sym c.deref-2.ensures.value) (grown_corners c.requires.remade.grown)
+    subst (λ (pts : List Vector). HasNoCornerAbove pts c.args.self.now.mesh) (sym c.deref-2.ensures.value)
+    (grown_corners c.requires.remade.grown)
 
 pub returns-clause-under_way : goal.returns-clause-under_way
 returns-clause-under_way c =
@@ -24,7 +25,8 @@ returns-clause-under_way c =
     let renewed = rw (c.deref.ensures.value) at c.renew.ensures.planes in
     let planes : ArePlanes (place pts) fs c.renew.new.planes.items = record {
       room = omega (arith, room.room, c.renew.ensures.len, places);
-      right = λ f l p. (renewed f l (roomy pts fs self.planes.items c.make_room.new.planes.items c.args.made.now room.kept f (k.planes f l))).1 p;
+      right = λ f l p.
+          (renewed f l (roomy pts fs self.planes.items c.make_room.new.planes.items c.args.made.now room.kept f (k.planes f l))).1 p;
     } in
     let sets = c.in_ok-make_room-2.ensures.sets in let new = replicate (c.places-places.result - length old) [] in
     let more = ap (λ (xs : List (List ℕ)). length xs) sets ∙ length-append old new in
@@ -33,6 +35,7 @@ returns-clause-under_way c =
     next_round k planes
     (settled fs self.pending.items k.made_live planes (same_settling
     (λ f. ap (λ (xs : List (List ℕ)). get_or xs f []) sets ∙ grown-set old _ f) c.make_room-2.ensures.orphans k.settling))
-    settle.none (settle.positions ∙ c.make_room-2.ensures.positions) (omega (arith, places, c.in_ok-make_room-2.ensures.places, settle.places))
+    settle.none (settle.positions ∙ c.make_room-2.ensures.positions)
+    (omega (arith, places, c.in_ok-make_room-2.ensures.places, settle.places))
     (c.enqueue.ensures.within (within_more (length old) _ _ (omega (arith, more, settle.places)) k.range))
     c.enqueue.ensures.kept c.in_ok-enqueue.ensures.made

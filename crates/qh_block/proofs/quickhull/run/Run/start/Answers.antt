@@ -8,7 +8,8 @@ use Rattle.qh_block.proofs.runs.FirstSimplexes.{four_facets, IsFirst, first_rema
 use Rattle.qh_block.proofs.quickhull.run.Run.start.Goals as goal
 
 -- the mesh is that of a first simplex of the points
-first : (c : goal.After-settle-arg-2-1) → IsFirst c.args.points.items c.in_ok-mesh.mesh c.args.first.i c.args.first.j c.args.first.k c.args.first.l
+first : (c : goal.After-settle-arg-2-1)
+    → IsFirst c.args.points.items c.in_ok-mesh.mesh c.args.first.i c.args.first.j c.args.first.k c.args.first.l
 first c = record {
   i_in = c.requires.i_in;
   j_in = c.requires.j_in;
@@ -25,7 +26,8 @@ pub settle-requires-clause-remade : goal.settle-requires-clause-remade
 settle-requires-clause-remade c =
     let count = c.in-Ok.ensures.1 ∙ c.len.ensures ∙ c.args.points.ok.0 in
     let pts = c.args.points.items in let fs = c.in_ok-mesh.mesh in let v = c.in_ok-new.field-0 in let s = c.args.first in
-    rw c.ask_for_room.ensures (subst (λ (ps : List PlaneValue). IsRemade pts fs ps v c.new-4.result.items four_facets) (sym c.room_for.ensures)
+    rw c.ask_for_room.ensures
+    (subst (λ (ps : List PlaneValue). IsRemade pts fs ps v c.new-4.result.items four_facets) (sym c.room_for.ensures)
     (subst (λ (ns : List FacetNo). IsRemade pts fs [] v ns four_facets) (sym c.new-4.ensures.items)
     (first_remade pts fs v s.i s.j s.k s.l (first c)
     (c.in_ok-new.ensures.positions ∙ count) (c.in_ok-new.ensures.orphans ∙ ap (range_with_len 0) count) c.in_ok-new.ensures.sets)))

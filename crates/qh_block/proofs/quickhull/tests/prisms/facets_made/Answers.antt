@@ -11,4 +11,5 @@ made_by_run-requires-clause-indices g c =
     All-of (λ i. i < length c.args.pts.now) c.as_slice.result.now (λ i m. ((ids.members i).0 m).0)
 
 pub made_by_run-requires-clause-set : goal.made_by_run-requires-clause-set
-made_by_run-requires-clause-set g c = id_set c.args.pts.now c.as_slice.result.now (subst (AreDistinctIds c.args.pts.now) (sym c.as_slice.ensures.value) c.in_ok-ids.ensures)
+made_by_run-requires-clause-set g c =
+    id_set c.args.pts.now c.as_slice.result.now (subst (AreDistinctIds c.args.pts.now) (sym c.as_slice.ensures.value) c.in_ok-ids.ensures)
