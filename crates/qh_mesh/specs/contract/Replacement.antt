@@ -1,6 +1,7 @@
 -- What `replace` leaves of a stored surface, place by place.
 -- Source: Barber, Dobkin and Huhdanpaa 1996 (the cone of new facets over the horizon).
-use Rattle.std.specs.Prelude.{◌≡◌, ◌≢◌, ℕ, ◌+◌, ◌*◌, ◌/◌, ◌%◌, ◌<◌, ◌⊎◌, List, [], ◌∷◌, length, slice_index_or, filter, not, Bool, true, false, cond, nat_eq}
+use Rattle.std.specs.Prelude.{◌≡◌, ◌≢◌, ℕ, ◌+◌, ◌*◌, ◌/◌, ◌%◌, ◌<◌, ◌⊎◌, List, [], ◌∷◌, length}
+use Rattle.std.specs.Prelude.{slice_index_or, filter, not, Bool, true, false, cond, nat_eq}
 use Rattle.qh_model.specs.contract.Simplex.{one_of, by_side}
 use Rattle.qh_model.specs.contract.Surface.{Side, start, end}
 use Rattle.qh_model.specs.contract.Surface.Side.{first, second, third}
