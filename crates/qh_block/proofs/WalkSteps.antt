@@ -35,11 +35,10 @@ module _ (vs : List FacetNo) (f : ℕ) where
   -- what holds of each facet and of one more
   each_pushed : (P : ℕ → Type 0) → ((j : ℕ) → j < length vs → P (number vs j)) → P f
       → (j : ℕ) → j < length with_facet → P (number with_facet j)
-  each_pushed P old last j h = by (cases_lt j (length vs))
-    where
-      by : (j < length vs) ⊎ (length vs ≤ j) → P (number with_facet j)
-      by (inl l) = subst P (sym (number-old j l)) (old j l)
-      by (inr l) = subst P (sym (number-last j (let e = len-more in omega arith))) last
+  each_pushed P old last j h = elim (cases_lt j (length vs)) [
+    | inl l ↦ subst P (sym (number-old j l)) (old j l)
+    | inr l ↦ let e = len-more in subst P (sym (number-last j (omega arith))) last
+  ]
 
   -- live facets, and one that is none of them
   facets_pushed : (fs : List StoredFacet) → AreFacets fs vs → IsLive fs f → ((j : ℕ) → j < length vs → number vs j ≢ f)
@@ -95,15 +94,14 @@ module _ (P : ℕ → Type 0) (fs : List StoredFacet) where
     joined_further = record {
       len = length-set marks g true;
       kept = kept;
-      only = λ f h. only f h (cases_eq f g);
+      only = λ f h. elim (cases_eq f g) [
+        | inl e ↦ let c = len-more vs g in
+            inr (listed_at (with_facet vs g) f (length vs) (omega arith) (e ∙ sym (number-last vs g (length vs) refl)))
+        | inr n ↦ inl (sym (other f n) ∙ h)
+      ];
       longer = (let c = len-more vs g in omega arith);
       same = number-old vs g;
     }
-      where
-        only : (f : ℕ) → IsMarked next f → (f ≡ g) ⊎ (f ≢ g) → IsMarked marks f ⊎ Has (with_facet vs g) f
-        only f h (inl e) = let c = len-more vs g in
-            inr (listed_at (with_facet vs g) f (length vs) (omega arith) (e ∙ sym (number-last vs g (length vs) refl)))
-        only f h (inr n) = inl (sym (other f n) ∙ h)
 
 -- ---- steps one after the other
 module _ (a b : List Bool) (us vs : List FacetNo) (p : IsFurther a b us vs) where
@@ -115,28 +113,22 @@ module _ (a b : List Bool) (us vs : List FacetNo) (p : IsFurther a b us vs) wher
   -- what was crossed stays so, and one facet more
   pub crossed_more : (P : ℕ → Type 0) (fs : List StoredFacet) (n : ℕ) → n < length us → AreCrossed P fs a us n
       → IsCrossed P fs b (number us n) → AreCrossed P fs b vs (n + 1)
-  crossed_more P fs n h old new j k = subst (IsCrossed P fs b) (sym (p.same j (omega arith))) (by (cases_lt j n))
-    where
-      by : (j < n) ⊎ (n ≤ j) → IsCrossed P fs b (number us j)
-      by (inl l) = λ s x. p.kept ((surface_of fs).over (number us j) s) (old j l s x)
-      by (inr l) = let i : n ≡ j = omega arith in subst (λ t. IsCrossed P fs b (number us t)) i new
+  crossed_more P fs n h old new j k = subst (IsCrossed P fs b) (sym (p.same j (omega arith))) (elim (cases_lt j n) [
+    | inl l ↦ λ s x. p.kept ((surface_of fs).over (number us j) s) (old j l s x)
+    | inr l ↦ let i : n ≡ j = omega arith in subst (λ t. IsCrossed P fs b (number us t)) i new
+  ])
 
 pub further_trans : (a b c : List Bool) (us vs ws : List FacetNo) → IsFurther a b us vs → IsFurther b c vs ws → IsFurther a c us ws
 further_trans a b c us vs ws p q = record {
   len = q.len ∙ p.len;
   kept = λ f h. q.kept f (p.kept f h);
-  only = λ f h. late f (q.only f h);
+  only = λ f h. elim (q.only f h) [
+    | inl m ↦ elim (p.only f m) [ inl o ↦ inl o | inr i ↦ inr (listed_further b c vs ws q f i) ]
+    | inr i ↦ inr i
+  ];
   longer = (let l = p.longer in let m = q.longer in omega arith);
   same = λ j h. q.same j (let l = p.longer in omega arith) ∙ p.same j h;
 }
-  where
-    early : (f : ℕ) → IsMarked a f ⊎ Has vs f → IsMarked a f ⊎ Has ws f
-    early f (inl h) = inl h
-    early f (inr h) = inr (listed_further b c vs ws q f h)
-
-    late : (f : ℕ) → IsMarked b f ⊎ Has ws f → IsMarked a f ⊎ Has ws f
-    late f (inl h) = early f (p.only f h)
-    late f (inr h) = inr h
 
 -- a facet that was read from a list
 pub read_number : (vs : List FacetNo) (j : ℕ) (f : FacetNo) → j < length vs → f ≡ get_or vs j f → number vs j ≡ f.0

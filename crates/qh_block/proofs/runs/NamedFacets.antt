@@ -43,11 +43,8 @@ within_of n vs h j l = h (number vs j) (j, l, refl)
 
 -- a bound of a list and of one more facet is one of both
 pub within_push : (n : ℕ) (vs : List FacetNo) (x : FacetNo) → AreWithin n vs → x.0 < n → AreWithin n (vs ++ x ∷ [])
-within_push n vs x h k = within_of n (vs ++ x ∷ []) (λ f i. by f (names_push vs x f i))
-  where
-    by : (f : ℕ) → Names vs f ⊎ (f ≡ x.0) → f < n
-    by f (inl i) = names_within n vs f h i
-    by f (inr e) = omega arith
+within_push n vs x h k = within_of n (vs ++ x ∷ []) (λ f i.
+    (elim (names_push vs x f i) [ inl m ↦ names_within n vs f h m | inr e ↦ omega (arith, e, k) ]))
 
 -- a bound of a list and of one more is one of the list
 pub within_rest : (n : ℕ) (vs : List FacetNo) (x : FacetNo) → AreWithin n (vs ++ x ∷ []) → AreWithin n vs

@@ -23,7 +23,7 @@ use Rattle.qh_mesh.specs.contract.Replacement.{number, is_listed, IsLive, IsKept
 use Rattle.qh_mesh.specs.contract.SoundMesh.{facet_vol, IsSoundMesh, IsClosedMesh, AreVisible}
 use Rattle.qh_mesh.proofs.Rewiring.{live_in, in_live, rise-vol}
 use Rattle.qh_block.specs.steps.OutsideSets.{OutsideValue, set_of}
-use Rattle.qh_block.specs.steps.Runs.{height_at, IsDone, Names, IsOutside, HasCornersBelow, IsPicked, IsPlaneOf, IsRemade}
+use Rattle.qh_block.specs.steps.Runs.{height_at, IsDone, Names, IsOutside, HasCornersBelow, IsPicked, IsRemade}
 use Rattle.qh_block.specs.steps.Settling.{AreReleased}
 use Rattle.qh_block.proofs.runs.NamedFacets.{names_listed, listed_names}
 use Rattle.qh_block.proofs.LiveFacets.{live_below}
@@ -138,26 +138,28 @@ remade {pts} {old} {new} {ps} {v} {w} {pending} {vs} {made} {f} {a} k d rel e n 
     closed = d.closed;
     corners = corners_stay d (length pts) k.grown.corners k.apex;
   };
-  planes = λ g l. planes g (d.replaced.only g l);
+  planes = λ g l. elim (d.replaced.only g l) [
+    | inl h ↦ inl (
+      (let l = live_below old g h.live in let r = k.planes.room in omega arith),
+      λ p. k.planes.right g h.live p ∙ sym (stays-vol d g p h),
+    )
+    | inr h ↦ inr h
+  ];
   made_live = λ j l. (d.replaced.cone j l).live;
   positions = e ∙ k.positions;
   range = λ j l. let h = k.range j l in omega arith;
   settling = record {
     outside = λ g p i. let h = stays g p i in
         ((d.replaced.kept g h).live, rw (stays-vol d g (place pts p) h) (k.outside g p (rel.kept g p i)).1);
-    waits = λ g p i. waits g p i (k.waits g p (rel.kept g p i));
+    waits = λ g p i. elim (k.waits g p (rel.kept g p i)) [ inl h ↦ inl h | inr h ↦ absurd (other g p i h) ];
     all = λ p l. all p (k.all p l);
-    drops = λ p i. drops p (rel.orphans p i);
+    drops = λ p i u. elim (rel.orphans p i) [
+      | inl h ↦ absurd (subst (In p) k.none h)
+      | inr h ↦ let b = k.outside h.0 p h.2 in drop_done d k.grown.sound p h.0 b.0 (names_listed vs h.0 h.1) b.1 u
+    ];
   };
 }
   where
-    planes : (g : ℕ) → IsKept old vs g ⊎ Names made g → IsPlaneOf pts new ps g ⊎ Names made g
-    planes g (inl h) = inl (
-      (let l = live_below old g h.live in let r = k.planes.room in omega arith),
-      λ p. k.planes.right g h.live p ∙ sym (stays-vol d g p h),
-    )
-    planes g (inr h) = inr h
-
     -- a facet with an outside set stays
     stays : (g p : ℕ) → In p (set_of w g) → IsKept old vs g
     stays g p i = elim (cases_Bool (is_listed vs g)) [
@@ -166,20 +168,14 @@ remade {pts} {old} {new} {ps} {v} {w} {pending} {vs} {made} {f} {a} k d rel e n 
     ]
 
     -- and is not the one whose turn it was
-    waits : (g p : ℕ) → In p (set_of w g) → Names pending g ⊎ (g ≡ f) → Names pending g ⊎ Names made g
-    waits g p i (inl h) = inl h
-    waits g p i (inr h) = absurd (not_less _ _ k.seen (d.visible.unseen f k.live (ap (is_listed vs) (sym h) ∙ (stays g p i).unlisted)))
+    other : (g p : ℕ) → In p (set_of w g) → g ≡ f → ⊥
+    other g p i h = not_less _ _ k.seen (d.visible.unseen f k.live (ap (is_listed vs) (sym h) ∙ (stays g p i).unlisted))
 
     all : (p : ℕ) → IsOutside v p ⊎ IsDone pts old p ⊎ (p ≡ a) → In p w.orphans ⊎ IsOutside w p ⊎ IsDone pts new p
     all p (inl (g, i)) = elim (rel.moved g p i) [ inl h ↦ inr (inl (g, h)) | inr h ↦ inl h ]
     all p (inr (inl h)) = inr (inr (still_done d k.grown.sound p h))
     all p (inr (inr h)) = inr (inr (rw h
         (done_of pts new a (added_is_settled (surface_of old) (surface_of new) (weighted_at (place pts)) a d.rewired))))
-
-    drops : (p : ℕ) → In p v.orphans ⊎ ((g : ℕ) × Names vs g × In p (set_of v g))
-        → ((j : ℕ) → j < length made → height_at pts new (number made j) p ≤ℤ pos 0) → IsDone pts new p
-    drops p (inl h) u = absurd (subst (In p) k.none h)
-    drops p (inr (g, c, i)) u = let b = k.outside g p i in drop_done d k.grown.sound p g b.0 (names_listed vs g c) b.1 u
 
 -- the point at a position, read from the list
 pub read_point : (pts : List Vector) (a : ℕ) (point : Vector) → a < length pts → point ≡ get_or pts a point → point ≡ place pts a

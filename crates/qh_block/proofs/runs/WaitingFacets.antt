@@ -1,5 +1,5 @@
 -- The facets that were made wait for their turn if they have an outside set.
-use Rattle.std.proofs.Common.{◌≡◌, ℕ, ◌<◌, ap, sym, ◌∙◌, ◌⊎◌, inl, inr, List, [], ◌∷◌, ◌++◌, length, subst}
+use Rattle.std.proofs.Common.{◌≡◌, ℕ, ◌<◌, ap, sym, ◌∙◌, inl, inr, List, [], ◌∷◌, ◌++◌, length, subst}
 use Rattle.qh_model.specs.headline.Sets.{In}
 use Rattle.qh_mesh.specs.declared.facets.FacetNo.{FacetNo}
 use Rattle.qh_block.specs.steps.OutsideSets.{OutsideValue, set_of}
@@ -22,18 +22,17 @@ pub more_queued : (v : OutsideValue) (old new made : List FacetNo) (x : FacetNo)
 more_queued v old new made x l q = record {
   within = λ h. within_push (length v.sets) new x (q.within h) l;
   kept = λ f n. names_kept new x f (q.kept f n);
-  added = λ f p n i. by f p i (names_push made x f n);
+  added = λ f p n i. elim (names_push made x f n) [
+    | inl m ↦ names_kept new x f (q.added f p m i)
+    | inr e ↦ subst (Names (new ++ x ∷ [])) (sym e) (names_last new x)
+  ];
 }
-  where
-    by : (f p : ℕ) → In p (set_of v f) → Names made f ⊎ (f ≡ x.0) → Names (new ++ x ∷ []) f
-    by f p i (inl n) = names_kept new x f (q.added f p n i)
-    by f p i (inr e) = subst (Names (new ++ x ∷ [])) (sym e) (names_last new x)
 
 -- one without need not be
 pub more_idle : (v : OutsideValue) (old new made : List FacetNo) (x : FacetNo) → set_of v x.0 ≡ []
     → AreQueued v old new made → AreQueued v old new (made ++ x ∷ [])
-more_idle v old new made x e q = record { within = q.within; kept = q.kept; added = λ f p n i. by f p i (names_push made x f n) }
-  where
-    by : (f p : ℕ) → In p (set_of v f) → Names made f ⊎ (f ≡ x.0) → Names new f
-    by f p i (inl n) = q.added f p n i
-    by f p i (inr h) = absurd (subst (In p) (ap (set_of v) h ∙ e) i)
+more_idle v old new made x e q = record {
+  within = q.within;
+  kept = q.kept;
+  added = λ f p n i. elim (names_push made x f n) [ inl m ↦ q.added f p m i | inr h ↦ absurd (subst (In p) (ap (set_of v) h ∙ e) i) ];
+}
