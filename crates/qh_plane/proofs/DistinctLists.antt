@@ -1,49 +1,31 @@
--- The ids that are marked at the first key of each place are the distinct ids.
-use Rattle.std.proofs.Common.{◌≡◌, ◌≢◌, ℕ, ◌+◌, ◌*◌, ◌%◌, ◌/◌, ◌<◌, ◌≤◌, List, length, get_or, map, replicate, arith, ap, sym, subst, ◌∙◌, refl, ◌⊎◌, inl, inr, ⊎_elim, true, false, Bool}
+-- The ids that are marked at the first key of each place are the distinct ids, whatever numbers tell the places.
+use Rattle.std.proofs.Common.{◌≡◌, ◌≢◌, ℕ, zero, suc, ◌+◌, ◌-◌, ◌*◌, ◌%◌, ◌/◌, ◌<◌, ◌≤◌, List, length, get_or, map, replicate, arith, ap, sym, subst, ◌∙◌, ◌⊎◌, inl, inr, ⊎_elim, true, false, Bool}
 use Rattle.std.proofs.lemmas.Bool.Decides.{nat_tests}
 use Rattle.std.proofs.lemmas.Bool.{cases_lt}
 use Rattle.std.proofs.lemmas.List.{length-replicate}
+use Rattle.std.proofs.lemmas.Nat.{div-mul-add, mod-mul-add}
 use Rattle.std.specs.Prelude.{IsPermutation}
 use Rattle.std.specs.List.{All, AllByRecursion as Every}
 use Rattle.std.specs.List.Sorted.{IsStrictlyIncreasing, IsNonDecreasing}
-use Rattle.qh_model.proofs.Members.{All-In, In-get_or, every_at, All-of, every_of, in_at}
+use Rattle.qh_model.proofs.Members.{In-get_or, All-of, every_of, in_at}
 use Rattle.qh_model.proofs.lists.Images.{in_map, of_map}
 use Rattle.qh_model.specs.headline.DistinctIds.{IsDistinctId, AreDistinctIds}
 use Rattle.qh_model.specs.contract.IdSets.{IsIdSet}
 use Rattle.qh_model.specs.headline.Predicates.{place}
 use Rattle.qh_model.specs.headline.Sets.{In}
 use Rattle.qh_model.specs.headline.Vector.{Vector}
-use Rattle.qh_plane.proofs.KeyOrder.{IsKeyOf, sorted_keys, rising_keys, key_parts, key_id, place_code-same, raised_small, sorted-all}
+use Rattle.qh_plane.proofs.KeyOrder.{IsKeyIn, TellIds, code_le, key_told, key_listed, keys_rise}
 use Rattle.qh_plane.proofs.MarkedIds.{IsMarked, in_marked_ids, of_marked_ids, marked_ids-rise, marked_only, marked_has, blank}
 use Rattle.qh_plane.proofs.PlaceStarts.{Start, IsBefore, starts_only, starts_all}
-use Rattle.qh_plane.specs.declared.place_keys.TheConstants.{ROOM}
-use Rattle.qh_plane.specs.declared.distinct_points.TheConstants.{NO_PLACE}
 use Rattle.qh_plane.specs.steps.Marks.{place_starts, marked, marked_ids}
-use Rattle.qh_plane.specs.steps.PlaceNumbers.{AllDiffer}
-use Rattle.qh_plane.specs.steps.PlaceKeys.{raised, place_code, key_at, ids_in, HasKey, AreByPlace, AllIds}
-
--- a key tells its place
-key_over : (c i : ℕ) → i < ROOM → (c * ROOM + i) / ROOM ≡ c
-key_over c i h = omega arith
-
--- the place in the key of an id
-code_in_key : (pts : List Vector) (i : ℕ) → i < ROOM → key_at pts i / ROOM ≡ place_code (place pts i)
-code_in_key pts i h = ap (λ v. v / ROOM) (key_parts pts i) ∙ key_over (place_code (place pts i)) i h
-
--- no place has the number of no place
-code_small : (pts : List Vector) (i : ℕ) → HasKey pts i → place_code (place pts i) < NO_PLACE
-unfolding place_code
-code_small pts i k = bound (raised (place pts i).x) (raised (place pts i).y) (raised (place pts i).z) (raised_small (place pts i).x k.place_in.x) (raised_small (place pts i).y k.place_in.y) (raised_small (place pts i).z k.place_in.z)
-  where
-    bound : (a b c : ℕ) → a < ROOM → b < ROOM → c < ROOM → (a * ROOM + b) * ROOM + c < NO_PLACE
-    bound a b c h k l = omega arith
+use Rattle.qh_plane.specs.steps.PlaceKeys.{AllIds}
 
 -- keys of one place are in order of their ids
-key_order : (c i j : ℕ) → c * ROOM + i ≤ c * ROOM + j → i ≤ j
+key_order : (c i j : ℕ) → c + i ≤ c + j → i ≤ j
 key_order c i j h = omega arith
 
 -- and back
-order_key : (c i j : ℕ) → i ≤ j → c * ROOM + i ≤ c * ROOM + j
+order_key : (c i j : ℕ) → i ≤ j → c + i ≤ c + j
 order_key c i j h = omega arith
 
 -- the ids below a count rise
@@ -51,7 +33,7 @@ rises_each : (n : ℕ) (all : List ℕ) → AllIds n all → IsStrictlyIncreasin
 rises_each n all a k h = let e = a.len in rw (a.each k (omega arith), a.each (k + 1) (omega arith)) (omega arith)
 
 -- each number below the count is listed
-all_in : (n : ℕ) (all : List ℕ) → AllIds n all → (i : ℕ) → i < n → In i all
+pub all_in : (n : ℕ) (all : List ℕ) → AllIds n all → (i : ℕ) → i < n → In i all
 all_in n all a i h = subst (λ v. In v all) (a.each i h) (In-get_or all i 0 (let e = a.len in omega arith))
 
 -- and nothing else
@@ -61,133 +43,241 @@ in_all n all a i m =
     let lt : r.0 < n = subst (λ v. r.0 < v) a.len r.1 in
     subst (λ v. v < n) (sym (a.each r.0 lt) ∙ r.2) lt
 
+-- no two of the points are equal
+abbrev AllDiffer : List Vector → Type 0
+AllDiffer pts = (i j : ℕ) → i < j → j < length pts → place pts i ≢ place pts j
+
 -- where all points differ, all ids are distinct
-pub all_distinct : (pts : List Vector) (all : List ℕ) → AllIds (length pts) all → AllDiffer pts → AreDistinctIds pts all
+all_distinct : (pts : List Vector) (all : List ℕ) → AllIds (length pts) all → AllDiffer pts → AreDistinctIds pts all
 all_distinct pts all a differ = record {
   rising = rises_each (length pts) all a;
   members = λ i. ((λ m. let lt = in_all (length pts) all a i m in (lt, λ j l. differ j i l lt)), (λ d. all_in (length pts) all a i d.0));
 }
 
-module _ (pts : List Vector) (all keys : List ℕ) (a : AllIds (length pts) all) (known : All (HasKey pts) all) (same : IsPermutation (map (key_at pts) all) keys) (rising : IsNonDecreasing keys) where
-  -- the ids in the order of their places
-  b : AreByPlace pts all (ids_in keys)
-  b = record { keys = keys; same = same; rising = rising; is = refl }
+-- the key of each id is the number of its place, above the room of the id
+abbrev pub key_by : ℕ → (ℕ → ℕ) → ℕ → ℕ
+key_by room code i = code i * room + i
+
+-- the sorted keys of all ids of the points: equal points have one number
+pub record AreSortedKeys (pts : List Vector) (room : ℕ) (code : ℕ → ℕ) (keys : List ℕ) : Type 0 where
+  pub ids : List ℕ
+  pub all : AllIds (length pts) ids
+  pub same : IsPermutation (map (key_by room code) ids) keys
+  pub rising : IsNonDecreasing keys
+  pub small : (i : ℕ) → i < length pts → i < room
+  pub equal : (i j : ℕ) → place pts i ≡ place pts j → code i ≡ code j
+
+-- what each key and the next of its place have, all pairs of one place have
+abbrev pub IsPassed : ℕ → List ℕ → (ℕ → ℕ → Type 0) → Type 0
+IsPassed room keys P =
+    (j : ℕ) → j + 1 < length keys → get_or keys j 0 / room ≡ get_or keys (j + 1) 0 / room → P (get_or keys j 0) (get_or keys (j + 1) 0)
+
+module _ (pts : List Vector) (room : ℕ) (code : ℕ → ℕ) (keys : List ℕ) (k : AreSortedKeys pts room code keys) where
+  -- a key tells its id
+  tell : TellIds room (key_by room code) k.ids
+  tell i m = mod-mul-add (code i) room i (k.small i (in_all (length pts) k.ids k.all i m))
 
   -- each key is the key of its id
-  told : Every (IsKeyOf pts all) keys
-  unfolding b
-  told = sorted_keys pts all (ids_in keys) b known
+  told : (x : ℕ) → In x keys → IsKeyIn room (key_by room code) k.ids x
+  told = key_told room (key_by room code) k.ids keys k.same tell
+
+  -- which is an index
+  index_in : (x : ℕ) → In x keys → x % room < length pts
+  index_in x m = in_all (length pts) k.ids k.all (x % room) (told x m).has
 
   -- the keys rise strictly
   up : IsStrictlyIncreasing keys
-  unfolding b
-  up = rising_keys pts all (ids_in keys) b known (rises_each (length pts) all a)
+  up = keys_rise room (key_by room code) k.ids keys k.same tell (rises_each (length pts) k.ids k.all) k.rising
 
   -- each index has a key
-  known_at : (i : ℕ) → i < length pts → HasKey pts i
-  known_at i h = All-In (HasKey pts) all i known (all_in (length pts) all a i h)
+  listed : (i : ℕ) → i < length pts → In (key_by room code i) keys
+  listed i h = key_listed room (key_by room code) k.ids keys k.same tell i (all_in (length pts) k.ids k.all i h)
 
-  -- and it is one of the keys
-  key_listed : (i : ℕ) → i < length pts → In (key_at pts i) keys
-  unfolding b
-  key_listed i h =
-      let m = sorted-all pts all (ids_in keys) b known i (all_in (length pts) all a i h) in
-      let r = of_map (λ k. k % ROOM) keys i m in
-      let t = every_at (IsKeyOf pts all) keys r.0 told r.1 in
-      subst (λ v. In v keys) (t.is ∙ ap (key_at pts) (sym r.2)) r.1
+  -- which tells its place
+  code_in_key : (i : ℕ) → i < length pts → key_by room code i / room ≡ code i
+  code_in_key i h = div-mul-add (code i) room i (k.small i h)
 
-  -- no key has the number of no place
-  fresh : IsBefore NO_PLACE keys
-  fresh = inr (λ x m e. let t = every_at (IsKeyOf pts all) keys x told m in off (code_small pts (x % ROOM) t.known) (sym (ap (λ v. v / ROOM) t.is ∙ code_in_key pts (x % ROOM) t.known.small) ∙ e))
-    where
-      off : {c : ℕ} → c < NO_PLACE → c ≡ NO_PLACE → ⊥
-      off {c} h e = omega arith
+  -- and its id
+  pub id_in_key : (i : ℕ) → i < length pts → key_by room code i % room ≡ i
+  id_in_key i h = mod-mul-add (code i) room i (k.small i h)
 
-  -- an id at the start of a place is a distinct id
-  first_from : (i : ℕ) → In i (ids_in (place_starts NO_PLACE keys)) → IsDistinctId pts i
-  first_from i m = (lt, alone)
-    where
-      r : (k : ℕ) × In k (place_starts NO_PLACE keys) × (i ≡ k % ROOM)
-      r = of_map (λ k. k % ROOM) (place_starts NO_PLACE keys) i m
-
-      s : Start NO_PLACE keys r.0
-      s = starts_only NO_PLACE keys r.0 up fresh r.1
-
-      t : IsKeyOf pts all r.0
-      t = every_at (IsKeyOf pts all) keys r.0 told s.has
-
-      is : r.0 ≡ key_at pts i
-      is = t.is ∙ ap (key_at pts) (sym r.2)
-
-      lt : i < length pts
-      lt = subst (λ v. v < length pts) (sym r.2) (in_all (length pts) all a (r.0 % ROOM) t.has)
-
-      alone : (j : ℕ) → j < i → place pts j ≢ place pts i
-      alone j h e = late (key_order (place_code (place pts i)) i j (subst (λ v. v ≤ place_code (place pts i) * ROOM + j) (is ∙ key_parts pts i) (subst (λ v. r.0 ≤ v) (key_parts pts j ∙ ap (λ p. place_code p * ROOM + j) e)
-          (s.least (key_at pts j) (key_listed j jt) (code_in_key pts j (known_at j jt).small ∙ ap place_code e ∙ sym (ap (λ v. v / ROOM) is ∙ code_in_key pts i (known_at i lt).small)))))) h
-        where
-          jt : j < length pts
-          jt = omega (arith, lt)
-
-          late : i ≤ j → j < i → ⊥
-          late p q = omega arith
-
-  -- a distinct id stands at the start of its place
-  from_first : (i : ℕ) → IsDistinctId pts i → In i (ids_in (place_starts NO_PLACE keys))
-  from_first i f =
-      subst (λ v. In v (ids_in (place_starts NO_PLACE keys))) (key_id pts i ki.small)
-      (in_map (λ k. k % ROOM) (place_starts NO_PLACE keys) (key_at pts i) (starts_all NO_PLACE keys (key_at pts i) up (record { has = key_listed i f.0; new = new; least = least })))
-    where
-      ki : HasKey pts i
-      ki = known_at i f.0
-
-      new : key_at pts i / ROOM ≢ NO_PLACE
-      new e = off (code_small pts i ki) (sym (code_in_key pts i ki.small) ∙ e)
-        where
-          off : {c : ℕ} → c < NO_PLACE → c ≡ NO_PLACE → ⊥
-          off {c} h e = omega arith
-
-      least : (y : ℕ) → In y keys → y / ROOM ≡ key_at pts i / ROOM → key_at pts i ≤ y
-      least y m e = go (cases_lt (y % ROOM) i)
-        where
-          t : IsKeyOf pts all y
-          t = every_at (IsKeyOf pts all) keys y told m
-
-          codes : place_code (place pts (y % ROOM)) ≡ place_code (place pts i)
-          codes = sym (code_in_key pts (y % ROOM) t.known.small) ∙ sym (ap (λ v. v / ROOM) t.is) ∙ e ∙ code_in_key pts i ki.small
-
-          go : (y % ROOM < i) ⊎ (i ≤ y % ROOM) → key_at pts i ≤ y
-          go (inl h) = absurd (f.1 (y % ROOM) h (place_code-same _ _ t.known.place_in ki.place_in codes))
-          go (inr h) =
-              subst (λ v. key_at pts i ≤ v) (sym (t.is ∙ key_parts pts (y % ROOM) ∙ ap (λ v. v * ROOM + y % ROOM) codes))
-              (subst (λ v. v ≤ place_code (place pts i) * ROOM + y % ROOM) (sym (key_parts pts i)) (order_key (place_code (place pts i)) i (y % ROOM) h))
+  -- the place in a key is that of its id
+  code_told : (x : ℕ) → In x keys → x / room ≡ code (x % room)
+  code_told x m = ap (λ v. v / room) (told x m).is ∙ code_in_key (x % room) (index_in x m)
 
   -- the ids in the keys are indices
-  pub all_within : All (λ k. k % ROOM < length pts) keys
-  all_within = All-of (λ k. k % ROOM < length pts) keys (λ k m. in_all (length pts) all a (k % ROOM) (every_at (IsKeyOf pts all) keys k told m).has)
+  pub all_within : All (λ x. x % room < length pts) keys
+  all_within = All-of (λ x. x % room < length pts) keys index_in
 
-  -- the ids at the starts are indices of the marks
-  within : Every (λ k. k % ROOM < length (replicate (length pts) false)) (place_starts NO_PLACE keys)
-  within =
-      every_of (λ k. k % ROOM < length (replicate (length pts) false)) (place_starts NO_PLACE keys) (λ k m.
-      subst (λ v. k % ROOM < v) (sym (length-replicate (length pts) false))
-      (in_all (length pts) all a (k % ROOM) (every_at (IsKeyOf pts all) keys k told (starts_only NO_PLACE keys k up fresh m).has).has))
+  -- ---- from key to key
+  module _ (P : ℕ → ℕ → Type 0) (on : (x y z : ℕ) → P x y → P y z → P x z) (next : IsPassed room keys P) where
+    -- a place between two that are one
+    between : (a b c : ℕ) → a ≤ b → b ≤ c → a / room ≡ c / room → (a / room ≡ b / room) × (b / room ≡ c / room)
+    between a b c h l e = pinch (a / room) (b / room) (c / room) (code_le room a b h) (code_le room b c l) e
+      where
+        pinch : (x y z : ℕ) → x ≤ y → y ≤ z → x ≡ z → (x ≡ y) × (y ≡ z)
+        pinch x y z p q e = (omega arith, omega arith)
 
-  -- the ids that are marked at the starts are the distinct ids
-  pub distinct_ids : AreDistinctIds pts (marked_ids 0 (marked (replicate (length pts) false) (place_starts NO_PLACE keys)))
-  distinct_ids = record {
-    rising = marked_ids-rise (marked (replicate (length pts) false) (place_starts NO_PLACE keys));
-    members = λ i. (λ m. only i (of_marked_ids 0 i marks m), λ f. subst (λ v. In v (marked_ids 0 marks)) (omega arith) (in_marked_ids 0 i marks (marked_has (replicate (length pts) false) (place_starts NO_PLACE keys) i within (inr (from_first i f)))));
-  }
+    -- what is passed on along the keys
+    passed : (a d : ℕ) → a + suc d < length keys → get_or keys a 0 / room ≡ get_or keys (a + suc d) 0 / room
+        → P (get_or keys a 0) (get_or keys (a + suc d) 0)
+    passed a zero h e =
+        subst (λ n. P (get_or keys a 0) (get_or keys n 0)) one
+        (next a (subst (λ n. n < length keys) (sym one) h) (subst (λ n. get_or keys a 0 / room ≡ get_or keys n 0 / room) (sym one) e))
+      where
+        one : a + 1 ≡ a + suc zero
+        one = omega arith
+    passed a (suc d) h e =
+        on (get_or keys a 0) (get_or keys m 0) (get_or keys (a + suc (suc d)) 0) (passed a d low b.0)
+        (subst (λ n. P (get_or keys m 0) (get_or keys n 0)) one
+        (next m (subst (λ n. n < length keys) (sym one) h) (subst (λ n. get_or keys m 0 / room ≡ get_or keys n 0 / room) (sym one) b.1)))
+      where
+        m : ℕ
+        m = a + suc d
+
+        one : a + suc d + 1 ≡ a + suc (suc d)
+        one = omega arith
+
+        low : a + suc d < length keys
+        low = omega (arith, h)
+
+        b : (get_or keys a 0 / room ≡ get_or keys m 0 / room) × (get_or keys m 0 / room ≡ get_or keys (a + suc (suc d)) 0 / room)
+        b =
+            between (get_or keys a 0) (get_or keys m 0) (get_or keys (a + suc (suc d)) 0) (k.rising a m 0 (omega arith) low)
+            (k.rising m (a + suc (suc d)) 0 (omega arith) h) e
+
+    -- so two ids of one place have it, one way round
+    pub joined : (i j : ℕ) → i < j → j < length pts → code i ≡ code j → P (key_by room code i) (key_by room code j)
+    joined i j l h e = by (cases_lt p.0 q.0)
+      where
+        low : i < length pts
+        low = omega (arith, l, h)
+
+        p : (n : ℕ) × (n < length keys) × (get_or keys n 0 ≡ key_by room code i)
+        p = in_at keys (key_by room code i) (listed i low)
+
+        q : (n : ℕ) × (n < length keys) × (get_or keys n 0 ≡ key_by room code j)
+        q = in_at keys (key_by room code j) (listed j h)
+
+        codes : get_or keys p.0 0 / room ≡ get_or keys q.0 0 / room
+        codes = ap (λ v. v / room) p.2 ∙ code_in_key i low ∙ e ∙ sym (code_in_key j h) ∙ sym (ap (λ v. v / room) q.2)
+
+        back : key_by room code j ≤ key_by room code i → ⊥
+        back g = late (key_order (code i * room) j i (subst (λ v. v * room + j ≤ code i * room + i) (sym e) g))
+          where
+            late : j ≤ i → ⊥
+            late g = omega (arith, l, g)
+
+        by : (p.0 < q.0) ⊎ (q.0 ≤ p.0) → P (key_by room code i) (key_by room code j)
+        by (inr g) =
+            absurd (back (subst (λ v. v ≤ key_by room code i) q.2 (subst (λ v. get_or keys q.0 0 ≤ v) p.2 (k.rising q.0 p.0 0 g p.1))))
+        by (inl g) =
+            subst (λ v. P v (key_by room code j)) p.2 (subst (λ v. P (get_or keys p.0 0) v) q.2
+            (subst (λ n. P (get_or keys p.0 0) (get_or keys n 0)) far
+            (passed p.0 (q.0 - suc p.0) (subst (λ n. n < length keys) (sym far) q.1)
+            (subst (λ n. get_or keys p.0 0 / room ≡ get_or keys n 0 / room) (sym far) codes))))
+          where
+            far : p.0 + suc (q.0 - suc p.0) ≡ q.0
+            far = omega (arith, g)
+
+  -- where the places in the keys rise, all ids are distinct
+  pub rising_distinct : (ids : List ℕ) → AllIds (length pts) ids
+      → ((j : ℕ) → j + 1 < length keys → get_or keys j 0 / room < get_or keys (j + 1) 0 / room) → AreDistinctIds pts ids
+  rising_distinct ids a rise =
+      all_distinct pts ids a (λ i j l h e. joined (λ _ _. ⊥) (λ x y z f g. f) (λ n m q. flat (rise n m) q) i j l h (k.equal i j e))
     where
-      marks : List Bool
-      marks = marked (replicate (length pts) false) (place_starts NO_PLACE keys)
+      flat : {x y : ℕ} → x < y → x ≡ y → ⊥
+      flat {x} {y} l e = omega (arith, l, e)
 
-      only : (i : ℕ) → IsMarked 0 i marks → IsDistinctId pts i
-      only i p = first_from i (⊎_elim (λ e. absurd (clash e)) (λ m. m) (marked_only (replicate (length pts) false) (place_starts NO_PLACE keys) i (subst (λ v. get_or marks v false ≡ true) (sym (p.at ∙ omega arith)) p.is)))
-        where
-          clash : get_or (replicate (length pts) false) i false ≡ true → ⊥
-          clash e = let n = blank (length pts) i in cc
+  -- ---- the first of each place
+  module _ (none : ℕ) (other : (i : ℕ) → i < length pts → code i ≢ none)
+      (apart : (i j : ℕ) → i < j → j < length pts → code i ≡ code j → place pts i ≡ place pts j) where
+    -- no key has the number of no place
+    fresh : IsBefore room none keys
+    fresh = inr (λ x m e. other (x % room) (index_in x m) (sym (code_told x m) ∙ e))
+
+    -- an id at the start of a place is a distinct id
+    first_from : (i : ℕ) → In i (map (λ x. x % room) (place_starts room none keys)) → IsDistinctId pts i
+    first_from i m = (lt, alone)
+      where
+        r : (x : ℕ) × In x (place_starts room none keys) × (i ≡ x % room)
+        r = of_map (λ x. x % room) (place_starts room none keys) i m
+
+        s : Start room none keys r.0
+        s = starts_only room none keys r.0 up fresh r.1
+
+        is : r.0 ≡ key_by room code i
+        is = (told r.0 s.has).is ∙ ap (key_by room code) (sym r.2)
+
+        lt : i < length pts
+        lt = subst (λ v. v < length pts) (sym r.2) (index_in r.0 s.has)
+
+        alone : (j : ℕ) → j < i → place pts j ≢ place pts i
+        alone j h e =
+            late (key_order (code i * room) i j (subst (λ v. code i * room + i ≤ v * room + j) codes
+            (subst (λ v. v ≤ key_by room code j) is first))) h
+          where
+            jt : j < length pts
+            jt = omega (arith, h, lt)
+
+            codes : code j ≡ code i
+            codes = k.equal j i e
+
+            first : r.0 ≤ key_by room code j
+            first = s.least (key_by room code j) (listed j jt) (code_in_key j jt ∙ codes ∙ sym (ap (λ v. v / room) is ∙ code_in_key i lt))
+
+            late : i ≤ j → j < i → ⊥
+            late p q = omega (arith, p, q)
+
+    -- a distinct id stands at the start of its place
+    from_first : (i : ℕ) → IsDistinctId pts i → In i (map (λ x. x % room) (place_starts room none keys))
+    from_first i f =
+        subst (λ v. In v (map (λ x. x % room) (place_starts room none keys))) (id_in_key i f.0)
+        (in_map (λ x. x % room) (place_starts room none keys) (key_by room code i)
+        (starts_all room none keys (key_by room code i) up
+        (record { has = listed i f.0; new = λ e. other i f.0 (sym (code_in_key i f.0) ∙ e); least = least })))
+      where
+        least : (y : ℕ) → In y keys → y / room ≡ key_by room code i / room → key_by room code i ≤ y
+        least y m e = go (cases_lt (y % room) i)
+          where
+            codes : code (y % room) ≡ code i
+            codes = sym (code_told y m) ∙ e ∙ code_in_key i f.0
+
+            go : (y % room < i) ⊎ (i ≤ y % room) → key_by room code i ≤ y
+            go (inl h) = absurd (f.1 (y % room) h (apart (y % room) i h f.0 codes))
+            go (inr h) =
+                subst (λ v. key_by room code i ≤ v) (sym ((told y m).is ∙ ap (λ v. v * room + y % room) codes))
+                (order_key (code i * room) i (y % room) h)
+
+    -- the ids at the starts are indices of the marks
+    within : Every (λ x. x % room < length (replicate (length pts) false)) (place_starts room none keys)
+    within =
+        every_of (λ x. x % room < length (replicate (length pts) false)) (place_starts room none keys) (λ x m.
+        subst (λ v. x % room < v) (sym (length-replicate (length pts) false)) (index_in x (starts_only room none keys x up fresh m).has))
+
+    -- the ids that are marked at the starts are the distinct ids
+    pub distinct_ids : AreDistinctIds pts (marked_ids 0 (marked room (replicate (length pts) false) (place_starts room none keys)))
+    distinct_ids = record {
+      rising = marked_ids-rise marks;
+      members = λ i. (
+        λ m. only i (of_marked_ids 0 i marks m),
+        λ f. subst (λ v. In v (marked_ids 0 marks)) (omega arith)
+            (in_marked_ids 0 i marks
+            (marked_has room (replicate (length pts) false) (place_starts room none keys) i within (inr (from_first i f)))),
+      );
+    }
+      where
+        marks : List Bool
+        marks = marked room (replicate (length pts) false) (place_starts room none keys)
+
+        only : (i : ℕ) → IsMarked 0 i marks → IsDistinctId pts i
+        only i p =
+            first_from i (⊎_elim (λ e. absurd (clash e)) (λ m. m)
+            (marked_only room (replicate (length pts) false) (place_starts room none keys) i
+            (subst (λ v. get_or marks v false ≡ true) (sym (p.at ∙ omega arith)) p.is)))
+          where
+            clash : get_or (replicate (length pts) false) i false ≡ true → ⊥
+            clash e = let n = blank (length pts) i in cc
 
 -- the distinct ids are rising ids of distinct points
 pub id_set : (pts : List Vector) (ids : List ℕ) → AreDistinctIds pts ids → IsIdSet pts ids

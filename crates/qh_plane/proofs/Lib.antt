@@ -1,11 +1,11 @@
 pub mod KeyOrder
+pub mod PlaceOrder
 pub mod MarkedIds
 pub mod PlaceStarts
 pub mod DistinctLists
-pub mod PlacesDiffer
+pub mod PlaceLists
 pub mod KeptIds
 pub mod SeenPlaces
-pub mod SortedKeys
 pub mod PlaneDirections
 pub mod LinesAndPlanes
 pub mod ShapeDimension

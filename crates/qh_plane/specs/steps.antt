@@ -3,4 +3,4 @@ pub mod Chains
 pub mod CloseBoxes
 pub mod Marks
 pub mod PlaceKeys
-pub mod PlaceNumbers
+pub mod HashedKeys

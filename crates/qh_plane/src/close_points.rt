@@ -184,7 +184,7 @@ impl CloseBox {
 }
 
 /// Whether two points are one.
-fn are_one(p: Point, q: Point) -> bool
+pub fn are_one(p: Point, q: Point) -> bool
     ensures { IsTrue result → p ≡ q }
 {
     p.x() == q.x() && p.y() == q.y() && p.z() == q.z()

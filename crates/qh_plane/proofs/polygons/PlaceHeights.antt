@@ -11,7 +11,7 @@ use Rattle.qh_model.specs.headline.Limits.{IsCoordinate}
 use Rattle.qh_model.specs.headline.Predicates.{place}
 use Rattle.qh_model.specs.headline.Sets.{In}
 use Rattle.qh_model.specs.headline.Vector.{Vector, dot}
-use Rattle.qh_plane.proofs.KeyOrder.{place_code-same}
+use Rattle.qh_plane.proofs.PlaceOrder.{place_code-same}
 use Rattle.qh_plane.proofs.polygons.Turns.{IsKeyed}
 use Rattle.qh_plane.specs.declared.place_keys.TheConstants.{ROOM}
 use Rattle.qh_plane.specs.steps.PlaceKeys.{raised, place_code, HasKey}

@@ -13,7 +13,7 @@ use Rattle.qh_model.specs.contract.IdSets.{HasDistinctPoints}
 use Rattle.qh_model.specs.headline.Predicates.{place}
 use Rattle.qh_model.specs.headline.Sets.{In}
 use Rattle.qh_model.specs.headline.Vector.{Vector}
-use Rattle.qh_plane.proofs.KeyOrder.{IsKeyOf, sorted_keys, rising_keys, key_parts, place_code-same, sorted-only, sorted-all}
+use Rattle.qh_plane.proofs.PlaceOrder.{IsKeyOf, sorted_keys, rising_keys, key_parts, place_code-same, sorted-only, sorted-all}
 use Rattle.qh_plane.proofs.polygons.ComponentTurns.{joined-same}
 use Rattle.qh_plane.proofs.polygons.Cycles.{in-turned_onto, turned_onto-in}
 use Rattle.qh_plane.proofs.polygons.GoesRound.{GoesRound, goes_round}

@@ -11,7 +11,9 @@ use Rattle.qh_plane.specs.steps.PlaceKeys.{raised}
 
 -- the slot of a point: of numbers of 64 bits, whatever the box
 abbrev pub slot_of : CloseBox → Vector → ℕ
-slot_of b p = (((raised p.x - b.x) * b.x_factor % 2 ^ 64 + (raised p.y - b.y) * b.y_factor % 2 ^ 64) % 2 ^ 64 + (raised p.z - b.z) * b.z_factor % 2 ^ 64) % 2 ^ 64
+slot_of b p =
+    (((raised p.x - b.x) * b.x_factor % 2 ^ 64 + (raised p.y - b.y) * b.y_factor % 2 ^ 64) % 2 ^ 64
+    + (raised p.z - b.z) * b.z_factor % 2 ^ 64) % 2 ^ 64
 
 -- what stands in a slot
 abbrev pub slot_at : List ℕ → ℕ → ℕ

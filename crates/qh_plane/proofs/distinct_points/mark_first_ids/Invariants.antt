@@ -1,10 +1,12 @@
 use Rattle.std.proofs.Common.{◌≡◌, length, drop, replicate, false}
 use Rattle.qh_plane.specs.declared.distinct_points.TheConstants.{NO_PLACE}
+use Rattle.qh_plane.specs.declared.place_keys.TheConstants.{ROOM}
 use Rattle.qh_plane.specs.steps.Marks.{marked, place_starts}
 use Rattle.qh_plane.proofs.distinct_points.mark_first_ids.Given as goal
 
 abbrev pub invariant-loop-key : goal.invariant-loop-key
 invariant-loop-key l = record {
   len : length l.marks.items ≡ l.fn.count;
-  same : marked l.marks.items (place_starts l.last (drop l.key-index l.keys)) ≡ marked (replicate l.fn.count false) (place_starts NO_PLACE l.keys);
+  same : marked ROOM l.marks.items (place_starts ROOM l.last (drop l.key-index l.keys))
+      ≡ marked ROOM (replicate l.fn.count false) (place_starts ROOM NO_PLACE l.keys);
 }

@@ -1,0 +1,130 @@
+//! One number of 64 bits for a point and its id: a hash of the place, and below it the id. It is half as wide
+//! as a key that tells the place, and a sort of such keys, too, brings equal points together, the lowest
+//! id first.
+//!
+//! Equal points have one hash. Different points hardly ever have; where they do, some stand next to each
+//! other among the sorted keys.
+ghost use Rattle.std.specs.Prelude.{◌≡◌, ◌<◌, ◌≤◌, ◌+◌, ◌*◌, ◌/◌, ◌%◌, ℕ, IfOk, IsTrue, length, map, replicate, false};
+ghost use Rattle.std.specs.List.{All};
+ghost use Rattle.qh_model.specs.contract.IdSets.{AreIndices};
+ghost use Rattle.qh_plane.specs.steps.HashedKeys.{place_number, place_hash, hashed_key, hashed_key_at, HashesRise, HashesTell};
+ghost use Rattle.qh_plane.specs.steps.Marks.{place_starts, marked};
+
+use crate::close_points::are_one;
+use crate::place_keys::raised;
+use qh_model::{Id, POINT_LIMIT, Point};
+use qh_pred::point_at;
+use std::alloc::{AllocError, Global};
+
+/// Points with coordinates up to this far from 0 have numbers of their own: the third power of
+/// `SPREAD` is below 2^64.
+const NEAR: u64 = 1048576;
+
+/// The room of a coordinate in a number.
+pub const SPREAD: u64 = 2 * NEAR + 1;
+
+/// By this odd factor numbers that lie near each other come far apart: 2^64 over the golden ratio.
+pub const MIXER: u64 = 11400714819323198485;
+
+/// The room of an id in a key.
+pub const ID_ROOM: u64 = POINT_LIMIT as u64;
+
+/// The hash of no place: all places have lower ones.
+pub const NO_HASH: u64 = u64::MAX / ID_ROOM + 1;
+
+/// The number of a place.
+fn place_number(point: Point) -> u64
+    ensures { result ≡ place_number point }
+{
+    let line = raised(point.x()) * SPREAD + raised(point.y());
+    line.wrapping_mul(SPREAD).wrapping_add(raised(point.z()))
+}
+
+/// The hash of a place: the upper bits of a product.
+#[tactic(auto, unfolding(crate::specs::steps::HashedKeys::place_hash))]
+fn place_hash(point: Point) -> u64
+    ensures value { result ≡ place_hash point }
+    ensures limit { result < NO_HASH }
+{
+    place_number(point).wrapping_mul(MIXER) / ID_ROOM
+}
+
+/// The key of a point and its id.
+fn hashed_key(point: Point, id: Id) -> u64
+    requires { id < ID_ROOM }
+    ensures { result ≡ hashed_key point id }
+{
+    place_hash(point) * ID_ROOM + u64::from(id.number())
+}
+
+/// The hash in a key.
+fn hash_in(key: u64) -> u64
+    ensures { result ≡ key / ID_ROOM }
+{
+    key / ID_ROOM
+}
+
+/// The id in a key.
+fn id_in(key: u64) -> Id
+    ensures { result ≡ key % ID_ROOM }
+{
+    Id::new((key % ID_ROOM) as u32)
+}
+
+/// The keys of points, in the order of their ids in the list.
+pub fn hashed_keys(alloc: Global, pts: &[Point], ids: &[Id]) -> Result<Vec<u64>, AllocError>
+    requires few { length pts.now ≤ POINT_LIMIT }
+    requires indices { AreIndices pts.now ids.now }
+    ensures { IfOk result (λ v. v.items ≡ map (hashed_key_at pts.now) ids.now) }
+{
+    let mut keys = Vec::with_capacity(alloc, ids.len())?;
+    for id in ids {
+        keys.push(hashed_key(point_at(pts, *id), *id))?;
+    }
+    Ok(keys)
+}
+
+/// Whether the hash of each key is above that of the one before.
+pub fn hashes_rise(keys: &[u64]) -> bool
+    ensures { IsTrue result → HashesRise keys.now }
+{
+    for j in 1..keys.len() {
+        if hash_in(keys[j - 1]) >= hash_in(keys[j]) {
+            return false;
+        }
+    }
+    true
+}
+
+/// Whether keys that are next to each other and have one hash are of equal points.
+pub fn hashes_tell(pts: &[Point], keys: &[u64]) -> bool
+    requires { All (λ k. k % ID_ROOM < length pts.now) keys.now }
+    ensures { IsTrue result → HashesTell pts.now keys.now }
+{
+    for j in 1..keys.len() {
+        let (before, key) = (keys[j - 1], keys[j]);
+        if hash_in(before) == hash_in(key)
+            && !are_one(point_at(pts, id_in(before)), point_at(pts, id_in(key)))
+        {
+            return false;
+        }
+    }
+    true
+}
+
+/// Marks, for rising keys, each id at which a new hash begins: the lowest id of that hash.
+pub fn mark_first_hashed(alloc: Global, count: usize, keys: &[u64]) -> Result<Vec<bool>, AllocError>
+    requires { All (λ k. k % ID_ROOM < count) keys.now }
+    ensures { IfOk result (λ v. v.items ≡ marked ID_ROOM (replicate count false) (place_starts ID_ROOM NO_HASH keys.now)) }
+{
+    let mut marks = vec![in alloc; false; count]?;
+    let mut last = NO_HASH;
+    for key in keys {
+        let hash = hash_in(*key);
+        if hash != last {
+            marks[id_in(*key).index()] = true;
+            last = hash;
+        }
+    }
+    Ok(marks)
+}
