@@ -15,3 +15,4 @@ pub mod SortedPlaces
 pub mod LeastFirst
 pub mod PlanarIds
 pub mod Triangle
+pub mod Quadrilateral

@@ -1,11 +1,11 @@
 //! The polygon of points in one plane.
-ghost use Rattle.std.specs.Prelude.{◌≡◌, ◌<◌, ◌≤◌, ◌-◌, ◌++◌, ℕ, IfOk, [], length, slice_index, reverse, take};
+ghost use Rattle.std.specs.Prelude.{◌≡◌, ◌<◌, ◌≤◌, ◌-◌, ◌++◌, ℕ, IfOk, IfSome, [], length, slice_index, reverse, take};
 ghost use Rattle.std.specs.List.{All};
 ghost use Rattle.qh_model.specs.headline.Predicates.{place};
 ghost use Rattle.qh_model.specs.headline.Sets.{Members};
 ghost use Rattle.qh_model.specs.headline.Extreme.{Extreme};
 ghost use Rattle.qh_model.specs.headline.Polygon.{IsPolygon};
-ghost use Rattle.qh_plane.specs.steps.Chains.{turn_of, chain, joined, triangle};
+ghost use Rattle.qh_plane.specs.steps.Chains.{turn_of, chain, joined, triangle, goes_left, IsLeftCycle};
 ghost use Rattle.qh_plane.specs.steps.PlaceKeys.{AreByPlace, HasKey};
 ghost use Rattle.qh_model.specs.contract.IdSets.{AreIndices};
 ghost use Rattle.qh_plane.specs.contract.PlanarSets.{IsPlanarSet};
@@ -90,6 +90,46 @@ fn triangle(pts: &[Point], normal: &Normal, i: Id, j: Id, k: Id) -> Polygon
     }
 }
 
+/// Whether the way round four ids turns left at each.
+fn goes_left(pts: &[Point], normal: &Normal, i: Id, j: Id, k: Id, l: Id) -> bool
+    requires i_in { i < length pts.now }
+    requires j_in { j < length pts.now }
+    requires k_in { k < length pts.now }
+    requires l_in { l < length pts.now }
+    ensures { result ≡ goes_left (turn_of pts.now normal.now) i j k l }
+{
+    turns_left(pts, normal, i, j, k)
+        && turns_left(pts, normal, j, k, l)
+        && turns_left(pts, normal, k, l, i)
+        && turns_left(pts, normal, l, i, j)
+}
+
+/// The cycle of four ids, from the first on, that turns left at each, if there is one: else one of them lies
+/// between others.
+fn quadrilateral(pts: &[Point], normal: &Normal, i: Id, j: Id, k: Id, l: Id) -> Option<[Id; 4]>
+    requires i_in { i < length pts.now }
+    requires j_in { j < length pts.now }
+    requires k_in { k < length pts.now }
+    requires l_in { l < length pts.now }
+    ensures { IfSome result (λ q. IsLeftCycle (turn_of pts.now normal.now) i j k l q) }
+{
+    // The second and the third in the order that turns left; the last comes after any of the first three.
+    let (j, k) = if turns_left(pts, normal, i, j, k) {
+        (j, k)
+    } else {
+        (k, j)
+    };
+    if goes_left(pts, normal, i, j, k, l) {
+        Some([i, j, k, l])
+    } else if goes_left(pts, normal, i, j, l, k) {
+        Some([i, j, l, k])
+    } else if goes_left(pts, normal, i, l, j, k) {
+        Some([i, l, j, k])
+    } else {
+        None
+    }
+}
+
 /// The cycle of more ids in one plane, over the two chains of their order, from the least on.
 fn corners(alloc: Global, pts: &[Point], normal: &Normal, ids: &[Id]) -> Result<Vec<Id>, AllocError>
     requires { AreIndices pts.now ids.now }
@@ -118,9 +158,14 @@ pub fn polygon(alloc: Global, pts: &[Point], ids: &[Id], normal: &Normal) -> Res
     requires { AreIndices pts.now ids.now }
     ensures { IfOk result (λ q. IsPlanarSet pts.now ids.now normal.now → IsPolygon (place pts.now) (Extreme (place pts.now) (Members ids.now)) normal.now q) }
 {
-    // One turn tells the order of three ids.
+    // One turn tells the order of three ids, and mostly a few that of four.
     if ids.len() == 3 {
         return Ok(triangle(pts, normal, ids[0], ids[1], ids[2]));
+    }
+    if ids.len() == 4 {
+        if let Some(cycle) = quadrilateral(pts, normal, ids[0], ids[1], ids[2], ids[3]) {
+            return Ok(Polygon::of(Vec::from_slice(alloc, &cycle)?));
+        }
     }
     Ok(Polygon::of(corners(alloc, pts, normal, ids)?))
 }

@@ -22,20 +22,26 @@ use Rattle.qh_plane.proofs.polygons.Turns.{IsFlat, left-back, left-there}
 use Rattle.qh_plane.specs.steps.Chains.{is_left, turn_of, triangle}
 use Rattle.qh_plane.specs.contract.PlanarSets.{IsPlanarSet}
 
--- what lies on the way is lower than what lies to its left
-lower : (l m p q k : ℤ) → l ≡ p +ℤ k → m ≡ q +ℤ k → l ≡ pos 0 → pos 0 <ℤ m → p <ℤ q
+-- what lies on the way or to its right is lower than what lies to its left
+lower : (l m p q k : ℤ) → l ≡ p +ℤ k → m ≡ q +ℤ k → l ≤ℤ pos 0 → pos 0 <ℤ m → p <ℤ q
 lower l m p q k e f z h = omega (arith, ints)
 
--- c to the left of the way from a to b is a corner of the three
-left_corner : (n : Vector) (at : ℕ → Vector) (a b c : ℕ) (A : ℕ → Type 0) → A c → ((x : ℕ) → A x → x ≢ c → (x ≡ a) ⊎ (x ≡ b)) → pos 0 <ℤ left n (at a) (at b) (at c) → Corner at A c
-left_corner n at a b c A ac only h = record { member = ac; w = cross_product n (minus (at b) (at a)); beats = λ x ax ne. beat x (only x ax ne) }
-  where
-    below : (p : Vector) → left n (at a) (at b) p ≡ pos 0 → dot (cross_product n (minus (at b) (at a))) p <ℤ dot (cross_product n (minus (at b) (at a))) (at c)
-    below p z = lower _ _ _ _ _ (left-linear n (at a) (at b) p) (left-linear n (at a) (at b) (at c)) z h
+at_most_zero : (y : ℤ) → y ≡ pos 0 → y ≤ℤ pos 0
+at_most_zero y e = omega (arith, ints)
 
-    beat : (x : ℕ) → (x ≡ a) ⊎ (x ≡ b) → dot (cross_product n (minus (at b) (at a))) (at x) <ℤ dot (cross_product n (minus (at b) (at a))) (at c)
-    beat x (inl e) = below (at x) (subst (λ t. left n (at a) (at b) (at t) ≡ pos 0) (sym e) (left-back n (at a) (at b)))
-    beat x (inr e) = below (at x) (subst (λ t. left n (at a) (at b) (at t) ≡ pos 0) (sym e) (left-there n (at a) (at b)))
+-- c to the left of the way from a to b, where no other member is, is a corner
+pub left_corner : (n : Vector) (at : ℕ → Vector) (a b c : ℕ) (A : ℕ → Type 0) → A c
+    → ((x : ℕ) → A x → x ≢ c → left n (at a) (at b) (at x) ≤ℤ pos 0) → pos 0 <ℤ left n (at a) (at b) (at c) → Corner at A c
+left_corner n at a b c A ac only h = record {
+  member = ac;
+  w = cross_product n (minus (at b) (at a));
+  beats = λ x ax ne. lower _ _ _ _ _ (left-linear n (at a) (at b) (at x)) (left-linear n (at a) (at b) (at c)) (only x ax ne) h;
+}
+
+-- the ends of the way from a to b are on it
+on_way : (n : Vector) (at : ℕ → Vector) (a b x : ℕ) → (x ≡ a) ⊎ (x ≡ b) → left n (at a) (at b) (at x) ≤ℤ pos 0
+on_way n at a b x (inl e) = subst (λ t. left n (at a) (at b) (at t) ≤ℤ pos 0) (sym e) (at_most_zero _ (left-back n (at a) (at b)))
+on_way n at a b x (inr e) = subst (λ t. left n (at a) (at b) (at t) ≤ℤ pos 0) (sym e) (at_most_zero _ (left-there n (at a) (at b)))
 
 -- a left turn over three members from the least on is their polygon
 pub left_triangle : (n : Vector) (at : ℕ → Vector) (A : ℕ → Type 0) (a b c : ℕ) → ((x : ℕ) → A x ↔ In x (a ∷ b ∷ c ∷ [])) → a < b → a < c → b ≢ c
@@ -64,13 +70,13 @@ left_triangle n at A a b c l ab ac bc h = record {
     third P x (inr (inr (inr m))) f g k = absurd m
 
     corner_a : Corner at A a
-    corner_a = left_corner n at b c a A ((l a).1 (inl refl)) (λ x ax ne. third (λ y. (y ≡ b) ⊎ (y ≡ c)) x ((l x).0 ax) (λ e. absurd (ne e)) (λ e. inl e) (λ e. inr e)) hb
+    corner_a = left_corner n at b c a A ((l a).1 (inl refl)) (λ x ax ne. on_way n at b c x (third (λ y. (y ≡ b) ⊎ (y ≡ c)) x ((l x).0 ax) (λ e. absurd (ne e)) (λ e. inl e) (λ e. inr e))) hb
 
     corner_b : Corner at A b
-    corner_b = left_corner n at c a b A ((l b).1 (inr (inl refl))) (λ x ax ne. third (λ y. (y ≡ c) ⊎ (y ≡ a)) x ((l x).0 ax) (λ e. inr e) (λ e. absurd (ne e)) (λ e. inl e)) hc
+    corner_b = left_corner n at c a b A ((l b).1 (inr (inl refl))) (λ x ax ne. on_way n at c a x (third (λ y. (y ≡ c) ⊎ (y ≡ a)) x ((l x).0 ax) (λ e. inr e) (λ e. absurd (ne e)) (λ e. inl e))) hc
 
     corner_c : Corner at A c
-    corner_c = left_corner n at a b c A ((l c).1 (inr (inr (inl refl)))) (λ x ax ne. third (λ y. (y ≡ a) ⊎ (y ≡ b)) x ((l x).0 ax) (λ e. inl e) (λ e. inr e) (λ e. absurd (ne e))) h
+    corner_c = left_corner n at a b c A ((l c).1 (inr (inr (inl refl)))) (λ x ax ne. on_way n at a b x (third (λ y. (y ≡ a) ⊎ (y ≡ b)) x ((l x).0 ax) (λ e. inl e) (λ e. inr e) (λ e. absurd (ne e)))) h
 
     corner : (x : ℕ) → In x (a ∷ b ∷ c ∷ []) → Corner at A x
     corner x i = third (Corner at A) x i (λ e. subst (Corner at A) (sym e) corner_a) (λ e. subst (Corner at A) (sym e) corner_b) (λ e. subst (Corner at A) (sym e) corner_c)

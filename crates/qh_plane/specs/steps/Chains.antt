@@ -1,8 +1,9 @@
 -- The chain of a list of ids in order: a stack that turns left at each id. Only private functions speak of it.
 -- Source: Andrew's monotone chain (1979), after Graham's scan.
-use Rattle.std.specs.Prelude.{ℕ, ℤ, List, [], ◌∷◌, Bool, false, cond, not}
+use Rattle.std.specs.Prelude.{◌≡◌, ℕ, ℤ, List, [], ◌∷◌, Bool, true, false, cond, not, ◌&&◌, ◌↔◌}
 use Rattle.std.specs.Ordering.{is_gt}
 use Rattle.qh_model.specs.headline.Predicates.{place, cross}
+use Rattle.qh_model.specs.headline.Sets.{In}
 use Rattle.qh_model.specs.headline.Vector.{Vector}
 use Rattle.qh_pred.specs.contract.Turns.{sign, first_product}
 
@@ -52,3 +53,12 @@ joined there back = turned_onto (after_first there) (turned_onto (after_first ba
 -- three ids, the first of which stays first, in the order that turns left
 abbrev pub triangle : (ℕ → ℕ → ℕ → ℤ) → ℕ → ℕ → ℕ → List ℕ
 triangle turn i j k = cond (is_left (turn i j k)) (i ∷ j ∷ k ∷ []) (i ∷ k ∷ j ∷ [])
+
+-- whether the way round four ids turns left at each
+abbrev pub goes_left : (ℕ → ℕ → ℕ → ℤ) → ℕ → ℕ → ℕ → ℕ → Bool
+goes_left turn i j k l = is_left (turn i j k) && is_left (turn j k l) && is_left (turn k l i) && is_left (turn l i j)
+
+-- q has the four ids, the first of which stays first, in an order that turns left at each
+abbrev pub IsLeftCycle : (ℕ → ℕ → ℕ → ℤ) → ℕ → ℕ → ℕ → ℕ → List ℕ → Type 0
+IsLeftCycle turn i j k l q = (a : ℕ) × (b : ℕ) × (c : ℕ) × (q ≡ i ∷ a ∷ b ∷ c ∷ []) × (goes_left turn i a b c ≡ true)
+    × ((x : ℕ) → In x (j ∷ k ∷ l ∷ []) ↔ In x (a ∷ b ∷ c ∷ []))
