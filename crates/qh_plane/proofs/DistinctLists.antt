@@ -19,6 +19,7 @@ use Rattle.qh_plane.proofs.MarkedIds.{IsMarked, in_marked_ids, of_marked_ids, ma
 use Rattle.qh_plane.proofs.PlaceStarts.{Start, IsBefore, starts_only, starts_all}
 use Rattle.qh_plane.specs.steps.Marks.{place_starts, marked, marked_ids}
 use Rattle.qh_plane.specs.steps.PlaceKeys.{AllIds}
+use Rattle.qh_plane.specs.steps.SortedPoints.{AllDiffer}
 
 -- keys of one place are in order of their ids
 key_order : (c i j : ℕ) → c + i ≤ c + j → i ≤ j
@@ -43,12 +44,8 @@ in_all n all a i m =
     let lt : r.0 < n = subst (λ v. r.0 < v) a.len r.1 in
     subst (λ v. v < n) (sym (a.each r.0 lt) ∙ r.2) lt
 
--- no two of the points are equal
-abbrev AllDiffer : List Vector → Type 0
-AllDiffer pts = (i j : ℕ) → i < j → j < length pts → place pts i ≢ place pts j
-
 -- where all points differ, all ids are distinct
-all_distinct : (pts : List Vector) (all : List ℕ) → AllIds (length pts) all → AllDiffer pts → AreDistinctIds pts all
+pub all_distinct : (pts : List Vector) (all : List ℕ) → AllIds (length pts) all → AllDiffer pts → AreDistinctIds pts all
 all_distinct pts all a differ = record {
   rising = rises_each (length pts) all a;
   members = λ i. ((λ m. let lt = in_all (length pts) all a i m in (lt, λ j l. differ j i l lt)), (λ d. all_in (length pts) all a i d.0));

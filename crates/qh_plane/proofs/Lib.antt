@@ -2,6 +2,7 @@ pub mod KeyOrder
 pub mod PlaceOrder
 pub mod MarkedIds
 pub mod PlaceStarts
+pub mod SortedPoints
 pub mod DistinctLists
 pub mod PlaceLists
 pub mod KeptIds

@@ -1,9 +1,9 @@
 -- The distinct ids of points in a small box, point by point: what stands in the slots, and which ids are kept.
-use Rattle.std.proofs.Common.{◌≡◌, ◌≢◌, ◌∙◌, ℕ, ◌+◌, ◌<◌, ◌≤◌, ◌⊎◌, inl, inr, List, [], ◌∷◌, ◌++◌, length, set, replicate, arith, ap, sym, subst, get_or-set_same, get_or-set_other}
-use Rattle.std.proofs.lemmas.List.{length-set, get_or-replicate, length-replicate}
+use Rattle.std.proofs.Common.{◌≡◌, ◌≢◌, ◌∙◌, ℕ, ◌+◌, ◌<◌, ◌≤◌, ◌⊎◌, inl, inr, List, [], ◌∷◌, ◌++◌, length, set, replicate, slice_index_or, arith, ap, sym, subst, get_or-set_same, get_or-set_other}
+use Rattle.std.proofs.lemmas.List.{get_or_read, length-set, get_or-replicate, length-replicate}
 use Rattle.std.specs.List.Sorted.{IsStrictlyIncreasing}
 use native.Mathlib.Decide.{ℕ_discrete}
-use Rattle.qh_model.specs.headline.Vector.{Vector}
+use Rattle.qh_model.specs.headline.Vector.{Vector, origin}
 use Rattle.qh_model.specs.headline.Predicates.{place}
 use Rattle.qh_model.specs.headline.Sets.{In}
 use Rattle.qh_model.specs.headline.DistinctIds.{IsDistinctId, AreDistinctIds}
@@ -13,6 +13,11 @@ use Rattle.qh_model.proofs.lists.Rising.{rising_append}
 use Rattle.qh_plane.specs.declared.close_points.CloseBox.{CloseBox}
 use Rattle.qh_plane.specs.declared.close_points.TheConstants.{NO_ID}
 use Rattle.qh_plane.specs.steps.CloseBoxes.{slot_of, slot_at, HasFirst, AreSeen}
+
+-- a point that was read is that of its id
+pub point_read : (pts : List Vector) (k : ℕ) (p : Vector) → k < length pts → p ≡ slice_index_or pts k p → p ≡ place pts k
+unfolding place
+point_read pts k p l e = get_or_read pts k p l e origin
 
 -- no id of the points stands for none
 id_is_none : (k n : ℕ) → k < n → n ≤ POINT_LIMIT → k ≢ NO_ID

@@ -4,3 +4,4 @@ pub mod CloseBoxes
 pub mod Marks
 pub mod PlaceKeys
 pub mod HashedKeys
+pub mod SortedPoints

@@ -33,7 +33,7 @@ pub const ID_ROOM: u64 = POINT_LIMIT as u64;
 pub const NO_HASH: u64 = u64::MAX / ID_ROOM + 1;
 
 /// The number of a place.
-fn place_number(point: Point) -> u64
+pub fn place_number(point: Point) -> u64
     ensures { result ≡ place_number point }
 {
     let line = raised(point.x()) * SPREAD + raised(point.y());

@@ -15,6 +15,7 @@ mod place_keys;
 mod planar;
 mod ranking;
 mod shape;
+mod sorted_points;
 mod sorting;
 #[cfg(test)]
 mod tests;

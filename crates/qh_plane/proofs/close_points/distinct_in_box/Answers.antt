@@ -1,18 +1,13 @@
 use Rattle.std.proofs.Common.{rules, ◌≡◌, ◌≢◌, ◌∙◌, ℕ, ◌+◌, ◌<◌, ◌⊎◌, inl, inr, List, [], ◌∷◌, ◌++◌, length, set, slice_index_or, arith, ap, sym, subst, Vec, Global}
 use Rattle.std.proofs.lemmas.List.{get_or_read}
 use Rattle.qh_model.specs.headline.Predicates.{place}
-use Rattle.qh_model.specs.headline.Vector.{Vector, origin}
+use Rattle.qh_model.specs.headline.Vector.{Vector}
 use Rattle.qh_plane.specs.declared.close_points.CloseBox.{CloseBox}
 use Rattle.qh_plane.specs.declared.close_points.TheConstants.{NO_ID}
 use Rattle.qh_plane.specs.steps.CloseBoxes.{slot_of, slot_at, AreSeen}
-use Rattle.qh_plane.proofs.SeenPlaces.{new_seen, again_seen, all_seen}
+use Rattle.qh_plane.proofs.SeenPlaces.{point_read, new_seen, again_seen, all_seen}
 use Rattle.qh_plane.proofs.close_points.distinct_in_box.Goals.{then-index+in_ok-push, else-index+else-not-are_one}
 use Rattle.qh_plane.proofs.close_points.distinct_in_box.Goals as goal
-
--- a point that was read is that of its id
-point_read : (pts : List Vector) (k : ℕ) (p : Vector) → k < length pts → p ≡ slice_index_or pts k p → p ≡ place pts k
-unfolding place
-point_read pts k p l e = get_or_read pts k p l e origin
 
 -- what stands in a slot that holds an id
 held_id : (k n : ℕ) → (n ≡ NO_ID) ⊎ (n < k) → n ≢ NO_ID → n < k

@@ -1,0 +1,17 @@
+-- Points in the order of their places, or against it. Only private functions speak of it.
+use Rattle.std.specs.Prelude.{ℕ, ◌≢◌, ◌+◌, ◌<◌, List, length}
+use Rattle.qh_model.specs.headline.Predicates.{place}
+use Rattle.qh_model.specs.headline.Vector.{Vector}
+use Rattle.qh_plane.specs.steps.HashedKeys.{place_number}
+
+-- the number of each place is above that of the one before
+abbrev pub NumbersRise : List Vector → Type 0
+NumbersRise pts = (j : ℕ) → j + 1 < length pts → place_number (place pts j) < place_number (place pts (j + 1))
+
+-- or below
+abbrev pub NumbersFall : List Vector → Type 0
+NumbersFall pts = (j : ℕ) → j + 1 < length pts → place_number (place pts (j + 1)) < place_number (place pts j)
+
+-- no two of the points are equal
+abbrev pub AllDiffer : List Vector → Type 0
+AllDiffer pts = (i j : ℕ) → i < j → j < length pts → place pts i ≢ place pts j
