@@ -5,10 +5,11 @@ use Rattle.qh_model.specs.contract.Surface.{Side, start, end}
 use Rattle.qh_model.specs.contract.Surface.Side.{first, second, third}
 use Rattle.qh_model.specs.contract.StoredSurface.{StoredFacet, facet_at, surface_of}
 use Rattle.qh_mesh.specs.declared.facets.FacetSide.{FacetSide}
-use Rattle.qh_mesh.specs.contract.Replacement.{IsLive, side_of_edge, edge_start, edge_end, twin_of}
+use Rattle.qh_mesh.specs.contract.Edges.{edge_end, edge_of, edge_start, facet_of, nth_side, side_no, side_of_edge, twin_of}
+use Rattle.qh_mesh.specs.contract.Replacement.{IsLive}
 use Rattle.qh_mesh.specs.steps.Horizons.{edge_side}
 use Rattle.qh_mesh.specs.steps.Kept.{outer_of, side_of}
-use Rattle.qh_mesh.specs.steps.Twins.{side_no, edge_of, HasTwin, HasTwins}
+use Rattle.qh_mesh.specs.steps.Twins.{HasTwin, HasTwins}
 
 -- an edge by its facet and side is of that facet
 pub edge-facet : (f : ℕ) (s : Side) → edge_of f s / 3 ≡ f
@@ -16,20 +17,20 @@ edge-facet f = elim [ first ↦ omega arith | second ↦ omega arith | third ↦
 
 -- and is that side
 pub edge-side : (f : ℕ) (s : Side) → side_of_edge (edge_of f s) ≡ s
-edge-side f first = ap (one_of first second third third) (let e : edge_of f first % 3 ≡ 0 = omega arith in e)
-edge-side f second = ap (one_of first second third third) (let e : edge_of f second % 3 ≡ 1 = omega arith in e)
-edge-side f third = ap (one_of first second third third) (let e : edge_of f third % 3 ≡ 2 = omega arith in e)
+edge-side f first = ap nth_side (let e : edge_of f first % 3 ≡ 0 = omega arith in e)
+edge-side f second = ap nth_side (let e : edge_of f second % 3 ≡ 1 = omega arith in e)
+edge-side f third = ap nth_side (let e : edge_of f third % 3 ≡ 2 = omega arith in e)
 
 -- the side of an edge, by what is left of its number
-left-over : (r : ℕ) → r < 3 → side_no (one_of first second third third r) ≡ r
-left-over zero l = refl
-left-over (suc zero) l = refl
-left-over (suc (suc zero)) l = refl
-left-over (suc (suc (suc r))) l = absurd (omega arith)
+pub side_left_over : (r : ℕ) → r < 3 → side_no (nth_side r) ≡ r
+side_left_over zero l = refl
+side_left_over (suc zero) l = refl
+side_left_over (suc (suc zero)) l = refl
+side_left_over (suc (suc (suc r))) l = absurd (omega arith)
 
 -- each edge is that of its facet and side
 pub edge_is : (x : ℕ) → edge_of (x / 3) (side_of_edge x) ≡ x
-edge_is x = let e : side_no (side_of_edge x) ≡ x % 3 = left-over (x % 3) (omega arith) in omega arith
+edge_is x = let e : side_no (side_of_edge x) ≡ x % 3 = side_left_over (x % 3) (omega arith) in omega arith
 
 -- so twins may be told by facet and side
 pub twins_by_side : (fs : List StoredFacet) → ((f : ℕ) → IsLive fs f → (s : Side) → HasTwin fs (edge_of f s)) → HasTwins fs

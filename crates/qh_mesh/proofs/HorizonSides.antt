@@ -1,34 +1,37 @@
 -- The horizon of listed facets: its edges, that as many of them start at a corner as end there, and how it is gathered.
-use Rattle.std.proofs.Common.{◌≡◌, ℕ, ◌+◌, ◌*◌, ◌/◌, ◌<◌, ◌≤◌, arith, ap, sym, ◌∙◌, refl, subst, true, false, inl, inr, List, length, Bool}
-use Rattle.std.proofs.Common.{cond, not, [], ◌∷◌, map}
+use Rattle.std.proofs.Common.{◌++◌, All, ◌≡◌, ℕ, ◌+◌, ◌*◌, ◌/◌, ◌<◌, ◌≤◌, arith, ap, sym, ◌∙◌, refl, subst, true, false, inl, inr, List, length, Bool}
+use Rattle.std.proofs.Common.{slice_index, cond, not, [], ◌∷◌, map}
 use Rattle.std.specs.Prelude.{filter, count_by, flat_map}
 use Rattle.std.proofs.lemmas.Bool.{cases_Bool, not-true, not_from_false, both_ways}
 use Rattle.std.proofs.lemmas.List.Filters.{sum_by-filter_both}
+use Rattle.std.proofs.lemmas.List.Elements.{filter-append}
+use Rattle.std.proofs.lemmas.List.{append_assoc, flat_map_more}
 use Rattle.std.proofs.lemmas.List.Sums.{sum_by-cons}
 use Rattle.qh_model.specs.contract.StoredSurface.{StoredFacet, facet_at}
 use Rattle.qh_model.specs.contract.Surface.{Side}
 use Rattle.qh_model.specs.contract.Surface.Side.{first, second, third}
 use Rattle.qh_model.specs.headline.Sets.{In}
-use Rattle.qh_model.proofs.Members.{In-get_or, in_at}
+use Rattle.qh_model.proofs.Members.{All-In, All-of, In-get_or, in_at}
 use Rattle.qh_model.proofs.lists.Counts.{count-map, count_twins}
 use Rattle.qh_model.proofs.lists.Filters.{in_filter, of_filter, once_filter, filter_image}
 use Rattle.qh_model.proofs.lists.OnceEach.{once_place}
-use Rattle.qh_mesh.specs.contract.Replacement.{number, at, sides_of, is_listed, horizon, side_of_edge, twin_of, IsLive, AreFacets, IsKept}
-use Rattle.qh_mesh.specs.declared.facets.FacetNo.{FacetNo}
+use Rattle.qh_mesh.specs.contract.Edges.{edge_of, facet_of, side_of_edge, twin_of}
+use Rattle.qh_mesh.specs.contract.Replacement.{sides_of, is_listed, horizon, IsLive, AreFacets, IsKept}
+use Rattle.qh_mesh.specs.declared.facets.FacetSide.{FacetSide}
 use Rattle.qh_mesh.specs.steps.Horizons.{corner, edge_side, IsBalanced, HasSidesInside, is_open, three_sides, open_sides}
 use Rattle.qh_mesh.specs.steps.Kept.{side_of, outer_of, is_live, removed}
 use Rattle.qh_mesh.specs.steps.Places.{Removed}
 use Rattle.qh_mesh.specs.steps.Surfaces.{IsSurface}
-use Rattle.qh_mesh.specs.steps.Twins.{edge_of, HasTwin, HasTwins}
+use Rattle.qh_mesh.specs.steps.Twins.{HasTwin, HasTwins}
 use Rattle.qh_mesh.proofs.EdgeSides.{edge-facet, twin-is, side-is, noted-is}
-use Rattle.qh_mesh.proofs.ListedFacets.{listed_live, in_sides, of_sides, once_of, once_sides, listed_at, listed_find}
+use Rattle.qh_mesh.proofs.ListedFacets.{listed_live, in_sides, of_sides, once_sides, in_listed, listed_at, listed_in}
 use Rattle.qh_mesh.proofs.Mates.{meets}
 use Rattle.qh_model.proofs.surfaces.Stored.{live_inside}
 
-module _ (old : List StoredFacet) (vs : List FacetNo) where
+module _ (old : List StoredFacet) (vs : List ℕ) where
   -- an edge of the horizon, by its place
   abbrev pub edge : ℕ → ℕ
-  edge j = at (horizon old vs) j
+  edge j = slice_index (horizon old vs) j
 
   -- does a listed facet lie across, or one that stays?
   abbrev inner : ℕ → Bool
@@ -55,24 +58,23 @@ module _ (old : List StoredFacet) (vs : List FacetNo) where
 
   -- once
   pub same_place : AreFacets old vs → (i j : ℕ) → i < length (horizon old vs) → j < length (horizon old vs) → edge i ≡ edge j → i ≡ j
-  same_place a = once_place 0 (horizon old vs) (once_filter leaves (sides_of vs) (once_sides vs (once_of vs a.apart)))
+  same_place a = once_place 0 (horizon old vs) (once_filter leaves (sides_of vs) (once_sides vs a.once))
 
 -- ---- balance
 -- what is noted of the edges of facets are their sides
-sides_are : (fs : List StoredFacet) (vs : List FacetNo)
-    → map (edge_side fs) (sides_of vs) ≡ flat_map (λ v. three_sides (facet_at fs v.0)) vs
+sides_are : (fs : List StoredFacet) (vs : List ℕ)
+    → map (edge_side fs) (sides_of vs) ≡ flat_map (λ v. three_sides (facet_at fs v)) vs
 sides_are fs [] = refl
 sides_are fs (v ∷ vs) =
-    let z : 3 * v.0 ≡ edge_of v.0 first = omega arith in let a = ap (edge_side fs) z ∙ noted-is fs v.0 first in
-    λ i. a i ∷ noted-is fs v.0 second i ∷ noted-is fs v.0 third i ∷ sides_are fs vs i
+    λ i. noted-is fs v first i ∷ noted-is fs v second i ∷ noted-is fs v third i ∷ sides_are fs vs i
 
 -- round each facet as many start as end
-round : (fs : List StoredFacet) (l : ℕ) (vs : List FacetNo) → let hs = flat_map (λ v. three_sides (facet_at fs v.0)) vs in
+round : (fs : List StoredFacet) (l : ℕ) (vs : List ℕ) → let hs = flat_map (λ v. three_sides (facet_at fs v)) vs in
     count_by (meets true l) hs ≡ count_by (meets false l) hs
 round fs l [] = refl
 round fs l (v ∷ vs) = let r = round fs l vs in simp sum_by-cons (omega arith)
 
-module _ (fs : List StoredFacet) (vs : List FacetNo) (t : HasTwins fs) (a : AreFacets fs vs) (l : ℕ) where
+module _ (fs : List StoredFacet) (vs : List ℕ) (t : HasTwins fs) (a : AreFacets fs vs) (l : ℕ) where
   abbrev inside : List ℕ
   inside = filter (inner fs vs) (sides_of vs)
 
@@ -82,7 +84,7 @@ module _ (fs : List StoredFacet) (vs : List FacetNo) (t : HasTwins fs) (a : AreF
   -- of the sides inside as many start as end
   count_inside : (ends : Bool) → count_by (meet ends) inside ≤ count_by (meet (not ends)) inside
   count_inside ends = count_twins (twin_of fs) (meet ends) (meet (not ends)) inside
-      (once_filter (inner fs vs) (sides_of vs) (once_sides vs (once_of vs a.apart)))
+      (once_filter (inner fs vs) (sides_of vs) (once_sides vs a.once))
       (λ e i m. let k = of_filter (inner fs vs) (sides_of vs) e i in let d = twin_of fs e in let h = of_sides vs e k.0 in
       let g = t e (listed_live fs vs a (e / 3) h) in
       let met = elim ends as (λ b. corner (not b) (edge_side fs d) ≡ corner b (edge_side fs e)) [ true ↦ g.starts | false ↦ g.ends ] in
@@ -90,14 +92,14 @@ module _ (fs : List StoredFacet) (vs : List FacetNo) (t : HasTwins fs) (a : AreF
 
   -- so on the horizon too
   balance : (ends : Bool) → count_by (meet ends) inside + count_by (meets ends l) (map (edge_side fs) (horizon fs vs))
-      ≡ count_by (meets ends l) (flat_map (λ v. three_sides (facet_at fs v.0)) vs)
+      ≡ count_by (meets ends l) (flat_map (λ v. three_sides (facet_at fs v)) vs)
   balance ends =
       rw (count-map (edge_side fs) (meets ends l) (horizon fs vs))
       (sum_by-filter_both (inner fs vs) (leaves fs vs) (λ e. refl) (λ e. cond (meet ends e) 1 0) (sides_of vs)
       ∙ sym (count-map (edge_side fs) (meets ends l) (sides_of vs)) ∙ ap (count_by (meets ends l)) (sides_are fs vs))
 
 -- the horizon of facets of a surface is balanced
-pub horizon_balanced : (fs : List StoredFacet) (vs : List FacetNo) → HasTwins fs → AreFacets fs vs
+pub horizon_balanced : (fs : List StoredFacet) (vs : List ℕ) → HasTwins fs → AreFacets fs vs
     → IsBalanced (map (edge_side fs) (horizon fs vs))
 horizon_balanced fs vs t a = elim [ true ↦ even | false ↦ λ l. sym (even l) ]
   where
@@ -106,25 +108,42 @@ horizon_balanced fs vs t a = elim [ true ↦ even | false ↦ λ l. sym (even l)
         omega (arith, c true, c false, b true, b false, round fs l vs)
 
 -- ---- gathering
-module _ (old cleared : List StoredFacet) (vs : List FacetNo) (r : Removed old cleared vs (length vs)) where
+-- the open sides of one facet more
+pub open_more : (fs : List StoredFacet) (xs : List ℕ) (v : ℕ) → let t = facet_at fs v in let p = is_open fs in
+    ((open_sides fs xs ++ filter p (side_of t first ∷ [])) ++ filter p (side_of t second ∷ [])) ++ filter p (side_of t third ∷ [])
+    ≡ open_sides fs (xs ++ v ∷ [])
+open_more fs xs v =
+    let t = facet_at fs v in let p = is_open fs in let sides : ℕ → List FacetSide = λ v. three_sides (facet_at fs v) in let m = flat_map sides xs in
+    let a = side_of t first ∷ [] in let b = side_of t second ∷ [] in let c = side_of t third ∷ [] in
+    rw (← filter-append p m a, ← filter-append p (m ++ a) b, ← filter-append p ((m ++ a) ++ b) c)
+    (ap (filter p) (append_assoc (m ++ a) b c ∙ append_assoc m a (b ++ c) ∙ flat_map_more sides [] xs v))
+
+module _ (old cleared : List StoredFacet) (vs : List ℕ) (r : Removed old cleared vs (length vs)) where
   -- a listed facet is gone
   pub gone : (f : ℕ) → is_listed vs f ≡ true → facet_at cleared f ≡ removed (facet_at old f)
-  gone f e = let q = listed_find vs f e in subst (λ g. facet_at cleared g ≡ removed (facet_at old g)) (sym q.1.1) (r.there q.0 q.1.0)
+  gone f e = let q = in_at vs f (listed_in vs f e) in subst (λ g. facet_at cleared g ≡ removed (facet_at old g)) q.2 (r.there q.0 q.1)
 
   -- every other facet stays
   pub stays : (f : ℕ) → is_listed vs f ≡ false → facet_at cleared f ≡ facet_at old f
-  stays f u = r.others f (λ j l e. both_ways (is_listed vs f) u (listed_at vs f j l (sym e)))
+  stays f u = r.others f (λ j l e. both_ways (is_listed vs f) u (ap (is_listed vs) (sym e) ∙ listed_at vs j l))
 
-  module _ (free : List FacetNo) (s : IsSurface old free) (a : AreFacets old vs) where
+  module _ (free : List ℕ) (s : IsSurface old free) (a : AreFacets old vs) where
     -- a listed facet and those across its sides are in the list
-    pub sides_inside : (j : ℕ) → j < length vs → HasSidesInside cleared (number vs j)
-    sides_inside j l =
-        record { facet = rw r.len (live_inside old (number vs j) (a.live j l)); ij = across first; jk = across second; ki = across third }
+    pub sides_inside : All (HasSidesInside cleared) vs
+    sides_inside = All-of (HasSidesInside cleared) vs each
       where
-        across : (i : Side) → outer_of (facet_at cleared (number vs j)) i / 3 < length cleared
-        across i = let f = number vs j in let e = edge_of f i in
-            let live = (s.twins e (subst (IsLive old) (sym (edge-facet f i)) (a.live j l))).live in
-            rw (r.there j l, r.len, ← twin-is old f i) (live_inside old (twin_of old e / 3) live)
+        across : (f : ℕ) → In f vs → (t : Side) → facet_of (outer_of (facet_at cleared f) t) < length cleared
+        across f i t = let e = edge_of f t in
+            let live = (s.twins e (subst (IsLive old) (sym (edge-facet f t)) (All-In (IsLive old) vs f a.live i))).live in
+            rw (gone f (in_listed vs f i), r.len, ← twin-is old f t) (live_inside old (facet_of (twin_of old e)) live)
+
+        each : (f : ℕ) → In f vs → HasSidesInside cleared f
+        each f i = record {
+          facet = rw r.len (live_inside old f (All-In (IsLive old) vs f a.live i));
+          ij = across f i first;
+          jk = across f i second;
+          ki = across f i third;
+        }
 
     -- what is noted of a side of a listed facet, and that it is open where the facet across stays
     noted : (e : ℕ) → In e (sides_of vs)

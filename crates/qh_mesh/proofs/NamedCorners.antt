@@ -4,8 +4,8 @@ use Rattle.std.proofs.lemmas.List.{length-map}
 use Rattle.qh_model.specs.contract.StoredSurface.{named_facet, StoredFacet, facet_at}
 use Rattle.qh_model.proofs.lists.Counts.{count-map}
 use Rattle.qh_model.proofs.surfaces.Named.{stored_named, stored_part, start_named, end_named}
-use Rattle.qh_mesh.specs.declared.facets.FacetNo.{FacetNo}
-use Rattle.qh_mesh.specs.contract.Replacement.{IsLive, side_of_edge, edge_start, edge_end, twin_of}
+use Rattle.qh_mesh.specs.contract.Edges.{edge_end, edge_start, side_of_edge, twin_of}
+use Rattle.qh_mesh.specs.contract.Replacement.{IsLive}
 use Rattle.qh_mesh.specs.steps.Kept.{is_live, outer_of}
 use Rattle.qh_mesh.specs.steps.Surfaces.{IsSurface}
 use Rattle.qh_mesh.specs.steps.Twins.{HasTwins}
@@ -40,7 +40,7 @@ module _ (name : ℕ → ℕ) (fs : List StoredFacet) where
       }
 
   -- so the surface stays
-  pub named_surface : (free : List FacetNo) → IsSurface fs free → IsSurface named free
+  pub named_surface : (free : List ℕ) → IsSurface fs free → IsSurface named free
   named_surface free s = record {
     twins = named_twins s.twins;
     pool = pool_same fs named (reverse free)

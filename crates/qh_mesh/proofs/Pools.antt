@@ -9,7 +9,6 @@ use Rattle.qh_model.specs.headline.Sets.{In}
 use Rattle.qh_model.specs.contract.StoredSurface.{StoredFacet, facet_at, no_facet, surface_of}
 use Rattle.qh_model.proofs.surfaces.Stored.{live_inside, live_len}
 use Rattle.qh_model.proofs.lists.Joined.{of_append, once_append}
-use Rattle.qh_mesh.specs.declared.facets.FacetNo.{FacetNo}
 use Rattle.qh_mesh.specs.declared.facets.FacetSide.{FacetSide}
 use Rattle.qh_mesh.specs.contract.Replacement.{IsLive}
 use Rattle.qh_mesh.specs.steps.Kept.{is_live}
@@ -24,67 +23,67 @@ one b = cond b 1 0
 vacant_set : (fs : List StoredFacet) (v : ℕ) (t : StoredFacet) (w : ℕ) → w ≢ v → IsVacant fs w → IsVacant (set fs v t) w
 vacant_set fs v t w n h = (rw (length-set fs v t) h.0, ap is_live (get_or-set_other fs v w t no_facet n) ∙ h.1)
 
-module _ (fs : List StoredFacet) (places : List FacetNo) (v : FacetNo) (t : StoredFacet) where
+module _ (fs : List StoredFacet) (places : List ℕ) (v : ℕ) (t : StoredFacet) where
   -- a facet that goes leaves its place
-  pub pool_more : IsPool fs places → IsLive fs v.0 → t.live ≡ false → IsPool (set fs v.0 t) (v ∷ places)
+  pub pool_more : IsPool fs places → IsLive fs v → t.live ≡ false → IsPool (set fs v t) (v ∷ places)
   pool_more q l e =
-      let inside = live_inside fs v.0 l in let n = length-set fs v.0 t in
-      let apart = λ (w : FacetNo) (i : In w places) (d : w.0 ≡ v.0).
-      both_ways (facet_at fs v.0).live (ap (λ g. (facet_at fs g).live) (sym d) ∙ (q.vacant w i).1) l in
+      let inside = live_inside fs v l in let n = length-set fs v t in
+      let apart = λ (w : ℕ) (i : In w places) (d : w ≡ v).
+      both_ways (facet_at fs v).live (ap (λ g. (facet_at fs g).live) (sym d) ∙ (q.vacant w i).1) l in
       record {
         once = ((λ i. apart v i refl), q.once);
         vacant = λ w. elim [
-          | inl d ↦ subst (λ (u : FacetNo). IsVacant (set fs v.0 t) u.0) (sym d)
-              (rw n inside, ap is_live (get_or-set_same fs v.0 t no_facet inside) ∙ e)
-          | inr i ↦ vacant_set fs v.0 t w.0 (apart w i) (q.vacant w i)
+          | inl d ↦ subst (IsVacant (set fs v t)) (sym d)
+              (rw n inside, ap is_live (get_or-set_same fs v t no_facet inside) ∙ e)
+          | inr i ↦ vacant_set fs v t w (apart w i) (q.vacant w i)
         ];
-        count = omega (arith, q.count, rw l at (sum_by-set (λ t. one t.live) fs v.0 t no_facet inside), ap one e);
+        count = omega (arith, q.count, rw l at (sum_by-set (λ t. one t.live) fs v t no_facet inside), ap one e);
       }
 
   -- and one that comes takes one
-  pub pool_less : IsPool fs (v ∷ places) → t.live ≡ true → IsPool (set fs v.0 t) places
-  pool_less q e = let h = q.vacant v (inl refl) in let n = length-set fs v.0 t in record {
+  pub pool_less : IsPool fs (v ∷ places) → t.live ≡ true → IsPool (set fs v t) places
+  pool_less q e = let h = q.vacant v (inl refl) in let n = length-set fs v t in record {
     once = q.once.1;
-    vacant = λ w i. vacant_set fs v.0 t w.0 (λ d. q.once.0 (subst (λ u. In u places) (λ k. record { 0 = d k }) i)) (q.vacant w (inr i));
-    count = omega (arith, q.count, rw h.1 at (sum_by-set (λ t. one t.live) fs v.0 t no_facet h.0), ap one e);
+    vacant = λ w i. vacant_set fs v t w (λ d. q.once.0 (subst (λ u. In u places) d i)) (q.vacant w (inr i));
+    count = omega (arith, q.count, rw h.1 at (sum_by-set (λ t. one t.live) fs v t no_facet h.0), ap one e);
   }
 
 -- facets with the same marks leave the same places
-pub pool_same : (fs gs : List StoredFacet) (places : List FacetNo) → length gs ≡ length fs
+pub pool_same : (fs gs : List StoredFacet) (places : List ℕ) → length gs ≡ length fs
     → ((f : ℕ) → (facet_at gs f).live ≡ (facet_at fs f).live) → live_count gs ≡ live_count fs → IsPool fs places → IsPool gs places
 pool_same fs gs places n s c q =
-    record { once = q.once; vacant = λ v i. (rw n (q.vacant v i).0, s v.0 ∙ (q.vacant v i).1); count = let d = q.count in omega arith }
+    record { once = q.once; vacant = λ v i. (rw n (q.vacant v i).0, s v ∙ (q.vacant v i).1); count = let d = q.count in omega arith }
 
 -- there are no more facets of a cone than numbers of places
-pub few_made : (fs : List StoredFacet) (hs : List FacetSide) (made : List FacetNo) → IsReady fs hs made → length hs < 2 ^ 32
+pub few_made : (fs : List StoredFacet) (hs : List FacetSide) (made : List ℕ) → IsReady fs hs made → length hs < 2 ^ 32
 few_made fs hs made r = let l = r.places in let e = r.len in let s = r.small in omega arith
 
 -- a free place is given out
-pub pool_pops : (fs : List StoredFacet) (made free : List FacetNo) (p : FacetNo) → IsPool fs (made ++ reverse (free ++ p ∷ []))
+pub pool_pops : (fs : List StoredFacet) (made free : List ℕ) (p : ℕ) → IsPool fs (made ++ reverse (free ++ p ∷ []))
     → IsPool fs ((made ++ p ∷ []) ++ reverse free)
 pool_pops fs made free p q = subst (IsPool fs)
     (ap (λ xs. made ++ xs) (reverse-append free (p ∷ [])) ∙ sym (append_assoc made (p ∷ []) (reverse free))) q
 
 -- and one more place of no facet
-pub pool_grows : (fs : List StoredFacet) (made : List FacetNo) (p : FacetNo) → p.0 ≡ length fs → IsPool fs (made ++ [])
+pub pool_grows : (fs : List StoredFacet) (made : List ℕ) (p : ℕ) → p ≡ length fs → IsPool fs (made ++ [])
     → IsPool (fs ++ no_facet ∷ []) ((made ++ p ∷ []) ++ [])
 pool_grows fs made p e r =
     let q = rw append-nil at r in let n = length_push fs no_facet in let m = length_push made p in
-    let same : (v : FacetNo) → v ≡ p → v.0 ≡ length fs = λ v k. ap (λ (u : FacetNo). u.0) k ∙ e in
+    let same : (v : ℕ) → v ≡ p → v ≡ length fs = λ v k. k ∙ e in
     rw (append-nil (made ++ p ∷ [])) (record {
       once = once_append made (p ∷ []) q.once ((λ i. i), tt)
           (λ v i. elim [ inl k ↦ (let h = (q.vacant v i).0 in let d = same v k in omega arith) | inr j ↦ j ]);
       vacant = λ v i. elim (of_append made (p ∷ []) v i) [
         | inl j ↦ (let l = (q.vacant v j).0 in
-            (omega arith, ap is_live (get_or_append_left fs (no_facet ∷ []) no_facet v.0 l) ∙ (q.vacant v j).1))
-        | inr (inl k) ↦ (let d = same v k in (omega arith, ap is_live (get_or_push fs no_facet no_facet v.0 (sym d))))
+            (omega arith, ap is_live (get_or_append_left fs (no_facet ∷ []) no_facet v l) ∙ (q.vacant v j).1))
+        | inr (inl k) ↦ (let d = same v k in (omega arith, ap is_live (get_or_push fs no_facet no_facet v (sym d))))
         | inr (inr j) ↦ absurd j
       ];
       count = let c = sum_by_push (λ t. one t.live) fs no_facet in let d = q.count in omega arith;
     })
 
 -- places are given out again before there are more
-pub places_are : (fs : List StoredFacet) (free : List FacetNo) (n : ℕ) → IsPool fs (reverse free) → n ≤ length fs
+pub places_are : (fs : List StoredFacet) (free : List ℕ) (n : ℕ) → IsPool fs (reverse free) → n ≤ length fs
     → (0 < length free → length fs ≡ n) → length fs ≡ max n (length (surface_of fs).live)
 places_are fs free n q l h =
     let c = q.count in let e : length (surface_of fs).live ≡ live_count fs = live_len 0 fs in let r = length-reverse free in

@@ -1,14 +1,15 @@
 -- The steps of a replacement are one, and they leave a surface.
 use Rattle.std.proofs.Common.{◌≡◌, ℕ, ◌/◌, ◌<◌, arith, ap, sym, ◌∙◌, refl, subst, true, false, inl, inr, List, length, ◌≢◌, not, Bool, ◌⊎◌}
-use Rattle.std.proofs.Common.{reverse, length-append}
+use Rattle.std.proofs.Common.{slice_index, reverse, length-append}
 use Rattle.std.proofs.lemmas.Bool.{cases_Bool, both_ways, false_from_ne_true}
 use Rattle.std.proofs.lemmas.List.{length-map, get_or-map}
 use Rattle.qh_model.specs.contract.StoredSurface.{StoredFacet, facet_at}
-use Rattle.qh_model.proofs.Members.{In-get_or}
+use Rattle.qh_model.specs.headline.Sets.{In}
+use Rattle.qh_model.proofs.Members.{All-of, In-get_or}
 use Rattle.qh_model.proofs.lists.Joined.{in_append, once_left}
-use Rattle.qh_mesh.specs.contract.Replacement.{number, is_listed, horizon, side_of_edge, twin_of, IsLive, AreFacets, IsKept, IsReplacement}
+use Rattle.qh_mesh.specs.contract.Edges.{side_of_edge, twin_of}
+use Rattle.qh_mesh.specs.contract.Replacement.{is_listed, horizon, IsLive, AreFacets, IsKept, IsReplacement}
 use Rattle.qh_mesh.specs.contract.Replacement.{IsCone}
-use Rattle.qh_mesh.specs.declared.facets.FacetNo.{FacetNo}
 use Rattle.qh_mesh.specs.declared.facets.FacetSide.{FacetSide}
 use Rattle.qh_mesh.specs.steps.Cones.{bare}
 use Rattle.qh_mesh.specs.steps.Horizons.{side_at, no_side, corner, edge_side, IsBalanced, IsMate}
@@ -18,14 +19,14 @@ use Rattle.qh_mesh.specs.steps.Rebuilt.{IsCleared, IsChosen, IsConed, IsPrepared
 use Rattle.qh_mesh.specs.steps.Surfaces.{IsSurface}
 use Rattle.qh_mesh.specs.steps.Twins.{HasTwin}
 use Rattle.qh_mesh.proofs.HorizonSides.{edge, on_horizon, horizon_twin, same_place, horizon_balanced, gone, stays}
-use Rattle.qh_mesh.proofs.ListedFacets.{listed_at, listed_find, once_apart}
+use Rattle.qh_mesh.proofs.ListedFacets.{listed_at, listed_in}
 use Rattle.qh_mesh.proofs.Mates.{has_mate, mate_only, mate_twice}
 use Rattle.qh_model.proofs.surfaces.Stored.{live_inside}
 use Rattle.qh_mesh.proofs.Pools.{places_are}
 use Rattle.qh_mesh.proofs.Rewiring.{twins_after, IsStep, rewired}
 use Rattle.qh_mesh.proofs.SoundMeshes.{step_is_sound, step_is_closed}
 
-module _ (old chosen : List StoredFacet) (free left vs : List FacetNo) (hs : List FacetSide) (made : List FacetNo)
+module _ (old chosen : List StoredFacet) (free left vs : List ℕ) (hs : List FacetSide) (made : List ℕ)
     (s : IsSurface old free) (a : AreFacets old vs) (p : IsPrepared old chosen left vs hs made) where
   abbrev c : IsCleared old p.between vs hs
   c = p.is_cleared
@@ -59,9 +60,8 @@ module _ (old chosen : List StoredFacet) (free left vs : List FacetNo) (hs : Lis
   outer_back j e l d = ap (twin_of old) (sym d ∙ outer_is j l) ∙ (twin j l).0.back
 
   -- a place of the cone was vacant
-  vacant : (j : ℕ) → j < length made → IsVacant chosen (number made j)
-  vacant j l = let v : FacetNo = record { 0 = number made j } in
-      h.pool.vacant v (in_append made (reverse left) v (inl (In-get_or made j (record { 0 = 0 }) l)))
+  vacant : (f : ℕ) → In f made → IsVacant chosen f
+  vacant f i = h.pool.vacant f (in_append made (reverse left) f (inl i))
 
   -- the last steps can be made
   pub is_ready : IsReady chosen hs made
@@ -77,8 +77,8 @@ module _ (old chosen : List StoredFacet) (free left vs : List FacetNo) (hs : Lis
         let q = same_place old vs a i j (omega arith) (omega arith)
         (sym (outer_back i (side_at hs j).outer (omega arith) e) ∙ outer_back j (side_at hs j).outer m refl) in
         omega arith;
-    made_in = λ j l. (vacant j l).0;
-    made_apart = once_apart made (once_left made (reverse left) h.pool.once);
+    made_in = All-of (λ f. f < length chosen) made (λ f i. (vacant f i).0);
+    once = once_left made (reverse left) h.pool.once;
   }
 
   module _ (new : List StoredFacet) (apex : ℕ) (w : IsConed chosen new hs made apex) where
@@ -86,12 +86,14 @@ module _ (old chosen : List StoredFacet) (free left vs : List FacetNo) (hs : Lis
     kept_at : (f : ℕ) → IsKept old vs f → facet_at chosen f ≡ facet_at old f
     kept_at f k = h.cells f ∙ stays old p.between vs c.removed f k.unlisted
 
-    fresh : (f j : ℕ) → IsKept old vs f → j < length made → number made j ≢ f
-    fresh f j k l e = both_ways (facet_at old f).live
-        (ap is_live (sym (kept_at f k)) ∙ ap (λ g. is_live (facet_at chosen g)) (sym e) ∙ (vacant j l).1) k.live
+    fresh : (f : ℕ) → IsKept old vs f → ¬ (In f made)
+    fresh f k i = both_ways (facet_at old f).live (ap is_live (sym (kept_at f k)) ∙ (vacant f i).1) k.live
+
+    unmade : (f : ℕ) → IsKept old vs f → (j : ℕ) → j < length made → slice_index made j ≢ f
+    unmade f k j l e = fresh f k (subst (λ g. In g made) e (In-get_or made j 0 l))
 
     kept_same : (f : ℕ) → IsKept old vs f → facet_at new f ≡ facet_at w.joined_to f
-    kept_same f k = w.written.others f (λ j l. fresh f j k l)
+    kept_same f k = w.written.others f (unmade f k)
 
     -- so has the twin of each of its sides whose neighbour stays
     twins_stay : (e : ℕ) → IsKept old vs (e / 3) → is_listed vs (twin_of old e / 3) ≡ false → twin_of new e ≡ twin_of old e
@@ -102,7 +104,7 @@ module _ (old chosen : List StoredFacet) (free left vs : List FacetNo) (hs : Lis
         ∙ ap (λ t. outer_of t (side_of_edge e)) (kept_at (e / 3) k)
 
     -- the facets of the cone
-    over : (j : ℕ) → j < length made → IsCone old new (edge old vs j) apex (number made j)
+    over : (j : ℕ) → j < length made → IsCone old new (edge old vs j) apex (slice_index made j)
     over j l =
         let m = in_hs j l in let t = (w.written.there j l).is in
         let o = twin_of old (edge old vs j) in let d = side_is j m in
@@ -130,17 +132,17 @@ module _ (old chosen : List StoredFacet) (free left vs : List FacetNo) (hs : Lis
     mate_back ends j l = mate_twice hs balanced ends j (in_hs j l)
 
     -- what is of no facet of the cone is as the removal left it, but for twins
-    other : (f : ℕ) → ((j : ℕ) → j < length made → number made j ≢ f) → bare (facet_at new f) ≡ bare (facet_at p.between f)
+    other : (f : ℕ) → ((j : ℕ) → j < length made → slice_index made j ≢ f) → bare (facet_at new f) ≡ bare (facet_at p.between f)
     other f n = ap bare (w.written.others f n) ∙ w.joined.same f ∙ ap bare (h.cells f)
 
     kept_bare : (f : ℕ) → IsKept old vs f → bare (facet_at new f) ≡ bare (facet_at old f)
-    kept_bare f k = other f (λ j l. fresh f j k l) ∙ ap bare (stays old p.between vs c.removed f k.unlisted)
+    kept_bare f k = other f (unmade f k) ∙ ap bare (stays old p.between vs c.removed f k.unlisted)
 
     -- a live facet stays, or is of the cone
-    only : (f : ℕ) → IsLive new f → IsKept old vs f ⊎ ((j : ℕ) × (j < length made) × (f ≡ number made j))
+    only : (f : ℕ) → IsLive new f → IsKept old vs f ⊎ In f made
     only f l = elim (cases_Bool (is_listed made f)) [
-      | inl e ↦ (let q = listed_find made f e in inr (q.0, q.1.0, q.1.1))
-      | inr u ↦ (let d = ap is_live (sym (other f (λ j m e. both_ways (is_listed made f) u (listed_at made f j m (sym e))))) ∙ l in
+      | inl e ↦ inr (listed_in made f e)
+      | inr u ↦ (let d = ap is_live (sym (other f (λ j m e. both_ways (is_listed made f) u (ap (is_listed made) (sym e) ∙ listed_at made j m)))) ∙ l in
           let u' = false_from_ne_true (is_listed vs f)
           (λ e. both_ways (facet_at p.between f).live (ap is_live (gone old p.between vs c.removed f e)) d) in
           inl (record { live = ap is_live (sym (stays old p.between vs c.removed f u')) ∙ d; unlisted = u' }))
@@ -150,7 +152,7 @@ module _ (old chosen : List StoredFacet) (free left vs : List FacetNo) (hs : Lis
     replacement : IsReplacement old new vs apex made
     replacement = record {
       len = h.len ∙ horizon_len;
-      apart = once_apart made (once_left made (reverse left) h.pool.once);
+      once = once_left made (reverse left) h.pool.once;
       fresh = fresh;
       cone = over;
       next = mate true;

@@ -1,5 +1,5 @@
 -- After a replacement twins pair off again, and one of what a point sees is a step of Quickhull.
-use Rattle.std.proofs.Common.{◌≡◌, ℕ, ◌/◌, ◌<◌, ◌⊎◌, arith, ap, sym, ◌∙◌, refl, true, false, inl, inr, List, length, subst}
+use Rattle.std.proofs.Common.{slice_index, ◌≡◌, ℕ, ◌/◌, ◌<◌, ◌⊎◌, arith, ap, sym, ◌∙◌, refl, true, false, inl, inr, List, length, subst}
 use Rattle.std.specs.Prelude.{pos}
 use Rattle.std.proofs.lemmas.Bool.{cases_Bool, true_from_ne_false, false_from_ne_true}
 use Rattle.qh_model.specs.headline.Vector.{Vector}
@@ -12,13 +12,14 @@ use Rattle.qh_model.specs.contract.Rewired.{IsHorizonSide, LinksTo, IsRewired}
 use Rattle.qh_model.specs.contract.StoredSurface.{StoredFacet, facet_at, surface_of}
 pub use Rattle.qh_model.proofs.surfaces.Stored.{live_in, in_live}
 use Rattle.qh_model.proofs.surfaces.SurfaceLaws.{rise_is_vol, horizon_is_known}
+use Rattle.qh_model.proofs.Members.{in_at}
 use Rattle.qh_model.proofs.algebra.Signs.{not_less}
-use Rattle.qh_mesh.specs.declared.facets.FacetNo.{FacetNo}
-use Rattle.qh_mesh.specs.contract.Replacement.{number, is_listed, horizon, side_of_edge, edge_start, edge_end, twin_of, IsLive, AreFacets}
+use Rattle.qh_mesh.specs.contract.Edges.{edge_end, edge_of, edge_start, side_of_edge, twin_of}
+use Rattle.qh_mesh.specs.contract.Replacement.{is_listed, horizon, IsLive, AreFacets}
 use Rattle.qh_mesh.specs.contract.Replacement.{IsCone, IsKept, StaysFacet, IsReplacement}
 use Rattle.qh_mesh.specs.contract.SoundMesh.{facet_vol, IsSoundMesh, AreVisible}
 use Rattle.qh_mesh.specs.steps.Kept.{outer_of}
-use Rattle.qh_mesh.specs.steps.Twins.{edge_of, HasTwin, HasTwins}
+use Rattle.qh_mesh.specs.steps.Twins.{HasTwin, HasTwins}
 use Rattle.qh_mesh.proofs.EdgeSides.{edge-facet, edge-side, edge_is, twins_by_side, start-is, end-is, twin-is, over-is, back-is}
 use Rattle.qh_mesh.proofs.HorizonSides.{edge, on_horizon, horizon_twin, horizon_at, same_place}
 use Rattle.qh_mesh.proofs.ListedFacets.{listed_at, listed_live}
@@ -45,12 +46,12 @@ pub rise-vol : (at : ℕ → Vector) (fs : List StoredFacet) (f p : ℕ)
 rise-vol at fs f p = rise_is_vol (at (facet_at fs f).i) (at (facet_at fs f).j) (at (facet_at fs f).k) (at p)
 
 -- a replacement of facets of a surface
-pub record IsStep (old new : List StoredFacet) (vs : List FacetNo) (p : ℕ) (made : List FacetNo) : Type 0 where
+pub record IsStep (old new : List StoredFacet) (vs : List ℕ) (p : ℕ) (made : List ℕ) : Type 0 where
   pub twins : HasTwins old
   pub facets : AreFacets old vs
   pub replaced : IsReplacement old new vs p made
 
-module _ (old new : List StoredFacet) (vs : List FacetNo) (p : ℕ) (made : List FacetNo) (d : IsStep old new vs p made) where
+module _ (old new : List StoredFacet) (vs : List ℕ) (p : ℕ) (made : List ℕ) (d : IsStep old new vs p made) where
   abbrev r : IsReplacement old new vs p made
   r = d.replaced
 
@@ -74,15 +75,15 @@ module _ (old new : List StoredFacet) (vs : List FacetNo) (p : ℕ) (made : List
 
   -- a side of the facet of the cone over edge j
   abbrev side : ℕ → Side → ℕ
-  side j s = edge_of (number made j) s
+  side j s = edge_of (slice_index made j) s
 
   live_side : (j : ℕ) (s : Side) → j < length made → IsLive new (side j s / 3)
-  live_side j s l = subst (IsLive new) (sym (edge-facet (number made j) s)) (r.cone j l).live
+  live_side j s l = subst (IsLive new) (sym (edge-facet (slice_index made j) s)) (r.cone j l).live
 
   -- its first side, and what lies across the horizon
   across : (j : ℕ) → j < length made → HasTwin new (side j first) × HasTwin new (twin_of old (edge old vs j))
   across j l =
-      let c = r.cone j l in let f = number made j in let e = edge old vs j in let o = twin_of old e in
+      let c = r.cone j l in let f = slice_index made j in let e = edge old vs j in let o = twin_of old e in
       let n = r.len in let q = horizon_twin old vs d.twins d.facets j (omega arith) in
       let k = r.kept (o / 3) q.1 in let s = ends_stay o k in
       both (side j first) o (live_side j first l) k.live (twin-is new f first ∙ c.outward) (c.inward ∙ omega arith)
@@ -92,7 +93,7 @@ module _ (old new : List StoredFacet) (vs : List FacetNo) (p : ℕ) (made : List
   beside : (j : ℕ) → j < length made → HasTwin new (side j second) × HasTwin new (side (r.next j) third)
   beside j l =
       let i = r.next j in let m = r.next_in j l in let c = r.cone j l in let k = r.cone i m in
-      let f = number made j in let g = number made i in
+      let f = slice_index made j in let g = slice_index made i in
       both (side j second) (side i third) (live_side j second l) (live_side i third m)
       (twin-is new f second ∙ r.next_twin j l) (twin-is new g third ∙ r.next_back j l)
       (start-is new g third ∙ k.third ∙ sym (end-is new f second ∙ c.third))
@@ -121,7 +122,7 @@ module _ (old new : List StoredFacet) (vs : List FacetNo) (p : ℕ) (made : List
     pub twins_after : HasTwins new
     twins_after = twins_by_side new (λ f l s. elim (r.only f l) [
       | inl k ↦ kept (edge_of f s) (subst (IsKept old vs) (sym (edge-facet f s)) k)
-      | inr (j, m, q) ↦ subst (λ g. HasTwin new (edge_of g s)) (sym q) (cone_twin j m s)
+      | inr i ↦ (let (j, m, q) = in_at made f i in subst (λ g. HasTwin new (edge_of g s)) q (cone_twin j m s))
     ])
 
   -- ---- a step of what p sees
@@ -177,7 +178,7 @@ module _ (old new : List StoredFacet) (vs : List FacetNo) (p : ℕ) (made : List
     abbrev over : ℕ → Side → ℕ
     over f s = twin_of new (twin_of old (edge_of f s)) / 3
 
-    cone_no : (j : ℕ) → j < length made → twin_of new (twin_of old (edge old vs j)) / 3 ≡ number made j
+    cone_no : (j : ℕ) → j < length made → twin_of new (twin_of old (edge old vs j)) / 3 ≡ slice_index made j
     cone_no j l = ap (λ x. x / 3) (r.cone j l).inward ∙ omega arith
 
     -- the place of a side on the horizon
@@ -190,11 +191,11 @@ module _ (old new : List StoredFacet) (vs : List FacetNo) (p : ℕ) (made : List
     is_kept : (f : ℕ) → In f m.live → IsBlind f → IsKept old vs f
     is_kept f i b = record { live = live_in old f i; unlisted = blind_unlisted f (live_in old f i) b }
 
-    only : (f : ℕ) → IsKept old vs f ⊎ ((j : ℕ) × (j < length made) × (f ≡ number made j))
+    only : (f : ℕ) → IsKept old vs f ⊎ In f made
         → (In f m.live × IsBlind f) ⊎ ((g : ℕ) × (s : Side) × IsSide g s × (f ≡ over g s))
     only f (inl k) = inl (in_live old f k.live, unlisted_blind f k.live k.unlisted)
-    only f (inr (j, l, e)) = let x = edge old vs j in let n = r.len in
-        inr (x / 3, side_of_edge x, horizon_side j (omega arith), rw (edge_is x, cone_no j l) e)
+    only f (inr i) = let (j, l, e) = in_at made f i in let x = edge old vs j in let n = r.len in
+        inr (x / 3, side_of_edge x, horizon_side j (omega arith), rw (edge_is x, cone_no j l) (sym e))
 
     -- a facet of the cone, by the side of the horizon
     cone : (f : ℕ) (s : Side) → IsSide f s → IsCone old new (edge_of f s) p (over f s)
@@ -232,9 +233,9 @@ module _ (old new : List StoredFacet) (vs : List FacetNo) (p : ℕ) (made : List
     pub rewired : IsRewired m (surface_of new) home p
     rewired = record {
       number = over;
-      f0 = number vs 0;
-      live = in_live old (number vs 0) (d.facets.live 0 visible.some);
-      seen = listed_seen (number vs 0) (d.facets.live 0 visible.some) (listed_at vs (number vs 0) 0 visible.some refl);
+      f0 = slice_index vs 0;
+      live = in_live old (slice_index vs 0) (d.facets.live 0 0 visible.some);
+      seen = listed_seen (slice_index vs 0) (d.facets.live 0 0 visible.some) (listed_at vs 0 visible.some);
       only = λ f i. only f (r.only f (live_in new f i));
       kept = λ f i b. let k = r.kept f (is_kept f i b) in
           record { live = in_live new f k.live; i_is = k.i_is; j_is = k.j_is; k_is = k.k_is };

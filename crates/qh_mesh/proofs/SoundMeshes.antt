@@ -1,5 +1,5 @@
 -- Meshes that are sound: the simplex, what a step leaves, and that both close up.
-use Rattle.std.proofs.Common.{◌≡◌, ℕ, arith, rules, refl, [], ◌≢◌, sym, inl, inr, List, ◌∷◌, subst}
+use Rattle.std.proofs.Common.{slice_index, ◌≡◌, ℕ, arith, rules, refl, [], ◌≢◌, sym, inl, inr, List, ◌∷◌, subst}
 use Rattle.std.specs.Prelude.{pos, ◌<ℤ◌}
 use Rattle.std.proofs.lemmas.Bool.{cases_Bool}
 use Rattle.std.proofs.lemmas.Int.{ints, by_lt_z}
@@ -19,9 +19,8 @@ use Rattle.qh_model.proofs.surfaces.Rewired.{replace_keeps}
 use Rattle.qh_model.proofs.surfaces.Simplex.{four, middle-turned, simplex_sound}
 use Rattle.qh_model.proofs.surfaces.Stored.{live_in, in_live, live_is_listed_once}
 use Rattle.qh_model.proofs.surfaces.SurfaceLaws.{rise_is_vol}
-use Rattle.qh_mesh.specs.contract.Replacement.{number, is_listed, IsLive}
+use Rattle.qh_mesh.specs.contract.Replacement.{is_listed, IsLive}
 use Rattle.qh_mesh.specs.contract.SoundMesh.{simplex_facets, facet_vol, IsSoundMesh, IsClosedMesh, AreVisible}
-use Rattle.qh_mesh.specs.declared.facets.FacetNo.{FacetNo}
 use Rattle.qh_mesh.proofs.Rewiring.{IsStep, rewired}
 
 -- a sound mesh with a facet is closed
@@ -82,7 +81,7 @@ module _ (at : ℕ → Vector) (a b c d : ℕ) (h : pos 0 <ℤ vol (at a) (at b)
 pub ruleset simplex_rules = (turned_is_sound, turned_is_closed, simplex_is_sound, simplex_is_closed)
 
 -- ---- a step
-module _ (old new : List StoredFacet) (vs : List FacetNo) (p : ℕ) (made : List FacetNo) (d : IsStep old new vs p made)
+module _ (old new : List StoredFacet) (vs : List ℕ) (p : ℕ) (made : List ℕ) (d : IsStep old new vs p made)
     (at : ℕ → Vector) where
   -- it keeps a mesh sound
   pub step_is_sound : (o : Weighted) → IsSoundMesh at old o → AreVisible at old vs p → IsSoundMesh at new o
@@ -99,7 +98,7 @@ module _ (old new : List StoredFacet) (vs : List FacetNo) (p : ℕ) (made : List
     -- so it leaves one
     step_leaves : (fs : List ℕ) → (surface_of new).live ≡ fs → (f : ℕ) × IsLive new f
     step_leaves [] e = absurd (not_less (signed_volume at (triples_of (surface_of old)) (at p)) (pos 0)
-        ((closed_of at old s t u v (number vs 0) (d.facets.live 0 visible.some) z).volume (at p))
+        ((closed_of at old s t u v (slice_index vs 0) (d.facets.live 0 0 visible.some) z).volume (at p))
         (seen_volume at (surface_of old) (at p) (surface_of old).live (all_seen e)))
     step_leaves (f ∷ fs) e = (f, live_in new f (subst (In f) (sym e) (inl refl)))
 

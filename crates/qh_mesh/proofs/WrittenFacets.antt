@@ -1,18 +1,16 @@
 -- What the loops of a replacement have written after one turn more.
-use Rattle.std.proofs.Common.{◌≡◌, ◌≢◌, ℕ, ◌+◌, ◌*◌, ◌/◌, ◌<◌, arith, ap, sym, ◌∙◌, refl, subst, cond, ◌⊎◌, inl, inr}
+use Rattle.std.proofs.Common.{slice_index, ◌≡◌, ◌≢◌, ℕ, ◌+◌, ◌*◌, ◌/◌, ◌<◌, arith, ap, sym, ◌∙◌, refl, subst, cond, ◌⊎◌, inl, inr}
 use Rattle.std.proofs.Common.{List, length, get_or, set}
 use Rattle.std.proofs.lemmas.List.{get_or-set_same, get_or-set_other, length-set}
 use Rattle.std.proofs.lemmas.List.Sums.{sum_by-set}
 use Rattle.qh_model.specs.contract.Surface.{Side}
 use Rattle.qh_model.specs.contract.Surface.Side.{first, second, third}
 use Rattle.qh_model.specs.contract.StoredSurface.{StoredFacet, facet_at, no_facet}
-use Rattle.qh_mesh.specs.declared.facets.FacetNo.{FacetNo}
 use Rattle.qh_mesh.specs.declared.facets.FacetSide.{FacetSide}
-use Rattle.qh_mesh.specs.contract.Replacement.{number, side_of_edge, twin_of}
+use Rattle.qh_mesh.specs.contract.Edges.{edge_of, side_of_edge, twin_of}
 use Rattle.qh_mesh.specs.steps.Kept.{is_live, outer_of, with_twin}
 use Rattle.qh_mesh.specs.steps.Horizons.{side_at}
 use Rattle.qh_mesh.specs.steps.Cones.{bare, Joined}
-use Rattle.qh_mesh.specs.steps.Twins.{edge_of}
 use Rattle.qh_mesh.specs.steps.Writes.{Scattered}
 use Rattle.qh_mesh.proofs.EdgeSides.{edge_is}
 use Rattle.qh_mesh.proofs.NumberCases.{same_or, below_next}
@@ -70,14 +68,14 @@ module _ (fs : List StoredFacet) (e v : ℕ) (l : e / 3 < length fs) where
   ]
 
 -- one more side of the horizon has its twin in the cone
-pub joined_more : (old fs : List StoredFacet) (hs : List FacetSide) (made : List FacetNo) (k : ℕ) → let o = (side_at hs k).outer in
+pub joined_more : (old fs : List StoredFacet) (hs : List FacetSide) (made : List ℕ) (k : ℕ) → let o = (side_at hs k).outer in
     Joined old fs hs made k → o / 3 < length old → ((j : ℕ) → j < k → (side_at hs j).outer ≢ o)
-    → Joined old (set fs (o / 3) (with_twin (facet_at fs (o / 3)) (side_of_edge o) (3 * number made k))) hs made (k + 1)
+    → Joined old (set fs (o / 3) (with_twin (facet_at fs (o / 3)) (side_of_edge o) (edge_of (slice_index made k) first))) hs made (k + 1)
 joined_more old fs hs made k s l n = record {
   len = length-set fs (o / 3) (turned fs o v l') ∙ s.len;
   same = λ f. bare_same fs o v l' f ∙ s.same f;
   count = let c = sum_by-set (λ t. cond (is_live t) 1 0) fs (o / 3) (turned fs o v l') no_facet l' in let d = s.count in omega arith;
-  outer = below_next (λ j. twin_of (joined fs o v l') (side_at hs j).outer ≡ 3 * number made j) k
+  outer = below_next (λ j. twin_of (joined fs o v l') (side_at hs j).outer ≡ edge_of (slice_index made j) first) k
       (λ j h. twin_elsewhere fs o v l' (side_at hs j).outer (λ e. n j h (sym e)) ∙ s.outer j h) (twin_here fs o v l');
   others = λ e h. twin_elsewhere fs o v l' e (h k (omega arith)) ∙ s.others e (λ j g. h j (omega arith));
 }
@@ -86,7 +84,7 @@ joined_more old fs hs made k s l n = record {
     o = (side_at hs k).outer
 
     v : ℕ
-    v = 3 * number made k
+    v = edge_of (slice_index made k) first
 
     l' : (side_at hs k).outer / 3 < length fs
     l' = let e = s.len in omega arith

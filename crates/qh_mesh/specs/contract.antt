@@ -1,4 +1,5 @@
 -- What else the contracts of public functions cite.
+pub mod Edges
 pub mod LiveNumbers
 pub mod Names
 pub mod Replacement

@@ -1,8 +1,7 @@
 //! The numbers of facets and of their sides, and how a facet is kept.
-ghost use Rattle.std.specs.Prelude.{◌≡◌, map, [], ◌∷◌};
-ghost use Rattle.qh_model.specs.contract.Simplex.{one_of};
-ghost use Rattle.qh_model.specs.contract.Surface.Side.{first, second, third};
+ghost use Rattle.std.specs.Prelude.{◌≡◌, ◌+◌, ◌*◌, ◌<◌, ◌^◌, map, [], ◌∷◌};
 ghost use Rattle.qh_model.specs.contract.StoredSurface.{named_facet, no_facet};
+ghost use Rattle.qh_mesh.specs.contract.Edges.{edge_of, facet_of, nth_side, side_of_edge};
 ghost use Rattle.qh_mesh.specs.contract.Names.{name_in};
 ghost use Rattle.qh_mesh.specs.steps.Kept.{facet_from, removed, side_of, with_twin};
 
@@ -10,13 +9,88 @@ use qh_model::Id;
 use std::marker::Model;
 
 /// The number of a facet: its place in the mesh, from 0.
+///
+/// A contract sees it as a number.
 #[derive(Clone, Copy, Debug, PartialEq, Eq, Drop)]
-pub struct FacetNo(pub usize);
+pub struct FacetNo(usize);
+
+impl Model for FacetNo {
+    ghost use Rattle.std.specs.Prelude.{ℕ};
+
+    ghost Value = { ℕ };
+
+    ghost view = { λ f. f.0 };
+
+    ghost inverse = { λ n. record { 0 = n } };
+}
+
+impl FacetNo {
+    /// The facet with this number.
+    pub fn new(number: usize) -> FacetNo
+        ensures { result ≡ number }
+    {
+        FacetNo(number)
+    }
+
+    /// Its number, as an index into a list.
+    pub fn index(self) -> usize
+        ensures { result ≡ self }
+    {
+        self.0
+    }
+
+    /// Its side 0, 1 or 2.
+    #[tactic(auto, using(crate::proofs::EdgeSides::side_left_over))]
+    pub(crate) fn edge(self, side: usize) -> EdgeNo
+        requires side { side < 3 }
+        requires fits { 3 * self + 2 < 2 ^ 32 }
+        ensures { result ≡ edge_of self (nth_side side) }
+    {
+        EdgeNo(3 * self.0 + side)
+    }
+}
 
 /// The number of a side of a facet, a half-edge: that of the facet times three, and 0, 1 or 2. It goes
 /// from that corner of the facet to the next.
+///
+/// A contract sees it as a number.
 #[derive(Clone, Copy, Debug, PartialEq, Eq, Drop)]
-pub struct EdgeNo(pub usize);
+pub struct EdgeNo(usize);
+
+impl Model for EdgeNo {
+    ghost use Rattle.std.specs.Prelude.{ℕ};
+
+    ghost Value = { ℕ };
+
+    ghost view = { λ e. e.0 };
+
+    ghost inverse = { λ n. record { 0 = n } };
+}
+
+impl EdgeNo {
+    /// Its number, as a mesh keeps it.
+    pub(crate) fn number(self) -> u32
+        requires { self < 2 ^ 32 }
+        ensures { result ≡ self }
+    {
+        self.0 as u32
+    }
+
+    /// Its facet.
+    pub(crate) fn facet(self) -> FacetNo
+        ensures { result ≡ facet_of self }
+    {
+        FacetNo(self.0 / 3)
+    }
+
+    /// Which side of its facet it is: 0, 1 or 2.
+    pub(crate) fn side(self) -> usize
+        ensures side { nth_side result ≡ side_of_edge self }
+        ensures inside { result < 3 }
+    {
+        self.0 % 3
+    }
+}
 
 /// One side of a facet: the corners where it starts and ends, and the half-edge across it.
 #[derive(Clone, Copy, Drop)]
@@ -24,6 +98,15 @@ pub struct FacetSide {
     pub from: u32,
     pub to: u32,
     pub outer: u32,
+}
+
+impl FacetSide {
+    /// The half-edge across it.
+    pub fn across(self) -> EdgeNo
+        ensures { result ≡ self.outer }
+    {
+        EdgeNo(self.outer as usize)
+    }
 }
 
 /// A facet as a mesh keeps it, in 28 bytes: its corners, counterclockwise seen from outside, and the
@@ -105,7 +188,7 @@ impl Facet {
 
     /// Its side 0, 1 or 2.
     pub fn side(self, number: usize) -> FacetSide
-        ensures { result ≡ side_of self (one_of first second third third number) }
+        ensures { result ≡ side_of self (nth_side number) }
     {
         let (from, to, outer) = match number {
             0 => (self.i, self.j, self.ij),
@@ -117,7 +200,7 @@ impl Facet {
 
     /// The facet with another half-edge across its side 0, 1 or 2.
     pub fn with_twin(self, number: usize, twin: u32) -> Facet
-        ensures { result ≡ with_twin self (one_of first second third third number) twin }
+        ensures { result ≡ with_twin self (nth_side number) twin }
     {
         let mut facet = self;
         match number {

@@ -1,34 +1,34 @@
 //! The horizon of facets that go: their sides across which a facet stays.
-ghost use Rattle.std.specs.Prelude.{◌≡◌, ◌+◌, ◌*◌, ◌/◌, ◌<◌, ◌≤◌, ℕ, length, filter, [], ◌∷◌, ◌++◌, vec_len, vec_capacity};
+ghost use Rattle.std.specs.Prelude.{All, ◌≡◌, ◌+◌, ◌*◌, ◌/◌, ◌<◌, ◌≤◌, ℕ, length, filter, [], ◌∷◌, ◌++◌, vec_len, vec_capacity};
 ghost use Rattle.qh_model.specs.contract.StoredSurface.{facet_at};
-ghost use Rattle.qh_mesh.specs.contract.Replacement.{number};
+ghost use Rattle.qh_mesh.specs.contract.Edges.{facet_of};
 ghost use Rattle.qh_mesh.specs.steps.Horizons.{is_open, open_sides, HasSidesInside};
 
 use crate::facets::{Facet, FacetNo, FacetSide};
 
 /// Adds a side to the horizon if a live facet lies across it.
 fn add_side(facets: &[Facet], side: FacetSide, horizon: &mut Vec<FacetSide>)
-    requires outer { side.outer / 3 < length facets.now }
+    requires outer { facet_of side.outer < length facets.now }
     requires room { vec_len horizon.old < vec_capacity horizon.old }
     ensures items { horizon.new.items ≡ horizon.old.items ++ filter (is_open facets.now) (side ∷ []) }
     ensures len { vec_len horizon.new ≤ vec_len horizon.old + 1 }
     ensures capacity { vec_capacity horizon.new ≡ vec_capacity horizon.old }
 {
-    if facets[side.outer as usize / 3].is_live() {
+    if facets[side.across().facet().index()].is_live() {
         horizon.push_reserved(side);
     }
 }
 
 /// The sides of the listed facets across which a live facet lies.
 pub fn gather(facets: &[Facet], visible: &[FacetNo], horizon: &mut Vec<FacetSide>)
-    requires inside { (j : ℕ) → j < length visible.now → HasSidesInside facets.now (number visible.now j) }
+    requires inside { All (HasSidesInside facets.now) visible.now }
     requires empty { horizon.old.items ≡ [] }
     requires room { 3 * length visible.now ≤ vec_capacity horizon.old }
     ensures items { horizon.new.items ≡ open_sides facets.now visible.now }
     ensures count { vec_len horizon.new ≤ 3 * length visible.now }
 {
     for f in visible {
-        let facet = facets[f.0];
+        let facet = facets[f.index()];
         add_side(facets, facet.side(0), horizon);
         add_side(facets, facet.side(1), horizon);
         add_side(facets, facet.side(2), horizon);

@@ -1,7 +1,7 @@
 //! The walk over the live facets.
 ghost use Rattle.std.specs.Prelude.{◌≡◌, ◌<◌, ◌≤◌, length};
 ghost use Rattle.std.specs.Iterator.{YieldsFirst, item_count};
-ghost use Rattle.qh_mesh.specs.contract.LiveNumbers.{live_after, numbers};
+ghost use Rattle.qh_mesh.specs.contract.LiveNumbers.{live_after};
 ghost use Rattle.qh_model.specs.contract.StoredSurface.{surface_of};
 ghost use Rattle.qh_mesh.specs.contract.Replacement.{IsLive};
 
@@ -17,13 +17,12 @@ pub struct Live<'a> {
 }
 
 impl<'a> Model for Live<'a> {
-    ghost use Rattle.std.specs.Prelude.{List};
-    ghost use Rattle.qh_mesh.specs.declared.facets.FacetNo.{FacetNo};
-    ghost use Rattle.qh_mesh.specs.contract.LiveNumbers.{numbers, live_after};
+    ghost use Rattle.std.specs.Prelude.{List, ℕ};
+    ghost use Rattle.qh_mesh.specs.contract.LiveNumbers.{live_after};
 
-    ghost Value = { List FacetNo };
+    ghost Value = { List ℕ };
 
-    ghost view = { λ l. numbers (live_after l.mesh.now l.next) };
+    ghost view = { λ l. live_after l.mesh.now l.next };
 }
 
 /// The first live facet from a number on, or the number of places.
@@ -33,7 +32,7 @@ fn first_live(mesh: &Mesh, from: usize) -> usize
     ensures end { result ≤ length mesh.now }
 {
     for f in from..mesh.places() {
-        if mesh.is_live(FacetNo(f)) {
+        if mesh.is_live(FacetNo::new(f)) {
             return f;
         }
     }
@@ -43,7 +42,7 @@ fn first_live(mesh: &Mesh, from: usize) -> usize
 impl<'a> Live<'a> {
     /// All live facets of a mesh.
     pub(crate) fn of(mesh: &'a Mesh) -> Live<'a>
-        ensures { result ≡ numbers (surface_of mesh.now).live }
+        ensures { result ≡ (surface_of mesh.now).live }
     {
         Live { mesh, next: 0 }
     }
@@ -60,7 +59,7 @@ impl<'a> Iterator for Live<'a> {
         let f = first_live(self.mesh, self.next);
         if f < self.mesh.places() {
             self.next = f + 1;
-            Some(FacetNo(f))
+            Some(FacetNo::new(f))
         } else {
             self.next = f;
             None

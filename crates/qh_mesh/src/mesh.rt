@@ -6,11 +6,12 @@ ghost use Rattle.qh_model.specs.headline.Vector.{Vector};
 ghost use Rattle.qh_model.specs.contract.Weighted.{Weighted};
 ghost use Rattle.qh_model.specs.contract.FinishedSurface.{weighted_at, middle_at};
 ghost use Rattle.qh_model.specs.contract.StoredSurface.{facet_at, named_facet, surface_of};
-ghost use Rattle.qh_mesh.specs.contract.Replacement.{IsLive, AreFacets, IsReplacement, edge_start, edge_end, twin_of};
+ghost use Rattle.qh_mesh.specs.contract.Edges.{nth_side, side_of_edge, facet_of, edge_of, edge_end, edge_start, twin_of};
+ghost use Rattle.qh_mesh.specs.contract.Replacement.{IsLive, AreFacets, IsReplacement};
 ghost use Rattle.qh_mesh.specs.contract.Names.{name_in};
-ghost use Rattle.qh_mesh.specs.contract.LiveNumbers.{numbers};
 ghost use Rattle.qh_mesh.specs.contract.SoundMesh.{simplex_facets, IsSoundMesh, IsClosedMesh, AreVisible};
 ghost use Rattle.qh_model.specs.contract.Rewired.{IsRewired};
+ghost use Rattle.qh_model.specs.steps.FarCorners.{rest};
 
 use crate::facets::{EdgeNo, Facet, FacetNo, FacetSide, name_all};
 use crate::live::Live;
@@ -174,57 +175,78 @@ impl Mesh {
 
     /// The live facets, each once, by rising numbers.
     pub fn live(&self) -> Live<'_>
-        ensures { result ≡ numbers (surface_of self.now).live }
+        ensures { result ≡ (surface_of self.now).live }
     {
         Live::of(self)
     }
 
     /// Whether the place, below [`Mesh::places`], is that of a facet.
     pub(crate) fn is_live(&self, f: FacetNo) -> bool
-        requires { f.0 < length self.now }
-        ensures { result ≡ (facet_at self.now f.0).live }
+        requires { f < length self.now }
+        ensures { result ≡ (facet_at self.now f).live }
     {
-        self.facets[f.0].is_live()
+        self.facets[f.index()].is_live()
     }
 
     /// The corners of a live facet, counterclockwise seen from outside.
     pub fn facet(&self, f: FacetNo) -> [Id; 3]
-        requires { IsLive self.now f.0 }
-        ensures { result ≡ (facet_at self.now f.0).i ∷ (facet_at self.now f.0).j ∷ (facet_at self.now f.0).k ∷ [] }
+        requires { IsLive self.now f }
+        ensures { result ≡ (facet_at self.now f).i ∷ (facet_at self.now f).j ∷ (facet_at self.now f).k ∷ [] }
     {
-        self.facets[f.0].corners()
+        self.facets[f.index()].corners()
     }
 
     /// The edge of a live facet that starts at its corner `side`, which is 0, 1 or 2.
     pub fn edge(&self, f: FacetNo, side: usize) -> EdgeNo
-        requires facet { IsLive self.now f.0 }
+        requires facet { IsLive self.now f }
         requires side { side < 3 }
-        ensures { result.0 ≡ 3 * f.0 + side }
+        ensures edge { result ≡ edge_of f (nth_side side) }
+        ensures facet { facet_of result ≡ f }
     {
         let _ = &self.facets;
-        EdgeNo(3 * f.0 + side)
+        f.edge(side)
+    }
+
+    /// The facet of an edge.
+    pub fn facet_of(&self, e: EdgeNo) -> FacetNo
+        ensures { result ≡ facet_of e }
+    {
+        e.facet()
+    }
+
+    /// The corner of a live facet across from one of its edges.
+    pub fn opposite(&self, e: EdgeNo) -> Id
+        requires { IsLive self.now (facet_of e) }
+        ensures { result ≡ rest (surface_of self.now) (facet_of e) (side_of_edge e) }
+    {
+        let [first, second, third] = self.facet(e.facet());
+        match e.side() {
+            0 => third,
+            1 => first,
+            _ => second,
+        }
     }
 
     /// The ids at which an edge of a live facet starts and ends.
     pub fn ends(&self, e: EdgeNo) -> (Id, Id)
-        requires { IsLive self.now (e.0 / 3) }
-        ensures from { result.0 ≡ edge_start self.now e.0 }
-        ensures to { result.1 ≡ edge_end self.now e.0 }
+        requires { IsLive self.now (facet_of e) }
+        ensures from { result.0 ≡ edge_start self.now e }
+        ensures to { result.1 ≡ edge_end self.now e }
     {
-        let side = self.facets[e.0 / 3].side(e.0 % 3);
+        let side = self.facets[e.facet().index()].side(e.side());
         (Id::new(side.from), Id::new(side.to))
     }
 
     /// The edge of the neighbour that runs against an edge of a live facet.
     pub fn twin(&self, e: EdgeNo) -> EdgeNo
-        requires { IsLive self.now (e.0 / 3) }
-        ensures twin { result.0 ≡ twin_of self.now e.0 }
-        ensures live { IsLive self.now (result.0 / 3) }
-        ensures back { twin_of self.now result.0 ≡ e.0 }
-        ensures starts { edge_start self.now result.0 ≡ edge_end self.now e.0 }
-        ensures ends { edge_end self.now result.0 ≡ edge_start self.now e.0 }
+        requires { IsLive self.now (facet_of e) }
+        ensures twin { result ≡ twin_of self.now e }
+        ensures live { IsLive self.now (facet_of result) }
+        ensures back { twin_of self.now result ≡ e }
+        ensures starts { edge_start self.now result ≡ edge_end self.now e }
+        ensures ends { edge_end self.now result ≡ edge_start self.now e }
     {
-        EdgeNo(self.facets[e.0 / 3].side(e.0 % 3).outer as usize)
+        self.facets[e.facet().index()].side(e.side()).across()
     }
 
     /// Takes the visible facets away and puts the cone from the apex over their horizon. Its facets are

@@ -1,7 +1,8 @@
 //! The places of facets: those of facets that go, and those of a cone.
-ghost use Rattle.std.specs.Prelude.{◌≡◌, ◌≢◌, ◌+◌, ◌<◌, ◌≤◌, ℕ, length, reverse, [], ◌++◌, vec_len, vec_capacity};
+ghost use Rattle.std.specs.Prelude.{All, ◌≡◌, ◌+◌, ◌<◌, ◌≤◌, ℕ, length, reverse, [], ◌++◌, vec_len, vec_capacity};
+ghost use Rattle.qh_model.specs.headline.Sets.{Once};
 ghost use Rattle.qh_model.specs.contract.StoredSurface.{facet_at};
-ghost use Rattle.qh_mesh.specs.contract.Replacement.{IsLive, number};
+ghost use Rattle.qh_mesh.specs.contract.Replacement.{IsLive};
 ghost use Rattle.qh_mesh.specs.steps.Places.{Removed, IsPool};
 
 use crate::facets::{Facet, FacetNo};
@@ -9,15 +10,16 @@ use crate::facets::{Facet, FacetNo};
 /// Takes the listed facets away: their places are free.
 pub fn remove(facets: &mut [Facet], free: &mut Vec<FacetNo>, visible: &[FacetNo])
     requires pool { IsPool facets.old (reverse free.old.items) }
-    requires live { (j : ℕ) → j < length visible.now → IsLive facets.old (number visible.now j) }
-    requires apart { (i j : ℕ) → i < j → j < length visible.now → number visible.now i ≢ number visible.now j }
+    requires live { All (IsLive facets.old) visible.now }
+    requires once { Once visible.now }
     requires room { vec_len free.old + length visible.now ≤ vec_capacity free.old }
     ensures facets { Removed facets.old facets.new visible.now (length visible.now) }
     ensures pool { IsPool facets.new (reverse free.new.items) }
     ensures len { vec_len free.new ≡ vec_len free.old + length visible.now }
 {
     for f in visible {
-        facets[f.0] = facets[f.0].removed();
+        let place = f.index();
+        facets[place] = facets[place].removed();
         free.push_reserved(*f);
     }
 }
@@ -41,7 +43,7 @@ fn give_out(facets: &mut Vec<Facet>, free: &mut Vec<FacetNo>, made: &mut Vec<Fac
     if let Some(place) = free.pop() {
         made.push_reserved(place);
     } else {
-        made.push_reserved(FacetNo(facets.len()));
+        made.push_reserved(FacetNo::new(facets.len()));
         facets.push_reserved(Facet::none());
     }
 }

@@ -15,7 +15,7 @@ type Triangle = (u32, u32, u32);
 
 /// The triangle of a place, or none.
 fn triangle(mesh: &Mesh, f: FacetNo) -> Option<Triangle> {
-    if f.0 >= mesh.places() || !mesh.is_live(f) {
+    if f.index() >= mesh.places() || !mesh.is_live(f) {
         return None;
     }
     let [a, b, c] = mesh.facet(f);
@@ -51,10 +51,10 @@ fn are_facets(mesh: &Mesh, list: &[FacetNo]) -> bool
 {
     let mut next = 0;
     for f in list {
-        if f.0 < next || f.0 >= mesh.places() || !mesh.is_live(*f) {
+        if f.index() < next || f.index() >= mesh.places() || !mesh.is_live(*f) {
             return false;
         }
-        next = f.0 + 1;
+        next = f.index() + 1;
     }
     true
 }
@@ -65,8 +65,8 @@ fn seen_by(alloc: Global, mesh: &Mesh, pts: &[Point], apex: u32) -> Result<Vec<F
 {
     let mut list = Vec::new(alloc);
     for f in 0..mesh.places() {
-        if sees(mesh, pts, FacetNo(f), apex) {
-            list.push(FacetNo(f))?;
+        if sees(mesh, pts, FacetNo::new(f), apex) {
+            list.push(FacetNo::new(f))?;
         }
     }
     if are_facets(mesh, list.as_slice()) {
@@ -100,7 +100,7 @@ fn live(alloc: Global, mesh: &Mesh) -> Result<Vec<FacetNo>, AllocError> {
 /// Whether the twin of each side of a facet runs against it and has it as its twin.
 fn has_twins(mesh: &Mesh, f: FacetNo) -> bool {
     for side in 0..3 {
-        if f.0 >= mesh.places() || !mesh.is_live(f) {
+        if f.index() >= mesh.places() || !mesh.is_live(f) {
             return false;
         }
         let e = mesh.edge(f, side);

@@ -1,11 +1,6 @@
 -- The numbers of the live facets, in rising order.
 use Rattle.std.specs.Prelude.{ℕ, List, map, drop}
 use Rattle.qh_model.specs.contract.StoredSurface.{StoredFacet, live_from}
-use Rattle.qh_mesh.specs.declared.facets.FacetNo.{FacetNo}
-
--- as facet numbers
-abbrev pub numbers : List ℕ → List FacetNo
-numbers ns = map (λ n. record { 0 = n }) ns
 
 -- those from n on
 abbrev pub live_after : List StoredFacet → ℕ → List ℕ

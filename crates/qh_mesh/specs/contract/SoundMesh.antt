@@ -8,7 +8,6 @@ use Rattle.qh_model.specs.contract.Surface.{IsWhole}
 use Rattle.qh_model.specs.contract.SoundSurface.{IsSound}
 use Rattle.qh_model.specs.contract.StoredSurface.{StoredFacet, facet_at, surface_of}
 use Rattle.qh_model.specs.contract.ClosedSurface.{IsClosedSurface, signed_volume, triples_of}
-use Rattle.qh_mesh.specs.declared.facets.FacetNo.{FacetNo}
 use Rattle.qh_mesh.specs.contract.Replacement.{IsLive, is_listed}
 
 -- six times the volume of facet f and p: above 0 where the facet strictly sees p
@@ -20,7 +19,7 @@ abbrev pub IsSoundMesh : (ℕ → Vector) → List StoredFacet → Weighted → 
 IsSoundMesh at fs o = IsWhole (surface_of fs) × IsSound (surface_of fs) (weighted_at at) o
 
 -- the list has the live facets that strictly see p and no other, and there is one
-pub record AreVisible (at : ℕ → Vector) (fs : List StoredFacet) (vs : List FacetNo) (p : ℕ) : Type 0 where
+pub record AreVisible (at : ℕ → Vector) (fs : List StoredFacet) (vs : List ℕ) (p : ℕ) : Type 0 where
   pub some : 0 < length vs
   pub seen : (f : ℕ) → IsLive fs f → is_listed vs f ≡ true → pos 0 <ℤ facet_vol at fs f (at p)
   pub unseen : (f : ℕ) → IsLive fs f → is_listed vs f ≡ false → facet_vol at fs f (at p) ≤ℤ pos 0

@@ -3,30 +3,29 @@ use Rattle.std.specs.Prelude.{◌≡◌, ℕ, ◌/◌, ◌<◌, List, [], ◌∷
 use Rattle.std.specs.Prelude.{count_by, flat_map}
 use Rattle.qh_model.specs.contract.Surface.Side.{first, second, third}
 use Rattle.qh_model.specs.contract.StoredSurface.{StoredFacet, facet_at}
-use Rattle.qh_mesh.specs.declared.facets.FacetNo.{FacetNo}
 use Rattle.qh_mesh.specs.declared.facets.FacetSide.{FacetSide}
 use Rattle.qh_mesh.specs.declared.slots.Slot.{Slot}
-use Rattle.qh_mesh.specs.contract.Replacement.{edge_start, edge_end, twin_of}
+use Rattle.qh_mesh.specs.contract.Edges.{edge_end, edge_start, facet_of, twin_of}
 use Rattle.qh_mesh.specs.steps.Kept.{side_of}
 
 -- facet f and those across its sides are in the mesh
 pub record HasSidesInside (fs : List StoredFacet) (f : ℕ) : Type 0 where
   pub facet : f < length fs
-  pub ij : (facet_at fs f).ij / 3 < length fs
-  pub jk : (facet_at fs f).jk / 3 < length fs
-  pub ki : (facet_at fs f).ki / 3 < length fs
+  pub ij : facet_of (facet_at fs f).ij < length fs
+  pub jk : facet_of (facet_at fs f).jk < length fs
+  pub ki : facet_of (facet_at fs f).ki < length fs
 
 -- is the facet across the side live?
 abbrev pub is_open : List StoredFacet → FacetSide → Bool
-is_open fs h = (facet_at fs (h.outer / 3)).live
+is_open fs h = (facet_at fs (facet_of h.outer)).live
 
 -- the three sides of a facet
 abbrev pub three_sides : StoredFacet → List FacetSide
 three_sides t = side_of t first ∷ side_of t second ∷ side_of t third ∷ []
 
 -- those of the listed facets across which a live facet lies, in the order of the list
-abbrev pub open_sides : List StoredFacet → List FacetNo → List FacetSide
-open_sides fs vs = filter (is_open fs) (flat_map (λ v. three_sides (facet_at fs v.0)) vs)
+abbrev pub open_sides : List StoredFacet → List ℕ → List FacetSide
+open_sides fs vs = filter (is_open fs) (flat_map (λ v. three_sides (facet_at fs v)) vs)
 
 -- what stands past the end
 abbrev pub no_side : FacetSide

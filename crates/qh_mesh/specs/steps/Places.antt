@@ -1,15 +1,13 @@
 -- The places of facets that go, and the places of no facet.
-use Rattle.std.specs.Prelude.{◌≡◌, ℕ, ◌+◌, ◌<◌, List, length, false, count_by}
+use Rattle.std.specs.Prelude.{slice_index, ◌≡◌, ℕ, ◌+◌, ◌<◌, List, length, false, count_by}
 use Rattle.qh_model.specs.headline.Sets.{In, Once}
 use Rattle.qh_model.specs.contract.StoredSurface.{StoredFacet, facet_at, no_facet}
-use Rattle.qh_mesh.specs.declared.facets.FacetNo.{FacetNo}
-use Rattle.qh_mesh.specs.contract.Replacement.{number}
 use Rattle.qh_mesh.specs.steps.Kept.{is_live, removed}
 use Rattle.qh_mesh.specs.steps.Writes.{Scattered}
 
 -- the first k facets of the list are no longer live, and nothing else changed
-abbrev pub Removed : List StoredFacet → List StoredFacet → List FacetNo → ℕ → Type 0
-Removed old new vs k = Scattered no_facet old new (number vs) (λ j t. t ≡ removed (facet_at old (number vs j))) k
+abbrev pub Removed : List StoredFacet → List StoredFacet → List ℕ → ℕ → Type 0
+Removed old new vs k = Scattered no_facet old new (slice_index vs) (λ j t. t ≡ removed (facet_at old (slice_index vs j))) k
 
 -- how many facets are live
 abbrev pub live_count : List StoredFacet → ℕ
@@ -20,7 +18,7 @@ abbrev pub IsVacant : List StoredFacet → ℕ → Type 0
 IsVacant fs f = (f < length fs) × ((facet_at fs f).live ≡ false)
 
 -- the list has the places of no facet, each once
-pub record IsPool (fs : List StoredFacet) (places : List FacetNo) : Type 0 where
+pub record IsPool (fs : List StoredFacet) (places : List ℕ) : Type 0 where
   pub once : Once places
-  pub vacant : (v : FacetNo) → In v places → IsVacant fs v.0
+  pub vacant : (v : ℕ) → In v places → IsVacant fs v
   pub count : live_count fs + length places ≡ length fs

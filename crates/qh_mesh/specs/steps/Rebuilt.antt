@@ -1,13 +1,14 @@
 -- What the steps of a replacement leave, one after the other.
-use Rattle.std.specs.Prelude.{◌≡◌, ◌≢◌, ℕ, ◌*◌, ◌/◌, ◌<◌, ◌≤◌, ◌^◌, List, ◌++◌, length, reverse, map, max}
+use Rattle.std.specs.Prelude.{All, ◌≡◌, ◌≢◌, ℕ, ◌*◌, ◌/◌, ◌<◌, ◌≤◌, ◌^◌, List, ◌++◌, length, reverse, map, max}
+use Rattle.qh_model.specs.headline.Sets.{Once}
 use Rattle.qh_model.specs.headline.Vector.{Vector}
 use Rattle.qh_model.specs.contract.Weighted.{Weighted}
 use Rattle.qh_model.specs.contract.FinishedSurface.{weighted_at, middle_at}
 use Rattle.qh_model.specs.contract.Rewired.{IsRewired}
 use Rattle.qh_model.specs.contract.StoredSurface.{StoredFacet, facet_at, surface_of}
-use Rattle.qh_mesh.specs.declared.facets.FacetNo.{FacetNo}
 use Rattle.qh_mesh.specs.declared.facets.FacetSide.{FacetSide}
-use Rattle.qh_mesh.specs.contract.Replacement.{number, horizon, IsReplacement}
+use Rattle.qh_mesh.specs.contract.Edges.{facet_of}
+use Rattle.qh_mesh.specs.contract.Replacement.{horizon, IsReplacement}
 use Rattle.qh_mesh.specs.contract.SoundMesh.{IsSoundMesh, IsClosedMesh, AreVisible}
 use Rattle.qh_mesh.specs.steps.Cones.{Joined, Written}
 use Rattle.qh_mesh.specs.steps.Horizons.{edge_side, side_at, IsBalanced}
@@ -15,19 +16,19 @@ use Rattle.qh_mesh.specs.steps.Places.{IsPool, Removed}
 use Rattle.qh_mesh.specs.steps.Surfaces.{IsSurface}
 
 -- the listed facets are gone, and their horizon is noted
-pub record IsCleared (old cleared : List StoredFacet) (vs : List FacetNo) (hs : List FacetSide) : Type 0 where
+pub record IsCleared (old cleared : List StoredFacet) (vs : List ℕ) (hs : List FacetSide) : Type 0 where
   pub removed : Removed old cleared vs (length vs)
   pub noted : hs ≡ map (edge_side old) (horizon old vs)
 
 -- the places of the cone are chosen, and no facet changed
-pub record IsChosen (cleared chosen : List StoredFacet) (hs : List FacetSide) (made free : List FacetNo) : Type 0 where
+pub record IsChosen (cleared chosen : List StoredFacet) (hs : List FacetSide) (made free : List ℕ) : Type 0 where
   pub cells : (f : ℕ) → facet_at chosen f ≡ facet_at cleared f
   pub pool : IsPool chosen (made ++ reverse free)
   pub len : length made ≡ length hs
   pub small : 3 * length chosen < 2 ^ 32
 
 -- both, one after the other, with no more places than the cone needs
-pub record IsPrepared (old chosen : List StoredFacet) (left vs : List FacetNo) (hs : List FacetSide) (made : List FacetNo) : Type 0 where
+pub record IsPrepared (old chosen : List StoredFacet) (left vs : List ℕ) (hs : List FacetSide) (made : List ℕ) : Type 0 where
   pub between : List StoredFacet
   pub is_cleared : IsCleared old between vs hs
   pub is_chosen : IsChosen between chosen hs made left
@@ -35,25 +36,25 @@ pub record IsPrepared (old chosen : List StoredFacet) (left vs : List FacetNo) (
   pub again : 0 < length left → length chosen ≡ length old
 
 -- the cone is joined to the facets across the horizon, and written
-pub record IsConed (chosen new : List StoredFacet) (hs : List FacetSide) (made : List FacetNo) (apex : ℕ) : Type 0 where
+pub record IsConed (chosen new : List StoredFacet) (hs : List FacetSide) (made : List ℕ) (apex : ℕ) : Type 0 where
   pub joined_to : List StoredFacet
   pub joined : Joined chosen joined_to hs made (length hs)
   pub written : Written joined_to new hs made apex (length made)
-  pub pool : (places : List FacetNo) → IsPool chosen (made ++ places) → IsPool new places
+  pub pool : (places : List ℕ) → IsPool chosen (made ++ places) → IsPool new places
 
 -- what the last steps need: a balanced horizon, facets across it, and places for the cone
-pub record IsReady (chosen : List StoredFacet) (hs : List FacetSide) (made : List FacetNo) : Type 0 where
+pub record IsReady (chosen : List StoredFacet) (hs : List FacetSide) (made : List ℕ) : Type 0 where
   pub places : length made ≤ length chosen
   pub small : 3 * length chosen < 2 ^ 32
   pub balanced : IsBalanced hs
   pub len : length made ≡ length hs
-  pub outers_in : (j : ℕ) → j < length hs → (side_at hs j).outer / 3 < length chosen
+  pub outers_in : (j : ℕ) → j < length hs → facet_of (side_at hs j).outer < length chosen
   pub outers_apart : (i j : ℕ) → i < j → j < length hs → (side_at hs i).outer ≢ (side_at hs j).outer
-  pub made_in : (j : ℕ) → j < length made → number made j < length chosen
-  pub made_apart : (i j : ℕ) → i < j → j < length made → number made i ≢ number made j
+  pub made_in : All (λ f. f < length chosen) made
+  pub once : Once made
 
 -- a replacement that leaves a surface, with no more places than it needs
-pub record IsRebuilt (old new : List StoredFacet) (left vs : List FacetNo) (apex : ℕ) (made : List FacetNo) : Type 0 where
+pub record IsRebuilt (old new : List StoredFacet) (left vs : List ℕ) (apex : ℕ) (made : List ℕ) : Type 0 where
   pub surface : IsSurface new left
   pub replaced : IsReplacement old new vs apex made
   pub places : length new ≡ max (length old) (length (surface_of new).live)

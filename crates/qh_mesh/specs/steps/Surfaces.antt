@@ -1,12 +1,11 @@
 -- What a mesh keeps.
-use Rattle.std.specs.Prelude.{◌*◌, ◌<◌, ◌^◌, List, length, reverse}
+use Rattle.std.specs.Prelude.{ℕ, ◌*◌, ◌<◌, ◌^◌, List, length, reverse}
 use Rattle.qh_model.specs.contract.StoredSurface.{StoredFacet}
-use Rattle.qh_mesh.specs.declared.facets.FacetNo.{FacetNo}
 use Rattle.qh_mesh.specs.steps.Places.{IsPool}
 use Rattle.qh_mesh.specs.steps.Twins.{HasTwins}
 
 -- a closed surface, a list of its free places, and half-edges whose numbers fit 32 bits
-pub record IsSurface (fs : List StoredFacet) (free : List FacetNo) : Type 0 where
+pub record IsSurface (fs : List StoredFacet) (free : List ℕ) : Type 0 where
   pub twins : HasTwins fs
   pub pool : IsPool fs (reverse free)
   pub small : 3 * length fs < 2 ^ 32

@@ -3,23 +3,16 @@ use Rattle.std.specs.Prelude.{◌≡◌, ℕ, ◌+◌, ◌*◌, ◌/◌, List}
 use Rattle.qh_model.specs.contract.Simplex.{by_side}
 use Rattle.qh_model.specs.contract.Surface.{Side}
 use Rattle.qh_model.specs.contract.StoredSurface.{StoredFacet}
-use Rattle.qh_mesh.specs.contract.Replacement.{IsLive, edge_end, edge_start, twin_of}
-
--- the number of a side
-abbrev pub side_no : Side → ℕ
-side_no s = by_side 0 1 2 s
-
--- the number of a facet's side
-abbrev pub edge_of : ℕ → Side → ℕ
-edge_of f s = 3 * f + side_no s
+use Rattle.qh_mesh.specs.contract.Edges.{edge_end, edge_start, facet_of, twin_of}
+use Rattle.qh_mesh.specs.contract.Replacement.{IsLive}
 
 -- the twin of an edge is one of a live facet, goes the other way, and has the edge as its twin
 pub record HasTwin (fs : List StoredFacet) (e : ℕ) : Type 0 where
-  pub live : IsLive fs (twin_of fs e / 3)
+  pub live : IsLive fs (facet_of (twin_of fs e))
   pub back : twin_of fs (twin_of fs e) ≡ e
   pub starts : edge_start fs (twin_of fs e) ≡ edge_end fs e
   pub ends : edge_end fs (twin_of fs e) ≡ edge_start fs e
 
 -- each edge of each live facet has one
 abbrev pub HasTwins : List StoredFacet → Type 0
-HasTwins fs = (e : ℕ) → IsLive fs (e / 3) → HasTwin fs e
+HasTwins fs = (e : ℕ) → IsLive fs (facet_of e) → HasTwin fs e

@@ -1,23 +1,23 @@
 //! The steps of the seven points, where one growth is refused. Each call that is refused leaves the
 //! mesh as it was, and is made again. `scripts/refusals.py` refuses each growth in turn.
 use super::{ROWS, Triangle, first_simplex, has_twins, seen_by, seven, triangle};
-use crate::{FacetNo, Mesh};
+use crate::{EdgeNo, FacetNo, Mesh};
 use qh_model::{Id, Memory};
 use std::alloc::{AllocError, Global};
 use std::test::Fail;
 
 /// What a place holds: the corners of its facet and the twins of its sides, or nothing.
-type Place = Option<([u32; 3], [usize; 3])>;
+type Place = Option<([u32; 3], [EdgeNo; 3])>;
 
 fn place(mesh: &Mesh, f: FacetNo) -> Place {
-    if f.0 >= mesh.places() || !mesh.is_live(f) {
+    if f.index() >= mesh.places() || !mesh.is_live(f) {
         return None;
     }
     let [a, b, c] = mesh.facet(f);
     let (ab, bc, ca) = (mesh.edge(f, 0), mesh.edge(f, 1), mesh.edge(f, 2));
     Some((
         [a.number(), b.number(), c.number()],
-        [mesh.twin(ab).0, mesh.twin(bc).0, mesh.twin(ca).0],
+        [mesh.twin(ab), mesh.twin(bc), mesh.twin(ca)],
     ))
 }
 
@@ -25,7 +25,7 @@ fn place(mesh: &Mesh, f: FacetNo) -> Place {
 fn places(mesh: &Mesh) -> (usize, [Place; 8]) {
     let mut places = [None; 8];
     for f in 0..8 {
-        places[f] = place(mesh, FacetNo(f));
+        places[f] = place(mesh, FacetNo::new(f));
     }
     (mesh.places(), places)
 }
