@@ -12,31 +12,31 @@ use Rattle.qh_model.specs.laws.Horizons.{IsWalked}
 use Rattle.qh_model.proofs.surfaces.SurfaceLaws.{rise_is_vol, walk_finds_all}
 use Rattle.qh_model.proofs.surfaces.Stored.{live_is_marked}
 use Rattle.qh_pred.specs.contract.Planes.{PlaneValue, height}
-use Rattle.qh_mesh.specs.declared.facets.FacetNo.{FacetNo}
 use Rattle.qh_mesh.specs.contract.Replacement.{IsLive, is_listed}
 use Rattle.qh_mesh.specs.contract.SoundMesh.{facet_vol, IsSoundMesh, AreVisible}
-use Rattle.qh_mesh.proofs.ListedFacets.{listed_find, listed_live}
+use Rattle.qh_mesh.proofs.ListedFacets.{in_listed, listed_in}
+use Rattle.qh_model.proofs.Members.{All-In, in_at}
 use Rattle.qh_block.specs.steps.Planes.{plane_at, ArePlanes}
-use Rattle.qh_block.specs.steps.Walks.{mark_at, IsMarked, Has, IsCrossed, IsWalkFrom}
+use Rattle.qh_block.specs.steps.Walks.{mark_at, IsMarked, IsCrossed, IsWalkFrom}
 
 -- what a walk tells of the facets that it found, and of their neighbours
-module _ (P : ℕ → Type 0) (fs : List StoredFacet) (before after : List Bool) (f : ℕ) (vs : List FacetNo)
+module _ (P : ℕ → Type 0) (fs : List StoredFacet) (before after : List Bool) (f : ℕ) (vs : List ℕ)
     (w : IsWalkFrom P fs before after f vs) where
-  pub found_live : (g : ℕ) → Has vs g → IsLive fs g
-  found_live = listed_live fs vs w.walk.facets
+  pub found_live : (g : ℕ) → In g vs → IsLive fs g
+  found_live g = All-In (IsLive fs) vs g w.walk.facets.live
 
-  pub found_passes : (g : ℕ) → Has vs g → P g
-  found_passes g h = let r = listed_find vs g h in subst P (sym r.1.1) (w.walk.passes r.0 r.1.0)
+  pub found_passes : (g : ℕ) → In g vs → P g
+  found_passes g = All-In P vs g w.walk.passes
 
-  pub found_marked : (g : ℕ) → Has vs g → IsMarked after g
-  found_marked g h = let r = listed_find vs g h in subst (IsMarked after) (sym r.1.1) (w.walk.marked r.0 r.1.0)
+  pub found_marked : (g : ℕ) → In g vs → IsMarked after g
+  found_marked g = All-In (IsMarked after) vs g w.walk.marked
 
-  pub found_over : (g : ℕ) (s : Side) → Has vs g → P ((surface_of fs).over g s) → ¬ (IsMarked before ((surface_of fs).over g s))
-      → Has vs ((surface_of fs).over g s)
+  pub found_over : (g : ℕ) (s : Side) → In g vs → P ((surface_of fs).over g s) → ¬ (IsMarked before ((surface_of fs).over g s))
+      → In ((surface_of fs).over g s) vs
   found_over g s h p n =
-      let r = listed_find vs g h in pick (w.further.only _ (subst (IsCrossed P fs after) (sym r.1.1) (w.crossed r.0 r.1.0) s p))
+      let r = in_at vs g h in pick (w.further.only _ (subst (IsCrossed P fs after) r.2 (w.crossed r.0 r.1) s p))
     where
-      pick : IsMarked before ((surface_of fs).over g s) ⊎ Has vs ((surface_of fs).over g s) → Has vs ((surface_of fs).over g s)
+      pick : IsMarked before ((surface_of fs).over g s) ⊎ In ((surface_of fs).over g s) vs → In ((surface_of fs).over g s) vs
       pick (inl m) = absurd (n m)
       pick (inr i) = i
 
@@ -46,7 +46,7 @@ IsSeen at ps l g = pos 0 <ℤ height (plane_at ps g) (at l)
 
 -- a walk over them, where no facet had a mark
 module _ (at : ℕ → Vector) (fs : List StoredFacet) (ps : List PlaneValue) (o : Weighted) (l f : ℕ) (before after : List Bool)
-    (vs : List FacetNo) (a : ArePlanes at fs ps) (z : IsSoundMesh at fs o) (none : (g : ℕ) → mark_at before g ≡ false)
+    (vs : List ℕ) (a : ArePlanes at fs ps) (z : IsSoundMesh at fs o) (none : (g : ℕ) → mark_at before g ≡ false)
     (w : IsWalkFrom (IsSeen at ps l) fs before after f vs) where
   abbrev m : Surface
   m = surface_of fs
@@ -60,15 +60,15 @@ module _ (at : ℕ → Vector) (fs : List StoredFacet) (ps : List PlaneValue) (o
   live : (g : ℕ) → IsLive fs g → In g m.live
   live g = (live_is_marked fs g).1
 
-  seen : (g : ℕ) → Has vs g → pos 0 <ℤ vol g
+  seen : (g : ℕ) → In g vs → pos 0 <ℤ vol g
   seen g h = above _ _ (a.right g (found_live (IsSeen at ps l) fs before after f vs w g h) (at l))
       (found_passes (IsSeen at ps l) fs before after f vs w g h)
 
   rise_is : (g : ℕ) → vol g ≡ rise m (weighted_at at) g (weighted_at at l)
   rise_is g = sym (rise_is_vol (at (facet_at fs g).i) (at (facet_at fs g).j) (at (facet_at fs g).k) (at l))
 
-  grows : (g : ℕ) → In g m.live → (s : Side) → Has vs g → Sees m (weighted_at at) (m.over g s) (weighted_at at l)
-      → Has vs (m.over g s)
+  grows : (g : ℕ) → In g m.live → (s : Side) → In g vs → Sees m (weighted_at at) (m.over g s) (weighted_at at l)
+      → In (m.over g s) vs
   grows g i s h t =
       let n = (live_is_marked fs (m.over g s)).0 (z.0 g i s).live in
       found_over (IsSeen at ps l) fs before after f vs w g s h
@@ -79,17 +79,18 @@ module _ (at : ℕ → Vector) (fs : List StoredFacet) (ps : List PlaneValue) (o
     f0 = f;
     live = live f (found_live (IsSeen at ps l) fs before after f vs w f w.start);
     seen = above _ _ (rise_is f) (seen f w.start);
-    has = w.start;
-    grows = grows;
+    has = in_listed vs f w.start;
+    grows = λ g i s h t. in_listed vs (m.over g s) (grows g i s (listed_in vs g h) t);
   }
 
-  all : (g : ℕ) → IsLive fs g → pos 0 <ℤ vol g → Has vs g
-  all g i h = walk_finds_all m (weighted_at at) o z.0 z.1 (weighted_at at l) (is_listed vs) walk g (live g i) (above _ _ (rise_is g) h)
+  all : (g : ℕ) → IsLive fs g → pos 0 <ℤ vol g → In g vs
+  all g i h = listed_in vs g
+      (walk_finds_all m (weighted_at at) o z.0 z.1 (weighted_at at l) (is_listed vs) walk g (live g i) (above _ _ (rise_is g) h))
 
   -- found all that it sees
   pub finds_all : AreVisible at fs vs l
   finds_all = record {
-    some = (let r = (listed_find vs f w.start).1.0 in omega arith);
-    seen = λ g i e. seen g e;
-    unseen = λ g i e. by_lt_z (pos 0) (vol g) (λ h. (let t = all g i h in cc)) (λ h. h);
+    some = (let r = (in_at vs f w.start).1 in omega arith);
+    seen = λ g i e. seen g (listed_in vs g e);
+    unseen = λ g i e. by_lt_z (pos 0) (vol g) (λ h. (let t = in_listed vs g (all g i h) in cc)) (λ h. h);
   }

@@ -14,50 +14,41 @@ use Rattle.qh_model.proofs.lists.Rising.{rising_append}
 use Rattle.qh_model.proofs.surfaces.Inside.{inner_is_not_extreme}
 use Rattle.qh_model.proofs.surfaces.Stored.{live_is_marked}
 use Rattle.qh_pred.specs.contract.Planes.{PlaneValue, height}
-use Rattle.qh_mesh.specs.declared.facets.FacetNo.{FacetNo}
-use Rattle.qh_mesh.specs.contract.LiveNumbers.{numbers}
 use Rattle.qh_mesh.specs.contract.Replacement.{IsLive}
 use Rattle.qh_mesh.specs.contract.SoundMesh.{facet_vol}
 use Rattle.qh_block.specs.declared.inner_points.bounds.Bounds.{Bounds}
 use Rattle.qh_block.specs.steps.InnerPoints.{IsBelow, IsBelowAll, HasPlane, HasPlanes, HasNoExtreme, AreInner, IsOuterPart}
-use Rattle.qh_block.proofs.LiveFacets.{AreAllLive, all_live, rest_live}
-use Rattle.qh_block.proofs.finished.Gathering.{in_numbers}
+use Rattle.qh_block.proofs.LiveFacets.{all_live, rest_live}
 
 -- ---- the planes of the live facets
 -- facets whose planes are not listed are left
-pub record AreListed (pts : List Vector) (fs : List StoredFacet) (left : List FacetNo) (planes : List PlaneValue) : Type 0 where
-  pub live : AreAllLive fs left
-  pub rest : (g : ℕ) → IsLive fs g → HasPlane pts fs planes g ⊎ In (record { 0 = g }) left
+pub record AreListed (pts : List Vector) (fs : List StoredFacet) (left : List ℕ) (planes : List PlaneValue) : Type 0 where
+  pub live : All (IsLive fs) left
+  pub rest : (g : ℕ) → IsLive fs g → HasPlane pts fs planes g ⊎ In g left
 
 -- at first all are left
-pub none_listed : (pts : List Vector) (fs : List StoredFacet) → AreListed pts fs (numbers (surface_of fs).live) []
+pub none_listed : (pts : List Vector) (fs : List StoredFacet) → AreListed pts fs (surface_of fs).live []
 none_listed pts fs = record {
-  live = all_live fs (numbers (surface_of fs).live) refl;
-  rest = λ g l. inr (in_numbers (surface_of fs).live g ((live_is_marked fs g).1 l));
+  live = all_live fs (surface_of fs).live refl;
+  rest = λ g l. inr ((live_is_marked fs g).1 l);
 }
 
-module _ {pts : List Vector} {fs : List StoredFacet} {all left : List FacetNo} {f : FacetNo} {planes : List PlaneValue}
+module _ {pts : List Vector} {fs : List StoredFacet} {all left : List ℕ} {f : ℕ} {planes : List PlaneValue}
     (old : AreListed pts fs all planes) where
   -- with its plane the next is listed
-  pub next_listed : all ≡ f ∷ left → (plane : PlaneValue) → ((p : Vector) → height plane p ≡ facet_vol (place pts) fs f.0 p)
+  pub next_listed : all ≡ f ∷ left → (plane : PlaneValue) → ((p : Vector) → height plane p ≡ facet_vol (place pts) fs f p)
       → AreListed pts fs left (planes ++ plane ∷ [])
   next_listed is plane own = record {
     live = rest_live fs all left f old.live is;
     rest = λ g l. ⊎_elim (λ h. inl (h.0, in_append planes (plane ∷ []) h.0 (inl h.1), h.2))
-        (λ i. ⊎_elim (λ e. inl (plane, in_append planes (plane ∷ []) plane (inr (inl refl)), of e)) (λ m. inr m) (subst (In (no g)) is i))
+        (λ i. ⊎_elim (λ e. inl (plane, in_append planes (plane ∷ []) plane (inr (inl refl)), rw e own)) (λ m. inr m) (subst (In g) is i))
         (old.rest g l);
   }
-    where
-      no : ℕ → FacetNo
-      no g = record { 0 = g }
-
-      of : {g : FacetNo} → g ≡ f → (p : Vector) → height plane p ≡ facet_vol (place pts) fs g.0 p
-      of e = subst (λ (v : FacetNo). (p : Vector) → height plane p ≡ facet_vol (place pts) fs v.0 p) (sym e) own
 
 -- when none is left all are listed
-pub all_listed : {pts : List Vector} {fs : List StoredFacet} {all : List FacetNo} {planes : List PlaneValue} → AreListed pts fs all planes
+pub all_listed : {pts : List Vector} {fs : List StoredFacet} {all : List ℕ} {planes : List PlaneValue} → AreListed pts fs all planes
     → all ≡ [] → HasPlanes pts fs planes
-all_listed old is g l = ⊎_elim (λ p. p) (λ i. absurd (subst (In {X = FacetNo} (record { 0 = g })) is i)) (old.rest g l)
+all_listed old is g l = ⊎_elim (λ p. p) (λ i. absurd (subst (In g) is i)) (old.rest g l)
 
 -- ---- boxes
 -- below all planes of the sample's surface there is no extreme id

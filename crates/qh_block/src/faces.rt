@@ -3,7 +3,7 @@
 //! Each live facet that has no mark yet starts a walk over the facets in its plane, which get marks.
 //! A plane of one facet, as most are, has its corners as its face; else the corners of the facets, rising,
 //! are the ids of which the face is the polygon. So a plane is looked at once.
-ghost use Rattle.std.specs.Prelude.{◌≡◌, ◌≤◌, ◌<◌, ◌↔◌, ℕ, List, IfOk, OnOk, length, true, false};
+ghost use Rattle.std.specs.Prelude.{All, ◌≡◌, ◌≤◌, ◌<◌, ◌↔◌, ℕ, List, IfOk, OnOk, length, true, false};
 ghost use Rattle.std.specs.List.Sorted.{IsStrictlyIncreasing};
 ghost use Rattle.qh_model.specs.contract.IdSets.{IsIdSet};
 ghost use Rattle.qh_model.specs.headline.Extreme.{Extreme};
@@ -12,7 +12,7 @@ ghost use Rattle.qh_model.specs.headline.Polygon.{IsPolygon};
 ghost use Rattle.qh_model.specs.headline.Predicates.{cross, place};
 ghost use Rattle.qh_model.specs.headline.Sets.{In, Members};
 ghost use Rattle.qh_model.specs.contract.StoredSurface.{facet_at, surface_of};
-ghost use Rattle.qh_mesh.specs.contract.Replacement.{IsLive, is_listed};
+ghost use Rattle.qh_mesh.specs.contract.Replacement.{IsLive};
 ghost use Rattle.qh_model.specs.contract.IdSets.{AreIndices};
 ghost use Rattle.qh_plane.specs.contract.PlanarSets.{IsPlanarSet};
 ghost use Rattle.qh_block.specs.steps.PlaneWalks.{AreCornersBelow};
@@ -44,7 +44,7 @@ fn no_marks(alloc: Global, count: usize) -> Result<Vec<bool>, AllocError>
 
 /// Lists the corners of live facets, as they come.
 fn list_corners(mesh: &Mesh, facets: &[FacetNo], corners: &mut Vec<Id>) -> Result<(), AllocError>
-    requires { (g : ℕ) → is_listed facets.now g ≡ true → IsLive mesh.now g }
+    requires { All (IsLive mesh.now) facets.now }
     ensures { OnOk result (corners.new.items ≡ corners_of mesh.now facets.now) }
 {
     corners.clear();
@@ -56,7 +56,7 @@ fn list_corners(mesh: &Mesh, facets: &[FacetNo], corners: &mut Vec<Id>) -> Resul
 
 /// Lists the corners of live facets, rising, each once.
 fn gather_corners(mesh: &Mesh, facets: &[FacetNo], corners: &mut Vec<Id>) -> Result<(), AllocError>
-    requires { (g : ℕ) → is_listed facets.now g ≡ true → IsLive mesh.now g }
+    requires { All (IsLive mesh.now) facets.now }
     ensures rising { OnOk result (IsStrictlyIncreasing corners.new.items) }
     ensures members { OnOk result ((i : ℕ) → In i corners.new.items ↔ IsListedCorner mesh.now facets.now i) }
 {
@@ -75,9 +75,9 @@ fn facet_polygon(
     ids: &[Id],
 ) -> Result<Polygon, Memory>
     requires corners { AreCornersBelow (length pts.now) mesh.now }
-    requires live { IsLive mesh.now f.0 }
+    requires live { IsLive mesh.now f }
     requires indices { AreIndices pts.now ids.now }
-    ensures { let t = facet_at mesh.now f.0 in let n = cross (place pts.now t.i) (place pts.now t.j) (place pts.now t.k) in
+    ensures { let t = facet_at mesh.now f in let n = cross (place pts.now t.i) (place pts.now t.j) (place pts.now t.k) in
         IfOk result (λ q. IsPlanarSet pts.now ids.now n → IsPolygon (place pts.now) (Extreme (place pts.now) (Members ids.now)) n q) }
 {
     let [a, b, c] = mesh.facet(f);
@@ -87,8 +87,8 @@ fn facet_polygon(
 
 /// The corners of a live facet, from the least on.
 fn lone_triangle(mesh: &Mesh, f: FacetNo) -> Polygon
-    requires { IsLive mesh.now f.0 }
-    ensures { result ≡ from_least (facet_at mesh.now f.0).i (facet_at mesh.now f.0).j (facet_at mesh.now f.0).k }
+    requires { IsLive mesh.now f }
+    ensures { result ≡ from_least (facet_at mesh.now f).i (facet_at mesh.now f).j (facet_at mesh.now f).k }
 {
     let [a, b, c] = mesh.facet(f);
     if a < b && a < c {
@@ -110,13 +110,13 @@ fn new_face(
     room: &mut Room,
 ) -> Result<Polygon, Memory>
     requires corners { AreCornersBelow (length pts.now) mesh.now }
-    requires live { IsLive mesh.now f.0 }
-    requires fresh { mark_at marks.old f.0 ≡ false }
+    requires live { IsLive mesh.now f }
+    requires fresh { mark_at marks.old f ≡ false }
     requires room { length mesh.now ≤ length marks.old }
     ensures kept { OnOk result ((g : ℕ) → mark_at marks.old g ≡ true → mark_at marks.new g ≡ true) }
-    ensures own { OnOk result (mark_at marks.new f.0 ≡ true) }
+    ensures own { OnOk result (mark_at marks.new f ≡ true) }
     ensures face { IfOk result (λ q. (ids : List ℕ) → IsIdSet pts.now ids → IsFinished (place pts.now) ids (surface_of mesh.now)
-        → IsNewPlane (place pts.now) mesh.now marks.old f.0 → IsNewFace (place pts.now) (Members ids) mesh.now f.0 marks.old marks.new q) }
+        → IsNewPlane (place pts.now) mesh.now marks.old f → IsNewFace (place pts.now) (Members ids) mesh.now f marks.old marks.new q) }
 {
     let level = IsLevel { pts, start: f };
     walk(mesh, &level, f, marks, &mut room.facets)?;
@@ -144,7 +144,7 @@ pub fn faces(alloc: Global, pts: &[Point], mesh: &Mesh) -> Result<Vec<Polygon>, 
     };
     let mut faces = Vec::new(alloc);
     for f in mesh.live() {
-        if !marks[f.0] {
+        if !marks[f.index()] {
             faces.push(new_face(alloc, pts, mesh, f, marks, &mut room)?)?;
         }
     }

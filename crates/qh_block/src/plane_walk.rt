@@ -1,10 +1,9 @@
 //! The facets of a mesh that lie in the plane of one of them, for a walk.
-ghost use Rattle.std.specs.Prelude.{◌≡◌, ◌<◌, ◌/◌, ◌↔◌, IsTrue, length};
+ghost use Rattle.std.specs.Prelude.{◌≡◌, ◌<◌, ◌↔◌, IsTrue, length};
 ghost use Rattle.qh_model.specs.headline.Predicates.{place};
 ghost use Rattle.qh_model.specs.laws.FacetPlanes.{IsLevelWith, IsLevelFacet};
 ghost use Rattle.qh_model.specs.contract.StoredSurface.{surface_of};
-ghost use Rattle.qh_model.specs.steps.FarCorners.{rest};
-ghost use Rattle.qh_mesh.specs.contract.Replacement.{IsLive, side_of_edge};
+ghost use Rattle.qh_mesh.specs.contract.Replacement.{IsLive};
 ghost use Rattle.qh_block.specs.steps.PlaneWalks.{AreCornersBelow};
 
 use crate::walk::Test;
@@ -12,25 +11,12 @@ use qh_mesh::{EdgeNo, FacetNo, Mesh};
 use qh_model::{Id, Point};
 use qh_pred::{point_at, vol};
 
-/// The corner of a live facet across from one of its edges.
-fn across(mesh: &Mesh, edge: EdgeNo) -> Id
-    requires { IsLive mesh.now (edge.0 / 3) }
-    ensures { result ≡ rest (surface_of mesh.now) (edge.0 / 3) (side_of_edge edge.0) }
-{
-    let [first, second, third] = mesh.facet(FacetNo(edge.0 / 3));
-    match edge.0 % 3 {
-        0 => third,
-        1 => first,
-        _ => second,
-    }
-}
-
 /// Whether the point of an id lies in the plane of a live facet.
 fn is_level(pts: &[Point], mesh: &Mesh, f: FacetNo, id: Id) -> bool
     requires corners { AreCornersBelow (length pts.now) mesh.now }
-    requires live { IsLive mesh.now f.0 }
+    requires live { IsLive mesh.now f }
     requires id_in { id < length pts.now }
-    ensures { IsTrue result ↔ IsLevelWith (place pts.now) (surface_of mesh.now) f.0 id }
+    ensures { IsTrue result ↔ IsLevelWith (place pts.now) (surface_of mesh.now) f id }
 {
     let [a, b, c] = mesh.facet(f);
     vol(
@@ -49,12 +35,12 @@ pub struct IsLevel<'a> {
 }
 
 impl Test for IsLevel<'_> {
-    ghost Fits = { λ t fs. AreCornersBelow (length t.pts.now) fs × IsLive fs t.start.0 };
+    ghost Fits = { λ t fs. AreCornersBelow (length t.pts.now) fs × IsLive fs t.start };
 
-    ghost Passes = { λ t fs f. IsLevelFacet (place t.pts.now) (surface_of fs) t.start.0 f };
+    ghost Passes = { λ t fs f. IsLevelFacet (place t.pts.now) (surface_of fs) t.start f };
 
     // Two of its corners are of a facet in the plane.
     fn passes(&self, mesh: &Mesh, edge: EdgeNo) -> bool {
-        is_level(self.pts, mesh, self.start, across(mesh, edge))
+        is_level(self.pts, mesh, self.start, mesh.opposite(edge))
     }
 }

@@ -3,9 +3,10 @@
 //! From a facet that passes all are found by going over the sides of those that are found.
 //!
 //! Source: Barber, Dobkin and Huhdanpaa 1996 (the visible set is found by a search over neighbours).
-ghost use Rattle.std.specs.Prelude.{◌≡◌, ◌≤◌, ◌<◌, ◌/◌, ◌↔◌, IsTrue, ℕ, List, OnOk, [], length, false};
+ghost use Rattle.std.specs.Prelude.{◌≡◌, ◌≤◌, ◌<◌, ◌↔◌, IsTrue, ℕ, List, OnOk, [], length, false};
 ghost use Rattle.qh_model.specs.contract.StoredSurface.{StoredFacet};
-ghost use Rattle.qh_mesh.specs.contract.Replacement.{IsLive, twin_of, edge_start, edge_end};
+ghost use Rattle.qh_mesh.specs.contract.Edges.{edge_end, edge_start, facet_of, twin_of};
+ghost use Rattle.qh_mesh.specs.contract.Replacement.{IsLive};
 ghost use Rattle.qh_block.specs.steps.Walks.{mark_at, IsMet, IsCrossed, IsFurther, IsWalk, IsWalkFrom};
 
 use qh_mesh::{EdgeNo, FacetNo, Mesh};
@@ -22,11 +23,11 @@ pub trait Test {
     /// Whether the facet of an edge passes. The one over the edge does.
     fn passes(&self, mesh: &Mesh, edge: EdgeNo) -> bool
         requires fits { Self.Fits self.now mesh.now }
-        requires live { IsLive mesh.now (edge.0 / 3) }
-        requires over { Self.Passes self.now mesh.now (twin_of mesh.now edge.0 / 3) }
-        requires starts { edge_start mesh.now edge.0 ≡ edge_end mesh.now (twin_of mesh.now edge.0) }
-        requires ends { edge_end mesh.now edge.0 ≡ edge_start mesh.now (twin_of mesh.now edge.0) }
-        ensures { IsTrue result ↔ Self.Passes self.now mesh.now (edge.0 / 3) };
+        requires live { IsLive mesh.now (facet_of edge) }
+        requires over { Self.Passes self.now mesh.now (facet_of (twin_of mesh.now edge)) }
+        requires starts { edge_start mesh.now edge ≡ edge_end mesh.now (twin_of mesh.now edge) }
+        requires ends { edge_end mesh.now edge ≡ edge_start mesh.now (twin_of mesh.now edge) }
+        ensures { IsTrue result ↔ Self.Passes self.now mesh.now (facet_of edge) };
 }
 
 /// Goes over an edge of a facet that was found: the neighbour is found too if it passes and has no mark.
@@ -38,18 +39,19 @@ fn cross<T: Test>(
     found: &mut Vec<FacetNo>,
 ) -> Result<(), AllocError>
     requires fits { T.Fits test.now mesh.now }
-    requires live { IsLive mesh.now (edge.0 / 3) }
-    requires passes { T.Passes test.now mesh.now (edge.0 / 3) }
+    requires live { IsLive mesh.now (facet_of edge) }
+    requires passes { T.Passes test.now mesh.now (facet_of edge) }
     requires room { length mesh.now ≤ length marks.old }
     requires walk { IsWalk (T.Passes test.now mesh.now) mesh.now marks.old found.old.items }
     ensures walk { OnOk result (IsWalk (T.Passes test.now mesh.now) mesh.now marks.new found.new.items) }
     ensures further { OnOk result (IsFurther marks.old marks.new found.old.items found.new.items) }
-    ensures crossed { OnOk result (IsMet (T.Passes test.now mesh.now) marks.new (twin_of mesh.now edge.0 / 3)) }
+    ensures crossed { OnOk result (IsMet (T.Passes test.now mesh.now) marks.new (facet_of (twin_of mesh.now edge))) }
 {
     let twin = mesh.twin(edge);
-    let neighbour = FacetNo(twin.0 / 3);
-    if !marks[neighbour.0] && test.passes(mesh, twin) {
-        marks[neighbour.0] = true;
+    let neighbour = mesh.facet_of(twin);
+    let place = neighbour.index();
+    if !marks[place] && test.passes(mesh, twin) {
+        marks[place] = true;
         found.push(neighbour)?;
     }
     Ok(())
@@ -64,13 +66,13 @@ fn cross_all<T: Test>(
     found: &mut Vec<FacetNo>,
 ) -> Result<(), AllocError>
     requires fits { T.Fits test.now mesh.now }
-    requires live { IsLive mesh.now f.0 }
-    requires passes { T.Passes test.now mesh.now f.0 }
+    requires live { IsLive mesh.now f }
+    requires passes { T.Passes test.now mesh.now f }
     requires room { length mesh.now ≤ length marks.old }
     requires walk { IsWalk (T.Passes test.now mesh.now) mesh.now marks.old found.old.items }
     ensures walk { OnOk result (IsWalk (T.Passes test.now mesh.now) mesh.now marks.new found.new.items) }
     ensures further { OnOk result (IsFurther marks.old marks.new found.old.items found.new.items) }
-    ensures crossed { OnOk result (IsCrossed (T.Passes test.now mesh.now) mesh.now marks.new f.0) }
+    ensures crossed { OnOk result (IsCrossed (T.Passes test.now mesh.now) mesh.now marks.new f) }
 {
     cross(mesh, test, mesh.edge(f, 0), marks, found)?;
     cross(mesh, test, mesh.edge(f, 1), marks, found)?;
@@ -88,14 +90,15 @@ pub fn walk<T: Test>(
     found: &mut Vec<FacetNo>,
 ) -> Result<(), AllocError>
     requires fits { T.Fits test.now mesh.now }
-    requires live { IsLive mesh.now start.0 }
-    requires passes { T.Passes test.now mesh.now start.0 }
-    requires fresh { mark_at marks.old start.0 ≡ false }
+    requires live { IsLive mesh.now start }
+    requires passes { T.Passes test.now mesh.now start }
+    requires fresh { mark_at marks.old start ≡ false }
     requires room { length mesh.now ≤ length marks.old }
-    ensures { OnOk result (IsWalkFrom (T.Passes test.now mesh.now) mesh.now marks.old marks.new start.0 found.new.items) }
+    ensures { OnOk result (IsWalkFrom (T.Passes test.now mesh.now) mesh.now marks.old marks.new start found.new.items) }
 {
     found.clear();
-    marks[start.0] = true;
+    let place = start.index();
+    marks[place] = true;
     found.push(start)?;
     let mut next = 0;
     while next < found.len() {

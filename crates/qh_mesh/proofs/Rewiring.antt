@@ -14,7 +14,7 @@ pub use Rattle.qh_model.proofs.surfaces.Stored.{live_in, in_live}
 use Rattle.qh_model.proofs.surfaces.SurfaceLaws.{rise_is_vol, horizon_is_known}
 use Rattle.qh_model.proofs.Members.{in_at}
 use Rattle.qh_model.proofs.algebra.Signs.{not_less}
-use Rattle.qh_mesh.specs.contract.Edges.{edge_end, edge_of, edge_start, side_of_edge, twin_of}
+use Rattle.qh_mesh.specs.contract.Edges.{edge_end, edge_of, edge_start, facet_of, side_of_edge, twin_of}
 use Rattle.qh_mesh.specs.contract.Replacement.{is_listed, horizon, IsLive, AreFacets}
 use Rattle.qh_mesh.specs.contract.Replacement.{IsCone, IsKept, StaysFacet, IsReplacement}
 use Rattle.qh_mesh.specs.contract.SoundMesh.{facet_vol, IsSoundMesh, AreVisible}
@@ -26,7 +26,7 @@ use Rattle.qh_mesh.proofs.ListedFacets.{listed_at, listed_live}
 
 module _ (fs : List StoredFacet) (f : ℕ) (s : Side) where
   -- the neighbour is the facet of the twin
-  over-twin : (surface_of fs).over f s ≡ twin_of fs (edge_of f s) / 3
+  pub over-twin : (surface_of fs).over f s ≡ facet_of (twin_of fs (edge_of f s))
   over-twin = over-is fs f s ∙ ap (λ v. v / 3) (sym (twin-is fs f s))
 
   -- and the twin is the edge that lies over the side

@@ -4,7 +4,7 @@ use Rattle.std.proofs.lemmas.Bool.Decides.{nat_tests}
 use Rattle.std.specs.Prelude.{◌&&◌, nat_lt, pos, ◌<ℤ◌}
 use Rattle.qh_model.specs.headline.Vector.{Vector}
 use Rattle.qh_model.specs.headline.Predicates.{place, cross, left, AreInLine}
-use Rattle.qh_model.specs.headline.Sets.{Members}
+use Rattle.qh_model.specs.headline.Sets.{In, Members}
 use Rattle.qh_model.specs.headline.Extreme.{Extreme}
 use Rattle.qh_model.specs.headline.Polygon.{IsPolygon}
 use Rattle.qh_model.specs.contract.FinishedSurface.{IsFinished}
@@ -14,9 +14,7 @@ use Rattle.qh_model.proofs.algebra.VectorIdentities.{left-dot, left-turn}
 use Rattle.qh_model.proofs.extremes.Directions.{square-positive}
 use Rattle.qh_model.proofs.surfaces.Finished.{facet_area}
 use Rattle.qh_model.proofs.surfaces.Stored.{live_is_marked}
-use Rattle.qh_mesh.specs.declared.facets.FacetNo.{FacetNo}
-use Rattle.qh_mesh.specs.contract.Replacement.{IsLive, is_listed}
-use Rattle.qh_mesh.proofs.ListedFacets.{listed_in}
+use Rattle.qh_mesh.specs.contract.Replacement.{IsLive}
 use Rattle.qh_plane.proofs.polygons.Triangle.{left_triangle}
 use Rattle.qh_block.specs.steps.Faces.{corners_of, from_least, IsNewPlane, IsNewFace}
 use Rattle.qh_model.specs.laws.FacetPlanes.{IsLevelFacet}
@@ -54,13 +52,13 @@ least_first at i j k area = by (nat_lt i j && nat_lt i k) refl (nat_lt j k) refl
         lower.0 lower.1 d.0 (turn _ _ _ (turn _ _ _ first))
 
 -- a list of one facet
-alone : (vs : List FacetNo) (f : ℕ) → length vs ≡ 1 → is_listed vs f ≡ true → vs ≡ record { 0 = f } ∷ []
-alone (g ∷ []) f n has = let i = listed_in (g ∷ []) (record { 0 = f }) has in grind (arith, i)
+alone : (vs : List ℕ) (f : ℕ) → length vs ≡ 1 → In f vs → vs ≡ f ∷ []
+alone (g ∷ []) f n has = grind (arith, has)
 alone [] f n has = absurd (omega (arith, n))
 alone (g ∷ h ∷ vs) f n has = absurd (omega (arith, n))
 
 -- the face of a plane of which a walk found one facet
-pub lone_triangle : (pts : List Vector) (ids : List ℕ) (fs : List StoredFacet) (f : ℕ) (before after : List Bool) (vs : List FacetNo)
+pub lone_triangle : (pts : List Vector) (ids : List ℕ) (fs : List StoredFacet) (f : ℕ) (before after : List Bool) (vs : List ℕ)
     → length vs ≡ 1 → IsIdSet pts ids → IsFinished (place pts) ids (surface_of fs) → IsLive fs f → IsNewPlane (place pts) fs before f
     → IsWalkFrom (IsLevelFacet (place pts) (surface_of fs) f) fs before after f vs
     → IsNewFace (place pts) (Members ids) fs f before after (from_least (facet_at fs f).i (facet_at fs f).j (facet_at fs f).k)

@@ -21,14 +21,14 @@ use Rattle.qh_model.proofs.surfaces.FacetPlanes.{plane_walk_finds_all}
 use Rattle.qh_model.proofs.surfaces.Finished.{facet_area, facets_support}
 use Rattle.qh_model.proofs.surfaces.Stored.{live_is_marked}
 use Rattle.qh_model.proofs.hulls.SameSets.{extreme_as}
-use Rattle.qh_mesh.specs.declared.facets.FacetNo.{FacetNo}
 use Rattle.qh_mesh.specs.contract.Replacement.{IsLive, is_listed}
+use Rattle.qh_mesh.proofs.ListedFacets.{in_listed, listed_in}
 use Rattle.qh_plane.specs.contract.PlanarSets.{IsPlanarSet}
-use Rattle.qh_block.specs.steps.Walks.{mark_at, Has, IsWalkFrom}
+use Rattle.qh_block.specs.steps.Walks.{mark_at, IsWalkFrom}
 use Rattle.qh_block.specs.steps.Faces.{IsListedCorner, IsNewPlane, IsNewFace}
 use Rattle.qh_block.proofs.FoundFacets.{found_live, found_passes, found_marked, found_over}
 
-module _ (pts : List Vector) (ids : List ℕ) (fs : List StoredFacet) (f : ℕ) (before after : List Bool) (vs : List FacetNo)
+module _ (pts : List Vector) (ids : List ℕ) (fs : List StoredFacet) (f : ℕ) (before after : List Bool) (vs : List ℕ)
     (set : IsIdSet pts ids) (z : IsFinished (place pts) ids (surface_of fs)) (live : IsLive fs f) (new : IsNewPlane (place pts) fs before f)
     (w : IsWalkFrom (IsLevelFacet (place pts) (surface_of fs) f) fs before after f vs) where
   abbrev m : Surface
@@ -47,19 +47,20 @@ module _ (pts : List Vector) (ids : List ℕ) (fs : List StoredFacet) (f : ℕ) 
   lives : (g : ℕ) → IsLive fs g → In g m.live
   lives g l = (live_is_marked fs g).1 l
 
-  on_live : (g : ℕ) → Has vs g → IsLive fs g
+  on_live : (g : ℕ) → In g vs → IsLive fs g
   on_live = found_live (IsLevelFacet at m f) fs before after f vs w
 
-  on_level : (g : ℕ) → Has vs g → IsLevelFacet at m f g
+  on_level : (g : ℕ) → In g vs → IsLevelFacet at m f g
   on_level = found_passes (IsLevelFacet at m f) fs before after f vs w
 
   -- the walk finds the whole plane
-  grows : (g : ℕ) → In g m.live → (s : Side) → Has vs g → IsLevelFacet at m f (m.over g s) → Has vs (m.over g s)
+  grows : (g : ℕ) → In g m.live → (s : Side) → In g vs → IsLevelFacet at m f (m.over g s) → In (m.over g s) vs
   grows g i s e level = found_over (IsLevelFacet at m f) fs before after f vs w g s e level
       (λ h. new (m.over g s) ((live_is_marked fs (m.over g s)).0 (z.whole g i s).live) h level)
 
-  found : (g : ℕ) → IsLive fs g → IsLevelFacet at m f g → Has vs g
-  found g l = plane_walk_finds_all at ids m z f (lives f live) (is_listed vs) (record { has = w.start; grows = grows }) g (lives g l)
+  found : (g : ℕ) → IsLive fs g → IsLevelFacet at m f g → In g vs
+  found g l level = listed_in vs g (plane_walk_finds_all at ids m z f (lives f live) (is_listed vs)
+      (record { has = in_listed vs f w.start; grows = λ g i s e x. in_listed vs (m.over g s) (grows g i s (listed_in vs g e) x) }) g (lives g l) level)
 
   module _ (corners q : List ℕ) (members : (i : ℕ) → In i corners ↔ IsListedCorner fs vs i) where
     -- the corners are ids
@@ -93,8 +94,7 @@ module _ (pts : List Vector) (ids : List ℕ) (fs : List StoredFacet) (f : ℕ) 
           extreme (along_itself normal) polygon;
     }
       where
-        only : (g : ℕ) → (mark_at before g ≡ true) ⊎ (is_listed vs g ≡ true)
-            → (mark_at before g ≡ true) ⊎ (IsLive fs g × IsLevelFacet at m f g)
+        only : (g : ℕ) → (mark_at before g ≡ true) ⊎ In g vs → (mark_at before g ≡ true) ⊎ (IsLive fs g × IsLevelFacet at m f g)
         only g (inl h) = inl h
         only g (inr h) = inr (on_live g h, on_level g h)
 

@@ -1,45 +1,48 @@
 -- The rings of large cones: what their wedges are, and what the answers of a search come to.
-use Rattle.std.proofs.Common.{◌≡◌, ℕ, ◌+◌, ◌*◌, ◌/◌, ◌<◌, arith, ap, sym, ◌∙◌, refl, List, [], ◌∷◌, ◌++◌, length, inl, inr}
-use Rattle.std.specs.Prelude.{ℤ, pos, ◌≤ℤ◌, ◌<ℤ◌}
+use Rattle.std.proofs.Common.{All, slice_index, ◌≡◌, ℕ, ◌+◌, ◌*◌, ◌/◌, ◌<◌, arith, ap, sym, ◌∙◌, refl, List, [], ◌∷◌, ◌++◌, length, inl, inr}
+use Rattle.std.specs.Prelude.{slice_index_or, ℤ, pos, ◌≤ℤ◌, ◌<ℤ◌}
 use Rattle.std.proofs.lemmas.Int.{ints}
 use Rattle.std.proofs.lemmas.List.{get_or_append_left, get_or_push, length_push}
 use Rattle.qh_model.specs.headline.Vector.{Vector}
 use Rattle.qh_model.specs.headline.Predicates.{vol, place}
 use Rattle.qh_model.specs.contract.FinishedSurface.{weighted_at}
 use Rattle.qh_model.specs.contract.Surface.{IsCorner}
-use Rattle.qh_model.specs.contract.Surface.Side.{second}
+use Rattle.qh_model.specs.contract.Surface.Side.{second, third}
 use Rattle.qh_model.specs.contract.StoredSurface.{StoredFacet, facet_at, surface_of}
+use Rattle.std.proofs.lemmas.List.Elements.{All-from_get_or}
+use Rattle.qh_model.specs.headline.Sets.{In}
+use Rattle.qh_model.proofs.Members.{All-In, All-of, In-get_or, in_at}
 use Rattle.qh_model.proofs.algebra.VectorIdentities.{vol-flip, vol-flip_last, vol-swap_last}
 use Rattle.qh_model.proofs.surfaces.ConeRays.{between_rays}
 use Rattle.qh_model.proofs.surfaces.SurfaceLaws.{corners_are_settled}
 use Rattle.qh_pred.specs.contract.Planes.{PlaneValue, height}
-use Rattle.qh_mesh.specs.declared.facets.FacetNo.{FacetNo}
-use Rattle.qh_mesh.specs.contract.Replacement.{number, IsReplacement, twin_of}
+use Rattle.qh_mesh.specs.contract.Edges.{edge_of, facet_of, twin_of}
+use Rattle.qh_mesh.specs.contract.Replacement.{IsLive, IsReplacement}
 use Rattle.qh_mesh.specs.contract.SoundMesh.{facet_vol}
-use Rattle.qh_mesh.proofs.EdgeSides.{twin-is}
+use Rattle.qh_mesh.proofs.EdgeSides.{edge-facet, twin-is}
 use Rattle.qh_mesh.proofs.Rewiring.{in_live, rise-vol}
 use Rattle.qh_mesh.proofs.NumberCases.{by_le}
 use Rattle.qh_block.specs.steps.Planes.{plane_at}
-use Rattle.qh_block.specs.steps.Runs.{Names, IsPlaneOf, IsGrown}
+use Rattle.qh_block.specs.steps.Runs.{IsPlaneOf, IsGrown}
 use Rattle.qh_block.specs.steps.Settling.{IsAboveNone}
 use Rattle.qh_block.specs.steps.Cones.{IsFan, apex_of, HasNoCornerAbove, no_wedge, wedge_at, IsConePlane, IsWedge, AreWedges}
 use Rattle.qh_block.specs.steps.Cones.{AreTriangles, IsBetweenRays, IsAmongRays}
 use Rattle.qh_block.specs.declared.quickhull.cone_ring.Wedge.{Wedge}
-use Rattle.qh_block.proofs.runs.NamedFacets.{AreLive}
 
 -- ---- the facets of a cone
 -- the neighbour over the second side was made
-pub fan_next : {fs : List StoredFacet} {made : List FacetNo} {f g : ℕ} → IsFan fs made → g ≡ twin_of fs (3 * f + 1) / 3
-    → Names made f → Names made g
-fan_next k e n = rw e (k.closed _ n)
+pub fan_next : {fs : List StoredFacet} {made : List ℕ} {g : ℕ} (f : ℕ) → IsFan fs made → g ≡ facet_of (twin_of fs (edge_of f second)) → In f made → In g made
+fan_next f k e n = rw e (k.closed f n)
 
 -- what a replacement made is a cone
-pub cone_fan : {old new : List StoredFacet} {vs made : List FacetNo} {apex : ℕ} → IsReplacement old new vs apex made → IsFan new made
-cone_fan {new} {made} {apex} r = record { apex = apex; turned = λ j l. (r.cone j l).third; closed = closed }
+pub cone_fan : {old new : List StoredFacet} {vs made : List ℕ} {apex : ℕ} → IsReplacement old new vs apex made → IsFan new made
+cone_fan {new} {made} {apex} r = record { apex = apex; turned = All-from_get_or (λ f. (facet_at new f).k ≡ apex) made 0 (λ j l. (r.cone j l).third); closed = closed }
   where
-    closed : (f : ℕ) → Names made f → Names made (twin_of new (3 * f + 1) / 3)
-    closed f (j, l, e) =
-        let t = twin-is new f second ∙ ap (λ g. (facet_at new g).jk) e ∙ r.next_twin j l in (r.next j, r.next_in j l, omega arith)
+    closed : (f : ℕ) → In f made → In (facet_of (twin_of new (edge_of f second))) made
+    closed f i =
+        let (j, l, e) = in_at made f i in let g = slice_index made (r.next j) in
+        let t = twin-is new f second ∙ ap (λ g. (facet_at new g).jk) (sym e) ∙ r.next_twin j l in
+        rw (t, edge-facet g third) (In-get_or made (r.next j) 0 (r.next_in j l))
 
 -- no corner of a mesh that grows is above a facet
 pub grown_corners : {pts : List Vector} {fs : List StoredFacet} → IsGrown pts fs → HasNoCornerAbove pts fs
@@ -58,7 +61,7 @@ vol_turn a b c p = let e = vol-flip_last a c b p in let f = vol-flip a c b p in 
 rest_turn : (a b c d : Vector) → vol a b c d ≡ vol a d b c
 rest_turn a b c d = let e = vol-swap_last a b c d in let f = vol-flip_last a d b c in omega (arith, ints)
 
-module _ (pts : List Vector) (fs : List StoredFacet) (ps : List PlaneValue) (made : List FacetNo) where
+module _ (pts : List Vector) (fs : List StoredFacet) (ps : List PlaneValue) (made : List ℕ) where
   -- the corners of a facet where a wedge begins and ends
   abbrev from_of : ℕ → Vector
   from_of f = place pts (facet_at fs f).i
@@ -67,29 +70,34 @@ module _ (pts : List Vector) (fs : List StoredFacet) (ps : List PlaneValue) (mad
   to_of f = place pts (facet_at fs f).j
 
   -- of a facet that was made, the plane is that of a triangle at the apex
-  made_plane : IsFan fs made → (f : ℕ) → IsPlaneOf pts fs ps f → Names made f
+  made_plane : IsFan fs made → (f : ℕ) → IsPlaneOf pts fs ps f → In f made
       → (q : Vector) → height (plane_at ps f) q ≡ vol (apex_of pts fs made) (from_of f) (to_of f) q
-  made_plane fan f p (j, l, e) q =
-      let turned = ap (λ g. (facet_at fs g).k) e ∙ fan.turned j l ∙ sym (fan.turned 0 (omega arith)) in
+  made_plane fan f p i q =
+      let some : 0 < length made = (let l = (in_at made f i).1 in omega arith) in
+      let turned = All-In (λ g. (facet_at fs g).k ≡ fan.apex) made f fan.turned i ∙ sym (fan.turned 0 0 some) in
       p.1 q ∙ vol_turn (from_of f) (to_of f) (place pts (facet_at fs f).k) q ∙ ap (λ n. vol (place pts n) (from_of f) (to_of f) q) turned
 
   -- a facet that was made is a wedge
-  pub read_wedge : AreLive fs made → HasNoCornerAbove pts fs → ((g : ℕ) → Names made g → IsPlaneOf pts fs ps g) → IsFan fs made
-      → (f : FacetNo) → Names made f.0
-      → IsWedge ps made (apex_of pts fs made) (record { facet = f; plane = plane_at ps f.0; from = from_of f.0; to = to_of f.0 })
+  pub read_wedge : All (IsLive fs) made → HasNoCornerAbove pts fs → All (IsPlaneOf pts fs ps) made → IsFan fs made → (f : ℕ) → In f made
+      → IsWedge ps made (apex_of pts fs made) (record { facet = f; plane = plane_at ps f; from = from_of f; to = to_of f })
   read_wedge live above planes fan f n = record {
     named = n;
     plane = refl;
-    triangle = made_plane fan f.0 (planes f.0 n) n;
-    below = λ j l. let g = number made j in let p = planes g (j, l, refl) in
-        let h = above g f.0 (live j l) (rw n.2 (live n.0 n.1)) in record {
-          b = from_of g;
-          c = to_of g;
-          triangle = made_plane fan g p (j, l, refl);
-          from_below = rw (p.1 (from_of f.0)) h.0;
-          to_below = rw (p.1 (to_of f.0)) h.1;
-        };
+    triangle = made_plane fan f (planes_of f n) n;
+    below = All-of (λ g. IsConePlane (apex_of pts fs made) (record { facet = f; plane = plane_at ps f; from = from_of f; to = to_of f }) (plane_at ps g)) made (λ g i. let p = planes_of g i in let h = above g f (lives g i) (lives f n) in record {
+      b = from_of g;
+      c = to_of g;
+      triangle = made_plane fan g p i;
+      from_below = rw (p.1 (from_of f)) h.0;
+      to_below = rw (p.1 (to_of f)) h.1;
+    });
   }
+    where
+      lives : (g : ℕ) → In g made → IsLive fs g
+      lives g = All-In (IsLive fs) made g live
+
+      planes_of : (g : ℕ) → In g made → IsPlaneOf pts fs ps g
+      planes_of g = All-In (IsPlaneOf pts fs ps) made g planes
 
 -- what holds of each wedge, and of one more
 pub each_more : (P : Wedge → Type 0) (ws : List Wedge) (w : Wedge) → ((i : ℕ) → i < length ws → P (wedge_at ws i)) → P w
@@ -122,11 +130,10 @@ among {a} {p} {ws} i v w half l ev ew t h s u f g = record { place = i; within =
     }
 
 -- a point among rays is above none of the facets
-pub among_unseen : {ps : List PlaneValue} {made : List FacetNo} {a p : Vector} {ws : List Wedge}
-    → AreWedges ps made a ws → IsAmongRays a ws p → IsAboveNone ps made p
-among_unseen {ps} {made} {a} {p} {ws} k r j l =
+pub among_unseen : {ps : List PlaneValue} {made : List ℕ} {a p : Vector} {ws : List Wedge} → AreWedges ps made a ws → IsAmongRays a ws p → IsAboveNone ps made p
+among_unseen {ps} {made} {a} {p} {ws} k r j d l =
     rw (own.triangle p) (between_rays a x y z own.b own.c p r.between.spans r.between.after_y r.between.after_z r.between.after_x
-    (rw (← own.triangle x) ((k 0 (let h = r.within in omega arith)).below j l).from_below)
+    (rw (← own.triangle x) ((k 0 (let h = r.within in omega arith)).below j d l).from_below)
     (rw (← own.triangle y) own.from_below) (rw (← own.triangle z) own.to_below))
   where
     x : Vector
@@ -138,5 +145,5 @@ among_unseen {ps} {made} {a} {p} {ws} k r j l =
     z : Vector
     z = (wedge_at ws r.place).to
 
-    own : IsConePlane a (wedge_at ws r.place) (plane_at ps (number made j))
-    own = (k r.place r.within).below j l
+    own : IsConePlane a (wedge_at ws r.place) (plane_at ps (slice_index_or made j d))
+    own = (k r.place r.within).below j d l

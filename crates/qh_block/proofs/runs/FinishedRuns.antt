@@ -1,5 +1,5 @@
 -- From facets that were made to the next round, and from the last round to a finished surface.
-use Rattle.std.proofs.Common.{◌≡◌, ℕ, ◌<◌, ◌≤◌, sym, ◌∙◌, refl, inl, inr, List, [], ◌∷◌, length, subst}
+use Rattle.std.proofs.Common.{All, ◌≡◌, ℕ, ◌<◌, ◌≤◌, sym, ◌∙◌, refl, inl, inr, List, [], ◌∷◌, length, subst}
 use Rattle.std.specs.Prelude.{pos, ◌<ℤ◌}
 use Rattle.qh_model.specs.headline.Vector.{Vector, origin}
 use Rattle.qh_model.specs.headline.Predicates.{place}
@@ -14,21 +14,18 @@ use Rattle.qh_model.proofs.lists.Ranges.{range_has, range_below}
 use Rattle.qh_model.proofs.algebra.Signs.{less_one_way}
 use Rattle.qh_model.proofs.surfaces.Finished.{facets_support}
 use Rattle.qh_pred.specs.contract.Planes.{PlaneValue}
-use Rattle.qh_mesh.specs.declared.facets.FacetNo.{FacetNo}
 use Rattle.qh_mesh.specs.contract.Replacement.{IsLive}
 use Rattle.qh_mesh.specs.contract.SoundMesh.{IsClosedMesh}
 use Rattle.qh_mesh.proofs.Rewiring.{live_in, in_live}
 use Rattle.qh_block.specs.steps.Planes.{ArePlanes}
 use Rattle.qh_block.specs.steps.OutsideSets.{OutsideValue, set_of}
-use Rattle.qh_block.specs.steps.Runs.{IsDone, Names, AreWithin, IsGrown, IsUnderWay, IsSettling, IsRemade}
+use Rattle.qh_block.specs.steps.Runs.{IsDone, IsGrown, IsUnderWay, IsSettling, IsRemade}
 
 -- once all orphans are settled and the facets with outside sets wait, the next round may begin
-pub next_round : {pts : List Vector} {fs : List StoredFacet} {old ps : List PlaneValue} {v w : OutsideValue}
-    {pending made waiting : List FacetNo}
+pub next_round : {pts : List Vector} {fs : List StoredFacet} {old ps : List PlaneValue} {v w : OutsideValue} {pending made waiting : List ℕ}
     → IsRemade pts fs old v pending made → ArePlanes (place pts) fs ps → IsSettling pts fs w pending made → w.orphans ≡ []
-    → w.positions ≡ v.positions → length fs ≤ length w.sets → AreWithin (length w.sets) waiting
-    → ((f : ℕ) → Names pending f → Names waiting f) → ((f p : ℕ) → Names made f → In p (set_of w f) → Names waiting f)
-    → IsUnderWay pts fs ps w waiting
+    → w.positions ≡ v.positions → length fs ≤ length w.sets → All (λ f. f < length w.sets) waiting → ((f : ℕ) → In f pending → In f waiting)
+    → ((f p : ℕ) → In f made → In p (set_of w f) → In f waiting) → IsUnderWay pts fs ps w waiting
 next_round k planes z o e room within kept more = record {
   grown = k.grown;
   planes = planes;

@@ -1,7 +1,8 @@
 -- How a run starts: the facets of a simplex, and every position an orphan.
-use Rattle.std.proofs.Common.{◌≡◌, ◌≢◌, ℕ, zero, suc, ◌<◌, arith, sym, refl, inl, inr, List, [], ◌∷◌, length, subst}
+use Rattle.std.proofs.Common.{All, ◌≡◌, ◌≢◌, ℕ, zero, suc, ◌<◌, arith, sym, refl, inl, inr, List, [], ◌∷◌, length, subst}
 use Rattle.std.specs.Prelude.{slice_index_or, pos, ◌<ℤ◌, ◌≤ℤ◌}
 use Rattle.std.specs.List.{range_with_len}
+use Rattle.std.proofs.lemmas.List.Elements.{All-from_recursion, All-nil}
 use Rattle.std.proofs.lemmas.Int.{ints, by_lt_z}
 use Rattle.qh_model.specs.headline.Vector.{Vector}
 use Rattle.qh_model.specs.headline.Predicates.{place, vol}
@@ -9,19 +10,18 @@ use Rattle.qh_model.specs.headline.Sets.{In}
 use Rattle.qh_model.specs.contract.Weighted.{weighted}
 use Rattle.qh_model.specs.contract.FinishedSurface.{middle_at}
 use Rattle.qh_model.specs.contract.StoredSurface.{StoredFacet, facet_at}
-use Rattle.qh_model.proofs.Members.{In-get_or}
+use Rattle.qh_model.proofs.Members.{All-In, In-get_or}
 use Rattle.qh_model.proofs.algebra.VectorIdentities.{vol-flip_last}
 use Rattle.qh_plane.specs.contract.Shapes.{IsInLine, IsInPlane, IsFirstNot, AreFirstTwo, dimension_of}
 use Rattle.qh_block.specs.steps.Simplexes.{IsSimplexOf}
 use Rattle.qh_plane.specs.declared.shape.Shape.{Shape}
 use Rattle.qh_plane.specs.declared.shape.Shape.TheVariants.{Point, Segment, Flat, Solid}
-use Rattle.qh_mesh.specs.declared.facets.FacetNo.{FacetNo}
-use Rattle.qh_mesh.specs.contract.Replacement.{number, IsLive}
+use Rattle.qh_mesh.specs.contract.Replacement.{IsLive}
 use Rattle.qh_mesh.specs.contract.SoundMesh.{IsSoundMesh, IsClosedMesh, simplex_facets}
 use Rattle.qh_model.proofs.surfaces.Simplex.{middle-turned}
 use Rattle.qh_model.proofs.lists.Ranges.{range_has}
 use Rattle.qh_block.specs.steps.OutsideSets.{OutsideValue, set_of}
-use Rattle.qh_block.specs.steps.Runs.{height_at, Names, IsGrown, IsRemade}
+use Rattle.qh_block.specs.steps.Runs.{height_at, IsGrown, IsRemade}
 use Rattle.qh_block.proofs.flats.Lines.{first_two_in}
 
 -- the corners of facet f are below n
@@ -29,21 +29,21 @@ abbrev CornersBelow : ℕ → List StoredFacet → ℕ → Type 0
 CornersBelow n fs f = ((facet_at fs f).i < n) × ((facet_at fs f).j < n) × ((facet_at fs f).k < n)
 
 -- the four facets of a simplex
-abbrev pub four_facets : List FacetNo
-four_facets = record { 0 = 0 } ∷ record { 0 = 1 } ∷ record { 0 = 2 } ∷ record { 0 = 3 } ∷ []
+abbrev pub four_facets : List ℕ
+four_facets = 0 ∷ 1 ∷ 2 ∷ 3 ∷ []
 
 -- each live facet of a simplex is one of the four, with three of its corners
 simplex_facet : (n a b c d : ℕ) → a < n → b < n → c < n → d < n → (f : ℕ) → IsLive (simplex_facets a b c d) f
-    → Names four_facets f × CornersBelow n (simplex_facets a b c d) f
-simplex_facet n a b c d ia ib ic id zero l = ((0, omega arith, refl), (ia, ib, ic))
-simplex_facet n a b c d ia ib ic id (suc zero) l = ((1, omega arith, refl), (ia, id, ib))
-simplex_facet n a b c d ia ib ic id (suc (suc zero)) l = ((2, omega arith, refl), (ia, ic, id))
-simplex_facet n a b c d ia ib ic id (suc (suc (suc zero))) l = ((3, omega arith, refl), (ib, id, ic))
+    → In f four_facets × CornersBelow n (simplex_facets a b c d) f
+simplex_facet n a b c d ia ib ic id zero l = (inl refl, (ia, ib, ic))
+simplex_facet n a b c d ia ib ic id (suc zero) l = (inr (inl refl), (ia, id, ib))
+simplex_facet n a b c d ia ib ic id (suc (suc zero)) l = (inr (inr (inl refl)), (ia, ic, id))
+simplex_facet n a b c d ia ib ic id (suc (suc (suc zero))) l = (inr (inr (inr (inl refl))), (ib, id, ic))
 simplex_facet n a b c d ia ib ic id (suc (suc (suc (suc f)))) l = absurd (cc)
 
 -- and the four are live
-four_live : (a b c d j : ℕ) → j < length four_facets → IsLive (simplex_facets a b c d) (number four_facets j)
-four_live a b c d j l = grind (arith, l)
+four_live : (a b c d : ℕ) → All (IsLive (simplex_facets a b c d)) four_facets
+four_live a b c d = All-from_recursion (IsLive (simplex_facets a b c d)) four_facets (refl, (refl, (refl, (refl, tt))))
 
 -- the mesh of a simplex of four points
 pub record IsFirst (pts : List Vector) (fs : List StoredFacet) (i j k l : ℕ) : Type 0 where
@@ -60,8 +60,8 @@ pub record IsFirst (pts : List Vector) (fs : List StoredFacet) (i j k l : ℕ) :
 -- a run may start with it
 record IsStarted (pts : List Vector) (fs : List StoredFacet) : Type 0 where
   grown : IsGrown pts fs
-  named : (f : ℕ) → IsLive fs f → Names four_facets f
-  live : (j : ℕ) → j < length four_facets → IsLive fs (number four_facets j)
+  named : (f : ℕ) → IsLive fs f → In f four_facets
+  live : All (IsLive fs) four_facets
 
 module _ {pts : List Vector} {fs : List StoredFacet} {i j k l : ℕ} (h : IsFirst pts fs i j k l) where
   abbrev at : ℕ → Vector
@@ -86,10 +86,10 @@ module _ {pts : List Vector} {fs : List StoredFacet} {i j k l : ℕ} (h : IsFirs
       corners = λ f m. (rw is (facet f (rw is at m)).1);
     };
     named = λ f m. (facet f (rw is at m)).0;
-    live = λ n m. subst (λ (gs : List StoredFacet). IsLive gs (number four_facets n)) (sym is) (four_live a b c d n m);
+    live = rw is (four_live a b c d);
   }
     where
-      facet : (f : ℕ) → IsLive (simplex_facets a b c d) f → Names four_facets f × CornersBelow (length pts) (simplex_facets a b c d) f
+      facet : (f : ℕ) → IsLive (simplex_facets a b c d) f → In f four_facets × CornersBelow (length pts) (simplex_facets a b c d) f
       facet = simplex_facet (length pts) a b c d ia ib ic id
 
   -- it is turned outward
@@ -108,12 +108,12 @@ first_remade pts fs v i j k l h p o s = record {
   planes = λ f a. inr (t.named f a);
   made_live = t.live;
   positions = p;
-  range = λ n b. absurd (omega arith);
+  range = All-nil (λ f. f < length v.sets);
   settling = record {
     outside = λ f q m. absurd (nothing f q m);
     waits = λ f q m. absurd (nothing f q m);
     all = λ q b. inl (subst (In q) (sym o) (range_has (length pts) q b));
-    drops = λ q m u f a. let n = t.named f a in subst (λ g. height_at pts fs g q ≤ℤ pos 0) (sym n.2) (u n.0 n.1);
+    drops = λ q m u f a. All-In (λ g. height_at pts fs g q ≤ℤ pos 0) four_facets f u (t.named f a);
   };
 }
   where

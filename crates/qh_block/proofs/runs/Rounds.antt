@@ -1,5 +1,5 @@
 -- A round of Quickhull: where a cone replaces what the apex sees, the released points are all that must be looked at.
-use Rattle.std.proofs.Common.{◌≡◌, ℕ, ◌<◌, arith, ap, sym, ◌∙◌, true, ◌⊎◌, inl, inr, List, length, get_or, subst}
+use Rattle.std.proofs.Common.{All, ◌≡◌, ℕ, ◌<◌, arith, ap, sym, ◌∙◌, true, ◌⊎◌, inl, inr, List, length, get_or, subst}
 use Rattle.std.specs.Prelude.{pos, ◌<ℤ◌, ◌≤ℤ◌}
 use Rattle.std.proofs.lemmas.List.{get_or_read}
 use Rattle.std.proofs.lemmas.Bool.{cases_Bool}
@@ -14,18 +14,19 @@ use Rattle.qh_model.specs.contract.Rewired.{IsHorizonSide, IsTriangle, IsRewired
 use Rattle.qh_model.specs.laws.Horizons.{IsConeUnseen}
 use Rattle.qh_model.specs.laws.UnseenPoints.{IsUnseen}
 use Rattle.qh_model.specs.contract.StoredSurface.{StoredFacet, facet_at, surface_of}
+use Rattle.std.proofs.lemmas.List.Elements.{All-from_get_or}
+use Rattle.qh_model.proofs.Members.{All-In}
 use Rattle.qh_model.proofs.surfaces.SurfaceLaws.{rise_is_vol, settled_stay_unseen, corners_are_settled, added_is_settled}
 use Rattle.qh_model.proofs.surfaces.Unseen.{dropped_stay_unseen}
 use Rattle.qh_model.proofs.algebra.Signs.{not_less}
 use Rattle.qh_pred.specs.contract.Planes.{PlaneValue}
-use Rattle.qh_mesh.specs.declared.facets.FacetNo.{FacetNo}
-use Rattle.qh_mesh.specs.contract.Replacement.{number, is_listed, IsLive, IsKept, IsReplacement}
+use Rattle.qh_mesh.specs.contract.Replacement.{is_listed, IsLive, IsKept, IsReplacement}
 use Rattle.qh_mesh.specs.contract.SoundMesh.{facet_vol, IsSoundMesh, IsClosedMesh, AreVisible}
+use Rattle.qh_mesh.proofs.ListedFacets.{in_listed, listed_in}
 use Rattle.qh_mesh.proofs.Rewiring.{live_in, in_live, rise-vol}
 use Rattle.qh_block.specs.steps.OutsideSets.{OutsideValue, set_of}
-use Rattle.qh_block.specs.steps.Runs.{height_at, IsDone, Names, IsOutside, HasCornersBelow, IsPicked, IsRemade}
+use Rattle.qh_block.specs.steps.Runs.{height_at, IsDone, IsOutside, HasCornersBelow, IsPicked, IsPlaneOf, IsRemade}
 use Rattle.qh_block.specs.steps.Settling.{AreReleased}
-use Rattle.qh_block.proofs.runs.NamedFacets.{names_listed, listed_names}
 use Rattle.qh_block.proofs.LiveFacets.{live_below}
 
 -- a point that no facet of the surface sees
@@ -37,14 +38,14 @@ module _ (pts : List Vector) (fs : List StoredFacet) (p : ℕ) where
   done_of u f l = rw (rise-vol (place pts) fs f p) at (u f (in_live fs f l))
 
 -- what a round has after its replacement: the mesh, the facets that the apex saw, those that were made
-pub record IsRound (pts : List Vector) (old new : List StoredFacet) (vs : List FacetNo) (a : ℕ) (made : List FacetNo) : Type 0 where
+pub record IsRound (pts : List Vector) (old new : List StoredFacet) (vs : List ℕ) (a : ℕ) (made : List ℕ) : Type 0 where
   pub visible : AreVisible (place pts) old vs a
   pub replaced : IsReplacement old new vs a made
   pub rewired : IsRewired (surface_of old) (surface_of new) (weighted_at (place pts)) a
   pub sound : (o : Weighted) → IsSoundMesh (place pts) old o → IsSoundMesh (place pts) new o
   pub closed : IsClosedMesh (place pts) new
 
-module _ {pts : List Vector} {old new : List StoredFacet} {vs made : List FacetNo} {a : ℕ} (d : IsRound pts old new vs a made) where
+module _ {pts : List Vector} {old new : List StoredFacet} {vs made : List ℕ} {a : ℕ} (d : IsRound pts old new vs a made) where
   abbrev at : ℕ → Vector
   at = place pts
 
@@ -79,8 +80,7 @@ module _ {pts : List Vector} {old new : List StoredFacet} {vs made : List FacetN
   -- around a point in the old mesh
   module _ {o : Weighted} (z : IsSoundMesh (place pts) old o) where
     -- the cone is made of the facets that were made
-    cone_unseen : (q : ℕ) → ((j : ℕ) → j < length made → height_at pts new (number made j) q ≤ℤ pos 0)
-        → IsConeUnseen m home (home a) (home q)
+    cone_unseen : (q : ℕ) → All (λ f. height_at pts new f q ≤ℤ pos 0) made → IsConeUnseen m home (home a) (home q)
     cone_unseen q h f i s k b = subst (λ v. v ≤ℤ pos 0) (sym same) (by (d.replaced.only g (live_in new g t.live)))
       where
         g : ℕ
@@ -94,12 +94,11 @@ module _ {pts : List Vector} {old new : List StoredFacet} {vs made : List FacetN
             rise_is_vol (at (start m f s)) (at (end m f s)) (at a) (at q)
             ∙ sym (λ n. vol (at (t.i_is n)) (at (t.j_is n)) (at (t.k_is n)) (at q))
 
-        by : IsKept old vs (d.rewired.number f s) ⊎ Names made (d.rewired.number f s)
-            → facet_vol at new (d.rewired.number f s) (at q) ≤ℤ pos 0
+        by : IsKept old vs (d.rewired.number f s) ⊎ In (d.rewired.number f s) made → facet_vol at new (d.rewired.number f s) (at q) ≤ℤ pos 0
         by (inl x) =
             let c = inr (inr (sym t.k_is ∙ (d.replaced.kept g x).k_is)) in let r = d.rewired in
             absurd (not_less _ _ r.seen (corners_are_settled m home o z.1 r.f0 g r.live (in_live old g x.live) a c))
-        by (inr (j, l, e)) = rw e (h j l)
+        by (inr x) = All-In (λ f. height_at pts new f q ≤ℤ pos 0) made g h x
 
     -- a point that no facet saw is seen by none
     still_done : (p : ℕ) → IsDone pts old p → IsDone pts new p
@@ -107,7 +106,7 @@ module _ {pts : List Vector} {old new : List StoredFacet} {vs made : List FacetN
 
     -- nor is one that saw a facet that went and sees none that was made
     drop_done : (p g : ℕ) → IsLive old g → is_listed vs g ≡ true → pos 0 <ℤ height_at pts old g p
-        → ((j : ℕ) → j < length made → height_at pts new (number made j) p ≤ℤ pos 0) → IsDone pts new p
+        → All (λ f. height_at pts new f p ≤ℤ pos 0) made → IsDone pts new p
     drop_done p g l e s h f b = by (d.replaced.only f b)
       where
         blind : (f : ℕ) → IsKept old vs f → height_at pts old f p ≤ℤ pos 0
@@ -115,13 +114,13 @@ module _ {pts : List Vector} {old new : List StoredFacet} {vs made : List FacetN
             (rw (rise-vol at old g a) (d.visible.seen g l e)) (rw (rise-vol at old g p) s) (cone_unseen p h)
             f (in_live old f k.live) (rw (rise-vol at old f a) (d.visible.unseen f k.live k.unlisted)))
 
-        by : IsKept old vs f ⊎ Names made f → height_at pts new f p ≤ℤ pos 0
+        by : IsKept old vs f ⊎ In f made → height_at pts new f p ≤ℤ pos 0
         by (inl k) = rw (stays-vol f (at p) k) (blind f k)
-        by (inr (j, i, q)) = rw q (h j i)
+        by (inr i) = All-In (λ f. height_at pts new f p ≤ℤ pos 0) made f h i
 
 -- then the points that were released are all that must be looked at
 pub remade : {pts : List Vector} {old new : List StoredFacet} {ps : List PlaneValue} {v w : OutsideValue}
-    {pending vs made : List FacetNo} {f a : ℕ} → IsPicked pts old ps v pending f a → IsRound pts old new vs a made → AreReleased v w vs
+    {pending vs made : List ℕ} {f a : ℕ} → IsPicked pts old ps v pending f a → IsRound pts old new vs a made → AreReleased v w vs
     → w.positions ≡ v.positions → length w.sets ≡ length v.sets → IsRemade pts new ps w pending made
 remade {pts} {old} {new} {ps} {v} {w} {pending} {vs} {made} {f} {a} k d rel e n = record {
   grown = record {
@@ -145,9 +144,9 @@ remade {pts} {old} {new} {ps} {v} {w} {pending} {vs} {made} {f} {a} k d rel e n 
     )
     | inr h ↦ inr h
   ];
-  made_live = λ j l. (d.replaced.cone j l).live;
+  made_live = All-from_get_or (IsLive new) made 0 (λ j l. (d.replaced.cone j l).live);
   positions = e ∙ k.positions;
-  range = λ j l. let h = k.range j l in omega arith;
+  range = rw n k.range;
   settling = record {
     outside = λ g p i. let h = stays g p i in
         ((d.replaced.kept g h).live, rw (stays-vol d g (place pts p) h) (k.outside g p (rel.kept g p i)).1);
@@ -155,7 +154,7 @@ remade {pts} {old} {new} {ps} {v} {w} {pending} {vs} {made} {f} {a} k d rel e n 
     all = λ p l. all p (k.all p l);
     drops = λ p i u. elim (rel.orphans p i) [
       | inl h ↦ absurd (subst (In p) k.none h)
-      | inr h ↦ let b = k.outside h.0 p h.2 in drop_done d k.grown.sound p h.0 b.0 (names_listed vs h.0 h.1) b.1 u
+      | inr h ↦ let b = k.outside h.0 p h.2 in drop_done d k.grown.sound p h.0 b.0 (in_listed vs h.0 h.1) b.1 u
     ];
   };
 }
@@ -163,7 +162,7 @@ remade {pts} {old} {new} {ps} {v} {w} {pending} {vs} {made} {f} {a} k d rel e n 
     -- a facet with an outside set stays
     stays : (g p : ℕ) → In p (set_of w g) → IsKept old vs g
     stays g p i = elim (cases_Bool (is_listed vs g)) [
-      | inl h ↦ absurd (subst (In p) (rel.emptied g (listed_names vs g h)) i)
+      | inl h ↦ absurd (subst (In p) (rel.emptied g (listed_in vs g h)) i)
       | inr h ↦ record { live = (k.outside g p (rel.kept g p i)).0; unlisted = h }
     ]
 

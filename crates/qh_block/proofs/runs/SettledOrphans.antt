@@ -1,52 +1,51 @@
 -- How orphans are released and settled.
-use Rattle.std.proofs.Common.{◌≡◌, ℕ, ◌<◌, ap, sym, refl, ◌⊎◌, inl, inr, List, [], ◌∷◌, ◌++◌, length, drop, subst}
+use Rattle.std.proofs.Common.{All, ◌≡◌, ℕ, ◌<◌, ap, sym, refl, ◌⊎◌, inl, inr, List, [], ◌∷◌, ◌++◌, length, drop, subst}
 use Rattle.std.specs.Prelude.{slice_set, slice_index, slice_index_or, pos, ◌<ℤ◌}
 use Rattle.std.proofs.lemmas.Bool.{cases_eq}
 use Rattle.qh_model.specs.headline.Vector.{Vector, origin}
 use Rattle.qh_model.specs.headline.Predicates.{place}
 use Rattle.qh_model.specs.headline.Sets.{In}
 use Rattle.qh_model.specs.contract.StoredSurface.{StoredFacet}
+use Rattle.qh_model.proofs.Members.{All-In}
 use Rattle.qh_model.proofs.lists.Joined.{of_append, in_append}
 use Rattle.qh_pred.specs.contract.Planes.{PlaneValue, height}
-use Rattle.qh_mesh.specs.declared.facets.FacetNo.{FacetNo}
 use Rattle.qh_mesh.specs.contract.Replacement.{IsLive}
 use Rattle.qh_block.specs.steps.Planes.{plane_at, ArePlanes}
 use Rattle.qh_block.specs.steps.OutsideSets.{OutsideValue, set_of, joined}
-use Rattle.qh_block.specs.steps.Runs.{height_at, IsDone, Names, AreWithin, IsOutside, IsSettling}
+use Rattle.qh_block.specs.steps.Runs.{height_at, IsDone, IsOutside, IsSettling}
 use Rattle.qh_block.specs.steps.Settling.{IsDropped, IsAssigned, IsOneSettled, AreReleased}
-use Rattle.qh_block.proofs.runs.NamedFacets.{AreLive, names_kept, names_last, names_push, names_within, names_none}
 use Rattle.qh_block.proofs.runs.SetWrites.{of_write, write_keeps, write_empty, of_join, join_has, join_keeps}
 
 -- ---- released
 -- of no facet
 pub none_released : (v : OutsideValue) → AreReleased v v []
-none_released v = record { emptied = λ f n. absurd (names_none f n); kept = λ f p i. i; moved = λ f p i. inl i; orphans = λ p i. inl i }
+none_released v = record { emptied = λ f n. absurd n; kept = λ f p i. i; moved = λ f p i. inl i; orphans = λ p i. inl i }
 
 -- of one facet more
-pub more_released : {v0 v w : OutsideValue} {vs : List FacetNo} (x : FacetNo) → AreReleased v0 v vs
-    → w.orphans ≡ set_of v x.0 ++ v.orphans → w.sets ≡ slice_set v.sets x.0 [] → AreReleased v0 w (vs ++ x ∷ [])
+pub more_released : {v0 v w : OutsideValue} {vs : List ℕ} (x : ℕ) → AreReleased v0 v vs
+    → w.orphans ≡ set_of v x ++ v.orphans → w.sets ≡ slice_set v.sets x [] → AreReleased v0 w (vs ++ x ∷ [])
 more_released {v0} {v} {w} {vs} x r o s = record {
-  emptied = λ f n. rw s (write_empty v.sets x.0 f (elim (names_push vs x f n) [ inl m ↦ inr (r.emptied f m) | inr e ↦ inl e ]));
-  kept = λ f p i. r.kept f p (elim (of_write v.sets x.0 [] f p (rw s at i)) [ inl h ↦ absurd h.1 | inr h ↦ h ]);
-  moved = λ f p i. elim (r.moved f p i) [ inl h ↦ moved f p h | inr h ↦ inr (rw o (in_append (set_of v x.0) v.orphans p (inr h))) ];
-  orphans = λ p i. orphans p (of_append (set_of v x.0) v.orphans p (rw o at i));
+  emptied = λ f n. rw s (write_empty v.sets x f
+      (elim (of_append vs (x ∷ []) f n) [ inl m ↦ inr (r.emptied f m) | inr (inl e) ↦ inl e | inr (inr h) ↦ absurd h ]));
+  kept = λ f p i. r.kept f p (elim (of_write v.sets x [] f p (rw s at i)) [ inl h ↦ absurd h.1 | inr h ↦ h ]);
+  moved = λ f p i. elim (r.moved f p i) [ inl h ↦ moved f p h | inr h ↦ inr (rw o (in_append (set_of v x) v.orphans p (inr h))) ];
+  orphans = λ p i. orphans p (of_append (set_of v x) v.orphans p (rw o at i));
 }
   where
     moved : (f p : ℕ) → In p (set_of v f) → In p (set_of w f) ⊎ In p w.orphans
-    moved f p i = elim (cases_eq f x.0) [
-      | inl e ↦ inr (rw o (in_append (set_of v x.0) v.orphans p (inl (rw e at i))))
-      | inr n ↦ inl (rw s (write_keeps v.sets x.0 [] f p n i))
+    moved f p i = elim (cases_eq f x) [
+      | inl e ↦ inr (rw o (in_append (set_of v x) v.orphans p (inl (rw e at i))))
+      | inr n ↦ inl (rw s (write_keeps v.sets x [] f p n i))
     ]
 
-    orphans : (p : ℕ) → In p (set_of v x.0) ⊎ In p v.orphans → In p v0.orphans ⊎ ((f : ℕ) × Names (vs ++ x ∷ []) f × In p (set_of v0 f))
-    orphans p (inl i) = inr (x.0, names_last vs x, r.kept x.0 p i)
-    orphans p (inr i) = elim (r.orphans p i) [ inl h ↦ inl h | inr h ↦ inr (h.0, names_kept vs x h.0 h.1, h.2) ]
+    orphans : (p : ℕ) → In p (set_of v x) ⊎ In p v.orphans → In p v0.orphans ⊎ ((f : ℕ) × In f (vs ++ x ∷ []) × In p (set_of v0 f))
+    orphans p (inl i) = inr (x, in_append vs (x ∷ []) x (inr (inl refl)), r.kept x p i)
+    orphans p (inr i) = elim (r.orphans p i) [ inl h ↦ inl h | inr h ↦ inr (h.0, in_append vs (x ∷ []) h.0 (inl h.1), h.2) ]
 
 -- ---- settled
 -- the sets keep their points and get such as are above facets that were made, and orphans stay, are set or seen by none
-settled_by : {pts : List Vector} {fs : List StoredFacet} {v w : OutsideValue} {pending made : List FacetNo}
-    → IsSettling pts fs v pending made
-    → ((f p : ℕ) → In p (set_of w f) → In p (set_of v f) ⊎ (IsLive fs f × (pos 0 <ℤ height_at pts fs f p) × Names made f))
+settled_by : {pts : List Vector} {fs : List StoredFacet} {v w : OutsideValue} {pending made : List ℕ} → IsSettling pts fs v pending made
+    → ((f p : ℕ) → In p (set_of w f) → In p (set_of v f) ⊎ (IsLive fs f × (pos 0 <ℤ height_at pts fs f p) × In f made))
     → ((p : ℕ) → In p w.orphans → In p v.orphans) → ((f p : ℕ) → In p (set_of v f) → In p (set_of w f))
     → ((p : ℕ) → In p v.orphans → In p w.orphans ⊎ IsOutside w p ⊎ IsDone pts fs p) → IsSettling pts fs w pending made
 settled_by k held rest still placed = record {
@@ -57,7 +56,7 @@ settled_by k held rest still placed = record {
 }
 
 -- the same sets and orphans, in other values
-pub same_settling : {pts : List Vector} {fs : List StoredFacet} {v w : OutsideValue} {pending made : List FacetNo}
+pub same_settling : {pts : List Vector} {fs : List StoredFacet} {v w : OutsideValue} {pending made : List ℕ}
     → ((f : ℕ) → set_of w f ≡ set_of v f) → w.orphans ≡ v.orphans → IsSettling pts fs v pending made → IsSettling pts fs w pending made
 same_settling s o k =
     settled_by k (λ f p i. inl (rw (s f) at i)) (λ p i. rw o at i) (λ f p i. rw (s f) i) (λ p i. inl (rw o i))
@@ -69,9 +68,9 @@ unfolding place
 plane_height pts fs ps f p h l = h.right f l (place pts p)
 
 -- one orphan is settled
-pub one_settled : {pts : List Vector} {fs : List StoredFacet} {ps : List PlaneValue} {v w : OutsideValue}
-    {pending made : List FacetNo} {o : ℕ} → AreLive fs made → ArePlanes (place pts) fs ps → AreWithin (length v.sets) made
-    → v.orphans ≡ o ∷ drop 1 v.orphans → IsOneSettled ps pts made v w → IsSettling pts fs v pending made → IsSettling pts fs w pending made
+pub one_settled : {pts : List Vector} {fs : List StoredFacet} {ps : List PlaneValue} {v w : OutsideValue} {pending made : List ℕ} {o : ℕ}
+    → All (IsLive fs) made → ArePlanes (place pts) fs ps → All (λ f. f < length v.sets) made → v.orphans ≡ o ∷ drop 1 v.orphans
+    → IsOneSettled ps pts made v w → IsSettling pts fs v pending made → IsSettling pts fs w pending made
 one_settled {pts} {fs} {ps} {v} {w} {pending} {made} {o} live planes within first one k =
     elim one.fate [ inl d ↦ dropped d | inr a ↦ assigned a ]
   where
@@ -86,7 +85,7 @@ one_settled {pts} {fs} {ps} {v} {w} {pending} {made} {o} live planes within firs
 
     dropped : IsDropped ps pts made v w → IsSettling pts fs w pending made
     dropped d = settled_by k (λ f p i. inl (rw (d.sets) at i)) rest (λ f p i. rw (d.sets) i) (placed (inr (k.drops o
-        (subst (In o) (sym first) (inl refl)) (λ j h. rw (first-is, plane_height pts fs ps _ o planes (live j h)) at (d.unseen j h)))))
+        (subst (In o) (sym first) (inl refl)) (λ j x h. rw (first-is, plane_height pts fs ps _ o planes (live j x h)) at (d.unseen j x h)))))
 
     assigned : IsAssigned ps pts made v w → IsSettling pts fs w pending made
     assigned a = settled_by k held rest (λ f p i. rw sets (join_keeps v.sets a.facet a.in_front o f p room i))
@@ -96,12 +95,12 @@ one_settled {pts} {fs} {ps} {v} {w} {pending} {made} {o} live planes within firs
         sets = rw first-is at a.sets
 
         room : a.facet < length v.sets
-        room = names_within (length v.sets) made a.facet within a.named
+        room = All-In (λ f. f < length v.sets) made a.facet within a.named
 
         here : IsLive fs a.facet
-        here = rw (a.named.2) (live a.named.0 a.named.1)
+        here = All-In (IsLive fs) made a.facet live a.named
 
-        held : (f p : ℕ) → In p (set_of w f) → In p (set_of v f) ⊎ (IsLive fs f × (pos 0 <ℤ height_at pts fs f p) × Names made f)
+        held : (f p : ℕ) → In p (set_of w f) → In p (set_of v f) ⊎ (IsLive fs f × (pos 0 <ℤ height_at pts fs f p) × In f made)
         held f p i = elim (of_join v.sets a.facet a.in_front o f p (rw sets at i)) [
           | inl h ↦ inr (rw (h.0, h.1) (here, rw (first-is, plane_height pts fs ps a.facet o planes here) at a.seen, a.named))
           | inr h ↦ inl h

@@ -1,38 +1,38 @@
 -- The facets that were made wait for their turn if they have an outside set.
-use Rattle.std.proofs.Common.{◌≡◌, ℕ, ◌<◌, ap, sym, ◌∙◌, inl, inr, List, [], ◌∷◌, ◌++◌, length, subst}
+use Rattle.std.proofs.Common.{All, ◌≡◌, ℕ, ◌<◌, ap, ◌∙◌, inl, inr, List, [], ◌∷◌, ◌++◌, length, subst}
+use Rattle.std.proofs.lemmas.List.Elements.{All-push}
 use Rattle.qh_model.specs.headline.Sets.{In}
-use Rattle.qh_mesh.specs.declared.facets.FacetNo.{FacetNo}
+use Rattle.qh_model.proofs.lists.Joined.{in_append, of_append}
 use Rattle.qh_block.specs.steps.OutsideSets.{OutsideValue, set_of}
-use Rattle.qh_block.specs.steps.Runs.{Names, AreWithin}
-use Rattle.qh_block.proofs.runs.NamedFacets.{names_kept, names_last, names_push, within_push, names_none}
 
 -- those that waited, and of those made the ones with an outside set
-pub record AreQueued (v : OutsideValue) (old new made : List FacetNo) : Type 0 where
-  pub within : AreWithin (length v.sets) old → AreWithin (length v.sets) new
-  pub kept : (f : ℕ) → Names old f → Names new f
-  pub added : (f p : ℕ) → Names made f → In p (set_of v f) → Names new f
+pub record AreQueued (v : OutsideValue) (old new made : List ℕ) : Type 0 where
+  pub within : All (λ f. f < length v.sets) old → All (λ f. f < length v.sets) new
+  pub kept : (f : ℕ) → In f old → In f new
+  pub added : (f p : ℕ) → In f made → In p (set_of v f) → In f new
 
 -- none is added
-pub none_queued : (v : OutsideValue) (old : List FacetNo) → AreQueued v old old []
-none_queued v old = record { within = λ h. h; kept = λ f n. n; added = λ f p n i. absurd (names_none f n) }
+pub none_queued : (v : OutsideValue) (old : List ℕ) → AreQueued v old old []
+none_queued v old = record { within = λ h. h; kept = λ f n. n; added = λ f p n i. absurd n }
 
--- one with a set is
-pub more_queued : (v : OutsideValue) (old new made : List FacetNo) (x : FacetNo) → x.0 < length v.sets
-    → AreQueued v old new made → AreQueued v old (new ++ x ∷ []) (made ++ x ∷ [])
-more_queued v old new made x l q = record {
-  within = λ h. within_push (length v.sets) new x (q.within h) l;
-  kept = λ f n. names_kept new x f (q.kept f n);
-  added = λ f p n i. elim (names_push made x f n) [
-    | inl m ↦ names_kept new x f (q.added f p m i)
-    | inr e ↦ subst (Names (new ++ x ∷ [])) (sym e) (names_last new x)
-  ];
-}
+module _ (v : OutsideValue) (old new made : List ℕ) (x : ℕ) where
+  -- one with a set is
+  pub more_queued : x < length v.sets → AreQueued v old new made → AreQueued v old (new ++ x ∷ []) (made ++ x ∷ [])
+  more_queued l q = record {
+    within = λ h. All-push (λ f. f < length v.sets) new x (q.within h) l;
+    kept = λ f n. in_append new (x ∷ []) f (inl (q.kept f n));
+    added = λ f p n i.
+        in_append new (x ∷ []) f (elim (of_append made (x ∷ []) f n) [ inl m ↦ inl (q.added f p m i) | inr e ↦ inr e ]);
+  }
 
--- one without need not be
-pub more_idle : (v : OutsideValue) (old new made : List FacetNo) (x : FacetNo) → set_of v x.0 ≡ []
-    → AreQueued v old new made → AreQueued v old new (made ++ x ∷ [])
-more_idle v old new made x e q = record {
-  within = q.within;
-  kept = q.kept;
-  added = λ f p n i. elim (names_push made x f n) [ inl m ↦ q.added f p m i | inr h ↦ absurd (subst (In p) (ap (set_of v) h ∙ e) i) ];
-}
+  -- one without need not be
+  pub more_idle : set_of v x ≡ [] → AreQueued v old new made → AreQueued v old new (made ++ x ∷ [])
+  more_idle e q = record {
+    within = q.within;
+    kept = q.kept;
+    added = λ f p n i. elim (of_append made (x ∷ []) f n) [
+      | inl m ↦ q.added f p m i
+      | inr (inl h) ↦ absurd (subst (In p) (ap (set_of v) h ∙ e) i)
+      | inr (inr h) ↦ absurd h
+    ];
+  }

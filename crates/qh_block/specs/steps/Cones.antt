@@ -1,28 +1,29 @@
 -- Large cones: their facets as wedges in a ring round the apex, and what a search through the ring tells of a point.
 -- Source: Barber, Dobkin and Huhdanpaa 1996 (the cone of new facets over the horizon).
-use Rattle.std.specs.Prelude.{◌≡◌, ℕ, ◌+◌, ◌*◌, ◌/◌, ◌<◌, List, length, slice_index_or, pos, ◌≤ℤ◌, ◌<ℤ◌}
+use Rattle.std.specs.Prelude.{All, slice_index, ◌≡◌, ℕ, ◌+◌, ◌*◌, ◌/◌, ◌<◌, List, length, slice_index_or, pos, ◌≤ℤ◌, ◌<ℤ◌}
 use Rattle.qh_model.specs.headline.Vector.{Vector, origin}
+use Rattle.qh_model.specs.headline.Sets.{In}
 use Rattle.qh_model.specs.headline.Predicates.{vol, place}
+use Rattle.qh_model.specs.contract.Surface.Side.{second}
 use Rattle.qh_model.specs.contract.StoredSurface.{StoredFacet, facet_at}
 use Rattle.qh_pred.specs.contract.Planes.{PlaneValue, height}
-use Rattle.qh_mesh.specs.declared.facets.FacetNo.{FacetNo}
-use Rattle.qh_mesh.specs.contract.Replacement.{IsLive, number, twin_of}
+use Rattle.qh_mesh.specs.contract.Replacement.{IsLive}
+use Rattle.qh_mesh.specs.contract.Edges.{edge_of, facet_of, twin_of}
 use Rattle.qh_mesh.specs.contract.SoundMesh.{facet_vol}
 use Rattle.qh_block.specs.steps.Planes.{plane_at}
-use Rattle.qh_block.specs.steps.Runs.{Names}
 use Rattle.qh_block.specs.declared.quickhull.cone_ring.Wedge.{Wedge}
 use Rattle.qh_block.specs.declared.quickhull.cone_search.Asked.{Asked}
 use Rattle.qh_block.specs.declared.quickhull.cone_search.Asked.TheVariants.{Seen, Unseen, Unknown}
 
 -- the facets have one third corner, and with each the list has the neighbour over its second side
-pub record IsFan (fs : List StoredFacet) (made : List FacetNo) : Type 0 where
+pub record IsFan (fs : List StoredFacet) (made : List ℕ) : Type 0 where
   pub apex : ℕ
-  pub turned : (j : ℕ) → j < length made → (facet_at fs (number made j)).k ≡ apex
-  pub closed : (f : ℕ) → Names made f → Names made (twin_of fs (3 * f + 1) / 3)
+  pub turned : All (λ f. (facet_at fs f).k ≡ apex) made
+  pub closed : (f : ℕ) → In f made → In (facet_of (twin_of fs (edge_of f second))) made
 
 -- the point of their third corner
-abbrev pub apex_of : List Vector → List StoredFacet → List FacetNo → Vector
-apex_of pts fs made = place pts (facet_at fs (number made 0)).k
+abbrev pub apex_of : List Vector → List StoredFacet → List ℕ → Vector
+apex_of pts fs made = place pts (facet_at fs (slice_index made 0)).k
 
 -- no corner of a facet is above a facet
 abbrev pub HasNoCornerAbove : List Vector → List StoredFacet → Type 0
@@ -32,7 +33,7 @@ HasNoCornerAbove pts fs = (f g : ℕ) → IsLive fs f → IsLive fs g
 
 -- a wedge past the end
 abbrev pub no_wedge : Wedge
-no_wedge = record { facet = record { 0 = 0 }; plane = record { normal = origin; offset = pos 0 }; from = origin; to = origin }
+no_wedge = record { facet = 0; plane = record { normal = origin; offset = pos 0 }; from = origin; to = origin }
 
 -- the wedge at a place of a ring
 abbrev pub wedge_at : List Wedge → ℕ → Wedge
@@ -47,14 +48,14 @@ pub record IsConePlane (a : Vector) (w : Wedge) (plane : PlaneValue) : Type 0 wh
   pub to_below : height plane w.to ≤ℤ pos 0
 
 -- the wedge is that of a facet that was made, a triangle at the apex a, and has no ray above one that was made
-pub record IsWedge (ps : List PlaneValue) (made : List FacetNo) (a : Vector) (w : Wedge) : Type 0 where
-  pub named : Names made w.facet.0
-  pub plane : w.plane ≡ plane_at ps w.facet.0
+pub record IsWedge (ps : List PlaneValue) (made : List ℕ) (a : Vector) (w : Wedge) : Type 0 where
+  pub named : In w.facet made
+  pub plane : w.plane ≡ plane_at ps w.facet
   pub triangle : (q : Vector) → height w.plane q ≡ vol a w.from w.to q
-  pub below : (j : ℕ) → j < length made → IsConePlane a w (plane_at ps (number made j))
+  pub below : All (λ f. IsConePlane a w (plane_at ps f)) made
 
 -- each wedge of the ring is one
-abbrev pub AreWedges : List PlaneValue → List FacetNo → Vector → List Wedge → Type 0
+abbrev pub AreWedges : List PlaneValue → List ℕ → Vector → List Wedge → Type 0
 AreWedges ps made a ws = (i : ℕ) → i < length ws → IsWedge ps made a (wedge_at ws i)
 
 -- each wedge of a ring is a triangle at the apex a
@@ -66,7 +67,7 @@ AreTriangles a ws = (i : ℕ) → i < length ws
 pub record IsSeenBy (ws : List Wedge) (p : Vector) (f : ℕ) : Type 0 where
   pub place : ℕ
   pub within : place < length ws
-  pub is : f ≡ (wedge_at ws place).facet.0
+  pub is : f ≡ (wedge_at ws place).facet
   pub seen : pos 0 <ℤ height (wedge_at ws place).plane p
 
 -- the rays from a through x, y and z span a solid angle, and p lies in it
@@ -84,6 +85,6 @@ pub record IsAmongRays (a : Vector) (ws : List Wedge) (p : Vector) : Type 0 wher
 
 -- the certificate of each answer
 abbrev pub IsAnswer : Vector → List Wedge → Vector → Asked → Type 0
-IsAnswer a ws p (Seen f) = IsSeenBy ws p f.0
+IsAnswer a ws p (Seen f) = IsSeenBy ws p f
 IsAnswer a ws p Unseen = IsAmongRays a ws p
 IsAnswer a ws p Unknown = Unit {0}

@@ -8,15 +8,14 @@ use Rattle.qh_model.specs.contract.Surface.{IsCorner}
 use Rattle.qh_model.specs.laws.FacetPlanes.{IsLevelFacet}
 use Rattle.qh_model.specs.contract.StoredSurface.{StoredFacet, facet_at, surface_of}
 use Rattle.qh_model.specs.headline.Polygons.{IsFacePolygon}
-use Rattle.qh_mesh.specs.declared.facets.FacetNo.{FacetNo}
-use Rattle.qh_mesh.specs.contract.Replacement.{IsLive, is_listed}
+use Rattle.qh_mesh.specs.contract.Replacement.{IsLive}
 use Rattle.qh_block.specs.steps.Walks.{mark_at}
 
 -- the corners of a facet, and of the listed facets, as listed
-abbrev pub three_of : List StoredFacet → FacetNo → List ℕ
-three_of fs v = (facet_at fs v.0).i ∷ (facet_at fs v.0).j ∷ (facet_at fs v.0).k ∷ []
+abbrev pub three_of : List StoredFacet → ℕ → List ℕ
+three_of fs v = (facet_at fs v).i ∷ (facet_at fs v).j ∷ (facet_at fs v).k ∷ []
 
-abbrev pub corners_of : List StoredFacet → List FacetNo → List ℕ
+abbrev pub corners_of : List StoredFacet → List ℕ → List ℕ
 corners_of fs vs = flat_map (three_of fs) vs
 
 -- three ids in their turn, from the least on
@@ -27,8 +26,8 @@ from_least i j k =
     else k ∷ i ∷ j ∷ []
 
 -- l is a corner of a listed facet
-abbrev pub IsListedCorner : List StoredFacet → List FacetNo → ℕ → Type 0
-IsListedCorner fs vs l = (g : ℕ) × (is_listed vs g ≡ true) × IsCorner (surface_of fs) g l
+abbrev pub IsListedCorner : List StoredFacet → List ℕ → ℕ → Type 0
+IsListedCorner fs vs l = (g : ℕ) × In g vs × IsCorner (surface_of fs) g l
 
 -- q is the polygon of the plane of facet f
 abbrev pub IsFacetPolygon : (ℕ → Vector) → (ℕ → Type 0) → List StoredFacet → ℕ → List ℕ → Type 0

@@ -1,14 +1,13 @@
 -- A run of Quickhull over a list of points, each known by its position: what holds between two rounds, and within a round.
 -- Source: Barber, Dobkin and Huhdanpaa 1996 (outside sets, the horizon, the cone of new facets).
-use Rattle.std.specs.Prelude.{◌≡◌, ℕ, ◌<◌, ◌≤◌, ◌⊎◌, List, [], length, ℤ, pos, ◌≤ℤ◌, ◌<ℤ◌}
+use Rattle.std.specs.Prelude.{All, ◌≡◌, ℕ, ◌<◌, ◌≤◌, ◌⊎◌, List, [], length, ℤ, pos, ◌≤ℤ◌, ◌<ℤ◌}
 use Rattle.qh_model.specs.headline.Vector.{Vector}
 use Rattle.qh_model.specs.headline.Predicates.{vol, place}
 use Rattle.qh_model.specs.headline.Sets.{In}
 use Rattle.qh_model.specs.contract.FinishedSurface.{middle_at}
 use Rattle.qh_model.specs.contract.StoredSurface.{StoredFacet, facet_at}
 use Rattle.qh_pred.specs.contract.Planes.{PlaneValue, height}
-use Rattle.qh_mesh.specs.declared.facets.FacetNo.{FacetNo}
-use Rattle.qh_mesh.specs.contract.Replacement.{number, IsLive}
+use Rattle.qh_mesh.specs.contract.Replacement.{IsLive}
 use Rattle.qh_mesh.specs.contract.SoundMesh.{facet_vol, IsSoundMesh, IsClosedMesh}
 use Rattle.qh_block.specs.steps.Planes.{plane_at, ArePlanes}
 use Rattle.qh_block.specs.steps.OutsideSets.{OutsideValue, set_of}
@@ -20,14 +19,6 @@ height_at pts fs f p = facet_vol (place pts) fs f (place pts p)
 -- no facet sees the point at position p
 abbrev pub IsDone : List Vector → List StoredFacet → ℕ → Type 0
 IsDone pts fs p = (f : ℕ) → IsLive fs f → height_at pts fs f p ≤ℤ pos 0
-
--- the list names facet f
-abbrev pub Names : List FacetNo → ℕ → Type 0
-Names fs f = (j : ℕ) × (j < length fs) × (f ≡ number fs j)
-
--- each number of the list is below n
-abbrev pub AreWithin : ℕ → List FacetNo → Type 0
-AreWithin n fs = (j : ℕ) → j < length fs → number fs j < n
 
 -- position p stands in some outside set
 abbrev pub IsOutside : OutsideValue → ℕ → Type 0
@@ -58,51 +49,48 @@ pub record IsGrown (pts : List Vector) (fs : List StoredFacet) : Type 0 where
 
 -- between rounds: each point stands in the outside set of a facet that it is above, and that waits for its turn,
 -- or no facet sees it
-pub record IsUnderWay (pts : List Vector) (fs : List StoredFacet) (ps : List PlaneValue) (v : OutsideValue)
-    (pending : List FacetNo) : Type 0 where
+pub record IsUnderWay (pts : List Vector) (fs : List StoredFacet) (ps : List PlaneValue) (v : OutsideValue) (pending : List ℕ) : Type 0 where
   pub grown : IsGrown pts fs
   pub planes : ArePlanes (place pts) fs ps
   pub positions : v.positions ≡ length pts
   pub places : length fs ≤ length v.sets
-  pub range : AreWithin (length v.sets) pending
+  pub range : All (λ f. f < length v.sets) pending
   pub outside : AreOutside pts fs v
   pub none : v.orphans ≡ []
-  pub waits : (f p : ℕ) → In p (set_of v f) → Names pending f
+  pub waits : (f p : ℕ) → In p (set_of v f) → In f pending
   pub all : (p : ℕ) → p < length pts → IsOutside v p ⊎ IsDone pts fs p
 
 -- the position a was taken out of the outside set of facet f, to be the next apex
-pub record IsPicked (pts : List Vector) (fs : List StoredFacet) (ps : List PlaneValue) (v : OutsideValue)
-    (pending : List FacetNo) (f a : ℕ) : Type 0 where
+pub record IsPicked (pts : List Vector) (fs : List StoredFacet) (ps : List PlaneValue) (v : OutsideValue) (pending : List ℕ) (f a : ℕ) : Type 0 where
   pub grown : IsGrown pts fs
   pub planes : ArePlanes (place pts) fs ps
   pub positions : v.positions ≡ length pts
   pub places : length fs ≤ length v.sets
-  pub range : AreWithin (length v.sets) pending
+  pub range : All (λ f. f < length v.sets) pending
   pub outside : AreOutside pts fs v
   pub none : v.orphans ≡ []
-  pub waits : (g p : ℕ) → In p (set_of v g) → Names pending g ⊎ (g ≡ f)
+  pub waits : (g p : ℕ) → In p (set_of v g) → In g pending ⊎ (g ≡ f)
   pub all : (p : ℕ) → p < length pts → IsOutside v p ⊎ IsDone pts fs p ⊎ (p ≡ a)
   pub apex : a < length pts
   pub live : IsLive fs f
   pub seen : pos 0 <ℤ height_at pts fs f a
 
 -- while the orphans go to the facets that were made: an orphan that sees none of these sees no facet
-pub record IsSettling (pts : List Vector) (fs : List StoredFacet) (v : OutsideValue) (pending made : List FacetNo) : Type 0 where
+pub record IsSettling (pts : List Vector) (fs : List StoredFacet) (v : OutsideValue) (pending made : List ℕ) : Type 0 where
   pub outside : AreOutside pts fs v
-  pub waits : (f p : ℕ) → In p (set_of v f) → Names pending f ⊎ Names made f
+  pub waits : (f p : ℕ) → In p (set_of v f) → In f pending ⊎ In f made
   pub all : (p : ℕ) → p < length pts → In p v.orphans ⊎ IsOutside v p ⊎ IsDone pts fs p
-  pub drops : (p : ℕ) → In p v.orphans → ((j : ℕ) → j < length made → height_at pts fs (number made j) p ≤ℤ pos 0) → IsDone pts fs p
+  pub drops : (p : ℕ) → In p v.orphans → All (λ f. height_at pts fs f p ≤ℤ pos 0) made → IsDone pts fs p
 
 -- the plane at f is that of the facet
 abbrev pub IsPlaneOf : List Vector → List StoredFacet → List PlaneValue → ℕ → Type 0
 IsPlaneOf pts fs ps f = (f < length ps) × ((p : Vector) → height (plane_at ps f) p ≡ facet_vol (place pts) fs f p)
 
 -- facets were made that have no plane and no outside set yet
-pub record IsRemade (pts : List Vector) (fs : List StoredFacet) (ps : List PlaneValue) (v : OutsideValue)
-    (pending made : List FacetNo) : Type 0 where
+pub record IsRemade (pts : List Vector) (fs : List StoredFacet) (ps : List PlaneValue) (v : OutsideValue) (pending made : List ℕ) : Type 0 where
   pub grown : IsGrown pts fs
-  pub planes : (f : ℕ) → IsLive fs f → IsPlaneOf pts fs ps f ⊎ Names made f
-  pub made_live : (j : ℕ) → j < length made → IsLive fs (number made j)
+  pub planes : (f : ℕ) → IsLive fs f → IsPlaneOf pts fs ps f ⊎ In f made
+  pub made_live : All (IsLive fs) made
   pub positions : v.positions ≡ length pts
-  pub range : AreWithin (length v.sets) pending
+  pub range : All (λ f. f < length v.sets) pending
   pub settling : IsSettling pts fs v pending made

@@ -1,10 +1,10 @@
 -- Walks over twins, from facets that pass a test P: what they keep on their way.
 -- Source: Barber, Dobkin and Huhdanpaa 1996 (the visible set is found by a search over neighbours).
-use Rattle.std.specs.Prelude.{◌≡◌, ◌⊎◌, ℕ, ◌<◌, ◌≤◌, List, [], Bool, length, slice_index_or, true, false}
+use Rattle.std.specs.Prelude.{All, slice_index, ◌≡◌, ◌⊎◌, ℕ, ◌<◌, ◌≤◌, List, [], Bool, length, slice_index_or, true, false}
+use Rattle.qh_model.specs.headline.Sets.{In}
 use Rattle.qh_model.specs.contract.StoredSurface.{StoredFacet, surface_of}
 use Rattle.qh_model.specs.contract.Surface.{Side}
-use Rattle.qh_mesh.specs.declared.facets.FacetNo.{FacetNo}
-use Rattle.qh_mesh.specs.contract.Replacement.{AreFacets, number, is_listed}
+use Rattle.qh_mesh.specs.contract.Replacement.{AreFacets}
 
 -- the mark of place f; past the end there is none
 abbrev pub mark_at : List Bool → ℕ → Bool
@@ -14,15 +14,11 @@ mark_at marks f = slice_index_or marks f false
 abbrev pub IsMarked : List Bool → ℕ → Type 0
 IsMarked marks f = mark_at marks f ≡ true
 
--- f is the number of a facet of the list
-abbrev pub Has : List FacetNo → ℕ → Type 0
-Has vs f = is_listed vs f ≡ true
-
 -- the facets found are live, each once, they pass and are marked
-pub record IsWalk (P : ℕ → Type 0) (fs : List StoredFacet) (marks : List Bool) (found : List FacetNo) : Type 0 where
+pub record IsWalk (P : ℕ → Type 0) (fs : List StoredFacet) (marks : List Bool) (found : List ℕ) : Type 0 where
   pub facets : AreFacets fs found
-  pub passes : (j : ℕ) → j < length found → P (number found j)
-  pub marked : (j : ℕ) → j < length found → IsMarked marks (number found j)
+  pub passes : All P found
+  pub marked : All (IsMarked marks) found
 
 -- facet f is marked if it passes
 abbrev pub IsMet : (ℕ → Type 0) → List Bool → ℕ → Type 0
@@ -33,22 +29,22 @@ abbrev pub IsCrossed : (ℕ → Type 0) → List StoredFacet → List Bool → �
 IsCrossed P fs marks f = (s : Side) → IsMet P marks ((surface_of fs).over f s)
 
 -- those of the first n facets found are
-abbrev pub AreCrossed : (ℕ → Type 0) → List StoredFacet → List Bool → List FacetNo → ℕ → Type 0
-AreCrossed P fs marks found n = (j : ℕ) → j < n → IsCrossed P fs marks (number found j)
+abbrev pub AreCrossed : (ℕ → Type 0) → List StoredFacet → List Bool → List ℕ → ℕ → Type 0
+AreCrossed P fs marks found n = (j : ℕ) → j < n → IsCrossed P fs marks (slice_index found j)
 
 -- what was marked and found before still is, and stands where it stood; what was marked since was found
-pub record IsFurther (marks marks' : List Bool) (found found' : List FacetNo) : Type 0 where
+pub record IsFurther (marks marks' : List Bool) (found found' : List ℕ) : Type 0 where
   pub len : length marks' ≡ length marks
   pub kept : (f : ℕ) → IsMarked marks f → IsMarked marks' f
-  pub only : (f : ℕ) → IsMarked marks' f → IsMarked marks f ⊎ Has found' f
+  pub only : (f : ℕ) → IsMarked marks' f → IsMarked marks f ⊎ In f found'
   pub longer : length found ≤ length found'
-  pub same : (j : ℕ) → j < length found → number found' j ≡ number found j
+  pub same : (j : ℕ) → j < length found → slice_index found' j ≡ slice_index found j
 
 -- a walk from facet f over all that it found
-pub record IsWalkFrom (P : ℕ → Type 0) (fs : List StoredFacet) (before after : List Bool) (f : ℕ) (found : List FacetNo)
+pub record IsWalkFrom (P : ℕ → Type 0) (fs : List StoredFacet) (before after : List Bool) (f : ℕ) (found : List ℕ)
     : Type 0 where
   pub walk : IsWalk P fs after found
   pub further : IsFurther before after [] found
-  pub start : Has found f
+  pub start : In f found
   pub own : IsMarked after f
   pub crossed : AreCrossed P fs after found (length found)

@@ -3,12 +3,15 @@
 //! Two neighbours of a cone meet in an edge from the apex, so going over these edges from one facet all
 //! are met. In that order a search can find the one facet of which a point need be asked
 //! (`cone_search`). The ring begins where the cone is strictly convex.
-ghost use Rattle.std.specs.Prelude.{◌≡◌, ◌+◌, ◌*◌, ◌/◌, ◌<◌, ◌⊎◌, ℕ, List, length, OnOk, [], pos, IfOk};
+ghost use Rattle.std.specs.Prelude.{All, ◌≡◌, ◌<◌, ◌⊎◌, ℕ, List, length, OnOk, [], pos, IfOk};
+ghost use Rattle.qh_model.specs.headline.Sets.{In};
 ghost use Rattle.qh_model.specs.headline.Predicates.{place};
+ghost use Rattle.qh_model.specs.contract.Surface.Side.{second};
 ghost use Rattle.qh_model.specs.contract.StoredSurface.{facet_at};
-ghost use Rattle.qh_mesh.specs.contract.Replacement.{IsLive, number, twin_of};
+ghost use Rattle.qh_mesh.specs.contract.Edges.{edge_of, facet_of, twin_of};
+ghost use Rattle.qh_mesh.specs.contract.Replacement.{IsLive};
 ghost use Rattle.qh_block.specs.steps.Planes.{plane_at};
-ghost use Rattle.qh_block.specs.steps.Runs.{HasCornersBelow, IsPlaneOf, Names};
+ghost use Rattle.qh_block.specs.steps.Runs.{HasCornersBelow, IsPlaneOf};
 ghost use Rattle.qh_block.specs.steps.Cones.{HasNoCornerAbove, IsFan, AreWedges, apex_of};
 
 use qh_mesh::{FacetNo, Mesh};
@@ -45,26 +48,26 @@ pub struct ConeRing {
 
 /// The neighbour of a facet over the ray where it ends.
 fn next_facet(mesh: &Mesh, facet: FacetNo) -> FacetNo
-    requires { IsLive mesh.now facet.0 }
-    ensures { result.0 ≡ twin_of mesh.now (3 * facet.0 + 1) / 3 }
+    requires { IsLive mesh.now facet }
+    ensures { result ≡ facet_of (twin_of mesh.now (edge_of facet second)) }
 {
-    FacetNo(mesh.twin(mesh.edge(facet, 1)).0 / 3)
+    mesh.facet_of(mesh.twin(mesh.edge(facet, 1)))
 }
 
 /// The wedge of a facet.
 fn wedge_of(pts: &[Point], mesh: &Mesh, planes: &[Plane], facet: FacetNo) -> Wedge
-    requires live { IsLive mesh.now facet.0 }
+    requires live { IsLive mesh.now facet }
     requires corners { HasCornersBelow (length pts.now) mesh.now }
-    requires plane { facet.0 < length planes.now }
+    requires plane { facet < length planes.now }
     ensures facet { result.facet ≡ facet }
-    ensures plane { result.plane ≡ plane_at planes.now facet.0 }
-    ensures from { result.from ≡ place pts.now (facet_at mesh.now facet.0).i }
-    ensures to { result.to ≡ place pts.now (facet_at mesh.now facet.0).j }
+    ensures plane { result.plane ≡ plane_at planes.now facet }
+    ensures from { result.from ≡ place pts.now (facet_at mesh.now facet).i }
+    ensures to { result.to ≡ place pts.now (facet_at mesh.now facet).j }
 {
     let [from, to, _] = mesh.facet(facet);
     Wedge {
         facet,
-        plane: planes[facet.0],
+        plane: planes[facet.index()],
         from: point_at(pts, from),
         to: point_at(pts, to),
     }
@@ -74,11 +77,11 @@ fn wedge_of(pts: &[Point], mesh: &Mesh, planes: &[Plane], facet: FacetNo) -> Wed
 /// one, since no plane has all rays of a cone.
 fn first_facet(pts: &[Point], mesh: &Mesh, planes: &[Plane], made: &[FacetNo]) -> FacetNo
     requires some { 0 < length made.now }
-    requires live { (j : ℕ) → j < length made.now → IsLive mesh.now (number made.now j) }
+    requires live { All (IsLive mesh.now) made.now }
     requires corners { HasCornersBelow (length pts.now) mesh.now }
-    requires planes { (f : ℕ) → Names made.now f → f < length planes.now }
+    requires planes { All (λ f. f < length planes.now) made.now }
     requires fan { IsFan mesh.now made.now }
-    ensures { Names made.now result.0 }
+    ensures { In result made.now }
 {
     let mut before = wedge_of(pts, mesh, planes, made[0]);
     for _ in 0..made.len() {
@@ -100,12 +103,12 @@ fn go_round(
     made: &[FacetNo],
     first: FacetNo,
 ) -> Result<(), AllocError>
-    requires live { (j : ℕ) → j < length made.now → IsLive mesh.now (number made.now j) }
+    requires live { All (IsLive mesh.now) made.now }
     requires corners { HasCornersBelow (length pts.now) mesh.now }
     requires below { HasNoCornerAbove pts.now mesh.now }
-    requires planes { (f : ℕ) → Names made.now f → IsPlaneOf pts.now mesh.now planes.now f }
+    requires planes { All (IsPlaneOf pts.now mesh.now planes.now) made.now }
     requires fan { IsFan mesh.now made.now }
-    requires first { Names made.now first.0 }
+    requires first { In first made.now }
     requires empty { wedges.old.items ≡ [] }
     ensures { OnOk result (AreWedges planes.now made.now (apex_of pts.now mesh.now made.now) wedges.new.items) }
 {
@@ -159,10 +162,10 @@ impl ConeRing {
         planes: &[Plane],
         made: &[FacetNo],
     ) -> Result<(), Memory>
-        requires live { (j : ℕ) → j < length made.now → IsLive mesh.now (number made.now j) }
+        requires live { All (IsLive mesh.now) made.now }
         requires corners { HasCornersBelow (length pts.now) mesh.now }
         requires below { HasNoCornerAbove pts.now mesh.now }
-        requires planes { (f : ℕ) → Names made.now f → IsPlaneOf pts.now mesh.now planes.now f }
+        requires planes { All (IsPlaneOf pts.now mesh.now planes.now) made.now }
         requires fan { SCANNED < length made.now → IsFan mesh.now made.now }
         ensures { OnOk result (AreWedges planes.now made.now self.new.apex self.new.wedges.items) }
     {

@@ -186,10 +186,10 @@ impl OutsideSets {
     /// caller says; in front where the set was empty.
     pub fn assign_orphan(&mut self, facet: FacetNo, in_front: bool)
         requires some { 0 < length self.old.orphans }
-        requires place { facet.0 < length self.old.sets }
+        requires place { facet < length self.old.sets }
         ensures orphans { self.new.orphans ≡ drop 1 self.old.orphans }
         ensures sets { self.new.sets
-            ≡ slice_set self.old.sets facet.0 (joined in_front (slice_index self.old.orphans 0) (set_of self.old facet.0)) }
+            ≡ slice_set self.old.sets facet (joined in_front (slice_index self.old.orphans 0) (set_of self.old facet)) }
         ensures positions { self.new.positions ≡ self.old.positions }
         ensures listed { listed self.new ≡ listed self.old }
     {
@@ -203,17 +203,18 @@ impl OutsideSets {
     /// Puts the first orphan in front of the outside set of a facet.
     fn put_in_front(&mut self, facet: FacetNo)
         requires some { 0 < length self.old.orphans }
-        requires place { facet.0 < length self.old.sets }
+        requires place { facet < length self.old.sets }
         ensures orphans { self.new.orphans ≡ drop 1 self.old.orphans }
         ensures sets { self.new.sets
-            ≡ slice_set self.old.sets facet.0 (slice_index self.old.orphans 0 ∷ set_of self.old facet.0) }
+            ≡ slice_set self.old.sets facet (slice_index self.old.orphans 0 ∷ set_of self.old facet) }
         ensures positions { self.new.positions ≡ self.old.positions }
         ensures listed { listed self.new ≡ listed self.old }
     {
         let orphan = self.orphan;
-        let ends = self.ends[facet.0];
+        let place = facet.index();
+        let ends = self.ends[place];
         let is_empty = ends.first as usize >= self.links.len();
-        self.ends[facet.0] = ends.with_front(orphan, is_empty);
+        self.ends[place] = ends.with_front(orphan, is_empty);
         self.orphan = self.links[orphan as usize];
         self.links[orphan as usize] = ends.first;
     }
@@ -221,17 +222,18 @@ impl OutsideSets {
     /// Puts the first orphan after the first position of the outside set of a facet, which has one.
     fn put_second(&mut self, facet: FacetNo)
         requires some { 0 < length self.old.orphans }
-        requires place { facet.0 < length self.old.sets }
-        requires first { 0 < length (set_of self.old facet.0) }
+        requires place { facet < length self.old.sets }
+        requires first { 0 < length (set_of self.old facet) }
         ensures orphans { self.new.orphans ≡ drop 1 self.old.orphans }
         ensures sets { self.new.sets
-            ≡ slice_set self.old.sets facet.0 (joined false (slice_index self.old.orphans 0) (set_of self.old facet.0)) }
+            ≡ slice_set self.old.sets facet (joined false (slice_index self.old.orphans 0) (set_of self.old facet)) }
         ensures positions { self.new.positions ≡ self.old.positions }
         ensures listed { listed self.new ≡ listed self.old }
     {
         let second = self.orphan;
-        let ends = self.ends[facet.0];
-        self.ends[facet.0] = ends.with_second(second);
+        let place = facet.index();
+        let ends = self.ends[place];
+        self.ends[place] = ends.with_second(second);
         self.orphan = self.links[second as usize];
         self.links[second as usize] = self.links[ends.first as usize];
         self.links[ends.first as usize] = second;
@@ -239,12 +241,12 @@ impl OutsideSets {
 
     /// The first position of the outside set of a facet, if it has one.
     pub fn first(&self, facet: FacetNo) -> Option<u32>
-        requires { facet.0 < length self.now.sets }
-        ensures none { IsNone result ↔ (set_of self.now facet.0 ≡ []) }
-        ensures first { IfSome result (λ p. set_of self.now facet.0 ≡ p ∷ drop 1 (set_of self.now facet.0)) }
+        requires { facet < length self.now.sets }
+        ensures none { IsNone result ↔ (set_of self.now facet ≡ []) }
+        ensures first { IfSome result (λ p. set_of self.now facet ≡ p ∷ drop 1 (set_of self.now facet)) }
         ensures position { IfSome result (λ p. p < self.now.positions) }
     {
-        let first = self.ends[facet.0].first;
+        let first = self.ends[facet.index()].first;
         if self.is_position(first) {
             Some(first)
         } else {
@@ -255,35 +257,37 @@ impl OutsideSets {
     /// Takes the first position of the outside set of a facet out of all lists, for good, and answers
     /// it. An empty set stays so.
     pub fn take_first(&mut self, facet: FacetNo) -> Option<u32>
-        requires { facet.0 < length self.old.sets }
-        ensures none { IsNone result ↔ (set_of self.old facet.0 ≡ []) }
-        ensures first { IfSome result (λ p. set_of self.old facet.0 ≡ p ∷ drop 1 (set_of self.old facet.0)) }
+        requires { facet < length self.old.sets }
+        ensures none { IsNone result ↔ (set_of self.old facet ≡ []) }
+        ensures first { IfSome result (λ p. set_of self.old facet ≡ p ∷ drop 1 (set_of self.old facet)) }
         ensures position { IfSome result (λ p. p < self.old.positions) }
-        ensures sets { self.new.sets ≡ slice_set self.old.sets facet.0 (drop 1 (set_of self.old facet.0)) }
+        ensures sets { self.new.sets ≡ slice_set self.old.sets facet (drop 1 (set_of self.old facet)) }
         ensures orphans { self.new.orphans ≡ self.old.orphans }
         ensures positions { self.new.positions ≡ self.old.positions }
         ensures listed { IfSome result (λ _. listed self.new + 1 ≡ listed self.old) }
         ensures listed_still { IsNone result → listed self.new ≡ listed self.old }
     {
         let first = self.first(facet)?;
-        self.ends[facet.0].first = self.links[first as usize];
+        let place = facet.index();
+        self.ends[place].first = self.links[first as usize];
         Some(first)
     }
 
     /// Makes the positions of the outside set of a facet orphans, in front of the others. The set is
     /// empty then.
     pub fn release(&mut self, facet: FacetNo)
-        requires { facet.0 < length self.old.sets }
-        ensures orphans { self.new.orphans ≡ set_of self.old facet.0 ++ self.old.orphans }
-        ensures sets { self.new.sets ≡ slice_set self.old.sets facet.0 [] }
+        requires { facet < length self.old.sets }
+        ensures orphans { self.new.orphans ≡ set_of self.old facet ++ self.old.orphans }
+        ensures sets { self.new.sets ≡ slice_set self.old.sets facet [] }
         ensures positions { self.new.positions ≡ self.old.positions }
         ensures listed { listed self.new ≡ listed self.old }
     {
         if let Some(first) = self.first(facet) {
-            let last = self.ends[facet.0].last;
+            let place = facet.index();
+            let last = self.ends[place].last;
             self.links[last as usize] = self.orphan;
             self.orphan = first;
-            self.ends[facet.0].first = NONE;
+            self.ends[place].first = NONE;
         }
     }
 }

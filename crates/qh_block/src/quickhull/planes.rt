@@ -1,12 +1,13 @@
 //! The planes of a mesh, by the places of its facets.
-ghost use Rattle.std.specs.Prelude.{◌≡◌, ◌≤◌, ◌<◌, ◌⊎◌, ℕ, length, OnOk};
+ghost use Rattle.std.specs.Prelude.{All, ◌≡◌, ◌≤◌, ◌<◌, ◌⊎◌, ℕ, length, OnOk};
 ghost use Rattle.qh_model.specs.headline.Vector.{Vector};
+ghost use Rattle.qh_model.specs.headline.Sets.{In};
 ghost use Rattle.qh_model.specs.headline.Predicates.{place};
 ghost use Rattle.qh_pred.specs.contract.Planes.{height};
-ghost use Rattle.qh_mesh.specs.contract.Replacement.{IsLive, number};
+ghost use Rattle.qh_mesh.specs.contract.Replacement.{IsLive};
 ghost use Rattle.qh_mesh.specs.contract.SoundMesh.{facet_vol};
 ghost use Rattle.qh_block.specs.steps.Planes.{plane_at};
-ghost use Rattle.qh_block.specs.steps.Runs.{IsPlaneOf, Names, HasCornersBelow};
+ghost use Rattle.qh_block.specs.steps.Runs.{IsPlaneOf, HasCornersBelow};
 
 use qh_mesh::{FacetNo, Mesh};
 use qh_model::Point;
@@ -15,9 +16,9 @@ use std::alloc::AllocError;
 
 /// The plane of a live facet.
 pub fn plane_of(pts: &[Point], mesh: &Mesh, facet: FacetNo) -> Plane
-    requires live { IsLive mesh.now facet.0 }
+    requires live { IsLive mesh.now facet }
     requires corners { HasCornersBelow (length pts.now) mesh.now }
-    ensures { (p : Vector) → height result p ≡ facet_vol (place pts.now) mesh.now facet.0 p }
+    ensures { (p : Vector) → height result p ≡ facet_vol (place pts.now) mesh.now facet p }
 {
     let [a, b, c] = mesh.facet(facet);
     Plane::through(point_at(pts, a), point_at(pts, b), point_at(pts, c))
@@ -43,14 +44,13 @@ pub fn make_room(planes: &mut Vec<Plane>, places: usize) -> Result<(), AllocErro
 
 /// Writes the planes of the facets that were made.
 pub fn renew(pts: &[Point], mesh: &Mesh, made: &[FacetNo], planes: &mut Vec<Plane>)
-    requires live { (j : ℕ) → j < length made.now → IsLive mesh.now (number made.now j) }
+    requires live { All (IsLive mesh.now) made.now }
     requires corners { HasCornersBelow (length pts.now) mesh.now }
     requires room { length mesh.now ≤ length planes.old.items }
     ensures len { length planes.new.items ≡ length planes.old.items }
-    ensures planes { (f : ℕ) → IsLive mesh.now f → IsPlaneOf pts.now mesh.now planes.old.items f ⊎ Names made.now f
-        → IsPlaneOf pts.now mesh.now planes.new.items f }
+    ensures planes { (f : ℕ) → IsLive mesh.now f → IsPlaneOf pts.now mesh.now planes.old.items f ⊎ In f made.now → IsPlaneOf pts.now mesh.now planes.new.items f }
 {
     for facet in made {
-        planes[facet.0] = plane_of(pts, mesh, *facet);
+        planes[facet.index()] = plane_of(pts, mesh, *facet);
     }
 }

@@ -1,11 +1,11 @@
 //! The facets that wait for their turn, the last one first.
-ghost use Rattle.std.specs.Prelude.{◌≡◌, ◌+◌, ◌<◌, ℕ, List, length, OnOk, IfNone, IfSome};
+ghost use Rattle.std.specs.Prelude.{All, ◌≡◌, ◌+◌, ◌<◌, ℕ, List, length, OnOk, IfNone, IfSome};
 ghost use Rattle.qh_model.specs.headline.Vector.{Vector};
 ghost use Rattle.qh_model.specs.headline.Sets.{In};
 ghost use Rattle.qh_model.specs.contract.StoredSurface.{StoredFacet};
 ghost use Rattle.qh_pred.specs.contract.Planes.{PlaneValue};
 ghost use Rattle.qh_block.specs.steps.OutsideSets.{set_of, listed};
-ghost use Rattle.qh_block.specs.steps.Runs.{Names, AreWithin, IsDone, IsUnderWay, IsPicked};
+ghost use Rattle.qh_block.specs.steps.Runs.{IsDone, IsUnderWay, IsPicked};
 
 use crate::quickhull::outside_sets::OutsideSets;
 use qh_mesh::FacetNo;
@@ -17,10 +17,10 @@ pub fn enqueue(
     sets: &OutsideSets,
     made: &[FacetNo],
 ) -> Result<(), AllocError>
-    requires { AreWithin (length sets.now.sets) made.now }
-    ensures within { AreWithin (length sets.now.sets) pending.old.items → AreWithin (length sets.now.sets) pending.new.items }
-    ensures kept { (f : ℕ) → Names pending.old.items f → Names pending.new.items f }
-    ensures made { OnOk result ((f p : ℕ) → Names made.now f → In p (set_of sets.now f) → Names pending.new.items f) }
+    requires { All (λ f. f < length sets.now.sets) made.now }
+    ensures within { All (λ f. f < length sets.now.sets) pending.old.items → All (λ f. f < length sets.now.sets) pending.new.items }
+    ensures kept { (f : ℕ) → In f pending.old.items → In f pending.new.items }
+    ensures made { OnOk result ((f p : ℕ) → In f made.now → In p (set_of sets.now f) → In f pending.new.items) }
 {
     for facet in made {
         if sets.first(*facet).is_some() {
@@ -33,11 +33,11 @@ pub fn enqueue(
 /// The next facet that has an outside set, and the first point of that set, which leaves all sets.
 /// Facets without one are passed over.
 pub fn next_apex(pending: &mut Vec<FacetNo>, sets: &mut OutsideSets) -> Option<(FacetNo, u32)>
-    requires { AreWithin (length sets.old.sets) pending.old.items }
+    requires { All (λ f. f < length sets.old.sets) pending.old.items }
     ensures done { IfNone result ((pts : List Vector) (fs : List StoredFacet) (ps : List PlaneValue)
         → IsUnderWay pts fs ps sets.old pending.old.items → (p : ℕ) → p < length pts → IsDone pts fs p) }
     ensures picked { IfSome result (λ next. (pts : List Vector) (fs : List StoredFacet) (ps : List PlaneValue)
-        → IsUnderWay pts fs ps sets.old pending.old.items → IsPicked pts fs ps sets.new pending.new.items (next.0).0 next.1) }
+        → IsUnderWay pts fs ps sets.old pending.old.items → IsPicked pts fs ps sets.new pending.new.items next.0 next.1) }
     ensures listed { IfSome result (λ _. listed sets.new + 1 ≡ listed sets.old) }
 {
     while let Some(facet) = pending.pop() {

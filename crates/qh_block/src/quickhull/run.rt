@@ -110,7 +110,7 @@ impl Run {
             pending: Vec::new(alloc),
             made: 0,
         };
-        run.settle(&[FacetNo(0), FacetNo(1), FacetNo(2), FacetNo(3)])?;
+        run.settle(&[FacetNo::new(0), FacetNo::new(1), FacetNo::new(2), FacetNo::new(3)])?;
         Ok(run)
     }
 
@@ -139,7 +139,7 @@ impl Run {
     /// Makes the point at a position, which is above a facet, a corner: the facets that see it make way
     /// for its cone.
     fn add(&mut self, alloc: Global, facet: FacetNo, apex: u32) -> Result<(), Memory>
-        requires { IsPicked self.old.points.items self.old.mesh self.old.planes.items self.old.sets self.old.pending.items facet.0 apex }
+        requires { IsPicked self.old.points.items self.old.mesh self.old.planes.items self.old.sets self.old.pending.items facet apex }
         ensures points { self.new.points.items ≡ self.old.points.items }
         ensures under_way { OnOk result (
             IsUnderWay self.old.points.items self.new.mesh self.new.planes.items self.new.sets self.new.pending.items) }

@@ -1,14 +1,14 @@
 //! How the points of facets that go find their new outside sets.
-ghost use Rattle.std.specs.Prelude.{◌≡◌, ◌≤◌, ◌<◌, ℕ, List, [], ◌∷◌, length, drop, map, pos, ◌<ℤ◌, IfNone, IfSome};
+ghost use Rattle.std.specs.Prelude.{All, ◌≡◌, ◌≤◌, ◌<◌, ℕ, List, [], ◌∷◌, length, drop, map, pos, ◌<ℤ◌, IfNone, IfSome};
 ghost use Rattle.qh_model.specs.headline.Vector.{Vector};
+ghost use Rattle.qh_model.specs.headline.Sets.{In};
 ghost use Rattle.qh_model.specs.headline.Predicates.{place};
 ghost use Rattle.qh_model.specs.contract.StoredSurface.{StoredFacet};
 ghost use Rattle.qh_pred.specs.contract.Planes.{height};
-ghost use Rattle.qh_mesh.specs.declared.facets.FacetNo.{FacetNo};
-ghost use Rattle.qh_mesh.specs.contract.Replacement.{IsLive, number};
+ghost use Rattle.qh_mesh.specs.contract.Replacement.{IsLive};
 ghost use Rattle.qh_block.specs.steps.Planes.{plane_at, ArePlanes};
 ghost use Rattle.qh_block.specs.steps.OutsideSets.{listed};
-ghost use Rattle.qh_block.specs.steps.Runs.{Names, AreWithin, IsSettling};
+ghost use Rattle.qh_block.specs.steps.Runs.{IsSettling};
 ghost use Rattle.qh_block.specs.steps.Settling.{IsAboveNone, IsOneSettled, AreReleased};
 ghost use Rattle.qh_block.specs.steps.Cones.{AreWedges};
 
@@ -21,7 +21,7 @@ use qh_pred::Plane;
 
 /// Makes the points of the facets that go orphans.
 pub fn release(sets: &mut OutsideSets, gone: &[FacetNo])
-    requires { AreWithin (length sets.old.sets) gone.now }
+    requires { All (λ f. f < length sets.old.sets) gone.now }
     ensures released { AreReleased sets.old sets.new gone.now }
     ensures places { length sets.new.sets ≡ length sets.old.sets }
     ensures positions { sets.new.positions ≡ sets.old.positions }
@@ -34,13 +34,13 @@ pub fn release(sets: &mut OutsideSets, gone: &[FacetNo])
 
 /// The first of the facets that the point is above.
 fn first_below(planes: &[Plane], made: &[FacetNo], point: Point) -> Option<FacetNo>
-    requires { AreWithin (length planes.now) made.now }
+    requires { All (λ f. f < length planes.now) made.now }
     ensures none { IfNone result (IsAboveNone planes.now made.now point) }
-    ensures named { IfSome result (λ facet. Names made.now facet.0) }
-    ensures seen { IfSome result (λ facet. pos 0 <ℤ height (plane_at planes.now facet.0) point) }
+    ensures named { IfSome result (λ facet. In facet made.now) }
+    ensures seen { IfSome result (λ facet. pos 0 <ℤ height (plane_at planes.now facet) point) }
 {
     for facet in made {
-        if planes[facet.0].sees(point) {
+        if planes[facet.index()].sees(point) {
             return Some(*facet);
         }
     }
@@ -50,11 +50,11 @@ fn first_below(planes: &[Plane], made: &[FacetNo], point: Point) -> Option<Facet
 /// A facet of those made that the point is above. The first few are looked at one by one, so that points
 /// gather in few sets, and where there are more, a search through their ring tells of the others.
 fn one_below(planes: &[Plane], ring: &ConeRing, made: &[FacetNo], point: Point) -> Option<FacetNo>
-    requires planes { AreWithin (length planes.now) made.now }
+    requires planes { All (λ f. f < length planes.now) made.now }
     requires ring { AreWedges planes.now made.now ring.now.apex ring.now.wedges.items }
     ensures none { IfNone result (IsAboveNone planes.now made.now point) }
-    ensures named { IfSome result (λ facet. Names made.now facet.0) }
-    ensures seen { IfSome result (λ facet. pos 0 <ℤ height (plane_at planes.now facet.0) point) }
+    ensures named { IfSome result (λ facet. In facet made.now) }
+    ensures seen { IfSome result (λ facet. pos 0 <ℤ height (plane_at planes.now facet) point) }
 {
     if made.len() <= SCANNED {
         return first_below(planes, made, point);
@@ -78,11 +78,11 @@ fn is_furthest(
     facet: FacetNo,
     point: Point,
 ) -> bool
-    requires plane { facet.0 < length planes.now }
-    requires place { facet.0 < length sets.now.sets }
+    requires plane { facet < length planes.now }
+    requires place { facet < length sets.now.sets }
     requires points { sets.now.positions ≡ length points.now }
 {
-    let plane = planes[facet.0];
+    let plane = planes[facet.index()];
     match sets.first(facet) {
         Some(first) => plane.height(point) > plane.height(points[first as usize]),
         None => true,
@@ -100,8 +100,8 @@ fn settle_orphan(
     orphan: u32,
 )
     requires points { sets.old.positions ≡ length points.now }
-    requires planes { AreWithin (length planes.now) made.now }
-    requires places { AreWithin (length sets.old.sets) made.now }
+    requires planes { All (λ f. f < length planes.now) made.now }
+    requires places { All (λ f. f < length sets.old.sets) made.now }
     requires orphan { sets.old.orphans ≡ orphan ∷ drop 1 sets.old.orphans }
     requires position { orphan < sets.old.positions }
     requires ring { AreWedges planes.now made.now ring.now.apex ring.now.wedges.items }
@@ -129,12 +129,11 @@ pub fn settle_orphans(
     made: &[FacetNo],
 )
     requires points { sets.old.positions ≡ length points.now }
-    requires planes { AreWithin (length planes.now) made.now }
-    requires places { AreWithin (length sets.old.sets) made.now }
+    requires planes { All (λ f. f < length planes.now) made.now }
+    requires places { All (λ f. f < length sets.old.sets) made.now }
     requires ring { AreWedges planes.now made.now ring.now.apex ring.now.wedges.items }
     ensures none { sets.new.orphans ≡ [] }
-    ensures settled { (fs : List StoredFacet) (pending : List FacetNo)
-        → ((j : ℕ) → j < length made.now → IsLive fs (number made.now j)) → ArePlanes (place points.now) fs planes.now
+    ensures settled { (fs : List StoredFacet) (pending : List ℕ) → All (IsLive fs) made.now → ArePlanes (place points.now) fs planes.now
         → IsSettling points.now fs sets.old pending made.now → IsSettling points.now fs sets.new pending made.now }
     ensures places { length sets.new.sets ≡ length sets.old.sets }
     ensures positions { sets.new.positions ≡ sets.old.positions }

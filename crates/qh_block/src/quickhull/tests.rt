@@ -19,14 +19,14 @@ mod prisms;
 /// Puts the first orphan into the set of a facet, if there are both.
 fn assign(sets: &mut OutsideSets, facet: usize, in_front: bool) {
     if facet < sets.places() && sets.first_orphan().is_some() {
-        sets.assign_orphan(FacetNo(facet), in_front);
+        sets.assign_orphan(FacetNo::new(facet), in_front);
     }
 }
 
 /// Takes the first of a facet's set, if there is one.
 fn take(sets: &mut OutsideSets, facet: usize) -> Option<u32> {
     if facet < sets.places() {
-        sets.take_first(FacetNo(facet))
+        sets.take_first(FacetNo::new(facet))
     } else {
         None
     }
@@ -35,7 +35,7 @@ fn take(sets: &mut OutsideSets, facet: usize) -> Option<u32> {
 /// Makes the points of a facet's set orphans, if there is that set.
 fn release(sets: &mut OutsideSets, facet: usize) {
     if facet < sets.places() {
-        sets.release(FacetNo(facet));
+        sets.release(FacetNo::new(facet));
     }
 }
 
@@ -125,7 +125,7 @@ fn planes_of(alloc: Global, mesh: &Mesh, pts: &[Point]) -> Result<Vec<Plane>, Al
     let mut planes = Vec::new(alloc);
     planes.resize(mesh.places(), no_plane())?;
     for f in mesh.live() {
-        planes[f.0] = plane_of(pts, mesh.facet(f));
+        planes[f.index()] = plane_of(pts, mesh.facet(f));
     }
     Ok(planes)
 }
@@ -137,11 +137,12 @@ fn seen_by(
     planes: &[Plane],
     apex: Point,
 ) -> Result<Vec<FacetNo>, AllocError>
-    ensures { IfOk result (λ v. All (λ f. IsLive mesh.now f.0 × (pos 0 <ℤ height (plane_at planes.now f.0) apex)) v.items) }
+    ensures { IfOk result (λ v. All (λ f. IsLive mesh.now f × (pos 0 <ℤ height (plane_at planes.now f) apex)) v.items) }
 {
     let mut seen = Vec::new(alloc);
     for f in mesh.live() {
-        if f.0 < planes.len() && planes[f.0].sees(apex) {
+        let place = f.index();
+        if place < planes.len() && planes[place].sees(apex) {
             seen.push(f)?;
         }
     }
@@ -152,7 +153,7 @@ fn seen_by(
 fn rising(alloc: Global, facets: &[FacetNo]) -> Result<Vec<usize>, AllocError> {
     let mut numbers = Vec::new(alloc);
     for facet in facets {
-        numbers.push(facet.0)?;
+        numbers.push(facet.index())?;
     }
     numbers.sort_unstable();
     Ok(numbers)

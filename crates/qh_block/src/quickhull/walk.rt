@@ -1,12 +1,13 @@
 //! The facets that a point sees: they hang together, so a walk from one of them finds all.
-ghost use Rattle.std.specs.Prelude.{◌≡◌, ◌≤◌, ◌<◌, ◌<ℤ◌, pos, ℕ, OnOk, length, [], true, false};
+ghost use Rattle.std.specs.Prelude.{All, ◌≡◌, ◌≤◌, ◌<◌, ◌<ℤ◌, pos, ℕ, OnOk, length, [], true, false};
+ghost use Rattle.qh_model.specs.headline.Sets.{In};
 ghost use Rattle.qh_model.specs.headline.Vector.{Vector};
 ghost use Rattle.qh_model.specs.contract.Weighted.{Weighted};
-ghost use Rattle.qh_mesh.specs.contract.Replacement.{IsLive, AreFacets, is_listed, number};
+ghost use Rattle.qh_mesh.specs.contract.Replacement.{IsLive, AreFacets};
 ghost use Rattle.qh_mesh.specs.contract.SoundMesh.{IsSoundMesh, AreVisible};
 ghost use Rattle.qh_pred.specs.contract.Planes.{height};
 ghost use Rattle.qh_block.specs.steps.Planes.{plane_at, ArePlanes};
-ghost use Rattle.qh_block.specs.steps.Walks.{mark_at};
+ghost use Rattle.qh_block.specs.steps.Walks.{IsMarked, mark_at};
 
 use crate::walk::{Test, walk};
 use qh_mesh::{EdgeNo, FacetNo, Mesh};
@@ -27,8 +28,8 @@ impl Test for Sees<'_> {
 
     ghost Passes = { λ t fs f. pos 0 <ℤ height (plane_at t.planes.now f) t.apex };
 
-    fn passes(&self, _mesh: &Mesh, edge: EdgeNo) -> bool {
-        self.planes[edge.0 / 3].sees(self.apex)
+    fn passes(&self, mesh: &Mesh, edge: EdgeNo) -> bool {
+        self.planes[mesh.facet_of(edge).index()].sees(self.apex)
     }
 }
 
@@ -45,10 +46,9 @@ pub struct Walk {
 
 impl Model for Walk {
     ghost use Rattle.std.specs.Prelude.{List, ℕ, ◌≡◌, false};
-    ghost use Rattle.qh_mesh.specs.declared.facets.FacetNo.{FacetNo};
     ghost use Rattle.qh_block.specs.steps.Walks.{mark_at};
 
-    ghost Value = { List FacetNo };
+    ghost Value = { List ℕ };
 
     ghost view = { λ w. w.found.items };
 
@@ -68,12 +68,12 @@ fn make_room(marks: &mut Vec<bool>, places: usize) -> Result<(), AllocError>
 
 /// Takes the marks of the facets found back: there are no others.
 fn take_back(marks: &mut [bool], found: &[FacetNo])
-    requires only { (f : ℕ) → mark_at marks.old f ≡ true → is_listed found.now f ≡ true }
-    requires marked { (j : ℕ) → j < length found.now → mark_at marks.old (number found.now j) ≡ true }
+    requires only { (f : ℕ) → mark_at marks.old f ≡ true → In f found.now }
+    requires marked { All (IsMarked marks.old) found.now }
     ensures { (f : ℕ) → mark_at marks.new f ≡ false }
 {
     for f in found {
-        marks[f.0] = false;
+        marks[f.index()] = false;
     }
 }
 
@@ -99,9 +99,9 @@ impl Walk {
         start: FacetNo,
         apex: Point,
     ) -> Result<(), Memory>
-        requires live { IsLive mesh.now start.0 }
+        requires live { IsLive mesh.now start }
         requires room { length mesh.now ≤ length planes.now }
-        requires sees { pos 0 <ℤ height (plane_at planes.now start.0) apex }
+        requires sees { pos 0 <ℤ height (plane_at planes.now start) apex }
         ensures facets { OnOk result (AreFacets mesh.now self.new) }
 
         // Of a sound mesh, and planes that are its own, they are all that the apex sees, and no other.

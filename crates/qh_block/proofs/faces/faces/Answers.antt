@@ -13,14 +13,14 @@ loop-f-init c =
     (gathering_starts c.args.pts.now c.args.mesh.now c.as_mut_slice-marks.result.now
     (subst (λ (xs : List Bool). (f : ℕ) → mark_at xs f ≡ false) (sym items) c.in_ok-places.ensures.none) (omega arith))
 
-pub bounds-marks-f : goal.bounds-marks-f
-bounds-marks-f c = next_within _ _ _ _ _ _ _ c.loop-f.invariant c.in-Some.ensures.steps
+pub bounds-marks-index : goal.bounds-marks-index
+bounds-marks-index c = rw c.index.ensures (next_within _ _ _ _ _ _ _ c.loop-f.invariant c.in-Some.ensures.steps)
 
 pub loop-f-preserved-in_ok-push : goal.loop-f-preserved-in_ok-push
 loop-f-preserved-in_ok-push c =
     let new = c.in_ok-new_face.ensures in
     rw c.in_ok-push.ensures.items (gathering_goes _ _ _ _ _ _ _ c.loop-f.invariant c.in-Some.ensures.steps
-    c.if-not-marks-f.true _ _ c.new_face.auto.marks new.kept new.own new.face)
+    (rw c.index.ensures at c.if-not-marks-index.true) _ _ c.new_face.auto.marks new.kept new.own new.face)
 
 pub returns : goal.returns
 returns c = gathering_ends _ _ _ _ _ c.loop-f.invariant c.in-None.ensures.steps.0

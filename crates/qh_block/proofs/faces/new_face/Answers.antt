@@ -5,21 +5,20 @@ use Rattle.qh_model.specs.headline.Predicates.{place}
 use Rattle.qh_model.specs.contract.StoredSurface.{surface_of}
 use Rattle.qh_block.proofs.finished.Corners.{corners_in}
 use Rattle.qh_model.proofs.surfaces.FacetPlanes.{level_itself}
-use Rattle.qh_block.proofs.FoundFacets.{found_live}
 use Rattle.qh_block.proofs.finished.NewFaces.{new_face}
 use Rattle.qh_block.proofs.finished.LoneTriangles.{lone_triangle}
 use Rattle.qh_block.proofs.faces.new_face.Goals as goal
 
 pub walk-requires-clause-passes : goal.walk-requires-clause-passes
-walk-requires-clause-passes c = level_itself (place c.args.pts.now) (surface_of c.args.mesh.now) c.args.f.0
+walk-requires-clause-passes c = level_itself (place c.args.pts.now) (surface_of c.args.mesh.now) c.args.f
 
 pub gather_corners-requires : goal.gather_corners-requires
-gather_corners-requires c = rw c.deref.ensures.value (found_live _ _ _ _ _ _ c.in_ok-walk.ensures)
+gather_corners-requires c = rw c.deref.ensures.value c.in_ok-walk.ensures.walk.facets.live
 
 pub facet_polygon-requires-clause-indices : goal.facet_polygon-requires-clause-indices
 facet_polygon-requires-clause-indices c =
     rw c.deref-2.ensures.value (corners_in _ c.args.mesh.now c.walk.new.found.items _ c.requires.corners
-    (found_live _ _ _ _ _ _ c.in_ok-walk.ensures) (rw c.deref.ensures.value at c.in_ok-gather_corners.ensures.members))
+    c.in_ok-walk.ensures.walk.facets.live (rw c.deref.ensures.value at c.in_ok-gather_corners.ensures.members))
 
 pub returns-clause-face : goal.returns-clause-face
 returns-clause-face c =

@@ -1,7 +1,8 @@
 -- A walk goes over one facet after the other.
 use Rattle.std.proofs.Common.{rules, ◌∙◌, ◌<◌, [], length, arith, sym, subst}
 use Rattle.qh_block.specs.steps.Walks.{IsCrossed}
-use Rattle.qh_block.proofs.WalkSteps.{facets_fit, further_trans, crossed_more, read_number}
+use Rattle.qh_block.proofs.WalkSteps.{facets_fit, further_trans, crossed_more}
+use Rattle.std.proofs.lemmas.List.{get_or_read}
 use Rattle.qh_block.proofs.walk.walk.Goals as goal
 
 pub loop-next-smaller : goal.loop-next-smaller
@@ -22,6 +23,6 @@ loop-next-preserved g c =
       some = omega (arith, more, some);
       start = step.further.same 0 some ∙ old.invariant.start;
       crossed = crossed_more old.marks after us vs step.further P fs old.next h old.invariant.crossed
-          (subst (IsCrossed P fs after) (sym (read_number us old.next c.index.result.now h c.index.ensures)) step.crossed);
+          (subst (IsCrossed P fs after) (get_or_read us old.next c.index.result.now h c.index.ensures 0) step.crossed);
       next = omega (arith, more, h);
     }

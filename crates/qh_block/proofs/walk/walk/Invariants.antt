@@ -1,6 +1,5 @@
 -- What a walk keeps while it goes on.
-use Rattle.std.proofs.Common.{◌≡◌, ◌-◌, ◌<◌, ◌≤◌, [], length}
-use Rattle.qh_mesh.specs.contract.Replacement.{number}
+use Rattle.std.proofs.Common.{slice_index, ◌≡◌, ◌-◌, ◌<◌, ◌≤◌, [], length}
 use Rattle.qh_block.specs.steps.Walks.{IsWalk, AreCrossed, IsFurther}
 use Rattle.qh_block.proofs.walk.walk.Given as goal
 
@@ -9,7 +8,7 @@ invariant-loop-next g l = record {
   walk : IsWalk (g.T.Test.Passes l.test l.mesh) l.mesh l.marks l.found.items;
   further : IsFurther l.fn.marks l.marks [] l.found.items;
   some : 0 < length l.found.items;
-  start : number l.found.items 0 ≡ l.fn.start.0;
+  start : slice_index l.found.items 0 ≡ l.fn.start;
   crossed : AreCrossed (g.T.Test.Passes l.test l.mesh) l.mesh l.marks l.found.items l.next;
   next : l.next ≤ length l.found.items;
 }

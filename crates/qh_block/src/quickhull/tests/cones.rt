@@ -58,7 +58,7 @@ fn ring_of(alloc: Global, apex: Point, rim: &[Point]) -> Result<ConeRing, AllocE
             rim[0]
         };
         let plane = Plane::through(apex, from, to);
-        let facet = FacetNo(place);
+        let facet = FacetNo::new(place);
         wedges.push(Wedge {
             facet,
             plane,

@@ -1,7 +1,6 @@
 -- The planes of the facets so far.
-use Rattle.std.proofs.Common.{List, ◌∙◌, sym, subst}
+use Rattle.std.proofs.Common.{ℕ, List, ◌∙◌, sym, subst}
 use Rattle.qh_pred.specs.contract.Planes.{PlaneValue}
-use Rattle.qh_mesh.specs.declared.facets.FacetNo.{FacetNo}
 use Rattle.qh_block.proofs.InnerPoints.{AreListed, none_listed, next_listed, all_listed}
 use Rattle.qh_block.proofs.LiveFacets.{next_live}
 use Rattle.qh_block.proofs.inner_points.sample.planes_of.Goals as goal
@@ -9,7 +8,7 @@ use Rattle.qh_block.proofs.inner_points.sample.planes_of.Goals as goal
 pub loop-facet-init : goal.loop-facet-init
 loop-facet-init c =
     let pts = c.args.pts.now in let fs = c.args.mesh.now in
-    subst (λ (xs : List FacetNo). AreListed pts fs xs c.new-planes.result.items)
+    subst (λ (xs : List ℕ). AreListed pts fs xs c.new-planes.result.items)
     (sym (c.into_iter-facet-iterator.ensures.into_iter_gives ∙ c.live-facet-items.ensures))
     (rw c.new-planes.ensures.items (none_listed pts fs))
 

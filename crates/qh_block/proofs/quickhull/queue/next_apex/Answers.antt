@@ -1,16 +1,16 @@
 -- A facet without an outside set is passed over, and the first point of a set is the apex.
-use Rattle.std.proofs.Common.{◌≡◌, ◌∙◌, sym, subst, length, refl, arith}
+use Rattle.std.proofs.Common.{Some, ◌<◌, ◌≡◌, ◌∙◌, sym, subst, length, refl, arith}
 use Rattle.std.proofs.lemmas.List.{nil_from_length}
 use Rattle.qh_block.specs.steps.OutsideSets.{OutsideValue}
-use Rattle.qh_block.specs.steps.Runs.{AreWithin, IsUnderWay, IsPicked}
-use Rattle.qh_block.proofs.runs.NamedFacets.{within_rest}
+use Rattle.qh_block.specs.steps.Runs.{IsUnderWay, IsPicked}
+use Rattle.std.proofs.lemmas.List.Elements.{All-pop}
 use Rattle.qh_block.proofs.runs.PickedApexes.{taken_is, none_taken, passed_over, picked, all_done}
 use Rattle.qh_block.proofs.quickhull.queue.next_apex.Goals as goal
 
 pub returns-in-Some-take_first-clause-picked : goal.returns-in-Some-take_first-clause-picked
 returns-in-Some-take_first-clause-picked c pts fs ps k =
     let e = c.in-Some-take_first.ensures in
-    subst (λ (v : OutsideValue). IsPicked pts fs ps v c.pop.new.self.items c.in-Some.facet.0 c.in-Some-take_first.apex)
+    subst (λ (v : OutsideValue). IsPicked pts fs ps v c.pop.new.self.items c.in-Some.facet c.in-Some-take_first.apex)
     (sym (taken_is _ _ _ e.positions e.orphans e.sets))
     (picked (c.loop-facet.invariant.under_way pts fs ps k) _ _ c.in-Some.ensures.items e.first e.position)
 
@@ -18,9 +18,8 @@ pub loop-facet-preserved : goal.loop-facet-preserved
 loop-facet-preserved c =
     let v = c.loop-facet.sets in let rest = c.pop.new.self.items in let old = c.loop-facet.invariant in
     let e = c.in_default-take_first.ensures in let empty = e.none.0 refl in
-    let same : c.take_first.new.self ≡ v = taken_is _ _ _ e.positions e.orphans e.sets ∙ none_taken v c.in-Some.facet.0 empty in record {
-      within = subst (λ (w : OutsideValue). AreWithin (length w.sets) rest) (sym same)
-          (within_rest (length v.sets) rest c.in-Some.facet (rw c.in-Some.ensures.items at old.within));
+    let same : c.take_first.new.self ≡ v = taken_is _ _ _ e.positions e.orphans e.sets ∙ none_taken v c.in-Some.facet empty in record {
+      within = rw same (All-pop (λ f. f < length v.sets) _ rest (Some c.in-Some.facet) c.in-Some.ensures.items old.within).0;
       same = same ∙ old.same;
       under_way = λ pts fs ps k. subst (λ (w : OutsideValue). IsUnderWay pts fs ps w rest) (sym same)
           (passed_over (old.under_way pts fs ps k) _ _ c.in-Some.ensures.items empty);

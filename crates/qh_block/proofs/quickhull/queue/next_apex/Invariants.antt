@@ -1,14 +1,14 @@
 -- The facets passed over had no outside set.
-use Rattle.std.proofs.Common.{◌≡◌, List, length}
+use Rattle.std.proofs.Common.{All, ◌<◌, ◌≡◌, List, length}
 use Rattle.qh_model.specs.headline.Vector.{Vector}
 use Rattle.qh_model.specs.contract.StoredSurface.{StoredFacet}
 use Rattle.qh_pred.specs.contract.Planes.{PlaneValue}
-use Rattle.qh_block.specs.steps.Runs.{AreWithin, IsUnderWay}
+use Rattle.qh_block.specs.steps.Runs.{IsUnderWay}
 use Rattle.qh_block.proofs.quickhull.queue.next_apex.Given as goal
 
 abbrev pub invariant-loop-facet : goal.invariant-loop-facet
 invariant-loop-facet l = record {
-  within : AreWithin (length l.sets.sets) l.pending.items;
+  within : All (λ f. f < length l.sets.sets) l.pending.items;
   same : l.sets ≡ l.initial.sets;
   under_way : (pts : List Vector) (fs : List StoredFacet) (ps : List PlaneValue)
       → IsUnderWay pts fs ps l.initial.sets l.initial.pending.items

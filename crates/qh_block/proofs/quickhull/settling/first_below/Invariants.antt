@@ -1,10 +1,9 @@
 -- The point is above none of the facets so far.
-use Rattle.std.proofs.Common.{ℕ, ◌<◌}
+use Rattle.std.proofs.Common.{All, take}
 use Rattle.std.specs.Prelude.{pos, ◌≤ℤ◌}
 use Rattle.qh_pred.specs.contract.Planes.{height}
-use Rattle.qh_mesh.specs.contract.Replacement.{number}
 use Rattle.qh_block.specs.steps.Planes.{plane_at}
 use Rattle.qh_block.proofs.quickhull.settling.first_below.Given as goal
 
 abbrev pub invariant-loop-facet : goal.invariant-loop-facet
-invariant-loop-facet l = (j : ℕ) → j < l.facet-index → height (plane_at l.planes (number l.made j)) l.point ≤ℤ pos 0
+invariant-loop-facet l = All (λ f. height (plane_at l.planes f) l.point ≤ℤ pos 0) (take l.facet-index l.made)

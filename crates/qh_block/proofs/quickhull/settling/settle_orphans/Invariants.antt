@@ -1,12 +1,11 @@
 -- What is settled stays so, and each turn has one orphan fewer.
-use Rattle.std.proofs.Common.{◌≡◌, ◌≤◌, List, length}
+use Rattle.std.proofs.Common.{ℕ, All, ◌≡◌, ◌≤◌, List, length}
 use Rattle.qh_model.specs.headline.Predicates.{place}
 use Rattle.qh_model.specs.contract.StoredSurface.{StoredFacet}
-use Rattle.qh_mesh.specs.declared.facets.FacetNo.{FacetNo}
 use Rattle.qh_block.specs.steps.Planes.{ArePlanes}
 use Rattle.qh_block.specs.steps.OutsideSets.{listed}
 use Rattle.qh_block.specs.steps.Runs.{IsSettling}
-use Rattle.qh_block.proofs.runs.NamedFacets.{AreLive}
+use Rattle.qh_mesh.specs.contract.Replacement.{IsLive}
 use Rattle.qh_block.proofs.quickhull.settling.settle_orphans.Given as goal
 
 abbrev pub invariant-loop-orphan : goal.invariant-loop-orphan
@@ -14,7 +13,7 @@ invariant-loop-orphan l = record {
   places : length l.sets.sets ≡ length l.initial.sets.sets;
   positions : l.sets.positions ≡ l.initial.sets.positions;
   fewer : listed l.sets ≤ listed l.initial.sets;
-  settled : (fs : List StoredFacet) (pending : List FacetNo) → AreLive fs l.made → ArePlanes (place l.points) fs l.planes
+  settled : (fs : List StoredFacet) (pending : List ℕ) → All (IsLive fs) l.made → ArePlanes (place l.points) fs l.planes
       → IsSettling l.points fs l.initial.sets pending l.made → IsSettling l.points fs l.sets pending l.made;
 }
 

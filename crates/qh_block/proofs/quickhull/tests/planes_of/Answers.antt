@@ -14,12 +14,12 @@ facet-requires c = next_live c.args.mesh.now c.loop-f.f-iterator c.next.new.self
 
 pub index_mut-requires : goal.index_mut-requires
 index_mut-requires c =
-    let l = next_live c.args.mesh.now c.loop-f.f-iterator c.next.new.self c.in-Some.f c.loop-f.invariant.0 c.in-Some.ensures.steps in
-    let h = live_below c.args.mesh.now c.in-Some.f.0 l in let r = c.loop-f.invariant.1 in
+    let h = live_below c.args.mesh.now c.in-Some.f (next_live c.args.mesh.now c.loop-f.f-iterator c.next.new.self c.in-Some.f c.loop-f.invariant.0 c.in-Some.ensures.steps) in
+    let r = c.loop-f.invariant.1 in
     omega (arith, c.loop-f.planes.ok)
 
 pub loop-f-preserved : goal.loop-f-preserved
 loop-f-preserved c = (
   rest_live c.args.mesh.now c.loop-f.f-iterator c.next.new.self c.in-Some.f c.loop-f.invariant.0 c.in-Some.ensures.steps,
-  (let r = c.loop-f.invariant.1 in let s = length-set c.loop-f.planes.items c.in-Some.f.0 c.plane_of.result in omega arith),
+  (let r = c.loop-f.invariant.1 in let s = length-set c.loop-f.planes.items c.in-Some.f c.plane_of.result in omega arith),
 )

@@ -1,7 +1,7 @@
 -- The facets to come are live, and there is room for their planes.
 use Rattle.std.proofs.Common.{◌≤◌, length}
-use Rattle.qh_block.proofs.LiveFacets.{AreAllLive}
+use Rattle.qh_mesh.specs.contract.Replacement.{IsLive}
 use Rattle.qh_block.proofs.quickhull.tests.planes_of.Given as goal
 
 abbrev pub invariant-loop-f : goal.invariant-loop-f
-invariant-loop-f l = AreAllLive l.mesh l.f-iterator × (length l.mesh ≤ length l.planes.items)
+invariant-loop-f l = All (IsLive l.mesh) l.f-iterator × (length l.mesh ≤ length l.planes.items)

@@ -1,18 +1,16 @@
 -- The facets to come are live, and those that are listed see the point.
 use Rattle.std.proofs.Common.{List, All}
 use Rattle.std.specs.Prelude.{pos, ◌<ℤ◌}
-use Rattle.qh_mesh.specs.declared.facets.FacetNo.{FacetNo}
 use Rattle.qh_mesh.specs.contract.Replacement.{IsLive}
 use Rattle.qh_model.specs.headline.Vector.{Vector}
 use Rattle.qh_model.specs.contract.StoredSurface.{StoredFacet}
 use Rattle.qh_pred.specs.contract.Planes.{PlaneValue, height}
 use Rattle.qh_block.specs.steps.Planes.{plane_at}
-use Rattle.qh_block.proofs.LiveFacets.{AreAllLive}
 use Rattle.qh_block.proofs.quickhull.tests.seen_by.Given as goal
 
 -- the facet is live and sees the point
-abbrev pub IsSeen : List StoredFacet → List PlaneValue → Vector → FacetNo → Type 0
-IsSeen fs ps apex f = IsLive fs f.0 × (pos 0 <ℤ height (plane_at ps f.0) apex)
+abbrev pub IsSeen : List StoredFacet → List PlaneValue → Vector → ℕ → Type 0
+IsSeen fs ps apex f = IsLive fs f × (pos 0 <ℤ height (plane_at ps f) apex)
 
 abbrev pub invariant-loop-f : goal.invariant-loop-f
-invariant-loop-f l = AreAllLive l.mesh l.f-iterator × All (IsSeen l.mesh l.planes l.apex) l.seen.items
+invariant-loop-f l = All (IsLive l.mesh) l.f-iterator × All (IsSeen l.mesh l.planes l.apex) l.seen.items

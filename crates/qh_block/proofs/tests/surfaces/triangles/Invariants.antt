@@ -1,6 +1,7 @@
 -- The facets to come are live.
-use Rattle.qh_block.proofs.LiveFacets.{AreAllLive}
+use Rattle.std.proofs.Common.{All}
+use Rattle.qh_mesh.specs.contract.Replacement.{IsLive}
 use Rattle.qh_block.proofs.tests.surfaces.triangles.Given as goal
 
 abbrev pub invariant-loop-f : goal.invariant-loop-f
-invariant-loop-f l = AreAllLive l.mesh l.f-iterator
+invariant-loop-f l = All (IsLive l.mesh) l.f-iterator

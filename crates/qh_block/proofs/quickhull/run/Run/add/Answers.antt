@@ -10,7 +10,7 @@ pub find-requires-clause-sees : goal.find-requires-clause-sees
 find-requires-clause-sees c =
     let pts = c.args.self.now.points.items in let r = c.requires in
     let point = read_point pts c.args.apex c.index-point.result.now r.apex c.index-point.ensures in
-    rw (c.deref.ensures.value, point, r.planes.right c.args.facet.0 r.live (place pts c.args.apex)) r.seen
+    rw (c.deref.ensures.value, point, r.planes.right c.args.facet r.live (place pts c.args.apex)) r.seen
 
 pub settle-requires-clause-remade : goal.settle-requires-clause-remade
 settle-requires-clause-remade c =

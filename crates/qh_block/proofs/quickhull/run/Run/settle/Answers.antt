@@ -1,12 +1,12 @@
 -- What is settled is ready for the next round.
-use Rattle.std.proofs.Common.{◌∙◌, ◌-◌, ap, sym, subst, List, [], length, replicate, get_or, arith, ℕ}
+use Rattle.std.proofs.Common.{◌<◌, ◌∙◌, ◌-◌, ap, sym, subst, List, [], length, replicate, get_or, arith, ℕ}
 use Rattle.std.proofs.lemmas.List.{length-append}
 use Rattle.qh_model.specs.headline.Predicates.{place}
 use Rattle.qh_model.specs.headline.Vector.{Vector}
 use Rattle.qh_block.specs.steps.Cones.{HasNoCornerAbove}
 use Rattle.qh_block.specs.steps.Planes.{ArePlanes}
 use Rattle.qh_block.proofs.runs.ConeRings.{grown_corners}
-use Rattle.qh_block.proofs.runs.NamedFacets.{within_more}
+use Rattle.std.proofs.lemmas.List.Elements.{All-weaker}
 use Rattle.qh_block.proofs.runs.SetWrites.{grown-set}
 use Rattle.qh_block.proofs.runs.SettledOrphans.{same_settling}
 use Rattle.qh_block.proofs.runs.RenewedPlanes.{roomy}
@@ -35,7 +35,6 @@ returns-clause-under_way c =
     next_round k planes
     (settled fs self.pending.items k.made_live planes (same_settling
     (λ f. ap (λ (xs : List (List ℕ)). get_or xs f []) sets ∙ grown-set old _ f) c.make_room-2.ensures.orphans k.settling))
-    settle.none (settle.positions ∙ c.make_room-2.ensures.positions)
-    (omega (arith, places, c.in_ok-make_room-2.ensures.places, settle.places))
-    (c.enqueue.ensures.within (within_more (length old) _ _ (omega (arith, more, settle.places)) k.range))
+    settle.none (settle.positions ∙ c.make_room-2.ensures.positions) (omega (arith, places, c.in_ok-make_room-2.ensures.places, settle.places))
+    (c.enqueue.ensures.within (All-weaker (λ f. f < length old) (λ f. f < length c.settle_orphans.new.sets.sets) (λ f h. omega (arith, h, more, settle.places)) self.pending.items k.range))
     c.enqueue.ensures.kept c.in_ok-enqueue.ensures.made

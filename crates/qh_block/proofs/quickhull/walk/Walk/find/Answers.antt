@@ -10,7 +10,7 @@ use Rattle.qh_block.proofs.quickhull.walk.Walk.find.Goals as goal
 
 pub returns-clause-visible : goal.returns-clause-visible
 returns-clause-visible c = λ at o l e a z.
-    let fs = c.args.mesh.now in let ps = c.args.planes.now in let f = c.args.start.0 in
+    let fs = c.args.mesh.now in let ps = c.args.planes.now in let f = c.args.start in
     let before = c.deref_mut.result.now in let after = c.walk.new.marks in let vs = c.walk.new.found.items in
     finds_all at fs ps o l f before after vs a z
     (subst (λ (ms : List Bool). (g : ℕ) → mark_at ms g ≡ false) (sym c.deref_mut.ensures.value)
