@@ -68,7 +68,7 @@ fn cone(
 
 fn replaced(alloc: Global, pts: &[Point]) -> Result<usize, Memory> {
     let mut mesh = first_simplex(alloc, pts)?;
-    let mut made = cone(alloc, &mut mesh, pts, &[FacetNo(0)], 0)?;
+    let mut made = cone(alloc, &mut mesh, pts, &[FacetNo::new(0)], 0)?;
     for round in 0..ROUNDS {
         made = cone(alloc, &mut mesh, pts, made.as_slice(), round % 4)?;
     }
@@ -94,13 +94,13 @@ fn main(rt: HostRuntime) -> ExitCode {
     "proofs/Lib.antt": "pub mod Cones\n",
     "proofs/Cones.antt": r"""-- Lists of facets.
 use Rattle.std.proofs.Common.{ℕ, List}
+use Rattle.std.proofs.lemmas.List.Elements.{All-from_get_or}
 use Rattle.qh_model.specs.contract.StoredSurface.{StoredFacet}
-use Rattle.qh_mesh.specs.declared.facets.FacetNo.{FacetNo}
-use Rattle.qh_mesh.specs.contract.Replacement.{AreFacets, IsReplacement}
+use Rattle.qh_mesh.specs.contract.Replacement.{AreFacets, IsLive, IsReplacement}
 
 -- the cone of a replacement is of facets
-pub made_are : (old new : List StoredFacet) (vs : List FacetNo) (p : ℕ) (made : List FacetNo) → IsReplacement old new vs p made → AreFacets new made
-made_are old new vs p made r = record { live = λ j l. (r.cone j l).live; apart = r.apart }
+pub made_are : (old new : List StoredFacet) (vs : List ℕ) (p : ℕ) (made : List ℕ) → IsReplacement old new vs p made → AreFacets new made
+made_are old new vs p made r = record { live = All-from_get_or (IsLive new) made 0 (λ j l. (r.cone j l).live); once = r.once }
 """,
     "proofs/cone/Answers.antt": r"""use Rattle.std.proofs.lemmas.Result.{IfOk-weaker}
 use Rattle.replacing.proofs.Cones.{made_are}

@@ -1,6 +1,6 @@
 -- The horizon of listed facets: its edges, that as many of them start at a corner as end there, and how it is gathered.
-use Rattle.std.proofs.Common.{◌++◌, All, ◌≡◌, ℕ, ◌+◌, ◌*◌, ◌/◌, ◌<◌, ◌≤◌, arith, ap, sym, ◌∙◌, refl, subst, true, false, inl, inr, List, length, Bool}
-use Rattle.std.proofs.Common.{slice_index, cond, not, [], ◌∷◌, map}
+use Rattle.std.proofs.Common.{◌≡◌, ℕ, ◌+◌, ◌*◌, ◌/◌, ◌<◌, ◌≤◌, ◌++◌, arith, ap, sym, ◌∙◌, refl, subst, Bool, true, false, cond, not}
+use Rattle.std.proofs.Common.{inl, inr, List, [], ◌∷◌, All, length, map, slice_index}
 use Rattle.std.specs.Prelude.{filter, count_by, flat_map}
 use Rattle.std.proofs.lemmas.Bool.{cases_Bool, not-true, not_from_false, both_ways}
 use Rattle.std.proofs.lemmas.List.Filters.{sum_by-filter_both}
@@ -24,7 +24,7 @@ use Rattle.qh_mesh.specs.steps.Places.{Removed}
 use Rattle.qh_mesh.specs.steps.Surfaces.{IsSurface}
 use Rattle.qh_mesh.specs.steps.Twins.{HasTwin, HasTwins}
 use Rattle.qh_mesh.proofs.EdgeSides.{edge-facet, twin-is, side-is, noted-is}
-use Rattle.qh_mesh.proofs.ListedFacets.{listed_live, in_sides, of_sides, once_sides, in_listed, listed_at, listed_in}
+use Rattle.qh_mesh.proofs.ListedFacets.{listed_live, in_sides, of_sides, once_sides, in_listed, listed_in, unlisted_at}
 use Rattle.qh_mesh.proofs.Mates.{meets}
 use Rattle.qh_model.proofs.surfaces.Stored.{live_inside}
 
@@ -113,7 +113,8 @@ pub open_more : (fs : List StoredFacet) (xs : List ℕ) (v : ℕ) → let t = fa
     ((open_sides fs xs ++ filter p (side_of t first ∷ [])) ++ filter p (side_of t second ∷ [])) ++ filter p (side_of t third ∷ [])
     ≡ open_sides fs (xs ++ v ∷ [])
 open_more fs xs v =
-    let t = facet_at fs v in let p = is_open fs in let sides : ℕ → List FacetSide = λ v. three_sides (facet_at fs v) in let m = flat_map sides xs in
+    let t = facet_at fs v in let p = is_open fs in
+    let sides : ℕ → List FacetSide = λ v. three_sides (facet_at fs v) in let m = flat_map sides xs in
     let a = side_of t first ∷ [] in let b = side_of t second ∷ [] in let c = side_of t third ∷ [] in
     rw (← filter-append p m a, ← filter-append p (m ++ a) b, ← filter-append p ((m ++ a) ++ b) c)
     (ap (filter p) (append_assoc (m ++ a) b c ∙ append_assoc m a (b ++ c) ∙ flat_map_more sides [] xs v))
@@ -125,7 +126,7 @@ module _ (old cleared : List StoredFacet) (vs : List ℕ) (r : Removed old clear
 
   -- every other facet stays
   pub stays : (f : ℕ) → is_listed vs f ≡ false → facet_at cleared f ≡ facet_at old f
-  stays f u = r.others f (λ j l e. both_ways (is_listed vs f) u (ap (is_listed vs) (sym e) ∙ listed_at vs j l))
+  stays f u = r.others f (unlisted_at vs f u)
 
   module _ (free : List ℕ) (s : IsSurface old free) (a : AreFacets old vs) where
     -- a listed facet and those across its sides are in the list

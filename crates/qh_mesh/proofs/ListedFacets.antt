@@ -1,7 +1,7 @@
 -- Lists of facets that have each once, and the list of their sides.
-use Rattle.std.proofs.Common.{◌++◌, ◌≡◌, ℕ, suc, ◌<◌, arith, ap, sym, refl, subst, true, false, cond, inl, inr, List, [], ◌∷◌, length, ◌≢◌, ◌+◌}
-use Rattle.std.proofs.Common.{slice_index, ◌*◌, ◌/◌, nat_eq}
-use Rattle.std.proofs.lemmas.Bool.{cases_lt, eq-eqb}
+use Rattle.std.proofs.Common.{◌≡◌, ◌≢◌, ℕ, ◌+◌, ◌*◌, ◌/◌, ◌<◌, ◌++◌, arith, sym, refl, subst, true, false, cond, nat_eq, inl, inr}
+use Rattle.std.proofs.Common.{List, [], ◌∷◌, length, slice_index}
+use Rattle.std.proofs.lemmas.Bool.{both_ways, cases_lt, eq-eqb}
 use Rattle.std.proofs.lemmas.Bool.Decides.{eqb_tells}
 use Rattle.qh_model.specs.contract.StoredSurface.{StoredFacet}
 use Rattle.qh_model.specs.headline.Sets.{In, Once}
@@ -26,9 +26,9 @@ pub listed_in : (vs : List ℕ) (f : ℕ) → is_listed vs f ≡ true → In f v
 listed_in [] f e = absurd (cc)
 listed_in (v ∷ vs) f e = elim (eqb_tells v f) [ inl t ↦ inl (sym t.1) | inr t ↦ inr (listed_in vs f (rw t.0 at e)) ]
 
--- what stands at a place is listed
-pub listed_at : (vs : List ℕ) (j : ℕ) → j < length vs → is_listed vs (slice_index vs j) ≡ true
-listed_at vs j l = in_listed vs (slice_index vs j) (In-get_or vs j 0 l)
+-- what is not listed stands at no place
+pub unlisted_at : (vs : List ℕ) (f : ℕ) → is_listed vs f ≡ false → (j : ℕ) → j < length vs → slice_index vs j ≢ f
+unlisted_at vs f u j l e = both_ways (is_listed vs f) u (in_listed vs f (subst (λ g. In g vs) e (In-get_or vs j 0 l)))
 
 -- one more, that is not in the list
 pub once_push : (vs : List ℕ) (f : ℕ) → Once vs → ¬ (In f vs) → Once (vs ++ f ∷ [])

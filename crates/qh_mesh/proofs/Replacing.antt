@@ -19,7 +19,7 @@ use Rattle.qh_mesh.specs.steps.Rebuilt.{IsCleared, IsChosen, IsConed, IsPrepared
 use Rattle.qh_mesh.specs.steps.Surfaces.{IsSurface}
 use Rattle.qh_mesh.specs.steps.Twins.{HasTwin}
 use Rattle.qh_mesh.proofs.HorizonSides.{edge, on_horizon, horizon_twin, same_place, horizon_balanced, gone, stays}
-use Rattle.qh_mesh.proofs.ListedFacets.{listed_at, listed_in}
+use Rattle.qh_mesh.proofs.ListedFacets.{listed_in, unlisted_at}
 use Rattle.qh_mesh.proofs.Mates.{has_mate, mate_only, mate_twice}
 use Rattle.qh_model.proofs.surfaces.Stored.{live_inside}
 use Rattle.qh_mesh.proofs.Pools.{places_are}
@@ -142,7 +142,7 @@ module _ (old chosen : List StoredFacet) (free left vs : List ℕ) (hs : List Fa
     only : (f : ℕ) → IsLive new f → IsKept old vs f ⊎ In f made
     only f l = elim (cases_Bool (is_listed made f)) [
       | inl e ↦ inr (listed_in made f e)
-      | inr u ↦ (let d = ap is_live (sym (other f (λ j m e. both_ways (is_listed made f) u (ap (is_listed made) (sym e) ∙ listed_at made j m)))) ∙ l in
+      | inr u ↦ (let d = ap is_live (sym (other f (unlisted_at made f u))) ∙ l in
           let u' = false_from_ne_true (is_listed vs f)
           (λ e. both_ways (facet_at p.between f).live (ap is_live (gone old p.between vs c.removed f e)) d) in
           inl (record { live = ap is_live (sym (stays old p.between vs c.removed f u')) ∙ d; unlisted = u' }))

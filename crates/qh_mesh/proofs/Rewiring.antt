@@ -12,7 +12,7 @@ use Rattle.qh_model.specs.contract.Rewired.{IsHorizonSide, LinksTo, IsRewired}
 use Rattle.qh_model.specs.contract.StoredSurface.{StoredFacet, facet_at, surface_of}
 pub use Rattle.qh_model.proofs.surfaces.Stored.{live_in, in_live}
 use Rattle.qh_model.proofs.surfaces.SurfaceLaws.{rise_is_vol, horizon_is_known}
-use Rattle.qh_model.proofs.Members.{in_at}
+use Rattle.qh_model.proofs.Members.{In-get_or, in_at}
 use Rattle.qh_model.proofs.algebra.Signs.{not_less}
 use Rattle.qh_mesh.specs.contract.Edges.{edge_end, edge_of, edge_start, facet_of, side_of_edge, twin_of}
 use Rattle.qh_mesh.specs.contract.Replacement.{is_listed, horizon, IsLive, AreFacets}
@@ -22,7 +22,7 @@ use Rattle.qh_mesh.specs.steps.Kept.{outer_of}
 use Rattle.qh_mesh.specs.steps.Twins.{HasTwin, HasTwins}
 use Rattle.qh_mesh.proofs.EdgeSides.{edge-facet, edge-side, edge_is, twins_by_side, start-is, end-is, twin-is, over-is, back-is}
 use Rattle.qh_mesh.proofs.HorizonSides.{edge, on_horizon, horizon_twin, horizon_at, same_place}
-use Rattle.qh_mesh.proofs.ListedFacets.{listed_at, listed_live}
+use Rattle.qh_mesh.proofs.ListedFacets.{in_listed, listed_live}
 
 module _ (fs : List StoredFacet) (f : ℕ) (s : Side) where
   -- the neighbour is the facet of the twin
@@ -235,7 +235,8 @@ module _ (old new : List StoredFacet) (vs : List ℕ) (p : ℕ) (made : List ℕ
       number = over;
       f0 = slice_index vs 0;
       live = in_live old (slice_index vs 0) (d.facets.live 0 0 visible.some);
-      seen = listed_seen (slice_index vs 0) (d.facets.live 0 0 visible.some) (listed_at vs 0 visible.some);
+      seen = let f = slice_index vs 0 in
+          listed_seen f (d.facets.live 0 0 visible.some) (in_listed vs f (In-get_or vs 0 0 visible.some));
       only = λ f i. only f (r.only f (live_in new f i));
       kept = λ f i b. let k = r.kept f (is_kept f i b) in
           record { live = in_live new f k.live; i_is = k.i_is; j_is = k.j_is; k_is = k.k_is };

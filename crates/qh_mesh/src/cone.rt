@@ -1,8 +1,8 @@
 //! The cone over a horizon, and how it is joined to the facets that stay.
-ghost use Rattle.std.specs.Prelude.{All, ◌≡◌, ◌≢◌, ◌+◌, ◌*◌, ◌/◌, ◌<◌, ◌^◌, ℕ, List, ◌++◌, length, true, slice_set};
+ghost use Rattle.std.specs.Prelude.{All, ◌≡◌, ◌≢◌, ◌+◌, ◌*◌, ◌/◌, ◌<◌, ◌^◌, ℕ, List, ◌++◌, length, true, slice_index, slice_set};
 ghost use Rattle.qh_model.specs.headline.Sets.{Once};
 ghost use Rattle.qh_model.specs.contract.StoredSurface.{facet_at};
-ghost use Rattle.qh_mesh.specs.contract.Edges.{facet_of, side_of_edge};
+ghost use Rattle.qh_mesh.specs.contract.Edges.{edge_of, facet_of, nth_side, side_of_edge};
 ghost use Rattle.qh_mesh.specs.steps.Kept.{with_twin};
 ghost use Rattle.qh_mesh.specs.steps.Horizons.{AreNoted, IsBalanced, side_at};
 ghost use Rattle.qh_mesh.specs.steps.Cones.{Joined, Written};
@@ -20,6 +20,16 @@ fn set_twin(facets: &mut [Facet], e: EdgeNo, twin: u32)
     facets[f] = facets[f].with_twin(e.side(), twin);
 }
 
+/// The number of a side of the j-th facet of a list.
+fn edge_at(made: &[FacetNo], j: usize, side: usize) -> u32
+    requires inside { j < length made.now }
+    requires side { side < 3 }
+    requires fits { All (λ f. 3 * f + 2 < 2 ^ 32) made.now }
+    ensures { result ≡ edge_of (slice_index made.now j) (nth_side side) }
+{
+    made[j].edge(side).number()
+}
+
 /// Each half-edge across the horizon gets its twin in the cone.
 #[tactic(auto, using(crate::proofs::WrittenFacets::joined_more))]
 pub fn join_outer(facets: &mut [Facet], horizon: &[FacetSide], made: &[FacetNo])
@@ -31,7 +41,7 @@ pub fn join_outer(facets: &mut [Facet], horizon: &[FacetSide], made: &[FacetNo])
     ensures { Joined facets.old facets.new horizon.now made.now (length horizon.now) }
 {
     for j in 0..horizon.len() {
-        set_twin(facets, horizon[j].across(), made[j].edge(0).number());
+        set_twin(facets, horizon[j].across(), edge_at(made, j, 0));
     }
 }
 
@@ -55,15 +65,15 @@ pub fn write_cone(
 {
     for j in 0..made.len() {
         let side = horizon[j];
-        let next = made[mate(slots, filled, horizon, true, j)];
-        let before = made[mate(slots, filled, horizon, false, j)];
+        let next = mate(slots, filled, horizon, true, j);
+        let before = mate(slots, filled, horizon, false, j);
         facets[made[j].index()] = Facet::new(
             side.from,
             side.to,
             apex,
             side.outer,
-            next.edge(2).number(),
-            before.edge(1).number(),
+            edge_at(made, next, 2),
+            edge_at(made, before, 1),
         );
     }
 }

@@ -271,8 +271,8 @@ impl Mesh {
             → IsSoundMesh (place pts.now) self.old o → AreVisible (place pts.now) self.old visible.now apex
             → IsSoundMesh (place pts.now) self.new o) }
         ensures closed { IfOk result (λ _. (s t u v : ℕ)
-            → IsSoundMesh (place pts.now) self.old (middle_at (place pts.now) s t u v) → AreVisible (place pts.now) self.old visible.now apex
-            → IsClosedMesh (place pts.now) self.new) }
+            → IsSoundMesh (place pts.now) self.old (middle_at (place pts.now) s t u v)
+            → AreVisible (place pts.now) self.old visible.now apex → IsClosedMesh (place pts.now) self.new) }
         ensures places { IfOk result (λ _. length self.new ≡ max (length self.old) (length (surface_of self.new).live)) }
         ensures memory { OnErr result (self.new ≡ self.old) }
     {

@@ -60,7 +60,8 @@ pub record IsReplacement (old new : List StoredFacet) (vs : List ℕ) (apex : �
   pub cone : (j : ℕ) → j < length made → IsCone old new (slice_index (horizon old vs) j) apex (slice_index made j)
   pub next : ℕ → ℕ
   pub next_in : (j : ℕ) → j < length made → next j < length made
-  pub next_starts : (j : ℕ) → j < length made → edge_start old (slice_index (horizon old vs) (next j)) ≡ edge_end old (slice_index (horizon old vs) j)
+  pub next_starts : (j : ℕ) → j < length made
+      → edge_start old (slice_index (horizon old vs) (next j)) ≡ edge_end old (slice_index (horizon old vs) j)
   pub next_twin : (j : ℕ) → j < length made → (facet_at new (slice_index made j)).jk ≡ edge_of (slice_index made (next j)) third
   pub next_back : (j : ℕ) → j < length made → (facet_at new (slice_index made (next j))).ki ≡ edge_of (slice_index made j) second
   pub kept : (f : ℕ) → IsKept old vs f → StaysFacet old new vs f

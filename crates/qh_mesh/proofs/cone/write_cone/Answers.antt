@@ -1,31 +1,27 @@
 -- One facet of the cone more is written.
-use Rattle.std.proofs.Common.{◌≡◌, arith, ◌+◌, ◌++◌, ap, drop, slice_index}
+use Rattle.std.proofs.Common.{◌+◌, ◌++◌, ap, drop, slice_index}
 use Rattle.std.proofs.lemmas.List.{drop_more, get_or_read}
 use Rattle.qh_model.specs.contract.StoredSurface.{StoredFacet, no_facet}
 use Rattle.qh_mesh.specs.steps.Cones.{IsOver}
-use Rattle.qh_mesh.proofs.Pools.{pool_less}
 use Rattle.qh_mesh.proofs.ListedFacets.{once_apart}
+use Rattle.qh_mesh.proofs.Pools.{pool_less}
 use Rattle.qh_mesh.proofs.WrittenFacets.{scattered_more}
 use Rattle.qh_mesh.proofs.cone.write_cone.Goals as goal
 
 pub loop-j-preserved : goal.loop-j-preserved
 loop-j-preserved c =
-    let made = c.args.made.now in let k = c.loop-j.j in let l = c.loop-j-test.true in
-    let is : c.index-made-j.result ≡ slice_index made k = get_or_read made k c.index-made-j.result l c.index-made-j.is 0 in
-    let next = get_or_read made c.mate.result c.index-made-mate.result (let e = c.requires.len in let i = c.mate.ensures.inside in omega arith) c.index-made-mate.is 0 in
-    let before = get_or_read made c.mate-in-loop-j.result c.index-made-mate-in-loop-j.result (let e = c.requires.len in let i = c.mate-in-loop-j.ensures.inside in omega arith) c.index-made-mate-in-loop-j.is 0 in
-    rw (c.index.ensures, is) (record {
+    let made = c.args.made.now in let k = c.loop-j.j in let l = c.loop-j-test.true in let new = c.new.result in
+    rw (c.index.ensures, get_or_read made k c.index-made-j.result l c.index-made-j.is 0) (record {
       written = scattered_more no_facet c.args.facets.now c.loop-j.facets (slice_index made)
-          (IsOver c.args.horizon.now made c.args.apex) k c.new.result c.loop-j.invariant.written
+          (IsOver c.args.horizon.now made c.args.apex) k new c.loop-j.invariant.written
           (c.requires.inside k 0 l) (λ i m. once_apart made c.requires.once i k m l)
           (record {
-            next = c.mate.result;
-            next_is = c.mate.ensures;
-            before = c.mate-in-loop-j.result;
-            before_is = c.mate-in-loop-j.ensures;
-            is = rw (c.number.ensures, c.edge.ensures, c.number-in-loop-j.ensures, c.edge-in-loop-j.ensures, next, before) at c.new.ensures;
+            next = c.mate-next.result;
+            next_is = c.mate-next.ensures;
+            before = c.mate-before.result;
+            before_is = c.mate-before.ensures;
+            is = rw (c.edge_at.ensures, c.edge_at-in-loop-j.ensures) at c.new.ensures;
           });
-      pool = λ places q. pool_less c.loop-j.facets (drop (k + 1) made ++ places) (slice_index made k) c.new.result
-          (rw (drop_more made k 0 c.loop-j-test.true) at (c.loop-j.invariant.pool places q))
-          (ap (λ (t : StoredFacet). t.live) c.new.ensures);
+      pool = λ places q. pool_less c.loop-j.facets (drop (k + 1) made ++ places) (slice_index made k) new
+          (rw (drop_more made k 0 l) at (c.loop-j.invariant.pool places q)) (ap (λ (t : StoredFacet). t.live) c.new.ensures);
     })

@@ -16,10 +16,11 @@ loop-f-preserved c =
     let apart = λ (j : ℕ) (m : j < k). once_apart vs c.requires.once j k m l in
     let is : c.f-item.result ≡ v = get_or_read vs k c.f-item.result l c.f-item.is 0 in
     let was = c.loop-f.invariant.facets.others v apart in let live = ap is_live was ∙ c.requires.live k 0 l in
-    let read = get_or_read ss v c.index-facets-place.result (live_inside ss v live) (rw (c.index-place.ensures, is) at c.index-facets-place.is) no_facet in
+    let read = get_or_read ss v c.index-facets-place.result (live_inside ss v live)
+    (rw (c.index-place.ensures, is) at c.index-facets-place.is) no_facet in
     rw (c.index-place.ensures, is) (record {
-      facets = scattered_more no_facet fs ss (slice_index vs) (λ j t. t ≡ removed (facet_at fs (slice_index vs j))) k r c.loop-f.invariant.facets
-          (live_inside fs v (c.requires.live k 0 l)) apart (c.removed.ensures ∙ ap removed (read ∙ was));
+      facets = scattered_more no_facet fs ss (slice_index vs) (λ j t. t ≡ removed (facet_at fs (slice_index vs j))) k r
+          c.loop-f.invariant.facets (live_inside fs v (c.requires.live k 0 l)) apart (c.removed.ensures ∙ ap removed (read ∙ was));
       pool = rw (c.push_reserved.ensures.items, is, reverse-append free (v ∷ []))
           (pool_more ss (reverse free) v r c.loop-f.invariant.pool live (ap is_live c.removed.ensures));
       len = omega arith;
