@@ -1,11 +1,10 @@
 -- Half-edges by their facet and side.
 use Rattle.std.proofs.Common.{◌≡◌, ℕ, zero, suc, ◌/◌, ◌%◌, ◌<◌, arith, ap, ◌∙◌, refl, subst, List}
-use Rattle.qh_model.specs.contract.Simplex.{one_of}
 use Rattle.qh_model.specs.contract.Surface.{Side, start, end}
 use Rattle.qh_model.specs.contract.Surface.Side.{first, second, third}
 use Rattle.qh_model.specs.contract.StoredSurface.{StoredFacet, facet_at, surface_of}
 use Rattle.qh_mesh.specs.declared.facets.FacetSide.{FacetSide}
-use Rattle.qh_mesh.specs.contract.Edges.{edge_end, edge_of, edge_start, facet_of, nth_side, side_no, side_of_edge, twin_of}
+use Rattle.qh_mesh.specs.contract.Edges.{edge_end, edge_of, edge_start, nth_side, side_no, side_of_edge, twin_of}
 use Rattle.qh_mesh.specs.contract.Replacement.{IsLive}
 use Rattle.qh_mesh.specs.steps.Horizons.{edge_side}
 use Rattle.qh_mesh.specs.steps.Kept.{outer_of, side_of}

@@ -1,11 +1,9 @@
 -- The horizon of listed facets: its edges, that as many of them start at a corner as end there, and how it is gathered.
-use Rattle.std.proofs.Common.{◌≡◌, ℕ, ◌+◌, ◌*◌, ◌/◌, ◌<◌, ◌≤◌, ◌++◌, arith, ap, sym, ◌∙◌, refl, subst, Bool, true, false, cond, not}
+use Rattle.std.proofs.Common.{◌≡◌, ℕ, ◌+◌, ◌/◌, ◌<◌, ◌≤◌, arith, ap, sym, ◌∙◌, refl, subst, Bool, true, false, cond, not}
 use Rattle.std.proofs.Common.{inl, inr, List, [], ◌∷◌, All, length, map, slice_index}
 use Rattle.std.specs.Prelude.{filter, count_by, flat_map}
-use Rattle.std.proofs.lemmas.Bool.{cases_Bool, not-true, not_from_false, both_ways}
+use Rattle.std.proofs.lemmas.Bool.{cases_Bool, not-true, not_from_false}
 use Rattle.std.proofs.lemmas.List.Filters.{sum_by-filter_both}
-use Rattle.std.proofs.lemmas.List.Elements.{filter-append}
-use Rattle.std.proofs.lemmas.List.{append_assoc, flat_map_more}
 use Rattle.std.proofs.lemmas.List.Sums.{sum_by-cons}
 use Rattle.qh_model.specs.contract.StoredSurface.{StoredFacet, facet_at}
 use Rattle.qh_model.specs.contract.Surface.{Side}
@@ -17,7 +15,6 @@ use Rattle.qh_model.proofs.lists.Filters.{in_filter, of_filter, once_filter, fil
 use Rattle.qh_model.proofs.lists.OnceEach.{once_place}
 use Rattle.qh_mesh.specs.contract.Edges.{edge_of, facet_of, side_of_edge, twin_of}
 use Rattle.qh_mesh.specs.contract.Replacement.{sides_of, is_listed, horizon, IsLive, AreFacets, IsKept}
-use Rattle.qh_mesh.specs.declared.facets.FacetSide.{FacetSide}
 use Rattle.qh_mesh.specs.steps.Horizons.{corner, edge_side, IsBalanced, HasSidesInside, is_open, three_sides, open_sides}
 use Rattle.qh_mesh.specs.steps.Kept.{side_of, outer_of, is_live, removed}
 use Rattle.qh_mesh.specs.steps.Places.{Removed}
@@ -108,17 +105,6 @@ horizon_balanced fs vs t a = elim [ true ↦ even | false ↦ λ l. sym (even l)
         omega (arith, c true, c false, b true, b false, round fs l vs)
 
 -- ---- gathering
--- the open sides of one facet more
-pub open_more : (fs : List StoredFacet) (xs : List ℕ) (v : ℕ) → let t = facet_at fs v in let p = is_open fs in
-    ((open_sides fs xs ++ filter p (side_of t first ∷ [])) ++ filter p (side_of t second ∷ [])) ++ filter p (side_of t third ∷ [])
-    ≡ open_sides fs (xs ++ v ∷ [])
-open_more fs xs v =
-    let t = facet_at fs v in let p = is_open fs in
-    let sides : ℕ → List FacetSide = λ v. three_sides (facet_at fs v) in let m = flat_map sides xs in
-    let a = side_of t first ∷ [] in let b = side_of t second ∷ [] in let c = side_of t third ∷ [] in
-    rw (← filter-append p m a, ← filter-append p (m ++ a) b, ← filter-append p ((m ++ a) ++ b) c)
-    (ap (filter p) (append_assoc (m ++ a) b c ∙ append_assoc m a (b ++ c) ∙ flat_map_more sides [] xs v))
-
 module _ (old cleared : List StoredFacet) (vs : List ℕ) (r : Removed old cleared vs (length vs)) where
   -- a listed facet is gone
   pub gone : (f : ℕ) → is_listed vs f ≡ true → facet_at cleared f ≡ removed (facet_at old f)

@@ -1,5 +1,5 @@
 -- What the loops of a replacement have written after one turn more.
-use Rattle.std.proofs.Common.{slice_index, ◌≡◌, ◌≢◌, ℕ, ◌+◌, ◌*◌, ◌/◌, ◌<◌, arith, ap, sym, ◌∙◌, refl, subst, cond, ◌⊎◌, inl, inr}
+use Rattle.std.proofs.Common.{slice_index, ◌≡◌, ◌≢◌, ℕ, ◌+◌, ◌/◌, ◌<◌, arith, ap, sym, ◌∙◌, refl, subst, cond, ◌⊎◌, inl, inr}
 use Rattle.std.proofs.Common.{List, length, get_or, set}
 use Rattle.std.proofs.lemmas.List.{get_or-set_same, get_or-set_other, length-set}
 use Rattle.std.proofs.lemmas.List.Sums.{sum_by-set}

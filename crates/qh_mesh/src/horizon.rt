@@ -19,6 +19,14 @@ fn add_side(facets: &[Facet], side: FacetSide, horizon: &mut Vec<FacetSide>)
     }
 }
 
+/// The facet at a place.
+fn facet_in(facets: &[Facet], f: FacetNo) -> Facet
+    requires { f < length facets.now }
+    ensures { result ≡ facet_at facets.now f }
+{
+    facets[f.index()]
+}
+
 /// The sides of the listed facets across which a live facet lies.
 pub fn gather(facets: &[Facet], visible: &[FacetNo], horizon: &mut Vec<FacetSide>)
     requires inside { All (HasSidesInside facets.now) visible.now }
@@ -28,7 +36,7 @@ pub fn gather(facets: &[Facet], visible: &[FacetNo], horizon: &mut Vec<FacetSide
     ensures count { vec_len horizon.new ≤ 3 * length visible.now }
 {
     for f in visible {
-        let facet = facets[f.index()];
+        let facet = facet_in(facets, *f);
         add_side(facets, facet.side(0), horizon);
         add_side(facets, facet.side(1), horizon);
         add_side(facets, facet.side(2), horizon);

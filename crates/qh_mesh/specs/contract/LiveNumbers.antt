@@ -1,5 +1,5 @@
 -- The numbers of the live facets, in rising order.
-use Rattle.std.specs.Prelude.{ℕ, List, map, drop}
+use Rattle.std.specs.Prelude.{ℕ, List, drop}
 use Rattle.qh_model.specs.contract.StoredSurface.{StoredFacet, live_from}
 
 -- those from n on

@@ -1,5 +1,5 @@
 -- The horizon as it is gathered, and which of its sides follow one another.
-use Rattle.std.specs.Prelude.{◌≡◌, ℕ, ◌/◌, ◌<◌, List, [], ◌∷◌, Bool, cond, not, nat_eq, length, take, filter, slice_index_or}
+use Rattle.std.specs.Prelude.{◌≡◌, ℕ, ◌<◌, List, [], ◌∷◌, Bool, cond, not, nat_eq, length, take, filter, slice_index_or}
 use Rattle.std.specs.Prelude.{count_by, flat_map}
 use Rattle.qh_model.specs.contract.Surface.Side.{first, second, third}
 use Rattle.qh_model.specs.contract.StoredSurface.{StoredFacet, facet_at}

@@ -1,7 +1,5 @@
 -- Half-edges by their facet and side, and twins that are right.
-use Rattle.std.specs.Prelude.{◌≡◌, ℕ, ◌+◌, ◌*◌, ◌/◌, List}
-use Rattle.qh_model.specs.contract.Simplex.{by_side}
-use Rattle.qh_model.specs.contract.Surface.{Side}
+use Rattle.std.specs.Prelude.{◌≡◌, ℕ, List}
 use Rattle.qh_model.specs.contract.StoredSurface.{StoredFacet}
 use Rattle.qh_mesh.specs.contract.Edges.{edge_end, edge_start, facet_of, twin_of}
 use Rattle.qh_mesh.specs.contract.Replacement.{IsLive}
