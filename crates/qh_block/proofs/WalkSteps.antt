@@ -16,7 +16,8 @@ use Rattle.qh_block.proofs.LiveFacets.{live_below}
 
 -- no more are found than there are places
 pub facets_fit : (fs : List StoredFacet) (vs : List ℕ) → AreFacets fs vs → length vs ≤ length fs
-facets_fit fs vs a = pigeon (length fs) (length vs) (slice_index vs) (λ i h. live_below fs (slice_index vs i) (a.live i 0 h)) (once_apart vs a.once)
+facets_fit fs vs a =
+    pigeon (length fs) (length vs) (slice_index vs) (λ i h. live_below fs (slice_index vs i) (a.live i 0 h)) (once_apart vs a.once)
 
 -- ---- the steps
 module _ (P : ℕ → Type 0) (fs : List StoredFacet) where

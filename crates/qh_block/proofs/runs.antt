@@ -1,5 +1,4 @@
 -- Runs of Quickhull: their steps.
-pub mod NamedFacets
 pub mod SetWrites
 pub mod PickedApexes
 pub mod SettledOrphans

@@ -60,7 +60,8 @@ module _ (pts : List Vector) (ids : List ℕ) (fs : List StoredFacet) (f : ℕ) 
 
   found : (g : ℕ) → IsLive fs g → IsLevelFacet at m f g → In g vs
   found g l level = listed_in vs g (plane_walk_finds_all at ids m z f (lives f live) (is_listed vs)
-      (record { has = in_listed vs f w.start; grows = λ g i s e x. in_listed vs (m.over g s) (grows g i s (listed_in vs g e) x) }) g (lives g l) level)
+      (record { has = in_listed vs f w.start; grows = λ g i s e x. in_listed vs (m.over g s) (grows g i s (listed_in vs g e) x) })
+      g (lives g l) level)
 
   module _ (corners q : List ℕ) (members : (i : ℕ) → In i corners ↔ IsListedCorner fs vs i) where
     -- the corners are ids

@@ -1,5 +1,5 @@
 -- The rings of large cones: what their wedges are, and what the answers of a search come to.
-use Rattle.std.proofs.Common.{All, slice_index, ◌≡◌, ℕ, ◌+◌, ◌*◌, ◌/◌, ◌<◌, arith, ap, sym, ◌∙◌, refl, List, [], ◌∷◌, ◌++◌, length, inl, inr}
+use Rattle.std.proofs.Common.{◌≡◌, ℕ, ◌<◌, All, slice_index, arith, ap, sym, ◌∙◌, refl, List, [], ◌∷◌, ◌++◌, length, inl, inr}
 use Rattle.std.specs.Prelude.{slice_index_or, ℤ, pos, ◌≤ℤ◌, ◌<ℤ◌}
 use Rattle.std.proofs.lemmas.Int.{ints}
 use Rattle.std.proofs.lemmas.List.{get_or_append_left, get_or_push, length_push}
@@ -31,12 +31,14 @@ use Rattle.qh_block.specs.declared.quickhull.cone_ring.Wedge.{Wedge}
 
 -- ---- the facets of a cone
 -- the neighbour over the second side was made
-pub fan_next : {fs : List StoredFacet} {made : List ℕ} {g : ℕ} (f : ℕ) → IsFan fs made → g ≡ facet_of (twin_of fs (edge_of f second)) → In f made → In g made
+pub fan_next : {fs : List StoredFacet} {made : List ℕ} {g : ℕ} (f : ℕ) → IsFan fs made
+    → g ≡ facet_of (twin_of fs (edge_of f second)) → In f made → In g made
 fan_next f k e n = rw e (k.closed f n)
 
 -- what a replacement made is a cone
 pub cone_fan : {old new : List StoredFacet} {vs made : List ℕ} {apex : ℕ} → IsReplacement old new vs apex made → IsFan new made
-cone_fan {new} {made} {apex} r = record { apex = apex; turned = All-from_get_or (λ f. (facet_at new f).k ≡ apex) made 0 (λ j l. (r.cone j l).third); closed = closed }
+cone_fan {new} {made} {apex} r =
+    record { apex = apex; turned = All-from_get_or (λ f. (facet_at new f).k ≡ apex) made 0 (λ j l. (r.cone j l).third); closed = closed }
   where
     closed : (f : ℕ) → In f made → In (facet_of (twin_of new (edge_of f second))) made
     closed f i =
@@ -84,20 +86,26 @@ module _ (pts : List Vector) (fs : List StoredFacet) (ps : List PlaneValue) (mad
     named = n;
     plane = refl;
     triangle = made_plane fan f (planes_of f n) n;
-    below = All-of (λ g. IsConePlane (apex_of pts fs made) (record { facet = f; plane = plane_at ps f; from = from_of f; to = to_of f }) (plane_at ps g)) made (λ g i. let p = planes_of g i in let h = above g f (lives g i) (lives f n) in record {
-      b = from_of g;
-      c = to_of g;
-      triangle = made_plane fan g p i;
-      from_below = rw (p.1 (from_of f)) h.0;
-      to_below = rw (p.1 (to_of f)) h.1;
-    });
+    below = All-of (λ g. IsConePlane (apex_of pts fs made) wedge (plane_at ps g)) made cone_plane;
   }
     where
+      wedge : Wedge
+      wedge = record { facet = f; plane = plane_at ps f; from = from_of f; to = to_of f }
+
       lives : (g : ℕ) → In g made → IsLive fs g
       lives g = All-In (IsLive fs) made g live
 
       planes_of : (g : ℕ) → In g made → IsPlaneOf pts fs ps g
       planes_of g = All-In (IsPlaneOf pts fs ps) made g planes
+
+      cone_plane : (g : ℕ) → In g made → IsConePlane (apex_of pts fs made) wedge (plane_at ps g)
+      cone_plane g i = let p = planes_of g i in let h = above g f (lives g i) (lives f n) in record {
+        b = from_of g;
+        c = to_of g;
+        triangle = made_plane fan g p i;
+        from_below = rw (p.1 (from_of f)) h.0;
+        to_below = rw (p.1 (to_of f)) h.1;
+      }
 
 -- what holds of each wedge, and of one more
 pub each_more : (P : Wedge → Type 0) (ws : List Wedge) (w : Wedge) → ((i : ℕ) → i < length ws → P (wedge_at ws i)) → P w
@@ -130,7 +138,8 @@ among {a} {p} {ws} i v w half l ev ew t h s u f g = record { place = i; within =
     }
 
 -- a point among rays is above none of the facets
-pub among_unseen : {ps : List PlaneValue} {made : List ℕ} {a p : Vector} {ws : List Wedge} → AreWedges ps made a ws → IsAmongRays a ws p → IsAboveNone ps made p
+pub among_unseen : {ps : List PlaneValue} {made : List ℕ} {a p : Vector} {ws : List Wedge} → AreWedges ps made a ws
+    → IsAmongRays a ws p → IsAboveNone ps made p
 among_unseen {ps} {made} {a} {p} {ws} k r j d l =
     rw (own.triangle p) (between_rays a x y z own.b own.c p r.between.spans r.between.after_y r.between.after_z r.between.after_x
     (rw (← own.triangle x) ((k 0 (let h = r.within in omega arith)).below j d l).from_below)

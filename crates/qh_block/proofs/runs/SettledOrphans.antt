@@ -85,7 +85,8 @@ one_settled {pts} {fs} {ps} {v} {w} {pending} {made} {o} live planes within firs
 
     dropped : IsDropped ps pts made v w → IsSettling pts fs w pending made
     dropped d = settled_by k (λ f p i. inl (rw (d.sets) at i)) rest (λ f p i. rw (d.sets) i) (placed (inr (k.drops o
-        (subst (In o) (sym first) (inl refl)) (λ j x h. rw (first-is, plane_height pts fs ps _ o planes (live j x h)) at (d.unseen j x h)))))
+        (subst (In o) (sym first) (inl refl))
+        (λ j x h. rw (first-is, plane_height pts fs ps _ o planes (live j x h)) at (d.unseen j x h)))))
 
     assigned : IsAssigned ps pts made v w → IsSettling pts fs w pending made
     assigned a = settled_by k held rest (λ f p i. rw sets (join_keeps v.sets a.facet a.in_front o f p room i))

@@ -49,7 +49,8 @@ pub record IsGrown (pts : List Vector) (fs : List StoredFacet) : Type 0 where
 
 -- between rounds: each point stands in the outside set of a facet that it is above, and that waits for its turn,
 -- or no facet sees it
-pub record IsUnderWay (pts : List Vector) (fs : List StoredFacet) (ps : List PlaneValue) (v : OutsideValue) (pending : List ℕ) : Type 0 where
+pub record IsUnderWay (pts : List Vector) (fs : List StoredFacet) (ps : List PlaneValue) (v : OutsideValue)
+    (pending : List ℕ) : Type 0 where
   pub grown : IsGrown pts fs
   pub planes : ArePlanes (place pts) fs ps
   pub positions : v.positions ≡ length pts
@@ -61,7 +62,8 @@ pub record IsUnderWay (pts : List Vector) (fs : List StoredFacet) (ps : List Pla
   pub all : (p : ℕ) → p < length pts → IsOutside v p ⊎ IsDone pts fs p
 
 -- the position a was taken out of the outside set of facet f, to be the next apex
-pub record IsPicked (pts : List Vector) (fs : List StoredFacet) (ps : List PlaneValue) (v : OutsideValue) (pending : List ℕ) (f a : ℕ) : Type 0 where
+pub record IsPicked (pts : List Vector) (fs : List StoredFacet) (ps : List PlaneValue) (v : OutsideValue)
+    (pending : List ℕ) (f a : ℕ) : Type 0 where
   pub grown : IsGrown pts fs
   pub planes : ArePlanes (place pts) fs ps
   pub positions : v.positions ≡ length pts
@@ -76,7 +78,8 @@ pub record IsPicked (pts : List Vector) (fs : List StoredFacet) (ps : List Plane
   pub seen : pos 0 <ℤ height_at pts fs f a
 
 -- while the orphans go to the facets that were made: an orphan that sees none of these sees no facet
-pub record IsSettling (pts : List Vector) (fs : List StoredFacet) (v : OutsideValue) (pending made : List ℕ) : Type 0 where
+pub record IsSettling (pts : List Vector) (fs : List StoredFacet) (v : OutsideValue)
+    (pending made : List ℕ) : Type 0 where
   pub outside : AreOutside pts fs v
   pub waits : (f p : ℕ) → In p (set_of v f) → In f pending ⊎ In f made
   pub all : (p : ℕ) → p < length pts → In p v.orphans ⊎ IsOutside v p ⊎ IsDone pts fs p
@@ -87,7 +90,8 @@ abbrev pub IsPlaneOf : List Vector → List StoredFacet → List PlaneValue → 
 IsPlaneOf pts fs ps f = (f < length ps) × ((p : Vector) → height (plane_at ps f) p ≡ facet_vol (place pts) fs f p)
 
 -- facets were made that have no plane and no outside set yet
-pub record IsRemade (pts : List Vector) (fs : List StoredFacet) (ps : List PlaneValue) (v : OutsideValue) (pending made : List ℕ) : Type 0 where
+pub record IsRemade (pts : List Vector) (fs : List StoredFacet) (ps : List PlaneValue) (v : OutsideValue)
+    (pending made : List ℕ) : Type 0 where
   pub grown : IsGrown pts fs
   pub planes : (f : ℕ) → IsLive fs f → IsPlaneOf pts fs ps f ⊎ In f made
   pub made_live : All (IsLive fs) made

@@ -48,7 +48,8 @@ pub fn renew(pts: &[Point], mesh: &Mesh, made: &[FacetNo], planes: &mut Vec<Plan
     requires corners { HasCornersBelow (length pts.now) mesh.now }
     requires room { length mesh.now ≤ length planes.old.items }
     ensures len { length planes.new.items ≡ length planes.old.items }
-    ensures planes { (f : ℕ) → IsLive mesh.now f → IsPlaneOf pts.now mesh.now planes.old.items f ⊎ In f made.now → IsPlaneOf pts.now mesh.now planes.new.items f }
+    ensures planes { (f : ℕ) → IsLive mesh.now f → IsPlaneOf pts.now mesh.now planes.old.items f ⊎ In f made.now
+        → IsPlaneOf pts.now mesh.now planes.new.items f }
 {
     for facet in made {
         planes[facet.index()] = plane_of(pts, mesh, *facet);

@@ -8,7 +8,9 @@ use Rattle.qh_block.proofs.runs.ConeRings.{fan_next, read_wedge, each_more}
 use Rattle.qh_block.proofs.quickhull.cone_ring.go_round.Goals as goal
 
 pub wedge_of-requires-clause-plane : goal.wedge_of-requires-clause-plane
-wedge_of-requires-clause-plane c = (All-In (IsPlaneOf c.args.pts.now c.args.mesh.now c.args.planes.now) c.args.made.now c.loop.facet c.requires.planes c.loop.invariant.named).0
+wedge_of-requires-clause-plane c =
+    let is = IsPlaneOf c.args.pts.now c.args.mesh.now c.args.planes.now in
+    (All-In is c.args.made.now c.loop.facet c.requires.planes c.loop.invariant.named).0
 
 pub wedge_of-requires-clause-live : goal.wedge_of-requires-clause-live
 wedge_of-requires-clause-live c = All-In (IsLive c.args.mesh.now) c.args.made.now c.loop.facet c.requires.live c.loop.invariant.named

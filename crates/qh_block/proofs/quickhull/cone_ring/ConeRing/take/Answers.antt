@@ -5,4 +5,5 @@ use Rattle.qh_block.specs.steps.Runs.{IsPlaneOf}
 use Rattle.qh_block.proofs.quickhull.cone_ring.ConeRing.take.Goals as goal
 
 pub first_facet-first-requires-clause-planes : goal.first_facet-first-requires-clause-planes
-first_facet-first-requires-clause-planes c = All-weaker (IsPlaneOf _ _ _) (λ f. f < length c.args.planes.now) (λ f h. h.0) c.args.made.now c.requires.planes
+first_facet-first-requires-clause-planes c =
+    All-weaker (IsPlaneOf _ _ _) (λ f. f < length c.args.planes.now) (λ f h. h.0) c.args.made.now c.requires.planes

@@ -9,7 +9,8 @@ invariant_of-self c =
     let k = kept_some c.self.invariant c.self.view_is c.requires.some in
     let w = c.with_second.ensures in
     let first = rw (← c.index-place.ensures) at c.requires.first in
-    (_, _, put_second k c.index.ensures (rw (← c.index-place.ensures) at c.requires.place) c.index-ends.ensures _ first _ c.index-2.ensures w.first w.second w.last)
+    (_, _, put_second k c.index.ensures (rw (← c.index-place.ensures) at c.requires.place) c.index-ends.ensures
+        _ first _ c.index-2.ensures w.first w.second w.last)
 
 pub returns : goal.returns
 unfolding invariant_of-self
@@ -17,5 +18,6 @@ returns c =
     let now = c.args.self.now in
     let s = drop-cons (set_of now c.index-place.result) 0 0 (rw (← c.index-place.ensures) at c.requires.first) in
     let l = ap (λ xs. length (joined false (get_or now.orphans 0 0) xs)) s in
-    rw (← c.index-place.ensures) (answered c.self.invariant c.self.view_is (length-set _ _ _ ∙ length-set _ _ _) _ _ (invariant_of-self c).2 (rw (← c.index-place.ensures) at c.requires.place)
+    rw (← c.index-place.ensures) (answered c.self.invariant c.self.view_is (length-set _ _ _ ∙ length-set _ _ _) _ _
+    (invariant_of-self c).2 (rw (← c.index-place.ensures) at c.requires.place)
     (omega (arith, ap length s, length-drop 1 now.orphans, c.requires.some)))

@@ -35,6 +35,8 @@ returns-clause-under_way c =
     next_round k planes
     (settled fs self.pending.items k.made_live planes (same_settling
     (λ f. ap (λ (xs : List (List ℕ)). get_or xs f []) sets ∙ grown-set old _ f) c.make_room-2.ensures.orphans k.settling))
-    settle.none (settle.positions ∙ c.make_room-2.ensures.positions) (omega (arith, places, c.in_ok-make_room-2.ensures.places, settle.places))
-    (c.enqueue.ensures.within (All-weaker (λ f. f < length old) (λ f. f < length c.settle_orphans.new.sets.sets) (λ f h. omega (arith, h, more, settle.places)) self.pending.items k.range))
+    settle.none (settle.positions ∙ c.make_room-2.ensures.positions)
+    (omega (arith, places, c.in_ok-make_room-2.ensures.places, settle.places))
+    (c.enqueue.ensures.within (All-weaker (λ f. f < length old) (λ f. f < length c.settle_orphans.new.sets.sets)
+    (λ f h. omega (arith, h, more, settle.places)) self.pending.items k.range))
     c.enqueue.ensures.kept c.in_ok-enqueue.ensures.made
