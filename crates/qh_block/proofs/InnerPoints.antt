@@ -1,5 +1,5 @@
 -- Points inside the hull of a sample: its planes, the boxes below them, and the ids that are left without them.
-use Rattle.std.proofs.Common.{ℕ, ◌≡◌, ◌⊎◌, ⊎_elim, inl, inr, List, [], ◌∷◌, ◌++◌, All, arith, refl, sym, subst}
+use Rattle.std.proofs.Common.{ℕ, ◌≡◌, ◌⊎◌, ⊎_elim, inl, inr, List, [], ◌∷◌, ◌++◌, All, arith, refl, subst}
 use Rattle.std.specs.Prelude.{pos, ◌<ℤ◌}
 use Rattle.std.specs.List.Sorted.{IsStrictlyIncreasing}
 use Rattle.qh_model.specs.headline.Vector.{Vector}

@@ -1,5 +1,5 @@
 -- The live facets of a mesh: where they are, and what a loop over them comes to.
-use Rattle.std.proofs.Common.{◌≡◌, ℕ, List, ◌∷◌, sym, subst, All, ◌<◌, arith, length}
+use Rattle.std.proofs.Common.{◌≡◌, ℕ, List, ◌∷◌, subst, All, ◌<◌, arith, length}
 use Rattle.std.proofs.lemmas.List.Elements.{All-head, All-rest}
 use Rattle.std.proofs.lemmas.List.{get_or_past}
 use Rattle.qh_model.specs.contract.StoredSurface.{StoredFacet, surface_of, no_facet}

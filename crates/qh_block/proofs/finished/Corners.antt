@@ -1,5 +1,5 @@
 -- The corners of a list of facets.
-use Rattle.std.proofs.Common.{All, inl, inr, ℕ, ◌<◌, List, length, sym, subst, arith, true, ◌≡◌}
+use Rattle.std.proofs.Common.{All, inl, inr, ℕ, ◌<◌, List, length, sym, subst, arith}
 use Rattle.std.specs.Prelude.{◌↔◌}
 use Rattle.qh_model.specs.headline.Vector.{Vector}
 use Rattle.qh_model.specs.headline.Sets.{In}

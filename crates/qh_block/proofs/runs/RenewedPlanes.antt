@@ -1,5 +1,5 @@
 -- The planes of facets that were made, written one after the other.
-use Rattle.std.proofs.Common.{drop, slice_index, ◌≡◌, ℕ, ◌+◌, ◌<◌, ◌≤◌, arith, ap, ◌∙◌, ◌⊎◌, inl, inr, List, length}
+use Rattle.std.proofs.Common.{drop, slice_index, ◌≡◌, ℕ, ◌+◌, ◌<◌, ◌≤◌, arith, ◌⊎◌, inl, inr, List, length}
 use Rattle.std.specs.Prelude.{slice_set}
 use Rattle.std.proofs.lemmas.Bool.{cases_eq}
 use Rattle.std.proofs.lemmas.List.{drop_all, drop_more, get_or-set_same, get_or-set_other, length-set}

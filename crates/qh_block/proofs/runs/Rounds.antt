@@ -25,7 +25,7 @@ use Rattle.qh_mesh.specs.contract.SoundMesh.{facet_vol, IsSoundMesh, IsClosedMes
 use Rattle.qh_mesh.proofs.ListedFacets.{in_listed, listed_in}
 use Rattle.qh_mesh.proofs.Rewiring.{live_in, in_live, rise-vol}
 use Rattle.qh_block.specs.steps.OutsideSets.{OutsideValue, set_of}
-use Rattle.qh_block.specs.steps.Runs.{height_at, IsDone, IsOutside, HasCornersBelow, IsPicked, IsPlaneOf, IsRemade}
+use Rattle.qh_block.specs.steps.Runs.{height_at, IsDone, IsOutside, HasCornersBelow, IsPicked, IsRemade}
 use Rattle.qh_block.specs.steps.Settling.{AreReleased}
 use Rattle.qh_block.proofs.LiveFacets.{live_below}
 

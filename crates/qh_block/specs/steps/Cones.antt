@@ -1,6 +1,6 @@
 -- Large cones: their facets as wedges in a ring round the apex, and what a search through the ring tells of a point.
 -- Source: Barber, Dobkin and Huhdanpaa 1996 (the cone of new facets over the horizon).
-use Rattle.std.specs.Prelude.{All, slice_index, ◌≡◌, ℕ, ◌+◌, ◌*◌, ◌/◌, ◌<◌, List, length, slice_index_or, pos, ◌≤ℤ◌, ◌<ℤ◌}
+use Rattle.std.specs.Prelude.{All, slice_index, ◌≡◌, ℕ, ◌<◌, List, length, slice_index_or, pos, ◌≤ℤ◌, ◌<ℤ◌}
 use Rattle.qh_model.specs.headline.Vector.{Vector, origin}
 use Rattle.qh_model.specs.headline.Sets.{In}
 use Rattle.qh_model.specs.headline.Predicates.{vol, place}

@@ -1,6 +1,6 @@
 -- How one orphan finds its outside set, and what is released where facets go.
 -- Source: Barber, Dobkin and Huhdanpaa 1996 (the points of the facets that go are partitioned among the new ones).
-use Rattle.std.specs.Prelude.{All, ◌≡◌, ℕ, ◌<◌, ◌⊎◌, Bool, List, [], length, drop, slice_index, slice_index_or, slice_set, pos, ◌≤ℤ◌, ◌<ℤ◌}
+use Rattle.std.specs.Prelude.{All, ◌≡◌, ℕ, ◌⊎◌, Bool, List, [], drop, slice_index, slice_index_or, slice_set, pos, ◌≤ℤ◌, ◌<ℤ◌}
 use Rattle.qh_model.specs.headline.Vector.{Vector, origin}
 use Rattle.qh_model.specs.headline.Sets.{In}
 use Rattle.qh_pred.specs.contract.Planes.{PlaneValue, height}

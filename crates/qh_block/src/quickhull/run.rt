@@ -110,7 +110,12 @@ impl Run {
             pending: Vec::new(alloc),
             made: 0,
         };
-        run.settle(&[FacetNo::new(0), FacetNo::new(1), FacetNo::new(2), FacetNo::new(3)])?;
+        run.settle(&[
+            FacetNo::new(0),
+            FacetNo::new(1),
+            FacetNo::new(2),
+            FacetNo::new(3),
+        ])?;
         Ok(run)
     }
 

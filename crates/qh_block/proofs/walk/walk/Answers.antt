@@ -1,5 +1,5 @@
 -- A walk goes over one facet after the other.
-use Rattle.std.proofs.Common.{rules, ◌∙◌, ◌<◌, [], length, arith, sym, subst}
+use Rattle.std.proofs.Common.{rules, ◌∙◌, ◌<◌, [], length, arith, subst}
 use Rattle.qh_block.specs.steps.Walks.{IsCrossed}
 use Rattle.qh_block.proofs.WalkSteps.{facets_fit, further_trans, crossed_more}
 use Rattle.std.proofs.lemmas.List.{get_or_read}

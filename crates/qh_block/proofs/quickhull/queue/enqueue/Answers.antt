@@ -1,5 +1,5 @@
 -- A facet that was made is queued if it has an outside set.
-use Rattle.std.proofs.Common.{◌∙◌, sym, take_all, get_or}
+use Rattle.std.proofs.Common.{◌∙◌, sym, take_all}
 use Rattle.std.proofs.lemmas.List.{get_or_read, take_more}
 use Rattle.qh_block.proofs.runs.WaitingFacets.{none_queued, more_queued, more_idle}
 use Rattle.qh_block.proofs.quickhull.queue.enqueue.Goals.{then-is_some+in_ok-push, else-is_some}

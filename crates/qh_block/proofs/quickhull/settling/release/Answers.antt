@@ -1,5 +1,5 @@
 -- The points of one facet more are orphans.
-use Rattle.std.proofs.Common.{◌∙◌, ap, List, [], ℕ, length, get_or, refl, take_all}
+use Rattle.std.proofs.Common.{◌∙◌, ap, List, [], ℕ, length, refl, take_all}
 use Rattle.std.proofs.lemmas.List.{get_or_read, take_more, length-set}
 use Rattle.qh_block.proofs.runs.SettledOrphans.{none_released, more_released}
 use Rattle.qh_block.proofs.quickhull.settling.release.Goals as goal
@@ -9,7 +9,7 @@ loop-facet-init c = record { released = none_released c.args.sets.now; places = 
 
 pub loop-facet-preserved : goal.loop-facet-preserved
 loop-facet-preserved c =
-    let i = c.loop-facet.facet-index in let gone = c.args.gone.now in let was = c.loop-facet.invariant in let e = c.release.ensures in 
+    let i = c.loop-facet.facet-index in let gone = c.args.gone.now in let was = c.loop-facet.invariant in let e = c.release.ensures in
     let x = c.facet-item.result in let is = get_or_read gone i x c.loop-facet-test.true c.facet-item.is 0 in record {
       released = rw (take_more gone i 0 c.loop-facet-test.true, ← is)
           (more_released x was.released e.orphans e.sets);

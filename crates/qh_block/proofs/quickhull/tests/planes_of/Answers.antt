@@ -15,7 +15,7 @@ facet-requires c = next_live c.args.mesh.now c.loop-f.f-iterator c.next.new.self
 pub index_mut-requires : goal.index_mut-requires
 index_mut-requires c =
     let h = live_below c.args.mesh.now c.in-Some.f
-        (next_live c.args.mesh.now c.loop-f.f-iterator c.next.new.self c.in-Some.f c.loop-f.invariant.0 c.in-Some.ensures.steps) in
+    (next_live c.args.mesh.now c.loop-f.f-iterator c.next.new.self c.in-Some.f c.loop-f.invariant.0 c.in-Some.ensures.steps) in
     let r = c.loop-f.invariant.1 in
     omega (arith, c.loop-f.planes.ok)
 

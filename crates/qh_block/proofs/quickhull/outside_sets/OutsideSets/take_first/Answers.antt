@@ -7,9 +7,12 @@ use Rattle.qh_block.proofs.quickhull.outside_sets.OutsideSets.take_first.Goals a
 
 pub invariant_of-self : goal.invariant_of-self
 invariant_of-self c =
-    let k = kept c.self.invariant c.self.view_is in
-    (_, _, taken k (rw (← c.index-place.ensures) at c.requires) _ c.index_mut.ensures.value _ _
-        (rw (← c.index-place.ensures) at c.in_ok-first.ensures.first) _ c.index.ensures)
+    let k = kept c.self.invariant c.self.view_is in (
+      _,
+      _,
+      taken k (rw (← c.index-place.ensures) at c.requires) _ c.index_mut.ensures.value _ _
+          (rw (← c.index-place.ensures) at c.in_ok-first.ensures.first) _ c.index.ensures,
+    )
 
 pub returns : goal.returns
 unfolding invariant_of-self
@@ -17,7 +20,7 @@ returns c =
     let e = value_after c.self.invariant c.self.view_is refl (invariant_of-self c).2 in
     let f = rw (← c.index-place.ensures) at c.in_ok-first.ensures in let place = c.index-place.result in
     let s = sum_by-set length c.args.self.now.sets place (drop 1 (set_of c.args.self.now place)) []
-        (rw (← c.index-place.ensures) at c.requires) in
+    (rw (← c.index-place.ensures) at c.requires) in
     rw (← c.index-place.ensures) (record {
       none = search rules;
       first = f.first;
