@@ -11,7 +11,7 @@ ghost use Rattle.qh_mesh.specs.contract.Replacement.{IsLive, AreFacets, IsReplac
 ghost use Rattle.qh_mesh.specs.contract.Names.{name_in};
 ghost use Rattle.qh_mesh.specs.contract.SoundMesh.{simplex_facets, IsSoundMesh, IsClosedMesh, AreVisible};
 ghost use Rattle.qh_model.specs.contract.Rewired.{IsRewired};
-ghost use Rattle.qh_model.specs.steps.FarCorners.{rest};
+ghost use Rattle.qh_model.specs.contract.Surface.{rest};
 
 use crate::facets::{EdgeNo, Facet, FacetNo, FacetSide, name_all};
 use crate::live::Live;

@@ -1,6 +1,6 @@
 -- A surface whose facets that see an id are replaced by its cone over the horizon.
-use Rattle.qh_model.specs.contract.Surface.{IsCorner, Side, Surface, HasTwin, IsWhole, end, rise, start}
-use Rattle.qh_model.specs.steps.FarCorners.{far, rest}
+use Rattle.qh_model.specs.contract.Surface.{IsCorner, Side, Surface, HasTwin, IsWhole, end, rise, start, rest}
+use Rattle.qh_model.specs.steps.FarCorners.{far}
 use Rattle.qh_model.specs.headline.Sets.{In}
 use Rattle.qh_model.specs.contract.SoundSurface.{IsInner, IsStrictWhenDrawn, IsSound, IsStrict, drawn, towards}
 use Rattle.qh_model.specs.contract.Weighted.{Weighted, above}

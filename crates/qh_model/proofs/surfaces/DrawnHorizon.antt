@@ -1,6 +1,6 @@
 -- The horizon at drawn places: where one of its sides ends exactly one begins.
-use Rattle.qh_model.specs.contract.Surface.{IsCorner, Side, Surface, HasTwin, IsWhole, end, rise, start}
-use Rattle.qh_model.specs.steps.FarCorners.{far, rest}
+use Rattle.qh_model.specs.contract.Surface.{IsCorner, Side, Surface, HasTwin, IsWhole, end, rise, start, rest}
+use Rattle.qh_model.specs.steps.FarCorners.{far}
 use Rattle.qh_model.specs.headline.Sets.{In}
 use Rattle.qh_model.specs.contract.SoundSurface.{IsSound, IsStrict}
 use Rattle.qh_model.specs.contract.Weighted.{Weighted, above}

@@ -1,6 +1,5 @@
 -- The sides of a facet in turn, and the one that starts at a corner.
-use Rattle.qh_model.specs.contract.Surface.{IsCorner, Side, Surface, end, start}
-use Rattle.qh_model.specs.steps.FarCorners.{rest}
+use Rattle.qh_model.specs.contract.Surface.{IsCorner, Side, Surface, end, start, rest}
 use Rattle.std.proofs.Common.{◌≡◌, ℕ, refl, sym, inl, inr}
 use native.Mathlib.Decide.{ℕ_discrete}
 use Rattle.qh_model.specs.contract.Surface.Side.{first, second, third}

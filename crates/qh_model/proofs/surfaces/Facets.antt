@@ -1,7 +1,7 @@
 -- Facets with neighbours over their sides, and what weighted points of their corners may have: no corner above a facet.
 use Rattle.qh_model.specs.contract.Surface.Side.{first, second, third}
-use Rattle.qh_model.specs.contract.Surface.{IsCorner, Side, Surface, HasTwin, IsWhole, end, rise, start}
-use Rattle.qh_model.specs.steps.FarCorners.{far, rest}
+use Rattle.qh_model.specs.contract.Surface.{IsCorner, Side, Surface, HasTwin, IsWhole, end, rise, start, rest}
+use Rattle.qh_model.specs.steps.FarCorners.{far}
 use Rattle.qh_model.specs.contract.SoundSurface.{HasDistinctFacets, IsInner, IsStrict}
 use Rattle.qh_model.specs.headline.Sets.{In}
 use Rattle.qh_model.specs.contract.Weighted.{Weighted, above, weighted_dot, plane_of}

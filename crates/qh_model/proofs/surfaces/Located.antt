@@ -1,7 +1,7 @@
 -- Each point lies over one facet, seen from the inner point: so what no facet sees is a mix of corners and the inner point.
 use Rattle.qh_model.specs.headline.Sets.{In}
-use Rattle.qh_model.specs.contract.Surface.{Side, Surface, IsWhole, end, rise, start}
-use Rattle.qh_model.specs.steps.FarCorners.{far, rest}
+use Rattle.qh_model.specs.contract.Surface.{Side, Surface, IsWhole, end, rise, start, rest}
+use Rattle.qh_model.specs.steps.FarCorners.{far}
 use Rattle.qh_model.specs.contract.SoundSurface.{IsSound, IsStrict, drawn, towards}
 use Rattle.qh_model.specs.contract.Weighted.{Weighted, above}
 use Rattle.std.proofs.Common.{◌≡◌, ℕ, suc, ◌≤◌, refl, [], ◌∷◌, arith, sym, subst, ◌⊎◌, inl, inr, true}

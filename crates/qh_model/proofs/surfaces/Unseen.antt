@@ -1,8 +1,8 @@
 -- Points that see a removed facet and none of the cone see nothing; points that see nothing see nothing of the cone.
 use Rattle.qh_model.specs.laws.Horizons.{IsConeUnseen}
 use Rattle.qh_model.specs.headline.Sets.{In}
-use Rattle.qh_model.specs.contract.Surface.{Side, Surface, IsWhole, end, rise, start}
-use Rattle.qh_model.specs.steps.FarCorners.{far, rest}
+use Rattle.qh_model.specs.contract.Surface.{Side, Surface, IsWhole, end, rise, start, rest}
+use Rattle.qh_model.specs.steps.FarCorners.{far}
 use Rattle.qh_model.specs.contract.SoundSurface.{IsSound}
 use Rattle.qh_model.specs.contract.Weighted.{Weighted, above}
 use Rattle.std.proofs.Common.{◌≡◌, ℕ, refl, arith, sym, ◌∙◌, ◌⊎◌, inl, inr, Bool, true}

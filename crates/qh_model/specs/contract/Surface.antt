@@ -31,6 +31,12 @@ end m f first = m.j f
 end m f second = m.k f
 end m f third = m.i f
 
+-- the facet's third id, across from the side
+abbrev pub rest : Surface → ℕ → Side → ℕ
+rest m f first = m.k f
+rest m f second = m.i f
+rest m f third = m.j f
+
 -- l is a corner of the facet
 abbrev pub IsCorner : Surface → ℕ → ℕ → Type 0
 IsCorner m f l = (l ≡ m.i f) ⊎ (l ≡ m.j f) ⊎ (l ≡ m.k f)
