@@ -60,10 +60,15 @@ left_quadrilateral n at A a b c d l ab ac ad bc bd cd abc bcd cda dab = record {
   members = λ x. (λ i. corner_extreme at A x (corner x i), λ e. (l x).0 e.0);
   once = grind (arith, common_steps, ab, ac, ad, bc, bd, cd);
   round = round_holds (TurnsLeft at n (a ∷ b ∷ c ∷ d ∷ [])) (a ∷ b ∷ c ∷ d ∷ []) (
-    side_of n at (a ∷ b ∷ c ∷ d ∷ []) d a b c (λ x i u v. grind (arith, common_steps, i, u, v)) dab abc, (
-    side_of n at (a ∷ b ∷ c ∷ d ∷ []) a b c d (λ x i u v. grind (arith, common_steps, i, u, v)) abc bcd, (
-    side_of n at (a ∷ b ∷ c ∷ d ∷ []) b c d a (λ x i u v. grind (arith, common_steps, i, u, v)) bcd cda,
-    side_of n at (a ∷ b ∷ c ∷ d ∷ []) c d a b (λ x i u v. grind (arith, common_steps, i, u, v)) cda dab)));
+    side_of n at (a ∷ b ∷ c ∷ d ∷ []) d a b c (λ x i u v. grind (arith, common_steps, i, u, v)) dab abc,
+    (
+      side_of n at (a ∷ b ∷ c ∷ d ∷ []) a b c d (λ x i u v. grind (arith, common_steps, i, u, v)) abc bcd,
+      (
+        side_of n at (a ∷ b ∷ c ∷ d ∷ []) b c d a (λ x i u v. grind (arith, common_steps, i, u, v)) bcd cda,
+        side_of n at (a ∷ b ∷ c ∷ d ∷ []) c d a b (λ x i u v. grind (arith, common_steps, i, u, v)) cda dab,
+      ),
+    ),
+  );
   least = λ v i. grind (arith, common_steps, i, ab, ac, ad);
 }
   where
