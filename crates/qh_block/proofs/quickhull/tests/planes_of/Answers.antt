@@ -22,5 +22,5 @@ index_mut-requires c =
 pub loop-f-preserved : goal.loop-f-preserved
 loop-f-preserved c = (
   rest_live c.args.mesh.now c.loop-f.f-iterator c.next.new.self c.in-Some.f c.loop-f.invariant.0 c.in-Some.ensures.steps,
-  (let r = c.loop-f.invariant.1 in let s = length-set c.loop-f.planes.items c.in-Some.f c.plane_of.result in omega arith),
+  (let r = c.loop-f.invariant.1 in let s = length-set c.loop-f.planes.items c.index.result c.plane_of.result in omega arith),
 )

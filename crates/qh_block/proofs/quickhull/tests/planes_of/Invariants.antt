@@ -1,5 +1,5 @@
 -- The facets to come are live, and there is room for their planes.
-use Rattle.std.proofs.Common.{◌≤◌, length}
+use Rattle.std.proofs.Common.{All, ◌≤◌, length}
 use Rattle.qh_mesh.specs.contract.Replacement.{IsLive}
 use Rattle.qh_block.proofs.quickhull.tests.planes_of.Given as goal
 
