@@ -1,4 +1,4 @@
--- Lists as sets: ordered lists, lists that have each member once, lists joined, images, filters, and counts.
+-- Lists as sets: ordered lists, lists that have each member once, lists joined, images, filters, counts, and searches.
 pub mod Ordered
 pub mod OnceEach
 pub mod Lexicographic
@@ -8,3 +8,4 @@ pub mod Images
 pub mod Ranges
 pub mod Filters
 pub mod Counts
+pub mod Searches

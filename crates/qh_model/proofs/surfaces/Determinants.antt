@@ -83,11 +83,6 @@ pub swap24 : (a b c d : Weighted) → above a d c b ≡ neg_ℤ (above a b c d)
 unfolding above
 swap24 a b c d = ring (put4 a (put4 b (put4 c (put4 d [])))) (aboveE (quad 0) (quad 3) (quad 2) (quad 1)) (neg (aboveE (quad 0) (quad 1) (quad 2) (quad 3))) refl
 
--- the second and the third change places
-pub swap23 : (a b c d : Weighted) → above a c b d ≡ neg_ℤ (above a b c d)
-unfolding above
-swap23 a b c d = ring (put4 a (put4 b (put4 c (put4 d [])))) (aboveE (quad 0) (quad 2) (quad 1) (quad 3)) (neg (aboveE (quad 0) (quad 1) (quad 2) (quad 3))) refl
-
 -- all four change places
 pub turned_first : (v t x y : Weighted) → above x v y t ≡ neg_ℤ (above v t x y)
 unfolding above

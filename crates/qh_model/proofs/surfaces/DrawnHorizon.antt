@@ -68,11 +68,11 @@ horizon_once m home o c f g s t a b e = pick (ℕ_discrete (end m f s) (end m g 
 
 -- ---- where a horizon side ends another begins
 -- is v a corner of the facet?
-pub has_corner : (m : Surface) (f v : ℕ) → Bool
+has_corner : (m : Surface) (f v : ℕ) → Bool
 has_corner m f v = elim (corner_test m f v) [ inl c ↦ true | inr n ↦ false ]
 
 -- the test is right
-pub has_corner-is : (m : Surface) (f v : ℕ) → has_corner m f v ≡ true → IsCorner m f v
+has_corner-is : (m : Surface) (f v : ℕ) → has_corner m f v ≡ true → IsCorner m f v
 unfolding has_corner
 has_corner-is m f v e = pick (corner_test m f v) e
   where
@@ -81,7 +81,7 @@ has_corner-is m f v e = pick (corner_test m f v) e
     pick (inr n) k = cc
 
 -- and finds all
-pub has_corner-true : (m : Surface) (f v : ℕ) → IsCorner m f v → has_corner m f v ≡ true
+has_corner-true : (m : Surface) (f v : ℕ) → IsCorner m f v → has_corner m f v ≡ true
 unfolding has_corner
 has_corner-true m f v c = pick (corner_test m f v)
   where

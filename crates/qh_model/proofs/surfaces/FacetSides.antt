@@ -10,12 +10,6 @@ side_next first = second
 side_next second = third
 side_next third = first
 
--- the side before
-abbrev pub side_prev : Side → Side
-side_prev first = third
-side_prev second = first
-side_prev third = second
-
 -- the next side starts where this one ends
 pub start_next : (m : Surface) (f : ℕ) (s : Side) → start m f (side_next s) ≡ end m f s
 start_next m f first = refl
@@ -27,18 +21,6 @@ pub end_next : (m : Surface) (f : ℕ) (s : Side) → end m f (side_next s) ≡ 
 end_next m f first = refl
 end_next m f second = refl
 end_next m f third = refl
-
--- the side before starts at the id across
-pub start_prev : (m : Surface) (f : ℕ) (s : Side) → start m f (side_prev s) ≡ rest m f s
-start_prev m f first = refl
-start_prev m f second = refl
-start_prev m f third = refl
-
--- and ends where this one starts
-pub end_prev : (m : Surface) (f : ℕ) (s : Side) → end m f (side_prev s) ≡ start m f s
-end_prev m f first = refl
-end_prev m f second = refl
-end_prev m f third = refl
 
 -- the side that starts at v
 pick_side : {P Q : Type 0} → Dec P → Dec Q → Side

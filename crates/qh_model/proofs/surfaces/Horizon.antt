@@ -1,40 +1,40 @@
 -- The horizon: where one side of it ends exactly one begins, and the other way round.
-use Rattle.qh_model.specs.contract.Surface.{IsCorner, Side, Surface, HasTwin, IsWhole, end, rise, start, rest}
-use Rattle.qh_model.specs.steps.FarCorners.{far}
+use Rattle.qh_model.specs.contract.Surface.{Side, Surface, IsWhole, end, rise, start}
+use Rattle.qh_model.specs.contract.Surface.Side.{first, second, third}
 use Rattle.qh_model.specs.contract.Rewired.{IsHorizonSide}
 use Rattle.qh_model.specs.laws.Horizons.{HasHorizonSide}
 use Rattle.qh_model.specs.headline.Sets.{In}
 use Rattle.qh_model.specs.contract.SoundSurface.{IsSound, drawn, towards}
 use Rattle.qh_model.specs.contract.Weighted.{Weighted, above}
-use Rattle.std.proofs.Common.{◌≡◌, ◌≢◌, ℕ, ◌+◌, ◌≤◌, refl, arith, ap, sym, ◌∙◌, subst, ◌⊎◌, inl, inr, Bool, true}
+use Rattle.std.proofs.Common.{◌≡◌, ◌≢◌, ℕ, zero, suc, ◌+◌, ◌≤◌, refl, arith, sym, ◌∙◌, subst, ◌⊎◌, inl, inr, List, [], ◌∷◌}
 use native.Mathlib.Decide.{ℕ_discrete}
-use Rattle.std.proofs.lemmas.Int.{ints, by_lt_z}
-use Rattle.std.proofs.lemmas.Bool.{and_parts}
-use Rattle.std.specs.Prelude.{ℤ, pos, ◌-ℤ◌, ◌*ℤ◌, ◌≤ℤ◌, ◌<ℤ◌, ◌&&◌}
-use Rattle.qh_model.proofs.algebra.Order.{mul-pos, neg-positive}
+use Rattle.std.specs.List.{flat_map}
+use Rattle.std.proofs.lemmas.Int.{by_lt_z}
+use Rattle.std.specs.Prelude.{pos, ◌≤ℤ◌, ◌<ℤ◌}
 use Rattle.qh_model.proofs.algebra.Signs.{less_one_way, opposite_positive}
-use Rattle.qh_model.proofs.surfaces.VisibleFacets.{Least, least}
-use Rattle.qh_model.proofs.surfaces.Facets.{rise_over, positive, positive-is, positive-true, corner_start, corner_rest, ends_differ, rest_differs}
-use Rattle.qh_model.proofs.surfaces.FacetSides.{side_prev, start_prev, end_prev, from, from_is}
+use Rattle.qh_model.proofs.lists.Joined.{in_flat_map}
+use Rattle.qh_model.proofs.lists.Searches.{comes_back}
+use Rattle.qh_model.proofs.surfaces.Facets.{corner_start, ends_differ}
 use Rattle.qh_model.proofs.surfaces.DrawnInwards.{Choice, choose}
-use Rattle.qh_model.proofs.surfaces.Determinants.{above-turn_last, swap14, swap23}
-use Rattle.qh_model.proofs.surfaces.PlanesThroughLine.{line_product}
-use Rattle.qh_model.proofs.surfaces.Cone.{Old}
-use Rattle.qh_model.proofs.surfaces.KeptSound.{edge_once, side_once}
-use Rattle.qh_model.proofs.surfaces.DrawnHorizon.{Scene, HorizonSide, horizon_below, horizon_once, has_corner, has_corner-is, has_corner-true, horizon_next}
+use Rattle.qh_model.proofs.surfaces.Determinants.{swap14}
+use Rattle.qh_model.proofs.surfaces.DrawnHorizon.{Scene, HorizonSide, Joined, horizon_below, horizon_once, horizon_next}
 
 -- ---- and where it starts another ends
 -- a horizon side is known by its end
-pub horizon_once_end : (m : Surface) (home : ℕ → Weighted) (o : Weighted) (c : Scene m home o) (f g : ℕ) (s t : Side) → HorizonSide m c.at c.top f s → HorizonSide m c.at c.top g t → end m f s ≡ end m g t → start m f s ≡ start m g t
+pub horizon_once_end : (m : Surface) (home : ℕ → Weighted) (o : Weighted) (c : Scene m home o) (f g : ℕ) (s t : Side)
+    → HorizonSide m c.at c.top f s → HorizonSide m c.at c.top g t → end m f s ≡ end m g t → start m f s ≡ start m g t
 horizon_once_end m home o c f g s t a b e = pick (ℕ_discrete (start m f s) (start m g t))
   where
     never : start m f s ≢ start m g t → ⊥
     never n =
         less_one_way (pos 0) (above (c.at (start m f s)) (c.at (end m f s)) c.top (c.at (start m g t)))
-        (opposite_positive (above (c.at (start m g t)) (c.at (end m f s)) c.top (c.at (start m f s))) _ (swap14 (c.at (start m f s)) (c.at (end m f s)) c.top (c.at (start m g t)))
+        (opposite_positive (above (c.at (start m g t)) (c.at (end m f s)) c.top (c.at (start m f s))) _
+        (swap14 (c.at (start m f s)) (c.at (end m f s)) c.top (c.at (start m g t)))
         (subst (λ u. above (c.at (start m g t)) (c.at u) c.top (c.at (start m f s)) <ℤ pos 0) (sym e)
-        (horizon_below m home o c g t b (start m f s) (f, a.live, corner_start m f s) n (λ q. ends_differ m home o c.sound.inner f a.live s (q ∙ sym e)))))
-        (horizon_below m home o c f s a (start m g t) (g, b.live, corner_start m g t) (λ q. n (sym q)) (λ q. ends_differ m home o c.sound.inner g b.live t (q ∙ e)))
+        (horizon_below m home o c g t b (start m f s) (f, a.live, corner_start m f s) n
+        (λ q. ends_differ m home o c.sound.inner f a.live s (q ∙ sym e)))))
+        (horizon_below m home o c f s a (start m g t) (g, b.live, corner_start m g t) (λ q. n (sym q))
+        (λ q. ends_differ m home o c.sound.inner g b.live t (q ∙ e)))
 
     pick : Dec (start m f s ≡ start m g t) → start m f s ≡ start m g t
     pick (yes k) = k
@@ -47,126 +47,39 @@ pub record Ended (m : Surface) (at : ℕ → Weighted) (top : Weighted) (u : ℕ
   pub horizon : HorizonSide m at top f s
   pub ends : end m f s ≡ u
 
--- where a horizon side starts another ends
-pub horizon_prev : (m : Surface) (home : ℕ → Weighted) (o : Weighted) (c : Scene m home o) (f : ℕ) (s : Side) → HorizonSide m c.at c.top f s → Ended m c.at c.top (start m f s)
-horizon_prev m home o c f s r = pick (least mark p q m.live (λ g i e. p_pos g i e))
+-- where a horizon side starts another ends: from side to side the way leads back to the first, and each side is the next of one alone
+pub horizon_prev : (m : Surface) (home : ℕ → Weighted) (o : Weighted) (c : Scene m home o) (f : ℕ) (s : Side)
+    → HorizonSide m c.at c.top f s → Ended m c.at c.top (start m f s)
+horizon_prev m home o c f s r =
+    let back = comes_back start_of corners within one_way in let j = (side back.0).1 in
+    record { f = j.f; s = j.s; horizon = j.horizon; ends = back.1 }
   where
-    at : ℕ → Weighted
-    at = c.at
+    -- the sides from this one on, each by its start
+    side : ℕ → (v : ℕ) × Joined m c.at c.top v
+    side zero = (start m f s, record { f = f; s = s; horizon = r; starts = refl })
+    side (suc k) = let j = (side k).1 in (end m j.f j.s, horizon_next m home o c j.f j.s j.horizon)
 
-    top : Weighted
-    top = c.top
+    start_of : ℕ → ℕ
+    start_of k = (side k).0
 
-    u : ℕ
-    u = start m f s
+    corners_of : ℕ → List ℕ
+    corners_of g = m.i g ∷ m.j g ∷ m.k g ∷ []
 
-    v : ℕ
-    v = end m f s
+    corners : List ℕ
+    corners = flat_map corners_of m.live
 
-    w : ℕ
-    w = rest m f s
+    has_start : (g : ℕ) (t : Side) → In (start m g t) (corners_of g)
+    has_start g first = inl refl
+    has_start g second = inr (inl refl)
+    has_start g third = inr (inr (inl refl))
 
-    mark : ℕ → Bool
-    mark g = positive (rise m at g top) && has_corner m g u
+    within : (k : ℕ) → In (start_of k) corners
+    within k = let j = (side k).1 in
+        subst (λ v. In v corners) j.starts (in_flat_map corners_of m.live j.f (start m j.f j.s) j.horizon.live (has_start j.f j.s))
 
-    inn : ℕ → ℕ
-    inn g = rest m g (from m g u)
-
-    p : ℕ → ℤ
-    p g = above (at u) top (at v) (at (inn g))
-
-    q : ℕ → ℤ
-    q g = above (at u) top (at w) (at (inn g))
-
-    seen : (g : ℕ) → mark g ≡ true → pos 0 <ℤ rise m at g top
-    seen g e = positive-is (rise m at g top) (and_parts (positive (rise m at g top)) (has_corner m g u) e).0
-
-    corner : (g : ℕ) → mark g ≡ true → IsCorner m g u
-    corner g e = has_corner-is m g u (and_parts (positive (rise m at g top)) (has_corner m g u) e).1
-
-    marked : (g : ℕ) → pos 0 <ℤ rise m at g top → IsCorner m g u → mark g ≡ true
-    marked g a b = rw (positive-true (rise m at g top) a, has_corner-true m g u b) refl
-
-    starts : (g : ℕ) → mark g ≡ true → start m g (from m g u) ≡ u
-    starts g e = from_is m g u (corner g e)
-
-    t : HasTwin m f s
-    t = c.whole f r.live s
-
-    inn_not_v : (g : ℕ) → In g m.live → mark g ≡ true → inn g ≢ v
-    inn_not_v g i e k =
-        less_one_way (pos 0) (rise m at g top) (seen g e)
-        (subst (λ h. rise m at h top <ℤ pos 0) (sym (edge_once m home o c.sound g (m.over f s) i t.live (side_prev (from m g u)) (m.back f s) (start_prev m g (from m g u) ∙ k ∙ sym t.start_is) (end_prev m g (from m g u) ∙ starts g e ∙ sym t.end_is))) r.blind)
-
-    over_plane : (l : ℕ) → Old m l → l ≢ u → l ≢ v → pos 0 <ℤ above (at u) top (at v) (at l)
-    over_plane l k a b = subst (λ z. pos 0 <ℤ z) (sym (swap23 (at u) (at v) top (at l))) (neg-positive (above (at u) (at v) top (at l)) (horizon_below m home o c f s r l k a b))
-
-    p_pos : (g : ℕ) → In g m.live → mark g ≡ true → pos 0 <ℤ p g
-    p_pos g i e = over_plane (inn g) (g, i, corner_rest m g (from m g u)) (λ k. (rest_differs m home o c.sound.inner g i (from m g u)).0 (k ∙ sym (starts g e))) (inn_not_v g i e)
-
-    uw : pos 0 <ℤ above (at u) top (at v) (at w)
-    uw = let d = rest_differs m home o c.sound.inner f r.live s in over_plane w (f, r.live, corner_rest m f s) d.0 d.1
-
-    products : (a b x y k : ℤ) → a *ℤ b -ℤ x *ℤ y ≡ k → pos 0 <ℤ k → pos 0 <ℤ (a *ℤ b -ℤ y *ℤ x)
-    products a b x y k e h = subst (λ z. pos 0 <ℤ z) (sym (same a b x y ∙ e)) h
-      where
-        same : (a b x y : ℤ) → a *ℤ b -ℤ y *ℤ x ≡ a *ℤ b -ℤ x *ℤ y
-        same a b x y = omega (arith, ints)
-
-    further : (g : ℕ) → In g m.live → mark g ≡ true → (d : Side) → side_prev (from m g u) ≡ d → pos 0 <ℤ rise m at (m.over g d) top → (mark (m.over g d) ≡ true) × (pos 0 <ℤ (p g *ℤ q (m.over g d) -ℤ q g *ℤ p (m.over g d)))
-    further g i e d de k = (mk, less_)
-      where
-        g' : ℕ
-        g' = m.over g d
-
-        tw : HasTwin m g d
-        tw = c.whole g i d
-
-        ends : end m g d ≡ u
-        ends = ap (end m g) (sym de) ∙ end_prev m g (from m g u) ∙ starts g e
-
-        begins : start m g d ≡ inn g
-        begins = ap (start m g) (sym de) ∙ start_prev m g (from m g u)
-
-        starts_at_u : start m g' (m.back g d) ≡ u
-        starts_at_u = tw.start_is ∙ ends
-
-        mk : mark g' ≡ true
-        mk = marked g' k (subst (IsCorner m g') starts_at_u (corner_start m g' (m.back g d)))
-
-        turn : from m g' u ≡ m.back g d
-        turn = side_once m home o c.sound.inner g' tw.live (from m g' u) (m.back g d) (starts g' mk ∙ sym starts_at_u)
-
-        inn' : inn g' ≡ far m g d
-        inn' = ap (rest m g') turn
-
-        rising : rise m at g' top ≡ above (at u) top (at (inn g)) (at (inn g'))
-        rising =
-            rise_over m at c.whole g i d top
-            ∙ ap (λ z. above (at z) (at (start m g d)) (at (far m g d)) top) ends
-            ∙ ap (λ z. above (at u) (at z) (at (far m g d)) top) begins
-            ∙ ap (λ z. above (at u) (at (inn g)) (at z) top) (sym inn')
-            ∙ above-turn_last (at u) top (at (inn g)) (at (inn g'))
-
-        less_ : pos 0 <ℤ (p g *ℤ q g' -ℤ q g *ℤ p g')
-        less_ =
-            products (above (at u) top (at v) (at (inn g))) (above (at u) top (at w) (at (inn g'))) (above (at u) top (at v) (at (inn g'))) (above (at u) top (at w) (at (inn g))) (above (at u) top (at v) (at w) *ℤ above (at u) top (at (inn g)) (at (inn g')))
-            (line_product (at u) top (at v) (at w) (at (inn g)) (at (inn g')))
-            (mul-pos (above (at u) top (at v) (at w)) (above (at u) top (at (inn g)) (at (inn g'))) uw (subst (λ z. pos 0 <ℤ z) rising k))
-
-    last : (l : Least mark p q m.live) → Ended m at top u
-    last l = by (c.known (m.over l.m d) (c.whole l.m l.there d).live)
-      where
-        d : Side
-        d = side_prev (from m l.m u)
-
-        by : (pos 0 <ℤ rise m at (m.over l.m d) top) ⊎ (rise m at (m.over l.m d) top <ℤ pos 0) → Ended m at top u
-        by (inl k) = let h = further l.m l.there l.marked d refl k in absurd (l.least (m.over l.m d) (c.whole l.m l.there d).live h.0 h.1)
-        by (inr k) = record { f = l.m; s = d; horizon = record { live = l.there; seen = seen l.m l.marked; blind = k }; ends = end_prev m l.m (from m l.m u) ∙ starts l.m l.marked }
-
-    pick : ((g : ℕ) → In g m.live → mark g ≡ true → ⊥) ⊎ Least mark p q m.live → Ended m at top u
-    pick (inl n) = absurd (n f r.live (marked f r.seen (corner_start m f s)))
-    pick (inr l) = last l
+    one_way : (i j : ℕ) → start_of (suc i) ≡ start_of (suc j) → start_of i ≡ start_of j
+    one_way i j e = let a = (side i).1 in let b = (side j).1 in
+        sym a.starts ∙ horizon_once_end m home o c a.f b.f a.s b.s a.horizon b.horizon e ∙ b.starts
 
 -- ---- the same for a real point
 pub record Shown (m : Surface) (home : ℕ → Weighted) (o p : Weighted) : Type 0 where
@@ -178,7 +91,14 @@ pub record Shown (m : Surface) (home : ℕ → Weighted) (o p : Weighted) : Type
 pub shown : (m : Surface) (home : ℕ → Weighted) (o : Weighted) → IsWhole m → IsSound m home o → (p : Weighted) → Shown m home o p
 shown m home o w z p =
     record {
-      scene = record { whole = w; sound = z; at = at; strict = z.lifted.strict n (at_least z.lifted.from ch.from); top = top; known = λ f i. known f i };
+      scene = record {
+        whole = w;
+        sound = z;
+        at = at;
+        top = top;
+        strict = z.lifted.strict n (at_least z.lifted.from ch.from);
+        known = λ f i. known f i;
+      };
       horizon = λ f s e. record { live = e.live; seen = up f e.live e.seen; blind = down (m.over f s) (w f e.live s).live e.blind };
       edge = λ f s r. record { live = r.live; seen = up' f r.live r.seen; blind = down' (m.over f s) (w f r.live s).live r.blind };
     }
@@ -217,18 +137,30 @@ shown m home o w z p =
     down' f i h = by_lt_z (pos 0) (rise m home f p) (λ k. absurd (less_one_way (pos 0) (rise m at f top) (up f i k) h)) (λ k. k)
 
 -- THEOREM: each horizon edge has one next and one before, told by its ends alone
-pub edge_next : (m : Surface) (home : ℕ → Weighted) (o : Weighted) → IsWhole m → IsSound m home o → (p : Weighted) (f : ℕ) (s : Side) → IsHorizonSide m home p f s → HasHorizonSide m home p (λ g t. start m g t ≡ end m f s)
-edge_next m home o w z p f s e = let h = shown m home o w z p in let j = horizon_next m home o h.scene f s (h.horizon f s e) in record { f = j.f; s = j.s; edge = h.edge j.f j.s j.horizon; is = j.starts }
+pub edge_next : (m : Surface) (home : ℕ → Weighted) (o : Weighted) → IsWhole m → IsSound m home o → (p : Weighted) (f : ℕ) (s : Side)
+    → IsHorizonSide m home p f s → HasHorizonSide m home p (λ g t. start m g t ≡ end m f s)
+edge_next m home o w z p f s e =
+    let h = shown m home o w z p in let j = horizon_next m home o h.scene f s (h.horizon f s e) in
+    record { f = j.f; s = j.s; edge = h.edge j.f j.s j.horizon; is = j.starts }
 
 -- and one before it
-pub edge_prev : (m : Surface) (home : ℕ → Weighted) (o : Weighted) → IsWhole m → IsSound m home o → (p : Weighted) (f : ℕ) (s : Side) → IsHorizonSide m home p f s → HasHorizonSide m home p (λ g t. end m g t ≡ start m f s)
-edge_prev m home o w z p f s e = let h = shown m home o w z p in let j = horizon_prev m home o h.scene f s (h.horizon f s e) in record { f = j.f; s = j.s; edge = h.edge j.f j.s j.horizon; is = j.ends }
+pub edge_prev : (m : Surface) (home : ℕ → Weighted) (o : Weighted) → IsWhole m → IsSound m home o → (p : Weighted) (f : ℕ) (s : Side)
+    → IsHorizonSide m home p f s → HasHorizonSide m home p (λ g t. end m g t ≡ start m f s)
+edge_prev m home o w z p f s e =
+    let h = shown m home o w z p in let j = horizon_prev m home o h.scene f s (h.horizon f s e) in
+    record { f = j.f; s = j.s; edge = h.edge j.f j.s j.horizon; is = j.ends }
 
 -- known by its start
-pub edge_known_by_start : (m : Surface) (home : ℕ → Weighted) (o : Weighted) → IsWhole m → IsSound m home o → (p : Weighted) (f g : ℕ) (s t : Side) → IsHorizonSide m home p f s → IsHorizonSide m home p g t → start m f s ≡ start m g t → (f ≡ g) × (s ≡ t)
-edge_known_by_start m home o w z p f g s t a b e = let h = shown m home o w z p in horizon_once m home o h.scene f g s t (h.horizon f s a) (h.horizon g t b) e
+pub edge_known_by_start : (m : Surface) (home : ℕ → Weighted) (o : Weighted) → IsWhole m → IsSound m home o
+    → (p : Weighted) (f g : ℕ) (s t : Side) → IsHorizonSide m home p f s → IsHorizonSide m home p g t → start m f s ≡ start m g t
+    → (f ≡ g) × (s ≡ t)
+edge_known_by_start m home o w z p f g s t a b e =
+    let h = shown m home o w z p in horizon_once m home o h.scene f g s t (h.horizon f s a) (h.horizon g t b) e
 
 -- known by its end
-pub edge_known_by_end : (m : Surface) (home : ℕ → Weighted) (o : Weighted) → IsWhole m → IsSound m home o → (p : Weighted) (f g : ℕ) (s t : Side) → IsHorizonSide m home p f s → IsHorizonSide m home p g t → end m f s ≡ end m g t → (f ≡ g) × (s ≡ t)
+pub edge_known_by_end : (m : Surface) (home : ℕ → Weighted) (o : Weighted) → IsWhole m → IsSound m home o
+    → (p : Weighted) (f g : ℕ) (s t : Side) → IsHorizonSide m home p f s → IsHorizonSide m home p g t → end m f s ≡ end m g t
+    → (f ≡ g) × (s ≡ t)
 edge_known_by_end m home o w z p f g s t a b e =
-    let h = shown m home o w z p in horizon_once m home o h.scene f g s t (h.horizon f s a) (h.horizon g t b) (horizon_once_end m home o h.scene f g s t (h.horizon f s a) (h.horizon g t b) e)
+    let h = shown m home o w z p in let a' = h.horizon f s a in let b' = h.horizon g t b in
+    horizon_once m home o h.scene f g s t a' b' (horizon_once_end m home o h.scene f g s t a' b' e)
