@@ -1,7 +1,8 @@
 -- The steps of a walk over twins.
 use Rattle.std.proofs.Common.{◌≡◌, ◌≢◌, ℕ, ◌+◌, ◌<◌, ◌≤◌, ◌∙◌, ◌⊎◌, ◌∷◌, ◌++◌, arith, ap, sym, refl, Bool, true, false, inl, inr, List, []}
 use Rattle.std.proofs.Common.{length, subst, set, length-set, get_or-set_same, get_or-set_other, slice_index}
-use Rattle.std.proofs.lemmas.Bool.{cases_eq, cases_lt}
+use Rattle.std.specs.Prelude.{◌↔◌, ◌||◌, IsTrue}
+use Rattle.std.proofs.lemmas.Bool.{cases_Bool, cases_eq, cases_lt}
 use Rattle.std.proofs.lemmas.List.{get_or_append_left, length_push}
 use Rattle.std.proofs.lemmas.List.Elements.{All-nil, All-push, All-weaker}
 use Rattle.qh_model.specs.headline.Sets.{In}
@@ -72,6 +73,15 @@ module _ (P : ℕ → Type 0) (fs : List StoredFacet) where
         only : (f : ℕ) → IsMarked next f → (f ≡ g) ⊎ (f ≢ g) → IsMarked marks f ⊎ In f (vs ++ g ∷ [])
         only f h (inl e) = inr (in_append vs (g ∷ []) f (inr (inl e)))
         only f h (inr n) = inl (sym (other f n) ∙ h)
+
+-- ---- a facet that is asked
+-- whether it is entered or not, afterwards it has a mark if it passes
+pub met : (P : Type 0) (marks : List Bool) (g : ℕ) (entered : Bool) → g < length marks
+    → (IsTrue entered ↔ ((mark_at marks g ≡ false) × P)) → P → IsMarked (set marks g (mark_at marks g || entered)) g
+met P marks g entered l e p = get_or-set_same marks g (mark_at marks g || entered) false l ∙ elim (cases_Bool (mark_at marks g)) [
+  | inl h ↦ ap (λ b. b || entered) h
+  | inr h ↦ rw (h, e.1 (h, p)) refl
+]
 
 -- ---- steps one after the other
 module _ (a b : List Bool) (us vs : List ℕ) (p : IsFurther a b us vs) where

@@ -3,9 +3,9 @@
 //! From a facet that passes all are found by going over the sides of those that are found.
 //!
 //! Source: Barber, Dobkin and Huhdanpaa 1996 (the visible set is found by a search over neighbours).
-ghost use Rattle.std.specs.Prelude.{◌≡◌, ◌≤◌, ◌<◌, ◌↔◌, IsTrue, ℕ, List, OnOk, [], length, false};
-ghost use Rattle.qh_model.specs.contract.StoredSurface.{StoredFacet};
-ghost use Rattle.qh_mesh.specs.contract.Edges.{edge_end, edge_start, facet_of, twin_of};
+ghost use Rattle.std.specs.Prelude.{◌≡◌, ◌≤◌, ◌<◌, ◌+◌, ◌↔◌, IsTrue, ℕ, List, OnOk, [], length, false, vec_len, vec_capacity};
+ghost use Rattle.qh_model.specs.contract.StoredSurface.{StoredFacet, surface_of};
+ghost use Rattle.qh_mesh.specs.contract.Edges.{edge_end, edge_start, facet_of, nth_side, twin_of};
 ghost use Rattle.qh_mesh.specs.contract.Replacement.{IsLive};
 ghost use Rattle.qh_block.specs.steps.Walks.{mark_at, IsMet, IsCrossed, IsFurther, IsWalk, IsWalkFrom};
 
@@ -28,36 +28,57 @@ pub trait Test {
         requires starts { edge_start mesh.now edge ≡ edge_end mesh.now (twin_of mesh.now edge) }
         requires ends { edge_end mesh.now edge ≡ edge_start mesh.now (twin_of mesh.now edge) }
         ensures { IsTrue result ↔ Self.Passes self.now mesh.now (facet_of edge) };
+
+    /// Whether a walk enters the facet of an edge: it has no mark yet and passes. A test that costs little
+    /// is asked in any case, since which facets have marks can't be foreseen.
+    fn enters(&self, mesh: &Mesh, edge: EdgeNo, is_marked: bool) -> bool
+        requires fits { Self.Fits self.now mesh.now }
+        requires live { IsLive mesh.now (facet_of edge) }
+        requires over { Self.Passes self.now mesh.now (facet_of (twin_of mesh.now edge)) }
+        requires starts { edge_start mesh.now edge ≡ edge_end mesh.now (twin_of mesh.now edge) }
+        requires ends { edge_end mesh.now edge ≡ edge_start mesh.now (twin_of mesh.now edge) }
+        ensures { IsTrue result ↔ ((is_marked ≡ false) × Self.Passes self.now mesh.now (facet_of edge)) }
+    {
+        !is_marked && self.passes(mesh, edge)
+    }
 }
 
-/// Goes over an edge of a facet that was found: the neighbour is found too if it passes and has no mark.
+/// Goes over a side of a facet that was found: the neighbour is found too if it passes and has no mark.
+/// It is listed in any case, and taken back where it doesn't: a count costs less than a wrong guess.
 fn cross<T: Test>(
     mesh: &Mesh,
     test: &T,
-    edge: EdgeNo,
+    f: FacetNo,
+    side: usize,
     marks: &mut [bool],
     found: &mut Vec<FacetNo>,
-) -> Result<(), AllocError>
+)
     requires fits { T.Fits test.now mesh.now }
-    requires live { IsLive mesh.now (facet_of edge) }
-    requires passes { T.Passes test.now mesh.now (facet_of edge) }
-    requires room { length mesh.now ≤ length marks.old }
+    requires live { IsLive mesh.now f }
+    requires side { side < 3 }
+    requires passes { T.Passes test.now mesh.now f }
+    requires marks { length mesh.now ≤ length marks.old }
+    requires room { vec_len found.old < vec_capacity found.old }
     requires walk { IsWalk (T.Passes test.now mesh.now) mesh.now marks.old found.old.items }
-    ensures walk { OnOk result (IsWalk (T.Passes test.now mesh.now) mesh.now marks.new found.new.items) }
-    ensures further { OnOk result (IsFurther marks.old marks.new found.old.items found.new.items) }
-    ensures crossed { OnOk result (IsMet (T.Passes test.now mesh.now) marks.new (facet_of (twin_of mesh.now edge))) }
+    ensures walk { IsWalk (T.Passes test.now mesh.now) mesh.now marks.new found.new.items }
+    ensures further { IsFurther marks.old marks.new found.old.items found.new.items }
+    ensures crossed { IsMet (T.Passes test.now mesh.now) marks.new ((surface_of mesh.now).over f (nth_side side)) }
+    ensures len { vec_len found.new ≤ vec_len found.old + 1 }
+    ensures capacity { vec_capacity found.new ≡ vec_capacity found.old }
 {
-    let twin = mesh.twin(edge);
+    let twin = mesh.across(f, side);
     let neighbour = mesh.facet_of(twin);
     let place = neighbour.index();
-    if !marks[place] && test.passes(mesh, twin) {
-        marks[place] = true;
-        found.push(neighbour)?;
+    let is_marked = marks[place];
+    let is_entered = test.enters(mesh, twin, is_marked);
+    found.push_reserved(neighbour);
+    marks[place] = is_marked | is_entered;
+    if !is_entered {
+        let _ = found.take_last();
     }
-    Ok(())
 }
 
-/// Goes over the three edges of a facet that was found.
+/// Goes over the three sides of a facet that was found.
 fn cross_all<T: Test>(
     mesh: &Mesh,
     test: &T,
@@ -74,9 +95,10 @@ fn cross_all<T: Test>(
     ensures further { OnOk result (IsFurther marks.old marks.new found.old.items found.new.items) }
     ensures crossed { OnOk result (IsCrossed (T.Passes test.now mesh.now) mesh.now marks.new f) }
 {
-    cross(mesh, test, mesh.edge(f, 0), marks, found)?;
-    cross(mesh, test, mesh.edge(f, 1), marks, found)?;
-    cross(mesh, test, mesh.edge(f, 2), marks, found)?;
+    found.reserve(3)?;
+    cross(mesh, test, f, 0, marks, found);
+    cross(mesh, test, f, 1, marks, found);
+    cross(mesh, test, f, 2, marks, found);
     Ok(())
 }
 

@@ -1,5 +1,5 @@
 -- Half-edges by their facet and side.
-use Rattle.std.proofs.Common.{◌≡◌, ℕ, zero, suc, ◌/◌, ◌%◌, ◌<◌, arith, ap, ◌∙◌, refl, subst, List}
+use Rattle.std.proofs.Common.{◌≡◌, ℕ, zero, suc, ◌/◌, ◌%◌, ◌<◌, arith, ap, sym, ◌∙◌, refl, subst, List}
 use Rattle.qh_model.specs.contract.Surface.{Side, start, end}
 use Rattle.qh_model.specs.contract.Surface.Side.{first, second, third}
 use Rattle.qh_model.specs.contract.StoredSurface.{StoredFacet, facet_at, surface_of}
@@ -34,6 +34,10 @@ edge_is x = let e : side_no (side_of_edge x) ≡ x % 3 = side_left_over (x % 3) 
 -- so twins may be told by facet and side
 pub twins_by_side : (fs : List StoredFacet) → ((f : ℕ) → IsLive fs f → (s : Side) → HasTwin fs (edge_of f s)) → HasTwins fs
 twins_by_side fs h e l = subst (HasTwin fs) (edge_is e) (h (e / 3) l (side_of_edge e))
+
+-- each side of a live facet has one
+pub twin-at : (fs : List StoredFacet) → HasTwins fs → (f : ℕ) → IsLive fs f → (s : Side) → HasTwin fs (edge_of f s)
+twin-at fs t f l s = t (edge_of f s) (subst (IsLive fs) (sym (edge-facet f s)) l)
 
 module _ (fs : List StoredFacet) (f : ℕ) (s : Side) where
   -- an edge starts and ends where the surface says

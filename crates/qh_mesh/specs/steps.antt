@@ -1,5 +1,6 @@
 -- What private functions speak of: nothing to believe.
 pub mod Kept
+pub mod ThreeTwins
 pub mod Horizons
 pub mod Cones
 pub mod Places

@@ -3,7 +3,7 @@ ghost use Rattle.std.specs.Prelude.{◌≡◌, ◌+◌, ◌*◌, ◌<◌, ◌^�
 ghost use Rattle.qh_model.specs.contract.StoredSurface.{named_facet, no_facet};
 ghost use Rattle.qh_mesh.specs.contract.Edges.{edge_of, facet_of, nth_side, side_of_edge};
 ghost use Rattle.qh_mesh.specs.contract.Names.{name_in};
-ghost use Rattle.qh_mesh.specs.steps.Kept.{facet_from, removed, side_of, with_twin};
+ghost use Rattle.qh_mesh.specs.steps.Kept.{facet_from, outer_of, removed, side_of, with_twin};
 
 use qh_model::Id;
 use std::marker::Model;
@@ -116,20 +116,24 @@ pub struct Facet {
     i: u32,
     j: u32,
     k: u32,
-    ij: u32,
-    jk: u32,
-    ki: u32,
+    twins: [u32; 3],
     live: bool,
 }
 
 impl Model for Facet {
+    ghost use Rattle.std.specs.Prelude.{◌≡◌, length, slice_index, [], ◌∷◌};
     ghost use Rattle.qh_model.specs.contract.StoredSurface.{StoredFacet};
+    ghost use Rattle.qh_mesh.specs.steps.ThreeTwins.{three_are};
 
     ghost Value = { StoredFacet };
 
-    ghost view = { λ f. record { i = f.i; j = f.j; k = f.k; ij = f.ij; jk = f.jk; ki = f.ki; live = f.live } };
+    ghost view = { λ f. record { i = f.i; j = f.j; k = f.k; ij = slice_index f.twins 0; jk = slice_index f.twins 1; ki = slice_index f.twins 2; live = f.live } };
 
-    ghost inverse = { λ f. record { i = f.i; j = f.j; k = f.k; ij = f.ij; jk = f.jk; ki = f.ki; live = f.live } };
+    ghost invariant = { λ f. length f.twins ≡ 3 };
+
+    ghost inverse = { λ f. record { i = f.i; j = f.j; k = f.k; twins = f.ij ∷ f.jk ∷ f.ki ∷ []; live = f.live } };
+
+    ghost inverse_ok = { λ f h i. record { i = f.i; j = f.j; k = f.k; twins = three_are f.twins h i; live = f.live } };
 }
 
 impl Facet {
@@ -141,9 +145,7 @@ impl Facet {
             i,
             j,
             k,
-            ij,
-            jk,
-            ki,
+            twins: [ij, jk, ki],
             live: true,
         }
     }
@@ -156,9 +158,7 @@ impl Facet {
             i: 0,
             j: 0,
             k: 0,
-            ij: 0,
-            jk: 0,
-            ki: 0,
+            twins: [0; 3],
             live: false,
         }
     }
@@ -188,26 +188,33 @@ impl Facet {
 
     /// Its side 0, 1 or 2.
     pub fn side(self, number: usize) -> FacetSide
+        requires { number < 3 }
         ensures { result ≡ side_of self (nth_side number) }
     {
-        let (from, to, outer) = match number {
-            0 => (self.i, self.j, self.ij),
-            1 => (self.j, self.k, self.jk),
-            _ => (self.k, self.i, self.ki),
+        let (from, to) = match number {
+            0 => (self.i, self.j),
+            1 => (self.j, self.k),
+            _ => (self.k, self.i),
         };
+        let outer = self.twins[number];
         FacetSide { from, to, outer }
+    }
+
+    /// The half-edge across its side 0, 1 or 2.
+    pub fn across(self, number: usize) -> EdgeNo
+        requires { number < 3 }
+        ensures { result ≡ outer_of self (nth_side number) }
+    {
+        EdgeNo(self.twins[number] as usize)
     }
 
     /// The facet with another half-edge across its side 0, 1 or 2.
     pub fn with_twin(self, number: usize, twin: u32) -> Facet
+        requires { number < 3 }
         ensures { result ≡ with_twin self (nth_side number) twin }
     {
         let mut facet = self;
-        match number {
-            0 => facet.ij = twin,
-            1 => facet.jk = twin,
-            _ => facet.ki = twin,
-        }
+        facet.twins[number] = twin;
         facet
     }
 

@@ -6,7 +6,8 @@ ghost use Rattle.qh_mesh.specs.steps.Horizons.{is_open, open_sides, HasSidesInsi
 
 use crate::facets::{Facet, FacetNo, FacetSide};
 
-/// Adds a side to the horizon if a live facet lies across it.
+/// Adds a side to the horizon if a live facet lies across it. It is noted in any case, since which sides
+/// are open can't be foreseen: a count costs less than a wrong guess.
 fn add_side(facets: &[Facet], side: FacetSide, horizon: &mut Vec<FacetSide>)
     requires outer { facet_of side.outer < length facets.now }
     requires room { vec_len horizon.old < vec_capacity horizon.old }
@@ -14,8 +15,9 @@ fn add_side(facets: &[Facet], side: FacetSide, horizon: &mut Vec<FacetSide>)
     ensures len { vec_len horizon.new ≤ vec_len horizon.old + 1 }
     ensures capacity { vec_capacity horizon.new ≡ vec_capacity horizon.old }
 {
-    if facets[side.across().facet().index()].is_live() {
-        horizon.push_reserved(side);
+    horizon.push_reserved(side);
+    if !facets[side.across().facet().index()].is_live() {
+        let _ = horizon.take_last();
     }
 }
 

@@ -9,6 +9,7 @@ ghost use Rattle.qh_model.specs.contract.StoredSurface.{facet_at, named_facet, s
 ghost use Rattle.qh_mesh.specs.contract.Edges.{nth_side, side_of_edge, facet_of, edge_of, edge_end, edge_start, twin_of};
 ghost use Rattle.qh_mesh.specs.contract.Replacement.{IsLive, AreFacets, IsReplacement};
 ghost use Rattle.qh_mesh.specs.contract.Names.{name_in};
+ghost use Rattle.qh_mesh.specs.steps.Twins.{HasTwins};
 ghost use Rattle.qh_mesh.specs.contract.SoundMesh.{simplex_facets, IsSoundMesh, IsClosedMesh, AreVisible};
 ghost use Rattle.qh_model.specs.contract.Rewired.{IsRewired};
 ghost use Rattle.qh_model.specs.contract.Surface.{rest};
@@ -188,12 +189,21 @@ impl Mesh {
         self.facets[f.index()].is_live()
     }
 
+    /// A live facet as the mesh keeps it.
+    fn kept(&self, f: FacetNo) -> Facet
+        requires { IsLive self.now f }
+        ensures facet { result ≡ facet_at self.now f }
+        ensures twins { HasTwins self.now }
+    {
+        self.facets[f.index()]
+    }
+
     /// The corners of a live facet, counterclockwise seen from outside.
     pub fn facet(&self, f: FacetNo) -> [Id; 3]
         requires { IsLive self.now f }
         ensures { result ≡ (facet_at self.now f).i ∷ (facet_at self.now f).j ∷ (facet_at self.now f).k ∷ [] }
     {
-        self.facets[f.index()].corners()
+        self.kept(f).corners()
     }
 
     /// The edge of a live facet that starts at its corner `side`, which is 0, 1 or 2.
@@ -233,8 +243,21 @@ impl Mesh {
         ensures from { result.0 ≡ edge_start self.now e }
         ensures to { result.1 ≡ edge_end self.now e }
     {
-        let side = self.facets[e.facet().index()].side(e.side());
+        let side = self.kept(e.facet()).side(e.side());
         (Id::new(side.from), Id::new(side.to))
+    }
+
+    /// The edge of the neighbour across a side of a live facet: 0, 1 or 2.
+    pub fn across(&self, f: FacetNo, side: usize) -> EdgeNo
+        requires facet { IsLive self.now f }
+        requires side { side < 3 }
+        ensures twin { result ≡ twin_of self.now (edge_of f (nth_side side)) }
+        ensures live { IsLive self.now (facet_of result) }
+        ensures back { twin_of self.now result ≡ edge_of f (nth_side side) }
+        ensures starts { edge_start self.now result ≡ edge_end self.now (edge_of f (nth_side side)) }
+        ensures ends { edge_end self.now result ≡ edge_start self.now (edge_of f (nth_side side)) }
+    {
+        self.kept(f).across(side)
     }
 
     /// The edge of the neighbour that runs against an edge of a live facet.
@@ -246,7 +269,7 @@ impl Mesh {
         ensures starts { edge_start self.now result ≡ edge_end self.now e }
         ensures ends { edge_end self.now result ≡ edge_start self.now e }
     {
-        self.facets[e.facet().index()].side(e.side()).across()
+        self.across(e.facet(), e.side())
     }
 
     /// Takes the visible facets away and puts the cone from the apex over their horizon. Its facets are
