@@ -71,8 +71,8 @@ fn cross<T: Test>(
     let place = neighbour.index();
     let is_marked = marks[place];
     let is_entered = test.enters(mesh, twin, is_marked);
-    found.push_reserved(neighbour);
     marks[place] = is_marked | is_entered;
+    found.push_reserved(neighbour);
     if !is_entered {
         let _ = found.take_last();
     }
