@@ -1,3 +1,5 @@
+-- The polygon of three or four ids by their turns, of more by their corners, of many without those inside.
+use Rattle.qh_plane.proofs.InnerPlaces.{planar_flat, outer_flat, outer_polygon}
 use Rattle.qh_plane.proofs.polygons.Quadrilateral.{polygon_of_four}
 use Rattle.qh_plane.proofs.polygons.Triangle.{polygon_of_three}
 use Rattle.qh_plane.proofs.planar.polygon.Goals as goal
@@ -13,3 +15,13 @@ returns-in-Some c = λ h.
     c.index-ids-2-then-ids-eq4.result c.index-ids-3.result c.of.result c.if-ids-eq4.true c.index-ids-0-then-ids-eq4.is c.index-ids-1-then-ids-eq4.is
     c.index-ids-2-then-ids-eq4.is c.index-ids-3.is
     (rw (c.of.ensures, c.in_ok-from_slice.ensures.items) c.in-Some.ensures) h
+
+pub returns-then-ids-ge-MANY : goal.returns-then-ids-ge-MANY
+returns-then-ids-ge-MANY c = λ h.
+    let pts = c.args.pts.now in let ids = c.args.ids.now in let n = c.args.normal.now in let outer = c.in_ok-outer.outer.items in
+    let part = c.in_ok-outer.ensures.part in let corners = rw c.deref.ensures.value at c.in_ok-corners.ensures in
+    rw c.of-then-ids-ge-MANY.ensures
+    (outer_polygon pts ids outer n h part c.in_ok-corners.field-0.items (corners (outer_flat pts ids outer n h part)))
+
+pub returns : goal.returns
+returns c = λ h. rw c.of-2.ensures (c.in_ok-corners-2.ensures (planar_flat c.args.pts.now c.args.ids.now c.args.normal.now h))
