@@ -3,7 +3,7 @@
 //! A cycle goes over a few ids far out on all sides. A point to the left of each side of a closed cycle lies
 //! in a triangle of three ids of it, whatever the cycle is. So it is not extreme, and nothing needs to be
 //! known of the far ids.
-ghost use Rattle.std.specs.Prelude.{◌≡◌, ◌<◌, ℕ, IfOk, length, filter};
+ghost use Rattle.std.specs.Prelude.{◌≡◌, ◌<◌, ℕ, IfOk, IfSome, length, filter};
 ghost use Rattle.qh_model.specs.headline.Sets.{In};
 ghost use Rattle.qh_model.specs.contract.IdSets.{AreIndices};
 ghost use Rattle.qh_plane.specs.steps.Chains.{turn_of};
@@ -15,7 +15,7 @@ use qh_pred::{Normal, point_at};
 use std::alloc::{AllocError, Global};
 
 /// From so many ids on, a set is looked through.
-pub const MANY: usize = 4096;
+const MANY: usize = 4096;
 
 /// One of so many ids is looked at for a place on the cycle.
 const LOOKED_AT: usize = 16;
@@ -94,7 +94,8 @@ fn far_cycle(
 ) -> Result<Vec<Id>, AllocError>
     requires some { 0 < length ids.now }
     requires indices { AreIndices pts.now ids.now }
-    ensures { IfOk result (λ v. (i : ℕ) → In i v.items → In i ids.now) }
+    ensures indices { IfOk result (λ v. AreIndices pts.now v.items) }
+    ensures members { IfOk result (λ v. (i : ℕ) → In i v.items → In i ids.now) }
 {
     let mut cycle = Vec::with_capacity(alloc, DIRECTIONS.len())?;
     let mut before = furthest(pts, normal, ids, DIRECTIONS[DIRECTIONS.len() - 1]);
@@ -148,18 +149,39 @@ fn ids_outside(
     Ok(kept)
 }
 
-/// The ids of a set in one plane, but some whose points lie inside, strictly between those of others.
+/// Whether at least half of the ids looked at have points inside a cycle, so that it pays to look at all.
+fn holds_most(pts: &[Point], normal: &Normal, ids: &[Id], cycle: &[Id]) -> bool
+    requires ids_in { AreIndices pts.now ids.now }
+    requires cycle_in { AreIndices pts.now cycle.now }
+{
+    let parts = ids.len() / LOOKED_AT;
+    let mut held: usize = 0;
+    for part in 0..parts {
+        if is_inside(pts, normal, cycle, ids[part * LOOKED_AT]) {
+            held = held.saturating_add(1);
+        }
+    }
+    held >= parts / 2
+}
+
+/// The ids of a set in one plane but some whose points lie inside, strictly between those of others; none
+/// where no look pays: the set is small, or few points are inside.
 pub fn outer_ids(
     alloc: Global,
     pts: &[Point],
     normal: &Normal,
     ids: &[Id],
-) -> Result<Vec<Id>, AllocError>
-    requires some { 0 < length ids.now }
-    requires indices { AreIndices pts.now ids.now }
-    ensures indices { IfOk result (λ v. AreIndices pts.now v.items) }
-    ensures part { IfOk result (λ v. IsOuterPart (turn_of pts.now normal.now) ids.now v.items) }
+) -> Result<Option<Vec<Id>>, AllocError>
+    requires { AreIndices pts.now ids.now }
+    ensures indices { IfOk result (λ found. IfSome found (λ v. AreIndices pts.now v.items)) }
+    ensures part { IfOk result (λ found. IfSome found (λ v. IsOuterPart (turn_of pts.now normal.now) ids.now v.items)) }
 {
+    if ids.len() < MANY {
+        return Ok(None);
+    }
     let cycle = far_cycle(alloc, pts, normal, ids)?;
-    ids_outside(alloc, pts, normal, ids, &cycle)
+    if !holds_most(pts, normal, ids, &cycle) {
+        return Ok(None);
+    }
+    Ok(Some(ids_outside(alloc, pts, normal, ids, &cycle)?))
 }

@@ -12,7 +12,7 @@ ghost use Rattle.qh_plane.specs.contract.PlanarSets.{IsPlanarSet};
 ghost use Rattle.qh_plane.specs.steps.InnerPlaces.{IsFlatSet};
 
 use crate::chains::{chain, turns_left};
-use crate::inner_places::{MANY, outer_ids};
+use crate::inner_places::outer_ids;
 use crate::place_keys::{id_in, place_keys};
 use qh_model::{Id, Memory, Point, Polygon};
 use qh_pred::Normal;
@@ -169,9 +169,8 @@ pub fn polygon(alloc: Global, pts: &[Point], ids: &[Id], normal: &Normal) -> Res
             return Ok(Polygon::of(Vec::from_slice(alloc, &cycle)?));
         }
     }
-    if ids.len() >= MANY {
-        let outer = outer_ids(alloc, pts, normal, ids)?;
-        return Ok(Polygon::of(corners(alloc, pts, normal, &outer)?));
+    match outer_ids(alloc, pts, normal, ids)? {
+        Some(outer) => Ok(Polygon::of(corners(alloc, pts, normal, &outer)?)),
+        None => Ok(Polygon::of(corners(alloc, pts, normal, ids)?)),
     }
-    Ok(Polygon::of(corners(alloc, pts, normal, ids)?))
 }
