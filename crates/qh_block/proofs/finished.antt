@@ -4,6 +4,8 @@ pub mod NewFaces
 pub mod LoneTriangles
 pub mod FaceLists
 pub mod Gathering
+pub mod FaceKeys
+pub mod MergedFaces
 pub mod FaceOrder
 pub mod EdgeCounts
 pub mod SolidBodies

@@ -8,12 +8,14 @@
 //! Of a large set `inner_points` drops most of what is inside first. `quickhull` makes the surface.
 //! `walk` finds the triangles that pass a test and hang together: those that a point sees, or those of
 //! one plane (`plane_walk`), of which `faces` makes the polygon.
-//! `face_order` and `solid_edges` order the faces and count their edges, and `solids` puts them together.
+//! `face_order` and `solid_edges` order the faces, most of them by the numbers of `face_keys`, and count their edges,
+//! and `solids` puts them together.
 //! `segment` finds the ends of a line, `normals` the side from which a polygon is seen, and `bodies`
 //! puts the hulls of flat sets together.
 #![tactic(auto)]
 
 mod bodies;
+mod face_keys;
 mod face_order;
 mod faces;
 mod flat_sets;

@@ -81,9 +81,9 @@ pub fn solid_body(alloc: Global, pts: &[Point], mesh: &Mesh) -> Result<Body, Mem
     ensures { IfOk result (λ b. (ids : List ℕ) → IsIdSet pts.now ids → IsFinished (place pts.now) ids (surface_of mesh.now)
         → IsBody (place pts.now) (Members ids) b) }
 {
-    let mut polygons = faces(alloc, pts, mesh)?;
+    let polygons = faces(alloc, pts, mesh)?;
     let extremes = corners(alloc, &polygons)?;
-    sort_faces(&mut polygons);
+    let polygons = sort_faces(alloc, polygons)?;
     let edges = edge_count(&polygons)?;
     Ok(Body {
         dim: 3,

@@ -6,6 +6,7 @@ use crate::tests::surfaces::point;
 use qh_model::{Body, Id, Point};
 use std::test::Fail;
 
+mod face_orders;
 mod looks;
 mod refusals;
 mod solid_rows;

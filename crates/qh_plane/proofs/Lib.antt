@@ -11,3 +11,4 @@ pub mod PlaneDirections
 pub mod LinesAndPlanes
 pub mod ShapeDimension
 pub mod polygons
+pub mod InnerPlaces

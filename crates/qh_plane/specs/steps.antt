@@ -4,4 +4,5 @@ pub mod CloseBoxes
 pub mod Marks
 pub mod PlaceKeys
 pub mod HashedKeys
+pub mod InnerPlaces
 pub mod SortedPoints

@@ -11,6 +11,7 @@ mod dimension;
 mod distinct_points;
 mod hashed_keys;
 mod id_lists;
+mod inner_places;
 mod place_keys;
 mod planar;
 mod ranking;

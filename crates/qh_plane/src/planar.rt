@@ -9,8 +9,10 @@ ghost use Rattle.qh_plane.specs.steps.Chains.{turn_of, chain, joined, triangle, 
 ghost use Rattle.qh_plane.specs.steps.PlaceKeys.{AreByPlace, HasKey};
 ghost use Rattle.qh_model.specs.contract.IdSets.{AreIndices};
 ghost use Rattle.qh_plane.specs.contract.PlanarSets.{IsPlanarSet};
+ghost use Rattle.qh_plane.specs.steps.InnerPlaces.{IsFlatSet};
 
 use crate::chains::{chain, turns_left};
+use crate::inner_places::outer_ids;
 use crate::place_keys::{id_in, place_keys};
 use qh_model::{Id, Memory, Point, Polygon};
 use qh_pred::Normal;
@@ -133,7 +135,7 @@ fn quadrilateral(pts: &[Point], normal: &Normal, i: Id, j: Id, k: Id, l: Id) -> 
 /// The cycle of more ids in one plane, over the two chains of their order, from the least on.
 fn corners(alloc: Global, pts: &[Point], normal: &Normal, ids: &[Id]) -> Result<Vec<Id>, AllocError>
     requires { AreIndices pts.now ids.now }
-    ensures { IfOk result (λ v. IsPlanarSet pts.now ids.now normal.now → IsPolygon (place pts.now) (Extreme (place pts.now) (Members ids.now)) normal.now v.items) }
+    ensures { IfOk result (λ v. IsFlatSet pts.now ids.now normal.now → IsPolygon (place pts.now) (Extreme (place pts.now) (Members ids.now)) normal.now v.items) }
 {
     let sorted = by_place(alloc, pts, ids)?;
     let mut corners = cycle(alloc, pts, normal, sorted)?;
@@ -167,5 +169,8 @@ pub fn polygon(alloc: Global, pts: &[Point], ids: &[Id], normal: &Normal) -> Res
             return Ok(Polygon::of(Vec::from_slice(alloc, &cycle)?));
         }
     }
-    Ok(Polygon::of(corners(alloc, pts, normal, ids)?))
+    match outer_ids(alloc, pts, normal, ids)? {
+        Some(outer) => Ok(Polygon::of(corners(alloc, pts, normal, &outer)?)),
+        None => Ok(Polygon::of(corners(alloc, pts, normal, ids)?)),
+    }
 }

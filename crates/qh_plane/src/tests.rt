@@ -7,6 +7,7 @@ use qh_model::{COORDINATE_LIMIT, Id, Point};
 use qh_pred::cross;
 use std::test::Fail;
 
+mod large_polygons;
 mod many_points;
 mod refusals;
 

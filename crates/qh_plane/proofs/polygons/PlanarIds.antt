@@ -1,4 +1,4 @@
--- Ids in one plane: they are flat across their normal, and there are at least two.
+-- Ids in one plane: they are flat across their normal, and three of them, so at least two, are not in line.
 use Rattle.std.proofs.Common.{◌≡◌, ◌≢◌, ℕ, ◌<◌, List, [], ◌∷◌, length, arith, ap, sym, ◌∙◌, refl, ◌⊎◌, inl, inr}
 use Rattle.std.proofs.lemmas.Int.{ints}
 use Rattle.std.specs.Prelude.{ℤ, pos, ◌-ℤ◌, neg_ℤ}
@@ -8,6 +8,7 @@ use Rattle.qh_model.proofs.algebra.VectorIdentities.{vec, dotE, put, vector_path
 use Rattle.qh_model.proofs.algebra.Signs.{opposite_zero}
 use Rattle.qh_model.proofs.extremes.Dimensions.{segment_of_triangle}
 use Rattle.qh_model.proofs.extremes.Directions.{square-positive}
+use Rattle.qh_model.specs.headline.Dimension.{HasTriangle}
 use Rattle.qh_model.specs.headline.Predicates.{place, cross}
 use Rattle.qh_model.specs.headline.Sets.{In, Members}
 use Rattle.qh_model.specs.headline.Vector.{Vector, origin, minus, dot}
@@ -22,6 +23,17 @@ negated c v = ring (put c (put v [])) (dotE (record { x = less (con (pos 0)) (ve
 -- what has the opposite zero is zero
 back_zero : (x : ℤ) → pos 0 -ℤ x ≡ pos 0 → x ≡ pos 0
 back_zero x e = omega (arith, ints)
+
+-- of ids of which three are not in line there are at least two
+pub two_of_triangle : (at : ℕ → Vector) (ids : List ℕ) → HasTriangle at (Members ids) → 1 < length ids
+two_of_triangle at ids t = let s = segment_of_triangle at (Members ids) t in go ids s.i s.j s.has_i s.has_j s.differ
+  where
+    go : (xs : List ℕ) (a b : ℕ) → In a xs → In b xs → a ≢ b → 1 < length xs
+    go [] a b ma mb d = absurd ma
+    go (x ∷ []) a b (inl e) (inl f) d = absurd (d (e ∙ sym f))
+    go (x ∷ []) a b (inl e) (inr m) d = absurd m
+    go (x ∷ []) a b (inr m) mb d = absurd m
+    go (x ∷ y ∷ ys) a b ma mb d = omega arith
 
 module _ (pts : List Vector) (ids : List ℕ) (n : Vector) (p : IsPlanarSet pts ids n) where
   -- the normal of the three
@@ -51,13 +63,6 @@ module _ (pts : List Vector) (ids : List ℕ) (n : Vector) (p : IsPlanarSet pts 
   pub flat_of : IsFlat n (place pts) (λ x. In x ids)
   flat_of = record { even = λ a b ma mb. none _ _ _ (between_eq n (place pts p.i) (place pts a) (place pts b)) (across b mb) (across a ma); some = square-positive n some }
 
-  -- there are at least two
-  pub two_of : 1 < length ids
-  two_of = let s = segment_of_triangle (place pts) (Members ids) (record { i = p.i; j = p.j; k = p.k; has_i = p.has_i; has_j = p.has_j; has_k = p.has_k; area = p.area }) in go ids s.i s.j s.has_i s.has_j s.differ
-    where
-      go : (xs : List ℕ) (a b : ℕ) → In a xs → In b xs → a ≢ b → 1 < length xs
-      go [] a b ma mb d = absurd ma
-      go (x ∷ []) a b (inl e) (inl f) d = absurd (d (e ∙ sym f))
-      go (x ∷ []) a b (inl e) (inr m) d = absurd m
-      go (x ∷ []) a b (inr m) mb d = absurd m
-      go (x ∷ y ∷ ys) a b ma mb d = omega arith
+  -- three of them are not in line
+  pub planar_triangle : HasTriangle (place pts) (Members ids)
+  planar_triangle = record { i = p.i; j = p.j; k = p.k; has_i = p.has_i; has_j = p.has_j; has_k = p.has_k; area = p.area }

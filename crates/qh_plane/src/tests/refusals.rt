@@ -4,6 +4,7 @@ ghost use Rattle.std.specs.Prelude.{◌≤◌, length};
 ghost use Rattle.qh_model.specs.declared.limits.TheConstants.{POINT_LIMIT};
 ghost use Rattle.qh_model.specs.contract.IdSets.{AreIndices};
 
+use crate::tests::large_polygons::{grid_with_point_outside, normal_of, polygon_of};
 use crate::{distinct, polygon};
 use qh_model::{Id, Memory, Point, Polygon};
 use qh_pred::{Normal, cross};
@@ -127,5 +128,17 @@ fn tries_again_for_polygons(rt: HostRuntime) -> Result<(), Fail> {
     let ids = [Id::new(0), Id::new(2), Id::new(3)];
     let triangle = polygon_again(alloc, &pts, &ids, &outward)?;
     assert!(rt; are(triangle.ids(), &[0, 2, 3]), "a triangle");
+    Ok(())
+}
+
+#[test]
+fn tries_again_for_a_large_polygon(rt: HostRuntime) -> Result<(), Fail> {
+    let grid = grid_with_point_outside();
+    let normal = normal_of(&grid);
+    let corners = match polygon_of(rt.alloc(), &grid, &normal) {
+        Err(Memory) => polygon_of(rt.alloc(), &grid, &normal)?,
+        Ok(corners) => corners,
+    };
+    assert!(rt; are(corners.ids(), &[0, 2450, 69, 4899, 4830]));
     Ok(())
 }

@@ -1,5 +1,9 @@
+-- The polygon of three or four ids by their turns, of more by their corners, of many without those inside.
+use Rattle.qh_plane.proofs.InnerPlaces.{planar_flat, outer_flat, outer_polygon}
 use Rattle.qh_plane.proofs.polygons.Quadrilateral.{polygon_of_four}
 use Rattle.qh_plane.proofs.polygons.Triangle.{polygon_of_three}
+use Rattle.qh_plane.specs.steps.Chains.{turn_of}
+use Rattle.qh_plane.specs.steps.InnerPlaces.{IsOuterPart}
 use Rattle.qh_plane.proofs.planar.polygon.Goals as goal
 
 pub returns-then-ids-eq3 : goal.returns-then-ids-eq3
@@ -13,3 +17,14 @@ returns-in-Some c = λ h.
     c.index-ids-2-then-ids-eq4.result c.index-ids-3.result c.of.result c.if-ids-eq4.true c.index-ids-0-then-ids-eq4.is c.index-ids-1-then-ids-eq4.is
     c.index-ids-2-then-ids-eq4.is c.index-ids-3.is
     (rw (c.of.ensures, c.in_ok-from_slice.ensures.items) c.in-Some.ensures) h
+
+pub returns-in_ok-corners-in-Some-2 : goal.returns-in_ok-corners-in-Some-2
+returns-in_ok-corners-in-Some-2 c = λ h.
+    let pts = c.args.pts.now in let ids = c.args.ids.now in let n = c.args.normal.now in let outer = c.in-Some-2.outer.items in
+    let part : IsOuterPart (turn_of pts n) ids outer = rw c.in-Some-2.is at c.in_ok-outer.ensures.part in
+    let corners = c.in_ok-corners-in-Some-2 in let found = rw c.deref.ensures.value at corners.ensures in
+    rw c.of-in-Some-2.ensures (outer_polygon pts ids outer n h part corners.field-0.items (found (outer_flat pts ids outer n h part)))
+
+pub returns-in_ok-corners-in-None : goal.returns-in_ok-corners-in-None
+returns-in_ok-corners-in-None c = λ h.
+    rw c.of-in-None.ensures (c.in_ok-corners-in-None.ensures (planar_flat c.args.pts.now c.args.ids.now c.args.normal.now h))

@@ -1,0 +1,187 @@
+//! Points inside a large set in one plane, which go before its ids are sorted.
+//!
+//! A cycle goes over a few ids far out on all sides. A point to the left of each side of a closed cycle lies
+//! in a triangle of three ids of it, whatever the cycle is. So it is not extreme, and nothing needs to be
+//! known of the far ids.
+ghost use Rattle.std.specs.Prelude.{◌≡◌, ◌<◌, ℕ, IfOk, IfSome, length, filter};
+ghost use Rattle.qh_model.specs.headline.Sets.{In};
+ghost use Rattle.qh_model.specs.contract.IdSets.{AreIndices};
+ghost use Rattle.qh_plane.specs.steps.Chains.{turn_of};
+ghost use Rattle.qh_plane.specs.steps.InnerPlaces.{is_inside, is_outside, IsOuterPart};
+
+use crate::chains::turns_left;
+use qh_model::{Id, Point};
+use qh_pred::{Normal, point_at};
+use std::alloc::{AllocError, Global};
+
+/// From so many ids on, a set is looked through.
+const MANY: usize = 4096;
+
+/// One of so many ids is looked at for a place on the cycle.
+const LOOKED_AT: usize = 16;
+
+/// A direction of a plane, along the two coordinates that are looked at.
+#[derive(Clone, Copy, Drop)]
+struct Direction {
+    right: i64,
+    up: i64,
+}
+
+/// Eight directions, counterclockwise.
+const DIRECTIONS: [Direction; 8] = [
+    Direction { right: 1, up: 0 },
+    Direction { right: 1, up: 1 },
+    Direction { right: 0, up: 1 },
+    Direction { right: -1, up: 1 },
+    Direction { right: -1, up: 0 },
+    Direction { right: -1, up: -1 },
+    Direction { right: 0, up: -1 },
+    Direction { right: 1, up: -1 },
+];
+
+/// Two coordinates that tell the points of a plane apart, the second to the left of the first as seen from
+/// the side to which the normal points.
+fn coordinates(normal: &Normal, p: Point) -> (i64, i64) {
+    let (x, y, z) = (i64::from(p.x()), i64::from(p.y()), i64::from(p.z()));
+    let (right, up, component) = if normal.z() != 0 {
+        (x, y, normal.z())
+    } else if normal.y() != 0 {
+        (z, x, normal.y())
+    } else {
+        (y, z, normal.x())
+    };
+    if component > 0 {
+        (right, up)
+    } else {
+        (up, right)
+    }
+}
+
+impl Direction {
+    /// How far a point lies along this direction.
+    fn reach(self, normal: &Normal, p: Point) -> i64 {
+        let (right, up) = coordinates(normal, p);
+        let (right, up) = (self.right.wrapping_mul(right), self.up.wrapping_mul(up));
+        right.wrapping_add(up)
+    }
+}
+
+/// The first of the ids looked at whose points lie furthest along a direction.
+fn furthest(pts: &[Point], normal: &Normal, ids: &[Id], direction: Direction) -> Id
+    requires some { 0 < length ids.now }
+    requires indices { AreIndices pts.now ids.now }
+    ensures { In result ids.now }
+{
+    let mut found = ids[0];
+    let mut most = i64::MIN;
+    for part in 0..ids.len() / LOOKED_AT {
+        let id = ids[part * LOOKED_AT];
+        let reach = direction.reach(normal, point_at(pts, id));
+        if reach > most {
+            most = reach;
+            found = id;
+        }
+    }
+    found
+}
+
+/// Ids far out along each direction in turn, none twice in a row.
+fn far_cycle(
+    alloc: Global,
+    pts: &[Point],
+    normal: &Normal,
+    ids: &[Id],
+) -> Result<Vec<Id>, AllocError>
+    requires some { 0 < length ids.now }
+    requires indices { AreIndices pts.now ids.now }
+    ensures indices { IfOk result (λ v. AreIndices pts.now v.items) }
+    ensures members { IfOk result (λ v. (i : ℕ) → In i v.items → In i ids.now) }
+{
+    let mut cycle = Vec::with_capacity(alloc, DIRECTIONS.len())?;
+    let mut before = furthest(pts, normal, ids, DIRECTIONS[DIRECTIONS.len() - 1]);
+    for direction in DIRECTIONS {
+        let far = furthest(pts, normal, ids, direction);
+        if far != before {
+            cycle.push(far)?;
+        }
+        before = far;
+    }
+    Ok(cycle)
+}
+
+/// Whether a point lies to the left of each side of a cycle.
+fn is_inside(pts: &[Point], normal: &Normal, cycle: &[Id], id: Id) -> bool
+    requires cycle_in { AreIndices pts.now cycle.now }
+    requires id_in { id < length pts.now }
+    ensures { result ≡ is_inside (turn_of pts.now normal.now) cycle.now id }
+{
+    if cycle.is_empty() {
+        return false;
+    }
+    let mut from = cycle[0];
+    for to in &cycle[1..] {
+        if !turns_left(pts, normal, from, *to, id) {
+            return false;
+        }
+        from = *to;
+    }
+    turns_left(pts, normal, from, cycle[0], id)
+}
+
+/// The ids whose points don't lie to the left of each side of a cycle.
+fn ids_outside(
+    alloc: Global,
+    pts: &[Point],
+    normal: &Normal,
+    ids: &[Id],
+    cycle: &[Id],
+) -> Result<Vec<Id>, AllocError>
+    requires ids_in { AreIndices pts.now ids.now }
+    requires cycle_in { AreIndices pts.now cycle.now }
+    ensures { IfOk result (λ v. v.items ≡ filter (is_outside (turn_of pts.now normal.now) cycle.now) ids.now) }
+{
+    let mut kept = Vec::new(alloc);
+    for id in ids {
+        if !is_inside(pts, normal, cycle, *id) {
+            kept.push(*id)?;
+        }
+    }
+    Ok(kept)
+}
+
+/// Whether at least half of the ids looked at have points inside a cycle, so that it pays to look at all.
+fn holds_most(pts: &[Point], normal: &Normal, ids: &[Id], cycle: &[Id]) -> bool
+    requires ids_in { AreIndices pts.now ids.now }
+    requires cycle_in { AreIndices pts.now cycle.now }
+{
+    let parts = ids.len() / LOOKED_AT;
+    let mut held: usize = 0;
+    for part in 0..parts {
+        if is_inside(pts, normal, cycle, ids[part * LOOKED_AT]) {
+            held = held.saturating_add(1);
+        }
+    }
+    held >= parts / 2
+}
+
+/// The ids of a set in one plane but some whose points lie inside, strictly between those of others; none
+/// where no look pays: the set is small, or few points are inside.
+pub fn outer_ids(
+    alloc: Global,
+    pts: &[Point],
+    normal: &Normal,
+    ids: &[Id],
+) -> Result<Option<Vec<Id>>, AllocError>
+    requires { AreIndices pts.now ids.now }
+    ensures indices { IfOk result (λ found. IfSome found (λ v. AreIndices pts.now v.items)) }
+    ensures part { IfOk result (λ found. IfSome found (λ v. IsOuterPart (turn_of pts.now normal.now) ids.now v.items)) }
+{
+    if ids.len() < MANY {
+        return Ok(None);
+    }
+    let cycle = far_cycle(alloc, pts, normal, ids)?;
+    if !holds_most(pts, normal, ids, &cycle) {
+        return Ok(None);
+    }
+    Ok(Some(ids_outside(alloc, pts, normal, ids, &cycle)?))
+}
