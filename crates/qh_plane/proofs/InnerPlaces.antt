@@ -6,6 +6,7 @@ use Rattle.std.proofs.lemmas.List.Kept.{IsStrictlyIncreasing-filter}
 use Rattle.std.specs.List.Sorted.{IsStrictlyIncreasing}
 use Rattle.std.specs.Prelude.{ℤ, pos, neg_ℤ, ◌+ℤ◌, ◌*ℤ◌, ◌≤ℤ◌, ◌<ℤ◌, ◌&&◌, not}
 use Rattle.qh_model.proofs.algebra.Order.{mul-pos_neg, mul-nonpos, negative_le}
+use Rattle.qh_model.proofs.algebra.Signs.{less_differ}
 use Rattle.qh_model.proofs.algebra.VectorIdentities.{dot-minus, left-turn}
 use Rattle.qh_model.proofs.extremes.Dimensions.{triangle_of}
 use Rattle.qh_model.proofs.extremes.ExtremeIds.{members_are_combinations, combination_within, alternative_in, listed_itself}
@@ -46,11 +47,7 @@ not_beyond tv tu uv a b c e htu huv htv ha hb hc =
 behind : (d a b : ℤ) → d ≡ b +ℤ neg_ℤ a → b <ℤ a → d <ℤ pos 0
 behind d a b e h = omega (arith, ints)
 
--- 0 is not above 0
-not_positive : (x : ℤ) → x ≡ pos 0 → pos 0 <ℤ x → ⊥
-not_positive x e h = omega (arith, ints)
-
--- nor are a number and its opposite both
+-- a number and its opposite are not both above 0
 not_both : (x y : ℤ) → x ≡ neg_ℤ y → pos 0 <ℤ x → pos 0 <ℤ y → ⊥
 not_both x y e h k = omega (arith, ints)
 
@@ -66,11 +63,11 @@ module _ (n : Vector) (at : ℕ → Vector) (A : ℕ → Type 0) (flat : IsFlat 
 
   -- with p on its left a side begins at another id
   begins_apart : (u v : ℕ) → pos 0 <ℤ to_left u v → u ≢ p
-  begins_apart u v h q = not_positive _ (left-back n (at p) (at v)) (subst (λ t. pos 0 <ℤ left n (at t) (at v) (at p)) q h)
+  begins_apart u v h q = less_differ _ _ (subst (λ t. pos 0 <ℤ left n (at t) (at v) (at p)) q h) (sym (left-back n (at p) (at v)))
 
   -- and ends at another
   ends_apart : (u v : ℕ) → pos 0 <ℤ to_left u v → v ≢ p
-  ends_apart u v h q = not_positive _ (left-there n (at u) (at p)) (subst (λ t. pos 0 <ℤ left n (at u) (at t) (at p)) q h)
+  ends_apart u v h q = less_differ _ _ (subst (λ t. pos 0 <ℤ left n (at u) (at t) (at p)) q h) (sym (left-there n (at u) (at p)))
 
   -- the same as a bracket of the ways from p
   abbrev seen : ℕ → ℕ → ℤ

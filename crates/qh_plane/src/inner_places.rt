@@ -17,7 +17,7 @@ use std::alloc::{AllocError, Global};
 /// From so many ids on, a set is looked through.
 const MANY: usize = 4096;
 
-/// One of so many ids is looked at for a place on the cycle.
+/// One of so many ids is looked at for a place on the cycle, and to tell whether it pays to look at all.
 const LOOKED_AT: usize = 16;
 
 /// A direction of a plane, along the two coordinates that are looked at.
@@ -58,7 +58,7 @@ fn coordinates(normal: &Normal, p: Point) -> (i64, i64) {
 }
 
 impl Direction {
-    /// How far a point lies along this direction.
+    /// How far a point lies along this direction. The sum of two coordinates fits; nothing rests on it.
     fn reach(self, normal: &Normal, p: Point) -> i64 {
         let (right, up) = coordinates(normal, p);
         let (right, up) = (self.right.wrapping_mul(right), self.up.wrapping_mul(up));

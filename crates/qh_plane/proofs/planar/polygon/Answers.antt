@@ -8,14 +8,16 @@ use Rattle.qh_plane.proofs.planar.polygon.Goals as goal
 
 pub returns-then-ids-eq3 : goal.returns-then-ids-eq3
 returns-then-ids-eq3 c = λ h.
-    polygon_of_three c.args.pts.now c.args.ids.now c.args.normal.now c.index-ids-0.result c.index-ids-1.result c.index-ids-2.result c.triangle.result
-    c.if-ids-eq3.true c.index-ids-0.is c.index-ids-1.is c.index-ids-2.is c.triangle.ensures h
+    let i = c.index-ids-0 in let j = c.index-ids-1 in let k = c.index-ids-2 in
+    polygon_of_three c.args.pts.now c.args.ids.now c.args.normal.now i.result j.result k.result c.triangle.result
+    c.if-ids-eq3.true i.is j.is k.is c.triangle.ensures h
 
 pub returns-in-Some : goal.returns-in-Some
 returns-in-Some c = λ h.
-    polygon_of_four c.args.pts.now c.args.ids.now c.args.normal.now c.index-ids-0-then-ids-eq4.result c.index-ids-1-then-ids-eq4.result
-    c.index-ids-2-then-ids-eq4.result c.index-ids-3.result c.of.result c.if-ids-eq4.true c.index-ids-0-then-ids-eq4.is c.index-ids-1-then-ids-eq4.is
-    c.index-ids-2-then-ids-eq4.is c.index-ids-3.is
+    let i = c.index-ids-0-then-ids-eq4 in let j = c.index-ids-1-then-ids-eq4 in
+    let k = c.index-ids-2-then-ids-eq4 in let l = c.index-ids-3 in
+    polygon_of_four c.args.pts.now c.args.ids.now c.args.normal.now i.result j.result k.result l.result c.of.result
+    c.if-ids-eq4.true i.is j.is k.is l.is
     (rw (c.of.ensures, c.in_ok-from_slice.ensures.items) c.in-Some.ensures) h
 
 pub returns-in_ok-corners-in-Some-2 : goal.returns-in_ok-corners-in-Some-2
