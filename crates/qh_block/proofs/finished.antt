@@ -1,5 +1,6 @@
 -- Finished meshes: walks in the planes of facets, the faces that they gather, the order of faces, and edges.
 pub mod Corners
+pub mod NamedWalks
 pub mod NewFaces
 pub mod LoneTriangles
 pub mod FaceLists

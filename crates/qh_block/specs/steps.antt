@@ -5,6 +5,7 @@ pub mod Faces
 pub mod FlatBodies
 pub mod IdSets
 pub mod InnerPoints
+pub mod NamedMeshes
 pub mod NearOrder
 pub mod OutsideSets
 pub mod PlaneWalks

@@ -15,13 +15,15 @@ ghost use Rattle.qh_model.specs.contract.StoredSurface.{facet_at, surface_of};
 ghost use Rattle.qh_mesh.specs.contract.Replacement.{IsLive};
 ghost use Rattle.qh_model.specs.contract.IdSets.{AreIndices};
 ghost use Rattle.qh_plane.specs.contract.PlanarSets.{IsPlanarSet};
+ghost use Rattle.qh_block.specs.steps.NamedMeshes.{named, IsNamedMesh};
 ghost use Rattle.qh_block.specs.steps.PlaneWalks.{AreCornersBelow};
 ghost use Rattle.qh_block.specs.steps.Walks.{mark_at};
 ghost use Rattle.qh_block.specs.steps.Faces.{corners_of, from_least, IsListedCorner, IsNewPlane, IsNewFace, AreFacetFaces};
 
+use crate::named_mesh::NamedMesh;
 use crate::plane_walk::IsLevel;
 use crate::walk::walk;
-use qh_mesh::{FacetNo, Mesh};
+use qh_mesh::FacetNo;
 use qh_model::{Id, Memory, Point, Polygon};
 use qh_plane::polygon;
 use qh_pred::{cross, point_at};
@@ -43,24 +45,34 @@ fn no_marks(alloc: Global, count: usize) -> Result<Vec<bool>, AllocError>
 }
 
 /// Lists the corners of live facets, as they come.
-fn list_corners(mesh: &Mesh, facets: &[FacetNo], corners: &mut Vec<Id>) -> Result<(), AllocError>
-    requires { All (IsLive mesh.now) facets.now }
-    ensures { OnOk result (corners.new.items ≡ corners_of mesh.now facets.now) }
+fn list_corners(
+    surface: &NamedMesh,
+    facets: &[FacetNo],
+    corners: &mut Vec<Id>,
+) -> Result<(), AllocError>
+    requires positions { AreCornersBelow (length surface.now.ids.items) surface.now.mesh }
+    requires live { All (IsLive surface.now.mesh) facets.now }
+    ensures { OnOk result (corners.new.items ≡ corners_of (named surface.now) facets.now) }
 {
     corners.clear();
     for f in facets {
-        corners.extend_from_slice(&mesh.facet(*f))?;
+        corners.extend_from_slice(&surface.corners(*f))?;
     }
     Ok(())
 }
 
 /// Lists the corners of live facets, rising, each once.
-fn gather_corners(mesh: &Mesh, facets: &[FacetNo], corners: &mut Vec<Id>) -> Result<(), AllocError>
-    requires { All (IsLive mesh.now) facets.now }
+fn gather_corners(
+    surface: &NamedMesh,
+    facets: &[FacetNo],
+    corners: &mut Vec<Id>,
+) -> Result<(), AllocError>
+    requires positions { AreCornersBelow (length surface.now.ids.items) surface.now.mesh }
+    requires live { All (IsLive surface.now.mesh) facets.now }
     ensures rising { OnOk result (IsStrictlyIncreasing corners.new.items) }
-    ensures members { OnOk result ((i : ℕ) → In i corners.new.items ↔ IsListedCorner mesh.now facets.now i) }
+    ensures members { OnOk result ((i : ℕ) → In i corners.new.items ↔ IsListedCorner (named surface.now) facets.now i) }
 {
-    list_corners(mesh, facets, corners)?;
+    list_corners(surface, facets, corners)?;
     corners.sort_unstable();
     corners.dedup();
     Ok(())
@@ -70,27 +82,28 @@ fn gather_corners(mesh: &Mesh, facets: &[FacetNo], corners: &mut Vec<Id>) -> Res
 fn facet_polygon(
     alloc: Global,
     pts: &[Point],
-    mesh: &Mesh,
+    surface: &NamedMesh,
     f: FacetNo,
     ids: &[Id],
 ) -> Result<Polygon, Memory>
-    requires corners { AreCornersBelow (length pts.now) mesh.now }
-    requires live { IsLive mesh.now f }
+    requires named { IsNamedMesh pts.now surface.now }
+    requires live { IsLive surface.now.mesh f }
     requires indices { AreIndices pts.now ids.now }
-    ensures { let t = facet_at mesh.now f in let n = cross (place pts.now t.i) (place pts.now t.j) (place pts.now t.k) in
+    ensures { let t = facet_at (named surface.now) f in let n = cross (place pts.now t.i) (place pts.now t.j) (place pts.now t.k) in
         IfOk result (λ q. IsPlanarSet pts.now ids.now n → IsPolygon (place pts.now) (Extreme (place pts.now) (Members ids.now)) n q) }
 {
-    let [a, b, c] = mesh.facet(f);
+    let [a, b, c] = surface.corners(f);
     let normal = cross(point_at(pts, a), point_at(pts, b), point_at(pts, c));
     polygon(alloc, pts, ids, &normal)
 }
 
 /// The corners of a live facet, from the least on.
-fn lone_triangle(mesh: &Mesh, f: FacetNo) -> Polygon
-    requires { IsLive mesh.now f }
-    ensures { result ≡ from_least (facet_at mesh.now f).i (facet_at mesh.now f).j (facet_at mesh.now f).k }
+fn lone_triangle(surface: &NamedMesh, f: FacetNo) -> Polygon
+    requires positions { AreCornersBelow (length surface.now.ids.items) surface.now.mesh }
+    requires live { IsLive surface.now.mesh f }
+    ensures { let t = facet_at (named surface.now) f in result ≡ from_least t.i t.j t.k }
 {
-    let [a, b, c] = mesh.facet(f);
+    let [a, b, c] = surface.corners(f);
     if a < b && a < c {
         Polygon::triangle(a, b, c)
     } else if b < c {
@@ -104,48 +117,51 @@ fn lone_triangle(mesh: &Mesh, f: FacetNo) -> Polygon
 fn new_face(
     alloc: Global,
     pts: &[Point],
-    mesh: &Mesh,
+    surface: &NamedMesh,
     f: FacetNo,
     marks: &mut [bool],
     room: &mut Room,
 ) -> Result<Polygon, Memory>
-    requires corners { AreCornersBelow (length pts.now) mesh.now }
-    requires live { IsLive mesh.now f }
+    requires named { IsNamedMesh pts.now surface.now }
+    requires live { IsLive surface.now.mesh f }
     requires fresh { mark_at marks.old f ≡ false }
-    requires room { length mesh.now ≤ length marks.old }
+    requires room { length surface.now.mesh ≤ length marks.old }
     ensures kept { OnOk result ((g : ℕ) → mark_at marks.old g ≡ true → mark_at marks.new g ≡ true) }
     ensures own { OnOk result (mark_at marks.new f ≡ true) }
-    ensures face { IfOk result (λ q. (ids : List ℕ) → IsIdSet pts.now ids → IsFinished (place pts.now) ids (surface_of mesh.now)
-        → IsNewPlane (place pts.now) mesh.now marks.old f → IsNewFace (place pts.now) (Members ids) mesh.now f marks.old marks.new q) }
+    ensures face { let fs = named surface.now in
+        IfOk result (λ q. (ids : List ℕ) → IsIdSet pts.now ids → IsFinished (place pts.now) ids (surface_of fs)
+        → IsNewPlane (place pts.now) fs marks.old f → IsNewFace (place pts.now) (Members ids) fs f marks.old marks.new q) }
 {
-    let level = IsLevel { pts, start: f };
-    walk(mesh, &level, f, marks, &mut room.facets)?;
+    let level = IsLevel {
+        pts: &surface.points,
+        start: f,
+    };
+    walk(&surface.mesh, &level, f, marks, &mut room.facets)?;
     // Most planes have one facet: its corners are the face.
     if room.facets.len() == 1 {
-        return Ok(lone_triangle(mesh, f));
+        return Ok(lone_triangle(surface, f));
     }
-    gather_corners(mesh, &room.facets, &mut room.corners)?;
-    facet_polygon(alloc, pts, mesh, f, &room.corners)
+    gather_corners(surface, &room.facets, &mut room.corners)?;
+    facet_polygon(alloc, pts, surface, f, &room.corners)
 }
 
 /// The faces of a finished mesh, one for each plane of its live facets, in no order.
-///
-/// The corners of its live facets are ids of the points.
-pub fn faces(alloc: Global, pts: &[Point], mesh: &Mesh) -> Result<Vec<Polygon>, Memory>
-    requires { AreCornersBelow (length pts.now) mesh.now }
-    ensures { IfOk result (λ v. (ids : List ℕ) → IsIdSet pts.now ids → IsFinished (place pts.now) ids (surface_of mesh.now)
-        → AreFacetFaces (place pts.now) (Members ids) mesh.now v.items) }
+pub fn faces(alloc: Global, pts: &[Point], surface: &NamedMesh) -> Result<Vec<Polygon>, Memory>
+    requires { IsNamedMesh pts.now surface.now }
+    ensures { let fs = named surface.now in
+        IfOk result (λ v. (ids : List ℕ) → IsIdSet pts.now ids → IsFinished (place pts.now) ids (surface_of fs)
+        → AreFacetFaces (place pts.now) (Members ids) fs v.items) }
 {
-    let mut places = no_marks(alloc, mesh.places())?;
+    let mut places = no_marks(alloc, surface.mesh.places())?;
     let marks = places.as_mut_slice();
     let mut room = Room {
         facets: Vec::new(alloc),
         corners: Vec::new(alloc),
     };
     let mut faces = Vec::new(alloc);
-    for f in mesh.live() {
+    for f in surface.mesh.live() {
         if !marks[f.index()] {
-            faces.push(new_face(alloc, pts, mesh, f, marks, &mut room)?)?;
+            faces.push(new_face(alloc, pts, surface, f, marks, &mut room)?)?;
         }
     }
     Ok(faces)

@@ -22,6 +22,7 @@ mod flat_sets;
 mod hulls;
 mod id_set;
 mod inner_points;
+mod named_mesh;
 mod normals;
 mod plane_walk;
 mod quickhull;

@@ -9,13 +9,13 @@ ghost use Rattle.qh_model.specs.headline.Sets.{In, Once, Members};
 ghost use Rattle.qh_model.specs.contract.StoredSurface.{surface_of};
 ghost use Rattle.qh_plane.specs.contract.Shapes.{IsInLine, IsInPlane, IsFirstNot, AreFirstTwo};
 ghost use Rattle.qh_block.specs.steps.Faces.{all_members};
-ghost use Rattle.qh_block.specs.steps.PlaneWalks.{AreCornersBelow};
+ghost use Rattle.qh_block.specs.steps.NamedMeshes.{named, IsNamedMesh};
 
 use crate::face_order::sort_faces;
 use crate::faces::faces;
+use crate::named_mesh::NamedMesh;
 use crate::quickhull::{Simplex, surface_from};
 use crate::solid_edges::edge_count;
-use qh_mesh::Mesh;
 use qh_model::{Body, Id, Memory, Point, Polygon};
 use qh_plane::rising_ids;
 use std::alloc::{AllocError, Global};
@@ -29,13 +29,13 @@ pub fn solid_mesh(
     j: Id,
     k: Id,
     l: Id,
-) -> Result<Mesh, Memory>
+) -> Result<NamedMesh, Memory>
     requires indices { AreIndices pts.now ids.now }
     requires two { AreFirstTwo ids.now i j }
     requires off_line { IsFirstNot (IsInLine pts.now i j) ids.now k }
     requires off_plane { IsFirstNot (IsInPlane pts.now i j k) ids.now l }
-    ensures finished { IfOk result (λ m. Once ids.now → IsFinished (place pts.now) ids.now (surface_of m)) }
-    ensures corners { IfOk result (λ m. AreCornersBelow (length pts.now) m) }
+    ensures finished { IfOk result (λ m. Once ids.now → IsFinished (place pts.now) ids.now (surface_of (named m))) }
+    ensures named { IfOk result (λ m. IsNamedMesh pts.now m) }
 {
     surface_from(alloc, pts, ids, Simplex { i, j, k, l })
 }
@@ -61,27 +61,23 @@ fn corners(alloc: Global, polygons: &[Polygon]) -> Result<Vec<Id>, Memory>
 }
 
 /// The extreme ids of a set with a finished mesh, rising: the members of its faces.
-///
-/// The corners of the mesh's live facets are ids of the points.
-pub fn solid_extremes(alloc: Global, pts: &[Point], mesh: &Mesh) -> Result<Vec<Id>, Memory>
-    requires { AreCornersBelow (length pts.now) mesh.now }
-    ensures { IfOk result (λ v. (ids : List ℕ) → IsIdSet pts.now ids → IsFinished (place pts.now) ids (surface_of mesh.now)
+pub fn solid_extremes(alloc: Global, pts: &[Point], surface: &NamedMesh) -> Result<Vec<Id>, Memory>
+    requires { IsNamedMesh pts.now surface.now }
+    ensures { IfOk result (λ v. (ids : List ℕ) → IsIdSet pts.now ids → IsFinished (place pts.now) ids (surface_of (named surface.now))
         → AreExtremes (place pts.now) (Members ids) v.items) }
 {
-    let faces = faces(alloc, pts, mesh)?;
+    let faces = faces(alloc, pts, surface)?;
     let extremes = corners(alloc, &faces)?;
     Ok(extremes)
 }
 
 /// The hull of a set with a finished mesh.
-///
-/// The corners of the mesh's live facets are ids of the points.
-pub fn solid_body(alloc: Global, pts: &[Point], mesh: &Mesh) -> Result<Body, Memory>
-    requires { AreCornersBelow (length pts.now) mesh.now }
-    ensures { IfOk result (λ b. (ids : List ℕ) → IsIdSet pts.now ids → IsFinished (place pts.now) ids (surface_of mesh.now)
+pub fn solid_body(alloc: Global, pts: &[Point], surface: &NamedMesh) -> Result<Body, Memory>
+    requires { IsNamedMesh pts.now surface.now }
+    ensures { IfOk result (λ b. (ids : List ℕ) → IsIdSet pts.now ids → IsFinished (place pts.now) ids (surface_of (named surface.now))
         → IsBody (place pts.now) (Members ids) b) }
 {
-    let polygons = faces(alloc, pts, mesh)?;
+    let polygons = faces(alloc, pts, surface)?;
     let extremes = corners(alloc, &polygons)?;
     let polygons = sort_faces(alloc, polygons)?;
     let edges = edge_count(&polygons)?;

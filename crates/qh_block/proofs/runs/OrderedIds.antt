@@ -101,6 +101,15 @@ simplex_in pts points ids of s is at h = record {
 pub name_is : (ids : List ℕ) (l : ℕ) → l < length ids → name_in ids l ≡ slice_index ids l
 name_is ids l h = get_or_default ids l l 0 h
 
+-- a finished surface over the positions of ids has positions as its corners
+pub positions_within : {at : ℕ → Vector} (fs : List StoredFacet) (ids : List ℕ)
+    → IsFinished at (range_with_len 0 (length ids)) (surface_of fs) → AreCornersBelow (length ids) fs
+positions_within fs ids z = record {
+  i_in = λ f l. range_below (length ids) _ (z.corners f ((live_is_marked fs f).1 l) _ (inl refl));
+  j_in = λ f l. range_below (length ids) _ (z.corners f ((live_is_marked fs f).1 l) _ (inr (inl refl)));
+  k_in = λ f l. range_below (length ids) _ (z.corners f ((live_is_marked fs f).1 l) _ (inr (inr refl)));
+}
+
 -- a finished surface over the positions of ids gets corners that are ids
 pub named_corners : (pts : List Vector) (ids : List ℕ) (at : ℕ → Vector) (fs : List StoredFacet) → AreIndices pts ids
     → IsFinished at (range_with_len 0 (length ids)) (surface_of fs) → AreCornersBelow (length pts) (map (named_facet (name_in ids)) fs)

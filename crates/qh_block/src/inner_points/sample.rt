@@ -62,7 +62,7 @@ pub fn inner_columns(alloc: Global, sample: IdSet) -> Result<Option<Columns>, Me
     if !rise(sample.ids) {
         return Ok(None);
     }
-    let mesh = solid_mesh(alloc, sample.pts, sample.ids, i, j, k, l)?;
+    let mesh = solid_mesh(alloc, sample.pts, sample.ids, i, j, k, l)?.renamed();
     let planes = planes_of(alloc, sample.pts, &mesh)?;
     if planes.len() > sample.ids.len() {
         return Ok(None);

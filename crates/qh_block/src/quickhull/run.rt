@@ -29,7 +29,7 @@ pub struct Run {
     /// The surface so far: its corners are positions of the points.
     pub mesh: Mesh,
     /// The points, each known by its position.
-    points: Vec<Point>,
+    pub points: Vec<Point>,
     /// The planes of the facets, by place.
     planes: Vec<Plane>,
     /// The points that are not settled, by position.
@@ -170,6 +170,7 @@ impl Run {
     /// Adds points until no facet has an outside set.
     pub fn finish(&mut self, alloc: Global) -> Result<(), Memory>
         requires { IsUnderWay self.old.points.items self.old.mesh self.old.planes.items self.old.sets self.old.pending.items }
+        ensures points { self.new.points.items ≡ self.old.points.items }
         ensures grown { OnOk result (IsGrown self.old.points.items self.new.mesh) }
         ensures done { OnOk result ((p : ℕ) → p < length self.old.points.items → IsDone self.old.points.items self.new.mesh p) }
     {

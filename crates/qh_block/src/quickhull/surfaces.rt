@@ -11,9 +11,10 @@ ghost use Rattle.qh_model.specs.contract.StoredSurface.{facet_at, surface_of};
 ghost use Rattle.qh_mesh.specs.contract.Replacement.{IsLive};
 ghost use Rattle.qh_mesh.specs.contract.SoundMesh.{IsClosedMesh};
 ghost use Rattle.qh_model.specs.contract.IdSets.{AreIndices};
-ghost use Rattle.qh_block.specs.steps.PlaneWalks.{AreCornersBelow};
+ghost use Rattle.qh_block.specs.steps.NamedMeshes.{named, IsNamedMesh};
 ghost use Rattle.qh_block.specs.steps.Simplexes.{IsSimplexOf, IsPositionOf, ArePositionsOf};
 
+use crate::named_mesh::NamedMesh;
 use crate::quickhull::far_simplex::{Simplex, far_simplex};
 use crate::quickhull::near_order::near_order;
 use crate::quickhull::run::Run;
@@ -79,7 +80,8 @@ pub(super) fn run_over(
 ) -> Result<Run, Memory>
     requires indices { AreIndices pts.now ids.now }
     requires first { IsSimplexOf pts.now ids.now first }
-    ensures { IfOk result (λ r. IsFinished (place (map (place pts.now) ids.now)) (range_with_len 0 (length ids.now)) (surface_of r.mesh)) }
+    ensures finished { IfOk result (λ r. IsFinished (place (map (place pts.now) ids.now)) (range_with_len 0 (length ids.now)) (surface_of r.mesh)) }
+    ensures points { IfOk result (λ r. r.points.items ≡ map (place pts.now) ids.now) }
 {
     let points = points_of(alloc, pts, ids)?;
     let first = positions_of(ids, first)?;
@@ -89,16 +91,23 @@ pub(super) fn run_over(
 }
 
 /// The surface of a set by a run over its ids as they come.
-fn surface_along(alloc: Global, pts: &[Point], ids: &[Id], first: Simplex) -> Result<Mesh, Memory>
-    requires indices { AreIndices pts.now ids.now }
-    requires first { IsSimplexOf pts.now ids.now first }
-    ensures finished { IfOk result (λ m. Once ids.now → IsFinished (place pts.now) ids.now (surface_of m)) }
-    ensures corners { IfOk result (λ m. AreCornersBelow (length pts.now) m) }
+fn surface_along(
+    alloc: Global,
+    pts: &[Point],
+    ids: Vec<Id>,
+    first: Simplex,
+) -> Result<NamedMesh, Memory>
+    requires indices { AreIndices pts.now ids.items }
+    requires first { IsSimplexOf pts.now ids.items first }
+    ensures finished { IfOk result (λ m. Once ids.items → IsFinished (place pts.now) ids.items (surface_of (named m))) }
+    ensures named { IfOk result (λ m. IsNamedMesh pts.now m) }
 {
-    let run = run_over(alloc, pts, ids, first)?;
-    let mut mesh = run.mesh;
-    mesh.name_corners(ids);
-    Ok(mesh)
+    let run = run_over(alloc, pts, &ids, first)?;
+    Ok(NamedMesh {
+        mesh: run.mesh,
+        points: run.points,
+        ids,
+    })
 }
 
 /// The surface of a set from a first simplex: four of its ids whose points are not in one plane.
@@ -107,18 +116,18 @@ pub(crate) fn surface_from(
     pts: &[Point],
     ids: &[Id],
     first: Simplex,
-) -> Result<Mesh, Memory>
+) -> Result<NamedMesh, Memory>
     requires indices { AreIndices pts.now ids.now }
     requires first { IsSimplexOf pts.now ids.now first }
-    ensures finished { IfOk result (λ m. Once ids.now → IsFinished (place pts.now) ids.now (surface_of m)) }
-    ensures corners { IfOk result (λ m. AreCornersBelow (length pts.now) m) }
+    ensures finished { IfOk result (λ m. Once ids.now → IsFinished (place pts.now) ids.now (surface_of (named m))) }
+    ensures named { IfOk result (λ m. IsNamedMesh pts.now m) }
 {
     let far = far_simplex(pts, ids, first);
     if ids.len() < LARGE {
-        return surface_along(alloc, pts, ids, far);
+        return surface_along(alloc, pts, Vec::from_slice(alloc, ids)?, far);
     }
     let near = near_order(alloc, pts, ids)?;
-    surface_along(alloc, pts, &near, far)
+    surface_along(alloc, pts, near, far)
 }
 
 /// The surface of the hull of a set of dimension 3, by Quickhull: a closed surface of triangles over
@@ -147,5 +156,6 @@ pub fn surface(alloc: Global, pts: &[Point], ids: &[Id]) -> Result<Mesh, Memory>
     let Shape::Solid(i, j, k, l) = rank(pts, ids) else {
         unreachable!();
     };
-    surface_from(alloc, pts, ids, Simplex { i, j, k, l })
+    let surface = surface_from(alloc, pts, ids, Simplex { i, j, k, l })?;
+    Ok(surface.renamed())
 }

@@ -1,17 +1,23 @@
 -- The faces are gathered facet by facet.
 use Rattle.std.proofs.Common.{◌≡◌, ◌∙◌, ℕ, List, Bool, false, arith, ap, length, sym, subst}
+use Rattle.std.proofs.lemmas.List.{length-map}
+use Rattle.qh_model.specs.contract.StoredSurface.{named_facet}
+use Rattle.qh_mesh.specs.contract.Names.{name_in}
+use Rattle.qh_block.specs.steps.NamedMeshes.{named}
 use Rattle.qh_block.specs.steps.Walks.{mark_at}
 use Rattle.qh_block.proofs.finished.Gathering.{gathering_starts, next_within, gathering_goes, gathering_ends}
+use Rattle.qh_block.proofs.finished.NamedWalks.{names}
 use Rattle.qh_block.proofs.faces.faces.Goals as goal
 
 pub loop-f-init : goal.loop-f-init
 loop-f-init c =
-    let items = c.as_mut_slice-marks.ensures.value in
-    let long : length c.as_mut_slice-marks.result.now ≡ length c.args.mesh.now =
+    let surface = c.args.surface.now in let items = c.as_mut_slice-marks.ensures.value in
+    let same : length (named surface) ≡ length surface.mesh = length-map surface.mesh (named_facet (name_in surface.ids.items)) in
+    let long : length c.as_mut_slice-marks.result.now ≡ length surface.mesh =
     ap (λ (xs : List Bool). length xs) items ∙ c.in_ok-places.ensures.len ∙ c.places.ensures in
-    rw (c.into_iter-f-iterator.ensures.into_iter_gives ∙ c.live-f-items.ensures, c.new-faces.ensures.items)
-    (gathering_starts c.args.pts.now c.args.mesh.now c.as_mut_slice-marks.result.now
-    (subst (λ (xs : List Bool). (f : ℕ) → mark_at xs f ≡ false) (sym items) c.in_ok-places.ensures.none) (omega arith))
+    rw (c.into_iter-f-iterator.ensures.into_iter_gives ∙ c.live-f-items.ensures ∙ sym (names surface).live, c.new-faces.ensures.items)
+    (gathering_starts c.args.pts.now (named surface) c.as_mut_slice-marks.result.now
+    (subst (λ (xs : List Bool). (f : ℕ) → mark_at xs f ≡ false) (sym items) c.in_ok-places.ensures.none) (omega (arith, same, long)))
 
 pub bounds-marks-index : goal.bounds-marks-index
 bounds-marks-index c = rw c.index.ensures (next_within _ _ _ _ _ _ _ c.loop-f.invariant c.in-Some.ensures.steps)

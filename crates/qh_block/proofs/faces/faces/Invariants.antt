@@ -1,6 +1,7 @@
 -- What the loop over the live facets has gathered.
+use Rattle.qh_block.specs.steps.NamedMeshes.{named}
 use Rattle.qh_block.proofs.finished.Gathering.{IsGathering}
 use Rattle.qh_block.proofs.faces.faces.Given as goal
 
 abbrev pub invariant-loop-f : goal.invariant-loop-f
-invariant-loop-f l = IsGathering l.pts l.mesh l.f-iterator l.marks l.faces.items
+invariant-loop-f l = IsGathering l.pts (named l.surface) l.f-iterator l.marks l.faces.items

@@ -2,6 +2,7 @@
 use Rattle.std.proofs.Common.{eqb}
 use Rattle.std.proofs.lemmas.List.Filters.{dedup_is}
 use Rattle.std.proofs.lemmas.Map.Keys.{IsStrictlyIncreasing-dedup}
+use Rattle.qh_block.specs.steps.NamedMeshes.{named}
 use Rattle.qh_block.proofs.finished.Corners.{in_corners}
 use Rattle.qh_plane.proofs.KeptIds.{kept_members}
 use Rattle.qh_block.proofs.faces.gather_corners.Goals as goal
@@ -11,6 +12,6 @@ returns-clause-rising c = rw (dedup_is eqb _ _ c.dedup.ensures.filtered) (IsStri
 
 pub returns-clause-members : goal.returns-clause-members
 returns-clause-members c = λ i.
-    let all = in_corners c.args.mesh.now c.args.facets.now i in
+    let all = in_corners (named c.args.surface.now) c.args.facets.now i in
     let kept = kept_members _ _ _ c.sort_unstable.ensures.permutation (dedup_is eqb _ _ c.dedup.ensures.filtered) i in
     let same = rw c.in_ok-list_corners.ensures at kept in (λ m. all.0 (same.0 m), λ x. same.1 (all.1 x))

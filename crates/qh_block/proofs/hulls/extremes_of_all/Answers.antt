@@ -7,4 +7,4 @@ pub returns-in-Solid : goal.returns-in-Solid
 returns-in-Solid c =
     let ids = c.args.set.ids.now in
     IfOk-weaker c.solid_extremes.result _ _
-    (λ v h s. h ids s (c.in_ok-mesh.ensures.finished (rising_once ids s.rising))) c.solid_extremes.ensures
+    (λ v h s. h ids s (c.in_ok-surface.ensures.finished (rising_once ids s.rising))) c.solid_extremes.ensures

@@ -14,8 +14,8 @@ returns-in_ok-polygon_of-in-Point c =
     (subst (λ q. IsFlatBody 0 q 0 b) c.in_ok-polygon_of-in-Point.ensures h))
     c.flat_body.ensures
 
-pub returns-in_ok-mesh-in-Solid : goal.returns-in_ok-mesh-in-Solid
-returns-in_ok-mesh-in-Solid c =
+pub returns-in_ok-surface-in-Solid : goal.returns-in_ok-surface-in-Solid
+returns-in_ok-surface-in-Solid c =
     let ids = c.args.set.ids.now in
     IfOk-weaker c.solid_body.result _ _
-    (λ b h s. h ids s (c.in_ok-mesh-in-Solid.ensures.finished (rising_once ids s.rising))) c.solid_body.ensures
+    (λ b h s. h ids s (c.in_ok-surface-in-Solid.ensures.finished (rising_once ids s.rising))) c.solid_body.ensures

@@ -2,9 +2,9 @@
 use Rattle.std.proofs.Common.{◌≡◌, ◌∙◌, ◌<◌, ℕ, ap, sym, subst, arith, set, length, false}
 use Rattle.std.specs.Prelude.{◌||◌, ◌↔◌, IsTrue}
 use Rattle.qh_model.specs.contract.StoredSurface.{surface_of}
-use Rattle.qh_mesh.specs.contract.Edges.{edge_of, facet_of, nth_side, twin_of}
+use Rattle.qh_mesh.specs.contract.Edges.{facet_of, nth_side}
 use Rattle.qh_mesh.proofs.Rewiring.{over-twin}
-use Rattle.qh_block.specs.steps.Walks.{mark_at, IsFurther, IsMet, IsWalk}
+use Rattle.qh_block.specs.steps.Walks.{mark_at, IsMet}
 use Rattle.qh_block.proofs.LiveFacets.{live_below}
 use Rattle.qh_block.proofs.WalkSteps.{joined, joined_further, met}
 use Rattle.qh_block.proofs.walk.cross.Given.{Over}

@@ -6,6 +6,6 @@ use Rattle.qh_block.proofs.inner_points.sample.inner_columns.Goals as goal
 pub returns : goal.returns
 returns c =
     let ids = c.args.sample.ids.now in let below = c.in_ok-below in
-    boxes_are_inner c.args.sample.pts.now ids c.in_ok-mesh.mesh c.in_ok-planes.planes.items below.field-0.boxes.items
-    (c.in_ok-mesh.ensures.finished (rising_once ids (c.rise.ensures c.if-not-rise.false))) c.in_ok-planes.ensures
-    (rw c.deref.ensures.value at below.ensures)
+    boxes_are_inner c.args.sample.pts.now ids c.renamed-mesh.result c.in_ok-planes.planes.items below.field-0.boxes.items
+    (rw c.renamed-mesh.ensures (c.in_ok-solid_mesh.ensures.finished (rising_once ids (c.rise.ensures c.if-not-rise.false))))
+    c.in_ok-planes.ensures (rw c.deref.ensures.value at below.ensures)

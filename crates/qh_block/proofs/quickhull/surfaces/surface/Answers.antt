@@ -1,5 +1,4 @@
 -- A set of dimension 3 has a simplex, and the surface of a run from it is that of the hull.
-use Rattle.std.proofs.lemmas.Result.{IfOk-weaker}
 use Rattle.qh_model.specs.headline.Predicates.{place}
 use Rattle.qh_model.proofs.Members.{rising_once}
 use Rattle.qh_model.proofs.extremes.Dimensions.{dimension_is_unique}
@@ -16,14 +15,12 @@ unreachable-requires c =
 
 pub returns-clause-finished : goal.returns-clause-finished
 returns-clause-finished c =
-    IfOk-weaker c.surface_from.result _ _ (λ m h. h (rising_once c.args.ids.now c.requires.set.rising)) c.surface_from.ensures.finished
+    rw c.renamed.ensures (c.in_ok-surface.ensures.finished (rising_once c.args.ids.now c.requires.set.rising))
 
 pub returns-clause-closed : goal.returns-clause-closed
 unfolding returns-clause-finished
-returns-clause-closed c =
-    IfOk-weaker c.surface_from.result _ _ (finished_is_closed (place c.args.pts.now) c.args.ids.now) (returns-clause-finished c)
+returns-clause-closed c = finished_is_closed (place c.args.pts.now) c.args.ids.now _ (returns-clause-finished c)
 
 pub returns-clause-supporting : goal.returns-clause-supporting
 unfolding returns-clause-finished
-returns-clause-supporting c =
-    IfOk-weaker c.surface_from.result _ _ (supporting c.args.pts.now c.args.ids.now) (returns-clause-finished c)
+returns-clause-supporting c = supporting c.args.pts.now c.args.ids.now _ (returns-clause-finished c)

@@ -4,14 +4,13 @@ use Rattle.qh_block.proofs.runs.OrderedIds.{finished_reordered, indices_reordere
 use Rattle.qh_block.proofs.quickhull.surfaces.surface_from.Goals as goal
 
 pub surface_along-requires-2-clause-indices : goal.surface_along-requires-2-clause-indices
-surface_along-requires-2-clause-indices c =
-    rw c.deref.ensures.value (indices_reordered c.in_ok-near.ensures c.args.pts.now c.requires.indices)
+surface_along-requires-2-clause-indices c = indices_reordered c.in_ok-near.ensures c.args.pts.now c.requires.indices
 
 pub surface_along-requires-2-clause-first : goal.surface_along-requires-2-clause-first
-surface_along-requires-2-clause-first c = rw c.deref.ensures.value (simplex_reordered c.in_ok-near.ensures c.far_simplex-far.ensures)
+surface_along-requires-2-clause-first c = simplex_reordered c.in_ok-near.ensures c.far_simplex-far.ensures
 
 pub returns-clause-finished : goal.returns-clause-finished
 returns-clause-finished c =
     let p = c.in_ok-near.ensures in
     IfOk-weaker c.surface_along-2.result _ _ (λ m h once. finished_reordered p (h (once_reordered p once)))
-    (rw c.deref.ensures.value at c.surface_along-2.ensures.finished)
+    c.surface_along-2.ensures.finished
