@@ -128,8 +128,14 @@ module _ (pts : List Vector) (room : ℕ) (code : ℕ → ℕ) (keys : List ℕ)
   -- the key of each index stands somewhere
   pub position : (i : ℕ) → i < length pts → (n : ℕ) × StandsAt room code keys i n
   position i h =
-      let r = in_at keys (key_by room code i) (listed i h) in
-      (r.0, record { within = r.1; place_told = ap (λ v. v / room) r.2 ∙ code_in_key i h; id_told = ap (λ v. v % room) r.2 ∙ id_in_key i h })
+      let r = in_at keys (key_by room code i) (listed i h) in (
+        r.0,
+        record {
+          within = r.1;
+          place_told = ap (λ v. v / room) r.2 ∙ code_in_key i h;
+          id_told = ap (λ v. v % room) r.2 ∙ id_in_key i h;
+        },
+      )
 
   -- ---- the first of each place
   module _ (none : ℕ) (other : (i : ℕ) → i < length pts → code i ≢ none)
@@ -199,12 +205,15 @@ module _ (pts : List Vector) (room : ℕ) (code : ℕ → ℕ) (keys : List ℕ)
 
     -- the ids that are marked at the starts are the distinct ids
     pub distinct_ids : AreDistinctIds pts (marked_ids 0 (marked room (replicate (length pts) false) (place_starts room none keys)))
-    distinct_ids = marked_distinct pts (marked room (replicate (length pts) false) (place_starts room none keys)) (λ i. (only i, has i))
+    distinct_ids = marked_distinct pts marks (λ i. (only i, has i))
       where
-        has : (i : ℕ) → IsDistinctId pts i → get_or (marked room (replicate (length pts) false) (place_starts room none keys)) i false ≡ true
+        marks : List Bool
+        marks = marked room (replicate (length pts) false) (place_starts room none keys)
+
+        has : (i : ℕ) → IsDistinctId pts i → get_or marks i false ≡ true
         has i f = marked_has room (replicate (length pts) false) (place_starts room none keys) i within (inr (from_first i f))
 
-        only : (i : ℕ) → get_or (marked room (replicate (length pts) false) (place_starts room none keys)) i false ≡ true → IsDistinctId pts i
+        only : (i : ℕ) → get_or marks i false ≡ true → IsDistinctId pts i
         only i e =
             first_from i (⊎_elim (λ e. absurd (clash e)) (λ m. m)
             (marked_only room (replicate (length pts) false) (place_starts room none keys) i e))

@@ -137,10 +137,14 @@ module _ (pts : List Vector) (keys : List ℕ) (few : length pts ≤ POINT_LIMIT
           next = omega (arith, before)
 
           low : key p.0 / ID_ROOM ≤ key (q.0 - 1) / ID_ROOM
-          low = code_le ID_ROOM (key p.0) (key (q.0 - 1)) (rising p.0 (q.0 - 1) 0 (omega (arith, before)) (let w = q.1.within in omega (arith, before, w)))
+          low =
+              let w = q.1.within in
+              code_le ID_ROOM (key p.0) (key (q.0 - 1)) (rising p.0 (q.0 - 1) 0 (omega (arith, before)) (omega (arith, before, w)))
 
           high : key (q.0 - 1) / ID_ROOM < key q.0 / ID_ROOM
-          high = subst (λ n. key (q.0 - 1) / ID_ROOM < key n / ID_ROOM) next (rise (q.0 - 1) (subst (λ n. n < length keys) (sym next) q.1.within))
+          high =
+              subst (λ n. key (q.0 - 1) / ID_ROOM < key n / ID_ROOM) next
+              (rise (q.0 - 1) (subst (λ n. n < length keys) (sym next) q.1.within))
 
   -- where they tell the places, the ids of the keys that are no repeats are the distinct ones
   module _ (tells : HashesTell pts keys) where
@@ -157,9 +161,10 @@ module _ (pts : List Vector) (keys : List ℕ) (few : length pts ≤ POINT_LIMIT
         before : p.0 < q
         before = stands_before j i p.0 q l (ap place_hash e) p.1 t
 
-        third : (r : ℕ) → r + 2 ≡ q → p.0 ≤ r → r + 2 < length keys → key p.0 / ID_ROOM ≡ key (r + 2) / ID_ROOM → IsNew pts keys (r + 2) → ⊥
-        third r f g w s n =
-            n (r + 1) (omega arith) (tells r w (pinch (key p.0) (key r) (key (r + 2)) (rising p.0 r 0 g (omega (arith, w))) (rising r (r + 2) 0 (omega arith) w) s))
+        third : (r : ℕ) → p.0 ≤ r → r + 2 < length keys → key p.0 / ID_ROOM ≡ key (r + 2) / ID_ROOM → IsNew pts keys (r + 2) → ⊥
+        third r g w s n =
+            n (r + 1) (omega arith)
+            (tells r w (pinch (key p.0) (key r) (key (r + 2)) (rising p.0 r 0 g (omega (arith, w))) (rising r (r + 2) 0 (omega arith) w) s))
           where
             pinch : (x y z : ℕ) → x ≤ y → y ≤ z → x / ID_ROOM ≡ z / ID_ROOM → y / ID_ROOM ≡ z / ID_ROOM
             pinch x y z a b c = omega (arith, a, b, c)
@@ -167,7 +172,7 @@ module _ (pts : List Vector) (keys : List ℕ) (few : length pts ≤ POINT_LIMIT
         by : (p.0 + 1 < q) ⊎ (q ≤ p.0 + 1) → ⊥
         by (inr g) = new p.0 (omega (arith, before, g)) (same, ap (place pts) p.1.id_told ∙ e ∙ ap (place pts) (sym t.id_told))
         by (inl g) =
-            third (q - 2) two (omega (arith, g)) (subst (λ n. n < length keys) (sym two) t.within)
+            third (q - 2) (omega (arith, g)) (subst (λ n. n < length keys) (sym two) t.within)
             (subst (λ n. key p.0 / ID_ROOM ≡ key n / ID_ROOM) (sym two) same) (subst (IsNew pts keys) (sym two) new)
           where
             two : q - 2 + 2 ≡ q
@@ -176,9 +181,11 @@ module _ (pts : List Vector) (keys : List ℕ) (few : length pts ≤ POINT_LIMIT
     -- and the key of a distinct id is no repeat
     new_at : (i q : ℕ) → StandsAt ID_ROOM hash keys i q → IsDistinctId pts i → IsNew pts keys q
     new_at i q t f k e r =
-        f.1 (key k % ID_ROOM) (lower (key k) (key q) (subst (λ n. key k < key n) e (up pts ID_ROOM hash keys hashed k (subst (λ n. n < length keys) (sym e) t.within))) r.0 t.id_told)
-        (r.1 ∙ ap (place pts) t.id_told)
+        f.1 (key k % ID_ROOM) (lower (key k) (key q) rises r.0 t.id_told) (r.1 ∙ ap (place pts) t.id_told)
       where
+        rises : key k < key q
+        rises = subst (λ n. key k < key n) e (up pts ID_ROOM hash keys hashed k (subst (λ n. n < length keys) (sym e) t.within))
+
         lower : (x y : ℕ) → x < y → x / ID_ROOM ≡ y / ID_ROOM → y % ID_ROOM ≡ i → x % ID_ROOM < i
         lower x y a b c = omega (arith, a, b, c)
 
@@ -192,7 +199,9 @@ module _ (pts : List Vector) (keys : List ℕ) (few : length pts ≤ POINT_LIMIT
             subst (λ n. get_or marks n false ≡ true) q.1.id_told (m.has q.0 q.1.within (new_at i q.0 q.1 f))
 
         only : (i : ℕ) → get_or marks i false ≡ true → IsDistinctId pts i
-        only i e = subst (IsDistinctId pts) (sym r.3) (lt, alone (key r.0 % ID_ROOM) r.0 (stands pts ID_ROOM hash keys hashed r.0 r.1) lt r.2)
+        only i e =
+            subst (IsDistinctId pts) (sym r.3)
+            (lt, alone (key r.0 % ID_ROOM) r.0 (stands pts ID_ROOM hash keys hashed r.0 r.1) lt r.2)
           where
             r : (j : ℕ) × (j < length keys) × IsNew pts keys j × (i ≡ key j % ID_ROOM)
             r = m.only i e
