@@ -1,5 +1,5 @@
 -- The ids that are marked at the first key of each place are the distinct ids, whatever numbers tell the places.
-use Rattle.std.proofs.Common.{◌≡◌, ◌≢◌, ℕ, zero, suc, ◌+◌, ◌-◌, ◌*◌, ◌%◌, ◌/◌, ◌<◌, ◌≤◌, List, length, get_or, map, replicate, arith, ap, sym, subst, ◌∙◌, ◌⊎◌, inl, inr, ⊎_elim, true, false, Bool}
+use Rattle.std.proofs.Common.{◌≡◌, ◌≢◌, ℕ, ◌+◌, ◌*◌, ◌%◌, ◌/◌, ◌<◌, ◌≤◌, List, length, get_or, map, replicate, arith, ap, sym, subst, ◌∙◌, refl, ◌↔◌, ◌⊎◌, inl, inr, ⊎_elim, true, false, Bool}
 use Rattle.std.proofs.lemmas.Bool.Decides.{nat_tests}
 use Rattle.std.proofs.lemmas.Bool.{cases_lt}
 use Rattle.std.proofs.lemmas.List.{length-replicate}
@@ -14,7 +14,7 @@ use Rattle.qh_model.specs.contract.IdSets.{IsIdSet}
 use Rattle.qh_model.specs.headline.Predicates.{place}
 use Rattle.qh_model.specs.headline.Sets.{In}
 use Rattle.qh_model.specs.headline.Vector.{Vector}
-use Rattle.qh_plane.proofs.KeyOrder.{IsKeyIn, TellIds, code_le, key_told, key_listed, keys_rise}
+use Rattle.qh_plane.proofs.KeyOrder.{IsKeyIn, TellIds, key_told, key_listed, keys_rise}
 use Rattle.qh_plane.proofs.MarkedIds.{IsMarked, in_marked_ids, of_marked_ids, marked_ids-rise, marked_only, marked_has, blank}
 use Rattle.qh_plane.proofs.PlaceStarts.{Start, IsBefore, starts_only, starts_all}
 use Rattle.qh_plane.specs.steps.Marks.{place_starts, marked, marked_ids}
@@ -51,6 +51,20 @@ all_distinct pts all a differ = record {
   members = λ i. ((λ m. let lt = in_all (length pts) all a i m in (lt, λ j l. differ j i l lt)), (λ d. all_in (length pts) all a i d.0));
 }
 
+-- where the marks are those of the distinct ids, these are listed
+pub marked_distinct : (pts : List Vector) (marks : List Bool) → ((i : ℕ) → get_or marks i false ≡ true ↔ IsDistinctId pts i)
+    → AreDistinctIds pts (marked_ids 0 marks)
+marked_distinct pts marks is = record {
+  rising = marked_ids-rise marks;
+  members = λ i. (
+    λ m. only i (of_marked_ids 0 i marks m),
+    λ f. subst (λ v. In v (marked_ids 0 marks)) (omega arith) (in_marked_ids 0 i marks ((is i).1 f)),
+  );
+}
+  where
+    only : (i : ℕ) → IsMarked 0 i marks → IsDistinctId pts i
+    only i p = (is i).0 (subst (λ v. get_or marks v false ≡ true) (sym (p.at ∙ omega arith)) p.is)
+
 -- the key of each id is the number of its place, above the room of the id
 abbrev pub key_by : ℕ → (ℕ → ℕ) → ℕ → ℕ
 key_by room code i = code i * room + i
@@ -64,10 +78,11 @@ pub record AreSortedKeys (pts : List Vector) (room : ℕ) (code : ℕ → ℕ) (
   pub small : (i : ℕ) → i < length pts → i < room
   pub equal : (i j : ℕ) → place pts i ≡ place pts j → code i ≡ code j
 
--- what each key and the next of its place have, all pairs of one place have
-abbrev pub IsPassed : ℕ → List ℕ → (ℕ → ℕ → Type 0) → Type 0
-IsPassed room keys P =
-    (j : ℕ) → j + 1 < length keys → get_or keys j 0 / room ≡ get_or keys (j + 1) 0 / room → P (get_or keys j 0) (get_or keys (j + 1) 0)
+-- the key of id i stands at n, and tells the id and its place
+pub record StandsAt (room : ℕ) (code : ℕ → ℕ) (keys : List ℕ) (i n : ℕ) : Type 0 where
+  pub within : n < length keys
+  pub place_told : get_or keys n 0 / room ≡ code i
+  pub id_told : get_or keys n 0 % room ≡ i
 
 module _ (pts : List Vector) (room : ℕ) (code : ℕ → ℕ) (keys : List ℕ) (k : AreSortedKeys pts room code keys) where
   -- a key tells its id
@@ -79,11 +94,11 @@ module _ (pts : List Vector) (room : ℕ) (code : ℕ → ℕ) (keys : List ℕ)
   told = key_told room (key_by room code) k.ids keys k.same tell
 
   -- which is an index
-  index_in : (x : ℕ) → In x keys → x % room < length pts
+  pub index_in : (x : ℕ) → In x keys → x % room < length pts
   index_in x m = in_all (length pts) k.ids k.all (x % room) (told x m).has
 
   -- the keys rise strictly
-  up : IsStrictlyIncreasing keys
+  pub up : IsStrictlyIncreasing keys
   up = keys_rise room (key_by room code) k.ids keys k.same tell (rises_each (length pts) k.ids k.all) k.rising
 
   -- each index has a key
@@ -95,7 +110,7 @@ module _ (pts : List Vector) (room : ℕ) (code : ℕ → ℕ) (keys : List ℕ)
   code_in_key i h = div-mul-add (code i) room i (k.small i h)
 
   -- and its id
-  pub id_in_key : (i : ℕ) → i < length pts → key_by room code i % room ≡ i
+  id_in_key : (i : ℕ) → i < length pts → key_by room code i % room ≡ i
   id_in_key i h = mod-mul-add (code i) room i (k.small i h)
 
   -- the place in a key is that of its id
@@ -106,85 +121,21 @@ module _ (pts : List Vector) (room : ℕ) (code : ℕ → ℕ) (keys : List ℕ)
   pub all_within : All (λ x. x % room < length pts) keys
   all_within = All-of (λ x. x % room < length pts) keys index_in
 
-  -- ---- from key to key
-  module _ (P : ℕ → ℕ → Type 0) (on : (x y z : ℕ) → P x y → P y z → P x z) (next : IsPassed room keys P) where
-    -- a place between two that are one
-    between : (a b c : ℕ) → a ≤ b → b ≤ c → a / room ≡ c / room → (a / room ≡ b / room) × (b / room ≡ c / room)
-    between a b c h l e = pinch (a / room) (b / room) (c / room) (code_le room a b h) (code_le room b c l) e
-      where
-        pinch : (x y z : ℕ) → x ≤ y → y ≤ z → x ≡ z → (x ≡ y) × (y ≡ z)
-        pinch x y z p q e = (omega arith, omega arith)
+  -- each key stands for its id
+  pub stands : (n : ℕ) → n < length keys → StandsAt room code keys (get_or keys n 0 % room) n
+  stands n h = record { within = h; place_told = code_told (get_or keys n 0) (In-get_or keys n 0 h); id_told = refl }
 
-    -- what is passed on along the keys
-    passed : (a d : ℕ) → a + suc d < length keys → get_or keys a 0 / room ≡ get_or keys (a + suc d) 0 / room
-        → P (get_or keys a 0) (get_or keys (a + suc d) 0)
-    passed a zero h e =
-        subst (λ n. P (get_or keys a 0) (get_or keys n 0)) one
-        (next a (subst (λ n. n < length keys) (sym one) h) (subst (λ n. get_or keys a 0 / room ≡ get_or keys n 0 / room) (sym one) e))
-      where
-        one : a + 1 ≡ a + suc zero
-        one = omega arith
-    passed a (suc d) h e =
-        on (get_or keys a 0) (get_or keys m 0) (get_or keys (a + suc (suc d)) 0) (passed a d low b.0)
-        (subst (λ n. P (get_or keys m 0) (get_or keys n 0)) one
-        (next m (subst (λ n. n < length keys) (sym one) h) (subst (λ n. get_or keys m 0 / room ≡ get_or keys n 0 / room) (sym one) b.1)))
-      where
-        m : ℕ
-        m = a + suc d
-
-        one : a + suc d + 1 ≡ a + suc (suc d)
-        one = omega arith
-
-        low : a + suc d < length keys
-        low = omega (arith, h)
-
-        b : (get_or keys a 0 / room ≡ get_or keys m 0 / room) × (get_or keys m 0 / room ≡ get_or keys (a + suc (suc d)) 0 / room)
-        b =
-            between (get_or keys a 0) (get_or keys m 0) (get_or keys (a + suc (suc d)) 0) (k.rising a m 0 (omega arith) low)
-            (k.rising m (a + suc (suc d)) 0 (omega arith) h) e
-
-    -- so two ids of one place have it, one way round
-    pub joined : (i j : ℕ) → i < j → j < length pts → code i ≡ code j → P (key_by room code i) (key_by room code j)
-    joined i j l h e = by (cases_lt p.0 q.0)
-      where
-        low : i < length pts
-        low = omega (arith, l, h)
-
-        p : (n : ℕ) × (n < length keys) × (get_or keys n 0 ≡ key_by room code i)
-        p = in_at keys (key_by room code i) (listed i low)
-
-        q : (n : ℕ) × (n < length keys) × (get_or keys n 0 ≡ key_by room code j)
-        q = in_at keys (key_by room code j) (listed j h)
-
-        codes : get_or keys p.0 0 / room ≡ get_or keys q.0 0 / room
-        codes = ap (λ v. v / room) p.2 ∙ code_in_key i low ∙ e ∙ sym (code_in_key j h) ∙ sym (ap (λ v. v / room) q.2)
-
-        back : key_by room code j ≤ key_by room code i → ⊥
-        back g = late (key_order (code i * room) j i (subst (λ v. v * room + j ≤ code i * room + i) (sym e) g))
-          where
-            late : j ≤ i → ⊥
-            late g = omega (arith, l, g)
-
-        by : (p.0 < q.0) ⊎ (q.0 ≤ p.0) → P (key_by room code i) (key_by room code j)
-        by (inr g) =
-            absurd (back (subst (λ v. v ≤ key_by room code i) q.2 (subst (λ v. get_or keys q.0 0 ≤ v) p.2 (k.rising q.0 p.0 0 g p.1))))
-        by (inl g) =
-            subst (λ v. P v (key_by room code j)) p.2 (subst (λ v. P (get_or keys p.0 0) v) q.2
-            (subst (λ n. P (get_or keys p.0 0) (get_or keys n 0)) far
-            (passed p.0 (q.0 - suc p.0) (subst (λ n. n < length keys) (sym far) q.1)
-            (subst (λ n. get_or keys p.0 0 / room ≡ get_or keys n 0 / room) (sym far) codes))))
-          where
-            far : p.0 + suc (q.0 - suc p.0) ≡ q.0
-            far = omega (arith, g)
-
-  -- where the places in the keys rise, all ids are distinct
-  pub rising_distinct : (ids : List ℕ) → AllIds (length pts) ids
-      → ((j : ℕ) → j + 1 < length keys → get_or keys j 0 / room < get_or keys (j + 1) 0 / room) → AreDistinctIds pts ids
-  rising_distinct ids a rise =
-      all_distinct pts ids a (λ i j l h e. joined (λ _ _. ⊥) (λ x y z f g. f) (λ n m q. flat (rise n m) q) i j l h (k.equal i j e))
-    where
-      flat : {x y : ℕ} → x < y → x ≡ y → ⊥
-      flat {x} {y} l e = omega (arith, l, e)
+  -- the key of each index stands somewhere
+  pub position : (i : ℕ) → i < length pts → (n : ℕ) × StandsAt room code keys i n
+  position i h =
+      let r = in_at keys (key_by room code i) (listed i h) in (
+        r.0,
+        record {
+          within = r.1;
+          place_told = ap (λ v. v / room) r.2 ∙ code_in_key i h;
+          id_told = ap (λ v. v % room) r.2 ∙ id_in_key i h;
+        },
+      )
 
   -- ---- the first of each place
   module _ (none : ℕ) (other : (i : ℕ) → i < length pts → code i ≢ none)
@@ -254,24 +205,18 @@ module _ (pts : List Vector) (room : ℕ) (code : ℕ → ℕ) (keys : List ℕ)
 
     -- the ids that are marked at the starts are the distinct ids
     pub distinct_ids : AreDistinctIds pts (marked_ids 0 (marked room (replicate (length pts) false) (place_starts room none keys)))
-    distinct_ids = record {
-      rising = marked_ids-rise marks;
-      members = λ i. (
-        λ m. only i (of_marked_ids 0 i marks m),
-        λ f. subst (λ v. In v (marked_ids 0 marks)) (omega arith)
-            (in_marked_ids 0 i marks
-            (marked_has room (replicate (length pts) false) (place_starts room none keys) i within (inr (from_first i f)))),
-      );
-    }
+    distinct_ids = marked_distinct pts marks (λ i. (only i, has i))
       where
         marks : List Bool
         marks = marked room (replicate (length pts) false) (place_starts room none keys)
 
-        only : (i : ℕ) → IsMarked 0 i marks → IsDistinctId pts i
-        only i p =
+        has : (i : ℕ) → IsDistinctId pts i → get_or marks i false ≡ true
+        has i f = marked_has room (replicate (length pts) false) (place_starts room none keys) i within (inr (from_first i f))
+
+        only : (i : ℕ) → get_or marks i false ≡ true → IsDistinctId pts i
+        only i e =
             first_from i (⊎_elim (λ e. absurd (clash e)) (λ m. m)
-            (marked_only room (replicate (length pts) false) (place_starts room none keys) i
-            (subst (λ v. get_or marks v false ≡ true) (sym (p.at ∙ omega arith)) p.is)))
+            (marked_only room (replicate (length pts) false) (place_starts room none keys) i e))
           where
             clash : get_or (replicate (length pts) false) i false ≡ true → ⊥
             clash e = let n = blank (length pts) i in cc

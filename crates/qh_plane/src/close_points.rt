@@ -185,7 +185,7 @@ impl CloseBox {
 
 /// Whether two points are one.
 pub fn are_one(p: Point, q: Point) -> bool
-    ensures { IsTrue result → p ≡ q }
+    ensures { IsTrue result ↔ p ≡ q }
 {
     p.x() == q.x() && p.y() == q.y() && p.z() == q.z()
 }

@@ -3,12 +3,11 @@
 //! id first.
 //!
 //! Equal points have one hash. Different points hardly ever have; where they do, some stand next to each
-//! other among the sorted keys.
-ghost use Rattle.std.specs.Prelude.{◌≡◌, ◌<◌, ◌≤◌, ◌+◌, ◌*◌, ◌/◌, ◌%◌, ℕ, IfOk, IsTrue, length, map, replicate, false};
+//! other among the sorted keys, and are told as long as they are the first two of that hash.
+ghost use Rattle.std.specs.Prelude.{◌≡◌, ◌<◌, ◌≤◌, ◌+◌, ◌*◌, ◌/◌, ◌%◌, ◌↔◌, ℕ, IfOk, IsTrue, length, map};
 ghost use Rattle.std.specs.List.{All};
 ghost use Rattle.qh_model.specs.contract.IdSets.{AreIndices};
-ghost use Rattle.qh_plane.specs.steps.HashedKeys.{place_number, place_hash, hashed_key, hashed_key_at, HashesRise, HashesTell};
-ghost use Rattle.qh_plane.specs.steps.Marks.{place_starts, marked};
+ghost use Rattle.qh_plane.specs.steps.HashedKeys.{place_number, place_hash, hashed_key, hashed_key_at, HashesRise, IsRepeat, IsNew, HashesTell, NewMarked};
 
 use crate::close_points::are_one;
 use crate::place_keys::raised;
@@ -96,34 +95,49 @@ pub fn hashes_rise(keys: &[u64]) -> bool
     true
 }
 
-/// Whether keys that are next to each other and have one hash are of equal points.
+/// Whether two keys have one hash and equal points.
+fn is_repeat(pts: &[Point], before: u64, key: u64) -> bool
+    requires before { before % ID_ROOM < length pts.now }
+    requires key { key % ID_ROOM < length pts.now }
+    ensures { IsTrue result ↔ IsRepeat pts.now before key }
+{
+    hash_in(before) == hash_in(key)
+        && are_one(point_at(pts, id_in(before)), point_at(pts, id_in(key)))
+}
+
+/// Whether of three keys that are next to each other and have one hash the last two are of equal points.
+/// So points that differ meet, among rising keys of one hash, at most in its first two.
 pub fn hashes_tell(pts: &[Point], keys: &[u64]) -> bool
     requires { All (λ k. k % ID_ROOM < length pts.now) keys.now }
     ensures { IsTrue result → HashesTell pts.now keys.now }
 {
-    for j in 1..keys.len() {
-        let (before, key) = (keys[j - 1], keys[j]);
-        if hash_in(before) == hash_in(key)
-            && !are_one(point_at(pts, id_in(before)), point_at(pts, id_in(key)))
-        {
+    for j in 2..keys.len() {
+        if hash_in(keys[j - 2]) == hash_in(keys[j]) && !is_repeat(pts, keys[j - 1], keys[j]) {
             return false;
         }
     }
     true
 }
 
-/// Marks, for rising keys, each id at which a new hash begins: the lowest id of that hash.
-pub fn mark_first_hashed(alloc: Global, count: usize, keys: &[u64]) -> Result<Vec<bool>, AllocError>
-    requires { All (λ k. k % ID_ROOM < count) keys.now }
-    ensures { IfOk result (λ v. v.items ≡ marked ID_ROOM (replicate count false) (place_starts ID_ROOM NO_HASH keys.now)) }
+/// Whether the key at a position is no repeat of the one before.
+fn is_new(pts: &[Point], keys: &[u64], position: usize) -> bool
+    requires ids { All (λ k. k % ID_ROOM < length pts.now) keys.now }
+    requires within { position < length keys.now }
+    ensures { IsTrue result ↔ IsNew pts.now keys.now position }
 {
-    let mut marks = vec![in alloc; false; count]?;
-    let mut last = NO_HASH;
-    for key in keys {
-        let hash = hash_in(*key);
-        if hash != last {
-            marks[id_in(*key).index()] = true;
-            last = hash;
+    position == 0 || !is_repeat(pts, keys[position - 1], keys[position])
+}
+
+/// Marks, for rising keys, the id of each key that is no repeat of the one before: where the hashes tell, the
+/// lowest id of each place.
+pub fn mark_new_ids(alloc: Global, pts: &[Point], keys: &[u64]) -> Result<Vec<bool>, AllocError>
+    requires { All (λ k. k % ID_ROOM < length pts.now) keys.now }
+    ensures { IfOk result (λ v. NewMarked pts.now keys.now (length keys.now) v.items) }
+{
+    let mut marks = vec![in alloc; false; pts.len()]?;
+    for position in 0..keys.len() {
+        if is_new(pts, keys, position) {
+            marks[id_in(keys[position]).index()] = true;
         }
     }
     Ok(marks)

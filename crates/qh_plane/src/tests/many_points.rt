@@ -68,7 +68,7 @@ fn points_in_line(rt: HostRuntime) -> Result<(), Fail> {
 
 /// A point moved onto another, late and early; one that is not moved; one to where no point is, though its
 /// 64 bits are those of the first point, and one whose hash is; all points twice; and the first of two moved
-/// to where no point is, though its hash is that of the first point of all.
+/// to where no point is, though its hash is that of the other, of a pair before it, and of a pair behind it.
 #[test]
 fn points_of_a_plane(rt: HostRuntime) -> Result<(), Fail> {
     let rows = [
@@ -79,7 +79,9 @@ fn points_of_a_plane(rt: HostRuntime) -> Result<(), Fail> {
         (5000, 4999, Point::new(0, -1, 2097153), 5000, 4999),
         (5000, 4999, Point::new(10193, 3438, -5042), 5000, 4999),
         (2500, 0, Point::new(0, 0, 0), 2500, 2499),
+        (2500, 0, Point::new(10193, 3438, -5042), 2501, 2500),
         (2500, 3, Point::new(10193, 3438, -5042), 2501, 2503),
+        (2500, 3, Point::new(14193, 903438, -5042), 2501, 2503),
     ];
     for (period, position, moved, count, last) in rows {
         let pts = lines_with(period, position, moved);

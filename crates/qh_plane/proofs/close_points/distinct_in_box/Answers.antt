@@ -44,7 +44,7 @@ loop-number-preserved c =
           let i = w.index-else-index.result.now in
           let read : i ≡ slot_at slots s = get_or_read slots s i room w.index-else-index.ensures NO_ID in
           let below : i < k = seen_id pts b slots k ids old s c.index.result.now i room c.index.ensures w.if-index.false w.index-else-index.ensures in
-          let same : place pts i ≡ place pts k = sym (point_read pts i w.index-pts-index.result (omega (arith, below, within)) w.index-pts-index.is) ∙ w.are_one.ensures w.if-not-are_one.false
+          let same : place pts i ≡ place pts k = sym (point_read pts i w.index-pts-index.result (omega (arith, below, within)) w.index-pts-index.is) ∙ w.are_one.ensures.0 w.if-not-are_one.false
           ∙ point_read pts k w.index-pts-number-else-index.result within w.index-pts-number-else-index.is in
           let next = again_seen pts b slots k ids old within c.requires.few i (subst (λ n. slot_at slots n ≡ i) at (sym read)) below same in
           subst (λ xs. AreSeen pts b xs (k + 1) c.if-index.ids.items) (sym (ap (λ (v : Vec ℕ Global). v.items) w.slots-is)) (subst (λ xs. AreSeen pts b slots (k + 1) xs) (sym (ap (λ (v : Vec ℕ Global). v.items) w.ids-is)) next)
