@@ -127,7 +127,8 @@ impl Model for Facet {
 
     ghost Value = { StoredFacet };
 
-    ghost view = { λ f. record { i = f.i; j = f.j; k = f.k; ij = slice_index f.twins 0; jk = slice_index f.twins 1; ki = slice_index f.twins 2; live = f.live } };
+    ghost view = { λ f. let ts = f.twins in
+        record { i = f.i; j = f.j; k = f.k; ij = slice_index ts 0; jk = slice_index ts 1; ki = slice_index ts 2; live = f.live } };
 
     ghost invariant = { λ f. length f.twins ≡ 3 };
 

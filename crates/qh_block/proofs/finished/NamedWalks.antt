@@ -1,12 +1,12 @@
 -- A walk in the plane of a facet of a mesh over positions is one of the same mesh over ids.
-use Rattle.std.proofs.Common.{◌≡◌, ◌∙◌, ℕ, ◌<◌, ◌⊎◌, inl, inr, List, All, length, map, ap, sym, subst, refl, Bool}
+use Rattle.std.proofs.Common.{◌≡◌, ◌∙◌, ℕ, ◌<◌, inl, inr, List, length, ap, sym, subst, refl, Bool}
 use Rattle.std.proofs.lemmas.List.{get_or-map}
-use Rattle.std.specs.Prelude.{ℤ, slice_index}
+use Rattle.std.specs.Prelude.{slice_index}
 use Rattle.qh_model.specs.headline.Vector.{Vector, origin}
 use Rattle.qh_model.specs.headline.Predicates.{place, vol}
 use Rattle.qh_model.specs.headline.Sets.{In}
-use Rattle.qh_model.specs.contract.Surface.{Side, Surface, IsCorner, IsWhole}
-use Rattle.qh_model.specs.contract.StoredSurface.{StoredFacet, surface_of}
+use Rattle.qh_model.specs.contract.Surface.{Side, Surface, IsWhole}
+use Rattle.qh_model.specs.contract.StoredSurface.{surface_of}
 use Rattle.qh_model.specs.laws.FacetPlanes.{IsLevelFacet, IsLevelWith}
 use Rattle.qh_model.proofs.Members.{All-In, All-of, In-get_or}
 use Rattle.qh_model.proofs.surfaces.Named.{IsNamed, stored_named}
@@ -15,7 +15,6 @@ use Rattle.qh_mesh.specs.contract.Names.{name_in}
 use Rattle.qh_mesh.specs.contract.Replacement.{IsLive}
 use Rattle.qh_block.specs.declared.named_mesh.NamedMesh.{NamedMesh}
 use Rattle.qh_block.specs.steps.NamedMeshes.{named, IsNamedMesh}
-use Rattle.qh_block.specs.steps.PlaneWalks.{AreCornersBelow}
 use Rattle.qh_block.specs.steps.Walks.{IsMarked, IsWalkFrom}
 use Rattle.qh_block.proofs.runs.OrderedIds.{name_is}
 
@@ -61,7 +60,8 @@ module _ (pts : List Vector) (n : NamedMesh) (o : IsNamedMesh pts n) where
 
   -- so it is level with a facet where its position is
   module _ (f : ℕ) (l : IsLive n.mesh f) (c c' : ℕ) (b : c < count) (e : c' ≡ name n c) where
-    same : vol (at' ((m' n).i f)) (at' ((m' n).j f)) (at' ((m' n).k f)) (at' c') ≡ vol (at ((m n).i f)) (at ((m n).j f)) (at ((m n).k f)) (at c)
+    same : vol (at' ((m' n).i f)) (at' ((m' n).j f)) (at' ((m' n).k f)) (at' c')
+        ≡ vol (at ((m n).i f)) (at ((m n).j f)) (at ((m n).k f)) (at c)
     same = λ k. vol (first k) (second k) (third k) (point_is c c' b e k)
       where
         first : at' ((m' n).i f) ≡ at ((m n).i f)

@@ -1,5 +1,5 @@
 -- A mesh over positions of a list of ids, and the same over the ids.
-use Rattle.std.specs.Prelude.{◌≡◌, ℕ, List, length, map}
+use Rattle.std.specs.Prelude.{◌≡◌, List, length, map}
 use Rattle.qh_model.specs.headline.Vector.{Vector}
 use Rattle.qh_model.specs.headline.Predicates.{place}
 use Rattle.qh_model.specs.contract.StoredSurface.{StoredFacet, named_facet}

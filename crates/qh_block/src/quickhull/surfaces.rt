@@ -80,7 +80,8 @@ pub(super) fn run_over(
 ) -> Result<Run, Memory>
     requires indices { AreIndices pts.now ids.now }
     requires first { IsSimplexOf pts.now ids.now first }
-    ensures finished { IfOk result (λ r. IsFinished (place (map (place pts.now) ids.now)) (range_with_len 0 (length ids.now)) (surface_of r.mesh)) }
+    ensures finished { IfOk result (λ r.
+        IsFinished (place (map (place pts.now) ids.now)) (range_with_len 0 (length ids.now)) (surface_of r.mesh)) }
     ensures points { IfOk result (λ r. r.points.items ≡ map (place pts.now) ids.now) }
 {
     let points = points_of(alloc, pts, ids)?;

@@ -12,7 +12,8 @@ module _ (c : After-across) where
   own = twin-at c.args.self.now c.kept.ensures.twins c.args.f c.requires.facet (nth_side c.args.side)
 
   is : c.across.result ≡ twin_of c.args.self.now (edge_of c.args.f (nth_side c.args.side))
-  is = c.across.ensures ∙ ap (λ t. outer_of t (nth_side c.args.side)) c.kept.ensures.facet ∙ sym (twin-is c.args.self.now c.args.f (nth_side c.args.side))
+  is = c.across.ensures ∙ ap (λ t. outer_of t (nth_side c.args.side)) c.kept.ensures.facet
+      ∙ sym (twin-is c.args.self.now c.args.f (nth_side c.args.side))
 
 pub returns-clause-twin : goal.returns-clause-twin
 returns-clause-twin c = is c
