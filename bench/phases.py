@@ -6,8 +6,8 @@
 
 For each family one seeded file; `perf record` takes samples of one run, and each belongs to the phase of the function that
 it is in. Functions that are inlined count with their caller, the sort of 64-bit numbers with the distinct points although a
-large surface begins with one too, and what the system does (memory, pages, pipes) is a column of its own. By hand: no gate
-asks for it.
+large surface begins with one too and the order of its faces is one, and what the system does (memory, pages, pipes) is a
+column of its own. By hand: no gate asks for it.
 """
 import argparse
 import os
@@ -26,7 +26,7 @@ OWNERS = [
     (r"^qh_read::|serve_once", "read"),
     (r"^qh_plane::(close_points|distinct_points|hashed_keys|sorted_points|place_keys|sorting)|^rayon::", "distinct"),
     (r"^qh_block::inner_points", "look"),
-    (r"^qh_block::(faces|face_order|hulls|walk|plane_walk|solid_edges|bodies|flat_sets)", "faces"),
+    (r"^qh_block::(faces|face_order|face_keys|named_mesh|hulls|walk|plane_walk|solid_edges|bodies|flat_sets)", "faces"),
     (r"^qh_block::solids::(corners|listed)|^qh_plane::", "faces"),
     (r"^qh_block::|^qh_mesh::|^qh_pred::", "surface"),
 ]
