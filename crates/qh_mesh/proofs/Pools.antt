@@ -1,5 +1,5 @@
 -- The places of no facet, as they come and go.
-use Rattle.std.proofs.Common.{◌≡◌, ◌≢◌, ℕ, ◌^◌, ◌<◌, ◌≤◌, inl, inr, max, arith, ap, sym, ◌∙◌, refl, subst, Bool, true, false, cond, List}
+use Rattle.std.proofs.Common.{◌≡◌, ◌≢◌, ℕ, ◌<◌, ◌≤◌, inl, inr, max, arith, ap, sym, ◌∙◌, refl, subst, Bool, true, false, cond, List}
 use Rattle.std.proofs.Common.{[], ◌∷◌, ◌++◌, length, reverse, set}
 use Rattle.std.proofs.lemmas.Bool.{both_ways, cases_lt}
 use Rattle.std.proofs.lemmas.List.{get_or_append_left, get_or_push, length_push, length-reverse, length-set, get_or-set_same}
@@ -9,11 +9,9 @@ use Rattle.qh_model.specs.headline.Sets.{In}
 use Rattle.qh_model.specs.contract.StoredSurface.{StoredFacet, facet_at, no_facet, surface_of}
 use Rattle.qh_model.proofs.surfaces.Stored.{live_inside, live_len}
 use Rattle.qh_model.proofs.lists.Joined.{of_append, once_append}
-use Rattle.qh_mesh.specs.declared.facets.FacetSide.{FacetSide}
 use Rattle.qh_mesh.specs.contract.Replacement.{IsLive}
 use Rattle.qh_mesh.specs.steps.Kept.{is_live}
 use Rattle.qh_mesh.specs.steps.Places.{IsPool, IsVacant, live_count}
-use Rattle.qh_mesh.specs.steps.Rebuilt.{IsReady}
 
 -- what a mark adds to the count of live facets
 abbrev one : Bool → ℕ
@@ -54,9 +52,9 @@ pub pool_same : (fs gs : List StoredFacet) (places : List ℕ) → length gs ≡
 pool_same fs gs places n s c q =
     record { once = q.once; vacant = λ v i. (rw n (q.vacant v i).0, s v ∙ (q.vacant v i).1); count = let d = q.count in omega arith }
 
--- there are no more facets of a cone than numbers of places
-pub few_made : (fs : List StoredFacet) (hs : List FacetSide) (made : List ℕ) → IsReady fs hs made → length hs < 2 ^ 32
-few_made fs hs made r = let l = r.places in let e = r.len in let s = r.small in omega arith
+-- there are no more free places than places
+pub few_free : (fs : List StoredFacet) (free : List ℕ) → IsPool fs (reverse free) → length free ≤ length fs
+few_free fs free q = let c = q.count in let e = length-reverse free in omega arith
 
 -- a free place is given out
 pub pool_pops : (fs : List StoredFacet) (made free : List ℕ) (p : ℕ) → IsPool fs (made ++ reverse (free ++ p ∷ []))

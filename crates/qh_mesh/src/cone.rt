@@ -9,7 +9,7 @@ ghost use Rattle.qh_mesh.specs.steps.Cones.{Joined, Written};
 ghost use Rattle.qh_mesh.specs.steps.Places.{IsPool};
 
 use crate::facets::{EdgeNo, Facet, FacetNo, FacetSide};
-use crate::slots::{Slot, mate};
+use crate::slots::{Slot, is_noted, mate};
 
 /// Puts another half-edge across a half-edge.
 fn set_twin(facets: &mut [Facet], e: EdgeNo, twin: u32)
@@ -30,19 +30,30 @@ fn edge_at(made: &[FacetNo], j: usize, side: usize) -> u32
     made[j].edge(side).number()
 }
 
-/// Each half-edge across the horizon gets its twin in the cone.
+/// Each half-edge across the horizon gets its twin in the cone. Answers whether the table names each side
+/// at both of its corners, so that no two start and no two end at one.
 #[tactic(auto, using(crate::proofs::WrittenFacets::joined_more))]
-pub fn join_outer(facets: &mut [Facet], horizon: &[FacetSide], made: &[FacetNo])
+pub fn join_outer(
+    facets: &mut [Facet],
+    slots: &[Slot],
+    horizon: &[FacetSide],
+    made: &[FacetNo],
+) -> bool
     requires len { length made.now ≡ length horizon.now }
     requires inside { (j : ℕ) → j < length horizon.now → facet_of (side_at horizon.now j).outer < length facets.old }
     requires apart { (i j : ℕ)
         → i < j → j < length horizon.now → (side_at horizon.now i).outer ≢ (side_at horizon.now j).outer }
     requires fits { All (λ f. 3 * f + 2 < 2 ^ 32) made.now }
-    ensures { Joined facets.old facets.new horizon.now made.now (length horizon.now) }
+    ensures joined { Joined facets.old facets.new horizon.now made.now (length horizon.now) }
+    ensures noted { result ≡ true → AreNoted slots.now horizon.now }
 {
+    let mut filled = true;
     for j in 0..horizon.len() {
-        set_twin(facets, horizon[j].across(), edge_at(made, j, 0));
+        let side = horizon[j];
+        filled &= is_noted(slots, side, true, j) & is_noted(slots, side, false, j);
+        set_twin(facets, side.across(), edge_at(made, j, 0));
     }
+    filled
 }
 
 /// Writes the facets of the cone, each beside those over the sides of the horizon that meet its own.

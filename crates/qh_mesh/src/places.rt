@@ -1,11 +1,12 @@
 //! The places of facets: those of facets that go, and those of a cone.
-ghost use Rattle.std.specs.Prelude.{All, ◌≡◌, ◌+◌, ◌<◌, ◌≤◌, ℕ, length, reverse, [], ◌++◌, vec_len, vec_capacity};
+ghost use Rattle.std.specs.Prelude.{All, ◌≡◌, ◌+◌, ◌<◌, ◌≤◌, ◌^◌, ℕ, length, reverse, [], ◌++◌, vec_len, vec_capacity};
 ghost use Rattle.qh_model.specs.headline.Sets.{Once};
 ghost use Rattle.qh_model.specs.contract.StoredSurface.{facet_at};
 ghost use Rattle.qh_mesh.specs.contract.Replacement.{IsLive};
 ghost use Rattle.qh_mesh.specs.steps.Places.{Removed, IsPool};
 
-use crate::facets::{Facet, FacetNo};
+use crate::facets::{Facet, FacetNo, FacetSide};
+use crate::slots::{Slot, note};
 
 /// Takes the listed facets away: their places are free.
 pub fn remove(facets: &mut [Facet], free: &mut Vec<FacetNo>, visible: &[FacetNo])
@@ -48,25 +49,29 @@ fn give_out(facets: &mut Vec<Facet>, free: &mut Vec<FacetNo>, made: &mut Vec<Fac
     }
 }
 
-/// So many places for the facets of a cone: free ones first, then new ones at the end.
+/// A place for the facet over each side of a horizon: free ones first, then new ones at the end. Each
+/// side is noted at its corners on the way.
 pub fn choose(
     facets: &mut Vec<Facet>,
     free: &mut Vec<FacetNo>,
-    count: usize,
+    slots: &mut [Slot],
+    horizon: &[FacetSide],
     made: &mut Vec<FacetNo>,
 )
     requires pool { IsPool facets.old.items (made.old.items ++ reverse free.old.items) }
     requires empty { made.old.items ≡ [] }
-    requires room { vec_len facets.old + count ≤ vec_capacity facets.old + vec_len free.old }
-    requires made_room { count ≤ vec_capacity made.old }
+    requires room { vec_len facets.old + length horizon.now ≤ vec_capacity facets.old + vec_len free.old }
+    requires made_room { length horizon.now ≤ vec_capacity made.old }
+    requires few { length horizon.now < 2 ^ 32 }
     ensures pool { IsPool facets.new.items (made.new.items ++ reverse free.new.items) }
     ensures cells { (f : ℕ) → facet_at facets.new.items f ≡ facet_at facets.old.items f }
     ensures longer { vec_len facets.old ≤ vec_len facets.new }
     ensures again { 0 < vec_len free.new → vec_len facets.new ≡ vec_len facets.old }
-    ensures len { vec_len facets.new + vec_len free.old ≡ vec_len facets.old + count + vec_len free.new }
-    ensures made { vec_len made.new ≡ count }
+    ensures len { vec_len facets.new + vec_len free.old ≡ vec_len facets.old + length horizon.now + vec_len free.new }
+    ensures made { vec_len made.new ≡ length horizon.now }
 {
-    for j in 0..count {
+    for j in 0..horizon.len() {
         give_out(facets, free, made);
+        note(slots, horizon[j], j as u32);
     }
 }

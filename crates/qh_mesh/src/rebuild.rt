@@ -9,7 +9,7 @@ use crate::cone::{join_outer, write_cone};
 use crate::facets::{Facet, FacetNo, FacetSide};
 use crate::horizon::gather;
 use crate::places::{choose, remove};
-use crate::slots::{Slot, fill};
+use crate::slots::Slot;
 
 /// Takes the visible facets away and notes their horizon.
 #[tactic(auto, using(crate::proofs::HorizonSides::sides_inside, crate::proofs::HorizonSides::gathered))]
@@ -34,10 +34,9 @@ fn clear(
 }
 
 /// Puts the cone from the apex over the horizon into its places.
-#[tactic(auto, using(crate::proofs::Pools::few_made))]
 fn close(
     facets: &mut [Facet],
-    slots: &mut [Slot],
+    slots: &[Slot],
     horizon: &[FacetSide],
     made: &[FacetNo],
     apex: u32,
@@ -45,15 +44,16 @@ fn close(
     requires { IsReady facets.old horizon.now made.now }
     ensures { IsConed facets.old facets.new horizon.now made.now apex }
 {
-    let filled = fill(slots, horizon);
-    join_outer(facets, horizon, made);
+    let filled = join_outer(facets, slots, horizon, made);
     write_cone(facets, slots, filled, horizon, made, apex);
 }
 
 /// Takes the visible facets away, notes their horizon and gives out places for the cone over it.
+#[tactic(auto, using(crate::proofs::Pools::few_free))]
 fn prepare(
     facets: &mut Vec<Facet>,
     free: &mut Vec<FacetNo>,
+    slots: &mut [Slot],
     horizon: &mut Vec<FacetSide>,
     made: &mut Vec<FacetNo>,
     visible: &[FacetNo],
@@ -70,7 +70,7 @@ fn prepare(
     ensures { IsPrepared facets.old.items facets.new.items free.new.items visible.now horizon.new.items made.new.items }
 {
     clear(facets.as_mut_slice(), free, horizon, visible);
-    choose(facets, free, horizon.len(), made);
+    choose(facets, free, slots, horizon.as_slice(), made);
 }
 
 /// Takes the visible facets away and puts the cone from the apex over their horizon.
@@ -94,7 +94,7 @@ pub fn rebuild(
     requires small { 3 * (vec_len facets.old + (2 * length visible.now - vec_len free.old)) < 2 ^ 32 }
     ensures { IsRebuilt facets.old.items facets.new.items free.new.items visible.now apex made.new.items }
 {
-    prepare(facets, free, horizon, made, visible);
+    prepare(facets, free, slots, horizon, made, visible);
     close(
         facets.as_mut_slice(),
         slots,

@@ -20,7 +20,7 @@ fn corner(side: FacetSide, ends: bool) -> u32
 }
 
 /// Notes a side at its corners.
-fn note(slots: &mut [Slot], side: FacetSide, j: u32) {
+pub fn note(slots: &mut [Slot], side: FacetSide, j: u32) {
     if let Some(slot) = slots.get_mut(side.from as usize) {
         slot.starting = j;
     }
@@ -42,28 +42,11 @@ fn noted(slots: &[Slot], ends: bool, at: usize) -> usize
 }
 
 /// Whether the table has room for a corner of a side and names the side there.
-fn is_noted(slots: &[Slot], side: FacetSide, ends: bool, j: usize) -> bool
+pub fn is_noted(slots: &[Slot], side: FacetSide, ends: bool, j: usize) -> bool
     ensures { result ≡ true → (corner ends side < length slots.now) × (noted slots.now ends (corner ends side) ≡ j) }
 {
     let at = corner(side, ends) as usize;
     at < slots.len() && noted(slots, ends, at) == j
-}
-
-/// Notes each side at its corners, and answers whether no two start and no two end at one corner, all
-/// of them in the table.
-pub fn fill(slots: &mut [Slot], horizon: &[FacetSide]) -> bool
-    requires { length horizon.now < 2 ^ 32 }
-    ensures { result ≡ true → AreNoted slots.new horizon.now }
-{
-    for j in 0..horizon.len() {
-        note(slots, horizon[j], j as u32);
-    }
-    for j in 0..horizon.len() {
-        if !is_noted(slots, horizon[j], true, j) || !is_noted(slots, horizon[j], false, j) {
-            return false;
-        }
-    }
-    true
 }
 
 /// How many of the sides before the j-th end where it ends, or start where it starts.

@@ -1,5 +1,5 @@
 //! The facets that wait for their turn, the last one first.
-ghost use Rattle.std.specs.Prelude.{All, ◌≡◌, ◌+◌, ◌<◌, ℕ, List, length, OnOk, IfNone, IfSome};
+ghost use Rattle.std.specs.Prelude.{All, ◌≡◌, ◌+◌, ◌<◌, ◌≤◌, ◌⊎◌, ℕ, List, [], ◌∷◌, ◌++◌, length, OnOk, IfNone, IfSome, vec_len, vec_capacity};
 ghost use Rattle.qh_model.specs.headline.Vector.{Vector};
 ghost use Rattle.qh_model.specs.headline.Sets.{In};
 ghost use Rattle.qh_model.specs.contract.StoredSurface.{StoredFacet};
@@ -10,6 +10,22 @@ ghost use Rattle.qh_block.specs.steps.Runs.{IsDone, IsUnderWay, IsPicked};
 use crate::quickhull::outside_sets::OutsideSets;
 use qh_mesh::FacetNo;
 use std::alloc::AllocError;
+
+/// Adds a facet if it has an outside set. It is listed in any case, and taken back where it has none: which
+/// facets have one can't be foreseen, and a count costs less than a wrong guess.
+fn add(pending: &mut Vec<FacetNo>, sets: &OutsideSets, facet: FacetNo)
+    requires place { facet < length sets.now.sets }
+    requires room { vec_len pending.old < vec_capacity pending.old }
+    ensures items { (pending.new.items ≡ pending.old.items ++ facet ∷ [])
+        ⊎ ((pending.new.items ≡ pending.old.items) × (set_of sets.now facet ≡ [])) }
+    ensures len { vec_len pending.new ≤ vec_len pending.old + 1 }
+    ensures capacity { vec_capacity pending.new ≡ vec_capacity pending.old }
+{
+    pending.push_reserved(facet);
+    if sets.first(facet).is_none() {
+        let _ = pending.take_last();
+    }
+}
 
 /// Adds those of the facets that have an outside set.
 pub fn enqueue(
@@ -22,10 +38,9 @@ pub fn enqueue(
     ensures kept { (f : ℕ) → In f pending.old.items → In f pending.new.items }
     ensures made { OnOk result ((f p : ℕ) → In f made.now → In p (set_of sets.now f) → In f pending.new.items) }
 {
+    pending.reserve(made.len())?;
     for facet in made {
-        if sets.first(*facet).is_some() {
-            pending.push(*facet)?;
-        }
+        add(pending, sets, *facet);
     }
     Ok(())
 }
