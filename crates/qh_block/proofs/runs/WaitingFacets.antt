@@ -11,10 +11,6 @@ pub record AreQueued (v : OutsideValue) (old new made : List ℕ) : Type 0 where
   pub kept : (f : ℕ) → In f old → In f new
   pub added : (f p : ℕ) → In f made → In p (set_of v f) → In f new
 
--- none is added
-pub none_queued : (v : OutsideValue) (old : List ℕ) → AreQueued v old old []
-none_queued v old = record { within = λ h. h; kept = λ f n. n; added = λ f p n i. absurd n }
-
 module _ (v : OutsideValue) (old new made : List ℕ) (x : ℕ) where
   -- one with a set is
   pub more_queued : x < length v.sets → AreQueued v old new made → AreQueued v old (new ++ x ∷ []) (made ++ x ∷ [])

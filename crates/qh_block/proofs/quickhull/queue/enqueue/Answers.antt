@@ -1,12 +1,12 @@
 -- A facet that was made is queued if it has an outside set.
-use Rattle.std.proofs.Common.{◌∙◌, sym, arith, inl, inr, take_all}
+use Rattle.std.proofs.Common.{arith, inl, inr, take_all}
 use Rattle.std.proofs.lemmas.List.{get_or_read, take_more}
-use Rattle.qh_block.proofs.runs.WaitingFacets.{none_queued, more_queued, more_idle}
+use Rattle.qh_block.proofs.runs.WaitingFacets.{more_queued, more_idle}
 use Rattle.qh_block.proofs.quickhull.queue.enqueue.Goals as goal
 
 pub loop-facet-preserved : goal.loop-facet-preserved
 loop-facet-preserved c =
-    let sets = c.args.sets.now in let old = c.args.pending.now.items in let made = c.args.made.now in let i = c.loop-facet.facet-index in
+    let sets = c.args.sets.now in let old = c.reserve.new.self.items in let made = c.args.made.now in let i = c.loop-facet.facet-index in
     let x = c.facet-item.result in let test = c.loop-facet-test.true in
     let is = get_or_read made i x test c.facet-item.is 0 in
     record {
@@ -16,3 +16,9 @@ loop-facet-preserved c =
       ]);
       room = let l = c.add.ensures.len in let k = c.add.ensures.capacity in let r = c.loop-facet.invariant.room in omega arith;
     }
+
+pub returns-clause-kept : goal.returns-clause-kept
+returns-clause-kept c = rw c.reserve.ensures.items at c.loop-facet.invariant.queued.kept
+
+pub returns-clause-made : goal.returns-clause-made
+returns-clause-made c = (rw (take_all c.loop-facet.facet-index c.args.made.now c.loop-facet-test.false) at c.loop-facet.invariant.queued).added
