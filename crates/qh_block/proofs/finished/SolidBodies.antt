@@ -23,13 +23,10 @@ use Rattle.qh_block.specs.steps.Faces.{AreFacetFaces, all_members}
 use Rattle.qh_block.specs.steps.SolidEdges.{all_edges_up}
 use Rattle.qh_block.proofs.finished.EdgeCounts.{edges_of_faces}
 
--- lists in rising order are there once each
-rising_once : (qs : List (List ℕ)) → RiseStrictly qs → Once qs
-rising_once qs r = go qs (rising-ordered qs r)
-  where
-    go : (qs : List (List ℕ)) → Ordered ComesBefore qs → Once qs
-    go [] o = tt
-    go (q ∷ qs) o = (λ i. before-asymmetric q q (o.0 q i) (o.0 q i), go qs o.1)
+-- ordered lists are there once each
+ordered_once : (qs : List (List ℕ)) → Ordered ComesBefore qs → Once qs
+ordered_once [] o = tt
+ordered_once (q ∷ qs) o = (λ i. before-asymmetric q q (o.0 q i) (o.0 q i), ordered_once qs o.1)
 
 module _ (pts : List Vector) (ids : List ℕ) (fs : List StoredFacet) (set : IsIdSet pts ids) (z : IsFinished (place pts) ids (surface_of fs))
     (qs : List (List ℕ)) (faces : AreFacetFaces (place pts) (Members ids) fs qs) where
@@ -56,7 +53,7 @@ module _ (pts : List Vector) (ids : List ℕ) (fs : List StoredFacet) (set : IsI
     dim = solid;
     extremes = extreme;
     polygons = inl (refl, all);
-    edges = edges_of_faces (place pts) ids ps set.distinct solid all (rising_once ps order);
+    edges = edges_of_faces (place pts) ids ps set.distinct solid all (ordered_once ps (rising-ordered ps order));
   }
     where
       solid : IsDimension (place pts) (Members ids) 3
