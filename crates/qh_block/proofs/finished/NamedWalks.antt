@@ -45,21 +45,18 @@ module _ (pts : List Vector) (n : NamedMesh) (o : IsNamedMesh pts n) where
   abbrev at' : ℕ → Vector
   at' = place pts
 
-  abbrev count : ℕ
-  count = length n.ids.items
-
   lives : (f : ℕ) → IsLive n.mesh f → In f (m n).live
   lives f l = (live_is_marked n.mesh f).1 l
 
   -- an id has the point of its position
-  point_is : (c c' : ℕ) → c < count → c' ≡ name n c → at' c' ≡ at c
+  point_is : (c c' : ℕ) → c < length n.ids.items → c' ≡ name n c → at' c' ≡ at c
   unfolding place
   point_is c c' b e =
       ap at' (e ∙ name_is n.ids.items c b)
       ∙ sym (ap (λ (xs : List Vector). place xs c) o.points ∙ get_or-map (place pts) n.ids.items c 0 origin b)
 
   -- so it is level with a facet where its position is
-  level_same : (f : ℕ) (l : IsLive n.mesh f) (c : ℕ) → c < count → IsLevelWith at (m n) f c ↔ IsLevelWith at' (m' n) f (name n c)
+  level_same : (f : ℕ) (l : IsLive n.mesh f) (c : ℕ) → c < length n.ids.items → IsLevelWith at (m n) f c ↔ IsLevelWith at' (m' n) f (name n c)
   level_same f l c b = (λ h. same ∙ h, λ h. sym same ∙ h)
     where
       same : vol (at' ((m' n).i f)) (at' ((m' n).j f)) (at' ((m' n).k f)) (at' (name n c))
@@ -70,7 +67,7 @@ module _ (pts : List Vector) (n : NamedMesh) (o : IsNamedMesh pts n) where
 
   module _ (f g : ℕ) (l : IsLive n.mesh f) (k : IsLive n.mesh g) where
     -- a corner's position is that of a corner, and back
-    corner_named : (c : ℕ) → IsCorner (m n) g c → (c < count) × IsCorner (m' n) g (name n c)
+    corner_named : (c : ℕ) → IsCorner (m n) g c → (c < length n.ids.items) × IsCorner (m' n) g (name n c)
     corner_named c (inl e) = rw e (o.positions.i_in g k, inl (sym ((names n).i_is g (lives g k))))
     corner_named c (inr (inl e)) = rw e (o.positions.j_in g k, inr (inl (sym ((names n).j_is g (lives g k)))))
     corner_named c (inr (inr e)) = rw e (o.positions.k_in g k, inr (inr (sym ((names n).k_is g (lives g k)))))

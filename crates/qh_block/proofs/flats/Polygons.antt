@@ -1,5 +1,5 @@
 -- The hull of a set in one plane is its polygon.
-use Rattle.std.proofs.Common.{◌≡◌, ◌≢◌, ◌∙◌, ℕ, [], ◌∷◌, List, length, sym, subst, ◌⊎◌, inl, inr, arith, refl}
+use Rattle.std.proofs.Common.{◌≡◌, ◌≢◌, ◌∙◌, ℕ, [], ◌∷◌, List, length, sym, subst, ◌⊎◌, ⊎_elim, inl, inr, arith, refl}
 use Rattle.std.proofs.lemmas.Int.{ints}
 use Rattle.qh_model.specs.contract.IdSets.{IsIdSet}
 use Rattle.qh_model.specs.headline.Dimension.{IsDimension}
@@ -80,9 +80,9 @@ module _ (pts : List Vector) (ids : List ℕ) (n : Vector) (s : IsPlanarSet pts 
     polygon = subst (λ v. IsPolygon at (Extreme at (Members ids)) v q) e p;
   }
 
-  either : (n ≡ cross (at s.i) (at s.j) (at s.k)) ⊎ (n ≡ minus origin (cross (at s.i) (at s.j) (at s.k))) → IsFlatFace at (Members ids) q
-  either (inl e) = face s.i s.j s.k s.has_i s.has_j s.has_k e
-  either (inr e) = face s.i s.k s.j s.has_i s.has_k s.has_j (e ∙ opposite_is (at s.i) (at s.j) (at s.k))
+  flat_face : IsFlatFace at (Members ids) q
+  flat_face = ⊎_elim (λ e. face s.i s.j s.k s.has_i s.has_j s.has_k e)
+      (λ e. face s.i s.k s.j s.has_i s.has_k s.has_j (e ∙ opposite_is (at s.i) (at s.j) (at s.k))) s.normal
 
   -- it has at least three members, since each id is a combination of them
   at_least : HasThree q
@@ -96,4 +96,4 @@ module _ (pts : List Vector) (ids : List ℕ) (n : Vector) (s : IsPlanarSet pts 
   -- so it is the hull
   pub polygon_is_body : (b : BodyValue) → IsDimension at (Members ids) 2 → IsFlatBody 2 q (length q) b → IsBody at (Members ids) b
   polygon_is_body b d h =
-      flat_is_body pts ids b 2 q (length q) h d p.members (inr (inl (refl, (q, either s.normal, refl)))) (edges_round q at_least p.once)
+      flat_is_body pts ids b 2 q (length q) h d p.members (inr (inl (refl, (q, flat_face, refl)))) (edges_round q at_least p.once)
