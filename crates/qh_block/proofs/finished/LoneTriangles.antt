@@ -61,6 +61,6 @@ lone_triangle pts ids fs f before after (g ∷ h ∷ vs) one set z live new w = 
 lone_triangle pts ids fs f before after (g ∷ []) one set z live new w =
     let t = facet_at fs f in let start = w.start in let same : f ≡ g = grind (arith, start) in
     face_of_corners pts ids fs f before after (g ∷ []) set z live new w (corners_of fs (g ∷ [])) _ (in_corners fs (g ∷ []))
-    (subst (λ v. IsPolygon (place pts) (Extreme (place pts) (Members (three_of fs v))) (cross (place pts t.i) (place pts t.j) (place pts t.k))
-    (from_least t.i t.j t.k)) same
+    (subst (λ v. IsPolygon (place pts) (Extreme (place pts) (Members (three_of fs v)))
+    (cross (place pts t.i) (place pts t.j) (place pts t.k)) (from_least t.i t.j t.k)) same
     (least_first (place pts) t.i t.j t.k (facet_area (place pts) ids (surface_of fs) z f ((live_is_marked fs f).1 live))))

@@ -56,7 +56,8 @@ module _ (pts : List Vector) (n : NamedMesh) (o : IsNamedMesh pts n) where
       ∙ sym (ap (λ (xs : List Vector). place xs c) o.points ∙ get_or-map (place pts) n.ids.items c 0 origin b)
 
   -- so it is level with a facet where its position is
-  level_same : (f : ℕ) (l : IsLive n.mesh f) (c : ℕ) → c < length n.ids.items → IsLevelWith at (m n) f c ↔ IsLevelWith at' (m' n) f (name n c)
+  level_same : (f : ℕ) (l : IsLive n.mesh f) (c : ℕ) → c < length n.ids.items
+      → IsLevelWith at (m n) f c ↔ IsLevelWith at' (m' n) f (name n c)
   level_same f l c b = (λ h. same ∙ h, λ h. sym same ∙ h)
     where
       same : vol (at' ((m' n).i f)) (at' ((m' n).j f)) (at' ((m' n).k f)) (at' (name n c))
