@@ -1,5 +1,5 @@
 -- The corners of a list of facets.
-use Rattle.std.proofs.Common.{All, inl, inr, ℕ, ◌<◌, List, length, sym, subst, arith}
+use Rattle.std.proofs.Common.{All, ℕ, ◌<◌, List, length, arith}
 use Rattle.std.specs.Prelude.{◌↔◌}
 use Rattle.qh_model.specs.headline.Vector.{Vector}
 use Rattle.qh_model.specs.headline.Sets.{In}
@@ -26,9 +26,6 @@ in_corners fs vs l = (
 -- corners of live facets are ids of points
 pub corners_in : (pts : List Vector) (fs : List StoredFacet) (vs : List ℕ) (corners : List ℕ) → AreCornersBelow (length pts) fs
     → All (IsLive fs) vs → ((i : ℕ) → In i corners ↔ IsListedCorner fs vs i) → AreIndices pts corners
-corners_in pts fs vs corners b live members = All-of (λ i. i < length pts) corners (λ l i. go l ((members l).0 i))
-  where
-    go : (l : ℕ) → IsListedCorner fs vs l → l < length pts
-    go l (g, e, inl c) = subst (λ x. x < length pts) (sym c) (b.i_in g (All-In (IsLive fs) vs g live e))
-    go l (g, e, inr (inl c)) = subst (λ x. x < length pts) (sym c) (b.j_in g (All-In (IsLive fs) vs g live e))
-    go l (g, e, inr (inr c)) = subst (λ x. x < length pts) (sym c) (b.k_in g (All-In (IsLive fs) vs g live e))
+corners_in pts fs vs corners b live members =
+    All-of (λ i. i < length pts) corners (λ l i. let c = (members l).0 i in let e = c.2 in let v = All-In (IsLive fs) vs c.0 live c.1 in
+    grind (arith, e, b.i_in c.0 v, b.j_in c.0 v, b.k_in c.0 v))

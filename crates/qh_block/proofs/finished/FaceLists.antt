@@ -17,7 +17,7 @@ use Rattle.qh_model.specs.contract.IdSets.{HasDistinctPoints}
 use Rattle.qh_model.specs.contract.Surface.{Surface}
 use Rattle.qh_model.specs.contract.FinishedSurface.{IsFinished}
 use Rattle.qh_model.specs.contract.StoredSurface.{StoredFacet, surface_of}
-use Rattle.qh_model.specs.laws.FaceLaws.{IsAlong, SpannedByExtremes}
+use Rattle.qh_model.specs.laws.FaceLaws.{IsAlong}
 use Rattle.qh_model.specs.laws.FacetPlanes.{IsLevelWith, IsLevelFacet}
 use Rattle.qh_model.proofs.Members.{All-of}
 use Rattle.qh_model.proofs.algebra.VectorIdentities.{vol-first, vol-second, vol-third}
@@ -54,21 +54,12 @@ module _ (at : ℕ → Vector) (ids : List ℕ) (fs : List StoredFacet) (d : Has
 
   -- a face has three members, since three extreme ids span its plane
   three_of_face : (f : ℕ) → IsLive fs f → (q : List ℕ) → IsFace f q → HasThree q
-  three_of_face f l q p = three_members at q (record {
-    i = s.u;
-    j = s.v;
-    k = s.w;
-    has_i = has s.u s.has_u (vol-first _ _ _);
-    has_j = has s.v s.has_v (vol-second _ _ _);
-    has_k = has s.w s.has_w (vol-third _ _ _);
-    area = s.area;
-  })
-    where
-      s : SpannedByExtremes at (Members ids) (m.i f) (m.j f) (m.k f)
-      s = planes_of_extremes at ids d (m.i f) (m.j f) (m.k f) (facets_support at ids m z f (lives f l))
-
-      has : (y : ℕ) → Extreme at (Members ids) y → vol (at s.u) (at s.v) (at s.w) (at y) ≡ pos 0 → In y q
-      has y e h = (p.members y).1 (e, (s.same y).1 h)
+  three_of_face f l q p =
+      let s = planes_of_extremes at ids d (m.i f) (m.j f) (m.k f) (facets_support at ids m z f (lives f l)) in
+      let has : (y : ℕ) → Extreme at (Members ids) y → vol (at s.u) (at s.v) (at s.w) (at y) ≡ pos 0 → In y q =
+      (λ y e h. (p.members y).1 (e, (s.same y).1 h)) in
+      three_members at q s.u s.v s.w (has s.u s.has_u (vol-first _ _ _)) (has s.v s.has_v (vol-second _ _ _))
+      (has s.w s.has_w (vol-third _ _ _)) s.area
 
   -- its first three ids span its plane
   over : List ℕ → ℕ → ℤ

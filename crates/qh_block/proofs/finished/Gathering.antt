@@ -49,14 +49,10 @@ module _ (pts : List Vector) (fs : List StoredFacet) (marks : List Bool) (qs : L
     gathering_goes fresh after q room kept own new = record {
       room = (let r = old.room in omega (arith, r, room));
       live = λ v i. old.live v (subst (In v) (sym is) (inr i));
-      rest = λ g l. ⊎_elim (λ k. inl (kept g k)) (λ i. pick g (subst (In g) is i)) (old.rest g l);
+      rest = λ g l. ⊎_elim (λ k. inl (kept g k)) (λ i. ⊎_elim (λ e. inl (rw e own)) (λ k. inr k) (subst (In g) is i)) (old.rest g l);
       faces = λ ids s z. (let faces = old.faces ids s z in next_face (place pts) ids fs s.distinct z marks qs faces f live fresh after q
           (new ids s z (new_plane (place pts) ids fs s.distinct z marks qs faces f live fresh)));
     }
-      where
-        pick : (g : ℕ) → In g (f ∷ left) → (mark_at after g ≡ true) ⊎ In g left
-        pick g (inl e) = inl (subst (λ x. mark_at after x ≡ true) (sym e) own)
-        pick g (inr k) = inr k
 
   -- at the end all live facets are marked
   pub gathering_ends : (left : List ℕ) → IsGathering pts fs left marks qs → left ≡ []

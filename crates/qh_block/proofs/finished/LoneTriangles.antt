@@ -4,7 +4,7 @@ use Rattle.std.proofs.lemmas.Bool.Decides.{nat_tests}
 use Rattle.std.specs.Prelude.{◌&&◌, nat_lt, pos, ◌<ℤ◌}
 use Rattle.qh_model.specs.headline.Vector.{Vector}
 use Rattle.qh_model.specs.headline.Predicates.{place, cross, left, AreInLine}
-use Rattle.qh_model.specs.headline.Sets.{In, Members}
+use Rattle.qh_model.specs.headline.Sets.{Members}
 use Rattle.qh_model.specs.headline.Extreme.{Extreme}
 use Rattle.qh_model.specs.headline.Polygon.{IsPolygon}
 use Rattle.qh_model.specs.contract.FinishedSurface.{IsFinished}
@@ -16,7 +16,7 @@ use Rattle.qh_model.proofs.surfaces.Finished.{facet_area}
 use Rattle.qh_model.proofs.surfaces.Stored.{live_is_marked}
 use Rattle.qh_mesh.specs.contract.Replacement.{IsLive}
 use Rattle.qh_plane.proofs.polygons.Triangle.{left_triangle}
-use Rattle.qh_block.specs.steps.Faces.{corners_of, from_least, IsNewPlane, IsNewFace}
+use Rattle.qh_block.specs.steps.Faces.{three_of, corners_of, from_least, IsNewPlane, IsNewFace}
 use Rattle.qh_model.specs.laws.FacetPlanes.{IsLevelFacet}
 use Rattle.qh_block.specs.steps.Walks.{IsWalkFrom}
 use Rattle.qh_block.proofs.flats.Polygons.{corners_differ}
@@ -51,20 +51,16 @@ least_first at i j k area = by (nat_lt i j && nat_lt i k) refl (nat_lt j k) refl
         left_triangle n at _ k i j (λ x. (λ m. grind (arith, m), λ m. grind (arith, m)))
         lower.0 lower.1 d.0 (turn _ _ _ (turn _ _ _ first))
 
--- a list of one facet
-alone : (vs : List ℕ) (f : ℕ) → length vs ≡ 1 → In f vs → vs ≡ f ∷ []
-alone (g ∷ []) f n has = grind (arith, has)
-alone [] f n has = absurd (omega (arith, n))
-alone (g ∷ h ∷ vs) f n has = absurd (omega (arith, n))
-
 -- the face of a plane of which a walk found one facet
 pub lone_triangle : (pts : List Vector) (ids : List ℕ) (fs : List StoredFacet) (f : ℕ) (before after : List Bool) (vs : List ℕ)
     → length vs ≡ 1 → IsIdSet pts ids → IsFinished (place pts) ids (surface_of fs) → IsLive fs f → IsNewPlane (place pts) fs before f
     → IsWalkFrom (IsLevelFacet (place pts) (surface_of fs) f) fs before after f vs
     → IsNewFace (place pts) (Members ids) fs f before after (from_least (facet_at fs f).i (facet_at fs f).j (facet_at fs f).k)
-lone_triangle pts ids fs f before after vs one set z live new w =
-    let t = facet_at fs f in let q = from_least t.i t.j t.k in
-    let n : Vector = cross (place pts t.i) (place pts t.j) (place pts t.k) in
-    face_of_corners pts ids fs f before after vs set z live new w (corners_of fs vs) q (in_corners fs vs)
-    (subst (λ us. IsPolygon (place pts) (Extreme (place pts) (Members (corners_of fs us))) n q) (sym (alone vs f one w.start))
+lone_triangle pts ids fs f before after [] one set z live new w = absurd w.start
+lone_triangle pts ids fs f before after (g ∷ h ∷ vs) one set z live new w = absurd (omega (arith, one))
+lone_triangle pts ids fs f before after (g ∷ []) one set z live new w =
+    let t = facet_at fs f in let start = w.start in let same : f ≡ g = grind (arith, start) in
+    face_of_corners pts ids fs f before after (g ∷ []) set z live new w (corners_of fs (g ∷ [])) _ (in_corners fs (g ∷ []))
+    (subst (λ v. IsPolygon (place pts) (Extreme (place pts) (Members (three_of fs v)))
+    (cross (place pts t.i) (place pts t.j) (place pts t.k)) (from_least t.i t.j t.k)) same
     (least_first (place pts) t.i t.j t.k (facet_area (place pts) ids (surface_of fs) z f ((live_is_marked fs f).1 live))))

@@ -1,5 +1,5 @@
 -- A walk in the plane of a facet gathers the face of that plane.
-use Rattle.std.proofs.Common.{◌≡◌, ◌⊎◌, inl, inr, ℕ, List, refl, Bool, true}
+use Rattle.std.proofs.Common.{inl, inr, ⊎_elim, ℕ, List, refl, Bool}
 use Rattle.std.specs.Prelude.{◌↔◌}
 use Rattle.std.specs.List.Sorted.{IsStrictlyIncreasing}
 use Rattle.qh_model.specs.headline.Vector.{Vector}
@@ -24,7 +24,7 @@ use Rattle.qh_model.proofs.hulls.SameSets.{extreme_as}
 use Rattle.qh_mesh.specs.contract.Replacement.{IsLive, is_listed}
 use Rattle.qh_mesh.proofs.ListedFacets.{in_listed, listed_in}
 use Rattle.qh_plane.specs.contract.PlanarSets.{IsPlanarSet}
-use Rattle.qh_block.specs.steps.Walks.{mark_at, IsWalkFrom}
+use Rattle.qh_block.specs.steps.Walks.{IsWalkFrom}
 use Rattle.qh_block.specs.steps.Faces.{IsListedCorner, IsNewPlane, IsNewFace}
 use Rattle.qh_block.proofs.FoundFacets.{found_live, found_passes, found_marked, found_over}
 
@@ -90,18 +90,15 @@ module _ (pts : List Vector) (ids : List ℕ) (fs : List StoredFacet) (f : ℕ) 
     face_of_corners polygon = record {
       kept = w.further.kept;
       marked = λ g l level. found_marked (IsLevelFacet at m f) fs before after f vs w g (found g l level);
-      only = λ g h. only g (w.further.only g h);
+      only = λ g h. ⊎_elim (λ b. inl b) (λ i. inr (on_live g i, on_level g i)) (w.further.only g h);
       polygon = polygon_as at (Extreme at (Members corners)) (OnPlane at (Extreme at (Members ids)) (m.i f) (m.j f) (m.k f)) normal normal q
           extreme (along_itself normal) polygon;
     }
-      where
-        only : (g : ℕ) → (mark_at before g ≡ true) ⊎ In g vs → (mark_at before g ≡ true) ⊎ (IsLive fs g × IsLevelFacet at m f g)
-        only g (inl h) = inl h
-        only g (inr h) = inr (on_live g h, on_level g h)
 
-    -- the corners, rising, are a planar set
-    planar : IsStrictlyIncreasing corners → IsPlanarSet pts corners normal
-    planar rising = record {
+    -- the face by the polygon of a planar set, as the corners are
+    pub new_face : IsStrictlyIncreasing corners → (IsPlanarSet pts corners normal
+        → IsPolygon at (Extreme at (Members corners)) normal q) → IsNewFace at (Members ids) fs f before after q
+    new_face rising polygon = face_of_corners (polygon (record {
       set = record { rising = rising; distinct = λ x y i j e. set.distinct x y (among x i) (among y j) e };
       i = m.i f;
       j = m.j f;
@@ -112,9 +109,4 @@ module _ (pts : List Vector) (ids : List ℕ) (fs : List StoredFacet) (f : ℕ) 
       area = facet_area at ids m z f (lives f live);
       plane = λ l i. (let c = (members l).0 i in on_level c.0 c.1 l c.2);
       normal = inl refl;
-    }
-
-    -- the face by the polygon of a planar set
-    pub new_face : IsStrictlyIncreasing corners → (IsPlanarSet pts corners normal
-        → IsPolygon at (Extreme at (Members corners)) normal q) → IsNewFace at (Members ids) fs f before after q
-    new_face rising polygon = face_of_corners (polygon (planar rising))
+    }))

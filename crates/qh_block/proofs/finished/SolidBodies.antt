@@ -5,10 +5,9 @@ use Rattle.std.specs.List.Sorted.{IsStrictlyIncreasing}
 use Rattle.qh_model.specs.headline.Vector.{Vector}
 use Rattle.qh_model.specs.headline.Predicates.{place}
 use Rattle.qh_model.specs.headline.Sets.{In, Once, Members}
-use Rattle.qh_model.specs.headline.Dimension.{IsDimension}
 use Rattle.qh_model.specs.headline.Extreme.{Extreme}
 use Rattle.qh_model.specs.headline.Hull.{AreExtremes, IsBody}
-use Rattle.qh_model.specs.headline.Polygons.{ComesBefore, RiseStrictly, AreFaces}
+use Rattle.qh_model.specs.headline.Polygons.{ComesBefore, RiseStrictly}
 use Rattle.qh_model.specs.contract.IdSets.{IsIdSet}
 use Rattle.qh_model.specs.contract.FinishedSurface.{IsFinished}
 use Rattle.qh_model.specs.contract.StoredSurface.{StoredFacet, surface_of}
@@ -23,13 +22,10 @@ use Rattle.qh_block.specs.steps.Faces.{AreFacetFaces, all_members}
 use Rattle.qh_block.specs.steps.SolidEdges.{all_edges_up}
 use Rattle.qh_block.proofs.finished.EdgeCounts.{edges_of_faces}
 
--- lists in rising order are there once each
-rising_once : (qs : List (List ℕ)) → RiseStrictly qs → Once qs
-rising_once qs r = go qs (rising-ordered qs r)
-  where
-    go : (qs : List (List ℕ)) → Ordered ComesBefore qs → Once qs
-    go [] o = tt
-    go (q ∷ qs) o = (λ i. before-asymmetric q q (o.0 q i) (o.0 q i), go qs o.1)
+-- ordered lists are there once each
+ordered_once : (qs : List (List ℕ)) → Ordered ComesBefore qs → Once qs
+ordered_once [] o = tt
+ordered_once (q ∷ qs) o = (λ i. before-asymmetric q q (o.0 q i) (o.0 q i), ordered_once qs o.1)
 
 module _ (pts : List Vector) (ids : List ℕ) (fs : List StoredFacet) (set : IsIdSet pts ids) (z : IsFinished (place pts) ids (surface_of fs))
     (qs : List (List ℕ)) (faces : AreFacetFaces (place pts) (Members ids) fs qs) where
@@ -52,17 +48,14 @@ module _ (pts : List Vector) (ids : List ℕ) (fs : List StoredFacet) (set : IsI
   pub body : (ps : List (List ℕ)) (v : List ℕ) → RiseStrictly ps → ((q : List ℕ) → In q ps ↔ In q qs)
       → AreExtremes (place pts) (Members ids) v
       → IsBody (place pts) (Members ids) (record { dim = 3; extremes = v; polygons = ps; edges = all_edges_up ps })
-  body ps v order same extreme = record {
-    dim = solid;
-    extremes = extreme;
-    polygons = inl (refl, all);
-    edges = edges_of_faces (place pts) ids ps set.distinct solid all (rising_once ps order);
-  }
-    where
-      solid : IsDimension (place pts) (Members ids) 3
-      solid = finished_is_solid (place pts) ids (surface_of fs) z
-
-      all : AreFaces (place pts) (Members ids) ps
-      all = polygons_of_facets (place pts) ids (surface_of fs) ps z order
-          (λ f l. (let r = faces.each f ((live_is_marked fs f).0 l) in (r.0, (same r.0).1 r.1, r.2)))
-          (λ q m. (let r = faces.only q ((same q).0 m) in (r.0, (live_is_marked fs r.0).1 r.1, r.2)))
+  body ps v order same extreme =
+      let solid = finished_is_solid (place pts) ids (surface_of fs) z in
+      let all = polygons_of_facets (place pts) ids (surface_of fs) ps z order
+      (λ f l. (let r = faces.each f ((live_is_marked fs f).0 l) in (r.0, (same r.0).1 r.1, r.2)))
+      (λ q m. (let r = faces.only q ((same q).0 m) in (r.0, (live_is_marked fs r.0).1 r.1, r.2))) in
+      record {
+        dim = solid;
+        extremes = extreme;
+        polygons = inl (refl, all);
+        edges = edges_of_faces (place pts) ids ps set.distinct solid all (ordered_once ps (rising-ordered ps order));
+      }

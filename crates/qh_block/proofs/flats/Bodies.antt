@@ -1,5 +1,5 @@
 -- The hulls of a point and of a segment, told of their one polygon.
-use Rattle.std.proofs.Common.{◌≡◌, ◌∙◌, ℕ, ◌<◌, [], ◌∷◌, List, length, get_or, sym, subst, ◌⊎◌, inl, inr, arith, refl}
+use Rattle.std.proofs.Common.{◌≡◌, ◌∙◌, ℕ, ◌<◌, [], ◌∷◌, List, length, get_or, sym, subst, ◌⊎◌, ⊎_elim, inl, inr, arith, refl}
 use Rattle.std.specs.Prelude.{◌↔◌}
 use Rattle.qh_model.specs.contract.IdSets.{IsIdSet}
 use Rattle.qh_model.specs.headline.Dimension.{IsDimension}
@@ -47,12 +47,11 @@ module _ (pts : List Vector) (ids : List ℕ) (b : BodyValue) where
     -- its hull
     pub point_is_body : IsDimension (place pts) (Members ids) 0 → IsFlatBody 0 (i ∷ []) 0 b → IsRight
     point_is_body d f =
-        flat_is_body 0 (i ∷ []) 0 f d (λ l. (extreme l, λ x. inl (alone l x.0)))
+        flat_is_body 0 (i ∷ []) 0 f d (λ l. (λ m. ⊎_elim (λ e. rw e extreme) (λ n. absurd n) m, λ x. inl (alone l x.0)))
         (inr (inr (inr (refl, (i ∷ [], record { i = i; has_i = member; is = refl }, refl))))) (no_edges i)
       where
-        extreme : (l : ℕ) → In l (i ∷ []) → IsExtreme l
-        extreme l (inl e) = rw (e) (greatest_is_extreme (place pts) ids origin i member (λ j o. absurd (o.1 (alone j o.0))))
-        extreme l (inr m) = absurd m
+        extreme : IsExtreme i
+        extreme = greatest_is_extreme (place pts) ids origin i member (λ j o. absurd (o.1 (alone j o.0)))
 
   -- ---- two ids
   -- the hull of the two, the lower first
@@ -66,15 +65,9 @@ module _ (pts : List Vector) (ids : List ℕ) (b : BodyValue) where
   pub segment_is_body : (i j e g : ℕ) (q : List ℕ) → AreFirstTwo ids i j → Each (IsInLine pts i j) ids → IsFirstAlong pts ids i j e
       → IsFirstAlong pts ids j i g → IsIdSet pts ids → ((e < g) × (q ≡ e ∷ g ∷ [])) ⊎ (¬ (e < g) × (q ≡ g ∷ e ∷ []))
       → IsFlatBody 1 q 1 b → IsRight
-  segment_is_body i j e g q two line first last set order f = go order
-    where
-      dim : IsDimension (place pts) (Members ids) 1
-      dim = segment pts ids i j two line set
-
-      members : (l : ℕ) → ((l ≡ e) ⊎ (l ≡ g)) ↔ IsExtreme l
-      members = two_ends pts ids i j e g two line first last set
-
-      go : ((e < g) × (q ≡ e ∷ g ∷ [])) ⊎ (¬ (e < g) × (q ≡ g ∷ e ∷ [])) → IsRight
-      go (inl (h, is)) = of_ends dim e g members h (subst (λ q. IsFlatBody 1 q 1 b) is f)
-      go (inr (n, is)) = of_ends dim g e (λ l. (λ m. (members l).0 (grind (arith, m)), λ x. (let m = (members l).1 x in grind (arith, m))))
-          (let d = ends_differ pts ids i j e g two line first last set in grind (arith, n, d)) (subst (λ q. IsFlatBody 1 q 1 b) is f)
+  segment_is_body i j e g q two line first last set order f =
+      let dim = segment pts ids i j two line set in let members = two_ends pts ids i j e g two line first last set in
+      let differ = ends_differ pts ids i j e g two line first last set in
+      ⊎_elim (λ h. of_ends dim e g members h.0 (subst (λ q. IsFlatBody 1 q 1 b) h.1 f))
+      (λ h. of_ends dim g e (λ l. (λ m. (members l).0 (grind (arith, m)), λ x. (let m = (members l).1 x in grind (arith, m))))
+      (let above = h.0 in grind (arith, above, differ)) (subst (λ q. IsFlatBody 1 q 1 b) h.1 f)) order

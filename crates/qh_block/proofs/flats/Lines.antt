@@ -131,17 +131,14 @@ module _ (pts : List Vector) (ids : List ℕ) (i j e g : ℕ) (two : AreFirstTwo
   only : (l : ℕ) → IsEnd l → (l ≡ e) ⊎ (l ≡ g)
   only l x = grind (arith, neither)
     where
-      ends : List ℕ
-      ends = e ∷ g ∷ []
-
-      others : ¬ (l ≡ e) → ¬ (l ≡ g) → (a : ℕ) → In a ends → Others (Members ids) l a
+      others : ¬ (l ≡ e) → ¬ (l ≡ g) → (a : ℕ) → In a (e ∷ g ∷ []) → Others (Members ids) l a
       others n k a h = let p = first.member in let q = last.member in (grind (arith, h, p, q), λ d. grind (arith, h, d, n, k))
 
       neither : ¬ (l ≡ e) → ¬ (l ≡ g) → ⊥
-      neither n k = ⊎_elim (λ c. x.1 (combination_within at (Members ends) (Others (Members ids) l) (at l) c (others n k)))
-          (λ s. not_between s.w e l g first.member x.0 last.member (least l x.0) (most l x.0)
-          (s.past e (inl refl)) (s.past g (inr (inl refl))))
-          (combination_or_separator at ends (at l))
+      neither n k =
+          ⊎_elim (λ c. x.1 (combination_within at (Members (e ∷ g ∷ [])) (Others (Members ids) l) (at l) c (others n k)))
+          (λ s. not_between s.w e l g first.member x.0 last.member (least l x.0) (most l x.0) (s.past e (inl refl))
+          (s.past g (inr (inl refl)))) (combination_or_separator at (e ∷ g ∷ []) (at l))
 
   -- the two ends are the extreme ids
   pub two_ends : (l : ℕ) → ((l ≡ e) ⊎ (l ≡ g)) ↔ IsEnd l

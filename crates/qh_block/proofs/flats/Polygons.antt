@@ -1,8 +1,8 @@
 -- The hull of a set in one plane is its polygon.
-use Rattle.std.proofs.Common.{◌≡◌, ◌≢◌, ◌∙◌, ℕ, [], ◌∷◌, List, length, sym, subst, ◌⊎◌, inl, inr, arith, refl}
+use Rattle.std.proofs.Common.{◌≡◌, ◌≢◌, ◌∙◌, ℕ, [], ◌∷◌, List, length, sym, subst, ◌⊎◌, ⊎_elim, inl, inr, arith, refl}
 use Rattle.std.proofs.lemmas.Int.{ints}
 use Rattle.qh_model.specs.contract.IdSets.{IsIdSet}
-use Rattle.qh_model.specs.headline.Dimension.{HasTriangle, IsDimension}
+use Rattle.qh_model.specs.headline.Dimension.{IsDimension}
 use Rattle.qh_model.specs.headline.Extreme.{Extreme}
 use Rattle.qh_model.specs.headline.Hull.{BodyValue, IsBody}
 use Rattle.qh_model.specs.headline.Polygon.{IsPolygon}
@@ -33,21 +33,16 @@ corners_differ at i j k area = (
 )
 
 -- a list with a triangle has three members
-pub three_members : (at : ℕ → Vector) (q : List ℕ) → HasTriangle at (λ i. In i q) → HasThree q
-three_members at q t = go q t.has_i t.has_j t.has_k
-  where
-    go : (xs : List ℕ) → In t.i xs → In t.j xs → In t.k xs → HasThree xs
-    go [] a b c = absurd a
-    go (x ∷ []) a b c = absurd (let d = corners_differ at t.i t.j t.k t.area in grind (arith, d, a, b))
-    go (x ∷ y ∷ []) a b c = absurd (let d = corners_differ at t.i t.j t.k t.area in grind (arith, d, a, b, c))
-    go (x ∷ y ∷ z ∷ xs) a b c = three x y z xs
+pub three_members : (at : ℕ → Vector) (q : List ℕ) (i j k : ℕ) → In i q → In j q → In k q → ¬ (AreInLine (at i) (at j) (at k)) → HasThree q
+three_members at [] i j k a b c area = absurd a
+three_members at (x ∷ []) i j k a b c area = absurd (let d = corners_differ at i j k area in grind (arith, d, a, b))
+three_members at (x ∷ y ∷ []) i j k a b c area = absurd (let d = corners_differ at i j k area in grind (arith, d, a, b, c))
+three_members at (x ∷ y ∷ z ∷ xs) i j k a b c area = three x y z xs
 
 -- the opposite of a normal is that of the triangle the other way round
-negated : (v : Vector) → minus origin v ≡ opposite v
-negated v = vector_path (minus origin v) (opposite v) (omega (arith, ints)) (omega (arith, ints)) (omega (arith, ints))
-
 opposite_is : (a b c : Vector) → minus origin (cross a b c) ≡ cross a c b
-opposite_is a b c = negated (cross a b c) ∙ sym (cross-flip a b c)
+opposite_is a b c =
+    vector_path _ (opposite (cross a b c)) (omega (arith, ints)) (omega (arith, ints)) (omega (arith, ints)) ∙ sym (cross-flip a b c)
 
 -- the set of a shape in one plane
 pub planar : (pts : List Vector) (ids : List ℕ) (i j k : ℕ) (n : Vector) → AreFirstTwo ids i j → IsFirstNot (IsInLine pts i j) ids k
@@ -85,18 +80,20 @@ module _ (pts : List Vector) (ids : List ℕ) (n : Vector) (s : IsPlanarSet pts 
     polygon = subst (λ v. IsPolygon at (Extreme at (Members ids)) v q) e p;
   }
 
-  either : (n ≡ cross (at s.i) (at s.j) (at s.k)) ⊎ (n ≡ minus origin (cross (at s.i) (at s.j) (at s.k))) → IsFlatFace at (Members ids) q
-  either (inl e) = face s.i s.j s.k s.has_i s.has_j s.has_k e
-  either (inr e) = face s.i s.k s.j s.has_i s.has_k s.has_j (e ∙ opposite_is (at s.i) (at s.j) (at s.k))
+  flat_face : IsFlatFace at (Members ids) q
+  flat_face = ⊎_elim (λ e. face s.i s.j s.k s.has_i s.has_j s.has_k e)
+      (λ e. face s.i s.k s.j s.has_i s.has_k s.has_j (e ∙ opposite_is (at s.i) (at s.j) (at s.k))) s.normal
 
   -- it has at least three members, since each id is a combination of them
   at_least : HasThree q
-  at_least = three_members at q (triangle_of at (Members ids) (λ l. In l q) (λ a m.
+  at_least =
+      let t = triangle_of at (Members ids) (λ l. In l q) (λ a m.
       combination_within at (Extreme at (Members ids)) (λ l. In l q) (at a)
       (combination_of_extremes at (Members ids) ids (listed_itself ids) s.set.distinct a m) (λ l x. (p.members l).1 x))
-      (record { i = s.i; j = s.j; k = s.k; has_i = s.has_i; has_j = s.has_j; has_k = s.has_k; area = s.area }))
+      (record { i = s.i; j = s.j; k = s.k; has_i = s.has_i; has_j = s.has_j; has_k = s.has_k; area = s.area }) in
+      three_members at q t.i t.j t.k t.has_i t.has_j t.has_k t.area
 
   -- so it is the hull
   pub polygon_is_body : (b : BodyValue) → IsDimension at (Members ids) 2 → IsFlatBody 2 q (length q) b → IsBody at (Members ids) b
   polygon_is_body b d h =
-      flat_is_body pts ids b 2 q (length q) h d p.members (inr (inl (refl, (q, either s.normal, refl)))) (edges_round q at_least p.once)
+      flat_is_body pts ids b 2 q (length q) h d p.members (inr (inl (refl, (q, flat_face, refl)))) (edges_round q at_least p.once)
