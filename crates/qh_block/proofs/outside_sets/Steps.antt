@@ -1,15 +1,14 @@
 -- What links, ends and a first orphan stand for, and what each call leaves of it.
-use Rattle.std.proofs.Common.{◌≡◌, ◌≢◌, ℕ, ◌+◌, ◌<◌, ◌≤◌, arith, ap, sym, ◌∙◌, refl, false, subst}
-use Rattle.std.proofs.Common.{List, [], ◌∷◌, ◌++◌, length, length-append, drop, drop-cons, map, get_or, set, length-set}
-use Rattle.std.specs.List.{sum_by}
+use Rattle.std.proofs.Common.{◌≡◌, ◌≢◌, ℕ, ◌+◌, ◌<◌, ◌≤◌, arith, ap, sym, ◌∙◌, refl, false, subst, List, [], ◌∷◌, ◌++◌, length}
+use Rattle.std.proofs.Common.{length-append, drop, drop-cons, map, get_or, set, length-set, sum_by}
 use Rattle.std.proofs.lemmas.List.{length-map}
 use Rattle.std.proofs.lemmas.List.Sums.{sum_by-cons, sum_by-set, get_or-le-sum_by}
 use Rattle.qh_block.specs.steps.OutsideSets.{OutsideValue, set_of, joined, listed}
-use Rattle.qh_block.specs.steps.PositionChains.{none, count, chain_from, value_of, IsChain, IsLast, IsSet, IsKept, AreKept}
-use Rattle.qh_block.specs.steps.PositionChains.{AreSets, no_sets, one_more}
+use Rattle.qh_block.specs.steps.PositionChains.{none, count, chain_from, value_of, IsChain, IsLast, IsSet, IsKept, AreKept, AreSets}
+use Rattle.qh_block.specs.steps.PositionChains.{no_sets, one_more}
 use Rattle.qh_block.specs.declared.quickhull.outside_sets.Ends.{Ends}
-use Rattle.qh_block.proofs.outside_sets.Chains.{count_at, count-append, last_in, last_within, next, chain_is}
-use Rattle.qh_block.proofs.outside_sets.Chains.{chain_kept, chain_front, chain_joined, set_at, sets_kept, sets_put}
+use Rattle.qh_block.proofs.outside_sets.Chains.{count_at, count-append, last_in, last_within, next, chain_is, chain_kept, chain_front}
+use Rattle.qh_block.proofs.outside_sets.Chains.{chain_joined, set_at, sets_kept, sets_put}
 
 -- ---- the value
 -- sets that are held are those that are read off

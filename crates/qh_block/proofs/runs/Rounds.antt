@@ -1,6 +1,5 @@
 -- A round of Quickhull: where a cone replaces what the apex sees, the released points are all that must be looked at.
-use Rattle.std.proofs.Common.{All, ◌≡◌, ℕ, ◌<◌, arith, ap, sym, ◌∙◌, true, ◌⊎◌, inl, inr, List, length, get_or, subst}
-use Rattle.std.specs.Prelude.{pos, ◌<ℤ◌, ◌≤ℤ◌}
+use Rattle.std.proofs.Common.{All, ◌≡◌, ℕ, ◌<◌, arith, ap, sym, ◌∙◌, true, ◌⊎◌, inl, inr, List, length, get_or, subst, pos, ◌<ℤ◌, ◌≤ℤ◌}
 use Rattle.std.proofs.lemmas.List.{get_or_read}
 use Rattle.std.proofs.lemmas.Bool.{cases_Bool}
 use Rattle.qh_model.specs.headline.Vector.{Vector, origin}
@@ -107,16 +106,13 @@ module _ {pts : List Vector} {old new : List StoredFacet} {vs made : List ℕ} {
     -- nor is one that saw a facet that went and sees none that was made
     drop_done : (p g : ℕ) → IsLive old g → is_listed vs g ≡ true → pos 0 <ℤ height_at pts old g p
         → All (λ f. height_at pts new f p ≤ℤ pos 0) made → IsDone pts new p
-    drop_done p g l e s h f b = by (d.replaced.only f b)
-      where
-        blind : (f : ℕ) → IsKept old vs f → height_at pts old f p ≤ℤ pos 0
-        blind f k = rw (rise-vol at old f p) at (dropped_stay_unseen m home o z.0 z.1 (home a) (home p) g (in_live old g l)
-            (rw (rise-vol at old g a) (d.visible.seen g l e)) (rw (rise-vol at old g p) s) (cone_unseen p h)
-            f (in_live old f k.live) (rw (rise-vol at old f a) (d.visible.unseen f k.live k.unlisted)))
-
-        by : IsKept old vs f ⊎ In f made → height_at pts new f p ≤ℤ pos 0
-        by (inl k) = rw (stays-vol f (at p) k) (blind f k)
-        by (inr i) = All-In (λ f. height_at pts new f p ≤ℤ pos 0) made f h i
+    drop_done p g l e s h f b = elim (d.replaced.only f b) [
+      | inl k ↦ rw (stays-vol f (at p) k)
+          (rw (rise-vol at old f p) at (dropped_stay_unseen m home o z.0 z.1 (home a) (home p) g (in_live old g l)
+          (rw (rise-vol at old g a) (d.visible.seen g l e)) (rw (rise-vol at old g p) s) (cone_unseen p h)
+          f (in_live old f k.live) (rw (rise-vol at old f a) (d.visible.unseen f k.live k.unlisted))))
+      | inr i ↦ All-In (λ f. height_at pts new f p ≤ℤ pos 0) made f h i
+    ]
 
 -- then the points that were released are all that must be looked at
 pub remade : {pts : List Vector} {old new : List StoredFacet} {ps : List PlaneValue} {v w : OutsideValue}

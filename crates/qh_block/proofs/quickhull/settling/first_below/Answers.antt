@@ -1,6 +1,5 @@
 -- One facet more that the point is not above.
-use Rattle.std.proofs.Common.{take_all}
-use Rattle.std.specs.Prelude.{pos, ◌≤ℤ◌}
+use Rattle.std.proofs.Common.{take_all, pos, ◌≤ℤ◌}
 use Rattle.std.proofs.lemmas.List.{get_or_read}
 use Rattle.std.proofs.lemmas.List.Elements.{All-more}
 use Rattle.qh_model.proofs.Members.{In-get_or}

@@ -1,6 +1,6 @@
 -- The points of one facet more are orphans.
-use Rattle.std.proofs.Common.{◌∙◌, ap, List, [], ℕ, length, refl, take_all}
-use Rattle.std.proofs.lemmas.List.{get_or_read, take_more, length-set}
+use Rattle.std.proofs.Common.{◌∙◌, ap, List, [], ℕ, length, refl, take_all, length-set}
+use Rattle.std.proofs.lemmas.List.{get_or_read, take_more}
 use Rattle.qh_block.proofs.runs.SettledOrphans.{none_released, more_released}
 use Rattle.qh_block.proofs.quickhull.settling.release.Goals as goal
 

@@ -14,8 +14,7 @@ unreachable-requires c =
     solid_only c.rank.result (dimension_is_unique (place c.args.pts.now) c.args.ids.now dim 3 same c.requires.solid) c.in_default.not-Solid
 
 pub returns-clause-finished : goal.returns-clause-finished
-returns-clause-finished c =
-    rw c.renamed.ensures (c.in_ok-surface.ensures.finished (rising_once c.args.ids.now c.requires.set.rising))
+returns-clause-finished c = rw c.renamed.ensures (c.in_ok-surface.ensures.finished (rising_once c.args.ids.now c.requires.set.rising))
 
 pub returns-clause-closed : goal.returns-clause-closed
 unfolding returns-clause-finished

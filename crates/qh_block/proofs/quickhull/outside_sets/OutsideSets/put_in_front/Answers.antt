@@ -1,6 +1,6 @@
 -- The first orphan goes in front of a set.
-use Rattle.std.proofs.Common.{length-drop, length-set, arith}
-use Rattle.std.proofs.lemmas.Bool.{le-leb, lt-leb}
+use Rattle.std.proofs.Common.{length-drop, length-set, arith, le-leb}
+use Rattle.std.proofs.lemmas.Bool.{lt-leb}
 use Rattle.qh_block.proofs.outside_sets.Steps.{kept_some, answered, put_front}
 use Rattle.qh_block.proofs.quickhull.outside_sets.OutsideSets.put_in_front.Goals as goal
 
