@@ -35,12 +35,6 @@ module _ (P : ℕ → Type 0) (fs : List StoredFacet) where
     abbrev next : List Bool
     next = set marks g true
 
-    within : g < length marks
-    within = let h = live_below fs g l in omega arith
-
-    own : IsMarked next g
-    own = get_or-set_same marks g true false within
-
     other : (f : ℕ) → f ≢ g → mark_at next f ≡ mark_at marks f
     other f n = get_or-set_other marks g f true false n
 
@@ -57,7 +51,8 @@ module _ (P : ℕ → Type 0) (fs : List StoredFacet) where
         once = once_push vs g w.facets.once (λ i. apart g (All-In (IsMarked marks) vs g w.marked i) refl);
       };
       passes = All-push P vs g w.passes p;
-      marked = All-push (IsMarked next) vs g (All-weaker (IsMarked marks) (IsMarked next) kept vs w.marked) own;
+      marked = All-push (IsMarked next) vs g (All-weaker (IsMarked marks) (IsMarked next) kept vs w.marked)
+          (get_or-set_same marks g true false (let h = live_below fs g l in omega arith));
     }
 
     pub joined_further : IsFurther marks next vs (vs ++ g ∷ [])

@@ -85,6 +85,5 @@ module _ {links links' : List ℕ} (y : ℕ) (frame : (p : ℕ) (xs : List ℕ) 
   sets_put zero e xs h n s (one_more {xs = ys} {xss} t k) =
       let a = sum_by-cons (count y) ys xss in one_more s (sets_kept (omega arith) k)
   sets_put (suc f) e xs h n s (one_more {e = d} {xs = ys} {xss} t k) =
-      let a = sum_by-cons (count y) ys xss in
-      let b = get_or-le-sum_by (count y) xss f [] (omega arith) in
+      let a = sum_by-cons (count y) ys xss in let b = get_or-le-sum_by (count y) xss f [] (omega arith) in
       one_more (frame d.first ys (omega arith) t.0, t.1) (sets_put f e xs (omega arith) (omega arith) s k)

@@ -56,8 +56,8 @@ module _ {pts : List Vector} {fs : List StoredFacet} {ps : List PlaneValue} {v :
     grown = k.grown;
     planes = k.planes;
     positions = k.positions;
-    places = let n = length-set v.sets f others in let h = k.places in omega arith;
-    range = rw (length-set v.sets f others) range.0;
+    places = let n = length-set v.sets f (drop 1 (set_of v f)) in let h = k.places in omega arith;
+    range = rw (length-set v.sets f (drop 1 (set_of v f))) range.0;
     outside = λ g q i. k.outside g q (was g q i);
     none = k.none;
     waits = λ g q i. waits g q (was g q i);
@@ -67,14 +67,11 @@ module _ {pts : List Vector} {fs : List StoredFacet} {ps : List PlaneValue} {v :
     seen = (k.outside f a first).1;
   }
     where
-      others : List ℕ
-      others = drop 1 (set_of v f)
-
       first : In a (set_of v f)
       first = subst (In a) (sym e) (inl refl)
 
       was : (g q : ℕ) → In q (set_of (taken v f) g) → In q (set_of v g)
-      was g q i = let h = of_write v.sets f others g q i in grind (arith, h, e)
+      was g q i = let h = of_write v.sets f (drop 1 (set_of v f)) g q i in grind (arith, h, e)
 
       still : (g q : ℕ) → In q (set_of v g) → IsOutside (taken v f) q ⊎ (q ≡ a)
       still g q i =

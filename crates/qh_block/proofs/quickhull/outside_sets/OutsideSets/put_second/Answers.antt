@@ -6,8 +6,7 @@ use Rattle.qh_block.proofs.quickhull.outside_sets.OutsideSets.put_second.Goals a
 
 pub invariant_of-self : goal.invariant_of-self
 invariant_of-self c =
-    let k = kept_some c.self.invariant c.self.view_is c.requires.some in
-    let w = c.with_second.ensures in
+    let k = kept_some c.self.invariant c.self.view_is c.requires.some in let w = c.with_second.ensures in
     let first = rw (← c.index-place.ensures) at c.requires.first in (
       _,
       _,
