@@ -7,12 +7,12 @@ use Rattle.qh_model.specs.headline.Predicates.{vol, place}
 use Rattle.qh_model.specs.headline.Sets.{In}
 use Rattle.qh_model.specs.contract.Weighted.{Weighted, above}
 use Rattle.qh_model.specs.contract.FinishedSurface.{weighted_at, middle_at}
-use Rattle.qh_model.specs.contract.Surface.{Surface, Side, start, end, IsBlindTo}
+use Rattle.qh_model.specs.contract.Surface.{Surface, Side, start, end}
 use Rattle.qh_model.specs.contract.Surface.Side.{first, second, third}
-use Rattle.qh_model.specs.contract.Rewired.{IsHorizonSide, IsTriangle, IsRewired}
+use Rattle.qh_model.specs.contract.Rewired.{IsTriangle, IsRewired}
 use Rattle.qh_model.specs.laws.Horizons.{IsConeUnseen}
 use Rattle.qh_model.specs.laws.UnseenPoints.{IsUnseen}
-use Rattle.qh_model.specs.contract.StoredSurface.{StoredFacet, facet_at, surface_of}
+use Rattle.qh_model.specs.contract.StoredSurface.{StoredFacet, surface_of}
 use Rattle.std.proofs.lemmas.List.Elements.{All-from_get_or}
 use Rattle.qh_model.proofs.Members.{All-In}
 use Rattle.qh_model.proofs.surfaces.SurfaceLaws.{rise_is_vol, settled_stay_unseen, corners_are_settled, added_is_settled}
@@ -63,41 +63,31 @@ module _ {pts : List Vector} {old new : List StoredFacet} {vs made : List ℕ} {
 
   -- the corners of the new facets are below n
   corners_stay : (n : ℕ) → HasCornersBelow n old → a < n → HasCornersBelow n new
-  corners_stay n c l f h = by (d.rewired.only f (in_live new f h))
+  corners_stay n c l f h = elim (d.rewired.only f (in_live new f h)) [
+    | inl x ↦ let k = d.rewired.kept f x.0 x.1 in let o = c f (live_in old f x.0) in (rw k.i_is o.0, rw k.j_is o.1, rw k.k_is o.2)
+    | inr x ↦ let t = d.rewired.cone x.0 x.1 x.2 in let o = ends x.0 x.1 (live_in old x.0 x.2.live) in
+        (rw (ap m'.i x.3 ∙ t.i_is) o.0, rw (ap m'.j x.3 ∙ t.j_is) o.1, rw (ap m'.k x.3 ∙ t.k_is) l)
+  ]
     where
       ends : (g : ℕ) (s : Side) → IsLive old g → (start m g s < n) × (end m g s < n)
       ends g s i = let o = c g i in
           elim s as (λ s. (start m g s < n) × (end m g s < n)) [ first ↦ (o.0, o.1) | second ↦ (o.1, o.2) | third ↦ (o.2, o.0) ]
 
-      by : (In f m.live × IsBlindTo m home f (home a))
-          ⊎ ((g : ℕ) × (s : Side) × IsHorizonSide m home (home a) g s × (f ≡ d.rewired.number g s))
-          → ((facet_at new f).i < n) × ((facet_at new f).j < n) × ((facet_at new f).k < n)
-      by (inl (i, b)) = let k = d.rewired.kept f i b in let o = c f (live_in old f i) in (rw k.i_is o.0, rw k.j_is o.1, rw k.k_is o.2)
-      by (inr (g, s, i, e)) = let t = d.rewired.cone g s i in let o = ends g s (live_in old g i.live) in
-          (rw (ap m'.i e ∙ t.i_is) o.0, rw (ap m'.j e ∙ t.j_is) o.1, rw (ap m'.k e ∙ t.k_is) l)
-
   -- around a point in the old mesh
   module _ {o : Weighted} (z : IsSoundMesh (place pts) old o) where
     -- the cone is made of the facets that were made
     cone_unseen : (q : ℕ) → All (λ f. height_at pts new f q ≤ℤ pos 0) made → IsConeUnseen m home (home a) (home q)
-    cone_unseen q h f i s k b = subst (λ v. v ≤ℤ pos 0) (sym same) (by (d.replaced.only g (live_in new g t.live)))
-      where
-        g : ℕ
-        g = d.rewired.number f s
-
-        t : IsTriangle m' (d.rewired.number f s) (start m f s) (end m f s) a
-        t = d.rewired.cone f s (record { live = i; seen = k; blind = b })
-
-        same : above (home (start m f s)) (home (end m f s)) (home a) (home q) ≡ facet_vol at new (d.rewired.number f s) (at q)
-        same =
-            rise_is_vol (at (start m f s)) (at (end m f s)) (at a) (at q)
-            ∙ sym (λ n. vol (at (t.i_is n)) (at (t.j_is n)) (at (t.k_is n)) (at q))
-
-        by : IsKept old vs (d.rewired.number f s) ⊎ In (d.rewired.number f s) made → facet_vol at new (d.rewired.number f s) (at q) ≤ℤ pos 0
-        by (inl x) =
-            let c = inr (inr (sym t.k_is ∙ (d.replaced.kept g x).k_is)) in let r = d.rewired in
-            absurd (not_less _ _ r.seen (corners_are_settled m home o z.1 r.f0 g r.live (in_live old g x.live) a c))
-        by (inr x) = All-In (λ f. height_at pts new f q ≤ℤ pos 0) made g h x
+    cone_unseen q h f i s k b =
+        let r = d.rewired in let g = r.number f s in
+        let t : IsTriangle m' g (start m f s) (end m f s) a = r.cone f s (record { live = i; seen = k; blind = b }) in
+        let same : above (home (start m f s)) (home (end m f s)) (home a) (home q) ≡ facet_vol at new g (at q) =
+        rise_is_vol (at (start m f s)) (at (end m f s)) (at a) (at q)
+        ∙ sym (λ n. vol (at (t.i_is n)) (at (t.j_is n)) (at (t.k_is n)) (at q)) in
+        subst (λ v. v ≤ℤ pos 0) (sym same) (elim (d.replaced.only g (live_in new g t.live)) [
+          | inl x ↦ let c = inr (inr (sym t.k_is ∙ (d.replaced.kept g x).k_is)) in
+              absurd (not_less _ _ r.seen (corners_are_settled m home o z.1 r.f0 g r.live (in_live old g x.live) a c))
+          | inr x ↦ All-In (λ f. height_at pts new f q ≤ℤ pos 0) made g h x
+        ])
 
     -- a point that no facet saw is seen by none
     still_done : (p : ℕ) → IsDone pts old p → IsDone pts new p
