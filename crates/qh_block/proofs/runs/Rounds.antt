@@ -1,5 +1,5 @@
 -- A round of Quickhull: where a cone replaces what the apex sees, the released points are all that must be looked at.
-use Rattle.std.proofs.Common.{All, ◌≡◌, ℕ, ◌<◌, arith, ap, sym, ◌∙◌, true, ◌⊎◌, inl, inr, List, length, get_or, subst, pos, ◌<ℤ◌, ◌≤ℤ◌}
+use Rattle.std.proofs.Common.{All, ◌≡◌, ℕ, ◌<◌, arith, ap, sym, ◌∙◌, true, inl, inr, List, length, get_or, subst, pos, ◌<ℤ◌, ◌≤ℤ◌}
 use Rattle.std.proofs.lemmas.List.{get_or_read}
 use Rattle.std.proofs.lemmas.Bool.{cases_Bool}
 use Rattle.qh_model.specs.headline.Vector.{Vector, origin}
@@ -24,7 +24,7 @@ use Rattle.qh_mesh.specs.contract.SoundMesh.{facet_vol, IsSoundMesh, IsClosedMes
 use Rattle.qh_mesh.proofs.ListedFacets.{in_listed, listed_in}
 use Rattle.qh_mesh.proofs.Rewiring.{live_in, in_live, rise-vol}
 use Rattle.qh_block.specs.steps.OutsideSets.{OutsideValue, set_of}
-use Rattle.qh_block.specs.steps.Runs.{height_at, IsDone, IsOutside, HasCornersBelow, IsPicked, IsRemade}
+use Rattle.qh_block.specs.steps.Runs.{height_at, IsDone, HasCornersBelow, IsPicked, IsRemade}
 use Rattle.qh_block.specs.steps.Settling.{AreReleased}
 use Rattle.qh_block.proofs.LiveFacets.{live_below}
 
@@ -137,7 +137,12 @@ remade {pts} {old} {new} {ps} {v} {w} {pending} {vs} {made} {f} {a} k d rel e n 
     outside = λ g p i. let h = stays g p i in
         ((d.replaced.kept g h).live, rw (stays-vol d g (place pts p) h) (k.outside g p (rel.kept g p i)).1);
     waits = λ g p i. elim (k.waits g p (rel.kept g p i)) [ inl h ↦ inl h | inr h ↦ absurd (other g p i h) ];
-    all = λ p l. all p (k.all p l);
+    all = λ p l. elim (k.all p l) [
+      | inl o ↦ elim (rel.moved o.0 p o.1) [ inl h ↦ inr (inl (o.0, h)) | inr h ↦ inl h ]
+      | inr (inl h) ↦ inr (inr (still_done d k.grown.sound p h))
+      | inr (inr h) ↦ inr (inr (rw h
+          (done_of pts new a (added_is_settled (surface_of old) (surface_of new) (weighted_at (place pts)) a d.rewired))))
+    ];
     drops = λ p i u. elim (rel.orphans p i) [
       | inl h ↦ absurd (subst (In p) k.none h)
       | inr h ↦ let b = k.outside h.0 p h.2 in drop_done d k.grown.sound p h.0 b.0 (in_listed vs h.0 h.1) b.1 u
@@ -155,12 +160,6 @@ remade {pts} {old} {new} {ps} {v} {w} {pending} {vs} {made} {f} {a} k d rel e n 
     -- and is not the one whose turn it was
     other : (g p : ℕ) → In p (set_of w g) → g ≡ f → ⊥
     other g p i h = not_less _ _ k.seen (d.visible.unseen f k.live (ap (is_listed vs) (sym h) ∙ (stays g p i).unlisted))
-
-    all : (p : ℕ) → IsOutside v p ⊎ IsDone pts old p ⊎ (p ≡ a) → In p w.orphans ⊎ IsOutside w p ⊎ IsDone pts new p
-    all p (inl (g, i)) = elim (rel.moved g p i) [ inl h ↦ inr (inl (g, h)) | inr h ↦ inl h ]
-    all p (inr (inl h)) = inr (inr (still_done d k.grown.sound p h))
-    all p (inr (inr h)) = inr (inr (rw h
-        (done_of pts new a (added_is_settled (surface_of old) (surface_of new) (weighted_at (place pts)) a d.rewired))))
 
 -- the point at a position, read from the list
 pub read_point : (pts : List Vector) (a : ℕ) (point : Vector) → a < length pts → point ≡ get_or pts a point → point ≡ place pts a
