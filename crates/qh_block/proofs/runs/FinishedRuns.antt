@@ -2,19 +2,16 @@
 use Rattle.std.proofs.Common.{All, ◌≡◌, ℕ, ◌<◌, ◌≤◌, sym, ◌∙◌, refl, inl, inr, List, [], ◌∷◌, length, subst, pos, ◌<ℤ◌}
 use Rattle.qh_model.specs.headline.Vector.{Vector, origin}
 use Rattle.qh_model.specs.headline.Predicates.{place}
-use Rattle.qh_model.specs.headline.Sets.{In, Members}
+use Rattle.qh_model.specs.headline.Sets.{In}
 use Rattle.qh_model.specs.contract.FinishedSurface.{IsFinished}
-use Rattle.qh_model.specs.contract.StoredSurface.{StoredFacet, facet_at, surface_of}
-use Rattle.qh_model.specs.headline.SupportingPlane.{IsSupportingTriple}
+use Rattle.qh_model.specs.contract.StoredSurface.{StoredFacet, surface_of}
 use Rattle.qh_model.specs.contract.ClosedSurface.{signed_volume, triples_from}
 use Rattle.std.specs.List.{range_with_len}
 use Rattle.qh_model.proofs.lists.Ranges.{range_has, range_below}
 use Rattle.qh_model.proofs.algebra.Signs.{less_one_way}
-use Rattle.qh_model.proofs.surfaces.Finished.{facets_support}
 use Rattle.qh_pred.specs.contract.Planes.{PlaneValue}
-use Rattle.qh_mesh.specs.contract.Replacement.{IsLive}
 use Rattle.qh_mesh.specs.contract.SoundMesh.{IsClosedMesh}
-use Rattle.qh_mesh.proofs.Rewiring.{live_in, in_live}
+use Rattle.qh_mesh.proofs.Rewiring.{live_in}
 use Rattle.qh_block.specs.steps.Planes.{ArePlanes}
 use Rattle.qh_block.specs.steps.OutsideSets.{OutsideValue, set_of}
 use Rattle.qh_block.specs.steps.Runs.{IsDone, IsGrown, IsUnderWay, IsSettling, IsRemade}
@@ -69,8 +66,3 @@ finished pts fs k d = record {
   ]);
   unseen = λ f i l m. d l (range_below (length pts) l m) f (live_in fs f i);
 }
-
--- and its facets support the set
-pub supporting : (pts : List Vector) (ids : List ℕ) (fs : List StoredFacet) → IsFinished (place pts) ids (surface_of fs)
-    → (f : ℕ) → IsLive fs f → IsSupportingTriple (place pts) (Members ids) (facet_at fs f).i (facet_at fs f).j (facet_at fs f).k
-supporting pts ids fs h f l = facets_support (place pts) ids (surface_of fs) h f (in_live fs f l)

@@ -30,9 +30,6 @@ use Rattle.qh_block.proofs.LiveFacets.{live_below}
 
 -- a point that no facet of the surface sees
 module _ (pts : List Vector) (fs : List StoredFacet) (p : ℕ) where
-  unseen_of : IsDone pts fs p → IsUnseen (surface_of fs) (weighted_at (place pts)) (weighted_at (place pts) p)
-  unseen_of d f i = rw (rise-vol (place pts) fs f p) (d f (live_in fs f i))
-
   done_of : IsUnseen (surface_of fs) (weighted_at (place pts)) (weighted_at (place pts) p) → IsDone pts fs p
   done_of u f l = rw (rise-vol (place pts) fs f p) at (u f (in_live fs f l))
 
@@ -91,7 +88,8 @@ module _ {pts : List Vector} {old new : List StoredFacet} {vs made : List ℕ} {
 
     -- a point that no facet saw is seen by none
     still_done : (p : ℕ) → IsDone pts old p → IsDone pts new p
-    still_done p x = done_of pts new p (settled_stay_unseen m m' home o a z.0 z.1 d.rewired (home p) (unseen_of pts old p x))
+    still_done p x = done_of pts new p (settled_stay_unseen m m' home o a z.0 z.1 d.rewired (home p)
+        (λ f i. rw (rise-vol at old f p) (x f (live_in old f i))))
 
     -- nor is one that saw a facet that went and sees none that was made
     drop_done : (p g : ℕ) → IsLive old g → is_listed vs g ≡ true → pos 0 <ℤ height_at pts old g p

@@ -5,7 +5,8 @@ use Rattle.qh_model.proofs.extremes.Dimensions.{dimension_is_unique}
 use Rattle.qh_plane.specs.contract.Shapes.{dimension_of}
 use Rattle.qh_mesh.proofs.SoundMeshes.{finished_is_closed}
 use Rattle.qh_block.proofs.runs.FirstSimplexes.{solid_only}
-use Rattle.qh_block.proofs.runs.FinishedRuns.{supporting}
+use Rattle.qh_model.proofs.surfaces.Finished.{facets_support}
+use Rattle.qh_mesh.proofs.Rewiring.{in_live}
 use Rattle.qh_block.proofs.quickhull.surfaces.surface.Goals as goal
 
 pub unreachable-requires : goal.unreachable-requires
@@ -22,4 +23,5 @@ returns-clause-closed c = finished_is_closed (place c.args.pts.now) c.args.ids.n
 
 pub returns-clause-supporting : goal.returns-clause-supporting
 unfolding returns-clause-finished
-returns-clause-supporting c = supporting c.args.pts.now c.args.ids.now _ (returns-clause-finished c)
+returns-clause-supporting c = λ f l.
+    facets_support (place c.args.pts.now) c.args.ids.now _ (returns-clause-finished c) f (in_live _ f l)
