@@ -1,6 +1,5 @@
 -- A walk that went over all its facets found all that the apex sees.
-use Rattle.std.proofs.Common.{◌≡◌, ℕ, arith, sym, ◌∙◌, Bool, false, List, subst, ◌⊎◌, inl, inr}
-use Rattle.std.specs.Prelude.{ℤ, pos, ◌<ℤ◌}
+use Rattle.std.proofs.Common.{◌≡◌, ℕ, arith, sym, ◌∙◌, Bool, false, List, subst, inl, inr, ℤ, pos, ◌<ℤ◌}
 use Rattle.std.proofs.lemmas.Int.{by_lt_z}
 use Rattle.qh_model.specs.headline.Vector.{Vector}
 use Rattle.qh_model.specs.headline.Sets.{In}
@@ -10,7 +9,7 @@ use Rattle.qh_model.specs.contract.Surface.{Surface, Side, Sees, rise}
 use Rattle.qh_model.specs.contract.StoredSurface.{StoredFacet, facet_at, surface_of}
 use Rattle.qh_model.specs.laws.Horizons.{IsWalked}
 use Rattle.qh_model.proofs.surfaces.SurfaceLaws.{rise_is_vol, walk_finds_all}
-use Rattle.qh_model.proofs.surfaces.Stored.{live_is_marked}
+use Rattle.qh_mesh.proofs.Rewiring.{live_in, in_live}
 use Rattle.qh_pred.specs.contract.Planes.{PlaneValue, height}
 use Rattle.qh_mesh.specs.contract.Replacement.{IsLive, is_listed}
 use Rattle.qh_mesh.specs.contract.SoundMesh.{facet_vol, IsSoundMesh, AreVisible}
@@ -34,11 +33,8 @@ module _ (P : ℕ → Type 0) (fs : List StoredFacet) (before after : List Bool)
   pub found_over : (g : ℕ) (s : Side) → In g vs → P ((surface_of fs).over g s) → ¬ (IsMarked before ((surface_of fs).over g s))
       → In ((surface_of fs).over g s) vs
   found_over g s h p n =
-      let r = in_at vs g h in pick (w.further.only _ (subst (IsCrossed P fs after) r.2 (w.crossed r.0 r.1) s p))
-    where
-      pick : IsMarked before ((surface_of fs).over g s) ⊎ In ((surface_of fs).over g s) vs → In ((surface_of fs).over g s) vs
-      pick (inl m) = absurd (n m)
-      pick (inr i) = i
+      let r = in_at vs g h in
+      elim (w.further.only _ (subst (IsCrossed P fs after) r.2 (w.crossed r.0 r.1) s p)) [ inl m ↦ absurd (n m) | inr i ↦ i ]
 
 -- the facets that the apex, point l, sees by their planes
 abbrev pub IsSeen : (ℕ → Vector) → List PlaneValue → ℕ → ℕ → Type 0
@@ -57,9 +53,6 @@ module _ (at : ℕ → Vector) (fs : List StoredFacet) (ps : List PlaneValue) (o
   above : (x y : ℤ) → x ≡ y → pos 0 <ℤ x → pos 0 <ℤ y
   above x y = subst (λ t. pos 0 <ℤ t)
 
-  live : (g : ℕ) → IsLive fs g → In g m.live
-  live g = (live_is_marked fs g).1
-
   seen : (g : ℕ) → In g vs → pos 0 <ℤ vol g
   seen g h = above _ _ (a.right g (found_live (IsSeen at ps l) fs before after f vs w g h) (at l))
       (found_passes (IsSeen at ps l) fs before after f vs w g h)
@@ -67,30 +60,27 @@ module _ (at : ℕ → Vector) (fs : List StoredFacet) (ps : List PlaneValue) (o
   rise_is : (g : ℕ) → vol g ≡ rise m (weighted_at at) g (weighted_at at l)
   rise_is g = sym (rise_is_vol (at (facet_at fs g).i) (at (facet_at fs g).j) (at (facet_at fs g).k) (at l))
 
-  grows : (g : ℕ) → In g m.live → (s : Side) → In g vs → Sees m (weighted_at at) (m.over g s) (weighted_at at l)
-      → In (m.over g s) vs
+  grows : (g : ℕ) → In g m.live → (s : Side) → In g vs → Sees m (weighted_at at) (m.over g s) (weighted_at at l) → In (m.over g s) vs
   grows g i s h t =
-      let n = (live_is_marked fs (m.over g s)).0 (z.0 g i s).live in
+      let n = live_in fs (m.over g s) (z.0 g i s).live in
       found_over (IsSeen at ps l) fs before after f vs w g s h
       (above _ _ (sym (a.right (m.over g s) n (at l) ∙ rise_is (m.over g s))) t) (λ q. (let e = none (m.over g s) in cc))
 
   walk : IsWalked m (weighted_at at) (weighted_at at l) (is_listed vs)
   walk = record {
     f0 = f;
-    live = live f (found_live (IsSeen at ps l) fs before after f vs w f w.start);
+    live = in_live fs f (found_live (IsSeen at ps l) fs before after f vs w f w.start);
     seen = above _ _ (rise_is f) (seen f w.start);
     has = in_listed vs f w.start;
     grows = λ g i s h t. in_listed vs (m.over g s) (grows g i s (listed_in vs g h) t);
   }
-
-  all : (g : ℕ) → IsLive fs g → pos 0 <ℤ vol g → In g vs
-  all g i h = listed_in vs g
-      (walk_finds_all m (weighted_at at) o z.0 z.1 (weighted_at at l) (is_listed vs) walk g (live g i) (above _ _ (rise_is g) h))
 
   -- found all that it sees
   pub finds_all : AreVisible at fs vs l
   finds_all = record {
     some = (let r = (in_at vs f w.start).1 in omega arith);
     seen = λ g i e. seen g (listed_in vs g e);
-    unseen = λ g i e. by_lt_z (pos 0) (vol g) (λ h. (let t = in_listed vs g (all g i h) in cc)) (λ h. h);
+    unseen = λ g i e. by_lt_z (pos 0) (vol g)
+        (λ h. (let t = walk_finds_all m (weighted_at at) o z.0 z.1 (weighted_at at l) (is_listed vs) walk g (in_live fs g i)
+        (above _ _ (rise_is g) h) in cc)) (λ h. h);
   }

@@ -1,7 +1,6 @@
 -- The steps of a walk over twins.
-use Rattle.std.proofs.Common.{◌≡◌, ◌≢◌, ℕ, ◌+◌, ◌<◌, ◌≤◌, ◌∙◌, ◌⊎◌, ◌∷◌, ◌++◌, arith, ap, sym, refl, Bool, true, false, inl, inr, List, []}
-use Rattle.std.proofs.Common.{length, subst, set, length-set, get_or-set_same, get_or-set_other, slice_index}
-use Rattle.std.specs.Prelude.{◌↔◌, ◌||◌, IsTrue}
+use Rattle.std.proofs.Common.{◌≡◌, ◌≢◌, ℕ, ◌+◌, ◌<◌, ◌≤◌, ◌∙◌, ◌∷◌, ◌++◌, arith, ap, sym, refl, Bool, true, false, inl, inr, List, []}
+use Rattle.std.proofs.Common.{length, subst, set, length-set, get_or-set_same, get_or-set_other, slice_index, ◌↔◌, ◌||◌, IsTrue}
 use Rattle.std.proofs.lemmas.Bool.{cases_Bool, cases_eq, cases_lt}
 use Rattle.std.proofs.lemmas.List.{get_or_append_left, length_push}
 use Rattle.std.proofs.lemmas.List.Elements.{All-nil, All-push, All-weaker}
@@ -36,12 +35,6 @@ module _ (P : ℕ → Type 0) (fs : List StoredFacet) where
     abbrev next : List Bool
     next = set marks g true
 
-    within : g < length marks
-    within = let h = live_below fs g l in omega arith
-
-    own : IsMarked next g
-    own = get_or-set_same marks g true false within
-
     other : (f : ℕ) → f ≢ g → mark_at next f ≡ mark_at marks f
     other f n = get_or-set_other marks g f true false n
 
@@ -58,21 +51,21 @@ module _ (P : ℕ → Type 0) (fs : List StoredFacet) where
         once = once_push vs g w.facets.once (λ i. apart g (All-In (IsMarked marks) vs g w.marked i) refl);
       };
       passes = All-push P vs g w.passes p;
-      marked = All-push (IsMarked next) vs g (All-weaker (IsMarked marks) (IsMarked next) kept vs w.marked) own;
+      marked = All-push (IsMarked next) vs g (All-weaker (IsMarked marks) (IsMarked next) kept vs w.marked)
+          (get_or-set_same marks g true false (let h = live_below fs g l in omega arith));
     }
 
     pub joined_further : IsFurther marks next vs (vs ++ g ∷ [])
     joined_further = record {
       len = length-set marks g true;
       kept = kept;
-      only = λ f h. only f h (cases_eq f g);
+      only = λ f h. elim (cases_eq f g) [
+        | inl e ↦ inr (in_append vs (g ∷ []) f (inr (inl e)))
+        | inr n ↦ inl (sym (other f n) ∙ h)
+      ];
       longer = (let c = length_push vs g in omega arith);
       same = get_or_append_left vs (g ∷ []) 0;
     }
-      where
-        only : (f : ℕ) → IsMarked next f → (f ≡ g) ⊎ (f ≢ g) → IsMarked marks f ⊎ In f (vs ++ g ∷ [])
-        only f h (inl e) = inr (in_append vs (g ∷ []) f (inr (inl e)))
-        only f h (inr n) = inl (sym (other f n) ∙ h)
 
 -- ---- a facet that is asked
 -- whether it is entered or not, afterwards it has a mark if it passes
@@ -93,11 +86,10 @@ module _ (a b : List Bool) (us vs : List ℕ) (p : IsFurther a b us vs) where
   -- what was crossed stays so, and one facet more
   pub crossed_more : (P : ℕ → Type 0) (fs : List StoredFacet) (n : ℕ) → n < length us → AreCrossed P fs a us n
       → IsCrossed P fs b (slice_index us n) → AreCrossed P fs b vs (n + 1)
-  crossed_more P fs n h old new j k = subst (IsCrossed P fs b) (sym (p.same j (omega arith))) (by (cases_lt j n))
-    where
-      by : (j < n) ⊎ (n ≤ j) → IsCrossed P fs b (slice_index us j)
-      by (inl l) = λ s x. p.kept ((surface_of fs).over (slice_index us j) s) (old j l s x)
-      by (inr l) = let i : n ≡ j = omega arith in subst (λ t. IsCrossed P fs b (slice_index us t)) i new
+  crossed_more P fs n h old new j k = subst (IsCrossed P fs b) (sym (p.same j (omega arith))) (elim (cases_lt j n) [
+    | inl l ↦ λ s x. p.kept ((surface_of fs).over (slice_index us j) s) (old j l s x)
+    | inr l ↦ (let i : n ≡ j = omega arith in subst (λ t. IsCrossed P fs b (slice_index us t)) i new)
+  ])
 
 pub further_trans : (a b c : List Bool) (us vs ws : List ℕ) → IsFurther a b us vs → IsFurther b c vs ws → IsFurther a c us ws
 further_trans a b c us vs ws p q = record {

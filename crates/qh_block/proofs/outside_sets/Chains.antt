@@ -1,8 +1,6 @@
 -- Chains of positions: how often a position stands in them, and what a write to one link leaves of them.
-use Rattle.std.proofs.Common.{◌≡◌, ℕ, zero, suc, ◌+◌, ◌<◌, ◌≤◌, arith, sym, refl, List, [], ◌∷◌, ◌++◌, length, subst}
-use Rattle.std.proofs.Common.{get_or, set, length-set}
-use Rattle.std.specs.List.{sum_by}
-use Rattle.std.proofs.lemmas.Bool.{eq-eqb, lt-ltb, le-ltb}
+use Rattle.std.proofs.Common.{◌≡◌, ℕ, zero, suc, ◌+◌, ◌<◌, ◌≤◌, arith, sym, refl, List, [], ◌∷◌, ◌++◌, length, subst, get_or, set}
+use Rattle.std.proofs.Common.{length-set, sum_by, eq-eqb, lt-ltb, le-ltb}
 use Rattle.std.proofs.lemmas.Bool.Decides.{nat_tests}
 use Rattle.std.proofs.lemmas.Grind.{common_steps}
 use Rattle.std.proofs.lemmas.List.Sums.{sum_by-cons, get_or-le-sum_by}
@@ -87,6 +85,5 @@ module _ {links links' : List ℕ} (y : ℕ) (frame : (p : ℕ) (xs : List ℕ) 
   sets_put zero e xs h n s (one_more {xs = ys} {xss} t k) =
       let a = sum_by-cons (count y) ys xss in one_more s (sets_kept (omega arith) k)
   sets_put (suc f) e xs h n s (one_more {e = d} {xs = ys} {xss} t k) =
-      let a = sum_by-cons (count y) ys xss in
-      let b = get_or-le-sum_by (count y) xss f [] (omega arith) in
+      let a = sum_by-cons (count y) ys xss in let b = get_or-le-sum_by (count y) xss f [] (omega arith) in
       one_more (frame d.first ys (omega arith) t.0, t.1) (sets_put f e xs (omega arith) (omega arith) s k)

@@ -1,15 +1,14 @@
 -- What links, ends and a first orphan stand for, and what each call leaves of it.
-use Rattle.std.proofs.Common.{◌≡◌, ◌≢◌, ℕ, ◌+◌, ◌<◌, ◌≤◌, arith, ap, sym, ◌∙◌, refl, false, subst}
-use Rattle.std.proofs.Common.{List, [], ◌∷◌, ◌++◌, length, length-append, drop, drop-cons, map, get_or, set, length-set}
-use Rattle.std.specs.List.{sum_by}
+use Rattle.std.proofs.Common.{◌≡◌, ◌≢◌, ℕ, ◌+◌, ◌<◌, ◌≤◌, arith, ap, sym, ◌∙◌, refl, false, subst, List, [], ◌∷◌, ◌++◌, length}
+use Rattle.std.proofs.Common.{length-append, drop, drop-cons, map, get_or, set, length-set, sum_by}
 use Rattle.std.proofs.lemmas.List.{length-map}
 use Rattle.std.proofs.lemmas.List.Sums.{sum_by-cons, sum_by-set, get_or-le-sum_by}
 use Rattle.qh_block.specs.steps.OutsideSets.{OutsideValue, set_of, joined, listed}
-use Rattle.qh_block.specs.steps.PositionChains.{none, count, chain_from, value_of, IsChain, IsLast, IsSet, IsKept, AreKept}
-use Rattle.qh_block.specs.steps.PositionChains.{AreSets, no_sets, one_more}
+use Rattle.qh_block.specs.steps.PositionChains.{none, count, chain_from, value_of, IsChain, IsLast, IsSet, IsKept, AreKept, AreSets}
+use Rattle.qh_block.specs.steps.PositionChains.{no_sets, one_more}
 use Rattle.qh_block.specs.declared.quickhull.outside_sets.Ends.{Ends}
-use Rattle.qh_block.proofs.outside_sets.Chains.{count_at, count-append, last_in, last_within, next, chain_is}
-use Rattle.qh_block.proofs.outside_sets.Chains.{chain_kept, chain_front, chain_joined, set_at, sets_kept, sets_put}
+use Rattle.qh_block.proofs.outside_sets.Chains.{count_at, count-append, last_in, last_within, next, chain_is, chain_kept, chain_front}
+use Rattle.qh_block.proofs.outside_sets.Chains.{chain_joined, set_at, sets_kept, sets_put}
 
 -- ---- the value
 -- sets that are held are those that are read off
@@ -141,8 +140,7 @@ module _ {links : List ℕ} {es : List Ends} {o : ℕ} {os : List ℕ} {xss : Li
     -- p goes
     pub taken : (p' : ℕ) → p' ≡ get_or links p p' → IsKept links (set es f (record { first = p'; last = e.last })) o os (set xss f xs)
     taken p' r =
-        let c = first_set in
-        let a = count_at p p xs refl in let b = k.once p in let t = ap (count p) s in
+        let c = first_set in let a = count_at p p xs refl in let b = k.once p in let t = ap (count p) s in
         put _ xs refl k.chain
         (sets_put p (λ _ _ _ c. c) f _ xs h (omega arith)
         (next links p p' p xs (refl, c.0.1, c.0.2) r, last_rest p xs e.last c.1) k.sets_are)
@@ -178,8 +176,7 @@ module _ {links : List ℕ} {es : List Ends} {o x : ℕ} {os : List ℕ} {xss : 
     pub put_front : e'.first ≡ o → (length links ≤ e.first → e'.last ≡ o) → (e.first < length links → e'.last ≡ e.last)
         → IsKept (set links o e.first) (set es f e') o' os (set xss f (x ∷ get_or xss f []))
     put_front first only last =
-        let c = set_at f e h q k.sets_are in
-        let i = k.chain.0 in let l = k.chain.1 in
+        let c = set_at f e h q k.sets_are in let i = k.chain.0 in let l = k.chain.1 in
         let a = count_at o x os i in let b = k.once o in let g = get_or-le-sum_by (count o) xss f [] h in
         let w = chain_kept links o e.first in
         let n = chain_front links o e.first e'.first x (get_or xss f []) i (first ∙ i) (omega arith) (omega arith) c.0 in
@@ -193,15 +190,12 @@ module _ {links : List ℕ} {es : List Ends} {o x : ℕ} {os : List ℕ} {xss : 
         → IsKept (set (set links o p) e.first o) (set es f e') o' os (set xss f (joined false x (get_or xss f [])))
     put_second m p w first alone last =
         let y = get_or (get_or xss f []) 0 0 in let ys = drop 1 (get_or xss f []) in
-        let s = drop-cons (get_or xss f []) 0 0 m in
-        let c = first_set k h e q y ys s in
-        let i = k.chain.0 in let l = k.chain.1 in
-        let a = count_at o x os i in let b = k.once o in
+        let s = drop-cons (get_or xss f []) 0 0 m in let c = first_set k h e q y ys s in
+        let i = k.chain.0 in let l = k.chain.1 in let a = count_at o x os i in let b = k.once o in
         let g = get_or-le-sum_by (count o) xss f [] h in let t = ap (count o) s in
         let a2 = count_at e.first y ys c.0.0 in let b2 = k.once e.first in
         let g2 = get_or-le-sum_by (count e.first) xss f [] h in let t2 = ap (count e.first) s in
-        let links1 = set links o p in
-        let w1 = chain_kept links o p in let w2 = chain_kept links1 e.first o in
+        let links1 = set links o p in let w1 = chain_kept links o p in let w2 = chain_kept links1 e.first o in
         let n1 = chain_front links o p o x ys i i (omega arith) (omega arith) (next links e.first p y ys c.0 w) in
         let n2 = chain_front links1 e.first o e'.first y (x ∷ ys) c.0.0 (first ∙ c.0.0)
         (rw (length-set links o p) (omega (arith, c.0.0, c.0.1))) (omega arith) n1 in

@@ -1,6 +1,6 @@
 -- The rings of large cones: what their wedges are, and what the answers of a search come to.
-use Rattle.std.proofs.Common.{◌≡◌, ℕ, ◌<◌, All, slice_index, arith, ap, sym, ◌∙◌, refl, List, [], ◌∷◌, ◌++◌, length, inl, inr}
-use Rattle.std.specs.Prelude.{slice_index_or, ℤ, pos, ◌≤ℤ◌, ◌<ℤ◌}
+use Rattle.std.proofs.Common.{◌≡◌, ℕ, ◌<◌, All, slice_index, arith, ap, sym, ◌∙◌, refl, List, [], ◌∷◌, ◌++◌, length, inl, inr, ℤ, pos, ◌≤ℤ◌}
+use Rattle.std.proofs.Common.{◌<ℤ◌}
 use Rattle.std.proofs.lemmas.Int.{ints}
 use Rattle.std.proofs.lemmas.List.{get_or_append_left, get_or_push, length_push}
 use Rattle.qh_model.specs.headline.Vector.{Vector}
@@ -25,8 +25,8 @@ use Rattle.qh_mesh.proofs.NumberCases.{by_le}
 use Rattle.qh_block.specs.steps.Planes.{plane_at}
 use Rattle.qh_block.specs.steps.Runs.{IsPlaneOf, IsGrown}
 use Rattle.qh_block.specs.steps.Settling.{IsAboveNone}
-use Rattle.qh_block.specs.steps.Cones.{IsFan, apex_of, HasNoCornerAbove, no_wedge, wedge_at, IsConePlane, IsWedge, AreWedges}
-use Rattle.qh_block.specs.steps.Cones.{AreTriangles, IsBetweenRays, IsAmongRays}
+use Rattle.qh_block.specs.steps.Cones.{IsFan, apex_of, HasNoCornerAbove, no_wedge, wedge_at, IsWedge, AreWedges, AreTriangles, IsConePlane}
+use Rattle.qh_block.specs.steps.Cones.{IsBetweenRays, IsAmongRays}
 use Rattle.qh_block.specs.declared.quickhull.cone_ring.Wedge.{Wedge}
 
 -- ---- the facets of a cone
@@ -82,29 +82,20 @@ module _ (pts : List Vector) (fs : List StoredFacet) (ps : List PlaneValue) (mad
   -- a facet that was made is a wedge
   pub read_wedge : All (IsLive fs) made → HasNoCornerAbove pts fs → All (IsPlaneOf pts fs ps) made → IsFan fs made → (f : ℕ) → In f made
       → IsWedge ps made (apex_of pts fs made) (record { facet = f; plane = plane_at ps f; from = from_of f; to = to_of f })
-  read_wedge live above planes fan f n = record {
-    named = n;
-    plane = refl;
-    triangle = made_plane fan f (planes_of f n) n;
-    below = All-of (λ g. IsConePlane (apex_of pts fs made) wedge (plane_at ps g)) made cone_plane;
-  }
-    where
-      wedge : Wedge
-      wedge = record { facet = f; plane = plane_at ps f; from = from_of f; to = to_of f }
-
-      lives : (g : ℕ) → In g made → IsLive fs g
-      lives g = All-In (IsLive fs) made g live
-
-      planes_of : (g : ℕ) → In g made → IsPlaneOf pts fs ps g
-      planes_of g = All-In (IsPlaneOf pts fs ps) made g planes
-
-      cone_plane : (g : ℕ) → In g made → IsConePlane (apex_of pts fs made) wedge (plane_at ps g)
-      cone_plane g i = let p = planes_of g i in let h = above g f (lives g i) (lives f n) in record {
-        b = from_of g;
-        c = to_of g;
-        triangle = made_plane fan g p i;
-        from_below = rw (p.1 (from_of f)) h.0;
-        to_below = rw (p.1 (to_of f)) h.1;
+  read_wedge live above planes fan f n =
+      let wedge : Wedge = record { facet = f; plane = plane_at ps f; from = from_of f; to = to_of f } in
+      let lives = All-In (IsLive fs) made in let plane_of = All-In (IsPlaneOf pts fs ps) made in record {
+        named = n;
+        plane = refl;
+        triangle = made_plane fan f (plane_of f planes n) n;
+        below = All-of (λ g. IsConePlane (apex_of pts fs made) wedge (plane_at ps g)) made (λ g i.
+            let p = plane_of g planes i in let h = above g f (lives g live i) (lives f live n) in record {
+              b = from_of g;
+              c = to_of g;
+              triangle = made_plane fan g p i;
+              from_below = rw (p.1 (from_of f)) h.0;
+              to_below = rw (p.1 (to_of f)) h.1;
+            });
       }
 
 -- what holds of each wedge, and of one more
@@ -124,35 +115,22 @@ pub among : {a p : Vector} {ws : List Wedge} (i : ℕ) (v w : Wedge) (half : Pla
     → v ≡ wedge_at ws 0 → w ≡ wedge_at ws i → AreTriangles a ws → ((q : Vector) → height half q ≡ vol a v.from p q)
     → height w.plane v.from <ℤ pos 0 → height w.plane p ≤ℤ pos 0
     → pos 0 ≤ℤ height half w.from → height half w.to ≤ℤ pos 0 → IsAmongRays a ws p
-among {a} {p} {ws} i v w half l ev ew t h s u f g = record { place = i; within = l; between = rw (← ev, ← ew) own }
-  where
-    triangle : (q : Vector) → height w.plane q ≡ vol a w.from w.to q
-    triangle = rw ew (t i l)
-
-    own : IsBetweenRays a v.from w.from w.to p
-    own = record {
+among {a} {p} {ws} i v w half l ev ew t h s u f g =
+    let triangle : (q : Vector) → height w.plane q ≡ vol a w.from w.to q = rw ew (t i l) in
+    let own : IsBetweenRays a v.from w.from w.to p = record {
       spans = rw (← rest_turn a w.from w.to v.from, ← triangle v.from) s;
       after_y = rw (← triangle p) u;
       after_z = rw (← rest_turn a v.from p w.to, ← h w.to) g;
       after_x = let e = h w.from in let d = vol-swap_last a v.from w.from p in omega (arith, ints);
-    }
+    } in
+    record { place = i; within = l; between = rw (← ev, ← ew) own }
 
 -- a point among rays is above none of the facets
 pub among_unseen : {ps : List PlaneValue} {made : List ℕ} {a p : Vector} {ws : List Wedge} → AreWedges ps made a ws
     → IsAmongRays a ws p → IsAboveNone ps made p
 among_unseen {ps} {made} {a} {p} {ws} k r j d l =
-    rw (own.triangle p) (between_rays a x y z own.b own.c p r.between.spans r.between.after_y r.between.after_z r.between.after_x
+    let own = (k r.place r.within).below j d l in let b = r.between in
+    let x = (wedge_at ws 0).from in let y = (wedge_at ws r.place).from in let z = (wedge_at ws r.place).to in
+    rw (own.triangle p) (between_rays a x y z own.b own.c p b.spans b.after_y b.after_z b.after_x
     (rw (← own.triangle x) ((k 0 (let h = r.within in omega arith)).below j d l).from_below)
     (rw (← own.triangle y) own.from_below) (rw (← own.triangle z) own.to_below))
-  where
-    x : Vector
-    x = (wedge_at ws 0).from
-
-    y : Vector
-    y = (wedge_at ws r.place).from
-
-    z : Vector
-    z = (wedge_at ws r.place).to
-
-    own : IsConePlane a (wedge_at ws r.place) (plane_at ps (slice_index_or made j d))
-    own = (k r.place r.within).below j d l

@@ -1,22 +1,17 @@
 -- From facets that were made to the next round, and from the last round to a finished surface.
-use Rattle.std.proofs.Common.{All, ◌≡◌, ℕ, ◌<◌, ◌≤◌, sym, ◌∙◌, refl, inl, inr, List, [], ◌∷◌, length, subst}
-use Rattle.std.specs.Prelude.{pos, ◌<ℤ◌}
+use Rattle.std.proofs.Common.{All, ◌≡◌, ℕ, ◌<◌, ◌≤◌, sym, ◌∙◌, refl, inl, inr, List, [], ◌∷◌, length, subst, pos, ◌<ℤ◌}
 use Rattle.qh_model.specs.headline.Vector.{Vector, origin}
 use Rattle.qh_model.specs.headline.Predicates.{place}
-use Rattle.qh_model.specs.headline.Sets.{In, Members}
+use Rattle.qh_model.specs.headline.Sets.{In}
 use Rattle.qh_model.specs.contract.FinishedSurface.{IsFinished}
-use Rattle.qh_model.specs.contract.Surface.{IsCorner}
-use Rattle.qh_model.specs.contract.StoredSurface.{StoredFacet, facet_at, surface_of}
-use Rattle.qh_model.specs.headline.SupportingPlane.{IsSupportingTriple}
+use Rattle.qh_model.specs.contract.StoredSurface.{StoredFacet, surface_of}
 use Rattle.qh_model.specs.contract.ClosedSurface.{signed_volume, triples_from}
 use Rattle.std.specs.List.{range_with_len}
 use Rattle.qh_model.proofs.lists.Ranges.{range_has, range_below}
 use Rattle.qh_model.proofs.algebra.Signs.{less_one_way}
-use Rattle.qh_model.proofs.surfaces.Finished.{facets_support}
 use Rattle.qh_pred.specs.contract.Planes.{PlaneValue}
-use Rattle.qh_mesh.specs.contract.Replacement.{IsLive}
 use Rattle.qh_mesh.specs.contract.SoundMesh.{IsClosedMesh}
-use Rattle.qh_mesh.proofs.Rewiring.{live_in, in_live}
+use Rattle.qh_mesh.proofs.Rewiring.{live_in}
 use Rattle.qh_block.specs.steps.Planes.{ArePlanes}
 use Rattle.qh_block.specs.steps.OutsideSets.{OutsideValue, set_of}
 use Rattle.qh_block.specs.steps.Runs.{IsDone, IsGrown, IsUnderWay, IsSettling, IsRemade}
@@ -64,17 +59,10 @@ finished pts fs k d = record {
   sound = k.sound.1;
   some = (some_facet (place pts) fs k.closed).0;
   some_live = (some_facet (place pts) fs k.closed).1;
-  corners = λ f i l c. range_has (length pts) l (corner f l (k.corners f (live_in fs f i)) c);
+  corners = λ f i l c. range_has (length pts) l (let h = k.corners f (live_in fs f i) in elim c [
+    | inl e ↦ rw e h.0
+    | inr (inl e) ↦ rw e h.1
+    | inr (inr e) ↦ rw e h.2
+  ]);
   unseen = λ f i l m. d l (range_below (length pts) l m) f (live_in fs f i);
 }
-  where
-    corner : (f l : ℕ) → ((facet_at fs f).i < length pts) × ((facet_at fs f).j < length pts) × ((facet_at fs f).k < length pts)
-        → IsCorner (surface_of fs) f l → l < length pts
-    corner f l h (inl e) = rw e h.0
-    corner f l h (inr (inl e)) = rw e h.1
-    corner f l h (inr (inr e)) = rw e h.2
-
--- and its facets support the set
-pub supporting : (pts : List Vector) (ids : List ℕ) (fs : List StoredFacet) → IsFinished (place pts) ids (surface_of fs)
-    → (f : ℕ) → IsLive fs f → IsSupportingTriple (place pts) (Members ids) (facet_at fs f).i (facet_at fs f).j (facet_at fs f).k
-supporting pts ids fs h f l = facets_support (place pts) ids (surface_of fs) h f (in_live fs f l)

@@ -1,6 +1,6 @@
 -- How a run starts: the facets of a simplex, and every position an orphan.
-use Rattle.std.proofs.Common.{All, ◌≡◌, ◌≢◌, ℕ, zero, suc, ◌<◌, arith, sym, refl, inl, inr, List, [], ◌∷◌, length, subst}
-use Rattle.std.specs.Prelude.{slice_index_or, pos, ◌<ℤ◌, ◌≤ℤ◌}
+use Rattle.std.proofs.Common.{All, ◌≡◌, ◌≢◌, ℕ, zero, suc, ◌<◌, arith, sym, refl, inl, inr, List, [], ◌∷◌, length, subst, slice_index_or}
+use Rattle.std.proofs.Common.{pos, ◌<ℤ◌, ◌≤ℤ◌}
 use Rattle.std.specs.List.{range_with_len}
 use Rattle.std.proofs.lemmas.List.Elements.{All-from_recursion, All-nil}
 use Rattle.std.proofs.lemmas.Int.{ints, by_lt_z}
@@ -40,10 +40,6 @@ simplex_facet n a b c d ia ib ic id (suc zero) l = (inr (inl refl), (ia, id, ib)
 simplex_facet n a b c d ia ib ic id (suc (suc zero)) l = (inr (inr (inl refl)), (ia, ic, id))
 simplex_facet n a b c d ia ib ic id (suc (suc (suc zero))) l = (inr (inr (inr (inl refl))), (ib, id, ic))
 simplex_facet n a b c d ia ib ic id (suc (suc (suc (suc f)))) l = absurd (cc)
-
--- and the four are live
-four_live : (a b c d : ℕ) → All (IsLive (simplex_facets a b c d)) four_facets
-four_live a b c d = All-from_recursion (IsLive (simplex_facets a b c d)) four_facets (refl, (refl, (refl, (refl, tt))))
 
 -- the mesh of a simplex of four points
 pub record IsFirst (pts : List Vector) (fs : List StoredFacet) (i j k l : ℕ) : Type 0 where
@@ -86,7 +82,7 @@ module _ {pts : List Vector} {fs : List StoredFacet} {i j k l : ℕ} (h : IsFirs
       corners = λ f m. (rw is (facet f (rw is at m)).1);
     };
     named = λ f m. (facet f (rw is at m)).0;
-    live = rw is (four_live a b c d);
+    live = rw is (All-from_recursion (IsLive (simplex_facets a b c d)) four_facets (refl, (refl, (refl, (refl, tt)))));
   }
     where
       facet : (f : ℕ) → IsLive (simplex_facets a b c d) f → In f four_facets × CornersBelow (length pts) (simplex_facets a b c d) f
@@ -124,18 +120,14 @@ first_remade pts fs v i j k l h p o s = record {
     nothing f q m = subst (λ (xs : List (List ℕ)). In q (slice_index_or xs f [])) s m
 
 -- ---- the shape
--- the first id that a property does not hold of is one of the ids
-pub first_not_in : (P : ℕ → Type 0) (ids : List ℕ) (k : ℕ) → IsFirstNot P ids k → In k ids
-first_not_in P ids k h = subst (λ (x : ℕ). In x ids) h.is (In-get_or ids h.at 0 h.within)
-
 -- the first ids that are not in a line and not in a plane are a simplex
 pub simplex_is : (pts : List Vector) (ids : List ℕ) (i j k l : ℕ) → AreFirstTwo ids i j → IsFirstNot (IsInLine pts i j) ids k
     → IsFirstNot (IsInPlane pts i j k) ids l → IsSimplexOf pts ids (record { i = i; j = j; k = k; l = l })
 simplex_is pts ids i j k l two line plane = record {
   has_i = (first_two_in ids i j two).0;
   has_j = (first_two_in ids i j two).1;
-  has_k = first_not_in (IsInLine pts i j) ids k line;
-  has_l = first_not_in (IsInPlane pts i j k) ids l plane;
+  has_k = subst (λ (x : ℕ). In x ids) line.is (In-get_or ids line.at 0 line.within);
+  has_l = subst (λ (x : ℕ). In x ids) plane.is (In-get_or ids plane.at 0 plane.within);
   volume = plane.not;
 }
 

@@ -1,6 +1,6 @@
 -- Ids of a run in another order, and by their positions.
-use Rattle.std.proofs.Common.{◌≡◌, ◌∙◌, ℕ, ◌<◌, List, [], ◌∷◌, length, map, ap}
-use Rattle.std.proofs.Common.{sym, subst, refl, inl, inr, false, arith, eqb, eq-eqb, slice_index, IsPermutation}
+use Rattle.std.proofs.Common.{◌≡◌, ◌∙◌, ℕ, ◌<◌, List, [], ◌∷◌, length, map, ap, sym, subst, refl, inl, inr, false, arith, eqb, eq-eqb}
+use Rattle.std.proofs.Common.{slice_index, IsPermutation}
 use Rattle.std.specs.List.{IsDistinct, range_with_len}
 use Rattle.std.proofs.lemmas.Bool.Decides.{nat_tests}
 use Rattle.std.proofs.lemmas.List.{get_or-map, get_or_default, length-map}
@@ -84,16 +84,13 @@ pub simplex_in : (pts points : List Vector) (ids : List ℕ) (of s : Simplex) �
     → IsSimplexOf pts ids of → IsSimplexIn points s
 unfolding place
 simplex_in pts points ids of s is at h = record {
-  i_in = inside s.i at.i_is.0;
-  j_in = inside s.j at.j_is.0;
-  k_in = inside s.k at.k_is.0;
-  l_in = inside s.l at.l_is.0;
+  i_in = rw (is, length-map) at.i_is.0;
+  j_in = rw (is, length-map) at.j_is.0;
+  k_in = rw (is, length-map) at.k_is.0;
+  l_in = rw (is, length-map) at.l_is.0;
   volume = λ e. h.volume (sym (λ n. vol (same at.i_is n) (same at.j_is n) (same at.k_is n) (same at.l_is n)) ∙ e);
 }
   where
-    inside : (p : ℕ) → p < length ids → p < length points
-    inside p l = rw (is, length-map) l
-
     same : {p i : ℕ} → IsPositionOf ids i p → place points p ≡ place pts i
     same {p} q = ap (λ (xs : List Vector). place xs p) is ∙ get_or-map (place pts) ids p 0 origin q.0 ∙ ap (place pts) q.1
 

@@ -1,9 +1,8 @@
 -- The next apex: facets without an outside set are passed over, and the first point of a set is taken out of it.
-use Rattle.std.proofs.Common.{◌≡◌, ℕ, ◌<◌, arith, ap, sym, ◌∙◌, refl, ◌⊎◌, ⊎_elim, inl, inr, Some, List, [], ◌∷◌, ◌++◌, All}
-use Rattle.std.proofs.Common.{length, drop, subst}
-use Rattle.std.specs.Prelude.{slice_set}
+use Rattle.std.proofs.Common.{◌≡◌, ℕ, ◌<◌, arith, ap, sym, ◌∙◌, refl, ◌⊎◌, ⊎_elim, inl, inr, Some, List, [], ◌∷◌, ◌++◌, All, length, drop}
+use Rattle.std.proofs.Common.{subst, slice_set, length-set}
 use Rattle.std.proofs.lemmas.Grind.{common_steps}
-use Rattle.std.proofs.lemmas.List.{set-get_or, length-set}
+use Rattle.std.proofs.lemmas.List.{set-get_or}
 use Rattle.qh_model.specs.headline.Vector.{Vector}
 use Rattle.qh_model.specs.headline.Sets.{In}
 use Rattle.qh_model.specs.contract.StoredSurface.{StoredFacet}
@@ -24,10 +23,9 @@ taken_is v w f p o s i = record { positions = p i; orphans = o i; sets = s i }
 
 -- to take the first of an empty set changes nothing
 pub none_taken : (v : OutsideValue) (f : ℕ) → set_of v f ≡ [] → taken v f ≡ v
-none_taken v f e i = record { positions = v.positions; orphans = v.orphans; sets = same i }
-  where
-    same : slice_set v.sets f (drop 1 (set_of v f)) ≡ v.sets
-    same = ap (λ (xs : List ℕ). slice_set v.sets f (drop 1 xs)) e ∙ ap (slice_set v.sets f) (sym e) ∙ set-get_or v.sets f []
+none_taken v f e =
+    let same = ap (λ (xs : List ℕ). slice_set v.sets f (drop 1 xs)) e ∙ ap (slice_set v.sets f) (sym e) ∙ set-get_or v.sets f [] in
+    λ i. record { positions = v.positions; orphans = v.orphans; sets = same i }
 
 module _ {pts : List Vector} {fs : List StoredFacet} {ps : List PlaneValue} {v : OutsideValue} {pending : List ℕ}
     (k : IsUnderWay pts fs ps v pending) (rest : List ℕ) (f : ℕ) (is : pending ≡ rest ++ f ∷ []) where
@@ -58,8 +56,8 @@ module _ {pts : List Vector} {fs : List StoredFacet} {ps : List PlaneValue} {v :
     grown = k.grown;
     planes = k.planes;
     positions = k.positions;
-    places = let n = length-set v.sets f others in let h = k.places in omega arith;
-    range = rw (length-set v.sets f others) range.0;
+    places = let n = length-set v.sets f (drop 1 (set_of v f)) in let h = k.places in omega arith;
+    range = rw (length-set v.sets f (drop 1 (set_of v f))) range.0;
     outside = λ g q i. k.outside g q (was g q i);
     none = k.none;
     waits = λ g q i. waits g q (was g q i);
@@ -69,14 +67,11 @@ module _ {pts : List Vector} {fs : List StoredFacet} {ps : List PlaneValue} {v :
     seen = (k.outside f a first).1;
   }
     where
-      others : List ℕ
-      others = drop 1 (set_of v f)
-
       first : In a (set_of v f)
       first = subst (In a) (sym e) (inl refl)
 
       was : (g q : ℕ) → In q (set_of (taken v f) g) → In q (set_of v g)
-      was g q i = let h = of_write v.sets f others g q i in grind (arith, h, e)
+      was g q i = let h = of_write v.sets f (drop 1 (set_of v f)) g q i in grind (arith, h, e)
 
       still : (g q : ℕ) → In q (set_of v g) → IsOutside (taken v f) q ⊎ (q ≡ a)
       still g q i =

@@ -1,8 +1,8 @@
 -- The planes of facets that were made, written one after the other.
-use Rattle.std.proofs.Common.{drop, slice_index, ◌≡◌, ℕ, ◌+◌, ◌<◌, ◌≤◌, arith, ◌⊎◌, inl, inr, List, length}
-use Rattle.std.specs.Prelude.{slice_set}
+use Rattle.std.proofs.Common.{drop, slice_index, ◌≡◌, ℕ, ◌+◌, ◌<◌, ◌≤◌, arith, ◌⊎◌, inl, inr, List, length, slice_set, get_or-set_same}
+use Rattle.std.proofs.Common.{get_or-set_other, length-set}
 use Rattle.std.proofs.lemmas.Bool.{cases_eq}
-use Rattle.std.proofs.lemmas.List.{drop_all, drop_more, get_or-set_same, get_or-set_other, length-set}
+use Rattle.std.proofs.lemmas.List.{drop_all, drop_more}
 use Rattle.qh_model.specs.headline.Vector.{Vector}
 use Rattle.qh_model.specs.headline.Sets.{In}
 use Rattle.qh_model.specs.headline.Predicates.{place}
@@ -21,7 +21,7 @@ pub record AreRenewed (pts : List Vector) (fs : List StoredFacet) (old : List Pl
 module _ {pts : List Vector} {fs : List StoredFacet} {old : List PlaneValue} {made : List ℕ} where
   -- none is written
   pub none_renewed : AreRenewed pts fs old made 0 old
-  none_renewed = record { is = λ f l h. elim h [ inl p ↦ inl p | inr n ↦ inr n ] }
+  none_renewed = record { is = λ f l h. h }
 
   -- one more
   pub more_renewed : {ps : List PlaneValue} {i : ℕ} (plane : PlaneValue) → i < length made → slice_index made i < length ps

@@ -1,6 +1,5 @@
 -- A round of Quickhull: where a cone replaces what the apex sees, the released points are all that must be looked at.
-use Rattle.std.proofs.Common.{All, ◌≡◌, ℕ, ◌<◌, arith, ap, sym, ◌∙◌, true, ◌⊎◌, inl, inr, List, length, get_or, subst}
-use Rattle.std.specs.Prelude.{pos, ◌<ℤ◌, ◌≤ℤ◌}
+use Rattle.std.proofs.Common.{All, ◌≡◌, ℕ, ◌<◌, arith, ap, sym, ◌∙◌, true, inl, inr, List, length, get_or, subst, pos, ◌<ℤ◌, ◌≤ℤ◌}
 use Rattle.std.proofs.lemmas.List.{get_or_read}
 use Rattle.std.proofs.lemmas.Bool.{cases_Bool}
 use Rattle.qh_model.specs.headline.Vector.{Vector, origin}
@@ -8,12 +7,12 @@ use Rattle.qh_model.specs.headline.Predicates.{vol, place}
 use Rattle.qh_model.specs.headline.Sets.{In}
 use Rattle.qh_model.specs.contract.Weighted.{Weighted, above}
 use Rattle.qh_model.specs.contract.FinishedSurface.{weighted_at, middle_at}
-use Rattle.qh_model.specs.contract.Surface.{Surface, Side, start, end, IsBlindTo}
+use Rattle.qh_model.specs.contract.Surface.{Surface, Side, start, end}
 use Rattle.qh_model.specs.contract.Surface.Side.{first, second, third}
-use Rattle.qh_model.specs.contract.Rewired.{IsHorizonSide, IsTriangle, IsRewired}
+use Rattle.qh_model.specs.contract.Rewired.{IsTriangle, IsRewired}
 use Rattle.qh_model.specs.laws.Horizons.{IsConeUnseen}
 use Rattle.qh_model.specs.laws.UnseenPoints.{IsUnseen}
-use Rattle.qh_model.specs.contract.StoredSurface.{StoredFacet, facet_at, surface_of}
+use Rattle.qh_model.specs.contract.StoredSurface.{StoredFacet, surface_of}
 use Rattle.std.proofs.lemmas.List.Elements.{All-from_get_or}
 use Rattle.qh_model.proofs.Members.{All-In}
 use Rattle.qh_model.proofs.surfaces.SurfaceLaws.{rise_is_vol, settled_stay_unseen, corners_are_settled, added_is_settled}
@@ -25,15 +24,12 @@ use Rattle.qh_mesh.specs.contract.SoundMesh.{facet_vol, IsSoundMesh, IsClosedMes
 use Rattle.qh_mesh.proofs.ListedFacets.{in_listed, listed_in}
 use Rattle.qh_mesh.proofs.Rewiring.{live_in, in_live, rise-vol}
 use Rattle.qh_block.specs.steps.OutsideSets.{OutsideValue, set_of}
-use Rattle.qh_block.specs.steps.Runs.{height_at, IsDone, IsOutside, HasCornersBelow, IsPicked, IsRemade}
+use Rattle.qh_block.specs.steps.Runs.{height_at, IsDone, HasCornersBelow, IsPicked, IsRemade}
 use Rattle.qh_block.specs.steps.Settling.{AreReleased}
 use Rattle.qh_block.proofs.LiveFacets.{live_below}
 
 -- a point that no facet of the surface sees
 module _ (pts : List Vector) (fs : List StoredFacet) (p : ℕ) where
-  unseen_of : IsDone pts fs p → IsUnseen (surface_of fs) (weighted_at (place pts)) (weighted_at (place pts) p)
-  unseen_of d f i = rw (rise-vol (place pts) fs f p) (d f (live_in fs f i))
-
   done_of : IsUnseen (surface_of fs) (weighted_at (place pts)) (weighted_at (place pts) p) → IsDone pts fs p
   done_of u f l = rw (rise-vol (place pts) fs f p) at (u f (in_live fs f l))
 
@@ -64,59 +60,47 @@ module _ {pts : List Vector} {old new : List StoredFacet} {vs made : List ℕ} {
 
   -- the corners of the new facets are below n
   corners_stay : (n : ℕ) → HasCornersBelow n old → a < n → HasCornersBelow n new
-  corners_stay n c l f h = by (d.rewired.only f (in_live new f h))
+  corners_stay n c l f h = elim (d.rewired.only f (in_live new f h)) [
+    | inl x ↦ let k = d.rewired.kept f x.0 x.1 in let o = c f (live_in old f x.0) in (rw k.i_is o.0, rw k.j_is o.1, rw k.k_is o.2)
+    | inr x ↦ let t = d.rewired.cone x.0 x.1 x.2 in let o = ends x.0 x.1 (live_in old x.0 x.2.live) in
+        (rw (ap m'.i x.3 ∙ t.i_is) o.0, rw (ap m'.j x.3 ∙ t.j_is) o.1, rw (ap m'.k x.3 ∙ t.k_is) l)
+  ]
     where
       ends : (g : ℕ) (s : Side) → IsLive old g → (start m g s < n) × (end m g s < n)
       ends g s i = let o = c g i in
           elim s as (λ s. (start m g s < n) × (end m g s < n)) [ first ↦ (o.0, o.1) | second ↦ (o.1, o.2) | third ↦ (o.2, o.0) ]
 
-      by : (In f m.live × IsBlindTo m home f (home a))
-          ⊎ ((g : ℕ) × (s : Side) × IsHorizonSide m home (home a) g s × (f ≡ d.rewired.number g s))
-          → ((facet_at new f).i < n) × ((facet_at new f).j < n) × ((facet_at new f).k < n)
-      by (inl (i, b)) = let k = d.rewired.kept f i b in let o = c f (live_in old f i) in (rw k.i_is o.0, rw k.j_is o.1, rw k.k_is o.2)
-      by (inr (g, s, i, e)) = let t = d.rewired.cone g s i in let o = ends g s (live_in old g i.live) in
-          (rw (ap m'.i e ∙ t.i_is) o.0, rw (ap m'.j e ∙ t.j_is) o.1, rw (ap m'.k e ∙ t.k_is) l)
-
   -- around a point in the old mesh
   module _ {o : Weighted} (z : IsSoundMesh (place pts) old o) where
     -- the cone is made of the facets that were made
     cone_unseen : (q : ℕ) → All (λ f. height_at pts new f q ≤ℤ pos 0) made → IsConeUnseen m home (home a) (home q)
-    cone_unseen q h f i s k b = subst (λ v. v ≤ℤ pos 0) (sym same) (by (d.replaced.only g (live_in new g t.live)))
-      where
-        g : ℕ
-        g = d.rewired.number f s
-
-        t : IsTriangle m' (d.rewired.number f s) (start m f s) (end m f s) a
-        t = d.rewired.cone f s (record { live = i; seen = k; blind = b })
-
-        same : above (home (start m f s)) (home (end m f s)) (home a) (home q) ≡ facet_vol at new (d.rewired.number f s) (at q)
-        same =
-            rise_is_vol (at (start m f s)) (at (end m f s)) (at a) (at q)
-            ∙ sym (λ n. vol (at (t.i_is n)) (at (t.j_is n)) (at (t.k_is n)) (at q))
-
-        by : IsKept old vs (d.rewired.number f s) ⊎ In (d.rewired.number f s) made → facet_vol at new (d.rewired.number f s) (at q) ≤ℤ pos 0
-        by (inl x) =
-            let c = inr (inr (sym t.k_is ∙ (d.replaced.kept g x).k_is)) in let r = d.rewired in
-            absurd (not_less _ _ r.seen (corners_are_settled m home o z.1 r.f0 g r.live (in_live old g x.live) a c))
-        by (inr x) = All-In (λ f. height_at pts new f q ≤ℤ pos 0) made g h x
+    cone_unseen q h f i s k b =
+        let r = d.rewired in let g = r.number f s in
+        let t : IsTriangle m' g (start m f s) (end m f s) a = r.cone f s (record { live = i; seen = k; blind = b }) in
+        let same : above (home (start m f s)) (home (end m f s)) (home a) (home q) ≡ facet_vol at new g (at q) =
+        rise_is_vol (at (start m f s)) (at (end m f s)) (at a) (at q)
+        ∙ sym (λ n. vol (at (t.i_is n)) (at (t.j_is n)) (at (t.k_is n)) (at q)) in
+        subst (λ v. v ≤ℤ pos 0) (sym same) (elim (d.replaced.only g (live_in new g t.live)) [
+          | inl x ↦ let c = inr (inr (sym t.k_is ∙ (d.replaced.kept g x).k_is)) in
+              absurd (not_less _ _ r.seen (corners_are_settled m home o z.1 r.f0 g r.live (in_live old g x.live) a c))
+          | inr x ↦ All-In (λ f. height_at pts new f q ≤ℤ pos 0) made g h x
+        ])
 
     -- a point that no facet saw is seen by none
     still_done : (p : ℕ) → IsDone pts old p → IsDone pts new p
-    still_done p x = done_of pts new p (settled_stay_unseen m m' home o a z.0 z.1 d.rewired (home p) (unseen_of pts old p x))
+    still_done p x = done_of pts new p (settled_stay_unseen m m' home o a z.0 z.1 d.rewired (home p)
+        (λ f i. rw (rise-vol at old f p) (x f (live_in old f i))))
 
     -- nor is one that saw a facet that went and sees none that was made
     drop_done : (p g : ℕ) → IsLive old g → is_listed vs g ≡ true → pos 0 <ℤ height_at pts old g p
         → All (λ f. height_at pts new f p ≤ℤ pos 0) made → IsDone pts new p
-    drop_done p g l e s h f b = by (d.replaced.only f b)
-      where
-        blind : (f : ℕ) → IsKept old vs f → height_at pts old f p ≤ℤ pos 0
-        blind f k = rw (rise-vol at old f p) at (dropped_stay_unseen m home o z.0 z.1 (home a) (home p) g (in_live old g l)
-            (rw (rise-vol at old g a) (d.visible.seen g l e)) (rw (rise-vol at old g p) s) (cone_unseen p h)
-            f (in_live old f k.live) (rw (rise-vol at old f a) (d.visible.unseen f k.live k.unlisted)))
-
-        by : IsKept old vs f ⊎ In f made → height_at pts new f p ≤ℤ pos 0
-        by (inl k) = rw (stays-vol f (at p) k) (blind f k)
-        by (inr i) = All-In (λ f. height_at pts new f p ≤ℤ pos 0) made f h i
+    drop_done p g l e s h f b = elim (d.replaced.only f b) [
+      | inl k ↦ rw (stays-vol f (at p) k)
+          (rw (rise-vol at old f p) at (dropped_stay_unseen m home o z.0 z.1 (home a) (home p) g (in_live old g l)
+          (rw (rise-vol at old g a) (d.visible.seen g l e)) (rw (rise-vol at old g p) s) (cone_unseen p h)
+          f (in_live old f k.live) (rw (rise-vol at old f a) (d.visible.unseen f k.live k.unlisted))))
+      | inr i ↦ All-In (λ f. height_at pts new f p ≤ℤ pos 0) made f h i
+    ]
 
 -- then the points that were released are all that must be looked at
 pub remade : {pts : List Vector} {old new : List StoredFacet} {ps : List PlaneValue} {v w : OutsideValue}
@@ -151,7 +135,12 @@ remade {pts} {old} {new} {ps} {v} {w} {pending} {vs} {made} {f} {a} k d rel e n 
     outside = λ g p i. let h = stays g p i in
         ((d.replaced.kept g h).live, rw (stays-vol d g (place pts p) h) (k.outside g p (rel.kept g p i)).1);
     waits = λ g p i. elim (k.waits g p (rel.kept g p i)) [ inl h ↦ inl h | inr h ↦ absurd (other g p i h) ];
-    all = λ p l. all p (k.all p l);
+    all = λ p l. elim (k.all p l) [
+      | inl o ↦ elim (rel.moved o.0 p o.1) [ inl h ↦ inr (inl (o.0, h)) | inr h ↦ inl h ]
+      | inr (inl h) ↦ inr (inr (still_done d k.grown.sound p h))
+      | inr (inr h) ↦ inr (inr (rw h
+          (done_of pts new a (added_is_settled (surface_of old) (surface_of new) (weighted_at (place pts)) a d.rewired))))
+    ];
     drops = λ p i u. elim (rel.orphans p i) [
       | inl h ↦ absurd (subst (In p) k.none h)
       | inr h ↦ let b = k.outside h.0 p h.2 in drop_done d k.grown.sound p h.0 b.0 (in_listed vs h.0 h.1) b.1 u
@@ -169,12 +158,6 @@ remade {pts} {old} {new} {ps} {v} {w} {pending} {vs} {made} {f} {a} k d rel e n 
     -- and is not the one whose turn it was
     other : (g p : ℕ) → In p (set_of w g) → g ≡ f → ⊥
     other g p i h = not_less _ _ k.seen (d.visible.unseen f k.live (ap (is_listed vs) (sym h) ∙ (stays g p i).unlisted))
-
-    all : (p : ℕ) → IsOutside v p ⊎ IsDone pts old p ⊎ (p ≡ a) → In p w.orphans ⊎ IsOutside w p ⊎ IsDone pts new p
-    all p (inl (g, i)) = elim (rel.moved g p i) [ inl h ↦ inr (inl (g, h)) | inr h ↦ inl h ]
-    all p (inr (inl h)) = inr (inr (still_done d k.grown.sound p h))
-    all p (inr (inr h)) = inr (inr (rw h
-        (done_of pts new a (added_is_settled (surface_of old) (surface_of new) (weighted_at (place pts)) a d.rewired))))
 
 -- the point at a position, read from the list
 pub read_point : (pts : List Vector) (a : ℕ) (point : Vector) → a < length pts → point ≡ get_or pts a point → point ≡ place pts a

@@ -1,9 +1,9 @@
 -- Members of outside sets after one of them is written.
 use Rattle.std.proofs.Common.{◌≡◌, ℕ, ◌<◌, arith, refl, Bool, true, false, ◌⊎◌, inl, inr, List, [], ◌∷◌, ◌++◌, length, get_or, replicate}
-use Rattle.std.proofs.Math.ListN.{set}
+use Rattle.std.proofs.Common.{set, get_or-set_same, get_or-set_other}
 use Rattle.std.proofs.lemmas.Bool.{cases_eq}
 use Rattle.std.proofs.lemmas.Grind.{common_steps}
-use Rattle.std.proofs.lemmas.List.{get_or-set_same, get_or-set_other, set_past, get_or_past}
+use Rattle.std.proofs.lemmas.List.{set_past, get_or_past}
 use Rattle.qh_model.specs.headline.Sets.{In}
 use Rattle.qh_block.specs.steps.OutsideSets.{joined}
 
@@ -27,15 +27,10 @@ of_joined b p q [] i = grind (arith, i)
 of_joined true p q (x ∷ xs) i = grind (arith, i)
 of_joined false p q (x ∷ xs) i = grind (arith, i)
 
-joined_has : (b : Bool) (p : ℕ) (xs : List ℕ) → In p (joined b p xs)
-joined_has b p [] = inl refl
-joined_has true p (x ∷ xs) = inl refl
-joined_has false p (x ∷ xs) = inr (inl refl)
-
-joined_keeps : (b : Bool) (p q : ℕ) (xs : List ℕ) → In q xs → In q (joined b p xs)
-joined_keeps b p q [] i = absurd i
-joined_keeps true p q (x ∷ xs) i = inr i
-joined_keeps false p q (x ∷ xs) i = grind (arith, i)
+joined_has : (b : Bool) (p q : ℕ) (xs : List ℕ) → (q ≡ p) ⊎ In q xs → In q (joined b p xs)
+joined_has b p q [] i = i
+joined_has true p q (x ∷ xs) i = i
+joined_has false p q (x ∷ xs) i = grind (arith, i)
 
 -- what a set has after a position joined one: that position, or what it had
 pub of_join : (xs : List (List ℕ)) (f : ℕ) (b : Bool) (p g q : ℕ)
@@ -46,12 +41,12 @@ of_join xs f b p g q i = elim (of_write xs f (joined b p (get_or xs f [])) g q i
 ]
 
 pub join_has : (xs : List (List ℕ)) (f : ℕ) (b : Bool) (p : ℕ) → f < length xs → In p (get_or (set xs f (joined b p (get_or xs f []))) f [])
-join_has xs f b p l = rw (get_or-set_same xs f (joined b p (get_or xs f [])) [] l) (joined_has b p (get_or xs f []))
+join_has xs f b p l = rw (get_or-set_same xs f (joined b p (get_or xs f [])) [] l) (joined_has b p p (get_or xs f []) (inl refl))
 
 pub join_keeps : (xs : List (List ℕ)) (f : ℕ) (b : Bool) (p g q : ℕ) → f < length xs → In q (get_or xs g [])
     → In q (get_or (set xs f (joined b p (get_or xs f []))) g [])
 join_keeps xs f b p g q l i = elim (cases_eq g f) [
-  | inl e ↦ rw (e, get_or-set_same xs f (joined b p (get_or xs f [])) [] l) (joined_keeps b p q (get_or xs f []) (rw e at i))
+  | inl e ↦ rw (e, get_or-set_same xs f (joined b p (get_or xs f [])) [] l) (joined_has b p q (get_or xs f []) (inr (rw e at i)))
   | inr n ↦ write_keeps xs f (joined b p (get_or xs f [])) g q n i
 ]
 

@@ -1,6 +1,6 @@
 -- How orphans are released and settled.
-use Rattle.std.proofs.Common.{All, ◌≡◌, ℕ, ◌<◌, ap, sym, refl, ◌⊎◌, inl, inr, List, [], ◌∷◌, ◌++◌, length, drop, subst}
-use Rattle.std.specs.Prelude.{slice_set, slice_index, slice_index_or, pos, ◌<ℤ◌}
+use Rattle.std.proofs.Common.{All, ◌≡◌, ℕ, ◌<◌, ap, sym, refl, ◌⊎◌, inl, inr, List, [], ◌∷◌, ◌++◌, length, drop, subst, slice_set}
+use Rattle.std.proofs.Common.{slice_index, slice_index_or, pos, ◌<ℤ◌}
 use Rattle.std.proofs.lemmas.Bool.{cases_eq}
 use Rattle.qh_model.specs.headline.Vector.{Vector, origin}
 use Rattle.qh_model.specs.headline.Predicates.{place}
@@ -58,8 +58,7 @@ settled_by k held rest still placed = record {
 -- the same sets and orphans, in other values
 pub same_settling : {pts : List Vector} {fs : List StoredFacet} {v w : OutsideValue} {pending made : List ℕ}
     → ((f : ℕ) → set_of w f ≡ set_of v f) → w.orphans ≡ v.orphans → IsSettling pts fs v pending made → IsSettling pts fs w pending made
-same_settling s o k =
-    settled_by k (λ f p i. inl (rw (s f) at i)) (λ p i. rw o at i) (λ f p i. rw (s f) i) (λ p i. inl (rw o i))
+same_settling s o k = settled_by k (λ f p i. inl (rw (s f) at i)) (λ p i. rw o at i) (λ f p i. rw (s f) i) (λ p i. inl (rw o i))
 
 -- the height of a position's point over a live facet, by its plane
 plane_height : (pts : List Vector) (fs : List StoredFacet) (ps : List PlaneValue) (f p : ℕ)

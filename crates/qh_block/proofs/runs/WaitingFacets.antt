@@ -17,8 +17,7 @@ module _ (v : OutsideValue) (old new made : List ℕ) (x : ℕ) where
   more_queued l q = record {
     within = λ h. All-push (λ f. f < length v.sets) new x (q.within h) l;
     kept = λ f n. in_append new (x ∷ []) f (inl (q.kept f n));
-    added = λ f p n i.
-        in_append new (x ∷ []) f (elim (of_append made (x ∷ []) f n) [ inl m ↦ inl (q.added f p m i) | inr e ↦ inr e ]);
+    added = λ f p n i. in_append new (x ∷ []) f (elim (of_append made (x ∷ []) f n) [ inl m ↦ inl (q.added f p m i) | inr e ↦ inr e ]);
   }
 
   -- one without need not be

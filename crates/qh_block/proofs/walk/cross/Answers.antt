@@ -1,6 +1,5 @@
 -- The neighbour joins the walk if it passes and has no mark.
-use Rattle.std.proofs.Common.{◌≡◌, ◌∙◌, ◌<◌, ℕ, ap, sym, subst, arith, set, length, false}
-use Rattle.std.specs.Prelude.{◌||◌, ◌↔◌, IsTrue}
+use Rattle.std.proofs.Common.{◌≡◌, ◌∙◌, ◌<◌, ℕ, ap, sym, subst, arith, set, length, false, ◌||◌, ◌↔◌, IsTrue}
 use Rattle.qh_model.specs.contract.StoredSurface.{surface_of}
 use Rattle.qh_mesh.specs.contract.Edges.{facet_of, nth_side}
 use Rattle.qh_mesh.proofs.Rewiring.{over-twin}

@@ -21,5 +21,4 @@ returns-then-height-lt0 c =
     rw c.wedge_of-wedge.ensures.facet (fan_next c.loop.before.facet c.requires.fan c.next_facet.ensures c.loop.invariant)
 
 pub loop-preserved : goal.loop-preserved
-loop-preserved c =
-    rw c.wedge_of-wedge.ensures.facet (fan_next c.loop.before.facet c.requires.fan c.next_facet.ensures c.loop.invariant)
+loop-preserved c = rw c.wedge_of-wedge.ensures.facet (fan_next c.loop.before.facet c.requires.fan c.next_facet.ensures c.loop.invariant)

@@ -1,6 +1,5 @@
 -- What is found is one of the ids.
-use Rattle.std.proofs.Common.{◌<◌, ◌*◌, ◌/◌, ◌+◌, ℕ, length, arith}
-use Rattle.std.proofs.Math.Nat.{div-mul-le_self, mul-le-mul_right}
+use Rattle.std.proofs.Common.{◌<◌, ◌*◌, ◌/◌, ◌+◌, ℕ, length, arith, div-mul-le_self, mul-le-mul_right}
 use Rattle.qh_model.proofs.Members.{All-In, In-get_or}
 use Rattle.qh_block.proofs.quickhull.far_simplex.furthest.Goals.{then-distance-most, else-distance-most}
 use Rattle.qh_block.proofs.quickhull.far_simplex.furthest.Goals as goal

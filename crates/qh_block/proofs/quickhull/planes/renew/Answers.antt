@@ -1,6 +1,6 @@
 -- One plane more is written.
-use Rattle.std.proofs.Common.{slice_index, ◌≡◌, arith, refl, ◌∙◌}
-use Rattle.std.proofs.lemmas.List.{get_or_read, length-set}
+use Rattle.std.proofs.Common.{slice_index, ◌≡◌, arith, refl, ◌∙◌, length-set}
+use Rattle.std.proofs.lemmas.List.{get_or_read}
 use Rattle.qh_block.proofs.LiveFacets.{live_below}
 use Rattle.qh_block.proofs.runs.RenewedPlanes.{none_renewed, more_renewed, all_renewed}
 use Rattle.qh_block.proofs.quickhull.planes.renew.Goals as goal

@@ -5,7 +5,8 @@ use Rattle.qh_model.proofs.extremes.Dimensions.{dimension_is_unique}
 use Rattle.qh_plane.specs.contract.Shapes.{dimension_of}
 use Rattle.qh_mesh.proofs.SoundMeshes.{finished_is_closed}
 use Rattle.qh_block.proofs.runs.FirstSimplexes.{solid_only}
-use Rattle.qh_block.proofs.runs.FinishedRuns.{supporting}
+use Rattle.qh_model.proofs.surfaces.Finished.{facets_support}
+use Rattle.qh_mesh.proofs.Rewiring.{in_live}
 use Rattle.qh_block.proofs.quickhull.surfaces.surface.Goals as goal
 
 pub unreachable-requires : goal.unreachable-requires
@@ -14,8 +15,7 @@ unreachable-requires c =
     solid_only c.rank.result (dimension_is_unique (place c.args.pts.now) c.args.ids.now dim 3 same c.requires.solid) c.in_default.not-Solid
 
 pub returns-clause-finished : goal.returns-clause-finished
-returns-clause-finished c =
-    rw c.renamed.ensures (c.in_ok-surface.ensures.finished (rising_once c.args.ids.now c.requires.set.rising))
+returns-clause-finished c = rw c.renamed.ensures (c.in_ok-surface.ensures.finished (rising_once c.args.ids.now c.requires.set.rising))
 
 pub returns-clause-closed : goal.returns-clause-closed
 unfolding returns-clause-finished
@@ -23,4 +23,5 @@ returns-clause-closed c = finished_is_closed (place c.args.pts.now) c.args.ids.n
 
 pub returns-clause-supporting : goal.returns-clause-supporting
 unfolding returns-clause-finished
-returns-clause-supporting c = supporting c.args.pts.now c.args.ids.now _ (returns-clause-finished c)
+returns-clause-supporting c = λ f l.
+    facets_support (place c.args.pts.now) c.args.ids.now _ (returns-clause-finished c) f (in_live _ f l)

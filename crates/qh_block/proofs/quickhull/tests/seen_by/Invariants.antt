@@ -1,6 +1,5 @@
 -- The facets to come are live, and those that are listed see the point.
-use Rattle.std.proofs.Common.{ℕ, List, All}
-use Rattle.std.specs.Prelude.{pos, ◌<ℤ◌}
+use Rattle.std.proofs.Common.{ℕ, List, All, pos, ◌<ℤ◌}
 use Rattle.qh_mesh.specs.contract.Replacement.{IsLive}
 use Rattle.qh_model.specs.headline.Vector.{Vector}
 use Rattle.qh_model.specs.contract.StoredSurface.{StoredFacet}

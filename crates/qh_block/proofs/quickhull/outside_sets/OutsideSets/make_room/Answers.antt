@@ -1,7 +1,6 @@
 -- Room for more sets.
-use Rattle.std.proofs.Common.{◌≡◌, ◌-◌, ◌++◌, [], length, arith, rules, ap, sym, refl, ◌∙◌, replicate}
+use Rattle.std.proofs.Common.{◌≡◌, ◌-◌, ◌++◌, [], length, arith, rules, ap, sym, refl, ◌∙◌, replicate, append-nil}
 use Rattle.std.proofs.lemmas.Grind.{common_steps}
-use Rattle.std.proofs.lemmas.List.{append-nil}
 use Rattle.qh_block.specs.steps.OutsideSets.{listed}
 use Rattle.qh_block.proofs.outside_sets.Steps.{kept, places_are, value_after}
 use Rattle.qh_block.proofs.outside_sets.NewSets.{room_kept, room_sum}

@@ -1,13 +1,12 @@
 -- The first orphan goes in front of a set.
-use Rattle.std.proofs.Common.{length-drop, length-set, arith}
-use Rattle.std.proofs.lemmas.Bool.{le-leb, lt-leb}
+use Rattle.std.proofs.Common.{length-drop, length-set, arith, le-leb}
+use Rattle.std.proofs.lemmas.Bool.{lt-leb}
 use Rattle.qh_block.proofs.outside_sets.Steps.{kept_some, answered, put_front}
 use Rattle.qh_block.proofs.quickhull.outside_sets.OutsideSets.put_in_front.Goals as goal
 
 pub invariant_of-self : goal.invariant_of-self
 invariant_of-self c =
-    let n = c.self.inside.links.ok in
-    let w = c.with_front.ensures in
+    let n = c.self.inside.links.ok in let w = c.with_front.ensures in
     let k = kept_some c.self.invariant c.self.view_is c.requires.some in
     let place = rw (← c.index-place.ensures) at c.requires.place in
     let p = put_front k c.index.ensures place c.index-ends.ensures c.with_front.result w.first in

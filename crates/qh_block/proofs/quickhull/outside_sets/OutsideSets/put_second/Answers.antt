@@ -6,14 +6,9 @@ use Rattle.qh_block.proofs.quickhull.outside_sets.OutsideSets.put_second.Goals a
 
 pub invariant_of-self : goal.invariant_of-self
 invariant_of-self c =
-    let k = kept_some c.self.invariant c.self.view_is c.requires.some in
-    let w = c.with_second.ensures in
-    let first = rw (← c.index-place.ensures) at c.requires.first in (
-      _,
-      _,
-      put_second k c.index.ensures (rw (← c.index-place.ensures) at c.requires.place) c.index-ends.ensures
-          _ first _ c.index-2.ensures w.first w.second w.last,
-    )
+    let k = kept_some c.self.invariant c.self.view_is c.requires.some in let w = c.with_second.ensures in
+    let place = rw (← c.index-place.ensures) at c.requires.place in let first = rw (← c.index-place.ensures) at c.requires.first in
+    (_, _, put_second k c.index.ensures place c.index-ends.ensures _ first _ c.index-2.ensures w.first w.second w.last)
 
 pub returns : goal.returns
 unfolding invariant_of-self

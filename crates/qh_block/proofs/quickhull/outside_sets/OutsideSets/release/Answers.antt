@@ -5,12 +5,9 @@ use Rattle.qh_block.proofs.outside_sets.Steps.{kept, answered, released}
 use Rattle.qh_block.proofs.quickhull.outside_sets.OutsideSets.release.Goals as goal
 
 pub invariant_of-self : goal.invariant_of-self
-invariant_of-self c = (
-  _,
-  _,
-  released (kept c.self.invariant c.self.view_is) (rw (← c.index-place.ensures) at c.requires) _
-      c.index.ensures _ _ (rw (← c.index-place.ensures) at c.in-Some.ensures.first) _,
-)
+invariant_of-self c =
+    let place = rw (← c.index-place.ensures) at c.requires in let first = rw (← c.index-place.ensures) at c.in-Some.ensures.first in
+    (_, _, released (kept c.self.invariant c.self.view_is) place _ c.index.ensures _ _ first _)
 
 pub returns-in-Some : goal.returns-in-Some
 unfolding invariant_of-self

@@ -7,12 +7,9 @@ use Rattle.qh_block.proofs.quickhull.outside_sets.OutsideSets.take_first.Goals a
 
 pub invariant_of-self : goal.invariant_of-self
 invariant_of-self c =
-    let k = kept c.self.invariant c.self.view_is in (
-      _,
-      _,
-      taken k (rw (← c.index-place.ensures) at c.requires) _ c.index_mut.ensures.value _ _
-          (rw (← c.index-place.ensures) at c.in_ok-first.ensures.first) _ c.index.ensures,
-    )
+    let k = kept c.self.invariant c.self.view_is in let place = rw (← c.index-place.ensures) at c.requires in
+    let first = rw (← c.index-place.ensures) at c.in_ok-first.ensures.first in
+    (_, _, taken k place _ c.index_mut.ensures.value _ _ first _ c.index.ensures)
 
 pub returns : goal.returns
 unfolding invariant_of-self

@@ -28,5 +28,4 @@ settle-requires-clause-remade c =
     (rw same.sets at c.release.ensures.positions) (rw same.sets at c.release.ensures.places))
 
 pub settle-requires-clause-fan : goal.settle-requires-clause-fan
-settle-requires-clause-fan c many =
-    subst (IsFan c.replace.new.self) (sym c.deref-3.ensures.value) (cone_fan c.in_ok-made.ensures.replaced)
+settle-requires-clause-fan c many = subst (IsFan c.replace.new.self) (sym c.deref-3.ensures.value) (cone_fan c.in_ok-made.ensures.replaced)

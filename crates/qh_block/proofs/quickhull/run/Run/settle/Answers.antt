@@ -1,6 +1,5 @@
 -- What is settled is ready for the next round.
-use Rattle.std.proofs.Common.{◌<◌, ◌∙◌, ◌-◌, ap, sym, subst, List, [], length, replicate, get_or, arith, ℕ}
-use Rattle.std.proofs.lemmas.List.{length-append}
+use Rattle.std.proofs.Common.{◌<◌, ◌∙◌, ◌-◌, ap, sym, subst, List, [], length, replicate, get_or, arith, ℕ, length-append}
 use Rattle.qh_model.specs.headline.Predicates.{place}
 use Rattle.qh_model.specs.headline.Vector.{Vector}
 use Rattle.qh_block.specs.steps.Cones.{HasNoCornerAbove}

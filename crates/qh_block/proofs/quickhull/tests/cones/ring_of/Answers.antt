@@ -1,5 +1,5 @@
 -- One wedge more of a ring made for a test.
-use Rattle.std.specs.Prelude.{◌≡◌}
+use Rattle.std.proofs.Common.{◌≡◌}
 use Rattle.qh_model.specs.headline.Vector.{Vector}
 use Rattle.qh_model.specs.headline.Predicates.{vol}
 use Rattle.qh_pred.specs.contract.Planes.{height}

@@ -1,6 +1,5 @@
 -- All that the apex sees is found.
-use Rattle.std.proofs.Common.{◌≡◌, ◌∙◌, ℕ, List, Bool, false, sym, subst}
-use Rattle.std.specs.Prelude.{pos, ◌<ℤ◌}
+use Rattle.std.proofs.Common.{◌≡◌, ◌∙◌, ℕ, List, Bool, false, sym, subst, pos, ◌<ℤ◌}
 use Rattle.qh_model.specs.headline.Vector.{Vector}
 use Rattle.qh_pred.specs.contract.Planes.{height}
 use Rattle.qh_block.specs.steps.Planes.{plane_at}
