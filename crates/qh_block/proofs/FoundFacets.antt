@@ -1,22 +1,18 @@
 -- A walk that went over all its facets found all that the apex sees.
 use Rattle.std.proofs.Common.{◌≡◌, ℕ, arith, sym, ◌∙◌, Bool, false, List, subst, inl, inr, ℤ, pos, ◌<ℤ◌}
 use Rattle.std.proofs.lemmas.Int.{by_lt_z}
-use Rattle.qh_model.specs.headline.Vector.{Vector}
-use Rattle.qh_model.specs.headline.Sets.{In}
-use Rattle.qh_model.specs.contract.Weighted.{Weighted}
-use Rattle.qh_model.specs.contract.FinishedSurface.{weighted_at}
+use Rattle.qh_model.specs.headline.{Vector.Vector, Sets.In}
+use Rattle.qh_model.specs.contract.{Weighted.Weighted, FinishedSurface.weighted_at}
 use Rattle.qh_model.specs.contract.Surface.{Surface, Side, Sees, rise}
 use Rattle.qh_model.specs.contract.StoredSurface.{StoredFacet, facet_at, surface_of}
 use Rattle.qh_model.specs.laws.Horizons.{IsWalked}
 use Rattle.qh_model.proofs.surfaces.SurfaceLaws.{rise_is_vol, walk_finds_all}
-use Rattle.qh_mesh.proofs.Rewiring.{live_in, in_live}
+use Rattle.qh_mesh.proofs.{Rewiring.live_in, Rewiring.in_live, ListedFacets.in_listed, ListedFacets.listed_in}
 use Rattle.qh_pred.specs.contract.Planes.{PlaneValue, height}
 use Rattle.qh_mesh.specs.contract.Replacement.{IsLive, is_listed}
 use Rattle.qh_mesh.specs.contract.SoundMesh.{facet_vol, IsSoundMesh, AreVisible}
-use Rattle.qh_mesh.proofs.ListedFacets.{in_listed, listed_in}
 use Rattle.qh_model.proofs.Members.{All-In, in_at}
-use Rattle.qh_block.specs.steps.Planes.{plane_at, ArePlanes}
-use Rattle.qh_block.specs.steps.Walks.{mark_at, IsMarked, IsCrossed, IsWalkFrom}
+use Rattle.qh_block.specs.steps.{Planes.plane_at, Planes.ArePlanes, Walks.mark_at, Walks.IsMarked, Walks.IsCrossed, Walks.IsWalkFrom}
 
 -- what a walk tells of the facets that it found, and of their neighbours
 module _ (P : ℕ → Type 0) (fs : List StoredFacet) (before after : List Bool) (f : ℕ) (vs : List ℕ)

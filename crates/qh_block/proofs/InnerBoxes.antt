@@ -3,8 +3,7 @@ use Rattle.std.proofs.Common.{◌≡◌, arith}
 use Rattle.std.proofs.lemmas.Int.{ints, by_lt_z}
 use Rattle.std.specs.Prelude.{ℤ, pos, ◌*ℤ◌, neg_ℤ, ◌≤ℤ◌, ◌<ℤ◌}
 use Rattle.qh_model.specs.headline.Vector.{Vector}
-use Rattle.qh_model.proofs.algebra.Order.{mul-le}
-use Rattle.qh_model.proofs.algebra.Integers.{neg_mul}
+use Rattle.qh_model.proofs.algebra.{Order.mul-le, Integers.neg_mul}
 use Rattle.qh_pred.specs.contract.Planes.{PlaneValue, height}
 use Rattle.qh_block.specs.declared.inner_points.bounds.Bounds.{Bounds}
 use Rattle.qh_block.specs.steps.InnerPoints.{IsBetween, IsWithin, IsFarEnd}

@@ -2,20 +2,13 @@
 use Rattle.std.proofs.Common.{ℕ, ◌≡◌, ◌⊎◌, ⊎_elim, inl, inr, List, [], ◌∷◌, ◌++◌, All, arith, refl, subst}
 use Rattle.std.specs.Prelude.{pos, ◌<ℤ◌}
 use Rattle.std.specs.List.Sorted.{IsStrictlyIncreasing}
-use Rattle.qh_model.specs.headline.Vector.{Vector}
-use Rattle.qh_model.specs.headline.Predicates.{place}
-use Rattle.qh_model.specs.headline.Sets.{In, Members}
-use Rattle.qh_model.specs.headline.Extreme.{Extreme}
-use Rattle.qh_model.specs.contract.FinishedSurface.{IsFinished}
-use Rattle.qh_model.specs.contract.StoredSurface.{StoredFacet, surface_of}
+use Rattle.qh_model.specs.headline.{Vector.Vector, Predicates.place, Sets.In, Sets.Members, Extreme.Extreme}
+use Rattle.qh_model.specs.contract.{FinishedSurface.IsFinished, StoredSurface.StoredFacet, StoredSurface.surface_of}
 use Rattle.qh_model.proofs.Members.{All-In, All-of, rising_tail, rising_first}
-use Rattle.qh_model.proofs.lists.Joined.{in_append, of_append}
-use Rattle.qh_model.proofs.lists.Rising.{rising_append}
-use Rattle.qh_model.proofs.surfaces.Inside.{inner_is_not_extreme}
-use Rattle.qh_model.proofs.surfaces.Stored.{live_is_marked}
+use Rattle.qh_model.proofs.lists.{Joined.in_append, Joined.of_append, Rising.rising_append}
+use Rattle.qh_model.proofs.surfaces.{Inside.inner_is_not_extreme, Stored.live_is_marked}
 use Rattle.qh_pred.specs.contract.Planes.{PlaneValue, height}
-use Rattle.qh_mesh.specs.contract.Replacement.{IsLive}
-use Rattle.qh_mesh.specs.contract.SoundMesh.{facet_vol}
+use Rattle.qh_mesh.specs.contract.{Replacement.IsLive, SoundMesh.facet_vol}
 use Rattle.qh_block.specs.declared.inner_points.bounds.Bounds.{Bounds}
 use Rattle.qh_block.specs.steps.InnerPoints.{IsBelow, IsBelowAll, HasPlane, HasPlanes, HasNoExtreme, AreInner, IsOuterPart}
 use Rattle.qh_block.proofs.LiveFacets.{all_live, rest_live}

@@ -6,9 +6,7 @@ use Rattle.qh_model.specs.contract.StoredSurface.{StoredFacet, facet_at, surface
 use Rattle.qh_mesh.specs.declared.facets.FacetSide.{FacetSide}
 use Rattle.qh_mesh.specs.contract.Edges.{edge_end, edge_of, edge_start, nth_side, side_no, side_of_edge, twin_of}
 use Rattle.qh_mesh.specs.contract.Replacement.{IsLive}
-use Rattle.qh_mesh.specs.steps.Horizons.{edge_side}
-use Rattle.qh_mesh.specs.steps.Kept.{outer_of, side_of}
-use Rattle.qh_mesh.specs.steps.Twins.{HasTwin, HasTwins}
+use Rattle.qh_mesh.specs.steps.{Horizons.edge_side, Kept.outer_of, Kept.side_of, Twins.HasTwin, Twins.HasTwins}
 
 -- an edge by its facet and side is of that facet
 pub edge-facet : (f : ℕ) (s : Side) → edge_of f s / 3 ≡ f

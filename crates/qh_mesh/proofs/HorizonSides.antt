@@ -3,22 +3,17 @@ use Rattle.std.proofs.Common.{◌≡◌, ℕ, ◌+◌, ◌/◌, ◌<◌, ◌≤�
 use Rattle.std.proofs.Common.{inl, inr, List, [], ◌∷◌, All, length, map, slice_index}
 use Rattle.std.specs.Prelude.{filter, count_by, flat_map}
 use Rattle.std.proofs.lemmas.Bool.{cases_Bool, not-true, not_from_false}
-use Rattle.std.proofs.lemmas.List.Filters.{sum_by-filter_both}
-use Rattle.std.proofs.lemmas.List.Sums.{sum_by-cons}
-use Rattle.qh_model.specs.contract.StoredSurface.{StoredFacet, facet_at}
-use Rattle.qh_model.specs.contract.Surface.{Side}
+use Rattle.std.proofs.lemmas.List.{Filters.sum_by-filter_both, Sums.sum_by-cons}
+use Rattle.qh_model.specs.contract.{StoredSurface.StoredFacet, StoredSurface.facet_at, Surface.Side}
 use Rattle.qh_model.specs.contract.Surface.Side.{first, second, third}
 use Rattle.qh_model.specs.headline.Sets.{In}
 use Rattle.qh_model.proofs.Members.{All-In, All-of, In-get_or, in_at}
 use Rattle.qh_model.proofs.lists.Counts.{count-map, count_twins}
-use Rattle.qh_model.proofs.lists.Filters.{in_filter, of_filter, once_filter, filter_image}
-use Rattle.qh_model.proofs.lists.OnceEach.{once_place}
+use Rattle.qh_model.proofs.lists.{Filters.in_filter, Filters.of_filter, Filters.once_filter, Filters.filter_image, OnceEach.once_place}
 use Rattle.qh_mesh.specs.contract.Edges.{edge_of, facet_of, side_of_edge, twin_of}
 use Rattle.qh_mesh.specs.contract.Replacement.{sides_of, is_listed, horizon, IsLive, AreFacets, IsKept}
 use Rattle.qh_mesh.specs.steps.Horizons.{corner, edge_side, IsBalanced, HasSidesInside, is_open, three_sides, open_sides}
-use Rattle.qh_mesh.specs.steps.Kept.{side_of, outer_of, is_live, removed}
-use Rattle.qh_mesh.specs.steps.Places.{Removed}
-use Rattle.qh_mesh.specs.steps.Surfaces.{IsSurface}
+use Rattle.qh_mesh.specs.steps.{Kept.side_of, Kept.outer_of, Kept.is_live, Kept.removed, Places.Removed, Surfaces.IsSurface}
 use Rattle.qh_mesh.specs.steps.Twins.{HasTwin, HasTwins}
 use Rattle.qh_mesh.proofs.EdgeSides.{edge-facet, twin-is, side-is, noted-is}
 use Rattle.qh_mesh.proofs.ListedFacets.{listed_live, in_sides, of_sides, once_sides, in_listed, listed_in, unlisted_at}

@@ -3,16 +3,13 @@ use Rattle.std.proofs.Common.{◌≡◌, ◌≢◌, ℕ, ◌+◌, ◌*◌, ◌/�
 use Rattle.std.proofs.Common.{List, [], ◌∷◌, length, slice_index}
 use Rattle.std.proofs.lemmas.Bool.{both_ways, cases_lt, eq-eqb}
 use Rattle.std.proofs.lemmas.Bool.Decides.{eqb_tells}
-use Rattle.qh_model.specs.contract.StoredSurface.{StoredFacet}
+use Rattle.qh_model.specs.contract.{StoredSurface.StoredFacet, Surface.Side}
 use Rattle.qh_model.specs.headline.Sets.{In, Once}
 use Rattle.qh_model.proofs.Members.{All-In, In-get_or}
-use Rattle.qh_model.proofs.lists.Joined.{once_append}
-use Rattle.qh_model.proofs.lists.OnceEach.{once_place}
-use Rattle.qh_model.specs.contract.Surface.{Side}
+use Rattle.qh_model.proofs.lists.{Joined.once_append, OnceEach.once_place}
 use Rattle.qh_model.specs.contract.Surface.Side.{first, second, third}
-use Rattle.qh_mesh.specs.contract.Edges.{edge_of}
+use Rattle.qh_mesh.specs.contract.{Edges.edge_of, Replacement.sides_of, Replacement.is_listed, Replacement.IsLive, Replacement.AreFacets}
 use Rattle.qh_mesh.proofs.EdgeSides.{edge-facet}
-use Rattle.qh_mesh.specs.contract.Replacement.{sides_of, is_listed, IsLive, AreFacets}
 
 -- a member is listed
 pub in_listed : (vs : List ℕ) (f : ℕ) → In f vs → is_listed vs f ≡ true

@@ -1,8 +1,7 @@
 -- Which sides of a horizon follow one another: each has one mate at either end, and is the mate of that.
 use Rattle.std.proofs.Common.{◌≡◌, ℕ, ◌<◌, ◌≤◌, inl, inr, arith, ap, sym, ◌∙◌, refl, subst, Bool, true, false, not, nat_eq, List, length}
 use Rattle.std.specs.Prelude.{count_by}
-use Rattle.std.proofs.lemmas.List.{take_all}
-use Rattle.std.proofs.lemmas.Bool.{cases_lt, eq-eqb, eqb-true}
+use Rattle.std.proofs.lemmas.{List.take_all, Bool.cases_lt, Bool.eq-eqb, Bool.eqb-true}
 use Rattle.qh_model.proofs.lists.Counts.{counted, counted_apart, counted_at}
 use Rattle.qh_mesh.specs.declared.facets.FacetSide.{FacetSide}
 use Rattle.qh_mesh.specs.declared.slots.Slot.{Slot}

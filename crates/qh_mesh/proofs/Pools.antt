@@ -10,8 +10,7 @@ use Rattle.qh_model.specs.contract.StoredSurface.{StoredFacet, facet_at, no_face
 use Rattle.qh_model.proofs.surfaces.Stored.{live_inside, live_len}
 use Rattle.qh_model.proofs.lists.Joined.{of_append, once_append}
 use Rattle.qh_mesh.specs.contract.Replacement.{IsLive}
-use Rattle.qh_mesh.specs.steps.Kept.{is_live}
-use Rattle.qh_mesh.specs.steps.Places.{IsPool, IsVacant, live_count}
+use Rattle.qh_mesh.specs.steps.{Kept.is_live, Places.IsPool, Places.IsVacant, Places.live_count}
 
 -- what a mark adds to the count of live facets
 abbrev one : Bool → ℕ

@@ -1,8 +1,7 @@
 -- The steps of a replacement are one, and they leave a surface.
 use Rattle.std.proofs.Common.{◌≡◌, ℕ, ◌/◌, ◌<◌, arith, ap, sym, ◌∙◌, refl, subst, true, false, inl, inr, List, length, ◌≢◌, not, Bool, ◌⊎◌}
 use Rattle.std.proofs.Common.{slice_index, reverse, length-append}
-use Rattle.std.proofs.lemmas.Bool.{cases_Bool, both_ways, false_from_ne_true}
-use Rattle.std.proofs.lemmas.List.{length-map, get_or-map}
+use Rattle.std.proofs.lemmas.{Bool.cases_Bool, Bool.both_ways, Bool.false_from_ne_true, List.length-map, List.get_or-map}
 use Rattle.qh_model.specs.contract.StoredSurface.{StoredFacet, facet_at}
 use Rattle.qh_model.specs.headline.Sets.{In}
 use Rattle.qh_model.proofs.Members.{All-of, In-get_or}
@@ -13,17 +12,13 @@ use Rattle.qh_mesh.specs.contract.Replacement.{IsCone}
 use Rattle.qh_mesh.specs.declared.facets.FacetSide.{FacetSide}
 use Rattle.qh_mesh.specs.steps.Cones.{bare}
 use Rattle.qh_mesh.specs.steps.Horizons.{side_at, no_side, corner, edge_side, IsBalanced, IsMate}
-use Rattle.qh_mesh.specs.steps.Kept.{is_live, outer_of}
-use Rattle.qh_mesh.specs.steps.Places.{IsVacant}
+use Rattle.qh_mesh.specs.steps.{Kept.is_live, Kept.outer_of, Places.IsVacant}
 use Rattle.qh_mesh.specs.steps.Rebuilt.{IsCleared, IsChosen, IsConed, IsPrepared, IsReady, IsRebuilt}
-use Rattle.qh_mesh.specs.steps.Surfaces.{IsSurface}
-use Rattle.qh_mesh.specs.steps.Twins.{HasTwin}
+use Rattle.qh_mesh.specs.steps.{Surfaces.IsSurface, Twins.HasTwin}
 use Rattle.qh_mesh.proofs.HorizonSides.{edge, on_horizon, horizon_twin, same_place, horizon_balanced, gone, stays}
-use Rattle.qh_mesh.proofs.ListedFacets.{listed_in, unlisted_at}
-use Rattle.qh_mesh.proofs.Mates.{has_mate, mate_only, mate_twice}
+use Rattle.qh_mesh.proofs.{ListedFacets.listed_in, ListedFacets.unlisted_at, Mates.has_mate, Mates.mate_only, Mates.mate_twice}
 use Rattle.qh_model.proofs.surfaces.Stored.{live_inside}
-use Rattle.qh_mesh.proofs.Pools.{places_are}
-use Rattle.qh_mesh.proofs.Rewiring.{twins_after, IsStep, rewired}
+use Rattle.qh_mesh.proofs.{Pools.places_are, Rewiring.twins_after, Rewiring.IsStep, Rewiring.rewired}
 use Rattle.qh_mesh.proofs.SoundMeshes.{step_is_sound, step_is_closed}
 
 module _ (old chosen : List StoredFacet) (free left vs : List ℕ) (hs : List FacetSide) (made : List ℕ)

@@ -2,10 +2,8 @@
 use Rattle.std.proofs.Common.{slice_index, ◌≡◌, ℕ, ◌/◌, ◌<◌, ◌⊎◌, arith, ap, sym, ◌∙◌, refl, true, false, inl, inr, List, length, subst}
 use Rattle.std.specs.Prelude.{pos}
 use Rattle.std.proofs.lemmas.Bool.{cases_Bool, true_from_ne_false, false_from_ne_true}
-use Rattle.qh_model.specs.headline.Vector.{Vector}
-use Rattle.qh_model.specs.headline.Sets.{In}
-use Rattle.qh_model.specs.contract.Weighted.{Weighted}
-use Rattle.qh_model.specs.contract.FinishedSurface.{weighted_at}
+use Rattle.qh_model.specs.headline.{Vector.Vector, Sets.In}
+use Rattle.qh_model.specs.contract.{Weighted.Weighted, FinishedSurface.weighted_at}
 use Rattle.qh_model.specs.contract.Surface.{Side, Surface, start, end, Sees, IsBlindTo, rise}
 use Rattle.qh_model.specs.contract.Surface.Side.{first, second, third}
 use Rattle.qh_model.specs.contract.Rewired.{IsHorizonSide, LinksTo, IsRewired}
@@ -18,8 +16,7 @@ use Rattle.qh_mesh.specs.contract.Edges.{edge_end, edge_of, edge_start, facet_of
 use Rattle.qh_mesh.specs.contract.Replacement.{is_listed, horizon, IsLive, AreFacets}
 use Rattle.qh_mesh.specs.contract.Replacement.{IsCone, IsKept, StaysFacet, IsReplacement}
 use Rattle.qh_mesh.specs.contract.SoundMesh.{facet_vol, IsSoundMesh, AreVisible}
-use Rattle.qh_mesh.specs.steps.Kept.{outer_of}
-use Rattle.qh_mesh.specs.steps.Twins.{HasTwin, HasTwins}
+use Rattle.qh_mesh.specs.steps.{Kept.outer_of, Twins.HasTwin, Twins.HasTwins}
 use Rattle.qh_mesh.proofs.EdgeSides.{edge-facet, edge-side, edge_is, twins_by_side, start-is, end-is, twin-is, over-is, back-is}
 use Rattle.qh_mesh.proofs.HorizonSides.{edge, on_horizon, horizon_twin, horizon_at, same_place}
 use Rattle.qh_mesh.proofs.ListedFacets.{in_listed, listed_live}

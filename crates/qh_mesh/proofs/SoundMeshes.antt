@@ -1,24 +1,17 @@
 -- Meshes that are sound: the simplex, what a step leaves, and that both close up.
 use Rattle.std.proofs.Common.{slice_index, ◌≡◌, ℕ, arith, rules, refl, [], ◌≢◌, sym, inl, inr, List, ◌∷◌, subst}
 use Rattle.std.specs.Prelude.{pos, ◌<ℤ◌}
-use Rattle.std.proofs.lemmas.Bool.{cases_Bool}
-use Rattle.std.proofs.lemmas.Int.{ints, by_lt_z}
+use Rattle.std.proofs.lemmas.{Bool.cases_Bool, Int.ints, Int.by_lt_z}
 use Rattle.qh_model.specs.contract.ClosedSurface.{signed_volume, triples_of}
 use Rattle.qh_model.specs.contract.FinishedSurface.{weighted_at, middle_at, IsFinished}
-use Rattle.qh_model.specs.contract.StoredSurface.{StoredFacet, surface_of}
-use Rattle.qh_model.specs.contract.Weighted.{Weighted, weighted}
-use Rattle.qh_model.specs.headline.Predicates.{vol}
-use Rattle.qh_model.specs.headline.Sets.{In}
-use Rattle.qh_model.specs.headline.Vector.{Vector}
+use Rattle.qh_model.specs.contract.{StoredSurface.StoredFacet, StoredSurface.surface_of, Weighted.Weighted, Weighted.weighted}
+use Rattle.qh_model.specs.headline.{Predicates.vol, Sets.In, Vector.Vector}
 use Rattle.qh_model.specs.laws.SimplexSurface.{simplex_surface}
-use Rattle.qh_model.proofs.algebra.VectorIdentities.{vol-flip_last}
-use Rattle.qh_model.proofs.algebra.Signs.{not_less}
+use Rattle.qh_model.proofs.algebra.{VectorIdentities.vol-flip_last, Signs.not_less}
 use Rattle.qh_model.proofs.surfaces.Closed.{sound_is_closed, sound_has_volume, seen_volume}
-use Rattle.qh_model.proofs.surfaces.Named.{IsNamed, sound_named, whole_named}
-use Rattle.qh_model.proofs.surfaces.Rewired.{replace_keeps}
+use Rattle.qh_model.proofs.surfaces.{Named.IsNamed, Named.sound_named, Named.whole_named, Rewired.replace_keeps}
 use Rattle.qh_model.proofs.surfaces.Simplex.{four, middle-turned, simplex_sound}
-use Rattle.qh_model.proofs.surfaces.Stored.{live_in, in_live, live_is_listed_once}
-use Rattle.qh_model.proofs.surfaces.SurfaceLaws.{rise_is_vol}
+use Rattle.qh_model.proofs.surfaces.{Stored.live_in, Stored.in_live, Stored.live_is_listed_once, SurfaceLaws.rise_is_vol}
 use Rattle.qh_mesh.specs.contract.Replacement.{is_listed, IsLive}
 use Rattle.qh_mesh.specs.contract.SoundMesh.{simplex_facets, facet_vol, IsSoundMesh, IsClosedMesh, AreVisible}
 use Rattle.qh_mesh.proofs.Rewiring.{IsStep, rewired}

@@ -3,17 +3,12 @@ use Rattle.std.proofs.Common.{slice_index, ◌≡◌, ◌≢◌, ℕ, ◌+◌, �
 use Rattle.std.proofs.Common.{List, length, get_or, set}
 use Rattle.std.proofs.lemmas.List.{get_or-set_same, get_or-set_other, length-set}
 use Rattle.std.proofs.lemmas.List.Sums.{sum_by-set}
-use Rattle.qh_model.specs.contract.Surface.{Side}
+use Rattle.qh_model.specs.contract.{Surface.Side, StoredSurface.StoredFacet, StoredSurface.facet_at, StoredSurface.no_facet}
 use Rattle.qh_model.specs.contract.Surface.Side.{first, second, third}
-use Rattle.qh_model.specs.contract.StoredSurface.{StoredFacet, facet_at, no_facet}
 use Rattle.qh_mesh.specs.declared.facets.FacetSide.{FacetSide}
 use Rattle.qh_mesh.specs.contract.Edges.{edge_of, side_of_edge, twin_of}
-use Rattle.qh_mesh.specs.steps.Kept.{is_live, outer_of, with_twin}
-use Rattle.qh_mesh.specs.steps.Horizons.{side_at}
-use Rattle.qh_mesh.specs.steps.Cones.{bare, Joined}
-use Rattle.qh_mesh.specs.steps.Writes.{Scattered}
-use Rattle.qh_mesh.proofs.EdgeSides.{edge_is}
-use Rattle.qh_mesh.proofs.NumberCases.{same_or, below_next}
+use Rattle.qh_mesh.specs.steps.{Kept.is_live, Kept.outer_of, Kept.with_twin, Horizons.side_at, Cones.bare, Cones.Joined, Writes.Scattered}
+use Rattle.qh_mesh.proofs.{EdgeSides.edge_is, NumberCases.same_or, NumberCases.below_next}
 
 -- one more write, at a place of its own
 pub scattered_more : {X : Type 0} (d : X) (old xs : List X) (p : ℕ → ℕ) (Q : ℕ → X → Type 0) (k : ℕ) (y : X)

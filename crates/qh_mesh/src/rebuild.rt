@@ -34,13 +34,7 @@ fn clear(
 }
 
 /// Puts the cone from the apex over the horizon into its places.
-fn close(
-    facets: &mut [Facet],
-    slots: &[Slot],
-    horizon: &[FacetSide],
-    made: &[FacetNo],
-    apex: u32,
-)
+fn close(facets: &mut [Facet], slots: &[Slot], horizon: &[FacetSide], made: &[FacetNo], apex: u32)
     requires { IsReady facets.old horizon.now made.now }
     ensures { IsConed facets.old facets.new horizon.now made.now apex }
 {

@@ -1,16 +1,12 @@
 -- The corners of a list of facets.
 use Rattle.std.proofs.Common.{All, ℕ, ◌<◌, List, length, arith}
 use Rattle.std.specs.Prelude.{◌↔◌}
-use Rattle.qh_model.specs.headline.Vector.{Vector}
-use Rattle.qh_model.specs.headline.Sets.{In}
-use Rattle.qh_model.specs.contract.IdSets.{AreIndices}
-use Rattle.qh_model.specs.contract.Surface.{IsCorner}
-use Rattle.qh_model.specs.contract.StoredSurface.{StoredFacet, surface_of}
+use Rattle.qh_model.specs.headline.{Vector.Vector, Sets.In}
+use Rattle.qh_model.specs.contract.{IdSets.AreIndices, Surface.IsCorner, StoredSurface.StoredFacet, StoredSurface.surface_of}
 use Rattle.qh_model.proofs.Members.{All-In, All-of}
 use Rattle.qh_model.proofs.lists.Joined.{in_flat_map, of_flat_map}
 use Rattle.qh_mesh.specs.contract.Replacement.{IsLive}
-use Rattle.qh_block.specs.steps.PlaneWalks.{AreCornersBelow}
-use Rattle.qh_block.specs.steps.Faces.{three_of, corners_of, IsListedCorner}
+use Rattle.qh_block.specs.steps.{PlaneWalks.AreCornersBelow, Faces.three_of, Faces.corners_of, Faces.IsListedCorner}
 
 -- those of one
 in_three : (fs : List StoredFacet) (v : ℕ) (l : ℕ) → In l (three_of fs v) ↔ IsCorner (surface_of fs) v l

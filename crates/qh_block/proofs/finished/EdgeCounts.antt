@@ -3,14 +3,10 @@ use Rattle.std.proofs.Common.{◌≡◌, inl, inr, ℕ, ◌<◌, List, [], ◌�
 use Rattle.std.proofs.lemmas.Bool.Decides.{nat_tests}
 use Rattle.std.specs.List.{flat_map}
 use Rattle.std.specs.Prelude.{◌↔◌}
-use Rattle.qh_model.specs.headline.Vector.{Vector}
-use Rattle.qh_model.specs.headline.Sets.{In, Once, Members}
+use Rattle.qh_model.specs.headline.{Vector.Vector, Sets.In, Sets.Once, Sets.Members, Dimension.IsDimension}
 use Rattle.qh_model.specs.contract.IdSets.{HasDistinctPoints}
-use Rattle.qh_model.specs.headline.Dimension.{IsDimension}
-use Rattle.qh_model.specs.headline.Polygon.{FollowsAlong, Follows}
-use Rattle.qh_model.specs.headline.Polygons.{AreFaces, IsEdge, IsEdgeCount}
-use Rattle.qh_model.proofs.polygons.Edges.{one_face_each_way, other_face}
-use Rattle.qh_model.proofs.polygons.Neighbours.{along_members}
+use Rattle.qh_model.specs.headline.{Polygon.FollowsAlong, Polygon.Follows, Polygons.AreFaces, Polygons.IsEdge, Polygons.IsEdgeCount}
+use Rattle.qh_model.proofs.polygons.{Edges.one_face_each_way, Edges.other_face, Neighbours.along_members}
 use Rattle.qh_model.proofs.lists.Joined.{once_append, in_flat_map, of_flat_map}
 use Rattle.qh_block.specs.steps.SolidEdges.{ups_along, ups, all_edges_up}
 

@@ -2,26 +2,19 @@
 use Rattle.std.proofs.Common.{◌≡◌, ◌≢◌, ℕ, ◌<◌, List, [], ◌∷◌, length, sym, subst, refl, arith, Bool, true, false, cond}
 use Rattle.std.proofs.lemmas.Bool.Decides.{nat_tests}
 use Rattle.std.specs.Prelude.{◌&&◌, nat_lt, pos, ◌<ℤ◌}
-use Rattle.qh_model.specs.headline.Vector.{Vector}
-use Rattle.qh_model.specs.headline.Predicates.{place, cross, left, AreInLine}
-use Rattle.qh_model.specs.headline.Sets.{Members}
-use Rattle.qh_model.specs.headline.Extreme.{Extreme}
-use Rattle.qh_model.specs.headline.Polygon.{IsPolygon}
-use Rattle.qh_model.specs.contract.FinishedSurface.{IsFinished}
-use Rattle.qh_model.specs.contract.IdSets.{IsIdSet}
+use Rattle.qh_model.specs.headline.{Vector.Vector, Predicates.place, Predicates.cross, Predicates.left, Predicates.AreInLine, Sets.Members}
+use Rattle.qh_model.specs.headline.{Extreme.Extreme, Polygon.IsPolygon}
+use Rattle.qh_model.specs.contract.{FinishedSurface.IsFinished, IdSets.IsIdSet}
 use Rattle.qh_model.specs.contract.StoredSurface.{StoredFacet, facet_at, surface_of}
 use Rattle.qh_model.proofs.algebra.VectorIdentities.{left-dot, left-turn}
 use Rattle.qh_model.proofs.extremes.Directions.{square-positive}
-use Rattle.qh_model.proofs.surfaces.Finished.{facet_area}
-use Rattle.qh_model.proofs.surfaces.Stored.{live_is_marked}
+use Rattle.qh_model.proofs.surfaces.{Finished.facet_area, Stored.live_is_marked}
 use Rattle.qh_mesh.specs.contract.Replacement.{IsLive}
 use Rattle.qh_plane.proofs.polygons.Triangle.{left_triangle}
-use Rattle.qh_block.specs.steps.Faces.{three_of, corners_of, from_least, IsNewPlane, IsNewFace}
+use Rattle.qh_block.specs.steps.{Faces.three_of, Faces.corners_of, Faces.from_least, Faces.IsNewPlane, Faces.IsNewFace, Walks.IsWalkFrom}
 use Rattle.qh_model.specs.laws.FacetPlanes.{IsLevelFacet}
-use Rattle.qh_block.specs.steps.Walks.{IsWalkFrom}
 use Rattle.qh_block.proofs.flats.Polygons.{corners_differ}
-use Rattle.qh_block.proofs.finished.Corners.{in_corners}
-use Rattle.qh_block.proofs.finished.NewFaces.{face_of_corners}
+use Rattle.qh_block.proofs.finished.{Corners.in_corners, NewFaces.face_of_corners}
 
 -- three ids that are not in line, from the least on, are their polygon
 least_first : (at : ℕ → Vector) (i j k : ℕ) → ¬ (AreInLine (at i) (at j) (at k))

@@ -2,30 +2,20 @@
 use Rattle.std.proofs.Common.{inl, inr, ⊎_elim, ℕ, List, refl, Bool}
 use Rattle.std.specs.Prelude.{◌↔◌}
 use Rattle.std.specs.List.Sorted.{IsStrictlyIncreasing}
-use Rattle.qh_model.specs.headline.Vector.{Vector}
-use Rattle.qh_model.specs.headline.Predicates.{place, cross}
-use Rattle.qh_model.specs.headline.Sets.{In, Members}
-use Rattle.qh_model.specs.contract.IdSets.{IsIdSet}
-use Rattle.qh_model.specs.headline.Extreme.{Extreme}
-use Rattle.qh_model.specs.headline.SupportingPlane.{OnPlane}
-use Rattle.qh_model.specs.headline.Polygon.{IsPolygon}
-use Rattle.qh_model.specs.contract.Surface.{Surface, Side, IsCorner}
-use Rattle.qh_model.specs.contract.FinishedSurface.{IsFinished}
-use Rattle.qh_model.specs.laws.FacetPlanes.{IsLevelFacet}
-use Rattle.qh_model.specs.laws.CompletenessLaws.{CornerInPlane}
+use Rattle.qh_model.specs.headline.{Vector.Vector, Predicates.place, Predicates.cross, Sets.In, Sets.Members, Extreme.Extreme}
+use Rattle.qh_model.specs.contract.{IdSets.IsIdSet, Surface.Surface, Surface.Side, Surface.IsCorner, FinishedSurface.IsFinished}
+use Rattle.qh_model.specs.headline.{SupportingPlane.OnPlane, Polygon.IsPolygon}
+use Rattle.qh_model.specs.laws.{FacetPlanes.IsLevelFacet, CompletenessLaws.CornerInPlane}
 use Rattle.qh_model.specs.contract.StoredSurface.{StoredFacet, surface_of}
 use Rattle.qh_model.proofs.extremes.Directions.{along_itself}
 use Rattle.qh_model.proofs.polygons.Direction.{polygon_as}
-use Rattle.qh_model.proofs.surfaces.Complete.{extremes_of_plane}
-use Rattle.qh_model.proofs.surfaces.FacetPlanes.{plane_walk_finds_all}
-use Rattle.qh_model.proofs.surfaces.Finished.{facet_area, facets_support}
-use Rattle.qh_model.proofs.surfaces.Stored.{live_is_marked}
+use Rattle.qh_model.proofs.surfaces.{Complete.extremes_of_plane, FacetPlanes.plane_walk_finds_all}
+use Rattle.qh_model.proofs.surfaces.{Finished.facet_area, Finished.facets_support, Stored.live_is_marked}
 use Rattle.qh_model.proofs.hulls.SameSets.{extreme_as}
 use Rattle.qh_mesh.specs.contract.Replacement.{IsLive, is_listed}
 use Rattle.qh_mesh.proofs.ListedFacets.{in_listed, listed_in}
 use Rattle.qh_plane.specs.contract.PlanarSets.{IsPlanarSet}
-use Rattle.qh_block.specs.steps.Walks.{IsWalkFrom}
-use Rattle.qh_block.specs.steps.Faces.{IsListedCorner, IsNewPlane, IsNewFace}
+use Rattle.qh_block.specs.steps.{Walks.IsWalkFrom, Faces.IsListedCorner, Faces.IsNewPlane, Faces.IsNewFace}
 use Rattle.qh_block.proofs.FoundFacets.{found_live, found_passes, found_marked, found_over}
 
 module _ (pts : List Vector) (ids : List ℕ) (fs : List StoredFacet) (f : ℕ) (before after : List Bool) (vs : List ℕ)

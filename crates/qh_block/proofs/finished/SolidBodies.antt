@@ -2,24 +2,14 @@
 use Rattle.std.proofs.Common.{inl, ℕ, List, [], ◌∷◌, refl}
 use Rattle.std.specs.Prelude.{◌↔◌}
 use Rattle.std.specs.List.Sorted.{IsStrictlyIncreasing}
-use Rattle.qh_model.specs.headline.Vector.{Vector}
-use Rattle.qh_model.specs.headline.Predicates.{place}
-use Rattle.qh_model.specs.headline.Sets.{In, Once, Members}
-use Rattle.qh_model.specs.headline.Extreme.{Extreme}
-use Rattle.qh_model.specs.headline.Hull.{AreExtremes, IsBody}
-use Rattle.qh_model.specs.headline.Polygons.{ComesBefore, RiseStrictly}
-use Rattle.qh_model.specs.contract.IdSets.{IsIdSet}
-use Rattle.qh_model.specs.contract.FinishedSurface.{IsFinished}
-use Rattle.qh_model.specs.contract.StoredSurface.{StoredFacet, surface_of}
-use Rattle.qh_model.proofs.lists.Joined.{in_flat_map, of_flat_map}
-use Rattle.qh_model.proofs.lists.Lexicographic.{before-asymmetric, rising-ordered}
+use Rattle.qh_model.specs.headline.{Vector.Vector, Predicates.place, Sets.In, Sets.Once, Sets.Members, Extreme.Extreme}
+use Rattle.qh_model.specs.headline.{Hull.AreExtremes, Hull.IsBody, Polygons.ComesBefore, Polygons.RiseStrictly}
+use Rattle.qh_model.specs.contract.{IdSets.IsIdSet, FinishedSurface.IsFinished, StoredSurface.StoredFacet, StoredSurface.surface_of}
+use Rattle.qh_model.proofs.lists.{Joined.in_flat_map, Joined.of_flat_map, Lexicographic.before-asymmetric, Lexicographic.rising-ordered}
 use Rattle.qh_model.proofs.lists.Ordered.{Ordered}
-use Rattle.qh_model.proofs.surfaces.Complete.{finished_is_solid, polygons_of_facets}
-use Rattle.qh_model.proofs.surfaces.FacetPlanes.{level_itself}
-use Rattle.qh_model.proofs.surfaces.Finished.{extremes_are_corners}
-use Rattle.qh_model.proofs.surfaces.Stored.{live_is_marked}
-use Rattle.qh_block.specs.steps.Faces.{AreFacetFaces, all_members}
-use Rattle.qh_block.specs.steps.SolidEdges.{all_edges_up}
+use Rattle.qh_model.proofs.surfaces.{Complete.finished_is_solid, Complete.polygons_of_facets, FacetPlanes.level_itself}
+use Rattle.qh_model.proofs.surfaces.{Finished.extremes_are_corners, Stored.live_is_marked}
+use Rattle.qh_block.specs.steps.{Faces.AreFacetFaces, Faces.all_members, SolidEdges.all_edges_up}
 use Rattle.qh_block.proofs.finished.EdgeCounts.{edges_of_faces}
 
 -- ordered lists are there once each

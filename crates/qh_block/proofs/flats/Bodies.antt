@@ -2,21 +2,15 @@
 use Rattle.std.proofs.Common.{◌≡◌, ◌∙◌, ℕ, ◌<◌, [], ◌∷◌, List, length, get_or, sym, subst, ◌⊎◌, ⊎_elim, inl, inr, arith, refl}
 use Rattle.std.specs.Prelude.{◌↔◌}
 use Rattle.qh_model.specs.contract.IdSets.{IsIdSet}
-use Rattle.qh_model.specs.headline.Dimension.{IsDimension}
-use Rattle.qh_model.specs.headline.Extreme.{Extreme}
-use Rattle.qh_model.specs.headline.Hull.{BodyValue, IsBody}
-use Rattle.qh_model.specs.headline.Polygons.{ArePolygons, IsEdgeCount}
-use Rattle.qh_model.specs.headline.Predicates.{place}
-use Rattle.qh_model.specs.headline.Sets.{In, Members}
+use Rattle.qh_model.specs.headline.{Dimension.IsDimension, Extreme.Extreme, Hull.BodyValue, Hull.IsBody}
+use Rattle.qh_model.specs.headline.{Polygons.ArePolygons, Polygons.IsEdgeCount, Predicates.place, Sets.In, Sets.Members}
 use Rattle.qh_model.specs.headline.Vector.{Vector, origin}
 use Rattle.qh_model.proofs.Members.{In-get_or, in_at}
 use Rattle.qh_model.proofs.extremes.ExtremeIds.{greatest_is_extreme}
 use Rattle.qh_plane.proofs.ShapeDimension.{segment}
 use Rattle.qh_plane.specs.contract.Shapes.{IsInLine, Each, AreFirstTwo}
-use Rattle.qh_block.specs.steps.FlatBodies.{IsFlatBody}
-use Rattle.qh_block.specs.steps.Segments.{IsFirstAlong}
-use Rattle.qh_block.proofs.flats.Edges.{no_edges, one_edge}
-use Rattle.qh_block.proofs.flats.Lines.{ends_differ, two_ends}
+use Rattle.qh_block.specs.steps.{FlatBodies.IsFlatBody, Segments.IsFirstAlong}
+use Rattle.qh_block.proofs.flats.{Edges.no_edges, Edges.one_edge, Lines.ends_differ, Lines.two_ends}
 
 module _ (pts : List Vector) (ids : List ℕ) (b : BodyValue) where
   abbrev IsExtreme : ℕ → Type 0

@@ -3,9 +3,7 @@ use Rattle.std.proofs.Common.{◌≡◌, ◌≢◌, ℕ, suc, ◌<◌, [], ◌�
 use Rattle.std.proofs.lemmas.Grind.{common_steps}
 use Rattle.std.specs.List.{list_any}
 use Rattle.std.specs.Prelude.{◌==◌, ◌&&◌}
-use Rattle.qh_model.specs.headline.Fan.{count_pairs, edge_count, pairs_along}
-use Rattle.qh_model.specs.headline.Polygons.{IsEdgeCount}
-use Rattle.qh_model.specs.headline.Sets.{In, Once}
+use Rattle.qh_model.specs.headline.{Fan.count_pairs, Fan.edge_count, Fan.pairs_along, Polygons.IsEdgeCount, Sets.In, Sets.Once}
 use Rattle.qh_block.specs.steps.Faces.{HasThree}
 use Rattle.qh_block.specs.steps.Faces.HasThree.{three}
 use Rattle.qh_model.proofs.polygons.EdgeCounts.{edges_are_counted}

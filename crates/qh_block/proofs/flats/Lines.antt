@@ -4,19 +4,15 @@ use Rattle.std.proofs.Math.Nat.{ne_of_lt}
 use Rattle.std.proofs.lemmas.Int.{ints, by_lt_z}
 use Rattle.std.specs.Prelude.{ℤ, pos, ◌-ℤ◌, ◌*ℤ◌, neg_ℤ, ◌≤ℤ◌, ◌<ℤ◌, ◌↔◌, List}
 use Rattle.qh_model.specs.contract.IdSets.{IsIdSet}
-use Rattle.qh_model.specs.headline.Extreme.{Extreme, Others}
-use Rattle.qh_model.specs.headline.Predicates.{cross, place}
-use Rattle.qh_model.specs.headline.Sets.{In, Members}
+use Rattle.qh_model.specs.headline.{Extreme.Extreme, Extreme.Others, Predicates.cross, Predicates.place, Sets.In, Sets.Members}
 use Rattle.qh_model.specs.headline.Vector.{Vector, minus, cross_product, dot}
 use Rattle.qh_model.proofs.Members.{In-get_or, in_at}
-use Rattle.qh_model.proofs.algebra.Order.{le_less, mul-pos, mul-nonneg_nonpos, mul-nonpos_nonneg}
-use Rattle.qh_model.proofs.algebra.Ring.{ring}
+use Rattle.qh_model.proofs.algebra.{Order.le_less, Order.mul-pos, Order.mul-nonneg_nonpos, Order.mul-nonpos_nonneg, Ring.ring}
 use Rattle.qh_model.proofs.algebra.Ring.Expr.{add, sub as less, mul, neg}
 use Rattle.qh_model.proofs.algebra.Signs.{equal_le, gap_positive, less_le, lt_neg, neg_le, not_less}
 use Rattle.qh_model.proofs.algebra.VectorIdentities.{vec, subE, crossE, dotE, put, combine3, dot-minus}
 use Rattle.qh_model.proofs.combinations.Alternatives.{combination_or_separator}
-use Rattle.qh_model.proofs.extremes.Directions.{square-positive}
-use Rattle.qh_model.proofs.extremes.ExtremeIds.{combination_within, greatest_is_extreme}
+use Rattle.qh_model.proofs.extremes.{Directions.square-positive, ExtremeIds.combination_within, ExtremeIds.greatest_is_extreme}
 use Rattle.qh_plane.proofs.LinesAndPlanes.{same_point}
 use Rattle.qh_plane.specs.contract.Shapes.{IsInLine, Each, AreFirstTwo}
 use Rattle.qh_block.specs.steps.Segments.{IsFirstAlong}

@@ -2,27 +2,18 @@
 use Rattle.std.proofs.Common.{◌≡◌, ◌≢◌, ◌∙◌, ℕ, [], ◌∷◌, List, length, sym, subst, ◌⊎◌, ⊎_elim, inl, inr, arith, refl}
 use Rattle.std.proofs.lemmas.Int.{ints}
 use Rattle.qh_model.specs.contract.IdSets.{IsIdSet}
-use Rattle.qh_model.specs.headline.Dimension.{IsDimension}
-use Rattle.qh_model.specs.headline.Extreme.{Extreme}
-use Rattle.qh_model.specs.headline.Hull.{BodyValue, IsBody}
-use Rattle.qh_model.specs.headline.Polygon.{IsPolygon}
-use Rattle.qh_model.specs.headline.Polygons.{IsFlatFace, PointsForward}
-use Rattle.qh_model.specs.headline.Predicates.{place, cross, AreInLine}
-use Rattle.qh_model.specs.headline.Sets.{In, Members}
-use Rattle.qh_model.specs.headline.Vector.{Vector, origin, minus}
+use Rattle.qh_model.specs.headline.{Dimension.IsDimension, Extreme.Extreme, Hull.BodyValue, Hull.IsBody, Polygon.IsPolygon}
+use Rattle.qh_model.specs.headline.{Polygons.IsFlatFace, Polygons.PointsForward, Predicates.place, Predicates.cross, Predicates.AreInLine}
+use Rattle.qh_model.specs.headline.{Sets.In, Sets.Members, Vector.Vector, Vector.origin, Vector.minus}
 use Rattle.qh_model.proofs.Members.{In-get_or, in_at}
 use Rattle.qh_model.proofs.algebra.VectorIdentities.{vector_path, in_line-twice, opposite, in_line-last}
-use Rattle.qh_model.proofs.extremes.Dimensions.{triangle_of}
-use Rattle.qh_model.proofs.extremes.Directions.{cross-flip, in_line-flip}
+use Rattle.qh_model.proofs.extremes.{Dimensions.triangle_of, Directions.cross-flip, Directions.in_line-flip}
 use Rattle.qh_model.proofs.extremes.ExtremeIds.{listed_itself, combination_of_extremes, combination_within}
 use Rattle.qh_plane.specs.contract.PlanarSets.{IsPlanarSet}
 use Rattle.qh_plane.specs.contract.Shapes.{IsInLine, IsInPlane, Each, IsFirstNot, AreFirstTwo}
-use Rattle.qh_block.specs.steps.Faces.{HasThree}
+use Rattle.qh_block.specs.steps.{Faces.HasThree, FlatBodies.IsFlatBody}
 use Rattle.qh_block.specs.steps.Faces.HasThree.{three}
-use Rattle.qh_block.specs.steps.FlatBodies.{IsFlatBody}
-use Rattle.qh_block.proofs.flats.Bodies.{flat_is_body}
-use Rattle.qh_block.proofs.flats.Edges.{edges_round}
-use Rattle.qh_block.proofs.flats.Lines.{first_two_in}
+use Rattle.qh_block.proofs.flats.{Bodies.flat_is_body, Edges.edges_round, Lines.first_two_in}
 
 -- corners that are not in line differ
 pub corners_differ : (at : ℕ → Vector) (i j k : ℕ) → ¬ (AreInLine (at i) (at j) (at k)) → (i ≢ j) × (j ≢ k) × (i ≢ k)

@@ -3,9 +3,7 @@ use Rattle.std.proofs.Common.{◌≡◌, ℕ, zero, suc, ◌+◌, ◌<◌, ◌�
 use Rattle.std.proofs.Common.{sum_by, ne_eqb}
 use Rattle.std.specs.List.{range_with_len}
 use Rattle.std.proofs.lemmas.Bool.Decides.{nat_tests}
-use Rattle.std.proofs.lemmas.List.FromFn.{length-range_with_len}
-use Rattle.std.proofs.lemmas.List.Folds.{sum_by-replicate}
-use Rattle.std.proofs.lemmas.List.Sums.{sum_by-append}
+use Rattle.std.proofs.lemmas.List.{FromFn.length-range_with_len, Folds.sum_by-replicate, Sums.sum_by-append}
 use Rattle.qh_block.specs.steps.PositionChains.{none, count, IsChain, AreSets, no_sets, one_more, IsKept}
 use Rattle.qh_block.specs.declared.quickhull.outside_sets.Ends.{Ends}
 

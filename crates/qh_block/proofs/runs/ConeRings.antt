@@ -1,30 +1,20 @@
 -- The rings of large cones: what their wedges are, and what the answers of a search come to.
 use Rattle.std.proofs.Common.{◌≡◌, ℕ, ◌<◌, All, slice_index, arith, ap, sym, ◌∙◌, refl, List, [], ◌∷◌, ◌++◌, length, inl, inr, ℤ, pos, ◌≤ℤ◌}
 use Rattle.std.proofs.Common.{◌<ℤ◌}
-use Rattle.std.proofs.lemmas.Int.{ints}
-use Rattle.std.proofs.lemmas.List.{get_or_append_left, get_or_push, length_push}
-use Rattle.qh_model.specs.headline.Vector.{Vector}
-use Rattle.qh_model.specs.headline.Predicates.{vol, place}
-use Rattle.qh_model.specs.contract.FinishedSurface.{weighted_at}
-use Rattle.qh_model.specs.contract.Surface.{IsCorner}
+use Rattle.std.proofs.lemmas.{Int.ints, List.get_or_append_left, List.get_or_push, List.length_push}
+use Rattle.qh_model.specs.headline.{Vector.Vector, Predicates.vol, Predicates.place, Sets.In}
+use Rattle.qh_model.specs.contract.{FinishedSurface.weighted_at, Surface.IsCorner}
 use Rattle.qh_model.specs.contract.Surface.Side.{second, third}
 use Rattle.qh_model.specs.contract.StoredSurface.{StoredFacet, facet_at, surface_of}
 use Rattle.std.proofs.lemmas.List.Elements.{All-from_get_or}
-use Rattle.qh_model.specs.headline.Sets.{In}
 use Rattle.qh_model.proofs.Members.{All-In, All-of, In-get_or, in_at}
 use Rattle.qh_model.proofs.algebra.VectorIdentities.{vol-flip, vol-flip_last, vol-swap_last}
-use Rattle.qh_model.proofs.surfaces.ConeRays.{between_rays}
-use Rattle.qh_model.proofs.surfaces.SurfaceLaws.{corners_are_settled}
+use Rattle.qh_model.proofs.surfaces.{ConeRays.between_rays, SurfaceLaws.corners_are_settled}
 use Rattle.qh_pred.specs.contract.Planes.{PlaneValue, height}
-use Rattle.qh_mesh.specs.contract.Edges.{edge_of, facet_of, twin_of}
-use Rattle.qh_mesh.specs.contract.Replacement.{IsLive, IsReplacement}
+use Rattle.qh_mesh.specs.contract.{Edges.edge_of, Edges.facet_of, Edges.twin_of, Replacement.IsLive, Replacement.IsReplacement}
 use Rattle.qh_mesh.specs.contract.SoundMesh.{facet_vol}
-use Rattle.qh_mesh.proofs.EdgeSides.{edge-facet, twin-is}
-use Rattle.qh_mesh.proofs.Rewiring.{in_live, rise-vol}
-use Rattle.qh_mesh.proofs.NumberCases.{by_le}
-use Rattle.qh_block.specs.steps.Planes.{plane_at}
-use Rattle.qh_block.specs.steps.Runs.{IsPlaneOf, IsGrown}
-use Rattle.qh_block.specs.steps.Settling.{IsAboveNone}
+use Rattle.qh_mesh.proofs.{EdgeSides.edge-facet, EdgeSides.twin-is, Rewiring.in_live, Rewiring.rise-vol, NumberCases.by_le}
+use Rattle.qh_block.specs.steps.{Planes.plane_at, Runs.IsPlaneOf, Runs.IsGrown, Settling.IsAboveNone}
 use Rattle.qh_block.specs.steps.Cones.{IsFan, apex_of, HasNoCornerAbove, no_wedge, wedge_at, IsWedge, AreWedges, AreTriangles, IsConePlane}
 use Rattle.qh_block.specs.steps.Cones.{IsBetweenRays, IsAmongRays}
 use Rattle.qh_block.specs.declared.quickhull.cone_ring.Wedge.{Wedge}

@@ -1,10 +1,7 @@
 -- From facets that were made to the next round, and from the last round to a finished surface.
 use Rattle.std.proofs.Common.{All, ◌≡◌, ℕ, ◌<◌, ◌≤◌, sym, ◌∙◌, refl, inl, inr, List, [], ◌∷◌, length, subst, pos, ◌<ℤ◌}
-use Rattle.qh_model.specs.headline.Vector.{Vector, origin}
-use Rattle.qh_model.specs.headline.Predicates.{place}
-use Rattle.qh_model.specs.headline.Sets.{In}
-use Rattle.qh_model.specs.contract.FinishedSurface.{IsFinished}
-use Rattle.qh_model.specs.contract.StoredSurface.{StoredFacet, surface_of}
+use Rattle.qh_model.specs.headline.{Vector.Vector, Vector.origin, Predicates.place, Sets.In}
+use Rattle.qh_model.specs.contract.{FinishedSurface.IsFinished, StoredSurface.StoredFacet, StoredSurface.surface_of}
 use Rattle.qh_model.specs.contract.ClosedSurface.{signed_volume, triples_from}
 use Rattle.std.specs.List.{range_with_len}
 use Rattle.qh_model.proofs.lists.Ranges.{range_has, range_below}
@@ -12,8 +9,7 @@ use Rattle.qh_model.proofs.algebra.Signs.{less_one_way}
 use Rattle.qh_pred.specs.contract.Planes.{PlaneValue}
 use Rattle.qh_mesh.specs.contract.SoundMesh.{IsClosedMesh}
 use Rattle.qh_mesh.proofs.Rewiring.{live_in}
-use Rattle.qh_block.specs.steps.Planes.{ArePlanes}
-use Rattle.qh_block.specs.steps.OutsideSets.{OutsideValue, set_of}
+use Rattle.qh_block.specs.steps.{Planes.ArePlanes, OutsideSets.OutsideValue, OutsideSets.set_of}
 use Rattle.qh_block.specs.steps.Runs.{IsDone, IsGrown, IsUnderWay, IsSettling, IsRemade}
 
 -- once all orphans are settled and the facets with outside sets wait, the next round may begin

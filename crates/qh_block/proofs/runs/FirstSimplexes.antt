@@ -4,23 +4,17 @@ use Rattle.std.proofs.Common.{pos, ◌<ℤ◌, ◌≤ℤ◌}
 use Rattle.std.specs.List.{range_with_len}
 use Rattle.std.proofs.lemmas.List.Elements.{All-from_recursion, All-nil}
 use Rattle.std.proofs.lemmas.Int.{ints, by_lt_z}
-use Rattle.qh_model.specs.headline.Vector.{Vector}
-use Rattle.qh_model.specs.headline.Predicates.{place, vol}
-use Rattle.qh_model.specs.headline.Sets.{In}
-use Rattle.qh_model.specs.contract.Weighted.{weighted}
-use Rattle.qh_model.specs.contract.FinishedSurface.{middle_at}
-use Rattle.qh_model.specs.contract.StoredSurface.{StoredFacet, facet_at}
+use Rattle.qh_model.specs.headline.{Vector.Vector, Predicates.place, Predicates.vol, Sets.In}
+use Rattle.qh_model.specs.contract.{Weighted.weighted, FinishedSurface.middle_at, StoredSurface.StoredFacet, StoredSurface.facet_at}
 use Rattle.qh_model.proofs.Members.{All-In, In-get_or}
 use Rattle.qh_model.proofs.algebra.VectorIdentities.{vol-flip_last}
 use Rattle.qh_plane.specs.contract.Shapes.{IsInLine, IsInPlane, IsFirstNot, AreFirstTwo, dimension_of}
-use Rattle.qh_block.specs.steps.Simplexes.{IsSimplexOf}
+use Rattle.qh_block.specs.steps.{Simplexes.IsSimplexOf, OutsideSets.OutsideValue, OutsideSets.set_of}
 use Rattle.qh_plane.specs.declared.shape.Shape.{Shape}
 use Rattle.qh_plane.specs.declared.shape.Shape.TheVariants.{Point, Segment, Flat, Solid}
-use Rattle.qh_mesh.specs.contract.Replacement.{IsLive}
-use Rattle.qh_mesh.specs.contract.SoundMesh.{IsSoundMesh, IsClosedMesh, simplex_facets}
+use Rattle.qh_mesh.specs.contract.{Replacement.IsLive, SoundMesh.IsSoundMesh, SoundMesh.IsClosedMesh, SoundMesh.simplex_facets}
 use Rattle.qh_model.proofs.surfaces.Simplex.{middle-turned}
 use Rattle.qh_model.proofs.lists.Ranges.{range_has}
-use Rattle.qh_block.specs.steps.OutsideSets.{OutsideValue, set_of}
 use Rattle.qh_block.specs.steps.Runs.{height_at, IsGrown, IsRemade}
 use Rattle.qh_block.proofs.flats.Lines.{first_two_in}
 

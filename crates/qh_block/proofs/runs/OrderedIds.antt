@@ -6,20 +6,14 @@ use Rattle.std.proofs.lemmas.Bool.Decides.{nat_tests}
 use Rattle.std.proofs.lemmas.List.{get_or-map, get_or_default, length-map}
 use Rattle.std.proofs.lemmas.Map.Keys.{IsDistinct-IsPermutation, IsDistinct-cons, IsDistinct-head, IsDistinct-tail}
 use Rattle.std.proofs.lemmas.List.Sorted.{IsPermutation-sym}
-use Rattle.qh_model.specs.headline.Vector.{Vector, origin}
-use Rattle.qh_model.specs.headline.Predicates.{place, vol}
-use Rattle.qh_model.specs.headline.Sets.{In, Once, Members}
-use Rattle.qh_model.specs.contract.FinishedSurface.{IsFinished}
-use Rattle.qh_model.specs.contract.Surface.{Surface, IsCorner}
-use Rattle.qh_model.proofs.surfaces.Named.{IsNamed, stored_named}
-use Rattle.qh_model.specs.contract.StoredSurface.{StoredFacet, named_facet, surface_of}
+use Rattle.qh_model.specs.headline.{Vector.Vector, Vector.origin, Predicates.place, Predicates.vol, Sets.In, Sets.Once, Sets.Members}
+use Rattle.qh_model.specs.contract.{FinishedSurface.IsFinished, Surface.Surface, Surface.IsCorner}
+use Rattle.qh_model.proofs.surfaces.{Named.IsNamed, Named.stored_named, Stored.live_is_marked}
+use Rattle.qh_model.specs.contract.{StoredSurface.StoredFacet, StoredSurface.named_facet, StoredSurface.surface_of, IdSets.AreIndices}
 use Rattle.qh_model.proofs.lists.Ranges.{range_below}
-use Rattle.qh_model.proofs.surfaces.Stored.{live_is_marked}
-use Rattle.qh_mesh.specs.contract.Names.{name_in}
-use Rattle.qh_mesh.specs.contract.Replacement.{IsLive}
+use Rattle.qh_mesh.specs.contract.{Names.name_in, Replacement.IsLive}
 use Rattle.qh_block.specs.steps.PlaneWalks.{AreCornersBelow}
 use Rattle.qh_model.proofs.Members.{All-In, All-of, In-get_or, every_of, every_at, in_permutation}
-use Rattle.qh_model.specs.contract.IdSets.{AreIndices}
 use Rattle.qh_plane.proofs.KeyOrder.{eqb_flips}
 use Rattle.qh_block.specs.declared.quickhull.far_simplex.Simplex.{Simplex}
 use Rattle.qh_block.specs.steps.Simplexes.{IsSimplexOf, IsSimplexIn, IsPositionOf, ArePositionsOf}

@@ -1,14 +1,11 @@
 -- The next apex: facets without an outside set are passed over, and the first point of a set is taken out of it.
 use Rattle.std.proofs.Common.{◌≡◌, ℕ, ◌<◌, arith, ap, sym, ◌∙◌, refl, ◌⊎◌, ⊎_elim, inl, inr, Some, List, [], ◌∷◌, ◌++◌, All, length, drop}
 use Rattle.std.proofs.Common.{subst, slice_set, length-set}
-use Rattle.std.proofs.lemmas.Grind.{common_steps}
-use Rattle.std.proofs.lemmas.List.{set-get_or}
-use Rattle.qh_model.specs.headline.Vector.{Vector}
-use Rattle.qh_model.specs.headline.Sets.{In}
+use Rattle.std.proofs.lemmas.{Grind.common_steps, List.set-get_or}
+use Rattle.qh_model.specs.headline.{Vector.Vector, Sets.In}
 use Rattle.qh_model.specs.contract.StoredSurface.{StoredFacet}
 use Rattle.qh_pred.specs.contract.Planes.{PlaneValue}
-use Rattle.qh_block.specs.steps.OutsideSets.{OutsideValue, set_of}
-use Rattle.qh_block.specs.steps.Runs.{IsDone, IsOutside, IsUnderWay, IsPicked}
+use Rattle.qh_block.specs.steps.{OutsideSets.OutsideValue, OutsideSets.set_of, Runs.IsDone, Runs.IsOutside, Runs.IsUnderWay, Runs.IsPicked}
 use Rattle.qh_model.proofs.lists.Joined.{of_append}
 use Rattle.std.proofs.lemmas.List.Elements.{All-pop}
 use Rattle.qh_block.proofs.runs.SetWrites.{of_write}

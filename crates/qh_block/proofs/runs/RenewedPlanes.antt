@@ -1,17 +1,12 @@
 -- The planes of facets that were made, written one after the other.
 use Rattle.std.proofs.Common.{drop, slice_index, ◌≡◌, ℕ, ◌+◌, ◌<◌, ◌≤◌, arith, ◌⊎◌, inl, inr, List, length, slice_set, get_or-set_same}
 use Rattle.std.proofs.Common.{get_or-set_other, length-set}
-use Rattle.std.proofs.lemmas.Bool.{cases_eq}
-use Rattle.std.proofs.lemmas.List.{drop_all, drop_more}
-use Rattle.qh_model.specs.headline.Vector.{Vector}
-use Rattle.qh_model.specs.headline.Sets.{In}
-use Rattle.qh_model.specs.headline.Predicates.{place}
+use Rattle.std.proofs.lemmas.{Bool.cases_eq, List.drop_all, List.drop_more}
+use Rattle.qh_model.specs.headline.{Vector.Vector, Sets.In, Predicates.place}
 use Rattle.qh_model.specs.contract.StoredSurface.{StoredFacet}
 use Rattle.qh_pred.specs.contract.Planes.{PlaneValue, height}
-use Rattle.qh_mesh.specs.contract.Replacement.{IsLive}
-use Rattle.qh_mesh.specs.contract.SoundMesh.{facet_vol}
-use Rattle.qh_block.specs.steps.Planes.{no_plane, plane_at}
-use Rattle.qh_block.specs.steps.Runs.{IsPlaneOf}
+use Rattle.qh_mesh.specs.contract.{Replacement.IsLive, SoundMesh.facet_vol}
+use Rattle.qh_block.specs.steps.{Planes.no_plane, Planes.plane_at, Runs.IsPlaneOf}
 
 -- the planes of the facets of which there was one, or that were made, stand but for those from i on
 pub record AreRenewed (pts : List Vector) (fs : List StoredFacet) (old : List PlaneValue) (made : List ℕ)

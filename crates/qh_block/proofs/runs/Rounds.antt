@@ -1,17 +1,11 @@
 -- A round of Quickhull: where a cone replaces what the apex sees, the released points are all that must be looked at.
 use Rattle.std.proofs.Common.{All, ◌≡◌, ℕ, ◌<◌, arith, ap, sym, ◌∙◌, true, inl, inr, List, length, get_or, subst, pos, ◌<ℤ◌, ◌≤ℤ◌}
-use Rattle.std.proofs.lemmas.List.{get_or_read}
-use Rattle.std.proofs.lemmas.Bool.{cases_Bool}
-use Rattle.qh_model.specs.headline.Vector.{Vector, origin}
-use Rattle.qh_model.specs.headline.Predicates.{vol, place}
-use Rattle.qh_model.specs.headline.Sets.{In}
-use Rattle.qh_model.specs.contract.Weighted.{Weighted, above}
-use Rattle.qh_model.specs.contract.FinishedSurface.{weighted_at, middle_at}
-use Rattle.qh_model.specs.contract.Surface.{Surface, Side, start, end}
+use Rattle.std.proofs.lemmas.{List.get_or_read, Bool.cases_Bool}
+use Rattle.qh_model.specs.headline.{Vector.Vector, Vector.origin, Predicates.vol, Predicates.place, Sets.In}
+use Rattle.qh_model.specs.contract.{Weighted.Weighted, Weighted.above, FinishedSurface.weighted_at, FinishedSurface.middle_at}
+use Rattle.qh_model.specs.contract.{Surface.Surface, Surface.Side, Surface.start, Surface.end, Rewired.IsTriangle, Rewired.IsRewired}
 use Rattle.qh_model.specs.contract.Surface.Side.{first, second, third}
-use Rattle.qh_model.specs.contract.Rewired.{IsTriangle, IsRewired}
-use Rattle.qh_model.specs.laws.Horizons.{IsConeUnseen}
-use Rattle.qh_model.specs.laws.UnseenPoints.{IsUnseen}
+use Rattle.qh_model.specs.laws.{Horizons.IsConeUnseen, UnseenPoints.IsUnseen}
 use Rattle.qh_model.specs.contract.StoredSurface.{StoredFacet, surface_of}
 use Rattle.std.proofs.lemmas.List.Elements.{All-from_get_or}
 use Rattle.qh_model.proofs.Members.{All-In}
@@ -21,11 +15,9 @@ use Rattle.qh_model.proofs.algebra.Signs.{not_less}
 use Rattle.qh_pred.specs.contract.Planes.{PlaneValue}
 use Rattle.qh_mesh.specs.contract.Replacement.{is_listed, IsLive, IsKept, IsReplacement}
 use Rattle.qh_mesh.specs.contract.SoundMesh.{facet_vol, IsSoundMesh, IsClosedMesh, AreVisible}
-use Rattle.qh_mesh.proofs.ListedFacets.{in_listed, listed_in}
-use Rattle.qh_mesh.proofs.Rewiring.{live_in, in_live, rise-vol}
+use Rattle.qh_mesh.proofs.{ListedFacets.in_listed, ListedFacets.listed_in, Rewiring.live_in, Rewiring.in_live, Rewiring.rise-vol}
 use Rattle.qh_block.specs.steps.OutsideSets.{OutsideValue, set_of}
-use Rattle.qh_block.specs.steps.Runs.{height_at, IsDone, HasCornersBelow, IsPicked, IsRemade}
-use Rattle.qh_block.specs.steps.Settling.{AreReleased}
+use Rattle.qh_block.specs.steps.{Runs.height_at, Runs.IsDone, Runs.HasCornersBelow, Runs.IsPicked, Runs.IsRemade, Settling.AreReleased}
 use Rattle.qh_block.proofs.LiveFacets.{live_below}
 
 -- a point that no facet of the surface sees

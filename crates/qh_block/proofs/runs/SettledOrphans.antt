@@ -2,16 +2,13 @@
 use Rattle.std.proofs.Common.{All, ◌≡◌, ℕ, ◌<◌, ap, sym, refl, ◌⊎◌, inl, inr, List, [], ◌∷◌, ◌++◌, length, drop, subst, slice_set}
 use Rattle.std.proofs.Common.{slice_index, slice_index_or, pos, ◌<ℤ◌}
 use Rattle.std.proofs.lemmas.Bool.{cases_eq}
-use Rattle.qh_model.specs.headline.Vector.{Vector, origin}
-use Rattle.qh_model.specs.headline.Predicates.{place}
-use Rattle.qh_model.specs.headline.Sets.{In}
+use Rattle.qh_model.specs.headline.{Vector.Vector, Vector.origin, Predicates.place, Sets.In}
 use Rattle.qh_model.specs.contract.StoredSurface.{StoredFacet}
 use Rattle.qh_model.proofs.Members.{All-In}
 use Rattle.qh_model.proofs.lists.Joined.{of_append, in_append}
 use Rattle.qh_pred.specs.contract.Planes.{PlaneValue, height}
 use Rattle.qh_mesh.specs.contract.Replacement.{IsLive}
-use Rattle.qh_block.specs.steps.Planes.{plane_at, ArePlanes}
-use Rattle.qh_block.specs.steps.OutsideSets.{OutsideValue, set_of, joined}
+use Rattle.qh_block.specs.steps.{Planes.plane_at, Planes.ArePlanes, OutsideSets.OutsideValue, OutsideSets.set_of, OutsideSets.joined}
 use Rattle.qh_block.specs.steps.Runs.{height_at, IsDone, IsOutside, IsSettling}
 use Rattle.qh_block.specs.steps.Settling.{IsDropped, IsAssigned, IsOneSettled, AreReleased}
 use Rattle.qh_block.proofs.runs.SetWrites.{of_write, write_keeps, write_empty, of_join, join_has, join_keeps}

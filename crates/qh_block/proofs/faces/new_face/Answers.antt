@@ -6,10 +6,8 @@ use Rattle.qh_model.specs.headline.Predicates.{place}
 use Rattle.qh_model.specs.contract.StoredSurface.{surface_of}
 use Rattle.qh_mesh.specs.contract.Replacement.{IsLive}
 use Rattle.qh_block.specs.steps.NamedMeshes.{named}
-use Rattle.qh_block.proofs.finished.Corners.{corners_in}
+use Rattle.qh_block.proofs.finished.{Corners.corners_in, NamedWalks.named_live, NamedWalks.walk_named, NewFaces.new_face}
 use Rattle.qh_model.proofs.surfaces.FacetPlanes.{level_itself}
-use Rattle.qh_block.proofs.finished.NamedWalks.{named_live, walk_named}
-use Rattle.qh_block.proofs.finished.NewFaces.{new_face}
 use Rattle.qh_block.proofs.finished.LoneTriangles.{lone_triangle}
 use Rattle.qh_block.proofs.faces.new_face.Goals as goal
 

@@ -1,8 +1,7 @@
 -- The hull of a set in one plane, from the normal of three of its ids.
 use Rattle.std.proofs.Common.{◌≡◌, ◌⊎◌, length, subst}
 use Rattle.std.proofs.lemmas.Result.{IfOk-weaker}
-use Rattle.qh_model.specs.headline.Predicates.{place, cross}
-use Rattle.qh_model.specs.headline.Vector.{Vector, origin, minus}
+use Rattle.qh_model.specs.headline.{Predicates.place, Predicates.cross, Vector.Vector, Vector.origin, Vector.minus}
 use Rattle.qh_plane.proofs.ShapeDimension.{flat}
 use Rattle.qh_block.specs.steps.FlatBodies.{IsFlatBody}
 use Rattle.qh_block.proofs.flats.Polygons.{planar, polygon_is_body}

@@ -2,9 +2,7 @@
 use Rattle.std.proofs.Common.{subst}
 use Rattle.std.specs.Prelude.{IfOk}
 use Rattle.std.proofs.lemmas.Result.{IfOk-weaker}
-use Rattle.qh_model.specs.headline.Hull.{AreExtremes}
-use Rattle.qh_model.specs.headline.Predicates.{place}
-use Rattle.qh_model.specs.headline.Sets.{Members}
+use Rattle.qh_model.specs.headline.{Hull.AreExtremes, Predicates.place, Sets.Members}
 use Rattle.qh_model.specs.contract.IdSets.{IsIdSet}
 use Rattle.qh_model.proofs.hulls.ExtremeParts.{part_indices, part_set, part_extremes}
 use Rattle.qh_block.specs.steps.InnerPoints.{IsOuterPart}

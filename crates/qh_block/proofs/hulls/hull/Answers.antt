@@ -2,9 +2,7 @@
 use Rattle.std.proofs.Common.{subst}
 use Rattle.std.specs.Prelude.{IfOk}
 use Rattle.std.proofs.lemmas.Result.{IfOk-weaker}
-use Rattle.qh_model.specs.headline.Hull.{IsBody}
-use Rattle.qh_model.specs.headline.Predicates.{place}
-use Rattle.qh_model.specs.headline.Sets.{Members}
+use Rattle.qh_model.specs.headline.{Hull.IsBody, Predicates.place, Sets.Members}
 use Rattle.qh_model.specs.contract.IdSets.{IsIdSet}
 use Rattle.qh_model.proofs.hulls.ExtremeParts.{part_indices, part_body}
 use Rattle.qh_block.specs.steps.InnerPoints.{IsOuterPart}

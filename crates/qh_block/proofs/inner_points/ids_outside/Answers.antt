@@ -1,9 +1,7 @@
 -- An id whose point is in a box goes.
 use Rattle.std.proofs.Common.{◌≡◌, ◌∷◌, ◌++◌, ◌+◌, drop, ap, sym, subst, ◌∙◌, true}
 use Rattle.std.proofs.lemmas.List.{drop_more, append_assoc, append-nil, drop_all}
-use Rattle.qh_model.specs.headline.Predicates.{place}
-use Rattle.qh_model.specs.headline.Sets.{Members}
-use Rattle.qh_model.specs.headline.Extreme.{Extreme}
+use Rattle.qh_model.specs.headline.{Predicates.place, Sets.Members, Extreme.Extreme}
 use Rattle.qh_model.proofs.Members.{All-In, In-get_or}
 use Rattle.qh_block.specs.steps.InnerPoints.{HasNoExtreme, IsWithin, IsOuterPart}
 use Rattle.qh_block.proofs.InnerPoints.{all_ids_left, inner_goes}

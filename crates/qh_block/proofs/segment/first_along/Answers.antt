@@ -1,7 +1,6 @@
 -- The first of some ids and one more is the earlier one of these two.
 use Rattle.std.proofs.Common.{◌≡◌, ◌∙◌, ◌<◌, ◌+◌, ℕ, List, length, get_or, arith, subst, sym, ◌⊎◌, ⊎_elim}
-use Rattle.std.proofs.lemmas.Grind.{get_or_default_zero}
-use Rattle.std.proofs.lemmas.Int.{ints}
+use Rattle.std.proofs.lemmas.{Grind.get_or_default_zero, Int.ints}
 use Rattle.std.specs.Prelude.{ℤ, ◌≤ℤ◌}
 use Rattle.qh_model.specs.headline.Sets.{In}
 use Rattle.qh_model.proofs.Members.{In-get_or, All-In, in_at}

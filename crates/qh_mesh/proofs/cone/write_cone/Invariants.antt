@@ -1,7 +1,6 @@
 -- The facets of the cone before j are written.
 use Rattle.std.proofs.Common.{ℕ, List, drop, ◌++◌}
-use Rattle.qh_mesh.specs.steps.Places.{IsPool}
-use Rattle.qh_mesh.specs.steps.Cones.{Written}
+use Rattle.qh_mesh.specs.steps.{Places.IsPool, Cones.Written}
 use Rattle.qh_mesh.proofs.cone.write_cone.Given as goal
 
 abbrev pub invariant-loop-j : goal.invariant-loop-j

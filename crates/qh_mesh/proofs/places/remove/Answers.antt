@@ -4,9 +4,7 @@ use Rattle.std.proofs.lemmas.List.{get_or_read, reverse-append}
 use Rattle.qh_model.specs.contract.StoredSurface.{facet_at, no_facet}
 use Rattle.qh_mesh.specs.steps.Kept.{is_live, removed}
 use Rattle.qh_model.proofs.surfaces.Stored.{live_inside}
-use Rattle.qh_mesh.proofs.Pools.{pool_more}
-use Rattle.qh_mesh.proofs.ListedFacets.{once_apart}
-use Rattle.qh_mesh.proofs.WrittenFacets.{scattered_more}
+use Rattle.qh_mesh.proofs.{Pools.pool_more, ListedFacets.once_apart, WrittenFacets.scattered_more}
 use Rattle.qh_mesh.proofs.places.remove.Goals as goal
 
 pub loop-f-preserved : goal.loop-f-preserved

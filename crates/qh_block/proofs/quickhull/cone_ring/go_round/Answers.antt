@@ -2,8 +2,7 @@
 use Rattle.std.proofs.Common.{sym, subst}
 use Rattle.qh_model.proofs.Members.{All-In}
 use Rattle.qh_mesh.specs.contract.Replacement.{IsLive}
-use Rattle.qh_block.specs.steps.Runs.{IsPlaneOf}
-use Rattle.qh_block.specs.steps.Cones.{IsWedge, apex_of}
+use Rattle.qh_block.specs.steps.{Runs.IsPlaneOf, Cones.IsWedge, Cones.apex_of}
 use Rattle.qh_block.proofs.runs.ConeRings.{fan_next, read_wedge, each_more}
 use Rattle.qh_block.proofs.quickhull.cone_ring.go_round.Goals as goal
 

@@ -1,8 +1,7 @@
 -- A facet without an outside set is passed over, and the first point of a set is the apex.
 use Rattle.std.proofs.Common.{Some, ◌<◌, ◌≡◌, ◌∙◌, sym, subst, length, refl, arith}
 use Rattle.std.proofs.lemmas.List.{nil_from_length}
-use Rattle.qh_block.specs.steps.OutsideSets.{OutsideValue}
-use Rattle.qh_block.specs.steps.Runs.{IsUnderWay, IsPicked}
+use Rattle.qh_block.specs.steps.{OutsideSets.OutsideValue, Runs.IsUnderWay, Runs.IsPicked}
 use Rattle.std.proofs.lemmas.List.Elements.{All-pop}
 use Rattle.qh_block.proofs.runs.PickedApexes.{taken_is, none_taken, passed_over, picked, all_done}
 use Rattle.qh_block.proofs.quickhull.queue.next_apex.Goals as goal

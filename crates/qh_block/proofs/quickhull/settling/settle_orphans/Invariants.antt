@@ -2,9 +2,7 @@
 use Rattle.std.proofs.Common.{ℕ, All, ◌≡◌, ◌≤◌, List, length}
 use Rattle.qh_model.specs.headline.Predicates.{place}
 use Rattle.qh_model.specs.contract.StoredSurface.{StoredFacet}
-use Rattle.qh_block.specs.steps.Planes.{ArePlanes}
-use Rattle.qh_block.specs.steps.OutsideSets.{listed}
-use Rattle.qh_block.specs.steps.Runs.{IsSettling}
+use Rattle.qh_block.specs.steps.{Planes.ArePlanes, OutsideSets.listed, Runs.IsSettling}
 use Rattle.qh_mesh.specs.contract.Replacement.{IsLive}
 use Rattle.qh_block.proofs.quickhull.settling.settle_orphans.Given as goal
 

@@ -1,8 +1,7 @@
 -- A run that is done has a finished surface over the points of the ids.
 use Rattle.std.proofs.Common.{◌∙◌}
 use Rattle.std.proofs.lemmas.List.{length-map}
-use Rattle.qh_block.proofs.runs.FinishedRuns.{finished}
-use Rattle.qh_block.proofs.runs.OrderedIds.{simplex_in}
+use Rattle.qh_block.proofs.runs.{FinishedRuns.finished, OrderedIds.simplex_in}
 use Rattle.qh_block.proofs.quickhull.surfaces.run_over.Goals as goal
 
 pub start-requires : goal.start-requires

@@ -3,10 +3,9 @@ use Rattle.qh_model.specs.headline.Predicates.{place}
 use Rattle.qh_model.proofs.Members.{rising_once}
 use Rattle.qh_model.proofs.extremes.Dimensions.{dimension_is_unique}
 use Rattle.qh_plane.specs.contract.Shapes.{dimension_of}
-use Rattle.qh_mesh.proofs.SoundMeshes.{finished_is_closed}
+use Rattle.qh_mesh.proofs.{SoundMeshes.finished_is_closed, Rewiring.in_live}
 use Rattle.qh_block.proofs.runs.FirstSimplexes.{solid_only}
 use Rattle.qh_model.proofs.surfaces.Finished.{facets_support}
-use Rattle.qh_mesh.proofs.Rewiring.{in_live}
 use Rattle.qh_block.proofs.quickhull.surfaces.surface.Goals as goal
 
 pub unreachable-requires : goal.unreachable-requires

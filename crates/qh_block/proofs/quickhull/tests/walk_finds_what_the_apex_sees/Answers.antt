@@ -1,8 +1,7 @@
 -- The first four points of the test are not in one plane.
 use Rattle.std.proofs.Common.{◌≡◌, ◌≢◌, ℕ, List, [], ◌∷◌, arith, ℤ, pos}
 use Rattle.std.proofs.lemmas.Int.{ints}
-use Rattle.qh_model.specs.headline.Vector.{Vector}
-use Rattle.qh_model.specs.headline.Predicates.{cross, vol, place}
+use Rattle.qh_model.specs.headline.{Vector.Vector, Predicates.cross, Predicates.vol, Predicates.place}
 use Rattle.qh_block.proofs.quickhull.tests.walk_finds_what_the_apex_sees.Goals as goal
 
 -- a point on one of three axes

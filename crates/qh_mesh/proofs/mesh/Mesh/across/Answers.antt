@@ -1,8 +1,7 @@
 -- What lies across a side of a live facet is its twin.
 use Rattle.std.proofs.Common.{◌≡◌, ◌∙◌, ap, sym}
 use Rattle.qh_mesh.specs.contract.Edges.{edge_of, nth_side, twin_of}
-use Rattle.qh_mesh.specs.steps.Kept.{outer_of}
-use Rattle.qh_mesh.specs.steps.Twins.{HasTwin}
+use Rattle.qh_mesh.specs.steps.{Kept.outer_of, Twins.HasTwin}
 use Rattle.qh_mesh.proofs.EdgeSides.{twin-at, twin-is}
 use Rattle.qh_mesh.proofs.mesh.Mesh.across.Goals as goal
 use Rattle.qh_mesh.proofs.mesh.Mesh.across.Goals.{After-across}

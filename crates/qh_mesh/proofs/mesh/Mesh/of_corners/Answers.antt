@@ -2,9 +2,7 @@
 use Rattle.std.proofs.Common.{ℕ, zero, suc, rules, ◌∙◌}
 use Rattle.qh_model.specs.contract.Surface.{Side}
 use Rattle.qh_model.specs.contract.Surface.Side.{first, second, third}
-use Rattle.qh_mesh.specs.contract.Replacement.{IsLive}
-use Rattle.qh_mesh.specs.contract.SoundMesh.{simplex_facets}
-use Rattle.qh_mesh.specs.contract.Edges.{edge_of}
+use Rattle.qh_mesh.specs.contract.{Replacement.IsLive, SoundMesh.simplex_facets, Edges.edge_of}
 use Rattle.qh_mesh.specs.steps.Twins.{HasTwin}
 use Rattle.qh_mesh.proofs.EdgeSides.{twins_by_side}
 use Rattle.qh_mesh.proofs.mesh.Mesh.of_corners.Goals as goal

@@ -2,8 +2,7 @@
 use Rattle.std.proofs.Common.{◌≡◌, ◌-◌, ◌++◌, [], length, arith, rules, ap, sym, refl, ◌∙◌, replicate, append-nil}
 use Rattle.std.proofs.lemmas.Grind.{common_steps}
 use Rattle.qh_block.specs.steps.OutsideSets.{listed}
-use Rattle.qh_block.proofs.outside_sets.Steps.{kept, places_are, value_after}
-use Rattle.qh_block.proofs.outside_sets.NewSets.{room_kept, room_sum}
+use Rattle.qh_block.proofs.outside_sets.{Steps.kept, Steps.places_are, Steps.value_after, NewSets.room_kept, NewSets.room_sum}
 use Rattle.qh_block.proofs.quickhull.outside_sets.OutsideSets.make_room.Goals as goal
 
 pub invariant_of-self : goal.invariant_of-self

@@ -2,8 +2,7 @@
 use Rattle.std.proofs.Common.{◌∙◌, arith, ap}
 use Rattle.std.proofs.lemmas.List.FromFn.{length-range_with_len}
 use Rattle.qh_block.specs.steps.OutsideSets.{listed}
-use Rattle.qh_block.proofs.outside_sets.Steps.{value_is}
-use Rattle.qh_block.proofs.outside_sets.NewSets.{new_kept}
+use Rattle.qh_block.proofs.outside_sets.{Steps.value_is, NewSets.new_kept}
 use Rattle.qh_block.proofs.quickhull.outside_sets.OutsideSets.new.Goals as goal
 
 pub invariant_of-result : goal.invariant_of-result

@@ -2,8 +2,7 @@
 use Rattle.std.proofs.Common.{sym, subst}
 use Rattle.qh_model.specs.headline.Predicates.{place}
 use Rattle.qh_block.specs.steps.Cones.{IsFan}
-use Rattle.qh_block.proofs.runs.ConeRings.{cone_fan}
-use Rattle.qh_block.proofs.runs.Rounds.{remade, read_point}
+use Rattle.qh_block.proofs.runs.{ConeRings.cone_fan, Rounds.remade, Rounds.read_point}
 use Rattle.qh_block.proofs.quickhull.run.Run.add.Goals as goal
 
 pub find-requires-clause-sees : goal.find-requires-clause-sees

@@ -1,7 +1,6 @@
 -- The run is under way over the same points, and fewer of them are listed each time.
 use Rattle.std.proofs.Common.{◌≡◌}
-use Rattle.qh_block.specs.steps.OutsideSets.{listed}
-use Rattle.qh_block.specs.steps.Runs.{IsUnderWay}
+use Rattle.qh_block.specs.steps.{OutsideSets.listed, Runs.IsUnderWay}
 use Rattle.qh_block.proofs.quickhull.run.Run.finish.Given as goal
 
 abbrev pub invariant-loop-facet : goal.invariant-loop-facet

@@ -1,14 +1,9 @@
 -- What is settled is ready for the next round.
 use Rattle.std.proofs.Common.{◌<◌, ◌∙◌, ◌-◌, ap, sym, subst, List, [], length, replicate, get_or, arith, ℕ, length-append}
-use Rattle.qh_model.specs.headline.Predicates.{place}
-use Rattle.qh_model.specs.headline.Vector.{Vector}
-use Rattle.qh_block.specs.steps.Cones.{HasNoCornerAbove}
-use Rattle.qh_block.specs.steps.Planes.{ArePlanes}
-use Rattle.qh_block.proofs.runs.ConeRings.{grown_corners}
+use Rattle.qh_model.specs.headline.{Predicates.place, Vector.Vector}
+use Rattle.qh_block.specs.steps.{Cones.HasNoCornerAbove, Planes.ArePlanes}
+use Rattle.qh_block.proofs.runs.{ConeRings.grown_corners, SetWrites.grown-set, SettledOrphans.same_settling, RenewedPlanes.roomy}
 use Rattle.std.proofs.lemmas.List.Elements.{All-weaker}
-use Rattle.qh_block.proofs.runs.SetWrites.{grown-set}
-use Rattle.qh_block.proofs.runs.SettledOrphans.{same_settling}
-use Rattle.qh_block.proofs.runs.RenewedPlanes.{roomy}
 use Rattle.qh_block.proofs.runs.FinishedRuns.{next_round}
 use Rattle.qh_block.proofs.quickhull.run.Run.settle.Goals as goal
 

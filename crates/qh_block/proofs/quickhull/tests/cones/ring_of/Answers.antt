@@ -1,7 +1,6 @@
 -- One wedge more of a ring made for a test.
 use Rattle.std.proofs.Common.{◌≡◌}
-use Rattle.qh_model.specs.headline.Vector.{Vector}
-use Rattle.qh_model.specs.headline.Predicates.{vol}
+use Rattle.qh_model.specs.headline.{Vector.Vector, Predicates.vol}
 use Rattle.qh_pred.specs.contract.Planes.{height}
 use Rattle.qh_block.specs.declared.quickhull.cone_ring.Wedge.{Wedge}
 use Rattle.qh_block.proofs.runs.ConeRings.{each_more}
