@@ -1,5 +1,6 @@
 //! The facets that wait for their turn, the last one first.
-ghost use Rattle.std.specs.Prelude.{All, ◌≡◌, ◌+◌, ◌<◌, ◌≤◌, ◌⊎◌, ℕ, List, [], ◌∷◌, ◌++◌, length, OnOk, IfNone, IfSome, vec_len, vec_capacity};
+ghost use Rattle.std.specs.Prelude.{All, ◌≡◌, ◌+◌, ◌<◌, ◌≤◌, ◌⊎◌, ℕ, List, [], ◌∷◌, ◌++◌, length, OnOk, IfNone, IfSome};
+ghost use Rattle.std.specs.Prelude.{vec_len, vec_capacity};
 ghost use Rattle.qh_model.specs.headline.Vector.{Vector};
 ghost use Rattle.qh_model.specs.headline.Sets.{In};
 ghost use Rattle.qh_model.specs.contract.StoredSurface.{StoredFacet};

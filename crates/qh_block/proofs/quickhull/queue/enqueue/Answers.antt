@@ -21,4 +21,5 @@ pub returns-clause-kept : goal.returns-clause-kept
 returns-clause-kept c = rw c.reserve.ensures.items at c.loop-facet.invariant.queued.kept
 
 pub returns-clause-made : goal.returns-clause-made
-returns-clause-made c = (rw (take_all c.loop-facet.facet-index c.args.made.now c.loop-facet-test.false) at c.loop-facet.invariant.queued).added
+returns-clause-made c =
+    (rw (take_all c.loop-facet.facet-index c.args.made.now c.loop-facet-test.false) at c.loop-facet.invariant.queued).added
