@@ -47,26 +47,26 @@ pub fn join_outer(
     ensures joined { Joined facets.old facets.new horizon.now made.now (length horizon.now) }
     ensures noted { result ≡ true → AreNoted slots.now horizon.now }
 {
-    let mut filled = true;
+    let mut are_noted = true;
     for j in 0..horizon.len() {
         let side = horizon[j];
-        filled &= is_noted(slots, side, true, j) & is_noted(slots, side, false, j);
+        are_noted &= is_noted(slots, side, true, j) & is_noted(slots, side, false, j);
         set_twin(facets, side.across(), edge_at(made, j, 0));
     }
-    filled
+    are_noted
 }
 
 /// Writes the facets of the cone, each beside those over the sides of the horizon that meet its own.
 pub fn write_cone(
     facets: &mut [Facet],
     slots: &[Slot],
-    filled: bool,
+    are_noted: bool,
     horizon: &[FacetSide],
     made: &[FacetNo],
     apex: u32,
 )
     requires balanced { IsBalanced horizon.now }
-    requires filled { filled ≡ true → AreNoted slots.now horizon.now }
+    requires are_noted { are_noted ≡ true → AreNoted slots.now horizon.now }
     requires len { length made.now ≡ length horizon.now }
     requires inside { All (λ f. f < length facets.old) made.now }
     requires once { Once made.now }
@@ -76,8 +76,8 @@ pub fn write_cone(
 {
     for j in 0..made.len() {
         let side = horizon[j];
-        let next = mate(slots, filled, horizon, true, j);
-        let before = mate(slots, filled, horizon, false, j);
+        let next = mate(slots, are_noted, horizon, true, j);
+        let before = mate(slots, are_noted, horizon, false, j);
         facets[made[j].index()] = Facet::new(
             side.from,
             side.to,

@@ -86,13 +86,13 @@ fn find_mate(horizon: &[FacetSide], ends: bool, j: usize) -> usize
 
 /// The side of the horizon that starts where side j ends, or ends where it starts.
 #[tactic(auto, using(crate::proofs::Mates::mate_noted))]
-pub fn mate(slots: &[Slot], filled: bool, horizon: &[FacetSide], ends: bool, j: usize) -> usize
+pub fn mate(slots: &[Slot], are_noted: bool, horizon: &[FacetSide], ends: bool, j: usize) -> usize
     requires inside { j < length horizon.now }
     requires balanced { IsBalanced horizon.now }
-    requires filled { filled ≡ true → AreNoted slots.now horizon.now }
+    requires are_noted { are_noted ≡ true → AreNoted slots.now horizon.now }
     ensures { IsMate horizon.now ends j result }
 {
-    if filled {
+    if are_noted {
         noted(slots, !ends, corner(horizon[j], ends) as usize)
     } else {
         find_mate(horizon, ends, j)
