@@ -23,10 +23,10 @@ PHASES = ["read", "distinct", "look", "surface", "faces", "text", "system", "els
 # the phase of the first pattern that a symbol has
 OWNERS = [
     (r"^qh_write::", "text"),
-    (r"^qh_read::|serve_once", "read"),
+    (r"^qh_read::|^qconvex::serve", "read"),
     (r"^qh_plane::(close_points|distinct_points|hashed_keys|sorted_points|place_keys|sorting)|^rayon::", "distinct"),
     (r"^qh_block::inner_points", "look"),
-    (r"^qh_block::(faces|face_order|face_keys|named_mesh|hulls|walk|plane_walk|solid_edges|bodies|flat_sets)", "faces"),
+    (r"^qh_block::(faces|face_order|face_keys|named_mesh|hulls|plane_walk|solid_edges|bodies|flat_sets)", "faces"),
     (r"^qh_block::solids::(corners|listed)|^qh_plane::", "faces"),
     (r"^qh_block::|^qh_mesh::|^qh_pred::", "surface"),
 ]
