@@ -16,6 +16,7 @@
 
 mod cone_ring;
 mod cone_search;
+mod ends;
 mod far_simplex;
 mod near_order;
 mod outside_sets;

@@ -16,8 +16,7 @@ fn set_twin(facets: &mut [Facet], e: EdgeNo, twin: u32)
     requires { facet_of e < length facets.old }
     ensures { facets.new ≡ slice_set facets.old (facet_of e) (with_twin (facet_at facets.old (facet_of e)) (side_of_edge e) twin) }
 {
-    let f = e.facet().index();
-    facets[f] = facets[f].with_twin(e.side(), twin);
+    facets[e.facet().index()].set_twin(e.side(), twin);
 }
 
 /// The number of a side of the j-th facet of a list.

@@ -209,14 +209,12 @@ impl Facet {
         EdgeNo(self.twins[number] as usize)
     }
 
-    /// The facet with another half-edge across its side 0, 1 or 2.
-    pub fn with_twin(self, number: usize, twin: u32) -> Facet
+    /// Puts another half-edge across its side 0, 1 or 2.
+    pub fn set_twin(&mut self, number: usize, twin: u32)
         requires { number < 3 }
-        ensures { result ≡ with_twin self (nth_side number) twin }
+        ensures { self.new ≡ with_twin self.old (nth_side number) twin }
     {
-        let mut facet = self;
-        facet.twins[number] = twin;
-        facet
+        self.twins[number] = twin;
     }
 
     /// The facet with the names of its corners in a list of ids: corner l becomes the id at position l.

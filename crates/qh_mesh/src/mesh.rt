@@ -22,6 +22,7 @@ use qh_model::{Id, Memory, Point};
 use qh_pred::{point_at, vol};
 use std::alloc::{AllocError, Global};
 use std::marker::Model;
+use std::mem;
 
 /// More places than this have half-edges whose numbers don't fit 32 bits.
 const PLACES: usize = 1_431_655_765;
@@ -38,6 +39,8 @@ pub struct Mesh {
     slots: Vec<Slot>,
     /// Room for that horizon.
     horizon: Vec<FacetSide>,
+    /// Room for the list of the next cone's facets.
+    spare: Vec<FacetNo>,
 }
 
 impl Model for Mesh {
@@ -156,6 +159,7 @@ impl Mesh {
             free: Vec::new(alloc),
             slots: Vec::new(alloc),
             horizon: Vec::new(alloc),
+            spare: Vec::new(alloc),
         })
     }
 
@@ -310,7 +314,9 @@ impl Mesh {
         ) else {
             return Err(Memory);
         };
-        let Ok(mut made) = Vec::with_capacity(alloc, 3 * count) else {
+        let mut made = mem::replace(&mut self.spare, Vec::new(alloc));
+        made.clear();
+        let Ok(()) = made.reserve(3 * count) else {
             return Err(Memory);
         };
         rebuild(
@@ -323,6 +329,14 @@ impl Mesh {
             apex.number(),
         );
         Ok(made)
+    }
+
+    /// Takes a list of facets, such as [`Mesh::replace`] answers, for its room: the next answer needs no
+    /// memory of its own. The surface stays as it is.
+    pub fn take_room(&mut self, list: Vec<FacetNo>)
+        ensures { self.new ≡ self.old }
+    {
+        self.spare = list;
     }
 
     /// Gives the corners, which are positions of a list, their names in it: corner l becomes the id at

@@ -199,6 +199,8 @@ fn replaces(rt: HostRuntime) -> Result<(), Fail> {
         for f in &all {
             assert!(rt; has_twins(&mesh, *f), "{apex}");
         }
+        // The next step's list lies in the room of this one's.
+        mesh.take_room(made);
     }
     Ok(())
 }

@@ -6,12 +6,13 @@
 //! Source: Barber, Dobkin and Huhdanpaa 1996 (the first simplex has points with the least and the
 //! greatest coordinates).
 ghost use Rattle.std.specs.Prelude.{◌≡◌, ◌≢◌, ◌<◌, pos, length};
+ghost use Rattle.std.specs.List.{All};
 ghost use Rattle.qh_model.specs.headline.Predicates.{place, vol};
 ghost use Rattle.qh_model.specs.headline.Sets.{Members};
 ghost use Rattle.qh_model.specs.contract.IdSets.{AreIndices};
 ghost use Rattle.qh_block.specs.steps.Simplexes.{IsSimplexOf};
 
-use qh_model::{COORDINATE_LIMIT, Id, Point};
+use qh_model::{Id, Point};
 use qh_pred::{Plane, cross, point_at, vol};
 
 /// For each corner about so many ids are looked at, spread over all: those of a large set are as far apart.
@@ -29,10 +30,6 @@ pub struct Simplex {
 /// What the next corner of a simplex is to be far from.
 #[derive(Clone, Copy, Drop)]
 enum FarFrom {
-    /// The side of the greatest x.
-    Right,
-    /// The side of the least x.
-    Left,
     /// The line through two points.
     Line(Point, Point),
     /// A plane.
@@ -43,12 +40,6 @@ impl FarFrom {
     /// A number that grows with the distance of a point.
     fn distance(&self, p: Point) -> u128 {
         match *self {
-            FarFrom::Right => {
-                u128::from((i64::from(p.x()) - i64::from(COORDINATE_LIMIT)).unsigned_abs())
-            }
-            FarFrom::Left => {
-                u128::from((i64::from(p.x()) + i64::from(COORDINATE_LIMIT)).unsigned_abs())
-            }
             FarFrom::Line(a, b) => {
                 let normal = cross(a, b, p);
                 let flat = normal
@@ -83,21 +74,38 @@ fn furthest(pts: &[Point], ids: &[Id], from: FarFrom) -> Id
     found
 }
 
-/// A simplex of ids that are far apart: those of the least and the greatest x, the one that is
-/// furthest from their line, and the one that is furthest from the plane of the three; or the one that
-/// is given, if these are in one plane.
-pub fn far_simplex(pts: &[Point], ids: &[Id], given: Simplex) -> Simplex
+/// The furthest of the ends of a set and of the ids looked at.
+fn furthest_of(pts: &[Point], ids: &[Id], ends: &[Id], from: FarFrom) -> Id
     requires some { 0 < length ids.now }
     requires indices { AreIndices pts.now ids.now }
+    requires some_end { 0 < length ends.now }
+    requires ends { All (Members ids.now) ends.now }
+    requires ends_in { AreIndices pts.now ends.now }
+    ensures member { Members ids.now result }
+    ensures inside { result < length pts.now }
+{
+    let end = furthest(pts, ends, from);
+    let looked_at = furthest(pts, ids, from);
+    let is_end = from.distance(point_at(pts, end)) >= from.distance(point_at(pts, looked_at));
+    if is_end { end } else { looked_at }
+}
+
+/// A simplex of ids that are far apart: those of the least and the greatest x, the one that is
+/// furthest from their line, and the one that is furthest from the plane of the three; or the one that
+/// is given, if these are in one plane. The ends are those along the three axes, the least x first.
+pub fn far_simplex(pts: &[Point], ids: &[Id], ends: &[Id; 6], given: Simplex) -> Simplex
+    requires some { 0 < length ids.now }
+    requires indices { AreIndices pts.now ids.now }
+    requires ends { All (Members ids.now) ends.now }
+    requires ends_in { AreIndices pts.now ends.now }
     requires given { IsSimplexOf pts.now ids.now given }
     ensures { IsSimplexOf pts.now ids.now result }
 {
-    let i = furthest(pts, ids, FarFrom::Right);
-    let j = furthest(pts, ids, FarFrom::Left);
+    let [i, j, ..] = *ends;
     let (a, b) = (point_at(pts, i), point_at(pts, j));
-    let k = furthest(pts, ids, FarFrom::Line(a, b));
+    let k = furthest_of(pts, ids, ends, FarFrom::Line(a, b));
     let c = point_at(pts, k);
-    let l = furthest(pts, ids, FarFrom::Plane(Plane::through(a, b, c)));
+    let l = furthest_of(pts, ids, ends, FarFrom::Plane(Plane::through(a, b, c)));
     if vol(a, b, c, point_at(pts, l)) == 0 {
         return given;
     }

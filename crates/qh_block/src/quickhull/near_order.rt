@@ -18,13 +18,11 @@ pub const ROOM: u64 = 4294967296;
 /// The bits of a cell's place along one axis. Three of them fit a cell's number.
 const PLACE_BITS: u32 = 10;
 
-/// The cells of a cube around points: its least coordinates, and how many of the lowest bits of a
-/// coordinate don't tell one cell from the next.
+/// The cells of a cube around points: its corner of the least coordinates, and how many of the lowest bits
+/// of a coordinate don't tell one cell from the next.
 #[derive(Clone, Copy, Drop)]
 struct Cells {
-    west: i32,
-    south: i32,
-    bottom: i32,
+    least: Point,
     width_bits: u32,
 }
 
@@ -37,28 +35,19 @@ fn spread(number: u32) -> u32 {
 }
 
 impl Cells {
-    /// The cells around the points of ids.
-    fn around(pts: &[Point], ids: &[Id]) -> Cells
-        requires { AreIndices pts.now ids.now }
+    /// The cells around a set, from its ends.
+    fn around(pts: &[Point], ends: &[Id; 6]) -> Cells
+        requires { AreIndices pts.now ends.now }
     {
-        let (mut west, mut south, mut bottom) = (i32::MAX, i32::MAX, i32::MAX);
-        let (mut east, mut north, mut top) = (i32::MIN, i32::MIN, i32::MIN);
-        for id in ids {
-            let point = point_at(pts, *id);
-            west = west.min(point.x());
-            east = east.max(point.x());
-            south = south.min(point.y());
-            north = north.max(point.y());
-            bottom = bottom.min(point.z());
-            top = top.max(point.z());
-        }
+        let [west, east, south, north, bottom, top] = *ends;
+        let (west, east) = (point_at(pts, west).x(), point_at(pts, east).x());
+        let (south, north) = (point_at(pts, south).y(), point_at(pts, north).y());
+        let (bottom, top) = (point_at(pts, bottom).z(), point_at(pts, top).z());
         let breadth = east.abs_diff(west).max(north.abs_diff(south));
         let extent = breadth.max(top.abs_diff(bottom));
         let bits = u32::BITS - extent.leading_zeros();
         Cells {
-            west,
-            south,
-            bottom,
+            least: Point::new(west, south, bottom),
             width_bits: bits.saturating_sub(PLACE_BITS),
         }
     }
@@ -70,9 +59,9 @@ impl Cells {
 
     /// The number of a point's cell: the bits of its places, taken in turn.
     fn number(&self, point: Point) -> u32 {
-        let x = spread(self.place(point.x(), self.west));
-        let y = spread(self.place(point.y(), self.south));
-        let z = spread(self.place(point.z(), self.bottom));
+        let x = spread(self.place(point.x(), self.least.x()));
+        let y = spread(self.place(point.y(), self.least.y()));
+        let z = spread(self.place(point.z(), self.least.z()));
         x << 2 | y << 1 | z
     }
 }
@@ -85,11 +74,10 @@ fn key(cell: u32, id: Id) -> u64
 }
 
 /// The keys of ids.
-fn keys_of(alloc: Global, pts: &[Point], ids: &[Id]) -> Result<Vec<u64>, AllocError>
+fn keys_of(alloc: Global, pts: &[Point], ids: &[Id], cells: &Cells) -> Result<Vec<u64>, AllocError>
     requires { AreIndices pts.now ids.now }
     ensures { IfOk result (λ v. map id_of v.items ≡ ids.now) }
 {
-    let cells = Cells::around(pts, ids);
     let mut keys = Vec::with_capacity(alloc, ids.len())?;
     for id in ids {
         keys.push(key(cells.number(point_at(pts, *id)), *id))?;
@@ -106,14 +94,21 @@ fn ids_of(alloc: Global, keys: Vec<u64>) -> Result<Vec<Id>, AllocError>
         .collect(alloc)
 }
 
-/// The ids in the order of the cells of their points.
+/// The ids in the order of the cells of their points. The ends are those of the set along the three axes
+/// (`ends_of`).
 ///
 /// `Err` says that memory was refused.
-pub fn near_order(alloc: Global, pts: &[Point], ids: &[Id]) -> Result<Vec<Id>, Memory>
-    requires { AreIndices pts.now ids.now }
+pub fn near_order(
+    alloc: Global,
+    pts: &[Point],
+    ids: &[Id],
+    ends: &[Id; 6],
+) -> Result<Vec<Id>, Memory>
+    requires ids { AreIndices pts.now ids.now }
+    requires ends { AreIndices pts.now ends.now }
     ensures { IfOk result (λ v. IsPermutation ids.now v.items) }
 {
-    let mut keys = keys_of(alloc, pts, ids)?;
+    let mut keys = keys_of(alloc, pts, ids, &Cells::around(pts, ends))?;
     keys.sort_unstable();
     Ok(ids_of(alloc, keys)?)
 }

@@ -14,6 +14,9 @@ use qh_model::Point;
 use qh_pred::{Plane, point_at};
 use std::alloc::AllocError;
 
+/// Room is made for so many places more than are asked for, so that few rounds make any.
+const SPARE: usize = 64;
+
 /// The plane of a live facet.
 pub fn plane_of(pts: &[Point], mesh: &Mesh, facet: FacetNo) -> Plane
     requires live { IsLive mesh.now facet }
@@ -30,14 +33,14 @@ fn no_plane() -> Plane {
     Plane::through(origin, origin, origin)
 }
 
-/// Makes room for the planes of so many places.
+/// Makes room for the planes of so many places, and some to spare.
 pub fn make_room(planes: &mut Vec<Plane>, places: usize) -> Result<(), AllocError>
     ensures room { OnOk result (places ≤ length planes.new.items) }
     ensures kept { (f : ℕ) → f < length planes.old.items
         → (f < length planes.new.items) × (plane_at planes.new.items f ≡ plane_at planes.old.items f) }
 {
     if planes.len() < places {
-        planes.resize(places, no_plane())?;
+        planes.resize(places.saturating_add(SPARE), no_plane())?;
     }
     Ok(())
 }

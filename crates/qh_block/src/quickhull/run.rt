@@ -129,9 +129,8 @@ impl Run {
             IsUnderWay self.old.points.items self.new.mesh self.new.planes.items self.new.sets self.new.pending.items) }
         ensures listed { OnOk result (listed self.new.sets ≤ listed self.old.sets) }
     {
-        let places = self.mesh.places();
-        make_room(&mut self.planes, places)?;
-        self.sets.make_room(places)?;
+        make_room(&mut self.planes, self.mesh.places())?;
+        self.sets.make_room(self.planes.len())?;
         renew(&self.points, &self.mesh, made, &mut self.planes);
         self.ring
             .take(&self.points, &self.mesh, &self.planes, made)?;
@@ -164,7 +163,9 @@ impl Run {
         let made = self
             .mesh
             .replace(alloc, &self.points, self.walk.visible(), Id::new(apex))?;
-        self.settle(&made)
+        self.settle(&made)?;
+        self.mesh.take_room(made);
+        Ok(())
     }
 
     /// Adds points until no facet has an outside set.

@@ -32,16 +32,29 @@ pub fn release(sets: &mut OutsideSets, gone: &[FacetNo])
     }
 }
 
+/// A facet that a point is above.
+#[derive(Clone, Copy, Drop)]
+struct Below {
+    facet: FacetNo,
+    /// Its place among the facets looked at one by one, or past them.
+    at: usize,
+    /// The height of the point over it, where it has such a place.
+    height: i128,
+}
+
 /// The first of the facets that the point is above.
-fn first_below(planes: &[Plane], made: &[FacetNo], point: Point) -> Option<FacetNo>
+fn first_below(planes: &[Plane], made: &[FacetNo], point: Point) -> Option<Below>
     requires { All (λ f. f < length planes.now) made.now }
     ensures none { IfNone result (IsAboveNone planes.now made.now point) }
-    ensures named { IfSome result (λ facet. In facet made.now) }
-    ensures seen { IfSome result (λ facet. pos 0 <ℤ height (plane_at planes.now facet) point) }
+    ensures named { IfSome result (λ b. In b.facet made.now) }
+    ensures seen { IfSome result (λ b. pos 0 <ℤ height (plane_at planes.now b.facet) point) }
 {
-    for facet in made {
-        if planes[facet.index()].sees(point) {
-            return Some(*facet);
+    for at in 0..made.len() {
+        let facet = made[at];
+        let plane = &planes[facet.index()];
+        if plane.sees(point) {
+            let height = plane.height(point);
+            return Some(Below { facet, at, height });
         }
     }
     None
@@ -49,21 +62,25 @@ fn first_below(planes: &[Plane], made: &[FacetNo], point: Point) -> Option<Facet
 
 /// A facet of those made that the point is above. The first few are looked at one by one, so that points
 /// gather in few sets, and where there are more, a search through their ring tells of the others.
-fn one_below(planes: &[Plane], ring: &ConeRing, made: &[FacetNo], point: Point) -> Option<FacetNo>
+fn one_below(planes: &[Plane], ring: &ConeRing, made: &[FacetNo], point: Point) -> Option<Below>
     requires planes { All (λ f. f < length planes.now) made.now }
     requires ring { AreWedges planes.now made.now ring.now.apex ring.now.wedges.items }
     ensures none { IfNone result (IsAboveNone planes.now made.now point) }
-    ensures named { IfSome result (λ facet. In facet made.now) }
-    ensures seen { IfSome result (λ facet. pos 0 <ℤ height (plane_at planes.now facet) point) }
+    ensures named { IfSome result (λ b. In b.facet made.now) }
+    ensures seen { IfSome result (λ b. pos 0 <ℤ height (plane_at planes.now b.facet) point) }
 {
     if made.len() <= SCANNED {
         return first_below(planes, made, point);
     }
-    if let Some(facet) = first_below(planes, &made[..SCANNED], point) {
-        return Some(facet);
+    if let Some(below) = first_below(planes, &made[..SCANNED], point) {
+        return Some(below);
     }
     match ring.asked(point) {
-        Asked::Seen(facet) => Some(facet),
+        Asked::Seen(facet) => Some(Below {
+            facet,
+            at: SCANNED,
+            height: 0,
+        }),
         Asked::Unseen => None,
         Asked::Unknown => first_below(planes, made, point),
     }
@@ -71,7 +88,7 @@ fn one_below(planes: &[Plane], ring: &ConeRing, made: &[FacetNo], point: Point) 
 
 /// Whether the point is further above the facet than the first point of its outside set, or that set
 /// is empty.
-fn is_furthest(
+fn is_above_first(
     sets: &OutsideSets,
     planes: &[Plane],
     points: &[Point],
@@ -89,14 +106,38 @@ fn is_furthest(
     }
 }
 
+/// Whether no point that came to the facet is further above it than this one. Of the facets looked at one
+/// by one the greatest heights are kept, so that the height of a set's first point is not worked out again.
+fn is_furthest(
+    greatest: &mut [i128; SCANNED],
+    sets: &OutsideSets,
+    planes: &[Plane],
+    points: &[Point],
+    below: &Below,
+    point: Point,
+) -> bool
+    requires plane { below.now.facet < length planes.now }
+    requires place { below.now.facet < length sets.now.sets }
+    requires points { sets.now.positions ≡ length points.now }
+{
+    let Some(height) = greatest.get_mut(below.at) else {
+        return is_above_first(sets, planes, points, below.facet, point);
+    };
+    let is_above = below.height > *height;
+    *height = below.height.max(*height);
+    is_above
+}
+
 /// Puts the first orphan into the outside set of one of the facets that it is above: in front,
 /// if no other point of that set is known to be further. An orphan that is above none is dropped.
+/// `greatest` has the height of the first point of each facet looked at one by one.
 fn settle_orphan(
     sets: &mut OutsideSets,
     planes: &[Plane],
     points: &[Point],
     ring: &ConeRing,
     made: &[FacetNo],
+    greatest: &mut [i128; SCANNED],
     orphan: u32,
 )
     requires points { sets.old.positions ≡ length points.now }
@@ -112,9 +153,9 @@ fn settle_orphan(
 {
     let point = points[orphan as usize];
     match one_below(planes, ring, made, point) {
-        Some(facet) => {
-            let in_front = is_furthest(sets, planes, points, facet, point);
-            sets.assign_orphan(facet, in_front);
+        Some(below) => {
+            let in_front = is_furthest(greatest, sets, planes, points, &below, point);
+            sets.assign_orphan(below.facet, in_front);
         }
         None => sets.drop_orphan(),
     }
@@ -139,7 +180,8 @@ pub fn settle_orphans(
     ensures positions { sets.new.positions ≡ sets.old.positions }
     ensures listed { listed sets.new ≤ listed sets.old }
 {
+    let mut greatest = [0; SCANNED];
     while let Some(orphan) = sets.first_orphan() {
-        settle_orphan(sets, planes, points, ring, made, orphan);
+        settle_orphan(sets, planes, points, ring, made, &mut greatest, orphan);
     }
 }

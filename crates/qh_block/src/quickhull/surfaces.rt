@@ -15,6 +15,7 @@ ghost use Rattle.qh_block.specs.steps.NamedMeshes.{named, IsNamedMesh};
 ghost use Rattle.qh_block.specs.steps.Simplexes.{IsSimplexOf, IsPositionOf, ArePositionsOf};
 
 use crate::named_mesh::NamedMesh;
+use crate::quickhull::ends::ends_of;
 use crate::quickhull::far_simplex::{Simplex, far_simplex};
 use crate::quickhull::near_order::near_order;
 use crate::quickhull::run::Run;
@@ -123,11 +124,12 @@ pub(crate) fn surface_from(
     ensures finished { IfOk result (λ m. Once ids.now → IsFinished (place pts.now) ids.now (surface_of (named m))) }
     ensures named { IfOk result (λ m. IsNamedMesh pts.now m) }
 {
-    let far = far_simplex(pts, ids, first);
+    let ends = ends_of(pts, ids);
+    let far = far_simplex(pts, ids, &ends, first);
     if ids.len() < LARGE {
         return surface_along(alloc, pts, Vec::from_slice(alloc, ids)?, far);
     }
-    let near = near_order(alloc, pts, ids)?;
+    let near = near_order(alloc, pts, ids, &ends)?;
     surface_along(alloc, pts, near, far)
 }
 

@@ -113,7 +113,7 @@ impl Walk {
         ensures visible { OnOk result ((at : ℕ → Vector) (o : Weighted) (l : ℕ) → at l ≡ apex
             → ArePlanes at mesh.now planes.now → IsSoundMesh at mesh.now o → AreVisible at mesh.now self.new l) }
     {
-        make_room(&mut self.marks, mesh.places())?;
+        make_room(&mut self.marks, planes.len())?;
         let sees = Sees { planes, apex };
         let Ok(()) = walk(mesh, &sees, start, &mut self.marks, &mut self.found) else {
             self.marks.clear();

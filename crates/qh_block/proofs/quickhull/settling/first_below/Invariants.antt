@@ -4,5 +4,5 @@ use Rattle.qh_pred.specs.contract.Planes.{height}
 use Rattle.qh_block.specs.steps.Planes.{plane_at}
 use Rattle.qh_block.proofs.quickhull.settling.first_below.Given as goal
 
-abbrev pub invariant-loop-facet : goal.invariant-loop-facet
-invariant-loop-facet l = All (λ f. height (plane_at l.planes f) l.point ≤ℤ pos 0) (take l.facet-index l.made)
+abbrev pub invariant-loop-at : goal.invariant-loop-at
+invariant-loop-at l = All (λ f. height (plane_at l.planes f) l.point ≤ℤ pos 0) (take l.at l.made)

@@ -1,7 +1,6 @@
 -- What the first facets, the ring and a look at all facets tell of a point.
 use Rattle.std.proofs.Common.{◌<◌, length, take}
-use Rattle.qh_model.specs.headline.Sets.{In}
-use Rattle.qh_model.proofs.Members.{All-In, All-of}
+use Rattle.qh_model.{specs.headline.Sets.In, proofs.Members.All-In, proofs.Members.All-of}
 use Rattle.std.proofs.lemmas.List.Elements.{All-take}
 use Rattle.qh_block.proofs.runs.ConeRings.{among_unseen}
 use Rattle.qh_block.proofs.quickhull.settling.one_below.Goals as goal
@@ -15,4 +14,4 @@ first_below-requires-2 c = All-take (λ f. f < length c.args.planes.now) 16 c.ar
 pub returns-in-Some-clause-named : goal.returns-in-Some-clause-named
 returns-in-Some-clause-named c =
     let made = c.args.made.now in let has = All-of (λ f. In f made) made (λ f i. i) in
-    All-In (λ f. In f made) (take 16 made) c.in-Some.facet (All-take (λ f. In f made) 16 made has) c.in-Some.ensures.named
+    All-In (λ f. In f made) (take 16 made) c.in-Some.below.facet (All-take (λ f. In f made) 16 made has) c.in-Some.ensures.named
