@@ -1,3 +1,4 @@
 -- What private functions speak of: nothing to believe.
 pub mod Differences
+pub mod NarrowPlanes
 pub mod StoredPlanes

@@ -1,14 +1,13 @@
 //! Outside sets against lists worked out by hand, and the walk against a look at every facet.
 ghost use Rattle.std.specs.Prelude.{◌<◌, ◌≤◌, ◌<ℤ◌, pos, IfOk, All, length};
 ghost use Rattle.qh_mesh.specs.contract.Replacement.{IsLive};
-ghost use Rattle.qh_pred.specs.contract.Planes.{height};
-ghost use Rattle.qh_block.specs.steps.Planes.{plane_at};
+ghost use Rattle.qh_pred.specs.contract.Planes.{height, plane_at};
 
 use crate::quickhull::outside_sets::OutsideSets;
 use crate::quickhull::walk::Walk;
 use qh_mesh::{FacetNo, Mesh};
 use qh_model::{Id, Point};
-use qh_pred::Plane;
+use qh_pred::{Plane, Planes};
 use std::alloc::{AllocError, Global};
 use std::test::Fail;
 
@@ -119,13 +118,13 @@ fn no_plane() -> Plane {
 }
 
 /// The planes of a mesh, by place.
-fn planes_of(alloc: Global, mesh: &Mesh, pts: &[Point]) -> Result<Vec<Plane>, AllocError>
-    ensures { IfOk result (λ v. length mesh.now ≤ length v.items) }
+fn planes_of(alloc: Global, mesh: &Mesh, pts: &[Point]) -> Result<Planes, AllocError>
+    ensures { IfOk result (λ v. length mesh.now ≤ length v) }
 {
-    let mut planes = Vec::new(alloc);
-    planes.resize(mesh.places(), no_plane())?;
+    let mut planes = Planes::new(alloc);
+    planes.make_room(mesh.places())?;
     for f in mesh.live() {
-        planes[f.index()] = plane_of(pts, mesh.facet(f));
+        planes.set(f.index(), plane_of(pts, mesh.facet(f)))?;
     }
     Ok(planes)
 }
@@ -134,7 +133,7 @@ fn planes_of(alloc: Global, mesh: &Mesh, pts: &[Point]) -> Result<Vec<Plane>, Al
 fn seen_by(
     alloc: Global,
     mesh: &Mesh,
-    planes: &[Plane],
+    planes: &Planes,
     apex: Point,
 ) -> Result<Vec<FacetNo>, AllocError>
     ensures { IfOk result (λ v. All (λ f. IsLive mesh.now f × (pos 0 <ℤ height (plane_at planes.now f) apex)) v.items) }
@@ -142,7 +141,7 @@ fn seen_by(
     let mut seen = Vec::new(alloc);
     for f in mesh.live() {
         let place = f.index();
-        if place < planes.len() && planes[place].sees(apex) {
+        if place < planes.places() && planes.sees(place, apex) {
             seen.push(f)?;
         }
     }
