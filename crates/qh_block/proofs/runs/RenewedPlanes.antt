@@ -23,7 +23,8 @@ module _ {pts : List Vector} {fs : List StoredFacet} {old : List PlaneValue} {ma
       → length qs ≡ length ps → plane_at qs (slice_index made i) ≡ plane
       → ((f : ℕ) → f < length ps → (f ≡ slice_index made i → ⊥) → plane_at qs f ≡ plane_at ps f)
       → AreRenewed pts fs old made i ps → AreRenewed pts fs old made (i + 1) qs
-  more_renewed {ps} {qs} {i} plane m b h long written others r = record { is = λ f l g. by f (cases_eq f (slice_index made i)) (r.is f l g) }
+  more_renewed {ps} {qs} {i} plane m b h long written others r =
+      record { is = λ f l g. by f (cases_eq f (slice_index made i)) (r.is f l g) }
     where
       by : (f : ℕ) → (f ≡ slice_index made i) ⊎ (f ≡ slice_index made i → ⊥) → IsPlaneOf pts fs ps f ⊎ In f (drop i made)
           → IsPlaneOf pts fs qs f ⊎ In f (drop (i + 1) made)
