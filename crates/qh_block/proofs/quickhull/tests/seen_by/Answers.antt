@@ -20,7 +20,8 @@ pub loop-f-preserved-then-sees : goal.loop-f-preserved-then-sees
 loop-f-preserved-then-sees c =
     let fs = c.args.mesh.now in let ps = c.args.planes.now in let f = c.in-Some.f in let i = c.loop-f.invariant in (
       rest_live fs c.loop-f.f-iterator c.next.new.self f i.0 c.in-Some.ensures.steps,
-      rw c.in_ok-push.ensures.items (All-push (IsSeen fs ps c.args.apex) c.loop-f.seen.items f i.1
-          (next_live fs c.loop-f.f-iterator c.next.new.self f i.0 c.in-Some.ensures.steps,
-            rw c.index-place.ensures at (c.if-sees.ensures.0 refl))),
+      rw c.in_ok-push.ensures.items (All-push (IsSeen fs ps c.args.apex) c.loop-f.seen.items f i.1 (
+        next_live fs c.loop-f.f-iterator c.next.new.self f i.0 c.in-Some.ensures.steps,
+        rw c.index-place.ensures at (c.if-sees.ensures.0 refl),
+      )),
     )
