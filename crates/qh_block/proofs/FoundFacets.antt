@@ -8,11 +8,11 @@ use Rattle.qh_model.specs.contract.StoredSurface.{StoredFacet, facet_at, surface
 use Rattle.qh_model.specs.laws.Horizons.{IsWalked}
 use Rattle.qh_model.proofs.surfaces.SurfaceLaws.{rise_is_vol, walk_finds_all}
 use Rattle.qh_mesh.proofs.{Rewiring.live_in, Rewiring.in_live, ListedFacets.in_listed, ListedFacets.listed_in}
-use Rattle.qh_pred.specs.contract.Planes.{PlaneValue, height, plane_at}
+use Rattle.qh_pred.specs.contract.Planes.{PlaneValue, height}
 use Rattle.qh_mesh.specs.contract.Replacement.{IsLive, is_listed}
 use Rattle.qh_mesh.specs.contract.SoundMesh.{facet_vol, IsSoundMesh, AreVisible}
 use Rattle.qh_model.proofs.Members.{All-In, in_at}
-use Rattle.qh_block.specs.steps.{Planes.ArePlanes, Walks.mark_at, Walks.IsMarked, Walks.IsCrossed, Walks.IsWalkFrom}
+use Rattle.qh_block.specs.steps.{Planes.plane_at, Planes.ArePlanes, Walks.mark_at, Walks.IsMarked, Walks.IsCrossed, Walks.IsWalkFrom}
 
 -- what a walk tells of the facets that it found, and of their neighbours
 module _ (P : ℕ → Type 0) (fs : List StoredFacet) (before after : List Bool) (f : ℕ) (vs : List ℕ)

@@ -13,7 +13,7 @@ use mir.Syntax.{w64, w128}
 use mir.Val.{to_z, of_z}
 
 -- the size of a sum
-pub within-add : (x y : ℤ) (m n : ℕ) → unsigned_abs x ≤ m → unsigned_abs y ≤ n → unsigned_abs (x +ℤ y) ≤ m + n
+within-add : (x y : ℤ) (m n : ℕ) → unsigned_abs x ≤ m → unsigned_abs y ≤ n → unsigned_abs (x +ℤ y) ≤ m + n
 within-add x y m n h k = omega (arith, ints)
 
 -- the size of a difference
@@ -21,7 +21,7 @@ pub within-sub : (x y : ℤ) (m n : ℕ) → unsigned_abs x ≤ m → unsigned_a
 within-sub x y m n h k = omega (arith, ints)
 
 -- the size of a product
-pub within-mul : (x y : ℤ) (m n : ℕ) → unsigned_abs x ≤ m → unsigned_abs y ≤ n → unsigned_abs (x *ℤ y) ≤ m * n
+within-mul : (x y : ℤ) (m n : ℕ) → unsigned_abs x ≤ m → unsigned_abs y ≤ n → unsigned_abs (x *ℤ y) ≤ m * n
 within-mul x y m n h k = rw (unsigned_abs-mul x y) (mul-le-mul h k)
 
 -- a number of a size below 2^63 fits 64 bits

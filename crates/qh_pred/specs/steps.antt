@@ -1,4 +1,3 @@
 -- What private functions speak of: nothing to believe.
 pub mod Differences
-pub mod NarrowPlanes
 pub mod StoredPlanes

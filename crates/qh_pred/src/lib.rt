@@ -1,20 +1,17 @@
 //! The exact geometric predicates: the volume of four points, the normal of three, whether three
 //! points lie in one line, and the turn of three points seen from a side. A [`Plane`] keeps what the
-//! volumes of one triangle have in common,
-//! and [`Planes`] are those of many.
+//! volumes of one triangle have in common.
 //!
 //! Each answers its definition of `qh_model/specs/headline/Predicates.antt`, `left` the sign of it, with
-//! no rounding, for all points, since a [`qh_model::Point`] keeps the limit of coordinates. No predicate takes
+//! no rounding, for all points, since a [`qh_model::Point`] keeps the limit of coordinates. No call takes
 //! memory.
 //!
 //! Source: Barber, Dobkin and Huhdanpaa 1996 (a point is above a facet by the sign of a determinant).
 #![tactic(auto)]
 
 mod components;
-mod narrow_plane;
 mod normal;
 mod plane;
-mod planes;
 mod positions;
 mod predicates;
 #[cfg(test)]
@@ -22,6 +19,5 @@ mod tests;
 
 pub use normal::Normal;
 pub use plane::Plane;
-pub use planes::Planes;
 pub use positions::along;
 pub use predicates::{cross, in_line, left, point_at, vol};

@@ -2,9 +2,8 @@
 ghost use Rattle.std.specs.Prelude.{◌≡◌, ◌≤◌, ◌↔◌, IsTrue, pos, ◌<ℤ◌, unsigned_abs};
 ghost use Rattle.qh_model.specs.headline.Vector.{Vector, dot};
 ghost use Rattle.qh_model.specs.headline.Predicates.{vol};
-ghost use Rattle.qh_pred.specs.contract.Bounds.{IsNormal};
 ghost use Rattle.qh_pred.specs.steps.Differences.{offset_limit};
-ghost use Rattle.qh_pred.specs.contract.Planes.{PlaneValue, height, no_plane};
+ghost use Rattle.qh_pred.specs.contract.Planes.{PlaneValue, height};
 
 use crate::components::Components;
 use crate::normal::Normal;
@@ -42,30 +41,6 @@ impl Model for Plane {
 }
 
 impl Plane {
-    /// What stands where no plane is: nothing is above or below it.
-    pub(crate) fn none() -> Plane
-        ensures { result ≡ no_plane }
-    {
-        Plane {
-            x: 0,
-            y: 0,
-            z: 0,
-            offset: 0,
-        }
-    }
-
-    /// The plane of a normal and an offset.
-    pub(crate) fn of_parts(normal: Components, offset: i64) -> Plane
-        ensures { result ≡ record { normal = normal; offset = offset } }
-    {
-        Plane {
-            x: normal.x(),
-            y: normal.y(),
-            z: normal.z(),
-            offset: i128::from(offset),
-        }
-    }
-
     /// The plane of the triangle a, b, c, with the side above from which it goes counterclockwise.
     pub fn through(a: Point, b: Point, c: Point) -> Plane
         ensures { (p : Vector) → height result p ≡ vol a b c p }

@@ -7,8 +7,6 @@ use qh_model::{COORDINATE_LIMIT, Id, Point};
 use std::cmp::Ordering;
 use std::test::Fail;
 
-mod many_planes;
-
 const LIMIT: i32 = COORDINATE_LIMIT as i32;
 
 /// The corner of the cube at a limit that is below on all axes, and its neighbours along x, y and z.

@@ -10,11 +10,11 @@ use Rattle.std.proofs.lemmas.List.Elements.{All-from_get_or}
 use Rattle.qh_model.proofs.Members.{All-In, All-of, In-get_or, in_at}
 use Rattle.qh_model.proofs.algebra.VectorIdentities.{vol-flip, vol-flip_last, vol-swap_last}
 use Rattle.qh_model.proofs.surfaces.{ConeRays.between_rays, SurfaceLaws.corners_are_settled}
-use Rattle.qh_pred.specs.contract.Planes.{PlaneValue, height, plane_at}
+use Rattle.qh_pred.specs.contract.Planes.{PlaneValue, height}
 use Rattle.qh_mesh.specs.contract.{Edges.edge_of, Edges.facet_of, Edges.twin_of, Replacement.IsLive, Replacement.IsReplacement}
 use Rattle.qh_mesh.specs.contract.SoundMesh.{facet_vol}
 use Rattle.qh_mesh.proofs.{EdgeSides.edge-facet, EdgeSides.twin-is, Rewiring.in_live, Rewiring.rise-vol, NumberCases.by_le}
-use Rattle.qh_block.specs.steps.{Runs.IsPlaneOf, Runs.IsGrown, Settling.IsAboveNone}
+use Rattle.qh_block.specs.steps.{Planes.plane_at, Runs.IsPlaneOf, Runs.IsGrown, Settling.IsAboveNone}
 use Rattle.qh_block.specs.steps.Cones.{IsFan, apex_of, HasNoCornerAbove, no_wedge, wedge_at, IsWedge, AreWedges, AreTriangles, IsConePlane}
 use Rattle.qh_block.specs.steps.Cones.{IsBetweenRays, IsAmongRays}
 use Rattle.qh_block.specs.declared.quickhull.cone_ring.Wedge.{Wedge}

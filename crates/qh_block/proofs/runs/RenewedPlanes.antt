@@ -1,11 +1,12 @@
 -- The planes of facets that were made, written one after the other.
-use Rattle.std.proofs.Common.{drop, slice_index, ◌≡◌, ℕ, ◌+◌, ◌<◌, ◌≤◌, arith, ◌⊎◌, inl, inr, List, length}
+use Rattle.std.proofs.Common.{drop, slice_index, ◌≡◌, ℕ, ◌+◌, ◌<◌, ◌≤◌, arith, ◌⊎◌, inl, inr, List, length, slice_set, get_or-set_same}
+use Rattle.std.proofs.Common.{get_or-set_other, length-set}
 use Rattle.std.proofs.lemmas.{Bool.cases_eq, List.drop_all, List.drop_more}
 use Rattle.qh_model.specs.headline.{Vector.Vector, Sets.In, Predicates.place}
 use Rattle.qh_model.specs.contract.StoredSurface.{StoredFacet}
-use Rattle.qh_pred.specs.contract.Planes.{PlaneValue, height, plane_at}
+use Rattle.qh_pred.specs.contract.Planes.{PlaneValue, height}
 use Rattle.qh_mesh.specs.contract.{Replacement.IsLive, SoundMesh.facet_vol}
-use Rattle.qh_block.specs.steps.Runs.{IsPlaneOf}
+use Rattle.qh_block.specs.steps.{Planes.no_plane, Planes.plane_at, Runs.IsPlaneOf}
 
 -- the planes of the facets of which there was one, or that were made, stand but for those from i on
 pub record AreRenewed (pts : List Vector) (fs : List StoredFacet) (old : List PlaneValue) (made : List ℕ)
@@ -18,18 +19,18 @@ module _ {pts : List Vector} {fs : List StoredFacet} {old : List PlaneValue} {ma
   none_renewed = record { is = λ f l h. h }
 
   -- one more
-  pub more_renewed : {ps qs : List PlaneValue} {i : ℕ} (plane : PlaneValue) → i < length made → slice_index made i < length ps
+  pub more_renewed : {ps : List PlaneValue} {i : ℕ} (plane : PlaneValue) → i < length made → slice_index made i < length ps
       → ((p : Vector) → height plane p ≡ facet_vol (place pts) fs (slice_index made i) p)
-      → length qs ≡ length ps → plane_at qs (slice_index made i) ≡ plane
-      → ((f : ℕ) → f < length ps → (f ≡ slice_index made i → ⊥) → plane_at qs f ≡ plane_at ps f)
-      → AreRenewed pts fs old made i ps → AreRenewed pts fs old made (i + 1) qs
-  more_renewed {ps} {qs} {i} plane m b h long written others r =
-      record { is = λ f l g. by f (cases_eq f (slice_index made i)) (r.is f l g) }
+      → AreRenewed pts fs old made i ps → AreRenewed pts fs old made (i + 1) (slice_set ps (slice_index made i) plane)
+  more_renewed {ps} {i} plane m b h r = record { is = λ f l g. by f (cases_eq f (slice_index made i)) (r.is f l g) }
     where
+      long : length (slice_set ps (slice_index made i) plane) ≡ length ps
+      long = length-set ps (slice_index made i) plane
+
       by : (f : ℕ) → (f ≡ slice_index made i) ⊎ (f ≡ slice_index made i → ⊥) → IsPlaneOf pts fs ps f ⊎ In f (drop i made)
-          → IsPlaneOf pts fs qs f ⊎ In f (drop (i + 1) made)
-      by f (inl q) _ = inl (omega (arith, long), λ p. rw (q, written) (h p))
-      by f (inr d) (inl (k, q)) = inl (omega (arith, long), λ p. rw (others f k d) (q p))
+          → IsPlaneOf pts fs (slice_set ps (slice_index made i) plane) f ⊎ In f (drop (i + 1) made)
+      by f (inl q) _ = inl (omega (arith, long), λ p. rw (q, get_or-set_same ps (slice_index made i) plane no_plane b) (h p))
+      by f (inr d) (inl (k, q)) = inl (omega (arith, long), λ p. rw (get_or-set_other ps (slice_index made i) f plane no_plane d) (q p))
       by f (inr d) (inr n) = elim (rw (drop_more made i 0 m) at n) [ inl q ↦ absurd (d q) | inr l ↦ inr l ]
 
   -- and all

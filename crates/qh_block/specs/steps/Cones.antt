@@ -6,10 +6,11 @@ use Rattle.qh_model.specs.headline.Sets.{In}
 use Rattle.qh_model.specs.headline.Predicates.{vol, place}
 use Rattle.qh_model.specs.contract.Surface.Side.{second}
 use Rattle.qh_model.specs.contract.StoredSurface.{StoredFacet, facet_at}
-use Rattle.qh_pred.specs.contract.Planes.{PlaneValue, height, plane_at}
+use Rattle.qh_pred.specs.contract.Planes.{PlaneValue, height}
 use Rattle.qh_mesh.specs.contract.Replacement.{IsLive}
 use Rattle.qh_mesh.specs.contract.Edges.{edge_of, facet_of, twin_of}
 use Rattle.qh_mesh.specs.contract.SoundMesh.{facet_vol}
+use Rattle.qh_block.specs.steps.Planes.{plane_at}
 use Rattle.qh_block.specs.declared.quickhull.cone_ring.Wedge.{Wedge}
 use Rattle.qh_block.specs.declared.quickhull.cone_search.Asked.{Asked}
 use Rattle.qh_block.specs.declared.quickhull.cone_search.Asked.TheVariants.{Seen, Unseen, Unknown}

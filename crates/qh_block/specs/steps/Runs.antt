@@ -6,10 +6,10 @@ use Rattle.qh_model.specs.headline.Predicates.{vol, place}
 use Rattle.qh_model.specs.headline.Sets.{In}
 use Rattle.qh_model.specs.contract.FinishedSurface.{middle_at}
 use Rattle.qh_model.specs.contract.StoredSurface.{StoredFacet, facet_at}
-use Rattle.qh_pred.specs.contract.Planes.{PlaneValue, height, plane_at}
+use Rattle.qh_pred.specs.contract.Planes.{PlaneValue, height}
 use Rattle.qh_mesh.specs.contract.Replacement.{IsLive}
 use Rattle.qh_mesh.specs.contract.SoundMesh.{facet_vol, IsSoundMesh, IsClosedMesh}
-use Rattle.qh_block.specs.steps.Planes.{ArePlanes}
+use Rattle.qh_block.specs.steps.Planes.{plane_at, ArePlanes}
 use Rattle.qh_block.specs.steps.OutsideSets.{OutsideValue, set_of}
 
 -- six times the volume of facet f and the point at position p: above 0 where the facet strictly sees it

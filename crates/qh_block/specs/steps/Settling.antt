@@ -3,7 +3,8 @@
 use Rattle.std.specs.Prelude.{All, ◌≡◌, ℕ, ◌⊎◌, Bool, List, [], drop, slice_index, slice_index_or, slice_set, pos, ◌≤ℤ◌, ◌<ℤ◌}
 use Rattle.qh_model.specs.headline.Vector.{Vector, origin}
 use Rattle.qh_model.specs.headline.Sets.{In}
-use Rattle.qh_pred.specs.contract.Planes.{PlaneValue, height, plane_at}
+use Rattle.qh_pred.specs.contract.Planes.{PlaneValue, height}
+use Rattle.qh_block.specs.steps.Planes.{plane_at}
 use Rattle.qh_block.specs.steps.OutsideSets.{OutsideValue, set_of, joined}
 
 -- the point at position p is above none of the facets

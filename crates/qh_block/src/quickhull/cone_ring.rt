@@ -8,15 +8,15 @@ ghost use Rattle.qh_model.specs.headline.Sets.{In};
 ghost use Rattle.qh_model.specs.headline.Predicates.{place};
 ghost use Rattle.qh_model.specs.contract.Surface.Side.{second};
 ghost use Rattle.qh_model.specs.contract.StoredSurface.{facet_at};
-ghost use Rattle.qh_pred.specs.contract.Planes.{plane_at};
 ghost use Rattle.qh_mesh.specs.contract.Edges.{edge_of, facet_of, twin_of};
 ghost use Rattle.qh_mesh.specs.contract.Replacement.{IsLive};
+ghost use Rattle.qh_block.specs.steps.Planes.{plane_at};
 ghost use Rattle.qh_block.specs.steps.Runs.{HasCornersBelow, IsPlaneOf};
 ghost use Rattle.qh_block.specs.steps.Cones.{HasNoCornerAbove, IsFan, AreWedges, apex_of};
 
 use qh_mesh::{FacetNo, Mesh};
 use qh_model::{Memory, Point};
-use qh_pred::{Plane, Planes, point_at};
+use qh_pred::{Plane, point_at};
 use std::alloc::{AllocError, Global};
 
 /// So many facets of a cone are looked at one by one. A cone that has more is searched.
@@ -55,7 +55,7 @@ fn next_facet(mesh: &Mesh, facet: FacetNo) -> FacetNo
 }
 
 /// The wedge of a facet.
-fn wedge_of(pts: &[Point], mesh: &Mesh, planes: &Planes, facet: FacetNo) -> Wedge
+fn wedge_of(pts: &[Point], mesh: &Mesh, planes: &[Plane], facet: FacetNo) -> Wedge
     requires live { IsLive mesh.now facet }
     requires corners { HasCornersBelow (length pts.now) mesh.now }
     requires plane { facet < length planes.now }
@@ -67,7 +67,7 @@ fn wedge_of(pts: &[Point], mesh: &Mesh, planes: &Planes, facet: FacetNo) -> Wedg
     let [from, to, _] = mesh.facet(facet);
     Wedge {
         facet,
-        plane: planes.plane(facet.index()),
+        plane: planes[facet.index()],
         from: point_at(pts, from),
         to: point_at(pts, to),
     }
@@ -75,7 +75,7 @@ fn wedge_of(pts: &[Point], mesh: &Mesh, planes: &Planes, facet: FacetNo) -> Wedg
 
 /// A facet where the cone is strictly convex: the ray before it is strictly below its plane. There is
 /// one, since no plane has all rays of a cone.
-fn first_facet(pts: &[Point], mesh: &Mesh, planes: &Planes, made: &[FacetNo]) -> FacetNo
+fn first_facet(pts: &[Point], mesh: &Mesh, planes: &[Plane], made: &[FacetNo]) -> FacetNo
     requires some { 0 < length made.now }
     requires live { All (IsLive mesh.now) made.now }
     requires corners { HasCornersBelow (length pts.now) mesh.now }
@@ -99,7 +99,7 @@ fn go_round(
     wedges: &mut Vec<Wedge>,
     pts: &[Point],
     mesh: &Mesh,
-    planes: &Planes,
+    planes: &[Plane],
     made: &[FacetNo],
     first: FacetNo,
 ) -> Result<(), AllocError>
@@ -159,7 +159,7 @@ impl ConeRing {
         &mut self,
         pts: &[Point],
         mesh: &Mesh,
-        planes: &Planes,
+        planes: &[Plane],
         made: &[FacetNo],
     ) -> Result<(), Memory>
         requires live { All (IsLive mesh.now) made.now }

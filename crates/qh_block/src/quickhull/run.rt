@@ -8,13 +8,13 @@ ghost use Rattle.qh_block.specs.steps.Runs.{IsDone, IsGrown, IsUnderWay, IsPicke
 use crate::quickhull::cone_ring::{ConeRing, SCANNED};
 use crate::quickhull::far_simplex::Simplex;
 use crate::quickhull::outside_sets::OutsideSets;
-use crate::quickhull::planes::renew;
+use crate::quickhull::planes::{make_room, renew};
 use crate::quickhull::queue::{enqueue, next_apex};
 use crate::quickhull::settling::{release, settle_orphans};
 use crate::quickhull::walk::Walk;
 use qh_mesh::{FacetNo, Mesh};
 use qh_model::{Id, Memory, Point};
-use qh_pred::Planes;
+use qh_pred::Plane;
 use std::alloc::Global;
 
 /// From so many points on, a run asks for room for all its facets at once.
@@ -31,7 +31,7 @@ pub struct Run {
     /// The points, each known by its position.
     pub points: Vec<Point>,
     /// The planes of the facets, by place.
-    planes: Planes,
+    planes: Vec<Plane>,
     /// The points that are not settled, by position.
     sets: OutsideSets,
     /// The facets that the apex of a round sees.
@@ -54,10 +54,10 @@ fn places_asked(points: usize) -> usize {
 }
 
 /// No planes yet, with room for so many, where it is not refused.
-fn room_for(alloc: Global, places: usize) -> Planes
-    ensures { result ≡ [] }
+fn room_for(alloc: Global, places: usize) -> Vec<Plane>
+    ensures { result.items ≡ [] }
 {
-    let mut planes = Planes::new(alloc);
+    let mut planes = Vec::new(alloc);
     let _ = planes.reserve(places);
     planes
 }
@@ -65,13 +65,13 @@ fn room_for(alloc: Global, places: usize) -> Planes
 /// Takes the memory that a round needs after its mesh has changed: the cone over the horizon of so
 /// many facets has at most three times as many.
 fn make_ready(
-    planes: &mut Planes,
+    planes: &mut Vec<Plane>,
     sets: &mut OutsideSets,
     ring: &mut ConeRing,
     pending: &mut Vec<FacetNo>,
     visible: usize,
 ) -> Result<(), Memory>
-    ensures planes { planes.new ≡ planes.old }
+    ensures planes { planes.new.items ≡ planes.old.items }
     ensures sets { sets.new ≡ sets.old }
     ensures pending { pending.new.items ≡ pending.old.items }
 {
@@ -92,7 +92,7 @@ impl Run {
     pub fn start(alloc: Global, points: Vec<Point>, first: Simplex) -> Result<Run, Memory>
         requires { IsSimplexIn points.items first }
         ensures points { IfOk result (λ r. r.points.items ≡ points.items) }
-        ensures under_way { IfOk result (λ r. IsUnderWay points.items r.mesh r.planes r.sets r.pending.items) }
+        ensures under_way { IfOk result (λ r. IsUnderWay points.items r.mesh r.planes.items r.sets r.pending.items) }
     {
         let Ok(positions) = u32::try_from(points.len()) else {
             return Err(Memory);
@@ -122,16 +122,16 @@ impl Run {
     /// Gives the facets that were made their planes, the orphans to those of them that they are above,
     /// and those with an outside set a turn.
     fn settle(&mut self, made: &[FacetNo]) -> Result<(), Memory>
-        requires remade { IsRemade self.old.points.items self.old.mesh self.old.planes self.old.sets self.old.pending.items made.now }
+        requires remade { IsRemade self.old.points.items self.old.mesh self.old.planes.items self.old.sets self.old.pending.items made.now }
         requires fan { SCANNED < length made.now → IsFan self.old.mesh made.now }
         ensures points { self.new.points.items ≡ self.old.points.items }
         ensures under_way { OnOk result (
-            IsUnderWay self.old.points.items self.new.mesh self.new.planes self.new.sets self.new.pending.items) }
+            IsUnderWay self.old.points.items self.new.mesh self.new.planes.items self.new.sets self.new.pending.items) }
         ensures listed { OnOk result (listed self.new.sets ≤ listed self.old.sets) }
     {
-        self.planes.make_room(self.mesh.places())?;
-        self.sets.make_room(self.planes.places())?;
-        renew(&self.points, &self.mesh, made, &mut self.planes)?;
+        make_room(&mut self.planes, self.mesh.places())?;
+        self.sets.make_room(self.planes.len())?;
+        renew(&self.points, &self.mesh, made, &mut self.planes);
         self.ring
             .take(&self.points, &self.mesh, &self.planes, made)?;
         settle_orphans(&mut self.sets, &self.planes, &self.points, &self.ring, made);
@@ -143,10 +143,10 @@ impl Run {
     /// Makes the point at a position, which is above a facet, a corner: the facets that see it make way
     /// for its cone.
     fn add(&mut self, alloc: Global, facet: FacetNo, apex: u32) -> Result<(), Memory>
-        requires { IsPicked self.old.points.items self.old.mesh self.old.planes self.old.sets self.old.pending.items facet apex }
+        requires { IsPicked self.old.points.items self.old.mesh self.old.planes.items self.old.sets self.old.pending.items facet apex }
         ensures points { self.new.points.items ≡ self.old.points.items }
         ensures under_way { OnOk result (
-            IsUnderWay self.old.points.items self.new.mesh self.new.planes self.new.sets self.new.pending.items) }
+            IsUnderWay self.old.points.items self.new.mesh self.new.planes.items self.new.sets self.new.pending.items) }
         ensures listed { OnOk result (listed self.new.sets ≤ listed self.old.sets) }
     {
         let point = self.points[apex as usize];
@@ -170,7 +170,7 @@ impl Run {
 
     /// Adds points until no facet has an outside set.
     pub fn finish(&mut self, alloc: Global) -> Result<(), Memory>
-        requires { IsUnderWay self.old.points.items self.old.mesh self.old.planes self.old.sets self.old.pending.items }
+        requires { IsUnderWay self.old.points.items self.old.mesh self.old.planes.items self.old.sets self.old.pending.items }
         ensures points { self.new.points.items ≡ self.old.points.items }
         ensures grown { OnOk result (IsGrown self.old.points.items self.new.mesh) }
         ensures done { OnOk result ((p : ℕ) → p < length self.old.points.items → IsDone self.old.points.items self.new.mesh p) }

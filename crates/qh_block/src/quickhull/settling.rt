@@ -4,9 +4,9 @@ ghost use Rattle.qh_model.specs.headline.Vector.{Vector};
 ghost use Rattle.qh_model.specs.headline.Sets.{In};
 ghost use Rattle.qh_model.specs.headline.Predicates.{place};
 ghost use Rattle.qh_model.specs.contract.StoredSurface.{StoredFacet};
-ghost use Rattle.qh_pred.specs.contract.Planes.{height, plane_at};
+ghost use Rattle.qh_pred.specs.contract.Planes.{height};
 ghost use Rattle.qh_mesh.specs.contract.Replacement.{IsLive};
-ghost use Rattle.qh_block.specs.steps.Planes.{ArePlanes};
+ghost use Rattle.qh_block.specs.steps.Planes.{plane_at, ArePlanes};
 ghost use Rattle.qh_block.specs.steps.OutsideSets.{listed};
 ghost use Rattle.qh_block.specs.steps.Runs.{IsSettling};
 ghost use Rattle.qh_block.specs.steps.Settling.{IsAboveNone, IsOneSettled, AreReleased};
@@ -17,7 +17,7 @@ use crate::quickhull::cone_search::Asked;
 use crate::quickhull::outside_sets::OutsideSets;
 use qh_mesh::FacetNo;
 use qh_model::Point;
-use qh_pred::Planes;
+use qh_pred::Plane;
 
 /// Makes the points of the facets that go orphans.
 pub fn release(sets: &mut OutsideSets, gone: &[FacetNo])
@@ -43,7 +43,7 @@ struct Below {
 }
 
 /// The first of the facets that the point is above.
-fn first_below(planes: &Planes, made: &[FacetNo], point: Point) -> Option<Below>
+fn first_below(planes: &[Plane], made: &[FacetNo], point: Point) -> Option<Below>
     requires { All (λ f. f < length planes.now) made.now }
     ensures none { IfNone result (IsAboveNone planes.now made.now point) }
     ensures named { IfSome result (λ b. In b.facet made.now) }
@@ -51,8 +51,9 @@ fn first_below(planes: &Planes, made: &[FacetNo], point: Point) -> Option<Below>
 {
     for at in 0..made.len() {
         let facet = made[at];
-        if planes.sees(facet.index(), point) {
-            let height = planes.height(facet.index(), point);
+        let plane = &planes[facet.index()];
+        if plane.sees(point) {
+            let height = plane.height(point);
             return Some(Below { facet, at, height });
         }
     }
@@ -61,7 +62,7 @@ fn first_below(planes: &Planes, made: &[FacetNo], point: Point) -> Option<Below>
 
 /// A facet of those made that the point is above. The first few are looked at one by one, so that points
 /// gather in few sets, and where there are more, a search through their ring tells of the others.
-fn one_below(planes: &Planes, ring: &ConeRing, made: &[FacetNo], point: Point) -> Option<Below>
+fn one_below(planes: &[Plane], ring: &ConeRing, made: &[FacetNo], point: Point) -> Option<Below>
     requires planes { All (λ f. f < length planes.now) made.now }
     requires ring { AreWedges planes.now made.now ring.now.apex ring.now.wedges.items }
     ensures none { IfNone result (IsAboveNone planes.now made.now point) }
@@ -89,7 +90,7 @@ fn one_below(planes: &Planes, ring: &ConeRing, made: &[FacetNo], point: Point) -
 /// is empty.
 fn is_above_first(
     sets: &OutsideSets,
-    planes: &Planes,
+    planes: &[Plane],
     points: &[Point],
     facet: FacetNo,
     point: Point,
@@ -98,7 +99,7 @@ fn is_above_first(
     requires place { facet < length sets.now.sets }
     requires points { sets.now.positions ≡ length points.now }
 {
-    let plane = planes.plane(facet.index());
+    let plane = planes[facet.index()];
     match sets.first(facet) {
         Some(first) => plane.height(point) > plane.height(points[first as usize]),
         None => true,
@@ -110,7 +111,7 @@ fn is_above_first(
 fn is_furthest(
     greatest: &mut [i128; SCANNED],
     sets: &OutsideSets,
-    planes: &Planes,
+    planes: &[Plane],
     points: &[Point],
     below: &Below,
     point: Point,
@@ -132,7 +133,7 @@ fn is_furthest(
 /// `greatest` has the height of the first point of each facet looked at one by one.
 fn settle_orphan(
     sets: &mut OutsideSets,
-    planes: &Planes,
+    planes: &[Plane],
     points: &[Point],
     ring: &ConeRing,
     made: &[FacetNo],
@@ -163,7 +164,7 @@ fn settle_orphan(
 /// Settles all orphans among the facets that were made.
 pub fn settle_orphans(
     sets: &mut OutsideSets,
-    planes: &Planes,
+    planes: &[Plane],
     points: &[Point],
     ring: &ConeRing,
     made: &[FacetNo],

@@ -1,13 +1,14 @@
 //! Outside sets against lists worked out by hand, and the walk against a look at every facet.
 ghost use Rattle.std.specs.Prelude.{◌<◌, ◌≤◌, ◌<ℤ◌, pos, IfOk, All, length};
 ghost use Rattle.qh_mesh.specs.contract.Replacement.{IsLive};
-ghost use Rattle.qh_pred.specs.contract.Planes.{height, plane_at};
+ghost use Rattle.qh_pred.specs.contract.Planes.{height};
+ghost use Rattle.qh_block.specs.steps.Planes.{plane_at};
 
 use crate::quickhull::outside_sets::OutsideSets;
 use crate::quickhull::walk::Walk;
 use qh_mesh::{FacetNo, Mesh};
 use qh_model::{Id, Point};
-use qh_pred::{Plane, Planes};
+use qh_pred::Plane;
 use std::alloc::{AllocError, Global};
 use std::test::Fail;
 
@@ -118,13 +119,13 @@ fn no_plane() -> Plane {
 }
 
 /// The planes of a mesh, by place.
-fn planes_of(alloc: Global, mesh: &Mesh, pts: &[Point]) -> Result<Planes, AllocError>
-    ensures { IfOk result (λ v. length mesh.now ≤ length v) }
+fn planes_of(alloc: Global, mesh: &Mesh, pts: &[Point]) -> Result<Vec<Plane>, AllocError>
+    ensures { IfOk result (λ v. length mesh.now ≤ length v.items) }
 {
-    let mut planes = Planes::new(alloc);
-    planes.make_room(mesh.places())?;
+    let mut planes = Vec::new(alloc);
+    planes.resize(mesh.places(), no_plane())?;
     for f in mesh.live() {
-        planes.set(f.index(), plane_of(pts, mesh.facet(f)))?;
+        planes[f.index()] = plane_of(pts, mesh.facet(f));
     }
     Ok(planes)
 }
@@ -133,7 +134,7 @@ fn planes_of(alloc: Global, mesh: &Mesh, pts: &[Point]) -> Result<Planes, AllocE
 fn seen_by(
     alloc: Global,
     mesh: &Mesh,
-    planes: &Planes,
+    planes: &[Plane],
     apex: Point,
 ) -> Result<Vec<FacetNo>, AllocError>
     ensures { IfOk result (λ v. All (λ f. IsLive mesh.now f × (pos 0 <ℤ height (plane_at planes.now f) apex)) v.items) }
@@ -141,7 +142,7 @@ fn seen_by(
     let mut seen = Vec::new(alloc);
     for f in mesh.live() {
         let place = f.index();
-        if place < planes.places() && planes.sees(place, apex) {
+        if place < planes.len() && planes[place].sees(apex) {
             seen.push(f)?;
         }
     }

@@ -5,21 +5,21 @@ ghost use Rattle.qh_model.specs.headline.Vector.{Vector};
 ghost use Rattle.qh_model.specs.contract.Weighted.{Weighted};
 ghost use Rattle.qh_mesh.specs.contract.Replacement.{IsLive, AreFacets};
 ghost use Rattle.qh_mesh.specs.contract.SoundMesh.{IsSoundMesh, AreVisible};
-ghost use Rattle.qh_pred.specs.contract.Planes.{height, plane_at};
-ghost use Rattle.qh_block.specs.steps.Planes.{ArePlanes};
+ghost use Rattle.qh_pred.specs.contract.Planes.{height};
+ghost use Rattle.qh_block.specs.steps.Planes.{plane_at, ArePlanes};
 ghost use Rattle.qh_block.specs.steps.Walks.{IsMarked, mark_at};
 
 use crate::walk::{Test, walk};
 use qh_mesh::{EdgeNo, FacetNo, Mesh};
 use qh_model::{Memory, Point};
-use qh_pred::Planes;
+use qh_pred::Plane;
 use std::alloc::{AllocError, Global};
 use std::marker::Model;
 
 /// Whether a point, the apex, sees a facet. The planes are those of the facets, by place.
 #[derive(Clone, Copy, Drop)]
 struct Sees<'a> {
-    planes: &'a Planes,
+    planes: &'a [Plane],
     apex: Point,
 }
 
@@ -29,7 +29,7 @@ impl Test for Sees<'_> {
     ghost Passes = { λ t fs f. pos 0 <ℤ height (plane_at t.planes.now f) t.apex };
 
     fn passes(&self, mesh: &Mesh, edge: EdgeNo) -> bool {
-        self.planes.sees(mesh.facet_of(edge).index(), self.apex)
+        self.planes[mesh.facet_of(edge).index()].sees(self.apex)
     }
 
     // Without a branch on the mark.
@@ -100,7 +100,7 @@ impl Walk {
     pub fn find(
         &mut self,
         mesh: &Mesh,
-        planes: &Planes,
+        planes: &[Plane],
         start: FacetNo,
         apex: Point,
     ) -> Result<(), Memory>
@@ -113,7 +113,7 @@ impl Walk {
         ensures visible { OnOk result ((at : ℕ → Vector) (o : Weighted) (l : ℕ) → at l ≡ apex
             → ArePlanes at mesh.now planes.now → IsSoundMesh at mesh.now o → AreVisible at mesh.now self.new l) }
     {
-        make_room(&mut self.marks, planes.places())?;
+        make_room(&mut self.marks, planes.len())?;
         let sees = Sees { planes, apex };
         let Ok(()) = walk(mesh, &sees, start, &mut self.marks, &mut self.found) else {
             self.marks.clear();

@@ -5,6 +5,6 @@ use Rattle.qh_block.proofs.quickhull.planes.renew.Given as goal
 
 abbrev pub invariant-loop-facet : goal.invariant-loop-facet
 invariant-loop-facet l = record {
-  len : length l.planes ≡ length l.initial.planes;
-  renewed : AreRenewed l.pts l.mesh l.initial.planes l.made l.facet-index l.planes;
+  len : length l.planes.items ≡ length l.initial.planes.items;
+  renewed : AreRenewed l.pts l.mesh l.initial.planes.items l.made l.facet-index l.planes.items;
 }

@@ -1,6 +1,8 @@
 -- One live facet more that a point sees, or does not.
 use Rattle.std.proofs.Common.{◌∙◌, refl}
+use Rattle.std.proofs.lemmas.List.{get_or_read}
 use Rattle.std.proofs.lemmas.List.Elements.{All-nil, All-push}
+use Rattle.qh_block.specs.steps.Planes.{no_plane}
 use Rattle.qh_block.proofs.LiveFacets.{all_live, next_live, rest_live}
 use Rattle.qh_block.proofs.quickhull.tests.seen_by.Goals as goal
 use Rattle.qh_block.proofs.quickhull.tests.seen_by.Invariants.{IsSeen}
@@ -18,10 +20,11 @@ loop-f-preserved c =
 
 pub loop-f-preserved-then-sees : goal.loop-f-preserved-then-sees
 loop-f-preserved-then-sees c =
-    let fs = c.args.mesh.now in let ps = c.args.planes.now in let f = c.in-Some.f in let i = c.loop-f.invariant in (
+    let fs = c.args.mesh.now in let ps = c.args.planes.now in let f = c.in-Some.f in let i = c.loop-f.invariant in
+    let read = c.index-planes-place in
+    let is = get_or_read ps f read.result (rw c.index-place.ensures at c.if-place-planes.true)
+    (rw c.index-place.ensures at read.is) no_plane in (
       rest_live fs c.loop-f.f-iterator c.next.new.self f i.0 c.in-Some.ensures.steps,
-      rw c.in_ok-push.ensures.items (All-push (IsSeen fs ps c.args.apex) c.loop-f.seen.items f i.1 (
-        next_live fs c.loop-f.f-iterator c.next.new.self f i.0 c.in-Some.ensures.steps,
-        rw c.index-place.ensures at (c.if-sees.ensures.0 refl),
-      )),
+      rw c.in_ok-push.ensures.items (All-push (IsSeen fs ps c.args.apex) c.loop-f.seen.items f i.1
+          (next_live fs c.loop-f.f-iterator c.next.new.self f i.0 c.in-Some.ensures.steps, rw (← is) (c.if-sees.ensures.0 refl))),
     )

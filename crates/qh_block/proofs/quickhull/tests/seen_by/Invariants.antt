@@ -3,7 +3,8 @@ use Rattle.std.proofs.Common.{ℕ, List, All, pos, ◌<ℤ◌}
 use Rattle.qh_mesh.specs.contract.Replacement.{IsLive}
 use Rattle.qh_model.specs.headline.Vector.{Vector}
 use Rattle.qh_model.specs.contract.StoredSurface.{StoredFacet}
-use Rattle.qh_pred.specs.contract.Planes.{PlaneValue, height, plane_at}
+use Rattle.qh_pred.specs.contract.Planes.{PlaneValue, height}
+use Rattle.qh_block.specs.steps.Planes.{plane_at}
 use Rattle.qh_block.proofs.quickhull.tests.seen_by.Given as goal
 
 -- the facet is live and sees the point

@@ -6,7 +6,7 @@ use Rattle.qh_block.proofs.quickhull.run.Run.finish.Given as goal
 abbrev pub invariant-loop-facet : goal.invariant-loop-facet
 invariant-loop-facet l = record {
   points : l.self.points.items ≡ l.initial.self.points.items;
-  under_way : IsUnderWay l.initial.self.points.items l.self.mesh l.self.planes l.self.sets l.self.pending.items;
+  under_way : IsUnderWay l.initial.self.points.items l.self.mesh l.self.planes.items l.self.sets l.self.pending.items;
 }
 
 abbrev pub decreases-loop-facet : goal.decreases-loop-facet

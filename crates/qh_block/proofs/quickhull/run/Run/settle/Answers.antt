@@ -16,21 +16,21 @@ pub returns-clause-under_way : goal.returns-clause-under_way
 returns-clause-under_way c =
     let k = c.requires.remade in let self = c.args.self.now in let pts = self.points.items in let fs = self.mesh in
     let places = c.places.ensures in let room = c.in_ok-make_room.ensures in let old = self.sets.sets in
-    let renewed = rw (c.deref.ensures.value) at c.in_ok-renew.ensures.planes in
-    let planes : ArePlanes (place pts) fs c.renew.new.planes = record {
-      room = omega (arith, room.room, c.in_ok-renew.ensures.len, places);
+    let renewed = rw (c.deref.ensures.value) at c.renew.ensures.planes in
+    let planes : ArePlanes (place pts) fs c.renew.new.planes.items = record {
+      room = omega (arith, room.room, c.renew.ensures.len, places);
       right = λ f l p.
-          (renewed f l (roomy pts fs self.planes c.make_room.new.self c.args.made.now room.kept f (k.planes f l))).1 p;
+          (renewed f l (roomy pts fs self.planes.items c.make_room.new.planes.items c.args.made.now room.kept f (k.planes f l))).1 p;
     } in
-    let sets = c.in_ok-make_room-2.ensures.sets in let new = replicate (c.places-2.result - length old) [] in
+    let sets = c.in_ok-make_room-2.ensures.sets in let new = replicate (c.len.result - length old) [] in
     let more = ap (λ (xs : List (List ℕ)). length xs) sets ∙ length-append old new in
     let settle = c.settle_orphans.ensures in
-    let settled = rw (c.deref-3.ensures.value) at settle.settled in
+    let settled = rw (c.deref-4.ensures.value, c.deref-5.ensures.value) at settle.settled in
     next_round k planes
     (settled fs self.pending.items k.made_live planes (same_settling
     (λ f. ap (λ (xs : List (List ℕ)). get_or xs f []) sets ∙ grown-set old _ f) c.make_room-2.ensures.orphans k.settling))
     settle.none (settle.positions ∙ c.make_room-2.ensures.positions)
-    (omega (arith, places, room.room, c.places-2.ensures, c.in_ok-make_room-2.ensures.places, settle.places))
+    (omega (arith, places, room.room, c.len.ensures, c.in_ok-make_room-2.ensures.places, settle.places))
     (c.enqueue.ensures.within (All-weaker (λ f. f < length old) (λ f. f < length c.settle_orphans.new.sets.sets)
     (λ f h. omega (arith, h, more, settle.places)) self.pending.items k.range))
     c.enqueue.ensures.kept c.in_ok-enqueue.ensures.made

@@ -1,8 +1,8 @@
 -- All that the apex sees is found.
 use Rattle.std.proofs.Common.{◌≡◌, ◌∙◌, ℕ, List, Bool, false, sym, subst, pos, ◌<ℤ◌}
 use Rattle.qh_model.specs.headline.Vector.{Vector}
-use Rattle.qh_pred.specs.contract.Planes.{height, plane_at}
-use Rattle.qh_block.specs.steps.{Walks.mark_at, Walks.IsWalkFrom}
+use Rattle.qh_pred.specs.contract.Planes.{height}
+use Rattle.qh_block.specs.steps.{Planes.plane_at, Walks.mark_at, Walks.IsWalkFrom}
 use Rattle.qh_block.proofs.FoundFacets.{finds_all}
 use Rattle.qh_block.proofs.quickhull.walk.Walk.find.Goals as goal
 
