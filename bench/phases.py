@@ -26,9 +26,9 @@ OWNERS = [
     (r"^qh_read::|^qconvex::serve", "read"),
     (r"^qh_plane::(close_points|distinct_points|hashed_keys|sorted_points|place_keys|sorting)|^rayon::", "distinct"),
     (r"^qh_block::inner_points", "look"),
-    (r"^qh_block::(faces|face_order|face_keys|named_mesh|hulls|plane_walk|solid_edges|bodies|flat_sets)", "faces"),
+    (r"^qh_block::(faces|face_order|face_keys|hulls|plane_walk|solid_edges|bodies|flat_sets)|^qh_surface::named_mesh", "faces"),
     (r"^qh_block::solids::(corners|listed)|^qh_plane::", "faces"),
-    (r"^qh_block::|^qh_mesh::|^qh_pred::", "surface"),
+    (r"^qh_block::|^qh_surface::|^qh_mesh::|^qh_pred::", "surface"),
 ]
 
 # the sorts, by what is moved: a polygon is more than a number

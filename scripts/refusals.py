@@ -3,7 +3,7 @@
 
     scripts/refusals.py [CRATE..]        from the top of the repository; without a name, all crates with such tests
 
-The tests of a crate's module `tests::refusals` make calls that take memory on square-with-centre, unit-cube and
+The tests of a crate's modules `refusals` make calls that take memory on square-with-centre, unit-cube and
 octahedron-midpoints, each call that is refused once more, and want the right result, or Memory and then the right
 result, with all that the call was made on as before. The script has `rt test` prove, build and run them, and runs each
 by itself with the library of refuse.py: the first growth is refused, then the second, and so on until a run meets no
@@ -22,14 +22,14 @@ from pathlib import Path
 
 from refuse import build, is_refusal, run
 
-MODULE = "tests::refusals::"
+MODULE = "refusals::"
 # The tests of which only some runs that meet a refusal pass.
 MAY_FAIL = "falls_back"
 VARIABLES = ["REFUSE_GROWTH", "REFUSE_THREAD"]
 
 
 def crates_with_tests():
-    return sorted(path.parents[2].name for path in Path("crates").glob("*/src/tests/refusals.rt"))
+    return sorted({path.parts[1] for path in Path("crates").glob("*/src/tests/**/refusals.rt")})
 
 
 def tests_of(crate):
@@ -38,7 +38,7 @@ def tests_of(crate):
     program = f"crates/{crate}/out/{crate}_tests"
     lines = subprocess.run([program, "--list"], capture_output=True, text=True, check=True).stdout.splitlines()
     names = [line.removesuffix(": test") for line in lines]
-    return program, [name for name in names if name.startswith(MODULE)]
+    return program, [name for name in names if f"::{MODULE}" in name]
 
 
 def outcome(test, said, report):

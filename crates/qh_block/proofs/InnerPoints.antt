@@ -11,7 +11,7 @@ use Rattle.qh_pred.specs.contract.Planes.{PlaneValue, height}
 use Rattle.qh_mesh.specs.contract.{Replacement.IsLive, SoundMesh.facet_vol}
 use Rattle.qh_block.specs.declared.inner_points.bounds.Bounds.{Bounds}
 use Rattle.qh_block.specs.steps.InnerPoints.{IsBelow, IsBelowAll, HasPlane, HasPlanes, HasNoExtreme, AreInner, IsOuterPart}
-use Rattle.qh_block.proofs.LiveFacets.{all_live, rest_live}
+use Rattle.qh_surface.proofs.LiveFacets.{all_live, rest_live}
 
 -- ---- the planes of the live facets
 -- facets whose planes are not listed are left

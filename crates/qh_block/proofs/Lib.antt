@@ -1,9 +1,4 @@
 pub mod flats
 pub mod finished
-pub mod outside_sets
-pub mod runs
-pub mod WalkSteps
-pub mod FoundFacets
-pub mod LiveFacets
 pub mod InnerBoxes
 pub mod InnerPoints

@@ -15,18 +15,18 @@ ghost use Rattle.qh_model.specs.contract.StoredSurface.{facet_at, surface_of};
 ghost use Rattle.qh_mesh.specs.contract.Replacement.{IsLive};
 ghost use Rattle.qh_model.specs.contract.IdSets.{AreIndices};
 ghost use Rattle.qh_plane.specs.contract.PlanarSets.{IsPlanarSet};
-ghost use Rattle.qh_block.specs.steps.NamedMeshes.{named, IsNamedMesh};
-ghost use Rattle.qh_block.specs.steps.PlaneWalks.{AreCornersBelow};
-ghost use Rattle.qh_block.specs.steps.Walks.{mark_at};
+ghost use Rattle.qh_surface.specs.contract.NamedMeshes.{named, IsNamedMesh};
+ghost use Rattle.qh_surface.specs.contract.Corners.{AreCornersBelow};
+ghost use Rattle.qh_surface.specs.contract.Walks.{mark_at};
 ghost use Rattle.qh_block.specs.steps.Faces.{corners_of, from_least, IsListedCorner, IsNewPlane, IsNewFace, AreFacetFaces};
 
-use crate::named_mesh::NamedMesh;
 use crate::plane_walk::IsLevel;
-use crate::walk::walk;
 use qh_mesh::FacetNo;
 use qh_model::{Id, Memory, Point, Polygon};
 use qh_plane::polygon;
 use qh_pred::{cross, point_at};
+use qh_surface::NamedMesh;
+use qh_surface::walk::walk;
 use std::alloc::{AllocError, Global};
 
 /// Room for the facets of a plane and for their corners, used again from plane to plane.

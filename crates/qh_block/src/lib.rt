@@ -5,9 +5,8 @@
 //! triangles plane by plane. A set in a point, a line or a plane gets its body at once: a point, the
 //! segment between the ends of the line, or the polygon in the plane.
 //!
-//! Of a large set `inner_points` drops most of what is inside first. `quickhull` makes the surface.
-//! `walk` finds the triangles that pass a test and hang together: those that a point sees, or those of
-//! one plane (`plane_walk`), of which `faces` makes the polygon.
+//! Of a large set `inner_points` drops most of what is inside first. `qh_surface` makes the surface. A walk
+//! finds the triangles of one plane (`plane_walk`), of which `faces` makes the polygon.
 //! `face_order` and `solid_edges` order the faces, most of them by the numbers of `face_keys`, and count their edges,
 //! and `solids` puts them together.
 //! `segment` finds the ends of a line, `normals` the side from which a polygon is seen, and `bodies`
@@ -22,16 +21,13 @@ mod flat_sets;
 mod hulls;
 mod id_set;
 mod inner_points;
-mod named_mesh;
 mod normals;
 mod plane_walk;
-mod quickhull;
 mod segment;
 mod solid_edges;
 mod solids;
 #[cfg(test)]
 mod tests;
-mod walk;
 
 pub use hulls::{extremes, extremes_unlooked, hull, outer};
-pub use quickhull::surface;
+pub use qh_surface::surface;

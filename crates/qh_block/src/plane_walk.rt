@@ -4,12 +4,12 @@ ghost use Rattle.qh_model.specs.headline.Predicates.{place};
 ghost use Rattle.qh_model.specs.laws.FacetPlanes.{IsLevelWith, IsLevelFacet};
 ghost use Rattle.qh_model.specs.contract.StoredSurface.{surface_of};
 ghost use Rattle.qh_mesh.specs.contract.Replacement.{IsLive};
-ghost use Rattle.qh_block.specs.steps.PlaneWalks.{AreCornersBelow};
+ghost use Rattle.qh_surface.specs.contract.Corners.{AreCornersBelow};
 
-use crate::walk::Test;
 use qh_mesh::{EdgeNo, FacetNo, Mesh};
 use qh_model::{Id, Point};
 use qh_pred::{point_at, vol};
+use qh_surface::walk::Test;
 
 /// Whether the point of an id lies in the plane of a live facet.
 fn is_level(pts: &[Point], mesh: &Mesh, f: FacetNo, id: Id) -> bool

@@ -9,15 +9,14 @@ ghost use Rattle.qh_model.specs.headline.Sets.{In, Once, Members};
 ghost use Rattle.qh_model.specs.contract.StoredSurface.{surface_of};
 ghost use Rattle.qh_plane.specs.contract.Shapes.{IsInLine, IsInPlane, IsFirstNot, AreFirstTwo};
 ghost use Rattle.qh_block.specs.steps.Faces.{all_members};
-ghost use Rattle.qh_block.specs.steps.NamedMeshes.{named, IsNamedMesh};
+ghost use Rattle.qh_surface.specs.contract.NamedMeshes.{named, IsNamedMesh};
 
 use crate::face_order::sort_faces;
 use crate::faces::faces;
-use crate::named_mesh::NamedMesh;
-use crate::quickhull::{Simplex, surface_from};
 use crate::solid_edges::edge_count;
 use qh_model::{Body, Id, Memory, Point, Polygon};
 use qh_plane::rising_ids;
+use qh_surface::{NamedMesh, Simplex, surface_from};
 use std::alloc::{AllocError, Global};
 
 /// The finished mesh of a set with these first ids off a line and a plane.

@@ -6,7 +6,5 @@
 
 mod blocks;
 mod hulls;
-#[cfg(test)]
-mod tests;
 
 pub use hulls::{hull_alone, hull_of_body};

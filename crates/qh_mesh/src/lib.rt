@@ -1,9 +1,9 @@
 //! Closed surfaces of triangles, and the step by which Quickhull grows one: the facets that a point
 //! sees make way for its cone over their horizon.
 //!
-//! A [`Mesh`] keeps its facets in one vector of places. Facet f has the sides 3 f, 3 f + 1 and
-//! 3 f + 2, each with the corner where it starts and the number of its twin, which is the side of the
-//! neighbour. The place of a facet that was taken away is given out again before the vector grows.
+//! A [`Mesh`] keeps its facets in one vector of places, each a record of its corners and of the
+//! half-edges across its sides. Facets and half-edges are known by numbers that this crate alone computes
+//! with. The place of a facet that was taken away is given out again before the vector grows.
 //! A contract sees the mesh as the list of its places, whose surface is that of
 //! `qh_model/specs/contract/StoredSurface.antt`.
 //!
@@ -18,8 +18,6 @@ mod mesh;
 mod places;
 mod rebuild;
 mod slots;
-#[cfg(test)]
-mod tests;
 
 pub use facets::{EdgeNo, FacetNo};
 pub use live::Live;

@@ -186,7 +186,7 @@ impl Mesh {
     }
 
     /// Whether the place, below [`Mesh::places`], is that of a facet.
-    pub(crate) fn is_live(&self, f: FacetNo) -> bool
+    pub fn is_live(&self, f: FacetNo) -> bool
         requires { f < length self.now }
         ensures { result ≡ (facet_at self.now f).live }
     {

@@ -15,8 +15,6 @@ mod out;
 mod point;
 mod polygon;
 mod read_fault;
-#[cfg(test)]
-mod tests;
 
 pub use cut::{Cut, CutError};
 pub use form::Form;

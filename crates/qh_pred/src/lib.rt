@@ -14,8 +14,6 @@ mod normal;
 mod plane;
 mod positions;
 mod predicates;
-#[cfg(test)]
-mod tests;
 
 pub use normal::Normal;
 pub use plane::Plane;

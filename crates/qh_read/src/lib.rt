@@ -14,8 +14,6 @@ mod numbers;
 mod reader;
 mod scanner;
 mod source;
-#[cfg(test)]
-mod tests;
 mod token;
 mod whole;
 

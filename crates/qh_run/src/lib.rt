@@ -17,8 +17,6 @@ mod leaves;
 mod passes;
 mod reduction;
 mod run;
-#[cfg(test)]
-mod tests;
 mod turn;
 mod unions;
 mod worker;

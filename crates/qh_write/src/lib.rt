@@ -9,8 +9,6 @@ mod mem_sink;
 mod sending;
 mod sink;
 mod std_sink;
-#[cfg(test)]
-mod tests;
 mod texts;
 
 pub use mem_sink::MemSink;

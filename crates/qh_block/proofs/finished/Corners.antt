@@ -6,7 +6,8 @@ use Rattle.qh_model.specs.contract.{IdSets.AreIndices, Surface.IsCorner, StoredS
 use Rattle.qh_model.proofs.Members.{All-In, All-of}
 use Rattle.qh_model.proofs.lists.Joined.{in_flat_map, of_flat_map}
 use Rattle.qh_mesh.specs.contract.Replacement.{IsLive}
-use Rattle.qh_block.specs.steps.{PlaneWalks.AreCornersBelow, Faces.three_of, Faces.corners_of, Faces.IsListedCorner}
+use Rattle.qh_surface.specs.contract.Corners.{AreCornersBelow}
+use Rattle.qh_block.specs.steps.{Faces.three_of, Faces.corners_of, Faces.IsListedCorner}
 
 -- those of one
 in_three : (fs : List StoredFacet) (v : ℕ) (l : ℕ) → In l (three_of fs v) ↔ IsCorner (surface_of fs) v l

@@ -5,9 +5,10 @@ use Rattle.qh_model.specs.headline.{Vector.Vector, Predicates.place, Sets.In, Se
 use Rattle.qh_model.specs.contract.{IdSets.IsIdSet, FinishedSurface.IsFinished, StoredSurface.StoredFacet, StoredSurface.surface_of}
 use Rattle.qh_model.proofs.surfaces.Stored.{live_is_marked}
 use Rattle.qh_mesh.specs.contract.Replacement.{IsLive}
-use Rattle.qh_block.specs.steps.{Walks.mark_at, Faces.IsNewPlane, Faces.IsNewFace, Faces.AreMarkedFaces, Faces.AreFacetFaces}
+use Rattle.qh_surface.specs.contract.Walks.{mark_at}
+use Rattle.qh_block.specs.steps.{Faces.IsNewPlane, Faces.IsNewFace, Faces.AreMarkedFaces, Faces.AreFacetFaces}
 use Rattle.qh_block.proofs.finished.FaceLists.{no_faces, new_plane, next_face}
-use Rattle.qh_block.proofs.LiveFacets.{live_below}
+use Rattle.qh_surface.proofs.LiveFacets.{live_below}
 
 -- where facets are left to be looked at
 pub record IsGathering (pts : List Vector) (fs : List StoredFacet) (left : List ℕ) (marks : List Bool) (qs : List (List ℕ))

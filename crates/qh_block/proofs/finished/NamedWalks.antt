@@ -8,9 +8,9 @@ use Rattle.qh_model.specs.laws.FacetPlanes.{IsLevelFacet, IsLevelWith}
 use Rattle.qh_model.proofs.Members.{All-In, All-of, In-get_or}
 use Rattle.qh_model.proofs.surfaces.{Named.IsNamed, Named.stored_named, Stored.live_is_marked}
 use Rattle.qh_mesh.specs.contract.{Names.name_in, Replacement.IsLive}
-use Rattle.qh_block.specs.declared.named_mesh.NamedMesh.{NamedMesh}
-use Rattle.qh_block.specs.steps.{NamedMeshes.named, NamedMeshes.IsNamedMesh, Walks.IsMarked, Walks.IsWalkFrom}
-use Rattle.qh_block.proofs.runs.OrderedIds.{name_is}
+use Rattle.qh_surface.specs.declared.named_mesh.NamedMesh.{NamedMesh}
+use Rattle.qh_surface.specs.contract.{NamedMeshes.named, NamedMeshes.IsNamedMesh, Walks.IsMarked, Walks.IsWalkFrom}
+use Rattle.qh_surface.proofs.runs.OrderedIds.{name_is}
 
 module _ (n : NamedMesh) where
   abbrev m : Surface

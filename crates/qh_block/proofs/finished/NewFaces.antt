@@ -15,8 +15,9 @@ use Rattle.qh_model.proofs.hulls.SameSets.{extreme_as}
 use Rattle.qh_mesh.specs.contract.Replacement.{IsLive, is_listed}
 use Rattle.qh_mesh.proofs.ListedFacets.{in_listed, listed_in}
 use Rattle.qh_plane.specs.contract.PlanarSets.{IsPlanarSet}
-use Rattle.qh_block.specs.steps.{Walks.IsWalkFrom, Faces.IsListedCorner, Faces.IsNewPlane, Faces.IsNewFace}
-use Rattle.qh_block.proofs.FoundFacets.{found_live, found_passes, found_marked, found_over}
+use Rattle.qh_surface.specs.contract.Walks.{IsWalkFrom}
+use Rattle.qh_block.specs.steps.{Faces.IsListedCorner, Faces.IsNewPlane, Faces.IsNewFace}
+use Rattle.qh_surface.proofs.FoundFacets.{found_live, found_passes, found_marked, found_over}
 
 module _ (pts : List Vector) (ids : List ℕ) (fs : List StoredFacet) (f : ℕ) (before after : List Bool) (vs : List ℕ)
     (set : IsIdSet pts ids) (z : IsFinished (place pts) ids (surface_of fs)) (live : IsLive fs f) (new : IsNewPlane (place pts) fs before f)

@@ -15,6 +15,7 @@ use Rattle.qh_model.proofs.combinations.Alternatives.{combination_or_separator}
 use Rattle.qh_model.proofs.extremes.{Directions.square-positive, ExtremeIds.combination_within, ExtremeIds.greatest_is_extreme}
 use Rattle.qh_plane.proofs.LinesAndPlanes.{same_point}
 use Rattle.qh_plane.specs.contract.Shapes.{IsInLine, Each, AreFirstTwo}
+use Rattle.qh_surface.proofs.runs.FirstSimplexes.{first_two_in}
 use Rattle.qh_block.specs.steps.Segments.{IsFirstAlong}
 
 -- ---- scalar products along a line
@@ -51,12 +52,6 @@ ahead d o p h = omega (arith, ints, dot-minus d p o)
 -- the way back
 back : (i j p : Vector) → dot (minus i j) p ≡ neg_ℤ (dot (minus j i) p)
 back i j p = ring (put i (put j (put p []))) (dotE (subE (vec 0) (vec 1)) (vec 2)) (neg (dotE (subE (vec 1) (vec 0)) (vec 2))) refl
-
--- the first two ids are members
-pub first_two_in : (ids : List ℕ) (i j : ℕ) → AreFirstTwo ids i j → In i ids × In j ids
-first_two_in ids i j t =
-    let some : 0 < length ids = (let h = t.two in omega (arith, h)) in
-    (subst (λ v. In v ids) t.first (In-get_or ids 0 0 some), subst (λ v. In v ids) t.second (In-get_or ids 1 0 t.two))
 
 module _ (pts : List Vector) (ids : List ℕ) (i j e g : ℕ) (two : AreFirstTwo ids i j) (line : Each (IsInLine pts i j) ids)
     (first : IsFirstAlong pts ids i j e) (last : IsFirstAlong pts ids j i g) (set : IsIdSet pts ids) where

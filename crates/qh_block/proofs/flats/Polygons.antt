@@ -13,7 +13,8 @@ use Rattle.qh_plane.specs.contract.PlanarSets.{IsPlanarSet}
 use Rattle.qh_plane.specs.contract.Shapes.{IsInLine, IsInPlane, Each, IsFirstNot, AreFirstTwo}
 use Rattle.qh_block.specs.steps.{Faces.HasThree, FlatBodies.IsFlatBody}
 use Rattle.qh_block.specs.steps.Faces.HasThree.{three}
-use Rattle.qh_block.proofs.flats.{Bodies.flat_is_body, Edges.edges_round, Lines.first_two_in}
+use Rattle.qh_surface.proofs.runs.FirstSimplexes.{first_two_in}
+use Rattle.qh_block.proofs.flats.{Bodies.flat_is_body, Edges.edges_round}
 
 -- corners that are not in line differ
 pub corners_differ : (at : ℕ → Vector) (i j k : ℕ) → ¬ (AreInLine (at i) (at j) (at k)) → (i ≢ j) × (j ≢ k) × (i ≢ k)

@@ -3,16 +3,16 @@ ghost use Rattle.std.specs.Prelude.{◌≡◌, ◌*◌, ◌<◌, ℕ, slice_inde
 ghost use Rattle.std.specs.List.Sorted.{IsStrictlyIncreasing};
 ghost use Rattle.qh_model.specs.headline.Sets.{Members};
 ghost use Rattle.qh_block.specs.steps.InnerPoints.{HasPlanes, AreInner};
-ghost use Rattle.qh_block.specs.steps.PlaneWalks.{AreCornersBelow};
+ghost use Rattle.qh_surface.specs.contract.Corners.{AreCornersBelow};
 
 use crate::id_set::IdSet;
 use crate::inner_points::columns::Columns;
-use crate::quickhull::plane_of;
 use crate::solids::solid_mesh;
 use qh_mesh::Mesh;
 use qh_model::{Id, Memory, Point};
 use qh_plane::{Shape, rank};
 use qh_pred::Plane;
+use qh_surface::plane_of;
 use std::alloc::{AllocError, Global};
 
 /// One of so many ids, from the first on.

@@ -3,7 +3,7 @@ use Rattle.std.proofs.Common.{◌≡◌, ◌∙◌, ℕ, List, Bool, false, arit
 use Rattle.std.proofs.lemmas.List.{length-map}
 use Rattle.qh_model.specs.contract.StoredSurface.{named_facet}
 use Rattle.qh_mesh.specs.contract.Names.{name_in}
-use Rattle.qh_block.specs.steps.{NamedMeshes.named, Walks.mark_at}
+use Rattle.qh_surface.specs.contract.{NamedMeshes.named, Walks.mark_at}
 use Rattle.qh_block.proofs.finished.Gathering.{gathering_starts, next_within, gathering_goes, gathering_ends}
 use Rattle.qh_block.proofs.finished.NamedWalks.{names}
 use Rattle.qh_block.proofs.faces.faces.Goals as goal

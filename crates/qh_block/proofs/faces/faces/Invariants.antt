@@ -1,5 +1,5 @@
 -- What the loop over the live facets has gathered.
-use Rattle.qh_block.specs.steps.NamedMeshes.{named}
+use Rattle.qh_surface.specs.contract.NamedMeshes.{named}
 use Rattle.qh_block.proofs.finished.Gathering.{IsGathering}
 use Rattle.qh_block.proofs.faces.faces.Given as goal
 

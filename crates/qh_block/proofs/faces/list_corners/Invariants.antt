@@ -1,6 +1,7 @@
 -- The corners of the facets so far.
 use Rattle.std.proofs.Common.{◌≡◌, take}
-use Rattle.qh_block.specs.steps.{Faces.corners_of, NamedMeshes.named}
+use Rattle.qh_surface.specs.contract.NamedMeshes.{named}
+use Rattle.qh_block.specs.steps.{Faces.corners_of}
 use Rattle.qh_block.proofs.faces.list_corners.Given as goal
 
 abbrev pub invariant-loop-f : goal.invariant-loop-f

@@ -1,5 +1,5 @@
 -- The first ids of a solid set are a simplex.
-use Rattle.qh_block.proofs.runs.FirstSimplexes.{simplex_is}
+use Rattle.qh_surface.proofs.runs.FirstSimplexes.{simplex_is}
 use Rattle.qh_block.proofs.solids.solid_mesh.Goals as goal
 
 pub surface_from-requires-clause-first : goal.surface_from-requires-clause-first

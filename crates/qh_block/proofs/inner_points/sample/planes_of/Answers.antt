@@ -2,7 +2,7 @@
 use Rattle.std.proofs.Common.{ℕ, List, ◌∙◌, sym, subst}
 use Rattle.qh_pred.specs.contract.Planes.{PlaneValue}
 use Rattle.qh_block.proofs.InnerPoints.{AreListed, none_listed, next_listed, all_listed}
-use Rattle.qh_block.proofs.LiveFacets.{next_live}
+use Rattle.qh_surface.proofs.LiveFacets.{next_live}
 use Rattle.qh_block.proofs.inner_points.sample.planes_of.Goals as goal
 
 pub loop-facet-init : goal.loop-facet-init
@@ -16,9 +16,6 @@ pub plane_of-requires-clause-live : goal.plane_of-requires-clause-live
 plane_of-requires-clause-live c =
     let l = c.loop-facet in let f = c.in-Some in
     next_live c.args.mesh.now l.facet-iterator c.next.new.self f.facet l.invariant.live f.ensures.steps
-
-pub plane_of-requires-clause-corners : goal.plane_of-requires-clause-corners
-plane_of-requires-clause-corners c f l = (c.requires.corners.i_in f l, c.requires.corners.j_in f l, c.requires.corners.k_in f l)
 
 pub loop-facet-preserved : goal.loop-facet-preserved
 loop-facet-preserved c =

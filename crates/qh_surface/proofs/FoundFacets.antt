@@ -1,0 +1,83 @@
+-- A walk that went over all its facets found all that the apex sees.
+use Rattle.std.proofs.Common.{◌≡◌, ℕ, arith, sym, ◌∙◌, Bool, false, List, subst, inl, inr, ℤ, pos, ◌<ℤ◌}
+use Rattle.std.proofs.lemmas.Int.{by_lt_z}
+use Rattle.qh_model.specs.headline.{Vector.Vector, Sets.In}
+use Rattle.qh_model.specs.contract.{Weighted.Weighted, FinishedSurface.weighted_at}
+use Rattle.qh_model.specs.contract.Surface.{Surface, Side, Sees, rise}
+use Rattle.qh_model.specs.contract.StoredSurface.{StoredFacet, facet_at, surface_of}
+use Rattle.qh_model.specs.laws.Horizons.{IsWalked}
+use Rattle.qh_model.proofs.surfaces.SurfaceLaws.{rise_is_vol, walk_finds_all}
+use Rattle.qh_mesh.proofs.{Rewiring.live_in, Rewiring.in_live, ListedFacets.in_listed, ListedFacets.listed_in}
+use Rattle.qh_pred.specs.contract.Planes.{PlaneValue, height}
+use Rattle.qh_mesh.specs.contract.Replacement.{IsLive, is_listed}
+use Rattle.qh_mesh.specs.contract.SoundMesh.{facet_vol, IsSoundMesh, AreVisible}
+use Rattle.qh_model.proofs.Members.{All-In, in_at}
+use Rattle.qh_surface.specs.contract.Walks.{mark_at, IsMarked, IsCrossed, IsWalkFrom}
+use Rattle.qh_surface.specs.steps.Planes.{plane_at, ArePlanes}
+
+-- what a walk tells of the facets that it found, and of their neighbours
+module _ (P : ℕ → Type 0) (fs : List StoredFacet) (before after : List Bool) (f : ℕ) (vs : List ℕ)
+    (w : IsWalkFrom P fs before after f vs) where
+  pub found_live : (g : ℕ) → In g vs → IsLive fs g
+  found_live g = All-In (IsLive fs) vs g w.walk.facets.live
+
+  pub found_passes : (g : ℕ) → In g vs → P g
+  found_passes g = All-In P vs g w.walk.passes
+
+  pub found_marked : (g : ℕ) → In g vs → IsMarked after g
+  found_marked g = All-In (IsMarked after) vs g w.walk.marked
+
+  pub found_over : (g : ℕ) (s : Side) → In g vs → P ((surface_of fs).over g s) → ¬ (IsMarked before ((surface_of fs).over g s))
+      → In ((surface_of fs).over g s) vs
+  found_over g s h p n =
+      let r = in_at vs g h in
+      elim (w.further.only _ (subst (IsCrossed P fs after) r.2 (w.crossed r.0 r.1) s p)) [ inl m ↦ absurd (n m) | inr i ↦ i ]
+
+-- the facets that the apex, point l, sees by their planes
+abbrev pub IsSeen : (ℕ → Vector) → List PlaneValue → ℕ → ℕ → Type 0
+IsSeen at ps l g = pos 0 <ℤ height (plane_at ps g) (at l)
+
+-- a walk over them, where no facet had a mark
+module _ (at : ℕ → Vector) (fs : List StoredFacet) (ps : List PlaneValue) (o : Weighted) (l f : ℕ) (before after : List Bool)
+    (vs : List ℕ) (a : ArePlanes at fs ps) (z : IsSoundMesh at fs o) (none : (g : ℕ) → mark_at before g ≡ false)
+    (w : IsWalkFrom (IsSeen at ps l) fs before after f vs) where
+  abbrev m : Surface
+  m = surface_of fs
+
+  abbrev vol : ℕ → ℤ
+  vol g = facet_vol at fs g (at l)
+
+  above : (x y : ℤ) → x ≡ y → pos 0 <ℤ x → pos 0 <ℤ y
+  above x y = subst (λ t. pos 0 <ℤ t)
+
+  seen : (g : ℕ) → In g vs → pos 0 <ℤ vol g
+  seen g h = above _ _ (a.right g (found_live (IsSeen at ps l) fs before after f vs w g h) (at l))
+      (found_passes (IsSeen at ps l) fs before after f vs w g h)
+
+  rise_is : (g : ℕ) → vol g ≡ rise m (weighted_at at) g (weighted_at at l)
+  rise_is g = sym (rise_is_vol (at (facet_at fs g).i) (at (facet_at fs g).j) (at (facet_at fs g).k) (at l))
+
+  grows : (g : ℕ) → In g m.live → (s : Side) → In g vs → Sees m (weighted_at at) (m.over g s) (weighted_at at l) → In (m.over g s) vs
+  grows g i s h t =
+      let n = live_in fs (m.over g s) (z.0 g i s).live in
+      found_over (IsSeen at ps l) fs before after f vs w g s h
+      (above _ _ (sym (a.right (m.over g s) n (at l) ∙ rise_is (m.over g s))) t) (λ q. (let e = none (m.over g s) in cc))
+
+  walk : IsWalked m (weighted_at at) (weighted_at at l) (is_listed vs)
+  walk = record {
+    f0 = f;
+    live = in_live fs f (found_live (IsSeen at ps l) fs before after f vs w f w.start);
+    seen = above _ _ (rise_is f) (seen f w.start);
+    has = in_listed vs f w.start;
+    grows = λ g i s h t. in_listed vs (m.over g s) (grows g i s (listed_in vs g h) t);
+  }
+
+  -- found all that it sees
+  pub finds_all : AreVisible at fs vs l
+  finds_all = record {
+    some = (let r = (in_at vs f w.start).1 in omega arith);
+    seen = λ g i e. seen g (listed_in vs g e);
+    unseen = λ g i e. by_lt_z (pos 0) (vol g)
+        (λ h. (let t = walk_finds_all m (weighted_at at) o z.0 z.1 (weighted_at at l) (is_listed vs) walk g (in_live fs g i)
+        (above _ _ (rise_is g) h) in cc)) (λ h. h);
+  }

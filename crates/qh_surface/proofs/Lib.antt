@@ -1,0 +1,5 @@
+pub mod outside_sets
+pub mod runs
+pub mod WalkSteps
+pub mod FoundFacets
+pub mod LiveFacets

@@ -1,0 +1,13 @@
+-- The run is under way over the same points, and fewer of them are listed each time.
+use Rattle.std.proofs.Common.{◌≡◌}
+use Rattle.qh_surface.specs.steps.{OutsideSets.listed, Runs.IsUnderWay}
+use Rattle.qh_surface.proofs.quickhull.run.Run.finish.Given as goal
+
+abbrev pub invariant-loop-facet : goal.invariant-loop-facet
+invariant-loop-facet l = record {
+  points : l.self.points.items ≡ l.initial.self.points.items;
+  under_way : IsUnderWay l.initial.self.points.items l.self.mesh l.self.planes.items l.self.sets l.self.pending.items;
+}
+
+abbrev pub decreases-loop-facet : goal.decreases-loop-facet
+decreases-loop-facet l = listed l.self.sets

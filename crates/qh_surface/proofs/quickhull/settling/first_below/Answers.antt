@@ -1,0 +1,22 @@
+-- One facet more that the point is not above.
+use Rattle.std.proofs.Common.{take_all, pos, ◌≤ℤ◌}
+use Rattle.std.proofs.lemmas.List.{get_or_read, Elements.All-more}
+use Rattle.qh_model.proofs.Members.{In-get_or}
+use Rattle.qh_pred.specs.contract.Planes.{height}
+use Rattle.qh_surface.{specs.steps.Planes.no_plane, specs.steps.Planes.plane_at, proofs.runs.ConeRings.not_above}
+use Rattle.qh_surface.proofs.quickhull.settling.first_below.Goals as goal
+
+pub loop-at-preserved : goal.loop-at-preserved
+loop-at-preserved c =
+    let made = c.args.made.now in let i = c.loop-at.at in let test = c.loop-at-test.true in let read = c.index-planes-index in
+    let item = get_or_read made i c.index-made-at.result test c.index-made-at.is 0 in
+    let is = get_or_read c.args.planes.now _ read.result (c.requires i 0 test) (rw (c.index.ensures, item) at read.is) no_plane in
+    All-more (λ f. height (plane_at c.args.planes.now f) c.args.point ≤ℤ pos 0) made i 0 test c.loop-at.invariant
+    (rw (← is) (not_above _ (λ h. let b = c.if-sees.ensures.1 h in cc)))
+
+pub returns-then-sees-clause-named : goal.returns-then-sees-clause-named
+returns-then-sees-clause-named c =
+    rw (c.index-made-at.is) (In-get_or c.args.made.now c.loop-at.at _ c.loop-at-test.true)
+
+pub returns-clause-none : goal.returns-clause-none
+returns-clause-none c = rw (take_all c.loop-at.at c.args.made.now c.loop-at-test.false) at c.loop-at.invariant

@@ -1,0 +1,13 @@
+-- An id of a list stands at a position.
+use Rattle.std.proofs.Common.{◌≡◌, ◌≢◌, rules, arith}
+use Rattle.std.proofs.lemmas.Iterator.{IsFirst-from_position, YieldsList-from_slice}
+use Rattle.qh_model.proofs.Members.{in_at}
+use Rattle.qh_surface.proofs.quickhull.surfaces.position_of.Goals as goal
+use borrow.Author.Tests.{tests}
+
+pub unreachable-requires : goal.unreachable-requires
+unreachable-requires c =
+    let ids = c.args.ids.now in let id = c.args.id in let at = in_at ids id c.requires in
+    let none = IsFirst-from_position _ _ c.position.result (λ x. x ≡ id) (λ x. x ≢ id) c.position.ensures.ran (YieldsList-from_slice ids cc)
+    (λ x q k. search (rules, tests)) (λ x q k. search (rules, tests)) in
+    (rw c.in_default.is at none) at.0 0 (omega arith) at.1 at.2

@@ -1,0 +1,15 @@
+-- A run that is done has a finished surface over the points of the ids.
+use Rattle.std.proofs.Common.{◌∙◌}
+use Rattle.std.proofs.lemmas.List.{length-map}
+use Rattle.qh_surface.proofs.runs.{FinishedRuns.finished, OrderedIds.simplex_in}
+use Rattle.qh_surface.proofs.quickhull.surfaces.run_over.Goals as goal
+
+pub start-requires : goal.start-requires
+start-requires c =
+    simplex_in c.args.pts.now c.in_ok-points.points.items c.args.ids.now c.args.first c.in_ok-first.first c.in_ok-points.ensures
+    c.in_ok-first.ensures c.requires.first
+
+pub returns-clause-finished : goal.returns-clause-finished
+returns-clause-finished c =
+    let done = finished c.in_ok-run.run'.points.items c.finish.new.self.mesh c.in_ok-finish.ensures.grown c.in_ok-finish.ensures.done in
+    rw (c.in_ok-run.ensures.points ∙ c.in_ok-points.ensures, length-map) at done

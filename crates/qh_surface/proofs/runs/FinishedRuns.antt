@@ -1,0 +1,64 @@
+-- From facets that were made to the next round, and from the last round to a finished surface.
+use Rattle.std.proofs.Common.{All, ◌≡◌, ℕ, ◌<◌, ◌≤◌, sym, ◌∙◌, refl, inl, inr, List, [], ◌∷◌, length, subst, pos, ◌<ℤ◌}
+use Rattle.qh_model.specs.headline.{Vector.Vector, Vector.origin, Predicates.place, Sets.In}
+use Rattle.qh_model.specs.contract.{FinishedSurface.IsFinished, StoredSurface.StoredFacet, StoredSurface.surface_of}
+use Rattle.qh_model.specs.contract.ClosedSurface.{signed_volume, triples_from}
+use Rattle.std.specs.List.{range_with_len}
+use Rattle.qh_model.proofs.lists.Ranges.{range_has, range_below}
+use Rattle.qh_model.proofs.algebra.Signs.{less_one_way}
+use Rattle.qh_pred.specs.contract.Planes.{PlaneValue}
+use Rattle.qh_mesh.specs.contract.SoundMesh.{IsClosedMesh}
+use Rattle.qh_mesh.proofs.Rewiring.{live_in}
+use Rattle.qh_surface.specs.steps.{Planes.ArePlanes, OutsideSets.OutsideValue, OutsideSets.set_of}
+use Rattle.qh_surface.specs.steps.Runs.{IsDone, IsGrown, IsUnderWay, IsSettling, IsRemade}
+
+-- once all orphans are settled and the facets with outside sets wait, the next round may begin
+pub next_round : {pts : List Vector} {fs : List StoredFacet} {old ps : List PlaneValue} {v w : OutsideValue} {pending made waiting : List ℕ}
+    → IsRemade pts fs old v pending made → ArePlanes (place pts) fs ps → IsSettling pts fs w pending made → w.orphans ≡ []
+    → w.positions ≡ v.positions → length fs ≤ length w.sets → All (λ f. f < length w.sets) waiting → ((f : ℕ) → In f pending → In f waiting)
+    → ((f p : ℕ) → In f made → In p (set_of w f) → In f waiting) → IsUnderWay pts fs ps w waiting
+next_round k planes z o e room within kept more = record {
+  grown = k.grown;
+  planes = planes;
+  positions = e ∙ k.positions;
+  places = room;
+  range = within;
+  outside = z.outside;
+  none = o;
+  waits = λ f p i. elim (z.waits f p i) [ inl n ↦ kept f n | inr n ↦ more f p n i ];
+  all = λ p l. elim (z.all p l) [ inl i ↦ absurd (rw o at i) | inr h ↦ h ];
+}
+
+-- a closed mesh has a facet
+some_facet : (at : ℕ → Vector) (fs : List StoredFacet) → IsClosedMesh at fs → (f : ℕ) × In f (surface_of fs).live
+some_facet at fs c = by (surface_of fs).live refl
+  where
+    by : (gs : List ℕ) → (surface_of fs).live ≡ gs → (f : ℕ) × In f (surface_of fs).live
+    by [] e = let h = subst (λ (gs : List ℕ). signed_volume at (triples_from (surface_of fs) gs) origin <ℤ pos 0) e (c.volume origin) in
+        absurd (less_one_way (pos 0) (pos 0) h h)
+    by (g ∷ gs) e = (g, subst (In g) (sym e) (inl refl))
+
+-- a mesh that sees no point of the list is finished
+pub finished : (pts : List Vector) (fs : List StoredFacet) → IsGrown pts fs → ((p : ℕ) → p < length pts → IsDone pts fs p)
+    → IsFinished (place pts) (range_with_len 0 (length pts)) (surface_of fs)
+finished pts fs k d = record {
+  s = k.s;
+  t = k.t;
+  u = k.u;
+  v = k.v;
+  has_s = range_has (length pts) k.s k.s_in;
+  has_t = range_has (length pts) k.t k.t_in;
+  has_u = range_has (length pts) k.u k.u_in;
+  has_v = range_has (length pts) k.v k.v_in;
+  volume = k.volume;
+  whole = k.sound.0;
+  sound = k.sound.1;
+  some = (some_facet (place pts) fs k.closed).0;
+  some_live = (some_facet (place pts) fs k.closed).1;
+  corners = λ f i l c. range_has (length pts) l (let live = live_in fs f i in elim c [
+    | inl e ↦ rw e (k.corners.i_in f live)
+    | inr (inl e) ↦ rw e (k.corners.j_in f live)
+    | inr (inr e) ↦ rw e (k.corners.k_in f live)
+  ]);
+  unseen = λ f i l m. d l (range_below (length pts) l m) f (live_in fs f i);
+}

@@ -1,0 +1,9 @@
+-- What private functions speak of: nothing to believe.
+pub mod Cones
+pub mod NearOrder
+pub mod OutsideSets
+pub mod Planes
+pub mod PositionChains
+pub mod Positions
+pub mod Runs
+pub mod Settling

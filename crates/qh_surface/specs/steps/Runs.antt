@@ -1,0 +1,97 @@
+-- A run of Quickhull over a list of points, each known by its position: what holds between two rounds, and within a round.
+-- Source: Barber, Dobkin and Huhdanpaa 1996 (outside sets, the horizon, the cone of new facets).
+use Rattle.std.specs.Prelude.{All, ◌≡◌, ℕ, ◌<◌, ◌≤◌, ◌⊎◌, List, [], length, ℤ, pos, ◌≤ℤ◌, ◌<ℤ◌}
+use Rattle.qh_model.specs.headline.Vector.{Vector}
+use Rattle.qh_model.specs.headline.Predicates.{vol, place}
+use Rattle.qh_model.specs.headline.Sets.{In}
+use Rattle.qh_model.specs.contract.FinishedSurface.{middle_at}
+use Rattle.qh_model.specs.contract.StoredSurface.{StoredFacet, facet_at}
+use Rattle.qh_pred.specs.contract.Planes.{PlaneValue, height}
+use Rattle.qh_mesh.specs.contract.Replacement.{IsLive}
+use Rattle.qh_mesh.specs.contract.SoundMesh.{facet_vol, IsSoundMesh, IsClosedMesh}
+use Rattle.qh_surface.specs.contract.Corners.{AreCornersBelow}
+use Rattle.qh_surface.specs.steps.Planes.{plane_at, ArePlanes}
+use Rattle.qh_surface.specs.steps.OutsideSets.{OutsideValue, set_of}
+
+-- six times the volume of facet f and the point at position p: above 0 where the facet strictly sees it
+abbrev pub height_at : List Vector → List StoredFacet → ℕ → ℕ → ℤ
+height_at pts fs f p = facet_vol (place pts) fs f (place pts p)
+
+-- no facet sees the point at position p
+abbrev pub IsDone : List Vector → List StoredFacet → ℕ → Type 0
+IsDone pts fs p = (f : ℕ) → IsLive fs f → height_at pts fs f p ≤ℤ pos 0
+
+-- position p stands in some outside set
+abbrev pub IsOutside : OutsideValue → ℕ → Type 0
+IsOutside v p = (f : ℕ) × In p (set_of v f)
+
+-- the points of each outside set are above its facet, which is live
+abbrev pub AreOutside : List Vector → List StoredFacet → OutsideValue → Type 0
+AreOutside pts fs v = (f p : ℕ) → In p (set_of v f) → IsLive fs f × (pos 0 <ℤ height_at pts fs f p)
+
+-- a mesh over the points that is sound around the middle of four of them, and closed
+pub record IsGrown (pts : List Vector) (fs : List StoredFacet) : Type 0 where
+  pub s : ℕ
+  pub t : ℕ
+  pub u : ℕ
+  pub v : ℕ
+  pub s_in : s < length pts
+  pub t_in : t < length pts
+  pub u_in : u < length pts
+  pub v_in : v < length pts
+  pub volume : vol (place pts s) (place pts t) (place pts u) (place pts v) <ℤ pos 0
+  pub sound : IsSoundMesh (place pts) fs (middle_at (place pts) s t u v)
+  pub closed : IsClosedMesh (place pts) fs
+  pub corners : AreCornersBelow (length pts) fs
+
+-- between rounds: each point stands in the outside set of a facet that it is above, and that waits for its turn,
+-- or no facet sees it
+pub record IsUnderWay (pts : List Vector) (fs : List StoredFacet) (ps : List PlaneValue) (v : OutsideValue)
+    (pending : List ℕ) : Type 0 where
+  pub grown : IsGrown pts fs
+  pub planes : ArePlanes (place pts) fs ps
+  pub positions : v.positions ≡ length pts
+  pub places : length fs ≤ length v.sets
+  pub range : All (λ f. f < length v.sets) pending
+  pub outside : AreOutside pts fs v
+  pub none : v.orphans ≡ []
+  pub waits : (f p : ℕ) → In p (set_of v f) → In f pending
+  pub all : (p : ℕ) → p < length pts → IsOutside v p ⊎ IsDone pts fs p
+
+-- the position a was taken out of the outside set of facet f, to be the next apex
+pub record IsPicked (pts : List Vector) (fs : List StoredFacet) (ps : List PlaneValue) (v : OutsideValue)
+    (pending : List ℕ) (f a : ℕ) : Type 0 where
+  pub grown : IsGrown pts fs
+  pub planes : ArePlanes (place pts) fs ps
+  pub positions : v.positions ≡ length pts
+  pub places : length fs ≤ length v.sets
+  pub range : All (λ f. f < length v.sets) pending
+  pub outside : AreOutside pts fs v
+  pub none : v.orphans ≡ []
+  pub waits : (g p : ℕ) → In p (set_of v g) → In g pending ⊎ (g ≡ f)
+  pub all : (p : ℕ) → p < length pts → IsOutside v p ⊎ IsDone pts fs p ⊎ (p ≡ a)
+  pub apex : a < length pts
+  pub live : IsLive fs f
+  pub seen : pos 0 <ℤ height_at pts fs f a
+
+-- while the orphans go to the facets that were made: an orphan that sees none of these sees no facet
+pub record IsSettling (pts : List Vector) (fs : List StoredFacet) (v : OutsideValue)
+    (pending made : List ℕ) : Type 0 where
+  pub outside : AreOutside pts fs v
+  pub waits : (f p : ℕ) → In p (set_of v f) → In f pending ⊎ In f made
+  pub all : (p : ℕ) → p < length pts → In p v.orphans ⊎ IsOutside v p ⊎ IsDone pts fs p
+  pub drops : (p : ℕ) → In p v.orphans → All (λ f. height_at pts fs f p ≤ℤ pos 0) made → IsDone pts fs p
+
+-- the plane at f is that of the facet
+abbrev pub IsPlaneOf : List Vector → List StoredFacet → List PlaneValue → ℕ → Type 0
+IsPlaneOf pts fs ps f = (f < length ps) × ((p : Vector) → height (plane_at ps f) p ≡ facet_vol (place pts) fs f p)
+
+-- facets were made that have no plane and no outside set yet
+pub record IsRemade (pts : List Vector) (fs : List StoredFacet) (ps : List PlaneValue) (v : OutsideValue)
+    (pending made : List ℕ) : Type 0 where
+  pub grown : IsGrown pts fs
+  pub planes : (f : ℕ) → IsLive fs f → IsPlaneOf pts fs ps f ⊎ In f made
+  pub made_live : All (IsLive fs) made
+  pub positions : v.positions ≡ length pts
+  pub range : All (λ f. f < length v.sets) pending
+  pub settling : IsSettling pts fs v pending made

@@ -1,0 +1,183 @@
+//! The facets of a large cone in a ring round its apex.
+//!
+//! Two neighbours of a cone meet in an edge from the apex, so going over these edges from one facet all
+//! are met. In that order a search can find the one facet of which a point need be asked
+//! (`cone_search`). The ring begins where the cone is strictly convex.
+ghost use Rattle.std.specs.Prelude.{All, ◌≡◌, ◌<◌, ◌⊎◌, ℕ, List, length, OnOk, [], pos, IfOk};
+ghost use Rattle.qh_model.specs.headline.Sets.{In};
+ghost use Rattle.qh_model.specs.headline.Predicates.{place};
+ghost use Rattle.qh_model.specs.contract.Surface.Side.{second};
+ghost use Rattle.qh_model.specs.contract.StoredSurface.{facet_at};
+ghost use Rattle.qh_mesh.specs.contract.Edges.{edge_of, facet_of, twin_of};
+ghost use Rattle.qh_mesh.specs.contract.Replacement.{IsLive};
+ghost use Rattle.qh_surface.specs.steps.Planes.{plane_at};
+ghost use Rattle.qh_surface.specs.contract.Corners.{AreCornersBelow};
+ghost use Rattle.qh_surface.specs.steps.Runs.{IsPlaneOf};
+ghost use Rattle.qh_surface.specs.steps.Cones.{HasNoCornerAbove, IsFan, AreWedges, apex_of};
+
+use qh_mesh::{FacetNo, Mesh};
+use qh_model::{Memory, Point};
+use qh_pred::{Plane, point_at};
+use std::alloc::{AllocError, Global};
+
+/// So many facets of a cone are looked at one by one. A cone that has more is searched.
+pub const SCANNED: usize = 16;
+
+/// A facet of a cone, between two rays from the apex.
+#[derive(Clone, Copy, Drop)]
+pub struct Wedge {
+    /// Its number.
+    pub facet: FacetNo,
+    /// Its plane.
+    pub plane: Plane,
+    /// The corner of the ray where it begins.
+    pub from: Point,
+    /// The corner of the ray where it ends and the next one begins.
+    pub to: Point,
+}
+
+/// The ring of a large cone, with room that it keeps from round to round. That of a small cone is empty.
+#[derive(Drop)]
+pub struct ConeRing {
+    /// The corner that the facets have in common.
+    pub apex: Point,
+    /// The facets, each followed by its neighbour over the ray where it ends.
+    pub wedges: Vec<Wedge>,
+    /// The place of a wedge whose plane has the first ray strictly below.
+    pub opposite: usize,
+}
+
+/// The neighbour of a facet over the ray where it ends.
+fn next_facet(mesh: &Mesh, facet: FacetNo) -> FacetNo
+    requires { IsLive mesh.now facet }
+    ensures { result ≡ facet_of (twin_of mesh.now (edge_of facet second)) }
+{
+    mesh.facet_of(mesh.twin(mesh.edge(facet, 1)))
+}
+
+/// The wedge of a facet.
+fn wedge_of(pts: &[Point], mesh: &Mesh, planes: &[Plane], facet: FacetNo) -> Wedge
+    requires live { IsLive mesh.now facet }
+    requires corners { AreCornersBelow (length pts.now) mesh.now }
+    requires plane { facet < length planes.now }
+    ensures facet { result.facet ≡ facet }
+    ensures plane { result.plane ≡ plane_at planes.now facet }
+    ensures from { result.from ≡ place pts.now (facet_at mesh.now facet).i }
+    ensures to { result.to ≡ place pts.now (facet_at mesh.now facet).j }
+{
+    let [from, to, _] = mesh.facet(facet);
+    Wedge {
+        facet,
+        plane: planes[facet.index()],
+        from: point_at(pts, from),
+        to: point_at(pts, to),
+    }
+}
+
+/// A facet where the cone is strictly convex: the ray before it is strictly below its plane. There is
+/// one, since no plane has all rays of a cone.
+fn first_facet(pts: &[Point], mesh: &Mesh, planes: &[Plane], made: &[FacetNo]) -> FacetNo
+    requires some { 0 < length made.now }
+    requires live { All (IsLive mesh.now) made.now }
+    requires corners { AreCornersBelow (length pts.now) mesh.now }
+    requires planes { All (λ f. f < length planes.now) made.now }
+    requires fan { IsFan mesh.now made.now }
+    ensures { In result made.now }
+{
+    let mut before = wedge_of(pts, mesh, planes, made[0]);
+    for _ in 0..made.len() {
+        let wedge = wedge_of(pts, mesh, planes, next_facet(mesh, before.facet));
+        if wedge.plane.height(before.from) < 0 {
+            return wedge.facet;
+        }
+        before = wedge;
+    }
+    before.facet
+}
+
+/// Lists so many wedges from a facet on, each after its neighbour.
+fn go_round(
+    wedges: &mut Vec<Wedge>,
+    pts: &[Point],
+    mesh: &Mesh,
+    planes: &[Plane],
+    made: &[FacetNo],
+    first: FacetNo,
+) -> Result<(), AllocError>
+    requires live { All (IsLive mesh.now) made.now }
+    requires corners { AreCornersBelow (length pts.now) mesh.now }
+    requires below { HasNoCornerAbove pts.now mesh.now }
+    requires planes { All (IsPlaneOf pts.now mesh.now planes.now) made.now }
+    requires fan { IsFan mesh.now made.now }
+    requires first { In first made.now }
+    requires empty { wedges.old.items ≡ [] }
+    ensures { OnOk result (AreWedges planes.now made.now (apex_of pts.now mesh.now made.now) wedges.new.items) }
+{
+    let mut facet = first;
+    for _ in 0..made.len() {
+        wedges.push(wedge_of(pts, mesh, planes, facet))?;
+        facet = next_facet(mesh, facet);
+    }
+    Ok(())
+}
+
+/// The place of a wedge whose plane has the first ray strictly below; 0 where there is none.
+pub fn opposite_of(wedges: &[Wedge]) -> usize {
+    for place in 1..wedges.len() {
+        if wedges[place].plane.height(wedges[0].from) < 0 {
+            return place;
+        }
+    }
+    0
+}
+
+impl ConeRing {
+    /// A ring with no wedge. It takes no memory.
+    pub fn new(alloc: Global) -> ConeRing
+        ensures { result.wedges.items ≡ [] }
+    {
+        ConeRing {
+            apex: Point::new(0, 0, 0),
+            wedges: Vec::new(alloc),
+            opposite: 0,
+        }
+    }
+
+    /// Takes the memory for so many wedges; nothing else changes.
+    ///
+    /// `Err` says that memory was refused.
+    pub fn reserve(&mut self, wedges: usize) -> Result<(), Memory>
+        ensures { self.new.wedges.items ≡ self.old.wedges.items }
+    {
+        self.wedges.reserve(wedges)?;
+        Ok(())
+    }
+
+    /// Takes the facets that were made, if they are more than [`SCANNED`], and else none.
+    ///
+    /// `Err` says that memory was refused.
+    pub fn take(
+        &mut self,
+        pts: &[Point],
+        mesh: &Mesh,
+        planes: &[Plane],
+        made: &[FacetNo],
+    ) -> Result<(), Memory>
+        requires live { All (IsLive mesh.now) made.now }
+        requires corners { AreCornersBelow (length pts.now) mesh.now }
+        requires below { HasNoCornerAbove pts.now mesh.now }
+        requires planes { All (IsPlaneOf pts.now mesh.now planes.now) made.now }
+        requires fan { SCANNED < length made.now → IsFan mesh.now made.now }
+        ensures { OnOk result (AreWedges planes.now made.now self.new.apex self.new.wedges.items) }
+    {
+        self.wedges.clear();
+        if made.len() > SCANNED {
+            let [_, _, apex] = mesh.facet(made[0]);
+            self.apex = point_at(pts, apex);
+            let first = first_facet(pts, mesh, planes, made);
+            go_round(&mut self.wedges, pts, mesh, planes, made, first)?;
+            self.opposite = opposite_of(self.wedges.as_slice());
+        }
+        Ok(())
+    }
+}

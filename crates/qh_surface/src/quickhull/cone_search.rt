@@ -1,0 +1,105 @@
+//! A search through a large cone for a facet that a point is above.
+//!
+//! The rays of the cone stand in a ring, and the half-planes from the first of them through the others
+//! are turned about it one after the other. So a binary search finds the wedge on whose side of them a
+//! point lies, and of the cone's facets only three need be asked: the first, the last and that one.
+//! Where none of them sees the point, it lies between three rays, and no facet of the cone sees it.
+//!
+//! Nothing is proved of the search. Each answer has its certificate: the facet that sees the point, or
+//! the three rays. Where there is neither, the answer says so, and all facets are asked.
+ghost use Rattle.std.specs.Prelude.{◌≡◌, ◌<◌, ℕ, IsTrue, ◌↔◌, length, pos, ◌≤ℤ◌, ◌<ℤ◌};
+ghost use Rattle.qh_model.specs.headline.Vector.{Vector};
+ghost use Rattle.qh_model.specs.headline.Predicates.{vol};
+ghost use Rattle.qh_pred.specs.contract.Planes.{height};
+ghost use Rattle.qh_surface.specs.steps.Cones.{wedge_at, AreTriangles, IsBetweenRays, IsAnswer};
+
+use crate::quickhull::cone_ring::{ConeRing, Wedge};
+use qh_mesh::FacetNo;
+use qh_model::Point;
+use qh_pred::Plane;
+
+/// What a search through a ring tells of a point.
+#[derive(Clone, Copy, Drop)]
+pub enum Asked {
+    /// This facet sees it.
+    Seen(FacetNo),
+    /// It lies between three rays, so no facet of the cone sees it.
+    Unseen,
+    /// The search does not tell.
+    Unknown,
+}
+
+/// Whether a point that the wedge does not see lies between its rays and the first. The half-plane is
+/// that of the apex, the corner of the first ray and the point.
+fn is_between(half: &Plane, first: Point, wedge: &Wedge) -> bool
+    ensures spans { IsTrue result → height wedge.now.plane first <ℤ pos 0 }
+    ensures from { IsTrue result → pos 0 ≤ℤ height half.now wedge.now.from }
+    ensures to { IsTrue result → height half.now wedge.now.to ≤ℤ pos 0 }
+{
+    wedge.plane.height(first) < 0 && half.height(wedge.from) >= 0 && half.height(wedge.to) <= 0
+}
+
+impl ConeRing {
+    /// The wedge at a place.
+    fn wedge(&self, place: usize) -> &Wedge
+        requires { place < length self.now.wedges.items }
+        ensures { result.now ≡ wedge_at self.now.wedges.items place }
+    {
+        &self.wedges[place]
+    }
+
+    /// The place of the last wedge but one that begins at the half-plane or before it, which goes from
+    /// the first ray through a point that neither the first nor the last wedge sees.
+    fn place_of(&self, half: &Plane) -> usize
+        requires { 2 < length self.now.wedges.items }
+    {
+        let mut low = 1;
+        let mut high = self.wedges.len() - 1;
+        let is_after_first = half.sees(self.wedges[low].from);
+        if !is_after_first && half.height(self.wedges[high].from) == 0 {
+            return self.opposite;
+        }
+        let least = i128::from(is_after_first);
+        while high - low > 1 {
+            let middle = low + (high - low) / 2;
+            if half.height(self.wedges[middle].from) >= least {
+                low = middle;
+            } else {
+                high = middle;
+            }
+        }
+        low
+    }
+
+    /// What a search tells of a point.
+    pub fn asked(&self, point: Point) -> Asked
+        requires { AreTriangles self.now.apex self.now.wedges.items }
+        ensures { IsAnswer self.now.apex self.now.wedges.items point result }
+    {
+        let count = self.wedges.len();
+        if count < 3 {
+            return Asked::Unknown;
+        }
+        let first = self.wedge(0);
+        if first.plane.sees(point) {
+            return Asked::Seen(first.facet);
+        }
+        let last = self.wedge(count - 1);
+        if last.plane.sees(point) {
+            return Asked::Seen(last.facet);
+        }
+        let half = Plane::through(self.apex, first.from, point);
+        let place = self.place_of(&half);
+        if place >= count {
+            return Asked::Unknown;
+        }
+        let wedge = self.wedge(place);
+        if wedge.plane.sees(point) {
+            Asked::Seen(wedge.facet)
+        } else if is_between(&half, first.from, wedge) {
+            Asked::Unseen
+        } else {
+            Asked::Unknown
+        }
+    }
+}

@@ -1,0 +1,61 @@
+//! The planes of a mesh, by the places of its facets.
+ghost use Rattle.std.specs.Prelude.{All, ◌≡◌, ◌≤◌, ◌<◌, ◌⊎◌, ℕ, length, OnOk};
+ghost use Rattle.qh_model.specs.headline.Vector.{Vector};
+ghost use Rattle.qh_model.specs.headline.Sets.{In};
+ghost use Rattle.qh_model.specs.headline.Predicates.{place};
+ghost use Rattle.qh_pred.specs.contract.Planes.{height};
+ghost use Rattle.qh_mesh.specs.contract.Replacement.{IsLive};
+ghost use Rattle.qh_mesh.specs.contract.SoundMesh.{facet_vol};
+ghost use Rattle.qh_surface.specs.steps.Planes.{plane_at};
+ghost use Rattle.qh_surface.specs.contract.Corners.{AreCornersBelow};
+ghost use Rattle.qh_surface.specs.steps.Runs.{IsPlaneOf};
+
+use qh_mesh::{FacetNo, Mesh};
+use qh_model::Point;
+use qh_pred::{Plane, point_at};
+use std::alloc::AllocError;
+
+/// Room is made for so many places more than are asked for, so that few rounds make any.
+const SPARE: usize = 64;
+
+/// The plane of a live facet.
+pub fn plane_of(pts: &[Point], mesh: &Mesh, facet: FacetNo) -> Plane
+    requires live { IsLive mesh.now facet }
+    requires corners { AreCornersBelow (length pts.now) mesh.now }
+    ensures { (p : Vector) → height result p ≡ facet_vol (place pts.now) mesh.now facet p }
+{
+    let [a, b, c] = mesh.facet(facet);
+    Plane::through(point_at(pts, a), point_at(pts, b), point_at(pts, c))
+}
+
+/// The plane that stands at a place until a facet is there.
+fn no_plane() -> Plane {
+    let origin = Point::new(0, 0, 0);
+    Plane::through(origin, origin, origin)
+}
+
+/// Makes room for the planes of so many places, and some to spare.
+pub fn make_room(planes: &mut Vec<Plane>, places: usize) -> Result<(), AllocError>
+    ensures room { OnOk result (places ≤ length planes.new.items) }
+    ensures kept { (f : ℕ) → f < length planes.old.items
+        → (f < length planes.new.items) × (plane_at planes.new.items f ≡ plane_at planes.old.items f) }
+{
+    if planes.len() < places {
+        planes.resize(places.saturating_add(SPARE), no_plane())?;
+    }
+    Ok(())
+}
+
+/// Writes the planes of the facets that were made.
+pub fn renew(pts: &[Point], mesh: &Mesh, made: &[FacetNo], planes: &mut Vec<Plane>)
+    requires live { All (IsLive mesh.now) made.now }
+    requires corners { AreCornersBelow (length pts.now) mesh.now }
+    requires room { length mesh.now ≤ length planes.old.items }
+    ensures len { length planes.new.items ≡ length planes.old.items }
+    ensures planes { (f : ℕ) → IsLive mesh.now f → IsPlaneOf pts.now mesh.now planes.old.items f ⊎ In f made.now
+        → IsPlaneOf pts.now mesh.now planes.new.items f }
+{
+    for facet in made {
+        planes[facet.index()] = plane_of(pts, mesh, *facet);
+    }
+}

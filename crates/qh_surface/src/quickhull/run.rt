@@ -1,0 +1,183 @@
+//! A run of Quickhull: rounds in each of which one point becomes a corner.
+ghost use Rattle.std.specs.Prelude.{◌≡◌, ◌≤◌, ◌<◌, ℕ, [], length, OnOk, IfOk};
+ghost use Rattle.qh_surface.specs.steps.OutsideSets.{listed};
+ghost use Rattle.qh_surface.specs.steps.Positions.{IsSimplexIn};
+ghost use Rattle.qh_surface.specs.steps.Cones.{IsFan};
+ghost use Rattle.qh_surface.specs.steps.Runs.{IsDone, IsGrown, IsUnderWay, IsPicked, IsRemade};
+
+use crate::quickhull::cone_ring::{ConeRing, SCANNED};
+use crate::quickhull::far_simplex::Simplex;
+use crate::quickhull::outside_sets::OutsideSets;
+use crate::quickhull::planes::{make_room, renew};
+use crate::quickhull::queue::{enqueue, next_apex};
+use crate::quickhull::settling::{release, settle_orphans};
+use crate::quickhull::walk::Walk;
+use qh_mesh::{FacetNo, Mesh};
+use qh_model::{Id, Memory, Point};
+use qh_pred::Plane;
+use std::alloc::Global;
+
+/// From so many points on, a run asks for room for all its facets at once.
+const LARGE: usize = 262_144;
+
+/// A mesh over points has at most two facets for each, and one more is room to spare.
+const PLACES_EACH: usize = 3;
+
+/// What a run keeps from round to round.
+#[derive(Drop)]
+pub struct Run {
+    /// The surface so far: its corners are positions of the points.
+    pub mesh: Mesh,
+    /// The points, each known by its position.
+    pub points: Vec<Point>,
+    /// The planes of the facets, by place.
+    planes: Vec<Plane>,
+    /// The points that are not settled, by position.
+    sets: OutsideSets,
+    /// The facets that the apex of a round sees.
+    walk: Walk,
+    /// The facets that the last round made, if they are many.
+    ring: ConeRing,
+    /// The facets that wait for their turn.
+    pending: Vec<FacetNo>,
+    /// How many facets were made so far: what the run costs.
+    pub made: usize,
+}
+
+/// For how many places a run over so many points asks at its start.
+fn places_asked(points: usize) -> usize {
+    if points < LARGE {
+        0
+    } else {
+        points.saturating_mul(PLACES_EACH)
+    }
+}
+
+/// No planes yet, with room for so many, where it is not refused.
+fn room_for(alloc: Global, places: usize) -> Vec<Plane>
+    ensures { result.items ≡ [] }
+{
+    let mut planes = Vec::new(alloc);
+    let _ = planes.reserve(places);
+    planes
+}
+
+/// Takes the memory that a round needs after its mesh has changed: the cone over the horizon of so
+/// many facets has at most three times as many.
+fn make_ready(
+    planes: &mut Vec<Plane>,
+    sets: &mut OutsideSets,
+    ring: &mut ConeRing,
+    pending: &mut Vec<FacetNo>,
+    visible: usize,
+) -> Result<(), Memory>
+    ensures planes { planes.new.items ≡ planes.old.items }
+    ensures sets { sets.new ≡ sets.old }
+    ensures pending { pending.new.items ≡ pending.old.items }
+{
+    let most = visible.saturating_mul(3);
+    planes.reserve(most)?;
+    sets.reserve(most)?;
+    if most > SCANNED {
+        ring.reserve(most)?;
+    }
+    pending.reserve(most)?;
+    Ok(())
+}
+
+impl Run {
+    /// A run over points that has the four facets of a first simplex, four positions of them.
+    ///
+    /// `Err` says that memory was refused, or that there are too many points for their numbers.
+    pub fn start(alloc: Global, points: Vec<Point>, first: Simplex) -> Result<Run, Memory>
+        requires { IsSimplexIn points.items first }
+        ensures points { IfOk result (λ r. r.points.items ≡ points.items) }
+        ensures under_way { IfOk result (λ r. IsUnderWay points.items r.mesh r.planes.items r.sets r.pending.items) }
+    {
+        let Ok(positions) = u32::try_from(points.len()) else {
+            return Err(Memory);
+        };
+        let mut mesh = Mesh::simplex(alloc, &points, first.i, first.j, first.k, first.l)?;
+        let places = places_asked(points.len());
+        mesh.ask_for_room(places);
+        let mut run = Run {
+            mesh,
+            points,
+            planes: room_for(alloc, places),
+            sets: OutsideSets::new(alloc, positions)?,
+            walk: Walk::new(alloc),
+            ring: ConeRing::new(alloc),
+            pending: Vec::new(alloc),
+            made: 0,
+        };
+        run.settle(&[
+            FacetNo::new(0),
+            FacetNo::new(1),
+            FacetNo::new(2),
+            FacetNo::new(3),
+        ])?;
+        Ok(run)
+    }
+
+    /// Gives the facets that were made their planes, the orphans to those of them that they are above,
+    /// and those with an outside set a turn.
+    fn settle(&mut self, made: &[FacetNo]) -> Result<(), Memory>
+        requires remade { IsRemade self.old.points.items self.old.mesh self.old.planes.items self.old.sets self.old.pending.items made.now }
+        requires fan { SCANNED < length made.now → IsFan self.old.mesh made.now }
+        ensures points { self.new.points.items ≡ self.old.points.items }
+        ensures under_way { OnOk result (
+            IsUnderWay self.old.points.items self.new.mesh self.new.planes.items self.new.sets self.new.pending.items) }
+        ensures listed { OnOk result (listed self.new.sets ≤ listed self.old.sets) }
+    {
+        make_room(&mut self.planes, self.mesh.places())?;
+        self.sets.make_room(self.planes.len())?;
+        renew(&self.points, &self.mesh, made, &mut self.planes);
+        self.ring
+            .take(&self.points, &self.mesh, &self.planes, made)?;
+        settle_orphans(&mut self.sets, &self.planes, &self.points, &self.ring, made);
+        self.made = self.made.saturating_add(made.len());
+        enqueue(&mut self.pending, &self.sets, made)?;
+        Ok(())
+    }
+
+    /// Makes the point at a position, which is above a facet, a corner: the facets that see it make way
+    /// for its cone.
+    fn add(&mut self, alloc: Global, facet: FacetNo, apex: u32) -> Result<(), Memory>
+        requires { IsPicked self.old.points.items self.old.mesh self.old.planes.items self.old.sets self.old.pending.items facet apex }
+        ensures points { self.new.points.items ≡ self.old.points.items }
+        ensures under_way { OnOk result (
+            IsUnderWay self.old.points.items self.new.mesh self.new.planes.items self.new.sets self.new.pending.items) }
+        ensures listed { OnOk result (listed self.new.sets ≤ listed self.old.sets) }
+    {
+        let point = self.points[apex as usize];
+        self.walk.find(&self.mesh, &self.planes, facet, point)?;
+        let visible = self.walk.visible().len();
+        make_ready(
+            &mut self.planes,
+            &mut self.sets,
+            &mut self.ring,
+            &mut self.pending,
+            visible,
+        )?;
+        release(&mut self.sets, self.walk.visible());
+        let made = self
+            .mesh
+            .replace(alloc, &self.points, self.walk.visible(), Id::new(apex))?;
+        self.settle(&made)?;
+        self.mesh.take_room(made);
+        Ok(())
+    }
+
+    /// Adds points until no facet has an outside set.
+    pub fn finish(&mut self, alloc: Global) -> Result<(), Memory>
+        requires { IsUnderWay self.old.points.items self.old.mesh self.old.planes.items self.old.sets self.old.pending.items }
+        ensures points { self.new.points.items ≡ self.old.points.items }
+        ensures grown { OnOk result (IsGrown self.old.points.items self.new.mesh) }
+        ensures done { OnOk result ((p : ℕ) → p < length self.old.points.items → IsDone self.old.points.items self.new.mesh p) }
+    {
+        while let Some((facet, apex)) = next_apex(&mut self.pending, &mut self.sets) {
+            self.add(alloc, facet, apex)?;
+        }
+        Ok(())
+    }
+}

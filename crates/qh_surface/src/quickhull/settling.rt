@@ -1,0 +1,187 @@
+//! How the points of facets that go find their new outside sets.
+ghost use Rattle.std.specs.Prelude.{All, ◌≡◌, ◌≤◌, ◌<◌, ℕ, List, [], ◌∷◌, length, drop, map, pos, ◌<ℤ◌, IfNone, IfSome};
+ghost use Rattle.qh_model.specs.headline.Vector.{Vector};
+ghost use Rattle.qh_model.specs.headline.Sets.{In};
+ghost use Rattle.qh_model.specs.headline.Predicates.{place};
+ghost use Rattle.qh_model.specs.contract.StoredSurface.{StoredFacet};
+ghost use Rattle.qh_pred.specs.contract.Planes.{height};
+ghost use Rattle.qh_mesh.specs.contract.Replacement.{IsLive};
+ghost use Rattle.qh_surface.specs.steps.Planes.{plane_at, ArePlanes};
+ghost use Rattle.qh_surface.specs.steps.OutsideSets.{listed};
+ghost use Rattle.qh_surface.specs.steps.Runs.{IsSettling};
+ghost use Rattle.qh_surface.specs.steps.Settling.{IsAboveNone, IsOneSettled, AreReleased};
+ghost use Rattle.qh_surface.specs.steps.Cones.{AreWedges};
+
+use crate::quickhull::cone_ring::{ConeRing, SCANNED};
+use crate::quickhull::cone_search::Asked;
+use crate::quickhull::outside_sets::OutsideSets;
+use qh_mesh::FacetNo;
+use qh_model::Point;
+use qh_pred::Plane;
+
+/// Makes the points of the facets that go orphans.
+pub fn release(sets: &mut OutsideSets, gone: &[FacetNo])
+    requires { All (λ f. f < length sets.old.sets) gone.now }
+    ensures released { AreReleased sets.old sets.new gone.now }
+    ensures places { length sets.new.sets ≡ length sets.old.sets }
+    ensures positions { sets.new.positions ≡ sets.old.positions }
+    ensures listed { listed sets.new ≡ listed sets.old }
+{
+    for facet in gone {
+        sets.release(*facet);
+    }
+}
+
+/// A facet that a point is above.
+#[derive(Clone, Copy, Drop)]
+struct Below {
+    facet: FacetNo,
+    /// Its place among the facets looked at one by one, or past them.
+    at: usize,
+    /// The height of the point over it, where it has such a place.
+    height: i128,
+}
+
+/// The first of the facets that the point is above.
+fn first_below(planes: &[Plane], made: &[FacetNo], point: Point) -> Option<Below>
+    requires { All (λ f. f < length planes.now) made.now }
+    ensures none { IfNone result (IsAboveNone planes.now made.now point) }
+    ensures named { IfSome result (λ b. In b.facet made.now) }
+    ensures seen { IfSome result (λ b. pos 0 <ℤ height (plane_at planes.now b.facet) point) }
+{
+    for at in 0..made.len() {
+        let facet = made[at];
+        let plane = &planes[facet.index()];
+        if plane.sees(point) {
+            let height = plane.height(point);
+            return Some(Below { facet, at, height });
+        }
+    }
+    None
+}
+
+/// A facet of those made that the point is above. The first few are looked at one by one, so that points
+/// gather in few sets, and where there are more, a search through their ring tells of the others.
+fn one_below(planes: &[Plane], ring: &ConeRing, made: &[FacetNo], point: Point) -> Option<Below>
+    requires planes { All (λ f. f < length planes.now) made.now }
+    requires ring { AreWedges planes.now made.now ring.now.apex ring.now.wedges.items }
+    ensures none { IfNone result (IsAboveNone planes.now made.now point) }
+    ensures named { IfSome result (λ b. In b.facet made.now) }
+    ensures seen { IfSome result (λ b. pos 0 <ℤ height (plane_at planes.now b.facet) point) }
+{
+    if made.len() <= SCANNED {
+        return first_below(planes, made, point);
+    }
+    if let Some(below) = first_below(planes, &made[..SCANNED], point) {
+        return Some(below);
+    }
+    match ring.asked(point) {
+        Asked::Seen(facet) => Some(Below {
+            facet,
+            at: SCANNED,
+            height: 0,
+        }),
+        Asked::Unseen => None,
+        Asked::Unknown => first_below(planes, made, point),
+    }
+}
+
+/// Whether the point is further above the facet than the first point of its outside set, or that set
+/// is empty.
+fn is_above_first(
+    sets: &OutsideSets,
+    planes: &[Plane],
+    points: &[Point],
+    facet: FacetNo,
+    point: Point,
+) -> bool
+    requires plane { facet < length planes.now }
+    requires place { facet < length sets.now.sets }
+    requires points { sets.now.positions ≡ length points.now }
+{
+    let plane = planes[facet.index()];
+    match sets.first(facet) {
+        Some(first) => plane.height(point) > plane.height(points[first as usize]),
+        None => true,
+    }
+}
+
+/// Whether no point that came to the facet is further above it than this one. Of the facets looked at one
+/// by one the greatest heights are kept, so that the height of a set's first point is not worked out again.
+fn is_furthest(
+    greatest: &mut [i128; SCANNED],
+    sets: &OutsideSets,
+    planes: &[Plane],
+    points: &[Point],
+    below: &Below,
+    point: Point,
+) -> bool
+    requires plane { below.now.facet < length planes.now }
+    requires place { below.now.facet < length sets.now.sets }
+    requires points { sets.now.positions ≡ length points.now }
+{
+    let Some(height) = greatest.get_mut(below.at) else {
+        return is_above_first(sets, planes, points, below.facet, point);
+    };
+    let is_above = below.height > *height;
+    *height = below.height.max(*height);
+    is_above
+}
+
+/// Puts the first orphan into the outside set of one of the facets that it is above: in front,
+/// if no other point of that set is known to be further. An orphan that is above none is dropped.
+/// `greatest` has the height of the first point of each facet looked at one by one.
+fn settle_orphan(
+    sets: &mut OutsideSets,
+    planes: &[Plane],
+    points: &[Point],
+    ring: &ConeRing,
+    made: &[FacetNo],
+    greatest: &mut [i128; SCANNED],
+    orphan: u32,
+)
+    requires points { sets.old.positions ≡ length points.now }
+    requires planes { All (λ f. f < length planes.now) made.now }
+    requires places { All (λ f. f < length sets.old.sets) made.now }
+    requires orphan { sets.old.orphans ≡ orphan ∷ drop 1 sets.old.orphans }
+    requires position { orphan < sets.old.positions }
+    requires ring { AreWedges planes.now made.now ring.now.apex ring.now.wedges.items }
+    ensures settled { IsOneSettled planes.now points.now made.now sets.old sets.new }
+    ensures places { length sets.new.sets ≡ length sets.old.sets }
+    ensures positions { sets.new.positions ≡ sets.old.positions }
+    ensures listed { listed sets.new ≤ listed sets.old }
+{
+    let point = points[orphan as usize];
+    match one_below(planes, ring, made, point) {
+        Some(below) => {
+            let in_front = is_furthest(greatest, sets, planes, points, &below, point);
+            sets.assign_orphan(below.facet, in_front);
+        }
+        None => sets.drop_orphan(),
+    }
+}
+
+/// Settles all orphans among the facets that were made.
+pub fn settle_orphans(
+    sets: &mut OutsideSets,
+    planes: &[Plane],
+    points: &[Point],
+    ring: &ConeRing,
+    made: &[FacetNo],
+)
+    requires points { sets.old.positions ≡ length points.now }
+    requires planes { All (λ f. f < length planes.now) made.now }
+    requires places { All (λ f. f < length sets.old.sets) made.now }
+    requires ring { AreWedges planes.now made.now ring.now.apex ring.now.wedges.items }
+    ensures none { sets.new.orphans ≡ [] }
+    ensures settled { (fs : List StoredFacet) (pending : List ℕ) → All (IsLive fs) made.now → ArePlanes (place points.now) fs planes.now
+        → IsSettling points.now fs sets.old pending made.now → IsSettling points.now fs sets.new pending made.now }
+    ensures places { length sets.new.sets ≡ length sets.old.sets }
+    ensures positions { sets.new.positions ≡ sets.old.positions }
+    ensures listed { listed sets.new ≤ listed sets.old }
+{
+    let mut greatest = [0; SCANNED];
+    while let Some(orphan) = sets.first_orphan() {
+        settle_orphan(sets, planes, points, ring, made, &mut greatest, orphan);
+    }
+}

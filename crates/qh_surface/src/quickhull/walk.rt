@@ -1,0 +1,132 @@
+//! The facets that a point sees: they hang together, so a walk from one of them finds all.
+ghost use Rattle.std.specs.Prelude.{All, ◌≡◌, ◌≤◌, ◌<◌, ◌<ℤ◌, pos, ℕ, OnOk, length, [], true, false};
+ghost use Rattle.qh_model.specs.headline.Sets.{In};
+ghost use Rattle.qh_model.specs.headline.Vector.{Vector};
+ghost use Rattle.qh_model.specs.contract.Weighted.{Weighted};
+ghost use Rattle.qh_mesh.specs.contract.Replacement.{IsLive, AreFacets};
+ghost use Rattle.qh_mesh.specs.contract.SoundMesh.{IsSoundMesh, AreVisible};
+ghost use Rattle.qh_pred.specs.contract.Planes.{height};
+ghost use Rattle.qh_surface.specs.steps.Planes.{plane_at, ArePlanes};
+ghost use Rattle.qh_surface.specs.contract.Walks.{IsMarked, mark_at};
+
+use crate::walk::{Test, walk};
+use qh_mesh::{EdgeNo, FacetNo, Mesh};
+use qh_model::{Memory, Point};
+use qh_pred::Plane;
+use std::alloc::{AllocError, Global};
+use std::marker::Model;
+
+/// Whether a point, the apex, sees a facet. The planes are those of the facets, by place.
+#[derive(Clone, Copy, Drop)]
+struct Sees<'a> {
+    planes: &'a [Plane],
+    apex: Point,
+}
+
+impl Test for Sees<'_> {
+    ghost Fits = { λ t fs. length fs ≤ length t.planes.now };
+
+    ghost Passes = { λ t fs f. pos 0 <ℤ height (plane_at t.planes.now f) t.apex };
+
+    fn passes(&self, mesh: &Mesh, edge: EdgeNo) -> bool {
+        self.planes[mesh.facet_of(edge).index()].sees(self.apex)
+    }
+
+    // Without a branch on the mark.
+    fn enters(&self, mesh: &Mesh, edge: EdgeNo, is_marked: bool) -> bool {
+        !is_marked & self.passes(mesh, edge)
+    }
+}
+
+/// Walks over the facets that a point sees, with room that they keep from round to round.
+///
+/// A contract sees the facets that it found last.
+#[derive(Drop)]
+pub struct Walk {
+    /// Marks of facets, by place, for the time of a walk.
+    marks: Vec<bool>,
+    /// The facets that it found, in the order in which it came to them.
+    found: Vec<FacetNo>,
+}
+
+impl Model for Walk {
+    ghost use Rattle.std.specs.Prelude.{List, ℕ, ◌≡◌, false};
+    ghost use Rattle.qh_surface.specs.contract.Walks.{mark_at};
+
+    ghost Value = { List ℕ };
+
+    ghost view = { λ w. w.found.items };
+
+    ghost invariant = { λ w. (f : ℕ) → mark_at w.marks.items f ≡ false };
+}
+
+/// Makes room for the marks of so many places.
+fn make_room(marks: &mut Vec<bool>, places: usize) -> Result<(), AllocError>
+    ensures same { (f : ℕ) → mark_at marks.new.items f ≡ mark_at marks.old.items f }
+    ensures room { OnOk result (places ≤ length marks.new.items) }
+{
+    if marks.len() < places {
+        marks.resize(places, false)?;
+    }
+    Ok(())
+}
+
+/// Takes the marks of the facets found back: there are no others.
+fn take_back(marks: &mut [bool], found: &[FacetNo])
+    requires only { (f : ℕ) → mark_at marks.old f ≡ true → In f found.now }
+    requires marked { All (IsMarked marks.old) found.now }
+    ensures { (f : ℕ) → mark_at marks.new f ≡ false }
+{
+    for f in found {
+        marks[f.index()] = false;
+    }
+}
+
+impl Walk {
+    /// A walk that found nothing yet. It takes no memory.
+    pub fn new(alloc: Global) -> Walk
+        ensures { result ≡ [] }
+    {
+        Walk {
+            marks: Vec::new(alloc),
+            found: Vec::new(alloc),
+        }
+    }
+
+    /// Finds the facets that a point, the apex, sees, from one of them. The planes are those of the
+    /// facets, by place.
+    ///
+    /// `Err` says that memory was refused: what is found then is not said.
+    pub fn find(
+        &mut self,
+        mesh: &Mesh,
+        planes: &[Plane],
+        start: FacetNo,
+        apex: Point,
+    ) -> Result<(), Memory>
+        requires live { IsLive mesh.now start }
+        requires room { length mesh.now ≤ length planes.now }
+        requires sees { pos 0 <ℤ height (plane_at planes.now start) apex }
+        ensures facets { OnOk result (AreFacets mesh.now self.new) }
+
+        // Of a sound mesh, and planes that are its own, they are all that the apex sees, and no other.
+        ensures visible { OnOk result ((at : ℕ → Vector) (o : Weighted) (l : ℕ) → at l ≡ apex
+            → ArePlanes at mesh.now planes.now → IsSoundMesh at mesh.now o → AreVisible at mesh.now self.new l) }
+    {
+        make_room(&mut self.marks, planes.len())?;
+        let sees = Sees { planes, apex };
+        let Ok(()) = walk(mesh, &sees, start, &mut self.marks, &mut self.found) else {
+            self.marks.clear();
+            return Err(Memory);
+        };
+        take_back(&mut self.marks, &self.found);
+        Ok(())
+    }
+
+    /// The facets that the last call of [`Walk::find`] found, each once.
+    pub fn visible(&self) -> &[FacetNo]
+        ensures { result.now ≡ self.now }
+    {
+        self.found.as_slice()
+    }
+}

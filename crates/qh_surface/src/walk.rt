@@ -1,0 +1,131 @@
+//! A walk over twins: the facets of a mesh that pass a test and hang together.
+//!
+//! From a facet that passes all are found by going over the sides of those that are found.
+//!
+//! Source: Barber, Dobkin and Huhdanpaa 1996 (the visible set is found by a search over neighbours).
+ghost use Rattle.std.specs.Prelude.{◌≡◌, ◌≤◌, ◌<◌, ◌+◌, ◌↔◌, IsTrue, ℕ, List, OnOk, [], length, false, vec_len, vec_capacity};
+ghost use Rattle.qh_model.specs.contract.StoredSurface.{StoredFacet, surface_of};
+ghost use Rattle.qh_mesh.specs.contract.Edges.{edge_end, edge_start, facet_of, nth_side, twin_of};
+ghost use Rattle.qh_mesh.specs.contract.Replacement.{IsLive};
+ghost use Rattle.qh_surface.specs.contract.Walks.{mark_at, IsMet, IsCrossed, IsFurther, IsWalk, IsWalkFrom};
+
+use qh_mesh::{EdgeNo, FacetNo, Mesh};
+use std::alloc::AllocError;
+
+/// What a walk asks of the next facet.
+pub trait Test {
+    // What the test needs to know of a mesh.
+    ghost Fits: { Self → List StoredFacet → Type 0 };
+
+    // That the facet at a place passes.
+    ghost Passes: { Self → List StoredFacet → ℕ → Type 0 };
+
+    /// Whether the facet of an edge passes. The one over the edge does.
+    fn passes(&self, mesh: &Mesh, edge: EdgeNo) -> bool
+        requires fits { Self.Fits self.now mesh.now }
+        requires live { IsLive mesh.now (facet_of edge) }
+        requires over { Self.Passes self.now mesh.now (facet_of (twin_of mesh.now edge)) }
+        requires starts { edge_start mesh.now edge ≡ edge_end mesh.now (twin_of mesh.now edge) }
+        requires ends { edge_end mesh.now edge ≡ edge_start mesh.now (twin_of mesh.now edge) }
+        ensures { IsTrue result ↔ Self.Passes self.now mesh.now (facet_of edge) };
+
+    /// Whether a walk enters the facet of an edge: it has no mark yet and passes. A test that costs little
+    /// is asked in any case, since which facets have marks can't be foreseen.
+    fn enters(&self, mesh: &Mesh, edge: EdgeNo, is_marked: bool) -> bool
+        requires fits { Self.Fits self.now mesh.now }
+        requires live { IsLive mesh.now (facet_of edge) }
+        requires over { Self.Passes self.now mesh.now (facet_of (twin_of mesh.now edge)) }
+        requires starts { edge_start mesh.now edge ≡ edge_end mesh.now (twin_of mesh.now edge) }
+        requires ends { edge_end mesh.now edge ≡ edge_start mesh.now (twin_of mesh.now edge) }
+        ensures { IsTrue result ↔ ((is_marked ≡ false) × Self.Passes self.now mesh.now (facet_of edge)) }
+    {
+        !is_marked && self.passes(mesh, edge)
+    }
+}
+
+/// Goes over a side of a facet that was found: the neighbour is found too if it passes and has no mark.
+/// It is listed in any case, and taken back where it doesn't: a count costs less than a wrong guess.
+fn cross<T: Test>(
+    mesh: &Mesh,
+    test: &T,
+    f: FacetNo,
+    side: usize,
+    marks: &mut [bool],
+    found: &mut Vec<FacetNo>,
+)
+    requires fits { T.Fits test.now mesh.now }
+    requires live { IsLive mesh.now f }
+    requires side { side < 3 }
+    requires passes { T.Passes test.now mesh.now f }
+    requires marks { length mesh.now ≤ length marks.old }
+    requires room { vec_len found.old < vec_capacity found.old }
+    requires walk { IsWalk (T.Passes test.now mesh.now) mesh.now marks.old found.old.items }
+    ensures walk { IsWalk (T.Passes test.now mesh.now) mesh.now marks.new found.new.items }
+    ensures further { IsFurther marks.old marks.new found.old.items found.new.items }
+    ensures crossed { IsMet (T.Passes test.now mesh.now) marks.new ((surface_of mesh.now).over f (nth_side side)) }
+    ensures len { vec_len found.new ≤ vec_len found.old + 1 }
+    ensures capacity { vec_capacity found.new ≡ vec_capacity found.old }
+{
+    let twin = mesh.across(f, side);
+    let neighbour = mesh.facet_of(twin);
+    let place = neighbour.index();
+    let is_marked = marks[place];
+    let is_entered = test.enters(mesh, twin, is_marked);
+    marks[place] = is_marked | is_entered;
+    found.push_reserved(neighbour);
+    if !is_entered {
+        let _ = found.take_last();
+    }
+}
+
+/// Goes over the three sides of a facet that was found.
+fn cross_all<T: Test>(
+    mesh: &Mesh,
+    test: &T,
+    f: FacetNo,
+    marks: &mut [bool],
+    found: &mut Vec<FacetNo>,
+) -> Result<(), AllocError>
+    requires fits { T.Fits test.now mesh.now }
+    requires live { IsLive mesh.now f }
+    requires passes { T.Passes test.now mesh.now f }
+    requires room { length mesh.now ≤ length marks.old }
+    requires walk { IsWalk (T.Passes test.now mesh.now) mesh.now marks.old found.old.items }
+    ensures walk { OnOk result (IsWalk (T.Passes test.now mesh.now) mesh.now marks.new found.new.items) }
+    ensures further { OnOk result (IsFurther marks.old marks.new found.old.items found.new.items) }
+    ensures crossed { OnOk result (IsCrossed (T.Passes test.now mesh.now) mesh.now marks.new f) }
+{
+    found.reserve(3)?;
+    cross(mesh, test, f, 0, marks, found);
+    cross(mesh, test, f, 1, marks, found);
+    cross(mesh, test, f, 2, marks, found);
+    Ok(())
+}
+
+/// Lists and marks the facets that a walk from `start` finds, `start` first. Marked facets are not
+/// entered. The list is cleared before.
+pub fn walk<T: Test>(
+    mesh: &Mesh,
+    test: &T,
+    start: FacetNo,
+    marks: &mut [bool],
+    found: &mut Vec<FacetNo>,
+) -> Result<(), AllocError>
+    requires fits { T.Fits test.now mesh.now }
+    requires live { IsLive mesh.now start }
+    requires passes { T.Passes test.now mesh.now start }
+    requires fresh { mark_at marks.old start ≡ false }
+    requires room { length mesh.now ≤ length marks.old }
+    ensures { OnOk result (IsWalkFrom (T.Passes test.now mesh.now) mesh.now marks.old marks.new start found.new.items) }
+{
+    found.clear();
+    let place = start.index();
+    marks[place] = true;
+    found.push(start)?;
+    let mut next = 0;
+    while next < found.len() {
+        cross_all(mesh, test, found[next], marks, found)?;
+        next += 1;
+    }
+    Ok(())
+}

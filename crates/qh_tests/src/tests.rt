@@ -1,0 +1,10 @@
+//! The tests of each library.
+
+mod block;
+mod hull;
+mod mesh;
+mod model;
+mod pred;
+mod read;
+mod run;
+mod write;

@@ -1,0 +1,63 @@
+//! Looks at a set of few points and at the lattice points of a cube, of which 8 are extreme, and extreme
+//! ids without a look.
+use qh_block::{extremes_unlooked, outer};
+use qh_model::{Id, Memory, POINT_LIMIT, Point};
+use qh_plane::distinct_alone;
+use std::alloc::{AllocError, Global};
+use std::test::Fail;
+
+/// The lattice points of a cube with 3 on each side.
+fn few(alloc: Global) -> Result<Vec<Point>, AllocError> {
+    let mut points = Vec::new(alloc);
+    for number in 0..27 {
+        points.push(Point::new(number / 9, number / 3 % 3, number % 3))?;
+    }
+    Ok(points)
+}
+
+/// The lattice points of a cube with 40 on each side: 64,000.
+fn many(alloc: Global) -> Result<Vec<Point>, AllocError> {
+    let mut points = Vec::new(alloc);
+    for number in 0..64000 {
+        points.push(Point::new(number / 1600, number / 40 % 40, number % 40))?;
+    }
+    Ok(points)
+}
+
+/// The ids that a look leaves of a list of points, and those that are extreme.
+fn left_of(alloc: Global, points: &[Point]) -> Result<(Option<Vec<Id>>, Vec<Id>), Memory> {
+    if points.len() > POINT_LIMIT as usize {
+        return Err(Memory);
+    }
+    let ids = distinct_alone(alloc, points)?;
+    if ids.is_empty() {
+        return Err(Memory);
+    }
+    let left = outer(alloc, points, &ids)?;
+    let extremes = extremes_unlooked(alloc, points, &ids)?;
+    Ok((left, extremes))
+}
+
+#[test]
+fn few_points(rt: HostRuntime) -> Result<(), Fail> {
+    let points = few(rt.alloc()).map_err(|_| "no memory")?;
+    let (left, extremes) = left_of(rt.alloc(), &points).map_err(|_| "no memory")?;
+    assert!(rt; left.is_none());
+    assert_eq!(rt; extremes.len(), 8usize);
+    Ok(())
+}
+
+#[test]
+fn many_points(rt: HostRuntime) -> Result<(), Fail> {
+    let points = many(rt.alloc()).map_err(|_| "no memory")?;
+    let (left, extremes) = left_of(rt.alloc(), &points).map_err(|_| "no memory")?;
+    let Some(left) = left else {
+        return Err("the look found nothing".into());
+    };
+    assert!(rt; left.len() < points.len() / 2);
+    for corner in &extremes {
+        assert!(rt; left.contains(corner));
+    }
+    assert_eq!(rt; extremes.len(), 8usize);
+    Ok(())
+}

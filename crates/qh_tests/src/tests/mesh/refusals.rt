@@ -1,0 +1,74 @@
+//! The steps of the seven points, where one growth is refused. Each call that is refused leaves the
+//! mesh as it was, and is made again. `scripts/refusals.py` refuses each growth in turn.
+use super::{ROWS, Triangle, first_simplex, has_twins, seen_by, seven, triangle};
+use qh_mesh::{EdgeNo, FacetNo, Mesh};
+use qh_model::{Id, Memory};
+use std::alloc::{AllocError, Global};
+use std::test::Fail;
+
+/// What a place holds: the corners of its facet and the twins of its sides, or nothing.
+type Place = Option<([u32; 3], [EdgeNo; 3])>;
+
+fn place(mesh: &Mesh, f: FacetNo) -> Place {
+    if f.index() >= mesh.places() || !mesh.is_live(f) {
+        return None;
+    }
+    let [a, b, c] = mesh.facet(f);
+    let (ab, bc, ca) = (mesh.edge(f, 0), mesh.edge(f, 1), mesh.edge(f, 2));
+    Some((
+        [a.number(), b.number(), c.number()],
+        [mesh.twin(ab), mesh.twin(bc), mesh.twin(ca)],
+    ))
+}
+
+/// The number of places, and what the first eight hold.
+fn places(mesh: &Mesh) -> (usize, [Place; 8]) {
+    let mut places = [None; 8];
+    for f in 0..8 {
+        places[f] = place(mesh, FacetNo::new(f));
+    }
+    (mesh.places(), places)
+}
+
+/// Whether the triangles of a list of places are the wanted ones, and each has its twins.
+fn are(mesh: &Mesh, list: &[FacetNo], want: &[Triangle]) -> bool {
+    list.len() == want.len()
+        && want
+            .iter()
+            .all(|t| list.iter().any(|f| triangle(mesh, *f) == Some(*t)))
+        && list.iter().all(|f| has_twins(mesh, *f))
+}
+
+/// Makes the steps, each call that is refused once more, and answers whether each step gave its row
+/// and each refusal left the mesh as it was.
+fn steps(alloc: Global) -> Result<bool, Fail> {
+    let pts = seven();
+    let mut mesh = match first_simplex(alloc, &pts) {
+        Ok(mesh) => mesh,
+        Err(Memory) => first_simplex(alloc, &pts)?,
+    };
+    let mut right = mesh.places() == 4;
+    for (apex, _, cone, _, count) in ROWS {
+        let visible = match seen_by(alloc, &mesh, &pts, apex) {
+            Ok(visible) => visible,
+            Err(AllocError) => seen_by(alloc, &mesh, &pts, apex)?,
+        };
+        let before = places(&mesh);
+        let made = match mesh.replace(alloc, &pts, visible.as_slice(), Id::new(apex)) {
+            Ok(made) => made,
+            Err(Memory) => {
+                right = right && places(&mesh) == before;
+                mesh.replace(alloc, &pts, visible.as_slice(), Id::new(apex))?
+            }
+        };
+        right = right && are(&mesh, made.as_slice(), cone) && mesh.places() == count;
+    }
+    Ok(right)
+}
+
+#[test]
+fn tries_again(rt: HostRuntime) -> Result<(), Fail> {
+    let right = steps(rt.alloc())?;
+    assert!(rt; right);
+    Ok(())
+}

@@ -1,0 +1,90 @@
+//! A source over a reader of std: what its failures are, and that none is read on.
+use qh_model::BYTE_LIMIT;
+use qh_read::{ReadFault, Source, StdSource, read_from};
+use std::io;
+use std::io::{ErrorKind, Read};
+use std::sync::atomic::{AtomicU64, Ordering};
+use std::test::Fail;
+
+/// Gives one point file byte by byte, but fails at one of the reads.
+#[derive(Drop)]
+struct Failing<'a> {
+    rest: &'a [u8],
+    /// How many reads there were.
+    reads: &'a AtomicU64,
+    /// The number of the read that fails, from 1.
+    fails_at: u64,
+    kind: ErrorKind,
+}
+
+impl Read for Failing<'_> {
+    fn read(&mut self, buf: &mut [u8]) -> io::Result<usize> {
+        let earlier = self.reads.fetch_add(1, Ordering::SeqCst);
+        if earlier.saturating_add(1) == self.fails_at {
+            return Err(io::Error::from(self.kind));
+        }
+        let count = self.rest.len().min(buf.len()).min(1);
+        let (piece, rest) = self.rest.split_at(count);
+        buf[..count].copy_from_slice(piece);
+        self.rest = rest;
+        Ok(count)
+    }
+}
+
+/// Gives blanks without end, and counts them.
+#[derive(Drop)]
+struct Endless<'a> {
+    given: &'a AtomicU64,
+}
+
+impl Read for Endless<'_> {
+    fn read(&mut self, buf: &mut [u8]) -> io::Result<usize> {
+        buf.fill(b' ');
+        self.given.fetch_add(buf.len() as u64, Ordering::SeqCst);
+        Ok(buf.len())
+    }
+}
+
+#[test]
+fn reads_one_piece_too_many(rt: HostRuntime) {
+    let given = AtomicU64::new(0);
+    let mut source = StdSource::new(Endless { given: &given });
+    let outcome = read_from(rt.alloc(), &mut source);
+    assert_eq!(rt; outcome.err(), Some(ReadFault::Big));
+    let given = given.load(Ordering::SeqCst);
+    assert!(rt;
+        given > u64::from(BYTE_LIMIT) && given <= u64::from(BYTE_LIMIT) + 65536,
+        "{given} bytes"
+    );
+}
+
+#[test]
+fn reads_no_reader_that_failed(rt: HostRuntime) -> Result<(), Fail> {
+    // An interrupted read is a failure like others, though the reader would go on.
+    for kind in [
+        ErrorKind::Other,
+        ErrorKind::Interrupted,
+        ErrorKind::WouldBlock,
+    ] {
+        // The 10 bytes, and their end.
+        for fails_at in 1..12 {
+            let reads = AtomicU64::new(0);
+            let rest = b"3\n1\n5 5 5\n".as_slice();
+            let mut source = StdSource::new(Failing {
+                rest,
+                reads: &reads,
+                fails_at,
+                kind,
+            });
+            let outcome = read_from(rt.alloc(), &mut source);
+            assert_eq!(rt;
+                outcome.err(),
+                Some(ReadFault::Device),
+                "{kind:?} at {fails_at}"
+            );
+            assert_eq!(rt; source.failures(), 1);
+            assert_eq!(rt; reads.load(Ordering::SeqCst), fails_at);
+        }
+    }
+    Ok(())
+}

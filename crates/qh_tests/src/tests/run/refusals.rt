@@ -1,0 +1,158 @@
+//! Runs of which one growth is refused: the hull is right, or memory was wanted and the same call gives
+//! it. A worker whose growth is refused gives up. `scripts/refusals.py` refuses each growth in turn.
+ghost use Rattle.std.specs.Prelude.{◌<◌, ◌≤◌};
+ghost use Rattle.qh_model.specs.headline.DistinctIds.{AreDistinctIds};
+
+use super::{OCTAHEDRON_HULL, hull_by, job, numbers_of, octahedron, worked_by_one};
+use qh_board::{BoardError, Mark};
+use qh_model::{Cut, CutError, Hull, Id, Memory, POINT_LIMIT, Point};
+use qh_plane::distinct;
+use qh_run::RunError;
+use std::alloc::{AllocError, Global};
+use std::test::Fail;
+use std::thread::Threads;
+
+/// The corners of a square, and its centre.
+fn square() -> [Point; 5] {
+    [
+        Point::new(0, 0, 0),
+        Point::new(2, 0, 0),
+        Point::new(2, 2, 0),
+        Point::new(0, 2, 0),
+        Point::new(1, 1, 0),
+    ]
+}
+
+/// The corners of the unit cube.
+fn cube() -> [Point; 8] {
+    [
+        Point::new(0, 0, 0),
+        Point::new(0, 0, 1),
+        Point::new(0, 1, 0),
+        Point::new(0, 1, 1),
+        Point::new(1, 0, 0),
+        Point::new(1, 0, 1),
+        Point::new(1, 1, 0),
+        Point::new(1, 1, 1),
+    ]
+}
+
+/// What the hulls of the square and of the cube say, as `numbers_of` has it.
+const SQUARE_HULL: [usize; 14] = [5, 5, 2, 4, 4, 0, 1, 2, 3, 4, 0, 1, 2, 3];
+
+const CUBE_HULL: [usize; 43] = [
+    8, 8, 3, 12, 8, 0, 1, 2, 3, 4, 5, 6, 7, 4, 0, 1, 3, 2, 4, 0, 2, 6, 4, 4, 0, 4, 5, 1, 4, 1, 5,
+    7, 3, 4, 2, 3, 7, 6, 4, 4, 6, 7, 5,
+];
+
+/// The hull, asked for again where memory was refused.
+fn hull_again<R: Threads + Sync>(
+    rt: &R,
+    alloc: Global,
+    points: &[Point],
+    cut: &Cut,
+    workers: u32,
+) -> Result<Option<Hull>, RunError> {
+    match hull_by(rt, alloc, points, cut, workers) {
+        Err(RunError::Memory) => hull_by(rt, alloc, points, cut, workers),
+        hull => hull,
+    }
+}
+
+/// The numbers of a hull, asked for again where memory was refused.
+fn numbers_again(alloc: Global, hull: &Hull) -> Result<Vec<usize>, AllocError> {
+    match numbers_of(alloc, hull) {
+        Err(AllocError) => numbers_of(alloc, hull),
+        numbers => numbers,
+    }
+}
+
+/// The even cut, asked for again where memory was refused.
+fn cut_again(alloc: Global, m: u32, size: u32) -> Result<Cut, CutError>
+    requires some { 0 < m }
+    requires few { m ≤ POINT_LIMIT }
+{
+    match Cut::even(alloc, m, size) {
+        Err(CutError::Memory) => Cut::even(alloc, m, size),
+        cut => cut,
+    }
+}
+
+#[test]
+fn tries_again(rt: HostRuntime) -> Result<(), Fail> {
+    let alloc = rt.alloc();
+    let (square, cube, octahedron) = (square(), cube(), octahedron());
+    let fives = cut_again(alloc, 5, 2)?;
+    let eights = cut_again(alloc, 8, 3)?;
+    let eighteens = cut_again(alloc, 18, 3)?;
+    let rows = [
+        (square.as_slice(), &fives, SQUARE_HULL.as_slice()),
+        (cube.as_slice(), &eights, CUBE_HULL.as_slice()),
+        (
+            octahedron.as_slice(),
+            &eighteens,
+            OCTAHEDRON_HULL.as_slice(),
+        ),
+    ];
+    for (points, cut, want) in rows {
+        for workers in [1, 2, 7] {
+            let hull = hull_again(&rt, alloc, points, cut, workers)?.ok_or("another cut")?;
+            let numbers = numbers_again(alloc, &hull)?;
+            assert_eq!(rt; numbers.as_slice(), want, "{workers} workers");
+        }
+    }
+    Ok(())
+}
+
+/// What one pass found of all blocks of a job.
+#[derive(Clone, Copy, Debug, PartialEq, Eq, Drop)]
+enum Found {
+    /// The right list.
+    Right,
+    /// Another list, or a list where the pass gave up, or none where it left.
+    Wrong,
+    /// The pass gave up, and there is no list.
+    GaveUp,
+}
+
+/// What one pass finds of the octahedron in blocks of 3.
+fn found_by_one(alloc: Global, points: &[Point], ids: &[Id], cut: &Cut) -> Result<Found, BoardError>
+    requires { AreDistinctIds points.now ids.now }
+{
+    let Some(job) = job(points, ids, cut) else {
+        return Ok(Found::Wrong);
+    };
+    let closed = worked_by_one(alloc, job)?;
+    let mark = closed.mark(0);
+    Ok(match closed.into_root() {
+        None if mark == Mark::GaveUp => Found::GaveUp,
+        Some(root) if mark == Mark::Left => {
+            let numbers = [0u32, 2, 3, 5, 6, 9];
+            let is_right = root.ids.len() == 6
+                && root
+                    .ids
+                    .iter()
+                    .zip(numbers)
+                    .all(|(id, number)| id.number() == number);
+            if is_right { Found::Right } else { Found::Wrong }
+        }
+        _ => Found::Wrong,
+    })
+}
+
+#[test]
+fn a_worker_gives_up(rt: HostRuntime) -> Result<(), Fail> {
+    let alloc = rt.alloc();
+    let points = octahedron();
+    let ids = match distinct(&rt, alloc, &points) {
+        Err(Memory) => distinct(&rt, alloc, &points)?,
+        Ok(ids) => ids,
+    };
+    let cut = cut_again(alloc, 18, 3)?;
+    let found = match found_by_one(alloc, &points, &ids, &cut) {
+        Err(BoardError::Memory) | Ok(Found::GaveUp) => found_by_one(alloc, &points, &ids, &cut)?,
+        found => found?,
+    };
+    assert_eq!(rt; found, Found::Right);
+    Ok(())
+}

@@ -1,0 +1,76 @@
+//! Calls of which one growth is refused: what they give is right, or memory was wanted and the same
+//! call gives it. `scripts/refusals.py` refuses each growth in turn.
+ghost use Rattle.std.specs.Prelude.{◌≡◌, [], ◌∷◌, IfOk};
+
+use qh_model::{Body, Hull, Id, Memory, Point, Polygon};
+use qh_write::{MemSink, Out, SendFault, Sink, send, text};
+use std::alloc::Global;
+use std::test::Fail;
+
+/// The hull of the corners of a square and of its centre.
+fn square(alloc: Global) -> Result<Hull, Memory>
+    ensures { IfOk result (λ h. h.body.extremes ≡ 0 ∷ 1 ∷ 2 ∷ 3 ∷ []) }
+{
+    let corners = [Id::new(0), Id::new(1), Id::new(2), Id::new(3)];
+    let extremes = Vec::from_array(alloc, corners)?;
+    let face = Vec::from_array(alloc, corners)?;
+    let mut polygons = Vec::new(alloc);
+    polygons.push(Polygon::of(face))?;
+    let body = Body {
+        dim: 2,
+        extremes,
+        polygons,
+        edges: 4,
+    };
+    Ok(Hull {
+        given: 5,
+        distinct: 5,
+        body,
+    })
+}
+
+const OUTS: [Out; 5] = [
+    Out::Rank,
+    Out::Summary,
+    Out::Fx,
+    Out::Off,
+    Out::OffTriangles,
+];
+
+const SQUARE_TEXT: &str =
+    "5 5 2\nConvex hull of 5 points in 3-d:\n  dimension: 2\n  distinct points: 5\n  extreme points: 4\n  facets: 1\n  edges: 4\n4\n0\n1\n2\n3\nOFF\n4 1 4\n0 0 0\n2 0 0\n2 2 0\n0 2 0\n4 0 1 2 3\nOFF\n4 2 5\n0 0 0\n2 0 0\n2 2 0\n0 2 0\n3 0 1 2\n3 0 2 3\n";
+
+#[test]
+fn tries_again_for_texts(rt: HostRuntime) -> Result<(), Fail> {
+    let alloc = rt.alloc();
+    let pts = [
+        Point::new(0, 0, 0),
+        Point::new(2, 0, 0),
+        Point::new(2, 2, 0),
+        Point::new(0, 2, 0),
+        Point::new(1, 1, 0),
+    ];
+    let hull = match square(alloc) {
+        Ok(hull) => hull,
+        Err(Memory) => square(alloc)?,
+    };
+    let joined = match text(alloc, &hull, &pts, &OUTS) {
+        Ok(joined) => joined,
+        Err(Memory) => text(alloc, &hull, &pts, &OUTS)?,
+    };
+    assert_eq!(rt; joined.as_slice(), SQUARE_TEXT.as_bytes());
+    Ok(())
+}
+
+#[test]
+fn tries_again_to_send(rt: HostRuntime) -> Result<(), Fail> {
+    let bytes = SQUARE_TEXT.as_bytes();
+    let mut sink = MemSink::new(rt.alloc());
+    if send(&mut sink, bytes) == Err(SendFault) {
+        assert_eq!(rt; sink.failures(), 1);
+        assert!(rt; sink.bytes().is_empty());
+        assert_eq!(rt; send(&mut sink, bytes), Ok(()));
+    }
+    assert_eq!(rt; sink.bytes(), bytes);
+    Ok(())
+}
