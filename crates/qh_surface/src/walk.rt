@@ -102,8 +102,10 @@ fn cross_all<T: Test>(
     Ok(())
 }
 
-/// Lists and marks the facets that a walk from `start` finds, `start` first. Marked facets are not
-/// entered. The list is cleared before.
+/// Lists and marks the facets that a walk from `start` finds, `start` first: those that pass the test and hang together with it
+/// over twins. Marked facets are not entered. The list is cleared before. There is a mark for each place of the mesh.
+///
+/// `Err` says that memory was refused: what is listed and marked then is not said.
 pub fn walk<T: Test>(
     mesh: &Mesh,
     test: &T,

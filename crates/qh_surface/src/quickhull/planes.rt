@@ -18,7 +18,8 @@ use std::alloc::AllocError;
 /// Room is made for so many places more than are asked for, so that few rounds make any.
 const SPARE: usize = 64;
 
-/// The plane of a live facet.
+/// The plane of a live facet, whose corners are positions of the points: a point is above it where it strictly sees the
+/// facet.
 pub fn plane_of(pts: &[Point], mesh: &Mesh, facet: FacetNo) -> Plane
     requires live { IsLive mesh.now facet }
     requires corners { AreCornersBelow (length pts.now) mesh.now }

@@ -113,7 +113,14 @@ fn surface_along(
     })
 }
 
-/// The surface of a set from a first simplex: four of its ids whose points are not in one plane.
+/// The surface of a set from a first simplex: four of its ids whose points are not in one plane. The corners of its
+/// triangles are positions of the ids, in an order of its own.
+///
+/// `ids` are indices of points, each once; where one stands twice, no more is said than that the corners are positions.
+///
+/// # Errors
+///
+/// `Memory` where memory was refused.
 pub fn surface_from(
     alloc: Global,
     pts: &[Point],
