@@ -26,6 +26,8 @@ use qh_read::MemSource;
 use qh_run::{Gate, NoGate};
 use qh_write::MemSink;
 use std::alloc::{AllocError, Global};
+use std::process::Abort;
+use std::test::Fail;
 use std::thread::Threads;
 
 /// What stands on standard output and on standard error, and the exit status.
@@ -36,10 +38,13 @@ struct Outcome {
     status: u8,
 }
 
+/// What an outcome is compared with: its output, its error and its status.
+type Told<'a> = (&'a str, &'a str, u8);
+
 impl Outcome {
-    /// What stands on standard output and on standard error.
-    fn streams(&self) -> (&str, &str) {
-        (self.output.as_str(), self.error.as_str())
+    /// The outcome as texts and a number.
+    fn told(&self) -> Told<'_> {
+        (self.output.as_str(), self.error.as_str(), self.status)
     }
 }
 
@@ -60,14 +65,18 @@ fn shown(alloc: Global, bytes: &[u8]) -> Result<Outcome, AllocError> {
     })
 }
 
+/// Appends a word.
+fn push_word(words: &mut Vec<String>, alloc: Global, word: &str) -> Result<(), AllocError> {
+    words.push(String::from_str(alloc, word)?)?;
+    Ok(())
+}
+
 /// The words of a line, with the program's name before them.
 fn words(alloc: Global, line: &str) -> Result<Vec<String>, AllocError> {
     let mut words = Vec::new(alloc);
-    words.push(String::from_str(alloc, "qconvex")?)?;
-    for word in line.split(' ') {
-        if !word.is_empty() {
-            words.push(String::from_str(alloc, word)?)?;
-        }
+    push_word(&mut words, alloc, "qconvex")?;
+    for word in line.split(' ').filter(|word| !word.is_empty()) {
+        push_word(&mut words, alloc, word)?;
     }
     Ok(words)
 }
@@ -102,33 +111,106 @@ fn served_by<R: Threads + Sync, G: Gate>(
     }
 }
 
-/// The outcome of `answer`.
-fn answered<R: Threads + Sync>(
-    rt: &R,
-    alloc: Global,
-    input: &[u8],
-    settings: &Settings,
-) -> Result<Outcome, AllocError> {
-    answered_by(rt, alloc, input, settings, &NoGate)
+/// What became of a line: its settings, or what is told where it has none.
+#[derive(Drop)]
+enum Judged {
+    Accepted(Settings),
+    Told(Outcome),
 }
 
-/// The outcome of `serve` between memory devices.
-fn served<R: Threads + Sync>(
-    rt: &R,
-    alloc: Global,
-    input: &[u8],
-    settings: &Settings,
-) -> Result<Outcome, AllocError> {
-    served_by(rt, alloc, input, settings, &NoGate)
+/// What becomes of a line.
+fn judge(alloc: Global, line: &str) -> Result<Judged, AllocError> {
+    match settings_of(alloc, words(alloc, line)?) {
+        Ok(settings) => Ok(Judged::Accepted(settings)),
+        Err(ArgFault::Help(text)) => Ok(Judged::Told(shown(alloc, text.as_bytes())?)),
+        Err(ArgFault::Usage) => Ok(Judged::Told(refusal(alloc, &Fault::Usage)?)),
+        Err(ArgFault::Memory) => Err(AllocError),
+    }
 }
 
-/// The settings of a line, or the outcome where it has none.
-fn settings(alloc: Global, line: &str) -> Result<Result<Settings, Outcome>, AllocError> {
-    let outcome = match settings_of(alloc, words(alloc, line)?) {
-        Ok(settings) => return Ok(Ok(settings)),
-        Err(ArgFault::Help(text)) => shown(alloc, text.as_bytes())?,
-        Err(ArgFault::Usage) => refusal(alloc, &Fault::Usage)?,
-        Err(ArgFault::Memory) => return Err(AllocError),
-    };
-    Ok(Err(outcome))
+/// The settings of a line that is a command line.
+fn settings(alloc: Global, line: &str) -> Result<Settings, Fail> {
+    match judge(alloc, line)? {
+        Judged::Accepted(settings) => Ok(settings),
+        Judged::Told(_) => Err("the line is no command line".into()),
+    }
+}
+
+/// How an input begins, for messages.
+fn beginning(input: &[u8]) -> &str {
+    str::from_utf8(&input[..input.len().min(200)]).unwrap_or("no text")
+}
+
+/// Asserts what `answer` gives for an input under a command line.
+fn assert_answered<R: AllocGlobal + Abort + Threads + Sync>(
+    rt: &R,
+    line: &str,
+    input: &[u8],
+    want: Told,
+) -> Result<(), Fail> {
+    let settings = settings(rt.alloc(), line)?;
+    let answered = answered_by(rt, rt.alloc(), input, &settings, &NoGate)?;
+    let begins = beginning(input);
+    assert_eq!(rt; answered.told(), want, "answer at {line}: {begins:?}");
+    Ok(())
+}
+
+/// Asserts what `serve` gives for an input under a command line.
+fn assert_served<R: AllocGlobal + Abort + Threads + Sync>(
+    rt: &R,
+    line: &str,
+    input: &[u8],
+    want: Told,
+) -> Result<(), Fail> {
+    let settings = settings(rt.alloc(), line)?;
+    let served = served_by(rt, rt.alloc(), input, &settings, &NoGate)?;
+    let begins = beginning(input);
+    assert_eq!(rt; served.told(), want, "serve at {line}: {begins:?}");
+    Ok(())
+}
+
+/// Asserts what `answer` and `serve` give for an input under a command line.
+fn assert_gives<R: AllocGlobal + Abort + Threads + Sync>(
+    rt: &R,
+    line: &str,
+    input: &[u8],
+    want: Told,
+) -> Result<(), Fail> {
+    assert_answered(rt, line, input, want)?;
+    assert_served(rt, line, input, want)
+}
+
+/// Asserts the text of each row: a command line, an input and what it answers.
+fn assert_rows<R: AllocGlobal + Abort + Threads + Sync>(
+    rt: &R,
+    rows: &[(&str, &str, &str)],
+) -> Result<(), Fail> {
+    for (line, input, text) in rows {
+        assert_gives(rt, line, input.as_bytes(), (text, "", 0))?;
+    }
+    Ok(())
+}
+
+/// Asserts the text of each row under a command line: an input and what it answers.
+fn assert_texts<R: AllocGlobal + Abort + Threads + Sync>(
+    rt: &R,
+    line: &str,
+    rows: &[(&str, &str)],
+) -> Result<(), Fail> {
+    for (input, text) in rows {
+        assert_gives(rt, line, input.as_bytes(), (text, "", 0))?;
+    }
+    Ok(())
+}
+
+/// Asserts that each row is refused with status 1 under a command line: an input and its fault line.
+fn assert_faults<R: AllocGlobal + Abort + Threads + Sync>(
+    rt: &R,
+    line: &str,
+    rows: &[(&str, &str)],
+) -> Result<(), Fail> {
+    for (input, fault) in rows {
+        assert_gives(rt, line, input.as_bytes(), ("", fault, 1))?;
+    }
+    Ok(())
 }

@@ -1,6 +1,8 @@
 //! Command lines, right and wrong.
-use super::settings;
+use super::{Judged, Told, judge, settings};
+use crate::help::HELP;
 use qh_model::Form;
+use std::process::Abort;
 use std::test::Fail;
 
 /// Lines that are refused.
@@ -25,41 +27,60 @@ const REFUSED: [&str; 18] = [
     "--from off,qhull",
 ];
 
-/// Lines that are accepted, with their workers, block size, number of outputs and form.
-const ACCEPTED: [(&str, u32, u32, usize, Form); 12] = [
-    ("", 4, 4096, 1, Form::Qhull),
-    ("rank", 4, 4096, 1, Form::Qhull),
-    ("rank --workers 2 s", 2, 4096, 2, Form::Qhull),
-    ("--block=3 rank", 4, 3, 1, Form::Qhull),
-    ("-- rank", 4, 4096, 1, Form::Qhull),
-    ("off Fx s rank off", 4, 4096, 5, Form::Qhull),
-    ("offt rank off offt", 4, 4096, 4, Form::Qhull),
-    ("--workers 64 --block 1048576", 64, 1048576, 1, Form::Qhull),
-    ("--workers +4 --block 004", 4, 4, 1, Form::Qhull),
-    ("--from qhull", 4, 4096, 1, Form::Qhull),
-    ("--from off rank", 4, 4096, 1, Form::Off),
-    ("off --from=off --block 2 Fx", 4, 2, 2, Form::Off),
+/// Lines that are accepted, with what their settings say.
+const ACCEPTED: [(&str, Numbers); 12] = [
+    ("", (4, 4096, 1, Form::Qhull)),
+    ("rank", (4, 4096, 1, Form::Qhull)),
+    ("rank --workers 2 s", (2, 4096, 2, Form::Qhull)),
+    ("--block=3 rank", (4, 3, 1, Form::Qhull)),
+    ("-- rank", (4, 4096, 1, Form::Qhull)),
+    ("off Fx s rank off", (4, 4096, 5, Form::Qhull)),
+    ("offt rank off offt", (4, 4096, 4, Form::Qhull)),
+    (
+        "--workers 64 --block 1048576",
+        (64, 1048576, 1, Form::Qhull),
+    ),
+    ("--workers +4 --block 004", (4, 4, 1, Form::Qhull)),
+    ("--from qhull", (4, 4096, 1, Form::Qhull)),
+    ("--from off rank", (4, 4096, 1, Form::Off)),
+    ("off --from=off --block 2 Fx", (4, 2, 2, Form::Off)),
 ];
 
-#[test]
-fn judges_command_lines(rt: HostRuntime) -> Result<(), Fail> {
-    let alloc = rt.alloc();
-    for line in REFUSED {
-        let Err(outcome) = settings(alloc, line)? else {
-            return Err("the line is no command line".into());
-        };
-        assert_eq!(rt; outcome.error.as_str(), "qconvex: 12: Usage", "at {line}");
-        assert!(rt; outcome.output.is_empty());
-        assert_eq!(rt; outcome.status, 2);
+/// Asserts the outcome of a line that has no settings.
+fn assert_told<R: AllocGlobal + Abort>(rt: &R, line: &str, want: Told) -> Result<(), Fail> {
+    match judge(rt.alloc(), line)? {
+        Judged::Accepted(_) => Err("the line is a command line".into()),
+        Judged::Told(outcome) => {
+            assert_eq!(rt; outcome.told(), want, "at {line}");
+            Ok(())
+        }
     }
-    for (line, workers, block, outs, form) in ACCEPTED {
-        let Ok(settings) = settings(alloc, line)? else {
-            return Err("the line is a command line".into());
-        };
-        assert_eq!(rt; settings.workers(), workers, "at {line}");
-        assert_eq!(rt; settings.block(), block, "at {line}");
-        assert_eq!(rt; settings.outs().len(), outs, "at {line}");
-        assert_eq!(rt; settings.form(), form, "at {line}");
+}
+
+#[test]
+fn refuses_lines(rt: HostRuntime) -> Result<(), Fail> {
+    for line in &REFUSED {
+        assert_told(&rt, line, ("", "qconvex: 12: Usage", 2))?;
+    }
+    Ok(())
+}
+
+/// What settings say: the workers, the block size, the number of outputs and the form.
+type Numbers = (u32, u32, usize, Form);
+
+/// Asserts the settings of a line.
+fn assert_accepted<R: AllocGlobal + Abort>(rt: &R, line: &str, want: Numbers) -> Result<(), Fail> {
+    let settings = settings(rt.alloc(), line)?;
+    let outs = settings.outs().len();
+    let numbers = (settings.workers(), settings.block(), outs, settings.form());
+    assert_eq!(rt; numbers, want, "at {line}");
+    Ok(())
+}
+
+#[test]
+fn accepts_lines(rt: HostRuntime) -> Result<(), Fail> {
+    for (line, want) in &ACCEPTED {
+        assert_accepted(&rt, line, *want)?;
     }
     Ok(())
 }
@@ -86,15 +107,11 @@ const HELPED: [&str; 16] = [
 
 #[test]
 fn helps(rt: HostRuntime) -> Result<(), Fail> {
-    let alloc = rt.alloc();
     for line in ["--help", "-h", "rank --help --workers 0"] {
-        let Err(outcome) = settings(alloc, line)? else {
-            return Err("the line asks for help".into());
-        };
-        for words in HELPED {
-            assert!(rt; outcome.output.contains(words), "{words} at {line}");
-        }
-        assert_eq!(rt; outcome.status, 0);
+        assert_told(&rt, line, (HELP, "", 0))?;
+    }
+    for words in HELPED {
+        assert!(rt; HELP.contains(words), "{words}");
     }
     Ok(())
 }

@@ -9,7 +9,9 @@ use qh_read::{MemSource, ReadFault, Source};
 use qh_run::NoGate;
 use qh_write::fakes::{FailSink, SinkPlan};
 use qh_write::{MemSink, Sink};
+use std::process::Abort;
 use std::test::Fail;
+use std::thread::Threads;
 
 /// A plan that never fails.
 const FREE: SinkPlan = SinkPlan {
@@ -19,37 +21,64 @@ const FREE: SinkPlan = SinkPlan {
     flush_fails: false,
 };
 
+/// What `serve` did: its outcome, what went out, and how often the source and the sink failed.
+type Served<'a> = (Result<(), Fault>, &'a [u8], u64, u64);
+
+/// Asserts what `off` of an input does under a plan of the source, to a sink that takes all.
+fn assert_read<R: AllocGlobal + Abort + Threads + Sync>(
+    rt: &R,
+    input: &[u8],
+    piece: usize,
+    failing_read: u64,
+    want: Served,
+) -> Result<(), Fail> {
+    let settings = settings(rt.alloc(), "off")?;
+    let mut source = FailSource::new(input, piece, Some(failing_read));
+    let mut sink = MemSink::new(rt.alloc());
+    let outcome = serve(rt, rt.alloc(), &mut source, &mut sink, &settings, &NoGate);
+    let served = (outcome, sink.bytes(), source.failures(), sink.failures());
+    assert_eq!(rt; served, want, "at read {failing_read}");
+    Ok(())
+}
+
+/// Asserts what `off` of an input does under a plan of the sink.
+fn assert_written<R: AllocGlobal + Abort + Threads + Sync>(
+    rt: &R,
+    input: &[u8],
+    plan: SinkPlan,
+    want: Served,
+) -> Result<(), Fail> {
+    let settings = settings(rt.alloc(), "off")?;
+    let mut source = MemSource::new(input);
+    let mut sink = FailSink::new(rt.alloc(), plan);
+    let outcome = serve(rt, rt.alloc(), &mut source, &mut sink, &settings, &NoGate);
+    let served = (outcome, sink.bytes(), source.failures(), sink.failures());
+    assert_eq!(rt; served, want, "{plan:?}");
+    Ok(())
+}
+
+/// What `serve` does where the source fails.
+const UNREAD: Served<'static> = (Err(Fault::Read(ReadFault::Device)), &[], 1, 0);
+
 #[test]
 fn a_failing_source_sends_nothing(rt: HostRuntime) -> Result<(), Fail> {
-    let alloc = rt.alloc();
-    let Ok(settings) = settings(alloc, "off")? else {
-        return Err("the line is a command line".into());
-    };
     // One byte a read: each of the 52 bytes and the end.
     for k in 1..54u64 {
-        let mut source = FailSource::new(CUBE.as_bytes(), 1, Some(k));
-        let mut sink = MemSink::new(alloc);
-        let outcome = serve(&rt, alloc, &mut source, &mut sink, &settings, &NoGate);
-        assert_eq!(rt; outcome, Err(Fault::Read(ReadFault::Device)), "at read {k}");
-        assert!(rt; sink.bytes().is_empty());
-        assert_eq!(rt; source.failures(), 1);
-        assert_eq!(rt; sink.failures(), 0);
+        assert_read(&rt, CUBE.as_bytes(), 1, k, UNREAD)?;
     }
-    let mut source = FailSource::new(CUBE.as_bytes(), 1, Some(54));
-    let mut sink = MemSink::new(alloc);
-    let outcome = serve(&rt, alloc, &mut source, &mut sink, &settings, &NoGate);
-    assert_eq!(rt; outcome, Ok(()));
-    assert_eq!(rt; sink.bytes(), CUBE_OFF.as_bytes());
-    assert_eq!(rt; source.failures(), 0);
-    Ok(())
+    assert_read(
+        &rt,
+        CUBE.as_bytes(),
+        1,
+        54,
+        (Ok(()), CUBE_OFF.as_bytes(), 0, 0),
+    )?;
+    // The first read gives 4 bytes, the second fails.
+    assert_read(&rt, TETRAHEDRON.as_bytes(), 4, 2, UNREAD)
 }
 
 #[test]
 fn a_failing_sink_has_a_beginning(rt: HostRuntime) -> Result<(), Fail> {
-    let alloc = rt.alloc();
-    let Ok(settings) = settings(alloc, "off")? else {
-        return Err("the line is a command line".into());
-    };
     let text = TETRAHEDRON_OFF.as_bytes();
     assert_eq!(rt; text.len(), 66);
     for k in 1..67usize {
@@ -58,23 +87,14 @@ fn a_failing_sink_has_a_beginning(rt: HostRuntime) -> Result<(), Fail> {
             failing_write: Some(k as u64),
             ..FREE
         };
-        let mut source = MemSource::new(TETRAHEDRON.as_bytes());
-        let mut sink = FailSink::new(alloc, plan);
-        let outcome = serve(&rt, alloc, &mut source, &mut sink, &settings, &NoGate);
-        assert_eq!(rt; outcome, Err(Fault::Send), "at write {k}");
-        assert_eq!(rt; sink.bytes(), &text[..k - 1]);
-        assert_eq!(rt; sink.failures(), 1);
-        assert_eq!(rt; source.failures(), 0);
+        let want = (Err(Fault::Send), &text[..k - 1], 0, 1);
+        assert_written(&rt, TETRAHEDRON.as_bytes(), plan, want)?;
     }
     Ok(())
 }
 
 #[test]
 fn the_worked_failures(rt: HostRuntime) -> Result<(), Fail> {
-    let alloc = rt.alloc();
-    let Ok(settings) = settings(alloc, "off")? else {
-        return Err("the line is a command line".into());
-    };
     // An input, a plan of the sink, and what goes out before it fails.
     let rows = [
         ("3\n1\n5 5 5\n", SinkPlan { room: 7, ..FREE }, "OFF\n1 1"),
@@ -97,18 +117,8 @@ fn the_worked_failures(rt: HostRuntime) -> Result<(), Fail> {
         ),
     ];
     for (input, plan, sent) in rows {
-        let mut source = MemSource::new(input.as_bytes());
-        let mut sink = FailSink::new(alloc, plan);
-        let outcome = serve(&rt, alloc, &mut source, &mut sink, &settings, &NoGate);
-        assert_eq!(rt; outcome, Err(Fault::Send), "{plan:?}");
-        assert_eq!(rt; sink.bytes(), sent.as_bytes(), "{plan:?}");
-        assert_eq!(rt; sink.failures(), 1);
+        let want = (Err(Fault::Send), sent.as_bytes(), 0, 1);
+        assert_written(&rt, input.as_bytes(), plan, want)?;
     }
-    // The first read gives 4 bytes, the second fails.
-    let mut source = FailSource::new(TETRAHEDRON.as_bytes(), 4, Some(2));
-    let mut sink = MemSink::new(alloc);
-    let outcome = serve(&rt, alloc, &mut source, &mut sink, &settings, &NoGate);
-    assert_eq!(rt; outcome, Err(Fault::Read(ReadFault::Device)));
-    assert!(rt; sink.bytes().is_empty());
     Ok(())
 }

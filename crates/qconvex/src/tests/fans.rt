@@ -1,6 +1,6 @@
 //! The worked rows of `offt`.
+use super::assert_rows;
 use super::solids::{CUBE, OCTAHEDRON, OCTAHEDRON_OFF, TETRAHEDRON, TETRAHEDRON_OFF};
-use super::{answered, served, settings};
 use std::test::Fail;
 
 /// The unit cube: each of its six squares as two triangles.
@@ -41,15 +41,5 @@ const ROWS: [(&str, &str, &str); 10] = [
 
 #[test]
 fn answers_rows(rt: HostRuntime) -> Result<(), Fail> {
-    let alloc = rt.alloc();
-    for (line, input, want) in ROWS {
-        let Ok(settings) = settings(alloc, line)? else {
-            return Err("the line is a command line".into());
-        };
-        let answered = answered(&rt, alloc, input.as_bytes(), &settings)?;
-        assert_eq!(rt; answered.output.as_str(), want, "at {line}: {input:?}");
-        let served = served(&rt, alloc, input.as_bytes(), &settings)?;
-        assert_eq!(rt; served.output.as_str(), want, "at {line}: {input:?}");
-    }
-    Ok(())
+    assert_rows(&rt, &ROWS)
 }

@@ -1,7 +1,8 @@
 //! Files with faults, and the lines that tell of them.
-use super::{answered, served, settings};
+use super::{assert_faults, refusal};
 use crate::fault::Fault;
 use qh_read::ReadFault;
+use std::process::Abort;
 use std::test::Fail;
 
 /// Inputs and the fault line that each gets, with status 1 and nothing on standard output.
@@ -63,21 +64,8 @@ const FAULTS: [(&str, &str); 35] = [
 
 #[test]
 fn refuses_inputs(rt: HostRuntime) -> Result<(), Fail> {
-    let alloc = rt.alloc();
-    for line in ["rank", "off"] {
-        let Ok(settings) = settings(alloc, line)? else {
-            return Err("the line is a command line".into());
-        };
-        for (input, want) in FAULTS {
-            let answered = answered(&rt, alloc, input.as_bytes(), &settings)?;
-            assert_eq!(rt; answered.error.as_str(), want, "at {input:?}");
-            assert!(rt; answered.output.is_empty());
-            assert_eq!(rt; answered.status, 1);
-            let served = served(&rt, alloc, input.as_bytes(), &settings)?;
-            assert_eq!(rt; served.error.as_str(), want, "at {input:?}");
-        }
-    }
-    Ok(())
+    assert_faults(&rt, "rank", &FAULTS)?;
+    assert_faults(&rt, "off", &FAULTS)
 }
 
 /// Each fault with its line and the exit status.
@@ -109,11 +97,22 @@ const LINES: [(Fault, &str, u8); 13] = [
     (Fault::Read(ReadFault::NotOff), "qconvex: 14: NotOff", 1),
 ];
 
+/// Asserts the line and the exit status of a fault.
+fn assert_told<R: AllocGlobal + Abort>(
+    rt: &R,
+    fault: &Fault,
+    line: &str,
+    status: u8,
+) -> Result<(), Fail> {
+    let refusal = refusal(rt.alloc(), fault)?;
+    assert_eq!(rt; refusal.told(), ("", line, status));
+    Ok(())
+}
+
 #[test]
 fn each_fault_has_its_line_and_status(rt: HostRuntime) -> Result<(), Fail> {
-    for (fault, line, status) in LINES {
-        assert_eq!(rt; fault.to_string(rt.alloc())?.as_str(), line);
-        assert_eq!(rt; fault.status(), status, "{line}");
+    for (fault, line, status) in &LINES {
+        assert_told(&rt, fault, line, *status)?;
     }
     Ok(())
 }

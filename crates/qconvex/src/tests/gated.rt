@@ -7,11 +7,12 @@ ghost use Rattle.std.specs.Prelude.{◌≤◌, length};
 ghost use Rattle.qh_model.specs.declared.limits.TheConstants.{POINT_LIMIT};
 
 use super::solids::{OCTAHEDRON, OCTAHEDRON_OFF};
-use super::{answered_by, served_by, settings};
+use super::{Outcome, answered_by, refusal, served_by, settings, shown};
+use crate::fault::Fault;
 use crate::settings::Settings;
 use qh_model::{Body, Cut, Id, Memory, Point};
 use qh_plane::distinct;
-use qh_read::read_points;
+use qh_read::{ReadFault, read_points};
 use qh_run::{Gate, NoGate, RunError, run_hull};
 use qh_write::text;
 use std::alloc::Global;
@@ -118,8 +119,19 @@ impl Gate for NoHull {
     }
 }
 
+/// The calls that a gate watches.
+#[derive(Clone, Copy, Debug, Drop)]
+enum Watched {
+    RunHull,
+    Answer,
+    Serve,
+}
+
+/// Each of them.
+const WATCHED: [Watched; 3] = [Watched::RunHull, Watched::Answer, Watched::Serve];
+
 /// The text of the hull that `run_hull` takes of the points, in blocks of 3.
-fn hulled_by<R: Threads + Sync, G: Gate>(
+fn text_by<R: Threads + Sync, G: Gate>(
     rt: &R,
     alloc: Global,
     points: &[Point],
@@ -138,6 +150,39 @@ fn hulled_by<R: Threads + Sync, G: Gate>(
     Ok(text(alloc, &hull, points, settings.outs())?)
 }
 
+/// The outcome of `run_hull`, watched by a gate.
+fn hulled_by<R: Threads + Sync, G: Gate>(
+    rt: &R,
+    alloc: Global,
+    settings: &Settings,
+    gate: &G,
+) -> Result<Outcome, Fail> {
+    let Ok(points) = read_points(alloc, OCTAHEDRON.as_bytes()) else {
+        return Err("the text is a point file".into());
+    };
+    match text_by(rt, alloc, &points, settings, gate) {
+        Ok(text) => Ok(shown(alloc, &text)?),
+        Err(RunError::Memory) => Ok(refusal(alloc, &Fault::Read(ReadFault::Memory))?),
+        Err(RunError::BadWorkers) => Err("the workers are in range".into()),
+    }
+}
+
+/// The outcome of a call on the points under a command line, watched by a gate.
+fn outcome_by<R: AllocGlobal + Threads + Sync, G: Gate>(
+    rt: &R,
+    watched: Watched,
+    line: &str,
+    gate: &G,
+) -> Result<Outcome, Fail> {
+    let settings = settings(rt.alloc(), line)?;
+    let input = OCTAHEDRON.as_bytes();
+    match watched {
+        Watched::RunHull => hulled_by(rt, rt.alloc(), &settings, gate),
+        Watched::Answer => Ok(answered_by(rt, rt.alloc(), input, &settings, gate)?),
+        Watched::Serve => Ok(served_by(rt, rt.alloc(), input, &settings, gate)?),
+    }
+}
+
 /// Lines, and what a gate holds back under them.
 const HELD: [(&str, Holds); 2] = [
     ("--block 3 --workers 2 off", Holds::FirstUntilSecond),
@@ -146,58 +191,29 @@ const HELD: [(&str, Holds); 2] = [
 
 #[test]
 fn workers_run_at_once(rt: HostRuntime) -> Result<(), Fail> {
-    let alloc = rt.alloc();
-    let Ok(points) = read_points(alloc, OCTAHEDRON.as_bytes()) else {
-        return Err("the text is a point file".into());
-    };
     for (line, holds) in HELD {
-        let Ok(settings) = settings(alloc, line)? else {
-            return Err("the line is a command line".into());
-        };
-        let gate = Hold::new(holds);
-        let hulled = hulled_by(&rt, alloc, &points, &settings, &gate)?;
-        assert!(rt; gate.came_in_time(), "run_hull, {holds:?}");
-        assert_eq!(rt; hulled.as_slice(), OCTAHEDRON_OFF.as_bytes());
-        let gate = Hold::new(holds);
-        let answered = answered_by(&rt, alloc, OCTAHEDRON.as_bytes(), &settings, &gate)?;
-        assert!(rt; gate.came_in_time(), "answer, {holds:?}");
-        assert_eq!(rt; answered.output.as_str(), OCTAHEDRON_OFF);
-        let gate = Hold::new(holds);
-        let served = served_by(&rt, alloc, OCTAHEDRON.as_bytes(), &settings, &gate)?;
-        assert!(rt; gate.came_in_time(), "serve, {holds:?}");
-        assert_eq!(rt; served.output.as_str(), OCTAHEDRON_OFF);
+        for watched in WATCHED {
+            let gate = Hold::new(holds);
+            let outcome = outcome_by(&rt, watched, line, &gate)?;
+            assert!(rt; gate.came_in_time(), "{watched:?}, {holds:?}");
+            assert_eq!(rt; outcome.told(), (OCTAHEDRON_OFF, "", 0));
+        }
     }
     Ok(())
 }
 
 #[test]
 fn the_gate_takes_the_hull(rt: HostRuntime) -> Result<(), Fail> {
-    let alloc = rt.alloc();
-    let Ok(points) = read_points(alloc, OCTAHEDRON.as_bytes()) else {
-        return Err("the text is a point file".into());
-    };
     for line in [
         "--block 3 --workers 1 off",
         "--block 3 --workers 3 off",
         "off",
     ] {
-        let Ok(settings) = settings(alloc, line)? else {
-            return Err("the line is a command line".into());
-        };
-        let hulled = hulled_by(&rt, alloc, &points, &settings, &NoHull);
-        assert_eq!(rt; hulled.err(), Some(RunError::Memory), "run_hull, {line}");
-        let answered = answered_by(&rt, alloc, OCTAHEDRON.as_bytes(), &settings, &NoHull)?;
-        assert_eq!(rt;
-            answered.error.as_str(),
-            "qconvex: 8: Memory",
-            "answer, {line}"
-        );
-        let served = served_by(&rt, alloc, OCTAHEDRON.as_bytes(), &settings, &NoHull)?;
-        assert_eq!(rt;
-            served.error.as_str(),
-            "qconvex: 8: Memory",
-            "serve, {line}"
-        );
+        for watched in WATCHED {
+            let outcome = outcome_by(&rt, watched, line, &NoHull)?;
+            let want = ("", "qconvex: 8: Memory", 3);
+            assert_eq!(rt; outcome.told(), want, "{watched:?} at {line}");
+        }
     }
     Ok(())
 }

@@ -1,5 +1,5 @@
 //! Inputs of as many bytes as there may be, and of one more.
-use super::{answered, settings};
+use super::assert_answered;
 use std::alloc::{AllocError, Global};
 use std::test::Fail;
 
@@ -18,27 +18,14 @@ fn too_long(alloc: Global, text: &[u8]) -> Result<Vec<u8>, AllocError> {
 #[test]
 fn takes_just_as_many_bytes_as_there_may_be(rt: HostRuntime) -> Result<(), Fail> {
     let alloc = rt.alloc();
-    let Ok(settings) = settings(alloc, "rank")? else {
-        return Err("the line is a command line".into());
-    };
     let mut bytes = too_long(alloc, b"3\n1\n5 5 5\n")?;
-    let longer = answered(&rt, alloc, &bytes, &settings)?;
-    assert_eq!(rt; longer.error.as_str(), "qconvex: 10: Big");
-    assert_eq!(rt; longer.status, 1);
+    assert_answered(&rt, "rank", &bytes, ("", "qconvex: 10: Big", 1))?;
     let _blank = bytes.pop();
-    let answered = answered(&rt, alloc, &bytes, &settings)?;
-    assert_eq!(rt; answered.output.as_str(), "1 1 0\n");
-    Ok(())
+    assert_answered(&rt, "rank", &bytes, ("1 1 0\n", "", 0))
 }
 
 #[test]
 fn is_too_big_before_all_other_faults(rt: HostRuntime) -> Result<(), Fail> {
-    let alloc = rt.alloc();
-    let Ok(settings) = settings(alloc, "rank")? else {
-        return Err("the line is a command line".into());
-    };
-    let bytes = too_long(alloc, b"3\n1\n0.5\n")?;
-    let answered = answered(&rt, alloc, &bytes, &settings)?;
-    assert_eq!(rt; answered.error.as_str(), "qconvex: 10: Big");
-    Ok(())
+    let bytes = too_long(rt.alloc(), b"3\n1\n0.5\n")?;
+    assert_answered(&rt, "rank", &bytes, ("", "qconvex: 10: Big", 1))
 }

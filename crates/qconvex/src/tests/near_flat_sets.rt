@@ -1,12 +1,18 @@
 //! Sets with corners one lattice step over a face, on which floating point loses corners: at coordinates up to 2^20,
 //! and with the same faces at coordinates up to 2^30. Their numbers of corners and facets are those that programs of
 //! exact arithmetic find.
-use super::{answered, settings};
+use super::assert_answered;
 use std::alloc::{AllocError, Global};
+use std::process::Abort;
 use std::test::Fail;
+use std::thread::Threads;
 
 /// Appends a point to a text.
-fn push_point(text: &mut String, alloc: Global, coordinates: [i64; 3]) -> Result<(), AllocError> {
+pub(super) fn push_point(
+    text: &mut String,
+    alloc: Global,
+    coordinates: [i64; 3],
+) -> Result<(), AllocError> {
     for coordinate in coordinates {
         text.push_str(coordinate.to_string(alloc)?.as_str())?;
         text.push_str(" ")?;
@@ -77,31 +83,47 @@ fn basis(alloc: Global, factor: i64) -> Result<String, AllocError> {
     Ok(text)
 }
 
-#[test]
-fn keeps_all_corners(rt: HostRuntime) -> Result<(), Fail> {
-    let alloc = rt.alloc();
-    let roof_line = "  extreme points: 5\n  facets: 6\n  edges: 9\n";
-    let bowl_line = "  extreme points: 122\n  facets: 124\n  edges: 244\n";
-    let basis_line = "  extreme points: 30\n  facets: 56\n  edges: 84\n";
+const ROOF: &str =
+    "Convex hull of 5 points in 3-d:\n  dimension: 3\n  distinct points: 5\n  extreme points: 5\n  facets: 6\n  edges: 9\n";
+
+const BOWL: &str =
+    "Convex hull of 122 points in 3-d:\n  dimension: 3\n  distinct points: 122\n  extreme points: 122\n  facets: 124\n  edges: 244\n";
+
+const BASIS: &str =
+    "Convex hull of 123 points in 3-d:\n  dimension: 3\n  distinct points: 123\n  extreme points: 30\n  facets: 56\n  edges: 84\n";
+
+/// Asserts the summary of a set.
+fn assert_summary<R: AllocGlobal + Abort + Threads + Sync>(
+    rt: &R,
+    text: &str,
+    summary: &str,
+) -> Result<(), Fail> {
     for line in ["s", "--workers 3 --block 5 s"] {
-        let Ok(settings) = settings(alloc, line)? else {
-            return Err("the line is a command line".into());
-        };
-        for (input, want) in [
-            (roof(alloc, 300_000)?, roof_line),
-            (roof(alloc, 357_913_941)?, roof_line),
-            (bowl(alloc, 100_000)?, bowl_line),
-            (bowl(alloc, 107_374_172)?, bowl_line),
-            (basis(alloc, 1)?, basis_line),
-            (basis(alloc, 9_693)?, basis_line),
-        ] {
-            let outcome = answered(&rt, alloc, input.as_bytes(), &settings)?;
-            assert!(rt;
-                outcome.output.ends_with(want),
-                "at {line}: {}",
-                outcome.output
-            );
-        }
+        assert_answered(rt, line, text.as_bytes(), (summary, "", 0))?;
+    }
+    Ok(())
+}
+
+#[test]
+fn keeps_all_corners_of_a_roof(rt: HostRuntime) -> Result<(), Fail> {
+    for size in [300_000, 357_913_941] {
+        assert_summary(&rt, roof(rt.alloc(), size)?.as_str(), ROOF)?;
+    }
+    Ok(())
+}
+
+#[test]
+fn keeps_all_corners_of_a_bowl(rt: HostRuntime) -> Result<(), Fail> {
+    for size in [100_000, 107_374_172] {
+        assert_summary(&rt, bowl(rt.alloc(), size)?.as_str(), BOWL)?;
+    }
+    Ok(())
+}
+
+#[test]
+fn keeps_all_corners_of_a_basis(rt: HostRuntime) -> Result<(), Fail> {
+    for factor in [1, 9_693] {
+        assert_summary(&rt, basis(rt.alloc(), factor)?.as_str(), BASIS)?;
     }
     Ok(())
 }

@@ -2,7 +2,7 @@
 use super::solids::{
     CUBE_OFF, LATTICE_OFF, LIMIT_CUBE_OFF, OCTAHEDRON_OFF, TETRAHEDRON_OFF, WIDE_CUBE_OFF,
 };
-use super::{answered, served, settings};
+use super::{assert_faults, assert_gives};
 use std::test::Fail;
 
 /// Texts of `off`, which `off` of their own points gives again.
@@ -46,47 +46,26 @@ const FAULTS: [(&str, &str); 9] = [
 
 #[test]
 fn gives_back_what_was_written(rt: HostRuntime) -> Result<(), Fail> {
-    let alloc = rt.alloc();
-    let Ok(settings) = settings(alloc, "--from off --block 3 off")? else {
-        return Err("the line is a command line".into());
-    };
-    for text in ROUND_TRIPS {
-        let answered = answered(&rt, alloc, text.as_bytes(), &settings)?;
-        assert_eq!(rt; answered.output.as_str(), text);
-        let served = served(&rt, alloc, text.as_bytes(), &settings)?;
-        assert_eq!(rt; served.output.as_str(), text);
+    for text in &ROUND_TRIPS {
+        assert_gives(
+            &rt,
+            "--from off --block 3 off",
+            text.as_bytes(),
+            (text, "", 0),
+        )?;
     }
     Ok(())
 }
 
 #[test]
 fn drops_comments_and_faces(rt: HostRuntime) -> Result<(), Fail> {
-    let alloc = rt.alloc();
-    let Ok(settings) = settings(alloc, "rank --from off")? else {
-        return Err("the line is a command line".into());
-    };
-    for text in ONE_POINT {
-        let answered = answered(&rt, alloc, text.as_bytes(), &settings)?;
-        assert_eq!(rt; answered.output.as_str(), "1 1 0\n", "at {text:?}");
-        let served = served(&rt, alloc, text.as_bytes(), &settings)?;
-        assert_eq!(rt; served.output.as_str(), "1 1 0\n", "at {text:?}");
+    for text in &ONE_POINT {
+        assert_gives(&rt, "rank --from off", text.as_bytes(), ("1 1 0\n", "", 0))?;
     }
     Ok(())
 }
 
 #[test]
 fn refuses_inputs(rt: HostRuntime) -> Result<(), Fail> {
-    let alloc = rt.alloc();
-    let Ok(settings) = settings(alloc, "--from=off Fx")? else {
-        return Err("the line is a command line".into());
-    };
-    for (text, want) in FAULTS {
-        let answered = answered(&rt, alloc, text.as_bytes(), &settings)?;
-        assert_eq!(rt; answered.streams(), ("", want), "at {text:?}");
-        assert_eq!(rt; answered.status, 1);
-        let served = served(&rt, alloc, text.as_bytes(), &settings)?;
-        assert_eq!(rt; served.streams(), ("", want), "at {text:?}");
-        assert_eq!(rt; served.status, 1);
-    }
-    Ok(())
+    assert_faults(&rt, "--from=off Fx", &FAULTS)
 }

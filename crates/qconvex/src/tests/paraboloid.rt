@@ -1,7 +1,10 @@
 //! The 20,000 points of a paraboloid, all of them extreme, in four settings.
-use super::{answered, settings};
+use super::near_flat_sets::push_point;
+use super::{Outcome, answered_by, settings};
+use qh_run::NoGate;
 use std::alloc::{AllocError, Global};
 use std::test::Fail;
+use std::thread::Threads;
 
 const SUMMARY: &str =
     "Convex hull of 20000 points in 3-d:\n  dimension: 3\n  distinct points: 20000\n  extreme points: 20000\n  facets: 19706\n  edges: 39704\n";
@@ -16,33 +19,31 @@ const LINES: [&str; 4] = [
 /// The points (x, y, x x + y y) for x below 200 and y below 100.
 fn points(alloc: Global) -> Result<String, AllocError> {
     let mut text = String::from_str(alloc, "3\n20000\n")?;
-    for number in 0..20000u32 {
+    for number in 0..20000i64 {
         let (x, y) = (number / 100, number % 100);
-        for coordinate in [x, y, x * x + y * y] {
-            text.push_str(coordinate.to_string(alloc)?.as_str())?;
-            text.push_str(" ")?;
-        }
-        text.push_str("\n")?;
+        push_point(&mut text, alloc, [x, y, x * x + y * y])?;
     }
     Ok(text)
 }
 
+/// The outcome of `answer` for an input under a command line.
+fn outcome_of<R: AllocGlobal + Threads + Sync>(
+    rt: &R,
+    line: &str,
+    input: &[u8],
+) -> Result<Outcome, Fail> {
+    let settings = settings(rt.alloc(), line)?;
+    Ok(answered_by(rt, rt.alloc(), input, &settings, &NoGate)?)
+}
+
 #[test]
 fn has_one_text_in_all_settings(rt: HostRuntime) -> Result<(), Fail> {
-    let alloc = rt.alloc();
-    let input = points(alloc)?;
-    let Ok(first) = settings(alloc, LINES[0])? else {
-        return Err("the line is a command line".into());
-    };
-    let want = answered(&rt, alloc, input.as_bytes(), &first)?;
-    assert!(rt; want.output.starts_with(SUMMARY));
+    let input = points(rt.alloc())?;
+    let first = outcome_of(&rt, LINES[0], input.as_bytes())?;
     for line in LINES {
-        let Ok(settings) = settings(alloc, line)? else {
-            return Err("the line is a command line".into());
-        };
-        let outcome = answered(&rt, alloc, input.as_bytes(), &settings)?;
+        let outcome = outcome_of(&rt, line, input.as_bytes())?;
         assert!(rt; outcome.output.starts_with(SUMMARY), "at {line}");
-        assert!(rt; outcome.output == want.output, "at {line}");
+        assert!(rt; outcome.output == first.output, "at {line}");
     }
     Ok(())
 }
@@ -52,20 +53,12 @@ const TRIANGLES: &str = "OFF\n20000 39996 59994\n";
 
 #[test]
 fn has_its_triangles(rt: HostRuntime) -> Result<(), Fail> {
-    let alloc = rt.alloc();
-    let input = points(alloc)?;
-    let Ok(settings) = settings(alloc, "offt")? else {
-        return Err("the line is a command line".into());
-    };
-    let outcome = answered(&rt, alloc, input.as_bytes(), &settings)?;
+    let input = points(rt.alloc())?;
+    let outcome = outcome_of(&rt, "offt", input.as_bytes())?;
     assert!(rt; outcome.output.starts_with(TRIANGLES));
     // Two lines of counts, and one for each vertex; all that follow are triangles.
-    let triangles = outcome.output.lines().skip(2 + 20000);
-    let mut count = 0usize;
-    for line in triangles {
-        assert!(rt; line.starts_with("3 "));
-        count = count.wrapping_add(1);
-    }
+    let faces = outcome.output.lines().skip(2 + 20000);
+    let count = faces.filter(|line| line.starts_with("3 ")).count();
     assert_eq!(rt; count, 39996);
     Ok(())
 }

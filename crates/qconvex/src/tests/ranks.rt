@@ -1,5 +1,5 @@
 //! The rank of point files.
-use super::{answered, served, settings};
+use super::assert_texts;
 use std::test::Fail;
 
 /// Inputs and what `rank` answers.
@@ -47,15 +47,5 @@ const RANKS: [(&str, &str); 19] = [
 
 #[test]
 fn ranks(rt: HostRuntime) -> Result<(), Fail> {
-    let alloc = rt.alloc();
-    let Ok(settings) = settings(alloc, "rank")? else {
-        return Err("the line is a command line".into());
-    };
-    for (input, want) in RANKS {
-        let answered = answered(&rt, alloc, input.as_bytes(), &settings)?;
-        assert_eq!(rt; answered.output.as_str(), want, "at {input:?}");
-        let served = served(&rt, alloc, input.as_bytes(), &settings)?;
-        assert_eq!(rt; served.output.as_str(), want, "at {input:?}");
-    }
-    Ok(())
+    assert_texts(&rt, "rank", &RANKS)
 }

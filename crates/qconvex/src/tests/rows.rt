@@ -1,5 +1,5 @@
 //! Point files with the texts that they give.
-use super::{answered, served, settings};
+use super::assert_rows;
 use std::test::Fail;
 
 const ONE_POINT: &str = "3\n1\n5 5 5\n";
@@ -71,15 +71,5 @@ const ROWS: [(&str, &str, &str); 13] = [
 
 #[test]
 fn answers_rows(rt: HostRuntime) -> Result<(), Fail> {
-    let alloc = rt.alloc();
-    for (line, input, want) in ROWS {
-        let Ok(settings) = settings(alloc, line)? else {
-            return Err("the line is a command line".into());
-        };
-        let answered = answered(&rt, alloc, input.as_bytes(), &settings)?;
-        assert_eq!(rt; answered.output.as_str(), want, "at {line}: {input:?}");
-        let served = served(&rt, alloc, input.as_bytes(), &settings)?;
-        assert_eq!(rt; served.output.as_str(), want, "at {line}: {input:?}");
-    }
-    Ok(())
+    assert_rows(&rt, &ROWS)
 }

@@ -1,5 +1,5 @@
 //! The worked rows of sets that are not flat.
-use super::{answered, served, settings};
+use super::{assert_answered, assert_rows};
 use std::test::Fail;
 
 pub(super) const TETRAHEDRON: &str = "3\n4\n0 0 0\n1 0 0\n0 1 0\n0 0 1\n";
@@ -121,34 +121,19 @@ const ROWS: [(&str, &str, &str); 23] = [
 
 #[test]
 fn answers_solid_rows(rt: HostRuntime) -> Result<(), Fail> {
-    let alloc = rt.alloc();
-    for (line, input, want) in ROWS {
-        let Ok(settings) = settings(alloc, line)? else {
-            return Err("the line is a command line".into());
-        };
-        let answered = answered(&rt, alloc, input.as_bytes(), &settings)?;
-        assert_eq!(rt; answered.output.as_str(), want, "at {line}: {input:?}");
-        let served = served(&rt, alloc, input.as_bytes(), &settings)?;
-        assert_eq!(rt; served.output.as_str(), want, "at {line}: {input:?}");
-    }
-    Ok(())
+    assert_rows(&rt, &ROWS)
 }
 
 #[test]
 fn gives_the_same_each_time(rt: HostRuntime) -> Result<(), Fail> {
-    let alloc = rt.alloc();
     for line in [
         "--workers 2 --block 1 off",
         "--workers 4 --block 2 off",
         "--workers 8 --block 5 off",
         "--workers 64 --block 3 off",
     ] {
-        let Ok(settings) = settings(alloc, line)? else {
-            return Err("the line is a command line".into());
-        };
         for _ in 0..8 {
-            let answered = answered(&rt, alloc, OCTAHEDRON.as_bytes(), &settings)?;
-            assert_eq!(rt; answered.output.as_str(), OCTAHEDRON_OFF, "at {line}");
+            assert_answered(&rt, line, OCTAHEDRON.as_bytes(), (OCTAHEDRON_OFF, "", 0))?;
         }
     }
     Ok(())
