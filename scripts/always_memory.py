@@ -9,7 +9,7 @@ of what `answer` gave with what it should give asks for a difference. There the 
 pass. A test that fails names a row that a program passes which always wants memory. Only the rows that ask for want of
 memory stay as they are: those of the gate that takes no hull.
 
-It prints how many comparisons it turned round in each file. The status is 1 if such a row was found.
+It prints how many comparisons it turned round in each file; most rows share one. The status is 1 if such a row was found.
 """
 import re
 import shutil
@@ -30,11 +30,17 @@ PLANTED_BODY = "{\n    Err(Fault::from(Memory))\n}\n"
 # The longest input. The planted body does not look at it, so a short one serves as well.
 LONGEST, SHORT = "const TOO_MANY: usize = 268435457;", "const TOO_MANY: usize = 1000;"
 
+# Of the calls that a gate watches, `answer` alone is looked at.
+WATCHED = "const WATCHED: [Watched; 3] = [Watched::RunHull, Watched::Answer, Watched::Serve];"
+ANSWER_ALONE = "const WATCHED: [Watched; 1] = [Watched::Answer];"
+
 # The comparisons, and what stands for each. A name before a dot is one that the tests give to an outcome of `answer`.
 TURNED = [
-    (r'assert_eq!(\(rt;\s*(?:answered|longer)\.(?!error\.as_str\(\),\s*"qconvex: 8: Memory"))', r"assert_ne!\1"),
-    (r"assert!\(rt; ((?:want|outcome)\.output\.starts_with\()", r"assert!(rt; !\1"),
-    (r'assert!\(rt; (gate\.came_in_time\(\), "answer)', r"assert!(rt; !\1"),
+    (r"assert_eq!(\(rt; answered\.told\(\), want)", r"assert_ne!\1"),
+    (r"assert!\(rt; (outcome\.output\.starts_with\()", r"assert!(rt; !\1"),
+    (r"assert_eq!(\(rt; count, )", r"assert_ne!\1"),
+    (r"assert!\(rt; (gate\.came_in_time\(\))", r"assert!(rt; !\1"),
+    (r"assert_eq!(\(rt; outcome\.told\(\), \(OCTAHEDRON_OFF)", r"assert_ne!\1"),
     (r"assert!\(rt; (text\.is_ok_and\()", r"assert!(rt; !\1"),
     (r"if !(answers\()", r"if \1"),
 ]
@@ -66,8 +72,9 @@ def plant(top):
         shutil.copy(name, top / name)
     replace_once(top / ANSWER, RIGHT_BODY, PLANTED_BODY)
     replace_once(top / CRATE / "src/tests/limits.rt", LONGEST, SHORT)
+    replace_once(top / CRATE / "src/tests/gated.rt", WATCHED, ANSWER_ALONE)
     total = 0
-    for path in sorted((top / CRATE / "src/tests").glob("*.rt")):
+    for path in [top / CRATE / "src/tests.rt", *sorted((top / CRATE / "src/tests").glob("*.rt"))]:
         count = turn_round(path)
         total += count
         if count:

@@ -4,6 +4,7 @@ mod block;
 mod hull;
 mod mesh;
 mod model;
+mod points;
 mod pred;
 mod read;
 mod run;

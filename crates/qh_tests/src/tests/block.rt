@@ -1,52 +1,104 @@
 //! Rows of sets in a point, a line and a plane.
-ghost use Rattle.std.specs.Prelude.{◌≡◌, [], ◌∷◌};
 
-use crate::tests::block::surfaces::point;
-use qh_block::hull;
-use qh_model::{Body, Id, Point};
+use crate::tests::points::{point, square};
+use qh_block::{extremes, hull};
+use qh_model::{Body, Id, Memory, POINT_LIMIT, Point};
+use qh_plane::distinct;
+use std::alloc::Global;
+use std::process::Abort;
 use std::test::Fail;
+use std::thread::Threads;
 
 mod looks;
 mod refusals;
 mod solid_rows;
 mod surfaces;
 
-/// The ids of four points.
-fn four_ids() -> [Id; 4]
-    ensures { result ≡ 0 ∷ 1 ∷ 2 ∷ 3 ∷ [] }
-{
-    [Id::new(0), Id::new(1), Id::new(2), Id::new(3)]
+/// What the hull of some points is: the dimension, the extreme ids, the faces and the number of edges.
+#[derive(Clone, Copy, Drop)]
+struct Row<'a> {
+    dim: u8,
+    extremes: &'a [u32],
+    faces: &'a [&'a [u32]],
+    edges: u64,
 }
 
-/// The ids of five points.
-fn five_ids() -> [Id; 5]
-    ensures { result ≡ 0 ∷ 1 ∷ 2 ∷ 3 ∷ 4 ∷ [] }
-{
-    [Id::new(0), Id::new(1), Id::new(2), Id::new(3), Id::new(4)]
+const SQUARE: Row<'static> = Row {
+    dim: 2,
+    extremes: &[0, 1, 2, 3],
+    faces: &[&[0, 1, 2, 3]],
+    edges: 4,
+};
+
+/// The square seen from its other side.
+const TURNED_SQUARE: Row<'static> = Row {
+    faces: &[&[0, 3, 2, 1]],
+    ..SQUARE
+};
+
+/// Whether the ids have these numbers.
+fn are(ids: &[Id], numbers: &[u32]) -> bool {
+    ids.len() == numbers.len()
+        && ids
+            .iter()
+            .zip(numbers)
+            .all(|(id, number)| id.number() == *number)
 }
 
-/// Four points of which the first is the origin.
-fn from_origin(a: Point, b: Point, c: Point) -> [Point; 4] {
-    [Point::new(0, 0, 0), a, b, c]
+/// Whether a body is that of a row.
+fn is(body: &Body, row: &Row) -> bool {
+    body.dim == row.dim
+        && body.edges == row.edges
+        && are(&body.extremes, row.extremes)
+        && body.polygons.len() == row.faces.len()
+        && body
+            .polygons
+            .iter()
+            .zip(row.faces)
+            .all(|(polygon, face)| are(polygon.ids(), face))
 }
 
-/// The ids of the one polygon of a body; none where it has another number of them.
-fn only_polygon(body: &Body) -> &[Id] {
-    match body.polygons.as_slice() {
-        [polygon] => polygon.ids(),
-        _ => &[],
+/// The hull of the distinct points of a list that is not too long and not empty, and their extreme ids.
+fn hull_of<R: Threads + Sync>(
+    rt: &R,
+    alloc: Global,
+    pts: &[Point],
+) -> Result<Option<(Body, Vec<Id>)>, Memory> {
+    if pts.len() > POINT_LIMIT as usize {
+        return Ok(None);
     }
+    let ids = distinct(rt, alloc, pts)?;
+    if ids.is_empty() {
+        return Ok(None);
+    }
+    let body = hull(alloc, pts, &ids)?;
+    let corners = extremes(alloc, pts, &ids)?;
+    Ok(Some((body, corners)))
+}
+
+/// Asserts that the hull of the distinct points of a list, and their extreme ids alone, are those of a row.
+fn assert_hull<R: AllocGlobal + Abort + Threads + Sync>(
+    rt: &R,
+    pts: &[Point],
+    row: &Row,
+) -> Result<(), Fail> {
+    let (body, corners) = hull_of(rt, rt.alloc(), pts)?.ok_or("no points")?;
+    let holds = is(&body, row) && are(&corners, row.extremes);
+    assert!(rt; holds, "{body:?} and {corners:?}");
+    Ok(())
 }
 
 #[test]
 fn one_point(rt: HostRuntime) -> Result<(), Fail> {
     let pts = [Point::new(3, 1, 0), Point::new(5, 5, 5)];
-    let ids = [Id::new(1)];
-    let body = hull(rt.alloc(), &pts, &ids).expect(&rt, "memory");
-    assert_eq!(rt; body.dim, 0u8);
-    assert_eq!(rt; body.extremes.as_slice(), ids.as_slice());
-    assert_eq!(rt; only_polygon(&body), ids.as_slice());
-    assert_eq!(rt; body.edges, 0u64);
+    let body = hull(rt.alloc(), &pts, &[Id::new(1)])?;
+    let row = Row {
+        dim: 0,
+        extremes: &[1],
+        faces: &[&[1]],
+        edges: 0,
+    };
+    assert!(rt; is(&body, &row), "{body:?}");
     Ok(())
 }
 
@@ -59,43 +111,18 @@ fn five_in_line(rt: HostRuntime) -> Result<(), Fail> {
         Point::new(2, 2, 2),
         Point::new(3, 3, 3),
     ];
-    let ids = five_ids();
-    let body = hull(rt.alloc(), &pts, &ids).expect(&rt, "memory");
-    let ends = [Id::new(1), Id::new(2)];
-    assert_eq!(rt; body.dim, 1u8);
-    assert_eq!(rt; body.extremes.as_slice(), ends.as_slice());
-    assert_eq!(rt; only_polygon(&body), ends.as_slice());
-    assert_eq!(rt; body.edges, 1u64);
-    Ok(())
+    let row = Row {
+        dim: 1,
+        extremes: &[1, 2],
+        faces: &[&[1, 2]],
+        edges: 1,
+    };
+    assert_hull(&rt, &pts, &row)
 }
 
 #[test]
 fn square_with_centre(rt: HostRuntime) -> Result<(), Fail> {
-    let pts = [
-        Point::new(0, 0, 0),
-        Point::new(2, 0, 0),
-        Point::new(2, 2, 0),
-        Point::new(0, 2, 0),
-        Point::new(1, 1, 0),
-    ];
-    let ids = five_ids();
-    let body = hull(rt.alloc(), &pts, &ids).expect(&rt, "memory");
-    assert_eq!(rt; body.dim, 2u8);
-    assert_eq!(rt; body.extremes.as_slice(), four_ids().as_slice());
-    assert_eq!(rt; only_polygon(&body), four_ids().as_slice());
-    assert_eq!(rt; body.edges, 4u64);
-    Ok(())
-}
-
-/// Four points, with all coordinates so many times as large.
-fn scaled(pts: [Point; 4], factor: i32) -> [Point; 4] {
-    let [a, b, c, d] = pts;
-    [
-        times(a, factor),
-        times(b, factor),
-        times(c, factor),
-        times(d, factor),
-    ]
+    assert_hull(&rt, &square(), &SQUARE)
 }
 
 /// The point with all coordinates so many times as large, kept within the limit.
@@ -107,96 +134,55 @@ fn times(p: Point, factor: i32) -> Point {
     )
 }
 
+/// Three places beside the origin.
+type Places = [(i32, i32, i32); 3];
+
+/// Squares with a corner at the origin, of which the normals have each pattern of signs; and the row of each.
+const SQUARES: [(Places, Row<'static>); 8] = [
+    ([(2, 1, -2), (4, -1, -1), (2, -2, 1)], TURNED_SQUARE),
+    ([(2, 1, 2), (4, -1, 1), (2, -2, -1)], SQUARE),
+    ([(2, -1, -2), (4, 1, -1), (2, 2, 1)], SQUARE),
+    ([(2, -1, 2), (4, 1, 1), (2, 2, -1)], TURNED_SQUARE),
+    ([(-2, 1, -2), (-4, -1, -1), (-2, -2, 1)], TURNED_SQUARE),
+    ([(-2, 1, 2), (-4, -1, 1), (-2, -2, -1)], SQUARE),
+    ([(-2, -1, -2), (-4, 1, -1), (-2, 2, 1)], SQUARE),
+    ([(-2, -1, 2), (-4, 1, 1), (-2, 2, -1)], TURNED_SQUARE),
+];
+
+/// How many times as large the squares are taken, too: up to 2^20 and to 2^30.
+const FACTORS: [i32; 3] = [1, 262144, 268435456];
+
 #[test]
 fn squares(rt: HostRuntime) -> Result<(), Fail> {
-    let rising = four_ids();
-    let falling = [Id::new(0), Id::new(3), Id::new(2), Id::new(1)];
-    // A square at x = 5, then squares of which the normals have each pattern of signs: as they are, and scaled up to
-    // 2^20 and to 2^30.
-    let rows = [
-        (
-            [
-                Point::new(5, 0, 0),
-                Point::new(5, 0, 2),
-                Point::new(5, 2, 2),
-                Point::new(5, 2, 0),
-            ],
-            falling,
-        ),
-        (
-            from_origin(
-                Point::new(2, 1, -2),
-                Point::new(4, -1, -1),
-                Point::new(2, -2, 1),
-            ),
-            falling,
-        ),
-        (
-            from_origin(
-                Point::new(2, 1, 2),
-                Point::new(4, -1, 1),
-                Point::new(2, -2, -1),
-            ),
-            rising,
-        ),
-        (
-            from_origin(
-                Point::new(2, -1, -2),
-                Point::new(4, 1, -1),
-                Point::new(2, 2, 1),
-            ),
-            rising,
-        ),
-        (
-            from_origin(
-                Point::new(2, -1, 2),
-                Point::new(4, 1, 1),
-                Point::new(2, 2, -1),
-            ),
-            falling,
-        ),
-        (
-            from_origin(
-                Point::new(-2, 1, -2),
-                Point::new(-4, -1, -1),
-                Point::new(-2, -2, 1),
-            ),
-            falling,
-        ),
-        (
-            from_origin(
-                Point::new(-2, 1, 2),
-                Point::new(-4, -1, 1),
-                Point::new(-2, -2, -1),
-            ),
-            rising,
-        ),
-        (
-            from_origin(
-                Point::new(-2, -1, -2),
-                Point::new(-4, 1, -1),
-                Point::new(-2, 2, 1),
-            ),
-            rising,
-        ),
-        (
-            from_origin(
-                Point::new(-2, -1, 2),
-                Point::new(-4, 1, 1),
-                Point::new(-2, 2, -1),
-            ),
-            falling,
-        ),
-    ];
-    for (pts, polygon) in rows {
-        for factor in [1, 262144, 268435456] {
-            let wide = scaled(pts, factor);
-            let ids = four_ids();
-            let body = hull(rt.alloc(), &wide, &ids).expect(&rt, "memory");
-            assert_eq!(rt; body.extremes.as_slice(), ids.as_slice());
-            assert_eq!(rt; only_polygon(&body), polygon.as_slice());
-            assert_eq!(rt; body.edges, 4u64);
+    for (places, row) in SQUARES {
+        let [b, c, d] = places.map(|(x, y, z)| point(x, y, z));
+        for factor in FACTORS {
+            let pts = [
+                point(0, 0, 0),
+                times(b, factor),
+                times(c, factor),
+                times(d, factor),
+            ];
+            assert_hull(&rt, &pts, &row)?;
         }
+    }
+    Ok(())
+}
+
+#[test]
+fn squares_across_the_first_axis(rt: HostRuntime) -> Result<(), Fail> {
+    let corners = [
+        Point::new(5, 0, 0),
+        Point::new(5, 0, 2),
+        Point::new(5, 2, 2),
+        Point::new(5, 2, 0),
+    ];
+    for factor in FACTORS {
+        assert_hull(
+            &rt,
+            &corners.map(|corner| times(corner, factor)),
+            &TURNED_SQUARE,
+        )?;
     }
     Ok(())
 }

@@ -1,9 +1,22 @@
 //! Rows of points and their hulls, from the list of a cube in Geomview's OFF.
 use qh_hull::hull_alone;
-use qh_model::{Memory, Point};
+use qh_model::{Hull, Point};
 use std::test::Fail;
 
 mod large_sets;
+
+/// What a hull says: how many points there are, distinct points, the dimension, edges, extreme ids and faces.
+fn counts_of(hull: &Hull) -> (u32, u32, u8, u64, usize, usize) {
+    let body = &hull.body;
+    (
+        hull.given,
+        hull.distinct,
+        body.dim,
+        body.edges,
+        body.extremes.len(),
+        body.polygons.len(),
+    )
+}
 
 #[test]
 fn cube_with_a_point_twice(rt: HostRuntime) -> Result<(), Fail> {
@@ -18,12 +31,7 @@ fn cube_with_a_point_twice(rt: HostRuntime) -> Result<(), Fail> {
         Point::new(1, 1, 1),
         Point::new(0, 0, 0),
     ];
-    let Ok(hull) = hull_alone(rt.alloc(), &points) else {
-        return Err("no memory".into());
-    };
-    assert_eq!(rt; (hull.given, hull.distinct), (9u32, 8u32));
-    assert_eq!(rt; (hull.body.dim, hull.body.edges), (3u8, 12u64));
-    assert_eq!(rt; hull.body.extremes.len(), 8usize);
-    assert_eq!(rt; hull.body.polygons.len(), 6usize);
+    let hull = hull_alone(rt.alloc(), &points)?;
+    assert_eq!(rt; counts_of(&hull), (9, 8, 3, 12, 8, 6));
     Ok(())
 }

@@ -3,39 +3,17 @@ ghost use Rattle.std.specs.Prelude.{◌≡◌, IfOk};
 ghost use Rattle.qh_board.specs.contract.Closings.{closed_setup};
 ghost use Rattle.qh_model.specs.headline.DistinctIds.{AreDistinctIds};
 
+use crate::tests::points::{doubled_cube, octahedron};
 use qh_board::{Board, BoardError, Closed, Mark};
 use qh_model::{Cut, CutError, Hull, Id, POINT_LIMIT, Point};
 use qh_plane::distinct;
 use qh_run::{Job, NoGate, RunError, run_hull, work};
 use std::alloc::{AllocError, Global};
+use std::process::Abort;
 use std::test::Fail;
 use std::thread::Threads;
 
 mod refusals;
-
-/// A regular octahedron and the middles of its edges.
-fn octahedron() -> [Point; 18] {
-    [
-        Point::new(2, 0, 0),
-        Point::new(1, 1, 0),
-        Point::new(0, 2, 0),
-        Point::new(-2, 0, 0),
-        Point::new(-1, -1, 0),
-        Point::new(0, -2, 0),
-        Point::new(0, 0, 2),
-        Point::new(1, 0, 1),
-        Point::new(0, 1, 1),
-        Point::new(0, 0, -2),
-        Point::new(-1, 0, -1),
-        Point::new(0, -1, -1),
-        Point::new(1, -1, 0),
-        Point::new(-1, 1, 0),
-        Point::new(-1, 0, 1),
-        Point::new(1, 0, -1),
-        Point::new(0, -1, 1),
-        Point::new(0, 1, -1),
-    ]
-}
 
 /// What the hull of the octahedron says, as `numbers_of` has it.
 const OCTAHEDRON_HULL: [usize; 43] = [
@@ -64,21 +42,7 @@ fn lattice(alloc: Global) -> Result<Vec<Point>, AllocError> {
     Ok(points)
 }
 
-/// The corners of a cube, each twice.
-fn doubled_cube(alloc: Global) -> Result<Vec<Point>, AllocError> {
-    let mut points = Vec::new(alloc);
-    for x in [0, 1] {
-        for y in [0, 1] {
-            for z in [0, 1] {
-                points.push(Point::new(x, y, z))?;
-                points.push(Point::new(x, y, z))?;
-            }
-        }
-    }
-    Ok(points)
-}
-
-/// What its hull says.
+/// What the hull of the corners of a cube, each given twice, says.
 const CUBE_HULL: [usize; 43] = [
     16, 8, 3, 12, 8, 0, 2, 4, 6, 8, 10, 12, 14, 4, 0, 2, 6, 4, 4, 0, 4, 12, 8, 4, 0, 8, 10, 2, 4,
     2, 10, 14, 6, 4, 4, 6, 14, 12, 4, 8, 12, 14, 10,
@@ -170,22 +134,25 @@ fn job<'a>(pts: &'a [Point], ids: &'a [Id], cut: &'a Cut) -> Option<Job<'a>>
     Some(Job { pts, ids, cut })
 }
 
-#[test]
-fn one_pass_reduces_all_blocks(rt: HostRuntime) -> Result<(), Fail> {
-    let alloc = rt.alloc();
-    let points = octahedron();
-    let ids = distinct(&rt, alloc, &points)?;
-    let cut = Cut::even(alloc, 18, 3)?;
-    let job = job(&points, &ids, &cut).ok_or("another cut")?;
-    let Ok(closed) = worked_by_one(alloc, job) else {
-        return Err("no memory".into());
-    };
-    assert_eq!(rt; closed.claims(), 7);
-    assert_eq!(rt; closed.mark(0), Mark::Left);
+/// What one pass finds of all blocks: the number of claims, the mark, and the ids at the root.
+fn reduced_by_one<'a>(alloc: Global, job: Job<'a>) -> Result<(u64, Mark, Vec<usize>), Fail> {
+    let closed = worked_by_one(alloc, job)?;
+    let (claims, mark) = (closed.claims(), closed.mark(0));
     let root = closed.into_root().ok_or("no root")?;
     let mut numbers = Vec::new(alloc);
     push_ids(&mut numbers, &root.ids)?;
-    assert_eq!(rt; numbers.as_slice(), [6, 0, 2, 3, 5, 6, 9].as_slice());
+    Ok((claims, mark, numbers))
+}
+
+#[test]
+fn one_pass_reduces_all_blocks(rt: HostRuntime) -> Result<(), Fail> {
+    let points = octahedron();
+    let ids = distinct(&rt, rt.alloc(), &points)?;
+    let cut = Cut::even(rt.alloc(), 18, 3)?;
+    let job = job(&points, &ids, &cut).ok_or("another cut")?;
+    let (claims, mark, root) = reduced_by_one(rt.alloc(), job)?;
+    let want = (7, Mark::Left, [6, 0, 2, 3, 5, 6, 9].as_slice());
+    assert_eq!(rt; (claims, mark, root.as_slice()), want);
     Ok(())
 }
 
@@ -210,60 +177,90 @@ fn end_of<R: Threads + Sync>(
     Ok(Some((closed.claims(), closed.mark(0))))
 }
 
+/// Asserts how one pass ends on 2,048 points in blocks of each size.
+fn assert_ends<R: AllocGlobal + Abort + Threads + Sync>(
+    rt: &R,
+    points: &[Point],
+    rows: &[(u32, u64, Mark)],
+) -> Result<(), Fail> {
+    for (size, claims, mark) in rows {
+        let end = end_of(rt, rt.alloc(), points, *size)?;
+        assert_eq!(rt; end, Some((*claims, *mark)), "blocks of {size}");
+    }
+    Ok(())
+}
+
+/// One block, then blocks that tell by themselves, then by the first two joined, and the first four.
+const PARABOLOID_ENDS: [(u32, u64, Mark); 4] = [
+    (2048, 1, Mark::GaveUp),
+    (1024, 1, Mark::GaveUp),
+    (512, 2, Mark::GaveUp),
+    (256, 4, Mark::GaveUp),
+];
+
+const LATTICE_ENDS: [(u32, u64, Mark); 3] = [
+    (2048, 1, Mark::GaveUp),
+    (1024, 3, Mark::Left),
+    (512, 5, Mark::Left),
+];
+
 #[test]
 fn gives_up_where_the_tree_does_not_pay(rt: HostRuntime) -> Result<(), Fail> {
-    let alloc = rt.alloc();
-    let paraboloid = paraboloid(alloc)?;
-    let lattice = lattice(alloc)?;
-    let rows = [
-        // One block, then blocks that tell by themselves, then by the first two joined, and the first four.
-        (paraboloid.as_slice(), 2048, 1, Mark::GaveUp),
-        (paraboloid.as_slice(), 1024, 1, Mark::GaveUp),
-        (paraboloid.as_slice(), 512, 2, Mark::GaveUp),
-        (paraboloid.as_slice(), 256, 4, Mark::GaveUp),
-        (lattice.as_slice(), 2048, 1, Mark::GaveUp),
-        (lattice.as_slice(), 1024, 3, Mark::Left),
-        (lattice.as_slice(), 512, 5, Mark::Left),
-    ];
-    for (points, size, claims, mark) in rows {
-        let Ok(end) = end_of(&rt, alloc, points, size) else {
-            return Err("no memory".into());
-        };
-        assert_eq!(rt; end, Some((claims, mark)), "blocks of {size}");
+    assert_ends(&rt, &paraboloid(rt.alloc())?, &PARABOLOID_ENDS)?;
+    assert_ends(&rt, &lattice(rt.alloc())?, &LATTICE_ENDS)
+}
+
+/// Asserts what the hull of a list of points by a cut says, whatever the number of workers.
+fn assert_hull<R: AllocGlobal + Abort + Threads + Sync>(
+    rt: &R,
+    points: &[Point],
+    cut: &Cut,
+    want: &[usize],
+) -> Result<(), Fail> {
+    for workers in [1, 2, 7, 64] {
+        let hull = hull_by(rt, rt.alloc(), points, cut, workers)?.ok_or("another cut")?;
+        let numbers = numbers_of(rt.alloc(), &hull)?;
+        assert_eq!(rt; numbers.as_slice(), want, "{workers} workers, {cut:?}");
     }
     Ok(())
 }
 
 #[test]
-fn has_one_hull_by_all_cuts_and_workers(rt: HostRuntime) -> Result<(), Fail> {
-    let alloc = rt.alloc();
-    let octahedron = octahedron();
-    let cube = doubled_cube(alloc)?;
-    let rows = [
-        (octahedron.as_slice(), 18, OCTAHEDRON_HULL.as_slice()),
-        (cube.as_slice(), 8, CUBE_HULL.as_slice()),
-    ];
-    for (points, distinct, want) in rows {
-        for cut in &cuts_of(alloc, distinct)? {
-            for workers in [1, 2, 7, 64] {
-                let hull = hull_by(&rt, alloc, points, cut, workers)?.ok_or("another cut")?;
-                let numbers = numbers_of(alloc, &hull)?;
-                assert_eq!(rt; numbers.as_slice(), want, "{workers} workers, {cut:?}");
-            }
-        }
+fn has_one_hull_of_an_octahedron(rt: HostRuntime) -> Result<(), Fail> {
+    let points = octahedron();
+    for cut in &cuts_of(rt.alloc(), 18)? {
+        assert_hull(&rt, &points, cut, &OCTAHEDRON_HULL)?;
+    }
+    Ok(())
+}
+
+#[test]
+fn has_one_hull_of_a_doubled_cube(rt: HostRuntime) -> Result<(), Fail> {
+    let points = doubled_cube(rt.alloc())?;
+    for cut in &cuts_of(rt.alloc(), 8)? {
+        assert_hull(&rt, &points, cut, &CUBE_HULL)?;
+    }
+    Ok(())
+}
+
+/// Asserts that numbers of workers that are out of range are refused.
+fn assert_refused<R: AllocGlobal + Abort + Threads + Sync>(
+    rt: &R,
+    points: &[Point],
+    cut: &Cut,
+) -> Result<(), Fail> {
+    for workers in [0, 65, 4294967295] {
+        let refused = hull_by(rt, rt.alloc(), points, cut, workers).err();
+        assert_eq!(rt; refused, Some(RunError::BadWorkers), "{workers} workers");
     }
     Ok(())
 }
 
 #[test]
 fn refuses_no_workers_and_too_many(rt: HostRuntime) -> Result<(), Fail> {
-    let alloc = rt.alloc();
-    let octahedron = octahedron();
-    for cut in &cuts_of(alloc, 18)? {
-        for workers in [0, 65, 4294967295] {
-            let refused = hull_by(&rt, alloc, &octahedron, cut, workers).err();
-            assert_eq!(rt; refused, Some(RunError::BadWorkers), "{workers} workers");
-        }
+    let points = octahedron();
+    for cut in &cuts_of(rt.alloc(), 18)? {
+        assert_refused(&rt, &points, cut)?;
     }
     Ok(())
 }

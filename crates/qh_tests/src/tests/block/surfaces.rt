@@ -3,43 +3,19 @@
 ghost use Rattle.qh_model.specs.contract.IdSets.{IsIdSet};
 ghost use Rattle.qh_model.specs.contract.IdSets.{AreIndices};
 
+use crate::tests::points::{LIMIT, lattice, octahedron, point, tetrahedron};
 use qh_block::surface;
 use qh_mesh::Mesh;
-use qh_model::{COORDINATE_LIMIT, Id, Memory, POINT_LIMIT, Point};
+use qh_model::{Id, Memory, POINT_LIMIT, Point};
 use qh_plane::{Shape, distinct, rank};
 use qh_pred::Plane;
 use std::alloc::{AllocError, Global};
+use std::process::Abort;
 use std::test::Fail;
 use std::thread::Threads;
 
-const LIMIT: i32 = COORDINATE_LIMIT as i32;
-
 /// The corners of a triangle, counterclockwise seen from outside.
 type Triangle = (u32, u32, u32);
-
-/// The point with these coordinates, kept within the limit.
-pub fn point(x: i32, y: i32, z: i32) -> Point {
-    Point::new(
-        x.clamp(-LIMIT, LIMIT),
-        y.clamp(-LIMIT, LIMIT),
-        z.clamp(-LIMIT, LIMIT),
-    )
-}
-
-/// All points with these coordinates, each so many times.
-fn lattice(alloc: Global, coordinates: &[i32], times: usize) -> Result<Vec<Point>, AllocError> {
-    let mut pts = Vec::new(alloc);
-    for _ in 0..times {
-        for x in coordinates {
-            for y in coordinates {
-                for z in coordinates {
-                    pts.push(point(*x, *y, *z))?;
-                }
-            }
-        }
-    }
-    Ok(pts)
-}
 
 /// The points (x, y, x^2 + y^2) with x below 50 and y below 40. Each is extreme.
 fn paraboloid(alloc: Global) -> Result<Vec<Point>, AllocError> {
@@ -149,87 +125,54 @@ pub fn is_surface(
     )
 }
 
+/// The numbers of triangles and of corners of the surface of a solid set, which must be one.
+fn counts_of<R: AllocGlobal + Abort + Threads + Sync>(
+    rt: &R,
+    pts: &[Point],
+) -> Result<(usize, usize), Fail> {
+    let mesh = solid_surface(rt, rt.alloc(), pts)?.ok_or("a flat set")?;
+    let triangles = triangles(rt.alloc(), &mesh)?;
+    assert!(rt; is_surface(rt.alloc(), pts, &triangles)?, "{triangles:?}");
+    Ok((triangles.len(), corner_count(rt.alloc(), &triangles)?))
+}
+
 #[test]
 fn corner_tetrahedron(rt: HostRuntime) -> Result<(), Fail> {
-    let pts = [
-        point(0, 0, 0),
-        point(1, 0, 0),
-        point(0, 1, 0),
-        point(0, 0, 1),
-    ];
-    let mesh = solid_surface(&rt, rt.alloc(), &pts)?.expect(&rt, "a solid set");
-    let triangles = triangles(rt.alloc(), &mesh)?;
-    assert!(rt; is_surface(rt.alloc(), &pts, &triangles)?);
-    assert_eq!(rt; triangles.len(), 4usize);
+    assert_eq!(rt; counts_of(&rt, &tetrahedron())?, (4, 4));
     Ok(())
 }
 
 #[test]
 fn cubes(rt: HostRuntime) -> Result<(), Fail> {
-    let alloc = rt.alloc();
-    for (pts, name) in [
-        (lattice(alloc, &[0, 1], 1)?, "unit cube"),
-        (lattice(alloc, &[0, 1], 2)?, "doubled cube"),
-        (lattice(alloc, &[-1048576, 1048576], 1)?, "cube up to 2^20"),
-        (lattice(alloc, &[-LIMIT, LIMIT], 1)?, "cube at the limit"),
+    for (low, high, times) in [
+        (0, 1, 1),
+        (0, 1, 2),
+        (-1048576, 1048576, 1),
+        (-LIMIT, LIMIT, 1),
     ] {
-        let mesh = solid_surface(&rt, alloc, &pts)?.expect(&rt, name);
-        let triangles = triangles(alloc, &mesh)?;
-        assert!(rt; is_surface(alloc, &pts, &triangles)?, "{name}");
-        assert_eq!(rt; triangles.len(), 12usize, "{name}");
+        let pts = lattice(rt.alloc(), &[low, high], times)?;
+        assert_eq!(rt;
+            counts_of(&rt, &pts)?,
+            (12, 8),
+            "{times} times a cube from {low} to {high}"
+        );
     }
     Ok(())
 }
 
 #[test]
 fn points_within_faces(rt: HostRuntime) -> Result<(), Fail> {
-    let alloc = rt.alloc();
-    let pts = lattice(alloc, &[0, 1, 2], 1)?;
-    let mesh = solid_surface(&rt, alloc, &pts)?.expect(&rt, "27 points of a cube");
-    let triangles = triangles(alloc, &mesh)?;
-    assert!(rt; is_surface(alloc, &pts, &triangles)?);
-    assert!(rt; corner_count(alloc, &triangles)? >= 8);
-    Ok(())
-}
-
-#[test]
-fn octahedron_with_midpoints(rt: HostRuntime) -> Result<(), Fail> {
-    let alloc = rt.alloc();
-    let pts = [
-        point(2, 0, 0),
-        point(1, 1, 0),
-        point(0, 2, 0),
-        point(-2, 0, 0),
-        point(-1, -1, 0),
-        point(0, -2, 0),
-        point(0, 0, 2),
-        point(1, 0, 1),
-        point(0, 1, 1),
-        point(0, 0, -2),
-        point(-1, 0, -1),
-        point(0, -1, -1),
-        point(1, -1, 0),
-        point(-1, 1, 0),
-        point(-1, 0, 1),
-        point(1, 0, -1),
-        point(0, -1, 1),
-        point(0, 1, -1),
-    ];
-    let mesh = solid_surface(&rt, alloc, &pts)?.expect(&rt, "an octahedron");
-    let triangles = triangles(alloc, &mesh)?;
-    assert!(rt; is_surface(alloc, &pts, &triangles)?);
-    assert!(rt; corner_count(alloc, &triangles)? >= 6);
+    let (_, of_lattice) = counts_of(&rt, &lattice(rt.alloc(), &[0, 1, 2], 1)?)?;
+    assert!(rt; of_lattice >= 8);
+    let (_, of_octahedron) = counts_of(&rt, &octahedron())?;
+    assert!(rt; of_octahedron >= 6);
     Ok(())
 }
 
 #[test]
 fn points_of_a_paraboloid(rt: HostRuntime) -> Result<(), Fail> {
-    let alloc = rt.alloc();
-    let pts = paraboloid(alloc)?;
-    let mesh = solid_surface(&rt, alloc, &pts)?.expect(&rt, "a paraboloid");
-    let triangles = triangles(alloc, &mesh)?;
-    assert!(rt; is_surface(alloc, &pts, &triangles)?);
-    assert_eq!(rt; corner_count(alloc, &triangles)?, 2000usize);
+    let (_, corners) = counts_of(&rt, &paraboloid(rt.alloc())?)?;
+    assert_eq!(rt; corners, 2000);
     Ok(())
 }
 
@@ -259,37 +202,43 @@ fn grid(
     Ok(pts)
 }
 
+/// The sides of grids that are solid, and of grids that are flat.
+const SOLID: [(u32, u32, u32); 6] = [
+    (2, 2, 2),
+    (3, 3, 3),
+    (2, 5, 2),
+    (9, 9, 2),
+    (6, 6, 6),
+    (40, 3, 40),
+];
+
+const FLAT: [(u32, u32, u32); 6] = [
+    (1, 1, 1),
+    (1, 1, 9),
+    (1, 5, 1),
+    (1, 6, 6),
+    (6, 1, 6),
+    (6, 6, 1),
+];
+
 #[test]
-fn small_grids(rt: HostRuntime) -> Result<(), Fail> {
-    let alloc = rt.alloc();
+fn small_solid_grids(rt: HostRuntime) -> Result<(), Fail> {
     for seed in 0..40u32 {
-        for sides in [
-            (2, 2, 2),
-            (3, 3, 3),
-            (2, 5, 2),
-            (9, 9, 2),
-            (6, 6, 6),
-            (40, 3, 40),
-        ] {
-            let pts = grid(alloc, seed, 60, sides)?;
-            let mesh = solid_surface(&rt, alloc, &pts)?.expect(&rt, "a solid set");
-            let triangles = triangles(alloc, &mesh)?;
-            assert!(rt; is_surface(alloc, &pts, &triangles)?, "{seed} {}", sides.0);
+        for sides in SOLID {
+            let pts = grid(rt.alloc(), seed, 60, sides)?;
+            let _counts = counts_of(&rt, &pts)?;
         }
-        for sides in [
-            (1, 1, 1),
-            (1, 1, 9),
-            (1, 5, 1),
-            (1, 6, 6),
-            (6, 1, 6),
-            (6, 6, 1),
-        ] {
-            let pts = grid(alloc, seed, 60, sides)?;
-            assert!(rt;
-                solid_surface(&rt, alloc, &pts)?.is_none(),
-                "{seed} {}",
-                sides.0
-            );
+    }
+    Ok(())
+}
+
+#[test]
+fn small_flat_grids(rt: HostRuntime) -> Result<(), Fail> {
+    for seed in 0..40u32 {
+        for sides in FLAT {
+            let pts = grid(rt.alloc(), seed, 60, sides)?;
+            let is_flat = solid_surface(&rt, rt.alloc(), &pts)?.is_none();
+            assert!(rt; is_flat, "{seed}, {sides:?}");
         }
     }
     Ok(())

@@ -1,7 +1,8 @@
 //! A set of more than two blocks: the lattice points of a cube, of which 8 are extreme, and each block has
 //! some that are extreme there and not in the whole.
+use super::counts_of;
 use qh_hull::hull_alone;
-use qh_model::{POINT_LIMIT, Point};
+use qh_model::{Hull, Memory, POINT_LIMIT, Point};
 use std::alloc::{AllocError, Global};
 use std::test::Fail;
 
@@ -14,22 +15,20 @@ fn lattice(alloc: Global) -> Result<Vec<Point>, AllocError> {
     Ok(points)
 }
 
+/// The hull of these points, which are some, and not too many.
+fn hull_of(alloc: Global, points: &[Point]) -> Result<Hull, Memory> {
+    if points.is_empty() || points.len() > POINT_LIMIT as usize {
+        return Err(Memory);
+    }
+    hull_alone(alloc, points)
+}
+
 #[test]
 fn lattice_of_a_cube(rt: HostRuntime) -> Result<(), Fail> {
-    let Ok(points) = lattice(rt.alloc()) else {
-        return Err("no memory".into());
-    };
-    if points.is_empty() || points.len() > POINT_LIMIT as usize {
-        return Err("too few or too many".into());
-    }
-    let Ok(hull) = hull_alone(rt.alloc(), &points) else {
-        return Err("no memory".into());
-    };
-    assert_eq!(rt; (hull.given, hull.distinct), (132651u32, 132651u32));
-    assert_eq!(rt; (hull.body.dim, hull.body.edges), (3u8, 12u64));
-    assert_eq!(rt; hull.body.extremes.len(), 8usize);
-    assert_eq!(rt; hull.body.polygons.len(), 6usize);
+    let points = lattice(rt.alloc())?;
+    let hull = hull_of(rt.alloc(), &points)?;
+    assert_eq!(rt; counts_of(&hull), (132651, 132651, 3, 12, 8, 6));
     let last = hull.body.extremes.last().map(|id| id.number());
-    assert_eq!(rt; last, Some(132650u32));
+    assert_eq!(rt; last, Some(132650));
     Ok(())
 }

@@ -1,9 +1,10 @@
 //! Runs of which one growth is refused: the hull is right, or memory was wanted and the same call gives
 //! it. A worker whose growth is refused gives up. `scripts/refusals.py` refuses each growth in turn.
-ghost use Rattle.std.specs.Prelude.{◌<◌, ◌≤◌};
+ghost use Rattle.std.specs.Prelude.{◌<◌, ◌≤◌, length};
 ghost use Rattle.qh_model.specs.headline.DistinctIds.{AreDistinctIds};
 
-use super::{OCTAHEDRON_HULL, hull_by, job, numbers_of, octahedron, worked_by_one};
+use super::{OCTAHEDRON_HULL, hull_by, job, numbers_of, worked_by_one};
+use crate::tests::points::{cube, octahedron, square};
 use qh_board::{BoardError, Mark};
 use qh_model::{Cut, CutError, Hull, Id, Memory, POINT_LIMIT, Point};
 use qh_plane::distinct;
@@ -11,31 +12,6 @@ use qh_run::RunError;
 use std::alloc::{AllocError, Global};
 use std::test::Fail;
 use std::thread::Threads;
-
-/// The corners of a square, and its centre.
-fn square() -> [Point; 5] {
-    [
-        Point::new(0, 0, 0),
-        Point::new(2, 0, 0),
-        Point::new(2, 2, 0),
-        Point::new(0, 2, 0),
-        Point::new(1, 1, 0),
-    ]
-}
-
-/// The corners of the unit cube.
-fn cube() -> [Point; 8] {
-    [
-        Point::new(0, 0, 0),
-        Point::new(0, 0, 1),
-        Point::new(0, 1, 0),
-        Point::new(0, 1, 1),
-        Point::new(1, 0, 0),
-        Point::new(1, 0, 1),
-        Point::new(1, 1, 0),
-        Point::new(1, 1, 1),
-    ]
-}
 
 /// What the hulls of the square and of the cube say, as `numbers_of` has it.
 const SQUARE_HULL: [usize; 14] = [5, 5, 2, 4, 4, 0, 1, 2, 3, 4, 0, 1, 2, 3];
@@ -78,28 +54,33 @@ fn cut_again(alloc: Global, m: u32, size: u32) -> Result<Cut, CutError>
     }
 }
 
+/// Whether the hull of a list of points by the even cut of its positions, each asked for again where memory
+/// was refused, says these numbers.
+fn comes_out_right<R: Threads + Sync>(
+    rt: &R,
+    alloc: Global,
+    points: &[Point],
+    size: u32,
+    workers: u32,
+    want: &[usize],
+) -> Result<bool, Fail>
+    requires some { 0 < length points.now }
+    requires few { length points.now ≤ POINT_LIMIT }
+{
+    let cut = cut_again(alloc, points.len() as u32, size)?;
+    let hull = hull_again(rt, alloc, points, &cut, workers)?.ok_or("another cut")?;
+    let numbers = numbers_again(alloc, &hull)?;
+    Ok(numbers.as_slice() == want)
+}
+
 #[test]
 fn tries_again(rt: HostRuntime) -> Result<(), Fail> {
-    let alloc = rt.alloc();
-    let (square, cube, octahedron) = (square(), cube(), octahedron());
-    let fives = cut_again(alloc, 5, 2)?;
-    let eights = cut_again(alloc, 8, 3)?;
-    let eighteens = cut_again(alloc, 18, 3)?;
-    let rows = [
-        (square.as_slice(), &fives, SQUARE_HULL.as_slice()),
-        (cube.as_slice(), &eights, CUBE_HULL.as_slice()),
-        (
-            octahedron.as_slice(),
-            &eighteens,
-            OCTAHEDRON_HULL.as_slice(),
-        ),
-    ];
-    for (points, cut, want) in rows {
-        for workers in [1, 2, 7] {
-            let hull = hull_again(&rt, alloc, points, cut, workers)?.ok_or("another cut")?;
-            let numbers = numbers_again(alloc, &hull)?;
-            assert_eq!(rt; numbers.as_slice(), want, "{workers} workers");
-        }
+    let (square, cube, octahedron) = (square(), cube(0, 1), octahedron());
+    for workers in [1, 2, 7] {
+        let right = comes_out_right(&rt, rt.alloc(), &square, 2, workers, &SQUARE_HULL)?
+            && comes_out_right(&rt, rt.alloc(), &cube, 3, workers, &CUBE_HULL)?
+            && comes_out_right(&rt, rt.alloc(), &octahedron, 3, workers, &OCTAHEDRON_HULL)?;
+        assert!(rt; right, "{workers} workers");
     }
     Ok(())
 }

@@ -1,6 +1,6 @@
 -- The distinct ids of points are indices of them.
 use Rattle.qh_model.proofs.DistinctIds.{ids_within}
-use Rattle.qh_tests.proofs.tests.block.solid_rows.hull_of.Goals as goal
+use Rattle.qh_tests.proofs.tests.block.hull_of.Goals as goal
 
 pub hull-requires-clause-indices : goal.hull-requires-clause-indices
 hull-requires-clause-indices g c =
