@@ -6,6 +6,7 @@ use qh_block::hull;
 use qh_model::{Body, Id, Point};
 use std::test::Fail;
 
+mod face_order;
 mod looks;
 mod refusals;
 mod solid_rows;
