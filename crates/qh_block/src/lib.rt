@@ -26,8 +26,6 @@ mod plane_walk;
 mod segment;
 mod solid_edges;
 mod solids;
-#[cfg(test)]
-mod tests;
 
 pub use hulls::{extremes, extremes_unlooked, hull, outer};
 pub use qh_surface::surface;

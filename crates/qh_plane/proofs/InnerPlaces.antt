@@ -2,9 +2,8 @@
 use Rattle.std.proofs.Common.{◌≡◌, ◌≢◌, ℕ, List, [], ◌∷◌, arith, ap, sym, subst, ◌∙◌, refl, inl, inr, ⊎_elim, Bool, true, false}
 use Rattle.std.proofs.lemmas.Bool.{cases_Bool}
 use Rattle.std.proofs.lemmas.Int.{ints, by_lt_z}
-use Rattle.std.proofs.lemmas.List.Kept.{IsStrictlyIncreasing-filter}
 use Rattle.std.specs.List.Sorted.{IsStrictlyIncreasing}
-use Rattle.std.specs.Prelude.{ℤ, pos, neg_ℤ, ◌+ℤ◌, ◌*ℤ◌, ◌≤ℤ◌, ◌<ℤ◌, ◌&&◌, not}
+use Rattle.std.specs.Prelude.{ℤ, pos, neg_ℤ, ◌+ℤ◌, ◌*ℤ◌, ◌≤ℤ◌, ◌<ℤ◌, ◌&&◌, not, filter}
 use Rattle.qh_model.proofs.algebra.Order.{mul-pos_neg, mul-nonpos, negative_le}
 use Rattle.qh_model.proofs.algebra.Signs.{less_differ}
 use Rattle.qh_model.proofs.algebra.VectorIdentities.{dot-minus, left-turn}
@@ -12,7 +11,7 @@ use Rattle.qh_model.proofs.extremes.Dimensions.{triangle_of}
 use Rattle.qh_model.proofs.extremes.ExtremeIds.{members_are_combinations, combination_within, alternative_in, listed_itself}
 use Rattle.qh_model.proofs.hulls.ExtremeParts.{part_set}
 use Rattle.qh_model.proofs.hulls.SameSets.{extremes_of_part}
-use Rattle.qh_model.proofs.lists.Filters.{in_filter, of_filter}
+use Rattle.qh_model.proofs.lists.Filters.{in_filter}
 use Rattle.qh_model.specs.headline.Combination.{Combination}
 use Rattle.qh_model.specs.headline.Dimension.{HasTriangle}
 use Rattle.qh_model.specs.headline.Extreme.{Extreme, Others}
@@ -28,7 +27,7 @@ use Rattle.qh_plane.proofs.polygons.PlanarIds.{flat_of, planar_triangle, two_of_
 use Rattle.qh_plane.proofs.polygons.Turns.{IsFlat, step, left-bracket, left-swap, left-back, left-there}
 use Rattle.qh_plane.specs.contract.PlanarSets.{IsPlanarSet}
 use Rattle.qh_plane.specs.steps.Chains.{is_left, turn_of}
-use Rattle.qh_plane.specs.steps.InnerPlaces.{is_left_along, is_inside, is_outside, IsOuterPart, IsFlatSet}
+use Rattle.qh_plane.specs.steps.InnerPlaces.{is_left_along, is_inside, is_outside, IsFlatSet}
 
 -- ---- triangles
 -- a point in a triangle is not beyond all its corners: a, b and c are how far these lie beyond it
@@ -129,38 +128,35 @@ module _ (n : Vector) (at : ℕ → Vector) (A : ℕ → Type 0) (flat : IsFlat 
       let b = both _ _ h in let it = all t (inl refl) in let iu = all u (inr (inl refl)) in
       no_way turn told t u r it iu (λ x m. all x (inr (inr m))) (told t u it iu b.0) b.1
 
--- ---- what is left of a planar set
-module _ (pts : List Vector) (ids part : List ℕ) (n : Vector) (h : IsPlanarSet pts ids n)
-    (o : IsOuterPart (turn_of pts n) ids part) where
+-- ---- what a cycle of a planar set leaves
+module _ (pts : List Vector) (ids cycle : List ℕ) (n : Vector) (h : IsPlanarSet pts ids n) (within : (i : ℕ) → In i cycle → In i ids) where
+  -- the test that is passed
+  abbrev outside : ℕ → Bool
+  outside = is_outside (turn_of pts n) cycle
+
+  -- an extreme id passes
+  passes : (i : ℕ) → Extreme (place pts) (Members ids) i → outside i ≡ true
+  passes i e = ⊎_elim (λ q. absurd (inner q)) (λ q. ap not q) (cases_Bool (is_inside (turn_of pts n) cycle i))
+    where
+      flat : IsFlat n (place pts) (Members ids)
+      flat = flat_of pts ids n h
+
+      told : (u v : ℕ) → In u ids → In v ids → is_left (turn_of pts n u v i) ≡ true → pos 0 <ℤ left n (place pts u) (place pts v) (place pts i)
+      told u v iu iv q = is_left-yes _ (sym (turns_agree pts n (Members ids) flat u v i iu iv e.0) ∙ q)
+
+      inner : is_inside (turn_of pts n) cycle i ≡ true → ⊥
+      inner q = not_inside n (place pts) (Members ids) flat i e (turn_of pts n) told cycle within q
+
+  -- so it is left
+  pub extreme_left : (i : ℕ) → Extreme (place pts) (Members ids) i → In i (filter outside ids)
+  extreme_left i e = in_filter outside ids i e.0 (passes i e)
+
+-- ---- a part of a planar set with all extreme ids
+module _ (pts : List Vector) (ids part : List ℕ) (n : Vector) (h : IsPlanarSet pts ids n) (rising : IsStrictlyIncreasing part)
+    (within : (i : ℕ) → In i part → In i ids) (extremes : (i : ℕ) → Extreme (place pts) (Members ids) i → In i part) where
   -- the points
   abbrev at : ℕ → Vector
   at = place pts
-
-  -- the test that is passed
-  abbrev outside : ℕ → Bool
-  outside = is_outside (turn_of pts n) o.cycle
-
-  -- the set is flat
-  flat : IsFlat n at (Members ids)
-  flat = flat_of pts ids n h
-
-  -- its ids are of the set
-  within : (i : ℕ) → In i part → In i ids
-  within i m = (of_filter outside ids i (subst (In i) o.is m)).0
-
-  -- an extreme id passes
-  passes : (i : ℕ) → Extreme at (Members ids) i → outside i ≡ true
-  passes i e = ⊎_elim (λ q. absurd (inner q)) (λ q. ap not q) (cases_Bool (is_inside (turn_of pts n) o.cycle i))
-    where
-      told : (u v : ℕ) → In u ids → In v ids → is_left (turn_of pts n u v i) ≡ true → pos 0 <ℤ left n (at u) (at v) (at i)
-      told u v iu iv q = is_left-yes _ (sym (turns_agree pts n (Members ids) flat u v i iu iv e.0) ∙ q)
-
-      inner : is_inside (turn_of pts n) o.cycle i ≡ true → ⊥
-      inner q = not_inside n at (Members ids) flat i e (turn_of pts n) told o.cycle o.within q
-
-  -- so all are of the part
-  extremes : (i : ℕ) → Extreme at (Members ids) i → In i part
-  extremes i e = subst (In i) (sym o.is) (in_filter outside ids i e.0 (passes i e))
 
   -- three of them are not in line
   triangle : HasTriangle at (Members part)
@@ -179,12 +175,14 @@ module _ (pts : List Vector) (ids part : List ℕ) (n : Vector) (h : IsPlanarSet
 
   -- it is flat, too
   pub outer_flat : IsFlatSet pts part n
-  outer_flat = record {
-    set = part_set pts ids part h.set (subst IsStrictlyIncreasing (sym o.is) (IsStrictlyIncreasing-filter outside ids h.set.rising)) within;
-    two = two_of_triangle at part triangle;
-    some = flat.some;
-    even = λ i j mi mj. flat.even i j (within i mi) (within j mj);
-  }
+  outer_flat =
+      let flat = flat_of pts ids n h in
+      record {
+        set = part_set pts ids part h.set rising within;
+        two = two_of_triangle at part triangle;
+        some = flat.some;
+        even = λ i j mi mj. flat.even i j (within i mi) (within j mj);
+      }
 
   -- and has the set's polygon
   pub outer_polygon : (q : List ℕ) → IsPolygon at (Extreme at (Members part)) n q → IsPolygon at (Extreme at (Members ids)) n q

@@ -4,13 +4,17 @@
 //! in a triangle of three ids of it, whatever the cycle is. So it is not extreme, and nothing needs to be
 //! known of the far ids.
 ghost use Rattle.std.specs.Prelude.{◌≡◌, ◌<◌, ℕ, IfOk, IfSome, length, filter};
-ghost use Rattle.qh_model.specs.headline.Sets.{In};
+ghost use Rattle.std.specs.List.Sorted.{IsStrictlyIncreasing};
+ghost use Rattle.qh_model.specs.headline.Extreme.{Extreme};
+ghost use Rattle.qh_model.specs.headline.Predicates.{place};
+ghost use Rattle.qh_model.specs.headline.Sets.{In, Members};
 ghost use Rattle.qh_model.specs.contract.IdSets.{AreIndices};
+ghost use Rattle.qh_plane.specs.contract.PlanarSets.{IsPlanarSet};
 ghost use Rattle.qh_plane.specs.steps.Chains.{turn_of};
-ghost use Rattle.qh_plane.specs.steps.InnerPlaces.{is_inside, is_outside, IsOuterPart};
+ghost use Rattle.qh_plane.specs.steps.InnerPlaces.{is_inside, is_outside};
 
 use crate::chains::turns_left;
-use qh_model::{Id, Point};
+use qh_model::{Id, Memory, Point};
 use qh_pred::{Normal, point_at};
 use std::alloc::{AllocError, Global};
 
@@ -164,17 +168,27 @@ fn holds_most(pts: &[Point], normal: &Normal, ids: &[Id], cycle: &[Id]) -> bool
     held >= parts / 2
 }
 
-/// The ids of a set in one plane but some whose points lie inside, strictly between those of others; none
-/// where no look pays: the set is small, or few points are inside.
+/// The ids of a large set in one plane but some that one look finds inside, strictly between others, in the
+/// order of the set; none where no look pays: the set is small, or few points are inside.
+///
+/// Each id is the index of one of the points. The caller keeps `IsPlanarSet`, as for [`polygon`](crate::polygon):
+/// then what is left has all extreme ids, and so the polygon of the set.
+///
+/// # Errors
+///
+/// `Memory` where memory was refused.
 pub fn outer_ids(
     alloc: Global,
     pts: &[Point],
     normal: &Normal,
     ids: &[Id],
-) -> Result<Option<Vec<Id>>, AllocError>
+) -> Result<Option<Vec<Id>>, Memory>
     requires { AreIndices pts.now ids.now }
     ensures indices { IfOk result (λ found. IfSome found (λ v. AreIndices pts.now v.items)) }
-    ensures part { IfOk result (λ found. IfSome found (λ v. IsOuterPart (turn_of pts.now normal.now) ids.now v.items)) }
+    ensures rising { IfOk result (λ found. IfSome found (λ v. IsStrictlyIncreasing ids.now → IsStrictlyIncreasing v.items)) }
+    ensures within { IfOk result (λ found. IfSome found (λ v. (i : ℕ) → In i v.items → In i ids.now)) }
+    ensures extremes { IfOk result (λ found. IfSome found (λ v. IsPlanarSet pts.now ids.now normal.now
+        → (i : ℕ) → Extreme (place pts.now) (Members ids.now) i → In i v.items)) }
 {
     if ids.len() < MANY {
         return Ok(None);

@@ -18,11 +18,10 @@ mod ranking;
 mod shape;
 mod sorted_points;
 mod sorting;
-#[cfg(test)]
-mod tests;
 
 pub use distinct_points::{distinct, distinct_alone};
 pub use id_lists::rising_ids;
+pub use inner_places::outer_ids;
 pub use planar::polygon;
 pub use ranking::rank;
 pub use shape::Shape;

@@ -2,8 +2,10 @@
 
 mod block;
 mod hull;
+mod ids;
 mod mesh;
 mod model;
+mod plane;
 mod points;
 mod pred;
 mod read;

@@ -1,6 +1,6 @@
 -- Points that a look finds inside a set in one plane, to the left of all sides of a cycle. Only private functions speak
 -- of them.
-use Rattle.std.specs.Prelude.{◌≡◌, ◌<◌, ℕ, ℤ, pos, ◌<ℤ◌, List, [], ◌∷◌, Bool, false, not, ◌&&◌, length, filter}
+use Rattle.std.specs.Prelude.{◌≡◌, ◌<◌, ℕ, ℤ, pos, ◌<ℤ◌, List, [], ◌∷◌, Bool, false, not, ◌&&◌, length}
 use Rattle.qh_model.specs.contract.IdSets.{IsIdSet}
 use Rattle.qh_model.specs.headline.Predicates.{place}
 use Rattle.qh_model.specs.headline.Sets.{In}
@@ -20,12 +20,6 @@ is_inside turn (t ∷ r) p = is_left_along turn p t r t
 -- whether it does not
 abbrev pub is_outside : (ℕ → ℕ → ℕ → ℤ) → List ℕ → ℕ → Bool
 is_outside turn cycle p = not (is_inside turn cycle p)
-
--- the ids that are outside a cycle of some of them
-pub record IsOuterPart (turn : ℕ → ℕ → ℕ → ℤ) (ids part : List ℕ) : Type 0 where
-  pub cycle : List ℕ
-  pub within : (i : ℕ) → In i cycle → In i ids
-  pub is : part ≡ filter (is_outside turn cycle) ids
 
 -- two or more rising ids of distinct points in one plane across n
 pub record IsFlatSet (pts : List Vector) (ids : List ℕ) (n : Vector) : Type 0 where

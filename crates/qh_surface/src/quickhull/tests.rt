@@ -7,14 +7,30 @@ ghost use Rattle.qh_surface.specs.steps.Planes.{plane_at};
 use crate::quickhull::outside_sets::OutsideSets;
 use crate::quickhull::walk::Walk;
 use qh_mesh::{FacetNo, Mesh};
-use qh_model::{Id, Point};
-use qh_pred::Plane;
+use qh_model::{Id, Memory, Point};
+use qh_pred::{Plane, point_at, vol};
 use std::alloc::{AllocError, Global};
+use std::process::Abort;
 use std::test::Fail;
 
 mod cones;
 mod orders;
 mod prisms;
+
+/// A step of outside sets, each of which is named by the place of its facet.
+#[derive(Clone, Copy, Debug, Drop)]
+enum Step {
+    /// Makes room for so many sets, and answers how many there are.
+    Room(u32),
+    /// Puts the first orphan in front of a set, or after its first.
+    Assign(u32, bool),
+    /// Makes the points of a set orphans.
+    Release(u32),
+    /// Takes the first of a set, and answers it.
+    Take(u32),
+    /// Drops the first orphan, and answers it.
+    Drop,
+}
 
 /// Puts the first orphan into the set of a facet, if there are both.
 fn assign(sets: &mut OutsideSets, facet: usize, in_front: bool) {
@@ -46,61 +62,106 @@ fn drop_first(sets: &mut OutsideSets) -> Option<u32> {
     Some(orphan)
 }
 
-#[test]
-fn orphans_join_sets_in_front_or_second(rt: HostRuntime) -> Result<(), Fail> {
-    let mut sets = OutsideSets::new(rt.alloc(), 6)?;
-    assert_eq!(rt; sets.places(), 0usize);
-    sets.make_room(2)?;
-    assert_eq!(rt; sets.places(), 2usize);
-    for (facet, in_front) in [(0, false), (0, true), (0, false), (1, true), (0, true)] {
-        assign(&mut sets, facet, in_front);
+/// Makes room for so many sets, and answers how many there are; none where memory was refused.
+fn make_room(sets: &mut OutsideSets, places: u32) -> Option<u32> {
+    match sets.make_room(places as usize) {
+        Ok(()) => u32::try_from(sets.places()).ok(),
+        Err(Memory) => None,
     }
-    sets.make_room(3)?;
-    assert_eq!(rt; drop_first(&mut sets), Some(5));
-    assert_eq!(rt; drop_first(&mut sets), None);
-    for (facet, want) in [
-        (0, Some(4)),
-        (0, Some(1)),
-        (2, None),
-        (0, Some(2)),
-        (1, Some(3)),
-        (0, Some(0)),
-        (0, None),
-        (1, None),
-    ] {
-        assert_eq!(rt; take(&mut sets, facet), want, "{facet}");
+}
+
+/// What a step answers.
+fn answer(sets: &mut OutsideSets, step: Step) -> Option<u32> {
+    match step {
+        Step::Room(places) => make_room(sets, places),
+        Step::Assign(facet, in_front) => {
+            assign(sets, facet as usize, in_front);
+            None
+        }
+        Step::Release(facet) => {
+            release(sets, facet as usize);
+            None
+        }
+        Step::Take(facet) => take(sets, facet as usize),
+        Step::Drop => drop_first(sets),
+    }
+}
+
+/// Asserts what steps answer, the first of them with so many orphans and no set.
+fn assert_steps<R: AllocGlobal + Abort>(
+    rt: &R,
+    positions: u32,
+    steps: &[(Step, Option<u32>)],
+) -> Result<(), Fail> {
+    let mut sets = OutsideSets::new(rt.alloc(), positions)?;
+    for (step, wanted) in steps {
+        let answer = answer(&mut sets, *step);
+        assert_eq!(rt; answer, *wanted, "{step:?}");
     }
     Ok(())
+}
+
+const JOINED_IN_FRONT_OR_SECOND: [(Step, Option<u32>); 18] = [
+    (Step::Room(0), Some(0)),
+    (Step::Room(2), Some(2)),
+    (Step::Assign(0, false), None),
+    (Step::Assign(0, true), None),
+    (Step::Assign(0, false), None),
+    (Step::Assign(1, true), None),
+    (Step::Assign(0, true), None),
+    (Step::Room(3), Some(3)),
+    (Step::Drop, Some(5)),
+    (Step::Drop, None),
+    (Step::Take(0), Some(4)),
+    (Step::Take(0), Some(1)),
+    (Step::Take(2), None),
+    (Step::Take(0), Some(2)),
+    (Step::Take(1), Some(3)),
+    (Step::Take(0), Some(0)),
+    (Step::Take(0), None),
+    (Step::Take(1), None),
+];
+
+const RELEASED: [(Step, Option<u32>); 17] = [
+    (Step::Room(3), Some(3)),
+    (Step::Assign(0, true), None),
+    (Step::Assign(0, true), None),
+    (Step::Assign(0, false), None),
+    (Step::Assign(2, true), None),
+    (Step::Release(0), None),
+    (Step::Release(1), None),
+    (Step::Release(0), None),
+    (Step::Take(0), None),
+    (Step::Drop, Some(1)),
+    (Step::Drop, Some(2)),
+    (Step::Drop, Some(0)),
+    (Step::Drop, Some(4)),
+    (Step::Drop, None),
+    (Step::Release(2), None),
+    (Step::Drop, Some(3)),
+    (Step::Drop, None),
+];
+
+const NO_POSITIONS: [(Step, Option<u32>); 4] = [
+    (Step::Room(1), Some(1)),
+    (Step::Release(0), None),
+    (Step::Drop, None),
+    (Step::Take(0), None),
+];
+
+#[test]
+fn orphans_join_sets_in_front_or_second(rt: HostRuntime) -> Result<(), Fail> {
+    assert_steps(&rt, 6, &JOINED_IN_FRONT_OR_SECOND)
 }
 
 #[test]
 fn released_points_are_orphans(rt: HostRuntime) -> Result<(), Fail> {
-    let mut sets = OutsideSets::new(rt.alloc(), 5)?;
-    sets.make_room(3)?;
-    for (facet, in_front) in [(0, true), (0, true), (0, false), (2, true)] {
-        assign(&mut sets, facet, in_front);
-    }
-    for facet in [0, 1, 0] {
-        release(&mut sets, facet);
-    }
-    assert_eq!(rt; take(&mut sets, 0), None);
-    for want in [Some(1), Some(2), Some(0), Some(4), None] {
-        assert_eq!(rt; drop_first(&mut sets), want);
-    }
-    release(&mut sets, 2);
-    assert_eq!(rt; drop_first(&mut sets), Some(3));
-    assert_eq!(rt; drop_first(&mut sets), None);
-    Ok(())
+    assert_steps(&rt, 5, &RELEASED)
 }
 
 #[test]
 fn no_positions_make_no_orphans(rt: HostRuntime) -> Result<(), Fail> {
-    let mut sets = OutsideSets::new(rt.alloc(), 0)?;
-    sets.make_room(1)?;
-    release(&mut sets, 0);
-    assert_eq!(rt; drop_first(&mut sets), None);
-    assert_eq!(rt; take(&mut sets, 0), None);
-    Ok(())
+    assert_steps(&rt, 0, &NO_POSITIONS)
 }
 
 /// The plane of three points.
@@ -159,10 +220,73 @@ fn rising(alloc: Global, facets: &[FacetNo]) -> Result<Vec<usize>, AllocError> {
     Ok(numbers)
 }
 
-#[test]
-fn walk_finds_what_the_apex_sees(rt: HostRuntime) -> Result<(), Fail> {
-    let alloc = rt.alloc();
-    let pts = [
+/// Whether a walk from each of the facets that an apex sees finds all of them, and no other.
+fn finds_all(
+    alloc: Global,
+    walk: &mut Walk,
+    mesh: &Mesh,
+    planes: &[Plane],
+    seen: &[FacetNo],
+    apex: Point,
+) -> Result<bool, Memory>
+    requires room { length mesh.now ≤ length planes.now }
+    requires seen { All (λ f. IsLive mesh.now f × (pos 0 <ℤ height (plane_at planes.now f) apex)) seen.now }
+{
+    let wanted = rising(alloc, seen)?;
+    for start in seen {
+        walk.find(mesh, planes, *start, apex)?;
+        if rising(alloc, walk.visible())?.as_slice() != wanted.as_slice() {
+            return Ok(false);
+        }
+    }
+    Ok(true)
+}
+
+/// The cone of an apex takes the place of the facets that it sees. How many these are; none where a walk finds
+/// others.
+fn add(
+    alloc: Global,
+    walk: &mut Walk,
+    mesh: &mut Mesh,
+    pts: &[Point],
+    apex: Id,
+) -> Result<Option<usize>, Memory> {
+    let Some(point) = pts.get(apex.index()) else {
+        return Ok(None);
+    };
+    let planes = planes_of(alloc, mesh, pts)?;
+    let seen = seen_by(alloc, mesh, &planes, *point)?;
+    if !finds_all(alloc, walk, mesh, &planes, &seen, *point)? {
+        return Ok(None);
+    }
+    if let Some(start) = seen.first() {
+        walk.find(mesh, &planes, *start, *point)?;
+        let _cone = mesh.replace(alloc, pts, walk.visible(), apex)?;
+    }
+    Ok(Some(seen.len()))
+}
+
+/// The simplex of the first four points. `Err` says that memory was refused, or that they are in one plane.
+fn first_simplex(alloc: Global, pts: &[Point]) -> Result<Mesh, Memory> {
+    let (a, b, c, d) = (Id::new(0), Id::new(1), Id::new(2), Id::new(3));
+    if pts.len() < 4 {
+        return Err(Memory);
+    }
+    let volume = vol(
+        point_at(pts, a),
+        point_at(pts, b),
+        point_at(pts, c),
+        point_at(pts, d),
+    );
+    if volume == 0 {
+        return Err(Memory);
+    }
+    Mesh::simplex(alloc, pts, a, b, c, d)
+}
+
+/// The points, of which each after the fourth is outside the hull of those before it, or on it.
+fn points() -> [Point; 12] {
+    [
         Point::new(0, 0, 0),
         Point::new(10, 0, 0),
         Point::new(0, 10, 0),
@@ -175,9 +299,14 @@ fn walk_finds_what_the_apex_sees(rt: HostRuntime) -> Result<(), Fail> {
         Point::new(20, 0, 0),
         Point::new(100, 100, 100),
         Point::new(-1, -1, -1),
-    ];
-    let mut mesh = Mesh::simplex(alloc, &pts, Id::new(0), Id::new(1), Id::new(2), Id::new(3))?;
-    let mut walk = Walk::new(alloc);
+    ]
+}
+
+#[test]
+fn walk_finds_what_the_apex_sees(rt: HostRuntime) -> Result<(), Fail> {
+    let pts = points();
+    let mut mesh = first_simplex(rt.alloc(), &pts)?;
+    let mut walk = Walk::new(rt.alloc());
     // At 7 and 9 there are facets whose plane the apex is on.
     for (apex, count) in [
         (4, 1),
@@ -189,23 +318,8 @@ fn walk_finds_what_the_apex_sees(rt: HostRuntime) -> Result<(), Fail> {
         (10, 3),
         (11, 5),
     ] {
-        let id = Id::new(apex);
-        let Some(point) = pts.get(id.index()) else {
-            return Ok(());
-        };
-        let planes = planes_of(alloc, &mesh, &pts)?;
-        let seen = seen_by(alloc, &mesh, &planes, *point)?;
-        let want = rising(alloc, &seen)?;
-        assert_eq!(rt; seen.len(), count, "{apex}");
-        for start in &seen {
-            walk.find(&mesh, &planes, *start, *point)?;
-            let found = rising(alloc, walk.visible())?;
-            assert_eq!(rt; found.as_slice(), want.as_slice(), "{apex}");
-        }
-        if let Some(start) = seen.first() {
-            walk.find(&mesh, &planes, *start, *point)?;
-            let _cone = mesh.replace(alloc, &pts, walk.visible(), id)?;
-        }
+        let seen = add(rt.alloc(), &mut walk, &mut mesh, &pts, Id::new(apex))?;
+        assert_eq!(rt; seen, Some(count), "{apex}");
     }
     Ok(())
 }

@@ -1,5 +1,6 @@
 //! Rows of sets in a point, a line and a plane.
 
+use crate::tests::ids::are;
 use crate::tests::points::{point, square};
 use qh_block::{extremes, hull};
 use qh_model::{Body, Id, Memory, POINT_LIMIT, Point};
@@ -9,6 +10,7 @@ use std::process::Abort;
 use std::test::Fail;
 use std::thread::Threads;
 
+mod face_order;
 mod looks;
 mod refusals;
 mod solid_rows;
@@ -35,15 +37,6 @@ const TURNED_SQUARE: Row<'static> = Row {
     faces: &[&[0, 3, 2, 1]],
     ..SQUARE
 };
-
-/// Whether the ids have these numbers.
-fn are(ids: &[Id], numbers: &[u32]) -> bool {
-    ids.len() == numbers.len()
-        && ids
-            .iter()
-            .zip(numbers)
-            .all(|(id, number)| id.number() == *number)
-}
 
 /// Whether a body is that of a row.
 fn is(body: &Body, row: &Row) -> bool {

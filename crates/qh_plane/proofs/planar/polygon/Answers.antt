@@ -1,9 +1,13 @@
 -- The polygon of three or four ids by their turns, of more by their corners, of many without those inside.
+use Rattle.std.proofs.Common.{ℕ}
+use Rattle.std.specs.List.Sorted.{IsStrictlyIncreasing}
+use Rattle.qh_model.specs.headline.Extreme.{Extreme}
+use Rattle.qh_model.specs.headline.Predicates.{place}
+use Rattle.qh_model.specs.headline.Sets.{In, Members}
+use Rattle.qh_plane.specs.contract.PlanarSets.{IsPlanarSet}
 use Rattle.qh_plane.proofs.InnerPlaces.{planar_flat, outer_flat, outer_polygon}
 use Rattle.qh_plane.proofs.polygons.Quadrilateral.{polygon_of_four}
 use Rattle.qh_plane.proofs.polygons.Triangle.{polygon_of_three}
-use Rattle.qh_plane.specs.steps.Chains.{turn_of}
-use Rattle.qh_plane.specs.steps.InnerPlaces.{IsOuterPart}
 use Rattle.qh_plane.proofs.planar.polygon.Goals as goal
 
 pub returns-then-ids-eq3 : goal.returns-then-ids-eq3
@@ -23,9 +27,13 @@ returns-in-Some c = λ h.
 pub returns-in_ok-corners-in-Some-2 : goal.returns-in_ok-corners-in-Some-2
 returns-in_ok-corners-in-Some-2 c = λ h.
     let pts = c.args.pts.now in let ids = c.args.ids.now in let n = c.args.normal.now in let outer = c.in-Some-2.outer.items in
-    let part : IsOuterPart (turn_of pts n) ids outer = rw c.in-Some-2.is at c.in_ok-outer.ensures.part in
+    let some = c.in-Some-2.is in let left = c.in_ok-outer.ensures in
+    let rising : IsStrictlyIncreasing ids → IsStrictlyIncreasing outer = rw some at left.rising in
+    let within : (i : ℕ) → In i outer → In i ids = rw some at left.within in
+    let extremes : IsPlanarSet pts ids n → (i : ℕ) → Extreme (place pts) (Members ids) i → In i outer = rw some at left.extremes in
     let corners = c.in_ok-corners-in-Some-2 in let found = rw c.deref.ensures.value at corners.ensures in
-    rw c.of-in-Some-2.ensures (outer_polygon pts ids outer n h part corners.field-0.items (found (outer_flat pts ids outer n h part)))
+    let flat = outer_flat pts ids outer n h (rising h.set.rising) within (extremes h) in
+    rw c.of-in-Some-2.ensures (outer_polygon pts ids outer n h (rising h.set.rising) within (extremes h) corners.field-0.items (found flat))
 
 pub returns-in_ok-corners-in-None : goal.returns-in_ok-corners-in-None
 returns-in_ok-corners-in-None c = λ h.

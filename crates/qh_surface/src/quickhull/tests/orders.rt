@@ -1,46 +1,97 @@
 //! Along an axis the points of the curve rise, from the least coordinate to the greatest.
+ghost use Rattle.std.specs.Prelude.{IfOk};
+ghost use Rattle.qh_model.specs.contract.IdSets.{AreIndices};
+
 use super::cones::point;
 use crate::quickhull::ends::ends_of;
 use crate::quickhull::near_order::near_order;
-use qh_model::{COORDINATE_LIMIT, Id};
+use qh_model::{COORDINATE_LIMIT, Id, Memory, Point};
+use std::alloc::Global;
 use std::test::Fail;
 
 const LIMIT: i32 = COORDINATE_LIMIT as i32;
 
+/// Whether the ids have these numbers.
+fn are(ids: &[Id], numbers: &[u32]) -> bool {
+    ids.len() == numbers.len()
+        && ids
+            .iter()
+            .zip(numbers)
+            .all(|(id, number)| id.number() == *number)
+}
+
+/// The ids with those of the numbers that are indices of the points.
+fn ids_of(alloc: Global, pts: &[Point], numbers: &[u32]) -> Result<Vec<Id>, Memory>
+    ensures { IfOk result (λ v. AreIndices pts.now v.items) }
+{
+    let mut ids = Vec::new(alloc);
+    for number in numbers {
+        if (*number as usize) < pts.len() {
+            ids.push(Id::new(*number))?;
+        }
+    }
+    Ok(ids)
+}
+
+/// The ends of some of the points along the axes; none where there are no points.
+fn ends_among(alloc: Global, pts: &[Point], numbers: &[u32]) -> Result<Option<[Id; 6]>, Memory> {
+    let ids = ids_of(alloc, pts, numbers)?;
+    if ids.is_empty() {
+        return Ok(None);
+    }
+    Ok(Some(ends_of(pts, &ids)))
+}
+
+/// Some of the points in their order along the curve.
+fn ordered(alloc: Global, pts: &[Point], numbers: &[u32]) -> Result<Vec<Id>, Memory> {
+    let ids = ids_of(alloc, pts, numbers)?;
+    if ids.is_empty() {
+        return Ok(ids);
+    }
+    near_order(alloc, pts, &ids, &ends_of(pts, &ids))
+}
+
+/// A place on an axis. The point opposite it comes first, the middle of both then.
+const ON_AXES: [(i32, i32, i32); 7] = [
+    (3, 0, 0),
+    (1048576, 0, 0),
+    (0, 1048576, 0),
+    (0, 0, 1048577),
+    (LIMIT, 0, 0),
+    (0, LIMIT, 0),
+    (0, 0, LIMIT),
+];
+
 #[test]
 fn ends_are_least_and_greatest(rt: HostRuntime) -> Result<(), Fail> {
-    let ids = [Id::new(0), Id::new(1), Id::new(2)];
-    let middle = point(0, 0, 0);
-    for pts in [
-        [point(3, 0, 0), point(-3, 0, 0), middle],
-        [point(1048576, 0, 0), point(-1048576, 0, 0), middle],
-        [point(0, 1048576, 0), point(0, -1048576, 0), middle],
-        [point(0, 0, 1048577), point(0, 0, -1048577), middle],
-        [point(LIMIT, 0, 0), point(-LIMIT, 0, 0), middle],
-        [point(0, LIMIT, 0), point(0, -LIMIT, 0), middle],
-        [point(0, 0, LIMIT), point(0, 0, -LIMIT), middle],
-    ] {
-        let order = near_order(rt.alloc(), &pts, &ids, &ends_of(&pts, &ids))?;
-        let want = [Id::new(1), Id::new(2), Id::new(0)];
-        assert_eq!(rt; order.as_slice(), want.as_slice(), "{pts:?}");
+    for (x, y, z) in ON_AXES {
+        let opposite = point(x.wrapping_neg(), y.wrapping_neg(), z.wrapping_neg());
+        let pts = [point(x, y, z), opposite, point(0, 0, 0)];
+        let order = ordered(rt.alloc(), &pts, &[0, 1, 2])?;
+        assert!(rt; are(&order, &[1, 2, 0]), "{pts:?}");
     }
     Ok(())
 }
 
+/// Points of which several have the least or the greatest coordinate along an axis.
+const WITH_EQUAL_ENDS: [(i32, i32, i32); 6] = [
+    (0, 0, 0),
+    (-LIMIT, 5, 1),
+    (LIMIT, -5, 1),
+    (-LIMIT, LIMIT, -7),
+    (1, -LIMIT, LIMIT),
+    (LIMIT, LIMIT, -LIMIT),
+];
+
 #[test]
 fn ends_are_first_ids_of_least_and_greatest(rt: HostRuntime) -> Result<(), Fail> {
-    let pts = [
-        point(0, 0, 0),
-        point(-LIMIT, 5, 1),
-        point(LIMIT, -5, 1),
-        point(-LIMIT, LIMIT, -7),
-        point(1, -LIMIT, LIMIT),
-        point(LIMIT, LIMIT, -LIMIT),
-    ];
-    let ids = [0, 1, 2, 3, 4, 5].map(Id::new);
-    let want = [1, 2, 4, 3, 5, 4].map(Id::new);
-    assert_eq!(rt; ends_of(&pts, &ids), want, "all");
-    let one = [Id::new(3)];
-    assert_eq!(rt; ends_of(&pts, &one), [Id::new(3); 6], "one");
+    let pts = WITH_EQUAL_ENDS.map(|(x, y, z)| point(x, y, z));
+    for (numbers, wanted) in [
+        ([0, 1, 2, 3, 4, 5].as_slice(), [1, 2, 4, 3, 5, 4]),
+        (&[3], [3; 6]),
+    ] {
+        let ends = ends_among(rt.alloc(), &pts, numbers)?.ok_or("no points")?;
+        assert!(rt; are(&ends, &wanted), "{ends:?}");
+    }
     Ok(())
 }

@@ -2,7 +2,8 @@
 //! call gives it. `scripts/refusals.py` refuses each growth in turn.
 use super::solid_rows::{CUBE, OCTAHEDRON};
 use super::surfaces::{is_surface, solid_surface, triangles};
-use super::{Row, SQUARE, are, hull_of, is};
+use super::{Row, SQUARE, hull_of, is};
+use crate::tests::ids::are;
 use crate::tests::points::{cube, octahedron, square};
 use qh_model::{Body, Id, Memory, Point};
 use std::alloc::{AllocError, Global};

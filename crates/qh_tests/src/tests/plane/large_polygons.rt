@@ -1,14 +1,18 @@
 //! Rows of a large grid in planes across each axis and in a slanted one: its inner points go before the sort, and its
 //! polygon has the corners, and a point outside one of the sides.
-use crate::inner_places::outer_ids;
-use crate::{distinct_alone, polygon};
-use qh_model::{Id, Memory, Point, Polygon};
+use crate::tests::ids::assert_ids;
+use qh_model::{Memory, Point, Polygon};
+use qh_plane::{distinct_alone, outer_ids, polygon};
 use qh_pred::{Normal, cross};
 use std::alloc::Global;
+use std::process::Abort;
 use std::test::Fail;
 
-/// Grids with 70 points on each side: in a plane across each axis, and in a slanted one.
-fn grids() -> [[Point; 4900]; 4] {
+/// A grid with 70 points on each side.
+type Grid = [Point; 4900];
+
+/// Grids in a plane across each axis, and in a slanted one.
+fn grids() -> [Grid; 4] {
     let mut grids = [[Point::new(0, 0, 0); 4900]; 4];
     for number in 0..4900usize {
         let (x, y) = ((number % 70) as i32, (number / 70) as i32);
@@ -21,19 +25,19 @@ fn grids() -> [[Point; 4900]; 4] {
 }
 
 /// The slanted grid, of which one inner point is moved to another place of the plane, outside a side.
-pub fn grid_with_point_outside() -> [Point; 4900] {
+pub fn grid_with_point_outside() -> Grid {
     let [_, _, _, mut grid] = grids();
     grid[2450] = Point::new(35, -1, 34);
     grid
 }
 
 /// The normal from whose side rows of a grid are seen one above the other.
-pub fn normal_of(grid: &[Point; 4900]) -> Normal {
+pub fn normal_of(grid: &Grid) -> Normal {
     cross(grid[0], grid[69], grid[4899])
 }
 
 /// How many ids a look leaves.
-fn left_of(alloc: Global, grid: &[Point; 4900], normal: &Normal) -> Result<usize, Memory> {
+fn left_of(alloc: Global, grid: &Grid, normal: &Normal) -> Result<usize, Memory> {
     let ids = distinct_alone(alloc, grid)?;
     match outer_ids(alloc, grid, normal, &ids)? {
         Some(outer) => Ok(outer.len()),
@@ -42,19 +46,40 @@ fn left_of(alloc: Global, grid: &[Point; 4900], normal: &Normal) -> Result<usize
 }
 
 /// The polygon of a grid.
-pub fn polygon_of(alloc: Global, grid: &[Point; 4900], normal: &Normal) -> Result<Polygon, Memory> {
+pub fn polygon_of(alloc: Global, grid: &Grid, normal: &Normal) -> Result<Polygon, Memory> {
     let ids = distinct_alone(alloc, grid)?;
     polygon(alloc, grid, &ids, normal)
+}
+
+/// Asserts that a look from a side leaves few ids of a grid.
+fn assert_few_left<R: AllocGlobal + Abort>(
+    rt: &R,
+    grid: &Grid,
+    normal: &Normal,
+) -> Result<(), Fail> {
+    let left = left_of(rt.alloc(), grid, normal)?;
+    assert!(rt; left < 1000, "{left}");
+    Ok(())
+}
+
+/// Asserts what the polygon of a grid is, seen from a side.
+fn assert_polygon<R: AllocGlobal + Abort>(
+    rt: &R,
+    grid: &Grid,
+    normal: &Normal,
+    wanted: &[u32],
+) -> Result<(), Fail> {
+    let corners = polygon_of(rt.alloc(), grid, normal)?;
+    assert_ids(rt, corners.ids(), wanted);
+    Ok(())
 }
 
 #[test]
 fn inner_points_go(rt: HostRuntime) -> Result<(), Fail> {
     for grid in grids() {
         let normal = normal_of(&grid);
-        let above = left_of(rt.alloc(), &grid, &normal).expect(&rt, "memory");
-        assert!(rt; above < 1000);
-        let below = left_of(rt.alloc(), &grid, &normal.opposite()).expect(&rt, "memory");
-        assert!(rt; below < 1000);
+        assert_few_left(&rt, &grid, &normal)?;
+        assert_few_left(&rt, &grid, &normal.opposite())?;
     }
     Ok(())
 }
@@ -63,12 +88,8 @@ fn inner_points_go(rt: HostRuntime) -> Result<(), Fail> {
 fn corners_of_large_grids(rt: HostRuntime) -> Result<(), Fail> {
     for grid in grids() {
         let normal = normal_of(&grid);
-        let above = polygon_of(rt.alloc(), &grid, &normal).expect(&rt, "memory");
-        let forth = [Id::new(0), Id::new(69), Id::new(4899), Id::new(4830)];
-        assert_eq!(rt; above.ids(), forth.as_slice());
-        let below = polygon_of(rt.alloc(), &grid, &normal.opposite()).expect(&rt, "memory");
-        let back = [Id::new(0), Id::new(4830), Id::new(4899), Id::new(69)];
-        assert_eq!(rt; below.ids(), back.as_slice());
+        assert_polygon(&rt, &grid, &normal, &[0, 69, 4899, 4830])?;
+        assert_polygon(&rt, &grid, &normal.opposite(), &[0, 4830, 4899, 69])?;
     }
     Ok(())
 }
@@ -76,14 +97,5 @@ fn corners_of_large_grids(rt: HostRuntime) -> Result<(), Fail> {
 #[test]
 fn point_outside_a_large_grid(rt: HostRuntime) -> Result<(), Fail> {
     let grid = grid_with_point_outside();
-    let corners = polygon_of(rt.alloc(), &grid, &normal_of(&grid)).expect(&rt, "memory");
-    let expected = [
-        Id::new(0),
-        Id::new(2450),
-        Id::new(69),
-        Id::new(4899),
-        Id::new(4830),
-    ];
-    assert_eq!(rt; corners.ids(), expected.as_slice());
-    Ok(())
+    assert_polygon(&rt, &grid, &normal_of(&grid), &[0, 2450, 69, 4899, 4830])
 }

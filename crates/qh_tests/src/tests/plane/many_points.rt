@@ -1,9 +1,28 @@
 //! Rows of many points: in one line, and spread over a plane. In some each point comes again after a period.
 ghost use Rattle.std.specs.Prelude.{◌<◌};
 
-use crate::{distinct, distinct_alone};
+use super::distinct_ids;
 use qh_model::Point;
+use std::process::Abort;
 use std::test::Fail;
+use std::thread::Threads;
+
+/// After how many points they come again, the position of a point that is moved, and where to; then how many distinct
+/// ids there are, and the last of them.
+type Row = (usize, usize, Point, usize, u32);
+
+/// Asserts how many distinct ids points have, and which is the last.
+fn assert_distinct<R: AllocGlobal + Abort + Threads + Sync>(
+    rt: &R,
+    pts: &[Point],
+    count: usize,
+    last: u32,
+) -> Result<(), Fail> {
+    let ids = distinct_ids(rt, rt.alloc(), pts)?.ok_or("other ids alone")?;
+    let told = (ids.len(), ids.last().map(|id| id.number()));
+    assert_eq!(rt; told, (count, Some(last)));
+    Ok(())
+}
 
 /// The number below 5000, less the period where it is not below that.
 fn place_of(number: usize, period: usize) -> usize
@@ -46,7 +65,7 @@ fn lines_with(period: usize, position: usize, moved: Point) -> [Point; 5000] {
 /// and all points twice.
 #[test]
 fn points_in_line(rt: HostRuntime) -> Result<(), Fail> {
-    let rows = [
+    let rows: [Row; 7] = [
         (5000, 4999, Point::new(4998, -4998, 0), 4999, 4998),
         (5000, 10, Point::new(3, -3, 0), 4999, 4999),
         (5000, 3, Point::new(10, -10, 0), 4999, 4999),
@@ -56,12 +75,7 @@ fn points_in_line(rt: HostRuntime) -> Result<(), Fail> {
         (2500, 0, Point::new(0, 0, 0), 2500, 2499),
     ];
     for (period, position, moved, count, last) in rows {
-        let pts = line_with(period, position, moved);
-        let ids = distinct(&rt, rt.alloc(), &pts).expect(&rt, "memory");
-        assert_eq!(rt; ids.len(), count);
-        assert_eq!(rt; ids.last().map(|id| id.number()), Some(last));
-        let alone = distinct_alone(rt.alloc(), &pts).expect(&rt, "memory");
-        assert_eq!(rt; alone.as_slice(), ids.as_slice());
+        assert_distinct(&rt, &line_with(period, position, moved), count, last)?;
     }
     Ok(())
 }
@@ -71,7 +85,7 @@ fn points_in_line(rt: HostRuntime) -> Result<(), Fail> {
 /// to where no point is, though its hash is that of the other, of a pair before it, and of a pair behind it.
 #[test]
 fn points_of_a_plane(rt: HostRuntime) -> Result<(), Fail> {
-    let rows = [
+    let rows: [Row; 10] = [
         (5000, 4999, Point::new(1999200, 0, 0), 4999, 4998),
         (5000, 10, Point::new(1200, 900000, 0), 4999, 4999),
         (5000, 3, Point::new(4000, 900000, 0), 4999, 4999),
@@ -84,12 +98,7 @@ fn points_of_a_plane(rt: HostRuntime) -> Result<(), Fail> {
         (2500, 3, Point::new(14193, 903438, -5042), 2501, 2503),
     ];
     for (period, position, moved, count, last) in rows {
-        let pts = lines_with(period, position, moved);
-        let ids = distinct(&rt, rt.alloc(), &pts).expect(&rt, "memory");
-        assert_eq!(rt; ids.len(), count);
-        assert_eq!(rt; ids.last().map(|id| id.number()), Some(last));
-        let alone = distinct_alone(rt.alloc(), &pts).expect(&rt, "memory");
-        assert_eq!(rt; alone.as_slice(), ids.as_slice());
+        assert_distinct(&rt, &lines_with(period, position, moved), count, last)?;
     }
     Ok(())
 }

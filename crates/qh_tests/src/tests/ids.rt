@@ -1,0 +1,34 @@
+//! Ids and their numbers.
+ghost use Rattle.std.specs.Prelude.{IfOk};
+ghost use Rattle.qh_model.specs.contract.IdSets.{AreIndices};
+
+use qh_model::{Id, Memory, Point};
+use std::alloc::Global;
+use std::process::Abort;
+
+/// Whether the ids have these numbers.
+pub fn are(ids: &[Id], numbers: &[u32]) -> bool {
+    ids.len() == numbers.len()
+        && ids
+            .iter()
+            .zip(numbers)
+            .all(|(id, number)| id.number() == *number)
+}
+
+/// Asserts that the ids have these numbers.
+pub fn assert_ids<R: Abort>(rt: &R, ids: &[Id], numbers: &[u32]) {
+    assert!(rt; are(ids, numbers), "{ids:?} and {numbers:?}");
+}
+
+/// The ids with those of the numbers that are indices of the points.
+pub fn ids_of(alloc: Global, pts: &[Point], numbers: &[u32]) -> Result<Vec<Id>, Memory>
+    ensures { IfOk result (λ v. AreIndices pts.now v.items) }
+{
+    let mut ids = Vec::new(alloc);
+    for number in numbers {
+        if (*number as usize) < pts.len() {
+            ids.push(Id::new(*number))?;
+        }
+    }
+    Ok(ids)
+}
