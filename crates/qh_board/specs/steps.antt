@@ -1,6 +1,5 @@
--- What private clauses speak of: the seats at the table, the rule that holds between any two steps, and what the tests reduce.
+-- What private clauses speak of: the seats at the table, and the rule that holds between any two steps.
 pub mod Views
 pub mod Seats
 pub mod Shown
 pub mod Rule
-pub mod Rising

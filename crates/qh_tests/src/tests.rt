@@ -1,6 +1,7 @@
 //! The tests of each library.
 
 mod block;
+mod board;
 mod hull;
 mod ids;
 mod mesh;

@@ -1,5 +1,5 @@
 use Rattle.std.proofs.Common.{◌+◌, ◌*◌, length}
-use Rattle.qh_board.proofs.tests.runs.+fn-work_side_by_side-join+arg2+fn-work_side_by_side-join+arg3+work_side_by_side.Given as goal
+use Rattle.qh_tests.proofs.tests.board.runs.+fn-work_side_by_side-join+arg2+fn-work_side_by_side-join+arg3+work_side_by_side.Given as goal
 
 abbrev pub decreases-join+arg2 : goal.decreases-join+arg2
 decreases-join+arg2 g l = 2 * length l.passes.items + 1

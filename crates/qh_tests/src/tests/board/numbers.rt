@@ -1,15 +1,15 @@
 //! What the tests reduce: the rising lists of the numbers of blocks.
 ghost use Rattle.std.specs.Prelude.{◌≡◌, ◌+◌, ◌*◌, [], ◌∷◌, ◌<◌, ℕ, IfOk};
 ghost use Rattle.qh_model.specs.contract.BoardMachine.{InSpan};
-ghost use Rattle.qh_board.specs.steps.Rising.{IsRisingListOf};
+ghost use Rattle.qh_tests.specs.Rising.{IsRisingListOf};
 
-use crate::Spans;
+use qh_board::Spans;
 use std::alloc::{AllocError, Global};
 
-/// The value of blocks is the rising list of their numbers, which begin with the first.
+/// The value of blocks is the rising list of their numbers. So many blocks there are.
 #[derive(Drop)]
 pub struct Numbers {
-    pub first: u32,
+    pub blocks: u32,
 }
 
 impl Spans for Numbers {

@@ -1,6 +1,6 @@
 use Rattle.std.proofs.Common.{◌≡◌, ◌-◌, false}
 use Rattle.qh_board.specs.contract.Tokens.{IsOf}
-use Rattle.qh_board.proofs.tests.passes.work_but.Given as goal
+use Rattle.qh_tests.proofs.tests.board.passes.work_but.Given as goal
 
 abbrev pub invariant-loop-over : goal.invariant-loop-over
 invariant-loop-over l = record {

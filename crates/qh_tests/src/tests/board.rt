@@ -1,0 +1,62 @@
+//! Boards worked by one pass and by several. What they reduce are the rising lists of their blocks.
+ghost use Rattle.std.specs.Prelude.{◌≡◌};
+ghost use Rattle.qh_board.specs.contract.Closings.{closed_setup};
+
+use numbers::Numbers;
+use qh_board::{Closed, Mark};
+use std::process::Abort;
+
+mod numbers;
+mod passes;
+mod refusals;
+mod rows;
+mod runs;
+
+/// How many numbers a list has; none where they are not those from 0 on.
+fn counted(list: &[u32]) -> Option<usize> {
+    for (number, place) in list.iter().zip(0u32..) {
+        if *number != place {
+            return None;
+        }
+    }
+    Some(list.len())
+}
+
+/// What came out at the root, if something did, as `counted` has it.
+fn counted_root(closed: Closed<Numbers>) -> Option<Option<usize>> {
+    match closed.into_root() {
+        Some(root) => Some(counted(&root)),
+        None => None,
+    }
+}
+
+/// How many passes of a board left.
+fn passes_left(closed: &Closed<Numbers>, passes: u32) -> u32
+    requires { (closed_setup closed.now).passes ≡ passes }
+{
+    let mut left = 0u32;
+    for pass in 0..passes {
+        if closed.mark(pass) == Mark::Left {
+            left = left.saturating_add(1);
+        }
+    }
+    left
+}
+
+/// Blocks and passes, with how many claims and how many steps the passes make.
+type Row = (u32, u32, u64, u64);
+
+/// Wants all passes to have left, after the row's claims and steps, and all blocks at the root.
+///
+/// The steps are what the passes met, each a claim, an arrival or the root's publication, and the end
+/// of each pass.
+fn assert_joined<R: Abort>(rt: &R, closed: Closed<Numbers>, met: usize, row: Row)
+    requires { (closed_setup closed).passes ≡ row.1 }
+{
+    let (blocks, passes, claims, steps) = row;
+    let left = passes_left(&closed, passes);
+    let made = (met as u64).saturating_add(left as u64);
+    let found = (closed.claims(), made, left, counted_root(closed));
+    let want = (claims, steps, passes, Some(Some(blocks as usize)));
+    assert_eq!(rt; found, want, "{blocks} blocks");
+}

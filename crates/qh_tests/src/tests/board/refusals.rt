@@ -1,0 +1,35 @@
+//! Boards of which one growth is refused: their passes meet what they should, or memory was wanted and
+//! the same calls give it. `scripts/refusals.py` refuses each growth in turn.
+ghost use Rattle.std.specs.Prelude.{◌≡◌, IfOk};
+ghost use Rattle.qh_board.specs.contract.Closings.{closed_setup};
+
+use super::assert_joined;
+use super::numbers::Numbers;
+use super::passes::{Met, run};
+use qh_board::{BoardError, Closed};
+use std::alloc::Global;
+use std::test::Fail;
+
+/// A board all of whose passes were worked to their end, made again where memory was refused.
+fn run_again(
+    alloc: Global,
+    blocks: u32,
+    passes: u32,
+) -> Result<(Closed<Numbers>, Vec<Met>), BoardError>
+    ensures { IfOk result (λ r. (closed_setup r.0).passes ≡ passes) }
+{
+    match run(alloc, blocks, passes) {
+        Err(BoardError::Memory) => run(alloc, blocks, passes),
+        worked => worked,
+    }
+}
+
+#[test]
+fn tries_again(rt: HostRuntime) -> Result<(), Fail> {
+    for row in [(7, 2, 9, 24), (1, 64, 65, 130), (6, 1, 7, 19)] {
+        let (blocks, passes, _, _) = row;
+        let (closed, met) = run_again(rt.alloc(), blocks, passes)?;
+        assert_joined(&rt, closed, met.len(), row);
+    }
+    Ok(())
+}

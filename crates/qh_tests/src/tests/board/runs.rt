@@ -1,0 +1,179 @@
+//! Many boards, worked by passes side by side, some of which give up.
+ghost use Rattle.std.specs.Prelude.{◌≡◌, ◌<◌, ◌++◌, IfOk, All, false, length};
+ghost use Rattle.std.specs.Thread.{IsSync};
+ghost use Rattle.qh_board.specs.contract.Closings.{closed_setup};
+ghost use Rattle.qh_board.specs.contract.Tokens.{IsOf};
+
+use super::numbers::Numbers;
+use super::passes::{Met, work_but};
+use super::{counted, counted_root, passes_left};
+use qh_board::{Board, BoardError, Closed, Left, Pass};
+use std::alloc::{AllocError, Global};
+use std::process::Abort;
+use std::test::Fail;
+use std::thread::{Threads, join};
+
+/// How many boards are run: `scripts/board_runs.sh` runs more of them.
+const RUNS: u32 = 200;
+
+/// Passes that have ended, and what they met.
+#[derive(Drop)]
+struct Ended {
+    lefts: Vec<Left<Numbers>>,
+    met: Vec<Met>,
+}
+
+/// Works the last pass of a list, if it has one, to its end.
+fn work_last(
+    alloc: Global,
+    board: &Board<Numbers>,
+    passes: Vec<Pass<Numbers>>,
+    gives_up_at: Option<u32>,
+) -> Result<Ended, AllocError>
+    requires few { length passes.items < 2 }
+    requires board { All (IsOf board.now) passes.items }
+    requires going { All (λ p. p.pass.over ≡ false) passes.items }
+    requires blocks { board.now.setup.spans.blocks ≡ board.now.setup.blocks }
+    ensures { IfOk result (λ e. (length e.lefts.items ≡ length passes.items) × All (IsOf board.now) e.lefts.items) }
+{
+    let mut passes = passes;
+    let mut lefts = Vec::with_capacity(alloc, 1)?;
+    let mut met = Vec::new(alloc);
+    if let Some(pass) = passes.pop() {
+        lefts.push_reserved(work_but(alloc, board, pass, gives_up_at, &mut met)?);
+    }
+    Ok(Ended { lefts, met })
+}
+
+/// The passes of both, and what they met.
+fn gathered(one: Ended, two: Ended) -> Result<Ended, AllocError>
+    ensures { IfOk result (λ e. e.lefts.items ≡ one.lefts.items ++ two.lefts.items) }
+{
+    let Ended { mut lefts, mut met } = one;
+    let Ended {
+        lefts: mut more_lefts,
+        met: mut more_met,
+    } = two;
+    lefts.append(&mut more_lefts)?;
+    met.append(&mut more_met)?;
+    Ok(Ended { lefts, met })
+}
+
+/// Works the passes to their ends, the halves of the list side by side, and again the halves of each.
+fn work_side_by_side<R: Threads + Sync>(
+    rt: &R,
+    alloc: Global,
+    board: &Board<Numbers>,
+    passes: Vec<Pass<Numbers>>,
+    gives_up_at: Option<u32>,
+) -> Result<Ended, AllocError>
+    requires board { All (IsOf board.now) passes.items }
+    requires going { All (λ p. p.pass.over ≡ false) passes.items }
+    requires blocks { board.now.setup.spans.blocks ≡ board.now.setup.blocks }
+    ensures { IfOk result (λ e. (length e.lefts.items ≡ length passes.items) × All (IsOf board.now) e.lefts.items) }
+{
+    let mut passes = passes;
+    if passes.len() < 2 {
+        return work_last(alloc, board, passes, gives_up_at);
+    }
+    let half = passes.len() / 2;
+    let others = passes.split_off(half)?;
+    let (one, two) = join(
+        rt,
+        || -> Result<Ended, AllocError>
+            requires { All (IsOf board.now) passes.items × All (λ p. p.pass.over ≡ false) passes.items × (board.now.setup.spans.blocks ≡ board.now.setup.blocks) }
+            ensures { IfOk result (λ e. (length e.lefts.items ≡ length passes.items) × All (IsOf board.entry.now) e.lefts.items) }
+        { work_side_by_side(rt, alloc, board, passes, gives_up_at) },
+        || -> Result<Ended, AllocError>
+            requires { All (IsOf board.now) others.items × All (λ p. p.pass.over ≡ false) others.items × (board.now.setup.spans.blocks ≡ board.now.setup.blocks) }
+            ensures { IfOk result (λ e. (length e.lefts.items ≡ length others.items) × All (IsOf board.entry.now) e.lefts.items) }
+        { work_side_by_side(rt, alloc, board, others, gives_up_at) },
+    );
+    gathered(one?, two?)
+}
+
+/// A board worked side by side to its end, and what its passes met.
+pub fn run_side_by_side<R: Threads + Sync>(
+    rt: &R,
+    alloc: Global,
+    blocks: u32,
+    passes: u32,
+    gives_up_at: Option<u32>,
+) -> Result<(Closed<Numbers>, Vec<Met>), BoardError>
+    ensures { IfOk result (λ r. (closed_setup r.0).passes ≡ passes) }
+{
+    let (board, all) = Board::new(alloc, Numbers { blocks }, blocks, passes)?;
+    let ended = work_side_by_side(rt, alloc, &board, all, gives_up_at)?;
+    Ok((board.close(ended.lefts), ended.met))
+}
+
+/// The blocks that passes got, rising.
+fn blocks_got(alloc: Global, met: &[Met]) -> Result<Vec<u32>, AllocError> {
+    let mut blocks = Vec::new(alloc);
+    for met in met {
+        if let Met::Block(block) = *met {
+            blocks.push(block)?;
+        }
+    }
+    blocks.sort()?;
+    Ok(blocks)
+}
+
+/// How many roots passes published.
+fn roots_of(met: &[Met]) -> usize {
+    let mut roots = 0usize;
+    for met in met {
+        if *met == Met::Root {
+            roots = roots.saturating_add(1);
+        }
+    }
+    roots
+}
+
+/// Wants each block got once, and one root or none: all blocks where all were claimed and every pass
+/// left. The passes got these blocks and published so many roots.
+fn assert_root<R: Abort>(
+    rt: &R,
+    closed: Closed<Numbers>,
+    got: &[u32],
+    roots: usize,
+    blocks: u32,
+    passes: u32,
+)
+    requires { (closed_setup closed).passes ≡ passes }
+{
+    let is_whole = passes_left(&closed, passes) == passes && closed.claims() >= blocks as u64;
+    let all = blocks as usize;
+    let (want_roots, want) = if is_whole {
+        (1, Some(Some(all)))
+    } else {
+        (0, None)
+    };
+    let got = counted(got);
+    let is_once = got.is_some() && (!is_whole || got == Some(all));
+    let found = (is_once, roots, counted_root(closed));
+    assert_eq!(rt; found, (true, want_roots, want), "{blocks} blocks");
+}
+
+/// Wants one root or none of a board that is worked side by side.
+fn assert_run<R: Abort + Threads + Sync>(
+    rt: &R,
+    alloc: Global,
+    blocks: u32,
+    passes: u32,
+    gives_up_at: Option<u32>,
+) -> Result<(), BoardError> {
+    let (closed, met) = run_side_by_side(rt, alloc, blocks, passes, gives_up_at)?;
+    let got = blocks_got(alloc, &met)?;
+    assert_root(rt, closed, &got, roots_of(&met), blocks, passes);
+    Ok(())
+}
+
+#[test]
+fn each_block_is_got_once_and_the_root_is_as_close_says(rt: HostRuntime) -> Result<(), Fail> {
+    for run in 0..RUNS {
+        let gives_up_at = if run % 3 == 0 { Some(run % 97) } else { None };
+        assert_run(&rt, rt.alloc(), 7 + run % 58, 2 + run % 7, gives_up_at)?;
+    }
+    Ok(())
+}
