@@ -6,7 +6,7 @@ set -eu
 runs=${1:-10000}
 work=$(mktemp -d)
 trap 'rm -rf "$work"' EXIT
-cp -r crates crates.txt HANDLES "$work"
+tar --exclude=out -cf - crates crates.txt HANDLES | tar -xf - -C "$work"
 sed -i "s/^const RUNS: u32 = .*;/const RUNS: u32 = $runs;/" "$work/crates/qh_tests/src/tests/board/runs.rt"
 cd "$work/crates/qh_tests"
 rt try --test -- board::runs:: > "$work/log" 2>&1 || { tail -20 "$work/log"; exit 1; }
