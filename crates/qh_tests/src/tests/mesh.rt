@@ -6,6 +6,7 @@ use qh_mesh::{FacetNo, Mesh};
 use qh_model::{Id, Memory, Point};
 use qh_pred::{point_at, vol};
 use std::alloc::{AllocError, Global};
+use std::process::Abort;
 use std::test::Fail;
 
 mod refusals;
@@ -29,19 +30,23 @@ fn triangle(mesh: &Mesh, f: FacetNo) -> Option<Triangle> {
     }
 }
 
+/// The volume of the points with these ids, if they are there.
+fn volume(pts: &[Point], [a, b, c, d]: [u32; 4]) -> Option<i128> {
+    let a = *pts.get(a as usize)?;
+    let b = *pts.get(b as usize)?;
+    let c = *pts.get(c as usize)?;
+    let d = *pts.get(d as usize)?;
+    Some(vol(a, b, c, d))
+}
+
 /// Whether the triangle of a place strictly sees a point.
 fn sees(mesh: &Mesh, pts: &[Point], f: FacetNo, apex: u32) -> bool {
     let Some((a, b, c)) = triangle(mesh, f) else {
         return false;
     };
-    match (
-        pts.get(a as usize),
-        pts.get(b as usize),
-        pts.get(c as usize),
-        pts.get(apex as usize),
-    ) {
-        (Some(a), Some(b), Some(c), Some(p)) => vol(*a, *b, *c, *p) > 0,
-        _ => false,
+    match volume(pts, [a, b, c, apex]) {
+        Some(volume) => volume > 0,
+        None => false,
     }
 }
 
@@ -168,81 +173,109 @@ const ROWS: [Row; 3] = [
     ),
 ];
 
+/// Asserts the triangles of a list at the step to an apex, whatever their order.
+fn assert_triangles<R: AllocGlobal + Abort>(
+    rt: &R,
+    mesh: &Mesh,
+    list: &[FacetNo],
+    want: &[Triangle],
+    apex: u32,
+) -> Result<(), Fail> {
+    let found = triangles(rt.alloc(), mesh, list)?;
+    assert_eq!(rt; found.as_slice(), want, "{apex}");
+    Ok(())
+}
+
+/// Asserts how many live facets and how many places there are after the step to an apex, and that each side of a facet
+/// has its twin.
+fn assert_counts<R: AllocGlobal + Abort>(
+    rt: &R,
+    mesh: &Mesh,
+    facets: usize,
+    places: usize,
+    apex: u32,
+) -> Result<(), Fail> {
+    let all = live(rt.alloc(), mesh)?;
+    let have_twins = all.iter().all(|f| has_twins(mesh, *f));
+    let found = (all.len(), mesh.places(), have_twins);
+    assert_eq!(rt; found, (facets, places, true), "{apex}");
+    Ok(())
+}
+
+/// Makes a step, asserts that it gives what its row says, and answers its cone.
+fn step<R: AllocGlobal + Abort>(
+    rt: &R,
+    mesh: &mut Mesh,
+    pts: &[Point],
+    row: Row,
+) -> Result<Vec<FacetNo>, Fail> {
+    let (apex, seen, cone, facets, places) = row;
+    let visible = seen_by(rt.alloc(), mesh, pts, apex)?;
+    assert_triangles(rt, mesh, &visible, seen, apex)?;
+    let made = mesh.replace(rt.alloc(), pts, &visible, Id::new(apex))?;
+    assert_triangles(rt, mesh, &made, cone, apex)?;
+    assert_counts(rt, mesh, facets, places, apex)?;
+    Ok(made)
+}
+
+/// Asserts the triangles of all live facets after the step to an apex, whatever their order.
+fn assert_live<R: AllocGlobal + Abort>(
+    rt: &R,
+    mesh: &Mesh,
+    want: &[Triangle],
+    apex: u32,
+) -> Result<(), Fail> {
+    let all = live(rt.alloc(), mesh)?;
+    assert_triangles(rt, mesh, &all, want, apex)
+}
+
+/// The triangles of the simplex.
+const SIMPLEX: [Triangle; 4] = [(0, 1, 3), (0, 2, 1), (0, 3, 2), (1, 2, 3)];
+
 #[test]
 fn replaces(rt: HostRuntime) -> Result<(), Fail> {
-    let alloc = rt.alloc();
     let pts = seven();
-    let mut mesh = first_simplex(alloc, &pts)?;
+    let mut mesh = first_simplex(rt.alloc(), &pts)?;
     mesh.ask_for_room(16);
-    let first = live(alloc, &mesh)?;
-    assert_eq!(rt;
-        triangles(alloc, &mesh, first.as_slice())?.as_slice(),
-        [(0, 1, 3), (0, 2, 1), (0, 3, 2), (1, 2, 3)].as_slice()
-    );
-    assert_eq!(rt; mesh.places(), 4usize);
-    for (apex, seen, cone, facets, places) in ROWS {
-        let visible = seen_by(alloc, &mesh, &pts, apex)?;
-        assert_eq!(rt;
-            triangles(alloc, &mesh, visible.as_slice())?.as_slice(),
-            seen,
-            "{apex}"
-        );
-        let made = mesh.replace(alloc, &pts, visible.as_slice(), Id::new(apex))?;
-        assert_eq!(rt;
-            triangles(alloc, &mesh, made.as_slice())?.as_slice(),
-            cone,
-            "{apex}"
-        );
-        let all = live(alloc, &mesh)?;
-        assert_eq!(rt; all.len(), facets, "{apex}");
-        assert_eq!(rt; mesh.places(), places, "{apex}");
-        for f in &all {
-            assert!(rt; has_twins(&mesh, *f), "{apex}");
-        }
+    assert_live(&rt, &mesh, &SIMPLEX, 3)?;
+    assert_counts(&rt, &mesh, 4, 4, 3)?;
+    for row in ROWS {
+        let made = step(&rt, &mut mesh, &pts, row)?;
         // The next step's list lies in the room of this one's.
         mesh.take_room(made);
     }
     Ok(())
 }
 
-#[test]
-fn keeps_a_facet_in_one_plane_with_the_apex(rt: HostRuntime) -> Result<(), Fail> {
-    let alloc = rt.alloc();
-    let pts = [
+/// The corner of the unit cube, and a point in one plane with three of its points.
+fn five() -> [Point; 5] {
+    [
         Point::new(0, 0, 0),
         Point::new(1, 0, 0),
         Point::new(0, 1, 0),
         Point::new(0, 0, 1),
         Point::new(1, 1, 0),
-    ];
-    let mut mesh = first_simplex(alloc, &pts)?;
-    let visible = seen_by(alloc, &mesh, &pts, 4)?;
-    assert_eq!(rt;
-        triangles(alloc, &mesh, visible.as_slice())?.as_slice(),
-        [(1, 2, 3)].as_slice()
-    );
-    let made = mesh.replace(alloc, &pts, visible.as_slice(), Id::new(4))?;
-    assert_eq!(rt;
-        triangles(alloc, &mesh, made.as_slice())?.as_slice(),
-        [(1, 2, 4), (1, 4, 3), (2, 3, 4)].as_slice()
-    );
-    let all = live(alloc, &mesh)?;
-    assert_eq!(rt;
-        triangles(alloc, &mesh, all.as_slice())?.as_slice(),
-        [
-            (0, 1, 3),
-            (0, 2, 1),
-            (0, 3, 2),
-            (1, 2, 4),
-            (1, 4, 3),
-            (2, 3, 4)
-        ]
-        .as_slice()
-    );
+    ]
+}
+
+/// The step to the fifth of the five points.
+const LEVEL_ROW: Row = (4, &[(1, 2, 3)], &[(1, 2, 4), (1, 4, 3), (2, 3, 4)], 6, 6);
+
+/// The triangles after it.
+const LEVEL_TRIANGLES: [Triangle; 6] = [
+    (0, 1, 3),
+    (0, 2, 1),
+    (0, 3, 2),
+    (1, 2, 4),
+    (1, 4, 3),
+    (2, 3, 4),
+];
+
+#[test]
+fn keeps_a_facet_in_one_plane_with_the_apex(rt: HostRuntime) -> Result<(), Fail> {
+    let pts = five();
     assert_eq!(rt; vol(pts[0], pts[2], pts[1], pts[4]), 0i128);
-    assert_eq!(rt; mesh.places(), 6usize);
-    for f in &all {
-        assert!(rt; has_twins(&mesh, *f));
-    }
-    Ok(())
+    let mut mesh = first_simplex(rt.alloc(), &pts)?;
+    step(&rt, &mut mesh, &pts, LEVEL_ROW)?;
+    assert_live(&rt, &mesh, &LEVEL_TRIANGLES, 4)
 }

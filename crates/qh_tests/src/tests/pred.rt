@@ -5,7 +5,6 @@ ghost use Rattle.qh_model.specs.headline.Limits.{IsCoordinate};
 use qh_model::{COORDINATE_LIMIT, Id, Point};
 use qh_pred::{Normal, Plane, cross, in_line, left, point_at, vol};
 use std::cmp::Ordering;
-use std::test::Fail;
 
 const LIMIT: i32 = COORDINATE_LIMIT as i32;
 
@@ -33,117 +32,152 @@ fn wrapping_tetrahedron(limit: i32) -> [Point; 4]
     ]
 }
 
-#[test]
-fn volumes(rt: HostRuntime) -> Result<(), Fail> {
-    let corner = vol(
+/// The corner of the unit cube: the origin, and its neighbours along x, y and z.
+fn unit_corner() -> [Point; 4] {
+    [
         Point::new(0, 0, 0),
         Point::new(1, 0, 0),
         Point::new(0, 1, 0),
         Point::new(0, 0, 1),
-    );
-    assert_eq!(rt; corner, 1i128);
-    let rows = [
-        (1048576, 9223372036854775808i128, -18446744073709551616i128),
-        (
-            LIMIT,
-            9903520314283042199192993792i128,
-            -19807040628566084398385987584i128,
-        ),
-    ];
-    for (limit, cube, wrapping) in rows {
-        let [a, b, c, d] = cube_corner(limit.clamp(0, LIMIT));
-        assert_eq!(rt; vol(a, b, c, d), cube, "at {limit}");
-        let [a, b, c, d] = wrapping_tetrahedron(limit.clamp(0, LIMIT));
-        assert_eq!(rt; vol(a, b, c, d), wrapping, "at {limit}");
+    ]
+}
+
+/// The volume of four points.
+fn volume([a, b, c, d]: [Point; 4]) -> i128 {
+    vol(a, b, c, d)
+}
+
+/// Limits with the volumes at them of the cube and of the tetrahedron.
+const VOLUMES: [(i32, i128, i128); 2] = [
+    (1048576, 9223372036854775808, -18446744073709551616),
+    (
+        LIMIT,
+        9903520314283042199192993792,
+        -19807040628566084398385987584,
+    ),
+];
+
+#[test]
+fn volumes(rt: HostRuntime) {
+    assert_eq!(rt; volume(unit_corner()), 1i128);
+    for (limit, cube, wrapping) in VOLUMES {
+        let limit = limit.clamp(0, LIMIT);
+        let found = (
+            volume(cube_corner(limit)),
+            volume(wrapping_tetrahedron(limit)),
+        );
+        assert_eq!(rt; found, (cube, wrapping), "at {limit}");
     }
-    Ok(())
+}
+
+/// The components of a normal.
+fn components(normal: &Normal) -> (i128, i128, i128) {
+    (normal.x(), normal.y(), normal.z())
 }
 
 #[test]
-fn normals(rt: HostRuntime) -> Result<(), Fail> {
+fn normals(rt: HostRuntime) {
+    let [o, x, y, z] = unit_corner();
     let [a, b, c, _] = cube_corner(LIMIT);
-    let up = cross(a, b, c);
-    let components = (up.x(), up.y(), up.z());
-    assert_eq!(rt; components, (0i128, 0i128, 4611686018427387904i128));
-    let [a, b, c, _] = wrapping_tetrahedron(LIMIT);
-    let slanted = cross(a, b, c);
-    let components = (slanted.x(), slanted.y(), slanted.z());
-    let component = 4611686018427387904i128;
-    assert_eq!(rt; components, (component, -component, -component));
-    Ok(())
+    let [d, e, f, _] = wrapping_tetrahedron(LIMIT);
+    let square = 4611686018427387904i128;
+    let rows = [
+        (a, b, c, (0, 0, square)),
+        (d, e, f, (square, -square, -square)),
+        (o, x, y, (0, 0, 1)),
+        (o, x, z, (0, -1, 0)),
+        (o, y, z, (1, 0, 0)),
+        (x, y, z, (1, 1, 1)),
+        (x, z, y, (-1, -1, -1)),
+    ];
+    for (u, v, w, want) in rows {
+        assert_eq!(rt; components(&cross(u, v, w)), want, "{u:?}, {v:?}, {w:?}");
+    }
 }
 
+/// How three points turn, seen from their normal: in turn from each of two, back, and not at all; and seen from the
+/// opposite side, in turn and back.
+fn turns_of(u: Point, v: Point, w: Point) -> [Ordering; 6] {
+    let normal = cross(u, v, w);
+    let opposite = normal.opposite();
+    [
+        left(&normal, u, v, w),
+        left(&normal, w, u, v),
+        left(&normal, u, w, v),
+        left(&normal, u, v, v),
+        left(&opposite, u, v, w),
+        left(&opposite, u, w, v),
+    ]
+}
+
+/// How three points that are not in line do.
+const TURNS: [Ordering; 6] = [
+    Ordering::Greater,
+    Ordering::Greater,
+    Ordering::Less,
+    Ordering::Equal,
+    Ordering::Less,
+    Ordering::Greater,
+];
+
 #[test]
-fn turns(rt: HostRuntime) -> Result<(), Fail> {
-    let origin = Point::new(0, 0, 0);
-    let [x, y, z] = [
-        Point::new(1, 0, 0),
-        Point::new(0, 1, 0),
-        Point::new(0, 0, 1),
-    ];
+fn turns(rt: HostRuntime) {
+    let [o, x, y, z] = unit_corner();
     let [a, b, c, _] = wrapping_tetrahedron(LIMIT);
-    let rows = [
-        (origin, x, y, (0i128, 0i128, 1i128)),
-        (origin, x, z, (0i128, -1i128, 0i128)),
-        (origin, y, z, (1i128, 0i128, 0i128)),
-        (x, y, z, (1i128, 1i128, 1i128)),
-        (x, z, y, (-1i128, -1i128, -1i128)),
-    ];
-    for (u, v, w, components) in rows {
-        let normal = cross(u, v, w);
-        assert_eq!(rt; (normal.x(), normal.y(), normal.z()), components);
-    }
     for (u, v, w) in [
-        (origin, x, y),
-        (origin, x, z),
-        (origin, y, z),
+        (o, x, y),
+        (o, x, z),
+        (o, y, z),
         (x, y, z),
         (x, z, y),
         (a, b, c),
     ] {
-        let normal = cross(u, v, w);
-        assert_eq!(rt; left(&normal, u, v, w), Ordering::Greater);
-        assert_eq!(rt; left(&normal, w, u, v), Ordering::Greater);
-        assert_eq!(rt; left(&normal, u, w, v), Ordering::Less);
-        assert_eq!(rt; left(&normal, u, v, v), Ordering::Equal);
-        let opposite = normal.opposite();
-        assert_eq!(rt; left(&opposite, u, v, w), Ordering::Less);
-        assert_eq!(rt; left(&opposite, u, w, v), Ordering::Greater);
+        assert_eq!(rt; turns_of(u, v, w), TURNS, "{u:?}, {v:?}, {w:?}");
     }
-    Ok(())
 }
 
 #[test]
-fn lines(rt: HostRuntime) -> Result<(), Fail> {
+fn lines(rt: HostRuntime) {
     let pts = [
         Point::new(0, 0, 0),
         Point::new(1, 2, 3),
         Point::new(-2, -4, -6),
     ];
     let last = point_at(&pts, Id::new(2));
-    assert_eq!(rt; in_line(pts[0], pts[1], last), true);
-    assert_eq!(rt; in_line(pts[0], pts[1], Point::new(1, 2, 4)), false);
-    Ok(())
+    let beside = Point::new(1, 2, 4);
+    let found = (
+        in_line(pts[0], pts[1], last),
+        in_line(pts[0], pts[1], beside),
+    );
+    assert_eq!(rt; found, (true, false));
+}
+
+/// The slanted plane through three points of the unit corner.
+fn slope() -> Plane {
+    let [_, x, y, z] = unit_corner();
+    Plane::through(x, y, z)
 }
 
 #[test]
-fn planes(rt: HostRuntime) -> Result<(), Fail> {
-    let slope = Plane::through(
-        Point::new(1, 0, 0),
-        Point::new(0, 1, 0),
-        Point::new(0, 0, 1),
-    );
-    let normal = slope.normal();
-    assert_eq!(rt; (normal.x(), normal.y(), normal.z()), (1i128, 1i128, 1i128));
-    assert_eq!(rt; slope.offset(), 1i128);
-    assert_eq!(rt; slope.height(Point::new(0, 0, 0)), -1i128);
-    assert_eq!(rt; slope.height(Point::new(2, 3, -5)), -1i128);
-    assert_eq!(rt; slope.height(Point::new(1, 1, 1)), 2i128);
-    assert_eq!(rt; slope.sees(Point::new(1, 1, 1)), true);
-    assert_eq!(rt; slope.sees(Point::new(2, 3, -4)), false);
+fn planes(rt: HostRuntime) {
+    let slope = slope();
+    let found = (components(&slope.normal()), slope.offset());
+    assert_eq!(rt; found, ((1, 1, 1), 1));
+}
+
+#[test]
+fn sides_of_planes(rt: HostRuntime) {
     let [a, b, c, far] = wrapping_tetrahedron(LIMIT);
     let wrapping = Plane::through(a, b, c);
-    assert_eq!(rt; wrapping.height(far), -19807040628566084398385987584i128);
-    assert_eq!(rt; wrapping.sees(far), false);
-    Ok(())
+    // A plane and a point, with the point's height above it and whether the plane sees it.
+    let rows = [
+        (slope(), Point::new(0, 0, 0), -1i128, false),
+        (slope(), Point::new(2, 3, -5), -1, false),
+        (slope(), Point::new(1, 1, 1), 2, true),
+        (slope(), Point::new(2, 3, -4), 0, false),
+        (wrapping, far, -19807040628566084398385987584, false),
+    ];
+    for (plane, p, height, seen) in rows {
+        assert_eq!(rt; (plane.height(p), plane.sees(p)), (height, seen), "{p:?}");
+    }
 }

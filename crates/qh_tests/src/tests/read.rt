@@ -1,4 +1,5 @@
 //! Rows: what each text stands for, in whatever way it comes.
+ghost use Rattle.std.specs.Prelude.{◌<◌, ◌≤◌, length};
 
 mod numbers;
 mod off;
@@ -8,21 +9,26 @@ mod refusals;
 mod rows;
 mod sources;
 
-use qh_model::Point;
-use qh_read::ReadFault;
+use qh_model::{Form, Point};
+use qh_read::{FeedFault, ReadFault, Reader};
+use std::alloc::{AllocError, Global};
+use std::process::Abort;
+
+/// The coordinates of a point.
+type Place = (i32, i32, i32);
 
 /// The file that `rbox` would write of a corner's tetrahedron, with comments.
 const COMMENTED_TETRAHEDRON: &str =
     "3 rbox c z\r\n4\r\n0 0 0 origin\r\n1 0 0 # 7 8\r\n0 1 0\r\n0 0 1";
 
 /// The points of that file.
-const TETRAHEDRON: [(i32, i32, i32); 4] = [(0, 0, 0), (1, 0, 0), (0, 1, 0), (0, 0, 1)];
+const TETRAHEDRON: [Place; 4] = [(0, 0, 0), (1, 0, 0), (0, 1, 0), (0, 0, 1)];
 
 /// The unit cube, 52 bytes.
 const CUBE: &str = "3\n8\n0 0 0\n0 0 1\n0 1 0\n0 1 1\n1 0 0\n1 0 1\n1 1 0\n1 1 1\n";
 
 /// Its corners.
-const CUBE_CORNERS: [(i32, i32, i32); 8] = [
+const CUBE_CORNERS: [Place; 8] = [
     (0, 0, 0),
     (0, 0, 1),
     (0, 1, 0),
@@ -34,7 +40,7 @@ const CUBE_CORNERS: [(i32, i32, i32); 8] = [
 ];
 
 /// Whether the reading gave just these points, in this order.
-fn gave(outcome: &Result<Vec<Point>, ReadFault>, places: &[(i32, i32, i32)]) -> bool {
+fn gave(outcome: &Result<Vec<Point>, ReadFault>, places: &[Place]) -> bool {
     match outcome {
         Ok(points) => {
             points.len() == places.len()
@@ -43,4 +49,107 @@ fn gave(outcome: &Result<Vec<Point>, ReadFault>, places: &[(i32, i32, i32)]) -> 
         }
         Err(_) => false,
     }
+}
+
+/// How a text comes to be read.
+#[derive(Clone, Copy, Debug)]
+enum Way {
+    /// All at once.
+    Whole,
+    /// From a source.
+    Source,
+    /// From a source of which the read with this number fails.
+    FailingRead(u64),
+    /// In pieces of this length.
+    Pieces(usize),
+    /// Cut in two after so many bytes.
+    Cut(usize),
+}
+
+/// Asserts that a reading gave just these points, in this order. A failure names the text and the way.
+fn assert_points<R: Abort>(
+    rt: &R,
+    outcome: Result<Vec<Point>, ReadFault>,
+    places: &[Place],
+    text: &str,
+    way: Way,
+) {
+    assert!(rt; gave(&outcome, places), "{text:?}, {way:?}");
+}
+
+/// Asserts that a reading gave this fault. A failure names the text and the way.
+fn assert_fault<R: Abort>(
+    rt: &R,
+    outcome: Result<Vec<Point>, ReadFault>,
+    fault: ReadFault,
+    text: &str,
+    way: Way,
+) {
+    assert_eq!(rt; outcome.err(), Some(fault), "{text:?}, {way:?}");
+}
+
+/// These texts, one after the other.
+fn joined(alloc: Global, texts: &[&str]) -> Result<Vec<u8>, AllocError> {
+    let mut bytes = Vec::new(alloc);
+    for text in texts {
+        bytes.extend_from_slice(text.as_bytes())?;
+    }
+    Ok(bytes)
+}
+
+/// A reader of files of this form.
+fn reader_of(alloc: Global, form: Form) -> Reader {
+    match form {
+        Form::Qhull => Reader::new(alloc),
+        Form::Off => Reader::new_off(alloc),
+    }
+}
+
+/// Feeds a piece so many times.
+fn feed_times(reader: &mut Reader, piece: &[u8], times: u32) -> Result<(), FeedFault> {
+    for _ in 0..times {
+        reader.feed(piece)?;
+    }
+    Ok(())
+}
+
+/// Asserts that a reader was fed the most bytes that it takes.
+fn assert_full<R: Abort>(rt: &R, reader: &mut Reader) {
+    let answers = (reader.feed(b" "), reader.feed(b""));
+    assert_eq!(rt; answers, (Err(FeedFault::Big), Ok(())));
+}
+
+/// The reading of these bytes, cut in two.
+fn read_cut(alloc: Global, form: Form, bytes: &[u8], cut: usize) -> Result<Vec<Point>, ReadFault>
+    requires { cut ≤ length bytes.now }
+{
+    let (front, back) = bytes.split_at(cut);
+    let mut reader = reader_of(alloc, form);
+    reader.feed(front)?;
+    reader.feed(back)?;
+    reader.finish()
+}
+
+/// Feeds these bytes in pieces of this length, which is above 0.
+fn feed_in_pieces(reader: &mut Reader, bytes: &[u8], length: usize) -> Result<(), FeedFault>
+    requires { 0 < length }
+{
+    for piece in bytes.chunks(length) {
+        reader.feed(piece)?;
+    }
+    Ok(())
+}
+
+/// The reading of these bytes in pieces of this length, which is above 0.
+fn read_in_pieces(
+    alloc: Global,
+    form: Form,
+    bytes: &[u8],
+    length: usize,
+) -> Result<Vec<Point>, ReadFault>
+    requires { 0 < length }
+{
+    let mut reader = reader_of(alloc, form);
+    feed_in_pieces(&mut reader, bytes, length)?;
+    reader.finish()
 }

@@ -5,6 +5,7 @@ use qh_model::{Body, Hull, Id, Memory, Point, Polygon};
 use qh_write::fakes::{FailSink, SinkPlan};
 use qh_write::{MemSink, Out, SendFault, Sink, StdSink, send, text};
 use std::alloc::Global;
+use std::process::Abort;
 use std::test::Fail;
 
 mod refusals;
@@ -33,21 +34,31 @@ fn one_point(alloc: Global) -> Result<Hull, Memory>
     })
 }
 
+/// The texts of the hull of the point (5, 5, 5).
+const TEXTS: [(&[Out], &str); 2] = [
+    (
+        &[Out::Rank, Out::Fx, Out::Off, Out::OffTriangles, Out::Rank],
+        "1 1 0\n1\n0\nOFF\n1 1 0\n5 5 5\n1 0\nOFF\n1 1 0\n5 5 5\n1 0\n1 1 0\n",
+    ),
+    (
+        &[Out::Summary],
+        "Convex hull of 1 points in 3-d:\n  dimension: 0\n  distinct points: 1\n  extreme points: 1\n  facets: 1\n  edges: 0\n",
+    ),
+];
+
+/// Asserts the texts of the hull of the point (5, 5, 5), one after the other.
+fn assert_texts<R: AllocGlobal + Abort>(rt: &R, outs: &[Out], want: &str) -> Result<(), Fail> {
+    let hull = one_point(rt.alloc())?;
+    let texts = text(rt.alloc(), &hull, &[Point::new(5, 5, 5)], outs)?;
+    assert_eq!(rt; texts.as_slice(), want.as_bytes());
+    Ok(())
+}
+
 #[test]
 fn texts_of_one_point(rt: HostRuntime) -> Result<(), Fail> {
-    let alloc = rt.alloc();
-    let pts = [Point::new(5, 5, 5)];
-    let hull = one_point(alloc)?;
-    let outs = [Out::Rank, Out::Fx, Out::Off, Out::OffTriangles, Out::Rank];
-    let joined = text(alloc, &hull, &pts, &outs)?;
-    assert_eq!(rt;
-        joined.as_slice(),
-        b"1 1 0\n1\n0\nOFF\n1 1 0\n5 5 5\n1 0\nOFF\n1 1 0\n5 5 5\n1 0\n1 1 0\n".as_slice()
-    );
-    let summary = text(alloc, &hull, &pts, &[Out::Summary])?;
-    let want =
-        "Convex hull of 1 points in 3-d:\n  dimension: 0\n  distinct points: 1\n  extreme points: 1\n  facets: 1\n  edges: 0\n";
-    assert_eq!(rt; summary.as_slice(), want.as_bytes());
+    for (outs, want) in TEXTS {
+        assert_texts(&rt, outs, want)?;
+    }
     Ok(())
 }
 
@@ -64,50 +75,61 @@ fn plan(greatest_piece: usize, room: usize) -> SinkPlan {
     }
 }
 
-#[test]
-fn sends_all(rt: HostRuntime) -> Result<(), Fail> {
-    let alloc = rt.alloc();
+/// Asserts how a device that fails by a plan is sent the tetrahedron: with this answer it has so many bytes, which are
+/// the first ones, and has failed once or, where all went well, not at all.
+fn assert_sent<R: AllocGlobal + Abort>(
+    rt: &R,
+    plan: SinkPlan,
+    want: Result<(), SendFault>,
+    length: usize,
+) {
     let bytes = TETRAHEDRON.as_bytes();
-    assert_eq!(rt; bytes.len(), 66);
-    let mut memory = MemSink::new(alloc);
-    assert_eq!(rt; send(&mut memory, bytes), Ok(()));
-    assert_eq!(rt; memory.bytes(), bytes);
-    for piece in [1usize, 7, 65, 66, 100] {
-        let mut sink = FailSink::new(alloc, plan(piece, 66));
-        assert_eq!(rt; send(&mut sink, bytes), Ok(()), "at {piece}");
-        assert_eq!(rt; sink.bytes(), bytes);
-        assert_eq!(rt; sink.failures(), 0);
-    }
-    let mut wrapped = StdSink::new(Vec::new(alloc));
-    assert_eq!(rt; send(&mut wrapped, bytes), Ok(()));
-    assert_eq!(rt; wrapped.failures(), 0);
-    Ok(())
+    let mut sink = FailSink::new(rt.alloc(), plan);
+    let answer = send(&mut sink, bytes);
+    let kept = (sink.bytes().len(), bytes.starts_with(sink.bytes()));
+    let failures = u64::from(want.is_err());
+    assert_eq!(rt;
+        (answer, kept, sink.failures()),
+        (want, (length, true), failures),
+        "{plan:?}"
+    );
 }
 
 #[test]
-fn sends_a_beginning(rt: HostRuntime) -> Result<(), Fail> {
-    let alloc = rt.alloc();
-    let bytes = TETRAHEDRON.as_bytes();
-    for k in 1..67u64 {
+fn sends_all(rt: HostRuntime) {
+    for piece in [1usize, 7, 65, 66, 100] {
+        assert_sent(&rt, plan(piece, 66), Ok(()), 66);
+    }
+}
+
+#[test]
+fn sends_a_beginning(rt: HostRuntime) {
+    for k in 1..67usize {
         let failing = SinkPlan {
-            failing_write: Some(k),
+            failing_write: Some(k as u64),
             ..plan(1, 66)
         };
-        let mut sink = FailSink::new(alloc, failing);
-        assert_eq!(rt; send(&mut sink, bytes), Err(SendFault), "at {k}");
-        assert_eq!(rt; sink.bytes().len() as u64 + 1, k);
-        assert!(rt; bytes.starts_with(sink.bytes()));
-        assert_eq!(rt; sink.failures(), 1);
+        assert_sent(&rt, failing, Err(SendFault), k - 1);
     }
-    let mut full = FailSink::new(alloc, plan(100, 7));
-    assert_eq!(rt; send(&mut full, bytes), Err(SendFault));
-    assert_eq!(rt; full.bytes(), b"OFF\n4 4".as_slice());
+    assert_sent(&rt, plan(100, 7), Err(SendFault), 7);
     let stuck = SinkPlan {
         flush_fails: true,
         ..plan(100, 66)
     };
-    let mut unflushed = FailSink::new(alloc, stuck);
-    assert_eq!(rt; send(&mut unflushed, bytes), Err(SendFault));
-    assert_eq!(rt; unflushed.bytes(), bytes);
-    Ok(())
+    assert_sent(&rt, stuck, Err(SendFault), 66);
+}
+
+#[test]
+fn sends_to_memory(rt: HostRuntime) {
+    let bytes = TETRAHEDRON.as_bytes();
+    let mut sink = MemSink::new(rt.alloc());
+    let answer = send(&mut sink, bytes);
+    assert!(rt; answer == Ok(()) && sink.bytes() == bytes, "{answer:?}");
+}
+
+#[test]
+fn sends_to_a_writer(rt: HostRuntime) {
+    let mut sink = StdSink::new(Vec::new(rt.alloc()));
+    let answer = send(&mut sink, TETRAHEDRON.as_bytes());
+    assert_eq!(rt; (answer, sink.failures()), (Ok(()), 0));
 }

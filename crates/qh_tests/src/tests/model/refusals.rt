@@ -2,10 +2,9 @@
 //! it. `scripts/refusals.py` refuses each growth in turn.
 ghost use Rattle.std.specs.Prelude.{◌<◌, ◌≤◌};
 
-use super::ends;
+use super::{Answer, assert_cut};
 use qh_model::{Cut, CutError, POINT_LIMIT};
 use std::alloc::Global;
-use std::test::Fail;
 
 /// The even cut, asked for again where memory was refused.
 fn even_again(alloc: Global, m: u32, size: u32) -> Result<Cut, CutError>
@@ -18,14 +17,17 @@ fn even_again(alloc: Global, m: u32, size: u32) -> Result<Cut, CutError>
     }
 }
 
+/// The number of points and the size of a block, with the even cut's answer.
+const CUTS: [(u32, u32, Answer); 3] = [
+    (5, 2, Ok((3, (0, 2), (4, 5)))),
+    (8, 3, Ok((3, (0, 3), (6, 8)))),
+    (18, 3, Ok((6, (0, 3), (15, 18)))),
+];
+
 #[test]
-fn tries_again(rt: HostRuntime) -> Result<(), Fail> {
-    let alloc = rt.alloc();
-    let square = ends(even_again(alloc, 5, 2));
-    assert_eq!(rt; square, Ok((3, (0, 2), (4, 5))));
-    let cube = ends(even_again(alloc, 8, 3));
-    assert_eq!(rt; cube, Ok((3, (0, 3), (6, 8))));
-    let octahedron = ends(even_again(alloc, 18, 3));
-    assert_eq!(rt; octahedron, Ok((6, (0, 3), (15, 18))));
-    Ok(())
+fn tries_again(rt: HostRuntime) {
+    for (m, size, want) in CUTS {
+        let cut = even_again(rt.alloc(), m.clamp(1, POINT_LIMIT), size);
+        assert_cut(&rt, cut, want, &[m, size]);
+    }
 }

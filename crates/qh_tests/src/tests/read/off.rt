@@ -1,15 +1,13 @@
 //! OFF files: whole, from a source, and in pieces.
-ghost use Rattle.std.specs.Prelude.{◌<◌};
-
-use super::gave;
-use qh_model::{BYTE_LIMIT, Point};
+use super::{Place, Way, assert_fault, assert_full, assert_points, read_in_pieces};
+use qh_model::{BYTE_LIMIT, Form, Point};
 use qh_read::fakes::{FailSource, Spaces};
-use qh_read::{FeedFault, MemSource, ReadFault, Reader, read_off, read_off_from};
+use qh_read::{MemSource, ReadFault, Reader, read_off, read_off_from};
 use std::alloc::Global;
 use std::test::Fail;
 
 /// OFF files with their vertices. Source: the rows of texts, comments and faces that say nothing.
-const READ: [(&str, &[(i32, i32, i32)]); 14] = [
+const READ: [(&str, &[Place]); 14] = [
     ("OFF\n1 1 0\n5 5 5\n1 0\n", &[(5, 5, 5)]),
     ("OFF\n2 1 1\n0 0 0\n2 2 2\n2 0 1\n", &[(0, 0, 0), (2, 2, 2)]),
     (
@@ -68,28 +66,16 @@ const REFUSED: [(&str, ReadFault); 28] = [
     ("\u{feff}OFF\n1 0 0\n5 5 5\n", ReadFault::NotOff),
 ];
 
-/// The reading of these bytes in pieces of this length, which is above 0.
-fn read_in_pieces(alloc: Global, bytes: &[u8], length: usize) -> Result<Vec<Point>, ReadFault>
-    requires { 0 < length }
-{
-    let mut reader = Reader::new_off(alloc);
-    for piece in bytes.chunks(length) {
-        reader.feed(piece)?;
-    }
-    reader.finish()
-}
-
 #[test]
 fn reads_vertices(rt: HostRuntime) {
     for (text, places) in READ {
         let bytes = text.as_bytes();
-        let whole = read_off(rt.alloc(), bytes);
-        assert!(rt; gave(&whole, places), "read_off at {text:?}");
+        assert_points(&rt, read_off(rt.alloc(), bytes), places, text, Way::Whole);
         let streamed = read_off_from(rt.alloc(), &mut MemSource::new(bytes));
-        assert!(rt; gave(&streamed, places), "read_off_from at {text:?}");
+        assert_points(&rt, streamed, places, text, Way::Source);
         for length in 1..5 {
-            let pieces = read_in_pieces(rt.alloc(), bytes, length);
-            assert!(rt; gave(&pieces, places), "in pieces at {text:?}");
+            let pieces = read_in_pieces(rt.alloc(), Form::Off, bytes, length);
+            assert_points(&rt, pieces, places, text, Way::Pieces(length));
         }
     }
 }
@@ -98,34 +84,58 @@ fn reads_vertices(rt: HostRuntime) {
 fn finds_first_faults(rt: HostRuntime) {
     for (text, fault) in REFUSED {
         let bytes = text.as_bytes();
-        let whole = read_off(rt.alloc(), bytes);
-        assert_eq!(rt; whole.err(), Some(fault), "read_off at {text:?}");
+        assert_fault(&rt, read_off(rt.alloc(), bytes), fault, text, Way::Whole);
         let streamed = read_off_from(rt.alloc(), &mut MemSource::new(bytes));
-        assert_eq!(rt; streamed.err(), Some(fault), "read_off_from at {text:?}");
+        assert_fault(&rt, streamed, fault, text, Way::Source);
         for length in 1..5 {
-            let pieces = read_in_pieces(rt.alloc(), bytes, length);
-            assert_eq!(rt; pieces.err(), Some(fault), "in pieces at {text:?}");
+            let pieces = read_in_pieces(rt.alloc(), Form::Off, bytes, length);
+            assert_fault(&rt, pieces, fault, text, Way::Pieces(length));
         }
     }
 }
 
+/// The reading of one vertex byte by byte, where the read with this number fails.
+fn read_failing(alloc: Global, fails_at: u64) -> Result<Vec<Point>, ReadFault> {
+    let mut source = FailSource::new(b"OFF\n1 0 0\n5 5 5\n", 1, Some(fails_at));
+    read_off_from(alloc, &mut source)
+}
+
 #[test]
-fn tells_devices_and_lengths(rt: HostRuntime) -> Result<(), Fail> {
-    let text = b"OFF\n1 0 0\n5 5 5\n";
+fn tells_devices(rt: HostRuntime) {
     for fails_at in 1..18 {
-        let mut source = FailSource::new(text, 1, Some(fails_at));
-        let outcome = read_off_from(rt.alloc(), &mut source);
-        assert_eq!(rt; outcome.err(), Some(ReadFault::Device), "at {fails_at}");
+        let outcome = read_failing(rt.alloc(), fails_at);
+        assert_fault(
+            &rt,
+            outcome,
+            ReadFault::Device,
+            "one vertex",
+            Way::FailingRead(fails_at),
+        );
     }
-    let mut source = FailSource::new(text, 1, Some(18));
-    let outcome = read_off_from(rt.alloc(), &mut source);
-    assert!(rt; gave(&outcome, &[(5, 5, 5)]), "at its end");
+    let outcome = read_failing(rt.alloc(), 18);
+    assert_points(
+        &rt,
+        outcome,
+        &[(5, 5, 5)],
+        "one vertex",
+        Way::FailingRead(18),
+    );
+}
+
+#[test]
+fn tells_lengths(rt: HostRuntime) -> Result<(), Fail> {
     let endless = read_off_from(rt.alloc(), &mut Spaces);
-    assert_eq!(rt; endless.err(), Some(ReadFault::Big));
+    assert_fault(&rt, endless, ReadFault::Big, "without end", Way::Source);
     let blanks = Vec::from_elem(rt.alloc(), b' ', BYTE_LIMIT as usize)?;
     let mut reader = Reader::new_off(rt.alloc());
     reader.feed(&blanks)?;
-    assert_eq!(rt; reader.feed(b" "), Err(FeedFault::Big));
-    assert_eq!(rt; reader.finish().err(), Some(ReadFault::NoHeader));
+    assert_full(&rt, &mut reader);
+    assert_fault(
+        &rt,
+        reader.finish(),
+        ReadFault::NoHeader,
+        "blanks",
+        Way::Pieces(blanks.len()),
+    );
     Ok(())
 }

@@ -1,10 +1,10 @@
 //! A source over a reader of std: what its failures are, and that none is read on.
 use qh_model::BYTE_LIMIT;
 use qh_read::{ReadFault, Source, StdSource, read_from};
+use std::alloc::Global;
 use std::io;
 use std::io::{ErrorKind, Read};
 use std::sync::atomic::{AtomicU64, Ordering};
-use std::test::Fail;
 
 /// Gives one point file byte by byte, but fails at one of the reads.
 #[derive(Drop)]
@@ -45,21 +45,42 @@ impl Read for Endless<'_> {
     }
 }
 
-#[test]
-fn reads_one_piece_too_many(rt: HostRuntime) {
+/// The fault of a reading of blanks without end, and how many were read.
+fn read_without_end(alloc: Global) -> (Option<ReadFault>, u64) {
     let given = AtomicU64::new(0);
     let mut source = StdSource::new(Endless { given: &given });
-    let outcome = read_from(rt.alloc(), &mut source);
-    assert_eq!(rt; outcome.err(), Some(ReadFault::Big));
-    let given = given.load(Ordering::SeqCst);
-    assert!(rt;
-        given > u64::from(BYTE_LIMIT) && given <= u64::from(BYTE_LIMIT) + 65536,
-        "{given} bytes"
-    );
+    let outcome = read_from(alloc, &mut source);
+    (outcome.err(), given.load(Ordering::SeqCst))
 }
 
 #[test]
-fn reads_no_reader_that_failed(rt: HostRuntime) -> Result<(), Fail> {
+fn reads_one_piece_too_many(rt: HostRuntime) {
+    let (fault, given) = read_without_end(rt.alloc());
+    let some_more = u64::from(BYTE_LIMIT) + 1..=u64::from(BYTE_LIMIT) + 65536;
+    assert!(rt;
+        fault == Some(ReadFault::Big) && some_more.contains(&given),
+        "{fault:?}, {given} bytes"
+    );
+}
+
+/// The fault of a reading whose reader fails at a read, how many failures the source counted, and how many reads
+/// there were.
+fn read_failing(alloc: Global, kind: ErrorKind, fails_at: u64) -> (Option<ReadFault>, u64, u64) {
+    let reads = AtomicU64::new(0);
+    let rest = b"3\n1\n5 5 5\n".as_slice();
+    let mut source = StdSource::new(Failing {
+        rest,
+        reads: &reads,
+        fails_at,
+        kind,
+    });
+    let outcome = read_from(alloc, &mut source);
+    let failures = source.failures();
+    (outcome.err(), failures, reads.load(Ordering::SeqCst))
+}
+
+#[test]
+fn reads_no_reader_that_failed(rt: HostRuntime) {
     // An interrupted read is a failure like others, though the reader would go on.
     for kind in [
         ErrorKind::Other,
@@ -68,23 +89,9 @@ fn reads_no_reader_that_failed(rt: HostRuntime) -> Result<(), Fail> {
     ] {
         // The 10 bytes, and their end.
         for fails_at in 1..12 {
-            let reads = AtomicU64::new(0);
-            let rest = b"3\n1\n5 5 5\n".as_slice();
-            let mut source = StdSource::new(Failing {
-                rest,
-                reads: &reads,
-                fails_at,
-                kind,
-            });
-            let outcome = read_from(rt.alloc(), &mut source);
-            assert_eq!(rt;
-                outcome.err(),
-                Some(ReadFault::Device),
-                "{kind:?} at {fails_at}"
-            );
-            assert_eq!(rt; source.failures(), 1);
-            assert_eq!(rt; reads.load(Ordering::SeqCst), fails_at);
+            let found = read_failing(rt.alloc(), kind, fails_at);
+            let want = (Some(ReadFault::Device), 1, fails_at);
+            assert_eq!(rt; found, want, "{kind:?} at {fails_at}");
         }
     }
-    Ok(())
 }

@@ -1,10 +1,9 @@
 //! Readings of which one growth is refused: the points are right, or memory was wanted and the same
 //! call gives them. `scripts/refusals.py` refuses each growth in turn.
-use super::{CUBE, CUBE_CORNERS, gave};
+use super::{CUBE, CUBE_CORNERS, Place, Way, assert_points};
 use qh_model::Point;
 use qh_read::{FeedFault, MemSource, ReadFault, Reader, read_from, read_points};
 use std::alloc::Global;
-use std::test::Fail;
 
 const SQUARE: &str = "3\n5\n0 0 0\n2 0 0\n2 2 0\n0 2 0\n1 1 0\n";
 
@@ -12,7 +11,7 @@ const OCTAHEDRON: &str =
     "3\n18\n2 0 0\n1 1 0\n0 2 0\n-2 0 0\n-1 -1 0\n0 -2 0\n0 0 2\n1 0 1\n0 1 1\n0 0 -2\n-1 0 -1\n0 -1 -1\n1 -1 0\n-1 1 0\n-1 0 1\n1 0 -1\n0 -1 1\n0 1 -1\n";
 
 /// Each text with its points.
-const ROWS: [(&str, &[(i32, i32, i32)]); 3] = [
+const ROWS: [(&str, &[Place]); 3] = [
     (
         SQUARE,
         &[(0, 0, 0), (2, 0, 0), (2, 2, 0), (0, 2, 0), (1, 1, 0)],
@@ -44,32 +43,45 @@ const ROWS: [(&str, &[(i32, i32, i32)]); 3] = [
 ];
 
 /// Feeds each byte by itself, a refused one once more.
-fn fed(alloc: Global, bytes: &[u8]) -> Result<Vec<Point>, ReadFault> {
-    let mut reader = Reader::new(alloc);
+fn feed_again(reader: &mut Reader, bytes: &[u8]) -> Result<(), FeedFault> {
     for piece in bytes.chunks(1) {
         if reader.feed(piece) == Err(FeedFault::Memory) {
             reader.feed(piece)?;
         }
     }
+    Ok(())
+}
+
+/// The reading of these bytes one by one.
+fn fed(alloc: Global, bytes: &[u8]) -> Result<Vec<Point>, ReadFault> {
+    let mut reader = Reader::new(alloc);
+    feed_again(&mut reader, bytes)?;
     reader.finish()
 }
 
+/// The reading of a whole text, once more where it is refused.
+fn whole(alloc: Global, bytes: &[u8]) -> Result<Vec<Point>, ReadFault> {
+    match read_points(alloc, bytes) {
+        Err(ReadFault::Memory) => read_points(alloc, bytes),
+        outcome => outcome,
+    }
+}
+
+/// The reading of a source, once more where it is refused.
+fn streamed(alloc: Global, bytes: &[u8]) -> Result<Vec<Point>, ReadFault> {
+    match read_from(alloc, &mut MemSource::new(bytes)) {
+        Err(ReadFault::Memory) => read_from(alloc, &mut MemSource::new(bytes)),
+        outcome => outcome,
+    }
+}
+
 #[test]
-fn tries_again(rt: HostRuntime) -> Result<(), Fail> {
+fn tries_again(rt: HostRuntime) {
     let alloc = rt.alloc();
     for (text, points) in ROWS {
         let bytes = text.as_bytes();
-        let whole = match read_points(alloc, bytes) {
-            Err(ReadFault::Memory) => read_points(alloc, bytes),
-            outcome => outcome,
-        };
-        assert!(rt; gave(&whole, points), "read_points at {text:?}");
-        assert!(rt; gave(&fed(alloc, bytes), points), "feed at {text:?}");
-        let streamed = match read_from(alloc, &mut MemSource::new(bytes)) {
-            Err(ReadFault::Memory) => read_from(alloc, &mut MemSource::new(bytes)),
-            outcome => outcome,
-        };
-        assert!(rt; gave(&streamed, points), "read_from at {text:?}");
+        assert_points(&rt, whole(alloc, bytes), points, text, Way::Whole);
+        assert_points(&rt, fed(alloc, bytes), points, text, Way::Pieces(1));
+        assert_points(&rt, streamed(alloc, bytes), points, text, Way::Source);
     }
-    Ok(())
 }

@@ -3,7 +3,7 @@
 ghost use Rattle.std.specs.Prelude.{◌≡◌, [], ◌∷◌, IfOk};
 
 use qh_model::{Body, Hull, Id, Memory, Point, Polygon};
-use qh_write::{MemSink, Out, SendFault, Sink, send, text};
+use qh_write::{MemSink, Out, Sink, send, text};
 use std::alloc::Global;
 use std::test::Fail;
 
@@ -40,9 +40,18 @@ const OUTS: [Out; 5] = [
 const SQUARE_TEXT: &str =
     "5 5 2\nConvex hull of 5 points in 3-d:\n  dimension: 2\n  distinct points: 5\n  extreme points: 4\n  facets: 1\n  edges: 4\n4\n0\n1\n2\n3\nOFF\n4 1 4\n0 0 0\n2 0 0\n2 2 0\n0 2 0\n4 0 1 2 3\nOFF\n4 2 5\n0 0 0\n2 0 0\n2 2 0\n0 2 0\n3 0 1 2\n3 0 2 3\n";
 
-#[test]
-fn tries_again_for_texts(rt: HostRuntime) -> Result<(), Fail> {
-    let alloc = rt.alloc();
+/// The same, asked for again where memory was refused.
+fn square_again(alloc: Global) -> Result<Hull, Memory>
+    ensures { IfOk result (λ h. h.body.extremes ≡ 0 ∷ 1 ∷ 2 ∷ 3 ∷ []) }
+{
+    match square(alloc) {
+        Err(Memory) => square(alloc),
+        hull => hull,
+    }
+}
+
+/// All texts of that hull, asked for again where memory was refused.
+fn texts_again(alloc: Global) -> Result<Vec<u8>, Memory> {
     let pts = [
         Point::new(0, 0, 0),
         Point::new(2, 0, 0),
@@ -50,27 +59,35 @@ fn tries_again_for_texts(rt: HostRuntime) -> Result<(), Fail> {
         Point::new(0, 2, 0),
         Point::new(1, 1, 0),
     ];
-    let hull = match square(alloc) {
-        Ok(hull) => hull,
-        Err(Memory) => square(alloc)?,
-    };
-    let joined = match text(alloc, &hull, &pts, &OUTS) {
-        Ok(joined) => joined,
-        Err(Memory) => text(alloc, &hull, &pts, &OUTS)?,
-    };
-    assert_eq!(rt; joined.as_slice(), SQUARE_TEXT.as_bytes());
-    Ok(())
+    let hull = square_again(alloc)?;
+    match text(alloc, &hull, &pts, &OUTS) {
+        Err(Memory) => text(alloc, &hull, &pts, &OUTS),
+        texts => texts,
+    }
 }
 
 #[test]
-fn tries_again_to_send(rt: HostRuntime) -> Result<(), Fail> {
-    let bytes = SQUARE_TEXT.as_bytes();
-    let mut sink = MemSink::new(rt.alloc());
-    if send(&mut sink, bytes) == Err(SendFault) {
-        assert_eq!(rt; sink.failures(), 1);
-        assert!(rt; sink.bytes().is_empty());
-        assert_eq!(rt; send(&mut sink, bytes), Ok(()));
-    }
-    assert_eq!(rt; sink.bytes(), bytes);
+fn tries_again_for_texts(rt: HostRuntime) -> Result<(), Fail> {
+    let texts = texts_again(rt.alloc())?;
+    assert_eq!(rt; texts.as_slice(), SQUARE_TEXT.as_bytes());
     Ok(())
+}
+
+/// Whether memory takes all bytes that are sent, once more where memory was refused. That is to be counted once, and
+/// nothing kept of it.
+fn sends_again(alloc: Global, bytes: &[u8]) -> bool {
+    let mut sink = MemSink::new(alloc);
+    if send(&mut sink, bytes).is_err() {
+        let as_before = sink.failures() == 1 && sink.bytes().is_empty();
+        if !as_before || send(&mut sink, bytes).is_err() {
+            return false;
+        }
+    }
+    sink.bytes() == bytes
+}
+
+#[test]
+fn tries_again_to_send(rt: HostRuntime) {
+    let right = sends_again(rt.alloc(), SQUARE_TEXT.as_bytes());
+    assert!(rt; right);
 }

@@ -2,8 +2,8 @@
 use qh_write::{SendFault, Sink, StdSink, send};
 use std::io;
 use std::io::{ErrorKind, Write};
+use std::process::Abort;
 use std::sync::atomic::{AtomicU64, Ordering};
-use std::test::Fail;
 
 /// What a writer does.
 #[derive(Clone, Copy, Debug, Drop)]
@@ -98,8 +98,30 @@ fn fails_to_flush(kind: ErrorKind) -> Manner {
     }
 }
 
+/// Asserts what sending bytes to a writer answers, and what the writer was called for.
+fn assert_calls<R: Abort>(
+    rt: &R,
+    manner: Manner,
+    bytes: &[u8],
+    want: Result<(), SendFault>,
+    counts: [u64; 4],
+) {
+    let calls = Calls::none();
+    let mut sink = StdSink::new(Counting {
+        calls: &calls,
+        manner,
+    });
+    let answer = send(&mut sink, bytes);
+    let failures = u64::from(want.is_err());
+    assert_eq!(rt;
+        (answer, sink.failures(), calls.counts()),
+        (want, failures, counts),
+        "{manner:?}"
+    );
+}
+
 #[test]
-fn flushes_once_and_calls_no_writer_that_failed(rt: HostRuntime) -> Result<(), Fail> {
+fn flushes_once_and_calls_no_writer_that_failed(rt: HostRuntime) {
     // A writer, what sending 10 bytes gives, and what the writer was called for.
     let rows = [
         (takes(100), Ok(()), [1, 10, 1, 10]),
@@ -129,26 +151,11 @@ fn flushes_once_and_calls_no_writer_that_failed(rt: HostRuntime) -> Result<(), F
         ),
     ];
     for (manner, want, counts) in rows {
-        let calls = Calls::none();
-        let mut sink = StdSink::new(Counting {
-            calls: &calls,
-            manner,
-        });
-        assert_eq!(rt; send(&mut sink, b"OFF\n1 1 0\n"), want, "{manner:?}");
-        assert_eq!(rt; sink.failures(), u64::from(want.is_err()), "{manner:?}");
-        assert_eq!(rt; calls.counts(), counts, "{manner:?}");
+        assert_calls(&rt, manner, b"OFF\n1 1 0\n", want, counts);
     }
-    Ok(())
 }
 
 #[test]
-fn flushes_where_nothing_is_sent(rt: HostRuntime) -> Result<(), Fail> {
-    let calls = Calls::none();
-    let mut sink = StdSink::new(Counting {
-        calls: &calls,
-        manner: takes(100),
-    });
-    assert_eq!(rt; send(&mut sink, b""), Ok(()));
-    assert_eq!(rt; calls.counts(), [0, 0, 1, 0]);
-    Ok(())
+fn flushes_where_nothing_is_sent(rt: HostRuntime) {
+    assert_calls(&rt, takes(100), b"", Ok(()), [0, 0, 1, 0]);
 }
