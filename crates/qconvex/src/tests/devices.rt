@@ -1,5 +1,7 @@
 //! Devices that fail: of each the call that failed is its last, and what stands on the output is a
 //! beginning of the text.
+ghost use Rattle.std.specs.Prelude.{◌<◌};
+
 use super::settings;
 use super::solids::{CUBE, CUBE_OFF, TETRAHEDRON, TETRAHEDRON_OFF};
 use crate::fault::Fault;
@@ -31,7 +33,9 @@ fn assert_read<R: AllocGlobal + Abort + Threads + Sync>(
     piece: usize,
     failing_read: u64,
     want: Served,
-) -> Result<(), Fail> {
+) -> Result<(), Fail>
+    requires { 0 < piece }
+{
     let settings = settings(rt.alloc(), "off")?;
     let mut source = FailSource::new(input, piece, Some(failing_read));
     let mut sink = MemSink::new(rt.alloc());

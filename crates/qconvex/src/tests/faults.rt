@@ -1,5 +1,5 @@
 //! Files with faults, and the lines that tell of them.
-use super::{assert_faults, refusal};
+use super::{Told, assert_faults, refusal};
 use crate::fault::Fault;
 use qh_read::ReadFault;
 use std::process::Abort;
@@ -98,21 +98,16 @@ const LINES: [(Fault, &str, u8); 13] = [
 ];
 
 /// Asserts the line and the exit status of a fault.
-fn assert_told<R: AllocGlobal + Abort>(
-    rt: &R,
-    fault: &Fault,
-    line: &str,
-    status: u8,
-) -> Result<(), Fail> {
-    let refusal = refusal(rt.alloc(), fault)?;
-    assert_eq!(rt; refusal.told(), ("", line, status));
+fn assert_told<R: AllocGlobal + Abort>(rt: &R, fault: Fault, want: Told) -> Result<(), Fail> {
+    let refusal = refusal(rt.alloc(), &fault)?;
+    assert_eq!(rt; refusal.told(), want);
     Ok(())
 }
 
 #[test]
 fn each_fault_has_its_line_and_status(rt: HostRuntime) -> Result<(), Fail> {
-    for (fault, line, status) in &LINES {
-        assert_told(&rt, fault, line, *status)?;
+    for (fault, line, status) in LINES {
+        assert_told(&rt, fault, ("", line, status))?;
     }
     Ok(())
 }

@@ -19,9 +19,9 @@ const LINES: [&str; 4] = [
 /// The points (x, y, x x + y y) for x below 200 and y below 100.
 fn points(alloc: Global) -> Result<String, AllocError> {
     let mut text = String::from_str(alloc, "3\n20000\n")?;
-    for number in 0..20000i64 {
+    for number in 0..20000u32 {
         let (x, y) = (number / 100, number % 100);
-        push_point(&mut text, alloc, [x, y, x * x + y * y])?;
+        push_point(&mut text, alloc, [x, y, x * x + y * y].map(i64::from))?;
     }
     Ok(text)
 }
