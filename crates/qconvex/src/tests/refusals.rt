@@ -111,19 +111,22 @@ fn rows_come_out_right<R: AllocGlobal + Threads + Sync>(
 
 #[test]
 fn tries_again_with_one_worker(rt: HostRuntime) -> Result<(), Fail> {
-    assert!(rt; rows_come_out_right(&rt, 1)?);
+    let are_right = rows_come_out_right(&rt, 1)?;
+    assert!(rt; are_right);
     Ok(())
 }
 
 #[test]
 fn tries_again_with_two_workers(rt: HostRuntime) -> Result<(), Fail> {
-    assert!(rt; rows_come_out_right(&rt, 2)?);
+    let are_right = rows_come_out_right(&rt, 2)?;
+    assert!(rt; are_right);
     Ok(())
 }
 
 #[test]
 fn tries_again_with_seven_workers(rt: HostRuntime) -> Result<(), Fail> {
-    assert!(rt; rows_come_out_right(&rt, 7)?);
+    let are_right = rows_come_out_right(&rt, 7)?;
+    assert!(rt; are_right);
     Ok(())
 }
 

@@ -145,21 +145,33 @@ const SQUARES: [(Places, Row<'static>); 8] = [
 /// How many times as large the squares are taken, too: up to 2^20 and to 2^30.
 const FACTORS: [i32; 3] = [1, 262144, 268435456];
 
-#[test]
-fn squares(rt: HostRuntime) -> Result<(), Fail> {
-    for (places, row) in SQUARES {
-        let [b, c, d] = places.map(|(x, y, z)| point(x, y, z));
-        for factor in FACTORS {
-            let pts = [
-                point(0, 0, 0),
-                times(b, factor),
-                times(c, factor),
-                times(d, factor),
-            ];
-            assert_hull(&rt, &pts, &row)?;
-        }
+/// Asserts the hull of a square, as it is and larger.
+fn assert_squares<R: AllocGlobal + Abort + Threads + Sync>(
+    rt: &R,
+    corners: &[Point; 4],
+    row: &Row,
+) -> Result<(), Fail> {
+    for factor in FACTORS {
+        assert_hull(rt, &corners.map(|corner| times(corner, factor)), row)?;
     }
     Ok(())
+}
+
+/// Asserts the hulls of squares with a corner at the origin.
+fn assert_rows<R: AllocGlobal + Abort + Threads + Sync>(
+    rt: &R,
+    rows: &[(Places, Row)],
+) -> Result<(), Fail> {
+    for (places, row) in rows {
+        let [b, c, d] = places.map(|(x, y, z)| point(x, y, z));
+        assert_squares(rt, &[point(0, 0, 0), b, c, d], row)?;
+    }
+    Ok(())
+}
+
+#[test]
+fn squares(rt: HostRuntime) -> Result<(), Fail> {
+    assert_rows(&rt, &SQUARES)
 }
 
 #[test]
@@ -170,12 +182,5 @@ fn squares_across_the_first_axis(rt: HostRuntime) -> Result<(), Fail> {
         Point::new(5, 2, 2),
         Point::new(5, 2, 0),
     ];
-    for factor in FACTORS {
-        assert_hull(
-            &rt,
-            &corners.map(|corner| times(corner, factor)),
-            &TURNED_SQUARE,
-        )?;
-    }
-    Ok(())
+    assert_squares(&rt, &corners, &TURNED_SQUARE)
 }

@@ -3,24 +3,15 @@
 ghost use Rattle.std.specs.Prelude.{IfOk, length, ◌<◌};
 ghost use Rattle.qh_surface.specs.steps.Cones.{AreTriangles};
 
+use super::point;
 use crate::quickhull::cone_ring::{ConeRing, Wedge, opposite_of};
 use crate::quickhull::cone_search::Asked;
 use qh_mesh::FacetNo;
-use qh_model::{COORDINATE_LIMIT, Point};
+use qh_model::Point;
 use qh_pred::Plane;
 use std::alloc::{AllocError, Global};
+use std::process::Abort;
 use std::test::Fail;
-
-const LIMIT: i32 = COORDINATE_LIMIT as i32;
-
-/// The point with these coordinates, kept within the limit.
-pub fn point(x: i32, y: i32, z: i32) -> Point {
-    Point::new(
-        x.clamp(-LIMIT, LIMIT),
-        y.clamp(-LIMIT, LIMIT),
-        z.clamp(-LIMIT, LIMIT),
-    )
-}
 
 /// The points, with all coordinates so many times as large.
 fn scaled(alloc: Global, points: &[Point], factor: i32) -> Result<Vec<Point>, AllocError> {
@@ -114,27 +105,27 @@ fn told(
     Ok([seen, unseen, unknown])
 }
 
+/// Asserts what a search of a cone tells of points: how many are seen and how many are not, counted by determinants of
+/// whole numbers without bound, and that it tells of all.
+fn assert_told<R: AllocGlobal + Abort>(
+    rt: &R,
+    apex: Point,
+    rim: &[Point],
+    points: &[Point],
+) -> Result<(), Fail> {
+    let told = told(rt.alloc(), apex, rim, points)?;
+    assert_eq!(rt; told, [921u32, 1163, 0]);
+    Ok(())
+}
+
 #[test]
 fn large_cones_are_searched(rt: HostRuntime) -> Result<(), Fail> {
-    let alloc = rt.alloc();
     let apex = point(0, 125_000, 1_000_000);
-    let rim = rim(alloc)?;
-    let orphans = orphans(alloc, apex, rim.as_slice())?;
-    // Counted by determinants of whole numbers without bound.
-    let want = [921u32, 1163, 0];
-    assert_eq!(rt;
-        told(alloc, apex, rim.as_slice(), orphans.as_slice())?,
-        want
-    );
-    let wide_rim = scaled(alloc, rim.as_slice(), 1000)?;
-    let wide_orphans = scaled(alloc, orphans.as_slice(), 1000)?;
+    let rim = rim(rt.alloc())?;
+    let orphans = orphans(rt.alloc(), apex, &rim)?;
+    assert_told(&rt, apex, &rim, &orphans)?;
     let wide_apex = point(0, 125_000_000, 1_000_000_000);
-    let wide = told(
-        alloc,
-        wide_apex,
-        wide_rim.as_slice(),
-        wide_orphans.as_slice(),
-    )?;
-    assert_eq!(rt; wide, want);
-    Ok(())
+    let wide_rim = scaled(rt.alloc(), &rim, 1000)?;
+    let wide_orphans = scaled(rt.alloc(), &orphans, 1000)?;
+    assert_told(&rt, wide_apex, &wide_rim, &wide_orphans)
 }

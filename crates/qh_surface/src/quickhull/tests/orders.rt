@@ -2,14 +2,12 @@
 ghost use Rattle.std.specs.Prelude.{IfOk};
 ghost use Rattle.qh_model.specs.contract.IdSets.{AreIndices};
 
-use super::cones::point;
+use super::{LIMIT, point};
 use crate::quickhull::ends::ends_of;
 use crate::quickhull::near_order::near_order;
-use qh_model::{COORDINATE_LIMIT, Id, Memory, Point};
+use qh_model::{Id, Memory, Point};
 use std::alloc::Global;
 use std::test::Fail;
-
-const LIMIT: i32 = COORDINATE_LIMIT as i32;
 
 /// Whether the ids have these numbers.
 fn are(ids: &[Id], numbers: &[u32]) -> bool {

@@ -4,7 +4,7 @@
 ghost use Rattle.qh_model.specs.contract.IdSets.{IsIdSet};
 ghost use Rattle.qh_model.specs.contract.IdSets.{AreIndices};
 
-use super::cones::point;
+use super::point;
 use crate::quickhull::far_simplex::Simplex;
 use crate::quickhull::surfaces::run_over;
 use qh_model::{Id, Memory, POINT_LIMIT, Point};

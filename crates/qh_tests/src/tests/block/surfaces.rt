@@ -132,13 +132,16 @@ fn counts_of<R: AllocGlobal + Abort + Threads + Sync>(
 ) -> Result<(usize, usize), Fail> {
     let mesh = solid_surface(rt, rt.alloc(), pts)?.ok_or("a flat set")?;
     let triangles = triangles(rt.alloc(), &mesh)?;
-    assert!(rt; is_surface(rt.alloc(), pts, &triangles)?, "{triangles:?}");
-    Ok((triangles.len(), corner_count(rt.alloc(), &triangles)?))
+    let is_sound = is_surface(rt.alloc(), pts, &triangles)?;
+    let corners = corner_count(rt.alloc(), &triangles)?;
+    assert!(rt; is_sound, "{triangles:?}");
+    Ok((triangles.len(), corners))
 }
 
 #[test]
 fn corner_tetrahedron(rt: HostRuntime) -> Result<(), Fail> {
-    assert_eq!(rt; counts_of(&rt, &tetrahedron())?, (4, 4));
+    let counts = counts_of(&rt, &tetrahedron())?;
+    assert_eq!(rt; counts, (4, 4));
     Ok(())
 }
 
@@ -151,8 +154,9 @@ fn cubes(rt: HostRuntime) -> Result<(), Fail> {
         (-LIMIT, LIMIT, 1),
     ] {
         let pts = lattice(rt.alloc(), &[low, high], times)?;
+        let counts = counts_of(&rt, &pts)?;
         assert_eq!(rt;
-            counts_of(&rt, &pts)?,
+            counts,
             (12, 8),
             "{times} times a cube from {low} to {high}"
         );

@@ -49,14 +49,10 @@ fn work_last(
 fn gathered(one: Ended, two: Ended) -> Result<Ended, AllocError>
     ensures { IfOk result (λ e. e.lefts.items ≡ one.lefts.items ++ two.lefts.items) }
 {
-    let Ended { mut lefts, mut met } = one;
-    let Ended {
-        lefts: mut more_lefts,
-        met: mut more_met,
-    } = two;
-    lefts.append(&mut more_lefts)?;
-    met.append(&mut more_met)?;
-    Ok(Ended { lefts, met })
+    let (mut all, mut more) = (one, two);
+    all.lefts.append(&mut more.lefts)?;
+    all.met.append(&mut more.met)?;
+    Ok(all)
 }
 
 /// Works the passes to their ends, the halves of the list side by side, and again the halves of each.
