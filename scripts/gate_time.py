@@ -74,7 +74,8 @@ class Watch:
             if above != self.root:
                 continue
             key = pid, start
-            if key not in self.parts:
+            # (one that was seen before it became the prover is asked again)
+            if not self.parts.get(key):
                 self.parts[key] = part_of(pid)
             if self.parts[key]:
                 self.seconds[key] = seconds
