@@ -11,18 +11,13 @@ mod bounds;
 mod columns;
 mod sample;
 
+use crate::blocking::{FILTER_FROM, FILTER_SAMPLE, filter_pays};
 use crate::id_set::IdSet;
 use crate::inner_points::columns::Columns;
 use crate::inner_points::sample::{inner_columns, one_of};
 use qh_model::{Id, Memory};
 use qh_pred::point_at;
 use std::alloc::{AllocError, Global};
-
-/// From so many ids on, a set is looked through.
-const LARGE: usize = 50_000;
-
-/// About so many ids are the sample of a set.
-const SAMPLE: usize = 2048;
 
 /// Whether at least half of the ids lie in the columns, so that it pays to look at all.
 fn hold_most(sample: IdSet, columns: &Columns) -> bool {
@@ -32,7 +27,7 @@ fn hold_most(sample: IdSet, columns: &Columns) -> bool {
             held = held.saturating_add(1);
         }
     }
-    held >= sample.ids.len() / 2
+    filter_pays(held, sample.ids.len())
 }
 
 /// The ids that the columns don't hold.
@@ -56,10 +51,10 @@ pub fn outer_ids(alloc: Global, set: IdSet) -> Result<Option<Vec<Id>>, Memory>
     ensures part { IfOk result (λ found. IfSome found (λ v. IsOuterPart set.entry.pts.now set.entry.ids.now v.items)) }
 {
     let IdSet { pts, ids } = set;
-    if ids.len() < LARGE {
+    if ids.len() < FILTER_FROM {
         return Ok(None);
     }
-    let sample = one_of(alloc, ids, ids.len() / SAMPLE)?;
+    let sample = one_of(alloc, ids, ids.len() / FILTER_SAMPLE)?;
     let sampled = IdSet { pts, ids: &sample };
     let Some(columns) = inner_columns(alloc, sampled)? else {
         return Ok(None);

@@ -9,10 +9,12 @@
 //! finds the triangles of one plane (`plane_walk`), of which `faces` makes the polygon.
 //! `face_order` and `solid_edges` order the faces, most of them by the numbers of `face_keys`, and count their edges,
 //! and `solids` puts them together.
+//! `blocking` has the rules of how a set is divided, for this crate and those above.
 //! `segment` finds the ends of a line, `normals` the side from which a polygon is seen, and `bodies`
 //! puts the hulls of flat sets together.
 #![tactic(auto)]
 
+mod blocking;
 mod bodies;
 mod face_keys;
 mod face_order;
@@ -27,5 +29,6 @@ mod segment;
 mod solid_edges;
 mod solids;
 
+pub use blocking::{BLOCK_ALONE, TELLING, WHOLE_ALONE, are_few, tree_pays};
 pub use hulls::{extremes, extremes_unlooked, hull, outer};
 pub use qh_surface::surface;

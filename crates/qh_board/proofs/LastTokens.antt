@@ -79,10 +79,11 @@ module _ {S : Type 0} where
   all_told at (t ∷ ts) n e zero d h = told t.pass.mark (at t.pass.number) n.0 e.0
   all_told at (t ∷ ts) n e (suc k) d h = all_told at ts n.1 e.1 k d (omega arith)
 
-  lefts_left : (ts : List (Token S)) → Each (λ r. r.mark ≡ Some marks.Left) (records_of ts) → All (λ t. t.pass.mark ≡ Some marks.Left) ts
-  lefts_left [] e k d h = absurd (omega arith)
-  lefts_left (t ∷ ts) e zero d h = e.0
-  lefts_left (t ∷ ts) e (suc k) d h = lefts_left ts e.1 k d (omega arith)
+  -- P of the record of each token
+  pub of_records : (P : Record → Type 0) (ts : List (Token S)) → Each P (records_of ts) → All (λ t. P t.pass) ts
+  of_records P [] e k d h = absurd (omega arith)
+  of_records P (t ∷ ts) e zero d h = e.0
+  of_records P (t ∷ ts) e (suc k) d h = of_records P ts e.1 k d (omega arith)
 
   records_left : (ts : List (Token S)) → All (λ t. t.pass.mark ≡ Some marks.Left) ts → Each (λ r. r.mark ≡ Some marks.Left) (records_of ts)
   records_left [] h = tt
@@ -110,7 +111,7 @@ module _ {S X : Type 0} (right : S → (ℕ → Type 0) → X → Type 0) (key :
       → (n ≡ 1 → root ≡ value) → (n ≢ 1 → root ≡ None) → (IsSome root ↔ ((key.blocks ≤ claims) × All (λ t. t.pass.mark ≡ Some marks.Left) ts)) × IfSome root (λ x. right key.spans (InSpan key.blocks 1) x)
   root_told words xs ts L claims n value root c e at hit miss = dite (ℕ_discrete n 1)
       (λ one. let u = L.out (e ∙ one) in let same : value ≡ Some u.0 = some-injective value (Some u.0) (sym at ∙ u.1) in let d = L.done (e ∙ one) in
-      subst Right (sym (hit one ∙ same)) (((λ _. (subst (λ (z : ℕ). key.blocks ≤ z) c d.0, lefts_left ts d.1)), (λ _. refl)), u.2))
+      subst Right (sym (hit one ∙ same)) (((λ _. (subst (λ (z : ℕ). key.blocks ≤ z) c d.0, of_records (λ r. r.mark ≡ Some marks.Left) ts d.1)), (λ _. refl)), u.2))
       (λ ne. subst Right (sym (miss ne)) (((λ q. let f : false ≡ true = q in cc), (λ all. absurd (ne (sym e ∙ L.not_done (subst (λ (z : ℕ). key.blocks ≤ z) (sym c) all.0) (records_left ts all.1))))), tt))
     where
       Right : Option X → Type 0

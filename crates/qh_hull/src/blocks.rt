@@ -7,32 +7,21 @@ ghost use Rattle.qh_model.specs.headline.Predicates.{place};
 ghost use Rattle.qh_model.specs.headline.Sets.{Members};
 ghost use Rattle.qh_model.specs.laws.HullLaws.{HasExtremes};
 
-use qh_block::{extremes, hull};
+use qh_block::{BLOCK_ALONE, TELLING, WHOLE_ALONE, are_few, extremes, hull};
 use qh_model::{Body, Id, Memory, Point};
 use qh_plane::rising_ids;
 use std::alloc::Global;
-
-/// So many ids of a large set are looked at together.
-const BLOCK: usize = 65536;
-
-/// So many ids tell by their extremes whether blocks pay.
-const SAMPLE: usize = 1024;
-
-/// Whether so many extremes of so many ids are few.
-fn are_few(extremes: usize, among: usize) -> bool {
-    extremes <= among / 2
-}
 
 /// Whether blocks pay: the set is large, and of its first ids few are extreme.
 fn blocks_pay(alloc: Global, pts: &[Point], ids: &[Id]) -> Result<bool, Memory>
     requires { AreIndices pts.now ids.now }
 {
-    if ids.len() <= 2 * BLOCK {
+    if ids.len() <= WHOLE_ALONE {
         return Ok(false);
     }
-    let (sample, _) = ids.split_at(SAMPLE);
+    let (sample, _) = ids.split_at(TELLING);
     let found = extremes(alloc, pts, sample)?;
-    Ok(are_few(found.len(), SAMPLE))
+    Ok(are_few(found.len(), TELLING))
 }
 
 /// The ids that are extreme in their block, and all ids from behind the first block of which most are.
@@ -44,7 +33,7 @@ fn extremes_of_blocks(alloc: Global, pts: &[Point], ids: &[Id]) -> Result<Vec<Id
     let mut kept = Vec::new(alloc);
     let mut rest = ids;
     while !rest.is_empty() {
-        let (block, later) = rest.split_at(rest.len().min(BLOCK));
+        let (block, later) = rest.split_at(rest.len().min(BLOCK_ALONE));
         let found = extremes(alloc, pts, block)?;
         kept.extend_from_slice(&found)?;
         if !are_few(found.len(), block.len()) {

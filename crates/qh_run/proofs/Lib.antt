@@ -1,2 +1,2 @@
-pub mod EvenCuts
 pub mod RightUnions
+pub mod WorkedBoards

@@ -1,2 +1,3 @@
+pub mod Parts
 -- What private functions speak of: nothing to believe.
 pub mod Turns

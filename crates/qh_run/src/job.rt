@@ -10,13 +10,10 @@ ghost use Rattle.qh_model.specs.contract.IdSets.{AreIndices};
 
 use crate::reduction::{GivesUp, Reduction};
 use crate::unions::union;
-use qh_block::extremes_unlooked;
+use qh_block::{TELLING, extremes_unlooked, tree_pays};
 use qh_board::Spans;
 use qh_model::{Cut, Id, Point};
 use std::alloc::Global;
-
-/// How many ids tell by their extremes whether a tree pays; fewer tell nothing.
-const SAMPLE: usize = 1024;
 
 /// The points, their distinct ids, rising, and a cut of as many positions.
 #[derive(Drop)]
@@ -48,21 +45,15 @@ impl<'a> Spans for Job<'a> {
     ghost right = { λ job span found. RightValue job.pts.now job.ids.now job.cut.now span found.ids.items };
 }
 
-/// Whether a tree pays where so many of so many ids are extreme: not where they are more than half of
-/// many, since each of its levels would take the hull of nearly all ids again.
-fn tree_pays(extremes: usize, among: usize) -> bool {
-    among < SAMPLE || extremes <= among / 2
-}
-
 impl<'a> Job<'a> {
     /// Asks the first ids of a large block whether the tree pays, before the whole block is worked at.
     fn ask_sample(&self, alloc: Global, block: &[Id]) -> Result<(), GivesUp>
         requires { AreIndices self.now.pts.now block.now }
     {
-        if block.len() > SAMPLE {
-            let (sample, _) = block.split_at(SAMPLE);
+        if block.len() > TELLING {
+            let (sample, _) = block.split_at(TELLING);
             let found = extremes_unlooked(alloc, self.pts, sample)?;
-            if !tree_pays(found.len(), SAMPLE) {
+            if !tree_pays(found.len(), TELLING) {
                 return Err(GivesUp);
             }
         }
@@ -95,9 +86,6 @@ impl<'a> Reduction for Job<'a> {
     }
 
     fn reduce(&self, alloc: Global, block: u32) -> Result<Extremes, GivesUp> {
-        if self.cut.blocks() == 1 {
-            return Err(GivesUp);
-        }
         let (from, to) = self.cut.block(block);
         let block = &self.ids[from as usize..to as usize];
         self.ask_sample(alloc, block)?;

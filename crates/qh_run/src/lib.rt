@@ -11,11 +11,12 @@
 //! Source: Preparata and Hong 1977 (the hull of a set from the hulls of its parts).
 #![tactic(auto)]
 
+mod filtered;
 mod gate;
 mod job;
-mod leaves;
 mod passes;
 mod reduction;
+mod root;
 mod run;
 mod turn;
 mod unions;

@@ -1,6 +1,7 @@
 //! Passes side by side.
 ghost use Rattle.std.specs.Prelude.{◌≡◌, false, length, IfOk, All};
 ghost use Rattle.qh_board.specs.contract.Tokens.{IsOf};
+ghost use Rattle.qh_run.specs.steps.Turns.{IsWorked};
 
 use crate::gate::Gate;
 use crate::reduction::Reduction;
@@ -21,7 +22,7 @@ pub(crate) fn run_passes<S: Reduction, R: Threads + Sync, G: Gate>(
     requires board { All (IsOf board.now) passes.items }
     requires going { All (λ p. p.pass.over ≡ false) passes.items }
     requires blocks { board.now.setup.blocks ≡ S.count board.now.setup.spans }
-    ensures { IfOk result (λ v. (length v.items ≡ length passes.items) × All (IsOf board.now) v.items) }
+    ensures { IfOk result (λ v. (length v.items ≡ length passes.items) × All (IsWorked board.now) v.items) }
 {
     let mut passes = passes;
     if passes.len() < 2 {
@@ -37,11 +38,11 @@ pub(crate) fn run_passes<S: Reduction, R: Threads + Sync, G: Gate>(
         rt,
         || -> Result<Vec<Left<S>>, AllocError>
             requires { All (IsOf board.now) passes.items × All (λ p. p.pass.over ≡ false) passes.items × (board.now.setup.blocks ≡ S.count board.now.setup.spans) }
-            ensures { IfOk result (λ v. (length v.items ≡ length passes.items) × All (IsOf board.entry.now) v.items) }
+            ensures { IfOk result (λ v. (length v.items ≡ length passes.items) × All (IsWorked board.entry.now) v.items) }
         { run_passes(rt, alloc, board, passes, gate) },
         || -> Result<Vec<Left<S>>, AllocError>
             requires { All (IsOf board.now) others.items × All (λ p. p.pass.over ≡ false) others.items × (board.now.setup.blocks ≡ S.count board.now.setup.spans) }
-            ensures { IfOk result (λ v. (length v.items ≡ length others.items) × All (IsOf board.entry.now) v.items) }
+            ensures { IfOk result (λ v. (length v.items ≡ length others.items) × All (IsWorked board.entry.now) v.items) }
         { run_passes(rt, alloc, board, others, gate) },
     );
     let mut lefts = one?;

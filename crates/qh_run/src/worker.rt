@@ -1,9 +1,9 @@
 //! What one pass does.
-ghost use Rattle.std.specs.Prelude.{◌≡◌, ◌+◌, ◌<◌, ℕ, Some, false};
+ghost use Rattle.std.specs.Prelude.{◌≡◌, ◌+◌, ◌<◌, ℕ, Some, false, true};
 ghost use Rattle.qh_model.specs.contract.Cut.{block_count};
 ghost use Rattle.qh_board.specs.declared.view.Mark.TheVariants as marks;
 ghost use Rattle.qh_board.specs.contract.Tokens.{IsOf, task_node};
-ghost use Rattle.qh_run.specs.steps.Turns.{IsAnswerOf, IsTurnOf, answered};
+ghost use Rattle.qh_run.specs.steps.Turns.{IsAnswerOf, IsTurnOf, IsWorked, answered};
 
 use crate::gate::Gate;
 use crate::job::Job;
@@ -69,9 +69,8 @@ pub(crate) fn run_pass<S: Reduction, G: Gate>(
     requires board { IsOf board.now pass }
     requires going { pass.pass.over ≡ false }
     requires blocks { board.now.setup.blocks ≡ S.count board.now.setup.spans }
-    ensures board { IsOf board.now result }
+    ensures worked { IsWorked board.now result }
     ensures number { result.pass.number ≡ pass.pass.number }
-    ensures all_claimed { result.pass.mark ≡ Some marks.Left → board.now.setup.blocks < result.pass.claims }
 {
     let mut pass = pass;
     'claims: loop {
@@ -85,13 +84,14 @@ pub(crate) fn run_pass<S: Reduction, G: Gate>(
     }
 }
 
-/// Works a pass of a board to its end: claims blocks, delivers their extreme ids, and takes the extreme
-/// ids of both children's wherever it came second. It leaves once all blocks are claimed.
+/// Works a pass of a board to its end: claims blocks, delivers their extreme ids, and wherever it came
+/// second takes the extreme ids of what both children have. It leaves once all blocks are claimed.
 ///
 /// The board's blocks are those of the job's cut.
 ///
-/// The pass gives up where memory is refused; where the tree does not pay, since its blocks have many
-/// ids and most of them are extreme; and at the one block of a board of one.
+/// The pass gives up where an allocation failed, and at a node whose blocks have at least
+/// `qh_block::TELLING` ids of which more than half are extreme; the first ids of a large block tell
+/// that of the block.
 pub fn work<'a, G: Gate>(
     alloc: Global,
     board: &Board<Job<'a>>,
@@ -104,7 +104,8 @@ pub fn work<'a, G: Gate>(
     ensures board { IsOf board.now result }
     ensures number { result.pass.number ≡ pass.entry.pass.number }
 
-    // Its last claim found all blocks claimed.
+    // A pass that left was answered Over: its last claim found all blocks claimed.
+    ensures over { result.pass.mark ≡ Some marks.Left → result.pass.over ≡ true }
     ensures all_claimed { result.pass.mark ≡ Some marks.Left → board.now.setup.blocks < result.pass.claims }
 {
     run_pass(alloc, board, pass, gate)

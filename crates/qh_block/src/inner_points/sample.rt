@@ -5,6 +5,7 @@ ghost use Rattle.qh_model.specs.headline.Sets.{Members};
 ghost use Rattle.qh_block.specs.steps.InnerPoints.{HasPlanes, AreInner};
 ghost use Rattle.qh_surface.specs.contract.Corners.{AreCornersBelow};
 
+use crate::blocking::sample_pays;
 use crate::id_set::IdSet;
 use crate::inner_points::columns::Columns;
 use crate::solids::solid_mesh;
@@ -64,7 +65,7 @@ pub fn inner_columns(alloc: Global, sample: IdSet) -> Result<Option<Columns>, Me
     }
     let mesh = solid_mesh(alloc, sample.pts, sample.ids, i, j, k, l)?.renamed();
     let planes = planes_of(alloc, sample.pts, &mesh)?;
-    if planes.len() > sample.ids.len() {
+    if !sample_pays(planes.len(), sample.ids.len()) {
         return Ok(None);
     }
     Ok(Some(Columns::below(alloc, &planes, sample)?))

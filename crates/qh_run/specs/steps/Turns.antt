@@ -1,11 +1,11 @@
 -- A pass's turn at a block: what a deliver answers it, and how the turn ends.
 -- Source: this project's own.
-use Rattle.std.specs.Prelude.{◌≡◌, ℕ, ◌+◌, ◌*◌, ◌<◌, Some}
+use Rattle.std.specs.Prelude.{◌≡◌, ℕ, ◌+◌, ◌*◌, ◌<◌, true, Some}
 use Rattle.qh_board.specs.declared.view.Mark.TheVariants as marks
 use Rattle.qh_board.specs.declared.view.Record.{Record}
 use Rattle.qh_board.specs.declared.calls.Delivered.{Delivered}
 use Rattle.qh_board.specs.declared.calls.Delivered.TheVariants.{Parked, Both, Root}
-use Rattle.qh_board.specs.contract.Tokens.{BoardValue, IsOf, IsRightAt, task_node}
+use Rattle.qh_board.specs.contract.Tokens.{BoardValue, Token, IsOf, IsRightAt, task_node}
 use Rattle.qh_run.specs.declared.turn.Turn.{Turn}
 use Rattle.qh_run.specs.declared.turn.Turn.TheVariants.{Ended, GaveUp}
 
@@ -39,3 +39,10 @@ module _ {S X : Type 0} where
   abbrev pub IsTurnOf : BoardValue S → Record → Turn S X → Type 0
   IsTurnOf b r (Ended p) = IsOf b p × SinceClaim r p.pass
   IsTurnOf b r (GaveUp l) = IsOf b l × (l.pass.number ≡ r.number) × (l.pass.mark ≡ Some marks.GaveUp)
+
+module _ {S : Type 0} where
+  -- the board's pass has ended; where it left, it was told that all blocks are claimed, by its last claim
+  pub record IsWorked (b : BoardValue S) (l : Token S) : Type 0 where
+    pub mine : IsOf b l
+    pub over : l.pass.mark ≡ Some marks.Left → l.pass.over ≡ true
+    pub claimed : l.pass.mark ≡ Some marks.Left → b.setup.blocks < l.pass.claims

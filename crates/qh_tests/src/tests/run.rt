@@ -13,6 +13,7 @@ use std::process::Abort;
 use std::test::Fail;
 use std::thread::Threads;
 
+pub mod gates;
 mod refusals;
 
 /// What the hull of the octahedron says, as `numbers_of` has it.
@@ -190,7 +191,8 @@ fn assert_ends<R: AllocGlobal + Abort + Threads + Sync>(
     Ok(())
 }
 
-/// One block, then blocks that tell by themselves, then by the first two joined, and the first four.
+/// Blocks that tell by their first ids, one that tells by all of its own, then blocks that tell by the
+/// first two joined, and by the first four.
 const PARABOLOID_ENDS: [(u32, u64, Mark); 4] = [
     (2048, 1, Mark::GaveUp),
     (1024, 1, Mark::GaveUp),
@@ -198,8 +200,9 @@ const PARABOLOID_ENDS: [(u32, u64, Mark); 4] = [
     (256, 4, Mark::GaveUp),
 ];
 
+/// One block is worked at like any other.
 const LATTICE_ENDS: [(u32, u64, Mark); 3] = [
-    (2048, 1, Mark::GaveUp),
+    (2048, 2, Mark::Left),
     (1024, 3, Mark::Left),
     (512, 5, Mark::Left),
 ];

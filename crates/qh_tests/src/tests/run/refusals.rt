@@ -1,15 +1,17 @@
 //! Runs of which one growth is refused: the hull is right, or memory was wanted and the same call gives
 //! it. A worker whose growth is refused gives up. `scripts/refusals.py` refuses each growth in turn.
-ghost use Rattle.std.specs.Prelude.{◌<◌, ◌≤◌, length};
+ghost use Rattle.std.specs.Prelude.{◌<◌, ◌≤◌, IfOk, length};
 ghost use Rattle.qh_model.specs.headline.DistinctIds.{AreDistinctIds};
 
+use super::gates::Finishes;
 use super::{OCTAHEDRON_HULL, hull_by, job, numbers_of, worked_by_one};
 use crate::tests::points::{cube, octahedron, square};
 use qh_board::{BoardError, Mark};
 use qh_model::{Cut, CutError, Hull, Id, Memory, POINT_LIMIT, Point};
 use qh_plane::distinct;
-use qh_run::RunError;
+use qh_run::{RunError, run_hull};
 use std::alloc::{AllocError, Global};
+use std::process::Abort;
 use std::test::Fail;
 use std::thread::Threads;
 
@@ -136,4 +138,75 @@ fn a_worker_gives_up(rt: HostRuntime) -> Result<(), Fail> {
     };
     assert_eq!(rt; found, Found::Right);
     Ok(())
+}
+
+/// The points of a cubic lattice with 40 along each side: so many that the interior filter takes them.
+fn lattice(alloc: Global) -> Result<Vec<Point>, AllocError> {
+    let mut points = Vec::with_capacity(alloc, 64000)?;
+    for number in 0..64000 {
+        points.push(Point::new(number / 1600, number / 40 % 40, number % 40))?;
+    }
+    Ok(points)
+}
+
+/// The distinct ids of some points, asked for again if an allocation failed.
+fn ids_again<R: Threads + Sync>(rt: &R, alloc: Global, points: &[Point]) -> Result<Vec<Id>, Memory>
+    requires few { length points.now ≤ POINT_LIMIT }
+    ensures { IfOk result (λ ids. AreDistinctIds points.now ids.items) }
+{
+    match distinct(rt, alloc, points) {
+        Err(Memory) => distinct(rt, alloc, points),
+        ids => ids,
+    }
+}
+
+/// How often a run over a cut of some points calls the gate's `finish`, whatever comes of it.
+fn finishes_of<R: Threads + Sync>(
+    rt: &R,
+    alloc: Global,
+    points: &[Point],
+    cut: &Cut,
+    workers: u32,
+) -> Result<u64, Fail> {
+    if points.len() > POINT_LIMIT as usize {
+        return Err("too many points".into());
+    }
+    let ids = ids_again(rt, alloc, points)?;
+    let (_, end) = cut.block(cut.blocks() - 1);
+    if end as usize != ids.len() {
+        return Err("another cut".into());
+    }
+    let gate = Finishes::new();
+    let _ = run_hull(rt, alloc, points, &ids, cut, workers, &gate);
+    Ok(gate.calls())
+}
+
+/// Asserts that a run calls `finish` once, with any number of workers.
+fn assert_finishes<R: AllocGlobal + Abort + Threads + Sync>(
+    rt: &R,
+    points: &[Point],
+    cut: &Cut,
+) -> Result<(), Fail> {
+    for workers in [1, 2, 7] {
+        let calls = finishes_of(rt, rt.alloc(), points, cut, workers)?;
+        assert_eq!(rt; calls, 1, "{workers} workers");
+    }
+    Ok(())
+}
+
+#[test]
+fn finishes_once(rt: HostRuntime) -> Result<(), Fail> {
+    let octahedron = octahedron();
+    let cut = cut_again(rt.alloc(), 18, 3)?;
+    assert_finishes(&rt, &octahedron, &cut)
+}
+
+#[test]
+fn finishes_once_after_the_filter(rt: HostRuntime) -> Result<(), Fail> {
+    let points = match lattice(rt.alloc()) {
+        Err(AllocError) => lattice(rt.alloc())?,
+        Ok(points) => points,
+    };
+    let cut = cut_again(rt.alloc(), 64000, 4096)?;
+    assert_finishes(&rt, &points, &cut)
 }

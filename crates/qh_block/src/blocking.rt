@@ -1,0 +1,63 @@
+//! How a set is divided before Quickhull takes it: every number and rule, with its reason.
+//!
+//! A set is hulled in parts where that is cheaper: most points of a part are not extreme, and the
+//! extreme points of all parts are few. These rules tell when. They change the time and never an
+//! answer, since the hull of a set is the same for every division of it. docs/PERFORMANCE.md has
+//! the measurements.
+ghost use Rattle.std.specs.Prelude.{◌↔◌, ◌≤◌, ◌<◌, ◌/◌, ◌⊎◌, IsTrue};
+
+/// The interior filter takes sets of at least this many ids.
+///
+/// In a smaller set the hull of the filter's sample costs as much as the filter saves.
+pub(crate) const FILTER_FROM: usize = 50_000;
+
+/// The interior filter's sample has about this many ids, spread evenly over the set.
+///
+/// A smaller one leaves more points outside its hull; the hull of a larger one takes longer than it
+/// saves.
+pub(crate) const FILTER_SAMPLE: usize = 2048;
+
+/// This many ids tell by the share of them that is extreme whether a division pays.
+///
+/// Of fewer ids a large share is extreme in every set.
+pub const TELLING: usize = 1024;
+
+/// The calling thread alone takes a large set in blocks of this many ids.
+///
+/// Within a block Quickhull does not put the points in an order of space, and the interior filter
+/// takes each block by itself. Blocks of 16,384 ids took as long.
+pub const BLOCK_ALONE: usize = 65_536;
+
+/// The calling thread alone divides sets of more ids than this. Two blocks gain nothing.
+pub const WHOLE_ALONE: usize = 2 * BLOCK_ALONE;
+
+/// Returns true if at most half of the ids are extreme, so that hulling parts first pays.
+///
+/// Where most ids are extreme, each division takes the hull of nearly all ids once more.
+pub fn are_few(extremes: usize, among: usize) -> bool
+    ensures { IsTrue result ↔ (extremes ≤ among / 2) }
+{
+    extremes <= among / 2
+}
+
+/// Returns true if a tree goes on above a node: the node's blocks have too few ids to tell, or at
+/// most half of them are extreme.
+pub fn tree_pays(extremes: usize, among: usize) -> bool
+    ensures { IsTrue result ↔ ((among < TELLING) ⊎ (extremes ≤ among / 2)) }
+{
+    among < TELLING || are_few(extremes, among)
+}
+
+/// Returns true if the hull of the interior filter's sample has few enough facets.
+///
+/// A hull of n points has at most 2 n - 4 facets. More than half as many say that most of the sample
+/// is extreme, so that few points of the set are inside.
+pub(crate) fn sample_pays(facets: usize, sample: usize) -> bool {
+    facets <= sample
+}
+
+/// Returns true if the interior filter finds at least half of its sample inside, so that it pays to
+/// filter the whole set.
+pub(crate) fn filter_pays(inside: usize, sample: usize) -> bool {
+    inside >= sample / 2
+}

@@ -1,0 +1,60 @@
+//! A job without the points that the interior filter finds inside.
+ghost use Rattle.std.specs.Prelude.{◌≡◌, ◌≤◌, ◌<◌, IfOk, IfSome, length};
+ghost use Rattle.qh_model.specs.contract.Cut.{positions};
+ghost use Rattle.qh_run.specs.steps.Parts.{StandsFor};
+
+use crate::job::Job;
+use qh_block::outer;
+use qh_model::{Cut, Id, Memory};
+use std::alloc::{AllocError, Global};
+
+/// The ids of a job that the interior filter keeps, and the job's blocks without the others.
+#[derive(Drop)]
+pub(crate) struct FilteredJob {
+    pub ids: Vec<Id>,
+    pub cut: Cut,
+    ghost whole: { positions cut ≡ length ids.items },
+}
+
+/// Returns the bounds of the job's blocks among the ids that are left of its own, empty blocks left
+/// out.
+fn bounds_among(alloc: Global, job: &Job, left: &[Id]) -> Result<Vec<u32>, AllocError>
+    requires some { 0 < length left.now }
+    requires few { length left.now ≤ positions job.now.cut.now }
+    ensures { IfOk result (λ v. positions v.items ≡ length left.now) }
+{
+    let mut bounds = Vec::new(alloc);
+    let mut last = 0;
+    bounds.push(0)?;
+    for block in 1..job.cut.blocks() {
+        let (from, _) = job.cut.block(block);
+        let first = job.ids[from as usize];
+        let at = left.partition_point(|id| *id < first);
+        if at > last && at < left.len() {
+            bounds.push(at as u32)?;
+            last = at;
+        }
+    }
+    bounds.push(left.len() as u32)?;
+    Ok(bounds)
+}
+
+/// Filters a job: returns what is left of its ids and blocks, or `None` where no filter pays.
+///
+/// # Errors
+///
+/// `Memory` if an allocation failed.
+pub(crate) fn without_interior(alloc: Global, job: &Job) -> Result<Option<FilteredJob>, Memory>
+    requires { 0 < length job.now.ids.now }
+    ensures part { IfOk result (λ found. IfSome found (λ c. StandsFor job.now.pts.now job.now.ids.now c.ids.items)) }
+    ensures some { IfOk result (λ found. IfSome found (λ c. 0 < length c.ids.items)) }
+{
+    let Some(ids) = outer(alloc, job.pts, job.ids)? else {
+        return Ok(None);
+    };
+    let bounds = bounds_among(alloc, job, &ids)?;
+    match Cut::from_bounds(bounds) {
+        Ok(cut) => Ok(Some(FilteredJob { ids, cut })),
+        Err(_) => Ok(None),
+    }
+}
