@@ -8,7 +8,7 @@ ghost use Rattle.qh_model.specs.headline.Predicates.{place};
 ghost use Rattle.qh_model.specs.headline.Sets.{Members};
 ghost use Rattle.qh_model.specs.contract.IdSets.{AreIndices};
 
-use crate::reduction::{GivesUp, Reduction};
+use crate::reduction::{Claimed, GivesUp, Reduction};
 use crate::unions::union;
 use qh_block::{TELLING, extremes_unlooked, tree_pays};
 use qh_board::Spans;
@@ -46,7 +46,7 @@ impl<'a> Spans for Job<'a> {
 }
 
 impl<'a> Job<'a> {
-    /// Asks the first ids of a large block whether the tree pays, before the whole block is worked at.
+    /// Asks the first ids of a large block whether the tree pays, before a pass works at its first block.
     fn ask_sample(&self, alloc: Global, block: &[Id]) -> Result<(), GivesUp>
         requires { AreIndices self.now.pts.now block.now }
     {
@@ -85,10 +85,12 @@ impl<'a> Reduction for Job<'a> {
         self.cut.blocks()
     }
 
-    fn reduce(&self, alloc: Global, block: u32) -> Result<Extremes, GivesUp> {
+    fn reduce(&self, alloc: Global, block: u32, claimed: Claimed) -> Result<Extremes, GivesUp> {
         let (from, to) = self.cut.block(block);
         let block = &self.ids[from as usize..to as usize];
-        self.ask_sample(alloc, block)?;
+        if claimed == Claimed::First {
+            self.ask_sample(alloc, block)?;
+        }
         self.extremes_among(alloc, block, block.len())
     }
 

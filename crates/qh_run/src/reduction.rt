@@ -16,6 +16,15 @@ impl From<Memory> for GivesUp {
     }
 }
 
+/// When a pass claimed a block.
+#[derive(Clone, Copy, Debug, PartialEq, Eq, Drop)]
+pub(crate) enum Claimed {
+    /// At its first claim, when it knows nothing of the blocks.
+    First,
+    /// At a later claim, after it worked at other blocks and did not give up.
+    Later,
+}
+
 /// A reduction over blocks: what is found for a block, and for an inner node from what was found for
 /// its children. A value is right for a node where it is right for the blocks of its span.
 pub(crate) trait Reduction: Spans {
@@ -26,8 +35,8 @@ pub(crate) trait Reduction: Spans {
     fn blocks(&self) -> u32
         ensures { result ≡ Self.count self.now };
 
-    /// What is found for a block.
-    fn reduce(&self, alloc: Global, block: u32) -> Result<Self::Value, GivesUp>
+    /// What is found for a block. Of the first block of a pass a sample may tell that the pass gives up.
+    fn reduce(&self, alloc: Global, block: u32, claimed: Claimed) -> Result<Self::Value, GivesUp>
         requires { block < Self.count self.now }
         ensures { IfOk result (Self.right self.now (InSpan (Self.count self.now) (Self.count self.now + block))) };
 

@@ -7,7 +7,7 @@ ghost use Rattle.qh_run.specs.steps.Turns.{IsAnswerOf, IsTurnOf, IsWorked, answe
 
 use crate::gate::Gate;
 use crate::job::Job;
-use crate::reduction::Reduction;
+use crate::reduction::{Claimed, Reduction};
 use crate::turn::Turn;
 use qh_board::{Board, Claim, Delivered, Left, Pass, Task};
 use std::alloc::Global;
@@ -39,6 +39,7 @@ fn take_turn<S: Reduction, G: Gate>(
     alloc: Global,
     board: &Board<S>,
     task: Task<S>,
+    claimed: Claimed,
     gate: &G,
 ) -> Turn<S>
     requires board { IsOf board.now task }
@@ -49,7 +50,7 @@ fn take_turn<S: Reduction, G: Gate>(
     let pass = task.pass();
     let block = task.node() - board.spans().blocks();
     gate.claimed(pass, block);
-    match board.spans().reduce(alloc, block) {
+    match board.spans().reduce(alloc, block, claimed) {
         Ok(value) => {
             let answer = board.deliver(task, value);
             gate.delivered(pass, block);
@@ -73,14 +74,16 @@ pub(crate) fn run_pass<S: Reduction, G: Gate>(
     ensures number { result.pass.number ≡ pass.pass.number }
 {
     let mut pass = pass;
+    let mut claimed = Claimed::First;
     'claims: loop {
         match board.claim(pass) {
             Claim::Over(over) => return board.leave(over),
-            Claim::Block(task) => match take_turn(alloc, board, task, gate) {
+            Claim::Block(task) => match take_turn(alloc, board, task, claimed, gate) {
                 Turn::Ended(next) => pass = next,
                 Turn::GaveUp(left) => return left,
             },
         }
+        claimed = Claimed::Later;
     }
 }
 
@@ -90,8 +93,8 @@ pub(crate) fn run_pass<S: Reduction, G: Gate>(
 /// The board's blocks are those of the job's cut.
 ///
 /// The pass gives up where an allocation failed, and at a node whose blocks have at least
-/// `qh_block::TELLING` ids of which more than half are extreme; the first ids of a large block tell
-/// that of the block.
+/// `qh_block::TELLING` ids of which more than half are extreme; the first ids of its first block
+/// tell that of the block.
 pub fn work<'a, G: Gate>(
     alloc: Global,
     board: &Board<Job<'a>>,

@@ -1,5 +1,5 @@
 use Rattle.std.proofs.Common.{arith}
-use Rattle.qh_run.proofs.EvenCuts.{even_positions}
+use Rattle.qconvex.proofs.EvenCuts.{even_positions}
 use Rattle.qconvex.proofs.answer.even_cut.Goals as goal
 
 -- src/answer.rt:21:1

@@ -1,0 +1,10 @@
+-- How much an even cut cuts.
+use Rattle.std.proofs.Common.{◌≡◌, ℕ, ◌<◌, List, arith}
+use Rattle.std.proofs.lemmas.Grind.{div_ceil_times}
+use Rattle.qh_model.specs.contract.Cut.{IsEvenCut, blocks_of, positions}
+
+-- an even cut of some positions cuts all of them
+pub even_positions : (m size : ℕ) (bounds : List ℕ) → 0 < size → IsEvenCut m size bounds → positions bounds ≡ m
+even_positions m size bounds s even =
+    let cover = (div_ceil_times m size s).0 in
+    grind (arith, cover, even.count, even.each (blocks_of m size) (grind (arith, even.count)))
