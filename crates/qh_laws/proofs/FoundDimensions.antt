@@ -1,5 +1,5 @@
--- Each set of ids has a dimension: its tetrahedra, triangles and segments can be looked for.
-use Rattle.std.proofs.Common.{◌≡◌, ◌≢◌, ℕ, List, ◌⊎◌, inl, inr, refl}
+-- Each set of ids has a dimension, by a search for a tetrahedron, a triangle and a segment.
+use Rattle.std.proofs.Common.{◌≡◌, ◌≢◌, ℕ, List, inl, inr, refl}
 use Rattle.std.specs.Prelude.{pos}
 use Rattle.qh_model.specs.headline.Dimension.{HasTetrahedron, HasTriangle, HasSegment, IsDimension}
 use Rattle.qh_model.specs.headline.Predicates.{cross, vol, AreInLine}
@@ -8,57 +8,56 @@ use Rattle.qh_model.specs.headline.Vector.{Vector, origin}
 use Rattle.qh_laws.proofs.Decisions.{Decided, contrary, decided_as, some_or_none, same_id, same_number, same_vector}
 
 module _ (at : ℕ → Vector) (ids : List ℕ) where
-  -- three members and a fourth
-  abbrev IsFourth : ℕ → ℕ → ℕ → ℕ → Type 0
-  IsFourth i j k l = vol (at i) (at j) (at k) (at l) ≢ pos 0
+  -- some member makes a tetrahedron with three
+  abbrev HasFourth : ℕ → ℕ → ℕ → Type 0
+  HasFourth i j k = (l : ℕ) × In l ids × (vol (at i) (at j) (at k) (at l) ≢ pos 0)
 
-  -- two members and a third
-  abbrev IsThird : ℕ → ℕ → ℕ → Type 0
-  IsThird i j k = ¬ (AreInLine (at i) (at j) (at k))
+  -- some member makes a triangle with two
+  abbrev HasThird : ℕ → ℕ → Type 0
+  HasThird i j = (k : ℕ) × In k ids × (¬ (AreInLine (at i) (at j) (at k)))
 
-  -- a tetrahedron
+  -- there is a tetrahedron or none
   tetrahedron_or_not : Decided (HasTetrahedron at (Members ids))
   tetrahedron_or_not =
-      decided_as ((i : ℕ) × In i ids × ((j : ℕ) × In j ids × ((k : ℕ) × In k ids × ((l : ℕ) × In l ids × IsFourth i j k l))))
-      (HasTetrahedron at (Members ids)) into
+      decided_as ((i : ℕ) × In i ids × ((j : ℕ) × In j ids × ((k : ℕ) × In k ids × HasFourth i j k))) (HasTetrahedron at (Members ids)) into
       (λ h. (h.i, h.has_i, (h.j, h.has_j, (h.k, h.has_k, (h.l, h.has_l, h.volume)))))
-      (some_or_none (λ i. (j : ℕ) × In j ids × ((k : ℕ) × In k ids × ((l : ℕ) × In l ids × IsFourth i j k l))) first ids)
+      (some_or_none (λ i. (j : ℕ) × In j ids × ((k : ℕ) × In k ids × HasFourth i j k)) first ids)
     where
-      into : (i : ℕ) × In i ids × ((j : ℕ) × In j ids × ((k : ℕ) × In k ids × ((l : ℕ) × In l ids × IsFourth i j k l))) → HasTetrahedron at (Members ids)
+      into : (i : ℕ) × In i ids × ((j : ℕ) × In j ids × ((k : ℕ) × In k ids × HasFourth i j k)) → HasTetrahedron at (Members ids)
       into (i, a, (j, b, (k, c, (l, d, v)))) = record { i = i; j = j; k = k; l = l; has_i = a; has_j = b; has_k = c; has_l = d; volume = v }
 
-      fourth : (i j k l : ℕ) → Decided (IsFourth i j k l)
-      fourth i j k l = contrary (vol (at i) (at j) (at k) (at l) ≡ pos 0) (same_number (vol (at i) (at j) (at k) (at l)) (pos 0))
+      volume : (i j k l : ℕ) → Decided (vol (at i) (at j) (at k) (at l) ≢ pos 0)
+      volume i j k l = contrary (vol (at i) (at j) (at k) (at l) ≡ pos 0) (same_number (vol (at i) (at j) (at k) (at l)) (pos 0))
 
-      third : (i j k : ℕ) → Decided ((l : ℕ) × In l ids × IsFourth i j k l)
-      third i j k = some_or_none (IsFourth i j k) (fourth i j k) ids
+      third : (i j k : ℕ) → Decided (HasFourth i j k)
+      third i j k = some_or_none (λ l. vol (at i) (at j) (at k) (at l) ≢ pos 0) (volume i j k) ids
 
-      second : (i j : ℕ) → Decided ((k : ℕ) × In k ids × ((l : ℕ) × In l ids × IsFourth i j k l))
-      second i j = some_or_none (λ k. (l : ℕ) × In l ids × IsFourth i j k l) (third i j) ids
+      second : (i j : ℕ) → Decided ((k : ℕ) × In k ids × HasFourth i j k)
+      second i j = some_or_none (HasFourth i j) (third i j) ids
 
-      first : (i : ℕ) → Decided ((j : ℕ) × In j ids × ((k : ℕ) × In k ids × ((l : ℕ) × In l ids × IsFourth i j k l)))
-      first i = some_or_none (λ j. (k : ℕ) × In k ids × ((l : ℕ) × In l ids × IsFourth i j k l)) (second i) ids
+      first : (i : ℕ) → Decided ((j : ℕ) × In j ids × ((k : ℕ) × In k ids × HasFourth i j k))
+      first i = some_or_none (λ j. (k : ℕ) × In k ids × HasFourth i j k) (second i) ids
 
-  -- a triangle
+  -- there is a triangle or none
   triangle_or_not : Decided (HasTriangle at (Members ids))
   triangle_or_not =
-      decided_as ((i : ℕ) × In i ids × ((j : ℕ) × In j ids × ((k : ℕ) × In k ids × IsThird i j k))) (HasTriangle at (Members ids)) into
+      decided_as ((i : ℕ) × In i ids × ((j : ℕ) × In j ids × HasThird i j)) (HasTriangle at (Members ids)) into
       (λ h. (h.i, h.has_i, (h.j, h.has_j, (h.k, h.has_k, h.area))))
-      (some_or_none (λ i. (j : ℕ) × In j ids × ((k : ℕ) × In k ids × IsThird i j k)) first ids)
+      (some_or_none (λ i. (j : ℕ) × In j ids × HasThird i j) first ids)
     where
-      into : (i : ℕ) × In i ids × ((j : ℕ) × In j ids × ((k : ℕ) × In k ids × IsThird i j k)) → HasTriangle at (Members ids)
-      into (i, a, (j, b, (k, c, v))) = record { i = i; j = j; k = k; has_i = a; has_j = b; has_k = c; area = v }
+      into : (i : ℕ) × In i ids × ((j : ℕ) × In j ids × HasThird i j) → HasTriangle at (Members ids)
+      into (i, a, (j, b, (k, c, d))) = record { i = i; j = j; k = k; has_i = a; has_j = b; has_k = c; area = d }
 
-      third : (i j k : ℕ) → Decided (IsThird i j k)
-      third i j k = contrary (AreInLine (at i) (at j) (at k)) (same_vector (cross (at i) (at j) (at k)) origin)
+      area : (i j k : ℕ) → Decided (¬ (AreInLine (at i) (at j) (at k)))
+      area i j k = contrary (AreInLine (at i) (at j) (at k)) (same_vector (cross (at i) (at j) (at k)) origin)
 
-      second : (i j : ℕ) → Decided ((k : ℕ) × In k ids × IsThird i j k)
-      second i j = some_or_none (IsThird i j) (third i j) ids
+      second : (i j : ℕ) → Decided (HasThird i j)
+      second i j = some_or_none (λ k. ¬ (AreInLine (at i) (at j) (at k))) (area i j) ids
 
-      first : (i : ℕ) → Decided ((j : ℕ) × In j ids × ((k : ℕ) × In k ids × IsThird i j k))
-      first i = some_or_none (λ j. (k : ℕ) × In k ids × IsThird i j k) (second i) ids
+      first : (i : ℕ) → Decided ((j : ℕ) × In j ids × HasThird i j)
+      first i = some_or_none (HasThird i) (second i) ids
 
-  -- a segment
+  -- there is a segment or none
   segment_or_not : Decided (HasSegment (Members ids))
   segment_or_not =
       decided_as ((i : ℕ) × In i ids × ((j : ℕ) × In j ids × (i ≢ j))) (HasSegment (Members ids)) into
@@ -68,7 +67,7 @@ module _ (at : ℕ → Vector) (ids : List ℕ) where
       into : (i : ℕ) × In i ids × ((j : ℕ) × In j ids × (i ≢ j)) → HasSegment (Members ids)
       into (i, a, (j, b, n)) = record { i = i; j = j; has_i = a; has_j = b; differ = n }
 
-  -- its dimension
+  -- so there is a dimension
   pub dimension_of : (k : ℕ) × IsDimension at (Members ids) k
   dimension_of = by tetrahedron_or_not triangle_or_not segment_or_not
     where

@@ -1,8 +1,8 @@
--- The faces of a solid: each supporting triple has a polygon, and the polygons of all of them have a rising list.
-use Rattle.std.proofs.Common.{◌≡◌, ◌≢◌, ◌∙◌, ℕ, ◌<◌, List, [], ◌∷◌, map, refl, ap, sym, subst, arith, ◌⊎◌, inl, inr}
+-- Each supporting triple has a polygon, and the polygons of all triples have a rising list.
+use Rattle.std.proofs.Common.{◌≡◌, ◌∙◌, ℕ, ◌<◌, List, [], ◌∷◌, map, refl, sym, subst, ◌⊎◌, inl, inr}
 use Rattle.std.proofs.lemmas.Bool.{cases_order}
 use Rattle.std.specs.List.{flat_map}
-use Rattle.std.specs.Prelude.{pos, ◌≤ℤ◌, ◌↔◌}
+use Rattle.std.specs.Prelude.{ℤ, pos, ◌≤ℤ◌, ◌↔◌}
 use Rattle.qh_model.proofs.algebra.Order.{zero_or_not}
 use Rattle.qh_model.proofs.algebra.VectorIdentities.{vol-first, vol-second, vol-third}
 use Rattle.qh_model.proofs.extremes.Dimensions.{segment_of_triangle}
@@ -26,7 +26,8 @@ use Rattle.qh_laws.proofs.FoundPolygons.{polygon_found}
 use Rattle.qh_laws.proofs.Sorting.{Compare, Rises, InRow, Sorted, sorted}
 
 -- members of one plane lie flat across its normal
-pub flat_plane : (at : ℕ → Vector) (A : ℕ → Type 0) (i j k : ℕ) → ¬ (AreInLine (at i) (at j) (at k)) → IsFlat (cross (at i) (at j) (at k)) at (OnPlane at A i j k)
+pub flat_plane : (at : ℕ → Vector) (A : ℕ → Type 0) (i j k : ℕ) → ¬ (AreInLine (at i) (at j) (at k))
+    → IsFlat (cross (at i) (at j) (at k)) at (OnPlane at A i j k)
 flat_plane at A i j k d = record {
   even = λ l m a b. from_plane (at i) (at j) (at k) (at l) (at m) a.1 ∙ b.1;
   some = square-positive (cross (at i) (at j) (at k)) d;
@@ -57,10 +58,14 @@ rises_strictly [] r = tt
 rises_strictly (q ∷ qs) r = rises_from q qs r
 
 module _ (at : ℕ → Vector) (ids : List ℕ) (distinct : HasDistinctPoints at (Members ids)) where
-  -- the polygon of a supporting triple
+  -- each supporting triple has a polygon
   pub face_polygon : (i j k : ℕ) → IsSupportingTriple at (Members ids) i j k → (q : List ℕ) × IsFacePolygon at (Members ids) i j k q
-  face_polygon i j k t = by (listed_part (Members ids) (λ l. vol (at i) (at j) (at k) (at l) ≡ pos 0) (λ l. zero_or_not (vol (at i) (at j) (at k) (at l))) ids (listed_itself ids))
+  face_polygon i j k t =
+      by (listed_part (Members ids) (λ l. volume l ≡ pos 0) (λ l. zero_or_not (volume l)) ids (listed_itself ids))
     where
+      volume : ℕ → ℤ
+      volume l = vol (at i) (at j) (at k) (at l)
+
       own : HasTriangle at (OnPlane at (Members ids) i j k)
       own = record {
         i = i;
@@ -76,12 +81,12 @@ module _ (at : ℕ → Vector) (ids : List ℕ) (distinct : HasDistinctPoints at
       by (ys, l) =
           let F = OnPlane at (Members ids) i j k in
           let n = cross (at i) (at j) (at k) in
-          let p = polygon_found n at (OnPlane at (Members ids) i j k) ys l (λ x y a b e. distinct x y a.0 b.0 e) (flat_plane at (Members ids) i j k t.area)
-          (segment_of_triangle at (OnPlane at (Members ids) i j k) own) in
-          (p.0, polygon_as at (Extreme at (OnPlane at (Members ids) i j k)) (OnPlane at (Extreme at (Members ids)) i j k) n n p.0
-          (extremes_of_face at ids i j k t.supports) (along_itself n) p.1)
+          let E = OnPlane at (Extreme at (Members ids)) i j k in
+          let flat = flat_plane at (Members ids) i j k t.area in
+          let p = polygon_found n at F ys l (λ x y a b e. distinct x y a.0 b.0 e) flat (segment_of_triangle at F own) in
+          (p.0, polygon_as at (Extreme at F) E n n p.0 (extremes_of_face at ids i j k t.supports) (along_itself n) p.1)
 
-  -- whether three ids are a supporting triple
+  -- three ids are a supporting triple or not
   supporting_or_not : (i j k : ℕ) → Decided (IsSupportingTriple at (Members ids) i j k)
   supporting_or_not i j k =
       decided_as
@@ -92,15 +97,18 @@ module _ (at : ℕ → Vector) (ids : List ℕ) (distinct : HasDistinctPoints at
       (both (In i ids) _ (in_or_not i ids) (both (In j ids) _ (in_or_not j ids) (both (In k ids) _ (in_or_not k ids)
       (both (¬ (AreInLine (at i) (at j) (at k))) (Supports at (Members ids) i j k)
       (contrary (AreInLine (at i) (at j) (at k)) (same_vector (cross (at i) (at j) (at k)) origin))
-      (each_or_not (λ l. vol (at i) (at j) (at k) (at l) ≤ℤ pos 0) (λ l. at_most_or_above (vol (at i) (at j) (at k) (at l)) (pos 0)) ids)))))
+      (each_or_not (λ l. vol (at i) (at j) (at k) (at l) ≤ℤ pos 0)
+      (λ l. at_most_or_above (vol (at i) (at j) (at k) (at l)) (pos 0)) ids)))))
 
-  -- the polygons of some triples
+  -- the polygons of those of some triples that support
   record Polygons (ts : List (ℕ × (ℕ × ℕ))) : Type 0 where
     list : List (List ℕ)
-    each : (i j k : ℕ) → In (i, (j, k)) ts → IsSupportingTriple at (Members ids) i j k → (q : List ℕ) × In q list × IsFacePolygon at (Members ids) i j k q
-    only : (q : List ℕ) → In q list → (i : ℕ) × (j : ℕ) × (k : ℕ) × IsSupportingTriple at (Members ids) i j k × IsFacePolygon at (Members ids) i j k q
+    each : (i j k : ℕ) → In (i, (j, k)) ts → IsSupportingTriple at (Members ids) i j k
+        → (q : List ℕ) × In q list × IsFacePolygon at (Members ids) i j k q
+    only : (q : List ℕ) → In q list
+        → (i j k : ℕ) × IsSupportingTriple at (Members ids) i j k × IsFacePolygon at (Members ids) i j k q
 
-  -- each list of triples has them
+  -- each list of triples has these
   polygons : (ts : List (ℕ × (ℕ × ℕ))) → Polygons ts
   polygons [] = record { list = []; each = λ i j k m t. absurd m; only = λ q m. absurd m }
   polygons ((a, (b, c)) ∷ ts) = by (supporting_or_not a b c) (polygons ts)
@@ -119,11 +127,12 @@ module _ (at : ℕ → Vector) (ids : List ℕ) (distinct : HasDistinctPoints at
 
           each : (i j k : ℕ) → In (i, (j, k)) ((a, (b, c)) ∷ ts) → IsSupportingTriple at (Members ids) i j k
               → (q : List ℕ) × In q (p.0 ∷ r.list) × IsFacePolygon at (Members ids) i j k q
-          each i j k (inl e) t = (p.0, inl refl, subst (λ (v : ℕ × (ℕ × ℕ)). IsFacePolygon at (Members ids) v.0 v.1.0 v.1.1 p.0) (sym e) p.1)
+          each i j k (inl e) t =
+              (p.0, inl refl, subst (λ (v : ℕ × (ℕ × ℕ)). IsFacePolygon at (Members ids) v.0 v.1.0 v.1.1 p.0) (sym e) p.1)
           each i j k (inr m) t = let g = r.each i j k m t in (g.0, inr g.1, g.2)
 
           only : (q : List ℕ) → In q (p.0 ∷ r.list)
-              → (i : ℕ) × (j : ℕ) × (k : ℕ) × IsSupportingTriple at (Members ids) i j k × IsFacePolygon at (Members ids) i j k q
+              → (i j k : ℕ) × IsSupportingTriple at (Members ids) i j k × IsFacePolygon at (Members ids) i j k q
           only q (inl e) = (a, b, c, s, subst (IsFacePolygon at (Members ids) a b c) (sym e) p.1)
           only q (inr m) = r.only q m
 
@@ -131,16 +140,19 @@ module _ (at : ℕ → Vector) (ids : List ℕ) (distinct : HasDistinctPoints at
   triples : List (ℕ × (ℕ × ℕ))
   triples = flat_map (λ i. flat_map (λ j. map (λ k. (i, (j, k))) ids) ids) ids
 
-  -- are in that list
+  -- each triple is in that list
   in_triples : (i j k : ℕ) → In i ids → In j ids → In k ids → In (i, (j, k)) triples
   unfolding triples
   in_triples i j k a b c =
       in_flat_map (λ i. flat_map (λ j. map (λ k. (i, (j, k))) ids) ids) ids i (i, (j, k)) a
       (in_flat_map (λ j. map (λ k. (i, (j, k))) ids) ids j (i, (j, k)) b (in_map (λ k. (i, (j, k))) ids k c))
 
-  -- the faces of a set of distinct points
+  -- ids of distinct points have a list of faces
   pub faces_found : (qs : List (List ℕ)) × AreFaces at (Members ids) qs
-  faces_found = (row.list, record { rising = rises_strictly row.list row.row; each = each; only = λ q m. found.only q ((row.members q).0 m) })
+  faces_found = (
+    row.list,
+    record { rising = rises_strictly row.list row.row; each = each; only = λ q m. found.only q ((row.members q).0 m) },
+  )
     where
       found : Polygons triples
       found = polygons triples
@@ -148,5 +160,6 @@ module _ (at : ℕ → Vector) (ids : List ℕ) (distinct : HasDistinctPoints at
       row : Sorted ComesBefore found.list
       row = sorted ComesBefore (λ q. Unit {0}) (λ p q a b. compare p q) found.list (λ q m. tt)
 
-      each : (i j k : ℕ) → IsSupportingTriple at (Members ids) i j k → (q : List ℕ) × In q row.list × IsFacePolygon at (Members ids) i j k q
+      each : (i j k : ℕ) → IsSupportingTriple at (Members ids) i j k
+          → (q : List ℕ) × In q row.list × IsFacePolygon at (Members ids) i j k q
       each i j k t = let g = found.each i j k (in_triples i j k t.has_i t.has_j t.has_k) t in (g.0, (row.members g.0).1 g.1, g.2)

@@ -1,4 +1,4 @@
--- The one polygon of a set that is no solid: of a flat set, of a segment and of a point.
+-- Sets of dimension 2, 1 and 0 have their one polygon.
 use Rattle.std.proofs.Common.{◌≡◌, ◌≢◌, ◌∙◌, ℕ, ◌<◌, List, [], ◌∷◌, length, refl, ap, sym, subst, arith, ◌⊎◌, inl, inr}
 use Rattle.std.proofs.lemmas.Bool.{cases_order}
 use Rattle.std.proofs.lemmas.Int.{ints, by_lt_z}
@@ -52,24 +52,25 @@ forward_or_back n d = by (sign n.x) (sign n.y) (sign n.z)
     by (inr (inl e)) (inr (inl f)) (inr (inr h)) = inr (inr (zero_turned n.x e, inr (zero_turned n.y f, h)))
     by (inr (inl e)) (inr (inl f)) (inr (inl g)) = absurd (d (vector_path n origin e f g))
 
--- the three brackets of three vectors
+-- a triple product with its last two vectors swapped
 triple : (d e v : Vector) → dot (cross_product d e) v ≡ neg_ℤ (dot (cross_product d v) e)
 triple d e v = ring (put d (put e (put v []))) (dotE (crossE (vec 0) (vec 1)) (vec 2)) (neg (dotE (crossE (vec 0) (vec 2)) (vec 1))) refl
 
--- a direction across d, and so across all that is in line with d
+-- a direction across d, and across every vector in line with d
 record Across (d : Vector) : Type 0 where
   n : Vector
   some : n ≢ origin
   level : (v : Vector) → cross_product d v ≡ origin → dot n v ≡ pos 0
 
--- two of the axes
+-- the first axis
 first_axis : Vector
 first_axis = record { x = pos 1; y = pos 0; z = pos 0 }
 
+-- the second axis
 second_axis : Vector
 second_axis = record { x = pos 0; y = pos 1; z = pos 0 }
 
--- a vector that has no part across either is zero
+-- a vector in line with both axes is zero
 no_part : (d : Vector) → cross_product d first_axis ≡ origin → cross_product d second_axis ≡ origin → d ≡ origin
 unfolding first_axis second_axis
 no_part d e f =
@@ -81,7 +82,7 @@ no_part d e f =
     middle : (a b : ℤ) → a *ℤ pos 0 -ℤ b *ℤ pos 1 ≡ pos 0 → b ≡ pos 0
     middle a b h = omega (arith, ints)
 
--- each vector that is not zero has one across
+-- each vector that is not zero has a direction across it
 across : (d : Vector) → d ≢ origin → Across d
 across d s = by (same_vector (cross_product d first_axis) origin)
   where
@@ -94,12 +95,12 @@ across d s = by (same_vector (cross_product d first_axis) origin)
 
 module _ (at : ℕ → Vector) (ids : List ℕ) (distinct : HasDistinctPoints at (Members ids)) where
   -- ---- dimension 2
-  -- three members of a flat set whose normal points forward show its polygon
+  -- three members whose normal points forward give the polygon of a flat set
   flat_by : ¬ (HasTetrahedron at (Members ids)) → (i j k : ℕ) → In i ids → In j ids → In k ids → ¬ (AreInLine (at i) (at j) (at k))
       → PointsForward (cross (at i) (at j) (at k)) → (q : List ℕ) × IsFlatFace at (Members ids) q
   flat_by t i j k a b c d f =
       let p = polygon_found (cross (at i) (at j) (at k)) at (Members ids) ids (listed_itself ids) distinct flat
-          (segment_of_triangle at (Members ids) (record { i = i; j = j; k = k; has_i = a; has_j = b; has_k = c; area = d })) in
+      (segment_of_triangle at (Members ids) (record { i = i; j = j; k = k; has_i = a; has_j = b; has_k = c; area = d })) in
       (p.0, record { i = i; j = j; k = k; has_i = a; has_j = b; has_k = c; forward = f; polygon = p.1 })
     where
       zero : (l : ℕ) → In l ids → vol (at i) (at j) (at k) (at l) ≡ pos 0
@@ -111,7 +112,7 @@ module _ (at : ℕ → Vector) (ids : List ℕ) (distinct : HasDistinctPoints at
         some = square-positive (cross (at i) (at j) (at k)) d;
       }
 
-  -- the polygon of a flat set
+  -- a flat set has a polygon
   pub flat_found : ¬ (HasTetrahedron at (Members ids)) → HasTriangle at (Members ids) → (q : List ℕ) × IsFlatFace at (Members ids) q
   flat_found n t = by (forward_or_back (cross (at t.i) (at t.j) (at t.k)) t.area)
     where
@@ -123,7 +124,7 @@ module _ (at : ℕ → Vector) (ids : List ℕ) (distinct : HasDistinctPoints at
           (subst PointsForward (sym (cross-flip (at t.i) (at t.j) (at t.k))) f)
 
   -- ---- dimension 1
-  -- three members of a set in line
+  -- any three members of a set without a triangle are in line
   in_line : ¬ (HasTriangle at (Members ids)) → (i j k : ℕ) → In i ids → In j ids → In k ids → AreInLine (at i) (at j) (at k)
   in_line n i j k a b c = by (same_vector (cross (at i) (at j) (at k)) origin)
     where
@@ -131,18 +132,22 @@ module _ (at : ℕ → Vector) (ids : List ℕ) (distinct : HasDistinctPoints at
       by (inl e) = e
       by (inr d) = absurd (n (record { i = i; j = j; k = k; has_i = a; has_j = b; has_k = c; area = d }))
 
-  -- the way between two members is not zero
+  -- the difference of two members is not zero
   apart : (i j : ℕ) → In i ids → In j ids → i ≢ j → minus (at j) (at i) ≢ origin
   apart i j a b n e =
-      n (sym (distinct j i b a (vector_path (at j) (at i) (equal_from_zero _ _ (ap (λ v. v.x) e)) (equal_from_zero _ _ (ap (λ v. v.y) e)) (equal_from_zero _ _ (ap (λ v. v.z) e)))))
+      n (sym (distinct j i b a (vector_path (at j) (at i) (equal_from_zero _ _ (ap (λ v. v.x) e))
+      (equal_from_zero _ _ (ap (λ v. v.y) e)) (equal_from_zero _ _ (ap (λ v. v.z) e)))))
 
   -- a set in line is flat across a direction
   flat_line : ¬ (HasTriangle at (Members ids)) → (s : HasSegment (Members ids)) → (n : Vector) × IsFlat n at (Members ids)
   unfolding cross
-  flat_line t s = (a.n, record {
-    even = λ i j u v. none _ _ _ (between_eq a.n (at s.i) (at i) (at j)) (level j v) (level i u);
-    some = square-positive a.n a.some;
-  })
+  flat_line t s = (
+    a.n,
+    record {
+      even = λ i j u v. none _ _ _ (between_eq a.n (at s.i) (at i) (at j)) (level j v) (level i u);
+      some = square-positive a.n a.some;
+    },
+  )
     where
       a : Across (minus (at s.j) (at s.i))
       a = across (minus (at s.j) (at s.i)) (apart s.i s.j s.has_i s.has_j s.differ)
@@ -167,7 +172,7 @@ module _ (at : ℕ → Vector) (ids : List ℕ) (distinct : HasDistinctPoints at
           pick (inr d) = straight j b ji d
           pick (inl e) = straight l c li (λ g. lj (g ∙ sym e))
 
-  -- the two ends of a set in line
+  -- a set in line has two ends
   pub segment_found : ¬ (HasTriangle at (Members ids)) → HasSegment (Members ids) → (q : List ℕ) × IsSegmentFace at (Members ids) q
   segment_found t s = by (cases_order e.i e.j)
     where
@@ -181,8 +186,12 @@ module _ (at : ℕ → Vector) (ids : List ℕ) (distinct : HasDistinctPoints at
       p : (q : List ℕ) × IsPolygon at (Extreme at (Members ids)) n.0 q
       p = polygon_found n.0 at (Members ids) ids (listed_itself ids) distinct n.1 s
 
-      ends : (i j : ℕ) → Extreme at (Members ids) i → Extreme at (Members ids) j → i < j → (q : List ℕ) × IsSegmentFace at (Members ids) q
-      ends i j a b l = (i ∷ j ∷ [], record { i = i; j = j; members = λ m. (into m, back m (same_id m i) (same_id m j)); lower = l; is = refl })
+      ends : (i j : ℕ) → Extreme at (Members ids) i → Extreme at (Members ids) j → i < j
+          → (q : List ℕ) × IsSegmentFace at (Members ids) q
+      ends i j a b l = (
+        i ∷ j ∷ [],
+        record { i = i; j = j; members = λ m. (into m, back m (same_id m i) (same_id m j)); lower = l; is = refl },
+      )
         where
           into : (m : ℕ) → (m ≡ i) ⊎ (m ≡ j) → Extreme at (Members ids) m
           into m (inl f) = subst (Extreme at (Members ids)) (sym f) a
@@ -199,7 +208,7 @@ module _ (at : ℕ → Vector) (ids : List ℕ) (distinct : HasDistinctPoints at
       by (inr (inr l)) = ends e.j e.i e.has_j e.has_i l
 
 -- ---- dimension 0
--- the one id of a set with a member
+-- a list that is not empty has a first id
 pub point_found : (ids : List ℕ) → 0 < length ids → (q : List ℕ) × IsPointFace (Members ids) q
 point_found [] h = absurd (omega arith)
 point_found (i ∷ ids) h = (i ∷ [], record { i = i; has_i = inl refl; is = refl })

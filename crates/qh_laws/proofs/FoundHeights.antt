@@ -1,5 +1,5 @@
--- A direction along which no two points of a finite set are level, and the ids of the set in rising height.
-use Rattle.std.proofs.Common.{◌≡◌, ◌∙◌, ℕ, ◌+◌, List, [], ◌∷◌, ◌⊎◌, inl, inr, ap, refl, sym, arith}
+-- A direction along which no two points of a finite set have one height, and the ids in rising height.
+use Rattle.std.proofs.Common.{◌≡◌, ℕ, ◌+◌, List, [], ◌∷◌, inl, inr, ap, sym, arith}
 use Rattle.std.proofs.lemmas.Int.{ints, by_lt_z}
 use Rattle.std.proofs.Math.Nat.{mul-le-mul_left}
 use Rattle.std.specs.Prelude.{ℤ, pos, ◌+ℤ◌, ◌*ℤ◌, neg_ℤ, ◌<ℤ◌, ◌↔◌}
@@ -17,27 +17,28 @@ use Rattle.qh_plane.proofs.polygons.TurnLaws.{RisesBy}
 use Rattle.qh_plane.proofs.polygons.Turns.{IsKeyed, height_of}
 use Rattle.qh_laws.proofs.Sorting.{Compare, Rises, InRow, Sorted, sorted}
 
--- a large factor tells apart what is added to it
-factor_tells : (B C : ℕ) (a b s t : ℤ) → neg_ℤ t <ℤ pos B → neg_ℤ (neg_ℤ s) <ℤ pos C → pos (B + C) *ℤ a +ℤ s ≡ pos (B + C) *ℤ b +ℤ t → a <ℤ b → ⊥
+-- a large factor outweighs what is added to it
+factor_tells : (B C : ℕ) (a b s t : ℤ) → neg_ℤ t <ℤ pos B → neg_ℤ (neg_ℤ s) <ℤ pos C
+    → pos (B + C) *ℤ a +ℤ s ≡ pos (B + C) *ℤ b +ℤ t → a <ℤ b → ⊥
 factor_tells B C a b s t h k e l = omega (arith, ints, mul-le-mul_left (B + C) (lt_out a b l))
 
--- of which neither can be the lower then
+-- so equal sums have one factor
 same_factor : (B C : ℕ) (a b s t : ℤ) → (neg_ℤ s <ℤ pos B) × (neg_ℤ (neg_ℤ s) <ℤ pos C) → (neg_ℤ t <ℤ pos B) × (neg_ℤ (neg_ℤ t) <ℤ pos C)
     → pos (B + C) *ℤ a +ℤ s ≡ pos (B + C) *ℤ b +ℤ t → a ≡ b
 same_factor B C a b s t h k e =
     by_lt_z a b (λ l. absurd (factor_tells B C a b s t k.0 h.1 e l))
     (λ l. by_lt_z b a (λ m. absurd (factor_tells B C b a t s h.0 k.1 (sym e) m)) (λ m. le_antisym a b m l))
 
--- what is added is one then, too
+-- and one rest
 same_rest : (x y s t : ℤ) → x ≡ y → x +ℤ s ≡ y +ℤ t → s ≡ t
 same_rest x y s t e f = omega (arith, ints)
 
--- a factor N by which N f + g tells f and g
+-- a factor N for which N f + g determines f and g
 pub record Factor (f g : ℕ → ℤ) (xs : List ℕ) : Type 0 where
   pub N : ℕ
   pub tells : (i j : ℕ) → In i xs → In j xs → pos N *ℤ f i +ℤ g i ≡ pos N *ℤ f j +ℤ g j → (f i ≡ f j) × (g i ≡ g j)
 
--- finitely many numbers have one
+-- a finite set has such a factor
 factor : (f g : ℕ → ℤ) (xs : List ℕ) → Factor f g xs
 factor f g xs = record { N = B.0 + C.0; tells = tells }
   where
@@ -55,11 +56,11 @@ factor f g xs = record { N = B.0 + C.0; tells = tells }
         let first = same_factor B.0 C.0 (f i) (f j) (g i) (g j) (between i m) (between j n) e in
         (first, same_rest (pos (B.0 + C.0) *ℤ f i) (pos (B.0 + C.0) *ℤ f j) (g i) (g j) (ap (λ v. pos (B.0 + C.0) *ℤ v) first) e)
 
--- three terms, the first taken aside
+-- a scalar product with z taken once, regrouped
 aside : (a b c d e f : ℤ) → a +ℤ b +ℤ pos 1 *ℤ c ≡ d +ℤ e +ℤ pos 1 *ℤ f → a +ℤ (b +ℤ c) ≡ d +ℤ (e +ℤ f)
 aside a b c d e f h = omega (arith, ints)
 
--- distinct points of a finite set have a direction along which no two are level
+-- a finite set of distinct points has a direction along which no two have one height
 pub direction : (at : ℕ → Vector) (A : ℕ → Type 0) (xs : List ℕ) → Listed A xs → HasDistinctPoints at A → (h : Vector) × IsKeyed h at A
 direction at A xs l d = (record { x = pos M.N; y = pos N.N; z = pos 1 }, record { same = same })
   where
@@ -73,7 +74,8 @@ direction at A xs l d = (record { x = pos M.N; y = pos N.N; z = pos 1 }, record 
         → dot (record { x = pos M.N; y = pos N.N; z = pos 1 }) (at i) ≡ dot (record { x = pos M.N; y = pos N.N; z = pos 1 }) (at j) → i ≡ j
     same i j a b e =
         let m = (l i).0 a in let n = (l j).0 b in
-        let first = M.tells i j m n (aside (pos M.N *ℤ (at i).x) (pos N.N *ℤ (at i).y) (at i).z (pos M.N *ℤ (at j).x) (pos N.N *ℤ (at j).y) (at j).z e) in
+        let first = M.tells i j m n (aside (pos M.N *ℤ (at i).x) (pos N.N *ℤ (at i).y) (at i).z
+        (pos M.N *ℤ (at j).x) (pos N.N *ℤ (at j).y) (at j).z e) in
         let second = N.tells i j m n first.1 in
         d i j a b (vector_path (at i) (at j) first.0 second.0 second.1)
 
@@ -84,12 +86,12 @@ pub record Rising (h : Vector) (at : ℕ → Vector) (A : ℕ → Type 0) : Type
   pub members : (i : ℕ) → In i (first ∷ rest) ↔ A i
   pub rises : RisesBy (height_of h at) first rest
 
--- a row of heights rises
+-- a row by height rises by its heights
 rises : (key : ℕ → ℤ) (x : ℕ) (xs : List ℕ) → Rises (λ i j. key i <ℤ key j) x xs → RisesBy key x xs
 rises key x [] r = tt
 rises key x (y ∷ xs) r = (r.0, rises key y xs r.1)
 
--- a set with a member has them in rising height
+-- a finite set that is not empty has that list
 pub rising : (h : Vector) (at : ℕ → Vector) (A : ℕ → Type 0) (xs : List ℕ) → Listed A xs → IsKeyed h at A → (a : ℕ) → A a → Rising h at A
 rising h at A xs l k a m = by row.list row.row row.members
   where

@@ -1,4 +1,4 @@
--- Each list of points that is not empty has a hull, of any of its distinct ids and their dimension, and a text.
+-- Each list of points that is not empty has a hull and a text.
 use Rattle.std.proofs.Common.{◌≡◌, ℕ, ◌<◌, List, [], ◌∷◌, length, refl, inl, inr}
 use Rattle.std.specs.List.Sorted.{IsStrictlyIncreasing}
 use Rattle.qh_model.proofs.DistinctIds.{some_id, distinct_apart}
@@ -20,8 +20,8 @@ use Rattle.qh_laws.proofs.FoundFaces.{faces_found}
 use Rattle.qh_laws.proofs.FoundFlats.{flat_found, segment_found, point_found}
 
 -- ids of distinct points have polygons
-pub polygons_found : (at : ℕ → Vector) (ids : List ℕ) → HasDistinctPoints at (Members ids) → 0 < length ids → (k : ℕ) → IsDimension at (Members ids) k
-    → (qs : List (List ℕ)) × ArePolygons at (Members ids) k qs
+pub polygons_found : (at : ℕ → Vector) (ids : List ℕ) → HasDistinctPoints at (Members ids) → 0 < length ids
+    → (k : ℕ) → IsDimension at (Members ids) k → (qs : List (List ℕ)) × ArePolygons at (Members ids) k qs
 polygons_found at ids d some k (inl (e, t)) = let f = faces_found at ids d in (f.0, inl (e, f.1))
 polygons_found at ids d some k (inr (inl (e, t, n))) =
     let f = flat_found at ids d n t in (f.0 ∷ [], inr (inl (e, (f.0, f.1, refl))))
@@ -30,13 +30,13 @@ polygons_found at ids d some k (inr (inr (inl (e, s, n)))) =
 polygons_found at ids d some k (inr (inr (inr (e, n)))) =
     let f = point_found ids some in (f.0 ∷ [], inr (inr (inr (e, (f.0, f.1, refl)))))
 
--- a body of these ids, of this dimension
+-- a body of the ids, of dimension k
 pub record BodyOf (at : ℕ → Vector) (ids : List ℕ) (k : ℕ) : Type 0 where
   pub body : BodyValue
   pub right : IsBody at (Members ids) body
   pub dim : body.dim ≡ k
 
--- rising ids of distinct points have one
+-- rising ids of distinct points have a body of their dimension
 pub body_found : (at : ℕ → Vector) (ids : List ℕ) → IsStrictlyIncreasing ids → HasDistinctPoints at (Members ids) → 0 < length ids
     → (k : ℕ) → IsDimension at (Members ids) k → BodyOf at ids k
 body_found at ids r d some k h =
@@ -48,7 +48,7 @@ body_found at ids r d some k h =
       dim = refl;
     }
 
--- a hull of these points, by these distinct ids and this dimension
+-- a hull of the points with the numbers that rank_text tells: of points, of ids, and the dimension
 pub record HullOf (pts : List Vector) (ids : List ℕ) (k : ℕ) : Type 0 where
   pub hull : HullValue
   pub right : IsHull pts hull
@@ -56,9 +56,9 @@ pub record HullOf (pts : List Vector) (ids : List ℕ) (k : ℕ) : Type 0 where
   pub distinct : hull.distinct ≡ length ids
   pub dim : hull.body.dim ≡ k
 
--- the numbers of points and of distinct ids and the dimension are those of a hull
-pub rank_is_text : (pts : List Vector) (ids : List ℕ) (k : ℕ) → AreDistinctIds pts ids → 0 < length pts → IsDimension (place pts) (Members ids) k
-    → HullOf pts ids k
+-- the distinct ids and their dimension are those of a hull, so they tell the text of the rank
+pub rank_is_text : (pts : List Vector) (ids : List ℕ) (k : ℕ) → AreDistinctIds pts ids → 0 < length pts
+    → IsDimension (place pts) (Members ids) k → HullOf pts ids k
 rank_is_text pts ids k a some h =
     let b = body_found (place pts) ids a.rising (distinct_apart pts ids a) (some_id pts ids a some) k h in
     record {

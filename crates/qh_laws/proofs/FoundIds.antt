@@ -1,5 +1,5 @@
--- The ids that pass a test, as a rising list: the distinct ids of a list of points, and the extreme ids of a set.
-use Rattle.std.proofs.Common.{◌≡◌, ◌≢◌, ℕ, ◌+◌, ◌<◌, ◌⊎◌, inl, inr, List, [], ◌∷◌, length, get_or, refl, sym, subst, arith, add-one}
+-- Rising lists of the ids of which a decided claim holds: distinct ids and extreme ids.
+use Rattle.std.proofs.Common.{◌≡◌, ◌≢◌, ℕ, ◌+◌, ◌<◌, ◌⊎◌, inl, inr, List, [], ◌∷◌, length, sym, subst, arith}
 use Rattle.std.specs.List.{range_with_len}
 use Rattle.std.specs.List.Sorted.{IsStrictlyIncreasing}
 use Rattle.std.specs.Prelude.{◌↔◌}
@@ -11,7 +11,7 @@ use Rattle.qh_model.proofs.lists.Ranges.{range_below, range_has}
 use Rattle.qh_model.proofs.lists.Rising.{rising_append}
 use Rattle.qh_model.specs.headline.Combination.{Combination}
 use Rattle.qh_model.specs.headline.DistinctIds.{IsDistinctId, AreDistinctIds}
-use Rattle.qh_model.specs.headline.Extreme.{Others, Extreme}
+use Rattle.qh_model.specs.headline.Extreme.{Others}
 use Rattle.qh_model.specs.headline.Hull.{AreExtremes}
 use Rattle.qh_model.specs.headline.Predicates.{place}
 use Rattle.qh_model.specs.headline.Sets.{In, Members}
@@ -19,13 +19,13 @@ use Rattle.qh_model.specs.headline.Vector.{Vector}
 use Rattle.qh_model.specs.laws.Separator.{Separator}
 use Rattle.qh_laws.proofs.Decisions.{Decided, contrary, each_or_not, same_vector}
 
--- the rising list of the members that pass
+-- the rising list of the members of which P holds
 pub record Passing (P : ℕ → Type 0) (xs : List ℕ) : Type 0 where
   pub list : List ℕ
   pub rising : IsStrictlyIncreasing list
   pub members : (i : ℕ) → In i list ↔ In i xs × P i
 
--- a rising list has one
+-- a rising list has it for a decided claim
 pub passing : (P : ℕ → Type 0) → ((i : ℕ) → Decided (P i)) → (xs : List ℕ) → IsStrictlyIncreasing xs → Passing P xs
 passing P d [] r = record { list = []; rising = r; members = λ i. (λ m. absurd m, λ h. absurd h.0) }
 passing P d (x ∷ xs) r = by (d x) (passing P d xs (rising_tail x xs r))
@@ -66,13 +66,16 @@ range_rises n k h =
     let e = length-range_with_len 0 n in
     rw (get_or-range_with_len 0 n k 0 (omega arith), get_or-range_with_len 0 n (k + 1) 0 (omega arith)) (omega arith)
 
--- each list of points has its distinct ids
+-- each list of points has a list of its distinct ids
 pub distinct_ids_of : (pts : List Vector) → (ids : List ℕ) × AreDistinctIds pts ids
 distinct_ids_of pts = (p.list, record { rising = p.rising; members = λ i. (there i, back i) })
   where
+    differ : (i j : ℕ) → Decided (place pts j ≢ place pts i)
+    differ i j = contrary (place pts j ≡ place pts i) (same_vector (place pts j) (place pts i))
+
     p : Passing (λ i. (j : ℕ) → In j (range_with_len 0 i) → place pts j ≢ place pts i) (range_with_len 0 (length pts))
     p = passing (λ i. (j : ℕ) → In j (range_with_len 0 i) → place pts j ≢ place pts i)
-        (λ i. each_or_not (λ j. place pts j ≢ place pts i) (λ j. contrary (place pts j ≡ place pts i) (same_vector (place pts j) (place pts i))) (range_with_len 0 i))
+        (λ i. each_or_not (λ j. place pts j ≢ place pts i) (differ i) (range_with_len 0 i))
         (range_with_len 0 (length pts)) (range_rises (length pts))
 
     there : (i : ℕ) → In i p.list → IsDistinctId pts i
@@ -81,7 +84,7 @@ distinct_ids_of pts = (p.list, record { rising = p.rising; members = λ i. (ther
     back : (i : ℕ) → IsDistinctId pts i → In i p.list
     back i h = (p.members i).1 (range_has (length pts) i h.0, λ j m. h.1 j (range_below i j m))
 
--- whether a point is a convex combination of a listed set
+-- a point is a convex combination of a listed set or not
 pub combination_or_not : (at : ℕ → Vector) (A : ℕ → Type 0) (xs : List ℕ) → Listed A xs → (p : Vector) → Decided (Combination at A p)
 combination_or_not at A xs l p = by (alternative_in at A xs l p)
   where
@@ -89,7 +92,7 @@ combination_or_not at A xs l p = by (alternative_in at A xs l p)
     by (inl m) = inl m
     by (inr s) = inr (λ m. all_lower at A p s.w m (s.past m.a m.has_a) (s.past m.b m.has_b) (s.past m.c m.has_c) (s.past m.d m.has_d))
 
--- each set has its rising list of extreme ids
+-- each rising list of ids has a list of its extreme ids
 pub extremes_of : (at : ℕ → Vector) (ids : List ℕ) → IsStrictlyIncreasing ids → (es : List ℕ) × AreExtremes at (Members ids) es
 extremes_of at ids r = (p.list, record { rising = p.rising; members = λ i. ((p.members i).0, (p.members i).1) })
   where

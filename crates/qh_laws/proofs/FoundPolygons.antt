@@ -1,8 +1,8 @@
--- The extreme ids of a set in one plane have a polygon: two chains over its ids in rising height, turned to their least.
-use Rattle.std.proofs.Common.{◌≡◌, ◌≢◌, ℕ, zero, suc, ◌<◌, ◌≤◌, ◌++◌, List, [], ◌∷◌, length, get_or, take, drop, refl, arith, ◌⊎◌, inl, inr}
-use Rattle.std.proofs.lemmas.Int.{ints, by_lt_z}
+-- A flat set has a polygon: the cycle over two chains of its ids by height, rotated to begin with its least id.
+use Rattle.std.proofs.Common.{ℕ, zero, suc, ◌<◌, ◌≤◌, ◌++◌, List, [], ◌∷◌, length, get_or, take, drop, refl, arith, ◌⊎◌, inl, inr}
+use Rattle.std.proofs.lemmas.Int.{by_lt_z}
 use Rattle.std.proofs.lemmas.Bool.{cases_lt}
-use Rattle.std.specs.Prelude.{ℤ, ◌<ℤ◌}
+use Rattle.std.specs.Prelude.{◌<ℤ◌}
 use Rattle.qh_model.proofs.algebra.Order.{le_antisym}
 use Rattle.qh_model.proofs.algebra.Signs.{lt_neg}
 use Rattle.qh_model.proofs.algebra.VectorIdentities.{opposite, dot-opposite}
@@ -17,7 +17,7 @@ use Rattle.qh_plane.proofs.polygons.LeastFirst.{polygon_of}
 use Rattle.qh_plane.proofs.polygons.Turns.{IsFlat, IsKeyed, turn_about, height_of}
 use Rattle.qh_plane.proofs.polygons.TwoChains.{keyed_opposite}
 use Rattle.qh_plane.specs.steps.Chains.{chain, joined}
-use Rattle.qh_laws.proofs.FoundHeights.{direction, Rising, rising}
+use Rattle.qh_laws.proofs.FoundHeights.{direction, rising}
 
 -- the place of a least number
 pub record Least (xs : List ℕ) : Type 0 where
@@ -53,17 +53,20 @@ least (x ∷ y ∷ ys) = by (least (y ∷ ys))
             later zero h = g
             later (suc k) h = r.least k (omega arith)
 
-module _ (n : Vector) (at : ℕ → Vector) (A : ℕ → Type 0) (xs : List ℕ) (listed : Listed A xs) (distinct : HasDistinctPoints at A) (flat : IsFlat n at A) where
-  -- some cycle goes round the extremes of a flat set with two members that differ in height
-  cycle : (h : Vector) → IsKeyed h at A → (p q : ℕ) → A p → A q → height_of h at p <ℤ height_of h at q → (c : List ℕ) × GoesRound n at A c
+module _ (n : Vector) (at : ℕ → Vector) (A : ℕ → Type 0) (xs : List ℕ) (listed : Listed A xs) (distinct : HasDistinctPoints at A)
+    (flat : IsFlat n at A) where
+  -- two chains over ids that differ in height go round the extreme ids
+  cycle : (h : Vector) → IsKeyed h at A → (p q : ℕ) → A p → A q → height_of h at p <ℤ height_of h at q
+      → (c : List ℕ) × GoesRound n at A c
   cycle h keyed p q a b l =
       let up = rising h at A xs listed keyed p a in
-      let down = rising (opposite h) at A xs listed (keyed_opposite h at A keyed) p a in
-      (joined (chain (turn_about n at) [] (up.first ∷ up.rest)) (chain (turn_about n at) [] (down.first ∷ down.rest)),
-      goes_round n h at A flat keyed p q a b l (lt_neg _ _ _ _ (dot-opposite h (at q)) (dot-opposite h (at p)) l)
-      up.first up.rest down.first down.rest up.members down.members up.rises down.rises)
+      let down = rising (opposite h) at A xs listed (keyed_opposite h at A keyed) p a in (
+        joined (chain (turn_about n at) [] (up.first ∷ up.rest)) (chain (turn_about n at) [] (down.first ∷ down.rest)),
+        goes_round n h at A flat keyed p q a b l (lt_neg _ _ _ _ (dot-opposite h (at q)) (dot-opposite h (at p)) l)
+            up.first up.rest down.first down.rest up.members down.members up.rises down.rises,
+      )
 
-  -- some cycle goes round those of a flat set with two members
+  -- so a cycle goes round those of a flat set with two members
   cycle_of : HasSegment A → (c : List ℕ) × GoesRound n at A c
   cycle_of s = by (direction at A xs listed distinct)
     where
@@ -73,7 +76,7 @@ module _ (n : Vector) (at : ℕ → Vector) (A : ℕ → Type 0) (xs : List ℕ)
           (λ l. by_lt_z (height_of h at s.j) (height_of h at s.i) (λ m. cycle h keyed s.j s.i s.has_j s.has_i m)
           (λ m. absurd (s.differ (keyed.same s.i s.j s.has_i s.has_j (le_antisym _ _ m l)))))
 
-  -- so they have a polygon
+  -- so there is a polygon
   pub polygon_found : HasSegment A → (q : List ℕ) × IsPolygon at (Extreme at A) n q
   polygon_found s =
       let c = cycle_of s in

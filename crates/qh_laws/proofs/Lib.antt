@@ -7,3 +7,4 @@ pub mod FoundPolygons
 pub mod FoundFaces
 pub mod FoundFlats
 pub mod FoundHulls
+pub mod Examples

@@ -1,9 +1,9 @@
--- A list with the members of a given one in which each comes before the next.
+-- Insertion sort: the members of a list, each before the next.
 use Rattle.std.proofs.Common.{◌≡◌, ◌∙◌, List, [], ◌∷◌, ◌⊎◌, inl, inr, ⊎_elim, refl}
 use Rattle.std.specs.Prelude.{◌↔◌}
 use Rattle.qh_model.specs.headline.Sets.{In}
 
--- one comes before the other, or they are one
+-- one comes before the other, or they are equal
 abbrev pub Compare : {X : Type 0} → (X → X → Type 0) → X → X → Type 0
 Compare R x y = R x y ⊎ ((x ≡ y) ⊎ R y x)
 
@@ -23,20 +23,20 @@ pub record Sorted {X : Type 0} (R : X → X → Type 0) (xs : List X) : Type 0 w
   pub row : InRow R list
   pub members : (x : X) → In x list ↔ In x xs
 
--- the members of a row and one more, which goes on rising where both did
+-- the members of a row and x; it rises from what comes before x and rose from before
 record Inserted {X : Type 0} (R : X → X → Type 0) (x : X) (ys : List X) : Type 0 where
   list : List X
   row : InRow R list
   after : (t : X) → R t x → Rises R t ys → Rises R t list
   members : (z : X) → In z list ↔ In z (x ∷ ys)
 
--- what comes after the first is a row
+-- a row without its first is a row
 row_tail : {X : Type 0} (R : X → X → Type 0) (y : X) (ys : List X) → Rises R y ys → InRow R ys
 row_tail R y [] r = tt
 row_tail R y (z ∷ zs) r = r.1
 
 module _ {X : Type 0} (R : X → X → Type 0) (A : X → Type 0) (compare : (x y : X) → A x → A y → Compare R x y) where
-  -- one more member in its place
+  -- x is inserted into a row
   inserted : (x : X) (ys : List X) → A x → ((y : X) → In y ys → A y) → InRow R ys → Inserted R x ys
   inserted x [] a f o = record { list = x ∷ []; row = tt; after = λ t l r. (l, tt); members = λ z. (λ i. i, λ i. i) }
   inserted x (y ∷ ys) a f o = by (compare x y a (f y (inl refl))) (inserted x ys a (λ z i. f z (inr i)) (row_tail R y ys o))
@@ -69,7 +69,7 @@ module _ {X : Type 0} (R : X → X → Type 0) (A : X → Type 0) (compare : (x 
           back z (inr (inl e)) = inl e
           back z (inr (inr i)) = inr ((s.members z).1 (inr i))
 
-  -- all members, where any two of them compare
+  -- a list can be sorted where any two of its members compare
   pub sorted : (xs : List X) → ((x : X) → In x xs → A x) → Sorted R xs
   sorted [] f = record { list = []; row = tt; members = λ x. (λ i. i, λ i. i) }
   sorted (x ∷ xs) f = by (sorted xs (λ y i. f y (inr i)))

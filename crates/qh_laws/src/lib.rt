@@ -1,13 +1,14 @@
-//! The law that no list of points is without its hull and its text.
+//! The law that every list of points that is not empty has a hull and a text.
 //!
-//! The laws of qh_model say that there is one text at most, so here the definitions are seen to ask for
-//! nothing that cannot be.
+//! The proof finds the polygons by the lemmas of `qh_plane`, so the law stands above that crate and
+//! apart from the laws of `qh_model`. Together with `one_hull` there, each list has exactly one hull
+//! and one text.
 #![tactic(auto)]
 
 ghost use Rattle.qh_laws.specs.laws.ExistenceLaws.{EveryListHasAHull, EveryListHasAText};
 
-/// Each list of points that is not empty has a hull, and for each list of outputs a text. So no contract
-/// that speaks of them holds because there are none.
+/// Every list of points that is not empty has a hull, and a text for each list of outputs.
+/// So the definitions never contradict each other, and a text is known to exist before a hull is taken.
 pub fn every_list_has_a_text()
     ensures hull { EveryListHasAHull }
     ensures text { EveryListHasAText }

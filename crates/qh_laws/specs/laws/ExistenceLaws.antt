@@ -5,10 +5,10 @@ use Rattle.qh_model.specs.headline.Vector.{Vector}
 use Rattle.qh_model.specs.headline.Hull.{HullValue, IsHull}
 use Rattle.qh_model.specs.headline.Text.{IsText}
 
--- some hull is right for each list of points that is not empty
+-- each list of points that is not empty has a hull
 abbrev pub EveryListHasAHull : Type 0
 EveryListHasAHull = (pts : List Vector) → 0 < length pts → (h : HullValue) × IsHull pts h
 
--- and some text, for each list of outputs
+-- and a text for each list of outputs
 abbrev pub EveryListHasAText : Type 0
 EveryListHasAText = (pts : List Vector) (outs : List Out) → 0 < length pts → (text : List ℕ) × IsText pts outs text
