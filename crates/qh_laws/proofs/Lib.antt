@@ -7,4 +7,5 @@ pub mod FoundPolygons
 pub mod FoundFaces
 pub mod FoundFlats
 pub mod FoundHulls
+pub mod RankTexts
 pub mod Examples
