@@ -26,7 +26,7 @@ from definitions import CRATES, Project
 MOST_LINES = 450
 HEADLINE = {("qconvex", "answer"), ("qconvex", "serve")}
 SETTINGS = CRATES / "qconvex/src/settings.rt"
-LAWS = CRATES / "qh_model/src/laws"
+LAWS = (CRATES / "qh_model/src/laws", CRATES / "qh_laws/src")
 NAMED = re.compile(r"`([^`\s]+)`")
 ROW = re.compile(r"^\| \[\w+\]\(([^)]*\.antt)\) \| ([^|]*) \|", re.M)
 
@@ -43,7 +43,7 @@ def contract(project):
     """All definitions that clauses of public functions cite."""
     cited = set()
     for clause in project.clauses:
-        if clause.is_public(project.exports(clause.crate)) and LAWS not in clause.path.parents:
+        if clause.is_public(project.exports(clause.crate)) and not set(LAWS) & set(clause.path.parents):
             cited |= clause.cites
     return project.reached(cited)
 
@@ -105,14 +105,14 @@ def definitions_faults(project):
 def laws():
     """The clauses of each law, by its function."""
     found = {}
-    for path in LAWS.glob("*.rt"):
+    for path in (path for folder in LAWS for path in folder.glob("*.rt")):
         for function in re.finditer(r"^pub fn (\w+)\(\)(.*?)^\{", path.read_text(), re.M | re.S):
             found[function.group(1)] = set(re.findall(r"ensures (\w+) \{", function.group(2)))
     return found
 
 
 def laws_faults():
-    """Where docs/LAWS.md has more or less than the laws of qh_model."""
+    """Where docs/LAWS.md has more or less than the laws of qh_model and qh_laws."""
     listed, law = defaultdict(set), None
     for line in Path("docs/LAWS.md").read_text().split("\n"):
         cells = [cell.strip() for cell in line.split("|")]
@@ -121,7 +121,7 @@ def laws_faults():
             listed[law] |= set(NAMED.findall(cells[2]))
     stated = laws()
     for name in sorted(set(listed) ^ set(stated)):
-        yield "docs/LAWS.md and the laws of qh_model disagree on %s" % name
+        yield "docs/LAWS.md and the laws of qh_model and qh_laws disagree on %s" % name
     for name in sorted(set(listed) & set(stated)):
         if listed[name] != stated[name]:
             yield "docs/LAWS.md has other clauses of %s: %s" % (name, ", ".join(sorted(listed[name] ^ stated[name])))

@@ -1,0 +1,92 @@
+-- Decided claims: of pairs, of the members of a list, of ids, numbers and vectors.
+use Rattle.std.proofs.Common.{◌≡◌, ℕ, ◌⊎◌, inl, inr, List, [], ◌∷◌, refl, sym, subst, ap, arith}
+use Rattle.std.proofs.lemmas.Int.{ints, by_lt_z}
+use Rattle.std.specs.Prelude.{ℤ, pos, ◌-ℤ◌, ◌≤ℤ◌}
+use native.Mathlib.Decide.{ℕ_discrete}
+use Rattle.qh_model.proofs.algebra.Order.{zero_or_not}
+use Rattle.qh_model.proofs.algebra.Ring.{equal_from_zero}
+use Rattle.qh_model.proofs.algebra.Signs.{not_less}
+use Rattle.qh_model.proofs.algebra.VectorIdentities.{vector_path}
+use Rattle.qh_model.specs.headline.Vector.{Vector}
+use Rattle.qh_model.specs.headline.Sets.{In}
+
+-- a claim holds or not
+abbrev pub Decided : Type 0 → Type 0
+Decided P = P ⊎ (¬ P)
+
+-- two decided claims are decided together
+pub both : (P Q : Type 0) → Decided P → Decided Q → Decided (P × Q)
+both P Q (inl p) (inl q) = inl (p, q)
+both P Q (inl p) (inr n) = inr (λ h. n h.1)
+both P Q (inr n) d = inr (λ h. n h.0)
+
+-- the contrary of a decided claim is decided
+pub contrary : (P : Type 0) → Decided P → Decided (¬ P)
+contrary P (inl p) = inr (λ n. n p)
+contrary P (inr n) = inl n
+
+-- a claim that a decided one is equivalent to is decided
+pub decided_as : (P Q : Type 0) → (P → Q) → (Q → P) → Decided P → Decided Q
+decided_as P Q f g (inl p) = inl (f p)
+decided_as P Q f g (inr n) = inr (λ q. n (g q))
+
+-- a decided claim holds of each member of a list, or not
+pub each_or_not : {X : Type 0} (P : X → Type 0) → ((x : X) → Decided (P x)) → (xs : List X) → Decided ((x : X) → In x xs → P x)
+each_or_not P d [] = inl (λ x i. absurd i)
+each_or_not {X} P d (y ∷ xs) = by (d y) (each_or_not P d xs)
+  where
+    by : Decided (P y) → Decided ((x : X) → In x xs → P x) → Decided ((x : X) → In x (y ∷ xs) → P x)
+    by (inr n) r = inr (λ f. n (f y (inl refl)))
+    by (inl p) (inr n) = inr (λ f. n (λ x i. f x (inr i)))
+    by (inl p) (inl r) = inl all
+      where
+        all : (x : X) → In x (y ∷ xs) → P x
+        all x (inl e) = subst P (sym e) p
+        all x (inr i) = r x i
+
+-- a decided claim holds of some member of a list, or of no member
+pub some_or_none : {X : Type 0} (P : X → Type 0) → ((x : X) → Decided (P x)) → (xs : List X) → Decided ((x : X) × In x xs × P x)
+some_or_none P d [] = inr (λ h. h.1)
+some_or_none {X} P d (y ∷ xs) = by (d y) (some_or_none P d xs)
+  where
+    by : Decided (P y) → Decided ((x : X) × In x xs × P x) → Decided ((x : X) × In x (y ∷ xs) × P x)
+    by (inl p) r = inl (y, inl refl, p)
+    by (inr n) (inl r) = inl (r.0, inr r.1, r.2)
+    by (inr n) (inr m) = inr none
+      where
+        none : (x : X) × In x (y ∷ xs) × P x → ⊥
+        none (x, inl e, p) = n (subst P e p)
+        none (x, inr i, p) = m (x, i, p)
+
+-- two ids are equal or not
+pub same_id : (i j : ℕ) → Decided (i ≡ j)
+same_id i j = by (ℕ_discrete i j)
+  where
+    by : Dec (i ≡ j) → Decided (i ≡ j)
+    by (yes e) = inl e
+    by (no n) = inr n
+
+-- an id is a member of a list or not
+pub in_or_not : (i : ℕ) (xs : List ℕ) → Decided (In i xs)
+in_or_not i xs =
+    decided_as ((j : ℕ) × In j xs × (i ≡ j)) (In i xs) (λ h. subst (λ x. In x xs) (sym h.2) h.1) (λ m. (i, m, refl))
+    (some_or_none (λ j. i ≡ j) (same_id i) xs)
+
+-- two numbers are equal or not
+pub same_number : (a b : ℤ) → Decided (a ≡ b)
+same_number a b = decided_as (a -ℤ b ≡ pos 0) (a ≡ b) (equal_from_zero a b) (none a b) (zero_or_not (a -ℤ b))
+  where
+    none : (a b : ℤ) → a ≡ b → a -ℤ b ≡ pos 0
+    none a b e = omega (arith, ints)
+
+-- two vectors are equal or not
+pub same_vector : (p q : Vector) → Decided (p ≡ q)
+same_vector p q =
+    decided_as ((p.x ≡ q.x) × ((p.y ≡ q.y) × (p.z ≡ q.z))) (p ≡ q) (λ h. vector_path p q h.0 h.1.0 h.1.1)
+    (λ e. (ap (λ v. v.x) e, (ap (λ v. v.y) e, ap (λ v. v.z) e)))
+    (both (p.x ≡ q.x) ((p.y ≡ q.y) × (p.z ≡ q.z)) (same_number p.x q.x)
+    (both (p.y ≡ q.y) (p.z ≡ q.z) (same_number p.y q.y) (same_number p.z q.z)))
+
+-- a number is at most another or not
+pub at_most_or_above : (a b : ℤ) → Decided (a ≤ℤ b)
+at_most_or_above a b = by_lt_z b a (λ h. inr (λ l. not_less b a h l)) (λ h. inl h)

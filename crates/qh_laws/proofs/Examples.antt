@@ -1,0 +1,23 @@
+-- An example: the law asks for a point, since the empty list has no hull.
+use Rattle.std.proofs.Common.{ℕ, [], arith, inl, inr}
+use Rattle.qh_model.specs.headline.Dimension.{IsDimension}
+use Rattle.qh_model.specs.headline.Hull.{HullValue, IsHull}
+use Rattle.qh_model.specs.headline.Polygons.{ArePolygons}
+use Rattle.qh_model.specs.headline.Predicates.{place}
+use Rattle.qh_model.specs.headline.Sets.{In, Members}
+
+-- no hull is right for no points
+pub none_of_nothing : (h : HullValue) → ¬ (IsHull [] h)
+none_of_nothing h r = by r.body.dim r.body.polygons
+  where
+    empty : (i : ℕ) → ¬ (In i r.ids)
+    empty i m = let l = ((r.distinct_ids.members i).0 m).0 in omega (arith, l)
+
+    by : IsDimension (place []) (Members r.ids) h.body.dim → ArePolygons (place []) (Members r.ids) h.body.dim h.body.polygons → ⊥
+    by (inl (e, t)) p = empty t.i t.has_i
+    by (inr (inl (e, t, n))) p = empty t.i t.has_i
+    by (inr (inr (inl (e, s, n)))) p = empty s.i s.has_i
+    by (inr (inr (inr (e, n)))) (inl (f, p)) = omega (arith, e, f)
+    by (inr (inr (inr (e, n)))) (inr (inl (f, p))) = omega (arith, e, f)
+    by (inr (inr (inr (e, n)))) (inr (inr (inl (f, p)))) = omega (arith, e, f)
+    by (inr (inr (inr (e, n)))) (inr (inr (inr (f, (q, p, d))))) = empty p.i p.has_i

@@ -1,0 +1,79 @@
+-- Each set of ids has a dimension, by a search for a tetrahedron, a triangle and a segment.
+use Rattle.std.proofs.Common.{◌≡◌, ◌≢◌, ℕ, List, inl, inr, refl}
+use Rattle.std.specs.Prelude.{pos}
+use Rattle.qh_model.specs.headline.Dimension.{HasTetrahedron, HasTriangle, HasSegment, IsDimension}
+use Rattle.qh_model.specs.headline.Predicates.{cross, vol, AreInLine}
+use Rattle.qh_model.specs.headline.Sets.{In, Members}
+use Rattle.qh_model.specs.headline.Vector.{Vector, origin}
+use Rattle.qh_laws.proofs.Decisions.{Decided, contrary, decided_as, some_or_none, same_id, same_number, same_vector}
+
+module _ (at : ℕ → Vector) (ids : List ℕ) where
+  -- some member makes a tetrahedron with three
+  abbrev HasFourth : ℕ → ℕ → ℕ → Type 0
+  HasFourth i j k = (l : ℕ) × In l ids × (vol (at i) (at j) (at k) (at l) ≢ pos 0)
+
+  -- some member makes a triangle with two
+  abbrev HasThird : ℕ → ℕ → Type 0
+  HasThird i j = (k : ℕ) × In k ids × (¬ (AreInLine (at i) (at j) (at k)))
+
+  -- there is a tetrahedron or none
+  tetrahedron_or_not : Decided (HasTetrahedron at (Members ids))
+  tetrahedron_or_not =
+      decided_as ((i : ℕ) × In i ids × ((j : ℕ) × In j ids × ((k : ℕ) × In k ids × HasFourth i j k))) (HasTetrahedron at (Members ids)) into
+      (λ h. (h.i, h.has_i, (h.j, h.has_j, (h.k, h.has_k, (h.l, h.has_l, h.volume)))))
+      (some_or_none (λ i. (j : ℕ) × In j ids × ((k : ℕ) × In k ids × HasFourth i j k)) first ids)
+    where
+      into : (i : ℕ) × In i ids × ((j : ℕ) × In j ids × ((k : ℕ) × In k ids × HasFourth i j k)) → HasTetrahedron at (Members ids)
+      into (i, a, (j, b, (k, c, (l, d, v)))) = record { i = i; j = j; k = k; l = l; has_i = a; has_j = b; has_k = c; has_l = d; volume = v }
+
+      volume : (i j k l : ℕ) → Decided (vol (at i) (at j) (at k) (at l) ≢ pos 0)
+      volume i j k l = contrary (vol (at i) (at j) (at k) (at l) ≡ pos 0) (same_number (vol (at i) (at j) (at k) (at l)) (pos 0))
+
+      third : (i j k : ℕ) → Decided (HasFourth i j k)
+      third i j k = some_or_none (λ l. vol (at i) (at j) (at k) (at l) ≢ pos 0) (volume i j k) ids
+
+      second : (i j : ℕ) → Decided ((k : ℕ) × In k ids × HasFourth i j k)
+      second i j = some_or_none (HasFourth i j) (third i j) ids
+
+      first : (i : ℕ) → Decided ((j : ℕ) × In j ids × ((k : ℕ) × In k ids × HasFourth i j k))
+      first i = some_or_none (λ j. (k : ℕ) × In k ids × HasFourth i j k) (second i) ids
+
+  -- there is a triangle or none
+  triangle_or_not : Decided (HasTriangle at (Members ids))
+  triangle_or_not =
+      decided_as ((i : ℕ) × In i ids × ((j : ℕ) × In j ids × HasThird i j)) (HasTriangle at (Members ids)) into
+      (λ h. (h.i, h.has_i, (h.j, h.has_j, (h.k, h.has_k, h.area))))
+      (some_or_none (λ i. (j : ℕ) × In j ids × HasThird i j) first ids)
+    where
+      into : (i : ℕ) × In i ids × ((j : ℕ) × In j ids × HasThird i j) → HasTriangle at (Members ids)
+      into (i, a, (j, b, (k, c, d))) = record { i = i; j = j; k = k; has_i = a; has_j = b; has_k = c; area = d }
+
+      area : (i j k : ℕ) → Decided (¬ (AreInLine (at i) (at j) (at k)))
+      area i j k = contrary (AreInLine (at i) (at j) (at k)) (same_vector (cross (at i) (at j) (at k)) origin)
+
+      second : (i j : ℕ) → Decided (HasThird i j)
+      second i j = some_or_none (λ k. ¬ (AreInLine (at i) (at j) (at k))) (area i j) ids
+
+      first : (i : ℕ) → Decided ((j : ℕ) × In j ids × HasThird i j)
+      first i = some_or_none (HasThird i) (second i) ids
+
+  -- there is a segment or none
+  segment_or_not : Decided (HasSegment (Members ids))
+  segment_or_not =
+      decided_as ((i : ℕ) × In i ids × ((j : ℕ) × In j ids × (i ≢ j))) (HasSegment (Members ids)) into
+      (λ h. (h.i, h.has_i, (h.j, h.has_j, h.differ)))
+      (some_or_none (λ i. (j : ℕ) × In j ids × (i ≢ j)) (λ i. some_or_none (λ j. i ≢ j) (λ j. contrary (i ≡ j) (same_id i j)) ids) ids)
+    where
+      into : (i : ℕ) × In i ids × ((j : ℕ) × In j ids × (i ≢ j)) → HasSegment (Members ids)
+      into (i, a, (j, b, n)) = record { i = i; j = j; has_i = a; has_j = b; differ = n }
+
+  -- so there is a dimension
+  pub dimension_of : (k : ℕ) × IsDimension at (Members ids) k
+  dimension_of = by tetrahedron_or_not triangle_or_not segment_or_not
+    where
+      by : Decided (HasTetrahedron at (Members ids)) → Decided (HasTriangle at (Members ids)) → Decided (HasSegment (Members ids))
+          → (k : ℕ) × IsDimension at (Members ids) k
+      by (inl t) b c = (3, inl (refl, t))
+      by (inr t) (inl b) c = (2, inr (inl (refl, b, t)))
+      by (inr t) (inr b) (inl c) = (1, inr (inr (inl (refl, c, b))))
+      by (inr t) (inr b) (inr c) = (0, inr (inr (inr (refl, c))))

@@ -1,0 +1,113 @@
+-- A direction along which no two points of a finite set have one height, and the ids in rising height.
+use Rattle.std.proofs.Common.{◌≡◌, ℕ, ◌+◌, List, [], ◌∷◌, inl, inr, ap, sym, arith}
+use Rattle.std.proofs.lemmas.Int.{ints, by_lt_z}
+use Rattle.std.proofs.Math.Nat.{mul-le-mul_left}
+use Rattle.std.specs.Prelude.{ℤ, pos, ◌+ℤ◌, ◌*ℤ◌, neg_ℤ, ◌<ℤ◌, ◌↔◌}
+use Rattle.std.specs.List.{AllByRecursion as Every}
+use borrow.Author.Differences.{lt_out}
+use Rattle.qh_model.proofs.Members.{every_at}
+use Rattle.qh_model.proofs.algebra.Order.{le_antisym}
+use Rattle.qh_model.proofs.algebra.VectorIdentities.{vector_path}
+use Rattle.qh_model.proofs.combinations.WeightedTerms.{bound}
+use Rattle.qh_model.proofs.extremes.ExtremeIds.{Listed}
+use Rattle.qh_model.specs.contract.IdSets.{HasDistinctPoints}
+use Rattle.qh_model.specs.headline.Sets.{In}
+use Rattle.qh_model.specs.headline.Vector.{Vector, dot}
+use Rattle.qh_plane.proofs.polygons.TurnLaws.{RisesBy}
+use Rattle.qh_plane.proofs.polygons.Turns.{IsKeyed, height_of}
+use Rattle.qh_laws.proofs.Sorting.{Compare, Rises, InRow, Sorted, sorted}
+
+-- a large factor outweighs what is added to it
+factor_tells : (B C : ℕ) (a b s t : ℤ) → neg_ℤ t <ℤ pos B → neg_ℤ (neg_ℤ s) <ℤ pos C
+    → pos (B + C) *ℤ a +ℤ s ≡ pos (B + C) *ℤ b +ℤ t → a <ℤ b → ⊥
+factor_tells B C a b s t h k e l = omega (arith, ints, mul-le-mul_left (B + C) (lt_out a b l))
+
+-- so equal sums have one factor
+same_factor : (B C : ℕ) (a b s t : ℤ) → (neg_ℤ s <ℤ pos B) × (neg_ℤ (neg_ℤ s) <ℤ pos C) → (neg_ℤ t <ℤ pos B) × (neg_ℤ (neg_ℤ t) <ℤ pos C)
+    → pos (B + C) *ℤ a +ℤ s ≡ pos (B + C) *ℤ b +ℤ t → a ≡ b
+same_factor B C a b s t h k e =
+    by_lt_z a b (λ l. absurd (factor_tells B C a b s t k.0 h.1 e l))
+    (λ l. by_lt_z b a (λ m. absurd (factor_tells B C b a t s h.0 k.1 (sym e) m)) (λ m. le_antisym a b m l))
+
+-- and one rest
+same_rest : (x y s t : ℤ) → x ≡ y → x +ℤ s ≡ y +ℤ t → s ≡ t
+same_rest x y s t e f = omega (arith, ints)
+
+-- a factor N for which N f + g determines f and g
+pub record Factor (f g : ℕ → ℤ) (xs : List ℕ) : Type 0 where
+  pub N : ℕ
+  pub tells : (i j : ℕ) → In i xs → In j xs → pos N *ℤ f i +ℤ g i ≡ pos N *ℤ f j +ℤ g j → (f i ≡ f j) × (g i ≡ g j)
+
+-- a finite set has such a factor
+factor : (f g : ℕ → ℤ) (xs : List ℕ) → Factor f g xs
+factor f g xs = record { N = B.0 + C.0; tells = tells }
+  where
+    B : (N : ℕ) × Every (λ i. neg_ℤ (g i) <ℤ pos N) xs
+    B = bound g xs
+
+    C : (N : ℕ) × Every (λ i. neg_ℤ (neg_ℤ (g i)) <ℤ pos N) xs
+    C = bound (λ i. neg_ℤ (g i)) xs
+
+    between : (i : ℕ) → In i xs → (neg_ℤ (g i) <ℤ pos B.0) × (neg_ℤ (neg_ℤ (g i)) <ℤ pos C.0)
+    between i m = (every_at (λ i. neg_ℤ (g i) <ℤ pos B.0) xs i B.1 m, every_at (λ i. neg_ℤ (neg_ℤ (g i)) <ℤ pos C.0) xs i C.1 m)
+
+    tells : (i j : ℕ) → In i xs → In j xs → pos (B.0 + C.0) *ℤ f i +ℤ g i ≡ pos (B.0 + C.0) *ℤ f j +ℤ g j → (f i ≡ f j) × (g i ≡ g j)
+    tells i j m n e =
+        let first = same_factor B.0 C.0 (f i) (f j) (g i) (g j) (between i m) (between j n) e in
+        (first, same_rest (pos (B.0 + C.0) *ℤ f i) (pos (B.0 + C.0) *ℤ f j) (g i) (g j) (ap (λ v. pos (B.0 + C.0) *ℤ v) first) e)
+
+-- a scalar product with z taken once, regrouped
+aside : (a b c d e f : ℤ) → a +ℤ b +ℤ pos 1 *ℤ c ≡ d +ℤ e +ℤ pos 1 *ℤ f → a +ℤ (b +ℤ c) ≡ d +ℤ (e +ℤ f)
+aside a b c d e f h = omega (arith, ints)
+
+-- a finite set of distinct points has a direction along which no two have one height
+pub direction : (at : ℕ → Vector) (A : ℕ → Type 0) (xs : List ℕ) → Listed A xs → HasDistinctPoints at A → (h : Vector) × IsKeyed h at A
+direction at A xs l d = (record { x = pos M.N; y = pos N.N; z = pos 1 }, record { same = same })
+  where
+    N : Factor (λ i. (at i).y) (λ i. (at i).z) xs
+    N = factor (λ i. (at i).y) (λ i. (at i).z) xs
+
+    M : Factor (λ i. (at i).x) (λ i. pos N.N *ℤ (at i).y +ℤ (at i).z) xs
+    M = factor (λ i. (at i).x) (λ i. pos N.N *ℤ (at i).y +ℤ (at i).z) xs
+
+    same : (i j : ℕ) → A i → A j
+        → dot (record { x = pos M.N; y = pos N.N; z = pos 1 }) (at i) ≡ dot (record { x = pos M.N; y = pos N.N; z = pos 1 }) (at j) → i ≡ j
+    same i j a b e =
+        let m = (l i).0 a in let n = (l j).0 b in
+        let first = M.tells i j m n (aside (pos M.N *ℤ (at i).x) (pos N.N *ℤ (at i).y) (at i).z
+        (pos M.N *ℤ (at j).x) (pos N.N *ℤ (at j).y) (at j).z e) in
+        let second = N.tells i j m n first.1 in
+        d i j a b (vector_path (at i) (at j) first.0 second.0 second.1)
+
+-- the members of A in rising height
+pub record Rising (h : Vector) (at : ℕ → Vector) (A : ℕ → Type 0) : Type 0 where
+  pub first : ℕ
+  pub rest : List ℕ
+  pub members : (i : ℕ) → In i (first ∷ rest) ↔ A i
+  pub rises : RisesBy (height_of h at) first rest
+
+-- a row by height rises by its heights
+rises : (key : ℕ → ℤ) (x : ℕ) (xs : List ℕ) → Rises (λ i j. key i <ℤ key j) x xs → RisesBy key x xs
+rises key x [] r = tt
+rises key x (y ∷ xs) r = (r.0, rises key y xs r.1)
+
+-- a finite set that is not empty has that list
+pub rising : (h : Vector) (at : ℕ → Vector) (A : ℕ → Type 0) (xs : List ℕ) → Listed A xs → IsKeyed h at A → (a : ℕ) → A a → Rising h at A
+rising h at A xs l k a m = by row.list row.row row.members
+  where
+    compare : (i j : ℕ) → A i → A j → Compare (λ i j. height_of h at i <ℤ height_of h at j) i j
+    compare i j b c =
+        by_lt_z (height_of h at i) (height_of h at j) (λ q. inl q)
+        (λ q. by_lt_z (height_of h at j) (height_of h at i) (λ r. inr (inr r)) (λ r. inr (inl (k.same i j b c (le_antisym _ _ r q)))))
+
+    row : Sorted (λ i j. height_of h at i <ℤ height_of h at j) xs
+    row = sorted (λ i j. height_of h at i <ℤ height_of h at j) A compare xs (λ i b. (l i).1 b)
+
+    by : (ys : List ℕ) → InRow (λ i j. height_of h at i <ℤ height_of h at j) ys → ((i : ℕ) → In i ys ↔ In i xs) → Rising h at A
+    by [] o s = absurd ((s a).1 ((l a).0 m))
+    by (y ∷ ys) o s = record {
+      first = y;
+      rest = ys;
+      members = λ i. (λ b. (l i).1 ((s i).0 b), λ b. (s i).1 ((l i).0 b));
+      rises = rises (height_of h at) y ys o;
+    }

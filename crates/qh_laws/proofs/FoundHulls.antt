@@ -1,0 +1,84 @@
+-- Each list of points that is not empty has a hull and a text.
+use Rattle.std.proofs.Common.{◌≡◌, ℕ, ◌<◌, List, [], ◌∷◌, length, refl, inl, inr}
+use Rattle.std.specs.List.Sorted.{IsStrictlyIncreasing}
+use Rattle.qh_model.proofs.DistinctIds.{some_id, distinct_apart}
+use Rattle.qh_model.proofs.polygons.EdgeCounts.{edges_are_counted}
+use Rattle.qh_model.specs.contract.IdSets.{HasDistinctPoints}
+use Rattle.qh_model.specs.headline.Dimension.{IsDimension}
+use Rattle.qh_model.specs.headline.DistinctIds.{AreDistinctIds}
+use Rattle.qh_model.specs.headline.Fan.{edge_count}
+use Rattle.qh_model.specs.headline.Hull.{BodyValue, HullValue, IsBody, IsHull}
+use Rattle.qh_model.specs.headline.Polygons.{ArePolygons}
+use Rattle.qh_model.specs.headline.Predicates.{place}
+use Rattle.qh_model.specs.headline.Sets.{Members}
+use Rattle.qh_model.specs.headline.Text.{hull_text}
+use Rattle.qh_model.specs.headline.Vector.{Vector}
+use Rattle.qh_laws.specs.laws.ExistenceLaws.{EveryListHasAHull, EveryListHasAText}
+use Rattle.qh_laws.proofs.FoundIds.{distinct_ids_of, extremes_of}
+use Rattle.qh_laws.proofs.FoundDimensions.{dimension_of}
+use Rattle.qh_laws.proofs.FoundFaces.{faces_found}
+use Rattle.qh_laws.proofs.FoundFlats.{flat_found, segment_found, point_found}
+
+-- ids of distinct points have polygons
+pub polygons_found : (at : ℕ → Vector) (ids : List ℕ) → HasDistinctPoints at (Members ids) → 0 < length ids
+    → (k : ℕ) → IsDimension at (Members ids) k → (qs : List (List ℕ)) × ArePolygons at (Members ids) k qs
+polygons_found at ids d some k (inl (e, t)) = let f = faces_found at ids d in (f.0, inl (e, f.1))
+polygons_found at ids d some k (inr (inl (e, t, n))) =
+    let f = flat_found at ids d n t in (f.0 ∷ [], inr (inl (e, (f.0, f.1, refl))))
+polygons_found at ids d some k (inr (inr (inl (e, s, n)))) =
+    let f = segment_found at ids d n s in (f.0 ∷ [], inr (inr (inl (e, (f.0, f.1, refl)))))
+polygons_found at ids d some k (inr (inr (inr (e, n)))) =
+    let f = point_found ids some in (f.0 ∷ [], inr (inr (inr (e, (f.0, f.1, refl)))))
+
+-- a body of the ids, of dimension k
+pub record BodyOf (at : ℕ → Vector) (ids : List ℕ) (k : ℕ) : Type 0 where
+  pub body : BodyValue
+  pub right : IsBody at (Members ids) body
+  pub dim : body.dim ≡ k
+
+-- rising ids of distinct points have a body of their dimension
+pub body_found : (at : ℕ → Vector) (ids : List ℕ) → IsStrictlyIncreasing ids → HasDistinctPoints at (Members ids) → 0 < length ids
+    → (k : ℕ) → IsDimension at (Members ids) k → BodyOf at ids k
+body_found at ids r d some k h =
+    let es = extremes_of at ids r in
+    let qs = polygons_found at ids d some k h in
+    record {
+      body = record { dim = k; extremes = es.0; polygons = qs.0; edges = edge_count qs.0 };
+      right = record { dim = h; extremes = es.1; polygons = qs.1; edges = edges_are_counted qs.0 };
+      dim = refl;
+    }
+
+-- a hull of the points with the numbers that rank_text tells: of points, of ids, and the dimension
+pub record HullOf (pts : List Vector) (ids : List ℕ) (k : ℕ) : Type 0 where
+  pub hull : HullValue
+  pub right : IsHull pts hull
+  pub given : hull.given ≡ length pts
+  pub distinct : hull.distinct ≡ length ids
+  pub dim : hull.body.dim ≡ k
+
+-- the distinct ids and their dimension are those of a hull, so they tell the text of the rank
+pub rank_is_text : (pts : List Vector) (ids : List ℕ) (k : ℕ) → AreDistinctIds pts ids → 0 < length pts
+    → IsDimension (place pts) (Members ids) k → HullOf pts ids k
+rank_is_text pts ids k a some h =
+    let b = body_found (place pts) ids a.rising (distinct_apart pts ids a) (some_id pts ids a some) k h in
+    record {
+      hull = record { given = length pts; distinct = length ids; body = b.body };
+      right = record { ids = ids; distinct_ids = a; given = refl; distinct = refl; body = b.right };
+      given = refl;
+      distinct = refl;
+      dim = b.dim;
+    }
+
+-- the law of hulls
+pub every_list_has_a_hull : EveryListHasAHull
+every_list_has_a_hull pts some =
+    let ids = distinct_ids_of pts in
+    let k = dimension_of (place pts) ids.0 in
+    let h = rank_is_text pts ids.0 k.0 ids.1 some k.1 in
+    (h.hull, h.right)
+
+-- the law of texts
+pub every_list_has_a_text : EveryListHasAText
+every_list_has_a_text pts outs some =
+    let h = every_list_has_a_hull pts some in
+    (hull_text h.0 pts outs, record { hull = h.0; right = h.1; is = refl })

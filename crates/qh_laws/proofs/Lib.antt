@@ -1,0 +1,11 @@
+pub mod Decisions
+pub mod Sorting
+pub mod FoundIds
+pub mod FoundDimensions
+pub mod FoundHeights
+pub mod FoundPolygons
+pub mod FoundFaces
+pub mod FoundFlats
+pub mod FoundHulls
+pub mod RankTexts
+pub mod Examples

@@ -1,0 +1,2 @@
+-- The laws: what follows from the definitions.
+pub mod ExistenceLaws
