@@ -3,9 +3,10 @@
 
     scripts/stored_run.py [--check]      from the top of the repository
 
-The points reach every layer: 200 on a sphere, a lattice of 64 that looks out of it, so that faces have points within
-them and within their edges, and some points given again, in a seeded order, in a file with comments and blanks. The
-program takes them in blocks of 3 with 7 workers and writes all outputs. What it has to write is the text of
+The points are 200 on a sphere, a lattice of 64 that sticks out of it, so that faces have points within them and within
+their edges, and some points given again, in a seeded order, in a file with comments and blanks. The program takes them
+in blocks of 3 with 7 workers, joined in the tree up to its root, and writes all outputs. Three things are not reached:
+the interior filter, which takes larger sets; a pass that gives up; and points in a line or a plane. What it has to write is the text of
 fuzz_hulls.py, a hull over all triples; it takes a minute. --check writes nothing and fails where a file differs.
 """
 import argparse
