@@ -4,19 +4,31 @@
     scripts/one_text.py [RUNS]        20,000 runs where no number is given; from the top of the repository
 
 Each run has 2 to 64 workers and blocks of 1 to 3 points, and must write what one worker with one block writes of that
-input. The script prints each difference, and how many runs it made of how many inputs; its status is 1 if a text
-differed. The inputs are seeded, so a difference can be made again where the order of the workers' steps lets it.
+input. Then the same run is made with a program that differs in one line: it answers Memory where the board has no root,
+so that all ids would be hulled. So the script can tell how many boards had a root. It proves and builds that program in a
+copy of the repository, which takes some minutes.
+
+The script prints each difference, how many runs it made of how many inputs, and how many boards had a root; its status
+is 1 if a text differed. The inputs are seeded, so a difference can be made again where the order of the workers' steps
+lets it.
 """
 import random
+import shutil
 import subprocess
 import sys
+import tempfile
 from concurrent.futures import ThreadPoolExecutor
+from pathlib import Path
 
 PROGRAM = "crates/qconvex/out/qconvex"
 OUTPUTS = ["rank", "s", "Fx", "off", "offt"]
 RUNS = 20_000
 # How many runs there are of each input.
 EACH = 25
+# The line that hulls all ids where there is no root, what stands for it, and the status of that answer.
+RUN = "crates/qh_run/src/run.rt"
+WITHOUT_ROOT = ("None => gate.finish(alloc, pts, ids),", "None => Err(Memory),")
+MEMORY_STATUS = 3
 
 
 def points(rng):
@@ -37,10 +49,25 @@ def text_of(points):
 
 
 def run(case):
-    """The status and both texts of a run."""
-    text, words = case
-    done = subprocess.run([PROGRAM, *words], input=text, capture_output=True)
+    """The status and both texts of a program's run."""
+    program, text, words = case
+    done = subprocess.run([program, *words], input=text, capture_output=True)
     return done.returncode, done.stdout, done.stderr
+
+
+def program_that_tells_roots(top):
+    """Builds the program that answers Memory where the board has no root, in a copy of the repository."""
+    shutil.copytree("crates", top / "crates", symlinks=True, ignore=shutil.ignore_patterns("out"))
+    for name in ["crates.txt", "HANDLES"]:
+        shutil.copy(name, top / name)
+    right, planted = WITHOUT_ROOT
+    text = (top / RUN).read_text()
+    if text.count(right) != 1:
+        sys.exit(f"{RUN}: not once: {right!r}")
+    (top / RUN).write_text(text.replace(right, planted))
+    folder = top / "crates/qconvex"
+    subprocess.run(["rt", "run", "--", "rank"], cwd=folder, input=b"3\n1\n5 5 5\n", check=True, stdout=subprocess.DEVNULL)
+    return str(folder / "out/qconvex")
 
 
 def cases(rng, runs):
@@ -57,19 +84,25 @@ def cases(rng, runs):
 
 def main():
     runs = int(sys.argv[1]) if len(sys.argv) > 1 else RUNS
-    made, inputs, differences = 0, 0, 0
-    with ThreadPoolExecutor(max_workers=2) as pool:
+    made, inputs, differences, roots = 0, 0, 0, 0
+    with tempfile.TemporaryDirectory() as folder, ThreadPoolExecutor(max_workers=2) as pool:
+        telling = program_that_tells_roots(Path(folder))
         for text, alone, shared in cases(random.Random(1), runs):
-            want = run((text, alone))
+            want = run((PROGRAM, text, alone))
             if want[0] != 0:
                 sys.exit(f"status {want[0]} with one worker: {want[2]!r} of {text!r}")
-            for words, got in zip(shared, pool.map(run, [(text, words) for words in shared])):
+            for words, got in zip(shared, pool.map(run, [(PROGRAM, text, words) for words in shared])):
                 made += 1
                 if got != want:
                     differences += 1
                     print(f"DIFFERENT with {' '.join(words)}: {got!r}, not {want!r}, of {text!r}", flush=True)
+            for told in pool.map(run, [(telling, text, words) for words in shared]):
+                roots += told == want
+                if told != want and told[0] != MEMORY_STATUS:
+                    sys.exit(f"the program that tells roots answers {told!r}, not {want!r}")
             inputs += 1
     print(f"{made} runs of {inputs} inputs, {differences} with another text than one worker and one block")
+    print(f"{roots} of {made} boards had a root")
     sys.exit(1 if differences else 0)
 
 
