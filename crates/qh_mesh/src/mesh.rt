@@ -5,6 +5,7 @@ ghost use Rattle.qh_model.specs.headline.Predicates.{vol, place};
 ghost use Rattle.qh_model.specs.headline.Vector.{Vector};
 ghost use Rattle.qh_model.specs.contract.Weighted.{Weighted};
 ghost use Rattle.qh_model.specs.contract.FinishedSurface.{weighted_at, middle_at};
+ghost use Rattle.qh_model.specs.contract.ClosedSurface.{signed_volume, triples_of};
 ghost use Rattle.qh_model.specs.contract.StoredSurface.{facet_at, named_facet, surface_of};
 ghost use Rattle.qh_mesh.specs.contract.Edges.{nth_side, side_of_edge, facet_of, edge_of, edge_end, edge_start, twin_of};
 ghost use Rattle.qh_mesh.specs.contract.Replacement.{IsLive, AreFacets, IsReplacement};
@@ -300,6 +301,11 @@ impl Mesh {
         ensures closed { IfOk result (λ _. (s t u v : ℕ)
             → IsSoundMesh (place pts.now) self.old (middle_at (place pts.now) s t u v)
             → AreVisible (place pts.now) self.old visible.now apex → IsClosedMesh (place pts.now) self.new) }
+        ensures falls { IfOk result (λ _. (s t u v : ℕ)
+            → IsSoundMesh (place pts.now) self.old (middle_at (place pts.now) s t u v)
+            → AreVisible (place pts.now) self.old visible.now apex → (p : Vector)
+            → signed_volume (place pts.now) (triples_of (surface_of self.new)) p
+            <ℤ signed_volume (place pts.now) (triples_of (surface_of self.old)) p) }
         ensures places { IfOk result (λ _. length self.new ≡ max (length self.old) (length (surface_of self.new).live)) }
         ensures memory { OnErr result (self.new ≡ self.old) }
     {
