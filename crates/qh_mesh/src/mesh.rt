@@ -19,7 +19,7 @@ use crate::facets::{EdgeNo, Facet, FacetNo, FacetSide, name_all};
 use crate::live::Live;
 use crate::rebuild::rebuild;
 use crate::slots::Slot;
-use qh_model::{Id, Memory, Point};
+use qh_model::{Id, Memory, POINT_LIMIT, Point};
 use qh_pred::{point_at, vol};
 use std::alloc::{AllocError, Global};
 use std::marker::Model;
@@ -27,6 +27,10 @@ use std::mem;
 
 /// More places than this have half-edges whose numbers don't fit 32 bits.
 const PLACES: usize = 1_431_655_765;
+
+/// By Euler's count a hull has fewer than twice as many triangles as points, and a replacement asks for room
+/// for at most twice as many more as there are: at the most points all fit.
+const _: () = prove!(3 * 2 * POINT_LIMIT as usize <= PLACES);
 
 /// A closed surface of triangles, each counterclockwise seen from outside.
 ///
@@ -84,6 +88,13 @@ fn four(a: u32, b: u32, c: u32, d: u32) -> [Facet; 4]
     ]
 }
 
+/// Whether the half-edges of so many places and so many more have numbers that fit 32 bits.
+fn are_numbered(places: usize, more: usize) -> bool
+    ensures { IsTrue result ↔ (3 * (places + more) < 2 ^ 32) }
+{
+    places <= PLACES && more <= PLACES - places
+}
+
 /// Makes room for what a replacement of so many facets can need, at so many points.
 fn make_room(
     facets: &mut Vec<Facet>,
@@ -106,7 +117,7 @@ fn make_room(
         return Err(AllocError);
     };
     let spare = (2 * count).saturating_sub(free.len());
-    if facets.len() > PLACES || spare > PLACES - facets.len() {
+    if !are_numbered(facets.len(), spare) {
         return Err(AllocError);
     }
     if slots.len() < points {
