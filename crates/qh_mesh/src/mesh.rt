@@ -1,6 +1,7 @@
 //! The mesh, its questions, and how it is made and grows.
 ghost use Rattle.std.specs.Prelude.{◌≡◌, ◌↔◌, IsTrue, ◌≢◌, ◌+◌, ◌*◌, ◌-◌, ◌/◌, ◌^◌, ◌≤◌, ◌<◌, length, map, max, vec_len, vec_capacity};
 ghost use Rattle.std.specs.Prelude.{OnOk, OnErr, IfOk, true, false, pos, [], ◌∷◌, ℕ, ◌<ℤ◌};
+ghost use Rattle.qh_model.specs.declared.limits.TheConstants.{POINT_LIMIT};
 ghost use Rattle.qh_model.specs.headline.Predicates.{vol, place};
 ghost use Rattle.qh_model.specs.headline.Vector.{Vector};
 ghost use Rattle.qh_model.specs.contract.Weighted.{Weighted};
@@ -19,7 +20,7 @@ use crate::facets::{EdgeNo, Facet, FacetNo, FacetSide, name_all};
 use crate::live::Live;
 use crate::rebuild::rebuild;
 use crate::slots::Slot;
-use qh_model::{Id, Memory, POINT_LIMIT, Point};
+use qh_model::{Id, Memory, Point};
 use qh_pred::{point_at, vol};
 use std::alloc::{AllocError, Global};
 use std::marker::Model;
@@ -27,10 +28,6 @@ use std::mem;
 
 /// More places than this have half-edges whose numbers don't fit 32 bits.
 const PLACES: usize = 1_431_655_765;
-
-/// By Euler's count a hull has fewer than twice as many triangles as points, and a replacement asks for room
-/// for at most twice as many more as there are: at the most points all fit.
-const _: () = prove!(3 * 2 * POINT_LIMIT as usize <= PLACES);
 
 /// A closed surface of triangles, each counterclockwise seen from outside.
 ///
@@ -89,8 +86,12 @@ fn four(a: u32, b: u32, c: u32, d: u32) -> [Facet; 4]
 }
 
 /// Whether the half-edges of so many places and so many more have numbers that fit 32 bits.
+///
+/// By Euler's count a hull has fewer than twice as many triangles as points, and a replacement asks for room
+/// for at most twice as many more as there are: at the most points they fit.
 fn are_numbered(places: usize, more: usize) -> bool
-    ensures { IsTrue result ↔ (3 * (places + more) < 2 ^ 32) }
+    ensures exact { IsTrue result ↔ (3 * (places + more) < 2 ^ 32) }
+    ensures hull { places + more ≤ 3 * (2 * POINT_LIMIT) → IsTrue result }
 {
     places <= PLACES && more <= PLACES - places
 }
