@@ -2,3 +2,4 @@
 pub mod Flat
 pub mod Answered
 pub mod Triangles
+pub mod Codes

@@ -5,7 +5,7 @@ ghost use Rattle.qh_model.specs.contract.Places.{IsPlace};
 ghost use Rattle.qh_model.specs.declared.limits.TheConstants.{POINT_LIMIT};
 ghost use Rattle.qconvex_c.specs.contract.Answered.{IsAnswered, NeedsRoom};
 ghost use Rattle.qconvex_c.specs.contract.Triangles.{AreFans, NeedsFanRoom};
-ghost use Rattle.qconvex_c.specs.declared.code.TheConstants.{DONE, NO_POINT, TOO_MANY, RANGE, ROOM};
+ghost use Rattle.qconvex_c.specs.contract.Codes.{QCONVEX_DONE, QCONVEX_NO_POINT, QCONVEX_TOO_MANY, QCONVEX_RANGE, QCONVEX_ROOM};
 
 use crate::code::DONE;
 use crate::fan_lists::write_fans;
@@ -33,21 +33,21 @@ pub extern "C" fn qconvex_hull(
     offsets: &mut [usize],
     corners: &mut [u32],
 ) -> u32
-    ensures done { result ≡ DONE → IsAnswered points.now sizes.new extremes.new offsets.new corners.new }
-    ensures none { (result ≡ NO_POINT) ↔ (length points.now ≡ 0) }
-    ensures many { (result ≡ TOO_MANY) ↔ (POINT_LIMIT < length points.now) }
-    ensures range { (result ≡ RANGE) ↔ ((0 < length points.now) × (length points.now ≤ POINT_LIMIT) × ¬ (All IsPlace points.now)) }
-    ensures room { result ≡ ROOM → NeedsRoom points.now sizes.new extremes.old offsets.old corners.old }
-    ensures codes { result ≤ ROOM }
+    ensures done { result ≡ QCONVEX_DONE → IsAnswered points.now sizes.new extremes.new offsets.new corners.new }
+    ensures none { (result ≡ QCONVEX_NO_POINT) ↔ (length points.now ≡ 0) }
+    ensures many { (result ≡ QCONVEX_TOO_MANY) ↔ (POINT_LIMIT < length points.now) }
+    ensures range { (result ≡ QCONVEX_RANGE) ↔ ((0 < length points.now) × (length points.now ≤ POINT_LIMIT) × ¬ (All IsPlace points.now)) }
+    ensures room { result ≡ QCONVEX_ROOM → NeedsRoom points.now sizes.new extremes.old offsets.old corners.old }
+    ensures codes { result ≤ QCONVEX_ROOM }
 
     // What stands behind an answer in a buffer, and what a refusal leaves alone.
-    ensures extremes_rest { result ≡ DONE → drop sizes.new.extremes extremes.new ≡ drop sizes.new.extremes extremes.old }
-    ensures offsets_rest { result ≡ DONE → drop (sizes.new.faces + 1) offsets.new ≡ drop (sizes.new.faces + 1) offsets.old }
-    ensures corners_rest { result ≡ DONE → drop sizes.new.corners corners.new ≡ drop sizes.new.corners corners.old }
-    ensures extremes_kept { result ≢ DONE → extremes.new ≡ extremes.old }
-    ensures offsets_kept { result ≢ DONE → offsets.new ≡ offsets.old }
-    ensures corners_kept { result ≢ DONE → corners.new ≡ corners.old }
-    ensures sizes_kept { result ≢ DONE → result ≢ ROOM → sizes.new ≡ sizes.old }
+    ensures extremes_rest { result ≡ QCONVEX_DONE → drop sizes.new.extremes extremes.new ≡ drop sizes.new.extremes extremes.old }
+    ensures offsets_rest { result ≡ QCONVEX_DONE → drop (sizes.new.faces + 1) offsets.new ≡ drop (sizes.new.faces + 1) offsets.old }
+    ensures corners_rest { result ≡ QCONVEX_DONE → drop sizes.new.corners corners.new ≡ drop sizes.new.corners corners.old }
+    ensures extremes_kept { result ≢ QCONVEX_DONE → extremes.new ≡ extremes.old }
+    ensures offsets_kept { result ≢ QCONVEX_DONE → offsets.new ≡ offsets.old }
+    ensures corners_kept { result ≢ QCONVEX_DONE → corners.new ≡ corners.old }
+    ensures sizes_kept { result ≢ QCONVEX_DONE → result ≢ QCONVEX_ROOM → sizes.new ≡ sizes.old }
 {
     match write_hull(alloc, points, sizes, extremes, offsets, corners) {
         Ok(()) => DONE,
@@ -72,19 +72,19 @@ pub extern "C" fn qconvex_fans(
     triangles: &mut [u32],
     normals: &mut [i64],
 ) -> u32
-    ensures done { result ≡ DONE → AreFans points.now count.new (take (3 * count.new) triangles.new) (take (3 * count.new) normals.new) }
-    ensures none { (result ≡ NO_POINT) ↔ (length points.now ≡ 0) }
-    ensures many { (result ≡ TOO_MANY) ↔ (POINT_LIMIT < length points.now) }
-    ensures range { (result ≡ RANGE) ↔ ((0 < length points.now) × (length points.now ≤ POINT_LIMIT) × ¬ (All IsPlace points.now)) }
-    ensures room { result ≡ ROOM → NeedsFanRoom points.now count.new triangles.old normals.old }
-    ensures codes { result ≤ ROOM }
+    ensures done { result ≡ QCONVEX_DONE → AreFans points.now count.new (take (3 * count.new) triangles.new) (take (3 * count.new) normals.new) }
+    ensures none { (result ≡ QCONVEX_NO_POINT) ↔ (length points.now ≡ 0) }
+    ensures many { (result ≡ QCONVEX_TOO_MANY) ↔ (POINT_LIMIT < length points.now) }
+    ensures range { (result ≡ QCONVEX_RANGE) ↔ ((0 < length points.now) × (length points.now ≤ POINT_LIMIT) × ¬ (All IsPlace points.now)) }
+    ensures room { result ≡ QCONVEX_ROOM → NeedsFanRoom points.now count.new triangles.old normals.old }
+    ensures codes { result ≤ QCONVEX_ROOM }
 
     // What stands behind an answer in a buffer, and what a refusal leaves alone.
-    ensures triangles_rest { result ≡ DONE → drop (3 * count.new) triangles.new ≡ drop (3 * count.new) triangles.old }
-    ensures normals_rest { result ≡ DONE → drop (3 * count.new) normals.new ≡ drop (3 * count.new) normals.old }
-    ensures triangles_kept { result ≢ DONE → triangles.new ≡ triangles.old }
-    ensures normals_kept { result ≢ DONE → normals.new ≡ normals.old }
-    ensures count_kept { result ≢ DONE → result ≢ ROOM → count.new ≡ count.old }
+    ensures triangles_rest { result ≡ QCONVEX_DONE → drop (3 * count.new) triangles.new ≡ drop (3 * count.new) triangles.old }
+    ensures normals_rest { result ≡ QCONVEX_DONE → drop (3 * count.new) normals.new ≡ drop (3 * count.new) normals.old }
+    ensures triangles_kept { result ≢ QCONVEX_DONE → triangles.new ≡ triangles.old }
+    ensures normals_kept { result ≢ QCONVEX_DONE → normals.new ≡ normals.old }
+    ensures count_kept { result ≢ QCONVEX_DONE → result ≢ QCONVEX_ROOM → count.new ≡ count.old }
 {
     match write_fans(alloc, points, count, triangles, normals) {
         Ok(()) => DONE,

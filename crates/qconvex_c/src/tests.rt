@@ -138,3 +138,29 @@ fn fans_of_a_pyramid(rt: HostRuntime) -> Result<(), Fail> {
     assert_eq!(rt; code, ROOM);
     Ok(())
 }
+
+/// C knows a field by its place alone. `Debug` writes the fields in the order of their places.
+#[test]
+fn fields_as_in_the_header(rt: HostRuntime) -> Result<(), Fail> {
+    let sizes = Sizes {
+        edges: 7,
+        corners: 6,
+        faces: 5,
+        extremes: 4,
+        dimension: 3,
+        distinct: 2,
+        points: 1,
+    };
+    let text = format!(in rt.alloc(); "{sizes:?}")?;
+    assert_eq!(rt;
+        text.as_str(),
+        "Sizes { points: 1, distinct: 2, dimension: 3, extremes: 4, faces: 5, corners: 6, edges: 7 }"
+    );
+    let text = format!(in rt.alloc(); "{:?}", Given::new(1, 2, 3))?;
+    assert_eq!(rt; text.as_str(), "Given { x: 1, y: 2, z: 3 }");
+    assert_eq!(rt;
+        (size_of::<Sizes>(), size_of::<Given>()),
+        (48usize, 12usize)
+    );
+    Ok(())
+}

@@ -7,5 +7,6 @@ pub mod Pools
 pub mod HorizonSides
 pub mod Rewiring
 pub mod SoundMeshes
+pub mod FallingVolumes
 pub mod NamedCorners
 pub mod Replacing

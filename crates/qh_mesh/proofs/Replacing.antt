@@ -19,7 +19,7 @@ use Rattle.qh_mesh.proofs.HorizonSides.{edge, on_horizon, horizon_twin, same_pla
 use Rattle.qh_mesh.proofs.{ListedFacets.listed_in, ListedFacets.unlisted_at, Mates.has_mate, Mates.mate_only, Mates.mate_twice}
 use Rattle.qh_model.proofs.surfaces.Stored.{live_inside}
 use Rattle.qh_mesh.proofs.{Pools.places_are, Rewiring.twins_after, Rewiring.IsStep, Rewiring.rewired}
-use Rattle.qh_mesh.proofs.SoundMeshes.{step_is_sound, step_is_closed}
+use Rattle.qh_mesh.proofs.{SoundMeshes.step_is_sound, SoundMeshes.step_is_closed, FallingVolumes.step_falls}
 
 module _ (old chosen : List StoredFacet) (free left vs : List ℕ) (hs : List FacetSide) (made : List ℕ)
     (s : IsSurface old free) (a : AreFacets old vs) (p : IsPrepared old chosen left vs hs made) where
@@ -183,4 +183,5 @@ module _ (old chosen : List StoredFacet) (free left vs : List ℕ) (hs : List Fa
           rewired = rewired old new vs apex made step;
           sound = step_is_sound old new vs apex made step;
           closed = step_is_closed old new vs apex made step;
+          falls = λ at s t u v z visible. step_falls old new vs apex made step at visible s t u v z;
         }

@@ -1,10 +1,12 @@
 //! The mesh, its questions, and how it is made and grows.
 ghost use Rattle.std.specs.Prelude.{◌≡◌, ◌↔◌, IsTrue, ◌≢◌, ◌+◌, ◌*◌, ◌-◌, ◌/◌, ◌^◌, ◌≤◌, ◌<◌, length, map, max, vec_len, vec_capacity};
 ghost use Rattle.std.specs.Prelude.{OnOk, OnErr, IfOk, true, false, pos, [], ◌∷◌, ℕ, ◌<ℤ◌};
+ghost use Rattle.qh_model.specs.declared.limits.TheConstants.{POINT_LIMIT};
 ghost use Rattle.qh_model.specs.headline.Predicates.{vol, place};
 ghost use Rattle.qh_model.specs.headline.Vector.{Vector};
 ghost use Rattle.qh_model.specs.contract.Weighted.{Weighted};
 ghost use Rattle.qh_model.specs.contract.FinishedSurface.{weighted_at, middle_at};
+ghost use Rattle.qh_model.specs.contract.ClosedSurface.{signed_volume, triples_of};
 ghost use Rattle.qh_model.specs.contract.StoredSurface.{facet_at, named_facet, surface_of};
 ghost use Rattle.qh_mesh.specs.contract.Edges.{nth_side, side_of_edge, facet_of, edge_of, edge_end, edge_start, twin_of};
 ghost use Rattle.qh_mesh.specs.contract.Replacement.{IsLive, AreFacets, IsReplacement};
@@ -83,6 +85,17 @@ fn four(a: u32, b: u32, c: u32, d: u32) -> [Facet; 4]
     ]
 }
 
+/// Whether the half-edges of so many places and so many more have numbers that fit 32 bits.
+///
+/// By Euler's count a hull has fewer than twice as many triangles as points, and a replacement asks for room
+/// for at most twice as many more as there are: at the most points they fit.
+fn are_numbered(places: usize, more: usize) -> bool
+    ensures exact { IsTrue result ↔ (3 * (places + more) < 2 ^ 32) }
+    ensures hull { places + more ≤ 3 * (2 * POINT_LIMIT) → IsTrue result }
+{
+    places <= PLACES && more <= PLACES - places
+}
+
 /// Makes room for what a replacement of so many facets can need, at so many points.
 fn make_room(
     facets: &mut Vec<Facet>,
@@ -105,7 +118,7 @@ fn make_room(
         return Err(AllocError);
     };
     let spare = (2 * count).saturating_sub(free.len());
-    if facets.len() > PLACES || spare > PLACES - facets.len() {
+    if !are_numbered(facets.len(), spare) {
         return Err(AllocError);
     }
     if slots.len() < points {
@@ -300,6 +313,11 @@ impl Mesh {
         ensures closed { IfOk result (λ _. (s t u v : ℕ)
             → IsSoundMesh (place pts.now) self.old (middle_at (place pts.now) s t u v)
             → AreVisible (place pts.now) self.old visible.now apex → IsClosedMesh (place pts.now) self.new) }
+        ensures falls { IfOk result (λ _. (s t u v : ℕ)
+            → IsSoundMesh (place pts.now) self.old (middle_at (place pts.now) s t u v)
+            → AreVisible (place pts.now) self.old visible.now apex → (p : Vector)
+            → signed_volume (place pts.now) (triples_of (surface_of self.new)) p
+            <ℤ signed_volume (place pts.now) (triples_of (surface_of self.old)) p) }
         ensures places { IfOk result (λ _. length self.new ≡ max (length self.old) (length (surface_of self.new).live)) }
         ensures memory { OnErr result (self.new ≡ self.old) }
     {

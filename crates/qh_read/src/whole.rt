@@ -66,7 +66,7 @@ fn new_buffer(alloc: Global) -> Result<Vec<u8>, AllocError>
 /// Points and faults of the text are answered only once the end was read, of all bytes that came.
 /// `Device` is answered where a read failed, and no call follows that read; `Big` where more than
 /// `BYTE_LIMIT` bytes came, of which at most `PIECE_LENGTH` are too many; `Memory` where memory was
-/// refused. The source's count of failures has room for one more.
+/// refused before more came than that. The source's count of failures has room for one more.
 pub fn read_form_from<S: Source>(
     alloc: Global,
     form: Form,
@@ -82,6 +82,8 @@ pub fn read_form_from<S: Source>(
     ensures big { result ≡ Err ReadFault.Big →
         Gives (S.remaining source.old) (S.remaining source.new)
         (λ bytes. (BYTE_LIMIT < length bytes) × (length bytes ≤ BYTE_LIMIT + PIECE_LENGTH)) }
+    ensures big_first { result ≡ Err ReadFault.Memory →
+        Gives (S.remaining source.old) (S.remaining source.new) (λ bytes. length bytes ≤ BYTE_LIMIT) }
 
     // One read failed just where `Device` is answered.
     ensures device { result ≡ Err ReadFault.Device
@@ -113,6 +115,8 @@ pub fn read_from<S: Source>(alloc: Global, source: &mut S) -> Result<Vec<Point>,
     ensures big { result ≡ Err ReadFault.Big →
         Gives (S.remaining source.old) (S.remaining source.new)
         (λ bytes. (BYTE_LIMIT < length bytes) × (length bytes ≤ BYTE_LIMIT + PIECE_LENGTH)) }
+    ensures big_first { result ≡ Err ReadFault.Memory →
+        Gives (S.remaining source.old) (S.remaining source.new) (λ bytes. length bytes ≤ BYTE_LIMIT) }
 
     // One read failed just where `Device` is answered.
     ensures device { result ≡ Err ReadFault.Device
@@ -136,6 +140,8 @@ pub fn read_off_from<S: Source>(alloc: Global, source: &mut S) -> Result<Vec<Poi
     ensures big { result ≡ Err ReadFault.Big →
         Gives (S.remaining source.old) (S.remaining source.new)
         (λ bytes. (BYTE_LIMIT < length bytes) × (length bytes ≤ BYTE_LIMIT + PIECE_LENGTH)) }
+    ensures big_first { result ≡ Err ReadFault.Memory →
+        Gives (S.remaining source.old) (S.remaining source.new) (λ bytes. length bytes ≤ BYTE_LIMIT) }
 
     // One read failed just where `Device` is answered.
     ensures device { result ≡ Err ReadFault.Device

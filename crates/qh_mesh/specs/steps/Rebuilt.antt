@@ -1,8 +1,9 @@
 -- What the steps of a replacement leave, one after the other.
-use Rattle.std.specs.Prelude.{All, ◌≡◌, ◌≢◌, ℕ, ◌*◌, ◌<◌, ◌≤◌, ◌^◌, List, ◌++◌, length, reverse, map, max}
+use Rattle.std.specs.Prelude.{All, ◌≡◌, ◌≢◌, ℕ, ◌*◌, ◌<◌, ◌≤◌, ◌^◌, List, ◌++◌, length, reverse, map, max, ◌<ℤ◌}
 use Rattle.qh_model.specs.headline.Sets.{Once}
 use Rattle.qh_model.specs.headline.Vector.{Vector}
 use Rattle.qh_model.specs.contract.Weighted.{Weighted}
+use Rattle.qh_model.specs.contract.ClosedSurface.{signed_volume, triples_of}
 use Rattle.qh_model.specs.contract.FinishedSurface.{weighted_at, middle_at}
 use Rattle.qh_model.specs.contract.Rewired.{IsRewired}
 use Rattle.qh_model.specs.contract.StoredSurface.{StoredFacet, facet_at, surface_of}
@@ -62,3 +63,5 @@ pub record IsRebuilt (old new : List StoredFacet) (left vs : List ℕ) (apex : �
       → IsRewired (surface_of old) (surface_of new) (weighted_at at) apex
   pub sound : (at : ℕ → Vector) (o : Weighted) → IsSoundMesh at old o → AreVisible at old vs apex → IsSoundMesh at new o
   pub closed : (at : ℕ → Vector) (s t u v : ℕ) → IsSoundMesh at old (middle_at at s t u v) → AreVisible at old vs apex → IsClosedMesh at new
+  pub falls : (at : ℕ → Vector) (s t u v : ℕ) → IsSoundMesh at old (middle_at at s t u v) → AreVisible at old vs apex → (p : Vector)
+      → signed_volume at (triples_of (surface_of new)) p <ℤ signed_volume at (triples_of (surface_of old)) p

@@ -14,10 +14,43 @@ use std::alloc::{AllocError, Global};
 pub enum Met {
     Block(u32),
     Parked,
-    /// The node, and how long the lists of its children are.
-    Both(u32, usize, usize),
+    /// The lists of both children of this node.
+    Both(u32),
     Root,
     Over,
+}
+
+/// A node and the lists of its children, which a pass joined there.
+#[derive(Drop)]
+pub struct Join {
+    pub node: u32,
+    pub even: Vec<u32>,
+    pub odd: Vec<u32>,
+}
+
+/// What passes met, and the lists that they joined.
+#[derive(Drop)]
+pub struct Log {
+    pub met: Vec<Met>,
+    pub joins: Vec<Join>,
+}
+
+impl Log {
+    /// Nothing yet.
+    pub fn new(alloc: Global) -> Log {
+        Log {
+            met: Vec::new(alloc),
+            joins: Vec::new(alloc),
+        }
+    }
+
+    /// Notes the lists of both children of a node.
+    fn note_both(&mut self, node: u32, even: &Vec<u32>, odd: &Vec<u32>) -> Result<(), AllocError> {
+        self.met.push(Met::Both(node))?;
+        let (even, odd) = (even.clone()?, odd.clone()?);
+        self.joins.push(Join { node, even, odd })?;
+        Ok(())
+    }
 }
 
 /// Delivers a value, and what comes of it, as far up as it goes.
@@ -25,7 +58,7 @@ fn climb(
     board: &Board<Numbers>,
     task: Task<Numbers>,
     list: Vec<u32>,
-    log: &mut Vec<Met>,
+    log: &mut Log,
 ) -> Result<Pass<Numbers>, AllocError>
     requires board { IsOf board.now task }
     requires right { IsRisingListOf (InSpan board.now.setup.blocks (task_node task)) list.items }
@@ -35,15 +68,15 @@ fn climb(
 {
     match board.deliver(task, list) {
         Delivered::Parked(pass) => {
-            log.push(Met::Parked)?;
+            log.met.push(Met::Parked)?;
             Ok(pass)
         }
         Delivered::Root(pass) => {
-            log.push(Met::Root)?;
+            log.met.push(Met::Root)?;
             Ok(pass)
         }
         Delivered::Both(parent, even, odd) => {
-            log.push(Met::Both(parent.node(), even.len(), odd.len()))?;
+            log.note_both(parent.node(), &even, &odd)?;
             climb(board, parent, merged(even, odd)?, log)
         }
     }
@@ -55,7 +88,7 @@ fn take_turn(
     board: &Board<Numbers>,
     task: Task<Numbers>,
     block: u32,
-    log: &mut Vec<Met>,
+    log: &mut Log,
 ) -> Result<Pass<Numbers>, AllocError>
     requires board { IsOf board.now task }
     requires leaf { (block < board.now.setup.blocks) × (task_node task ≡ board.now.setup.blocks + block) }
@@ -73,7 +106,7 @@ pub fn work_but(
     board: &Board<Numbers>,
     pass: Pass<Numbers>,
     gives_up_at: Option<u32>,
-    log: &mut Vec<Met>,
+    log: &mut Log,
 ) -> Result<Left<Numbers>, AllocError>
     requires board { IsOf board.now pass }
     requires going { pass.pass.over ≡ false }
@@ -84,12 +117,12 @@ pub fn work_but(
     loop {
         match board.claim(pass) {
             Claim::Over(over) => {
-                log.push(Met::Over)?;
+                log.met.push(Met::Over)?;
                 return Ok(board.leave(over));
             }
             Claim::Block(task) => {
                 let block = task.node() - board.spans().blocks;
-                log.push(Met::Block(block))?;
+                log.met.push(Met::Block(block))?;
                 if gives_up_at == Some(block) {
                     return Ok(board.give_up(task));
                 }
@@ -104,7 +137,7 @@ fn work_all(
     alloc: Global,
     board: &Board<Numbers>,
     passes: Vec<Pass<Numbers>>,
-    log: &mut Vec<Met>,
+    log: &mut Log,
 ) -> Result<Vec<Left<Numbers>>, AllocError>
     requires board { All (IsOf board.now) passes.items }
     requires going { All (λ p. p.pass.over ≡ false) passes.items }
@@ -121,14 +154,10 @@ fn work_all(
 }
 
 /// A board all of whose passes were worked to their end, the last first, and what they met.
-pub fn run(
-    alloc: Global,
-    blocks: u32,
-    passes: u32,
-) -> Result<(Closed<Numbers>, Vec<Met>), BoardError>
+pub fn run(alloc: Global, blocks: u32, passes: u32) -> Result<(Closed<Numbers>, Log), BoardError>
     ensures { IfOk result (λ r. (closed_setup r.0).passes ≡ passes) }
 {
-    let mut log = Vec::new(alloc);
+    let mut log = Log::new(alloc);
     let (board, all) = Board::new(alloc, Numbers { blocks }, blocks, passes)?;
     let lefts = work_all(alloc, &board, all, &mut log)?;
     Ok((board.close(lefts), log))
@@ -167,9 +196,7 @@ fn give_up_at_once(board: &Board<Numbers>, pass: Pass<Numbers>) -> Option<(Left<
 
 /// A board of two blocks whose first pass gives up at its block before the second works to its end,
 /// what tokens tell, and what the second met; none where the first gets no block.
-pub fn first_gives_up(
-    alloc: Global,
-) -> Result<Option<(Closed<Numbers>, Told, Vec<Met>)>, BoardError>
+pub fn first_gives_up(alloc: Global) -> Result<Option<(Closed<Numbers>, Told, Log)>, BoardError>
     ensures { IfOk result (λ r. IfSome r (λ s. (closed_setup s.0).passes ≡ 2)) }
 {
     let (board, mut passes) = Board::new(alloc, Numbers { blocks: 2 }, 2, 2)?;
@@ -186,7 +213,7 @@ pub fn first_gives_up(
     };
     let told = (one, two, over, node, task, left.number());
     lefts.push_reserved(left);
-    let mut met = Vec::new(alloc);
-    lefts.push_reserved(work_but(alloc, &board, second, None, &mut met)?);
-    Ok(Some((board.close(lefts), told, met)))
+    let mut log = Log::new(alloc);
+    lefts.push_reserved(work_but(alloc, &board, second, None, &mut log)?);
+    Ok(Some((board.close(lefts), told, log)))
 }

@@ -5,17 +5,13 @@ ghost use Rattle.qh_board.specs.contract.Closings.{closed_setup};
 
 use super::assert_joined;
 use super::numbers::Numbers;
-use super::passes::{Met, run};
+use super::passes::{Log, run};
 use qh_board::{BoardError, Closed};
 use std::alloc::Global;
 use std::test::Fail;
 
 /// A board all of whose passes were worked to their end, made again where memory was refused.
-fn run_again(
-    alloc: Global,
-    blocks: u32,
-    passes: u32,
-) -> Result<(Closed<Numbers>, Vec<Met>), BoardError>
+fn run_again(alloc: Global, blocks: u32, passes: u32) -> Result<(Closed<Numbers>, Log), BoardError>
     ensures { IfOk result (λ r. (closed_setup r.0).passes ≡ passes) }
 {
     match run(alloc, blocks, passes) {
@@ -28,8 +24,8 @@ fn run_again(
 fn tries_again(rt: HostRuntime) -> Result<(), Fail> {
     for row in [(7, 2, 9, 24), (1, 64, 65, 130), (6, 1, 7, 19)] {
         let (blocks, passes, _, _) = row;
-        let (closed, met) = run_again(rt.alloc(), blocks, passes)?;
-        assert_joined(&rt, closed, met.len(), row);
+        let (closed, log) = run_again(rt.alloc(), blocks, passes)?;
+        assert_joined(&rt, closed, log.met.len(), row);
     }
     Ok(())
 }

@@ -1,7 +1,7 @@
 //! The rows of boards: what their passes meet, how many steps they make, and what comes out at the root.
 
 use super::numbers::Numbers;
-use super::passes::{Met, first_gives_up, leave_at_once, run};
+use super::passes::{Join, Met, first_gives_up, leave_at_once, run};
 use super::runs::run_side_by_side;
 use super::{Row, assert_joined, counted_root};
 use qh_board::{Board, BoardError, Mark};
@@ -14,7 +14,7 @@ const TWO_BLOCKS: [Met; 6] = [
     Met::Block(0),
     Met::Parked,
     Met::Block(1),
-    Met::Both(1, 1, 1),
+    Met::Both(1),
     Met::Root,
     Met::Over,
 ];
@@ -25,31 +25,65 @@ const SEVEN_BLOCKS: [Met; 22] = [
     Met::Block(1),
     Met::Parked,
     Met::Block(2),
-    Met::Both(4, 1, 1),
+    Met::Both(4),
     Met::Parked,
     Met::Block(3),
     Met::Parked,
     Met::Block(4),
-    Met::Both(5, 1, 1),
-    Met::Both(2, 2, 2),
+    Met::Both(5),
+    Met::Both(2),
     Met::Parked,
     Met::Block(5),
     Met::Parked,
     Met::Block(6),
-    Met::Both(6, 1, 1),
-    Met::Both(3, 2, 1),
-    Met::Both(1, 4, 3),
+    Met::Both(6),
+    Met::Both(3),
+    Met::Both(1),
     Met::Root,
     Met::Over,
     Met::Over,
 ];
 
-/// Wants a board to be joined as a row says, and its passes to meet this, one after the other.
-fn assert_met<R: AllocGlobal + Abort>(rt: &R, row: Row, want: &[Met]) -> Result<(), BoardError> {
+/// A node and the lists of its children.
+type Lists = (u32, &'static [u32], &'static [u32]);
+
+/// The lists that are joined over two blocks, and over seven, in the order in which one pass after the
+/// other joins them.
+const TWO_JOINED: [Lists; 1] = [(1, &[0], &[1])];
+
+const SEVEN_JOINED: [Lists; 6] = [
+    (4, &[1], &[2]),
+    (5, &[3], &[4]),
+    (2, &[1, 2], &[3, 4]),
+    (6, &[5], &[6]),
+    (3, &[5, 6], &[0]),
+    (1, &[1, 2, 3, 4], &[0, 5, 6]),
+];
+
+/// Whether these lists were joined, in this order.
+fn are_joined(joins: &[Join], want: &[Lists]) -> bool {
+    for (join, lists) in joins.iter().zip(want) {
+        let (node, even, odd) = *lists;
+        if join.node != node || join.even.as_slice() != even || join.odd.as_slice() != odd {
+            return false;
+        }
+    }
+    joins.len() == want.len()
+}
+
+/// Wants a board to be joined as a row says, and its passes to meet this and to join these lists, one
+/// after the other.
+fn assert_met<R: AllocGlobal + Abort>(
+    rt: &R,
+    row: Row,
+    want: &[Met],
+    joined: &[Lists],
+) -> Result<(), BoardError> {
     let (blocks, passes, _, _) = row;
-    let (closed, met) = run(rt.alloc(), blocks, passes)?;
-    assert!(rt; met.as_slice() == want, "{blocks} blocks");
-    assert_joined(rt, closed, met.len(), row);
+    let (closed, log) = run(rt.alloc(), blocks, passes)?;
+    assert!(rt; log.met.as_slice() == want, "{blocks} blocks");
+    assert!(rt; are_joined(&log.joins, joined), "{blocks} blocks");
+    assert_joined(rt, closed, log.met.len(), row);
     Ok(())
 }
 
@@ -59,13 +93,9 @@ fn passes_join_all_blocks(rt: HostRuntime) -> Result<(), Fail> {
     let mut many = [Met::Over; 66];
     many[0] = Met::Block(0);
     many[1] = Met::Root;
-    for (row, met) in [
-        ((2, 1, 3, 7), TWO_BLOCKS.as_slice()),
-        ((7, 2, 9, 24), SEVEN_BLOCKS.as_slice()),
-        ((1, 64, 65, 130), many.as_slice()),
-    ] {
-        assert_met(&rt, row, met)?;
-    }
+    assert_met(&rt, (2, 1, 3, 7), &TWO_BLOCKS, &TWO_JOINED)?;
+    assert_met(&rt, (7, 2, 9, 24), &SEVEN_BLOCKS, &SEVEN_JOINED)?;
+    assert_met(&rt, (1, 64, 65, 130), &many, &[])?;
     Ok(())
 }
 
@@ -78,7 +108,7 @@ fn two_threads_join_seven_blocks(rt: HostRuntime) -> Result<(), Fail> {
 
 #[test]
 fn no_root_where_a_pass_gave_up(rt: HostRuntime) -> Result<(), Fail> {
-    let (closed, told, met) = first_gives_up(rt.alloc())?.ok_or("no block")?;
+    let (closed, told, log) = first_gives_up(rt.alloc())?.ok_or("no block")?;
     let marks = (closed.mark(0), closed.mark(1));
     let closed = (
         closed.claims(),
@@ -89,7 +119,8 @@ fn no_root_where_a_pass_gave_up(rt: HostRuntime) -> Result<(), Fail> {
     assert!(rt;
         closed == (3, 2, (Mark::GaveUp, Mark::Left), None)
             && told == (0, 1, false, 2, 0, 0)
-            && met.as_slice() == [Met::Block(1), Met::Parked, Met::Over].as_slice()
+            && log.met.as_slice() == [Met::Block(1), Met::Parked, Met::Over].as_slice()
+            && log.joins.is_empty()
     );
     Ok(())
 }

@@ -5,7 +5,7 @@ ghost use Rattle.qh_board.specs.contract.Closings.{closed_setup};
 ghost use Rattle.qh_board.specs.contract.Tokens.{IsOf};
 
 use super::numbers::Numbers;
-use super::passes::{Met, work_but};
+use super::passes::{Log, Met, work_but};
 use super::{counted, counted_root, passes_left};
 use qh_board::{Board, BoardError, Closed, Left, Pass};
 use std::alloc::{AllocError, Global};
@@ -38,10 +38,11 @@ fn work_last(
 {
     let mut passes = passes;
     let mut lefts = Vec::with_capacity(alloc, 1)?;
-    let mut met = Vec::new(alloc);
+    let mut log = Log::new(alloc);
     if let Some(pass) = passes.pop() {
-        lefts.push_reserved(work_but(alloc, board, pass, gives_up_at, &mut met)?);
+        lefts.push_reserved(work_but(alloc, board, pass, gives_up_at, &mut log)?);
     }
+    let Log { met, .. } = log;
     Ok(Ended { lefts, met })
 }
 

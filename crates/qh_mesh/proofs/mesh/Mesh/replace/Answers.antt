@@ -13,3 +13,7 @@ returns-clause-sound c =
 pub returns-clause-closed : goal.returns-clause-closed
 returns-clause-closed c =
     (rw (c.make_room.ensures.facets, c.self.view_is, c.number.ensures) at c.rebuild.ensures).closed (place c.args.pts.now)
+
+pub returns-clause-falls : goal.returns-clause-falls
+returns-clause-falls c =
+    (rw (c.make_room.ensures.facets, c.self.view_is, c.number.ensures) at c.rebuild.ensures).falls (place c.args.pts.now)

@@ -1,0 +1,146 @@
+-- A replacement leaves a smaller signed volume: at the apex a facet that stays counts what it did, one of the cone
+-- nothing, and one that goes more than nothing.
+use Rattle.std.proofs.Common.{◌≡◌, ℕ, zero, suc, ◌+◌, arith, ap, ◌∙◌, refl, subst, true, false, cond, inl, inr, List, [], ◌∷◌}
+use Rattle.std.proofs.Common.{slice_index, zero-add}
+use Rattle.std.specs.Prelude.{ℤ, pos, ◌+ℤ◌, ◌<ℤ◌, ◌≤ℤ◌}
+use Rattle.std.proofs.lemmas.{Bool.cases_Bool, Bool.both_ways, Int.ints}
+use Rattle.qh_model.specs.contract.ClosedSurface.{signed_volume, triples_from, triples_of}
+use Rattle.qh_model.specs.contract.FinishedSurface.{middle_at}
+use Rattle.qh_model.specs.contract.{Surface.Surface, StoredSurface.StoredFacet, StoredSurface.facet_at, StoredSurface.live_from}
+use Rattle.qh_model.specs.contract.StoredSurface.{surface_of}
+use Rattle.qh_model.specs.headline.{Predicates.vol, Vector.Vector, Sets.In}
+use Rattle.qh_model.proofs.{Members.in_at, Members.In-get_or}
+use Rattle.qh_model.proofs.algebra.{Signs.less_le, Signs.equal_le, VectorIdentities.vol-third}
+use Rattle.qh_model.proofs.closed_surfaces.SignedVolume.{volume_is_constant}
+use Rattle.qh_mesh.specs.contract.Replacement.{is_listed, IsKept}
+use Rattle.qh_mesh.specs.contract.SoundMesh.{facet_vol, IsSoundMesh, AreVisible}
+use Rattle.qh_mesh.proofs.{ListedFacets.in_listed, ListedFacets.listed_live, Rewiring.IsStep}
+use Rattle.qh_mesh.proofs.SoundMeshes.{closed_of, step_is_closed}
+
+-- ---- sums over live places
+-- what the live places of a list count for
+abbrev live_sum : (ℕ → ℤ) → List StoredFacet → ℤ
+live_sum v [] = pos 0
+live_sum v (f ∷ fs) = cond f.live (v 0) (pos 0) +ℤ live_sum (λ k. v (suc k)) fs
+
+-- what one place counts for
+abbrev part : (ℕ → ℤ) → List StoredFacet → ℕ → ℤ
+part v fs f = cond (facet_at fs f).live (v f) (pos 0)
+
+-- where no place counts for more, the sum is no greater
+sum_le : (v w : ℕ → ℤ) (fs gs : List StoredFacet) → ((f : ℕ) → part w gs f ≤ℤ part v fs f) → live_sum w gs ≤ℤ live_sum v fs
+sum_le v w [] [] h = omega (arith, ints)
+sum_le v w [] (g ∷ gs) h =
+    let a = h 0 in let b = sum_le (λ k. v (suc k)) (λ k. w (suc k)) [] gs (λ k. h (suc k)) in omega (arith, ints)
+sum_le v w (f ∷ fs) [] h =
+    let a = h 0 in let b = sum_le (λ k. v (suc k)) (λ k. w (suc k)) fs [] (λ k. h (suc k)) in omega (arith, ints)
+sum_le v w (f ∷ fs) (g ∷ gs) h =
+    let a = h 0 in let b = sum_le (λ k. v (suc k)) (λ k. w (suc k)) fs gs (λ k. h (suc k)) in omega (arith, ints)
+
+-- and where one counts for less, the sum is less
+sum_lt : (v w : ℕ → ℤ) (fs gs : List StoredFacet) → ((f : ℕ) → part w gs f ≤ℤ part v fs f)
+    → (f : ℕ) → part w gs f <ℤ part v fs f → live_sum w gs <ℤ live_sum v fs
+sum_lt v w [] [] h f l = absurd (omega (arith, ints, l))
+sum_lt v w [] (g ∷ gs) h zero l = let b = sum_le (λ k. v (suc k)) (λ k. w (suc k)) [] gs (λ k. h (suc k)) in omega (arith, ints)
+sum_lt v w (f ∷ fs) [] h zero l = let b = sum_le (λ k. v (suc k)) (λ k. w (suc k)) fs [] (λ k. h (suc k)) in omega (arith, ints)
+sum_lt v w (f ∷ fs) (g ∷ gs) h zero l =
+    let b = sum_le (λ k. v (suc k)) (λ k. w (suc k)) fs gs (λ k. h (suc k)) in omega (arith, ints)
+sum_lt v w [] (g ∷ gs) h (suc n) l =
+    let a = h 0 in let b = sum_lt (λ k. v (suc k)) (λ k. w (suc k)) [] gs (λ k. h (suc k)) n l in omega (arith, ints)
+sum_lt v w (f ∷ fs) [] h (suc n) l =
+    let a = h 0 in let b = sum_lt (λ k. v (suc k)) (λ k. w (suc k)) fs [] (λ k. h (suc k)) n l in omega (arith, ints)
+sum_lt v w (f ∷ fs) (g ∷ gs) h (suc n) l =
+    let a = h 0 in let b = sum_lt (λ k. v (suc k)) (λ k. w (suc k)) fs gs (λ k. h (suc k)) n l in omega (arith, ints)
+
+-- the signed volume of a stored surface is such a sum, counted from n
+volume_is : (at : ℕ → Vector) (m : Surface) (q : Vector) (n : ℕ) (fs : List StoredFacet)
+    → signed_volume at (triples_from m (live_from n fs)) q
+    ≡ live_sum (λ k. vol (at (m.i (n + k))) (at (m.j (n + k))) (at (m.k (n + k))) q) fs
+volume_is at m q n [] = refl
+volume_is at m q n (f ∷ fs) =
+    elim f.live as (λ b. signed_volume at (triples_from m (cond b (n ∷ live_from (n + 1) fs) (live_from (n + 1) fs))) q
+    ≡ cond b (value n) (pos 0) +ℤ rest) [ true ↦ refl | false ↦ none rest ]
+    ∙ (λ i. cond f.live (value (here n i)) (pos 0)
+    +ℤ (volume_is at m q (n + 1) fs ∙ ap (λ v. live_sum v fs) (λ j k. value (shift n k j))) i)
+  where
+    value : ℕ → ℤ
+    value g = vol (at (m.i g)) (at (m.j g)) (at (m.k g)) q
+
+    rest : ℤ
+    rest = signed_volume at (triples_from m (live_from (n + 1) fs)) q
+
+    none : (x : ℤ) → x ≡ pos 0 +ℤ x
+    none x = omega (arith, ints)
+
+    here : (n : ℕ) → n ≡ n + 0
+    here n = omega arith
+
+    shift : (n k : ℕ) → n + 1 + k ≡ n + suc k
+    shift n k = omega arith
+
+-- and from the first place
+volume_is_sum : (at : ℕ → Vector) (fs : List StoredFacet) (q : Vector)
+    → signed_volume at (triples_of (surface_of fs)) q ≡ live_sum (λ f. facet_vol at fs f q) fs
+volume_is_sum at fs q = volume_is at (surface_of fs) q 0 fs ∙ ap (λ v. live_sum v fs) (λ i f. facet_vol at fs (zero-add f i) q)
+
+-- ---- a step
+module _ (old new : List StoredFacet) (vs : List ℕ) (p : ℕ) (made : List ℕ) (d : IsStep old new vs p made) (at : ℕ → Vector) where
+  -- what a place counts for at the apex, before and after
+  abbrev before : ℕ → ℤ
+  before f = part (λ g. facet_vol at old g (at p)) old f
+
+  abbrev after : ℕ → ℤ
+  after f = part (λ g. facet_vol at new g (at p)) new f
+
+  -- a facet that stays counts what it did
+  stays_part : (f : ℕ) → IsKept old vs f → after f ≡ before f
+  stays_part f k = let s = d.replaced.kept f k in rw (s.live, k.live, s.i_is, s.j_is, s.k_is) refl
+
+  -- one of the cone has the apex for a corner
+  cone_part : (f : ℕ) → In f made → facet_vol at new f (at p) ≡ pos 0
+  cone_part f i =
+      let j = in_at made f i in
+      let third = subst (λ g. (facet_at new g).k ≡ p) j.2 (d.replaced.cone j.0 j.1).third in
+      rw third (vol-third (at (facet_at new f).i) (at (facet_at new f).j) (at p))
+
+  -- so a place of no facet that stays counts nothing
+  other_part : (f : ℕ) → ¬ (IsKept old vs f) → after f ≡ pos 0
+  other_part f n = elim (cases_Bool (facet_at new f).live) [
+    | inr u ↦ rw u refl
+    | inl l ↦ elim (d.replaced.only f l) [ inl k ↦ absurd (n k) | inr i ↦ rw l (cone_part f i) ]
+  ]
+
+  module _ (visible : AreVisible at old vs p) where
+    -- one that goes counted more
+    gone_part : (f : ℕ) → is_listed vs f ≡ true → after f <ℤ before f
+    gone_part f e =
+        let l = listed_live old vs d.facets f e in
+        rw (other_part f (λ k. both_ways (is_listed vs f) k.unlisted e), l) (visible.seen f l e)
+
+    -- and no place counts for more
+    no_more : (f : ℕ) → after f ≤ℤ before f
+    no_more f = elim (cases_Bool (is_listed vs f)) [
+      | inl e ↦ less_le (after f) (before f) (gone_part f e)
+      | inr u ↦ elim (cases_Bool (facet_at old f).live) [
+        | inl l ↦ equal_le (after f) (before f) (stays_part f (record { live = l; unlisted = u }))
+        | inr b ↦ equal_le (after f) (before f) (other_part f (λ k. both_ways (facet_at old f).live b k.live) ∙ rw b refl)
+      ]
+    ]
+
+    -- so the volume with the apex falls
+    falls_at_apex : signed_volume at (triples_of (surface_of new)) (at p) <ℤ signed_volume at (triples_of (surface_of old)) (at p)
+    falls_at_apex =
+        let f = slice_index vs 0 in let e = in_listed vs f (In-get_or vs 0 0 visible.some) in
+        rw (volume_is_sum at new (at p), volume_is_sum at old (at p))
+        (sum_lt (λ g. facet_vol at old g (at p)) (λ g. facet_vol at new g (at p)) old new no_more f (gone_part f e))
+
+    -- and with each point, where the meshes are closed
+    pub step_falls : (s t u v : ℕ) → IsSoundMesh at old (middle_at at s t u v) → (x : Vector)
+        → signed_volume at (triples_of (surface_of new)) x <ℤ signed_volume at (triples_of (surface_of old)) x
+    step_falls s t u v z x =
+        let f = slice_index vs 0 in
+        let was = (closed_of at old s t u v f (d.facets.live 0 0 visible.some) z).surface in
+        let is = (step_is_closed old new vs p made d at s t u v z visible).surface in
+        let e = volume_is_constant at (triples_of (surface_of old)) was (at p) x in
+        let g = volume_is_constant at (triples_of (surface_of new)) is (at p) x in
+        rw (← e, ← g) falls_at_apex
