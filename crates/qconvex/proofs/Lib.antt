@@ -1,2 +1,1 @@
-pub mod AnswerLemmas
 pub mod CommandLines
