@@ -18,8 +18,13 @@ import sys
 import tempfile
 from pathlib import Path
 
-CRATE = "crates/qconvex"
-ANSWER = f"{CRATE}/src/answer.rt"
+from wrong_workers import keep_modules
+
+ANSWER = "crates/qh_serve/src/answers.rt"
+CRATE = "crates/qh_tests"
+# The tests that call `answer`, and the modules that they need.
+TESTS = f"{CRATE}/src/tests"
+NEEDED = {"files", "points", "serve"}
 RIGHT_BODY = """{
     let points = read_form(alloc, settings.form(), input)?;
     let text = text_of(rt, alloc, &points, settings, gate)?;
@@ -31,8 +36,8 @@ PLANTED_BODY = "{\n    Err(Fault::from(Memory))\n}\n"
 LONGEST, SHORT = "const TOO_MANY: usize = 268435457;", "const TOO_MANY: usize = 1000;"
 
 # Of the calls that a gate watches, `answer` alone is looked at.
-WATCHED = "const WATCHED: [Watched; 3] = [Watched::RunHull, Watched::Answer, Watched::Serve];"
-ANSWER_ALONE = "const WATCHED: [Watched; 1] = [Watched::Answer];"
+WATCHED = "pub(super) const WATCHED: [Watched; 3] = [Watched::RunHull, Watched::Answer, Watched::Serve];"
+ANSWER_ALONE = "pub(super) const WATCHED: [Watched; 1] = [Watched::Answer];"
 
 # The comparisons, and what stands for each. A name before a dot is one that the tests give to an outcome of `answer`.
 TURNED = [
@@ -40,6 +45,7 @@ TURNED = [
     (r"assert!\(rt; (outcome\.output\.starts_with\()", r"assert!(rt; !\1"),
     (r"assert_eq!(\(rt; count, )", r"assert_ne!\1"),
     (r"assert!\(rt; (gate\.came_in_time\(\))", r"assert!(rt; !\1"),
+    (r"assert!\(rt; (gate\.was_told_right\(\))", r"assert!(rt; !\1"),
     (r"assert_eq!(\(rt; outcome\.told\(\), \(OCTAHEDRON_OFF)", r"assert_ne!\1"),
     (r"assert!\(rt; (text\.is_ok_and\()", r"assert!(rt; !\1"),
     (r"if !(answers\()", r"if \1"),
@@ -70,11 +76,12 @@ def plant(top):
     shutil.copytree("crates", top / "crates", symlinks=True, ignore=shutil.ignore_patterns("out"))
     for name in ["crates.txt", "HANDLES"]:
         shutil.copy(name, top / name)
+    keep_modules((top / TESTS).with_suffix(".rt"), NEEDED)
     replace_once(top / ANSWER, RIGHT_BODY, PLANTED_BODY)
-    replace_once(top / CRATE / "src/tests/limits.rt", LONGEST, SHORT)
-    replace_once(top / CRATE / "src/tests/gated.rt", WATCHED, ANSWER_ALONE)
+    replace_once(top / TESTS / "serve/limits.rt", LONGEST, SHORT)
+    replace_once(top / TESTS / "serve/gated.rt", WATCHED, ANSWER_ALONE)
     total = 0
-    for path in [top / CRATE / "src/tests.rt", *sorted((top / CRATE / "src/tests").glob("*.rt"))]:
+    for path in [top / TESTS / "serve.rt", *sorted((top / TESTS / "serve").glob("*.rt"))]:
         count = turn_round(path)
         total += count
         if count:

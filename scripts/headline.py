@@ -24,8 +24,8 @@ from pathlib import Path
 from definitions import CRATES, Project
 
 MOST_LINES = 450
-HEADLINE = {("qconvex", "answer"), ("qconvex", "serve")}
-SETTINGS = CRATES / "qconvex/src/settings.rt"
+HEADLINE = {(CRATES / "qh_serve/src/answers.rt", "answer"), (CRATES / "qh_serve/src/serving.rt", "serve")}
+SETTINGS = CRATES / "qh_serve/src/settings.rt"
 LAWS = (CRATES / "qh_model/src/laws", CRATES / "qh_laws/src")
 NAMED = re.compile(r"`([^`\s]+)`")
 ROW = re.compile(r"^\| \[\w+\]\(([^)]*\.antt)\) \| ([^|]*) \|", re.M)
@@ -34,7 +34,7 @@ ROW = re.compile(r"^\| \[\w+\]\(([^)]*\.antt)\) \| ([^|]*) \|", re.M)
 def headline(project):
     """All definitions that the contracts of `answer` and `serve` use."""
     clauses = [clause for clause in project.clauses
-               if (clause.crate, clause.function) in HEADLINE and clause.path.stem == clause.function
+               if (clause.path, clause.function) in HEADLINE
                or clause.path == SETTINGS and clause.kind == "Value"]
     return project.reached(set().union(*(clause.cites for clause in clauses)))
 

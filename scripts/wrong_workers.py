@@ -3,11 +3,12 @@
 
     scripts/wrong_workers.py [NAME..]        from the top of the repository
 
-Each body gives the right hull, by workers that do not run at once, or that are too few, or whose list is not used. The
-script copies the repository to a folder of its own, puts one body after the other in the place of the right one, and
-runs the tests of qconvex there, with no proof. It ends with status 1 if a body passes all tests, or the right bodies
-fail one.
+Each body gives the right hull, by workers that do not run at once, or that are too few, or whose list is not used, or that
+tell their gate something wrong. The script copies the repository to a folder of its own, puts one body after the other in
+the place of the right one, and runs the tests of qh_tests there that watch the workers, with no proof. It ends with
+status 1 if a body passes all tests, or the right bodies fail one.
 """
+import re
 import shutil
 import subprocess
 import sys
@@ -16,6 +17,12 @@ from pathlib import Path
 
 PASSES = "crates/qh_run/src/passes.rt"
 RUN = "crates/qh_run/src/run.rt"
+WORKER = "crates/qh_run/src/worker.rt"
+
+# The tests that run, and the modules that they need.
+TESTS = Path("crates/qh_tests/src/tests")
+NEEDED = {"files", "points", "serve"}
+WATCHING = {"gated", "told_blocks"}
 
 # A body's name, its file, and texts of the right body with what stands for them.
 BODIES = [
@@ -46,13 +53,25 @@ BODIES = [
         [("Ok(Some(root)) => gate.finish(alloc, pts, &root.ids),", "Ok(Some(_)) => gate.finish(alloc, pts, ids),")],
     ),
     ("starts-no-worker", PASSES, [("run_pass(alloc, board, pass, gate)", "board.leave(pass)")]),
+    ("tells-the-block-for-the-pass", WORKER, [("gate.claimed(pass, block)", "gate.claimed(block, pass)")]),
 ]
 
 
+def keep_modules(file, names):
+    """Leaves of the modules of a file only these, and their files."""
+    text = file.read_text()
+    for name in re.findall(r"^mod (\w+);$", text, re.MULTILINE):
+        if name not in names:
+            text = text.replace(f"mod {name};\n", "")
+            file.with_suffix("").joinpath(f"{name}.rt").unlink()
+            shutil.rmtree(file.with_suffix("") / name, ignore_errors=True)
+    file.write_text(text)
+
+
 def tests_of(top):
-    """What the tests of qconvex say: a line for each, and whether all pass."""
+    """What the tests say: a line for each, and whether all pass."""
     command = ["rt", "try", "--test", "--seconds", "1200"]
-    run = subprocess.run(command, cwd=top / "crates/qconvex", capture_output=True, text=True)
+    run = subprocess.run(command, cwd=top / "crates/qh_tests", capture_output=True, text=True)
     said = run.stdout + run.stderr
     return said, "test result: ok." in said
 
@@ -80,9 +99,11 @@ def main():
     wrong = 0
     with tempfile.TemporaryDirectory() as folder:
         top = Path(folder)
-        shutil.copytree("crates", top / "crates", symlinks=True)
+        shutil.copytree("crates", top / "crates", symlinks=True, ignore=shutil.ignore_patterns("out"))
         for name in ["crates.txt", "HANDLES"]:
             shutil.copy(name, top / name)
+        keep_modules((top / TESTS).with_suffix(".rt"), NEEDED)
+        keep_modules(top / TESTS / "serve.rt", WATCHING)
         said, passes = tests_of(top)
         print(f"{'ok' if passes else 'WRONG'}: the right bodies pass all tests" if passes else failures(said), flush=True)
         wrong += not passes

@@ -12,7 +12,7 @@ use Rattle.clap.proofs.WalkLemmas.{one_text-rows, raw_values-rows}
 use Rattle.qh_model.specs.declared.out.Out.{Out}
 use Rattle.qconvex.specs.declared.command_line.ArgFault.{ArgFault}
 use Rattle.qconvex.specs.declared.command_line.ArgFault.TheVariants.{Help, Usage, Memory}
-use Rattle.qconvex.specs.headline.SettingsValue.{SettingsValue}
+use Rattle.qh_serve.specs.headline.SettingsValue.{SettingsValue}
 use Rattle.qconvex.specs.contract.CommandLine.{AreOutsOf, AreSettingsIn, IsArgFaultOf, IsFormOf, IsProgram, NumberOf, word_of}
 use Rattle.qconvex.specs.steps.Matches.{AreSettingsFound, IsFindingFault, IsOutsFault, IsRefusalOf}
 

@@ -1,3 +1,1 @@
-pub mod AnswerLemmas
-pub mod EvenCuts
 pub mod CommandLines

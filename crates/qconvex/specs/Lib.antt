@@ -1,3 +1,2 @@
-pub mod headline
 pub mod contract
 pub mod steps

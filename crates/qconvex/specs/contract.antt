@@ -1,4 +1,3 @@
--- What else the contracts of public functions cite.
+-- What the contracts of public functions cite.
 pub mod CommandLine
-pub mod FaultLines
-pub mod Ranges
+pub mod Outcomes

@@ -6,17 +6,17 @@ ghost use Rattle.qh_model.specs.declared.form.Form.{Form};
 ghost use Rattle.qh_model.specs.declared.form.Form.TheVariants as forms;
 ghost use Rattle.qh_model.specs.declared.out.Out.{Out};
 ghost use Rattle.qh_model.specs.declared.out.Out.TheVariants.{Rank, Summary, Fx, Off, OffTriangles};
-ghost use Rattle.qconvex.specs.headline.SettingsValue.{SettingsValue};
-ghost use Rattle.qconvex.specs.contract.Ranges.{IsInRange};
+ghost use Rattle.qh_serve.specs.headline.SettingsValue.{SettingsValue};
+ghost use Rattle.qh_serve.specs.contract.Ranges.{IsInRange};
 ghost use Rattle.qconvex.specs.contract.CommandLine.{AreOutsOf, AreSettingsOf, IsArgFaultOf, IsFormOf, IsProgram, NumberOf, form_word, from_one_to, from_option, number_option, outs_rule, word_of, words_taken};
 ghost use Rattle.qconvex.specs.steps.Matches.{AreSettingsFound, IsFindingFault, IsOutsFault, IsRefusalOf};
 
 use crate::help::HELP;
-use crate::settings::{BLOCK_SIZE_LIMIT, Settings, SettingsError};
 use clap::builder::ValueParser;
 use clap::error::ErrorKind;
 use clap::{Arg, ArgAction, ArgMatches, Command, Error, value_parser};
 use qh_model::{Form, WORKER_LIMIT};
+use qh_serve::{BLOCK_SIZE_LIMIT, Settings, SettingsError};
 use qh_write::Out;
 use std::alloc::{AllocError, Global};
 

@@ -2,6 +2,7 @@
 
 mod block;
 mod board;
+mod files;
 mod hull;
 mod ids;
 mod mesh;
@@ -11,4 +12,5 @@ mod points;
 mod pred;
 mod read;
 mod run;
+mod serve;
 mod write;

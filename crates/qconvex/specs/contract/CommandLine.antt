@@ -15,9 +15,9 @@ use Rattle.qh_model.specs.declared.out.Out.{Out}
 use Rattle.qh_model.specs.declared.out.Out.TheVariants.{Rank, Summary, Fx, Off, OffTriangles}
 use Rattle.qconvex.specs.declared.command_line.ArgFault.{ArgFault}
 use Rattle.qconvex.specs.declared.command_line.ArgFault.TheVariants.{Help, Usage, Memory}
-use Rattle.qconvex.specs.declared.settings.TheConstants.{BLOCK_SIZE_LIMIT}
-use Rattle.qconvex.specs.headline.SettingsValue.{SettingsValue}
-use Rattle.qconvex.specs.contract.Ranges.{IsInRange}
+use Rattle.qh_serve.specs.declared.settings.TheConstants.{BLOCK_SIZE_LIMIT}
+use Rattle.qh_serve.specs.headline.SettingsValue.{SettingsValue}
+use Rattle.qh_serve.specs.contract.Ranges.{IsInRange}
 
 -- the parser of whole numbers from 1 to a limit
 abbrev pub from_one_to : ℕ → ValueParser

@@ -8,8 +8,8 @@ use Rattle.clap.specs.declared.error.kind.ErrorKind.TheVariants.{DisplayHelp, Ou
 use Rattle.qh_model.specs.declared.out.Out.{Out}
 use Rattle.qconvex.specs.declared.command_line.ArgFault.{ArgFault}
 use Rattle.qconvex.specs.declared.command_line.ArgFault.TheVariants.{Help, Usage, Memory}
-use Rattle.qconvex.specs.headline.SettingsValue.{SettingsValue}
-use Rattle.qconvex.specs.contract.Ranges.{IsInRange}
+use Rattle.qh_serve.specs.headline.SettingsValue.{SettingsValue}
+use Rattle.qh_serve.specs.contract.Ranges.{IsInRange}
 use Rattle.qconvex.specs.contract.CommandLine.{AreOutsOf, IsFormOf, NumberOf}
 
 -- the settings that the values found say

@@ -1,9 +1,45 @@
 //! Command lines, right and wrong.
-use super::{Judged, Told, judge, settings};
+use crate::command_line::{ArgFault, settings_of};
 use crate::help::HELP;
 use qh_model::Form;
+use qh_serve::Settings;
+use std::alloc::{AllocError, Global};
 use std::process::Abort;
 use std::test::Fail;
+
+/// Appends a word.
+fn push_word(words: &mut Vec<String>, alloc: Global, word: &str) -> Result<(), AllocError> {
+    words.push(String::from_str(alloc, word)?)?;
+    Ok(())
+}
+
+/// The words of a line, with the program's name before them.
+fn words(alloc: Global, line: &str) -> Result<Vec<String>, AllocError> {
+    let mut words = Vec::new(alloc);
+    push_word(&mut words, alloc, "qconvex")?;
+    for word in line.split(' ').filter(|word| !word.is_empty()) {
+        push_word(&mut words, alloc, word)?;
+    }
+    Ok(words)
+}
+
+/// What becomes of a line that memory is there for.
+#[derive(Drop)]
+enum Judged {
+    Accepted(Settings),
+    Helped(String),
+    Refused,
+}
+
+/// What becomes of a line.
+fn judge(alloc: Global, line: &str) -> Result<Judged, AllocError> {
+    match settings_of(alloc, words(alloc, line)?) {
+        Ok(settings) => Ok(Judged::Accepted(settings)),
+        Err(ArgFault::Help(text)) => Ok(Judged::Helped(text)),
+        Err(ArgFault::Usage) => Ok(Judged::Refused),
+        Err(ArgFault::Memory) => Err(AllocError),
+    }
+}
 
 /// Lines that are refused.
 const REFUSED: [&str; 18] = [
@@ -46,21 +82,11 @@ const ACCEPTED: [(&str, Numbers); 12] = [
     ("off --from=off --block 2 Fx", (4, 2, 2, Form::Off)),
 ];
 
-/// Asserts the outcome of a line that has no settings.
-fn assert_told<R: AllocGlobal + Abort>(rt: &R, line: &str, want: Told) -> Result<(), Fail> {
-    match judge(rt.alloc(), line)? {
-        Judged::Accepted(_) => Err("the line is a command line".into()),
-        Judged::Told(outcome) => {
-            assert_eq!(rt; outcome.told(), want, "at {line}");
-            Ok(())
-        }
-    }
-}
-
 #[test]
 fn refuses_lines(rt: HostRuntime) -> Result<(), Fail> {
     for line in &REFUSED {
-        assert_told(&rt, line, ("", "qconvex: 12: Usage", 2))?;
+        let judged = judge(rt.alloc(), line)?;
+        assert!(rt; matches!(judged, Judged::Refused), "at {line}");
     }
     Ok(())
 }
@@ -70,7 +96,9 @@ type Numbers = (u32, u32, usize, Form);
 
 /// Asserts the settings of a line.
 fn assert_accepted<R: AllocGlobal + Abort>(rt: &R, line: &str, want: Numbers) -> Result<(), Fail> {
-    let settings = settings(rt.alloc(), line)?;
+    let Judged::Accepted(settings) = judge(rt.alloc(), line)? else {
+        return Err("the line is a command line".into());
+    };
     let outs = settings.outs().len();
     let numbers = (settings.workers(), settings.block(), outs, settings.form());
     assert_eq!(rt; numbers, want, "at {line}");
@@ -105,10 +133,19 @@ const HELPED: [&str; 16] = [
     "\n  4  a device failed",
 ];
 
+/// Asserts that a line is told the help text.
+fn assert_helped<R: AllocGlobal + Abort>(rt: &R, line: &str) -> Result<(), Fail> {
+    let Judged::Helped(text) = judge(rt.alloc(), line)? else {
+        return Err("the line asks for help".into());
+    };
+    assert_eq!(rt; text.as_str(), HELP, "at {line}");
+    Ok(())
+}
+
 #[test]
 fn helps(rt: HostRuntime) -> Result<(), Fail> {
     for line in ["--help", "-h", "rank --help --workers 0"] {
-        assert_told(&rt, line, (HELP, "", 0))?;
+        assert_helped(&rt, line)?;
     }
     for words in HELPED {
         assert!(rt; HELP.contains(words), "{words}");

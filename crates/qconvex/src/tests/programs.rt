@@ -8,9 +8,15 @@ use std::thread::Threads;
 
 const ONE_POINT: &str = "3\n1\n5 5 5\n";
 
+/// A square and its centre.
+const SQUARE: &str = "3\n5\n0 0 0\n2 0 0\n2 2 0\n0 2 0\n1 1 0\n";
+
+const SQUARE_OFF_AND_SUMMARY: &str =
+    "OFF\n4 1 4\n0 0 0\n2 0 0\n2 2 0\n0 2 0\n4 0 1 2 3\nConvex hull of 5 points in 3-d:\n  dimension: 2\n  distinct points: 5\n  extreme points: 4\n  facets: 1\n  edges: 4\n";
+
 /// Words, an input, how many bytes standard output takes; and the exit status, what stands on standard
 /// output, and what on standard error.
-const RUNS: [(&[&str], &str, usize, u8, &str, &str); 10] = [
+const RUNS: [(&[&str], &str, usize, u8, &str, &str); 12] = [
     (&["qconvex", "rank"], ONE_POINT, 99, 0, "1 1 0\n", ""),
     (
         &["qconvex", "rank", "Fx"],
@@ -51,6 +57,22 @@ const RUNS: [(&[&str], &str, usize, u8, &str, &str); 10] = [
         1,
         "",
         "qconvex: 14: NotOff\n",
+    ),
+    (
+        &["qconvex", "off", "--workers", "2", "s", "--block=3"],
+        SQUARE,
+        999,
+        0,
+        SQUARE_OFF_AND_SUMMARY,
+        "",
+    ),
+    (
+        &["qconvex", "--", "offt"],
+        SQUARE,
+        99,
+        0,
+        "OFF\n4 2 5\n0 0 0\n2 0 0\n2 2 0\n0 2 0\n3 0 1 2\n3 0 2 3\n",
+        "",
     ),
     (&["qconvex", "--help"], "", 9999, 0, HELP, ""),
     (&["qconvex", "-h"], "", 9, 4, "", "qconvex: 11: Send\n"),

@@ -17,15 +17,8 @@ use std::process::Abort;
 /// The coordinates of a point.
 type Place = (i32, i32, i32);
 
-/// The file that `rbox` would write of a corner's tetrahedron, with comments.
-const COMMENTED_TETRAHEDRON: &str =
-    "3 rbox c z\r\n4\r\n0 0 0 origin\r\n1 0 0 # 7 8\r\n0 1 0\r\n0 0 1";
-
 /// The points of that file.
 const TETRAHEDRON: [Place; 4] = [(0, 0, 0), (1, 0, 0), (0, 1, 0), (0, 0, 1)];
-
-/// The unit cube, 52 bytes.
-const CUBE: &str = "3\n8\n0 0 0\n0 0 1\n0 1 0\n0 1 1\n1 0 0\n1 0 1\n1 1 0\n1 1 1\n";
 
 /// Its corners.
 const CUBE_CORNERS: [Place; 8] = [

@@ -1,8 +1,9 @@
 //! The same bytes in pieces.
 use super::{
-    COMMENTED_TETRAHEDRON, TETRAHEDRON, Way, assert_fault, assert_full, assert_points, feed_times,
-    read_cut, read_in_pieces,
+    TETRAHEDRON, Way, assert_fault, assert_full, assert_points, feed_times, read_cut,
+    read_in_pieces,
 };
+use crate::tests::files::COMMENTED_TETRAHEDRON;
 use qh_model::Form;
 use qh_read::{FeedFault, ReadFault, Reader};
 use std::alloc::{AllocError, Global};

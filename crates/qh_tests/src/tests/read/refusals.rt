@@ -1,14 +1,10 @@
 //! Readings of which one growth is refused: the points are right, or memory was wanted and the same
 //! call gives them. `scripts/refusals.py` refuses each growth in turn.
-use super::{CUBE, CUBE_CORNERS, Place, Way, assert_points};
+use super::{CUBE_CORNERS, Place, Way, assert_points};
+use crate::tests::files::{CUBE, OCTAHEDRON, SQUARE};
 use qh_model::Point;
 use qh_read::{FeedFault, MemSource, ReadFault, Reader, read_from, read_points};
 use std::alloc::Global;
-
-const SQUARE: &str = "3\n5\n0 0 0\n2 0 0\n2 2 0\n0 2 0\n1 1 0\n";
-
-const OCTAHEDRON: &str =
-    "3\n18\n2 0 0\n1 1 0\n0 2 0\n-2 0 0\n-1 -1 0\n0 -2 0\n0 0 2\n1 0 1\n0 1 1\n0 0 -2\n-1 0 -1\n0 -1 -1\n1 -1 0\n-1 1 0\n-1 0 1\n1 0 -1\n0 -1 1\n0 1 -1\n";
 
 /// Each text with its points.
 const ROWS: [(&str, &[Place]); 3] = [

@@ -1,9 +1,8 @@
 //! Whole texts.
 ghost use Rattle.std.specs.Prelude.{◌≤◌};
 
-use super::{
-    COMMENTED_TETRAHEDRON, CUBE, Place, TETRAHEDRON, Way, assert_fault, assert_points, joined,
-};
+use super::{Place, TETRAHEDRON, Way, assert_fault, assert_points, joined};
+use crate::tests::files::{COMMENTED_TETRAHEDRON, CUBE};
 use qh_read::{ReadFault, read_points};
 use std::alloc::Global;
 use std::test::Fail;

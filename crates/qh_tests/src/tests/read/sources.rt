@@ -1,5 +1,6 @@
 //! Bytes that come from a source.
-use super::{COMMENTED_TETRAHEDRON, CUBE, TETRAHEDRON, Way, assert_fault, assert_points};
+use super::{TETRAHEDRON, Way, assert_fault, assert_points};
+use crate::tests::files::{COMMENTED_TETRAHEDRON, CUBE};
 use qh_read::fakes::{FailSource, Spaces};
 use qh_read::{MemSource, ReadFault, Source, StdSource, read_from};
 use std::alloc::Global;

@@ -1,0 +1,2 @@
+pub mod headline
+pub mod contract

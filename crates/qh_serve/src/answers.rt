@@ -1,0 +1,109 @@
+//! The answer to an input: the texts of its hull.
+ghost use Rattle.std.specs.Prelude.{◌≡◌, ◌≢◌, ◌<◌, ◌≤◌, IfOk, IfErr, Err, length};
+ghost use Rattle.qh_model.specs.contract.Cut.{positions};
+ghost use Rattle.qh_model.specs.headline.DistinctIds.{AreDistinctIds};
+ghost use Rattle.qh_model.specs.headline.Hull.{IsHull};
+ghost use Rattle.qh_model.specs.headline.Text.{IsText};
+ghost use Rattle.qh_model.specs.declared.limits.TheConstants.{BYTE_LIMIT, POINT_LIMIT};
+ghost use Rattle.qh_model.specs.declared.read_fault.ReadFault.TheVariants as reads;
+ghost use Rattle.qh_serve.specs.headline.Answers.{IsAnswer, IsAnswerFault};
+
+use crate::fault::Fault;
+use crate::settings::Settings;
+use qh_model::{BLOCK_LIMIT, Cut, CutError, Hull, Id, Memory, Point};
+use qh_plane::distinct;
+use qh_read::read_form;
+use qh_run::{Gate, RunError, run_hull};
+use qh_write::text;
+use std::alloc::Global;
+use std::thread::Threads;
+
+/// The cut of so many positions into blocks of the wanted size, or of a greater one where these would
+/// be too many.
+fn even_cut(alloc: Global, count: u32, wanted: u32) -> Result<Cut, Memory>
+    requires some { 0 < count }
+    requires few { count ≤ POINT_LIMIT }
+    requires wanted { 0 < wanted }
+    ensures { IfOk result (λ c. positions c ≡ count) }
+{
+    let size = wanted.max(count.div_ceil(BLOCK_LIMIT));
+    match Cut::even(alloc, count, size) {
+        Ok(cut) => Ok(cut),
+        Err(CutError::Memory) => Err(Memory),
+        Err(CutError::ZeroSize) => unreachable!(),
+        Err(CutError::TooManyBlocks) => unreachable!(),
+        Err(CutError::BadBounds) => unreachable!(),
+    }
+}
+
+/// The hull of the points, by as many workers as the settings say, watched by the gate.
+fn hull_of<R: Threads + Sync, G: Gate>(
+    rt: &R,
+    alloc: Global,
+    pts: &[Point],
+    ids: &[Id],
+    cut: &Cut,
+    settings: &Settings,
+    gate: &G,
+) -> Result<Hull, Memory>
+    requires few { length pts.now ≤ POINT_LIMIT }
+    requires some { 0 < length ids.now }
+    requires distinct { AreDistinctIds pts.now ids.now }
+    requires cut { positions cut.now ≡ length ids.now }
+    ensures { IfOk result (λ h. IsHull pts.now h) }
+{
+    match run_hull(rt, alloc, pts, ids, cut, settings.workers(), gate) {
+        Ok(hull) => Ok(hull),
+        Err(RunError::Memory) => Err(Memory),
+        Err(RunError::BadWorkers) => unreachable!(),
+    }
+}
+
+/// The texts of the outputs that the settings ask for, of at least one point and at most `POINT_LIMIT`
+/// points. Neither the number of workers nor the size of blocks changes them. The gate is told of the
+/// workers' blocks, and takes the hull at the end of their run.
+///
+/// `Err` says that memory was refused.
+pub(crate) fn text_of<R: Threads + Sync, G: Gate>(
+    rt: &R,
+    alloc: Global,
+    pts: &[Point],
+    settings: &Settings,
+    gate: &G,
+) -> Result<Vec<u8>, Memory>
+    requires some { 0 < length pts.now }
+    requires few { length pts.now ≤ POINT_LIMIT }
+    ensures { IfOk result (λ t. IsText pts.now settings.now.outs t.items) }
+{
+    let ids = distinct(rt, alloc, pts)?;
+    let cut = even_cut(alloc, ids.len() as u32, settings.block())?;
+    let hull = hull_of(rt, alloc, pts, &ids, &cut, settings, gate)?;
+    text(alloc, &hull, pts, settings.outs())
+}
+
+/// The texts that the settings ask for, of the points in the input: the one text that the points alone
+/// define.
+///
+/// The gate is told of the workers' blocks, and takes the hull at the end of their run.
+///
+/// The fault is the first of the input, or want of memory. `Big` goes before all other faults, want of
+/// memory too; that a device failed, that the text could not be sent or that a command line is none is
+/// never answered.
+pub fn answer<R: Threads + Sync, G: Gate>(
+    rt: &R,
+    alloc: Global,
+    input: &[u8],
+    settings: &Settings,
+    gate: &G,
+) -> Result<Vec<u8>, Fault>
+    ensures answered { IfOk result (λ t. IsAnswer settings.now.form input.now settings.now.outs t.items) }
+    ensures fault { IfErr result (IsAnswerFault settings.now.form input.now) }
+    ensures big { BYTE_LIMIT < length input.now → result ≡ Err (Fault.Read reads.Big) }
+    ensures no_device { result ≢ Err (Fault.Read reads.Device) }
+    ensures no_send { result ≢ Err Fault.Send }
+    ensures no_usage { result ≢ Err Fault.Usage }
+{
+    let points = read_form(alloc, settings.form(), input)?;
+    let text = text_of(rt, alloc, &points, settings, gate)?;
+    Ok(text)
+}

@@ -1,0 +1,37 @@
+//! A run from its source to its sink.
+ghost use Rattle.std.specs.Prelude.{◌≡◌, ◌-◌, ◌^◌, ◌<◌, MatchResult};
+ghost use Rattle.qh_serve.specs.headline.Serving.{Devices, IsServed, IsServeFault};
+
+use crate::answers::text_of;
+use crate::fault::Fault;
+use crate::settings::Settings;
+use qh_read::{Source, read_form_from};
+use qh_run::Gate;
+use qh_write::{Sink, send};
+use std::alloc::Global;
+use std::thread::Threads;
+
+/// Reads points from the source to its end and sends the texts that the settings ask for.
+///
+/// Nothing is sent before the whole text stands. The answer tells what the devices did: the table of
+/// `IsServed` and `IsServeFault` has a line for each. After a failure neither device is called again.
+/// The gate is told of the workers' blocks, and takes the hull at the end of their run.
+pub fn serve<R: Threads + Sync, S: Source, K: Sink, G: Gate>(
+    rt: &R,
+    alloc: Global,
+    source: &mut S,
+    sink: &mut K,
+    settings: &Settings,
+    gate: &G,
+) -> Result<(), Fault>
+    requires source { S.failure_count source.old < 2 ^ 64 - 1 }
+    requires sink { K.count sink.old < 2 ^ 64 - 1 }
+    ensures { let old : Devices = record { to_come = S.remaining source.old; went = K.went sink.old; source_failures = S.failure_count source.old; sink_failures = K.count sink.old; flushed = K.is_flushed sink.old } in
+        let new : Devices = record { to_come = S.remaining source.new; went = K.went sink.new; source_failures = S.failure_count source.new; sink_failures = K.count sink.new; flushed = K.is_flushed sink.new } in
+        MatchResult result (λ _. IsServed settings.now.form settings.now.outs old new) (IsServeFault settings.now.form settings.now.outs old new) }
+{
+    let points = read_form_from(alloc, settings.form(), source)?;
+    let text = text_of(rt, alloc, &points, settings, gate)?;
+    send(sink, &text)?;
+    Ok(())
+}

@@ -1,0 +1,113 @@
+//! What a run is asked for, and the limits of that.
+ghost use Rattle.std.specs.Prelude.{◌≡◌, ◌≤◌, ◌<◌, ◌↔◌, IfOk, IsErrOf};
+
+use qh_model::{Form, POINT_LIMIT, WORKER_LIMIT};
+use qh_write::Out;
+use std::alloc::Global;
+use std::marker::Model;
+use thiserror::Error;
+
+/// The greatest block size that can be wanted: all points in one block.
+pub const BLOCK_SIZE_LIMIT: u32 = POINT_LIMIT;
+
+/// How the input is to be read, how the hull is to be made, and which outputs are to be written.
+///
+/// A contract sees settings as their number of workers, block size, list of outputs and form of the input.
+#[derive(Debug, Drop)]
+pub struct Settings {
+    workers: u32,
+    block: u32,
+    outs: Vec<Out>,
+    form: Form,
+}
+
+impl Model for Settings {
+    ghost use Rattle.qh_serve.specs.headline.SettingsValue.{SettingsValue};
+    ghost use Rattle.qh_serve.specs.contract.Ranges.{IsInRange};
+
+    ghost Value = { SettingsValue };
+
+    ghost view = { λ s. record { workers = s.workers; block = s.block; outs = s.outs.items; form = s.form } };
+
+    ghost invariant = { λ s. IsInRange s.workers s.block };
+}
+
+/// Why settings were refused.
+#[derive(Clone, Copy, Debug, PartialEq, Eq, Drop, Error)]
+pub enum SettingsError {
+    /// The number of workers is not from 1 to `WORKER_LIMIT`.
+    #[error("the number of workers is not from 1 to 64")]
+    BadWorkers,
+    /// The block size is not from 1 to `BLOCK_SIZE_LIMIT`.
+    #[error("the block size is not from 1 to 1048576")]
+    BadBlock,
+    /// Memory was refused.
+    #[error("out of memory")]
+    Memory,
+}
+
+impl Settings {
+    ghost use Rattle.qh_serve.specs.contract.Ranges.{IsWorkers, IsBlockSize};
+
+    /// Settings with these workers, block size and outputs, for an input of this form.
+    ///
+    /// Where two errors apply, the first in the order of `SettingsError` is given; memory is asked
+    /// for last.
+    pub fn new(
+        alloc: Global,
+        workers: u32,
+        block: u32,
+        outs: &[Out],
+        form: Form,
+    ) -> Result<Settings, SettingsError>
+        ensures ok { IfOk result (λ s. s ≡ record { workers = workers; block = block; outs = outs.now; form = form }) }
+        ensures workers { IsErrOf result SettingsError.BadWorkers ↔ (¬ (IsWorkers workers)) }
+        ensures block { IsErrOf result SettingsError.BadBlock ↔ (IsWorkers workers × ¬ (IsBlockSize block)) }
+    {
+        if workers < 1 || workers > WORKER_LIMIT {
+            return Err(SettingsError::BadWorkers);
+        }
+        if block < 1 || block > BLOCK_SIZE_LIMIT {
+            return Err(SettingsError::BadBlock);
+        }
+        let Ok(outs) = Vec::from_slice(alloc, outs) else {
+            return Err(SettingsError::Memory);
+        };
+        Ok(Settings {
+            workers,
+            block,
+            outs,
+            form,
+        })
+    }
+
+    /// How many workers make the hull, from 1 to `WORKER_LIMIT`.
+    pub fn workers(&self) -> u32
+        ensures value { result ≡ self.now.workers }
+        ensures range { IsWorkers result }
+    {
+        self.workers
+    }
+
+    /// How many points a block has, from 1 to `BLOCK_SIZE_LIMIT`.
+    pub fn block(&self) -> u32
+        ensures value { result ≡ self.now.block }
+        ensures range { IsBlockSize result }
+    {
+        self.block
+    }
+
+    /// The outputs, in their order.
+    pub fn outs(&self) -> &[Out]
+        ensures { result.now ≡ self.now.outs }
+    {
+        self.outs.as_slice()
+    }
+
+    /// How the input tells its points.
+    pub fn form(&self) -> Form
+        ensures { result ≡ self.now.form }
+    {
+        self.form
+    }
+}
