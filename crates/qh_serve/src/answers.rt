@@ -9,6 +9,7 @@ ghost use Rattle.qh_model.specs.declared.read_fault.ReadFault.TheVariants as rea
 ghost use Rattle.qh_serve.specs.headline.Answers.{IsAnswer, IsAnswerFault};
 
 use crate::fault::Fault;
+use crate::ranks::{are_all_ranks, rank_text};
 use crate::settings::Settings;
 use qh_model::{BLOCK_LIMIT, Cut, CutError, Hull, Id, Memory, Point};
 use qh_plane::distinct;
@@ -59,11 +60,34 @@ fn hull_of<R: Threads + Sync, G: Gate>(
     }
 }
 
-/// The texts of the outputs that the settings ask for, of at least one point and at most `POINT_LIMIT`
-/// points. Neither the number of workers nor the size of blocks changes them. The gate is told of the
+/// Returns the texts of the outputs that the settings ask for, by the hull of the points.
+fn hull_text_of<R: Threads + Sync, G: Gate>(
+    rt: &R,
+    alloc: Global,
+    pts: &[Point],
+    ids: &[Id],
+    settings: &Settings,
+    gate: &G,
+) -> Result<Vec<u8>, Memory>
+    requires some { 0 < length pts.now }
+    requires few { length pts.now ≤ POINT_LIMIT }
+    requires distinct { AreDistinctIds pts.now ids.now }
+    ensures { IfOk result (λ t. IsText pts.now settings.now.outs t.items) }
+{
+    let cut = even_cut(alloc, ids.len() as u32, settings.block())?;
+    let hull = hull_of(rt, alloc, pts, ids, &cut, settings, gate)?;
+    text(alloc, &hull, pts, settings.outs())
+}
+
+/// Returns the texts of the outputs that the settings ask for, of at least one point and at most
+/// `POINT_LIMIT` points. Neither the number of workers nor the size of blocks changes them.
+///
+/// Outputs that are all the rank need no hull, so the gate is not called. For others it is told of the
 /// workers' blocks, and takes the hull at the end of their run.
 ///
-/// `Err` says that memory was refused.
+/// # Errors
+///
+/// `Memory` if an allocation failed.
 pub(crate) fn text_of<R: Threads + Sync, G: Gate>(
     rt: &R,
     alloc: Global,
@@ -76,19 +100,21 @@ pub(crate) fn text_of<R: Threads + Sync, G: Gate>(
     ensures { IfOk result (λ t. IsText pts.now settings.now.outs t.items) }
 {
     let ids = distinct(rt, alloc, pts)?;
-    let cut = even_cut(alloc, ids.len() as u32, settings.block())?;
-    let hull = hull_of(rt, alloc, pts, &ids, &cut, settings, gate)?;
-    text(alloc, &hull, pts, settings.outs())
+    if are_all_ranks(settings.outs()) {
+        return rank_text(alloc, pts, &ids, settings.outs());
+    }
+    hull_text_of(rt, alloc, pts, &ids, settings, gate)
 }
 
 /// The texts that the settings ask for, of the points in the input: the one text that the points alone
 /// define.
 ///
-/// The gate is told of the workers' blocks, and takes the hull at the end of their run.
+/// The gate is told of the workers' blocks, and takes the hull at the end of their run. Outputs that are all
+/// the rank need no hull: the gate is not called then.
 ///
-/// The fault is the first of the input, or want of memory. `Big` goes before all other faults, want of
-/// memory too; that a device failed, that the text could not be sent or that a command line is none is
-/// never answered.
+/// The fault is the first of the input, or out of memory. `Big` goes before all other faults, out of
+/// memory too. `answer` never answers that a device failed, that the text could not be sent or that a
+/// command line is invalid.
 pub fn answer<R: Threads + Sync, G: Gate>(
     rt: &R,
     alloc: Global,

@@ -1,11 +1,13 @@
 //! A run from its source to its sink.
-ghost use Rattle.std.specs.Prelude.{◌≡◌, ◌-◌, ◌^◌, ◌<◌, MatchResult};
+ghost use Rattle.std.specs.Prelude.{◌≡◌, ◌≤◌, ◌-◌, ◌^◌, ◌<◌, Err, length, MatchResult};
+ghost use Rattle.qh_model.specs.declared.limits.TheConstants.{BYTE_LIMIT};
+ghost use Rattle.qh_read.specs.headline.SourceBytes.{Gives};
 ghost use Rattle.qh_serve.specs.headline.Serving.{Devices, IsServed, IsServeFault};
 
 use crate::answers::text_of;
 use crate::fault::Fault;
 use crate::settings::Settings;
-use qh_read::{Source, read_form_from};
+use qh_read::{ReadFault, Source, read_form_from};
 use qh_run::Gate;
 use qh_write::{Sink, send};
 use std::alloc::Global;
@@ -15,7 +17,10 @@ use std::thread::Threads;
 ///
 /// Nothing is sent before the whole text stands. The answer tells what the devices did: the table of
 /// `IsServed` and `IsServeFault` has a line for each. After a failure neither device is called again.
-/// The gate is told of the workers' blocks, and takes the hull at the end of their run.
+/// The gate is told of the workers' blocks, and takes the hull at the end of their run. Outputs that are all
+/// the rank need no hull: the gate is not called then.
+///
+/// Out of memory is answered only where the source gave at most `BYTE_LIMIT` bytes: `Big` comes first.
 pub fn serve<R: Threads + Sync, S: Source, K: Sink, G: Gate>(
     rt: &R,
     alloc: Global,
@@ -26,9 +31,11 @@ pub fn serve<R: Threads + Sync, S: Source, K: Sink, G: Gate>(
 ) -> Result<(), Fault>
     requires source { S.failure_count source.old < 2 ^ 64 - 1 }
     requires sink { K.count sink.old < 2 ^ 64 - 1 }
-    ensures { let old : Devices = record { to_come = S.remaining source.old; went = K.went sink.old; source_failures = S.failure_count source.old; sink_failures = K.count sink.old; flushed = K.is_flushed sink.old } in
+    ensures devices { let old : Devices = record { to_come = S.remaining source.old; went = K.went sink.old; source_failures = S.failure_count source.old; sink_failures = K.count sink.old; flushed = K.is_flushed sink.old } in
         let new : Devices = record { to_come = S.remaining source.new; went = K.went sink.new; source_failures = S.failure_count source.new; sink_failures = K.count sink.new; flushed = K.is_flushed sink.new } in
         MatchResult result (λ _. IsServed settings.now.form settings.now.outs old new) (IsServeFault settings.now.form settings.now.outs old new) }
+    ensures big_first { result ≡ Err (Fault.Read ReadFault.Memory)
+        → Gives (S.remaining source.old) (S.remaining source.new) (λ bytes. length bytes ≤ BYTE_LIMIT) }
 {
     let points = read_form_from(alloc, settings.form(), source)?;
     let text = text_of(rt, alloc, &points, settings, gate)?;
