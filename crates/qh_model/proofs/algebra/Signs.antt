@@ -1,7 +1,7 @@
 -- Orders of whole numbers, of equal ones and of opposites.
 use Rattle.std.proofs.Common.{◌≡◌, arith}
 use Rattle.std.proofs.lemmas.Int.{ints}
-use Rattle.std.specs.Prelude.{ℤ, pos, ◌-ℤ◌, neg_ℤ, ◌≤ℤ◌, ◌<ℤ◌}
+use Rattle.std.specs.Prelude.{ℤ, pos, ◌+ℤ◌, ◌-ℤ◌, neg_ℤ, ◌≤ℤ◌, ◌<ℤ◌}
 
 -- what is less is not as much
 pub not_less : (a b : ℤ) → a <ℤ b → b ≤ℤ a → ⊥
@@ -26,6 +26,10 @@ equal_le a b e = omega (arith, ints)
 -- what is less has a positive gap
 pub gap_positive : (a b : ℤ) → a <ℤ b → pos 0 <ℤ (b -ℤ a)
 gap_positive a b h = omega (arith, ints)
+
+-- four zeros add up to no negative number
+pub zeros_not_negative : (x a b c d : ℤ) → x ≡ a +ℤ b +ℤ c +ℤ d → x <ℤ pos 0 → a ≡ pos 0 → b ≡ pos 0 → c ≡ pos 0 → d ≡ pos 0 → ⊥
+zeros_not_negative x a b c d e h ha hb hc hd = omega (arith, ints)
 
 -- ---- the sign of a number, told of one that is equal
 -- not above 0

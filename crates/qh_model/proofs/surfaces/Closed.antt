@@ -18,7 +18,7 @@ use Rattle.qh_model.proofs.closed_surfaces.Sums.{count, count-is}
 use Rattle.qh_model.proofs.closed_surfaces.SignedVolume.{edge_tests, volume_is_constant}
 use Rattle.qh_model.proofs.surfaces.Facets.{ends_differ}
 use Rattle.qh_model.proofs.surfaces.KeptSound.{edge_once}
-use Rattle.qh_model.proofs.surfaces.Simplex.{above-together}
+use Rattle.qh_model.proofs.surfaces.Determinants.{above-together}
 use Rattle.qh_model.proofs.surfaces.SurfaceLaws.{rise_is_vol}
 
 -- ---- edges as sides

@@ -1,7 +1,7 @@
 -- Vectors of four whole numbers, and the identities of their determinant.
-use Rattle.qh_model.specs.contract.Weighted.{Weighted, above}
+use Rattle.qh_model.specs.contract.Weighted.{Weighted, weighted_dot, middle_of, plane_of, above}
 use Rattle.std.proofs.Common.{◌≡◌, ℕ, ◌+◌, ◌*◌, refl, List, [], ◌∷◌}
-use Rattle.std.specs.Prelude.{ℤ, pos, neg_ℤ}
+use Rattle.std.specs.Prelude.{ℤ, pos, ◌+ℤ◌, neg_ℤ}
 use Rattle.qh_model.proofs.algebra.Ring.{Expr, ring, ring_zero}
 use Rattle.qh_model.proofs.algebra.Ring.Expr.{var, add, sub as less, mul, neg}
 
@@ -42,6 +42,20 @@ aboveE a b c p = dot4E (planeE a b c) p
 abbrev pub put4 : Weighted → List ℤ → List ℤ
 put4 p env = p.w ∷ p.x ∷ p.y ∷ p.z ∷ env
 
+-- ---- sums of points
+-- a plane measures the middle by the sum of what it measures
+pub dot-together : (n a b c d : Weighted) → weighted_dot n (middle_of a b c d) ≡ weighted_dot n a +ℤ weighted_dot n b +ℤ weighted_dot n c +ℤ weighted_dot n d
+dot-together n a b c d =
+    let sum : (QE → Expr) → Expr = λ part. add (add (add (part (quad 1)) (part (quad 2))) (part (quad 3))) (part (quad 4)) in
+    let middle : QE = record { w = sum (λ e. e.w); x = sum (λ e. e.x); y = sum (λ e. e.y); z = sum (λ e. e.z) } in
+    ring (put4 n (put4 a (put4 b (put4 c (put4 d []))))) (dot4E (quad 0) middle) (sum (dot4E (quad 0))) refl
+
+-- so the middle is above a plane by the sum of what its points are
+pub above-together : (p q r a b c d : Weighted) → above p q r (middle_of a b c d) ≡ above p q r a +ℤ above p q r b +ℤ above p q r c +ℤ above p q r d
+unfolding above
+above-together p q r a b c d = dot-together (plane_of p q r) a b c d
+
+-- ---- orders
 -- turning and swapping
 pub above-turn : (a b c p : Weighted) → above a b c p ≡ above b c a p
 unfolding above

@@ -11,8 +11,7 @@ use Rattle.std.proofs.Common.{◌∙◌, ◌≡◌, ℕ, refl, sym, subst, arith
 use Rattle.std.proofs.lemmas.Int.{ints, by_lt_z}
 use Rattle.std.specs.Prelude.{ℤ, pos, ◌+ℤ◌, ◌*ℤ◌, ◌<ℤ◌, ◌≤ℤ◌}
 use Rattle.qh_model.proofs.algebra.Ring.{ring}
-use Rattle.qh_model.proofs.algebra.Ring.Expr.{add}
-use Rattle.qh_model.proofs.surfaces.Determinants.{quad, QE, aboveE, put4, above-first, above-second, above-third, above-turn_last}
+use Rattle.qh_model.proofs.surfaces.Determinants.{quad, aboveE, put4, above-together, above-first, above-second, above-third, above-turn_last}
 use Rattle.qh_model.proofs.surfaces.Facets.{rise_own, plane-is}
 use Rattle.qh_model.proofs.surfaces.CramersRule.{cramer}
 use Rattle.qh_model.proofs.algebra.Order.{zero_product, product_zero}
@@ -64,16 +63,6 @@ order_adb a b c d = ring (put4 a (put4 b (put4 c (put4 d [])))) (aboveE (quad 0)
 order_bdc : (a b c d : Weighted) → above b d c a ≡ above a b c d
 unfolding above
 order_bdc a b c d = ring (put4 a (put4 b (put4 c (put4 d [])))) (aboveE (quad 1) (quad 3) (quad 2) (quad 0)) (aboveE (quad 0) (quad 1) (quad 2) (quad 3)) refl
-
--- the middle is above a plane by the sum of what its points are
-pub above-together : (p q r a b c d : Weighted) → above p q r (middle_of a b c d) ≡ above p q r a +ℤ above p q r b +ℤ above p q r c +ℤ above p q r d
-unfolding above
-above-together p q r a b c d =
-    ring (put4 p (put4 q (put4 r (put4 a (put4 b (put4 c (put4 d [])))))))
-    (
-    let sum : (QE → Rattle.qh_model.proofs.algebra.Ring.Expr) → Rattle.qh_model.proofs.algebra.Ring.Expr = λ i. add (add (add (i (quad 3)) (i (quad 4))) (i (quad 5))) (i (quad 6)) in
-    aboveE (quad 0) (quad 1) (quad 2) (record { w = sum (λ e. e.w); x = sum (λ e. e.x); y = sum (λ e. e.y); z = sum (λ e. e.z) }))
-    (add (add (add (aboveE (quad 0) (quad 1) (quad 2) (quad 3)) (aboveE (quad 0) (quad 1) (quad 2) (quad 4))) (aboveE (quad 0) (quad 1) (quad 2) (quad 5))) (aboveE (quad 0) (quad 1) (quad 2) (quad 6))) refl
 
 -- a sign, told otherwise
 lt_as : (x y : ℤ) → x ≡ y → y <ℤ pos 0 → x <ℤ pos 0
