@@ -11,13 +11,13 @@ use Rattle.std.specs.Prelude.{ℤ, pos, ◌-ℤ◌, ◌*ℤ◌, neg_ℤ, ◌<ℤ
 use Rattle.qh_model.proofs.algebra.Order.{mul-neg_neg, neg-positive}
 use Rattle.qh_model.proofs.algebra.Ring.{ring}
 use Rattle.qh_model.proofs.algebra.Ring.Expr.{var, sub as less, mul, neg}
-use Rattle.qh_model.proofs.algebra.Signs.{less_one_way, equal_nonpos, equal_negative, equal_positive, opposite_nonneg, opposite_positive, opposite_negative}
+use Rattle.qh_model.proofs.algebra.Signs.{less_one_way, equal_negative, opposite_positive, opposite_negative}
 use Rattle.qh_model.proofs.surfaces.VisibleFacets.{Least, least}
-use Rattle.qh_model.proofs.surfaces.Facets.{rise_side, rise_over, bends, weak, positive, positive-is, positive-true, corner_end, corner_rest, corner_test, ends_differ, rest_differs}
+use Rattle.qh_model.proofs.surfaces.Facets.{rise_over, positive, positive-is, positive-true, corner_end, corner_rest, corner_test, ends_differ, rest_differs}
 use Rattle.qh_model.proofs.surfaces.FacetSides.{side_next, start_next, end_next, from, from_is}
 use Rattle.qh_model.proofs.surfaces.Determinants.{above-turn, swap24, turned_first}
 use Rattle.qh_model.proofs.surfaces.PlanesThroughLine.{line_product}
-use Rattle.qh_model.proofs.surfaces.Cone.{Old, over_flip, cone_strict, below_one}
+use Rattle.qh_model.proofs.surfaces.Cone.{Old, apex_rise, corner_below_cone}
 use Rattle.qh_model.proofs.surfaces.KeptSound.{edge_once, side_once}
 
 -- ---- at drawn places: every facet sees top or is seen to be above it
@@ -36,16 +36,10 @@ pub record HorizonSide (m : Surface) (at : ℕ → Weighted) (top : Weighted) (f
   pub blind : rise m at (m.over f s) top <ℤ pos 0
 
 -- all other corners are strictly below the plane through a horizon side and top
-pub horizon_below : (m : Surface) (home : ℕ → Weighted) (o : Weighted) (c : Scene m home o) (f : ℕ) (s : Side) → HorizonSide m c.at c.top f s → (l : ℕ) → Old m l → l ≢ start m f s → l ≢ end m f s
-    → above (c.at (start m f s)) (c.at (end m f s)) c.top (c.at l) <ℤ pos 0
-horizon_below m home o c f s r l (g, j, k) ns ne =
-    cone_strict (c.at (start m f s)) (c.at (end m f s)) (c.at (rest m f s)) (c.at (far m f s)) c.top (c.at l)
-    (equal_positive (rise m c.at f c.top) _ (rise_side m c.at f s c.top) r.seen)
-    (opposite_positive (rise m c.at (m.over f s) c.top) _ (over_flip m c.at c.whole f r.live s c.top) r.blind)
-    (bends m c.at home o c.whole c.sound.inner c.strict f r.live s)
-    (equal_nonpos (rise m c.at f (c.at l)) _ (rise_side m c.at f s (c.at l)) (weak m c.at c.strict f g r.live j l k))
-    (opposite_nonneg (rise m c.at (m.over f s) (c.at l)) _ (over_flip m c.at c.whole f r.live s (c.at l)) (weak m c.at c.strict (m.over f s) g (c.whole f r.live s).live j l k))
-    (below_one m home o c.whole c.sound.inner c.at c.strict f r.live s l (g, j, k) ns ne)
+pub horizon_below : (m : Surface) (home : ℕ → Weighted) (o : Weighted) (c : Scene m home o) (f : ℕ) (s : Side) → HorizonSide m c.at c.top f s
+    → (l : ℕ) → Old m l → l ≢ start m f s → l ≢ end m f s → apex_rise m c.at f s c.top (c.at l) <ℤ pos 0
+horizon_below m home o c f s r l k ns ne =
+    corner_below_cone m home o c.whole c.sound.inner c.at c.strict f r.live s l k ns ne c.top r.seen r.blind
 
 -- a horizon side is known by its start, and by its end
 pub horizon_once : (m : Surface) (home : ℕ → Weighted) (o : Weighted) (c : Scene m home o) (f g : ℕ) (s t : Side) → HorizonSide m c.at c.top f s → HorizonSide m c.at c.top g t → start m f s ≡ start m g t → (f ≡ g) × (s ≡ t)

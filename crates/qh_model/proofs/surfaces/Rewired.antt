@@ -108,4 +108,4 @@ replaced m m' home p r = record { number = r.number; f0 = r.f0; live = r.live; s
 
 -- THEOREM: a replacement keeps a whole, sound surface
 pub replace_keeps : (m m' : Surface) (home : ℕ → Weighted) (o : Weighted) (p : ℕ) → IsWhole m → IsSound m home o → IsRewired m m' home p → IsWhole m' × IsSound m' home o
-replace_keeps m m' home o p w z r = (whole_kept m m' home o p w z r, sound_kept m m' home o p w z (replaced m m' home p r))
+replace_keeps m m' home o p w z r = (whole_kept m m' home o p w z r, sound_kept w z (replaced m m' home p r))

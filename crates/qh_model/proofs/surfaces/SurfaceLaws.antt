@@ -31,7 +31,7 @@ walk_finds_all m home o w z p c g f i k =
 
 -- the law
 pub settled_stay_unseen : SettledStayUnseen
-settled_stay_unseen m m' home o p w z r y h f' i = settled_kept m m' home o p w z (replaced m m' home p r) y h f' i
+settled_stay_unseen m m' home o p w z r = settled_kept (replaced m m' home p r) o w z
 
 -- the law
 pub horizon_goes_on : HorizonGoesOn
@@ -48,4 +48,4 @@ corners_are_settled m home o z f g i j l c = cert m home o z.lifted f g i j l c
 
 -- the law
 pub added_is_settled : AddedIsSettled
-added_is_settled m m' home p r f' i = apex_settled m m' home p (replaced m m' home p r) f' i
+added_is_settled m m' home p r = apex_settled (replaced m m' home p r)
