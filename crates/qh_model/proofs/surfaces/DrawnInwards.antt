@@ -64,7 +64,7 @@ bound r [] = (zero, λ f i. absurd i)
 bound r (x ∷ xs) = bound_more r x xs (bound r xs)
 
 -- a large enough share
-share : (b x : ℤ) (k : ℕ) → b <ℤ pos k → x <ℤ pos 0 → (b +ℤ pos k *ℤ x) <ℤ pos 0
+pub share : (b x : ℤ) (k : ℕ) → b <ℤ pos k → x <ℤ pos 0 → (b +ℤ pos k *ℤ x) <ℤ pos 0
 share b x k h q = finish b (pos k *ℤ x) (pos k) (pos k *ℤ (x +ℤ pos 1)) (spread (pos k) x) h (mul-nonneg_nonpos (pos k) (x +ℤ pos 1) (omega (arith, ints)) (up x q))
   where
     up : (x : ℤ) → x <ℤ pos 0 → (x +ℤ pos 1) ≤ℤ pos 0

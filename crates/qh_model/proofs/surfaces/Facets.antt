@@ -12,7 +12,7 @@ use Rattle.std.proofs.lemmas.Bool.{and_parts, both_ways, not-true}
 use Rattle.std.specs.Prelude.{ℤ, pos, negsuc, ◌+ℤ◌, neg_ℤ, ◌≤ℤ◌, ◌<ℤ◌, ◌&&◌, not}
 use Rattle.qh_model.proofs.algebra.Ring.{Expr, ring}
 use Rattle.qh_model.proofs.algebra.Ring.Expr.{add}
-use Rattle.qh_model.proofs.algebra.Signs.{less_differ, less_one_way, equal_le, equal_nonpos, equal_negative, equal_positive, opposite_nonneg, opposite_positive, opposite_negative}
+use Rattle.qh_model.proofs.algebra.Signs.{less_differ, less_one_way, equal_le, sum_nonpos, sum_parts, sum_zero, equal_nonpos, equal_negative, equal_positive, opposite_nonneg, opposite_positive, opposite_negative}
 use Rattle.qh_model.proofs.algebra.Order.{negative_le}
 use Rattle.qh_model.proofs.surfaces.Determinants.{QE, put4, quad, dot4E, above-turn, above-flip, above-first, above-second, above-third}
 use Rattle.qh_model.proofs.surfaces.VisibleFacets.{Corners, Over, Cut, none_cut_off}
@@ -20,6 +20,12 @@ use Rattle.qh_model.proofs.surfaces.VisibleFacets.{Corners, Over, Cut, none_cut_
 -- the corners of a facet at their places
 abbrev pub placed : Surface → (ℕ → Weighted) → ℕ → Corners
 placed m at f = record { a = at (m.i f); b = at (m.j f); c = at (m.k f) }
+
+-- what holds of the corners one by one holds of all
+pub of_corners : (m : Surface) (f : ℕ) (P : ℕ → Type 0) → P (m.i f) → P (m.j f) → P (m.k f) → (l : ℕ) → IsCorner m f l → P l
+of_corners m f P a b c l (inl e) = subst P (sym e) a
+of_corners m f P a b c l (inr (inl e)) = subst P (sym e) b
+of_corners m f P a b c l (inr (inr e)) = subst P (sym e) c
 
 module _ (m : Surface) where
   -- the start of a side is a corner
@@ -153,9 +159,9 @@ far_apart m at c w h f i s k = apart (corner_cases m f s (far m f s) k)
 
 -- its own corners lie on it
 pub rise_own : (m : Surface) (at : ℕ → Weighted) (f l : ℕ) → IsCorner m f l → rise m at f (at l) ≡ pos 0
-rise_own m at f l (inl e) = ap (λ t. rise m at f (at t)) e ∙ above-first (at (m.i f)) (at (m.j f)) (at (m.k f))
-rise_own m at f l (inr (inl e)) = ap (λ t. rise m at f (at t)) e ∙ above-second (at (m.i f)) (at (m.j f)) (at (m.k f))
-rise_own m at f l (inr (inr e)) = ap (λ t. rise m at f (at t)) e ∙ above-third (at (m.i f)) (at (m.j f)) (at (m.k f))
+rise_own m at f =
+    let a = at (m.i f) in let b = at (m.j f) in let c = at (m.k f) in
+    of_corners m f (λ l. rise m at f (at l) ≡ pos 0) (above-first a b c) (above-second a b c) (above-third a b c)
 
 -- ---- sums of three points
 -- the sum
@@ -173,24 +179,29 @@ above-sum a b c p q r = dot4-sum (plane_of a b c)
         let total : QE = record { w = sum (λ e. e.w); x = sum (λ e. e.x); y = sum (λ e. e.y); z = sum (λ e. e.z) } in
         ring (put4 n (put4 p (put4 q (put4 r [])))) (dot4E (quad 0) total) (sum (dot4E (quad 0))) refl
 
+module _ (a b c p q r : Weighted) where
+  -- a sum of points not above a plane isn't above it
+  pub sum_blind : above a b c p ≤ℤ pos 0 → above a b c q ≤ℤ pos 0 → above a b c r ≤ℤ pos 0 → above a b c (sum4 p q r) ≤ℤ pos 0
+  sum_blind = sum_nonpos _ _ _ _ (above-sum a b c p q r)
+
+  -- a sum of points on it is on it
+  pub sum_level : above a b c p ≡ pos 0 → above a b c q ≡ pos 0 → above a b c r ≡ pos 0 → above a b c (sum4 p q r) ≡ pos 0
+  sum_level = sum_zero _ _ _ _ (above-sum a b c p q r)
+
+  -- points not above it whose sum isn't below it are on it
+  pub level_parts : above a b c p ≤ℤ pos 0 → above a b c q ≤ℤ pos 0 → above a b c r ≤ℤ pos 0 → pos 0 ≤ℤ above a b c (sum4 p q r)
+      → (above a b c p ≡ pos 0) × (above a b c q ≡ pos 0) × (above a b c r ≡ pos 0)
+  level_parts = sum_parts _ _ _ _ (above-sum a b c p q r)
+
 -- the middle of a facet (three times its weight)
-middle : Surface → (ℕ → Weighted) → ℕ → Weighted
+abbrev pub middle : Surface → (ℕ → Weighted) → ℕ → Weighted
 middle m at f = sum4 (at (m.i f)) (at (m.j f)) (at (m.k f))
 
--- how far a facet's middle is above another
-rise-middle : (m : Surface) (at : ℕ → Weighted) (f g : ℕ)
-    → rise m at f (middle m at g) ≡ rise m at f (at (m.i g)) +ℤ rise m at f (at (m.j g)) +ℤ rise m at f (at (m.k g))
-unfolding middle
-rise-middle m at f g = above-sum (at (m.i f)) (at (m.j f)) (at (m.k f)) (at (m.i g)) (at (m.j g)) (at (m.k g))
-
 -- a facet's middle lies on it
-middle_on : (m : Surface) (at : ℕ → Weighted) (f : ℕ) → rise m at f (middle m at f) ≡ pos 0
+pub middle_on : (m : Surface) (at : ℕ → Weighted) (f : ℕ) → rise m at f (middle m at f) ≡ pos 0
 middle_on m at f =
-    zeros _ _ _ _ (rise-middle m at f f) (rise_own m at f (m.i f) (inl refl)) (rise_own m at f (m.j f) (inr (inl refl)))
-    (rise_own m at f (m.k f) (inr (inr refl)))
-  where
-    zeros : (x a b c : ℤ) → x ≡ a +ℤ b +ℤ c → a ≡ pos 0 → b ≡ pos 0 → c ≡ pos 0 → x ≡ pos 0
-    zeros x a b c e h k l = omega (arith, ints)
+    let a = at (m.i f) in let b = at (m.j f) in let c = at (m.k f) in
+    sum_level a b c a b c (above-first a b c) (above-second a b c) (above-third a b c)
 
 -- ---- where all is strict
 module _ (m : Surface) (at : ℕ → Weighted) (h : IsStrict m at) (f g : ℕ) (i : In f m.live) (j : In g m.live) where
@@ -212,29 +223,16 @@ module _ (m : Surface) (at : ℕ → Weighted) (h : IsStrict m at) (f g : ℕ) (
 
   -- no facet's middle is above a facet
   middle_weak : rise m at f (middle m at g) ≤ℤ pos 0
-  middle_weak = sum _ _ _ _ (rise-middle m at f g) (weak (m.i g) (inl refl)) (weak (m.j g) (inr (inl refl))) (weak (m.k g) (inr (inr refl)))
-    where
-      sum : (x a b c : ℤ) → x ≡ a +ℤ b +ℤ c → a ≤ℤ pos 0 → b ≤ℤ pos 0 → c ≤ℤ pos 0 → x ≤ℤ pos 0
-      sum x a b c e h k l = omega (arith, ints)
+  middle_weak = sum_blind _ _ _ _ _ _ (weak (m.i g) (inl refl)) (weak (m.j g) (inr (inl refl))) (weak (m.k g) (inr (inr refl)))
 
   -- a facet's middle is strictly below each other facet
   middle_below : HasDistinctFacets m → g ≢ f → rise m at f (middle m at g) <ℤ pos 0
   middle_below d n = by_lt_z (rise m at f (middle m at g)) (pos 0) (λ q. q) (λ q. absurd (n (d g f j i (λ l c. corner_on l c (level q l c)))))
     where
-      zeros : (x a b c : ℤ) → x ≡ a +ℤ b +ℤ c → a ≤ℤ pos 0 → b ≤ℤ pos 0 → c ≤ℤ pos 0 → pos 0 ≤ℤ x
-          → (a ≡ pos 0) × (b ≡ pos 0) × (c ≡ pos 0)
-      zeros x a b c e h k l q = (omega (arith, ints), omega (arith, ints), omega (arith, ints))
-
       level : pos 0 ≤ℤ rise m at f (middle m at g) → (l : ℕ) → IsCorner m g l → rise m at f (at l) ≡ pos 0
-      level q l c = one c
-        where
-          z : (rise m at f (at (m.i g)) ≡ pos 0) × (rise m at f (at (m.j g)) ≡ pos 0) × (rise m at f (at (m.k g)) ≡ pos 0)
-          z = zeros _ _ _ _ (rise-middle m at f g) (weak (m.i g) (inl refl)) (weak (m.j g) (inr (inl refl))) (weak (m.k g) (inr (inr refl))) q
-
-          one : IsCorner m g l → rise m at f (at l) ≡ pos 0
-          one (inl e) = ap (λ t. rise m at f (at t)) e ∙ z.0
-          one (inr (inl e)) = ap (λ t. rise m at f (at t)) e ∙ z.1
-          one (inr (inr e)) = ap (λ t. rise m at f (at t)) e ∙ z.2
+      level q =
+          let z = level_parts _ _ _ _ _ _ (weak (m.i g) (inl refl)) (weak (m.j g) (inr (inl refl))) (weak (m.k g) (inr (inr refl))) q in
+          of_corners m g (λ l. rise m at f (at l) ≡ pos 0) z.0 z.1 z.2
 
 -- each side bends
 pub bends : (m : Surface) (at : ℕ → Weighted) (real : ℕ → Weighted) (c : Weighted) → IsWhole m → IsInner m real c → IsStrict m at

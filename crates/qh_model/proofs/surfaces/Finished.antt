@@ -1,5 +1,5 @@
 -- A finished surface misses no extreme id and no supporting plane.
-use Rattle.std.proofs.Common.{◌≡◌, ◌≢◌, ℕ, arith, refl, sym, ap, subst, ◌∙◌, ◌⊎◌, inl, inr, List, [], ◌∷◌}
+use Rattle.std.proofs.Common.{◌↔◌, ◌≡◌, ◌≢◌, ℕ, arith, refl, sym, ap, subst, ◌∙◌, ◌⊎◌, inl, inr, List, [], ◌∷◌}
 use Rattle.std.proofs.lemmas.Int.{ints}
 use native.Mathlib.Decide.{ℕ_discrete}
 use Rattle.std.specs.Prelude.{ℤ, pos, ◌+ℤ◌, ◌-ℤ◌, ◌*ℤ◌, neg_ℤ, ◌≤ℤ◌, ◌<ℤ◌}
@@ -20,7 +20,7 @@ use Rattle.qh_model.proofs.algebra.Order.{mul-pos, mul-nonneg_nonpos, le_antisym
 use Rattle.qh_model.proofs.algebra.Ring.{ring}
 use Rattle.qh_model.proofs.algebra.Ring.Expr.{var, con, add, sub as less, mul}
 use Rattle.qh_model.proofs.algebra.VectorIdentities.{vec, dotE, crossE, subE, put, VE, vol-first, in_line-vol, in_line-twice, vol-flip_last}
-use Rattle.qh_model.proofs.algebra.Signs.{less_differ, equal_le, zeros_not_negative}
+use Rattle.qh_model.proofs.algebra.Signs.{less_differ, equal_le, no_sum, zeros_not_negative}
 use Rattle.qh_model.proofs.extremes.ExtremeIds.{listed_itself, listed_part, apart, alternative_in}
 use Rattle.qh_model.proofs.extremes.Directions.{at_least_along, normal_along, from_plane, vol_along, zero_along, square-positive}
 use Rattle.qh_model.proofs.surfaces.Determinants.{QE, aboveE, dot-together, above-together}
@@ -44,10 +44,6 @@ one_far_below : (x a b c d : ℤ) → x ≡ a +ℤ b +ℤ c +ℤ d → ((a +ℤ 
     → a ≤ℤ pos 1 → b ≤ℤ pos 1 → c ≤ℤ pos 1 → d ≤ℤ pos 1 → x ≤ℤ pos 0
 one_far_below x a b c d e (inl f) h i j k = omega (arith, ints)
 one_far_below x a b c d e (inr f) h i j k = omega (arith, ints)
-
--- four numbers not above 0 have no sum above 0
-no_sum : (x a b c d : ℤ) → x ≡ a +ℤ b +ℤ c +ℤ d → pos 0 <ℤ x → a ≤ℤ pos 0 → b ≤ℤ pos 0 → c ≤ℤ pos 0 → d ≤ℤ pos 0 → ⊥
-no_sum x a b c d e p h i j k = omega (arith, ints)
 
 -- ---- an extreme id is separated from the others
 separated : (at : ℕ → Vector) (ids : List ℕ) (l : ℕ) → Extreme at (Members ids) l → Separator at (Others (Members ids) l) (at l)
@@ -241,59 +237,48 @@ module _ (at : ℕ → Vector) (ids : List ℕ) (m : Surface) (z : IsFinished at
       padded x a y e = omega (arith, ints)
 
   -- ---- one side outside
-  -- no two planes that support the set are opposite
-  pub not_opposite : (i j k a b c : ℕ) → IsSupportingTriple at (Members ids) i j k → IsSupportingTriple at (Members ids) a b c
-      → vol (at i) (at j) (at k) (at a) ≡ pos 0 → IsAlong (cross (at i) (at j) (at k)) (cross (at a) (at c) (at b)) → ⊥
-  not_opposite i j k a b c t r e h =
-      zeros_not_negative _ _ _ _ _ (above-together (P i) (P j) (P k) (P z.s) (P z.t) (P z.u) (P z.v))
-      (middle_below i j k t) (level z.s z.has_s) (level z.t z.has_t) (level z.u z.has_u) (level z.v z.has_v)
-    where
-      -- the volumes over the flipped triangle are not below 0
-      turned : (x y : ℤ) → x ≡ neg_ℤ y → y ≤ℤ pos 0 → pos 0 ≤ℤ x
-      turned x y e h = omega (arith, ints)
+  module _ (i j k a b c : ℕ) (t : IsSupportingTriple at (Members ids) i j k) (r : IsSupportingTriple at (Members ids) a b c)
+      (e : vol (at i) (at j) (at k) (at a) ≡ pos 0) where
+    -- no two planes that support the set are opposite
+    not_opposite : IsAlong (cross (at i) (at j) (at k)) (cross (at a) (at c) (at b)) → ⊥
+    not_opposite h =
+        zeros_not_negative _ _ _ _ _ (above-together (P i) (P j) (P k) (P z.s) (P z.t) (P z.u) (P z.v))
+        (middle_below i j k t) (level z.s z.has_s) (level z.t z.has_t) (level z.u z.has_u) (level z.v z.has_v)
+      where
+        -- the volumes over the flipped triangle are not below 0
+        turned : (x y : ℤ) → x ≡ neg_ℤ y → y ≤ℤ pos 0 → pos 0 ≤ℤ x
+        turned x y e h = omega (arith, ints)
 
-      level : (l : ℕ) → Members ids l → above (P i) (P j) (P k) (P l) ≡ pos 0
-      level l hl =
-          is_vol i j k l ∙ le_antisym (vol (at i) (at j) (at k) (at l)) (pos 0) (t.supports l hl)
-          (at_least_along h.t h.s _ _ h.some_t h.some_s (sym (vol_along (at i) (at j) (at k) (at a) (at c) (at b) (at l) h e))
-          (turned _ _ (vol-flip_last (at a) (at b) (at c) (at l)) (r.supports l hl)))
+        level : (l : ℕ) → Members ids l → above (P i) (P j) (P k) (P l) ≡ pos 0
+        level l hl =
+            is_vol i j k l ∙ le_antisym (vol (at i) (at j) (at k) (at l)) (pos 0) (t.supports l hl)
+            (at_least_along h.t h.s _ _ h.some_t h.some_s (sym (vol_along (at i) (at j) (at k) (at a) (at c) (at b) (at l) h e))
+            (turned _ _ (vol-flip_last (at a) (at b) (at c) (at l)) (r.supports l hl)))
+
+    -- supporting triples in one plane have the same side outside
+    pub one_plane : vol (at i) (at j) (at k) (at b) ≡ pos 0 → vol (at i) (at j) (at k) (at c) ≡ pos 0
+        → IsAlong (cross (at i) (at j) (at k)) (cross (at a) (at b) (at c))
+        × ((l : ℕ) → (vol (at i) (at j) (at k) (at l) ≡ pos 0) ↔ (vol (at a) (at b) (at c) (at l) ≡ pos 0))
+    one_plane f g =
+        same_side (normal_along (cross (at i) (at j) (at k)) (at a) (at b) (at c) t.area r.area
+        (from_plane (at i) (at j) (at k) (at a) (at b) e ∙ f) (from_plane (at i) (at j) (at k) (at a) (at c) e ∙ g))
+      where
+        same_side : IsAlong (cross (at i) (at j) (at k)) (cross (at a) (at b) (at c)) ⊎ IsAlong (cross (at i) (at j) (at k)) (cross (at a) (at c) (at b))
+            → IsAlong (cross (at i) (at j) (at k)) (cross (at a) (at b) (at c))
+            × ((l : ℕ) → (vol (at i) (at j) (at k) (at l) ≡ pos 0) ↔ (vol (at a) (at b) (at c) (at l) ≡ pos 0))
+        same_side (inr h) = absurd (not_opposite h)
+        same_side (inl h) = (h, λ l. (zero_along h.s h.t _ _ h.some_t (scale l), zero_along h.t h.s _ _ h.some_s (sym (scale l))))
+          where
+            scale : (l : ℕ) → pos h.s *ℤ vol (at i) (at j) (at k) (at l) ≡ pos h.t *ℤ vol (at a) (at b) (at c) (at l)
+            scale l = vol_along (at i) (at j) (at k) (at a) (at b) (at c) (at l) h e
 
   -- a supporting plane is that of a live facet
   facet_of_plane : (i j k : ℕ) → IsSupportingTriple at (Members ids) i j k → FacetOfPlane at m i j k
-  facet_of_plane i j k t = found (level_member i j k t i (t.has_i, vol-first (at i) (at j) (at k)))
-    where
-      found : CombinationInPlane m P (P i) (P j) (P k) (P i) → FacetOfPlane at m i j k
-      found q =
-          same_side (normal_along (cross (at i) (at j) (at k)) a b c t.area (facet_area q.f q.live)
-          (from_plane (at i) (at j) (at k) a b first ∙ on (m.j q.f) (inr (inl refl)))
-          (from_plane (at i) (at j) (at k) a c first ∙ on (m.k q.f) (inr (inr refl))))
-        where
-          a : Vector
-          a = at (m.i q.f)
-
-          b : Vector
-          b = at (m.j q.f)
-
-          c : Vector
-          c = at (m.k q.f)
-
-          on : (h : ℕ) → IsCorner m q.f h → vol (at i) (at j) (at k) (at h) ≡ pos 0
-          on h c = sym (is_vol i j k h) ∙ q.level h c
-
-          first : vol (at i) (at j) (at k) a ≡ pos 0
-          first = on (m.i q.f) (inl refl)
-
-          same_side : IsAlong (cross (at i) (at j) (at k)) (cross a b c) ⊎ IsAlong (cross (at i) (at j) (at k)) (cross a c b) → FacetOfPlane at m i j k
-          same_side (inr h) = absurd (not_opposite i j k (m.i q.f) (m.j q.f) (m.k q.f) t (facet_supports q.f q.live) first h)
-          same_side (inl h) = record {
-            f = q.f;
-            live = q.live;
-            along = h;
-            same = λ l. (λ e. zero_along h.s h.t _ _ h.some_t (scale l) e, λ e. zero_along h.t h.s _ _ h.some_s (sym (scale l)) e);
-          }
-            where
-              scale : (l : ℕ) → pos h.s *ℤ vol (at i) (at j) (at k) (at l) ≡ pos h.t *ℤ vol a b c (at l)
-              scale l = vol_along (at i) (at j) (at k) a b c (at l) h first
+  facet_of_plane i j k t =
+      let q = level_member i j k t i (t.has_i, vol-first (at i) (at j) (at k)) in
+      let on : (h : ℕ) → IsCorner m q.f h → vol (at i) (at j) (at k) (at h) ≡ pos 0 = λ h c. sym (is_vol i j k h) ∙ q.level h c in
+      let one = one_plane i j k (m.i q.f) (m.j q.f) (m.k q.f) t (facet_supports q.f q.live) (on _ (inl refl)) (on _ (inr (inl refl))) (on _ (inr (inr refl))) in
+      record { f = q.f; live = q.live; along = one.0; same = one.1 }
 
 -- ---- the laws
 pub extremes_are_corners : ExtremesAreCorners

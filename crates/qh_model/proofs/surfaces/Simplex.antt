@@ -9,13 +9,12 @@ use Rattle.qh_model.specs.laws.SurfaceLaws.{SimplexIsSound, MiddleIsBelow}
 use Rattle.qh_model.specs.contract.Surface.Side.{first, second, third}
 use Rattle.std.proofs.Common.{◌∙◌, ◌≡◌, ℕ, refl, sym, subst, arith, ap, [], ◌∷◌, ◌⊎◌, inl, inr}
 use Rattle.std.proofs.lemmas.Int.{ints, by_lt_z}
-use Rattle.std.specs.Prelude.{ℤ, pos, ◌+ℤ◌, ◌*ℤ◌, ◌<ℤ◌, ◌≤ℤ◌}
+use Rattle.std.specs.Prelude.{ℤ, pos, ◌+ℤ◌, ◌<ℤ◌, ◌≤ℤ◌}
 use Rattle.qh_model.proofs.algebra.Ring.{ring}
 use Rattle.qh_model.proofs.surfaces.Determinants.{quad, aboveE, put4, above-together, above-first, above-second, above-third, above-turn_last}
 use Rattle.qh_model.proofs.surfaces.Facets.{rise_own, plane-is}
-use Rattle.qh_model.proofs.surfaces.CramersRule.{cramer}
-use Rattle.qh_model.proofs.algebra.Order.{zero_product, product_zero}
-use Rattle.qh_model.proofs.algebra.Signs.{less_differ}
+use Rattle.qh_model.proofs.surfaces.CramersRule.{cramer_level}
+use Rattle.qh_model.proofs.algebra.Order.{cancel-zero_neg, product_zero}
 use Rattle.qh_model.proofs.surfaces.SimplexBoundary.{simplex_boundary_sound}
 
 -- what holds of 0, 1, 2 and 3
@@ -225,24 +224,23 @@ simplex_sound home a b c d h = (whole a b c d, simplex_boundary_sound (simplex_s
 
 -- the law
 pub middle_is_below : MiddleIsBelow
-middle_is_below a b c s t u v p h hs ht hu hv off = by_lt_z (above a b c (middle_of s t u v)) (pos 0) (λ q. q) (λ q. absurd (never (zeros (above a b c (middle_of s t u v)) (above a b c s) (above a b c t) (above a b c u) (above a b c v) (above-together a b c s t u v) q hs ht hu hv)))
+middle_is_below a b c s t u v p h hs ht hu hv off =
+    by_lt_z (above a b c (middle_of s t u v)) (pos 0) (λ q. q) (λ q. absurd (off (level (zeros _ _ _ _ _ (above-together a b c s t u v) q hs ht hu hv))))
   where
-    zeros : (x a b c d : ℤ) → x ≡ a +ℤ b +ℤ c +ℤ d → pos 0 ≤ℤ x → a ≤ℤ pos 0 → b ≤ℤ pos 0 → c ≤ℤ pos 0 → d ≤ℤ pos 0 → (a ≡ pos 0) × (b ≡ pos 0) × (c ≡ pos 0) × (d ≡ pos 0)
+    zeros : (x a b c d : ℤ) → x ≡ a +ℤ b +ℤ c +ℤ d → pos 0 ≤ℤ x → a ≤ℤ pos 0 → b ≤ℤ pos 0 → c ≤ℤ pos 0 → d ≤ℤ pos 0
+        → (a ≡ pos 0) × (b ≡ pos 0) × (c ≡ pos 0) × (d ≡ pos 0)
     zeros x a b c d e h ha hb hc hd = (omega (arith, ints), omega (arith, ints), omega (arith, ints), omega (arith, ints))
 
-    total : (l a b c d : ℤ) → l ≡ a +ℤ b +ℤ c +ℤ d → a ≡ pos 0 → b ≡ pos 0 → c ≡ pos 0 → d ≡ pos 0 → l ≡ pos 0
-    total l a b c d e ha hb hc hd = omega (arith, ints)
+    n : Weighted
+    n = plane_of a b c
 
-    on : (y : Weighted) → above a b c y ≡ pos 0 → weighted_dot (plane_of a b c) y ≡ pos 0
+    on : (y : Weighted) → above a b c y ≡ pos 0 → weighted_dot n y ≡ pos 0
     on y e = plane-is a b c y ∙ e
 
-    never : (above a b c s ≡ pos 0) × (above a b c t ≡ pos 0) × (above a b c u ≡ pos 0) × (above a b c v ≡ pos 0) → ⊥
-    never z = pick (zero_product (above s t u v) (weighted_dot (plane_of a b c) p) (total (above s t u v *ℤ weighted_dot (plane_of a b c) p) (above p t u v *ℤ weighted_dot (plane_of a b c) s) (above s p u v *ℤ weighted_dot (plane_of a b c) t) (above s t p v *ℤ weighted_dot (plane_of a b c) u) (above s t u p *ℤ weighted_dot (plane_of a b c) v) (cramer (plane_of a b c) s t u v p)
-        (product_zero (above p t u v) (weighted_dot (plane_of a b c) s) (on s z.0)) (product_zero (above s p u v) (weighted_dot (plane_of a b c) t) (on t z.1)) (product_zero (above s t p v) (weighted_dot (plane_of a b c) u) (on u z.2)) (product_zero (above s t u p) (weighted_dot (plane_of a b c) v) (on v z.3))))
-      where
-        pick : (above s t u v ≡ pos 0) ⊎ (weighted_dot (plane_of a b c) p ≡ pos 0) → ⊥
-        pick (inl e) = less_differ (above s t u v) (pos 0) h e
-        pick (inr e) = off (sym (plane-is a b c p) ∙ e)
+    level : (above a b c s ≡ pos 0) × (above a b c t ≡ pos 0) × (above a b c u ≡ pos 0) × (above a b c v ≡ pos 0) → above a b c p ≡ pos 0
+    level z =
+        sym (plane-is a b c p) ∙ cancel-zero_neg (above s t u v) (weighted_dot n p) h
+        (cramer_level n s t u v p (on s z.0) (on t z.1) (on u z.2) ∙ product_zero (above s t u p) _ (on v z.3))
 
 -- the middle is the same in another order
 pub middle-turned : (a b c d : Weighted) → middle_of a c b d ≡ middle_of a b c d
