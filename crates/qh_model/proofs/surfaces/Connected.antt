@@ -15,21 +15,12 @@ use Rattle.qh_model.proofs.surfaces.DrawnInwards.{tilt, above-drawn_all, Choice,
 abbrev pub sees : Surface → (ℕ → Weighted) → Weighted → ℕ → Bool
 sees m home p f = positive (rise m home f p)
 
--- a sum is no less than its first part
-at_least : (a b : ℕ) → a ≤ a + b
-at_least a b = omega arith
-
--- nor than its second
-at_least_second : (a b : ℕ) → b ≤ a + b
-at_least_second a b = omega arith
-
 -- THEOREM: the facets that p sees are all reached from one of them over sides
-pub connected : (m : Surface) (home : ℕ → Weighted) (o : Weighted) → IsWhole m → IsSound m home o → (p : Weighted) (c : ℕ → Bool) → Grown m (sees m home p) c → (f : ℕ) → In f m.live → pos 0 <ℤ rise m home f p → c f ≡ true
+pub connected : (m : Surface) (home : ℕ → Weighted) (o : Weighted) → IsWhole m → IsSound m home o
+    → (p : Weighted) (c : ℕ → Bool) → Grown m (sees m home p) c → (f : ℕ) → In f m.live → pos 0 <ℤ rise m home f p → c f ≡ true
 connected m home o w s p c g f i q =
-    connected_at m (drawn home o l.h n) home o w s.inner (l.strict n (at_least l.from ch.from)) s.distinct (towards o (pos n) p (pos ch.k)) (sees m home p)
-    (λ f j e. ch.up n (at_least_second l.from ch.from) f j (positive-is (rise m home f p) e))
-    (λ f j e. by_lt_z (pos 0) (rise m home f p) (positive-true (rise m home f p)) (λ k. absurd (less_one_way (pos 0) (rise m (drawn home o l.h n) f (towards o (pos n) p (pos ch.k))) e (ch.down n (at_least_second l.from ch.from) f j k))))
-    c g f i (positive-true (rise m home f p) q)
+    connected_at m at home o w s.inner (l.strict n (omega arith)) s.distinct top (sees m home p)
+    (λ f j e. ch.up n (omega arith) f j (positive-is (rise m home f p) e)) drawn_back c g f i (positive-true (rise m home f p) q)
   where
     l : IsStrictWhenDrawn m home o
     l = s.lifted
@@ -40,26 +31,40 @@ connected m home o w s p c g f i q =
     n : ℕ
     n = l.from + ch.from
 
+    at : ℕ → Weighted
+    at = drawn home o l.h n
+
+    top : Weighted
+    top = towards o (pos n) p (pos ch.k)
+
+    drawn_back : (f : ℕ) → In f m.live → pos 0 <ℤ rise m at f top → sees m home p f ≡ true
+    drawn_back f j e =
+        by_lt_z (pos 0) (rise m home f p) (positive-true (rise m home f p)) (λ k. absurd (less_one_way _ _ e (ch.down n (omega arith) f j k)))
+
 -- no corner is above a facet
-pub cert : (m : Surface) (home : ℕ → Weighted) (o : Weighted) → IsStrictWhenDrawn m home o → (f g : ℕ) → In f m.live → In g m.live → (l : ℕ) → IsCorner m g l → rise m home f (home l) ≤ℤ pos 0
+pub cert : (m : Surface) (home : ℕ → Weighted) (o : Weighted) → IsStrictWhenDrawn m home o
+    → (f g : ℕ) → In f m.live → In g m.live → (l : ℕ) → IsCorner m g l → rise m home f (home l) ≤ℤ pos 0
 cert m home o t f g i j l c =
     by_lt_z (pos 0) (rise m home f (home l))
-    (λ q. absurd (not_less (pos 0) (rise m (drawn home o t.h n) f (drawn home o t.h n l))
-    (subst (λ v. pos 0 <ℤ v) (sym value) (mul-pos (pos n *ℤ pos n *ℤ pos n) (pos n *ℤ rise m home f (home l) +ℤ e) (cube (suc (size e)) n big) (scale e (rise m home f (home l)) (suc (size e)) n (under e) big q)))
-    (weak m (drawn home o t.h n) (t.strict n (at_least t.from (suc (suc (size e))))) f g i j l c)))
+    (λ q. absurd (not_less _ _ (drawn_above q) (weak m (drawn home o t.h n) (t.strict n (omega arith)) f g i j l c)))
     (λ q. q)
   where
+    h : ℕ → ℤ
+    h d = pos (t.h d)
+
     e : ℤ
-    e = tilt o (home (m.i f)) (home (m.j f)) (home (m.k f)) (home l) (pos (t.h (m.i f))) (pos (t.h (m.j f))) (pos (t.h (m.k f))) (pos (t.h l))
+    e = tilt o (home (m.i f)) (home (m.j f)) (home (m.k f)) (home l) (h (m.i f)) (h (m.j f)) (h (m.k f)) (h l)
 
     n : ℕ
     n = t.from + suc (suc (size e))
 
-    big : suc (suc (size e)) ≤ n
-    big = at_least_second t.from (suc (suc (size e)))
+    drawn_above : pos 0 <ℤ rise m home f (home l) → pos 0 <ℤ rise m (drawn home o t.h n) f (drawn home o t.h n l)
+    drawn_above q =
+        subst (λ v. pos 0 <ℤ v) (sym value) (mul-pos _ _ (cube (suc (size e)) n (omega arith))
+        (scale e (rise m home f (home l)) (suc (size e)) n (under e) (omega arith) q))
+      where
+        under : (x : ℤ) → neg_ℤ x <ℤ pos (suc (size x))
+        under x = let b = size_le x in omega (arith, ints, b.1)
 
-    under : (x : ℤ) → neg_ℤ x <ℤ pos (suc (size x))
-    under x = let b = size_le x in omega (arith, ints, b.1)
-
-    value : rise m (drawn home o t.h n) f (drawn home o t.h n l) ≡ pos n *ℤ pos n *ℤ pos n *ℤ (pos n *ℤ rise m home f (home l) +ℤ e)
-    value = above-drawn_all o (home (m.i f)) (home (m.j f)) (home (m.k f)) (home l) (pos n) (pos (t.h (m.i f))) (pos (t.h (m.j f))) (pos (t.h (m.k f))) (pos (t.h l))
+        value : rise m (drawn home o t.h n) f (drawn home o t.h n l) ≡ pos n *ℤ pos n *ℤ pos n *ℤ (pos n *ℤ rise m home f (home l) +ℤ e)
+        value = above-drawn_all o (home (m.i f)) (home (m.j f)) (home (m.k f)) (home l) (pos n) (h (m.i f)) (h (m.j f)) (h (m.k f)) (h l)
