@@ -6,7 +6,7 @@ use Rattle.std.specs.Prelude.{ℤ, pos, ◌+ℤ◌, ◌≤ℤ◌, ◌<ℤ◌}
 use Rattle.qh_model.specs.headline.Vector.{Vector}
 use Rattle.qh_model.specs.headline.Predicates.{vol, AreInLine}
 use Rattle.qh_model.specs.headline.Sets.{In, Once}
-use Rattle.qh_model.specs.contract.Weighted.{Weighted, weighted, above}
+use Rattle.qh_model.specs.contract.Weighted.{Weighted, above}
 use Rattle.qh_model.specs.contract.Surface.{Surface, Side, start, end, IsWhole, rise}
 use Rattle.qh_model.specs.contract.Surface.Side.{first, second, third}
 use Rattle.qh_model.specs.contract.SoundSurface.{IsSound, IsInner}

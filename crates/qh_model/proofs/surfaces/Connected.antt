@@ -3,7 +3,7 @@ use Rattle.qh_model.specs.contract.Surface.{IsCorner, Surface, IsWhole, rise}
 use Rattle.qh_model.specs.headline.Sets.{In}
 use Rattle.qh_model.specs.contract.SoundSurface.{IsStrictWhenDrawn, IsSound, drawn, towards}
 use Rattle.qh_model.specs.contract.Weighted.{Weighted}
-use Rattle.std.proofs.Common.{◌≡◌, ℕ, suc, ◌+◌, ◌≤◌, arith, sym, subst, Bool, true}
+use Rattle.std.proofs.Common.{◌≡◌, ℕ, suc, ◌+◌, arith, sym, subst, Bool, true}
 use Rattle.std.proofs.lemmas.Int.{ints, by_lt_z}
 use Rattle.std.specs.Prelude.{ℤ, pos, ◌+ℤ◌, ◌*ℤ◌, neg_ℤ, ◌≤ℤ◌, ◌<ℤ◌}
 use Rattle.qh_model.proofs.algebra.Order.{mul-pos}
