@@ -34,7 +34,8 @@ module _ {at at' : ℕ → Vector} {A B : ℕ → Type 0} {f g : ℕ → ℕ} (r
       lower : (a b : ℕ) → A a → A b → u ≡ f a → v ≡ f b → a < b
       lower a b x y d e = renaming_falls r a b x y (subst (λ t. t < f b) d (subst (λ t. u < t) e h))
 
-      from : (q : List ℕ) × In q qs × (p ≡ map f q) → Follows u v p ⊎ Follows v u p → (a : ℕ) × (b : ℕ) × IsEdge qs a b × (u ≡ f a) × (v ≡ f b)
+      from : (q : List ℕ) × In q qs × (p ≡ map f q) → Follows u v p ⊎ Follows v u p
+          → (a : ℕ) × (b : ℕ) × IsEdge qs a b × (u ≡ f a) × (v ≡ f b)
       from (q, i, s) (inl w) =
           let o = of_follows_map f u v q (subst (Follows u v) s w) in let e = follows_members o.0 o.1 q o.2 in
           (o.0, o.1, (lower o.0 o.1 (within q i o.0 e.0) (within q i o.1 e.1) o.3 o.4, (q, i, inl o.2)), o.3, o.4)

@@ -11,7 +11,8 @@ use Rattle.qh_model.specs.headline.Polygons.{IsFacePolygon, AreFaces, PointsForw
 use Rattle.qh_model.proofs.lists.Images.{in_map, of_map, once_map}
 use Rattle.qh_model.proofs.polygons.Neighbours.{follows_members}
 use Rattle.qh_model.proofs.renamed.Lists.{AreWithin, of_follows_map, least_map, rise_map}
-use Rattle.qh_model.proofs.renamed.Renaming.{IsRenaming, renaming_apart, renaming_back, part_renamed, normal_renamed, volume_renamed, extreme_renamed, extremes_renamed}
+use Rattle.qh_model.proofs.renamed.Renaming.{IsRenaming, renaming_apart, renaming_back, part_renamed, normal_renamed, volume_renamed}
+use Rattle.qh_model.proofs.renamed.Renaming.{extreme_renamed, extremes_renamed}
 
 module _ {at at' : ℕ → Vector} {A B : ℕ → Type 0} {f g : ℕ → ℕ} (r : IsRenaming at at' A B f g) where
   -- a list has the members of A: its image has their names
@@ -55,7 +56,8 @@ module _ {at at' : ℕ → Vector} {A B : ℕ → Type 0} {f g : ℕ → ℕ} (r
           place_w = sym (ap at' last.2 ∙ r.point last.0 (of last.0 last.1))
 
           turned : pos 0 <ℤ left n (at old.0) (at old.1) (at last.0)
-          turned = p.round old.0 old.1 old.2 last.0 last.1 (λ t. not_u (last.2 ∙ ap f t ∙ sym old.3)) (λ t. not_v (last.2 ∙ ap f t ∙ sym old.4))
+          turned =
+              p.round old.0 old.1 old.2 last.0 last.1 (λ t. not_u (last.2 ∙ ap f t ∙ sym old.3)) (λ t. not_v (last.2 ∙ ap f t ∙ sym old.4))
 
   -- a supporting triple by its names
   triple_renamed : (i j k : ℕ) → IsSupportingTriple at A i j k → IsSupportingTriple at' B (f i) (f j) (f k)
@@ -94,7 +96,8 @@ module _ {at at' : ℕ → Vector} {A B : ℕ → Type 0} {f g : ℕ → ℕ} (r
   }
     where
       each : (i j k : ℕ) → IsSupportingTriple at' B i j k → (q : List ℕ) × In q (map (map f) qs) × IsFacePolygon at' B i j k q
-      each i j k t = (map f s.0, in_map (map f) qs s.0 s.1, subst (λ (n : ℕ × ℕ × ℕ). IsFacePolygon at' B n.0 n.1 n.2 (map f s.0)) names polygon)
+      each i j k t =
+          (map f s.0, in_map (map f) qs s.0 s.1, subst (λ (n : ℕ × ℕ × ℕ). IsFacePolygon at' B n.0 n.1 n.2 (map f s.0)) names polygon)
         where
           s : (q : List ℕ) × In q qs × IsFacePolygon at A (g i) (g j) (g k) q
           s = h.each (g i) (g j) (g k) (triple_renamed (renaming_back r) i j k t)

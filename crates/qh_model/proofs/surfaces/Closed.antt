@@ -1,6 +1,7 @@
 -- The live facets of a sound surface are a closed surface: each directed edge is that of one facet at most, and of its
 -- twin the other way round; and its signed volume is below 0.
-use Rattle.std.proofs.Common.{◌≡◌, ℕ, zero, suc, ◌+◌, ◌<◌, ◌≤◌, arith, refl, sym, ap, subst, ◌∙◌, inl, inr, List, [], ◌∷◌, length, Bool, true, false, cond}
+use Rattle.std.proofs.Common.{◌≡◌, ℕ, zero, suc, ◌+◌, ◌<◌, ◌≤◌, arith, refl, sym, ap, subst, ◌∙◌, inl, inr, List, [], ◌∷◌, length, Bool}
+use Rattle.std.proofs.Common.{true, false, cond}
 use Rattle.std.proofs.lemmas.Int.{ints}
 use Rattle.std.specs.Prelude.{ℤ, pos, ◌+ℤ◌, ◌≤ℤ◌, ◌<ℤ◌}
 use Rattle.qh_model.specs.headline.Vector.{Vector}
@@ -48,7 +49,8 @@ module _ (m : Surface) (u v : ℕ) where
   -- an edge that occurs is a side
   side_of : (fs : List ℕ) → 0 < times m fs u v → HasSide m fs u v
   side_of [] h = absurd (omega arith)
-  side_of (f ∷ fs) h = found (is_edge (u, v) (m.i f, m.j f)) refl (is_edge (u, v) (m.j f, m.k f)) refl (is_edge (u, v) (m.k f, m.i f)) refl h (side_of fs)
+  side_of (f ∷ fs) h =
+      found (is_edge (u, v) (m.i f, m.j f)) refl (is_edge (u, v) (m.j f, m.k f)) refl (is_edge (u, v) (m.k f, m.i f)) refl h (side_of fs)
     where
       own : (s : Side) → (start m f s ≡ u) × (end m f s ≡ v) → HasSide m (f ∷ fs) u v
       own s e = record { f = f; s = s; there = inl refl; start_is = e.0; end_is = e.1 }
@@ -56,7 +58,8 @@ module _ (m : Surface) (u v : ℕ) where
       more : HasSide m fs u v → HasSide m (f ∷ fs) u v
       more x = record { f = x.f; s = x.s; there = inr x.there; start_is = x.start_is; end_is = x.end_is }
 
-      found : (a : Bool) → is_edge (u, v) (m.i f, m.j f) ≡ a → (b : Bool) → is_edge (u, v) (m.j f, m.k f) ≡ b → (c : Bool) → is_edge (u, v) (m.k f, m.i f) ≡ c
+      found : (a : Bool) → is_edge (u, v) (m.i f, m.j f) ≡ a → (b : Bool) → is_edge (u, v) (m.j f, m.k f) ≡ b → (c : Bool)
+          → is_edge (u, v) (m.k f, m.i f) ≡ c
           → 0 < cond a 1 0 + (cond b 1 0 + (cond c 1 0 + times m fs u v)) → (0 < times m fs u v → HasSide m fs u v) → HasSide m (f ∷ fs) u v
       found true e b q c r h low = own first (ends_of u v (m.i f) (m.j f) e)
       found false e true q c r h low = own second (ends_of u v (m.j f) (m.k f) q)
@@ -155,7 +158,8 @@ module _ (at : ℕ → Vector) (m : Surface) (s t u v : ℕ) where
       volume l = rise_is_vol (at (m.i f)) (at (m.j f)) (at (m.k f)) (at l)
 
   -- a facet that the middle is strictly below is a triangle
-  pub inner_area : (f : ℕ) → rise m (weighted_at at) f (middle_at at s t u v) <ℤ pos 0 → ¬ (AreInLine (at (m.i f)) (at (m.j f)) (at (m.k f)))
+  pub inner_area : (f : ℕ) → rise m (weighted_at at) f (middle_at at s t u v) <ℤ pos 0
+      → ¬ (AreInLine (at (m.i f)) (at (m.j f)) (at (m.k f)))
   inner_area f h e = zeros_not_negative _ _ _ _ _ (four_volumes f) h (flat s) (flat t) (flat u) (flat v)
     where
       flat : (l : ℕ) → vol (at (m.i f)) (at (m.j f)) (at (m.k f)) (at l) ≡ pos 0
@@ -166,7 +170,8 @@ module _ (at : ℕ → Vector) (m : Surface) (s t u v : ℕ) where
   volumes fs = let volume : ℕ → ℤ = λ l. signed_volume at (triples_from m fs) (at l) in volume s +ℤ volume t +ℤ volume u +ℤ volume v
 
   -- one facet more
-  volumes_more : IsInner m (weighted_at at) (middle_at at s t u v) → (f : ℕ) (fs : List ℕ) → In f m.live → volumes fs ≤ℤ pos 0 → volumes (f ∷ fs) <ℤ pos 0
+  volumes_more : IsInner m (weighted_at at) (middle_at at s t u v) → (f : ℕ) (fs : List ℕ) → In f m.live → volumes fs ≤ℤ pos 0
+      → volumes (f ∷ fs) <ℤ pos 0
   volumes_more z f fs i low =
       let own : ℕ → ℤ = λ l. vol (at (m.i f)) (at (m.j f)) (at (m.k f)) (at l) in
       let rest : ℕ → ℤ = λ l. signed_volume at (triples_from m fs) (at l) in
@@ -177,18 +182,21 @@ module _ (at : ℕ → Vector) (m : Surface) (s t u v : ℕ) where
       added x p q r s a b c d e h k = omega (arith, ints)
 
   -- so the sum is not above 0
-  volumes_below : IsInner m (weighted_at at) (middle_at at s t u v) → (fs : List ℕ) → ((f : ℕ) → In f fs → In f m.live) → volumes fs ≤ℤ pos 0
+  volumes_below : IsInner m (weighted_at at) (middle_at at s t u v) → (fs : List ℕ) → ((f : ℕ) → In f fs → In f m.live)
+      → volumes fs ≤ℤ pos 0
   volumes_below z [] sub = omega (arith, ints)
   volumes_below z (f ∷ fs) sub = less_le _ _ (volumes_more z f fs (sub f (inl refl)) (volumes_below z fs (λ g i. sub g (inr i))))
 
   -- and below 0 where there is a facet
-  volumes_negative : IsInner m (weighted_at at) (middle_at at s t u v) → (f0 : ℕ) (fs : List ℕ) → In f0 fs → ((f : ℕ) → In f fs → In f m.live) → volumes fs <ℤ pos 0
+  volumes_negative : IsInner m (weighted_at at) (middle_at at s t u v) → (f0 : ℕ) (fs : List ℕ) → In f0 fs
+      → ((f : ℕ) → In f fs → In f m.live) → volumes fs <ℤ pos 0
   volumes_negative z f0 [] i sub = absurd i
   volumes_negative z f0 (f ∷ fs) i sub = volumes_more z f fs (sub f (inl refl)) (volumes_below z fs (λ g i. sub g (inr i)))
 
 -- ---- the laws
 -- a triple of the list is that of a facet
-facet_of : (m : Surface) (fs : List ℕ) (t : Triple) → In t (triples_from m fs) → (f : ℕ) × In f fs × (t ≡ record { i = m.i f; j = m.j f; k = m.k f })
+facet_of : (m : Surface) (fs : List ℕ) (t : Triple) → In t (triples_from m fs)
+    → (f : ℕ) × In f fs × (t ≡ record { i = m.i f; j = m.j f; k = m.k f })
 facet_of m [] t i = absurd i
 facet_of m (f ∷ fs) t (inl e) = (f, inl refl, e)
 facet_of m (f ∷ fs) t (inr i) = let r = facet_of m fs t i in (r.0, inr r.1, r.2)
@@ -206,7 +214,8 @@ sound_is_closed at m s t u v f0 i once w z = record {
   closed = closed m (weighted_at at) (middle_at at s t u v) z w once;
 }
   where
-    area : (x : Triple) → (f : ℕ) × In f m.live × (x ≡ record { i = m.i f; j = m.j f; k = m.k f }) → ¬ (AreInLine (at x.i) (at x.j) (at x.k))
+    area : (x : Triple) → (f : ℕ) × In f m.live × (x ≡ record { i = m.i f; j = m.j f; k = m.k f })
+        → ¬ (AreInLine (at x.i) (at x.j) (at x.k))
     area x (f, live, e) = subst (λ y. ¬ (AreInLine (at y.i) (at y.j) (at y.k))) (sym e) (inner_area at m s t u v f (z.inner f live))
 
 -- the law

@@ -6,7 +6,8 @@ use Rattle.std.proofs.Common.{◌≡◌, ◌∙◌, ap, arith}
 use Rattle.std.proofs.lemmas.Int.{ints}
 use Rattle.std.specs.Prelude.{ℤ, pos, ◌+ℤ◌, ◌*ℤ◌, neg_ℤ}
 use Rattle.qh_model.proofs.algebra.Integers.{neg_mul, zero_mul}
-use Rattle.qh_model.proofs.surfaces.Located.{Located, located, first_corner, second_corner, third_corner, first_share, second_share, third_share, shares, mix}
+use Rattle.qh_model.proofs.surfaces.Located.{Located, located, first_corner, second_corner, third_corner, first_share, second_share}
+use Rattle.qh_model.proofs.surfaces.Located.{third_share, shares, mix}
 use Rattle.qh_model.proofs.surfaces.CoveredPlanes.{plane_is_covered}
 use Rattle.qh_model.proofs.algebra.Order.{neg-nonneg, neg-positive}
 
@@ -48,7 +49,8 @@ level_is_combination m home o w z f0 i0 p q r e h unseen =
       v_nonneg = (shares l).1;
       w_nonneg = (shares l).2;
       mix = λ n. let value = weighted_dot n in
-          dropped _ (first_share l *ℤ value (first_corner l)) (second_share l *ℤ value (second_corner l)) (third_share l *ℤ value (third_corner l)) _
+          dropped _ (first_share l *ℤ value (first_corner l)) (second_share l *ℤ value (second_corner l))
+          (third_share l *ℤ value (third_corner l)) _
           (mix l n) (neg_mul (rise m home l.f e) (value o) ∙ ap neg_ℤ (ap (λ v. v *ℤ value o) face.on ∙ zero_mul (value o)));
     }
   where

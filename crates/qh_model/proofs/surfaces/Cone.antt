@@ -8,7 +8,8 @@ use Rattle.std.proofs.Common.{◌≡◌, ◌≢◌, ℕ, ◌+◌, ◌≤◌, ref
 use native.Mathlib.Decide.{ℕ_discrete}
 use Rattle.std.proofs.lemmas.Int.{ints, by_lt_z}
 use Rattle.std.specs.Prelude.{ℤ, pos, ◌-ℤ◌, ◌*ℤ◌, ◌≤ℤ◌, ◌<ℤ◌}
-use Rattle.qh_model.proofs.algebra.Order.{mul-pos, mul-nonneg, mul-nonneg_nonpos, mul-nonpos_nonneg, mul-nonpos, mul-neg_pos, mul-pos_neg, positive_le, negative_le}
+use Rattle.qh_model.proofs.algebra.Order.{mul-pos, mul-nonneg, mul-nonneg_nonpos, mul-nonpos_nonneg, mul-nonpos, mul-neg_pos, mul-pos_neg}
+use Rattle.qh_model.proofs.algebra.Order.{positive_le, negative_le}
 use Rattle.qh_model.proofs.algebra.Signs.{not_less, equal_negative}
 use Rattle.qh_model.proofs.surfaces.Facets.{corner_start, corner_end, corner_rest, corner_cases, corner_test, far_apart, weak, bends}
 use Rattle.qh_model.proofs.surfaces.Facets.{side_rise, far_rise, side_seen, side_blind, side_below, far_seen, far_blind, far_below}
@@ -36,8 +37,10 @@ module _ (ap bp ab ay by py : ℤ) (product : ap *ℤ by -ℤ ay *ℤ bp ≡ ab 
   below_one_plane h k l m n one = other_neg ab py (negative_le ab l) (positive one)
     where
       positive : (ay <ℤ pos 0) ⊎ (pos 0 <ℤ by) → pos 0 <ℤ (ab *ℤ py)
-      positive (inl s) = let x = mul-nonneg ap by (positive_le ap h) n in let y = mul-neg_pos ay bp s k in omega (arith, ints, product, x, y)
-      positive (inr s) = let x = mul-pos ap by h s in let y = mul-nonpos_nonneg ay bp m (positive_le bp k) in omega (arith, ints, product, x, y)
+      positive (inl s) =
+          let x = mul-nonneg ap by (positive_le ap h) n in let y = mul-neg_pos ay bp s k in omega (arith, ints, product, x, y)
+      positive (inr s) =
+          let x = mul-pos ap by h s in let y = mul-nonpos_nonneg ay bp m (positive_le bp k) in omega (arith, ints, product, x, y)
 
   -- strictly below both: then the two planes bend strictly
   below_both_planes : pos 0 <ℤ ap → pos 0 ≤ℤ bp → ab ≤ℤ pos 0 → ay <ℤ pos 0 → pos 0 <ℤ by → (ab <ℤ pos 0) × (py <ℤ pos 0)
@@ -227,7 +230,8 @@ share_other h p k l a = other (ℕ_discrete l p)
     other (no n) = refl
 
 -- ---- what is kept
-module _ {m m' : Surface} {home : ℕ → Weighted} {o : Weighted} {p : ℕ} (w : IsWhole m) (q : IsSound m home o) (r : Replaced m m' home p) where
+module _ {m m' : Surface} {home : ℕ → Weighted} {o : Weighted} {p : ℕ} (w : IsWhole m) (q : IsSound m home o)
+    (r : Replaced m m' home p) where
   -- the point is no corner of the old surface
   pub p_fresh : ¬ (Old m p)
   p_fresh (g, i, c) = not_less (pos 0) (rise m home r.f0 (home p)) r.seen (cert m home o q.lifted r.f0 g r.live i p c)
@@ -270,7 +274,8 @@ module _ {m m' : Surface} {home : ℕ → Weighted} {o : Weighted} {p : ℕ} (w 
 
       kept_as : (n f' : ℕ) → KeptOf m m' home p f' → (y : Weighted) → rise m (drawn home o t.h n) f' y ≡ rise m' (drawn home o h n) f' y
       kept_as n f k y =
-          rw (sym (at_old n (m.i f) (f, k.live, inl refl)), sym (at_old n (m.j f) (f, k.live, inr (inl refl))), sym (at_old n (m.k f) (f, k.live, inr (inr refl))))
+          let same : (l : ℕ) → IsCorner m f l → drawn home o t.h n l ≡ drawn home o h n l = λ l c. sym (at_old n l (f, k.live, c)) in
+          rw (same (m.i f) (inl refl), same (m.j f) (inr (inl refl)), same (m.k f) (inr (inr refl)))
           (kept_rise k (drawn home o h n) y)
 
       strict : (n : ℕ) → t.from ≤ n → ch.from ≤ n → IsStrict m' (drawn home o h n)
@@ -296,7 +301,14 @@ module _ {m m' : Surface} {home : ℕ → Weighted} {o : Weighted} {p : ℕ} (w 
 
               path : apex_rise m at a.f a.s top (at l) ≡ rise m' at' f' (at' l)
               path =
-                  rw (sym (at_old n (start m a.f a.s) (a.f, a.live, corner_start m a.f a.s)), sym (at_old n (end m a.f a.s) (a.f, a.live, corner_end m a.f a.s)), sym (at_p n), sym (at_old n l old))
+                  let same : (l : ℕ) → Old m l → at l ≡ at' l = λ l c. sym (at_old n l c) in
+                  rw (
+                    same (start m a.f a.s) (a.f, a.live, corner_start m a.f a.s),
+                    same (end m a.f a.s)
+                        (a.f, a.live, corner_end m a.f a.s),
+                    sym (at_p n),
+                    same l old,
+                  )
                   (cone_rise a at' (at' l))
 
           below : KeptOf m m' home p f' ⊎ ConeOf m m' home p r.number f' → Old m l ⊎ (l ≡ p) → rise m' at' f' (at' l) <ℤ pos 0

@@ -9,7 +9,8 @@ use Rattle.qh_model.specs.contract.Weighted.{Weighted, above, weighted_dot, plan
 use Rattle.std.proofs.Common.{◌≡◌, ℕ, suc, ◌+◌, ◌≤◌, refl, [], ◌∷◌, arith, ap, sym, ◌∙◌, subst, inl, inr}
 use Rattle.std.proofs.lemmas.Int.{ints, by_lt_z}
 use Rattle.std.specs.Prelude.{ℤ, pos, ◌+ℤ◌, ◌*ℤ◌, neg_ℤ, ◌≤ℤ◌, ◌<ℤ◌}
-use Rattle.qh_model.proofs.algebra.Order.{mul-pos, mul-nonneg_nonpos, cancel-nonpos, cancel-zero, cancel-zero_neg, product_zero, le_antisym, neg-positive, neg-nonneg, positive_le, negative_le}
+use Rattle.qh_model.proofs.algebra.Order.{mul-pos, mul-nonneg_nonpos, cancel-nonpos, cancel-zero, cancel-zero_neg, product_zero, le_antisym}
+use Rattle.qh_model.proofs.algebra.Order.{neg-positive, neg-nonneg, positive_le, negative_le}
 use Rattle.qh_model.proofs.algebra.Ring.{ring}
 use Rattle.qh_model.proofs.algebra.Ring.Expr.{var, add, mul}
 use Rattle.qh_model.proofs.algebra.Signs.{not_less, equal_le, no_sum}
@@ -17,7 +18,7 @@ use Rattle.qh_model.proofs.algebra.Integers.{one_mul, neg_mul, mul_comm}
 use Rattle.qh_model.proofs.surfaces.Facets.{rise_own, sum4, sum_blind, sum_level, level_parts, plane-is}
 use Rattle.qh_model.specs.contract.Surface.Side.{first, second, third}
 use Rattle.qh_model.proofs.surfaces.DrawnInwards.{towardsE, bound, share, scale}
-use Rattle.qh_model.proofs.surfaces.Determinants.{quad, aboveE, put4, above-first, above-second, above-third}
+use Rattle.qh_model.proofs.surfaces.Determinants.{above_of, quad, aboveE, put4, above-first, above-second, above-third}
 use Rattle.qh_model.proofs.surfaces.CramersRule.{cramer_level}
 use Rattle.qh_model.proofs.surfaces.Located.{Located, located, shares, mix}
 
@@ -25,20 +26,23 @@ use Rattle.qh_model.proofs.surfaces.Located.{Located, located, shares, mix}
 pub above-last : (a b c p o : Weighted) (n k : ℤ) → above a b c (towards o n p k) ≡ n *ℤ above a b c p +ℤ k *ℤ above a b c o
 unfolding above
 above-last a b c p o n k =
-    ring (put4 a (put4 b (put4 c (put4 p (put4 o (n ∷ k ∷ [])))))) (aboveE (quad 0) (quad 1) (quad 2) (towardsE (quad 4) (var 20) (quad 3) (var 21)))
-    (add (mul (var 20) (aboveE (quad 0) (quad 1) (quad 2) (quad 3))) (mul (var 21) (aboveE (quad 0) (quad 1) (quad 2) (quad 4)))) refl
+    ring (put4 a (put4 b (put4 c (put4 p (put4 o (n ∷ k ∷ []))))))
+    (aboveE (quad 0) (quad 1) (quad 2) (towardsE (quad 4) (var 20) (quad 3) (var 21)))
+    (add (mul (var 20) (above_of 0 1 2 3)) (mul (var 21) (above_of 0 1 2 4))) refl
 
 -- as the third
 above-middle : (a b c p o : Weighted) (n k : ℤ) → above a b (towards o n p k) c ≡ n *ℤ above a b p c +ℤ k *ℤ above a b o c
 unfolding above
 above-middle a b c p o n k =
-    ring (put4 a (put4 b (put4 c (put4 p (put4 o (n ∷ k ∷ [])))))) (aboveE (quad 0) (quad 1) (towardsE (quad 4) (var 20) (quad 3) (var 21)) (quad 2))
-    (add (mul (var 20) (aboveE (quad 0) (quad 1) (quad 3) (quad 2))) (mul (var 21) (aboveE (quad 0) (quad 1) (quad 4) (quad 2)))) refl
+    ring (put4 a (put4 b (put4 c (put4 p (put4 o (n ∷ k ∷ []))))))
+    (aboveE (quad 0) (quad 1) (towardsE (quad 4) (var 20) (quad 3) (var 21)) (quad 2))
+    (add (mul (var 20) (above_of 0 1 3 2)) (mul (var 21) (above_of 0 1 4 2))) refl
 
 -- ---- what no facet sees is beyond no plane that has the corners and o on one side
 module _ (m : Surface) (home : ℕ → Weighted) (o : Weighted) (w : IsWhole m) (z : IsSound m home o) where
   -- nor is a point that the facet over which it lies doesn't see
-  at_facet : (n x : Weighted) (l : Located m home o x) → HoldsOfCorners m (λ i. weighted_dot n (home i) ≤ℤ pos 0) → weighted_dot n o ≤ℤ pos 0
+  at_facet : (n x : Weighted) (l : Located m home o x) → HoldsOfCorners m (λ i. weighted_dot n (home i) ≤ℤ pos 0)
+      → weighted_dot n o ≤ℤ pos 0
       → rise m home l.f x ≤ℤ pos 0 → pos 0 <ℤ weighted_dot n x → ⊥
   at_facet n x l corners n_o blind beyond =
       no_sum _ _ _ _ _ (mix l n) (mul-pos (neg_ℤ (rise m home l.f o)) (weighted_dot n x) (neg-positive _ (z.inner l.f l.live)) beyond)
@@ -62,7 +66,9 @@ beyond o y k = towards o (pos k) y (neg_ℤ (pos 1))
 module _ (a b c o y : Weighted) (k : ℕ) where
   -- how far it is above a plane
   beyond-is : above a b c (beyond o y k) ≡ pos k *ℤ above a b c y +ℤ neg_ℤ (above a b c o)
-  beyond-is = above-last a b c y o (pos k) (neg_ℤ (pos 1)) ∙ ap (λ v. pos k *ℤ above a b c y +ℤ v) (neg_mul (pos 1) (above a b c o) ∙ ap neg_ℤ (one_mul (above a b c o)))
+  beyond-is =
+      above-last a b c y o (pos k) (neg_ℤ (pos 1)) ∙ ap (λ v. pos k *ℤ above a b c y +ℤ v)
+      (neg_mul (pos 1) (above a b c o) ∙ ap neg_ℤ (one_mul (above a b c o)))
 
   -- a plane that y is on and o strictly below sees it
   pub on_sees_beyond : above a b c y ≡ pos 0 → above a b c o <ℤ pos 0 → pos 0 <ℤ above a b c (beyond o y k)
@@ -74,7 +80,8 @@ module _ (a b c o y : Weighted) (k : ℕ) where
   -- and where one that y isn't above sees it, y is on that, for k large enough
   pub sees_beyond_on : neg_ℤ (above a b c o) <ℤ pos k → above a b c y ≤ℤ pos 0 → pos 0 <ℤ above a b c (beyond o y k) → above a b c y ≡ pos 0
   sees_beyond_on large h sees =
-      not_less_is (λ p. not_positive _ (pos k *ℤ above a b c y) (neg_ℤ (above a b c o)) beyond-is sees (share (neg_ℤ (above a b c o)) (above a b c y) k large p))
+      not_less_is (λ p. not_positive _ (pos k *ℤ above a b c y) (neg_ℤ (above a b c o)) beyond-is sees
+      (share (neg_ℤ (above a b c o)) (above a b c y) k large p))
     where
       not_positive : (x p r : ℤ) → x ≡ p +ℤ r → pos 0 <ℤ x → (r +ℤ p) <ℤ pos 0 → ⊥
       not_positive x p r e h l = omega (arith, ints)
@@ -135,7 +142,10 @@ plane_is_covered m home o w z f0 i0 a b c e (inner, corners, level) settled = re
     y-is p q r = above-last p q r e mid (pos n) (pos 1) ∙ ap (λ v. pos n *ℤ above p q r e +ℤ v) (one_mul (above p q r mid))
 
     plane_x : pos 0 <ℤ above a b c x
-    plane_x = on_sees_beyond a b c o y k (zero _ _ _ (y-is a b c) (product_zero (pos n) _ level) (sum_level a b c a b c (above-first a b c) (above-second a b c) (above-third a b c))) inner
+    plane_x =
+        on_sees_beyond a b c o y k
+        (zero _ _ _ (y-is a b c) (product_zero (pos n) _ level)
+        (sum_level a b c a b c (above-first a b c) (above-second a b c) (above-third a b c))) inner
       where
         zero : (s p q : ℤ) → s ≡ p +ℤ q → p ≡ pos 0 → q ≡ pos 0 → s ≡ pos 0
         zero s p q e a b = omega (arith, ints)
@@ -185,7 +195,8 @@ plane_is_covered m home o w z f0 i0 a b c e (inner, corners, level) settled = re
         level_t d q =
             let v = level_parts i j h a b c blind.0 blind.1 blind.2 (equal_le (pos 0) _ (sym both.1)) in
             cancel-zero_neg (weighted_dot normal o) _ (subst (λ v. v <ℤ pos 0) (sym (plane-is i j h o)) (z.inner t l.live))
-            (mul_comm (weighted_dot normal o) (above a b c (home d)) ∙ sym (cramer_level normal a b c o (home d) (flat a v.0) (flat b v.1) (flat c v.2))
+            (mul_comm (weighted_dot normal o) (above a b c (home d))
+            ∙ sym (cramer_level normal a b c o (home d) (flat a v.0) (flat b v.1) (flat c v.2))
             ∙ product_zero (above a b c o) _ (flat (home d) (rise_own m home t d q)))
           where
             normal : Weighted
@@ -197,9 +208,11 @@ plane_is_covered m home o w z f0 i0 a b c e (inner, corners, level) settled = re
         -- one side, from the located point
         within : (s : Side) → above (home (start m t s)) (home (end m t s)) e o ≤ℤ pos 0
         within s =
-            large (above u v e o) (above u v mid o) (side_bound s) n ((bound (λ f. above (home (start m f s)) (home (end m f s)) mid o) m.live).1 t l.live).1 (within_all side_bound s)
+            large (above u v e o) (above u v mid o) (side_bound s) n
+            ((bound (λ f. above (home (start m f s)) (home (end m f s)) mid o) m.live).1 t l.live).1 (within_all side_bound s)
             (subst (λ v. v ≤ℤ pos 0) (one _ _ (above u v mid o) (above-middle u v o e mid (pos n) (pos 1)))
-            (cancel-nonpos (pos k) (above u v y o) k_pos (subst (λ v. v ≤ℤ pos 0) (none _ _ _ (above-third u v o) (above-middle u v o y o (pos k) (neg_ℤ (pos 1)))) (l.within s))))
+            (cancel-nonpos (pos k) (above u v y o) k_pos
+            (subst (λ v. v ≤ℤ pos 0) (none _ _ _ (above-third u v o) (above-middle u v o y o (pos k) (neg_ℤ (pos 1)))) (l.within s))))
           where
             u : Weighted
             u = home (start m t s)

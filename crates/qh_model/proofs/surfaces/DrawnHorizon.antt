@@ -13,7 +13,9 @@ use Rattle.qh_model.proofs.algebra.Ring.{ring}
 use Rattle.qh_model.proofs.algebra.Ring.Expr.{var, sub as less, mul, neg}
 use Rattle.qh_model.proofs.algebra.Signs.{less_one_way, equal_negative, opposite_positive, opposite_negative}
 use Rattle.qh_model.proofs.surfaces.VisibleFacets.{Least, least}
-use Rattle.qh_model.proofs.surfaces.Facets.{rise_over, positive, positive-is, positive-true, corner_end, corner_rest, corner_test, ends_differ, rest_differs}
+use Rattle.qh_model.proofs.surfaces.Facets.{rise_over, corner_end, corner_rest, corner_test}
+use Rattle.qh_model.proofs.surfaces.Facets.{ends_differ, rest_differs}
+use Rattle.qh_model.proofs.surfaces.Connected.{positive, positive-is, positive-true}
 use Rattle.qh_model.proofs.surfaces.FacetSides.{side_next, start_next, end_next, from, from_is}
 use Rattle.qh_model.proofs.surfaces.Determinants.{above-turn, swap24, turned_first}
 use Rattle.qh_model.proofs.surfaces.PlanesThroughLine.{line_product}
@@ -51,7 +53,8 @@ module _ (m : Surface) (home : ℕ → Weighted) (o : Weighted) (c : Scene m hom
           less_one_way _ _
           (opposite_positive _ _ (swap24 (c.at (start m f s)) (c.at (end m f s)) c.top (c.at (end m g t)))
           (subst (λ u. above (c.at u) (c.at (end m g t)) c.top (c.at (end m f s)) <ℤ pos 0) (sym e)
-          (horizon_below g t b (end m f s) (f, a.live, corner_end m f s) (λ q. ends_differ m home o c.sound.inner f a.live s (e ∙ sym q)) n)))
+          (horizon_below g t b (end m f s) (f, a.live, corner_end m f s)
+          (λ q. ends_differ m home o c.sound.inner f a.live s (e ∙ sym q)) n)))
           (horizon_below f s a (end m g t) (g, b.live, corner_end m g t)
           (λ q. ends_differ m home o c.sound.inner g b.live t (sym e ∙ sym q)) (λ q. n (sym q)))
 
@@ -145,7 +148,8 @@ horizon_next m home o c f s r = found (least mark p q m.live (λ g i e. p_pos g 
     -- the way back over the horizon side is no seen facet's
     out_not_u : (g : ℕ) → In g m.live → mark g ≡ true → out g ≢ u
     out_not_u g i e k =
-        let one = edge_once m home o c.sound g (m.over f s) i t.live (from m g v) (m.back f s) (starts g e ∙ sym t.start_is) (k ∙ sym t.end_is) in
+        let one = edge_once m home o c.sound g (m.over f s) i t.live (from m g v) (m.back f s) (starts g e ∙ sym t.start_is)
+        (k ∙ sym t.end_is) in
         less_one_way _ _ (seen g e) (subst (λ h. rise m at h top <ℤ pos 0) (sym one) r.blind)
 
     below : (l : ℕ) → Old m l → l ≢ u → l ≢ v → round u (at l) <ℤ pos 0
@@ -180,7 +184,9 @@ horizon_next m home o c f s r = found (least mark p q m.live (λ g i e. p_pos g 
         g'_marked = marked g' k (subst (IsCorner m g') ends_at_v (corner_end m g' (m.back g d)))
 
         turn : from m g' v ≡ side_next (m.back g d)
-        turn = side_once m home o c.sound.inner g' twin.live (from m g' v) (side_next (m.back g d)) (starts g' g'_marked ∙ sym ends_at_v ∙ sym (start_next m g' (m.back g d)))
+        turn =
+            side_once m home o c.sound.inner g' twin.live (from m g' v) (side_next (m.back g d))
+            (starts g' g'_marked ∙ sym ends_at_v ∙ sym (start_next m g' (m.back g d)))
 
         out' : out g' ≡ far m g d
         out' = ap (end m g') turn ∙ end_next m g' (m.back g d)
@@ -217,4 +223,9 @@ horizon_next m home o c f s r = found (least mark p q m.live (λ g i e. p_pos g 
 
         last : (pos 0 <ℤ rise m at (m.over l.m d) top) ⊎ (rise m at (m.over l.m d) top <ℤ pos 0) → Joined m at top v
         last (inl k) = let h = further l.m l.there l.marked d refl k in absurd (l.least (m.over l.m d) (c.whole l.m l.there d).live h.0 h.1)
-        last (inr k) = record { f = l.m; s = d; horizon = record { live = l.there; seen = seen l.m l.marked; blind = k }; starts = starts l.m l.marked }
+        last (inr k) = record {
+          f = l.m;
+          s = d;
+          horizon = record { live = l.there; seen = seen l.m l.marked; blind = k };
+          starts = starts l.m l.marked;
+        }

@@ -18,7 +18,8 @@ use Rattle.qh_model.proofs.surfaces.Finished.{one_plane, unseen_above, facets_su
 -- the law
 pub level_facets_span : LevelFacetsSpan
 level_facets_span at ids m z f g live live' level =
-    let one = one_plane at ids m z (m.i f) (m.j f) (m.k f) (m.i g) (m.j g) (m.k g) (facets_support at ids m z f live) (facets_support at ids m z g live')
+    let one = one_plane at ids m z (m.i f) (m.j f) (m.k f) (m.i g) (m.j g) (m.k g) (facets_support at ids m z f live)
+    (facets_support at ids m z g live')
     (level (m.i g) (inl refl)) (level (m.j g) (inr (inl refl))) (level (m.k g) (inr (inr refl))) in
     record { along = one.0; same = one.1 }
 
@@ -56,16 +57,19 @@ module _ (at : ℕ → Vector) (ids : List ℕ) (m : Surface) (z : IsFinished at
   -- a facet that sees it is in the plane
   seen_level : (g : ℕ) → In g m.live → Sees m home g little_beyond → IsLevelFacet at m g f
   seen_level g i sees =
-      let z = level_parts _ _ _ _ _ _ (corner_below (m.i f) (inl refl)) (corner_below (m.j f) (inr (inl refl))) (corner_below (m.k f) (inr (inr refl))) (equal_le _ _ (sym flat)) in
+      let z = level_parts _ _ _ _ _ _ low.0 low.1 low.2 (equal_le _ _ (sym flat)) in
       of_corners m f (IsLevelWith at m g) (level (m.i f) z.0) (level (m.j f) z.1) (level (m.k f) z.2)
     where
       corner_below : (l : ℕ) → IsCorner m f l → rise m home g (home l) ≤ℤ pos 0
       corner_below l c = unseen_above at ids m z g i l (z.corners f live l c)
 
+      low : (rise m home g (home (m.i f)) ≤ℤ pos 0) × (rise m home g (home (m.j f)) ≤ℤ pos 0) × (rise m home g (home (m.k f)) ≤ℤ pos 0)
+      low = (corner_below (m.i f) (inl refl), corner_below (m.j f) (inr (inl refl)), corner_below (m.k f) (inr (inr refl)))
+
       flat : rise m home g (middle m home f) ≡ pos 0
       flat =
           sees_beyond_on _ _ _ o (middle m home f) b ((bound (λ g. rise m home g o) m.live).1 g i).1
-          (sum_blind _ _ _ _ _ _ (corner_below (m.i f) (inl refl)) (corner_below (m.j f) (inr (inl refl))) (corner_below (m.k f) (inr (inr refl)))) sees
+          (sum_blind _ _ _ _ _ _ low.0 low.1 low.2) sees
 
       level : (l : ℕ) → rise m home g (home l) ≡ pos 0 → IsLevelWith at m g l
       level l e = sym (rise_is_vol (at (m.i g)) (at (m.j g)) (at (m.k g)) (at l)) ∙ e

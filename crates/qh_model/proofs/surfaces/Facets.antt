@@ -5,21 +5,16 @@ use Rattle.qh_model.specs.steps.FarCorners.{far}
 use Rattle.qh_model.specs.contract.SoundSurface.{HasDistinctFacets, IsInner, IsStrict}
 use Rattle.qh_model.specs.headline.Sets.{In}
 use Rattle.qh_model.specs.contract.Weighted.{Weighted, above, weighted_dot, plane_of}
-use Rattle.std.proofs.Common.{◌≡◌, ◌≢◌, ℕ, zero, suc, refl, [], arith, ap, sym, ◌∙◌, subst, Bool, true, false, ◌⊎◌, inl, inr}
+use Rattle.std.proofs.Common.{◌≡◌, ◌≢◌, ℕ, refl, [], arith, sym, ◌∙◌, subst, ◌⊎◌, inl, inr}
 use native.Mathlib.Decide.{ℕ_discrete}
 use Rattle.std.proofs.lemmas.Int.{ints, by_lt_z}
-use Rattle.std.proofs.lemmas.Bool.{and_parts, both_ways, not-true}
-use Rattle.std.specs.Prelude.{ℤ, pos, negsuc, ◌+ℤ◌, neg_ℤ, ◌≤ℤ◌, ◌<ℤ◌, ◌&&◌, not}
+use Rattle.std.specs.Prelude.{ℤ, pos, ◌+ℤ◌, neg_ℤ, ◌≤ℤ◌, ◌<ℤ◌}
 use Rattle.qh_model.proofs.algebra.Ring.{Expr, ring}
 use Rattle.qh_model.proofs.algebra.Ring.Expr.{add}
-use Rattle.qh_model.proofs.algebra.Signs.{less_differ, less_one_way, equal_le, sum_nonpos, sum_parts, sum_zero, equal_nonpos, equal_negative, equal_positive, opposite_nonneg, opposite_positive, opposite_negative}
+use Rattle.qh_model.proofs.algebra.Signs.{less_differ, less_one_way, equal_le, sum_nonpos, sum_parts, sum_zero, equal_nonpos}
+use Rattle.qh_model.proofs.algebra.Signs.{equal_negative, equal_positive, opposite_nonneg, opposite_positive, opposite_negative}
 use Rattle.qh_model.proofs.algebra.Order.{negative_le}
 use Rattle.qh_model.proofs.surfaces.Determinants.{QE, put4, quad, dot4E, above-turn, above-flip, above-first, above-second, above-third}
-use Rattle.qh_model.proofs.surfaces.VisibleFacets.{Corners, Over, Cut, none_cut_off}
-
--- the corners of a facet at their places
-abbrev pub placed : Surface → (ℕ → Weighted) → ℕ → Corners
-placed m at f = record { a = at (m.i f); b = at (m.j f); c = at (m.k f) }
 
 -- what holds of the corners one by one holds of all
 pub of_corners : (m : Surface) (f : ℕ) (P : ℕ → Type 0) → P (m.i f) → P (m.j f) → P (m.k f) → (l : ℕ) → IsCorner m f l → P l
@@ -163,6 +158,11 @@ rise_own m at f =
     let a = at (m.i f) in let b = at (m.j f) in let c = at (m.k f) in
     of_corners m f (λ l. rise m at f (at l) ≡ pos 0) (above-first a b c) (above-second a b c) (above-third a b c)
 
+-- the plane measures how far a point is above it
+pub plane-is : (a b c y : Weighted) → weighted_dot (plane_of a b c) y ≡ above a b c y
+unfolding above
+plane-is a b c y = refl
+
 -- ---- sums of three points
 -- the sum
 pub sum4 : Weighted → Weighted → Weighted → Weighted
@@ -222,12 +222,13 @@ module _ (m : Surface) (at : ℕ → Weighted) (h : IsStrict m at) (f g : ℕ) (
       either (inr k) = absurd (less_differ _ _ (h f g i j l c k) e)
 
   -- no facet's middle is above a facet
-  middle_weak : rise m at f (middle m at g) ≤ℤ pos 0
+  pub middle_weak : rise m at f (middle m at g) ≤ℤ pos 0
   middle_weak = sum_blind _ _ _ _ _ _ (weak (m.i g) (inl refl)) (weak (m.j g) (inr (inl refl))) (weak (m.k g) (inr (inr refl)))
 
   -- a facet's middle is strictly below each other facet
-  middle_below : HasDistinctFacets m → g ≢ f → rise m at f (middle m at g) <ℤ pos 0
-  middle_below d n = by_lt_z (rise m at f (middle m at g)) (pos 0) (λ q. q) (λ q. absurd (n (d g f j i (λ l c. corner_on l c (level q l c)))))
+  pub middle_below : HasDistinctFacets m → g ≢ f → rise m at f (middle m at g) <ℤ pos 0
+  middle_below d n =
+      by_lt_z (rise m at f (middle m at g)) (pos 0) (λ q. q) (λ q. absurd (n (d g f j i (λ l c. corner_on l c (level q l c)))))
     where
       level : pos 0 ≤ℤ rise m at f (middle m at g) → (l : ℕ) → IsCorner m g l → rise m at f (at l) ≡ pos 0
       level q =
@@ -240,114 +241,3 @@ pub bends : (m : Surface) (at : ℕ → Weighted) (real : ℕ → Weighted) (c :
 bends m at real c w n h f i s =
     side_below m at f s (at (far m f s))
     (h f (m.over f s) i (w f i s).live (far m f s) (corner_rest m (m.over f s) (m.back f s)) (far_apart m real c w n f i s))
-
--- ---- connectedness over weighted points
--- is a number above 0?
-pub positive : ℤ → Bool
-positive (pos zero) = false
-positive (pos (suc n)) = true
-positive (negsuc n) = false
-
--- the test is right
-pub positive-is : (x : ℤ) → positive x ≡ true → pos 0 <ℤ x
-unfolding positive
-positive-is (pos zero) e = absurd (both_ways true (sym e) refl)
-positive-is (pos (suc n)) e = omega (arith, ints)
-positive-is (negsuc n) e = absurd (both_ways true (sym e) refl)
-
--- and finds all
-pub positive-true : (x : ℤ) → pos 0 <ℤ x → positive x ≡ true
-unfolding positive
-positive-true (pos zero) h = absurd (omega (arith, ints))
-positive-true (pos (suc n)) h = refl
-positive-true (negsuc n) h = absurd (omega (arith, ints))
-
--- the facets that see p: a first one, and any set of facets that has it and, with a facet, each neighbour that sees p
-pub record Grown (m : Surface) (sees : ℕ → Bool) (c : ℕ → Bool) : Type 0 where
-  pub f0 : ℕ
-  pub live : In f0 m.live
-  pub sees_p : sees f0 ≡ true
-  pub has : c f0 ≡ true
-  pub grows : (f : ℕ) → In f m.live → (s : Side) → c f ≡ true → sees (m.over f s) ≡ true → c (m.over f s) ≡ true
-
--- the plane measures how far a point is above it
-pub plane-is : (a b c y : Weighted) → weighted_dot (plane_of a b c) y ≡ above a b c y
-unfolding above
-plane-is a b c y = refl
-
--- the facets that see a point are all reached, where all is strict
-pub connected_at : (m : Surface) (at : ℕ → Weighted) (real : ℕ → Weighted) (o : Weighted) → IsWhole m → IsInner m real o → IsStrict m at → HasDistinctFacets m
-    → (p : Weighted) (sees : ℕ → Bool) → ((f : ℕ) → In f m.live → sees f ≡ true → pos 0 <ℤ rise m at f p)
-    → ((f : ℕ) → In f m.live → pos 0 <ℤ rise m at f p → sees f ≡ true)
-    → (c : ℕ → Bool) → Grown m sees c → (f : ℕ) → In f m.live → sees f ≡ true → c f ≡ true
-connected_at m at real o w n h d p sees up down c r f i e = reached (c f) refl
-  where
-    mark : ℕ → Bool
-    mark g = sees g && not (c g)
-
-    y : Weighted
-    y = middle m at r.f0
-
-    normal : Weighted
-    normal = plane_of (at (m.i r.f0)) (at (m.j r.f0)) (at (m.k r.f0))
-
-    marked : (g : ℕ) → sees g ≡ true → c g ≡ false → mark g ≡ true
-    marked g a b = rw (a, b) refl
-
-    parts : (g : ℕ) → mark g ≡ true → (sees g ≡ true) × (c g ≡ false)
-    parts g k = let b = and_parts (sees g) (not (c g)) k in (b.0, not-true (c g) b.1)
-
-    apart : (g : ℕ) → mark g ≡ true → r.f0 ≢ g
-    apart g k q = both_ways (c g) (parts g k).1 (ap c (sym q) ∙ r.has)
-
-    joined : (g : ℕ) → In g m.live → mark g ≡ true → (s : Side) → pos 0 <ℤ rise m at (m.over g s) p → mark (m.over g s) ≡ true
-    joined g j k s q = marked (m.over g s) sees_g (left_out (c (m.over g s)) refl)
-      where
-        t : HasTwin m g s
-        t = w g j s
-
-        sees_g : sees (m.over g s) ≡ true
-        sees_g = down (m.over g s) t.live q
-
-        left_out : (b : Bool) → c (m.over g s) ≡ b → c (m.over g s) ≡ false
-        left_out false z = z
-        left_out true z =
-            let comes_back = r.grows (m.over g s) t.live (m.back g s) z (ap sees t.returns ∙ (parts g k).0) in
-            absurd (both_ways (c g) (parts g k).1 (ap c (sym t.returns) ∙ comes_back))
-
-    side : (g : ℕ) → In g m.live → mark g ≡ true → (s : Side) → Over (placed m at) m.live mark y p g (at (start m g s)) (at (end m g s)) (at (rest m g s))
-    side g j k s =
-        record {
-          g = m.over g s;
-          b = at (far m g s);
-          live_g = (w g j s).live;
-          at_f = λ z. rise_side m at g s z;
-          at_g = λ z. rise_over m at w g j s z;
-          bends = bends m at real o w n h g j s;
-          under = middle_weak m at h (m.over g s) r.f0 (w g j s).live r.live;
-          joined = joined g j k s;
-        }
-
-    cut : (g : ℕ) → In g m.live → mark g ≡ true → Cut (placed m at) m.live mark normal y p g
-    cut g j k =
-        record {
-          sees = up g j (parts g k).0;
-          below = middle_below m at h g r.f0 j r.live d (apart g k);
-          under_a = normal_le (at (m.i g)) (weak m at h r.f0 g r.live j (m.i g) (inl refl));
-          under_b = normal_le (at (m.j g)) (weak m at h r.f0 g r.live j (m.j g) (inr (inl refl)));
-          under_c = normal_le (at (m.k g)) (weak m at h r.f0 g r.live j (m.k g) (inr (inr refl)));
-          ab = side g j k first;
-          bc = side g j k second;
-          ca = side g j k third;
-        }
-      where
-        normal_le : (z : Weighted) → rise m at r.f0 z ≤ℤ pos 0 → weighted_dot normal z ≤ℤ pos 0
-        normal_le z q = subst (λ v. v ≤ℤ pos 0) (sym (plane-is (at (m.i r.f0)) (at (m.j r.f0)) (at (m.k r.f0)) z)) q
-
-    reached : (b : Bool) → c f ≡ b → c f ≡ true
-    reached true q = q
-    reached false q =
-        absurd (none_cut_off (placed m at) m.live mark normal y p
-        (subst (λ v. pos 0 <ℤ v) (sym (plane-is (at (m.i r.f0)) (at (m.j r.f0)) (at (m.k r.f0)) p)) (up r.f0 r.live r.sees_p))
-        (plane-is (at (m.i r.f0)) (at (m.j r.f0)) (at (m.k r.f0)) y ∙ middle_on m at r.f0)
-        cut f i (marked f e q))

@@ -15,7 +15,8 @@ use Rattle.qh_model.specs.contract.Weighted.{Weighted, weighted, weighted_dot, a
 use Rattle.qh_model.specs.contract.Surface.{Surface, IsCorner, rise}
 use Rattle.qh_model.specs.laws.CoveredPoints.{CombinationWithInner, CombinationInPlane}
 use Rattle.qh_model.specs.contract.FinishedSurface.{weighted_at, middle_at, IsFinished}
-use Rattle.qh_model.specs.laws.CompletenessLaws.{FacetsSupport, IsLiveCorner, ExtremesAreCorners, CornerInPlane, ExtremesOfPlaneAreCorners, FacetOfPlane, PlanesHaveFacets}
+use Rattle.qh_model.specs.laws.CompletenessLaws.{FacetsSupport, IsLiveCorner, ExtremesAreCorners, CornerInPlane, ExtremesOfPlaneAreCorners}
+use Rattle.qh_model.specs.laws.CompletenessLaws.{FacetOfPlane, PlanesHaveFacets}
 use Rattle.qh_model.proofs.algebra.Order.{mul-pos, mul-nonneg_nonpos, le_antisym}
 use Rattle.qh_model.proofs.algebra.Ring.{ring}
 use Rattle.qh_model.proofs.algebra.Ring.Expr.{var, con, add, sub as less, mul}
@@ -51,7 +52,8 @@ separated at ids l e =
     let others = listed_part (Members ids) (λ j. j ≢ l) (apart l) ids (listed_itself ids) in
     sides (alternative_in at (Others (Members ids) l) others.0 others.1 (at l))
   where
-    sides : Combination at (Others (Members ids) l) (at l) ⊎ Separator at (Others (Members ids) l) (at l) → Separator at (Others (Members ids) l) (at l)
+    sides : Combination at (Others (Members ids) l) (at l) ⊎ Separator at (Others (Members ids) l) (at l)
+        → Separator at (Others (Members ids) l) (at l)
     sides (inl c) = absurd (e.1 c)
     sides (inr s) = s
 
@@ -75,7 +77,8 @@ abbrev below_level : Vector → ℤ → Weighted
 below_level w L = record { w = pos 1 -ℤ pos 4 *ℤ L; x = pos 4 *ℤ w.x; y = pos 4 *ℤ w.y; z = pos 4 *ℤ w.z }
 
 -- how far a point is beyond it
-below_level-point : (w : Vector) (L : ℤ) (p : Vector) → weighted_dot (below_level w L) (weighted p) ≡ pos 4 *ℤ dot w p +ℤ (pos 1 -ℤ pos 4 *ℤ L)
+below_level-point : (w : Vector) (L : ℤ) (p : Vector)
+    → weighted_dot (below_level w L) (weighted p) ≡ pos 4 *ℤ dot w p +ℤ (pos 1 -ℤ pos 4 *ℤ L)
 below_level-point w L p =
     let W = vec 0 in let P = vec 1 in let four = mul (con (pos 4)) in let weight = less (con (pos 1)) (four (var 6)) in
     ring (put w (put p (L ∷ [])))
@@ -144,14 +147,16 @@ module _ (at : ℕ → Vector) (ids : List ℕ) (m : Surface) (z : IsFinished at
 
       middle_low : weighted_dot n o ≤ℤ pos 0
       middle_low =
-          one_far_below (weighted_dot n o) (height z.s) (height z.t) (height z.u) (height z.v) (dot-together n (P z.s) (P z.t) (P z.u) (P z.v))
+          one_far_below (weighted_dot n o) (height z.s) (height z.t) (height z.u) (height z.v)
+          (dot-together n (P z.s) (P z.t) (P z.u) (P z.v))
           (one_low (ℕ_discrete z.s l) (ℕ_discrete z.t l))
           (at_most z.s z.has_s) (at_most z.t z.has_t) (at_most z.u z.has_u) (at_most z.v z.has_v)
 
       decide : IsCorner m q.f l ⊎ (¬ (IsCorner m q.f l)) → IsCorner m q.f l
       decide (inl c) = c
       decide (inr c) =
-          absurd (no_sum (q.all *ℤ height l) _ _ _ _ (q.mix n) (mul-pos q.all (height l) q.all_pos (subst (λ x. pos 0 <ℤ x) (sym own) (omega (arith, ints))))
+          absurd (no_sum (q.all *ℤ height l) _ _ _ _ (q.mix n)
+          (mul-pos q.all (height l) q.all_pos (subst (λ x. pos 0 <ℤ x) (sym own) (omega (arith, ints))))
           (share q.u (m.i q.f) q.u_nonneg (inl refl)) (share q.v (m.j q.f) q.v_nonneg (inr (inl refl)))
           (share q.w (m.k q.f) q.w_nonneg (inr (inr refl))) (mul-nonneg_nonpos q.t (weighted_dot n o) q.t_nonneg middle_low))
         where
@@ -263,7 +268,8 @@ module _ (at : ℕ → Vector) (ids : List ℕ) (m : Surface) (z : IsFinished at
         same_side (normal_along (cross (at i) (at j) (at k)) (at a) (at b) (at c) t.area r.area
         (from_plane (at i) (at j) (at k) (at a) (at b) e ∙ f) (from_plane (at i) (at j) (at k) (at a) (at c) e ∙ g))
       where
-        same_side : IsAlong (cross (at i) (at j) (at k)) (cross (at a) (at b) (at c)) ⊎ IsAlong (cross (at i) (at j) (at k)) (cross (at a) (at c) (at b))
+        same_side : IsAlong (cross (at i) (at j) (at k)) (cross (at a) (at b) (at c))
+            ⊎ IsAlong (cross (at i) (at j) (at k)) (cross (at a) (at c) (at b))
             → IsAlong (cross (at i) (at j) (at k)) (cross (at a) (at b) (at c))
             × ((l : ℕ) → (vol (at i) (at j) (at k) (at l) ≡ pos 0) ↔ (vol (at a) (at b) (at c) (at l) ≡ pos 0))
         same_side (inr h) = absurd (not_opposite h)
@@ -277,7 +283,8 @@ module _ (at : ℕ → Vector) (ids : List ℕ) (m : Surface) (z : IsFinished at
   facet_of_plane i j k t =
       let q = level_member i j k t i (t.has_i, vol-first (at i) (at j) (at k)) in
       let on : (h : ℕ) → IsCorner m q.f h → vol (at i) (at j) (at k) (at h) ≡ pos 0 = λ h c. sym (is_vol i j k h) ∙ q.level h c in
-      let one = one_plane i j k (m.i q.f) (m.j q.f) (m.k q.f) t (facet_supports q.f q.live) (on _ (inl refl)) (on _ (inr (inl refl))) (on _ (inr (inr refl))) in
+      let one = one_plane i j k (m.i q.f) (m.j q.f) (m.k q.f) t (facet_supports q.f q.live) (on _ (inl refl)) (on _ (inr (inl refl)))
+      (on _ (inr (inr refl))) in
       record { f = q.f; live = q.live; along = one.0; same = one.1 }
 
 -- ---- the laws

@@ -6,14 +6,16 @@ use Rattle.qh_model.specs.contract.Weighted.{Weighted}
 use Rattle.std.proofs.Common.{◌≡◌, ◌≢◌, ℕ, refl, arith, ap, sym, ◌∙◌, subst, ◌⊎◌, inl, inr}
 use Rattle.std.proofs.lemmas.Int.{ints}
 use Rattle.std.specs.Prelude.{ℤ, pos, neg_ℤ, ◌≤ℤ◌, ◌<ℤ◌}
-use Rattle.qh_model.proofs.surfaces.Facets.{side_rise, side_below, corner_start, corner_end, corner_rest, corner_cases, corner_test, ends_differ}
+use Rattle.qh_model.proofs.surfaces.Facets.{side_rise, side_below, corner_start, corner_end, corner_rest, corner_cases, corner_test}
+use Rattle.qh_model.proofs.surfaces.Facets.{ends_differ}
 use Rattle.qh_model.specs.contract.Surface.Side.{first, second, third}
 use Rattle.qh_model.proofs.algebra.Signs.{not_less}
 use Rattle.qh_model.proofs.surfaces.Determinants.{above-swap_last}
 use Rattle.qh_model.proofs.surfaces.Cone.{KeptOf, ConeOf, Replaced, Old, p_fresh, kept_corner, corner_kept, inner_kept, lifted_kept}
 
 -- all corners of a facet from those of a side
-from_side : (m : Surface) (f : ℕ) (s : Side) (P : ℕ → Type 0) → P (start m f s) → P (end m f s) → P (rest m f s) → (l : ℕ) → IsCorner m f l → P l
+from_side : (m : Surface) (f : ℕ) (s : Side) (P : ℕ → Type 0) → P (start m f s) → P (end m f s) → P (rest m f s) → (l : ℕ) → IsCorner m f l
+    → P l
 from_side m f s P a b c l k = one (corner_cases m f s l k)
   where
     one : (l ≡ start m f s) ⊎ (l ≡ end m f s) ⊎ (l ≡ rest m f s) → P l
@@ -77,7 +79,8 @@ two_places x y z u v a b c (inl p) (inr q) (inr r) = b (q ∙ sym r)
 two_places x y z u v a b c (inr p) (inl q) (inl r) = b (q ∙ sym r)
 two_places x y z u v a b c (inr p) (inl q) (inr r) = c (r ∙ sym p)
 
-module _ {m m' : Surface} {home : ℕ → Weighted} {o : Weighted} {p : ℕ} (w : IsWhole m) (q : IsSound m home o) (r : Replaced m m' home p) where
+module _ {m m' : Surface} {home : ℕ → Weighted} {o : Weighted} {p : ℕ} (w : IsWhole m) (q : IsSound m home o)
+    (r : Replaced m m' home p) where
   -- the facets still differ
   distinct_kept : HasDistinctFacets m'
   distinct_kept f' g' i j within = same (r.origin f' i) (r.origin g' j)
@@ -98,7 +101,9 @@ module _ {m m' : Surface} {home : ℕ → Weighted} {o : Weighted} {p : ℕ} (w 
           one l c = end_of n l (f', k.live, c) (within l (kept_corner k l c))
 
       cone_cone : ConeOf m m' home p r.number f' → ConeOf m m' home p r.number g' → f' ≡ g'
-      cone_cone a b = one_side (ends (start m a.f a.s) (corner_start m a.f a.s) (inl (sym a.i_is))) (ends (end m a.f a.s) (corner_end m a.f a.s) (inr (inl (sym a.j_is))))
+      cone_cone a b =
+          one_side (ends (start m a.f a.s) (corner_start m a.f a.s) (inl (sym a.i_is)))
+          (ends (end m a.f a.s) (corner_end m a.f a.s) (inr (inl (sym a.j_is))))
         where
           ends : (l : ℕ) → IsCorner m a.f l → IsCorner m' f' l → (l ≡ start m b.f b.s) ⊎ (l ≡ end m b.f b.s)
           ends l c c' = end_of b l (a.f, a.live, c) (within l c')
@@ -116,7 +121,8 @@ module _ {m m' : Surface} {home : ℕ → Weighted} {o : Weighted} {p : ℕ} (w 
               let sides = side_once m home o q.inner b.f b.live a.s b.s (ap (λ f. start m f a.s) (sym e) ∙ x) in
               a.number_is ∙ (λ k. r.number (e k) (sides k)) ∙ sym b.number_is
           one_side (inr x) (inl y) =
-              let e = edge_once m home o q a.f (m.over b.f b.s) a.live t.live a.s (m.back b.f b.s) (x ∙ sym t.start_is) (y ∙ sym t.end_is) in
+              let e = edge_once m home o q a.f (m.over b.f b.s) a.live t.live a.s (m.back b.f b.s) (x ∙ sym t.start_is)
+              (y ∙ sym t.end_is) in
               absurd (not_less _ _ a.seen (subst (λ f. rise m home f (home p) ≤ℤ pos 0) (sym e) b.blind))
           one_side (inl x) (inl y) = absurd (apart (x ∙ sym y))
           one_side (inr x) (inr y) = absurd (apart (x ∙ sym y))

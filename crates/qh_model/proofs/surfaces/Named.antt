@@ -179,7 +179,8 @@ finished_named at at' n name position m m' a r h = record {
   has_v = in_map name ids h.v h.has_v;
   volume = subst (λ x. x <ℤ pos 0) (λ k. vol (at_s k) (at_t k) (at_u k) (at_v k)) h.volume;
   whole = whole_named r h.whole;
-  sound = subst (IsSound m' (weighted_at at')) (λ k. middle_of (weighted (at_s k)) (weighted (at_t k)) (weighted (at_u k)) (weighted (at_v k)))
+  sound = subst (IsSound m' (weighted_at at'))
+      (λ k. middle_of (weighted (at_s k)) (weighted (at_t k)) (weighted (at_u k)) (weighted (at_v k)))
       (sound_named r (weighted_at at) (weighted_at at') (middle_at at h.s h.t h.u h.v) position
       (λ f i l c. ap weighted (point l (h.corners f i l c))) (λ f i l c. a.back l (range_below n l (h.corners f i l c))) h.sound);
   some = h.some;
@@ -211,7 +212,10 @@ finished_named at at' n name position m m' a r h = record {
 
     below : (f : ℕ) → In f m.live → (l : ℕ) → (c : ℕ) × In c ids × (l ≡ name c)
         → vol (at' (m'.i f)) (at' (m'.j f)) (at' (m'.k f)) (at' l) ≤ℤ pos 0
-    below f i l (c, k, e) = subst (λ x. x ≤ℤ pos 0) (λ z. vol (corner (m.i f) _ (r.i_is f i) (inl refl) z) (corner (m.j f) _ (r.j_is f i) (inr (inl refl)) z) (corner (m.k f) _ (r.k_is f i) (inr (inr refl)) z) (at_l z)) (h.unseen f i c k)
+    below f i l (c, k, e) =
+        let p = corner (m.i f) _ (r.i_is f i) (inl refl) in let q = corner (m.j f) _ (r.j_is f i) (inr (inl refl)) in
+        let t = corner (m.k f) _ (r.k_is f i) (inr (inr refl)) in
+        subst (λ x. x ≤ℤ pos 0) (λ z. vol (p z) (q z) (t z) (at_l z)) (h.unseen f i c k)
       where
         corner : (d n : ℕ) → n ≡ name d → IsCorner m f d → at d ≡ at' n
         corner d n e c = sym (ap at' e ∙ point d (h.corners f i d c))

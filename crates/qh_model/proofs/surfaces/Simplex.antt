@@ -11,7 +11,8 @@ use Rattle.std.proofs.Common.{◌∙◌, ◌≡◌, ℕ, refl, sym, subst, arith
 use Rattle.std.proofs.lemmas.Int.{ints, by_lt_z}
 use Rattle.std.specs.Prelude.{ℤ, pos, ◌+ℤ◌, ◌<ℤ◌, ◌≤ℤ◌}
 use Rattle.qh_model.proofs.algebra.Ring.{ring}
-use Rattle.qh_model.proofs.surfaces.Determinants.{quad, aboveE, put4, above-together, above-first, above-second, above-third, above-turn_last}
+use Rattle.qh_model.proofs.surfaces.Determinants.{above_of, put4, above-together, above-first, above-second, above-third}
+use Rattle.qh_model.proofs.surfaces.Determinants.{above-turn_last}
 use Rattle.qh_model.proofs.surfaces.Facets.{rise_own, plane-is}
 use Rattle.qh_model.proofs.surfaces.CramersRule.{cramer_level}
 use Rattle.qh_model.proofs.algebra.Order.{cancel-zero_neg, product_zero}
@@ -47,12 +48,12 @@ four_cases p q r s (inr z) = three_cases q r s z
 -- the facets' orders are even, as `above-turn_last` says of a c d b: a d b c
 order_adb : (a b c d : Weighted) → above a d b c ≡ above a b c d
 unfolding above
-order_adb a b c d = ring (put4 a (put4 b (put4 c (put4 d [])))) (aboveE (quad 0) (quad 3) (quad 1) (quad 2)) (aboveE (quad 0) (quad 1) (quad 2) (quad 3)) refl
+order_adb a b c d = ring (put4 a (put4 b (put4 c (put4 d [])))) (above_of 0 3 1 2) (above_of 0 1 2 3) refl
 
 -- b d c a
 order_bdc : (a b c d : Weighted) → above b d c a ≡ above a b c d
 unfolding above
-order_bdc a b c d = ring (put4 a (put4 b (put4 c (put4 d [])))) (aboveE (quad 1) (quad 3) (quad 2) (quad 0)) (aboveE (quad 0) (quad 1) (quad 2) (quad 3)) refl
+order_bdc a b c d = ring (put4 a (put4 b (put4 c (put4 d [])))) (above_of 1 3 2 0) (above_of 0 1 2 3) refl
 
 -- ---- the four facets
 module _ (a b c d : ℕ) where
@@ -61,7 +62,8 @@ module _ (a b c d : ℕ) where
   S = simplex_surface a b c d
 
   -- a side with its twin
-  twin : (f : ℕ) (s : Side) → In (S.over f s) S.live → start S (S.over f s) (S.back f s) ≡ end S f s → end S (S.over f s) (S.back f s) ≡ start S f s
+  twin : (f : ℕ) (s : Side) → In (S.over f s) S.live → start S (S.over f s) (S.back f s) ≡ end S f s
+      → end S (S.over f s) (S.back f s) ≡ start S f s
       → S.over (S.over f s) (S.back f s) ≡ f → HasTwin S f s
   twin f s i p q r = record { live = i; start_is = p; end_is = q; returns = r }
 
@@ -155,17 +157,22 @@ module _ (home : ℕ → Weighted) (a b c d : ℕ) (h : above (home a) (home b) 
       one : (f g : ℕ) → In f (S a b c d).live → missing a b c d f ≡ missing a b c d g → HasOther a b c d f g → f ≡ g
       one f g i e (inl q) = q
       one f g i e (inr k) =
-          absurd (less_differ _ _ (below f i) (ap (λ t. rise (S a b c d) home f (home t)) e ∙ rise_own (S a b c d) home f (missing a b c d g) k))
+          absurd (less_differ _ _ (below f i)
+          (ap (λ t. rise (S a b c d) home f (home t)) e ∙ rise_own (S a b c d) home f (missing a b c d g) k))
 
 -- the law
 pub simplex_sound : SimplexIsSound
-simplex_sound home a b c d h =
-    (whole a b c d, simplex_boundary_sound (S a b c d) home (middle_of (home a) (home b) (home c) (home d)) (inside home a b c d h) (boundary home a b c d h))
+simplex_sound home a b c d h = (
+  whole a b c d,
+  simplex_boundary_sound (S a b c d) home (middle_of (home a) (home b) (home c) (home d)) (inside home a b c d h)
+      (boundary home a b c d h),
+)
 
 -- the law
 pub middle_is_below : MiddleIsBelow
 middle_is_below a b c s t u v p h hs ht hu hv off =
-    by_lt_z (above a b c (middle_of s t u v)) (pos 0) (λ q. q) (λ q. absurd (off (level (zeros _ _ _ _ _ (above-together a b c s t u v) q hs ht hu hv))))
+    by_lt_z (above a b c (middle_of s t u v)) (pos 0) (λ q. q)
+    (λ q. absurd (off (level (zeros _ _ _ _ _ (above-together a b c s t u v) q hs ht hu hv))))
   where
     zeros : (x a b c d : ℤ) → x ≡ a +ℤ b +ℤ c +ℤ d → pos 0 ≤ℤ x → a ≤ℤ pos 0 → b ≤ℤ pos 0 → c ≤ℤ pos 0 → d ≤ℤ pos 0
         → (a ≡ pos 0) × (b ≡ pos 0) × (c ≡ pos 0) × (d ≡ pos 0)

@@ -4,7 +4,8 @@ use Rattle.qh_model.specs.contract.Weighted.{Weighted, above, weighted_dot}
 use Rattle.std.proofs.Common.{◌≡◌, refl, List, [], ◌∷◌, arith, ap, sym, ◌∙◌, Bool, true, false, ◌⊎◌, inl, inr, subst}
 use Rattle.std.proofs.lemmas.Int.{ints, by_lt_z}
 use Rattle.std.specs.Prelude.{ℤ, pos, ◌+ℤ◌, ◌-ℤ◌, ◌*ℤ◌, neg_ℤ, ◌≤ℤ◌, ◌<ℤ◌}
-use Rattle.qh_model.proofs.algebra.Order.{mul-nonneg_nonpos, mul-nonpos, mul-pos, cancel-pos, mul-neg_pos, neg-positive, product_zero, positive_le, negative_le}
+use Rattle.qh_model.proofs.algebra.Order.{mul-nonneg_nonpos, mul-nonpos, mul-pos, cancel-pos, mul-neg_pos, neg-positive, product_zero}
+use Rattle.qh_model.proofs.algebra.Order.{positive_le, negative_le}
 use Rattle.qh_model.proofs.algebra.Ring.{ring}
 use Rattle.qh_model.proofs.algebra.Ring.Expr.{var, add, sub as less, mul, neg}
 use Rattle.qh_model.proofs.algebra.Signs.{not_less}
@@ -53,7 +54,8 @@ crosses u v a b y p h k = subst (λ z. pos 0 <ℤ z) (sym product) (neg-positive
   where
     turned : (a b c d : ℤ) → a *ℤ neg_ℤ b -ℤ c *ℤ neg_ℤ d ≡ neg_ℤ (a *ℤ b -ℤ c *ℤ d)
     turned a b c d =
-        ring (a ∷ b ∷ c ∷ d ∷ []) (less (mul (var 0) (neg (var 1))) (mul (var 2) (neg (var 3)))) (neg (less (mul (var 0) (var 1)) (mul (var 2) (var 3)))) refl
+        ring (a ∷ b ∷ c ∷ d ∷ []) (less (mul (var 0) (neg (var 1))) (mul (var 2) (neg (var 3))))
+        (neg (less (mul (var 0) (var 1)) (mul (var 2) (var 3)))) refl
 
     product : above u v a p *ℤ above v u b y -ℤ above u v a y *ℤ above v u b p ≡ neg_ℤ (above u v a b *ℤ above u v p y)
     product =
@@ -87,7 +89,8 @@ chain pm qm px qx pg qg hm hx hg h k =
     same =
         ring (pm ∷ qm ∷ px ∷ qx ∷ pg ∷ qg ∷ [])
         (mul (var 2) (less (mul (var 0) (var 5)) (mul (var 1) (var 4))))
-        (add (mul (var 0) (less (mul (var 2) (var 5)) (mul (var 3) (var 4)))) (mul (var 4) (less (mul (var 0) (var 3)) (mul (var 1) (var 2))))) refl
+        (add (mul (var 0) (less (mul (var 2) (var 5)) (mul (var 3) (var 4))))
+        (mul (var 4) (less (mul (var 0) (var 3)) (mul (var 1) (var 2))))) refl
 
     added : (a b : ℤ) → pos 0 <ℤ a → pos 0 <ℤ b → pos 0 <ℤ (a +ℤ b)
     added a b h k = omega (arith, ints)
@@ -120,7 +123,8 @@ least {X} W P Q (x ∷ xs) h = split (W x) refl (least W P Q xs (λ g i e. h g (
     split true e (inl n) = inr (new e (λ g i w k. n g i w))
     split true e (inr l) =
         inr (by_lt_z (pos 0) (P l.m *ℤ Q x -ℤ Q l.m *ℤ P x)
-        (λ n. new e (λ g i w k. l.least g i w (chain (P l.m) (Q l.m) (P x) (Q x) (P g) (Q g) (h l.m (inr l.there) l.marked) (h x (inl refl) e) (h g (inr i) w) n k)))
+        (λ n. new e (λ g i w k. l.least g i w
+        (chain (P l.m) (Q l.m) (P x) (Q x) (P g) (Q g) (h l.m (inr l.there) l.marked) (h x (inl refl) e) (h g (inr i) w) n k)))
         (λ k. kept l (λ w q. not_less _ _ q k)))
 
 -- ---- the theorem, over weighted points
@@ -162,7 +166,8 @@ sees_too fp gy fy gp h hf hy hg = by_lt_z (pos 0) gp (λ q. q) (λ q. absurd (ne
         let a = mul-nonneg_nonpos fp gy (positive_le fp hf) hg in let b = mul-nonpos fy gp (negative_le fy hy) q in
         omega (arith, ints, h, a, b)
 
-module _ {X : Type 0} (at : X → Corners) (live : List X) (W : X → Bool) (n y p : Weighted) (hp : pos 0 <ℤ weighted_dot n p) (hy : weighted_dot n y ≡ pos 0) where
+module _ {X : Type 0} (at : X → Corners) (live : List X) (W : X → Bool) (n y p : Weighted) (hp : pos 0 <ℤ weighted_dot n p)
+    (hy : weighted_dot n y ≡ pos 0) where
   -- each marked facet has one that is met before
   earlier_one : (f : X) → Cut at live W n y p f → Earlier at live W y p f
   earlier_one f c = over_one (leaves n (at f) y p c.below hp hy c.under_a c.under_b c.under_c)
@@ -183,6 +188,7 @@ module _ {X : Type 0} (at : X → Corners) (live : List X) (W : X → Bool) (n y
   pub none_cut_off : ((f : X) → In f live → W f ≡ true → Cut at live W n y p f) → (f : X) → In f live → W f ≡ true → ⊥
   none_cut_off h = none (least W (λ f. over (at f) p) (λ f. over (at f) y) live (λ g i w. (h g i w).sees))
     where
-      none : ((g : X) → In g live → W g ≡ true → ⊥) ⊎ Least W (λ f. over (at f) p) (λ f. over (at f) y) live → (f : X) → In f live → W f ≡ true → ⊥
+      none : ((g : X) → In g live → W g ≡ true → ⊥) ⊎ Least W (λ f. over (at f) p) (λ f. over (at f) y) live → (f : X) → In f live
+          → W f ≡ true → ⊥
       none (inl k) = k
       none (inr l) = λ f i w. let e = earlier_one l.m (h l.m l.there l.marked) in l.least e.g e.live_g e.marked e.earlier
