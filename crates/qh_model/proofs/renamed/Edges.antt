@@ -1,10 +1,7 @@
 -- The edges of a set renamed in its order.
 use Rattle.std.proofs.Common.{◌≡◌, ℕ, ◌<◌, ◌⊎◌, List, map, sym, ap, subst, ◌∙◌, inl, inr}
 use Rattle.std.proofs.lemmas.List.{length-map}
-use Rattle.qh_model.specs.headline.Vector.{Vector}
-use Rattle.qh_model.specs.headline.Sets.{In}
-use Rattle.qh_model.specs.headline.Polygon.{Follows}
-use Rattle.qh_model.specs.headline.Polygons.{IsEdge, IsEdgeCount}
+use Rattle.qh_model.specs.headline.{Vector.Vector, Sets.In, Polygon.Follows, Polygons.IsEdge, Polygons.IsEdgeCount}
 use Rattle.qh_model.proofs.lists.Images.{in_map, of_map, once_map}
 use Rattle.qh_model.proofs.polygons.Neighbours.{follows_members}
 use Rattle.qh_model.proofs.renamed.Lists.{AreWithin, follows_map, of_follows_map}

@@ -1,10 +1,7 @@
 -- The polygons of a set renamed in its order.
 use Rattle.std.proofs.Common.{◌↔◌, ◌≡◌, ℕ, ◌⊎◌, List, map, refl, sym, ap, subst, ◌∙◌, inl, inr}
 use Rattle.std.specs.Prelude.{pos, ◌<ℤ◌, ◌≤ℤ◌}
-use Rattle.qh_model.specs.headline.Vector.{Vector}
-use Rattle.qh_model.specs.headline.Predicates.{vol, left}
-use Rattle.qh_model.specs.headline.Sets.{In}
-use Rattle.qh_model.specs.headline.Extreme.{Extreme}
+use Rattle.qh_model.specs.headline.{Vector.Vector, Predicates.vol, Predicates.left, Sets.In, Extreme.Extreme}
 use Rattle.qh_model.specs.headline.SupportingPlane.{IsSupportingTriple, OnPlane}
 use Rattle.qh_model.specs.headline.Polygon.{Follows, TurnsLeft, IsPolygon}
 use Rattle.qh_model.specs.headline.Polygons.{IsFacePolygon, AreFaces, PointsForward, IsFlatFace, IsSegmentFace, ArePolygons}

@@ -1,10 +1,7 @@
 -- A set of ids renamed in its order, each with its point: its extreme ids and its dimension.
 use Rattle.std.proofs.Common.{◌≡◌, ℕ, ◌<◌, arith, sym, ap, subst, ◌∙◌}
-use Rattle.qh_model.specs.headline.Vector.{Vector}
+use Rattle.qh_model.specs.headline.{Vector.Vector, Combination.Combination, Dimension.IsDimension, Extreme.Others, Extreme.Extreme}
 use Rattle.qh_model.specs.headline.Predicates.{cross, vol}
-use Rattle.qh_model.specs.headline.Combination.{Combination}
-use Rattle.qh_model.specs.headline.Dimension.{IsDimension}
-use Rattle.qh_model.specs.headline.Extreme.{Others, Extreme}
 use Rattle.qh_model.proofs.combinations.OtherNames.{combination_by_names}
 use Rattle.qh_model.proofs.extremes.Dimensions.{dimension_as, tetrahedron_by_names, triangle_by_names, segment_by_names}
 

@@ -1,15 +1,13 @@
 -- Located points as mixes.
-use Rattle.qh_model.specs.contract.Weighted.{weighted_dot}
-use Rattle.qh_model.specs.contract.Surface.{rise}
+use Rattle.qh_model.specs.contract.{Weighted.weighted_dot, Surface.rise}
 use Rattle.qh_model.specs.laws.CoverageLaws.{SettledIsCombination, LevelIsCombination}
 use Rattle.std.proofs.Common.{◌≡◌, ◌∙◌, ap, arith}
 use Rattle.std.proofs.lemmas.Int.{ints}
 use Rattle.std.specs.Prelude.{ℤ, pos, ◌+ℤ◌, ◌*ℤ◌, neg_ℤ}
-use Rattle.qh_model.proofs.algebra.Integers.{neg_mul, zero_mul}
+use Rattle.qh_model.proofs.algebra.{Integers.neg_mul, Integers.zero_mul, Order.neg-nonneg, Order.neg-positive}
 use Rattle.qh_model.proofs.surfaces.Located.{Located, located, first_corner, second_corner, third_corner, first_share, second_share}
 use Rattle.qh_model.proofs.surfaces.Located.{third_share, shares, mix}
 use Rattle.qh_model.proofs.surfaces.CoveredPlanes.{plane_is_covered}
-use Rattle.qh_model.proofs.algebra.Order.{neg-nonneg, neg-positive}
 
 -- the law
 pub settled_is_combination : SettledIsCombination

@@ -11,11 +11,9 @@ use Rattle.std.specs.Prelude.{ℤ, pos, ◌-ℤ◌, ◌*ℤ◌, ◌≤ℤ◌, �
 use Rattle.qh_model.proofs.algebra.Order.{mul-pos, mul-nonneg, mul-nonneg_nonpos, mul-nonpos_nonneg, mul-nonpos, mul-neg_pos, mul-pos_neg}
 use Rattle.qh_model.proofs.algebra.Order.{positive_le, negative_le}
 use Rattle.qh_model.proofs.algebra.Signs.{not_less, equal_negative}
+use Rattle.qh_model.proofs.surfaces.{DrawnInwards.Choice, DrawnInwards.choose, PlanesThroughLine.line_product, Connected.cert}
 use Rattle.qh_model.proofs.surfaces.Facets.{corner_start, corner_end, corner_rest, corner_cases, corner_test, far_apart, weak, bends}
 use Rattle.qh_model.proofs.surfaces.Facets.{side_rise, far_rise, side_seen, side_blind, side_below, far_seen, far_blind, far_below}
-use Rattle.qh_model.proofs.surfaces.DrawnInwards.{Choice, choose}
-use Rattle.qh_model.proofs.surfaces.PlanesThroughLine.{line_product}
-use Rattle.qh_model.proofs.surfaces.Connected.{cert}
 
 -- ---- signs, for two planes through one line, and a third through it and p
 -- a ≤ 0 with a positive product

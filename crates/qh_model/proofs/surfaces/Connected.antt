@@ -6,11 +6,9 @@ use Rattle.qh_model.specs.headline.Sets.{In}
 use Rattle.qh_model.specs.contract.SoundSurface.{HasDistinctFacets, IsInner, IsStrict, IsStrictWhenDrawn, IsSound, drawn, towards}
 use Rattle.qh_model.specs.contract.Weighted.{Weighted, weighted_dot, plane_of}
 use Rattle.std.proofs.Common.{◌≡◌, ◌≢◌, ℕ, zero, suc, ◌+◌, arith, refl, ap, sym, ◌∙◌, subst, inl, inr, Bool, true, false}
-use Rattle.std.proofs.lemmas.Int.{ints, by_lt_z}
-use Rattle.std.proofs.lemmas.Bool.{and_parts, both_ways, not-true}
+use Rattle.std.proofs.lemmas.{Int.ints, Int.by_lt_z, Bool.and_parts, Bool.both_ways, Bool.not-true}
 use Rattle.std.specs.Prelude.{ℤ, pos, negsuc, ◌+ℤ◌, ◌*ℤ◌, neg_ℤ, ◌≤ℤ◌, ◌<ℤ◌, ◌&&◌, not}
-use Rattle.qh_model.proofs.algebra.Order.{mul-pos}
-use Rattle.qh_model.proofs.algebra.Signs.{not_less, less_one_way}
+use Rattle.qh_model.proofs.algebra.{Order.mul-pos, Signs.not_less, Signs.less_one_way}
 use Rattle.qh_model.proofs.surfaces.VisibleFacets.{Corners, Over, Cut, none_cut_off}
 use Rattle.qh_model.proofs.surfaces.Facets.{rise_side, rise_over, weak, middle, middle_on, middle_weak, middle_below, bends, plane-is}
 use Rattle.qh_model.proofs.surfaces.DrawnInwards.{tilt, above-drawn_all, Choice, choose, size, size_le, cube, scale}

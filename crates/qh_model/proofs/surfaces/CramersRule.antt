@@ -3,8 +3,7 @@ use Rattle.qh_model.specs.contract.Weighted.{Weighted, above, weighted_dot}
 use Rattle.std.proofs.Common.{◌≡◌, refl, [], arith}
 use Rattle.std.proofs.lemmas.Int.{ints}
 use Rattle.std.specs.Prelude.{ℤ, pos, ◌+ℤ◌, ◌*ℤ◌}
-use Rattle.qh_model.proofs.algebra.Order.{product_zero}
-use Rattle.qh_model.proofs.algebra.Ring.{ring}
+use Rattle.qh_model.proofs.algebra.{Order.product_zero, Ring.ring}
 use Rattle.qh_model.proofs.algebra.Ring.Expr.{add, mul}
 use Rattle.qh_model.proofs.surfaces.Determinants.{above_of, dot_of, put4}
 

@@ -1,26 +1,21 @@
 -- The horizon at drawn places: where one of its sides ends exactly one begins.
+use Rattle.qh_model.specs.contract.{SoundSurface.IsSound, SoundSurface.IsStrict, Weighted.Weighted, Weighted.above}
 use Rattle.qh_model.specs.contract.Surface.{IsCorner, Side, Surface, HasTwin, IsWhole, end, rise, start, rest}
 use Rattle.qh_model.specs.steps.FarCorners.{far}
 use Rattle.qh_model.specs.headline.Sets.{In}
-use Rattle.qh_model.specs.contract.SoundSurface.{IsSound, IsStrict}
-use Rattle.qh_model.specs.contract.Weighted.{Weighted, above}
 use Rattle.std.proofs.Common.{◌≡◌, ◌≢◌, ℕ, refl, [], ◌∷◌, ap, sym, ◌∙◌, subst, ◌⊎◌, inl, inr, Bool, true, false}
 use native.Mathlib.Decide.{ℕ_discrete}
 use Rattle.std.proofs.lemmas.Bool.{and_parts}
 use Rattle.std.specs.Prelude.{ℤ, pos, ◌-ℤ◌, ◌*ℤ◌, neg_ℤ, ◌<ℤ◌, ◌&&◌}
-use Rattle.qh_model.proofs.algebra.Order.{mul-neg_neg, neg-positive}
-use Rattle.qh_model.proofs.algebra.Ring.{ring}
-use Rattle.qh_model.proofs.algebra.Ring.Expr.{var, sub as less, mul, neg}
+use Rattle.qh_model.proofs.algebra.{Order.mul-neg_neg, Order.neg-positive, Ring.ring}
 use Rattle.qh_model.proofs.algebra.Signs.{less_one_way, equal_negative, opposite_positive, opposite_negative}
-use Rattle.qh_model.proofs.surfaces.VisibleFacets.{Least, least}
-use Rattle.qh_model.proofs.surfaces.Facets.{rise_over, corner_end, corner_rest, corner_test}
-use Rattle.qh_model.proofs.surfaces.Facets.{ends_differ, rest_differs}
+use Rattle.qh_model.proofs.algebra.Ring.Expr.{var, sub as less, mul, neg}
+use Rattle.qh_model.proofs.surfaces.{VisibleFacets.Least, VisibleFacets.least, PlanesThroughLine.line_product, Cone.Old, Cone.apex_rise}
+use Rattle.qh_model.proofs.surfaces.{Cone.corner_below_cone, KeptSound.edge_once, KeptSound.side_once}
+use Rattle.qh_model.proofs.surfaces.Facets.{rise_over, corner_end, corner_rest, corner_test, ends_differ, rest_differs}
 use Rattle.qh_model.proofs.surfaces.Connected.{positive, positive-is, positive-true}
 use Rattle.qh_model.proofs.surfaces.FacetSides.{side_next, start_next, end_next, from, from_is}
 use Rattle.qh_model.proofs.surfaces.Determinants.{above-turn, swap24, turned_first}
-use Rattle.qh_model.proofs.surfaces.PlanesThroughLine.{line_product}
-use Rattle.qh_model.proofs.surfaces.Cone.{Old, apex_rise, corner_below_cone}
-use Rattle.qh_model.proofs.surfaces.KeptSound.{edge_once, side_once}
 
 -- ---- at drawn places: every facet sees top or is seen to be above it
 pub record Scene (m : Surface) (home : ℕ → Weighted) (o : Weighted) : Type 0 where

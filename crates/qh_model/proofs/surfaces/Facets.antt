@@ -9,11 +9,10 @@ use Rattle.std.proofs.Common.{◌≡◌, ◌≢◌, ℕ, refl, [], arith, sym, �
 use native.Mathlib.Decide.{ℕ_discrete}
 use Rattle.std.proofs.lemmas.Int.{ints, by_lt_z}
 use Rattle.std.specs.Prelude.{ℤ, pos, ◌+ℤ◌, neg_ℤ, ◌≤ℤ◌, ◌<ℤ◌}
-use Rattle.qh_model.proofs.algebra.Ring.{Expr, ring}
-use Rattle.qh_model.proofs.algebra.Ring.Expr.{add}
+use Rattle.qh_model.proofs.algebra.{Ring.Expr, Ring.ring, Order.negative_le}
 use Rattle.qh_model.proofs.algebra.Signs.{less_differ, less_one_way, equal_le, sum_nonpos, sum_parts, sum_zero, equal_nonpos}
 use Rattle.qh_model.proofs.algebra.Signs.{equal_negative, equal_positive, opposite_nonneg, opposite_positive, opposite_negative}
-use Rattle.qh_model.proofs.algebra.Order.{negative_le}
+use Rattle.qh_model.proofs.algebra.Ring.Expr.{add}
 use Rattle.qh_model.proofs.surfaces.Determinants.{QE, put4, quad, dot4E, above-turn, above-flip, above-first, above-second, above-third}
 
 -- what holds of the corners one by one holds of all

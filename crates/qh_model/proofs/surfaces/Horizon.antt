@@ -1,22 +1,18 @@
 -- The horizon: where one side of it ends exactly one begins, and the other way round.
+use Rattle.qh_model.specs.contract.{Rewired.IsHorizonSide, Weighted.Weighted, Weighted.above}
 use Rattle.qh_model.specs.contract.Surface.{Side, Surface, IsWhole, end, rise, start}
+use Rattle.qh_model.specs.contract.SoundSurface.{IsSound, drawn, towards}
 use Rattle.qh_model.specs.contract.Surface.Side.{first, second, third}
-use Rattle.qh_model.specs.contract.Rewired.{IsHorizonSide}
 use Rattle.qh_model.specs.laws.Horizons.{HasHorizonSide}
 use Rattle.qh_model.specs.headline.Sets.{In}
-use Rattle.qh_model.specs.contract.SoundSurface.{IsSound, drawn, towards}
-use Rattle.qh_model.specs.contract.Weighted.{Weighted, above}
 use Rattle.std.proofs.Common.{◌≡◌, ◌≢◌, ℕ, zero, suc, ◌+◌, refl, arith, sym, ◌∙◌, subst, inl, inr, List, [], ◌∷◌}
 use native.Mathlib.Decide.{ℕ_discrete}
 use Rattle.std.specs.List.{flat_map}
 use Rattle.std.proofs.lemmas.Int.{by_lt_z}
 use Rattle.std.specs.Prelude.{pos, ◌≤ℤ◌, ◌<ℤ◌}
 use Rattle.qh_model.proofs.algebra.Signs.{less_one_way, opposite_positive}
-use Rattle.qh_model.proofs.lists.Joined.{in_flat_map}
-use Rattle.qh_model.proofs.lists.Searches.{comes_back}
-use Rattle.qh_model.proofs.surfaces.Facets.{corner_start, ends_differ}
-use Rattle.qh_model.proofs.surfaces.DrawnInwards.{Choice, choose}
-use Rattle.qh_model.proofs.surfaces.Determinants.{swap14}
+use Rattle.qh_model.proofs.lists.{Joined.in_flat_map, Searches.comes_back}
+use Rattle.qh_model.proofs.surfaces.{Facets.corner_start, Facets.ends_differ, DrawnInwards.Choice, DrawnInwards.choose, Determinants.swap14}
 use Rattle.qh_model.proofs.surfaces.DrawnHorizon.{Scene, HorizonSide, Joined, horizon_below, horizon_once, horizon_next}
 
 -- ---- and where it starts another ends

@@ -8,15 +8,12 @@ use Rattle.qh_model.specs.contract.Surface.Side.{first, second, third}
 use Rattle.std.proofs.Common.{◌∙◌, ◌≡◌, ℕ, suc, refl, [], ◌∷◌, arith, sym, subst, ◌⊎◌, inl, inr, true}
 use Rattle.std.proofs.lemmas.Int.{ints, by_lt_z}
 use Rattle.std.specs.Prelude.{ℤ, pos, ◌+ℤ◌, ◌-ℤ◌, ◌*ℤ◌, neg_ℤ, ◌≤ℤ◌, ◌<ℤ◌}
+use Rattle.qh_model.proofs.algebra.{Integers.neg_mul, Ring.ring}
 use Rattle.qh_model.proofs.algebra.Order.{mul-pos, cancel-nonpos, mul-pos_neg, neg-positive, neg-nonneg}
-use Rattle.qh_model.proofs.algebra.Integers.{neg_mul}
-use Rattle.qh_model.proofs.algebra.Ring.{ring}
 use Rattle.qh_model.proofs.algebra.Ring.Expr.{var, sub as less, mul, neg}
-use Rattle.qh_model.proofs.surfaces.VisibleFacets.{Least, least, crosses}
-use Rattle.qh_model.proofs.surfaces.Facets.{side_rise, rise_side, rise_over, bends}
-use Rattle.qh_model.proofs.surfaces.DrawnInwards.{towardsE, cube}
+use Rattle.qh_model.proofs.surfaces.{VisibleFacets.Least, VisibleFacets.least, VisibleFacets.crosses, Facets.side_rise, Facets.rise_side}
+use Rattle.qh_model.proofs.surfaces.{Facets.rise_over, Facets.bends, DrawnInwards.towardsE, DrawnInwards.cube, CramersRule.cramer}
 use Rattle.qh_model.proofs.surfaces.Determinants.{above_of, quad, aboveE, put4, above-turn}
-use Rattle.qh_model.proofs.surfaces.CramersRule.{cramer}
 
 -- the facet over which x lies: x is beyond none of the planes through o and a side
 pub record Located (m : Surface) (home : ℕ → Weighted) (o x : Weighted) : Type 0 where

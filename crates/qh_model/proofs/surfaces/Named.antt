@@ -2,23 +2,17 @@
 -- sound as before, and as finished. So a surface over positions in a list of points is one over their ids.
 use Rattle.std.proofs.Common.{◌≡◌, ℕ, zero, suc, ◌+◌, ◌/◌, ◌%◌, ◌<◌, refl, sym, ap, subst, ◌∙◌, inl, inr}
 use Rattle.std.proofs.Common.{List, [], ◌∷◌, length, map, true, false, cond, slice_index}
-use Rattle.std.proofs.lemmas.Bool.{both_ways}
-use Rattle.std.proofs.lemmas.List.{get_or-map}
+use Rattle.std.proofs.lemmas.{Bool.both_ways, List.get_or-map}
 use Rattle.std.specs.Prelude.{pos, ◌<ℤ◌, ◌≤ℤ◌}
 use Rattle.std.specs.List.{range_with_len}
-use Rattle.qh_model.specs.headline.Vector.{Vector, origin}
-use Rattle.qh_model.specs.headline.Predicates.{place, vol}
-use Rattle.qh_model.specs.headline.Sets.{In, Once}
-use Rattle.qh_model.specs.headline.Text.{vertex_number}
-use Rattle.qh_model.specs.contract.Weighted.{Weighted, weighted, middle_of, above}
-use Rattle.qh_model.specs.contract.Simplex.{one_of, by_side}
+use Rattle.qh_model.specs.headline.{Vector.Vector, Vector.origin, Predicates.place, Predicates.vol, Sets.In, Sets.Once, Text.vertex_number}
+use Rattle.qh_model.specs.contract.{Weighted.Weighted, Weighted.weighted, Weighted.middle_of, Weighted.above, Simplex.one_of}
+use Rattle.qh_model.specs.contract.{Simplex.by_side, FinishedSurface.weighted_at, FinishedSurface.middle_at, FinishedSurface.IsFinished}
 use Rattle.qh_model.specs.contract.Surface.{Side, Surface, start, end, IsCorner, HasTwin, IsWhole, rise}
-use Rattle.qh_model.specs.contract.Surface.Side.{first, second, third}
 use Rattle.qh_model.specs.contract.SoundSurface.{IsStrict, HasDistinctFacets, IsSound, towards, drawn}
-use Rattle.qh_model.specs.contract.FinishedSurface.{weighted_at, middle_at, IsFinished}
 use Rattle.qh_model.specs.contract.StoredSurface.{StoredFacet, named_facet, facet_at, live_from, surface_of}
-use Rattle.qh_model.proofs.lists.Images.{in_map, of_map}
-use Rattle.qh_model.proofs.lists.Ranges.{range_below, range_named}
+use Rattle.qh_model.specs.contract.Surface.Side.{first, second, third}
+use Rattle.qh_model.proofs.lists.{Images.in_map, Images.of_map, Ranges.range_below, Ranges.range_named}
 use Rattle.qh_model.proofs.renamed.Positions.{number_at}
 use Rattle.qh_model.proofs.surfaces.Stored.{live_is_marked}
 

@@ -1,15 +1,12 @@
 -- The first simplex.
-use Rattle.qh_model.specs.contract.Surface.{IsCorner, Surface, rise}
+use Rattle.qh_model.specs.contract.{Surface.IsCorner, Surface.Surface, Surface.rise, Weighted.Weighted, Weighted.above}
 use Rattle.qh_model.specs.contract.SoundSurface.{HasDistinctFacets, IsInner, IsSound, IsStrict, drawn}
 use Rattle.qh_model.specs.laws.SimplexSurface.{IsSimplexBoundary}
-use Rattle.qh_model.specs.contract.Weighted.{Weighted, above}
 use Rattle.std.proofs.Common.{ap, ◌≡◌, ℕ, ◌≤◌, arith, sym, ◌∙◌, subst, ◌⊎◌, inl, inr}
 use Rattle.std.proofs.lemmas.Int.{ints}
 use Rattle.std.specs.Prelude.{ℤ, pos, ◌+ℤ◌, ◌*ℤ◌, ◌<ℤ◌}
-use Rattle.qh_model.proofs.algebra.Order.{mul-pos_neg}
-use Rattle.qh_model.proofs.surfaces.Facets.{rise_own}
-use Rattle.qh_model.proofs.surfaces.DrawnInwards.{above-drawn_all, cube}
-use Rattle.qh_model.proofs.algebra.Signs.{less_differ}
+use Rattle.qh_model.proofs.algebra.{Order.mul-pos_neg, Signs.less_differ}
+use Rattle.qh_model.proofs.surfaces.{Facets.rise_own, DrawnInwards.above-drawn_all, DrawnInwards.cube}
 
 module _ (m : Surface) (home : ℕ → Weighted) (r : IsSimplexBoundary m home) where
   -- all is strict as it stands

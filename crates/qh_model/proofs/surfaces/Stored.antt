@@ -4,8 +4,7 @@ use Rattle.qh_model.specs.contract.StoredSurface.{StoredFacet, facet_at, live_fr
 use Rattle.qh_model.specs.laws.LiveFacets.{LiveIsMarked, LiveIsListedOnce}
 use Rattle.std.proofs.Common.{◌≡◌, ℕ, zero, suc, ◌+◌, ◌<◌, ◌≤◌, length, ap, refl, sym, ◌∙◌, subst, arith, List, [], ◌∷◌, inl, inr, Bool}
 use Rattle.std.proofs.Common.{true, false, cond}
-use Rattle.std.proofs.lemmas.Bool.{both_ways, cases_lt}
-use Rattle.std.proofs.lemmas.List.{get_or_past}
+use Rattle.std.proofs.lemmas.{Bool.both_ways, Bool.cases_lt, List.get_or_past}
 use Rattle.std.proofs.lemmas.List.Sums.{sum_by-cons}
 use Rattle.std.specs.Prelude.{count_by}
 

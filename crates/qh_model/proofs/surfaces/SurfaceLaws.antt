@@ -1,18 +1,14 @@
 -- The laws, from their proofs.
 use Rattle.qh_model.specs.laws.SurfaceLaws.{CornersAreSettled, AddedIsSettled, RiseIsVol, WalkFindsAll, SettledStayUnseen, HorizonGoesOn}
 use Rattle.qh_model.specs.laws.SurfaceLaws.{HorizonIsKnown}
-use Rattle.qh_model.specs.contract.Weighted.{above}
-use Rattle.qh_model.specs.contract.Surface.{rise}
+use Rattle.qh_model.specs.contract.{Weighted.above, Surface.rise}
 use Rattle.std.proofs.Common.{ℕ, refl, [], inl, inr}
 use Rattle.std.specs.Prelude.{pos}
 use Rattle.qh_model.specs.headline.Predicates.{cross, vol}
-use Rattle.qh_model.proofs.algebra.VectorIdentities.{vec, volE, put, VE}
-use Rattle.qh_model.proofs.algebra.Ring.{ring}
+use Rattle.qh_model.proofs.algebra.{VectorIdentities.vec, VectorIdentities.volE, VectorIdentities.put, VectorIdentities.VE, Ring.ring}
 use Rattle.qh_model.proofs.algebra.Ring.Expr.{con}
-use Rattle.qh_model.proofs.surfaces.Determinants.{QE, aboveE}
+use Rattle.qh_model.proofs.surfaces.{Determinants.QE, Determinants.aboveE, Unseen.settled_kept, Unseen.apex_settled, Rewired.replaced}
 use Rattle.qh_model.proofs.surfaces.Connected.{positive-is, positive-true, connected, cert}
-use Rattle.qh_model.proofs.surfaces.Unseen.{settled_kept, apex_settled}
-use Rattle.qh_model.proofs.surfaces.Rewired.{replaced}
 use Rattle.qh_model.proofs.surfaces.Horizon.{edge_next, edge_prev, edge_known_by_start, edge_known_by_end}
 
 -- a point with weight 1, of expressions
