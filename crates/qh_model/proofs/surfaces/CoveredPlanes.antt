@@ -68,22 +68,14 @@ module _ (a b c o y : Weighted) (k : ℕ) where
 
   -- a plane that y is on and o strictly below sees it
   pub on_sees_beyond : above a b c y ≡ pos 0 → above a b c o <ℤ pos 0 → pos 0 <ℤ above a b c (beyond o y k)
-  on_sees_beyond h low = positive _ _ _ beyond-is (product_zero (pos k) _ h) low
-    where
-      positive : (x p r : ℤ) → x ≡ p +ℤ neg_ℤ r → p ≡ pos 0 → r <ℤ pos 0 → pos 0 <ℤ x
-      positive x p r e h l = omega (arith, ints)
+  on_sees_beyond h low = let s = beyond-is in let p = product_zero (pos k) (above a b c y) h in omega (arith, ints, s, p, low)
 
   -- and where one that y isn't above sees it, y is on that, for k large enough
   pub sees_beyond_on : neg_ℤ (above a b c o) <ℤ pos k → above a b c y ≤ℤ pos 0 → pos 0 <ℤ above a b c (beyond o y k) → above a b c y ≡ pos 0
-  sees_beyond_on large h sees =
-      not_less_is (λ p. not_positive _ (pos k *ℤ above a b c y) (neg_ℤ (above a b c o)) beyond-is sees
-      (share (neg_ℤ (above a b c o)) (above a b c y) k large p))
+  sees_beyond_on large h sees = by_lt_z (above a b c y) (pos 0) (λ p. absurd (never p)) (λ p. le_antisym _ (pos 0) h p)
     where
-      not_positive : (x p r : ℤ) → x ≡ p +ℤ r → pos 0 <ℤ x → (r +ℤ p) <ℤ pos 0 → ⊥
-      not_positive x p r e h l = omega (arith, ints)
-
-      not_less_is : (above a b c y <ℤ pos 0 → ⊥) → above a b c y ≡ pos 0
-      not_less_is n = by_lt_z (above a b c y) (pos 0) (λ p. absurd (n p)) (λ p. le_antisym _ (pos 0) h p)
+      never : above a b c y <ℤ pos 0 → ⊥
+      never p = let l = share (neg_ℤ (above a b c o)) (above a b c y) k large p in let s = beyond-is in omega (arith, ints, l, s, sees)
 
 -- ---- a supporting plane
 -- a number is not above 0 if a large multiple of it isn't above another
@@ -126,10 +118,7 @@ plane_is_covered m home o w z f0 i0 a b c e (inner, corners, level) settled = re
     k = (bound (λ f. rise m home f o) m.live).0
 
     k_pos : pos 0 <ℤ pos k
-    k_pos = let h = z.inner f0 i0 in positive (rise m home f0 o) k h ((bound (λ f. rise m home f o) m.live).1 f0 i0).1
-      where
-        positive : (x : ℤ) (k : ℕ) → x <ℤ pos 0 → neg_ℤ x <ℤ pos k → pos 0 <ℤ pos k
-        positive x k h l = omega (arith, ints)
+    k_pos = let h = z.inner f0 i0 in let b = ((bound (λ f. rise m home f o) m.live).1 f0 i0).1 in omega (arith, ints, h, b)
 
     x : Weighted
     x = beyond o y k
@@ -139,12 +128,8 @@ plane_is_covered m home o w z f0 i0 a b c e (inner, corners, level) settled = re
 
     plane_x : pos 0 <ℤ above a b c x
     plane_x =
-        on_sees_beyond a b c o y k
-        (zero _ _ _ (y-is a b c) (product_zero (pos n) _ level)
-        (sum_level a b c a b c (above-first a b c) (above-second a b c) (above-third a b c))) inner
-      where
-        zero : (s p q : ℤ) → s ≡ p +ℤ q → p ≡ pos 0 → q ≡ pos 0 → s ≡ pos 0
-        zero s p q e a b = omega (arith, ints)
+        let p = product_zero (pos n) _ level in let q = sum_level a b c a b c (above-first a b c) (above-second a b c) (above-third a b c) in
+        let s = y-is a b c in on_sees_beyond a b c o y k (omega (arith, ints, p, q, s)) inner
 
     result : Located m home o x → FacetInPlane m home o a b c e
     result l = record { f = t; live = l.live; level = level_t; on = both.0; within = within }
@@ -176,10 +161,9 @@ plane_is_covered m home o w z f0 i0 a b c e (inner, corners, level) settled = re
             (subst (λ v. pos 0 <ℤ v) (sym (plane-is a b c x)) plane_x)))
 
         y_blind : rise m home t y ≤ℤ pos 0
-        y_blind = two _ _ _ (y-is i j h) (mul-nonneg_nonpos (pos n) _ (omega (arith, ints)) blind.3) mid_blind
-          where
-            two : (s p q : ℤ) → s ≡ p +ℤ q → p ≤ℤ pos 0 → q ≤ℤ pos 0 → s ≤ℤ pos 0
-            two s p q e a b = omega (arith, ints)
+        y_blind =
+            let p = mul-nonneg_nonpos (pos n) (rise m home t e) (omega (arith, ints)) blind.3 in let s = y-is i j h in
+            omega (arith, ints, p, s, mid_blind)
 
         y_level : rise m home t y ≡ pos 0
         y_level = sees_beyond_on i j h o y k ((bound (λ f. rise m home f o) m.live).1 t l.live).1 y_blind sees_x

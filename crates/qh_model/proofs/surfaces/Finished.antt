@@ -27,10 +27,6 @@ use Rattle.qh_model.proofs.surfaces.Combinations.{settled_is_combination, level_
 far_below : (h d L : ℤ) → h ≡ pos 4 *ℤ d +ℤ (pos 1 -ℤ pos 4 *ℤ L) → d <ℤ L → (h +ℤ pos 3) ≤ℤ pos 0
 far_below h d L e l = omega (arith, ints)
 
--- L itself is just beyond it
-just_beyond : (h L : ℤ) → h ≡ pos 4 *ℤ L +ℤ (pos 1 -ℤ pos 4 *ℤ L) → h ≡ pos 1
-just_beyond h L e = omega (arith, ints)
-
 -- one far below and three at most just beyond
 one_far_below : (x a b c d : ℤ) → x ≡ a +ℤ b +ℤ c +ℤ d → ((a +ℤ pos 3) ≤ℤ pos 0) ⊎ ((b +ℤ pos 3) ≤ℤ pos 0)
     → a ≤ℤ pos 1 → b ≤ℤ pos 1 → c ≤ℤ pos 1 → d ≤ℤ pos 1 → x ≤ℤ pos 0
@@ -111,7 +107,7 @@ module _ (at : ℕ → Vector) (ids : List ℕ) (m : Surface) (z : IsFinished at
       height_is j = below_level-point e.w (dot e.w (at l)) (at j)
 
       own : height l ≡ pos 1
-      own = just_beyond (height l) (dot e.w (at l)) (height_is l)
+      own = let h = height_is l in omega (arith, ints, h)
 
       low : (j : ℕ) → Members ids j → j ≢ l → (height j +ℤ pos 3) ≤ℤ pos 0
       low j h n = far_below (height j) (dot e.w (at j)) (dot e.w (at l)) (height_is j) (e.past j (h, n))
@@ -119,12 +115,9 @@ module _ (at : ℕ → Vector) (ids : List ℕ) (m : Surface) (z : IsFinished at
       at_most : (j : ℕ) → Members ids j → height j ≤ℤ pos 1
       at_most j h = either (ℕ_discrete j l)
         where
-          less_three : (x : ℤ) → (x +ℤ pos 3) ≤ℤ pos 0 → x ≤ℤ pos 1
-          less_three x h = omega (arith, ints)
-
           either : Dec (j ≡ l) → height j ≤ℤ pos 1
           either (yes q) = equal_le (height j) (pos 1) (ap height q ∙ own)
-          either (no q) = less_three (height j) (low j h q)
+          either (no q) = let l = low j h q in omega (arith, ints, l)
 
       two_differ : z.s ≡ z.t → ⊥
       two_differ d =
@@ -151,13 +144,10 @@ module _ (at : ℕ → Vector) (ids : List ℕ) (m : Surface) (z : IsFinished at
           (share q.u (m.i q.f) q.u_nonneg (inl refl)) (share q.v (m.j q.f) q.v_nonneg (inr (inl refl)))
           (share q.w (m.k q.f) q.w_nonneg (inr (inr refl))) (mul-nonneg_nonpos q.t (weighted_dot n o) q.t_nonneg middle_low))
         where
-          less_three : (x : ℤ) → (x +ℤ pos 3) ≤ℤ pos 0 → x ≤ℤ pos 0
-          less_three x h = omega (arith, ints)
-
           share : (k : ℤ) (h : ℕ) → pos 0 ≤ℤ k → IsCorner m q.f h → (k *ℤ height h) ≤ℤ pos 0
           share k h p i =
-              mul-nonneg_nonpos k (height h) p
-              (less_three (height h) (low h (z.corners q.f q.live h i) (λ e. c (subst (IsCorner m q.f) e i))))
+              let l = low h (z.corners q.f q.live h i) (λ e. c (subst (IsCorner m q.f) e i)) in
+              mul-nonneg_nonpos k (height h) p (omega (arith, ints, l))
 
   -- each extreme id is a corner
   corner_of_extreme : (l : ℕ) → Extreme at (Members ids) l → IsLiveCorner m l
