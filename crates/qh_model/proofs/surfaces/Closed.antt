@@ -213,13 +213,11 @@ sound_is_closed at m s t u v f0 i once w z = record {
 -- the law
 pub sound_has_volume : SoundHasVolume
 sound_has_volume at m s t u v f0 i once w z p =
-    quarter _ _ _ _ _ (same s) (same t) (same u) (same v) (volumes_negative at m s t u v z.inner f0 m.live i (λ f k. k))
+    let a = same s in let b = same t in let c = same u in let d = same v in
+    let low = volumes_negative at m s t u v z.inner f0 m.live i (λ f k. k) in omega (arith, ints, a, b, c, d, low)
   where
     same : (l : ℕ) → signed_volume at (triples_of m) (at l) ≡ signed_volume at (triples_of m) p
     same l = volume_is_constant at (triples_of m) (sound_is_closed at m s t u v f0 i once w z) (at l) p
-
-    quarter : (x a b c d : ℤ) → a ≡ x → b ≡ x → c ≡ x → d ≡ x → (a +ℤ b +ℤ c +ℤ d) <ℤ pos 0 → x <ℤ pos 0
-    quarter x a b c d ha hb hc hd h = omega (arith, ints)
 
 -- facets that all see p have no volume below 0
 pub seen_volume : (at : ℕ → Vector) (m : Surface) (p : Vector) (fs : List ℕ)

@@ -1,11 +1,11 @@
 -- Located points as mixes.
 use Rattle.qh_model.specs.contract.{Weighted.weighted_dot, Surface.rise}
 use Rattle.qh_model.specs.laws.CoverageLaws.{SettledIsCombination, LevelIsCombination}
-use Rattle.std.proofs.Common.{◌≡◌, ◌∙◌, ap, arith}
+use Rattle.std.proofs.Common.{◌∙◌, ap, arith}
 use Rattle.std.proofs.lemmas.Int.{ints}
-use Rattle.std.specs.Prelude.{ℤ, pos, ◌+ℤ◌, ◌*ℤ◌, neg_ℤ}
+use Rattle.std.specs.Prelude.{◌*ℤ◌, neg_ℤ}
 use Rattle.qh_model.proofs.algebra.{Integers.neg_mul, Integers.zero_mul, Order.neg-nonneg, Order.neg-positive}
-use Rattle.qh_model.proofs.surfaces.Located.{Located, located, first_corner, second_corner, third_corner, first_share, second_share}
+use Rattle.qh_model.proofs.surfaces.Located.{Located, located, first_share, second_share}
 use Rattle.qh_model.proofs.surfaces.Located.{third_share, shares, mix}
 use Rattle.qh_model.proofs.surfaces.CoveredPlanes.{plane_is_covered}
 
@@ -46,11 +46,8 @@ level_is_combination m home o w z f0 i0 p q r e h unseen =
       u_nonneg = (shares l).0;
       v_nonneg = (shares l).1;
       w_nonneg = (shares l).2;
-      mix = λ n. let value = weighted_dot n in
-          dropped _ (first_share l *ℤ value (first_corner l)) (second_share l *ℤ value (second_corner l))
-          (third_share l *ℤ value (third_corner l)) _
-          (mix l n) (neg_mul (rise m home l.f e) (value o) ∙ ap neg_ℤ (ap (λ v. v *ℤ value o) face.on ∙ zero_mul (value o)));
+      mix = λ n. let sum = mix l n in
+          let gone = neg_mul (rise m home l.f e) (weighted_dot n o) ∙ ap neg_ℤ
+          (ap (λ v. v *ℤ weighted_dot n o) face.on ∙ zero_mul (weighted_dot n o)) in
+          omega (arith, ints, sum, gone);
     }
-  where
-    dropped : (x a b c d : ℤ) → x ≡ a +ℤ b +ℤ c +ℤ d → d ≡ neg_ℤ (pos 0) → x ≡ a +ℤ b +ℤ c
-    dropped x a b c d e h = omega (arith, ints)

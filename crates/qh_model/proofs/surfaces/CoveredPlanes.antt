@@ -128,7 +128,8 @@ plane_is_covered m home o w z f0 i0 a b c e (inner, corners, level) settled = re
 
     plane_x : pos 0 <ℤ above a b c x
     plane_x =
-        let p = product_zero (pos n) _ level in let q = sum_level a b c a b c (above-first a b c) (above-second a b c) (above-third a b c) in
+        let p = product_zero (pos n) _ level in let q = sum_level a b c a b c (above-first a b c) (above-second a b c)
+        (above-third a b c) in
         let s = y-is a b c in on_sees_beyond a b c o y k (omega (arith, ints, p, q, s)) inner
 
     result : Located m home o x → FacetInPlane m home o a b c e
@@ -190,9 +191,7 @@ plane_is_covered m home o w z f0 i0 a b c e (inner, corners, level) settled = re
         within s =
             large (above u v e o) (above u v mid o) (side_bound s) n
             ((bound (λ f. above (home (start m f s)) (home (end m f s)) mid o) m.live).1 t l.live).1 (within_all side_bound s)
-            (subst (λ v. v ≤ℤ pos 0) (one _ _ (above u v mid o) (above-middle u v o e mid (pos n) (pos 1)))
-            (cancel-nonpos (pos k) (above u v y o) k_pos
-            (subst (λ v. v ≤ℤ pos 0) (none _ _ _ (above-third u v o) (above-middle u v o y o (pos k) (neg_ℤ (pos 1)))) (l.within s))))
+            (let sum = above-middle u v o e mid (pos n) (pos 1) in omega (arith, ints, sum, y_low))
           where
             u : Weighted
             u = home (start m t s)
@@ -200,8 +199,7 @@ plane_is_covered m home o w z f0 i0 a b c e (inner, corners, level) settled = re
             v : Weighted
             v = home (end m t s)
 
-            one : (t p q : ℤ) → t ≡ p +ℤ pos 1 *ℤ q → t ≡ p +ℤ q
-            one t p q e = omega (arith, ints)
-
-            none : (q t p : ℤ) → q ≡ pos 0 → t ≡ p +ℤ neg_ℤ (pos 1) *ℤ q → t ≡ p
-            none q t p z e = omega (arith, ints)
+            y_low : above u v y o ≤ℤ pos 0
+            y_low =
+                let sum = above-middle u v o y o (pos k) (neg_ℤ (pos 1)) in let none = above-third u v o in let low = l.within s in
+                cancel-nonpos (pos k) (above u v y o) k_pos (omega (arith, ints, sum, none, low))

@@ -2,7 +2,7 @@
 use Rattle.qh_model.specs.contract.Weighted.{Weighted, above, weighted_dot}
 use Rattle.std.proofs.Common.{◌≡◌, refl, [], arith}
 use Rattle.std.proofs.lemmas.Int.{ints}
-use Rattle.std.specs.Prelude.{ℤ, pos, ◌+ℤ◌, ◌*ℤ◌}
+use Rattle.std.specs.Prelude.{pos, ◌+ℤ◌, ◌*ℤ◌}
 use Rattle.qh_model.proofs.algebra.{Order.product_zero, Ring.ring}
 use Rattle.qh_model.proofs.algebra.Ring.Expr.{add, mul}
 use Rattle.qh_model.proofs.surfaces.Determinants.{above_of, dot_of, put4}
@@ -22,8 +22,6 @@ cramer n a b c y p =
 pub cramer_level : (n a b c y p : Weighted) → weighted_dot n a ≡ pos 0 → weighted_dot n b ≡ pos 0 → weighted_dot n c ≡ pos 0
     → above a b c y *ℤ weighted_dot n p ≡ above a b c p *ℤ weighted_dot n y
 cramer_level n a b c y p ha hb hc =
-    last _ _ _ _ _ (cramer n a b c y p) (product_zero (above p b c y) _ ha) (product_zero (above a p c y) _ hb)
-    (product_zero (above a b p y) _ hc)
-  where
-    last : (l a b c d : ℤ) → l ≡ a +ℤ b +ℤ c +ℤ d → a ≡ pos 0 → b ≡ pos 0 → c ≡ pos 0 → l ≡ d
-    last l a b c d e ha hb hc = omega (arith, ints)
+    let sum = cramer n a b c y p in let x = product_zero (above p b c y) (weighted_dot n a) ha in
+    let z = product_zero (above a p c y) (weighted_dot n b) hb in let w = product_zero (above a b p y) (weighted_dot n c) hc in
+    omega (arith, ints, sum, x, z, w)

@@ -74,23 +74,18 @@ bound r (x ∷ xs) = bound_more r x xs (bound r xs)
 -- a large enough share
 pub share : (b x : ℤ) (k : ℕ) → b <ℤ pos k → x <ℤ pos 0 → (b +ℤ pos k *ℤ x) <ℤ pos 0
 share b x k h q =
-    low b (pos k *ℤ x) (pos k) _ spread h (mul-nonneg_nonpos (pos k) (x +ℤ pos 1) (omega (arith, ints)) (omega (arith, ints, q)))
+    let l = mul-nonneg_nonpos (pos k) (x +ℤ pos 1) (omega (arith, ints)) (omega (arith, ints, q)) in omega (arith, ints, spread, h, l)
   where
     spread : pos k *ℤ (x +ℤ pos 1) ≡ pos k *ℤ x +ℤ pos k
     spread = ring (pos k ∷ x ∷ []) (mul (var 0) (add (var 1) (con (pos 1)))) (add (mul (var 0) (var 1)) (var 0)) refl
 
-    low : (b s k t : ℤ) → t ≡ s +ℤ k → b <ℤ k → t ≤ℤ pos 0 → (b +ℤ s) <ℤ pos 0
-    low b s k t e h q = omega (arith, ints)
-
 -- a large enough scale
 pub scale : (e x : ℤ) (m n : ℕ) → neg_ℤ e <ℤ pos m → suc m ≤ n → pos 0 <ℤ x → pos 0 <ℤ (pos n *ℤ x +ℤ e)
-scale e x m n h k q = high e (pos n *ℤ x) _ m n spread h k (mul-nonneg (pos n) (x -ℤ pos 1) (omega (arith, ints)) (omega (arith, ints, q)))
+scale e x m n h k q =
+    let l = mul-nonneg (pos n) (x -ℤ pos 1) (omega (arith, ints)) (omega (arith, ints, q)) in omega (arith, ints, spread, h, k, l)
   where
     spread : pos n *ℤ (x -ℤ pos 1) ≡ pos n *ℤ x -ℤ pos n
     spread = ring (pos n ∷ x ∷ []) (mul (var 0) (less (var 1) (con (pos 1)))) (less (mul (var 0) (var 1)) (var 0)) refl
-
-    high : (e s t : ℤ) (m n : ℕ) → t ≡ s -ℤ pos n → neg_ℤ e <ℤ pos m → suc m ≤ n → pos 0 ≤ℤ t → pos 0 <ℤ (s +ℤ e)
-    high e s t m n q h k l = omega (arith, ints)
 
 -- and a large enough scale downwards
 scale_down : (e x : ℤ) (n : ℕ) → e <ℤ pos 0 → x ≤ℤ pos 0 → (pos n *ℤ x +ℤ e) <ℤ pos 0

@@ -121,11 +121,10 @@ module _ (m : Surface) (at : ℕ → Weighted) (c : Weighted) (h : IsInner m at 
   -- the ends of a side differ
   pub ends_differ : (s : Side) → start m f s ≢ end m f s
   ends_differ s e =
-      let twice = above-flip (at (end m f s)) (at (end m f s)) (at (rest m f s)) c in
-      own (side_rise m at f s c) _ (side_below m at f s c (h f i)) (λ k. above (at (e k)) (at (end m f s)) (at (rest m f s)) c) twice
-    where
-      own : (x y : ℤ) → x <ℤ pos 0 → x ≡ y → y ≡ neg_ℤ y → ⊥
-      own x y h e n = omega (arith, ints)
+      let twice = above-flip (at (end m f s)) (at (end m f s)) (at (rest m f s)) c in let low = side_below m at f s c (h f i) in
+      let same : side_rise m at f s c ≡ above (at (end m f s)) (at (end m f s)) (at (rest m f s)) c =
+      (λ k. above (at (e k)) (at (end m f s)) (at (rest m f s)) c) in
+      omega (arith, ints, twice, low, same)
 
   -- and the id across from both
   pub rest_differs : (s : Side) → (rest m f s ≢ start m f s) × (rest m f s ≢ end m f s)

@@ -2,7 +2,7 @@
 use Rattle.std.proofs.Common.{◌↔◌, ◌≡◌, ◌≢◌, ℕ, arith, refl, sym, ap, subst, ◌∙◌, ◌⊎◌, inl, inr, List, [], ◌∷◌}
 use Rattle.std.proofs.lemmas.Int.{ints}
 use native.Mathlib.Decide.{ℕ_discrete}
-use Rattle.std.specs.Prelude.{ℤ, pos, ◌+ℤ◌, ◌-ℤ◌, ◌*ℤ◌, neg_ℤ, ◌≤ℤ◌, ◌<ℤ◌}
+use Rattle.std.specs.Prelude.{ℤ, pos, ◌+ℤ◌, ◌-ℤ◌, ◌*ℤ◌, ◌≤ℤ◌, ◌<ℤ◌}
 use Rattle.qh_model.specs.headline.{Vector.Vector, Vector.dot, Predicates.cross, Predicates.vol, Predicates.AreInLine, Sets.In}
 use Rattle.qh_model.specs.headline.{Sets.Members, Combination.Combination, Extreme.Others, Extreme.Extreme}
 use Rattle.qh_model.specs.headline.SupportingPlane.{IsSupportingTriple, OnPlane}
@@ -215,12 +215,9 @@ module _ (at : ℕ → Vector) (ids : List ℕ) (m : Surface) (z : IsFinished at
           v_nonneg = q.v_nonneg;
           w_nonneg = q.w_nonneg;
           t_nonneg = omega (arith, ints);
-          mix = λ n. padded _ _ (weighted_dot n o) (q.mix n);
+          mix = λ n. let sum = q.mix n in omega (arith, ints, sum);
         });
       }
-    where
-      padded : (x a y : ℤ) → x ≡ a → x ≡ a +ℤ pos 0 *ℤ y
-      padded x a y e = omega (arith, ints)
 
   -- ---- one side outside
   module _ (i j k a b c : ℕ) (t : IsSupportingTriple at (Members ids) i j k) (r : IsSupportingTriple at (Members ids) a b c)
@@ -231,15 +228,12 @@ module _ (at : ℕ → Vector) (ids : List ℕ) (m : Surface) (z : IsFinished at
         zeros_not_negative _ _ _ _ _ (above-together (P i) (P j) (P k) (P z.s) (P z.t) (P z.u) (P z.v))
         (middle_below i j k t) (level z.s z.has_s) (level z.t z.has_t) (level z.u z.has_u) (level z.v z.has_v)
       where
-        -- the volumes over the flipped triangle are not below 0
-        turned : (x y : ℤ) → x ≡ neg_ℤ y → y ≤ℤ pos 0 → pos 0 ≤ℤ x
-        turned x y e h = omega (arith, ints)
-
         level : (l : ℕ) → Members ids l → above (P i) (P j) (P k) (P l) ≡ pos 0
         level l hl =
+            let flip = vol-flip_last (at a) (at b) (at c) (at l) in let low = r.supports l hl in
             is_vol i j k l ∙ le_antisym (vol (at i) (at j) (at k) (at l)) (pos 0) (t.supports l hl)
             (at_least_along h.t h.s _ _ h.some_t h.some_s (sym (vol_along (at i) (at j) (at k) (at a) (at c) (at b) (at l) h e))
-            (turned _ _ (vol-flip_last (at a) (at b) (at c) (at l)) (r.supports l hl)))
+            (omega (arith, ints, flip, low)))
 
     -- supporting triples in one plane have the same side outside
     pub one_plane : vol (at i) (at j) (at k) (at b) ≡ pos 0 → vol (at i) (at j) (at k) (at c) ≡ pos 0

@@ -5,7 +5,7 @@ use Rattle.qh_model.specs.headline.Sets.{In}
 use Rattle.qh_model.specs.contract.Weighted.{Weighted}
 use Rattle.std.proofs.Common.{◌≡◌, ◌≢◌, ℕ, refl, arith, ap, sym, ◌∙◌, subst, ◌⊎◌, inl, inr}
 use Rattle.std.proofs.lemmas.Int.{ints}
-use Rattle.std.specs.Prelude.{ℤ, pos, neg_ℤ, ◌≤ℤ◌, ◌<ℤ◌}
+use Rattle.std.specs.Prelude.{pos, neg_ℤ, ◌≤ℤ◌}
 use Rattle.qh_model.proofs.surfaces.Facets.{side_rise, side_below, corner_start, corner_end, corner_rest, corner_cases, corner_test}
 use Rattle.qh_model.proofs.surfaces.Facets.{ends_differ}
 use Rattle.qh_model.specs.contract.Surface.Side.{first, second, third}
@@ -34,9 +34,6 @@ edge_once m home o q f g i j s t e1 e2 = same (corner_test m f (rest m g t)) (co
     st : IsStrict m at
     st = q.lifted.strict q.lifted.from (omega arith)
 
-    opposite : (x y : ℤ) → x <ℤ pos 0 → y <ℤ pos 0 → y ≡ neg_ℤ x → ⊥
-    opposite x y h k e = omega (arith, ints)
-
     swapped : side_rise m at g t (at (rest m f s)) ≡ neg_ℤ (side_rise m at f s (at (rest m g t)))
     swapped = rw (sym e1, sym e2) (above-swap_last (at (start m f s)) (at (end m f s)) (at (rest m f s)) (at (rest m g t)))
 
@@ -48,8 +45,9 @@ edge_once m home o q f g i j s t e1 e2 = same (corner_test m f (rest m g t)) (co
         q.distinct f g i j (from_side m f s (IsCorner m g)
         (subst (IsCorner m g) (sym e1) (corner_start m g t)) (subst (IsCorner m g) (sym e2) (corner_end m g t)) b)
     same (inr a) (inr b) =
-        absurd (opposite (side_rise m at f s (at (rest m g t))) _ (side_below m at f s _ (st f g i j (rest m g t) (corner_rest m g t) a))
-        (side_below m at g t _ (st g f j i (rest m f s) (corner_rest m f s) b)) swapped)
+        let low_f = side_below m at f s _ (st f g i j (rest m g t) (corner_rest m g t) a) in
+        let low_g = side_below m at g t _ (st g f j i (rest m f s) (corner_rest m f s) b) in
+        absurd (omega (arith, ints, low_f, low_g, swapped))
 
 -- a side is known by its start
 pub side_once : (m : Surface) (home : ℕ → Weighted) (o : Weighted) → IsInner m home o → (f : ℕ) → In f m.live

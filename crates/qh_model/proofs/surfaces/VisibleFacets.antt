@@ -29,15 +29,14 @@ leaves n t y p h hp hy ha hb hc =
     by_lt_z (pos 0) (above t.b t.c p y) (λ q. inr (inl q)) (λ c2.
     by_lt_z (pos 0) (above t.c t.a p y) (λ q. inr (inr q)) (λ c3. absurd (never c1 c2 c3))))
   where
-    no_sum_below : (l a b c d : ℤ) → l ≡ a +ℤ b +ℤ c +ℤ d → l <ℤ pos 0 → pos 0 ≤ℤ a → pos 0 ≤ℤ b → pos 0 ≤ℤ c → d ≡ pos 0 → ⊥
-    no_sum_below l a b c d e h ha hb hc hd = omega (arith, ints)
-
     never : above t.a t.b p y ≤ℤ pos 0 → above t.b t.c p y ≤ℤ pos 0 → above t.c t.a p y ≤ℤ pos 0 → ⊥
     never c1 c2 c3 =
-        no_sum_below _ _ _ _ _ (cramer n t.a t.b t.c y p) (mul-neg_pos (over t y) (weighted_dot n p) h hp)
-        (mul-nonpos (above p t.b t.c y) _ (subst (λ v. v ≤ℤ pos 0) (sym (above-turn p t.b t.c y)) c2) ha)
-        (mul-nonpos (above t.a p t.c y) _ (subst (λ v. v ≤ℤ pos 0) (sym (above-turn t.a p t.c y ∙ above-turn p t.c t.a y)) c3) hb)
-        (mul-nonpos (above t.a t.b p y) _ c1 hc) (product_zero (above t.a t.b t.c p) _ hy)
+        let sum = cramer n t.a t.b t.c y p in let low = mul-neg_pos (over t y) (weighted_dot n p) h hp in
+        let a = mul-nonpos (above p t.b t.c y) (weighted_dot n t.a) (subst (λ v. v ≤ℤ pos 0) (sym (above-turn p t.b t.c y)) c2) ha in
+        let turned = above-turn t.a p t.c y ∙ above-turn p t.c t.a y in
+        let b = mul-nonpos (above t.a p t.c y) (weighted_dot n t.b) (subst (λ v. v ≤ℤ pos 0) (sym turned) c3) hb in
+        let c = mul-nonpos (above t.a t.b p y) (weighted_dot n t.c) c1 hc in
+        let d = product_zero (above t.a t.b t.c p) (weighted_dot n y) hy in omega (arith, ints, sum, low, a, b, c, d)
 
 -- f comes after g on the way from y to p (both see p)
 abbrev pub after : (f g : Corners) (y p : Weighted) → ℤ
@@ -78,8 +77,8 @@ same_not_less p q h = omega (arith, ints)
 chain : (pm qm px qx pg qg : ℤ) → pos 0 <ℤ pm → pos 0 <ℤ px → pos 0 <ℤ pg → pos 0 <ℤ (pm *ℤ qx -ℤ qm *ℤ px)
     → pos 0 <ℤ (px *ℤ qg -ℤ qx *ℤ pg) → pos 0 <ℤ (pm *ℤ qg -ℤ qm *ℤ pg)
 chain pm qm px qx pg qg hm hx hg h k =
-    cancel-pos px (pm *ℤ qg -ℤ qm *ℤ pg) hx (subst (λ z. pos 0 <ℤ z) (sym same)
-    (added _ _ (mul-pos pm (px *ℤ qg -ℤ qx *ℤ pg) hm k) (mul-pos pg (pm *ℤ qx -ℤ qm *ℤ px) hg h)))
+    let a = mul-pos pm (px *ℤ qg -ℤ qx *ℤ pg) hm k in let b = mul-pos pg (pm *ℤ qx -ℤ qm *ℤ px) hg h in
+    cancel-pos px (pm *ℤ qg -ℤ qm *ℤ pg) hx (omega (arith, ints, same, a, b))
   where
     same : px *ℤ (pm *ℤ qg -ℤ qm *ℤ pg) ≡ pm *ℤ (px *ℤ qg -ℤ qx *ℤ pg) +ℤ pg *ℤ (pm *ℤ qx -ℤ qm *ℤ px)
     same =
@@ -87,9 +86,6 @@ chain pm qm px qx pg qg hm hx hg h k =
         (mul (var 2) (less (mul (var 0) (var 5)) (mul (var 1) (var 4))))
         (add (mul (var 0) (less (mul (var 2) (var 5)) (mul (var 3) (var 4))))
         (mul (var 4) (less (mul (var 0) (var 3)) (mul (var 1) (var 2))))) refl
-
-    added : (a b : ℤ) → pos 0 <ℤ a → pos 0 <ℤ b → pos 0 <ℤ (a +ℤ b)
-    added a b h k = omega (arith, ints)
 
 -- what holds of the first and of the rest holds of all
 of_all : {X : Type 0} (R : X → Type 0) (x : X) (xs : List X) → R x → ((g : X) → In g xs → R g) → (g : X) → In g (x ∷ xs) → R g
