@@ -74,12 +74,8 @@ module _ (m : Surface) (at : ℕ → Weighted) where
 
   module _ (w : IsWhole m) (f : ℕ) (i : In f m.live) (s : Side) (p y : Weighted) where
     -- as their planes go through one line
-    abbrev Products : Type 0
-    Products =
-        side_rise m at f s p *ℤ far_rise m at f s y -ℤ side_rise m at f s y *ℤ far_rise m at f s p
+    products : side_rise m at f s p *ℤ far_rise m at f s y -ℤ side_rise m at f s y *ℤ far_rise m at f s p
         ≡ side_rise m at f s (at (far m f s)) *ℤ apex_rise f s p y
-
-    products : Products
     products = line_product (at (start m f s)) (at (end m f s)) (at (rest m f s)) (at (far m f s)) p y
 
     -- y strictly below both: then the side bends, and y is strictly below the cone's facet

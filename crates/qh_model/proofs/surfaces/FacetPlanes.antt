@@ -37,12 +37,15 @@ level_on at ids m z f g h live live' level level' l c = ((level_facets_span at i
 
 -- ---- a point a little beyond a facet
 module _ (at : ℕ → Vector) (ids : List ℕ) (m : Surface) (z : IsFinished at ids m) (f : ℕ) (live : In f m.live) where
+  -- the weighted points of the ids
   abbrev home : ℕ → Weighted
   home = weighted_at at
 
+  -- the middle
   abbrev o : Weighted
   o = middle_at at z.s z.t z.u z.v
 
+  -- a bound for how far it is below any facet
   abbrev b : ℕ
   b = (bound (λ g. rise m home g o) m.live).0
 

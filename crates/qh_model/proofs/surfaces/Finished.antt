@@ -263,14 +263,18 @@ module _ (at : ℕ → Vector) (ids : List ℕ) (m : Surface) (z : IsFinished at
       record { f = q.f; live = q.live; along = one.0; same = one.1 }
 
 -- ---- the laws
+-- the law
 pub extremes_are_corners : ExtremesAreCorners
 extremes_are_corners = corner_of_extreme
 
+-- the law
 pub facets_support : FacetsSupport
 facets_support = facet_supports
 
+-- the law
 pub extremes_of_plane_are_corners : ExtremesOfPlaneAreCorners
 extremes_of_plane_are_corners = corner_of_plane
 
+-- the law
 pub planes_have_facets : PlanesHaveFacets
 planes_have_facets = facet_of_plane

@@ -162,44 +162,35 @@ module _ {m m' : Surface} {name : ℕ → ℕ} (r : IsNamed m m' name) where
 -- a surface finished over numbers is finished over their names
 pub finished_named : (at at' : ℕ → Vector) (n : ℕ) (name position : ℕ → ℕ) (m m' : Surface) → IsNaming at at' n name position
     → IsNamed m m' name → IsFinished at (range_with_len 0 n) m → IsFinished at' (map name (range_with_len 0 n)) m'
-finished_named at at' n name position m m' a r h = record {
-  s = name h.s;
-  t = name h.t;
-  u = name h.u;
-  v = name h.v;
-  has_s = in_map name ids h.s h.has_s;
-  has_t = in_map name ids h.t h.has_t;
-  has_u = in_map name ids h.u h.has_u;
-  has_v = in_map name ids h.v h.has_v;
-  volume = subst (λ x. x <ℤ pos 0) (λ k. vol (at_s k) (at_t k) (at_u k) (at_v k)) h.volume;
-  whole = whole_named r h.whole;
-  sound = subst (IsSound m' (weighted_at at'))
-      (λ k. middle_of (weighted (at_s k)) (weighted (at_t k)) (weighted (at_u k)) (weighted (at_v k)))
-      (sound_named r (weighted_at at) (weighted_at at') (middle_at at h.s h.t h.u h.v) position
-      (λ f i l c. ap weighted (point l (h.corners f i l c))) (λ f i l c. a.back l (range_below n l (h.corners f i l c))) h.sound);
-  some = h.some;
-  some_live = subst (In h.some) (sym r.live) h.some_live;
-  corners = λ f i l c. member f (live_named r f i) l (of_corner_named r f (live_named r f i) l c);
-  unseen = λ f i l k. below f (live_named r f i) l (of_map name ids l k);
-}
+finished_named at at' n name position m m' a r h =
+    let at_s = sym (point h.s h.has_s) in let at_t = sym (point h.t h.has_t) in
+    let at_u = sym (point h.u h.has_u) in let at_v = sym (point h.v h.has_v) in
+    record {
+      s = name h.s;
+      t = name h.t;
+      u = name h.u;
+      v = name h.v;
+      has_s = in_map name ids h.s h.has_s;
+      has_t = in_map name ids h.t h.has_t;
+      has_u = in_map name ids h.u h.has_u;
+      has_v = in_map name ids h.v h.has_v;
+      volume = subst (λ x. x <ℤ pos 0) (λ k. vol (at_s k) (at_t k) (at_u k) (at_v k)) h.volume;
+      whole = whole_named r h.whole;
+      sound = subst (IsSound m' (weighted_at at'))
+          (λ k. middle_of (weighted (at_s k)) (weighted (at_t k)) (weighted (at_u k)) (weighted (at_v k)))
+          (sound_named r (weighted_at at) (weighted_at at') (middle_at at h.s h.t h.u h.v) position
+          (λ f i l c. ap weighted (point l (h.corners f i l c))) (λ f i l c. a.back l (range_below n l (h.corners f i l c))) h.sound);
+      some = h.some;
+      some_live = subst (In h.some) (sym r.live) h.some_live;
+      corners = λ f i l c. member f (live_named r f i) l (of_corner_named r f (live_named r f i) l c);
+      unseen = λ f i l k. below f (live_named r f i) l (of_map name ids l k);
+    }
   where
     ids : List ℕ
     ids = range_with_len 0 n
 
     point : (l : ℕ) → In l ids → at' (name l) ≡ at l
     point l k = a.point l (range_below n l k)
-
-    at_s : at h.s ≡ at' (name h.s)
-    at_s = sym (point h.s h.has_s)
-
-    at_t : at h.t ≡ at' (name h.t)
-    at_t = sym (point h.t h.has_t)
-
-    at_u : at h.u ≡ at' (name h.u)
-    at_u = sym (point h.u h.has_u)
-
-    at_v : at h.v ≡ at' (name h.v)
-    at_v = sym (point h.v h.has_v)
 
     member : (f : ℕ) → In f m.live → (l : ℕ) → (c : ℕ) × IsCorner m f c × (l ≡ name c) → In l (map name ids)
     member f i l (c, d, e) = subst (λ x. In x (map name ids)) (sym e) (in_map name ids c (h.corners f i c d))

@@ -53,10 +53,11 @@ live_is_marked fs f = (λ i. to (marked_of 0 fs f i), λ e. subst (λ g. In g (l
     to : (k : ℕ) × (f ≡ 0 + k) × ((facet_at fs k).live ≡ true) → (facet_at fs f).live ≡ true
     to (k, e, q) = subst (λ g. (facet_at fs g).live ≡ true) (sym (e ∙ none_before k)) q
 
--- a facet of the surface is live, and a live one of the surface
+-- a facet of the surface is live
 pub live_in : (fs : List StoredFacet) (f : ℕ) → In f (live_from 0 fs) → (facet_at fs f).live ≡ true
 live_in fs f = (live_is_marked fs f).0
 
+-- and a live one is of the surface
 pub in_live : (fs : List StoredFacet) (f : ℕ) → (facet_at fs f).live ≡ true → In f (live_from 0 fs)
 in_live fs f = (live_is_marked fs f).1
 
@@ -73,6 +74,7 @@ live_once n (f ∷ fs) = by_mark f.live (live_once (n + 1) fs)
     by_mark true o = ((λ i. let h = live_above (n + 1) fs n i in omega arith), o)
     by_mark false o = o
 
+-- the law
 pub live_is_listed_once : LiveIsListedOnce
 live_is_listed_once fs = live_once 0 fs
 
