@@ -15,4 +15,3 @@ pub mod Cuts
 pub mod ReadingLaws
 pub mod OffReadingLaws
 pub mod Readings
-pub mod examples

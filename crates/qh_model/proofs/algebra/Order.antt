@@ -89,6 +89,14 @@ zero_product (negsuc n) b k = inr (cancel-zero (pos (suc n)) b (omega (arith, in
     turned : (n : ℕ) (b : ℤ) → negsuc n *ℤ b ≡ pos 0 → pos (suc n) *ℤ b ≡ pos 0
     turned n b k = omega (arith, ints, product_is (negsuc n) b, product_is (pos (suc n)) b)
 
+-- a negative factor of 0
+pub cancel-zero_neg : (a b : ℤ) → a <ℤ pos 0 → a *ℤ b ≡ pos 0 → b ≡ pos 0
+cancel-zero_neg a b h k = other (zero_product a b k)
+  where
+    other : (a ≡ pos 0) ⊎ (b ≡ pos 0) → b ≡ pos 0
+    other (inl e) = absurd (omega (arith, ints, h, e))
+    other (inr e) = e
+
 -- a negative number and a positive one
 pub mul-neg_pos : (a b : ℤ) → a <ℤ pos 0 → pos 0 <ℤ b → (a *ℤ b) <ℤ pos 0
 mul-neg_pos a b h k = by_lt_z (a *ℤ b) (pos 0) (λ q. q) (λ q. absurd (not_less a (pos 0) h (cancel_right a b k q)))

@@ -1,5 +1,5 @@
 -- A set has one dimension, and its extreme ids have the same.
-use Rattle.std.proofs.Common.{◌≡◌, ◌≢◌, ℕ, arith, ap, sym, subst, ◌∙◌, ◌⊎◌, inl, inr}
+use Rattle.std.proofs.Common.{◌≡◌, ◌≢◌, ℕ, arith, refl, ap, sym, subst, ◌∙◌, ◌⊎◌, inl, inr}
 use Rattle.std.proofs.lemmas.Int.{ints}
 use Rattle.std.specs.Prelude.{ℤ, pos, ◌+ℤ◌, ◌-ℤ◌, neg_ℤ}
 use Rattle.qh_model.specs.headline.Vector.{Vector, origin, minus, cross_product, dot}
@@ -192,17 +192,44 @@ dimension_as at at' A B f g h k (inr (inl (e, t, n))) = inr (inl (e, g.0 t, λ u
 dimension_as at at' A B f g h k (inr (inr (inl (e, t, n)))) = inr (inr (inl (e, h.0 t, λ u. n (g.1 u))))
 dimension_as at at' A B f g h k (inr (inr (inr (e, n)))) = inr (inr (inr (e, λ u. n (h.1 u))))
 
--- a part has no more than the set
-tetrahedron_in : (at : ℕ → Vector) (A B : ℕ → Type 0) → ((i : ℕ) → A i → B i) → HasTetrahedron at A → HasTetrahedron at B
-tetrahedron_in at A B f h = record { i = h.i; j = h.j; k = h.k; l = h.l; has_i = f h.i h.has_i; has_j = f h.j h.has_j; has_k = f h.k h.has_k; has_l = f h.l h.has_l; volume = h.volume }
+-- ---- members named by members of another set, with the same points
+module _ {at at' : ℕ → Vector} {A B : ℕ → Type 0} (f : ℕ → ℕ) (to : (i : ℕ) → A i → B (f i)) where
+  -- a tetrahedron by their names
+  pub tetrahedron_by_names : ((i : ℕ) → A i → at' (f i) ≡ at i) → HasTetrahedron at A → HasTetrahedron at' B
+  tetrahedron_by_names point t = record {
+    i = f t.i;
+    j = f t.j;
+    k = f t.k;
+    l = f t.l;
+    has_i = to t.i t.has_i;
+    has_j = to t.j t.has_j;
+    has_k = to t.k t.has_k;
+    has_l = to t.l t.has_l;
+    volume = λ e. t.volume (sym (λ z. vol (point t.i t.has_i z) (point t.j t.has_j z) (point t.k t.has_k z) (point t.l t.has_l z)) ∙ e);
+  }
 
--- a triangle of a part
-triangle_in : (at : ℕ → Vector) (A B : ℕ → Type 0) → ((i : ℕ) → A i → B i) → HasTriangle at A → HasTriangle at B
-triangle_in at A B f h = record { i = h.i; j = h.j; k = h.k; has_i = f h.i h.has_i; has_j = f h.j h.has_j; has_k = f h.k h.has_k; area = h.area }
+  -- a triangle
+  pub triangle_by_names : ((i : ℕ) → A i → at' (f i) ≡ at i) → HasTriangle at A → HasTriangle at' B
+  triangle_by_names point t = record {
+    i = f t.i;
+    j = f t.j;
+    k = f t.k;
+    has_i = to t.i t.has_i;
+    has_j = to t.j t.has_j;
+    has_k = to t.k t.has_k;
+    area = λ e. t.area (sym (λ z. cross (point t.i t.has_i z) (point t.j t.has_j z) (point t.k t.has_k z)) ∙ e);
+  }
 
--- a segment of a part
-segment_in : (A B : ℕ → Type 0) → ((i : ℕ) → A i → B i) → HasSegment A → HasSegment B
-segment_in A B f h = record { i = h.i; j = h.j; has_i = f h.i h.has_i; has_j = f h.j h.has_j; differ = h.differ }
+-- a segment, where names tell the members apart
+pub segment_by_names : {A B : ℕ → Type 0} (f : ℕ → ℕ) (to : (i : ℕ) → A i → B (f i)) → ((i j : ℕ) → A i → A j → f i ≡ f j → i ≡ j)
+    → HasSegment A → HasSegment B
+segment_by_names f to apart s = record {
+  i = f s.i;
+  j = f s.j;
+  has_i = to s.i s.has_i;
+  has_j = to s.j s.has_j;
+  differ = λ e. s.differ (apart s.i s.j s.has_i s.has_j e);
+}
 
 -- the law
 pub dimension_of_extremes : DimensionOfExtremes
@@ -218,10 +245,10 @@ dimension_of_extremes at ids k d = (dimension_as at at E A (four.1, four.0) (thr
     m i h = combination_of_extremes at A ids (listed_itself ids) d i h
 
     four : Both (HasTetrahedron at A) (HasTetrahedron at E)
-    four = (tetrahedron_of at A E m, tetrahedron_in at E A (λ i h. h.0))
+    four = (tetrahedron_of at A E m, tetrahedron_by_names (λ i. i) (λ i h. h.0) (λ i h. refl))
 
     three : Both (HasTriangle at A) (HasTriangle at E)
-    three = (triangle_of at A E m, triangle_in at E A (λ i h. h.0))
+    three = (triangle_of at A E m, triangle_by_names (λ i. i) (λ i h. h.0) (λ i h. refl))
 
     two : Both (HasSegment A) (HasSegment E)
-    two = (segment_of at A E d m, segment_in E A (λ i h. h.0))
+    two = (segment_of at A E d m, segment_by_names (λ i. i) (λ i h. h.0) (λ i j h k e. e))

@@ -1,15 +1,9 @@
 -- The hull of a set renamed in its order.
 use Rattle.std.proofs.Common.{◌≡◌, ℕ, ◌⊎◌, List, [], ◌∷◌, map, sym, subst, ◌∙◌, inl, inr}
-use Rattle.qh_model.specs.headline.Vector.{Vector}
-use Rattle.qh_model.specs.headline.Sets.{In}
-use Rattle.qh_model.specs.headline.Extreme.{Extreme}
-use Rattle.qh_model.specs.headline.SupportingPlane.{IsSupportingTriple}
-use Rattle.qh_model.specs.headline.Polygons.{IsFacePolygon, ArePolygons}
-use Rattle.qh_model.specs.headline.Hull.{BodyValue, IsBody}
-use Rattle.qh_model.proofs.renamed.Lists.{AreWithin, rising_map}
-use Rattle.qh_model.proofs.renamed.Renaming.{IsRenaming, renaming_back, extreme_renamed, dimension_renamed}
+use Rattle.qh_model.specs.headline.{Vector.Vector, Sets.In, Polygons.ArePolygons, Hull.BodyValue, Hull.IsBody}
+use Rattle.qh_model.proofs.renamed.{Lists.AreWithin, Lists.rising_map, Edges.edge_count_renamed}
+use Rattle.qh_model.proofs.renamed.Renaming.{IsRenaming, extremes_renamed, dimension_renamed}
 use Rattle.qh_model.proofs.renamed.Polygons.{members_renamed, polygons_renamed}
-use Rattle.qh_model.proofs.renamed.Edges.{edge_count_renamed}
 
 -- the one member of a list of one
 alone : (qs : List (List ℕ)) (p : List ℕ) → qs ≡ p ∷ [] → (q : List ℕ) → In q qs → q ≡ p
@@ -21,10 +15,7 @@ alone qs p s q m = one (subst (In q) s m)
 
 -- the members of polygons are members of the set
 pub polygon_members : (at : ℕ → Vector) (A : ℕ → Type 0) (k : ℕ) (qs : List (List ℕ)) → ArePolygons at A k qs → AreWithin A qs
-polygon_members at A k qs (inl (e, h)) q m i j = go (h.only q m)
-  where
-    go : (u : ℕ) × (v : ℕ) × (w : ℕ) × IsSupportingTriple at A u v w × IsFacePolygon at A u v w q → A i
-    go (u, v, w, t, p) = ((p.members i).0 j).0.0
+polygon_members at A k qs (inl (e, h)) q m i j = let face = h.only q m in ((face.4.members i).0 j).0.0
 polygon_members at A k qs (inr (inl (e, (p, h, s)))) q m i j = ((h.polygon.members i).0 (subst (In i) (alone qs p s q m) j)).0
 polygon_members at A k qs (inr (inr (inl (e, (p, h, s))))) q m i j = ((h.members i).0 (two (subst (In i) (alone qs p s q m ∙ h.is) j))).0
   where
@@ -50,8 +41,7 @@ module _ {at at' : ℕ → Vector} {A B : ℕ → Type 0} {f g : ℕ → ℕ} (r
     dim = dimension_renamed r b.dim h.dim;
     extremes = record {
       rising = rising_map A f r.rises b.extremes (λ i m. ((h.extremes.members i).0 m).0) h.extremes.rising;
-      members = members_renamed r (Extreme at A) (Extreme at' B) b.extremes (extreme_renamed r) (λ k e. e.0)
-          (extreme_renamed (renaming_back r)) h.extremes.members;
+      members = members_renamed (extremes_renamed r) b.extremes h.extremes.members;
     };
     polygons = polygons_renamed r b.dim b.polygons within h.polygons;
     edges = edge_count_renamed r b.polygons b.edges within h.edges;

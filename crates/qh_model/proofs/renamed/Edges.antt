@@ -1,10 +1,7 @@
 -- The edges of a set renamed in its order.
 use Rattle.std.proofs.Common.{◌≡◌, ℕ, ◌<◌, ◌⊎◌, List, map, sym, ap, subst, ◌∙◌, inl, inr}
 use Rattle.std.proofs.lemmas.List.{length-map}
-use Rattle.qh_model.specs.headline.Vector.{Vector}
-use Rattle.qh_model.specs.headline.Sets.{In}
-use Rattle.qh_model.specs.headline.Polygon.{Follows}
-use Rattle.qh_model.specs.headline.Polygons.{IsEdge, IsEdgeCount}
+use Rattle.qh_model.specs.headline.{Vector.Vector, Sets.In, Polygon.Follows, Polygons.IsEdge, Polygons.IsEdgeCount}
 use Rattle.qh_model.proofs.lists.Images.{in_map, of_map, once_map}
 use Rattle.qh_model.proofs.polygons.Neighbours.{follows_members}
 use Rattle.qh_model.proofs.renamed.Lists.{AreWithin, follows_map, of_follows_map}
@@ -29,23 +26,19 @@ module _ {at at' : ℕ → Vector} {A B : ℕ → Type 0} {f g : ℕ → ℕ} (r
   -- an edge of the names is one of ids
   of_edge_renamed : (qs : List (List ℕ)) → AreWithin A qs → (u v : ℕ) → IsEdge (map (map f) qs) u v
       → (a : ℕ) × (b : ℕ) × IsEdge qs a b × (u ≡ f a) × (v ≡ f b)
-  of_edge_renamed qs within u v (h, (p, m, n)) = go (of_map (map f) qs p m)
+  of_edge_renamed qs within u v (h, (p, m, n)) = from (of_map (map f) qs p m) n
     where
       lower : (a b : ℕ) → A a → A b → u ≡ f a → v ≡ f b → a < b
       lower a b x y d e = renaming_falls r a b x y (subst (λ t. t < f b) d (subst (λ t. u < t) e h))
 
-      go : (q : List ℕ) × In q qs × (p ≡ map f q) → (a : ℕ) × (b : ℕ) × IsEdge qs a b × (u ≡ f a) × (v ≡ f b)
-      go (q, i, s) = pick n
-        where
-          pick : Follows u v p ⊎ Follows v u p → (a : ℕ) × (b : ℕ) × IsEdge qs a b × (u ≡ f a) × (v ≡ f b)
-          pick (inl w) =
-              let o = of_follows_map f u v q (subst (Follows u v) s w) in
-              let e = follows_members o.0 o.1 q o.2 in
-              (o.0, o.1, (lower o.0 o.1 (within q i o.0 e.0) (within q i o.1 e.1) o.3 o.4, (q, i, inl o.2)), o.3, o.4)
-          pick (inr w) =
-              let o = of_follows_map f v u q (subst (Follows v u) s w) in
-              let e = follows_members o.0 o.1 q o.2 in
-              (o.1, o.0, (lower o.1 o.0 (within q i o.1 e.1) (within q i o.0 e.0) o.4 o.3, (q, i, inr o.2)), o.4, o.3)
+      from : (q : List ℕ) × In q qs × (p ≡ map f q) → Follows u v p ⊎ Follows v u p
+          → (a : ℕ) × (b : ℕ) × IsEdge qs a b × (u ≡ f a) × (v ≡ f b)
+      from (q, i, s) (inl w) =
+          let o = of_follows_map f u v q (subst (Follows u v) s w) in let e = follows_members o.0 o.1 q o.2 in
+          (o.0, o.1, (lower o.0 o.1 (within q i o.0 e.0) (within q i o.1 e.1) o.3 o.4, (q, i, inl o.2)), o.3, o.4)
+      from (q, i, s) (inr w) =
+          let o = of_follows_map f v u q (subst (Follows v u) s w) in let e = follows_members o.0 o.1 q o.2 in
+          (o.1, o.0, (lower o.1 o.0 (within q i o.1 e.1) (within q i o.0 e.0) o.4 o.3, (q, i, inr o.2)), o.4, o.3)
 
   -- their number stays
   pub edge_count_renamed : (qs : List (List ℕ)) (n : ℕ) → AreWithin A qs → IsEdgeCount qs n → IsEdgeCount (map (map f) qs) n

@@ -2,8 +2,7 @@
 use Rattle.std.proofs.Common.{◌≡◌, ℕ, ◌+◌, ◌<◌, ◌≤◌, refl, List, [], ◌∷◌, length, get_or, map, arith, ap, sym, subst, inl, inr}
 use Rattle.std.proofs.lemmas.List.{length-map, get_or-map}
 use Rattle.std.specs.List.Sorted.{IsStrictlyIncreasing}
-use Rattle.qh_model.specs.headline.Sets.{In, BeginsWithLeast}
-use Rattle.qh_model.specs.headline.Polygon.{FollowsAlong, Follows}
+use Rattle.qh_model.specs.headline.{Sets.In, Sets.BeginsWithLeast, Polygon.FollowsAlong, Polygon.Follows}
 use Rattle.qh_model.specs.headline.Polygons.{ComesBefore, RisesFrom, RiseStrictly}
 use Rattle.qh_model.proofs.Members.{In-get_or}
 use Rattle.qh_model.proofs.lists.Images.{of_map}
@@ -49,10 +48,10 @@ module _ (A : ℕ → Type 0) (f : ℕ → ℕ) (rises : (i j : ℕ) → A i →
   -- the least stays first
   pub least_map : (q : List ℕ) → ((i : ℕ) → In i q → A i) → BeginsWithLeast q → BeginsWithLeast (map f q)
   least_map [] within h = tt
-  least_map (u ∷ us) within h = λ v m. go v (of_map f us v m)
+  least_map (u ∷ us) within h = λ v m. low_image v (of_map f us v m)
     where
-      go : (v : ℕ) → (w : ℕ) × In w us × (v ≡ f w) → f u ≤ v
-      go v (w, i, e) =
+      low_image : (v : ℕ) → (w : ℕ) × In w us × (v ≡ f w) → f u ≤ v
+      low_image v (w, i, e) =
           let low : u ≤ w = h w i in
           let up : u < w → f u < f w = rises u w (within u (inl refl)) (within w (inr i)) in
           let same : u ≡ w → f u ≡ f w = ap f in

@@ -1,57 +1,49 @@
 -- The members of a rising list named by their positions: the list of their points has the same hull, by these names.
-use Rattle.std.proofs.Common.{◌≡◌, ℕ, zero, suc, ◌<◌, Bool, true, false, cond, refl, List, [], ◌∷◌, length, get_or, map, arith, sym, ap, subst, ◌∙◌, ◌⊎◌, inl, inr, eqb-true}
-use Rattle.std.proofs.lemmas.Bool.{eqb-false}
-use Rattle.std.proofs.lemmas.List.{length-map, get_or-map}
+use Rattle.std.proofs.Common.{◌≡◌, ℕ, zero, suc, ◌<◌, Bool, true, false, cond, refl, List, [], ◌∷◌, length, get_or, map, arith, sym, ap}
+use Rattle.std.proofs.Common.{subst, ◌∙◌, ◌⊎◌, inl, inr, eqb-true}
+use Rattle.std.proofs.lemmas.{Bool.eqb-false, List.length-map, List.get_or-map}
 use Rattle.std.specs.Prelude.{◌==◌, ◌↔◌}
 use Rattle.std.specs.List.Sorted.{IsStrictlyIncreasing}
-use Rattle.qh_model.specs.headline.Vector.{Vector, origin}
-use Rattle.qh_model.specs.headline.Predicates.{place}
-use Rattle.qh_model.specs.headline.Sets.{In, Once, Members}
-use Rattle.qh_model.specs.headline.DistinctIds.{AreDistinctIds}
-use Rattle.qh_model.specs.headline.Extreme.{Extreme}
-use Rattle.qh_model.specs.headline.Hull.{HullValue, IsHull}
-use Rattle.qh_model.specs.headline.Text.{vertex_number}
+use Rattle.qh_model.specs.headline.{Vector.Vector, Vector.origin, Predicates.place, Sets.In, Sets.Once, Sets.Members}
+use Rattle.qh_model.specs.headline.{DistinctIds.AreDistinctIds, Extreme.Extreme, Hull.HullValue, Hull.IsHull, Text.vertex_number}
 use Rattle.qh_model.specs.contract.IdSets.{HasDistinctPoints}
-use Rattle.qh_model.proofs.Members.{In-get_or, rising_once}
-use Rattle.qh_model.proofs.DistinctIds.{distinct_apart}
-use Rattle.qh_model.proofs.lists.Images.{in_map, of_map}
-use Rattle.qh_model.proofs.lists.Rising.{rising_between}
+use Rattle.qh_model.proofs.{Members.In-get_or, Members.rising_once, DistinctIds.distinct_apart}
+use Rattle.qh_model.proofs.lists.{Images.in_map, Images.of_map, Rising.rising_between}
 use Rattle.qh_model.proofs.hulls.OfExtremes.{body_of_extremes}
+use Rattle.qh_model.proofs.renamed.{Lists.rising_map, Bodies.renamed_body, Bodies.body_renamed}
 use Rattle.qh_model.proofs.renamed.Renaming.{IsRenaming, renaming_apart, renaming_back}
-use Rattle.qh_model.proofs.renamed.Lists.{rising_map}
-use Rattle.qh_model.proofs.renamed.Bodies.{renamed_body, body_renamed}
 
 -- ---- positions
 -- a member's position is one of the list, and it stands there
 pub at_number : (xs : List ℕ) (i : ℕ) → In i xs → (vertex_number xs i < length xs) × (get_or xs (vertex_number xs i) 0 ≡ i)
 at_number [] i m = absurd m
-at_number (x ∷ xs) i m = by (at_number xs i) (x == i) refl m
+at_number (x ∷ xs) i m = first_or_later (at_number xs i) (x == i) refl m
   where
     IsAt : List ℕ → ℕ → Type 0
     IsAt ys k = (k < length ys) × (get_or ys k 0 ≡ i)
 
-    by : (In i xs → IsAt xs (vertex_number xs i)) → (b : Bool) → (x == i) ≡ b → (i ≡ x) ⊎ In i xs
+    first_or_later : (In i xs → IsAt xs (vertex_number xs i)) → (b : Bool) → (x == i) ≡ b → (i ≡ x) ⊎ In i xs
         → IsAt (x ∷ xs) (cond b 0 (suc (vertex_number xs i)))
-    by rest true e m = (omega arith, eqb-true x i e)
-    by rest false e (inl d) = absurd (eqb-false x i e (sym d))
-    by rest false e (inr m) = let r = rest m in let low = r.0 in (omega (arith, low), r.1)
+    first_or_later rest true e m = (omega arith, eqb-true x i e)
+    first_or_later rest false e (inl d) = absurd (eqb-false x i e (sym d))
+    first_or_later rest false e (inr m) = let r = rest m in let low = r.0 in (omega (arith, low), r.1)
 
 -- the member at a position has this position, where each stands once
 pub number_at : (xs : List ℕ) (k : ℕ) → Once xs → k < length xs → vertex_number xs (get_or xs k 0) ≡ k
 number_at [] k o h = absurd (omega arith)
-number_at (x ∷ xs) zero o h = by (x == x) refl
+number_at (x ∷ xs) zero o h = first (x == x) refl
   where
-    by : (b : Bool) → (x == x) ≡ b → cond b 0 (suc (vertex_number xs x)) ≡ 0
-    by true e = refl
-    by false e = absurd (eqb-false x x e refl)
-number_at (x ∷ xs) (suc k) o h = by (number_at xs k o.1 (omega arith)) (x == i) refl
+    first : (b : Bool) → (x == x) ≡ b → cond b 0 (suc (vertex_number xs x)) ≡ 0
+    first true e = refl
+    first false e = absurd (eqb-false x x e refl)
+number_at (x ∷ xs) (suc k) o h = later (number_at xs k o.1 (omega arith)) (x == i) refl
   where
     i : ℕ
     i = get_or xs k 0
 
-    by : vertex_number xs i ≡ k → (b : Bool) → (x == i) ≡ b → cond b 0 (suc (vertex_number xs i)) ≡ suc k
-    by rest true e = absurd (o.0 (subst (λ t. In t xs) (sym (eqb-true x i e)) (In-get_or xs k 0 (omega arith))))
-    by rest false e = ap suc rest
+    later : vertex_number xs i ≡ k → (b : Bool) → (x == i) ≡ b → cond b 0 (suc (vertex_number xs i)) ≡ suc k
+    later rest true e = absurd (o.0 (subst (λ t. In t xs) (sym (eqb-true x i e)) (In-get_or xs k 0 (omega arith))))
+    later rest false e = ap suc rest
 
 -- positions rise with the members
 number_rises : (xs : List ℕ) → IsStrictlyIncreasing xs → (i j : ℕ) → In i xs → In j xs → i < j

@@ -1,12 +1,9 @@
 -- A set of ids renamed in its order, each with its point: its extreme ids and its dimension.
 use Rattle.std.proofs.Common.{◌≡◌, ℕ, ◌<◌, arith, sym, ap, subst, ◌∙◌}
-use Rattle.qh_model.specs.headline.Vector.{Vector}
-use Rattle.qh_model.specs.headline.Predicates.{vol, AreInLine}
-use Rattle.qh_model.specs.headline.Combination.{Combination}
-use Rattle.qh_model.specs.headline.Dimension.{HasTetrahedron, HasTriangle, HasSegment, IsDimension}
-use Rattle.qh_model.specs.headline.Extreme.{Others, Extreme}
+use Rattle.qh_model.specs.headline.{Vector.Vector, Combination.Combination, Dimension.IsDimension, Extreme.Others, Extreme.Extreme}
+use Rattle.qh_model.specs.headline.Predicates.{cross, vol}
 use Rattle.qh_model.proofs.combinations.OtherNames.{combination_by_names}
-use Rattle.qh_model.proofs.extremes.Dimensions.{dimension_as}
+use Rattle.qh_model.proofs.extremes.Dimensions.{dimension_as, tetrahedron_by_names, triangle_by_names, segment_by_names}
 
 -- f names each id of A by one of B, g back, with the same points and in the same order
 pub record IsRenaming (at at' : ℕ → Vector) (A B : ℕ → Type 0) (f g : ℕ → ℕ) : Type 0 where
@@ -16,10 +13,6 @@ pub record IsRenaming (at at' : ℕ → Vector) (A B : ℕ → Type 0) (f g : �
   pub under : (k : ℕ) → B k → f (g k) ≡ k
   pub point : (i : ℕ) → A i → at' (f i) ≡ at i
   pub rises : (i j : ℕ) → A i → A j → i < j → f i < f j
-
--- a volume of the same points
-pub volume_as : (p q u v p' q' u' v' : Vector) → p' ≡ p → q' ≡ q → u' ≡ u → v' ≡ v → vol p' q' u' v' ≡ vol p q u v
-volume_as p q u v p' q' u' v' d e f g = cc
 
 module _ {at at' : ℕ → Vector} {A B : ℕ → Type 0} {f g : ℕ → ℕ} (r : IsRenaming at at' A B f g) where
   -- two ids with one name are one
@@ -33,12 +26,6 @@ module _ {at at' : ℕ → Vector} {A B : ℕ → Type 0} {f g : ℕ → ℕ} (r
       let same : j ≡ i → f j ≡ f i = ap f in
       grind (arith, above, same, h)
 
-  -- names that rise are of ids that rise, told by the names
-  rises_back : (k l : ℕ) → B k → B l → k < l → g k < g l
-  rises_back k l b c h =
-      let up : f (g k) < f (g l) = subst (λ n. n < f (g l)) (sym (r.under k b)) (subst (λ n. k < n) (sym (r.under l c)) h) in
-      renaming_falls (g k) (g l) (r.from k b) (r.from l c) up
-
   -- the names back to the ids
   pub renaming_back : IsRenaming at' at B A g f
   renaming_back = record {
@@ -47,53 +34,33 @@ module _ {at at' : ℕ → Vector} {A B : ℕ → Type 0} {f g : ℕ → ℕ} (r
     over = r.under;
     under = r.over;
     point = λ k b. sym (r.point (g k) (r.from k b)) ∙ ap at' (r.under k b);
-    rises = rises_back;
+    rises = λ k l b c h. renaming_falls (g k) (g l) (r.from k b) (r.from l c)
+        (subst (λ n. n < f (g l)) (sym (r.under k b)) (subst (λ n. k < n) (sym (r.under l c)) h));
   }
 
-  -- four members that are not in one plane
-  tetrahedron_renamed : HasTetrahedron at A → HasTetrahedron at' B
-  tetrahedron_renamed t =
-      let same = volume_as _ _ _ _ _ _ _ _ (r.point t.i t.has_i) (r.point t.j t.has_j) (r.point t.k t.has_k) (r.point t.l t.has_l) in
-      record {
-        i = f t.i;
-        j = f t.j;
-        k = f t.k;
-        l = f t.l;
-        has_i = r.to t.i t.has_i;
-        has_j = r.to t.j t.has_j;
-        has_k = r.to t.k t.has_k;
-        has_l = r.to t.l t.has_l;
-        volume = λ e. t.volume (sym same ∙ e);
-      }
-
-  -- three points in line by their names
-  pub in_line_renamed : (i j k : ℕ) → A i → A j → A k → AreInLine (at' (f i)) (at' (f j)) (at' (f k)) → AreInLine (at i) (at j) (at k)
-  in_line_renamed i j k a b c h =
-      subst (λ p. AreInLine p (at j) (at k)) (r.point i a)
-      (subst (λ p. AreInLine (at' (f i)) p (at k)) (r.point j b)
-      (subst (λ p. AreInLine (at' (f i)) (at' (f j)) p) (r.point k c) h))
-
-  -- three that are not in one line
-  triangle_renamed : HasTriangle at A → HasTriangle at' B
-  triangle_renamed t = record {
-    i = f t.i;
-    j = f t.j;
-    k = f t.k;
-    has_i = r.to t.i t.has_i;
-    has_j = r.to t.j t.has_j;
-    has_k = r.to t.k t.has_k;
-    area = λ e. t.area (in_line_renamed t.i t.j t.k t.has_i t.has_j t.has_k e);
+  -- a part of the set is renamed to a part of the names
+  pub part_renamed : {X Y : ℕ → Type 0} → ((i : ℕ) → X i → A i) → ((k : ℕ) → Y k → B k) → ((i : ℕ) → X i → Y (f i))
+      → ((k : ℕ) → Y k → X (g k)) → IsRenaming at at' X Y f g
+  part_renamed of_x of_y to from = record {
+    to = to;
+    from = from;
+    over = λ i x. r.over i (of_x i x);
+    under = λ k y. r.under k (of_y k y);
+    point = λ i x. r.point i (of_x i x);
+    rises = λ i j x y. r.rises i j (of_x i x) (of_x j y);
   }
 
-  -- two that differ
-  segment_renamed : HasSegment A → HasSegment B
-  segment_renamed s = record {
-    i = f s.i;
-    j = f s.j;
-    has_i = r.to s.i s.has_i;
-    has_j = r.to s.j s.has_j;
-    differ = λ e. s.differ (renaming_apart s.i s.j s.has_i s.has_j e);
-  }
+  -- the normal of three members
+  pub normal_renamed : (i j k : ℕ) → A i → A j → A k → cross (at' (f i)) (at' (f j)) (at' (f k)) ≡ cross (at i) (at j) (at k)
+  normal_renamed i j k a b c = λ z. cross (r.point i a z) (r.point j b z) (r.point k c z)
+
+  -- the volume of three members and a name
+  pub volume_renamed : (i j k l : ℕ) → A i → A j → A k → B l
+      → vol (at' (f i)) (at' (f j)) (at' (f k)) (at' l) ≡ vol (at i) (at j) (at k) (at (g l))
+  volume_renamed i j k l a b c d = λ z. vol (r.point i a z) (r.point j b z) (r.point k c z) (last z)
+    where
+      last : at' l ≡ at (g l)
+      last = sym (renaming_back.point l d)
 
 module _ {at at' : ℕ → Vector} {A B : ℕ → Type 0} {f g : ℕ → ℕ} (r : IsRenaming at at' A B f g) where
   -- an extreme id is extreme by its name
@@ -110,4 +77,11 @@ module _ {at at' : ℕ → Vector} {A B : ℕ → Type 0} {f g : ℕ → ℕ} (r
   dimension_renamed =
       let q = renaming_back r in
       dimension_as at at' A B
-      (tetrahedron_renamed r, tetrahedron_renamed q) (triangle_renamed r, triangle_renamed q) (segment_renamed r, segment_renamed q)
+      (tetrahedron_by_names f r.to r.point, tetrahedron_by_names g q.to q.point)
+      (triangle_by_names f r.to r.point, triangle_by_names g q.to q.point)
+      (segment_by_names f r.to (renaming_apart r), segment_by_names g q.to (renaming_apart q))
+
+module _ {at at' : ℕ → Vector} {A B : ℕ → Type 0} {f g : ℕ → ℕ} (r : IsRenaming at at' A B f g) where
+  -- the extreme ids are renamed
+  pub extremes_renamed : IsRenaming at at' (Extreme at A) (Extreme at' B) f g
+  extremes_renamed = part_renamed r (λ i h. h.0) (λ k h. h.0) (extreme_renamed r) (extreme_renamed (renaming_back r))

@@ -7,32 +7,15 @@ use Rattle.qh_model.specs.contract.Weighted.{Weighted, above}
 use Rattle.std.proofs.Common.{◌≡◌, ◌≢◌, ℕ, ◌+◌, ◌≤◌, refl, arith, ap, sym, ◌∙◌, subst, ◌⊎◌, inl, inr}
 use native.Mathlib.Decide.{ℕ_discrete}
 use Rattle.std.proofs.lemmas.Int.{ints, by_lt_z}
-use Rattle.std.specs.Prelude.{ℤ, pos, ◌-ℤ◌, ◌*ℤ◌, neg_ℤ, ◌≤ℤ◌, ◌<ℤ◌}
-use Rattle.qh_model.proofs.algebra.Order.{mul-pos, mul-nonneg, mul-nonneg_nonpos, mul-nonpos_nonneg, mul-nonpos, mul-neg_pos, mul-pos_neg, positive_le, negative_le}
-use Rattle.qh_model.proofs.algebra.Signs.{not_less, equal_nonpos, equal_negative, equal_positive, opposite_nonneg, opposite_positive}
-use Rattle.qh_model.proofs.surfaces.Facets.{rise_side, rise_over, corner_start, corner_end, corner_rest, corner_cases, corner_test, weak, bends, far_apart, rest_differs}
-use Rattle.qh_model.proofs.surfaces.DrawnInwards.{Choice, choose}
-use Rattle.qh_model.proofs.surfaces.Determinants.{above-flip}
-use Rattle.qh_model.proofs.surfaces.PlanesThroughLine.{line_product}
-use Rattle.qh_model.proofs.surfaces.Connected.{cert}
+use Rattle.std.specs.Prelude.{ℤ, pos, ◌-ℤ◌, ◌*ℤ◌, ◌≤ℤ◌, ◌<ℤ◌}
+use Rattle.qh_model.proofs.algebra.Order.{mul-pos, mul-nonneg, mul-nonneg_nonpos, mul-nonpos_nonneg, mul-nonpos, mul-neg_pos, mul-pos_neg}
+use Rattle.qh_model.proofs.algebra.Order.{positive_le, negative_le}
+use Rattle.qh_model.proofs.algebra.Signs.{not_less, equal_negative}
+use Rattle.qh_model.proofs.surfaces.{DrawnInwards.Choice, DrawnInwards.choose, PlanesThroughLine.line_product, Connected.cert}
+use Rattle.qh_model.proofs.surfaces.Facets.{corner_start, corner_end, corner_rest, corner_cases, corner_test, far_apart, weak, bends}
+use Rattle.qh_model.proofs.surfaces.Facets.{side_rise, far_rise, side_seen, side_blind, side_below, far_seen, far_blind, far_below}
 
 -- ---- signs, for two planes through one line, and a third through it and p
--- a positive number less one not above 0
-difference_pos : (x y r : ℤ) → x -ℤ y ≡ r → pos 0 <ℤ x → y ≤ℤ pos 0 → pos 0 <ℤ r
-difference_pos x y r e h k = omega (arith, ints)
-
--- a number not below 0 less a negative one
-difference_pos_neg : (x y r : ℤ) → x -ℤ y ≡ r → pos 0 ≤ℤ x → y <ℤ pos 0 → pos 0 <ℤ r
-difference_pos_neg x y r e h k = omega (arith, ints)
-
--- a number not below 0 less one not above 0
-difference_nonneg : (x y r : ℤ) → x -ℤ y ≡ r → pos 0 ≤ℤ x → y ≤ℤ pos 0 → pos 0 ≤ℤ r
-difference_nonneg x y r e h k = omega (arith, ints)
-
--- a negative number less one not below 0
-difference_neg : (x y r : ℤ) → x -ℤ y ≡ r → x <ℤ pos 0 → pos 0 ≤ℤ y → r <ℤ pos 0
-difference_neg x y r e h k = omega (arith, ints)
-
 -- a ≤ 0 with a positive product
 other_neg : (a b : ℤ) → a ≤ℤ pos 0 → pos 0 <ℤ (a *ℤ b) → b <ℤ pos 0
 other_neg a b h k = by_lt_z b (pos 0) (λ q. q) (λ q. absurd (not_less (pos 0) (a *ℤ b) k (mul-nonpos_nonneg a b h q)))
@@ -45,42 +28,114 @@ other_pos a b h k = by_lt_z (pos 0) b (λ q. q) (λ q. absurd (not_less (a *ℤ 
 first_neg : (a b : ℤ) → b <ℤ pos 0 → pos 0 <ℤ (a *ℤ b) → a <ℤ pos 0
 first_neg a b h k = by_lt_z a (pos 0) (λ q. q) (λ q. absurd (not_less (pos 0) (a *ℤ b) k (mul-nonneg_nonpos a b q (negative_le b h))))
 
--- y is strictly below one of the two
-pub cone_strict : (u v a b p y : Weighted) → pos 0 <ℤ above u v a p → pos 0 <ℤ above u v b p → above u v a b <ℤ pos 0 → above u v a y ≤ℤ pos 0 → pos 0 ≤ℤ above u v b y
-    → (above u v a y <ℤ pos 0) ⊎ (pos 0 <ℤ above u v b y) → above u v p y <ℤ pos 0
-cone_strict u v a b p y ap bp ab ay by (inl k) =
-    other_neg (above u v a b) (above u v p y) (negative_le (above u v a b) ab)
-    (difference_pos_neg (above u v a p *ℤ above u v b y) (above u v a y *ℤ above u v b p) (above u v a b *ℤ above u v p y) (line_product u v a b p y) (mul-nonneg (above u v a p) (above u v b y) (positive_le (above u v a p) ap) by) (mul-neg_pos (above u v a y) (above u v b p) k bp))
-cone_strict u v a b p y ap bp ab ay by (inr k) =
-    other_neg (above u v a b) (above u v p y) (negative_le (above u v a b) ab)
-    (difference_pos (above u v a p *ℤ above u v b y) (above u v a y *ℤ above u v b p) (above u v a b *ℤ above u v p y) (line_product u v a b p y) (mul-pos (above u v a p) (above u v b y) ap k) (mul-nonpos_nonneg (above u v a y) (above u v b p) ay (positive_le (above u v b p) bp)))
+-- by how far p, y and b are above the plane of a, and p and y above that of b and that of p
+module _ (ap bp ab ay by py : ℤ) (product : ap *ℤ by -ℤ ay *ℤ bp ≡ ab *ℤ py) where
+  -- y is strictly below one of the two: so of the third
+  below_one_plane : pos 0 <ℤ ap → pos 0 <ℤ bp → ab <ℤ pos 0 → ay ≤ℤ pos 0 → pos 0 ≤ℤ by → (ay <ℤ pos 0) ⊎ (pos 0 <ℤ by) → py <ℤ pos 0
+  below_one_plane h k l m n one = other_neg ab py (negative_le ab l) (positive one)
+    where
+      positive : (ay <ℤ pos 0) ⊎ (pos 0 <ℤ by) → pos 0 <ℤ (ab *ℤ py)
+      positive (inl s) =
+          let x = mul-nonneg ap by (positive_le ap h) n in let y = mul-neg_pos ay bp s k in omega (arith, ints, product, x, y)
+      positive (inr s) =
+          let x = mul-pos ap by h s in let y = mul-nonpos_nonneg ay bp m (positive_le bp k) in omega (arith, ints, product, x, y)
 
--- o is strictly below both: then the bend is strict, and o strictly below the cone's facet
-pub cone_inner : (u v a b p o : Weighted) → pos 0 <ℤ above u v a p → pos 0 ≤ℤ above u v b p → above u v a b ≤ℤ pos 0 → above u v a o <ℤ pos 0 → pos 0 <ℤ above u v b o
-    → (above u v a b <ℤ pos 0) × (above u v p o <ℤ pos 0)
-cone_inner u v a b p o ap bp ab ao bo = (first_neg (above u v a b) (above u v p o) down product, down)
-  where
-    product : pos 0 <ℤ (above u v a b *ℤ above u v p o)
-    product = difference_pos (above u v a p *ℤ above u v b o) (above u v a o *ℤ above u v b p) (above u v a b *ℤ above u v p o) (line_product u v a b p o) (mul-pos (above u v a p) (above u v b o) ap bo) (mul-nonpos_nonneg (above u v a o) (above u v b p) (negative_le (above u v a o) ao) bp)
+  -- strictly below both: then the two planes bend strictly
+  below_both_planes : pos 0 <ℤ ap → pos 0 ≤ℤ bp → ab ≤ℤ pos 0 → ay <ℤ pos 0 → pos 0 <ℤ by → (ab <ℤ pos 0) × (py <ℤ pos 0)
+  below_both_planes h k l m n =
+      let x = mul-pos ap by h n in let y = mul-nonpos_nonneg ay bp (negative_le ay m) k in
+      let positive : pos 0 <ℤ (ab *ℤ py) = omega (arith, ints, product, x, y) in
+      let down = other_neg ab py l positive in (first_neg ab py down positive, down)
 
-    down : above u v p o <ℤ pos 0
-    down = other_neg (above u v a b) (above u v p o) ab product
+  -- below or on both
+  not_above_planes : pos 0 <ℤ ap → pos 0 ≤ℤ bp → ab <ℤ pos 0 → ay ≤ℤ pos 0 → pos 0 ≤ℤ by → py ≤ℤ pos 0
+  not_above_planes h k l m n = by_lt_z (pos 0) py (λ q. absurd (never q)) (λ q. q)
+    where
+      never : pos 0 <ℤ py → ⊥
+      never q =
+          let x = mul-nonneg ap by (positive_le ap h) n in let y = mul-nonpos_nonneg ay bp m k in let z = mul-neg_pos ab py l q in
+          omega (arith, ints, product, x, y, z)
 
--- y below or on both: so of the cone's facet
-pub cone_weak : (u v a b p y : Weighted) → pos 0 <ℤ above u v a p → pos 0 ≤ℤ above u v b p → above u v a b <ℤ pos 0 → above u v a y ≤ℤ pos 0 → pos 0 ≤ℤ above u v b y → above u v p y ≤ℤ pos 0
-cone_weak u v a b p y ap bp ab ay by =
-    by_lt_z (pos 0) (above u v p y)
-    (λ q. absurd (not_less (above u v a b *ℤ above u v p y) (pos 0) (mul-neg_pos (above u v a b) (above u v p y) ab q)
-    (difference_nonneg (above u v a p *ℤ above u v b y) (above u v a y *ℤ above u v b p) (above u v a b *ℤ above u v p y) (line_product u v a b p y) (mul-nonneg (above u v a p) (above u v b y) (positive_le (above u v a p) ap) by) (mul-nonpos_nonneg (above u v a y) (above u v b p) ay bp))))
-    (λ q. q)
+  -- above both
+  above_both_planes : pos 0 <ℤ ap → pos 0 ≤ℤ bp → ab ≤ℤ pos 0 → pos 0 <ℤ ay → by <ℤ pos 0 → pos 0 <ℤ py
+  above_both_planes h k l m n =
+      let x = mul-pos_neg ap by h n in let y = mul-nonneg ay bp (positive_le ay m) k in
+      other_pos ab py l (omega (arith, ints, product, x, y))
 
--- q sees both: so the cone's facet
-pub cone_seen : (u v a b p q : Weighted) → pos 0 <ℤ above u v a p → pos 0 ≤ℤ above u v b p → above u v a b ≤ℤ pos 0 → pos 0 <ℤ above u v a q → above u v b q <ℤ pos 0 → pos 0 <ℤ above u v p q
-cone_seen u v a b p q ap bp ab aq bq =
-    other_pos (above u v a b) (above u v p q) ab
-    (difference_neg (above u v a p *ℤ above u v b q) (above u v a q *ℤ above u v b p) (above u v a b *ℤ above u v p q) (line_product u v a b p q) (mul-pos_neg (above u v a p) (above u v b q) ap bq) (mul-nonneg (above u v a q) (above u v b p) (positive_le (above u v a q) aq) bp))
+-- ---- a facet, its neighbour over a side, and the facet of the cone from p over that side
+-- l is a corner of the surface
+abbrev pub Old : Surface → ℕ → Type 0
+Old m l = (g : ℕ) × In g m.live × IsCorner m g l
+
+module _ (m : Surface) (at : ℕ → Weighted) where
+  -- how far a point is above the cone's facet
+  abbrev pub apex_rise : ℕ → Side → Weighted → Weighted → ℤ
+  apex_rise f s p y = above (at (start m f s)) (at (end m f s)) p y
+
+  module _ (w : IsWhole m) (f : ℕ) (i : In f m.live) (s : Side) (p y : Weighted) where
+    -- as their planes go through one line
+    products : side_rise m at f s p *ℤ far_rise m at f s y -ℤ side_rise m at f s y *ℤ far_rise m at f s p
+        ≡ side_rise m at f s (at (far m f s)) *ℤ apex_rise f s p y
+    products = line_product (at (start m f s)) (at (end m f s)) (at (rest m f s)) (at (far m f s)) p y
+
+    -- y strictly below both: then the side bends, and y is strictly below the cone's facet
+    pub apex_inner : pos 0 <ℤ rise m at f p → rise m at (m.over f s) p ≤ℤ pos 0 → rise m at f (at (far m f s)) ≤ℤ pos 0
+        → rise m at f y <ℤ pos 0 → rise m at (m.over f s) y <ℤ pos 0
+        → (side_rise m at f s (at (far m f s)) <ℤ pos 0) × (apex_rise f s p y <ℤ pos 0)
+    apex_inner a b c d e =
+        below_both_planes _ _ _ _ _ _ products (side_seen m at f s p a) (far_blind m at w f i s p b)
+        (side_blind m at f s (at (far m f s)) c) (side_below m at f s y d) (far_below m at w f i s y e)
+
+    -- both blind to y: so is the cone's facet
+    pub apex_blind : pos 0 <ℤ rise m at f p → rise m at (m.over f s) p ≤ℤ pos 0 → side_rise m at f s (at (far m f s)) <ℤ pos 0
+        → rise m at f y ≤ℤ pos 0 → rise m at (m.over f s) y ≤ℤ pos 0 → apex_rise f s p y ≤ℤ pos 0
+    apex_blind a b c d e =
+        not_above_planes _ _ _ _ _ _ products (side_seen m at f s p a) (far_blind m at w f i s p b) c
+        (side_blind m at f s y d) (far_blind m at w f i s y e)
+
+    -- both see y: so does the cone's facet
+    pub apex_seen : pos 0 <ℤ rise m at f p → rise m at (m.over f s) p ≤ℤ pos 0 → rise m at f (at (far m f s)) ≤ℤ pos 0
+        → pos 0 <ℤ rise m at f y → pos 0 <ℤ rise m at (m.over f s) y → pos 0 <ℤ apex_rise f s p y
+    apex_seen a b c d e =
+        above_both_planes _ _ _ _ _ _ products (side_seen m at f s p a) (far_blind m at w f i s p b)
+        (side_blind m at f s (at (far m f s)) c) (side_seen m at f s y d) (far_seen m at w f i s y e)
+
+module _ (m : Surface) (home : ℕ → Weighted) (o : Weighted) (w : IsWhole m) (q : IsInner m home o) (at : ℕ → Weighted) (st : IsStrict m at)
+    (f : ℕ) (i : In f m.live) (s : Side) (l : ℕ) (old : Old m l) (ns : l ≢ start m f s) (ne : l ≢ end m f s) where
+  -- a corner of the surface that's none of a side's ends is strictly below the facet or its neighbour
+  below_one : (side_rise m at f s (at l) <ℤ pos 0) ⊎ (pos 0 <ℤ far_rise m at f s (at l))
+  below_one = either (corner_test m f l)
+    where
+      t : HasTwin m f s
+      t = w f i s
+
+      away : l ≡ rest m f s → ¬ (IsCorner m (m.over f s) l)
+      away e k = none (corner_cases m (m.over f s) (m.back f s) l k)
+        where
+          none : (l ≡ start m (m.over f s) (m.back f s)) ⊎ (l ≡ end m (m.over f s) (m.back f s)) ⊎ (l ≡ far m f s) → ⊥
+          none (inl z) = ne (z ∙ t.start_is)
+          none (inr (inl z)) = ns (z ∙ t.end_is)
+          none (inr (inr z)) = far_apart m home o w q f i s (subst (IsCorner m f) (sym e ∙ z) (corner_rest m f s))
+
+      own : (l ≡ start m f s) ⊎ (l ≡ end m f s) ⊎ (l ≡ rest m f s) → pos 0 <ℤ far_rise m at f s (at l)
+      own (inl e) = absurd (ns e)
+      own (inr (inl e)) = absurd (ne e)
+      own (inr (inr e)) = far_below m at w f i s (at l) (st (m.over f s) old.0 t.live old.1 l old.2 (away e))
+
+      either : IsCorner m f l ⊎ (¬ (IsCorner m f l)) → (side_rise m at f s (at l) <ℤ pos 0) ⊎ (pos 0 <ℤ far_rise m at f s (at l))
+      either (inl k) = inr (own (corner_cases m f s l k))
+      either (inr k) = inl (side_below m at f s (at l) (st f old.0 i old.1 l old.2 k))
+
+  -- so it is strictly below the cone's facet, where the facet sees the apex and the neighbour is strictly above it
+  pub corner_below_cone : (top : Weighted) → pos 0 <ℤ rise m at f top → rise m at (m.over f s) top <ℤ pos 0
+      → apex_rise m at f s top (at l) <ℤ pos 0
+  corner_below_cone top seen blind =
+      below_one_plane _ _ _ _ _ _ (products m at w f i s top (at l)) (side_seen m at f s top seen) (far_below m at w f i s top blind)
+      (bends m at home o w q st f i s) (side_blind m at f s (at l) (weak m at st f old.0 i old.1 l old.2))
+      (far_blind m at w f i s (at l) (weak m at st (m.over f s) old.0 (w f i s).live old.1 l old.2)) below_one
 
 -- ---- the new surface
+-- a facet that is kept: it is blind to p
 pub record KeptOf (m m' : Surface) (home : ℕ → Weighted) (p f' : ℕ) : Type 0 where
   pub live : In f' m.live
   pub blind : rise m home f' (home p) ≤ℤ pos 0
@@ -108,68 +163,38 @@ pub record Replaced (m m' : Surface) (home : ℕ → Weighted) (p : ℕ) : Type 
   pub seen : pos 0 <ℤ rise m home f0 (home p)
   pub origin : (f' : ℕ) → In f' m'.live → KeptOf m m' home p f' ⊎ ConeOf m m' home p number f'
 
--- l is a corner of the old surface
-abbrev pub Old : Surface → ℕ → Type 0
-Old m l = (g : ℕ) × In g m.live × IsCorner m g l
+module _ {m m' : Surface} {home : ℕ → Weighted} {p f' : ℕ} (k : KeptOf m m' home p f') where
+  -- a kept facet's corners are the same
+  pub kept_corner : (l : ℕ) → IsCorner m f' l → IsCorner m' f' l
+  kept_corner l (inl e) = inl (e ∙ sym k.i_is)
+  kept_corner l (inr (inl e)) = inr (inl (e ∙ sym k.j_is))
+  kept_corner l (inr (inr e)) = inr (inr (e ∙ sym k.k_is))
 
--- the point is no corner of the old surface
-pub p_fresh : (m m' : Surface) (home : ℕ → Weighted) (o : Weighted) (p : ℕ) → IsStrictWhenDrawn m home o → Replaced m m' home p → ¬ (Old m p)
-p_fresh m m' home o p t r (g, i, c) = not_less (pos 0) (rise m home r.f0 (home p)) r.seen (cert m home o t r.f0 g r.live i p c)
+  -- and the other way round
+  pub corner_kept : (l : ℕ) → IsCorner m' f' l → IsCorner m f' l
+  corner_kept l (inl e) = inl (e ∙ k.i_is)
+  corner_kept l (inr (inl e)) = inr (inl (e ∙ k.j_is))
+  corner_kept l (inr (inr e)) = inr (inr (e ∙ k.k_is))
 
--- a corner of the new surface is an old one or the point
-pub old_or_apex : (m m' : Surface) (home : ℕ → Weighted) (p : ℕ) (r : Replaced m m' home p) (f' l : ℕ) → In f' m'.live → IsCorner m' f' l → Old m l ⊎ (l ≡ p)
-old_or_apex m m' home p r f' l i c = go (r.origin f' i) c
-  where
-    go : KeptOf m m' home p f' ⊎ ConeOf m m' home p r.number f' → IsCorner m' f' l → Old m l ⊎ (l ≡ p)
-    go (inl k) (inl e) = inl (f', k.live, inl (e ∙ k.i_is))
-    go (inl k) (inr (inl e)) = inl (f', k.live, inr (inl (e ∙ k.j_is)))
-    go (inl k) (inr (inr e)) = inl (f', k.live, inr (inr (e ∙ k.k_is)))
-    go (inr n) (inl e) = inl (n.f, n.live, subst (IsCorner m n.f) (sym (e ∙ n.i_is)) (corner_start m n.f n.s))
-    go (inr n) (inr (inl e)) = inl (n.f, n.live, subst (IsCorner m n.f) (sym (e ∙ n.j_is)) (corner_end m n.f n.s))
-    go (inr n) (inr (inr e)) = inr (e ∙ n.k_is)
-
--- a kept facet's corners are the same
-pub kept_corner : (m m' : Surface) (home : ℕ → Weighted) (p f' l : ℕ) → KeptOf m m' home p f' → IsCorner m f' l → IsCorner m' f' l
-kept_corner m m' home p f' l k (inl e) = inl (e ∙ sym k.i_is)
-kept_corner m m' home p f' l k (inr (inl e)) = inr (inl (e ∙ sym k.j_is))
-kept_corner m m' home p f' l k (inr (inr e)) = inr (inr (e ∙ sym k.k_is))
-
--- and the other way round
-pub corner_kept : (m m' : Surface) (home : ℕ → Weighted) (p f' l : ℕ) → KeptOf m m' home p f' → IsCorner m' f' l → IsCorner m f' l
-corner_kept m m' home p f' l k (inl e) = inl (e ∙ k.i_is)
-corner_kept m m' home p f' l k (inr (inl e)) = inr (inl (e ∙ k.j_is))
-corner_kept m m' home p f' l k (inr (inr e)) = inr (inr (e ∙ k.k_is))
-
--- the neighbour's, with the side as the facet has it
-pub over_flip : (m : Surface) (at : ℕ → Weighted) → IsWhole m → (f : ℕ) → In f m.live → (s : Side) (y : Weighted) → rise m at (m.over f s) y ≡ neg_ℤ (above (at (start m f s)) (at (end m f s)) (at (far m f s)) y)
-over_flip m at w f i s y = rise_over m at w f i s y ∙ above-flip (at (start m f s)) (at (end m f s)) (at (far m f s)) y
+  -- it sees as before
+  pub kept_rise : (at : ℕ → Weighted) (y : Weighted) → rise m at f' y ≡ rise m' at f' y
+  kept_rise at y = rw (k.i_is, k.j_is, k.k_is) refl
 
 -- how far a point is above the cone's facet
-pub cone_rise : (m m' : Surface) (home : ℕ → Weighted) (p : ℕ) (number : ℕ → Side → ℕ) (f' : ℕ) (n : ConeOf m m' home p number f') (at : ℕ → Weighted) (y : Weighted) → above (at (start m n.f n.s)) (at (end m n.f n.s)) (at p) y ≡ rise m' at f' y
-cone_rise m m' home p number f' n at y = rw (n.i_is, n.j_is, n.k_is) refl
+pub cone_rise : {m m' : Surface} {home : ℕ → Weighted} {p : ℕ} {number : ℕ → Side → ℕ} {f' : ℕ} (n : ConeOf m m' home p number f')
+    (at : ℕ → Weighted) (y : Weighted) → apex_rise m at n.f n.s (at p) y ≡ rise m' at f' y
+cone_rise n at y = rw (n.i_is, n.j_is, n.k_is) refl
 
--- a kept facet sees as before
-pub kept_rise : (m m' : Surface) (home : ℕ → Weighted) (p f' : ℕ) → KeptOf m m' home p f' → (at : ℕ → Weighted) (y : Weighted) → rise m at f' y ≡ rise m' at f' y
-kept_rise m m' home p f' k at y = rw (k.i_is, k.j_is, k.k_is) refl
-
--- the horizon bends, and o is strictly below the cone
-pub cone_inside : (m m' : Surface) (home : ℕ → Weighted) (o : Weighted) (p : ℕ) → IsWhole m → IsSound m home o → (number : ℕ → Side → ℕ) (f' : ℕ) (n : ConeOf m m' home p number f')
-    → (above (home (start m n.f n.s)) (home (end m n.f n.s)) (home (rest m n.f n.s)) (home (far m n.f n.s)) <ℤ pos 0) × (above (home (start m n.f n.s)) (home (end m n.f n.s)) (home p) o <ℤ pos 0)
-cone_inside m m' home o p w q number f' n =
-    cone_inner (home (start m n.f n.s)) (home (end m n.f n.s)) (home (rest m n.f n.s)) (home (far m n.f n.s)) (home p) o
-    (equal_positive (rise m home n.f (home p)) _ (rise_side m home n.f n.s (home p)) n.seen)
-    (opposite_nonneg (rise m home (m.over n.f n.s) (home p)) _ (over_flip m home w n.f n.live n.s (home p)) n.blind)
-    (equal_nonpos (rise m home n.f (home (far m n.f n.s))) _ (rise_side m home n.f n.s (home (far m n.f n.s))) (cert m home o q.lifted n.f (m.over n.f n.s) n.live (w n.f n.live n.s).live (far m n.f n.s) (corner_rest m (m.over n.f n.s) (m.back n.f n.s))))
-    (equal_negative (rise m home n.f o) _ (rise_side m home n.f n.s o) (q.inner n.f n.live))
-    (opposite_positive (rise m home (m.over n.f n.s) o) _ (over_flip m home w n.f n.live n.s o) (q.inner (m.over n.f n.s) (w n.f n.live n.s).live))
-
--- the inner point stays strictly below
-pub inner_kept : (m m' : Surface) (home : ℕ → Weighted) (o : Weighted) (p : ℕ) → IsWhole m → IsSound m home o → Replaced m m' home p → IsInner m' home o
-inner_kept m m' home o p w q r f' i = go (r.origin f' i)
+-- a corner of the new surface is an old one or the point
+pub old_or_apex : {m m' : Surface} {home : ℕ → Weighted} {p : ℕ} (r : Replaced m m' home p)
+    (f' l : ℕ) → In f' m'.live → IsCorner m' f' l → Old m l ⊎ (l ≡ p)
+old_or_apex {m} {m'} {home} {p} r f' l i c = from (r.origin f' i) c
   where
-    go : KeptOf m m' home p f' ⊎ ConeOf m m' home p r.number f' → rise m' home f' o <ℤ pos 0
-    go (inl k) = equal_negative (rise m home f' o) (rise m' home f' o) (kept_rise m m' home p f' k home o) (q.inner f' k.live)
-    go (inr n) = equal_negative _ (rise m' home f' o) (cone_rise m m' home p r.number f' n home o) (cone_inside m m' home o p w q r.number f' n).1
+    from : KeptOf m m' home p f' ⊎ ConeOf m m' home p r.number f' → IsCorner m' f' l → Old m l ⊎ (l ≡ p)
+    from (inl k) c = inl (f', k.live, corner_kept k l c)
+    from (inr n) (inl e) = inl (n.f, n.live, subst (IsCorner m n.f) (sym (e ∙ n.i_is)) (corner_start m n.f n.s))
+    from (inr n) (inr (inl e)) = inl (n.f, n.live, subst (IsCorner m n.f) (sym (e ∙ n.j_is)) (corner_end m n.f n.s))
+    from (inr n) (inr (inr e)) = inr (e ∙ n.k_is)
 
 -- ---- the shares
 share_of : (k s : ℕ) {P : Type 0} → Dec P → ℕ
@@ -183,141 +208,109 @@ with_share h p k l = share_of k (h l) (ℕ_discrete l p)
 -- the new corner's share
 share_p : (h : ℕ → ℕ) (p k : ℕ) → with_share h p k p ≡ k
 unfolding with_share share_of
-share_p h p k = pick (ℕ_discrete p p)
+share_p h p k = own (ℕ_discrete p p)
   where
-    pick : (d : Dec (p ≡ p)) → share_of k (h p) d ≡ k
-    pick (yes e) = refl
-    pick (no n) = absurd (n refl)
+    own : (d : Dec (p ≡ p)) → share_of k (h p) d ≡ k
+    own (yes e) = refl
+    own (no n) = absurd (n refl)
 
 -- the others keep theirs
 share_other : (h : ℕ → ℕ) (p k l : ℕ) → l ≢ p → with_share h p k l ≡ h l
 unfolding with_share share_of
-share_other h p k l a = pick (ℕ_discrete l p)
+share_other h p k l a = other (ℕ_discrete l p)
   where
-    pick : (d : Dec (l ≡ p)) → share_of k (h l) d ≡ h l
-    pick (yes e) = absurd (a e)
-    pick (no n) = refl
+    other : (d : Dec (l ≡ p)) → share_of k (h l) d ≡ h l
+    other (yes e) = absurd (a e)
+    other (no n) = refl
 
--- a corner of the surface that's none of a side's ends is strictly below the facet or its neighbour
-pub below_one : (m : Surface) (home : ℕ → Weighted) (o : Weighted) → IsWhole m → IsInner m home o → (at : ℕ → Weighted) → IsStrict m at → (f : ℕ) → In f m.live → (s : Side) (l : ℕ) → Old m l → l ≢ start m f s → l ≢ end m f s
-    → (above (at (start m f s)) (at (end m f s)) (at (rest m f s)) (at l) <ℤ pos 0) ⊎ (pos 0 <ℤ above (at (start m f s)) (at (end m f s)) (at (far m f s)) (at l))
-below_one m home o w q at st f i s l (g, j, c) ns ne = pick (corner_test m f l)
-  where
-    t : HasTwin m f s
-    t = w f i s
+-- ---- what is kept
+module _ {m m' : Surface} {home : ℕ → Weighted} {o : Weighted} {p : ℕ} (w : IsWhole m) (q : IsSound m home o)
+    (r : Replaced m m' home p) where
+  -- the point is no corner of the old surface
+  pub p_fresh : ¬ (Old m p)
+  p_fresh (g, i, c) = not_less (pos 0) (rise m home r.f0 (home p)) r.seen (cert m home o q.lifted r.f0 g r.live i p c)
 
-    d : (rest m f s ≢ start m f s) × (rest m f s ≢ end m f s)
-    d = rest_differs m home o q f i s
+  -- the horizon bends, and o is strictly below the cone
+  pub cone_inside : {f' : ℕ} (n : ConeOf m m' home p r.number f')
+      → (side_rise m home n.f n.s (home (far m n.f n.s)) <ℤ pos 0) × (apex_rise m home n.f n.s (home p) o <ℤ pos 0)
+  cone_inside n =
+      let t = w n.f n.live n.s in
+      apex_inner m home w n.f n.live n.s (home p) o n.seen n.blind
+      (cert m home o q.lifted n.f (m.over n.f n.s) n.live t.live (far m n.f n.s) (corner_rest m (m.over n.f n.s) (m.back n.f n.s)))
+      (q.inner n.f n.live) (q.inner (m.over n.f n.s) t.live)
 
-    away : l ≡ rest m f s → ¬ (IsCorner m (m.over f s) l)
-    away e k = by (corner_cases m (m.over f s) (m.back f s) l k)
-      where
-        by : (l ≡ start m (m.over f s) (m.back f s)) ⊎ (l ≡ end m (m.over f s) (m.back f s)) ⊎ (l ≡ far m f s) → ⊥
-        by (inl z) = ne (z ∙ t.start_is)
-        by (inr (inl z)) = ns (z ∙ t.end_is)
-        by (inr (inr z)) = far_apart m home o w q f i s (subst (IsCorner m f) (sym e ∙ z) (corner_rest m f s))
+  -- the inner point stays strictly below
+  pub inner_kept : IsInner m' home o
+  inner_kept f' i = from (r.origin f' i)
+    where
+      from : KeptOf m m' home p f' ⊎ ConeOf m m' home p r.number f' → rise m' home f' o <ℤ pos 0
+      from (inl k) = equal_negative _ _ (kept_rise k home o) (q.inner f' k.live)
+      from (inr n) = equal_negative _ _ (cone_rise n home o) (cone_inside n).1
 
-    second : (l ≡ start m f s) ⊎ (l ≡ end m f s) ⊎ (l ≡ rest m f s) → (above (at (start m f s)) (at (end m f s)) (at (rest m f s)) (at l) <ℤ pos 0) ⊎ (pos 0 <ℤ above (at (start m f s)) (at (end m f s)) (at (far m f s)) (at l))
-    second (inl e) = absurd (ns e)
-    second (inr (inl e)) = absurd (ne e)
-    second (inr (inr e)) = inr (opposite_positive (rise m at (m.over f s) (at l)) _ (over_flip m at w f i s (at l)) (st (m.over f s) g t.live j l c (away e)))
+  -- all is strict again, with p drawn inwards far more than the others
+  pub lifted_kept : IsStrictWhenDrawn m' home o
+  lifted_kept = record { h = h; from = t.from + ch.from; strict = λ n b. strict n (omega (arith, b)) (omega (arith, b)) }
+    where
+      t : IsStrictWhenDrawn m home o
+      t = q.lifted
 
-    pick : IsCorner m f l ⊎ (¬ (IsCorner m f l)) → (above (at (start m f s)) (at (end m f s)) (at (rest m f s)) (at l) <ℤ pos 0) ⊎ (pos 0 <ℤ above (at (start m f s)) (at (end m f s)) (at (far m f s)) (at l))
-    pick (inl k) = second (corner_cases m f s l k)
-    pick (inr k) = inl (equal_negative (rise m at f (at l)) _ (rise_side m at f s (at l)) (st f g i j l c k))
+      ch : Choice m home o t.h (home p)
+      ch = choose m home o q.inner t.h (home p)
 
--- all is strict again, with p drawn inwards far more than the others
-pub lifted_kept : (m m' : Surface) (home : ℕ → Weighted) (o : Weighted) (p : ℕ) → IsWhole m → IsSound m home o → Replaced m m' home p → IsStrictWhenDrawn m' home o
-lifted_kept m m' home o p w q r = record { h = h; from = t.from + ch.from; strict = λ n b f' g' i j l c nc. strict n (at_least t.from ch.from n b) (at_least' t.from ch.from n b) f' g' i j l c nc }
-  where
-    t : IsStrictWhenDrawn m home o
-    t = q.lifted
+      h : ℕ → ℕ
+      h = with_share t.h p ch.k
 
-    ch : Choice m home o t.h (home p)
-    ch = choose m home o q.inner t.h (home p)
+      at_p : (n : ℕ) → drawn home o h n p ≡ towards o (pos n) (home p) (pos ch.k)
+      at_p n = ap (λ v. towards o (pos n) (home p) (pos v)) (share_p t.h p ch.k)
 
-    h : ℕ → ℕ
-    h = with_share t.h p ch.k
+      at_old : (n l : ℕ) → Old m l → drawn home o h n l ≡ drawn home o t.h n l
+      at_old n l k = ap (λ v. towards o (pos n) (home l) (pos v)) (share_other t.h p ch.k l (λ e. p_fresh (subst (Old m) e k)))
 
-    at_least : (a b n : ℕ) → a + b ≤ n → a ≤ n
-    at_least a b n h = omega arith
+      kept_as : (n f' : ℕ) → KeptOf m m' home p f' → (y : Weighted) → rise m (drawn home o t.h n) f' y ≡ rise m' (drawn home o h n) f' y
+      kept_as n f k y =
+          let same : (l : ℕ) → IsCorner m f l → drawn home o t.h n l ≡ drawn home o h n l = λ l c. sym (at_old n l (f, k.live, c)) in
+          rw (same (m.i f) (inl refl), same (m.j f) (inr (inl refl)), same (m.k f) (inr (inr refl)))
+          (kept_rise k (drawn home o h n) y)
 
-    at_least' : (a b n : ℕ) → a + b ≤ n → b ≤ n
-    at_least' a b n h = omega arith
+      strict : (n : ℕ) → t.from ≤ n → ch.from ≤ n → IsStrict m' (drawn home o h n)
+      strict n b1 b2 f' g' i j l c nc = below (r.origin f' i) (old_or_apex r g' l j c)
+        where
+          at : ℕ → Weighted
+          at = drawn home o t.h n
 
-    fresh : (l : ℕ) → Old m l → l ≢ p
-    fresh l k e = p_fresh m m' home o p t r (subst (Old m) e k)
+          at' : ℕ → Weighted
+          at' = drawn home o h n
 
-    at_old : (n l : ℕ) → Old m l → drawn home o h n l ≡ drawn home o t.h n l
-    at_old n l k = ap (λ v. towards o (pos n) (home l) (pos v)) (share_other t.h p ch.k l (fresh l k))
+          top : Weighted
+          top = towards o (pos n) (home p) (pos ch.k)
 
-    at_p : (n : ℕ) → drawn home o h n p ≡ towards o (pos n) (home p) (pos ch.k)
-    at_p n = ap (λ v. towards o (pos n) (home p) (pos v)) (share_p t.h p ch.k)
+          cone_old : ConeOf m m' home p r.number f' → Old m l → rise m' at' f' (at' l) <ℤ pos 0
+          cone_old a old = equal_negative _ _ path low
+            where
+              low : apex_rise m at a.f a.s top (at l) <ℤ pos 0
+              low =
+                  corner_below_cone m home o w q.inner at (t.strict n b1) a.f a.live a.s l old
+                  (λ x. nc (inl (x ∙ sym a.i_is))) (λ x. nc (inr (inl (x ∙ sym a.j_is))))
+                  top (ch.up n b2 a.f a.live a.seen) (ch.down n b2 (m.over a.f a.s) (w a.f a.live a.s).live a.blind)
 
-    old_rise : (n f : ℕ) → In f m.live → (y : Weighted) → rise m (drawn home o t.h n) f y ≡ rise m (drawn home o h n) f y
-    old_rise n f i y = rw (at_old n (m.i f) (f, i, inl refl), at_old n (m.j f) (f, i, inr (inl refl)), at_old n (m.k f) (f, i, inr (inr refl))) refl
+              path : apex_rise m at a.f a.s top (at l) ≡ rise m' at' f' (at' l)
+              path =
+                  let same : (l : ℕ) → Old m l → at l ≡ at' l = λ l c. sym (at_old n l c) in
+                  rw (
+                    same (start m a.f a.s) (a.f, a.live, corner_start m a.f a.s),
+                    same (end m a.f a.s)
+                        (a.f, a.live, corner_end m a.f a.s),
+                    sym (at_p n),
+                    same l old,
+                  )
+                  (cone_rise a at' (at' l))
 
-    strict : (n : ℕ) → t.from ≤ n → ch.from ≤ n → (f' g' : ℕ) → In f' m'.live → In g' m'.live → (l : ℕ) → IsCorner m' g' l → ¬ (IsCorner m' f' l) → rise m' (drawn home o h n) f' (drawn home o h n l) <ℤ pos 0
-    strict n b1 b2 f' g' i j l c nc = go (r.origin f' i) (old_or_apex m m' home p r g' l j c)
-      where
-        st : IsStrict m (drawn home o t.h n)
-        st = t.strict n b1
-
-        kept_old : KeptOf m m' home p f' → Old m l → rise m' (drawn home o h n) f' (drawn home o h n l) <ℤ pos 0
-        kept_old k (g, e, z) =
-            equal_negative (rise m (drawn home o t.h n) f' (drawn home o t.h n l)) _
-            (ap (rise m (drawn home o t.h n) f') (sym (at_old n l (g, e, z))) ∙ old_rise n f' k.live (drawn home o h n l) ∙ kept_rise m m' home p f' k (drawn home o h n) (drawn home o h n l))
-            (st f' g k.live e l z (λ x. nc (kept_corner m m' home p f' l k x)))
-
-        kept_apex : KeptOf m m' home p f' → l ≡ p → rise m' (drawn home o h n) f' (drawn home o h n l) <ℤ pos 0
-        kept_apex k e =
-            equal_negative (rise m (drawn home o t.h n) f' (towards o (pos n) (home p) (pos ch.k))) _
-            (ap (rise m (drawn home o t.h n) f') (sym (ap (drawn home o h n) e ∙ at_p n)) ∙ old_rise n f' k.live (drawn home o h n l) ∙ kept_rise m m' home p f' k (drawn home o h n) (drawn home o h n l))
-            (ch.down n b2 f' k.live k.blind)
-
-        cone_old : ConeOf m m' home p r.number f' → Old m l → rise m' (drawn home o h n) f' (drawn home o h n l) <ℤ pos 0
-        cone_old a (g, e, z) = equal_negative (above (at u) (at v) top (at l)) _ path (cone_strict (at u) (at v) (at (rest m a.f a.s)) (at (far m a.f a.s)) top (at l) ap_ bp ab ay by one)
-          where
-            at : ℕ → Weighted
-            at = drawn home o t.h n
-
-            u : ℕ
-            u = start m a.f a.s
-
-            v : ℕ
-            v = end m a.f a.s
-
-            top : Weighted
-            top = towards o (pos n) (home p) (pos ch.k)
-
-            gl : In (m.over a.f a.s) m.live
-            gl = (w a.f a.live a.s).live
-
-            path : above (at u) (at v) top (at l) ≡ rise m' (drawn home o h n) f' (drawn home o h n l)
-            path =
-                rw (sym (at_old n u (a.f, a.live, corner_start m a.f a.s)), sym (at_old n v (a.f, a.live, corner_end m a.f a.s)), sym (at_p n), sym (at_old n l (g, e, z)))
-                (cone_rise m m' home p r.number f' a (drawn home o h n) (drawn home o h n l))
-
-            ap_ : pos 0 <ℤ above (at u) (at v) (at (rest m a.f a.s)) top
-            ap_ = equal_positive (rise m at a.f top) _ (rise_side m at a.f a.s top) (ch.up n b2 a.f a.live a.seen)
-
-            bp : pos 0 <ℤ above (at u) (at v) (at (far m a.f a.s)) top
-            bp = opposite_positive (rise m at (m.over a.f a.s) top) _ (over_flip m at w a.f a.live a.s top) (ch.down n b2 (m.over a.f a.s) gl a.blind)
-
-            ab : above (at u) (at v) (at (rest m a.f a.s)) (at (far m a.f a.s)) <ℤ pos 0
-            ab = bends m at home o w q.inner st a.f a.live a.s
-
-            ay : above (at u) (at v) (at (rest m a.f a.s)) (at l) ≤ℤ pos 0
-            ay = equal_nonpos (rise m at a.f (at l)) _ (rise_side m at a.f a.s (at l)) (weak m at st a.f g a.live e l z)
-
-            by : pos 0 ≤ℤ above (at u) (at v) (at (far m a.f a.s)) (at l)
-            by = opposite_nonneg (rise m at (m.over a.f a.s) (at l)) _ (over_flip m at w a.f a.live a.s (at l)) (weak m at st (m.over a.f a.s) g gl e l z)
-
-            one : (above (at u) (at v) (at (rest m a.f a.s)) (at l) <ℤ pos 0) ⊎ (pos 0 <ℤ above (at u) (at v) (at (far m a.f a.s)) (at l))
-            one = below_one m home o w q.inner at st a.f a.live a.s l (g, e, z) (λ x. nc (inl (x ∙ sym a.i_is))) (λ x. nc (inr (inl (x ∙ sym a.j_is))))
-
-        go : KeptOf m m' home p f' ⊎ ConeOf m m' home p r.number f' → Old m l ⊎ (l ≡ p) → rise m' (drawn home o h n) f' (drawn home o h n l) <ℤ pos 0
-        go (inl k) (inl z) = kept_old k z
-        go (inl k) (inr e) = kept_apex k e
-        go (inr a) (inl z) = cone_old a z
-        go (inr a) (inr e) = absurd (nc (inr (inr (e ∙ sym a.k_is))))
+          below : KeptOf m m' home p f' ⊎ ConeOf m m' home p r.number f' → Old m l ⊎ (l ≡ p) → rise m' at' f' (at' l) <ℤ pos 0
+          below (inl k) (inl old) =
+              subst (λ y. rise m' at' f' y <ℤ pos 0) (sym (at_old n l old))
+              (equal_negative _ _ (kept_as n f' k (at l)) (t.strict n b1 f' old.0 k.live old.1 l old.2 (λ x. nc (kept_corner k l x))))
+          below (inl k) (inr e) =
+              subst (λ y. rise m' at' f' y <ℤ pos 0) (sym (ap at' e ∙ at_p n))
+              (equal_negative _ _ (kept_as n f' k top) (ch.down n b2 f' k.live k.blind))
+          below (inr a) (inl old) = cone_old a old
+          below (inr a) (inr e) = absurd (nc (inr (inr (e ∙ sym a.k_is))))

@@ -1,15 +1,13 @@
 -- Corners drawn a very little towards an inner point, each by its own share: what was level is then strictly below.
 use Rattle.qh_model.specs.headline.Sets.{In}
+use Rattle.qh_model.specs.contract.{Surface.Surface, Surface.rise, Weighted.Weighted, Weighted.above}
 use Rattle.qh_model.specs.contract.SoundSurface.{IsInner, drawn, towards}
-use Rattle.qh_model.specs.contract.Surface.{Surface, rise}
-use Rattle.qh_model.specs.contract.Weighted.{Weighted, above}
 use Rattle.std.proofs.Common.{◌≡◌, ℕ, zero, suc, ◌+◌, ◌≤◌, refl, List, [], ◌∷◌, arith, sym, subst, ◌⊎◌, inl, inr}
 use Rattle.std.proofs.lemmas.Int.{ints}
 use Rattle.std.specs.Prelude.{ℤ, pos, negsuc, ◌+ℤ◌, ◌-ℤ◌, ◌*ℤ◌, neg_ℤ, ◌≤ℤ◌, ◌<ℤ◌}
-use Rattle.qh_model.proofs.algebra.Ring.{Expr, ring}
+use Rattle.qh_model.proofs.algebra.{Ring.Expr, Ring.ring, Order.mul-nonneg, Order.mul-nonneg_nonpos, Order.mul-pos, Order.mul-pos_neg}
 use Rattle.qh_model.proofs.algebra.Ring.Expr.{var, con, add, sub as less, mul}
-use Rattle.qh_model.proofs.algebra.Order.{mul-nonneg, mul-nonneg_nonpos, mul-pos, mul-pos_neg}
-use Rattle.qh_model.proofs.surfaces.Determinants.{quad, QE, aboveE, put4}
+use Rattle.qh_model.proofs.surfaces.Determinants.{above_of, quad, QE, aboveE, put4}
 
 -- what the shares add
 abbrev pub tilt : (o a b c p : Weighted) (h i j k : ℤ) → ℤ
@@ -17,17 +15,24 @@ tilt o a b c p h i j k = h *ℤ above o b c p +ℤ i *ℤ above a o c p +ℤ j *
 
 -- the same of expressions
 abbrev pub towardsE : QE → Expr → QE → Expr → QE
-towardsE o n p k = record { w = add (mul n p.w) (mul k o.w); x = add (mul n p.x) (mul k o.x); y = add (mul n p.y) (mul k o.y); z = add (mul n p.z) (mul k o.z) }
+towardsE o n p k = record {
+  w = add (mul n p.w) (mul k o.w);
+  x = add (mul n p.x) (mul k o.x);
+  y = add (mul n p.y) (mul k o.y);
+  z = add (mul n p.z) (mul k o.z);
+}
 
 -- four points drawn, each by its share
-pub above-drawn_all : (o a b c p : Weighted) (n h i j k : ℤ) → above (towards o n a h) (towards o n b i) (towards o n c j) (towards o n p k) ≡ n *ℤ n *ℤ n *ℤ (n *ℤ above a b c p +ℤ tilt o a b c p h i j k)
+pub above-drawn_all : (o a b c p : Weighted) (n h i j k : ℤ)
+    → above (towards o n a h) (towards o n b i) (towards o n c j) (towards o n p k)
+    ≡ n *ℤ n *ℤ n *ℤ (n *ℤ above a b c p +ℤ tilt o a b c p h i j k)
 unfolding above
 above-drawn_all o a b c p n h i j k =
+    let N = var 20 in let drawn : ℕ → ℕ → QE = λ point by. towardsE (quad 0) N (quad point) (var by) in
+    let tilted = add (add (add (mul (var 21) (above_of 0 2 3 4)) (mul (var 22) (above_of 1 0 3 4))) (mul (var 23) (above_of 1 2 0 4)))
+    (mul (var 24) (above_of 1 2 3 0)) in
     ring (put4 o (put4 a (put4 b (put4 c (put4 p (n ∷ h ∷ i ∷ j ∷ k ∷ []))))))
-    (aboveE (towardsE (quad 0) (var 20) (quad 1) (var 21)) (towardsE (quad 0) (var 20) (quad 2) (var 22)) (towardsE (quad 0) (var 20) (quad 3) (var 23)) (towardsE (quad 0) (var 20) (quad 4) (var 24)))
-    (mul (mul (mul (var 20) (var 20)) (var 20))
-    (add (mul (var 20) (aboveE (quad 1) (quad 2) (quad 3) (quad 4)))
-    (add (add (add (mul (var 21) (aboveE (quad 0) (quad 2) (quad 3) (quad 4))) (mul (var 22) (aboveE (quad 1) (quad 0) (quad 3) (quad 4)))) (mul (var 23) (aboveE (quad 1) (quad 2) (quad 0) (quad 4)))) (mul (var 24) (aboveE (quad 1) (quad 2) (quad 3) (quad 0)))))) refl
+    (aboveE (drawn 1 21) (drawn 2 22) (drawn 3 23) (drawn 4 24)) (mul (mul (mul N N) N) (add (mul N (above_of 1 2 3 4)) tilted)) refl
 
 -- ---- finitely many numbers have a bound
 pub size : ℤ → ℕ
@@ -46,17 +51,20 @@ Bounded {X} r xs = (m : ℕ) × ((f : X) → In f xs → (r f <ℤ pos m) × (ne
 
 -- with one more member
 bound_more : {X : Type 0} (r : X → ℤ) (x : X) (xs : List X) → Bounded r xs → Bounded r (x ∷ xs)
-bound_more {X} r x xs low = (suc (size (r x)) + low.0, λ f i. one f i)
+bound_more {X} r x xs low = (suc (size (r x)) + low.0, of_all)
   where
-    here : (y : ℤ) (s m : ℕ) → (y ≤ℤ pos s) × (neg_ℤ y ≤ℤ pos s) → (y <ℤ pos (suc s + m)) × (neg_ℤ y <ℤ pos (suc s + m))
+    Below : ℤ → ℕ → Type 0
+    Below y n = (y <ℤ pos n) × (neg_ℤ y <ℤ pos n)
+
+    here : (y : ℤ) (s m : ℕ) → (y ≤ℤ pos s) × (neg_ℤ y ≤ℤ pos s) → Below y (suc s + m)
     here y s m h = (omega (arith, ints, h.0), omega (arith, ints, h.1))
 
-    there : (y : ℤ) (s m : ℕ) → (y <ℤ pos m) × (neg_ℤ y <ℤ pos m) → (y <ℤ pos (suc s + m)) × (neg_ℤ y <ℤ pos (suc s + m))
+    there : (y : ℤ) (s m : ℕ) → Below y m → Below y (suc s + m)
     there y s m h = (omega (arith, ints, h.0), omega (arith, ints, h.1))
 
-    one : (f : X) → (f ≡ x) ⊎ In f xs → (r f <ℤ pos (suc (size (r x)) + low.0)) × (neg_ℤ (r f) <ℤ pos (suc (size (r x)) + low.0))
-    one f (inl e) = subst (λ t. (r t <ℤ pos (suc (size (r x)) + low.0)) × (neg_ℤ (r t) <ℤ pos (suc (size (r x)) + low.0))) (sym e) (here (r x) (size (r x)) low.0 (size_le (r x)))
-    one f (inr i) = there (r f) (size (r x)) low.0 (low.1 f i)
+    of_all : (f : X) → (f ≡ x) ⊎ In f xs → Below (r f) (suc (size (r x)) + low.0)
+    of_all f (inl e) = subst (λ t. Below (r t) (suc (size (r x)) + low.0)) (sym e) (here (r x) (size (r x)) low.0 (size_le (r x)))
+    of_all f (inr i) = there (r f) (size (r x)) low.0 (low.1 f i)
 
 -- there is one
 pub bound : {X : Type 0} (r : X → ℤ) (xs : List X) → Bounded r xs
@@ -64,37 +72,24 @@ bound r [] = (zero, λ f i. absurd i)
 bound r (x ∷ xs) = bound_more r x xs (bound r xs)
 
 -- a large enough share
-share : (b x : ℤ) (k : ℕ) → b <ℤ pos k → x <ℤ pos 0 → (b +ℤ pos k *ℤ x) <ℤ pos 0
-share b x k h q = finish b (pos k *ℤ x) (pos k) (pos k *ℤ (x +ℤ pos 1)) (spread (pos k) x) h (mul-nonneg_nonpos (pos k) (x +ℤ pos 1) (omega (arith, ints)) (up x q))
+pub share : (b x : ℤ) (k : ℕ) → b <ℤ pos k → x <ℤ pos 0 → (b +ℤ pos k *ℤ x) <ℤ pos 0
+share b x k h q =
+    let l = mul-nonneg_nonpos (pos k) (x +ℤ pos 1) (omega (arith, ints)) (omega (arith, ints, q)) in omega (arith, ints, spread, h, l)
   where
-    up : (x : ℤ) → x <ℤ pos 0 → (x +ℤ pos 1) ≤ℤ pos 0
-    up x h = omega (arith, ints)
-
-    spread : (k x : ℤ) → k *ℤ (x +ℤ pos 1) ≡ k *ℤ x +ℤ k
-    spread k x = ring (k ∷ x ∷ []) (mul (var 0) (add (var 1) (con (pos 1)))) (add (mul (var 0) (var 1)) (var 0)) refl
-
-    finish : (b s k t : ℤ) → t ≡ s +ℤ k → b <ℤ k → t ≤ℤ pos 0 → (b +ℤ s) <ℤ pos 0
-    finish b s k t e h q = omega (arith, ints)
+    spread : pos k *ℤ (x +ℤ pos 1) ≡ pos k *ℤ x +ℤ pos k
+    spread = ring (pos k ∷ x ∷ []) (mul (var 0) (add (var 1) (con (pos 1)))) (add (mul (var 0) (var 1)) (var 0)) refl
 
 -- a large enough scale
 pub scale : (e x : ℤ) (m n : ℕ) → neg_ℤ e <ℤ pos m → suc m ≤ n → pos 0 <ℤ x → pos 0 <ℤ (pos n *ℤ x +ℤ e)
-scale e x m n h k q = finish e (pos n *ℤ x) (pos n *ℤ (x -ℤ pos 1)) m n (spread (pos n) x) h k (mul-nonneg (pos n) (x -ℤ pos 1) (omega (arith, ints)) (down x q))
+scale e x m n h k q =
+    let l = mul-nonneg (pos n) (x -ℤ pos 1) (omega (arith, ints)) (omega (arith, ints, q)) in omega (arith, ints, spread, h, k, l)
   where
-    down : (x : ℤ) → pos 0 <ℤ x → pos 0 ≤ℤ (x -ℤ pos 1)
-    down x h = omega (arith, ints)
-
-    spread : (k x : ℤ) → k *ℤ (x -ℤ pos 1) ≡ k *ℤ x -ℤ k
-    spread k x = ring (k ∷ x ∷ []) (mul (var 0) (less (var 1) (con (pos 1)))) (less (mul (var 0) (var 1)) (var 0)) refl
-
-    finish : (e s t : ℤ) (m n : ℕ) → t ≡ s -ℤ pos n → neg_ℤ e <ℤ pos m → suc m ≤ n → pos 0 ≤ℤ t → pos 0 <ℤ (s +ℤ e)
-    finish e s t m n q h k l = omega (arith, ints)
+    spread : pos n *ℤ (x -ℤ pos 1) ≡ pos n *ℤ x -ℤ pos n
+    spread = ring (pos n ∷ x ∷ []) (mul (var 0) (less (var 1) (con (pos 1)))) (less (mul (var 0) (var 1)) (var 0)) refl
 
 -- and a large enough scale downwards
 scale_down : (e x : ℤ) (n : ℕ) → e <ℤ pos 0 → x ≤ℤ pos 0 → (pos n *ℤ x +ℤ e) <ℤ pos 0
-scale_down e x n h q = finish e (pos n *ℤ x) h (mul-nonneg_nonpos (pos n) x (omega (arith, ints)) q)
-  where
-    finish : (e s : ℤ) → e <ℤ pos 0 → s ≤ℤ pos 0 → (s +ℤ e) <ℤ pos 0
-    finish e s h k = omega (arith, ints)
+scale_down e x n h q = let s = mul-nonneg_nonpos (pos n) x (omega (arith, ints)) q in omega (arith, ints, h, s)
 
 -- a product of three positive scales
 pub cube : (m n : ℕ) → suc m ≤ n → pos 0 <ℤ (pos n *ℤ pos n *ℤ pos n)
@@ -104,21 +99,19 @@ cube m n h = let p : pos 0 <ℤ pos n = omega (arith, ints) in mul-pos (pos n *�
 pub record Choice (m : Surface) (home : ℕ → Weighted) (o : Weighted) (h : ℕ → ℕ) (p : Weighted) : Type 0 where
   pub k : ℕ
   pub from : ℕ
-  pub up : (n : ℕ) → from ≤ n → (f : ℕ) → In f m.live → pos 0 <ℤ rise m home f p → pos 0 <ℤ rise m (drawn home o h n) f (towards o (pos n) p (pos k))
-  pub down : (n : ℕ) → from ≤ n → (f : ℕ) → In f m.live → rise m home f p ≤ℤ pos 0 → rise m (drawn home o h n) f (towards o (pos n) p (pos k)) <ℤ pos 0
+  pub up : (n : ℕ) → from ≤ n → (f : ℕ) → In f m.live → pos 0 <ℤ rise m home f p
+      → pos 0 <ℤ rise m (drawn home o h n) f (towards o (pos n) p (pos k))
+  pub down : (n : ℕ) → from ≤ n → (f : ℕ) → In f m.live → rise m home f p ≤ℤ pos 0
+      → rise m (drawn home o h n) f (towards o (pos n) p (pos k)) <ℤ pos 0
 
 -- there is one
 pub choose : (m : Surface) (home : ℕ → Weighted) (o : Weighted) → IsInner m home o → (h : ℕ → ℕ) (p : Weighted) → Choice m home o h p
-choose m home o inner h p =
-    record {
-      k = k;
-      from = suc scale_to;
-      up = λ n q f i s. subst (λ v. pos 0 <ℤ v) (sym (value n f)) (mul-pos (pos n *ℤ pos n *ℤ pos n) (pos n *ℤ rise m home f p +ℤ added f) (cube scale_to n q) (scale (added f) (rise m home f p) scale_to n (added_bound f i) q s));
-      down = λ n q f i s. subst (λ v. v <ℤ pos 0) (sym (value n f)) (mul-pos_neg (pos n *ℤ pos n *ℤ pos n) (pos n *ℤ rise m home f p +ℤ added f) (cube scale_to n q) (scale_down (added f) (rise m home f p) n (added_neg f i) s));
-    }
+choose m home o inner h p = record { k = k; from = suc scale_to; up = up; down = down }
   where
     base : ℕ → ℤ
-    base f = pos (h (m.i f)) *ℤ above o (home (m.j f)) (home (m.k f)) p +ℤ pos (h (m.j f)) *ℤ above (home (m.i f)) o (home (m.k f)) p +ℤ pos (h (m.k f)) *ℤ above (home (m.i f)) (home (m.j f)) o p
+    base f =
+        let a = home (m.i f) in let b = home (m.j f) in let c = home (m.k f) in
+        pos (h (m.i f)) *ℤ above o b c p +ℤ pos (h (m.j f)) *ℤ above a o c p +ℤ pos (h (m.k f)) *ℤ above a b o p
 
     k : ℕ
     k = (bound base m.live).0
@@ -132,8 +125,20 @@ choose m home o inner h p =
     added_neg : (f : ℕ) → In f m.live → added f <ℤ pos 0
     added_neg f i = share (base f) (rise m home f o) k ((bound base m.live).1 f i).0 (inner f i)
 
-    added_bound : (f : ℕ) → In f m.live → neg_ℤ (added f) <ℤ pos scale_to
-    added_bound f i = ((bound added m.live).1 f i).1
+    top : ℕ → Weighted
+    top n = towards o (pos n) p (pos k)
 
-    value : (n f : ℕ) → rise m (drawn home o h n) f (towards o (pos n) p (pos k)) ≡ pos n *ℤ pos n *ℤ pos n *ℤ (pos n *ℤ rise m home f p +ℤ added f)
-    value n f = above-drawn_all o (home (m.i f)) (home (m.j f)) (home (m.k f)) p (pos n) (pos (h (m.i f))) (pos (h (m.j f))) (pos (h (m.k f))) (pos k)
+    value : (n f : ℕ) → pos n *ℤ pos n *ℤ pos n *ℤ (pos n *ℤ rise m home f p +ℤ added f) ≡ rise m (drawn home o h n) f (top n)
+    value n f =
+        let by : ℕ → ℤ = λ l. pos (h l) in
+        sym (above-drawn_all o (home (m.i f)) (home (m.j f)) (home (m.k f)) p (pos n) (by (m.i f)) (by (m.j f)) (by (m.k f)) (pos k))
+
+    up : (n : ℕ) → suc scale_to ≤ n → (f : ℕ) → In f m.live → pos 0 <ℤ rise m home f p → pos 0 <ℤ rise m (drawn home o h n) f (top n)
+    up n q f i s =
+        subst (λ v. pos 0 <ℤ v) (value n f) (mul-pos (pos n *ℤ pos n *ℤ pos n) (pos n *ℤ rise m home f p +ℤ added f) (cube scale_to n q)
+        (scale (added f) (rise m home f p) scale_to n ((bound added m.live).1 f i).1 q s))
+
+    down : (n : ℕ) → suc scale_to ≤ n → (f : ℕ) → In f m.live → rise m home f p ≤ℤ pos 0 → rise m (drawn home o h n) f (top n) <ℤ pos 0
+    down n q f i s =
+        subst (λ v. v <ℤ pos 0) (value n f) (mul-pos_neg (pos n *ℤ pos n *ℤ pos n) (pos n *ℤ rise m home f p +ℤ added f) (cube scale_to n q)
+        (scale_down (added f) (rise m home f p) n (added_neg f i) s))

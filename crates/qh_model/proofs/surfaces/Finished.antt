@@ -1,208 +1,54 @@
 -- A finished surface misses no extreme id and no supporting plane.
-use Rattle.std.proofs.Common.{◌≡◌, ◌≢◌, ℕ, arith, refl, sym, ap, subst, ◌∙◌, ◌⊎◌, inl, inr, List, [], ◌∷◌}
+use Rattle.std.proofs.Common.{◌↔◌, ◌≡◌, ◌≢◌, ℕ, arith, refl, sym, ap, subst, ◌∙◌, ◌⊎◌, inl, inr, List, [], ◌∷◌}
 use Rattle.std.proofs.lemmas.Int.{ints}
 use native.Mathlib.Decide.{ℕ_discrete}
-use Rattle.std.specs.Prelude.{ℤ, pos, ◌+ℤ◌, ◌-ℤ◌, ◌*ℤ◌, neg_ℤ, ◌≤ℤ◌, ◌<ℤ◌}
-use Rattle.qh_model.specs.headline.Vector.{Vector, dot}
-use Rattle.qh_model.specs.headline.Predicates.{cross, vol, AreInLine}
-use Rattle.qh_model.specs.headline.Sets.{In, Members}
-use Rattle.qh_model.specs.headline.Combination.{Combination}
-use Rattle.qh_model.specs.laws.Separator.{Separator}
-use Rattle.qh_model.specs.headline.Extreme.{Others, Extreme}
+use Rattle.std.specs.Prelude.{ℤ, pos, ◌+ℤ◌, ◌-ℤ◌, ◌*ℤ◌, ◌≤ℤ◌, ◌<ℤ◌}
+use Rattle.qh_model.specs.headline.{Vector.Vector, Vector.dot, Predicates.cross, Predicates.vol, Predicates.AreInLine, Sets.In}
+use Rattle.qh_model.specs.headline.{Sets.Members, Combination.Combination, Extreme.Others, Extreme.Extreme}
 use Rattle.qh_model.specs.headline.SupportingPlane.{IsSupportingTriple, OnPlane}
-use Rattle.qh_model.specs.laws.FaceLaws.{IsAlong}
+use Rattle.qh_model.specs.laws.{Separator.Separator, FaceLaws.IsAlong, CoveredPoints.CombinationWithInner, CoveredPoints.CombinationInPlane}
+use Rattle.qh_model.specs.laws.CompletenessLaws.{FacetsSupport, IsLiveCorner, ExtremesAreCorners, CornerInPlane, ExtremesOfPlaneAreCorners}
+use Rattle.qh_model.specs.laws.CompletenessLaws.{FacetOfPlane, PlanesHaveFacets}
 use Rattle.qh_model.specs.contract.Weighted.{Weighted, weighted, weighted_dot, above}
 use Rattle.qh_model.specs.contract.Surface.{Surface, IsCorner, rise}
-use Rattle.qh_model.specs.laws.CoveredPoints.{CombinationWithInner, CombinationInPlane}
 use Rattle.qh_model.specs.contract.FinishedSurface.{weighted_at, middle_at, IsFinished}
-use Rattle.qh_model.specs.laws.CompletenessLaws.{FacetsSupport, ExtremesAreCorners, CornerInPlane, ExtremesOfPlaneAreCorners, FacetOfPlane, PlanesHaveFacets}
-use Rattle.qh_model.proofs.algebra.Order.{mul-nonneg, cancel-zero, le_antisym, positive_le}
-use Rattle.qh_model.proofs.algebra.Ring.{ring}
-use Rattle.qh_model.proofs.algebra.Ring.Expr.{var, con, add, sub as less, mul}
+use Rattle.qh_model.proofs.algebra.{Order.mul-pos, Order.mul-nonneg_nonpos, Order.le_antisym, Ring.ring}
 use Rattle.qh_model.proofs.algebra.VectorIdentities.{vec, dotE, crossE, subE, put, VE, vol-first, in_line-vol, in_line-twice, vol-flip_last}
-use Rattle.qh_model.proofs.algebra.Signs.{gap_positive, less_differ, equal_le, less_le}
-use Rattle.qh_model.proofs.extremes.ExtremeIds.{Listed, listed_itself, listed_part, apart, alternative_in}
+use Rattle.qh_model.proofs.algebra.Signs.{less_differ, equal_le, no_sum, zeros_not_negative}
+use Rattle.qh_model.proofs.algebra.Ring.Expr.{var, con, add, sub as less, mul}
+use Rattle.qh_model.proofs.extremes.ExtremeIds.{listed_itself, listed_part, apart, alternative_in}
 use Rattle.qh_model.proofs.extremes.Directions.{at_least_along, normal_along, from_plane, vol_along, zero_along, square-positive}
-use Rattle.qh_model.proofs.surfaces.Determinants.{QE, aboveE}
-use Rattle.qh_model.proofs.surfaces.Facets.{corner_test}
-use Rattle.qh_model.proofs.surfaces.Simplex.{above-together, middle_is_below}
-use Rattle.qh_model.proofs.surfaces.SurfaceLaws.{rise_is_vol}
-use Rattle.qh_model.proofs.surfaces.Closed.{inner_area}
+use Rattle.qh_model.proofs.surfaces.{Facets.corner_test, Simplex.middle_is_below, SurfaceLaws.rise_is_vol, Closed.inner_area}
+use Rattle.qh_model.proofs.surfaces.Determinants.{QE, aboveE, dot-together, above-together}
 use Rattle.qh_model.proofs.surfaces.Combinations.{settled_is_combination, level_is_combination}
+
+-- ---- linear facts
+-- whole numbers below L, four times, against a number between
+far_below : (h d L : ℤ) → h ≡ pos 4 *ℤ d +ℤ (pos 1 -ℤ pos 4 *ℤ L) → d <ℤ L → (h +ℤ pos 3) ≤ℤ pos 0
+far_below h d L e l = omega (arith, ints)
+
+-- one far below and three at most just beyond
+one_far_below : (x a b c d : ℤ) → x ≡ a +ℤ b +ℤ c +ℤ d → ((a +ℤ pos 3) ≤ℤ pos 0) ⊎ ((b +ℤ pos 3) ≤ℤ pos 0)
+    → a ≤ℤ pos 1 → b ≤ℤ pos 1 → c ≤ℤ pos 1 → d ≤ℤ pos 1 → x ≤ℤ pos 0
+one_far_below x a b c d e (inl f) h i j k = omega (arith, ints)
+one_far_below x a b c d e (inr f) h i j k = omega (arith, ints)
+
+-- ---- an extreme id is separated from the others
+separated : (at : ℕ → Vector) (ids : List ℕ) (l : ℕ) → Extreme at (Members ids) l → Separator at (Others (Members ids) l) (at l)
+separated at ids l e =
+    let others = listed_part (Members ids) (λ j. j ≢ l) (apart l) ids (listed_itself ids) in
+    sides (alternative_in at (Others (Members ids) l) others.0 others.1 (at l))
+  where
+    sides : Combination at (Others (Members ids) l) (at l) ⊎ Separator at (Others (Members ids) l) (at l)
+        → Separator at (Others (Members ids) l) (at l)
+    sides (inl c) = absurd (e.1 c)
+    sides (inr s) = s
 
 -- ---- directions as planes
 -- the plane that measures along w
 abbrev across : Vector → Weighted
 across w = record { w = pos 0; x = w.x; y = w.y; z = w.z }
 
--- it measures points
-along-point : (w p : Vector) → weighted_dot (across w) (weighted p) ≡ dot w p
-along-point w p = drop (w.x *ℤ p.x) (w.y *ℤ p.y) (w.z *ℤ p.z)
-  where
-    drop : (x y z : ℤ) → pos 0 *ℤ pos 1 +ℤ x +ℤ y +ℤ z ≡ x +ℤ y +ℤ z
-    drop x y z = omega (arith, ints)
-
--- and the middle
-along-middle : (w : Vector) (at : ℕ → Vector) (s t u v : ℕ) → weighted_dot (across w) (middle_at at s t u v) ≡ dot w (at s) +ℤ dot w (at t) +ℤ dot w (at u) +ℤ dot w (at v)
-along-middle w at s t u v =
-    let W = vec 0 in let A = vec 1 in let B = vec 2 in let C = vec 3 in let D = vec 4 in let one = con (pos 1) in
-    ring (put w (put (at s) (put (at t) (put (at u) (put (at v) [])))))
-    (add (add (add (mul (con (pos 0)) (add (add (add one one) one) one)) (mul W.x (add (add (add A.x B.x) C.x) D.x))) (mul W.y (add (add (add A.y B.y) C.y) D.y))) (mul W.z (add (add (add A.z B.z) C.z) D.z)))
-    (add (add (add (dotE W A) (dotE W B)) (dotE W C)) (dotE W D)) refl
-
--- the plane that measures weights
-abbrev heavy : Weighted
-heavy = record { w = pos 1; x = pos 0; y = pos 0; z = pos 0 }
-
--- a point has weight 1
-weight-point : (p : Vector) → weighted_dot heavy (weighted p) ≡ pos 1
-weight-point p = omega (arith, ints)
-
--- the middle has weight 4
-weight-middle : (at : ℕ → Vector) (s t u v : ℕ) → weighted_dot heavy (middle_at at s t u v) ≡ pos 4
-weight-middle at s t u v = flat ((at s).x +ℤ (at t).x +ℤ (at u).x +ℤ (at v).x) ((at s).y +ℤ (at t).y +ℤ (at u).y +ℤ (at v).y) ((at s).z +ℤ (at t).z +ℤ (at u).z +ℤ (at v).z)
-  where
-    flat : (x y z : ℤ) → pos 1 *ℤ (pos 1 +ℤ pos 1 +ℤ pos 1 +ℤ pos 1) +ℤ pos 0 *ℤ x +ℤ pos 0 *ℤ y +ℤ pos 0 *ℤ z ≡ pos 4
-    flat x y z = omega (arith, ints)
-
--- ---- an extreme id is separated from the others
-separated : (at : ℕ → Vector) (ids : List ℕ) (l : ℕ) → Extreme at (Members ids) l → Separator at (Others (Members ids) l) (at l)
-separated at ids l e = go (listed_part (Members ids) (λ j. j ≢ l) (apart l) ids (listed_itself ids))
-  where
-    sides : Combination at (Others (Members ids) l) (at l) ⊎ Separator at (Others (Members ids) l) (at l) → Separator at (Others (Members ids) l) (at l)
-    sides (inl m) = absurd (e.1 m)
-    sides (inr s) = s
-
-    go : (ys : List ℕ) × Listed (Others (Members ids) l) ys → Separator at (Others (Members ids) l) (at l)
-    go (ys, k) = sides (alternative_in at (Others (Members ids) l) ys k (at l))
-
--- ---- no combination of what is lower reaches up
-
--- four numbers not below 0 that add up to 0
-four_zero : (a b c d : ℤ) → a +ℤ b +ℤ c +ℤ d ≡ pos 0 → pos 0 ≤ℤ a → pos 0 ≤ℤ b → pos 0 ≤ℤ c → pos 0 ≤ℤ d → (a ≡ pos 0) × (b ≡ pos 0) × (c ≡ pos 0) × (d ≡ pos 0)
-four_zero a b c d e ha hb hc hd = (omega (arith, ints), omega (arith, ints), omega (arith, ints), omega (arith, ints))
-
--- u A + v B + w C + t O = (u + v + w + 4 t) L with A, B, C below L and O below 4 L
-too_low : (all u v w t L A B C O : ℤ) → pos 0 <ℤ all → pos 0 ≤ℤ u → pos 0 ≤ℤ v → pos 0 ≤ℤ w → pos 0 ≤ℤ t
-    → all ≡ u +ℤ v +ℤ w +ℤ t *ℤ pos 4 → all *ℤ L ≡ u *ℤ A +ℤ v *ℤ B +ℤ w *ℤ C +ℤ t *ℤ O → A <ℤ L → B <ℤ L → C <ℤ L → O <ℤ (pos 4 *ℤ L) → ⊥
-too_low all u v w t L A B C O p hu hv hw ht weights mix a b c o =
-    none (four_zero (u *ℤ (L -ℤ A)) (v *ℤ (L -ℤ B)) (w *ℤ (L -ℤ C)) (t *ℤ (pos 4 *ℤ L -ℤ O)) gaps (times u A L hu a) (times v B L hv b) (times w C L hw c) (times t O (pos 4 *ℤ L) ht o))
-  where
-    times : (k x y : ℤ) → pos 0 ≤ℤ k → x <ℤ y → pos 0 ≤ℤ (k *ℤ (y -ℤ x))
-    times k x y h l = mul-nonneg k (y -ℤ x) h (positive_le (y -ℤ x) (gap_positive x y l))
-
-    gaps : u *ℤ (L -ℤ A) +ℤ v *ℤ (L -ℤ B) +ℤ w *ℤ (L -ℤ C) +ℤ t *ℤ (pos 4 *ℤ L -ℤ O) ≡ pos 0
-    gaps =
-        let U = var 0 in let V = var 1 in let W = var 2 in let T = var 3 in
-        let expand = ring (u ∷ v ∷ w ∷ t ∷ L ∷ A ∷ B ∷ C ∷ O ∷ [])
-        (add (add (add (mul U (less (var 4) (var 5))) (mul V (less (var 4) (var 6)))) (mul W (less (var 4) (var 7)))) (mul T (less (mul (con (pos 4)) (var 4)) (var 8))))
-        (less (mul (add (add (add U V) W) (mul T (con (pos 4)))) (var 4)) (add (add (add (mul U (var 5)) (mul V (var 6))) (mul W (var 7))) (mul T (var 8)))) refl in
-        expand ∙ level ((u +ℤ v +ℤ w +ℤ t *ℤ pos 4) *ℤ L) (u *ℤ A +ℤ v *ℤ B +ℤ w *ℤ C +ℤ t *ℤ O) (sym (ap (λ k. k *ℤ L) weights) ∙ mix)
-      where
-        level : (x y : ℤ) → x ≡ y → x -ℤ y ≡ pos 0
-        level x y e = omega (arith, ints)
-
-    gone : (k x y : ℤ) → x <ℤ y → k *ℤ (y -ℤ x) ≡ pos 0 → k ≡ pos 0
-    gone k x y l e = cancel-zero (y -ℤ x) k (gap_positive x y l) (ring (k ∷ x ∷ y ∷ []) (mul (less (var 2) (var 1)) (var 0)) (mul (var 0) (less (var 2) (var 1))) refl ∙ e)
-
-    total : (all u v w t : ℤ) → pos 0 <ℤ all → all ≡ u +ℤ v +ℤ w +ℤ t *ℤ pos 4 → u ≡ pos 0 → v ≡ pos 0 → w ≡ pos 0 → t ≡ pos 0 → ⊥
-    total all u v w t h e a b c d = omega (arith, ints)
-
-    none : (u *ℤ (L -ℤ A) ≡ pos 0) × (v *ℤ (L -ℤ B) ≡ pos 0) × (w *ℤ (L -ℤ C) ≡ pos 0) × (t *ℤ (pos 4 *ℤ L -ℤ O) ≡ pos 0) → ⊥
-    none z = total all u v w t p weights (gone u A L a z.0) (gone v B L b z.1) (gone w C L c z.2) (gone t O (pos 4 *ℤ L) o z.3)
-
--- ---- what the record says in terms of `above`
-pub unseen_above : (at : ℕ → Vector) (ids : List ℕ) (m : Surface) → IsFinished at ids m → (f : ℕ) → In f m.live → (l : ℕ) → Members ids l → rise m (weighted_at at) f (weighted (at l)) ≤ℤ pos 0
-unseen_above at ids m z f i l h = subst (λ x. x ≤ℤ pos 0) (sym (rise_is_vol (at (m.i f)) (at (m.j f)) (at (m.k f)) (at l))) (z.unseen f i l h)
-
--- l is lower than the middle's four ids together, four times, where it is separated from all others
-middle_low : (at : ℕ → Vector) (ids : List ℕ) (m : Surface) (z : IsFinished at ids m) (l : ℕ) (e : Separator at (Others (Members ids) l) (at l))
-    → (dot e.w (at z.s) +ℤ dot e.w (at z.t) +ℤ dot e.w (at z.u) +ℤ dot e.w (at z.v)) <ℤ (pos 4 *ℤ dot e.w (at l))
-middle_low at ids m z l e = pick (ℕ_discrete z.s l) (ℕ_discrete z.t l)
-  where
-    L : ℤ
-    L = dot e.w (at l)
-
-    lower : (j : ℕ) → Members ids j → j ≢ l → dot e.w (at j) <ℤ L
-    lower j h n = e.past j (h, n)
-
-    not_above : (j : ℕ) → Members ids j → dot e.w (at j) ≤ℤ L
-    not_above j h = test (ℕ_discrete j l)
-      where
-        test : Dec (j ≡ l) → dot e.w (at j) ≤ℤ L
-        test (yes q) = equal_le (dot e.w (at j)) L (ap (λ t. dot e.w (at t)) q)
-        test (no q) = less_le (dot e.w (at j)) L (lower j h q)
-
-    first : (a b c d L : ℤ) → a <ℤ L → b ≤ℤ L → c ≤ℤ L → d ≤ℤ L → (a +ℤ b +ℤ c +ℤ d) <ℤ (pos 4 *ℤ L)
-    first a b c d L h i j k = omega (arith, ints)
-
-    second : (a b c d L : ℤ) → a ≤ℤ L → b <ℤ L → c ≤ℤ L → d ≤ℤ L → (a +ℤ b +ℤ c +ℤ d) <ℤ (pos 4 *ℤ L)
-    second a b c d L h i j k = omega (arith, ints)
-
-    pick : Dec (z.s ≡ l) → Dec (z.t ≡ l) → (dot e.w (at z.s) +ℤ dot e.w (at z.t) +ℤ dot e.w (at z.u) +ℤ dot e.w (at z.v)) <ℤ (pos 4 *ℤ L)
-    pick (no n) q = first (dot e.w (at z.s)) (dot e.w (at z.t)) (dot e.w (at z.u)) (dot e.w (at z.v)) L (lower z.s z.has_s n) (not_above z.t z.has_t) (not_above z.u z.has_u) (not_above z.v z.has_v)
-    pick (yes p) (no n) = second (dot e.w (at z.s)) (dot e.w (at z.t)) (dot e.w (at z.u)) (dot e.w (at z.v)) L (not_above z.s z.has_s) (lower z.t z.has_t n) (not_above z.u z.has_u) (not_above z.v z.has_v)
-    pick (yes p) (yes q) = absurd (less_differ (vol (at z.s) (at z.t) (at z.u) (at z.v)) (pos 0) z.volume (in_line-vol (at z.s) (at z.t) (at z.u) (at z.v) (subst (λ j. AreInLine (at z.s) (at j) (at z.u)) (p ∙ sym q) (in_line-twice (at z.s) (at z.u)))))
-
--- a corner of a facet that l is no corner of is another id
-other_corner : (at : ℕ → Vector) (ids : List ℕ) (m : Surface) → IsFinished at ids m → (f l : ℕ) → In f m.live → ¬ (IsCorner m f l) → (h : ℕ) → IsCorner m f h → Others (Members ids) l h
-other_corner at ids m z f l i n h c = (z.corners f i h c, λ e. n (subst (IsCorner m f) e c))
-
--- ---- extreme ids are corners
--- the law
-pub extremes_are_corners : ExtremesAreCorners
-extremes_are_corners at ids m z l x = found (settled_is_combination m (weighted_at at) o z.whole z.sound z.some z.some_live (weighted (at l)) (λ f i. unseen_above at ids m z f i l x.0))
-  where
-    o : Weighted
-    o = middle_at at z.s z.t z.u z.v
-
-    e : Separator at (Others (Members ids) l) (at l)
-    e = separated at ids l x
-
-    found : CombinationWithInner m (weighted_at at) o (weighted (at l)) → (f : ℕ) × In f m.live × IsCorner m f l
-    found q = pick (corner_test m q.f l)
-      where
-        low : ¬ (IsCorner m q.f l) → (h : ℕ) → IsCorner m q.f h → dot e.w (at h) <ℤ dot e.w (at l)
-        low n h c = e.past h (other_corner at ids m z q.f l q.live n h c)
-
-        value : q.all *ℤ dot e.w (at l) ≡ q.u *ℤ dot e.w (at (m.i q.f)) +ℤ q.v *ℤ dot e.w (at (m.j q.f)) +ℤ q.w *ℤ dot e.w (at (m.k q.f)) +ℤ q.t *ℤ (dot e.w (at z.s) +ℤ dot e.w (at z.t) +ℤ dot e.w (at z.u) +ℤ dot e.w (at z.v))
-        value = ap (λ k. q.all *ℤ k) (sym (along-point e.w (at l))) ∙ q.mix (across e.w)
-            ∙ terms q.u q.v q.w q.t (along-point e.w (at (m.i q.f))) (along-point e.w (at (m.j q.f))) (along-point e.w (at (m.k q.f))) (along-middle e.w at z.s z.t z.u z.v)
-          where
-            terms : (u v w t : ℤ) {a b c d a' b' c' d' : ℤ} → a ≡ a' → b ≡ b' → c ≡ c' → d ≡ d' → u *ℤ a +ℤ v *ℤ b +ℤ w *ℤ c +ℤ t *ℤ d ≡ u *ℤ a' +ℤ v *ℤ b' +ℤ w *ℤ c' +ℤ t *ℤ d'
-            terms u v w t p q r s = cc (p, q, r, s)
-
-        weights : q.all ≡ q.u +ℤ q.v +ℤ q.w +ℤ q.t *ℤ pos 4
-        weights = sums q.all q.u q.v q.w q.t (weighted_dot heavy (weighted (at l))) (weighted_dot heavy (weighted (at (m.i q.f)))) (weighted_dot heavy (weighted (at (m.j q.f)))) (weighted_dot heavy (weighted (at (m.k q.f)))) (weighted_dot heavy o)
-            (q.mix heavy) (weight-point (at l)) (weight-point (at (m.i q.f))) (weight-point (at (m.j q.f))) (weight-point (at (m.k q.f))) (weight-middle at z.s z.t z.u z.v)
-          where
-            sums : (all u v w t x a b c d : ℤ) → all *ℤ x ≡ u *ℤ a +ℤ v *ℤ b +ℤ w *ℤ c +ℤ t *ℤ d → x ≡ pos 1 → a ≡ pos 1 → b ≡ pos 1 → c ≡ pos 1 → d ≡ pos 4 → all ≡ u +ℤ v +ℤ w +ℤ t *ℤ pos 4
-            sums all u v w t x a b c d e hx ha hb hc hd = ones (rw (hx, ha, hb, hc, hd) at e)
-              where
-                ones : all *ℤ pos 1 ≡ u *ℤ pos 1 +ℤ v *ℤ pos 1 +ℤ w *ℤ pos 1 +ℤ t *ℤ pos 4 → all ≡ u +ℤ v +ℤ w +ℤ t *ℤ pos 4
-                ones q = omega (arith, ints)
-
-        pick : IsCorner m q.f l ⊎ (¬ (IsCorner m q.f l)) → (f : ℕ) × In f m.live × IsCorner m f l
-        pick (inl c) = (q.f, q.live, c)
-        pick (inr n) = absurd (too_low q.all q.u q.v q.w q.t (dot e.w (at l)) (dot e.w (at (m.i q.f))) (dot e.w (at (m.j q.f))) (dot e.w (at (m.k q.f))) (dot e.w (at z.s) +ℤ dot e.w (at z.t) +ℤ dot e.w (at z.u) +ℤ dot e.w (at z.v))
-            q.all_pos q.u_nonneg q.v_nonneg q.w_nonneg q.t_nonneg weights value (low n (m.i q.f) (inl refl)) (low n (m.j q.f) (inr (inl refl))) (low n (m.k q.f) (inr (inr refl))) (middle_low at ids m z l e))
-
--- ---- facets are supporting triples
--- the middle is strictly below a facet, so its corners are not in line
-pub facet_area : (at : ℕ → Vector) (ids : List ℕ) (m : Surface) → IsFinished at ids m → (f : ℕ) → In f m.live → ¬ (AreInLine (at (m.i f)) (at (m.j f)) (at (m.k f)))
-facet_area at ids m z f i = inner_area at m z.s z.t z.u z.v f (z.sound.inner f i)
-
--- the law
-pub facets_support : FacetsSupport
-facets_support at ids m z f i = record {
-  has_i = z.corners f i (m.i f) (inl refl);
-  has_j = z.corners f i (m.j f) (inr (inl refl));
-  has_k = z.corners f i (m.k f) (inr (inr refl));
-  area = facet_area at ids m z f i;
-  supports = z.unseen f i;
-}
-
--- ---- supporting planes have facets
 -- the direction n, of no weight, is above the plane that it is the normal of
 normal-above : (a b c : Vector) → above (weighted a) (weighted b) (weighted c) (across (cross a b c)) ≡ dot (cross a b c) (cross a b c)
 unfolding above cross
@@ -213,117 +59,222 @@ normal-above a b c =
     onE : VE → QE
     onE p = record { w = con (pos 1); x = p.x; y = p.y; z = p.z }
 
--- the middle is strictly below a supporting plane
-middle_below : (at : ℕ → Vector) (ids : List ℕ) (m : Surface) (z : IsFinished at ids m) (i j k : ℕ) → IsSupportingTriple at (Members ids) i j k
-    → above (weighted (at i)) (weighted (at j)) (weighted (at k)) (middle_at at z.s z.t z.u z.v) <ℤ pos 0
-middle_below at ids m z i j k t =
-    middle_is_below (weighted (at i)) (weighted (at j)) (weighted (at k)) (weighted (at z.s)) (weighted (at z.t)) (weighted (at z.u)) (weighted (at z.v)) (across (cross (at i) (at j) (at k)))
-    (subst (λ x. x <ℤ pos 0) (sym (rise_is_vol (at z.s) (at z.t) (at z.u) (at z.v))) z.volume) (below z.s z.has_s) (below z.t z.has_t) (below z.u z.has_u) (below z.v z.has_v)
-    (λ e. never (dot (cross (at i) (at j) (at k)) (cross (at i) (at j) (at k))) (square-positive (cross (at i) (at j) (at k)) t.area) (sym (normal-above (at i) (at j) (at k)) ∙ e))
-  where
-    below : (l : ℕ) → Members ids l → above (weighted (at i)) (weighted (at j)) (weighted (at k)) (weighted (at l)) ≤ℤ pos 0
-    below l h = subst (λ x. x ≤ℤ pos 0) (sym (rise_is_vol (at i) (at j) (at k) (at l))) (t.supports l h)
+-- the plane across w of the points of height L - 1 / 4
+abbrev below_level : Vector → ℤ → Weighted
+below_level w L = record { w = pos 1 -ℤ pos 4 *ℤ L; x = pos 4 *ℤ w.x; y = pos 4 *ℤ w.y; z = pos 4 *ℤ w.z }
 
-    never : (x : ℤ) → pos 0 <ℤ x → x ≡ pos 0 → ⊥
-    never x h e = omega (arith, ints)
+-- how far a point is beyond it
+below_level-point : (w : Vector) (L : ℤ) (p : Vector)
+    → weighted_dot (below_level w L) (weighted p) ≡ pos 4 *ℤ dot w p +ℤ (pos 1 -ℤ pos 4 *ℤ L)
+below_level-point w L p =
+    let W = vec 0 in let P = vec 1 in let four = mul (con (pos 4)) in let weight = less (con (pos 1)) (four (var 6)) in
+    ring (put w (put p (L ∷ [])))
+    (add (add (add (mul weight (con (pos 1))) (mul (four W.x) P.x)) (mul (four W.y) P.y)) (mul (four W.z) P.z))
+    (add (four (dotE W P)) weight) refl
 
--- a member of a supporting plane is a convex combination of the corners of a live facet in it
-level_member : (at : ℕ → Vector) (ids : List ℕ) (m : Surface) → IsFinished at ids m → (i j k : ℕ) → IsSupportingTriple at (Members ids) i j k → (l : ℕ) → OnPlane at (Members ids) i j k l
-    → CombinationInPlane m (weighted_at at) (weighted (at i)) (weighted (at j)) (weighted (at k)) (weighted (at l))
-level_member at ids m z i j k t l h =
-    level_is_combination m (weighted_at at) (middle_at at z.s z.t z.u z.v) z.whole z.sound z.some z.some_live (weighted (at i)) (weighted (at j)) (weighted (at k)) (weighted (at l)) (
-      middle_below at ids m z i j k t,
-      (λ g live h c. subst (λ x. x ≤ℤ pos 0) (sym (rise_is_vol (at i) (at j) (at k) (at h))) (t.supports h (z.corners g live h c))),
-      rise_is_vol (at i) (at j) (at k) (at l) ∙ h.1,
-    )
-    (λ g live. (unseen_above at ids m z g live i t.has_i, unseen_above at ids m z g live j t.has_j, unseen_above at ids m z g live k t.has_k, unseen_above at ids m z g live l h.0))
+module _ (at : ℕ → Vector) (ids : List ℕ) (m : Surface) (z : IsFinished at ids m) where
+  -- the weighted point of an id
+  abbrev P : ℕ → Weighted
+  P = weighted_at at
+
+  -- the middle
+  abbrev o : Weighted
+  o = middle_at at z.s z.t z.u z.v
+
+  -- `vol` in terms of `above`
+  is_vol : (i j k l : ℕ) → above (P i) (P j) (P k) (P l) ≡ vol (at i) (at j) (at k) (at l)
+  is_vol i j k l = rise_is_vol (at i) (at j) (at k) (at l)
+
+  -- what the record says in terms of `above`
+  pub unseen_above : (f : ℕ) → In f m.live → (l : ℕ) → Members ids l → rise m P f (P l) ≤ℤ pos 0
+  unseen_above f i l h = subst (λ x. x ≤ℤ pos 0) (sym (is_vol (m.i f) (m.j f) (m.k f) l)) (z.unseen f i l h)
+
+  -- ---- extreme ids are corners
+  -- an extreme id is a corner of the facet of which and the middle its point is a combination
+  corner_of_combination : (l : ℕ) → Extreme at (Members ids) l → (q : CombinationWithInner m P o (P l)) → IsCorner m q.f l
+  corner_of_combination l x q = decide (corner_test m q.f l)
+    where
+      e : Separator at (Others (Members ids) l) (at l)
+      e = separated at ids l x
+
+      n : Weighted
+      n = below_level e.w (dot e.w (at l))
+
+      height : ℕ → ℤ
+      height j = weighted_dot n (P j)
+
+      height_is : (j : ℕ) → height j ≡ pos 4 *ℤ dot e.w (at j) +ℤ (pos 1 -ℤ pos 4 *ℤ dot e.w (at l))
+      height_is j = below_level-point e.w (dot e.w (at l)) (at j)
+
+      own : height l ≡ pos 1
+      own = let h = height_is l in omega (arith, ints, h)
+
+      low : (j : ℕ) → Members ids j → j ≢ l → (height j +ℤ pos 3) ≤ℤ pos 0
+      low j h n = far_below (height j) (dot e.w (at j)) (dot e.w (at l)) (height_is j) (e.past j (h, n))
+
+      at_most : (j : ℕ) → Members ids j → height j ≤ℤ pos 1
+      at_most j h = either (ℕ_discrete j l)
+        where
+          either : Dec (j ≡ l) → height j ≤ℤ pos 1
+          either (yes q) = equal_le (height j) (pos 1) (ap height q ∙ own)
+          either (no q) = let l = low j h q in omega (arith, ints, l)
+
+      two_differ : z.s ≡ z.t → ⊥
+      two_differ d =
+          less_differ (vol (at z.s) (at z.t) (at z.u) (at z.v)) (pos 0) z.volume (in_line-vol (at z.s) (at z.t) (at z.u) (at z.v)
+          (subst (λ j. AreInLine (at z.s) (at j) (at z.u)) d (in_line-twice (at z.s) (at z.u))))
+
+      one_low : Dec (z.s ≡ l) → Dec (z.t ≡ l) → ((height z.s +ℤ pos 3) ≤ℤ pos 0) ⊎ ((height z.t +ℤ pos 3) ≤ℤ pos 0)
+      one_low (no d) e = inl (low z.s z.has_s d)
+      one_low (yes d) (no e) = inr (low z.t z.has_t e)
+      one_low (yes d) (yes e) = absurd (two_differ (d ∙ sym e))
+
+      middle_low : weighted_dot n o ≤ℤ pos 0
+      middle_low =
+          one_far_below (weighted_dot n o) (height z.s) (height z.t) (height z.u) (height z.v)
+          (dot-together n (P z.s) (P z.t) (P z.u) (P z.v))
+          (one_low (ℕ_discrete z.s l) (ℕ_discrete z.t l))
+          (at_most z.s z.has_s) (at_most z.t z.has_t) (at_most z.u z.has_u) (at_most z.v z.has_v)
+
+      decide : IsCorner m q.f l ⊎ (¬ (IsCorner m q.f l)) → IsCorner m q.f l
+      decide (inl c) = c
+      decide (inr c) =
+          absurd (no_sum (q.all *ℤ height l) _ _ _ _ (q.mix n)
+          (mul-pos q.all (height l) q.all_pos (subst (λ x. pos 0 <ℤ x) (sym own) (omega (arith, ints))))
+          (share q.u (m.i q.f) q.u_nonneg (inl refl)) (share q.v (m.j q.f) q.v_nonneg (inr (inl refl)))
+          (share q.w (m.k q.f) q.w_nonneg (inr (inr refl))) (mul-nonneg_nonpos q.t (weighted_dot n o) q.t_nonneg middle_low))
+        where
+          share : (k : ℤ) (h : ℕ) → pos 0 ≤ℤ k → IsCorner m q.f h → (k *ℤ height h) ≤ℤ pos 0
+          share k h p i =
+              let l = low h (z.corners q.f q.live h i) (λ e. c (subst (IsCorner m q.f) e i)) in
+              mul-nonneg_nonpos k (height h) p (omega (arith, ints, l))
+
+  -- each extreme id is a corner
+  corner_of_extreme : (l : ℕ) → Extreme at (Members ids) l → IsLiveCorner m l
+  corner_of_extreme l x =
+      let q = settled_is_combination m P o z.whole z.sound z.some z.some_live (P l) (λ f i. unseen_above f i l x.0) in
+      (q.f, q.live, corner_of_combination l x q)
+
+  -- ---- facets are supporting triples
+  -- the middle is strictly below a facet, so its corners are not in line
+  pub facet_area : (f : ℕ) → In f m.live → ¬ (AreInLine (at (m.i f)) (at (m.j f)) (at (m.k f)))
+  facet_area f i = inner_area at m z.s z.t z.u z.v f (z.sound.inner f i)
+
+  -- its corners are members, and no member is above it
+  facet_supports : (f : ℕ) → In f m.live → IsSupportingTriple at (Members ids) (m.i f) (m.j f) (m.k f)
+  facet_supports f i = record {
+    has_i = z.corners f i (m.i f) (inl refl);
+    has_j = z.corners f i (m.j f) (inr (inl refl));
+    has_k = z.corners f i (m.k f) (inr (inr refl));
+    area = facet_area f i;
+    supports = z.unseen f i;
+  }
+
+  -- ---- supporting planes have facets
+  -- no member is above a supporting plane
+  none_above : (i j k : ℕ) → IsSupportingTriple at (Members ids) i j k → (l : ℕ) → Members ids l → above (P i) (P j) (P k) (P l) ≤ℤ pos 0
+  none_above i j k t l h = subst (λ x. x ≤ℤ pos 0) (sym (is_vol i j k l)) (t.supports l h)
+
+  -- the middle is strictly below a supporting plane
+  middle_below : (i j k : ℕ) → IsSupportingTriple at (Members ids) i j k → above (P i) (P j) (P k) o <ℤ pos 0
+  middle_below i j k t =
+      let n = cross (at i) (at j) (at k) in
+      let low = none_above i j k t in
+      middle_is_below (P i) (P j) (P k) (P z.s) (P z.t) (P z.u) (P z.v) (across n)
+      (subst (λ x. x <ℤ pos 0) (sym (is_vol z.s z.t z.u z.v)) z.volume)
+      (low z.s z.has_s) (low z.t z.has_t) (low z.u z.has_u) (low z.v z.has_v)
+      (λ e. less_differ (pos 0) (dot n n) (square-positive n t.area) (sym e ∙ normal-above (at i) (at j) (at k)))
+
+  -- a member of a supporting plane is a convex combination of the corners of a live facet in it
+  level_member : (i j k : ℕ) → IsSupportingTriple at (Members ids) i j k → (l : ℕ) → OnPlane at (Members ids) i j k l
+      → CombinationInPlane m P (P i) (P j) (P k) (P l)
+  level_member i j k t l h =
+      level_is_combination m P o z.whole z.sound z.some z.some_live (P i) (P j) (P k) (P l)
+      (middle_below i j k t, λ g live h c. none_above i j k t h (z.corners g live h c), is_vol i j k l ∙ h.1)
+      (λ g live. (unseen_above g live i t.has_i, unseen_above g live j t.has_j, unseen_above g live k t.has_k, unseen_above g live l h.0))
+
+  -- an extreme id of a supporting plane is a corner of a live facet in that plane
+  corner_of_plane : (i j k : ℕ) → IsSupportingTriple at (Members ids) i j k → (l : ℕ) → OnPlane at (Extreme at (Members ids)) i j k l
+      → CornerInPlane at m i j k l
+  corner_of_plane i j k t l x =
+      let q = level_member i j k t l (x.0.0, x.1) in
+      record {
+        f = q.f;
+        live = q.live;
+        level = λ h c. sym (is_vol i j k h) ∙ q.level h c;
+        corner = corner_of_combination l x.0 (record {
+          f = q.f;
+          live = q.live;
+          all = q.all;
+          u = q.u;
+          v = q.v;
+          w = q.w;
+          t = pos 0;
+          all_pos = q.all_pos;
+          u_nonneg = q.u_nonneg;
+          v_nonneg = q.v_nonneg;
+          w_nonneg = q.w_nonneg;
+          t_nonneg = omega (arith, ints);
+          mix = λ n. let sum = q.mix n in omega (arith, ints, sum);
+        });
+      }
+
+  -- ---- one side outside
+  module _ (i j k a b c : ℕ) (t : IsSupportingTriple at (Members ids) i j k) (r : IsSupportingTriple at (Members ids) a b c)
+      (e : vol (at i) (at j) (at k) (at a) ≡ pos 0) where
+    -- no two planes that support the set are opposite
+    not_opposite : IsAlong (cross (at i) (at j) (at k)) (cross (at a) (at c) (at b)) → ⊥
+    not_opposite h =
+        zeros_not_negative _ _ _ _ _ (above-together (P i) (P j) (P k) (P z.s) (P z.t) (P z.u) (P z.v))
+        (middle_below i j k t) (level z.s z.has_s) (level z.t z.has_t) (level z.u z.has_u) (level z.v z.has_v)
+      where
+        level : (l : ℕ) → Members ids l → above (P i) (P j) (P k) (P l) ≡ pos 0
+        level l hl =
+            let flip = vol-flip_last (at a) (at b) (at c) (at l) in let low = r.supports l hl in
+            is_vol i j k l ∙ le_antisym (vol (at i) (at j) (at k) (at l)) (pos 0) (t.supports l hl)
+            (at_least_along h.t h.s _ _ h.some_t h.some_s (sym (vol_along (at i) (at j) (at k) (at a) (at c) (at b) (at l) h e))
+            (omega (arith, ints, flip, low)))
+
+    -- supporting triples in one plane have the same side outside
+    pub one_plane : vol (at i) (at j) (at k) (at b) ≡ pos 0 → vol (at i) (at j) (at k) (at c) ≡ pos 0
+        → IsAlong (cross (at i) (at j) (at k)) (cross (at a) (at b) (at c))
+        × ((l : ℕ) → (vol (at i) (at j) (at k) (at l) ≡ pos 0) ↔ (vol (at a) (at b) (at c) (at l) ≡ pos 0))
+    one_plane f g =
+        same_side (normal_along (cross (at i) (at j) (at k)) (at a) (at b) (at c) t.area r.area
+        (from_plane (at i) (at j) (at k) (at a) (at b) e ∙ f) (from_plane (at i) (at j) (at k) (at a) (at c) e ∙ g))
+      where
+        same_side : IsAlong (cross (at i) (at j) (at k)) (cross (at a) (at b) (at c))
+            ⊎ IsAlong (cross (at i) (at j) (at k)) (cross (at a) (at c) (at b))
+            → IsAlong (cross (at i) (at j) (at k)) (cross (at a) (at b) (at c))
+            × ((l : ℕ) → (vol (at i) (at j) (at k) (at l) ≡ pos 0) ↔ (vol (at a) (at b) (at c) (at l) ≡ pos 0))
+        same_side (inr h) = absurd (not_opposite h)
+        same_side (inl h) = (h, λ l. (zero_along h.s h.t _ _ h.some_t (scale l), zero_along h.t h.s _ _ h.some_s (sym (scale l))))
+          where
+            scale : (l : ℕ) → pos h.s *ℤ vol (at i) (at j) (at k) (at l) ≡ pos h.t *ℤ vol (at a) (at b) (at c) (at l)
+            scale l = vol_along (at i) (at j) (at k) (at a) (at b) (at c) (at l) h e
+
+  -- a supporting plane is that of a live facet
+  facet_of_plane : (i j k : ℕ) → IsSupportingTriple at (Members ids) i j k → FacetOfPlane at m i j k
+  facet_of_plane i j k t =
+      let q = level_member i j k t i (t.has_i, vol-first (at i) (at j) (at k)) in
+      let on : (h : ℕ) → IsCorner m q.f h → vol (at i) (at j) (at k) (at h) ≡ pos 0 = λ h c. sym (is_vol i j k h) ∙ q.level h c in
+      let one = one_plane i j k (m.i q.f) (m.j q.f) (m.k q.f) t (facet_supports q.f q.live) (on _ (inl refl)) (on _ (inr (inl refl)))
+      (on _ (inr (inr refl))) in
+      record { f = q.f; live = q.live; along = one.0; same = one.1 }
+
+-- ---- the laws
+-- the law
+pub extremes_are_corners : ExtremesAreCorners
+extremes_are_corners = corner_of_extreme
+
+-- the law
+pub facets_support : FacetsSupport
+facets_support = facet_supports
 
 -- the law
 pub extremes_of_plane_are_corners : ExtremesOfPlaneAreCorners
-extremes_of_plane_are_corners at ids m z i j k t l x = found (level_member at ids m z i j k t l (x.0.0, x.1))
-  where
-    e : Separator at (Others (Members ids) l) (at l)
-    e = separated at ids l x.0
-
-    found : CombinationInPlane m (weighted_at at) (weighted (at i)) (weighted (at j)) (weighted (at k)) (weighted (at l)) → CornerInPlane at m i j k l
-    found q = pick (corner_test m q.f l)
-      where
-        low : ¬ (IsCorner m q.f l) → (h : ℕ) → IsCorner m q.f h → dot e.w (at h) <ℤ dot e.w (at l)
-        low n h c = e.past h (other_corner at ids m z q.f l q.live n h c)
-
-        value : q.all *ℤ dot e.w (at l) ≡ q.u *ℤ dot e.w (at (m.i q.f)) +ℤ q.v *ℤ dot e.w (at (m.j q.f)) +ℤ q.w *ℤ dot e.w (at (m.k q.f))
-        value = ap (λ k. q.all *ℤ k) (sym (along-point e.w (at l))) ∙ q.mix (across e.w) ∙ terms q.u q.v q.w (along-point e.w (at (m.i q.f))) (along-point e.w (at (m.j q.f))) (along-point e.w (at (m.k q.f)))
-          where
-            terms : (u v w : ℤ) {a b c a' b' c' : ℤ} → a ≡ a' → b ≡ b' → c ≡ c' → u *ℤ a +ℤ v *ℤ b +ℤ w *ℤ c ≡ u *ℤ a' +ℤ v *ℤ b' +ℤ w *ℤ c'
-            terms u v w p q r = cc (p, q, r)
-
-        weights : q.all ≡ q.u +ℤ q.v +ℤ q.w
-        weights = sums q.all q.u q.v q.w (weighted_dot heavy (weighted (at l))) (weighted_dot heavy (weighted (at (m.i q.f)))) (weighted_dot heavy (weighted (at (m.j q.f)))) (weighted_dot heavy (weighted (at (m.k q.f))))
-            (q.mix heavy) (weight-point (at l)) (weight-point (at (m.i q.f))) (weight-point (at (m.j q.f))) (weight-point (at (m.k q.f)))
-          where
-            sums : (all u v w x a b c : ℤ) → all *ℤ x ≡ u *ℤ a +ℤ v *ℤ b +ℤ w *ℤ c → x ≡ pos 1 → a ≡ pos 1 → b ≡ pos 1 → c ≡ pos 1 → all ≡ u +ℤ v +ℤ w
-            sums all u v w x a b c e hx ha hb hc = ones (rw (hx, ha, hb, hc) at e)
-              where
-                ones : all *ℤ pos 1 ≡ u *ℤ pos 1 +ℤ v *ℤ pos 1 +ℤ w *ℤ pos 1 → all ≡ u +ℤ v +ℤ w
-                ones q = omega (arith, ints)
-
-        below_four : (L : ℤ) → (pos 4 *ℤ L -ℤ pos 1) <ℤ (pos 4 *ℤ L)
-        below_four L = omega (arith, ints)
-
-        padded : (x a y : ℤ) → x ≡ a → x ≡ a +ℤ pos 0 *ℤ y
-        padded x a y e = omega (arith, ints)
-
-        zero_le : pos 0 ≤ℤ pos 0
-        zero_le = omega (arith, ints)
-
-        pick : IsCorner m q.f l ⊎ (¬ (IsCorner m q.f l)) → CornerInPlane at m i j k l
-        pick (inl c) = record { f = q.f; live = q.live; level = λ h c. sym (rise_is_vol (at i) (at j) (at k) (at h)) ∙ q.level h c; corner = c }
-        pick (inr n) = absurd (too_low q.all q.u q.v q.w (pos 0) (dot e.w (at l)) (dot e.w (at (m.i q.f))) (dot e.w (at (m.j q.f))) (dot e.w (at (m.k q.f))) (pos 4 *ℤ dot e.w (at l) -ℤ pos 1)
-            q.all_pos q.u_nonneg q.v_nonneg q.w_nonneg zero_le (padded q.all (q.u +ℤ q.v +ℤ q.w) (pos 4) weights)
-            (padded (q.all *ℤ dot e.w (at l)) (q.u *ℤ dot e.w (at (m.i q.f)) +ℤ q.v *ℤ dot e.w (at (m.j q.f)) +ℤ q.w *ℤ dot e.w (at (m.k q.f))) (pos 4 *ℤ dot e.w (at l) -ℤ pos 1) value)
-            (low n (m.i q.f) (inl refl)) (low n (m.j q.f) (inr (inl refl))) (low n (m.k q.f) (inr (inr refl))) (below_four (dot e.w (at l))))
-
--- ---- one side outside
--- no two planes that support the set are opposite
-pub not_opposite : (at : ℕ → Vector) (ids : List ℕ) (m : Surface) (z : IsFinished at ids m) (i j k a b c : ℕ) → IsSupportingTriple at (Members ids) i j k → IsSupportingTriple at (Members ids) a b c
-    → vol (at i) (at j) (at k) (at a) ≡ pos 0 → IsAlong (cross (at i) (at j) (at k)) (cross (at a) (at c) (at b)) → ⊥
-not_opposite at ids m z i j k a b c t r e h =
-    never (above (weighted (at i)) (weighted (at j)) (weighted (at k)) (middle_at at z.s z.t z.u z.v)) _ _ _ _ (above-together (weighted (at i)) (weighted (at j)) (weighted (at k)) (weighted (at z.s)) (weighted (at z.t)) (weighted (at z.u)) (weighted (at z.v)))
-    (middle_below at ids m z i j k t) (level z.s z.has_s) (level z.t z.has_t) (level z.u z.has_u) (level z.v z.has_v)
-  where
-    never : (x p q r s : ℤ) → x ≡ p +ℤ q +ℤ r +ℤ s → x <ℤ pos 0 → p ≡ pos 0 → q ≡ pos 0 → r ≡ pos 0 → s ≡ pos 0 → ⊥
-    never x p q r s e h hp hq hr hs = omega (arith, ints)
-
-    -- the volumes over the flipped triangle are not below 0
-    turned : (x y : ℤ) → x ≡ neg_ℤ y → y ≤ℤ pos 0 → pos 0 ≤ℤ x
-    turned x y e h = omega (arith, ints)
-
-    level : (l : ℕ) → Members ids l → above (weighted (at i)) (weighted (at j)) (weighted (at k)) (weighted (at l)) ≡ pos 0
-    level l hl = rise_is_vol (at i) (at j) (at k) (at l) ∙ le_antisym (vol (at i) (at j) (at k) (at l)) (pos 0) (t.supports l hl)
-        (at_least_along h.t h.s _ _ h.some_t h.some_s (sym (vol_along (at i) (at j) (at k) (at a) (at c) (at b) (at l) h e)) (turned _ _ (vol-flip_last (at a) (at b) (at c) (at l)) (r.supports l hl)))
+extremes_of_plane_are_corners = corner_of_plane
 
 -- the law
 pub planes_have_facets : PlanesHaveFacets
-planes_have_facets at ids m z i j k t = found (level_member at ids m z i j k t i (t.has_i, vol-first (at i) (at j) (at k)))
-  where
-    found : CombinationInPlane m (weighted_at at) (weighted (at i)) (weighted (at j)) (weighted (at k)) (weighted (at i)) → FacetOfPlane at m i j k
-    found q = pick (normal_along (cross (at i) (at j) (at k)) (at (m.i q.f)) (at (m.j q.f)) (at (m.k q.f)) t.area (facet_area at ids m z q.f q.live)
-        (from_plane (at i) (at j) (at k) (at (m.i q.f)) (at (m.j q.f)) first ∙ on (m.j q.f) (inr (inl refl))) (from_plane (at i) (at j) (at k) (at (m.i q.f)) (at (m.k q.f)) first ∙ on (m.k q.f) (inr (inr refl))))
-      where
-        on : (h : ℕ) → IsCorner m q.f h → vol (at i) (at j) (at k) (at h) ≡ pos 0
-        on h c = sym (rise_is_vol (at i) (at j) (at k) (at h)) ∙ q.level h c
-
-        first : vol (at i) (at j) (at k) (at (m.i q.f)) ≡ pos 0
-        first = on (m.i q.f) (inl refl)
-
-        pick : IsAlong (cross (at i) (at j) (at k)) (cross (at (m.i q.f)) (at (m.j q.f)) (at (m.k q.f))) ⊎ IsAlong (cross (at i) (at j) (at k)) (cross (at (m.i q.f)) (at (m.k q.f)) (at (m.j q.f))) → FacetOfPlane at m i j k
-        pick (inl h) = record {
-          f = q.f;
-          live = q.live;
-          along = h;
-          same = λ l. (λ e. zero_along h.s h.t _ _ h.some_t (scale l) e, λ e. zero_along h.t h.s _ _ h.some_s (sym (scale l)) e);
-        }
-          where
-            scale : (l : ℕ) → pos h.s *ℤ vol (at i) (at j) (at k) (at l) ≡ pos h.t *ℤ vol (at (m.i q.f)) (at (m.j q.f)) (at (m.k q.f)) (at l)
-            scale l = vol_along (at i) (at j) (at k) (at (m.i q.f)) (at (m.j q.f)) (at (m.k q.f)) (at l) h first
-        pick (inr h) = absurd (not_opposite at ids m z i j k (m.i q.f) (m.j q.f) (m.k q.f) t (facets_support at ids m z q.f q.live) first h)
+planes_have_facets = facet_of_plane

@@ -1,45 +1,21 @@
 -- The horizon: where one side of it ends exactly one begins, and the other way round.
+use Rattle.qh_model.specs.contract.{Rewired.IsHorizonSide, Weighted.Weighted, Weighted.above}
 use Rattle.qh_model.specs.contract.Surface.{Side, Surface, IsWhole, end, rise, start}
+use Rattle.qh_model.specs.contract.SoundSurface.{IsSound, drawn, towards}
 use Rattle.qh_model.specs.contract.Surface.Side.{first, second, third}
-use Rattle.qh_model.specs.contract.Rewired.{IsHorizonSide}
 use Rattle.qh_model.specs.laws.Horizons.{HasHorizonSide}
 use Rattle.qh_model.specs.headline.Sets.{In}
-use Rattle.qh_model.specs.contract.SoundSurface.{IsSound, drawn, towards}
-use Rattle.qh_model.specs.contract.Weighted.{Weighted, above}
-use Rattle.std.proofs.Common.{◌≡◌, ◌≢◌, ℕ, zero, suc, ◌+◌, ◌≤◌, refl, arith, sym, ◌∙◌, subst, ◌⊎◌, inl, inr, List, [], ◌∷◌}
+use Rattle.std.proofs.Common.{◌≡◌, ◌≢◌, ℕ, zero, suc, ◌+◌, refl, arith, sym, ◌∙◌, subst, inl, inr, List, [], ◌∷◌}
 use native.Mathlib.Decide.{ℕ_discrete}
 use Rattle.std.specs.List.{flat_map}
 use Rattle.std.proofs.lemmas.Int.{by_lt_z}
 use Rattle.std.specs.Prelude.{pos, ◌≤ℤ◌, ◌<ℤ◌}
 use Rattle.qh_model.proofs.algebra.Signs.{less_one_way, opposite_positive}
-use Rattle.qh_model.proofs.lists.Joined.{in_flat_map}
-use Rattle.qh_model.proofs.lists.Searches.{comes_back}
-use Rattle.qh_model.proofs.surfaces.Facets.{corner_start, ends_differ}
-use Rattle.qh_model.proofs.surfaces.DrawnInwards.{Choice, choose}
-use Rattle.qh_model.proofs.surfaces.Determinants.{swap14}
+use Rattle.qh_model.proofs.lists.{Joined.in_flat_map, Searches.comes_back}
+use Rattle.qh_model.proofs.surfaces.{Facets.corner_start, Facets.ends_differ, DrawnInwards.Choice, DrawnInwards.choose, Determinants.swap14}
 use Rattle.qh_model.proofs.surfaces.DrawnHorizon.{Scene, HorizonSide, Joined, horizon_below, horizon_once, horizon_next}
 
 -- ---- and where it starts another ends
--- a horizon side is known by its end
-pub horizon_once_end : (m : Surface) (home : ℕ → Weighted) (o : Weighted) (c : Scene m home o) (f g : ℕ) (s t : Side)
-    → HorizonSide m c.at c.top f s → HorizonSide m c.at c.top g t → end m f s ≡ end m g t → start m f s ≡ start m g t
-horizon_once_end m home o c f g s t a b e = pick (ℕ_discrete (start m f s) (start m g t))
-  where
-    never : start m f s ≢ start m g t → ⊥
-    never n =
-        less_one_way (pos 0) (above (c.at (start m f s)) (c.at (end m f s)) c.top (c.at (start m g t)))
-        (opposite_positive (above (c.at (start m g t)) (c.at (end m f s)) c.top (c.at (start m f s))) _
-        (swap14 (c.at (start m f s)) (c.at (end m f s)) c.top (c.at (start m g t)))
-        (subst (λ u. above (c.at (start m g t)) (c.at u) c.top (c.at (start m f s)) <ℤ pos 0) (sym e)
-        (horizon_below m home o c g t b (start m f s) (f, a.live, corner_start m f s) n
-        (λ q. ends_differ m home o c.sound.inner f a.live s (q ∙ sym e)))))
-        (horizon_below m home o c f s a (start m g t) (g, b.live, corner_start m g t) (λ q. n (sym q))
-        (λ q. ends_differ m home o c.sound.inner g b.live t (q ∙ e)))
-
-    pick : Dec (start m f s ≡ start m g t) → start m f s ≡ start m g t
-    pick (yes k) = k
-    pick (no n) = absurd (never n)
-
 -- a horizon side that ends at u
 pub record Ended (m : Surface) (at : ℕ → Weighted) (top : Weighted) (u : ℕ) : Type 0 where
   pub f : ℕ
@@ -47,39 +23,58 @@ pub record Ended (m : Surface) (at : ℕ → Weighted) (top : Weighted) (u : ℕ
   pub horizon : HorizonSide m at top f s
   pub ends : end m f s ≡ u
 
--- where a horizon side starts another ends: from side to side the way leads back to the first, and each side is the next of one alone
-pub horizon_prev : (m : Surface) (home : ℕ → Weighted) (o : Weighted) (c : Scene m home o) (f : ℕ) (s : Side)
-    → HorizonSide m c.at c.top f s → Ended m c.at c.top (start m f s)
-horizon_prev m home o c f s r =
-    let back = comes_back start_of corners within one_way in let j = (side back.0).1 in
-    record { f = j.f; s = j.s; horizon = j.horizon; ends = back.1 }
-  where
-    -- the sides from this one on, each by its start
-    side : ℕ → (v : ℕ) × Joined m c.at c.top v
-    side zero = (start m f s, record { f = f; s = s; horizon = r; starts = refl })
-    side (suc k) = let j = (side k).1 in (end m j.f j.s, horizon_next m home o c j.f j.s j.horizon)
+module _ (m : Surface) (home : ℕ → Weighted) (o : Weighted) (c : Scene m home o) where
+  -- a horizon side is known by its end
+  pub horizon_once_end : (f g : ℕ) (s t : Side) → HorizonSide m c.at c.top f s → HorizonSide m c.at c.top g t
+      → end m f s ≡ end m g t → start m f s ≡ start m g t
+  horizon_once_end f g s t a b e = same (ℕ_discrete (start m f s) (start m g t))
+    where
+      never : start m f s ≢ start m g t → ⊥
+      never n =
+          less_one_way _ _
+          (opposite_positive _ _ (swap14 (c.at (start m f s)) (c.at (end m f s)) c.top (c.at (start m g t)))
+          (subst (λ u. above (c.at (start m g t)) (c.at u) c.top (c.at (start m f s)) <ℤ pos 0) (sym e)
+          (horizon_below m home o c g t b (start m f s) (f, a.live, corner_start m f s) n
+          (λ q. ends_differ m home o c.sound.inner f a.live s (q ∙ sym e)))))
+          (horizon_below m home o c f s a (start m g t) (g, b.live, corner_start m g t) (λ q. n (sym q))
+          (λ q. ends_differ m home o c.sound.inner g b.live t (q ∙ e)))
 
-    start_of : ℕ → ℕ
-    start_of k = (side k).0
+      same : Dec (start m f s ≡ start m g t) → start m f s ≡ start m g t
+      same (yes k) = k
+      same (no n) = absurd (never n)
 
-    corners_of : ℕ → List ℕ
-    corners_of g = m.i g ∷ m.j g ∷ m.k g ∷ []
+  -- where a horizon side starts another ends: from side to side the way leads back to the first, and each side is the next of one alone
+  pub horizon_prev : (f : ℕ) (s : Side) → HorizonSide m c.at c.top f s → Ended m c.at c.top (start m f s)
+  horizon_prev f s r =
+      let back = comes_back start_of corners within one_way in let j = (side back.0).1 in
+      record { f = j.f; s = j.s; horizon = j.horizon; ends = back.1 }
+    where
+      -- the sides from this one on, each by its start
+      side : ℕ → (v : ℕ) × Joined m c.at c.top v
+      side zero = (start m f s, record { f = f; s = s; horizon = r; starts = refl })
+      side (suc k) = let j = (side k).1 in (end m j.f j.s, horizon_next m home o c j.f j.s j.horizon)
 
-    corners : List ℕ
-    corners = flat_map corners_of m.live
+      start_of : ℕ → ℕ
+      start_of k = (side k).0
 
-    has_start : (g : ℕ) (t : Side) → In (start m g t) (corners_of g)
-    has_start g first = inl refl
-    has_start g second = inr (inl refl)
-    has_start g third = inr (inr (inl refl))
+      corners_of : ℕ → List ℕ
+      corners_of g = m.i g ∷ m.j g ∷ m.k g ∷ []
 
-    within : (k : ℕ) → In (start_of k) corners
-    within k = let j = (side k).1 in
-        subst (λ v. In v corners) j.starts (in_flat_map corners_of m.live j.f (start m j.f j.s) j.horizon.live (has_start j.f j.s))
+      corners : List ℕ
+      corners = flat_map corners_of m.live
 
-    one_way : (i j : ℕ) → start_of (suc i) ≡ start_of (suc j) → start_of i ≡ start_of j
-    one_way i j e = let a = (side i).1 in let b = (side j).1 in
-        sym a.starts ∙ horizon_once_end m home o c a.f b.f a.s b.s a.horizon b.horizon e ∙ b.starts
+      has_start : (g : ℕ) (t : Side) → In (start m g t) (corners_of g)
+      has_start g first = inl refl
+      has_start g second = inr (inl refl)
+      has_start g third = inr (inr (inl refl))
+
+      within : (k : ℕ) → In (start_of k) corners
+      within k = let j = (side k).1 in
+          subst (λ v. In v corners) j.starts (in_flat_map corners_of m.live j.f (start m j.f j.s) j.horizon.live (has_start j.f j.s))
+
+      one_way : (i j : ℕ) → start_of (suc i) ≡ start_of (suc j) → start_of i ≡ start_of j
+      one_way i j e = let a = (side i).1 in let b = (side j).1 in
+          sym a.starts ∙ horizon_once_end a.f b.f a.s b.s a.horizon b.horizon e ∙ b.starts
 
 -- ---- the same for a real point
 pub record Shown (m : Surface) (home : ℕ → Weighted) (o p : Weighted) : Type 0 where
@@ -87,80 +82,65 @@ pub record Shown (m : Surface) (home : ℕ → Weighted) (o p : Weighted) : Type
   pub horizon : (f : ℕ) (s : Side) → IsHorizonSide m home p f s → HorizonSide m scene.at scene.top f s
   pub edge : (f : ℕ) (s : Side) → HorizonSide m scene.at scene.top f s → IsHorizonSide m home p f s
 
--- for a real point the scene can be set
-pub shown : (m : Surface) (home : ℕ → Weighted) (o : Weighted) → IsWhole m → IsSound m home o → (p : Weighted) → Shown m home o p
-shown m home o w z p =
-    record {
-      scene = record {
-        whole = w;
-        sound = z;
-        at = at;
-        top = top;
-        strict = z.lifted.strict n (at_least z.lifted.from ch.from);
-        known = λ f i. known f i;
-      };
-      horizon = λ f s e. record { live = e.live; seen = up f e.live e.seen; blind = down (m.over f s) (w f e.live s).live e.blind };
-      edge = λ f s r. record { live = r.live; seen = up' f r.live r.seen; blind = down' (m.over f s) (w f r.live s).live r.blind };
-    }
-  where
-    ch : Choice m home o z.lifted.h p
-    ch = choose m home o z.inner z.lifted.h p
+module _ (m : Surface) (home : ℕ → Weighted) (o : Weighted) (w : IsWhole m) (z : IsSound m home o) (p : Weighted) where
+  -- for a real point the scene can be set
+  pub shown : Shown m home o p
+  shown = record {
+    scene = record {
+      whole = w;
+      sound = z;
+      at = at;
+      top = top;
+      strict = z.lifted.strict n (omega arith);
+      known = λ f i. by_lt_z (pos 0) (rise m home f p) (λ k. inl (up f i k)) (λ k. inr (down f i k));
+    };
+    horizon = λ f s e. record { live = e.live; seen = up f e.live e.seen; blind = down (m.over f s) (w f e.live s).live e.blind };
+    edge = λ f s r. record { live = r.live; seen = up_back f r.live r.seen; blind = down_back (m.over f s) (w f r.live s).live r.blind };
+  }
+    where
+      ch : Choice m home o z.lifted.h p
+      ch = choose m home o z.inner z.lifted.h p
 
-    n : ℕ
-    n = z.lifted.from + ch.from
+      n : ℕ
+      n = z.lifted.from + ch.from
 
-    at : ℕ → Weighted
-    at = drawn home o z.lifted.h n
+      at : ℕ → Weighted
+      at = drawn home o z.lifted.h n
 
-    top : Weighted
-    top = towards o (pos n) p (pos ch.k)
+      top : Weighted
+      top = towards o (pos n) p (pos ch.k)
 
-    at_least : (a b : ℕ) → a ≤ a + b
-    at_least a b = omega arith
+      up : (f : ℕ) → In f m.live → pos 0 <ℤ rise m home f p → pos 0 <ℤ rise m at f top
+      up = ch.up n (omega arith)
 
-    at_least' : (a b : ℕ) → b ≤ a + b
-    at_least' a b = omega arith
+      down : (f : ℕ) → In f m.live → rise m home f p ≤ℤ pos 0 → rise m at f top <ℤ pos 0
+      down = ch.down n (omega arith)
 
-    up : (f : ℕ) → In f m.live → pos 0 <ℤ rise m home f p → pos 0 <ℤ rise m at f top
-    up f i h = ch.up n (at_least' z.lifted.from ch.from) f i h
+      up_back : (f : ℕ) → In f m.live → pos 0 <ℤ rise m at f top → pos 0 <ℤ rise m home f p
+      up_back f i h = by_lt_z (pos 0) (rise m home f p) (λ k. k) (λ k. absurd (less_one_way _ _ h (down f i k)))
 
-    down : (f : ℕ) → In f m.live → rise m home f p ≤ℤ pos 0 → rise m at f top <ℤ pos 0
-    down f i h = ch.down n (at_least' z.lifted.from ch.from) f i h
+      down_back : (f : ℕ) → In f m.live → rise m at f top <ℤ pos 0 → rise m home f p ≤ℤ pos 0
+      down_back f i h = by_lt_z (pos 0) (rise m home f p) (λ k. absurd (less_one_way _ _ (up f i k) h)) (λ k. k)
 
-    known : (f : ℕ) → In f m.live → (pos 0 <ℤ rise m at f top) ⊎ (rise m at f top <ℤ pos 0)
-    known f i = by_lt_z (pos 0) (rise m home f p) (λ k. inl (up f i k)) (λ k. inr (down f i k))
+  -- THEOREM: each horizon edge has one next and one before, told by its ends alone
+  pub edge_next : (f : ℕ) (s : Side) → IsHorizonSide m home p f s → HasHorizonSide m home p (λ g t. start m g t ≡ end m f s)
+  edge_next f s e =
+      let h = shown in let j = horizon_next m home o h.scene f s (h.horizon f s e) in
+      record { f = j.f; s = j.s; edge = h.edge j.f j.s j.horizon; is = j.starts }
 
-    up' : (f : ℕ) → In f m.live → pos 0 <ℤ rise m at f top → pos 0 <ℤ rise m home f p
-    up' f i h = by_lt_z (pos 0) (rise m home f p) (λ k. k) (λ k. absurd (less_one_way (pos 0) (rise m at f top) h (down f i k)))
+  -- and one before it
+  pub edge_prev : (f : ℕ) (s : Side) → IsHorizonSide m home p f s → HasHorizonSide m home p (λ g t. end m g t ≡ start m f s)
+  edge_prev f s e =
+      let h = shown in let j = horizon_prev m home o h.scene f s (h.horizon f s e) in
+      record { f = j.f; s = j.s; edge = h.edge j.f j.s j.horizon; is = j.ends }
 
-    down' : (f : ℕ) → In f m.live → rise m at f top <ℤ pos 0 → rise m home f p ≤ℤ pos 0
-    down' f i h = by_lt_z (pos 0) (rise m home f p) (λ k. absurd (less_one_way (pos 0) (rise m at f top) (up f i k) h)) (λ k. k)
+  -- known by its start
+  pub edge_known_by_start : (f g : ℕ) (s t : Side) → IsHorizonSide m home p f s → IsHorizonSide m home p g t → start m f s ≡ start m g t
+      → (f ≡ g) × (s ≡ t)
+  edge_known_by_start f g s t a b = let h = shown in horizon_once m home o h.scene f g s t (h.horizon f s a) (h.horizon g t b)
 
--- THEOREM: each horizon edge has one next and one before, told by its ends alone
-pub edge_next : (m : Surface) (home : ℕ → Weighted) (o : Weighted) → IsWhole m → IsSound m home o → (p : Weighted) (f : ℕ) (s : Side)
-    → IsHorizonSide m home p f s → HasHorizonSide m home p (λ g t. start m g t ≡ end m f s)
-edge_next m home o w z p f s e =
-    let h = shown m home o w z p in let j = horizon_next m home o h.scene f s (h.horizon f s e) in
-    record { f = j.f; s = j.s; edge = h.edge j.f j.s j.horizon; is = j.starts }
-
--- and one before it
-pub edge_prev : (m : Surface) (home : ℕ → Weighted) (o : Weighted) → IsWhole m → IsSound m home o → (p : Weighted) (f : ℕ) (s : Side)
-    → IsHorizonSide m home p f s → HasHorizonSide m home p (λ g t. end m g t ≡ start m f s)
-edge_prev m home o w z p f s e =
-    let h = shown m home o w z p in let j = horizon_prev m home o h.scene f s (h.horizon f s e) in
-    record { f = j.f; s = j.s; edge = h.edge j.f j.s j.horizon; is = j.ends }
-
--- known by its start
-pub edge_known_by_start : (m : Surface) (home : ℕ → Weighted) (o : Weighted) → IsWhole m → IsSound m home o
-    → (p : Weighted) (f g : ℕ) (s t : Side) → IsHorizonSide m home p f s → IsHorizonSide m home p g t → start m f s ≡ start m g t
-    → (f ≡ g) × (s ≡ t)
-edge_known_by_start m home o w z p f g s t a b e =
-    let h = shown m home o w z p in horizon_once m home o h.scene f g s t (h.horizon f s a) (h.horizon g t b) e
-
--- known by its end
-pub edge_known_by_end : (m : Surface) (home : ℕ → Weighted) (o : Weighted) → IsWhole m → IsSound m home o
-    → (p : Weighted) (f g : ℕ) (s t : Side) → IsHorizonSide m home p f s → IsHorizonSide m home p g t → end m f s ≡ end m g t
-    → (f ≡ g) × (s ≡ t)
-edge_known_by_end m home o w z p f g s t a b e =
-    let h = shown m home o w z p in let a' = h.horizon f s a in let b' = h.horizon g t b in
-    horizon_once m home o h.scene f g s t a' b' (horizon_once_end m home o h.scene f g s t a' b' e)
+  -- known by its end
+  pub edge_known_by_end : (f g : ℕ) (s t : Side) → IsHorizonSide m home p f s → IsHorizonSide m home p g t → end m f s ≡ end m g t
+      → (f ≡ g) × (s ≡ t)
+  edge_known_by_end f g s t a b e =
+      let h = shown in edge_known_by_start f g s t a b (horizon_once_end m home o h.scene f g s t (h.horizon f s a) (h.horizon g t b) e)

@@ -1,25 +1,13 @@
 -- A point strictly below all facets of the surface of a part of a set is no extreme point of the set.
-use Rattle.std.proofs.Common.{◌≡◌, ℕ, inl, inr, List, ◌∷◌, arith, refl, sym, ap, subst, ◌∙◌}
-use Rattle.std.proofs.lemmas.Int.{ints}
-use Rattle.std.specs.Prelude.{pos, ◌≤ℤ◌, ◌<ℤ◌, ℤ}
-use Rattle.qh_model.specs.headline.Vector.{Vector}
-use Rattle.qh_model.specs.headline.Predicates.{vol}
-use Rattle.qh_model.specs.headline.Sets.{In, Members}
-use Rattle.qh_model.specs.headline.Extreme.{Others, Extreme}
-use Rattle.qh_model.specs.contract.Surface.{Surface, IsCorner}
-use Rattle.qh_model.specs.contract.FinishedSurface.{IsFinished}
+use Rattle.std.proofs.Common.{◌≡◌, ℕ, inl, inr, List, ◌∷◌, refl, sym, subst}
+use Rattle.std.specs.Prelude.{pos, ◌≤ℤ◌, ◌<ℤ◌}
+use Rattle.qh_model.specs.headline.{Vector.Vector, Predicates.vol, Sets.In, Sets.Members, Extreme.Others, Extreme.Extreme}
+use Rattle.qh_model.specs.contract.{Surface.Surface, FinishedSurface.IsFinished}
 use Rattle.qh_model.specs.laws.CompletenessLaws.{IsLiveCorner}
 use Rattle.qh_model.proofs.algebra.VectorIdentities.{vol-first, vol-second, vol-third}
 use Rattle.qh_model.proofs.extremes.ExtremeIds.{combination_within}
-use Rattle.qh_model.proofs.surfaces.Finished.{extremes_are_corners}
-
--- 0 is not below 0
-not_below : (n : ℤ) → n ≡ pos 0 → n <ℤ pos 0 → ⊥
-not_below n e h = omega (arith, ints)
-
--- nor above
-at_most : (n : ℤ) → n <ℤ pos 0 → n ≤ℤ pos 0
-at_most n h = omega (arith, ints)
+use Rattle.qh_model.proofs.algebra.Signs.{less_differ, less_le}
+use Rattle.qh_model.proofs.surfaces.{Facets.of_corners, Finished.extremes_are_corners}
 
 module _ (at : ℕ → Vector) (part : List ℕ) (m : Surface) (z : IsFinished at part m) (l : ℕ)
     (below : (f : ℕ) → In f m.live → vol (at (m.i f)) (at (m.j f)) (at (m.k f)) (at l) <ℤ pos 0) where
@@ -44,17 +32,15 @@ module _ (at : ℕ → Vector) (part : List ℕ) (m : Surface) (z : IsFinished a
   }
     where
       unseen : (f : ℕ) → In f m.live → (k : ℕ) → Members (l ∷ part) k → vol (at (m.i f)) (at (m.j f)) (at (m.k f)) (at k) ≤ℤ pos 0
-      unseen f i k (inl e) = subst (λ (n : ℕ). vol (at (m.i f)) (at (m.j f)) (at (m.k f)) (at n) ≤ℤ pos 0) (sym e) (at_most _ (below f i))
+      unseen f i k (inl e) = subst (λ (n : ℕ). vol (at (m.i f)) (at (m.j f)) (at (m.k f)) (at n) ≤ℤ pos 0) (sym e) (less_le _ _ (below f i))
       unseen f i k (inr h) = z.unseen f i k h
 
   -- and has no corner at the point
   no_corner : IsLiveCorner m l → ⊥
-  no_corner (f, i, c) = not_below (vol (at (m.i f)) (at (m.j f)) (at (m.k f)) (at l)) (level c) (below f i)
-    where
-      level : IsCorner m f l → vol (at (m.i f)) (at (m.j f)) (at (m.k f)) (at l) ≡ pos 0
-      level (inl e) = ap (λ (n : ℕ). vol (at (m.i f)) (at (m.j f)) (at (m.k f)) (at n)) e ∙ vol-first (at (m.i f)) (at (m.j f)) (at (m.k f))
-      level (inr (inl e)) = ap (λ (n : ℕ). vol (at (m.i f)) (at (m.j f)) (at (m.k f)) (at n)) e ∙ vol-second (at (m.i f)) (at (m.j f)) (at (m.k f))
-      level (inr (inr e)) = ap (λ (n : ℕ). vol (at (m.i f)) (at (m.j f)) (at (m.k f)) (at n)) e ∙ vol-third (at (m.i f)) (at (m.j f)) (at (m.k f))
+  no_corner (f, i, c) =
+      let p = at (m.i f) in let q = at (m.j f) in let r = at (m.k f) in
+      less_differ _ _ (below f i)
+      (of_corners m f (λ n. vol p q r (at n) ≡ pos 0) (vol-first p q r) (vol-second p q r) (vol-third p q r) l c)
 
   -- so it is not extreme in a set with the part
   pub inner_is_not_extreme : (ids : List ℕ) → ((i : ℕ) → In i part → In i ids) → ¬ (Extreme at (Members ids) l)

@@ -2,25 +2,18 @@
 -- sound as before, and as finished. So a surface over positions in a list of points is one over their ids.
 use Rattle.std.proofs.Common.{◌≡◌, ℕ, zero, suc, ◌+◌, ◌/◌, ◌%◌, ◌<◌, refl, sym, ap, subst, ◌∙◌, inl, inr}
 use Rattle.std.proofs.Common.{List, [], ◌∷◌, length, map, true, false, cond, slice_index}
-use Rattle.std.proofs.lemmas.Bool.{both_ways}
-use Rattle.std.proofs.lemmas.List.{get_or-map}
+use Rattle.std.proofs.lemmas.{Bool.both_ways, List.get_or-map}
 use Rattle.std.specs.Prelude.{pos, ◌<ℤ◌, ◌≤ℤ◌}
 use Rattle.std.specs.List.{range_with_len}
-use Rattle.qh_model.specs.headline.Vector.{Vector, origin}
-use Rattle.qh_model.specs.headline.Predicates.{place, vol}
-use Rattle.qh_model.specs.headline.Sets.{In, Once}
-use Rattle.qh_model.specs.headline.Text.{vertex_number}
-use Rattle.qh_model.specs.contract.Weighted.{Weighted, weighted, middle_of, above}
-use Rattle.qh_model.specs.contract.Simplex.{one_of, by_side}
+use Rattle.qh_model.specs.headline.{Vector.Vector, Vector.origin, Predicates.place, Predicates.vol, Sets.In, Sets.Once, Text.vertex_number}
+use Rattle.qh_model.specs.contract.{Weighted.Weighted, Weighted.weighted, Weighted.middle_of, Weighted.above, Simplex.one_of}
+use Rattle.qh_model.specs.contract.{Simplex.by_side, FinishedSurface.weighted_at, FinishedSurface.middle_at, FinishedSurface.IsFinished}
 use Rattle.qh_model.specs.contract.Surface.{Side, Surface, start, end, IsCorner, HasTwin, IsWhole, rise}
-use Rattle.qh_model.specs.contract.Surface.Side.{first, second, third}
 use Rattle.qh_model.specs.contract.SoundSurface.{IsStrict, HasDistinctFacets, IsSound, towards, drawn}
-use Rattle.qh_model.specs.contract.FinishedSurface.{weighted_at, middle_at, IsFinished}
 use Rattle.qh_model.specs.contract.StoredSurface.{StoredFacet, named_facet, facet_at, live_from, surface_of}
-use Rattle.qh_model.proofs.lists.Images.{in_map, of_map}
-use Rattle.qh_model.proofs.lists.Ranges.{range_below, range_named}
+use Rattle.qh_model.specs.contract.Surface.Side.{first, second, third}
+use Rattle.qh_model.proofs.lists.{Images.in_map, Images.of_map, Ranges.range_below, Ranges.range_named}
 use Rattle.qh_model.proofs.renamed.Positions.{number_at}
-use Rattle.qh_model.proofs.renamed.Renaming.{volume_as}
 use Rattle.qh_model.proofs.surfaces.Stored.{live_is_marked}
 
 -- m' is m with the names of its corners
@@ -166,34 +159,32 @@ module _ {m m' : Surface} {name : ℕ → ℕ} (r : IsNamed m m' name) where
       drawn_placed n f i l c = λ k. towards o (pos n) (p f i l c k) (pos (z.lifted.h (b f i l c k)))
 
 -- ---- the law
--- the middle of the same points
-middle_as : (p q u v p' q' u' v' : Vector) → p' ≡ p → q' ≡ q → u' ≡ u → v' ≡ v
-    → middle_of (weighted p) (weighted q) (weighted u) (weighted v) ≡ middle_of (weighted p') (weighted q') (weighted u') (weighted v')
-middle_as p q u v p' q' u' v' d e f g =
-    sym (λ k. middle_of (weighted (d k)) (weighted (e k)) (weighted (f k)) (weighted (g k)))
-
 -- a surface finished over numbers is finished over their names
 pub finished_named : (at at' : ℕ → Vector) (n : ℕ) (name position : ℕ → ℕ) (m m' : Surface) → IsNaming at at' n name position
     → IsNamed m m' name → IsFinished at (range_with_len 0 n) m → IsFinished at' (map name (range_with_len 0 n)) m'
-finished_named at at' n name position m m' a r h = record {
-  s = name h.s;
-  t = name h.t;
-  u = name h.u;
-  v = name h.v;
-  has_s = in_map name ids h.s h.has_s;
-  has_t = in_map name ids h.t h.has_t;
-  has_u = in_map name ids h.u h.has_u;
-  has_v = in_map name ids h.v h.has_v;
-  volume = subst (λ x. x <ℤ pos 0) (sym (volume_as _ _ _ _ _ _ _ _ at_s at_t at_u at_v)) h.volume;
-  whole = whole_named r h.whole;
-  sound = subst (IsSound m' (weighted_at at')) (middle_as _ _ _ _ _ _ _ _ at_s at_t at_u at_v)
-      (sound_named r (weighted_at at) (weighted_at at') (middle_at at h.s h.t h.u h.v) position
-      (λ f i l c. ap weighted (point l (h.corners f i l c))) (λ f i l c. a.back l (range_below n l (h.corners f i l c))) h.sound);
-  some = h.some;
-  some_live = subst (In h.some) (sym r.live) h.some_live;
-  corners = λ f i l c. member f (live_named r f i) l (of_corner_named r f (live_named r f i) l c);
-  unseen = λ f i l k. below f (live_named r f i) l (of_map name ids l k);
-}
+finished_named at at' n name position m m' a r h =
+    let at_s = sym (point h.s h.has_s) in let at_t = sym (point h.t h.has_t) in
+    let at_u = sym (point h.u h.has_u) in let at_v = sym (point h.v h.has_v) in
+    record {
+      s = name h.s;
+      t = name h.t;
+      u = name h.u;
+      v = name h.v;
+      has_s = in_map name ids h.s h.has_s;
+      has_t = in_map name ids h.t h.has_t;
+      has_u = in_map name ids h.u h.has_u;
+      has_v = in_map name ids h.v h.has_v;
+      volume = subst (λ x. x <ℤ pos 0) (λ k. vol (at_s k) (at_t k) (at_u k) (at_v k)) h.volume;
+      whole = whole_named r h.whole;
+      sound = subst (IsSound m' (weighted_at at'))
+          (λ k. middle_of (weighted (at_s k)) (weighted (at_t k)) (weighted (at_u k)) (weighted (at_v k)))
+          (sound_named r (weighted_at at) (weighted_at at') (middle_at at h.s h.t h.u h.v) position
+          (λ f i l c. ap weighted (point l (h.corners f i l c))) (λ f i l c. a.back l (range_below n l (h.corners f i l c))) h.sound);
+      some = h.some;
+      some_live = subst (In h.some) (sym r.live) h.some_live;
+      corners = λ f i l c. member f (live_named r f i) l (of_corner_named r f (live_named r f i) l c);
+      unseen = λ f i l k. below f (live_named r f i) l (of_map name ids l k);
+    }
   where
     ids : List ℕ
     ids = range_with_len 0 n
@@ -201,36 +192,21 @@ finished_named at at' n name position m m' a r h = record {
     point : (l : ℕ) → In l ids → at' (name l) ≡ at l
     point l k = a.point l (range_below n l k)
 
-    at_s : at' (name h.s) ≡ at h.s
-    at_s = point h.s h.has_s
-
-    at_t : at' (name h.t) ≡ at h.t
-    at_t = point h.t h.has_t
-
-    at_u : at' (name h.u) ≡ at h.u
-    at_u = point h.u h.has_u
-
-    at_v : at' (name h.v) ≡ at h.v
-    at_v = point h.v h.has_v
-
     member : (f : ℕ) → In f m.live → (l : ℕ) → (c : ℕ) × IsCorner m f c × (l ≡ name c) → In l (map name ids)
     member f i l (c, d, e) = subst (λ x. In x (map name ids)) (sym e) (in_map name ids c (h.corners f i c d))
 
     below : (f : ℕ) → In f m.live → (l : ℕ) → (c : ℕ) × In c ids × (l ≡ name c)
         → vol (at' (m'.i f)) (at' (m'.j f)) (at' (m'.k f)) (at' l) ≤ℤ pos 0
-    below f i l (c, k, e) = subst (λ x. x ≤ℤ pos 0) (sym (volume_as _ _ _ _ _ _ _ _ at_i at_j at_k at_l)) (h.unseen f i c k)
+    below f i l (c, k, e) =
+        let p = corner (m.i f) _ (r.i_is f i) (inl refl) in let q = corner (m.j f) _ (r.j_is f i) (inr (inl refl)) in
+        let t = corner (m.k f) _ (r.k_is f i) (inr (inr refl)) in
+        subst (λ x. x ≤ℤ pos 0) (λ z. vol (p z) (q z) (t z) (at_l z)) (h.unseen f i c k)
       where
-        at_i : at' (m'.i f) ≡ at (m.i f)
-        at_i = ap at' (r.i_is f i) ∙ point (m.i f) (h.corners f i (m.i f) (inl refl))
+        corner : (d n : ℕ) → n ≡ name d → IsCorner m f d → at d ≡ at' n
+        corner d n e c = sym (ap at' e ∙ point d (h.corners f i d c))
 
-        at_j : at' (m'.j f) ≡ at (m.j f)
-        at_j = ap at' (r.j_is f i) ∙ point (m.j f) (h.corners f i (m.j f) (inr (inl refl)))
-
-        at_k : at' (m'.k f) ≡ at (m.k f)
-        at_k = ap at' (r.k_is f i) ∙ point (m.k f) (h.corners f i (m.k f) (inr (inr refl)))
-
-        at_l : at' l ≡ at c
-        at_l = ap at' e ∙ point c k
+        at_l : at c ≡ at' l
+        at_l = sym (ap at' e ∙ point c k)
 
 -- ---- stored surfaces
 module _ (name : ℕ → ℕ) where

@@ -1,12 +1,11 @@
 -- The product laws of `above`: of planes through one line, and of a point over its coordinates.
 use Rattle.qh_model.specs.contract.Weighted.{Weighted, above}
-use Rattle.std.proofs.Common.{◌≡◌, ℕ, ◌+◌, refl, [], ◌∷◌, arith, ap, ◌∙◌}
+use Rattle.std.proofs.Common.{◌≡◌, ℕ, refl, [], ◌∷◌, arith, ap, ◌∙◌}
 use Rattle.std.proofs.lemmas.Int.{ints}
 use Rattle.std.specs.Prelude.{ℤ, pos, ◌+ℤ◌, ◌-ℤ◌, ◌*ℤ◌}
-use Rattle.qh_model.proofs.algebra.Ring.{Expr, ring, ring_zero}
+use Rattle.qh_model.proofs.algebra.{Ring.Expr, Ring.ring, Ring.ring_zero, Integers.zero_mul}
 use Rattle.qh_model.proofs.algebra.Ring.Expr.{var, add, sub as less, mul}
-use Rattle.qh_model.proofs.algebra.Integers.{zero_mul}
-use Rattle.qh_model.proofs.surfaces.Determinants.{quad, QE, aboveE, put4}
+use Rattle.qh_model.proofs.surfaces.Determinants.{above_of, quad, QE, put4}
 
 -- the six coordinates of a line
 pub record Line : Type 0 where
@@ -39,50 +38,71 @@ round l p q =
 unfoldable skew : Line → ℤ
 skew l = l.wx *ℤ l.yz -ℤ l.wy *ℤ l.xz +ℤ l.wz *ℤ l.xy
 
--- the line's coordinates are the variables k to k + 5
-abbrev roundE : ℕ → QE → QE → Expr
-roundE k p q =
-    add (less (add (add (less (mul (var k) (less (mul p.y q.z) (mul p.z q.y))) (mul (var (k + 1)) (less (mul p.x q.z) (mul p.z q.x)))) (mul (var (k + 2)) (less (mul p.x q.y) (mul p.y q.x)))) (mul (var (k + 3)) (less (mul p.w q.z) (mul p.z q.w)))) (mul (var (k + 4)) (less (mul p.w q.y) (mul p.y q.w)))) (mul (var (k + 5)) (less (mul p.w q.x) (mul p.x q.w)))
-
--- the same of expressions
-abbrev skewE : ℕ → Expr
-skewE k = add (less (mul (var k) (var (k + 5))) (mul (var (k + 1)) (var (k + 4)))) (mul (var (k + 2)) (var (k + 3)))
+-- the six coordinates as expressions
+record LineE : Type 0 where
+  wx : Expr
+  wy : Expr
+  wz : Expr
+  xy : Expr
+  xz : Expr
+  yz : Expr
 
 -- a determinant of two rows
 abbrev minorE : Expr → Expr → Expr → Expr → Expr
 minorE a b c d = less (mul a d) (mul b c)
 
+-- the line through two points
+abbrev lineE : QE → QE → LineE
+lineE u v = record {
+  wx = minorE u.w u.x v.w v.x;
+  wy = minorE u.w u.y v.w v.y;
+  wz = minorE u.w u.z v.w v.z;
+  xy = minorE u.x u.y v.x v.y;
+  xz = minorE u.x u.z v.x v.z;
+  yz = minorE u.y u.z v.y v.z;
+}
+
+-- the line of the variables 16 to 21
+abbrev freeE : LineE
+freeE = record { wx = var 16; wy = var 17; wz = var 18; xy = var 19; xz = var 20; yz = var 21 }
+
+-- `round` of expressions
+abbrev roundE : LineE → QE → QE → Expr
+roundE l p q =
+    let yz = less (mul p.y q.z) (mul p.z q.y) in let xz = less (mul p.x q.z) (mul p.z q.x) in let xy = less (mul p.x q.y) (mul p.y q.x) in
+    let wz = less (mul p.w q.z) (mul p.z q.w) in let wy = less (mul p.w q.y) (mul p.y q.w) in let wx = less (mul p.w q.x) (mul p.x q.w) in
+    add (less (add (add (less (mul l.wx yz) (mul l.wy xz)) (mul l.wz xy)) (mul l.xy wz)) (mul l.xz wy)) (mul l.yz wx)
+
+-- `skew` of expressions
+abbrev skewE : LineE → Expr
+skewE l = add (less (mul l.wx l.yz) (mul l.wy l.xz)) (mul l.wz l.xy)
+
 -- it is `above`
 round-is : (u v p q : Weighted) → above u v p q ≡ round (line u v) p q
 unfolding above round
-round-is u v p q =
-    ring (put4 u (put4 v (put4 p (put4 q [])))) (aboveE (quad 0) (quad 1) (quad 2) (quad 3))
-    (
-    let U = quad 0 in let V = quad 1 in let P = quad 2 in let Q = quad 3 in
-    add (less (add (add (less (mul (minorE U.w U.x V.w V.x) (less (mul P.y Q.z) (mul P.z Q.y))) (mul (minorE U.w U.y V.w V.y) (less (mul P.x Q.z) (mul P.z Q.x)))) (mul (minorE U.w U.z V.w V.z) (less (mul P.x Q.y) (mul P.y Q.x)))) (mul (minorE U.x U.y V.x V.y) (less (mul P.w Q.z) (mul P.z Q.w)))) (mul (minorE U.x U.z V.x V.z) (less (mul P.w Q.y) (mul P.y Q.w)))) (mul (minorE U.y U.z V.y V.z) (less (mul P.w Q.x) (mul P.x Q.w)))) refl
+round-is u v p q = ring (put4 u (put4 v (put4 p (put4 q [])))) (above_of 0 1 2 3) (roundE (lineE (quad 0) (quad 1)) (quad 2) (quad 3)) refl
 
 -- a line through two points is one
 skew-zero : (u v : Weighted) → skew (line u v) ≡ pos 0
 unfolding skew
-skew-zero u v =
-    ring_zero (put4 u (put4 v []))
-    (
-    let U = quad 0 in let V = quad 1 in
-    add (less (mul (minorE U.w U.x V.w V.x) (minorE U.y U.z V.y V.z)) (mul (minorE U.w U.y V.w V.y) (minorE U.x U.z V.x V.z))) (mul (minorE U.w U.z V.w V.z) (minorE U.x U.y V.x V.y))) refl
+skew-zero u v = ring_zero (put4 u (put4 v [])) (skewE (lineE (quad 0) (quad 1))) refl
 
 -- the product law over the coordinates of a line
-round-product : (l : Line) (a b p q : Weighted) → round l a p *ℤ round l b q -ℤ round l a q *ℤ round l b p ≡ round l a b *ℤ round l p q -ℤ skew l *ℤ above a b p q
+round-product : (l : Line) (a b p q : Weighted)
+    → round l a p *ℤ round l b q -ℤ round l a q *ℤ round l b p ≡ round l a b *ℤ round l p q -ℤ skew l *ℤ above a b p q
 unfolding round skew above
 round-product l a b p q =
+    let R : ℕ → ℕ → Expr = λ i j. roundE freeE (quad i) (quad j) in
     ring (put4 a (put4 b (put4 p (put4 q (l.wx ∷ l.wy ∷ l.wz ∷ l.xy ∷ l.xz ∷ l.yz ∷ [])))))
-    (less (mul (roundE 16 (quad 0) (quad 2)) (roundE 16 (quad 1) (quad 3))) (mul (roundE 16 (quad 0) (quad 3)) (roundE 16 (quad 1) (quad 2))))
-    (less (mul (roundE 16 (quad 0) (quad 1)) (roundE 16 (quad 2) (quad 3))) (mul (skewE 16) (aboveE (quad 0) (quad 1) (quad 2) (quad 3)))) refl
+    (less (mul (R 0 2) (R 1 3)) (mul (R 0 3) (R 1 2))) (less (mul (R 0 1) (R 2 3)) (mul (skewE freeE) (above_of 0 1 2 3))) refl
 
 -- planes through the line u v
-pub line_product : (u v a b p q : Weighted) → above u v a p *ℤ above u v b q -ℤ above u v a q *ℤ above u v b p ≡ above u v a b *ℤ above u v p q
+pub line_product : (u v a b p q : Weighted)
+    → above u v a p *ℤ above u v b q -ℤ above u v a q *ℤ above u v b p ≡ above u v a b *ℤ above u v p q
 line_product u v a b p q =
     rw (round-is u v a p, round-is u v b q, round-is u v a q, round-is u v b p, round-is u v a b, round-is u v p q)
-    (finish (round (line u v) a p *ℤ round (line u v) b q -ℤ round (line u v) a q *ℤ round (line u v) b p) (round (line u v) a b *ℤ round (line u v) p q) (skew (line u v)) (above a b p q) (round-product (line u v) a b p q) (skew-zero u v))
+    (last _ (round (line u v) a b *ℤ round (line u v) p q) (skew (line u v)) (above a b p q) (round-product (line u v) a b p q)
+    (skew-zero u v))
   where
-    finish : (l r s d : ℤ) → l ≡ r -ℤ s *ℤ d → s ≡ pos 0 → l ≡ r
-    finish l r s d e z = let k : s *ℤ d ≡ pos 0 = ap (λ t. t *ℤ d) z ∙ zero_mul d in omega (arith, ints)
+    last : (l r s d : ℤ) → l ≡ r -ℤ s *ℤ d → s ≡ pos 0 → l ≡ r
+    last l r s d e z = let k : s *ℤ d ≡ pos 0 = ap (λ t. t *ℤ d) z ∙ zero_mul d in omega (arith, ints)

@@ -1,23 +1,17 @@
 -- The surface of a simplex.
+use Rattle.qh_model.specs.contract.{SoundSurface.IsInner, Simplex.one_of}
 use Rattle.qh_model.specs.contract.Weighted.{Weighted, above, middle_of, weighted_dot, plane_of}
+use Rattle.qh_model.specs.contract.Surface.{Side, Surface, IsWhole, HasTwin, IsCorner, start, end, rise}
 use Rattle.qh_model.specs.headline.Sets.{In}
-use Rattle.qh_model.specs.contract.Surface.{Side, IsWhole, HasTwin, IsCorner, rise}
-use Rattle.qh_model.specs.contract.SoundSurface.{IsInner}
 use Rattle.qh_model.specs.laws.SimplexSurface.{IsSimplexBoundary, simplex_surface}
-use Rattle.qh_model.specs.contract.Simplex.{one_of}
 use Rattle.qh_model.specs.laws.SurfaceLaws.{SimplexIsSound, MiddleIsBelow}
 use Rattle.qh_model.specs.contract.Surface.Side.{first, second, third}
 use Rattle.std.proofs.Common.{◌∙◌, ◌≡◌, ℕ, refl, sym, subst, arith, ap, [], ◌∷◌, ◌⊎◌, inl, inr}
 use Rattle.std.proofs.lemmas.Int.{ints, by_lt_z}
-use Rattle.std.specs.Prelude.{ℤ, pos, ◌+ℤ◌, ◌*ℤ◌, ◌<ℤ◌, ◌≤ℤ◌}
-use Rattle.qh_model.proofs.algebra.Ring.{ring}
-use Rattle.qh_model.proofs.algebra.Ring.Expr.{add}
-use Rattle.qh_model.proofs.surfaces.Determinants.{quad, QE, aboveE, put4, above-first, above-second, above-third, above-turn_last}
-use Rattle.qh_model.proofs.surfaces.Facets.{rise_own, plane-is}
-use Rattle.qh_model.proofs.surfaces.CramersRule.{cramer}
-use Rattle.qh_model.proofs.algebra.Order.{zero_product, product_zero}
-use Rattle.qh_model.proofs.algebra.Signs.{less_differ}
-use Rattle.qh_model.proofs.surfaces.SimplexBoundary.{simplex_boundary_sound}
+use Rattle.std.specs.Prelude.{ℤ, pos, ◌+ℤ◌, ◌<ℤ◌, ◌≤ℤ◌}
+use Rattle.qh_model.proofs.algebra.{Ring.ring, Order.cancel-zero_neg, Order.product_zero, Signs.less_differ}
+use Rattle.qh_model.proofs.surfaces.{Facets.rise_own, Facets.plane-is, CramersRule.cramer_level, SimplexBoundary.simplex_boundary_sound}
+use Rattle.qh_model.proofs.surfaces.Determinants.{above_of, put4, above-together, above-first, above-second, above-third, above-turn_last}
 
 -- what holds of 0, 1, 2 and 3
 pub four : (P : ℕ → Type 0) → P 0 → P 1 → P 2 → P 3 → (f : ℕ) → In f (0 ∷ 1 ∷ 2 ∷ 3 ∷ []) → P f
@@ -27,233 +21,167 @@ four P p q r s f (inr (inr (inl e))) = subst P (sym e) r
 four P p q r s f (inr (inr (inr (inl e)))) = subst P (sym e) s
 four P p q r s f (inr (inr (inr (inr x)))) = absurd x
 
--- the twins of facet 0
-twins0 : (a b c d : ℕ) (s : Side) → HasTwin (simplex_surface a b c d) 0 s
-twins0 a b c d first = record { live = inr (inl refl); start_is = refl; end_is = refl; returns = refl }
-twins0 a b c d second = record { live = inr (inr (inr (inl refl))); start_is = refl; end_is = refl; returns = refl }
-twins0 a b c d third = record { live = inr (inr (inl refl)); start_is = refl; end_is = refl; returns = refl }
+-- what holds of the three sides
+sides : (P : Side → Type 0) → P first → P second → P third → (s : Side) → P s
+sides P p q r first = p
+sides P p q r second = q
+sides P p q r third = r
 
--- of facet 1
-twins1 : (a b c d : ℕ) (s : Side) → HasTwin (simplex_surface a b c d) 1 s
-twins1 a b c d first = record { live = inr (inr (inl refl)); start_is = refl; end_is = refl; returns = refl }
-twins1 a b c d second = record { live = inr (inr (inr (inl refl))); start_is = refl; end_is = refl; returns = refl }
-twins1 a b c d third = record { live = inl refl; start_is = refl; end_is = refl; returns = refl }
+-- by cases of three
+three_cases : {A B C X : Type 0} → (A → X) → (B → X) → (C → X) → A ⊎ B ⊎ C → X
+three_cases p q r (inl a) = p a
+three_cases p q r (inr (inl b)) = q b
+three_cases p q r (inr (inr c)) = r c
 
--- of facet 2
-twins2 : (a b c d : ℕ) (s : Side) → HasTwin (simplex_surface a b c d) 2 s
-twins2 a b c d first = record { live = inl refl; start_is = refl; end_is = refl; returns = refl }
-twins2 a b c d second = record { live = inr (inr (inr (inl refl))); start_is = refl; end_is = refl; returns = refl }
-twins2 a b c d third = record { live = inr (inl refl); start_is = refl; end_is = refl; returns = refl }
+-- by cases of four
+four_cases : {A B C D X : Type 0} → (A → X) → (B → X) → (C → X) → (D → X) → A ⊎ B ⊎ C ⊎ D → X
+four_cases p q r s (inl a) = p a
+four_cases p q r s (inr z) = three_cases q r s z
 
--- of facet 3
-twins3 : (a b c d : ℕ) (s : Side) → HasTwin (simplex_surface a b c d) 3 s
-twins3 a b c d first = record { live = inr (inl refl); start_is = refl; end_is = refl; returns = refl }
-twins3 a b c d second = record { live = inr (inr (inl refl)); start_is = refl; end_is = refl; returns = refl }
-twins3 a b c d third = record { live = inl refl; start_is = refl; end_is = refl; returns = refl }
-
--- so all sides have twins
-whole : (a b c d : ℕ) → IsWhole (simplex_surface a b c d)
-whole a b c d = four (λ f. (s : Side) → HasTwin (simplex_surface a b c d) f s) (twins0 a b c d) (twins1 a b c d) (twins2 a b c d) (twins3 a b c d)
-
+-- ---- orders
 -- the facets' orders are even, as `above-turn_last` says of a c d b: a d b c
 order_adb : (a b c d : Weighted) → above a d b c ≡ above a b c d
 unfolding above
-order_adb a b c d = ring (put4 a (put4 b (put4 c (put4 d [])))) (aboveE (quad 0) (quad 3) (quad 1) (quad 2)) (aboveE (quad 0) (quad 1) (quad 2) (quad 3)) refl
+order_adb a b c d = ring (put4 a (put4 b (put4 c (put4 d [])))) (above_of 0 3 1 2) (above_of 0 1 2 3) refl
 
 -- b d c a
 order_bdc : (a b c d : Weighted) → above b d c a ≡ above a b c d
 unfolding above
-order_bdc a b c d = ring (put4 a (put4 b (put4 c (put4 d [])))) (aboveE (quad 1) (quad 3) (quad 2) (quad 0)) (aboveE (quad 0) (quad 1) (quad 2) (quad 3)) refl
+order_bdc a b c d = ring (put4 a (put4 b (put4 c (put4 d [])))) (above_of 1 3 2 0) (above_of 0 1 2 3) refl
 
--- the middle is above a plane by the sum of what its points are
-pub above-together : (p q r a b c d : Weighted) → above p q r (middle_of a b c d) ≡ above p q r a +ℤ above p q r b +ℤ above p q r c +ℤ above p q r d
-unfolding above
-above-together p q r a b c d =
-    ring (put4 p (put4 q (put4 r (put4 a (put4 b (put4 c (put4 d [])))))))
-    (
-    let sum : (QE → Rattle.qh_model.proofs.algebra.Ring.Expr) → Rattle.qh_model.proofs.algebra.Ring.Expr = λ i. add (add (add (i (quad 3)) (i (quad 4))) (i (quad 5))) (i (quad 6)) in
-    aboveE (quad 0) (quad 1) (quad 2) (record { w = sum (λ e. e.w); x = sum (λ e. e.x); y = sum (λ e. e.y); z = sum (λ e. e.z) }))
-    (add (add (add (aboveE (quad 0) (quad 1) (quad 2) (quad 3)) (aboveE (quad 0) (quad 1) (quad 2) (quad 4))) (aboveE (quad 0) (quad 1) (quad 2) (quad 5))) (aboveE (quad 0) (quad 1) (quad 2) (quad 6))) refl
+-- ---- the four facets
+module _ (a b c d : ℕ) where
+  -- the surface
+  abbrev S : Surface
+  S = simplex_surface a b c d
 
--- a sign, told otherwise
-lt_as : (x y : ℤ) → x ≡ y → y <ℤ pos 0 → x <ℤ pos 0
-lt_as x y e h = omega (arith, ints)
+  -- a side with its twin
+  twin : (f : ℕ) (s : Side) → In (S.over f s) S.live → start S (S.over f s) (S.back f s) ≡ end S f s
+      → end S (S.over f s) (S.back f s) ≡ start S f s
+      → S.over (S.over f s) (S.back f s) ≡ f → HasTwin S f s
+  twin f s i p q r = record { live = i; start_is = p; end_is = q; returns = r }
 
--- three zeros and a negative number
-sum_lt : (s a b c d v : ℤ) → s ≡ a +ℤ b +ℤ c +ℤ d → a ≡ pos 0 → b ≡ pos 0 → c ≡ pos 0 → d ≡ v → v <ℤ pos 0 → s <ℤ pos 0
-sum_lt s a b c d v e ha hb hc hd h = omega (arith, ints)
+  -- all sides have twins
+  whole : IsWhole S
+  whole =
+      let in0 : In 0 S.live = inl refl in let in1 : In 1 S.live = inr (inl refl) in
+      let in2 : In 2 S.live = inr (inr (inl refl)) in let in3 : In 3 S.live = inr (inr (inr (inl refl))) in
+      four (λ f. (s : Side) → HasTwin S f s)
+      (sides (HasTwin S 0) (twin 0 first in1 refl refl refl) (twin 0 second in3 refl refl refl) (twin 0 third in2 refl refl refl))
+      (sides (HasTwin S 1) (twin 1 first in2 refl refl refl) (twin 1 second in3 refl refl refl) (twin 1 third in0 refl refl refl))
+      (sides (HasTwin S 2) (twin 2 first in0 refl refl refl) (twin 2 second in3 refl refl refl) (twin 2 third in1 refl refl refl))
+      (sides (HasTwin S 3) (twin 3 first in1 refl refl refl) (twin 3 second in2 refl refl refl) (twin 3 third in0 refl refl refl))
 
--- the sum in the order of facet 1
-order_second : (s a b c d : ℤ) → s ≡ a +ℤ b +ℤ c +ℤ d → s ≡ a +ℤ d +ℤ b +ℤ c
-order_second s a b c d e = omega (arith, ints)
+  -- the id that a facet lacks
+  abbrev missing : ℕ → ℕ
+  missing = one_of d c b a
 
--- of facet 2
-order_third : (s a b c d : ℤ) → s ≡ a +ℤ b +ℤ c +ℤ d → s ≡ a +ℤ c +ℤ d +ℤ b
-order_third s a b c d e = omega (arith, ints)
+  -- one of the four ids
+  abbrev Ids : ℕ → Type 0
+  Ids l = (l ≡ a) ⊎ (l ≡ b) ⊎ (l ≡ c) ⊎ (l ≡ d)
 
--- of facet 3
-order_fourth : (s a b c d : ℤ) → s ≡ a +ℤ b +ℤ c +ℤ d → s ≡ b +ℤ d +ℤ c +ℤ a
-order_fourth s a b c d e = omega (arith, ints)
+  -- each corner is one of the four
+  ids : (f : ℕ) → In f S.live → (l : ℕ) → IsCorner S f l → Ids l
+  ids =
+      four (λ f. (l : ℕ) → IsCorner S f l → Ids l)
+      (λ l. three_cases inl (λ e. inr (inl e)) (λ e. inr (inr (inl e))))
+      (λ l. three_cases inl (λ e. inr (inr (inr e))) (λ e. inr (inl e)))
+      (λ l. three_cases inl (λ e. inr (inr (inl e))) (λ e. inr (inr (inr e))))
+      (λ l. three_cases (λ e. inr (inl e)) (λ e. inr (inr (inr e))) (λ e. inr (inr (inl e))))
 
--- the middle is strictly below each facet
-inside : (home : ℕ → Weighted) (a b c d : ℕ) → above (home a) (home b) (home c) (home d) <ℤ pos 0 → IsInner (simplex_surface a b c d) home (middle_of (home a) (home b) (home c) (home d))
-inside home a b c d h =
-    four (λ f. rise (simplex_surface a b c d) home f (middle_of A B C D) <ℤ pos 0)
-    (sum_lt (above A B C (middle_of A B C D)) (above A B C A) (above A B C B) (above A B C C) (above A B C D) (above A B C D) (above-together A B C A B C D) (above-first A B C) (above-second A B C) (above-third A B C) refl h)
-    (sum_lt (above A D B (middle_of A B C D)) (above A D B A) (above A D B D) (above A D B B) (above A D B C) (above A B C D) (order_second _ (above A D B A) (above A D B B) (above A D B C) (above A D B D) (above-together A D B A B C D)) (above-first A D B) (above-second A D B) (above-third A D B) (order_adb A B C D) h)
-    (sum_lt (above A C D (middle_of A B C D)) (above A C D A) (above A C D C) (above A C D D) (above A C D B) (above A B C D) (order_third _ (above A C D A) (above A C D B) (above A C D C) (above A C D D) (above-together A C D A B C D)) (above-first A C D) (above-second A C D) (above-third A C D) (above-turn_last A B C D) h)
-    (sum_lt (above B D C (middle_of A B C D)) (above B D C B) (above B D C D) (above B D C C) (above B D C A) (above A B C D) (order_fourth _ (above B D C A) (above B D C B) (above B D C C) (above B D C D) (above-together B D C A B C D)) (above-first B D C) (above-second B D C) (above-third B D C) (order_bdc A B C D) h)
-  where
-    A : Weighted
-    A = home a
+  -- each id is a corner of a facet or the one that it lacks
+  place : (f : ℕ) → In f S.live → (l : ℕ) → Ids l → IsCorner S f l ⊎ (l ≡ missing f)
+  place =
+      four (λ f. (l : ℕ) → Ids l → IsCorner S f l ⊎ (l ≡ missing f))
+      (λ l. four_cases (λ e. inl (inl e)) (λ e. inl (inr (inl e))) (λ e. inl (inr (inr e))) inr)
+      (λ l. four_cases (λ e. inl (inl e)) (λ e. inl (inr (inr e))) inr (λ e. inl (inr (inl e))))
+      (λ l. four_cases (λ e. inl (inl e)) inr (λ e. inl (inr (inl e))) (λ e. inl (inr (inr e))))
+      (λ l. four_cases inr (λ e. inl (inl e)) (λ e. inl (inr (inr e))) (λ e. inl (inr (inl e))))
 
-    B : Weighted
-    B = home b
+  -- a facet has what each other facet lacks
+  abbrev HasOther : ℕ → ℕ → Type 0
+  HasOther f g = (f ≡ g) ⊎ IsCorner S f (missing g)
 
-    C : Weighted
-    C = home c
+  -- all have
+  other : (f : ℕ) → In f S.live → (g : ℕ) → In g S.live → HasOther f g
+  other =
+      four (λ f. (g : ℕ) → In g S.live → HasOther f g)
+      (four (HasOther 0) (inl refl) (inr (inr (inr refl))) (inr (inr (inl refl))) (inr (inl refl)))
+      (four (HasOther 1) (inr (inr (inl refl))) (inl refl) (inr (inr (inr refl))) (inr (inl refl)))
+      (four (HasOther 2) (inr (inr (inr refl))) (inr (inr (inl refl))) (inl refl) (inr (inl refl)))
+      (four (HasOther 3) (inr (inr (inl refl))) (inr (inr (inr refl))) (inr (inl refl)) (inl refl))
 
-    D : Weighted
-    D = home d
+module _ (home : ℕ → Weighted) (a b c d : ℕ) (h : above (home a) (home b) (home c) (home d) <ℤ pos 0) where
+  -- the middle is strictly below each facet
+  inside : IsInner (simplex_surface a b c d) home (middle_of (home a) (home b) (home c) (home d))
+  inside =
+      let A = home a in let B = home b in let C = home c in let D = home d in
+      four (λ f. rise (simplex_surface a b c d) home f (middle_of A B C D) <ℤ pos 0)
+      (let s = above-together A B C A B C D in let p = above-first A B C in let q = above-second A B C in let r = above-third A B C in
+      omega (arith, ints, s, p, q, r, h))
+      (let s = above-together A D B A B C D in let p = above-first A D B in let q = above-second A D B in let r = above-third A D B in
+      let e = order_adb A B C D in omega (arith, ints, s, p, q, r, e, h))
+      (let s = above-together A C D A B C D in let p = above-first A C D in let q = above-second A C D in let r = above-third A C D in
+      let e = above-turn_last A B C D in omega (arith, ints, s, p, q, r, e, h))
+      (let s = above-together B D C A B C D in let p = above-first B D C in let q = above-second B D C in let r = above-third B D C in
+      let e = order_bdc A B C D in omega (arith, ints, s, p, q, r, e, h))
 
--- the id that a facet lacks
-abbrev missing : (a b c d : ℕ) → ℕ → ℕ
-missing a b c d = one_of d c b a
+  -- the four facets are the boundary of a simplex
+  boundary : IsSimplexBoundary (simplex_surface a b c d) home
+  boundary = record {
+    missing = missing a b c d;
+    covers = λ f g i j l k. place a b c d f i l (ids a b c d g j l k);
+    known = λ f g i j. turned f g (other a b c d f i g j);
+    below = below;
+    once = λ f g i j e. one f g i e (other a b c d f i g j);
+  }
+    where
+      turned : (f g : ℕ) → HasOther a b c d f g → IsCorner (S a b c d) f (missing a b c d g) ⊎ (missing a b c d g ≡ missing a b c d f)
+      turned f g (inl e) = inr (ap (missing a b c d) (sym e))
+      turned f g (inr k) = inl k
 
--- one of the four ids
-abbrev Ids : (a b c d l : ℕ) → Type 0
-Ids a b c d l = (l ≡ a) ⊎ (l ≡ b) ⊎ (l ≡ c) ⊎ (l ≡ d)
+      below : (f : ℕ) → In f (S a b c d).live → rise (S a b c d) home f (home (missing a b c d f)) <ℤ pos 0
+      below =
+          let A = home a in let B = home b in let C = home c in let D = home d in
+          four (λ f. rise (S a b c d) home f (home (missing a b c d f)) <ℤ pos 0) h
+          (subst (λ v. v <ℤ pos 0) (sym (order_adb A B C D)) h)
+          (subst (λ v. v <ℤ pos 0) (sym (above-turn_last A B C D)) h)
+          (subst (λ v. v <ℤ pos 0) (sym (order_bdc A B C D)) h)
 
--- the corners of facet 0
-ids0 : (a b c d l : ℕ) → IsCorner (simplex_surface a b c d) 0 l → Ids a b c d l
-ids0 a b c d l (inl e) = inl e
-ids0 a b c d l (inr (inl e)) = inr (inl e)
-ids0 a b c d l (inr (inr e)) = inr (inr (inl e))
-
--- of facet 1
-ids1 : (a b c d l : ℕ) → IsCorner (simplex_surface a b c d) 1 l → Ids a b c d l
-ids1 a b c d l (inl e) = inl e
-ids1 a b c d l (inr (inl e)) = inr (inr (inr e))
-ids1 a b c d l (inr (inr e)) = inr (inl e)
-
--- of facet 2
-ids2 : (a b c d l : ℕ) → IsCorner (simplex_surface a b c d) 2 l → Ids a b c d l
-ids2 a b c d l (inl e) = inl e
-ids2 a b c d l (inr (inl e)) = inr (inr (inl e))
-ids2 a b c d l (inr (inr e)) = inr (inr (inr e))
-
--- of facet 3
-ids3 : (a b c d l : ℕ) → IsCorner (simplex_surface a b c d) 3 l → Ids a b c d l
-ids3 a b c d l (inl e) = inr (inl e)
-ids3 a b c d l (inr (inl e)) = inr (inr (inr e))
-ids3 a b c d l (inr (inr e)) = inr (inr (inl e))
-
--- each id is a corner of facet 0 or the one that it lacks
-place0 : (a b c d l : ℕ) → Ids a b c d l → IsCorner (simplex_surface a b c d) 0 l ⊎ (l ≡ missing a b c d 0)
-place0 a b c d l (inl e) = inl (inl e)
-place0 a b c d l (inr (inl e)) = inl (inr (inl e))
-place0 a b c d l (inr (inr (inl e))) = inl (inr (inr e))
-place0 a b c d l (inr (inr (inr e))) = inr e
-
--- of facet 1
-place1 : (a b c d l : ℕ) → Ids a b c d l → IsCorner (simplex_surface a b c d) 1 l ⊎ (l ≡ missing a b c d 1)
-place1 a b c d l (inl e) = inl (inl e)
-place1 a b c d l (inr (inl e)) = inl (inr (inr e))
-place1 a b c d l (inr (inr (inl e))) = inr e
-place1 a b c d l (inr (inr (inr e))) = inl (inr (inl e))
-
--- of facet 2
-place2 : (a b c d l : ℕ) → Ids a b c d l → IsCorner (simplex_surface a b c d) 2 l ⊎ (l ≡ missing a b c d 2)
-place2 a b c d l (inl e) = inl (inl e)
-place2 a b c d l (inr (inl e)) = inr e
-place2 a b c d l (inr (inr (inl e))) = inl (inr (inl e))
-place2 a b c d l (inr (inr (inr e))) = inl (inr (inr e))
-
--- of facet 3
-place3 : (a b c d l : ℕ) → Ids a b c d l → IsCorner (simplex_surface a b c d) 3 l ⊎ (l ≡ missing a b c d 3)
-place3 a b c d l (inl e) = inr e
-place3 a b c d l (inr (inl e)) = inl (inl e)
-place3 a b c d l (inr (inr (inl e))) = inl (inr (inr e))
-place3 a b c d l (inr (inr (inr e))) = inl (inr (inl e))
-
--- facet 0 has what each other facet lacks
-other0 : (a b c d g : ℕ) → In g (0 ∷ 1 ∷ 2 ∷ 3 ∷ []) → (0 ≡ g) ⊎ IsCorner (simplex_surface a b c d) 0 (missing a b c d g)
-other0 a b c d = four (λ g. (0 ≡ g) ⊎ IsCorner (simplex_surface a b c d) 0 (missing a b c d g)) (inl refl) (inr (inr (inr refl))) (inr (inr (inl refl))) (inr (inl refl))
-
--- so has facet 1
-other1 : (a b c d g : ℕ) → In g (0 ∷ 1 ∷ 2 ∷ 3 ∷ []) → (1 ≡ g) ⊎ IsCorner (simplex_surface a b c d) 1 (missing a b c d g)
-other1 a b c d = four (λ g. (1 ≡ g) ⊎ IsCorner (simplex_surface a b c d) 1 (missing a b c d g)) (inr (inr (inl refl))) (inl refl) (inr (inr (inr refl))) (inr (inl refl))
-
--- and facet 2
-other2 : (a b c d g : ℕ) → In g (0 ∷ 1 ∷ 2 ∷ 3 ∷ []) → (2 ≡ g) ⊎ IsCorner (simplex_surface a b c d) 2 (missing a b c d g)
-other2 a b c d = four (λ g. (2 ≡ g) ⊎ IsCorner (simplex_surface a b c d) 2 (missing a b c d g)) (inr (inr (inr refl))) (inr (inr (inl refl))) (inl refl) (inr (inl refl))
-
--- and facet 3
-other3 : (a b c d g : ℕ) → In g (0 ∷ 1 ∷ 2 ∷ 3 ∷ []) → (3 ≡ g) ⊎ IsCorner (simplex_surface a b c d) 3 (missing a b c d g)
-other3 a b c d = four (λ g. (3 ≡ g) ⊎ IsCorner (simplex_surface a b c d) 3 (missing a b c d g)) (inr (inr (inl refl))) (inr (inr (inr refl))) (inr (inl refl)) (inl refl)
-
--- the four facets are the boundary of a simplex
-boundary : (home : ℕ → Weighted) (a b c d : ℕ) → above (home a) (home b) (home c) (home d) <ℤ pos 0 → IsSimplexBoundary (simplex_surface a b c d) home
-boundary home a b c d h =
-    record {
-      missing = missing a b c d;
-      covers = λ f g i j l k. place f i l (ids g j l k);
-      known = λ f g i j. turned f g (other f i g j);
-      below = below;
-      once = λ f g i j e. one f g i e (other f i g j);
-    }
-  where
-    ids : (g : ℕ) → In g (0 ∷ 1 ∷ 2 ∷ 3 ∷ []) → (l : ℕ) → IsCorner (simplex_surface a b c d) g l → Ids a b c d l
-    ids = four (λ g. (l : ℕ) → IsCorner (simplex_surface a b c d) g l → Ids a b c d l) (ids0 a b c d) (ids1 a b c d) (ids2 a b c d) (ids3 a b c d)
-
-    place : (f : ℕ) → In f (0 ∷ 1 ∷ 2 ∷ 3 ∷ []) → (l : ℕ) → Ids a b c d l → IsCorner (simplex_surface a b c d) f l ⊎ (l ≡ missing a b c d f)
-    place = four (λ f. (l : ℕ) → Ids a b c d l → IsCorner (simplex_surface a b c d) f l ⊎ (l ≡ missing a b c d f)) (place0 a b c d) (place1 a b c d) (place2 a b c d) (place3 a b c d)
-
-    other : (f : ℕ) → In f (0 ∷ 1 ∷ 2 ∷ 3 ∷ []) → (g : ℕ) → In g (0 ∷ 1 ∷ 2 ∷ 3 ∷ []) → (f ≡ g) ⊎ IsCorner (simplex_surface a b c d) f (missing a b c d g)
-    other = four (λ f. (g : ℕ) → In g (0 ∷ 1 ∷ 2 ∷ 3 ∷ []) → (f ≡ g) ⊎ IsCorner (simplex_surface a b c d) f (missing a b c d g)) (other0 a b c d) (other1 a b c d) (other2 a b c d) (other3 a b c d)
-
-    turned : (f g : ℕ) → (f ≡ g) ⊎ IsCorner (simplex_surface a b c d) f (missing a b c d g) → IsCorner (simplex_surface a b c d) f (missing a b c d g) ⊎ (missing a b c d g ≡ missing a b c d f)
-    turned f g (inl e) = inr (ap (missing a b c d) (sym e))
-    turned f g (inr k) = inl k
-
-    below : (f : ℕ) → In f (0 ∷ 1 ∷ 2 ∷ 3 ∷ []) → rise (simplex_surface a b c d) home f (home (missing a b c d f)) <ℤ pos 0
-    below =
-        four (λ f. rise (simplex_surface a b c d) home f (home (missing a b c d f)) <ℤ pos 0) h
-        (lt_as _ (above (home a) (home b) (home c) (home d)) (order_adb (home a) (home b) (home c) (home d)) h)
-        (lt_as _ (above (home a) (home b) (home c) (home d)) (above-turn_last (home a) (home b) (home c) (home d)) h)
-        (lt_as _ (above (home a) (home b) (home c) (home d)) (order_bdc (home a) (home b) (home c) (home d)) h)
-
-    no : (x y : ℤ) → x ≡ y → x <ℤ pos 0 → y ≡ pos 0 → ⊥
-    no x y e h z = omega (arith, ints)
-
-    one : (f g : ℕ) → In f (0 ∷ 1 ∷ 2 ∷ 3 ∷ []) → missing a b c d f ≡ missing a b c d g → (f ≡ g) ⊎ IsCorner (simplex_surface a b c d) f (missing a b c d g) → f ≡ g
-    one f g i e (inl q) = q
-    one f g i e (inr k) = absurd (no (rise (simplex_surface a b c d) home f (home (missing a b c d f))) (rise (simplex_surface a b c d) home f (home (missing a b c d g))) (ap (λ t. rise (simplex_surface a b c d) home f (home t)) e) (below f i) (rise_own (simplex_surface a b c d) home f (missing a b c d g) k))
+      one : (f g : ℕ) → In f (S a b c d).live → missing a b c d f ≡ missing a b c d g → HasOther a b c d f g → f ≡ g
+      one f g i e (inl q) = q
+      one f g i e (inr k) =
+          absurd (less_differ _ _ (below f i)
+          (ap (λ t. rise (S a b c d) home f (home t)) e ∙ rise_own (S a b c d) home f (missing a b c d g) k))
 
 -- the law
 pub simplex_sound : SimplexIsSound
-simplex_sound home a b c d h = (whole a b c d, simplex_boundary_sound (simplex_surface a b c d) home (middle_of (home a) (home b) (home c) (home d)) (inside home a b c d h) (boundary home a b c d h))
+simplex_sound home a b c d h = (
+  whole a b c d,
+  simplex_boundary_sound (S a b c d) home (middle_of (home a) (home b) (home c) (home d)) (inside home a b c d h)
+      (boundary home a b c d h),
+)
 
 -- the law
 pub middle_is_below : MiddleIsBelow
-middle_is_below a b c s t u v p h hs ht hu hv off = by_lt_z (above a b c (middle_of s t u v)) (pos 0) (λ q. q) (λ q. absurd (never (zeros (above a b c (middle_of s t u v)) (above a b c s) (above a b c t) (above a b c u) (above a b c v) (above-together a b c s t u v) q hs ht hu hv)))
+middle_is_below a b c s t u v p h hs ht hu hv off =
+    by_lt_z (above a b c (middle_of s t u v)) (pos 0) (λ q. q)
+    (λ q. absurd (off (level (zeros _ _ _ _ _ (above-together a b c s t u v) q hs ht hu hv))))
   where
-    zeros : (x a b c d : ℤ) → x ≡ a +ℤ b +ℤ c +ℤ d → pos 0 ≤ℤ x → a ≤ℤ pos 0 → b ≤ℤ pos 0 → c ≤ℤ pos 0 → d ≤ℤ pos 0 → (a ≡ pos 0) × (b ≡ pos 0) × (c ≡ pos 0) × (d ≡ pos 0)
+    zeros : (x a b c d : ℤ) → x ≡ a +ℤ b +ℤ c +ℤ d → pos 0 ≤ℤ x → a ≤ℤ pos 0 → b ≤ℤ pos 0 → c ≤ℤ pos 0 → d ≤ℤ pos 0
+        → (a ≡ pos 0) × (b ≡ pos 0) × (c ≡ pos 0) × (d ≡ pos 0)
     zeros x a b c d e h ha hb hc hd = (omega (arith, ints), omega (arith, ints), omega (arith, ints), omega (arith, ints))
 
-    total : (l a b c d : ℤ) → l ≡ a +ℤ b +ℤ c +ℤ d → a ≡ pos 0 → b ≡ pos 0 → c ≡ pos 0 → d ≡ pos 0 → l ≡ pos 0
-    total l a b c d e ha hb hc hd = omega (arith, ints)
+    n : Weighted
+    n = plane_of a b c
 
-    on : (y : Weighted) → above a b c y ≡ pos 0 → weighted_dot (plane_of a b c) y ≡ pos 0
+    on : (y : Weighted) → above a b c y ≡ pos 0 → weighted_dot n y ≡ pos 0
     on y e = plane-is a b c y ∙ e
 
-    never : (above a b c s ≡ pos 0) × (above a b c t ≡ pos 0) × (above a b c u ≡ pos 0) × (above a b c v ≡ pos 0) → ⊥
-    never z = pick (zero_product (above s t u v) (weighted_dot (plane_of a b c) p) (total (above s t u v *ℤ weighted_dot (plane_of a b c) p) (above p t u v *ℤ weighted_dot (plane_of a b c) s) (above s p u v *ℤ weighted_dot (plane_of a b c) t) (above s t p v *ℤ weighted_dot (plane_of a b c) u) (above s t u p *ℤ weighted_dot (plane_of a b c) v) (cramer (plane_of a b c) s t u v p)
-        (product_zero (above p t u v) (weighted_dot (plane_of a b c) s) (on s z.0)) (product_zero (above s p u v) (weighted_dot (plane_of a b c) t) (on t z.1)) (product_zero (above s t p v) (weighted_dot (plane_of a b c) u) (on u z.2)) (product_zero (above s t u p) (weighted_dot (plane_of a b c) v) (on v z.3))))
-      where
-        pick : (above s t u v ≡ pos 0) ⊎ (weighted_dot (plane_of a b c) p ≡ pos 0) → ⊥
-        pick (inl e) = less_differ (above s t u v) (pos 0) h e
-        pick (inr e) = off (sym (plane-is a b c p) ∙ e)
+    level : (above a b c s ≡ pos 0) × (above a b c t ≡ pos 0) × (above a b c u ≡ pos 0) × (above a b c v ≡ pos 0) → above a b c p ≡ pos 0
+    level z =
+        sym (plane-is a b c p) ∙ cancel-zero_neg (above s t u v) (weighted_dot n p) h
+        (cramer_level n s t u v p (on s z.0) (on t z.1) (on u z.2) ∙ product_zero (above s t u p) _ (on v z.3))
 
 -- the middle is the same in another order
 pub middle-turned : (a b c d : Weighted) → middle_of a c b d ≡ middle_of a b c d

@@ -2,50 +2,45 @@
 use Rattle.qh_model.specs.headline.Sets.{In, Once}
 use Rattle.qh_model.specs.contract.StoredSurface.{StoredFacet, facet_at, live_from, no_facet}
 use Rattle.qh_model.specs.laws.LiveFacets.{LiveIsMarked, LiveIsListedOnce}
-use Rattle.std.proofs.Common.{◌≡◌, ℕ, zero, suc, ◌+◌, ◌<◌, ◌≤◌, length, ap, refl, sym, ◌∙◌, subst, arith, List, [], ◌∷◌, inl, inr, Bool, true, false, cond}
-use Rattle.std.proofs.lemmas.Bool.{both_ways, cases_lt}
-use Rattle.std.proofs.lemmas.List.{get_or_past}
+use Rattle.std.proofs.Common.{◌≡◌, ℕ, zero, suc, ◌+◌, ◌<◌, ◌≤◌, length, ap, refl, sym, ◌∙◌, subst, arith, List, [], ◌∷◌, inl, inr, Bool}
+use Rattle.std.proofs.Common.{true, false, cond}
+use Rattle.std.proofs.lemmas.{Bool.both_ways, Bool.cases_lt, List.get_or_past}
 use Rattle.std.proofs.lemmas.List.Sums.{sum_by-cons}
 use Rattle.std.specs.Prelude.{count_by}
 
--- a step of the next
-marked_step : (n : ℕ) (f : StoredFacet) (fs : List StoredFacet) (g : ℕ) → (In g (live_from (n + 1) fs) → (k : ℕ) × (g ≡ n + 1 + k) × ((facet_at fs k).live ≡ true)) → In g (live_from n (f ∷ fs)) → (k : ℕ) × (g ≡ n + k) × ((facet_at (f ∷ fs) k).live ≡ true)
-marked_step n f fs g low i = split f.live refl i
-  where
-    later : ((k : ℕ) × (g ≡ n + 1 + k) × ((facet_at fs k).live ≡ true)) → (k : ℕ) × (g ≡ n + k) × ((facet_at (f ∷ fs) k).live ≡ true)
-    later (k, e, q) = (suc k, e ∙ shift n k, q)
-      where
-        shift : (n k : ℕ) → n + 1 + k ≡ n + suc k
-        shift n k = omega arith
+-- counting goes on
+shift : (n k : ℕ) → n + 1 + k ≡ n + suc k
+shift n k = omega arith
 
-    split : (b : Bool) → f.live ≡ b → In g (cond b (n ∷ live_from (n + 1) fs) (live_from (n + 1) fs)) → (k : ℕ) × (g ≡ n + k) × ((facet_at (f ∷ fs) k).live ≡ true)
-    split true e (inl q) = (zero, q ∙ none n, e)
-      where
-        none : (n : ℕ) → n ≡ n + zero
-        none n = omega arith
-    split true e (inr j) = later (low j)
-    split false e j = later (low j)
+-- from the number itself
+none_after : (n : ℕ) → n + zero ≡ n
+none_after n = omega arith
+
+-- g is the live facet k places on from n
+abbrev IsMarked : ℕ → List StoredFacet → ℕ → Type 0
+IsMarked n fs g = (k : ℕ) × (g ≡ n + k) × ((facet_at fs k).live ≡ true)
 
 -- a live number is of a marked place
-marked_of : (n : ℕ) (fs : List StoredFacet) (g : ℕ) → In g (live_from n fs) → (k : ℕ) × (g ≡ n + k) × ((facet_at fs k).live ≡ true)
+marked_of : (n : ℕ) (fs : List StoredFacet) (g : ℕ) → In g (live_from n fs) → IsMarked n fs g
 marked_of n [] g i = absurd i
-marked_of n (f ∷ fs) g i = marked_step n f fs g (marked_of (n + 1) fs g) i
+marked_of n (f ∷ fs) g i = split f.live refl i (marked_of (n + 1) fs g)
+  where
+    split : (b : Bool) → f.live ≡ b → In g (cond b (n ∷ live_from (n + 1) fs) (live_from (n + 1) fs))
+        → (In g (live_from (n + 1) fs) → IsMarked (n + 1) fs g) → IsMarked n (f ∷ fs) g
+    split true e (inl q) later = (zero, q ∙ sym (none_after n), e)
+    split true e (inr j) later = let r = later j in (suc r.0, r.1 ∙ shift n r.0, r.2)
+    split false e j later = let r = later j in (suc r.0, r.1 ∙ shift n r.0, r.2)
 
 -- a marked place has a live number
 live_of : (n : ℕ) (fs : List StoredFacet) (k : ℕ) → (facet_at fs k).live ≡ true → In (n + k) (live_from n fs)
 live_of n [] k e = absurd (both_ways false refl e)
-live_of n (f ∷ fs) zero e = subst (λ b. In (n + zero) (cond b (n ∷ live_from (n + 1) fs) (live_from (n + 1) fs))) (sym e) (inl (none n))
+live_of n (f ∷ fs) zero e =
+    subst (λ b. In (n + zero) (cond b (n ∷ live_from (n + 1) fs) (live_from (n + 1) fs))) (sym e) (inl (none_after n))
+live_of n (f ∷ fs) (suc k) e = more f.live (subst (λ g. In g (live_from (n + 1) fs)) (shift n k) (live_of (n + 1) fs k e))
   where
-    none : (n : ℕ) → n + zero ≡ n
-    none n = omega arith
-live_of n (f ∷ fs) (suc k) e = step f.live (subst (λ g. In g (live_from (n + 1) fs)) (shift n k) (live_of (n + 1) fs k e))
-  where
-    shift : (n k : ℕ) → n + 1 + k ≡ n + suc k
-    shift n k = omega arith
-
-    step : (b : Bool) → In (n + suc k) (live_from (n + 1) fs) → In (n + suc k) (cond b (n ∷ live_from (n + 1) fs) (live_from (n + 1) fs))
-    step true j = inr j
-    step false j = j
+    more : (b : Bool) → In (n + suc k) (live_from (n + 1) fs) → In (n + suc k) (cond b (n ∷ live_from (n + 1) fs) (live_from (n + 1) fs))
+    more true j = inr j
+    more false j = j
 
 -- nothing before
 none_before : (k : ℕ) → 0 + k ≡ k
@@ -58,10 +53,11 @@ live_is_marked fs f = (λ i. to (marked_of 0 fs f i), λ e. subst (λ g. In g (l
     to : (k : ℕ) × (f ≡ 0 + k) × ((facet_at fs k).live ≡ true) → (facet_at fs f).live ≡ true
     to (k, e, q) = subst (λ g. (facet_at fs g).live ≡ true) (sym (e ∙ none_before k)) q
 
--- a facet of the surface is live, and a live one of the surface
+-- a facet of the surface is live
 pub live_in : (fs : List StoredFacet) (f : ℕ) → In f (live_from 0 fs) → (facet_at fs f).live ≡ true
 live_in fs f = (live_is_marked fs f).0
 
+-- and a live one is of the surface
 pub in_live : (fs : List StoredFacet) (f : ℕ) → (facet_at fs f).live ≡ true → In f (live_from 0 fs)
 in_live fs f = (live_is_marked fs f).1
 
@@ -78,6 +74,7 @@ live_once n (f ∷ fs) = by_mark f.live (live_once (n + 1) fs)
     by_mark true o = ((λ i. let h = live_above (n + 1) fs n i in omega arith), o)
     by_mark false o = o
 
+-- the law
 pub live_is_listed_once : LiveIsListedOnce
 live_is_listed_once fs = live_once 0 fs
 

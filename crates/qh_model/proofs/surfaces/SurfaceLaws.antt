@@ -1,18 +1,14 @@
 -- The laws, from their proofs.
-use Rattle.qh_model.specs.laws.SurfaceLaws.{CornersAreSettled, AddedIsSettled, RiseIsVol, WalkFindsAll, SettledStayUnseen, HorizonGoesOn, HorizonIsKnown}
-use Rattle.qh_model.specs.contract.Weighted.{above}
-use Rattle.qh_model.specs.contract.Surface.{rise}
-use Rattle.std.proofs.Common.{refl, [], inl, inr}
+use Rattle.qh_model.specs.laws.SurfaceLaws.{CornersAreSettled, AddedIsSettled, RiseIsVol, WalkFindsAll, SettledStayUnseen, HorizonGoesOn}
+use Rattle.qh_model.specs.laws.SurfaceLaws.{HorizonIsKnown}
+use Rattle.qh_model.specs.contract.{Weighted.above, Surface.rise}
+use Rattle.std.proofs.Common.{ℕ, refl, [], inl, inr}
 use Rattle.std.specs.Prelude.{pos}
 use Rattle.qh_model.specs.headline.Predicates.{cross, vol}
-use Rattle.qh_model.proofs.algebra.VectorIdentities.{vec, volE, put, VE}
-use Rattle.qh_model.proofs.algebra.Ring.{ring}
+use Rattle.qh_model.proofs.algebra.{VectorIdentities.vec, VectorIdentities.volE, VectorIdentities.put, VectorIdentities.VE, Ring.ring}
 use Rattle.qh_model.proofs.algebra.Ring.Expr.{con}
-use Rattle.qh_model.proofs.surfaces.Determinants.{QE, aboveE}
-use Rattle.qh_model.proofs.surfaces.Facets.{positive-is, positive-true}
-use Rattle.qh_model.proofs.surfaces.Connected.{connected, cert}
-use Rattle.qh_model.proofs.surfaces.Unseen.{settled_kept, apex_settled}
-use Rattle.qh_model.proofs.surfaces.Rewired.{replaced}
+use Rattle.qh_model.proofs.surfaces.{Determinants.QE, Determinants.aboveE, Unseen.settled_kept, Unseen.apex_settled, Rewired.replaced}
+use Rattle.qh_model.proofs.surfaces.Connected.{positive-is, positive-true, connected, cert}
 use Rattle.qh_model.proofs.surfaces.Horizon.{edge_next, edge_prev, edge_known_by_start, edge_known_by_end}
 
 -- a point with weight 1, of expressions
@@ -22,16 +18,23 @@ weightedE p = record { w = con (pos 1); x = p.x; y = p.y; z = p.z }
 -- the law
 pub rise_is_vol : RiseIsVol
 unfolding above vol cross
-rise_is_vol a b c p = ring (put a (put b (put c (put p [])))) (aboveE (weightedE (vec 0)) (weightedE (vec 1)) (weightedE (vec 2)) (weightedE (vec 3))) (volE (vec 0) (vec 1) (vec 2) (vec 3)) refl
+rise_is_vol a b c p =
+    let P : ℕ → QE = λ i. weightedE (vec i) in
+    ring (put a (put b (put c (put p [])))) (aboveE (P 0) (P 1) (P 2) (P 3)) (volE (vec 0) (vec 1) (vec 2) (vec 3)) refl
 
 -- the law
 pub walk_finds_all : WalkFindsAll
-walk_finds_all m home o w z p c g f i k =
-    connected m home o w z p c (record { f0 = g.f0; live = g.live; sees_p = positive-true (rise m home g.f0 p) g.seen; has = g.has; grows = λ f i s a b. g.grows f i s a (positive-is (rise m home (m.over f s) p) b) }) f i k
+walk_finds_all m home o w z p c g = connected m home o w z p c (record {
+  f0 = g.f0;
+  live = g.live;
+  sees_p = positive-true (rise m home g.f0 p) g.seen;
+  has = g.has;
+  grows = λ f i s a b. g.grows f i s a (positive-is (rise m home (m.over f s) p) b);
+})
 
 -- the law
 pub settled_stay_unseen : SettledStayUnseen
-settled_stay_unseen m m' home o p w z r y h f' i = settled_kept m m' home o p w z (replaced m m' home p r) y h f' i
+settled_stay_unseen m m' home o p w z r = settled_kept (replaced m m' home p r) o w z
 
 -- the law
 pub horizon_goes_on : HorizonGoesOn
@@ -48,4 +51,4 @@ corners_are_settled m home o z f g i j l c = cert m home o z.lifted f g i j l c
 
 -- the law
 pub added_is_settled : AddedIsSettled
-added_is_settled m m' home p r f' i = apex_settled m m' home p (replaced m m' home p r) f' i
+added_is_settled m m' home p r = apex_settled (replaced m m' home p r)

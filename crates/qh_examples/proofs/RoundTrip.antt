@@ -9,7 +9,7 @@ use Rattle.qh_model.specs.headline.Words.{on_line}
 use Rattle.qh_model.specs.headline.OffFile.{ReadsOff}
 use Rattle.qh_model.specs.headline.Hull.{HullValue}
 use Rattle.qh_model.specs.headline.Text.{line, hull_text}
-use Rattle.qh_model.proofs.examples.Texts.{point, square_corners, square}
+use Rattle.qh_examples.proofs.Texts.{point, square_corners, square}
 
 -- its text: the point in the middle has no line, so vertex 0 is point 1
 abbrev text : List ℕ

@@ -1,4 +1,3 @@
--- Small examples of the definitions of `specs/headline`: what they hold of, and what not.
 pub mod Reading
 pub mod RoundTrip
 pub mod OffReading
