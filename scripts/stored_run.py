@@ -1,5 +1,6 @@
 #!/usr/bin/env python3
-"""Writes the run of the program that the gate makes with both compilers: crates/qconvex/args, stdin and stdout.
+"""Writes the run of the program that the gate makes with both compilers: crates/qconvex/args, stdin and stdout, and
+the points once more for a test of the gate, which counts what the tree joins of them.
 
     scripts/stored_run.py [--check]      from the top of the repository
 
@@ -17,6 +18,7 @@ from pathlib import Path
 from fuzz_hulls import hull_text
 
 FOLDER = Path("crates/qconvex")
+TEST = Path("crates/qh_tests/src/tests/serve/stored_points.rt")
 ARGS = ["--block", "3", "--workers", "7", "rank", "s", "Fx", "off", "offt"]
 OUTPUTS = ["rank", "s", "Fx", "off", "offt"]
 SEED = 20261123
@@ -53,16 +55,30 @@ def point_file(points):
     return "\n".join(lines) + "\n"
 
 
+def test_file(text):
+    """The point file as a constant of the tests."""
+    text = text.replace("\t", "\\t")
+    return (
+        "//! The points of the stored run, as `scripts/stored_run.py` writes them.\n\n"
+        f'pub const STORED: &str = "{text}";\n'
+    )
+
+
 def main():
     parser = argparse.ArgumentParser(description=__doc__, formatter_class=argparse.RawDescriptionHelpFormatter)
     parser.add_argument("--check", action="store_true", help="write nothing, and fail where a file differs")
     check = parser.parse_args().check
     points = made_points()
-    files = {"args": "\n".join(ARGS) + "\n", "stdin": point_file(points), "stdout": hull_text(points, OUTPUTS)[0].decode()}
-    differing = [name for name, text in files.items() if (FOLDER / name).read_text() != text]
+    files = {
+        FOLDER / "args": "\n".join(ARGS) + "\n",
+        FOLDER / "stdin": point_file(points),
+        FOLDER / "stdout": hull_text(points, OUTPUTS)[0].decode(),
+        TEST: test_file(point_file(points)),
+    }
+    differing = [str(path) for path, text in files.items() if not path.exists() or path.read_text() != text]
     if not check:
-        for name, text in files.items():
-            (FOLDER / name).write_text(text)
+        for path, text in files.items():
+            path.write_text(text)
     print("differs: %s" % ", ".join(differing) if differing else "all files are as they should be")
     sys.exit(1 if check and differing else 0)
 

@@ -11,6 +11,6 @@ mod plane;
 mod points;
 mod pred;
 mod read;
-mod run;
+pub mod run;
 mod serve;
 mod write;

@@ -5,6 +5,7 @@ mod fans;
 mod faults;
 mod gated;
 mod hostile;
+mod joins;
 mod limits;
 mod near_flat_sets;
 mod off_files;
@@ -13,6 +14,7 @@ mod ranks;
 mod refusals;
 mod rows;
 mod solids;
+mod stored_points;
 mod told_blocks;
 
 use qh_model::Form;

@@ -20,7 +20,7 @@ const OUTPUTS: Asked<'static> = Asked {
 const WAYS: [(u32, u32); 4] = [(1, 20000), (2, 4096), (7, 4), (64, 4096)];
 
 /// The outputs by so many workers, in blocks of a size.
-fn asked_in(way: (u32, u32)) -> Asked<'static> {
+pub fn asked_in(way: (u32, u32)) -> Asked<'static> {
     let (workers, block) = way;
     Asked {
         workers,
@@ -30,7 +30,7 @@ fn asked_in(way: (u32, u32)) -> Asked<'static> {
 }
 
 /// The points (x, y, x x + y y) for x below 200 and y below 100.
-fn points(alloc: Global) -> Result<String, AllocError> {
+pub fn points(alloc: Global) -> Result<String, AllocError> {
     let mut text = String::from_str(alloc, "3\n20000\n")?;
     for number in 0..20000u32 {
         let (x, y) = (number / 100, number % 100);
