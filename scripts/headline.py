@@ -10,7 +10,7 @@ comments. Besides:
 - what else a clause of a public function or of a public trait cites stands in `specs/contract`;
 - docs/DEFINITIONS.md names each definition of these two folders, and no other;
 - docs/LAWS.md names each law and each clause of a law, and no other;
-- README.md says the number of lines.
+- README.md says the number of lines, and that of the lines in which the traits `Source` and `Sink` say what a device does.
 
 It prints each file with its definitions and lines (--list: each definition), the types and constants of the program that
 they speak of, and the number of lines; then each fault. The status is 1 if there was one.
@@ -24,6 +24,8 @@ from pathlib import Path
 from definitions import CRATES, Project
 
 MOST_LINES = 450
+# The traits of the devices, whose clauses the contract of `serve` takes for granted.
+DEVICES = ((CRATES / "qh_read/src/source.rt", "Source"), (CRATES / "qh_write/src/sink.rt", "Sink"))
 HEADLINE = {(CRATES / "qh_serve/src/answers.rt", "answer"), (CRATES / "qh_serve/src/serving.rt", "serve")}
 SETTINGS = CRATES / "qh_serve/src/settings.rt"
 LAWS = (CRATES / "qh_model/src/laws", CRATES / "qh_laws/src")
@@ -127,8 +129,19 @@ def laws_faults():
             yield "docs/LAWS.md has other clauses of %s: %s" % (name, ", ".join(sorted(listed[name] ^ stated[name])))
 
 
+def device_lines():
+    """The number of lines in which the traits of the devices have ghost members and clauses."""
+    count = 0
+    for path, name in DEVICES:
+        body = re.search(r"^pub trait %s \{(.*?)^\}" % name, path.read_text(), re.M | re.S).group(1)
+        count += len(re.findall(r"^\s*(?:ghost|requires|ensures) ", body, re.M))
+    return count
+
+
 def number_faults(lines):
-    """Where the number of lines is too large, or not the one that README says."""
+    """Where a number of lines is too large, or not the one that README says."""
+    if "%d lines more" % device_lines() not in Path("README.md").read_text():
+        yield "README.md does not say: %d lines more" % device_lines()
     if lines > MOST_LINES:
         yield "%d lines are more than %d" % (lines, MOST_LINES)
     if "%d lines of definitions" % lines not in Path("README.md").read_text():
@@ -144,6 +157,7 @@ def main():
     lines = lines_of(believed)
     print_files(believed, every)
     print("%d definitions, %d lines" % (len(believed), lines))
+    print("%d lines of the traits of devices" % device_lines())
     faults = [*folder_faults(project, believed, contract(project)), *definitions_faults(project), *laws_faults(),
               *number_faults(lines)]
     for fault in faults:
