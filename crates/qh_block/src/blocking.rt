@@ -5,6 +5,10 @@
 //! answer, since the hull of a set is the same for every division of it. docs/PERFORMANCE.md has
 //! the measurements.
 ghost use Rattle.std.specs.Prelude.{◌↔◌, ◌≤◌, ◌<◌, ◌/◌, ◌⊎◌, IsTrue};
+ghost use Rattle.qh_model.specs.contract.Cut.{blocks_of};
+ghost use Rattle.qh_model.specs.declared.limits.TheConstants.{BLOCK_LIMIT};
+
+use qh_model::BLOCK_LIMIT;
 
 /// The interior filter takes sets of at least this many ids.
 ///
@@ -60,4 +64,17 @@ pub(crate) fn sample_pays(facets: usize, sample: usize) -> bool {
 /// filter the whole set.
 pub(crate) fn filter_pays(inside: usize, sample: usize) -> bool {
     inside >= sample / 2
+}
+
+/// Returns the size of the blocks of a list of points, of which a caller wants this size: a greater one
+/// if there would be more than `BLOCK_LIMIT` blocks.
+///
+/// The program wants 4096 where its command line names no other size: a block's hull then takes about a
+/// millisecond, so that workers have many blocks to choose from.
+pub fn block_size(count: u32, wanted: u32) -> u32
+    requires { 0 < wanted }
+    ensures least { wanted ≤ result }
+    ensures few { blocks_of count result ≤ BLOCK_LIMIT }
+{
+    wanted.max(count.div_ceil(BLOCK_LIMIT))
 }

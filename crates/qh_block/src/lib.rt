@@ -29,6 +29,6 @@ mod segment;
 mod solid_edges;
 mod solids;
 
-pub use blocking::{BLOCK_ALONE, TELLING, WHOLE_ALONE, are_few, tree_pays};
+pub use blocking::{BLOCK_ALONE, TELLING, WHOLE_ALONE, are_few, block_size, tree_pays};
 pub use hulls::{extremes, extremes_unlooked, hull, outer};
 pub use qh_surface::surface;

@@ -11,7 +11,8 @@ ghost use Rattle.qh_serve.specs.headline.Answers.{IsAnswer, IsAnswerFault};
 use crate::fault::Fault;
 use crate::ranks::{are_all_ranks, rank_text};
 use crate::settings::Settings;
-use qh_model::{BLOCK_LIMIT, Cut, CutError, Hull, Id, Memory, Point};
+use qh_block::block_size;
+use qh_model::{Cut, CutError, Hull, Id, Memory, Point};
 use qh_plane::distinct;
 use qh_read::read_form;
 use qh_run::{Gate, RunError, run_hull};
@@ -27,7 +28,7 @@ fn even_cut(alloc: Global, count: u32, wanted: u32) -> Result<Cut, Memory>
     requires wanted { 0 < wanted }
     ensures { IfOk result (λ c. positions c ≡ count) }
 {
-    let size = wanted.max(count.div_ceil(BLOCK_LIMIT));
+    let size = block_size(count, wanted);
     match Cut::even(alloc, count, size) {
         Ok(cut) => Ok(cut),
         Err(CutError::Memory) => Err(Memory),
