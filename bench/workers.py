@@ -1,10 +1,11 @@
 #!/usr/bin/env python3
-"""What workers bring: this program with 1, 2, 4 and 8 of them and in one block, beside another build and Qhull.
+"""What workers bring: this program with 1, 2 and 4 of them and in one block, beside another build and Qhull.
 
     bench/workers.py --other ./qconvex-before --peer '/usr/bin/qconvex s' --counts 10000,100000,1000000
 
 Each row is one seeded file that all programs read in turn; the best of the rounds counts. A cell is CPU and wall
-seconds. `--other` is an older build of this program, run with the same numbers of workers. Nothing is asserted.
+seconds. `--other` is an older build of this program, run with the same numbers of workers; `--words` are the outputs of
+both. Nothing is asserted.
 """
 import argparse
 import os
@@ -16,15 +17,16 @@ import tempfile
 import compare
 from families import SOLID
 
-WORKERS = [1, 2, 4, 8]
+WORKERS = "1,2,4"
 
 
 def commands_of(given):
     """A name and a command for each column."""
     columns = []
     for name, program in [("ours", given.ours)] + ([("other", given.other)] if given.other else []):
-        columns += [("%s, %d" % (name, n), [program, "--workers", str(n), "s"]) for n in WORKERS]
-        columns += [("%s, one block" % name, [program, "--block", "1048576", "s"])]
+        words = given.words.split()
+        columns += [("%s, %s" % (name, n), [program, "--workers", n, *words]) for n in given.workers.split(",")]
+        columns += [("%s, one block" % name, [program, "--block", "1048576", *words])]
     return columns + ([(given.peer, shlex.split(given.peer))] if given.peer else [])
 
 
@@ -35,6 +37,8 @@ def main():
     parser.add_argument("--peer", help="a command to compare with")
     parser.add_argument("--counts", default="10000,100000,1000000")
     parser.add_argument("--families", default=",".join(SOLID))
+    parser.add_argument("--workers", default=WORKERS, help="numbers of workers")
+    parser.add_argument("--words", default="s", help="the outputs")
     parser.add_argument("--rounds", type=int, default=3)
     given = parser.parse_args()
     columns = commands_of(given)
