@@ -1,16 +1,17 @@
--- Points inside the hull of a sample: its planes, the boxes below them, and the ids that are left without them.
+-- Points inside the hull of a sample: its planes, the cells between them, and the ids that are left without what these hold.
 use Rattle.std.proofs.Common.{ℕ, ◌≡◌, ◌⊎◌, ⊎_elim, inl, inr, List, [], ◌∷◌, ◌++◌, All, arith, refl, subst}
 use Rattle.std.specs.Prelude.{pos, ◌<ℤ◌}
 use Rattle.std.specs.List.Sorted.{IsStrictlyIncreasing}
-use Rattle.qh_model.specs.headline.{Vector.Vector, Predicates.place, Sets.In, Sets.Members, Extreme.Extreme}
+use Rattle.qh_model.specs.headline.{Vector.Vector, Predicates.place, Sets.In, Sets.Members, Extreme.Extreme, Extreme.Others}
 use Rattle.qh_model.specs.contract.{FinishedSurface.IsFinished, StoredSurface.StoredFacet, StoredSurface.surface_of}
 use Rattle.qh_model.proofs.Members.{All-In, All-of, rising_tail, rising_first}
+use Rattle.qh_model.proofs.extremes.{ExtremeIds.combination_within}
 use Rattle.qh_model.proofs.lists.{Joined.in_append, Joined.of_append, Rising.rising_append}
 use Rattle.qh_model.proofs.surfaces.{Inside.inner_is_not_extreme, Stored.live_is_marked}
 use Rattle.qh_pred.specs.contract.Planes.{PlaneValue, height}
 use Rattle.qh_mesh.specs.contract.{Replacement.IsLive, SoundMesh.facet_vol}
-use Rattle.qh_block.specs.declared.inner_points.bounds.Bounds.{Bounds}
-use Rattle.qh_block.specs.steps.InnerPoints.{IsBelow, IsBelowAll, HasPlane, HasPlanes, HasNoExtreme, AreInner, IsOuterPart}
+use Rattle.qh_block.specs.declared.inner_points.cells.Cell.{Cell}
+use Rattle.qh_block.specs.steps.InnerPoints.{IsBelow, IsCellOf, IsHeld, HasPlane, HasPlanes, HasNoExtreme, AreInner, IsOuterPart}
 use Rattle.qh_surface.proofs.LiveFacets.{all_live, rest_live}
 
 -- ---- the planes of the live facets
@@ -43,14 +44,21 @@ pub all_listed : {pts : List Vector} {fs : List StoredFacet} {all : List ℕ} {p
     → all ≡ [] → HasPlanes pts fs planes
 all_listed old is g l = ⊎_elim (λ p. p) (λ i. absurd (subst (In g) is i)) (old.rest g l)
 
--- ---- boxes
--- below all planes of the sample's surface there is no extreme id
-pub boxes_are_inner : (pts : List Vector) (sample : List ℕ) (fs : List StoredFacet) (planes : List PlaneValue) (bs : List Bounds)
-    → IsFinished (place pts) sample (surface_of fs) → HasPlanes pts fs planes → All (IsBelowAll planes) bs → AreInner pts sample bs
-boxes_are_inner pts sample fs planes bs z has below ids sub =
-    All-of (HasNoExtreme pts ids) bs (λ b i l member within. inner_is_not_extreme (place pts) sample (surface_of fs) z l
+-- ---- cells
+-- a point that a cell holds is strictly below each plane of the list
+held_is_below : (planes : List PlaneValue) (c : Cell) (p : Vector) → IsCellOf planes c → IsHeld c p → (plane : PlaneValue) → In plane planes
+    → height plane p <ℤ pos 0
+held_is_below planes c p cell held plane i =
+    ⊎_elim (λ below. below p held.0) (λ near. All-In (λ q. height q p <ℤ pos 0) c.near.items plane held.1 near)
+    (All-In (λ q. IsBelow c.bounds q ⊎ In q c.near.items) planes plane cell i)
+
+-- so what a cell between all planes of the sample's surface holds is not extreme
+pub cells_are_inner : (pts : List Vector) (sample : List ℕ) (fs : List StoredFacet) (planes : List PlaneValue) (cs : List Cell)
+    → IsFinished (place pts) sample (surface_of fs) → HasPlanes pts fs planes → All (IsCellOf planes) cs → AreInner pts sample cs
+cells_are_inner pts sample fs planes cs z has cells ids sub =
+    All-of (HasNoExtreme pts ids) cs (λ c i l member held. inner_is_not_extreme (place pts) sample (surface_of fs) z l
     (λ f live. (let h = has f ((live_is_marked fs f).0 live) in subst (λ n. n <ℤ pos 0) (h.2 (place pts l))
-    (All-In (IsBelow b) planes h.0 (All-In (IsBelowAll planes) bs b below i) h.1 (place pts l) within))) ids sub)
+    (held_is_below planes c (place pts l) (All-In (IsCellOf planes) cs c cells i) held h.0 h.1))) ids sub)
 
 -- ---- the ids that are left
 -- a member without one of the numbers is one with it
@@ -80,3 +88,21 @@ inner_goes pts ids kept rest x inner h = record {
 -- all ids are such a part
 pub all_ids_left : (pts : List Vector) (ids : List ℕ) → IsOuterPart pts ids ids
 all_ids_left pts ids = record { rising = λ r. r; extremes = record { within = λ i m. m; extremes = λ i e. e.0 } }
+
+-- a part of such a part is one: an id that is extreme among more points is extreme among fewer
+pub part_of_part : (pts : List Vector) (ids first second : List ℕ) → IsOuterPart pts ids first → IsOuterPart pts first second
+    → IsOuterPart pts ids second
+part_of_part pts ids first second one two = record {
+  rising = λ r. two.rising (one.rising r);
+  extremes = record {
+    within = λ i m. one.extremes.within i (two.extremes.within i m);
+    extremes = λ i e. two.extremes.extremes i (still i e);
+  };
+}
+  where
+    still : (i : ℕ) → Extreme (place pts) (Members ids) i → Extreme (place pts) (Members first) i
+    still i e = (
+      one.extremes.extremes i e,
+      λ mix. e.1 (combination_within (place pts) (Others (Members first) i)
+          (Others (Members ids) i) (place pts i) mix (λ j o. (one.extremes.within j o.0, o.1))),
+    )

@@ -1,4 +1,5 @@
 pub mod flats
 pub mod finished
+pub mod Cells
 pub mod InnerBoxes
 pub mod InnerPoints

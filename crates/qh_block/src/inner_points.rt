@@ -1,13 +1,17 @@
 //! Points inside a large set, which go before Quickhull sees them.
 //!
-//! The planes of the hull of a small sample of the set (`sample`) cut a box out of each column of a grid
-//! (`columns`, `bounds`). A point in one of the boxes is strictly inside the hull of the sample. So it is
-//! not extreme, and one look tells.
+//! The planes of the hull of a small sample of the set (`sample`) cut each column of a grid into cells
+//! (`columns`, `cells`, `bounds`). The few planes that come near a cell tell of its points which are strictly
+//! inside the hull of the sample. These are not extreme, in the sample or in the set.
+//!
+//! Of a very large set a first round leaves many points. A sample of these lies near the surface
+//! of the hull, so a second round leaves few.
 ghost use Rattle.std.specs.Prelude.{◌<◌, IfOk, IfSome, length};
 ghost use Rattle.std.specs.List.{All};
 ghost use Rattle.qh_block.specs.steps.InnerPoints.{HasNoExtreme, IsOuterPart};
 
 mod bounds;
+mod cells;
 mod columns;
 mod sample;
 
@@ -23,7 +27,7 @@ use std::alloc::{AllocError, Global};
 fn hold_most(sample: IdSet, columns: &Columns) -> bool {
     let mut held: usize = 0;
     for id in sample.ids {
-        if columns.contain(point_at(sample.pts, *id)) {
+        if columns.hold(point_at(sample.pts, *id)) {
             held = held.saturating_add(1);
         }
     }
@@ -32,20 +36,20 @@ fn hold_most(sample: IdSet, columns: &Columns) -> bool {
 
 /// The ids that the columns don't hold.
 fn ids_outside(alloc: Global, set: IdSet, columns: &Columns) -> Result<Vec<Id>, AllocError>
-    requires { All (HasNoExtreme set.pts.now set.ids.now) columns.now.boxes.items }
+    requires { All (HasNoExtreme set.pts.now set.ids.now) columns.now.cells.items }
     ensures { IfOk result (λ v. IsOuterPart set.entry.pts.now set.entry.ids.now v.items) }
 {
     let mut kept = Vec::new(alloc);
     for id in set.ids {
-        if !columns.contain(point_at(set.pts, *id)) {
+        if !columns.hold(point_at(set.pts, *id)) {
             kept.push(*id)?;
         }
     }
     Ok(kept)
 }
 
-/// The ids of a large set but some that are found to be inside; none where no look pays.
-pub fn outer_ids(alloc: Global, set: IdSet) -> Result<Option<Vec<Id>>, Memory>
+/// The ids of a large set but those that one round finds inside; none where no round pays.
+fn outer_ids_once(alloc: Global, set: IdSet) -> Result<Option<Vec<Id>>, Memory>
     requires some { 0 < length set.ids.now }
     ensures some { IfOk result (λ found. IfSome found (λ v. 0 < length v.items)) }
     ensures part { IfOk result (λ found. IfSome found (λ v. IsOuterPart set.entry.pts.now set.entry.ids.now v.items)) }
@@ -67,4 +71,24 @@ pub fn outer_ids(alloc: Global, set: IdSet) -> Result<Option<Vec<Id>>, Memory>
         return Ok(None);
     }
     Ok(Some(outer))
+}
+
+/// The ids of a large set but those that are found inside, in two rounds; none where the first does not
+/// pay.
+pub fn outer_ids(alloc: Global, set: IdSet) -> Result<Option<Vec<Id>>, Memory>
+    requires some { 0 < length set.ids.now }
+    ensures some { IfOk result (λ found. IfSome found (λ v. 0 < length v.items)) }
+    ensures part { IfOk result (λ found. IfSome found (λ v. IsOuterPart set.entry.pts.now set.entry.ids.now v.items)) }
+{
+    let Some(first) = outer_ids_once(alloc, set)? else {
+        return Ok(None);
+    };
+    let left = IdSet {
+        pts: set.pts,
+        ids: &first,
+    };
+    match outer_ids_once(alloc, left)? {
+        Some(second) => Ok(Some(second)),
+        None => Ok(Some(first)),
+    }
 }

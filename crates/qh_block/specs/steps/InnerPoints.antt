@@ -1,5 +1,5 @@
--- Points that a look finds inside a set: boxes below all planes of the hull of a sample of it.
-use Rattle.std.specs.Prelude.{◌≡◌, ℕ, List, All, ℤ, pos, ◌≤ℤ◌, ◌<ℤ◌}
+-- Points that a filter finds inside a set: in cells of space, below all planes of the hull of a sample of it.
+use Rattle.std.specs.Prelude.{◌≡◌, ◌⊎◌, ℕ, List, All, ℤ, pos, ◌≤ℤ◌, ◌<ℤ◌}
 use Rattle.std.specs.List.Sorted.{IsStrictlyIncreasing}
 use Rattle.qh_model.specs.headline.Vector.{Vector}
 use Rattle.qh_model.specs.headline.Predicates.{place}
@@ -11,6 +11,7 @@ use Rattle.qh_pred.specs.contract.Planes.{PlaneValue, height}
 use Rattle.qh_mesh.specs.contract.Replacement.{IsLive}
 use Rattle.qh_mesh.specs.contract.SoundMesh.{facet_vol}
 use Rattle.qh_block.specs.declared.inner_points.bounds.Bounds.{Bounds}
+use Rattle.qh_block.specs.declared.inner_points.cells.Cell.{Cell}
 
 -- a number in a range
 abbrev pub IsBetween : ℤ → ℤ → ℤ → Type 0
@@ -30,9 +31,13 @@ IsFarEnd a low high e = (pos 0 <ℤ a → e ≡ high) × (a ≤ℤ pos 0 → e �
 abbrev pub IsBelow : Bounds → PlaneValue → Type 0
 IsBelow b plane = (p : Vector) → IsWithin b p → height plane p <ℤ pos 0
 
--- so are all planes
-abbrev pub IsBelowAll : List PlaneValue → Bounds → Type 0
-IsBelowAll planes b = All (IsBelow b) planes
+-- each plane of the list is near the cell, or strictly above all points of its box
+abbrev pub IsCellOf : List PlaneValue → Cell → Type 0
+IsCellOf planes c = All (λ plane. IsBelow c.bounds plane ⊎ In plane c.near.items) planes
+
+-- a point of the cell's box, strictly below all planes near the cell
+abbrev pub IsHeld : Cell → Vector → Type 0
+IsHeld c p = IsWithin c.bounds p × All (λ plane. height plane p <ℤ pos 0) c.near.items
 
 -- a plane of the list is that of facet f
 abbrev pub HasPlane : List Vector → List StoredFacet → List PlaneValue → ℕ → Type 0
@@ -42,13 +47,13 @@ HasPlane pts fs planes f = (plane : PlaneValue) × In plane planes × ((p : Vect
 abbrev pub HasPlanes : List Vector → List StoredFacet → List PlaneValue → Type 0
 HasPlanes pts fs planes = (f : ℕ) → IsLive fs f → HasPlane pts fs planes f
 
--- no extreme id has its point in the box, in any set with these ids among its own
-abbrev pub HasNoExtreme : List Vector → List ℕ → Bounds → Type 0
-HasNoExtreme pts ids b = (i : ℕ) → In i ids → IsWithin b (place pts i) → ¬ (Extreme (place pts) (Members ids) i)
+-- the cell holds the point of no extreme id, in any set with these ids among its own
+abbrev pub HasNoExtreme : List Vector → List ℕ → Cell → Type 0
+HasNoExtreme pts ids c = (i : ℕ) → In i ids → IsHeld c (place pts i) → ¬ (Extreme (place pts) (Members ids) i)
 
--- boxes without an extreme id, in each set that has the sample
-abbrev pub AreInner : List Vector → List ℕ → List Bounds → Type 0
-AreInner pts sample bs = (ids : List ℕ) → ((i : ℕ) → In i sample → In i ids) → All (HasNoExtreme pts ids) bs
+-- cells that hold no extreme id, in each set that has the sample
+abbrev pub AreInner : List Vector → List ℕ → List Cell → Type 0
+AreInner pts sample cs = (ids : List ℕ) → ((i : ℕ) → In i sample → In i ids) → All (HasNoExtreme pts ids) cs
 
 -- a part of a set with all its extreme ids, rising where the set does
 pub record IsOuterPart (pts : List Vector) (ids part : List ℕ) : Type 0 where

@@ -1,6 +1,5 @@
 //! Boxes of space with sides along the axes.
-ghost use Rattle.std.specs.Prelude.{◌≡◌, ◌⊎◌, ◌↔◌, pos, IsTrue};
-ghost use Rattle.std.specs.List.{All};
+ghost use Rattle.std.specs.Prelude.{◌≡◌, ◌⊎◌, ◌↔◌, ◌≤ℤ◌, pos, IsTrue};
 ghost use Rattle.qh_model.specs.headline.Vector.{Vector};
 ghost use Rattle.qh_block.specs.steps.InnerPoints.{IsBetween, IsWithin, IsFarEnd, IsBelow};
 
@@ -28,6 +27,55 @@ fn far_end(factor: i128, low: i32, high: i32) -> i32
     ensures far { IsFarEnd factor low high result }
 {
     if factor > 0 { high } else { low }
+}
+
+/// The end of a range at which a product with this factor is least.
+fn near_end(factor: i128, low: i32, high: i32) -> i32
+    ensures { (result ≡ low) ⊎ (result ≡ high) }
+{
+    if factor > 0 { low } else { high }
+}
+
+/// The greater of two numbers.
+fn greater(one: i32, two: i32) -> i32
+    ensures end { (result ≡ one) ⊎ (result ≡ two) }
+    ensures least { one ≤ℤ result }
+{
+    if one < two { two } else { one }
+}
+
+/// The lesser of two numbers.
+fn lesser(one: i32, two: i32) -> i32
+    ensures end { (result ≡ one) ⊎ (result ≡ two) }
+    ensures most { result ≤ℤ one }
+{
+    if two < one { two } else { one }
+}
+
+/// The point with the greater of each two coordinates.
+fn greatest_of(one: Point, two: Point) -> Point
+    ensures x { one.x ≤ℤ result.x }
+    ensures y { one.y ≤ℤ result.y }
+    ensures z { one.z ≤ℤ result.z }
+{
+    Point::new(
+        greater(one.x(), two.x()),
+        greater(one.y(), two.y()),
+        greater(one.z(), two.z()),
+    )
+}
+
+/// The point with the lesser of each two coordinates.
+fn least_of(one: Point, two: Point) -> Point
+    ensures x { result.x ≤ℤ one.x }
+    ensures y { result.y ≤ℤ one.y }
+    ensures z { result.z ≤ℤ one.z }
+{
+    Point::new(
+        lesser(one.x(), two.x()),
+        lesser(one.y(), two.y()),
+        lesser(one.z(), two.z()),
+    )
 }
 
 impl Bounds {
@@ -63,17 +111,30 @@ impl Bounds {
         )
     }
 
-    /// Whether a plane is above all of its points: its furthest corner along the normal is below it.
-    fn is_below(&self, plane: &Plane) -> bool
+    /// The corner that lies furthest against a normal.
+    pub fn near_corner(&self, normal: &Normal) -> Point {
+        Point::new(
+            near_end(normal.x(), self.low.x(), self.high.x()),
+            near_end(normal.y(), self.low.y(), self.high.y()),
+            near_end(normal.z(), self.low.z(), self.high.z()),
+        )
+    }
+
+    /// Returns true if a plane is strictly above all of the points: the corner that lies furthest along
+    /// its normal is below it.
+    pub fn is_below(&self, plane: &Plane) -> bool
         ensures { IsTrue result → IsBelow self.now plane.now }
     {
         plane.height(self.far_corner(&plane.normal())) < 0
     }
 
-    /// Whether all planes are.
-    pub fn is_below_all(&self, planes: &[Plane]) -> bool
-        ensures { IsTrue result → All (IsBelow self.now) planes.now }
+    /// The points that are among both.
+    pub fn common(&self, other: &Bounds) -> Bounds
+        ensures { (p : Vector) → IsWithin result p → IsWithin self.now p }
     {
-        planes.iter().all(|plane| self.is_below(plane))
+        Bounds {
+            low: greatest_of(self.low, other.low),
+            high: least_of(self.high, other.high),
+        }
     }
 }
