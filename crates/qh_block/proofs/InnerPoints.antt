@@ -1,17 +1,20 @@
 -- Points inside the hull of a sample: its planes, the cells between them, and the ids that are left without what these hold.
-use Rattle.std.proofs.Common.{ℕ, ◌≡◌, ◌⊎◌, ⊎_elim, inl, inr, List, [], ◌∷◌, ◌++◌, All, arith, refl, subst}
+use Rattle.std.proofs.Common.{ℕ, ◌≡◌, ◌+◌, ◌<◌, ◌⊎◌, ⊎_elim, inl, inr, List, [], ◌∷◌, ◌++◌, All, arith, length, get_or, refl, subst}
+use Rattle.std.proofs.lemmas.Grind.{common_steps}
+use Rattle.std.proofs.lemmas.List.{get_or_append_left}
+use Rattle.std.proofs.Math.Seq.{get_or-append_right}
 use Rattle.std.specs.Prelude.{pos, ◌<ℤ◌}
 use Rattle.std.specs.List.Sorted.{IsStrictlyIncreasing}
 use Rattle.qh_model.specs.headline.{Vector.Vector, Predicates.place, Sets.In, Sets.Members, Extreme.Extreme, Extreme.Others}
 use Rattle.qh_model.specs.contract.{FinishedSurface.IsFinished, StoredSurface.StoredFacet, StoredSurface.surface_of}
-use Rattle.qh_model.proofs.Members.{All-In, All-of, rising_tail, rising_first}
+use Rattle.qh_model.proofs.Members.{All-In, All-of, in_at, rising_tail, rising_first}
 use Rattle.qh_model.proofs.extremes.{ExtremeIds.combination_within}
-use Rattle.qh_model.proofs.lists.{Joined.in_append, Joined.of_append, Rising.rising_append}
+use Rattle.qh_model.proofs.lists.{Joined.in_append, Joined.of_append, Rising.rising_append, Rising.rising_between}
 use Rattle.qh_model.proofs.surfaces.{Inside.inner_is_not_extreme, Stored.live_is_marked}
 use Rattle.qh_pred.specs.contract.Planes.{PlaneValue, height}
 use Rattle.qh_mesh.specs.contract.{Replacement.IsLive, SoundMesh.facet_vol}
 use Rattle.qh_block.specs.declared.inner_points.cells.Cell.{Cell}
-use Rattle.qh_block.specs.steps.InnerPoints.{IsBelow, IsCellOf, IsHeld, HasPlane, HasPlanes, HasNoExtreme, AreInner, IsOuterPart}
+use Rattle.qh_block.specs.steps.InnerPoints.{IsBelow, IsCellOf, IsHeld, HasPlane, HasPlanes, HasNoExtreme, AreInner, IsKept, KeepsExtremes, IsOuterPart}
 use Rattle.qh_surface.proofs.LiveFacets.{all_live, rest_live}
 
 -- ---- the planes of the live facets
@@ -72,22 +75,71 @@ rising_without (z ∷ xs) x ys h =
     rising_append (z ∷ []) (xs ++ ys) (λ k l. absurd (omega (arith, l))) (rising_without xs x ys (rising_tail z (xs ++ x ∷ ys) h))
     (λ u y m i. let above = rising_first z (xs ++ x ∷ ys) h y (wider xs x ys y i) in grind (arith, m, above))
 
--- what is left with the ids that were not looked at is such a part without an inner id, too
-pub inner_goes : (pts : List Vector) (ids kept rest : List ℕ) (x : ℕ) → ¬ (Extreme (place pts) (Members ids) x)
-    → IsOuterPart pts ids (kept ++ x ∷ rest) → IsOuterPart pts ids (kept ++ rest)
-inner_goes pts ids kept rest x inner h = record {
+-- the front of a rising list rises
+rising_front : (xs ys : List ℕ) → IsStrictlyIncreasing (xs ++ ys) → IsStrictlyIncreasing xs
+rising_front xs ys h k l =
+    grind (arith, common_steps, h k (grind (arith, common_steps, l)), get_or_append_left xs ys 0 k, get_or_append_left xs ys 0 (k + 1), l)
+
+-- so does the back
+rising_back : (xs ys : List ℕ) → IsStrictlyIncreasing (xs ++ ys) → IsStrictlyIncreasing ys
+rising_back xs ys h k l =
+    let next : get_or (xs ++ ys) (length xs + k) 0 < get_or (xs ++ ys) (length xs + k + 1) 0 = h (length xs + k) (grind (arith, common_steps, l)) in
+    grind (arith, common_steps, next, get_or-append_right xs ys (length xs + k) 0, get_or-append_right xs ys (length xs + k + 1) 0, l)
+
+-- and the back is above the front
+rising_across : (xs ys : List ℕ) → IsStrictlyIncreasing (xs ++ ys) → (x y : ℕ) → In x xs → In y ys → x < y
+rising_across xs ys h x y m n =
+    let a = in_at xs x m in let b = in_at ys y n in let p = a.1 in let q = b.1 in
+    let step = rising_between (xs ++ ys) a.0 (length xs + b.0) h (grind (arith, p, q)) (grind (arith, common_steps, p, q)) in
+    grind (arith, step, get_or_append_left xs ys 0 a.0, get_or-append_right xs ys (length xs + b.0) 0, a.2, b.2, p, q)
+
+-- what is kept with the ids that were not looked at is kept without an id that is not extreme, too
+pub inner_goes : (pts : List Vector) (all ids kept rest : List ℕ) (x : ℕ) → ¬ (Extreme (place pts) (Members all) x)
+    → IsKept pts all ids (kept ++ x ∷ rest) → IsKept pts all ids (kept ++ rest)
+inner_goes pts all ids kept rest x inner h = record {
   rising = λ r. rising_without kept x rest (h.rising r);
-  extremes = record {
-    within = λ i m. h.extremes.within i (wider kept x rest i m);
-    extremes = λ i e. in_append kept rest i (⊎_elim (λ m. inl m)
-        (λ m. ⊎_elim (λ q. absurd (inner (subst (Extreme (place pts) (Members ids)) q e))) (λ k. inr k) m)
-        (of_append kept (x ∷ rest) i (h.extremes.extremes i e)));
-  };
+  within = λ i m. h.within i (wider kept x rest i m);
+  extremes = λ i m e. in_append kept rest i (⊎_elim (λ k. inl k)
+      (λ k. ⊎_elim (λ q. absurd (inner (subst (Extreme (place pts) (Members all)) q e))) (λ n. inr n) k)
+      (of_append kept (x ∷ rest) i (h.extremes i m e)));
 }
 
--- all ids are such a part
-pub all_ids_left : (pts : List Vector) (ids : List ℕ) → IsOuterPart pts ids ids
-all_ids_left pts ids = record { rising = λ r. r; extremes = record { within = λ i m. m; extremes = λ i e. e.0 } }
+-- all ids are kept where none was looked at
+pub all_kept : (pts : List Vector) (cs : List Cell) (ids : List ℕ) → KeepsExtremes pts cs ids ids
+all_kept pts cs ids = record { each = λ all sub none. record { rising = λ r. r; within = λ i m. m; extremes = λ i m e. m } }
+
+-- an id of the set that a cell holds goes
+pub held_goes : (pts : List Vector) (cs : List Cell) (ids kept rest : List ℕ) (x : ℕ) (c : Cell) → In x ids → In c cs → IsHeld c (place pts x)
+    → KeepsExtremes pts cs ids (kept ++ x ∷ rest) → KeepsExtremes pts cs ids (kept ++ rest)
+held_goes pts cs ids kept rest x c member i held h = record {
+  each = λ all sub none. inner_goes pts all ids kept rest x
+      (All-In (HasNoExtreme pts all) cs c none i x (sub x member) held) (h.each all sub none);
+}
+
+-- what is kept of two parts is kept of both
+pub both_kept : (pts : List Vector) (cs : List Cell) (front back one two : List ℕ) → KeepsExtremes pts cs front one
+    → KeepsExtremes pts cs back two → KeepsExtremes pts cs (front ++ back) (one ++ two)
+both_kept pts cs front back one two a b = record { each = each }
+  where
+    each : (all : List ℕ) → ((i : ℕ) → In i (front ++ back) → In i all) → All (HasNoExtreme pts all) cs
+        → IsKept pts all (front ++ back) (one ++ two)
+    each all sub none =
+        let p = a.each all (λ i m. sub i (in_append front back i (inl m))) none in
+        let q = b.each all (λ i m. sub i (in_append front back i (inr m))) none in
+        record {
+          rising = λ r. rising_append one two (p.rising (rising_front front back r)) (q.rising (rising_back front back r))
+              (λ x y m n. rising_across front back r x y (p.within x m) (q.within y n));
+          within = λ i m. in_append front back i (⊎_elim (λ k. inl (p.within i k)) (λ k. inr (q.within i k)) (of_append one two i m));
+          extremes = λ i m e. in_append one two i (⊎_elim (λ k. inl (p.extremes i k e)) (λ k. inr (q.extremes i k e)) (of_append front back i m));
+        }
+
+-- what is kept of all ids of a set is a part with all its extreme ids
+pub kept_part : (pts : List Vector) (cs : List Cell) (ids kept : List ℕ) → All (HasNoExtreme pts ids) cs → KeepsExtremes pts cs ids kept
+    → IsOuterPart pts ids kept
+kept_part pts cs ids kept none h = let k = h.each ids (λ i m. m) none in record {
+  rising = k.rising;
+  extremes = record { within = k.within; extremes = λ i e. k.extremes i e.0 e };
+}
 
 -- a part of such a part is one: an id that is extreme among more points is extreme among fewer
 pub part_of_part : (pts : List Vector) (ids first second : List ℕ) → IsOuterPart pts ids first → IsOuterPart pts first second

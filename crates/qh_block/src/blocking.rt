@@ -21,6 +21,11 @@ pub(crate) const FILTER_FROM: usize = 50_000;
 /// saves.
 pub(crate) const FILTER_SAMPLE: usize = 2048;
 
+/// Threads share a phase of the filter where it goes over at least this many ids.
+///
+/// A thread is started in about the time in which another goes over some thousand ids.
+pub(crate) const SHARED_FROM: usize = 16_384;
+
 /// This many ids tell by the share of them that is extreme whether a division pays.
 ///
 /// Of fewer ids a large share is extreme in every set.

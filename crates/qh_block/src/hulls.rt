@@ -13,10 +13,12 @@ use crate::bodies::{flat_body, polygon_of};
 use crate::flat_sets::{polygon_hull, segment_hull};
 use crate::id_set::IdSet;
 use crate::inner_points::outer_ids;
+use crate::inner_points::sieves::{Alone, InThreads};
 use crate::solids::{solid_body, solid_extremes, solid_mesh};
 use qh_model::{Body, Id, Memory, Point};
 use qh_plane::{Shape, rank};
 use std::alloc::Global;
+use std::thread::Threads;
 
 /// The extreme ids of a set, rising, by a run over all of its ids.
 fn extremes_of_all(alloc: Global, set: IdSet) -> Result<Vec<Id>, Memory>
@@ -47,8 +49,8 @@ fn hull_of_all(alloc: Global, set: IdSet) -> Result<Body, Memory>
     }
 }
 
-/// The ids of a large set but some that one look finds inside, strictly between others; none where no
-/// look pays: the set is small, or few points are inside, or the look itself finds few.
+/// Returns the ids of a large set but those that the interior filter finds strictly inside, by at most so
+/// many threads; `None` where no filter pays: the set is small, or the sample says that few ids are inside.
 ///
 /// `ids` has at least one id, each the index of one of the points. What is left has all extreme ids, so
 /// its hull is that of the set, and rises where `ids` does.
@@ -56,7 +58,13 @@ fn hull_of_all(alloc: Global, set: IdSet) -> Result<Body, Memory>
 /// # Errors
 ///
 /// `Memory` where memory was refused.
-pub fn outer(alloc: Global, pts: &[Point], ids: &[Id]) -> Result<Option<Vec<Id>>, Memory>
+pub fn outer<R: Threads + Sync>(
+    rt: &R,
+    alloc: Global,
+    pts: &[Point],
+    ids: &[Id],
+    threads: u32,
+) -> Result<Option<Vec<Id>>, Memory>
     requires some { 0 < length ids.now }
     requires indices { AreIndices pts.now ids.now }
     ensures some { IfOk result (λ found. IfSome found (λ v. 0 < length v.items)) }
@@ -64,7 +72,11 @@ pub fn outer(alloc: Global, pts: &[Point], ids: &[Id]) -> Result<Option<Vec<Id>>
     ensures within { IfOk result (λ found. IfSome found (λ v. (i : ℕ) → In i v.items → In i ids.now)) }
     ensures extremes { IfOk result (λ found. IfSome found (λ v. (i : ℕ) → Extreme (place pts.now) (Members ids.now) i → In i v.items)) }
 {
-    outer_ids(alloc, IdSet { pts, ids })
+    let sieve = InThreads {
+        rt,
+        threads: threads as usize,
+    };
+    outer_ids(&sieve, alloc, IdSet { pts, ids })
 }
 
 /// The extreme ids of a set, as [`extremes`] gives them, by a run over all of its ids: for a set that
@@ -97,7 +109,7 @@ pub fn extremes(alloc: Global, pts: &[Point], ids: &[Id]) -> Result<Vec<Id>, Mem
     ensures { IfOk result (λ v. IsIdSet pts.now ids.now → AreExtremes (place pts.now) (Members ids.now) v.items) }
 {
     let set = IdSet { pts, ids };
-    match outer_ids(alloc, set)? {
+    match outer_ids(&Alone, alloc, set)? {
         Some(outer) => extremes_of_all(alloc, IdSet { pts, ids: &outer }),
         None => extremes_of_all(alloc, set),
     }
@@ -123,7 +135,7 @@ pub fn hull(alloc: Global, pts: &[Point], ids: &[Id]) -> Result<Body, Memory>
     ensures { IfOk result (λ b. IsIdSet pts.now ids.now → IsBody (place pts.now) (Members ids.now) b) }
 {
     let set = IdSet { pts, ids };
-    match outer_ids(alloc, set)? {
+    match outer_ids(&Alone, alloc, set)? {
         Some(outer) => hull_of_all(alloc, IdSet { pts, ids: &outer }),
         None => hull_of_all(alloc, set),
     }

@@ -7,21 +7,22 @@
 //! Of a very large set a first round leaves many points. A sample of these lies near the surface
 //! of the hull, so a second round leaves few.
 ghost use Rattle.std.specs.Prelude.{◌<◌, IfOk, IfSome, length};
-ghost use Rattle.std.specs.List.{All};
-ghost use Rattle.qh_block.specs.steps.InnerPoints.{HasNoExtreme, IsOuterPart};
+ghost use Rattle.qh_block.specs.steps.InnerPoints.{IsOuterPart};
 
 mod bounds;
 mod cells;
 mod columns;
 mod sample;
+pub mod sieves;
 
 use crate::blocking::{FILTER_FROM, FILTER_SAMPLE, filter_pays};
 use crate::id_set::IdSet;
 use crate::inner_points::columns::Columns;
 use crate::inner_points::sample::{inner_columns, one_of};
+use crate::inner_points::sieves::Sieve;
 use qh_model::{Id, Memory};
 use qh_pred::point_at;
-use std::alloc::{AllocError, Global};
+use std::alloc::Global;
 
 /// Whether at least half of the ids lie in the columns, so that it pays to look at all.
 fn hold_most(sample: IdSet, columns: &Columns) -> bool {
@@ -34,23 +35,10 @@ fn hold_most(sample: IdSet, columns: &Columns) -> bool {
     filter_pays(held, sample.ids.len())
 }
 
-/// The ids that the columns don't hold.
-fn ids_outside(alloc: Global, set: IdSet, columns: &Columns) -> Result<Vec<Id>, AllocError>
-    requires { All (HasNoExtreme set.pts.now set.ids.now) columns.now.cells.items }
-    ensures { IfOk result (λ v. IsOuterPart set.entry.pts.now set.entry.ids.now v.items) }
-{
-    let mut kept = Vec::new(alloc);
-    for id in set.ids {
-        if !columns.hold(point_at(set.pts, *id)) {
-            kept.push(*id)?;
-        }
-    }
-    Ok(kept)
-}
-
 /// The ids of a large set but those that one round finds inside; none where no round pays.
-fn outer_ids_once(alloc: Global, set: IdSet) -> Result<Option<Vec<Id>>, Memory>
+fn outer_ids_once<S: Sieve>(sieve: &S, alloc: Global, set: IdSet) -> Result<Option<Vec<Id>>, Memory>
     requires some { 0 < length set.ids.now }
+    requires ready { S.ready sieve.now }
     ensures some { IfOk result (λ found. IfSome found (λ v. 0 < length v.items)) }
     ensures part { IfOk result (λ found. IfSome found (λ v. IsOuterPart set.entry.pts.now set.entry.ids.now v.items)) }
 {
@@ -66,7 +54,7 @@ fn outer_ids_once(alloc: Global, set: IdSet) -> Result<Option<Vec<Id>>, Memory>
     if !hold_most(sampled, &columns) {
         return Ok(None);
     }
-    let outer = ids_outside(alloc, set, &columns)?;
+    let outer = sieve.outside(alloc, set, &columns)?;
     if outer.is_empty() {
         return Ok(None);
     }
@@ -75,19 +63,20 @@ fn outer_ids_once(alloc: Global, set: IdSet) -> Result<Option<Vec<Id>>, Memory>
 
 /// The ids of a large set but those that are found inside, in two rounds; none where the first does not
 /// pay.
-pub fn outer_ids(alloc: Global, set: IdSet) -> Result<Option<Vec<Id>>, Memory>
+pub fn outer_ids<S: Sieve>(sieve: &S, alloc: Global, set: IdSet) -> Result<Option<Vec<Id>>, Memory>
     requires some { 0 < length set.ids.now }
+    requires ready { S.ready sieve.now }
     ensures some { IfOk result (λ found. IfSome found (λ v. 0 < length v.items)) }
     ensures part { IfOk result (λ found. IfSome found (λ v. IsOuterPart set.entry.pts.now set.entry.ids.now v.items)) }
 {
-    let Some(first) = outer_ids_once(alloc, set)? else {
+    let Some(first) = outer_ids_once(sieve, alloc, set)? else {
         return Ok(None);
     };
     let left = IdSet {
         pts: set.pts,
         ids: &first,
     };
-    match outer_ids_once(alloc, left)? {
+    match outer_ids_once(sieve, alloc, left)? {
         Some(second) => Ok(Some(second)),
         None => Ok(Some(first)),
     }

@@ -7,6 +7,7 @@ use crate::job::Job;
 use qh_block::outer;
 use qh_model::{Cut, Id, Memory};
 use std::alloc::{AllocError, Global};
+use std::thread::Threads;
 
 /// The ids of a job that the interior filter keeps, and the job's blocks without the others.
 #[derive(Drop)]
@@ -39,17 +40,23 @@ fn bounds_among(alloc: Global, job: &Job, left: &[Id]) -> Result<Vec<u32>, Alloc
     Ok(bounds)
 }
 
-/// Filters a job: returns what is left of its ids and blocks, or `None` where no filter pays.
+/// Filters a job by at most so many threads: returns what is left of its ids and blocks, or `None` where
+/// no filter pays.
 ///
 /// # Errors
 ///
 /// `Memory` if an allocation failed.
-pub(crate) fn without_interior(alloc: Global, job: &Job) -> Result<Option<FilteredJob>, Memory>
+pub(crate) fn without_interior<R: Threads + Sync>(
+    rt: &R,
+    alloc: Global,
+    job: &Job,
+    threads: u32,
+) -> Result<Option<FilteredJob>, Memory>
     requires { 0 < length job.now.ids.now }
     ensures part { IfOk result (λ found. IfSome found (λ c. StandsFor job.now.pts.now job.now.ids.now c.ids.items)) }
     ensures some { IfOk result (λ found. IfSome found (λ c. 0 < length c.ids.items)) }
 {
-    let Some(ids) = outer(alloc, job.pts, job.ids)? else {
+    let Some(ids) = outer(rt, alloc, job.pts, job.ids, threads)? else {
         return Ok(None);
     };
     let bounds = bounds_among(alloc, job, &ids)?;

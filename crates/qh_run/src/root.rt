@@ -81,7 +81,7 @@ pub(crate) fn extremes_by_tree<R: Threads + Sync, G: Gate>(
     requires workers { 0 < workers }
     ensures { IfSome result (λ found. StandsFor job.entry.pts.now job.entry.ids.now found.ids.items) }
 {
-    match without_interior(alloc, &job) {
+    match without_interior(rt, alloc, &job, workers) {
         Ok(Some(part)) => {
             let left = Job {
                 pts: job.pts,

@@ -55,6 +55,16 @@ HasNoExtreme pts ids c = (i : ℕ) → In i ids → IsHeld c (place pts i) → �
 abbrev pub AreInner : List Vector → List ℕ → List Cell → Type 0
 AreInner pts sample cs = (ids : List ℕ) → ((i : ℕ) → In i sample → In i ids) → All (HasNoExtreme pts ids) cs
 
+-- what is kept of some ids of a set, in their order: all of them that are extreme in the set
+pub record IsKept (pts : List Vector) (all ids kept : List ℕ) : Type 0 where
+  pub rising : IsStrictlyIncreasing ids → IsStrictlyIncreasing kept
+  pub within : (i : ℕ) → In i kept → In i ids
+  pub extremes : (i : ℕ) → In i ids → Extreme (place pts) (Members all) i → In i kept
+
+-- so it is for each set that has the ids, and none of whose extreme ids the cells hold
+pub record KeepsExtremes (pts : List Vector) (cs : List Cell) (ids kept : List ℕ) : Type 0 where
+  pub each : (all : List ℕ) → ((i : ℕ) → In i ids → In i all) → All (HasNoExtreme pts all) cs → IsKept pts all ids kept
+
 -- a part of a set with all its extreme ids, rising where the set does
 pub record IsOuterPart (pts : List Vector) (ids part : List ℕ) : Type 0 where
   pub rising : IsStrictlyIncreasing ids → IsStrictlyIncreasing part

@@ -7,13 +7,13 @@ use Rattle.qh_block.proofs.InnerPoints.{part_of_part}
 use Rattle.qh_block.proofs.inner_points.outer_ids.Goals as goal
 
 pub invariant_of-left : goal.invariant_of-left
-invariant_of-left c =
+invariant_of-left g c =
     let pts = c.args.set.pts.now in let ids = c.args.set.ids.now in let first = c.in-Some.first.items in
     let part = rw c.in-Some.is at c.in_ok-first.ensures.part in
     record { indices = subst (AreIndices pts) (sym c.deref.ensures.value) (part_indices pts ids first c.args.set.indices part.extremes.within) }
 
 pub returns-in-Some-2-clause-part : goal.returns-in-Some-2-clause-part
-returns-in-Some-2-clause-part c =
+returns-in-Some-2-clause-part g c =
     let pts = c.args.set.pts.now in let ids = c.args.set.ids.now in let first = c.in-Some.first.items in
     let one = rw c.in-Some.is at c.in_ok-first.ensures.part in
     part_of_part pts ids first c.in-Some-2.second.items one

@@ -8,14 +8,14 @@ use Rattle.qh_model.proofs.lists.OnceEach.{once_within}
 use Rattle.qh_run.proofs.filtered.without_interior.Goals as goal
 
 pub bounds_among-requires-clause-few : goal.bounds_among-requires-clause-few
-bounds_among-requires-clause-few c =
+bounds_among-requires-clause-few g c =
     let job = c.args.job.now in
     let rising = (rw (c.in-Some.is) at c.in_ok-ids.ensures.rising) job.rising in
     let no_longer = once_within c.in-Some.ids.items job.ids.now (rising_once c.in-Some.ids.items rising) (rw (c.in-Some.is) at c.in_ok-ids.ensures.within) in
     subst (λ n. n ≤ positions job.cut.now) (sym (ap length c.deref.ensures.value)) (subst (λ n. length c.in-Some.ids.items ≤ n) (sym job.whole) no_longer)
 
 pub returns-in-Ok-clause-part : goal.returns-in-Ok-clause-part
-returns-in-Ok-clause-part c =
+returns-in-Ok-clause-part g c =
     let job = c.args.job.now in
     let within = rw (c.in-Some.is) at c.in_ok-ids.ensures.within in
     record {

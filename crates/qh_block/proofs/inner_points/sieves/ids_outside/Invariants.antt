@@ -1,0 +1,8 @@
+-- The ids kept so far and those to come have all extreme ids.
+use Rattle.std.proofs.Common.{◌++◌, drop}
+use Rattle.qh_block.specs.steps.InnerPoints.{KeepsExtremes}
+use Rattle.qh_block.proofs.inner_points.sieves.ids_outside.Given as goal
+
+abbrev pub invariant-loop-id : goal.invariant-loop-id
+invariant-loop-id l =
+    KeepsExtremes l.set.pts.now l.columns.cells.items l.set.ids.now (l.kept.items ++ drop l.id-index l.set.ids.now)

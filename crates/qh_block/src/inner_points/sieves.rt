@@ -1,0 +1,126 @@
+//! Who sorts out the ids that columns hold: the calling thread alone, or threads side by side.
+ghost use Rattle.std.specs.Prelude.{◌≡◌, ◌*◌, ◌≤◌, ◌<◌, ℕ, IfOk, Result, Vec, take, drop, length, slice_index_or};
+ghost use Rattle.std.specs.Thread.{IsSync};
+ghost use Rattle.qh_block.specs.steps.InnerPoints.{KeepsExtremes};
+
+use crate::blocking::SHARED_FROM;
+use crate::id_set::IdSet;
+use crate::inner_points::columns::Columns;
+use qh_model::Id;
+use qh_pred::point_at;
+use std::alloc::{AllocError, Global};
+use std::thread::{self, Threads};
+
+/// A way to go over the ids of a set.
+pub trait Sieve {
+    /// What is known of one that goes over ids.
+    ghost ready: { Self → Type 0 };
+
+    /// The ids that the columns don't hold, in their order.
+    fn outside(&self, alloc: Global, set: IdSet, columns: &Columns) -> Result<Vec<Id>, AllocError>
+        requires { ready self.now }
+        ensures { IfOk result (λ v. KeepsExtremes set.entry.pts.now columns.now.cells.items set.entry.ids.now v.items) };
+}
+
+/// The ids that the columns don't hold, in their order, by the calling thread.
+fn ids_outside(alloc: Global, set: IdSet, columns: &Columns) -> Result<Vec<Id>, AllocError>
+    ensures { IfOk result (λ v. KeepsExtremes set.entry.pts.now columns.now.cells.items set.entry.ids.now v.items) }
+{
+    let mut kept = Vec::new(alloc);
+    for id in set.ids {
+        if !columns.hold(point_at(set.pts, *id)) {
+            kept.push(*id)?;
+        }
+    }
+    Ok(kept)
+}
+
+/// The part with a number, where a set is cut into parts of so many ids; the last may be shorter, and
+/// there is nothing past it.
+fn part_at(set: IdSet, size: usize, number: usize) -> IdSet
+    ensures points { result.pts.now ≡ set.entry.pts.now }
+    ensures ids { result.ids.now ≡ take size (drop (number * size) set.entry.ids.now) }
+{
+    let from = number.saturating_mul(size).min(set.ids.len());
+    let (_, rest) = set.ids.split_at(from);
+    let (part, _) = rest.split_at(size.min(rest.len()));
+    IdSet {
+        pts: set.pts,
+        ids: part,
+    }
+}
+
+/// What was kept of the parts of a set, one after the other.
+fn joined(
+    alloc: Global,
+    set: IdSet,
+    columns: &Columns,
+    parts: &[Result<Vec<Id>, AllocError>],
+    size: usize,
+) -> Result<Vec<Id>, AllocError>
+    requires parts { (i : ℕ) (d : Result (Vec Id Global) AllocError) → i < length parts.now → IfOk (slice_index_or parts.now i d)
+        (λ v. KeepsExtremes set.pts.now columns.now.cells.items (take size (drop (i * size) set.ids.now)) v.items) }
+    requires all { length set.ids.now ≤ length parts.now * size }
+    ensures { IfOk result (λ v. KeepsExtremes set.entry.pts.now columns.now.cells.items set.entry.ids.now v.items) }
+{
+    let mut kept = Vec::new(alloc);
+    for part in parts {
+        match part {
+            Ok(ids) => kept.extend_from_slice(ids)?,
+            Err(error) => return Err(*error),
+        }
+    }
+    Ok(kept)
+}
+
+/// The ids that the columns don't hold, in their order, by as many threads, each at a part of the ids.
+fn ids_outside_in_threads<R: Threads + Sync>(
+    rt: &R,
+    alloc: Global,
+    set: IdSet,
+    columns: &Columns,
+    threads: usize,
+) -> Result<Vec<Id>, AllocError>
+    ensures { IfOk result (λ v. KeepsExtremes set.entry.pts.now columns.now.cells.items set.entry.ids.now v.items) }
+{
+    if threads < 2 || set.ids.len() < SHARED_FROM {
+        return ids_outside(alloc, set, columns);
+    }
+    let size = set.ids.len() / threads + 1;
+    let parts = thread::map_indices(
+        rt,
+        alloc,
+        threads,
+        &move |number: usize| -> Result<Vec<Id>, AllocError>
+            ensures { IfOk result (λ v. KeepsExtremes set.entry.pts.now columns.entry.now.cells.items (take size (drop (number * size) set.entry.ids.now)) v.items) }
+        { ids_outside(alloc, part_at(set, size, number), columns) },
+    )?;
+    joined(alloc, set, columns, &parts, size)
+}
+
+/// The calling thread alone.
+#[derive(Clone, Copy, Debug)]
+pub struct Alone;
+
+impl Sieve for Alone {
+    ghost ready = { λ _. Unit {0} };
+
+    fn outside(&self, alloc: Global, set: IdSet, columns: &Columns) -> Result<Vec<Id>, AllocError> {
+        ids_outside(alloc, set, columns)
+    }
+}
+
+/// At most so many threads of a runtime.
+#[derive(Clone, Copy, Debug)]
+pub struct InThreads<'a, R> {
+    pub rt: &'a R,
+    pub threads: usize,
+}
+
+impl<R: Threads + Sync> Sieve for InThreads<'_, R> {
+    ghost ready = { λ _. IsSync R.row };
+
+    fn outside(&self, alloc: Global, set: IdSet, columns: &Columns) -> Result<Vec<Id>, AllocError> {
+        ids_outside_in_threads(self.rt, alloc, set, columns, self.threads)
+    }
+}
