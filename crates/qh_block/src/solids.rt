@@ -1,11 +1,15 @@
 //! The finished mesh of a solid set, and its hull from it.
 ghost use Rattle.std.specs.Prelude.{◌≡◌, ◌↔◌, ℕ, List, IfOk, length};
 ghost use Rattle.std.specs.List.Sorted.{IsStrictlyIncreasing};
-ghost use Rattle.qh_model.specs.contract.IdSets.{AreIndices, IsIdSet};
+ghost use Rattle.qh_model.specs.contract.ClosedPolygons.{AreClosedFaces};
+ghost use Rattle.qh_model.specs.contract.IdSets.{AreIndices, HasDistinctPoints, IsIdSet};
 ghost use Rattle.qh_model.specs.contract.FinishedSurface.{IsFinished};
+ghost use Rattle.qh_model.specs.headline.Dimension.{IsDimension};
 ghost use Rattle.qh_model.specs.headline.Hull.{AreExtremes, IsBody};
+ghost use Rattle.qh_model.specs.headline.Polygons.{RiseStrictly};
 ghost use Rattle.qh_model.specs.headline.Predicates.{place};
 ghost use Rattle.qh_model.specs.headline.Sets.{In, Once, Members};
+ghost use Rattle.qh_model.specs.headline.Vector.{Vector};
 ghost use Rattle.qh_model.specs.contract.StoredSurface.{surface_of};
 ghost use Rattle.qh_plane.specs.contract.Shapes.{IsInLine, IsInPlane, IsFirstNot, AreFirstTwo};
 ghost use Rattle.qh_block.specs.steps.Faces.{all_members};
@@ -70,15 +74,20 @@ pub fn solid_extremes(alloc: Global, pts: &[Point], surface: &NamedMesh) -> Resu
     Ok(extremes)
 }
 
-/// The hull of a set with a finished mesh.
-pub fn solid_body(alloc: Global, pts: &[Point], surface: &NamedMesh) -> Result<Body, Memory>
-    requires { IsNamedMesh pts.now surface.now }
-    ensures { IfOk result (λ b. (ids : List ℕ) → IsIdSet pts.now ids → IsFinished (place pts.now) ids (surface_of (named surface.now))
-        → IsBody (place pts.now) (Members ids) b) }
+/// The hull of a solid set, from its faces in rising lexicographic order.
+///
+/// The caller promises that the polygons are faces of the set, one at least, and that they close up: each
+/// step from a corner to the next is taken as often as the step back. Then they are all faces of the set
+/// (`laws::closed_faces_are_hull`).
+///
+/// # Errors
+///
+/// `Memory` where an allocation failed.
+pub fn body_of_faces(alloc: Global, polygons: Vec<Polygon>) -> Result<Body, Memory>
+    ensures { IfOk result (λ b. (at : ℕ → Vector) (ids : List ℕ) → HasDistinctPoints at (Members ids) → IsDimension at (Members ids) 3
+        → AreClosedFaces at (Members ids) polygons.items → RiseStrictly polygons.items → IsBody at (Members ids) b) }
 {
-    let polygons = faces(alloc, pts, surface)?;
     let extremes = corners(alloc, &polygons)?;
-    let polygons = sort_faces(alloc, polygons)?;
     let edges = edge_count(&polygons)?;
     Ok(Body {
         dim: 3,
@@ -86,4 +95,15 @@ pub fn solid_body(alloc: Global, pts: &[Point], surface: &NamedMesh) -> Result<B
         polygons,
         edges,
     })
+}
+
+/// The hull of a set with a finished mesh.
+pub fn solid_body(alloc: Global, pts: &[Point], surface: &NamedMesh) -> Result<Body, Memory>
+    requires { IsNamedMesh pts.now surface.now }
+    ensures { IfOk result (λ b. (ids : List ℕ) → IsIdSet pts.now ids → IsFinished (place pts.now) ids (surface_of (named surface.now))
+        → IsBody (place pts.now) (Members ids) b) }
+{
+    let polygons = faces(alloc, pts, surface)?;
+    let polygons = sort_faces(alloc, polygons)?;
+    body_of_faces(alloc, polygons)
 }

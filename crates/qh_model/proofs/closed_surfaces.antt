@@ -1,4 +1,6 @@
--- Closed surfaces: sums over edges, the signed volume, and the cancellation of separators.
+-- Closed surfaces: sums over edges, the signed volume, the cancellation of separators, and supporting triangles.
 pub mod Sums
 pub mod SignedVolume
 pub mod Cancellation
+pub mod Beyond
+pub mod Supporting

@@ -7,3 +7,5 @@ pub mod PlaneTurns
 pub mod Edges
 pub mod Fans
 pub mod EdgeCounts
+pub mod ClosedFaces
+pub mod Steps

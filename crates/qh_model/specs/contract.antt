@@ -1,6 +1,7 @@
 -- What else the contracts of public functions cite.
 pub mod BoardMachine
 pub mod Bodies
+pub mod ClosedPolygons
 pub mod ClosedSurface
 pub mod Cut
 pub mod FinishedSurface

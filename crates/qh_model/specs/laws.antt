@@ -1,5 +1,6 @@
 -- The laws: what follows from the definitions.
 pub mod BoardLaws
+pub mod ClosedFaceLaws
 pub mod ClosedSurfaceLaws
 pub mod CombinationLaws
 pub mod CompletenessLaws

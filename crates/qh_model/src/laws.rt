@@ -3,6 +3,7 @@
 //! A law takes nothing and does nothing; a proof that needs it calls for the theorem by its name.
 
 mod board;
+mod closed_faces;
 mod closed_surfaces;
 mod combinations;
 mod completeness;
@@ -18,6 +19,7 @@ mod round_trips;
 mod surfaces;
 
 pub use board::{board_core, spans_share_blocks};
+pub use closed_faces::{closed_faces_are_hull, closed_triangles_miss_nothing};
 pub use closed_surfaces::{closed_surface_encloses, sound_surface_closes};
 pub use combinations::combination_or_separator;
 pub use completeness::{finished_surface_is_hull, nothing_is_missed, planes_hang_together};

@@ -3,7 +3,7 @@
 //!
 //! `quickhull` makes it, over positions of the points, and `named_mesh` tells the ids of its corners. `walk`
 //! finds the triangles that pass a test and hang together: those that a point sees, or, above this crate, those of
-//! one plane.
+//! one plane. [`morton_order`] puts the ids of near points near each other, for any work over many points.
 #![tactic(auto)]
 
 mod named_mesh;
@@ -11,4 +11,4 @@ mod quickhull;
 pub mod walk;
 
 pub use named_mesh::NamedMesh;
-pub use quickhull::{Simplex, plane_of, surface, surface_from};
+pub use quickhull::{Simplex, ends_of, morton_order, plane_of, surface, surface_from};

@@ -29,6 +29,8 @@ mod surfaces;
 mod tests;
 mod walk;
 
+pub use ends::ends_of;
 pub use far_simplex::Simplex;
+pub use near_order::morton_order;
 pub use planes::plane_of;
 pub use surfaces::{surface, surface_from};

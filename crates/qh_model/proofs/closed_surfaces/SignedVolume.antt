@@ -29,7 +29,7 @@ edge_tests = record {
     pair_is a b c d p q = rw (p, q) refl
 
 -- turning one edge or the other
-is_edge-back : (e f : ℕ × ℕ) → is_edge e (back f) ≡ is_edge (back e) f
+pub is_edge-back : (e f : ℕ × ℕ) → is_edge e (back f) ≡ is_edge (back e) f
 is_edge-back e f = swap (eqb e.0 f.1) (eqb e.1 f.0)
   where
     swap : (a b : Bool) → (a && b) ≡ (b && a)

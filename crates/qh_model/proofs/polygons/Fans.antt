@@ -79,7 +79,7 @@ fan_members (a ∷ b ∷ c ∷ r) t m i h = go (triangle_along a b (c ∷ r) t m
 -- ---- the fans of faces
 module _ (at : ℕ → Vector) (ids : List ℕ) (d : HasDistinctPoints at (Members ids)) (i j k : ℕ) (triple : IsSupportingTriple at (Members ids) i j k) where
   -- a face has three corners or more, so its fan has triangles alone
-  face_fan : (q t : List ℕ) → IsFacePolygon at (Members ids) i j k q → In t (fan q) → IsSupportingTriangle at (Members ids) t
+  pub face_fan : (q t : List ℕ) → IsFacePolygon at (Members ids) i j k q → In t (fan q) → IsSupportingTriangle at (Members ids) t
   face_fan [] t p m = absurd (none (planes_of_extremes at ids d i j k triple))
     where
       none : SpannedByExtremes at (Members ids) i j k → ⊥

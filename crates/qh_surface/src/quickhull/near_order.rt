@@ -94,11 +94,13 @@ fn ids_of(alloc: Global, keys: Vec<u64>) -> Result<Vec<Id>, AllocError>
         .collect(alloc)
 }
 
-/// The ids in the order of the cells of their points. The ends are those of the set along the three axes
-/// (`ends_of`).
+/// Orders ids along a Morton curve through their points, so that the ids of near points stand near each
+/// other. The ends are those of the set along the three axes ([`ends_of`](crate::ends_of)).
 ///
-/// `Err` says that memory was refused.
-pub fn near_order(
+/// # Errors
+///
+/// `Memory` where an allocation failed.
+pub fn morton_order(
     alloc: Global,
     pts: &[Point],
     ids: &[Id],

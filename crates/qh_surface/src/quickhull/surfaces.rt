@@ -18,7 +18,7 @@ ghost use Rattle.qh_surface.specs.steps.Positions.{IsPositionOf, ArePositionsOf}
 use crate::named_mesh::NamedMesh;
 use crate::quickhull::ends::ends_of;
 use crate::quickhull::far_simplex::{Simplex, far_simplex};
-use crate::quickhull::near_order::near_order;
+use crate::quickhull::near_order::morton_order;
 use crate::quickhull::run::Run;
 use qh_mesh::Mesh;
 use qh_model::{Id, Memory, Point};
@@ -137,7 +137,7 @@ pub fn surface_from(
     if ids.len() < LARGE {
         return surface_along(alloc, pts, Vec::from_slice(alloc, ids)?, far);
     }
-    let near = near_order(alloc, pts, ids, &ends)?;
+    let near = morton_order(alloc, pts, ids, &ends)?;
     surface_along(alloc, pts, near, far)
 }
 

@@ -4,7 +4,7 @@ ghost use Rattle.qh_model.specs.contract.IdSets.{AreIndices};
 
 use super::{LIMIT, point};
 use crate::quickhull::ends::ends_of;
-use crate::quickhull::near_order::near_order;
+use crate::quickhull::near_order::morton_order;
 use qh_model::{Id, Memory, Point};
 use std::alloc::Global;
 use std::test::Fail;
@@ -46,7 +46,7 @@ fn ordered(alloc: Global, pts: &[Point], numbers: &[u32]) -> Result<Vec<Id>, Mem
     if ids.is_empty() {
         return Ok(ids);
     }
-    near_order(alloc, pts, &ids, &ends_of(pts, &ids))
+    morton_order(alloc, pts, &ids, &ends_of(pts, &ids))
 }
 
 /// A place on an axis. The point opposite it comes first, the middle of both then.

@@ -2,7 +2,7 @@
 use Rattle.std.proofs.Common.{ℕ, List, map, sym, subst, IsPermutation}
 use Rattle.std.proofs.lemmas.List.Sorted.{IsPermutation-map}
 use Rattle.qh_surface.specs.steps.NearOrder.{id_of}
-use Rattle.qh_surface.proofs.quickhull.near_order.near_order.Goals as goal
+use Rattle.qh_surface.proofs.quickhull.near_order.morton_order.Goals as goal
 
 pub returns : goal.returns
 returns c = subst (λ (v : List ℕ). IsPermutation c.args.ids.now v) (sym c.in_ok-ids_of.ensures)

@@ -1,0 +1,104 @@
+-- The first three corners of a face are a supporting triple with this face, so a fault of a polygon shows that it is none.
+use Rattle.std.proofs.Common.{ℕ, ◌≡◌, ◌≢◌, inl, inr, refl, sym, subst, ◌∙◌, List, [], ◌∷◌}
+use Rattle.std.specs.Prelude.{pos, ◌<ℤ◌}
+use Rattle.qh_model.specs.headline.Vector.{Vector}
+use Rattle.qh_model.specs.headline.Predicates.{cross, vol, left}
+use Rattle.qh_model.specs.headline.Sets.{In, Members}
+use Rattle.qh_model.specs.headline.SupportingPlane.{IsSupportingTriple}
+use Rattle.qh_model.specs.headline.Polygons.{IsFacePolygon}
+use Rattle.qh_model.specs.contract.ClosedPolygons.{IsFace}
+use Rattle.qh_model.specs.contract.IdSets.{HasDistinctPoints}
+use Rattle.qh_model.specs.laws.FanLaws.{IsSupportingTriangle}
+use Rattle.qh_model.proofs.algebra.Signs.{not_less}
+use Rattle.qh_model.proofs.algebra.VectorIdentities.{left-turn}
+use Rattle.qh_model.proofs.polygons.Edges.{seen_from}
+use Rattle.qh_model.proofs.polygons.Fans.{corners_support, face_fan}
+use Rattle.qh_model.proofs.polygons.PlaneTurns.{level_along}
+use Rattle.qh_check.specs.declared.verdict.FaceFault.{FaceFault}
+use Rattle.qh_check.specs.declared.verdict.FaceFault.TheVariants.{NoPlane, Above, OtherFace}
+use Rattle.qh_check.specs.contract.Claims.{BeginsWith, IsFaceFault}
+
+-- the three are a supporting triple whose polygon is q
+abbrev HasFace : (ℕ → Vector) → (ℕ → Type 0) → List ℕ → (i j k : ℕ) → Type 0
+HasFace at A q i j k = IsSupportingTriple at A i j k × IsFacePolygon at A i j k q
+
+-- the first three corners, with their plane
+record FirstCorners (at : ℕ → Vector) (A : ℕ → Type 0) (q : List ℕ) : Type 0 where
+  i : ℕ
+  j : ℕ
+  k : ℕ
+  rest : List ℕ
+  is : q ≡ i ∷ j ∷ k ∷ rest
+  face : HasFace at A q i j k
+
+module _ (at : ℕ → Vector) (ids : List ℕ) (d : HasDistinctPoints at (Members ids)) (u v w : ℕ)
+    (plane : IsSupportingTriple at (Members ids) u v w) where
+  corners_of : (q : List ℕ) → IsFacePolygon at (Members ids) u v w q → FirstCorners at (Members ids) q
+  corners_of [] p = go (face_fan at ids d u v w plane [] [] p (inl refl))
+    where
+      go : IsSupportingTriangle at (Members ids) [] → FirstCorners at (Members ids) []
+      go (a, b, c, e, s) = cc
+  corners_of (i ∷ []) p = go (face_fan at ids d u v w plane (i ∷ []) (i ∷ []) p (inl refl))
+    where
+      go : IsSupportingTriangle at (Members ids) (i ∷ []) → FirstCorners at (Members ids) (i ∷ [])
+      go (a, b, c, e, s) = cc
+  corners_of (i ∷ j ∷ []) p = go (face_fan at ids d u v w plane (i ∷ j ∷ []) (i ∷ j ∷ []) p (inl refl))
+    where
+      go : IsSupportingTriangle at (Members ids) (i ∷ j ∷ []) → FirstCorners at (Members ids) (i ∷ j ∷ [])
+      go (a, b, c, e, s) = cc
+  corners_of (i ∷ j ∷ k ∷ r) p = record { i = i; j = j; k = k; rest = r; is = refl; face = (triple, own) }
+    where
+      not_j : i ≢ j
+      not_j e = p.once.0 (inl e)
+
+      not_k : i ≢ k
+      not_k e = p.once.0 (inr (inl e))
+
+      triple : IsSupportingTriple at (Members ids) i j k
+      triple =
+          corners_support at ids u v w (i ∷ j ∷ k ∷ r) plane p j k i (inr (inl (refl, refl))) (inl refl) not_j not_k
+
+      on : (l : ℕ) → In l (i ∷ j ∷ k ∷ r) → vol (at u) (at v) (at w) (at l) ≡ pos 0
+      on l m = ((p.members l).0 m).1
+
+      turn : pos 0 <ℤ left (cross (at u) (at v) (at w)) (at i) (at j) (at k)
+      turn =
+          subst (λ x. pos 0 <ℤ x) (sym (left-turn (cross (at u) (at v) (at w)) (at i) (at j) (at k)))
+          (p.round j k (inr (inl (refl, refl))) i (inl refl) not_j not_k)
+
+      own : IsFacePolygon at (Members ids) i j k (i ∷ j ∷ k ∷ r)
+      own =
+          let on_i = on i (inl refl) in let on_j = on j (inr (inl refl)) in let on_k = on k (inr (inr (inl refl))) in
+          let along = level_along (at u) (at v) (at w) (at i) (at j) (at k) plane.area on_i on_j on_k turn in
+          seen_from at (Members ids) u v w i j k (i ∷ j ∷ k ∷ r) p along on_i
+
+-- a face begins with three corners
+pub some_corners : (at : ℕ → Vector) (ids : List ℕ) → HasDistinctPoints at (Members ids) → (q : List ℕ)
+    → IsFace at (Members ids) q → (i j k : ℕ) × BeginsWith q i j k × HasFace at (Members ids) q i j k
+some_corners at ids d q (u, v, w, plane, p) =
+    let f = corners_of at ids d u v w plane q p in (f.i, f.j, f.k, (f.rest, f.is), f.face)
+
+-- and any three with which it begins are a supporting triple with this face
+pub corners_at : (at : ℕ → Vector) (ids : List ℕ) → HasDistinctPoints at (Members ids) → (q : List ℕ)
+    → IsFace at (Members ids) q → (i j k : ℕ) → BeginsWith q i j k → HasFace at (Members ids) q i j k
+corners_at at ids d q (u, v, w, plane, p) i j k (r, e) = go (corners_of at ids d u v w plane q p)
+  where
+    go : FirstCorners at (Members ids) q → HasFace at (Members ids) q i j k
+    go f = move f.i f.j f.k (cc (same)) (cc (same)) (cc (same)) f.face
+      where
+        same : (f.i ∷ f.j ∷ f.k ∷ f.rest) ≡ (i ∷ j ∷ k ∷ r)
+        same = sym f.is ∙ e
+
+        move : (a b c : ℕ) → a ≡ i → b ≡ j → c ≡ k → HasFace at (Members ids) q a b c → HasFace at (Members ids) q i j k
+        move a b c x y z s =
+            subst (λ n. HasFace at (Members ids) q i j n) z (subst (λ n. HasFace at (Members ids) q i n c) y
+            (subst (λ n. HasFace at (Members ids) q n b c) x s))
+
+-- so a polygon with a fault is no face
+pub no_face : (at : ℕ → Vector) (ids : List ℕ) → HasDistinctPoints at (Members ids) → (q : List ℕ) (fault : FaceFault)
+    → IsFaceFault at (Members ids) q fault → ¬ (IsFace at (Members ids) q)
+no_face at ids d q NoPlane h f =
+    let (i, j, k, b, s) = some_corners at ids d q f in s.0.area (h i j k b s.0.has_i s.0.has_j s.0.has_k)
+no_face at ids d q (Above l) (i, j, k, b, m, above) f =
+    let s = corners_at at ids d q f i j k b in not_less (pos 0) _ above (s.0.supports l m)
+no_face at ids d q OtherFace (i, j, k, b, s, other) f = other (corners_at at ids d q f i j k b).1

@@ -1,0 +1,11 @@
+pub mod BlockBoxes
+pub mod ClaimedFaces
+pub mod FaultCases
+pub mod FirstCorners
+pub mod FoundIds
+pub mod Listed
+pub mod OrderedPolygons
+pub mod PointBoxes
+pub mod SortedNumbers
+pub mod Steps
+pub mod Verdicts

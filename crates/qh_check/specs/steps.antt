@@ -1,0 +1,7 @@
+-- What private functions speak of: nothing to believe.
+pub mod Boxes
+pub mod Faces
+pub mod Levels
+pub mod Places
+pub mod StepKeys
+pub mod Verdicts

@@ -1,0 +1,24 @@
+//! A checker of hulls: whether polygons are the faces of a set of ids of distinct points, and what is wrong
+//! where they are not.
+//!
+//! Faces that close up are all faces (`qh_model::laws::closed_faces_are_hull`). So [`check`] looks at each
+//! polygon by itself, and counts the steps from corner to corner: each polygon has to be that of a
+//! supporting plane (`faces`), and each step has to be taken as often as the step back (`closed`). Nobody
+//! needs to know how the polygons were found.
+//!
+//! A plane asks few of the points: they stand along a Morton curve (`places`), with boxes over consecutive
+//! positions (`levels`, `boxes`), and a plane is above most boxes. `order` tells whether the polygons stand in
+//! lexicographic order.
+#![tactic(auto)]
+
+mod boxes;
+mod claims;
+mod closed;
+mod faces;
+mod levels;
+mod order;
+mod places;
+mod verdict;
+
+pub use claims::check;
+pub use verdict::{FaceFault, Verdict};

@@ -1,0 +1,279 @@
+-- Supporting triangles that close up miss no supporting plane and no extreme id: a point a little beyond the middle of
+-- a plane that they missed would be strictly below all of them.
+use Rattle.std.proofs.Common.{◌≡◌, ◌≢◌, ℕ, suc, ◌+◌, arith, refl, sym, ap, subst, ◌∙◌, ◌⊎◌, inl, inr, List, [], ◌∷◌}
+use Rattle.std.proofs.lemmas.Int.{ints, by_lt_z}
+use Rattle.std.specs.Prelude.{ℤ, pos, negsuc, ◌+ℤ◌, ◌-ℤ◌, ◌*ℤ◌, neg_ℤ, ◌≤ℤ◌, ◌<ℤ◌}
+use Rattle.qh_model.specs.headline.Vector.{Vector, minus, dot}
+use Rattle.qh_model.specs.headline.Predicates.{cross, vol, AreInLine}
+use Rattle.qh_model.specs.headline.Sets.{In, Members}
+use Rattle.qh_model.specs.headline.Combination.{Combination}
+use Rattle.qh_model.specs.headline.Extreme.{Others}
+use Rattle.qh_model.specs.headline.SupportingPlane.{IsSupportingTriple}
+use Rattle.qh_model.specs.contract.ClosedSurface.{Triple, IsClosedSurface}
+use Rattle.qh_model.specs.laws.Separator.{Separator}
+use Rattle.qh_model.specs.laws.FaceLaws.{IsAlong}
+use Rattle.qh_model.specs.laws.ClosedSurfaceLaws.{IsCornerOf}
+use Rattle.qh_model.specs.laws.ClosedFaceLaws.{AreSupporting, TriangleOfPlane, ClosedMissNoPlane, ClosedMissNoExtreme}
+use Rattle.qh_model.proofs.algebra.Order.{mul-le, product_zero, mul-pos, mul-pos_neg, mul-nonneg_nonpos}
+use Rattle.qh_model.proofs.algebra.Order.{zero_or_not, le_less}
+use Rattle.qh_model.proofs.algebra.Ring.{ring}
+use Rattle.qh_model.proofs.algebra.Integers.{mul_neg, mul_one}
+use Rattle.qh_model.proofs.algebra.Signs.{less_differ}
+use Rattle.qh_model.proofs.algebra.VectorIdentities.{vec, put, dotE, oppositeE, opposite, dot-opposite, dot_comm}
+use Rattle.qh_model.proofs.algebra.VectorIdentities.{in_line-vol, vol-first, vol-second, vol-third}
+use Rattle.qh_model.proofs.extremes.Directions.{positive_along, dot_along, along_or_opposite, square-positive}
+use Rattle.qh_model.proofs.extremes.Directions.{from_plane}
+use Rattle.qh_model.proofs.extremes.ExtremeIds.{Listed, listed_itself, listed_part, alternative_in, apart}
+use Rattle.qh_model.proofs.polygons.PlaneTurns.{level_parallel}
+use Rattle.qh_model.proofs.closed_surfaces.Beyond.{scaled, beyond, vol-beyond, dot-past}
+use Rattle.qh_model.proofs.closed_surfaces.Cancellation.{none_below_and_beyond}
+
+-- one of the list has P, or all have Q
+one_or_all : {X : Type 0} (P Q : X → Type 0) (xs : List X) → ((x : X) → In x xs → P x ⊎ Q x)
+    → ((x : X) × In x xs × P x) ⊎ ((x : X) → In x xs → Q x)
+one_or_all P Q [] f = inr (λ x i. absurd i)
+one_or_all {X} P Q (x ∷ xs) f = go (f x (inl refl)) (one_or_all P Q xs (λ y i. f y (inr i)))
+  where
+    go : P x ⊎ Q x → ((y : X) × In y xs × P y) ⊎ ((y : X) → In y xs → Q y)
+        → ((y : X) × In y (x ∷ xs) × P y) ⊎ ((y : X) → In y (x ∷ xs) → Q y)
+    go (inl p) r = inl (x, inl refl, p)
+    go (inr q) (inl r) = inl (r.0, inr r.1, r.2)
+    go (inr q) (inr r) = inr each
+      where
+        each : (y : X) → In y (x ∷ xs) → Q y
+        each y (inl e) = subst Q (sym e) q
+        each y (inr i) = r y i
+
+-- a number above all of a list
+ceiling : {X : Type 0} (g : X → ℤ) (xs : List X) → (c : ℕ) × ((x : X) → In x xs → g x <ℤ pos c)
+ceiling g [] = (0, λ x i. absurd i)
+ceiling {X} g (x ∷ xs) = go (g x) refl (ceiling g xs)
+  where
+    go : (z : ℤ) → g x ≡ z → (c : ℕ) × ((y : X) → In y xs → g y <ℤ pos c)
+        → (c : ℕ) × ((y : X) → In y (x ∷ xs) → g y <ℤ pos c)
+    go (pos n) e (c, h) = (suc n + c, each)
+      where
+        more : (z : ℤ) → z <ℤ pos c → z <ℤ pos (suc n + c)
+        more z h = omega (arith, ints)
+
+        own : (z : ℤ) → z ≡ pos n → z <ℤ pos (suc n + c)
+        own z h = omega (arith, ints)
+
+        each : (y : X) → In y (x ∷ xs) → g y <ℤ pos (suc n + c)
+        each y (inl d) = own (g y) (ap g d ∙ e)
+        each y (inr i) = more (g y) (h y i)
+    go (negsuc n) e (c, h) = (c, each)
+      where
+        own : (z : ℤ) → z ≡ negsuc n → z <ℤ pos c
+        own z h = omega (arith, ints)
+
+        each : (y : X) → In y (x ∷ xs) → g y <ℤ pos c
+        each y (inl d) = own (g y) (ap g d ∙ e)
+        each y (inr i) = h y i
+
+-- ---- a plane of the set and a triangle
+module _ (at : ℕ → Vector) (A : ℕ → Type 0) (i j k : ℕ) (plane : IsSupportingTriple at A i j k) where
+  abbrev n : Vector
+  n = cross (at i) (at j) (at k)
+
+  -- how far a point is above a triangle
+  abbrev rise : Triple → Vector → ℤ
+  rise t p = vol (at t.i) (at t.j) (at t.k) p
+
+  -- the sum of the volumes of a triangle with the three
+  abbrev sink : Triple → ℤ
+  sink t = rise t (at i) +ℤ rise t (at j) +ℤ rise t (at k)
+
+  abbrev tilt : Triple → ℤ
+  tilt t = dot (cross (at t.i) (at t.j) (at t.k)) n
+
+  -- the three are not all in its plane, or it looks the other way
+  abbrev IsOther : Triple → Type 0
+  IsOther t = (sink t <ℤ pos 0) ⊎ ((sink t ≡ pos 0) × (tilt t <ℤ pos 0))
+
+  -- it spans the plane, with the same side outside
+  abbrev Spans : Triple → Type 0
+  Spans t = IsAlong (cross (at t.i) (at t.j) (at t.k)) n × (rise t (at i) ≡ pos 0)
+
+  spans_or_other : (t : Triple) → IsSupportingTriple at A t.i t.j t.k → Spans t ⊎ IsOther t
+  spans_or_other t s =
+      by_lt_z (sink t) (pos 0) (λ h. inr (inl h))
+      (λ h. level (zeros _ _ _ (s.supports i plane.has_i) (s.supports j plane.has_j) (s.supports k plane.has_k) h))
+    where
+      m : Vector
+      m = cross (at t.i) (at t.j) (at t.k)
+
+      zeros : (x y z : ℤ) → x ≤ℤ pos 0 → y ≤ℤ pos 0 → z ≤ℤ pos 0 → pos 0 ≤ℤ (x +ℤ y +ℤ z)
+          → (x ≡ pos 0) × (y ≡ pos 0) × (z ≡ pos 0) × (x +ℤ y +ℤ z ≡ pos 0)
+      zeros x y z p q r h = (omega (arith, ints), omega (arith, ints), omega (arith, ints), omega (arith, ints))
+
+      square : dot (opposite n) (opposite n) ≡ dot n n
+      square = ring (put n []) (dotE (oppositeE (vec 0)) (oppositeE (vec 0))) (dotE (vec 0) (vec 0)) refl
+
+      turned : (x y : ℤ) → x ≡ neg_ℤ y → pos 0 <ℤ x → y <ℤ pos 0
+      turned x y e h = omega (arith, ints)
+
+      -- where it looks the other way
+      away : IsAlong m (opposite n) → dot m n <ℤ pos 0
+      away h =
+          turned (dot m (opposite n)) (dot m n)
+          (dot_comm m (opposite n) ∙ dot-opposite n m ∙ ap neg_ℤ (dot_comm n m))
+          (positive_along h.t h.s (dot (opposite n) (opposite n)) (dot m (opposite n)) h.some_t h.some_s
+          (sym (dot_along m (opposite n) h (opposite n)))
+          (subst (λ x. pos 0 <ℤ x) (sym square) (square-positive n plane.area)))
+
+      level : (rise t (at i) ≡ pos 0) × (rise t (at j) ≡ pos 0) × (rise t (at k) ≡ pos 0) × (sink t ≡ pos 0)
+          → Spans t ⊎ IsOther t
+      level z =
+          let parallel = level_parallel (at t.i) (at t.j) (at t.k) (at i) (at j) (at k) z.0 z.1 z.2 in
+          pick (along_or_opposite m n s.area plane.area parallel)
+        where
+          pick : IsAlong m n ⊎ IsAlong m (opposite n) → Spans t ⊎ IsOther t
+          pick (inl h) = inl (h, z.0)
+          pick (inr h) = inr (inr (z.3, away h))
+
+  -- a point beyond the plane that is below each triangle with another plane
+  none_other : (ts : List Triple) → IsClosedSurface at ts → AreSupporting at A ts
+      → ((t : Triple) → In t ts → IsOther t) → ⊥
+  none_other ts closed supporting other = go (ceiling tilt ts)
+    where
+      go : (b : ℕ) × ((t : Triple) → In t ts → tilt t <ℤ pos b) → ⊥
+      go (b, limit) =
+          none_below_and_beyond up ts (record { some = closed.some; area = area; closed = closed.closed }) n p past below
+        where
+          c : ℤ
+          c = pos (suc b)
+
+          m : ℤ
+          m = pos 3 *ℤ c
+
+          up : ℕ → Vector
+          up l = scaled m (at l)
+
+          p : Vector
+          p = beyond c (at i) (at j) (at k) n
+
+          m_pos : pos 0 <ℤ m
+          m_pos = mul-pos (pos 3) c (omega (arith, ints)) (omega (arith, ints))
+
+          low : (x g : ℤ) → (x <ℤ pos 0) ⊎ ((x ≡ pos 0) × (g <ℤ pos 0)) → g <ℤ pos b → (c *ℤ x +ℤ g) <ℤ pos 0
+          low x g (inl h) k =
+              step (c *ℤ x) (c *ℤ neg_ℤ (pos 1)) g
+              (mul-le c x (neg_ℤ (pos 1)) (omega (arith, ints)) (omega (arith, ints)))
+              (mul_neg c (pos 1) ∙ ap neg_ℤ (mul_one c)) k
+            where
+              step : (y w g : ℤ) → y ≤ℤ w → w ≡ neg_ℤ c → g <ℤ pos b → (y +ℤ g) <ℤ pos 0
+              step y w g h e k = omega (arith, ints)
+          low x g (inr (e, h)) k = step (c *ℤ x) (product_zero c x e)
+            where
+              step : (y : ℤ) → y ≡ pos 0 → (y +ℤ g) <ℤ pos 0
+              step y e = omega (arith, ints)
+
+          below : (t : Triple) → In t ts → vol (up t.i) (up t.j) (up t.k) p <ℤ pos 0
+          below t r =
+              subst (λ x. x <ℤ pos 0) (sym (vol-beyond c (at t.i) (at t.j) (at t.k) (at i) (at j) (at k) n))
+              (mul-pos_neg (m *ℤ m) (c *ℤ sink t +ℤ tilt t) (mul-pos m m m_pos m_pos)
+              (low (sink t) (tilt t) (other t r) (limit t r)))
+
+          area : (t : Triple) → In t ts → ¬ (AreInLine (up t.i) (up t.j) (up t.k))
+          area t r e =
+              less_differ (vol (up t.i) (up t.j) (up t.k) p) (pos 0) (below t r)
+              (in_line-vol (up t.i) (up t.j) (up t.k) p e)
+
+          further : (l : ℕ) → A l → dot n (up l) <ℤ dot n p
+          further l h =
+              order _ _ _ _ (dot-past c n (at i) (at j) (at k) (at l)) (square-positive n plane.area)
+              (mul-nonneg_nonpos c _ (omega (arith, ints)) (three _ _ _ (height (at i) (vol-first (at i) (at j) (at k)))
+              (height (at j) (vol-second (at i) (at j) (at k))) (height (at k) (vol-third (at i) (at j) (at k)))))
+            where
+              order : (x y s z : ℤ) → x ≡ y +ℤ s -ℤ z → pos 0 <ℤ s → z ≤ℤ pos 0 → y <ℤ x
+              order x y s z e h k = omega (arith, ints)
+
+              three : (x y z : ℤ) → x ≤ℤ pos 0 → y ≤ℤ pos 0 → z ≤ℤ pos 0 → (x +ℤ y +ℤ z) ≤ℤ pos 0
+              three x y z h k l = omega (arith, ints)
+
+              height : (q : Vector) → vol (at i) (at j) (at k) q ≡ pos 0 → dot n (minus (at l) q) ≤ℤ pos 0
+              height q e =
+                  subst (λ x. x ≤ℤ pos 0) (sym (from_plane (at i) (at j) (at k) q (at l) e)) (plane.supports l h)
+
+          member : (t : Triple) → In t ts → (l : ℕ) → In l (t.i ∷ t.j ∷ t.k ∷ []) → A l
+          member t r l (inl e) = subst A (sym e) (supporting t r).has_i
+          member t r l (inr (inl e)) = subst A (sym e) (supporting t r).has_j
+          member t r l (inr (inr (inl e))) = subst A (sym e) (supporting t r).has_k
+          member t r l (inr (inr (inr x))) = absurd x
+
+          past : (l : ℕ) → IsCornerOf ts l → dot n (up l) <ℤ dot n p
+          past l (t, r, h) = further l (member t r l h)
+
+-- the law
+pub closed_miss_no_plane : ClosedMissNoPlane
+closed_miss_no_plane at ids ts closed supporting i j k plane =
+    go (one_or_all HasPlane HasOther ts (λ t r. spans_or_other at (Members ids) i j k plane t (supporting t r)))
+  where
+    HasPlane : Triple → Type 0
+    HasPlane = Spans at (Members ids) i j k plane
+
+    HasOther : Triple → Type 0
+    HasOther = IsOther at (Members ids) i j k plane
+
+    go : ((t : Triple) × In t ts × HasPlane t) ⊎ ((t : Triple) → In t ts → HasOther t) → TriangleOfPlane at ts i j k
+    go (inl (t, r, s)) = record { t = t; there = r; along = s.0; level = s.1 }
+    go (inr f) = absurd (none_other at (Members ids) i j k plane ts closed supporting f)
+
+-- ---- extreme ids
+-- the law
+pub closed_miss_no_extreme : ClosedMissNoExtreme
+closed_miss_no_extreme at ids ts closed supporting e extreme =
+    pick (one_or_all On Below ts (λ t r. either t r (zero_or_not (height t))))
+  where
+    height : Triple → ℤ
+    height t = vol (at t.i) (at t.j) (at t.k) (at e)
+
+    On : Triple → Type 0
+    On t = height t ≡ pos 0
+
+    Below : Triple → Type 0
+    Below t = height t <ℤ pos 0
+
+    -- the ids of the set but e
+    Rest : ℕ → Type 0
+    Rest = Others (Members ids) e
+
+    either : (t : Triple) → In t ts → (height t ≡ pos 0) ⊎ (¬ (height t ≡ pos 0)) → On t ⊎ Below t
+    either t r (inl z) = inl z
+    either t r (inr z) = inr (le_less (height t) (pos 0) ((supporting t r).supports e extreme.0) z)
+
+    none : ((t : Triple) → In t ts → Below t) → Separator at Rest (at e) → ⊥
+    none below s = none_below_and_beyond at ts closed s.w (at e) past below
+      where
+        past : (l : ℕ) → IsCornerOf ts l → dot s.w (at l) <ℤ dot s.w (at e)
+        past l (t, r, h) = s.past l (corner h)
+          where
+            -- a corner is another id, since e is below the triangle
+            other : (c : ℕ) → Members ids c → vol (at t.i) (at t.j) (at t.k) (at c) ≡ pos 0 → l ≡ c → Rest l
+            other c m z q = (
+              subst (Members ids) (sym q) m,
+              λ d. less_differ (height t) (pos 0) (below t r)
+                  (subst (λ a. vol (at t.i) (at t.j) (at t.k) (at a) ≡ pos 0) (sym q ∙ d) z),
+            )
+
+            corner : In l (t.i ∷ t.j ∷ t.k ∷ []) → Rest l
+            corner (inl q) = other t.i (supporting t r).has_i (vol-first (at t.i) (at t.j) (at t.k)) q
+            corner (inr (inl q)) = other t.j (supporting t r).has_j (vol-second (at t.i) (at t.j) (at t.k)) q
+            corner (inr (inr (inl q))) = other t.k (supporting t r).has_k (vol-third (at t.i) (at t.j) (at t.k)) q
+            corner (inr (inr (inr x))) = absurd x
+
+    separator : (ys : List ℕ) × Listed Rest ys → Separator at Rest (at e)
+    separator (ys, l) = side (alternative_in at Rest ys l (at e))
+      where
+        side : Combination at Rest (at e) ⊎ Separator at Rest (at e) → Separator at Rest (at e)
+        side (inl m) = absurd (extreme.1 m)
+        side (inr s) = s
+
+    others : (ys : List ℕ) × Listed Rest ys
+    others = listed_part (Members ids) (λ l. l ≢ e) (apart e) ids (listed_itself ids)
+
+    pick : ((t : Triple) × In t ts × On t) ⊎ ((t : Triple) → In t ts → Below t)
+        → (t : Triple) × In t ts × (vol (at t.i) (at t.j) (at t.k) (at e) ≡ pos 0)
+    pick (inl r) = (r.0, r.1, r.2)
+    pick (inr f) = absurd (none f (separator others))

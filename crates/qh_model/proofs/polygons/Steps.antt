@@ -1,0 +1,101 @@
+-- The faces of a solid close up: one face takes each step along an edge, and another the step back.
+use Rattle.std.proofs.Common.{◌≡◌, ℕ, ◌≤◌, arith, refl, sym, ap, subst, ◌∙◌, inl, inr, List, [], ◌∷◌}
+use Rattle.std.specs.Prelude.{◌↔◌}
+use Rattle.std.specs.List.{flat_map}
+use Rattle.qh_model.specs.headline.Sets.{In, Once}
+use Rattle.qh_model.specs.headline.Polygon.{FollowsAlong, Follows}
+use Rattle.qh_model.specs.headline.Polygons.{ComesBefore}
+use Rattle.qh_model.specs.contract.ClosedSurface.{is_edge}
+use Rattle.qh_model.specs.contract.ClosedPolygons.{steps_along, steps_round, step_count}
+use Rattle.qh_model.specs.laws.ClosedFaceLaws.{FacesClose}
+use Rattle.qh_model.proofs.closed_surfaces.SignedVolume.{back, is_edge-back}
+use Rattle.qh_model.proofs.lists.Counts.{count_twins}
+use Rattle.qh_model.proofs.lists.Joined.{once_append, in_flat_map, of_flat_map}
+use Rattle.qh_model.proofs.lists.Lexicographic.{before-asymmetric, rising-ordered}
+use Rattle.qh_model.proofs.lists.Ordered.{Ordered}
+use Rattle.qh_model.proofs.polygons.Edges.{one_face_each_way, other_face}
+use Rattle.qh_model.proofs.polygons.Neighbours.{along_members}
+
+abbrev Has : ℕ → ℕ → List (ℕ × ℕ) → Type 0
+Has u v ps = In {X = ℕ × ℕ} (u, v) ps
+
+pair : {a b c d : ℕ} → a ≡ c → b ≡ d → ◌≡◌ {A = ℕ × ℕ} (a, b) (c, d)
+pair e f = cc
+
+-- the steps on a way
+on_along : (u v t : ℕ) (r : List ℕ) (e : ℕ) → Has u v (steps_along t r e) ↔ FollowsAlong u v t r e
+on_along u v t [] e = (there, λ f. inl (pair (sym f.0) (sym f.1)))
+  where
+    there : Has u v ((t, e) ∷ []) → FollowsAlong u v t [] e
+    there (inl p) = (sym (ap (λ (x : ℕ × ℕ). x.0) p), sym (ap (λ (x : ℕ × ℕ). x.1) p))
+    there (inr n) = absurd n
+on_along u v t (w ∷ r) e = (there (on_along u v w r e), back_again (on_along u v w r e))
+  where
+    Rest : Type 0
+    Rest = Has u v (steps_along w r e) ↔ FollowsAlong u v w r e
+
+    there : Rest → Has u v ((t, w) ∷ steps_along w r e) → FollowsAlong u v t (w ∷ r) e
+    there rest (inl p) = inl (sym (ap (λ (x : ℕ × ℕ). x.0) p), sym (ap (λ (x : ℕ × ℕ). x.1) p))
+    there rest (inr m) = inr (rest.0 m)
+
+    back_again : Rest → FollowsAlong u v t (w ∷ r) e → Has u v ((t, w) ∷ steps_along w r e)
+    back_again rest (inl f) = inl (pair (sym f.0) (sym f.1))
+    back_again rest (inr f) = inr (rest.1 f)
+
+-- the steps of a polygon are its neighbours
+pub on_round : (u v : ℕ) (q : List ℕ) → Has u v (steps_round q) ↔ Follows u v q
+on_round u v [] = (λ m. m, λ f. f)
+on_round u v (t ∷ r) = on_along u v t r t
+
+-- each is there once
+once_along : (t : ℕ) (r : List ℕ) (e : ℕ) → Once (t ∷ r) → Once (steps_along t r e)
+once_along t [] e o = ((λ m. m), tt)
+once_along t (w ∷ r) e o =
+    ((λ m. o.0 (along_members t w w r e ((on_along t w w r e).0 m)).0), once_along w r e o.1)
+
+once_round : (q : List ℕ) → Once q → Once (steps_round q)
+once_round [] o = tt
+once_round (t ∷ r) o = once_along t r t o
+
+-- where no two polygons take the same step each step is there once
+all_once : (qs : List (List ℕ)) → Once qs → ((q : List ℕ) → In q qs → Once q)
+    → ((p q : List ℕ) → In p qs → In q qs → (u v : ℕ) → Follows u v p → Follows u v q → p ≡ q)
+    → Once (flat_map steps_round qs)
+all_once [] o each one = tt
+all_once (q ∷ qs) o each one =
+    once_append (steps_round q) (flat_map steps_round qs) (once_round q (each q (inl refl)))
+    (all_once qs o.1 (λ p i. each p (inr i)) (λ p r i j. one p r (inr i) (inr j))) apart
+  where
+    apart : (x : ℕ × ℕ) → In x (steps_round q) → In x (flat_map steps_round qs) → ⊥
+    apart (u, v) i j = let r = of_flat_map steps_round qs (u, v) j in
+        o.0 (subst (λ (p : List ℕ). In p qs)
+        (sym (one q r.0 (inl refl) (inr r.1) u v ((on_round u v q).0 i) ((on_round u v r.0).0 r.2))) r.1)
+
+-- ordered lists are there once each
+pub ordered_once : (qs : List (List ℕ)) → Ordered ComesBefore qs → Once qs
+ordered_once [] o = tt
+ordered_once (q ∷ qs) o = (λ i. before-asymmetric q q (o.0 q i) (o.0 q i), ordered_once qs o.1)
+
+-- the law
+pub faces_close : FacesClose
+faces_close at ids qs d solid faces u v = both (half u v) (half v u)
+  where
+    both : {a b : ℕ} → a ≤ b → b ≤ a → a ≡ b
+    both h k = omega arith
+
+    one : (p q : List ℕ) → In p qs → In q qs → (u v : ℕ) → Follows u v p → Follows u v q → p ≡ q
+    one p q i j u v f g = let x = faces.only p i in let y = faces.only q j in
+        one_face_each_way at ids x.0 x.1 x.2 y.0 y.1 y.2 p q u v d x.3 y.3 x.4 y.4 f g
+
+    once : Once (flat_map steps_round qs)
+    once = all_once qs (ordered_once qs (rising-ordered qs faces.rising)) (λ q i. (faces.only q i).4.once) one
+
+    -- the step back is one of the steps
+    turned : (x : ℕ × ℕ) → In x (flat_map steps_round qs) → In (back x) (flat_map steps_round qs)
+    turned (u, v) m = let q = of_flat_map steps_round qs (u, v) m in
+        let p = other_face at ids qs d solid faces q.0 q.1 u v ((on_round u v q.0).0 q.2) in
+        in_flat_map steps_round qs p.0 (v, u) p.1 ((on_round v u p.0).1 p.2)
+
+    half : (u v : ℕ) → step_count qs u v ≤ step_count qs v u
+    half u v = count_twins back (is_edge (u, v)) (is_edge (v, u)) (flat_map steps_round qs) once
+        (λ x m e. (turned x m, is_edge-back (v, u) x ∙ e, refl))
