@@ -1,5 +1,6 @@
 -- A byte string has one list of points, or one fault.
-use Rattle.std.proofs.Common.{◌≡◌, ◌∙◌, [], ◌∷◌, ◌++◌, ◌*◌, ◌≤◌, ◌⊎◌, ◌&&◌, ℕ, List, Bool, true, false, cond, refl, ap, sym, arith, zero, suc, length, map, inl, inr, subst, nat_lt}
+use Rattle.std.proofs.Common.{◌≡◌, ◌∙◌, [], ◌∷◌, ◌++◌, ◌*◌, ◌≤◌, ◌⊎◌, ◌&&◌, ℕ, List, Bool, true, false, cond, refl, ap,
+    sym, arith, zero, suc, length, map, inl, inr, subst, nat_lt}
 use Rattle.std.specs.Prelude.{ℤ, pos, negsuc, Option, Some, None, nat_le}
 use Rattle.std.specs.List.{AllByRecursion}
 use Rattle.std.specs.Option.{option_or}
@@ -14,7 +15,8 @@ use Rattle.qh_model.specs.headline.Numbers.{number_of}
 use Rattle.qh_model.specs.headline.PointFile.{coordinates, IsHeader, Reads}
 use Rattle.qh_model.specs.declared.read_fault.ReadFault.{ReadFault}
 use Rattle.qh_model.specs.declared.read_fault.ReadFault.TheVariants.{NotThree, Count, Range, Big}
-use Rattle.qh_model.specs.headline.FileFault.{is_three, coordinate_fault, coordinates_fault, counted_fault, number_fault, next_number_fault, long_fault, headed_fault, words_fault, first_fault}
+use Rattle.qh_model.specs.headline.FileFault.{is_three, coordinate_fault, coordinates_fault, counted_fault,
+    number_fault, next_number_fault, long_fault, headed_fault, words_fault, first_fault}
 use Rattle.qh_model.proofs.algebra.VectorIdentities.{vector_path}
 
 pub same_some : (xs ys : List ℤ) → map Some xs ≡ map Some ys → xs ≡ ys
@@ -171,7 +173,9 @@ made w v vs a b z e f header c =
     let g = grouped c.n c.filled.all c.filled.count in
     let same : coordinates g.points ≡ c.filled.all = g.are in
     let many : length g.points ≡ c.n = g.count in
-    let front : vs ≡ c.filled.front = c.filled.whole ∙ ap (λ (t : List Word). c.filled.front ++ t) (none_long c.filled.rest c.filled.clear) ∙ append-nil c.filled.front in
+    let front : vs ≡ c.filled.front = c.filled.whole
+        ∙ ap (λ (t : List Word). c.filled.front ++ t) (none_long c.filled.rest c.filled.clear)
+        ∙ append-nil c.filled.front in
     let rest : numbers vs ≡ map Some c.filled.all = ap numbers front ∙ c.filled.are in
     record {
       first = a;
@@ -186,12 +190,16 @@ made w v vs a b z e f header c =
 
 whole : (ws : List Word) → words_fault ws ≡ None → Whole ws
 whole ws h = let w = next_number _ ws h in let v = next_number _ w.rest w.clear in
-    subst Whole (sym (w.are ∙ ap (λ (t : List Word). w.w ∷ t) v.are)) (head w.w v.w v.rest w.z v.z w.number v.number (is_three w.z) (is_three v.z) refl refl v.clear)
+    subst Whole (sym (w.are ∙ ap (λ (t : List Word). w.w ∷ t) v.are))
+        (head w.w v.w v.rest w.z v.z w.number v.number (is_three w.z) (is_three v.z) refl refl v.clear)
   where
     head : (w v : Word) (vs : List Word) (a b : ℤ) → number_of w.text ≡ Some a → number_of v.text ≡ Some b → (p q : Bool) → is_three a ≡ p → is_three b ≡ q
         → cond p (counted_fault long_fault b vs) (cond q (counted_fault long_fault a vs) (Some NotThree)) ≡ None → Whole (w ∷ v ∷ vs)
     head w v vs a b e f true q pe qe h = made w v vs a b b e f (λ n is. inl (three a pe, is)) (counted long_fault b vs h)
-    head w v vs a b e f false true pe qe h = made w v vs a b a e f (λ n is. inr ((λ t. let at : is_three (pos 3) ≡ false = subst (λ (y : ℤ). is_three y ≡ false) t pe in cc), three b qe, is)) (counted long_fault a vs h)
+    head w v vs a b e f false true pe qe h =
+        made w v vs a b a e f
+        (λ n is. inr ((λ t. let at : is_three (pos 3) ≡ false = subst (λ (y : ℤ). is_three y ≡ false) t pe in cc),
+        three b qe, is)) (counted long_fault a vs h)
     head w v vs a b e f false false pe qe h = cc
 
 -- it is the file of some points, or it has a fault
@@ -202,9 +210,12 @@ one_or_other bytes = by (first_fault bytes) refl
     small true e h = cc
     small false e h =
         let w = whole (data_words bytes) h in
-        (w.points, record { small = grind (arith, nat_tests); first = w.first; second = w.second; numbers = w.are; header = w.header; some = w.some; few = w.few; limit = w.limit })
+        (w.points, record { small = grind (arith, nat_tests); first = w.first; second = w.second; numbers = w.are;
+        header = w.header; some = w.some; few = w.few; limit = w.limit })
 
-    by : (o : Option ReadFault) → first_fault bytes ≡ o → ((ps : List Vector) × Reads bytes ps × (first_fault bytes ≡ None)) ⊎ ((f : ReadFault) × (first_fault bytes ≡ Some f))
+    by : (o : Option ReadFault) → first_fault bytes ≡ o
+        → ((ps : List Vector) × Reads bytes ps × (first_fault bytes ≡ None))
+        ⊎ ((f : ReadFault) × (first_fault bytes ≡ Some f))
     by None e = let r = small (nat_lt BYTE_LIMIT (length bytes)) refl e in inl (r.0, r.1, e)
     by (Some f) e = inr (f, e)
 
@@ -217,7 +228,8 @@ clear_more w z after e l h =
     (subst (λ (b : Bool). option_or (cond b None (Some (Range w.line))) after ≡ None) (sym in_range) h)
 
 -- coordinates in range have no fault, if what follows them has none
-clear : (after : List Word → Option ReadFault) (zs : List ℤ) (ws rest : List Word) → numbers ws ≡ map Some zs → AllByRecursion IsCoordinate zs → after rest ≡ None
+clear : (after : List Word → Option ReadFault) (zs : List ℤ) (ws rest : List Word) → numbers ws ≡ map Some zs
+    → AllByRecursion IsCoordinate zs → after rest ≡ None
     → coordinates_fault after (length zs) (ws ++ rest) ≡ None
 clear after [] [] rest e l h = h
 clear after [] (w ∷ ws) rest e l h = cc
@@ -234,7 +246,8 @@ thrice (p ∷ ps) = let rest : length (coordinates ps) ≡ 3 * length ps = thric
 
 -- a count in range and its coordinates have no fault, if what follows them has none
 pub counted_clear : (after : List Word → Option ReadFault) (ps : List Vector) (ws rest : List Word) → numbers ws ≡ map Some (coordinates ps)
-    → 1 ≤ length ps → length ps ≤ POINT_LIMIT → AllByRecursion IsCoordinate (coordinates ps) → after rest ≡ None → counted_fault after (pos (length ps)) (ws ++ rest) ≡ None
+    → 1 ≤ length ps → length ps ≤ POINT_LIMIT → AllByRecursion IsCoordinate (coordinates ps) → after rest ≡ None
+        → counted_fault after (pos (length ps)) (ws ++ rest) ≡ None
 counted_clear after ps ws rest e some few l h =
     let n = length ps in
     let range : (nat_le 1 n && nat_le n POINT_LIMIT) ≡ true = grind (arith, nat_tests) in

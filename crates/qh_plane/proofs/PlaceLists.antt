@@ -1,5 +1,6 @@
 -- The distinct ids by each of the two keys: by the number of the place, and by a hash of it.
-use Rattle.std.proofs.Common.{◌≡◌, ◌≢◌, ℕ, ◌+◌, ◌-◌, ◌*◌, ◌%◌, ◌/◌, ◌^◌, ◌<◌, ◌≤◌, ◌⊎◌, inl, inr, List, Bool, length, get_or, replicate, true, false, arith, ap, sym, subst, ◌∙◌}
+use Rattle.std.proofs.Common.{◌≡◌, ◌≢◌, ℕ, ◌+◌, ◌-◌, ◌*◌, ◌%◌, ◌/◌, ◌^◌, ◌<◌, ◌≤◌, ◌⊎◌, inl, inr, List, Bool, length,
+    get_or, replicate, true, false, arith, ap, sym, subst, ◌∙◌}
 use Rattle.std.proofs.lemmas.Bool.{cases_lt}
 use Rattle.std.specs.List.{All}
 use Rattle.std.specs.List.Sorted.{IsNonDecreasing}
@@ -9,7 +10,8 @@ use Rattle.qh_model.specs.contract.Places.{IsPlace}
 use Rattle.qh_model.specs.headline.DistinctIds.{IsDistinctId, AreDistinctIds}
 use Rattle.qh_model.specs.headline.Predicates.{place}
 use Rattle.qh_model.specs.headline.Vector.{Vector}
-use Rattle.qh_plane.proofs.DistinctLists.{AreSortedKeys, StandsAt, all_in, all_distinct, all_within, index_in, up, position, stands, marked_distinct, distinct_ids}
+use Rattle.qh_plane.proofs.DistinctLists.{AreSortedKeys, StandsAt, all_in, all_distinct, all_within, index_in, up,
+    position, stands, marked_distinct, distinct_ids}
 use Rattle.qh_plane.proofs.KeyOrder.{code_le}
 use Rattle.qh_plane.proofs.PlaceOrder.{place_code-same, raised_small}
 use Rattle.qh_plane.specs.declared.distinct_points.TheConstants.{NO_PLACE}

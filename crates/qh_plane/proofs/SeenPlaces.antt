@@ -1,5 +1,6 @@
 -- The distinct ids of points in a small box, point by point: what stands in the slots, and which ids are kept.
-use Rattle.std.proofs.Common.{◌≡◌, ◌≢◌, ◌∙◌, ℕ, ◌+◌, ◌<◌, ◌≤◌, ◌⊎◌, inl, inr, List, [], ◌∷◌, ◌++◌, length, set, replicate, slice_index_or, arith, ap, sym, subst, get_or-set_same, get_or-set_other}
+use Rattle.std.proofs.Common.{◌≡◌, ◌≢◌, ◌∙◌, ℕ, ◌+◌, ◌<◌, ◌≤◌, ◌⊎◌, inl, inr, List, [], ◌∷◌, ◌++◌, length, set,
+    replicate, slice_index_or, arith, ap, sym, subst, get_or-set_same, get_or-set_other}
 use Rattle.std.proofs.lemmas.List.{get_or_read, length-set, get_or-replicate, length-replicate}
 use Rattle.std.specs.List.Sorted.{IsStrictlyIncreasing}
 use native.Mathlib.Decide.{ℕ_discrete}
@@ -39,7 +40,8 @@ none_seen pts b n = record {
 more_seen : (pts : List Vector) (b : CloseBox) (slots : List ℕ) (k : ℕ) (p : Vector) → HasFirst pts b slots k p → HasFirst pts b slots (k + 1) p
 more_seen pts b slots k p h = let l = h.seen in record { first = h.first; seen = omega (arith, l); is = h.is; same = h.same }
 
-module _ (pts : List Vector) (b : CloseBox) (slots : List ℕ) (k : ℕ) (ids : List ℕ) (old : AreSeen pts b slots k ids) (within : k < length pts) (few : length pts ≤ POINT_LIMIT) where
+module _ (pts : List Vector) (b : CloseBox) (slots : List ℕ) (k : ℕ) (ids : List ℕ) (old : AreSeen pts b slots k ids)
+    (within : k < length pts) (few : length pts ≤ POINT_LIMIT) where
   -- ---- a slot that no point has come to
   module _ (room : slot_of b (place pts k) < length slots) (free : slot_at slots (slot_of b (place pts k)) ≡ NO_ID) where
     abbrev pub here : ℕ
@@ -61,10 +63,14 @@ module _ (pts : List Vector) (b : CloseBox) (slots : List ℕ) (k : ℕ) (ids : 
     firsts_after j l = by (ℕ_discrete j k)
       where
         by : Dec (j ≡ k) → HasFirst pts b after (k + 1) (place pts j)
-        by (yes e) = record { first = k; seen = omega arith; is = ap (λ (n : ℕ). slot_at after (slot_of b (place pts n))) e ∙ get_or-set_same slots here k NO_ID room; same = ap (place pts) (sym e) }
+        by (yes e) = record { first = k; seen = omega arith;
+            is = ap (λ (n : ℕ). slot_at after (slot_of b (place pts n))) e ∙ get_or-set_same slots here k NO_ID room;
+            same = ap (place pts) (sym e) }
         by (no ne) =
             let below : j < k = omega (arith, l, ne) in let f = old.firsts j below in let s = f.seen in
-            record { first = f.first; seen = omega (arith, s); is = get_or-set_other slots here (slot_of b (place pts j)) k NO_ID (kept_slot j below) ∙ f.is; same = f.same }
+            record { first = f.first; seen = omega (arith, s);
+                is = get_or-set_other slots here (slot_of b (place pts j)) k NO_ID (kept_slot j below) ∙ f.is;
+                same = f.same }
 
     held_after : (s : ℕ) → s < length after → (slot_at after s ≡ NO_ID) ⊎ (slot_at after s < k + 1)
     held_after s l = by (ℕ_discrete s here)
@@ -81,7 +87,8 @@ module _ (pts : List Vector) (b : CloseBox) (slots : List ℕ) (k : ℕ) (ids : 
 
         by : Dec (s ≡ here) → (slot_at after s ≡ NO_ID) ⊎ (slot_at after s < k + 1)
         by (yes e) = inr (own (slot_at after s) (ap (slot_at after) e ∙ get_or-set_same slots here k NO_ID room))
-        by (no ne) = likewise (slot_at after s) (slot_at slots s) (get_or-set_other slots here s k NO_ID ne) (old.held s (subst (λ (n : ℕ). s < n) (length-set slots here k) l))
+        by (no ne) = likewise (slot_at after s) (slot_at slots s) (get_or-set_other slots here s k NO_ID ne)
+            (old.held s (subst (λ (n : ℕ). s < n) (length-set slots here k) l))
 
     -- so it is one more distinct id
     pub new_seen : AreSeen pts b after (k + 1) (ids ++ k ∷ [])

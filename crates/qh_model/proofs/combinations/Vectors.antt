@@ -107,7 +107,8 @@ by_head : (n k : ℕ) (h : ℤ) (t : V n) → pos (suc k) ≡ h *ℤ h → Cut n
 by_head n k h t e = record {
   project = λ x. lin n h x.1 (neg_ℤ x.0) t;
   lift = λ u. (neg_ℤ (dot n u t), lin n h u (pos 0) u);
-  lifts = λ u x. ap (λ s. neg_ℤ (dot n u t) *ℤ x.0 +ℤ s) (dot_lin n h (pos 0) u u x.1) ∙ lift_head h x.0 (dot n u x.1) (dot n u t) ∙ sym (dot_lin_right n h (neg_ℤ x.0) u x.1 t);
+  lifts = λ u x. ap (λ s. neg_ℤ (dot n u t) *ℤ x.0 +ℤ s) (dot_lin n h (pos 0) u u x.1)
+      ∙ lift_head h x.0 (dot n u x.1) (dot n u t) ∙ sym (dot_lin_right n h (neg_ℤ x.0) u x.1 t);
   kills = λ u. ap (λ s. neg_ℤ (dot n u t) *ℤ h +ℤ s) (dot_lin n h (pos 0) u u t) ∙ kill_head h (dot n u t);
   grows = grow_head k h (dot n t t) e (dot_self n t);
   scale = k;
@@ -115,7 +116,8 @@ by_head n k h t e = record {
   rest = λ u. lin n h u.1 (pos 0) u.1;
   splits = λ u x. ap (λ s. s *ℤ (u.0 *ℤ x.0 +ℤ dot n u.1 x.1)) e
       ∙ split_head h u.0 x.0 (dot n u.1 x.1) (dot n u.1 t)
-      ∙ ap (λ s. (u.0 *ℤ h +ℤ dot n u.1 t) *ℤ s +ℤ h *ℤ (h *ℤ dot n u.1 x.1 +ℤ neg_ℤ x.0 *ℤ dot n u.1 t)) (sym (ap (λ s. h *ℤ x.0 +ℤ s) (dot_nil n x.1) ∙ +ℤ_idr (h *ℤ x.0)))
+      ∙ ap (λ s. (u.0 *ℤ h +ℤ dot n u.1 t) *ℤ s +ℤ h *ℤ (h *ℤ dot n u.1 x.1 +ℤ neg_ℤ x.0 *ℤ dot n u.1 t))
+      (sym (ap (λ s. h *ℤ x.0 +ℤ s) (dot_nil n x.1) ∙ +ℤ_idr (h *ℤ x.0)))
       ∙ ap (λ s. (u.0 *ℤ h +ℤ dot n u.1 t) *ℤ (h *ℤ x.0 +ℤ dot n (nil n) x.1) +ℤ s)
       (sym (dot_lin n h (pos 0) u.1 u.1 (lin n h x.1 (neg_ℤ x.0) t) ∙ no_second h _ ∙ ap (λ s. h *ℤ s) (dot_lin_right n h (neg_ℤ x.0) u.1 x.1 t)));
 }

@@ -41,7 +41,9 @@ abbrev bent : Vector → V 4 → Vector
 bent w u = record { x = u.0 *ℤ w.x +ℤ u.1.0; y = u.0 *ℤ w.y +ℤ u.1.1.0; z = u.0 *ℤ w.z +ℤ u.1.1.1.0 }
 
 -- a step of the next
-bent_step : (n a b c u v w x y z : ℤ) → (n *ℤ u +ℤ a) *ℤ x +ℤ (n *ℤ v +ℤ b) *ℤ y +ℤ (n *ℤ w +ℤ c) *ℤ z ≡ n *ℤ (u *ℤ x +ℤ v *ℤ y +ℤ w *ℤ z) +ℤ (a *ℤ x +ℤ (b *ℤ y +ℤ (c *ℤ z +ℤ pos 0)))
+bent_step : (n a b c u v w x y z : ℤ)
+    → (n *ℤ u +ℤ a) *ℤ x +ℤ (n *ℤ v +ℤ b) *ℤ y +ℤ (n *ℤ w +ℤ c) *ℤ z
+    ≡ n *ℤ (u *ℤ x +ℤ v *ℤ y +ℤ w *ℤ z) +ℤ (a *ℤ x +ℤ (b *ℤ y +ℤ (c *ℤ z +ℤ pos 0)))
 bent_step n a b c u v w x y z = simp ring_rules (omega (arith, ints))
 
 -- its scalar product
@@ -135,10 +137,12 @@ apart i j = go (ℕ_discrete j i)
     go (no n) = inl n
 
 -- whether a member is extreme can be told
-extreme_or_not : (at : ℕ → Vector) (A : ℕ → Type 0) (xs : List ℕ) → Listed A xs → (i : ℕ) → (¬ (Combination at (Others A i) (at i))) ⊎ (¬ (¬ (Combination at (Others A i) (at i))))
+extreme_or_not : (at : ℕ → Vector) (A : ℕ → Type 0) (xs : List ℕ) → Listed A xs → (i : ℕ)
+    → (¬ (Combination at (Others A i) (at i))) ⊎ (¬ (¬ (Combination at (Others A i) (at i))))
 extreme_or_not at A xs l i = go (listed_part A (λ j. j ≢ i) (apart i) xs l)
   where
-    sides : Combination at (Others A i) (at i) ⊎ Separator at (Others A i) (at i) → (¬ (Combination at (Others A i) (at i))) ⊎ (¬ (¬ (Combination at (Others A i) (at i))))
+    sides : Combination at (Others A i) (at i) ⊎ Separator at (Others A i) (at i)
+        → (¬ (Combination at (Others A i) (at i))) ⊎ (¬ (¬ (Combination at (Others A i) (at i))))
     sides (inl m) = inr (λ n. n m)
     sides (inr s) = inl (λ m. all_lower at (Others A i) (at i) s.w m (s.past m.a m.has_a) (s.past m.b m.has_b) (s.past m.c m.has_c) (s.past m.d m.has_d))
 
@@ -147,7 +151,8 @@ extreme_or_not at A xs l i = go (listed_part A (λ j. j ≢ i) (apart i) xs l)
 
 -- ---- each member is a mix of extremes
 -- the greatest member is extreme
-top_is_extreme : (at : ℕ → Vector) (A : ℕ → Type 0) (xs : List ℕ) → Listed A xs → HasDistinctPoints at A → (w : Vector) (g : Greatest 4 (λ j. key w (at j)) xs) → Extreme at A g.top
+top_is_extreme : (at : ℕ → Vector) (A : ℕ → Type 0) (xs : List ℕ) → Listed A xs → HasDistinctPoints at A
+    → (w : Vector) (g : Greatest 4 (λ j. key w (at j)) xs) → Extreme at A g.top
 top_is_extreme at A xs l d w g = (has, no_combination at (Others A g.top) w (at g.top) (λ j o. before j o (every_at _ xs j g.above ((l j).0 o.0))))
   where
     has : A g.top
@@ -169,7 +174,8 @@ a_greatest key [] i m = absurd m
 a_greatest key (x ∷ xs) i m = greatest 4 key x xs
 
 -- each member of a listed set is a convex combination of its extremes
-pub combination_of_extremes : (at : ℕ → Vector) (A : ℕ → Type 0) (xs : List ℕ) → Listed A xs → HasDistinctPoints at A → (i : ℕ) → A i → Combination at (Extreme at A) (at i)
+pub combination_of_extremes : (at : ℕ → Vector) (A : ℕ → Type 0) (xs : List ℕ) → Listed A xs → HasDistinctPoints at A
+    → (i : ℕ) → A i → Combination at (Extreme at A) (at i)
 combination_of_extremes at A xs l d i h = go (listed_part A (λ j. ¬ (Combination at (Others A j) (at j))) (extreme_or_not at A xs l) xs l)
   where
     sides : Combination at (Extreme at A) (at i) ⊎ Separator at (Extreme at A) (at i) → Combination at (Extreme at A) (at i)
@@ -177,7 +183,9 @@ combination_of_extremes at A xs l d i h = go (listed_part A (λ j. ¬ (Combinati
     sides (inr s) = absurd (clash (a_greatest (λ j. key s.w (at j)) xs i ((l i).0 h)))
       where
         clash : Greatest 4 (λ j. key s.w (at j)) xs → ⊥
-        clash g = not_above _ _ _ _ (every_at (λ j. AtMost 4 (key s.w (at j)) (key s.w (at g.top))) xs i g.above ((l i).0 h)) (s.past g.top (top_is_extreme at A xs l d s.w g))
+        clash g = not_above _ _ _ _
+            (every_at (λ j. AtMost 4 (key s.w (at j)) (key s.w (at g.top))) xs i g.above ((l i).0 h))
+            (s.past g.top (top_is_extreme at A xs l d s.w g))
 
     go : (ys : List ℕ) × Listed (Extreme at A) ys → Combination at (Extreme at A) (at i)
     go (ys, k) = sides (alternative_in at (Extreme at A) ys k (at i))
@@ -223,7 +231,8 @@ of_gathered : (n : ℕ) (block : ℕ → List ℕ) (j : ℕ) → In j (gathered 
 of_gathered zero block j m = absurd m
 of_gathered (suc n) block j m = go (of_append (block n) (gathered n block) j m) (of_gathered n block j)
   where
-    go : In j (block n) ⊎ In j (gathered n block) → (In j (gathered n block) → InBlocks n (λ k. Members (block k)) j) → InBlocks (suc n) (λ k. Members (block k)) j
+    go : In j (block n) ⊎ In j (gathered n block) → (In j (gathered n block) → InBlocks n (λ k. Members (block k)) j)
+        → InBlocks (suc n) (λ k. Members (block k)) j
     go (inl h) f = (n, omega arith, h)
     go (inr h) f = let r = f h in (r.0, omega (arith, r.1), r.2)
 
@@ -233,6 +242,10 @@ listed_blocks n block j = (λ h. in_gathered n block j h.0 h.1 h.2, of_gathered 
 
 -- the law
 pub union_of_extremes : UnionOfExtremes
-union_of_extremes at n block d = extremes_between at (InBlocks n (λ k. Members (block k))) (InBlocks n (λ k. Extreme at (Members (block k)))) (gathered n block) (listed_blocks n block) d
+union_of_extremes at n block d =
+    extremes_between at (InBlocks n (λ k. Members (block k))) (InBlocks n (λ k. Extreme at (Members (block k))))
+    (gathered n block) (listed_blocks n block) d
     (λ i b. (b.0, b.1, b.2.0))
-    (λ i h. (h.0.0, h.0.1, (h.0.2, λ m. h.1 (combination_within at (Others (Members (block h.0.0)) i) (Others (InBlocks n (λ k. Members (block k))) i) (at i) m (λ j o. ((h.0.0, h.0.1, o.0), o.1))))))
+    (λ i h. (h.0.0, h.0.1,
+        (h.0.2, λ m. h.1 (combination_within at (Others (Members (block h.0.0)) i)
+        (Others (InBlocks n (λ k. Members (block k))) i) (at i) m (λ j o. ((h.0.0, h.0.1, o.0), o.1))))))

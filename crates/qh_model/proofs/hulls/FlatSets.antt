@@ -38,7 +38,9 @@ forward_not_zero n (inr (x, inr (y, h))) e = positive_zero n.z (ap (λ v. v.z) e
 pub forward_along : (n m : Vector) → IsAlong n m → PointsForward n → PointsForward m
 forward_along n m h (inl x) = inl (positive_along h.s h.t n.x m.x h.some_s h.some_t h.x x)
 forward_along n m h (inr (x, inl y)) = inr (zero_along h.s h.t n.x m.x h.some_t h.x x, inl (positive_along h.s h.t n.y m.y h.some_s h.some_t h.y y))
-forward_along n m h (inr (x, inr (y, z))) = inr (zero_along h.s h.t n.x m.x h.some_t h.x x, inr (zero_along h.s h.t n.y m.y h.some_t h.y y, positive_along h.s h.t n.z m.z h.some_s h.some_t h.z z))
+forward_along n m h (inr (x, inr (y, z))) =
+    inr (zero_along h.s h.t n.x m.x h.some_t h.x x,
+    inr (zero_along h.s h.t n.y m.y h.some_t h.y y, positive_along h.s h.t n.z m.z h.some_s h.some_t h.z z))
 
 -- a direction and its opposite do not both point forward
 not_both : (x : ℤ) → pos 0 <ℤ x → pos 0 <ℤ neg_ℤ x → ⊥

@@ -1,5 +1,6 @@
 -- The number of edges of faces, as a function, and the list of distinct pairs that it counts.
-use Rattle.std.proofs.Common.{ℕ, ◌≡◌, ◌≢◌, ◌<◌, suc, List, [], ◌∷◌, ◌⊎◌, inl, inr, refl, sym, subst, ap, ◌∙◌, length, arith, Bool, true, false, cond, min, max, eqb-true}
+use Rattle.std.proofs.Common.{ℕ, ◌≡◌, ◌≢◌, ◌<◌, suc, List, [], ◌∷◌, ◌⊎◌, inl, inr, refl, sym, subst, ap, ◌∙◌, length,
+    arith, Bool, true, false, cond, min, max, eqb-true}
 use Rattle.std.proofs.lemmas.Bool.{eqb-false}
 use Rattle.std.specs.Prelude.{◌==◌, ◌&&◌, ◌||◌, if◌then◌else◌}
 use Rattle.std.specs.List.{flat_map, list_any}
@@ -25,7 +26,8 @@ pub length-distinct : (ps : List (ℕ × ℕ)) → length (distinct ps) ≡ coun
 length-distinct [] = refl
 length-distinct ((u, v) ∷ ps) = by ((u == v) || list_any (λ p. (p.0 == u) && (p.1 == v)) ps) (length-distinct ps)
   where
-    by : (b : Bool) → length (distinct ps) ≡ count_pairs ps → length (cond b (distinct ps) ((u, v) ∷ distinct ps)) ≡ cond b (count_pairs ps) (suc (count_pairs ps))
+    by : (b : Bool) → length (distinct ps) ≡ count_pairs ps
+        → length (cond b (distinct ps) ((u, v) ∷ distinct ps)) ≡ cond b (count_pairs ps) (suc (count_pairs ps))
     by true e = e
     by false e = ap suc e
 

@@ -15,8 +15,10 @@ use Rattle.qh_model.specs.laws.FaceLaws.{IsAlong, SpannedByExtremes}
 use Rattle.qh_model.specs.headline.Polygon.{Follows}
 use Rattle.qh_model.specs.headline.Polygons.{IsFacePolygon}
 use Rattle.qh_model.specs.laws.EdgeLaws.{OneFaceEachWay, OtherFace}
-use Rattle.qh_model.proofs.algebra.Order.{mul-pos, mul-nonneg_nonpos, mul-pos_neg, mul-neg_neg, cancel-nonpos, cancel-zero, zero_or_not, le_antisym, positive_le, product_zero}
-use Rattle.qh_model.proofs.algebra.VectorIdentities.{opposite, dot-opposite, edge_product, vol-first, vol-second, vol-third, vol-flip, vol-swap_last, left-flip, left-linear, in_line-vol, in_line-left, in_line-twice, in_line-last}
+use Rattle.qh_model.proofs.algebra.Order.{mul-pos, mul-nonneg_nonpos, mul-pos_neg, mul-neg_neg, cancel-nonpos,
+    cancel-zero, zero_or_not, le_antisym, positive_le, product_zero}
+use Rattle.qh_model.proofs.algebra.VectorIdentities.{opposite, dot-opposite, edge_product, vol-first, vol-second,
+    vol-third, vol-flip, vol-swap_last, left-flip, left-linear, in_line-vol, in_line-left, in_line-twice, in_line-last}
 use Rattle.qh_model.proofs.algebra.Signs.{less_differ}
 use Rattle.qh_model.proofs.algebra.Integers.{mul_comm}
 use Rattle.qh_model.proofs.extremes.Directions.{square-positive, vol_along, in_line-flip, zero_along}
@@ -89,7 +91,8 @@ pub record Third (at : ℕ → Vector) (A : ℕ → Type 0) (i j k u v : ℕ) : 
   pub not_v : w ≢ v
   pub turns : pos 0 <ℤ left (cross (at i) (at j) (at k)) (at u) (at v) (at w)
 
-module _ (at : ℕ → Vector) (ids : List ℕ) (d : HasDistinctPoints at (Members ids)) (i j k : ℕ) (q : List ℕ) (u v : ℕ) (way : Way at (Members ids) i j k q u v) where
+module _ (at : ℕ → Vector) (ids : List ℕ) (d : HasDistinctPoints at (Members ids)) (i j k : ℕ) (q : List ℕ) (u v : ℕ)
+    (way : Way at (Members ids) i j k q u v) where
   abbrev n : Vector
   n = cross (at i) (at j) (at k)
 
@@ -132,12 +135,14 @@ module _ (at : ℕ → Vector) (ids : List ℕ) (d : HasDistinctPoints at (Membe
   square = square-positive n way.triple.area
 
   -- volumes over u, v and a point of the plane
-  over : (l : ℕ) (y : Vector) → vol (at i) (at j) (at k) (at l) ≡ pos 0 → dot n n *ℤ vol (at u) (at v) (at l) y ≡ left n (at u) (at v) (at l) *ℤ vol (at i) (at j) (at k) y
+  over : (l : ℕ) (y : Vector) → vol (at i) (at j) (at k) (at l) ≡ pos 0
+      → dot n n *ℤ vol (at u) (at v) (at l) y ≡ left n (at u) (at v) (at l) *ℤ vol (at i) (at j) (at k) y
   over l y e = level_volume (at i) (at j) (at k) (at u) (at v) (at l) y has_u.1 has_v.1 e
 
   -- no member of the plane lies to the right
   not_right : (l : ℕ) → OnPlane at (Members ids) i j k l → pos 0 ≤ℤ left n (at u) (at v) (at l)
-  not_right l h = go (listed_part (Members ids) (λ x. vol (at i) (at j) (at k) (at x) ≡ pos 0) (λ x. zero_or_not (vol (at i) (at j) (at k) (at x))) ids (listed_itself ids))
+  not_right l h = go (listed_part (Members ids) (λ x. vol (at i) (at j) (at k) (at x) ≡ pos 0)
+      (λ x. zero_or_not (vol (at i) (at j) (at k) (at x))) ids (listed_itself ids))
     where
       F : ℕ → Type 0
       F = OnPlane at (Members ids) i j k
@@ -152,19 +157,24 @@ module _ (at : ℕ → Vector) (ids : List ℕ) (d : HasDistinctPoints at (Membe
       extreme x e = test (ℕ_discrete x u) (ℕ_discrete x v)
         where
           test : Dec (x ≡ u) → Dec (x ≡ v) → pos 0 ≤ℤ left n (at u) (at v) (at x)
-          test (yes p) b = level _ (ap (λ t. left n (at u) (at v) (at t)) p ∙ in_line-left n (at u) (at v) (at u) (in_line-flip (at u) (at v) (at u) (in_line-twice (at u) (at v))))
+          test (yes p) b = level _
+              (ap (λ t. left n (at u) (at v) (at t)) p
+              ∙ in_line-left n (at u) (at v) (at u) (in_line-flip (at u) (at v) (at u) (in_line-twice (at u) (at v))))
           test (no a) (yes p) = level _ (ap (λ t. left n (at u) (at v) (at t)) p ∙ in_line-left n (at u) (at v) (at v) (in_line-last (at u) (at v)))
           test (no a) (no b) = positive_le _ (to_left x e a b)
 
       -- along the opposite of c all extremes are lower than what lies to the right
       lower : (x : ℕ) → Extreme at F x → left n (at u) (at v) (at l) <ℤ pos 0 → dot (opposite c) (at x) <ℤ dot (opposite c) (at l)
-      lower x e r = order _ _ _ _ _ _ _ (left-linear n (at u) (at v) (at l)) (left-linear n (at u) (at v) (at x)) (dot-opposite c (at x)) (dot-opposite c (at l)) r (extreme x ((extremes_of_face at ids i j k way.triple.supports x).0 e))
+      lower x e r = order _ _ _ _ _ _ _ (left-linear n (at u) (at v) (at l)) (left-linear n (at u) (at v) (at x))
+          (dot-opposite c (at x)) (dot-opposite c (at l)) r
+          (extreme x ((extremes_of_face at ids i j k way.triple.supports x).0 e))
         where
           order : (y z p r m x' l' : ℤ) → y ≡ p +ℤ m → z ≡ r +ℤ m → x' ≡ neg_ℤ r → l' ≡ neg_ℤ p → y <ℤ pos 0 → pos 0 ≤ℤ z → x' <ℤ l'
           order y z p r m x' l' e f g h a b = omega (arith, ints)
 
       go : (ys : List ℕ) × Listed F ys → pos 0 ≤ℤ left n (at u) (at v) (at l)
-      go (ys, s) = by_lt_z (left n (at u) (at v) (at l)) (pos 0) (λ r. absurd (clash r (combination_of_extremes at F ys s (λ x y fx fy e. d x y fx.0 fy.0 e) l h))) (λ r. r)
+      go (ys, s) = by_lt_z (left n (at u) (at v) (at l)) (pos 0)
+          (λ r. absurd (clash r (combination_of_extremes at F ys s (λ x y fx fy e. d x y fx.0 fy.0 e) l h))) (λ r. r)
         where
           clash : left n (at u) (at v) (at l) <ℤ pos 0 → Combination at (Extreme at F) (at l) → ⊥
           clash r m = all_lower at (Extreme at F) (at l) (opposite c) m (lower m.a m.has_a r) (lower m.b m.has_b r) (lower m.c m.has_c r) (lower m.d m.has_d r)
@@ -175,7 +185,9 @@ both_zero : (x y : ℤ) → x ≡ neg_ℤ y → x ≤ℤ pos 0 → y ≤ℤ pos 
 both_zero x y e h k = omega (arith, ints)
 
 -- a face seen from a triangle of its plane
-seen_from : (at : ℕ → Vector) (A : ℕ → Type 0) (i j k u v y : ℕ) (q : List ℕ) → IsFacePolygon at A i j k q → IsAlong (cross (at i) (at j) (at k)) (cross (at u) (at v) (at y)) → vol (at i) (at j) (at k) (at u) ≡ pos 0 → IsFacePolygon at A u v y q
+seen_from : (at : ℕ → Vector) (A : ℕ → Type 0) (i j k u v y : ℕ) (q : List ℕ) → IsFacePolygon at A i j k q
+    → IsAlong (cross (at i) (at j) (at k)) (cross (at u) (at v) (at y)) → vol (at i) (at j) (at k) (at u) ≡ pos 0
+    → IsFacePolygon at A u v y q
 seen_from at A i j k u v y q p h z =
     polygon_as at (OnPlane at (Extreme at A) i j k) (OnPlane at (Extreme at A) u v y) (cross (at i) (at j) (at k)) (cross (at u) (at v) (at y)) q
     (λ l. (λ o. (o.0, zero_along h.s h.t _ _ h.some_t (scale l) o.1), λ o. (o.0, zero_along h.t h.s _ _ h.some_s (sym (scale l)) o.1))) h p
@@ -198,17 +210,25 @@ one_face_each_way at ids i j k a b c p q u v d t r f g x y = go (third at ids d 
 
     go : Third at A i j k u v → Third at A a b c u v → p ≡ q
     go w s = one_polygon at (OnPlane at (Extreme at A) u v s.w) (cross (at u) (at v) (at s.w)) p q
-        (seen_from at A i j k u v s.w p f (level_along (at i) (at j) (at k) (at u) (at v) (at s.w) t.area (has_u at ids d i j k p u v one).1 (has_v at ids d i j k p u v one).1 level (to_left at ids d i j k p u v one s.w (s.member.0, level) s.not_u s.not_v)) (has_u at ids d i j k p u v one).1)
-        (seen_from at A a b c u v s.w q g (level_along (at a) (at b) (at c) (at u) (at v) (at s.w) r.area (has_u at ids d a b c q u v two).1 (has_v at ids d a b c q u v two).1 s.member.1 s.turns) (has_u at ids d a b c q u v two).1)
+        (seen_from at A i j k u v s.w p f
+        (level_along (at i) (at j) (at k) (at u) (at v) (at s.w) t.area (has_u at ids d i j k p u v one).1
+        (has_v at ids d i j k p u v one).1 level
+        (to_left at ids d i j k p u v one s.w (s.member.0, level) s.not_u s.not_v)) (has_u at ids d i j k p u v one).1)
+        (seen_from at A a b c u v s.w q g
+        (level_along (at a) (at b) (at c) (at u) (at v) (at s.w) r.area (has_u at ids d a b c q u v two).1
+        (has_v at ids d a b c q u v two).1 s.member.1 s.turns) (has_u at ids d a b c q u v two).1)
       where
         lhs : vol (at u) (at v) (at w.w) (at s.w) ≤ℤ pos 0
-        lhs = at_most _ _ _ _ (square at ids d i j k p u v one) (over at ids d i j k p u v one w.w (at s.w) w.member.1) (positive_le _ w.turns) (t.supports s.w s.member.0.0)
+        lhs = at_most _ _ _ _ (square at ids d i j k p u v one) (over at ids d i j k p u v one w.w (at s.w) w.member.1)
+            (positive_le _ w.turns) (t.supports s.w s.member.0.0)
 
         rhs : vol (at u) (at v) (at s.w) (at w.w) ≤ℤ pos 0
-        rhs = at_most _ _ _ _ (square at ids d a b c q u v two) (over at ids d a b c q u v two s.w (at w.w) s.member.1) (positive_le _ s.turns) (r.supports w.w w.member.0.0)
+        rhs = at_most _ _ _ _ (square at ids d a b c q u v two) (over at ids d a b c q u v two s.w (at w.w) s.member.1)
+            (positive_le _ s.turns) (r.supports w.w w.member.0.0)
 
         flat : left (cross (at i) (at j) (at k)) (at u) (at v) (at w.w) *ℤ vol (at i) (at j) (at k) (at s.w) ≡ pos 0
-        flat = sym (over at ids d i j k p u v one w.w (at s.w) w.member.1) ∙ product_zero _ _ (both_zero _ _ (vol-swap_last (at u) (at v) (at w.w) (at s.w)) lhs rhs)
+        flat = sym (over at ids d i j k p u v one w.w (at s.w) w.member.1)
+            ∙ product_zero _ _ (both_zero _ _ (vol-swap_last (at u) (at v) (at w.w) (at s.w)) lhs rhs)
 
         level : vol (at i) (at j) (at k) (at s.w) ≡ pos 0
         level = cancel-zero _ _ w.turns flat
@@ -238,7 +258,9 @@ true_below (negsuc n) h = omega (arith, ints)
 
 -- of two points the one beyond the plane of the other and the line u v comes first, by their volumes with a and b
 gift_wrap : (u v a b p y : Vector) → pos 0 <ℤ vol u v a b → pos 0 <ℤ vol u v p y → pos 0 <ℤ (vol u v a p *ℤ vol u v b y -ℤ vol u v b p *ℤ vol u v a y)
-gift_wrap u v a b p y h k = finish (vol u v a p *ℤ vol u v b y) (vol u v a y) (vol u v b p) (vol u v a b *ℤ vol u v p y) (edge_product u v a b p y) (mul-pos (vol u v a b) (vol u v p y) h k)
+gift_wrap u v a b p y h k =
+    finish (vol u v a p *ℤ vol u v b y) (vol u v a y) (vol u v b p) (vol u v a b *ℤ vol u v p y)
+    (edge_product u v a b p y) (mul-pos (vol u v a b) (vol u v p y) h k)
   where
     order : (x y z g : ℤ) → x -ℤ y ≡ g → z ≡ y → pos 0 <ℤ g → pos 0 <ℤ (x -ℤ z)
     order x y z g h e k = omega (arith, ints)
@@ -246,7 +268,9 @@ gift_wrap u v a b p y h k = finish (vol u v a p *ℤ vol u v b y) (vol u v a y) 
     finish : (x s t g : ℤ) → x -ℤ s *ℤ t ≡ g → pos 0 <ℤ g → pos 0 <ℤ (x -ℤ t *ℤ s)
     finish x s t g e h = order x (s *ℤ t) (t *ℤ s) g e (mul_comm t s) h
 
-module _ (at : ℕ → Vector) (ids : List ℕ) (d : HasDistinctPoints at (Members ids)) (solid : HasTetrahedron at (Members ids)) (i j k : ℕ) (q : List ℕ) (u v : ℕ) (way : Way at (Members ids) i j k q u v) (x : Third at (Members ids) i j k u v) where
+module _ (at : ℕ → Vector) (ids : List ℕ) (d : HasDistinctPoints at (Members ids))
+    (solid : HasTetrahedron at (Members ids)) (i j k : ℕ) (q : List ℕ) (u v : ℕ)
+    (way : Way at (Members ids) i j k q u v) (x : Third at (Members ids) i j k u v) where
   abbrev height : ℕ → ℤ
   height l = vol (at i) (at j) (at k) (at l)
 
@@ -256,7 +280,8 @@ module _ (at : ℕ → Vector) (ids : List ℕ) (d : HasDistinctPoints at (Membe
 
   -- for no member are they above
   not_over : (l : ℕ) → Members ids l → vol (at u) (at v) (at x.w) (at l) ≤ℤ pos 0
-  not_over l h = at_most _ _ _ _ (square at ids d i j k q u v way) (over at ids d i j k q u v way x.w (at l) x.member.1) (positive_le _ x.turns) (way.triple.supports l h)
+  not_over l h = at_most _ _ _ _ (square at ids d i j k q u v way) (over at ids d i j k q u v way x.w (at l) x.member.1)
+      (positive_le _ x.turns) (way.triple.supports l h)
 
   -- over the edge turned about, they are above 0
   turned : (l : ℕ) → height l <ℤ pos 0 → pos 0 <ℤ vol (at v) (at u) (at x.w) (at l)
@@ -279,8 +304,11 @@ module _ (at : ℕ → Vector) (ids : List ℕ) (d : HasDistinctPoints at (Membe
       level : (l : ℕ) → Members ids l → height l ≡ pos 0
       level l h = by_lt_z (height l) (pos 0) (λ r. absurd (none l h r)) (λ r. le_antisym (height l) (pos 0) (way.triple.supports l h) r)
 
-      product : dot (cross (at i) (at j) (at k)) (cross (at i) (at j) (at k)) *ℤ vol (at solid.i) (at solid.j) (at solid.k) (at solid.l) ≡ left (cross (at i) (at j) (at k)) (at solid.i) (at solid.j) (at solid.k) *ℤ height solid.l
-      product = level_volume (at i) (at j) (at k) (at solid.i) (at solid.j) (at solid.k) (at solid.l) (level solid.i solid.has_i) (level solid.j solid.has_j) (level solid.k solid.has_k)
+      product : dot (cross (at i) (at j) (at k)) (cross (at i) (at j) (at k))
+          *ℤ vol (at solid.i) (at solid.j) (at solid.k) (at solid.l)
+          ≡ left (cross (at i) (at j) (at k)) (at solid.i) (at solid.j) (at solid.k) *ℤ height solid.l
+      product = level_volume (at i) (at j) (at k) (at solid.i) (at solid.j) (at solid.k) (at solid.l)
+          (level solid.i solid.has_i) (level solid.j solid.has_j) (level solid.k solid.has_k)
 
   abbrev marked : ℕ → Bool
   marked l = is_below (height l)
@@ -299,19 +327,24 @@ module _ (at : ℕ → Vector) (ids : List ℕ) (d : HasDistinctPoints at (Membe
       base (inl f) = absurd (none f)
       base (inr b) = pick (least marked (λ l. vol (at v) (at u) (at x.w) (at l)) (λ l. vol (at v) (at u) (at b.m) (at l)) ids positive)
         where
-          pick : ((g : ℕ) → In g ids → marked g ≡ true → ⊥) ⊎ Least marked (λ l. vol (at v) (at u) (at x.w) (at l)) (λ l. vol (at v) (at u) (at b.m) (at l)) ids → Next
+          pick : ((g : ℕ) → In g ids → marked g ≡ true → ⊥)
+              ⊎ Least marked (λ l. vol (at v) (at u) (at x.w) (at l)) (λ l. vol (at v) (at u) (at b.m) (at l)) ids
+              → Next
           pick (inl f) = absurd (none f)
           pick (inr m) = record { w = m.m; has_w = m.there; low = true_below (height m.m) m.marked; first = first }
             where
               first : (l : ℕ) → Members ids l → height l <ℤ pos 0 → vol (at v) (at u) (at m.m) (at l) ≤ℤ pos 0
               first l h r = by_lt_z (pos 0) (vol (at v) (at u) (at m.m) (at l)) (λ s. absurd (m.least l h (below_true (height l) r) (beyond s))) (λ s. s)
                 where
-                  beyond : pos 0 <ℤ vol (at v) (at u) (at m.m) (at l) → pos 0 <ℤ (vol (at v) (at u) (at x.w) (at m.m) *ℤ vol (at v) (at u) (at b.m) (at l) -ℤ vol (at v) (at u) (at b.m) (at m.m) *ℤ vol (at v) (at u) (at x.w) (at l))
+                  beyond : pos 0 <ℤ vol (at v) (at u) (at m.m) (at l)
+                      → pos 0 <ℤ (vol (at v) (at u) (at x.w) (at m.m) *ℤ vol (at v) (at u) (at b.m) (at l)
+                      -ℤ vol (at v) (at u) (at b.m) (at m.m) *ℤ vol (at v) (at u) (at x.w) (at l))
                   beyond s = gift_wrap (at v) (at u) (at x.w) (at b.m) (at m.m) (at l) (positive b.m b.there b.marked) s
 
   -- the plane of the edge and that member supports the set
   triple : (w : Next) → IsSupportingTriple at (Members ids) v u w.w
-  triple w = record { has_i = (has_v at ids d i j k q u v way).0.0; has_j = (has_u at ids d i j k q u v way).0.0; has_k = w.has_w; area = area; supports = supports }
+  triple w = record { has_i = (has_v at ids d i j k q u v way).0.0; has_j = (has_u at ids d i j k q u v way).0.0;
+      has_k = w.has_w; area = area; supports = supports }
     where
       area : ¬ (AreInLine (at v) (at u) (at w.w))
       area e = less_differ _ (pos 0) (under w.w w.low) (sym (vol-both (at u) (at v) (at x.w) (at w.w)) ∙ in_line-vol (at v) (at u) (at w.w) (at x.w) e)
@@ -321,7 +354,8 @@ module _ (at : ℕ → Vector) (ids : List ℕ) (d : HasDistinctPoints at (Membe
         where
           level : height l ≡ pos 0 → vol (at v) (at u) (at w.w) (at l) ≤ℤ pos 0
           level e = subst (λ y. y ≤ℤ pos 0) (sym (vol-both (at u) (at v) (at l) (at w.w)))
-              (at_most _ _ _ _ (square at ids d i j k q u v way) (over at ids d i j k q u v way l (at w.w) e) (not_right at ids d i j k q u v way l (h, e)) (way.triple.supports w.w w.has_w))
+              (at_most _ _ _ _ (square at ids d i j k q u v way) (over at ids d i j k q u v way l (at w.w) e)
+              (not_right at ids d i j k q u v way l (h, e)) (way.triple.supports w.w w.has_w))
 
   -- in its polygon u comes after v
   comes_back : (w : Next) (p : List ℕ) → IsFacePolygon at (Members ids) v u w.w p → Follows v u p
@@ -334,7 +368,9 @@ module _ (at : ℕ → Vector) (ids : List ℕ) (d : HasDistinctPoints at (Membe
       has' = (f.members u).1 ((has_u at ids d i j k q u v way).0, vol-second (at v) (at u) (at w.w))
 
       differ : u ≢ v
-      differ e = not_zero _ x.turns (in_line-left (cross (at i) (at j) (at k)) (at u) (at v) (at x.w) (subst (λ t. AreInLine (at u) (at t) (at x.w)) e (in_line-twice (at u) (at x.w))))
+      differ e = not_zero _ x.turns
+          (in_line-left (cross (at i) (at j) (at k)) (at u) (at v) (at x.w)
+          (subst (λ t. AreInLine (at u) (at t) (at x.w)) e (in_line-twice (at u) (at x.w))))
 
       -- no member of the new plane lies to the right of the edge turned about
       not_right' : (y : ℕ) → In y p → pos 0 ≤ℤ left (cross (at v) (at u) (at w.w)) (at v) (at u) (at y)
@@ -363,7 +399,8 @@ other_face at ids qs d (inr (inr (inl e))) faces q m u v f = absurd (omega arith
 other_face at ids qs d (inr (inr (inr e))) faces q m u v f = absurd (omega arith)
 other_face at ids qs d (inl solid) faces q m u v f = go (faces.only q m)
   where
-    go : (i : ℕ) × (j : ℕ) × (k : ℕ) × IsSupportingTriple at (Members ids) i j k × IsFacePolygon at (Members ids) i j k q → (p : List ℕ) × In p qs × Follows v u p
+    go : (i : ℕ) × (j : ℕ) × (k : ℕ) × IsSupportingTriple at (Members ids) i j k
+        × IsFacePolygon at (Members ids) i j k q → (p : List ℕ) × In p qs × Follows v u p
     go (i, j, k, t, g) = turn (next at ids d solid.1 i j k q u v way x)
       where
         way : Way at (Members ids) i j k q u v

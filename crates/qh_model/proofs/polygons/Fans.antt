@@ -120,5 +120,6 @@ fans_support at ids qs d f t m = go (of_flat_map fan qs t m)
     go : (q : List ℕ) × In q qs × In t (fan q) → IsSupportingTriangle at (Members ids) t
     go (q, has, h) = face (f.only q has)
       where
-        face : (i : ℕ) × (j : ℕ) × (k : ℕ) × IsSupportingTriple at (Members ids) i j k × IsFacePolygon at (Members ids) i j k q → IsSupportingTriangle at (Members ids) t
+        face : (i : ℕ) × (j : ℕ) × (k : ℕ) × IsSupportingTriple at (Members ids) i j k
+            × IsFacePolygon at (Members ids) i j k q → IsSupportingTriangle at (Members ids) t
         face (i, j, k, triple, p) = face_fan at ids d i j k triple q t p h

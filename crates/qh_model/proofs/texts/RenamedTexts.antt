@@ -1,5 +1,6 @@
 -- The text of faces, of the points of the extreme ids, is that of the set.
-use Rattle.std.proofs.Common.{◌≡◌, ℕ, suc, Bool, true, false, cond, refl, List, [], ◌∷◌, ◌++◌, map, sym, ap, ap₂, ◌∙◌, inl, inr, eqb-true, eq-eqb, ne_eqb, get_or, decimal}
+use Rattle.std.proofs.Common.{◌≡◌, ℕ, suc, Bool, true, false, cond, refl, List, [], ◌∷◌, ◌++◌, map, sym, ap, ap₂, ◌∙◌,
+    inl, inr, eqb-true, eq-eqb, ne_eqb, get_or, decimal}
 use Rattle.std.proofs.lemmas.Bool.{eqb-false}
 use Rattle.std.proofs.lemmas.List.{length-map, map-append}
 use Rattle.std.proofs.lemmas.List.Folds.{flat_map-map}

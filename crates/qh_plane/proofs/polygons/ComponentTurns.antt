@@ -61,8 +61,11 @@ turns_agree pts n A flat u v w au av aw =
 
 -- the cycle over two chains in one plane
 pub joined-same : (pts : List Vector) (n : Vector) (A : ℕ → Type 0) (xs : List ℕ) → IsFlat n (place pts) A → ((x : ℕ) → In x xs → A x)
-    → joined (chain (turn_about n (place pts)) [] xs) (chain (turn_about n (place pts)) [] (reverse xs)) ≡ joined (chain (turn_of pts n) [] xs) (chain (turn_of pts n) [] (reverse xs))
-joined-same pts n A xs flat all = sym (ap (λ c. joined c (chain (turn_of pts n) [] (reverse xs))) (same xs all) ∙ ap (λ c. joined (chain (turn_about n (place pts)) [] xs) c) (same (reverse xs) back))
+    → joined (chain (turn_about n (place pts)) [] xs) (chain (turn_about n (place pts)) [] (reverse xs))
+        ≡ joined (chain (turn_of pts n) [] xs) (chain (turn_of pts n) [] (reverse xs))
+joined-same pts n A xs flat all =
+    sym (ap (λ c. joined c (chain (turn_of pts n) [] (reverse xs))) (same xs all)
+    ∙ ap (λ c. joined (chain (turn_about n (place pts)) [] xs) c) (same (reverse xs) back))
   where
     same : (ys : List ℕ) → ((x : ℕ) → In x ys → A x) → chain (turn_of pts n) [] ys ≡ chain (turn_about n (place pts)) [] ys
     same ys in_a = chain-same A (turn_of pts n) (turn_about n (place pts)) (turns_agree pts n A flat) [] ys (λ x i. absurd i) in_a

@@ -18,7 +18,9 @@ use Rattle.qh_plane.specs.contract.PlanarSets.{IsPlanarSet}
 
 -- the scalar product with the opposite
 negated : (c v : Vector) → dot (minus origin c) v ≡ neg_ℤ (dot c v)
-negated c v = ring (put c (put v [])) (dotE (record { x = less (con (pos 0)) (vec 0).x; y = less (con (pos 0)) (vec 0).y; z = less (con (pos 0)) (vec 0).z }) (vec 1)) (neg (dotE (vec 0) (vec 1))) refl
+negated c v = ring (put c (put v []))
+    (dotE (record { x = less (con (pos 0)) (vec 0).x; y = less (con (pos 0)) (vec 0).y;
+    z = less (con (pos 0)) (vec 0).z }) (vec 1)) (neg (dotE (vec 0) (vec 1))) refl
 
 -- what has the opposite zero is zero
 back_zero : (x : ℤ) → pos 0 -ℤ x ≡ pos 0 → x ≡ pos 0
@@ -57,11 +59,15 @@ module _ (pts : List Vector) (ids : List ℕ) (n : Vector) (p : IsPlanarSet pts 
     where
       go : (n ≡ c) ⊎ (n ≡ minus origin c) → ⊥
       go (inl e) = p.area (sym e ∙ h)
-      go (inr e) = let o : minus origin c ≡ origin = sym e ∙ h in p.area (vector_path c origin (back_zero c.x (ap (λ v. v.x) o)) (back_zero c.y (ap (λ v. v.y) o)) (back_zero c.z (ap (λ v. v.z) o)))
+      go (inr e) = let o : minus origin c ≡ origin = sym e ∙ h in
+          p.area (vector_path c origin (back_zero c.x (ap (λ v. v.x) o)) (back_zero c.y (ap (λ v. v.y) o))
+          (back_zero c.z (ap (λ v. v.z) o)))
 
   -- the ids are flat across the normal
   pub flat_of : IsFlat n (place pts) (λ x. In x ids)
-  flat_of = record { even = λ a b ma mb. none _ _ _ (between_eq n (place pts p.i) (place pts a) (place pts b)) (across b mb) (across a ma); some = square-positive n some }
+  flat_of = record { even =
+      λ a b ma mb. none _ _ _ (between_eq n (place pts p.i) (place pts a) (place pts b)) (across b mb) (across a ma);
+      some = square-positive n some }
 
   -- three of them are not in line
   pub planar_triangle : HasTriangle (place pts) (Members ids)
