@@ -1,6 +1,6 @@
 -- A byte string has one list of points as an OFF file, or one fault.
-use Rattle.std.proofs.Common.{◌≡◌, ◌∙◌, [], ◌∷◌, ◌++◌, ◌≤◌, ◌⊎◌, ℕ, List, Bool, true, false, cond, refl, ap, sym, arith,
-    suc, length, map, inl, inr, subst, nat_lt}
+use Rattle.std.proofs.Common.{◌≡◌, ◌∙◌, [], ◌∷◌, ◌++◌, ◌≤◌, ◌⊎◌, ℕ, List, Bool, true, false, cond, refl, ap, sym, arith}
+use Rattle.std.proofs.Common.{suc, length, map, inl, inr, subst, nat_lt}
 use Rattle.std.specs.Prelude.{ℤ, pos, codes, Option, Some, None}
 use Rattle.std.specs.List.{AllByRecursion}
 use Rattle.std.specs.Str.{bytes_eq}
@@ -52,8 +52,8 @@ one_reading bytes ps qs a b =
     let words : a.keyword ∷ a.numbered ++ a.rest ≡ b.keyword ∷ b.numbered ++ b.rest = sym a.words ∙ b.words in
     let after : a.numbered ++ a.rest ≡ b.numbered ++ b.rest = cc in
     let counts : pos (length ps) ≡ pos (length qs) =
-        same_first a.numbered b.numbered a.rest b.rest (pos (length ps)) (pos (length qs))
-        (a.faces ∷ a.edges ∷ coordinates ps) (b.faces ∷ b.edges ∷ coordinates qs) after a.numbers b.numbers in
+    same_first a.numbered b.numbered a.rest b.rest (pos (length ps)) (pos (length qs))
+    (a.faces ∷ a.edges ∷ coordinates ps) (b.faces ∷ b.edges ∷ coordinates qs) after a.numbers b.numbers in
     let count : length ps ≡ length qs = cc in
     let left = many a.numbered (pos (length ps) ∷ a.faces ∷ a.edges ∷ coordinates ps) a.numbers in
     let right = many b.numbered (pos (length qs) ∷ b.faces ∷ b.edges ∷ coordinates qs) b.numbers in
@@ -104,11 +104,11 @@ numbered ws h =
 whole : (bytes : List ℕ) (ws : List Word) → length bytes ≤ BYTE_LIMIT → off_words bytes ≡ ws → off_words_fault ws ≡ None
     → (ps : List Vector) × ReadsOff bytes ps
 whole bytes [] small e h = cc
-whole bytes (w ∷ ws) small e h = by (bytes_eq w.text (codes "OFF")) refl h
+whole bytes (w ∷ ws) small e h = by_test (bytes_eq w.text (codes "OFF")) refl h
   where
-    by : (b : Bool) → bytes_eq w.text (codes "OFF") ≡ b → cond b (counts_fault ws) (Some NotOff) ≡ None → (ps : List Vector) × ReadsOff bytes ps
-    by false t h = cc
-    by true t h =
+    by_test : (b : Bool) → bytes_eq w.text (codes "OFF") ≡ b → cond b (counts_fault ws) (Some NotOff) ≡ None → (ps : List Vector) × ReadsOff bytes ps
+    by_test false t h = cc
+    by_test true t h =
         let r = numbered ws h in (
           r.points,
           record {
@@ -129,18 +129,18 @@ whole bytes (w ∷ ws) small e h = by (bytes_eq w.text (codes "OFF")) refl h
 
 pub one_or_other : (bytes : List ℕ) → ((ps : List Vector) × ReadsOff bytes ps × (first_off_fault bytes ≡ None))
     ⊎ ((f : ReadFault) × (first_off_fault bytes ≡ Some f))
-one_or_other bytes = by (first_off_fault bytes) refl
+one_or_other bytes = by_option (first_off_fault bytes) refl
   where
     small : (b : Bool) → nat_lt BYTE_LIMIT (length bytes) ≡ b
         → cond b (Some Big) (off_words_fault (off_words bytes)) ≡ None → (ps : List Vector) × ReadsOff bytes ps
     small true e h = cc
     small false e h = whole bytes (off_words bytes) (grind (arith, nat_tests)) refl h
 
-    by : (o : Option ReadFault) → first_off_fault bytes ≡ o
+    by_option : (o : Option ReadFault) → first_off_fault bytes ≡ o
         → ((ps : List Vector) × ReadsOff bytes ps × (first_off_fault bytes ≡ None))
         ⊎ ((f : ReadFault) × (first_off_fault bytes ≡ Some f))
-    by None e = let r = small (nat_lt BYTE_LIMIT (length bytes)) refl e in inl (r.0, r.1, e)
-    by (Some f) e = inr (f, e)
+    by_option None e = let r = small (nat_lt BYTE_LIMIT (length bytes)) refl e in inl (r.0, r.1, e)
+    by_option (Some f) e = inr (f, e)
 
 -- ---- never both
 counts_clear : (ws rest : List Word) (faces edges : ℤ) (ps : List Vector) → numbers ws ≡ map Some (pos (length ps) ∷ faces ∷ edges ∷ coordinates ps)
@@ -163,6 +163,6 @@ never_both bytes ps r =
     let keyword : bytes_eq r.keyword.text (codes "OFF") ≡ true = ap (λ (t : List ℕ). bytes_eq t (codes "OFF")) r.is_off in
     let counts = counts_clear r.numbered r.rest r.faces r.edges ps r.numbers r.some r.few r.limit in
     let none : off_words_fault (r.keyword ∷ r.numbered ++ r.rest) ≡ None =
-        ap (λ (b : Bool). cond b (counts_fault (r.numbered ++ r.rest)) (Some NotOff)) keyword ∙ counts in
+    ap (λ (b : Bool). cond b (counts_fault (r.numbered ++ r.rest)) (Some NotOff)) keyword ∙ counts in
     subst (λ (b : Bool). cond b (Some Big) (off_words_fault (off_words bytes)) ≡ None) (sym (not_big (length bytes) r.small))
     (ap off_words_fault r.words ∙ none)

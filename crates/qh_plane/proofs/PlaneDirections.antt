@@ -43,7 +43,7 @@ bracket-plane n h a b c =
     ring (put n (put a (put b (put c (put h [])))))
     (mul (bracketE 1 3) (dotE (vec 4) (vec 2)))
     (less (add (mul (bracketE 1 2) (dotE (vec 4) (vec 3))) (mul (bracketE 2 3) (dotE (vec 4) (vec 1))))
-        (mul (detE (vec 1) (vec 2) (vec 3)) (dotE (vec 4) (vec 0)))) refl
+    (mul (detE (vec 1) (vec 2) (vec 3)) (dotE (vec 4) (vec 0)))) refl
 
 -- a last term that is zero
 no_last : (l x d k : ℤ) → l ≡ x -ℤ d *ℤ k → d ≡ pos 0 → l ≡ x

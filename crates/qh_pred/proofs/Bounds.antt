@@ -73,17 +73,18 @@ one_side-mul a b c d (inr s) (inr t) = inl (mul-nonpos a b s.0 t.1, mul-nonpos c
 area-within : (m : ℕ) (a b c d : ℤ) → unsigned_abs a ≤ m → unsigned_abs b ≤ m → unsigned_abs c ≤ m → unsigned_abs d ≤ m
     → unsigned_abs (a -ℤ d) ≤ m → unsigned_abs (c -ℤ b) ≤ m
     → unsigned_abs (a *ℤ b -ℤ c *ℤ d) ≤ m * m
-area-within m a b c d ha hb hc hd wide high = go (sizes_apart m a d wide) (sizes_apart m c b high)
+area-within m a b c d ha hb hc hd wide high = by_cases (sizes_apart m a d wide) (sizes_apart m c b high)
   where
     sum : unsigned_abs a * unsigned_abs b + unsigned_abs c * unsigned_abs d ≤ m * m → unsigned_abs (a *ℤ b -ℤ c *ℤ d) ≤ m * m
     sum l = let r = within-sub (a *ℤ b) (c *ℤ d) (unsigned_abs a * unsigned_abs b) (unsigned_abs c * unsigned_abs d)
         (within-mul a b _ _ (omega arith) (omega arith)) (within-mul c d _ _ (omega arith) (omega arith)) in
         omega (arith, r, l)
 
-    go : (unsigned_abs a + unsigned_abs d ≤ m) ⊎ OnOneSide a d → (unsigned_abs c + unsigned_abs b ≤ m) ⊎ OnOneSide c b → unsigned_abs (a *ℤ b -ℤ c *ℤ d) ≤ m * m
-    go (inl l) k = sum (rectangles m (unsigned_abs a) (unsigned_abs b) (unsigned_abs c) (unsigned_abs d) l hb hc)
-    go (inr s) (inl l) = let r = rectangles m (unsigned_abs c) (unsigned_abs d) (unsigned_abs a) (unsigned_abs b) l hd ha in sum (omega (arith, r))
-    go (inr s) (inr t) = one_side-sub (m * m) (a *ℤ b) (c *ℤ d) (one_side-mul a b c d s t) (within-mul a b m m ha hb) (within-mul c d m m hc hd)
+    by_cases : (unsigned_abs a + unsigned_abs d ≤ m) ⊎ OnOneSide a d
+        → (unsigned_abs c + unsigned_abs b ≤ m) ⊎ OnOneSide c b → unsigned_abs (a *ℤ b -ℤ c *ℤ d) ≤ m * m
+    by_cases (inl l) k = sum (rectangles m (unsigned_abs a) (unsigned_abs b) (unsigned_abs c) (unsigned_abs d) l hb hc)
+    by_cases (inr s) (inl l) = let r = rectangles m (unsigned_abs c) (unsigned_abs d) (unsigned_abs a) (unsigned_abs b) l hd ha in sum (omega (arith, r))
+    by_cases (inr s) (inr t) = one_side-sub (m * m) (a *ℤ b) (c *ℤ d) (one_side-mul a b c d s t) (within-mul a b m m ha hb) (within-mul c d m m hc hd)
 
 -- such an area fits, with its two products
 pub minor_fits : (m : ℕ) (a b c d : ℤ) → m * m < 2 ^ 63 → unsigned_abs a ≤ m → unsigned_abs b ≤ m → unsigned_abs c ≤ m
@@ -135,8 +136,8 @@ pub record DotFits (u v : Vector) (p q r : ℤ) : Type 0 where
 pub dot_fits : (u v : Vector) (p q r : ℤ) → IsNormal u → IsNormal v → p ≡ handed u.x v.x → q ≡ handed u.y v.y → r ≡ handed u.z v.z → DotFits u v p q r
 dot_fits u v p q r hu hv ep eq er = rw (kept u.x v.x p hu.x hv.x ep, kept u.y v.y q hu.y hv.y eq, kept u.z v.z r hu.z hv.z er)
     (sizes (normal_limit * normal_limit) (lit< tt) (within-mul u.x v.x normal_limit normal_limit hu.x hv.x)
-        (within-mul u.y v.y normal_limit normal_limit hu.y hv.y)
-        (within-mul u.z v.z normal_limit normal_limit hu.z hv.z))
+    (within-mul u.y v.y normal_limit normal_limit hu.y hv.y)
+    (within-mul u.z v.z normal_limit normal_limit hu.z hv.z))
   where
     sizes : (m : ℕ) → 3 * m < 2 ^ 127 → unsigned_abs (u.x *ℤ v.x) ≤ m → unsigned_abs (u.y *ℤ v.y) ≤ m
         → unsigned_abs (u.z *ℤ v.z) ≤ m → DotFits u v (u.x *ℤ v.x) (u.y *ℤ v.y) (u.z *ℤ v.z)
@@ -155,9 +156,9 @@ dot_fits u v p q r hu hv ep eq er = rw (kept u.x v.x p hu.x hv.x ep, kept u.y v.
 pub dot-within : (u v : Vector) → IsNormal u → IsNormal v → unsigned_abs (dot u v) ≤ offset_limit
 dot-within u v hu hv =
     sum (normal_limit * normal_limit) (u.x *ℤ v.x) (u.y *ℤ v.y) (u.z *ℤ v.z)
-        (within-mul u.x v.x normal_limit normal_limit hu.x hv.x)
-        (within-mul u.y v.y normal_limit normal_limit hu.y hv.y)
-        (within-mul u.z v.z normal_limit normal_limit hu.z hv.z)
+    (within-mul u.x v.x normal_limit normal_limit hu.x hv.x)
+    (within-mul u.y v.y normal_limit normal_limit hu.y hv.y)
+    (within-mul u.z v.z normal_limit normal_limit hu.z hv.z)
   where
     sum : (m : ℕ) (x y z : ℤ) → unsigned_abs x ≤ m → unsigned_abs y ≤ m → unsigned_abs z ≤ m → unsigned_abs (x +ℤ y +ℤ z) ≤ 3 * m
     sum m x y z hx hy hz = let two = within-add x y m m hx hy in let whole = within-add (x +ℤ y) z (m + m) m two hz in omega (arith, whole)

@@ -30,8 +30,8 @@ height_fits inside plane p r h is e b =
     let f1 : FitsSigned w128 r = fits_wide r offset_limit b (lit< tt) in
     let f2 : FitsSigned w128 inside.offset = fits_wide inside.offset offset_limit h.offset (lit< tt) in
     let f3 : FitsSigned w128 (r -ℤ inside.offset) =
-        fits_wide (r -ℤ inside.offset) (offset_limit + offset_limit)
-        (within-sub r inside.offset offset_limit offset_limit b h.offset) (lit< tt) in
+    fits_wide (r -ℤ inside.offset) (offset_limit + offset_limit)
+    (within-sub r inside.offset offset_limit offset_limit b h.offset) (lit< tt) in
     let v : r -ℤ inside.offset ≡ height plane p = rw e (ap (λ (q : PlaneValue). dot plane.normal p -ℤ q.offset) is) in
     record {
       fits = simp to_z-of_z f3;

@@ -74,9 +74,10 @@ is_zero (negsuc n) = false
 -- adds a term
 abbrev pub ins_p : ℤ → Mono → Poly → Poly
 ins_p c m [] = (c, m) ∷ []
-ins_p c m (t ∷ p) = elim (eq_m m t.1)
-    [ true ↦ elim (is_zero (c +ℤ t.0)) [ true ↦ p | false ↦ (c +ℤ t.0, m) ∷ p ]
-    | false ↦ elim (lt_m m t.1) [ true ↦ (c, m) ∷ t ∷ p | false ↦ t ∷ ins_p c m p ] ]
+ins_p c m (t ∷ p) = elim (eq_m m t.1) [
+  | true ↦ elim (is_zero (c +ℤ t.0)) [ true ↦ p | false ↦ (c +ℤ t.0, m) ∷ p ]
+  | false ↦ elim (lt_m m t.1) [ true ↦ (c, m) ∷ t ∷ p | false ↦ t ∷ ins_p c m p ]
+]
 
 -- the sum of polynomials
 abbrev pub add_p : Poly → Poly → Poly
@@ -131,7 +132,7 @@ ins_m-value : (env : List ℤ) (i : ℕ) (m : Mono) → value_m env (ins_m i m) 
 ins_m-value env i [] = refl
 ins_m-value env i (j ∷ m) =
     elim (ltb i j) as (λ b. value_m env (elim b [ true ↦ i ∷ j ∷ m | false ↦ j ∷ ins_m i m ])
-        ≡ get_or env i (pos 0) *ℤ (get_or env j (pos 0) *ℤ value_m env m)) [
+    ≡ get_or env i (pos 0) *ℤ (get_or env j (pos 0) *ℤ value_m env m)) [
       | true ↦ refl
       | false ↦ ap (λ v. get_or env j (pos 0) *ℤ v) (ins_m-value env i m) ∙ mul_swap (get_or env j (pos 0)) (get_or env i (pos 0)) (value_m env m)
     ]
@@ -141,7 +142,7 @@ mul_m-value : (env : List ℤ) (m n : Mono) → value_m env (mul_m m n) ≡ valu
 mul_m-value env [] n = sym (one_mul (value_m env n))
 mul_m-value env (i ∷ m) n =
     ins_m-value env i (mul_m m n) ∙ ap (λ v. get_or env i (pos 0) *ℤ v) (mul_m-value env m n)
-        ∙ sym (mul_assoc (get_or env i (pos 0)) (value_m env m) (value_m env n))
+    ∙ sym (mul_assoc (get_or env i (pos 0)) (value_m env m) (value_m env n))
 
 -- two terms of one monomial together
 same_term : (env : List ℤ) (c d : ℤ) (m n : Mono) (r : ℤ) → m ≡ n → (c +ℤ d) *ℤ value_m env m +ℤ r ≡ c *ℤ value_m env m +ℤ (d *ℤ value_m env n +ℤ r)
@@ -165,10 +166,11 @@ zero_term env c m p false e = refl
 -- a step of the next
 ins_p-split : (env : List ℤ) (c : ℤ) (m : Mono) (t : ℤ × Mono) (p q : Poly) (b b' : Bool)
     → eq_m m t.1 ≡ b → value_p env q ≡ c *ℤ value_m env m +ℤ value_p env p
-    → value_p env (elim b
-        [ true ↦ elim (is_zero (c +ℤ t.0)) [ true ↦ p | false ↦ (c +ℤ t.0, m) ∷ p ]
-        | false ↦ elim b' [ true ↦ (c, m) ∷ t ∷ p | false ↦ t ∷ q ] ])
-        ≡ c *ℤ value_m env m +ℤ (t.0 *ℤ value_m env t.1 +ℤ value_p env p)
+    → value_p env (elim b [
+      | true ↦ elim (is_zero (c +ℤ t.0)) [ true ↦ p | false ↦ (c +ℤ t.0, m) ∷ p ]
+      | false ↦ elim b' [ true ↦ (c, m) ∷ t ∷ p | false ↦ t ∷ q ]
+    ])
+    ≡ c *ℤ value_m env m +ℤ (t.0 *ℤ value_m env t.1 +ℤ value_p env p)
 ins_p-split env c m t p q true b' e h = zero_term env (c +ℤ t.0) m p (is_zero (c +ℤ t.0)) refl ∙ same_term env c t.0 m t.1 (value_p env p) (eq_m-is m t.1 e)
 ins_p-split env c m t p q false true e h = refl
 ins_p-split env c m t p q false false e h = later_term (c *ℤ value_m env m) (t.0 *ℤ value_m env t.1) (value_p env p) (value_p env q) h
@@ -183,7 +185,7 @@ add_p-value : (env : List ℤ) (p q : Poly) → value_p env (add_p p q) ≡ valu
 add_p-value env [] q = sym (+ℤ_idl (value_p env q))
 add_p-value env (t ∷ p) q =
     ins_p-value env t.0 t.1 (add_p p q) ∙ ap (λ v. t.0 *ℤ value_m env t.1 +ℤ v) (add_p-value env p q)
-        ∙ sym (+ℤ_assoc (t.0 *ℤ value_m env t.1) (value_p env p) (value_p env q))
+    ∙ sym (+ℤ_assoc (t.0 *ℤ value_m env t.1) (value_p env p) (value_p env q))
 
 -- (c d) (m n) = c m (d n)
 four_swap : (c d m n : ℤ) → c *ℤ d *ℤ (m *ℤ n) ≡ c *ℤ m *ℤ (d *ℤ n)
@@ -207,15 +209,15 @@ mul_p-value : (env : List ℤ) (p q : Poly) → value_p env (mul_p p q) ≡ valu
 mul_p-value env [] q = sym (zero_mul (value_p env q))
 mul_p-value env (t ∷ p) q =
     mul_t-value env t.0 t.1 q (mul_p p q) ∙ ap (λ v. t.0 *ℤ value_m env t.1 *ℤ value_p env q +ℤ v) (mul_p-value env p q)
-        ∙ sym (add_mul (t.0 *ℤ value_m env t.1) (value_p env p) (value_p env q))
+    ∙ sym (add_mul (t.0 *ℤ value_m env t.1) (value_p env p) (value_p env q))
 
 -- an opposite
 neg_p-value : (env : List ℤ) (p : Poly) → value_p env (neg_p p) ≡ neg_ℤ (value_p env p)
 neg_p-value env [] = refl
 neg_p-value env (t ∷ p) =
     ap (λ v. v +ℤ value_p env (neg_p p)) (neg_mul t.0 (value_m env t.1))
-        ∙ ap (λ v. neg_ℤ (t.0 *ℤ value_m env t.1) +ℤ v) (neg_p-value env p)
-        ∙ sym (neg_ℤ-+ℤ (t.0 *ℤ value_m env t.1) (value_p env p))
+    ∙ ap (λ v. neg_ℤ (t.0 *ℤ value_m env t.1) +ℤ v) (neg_p-value env p)
+    ∙ sym (neg_ℤ-+ℤ (t.0 *ℤ value_m env t.1) (value_p env p))
 
 -- the polynomial of an expression has its value
 norm-value : (env : List ℤ) (e : Expr) → value_p env (norm e) ≡ value env e

@@ -67,8 +67,8 @@ unfolding vol cross
 vol-boundary a b c o p =
     ring (put a (put b (put c (put o (put p []))))) (volE (vec 0) (vec 1) (vec 2) (vec 4))
     (add (volE (vec 0) (vec 1) (vec 2) (vec 3))
-        (add (add (volE (vec 0) (vec 1) (vec 3) (vec 4)) (volE (vec 1) (vec 2) (vec 3) (vec 4)))
-        (volE (vec 2) (vec 0) (vec 3) (vec 4)))) refl
+    (add (add (volE (vec 0) (vec 1) (vec 3) (vec 4)) (volE (vec 1) (vec 2) (vec 3) (vec 4)))
+    (volE (vec 2) (vec 0) (vec 3) (vec 4)))) refl
 
 -- separator cancellation, with d x = w . (x - p)
 unfoldable pub depth : Vector → Vector → Vector → ℤ
@@ -81,8 +81,8 @@ vol-depths w a b c r p =
     ring (put w (put a (put b (put c (put r (put p []))))))
     (mul (volE (vec 1) (vec 2) (vec 3) (vec 5)) (dotE (vec 0) (subE (vec 5) (vec 4))))
     (add (add (mul (volE (vec 1) (vec 2) (vec 4) (vec 5)) (dotE (vec 0) (subE (vec 5) (vec 3))))
-        (mul (volE (vec 2) (vec 3) (vec 4) (vec 5)) (dotE (vec 0) (subE (vec 5) (vec 1))))) (mul
-        (volE (vec 3) (vec 1) (vec 4) (vec 5)) (dotE (vec 0) (subE (vec 5) (vec 2))))) refl
+    (mul (volE (vec 2) (vec 3) (vec 4) (vec 5)) (dotE (vec 0) (subE (vec 5) (vec 1))))) (mul
+    (volE (vec 3) (vec 1) (vec 4) (vec 5)) (dotE (vec 0) (subE (vec 5) (vec 2))))) refl
 
 -- an equation from others: the difference of its sides is a combination of theirs
 no_term : (c l r : ℤ) → l ≡ r → c *ℤ (l -ℤ r) ≡ pos 0

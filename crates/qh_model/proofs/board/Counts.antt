@@ -1,8 +1,9 @@
 -- Each event is counted once: by a claim, a delivered node or a mark.
 use Rattle.std.proofs.Common.{◌≡◌, ℕ, ◌+◌, ◌-◌, ◌*◌, ◌<◌, ◌≤◌, Bool, true, false, List, [], ◌∷◌, length, sym, refl, ap, ◌∙◌, subst, arith}
-use Rattle.qh_model.specs.contract.BoardMachine.{Place, untouched, held, parked, used, published, Mark, none, left,
-    gave_up, Machine, start, put, parent, sibling, Event, claim_got, claim_over, arrive_first, arrive_second, publish,
-    leave, give_up, Can, after, run, CanRun, settled, sum_to}
+use Rattle.qh_model.specs.contract.BoardMachine.{Place, untouched, held, parked, used, published, Mark, none, left}
+use Rattle.qh_model.specs.contract.BoardMachine.{gave_up, Machine, start, put, parent, sibling, Event, claim_got}
+use Rattle.qh_model.specs.contract.BoardMachine.{claim_over, arrive_first, arrive_second, publish, leave, give_up, Can}
+use Rattle.qh_model.specs.contract.BoardMachine.{after, run, CanRun, settled, sum_to}
 use Rattle.qh_model.specs.steps.Endings.{ended}
 use Rattle.qh_model.proofs.board.Updates.{put_here, put_else, sum_put, sum_most, sum_zero, sum_less}
 use Rattle.qh_model.proofs.board.Kept.{Consistent, ranged, keeps_good, r_i, n_i, fresh}
@@ -61,9 +62,12 @@ module _ (B W : ℕ) (some : 0 < B) where
 
   pub counts_start : Counts start 0
   unfolding settled_sum over_sum mark_sum one_if
-  counts_start = record { steps = let a = sum_zero (λ i. settled (start.node i)) (2 * B) (λ i. refl) in
-      let b = sum_zero (λ w. ended (start.mark w)) W (λ i. refl) in omega arith; drawn = omega arith;
-      early = λ _. sum_zero (λ w. one_if (start.over w)) W (λ i. refl) }
+  counts_start = record {
+    steps = let a = sum_zero (λ i. settled (start.node i)) (2 * B) (λ i. refl) in
+        let b = sum_zero (λ w. ended (start.mark w)) W (λ i. refl) in omega arith;
+    drawn = omega arith;
+    early = λ _. sum_zero (λ w. one_if (start.over w)) W (λ i. refl);
+  }
 
   counts : (m : Machine) (n : ℕ) (e : Event) → Consistent B W m → Counts m n → Can B W m e → Counts (after B W m e) (n + 1)
   unfolding settled_sum over_sum mark_sum one_if

@@ -2,9 +2,10 @@
 use Rattle.std.proofs.Common.{◌≡◌, ◌≢◌, ◌⊎◌, inl, inr, ⊎_elim, ℕ, ◌+◌, ◌<◌, ◌≤◌, true, false, List, [], ◌∷◌, ◌++◌, sym, refl, ap, ◌∙◌, subst, arith}
 use mathlib.Core.Logic.{dite}
 use native.Mathlib.Decide.{ℕ_discrete}
-use Rattle.qh_model.specs.contract.BoardMachine.{untouched, held, parked, published, none, left, gave_up, Machine,
-    start, put, Event, claim_got, claim_over, arrive_first, arrive_second, publish, leave, give_up, HoldsNothing, Can,
-    after, run, CanRun, settled}
+use Rattle.qh_model.specs.contract.BoardMachine.{untouched, held, parked, published, none, left, gave_up, Machine}
+use Rattle.qh_model.specs.contract.BoardMachine.{start, put, Event, claim_got, claim_over, arrive_first, arrive_second}
+use Rattle.qh_model.specs.contract.BoardMachine.{publish, leave, give_up, HoldsNothing, Can, after, run, CanRun}
+use Rattle.qh_model.specs.contract.BoardMachine.{settled}
 use Rattle.qh_model.proofs.board.Updates.{put_here, put_else, at_put}
 use Rattle.qh_model.proofs.board.Kept.{Consistent, Cases, same, spent, got, joined, cases, fresh, keeps_good, all_good}
 
@@ -22,12 +23,12 @@ module _ (B W : ℕ) (some : 0 < B) where
   settled_stays m (arrive_first w i) g can j h =
       dite (ℕ_discrete j i) (λ e. ap settled (ap (put m.node i parked) e ∙ put_here m.node i parked))
       (λ ne. ap settled (put_else m.node i parked j ne) ∙ h)
-  settled_stays m (arrive_second w i) g can j h = go (cases m.node w i j (joined m.node w i j) refl)
+  settled_stays m (arrive_second w i) g can j h = by_case (cases m.node w i j (joined m.node w i j) refl)
     where
-      go : Cases m.node w i j (joined m.node w i j) → settled (joined m.node w i j) ≡ 1
-      go (same a b c t) = sym (ap settled t) ∙ h
-      go (spent a t) = sym (ap settled t)
-      go (got a t) = absurd (never_both (settled (m.node j)) (ap settled (ap m.node a ∙ fresh B W some m g w i can.0 can.1 can.2 can.3)) h)
+      by_case : Cases m.node w i j (joined m.node w i j) → settled (joined m.node w i j) ≡ 1
+      by_case (same a b c t) = sym (ap settled t) ∙ h
+      by_case (spent a t) = sym (ap settled t)
+      by_case (got a t) = absurd (never_both (settled (m.node j)) (ap settled (ap m.node a ∙ fresh B W some m g w i can.0 can.1 can.2 can.3)) h)
   settled_stays m (publish w) g can j h =
       dite (ℕ_discrete j 1) (λ e. ap settled (ap (put m.node 1 published) e ∙ put_here m.node 1 published))
       (λ ne. ap settled (put_else m.node 1 published j ne) ∙ h)
@@ -44,12 +45,12 @@ module _ (B W : ℕ) (some : 0 < B) where
   held_stays m (arrive_first w i) g can j v h =
       dite (ℕ_discrete j i) (λ e. inr (ap settled (ap (put m.node i parked) e ∙ put_here m.node i parked)))
       (λ ne. inl (put_else m.node i parked j ne ∙ h))
-  held_stays m (arrive_second w i) g can j v h = go (cases m.node w i j (joined m.node w i j) refl)
+  held_stays m (arrive_second w i) g can j v h = by_case (cases m.node w i j (joined m.node w i j) refl)
     where
-      go : Cases m.node w i j (joined m.node w i j) → (joined m.node w i j ≡ held v) ⊎ (settled (joined m.node w i j) ≡ 1)
-      go (same a b c t) = inl (sym t ∙ h)
-      go (spent a t) = inr (sym (ap settled t))
-      go (got a t) = let f : untouched ≡ held v = sym (ap m.node a ∙ fresh B W some m g w i can.0 can.1 can.2 can.3) ∙ h in absurd (cc)
+      by_case : Cases m.node w i j (joined m.node w i j) → (joined m.node w i j ≡ held v) ⊎ (settled (joined m.node w i j) ≡ 1)
+      by_case (same a b c t) = inl (sym t ∙ h)
+      by_case (spent a t) = inr (sym (ap settled t))
+      by_case (got a t) = let f : untouched ≡ held v = sym (ap m.node a ∙ fresh B W some m g w i can.0 can.1 can.2 can.3) ∙ h in absurd (cc)
   held_stays m (publish w) g can j v h =
       dite (ℕ_discrete j 1) (λ e. inr (ap settled (ap (put m.node 1 published) e ∙ put_here m.node 1 published)))
       (λ ne. inl (put_else m.node 1 published j ne ∙ h))
@@ -65,13 +66,13 @@ module _ (B W : ℕ) (some : 0 < B) where
   held_on m (arrive_first w i) g can j v n h =
       put_else m.node i parked j (λ e. let f : held w ≡ held v = sym (ap m.node e ∙ can.1) ∙ h in let z : w ≡ v = cc in
       n (ap m.mark (sym z) ∙ can.0.1)) ∙ h
-  held_on m (arrive_second w i) g can j v n h = go (cases m.node w i j (joined m.node w i j) refl)
+  held_on m (arrive_second w i) g can j v n h = by_case (cases m.node w i j (joined m.node w i j) refl)
     where
-      go : Cases m.node w i j (joined m.node w i j) → joined m.node w i j ≡ held v
-      go (same a b c t) = sym t ∙ h
-      go (spent (inl a) t) = let f : held w ≡ held v = sym (ap m.node a ∙ can.1) ∙ h in let z : w ≡ v = cc in absurd (n (ap m.mark (sym z) ∙ can.0.1))
-      go (spent (inr a) t) = let f : parked ≡ held v = sym (ap m.node a ∙ can.3) ∙ h in absurd (cc)
-      go (got a t) = let f : untouched ≡ held v = sym (ap m.node a ∙ fresh B W some m g w i can.0 can.1 can.2 can.3) ∙ h in absurd (cc)
+      by_case : Cases m.node w i j (joined m.node w i j) → joined m.node w i j ≡ held v
+      by_case (same a b c t) = sym t ∙ h
+      by_case (spent (inl a) t) = let f : held w ≡ held v = sym (ap m.node a ∙ can.1) ∙ h in let z : w ≡ v = cc in absurd (n (ap m.mark (sym z) ∙ can.0.1))
+      by_case (spent (inr a) t) = let f : parked ≡ held v = sym (ap m.node a ∙ can.3) ∙ h in absurd (cc)
+      by_case (got a t) = let f : untouched ≡ held v = sym (ap m.node a ∙ fresh B W some m g w i can.0 can.1 can.2 can.3) ∙ h in absurd (cc)
   held_on m (publish w) g can j v n h =
       put_else m.node 1 published j (λ e. let f : held w ≡ held v = sym (ap m.node e ∙ can.1) ∙ h in
       let z : w ≡ v = cc in n (ap m.mark (sym z) ∙ can.0.1)) ∙ h
@@ -165,20 +166,40 @@ module _ (B W : ℕ) (some : 0 < B) where
 
   keeps_ended : (m : Machine) (e : Event) → Consistent B W m → Can B W m e → Ended m → Ended (after B W m e)
   keeps_ended m (claim_got w) g can s =
-      record { stuck = still_stuck m (claim_got w) g can s; empty = still_empty m (claim_got w) can s;
-      unmarked = s.unmarked; going = s.going }
+      record {
+        stuck = still_stuck m (claim_got w) g can s;
+        empty = still_empty m (claim_got w) can s;
+        unmarked = s.unmarked;
+        going = s.going;
+      }
   keeps_ended m (claim_over w) g can s =
-      record { stuck = still_stuck m (claim_over w) g can s; empty = still_empty m (claim_over w) can s;
-      unmarked = s.unmarked; going = λ v h. beyond m.over w true false v can.0.0 h (s.going v h) }
+      record {
+        stuck = still_stuck m (claim_over w) g can s;
+        empty = still_empty m (claim_over w) can s;
+        unmarked = s.unmarked;
+        going = λ v h. beyond m.over w true false v can.0.0 h (s.going v h);
+      }
   keeps_ended m (arrive_first w i) g can s =
-      record { stuck = still_stuck m (arrive_first w i) g can s; empty = still_empty m (arrive_first w i) can s;
-      unmarked = s.unmarked; going = s.going }
+      record {
+        stuck = still_stuck m (arrive_first w i) g can s;
+        empty = still_empty m (arrive_first w i) can s;
+        unmarked = s.unmarked;
+        going = s.going;
+      }
   keeps_ended m (arrive_second w i) g can s =
-      record { stuck = still_stuck m (arrive_second w i) g can s; empty = still_empty m (arrive_second w i) can s;
-      unmarked = s.unmarked; going = s.going }
+      record {
+        stuck = still_stuck m (arrive_second w i) g can s;
+        empty = still_empty m (arrive_second w i) can s;
+        unmarked = s.unmarked;
+        going = s.going;
+      }
   keeps_ended m (publish w) g can s =
-      record { stuck = still_stuck m (publish w) g can s; empty = still_empty m (publish w) can s;
-      unmarked = s.unmarked; going = s.going }
+      record {
+        stuck = still_stuck m (publish w) g can s;
+        empty = still_empty m (publish w) can s;
+        unmarked = s.unmarked;
+        going = s.going;
+      }
   keeps_ended m (leave w) g can s = record {
     stuck = λ v e. ⊎_elim (λ (t : (v ≡ w) × (left ≡ gave_up)). let f = t.1 in
         absurd (cc)) (λ (t : (v ≢ w) × (m.mark v ≡ gave_up)). s.stuck v t.1) (at_put m.mark w v left gave_up e);

@@ -1,11 +1,11 @@
 -- What every reachable state of the board keeps.
-use Rattle.std.proofs.Common.{◌≡◌, ◌≢◌, ◌⊎◌, inl, inr, ⊎_elim, ℕ, ◌+◌, ◌-◌, ◌*◌, ◌%◌, ◌<◌, ◌≤◌, true, List, [], ◌∷◌,
-    sym, refl, ap, ◌∙◌, subst, arith, eq-eqb, ne_eqb}
+use Rattle.std.proofs.Common.{◌≡◌, ◌≢◌, ◌⊎◌, inl, inr, ⊎_elim, ℕ, ◌+◌, ◌-◌, ◌*◌, ◌%◌, ◌<◌, ◌≤◌, true, List, [], ◌∷◌}
+use Rattle.std.proofs.Common.{sym, refl, ap, ◌∙◌, subst, arith, eq-eqb, ne_eqb}
 use mathlib.Core.Logic.{dite}
 use native.Mathlib.Decide.{ℕ_discrete, dec_le}
-use Rattle.qh_model.specs.contract.BoardMachine.{Place, untouched, held, parked, used, published, Machine, start, put,
-    parent, sibling, Event, claim_got, claim_over, arrive_first, arrive_second, publish, leave, give_up, Acts, Can,
-    after, run, CanRun}
+use Rattle.qh_model.specs.contract.BoardMachine.{Place, untouched, held, parked, used, published, Machine, start, put}
+use Rattle.qh_model.specs.contract.BoardMachine.{parent, sibling, Event, claim_got, claim_over, arrive_first}
+use Rattle.qh_model.specs.contract.BoardMachine.{arrive_second, publish, leave, give_up, Acts, Can, after, run, CanRun}
 use Rattle.qh_model.proofs.board.Updates.{put_here, put_else, at_put}
 
 -- of the claims and the nodes of B blocks and W passes
@@ -56,11 +56,25 @@ pub record Near (i : ℕ) : Type 0 where
 pub near : (i : ℕ) → 1 < i → Near i
 near i h = dite (ℕ_discrete (i % 2) 0)
     (λ e. let s = sibling_even i e in let b : sibling (i + 1) ≡ i = sibling_odd (i + 1) (omega arith) ∙ omega arith in
-    record { apart = omega arith; above = omega arith; above_sibling = omega arith; positive = omega arith;
-        back = ap sibling s ∙ b; same = ap parent s ∙ omega arith; both = inl (omega arith, omega arith) })
+    record {
+      apart = omega arith;
+      above = omega arith;
+      above_sibling = omega arith;
+      positive = omega arith;
+      back = ap sibling s ∙ b;
+      same = ap parent s ∙ omega arith;
+      both = inl (omega arith, omega arith);
+    })
     (λ o. let s = sibling_odd i o in let b : sibling (i - 1) ≡ i = sibling_even (i - 1) (omega arith) ∙ omega arith in
-    record { apart = omega arith; above = omega arith; above_sibling = omega arith; positive = omega arith;
-        back = ap sibling s ∙ b; same = ap parent s ∙ omega arith; both = inr (omega arith, omega arith) })
+    record {
+      apart = omega arith;
+      above = omega arith;
+      above_sibling = omega arith;
+      positive = omega arith;
+      back = ap sibling s ∙ b;
+      same = ap parent s ∙ omega arith;
+      both = inr (omega arith, omega arith);
+    })
 
 module _ (B W : ℕ) (some : 0 < B) where
   pub ranged : (m : Machine) → Consistent B W m → (i : ℕ) → m.node i ≢ untouched → (0 < i) × (i < 2 * B)
@@ -252,12 +266,12 @@ module _ (B W : ℕ) (some : 0 < B) (m : Machine) (g : Consistent B W m) (w i : 
       ∙ (put_else m.node i used j (λ q. let f : held w ≡ used = sym mine ∙ (ap m.node (sym q) ∙ e) in cc) ∙ e))
 
   grows : (j : ℕ) → m.node j ≢ untouched → joined m.node w i j ≢ untouched
-  grows j ne e = go (cases m.node w i j untouched e)
+  grows j ne e = by_case (cases m.node w i j untouched e)
     where
-      go : Cases m.node w i j untouched → ⊥
-      go (same a b c t) = ne t
-      go (spent a t) = cc
-      go (got a t) = cc
+      by_case : Cases m.node w i j untouched → ⊥
+      by_case (same a b c t) = ne t
+      by_case (spent a t) = cc
+      by_case (got a t) = cc
 
   joins : Consistent B W (record m { node = joined m.node w i })
   joins = record {
@@ -291,12 +305,14 @@ module _ (B W : ℕ) (some : 0 < B) (m : Machine) (g : Consistent B W m) (w i : 
       ones v j k (got a t) (got a' t') = a ∙ sym a'
 
       children : (j : ℕ) → j ≡ parent i → ArePair i → (joined m.node w i (2 * j) ≡ used) × (joined m.node w i (2 * j + 1) ≡ used)
-      children j e (inl t) =
-          (ap (λ (k : ℕ). joined m.node w i (2 * k)) e ∙ (ap (joined m.node w i) t.0 ∙ at_i),
-          ap (λ (k : ℕ). joined m.node w i (2 * k + 1)) e ∙ (ap (joined m.node w i) t.1 ∙ at_s))
-      children j e (inr t) =
-          (ap (λ (k : ℕ). joined m.node w i (2 * k)) e ∙ (ap (joined m.node w i) t.0 ∙ at_s),
-          ap (λ (k : ℕ). joined m.node w i (2 * k + 1)) e ∙ (ap (joined m.node w i) t.1 ∙ at_i))
+      children j e (inl t) = (
+        ap (λ (k : ℕ). joined m.node w i (2 * k)) e ∙ (ap (joined m.node w i) t.0 ∙ at_i),
+        ap (λ (k : ℕ). joined m.node w i (2 * k + 1)) e ∙ (ap (joined m.node w i) t.1 ∙ at_s),
+      )
+      children j e (inr t) = (
+        ap (λ (k : ℕ). joined m.node w i (2 * k)) e ∙ (ap (joined m.node w i) t.0 ∙ at_s),
+        ap (λ (k : ℕ). joined m.node w i (2 * k + 1)) e ∙ (ap (joined m.node w i) t.1 ∙ at_i),
+      )
 
       taken : (j : ℕ) → parent j ≡ parent i → joined m.node w i (parent j) ≢ untouched
       taken j e q = let f : held w ≡ untouched = sym at_p ∙ (ap (joined m.node w i) (sym e) ∙ q) in cc

@@ -16,9 +16,11 @@ module _ (B W : ℕ) where
   more_run m (x ∷ es) e = more_run (after B W m x) es e
 
   pub reach_more : (m : Machine) (e : Event) → Reachable B W m → Can B W m e → Reachable B W (after B W m e)
-  reach_more m e r can =
-      (r.0 ++ e ∷ [], more_runs start r.0 e r.1 (subst (λ (z : Machine). Can B W z e) (sym r.2) can),
-      more_run start r.0 e ∙ ap (λ (z : Machine). after B W z e) r.2)
+  reach_more m e r can = (
+    r.0 ++ e ∷ [],
+    more_runs start r.0 e r.1 (subst (λ (z : Machine). Can B W z e) (sym r.2) can),
+    more_run start r.0 e ∙ ap (λ (z : Machine). after B W z e) r.2,
+  )
 
   pub reach_good : (some : 0 < B) (m : Machine) → Reachable B W m → Consistent B W m
   reach_good some m r = subst (Consistent B W) r.2 (all_good B W some start r.0 (starts B W some) r.1)

@@ -74,8 +74,8 @@ sum_z-same_counts eq t f [] (y ∷ ys) h = let p = one_there eq t y (count (eq y
 sum_z-same_counts eq t f (x ∷ xs) ys h =
     let there : 0 < count (eq x) ys = (let p = one_there eq t x (count (eq x) xs) in let e = h x in omega arith) in
     let ih = sum_z-same_counts eq t f xs (drop_first (eq x) ys)
-        (λ z. cancel (cond (eq z x) 1 0) (count (eq z) xs) (count (eq z) (drop_first (eq x) ys))
-        (h z ∙ count-drop_first eq t (eq z) x ys there)) in
+    (λ z. cancel (cond (eq z x) 1 0) (count (eq z) xs) (count (eq z) (drop_first (eq x) ys))
+    (h z ∙ count-drop_first eq t (eq z) x ys there)) in
     rw ih (sym (sum_z-drop_first eq t f x ys there))
 
 -- the count is that of the definitions: std's

@@ -210,7 +210,7 @@ scaled_dot W u v w x y z = simp ring_rules
 combined_dot : (k l m n u v w ax ay az bx by bz cx cy cz dx dy dz : ℤ) →
     u *ℤ (k *ℤ ax +ℤ l *ℤ bx +ℤ m *ℤ cx +ℤ n *ℤ dx) +ℤ v *ℤ (k *ℤ ay +ℤ l *ℤ by +ℤ m *ℤ cy +ℤ n *ℤ dy) +ℤ w *ℤ (k *ℤ az +ℤ l *ℤ bz +ℤ m *ℤ cz +ℤ n *ℤ dz)
     ≡ k *ℤ (u *ℤ ax +ℤ v *ℤ ay +ℤ w *ℤ az) +ℤ l *ℤ (u *ℤ bx +ℤ v *ℤ by +ℤ w *ℤ bz) +ℤ m
-        *ℤ (u *ℤ cx +ℤ v *ℤ cy +ℤ w *ℤ cz) +ℤ n *ℤ (u *ℤ dx +ℤ v *ℤ dy +ℤ w *ℤ dz)
+    *ℤ (u *ℤ cx +ℤ v *ℤ cy +ℤ w *ℤ cz) +ℤ n *ℤ (u *ℤ dx +ℤ v *ℤ dy +ℤ w *ℤ dz)
 combined_dot k l m n u v w ax ay az bx by bz cx cy cz dx dy dz = simp ring_rules
 
 -- numbers below P do not balance to P
@@ -218,8 +218,14 @@ lower_weights : (k l m n : ℕ) (P A B C D : ℤ)
     → pos (k + l + m + n) *ℤ P ≡ pos k *ℤ A +ℤ pos l *ℤ B +ℤ pos m *ℤ C +ℤ pos n *ℤ D → 0 < k + l + m + n → A <ℤ P
     → B <ℤ P → C <ℤ P → D <ℤ P → ⊥
 lower_weights k l m n P A B C D e h a b c d =
-    omega (arith, ints, mul-le-mul_left k (lt_out A P a), mul-le-mul_left l (lt_out B P b),
-    mul-le-mul_left m (lt_out C P c), mul-le-mul_left n (lt_out D P d))
+    omega (
+      arith,
+      ints,
+      mul-le-mul_left k (lt_out A P a),
+      mul-le-mul_left l (lt_out B P b),
+      mul-le-mul_left m (lt_out C P c),
+      mul-le-mul_left n (lt_out D P d),
+    )
 
 -- w puts no convex combination's members all below it
 pub all_lower : (at : ℕ → Vector) (A : ℕ → Type 0) (p w : Vector) (m : Combination at A p)
@@ -230,7 +236,7 @@ all_lower at A p w m = lower_weights m.w1 m.w2 m.w3 m.w4 (dot w p) (dot w (at m.
     ∙ ap (λ t. w.x *ℤ side (λ q. q.x) +ℤ w.y *ℤ t +ℤ w.z *ℤ (W *ℤ p.z)) m.y
     ∙ ap (λ t. w.x *ℤ side (λ q. q.x) +ℤ w.y *ℤ side (λ q. q.y) +ℤ w.z *ℤ t) m.z
     ∙ combined_dot (pos m.w1) (pos m.w2) (pos m.w3) (pos m.w4) w.x w.y w.z (at m.a).x (at m.a).y (at m.a).z (at m.b).x
-        (at m.b).y (at m.b).z (at m.c).x (at m.c).y (at m.c).z (at m.d).x (at m.d).y (at m.d).z)
+    (at m.b).y (at m.b).z (at m.c).x (at m.c).y (at m.c).z (at m.d).x (at m.d).y (at m.d).z)
     m.some_weight
   where
     W : ℤ

@@ -159,10 +159,10 @@ flat_tail n t f u = flat_head u.0 _ (f u.1)
 -- a vector is zero, or the space can be cut along it
 pub cut : (n : ℕ) (d : V (suc n)) → Flat (suc n) d ⊎ Cut n d
 cut zero (pos zero, t) = inl (flat_tail zero t (λ u. refl))
-cut (suc n) (pos zero, t) = pick n t (cut n t)
+cut (suc n) (pos zero, t) = by_cases n t (cut n t)
   where
-    pick : (n : ℕ) (t : V (suc n)) → Flat (suc n) t ⊎ Cut n t → Flat (suc (suc n)) (pos 0, t) ⊎ Cut (suc n) (pos 0, t)
-    pick n t (inl f) = inl (flat_tail (suc n) t f)
-    pick n t (inr c) = inr (by_tail n t c)
+    by_cases : (n : ℕ) (t : V (suc n)) → Flat (suc n) t ⊎ Cut n t → Flat (suc (suc n)) (pos 0, t) ⊎ Cut (suc n) (pos 0, t)
+    by_cases n t (inl f) = inl (flat_tail (suc n) t f)
+    by_cases n t (inr c) = inr (by_tail n t c)
 cut n (pos (suc k), t) = inr (by_head n (k * k + k + k) (pos (suc k)) t (omega (arith, ints)))
 cut n (negsuc k, t) = inr (by_head n (k * k + k + k) (negsuc k) t (omega (arith, ints)))

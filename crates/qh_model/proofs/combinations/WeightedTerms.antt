@@ -202,7 +202,7 @@ Claim A n = (f : A → V n) (xs : List A) → Balanced A n f xs ⊎ Separated A 
 -- one more vector, by the answer one dimension lower
 projected : {A : Type 0} (n : ℕ) (f : A → V (suc n)) (a : A) (xs : List A) (s : Separated A (suc n) f xs) → pos 0 ≤ℤ dot (suc n) s.w (f a)
     → (c : Cut n (f a)) → Balanced A n (λ b. c.project (f b)) xs ⊎ Separated A n (λ b. c.project (f b)) xs
-        → Balanced A (suc n) f (a ∷ xs) ⊎ Separated A (suc n) f (a ∷ xs)
+    → Balanced A (suc n) f (a ∷ xs) ⊎ Separated A (suc n) f (a ∷ xs)
 projected n f a xs s l c (inl m) = inl (mixed n f a xs s l c m)
 projected n f a xs s l c (inr p) = inr (parted n f a xs c p)
 

@@ -11,8 +11,9 @@ use Rattle.qh_model.specs.headline.Combination.{Combination}
 use Rattle.qh_model.specs.headline.Extreme.{Extreme}
 use Rattle.qh_model.specs.laws.DimensionLaws.{DimensionIsUnique, DimensionOfExtremes}
 use Rattle.qh_model.proofs.algebra.Order.{zero_or_not}
-use Rattle.qh_model.proofs.algebra.VectorIdentities.{vector_path, vol-linear, vol-first_last, vol-second_last,
-    vol-third_last, left-dot, left-linear, left-turn, in_line-vol, in_line-left, in_line-twice, opposite, dot-opposite}
+use Rattle.qh_model.proofs.algebra.VectorIdentities.{vector_path, vol-linear, vol-first_last, vol-second_last}
+use Rattle.qh_model.proofs.algebra.VectorIdentities.{vol-third_last, left-dot, left-linear, left-turn, in_line-vol}
+use Rattle.qh_model.proofs.algebra.VectorIdentities.{in_line-left, in_line-twice, opposite, dot-opposite}
 use Rattle.qh_model.proofs.algebra.Ring.{equal_from_zero}
 use Rattle.qh_model.proofs.extremes.ExtremeIds.{listed_itself, combination_of_extremes}
 use Rattle.qh_model.proofs.extremes.AffineForms.{Form, form_as, NonZero, non_zero_member}
@@ -116,8 +117,15 @@ triangle_about at A E m h n d = third (non_zero_member at E (at h.k) (m h.k h.ha
   where
     first : (k' j' : ℕ) → E k' → E j' → NonZero at E (λ q. left n q (at j') (at k')) → HasTriangle at E
     first k' j' ek ej r =
-        record { i = r.e; j = j'; k = k'; has_i = r.has; has_j = ej; has_k = ek;
-        area = λ e. r.differs (in_line-left n (at r.e) (at j') (at k') e) }
+        record {
+          i = r.e;
+          j = j';
+          k = k';
+          has_i = r.has;
+          has_j = ej;
+          has_k = ek;
+          area = λ e. r.differs (in_line-left n (at r.e) (at j') (at k') e);
+        }
 
     second : (k' : ℕ) → E k' → NonZero at E (λ q. left n (at h.i) q (at k')) → HasTriangle at E
     second k' ek r = first k' r.e ek r.has
@@ -160,34 +168,57 @@ segment_of at A E d m h = along (differ (at h.i) (at h.j) (λ e. h.differ (d h.i
     none a b e = omega (arith, ints)
 
     second : (u : Vector) (i' : ℕ) → E i' → NonZero at E (λ q. dot u (at i') -ℤ dot u q) → HasSegment E
-    second u i' ei r = record { i = i'; j = r.e; has_i = ei; has_j = r.has;
-        differ = λ e. r.differs (none (dot u (at i')) (dot u (at r.e)) (ap (λ t. dot u (at t)) e)) }
+    second u i' ei r = record {
+      i = i';
+      j = r.e;
+      has_i = ei;
+      has_j = r.has;
+      differ = λ e. r.differs (none (dot u (at i')) (dot u (at r.e)) (ap (λ t. dot u (at t)) e));
+    }
 
     first : (u : Vector) → NonZero at E (λ q. dot u q -ℤ dot u (at h.j)) → HasSegment E
     first u r = second u r.e r.has
         (non_zero_member at E (at h.j) (m h.j h.has_j) (λ q. dot u (at r.e) -ℤ dot u q)
-        (record { u = opposite u; c = dot u (at r.e);
-        is = λ q. turned (dot u (at r.e)) (dot u q) (dot (opposite u) q) (dot-opposite u q) }) r.differs)
+        (record {
+          u = opposite u;
+          c = dot u (at r.e);
+          is = λ q. turned (dot u (at r.e)) (dot u q) (dot (opposite u) q) (dot-opposite u q);
+        }) r.differs)
 
     along : Differ (at h.i) (at h.j) → HasSegment E
     along k = first k.axis
         (non_zero_member at E (at h.i) (m h.i h.has_i) (λ q. dot k.axis q -ℤ dot k.axis (at h.j))
-        (record { u = k.axis; c = neg_ℤ (dot k.axis (at h.j));
-        is = λ q. plus_neg (dot k.axis q) (dot k.axis (at h.j)) }) (λ e.
+        (record {
+          u = k.axis;
+          c = neg_ℤ (dot k.axis (at h.j));
+          is = λ q. plus_neg (dot k.axis q) (dot k.axis (at h.j));
+        }) (λ e.
         k.differs (equal_from_zero (dot k.axis (at h.i)) (dot k.axis (at h.j)) e)))
 
 -- ---- one dimension
 -- corners of a tetrahedron are not in line, and corners of a triangle differ
 pub triangle_of_tetrahedron : (at : ℕ → Vector) (A : ℕ → Type 0) → HasTetrahedron at A → HasTriangle at A
 triangle_of_tetrahedron at A h =
-    record { i = h.i; j = h.j; k = h.k; has_i = h.has_i; has_j = h.has_j; has_k = h.has_k;
-    area = λ e. h.volume (in_line-vol (at h.i) (at h.j) (at h.k) (at h.l) e) }
+    record {
+      i = h.i;
+      j = h.j;
+      k = h.k;
+      has_i = h.has_i;
+      has_j = h.has_j;
+      has_k = h.has_k;
+      area = λ e. h.volume (in_line-vol (at h.i) (at h.j) (at h.k) (at h.l) e);
+    }
 
 -- two corners of a triangle
 pub segment_of_triangle : (at : ℕ → Vector) (A : ℕ → Type 0) → HasTriangle at A → HasSegment A
 segment_of_triangle at A h =
-    record { i = h.i; j = h.j; has_i = h.has_i; has_j = h.has_j;
-    differ = λ e. h.area (subst (λ t. AreInLine (at h.i) (at t) (at h.k)) e (in_line-twice (at h.i) (at h.k))) }
+    record {
+      i = h.i;
+      j = h.j;
+      has_i = h.has_i;
+      has_j = h.has_j;
+      differ = λ e. h.area (subst (λ t. AreInLine (at h.i) (at t) (at h.k)) e (in_line-twice (at h.i) (at h.k)));
+    }
 
 -- the dimension is one
 pub one_dimension : (at : ℕ → Vector) (A : ℕ → Type 0) (k l : ℕ) → IsDimension at A k → IsDimension at A l → k ≡ l

@@ -5,12 +5,12 @@ use Rattle.std.specs.Prelude.{ℤ, pos, negsuc, ◌+ℤ◌, ◌*ℤ◌, neg_ℤ,
 use Rattle.qh_model.specs.headline.Vector.{Vector, origin, minus, cross_product, dot}
 use Rattle.qh_model.specs.headline.Predicates.{cross, vol, left, AreInLine}
 use Rattle.qh_model.specs.laws.FaceLaws.{IsAlong}
-use Rattle.qh_model.proofs.algebra.Order.{mul-nonneg, mul-pos, cancel-nonneg, cancel-nonpos, cancel-pos, cancel-zero,
-    le_antisym, square-nonneg, neg-positive, product_zero}
+use Rattle.qh_model.proofs.algebra.Order.{mul-nonneg, mul-pos, cancel-nonneg, cancel-nonpos, cancel-pos, cancel-zero}
+use Rattle.qh_model.proofs.algebra.Order.{le_antisym, square-nonneg, neg-positive, product_zero}
 use Rattle.qh_model.proofs.algebra.Ring.{ring}
 use Rattle.qh_model.proofs.algebra.Ring.Expr.{var, con, add, sub as less, mul, neg}
-use Rattle.qh_model.proofs.algebra.VectorIdentities.{vec, put, dotE, crossE, subE, combine3, opposite, vector_path,
-    dot-minus, vol-dot, vol-linear, left-dot, dot_comm}
+use Rattle.qh_model.proofs.algebra.VectorIdentities.{vec, put, dotE, crossE, subE, combine3, opposite, vector_path}
+use Rattle.qh_model.proofs.algebra.VectorIdentities.{dot-minus, vol-dot, vol-linear, left-dot, dot_comm}
 use Rattle.qh_model.proofs.algebra.Signs.{equal_nonpos, equal_positive}
 use Rattle.qh_model.proofs.algebra.Integers.{zero_mul}
 
@@ -60,7 +60,7 @@ dot_along n m h q =
 pub left_along : (n m : Vector) (h : IsAlong n m) (u v w : Vector) → pos h.s *ℤ left n u v w ≡ pos h.t *ℤ left m u v w
 left_along n m h u v w =
     ap (λ x. pos h.s *ℤ x) (left-dot n u v w ∙ dot_comm (cross u v w) n) ∙ dot_along n m h (cross u v w)
-        ∙ ap (λ x. pos h.t *ℤ x) (dot_comm m (cross u v w) ∙ sym (left-dot m u v w))
+    ∙ ap (λ x. pos h.t *ℤ x) (dot_comm m (cross u v w) ∙ sym (left-dot m u v w))
 
 -- the other way round
 pub along_back : (n m : Vector) → IsAlong n m → IsAlong m n
@@ -138,8 +138,8 @@ square-positive n h = by_lt_z (pos 0) (dot n n) (λ q. q) (λ q. absurd (h (flat
 pub along_or_opposite : (n r : Vector) → n ≢ origin → r ≢ origin → Parallel n r → IsAlong n r ⊎ IsAlong n (opposite r)
 along_or_opposite n r h k e = by_lt_z (pos 0) s (λ l. inl (along_by n r s t l p (sym e.x) (sym e.y) (sym e.z)))
     (λ l. by_lt_z s (pos 0)
-        (λ q. inr (along_by n (opposite r) (neg_ℤ s) t (above q) p (turned n.x r.x e.x) (turned n.y r.y e.y)
-        (turned n.z r.z e.z))) (λ q. absurd (k (flat (le_antisym s (pos 0) l q)))))
+    (λ q. inr (along_by n (opposite r) (neg_ℤ s) t (above q) p (turned n.x r.x e.x) (turned n.y r.y e.y)
+    (turned n.z r.z e.z))) (λ q. absurd (k (flat (le_antisym s (pos 0) l q)))))
   where
     s : ℤ
     s = dot n r
@@ -159,7 +159,7 @@ along_or_opposite n r h k e = by_lt_z (pos 0) s (λ l. inl (along_by n r s t l p
         signs : (s t x y : ℤ) → t *ℤ y ≡ s *ℤ x → neg_ℤ s *ℤ x ≡ t *ℤ neg_ℤ y
         signs s t x y e =
             ring (s ∷ t ∷ x ∷ y ∷ []) (mul (neg (var 0)) (var 2)) (neg (mul (var 0) (var 2))) refl ∙ ap neg_ℤ (sym e)
-                ∙ ring (s ∷ t ∷ x ∷ y ∷ []) (neg (mul (var 1) (var 3))) (mul (var 1) (neg (var 3))) refl
+            ∙ ring (s ∷ t ∷ x ∷ y ∷ []) (neg (mul (var 1) (var 3))) (mul (var 1) (neg (var 3))) refl
 
     none : (x y : ℤ) → t *ℤ y ≡ s *ℤ x → s ≡ pos 0 → y ≡ pos 0
     none x y e z = cancel-zero t y p (e ∙ ap (λ v. v *ℤ x) z ∙ zero_mul x)

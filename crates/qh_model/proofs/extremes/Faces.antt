@@ -7,8 +7,8 @@ use Rattle.qh_model.proofs.algebra.Integers.{ring_rules}
 use Rattle.qh_model.proofs.combinations.Vectors.{V, dot as vdot}
 use Rattle.qh_model.proofs.combinations.Alternatives.{all_lower}
 use Rattle.qh_model.proofs.extremes.LexicographicOrder.{Less}
-use Rattle.qh_model.proofs.extremes.ExtremeIds.{Listed, listed_itself, listed_part, alternative_in, combination_within,
-    combination_of_extremes, no_combination_by}
+use Rattle.qh_model.proofs.extremes.ExtremeIds.{Listed, listed_itself, listed_part, alternative_in, combination_within}
+use Rattle.qh_model.proofs.extremes.ExtremeIds.{combination_of_extremes, no_combination_by}
 use Rattle.qh_model.specs.headline.Vector.{Vector, dot}
 use Rattle.qh_model.specs.headline.Predicates.{cross, vol}
 use Rattle.qh_model.specs.headline.Sets.{Members}
@@ -50,7 +50,7 @@ on_plane d e c h k = omega (arith, ints)
 -- an extreme of a face is extreme
 pub face_up : (at : ℕ → Vector) (A : ℕ → Type 0) (xs : List ℕ) → Listed A xs → (i j k : ℕ) → Supports at A i j k
     → (l : ℕ) → Extreme at (OnPlane at A i j k) l → ¬ (Combination at (Others A l) (at l))
-face_up at A xs listed i j k s l h m = go (listed_part A (λ t. vol a b c (at t) ≡ pos 0) (λ t. zero_or_not (vol a b c (at t))) xs listed)
+face_up at A xs listed i j k s l h m = from_witness (listed_part A (λ t. vol a b c (at t) ≡ pos 0) (λ t. zero_or_not (vol a b c (at t))) xs listed)
   where
     a : Vector
     a = at i
@@ -77,15 +77,15 @@ face_up at A xs listed i j k s l h m = go (listed_part A (λ t. vol a b c (at t)
     sides (inr w) = no_combination_by 2 (pair n w.w) (blend n w.w) (blend_is n w.w) at (Others A l) (at l)
         (λ t o. apart w t o (zero_or_not (vol a b c (at t)))) m
 
-    go : (ys : List ℕ) × Listed (OnPlane at A i j k) ys → ⊥
-    go (ys, q) = others (listed_part (OnPlane at A i j k) (λ t. t ≢ l) (λ t. differs t) ys q)
+    from_witness : (ys : List ℕ) × Listed (OnPlane at A i j k) ys → ⊥
+    from_witness (ys, q) = others (listed_part (OnPlane at A i j k) (λ t. t ≢ l) (λ t. differs t) ys q)
       where
         differs : (t : ℕ) → (t ≢ l) ⊎ (¬ (t ≢ l))
-        differs t = pick (ℕ_discrete t l)
+        differs t = by_decision (ℕ_discrete t l)
           where
-            pick : Dec (t ≡ l) → (t ≢ l) ⊎ (¬ (t ≢ l))
-            pick (yes e) = inr (λ z. z e)
-            pick (no z) = inl z
+            by_decision : Dec (t ≡ l) → (t ≢ l) ⊎ (¬ (t ≢ l))
+            by_decision (yes e) = inr (λ z. z e)
+            by_decision (no z) = inl z
 
         others : (zs : List ℕ) × Listed (Others (OnPlane at A i j k) l) zs → ⊥
         others (zs, r) = sides (alternative_in at (Others (OnPlane at A i j k) l) zs r (at l))

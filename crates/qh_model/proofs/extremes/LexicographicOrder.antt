@@ -83,15 +83,20 @@ pub record Greatest {A : Type 0} (n : ℕ) (key : A → V n) (xs : List A) : Typ
 -- a list has one
 pub greatest : {A : Type 0} (n : ℕ) (key : A → V n) (i : A) (xs : List A) → Greatest n key (i ∷ xs)
 greatest n key i [] = record { top = i; member = inl refl; above = (inl (same n (key i)), tt) }
-greatest n key i (x ∷ xs) = pick n key i (x ∷ xs) (greatest n key x xs) (compare n _ _)
+greatest n key i (x ∷ xs) = with_first n key i (x ∷ xs) (greatest n key x xs) (compare n _ _)
   where
-    pick : {A : Type 0} (n : ℕ) (key : A → V n) (i : A) (xs : List A) (g : Greatest n key xs)
+    with_first : {A : Type 0} (n : ℕ) (key : A → V n) (i : A) (xs : List A) (g : Greatest n key xs)
         → AtMost n (key i) (key g.top) ⊎ Less n (key g.top) (key i) → Greatest n key (i ∷ xs)
-    pick n key i xs g (inl h) = record { top = g.top; member = inr g.member; above = (h, g.above) }
-    pick n key i xs g (inr h) =
-        record { top = i; member = inl refl;
-        above = (inl (same n (key i)),
-        every_map _ _ xs (λ j l. inr (at_most_less n (key j) (key g.top) (key i) l h)) g.above) }
+    with_first n key i xs g (inl h) = record { top = g.top; member = inr g.member; above = (h, g.above) }
+    with_first n key i xs g (inr h) =
+        record {
+          top = i;
+          member = inl refl;
+          above = (
+            inl (same n (key i)),
+            every_map _ _ xs (λ j l. inr (at_most_less n (key j) (key g.top) (key i) l h)) g.above,
+          );
+        }
 
 -- ---- one functional for the order
 -- the case of dimension 0
@@ -124,11 +129,11 @@ joined : (Q : Type 0) (N : ℕ) (a b t s : ℤ) → (Q ⊎ (a <ℤ b)) ⊎ (t <�
     → Q ⊎ ((pos N *ℤ a +ℤ t) <ℤ (pos N *ℤ b +ℤ s))
 joined Q N a b t s (inl (inl q)) h = inl q
 joined Q N a b t s (inl (inr l)) h = inr (first_decides N a b t s l h.1)
-joined Q N a b t s (inr l) h = pick h.0
+joined Q N a b t s (inr l) h = by_cases h.0
   where
-    pick : Q ⊎ (a ≤ℤ b) → Q ⊎ ((pos N *ℤ a +ℤ t) <ℤ (pos N *ℤ b +ℤ s))
-    pick (inl q) = inl q
-    pick (inr m) = inr (rest_decides N a b t s m l)
+    by_cases : Q ⊎ (a ≤ℤ b) → Q ⊎ ((pos N *ℤ a +ℤ t) <ℤ (pos N *ℤ b +ℤ s))
+    by_cases (inl q) = inl q
+    by_cases (inr m) = inr (rest_decides N a b t s m l)
 
 -- one more coordinate
 extend : {A : Type 0} (n : ℕ) (Q : A → Type 0) (key : A → V (suc n)) (K : V (suc n)) (xs : List A) → Every (λ j. Q j ⊎ Less (suc n) (key j) K) xs
@@ -155,4 +160,4 @@ pub collapse : {A : Type 0} (n : ℕ) (Q : A → Type 0) (key : A → V n) (K : 
 collapse zero Q key K xs h = (tt, every_map _ _ xs (λ j. keep (Q j) (pos 0 <ℤ pos 0)) h)
 collapse (suc n) Q key K xs h = extend n Q key K xs h
     (collapse n (λ j. Q j ⊎ ((key j).0 <ℤ K.0)) (λ j. (key j).1) K.1 xs
-        (every_map _ _ xs (λ j. regroup (Q j) ((key j).0 <ℤ K.0) ((key j).0 ≡ K.0) (Less n (key j).1 K.1)) h))
+    (every_map _ _ xs (λ j. regroup (Q j) ((key j).0 <ℤ K.0) ((key j).0 ≡ K.0) (Less n (key j).1 K.1)) h))

@@ -30,8 +30,13 @@ extremes_again at ids d = extremes_between at (Members ids) (Extreme at (Members
 triple_up : (at : ℕ → Vector) (ids : List ℕ) → HasDistinctPoints at (Members ids) → (i j k : ℕ)
     → IsSupportingTriple at (Extreme at (Members ids)) i j k → IsSupportingTriple at (Members ids) i j k
 triple_up at ids d i j k t =
-    record { has_i = t.has_i.0; has_j = t.has_j.0; has_k = t.has_k.0; area = t.area;
-    supports = support_of_extremes at ids d i j k t.supports }
+    record {
+      has_i = t.has_i.0;
+      has_j = t.has_j.0;
+      has_k = t.has_k.0;
+      area = t.area;
+      supports = support_of_extremes at ids d i j k t.supports;
+    }
 
 -- the law
 pub triples_of_extremes : TriplesOfExtremes
@@ -44,8 +49,8 @@ face_down : (at : ℕ → Vector) (ids : List ℕ) → HasDistinctPoints at (Mem
     → IsFacePolygon at (Members ids) i j k q → IsFacePolygon at (Extreme at (Members ids)) s.u s.v s.w q
 face_down at ids d i j k s q p =
     polygon_as at (OnPlane at (Extreme at (Members ids)) i j k)
-        (OnPlane at (Extreme at (Extreme at (Members ids))) s.u s.v s.w) (cross (at i) (at j) (at k))
-        (cross (at s.u) (at s.v) (at s.w)) q
+    (OnPlane at (Extreme at (Extreme at (Members ids))) s.u s.v s.w) (cross (at i) (at j) (at k))
+    (cross (at s.u) (at s.v) (at s.w)) q
     (λ l. (λ h. ((extremes_again at ids d l).1 h.0, (s.same l).0 h.1), λ h. ((extremes_again at ids d l).0 h.0, (s.same l).1 h.1))) s.along p
 
 -- the other way round
@@ -53,7 +58,7 @@ face_up : (at : ℕ → Vector) (ids : List ℕ) → HasDistinctPoints at (Membe
     → IsFacePolygon at (Extreme at (Members ids)) s.u s.v s.w q → IsFacePolygon at (Members ids) i j k q
 face_up at ids d i j k s q p =
     polygon_as at (OnPlane at (Extreme at (Extreme at (Members ids))) s.u s.v s.w)
-        (OnPlane at (Extreme at (Members ids)) i j k) (cross (at s.u) (at s.v) (at s.w)) (cross (at i) (at j) (at k)) q
+    (OnPlane at (Extreme at (Members ids)) i j k) (cross (at s.u) (at s.v) (at s.w)) (cross (at i) (at j) (at k)) q
     (λ l. (λ h. ((extremes_again at ids d l).0 h.0, (s.same l).1 h.1), λ h. ((extremes_again at ids d l).1 h.0, (s.same l).0 h.1))) (along_back _ _ s.along) p
 
 -- the polygon of an extreme triple, over the set and over the extremes
@@ -82,9 +87,19 @@ faces_down at ids d qs f = record { rising = f.rising; each = each; only = λ q 
 
     only : (q : List ℕ) → (i : ℕ) × (j : ℕ) × (k : ℕ) × IsSupportingTriple at (Members ids) i j k × IsFacePolygon at (Members ids) i j k q
         → (i : ℕ) × (j : ℕ) × (k : ℕ) × IsSupportingTriple at E i j k × IsFacePolygon at E i j k q
-    only q (i, j, k, t, p) = let s = planes_of_extremes at ids d i j k t in
-        (s.u, s.v, s.w, record { has_i = s.has_u; has_j = s.has_v; has_k = s.has_w; area = s.area;
-        supports = λ l h. s.supports l h.0 }, face_down at ids d i j k s q p)
+    only q (i, j, k, t, p) = let s = planes_of_extremes at ids d i j k t in (
+      s.u,
+      s.v,
+      s.w,
+      record {
+        has_i = s.has_u;
+        has_j = s.has_v;
+        has_k = s.has_w;
+        area = s.area;
+        supports = λ l h. s.supports l h.0;
+      },
+      face_down at ids d i j k s q p,
+    )
 
 -- and the other way round
 faces_up : (at : ℕ → Vector) (ids : List ℕ) → HasDistinctPoints at (Members ids) → (qs : List (List ℕ))
@@ -136,8 +151,8 @@ same_direction : (at : ℕ → Vector) (ids : List ℕ) → HasDistinctPoints at
     → ¬ (HasTetrahedron at (Members ids)) → (i j k : ℕ) → Members ids i → Members ids j → Members ids k
     → PointsForward (cross (at i) (at j) (at k)) → SameDirection at (Extreme at (Members ids)) (cross (at i) (at j) (at k))
 same_direction at ids d n i j k hi hj hk f =
-    go (triangle_of at A E (λ l h. combination_of_extremes at A ids (listed_itself ids) d l h)
-        (record { i = i; j = j; k = k; has_i = hi; has_j = hj; has_k = hk; area = forward_not_zero _ f }))
+    from_triangle (triangle_of at A E (λ l h. combination_of_extremes at A ids (listed_itself ids) d l h)
+    (record { i = i; j = j; k = k; has_i = hi; has_j = hj; has_k = hk; area = forward_not_zero _ f }))
   where
     A : ℕ → Type 0
     A = Members ids
@@ -145,13 +160,14 @@ same_direction at ids d n i j k hi hj hk f =
     E : ℕ → Type 0
     E = Extreme at (Members ids)
 
-    go : HasTriangle at E → SameDirection at E (cross (at i) (at j) (at k))
-    go t = pick (flat_normals at A n i j k t.i t.j t.k hi hj hk t.has_i.0 t.has_j.0 t.has_k.0 (forward_not_zero _ f) t.area)
+    from_triangle : HasTriangle at E → SameDirection at E (cross (at i) (at j) (at k))
+    from_triangle t = by_cases (flat_normals at A n i j k t.i t.j t.k hi hj hk t.has_i.0 t.has_j.0 t.has_k.0 (forward_not_zero _ f) t.area)
       where
-        pick : IsAlong (cross (at i) (at j) (at k)) (cross (at t.i) (at t.j) (at t.k)) ⊎ IsAlong (cross (at i) (at j) (at k)) (cross (at t.i) (at t.k) (at t.j))
+        by_cases : IsAlong (cross (at i) (at j) (at k)) (cross (at t.i) (at t.j) (at t.k))
+            ⊎ IsAlong (cross (at i) (at j) (at k)) (cross (at t.i) (at t.k) (at t.j))
             → SameDirection at E (cross (at i) (at j) (at k))
-        pick (inl h) = record { i = t.i; j = t.j; k = t.k; has_i = t.has_i; has_j = t.has_j; has_k = t.has_k; along = h }
-        pick (inr h) = record { i = t.i; j = t.k; k = t.j; has_i = t.has_i; has_j = t.has_k; has_k = t.has_j; along = h }
+        by_cases (inl h) = record { i = t.i; j = t.j; k = t.k; has_i = t.has_i; has_j = t.has_j; has_k = t.has_k; along = h }
+        by_cases (inr h) = record { i = t.i; j = t.k; k = t.j; has_i = t.has_i; has_j = t.has_k; has_k = t.has_j; along = h }
 
 -- the flat polygon of the set is that of the extremes
 flat_down : (at : ℕ → Vector) (ids : List ℕ) → HasDistinctPoints at (Members ids) → ¬ (HasTetrahedron at (Members ids))
@@ -177,17 +193,31 @@ flat_down at ids d n q f = record {
 segment_up : (at : ℕ → Vector) (ids : List ℕ) → HasDistinctPoints at (Members ids) → (q : List ℕ)
     → IsSegmentFace at (Extreme at (Members ids)) q → IsSegmentFace at (Members ids) q
 segment_up at ids d q f =
-    record { i = f.i; j = f.j;
-    members = λ l. (λ h. (extremes_again at ids d l).0 ((f.members l).0 h),
-    λ h. (f.members l).1 ((extremes_again at ids d l).1 h)); lower = f.lower; is = f.is }
+    record {
+      i = f.i;
+      j = f.j;
+      members = λ l. (
+        λ h. (extremes_again at ids d l).0 ((f.members l).0 h),
+        λ h. (f.members l).1 ((extremes_again at ids d l).1 h),
+      );
+      lower = f.lower;
+      is = f.is;
+    }
 
 -- and the other way round
 segment_down : (at : ℕ → Vector) (ids : List ℕ) → HasDistinctPoints at (Members ids) → (q : List ℕ)
     → IsSegmentFace at (Members ids) q → IsSegmentFace at (Extreme at (Members ids)) q
 segment_down at ids d q f =
-    record { i = f.i; j = f.j;
-    members = λ l. (λ h. (extremes_again at ids d l).1 ((f.members l).0 h),
-    λ h. (f.members l).1 ((extremes_again at ids d l).0 h)); lower = f.lower; is = f.is }
+    record {
+      i = f.i;
+      j = f.j;
+      members = λ l. (
+        λ h. (extremes_again at ids d l).1 ((f.members l).0 h),
+        λ h. (f.members l).1 ((extremes_again at ids d l).0 h),
+      );
+      lower = f.lower;
+      is = f.is;
+    }
 
 -- an id alone is extreme
 pub alone_is_extreme : (at : ℕ → Vector) (A : ℕ → Type 0) → ¬ (HasSegment A) → (i : ℕ) → A i → Extreme at A i
@@ -225,17 +255,25 @@ body_of_extremes at ids b d = (
   λ f. let dim = (dimension_of_extremes at ids b.dim d).0 f.dim in
       record {
         dim = dim;
-        extremes = record { rising = f.extremes.rising;
-            members = λ i. (λ h. (extremes_again at ids d i).0 ((f.extremes.members i).0 h),
-            λ h. (f.extremes.members i).1 ((extremes_again at ids d i).1 h)) };
+        extremes = record {
+          rising = f.extremes.rising;
+          members = λ i. (
+            λ h. (extremes_again at ids d i).0 ((f.extremes.members i).0 h),
+            λ h. (f.extremes.members i).1 ((extremes_again at ids d i).1 h),
+          );
+        };
         polygons = (polygons_of_extremes at ids b.dim b.polygons d dim).0 f.polygons;
         edges = f.edges;
       },
   λ f. record {
     dim = (dimension_of_extremes at ids b.dim d).1 f.dim;
-    extremes = record { rising = f.extremes.rising;
-        members = λ i. (λ h. (extremes_again at ids d i).1 ((f.extremes.members i).0 h),
-        λ h. (f.extremes.members i).1 ((extremes_again at ids d i).0 h)) };
+    extremes = record {
+      rising = f.extremes.rising;
+      members = λ i. (
+        λ h. (extremes_again at ids d i).1 ((f.extremes.members i).0 h),
+        λ h. (f.extremes.members i).1 ((extremes_again at ids d i).0 h),
+      );
+    };
     polygons = (polygons_of_extremes at ids b.dim b.polygons d f.dim).1 f.polygons;
     edges = f.edges;
   },

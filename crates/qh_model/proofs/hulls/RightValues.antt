@@ -125,9 +125,11 @@ right_of_both pts ids bounds J K L xs ys zs vs apart both x y union v = record {
     -- an extreme id of all is one of a part
     in_part : (M : ℕ → Type 0) → ((k : ℕ) → M k → L k) → (i : ℕ) → IsIdOfBlocks ids bounds M i
         → Extreme (place pts) Every i → Extreme (place pts) (IsIdOfBlocks ids bounds M) i
-    in_part M part i b e =
-        (b, λ m. e.1 (combination_within (place pts) (Others (IsIdOfBlocks ids bounds M) i) (Others Every i)
-        (place pts i) m (λ j o. ((o.0.0, o.0.1, part o.0.0 o.0.2, o.0.3), o.1))))
+    in_part M part i b e = (
+      b,
+      λ m. e.1 (combination_within (place pts) (Others (IsIdOfBlocks ids bounds M) i) (Others Every i)
+          (place pts i) m (λ j o. ((o.0.0, o.0.1, part o.0.0 o.0.2, o.0.3), o.1))),
+    )
 
     found : (i : ℕ) (e : Extreme (place pts) Every i) → J e.0.0 ⊎ K e.0.0 → In i zs
     found i e (inl h) = (union i).1 (inl ((x.members i).1 (in_part J (λ k j. (both k).1 (inl j)) i (e.0.0, e.0.1, h, e.0.3) e)))
@@ -140,9 +142,11 @@ right_of_both pts ids bounds J K L xs ys zs vs apart both x y union v = record {
     up i h = (sup i h, λ m. h.1 (combination_within (place pts) (Others (Members zs) i) (Others Every i) (place pts i) m (λ j o. (sub j o.0, o.1))))
 
     down : (i : ℕ) → Extreme (place pts) (Members zs) i → Extreme (place pts) Every i
-    down i h = (sub i h.0,
-        λ m. not_unlisted ids bounds L (block_count bounds)
-        (λ list l. ((extremes_between (place pts) Every (Members zs) list l distinct sub sup i).0 h).1 m))
+    down i h = (
+      sub i h.0,
+      λ m. not_unlisted ids bounds L (block_count bounds)
+          (λ list l. ((extremes_between (place pts) Every (Members zs) list l distinct sub sup i).0 h).1 m),
+    )
 
 -- ---- all blocks
 module _ (pts : List Vector) (ids bounds : List ℕ) (J : ℕ → Type 0) (xs : List ℕ) (cut : IsCut bounds)
@@ -155,9 +159,11 @@ module _ (pts : List Vector) (ids bounds : List ℕ) (J : ℕ → Type 0) (xs : 
       let l = p.1 in
       let b = blocks_cover bounds p.0 cut (grind (arith, l, whole)) in
       let m = subst (λ t. In t (block_ids ids bounds b.0)) p.2 (in_block ids bounds b.0 p.0 b.1 l) in
-      (x.members i).1 ((b.0, b.1.block, every b.0 b.1.block, m),
-      λ mix. e.1 (combination_within (place pts) (Others (IsIdOfBlocks ids bounds J) i) (Others (Members ids) i)
-      (place pts i) mix (λ j o. (block_within ids bounds o.0.0 j o.0.3, o.1))))
+      (x.members i).1 (
+        (b.0, b.1.block, every b.0 b.1.block, m),
+        λ mix. e.1 (combination_within (place pts) (Others (IsIdOfBlocks ids bounds J) i) (Others (Members ids) i)
+            (place pts i) mix (λ j o. (block_within ids bounds o.0.0 j o.0.3, o.1))),
+      )
 
   -- the hull of the list is that of all
   root_body : (b : BodyValue) → HasDistinctPoints (place pts) (Members ids) → IsBody (place pts) (Members xs) b → IsBody (place pts) (Members ids) b

@@ -13,8 +13,8 @@ use Rattle.qh_model.specs.headline.Polygons.{AreFaces, IsFacePolygon, IsFlatFace
 use Rattle.qh_model.specs.headline.Predicates.{place}
 use Rattle.qh_model.specs.headline.Hull.{BodyValue, HullValue, IsBody}
 use Rattle.qh_model.specs.headline.Text.{hull_text}
-use Rattle.qh_model.specs.laws.HullLaws.{BodyIsUnique, HullIsUnique, TextIsUnique, PolygonsAreUnique, EdgeCountIsUnique,
-    RisingListIsUnique, DistinctIdsAreUnique}
+use Rattle.qh_model.specs.laws.HullLaws.{BodyIsUnique, HullIsUnique, TextIsUnique, PolygonsAreUnique, EdgeCountIsUnique}
+use Rattle.qh_model.specs.laws.HullLaws.{RisingListIsUnique, DistinctIdsAreUnique}
 use Rattle.qh_model.proofs.extremes.Dimensions.{one_dimension}
 use Rattle.qh_model.proofs.lists.Ordered.{ordered_rising, ordered_unique}
 use Rattle.qh_model.proofs.lists.OnceEach.{once_length}
@@ -47,24 +47,24 @@ one_face_list : (at : ℕ → Vector) (A : ℕ → Type 0) (ps qs : List (List �
 one_face_list at A ps qs a b = rising_unique ps qs a.rising b.rising (λ q. (over ps qs a b q, over qs ps b a q))
   where
     over : (ps qs : List (List ℕ)) → AreFaces at A ps → AreFaces at A qs → (q : List ℕ) → In q ps → In q qs
-    over ps qs a b q i = go (a.only q i)
+    over ps qs a b q i = from_witness (a.only q i)
       where
-        go : (i : ℕ) × (j : ℕ) × (k : ℕ) × IsSupportingTriple at A i j k × IsFacePolygon at A i j k q → In q qs
-        go (u, v, w, t, p) = let r = b.each u v w t in
+        from_witness : (i : ℕ) × (j : ℕ) × (k : ℕ) × IsSupportingTriple at A i j k × IsFacePolygon at A i j k q → In q qs
+        from_witness (u, v, w, t, p) = let r = b.each u v w t in
             subst (λ s. In s qs) (one_polygon at (OnPlane at (Extreme at A) u v w) (cross (at u) (at v) (at w)) r.0 q r.2 p) r.1
 
 -- dimension 2: one polygon
 one_flat_face : (at : ℕ → Vector) (A : ℕ → Type 0) → ¬ (HasTetrahedron at A) → (p q : List ℕ) → IsFlatFace at A p → IsFlatFace at A q → p ≡ q
 one_flat_face at A n p q a b =
-    pick (flat_normals at A n a.i a.j a.k b.i b.j b.k a.has_i a.has_j a.has_k b.has_i b.has_j b.has_k
+    by_cases (flat_normals at A n a.i a.j a.k b.i b.j b.k a.has_i a.has_j a.has_k b.has_i b.has_j b.has_k
     (forward_not_zero _ a.forward) (forward_not_zero _ b.forward))
   where
-    pick : IsAlong (cross (at a.i) (at a.j) (at a.k)) (cross (at b.i) (at b.j) (at b.k))
+    by_cases : IsAlong (cross (at a.i) (at a.j) (at a.k)) (cross (at b.i) (at b.j) (at b.k))
         ⊎ IsAlong (cross (at a.i) (at a.j) (at a.k)) (cross (at b.i) (at b.k) (at b.j)) → p ≡ q
-    pick (inl h) = one_polygon at (Extreme at A) (cross (at b.i) (at b.j) (at b.k)) p q
+    by_cases (inl h) = one_polygon at (Extreme at A) (cross (at b.i) (at b.j) (at b.k)) p q
         (polygon_as at (Extreme at A) (Extreme at A) (cross (at a.i) (at a.j) (at a.k))
         (cross (at b.i) (at b.j) (at b.k)) p (λ i. (λ e. e, λ e. e)) h a.polygon) b.polygon
-    pick (inr h) = absurd
+    by_cases (inr h) = absurd
         (one_forward (cross (at b.i) (at b.j) (at b.k)) b.forward
         (subst PointsForward (cross-flip (at b.i) (at b.j) (at b.k)) (forward_along _ _ h a.forward)))
 

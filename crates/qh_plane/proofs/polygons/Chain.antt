@@ -153,10 +153,13 @@ module _ (turn : ℕ → ℕ → ℕ → ℤ) (key : ℕ → ℤ) (A : ℕ → T
   pushes : (D : ℕ → Type 0) (y : ℕ) (s : List ℕ) → ((x : ℕ) → D x → A x) → A y → ((x : ℕ) → D x → key x <ℤ key y)
       → (p : Top turn key D y s) → IsChain turn key (Added D y) y s
   pushes D y s in_a ay below p =
-      subst (λ v. IsChain turn key (Added D y) y v) (sym p.is)
-      (inl refl, below p.top (chain_top turn key D p.top p.rest p.good),
-      new-edge D y p.top p.rest in_a ay below p.good p.capped p.sharp, p.sharp,
-      lift D y p.top p.rest in_a ay below p.good p.sharp)
+      subst (λ v. IsChain turn key (Added D y) y v) (sym p.is) (
+        inl refl,
+        below p.top (chain_top turn key D p.top p.rest p.good),
+        new-edge D y p.top p.rest in_a ay below p.good p.capped p.sharp,
+        p.sharp,
+        lift D y p.top p.rest in_a ay below p.good p.sharp,
+      )
 
   -- the stack stays a chain over what was passed
   chains : (D : ℕ → Type 0) (t : ℕ) (s xs : List ℕ) → ((x : ℕ) → D x → A x) → ((x : ℕ) → In x xs → A x)
@@ -188,4 +191,4 @@ pub chain-good : (turn : ℕ → ℕ → ℕ → ℤ) (key : ℕ → ℤ) (A : �
     → IsChained turn key (Passed (λ x. x ≡ x₀) xs) (chain turn [] (x₀ ∷ xs))
 chain-good turn key A turn_laws x₀ xs in_a r =
     chains turn key A turn_laws (λ x. x ≡ x₀) x₀ [] xs (λ x e. in_a x (inl e)) (λ x i. in_a x (inr i))
-        (refl, λ x e. equal_le (key x₀) (key x) (ap key (sym e))) (λ x e. equal_le (key x) (key x₀) (ap key e)) r
+    (refl, λ x e. equal_le (key x₀) (key x) (ap key (sym e))) (λ x e. equal_le (key x) (key x₀) (ap key e)) r

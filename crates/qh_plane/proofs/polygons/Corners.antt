@@ -73,8 +73,11 @@ inner n h at A flat keyed q r t aq ar at' e f sh = record {
 pub greatest_corner : (h : Vector) (at : ℕ → Vector) (A : ℕ → Type 0) → IsKeyed h at A → (m : ℕ) → A m
     → ((x : ℕ) → A x → height_of h at x ≤ℤ height_of h at m) → Corner at A m
 greatest_corner h at A keyed m am le =
-    record { member = am; w = h;
-    beats = λ x ax ne. le_less (dot h (at x)) (dot h (at m)) (le x ax) (λ e. ne (keyed.same x m ax am e)) }
+    record {
+      member = am;
+      w = h;
+      beats = λ x ax ne. le_less (dot h (at x)) (dot h (at m)) (le x ax) (λ e. ne (keyed.same x m ax am e));
+    }
 
 -- a corner is extreme
 pub corner_extreme : (at : ℕ → Vector) (A : ℕ → Type 0) (m : ℕ) → Corner at A m → Extreme at A m
@@ -87,13 +90,13 @@ corner_extreme at A m c = (c.member, λ x. all_lower at (Others A m) (at m) c.w 
 -- two directions of a plane, by their heights along h and w
 across_eq : (n h w a b : Vector) → dot n n *ℤ (dot h a *ℤ dot w b -ℤ dot h b *ℤ dot w a)
     ≡ bracket n a b *ℤ dot (cross_product h w) n -ℤ dot n b *ℤ dot (cross_product h w) (cross_product n a) +ℤ dot n a
-        *ℤ dot (cross_product h w) (cross_product n b)
+    *ℤ dot (cross_product h w) (cross_product n b)
 across_eq n h w a b =
     ring (put n (put a (put b (put h (put w [])))))
     (mul (dotE (vec 0) (vec 0)) (less (mul (dotE (vec 3) (vec 1)) (dotE (vec 4) (vec 2))) (mul (dotE (vec 3) (vec 2)) (dotE (vec 4) (vec 1)))))
     (add (less (mul (bracketE 1 2) (dotE (crossE (vec 3) (vec 4)) (vec 0)))
-        (mul (dotE (vec 0) (vec 2)) (dotE (crossE (vec 3) (vec 4)) (crossE (vec 0) (vec 1))))) (mul
-        (dotE (vec 0) (vec 1)) (dotE (crossE (vec 3) (vec 4)) (crossE (vec 0) (vec 2))))) refl
+    (mul (dotE (vec 0) (vec 2)) (dotE (crossE (vec 3) (vec 4)) (crossE (vec 0) (vec 1))))) (mul
+    (dotE (vec 0) (vec 1)) (dotE (crossE (vec 3) (vec 4)) (crossE (vec 0) (vec 2))))) refl
 
 -- two terms that are zero
 two_zero : (l x p q y z : ℤ) → l ≡ x -ℤ p *ℤ y +ℤ q *ℤ z → p ≡ pos 0 → q ≡ pos 0 → l ≡ x
@@ -111,7 +114,7 @@ across_sign N ha hb wa wb P e p s b ab w aw =
     split : (ha hb wa wb : ℤ) → ha *ℤ wb -ℤ hb *ℤ wa ≡ (ha -ℤ hb) *ℤ wb +ℤ hb *ℤ (wb -ℤ wa)
     split ha hb wa wb =
         ring (ha ∷ hb ∷ wa ∷ wb ∷ []) (less (mul (var 0) (var 3)) (mul (var 1) (var 2)))
-            (add (mul (less (var 0) (var 1)) (var 3)) (mul (var 1) (less (var 3) (var 2)))) refl
+        (add (mul (less (var 0) (var 1)) (var 3)) (mul (var 1) (less (var 3) (var 2)))) refl
 
     against : (d x y : ℤ) → d ≡ x +ℤ y → d ≤ℤ pos 0 → pos 0 <ℤ x → pos 0 <ℤ y → ⊥
     against d x y e h p q = omega (arith, ints)
@@ -137,7 +140,7 @@ lined : (n h : Vector) (at : ℕ → Vector) (A : ℕ → Type 0) → IsFlat n a
     → height_of h at u <ℤ height_of h at m → height_of h at m <ℤ height_of h at v → turn_about n at u v m ≡ pos 0 → ⊥
 lined n h at A flat u v m au av c nu nv um mv z =
     core n h c.w at A flat u v m au av c.member um mv (c.beats u au nu) (c.beats v av nv)
-        (subst (λ t. (t *ℤ dot (cross_product h c.w) n) ≤ℤ pos 0) (sym z) (none (dot (cross_product h c.w) n)))
+    (subst (λ t. (t *ℤ dot (cross_product h c.w) n) ≤ℤ pos 0) (sym z) (none (dot (cross_product h c.w) n)))
   where
     none : (x : ℤ) → (pos 0 *ℤ x) ≤ℤ pos 0
     none x = omega (arith, ints)
@@ -155,8 +158,8 @@ module _ (n h : Vector) (at : ℕ → Vector) (A : ℕ → Type 0) (flat : IsFla
   ordered : (C : Type 0) (u v : ℕ) → A u → A v → u ≢ v → (height_of h at u <ℤ height_of h at v → C) → (height_of h at v <ℤ height_of h at u → C) → C
   ordered C u v au av ne first second =
       by_lt_z (height_of h at u) (height_of h at v) first
-          (λ k. by_lt_z (height_of h at v) (height_of h at u) second
-          (λ l. absurd (ne (keyed.same u v au av (le_antisym _ _ l k)))))
+      (λ k. by_lt_z (height_of h at v) (height_of h at u) second
+      (λ l. absurd (ne (keyed.same u v au av (le_antisym _ _ l k)))))
 
   -- three corners are not in line
   not_lined : (u v x : ℕ) → Corner at A u → Corner at A v → Corner at A x → u ≢ v → x ≢ u → x ≢ v → turn_about n at u v x ≡ pos 0 → ⊥

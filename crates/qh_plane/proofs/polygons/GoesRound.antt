@@ -41,9 +41,13 @@ half_of : (n h : Vector) (at : ℕ → Vector) (A : ℕ → Type 0) → IsFlat n
     → ((x : ℕ) → In x (x₀ ∷ xs) ↔ A x) → RisesBy (height_of h at) x₀ xs
     → Half n h at A (chain (turn_about n at) [] (x₀ ∷ xs))
 half_of n h at A flat keyed x₀ xs l r =
-    record { top = c.top; rest = c.rest; is = c.is;
-        good = chain_same (turn_about n at) (height_of h at) (Passed (λ x. x ≡ x₀) xs) A into from c.top c.rest c.good;
-        greatest = λ x a. c.greatest x (from x a) }
+    record {
+      top = c.top;
+      rest = c.rest;
+      is = c.is;
+      good = chain_same (turn_about n at) (height_of h at) (Passed (λ x. x ≡ x₀) xs) A into from c.top c.rest c.good;
+      greatest = λ x a. c.greatest x (from x a);
+    }
   where
     c : IsChained (turn_about n at) (height_of h at) (Passed (λ x. x ≡ x₀) xs) (chain (turn_about n at) [] (x₀ ∷ xs))
     c = chain-good (turn_about n at) (height_of h at) A (turn_laws n h at A flat keyed) x₀ xs (λ x i. (l x).0 i) r
@@ -69,8 +73,19 @@ closes n h at A flat keyed p q ap aq l l' m [] z r g k g' k' = absurd (alone _ _
 closes n h at A flat keyed p q ap aq l l' m (a ∷ s) z [] g k g' k' = absurd (alone _ _ (height_of (opposite h) at z) (pos 0) l' (g'.1 q aq) (k' p ap))
 closes n h at A flat keyed p q ap aq l l' m (a ∷ s) z (b ∷ r) g k g' k' =
     let c : Chains n h at A m (a ∷ s) z (b ∷ r) =
-        record { flat = flat; keyed = keyed; lower = g; upper = g'; last = k; first = k'; p = p; q = q; is_p = ap;
-        is_q = aq; apart = l } in
+    record {
+      flat = flat;
+      keyed = keyed;
+      lower = g;
+      upper = g';
+      last = k;
+      first = k';
+      p = p;
+      q = q;
+      is_p = ap;
+      is_q = aq;
+      apart = l;
+    } in
     record { members = ring_members n h at A m a s z b r c; once = ring_once n h at A m a s z b r c; round = ring_round n h at A m a s z b r c }
 
 -- a rising list, and one that rises the other way round, over the same members

@@ -36,7 +36,7 @@ step_up : (pts : List Vector) (ids : List ℕ) (k l : ℕ) → HasDistinctPoints
 step_up pts ids k l d t u lt =
     place_code-less (place pts (k % ROOM)) (place pts (l % ROOM)) t.known.place_in u.known.place_in
     (less_code (place_code (place pts (k % ROOM))) (place_code (place pts (l % ROOM))) (k % ROOM) (l % ROOM) k l
-        (t.is ∙ key_parts pts (k % ROOM)) (u.is ∙ key_parts pts (l % ROOM)) t.known.small u.known.small lt
+    (t.is ∙ key_parts pts (k % ROOM)) (u.is ∙ key_parts pts (l % ROOM)) t.known.small u.known.small lt
     (λ e. ne_of_lt lt (t.is ∙ ap (key_at pts) (d (k % ROOM) (l % ROOM) t.has u.has (place_code-same _ _ t.known.place_in u.known.place_in e)) ∙ sym u.is)))
 
 -- the same along a list
@@ -66,26 +66,28 @@ round_of : (n : Vector) (at : ℕ → Vector) (A : ℕ → Type 0) → IsFlat n 
 round_of n at A flat keyed x₀ x₁ xs [] i j r f = absurd ((j x₀).1 ((i x₀).0 (inl refl)))
 round_of n at A flat keyed x₀ x₁ xs (y₀ ∷ ys) i j r f =
     goes_round n order at A flat keyed x₀ x₁ ((i x₀).0 (inl refl)) ((i x₁).0 (inr (inl refl))) r.0
-        (lt_neg _ _ _ _ (dot-opposite order (at x₁)) (dot-opposite order (at x₀)) r.0) x₀ (x₁ ∷ xs) y₀ ys i j r f
+    (lt_neg _ _ _ _ (dot-opposite order (at x₁)) (dot-opposite order (at x₀)) r.0) x₀ (x₁ ∷ xs) y₀ ys i j r f
 
 -- the same of the ids in rising keys
 round_keys : (pts : List Vector) (ids keys : List ℕ) (n : Vector) → Every (IsKeyOf pts ids) keys
     → IsStrictlyIncreasing keys → 1 < length keys → ((x : ℕ) → In x (ids_in keys) ↔ In x ids)
     → All (HasKey pts) ids → HasDistinctPoints (place pts) (λ x. In x ids) → IsFlat n (place pts) (λ x. In x ids)
     → GoesRound n (place pts) (λ x. In x ids)
-        (joined (chain (turn_about n (place pts)) [] (ids_in keys))
-        (chain (turn_about n (place pts)) [] (reverse (ids_in keys))))
+    (joined (chain (turn_about n (place pts)) [] (ids_in keys))
+    (chain (turn_about n (place pts)) [] (reverse (ids_in keys))))
 round_keys pts ids [] n t r l m k d flat = absurd (omega arith)
 round_keys pts ids (a ∷ []) n t r l m k d flat = absurd (omega arith)
 round_keys pts ids (a ∷ b ∷ ks) n t r l m k d flat =
     let up = rises_of pts ids a (b ∷ ks) d t r in
     let R : List ℕ = ids_in (a ∷ b ∷ ks) in
     subst (λ v. GoesRound n (place pts) (λ x. In x ids)
-        (joined (chain (turn_about n (place pts)) [] (ids_in (a ∷ b ∷ ks))) (chain (turn_about n (place pts)) [] v)))
+    (joined (chain (turn_about n (place pts)) [] (ids_in (a ∷ b ∷ ks))) (chain (turn_about n (place pts)) [] v)))
     (sym (reverse-turned_onto (ids_in (a ∷ b ∷ ks))))
     (round_of n (place pts) (λ x. In x ids) flat (keyed_of pts ids k d) (a % ROOM) (b % ROOM) (ids_in ks) (turned_onto (ids_in (a ∷ b ∷ ks)) []) m
-    (λ x. (λ i. (m x).0 (⊎_elim (λ p. p) (λ p. absurd p) (turned_onto-in (ids_in (a ∷ b ∷ ks)) [] x i)),
-        λ i. in-turned_onto (ids_in (a ∷ b ∷ ks)) [] x (inl ((m x).1 i))))
+    (λ x. (
+      λ i. (m x).0 (⊎_elim (λ p. p) (λ p. absurd p) (turned_onto-in (ids_in (a ∷ b ∷ ks)) [] x i)),
+      λ i. in-turned_onto (ids_in (a ∷ b ∷ ks)) [] x (inl ((m x).1 i)),
+    ))
     up (falls_back order (place pts) (a % ROOM) (ids_in (b ∷ ks)) [] up tt))
 
 -- the polygon, before it is turned to its least id
@@ -96,10 +98,12 @@ pub round_sorted : (pts : List Vector) (ids sorted : List ℕ) (n : Vector) → 
 round_sorted pts ids sorted n b k r d l flat =
     subst (GoesRound n (place pts) (λ x. In x ids)) (joined-same pts n (λ x. In x ids) sorted flat (sorted-only pts ids sorted b k))
     (subst (λ v. GoesRound n (place pts) (λ x. In x ids)
-        (joined (chain (turn_about n (place pts)) [] v) (chain (turn_about n (place pts)) [] (reverse v)))) (sym b.is)
+    (joined (chain (turn_about n (place pts)) [] v) (chain (turn_about n (place pts)) [] (reverse v)))) (sym b.is)
     (round_keys pts ids b.keys n (sorted_keys pts ids sorted b k) (rising_keys pts ids sorted b k r) long
-    (λ x. (λ i. sorted-only pts ids sorted b k x (subst (λ v. In x v) (sym b.is) i),
-        λ i. subst (λ v. In x v) b.is (sorted-all pts ids sorted b k x i))) k d flat))
+    (λ x. (
+      λ i. sorted-only pts ids sorted b k x (subst (λ v. In x v) (sym b.is) i),
+      λ i. subst (λ v. In x v) b.is (sorted-all pts ids sorted b k x i),
+    )) k d flat))
   where
     long : 1 < length b.keys
     long = let e = length_permutation (map (key_at pts) ids) b.keys b.same in let f = length-map ids (key_at pts) in omega arith

@@ -120,7 +120,7 @@ pub polygon_of_three : (pts : List Vector) (ids : List ℕ) (n : Vector) (i j k 
 polygon_of_three pts ids n i j k q l pi pj pk e h =
     subst (λ t. IsPolygon (place pts) (Extreme (place pts) (Members t)) n q) (sym is)
     (subst (IsPolygon (place pts) (Extreme (place pts) (Members (i ∷ j ∷ k ∷ []))) n) (sym e)
-        (triangle_polygon pts n i j k set (set.set.rising 0 (omega arith)) (set.set.rising 1 (omega arith))))
+    (triangle_polygon pts n i j k set (set.set.rising 0 (omega arith)) (set.set.rising 1 (omega arith))))
   where
     is : ids ≡ i ∷ j ∷ k ∷ []
     is = three_ids ids i j k l pi pj pk

@@ -34,12 +34,12 @@ keyed_opposite h at A k = record { same = λ i j ai aj e. k.same i j ai aj (oppo
 -- an id is a member or not
 in_dec : (x : ℕ) (xs : List ℕ) → In x xs ⊎ (In x xs → ⊥)
 in_dec x [] = inr (λ i. i)
-in_dec x (y ∷ ys) = go (ℕ_discrete x y) (in_dec x ys)
+in_dec x (y ∷ ys) = by_decision (ℕ_discrete x y) (in_dec x ys)
   where
-    go : Dec (x ≡ y) → In x ys ⊎ (In x ys → ⊥) → In x (y ∷ ys) ⊎ (In x (y ∷ ys) → ⊥)
-    go (yes e) d = inl (inl e)
-    go (no ne) (inl i) = inl (inr i)
-    go (no ne) (inr f) = inr (λ i. ⊎_elim ne f i)
+    by_decision : Dec (x ≡ y) → In x ys ⊎ (In x ys → ⊥) → In x (y ∷ ys) ⊎ (In x (y ∷ ys) → ⊥)
+    by_decision (yes e) d = inl (inl e)
+    by_decision (no ne) (inl i) = inl (inr i)
+    by_decision (no ne) (inr f) = inr (λ i. ⊎_elim ne f i)
 
 -- two chains over the same members, from the least to the greatest and back
 pub record Chains (n h : Vector) (at : ℕ → Vector) (A : ℕ → Type 0) (m : ℕ) (s : List ℕ) (z : ℕ) (r : List ℕ) : Type 0 where
@@ -81,16 +81,16 @@ module _ (n h : Vector) (at : ℕ → Vector) (A : ℕ → Type 0) (m a : ℕ) (
   lower_ends =
       let g = chain-bottom (turn_about n at) (height_of h at) A m (a ∷ s) c.lower in
       c.keyed.same (bottom a s) z g.0 c.upper.0
-          (le_antisym _ _ (g.1 z c.upper.0)
-          (neg_le _ _ _ _ (dot-opposite h (at (bottom a s))) (dot-opposite h (at z)) (c.first (bottom a s) g.0)))
+      (le_antisym _ _ (g.1 z c.upper.0)
+      (neg_le _ _ _ _ (dot-opposite h (at (bottom a s))) (dot-opposite h (at z)) (c.first (bottom a s) g.0)))
 
   -- and ends where it begins
   upper_ends : bottom b r ≡ m
   upper_ends =
       let g = chain-bottom (turn_about n at) (height_of (opposite h) at) A z (b ∷ r) c.upper in
       c.keyed.same (bottom b r) m g.0 c.lower.0
-          (le_antisym _ _ (c.last (bottom b r) g.0)
-          (neg_le _ _ _ _ (dot-opposite h (at (bottom b r))) (dot-opposite h (at m)) (g.1 m c.lower.0)))
+      (le_antisym _ _ (c.last (bottom b r) g.0)
+      (neg_le _ _ _ _ (dot-opposite h (at (bottom b r))) (dot-opposite h (at m)) (g.1 m c.lower.0)))
 
   -- the way round
   ring_list : List ℕ
@@ -171,8 +171,8 @@ module _ (n h : Vector) (at : ℕ → Vector) (A : ℕ → Type 0) (m a : ℕ) (
   beyond_all : (e : ℕ) → A e → (In e ring_list → ⊥) → Separator at (λ x. In x ring_list) (at e) → ⊥
   beyond_all e ae out f =
       by_lt_z (pos 0) S (λ k.
-          core n (opposite h) f.w at A c.flat up.u up.v e up.is_u up.is_v ae up.before up.after
-          (f.past up.u (up_in up.u up.has_u)) (f.past up.v (up_in up.v up.has_v))
+      core n (opposite h) f.w at A c.flat up.u up.v e up.is_u up.is_v ae up.before up.after
+      (f.past up.u (up_in up.u up.has_u)) (f.past up.v (up_in up.v up.has_v))
       (mul-nonneg_nonpos _ _ (up.edge e ae) (turned _ S (bracket-opposite h f.w n) k)))
       (λ k. core n h f.w at A c.flat low.u low.v e low.is_u low.is_v ae low.before low.after
       (f.past low.u (low_in low.u low.has_u)) (f.past low.v (low_in low.v low.has_v))
