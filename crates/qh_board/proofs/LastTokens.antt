@@ -1,6 +1,6 @@
 -- What the tokens of a board that closes tell: the records of all passes, and what came out at the root.
-use Rattle.std.proofs.Common.{◌≡◌, ◌≢◌, ◌↔◌, ℕ, zero, suc, ◌+◌, ◌≤◌, Bool, true, false, List, [], ◌∷◌, ◌++◌, length,
-    sym, refl, ap, ◌∙◌, subst, arith, ne_eqb, cond, Option, Some, None}
+use Rattle.std.proofs.Common.{◌≡◌, ◌≢◌, ◌↔◌, ℕ, zero, suc, ◌+◌, ◌≤◌, Bool, true, false, List, [], ◌∷◌, ◌++◌, length}
+use Rattle.std.proofs.Common.{sym, refl, ap, ◌∙◌, subst, arith, ne_eqb, cond, Option, Some, None}
 use Rattle.std.proofs.lemmas.List.{map-append, append_assoc}
 use Rattle.std.proofs.lemmas.List.Recursion.{is_sum_by, is_count_by}
 use Rattle.std.specs.Prelude.{slice_index, slice_index_or, sum_by, map, ◌==◌, IsSome, IfSome, All}
@@ -128,13 +128,21 @@ module _ {S X : Type 0} (right : S → (ℕ → Type 0) → X → Type 0) (key :
       × IfSome root (λ x. right key.spans (InSpan key.blocks 1) x)
   root_told words xs ts L claims n value root c e at hit miss = dite (ℕ_discrete n 1)
       (λ one. let u = L.out (e ∙ one) in let same : value ≡ Some u.0 = some-injective value (Some u.0) (sym at ∙ u.1) in let d = L.done (e ∙ one) in
-      subst Right (sym (hit one ∙ same))
-          (((λ _. (subst (λ (z : ℕ). key.blocks ≤ z) c d.0, of_records (λ r. r.mark ≡ Some marks.Left) ts d.1)),
-          (λ _. refl)), u.2))
-      (λ ne. subst Right (sym (miss ne))
-      (((λ q. let f : false ≡ true = q in cc),
-      (λ all. absurd (ne (sym e
-      ∙ L.not_done (subst (λ (z : ℕ). key.blocks ≤ z) (sym c) all.0) (records_left ts all.1))))), tt))
+      subst Right (sym (hit one ∙ same)) (
+        (
+          (λ _. (subst (λ (z : ℕ). key.blocks ≤ z) c d.0, of_records (λ r. r.mark ≡ Some marks.Left) ts d.1)),
+          (λ _. refl),
+        ),
+        u.2,
+      ))
+      (λ ne. subst Right (sym (miss ne)) (
+        (
+          (λ q. let f : false ≡ true = q in cc),
+          (λ all. absurd (ne (sym e
+              ∙ L.not_done (subst (λ (z : ℕ). key.blocks ≤ z) (sym c) all.0) (records_left ts all.1)))),
+        ),
+        tt,
+      ))
     where
       Right : Option X → Type 0
       Right o = (IsSome o ↔ ((key.blocks ≤ claims) × All (λ t. t.pass.mark ≡ Some marks.Left) ts)) × IfSome o (λ x. right key.spans (InSpan key.blocks 1) x)
