@@ -1,5 +1,6 @@
 -- What the tokens of a board that closes tell: the records of all passes, and what came out at the root.
-use Rattle.std.proofs.Common.{◌≡◌, ◌≢◌, ◌↔◌, ℕ, zero, suc, ◌+◌, ◌≤◌, Bool, true, false, List, [], ◌∷◌, ◌++◌, length, sym, refl, ap, ◌∙◌, subst, arith, ne_eqb, cond, Option, Some, None}
+use Rattle.std.proofs.Common.{◌≡◌, ◌≢◌, ◌↔◌, ℕ, zero, suc, ◌+◌, ◌≤◌, Bool, true, false, List, [], ◌∷◌, ◌++◌, length}
+use Rattle.std.proofs.Common.{sym, refl, ap, ◌∙◌, subst, arith, ne_eqb, cond, Option, Some, None}
 use Rattle.std.proofs.lemmas.List.{map-append, append_assoc}
 use Rattle.std.proofs.lemmas.List.Recursion.{is_sum_by, is_count_by}
 use Rattle.std.specs.Prelude.{slice_index, slice_index_or, sum_by, map, ◌==◌, IsSome, IfSome, All}
@@ -41,15 +42,22 @@ module _ {S : Type 0} where
   records_of ts = map (λ t. t.pass) ts
 
   -- the view of a pass that has ended has its record alone, with its mark
-  pub one_record : (v : View S) (number : ℕ) (over : Bool) (mark : ended.Mark) → HasEnded v number over mark → (v.records ≡ record_of v ∷ []) × ((record_of v).mark ≡ Some mark)
-  one_record v number over mark is = let e = ap (λ (x : View S). x.records) is in (e ∙ ap (λ r. r ∷ []) (sym (ap head_or e)), ap (λ (x : View S). (record_of x).mark) is)
+  pub one_record : (v : View S) (number : ℕ) (over : Bool) (mark : ended.Mark) → HasEnded v number over mark
+      → (v.records ≡ record_of v ∷ []) × ((record_of v).mark ≡ Some mark)
+  one_record v number over mark is = let e = ap (λ (x : View S). x.records) is in
+      (e ∙ ap (λ r. r ∷ []) (sym (ap head_or e)), ap (λ (x : View S). (record_of x).mark) is)
 
   -- the records where the last token was popped
-  pub popped : (ts m : List (Token S)) (id : TableId) (v : View S) (t : Token S) → ts ≡ m ++ t ∷ [] → token_of id v ≡ t → v.records ≡ record_of v ∷ [] → records_of ts ≡ records_of m ++ v.records
-  popped ts m id v t e shown one = ap records_of e ∙ (map-append (λ t. t.pass) m (t ∷ []) ∙ ap (λ rs. records_of m ++ rs) (sym (one ∙ ap (λ (x : Token S). x.pass ∷ []) shown)))
+  pub popped : (ts m : List (Token S)) (id : TableId) (v : View S) (t : Token S) → ts ≡ m ++ t ∷ [] → token_of id v ≡ t
+      → v.records ≡ record_of v ∷ [] → records_of ts ≡ records_of m ++ v.records
+  popped ts m id v t e shown one = ap records_of e
+      ∙ (map-append (λ t. t.pass) m (t ∷ [])
+      ∙ ap (λ rs. records_of m ++ rs) (sym (one ∙ ap (λ (x : Token S). x.pass ∷ []) shown)))
 
   -- and where more were popped before
-  pub popped_more : (all ts m : List (Token S)) (id : TableId) (v : View S) (t : Token S) (rs : List Record) → records_of all ≡ records_of ts ++ rs → ts ≡ m ++ t ∷ [] → token_of id v ≡ t → v.records ≡ record_of v ∷ [] → records_of all ≡ records_of m ++ (v.records ++ rs)
+  pub popped_more : (all ts m : List (Token S)) (id : TableId) (v : View S) (t : Token S) (rs : List Record)
+      → records_of all ≡ records_of ts ++ rs → ts ≡ m ++ t ∷ [] → token_of id v ≡ t → v.records ≡ record_of v ∷ []
+      → records_of all ≡ records_of m ++ (v.records ++ rs)
   popped_more all ts m id v t rs h e shown one = h ∙ (ap (λ z. z ++ rs) (popped ts m id v t e shown one) ∙ append_assoc (records_of m) v.records rs)
 
   -- P of the one record
@@ -67,14 +75,17 @@ module _ {S : Type 0} where
 
   -- how many of them are those of pass w
   pub named_by : (w : ℕ) (ts : List (Token S)) → weigh (named w) (records_of ts) ≡ tokens_of w ts
-  named_by w ts = is_count_by (λ (xs : List (Token S)). weigh (named w) (records_of xs)) (λ t. t.pass.number == w) refl (λ t xs. counted (t.pass.number == w) (weigh (named w) (records_of xs))) ts
+  named_by w ts = is_count_by (λ (xs : List (Token S)). weigh (named w) (records_of xs)) (λ t. t.pass.number == w) refl
+      (λ t xs. counted (t.pass.number == w) (weigh (named w) (records_of xs))) ts
     where
       counted : (b : Bool) (n : ℕ) → one_if b + n ≡ cond b (1 + n) n
       counted true n = refl
       counted false n = omega arith
 
   -- ---- their marks
-  all_told : (at : ℕ → ℕ) (ts : List (Token S)) → Each (λ r. r.mark ≢ None) (records_of ts) → Each (λ r. at r.number ≡ mark_word (mark_of r.mark)) (records_of ts) → All (λ t. Some (mark_of_word (at t.pass.number)) ≡ t.pass.mark) ts
+  all_told : (at : ℕ → ℕ) (ts : List (Token S)) → Each (λ r. r.mark ≢ None) (records_of ts)
+      → Each (λ r. at r.number ≡ mark_word (mark_of r.mark)) (records_of ts)
+      → All (λ t. Some (mark_of_word (at t.pass.number)) ≡ t.pass.mark) ts
   all_told at [] n e k d h = absurd (omega arith)
   all_told at (t ∷ ts) n e zero d h = told t.pass.mark (at t.pass.number) n.0 e.0
   all_told at (t ∷ ts) n e (suc k) d h = all_told at ts n.1 e.1 k d (omega arith)
@@ -102,22 +113,45 @@ at_get (x ∷ xs) (suc i) a e = at_get xs i a e
 -- ---- the last state, by the tokens
 module _ {S X : Type 0} (right : S → (ℕ → Type 0) → X → Type 0) (key : Setup S) where
   pub last_of : (k : Setup S) → k ≡ key → (id : ℕ) (v : View S) (words : List ℕ) (xs : List (Option X)) → Final (Seen (Ruled right k) id v) words xs
-      → (ts : List (Token S)) → records_of ts ≡ v.records → length ts ≡ key.passes → Each (λ r. r.mark ≢ None) v.records → Last right key words xs (records_of ts)
+      → (ts : List (Token S)) → records_of ts ≡ v.records → length ts ≡ key.passes → Each (λ r. r.mark ≢ None) v.records
+      → Last right key words xs (records_of ts)
   last_of k same id v words xs f ts are all over = subst (Last right key words xs) (sym are)
-      (closes right key id v words xs (subst (λ (z : Setup S). Final (Seen (Ruled right z) id v) words xs) same f) (ap (weigh (λ r. 1)) (sym are) ∙ (count_records ts ∙ all)) over)
+      (closes right key id v words xs (subst (λ (z : Setup S). Final (Seen (Ruled right z) id v) words xs) same f)
+      (ap (weigh (λ r. 1)) (sym are) ∙ (count_records ts ∙ all)) over)
 
   -- what came out at the root
-  pub root_told : (words : List ℕ) (xs : List (Option X)) (ts : List (Token S)) → Last right key words xs (records_of ts) → (claims n : ℕ) (value root : Option X) → slice_index words 0 ≡ claims → slice_index words key.blocks ≡ n → get_elem? xs 1 ≡ some value
-      → (n ≡ 1 → root ≡ value) → (n ≢ 1 → root ≡ None) → (IsSome root ↔ ((key.blocks ≤ claims) × All (λ t. t.pass.mark ≡ Some marks.Left) ts)) × IfSome root (λ x. right key.spans (InSpan key.blocks 1) x)
+  pub root_told : (words : List ℕ) (xs : List (Option X)) (ts : List (Token S))
+      → Last right key words xs (records_of ts) → (claims n : ℕ) (value root : Option X) → slice_index words 0 ≡ claims
+      → slice_index words key.blocks ≡ n → get_elem? xs 1 ≡ some value
+      → (n ≡ 1 → root ≡ value) → (n ≢ 1 → root ≡ None)
+      → (IsSome root ↔ ((key.blocks ≤ claims) × All (λ t. t.pass.mark ≡ Some marks.Left) ts))
+      × IfSome root (λ x. right key.spans (InSpan key.blocks 1) x)
   root_told words xs ts L claims n value root c e at hit miss = dite (ℕ_discrete n 1)
       (λ one. let u = L.out (e ∙ one) in let same : value ≡ Some u.0 = some-injective value (Some u.0) (sym at ∙ u.1) in let d = L.done (e ∙ one) in
-      subst Right (sym (hit one ∙ same)) (((λ _. (subst (λ (z : ℕ). key.blocks ≤ z) c d.0, of_records (λ r. r.mark ≡ Some marks.Left) ts d.1)), (λ _. refl)), u.2))
-      (λ ne. subst Right (sym (miss ne)) (((λ q. let f : false ≡ true = q in cc), (λ all. absurd (ne (sym e ∙ L.not_done (subst (λ (z : ℕ). key.blocks ≤ z) (sym c) all.0) (records_left ts all.1))))), tt))
+      subst Right (sym (hit one ∙ same)) (
+        (
+          (λ _. (subst (λ (z : ℕ). key.blocks ≤ z) c d.0, of_records (λ r. r.mark ≡ Some marks.Left) ts d.1)),
+          (λ _. refl),
+        ),
+        u.2,
+      ))
+      (λ ne. subst Right (sym (miss ne)) (
+        (
+          (λ q. let f : false ≡ true = q in cc),
+          (λ all. absurd (ne (sym e
+              ∙ L.not_done (subst (λ (z : ℕ). key.blocks ≤ z) (sym c) all.0) (records_left ts all.1)))),
+        ),
+        tt,
+      ))
     where
       Right : Option X → Type 0
       Right o = (IsSome o ↔ ((key.blocks ≤ claims) × All (λ t. t.pass.mark ≡ Some marks.Left) ts)) × IfSome o (λ x. right key.spans (InSpan key.blocks 1) x)
 
   -- the marks that the words tell
-  pub marks_told : (words words' : List ℕ) → words' ≡ words → (ts : List (Token S)) → Each (λ r. r.mark ≢ None) (records_of ts) → Each (λ r. slice_index words (key.blocks + 1 + r.number) ≡ mark_word (mark_of r.mark)) (records_of ts)
+  pub marks_told : (words words' : List ℕ) → words' ≡ words → (ts : List (Token S))
+      → Each (λ r. r.mark ≢ None) (records_of ts)
+      → Each (λ r. slice_index words (key.blocks + 1 + r.number) ≡ mark_word (mark_of r.mark)) (records_of ts)
       → All (λ t. Some (mark_of_word (slice_index words' (key.blocks + 1 + t.pass.number))) ≡ t.pass.mark) ts
-  marks_told words words' same ts n e k d h = ap (λ ws. Some (mark_of_word (slice_index ws (key.blocks + 1 + (slice_index_or ts k d).pass.number)))) same ∙ all_told (λ w. slice_index words (key.blocks + 1 + w)) ts n e k d h
+  marks_told words words' same ts n e k d h =
+      ap (λ ws. Some (mark_of_word (slice_index ws (key.blocks + 1 + (slice_index_or ts k d).pass.number)))) same
+      ∙ all_told (λ w. slice_index words (key.blocks + 1 + w)) ts n e k d h

@@ -13,7 +13,8 @@ use Rattle.qh_board.specs.steps.Seats.{token_of}
 abbrev pub board_of : {S : Type 0} → TableId → Setup S → BoardValue S
 board_of table setup = record { table = table; setup = setup }
 
-module _ {S : Type 0} (b : BoardValue S) (t : Token S) (id table : TableId) (v : View S) (setup : Setup S) (shown : token_of id v ≡ t) (is : board_of table setup ≡ b) (mine : IsOf b t) where
+module _ {S : Type 0} (b : BoardValue S) (t : Token S) (id table : TableId) (v : View S) (setup : Setup S)
+    (shown : token_of id v ≡ t) (is : board_of table setup ≡ b) (mine : IsOf b t) where
   -- its seat is at the board's table
   pub same_table : id ≡ table
   same_table = ap (λ (x : Token S). x.table) shown ∙ (mine.table ∙ ap (λ (x : BoardValue S). x.table) (sym is))
@@ -23,7 +24,8 @@ module _ {S : Type 0} (b : BoardValue S) (t : Token S) (id table : TableId) (v :
   same_setup = ap (λ (x : Token S). x.setup) shown ∙ (mine.setup ∙ ap (λ (x : BoardValue S). Some x.setup) (sym is))
 
 -- a seat at the board's table whose view has its setup is one of the board's
-pub is_of : {S : Type 0} (b : BoardValue S) (id table : TableId) (v : View S) (setup : Setup S) → board_of table setup ≡ b → id ≡ table → v.setup ≡ Some setup → IsOf b (token_of id v)
+pub is_of : {S : Type 0} (b : BoardValue S) (id table : TableId) (v : View S) (setup : Setup S)
+    → board_of table setup ≡ b → id ≡ table → v.setup ≡ Some setup → IsOf b (token_of id v)
 is_of {S} b id table v setup is at of = record { table = at ∙ ap (λ (x : BoardValue S). x.table) is; setup = of ∙ ap (λ (x : BoardValue S). Some x.setup) is }
 
 module _ {S : Type 0} (t : Token S) (id : TableId) (v : View S) (shown : token_of id v ≡ t) where

@@ -20,7 +20,15 @@ use Rattle.qh_hull.specs.steps.Parts.{HasExtremesBefore}
 -- ---- block after block
 -- the front of a rising list rises
 rising_front : (xs ys : List ℕ) → IsStrictlyIncreasing (xs ++ ys) → IsStrictlyIncreasing xs
-rising_front xs ys h k l = grind (arith, common_steps, h k (grind (arith, common_steps, l)), get_or_append_left xs ys 0 k, get_or_append_left xs ys 0 (k + 1), l)
+rising_front xs ys h k l =
+    grind (
+      arith,
+      common_steps,
+      h k (grind (arith, common_steps, l)),
+      get_or_append_left xs ys 0 k,
+      get_or_append_left xs ys 0 (k + 1),
+      l,
+    )
 
 -- so does what is behind it
 rising_back : (xs ys : List ℕ) → IsStrictlyIncreasing (xs ++ ys) → IsStrictlyIncreasing ys
@@ -30,14 +38,23 @@ rising_back xs ys h k l =
 
 -- the front of a set of ids is one
 pub set_front : (pts : List Vector) (xs ys : List ℕ) → IsIdSet pts (xs ++ ys) → IsIdSet pts xs
-set_front pts xs ys s = record { rising = rising_front xs ys s.rising; distinct = λ i j m n e. s.distinct i j (in_append xs ys i (inl m)) (in_append xs ys j (inl n)) e }
+set_front pts xs ys s =
+    record {
+      rising = rising_front xs ys s.rising;
+      distinct = λ i j m n e. s.distinct i j (in_append xs ys i (inl m)) (in_append xs ys j (inl n)) e;
+    }
 
 -- and the rest
 set_back : (pts : List Vector) (xs ys : List ℕ) → IsIdSet pts (xs ++ ys) → IsIdSet pts ys
-set_back pts xs ys s = record { rising = rising_back xs ys s.rising; distinct = λ i j m n e. s.distinct i j (in_append xs ys i (inr m)) (in_append xs ys j (inr n)) e }
+set_back pts xs ys s =
+    record {
+      rising = rising_back xs ys s.rising;
+      distinct = λ i j m n e. s.distinct i j (in_append xs ys i (inr m)) (in_append xs ys j (inr n)) e;
+    }
 
 -- with the extremes of a block, only what is behind it is left
-pub block_kept : (pts : List Vector) (ids block later kept found : List ℕ) → HasExtremesBefore pts ids (block ++ later) kept → AreExtremes (place pts) (Members block) found
+pub block_kept : (pts : List Vector) (ids block later kept found : List ℕ)
+    → HasExtremesBefore pts ids (block ++ later) kept → AreExtremes (place pts) (Members block) found
     → HasExtremesBefore pts ids later (kept ++ found)
 block_kept pts ids block later kept found h x = record {
   set = set_back pts block later h.set;
@@ -51,7 +68,11 @@ block_kept pts ids block later kept found h x = record {
     inside i (inr m) = h.later i (in_append block later i (inl ((x.members i).0 m).0))
 
     of_block : (i : ℕ) → Extreme (place pts) (Members ids) i → In i block → Extreme (place pts) (Members block) i
-    of_block i e m = (m, λ c. e.1 (combination_within (place pts) (Others (Members block) i) (Others (Members ids) i) (place pts i) c (λ j o. (h.later j (in_append block later j (inl o.0)), o.1))))
+    of_block i e m = (
+      m,
+      λ c. e.1 (combination_within (place pts) (Others (Members block) i) (Others (Members ids) i) (place pts i) c
+          (λ j o. (h.later j (in_append block later j (inl o.0)), o.1))),
+    )
 
     split : (i : ℕ) → Extreme (place pts) (Members ids) i → In i block ⊎ In i later → In i (kept ++ found) ⊎ In i later
     split i e (inl m) = inl (in_append kept found i (inr ((x.members i).1 (of_block i e m))))
@@ -62,11 +83,13 @@ block_kept pts ids block later kept found h x = record {
     sorted i e (inr m) = split i e (of_append block later i m)
 
 -- the same, of a block that was cut off
-pub cut_kept : (pts : List Vector) (ids rest block later kept given found grown : List ℕ) (n : ℕ) → block ≡ take n rest → later ≡ drop n rest → given ≡ found → grown ≡ kept ++ given
+pub cut_kept : (pts : List Vector) (ids rest block later kept given found grown : List ℕ) (n : ℕ) → block ≡ take n rest
+    → later ≡ drop n rest → given ≡ found → grown ≡ kept ++ given
     → HasExtremesBefore pts ids rest kept → (IsIdSet pts block → AreExtremes (place pts) (Members block) found) → HasExtremesBefore pts ids later grown
 cut_kept pts ids rest block later kept given found grown n e f same more h x =
     let h' : HasExtremesBefore pts ids (block ++ later) kept = subst (λ r. HasExtremesBefore pts ids r kept) (sym (rw (e, f) (take-append-drop n rest))) h in
-    subst (HasExtremesBefore pts ids later) (sym (more ∙ ap (λ v. kept ++ v) same)) (block_kept pts ids block later kept found h' (x (set_front pts block later h'.set)))
+    subst (HasExtremesBefore pts ids later) (sym (more ∙ ap (λ v. kept ++ v) same))
+    (block_kept pts ids block later kept found h' (x (set_front pts block later h'.set)))
 
 -- what is left are indices
 pub left_indices : (pts : List Vector) (ids rest kept : List ℕ) → AreIndices pts ids → HasExtremesBefore pts ids rest kept → AreIndices pts rest

@@ -1,5 +1,6 @@
 -- Cuts into blocks.
-use Rattle.std.proofs.Common.{ℕ, zero, suc, ◌≡◌, ◌+◌, ◌*◌, ◌-◌, ◌≤◌, ◌<◌, List, [], ◌∷◌, ◌++◌, length, min, Bool, true, false, nat_lt, le_refl, refl, subst, arith}
+use Rattle.std.proofs.Common.{ℕ, zero, suc, ◌≡◌, ◌+◌, ◌*◌, ◌-◌, ◌≤◌, ◌<◌, List, [], ◌∷◌, ◌++◌, length, min, Bool, true}
+use Rattle.std.proofs.Common.{false, nat_lt, le_refl, refl, subst, arith}
 use Rattle.std.proofs.lemmas.Grind.{div_ceil_times, common_steps}
 use Rattle.std.proofs.lemmas.Nat.{mul-le}
 use Rattle.std.proofs.lemmas.List.{get_or_append_left}
@@ -14,10 +15,12 @@ below_end : (m size n j : ℕ) → n * size < m + size → j < n → j * size < 
 below_end m size n j up h = let next : j + 1 ≤ n = grind (arith, h) in grind (arith, up, mul-le (j + 1) size n size next (le_refl size))
 
 -- multiples of the size and then m are an even cut
-pub even_cut : (m size n : ℕ) (xs : List ℕ) → 0 < size → n ≡ blocks_of m size → length xs ≡ n → ((k : ℕ) → k < n → bound xs k ≡ k * size) → IsEvenCut m size (xs ++ m ∷ [])
+pub even_cut : (m size n : ℕ) (xs : List ℕ) → 0 < size → n ≡ blocks_of m size → length xs ≡ n
+    → ((k : ℕ) → k < n → bound xs k ≡ k * size) → IsEvenCut m size (xs ++ m ∷ [])
 even_cut m size n xs p is len each =
     let cover = div_ceil_times m size p in
-    let inner : (j : ℕ) → j < n → bound (xs ++ m ∷ []) j ≡ min (j * size) m = (λ j h. grind (arith, below_end m size n j, cover, each j h, is, len, get_or_append_left xs (m ∷ []) 0 j)) in
+    let inner : (j : ℕ) → j < n → bound (xs ++ m ∷ []) j ≡ min (j * size) m =
+    (λ j h. grind (arith, below_end m size n j, cover, each j h, is, len, get_or_append_left xs (m ∷ []) 0 j)) in
     let outer : bound (xs ++ m ∷ []) n ≡ min (n * size) m = grind (arith, cover, is, len, get_or-append_seam xs m [] 0) in
     record {
       count = grind (arith, common_steps);
@@ -31,7 +34,8 @@ even_is_cut m size bounds p q s few even =
     let cover : (m ≤ n * size) × (n * size < m + size) = div_ceil_times m size s in
     let some : 1 ≤ n = some_block n (grind (arith, p, cover.0)) in
     let rises : (j : ℕ) → j + 1 < length bounds → bound bounds j < bound bounds (j + 1) =
-    (λ j h. rises_at size m j (bound bounds j) (bound bounds (j + 1)) s (even.each j (grind (arith, h))) (even.each (j + 1) h) (below_end m size n j cover.1 (grind (arith, h, even.count)))) in
+    (λ j h. rises_at size m j (bound bounds j) (bound bounds (j + 1)) s (even.each j (grind (arith, h)))
+    (even.each (j + 1) h) (below_end m size n j cover.1 (grind (arith, h, even.count)))) in
     record {
       few = grind (arith, few, even.count);
       are =
@@ -67,11 +71,12 @@ bounds_order b n i j rises h l =
 -- a position below the last bound lies between two neighbours
 between_bounds : (b : ℕ → ℕ) (n p : ℕ) → b 0 ≤ p → p < b n → (j : ℕ) × (j < n) × (b j ≤ p) × (p < b (j + 1))
 between_bounds b zero p h l = absurd (omega (arith, h, l))
-between_bounds b (suc n) p h l = by (between_bounds b n p h) (nat_lt p (b n)) refl
+between_bounds b (suc n) p h l = with_rest (between_bounds b n p h) (nat_lt p (b n)) refl
   where
-    by : (p < b n → (j : ℕ) × (j < n) × (b j ≤ p) × (p < b (j + 1))) → (t : Bool) → nat_lt p (b n) ≡ t → (j : ℕ) × (j < suc n) × (b j ≤ p) × (p < b (j + 1))
-    by below true e = let found = below (grind (arith, e)) in (found.0, grind (arith, found.1), found.2, found.3)
-    by below false e = (n, grind (arith), grind (arith, e), grind (arith, l))
+    with_rest : (p < b n → (j : ℕ) × (j < n) × (b j ≤ p) × (p < b (j + 1))) → (t : Bool) → nat_lt p (b n) ≡ t
+        → (j : ℕ) × (j < suc n) × (b j ≤ p) × (p < b (j + 1))
+    with_rest below true e = let found = below (grind (arith, e)) in (found.0, grind (arith, found.1), found.2, found.3)
+    with_rest below false e = (n, grind (arith), grind (arith, e), grind (arith, l))
 
 -- the bounds of a cut rise
 pub cut_rises : (bounds : List ℕ) → IsCut bounds → (j : ℕ) → j < block_count bounds → bound bounds j < bound bounds (j + 1)
@@ -85,7 +90,9 @@ blocks_cover bounds p cut h =
 -- a block does not begin before a lower one ends
 blocks_follow : (bounds : List ℕ) (i j p : ℕ) → IsCut bounds → IsInBlock bounds i p → IsInBlock bounds j p → ¬ (i < j)
 blocks_follow bounds i j p cut a b h =
-    let order : bound bounds (i + 1) ≤ bound bounds j = bounds_order (bound bounds) (block_count bounds) (i + 1) j (cut_rises bounds cut) (grind (arith, h)) (grind (arith, b.block)) in
+    let order : bound bounds (i + 1) ≤ bound bounds j =
+    bounds_order (bound bounds) (block_count bounds) (i + 1) j (cut_rises bounds cut) (grind (arith, h))
+    (grind (arith, b.block)) in
     omega (arith, order, a.to, b.from)
 
 pub blocks_are_apart : BlocksAreApart
@@ -93,7 +100,9 @@ blocks_are_apart bounds i j p cut a b = grind (arith, blocks_follow bounds i j p
 
 -- a block ends within the positions
 pub block_ends : (bounds : List ℕ) (j : ℕ) → IsCut bounds → j < block_count bounds → bound bounds (j + 1) ≤ positions bounds
-block_ends bounds j cut h = bounds_order (bound bounds) (block_count bounds) (j + 1) (block_count bounds) (cut_rises bounds cut) (grind (arith, h)) (grind (arith))
+block_ends bounds j cut h =
+    bounds_order (bound bounds) (block_count bounds) (j + 1) (block_count bounds) (cut_rises bounds cut)
+    (grind (arith, h)) (grind (arith))
 
 pub blocks_are_inside : BlocksAreInside
 blocks_are_inside bounds j p cut a = let order : bound bounds (j + 1) ≤ positions bounds = block_ends bounds j cut a.block in omega (arith, order, a.to)

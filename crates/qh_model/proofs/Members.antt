@@ -32,12 +32,12 @@ to_contains (y ∷ xs) x (inr m) = let r = to_contains xs x m in let h = r.1 in 
 
 -- and back
 pub of_contains : {X : Type 0} (xs : List X) (x : X) → Contains xs x → In x xs
-of_contains {X} xs x c = go xs c.0 c.1 c.2
+of_contains {X} xs x c = along_list xs c.0 c.1 c.2
   where
-    go : (ys : List X) (k : ℕ) → k < length ys → get_or ys k x ≡ x → In x ys
-    go [] k h e = absurd (omega arith)
-    go (y ∷ ys) zero h e = inl (sym e)
-    go (y ∷ ys) (suc k) h e = inr (go ys k (omega arith) e)
+    along_list : (ys : List X) (k : ℕ) → k < length ys → get_or ys k x ≡ x → In x ys
+    along_list [] k h e = absurd (omega arith)
+    along_list (y ∷ ys) zero h e = inl (sym e)
+    along_list (y ∷ ys) (suc k) h e = inr (along_list ys k (omega arith) e)
 
 -- a member of a list is one of the list in another order
 pub in_permutation : {X : Type 0} (xs ys : List X) → IsPermutation xs ys → (x : X) → In x xs → In x ys
@@ -50,14 +50,14 @@ rising_tail x xs h k l = rw (add-one k) (rw (add-one (suc k)) at (h (suc k) (ome
 -- the first of a rising list is below the others
 pub rising_first : (x : ℕ) (xs : List ℕ) → IsStrictlyIncreasing (x ∷ xs) → (y : ℕ) → In y xs → x < y
 rising_first x [] h y i = absurd i
-rising_first x (z ∷ zs) h y i = by (rising_first z zs (rising_tail x (z ∷ zs) h)) i
+rising_first x (z ∷ zs) h y i = with_rest (rising_first z zs (rising_tail x (z ∷ zs) h)) i
   where
     next : x < z
     next = h 0 (omega arith)
 
-    by : ((y : ℕ) → In y zs → z < y) → In y (z ∷ zs) → x < y
-    by rest (inl e) = subst (λ (n : ℕ). x < n) (sym e) next
-    by rest (inr i) = let above : z < y = rest y i in omega (arith, next, above)
+    with_rest : ((y : ℕ) → In y zs → z < y) → In y (z ∷ zs) → x < y
+    with_rest rest (inl e) = subst (λ (n : ℕ). x < n) (sym e) next
+    with_rest rest (inr i) = let above : z < y = rest y i in omega (arith, next, above)
 
 -- each member of a rising list stands in it once
 pub rising_once : (xs : List ℕ) → IsStrictlyIncreasing xs → Once xs

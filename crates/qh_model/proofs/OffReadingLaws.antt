@@ -1,5 +1,6 @@
 -- A byte string has one list of points as an OFF file, or one fault.
-use Rattle.std.proofs.Common.{◌≡◌, ◌∙◌, [], ◌∷◌, ◌++◌, ◌≤◌, ◌⊎◌, ℕ, List, Bool, true, false, cond, refl, ap, sym, arith, suc, length, map, inl, inr, subst, nat_lt}
+use Rattle.std.proofs.Common.{◌≡◌, ◌∙◌, [], ◌∷◌, ◌++◌, ◌≤◌, ◌⊎◌, ℕ, List, Bool, true, false, cond, refl, ap, sym, arith}
+use Rattle.std.proofs.Common.{suc, length, map, inl, inr, subst, nat_lt}
 use Rattle.std.specs.Prelude.{ℤ, pos, codes, Option, Some, None}
 use Rattle.std.specs.List.{AllByRecursion}
 use Rattle.std.specs.Str.{bytes_eq}
@@ -36,7 +37,8 @@ many (w ∷ ws) [] e = cc
 many (w ∷ ws) (z ∷ zs) e = let rest : numbers ws ≡ map Some zs = cc in ap suc (many ws zs rest)
 
 -- the first numbers of two files with the same words
-same_first : (us bs xs ys : List Word) (m n : ℤ) (ms ns : List ℤ) → us ++ xs ≡ bs ++ ys → numbers us ≡ map Some (m ∷ ms) → numbers bs ≡ map Some (n ∷ ns) → m ≡ n
+same_first : (us bs xs ys : List Word) (m n : ℤ) (ms ns : List ℤ) → us ++ xs ≡ bs ++ ys → numbers us ≡ map Some (m ∷ ms)
+    → numbers bs ≡ map Some (n ∷ ns) → m ≡ n
 same_first [] bs xs ys m n ms ns e f g = cc
 same_first (a ∷ us) [] xs ys m n ms ns e f g = cc
 same_first (a ∷ us) (b ∷ bs) xs ys m n ms ns e f g =
@@ -49,7 +51,9 @@ pub one_reading : (bytes : List ℕ) (ps qs : List Vector) → ReadsOff bytes ps
 one_reading bytes ps qs a b =
     let words : a.keyword ∷ a.numbered ++ a.rest ≡ b.keyword ∷ b.numbered ++ b.rest = sym a.words ∙ b.words in
     let after : a.numbered ++ a.rest ≡ b.numbered ++ b.rest = cc in
-    let counts : pos (length ps) ≡ pos (length qs) = same_first a.numbered b.numbered a.rest b.rest (pos (length ps)) (pos (length qs)) (a.faces ∷ a.edges ∷ coordinates ps) (b.faces ∷ b.edges ∷ coordinates qs) after a.numbers b.numbers in
+    let counts : pos (length ps) ≡ pos (length qs) =
+    same_first a.numbered b.numbered a.rest b.rest (pos (length ps)) (pos (length qs))
+    (a.faces ∷ a.edges ∷ coordinates ps) (b.faces ∷ b.edges ∷ coordinates qs) after a.numbers b.numbers in
     let count : length ps ≡ length qs = cc in
     let left = many a.numbered (pos (length ps) ∷ a.faces ∷ a.edges ∷ coordinates ps) a.numbers in
     let right = many b.numbered (pos (length qs) ∷ b.faces ∷ b.edges ∷ coordinates qs) b.numbers in
@@ -97,13 +101,14 @@ numbered ws h =
       limit = subst (AllByRecursion IsCoordinate) (sym same) c.filled.limit;
     }
 
-whole : (bytes : List ℕ) (ws : List Word) → length bytes ≤ BYTE_LIMIT → off_words bytes ≡ ws → off_words_fault ws ≡ None → (ps : List Vector) × ReadsOff bytes ps
+whole : (bytes : List ℕ) (ws : List Word) → length bytes ≤ BYTE_LIMIT → off_words bytes ≡ ws → off_words_fault ws ≡ None
+    → (ps : List Vector) × ReadsOff bytes ps
 whole bytes [] small e h = cc
-whole bytes (w ∷ ws) small e h = by (bytes_eq w.text (codes "OFF")) refl h
+whole bytes (w ∷ ws) small e h = by_test (bytes_eq w.text (codes "OFF")) refl h
   where
-    by : (b : Bool) → bytes_eq w.text (codes "OFF") ≡ b → cond b (counts_fault ws) (Some NotOff) ≡ None → (ps : List Vector) × ReadsOff bytes ps
-    by false t h = cc
-    by true t h =
+    by_test : (b : Bool) → bytes_eq w.text (codes "OFF") ≡ b → cond b (counts_fault ws) (Some NotOff) ≡ None → (ps : List Vector) × ReadsOff bytes ps
+    by_test false t h = cc
+    by_test true t h =
         let r = numbered ws h in (
           r.points,
           record {
@@ -122,16 +127,20 @@ whole bytes (w ∷ ws) small e h = by (bytes_eq w.text (codes "OFF")) refl h
           },
         )
 
-pub one_or_other : (bytes : List ℕ) → ((ps : List Vector) × ReadsOff bytes ps × (first_off_fault bytes ≡ None)) ⊎ ((f : ReadFault) × (first_off_fault bytes ≡ Some f))
-one_or_other bytes = by (first_off_fault bytes) refl
+pub one_or_other : (bytes : List ℕ) → ((ps : List Vector) × ReadsOff bytes ps × (first_off_fault bytes ≡ None))
+    ⊎ ((f : ReadFault) × (first_off_fault bytes ≡ Some f))
+one_or_other bytes = by_option (first_off_fault bytes) refl
   where
-    small : (b : Bool) → nat_lt BYTE_LIMIT (length bytes) ≡ b → cond b (Some Big) (off_words_fault (off_words bytes)) ≡ None → (ps : List Vector) × ReadsOff bytes ps
+    small : (b : Bool) → nat_lt BYTE_LIMIT (length bytes) ≡ b
+        → cond b (Some Big) (off_words_fault (off_words bytes)) ≡ None → (ps : List Vector) × ReadsOff bytes ps
     small true e h = cc
     small false e h = whole bytes (off_words bytes) (grind (arith, nat_tests)) refl h
 
-    by : (o : Option ReadFault) → first_off_fault bytes ≡ o → ((ps : List Vector) × ReadsOff bytes ps × (first_off_fault bytes ≡ None)) ⊎ ((f : ReadFault) × (first_off_fault bytes ≡ Some f))
-    by None e = let r = small (nat_lt BYTE_LIMIT (length bytes)) refl e in inl (r.0, r.1, e)
-    by (Some f) e = inr (f, e)
+    by_option : (o : Option ReadFault) → first_off_fault bytes ≡ o
+        → ((ps : List Vector) × ReadsOff bytes ps × (first_off_fault bytes ≡ None))
+        ⊎ ((f : ReadFault) × (first_off_fault bytes ≡ Some f))
+    by_option None e = let r = small (nat_lt BYTE_LIMIT (length bytes)) refl e in inl (r.0, r.1, e)
+    by_option (Some f) e = inr (f, e)
 
 -- ---- never both
 counts_clear : (ws rest : List Word) (faces edges : ℤ) (ps : List Vector) → numbers ws ≡ map Some (pos (length ps) ∷ faces ∷ edges ∷ coordinates ps)
@@ -153,6 +162,7 @@ pub never_both : (bytes : List ℕ) (ps : List Vector) → ReadsOff bytes ps →
 never_both bytes ps r =
     let keyword : bytes_eq r.keyword.text (codes "OFF") ≡ true = ap (λ (t : List ℕ). bytes_eq t (codes "OFF")) r.is_off in
     let counts = counts_clear r.numbered r.rest r.faces r.edges ps r.numbers r.some r.few r.limit in
-    let none : off_words_fault (r.keyword ∷ r.numbered ++ r.rest) ≡ None = ap (λ (b : Bool). cond b (counts_fault (r.numbered ++ r.rest)) (Some NotOff)) keyword ∙ counts in
+    let none : off_words_fault (r.keyword ∷ r.numbered ++ r.rest) ≡ None =
+    ap (λ (b : Bool). cond b (counts_fault (r.numbered ++ r.rest)) (Some NotOff)) keyword ∙ counts in
     subst (λ (b : Bool). cond b (Some Big) (off_words_fault (off_words bytes)) ≡ None) (sym (not_big (length bytes) r.small))
     (ap off_words_fault r.words ∙ none)

@@ -1,5 +1,6 @@
 -- A byte string has one list of points, or one fault.
-use Rattle.std.proofs.Common.{◌≡◌, ◌∙◌, [], ◌∷◌, ◌++◌, ◌*◌, ◌≤◌, ◌⊎◌, ◌&&◌, ℕ, List, Bool, true, false, cond, refl, ap, sym, arith, zero, suc, length, map, inl, inr, subst, nat_lt}
+use Rattle.std.proofs.Common.{◌≡◌, ◌∙◌, [], ◌∷◌, ◌++◌, ◌*◌, ◌≤◌, ◌⊎◌, ◌&&◌, ℕ, List, Bool, true, false, cond, refl, ap}
+use Rattle.std.proofs.Common.{sym, arith, zero, suc, length, map, inl, inr, subst, nat_lt}
 use Rattle.std.specs.Prelude.{ℤ, pos, negsuc, Option, Some, None, nat_le}
 use Rattle.std.specs.List.{AllByRecursion}
 use Rattle.std.specs.Option.{option_or}
@@ -14,7 +15,9 @@ use Rattle.qh_model.specs.headline.Numbers.{number_of}
 use Rattle.qh_model.specs.headline.PointFile.{coordinates, IsHeader, Reads}
 use Rattle.qh_model.specs.declared.read_fault.ReadFault.{ReadFault}
 use Rattle.qh_model.specs.declared.read_fault.ReadFault.TheVariants.{NotThree, Count, Range, Big}
-use Rattle.qh_model.specs.headline.FileFault.{is_three, coordinate_fault, coordinates_fault, counted_fault, number_fault, next_number_fault, long_fault, headed_fault, words_fault, first_fault}
+use Rattle.qh_model.specs.headline.FileFault.{is_three, coordinate_fault, coordinates_fault, counted_fault}
+use Rattle.qh_model.specs.headline.FileFault.{number_fault, next_number_fault, long_fault, headed_fault, words_fault}
+use Rattle.qh_model.specs.headline.FileFault.{first_fault}
 use Rattle.qh_model.proofs.algebra.VectorIdentities.{vector_path}
 
 pub same_some : (xs ys : List ℤ) → map Some xs ≡ map Some ys → xs ≡ ys
@@ -65,17 +68,17 @@ in_limit z h = leb-true _ _ h
 -- a coordinate that has no fault, and what follows it
 in_range : (w : Word) (after : Option ReadFault) → option_or (coordinate_fault (number_of w.text) w.line) after ≡ None
     → (z : ℤ) × (number_of w.text ≡ Some z) × IsCoordinate z × (after ≡ None)
-in_range w after h = by (number_of w.text) refl h
+in_range w after h = by_option (number_of w.text) refl h
   where
     within : (z : ℤ) → number_of w.text ≡ Some z → (b : Bool) → is_coordinate z ≡ b → option_or (cond b None (Some (Range w.line))) after ≡ None
         → (z : ℤ) × (number_of w.text ≡ Some z) × IsCoordinate z × (after ≡ None)
     within z e false c h = cc
     within z e true c h = (z, e, in_limit z c, h)
 
-    by : (o : Option ℤ) → number_of w.text ≡ o → option_or (coordinate_fault o w.line) after ≡ None
+    by_option : (o : Option ℤ) → number_of w.text ≡ o → option_or (coordinate_fault o w.line) after ≡ None
         → (z : ℤ) × (number_of w.text ≡ Some z) × IsCoordinate z × (after ≡ None)
-    by None e h = cc
-    by (Some z) e h = within z e (is_coordinate z) refl h
+    by_option None e h = cc
+    by_option (Some z) e h = within z e (is_coordinate z) refl h
 
 pub filled : (after : List Word → Option ReadFault) (k : ℕ) (ws : List Word) → coordinates_fault after k ws ≡ None → Filled after ws k
 filled after zero ws h = record { front = []; rest = ws; whole = refl; all = []; are = refl; count = refl; limit = tt; clear = h }
@@ -121,11 +124,11 @@ pub record Counted (after : List Word → Option ReadFault) (z : ℤ) (ws : List
 
 pub counted : (after : List Word → Option ReadFault) (z : ℤ) (ws : List Word) → counted_fault after z ws ≡ None → Counted after z ws
 counted after (negsuc n) ws h = cc
-counted after (pos n) ws h = by (nat_le 1 n && nat_le n POINT_LIMIT) refl h
+counted after (pos n) ws h = by_test (nat_le 1 n && nat_le n POINT_LIMIT) refl h
   where
-    by : (b : Bool) → (nat_le 1 n && nat_le n POINT_LIMIT) ≡ b → cond b (coordinates_fault after (3 * n) ws) (Some Count) ≡ None → Counted after (pos n) ws
-    by false e h = cc
-    by true e h =
+    by_test : (b : Bool) → (nat_le 1 n && nat_le n POINT_LIMIT) ≡ b → cond b (coordinates_fault after (3 * n) ws) (Some Count) ≡ None → Counted after (pos n) ws
+    by_test false e h = cc
+    by_test true e h =
         let range : (1 ≤ n) × (n ≤ POINT_LIMIT) = grind (arith, nat_tests) in
         record { n = n; is = refl; some = range.0; few = range.1; filled = filled after (3 * n) ws h }
 
@@ -140,11 +143,11 @@ pub record NextNumber (after : ℤ → List Word → Option ReadFault) (ws : Lis
 
 pub next_number : (after : ℤ → List Word → Option ReadFault) (ws : List Word) → next_number_fault after ws ≡ None → NextNumber after ws
 next_number after [] h = cc
-next_number after (w ∷ ws) h = by (number_of w.text) refl h
+next_number after (w ∷ ws) h = by_option (number_of w.text) refl h
   where
-    by : (o : Option ℤ) → number_of w.text ≡ o → number_fault after o w.line ws ≡ None → NextNumber after (w ∷ ws)
-    by None e h = cc
-    by (Some z) e h = record { w = w; rest = ws; z = z; are = refl; number = e; clear = h }
+    by_option : (o : Option ℤ) → number_of w.text ≡ o → number_fault after o w.line ws ≡ None → NextNumber after (w ∷ ws)
+    by_option None e h = cc
+    by_option (Some z) e h = record { w = w; rest = ws; z = z; are = refl; number = e; clear = h }
 
 three : (z : ℤ) → is_three z ≡ true → z ≡ pos 3
 three (pos n) h = let e : n ≡ 3 = grind (arith, nat_tests) in ap pos e
@@ -171,7 +174,9 @@ made w v vs a b z e f header c =
     let g = grouped c.n c.filled.all c.filled.count in
     let same : coordinates g.points ≡ c.filled.all = g.are in
     let many : length g.points ≡ c.n = g.count in
-    let front : vs ≡ c.filled.front = c.filled.whole ∙ ap (λ (t : List Word). c.filled.front ++ t) (none_long c.filled.rest c.filled.clear) ∙ append-nil c.filled.front in
+    let front : vs ≡ c.filled.front = c.filled.whole
+    ∙ ap (λ (t : List Word). c.filled.front ++ t) (none_long c.filled.rest c.filled.clear)
+    ∙ append-nil c.filled.front in
     let rest : numbers vs ≡ map Some c.filled.all = ap numbers front ∙ c.filled.are in
     record {
       first = a;
@@ -186,27 +191,47 @@ made w v vs a b z e f header c =
 
 whole : (ws : List Word) → words_fault ws ≡ None → Whole ws
 whole ws h = let w = next_number _ ws h in let v = next_number _ w.rest w.clear in
-    subst Whole (sym (w.are ∙ ap (λ (t : List Word). w.w ∷ t) v.are)) (head w.w v.w v.rest w.z v.z w.number v.number (is_three w.z) (is_three v.z) refl refl v.clear)
+    subst Whole (sym (w.are ∙ ap (λ (t : List Word). w.w ∷ t) v.are))
+    (head w.w v.w v.rest w.z v.z w.number v.number (is_three w.z) (is_three v.z) refl refl v.clear)
   where
     head : (w v : Word) (vs : List Word) (a b : ℤ) → number_of w.text ≡ Some a → number_of v.text ≡ Some b → (p q : Bool) → is_three a ≡ p → is_three b ≡ q
         → cond p (counted_fault long_fault b vs) (cond q (counted_fault long_fault a vs) (Some NotThree)) ≡ None → Whole (w ∷ v ∷ vs)
     head w v vs a b e f true q pe qe h = made w v vs a b b e f (λ n is. inl (three a pe, is)) (counted long_fault b vs h)
-    head w v vs a b e f false true pe qe h = made w v vs a b a e f (λ n is. inr ((λ t. let at : is_three (pos 3) ≡ false = subst (λ (y : ℤ). is_three y ≡ false) t pe in cc), three b qe, is)) (counted long_fault a vs h)
+    head w v vs a b e f false true pe qe h =
+        made w v vs a b a e f
+        (λ n is. inr (
+          (λ t. let at : is_three (pos 3) ≡ false = subst (λ (y : ℤ). is_three y ≡ false) t pe in cc),
+          three b qe,
+          is,
+        )) (counted long_fault a vs h)
     head w v vs a b e f false false pe qe h = cc
 
 -- it is the file of some points, or it has a fault
 pub one_or_other : (bytes : List ℕ) → ((ps : List Vector) × Reads bytes ps × (first_fault bytes ≡ None)) ⊎ ((f : ReadFault) × (first_fault bytes ≡ Some f))
-one_or_other bytes = by (first_fault bytes) refl
+one_or_other bytes = by_option (first_fault bytes) refl
   where
     small : (b : Bool) → nat_lt BYTE_LIMIT (length bytes) ≡ b → cond b (Some Big) (words_fault (data_words bytes)) ≡ None → (ps : List Vector) × Reads bytes ps
     small true e h = cc
     small false e h =
-        let w = whole (data_words bytes) h in
-        (w.points, record { small = grind (arith, nat_tests); first = w.first; second = w.second; numbers = w.are; header = w.header; some = w.some; few = w.few; limit = w.limit })
+        let w = whole (data_words bytes) h in (
+          w.points,
+          record {
+            small = grind (arith, nat_tests);
+            first = w.first;
+            second = w.second;
+            numbers = w.are;
+            header = w.header;
+            some = w.some;
+            few = w.few;
+            limit = w.limit;
+          },
+        )
 
-    by : (o : Option ReadFault) → first_fault bytes ≡ o → ((ps : List Vector) × Reads bytes ps × (first_fault bytes ≡ None)) ⊎ ((f : ReadFault) × (first_fault bytes ≡ Some f))
-    by None e = let r = small (nat_lt BYTE_LIMIT (length bytes)) refl e in inl (r.0, r.1, e)
-    by (Some f) e = inr (f, e)
+    by_option : (o : Option ReadFault) → first_fault bytes ≡ o
+        → ((ps : List Vector) × Reads bytes ps × (first_fault bytes ≡ None))
+        ⊎ ((f : ReadFault) × (first_fault bytes ≡ Some f))
+    by_option None e = let r = small (nat_lt BYTE_LIMIT (length bytes)) refl e in inl (r.0, r.1, e)
+    by_option (Some f) e = inr (f, e)
 
 -- a coordinate in range has no fault
 clear_more : (w : Word) (z : ℤ) (after : Option ReadFault) → number_of w.text ≡ Some z → IsCoordinate z → after ≡ None
@@ -217,7 +242,8 @@ clear_more w z after e l h =
     (subst (λ (b : Bool). option_or (cond b None (Some (Range w.line))) after ≡ None) (sym in_range) h)
 
 -- coordinates in range have no fault, if what follows them has none
-clear : (after : List Word → Option ReadFault) (zs : List ℤ) (ws rest : List Word) → numbers ws ≡ map Some zs → AllByRecursion IsCoordinate zs → after rest ≡ None
+clear : (after : List Word → Option ReadFault) (zs : List ℤ) (ws rest : List Word) → numbers ws ≡ map Some zs
+    → AllByRecursion IsCoordinate zs → after rest ≡ None
     → coordinates_fault after (length zs) (ws ++ rest) ≡ None
 clear after [] [] rest e l h = h
 clear after [] (w ∷ ws) rest e l h = cc
@@ -234,7 +260,8 @@ thrice (p ∷ ps) = let rest : length (coordinates ps) ≡ 3 * length ps = thric
 
 -- a count in range and its coordinates have no fault, if what follows them has none
 pub counted_clear : (after : List Word → Option ReadFault) (ps : List Vector) (ws rest : List Word) → numbers ws ≡ map Some (coordinates ps)
-    → 1 ≤ length ps → length ps ≤ POINT_LIMIT → AllByRecursion IsCoordinate (coordinates ps) → after rest ≡ None → counted_fault after (pos (length ps)) (ws ++ rest) ≡ None
+    → 1 ≤ length ps → length ps ≤ POINT_LIMIT → AllByRecursion IsCoordinate (coordinates ps) → after rest ≡ None
+    → counted_fault after (pos (length ps)) (ws ++ rest) ≡ None
 counted_clear after ps ws rest e some few l h =
     let n = length ps in
     let range : (nat_le 1 n && nat_le n POINT_LIMIT) ≡ true = grind (arith, nat_tests) in
@@ -251,11 +278,11 @@ headed_clear : (a b : ℤ) (n : ℕ) (ws : List Word) → IsHeader a b n → cou
 headed_clear a b n ws (inl (first, second)) h =
     subst (λ (z : ℤ). headed_fault z b ws ≡ None) (sym first) (subst (λ (z : ℤ). counted_fault long_fault z ws ≡ None) (sym second) h)
 headed_clear a b n ws (inr (other, second, first)) h =
-    subst (λ (z : ℤ). headed_fault a z ws ≡ None) (sym second) (by (is_three a) refl)
+    subst (λ (z : ℤ). headed_fault a z ws ≡ None) (sym second) (by_test (is_three a) refl)
   where
-    by : (t : Bool) → is_three a ≡ t → cond t (counted_fault long_fault (pos 3) ws) (counted_fault long_fault a ws) ≡ None
-    by true e = absurd (other (three a e))
-    by false e = subst (λ (z : ℤ). counted_fault long_fault z ws ≡ None) (sym first) h
+    by_test : (t : Bool) → is_three a ≡ t → cond t (counted_fault long_fault (pos 3) ws) (counted_fault long_fault a ws) ≡ None
+    by_test true e = absurd (other (three a e))
+    by_test false e = subst (λ (z : ℤ). counted_fault long_fault z ws ≡ None) (sym first) h
 
 words_clear : (ws : List Word) (a b : ℤ) (ps : List Vector) → numbers ws ≡ map Some (a ∷ b ∷ coordinates ps) → IsHeader a b (length ps)
     → 1 ≤ length ps → length ps ≤ POINT_LIMIT → AllByRecursion IsCoordinate (coordinates ps) → words_fault ws ≡ None

@@ -1,5 +1,6 @@
 -- The ids that are marked at the first key of each place are the distinct ids, whatever numbers tell the places.
-use Rattle.std.proofs.Common.{◌≡◌, ◌≢◌, ℕ, ◌+◌, ◌*◌, ◌%◌, ◌/◌, ◌<◌, ◌≤◌, List, length, get_or, map, replicate, arith, ap, sym, subst, ◌∙◌, refl, ◌↔◌, ◌⊎◌, inl, inr, ⊎_elim, true, false, Bool}
+use Rattle.std.proofs.Common.{◌≡◌, ◌≢◌, ℕ, ◌+◌, ◌*◌, ◌%◌, ◌/◌, ◌<◌, ◌≤◌, List, length, get_or, map, replicate, arith}
+use Rattle.std.proofs.Common.{ap, sym, subst, ◌∙◌, refl, ◌↔◌, ◌⊎◌, inl, inr, ⊎_elim, true, false, Bool}
 use Rattle.std.proofs.lemmas.Bool.Decides.{nat_tests}
 use Rattle.std.proofs.lemmas.Bool.{cases_lt}
 use Rattle.std.proofs.lemmas.List.{length-replicate}
@@ -186,14 +187,14 @@ module _ (pts : List Vector) (room : ℕ) (code : ℕ → ℕ) (keys : List ℕ)
         (record { has = listed i f.0; new = λ e. other i f.0 (sym (code_in_key i f.0) ∙ e); least = least })))
       where
         least : (y : ℕ) → In y keys → y / room ≡ key_by room code i / room → key_by room code i ≤ y
-        least y m e = go (cases_lt (y % room) i)
+        least y m e = by_cases (cases_lt (y % room) i)
           where
             codes : code (y % room) ≡ code i
             codes = sym (code_told y m) ∙ e ∙ code_in_key i f.0
 
-            go : (y % room < i) ⊎ (i ≤ y % room) → key_by room code i ≤ y
-            go (inl h) = absurd (f.1 (y % room) h (apart (y % room) i h f.0 codes))
-            go (inr h) =
+            by_cases : (y % room < i) ⊎ (i ≤ y % room) → key_by room code i ≤ y
+            by_cases (inl h) = absurd (f.1 (y % room) h (apart (y % room) i h f.0 codes))
+            by_cases (inr h) =
                 subst (λ v. key_by room code i ≤ v) (sym ((told y m).is ∙ ap (λ v. v * room + y % room) codes))
                 (order_key (code i * room) i (y % room) h)
 

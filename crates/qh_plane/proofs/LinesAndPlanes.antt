@@ -14,19 +14,23 @@ use Rattle.qh_plane.proofs.PlaneDirections.{determinant-zero}
 -- ---- lines
 -- a component of x X y by the components of d X x and d X y, times d . d
 line_eq : (dx dy dz xx xy xz yx yy yz : ℤ) → (dx *ℤ dx +ℤ dy *ℤ dy +ℤ dz *ℤ dz) *ℤ (xy *ℤ yz -ℤ xz *ℤ yy)
-    ≡ (dx *ℤ xx +ℤ dy *ℤ xy +ℤ dz *ℤ xz) *ℤ (dy *ℤ yz -ℤ dz *ℤ yy) +ℤ neg_ℤ (yz *ℤ dz +ℤ yy *ℤ dy) *ℤ (dy *ℤ xz -ℤ dz *ℤ xy) +ℤ (yy *ℤ dx) *ℤ (dz *ℤ xx -ℤ dx *ℤ xz) +ℤ (yz *ℤ dx) *ℤ (dx *ℤ xy -ℤ dy *ℤ xx)
+    ≡ (dx *ℤ xx +ℤ dy *ℤ xy +ℤ dz *ℤ xz) *ℤ (dy *ℤ yz -ℤ dz *ℤ yy) +ℤ neg_ℤ (yz *ℤ dz +ℤ yy *ℤ dy)
+    *ℤ (dy *ℤ xz -ℤ dz *ℤ xy) +ℤ (yy *ℤ dx) *ℤ (dz *ℤ xx -ℤ dx *ℤ xz) +ℤ (yz *ℤ dx) *ℤ (dx *ℤ xy -ℤ dy *ℤ xx)
 line_eq dx dy dz xx xy xz yx yy yz =
     let D = vec 0 in let X = vec 1 in let Y = vec 2 in
     ring (dx ∷ dy ∷ dz ∷ xx ∷ xy ∷ xz ∷ yx ∷ yy ∷ yz ∷ [])
     (mul (dotE D D) (less (mul X.y Y.z) (mul X.z Y.y)))
-    (add (add (add (mul (dotE D X) (less (mul D.y Y.z) (mul D.z Y.y))) (mul (neg (add (mul Y.z D.z) (mul Y.y D.y))) (less (mul D.y X.z) (mul D.z X.y)))) (mul (mul Y.y D.x) (less (mul D.z X.x) (mul D.x X.z)))) (mul (mul Y.z D.x) (less (mul D.x X.y) (mul D.y X.x)))) refl
+    (add (add (add (mul (dotE D X) (less (mul D.y Y.z) (mul D.z Y.y)))
+    (mul (neg (add (mul Y.z D.z) (mul Y.y D.y))) (less (mul D.y X.z) (mul D.z X.y)))) (mul (mul Y.y D.x)
+    (less (mul D.z X.x) (mul D.x X.z)))) (mul (mul Y.z D.x) (less (mul D.x X.y) (mul D.y X.x)))) refl
 
 -- a combination of zeros is zero
 four_zero : (l a b c d p q r s : ℤ) → l ≡ a *ℤ p +ℤ b *ℤ q +ℤ c *ℤ r +ℤ d *ℤ s → p ≡ pos 0 → q ≡ pos 0 → r ≡ pos 0 → s ≡ pos 0 → l ≡ pos 0
 four_zero l a b c d p q r s e h i j k = rw (h, i, j, k) at e ∙ omega (arith, ints)
 
 -- the first component of x X y is zero where d X x is, and two components of d X y
-line_x : (dx dy dz xx xy xz yx yy yz : ℤ) → pos 0 <ℤ (dx *ℤ dx +ℤ dy *ℤ dy +ℤ dz *ℤ dz) → dy *ℤ xz -ℤ dz *ℤ xy ≡ pos 0 → dz *ℤ xx -ℤ dx *ℤ xz ≡ pos 0 → dx *ℤ xy -ℤ dy *ℤ xx ≡ pos 0
+line_x : (dx dy dz xx xy xz yx yy yz : ℤ) → pos 0 <ℤ (dx *ℤ dx +ℤ dy *ℤ dy +ℤ dz *ℤ dz) → dy *ℤ xz -ℤ dz *ℤ xy ≡ pos 0
+    → dz *ℤ xx -ℤ dx *ℤ xz ≡ pos 0 → dx *ℤ xy -ℤ dy *ℤ xx ≡ pos 0
     → dy *ℤ yz -ℤ dz *ℤ yy ≡ pos 0 → xy *ℤ yz -ℤ xz *ℤ yy ≡ pos 0
 line_x dx dy dz xx xy xz yx yy yz n p q r s =
     cancel-zero (dx *ℤ dx +ℤ dy *ℤ dy +ℤ dz *ℤ dz) (xy *ℤ yz -ℤ xz *ℤ yy) n (four_zero _ _ _ _ _ _ _ _ _ (line_eq dx dy dz xx xy xz yx yy yz) s p q r)
@@ -57,7 +61,8 @@ three_line i j a b c n p q r =
     let ba = pair_line (minus j i) (minus b i) (minus a i) n q p in
     let ac = pair_line (minus j i) (minus a i) (minus c i) n p r in
     let I = vec 0 in let A = vec 1 in let B = vec 2 in let C = vec 3 in
-    let whole = crossE (subE B A) (subE C A) in let x = crossE (subE B I) (subE C I) in let y = crossE (subE B I) (subE A I) in let z = crossE (subE A I) (subE C I) in
+    let whole = crossE (subE B A) (subE C A) in let x = crossE (subE B I) (subE C I) in
+    let y = crossE (subE B I) (subE A I) in let z = crossE (subE A I) (subE C I) in
     let env : List ℤ = put i (put a (put b (put c []))) in
     vector_path (cross_product (minus b a) (minus c a)) origin
     (parts _ _ _ _ (ring env whole.x (less (less x.x y.x) z.x) refl) (ap (λ v. v.x) bc) (ap (λ v. v.x) ba) (ap (λ v. v.x) ac))
@@ -74,15 +79,19 @@ same_point p q e = vector_path p q (level p.x q.x (ap (λ v. v.x) e)) (level p.y
 -- ---- planes
 -- the way from a to b, from the ways from i
 pub between_eq : (n i a b : Vector) → dot n (minus b a) ≡ dot n (minus b i) -ℤ dot n (minus a i)
-between_eq n i a b = ring (put n (put i (put a (put b [])))) (dotE (vec 0) (subE (vec 3) (vec 2))) (less (dotE (vec 0) (subE (vec 3) (vec 1))) (dotE (vec 0) (subE (vec 2) (vec 1)))) refl
+between_eq n i a b =
+    ring (put n (put i (put a (put b [])))) (dotE (vec 0) (subE (vec 3) (vec 2)))
+    (less (dotE (vec 0) (subE (vec 3) (vec 1))) (dotE (vec 0) (subE (vec 2) (vec 1)))) refl
 
 -- the same of two
 pub none : (l u v : ℤ) → l ≡ u -ℤ v → u ≡ pos 0 → v ≡ pos 0 → l ≡ pos 0
 none l u v e p q = omega (arith, ints)
 
 -- what is in the plane of i, j and k is in one plane
-pub four_plane : (i j k a b c d : Vector) → ¬ (AreInLine i j k) → vol i j k a ≡ pos 0 → vol i j k b ≡ pos 0 → vol i j k c ≡ pos 0 → vol i j k d ≡ pos 0 → vol a b c d ≡ pos 0
+pub four_plane : (i j k a b c d : Vector) → ¬ (AreInLine i j k) → vol i j k a ≡ pos 0 → vol i j k b ≡ pos 0
+    → vol i j k c ≡ pos 0 → vol i j k d ≡ pos 0 → vol a b c d ≡ pos 0
 unfolding vol cross
 four_plane i j k a b c d ne p q r s =
     let n : Vector = cross_product (minus j i) (minus k i) in
-    determinant-zero n (minus b a) (minus c a) (minus d a) (square-positive n ne) (none _ _ _ (between_eq n i a b) q p) (none _ _ _ (between_eq n i a c) r p) (none _ _ _ (between_eq n i a d) s p)
+    determinant-zero n (minus b a) (minus c a) (minus d a) (square-positive n ne) (none _ _ _ (between_eq n i a b) q p)
+    (none _ _ _ (between_eq n i a c) r p) (none _ _ _ (between_eq n i a d) s p)

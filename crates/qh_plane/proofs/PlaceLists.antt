@@ -1,5 +1,6 @@
 -- The distinct ids by each of the two keys: by the number of the place, and by a hash of it.
-use Rattle.std.proofs.Common.{◌≡◌, ◌≢◌, ℕ, ◌+◌, ◌-◌, ◌*◌, ◌%◌, ◌/◌, ◌^◌, ◌<◌, ◌≤◌, ◌⊎◌, inl, inr, List, Bool, length, get_or, replicate, true, false, arith, ap, sym, subst, ◌∙◌}
+use Rattle.std.proofs.Common.{◌≡◌, ◌≢◌, ℕ, ◌+◌, ◌-◌, ◌*◌, ◌%◌, ◌/◌, ◌^◌, ◌<◌, ◌≤◌, ◌⊎◌, inl, inr, List, Bool, length}
+use Rattle.std.proofs.Common.{get_or, replicate, true, false, arith, ap, sym, subst, ◌∙◌}
 use Rattle.std.proofs.lemmas.Bool.{cases_lt}
 use Rattle.std.specs.List.{All}
 use Rattle.std.specs.List.Sorted.{IsNonDecreasing}
@@ -9,7 +10,8 @@ use Rattle.qh_model.specs.contract.Places.{IsPlace}
 use Rattle.qh_model.specs.headline.DistinctIds.{IsDistinctId, AreDistinctIds}
 use Rattle.qh_model.specs.headline.Predicates.{place}
 use Rattle.qh_model.specs.headline.Vector.{Vector}
-use Rattle.qh_plane.proofs.DistinctLists.{AreSortedKeys, StandsAt, all_in, all_distinct, all_within, index_in, up, position, stands, marked_distinct, distinct_ids}
+use Rattle.qh_plane.proofs.DistinctLists.{AreSortedKeys, StandsAt, all_in, all_distinct, all_within, index_in, up}
+use Rattle.qh_plane.proofs.DistinctLists.{position, stands, marked_distinct, distinct_ids}
 use Rattle.qh_plane.proofs.KeyOrder.{code_le}
 use Rattle.qh_plane.proofs.PlaceOrder.{place_code-same, raised_small}
 use Rattle.qh_plane.specs.declared.distinct_points.TheConstants.{NO_PLACE}
@@ -105,14 +107,14 @@ module _ (pts : List Vector) (keys : List ℕ) (few : length pts ≤ POINT_LIMIT
 
   -- of two ids with one hash, the key of the lower one stands before
   stands_before : (i j p q : ℕ) → i < j → hash i ≡ hash j → StandsAt ID_ROOM hash keys i p → StandsAt ID_ROOM hash keys j q → p < q
-  stands_before i j p q l e s t = by (cases_lt p q)
+  stands_before i j p q l e s t = by_cases (cases_lt p q)
     where
       back : (x y : ℕ) → x / ID_ROOM ≡ hash i → y / ID_ROOM ≡ hash j → x % ID_ROOM ≡ i → y % ID_ROOM ≡ j → y ≤ x → ⊥
       back x y a b c d h = omega (arith, l, e, a, b, c, d, h)
 
-      by : (p < q) ⊎ (q ≤ p) → p < q
-      by (inl h) = h
-      by (inr h) = absurd (back (key p) (key q) s.place_told t.place_told s.id_told t.id_told (rising q p 0 h s.within))
+      by_cases : (p < q) ⊎ (q ≤ p) → p < q
+      by_cases (inl h) = h
+      by_cases (inr h) = absurd (back (key p) (key q) s.place_told t.place_told s.id_told t.id_told (rising q p 0 h s.within))
 
   -- where the hashes rise, all ids are distinct
   pub all_hashes_differ : (ids : List ℕ) → AllIds (length pts) ids → HashesRise keys → AreDistinctIds pts ids
@@ -150,7 +152,7 @@ module _ (pts : List Vector) (keys : List ℕ) (few : length pts ≤ POINT_LIMIT
   module _ (tells : HashesTell pts keys) where
     -- no lower id has the place of such a key
     alone : (i q : ℕ) → StandsAt ID_ROOM hash keys i q → i < length pts → IsNew pts keys q → (j : ℕ) → j < i → place pts j ≢ place pts i
-    alone i q t h new j l e = by (cases_lt (p.0 + 1) q)
+    alone i q t h new j l e = by_cases (cases_lt (p.0 + 1) q)
       where
         p : (n : ℕ) × StandsAt ID_ROOM hash keys j n
         p = position pts ID_ROOM hash keys hashed j (omega (arith, l, h))
@@ -169,9 +171,9 @@ module _ (pts : List Vector) (keys : List ℕ) (few : length pts ≤ POINT_LIMIT
             pinch : (x y z : ℕ) → x ≤ y → y ≤ z → x / ID_ROOM ≡ z / ID_ROOM → y / ID_ROOM ≡ z / ID_ROOM
             pinch x y z a b c = omega (arith, a, b, c)
 
-        by : (p.0 + 1 < q) ⊎ (q ≤ p.0 + 1) → ⊥
-        by (inr g) = new p.0 (omega (arith, before, g)) (same, ap (place pts) p.1.id_told ∙ e ∙ ap (place pts) (sym t.id_told))
-        by (inl g) =
+        by_cases : (p.0 + 1 < q) ⊎ (q ≤ p.0 + 1) → ⊥
+        by_cases (inr g) = new p.0 (omega (arith, before, g)) (same, ap (place pts) p.1.id_told ∙ e ∙ ap (place pts) (sym t.id_told))
+        by_cases (inl g) =
             third (q - 2) (omega (arith, g)) (subst (λ n. n < length keys) (sym two) t.within)
             (subst (λ n. key p.0 / ID_ROOM ≡ key n / ID_ROOM) (sym two) same) (subst (IsNew pts keys) (sym two) new)
           where

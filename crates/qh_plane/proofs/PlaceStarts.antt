@@ -36,7 +36,12 @@ starts_only-split : (room c k : ℕ) (ks : List ℕ) (x : ℕ) (b : Bool) → eq
     → In x (cond b (place_starts room c ks) (k ∷ place_starts room (k / room) ks)) → Start room c (k ∷ ks) x
 starts_only-split room c k ks x true e r l f g i =
     let s = f i in
-    record { has = inr s.has; new = s.new; least = λ y m h. ⊎_elim (λ p. absurd (s.new (sym h ∙ ap (λ v. v / room) p ∙ eqb-true _ _ e))) (λ m. s.least y m h) m }
+    record {
+      has = inr s.has;
+      new = s.new;
+      least = λ y m h. ⊎_elim (λ p. absurd (s.new (sym h ∙ ap (λ v. v / room) p ∙ eqb-true _ _ e)))
+          (λ m. s.least y m h) m;
+    }
 starts_only-split room c k ks x false e r l f g (inl p) = record {
   has = inl p;
   new = λ q. eqb-false _ _ e (ap (λ v. v / room) (sym p) ∙ q);
@@ -63,7 +68,9 @@ starts_only-split room c k ks x false e r l f g (inr i) =
 pub starts_only : (room c : ℕ) (ks : List ℕ) (x : ℕ) → IsStrictlyIncreasing ks → IsBefore room c ks → In x (place_starts room c ks) → Start room c ks x
 starts_only room c [] x r l i = absurd i
 starts_only room c (k ∷ ks) x r l i =
-    starts_only-split room c k ks x (eqb (k / room) c) refl r l (starts_only room c ks x (rising_tail k ks r) (below_tail room c k ks l)) (starts_only room (k / room) ks x (rising_tail k ks r) (next_below room k ks r)) i
+    starts_only-split room c k ks x (eqb (k / room) c) refl r l
+    (starts_only room c ks x (rising_tail k ks r) (below_tail room c k ks l))
+    (starts_only room (k / room) ks x (rising_tail k ks r) (next_below room k ks r)) i
 
 -- the same, the other way
 starts_all-split : (room c k : ℕ) (ks : List ℕ) (x : ℕ) (b : Bool) → eqb (k / room) c ≡ b → IsStrictlyIncreasing (k ∷ ks)
@@ -82,4 +89,5 @@ starts_all-split room c k ks x false e r f g (inr i) s =
 pub starts_all : (room c : ℕ) (ks : List ℕ) (x : ℕ) → IsStrictlyIncreasing ks → Start room c ks x → In x (place_starts room c ks)
 starts_all room c [] x r s = absurd s.has
 starts_all room c (k ∷ ks) x r s =
-    starts_all-split room c k ks x (eqb (k / room) c) refl r (starts_all room c ks x (rising_tail k ks r)) (starts_all room (k / room) ks x (rising_tail k ks r)) s.has s
+    starts_all-split room c k ks x (eqb (k / room) c) refl r (starts_all room c ks x (rising_tail k ks r))
+    (starts_all room (k / room) ks x (rising_tail k ks r)) s.has s

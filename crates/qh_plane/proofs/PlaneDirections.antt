@@ -42,7 +42,8 @@ bracket-plane : (n h a b c : Vector) → bracket n a c *ℤ dot h b ≡ bracket 
 bracket-plane n h a b c =
     ring (put n (put a (put b (put c (put h [])))))
     (mul (bracketE 1 3) (dotE (vec 4) (vec 2)))
-    (less (add (mul (bracketE 1 2) (dotE (vec 4) (vec 3))) (mul (bracketE 2 3) (dotE (vec 4) (vec 1)))) (mul (detE (vec 1) (vec 2) (vec 3)) (dotE (vec 4) (vec 0)))) refl
+    (less (add (mul (bracketE 1 2) (dotE (vec 4) (vec 3))) (mul (bracketE 2 3) (dotE (vec 4) (vec 1))))
+    (mul (detE (vec 1) (vec 2) (vec 3)) (dotE (vec 4) (vec 0)))) refl
 
 -- a last term that is zero
 no_last : (l x d k : ℤ) → l ≡ x -ℤ d *ℤ k → d ≡ pos 0 → l ≡ x
@@ -65,7 +66,8 @@ fan_sign ac hb ab hc bc ha e p q r h k =
     sum x y h k = omega (arith, ints)
 
 -- the same, strictly where the first turn is
-pub fan_sign_left : (ac hb ab hc bc ha : ℤ) → ac *ℤ hb ≡ ab *ℤ hc +ℤ bc *ℤ ha → pos 0 <ℤ ha → pos 0 <ℤ hb → pos 0 <ℤ hc → pos 0 <ℤ ab → pos 0 ≤ℤ bc → pos 0 <ℤ ac
+pub fan_sign_left : (ac hb ab hc bc ha : ℤ) → ac *ℤ hb ≡ ab *ℤ hc +ℤ bc *ℤ ha → pos 0 <ℤ ha → pos 0 <ℤ hb → pos 0 <ℤ hc
+    → pos 0 <ℤ ab → pos 0 ≤ℤ bc → pos 0 <ℤ ac
 fan_sign_left ac hb ab hc bc ha e p q r h k =
     let x : pos 0 <ℤ (ab *ℤ hc) = mul-pos ab hc h r in
     let y : pos 0 ≤ℤ (bc *ℤ ha) = mul-nonneg bc ha k (omega (arith, ints)) in

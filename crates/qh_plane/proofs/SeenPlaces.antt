@@ -1,5 +1,6 @@
 -- The distinct ids of points in a small box, point by point: what stands in the slots, and which ids are kept.
-use Rattle.std.proofs.Common.{◌≡◌, ◌≢◌, ◌∙◌, ℕ, ◌+◌, ◌<◌, ◌≤◌, ◌⊎◌, inl, inr, List, [], ◌∷◌, ◌++◌, length, set, replicate, slice_index_or, arith, ap, sym, subst, get_or-set_same, get_or-set_other}
+use Rattle.std.proofs.Common.{◌≡◌, ◌≢◌, ◌∙◌, ℕ, ◌+◌, ◌<◌, ◌≤◌, ◌⊎◌, inl, inr, List, [], ◌∷◌, ◌++◌, length, set}
+use Rattle.std.proofs.Common.{replicate, slice_index_or, arith, ap, sym, subst, get_or-set_same, get_or-set_other}
 use Rattle.std.proofs.lemmas.List.{get_or_read, length-set, get_or-replicate, length-replicate}
 use Rattle.std.specs.List.Sorted.{IsStrictlyIncreasing}
 use native.Mathlib.Decide.{ℕ_discrete}
@@ -39,7 +40,8 @@ none_seen pts b n = record {
 more_seen : (pts : List Vector) (b : CloseBox) (slots : List ℕ) (k : ℕ) (p : Vector) → HasFirst pts b slots k p → HasFirst pts b slots (k + 1) p
 more_seen pts b slots k p h = let l = h.seen in record { first = h.first; seen = omega (arith, l); is = h.is; same = h.same }
 
-module _ (pts : List Vector) (b : CloseBox) (slots : List ℕ) (k : ℕ) (ids : List ℕ) (old : AreSeen pts b slots k ids) (within : k < length pts) (few : length pts ≤ POINT_LIMIT) where
+module _ (pts : List Vector) (b : CloseBox) (slots : List ℕ) (k : ℕ) (ids : List ℕ) (old : AreSeen pts b slots k ids)
+    (within : k < length pts) (few : length pts ≤ POINT_LIMIT) where
   -- ---- a slot that no point has come to
   module _ (room : slot_of b (place pts k) < length slots) (free : slot_at slots (slot_of b (place pts k)) ≡ NO_ID) where
     abbrev pub here : ℕ
@@ -58,16 +60,26 @@ module _ (pts : List Vector) (b : CloseBox) (slots : List ℕ) (k : ℕ) (ids : 
         id_is_none f.first (length pts) (let s = f.seen in omega (arith, s, within)) few (sym f.is ∙ ap (slot_at slots) e ∙ free)
 
     firsts_after : (j : ℕ) → j < k + 1 → HasFirst pts b after (k + 1) (place pts j)
-    firsts_after j l = by (ℕ_discrete j k)
+    firsts_after j l = by_decision (ℕ_discrete j k)
       where
-        by : Dec (j ≡ k) → HasFirst pts b after (k + 1) (place pts j)
-        by (yes e) = record { first = k; seen = omega arith; is = ap (λ (n : ℕ). slot_at after (slot_of b (place pts n))) e ∙ get_or-set_same slots here k NO_ID room; same = ap (place pts) (sym e) }
-        by (no ne) =
+        by_decision : Dec (j ≡ k) → HasFirst pts b after (k + 1) (place pts j)
+        by_decision (yes e) = record {
+          first = k;
+          seen = omega arith;
+          is = ap (λ (n : ℕ). slot_at after (slot_of b (place pts n))) e ∙ get_or-set_same slots here k NO_ID room;
+          same = ap (place pts) (sym e);
+        }
+        by_decision (no ne) =
             let below : j < k = omega (arith, l, ne) in let f = old.firsts j below in let s = f.seen in
-            record { first = f.first; seen = omega (arith, s); is = get_or-set_other slots here (slot_of b (place pts j)) k NO_ID (kept_slot j below) ∙ f.is; same = f.same }
+            record {
+              first = f.first;
+              seen = omega (arith, s);
+              is = get_or-set_other slots here (slot_of b (place pts j)) k NO_ID (kept_slot j below) ∙ f.is;
+              same = f.same;
+            }
 
     held_after : (s : ℕ) → s < length after → (slot_at after s ≡ NO_ID) ⊎ (slot_at after s < k + 1)
-    held_after s l = by (ℕ_discrete s here)
+    held_after s l = by_decision (ℕ_discrete s here)
       where
         lower : (n m : ℕ) → n ≡ m → m < k → n < k + 1
         lower n m e h = omega (arith, e, h)
@@ -79,9 +91,10 @@ module _ (pts : List Vector) (b : CloseBox) (slots : List ℕ) (k : ℕ) (ids : 
         own : (n : ℕ) → n ≡ k → n < k + 1
         own n e = omega (arith, e)
 
-        by : Dec (s ≡ here) → (slot_at after s ≡ NO_ID) ⊎ (slot_at after s < k + 1)
-        by (yes e) = inr (own (slot_at after s) (ap (slot_at after) e ∙ get_or-set_same slots here k NO_ID room))
-        by (no ne) = likewise (slot_at after s) (slot_at slots s) (get_or-set_other slots here s k NO_ID ne) (old.held s (subst (λ (n : ℕ). s < n) (length-set slots here k) l))
+        by_decision : Dec (s ≡ here) → (slot_at after s ≡ NO_ID) ⊎ (slot_at after s < k + 1)
+        by_decision (yes e) = inr (own (slot_at after s) (ap (slot_at after) e ∙ get_or-set_same slots here k NO_ID room))
+        by_decision (no ne) = likewise (slot_at after s) (slot_at slots s) (get_or-set_other slots here s k NO_ID ne)
+            (old.held s (subst (λ (n : ℕ). s < n) (length-set slots here k) l))
 
     -- so it is one more distinct id
     pub new_seen : AreSeen pts b after (k + 1) (ids ++ k ∷ [])
@@ -96,11 +109,11 @@ module _ (pts : List Vector) (b : CloseBox) (slots : List ℕ) (k : ℕ) (ids : 
         to i m = one i (of_append ids (k ∷ []) i m)
 
         from : (i : ℕ) → IsDistinctId pts i × (i < k + 1) → In i (ids ++ k ∷ [])
-        from i h = by (ℕ_discrete i k)
+        from i h = by_decision (ℕ_discrete i k)
           where
-            by : Dec (i ≡ k) → In i (ids ++ k ∷ [])
-            by (yes e) = in_append ids (k ∷ []) i (inr (inl e))
-            by (no ne) = let l = h.1 in in_append ids (k ∷ []) i (inl ((old.members i).1 (h.0, omega (arith, l, ne))))
+            by_decision : Dec (i ≡ k) → In i (ids ++ k ∷ [])
+            by_decision (yes e) = in_append ids (k ∷ []) i (inr (inl e))
+            by_decision (no ne) = let l = h.1 in in_append ids (k ∷ []) i (inl ((old.members i).1 (h.0, omega (arith, l, ne))))
 
         rises : IsStrictlyIncreasing (ids ++ k ∷ [])
         rises = rising_append ids (k ∷ []) old.rising (λ n l. absurd (omega (arith, l))) (λ x y m i. below x y m i)
@@ -115,11 +128,13 @@ module _ (pts : List Vector) (b : CloseBox) (slots : List ℕ) (k : ℕ) (ids : 
   again_seen i is l e = record { firsts = firsts; held = λ s h. later s (old.held s h); rising = old.rising; members = λ j. (to j, from j) }
     where
       firsts : (j : ℕ) → j < k + 1 → HasFirst pts b slots (k + 1) (place pts j)
-      firsts j h = by (ℕ_discrete j k)
+      firsts j h = by_decision (ℕ_discrete j k)
         where
-          by : Dec (j ≡ k) → HasFirst pts b slots (k + 1) (place pts j)
-          by (yes q) = subst (λ (n : ℕ). HasFirst pts b slots (k + 1) (place pts n)) (sym q) (record { first = i; seen = omega (arith, l); is = is; same = e })
-          by (no ne) = more_seen pts b slots k (place pts j) (old.firsts j (omega (arith, h, ne)))
+          by_decision : Dec (j ≡ k) → HasFirst pts b slots (k + 1) (place pts j)
+          by_decision (yes q) =
+              subst (λ (n : ℕ). HasFirst pts b slots (k + 1) (place pts n)) (sym q)
+              (record { first = i; seen = omega (arith, l); is = is; same = e })
+          by_decision (no ne) = more_seen pts b slots k (place pts j) (old.firsts j (omega (arith, h, ne)))
 
       later : (s : ℕ) → (slot_at slots s ≡ NO_ID) ⊎ (slot_at slots s < k) → (slot_at slots s ≡ NO_ID) ⊎ (slot_at slots s < k + 1)
       later s (inl h) = inl h
@@ -129,11 +144,11 @@ module _ (pts : List Vector) (b : CloseBox) (slots : List ℕ) (k : ℕ) (ids : 
       to j m = let h = (old.members j).0 m in let n = h.1 in (h.0, omega (arith, n))
 
       from : (j : ℕ) → IsDistinctId pts j × (j < k + 1) → In j ids
-      from j h = by (ℕ_discrete j k)
+      from j h = by_decision (ℕ_discrete j k)
         where
-          by : Dec (j ≡ k) → In j ids
-          by (yes q) = absurd ((subst (IsDistinctId pts) q h.0).1 i l e)
-          by (no ne) = let n = h.1 in (old.members j).1 (h.0, omega (arith, n, ne))
+          by_decision : Dec (j ≡ k) → In j ids
+          by_decision (yes q) = absurd ((subst (IsDistinctId pts) q h.0).1 i l e)
+          by_decision (no ne) = let n = h.1 in (old.members j).1 (h.0, omega (arith, n, ne))
 
 -- when all were seen, the ids are the distinct ones
 pub all_seen : (pts : List Vector) (b : CloseBox) (slots : List ℕ) (k : ℕ) (ids : List ℕ) → AreSeen pts b slots k ids → length pts ≤ k → AreDistinctIds pts ids

@@ -10,14 +10,14 @@ use Rattle.qh_plane.specs.steps.SortedPoints.{NumbersRise, NumbersFall, AllDiffe
 along : (R : ℕ → ℕ → Type 0) (f : ℕ → ℕ) (n : ℕ) → ((a b c : ℕ) → R a b → R b c → R a c) → ((j : ℕ) → j + 1 < n → R (f j) (f (j + 1)))
     → (i j : ℕ) → i < j → j < n → R (f i) (f j)
 along R f n t h i zero l m = absurd (omega (arith, l))
-along R f n t h i (suc j) l m = by (λ e. along R f n t h i j e (omega (arith, m))) (cases_lt i j)
+along R f n t h i (suc j) l m = in_order (λ e. along R f n t h i j e (omega (arith, m))) (cases_lt i j)
   where
     step : R (f j) (f (suc j))
     step = subst (λ k. R (f j) (f k)) (add-one j) (h j (omega (arith, m)))
 
-    by : (i < j → R (f i) (f j)) → (i < j) ⊎ (j ≤ i) → R (f i) (f (suc j))
-    by before (inl e) = t (f i) (f j) (f (suc j)) (before e) step
-    by before (inr e) = let q : j ≡ i = omega (arith, l, e) in subst (λ k. R (f k) (f (suc j))) q step
+    in_order : (i < j → R (f i) (f j)) → (i < j) ⊎ (j ≤ i) → R (f i) (f (suc j))
+    in_order before (inl e) = t (f i) (f j) (f (suc j)) (before e) step
+    in_order before (inr e) = let q : j ≡ i = omega (arith, l, e) in subst (λ k. R (f k) (f (suc j))) q step
 
 module _ (pts : List Vector) where
   abbrev number : ℕ → ℕ

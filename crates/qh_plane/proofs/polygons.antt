@@ -14,5 +14,6 @@ pub mod ComponentTurns
 pub mod SortedPlaces
 pub mod LeastFirst
 pub mod PlanarIds
+pub mod LeftCycles
 pub mod Triangle
 pub mod Quadrilateral

@@ -53,7 +53,9 @@ OnOneSide x y = ((pos 0 ≤ℤ x) × (pos 0 ≤ℤ y)) ⊎ ((x ≤ℤ pos 0) × 
 
 -- numbers that are no further apart than m are on one side of 0, or have sizes of the sum m at most
 sizes_apart : (m : ℕ) (x y : ℤ) → unsigned_abs (x -ℤ y) ≤ m → (unsigned_abs x + unsigned_abs y ≤ m) ⊎ OnOneSide x y
-sizes_apart m x y h = by_lt_z x (pos 0) (λ l. by_lt_z (pos 0) y (λ k. inl (omega (arith, ints))) (λ k. inr (inr (negative_le x l, k)))) (λ l. by_lt_z y (pos 0) (λ k. inl (omega (arith, ints))) (λ k. inr (inl (l, k))))
+sizes_apart m x y h =
+    by_lt_z x (pos 0) (λ l. by_lt_z (pos 0) y (λ k. inl (omega (arith, ints))) (λ k. inr (inr (negative_le x l, k))))
+    (λ l. by_lt_z y (pos 0) (λ k. inl (omega (arith, ints))) (λ k. inr (inl (l, k))))
 
 -- numbers on one side of 0 are no further apart than the larger of them
 one_side-sub : (m : ℕ) (x y : ℤ) → OnOneSide x y → unsigned_abs x ≤ m → unsigned_abs y ≤ m → unsigned_abs (x -ℤ y) ≤ m
@@ -68,20 +70,25 @@ one_side-mul a b c d (inr s) (inl t) = inr (mul-nonpos_nonneg a b s.0 t.1, mul-n
 one_side-mul a b c d (inr s) (inr t) = inl (mul-nonpos a b s.0 t.1, mul-nonpos c d t.0 s.1)
 
 -- twice the area of a triangle in a square of side m, by its two sides (a, c) and (d, b) from one corner
-area-within : (m : ℕ) (a b c d : ℤ) → unsigned_abs a ≤ m → unsigned_abs b ≤ m → unsigned_abs c ≤ m → unsigned_abs d ≤ m → unsigned_abs (a -ℤ d) ≤ m → unsigned_abs (c -ℤ b) ≤ m
+area-within : (m : ℕ) (a b c d : ℤ) → unsigned_abs a ≤ m → unsigned_abs b ≤ m → unsigned_abs c ≤ m → unsigned_abs d ≤ m
+    → unsigned_abs (a -ℤ d) ≤ m → unsigned_abs (c -ℤ b) ≤ m
     → unsigned_abs (a *ℤ b -ℤ c *ℤ d) ≤ m * m
-area-within m a b c d ha hb hc hd wide high = go (sizes_apart m a d wide) (sizes_apart m c b high)
+area-within m a b c d ha hb hc hd wide high = by_cases (sizes_apart m a d wide) (sizes_apart m c b high)
   where
     sum : unsigned_abs a * unsigned_abs b + unsigned_abs c * unsigned_abs d ≤ m * m → unsigned_abs (a *ℤ b -ℤ c *ℤ d) ≤ m * m
-    sum l = let r = within-sub (a *ℤ b) (c *ℤ d) (unsigned_abs a * unsigned_abs b) (unsigned_abs c * unsigned_abs d) (within-mul a b _ _ (omega arith) (omega arith)) (within-mul c d _ _ (omega arith) (omega arith)) in omega (arith, r, l)
+    sum l = let r = within-sub (a *ℤ b) (c *ℤ d) (unsigned_abs a * unsigned_abs b) (unsigned_abs c * unsigned_abs d)
+        (within-mul a b _ _ (omega arith) (omega arith)) (within-mul c d _ _ (omega arith) (omega arith)) in
+        omega (arith, r, l)
 
-    go : (unsigned_abs a + unsigned_abs d ≤ m) ⊎ OnOneSide a d → (unsigned_abs c + unsigned_abs b ≤ m) ⊎ OnOneSide c b → unsigned_abs (a *ℤ b -ℤ c *ℤ d) ≤ m * m
-    go (inl l) k = sum (rectangles m (unsigned_abs a) (unsigned_abs b) (unsigned_abs c) (unsigned_abs d) l hb hc)
-    go (inr s) (inl l) = let r = rectangles m (unsigned_abs c) (unsigned_abs d) (unsigned_abs a) (unsigned_abs b) l hd ha in sum (omega (arith, r))
-    go (inr s) (inr t) = one_side-sub (m * m) (a *ℤ b) (c *ℤ d) (one_side-mul a b c d s t) (within-mul a b m m ha hb) (within-mul c d m m hc hd)
+    by_cases : (unsigned_abs a + unsigned_abs d ≤ m) ⊎ OnOneSide a d
+        → (unsigned_abs c + unsigned_abs b ≤ m) ⊎ OnOneSide c b → unsigned_abs (a *ℤ b -ℤ c *ℤ d) ≤ m * m
+    by_cases (inl l) k = sum (rectangles m (unsigned_abs a) (unsigned_abs b) (unsigned_abs c) (unsigned_abs d) l hb hc)
+    by_cases (inr s) (inl l) = let r = rectangles m (unsigned_abs c) (unsigned_abs d) (unsigned_abs a) (unsigned_abs b) l hd ha in sum (omega (arith, r))
+    by_cases (inr s) (inr t) = one_side-sub (m * m) (a *ℤ b) (c *ℤ d) (one_side-mul a b c d s t) (within-mul a b m m ha hb) (within-mul c d m m hc hd)
 
 -- such an area fits, with its two products
-pub minor_fits : (m : ℕ) (a b c d : ℤ) → m * m < 2 ^ 63 → unsigned_abs a ≤ m → unsigned_abs b ≤ m → unsigned_abs c ≤ m → unsigned_abs d ≤ m → unsigned_abs (a -ℤ d) ≤ m → unsigned_abs (c -ℤ b) ≤ m
+pub minor_fits : (m : ℕ) (a b c d : ℤ) → m * m < 2 ^ 63 → unsigned_abs a ≤ m → unsigned_abs b ≤ m → unsigned_abs c ≤ m
+    → unsigned_abs d ≤ m → unsigned_abs (a -ℤ d) ≤ m → unsigned_abs (c -ℤ b) ≤ m
     → MinorFits a b c d (m * m)
 minor_fits m a b c d s ha hb hc hd wide high =
     let r = area-within m a b c d ha hb hc hd wide high in
@@ -128,9 +135,12 @@ pub record DotFits (u v : Vector) (p q r : ℤ) : Type 0 where
 -- a scalar product of vectors within the limit of normals fits 128 bits
 pub dot_fits : (u v : Vector) (p q r : ℤ) → IsNormal u → IsNormal v → p ≡ handed u.x v.x → q ≡ handed u.y v.y → r ≡ handed u.z v.z → DotFits u v p q r
 dot_fits u v p q r hu hv ep eq er = rw (kept u.x v.x p hu.x hv.x ep, kept u.y v.y q hu.y hv.y eq, kept u.z v.z r hu.z hv.z er)
-    (sizes (normal_limit * normal_limit) (lit< tt) (within-mul u.x v.x normal_limit normal_limit hu.x hv.x) (within-mul u.y v.y normal_limit normal_limit hu.y hv.y) (within-mul u.z v.z normal_limit normal_limit hu.z hv.z))
+    (sizes (normal_limit * normal_limit) (lit< tt) (within-mul u.x v.x normal_limit normal_limit hu.x hv.x)
+    (within-mul u.y v.y normal_limit normal_limit hu.y hv.y)
+    (within-mul u.z v.z normal_limit normal_limit hu.z hv.z))
   where
-    sizes : (m : ℕ) → 3 * m < 2 ^ 127 → unsigned_abs (u.x *ℤ v.x) ≤ m → unsigned_abs (u.y *ℤ v.y) ≤ m → unsigned_abs (u.z *ℤ v.z) ≤ m → DotFits u v (u.x *ℤ v.x) (u.y *ℤ v.y) (u.z *ℤ v.z)
+    sizes : (m : ℕ) → 3 * m < 2 ^ 127 → unsigned_abs (u.x *ℤ v.x) ≤ m → unsigned_abs (u.y *ℤ v.y) ≤ m
+        → unsigned_abs (u.z *ℤ v.z) ≤ m → DotFits u v (u.x *ℤ v.x) (u.y *ℤ v.y) (u.z *ℤ v.z)
     sizes m s hx hy hz =
         let two = within-add (u.x *ℤ v.x) (u.y *ℤ v.y) m m hx hy in
         let whole = within-add (u.x *ℤ v.x +ℤ u.y *ℤ v.y) (u.z *ℤ v.z) (m + m) m two hz in
@@ -138,13 +148,17 @@ dot_fits u v p q r hu hv ep eq er = rw (kept u.x v.x p hu.x hv.x ep, kept u.y v.
         let fy : FitsSigned w128 (u.y *ℤ v.y) = fits_wide (u.y *ℤ v.y) m hy (omega arith) in
         let fz : FitsSigned w128 (u.z *ℤ v.z) = fits_wide (u.z *ℤ v.z) m hz (omega arith) in
         let ft : FitsSigned w128 (u.x *ℤ v.x +ℤ u.y *ℤ v.y) = fits_wide (u.x *ℤ v.x +ℤ u.y *ℤ v.y) (m + m) two (omega arith) in
-        let fw : FitsSigned w128 (u.x *ℤ v.x +ℤ u.y *ℤ v.y +ℤ u.z *ℤ v.z) = fits_wide (u.x *ℤ v.x +ℤ u.y *ℤ v.y +ℤ u.z *ℤ v.z) (m + m + m) whole (omega arith) in
+        let fw : FitsSigned w128 (u.x *ℤ v.x +ℤ u.y *ℤ v.y +ℤ u.z *ℤ v.z) =
+        fits_wide (u.x *ℤ v.x +ℤ u.y *ℤ v.y +ℤ u.z *ℤ v.z) (m + m + m) whole (omega arith) in
         record { two = simp to_z-of_z ft; whole = simp to_z-of_z fw; value = simp to_z-of_z }
 
 -- the size of a scalar product of vectors within the limit of normals
 pub dot-within : (u v : Vector) → IsNormal u → IsNormal v → unsigned_abs (dot u v) ≤ offset_limit
 dot-within u v hu hv =
-    sum (normal_limit * normal_limit) (u.x *ℤ v.x) (u.y *ℤ v.y) (u.z *ℤ v.z) (within-mul u.x v.x normal_limit normal_limit hu.x hv.x) (within-mul u.y v.y normal_limit normal_limit hu.y hv.y) (within-mul u.z v.z normal_limit normal_limit hu.z hv.z)
+    sum (normal_limit * normal_limit) (u.x *ℤ v.x) (u.y *ℤ v.y) (u.z *ℤ v.z)
+    (within-mul u.x v.x normal_limit normal_limit hu.x hv.x)
+    (within-mul u.y v.y normal_limit normal_limit hu.y hv.y)
+    (within-mul u.z v.z normal_limit normal_limit hu.z hv.z)
   where
     sum : (m : ℕ) (x y z : ℤ) → unsigned_abs x ≤ m → unsigned_abs y ≤ m → unsigned_abs z ≤ m → unsigned_abs (x +ℤ y +ℤ z) ≤ 3 * m
     sum m x y z hx hy hz = let two = within-add x y m m hx hy in let whole = within-add (x +ℤ y) z (m + m) m two hz in omega (arith, whole)

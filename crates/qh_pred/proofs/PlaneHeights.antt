@@ -24,11 +24,14 @@ below_iff : (x y : ℤ) → IsTrue (lt_z x y) ↔ (pos 0 <ℤ (y -ℤ x))
 below_iff x y = search rules
 
 -- a height fits 128 bits; `inside` is the plane as it is stored
-pub height_fits : (inside plane : PlaneValue) (p : Vector) (r : ℤ) → IsPlane inside → inside ≡ plane → r ≡ dot plane.normal p → unsigned_abs r ≤ offset_limit → HeightFits inside plane p r
+pub height_fits : (inside plane : PlaneValue) (p : Vector) (r : ℤ) → IsPlane inside → inside ≡ plane
+    → r ≡ dot plane.normal p → unsigned_abs r ≤ offset_limit → HeightFits inside plane p r
 height_fits inside plane p r h is e b =
     let f1 : FitsSigned w128 r = fits_wide r offset_limit b (lit< tt) in
     let f2 : FitsSigned w128 inside.offset = fits_wide inside.offset offset_limit h.offset (lit< tt) in
-    let f3 : FitsSigned w128 (r -ℤ inside.offset) = fits_wide (r -ℤ inside.offset) (offset_limit + offset_limit) (within-sub r inside.offset offset_limit offset_limit b h.offset) (lit< tt) in
+    let f3 : FitsSigned w128 (r -ℤ inside.offset) =
+    fits_wide (r -ℤ inside.offset) (offset_limit + offset_limit)
+    (within-sub r inside.offset offset_limit offset_limit b h.offset) (lit< tt) in
     let v : r -ℤ inside.offset ≡ height plane p = rw e (ap (λ (q : PlaneValue). dot plane.normal p -ℤ q.offset) is) in
     record {
       fits = simp to_z-of_z f3;
@@ -41,7 +44,8 @@ height_is_vol : (a b c n : Vector) (o : ℤ) → n ≡ cross a b c → o ≡ dot
 height_is_vol a b c n o e f p = ap (λ v. dot n p -ℤ v) f ∙ ap (λ (v : Vector). dot v p -ℤ dot v a) e ∙ sym (vol-linear a b c p)
 
 -- and 64 bits keep its normal
-pub stored_height : (a b c n m : Vector) (x y z o : ℤ) → n ≡ cross a b c → m ≡ a → IsNormal n → x ≡ n.x → y ≡ n.y → z ≡ n.z → o ≡ dot n m → unsigned_abs o ≤ offset_limit
+pub stored_height : (a b c n m : Vector) (x y z o : ℤ) → n ≡ cross a b c → m ≡ a → IsNormal n → x ≡ n.x → y ≡ n.y
+    → z ≡ n.z → o ≡ dot n m → unsigned_abs o ≤ offset_limit
     → (p : Vector) → height (record { normal = record { x = through_half x; y = through_half y; z = through_half z }; offset = through o }) p ≡ vol a b c p
 stored_height a b c n m x y z o e f h ex ey ez eo ho p =
     let fx : FitsSigned w64 n.x = fits n.x normal_limit h.x (lit< tt) in

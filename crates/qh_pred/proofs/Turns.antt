@@ -61,4 +61,5 @@ first_product-sign n c some along = by_x (int_eq n.x (pos 0)) refl
 
 -- so it tells the sign of a turn in a plane of the normal n
 pub turn_sign : (n u v w : Vector) → IsAcross n u v w → sign (first_product n (cross u v w)) ≡ sign (left n u v w)
-turn_sign n u v w h = first_product-sign n (cross u v w) h.some (parallel_normal n u v w h.to_v h.to_w) ∙ ap sign (dot_comm n (cross u v w) ∙ sym (left-dot n u v w))
+turn_sign n u v w h = first_product-sign n (cross u v w) h.some (parallel_normal n u v w h.to_v h.to_w)
+    ∙ ap sign (dot_comm n (cross u v w) ∙ sym (left-dot n u v w))

@@ -20,7 +20,7 @@ use Rattle.qh_block.proofs.finished.{Corners.in_corners, NewFaces.face_of_corner
 -- three ids that are not in line, from the least on, are their polygon
 least_first : (at : ℕ → Vector) (i j k : ℕ) → ¬ (AreInLine (at i) (at j) (at k))
     → IsPolygon at (Extreme at (Members (i ∷ j ∷ k ∷ []))) (cross (at i) (at j) (at k)) (from_least i j k)
-least_first at i j k area = by (nat_lt i j && nat_lt i k) refl (nat_lt j k) refl
+least_first at i j k area = by_test (nat_lt i j && nat_lt i k) refl (nat_lt j k) refl
   where
     n : Vector
     n = cross (at i) (at j) (at k)
@@ -34,14 +34,14 @@ least_first at i j k area = by (nat_lt i j && nat_lt i k) refl (nat_lt j k) refl
     d : (i ≢ j) × (j ≢ k) × (i ≢ k)
     d = corners_differ at i j k area
 
-    by : (b : Bool) → (nat_lt i j && nat_lt i k) ≡ b → (e : Bool) → nat_lt j k ≡ e
+    by_test : (b : Bool) → (nat_lt i j && nat_lt i k) ≡ b → (e : Bool) → nat_lt j k ≡ e
         → IsPolygon at (Extreme at (Members (i ∷ j ∷ k ∷ []))) n (cond b (i ∷ j ∷ k ∷ []) (cond e (j ∷ k ∷ i ∷ []) (k ∷ i ∷ j ∷ [])))
-    by true p e q = let lower : (i < j) × (i < k) = grind (arith, nat_tests) in
+    by_test true p e q = let lower : (i < j) × (i < k) = grind (arith, nat_tests) in
         left_triangle n at _ i j k (λ x. (λ m. m, λ m. m)) lower.0 lower.1 d.1 first
-    by false p true q = let lower : (j < k) × (j < i) = grind (arith, nat_tests, d) in
+    by_test false p true q = let lower : (j < k) × (j < i) = grind (arith, nat_tests, d) in
         left_triangle n at _ j k i (λ x. (λ m. grind (arith, m), λ m. grind (arith, m)))
         lower.0 lower.1 (λ q. d.2 (sym q)) (turn _ _ _ first)
-    by false p false q = let lower : (k < i) × (k < j) = grind (arith, nat_tests, d) in
+    by_test false p false q = let lower : (k < i) × (k < j) = grind (arith, nat_tests, d) in
         left_triangle n at _ k i j (λ x. (λ m. grind (arith, m), λ m. grind (arith, m)))
         lower.0 lower.1 d.0 (turn _ _ _ (turn _ _ _ first))
 

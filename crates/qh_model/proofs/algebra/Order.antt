@@ -114,11 +114,11 @@ le_less a b h k = by_lt_z a b (λ l. l) (λ l. absurd (k (le_antisym a b h l)))
 
 -- a number is 0 or not
 pub zero_or_not : (v : ℤ) → (v ≡ pos 0) ⊎ (¬ (v ≡ pos 0))
-zero_or_not v = go (ℤ_discrete v (pos 0))
+zero_or_not v = by_decision (ℤ_discrete v (pos 0))
   where
-    go : Dec (v ≡ pos 0) → (v ≡ pos 0) ⊎ (¬ (v ≡ pos 0))
-    go (yes e) = inl e
-    go (no n) = inr n
+    by_decision : Dec (v ≡ pos 0) → (v ≡ pos 0) ⊎ (¬ (v ≡ pos 0))
+    by_decision (yes e) = inl e
+    by_decision (no n) = inr n
 
 -- the opposite of a negative number
 pub neg-positive : (x : ℤ) → x <ℤ pos 0 → pos 0 <ℤ neg_ℤ x

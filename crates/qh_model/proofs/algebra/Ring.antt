@@ -74,7 +74,10 @@ is_zero (negsuc n) = false
 -- adds a term
 abbrev pub ins_p : ℤ → Mono → Poly → Poly
 ins_p c m [] = (c, m) ∷ []
-ins_p c m (t ∷ p) = elim (eq_m m t.1) [ true ↦ elim (is_zero (c +ℤ t.0)) [ true ↦ p | false ↦ (c +ℤ t.0, m) ∷ p ] | false ↦ elim (lt_m m t.1) [ true ↦ (c, m) ∷ t ∷ p | false ↦ t ∷ ins_p c m p ] ]
+ins_p c m (t ∷ p) = elim (eq_m m t.1) [
+  | true ↦ elim (is_zero (c +ℤ t.0)) [ true ↦ p | false ↦ (c +ℤ t.0, m) ∷ p ]
+  | false ↦ elim (lt_m m t.1) [ true ↦ (c, m) ∷ t ∷ p | false ↦ t ∷ ins_p c m p ]
+]
 
 -- the sum of polynomials
 abbrev pub add_p : Poly → Poly → Poly
@@ -128,7 +131,8 @@ eq_m-is (i ∷ m) (j ∷ n) e = eq_m-split i j m n (eqb i j) refl (eq_m-is m n) 
 ins_m-value : (env : List ℤ) (i : ℕ) (m : Mono) → value_m env (ins_m i m) ≡ get_or env i (pos 0) *ℤ value_m env m
 ins_m-value env i [] = refl
 ins_m-value env i (j ∷ m) =
-    elim (ltb i j) as (λ b. value_m env (elim b [ true ↦ i ∷ j ∷ m | false ↦ j ∷ ins_m i m ]) ≡ get_or env i (pos 0) *ℤ (get_or env j (pos 0) *ℤ value_m env m)) [
+    elim (ltb i j) as (λ b. value_m env (elim b [ true ↦ i ∷ j ∷ m | false ↦ j ∷ ins_m i m ])
+    ≡ get_or env i (pos 0) *ℤ (get_or env j (pos 0) *ℤ value_m env m)) [
       | true ↦ refl
       | false ↦ ap (λ v. get_or env j (pos 0) *ℤ v) (ins_m-value env i m) ∙ mul_swap (get_or env j (pos 0)) (get_or env i (pos 0)) (value_m env m)
     ]
@@ -137,7 +141,8 @@ ins_m-value env i (j ∷ m) =
 mul_m-value : (env : List ℤ) (m n : Mono) → value_m env (mul_m m n) ≡ value_m env m *ℤ value_m env n
 mul_m-value env [] n = sym (one_mul (value_m env n))
 mul_m-value env (i ∷ m) n =
-    ins_m-value env i (mul_m m n) ∙ ap (λ v. get_or env i (pos 0) *ℤ v) (mul_m-value env m n) ∙ sym (mul_assoc (get_or env i (pos 0)) (value_m env m) (value_m env n))
+    ins_m-value env i (mul_m m n) ∙ ap (λ v. get_or env i (pos 0) *ℤ v) (mul_m-value env m n)
+    ∙ sym (mul_assoc (get_or env i (pos 0)) (value_m env m) (value_m env n))
 
 -- two terms of one monomial together
 same_term : (env : List ℤ) (c d : ℤ) (m n : Mono) (r : ℤ) → m ≡ n → (c +ℤ d) *ℤ value_m env m +ℤ r ≡ c *ℤ value_m env m +ℤ (d *ℤ value_m env n +ℤ r)
@@ -153,14 +158,19 @@ is_zero-is (pos n) e = ap pos (eqb-true n 0 e)
 is_zero-is (negsuc n) e = cc
 
 -- a term that may have vanished
-zero_term : (env : List ℤ) (c : ℤ) (m : Mono) (p : Poly) (b : Bool) → is_zero c ≡ b → value_p env (elim b [ true ↦ p | false ↦ (c, m) ∷ p ]) ≡ c *ℤ value_m env m +ℤ value_p env p
+zero_term : (env : List ℤ) (c : ℤ) (m : Mono) (p : Poly) (b : Bool) → is_zero c ≡ b
+    → value_p env (elim b [ true ↦ p | false ↦ (c, m) ∷ p ]) ≡ c *ℤ value_m env m +ℤ value_p env p
 zero_term env c m p true e = rw (is_zero-is c e, zero_mul (value_m env m)) (sym (+ℤ_idl (value_p env p)))
 zero_term env c m p false e = refl
 
 -- a step of the next
 ins_p-split : (env : List ℤ) (c : ℤ) (m : Mono) (t : ℤ × Mono) (p q : Poly) (b b' : Bool)
     → eq_m m t.1 ≡ b → value_p env q ≡ c *ℤ value_m env m +ℤ value_p env p
-    → value_p env (elim b [ true ↦ elim (is_zero (c +ℤ t.0)) [ true ↦ p | false ↦ (c +ℤ t.0, m) ∷ p ] | false ↦ elim b' [ true ↦ (c, m) ∷ t ∷ p | false ↦ t ∷ q ] ]) ≡ c *ℤ value_m env m +ℤ (t.0 *ℤ value_m env t.1 +ℤ value_p env p)
+    → value_p env (elim b [
+      | true ↦ elim (is_zero (c +ℤ t.0)) [ true ↦ p | false ↦ (c +ℤ t.0, m) ∷ p ]
+      | false ↦ elim b' [ true ↦ (c, m) ∷ t ∷ p | false ↦ t ∷ q ]
+    ])
+    ≡ c *ℤ value_m env m +ℤ (t.0 *ℤ value_m env t.1 +ℤ value_p env p)
 ins_p-split env c m t p q true b' e h = zero_term env (c +ℤ t.0) m p (is_zero (c +ℤ t.0)) refl ∙ same_term env c t.0 m t.1 (value_p env p) (eq_m-is m t.1 e)
 ins_p-split env c m t p q false true e h = refl
 ins_p-split env c m t p q false false e h = later_term (c *ℤ value_m env m) (t.0 *ℤ value_m env t.1) (value_p env p) (value_p env q) h
@@ -174,7 +184,8 @@ ins_p-value env c m (t ∷ p) = ins_p-split env c m t p (ins_p c m p) (eq_m m t.
 add_p-value : (env : List ℤ) (p q : Poly) → value_p env (add_p p q) ≡ value_p env p +ℤ value_p env q
 add_p-value env [] q = sym (+ℤ_idl (value_p env q))
 add_p-value env (t ∷ p) q =
-    ins_p-value env t.0 t.1 (add_p p q) ∙ ap (λ v. t.0 *ℤ value_m env t.1 +ℤ v) (add_p-value env p q) ∙ sym (+ℤ_assoc (t.0 *ℤ value_m env t.1) (value_p env p) (value_p env q))
+    ins_p-value env t.0 t.1 (add_p p q) ∙ ap (λ v. t.0 *ℤ value_m env t.1 +ℤ v) (add_p-value env p q)
+    ∙ sym (+ℤ_assoc (t.0 *ℤ value_m env t.1) (value_p env p) (value_p env q))
 
 -- (c d) (m n) = c m (d n)
 four_swap : (c d m n : ℤ) → c *ℤ d *ℤ (m *ℤ n) ≡ c *ℤ m *ℤ (d *ℤ n)
@@ -197,13 +208,16 @@ mul_t-value env c m (t ∷ q) r =
 mul_p-value : (env : List ℤ) (p q : Poly) → value_p env (mul_p p q) ≡ value_p env p *ℤ value_p env q
 mul_p-value env [] q = sym (zero_mul (value_p env q))
 mul_p-value env (t ∷ p) q =
-    mul_t-value env t.0 t.1 q (mul_p p q) ∙ ap (λ v. t.0 *ℤ value_m env t.1 *ℤ value_p env q +ℤ v) (mul_p-value env p q) ∙ sym (add_mul (t.0 *ℤ value_m env t.1) (value_p env p) (value_p env q))
+    mul_t-value env t.0 t.1 q (mul_p p q) ∙ ap (λ v. t.0 *ℤ value_m env t.1 *ℤ value_p env q +ℤ v) (mul_p-value env p q)
+    ∙ sym (add_mul (t.0 *ℤ value_m env t.1) (value_p env p) (value_p env q))
 
 -- an opposite
 neg_p-value : (env : List ℤ) (p : Poly) → value_p env (neg_p p) ≡ neg_ℤ (value_p env p)
 neg_p-value env [] = refl
 neg_p-value env (t ∷ p) =
-    ap (λ v. v +ℤ value_p env (neg_p p)) (neg_mul t.0 (value_m env t.1)) ∙ ap (λ v. neg_ℤ (t.0 *ℤ value_m env t.1) +ℤ v) (neg_p-value env p) ∙ sym (neg_ℤ-+ℤ (t.0 *ℤ value_m env t.1) (value_p env p))
+    ap (λ v. v +ℤ value_p env (neg_p p)) (neg_mul t.0 (value_m env t.1))
+    ∙ ap (λ v. neg_ℤ (t.0 *ℤ value_m env t.1) +ℤ v) (neg_p-value env p)
+    ∙ sym (neg_ℤ-+ℤ (t.0 *ℤ value_m env t.1) (value_p env p))
 
 -- the polynomial of an expression has its value
 norm-value : (env : List ℤ) (e : Expr) → value_p env (norm e) ≡ value env e
@@ -218,7 +232,8 @@ norm-value env (mul a b) = mul_p-value env (norm a) (norm b) ∙ cc (norm-value 
 norm-value env (neg a) = neg_p-value env (norm a) ∙ ap neg_ℤ (norm-value env a)
 
 -- a step of the next
-zeros-split : (env : List ℤ) (c m v : ℤ) (b z : Bool) → is_zero c ≡ b → (z ≡ true → v ≡ pos 0) → elim b [ true ↦ z | false ↦ false ] ≡ true → c *ℤ m +ℤ v ≡ pos 0
+zeros-split : (env : List ℤ) (c m v : ℤ) (b z : Bool) → is_zero c ≡ b → (z ≡ true → v ≡ pos 0)
+    → elim b [ true ↦ z | false ↦ false ] ≡ true → c *ℤ m +ℤ v ≡ pos 0
 zeros-split env c m v true z e h f = rw (is_zero-is c e) (rw (h f) (rw (zero_mul m) refl))
 zeros-split env c m v false z e h f = cc
 

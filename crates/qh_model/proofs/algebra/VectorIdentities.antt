@@ -66,7 +66,9 @@ pub vol-boundary : (a b c o p : Vector) → vol a b c p ≡ vol a b c o +ℤ (vo
 unfolding vol cross
 vol-boundary a b c o p =
     ring (put a (put b (put c (put o (put p []))))) (volE (vec 0) (vec 1) (vec 2) (vec 4))
-    (add (volE (vec 0) (vec 1) (vec 2) (vec 3)) (add (add (volE (vec 0) (vec 1) (vec 3) (vec 4)) (volE (vec 1) (vec 2) (vec 3) (vec 4))) (volE (vec 2) (vec 0) (vec 3) (vec 4)))) refl
+    (add (volE (vec 0) (vec 1) (vec 2) (vec 3))
+    (add (add (volE (vec 0) (vec 1) (vec 3) (vec 4)) (volE (vec 1) (vec 2) (vec 3) (vec 4)))
+    (volE (vec 2) (vec 0) (vec 3) (vec 4)))) refl
 
 -- separator cancellation, with d x = w . (x - p)
 unfoldable pub depth : Vector → Vector → Vector → ℤ
@@ -78,7 +80,9 @@ unfolding vol cross depth
 vol-depths w a b c r p =
     ring (put w (put a (put b (put c (put r (put p []))))))
     (mul (volE (vec 1) (vec 2) (vec 3) (vec 5)) (dotE (vec 0) (subE (vec 5) (vec 4))))
-    (add (add (mul (volE (vec 1) (vec 2) (vec 4) (vec 5)) (dotE (vec 0) (subE (vec 5) (vec 3)))) (mul (volE (vec 2) (vec 3) (vec 4) (vec 5)) (dotE (vec 0) (subE (vec 5) (vec 1))))) (mul (volE (vec 3) (vec 1) (vec 4) (vec 5)) (dotE (vec 0) (subE (vec 5) (vec 2))))) refl
+    (add (add (mul (volE (vec 1) (vec 2) (vec 4) (vec 5)) (dotE (vec 0) (subE (vec 5) (vec 3))))
+    (mul (volE (vec 2) (vec 3) (vec 4) (vec 5)) (dotE (vec 0) (subE (vec 5) (vec 1))))) (mul
+    (volE (vec 3) (vec 1) (vec 4) (vec 5)) (dotE (vec 0) (subE (vec 5) (vec 2))))) refl
 
 -- an equation from others: the difference of its sides is a combination of theirs
 no_term : (c l r : ℤ) → l ≡ r → c *ℤ (l -ℤ r) ≡ pos 0
@@ -196,7 +200,9 @@ unfolding cross
 in_line-twice a c = vector_path (cross a a c) origin (flat a.y c.z a.z c.y) (flat a.z c.x a.x c.z) (flat a.x c.y a.y c.x)
   where
     flat : (p q r s : ℤ) → (p -ℤ p) *ℤ (q -ℤ r) -ℤ (r -ℤ r) *ℤ (s -ℤ p) ≡ pos 0
-    flat p q r s = ring (p ∷ q ∷ r ∷ s ∷ []) (less (mul (less (var 0) (var 0)) (less (var 1) (var 2))) (mul (less (var 2) (var 2)) (less (var 3) (var 0)))) (con (pos 0)) refl
+    flat p q r s = ring (p ∷ q ∷ r ∷ s ∷ [])
+        (less (mul (less (var 0) (var 0)) (less (var 1) (var 2))) (mul (less (var 2) (var 2)) (less (var 3) (var 0))))
+        (con (pos 0)) refl
 
 -- and a point with one that stands twice
 pub in_line-last : (a b : Vector) → AreInLine a b b

@@ -17,10 +17,12 @@ pub root_at_the_end : RootAtTheEnd
 root_at_the_end B W some m r = let g = reach_good B W some m r in (published_only B W some m g, λ e. done_is_published B W some m g e.0 e.1)
 
 pub root_where_all_left : RootWhereAllLeft
-root_where_all_left B W some m r full all = let g = reach_good B W some m r in done_is_published B W some m g full (λ i w e. g.idle w (all w (g.who i w e)) i e)
+root_where_all_left B W some m r full all = let g = reach_good B W some m r in
+    done_is_published B W some m g full (λ i w e. (reach_ended B W some m r).empty w (all w (g.who i w e)) i e)
 
 pub no_root_where_given_up : NoRootWhereGivenUp
-no_root_where_given_up B W some m r w up root = let g = reach_good B W some m r in let t = (reach_ended B W some m r).stuck w up in (published_only B W some m g root).1 t.0 w t.1
+no_root_where_given_up B W some m r w up root = let g = reach_good B W some m r in
+    let t = (reach_ended B W some m r).stuck w up in (published_only B W some m g root).1 t.0 w t.1
 
 pub step_bound : StepBound
 step_bound B W some es can = run_bound B W some es can

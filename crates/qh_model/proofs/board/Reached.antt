@@ -16,13 +16,20 @@ module _ (B W : ℕ) where
   more_run m (x ∷ es) e = more_run (after B W m x) es e
 
   pub reach_more : (m : Machine) (e : Event) → Reachable B W m → Can B W m e → Reachable B W (after B W m e)
-  reach_more m e r can = (r.0 ++ e ∷ [], more_runs start r.0 e r.1 (subst (λ (z : Machine). Can B W z e) (sym r.2) can), more_run start r.0 e ∙ ap (λ (z : Machine). after B W z e) r.2)
+  reach_more m e r can = (
+    r.0 ++ e ∷ [],
+    more_runs start r.0 e r.1 (subst (λ (z : Machine). Can B W z e) (sym r.2) can),
+    more_run start r.0 e ∙ ap (λ (z : Machine). after B W z e) r.2,
+  )
 
   pub reach_good : (some : 0 < B) (m : Machine) → Reachable B W m → Consistent B W m
   reach_good some m r = subst (Consistent B W) r.2 (all_good B W some start r.0 (starts B W some) r.1)
 
   reach_counts : (some : 0 < B) (m : Machine) (r : Reachable B W m) → Counts B W some m (length r.0)
-  reach_counts some m r = subst (λ (z : Machine). Counts B W some z (length r.0)) r.2 (subst (Counts B W some (run B W start r.0)) (omega arith) (all_counts B W some start 0 r.0 (starts B W some) (counts_start B W some) r.1))
+  reach_counts some m r =
+      subst (λ (z : Machine). Counts B W some z (length r.0)) r.2
+      (subst (Counts B W some (run B W start r.0)) (omega arith)
+      (all_counts B W some start 0 r.0 (starts B W some) (counts_start B W some) r.1))
 
   pub reach_claims : (some : 0 < B) (m : Machine) → Reachable B W m → m.claims ≤ B + W
   reach_claims some m r = few_claims B W some m (length r.0) (reach_counts some m r)
@@ -31,8 +38,11 @@ module _ (B W : ℕ) where
   reach_ended some m r = subst (Ended B W some) r.2 (run_ended B W some r.0 (starts B W some) r.1)
 
   -- how many events there were
-  pub reach_steps : (some : 0 < B) (m : Machine) (r : Reachable B W m) → length r.0 ≡ m.claims + sum_to (λ i. settled (m.node i)) (2 * B) + sum_to (λ w. ended (m.mark w)) W
+  pub reach_steps : (some : 0 < B) (m : Machine) (r : Reachable B W m)
+      → length r.0 ≡ m.claims + sum_to (λ i. settled (m.node i)) (2 * B) + sum_to (λ w. ended (m.mark w)) W
   reach_steps some m r = counted B W some m (length r.0) (reach_counts some m r)
 
   pub run_bound : (some : 0 < B) (es : List Event) → CanRun B W start es → length es ≤ 3 * B + 2 * W - 1
-  run_bound some es can = let g = all_good B W some start es (starts B W some) can in let c = all_counts B W some start 0 es (starts B W some) (counts_start B W some) can in let b = bounded B W some (run B W start es) (0 + length es) g c in omega arith
+  run_bound some es can = let g = all_good B W some start es (starts B W some) can in
+      let c = all_counts B W some start 0 es (starts B W some) (counts_start B W some) can in
+      let b = bounded B W some (run B W start es) (0 + length es) g c in omega arith

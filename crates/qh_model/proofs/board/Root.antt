@@ -1,25 +1,26 @@
 -- Where the root is published.
-use Rattle.std.proofs.Common.{◌≡◌, ◌≢◌, ◌⊎◌, inl, inr, ℕ, zero, suc, ◌+◌, ◌*◌, ◌<◌, ◌≤◌, sym, refl, ap, ◌∙◌, subst, arith}
+use Rattle.std.proofs.Common.{◌≡◌, ◌≢◌, inl, inr, ℕ, zero, suc, ◌+◌, ◌*◌, ◌<◌, ◌≤◌, sym, refl, ap, ◌∙◌, subst, arith}
 use mathlib.Core.Logic.{dite}
 use native.Mathlib.Decide.{ℕ_discrete, dec_le}
 use Rattle.qh_model.specs.contract.BoardMachine.{Place, untouched, held, parked, used, published, Machine, parent, sibling, settled}
-use Rattle.qh_model.proofs.board.Kept.{Consistent, near, ranged, sibling_even}
+use Rattle.qh_model.proofs.board.Kept.{Consistent, ArePair, near, ranged, sibling_even}
 
 module _ (B W : ℕ) (some : 0 < B) where
   -- where the root is published, each other node is used
   all_used : (m : Machine) → Consistent B W m → m.node 1 ≡ published → (n i : ℕ) → i < n → 1 < i → i < 2 * B → m.node i ≡ used
   all_used m g pub_ zero i h a b = absurd (omega arith)
   all_used m g pub_ (suc n) i h a b = let near_ = near i a in let up_ = near_.above in let low = near_.positive in
-      let done : m.node (parent i) ≢ untouched = dite (ℕ_discrete (parent i) 1) (λ e q. let f : published ≡ untouched = sym pub_ ∙ (ap m.node (sym e) ∙ q) in cc)
+      let done : m.node (parent i) ≢ untouched =
+      dite (ℕ_discrete (parent i) 1) (λ e q. let f : published ≡ untouched = sym pub_ ∙ (ap m.node (sym e) ∙ q) in cc)
       (λ ne q. let f : used ≡ untouched = sym (all_used m g pub_ n (parent i) (omega arith) (omega arith) (omega arith)) ∙ q in cc) in
-      let kids = g.below (parent i) near_.positive (parent_small i b) done in pick near_.both kids
+      let kids = g.below (parent i) near_.positive (parent_small i b) done in by_pair near_.both kids
     where
       parent_small : (i : ℕ) → i < 2 * B → parent i < B
       parent_small i h = omega arith
 
-      pick : ((2 * parent i ≡ i) × (2 * parent i + 1 ≡ sibling i)) ⊎ ((2 * parent i ≡ sibling i) × (2 * parent i + 1 ≡ i)) → (m.node (2 * parent i) ≡ used) × (m.node (2 * parent i + 1) ≡ used) → m.node i ≡ used
-      pick (inl t) k = ap m.node (sym t.0) ∙ k.0
-      pick (inr t) k = ap m.node (sym t.1) ∙ k.1
+      by_pair : ArePair i → (m.node (2 * parent i) ≡ used) × (m.node (2 * parent i + 1) ≡ used) → m.node i ≡ used
+      by_pair (inl t) k = ap m.node (sym t.0) ∙ k.0
+      by_pair (inr t) k = ap m.node (sym t.1) ∙ k.1
 
   pub published_only : (m : Machine) → Consistent B W m → m.node 1 ≡ published → (B ≤ m.claims) × ((i w : ℕ) → m.node i ≢ held w)
   published_only m g pub_ = (
@@ -35,10 +36,13 @@ module _ (B W : ℕ) (some : 0 < B) where
           (λ ne. let f : used ≡ untouched = sym (all_used m g pub_ (i + 1) i (omega arith) (omega arith) (omega arith)) ∙ e in cc)
 
   -- where all blocks are claimed and no pass holds a node, each node was delivered; from the leaves up
-  all_reached : (m : Machine) → Consistent B W m → B ≤ m.claims → ((i w : ℕ) → m.node i ≢ held w) → (n i : ℕ) → 2 * B ≤ i + n → 0 < i → i < 2 * B → m.node i ≢ untouched
+  all_reached : (m : Machine) → Consistent B W m → B ≤ m.claims → ((i w : ℕ) → m.node i ≢ held w) → (n i : ℕ)
+      → 2 * B ≤ i + n → 0 < i → i < 2 * B → m.node i ≢ untouched
   all_reached m g full idle_ zero i h a b = absurd (omega arith)
   all_reached m g full idle_ (suc n) i h a b = dite (dec_le B i) (λ leaf. g.early i leaf b (omega arith))
-      (λ inner. go (m.node (2 * i)) refl (m.node (2 * i + 1)) refl (all_reached m g full idle_ n (2 * i) (omega arith) (omega arith) (omega arith)) (all_reached m g full idle_ n (2 * i + 1) (omega arith) (omega arith) (omega arith)))
+      (λ inner. by_place (m.node (2 * i)) refl (m.node (2 * i + 1)) refl
+      (all_reached m g full idle_ n (2 * i) (omega arith) (omega arith) (omega arith))
+      (all_reached m g full idle_ n (2 * i + 1) (omega arith) (omega arith) (omega arith)))
     where
       up_left : m.node (2 * i) ≡ used → m.node i ≢ untouched
       up_left e = subst (λ (k : ℕ). m.node k ≢ untouched) (half i) (g.up (2 * i) (λ q. omega arith) e)
@@ -55,30 +59,31 @@ module _ (B W : ℕ) (some : 0 < B) where
       sib : sibling (2 * i) ≡ 2 * i + 1
       sib = sibling_even (2 * i) (omega arith)
 
-      go : (x : Place) → m.node (2 * i) ≡ x → (y : Place) → m.node (2 * i + 1) ≡ y → m.node (2 * i) ≢ untouched → m.node (2 * i + 1) ≢ untouched → m.node i ≢ untouched
-      go untouched ex y ey p q = absurd (p ex)
-      go (held w) ex y ey p q = absurd (idle_ (2 * i) w ex)
-      go used ex y ey p q = up_left ex
-      go published ex y ey p q = let t = g.top (2 * i) ex in absurd (omega arith)
-      go parked ex untouched ey p q = absurd (q ey)
-      go parked ex (held w) ey p q = absurd (idle_ (2 * i + 1) w ey)
-      go parked ex used ey p q = up_right ey
-      go parked ex published ey p q = let t = g.top (2 * i + 1) ey in absurd (omega arith)
-      go parked ex parked ey p q = absurd (g.pair (2 * i) ex (ap m.node sib ∙ ey))
+      by_place : (x : Place) → m.node (2 * i) ≡ x → (y : Place) → m.node (2 * i + 1) ≡ y → m.node (2 * i) ≢ untouched
+          → m.node (2 * i + 1) ≢ untouched → m.node i ≢ untouched
+      by_place untouched ex y ey p q = absurd (p ex)
+      by_place (held w) ex y ey p q = absurd (idle_ (2 * i) w ex)
+      by_place used ex y ey p q = up_left ex
+      by_place published ex y ey p q = let t = g.top (2 * i) ex in absurd (omega arith)
+      by_place parked ex untouched ey p q = absurd (q ey)
+      by_place parked ex (held w) ey p q = absurd (idle_ (2 * i + 1) w ey)
+      by_place parked ex used ey p q = up_right ey
+      by_place parked ex published ey p q = let t = g.top (2 * i + 1) ey in absurd (omega arith)
+      by_place parked ex parked ey p q = absurd (g.pair (2 * i) ex (ap m.node sib ∙ ey))
 
   pub done_is_published : (m : Machine) → Consistent B W m → B ≤ m.claims → ((i w : ℕ) → m.node i ≢ held w) → m.node 1 ≡ published
-  done_is_published m g full idle_ = go (m.node 1) refl
+  done_is_published m g full idle_ = by_place (m.node 1) refl
     where
-      go : (x : Place) → m.node 1 ≡ x → m.node 1 ≡ published
-      go untouched e = absurd (all_reached m g full idle_ (2 * B) 1 (omega arith) (omega arith) (omega arith) e)
-      go (held w) e = absurd (idle_ 1 w e)
-      go parked e = absurd (g.root_parked e)
-      go used e = absurd (g.root_used e)
-      go published e = e
+      by_place : (x : Place) → m.node 1 ≡ x → m.node 1 ≡ published
+      by_place untouched e = absurd (all_reached m g full idle_ (2 * B) 1 (omega arith) (omega arith) (omega arith) e)
+      by_place (held w) e = absurd (idle_ 1 w e)
+      by_place parked e = absurd (g.root_parked e)
+      by_place used e = absurd (g.root_used e)
+      by_place published e = e
 
   -- an inner node is reached where both its children are delivered
   pub both_up : (m : Machine) → Consistent B W m → (i : ℕ) → 0 < i → settled (m.node (2 * i)) ≡ 1 → settled (m.node (2 * i + 1)) ≡ 1 → m.node i ≢ untouched
-  both_up m g i lo a b = go (m.node (2 * i)) refl (m.node (2 * i + 1)) refl a b
+  both_up m g i lo a b = by_place (m.node (2 * i)) refl (m.node (2 * i + 1)) refl a b
     where
       half : parent (2 * i) ≡ i
       half = omega arith
@@ -98,28 +103,30 @@ module _ (B W : ℕ) (some : 0 < B) where
       not_yet : (x : Place) → settled x ≡ 0 → settled x ≡ 1 → ⊥
       not_yet x p q = omega arith
 
-      go : (x : Place) → m.node (2 * i) ≡ x → (y : Place) → m.node (2 * i + 1) ≡ y → settled (m.node (2 * i)) ≡ 1 → settled (m.node (2 * i + 1)) ≡ 1 → m.node i ≢ untouched
-      go untouched ex y ey p q = absurd (not_yet (m.node (2 * i)) (ap settled ex) p)
-      go (held w) ex y ey p q = absurd (not_yet (m.node (2 * i)) (ap settled ex) p)
-      go used ex y ey p q = up_left ex
-      go published ex y ey p q = let t = g.top (2 * i) ex in absurd (omega arith)
-      go parked ex untouched ey p q = absurd (not_yet (m.node (2 * i + 1)) (ap settled ey) q)
-      go parked ex (held w) ey p q = absurd (not_yet (m.node (2 * i + 1)) (ap settled ey) q)
-      go parked ex used ey p q = up_right ey
-      go parked ex published ey p q = let t = g.top (2 * i + 1) ey in absurd (omega arith)
-      go parked ex parked ey p q = absurd (g.pair (2 * i) ex (ap m.node sib ∙ ey))
+      by_place : (x : Place) → m.node (2 * i) ≡ x → (y : Place) → m.node (2 * i + 1) ≡ y → settled (m.node (2 * i)) ≡ 1
+          → settled (m.node (2 * i + 1)) ≡ 1 → m.node i ≢ untouched
+      by_place untouched ex y ey p q = absurd (not_yet (m.node (2 * i)) (ap settled ex) p)
+      by_place (held w) ex y ey p q = absurd (not_yet (m.node (2 * i)) (ap settled ex) p)
+      by_place used ex y ey p q = up_left ex
+      by_place published ex y ey p q = let t = g.top (2 * i) ex in absurd (omega arith)
+      by_place parked ex untouched ey p q = absurd (not_yet (m.node (2 * i + 1)) (ap settled ey) q)
+      by_place parked ex (held w) ey p q = absurd (not_yet (m.node (2 * i + 1)) (ap settled ey) q)
+      by_place parked ex used ey p q = up_right ey
+      by_place parked ex published ey p q = let t = g.top (2 * i + 1) ey in absurd (omega arith)
+      by_place parked ex parked ey p q = absurd (g.pair (2 * i) ex (ap m.node sib ∙ ey))
 
   -- the children of a parked node's parent: it alone was delivered
-  pub parked_alone : (m : Machine) → Consistent B W m → (i : ℕ) → m.node i ≡ parked → (1 < i) × (i < 2 * B) × (settled (m.node (2 * parent i)) + settled (m.node (2 * parent i + 1)) ≡ 1)
+  pub parked_alone : (m : Machine) → Consistent B W m → (i : ℕ) → m.node i ≡ parked
+      → (1 < i) × (i < 2 * B) × (settled (m.node (2 * parent i)) + settled (m.node (2 * parent i + 1)) ≡ 1)
   parked_alone m g i e = let r = ranged B W some m g i (λ q. let f : parked ≡ untouched = sym e ∙ q in cc) in
       let lo : 1 < i = dite (ℕ_discrete i 1) (λ q. absurd (g.root_parked (ap m.node (sym q) ∙ e))) (λ ne. omega arith) in
       (lo, r.1, sum (near i lo).both (sib lo (m.node (sibling i)) refl))
     where
-      sum : ((2 * parent i ≡ i) × (2 * parent i + 1 ≡ sibling i)) ⊎ ((2 * parent i ≡ sibling i) × (2 * parent i + 1 ≡ i)) → settled (m.node (sibling i)) ≡ 0 → settled (m.node (2 * parent i)) + settled (m.node (2 * parent i + 1)) ≡ 1
+      sum : ArePair i → settled (m.node (sibling i)) ≡ 0 → settled (m.node (2 * parent i)) + settled (m.node (2 * parent i + 1)) ≡ 1
       sum (inl t) z = let a = ap (λ (k : ℕ). settled (m.node k)) t.0 in let b = ap (λ (k : ℕ). settled (m.node k)) t.1 in let c = ap settled e in omega arith
       sum (inr t) z = let a = ap (λ (k : ℕ). settled (m.node k)) t.0 in let b = ap (λ (k : ℕ). settled (m.node k)) t.1 in let c = ap settled e in omega arith
 
-      clash : 1 < i → ((2 * parent i ≡ i) × (2 * parent i + 1 ≡ sibling i)) ⊎ ((2 * parent i ≡ sibling i) × (2 * parent i + 1 ≡ i)) → (m.node (2 * parent i) ≡ used) × (m.node (2 * parent i + 1) ≡ used) → ⊥
+      clash : 1 < i → ArePair i → (m.node (2 * parent i) ≡ used) × (m.node (2 * parent i + 1) ≡ used) → ⊥
       clash lo (inl t) k = let f : parked ≡ used = sym e ∙ (ap m.node (sym t.0) ∙ k.0) in cc
       clash lo (inr t) k = let f : parked ≡ used = sym e ∙ (ap m.node (sym t.1) ∙ k.1) in cc
 
@@ -127,12 +134,16 @@ module _ (B W : ℕ) (some : 0 < B) where
       sib lo untouched q = ap settled q
       sib lo (held w) q = ap settled q
       sib lo parked q = absurd (g.pair i e q)
-      sib lo used q = let n = near i lo in let above = n.above_sibling in let pos = n.positive in let r = ranged B W some m g i (λ q. let f : parked ≡ untouched = sym e ∙ q in cc) in
-          let up_ : m.node (parent i) ≢ untouched = subst (λ (k : ℕ). m.node k ≢ untouched) n.same (g.up (sibling i) (λ z. omega arith) q) in absurd (clash lo n.both (g.below (parent i) pos (omega arith) up_))
+      sib lo used q = let n = near i lo in let above = n.above_sibling in let pos = n.positive in
+          let r = ranged B W some m g i (λ q. let f : parked ≡ untouched = sym e ∙ q in cc) in
+          let up_ : m.node (parent i) ≢ untouched =
+          subst (λ (k : ℕ). m.node k ≢ untouched) n.same (g.up (sibling i) (λ z. omega arith) q) in
+          absurd (clash lo n.both (g.below (parent i) pos (omega arith) up_))
       sib lo published q = let n = near i lo in let above = n.above_sibling in let pos = n.positive in let t = g.top (sibling i) q in absurd (omega arith)
 
   -- both children of a used node's parent are used
-  pub used_both : (m : Machine) → Consistent B W m → (i : ℕ) → m.node i ≡ used → (1 < i) × (i < 2 * B) × (settled (m.node (2 * parent i)) + settled (m.node (2 * parent i + 1)) ≡ 2)
+  pub used_both : (m : Machine) → Consistent B W m → (i : ℕ) → m.node i ≡ used
+      → (1 < i) × (i < 2 * B) × (settled (m.node (2 * parent i)) + settled (m.node (2 * parent i + 1)) ≡ 2)
   used_both m g i e = let r = ranged B W some m g i (λ q. let f : used ≡ untouched = sym e ∙ q in cc) in
       let lo : 1 < i = dite (ℕ_discrete i 1) (λ q. absurd (g.root_used (ap m.node (sym q) ∙ e))) (λ ne. omega arith) in
       let pos = (near i lo).positive in

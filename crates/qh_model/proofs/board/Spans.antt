@@ -43,18 +43,23 @@ span_of_leaf B i j h = (there, λ e. (subst (λ (z : ℕ). z < B) (sym e) h, (0,
     there (lt, (suc k, e)) = let s = no_greater k (B + j) in absurd (omega arith)
 
 pub span_of_node : SpanOfNode
-span_of_node B i j lo hi = (down, ⊎_elim (λ (t : InSpan B (2 * i) j). (t.0, (suc t.1.0, ap parent t.1.1 ∙ omega arith))) (λ (t : InSpan B (2 * i + 1) j). (t.0, (suc t.1.0, ap parent t.1.1 ∙ omega arith))))
+span_of_node B i j lo hi = (
+  down,
+  ⊎_elim (λ (t : InSpan B (2 * i) j). (t.0, (suc t.1.0, ap parent t.1.1 ∙ omega arith)))
+      (λ (t : InSpan B (2 * i + 1) j). (t.0, (suc t.1.0, ap parent t.1.1 ∙ omega arith))),
+)
   where
     down : InSpan B i j → InSpan B (2 * i) j ⊎ InSpan B (2 * i + 1) j
     down (lt, (zero, e)) = absurd (omega arith)
     down (lt, (suc k, e)) = dite (ℕ_discrete (ancestor k (B + j)) (2 * i)) (λ q. inl (lt, (k, q))) (λ ne. inr (lt, (k, omega arith)))
 
 pub spans_apart : SpansApart
-spans_apart B i j lo a b = go a.1.0 b.1.0 a.1.1 b.1.1
+spans_apart B i j lo a b = apart_at a.1.0 b.1.0 a.1.1 b.1.1
   where
-    go : (k l : ℕ) → ancestor k (B + j) ≡ 2 * i → ancestor l (B + j) ≡ 2 * i + 1 → ⊥
-    go k l e f = dite (ℕ_discrete k l) (λ q. let z : ancestor k (B + j) ≡ ancestor l (B + j) = ap (λ (x : ℕ). ancestor x (B + j)) q in omega arith)
-        (λ ne. dite (dec_le k l) (λ le. let h = half_below k l (B + j) (omega arith) in omega arith) (λ gt. let h = half_below l k (B + j) (omega arith) in omega arith))
+    apart_at : (k l : ℕ) → ancestor k (B + j) ≡ 2 * i → ancestor l (B + j) ≡ 2 * i + 1 → ⊥
+    apart_at k l e f = dite (ℕ_discrete k l) (λ q. let z : ancestor k (B + j) ≡ ancestor l (B + j) = ap (λ (x : ℕ). ancestor x (B + j)) q in omega arith)
+        (λ ne. dite (dec_le k l) (λ le. let h = half_below k l (B + j) (omega arith) in omega arith)
+        (λ gt. let h = half_below l k (B + j) (omega arith) in omega arith))
 
 pub span_of_root : SpanOfRoot
 span_of_root B j = ((λ t. t.0), λ h. (h, to_root (B + j) (B + j) (omega arith) (omega arith)))

@@ -43,4 +43,5 @@ sum_less f (suc (suc n)) z small h = let r = sum_less f (suc n) z small (omega a
 -- the elements two by two
 pub sum_pairs : (f : ℕ → ℕ) (n : ℕ) → sum_to f (2 * n) ≡ sum_to (λ i. f (2 * i) + f (2 * i + 1)) n
 sum_pairs f zero = refl
-sum_pairs f (suc n) = let r = sum_pairs f n in let e : 2 * suc n ≡ suc (suc (2 * n)) = omega arith in let d : f (2 * n + 1) ≡ f (suc (2 * n)) = ap f (omega arith) in ap (sum_to f) e ∙ omega arith
+sum_pairs f (suc n) = let r = sum_pairs f n in let e : 2 * suc n ≡ suc (suc (2 * n)) = omega arith in
+    let d : f (2 * n + 1) ≡ f (suc (2 * n)) = ap f (omega arith) in ap (sum_to f) e ∙ omega arith

@@ -32,7 +32,9 @@ edge_part-back : (at : ℕ → Vector) (p : Vector) (co : ℕ → ℤ) (m : ℤ)
 unfolding edge_part
 edge_part-back at p co m r e =
     rw (vol-flip (at e.1) (at e.0) (at r) p)
-    (ring (m ∷ vol (at e.0) (at e.1) (at r) p ∷ co e.0 ∷ co e.1 ∷ []) (mul (var 0) (mul (neg (var 1)) (mul (var 3) (var 2)))) (neg (mul (var 0) (mul (var 1) (mul (var 2) (var 3))))) refl)
+    (ring (m ∷ vol (at e.0) (at e.1) (at r) p ∷ co e.0 ∷ co e.1 ∷ [])
+    (mul (var 0) (mul (neg (var 1)) (mul (var 3) (var 2)))) (neg (mul (var 0) (mul (var 1) (mul (var 2) (var 3)))))
+    refl)
 
 -- one triangle
 shared-split : (at : ℕ → Vector) (w p : Vector) (co : ℕ → ℤ) (m : ℤ) (r : ℕ) (t : Triple)
@@ -41,15 +43,22 @@ shared-split : (at : ℕ → Vector) (w p : Vector) (co : ℕ → ℤ) (m : ℤ)
 unfolding shared edge_part
 shared-split at w p co m r t hi hj hk =
     rw (vol-depths w (at t.i) (at t.j) (at t.k) (at r) p)
-    (combine3 ((vol (at t.i) (at t.j) (at r) p *ℤ depth w p (at t.k) +ℤ vol (at t.j) (at t.k) (at r) p *ℤ depth w p (at t.i) +ℤ vol (at t.k) (at t.i) (at r) p *ℤ depth w p (at t.j)) *ℤ (co t.i *ℤ co t.j *ℤ co t.k))
-    (m *ℤ (vol (at t.i) (at t.j) (at r) p *ℤ (co t.i *ℤ co t.j)) +ℤ m *ℤ (vol (at t.j) (at t.k) (at r) p *ℤ (co t.j *ℤ co t.k)) +ℤ m *ℤ (vol (at t.k) (at t.i) (at r) p *ℤ (co t.k *ℤ co t.i)))
+    (combine3 ((vol (at t.i) (at t.j) (at r) p *ℤ depth w p (at t.k) +ℤ vol (at t.j) (at t.k) (at r) p
+    *ℤ depth w p (at t.i) +ℤ vol (at t.k) (at t.i) (at r) p *ℤ depth w p (at t.j)) *ℤ (co t.i *ℤ co t.j *ℤ co t.k))
+    (m *ℤ (vol (at t.i) (at t.j) (at r) p *ℤ (co t.i *ℤ co t.j)) +ℤ m
+    *ℤ (vol (at t.j) (at t.k) (at r) p *ℤ (co t.j *ℤ co t.k)) +ℤ m
+    *ℤ (vol (at t.k) (at t.i) (at r) p *ℤ (co t.k *ℤ co t.i)))
     (vol (at t.j) (at t.k) (at r) p *ℤ (co t.j *ℤ co t.k)) (depth w p (at t.i) *ℤ co t.i) m
     (vol (at t.k) (at t.i) (at r) p *ℤ (co t.k *ℤ co t.i)) (depth w p (at t.j) *ℤ co t.j) m
     (vol (at t.i) (at t.j) (at r) p *ℤ (co t.i *ℤ co t.j)) (depth w p (at t.k) *ℤ co t.k) m
-    (ring (m ∷ vol (at t.i) (at t.j) (at r) p ∷ vol (at t.j) (at t.k) (at r) p ∷ vol (at t.k) (at t.i) (at r) p ∷ depth w p (at t.i) ∷ depth w p (at t.j) ∷ depth w p (at t.k) ∷ co t.i ∷ co t.j ∷ co t.k ∷ [])
+    (ring (m ∷ vol (at t.i) (at t.j) (at r) p ∷ vol (at t.j) (at t.k) (at r) p ∷ vol (at t.k) (at t.i) (at r) p
+    ∷ depth w p (at t.i) ∷ depth w p (at t.j) ∷ depth w p (at t.k) ∷ co t.i ∷ co t.j ∷ co t.k ∷ [])
     (less (mul (add (add (mul (var 1) (var 6)) (mul (var 2) (var 4))) (mul (var 3) (var 5))) (mul (mul (var 7) (var 8)) (var 9)))
-    (add (add (mul (var 0) (mul (var 1) (mul (var 7) (var 8)))) (mul (var 0) (mul (var 2) (mul (var 8) (var 9))))) (mul (var 0) (mul (var 3) (mul (var 9) (var 7))))))
-    (add (add (mul (mul (var 2) (mul (var 8) (var 9))) (less (mul (var 4) (var 7)) (var 0))) (mul (mul (var 3) (mul (var 9) (var 7))) (less (mul (var 5) (var 8)) (var 0)))) (mul (mul (var 1) (mul (var 7) (var 8))) (less (mul (var 6) (var 9)) (var 0)))) refl)
+    (add (add (mul (var 0) (mul (var 1) (mul (var 7) (var 8)))) (mul (var 0) (mul (var 2) (mul (var 8) (var 9)))))
+    (mul (var 0) (mul (var 3) (mul (var 9) (var 7))))))
+    (add (add (mul (mul (var 2) (mul (var 8) (var 9))) (less (mul (var 4) (var 7)) (var 0)))
+    (mul (mul (var 3) (mul (var 9) (var 7))) (less (mul (var 5) (var 8)) (var 0)))) (mul
+    (mul (var 1) (mul (var 7) (var 8))) (less (mul (var 6) (var 9)) (var 0)))) refl)
     hi hj hk)
 
 -- the corners, one triangle after another
@@ -67,24 +76,30 @@ shared-sum : (at : ℕ → Vector) (w p : Vector) (co : ℕ → ℤ) (m : ℤ) (
 shared-sum at w p co m r [] h = refl
 shared-sum at w p co m r (t ∷ ts) h =
     rw (shared-split at w p co m r t h.0 h.1.0 h.1.1.0, shared-sum at w p co m r ts h.1.1.1)
-    (regroup (edge_part at p co m r (t.i, t.j)) (edge_part at p co m r (t.j, t.k)) (edge_part at p co m r (t.k, t.i)) (sum_z (edge_part at p co m r) (edges ts)))
+    (regroup (edge_part at p co m r (t.i, t.j)) (edge_part at p co m r (t.j, t.k)) (edge_part at p co m r (t.k, t.i))
+    (sum_z (edge_part at p co m r) (edges ts)))
   where
     regroup : (a b c e : ℤ) → a +ℤ b +ℤ c +ℤ e ≡ a +ℤ (b +ℤ (c +ℤ e))
     regroup a b c e = omega (arith, ints)
 
 -- so they add up to 0
-pub shared-zero : (at : ℕ → Vector) (w p : Vector) (co : ℕ → ℤ) (m : ℤ) (r : ℕ) (ts : List Triple) → IsClosed ts → Corners (λ i. depth w p (at i) *ℤ co i ≡ m) ts
+pub shared-zero : (at : ℕ → Vector) (w p : Vector) (co : ℕ → ℤ) (m : ℤ) (r : ℕ) (ts : List Triple) → IsClosed ts
+    → Corners (λ i. depth w p (at i) *ℤ co i ≡ m) ts
     → sum_z (shared at w p co r) ts ≡ pos 0
 shared-zero at w p co m r ts c h = shared-sum at w p co m r ts h ∙ edges-cancel (edge_part at p co m r) (edge_part-back at p co m r) ts c
 
 -- a triangle that p is strictly below gives a term below 0
-shared-neg : (at : ℕ → Vector) (w p : Vector) (co : ℕ → ℤ) (r : ℕ) (t : Triple) → vol_at at p t <ℤ pos 0 → pos 0 <ℤ depth w p (at r) → pos 0 <ℤ co t.i → pos 0 <ℤ co t.j → pos 0 <ℤ co t.k → shared at w p co r t <ℤ pos 0
+shared-neg : (at : ℕ → Vector) (w p : Vector) (co : ℕ → ℤ) (r : ℕ) (t : Triple) → vol_at at p t <ℤ pos 0
+    → pos 0 <ℤ depth w p (at r) → pos 0 <ℤ co t.i → pos 0 <ℤ co t.j → pos 0 <ℤ co t.k → shared at w p co r t <ℤ pos 0
 unfolding shared
 shared-neg at w p co r t h hr hi hj hk =
-    mul-neg_pos (vol_at at p t *ℤ depth w p (at r)) (co t.i *ℤ co t.j *ℤ co t.k) (mul-neg_pos (vol_at at p t) (depth w p (at r)) h hr) (mul-pos (co t.i *ℤ co t.j) (co t.k) (mul-pos (co t.i) (co t.j) hi hj) hk)
+    mul-neg_pos (vol_at at p t *ℤ depth w p (at r)) (co t.i *ℤ co t.j *ℤ co t.k)
+    (mul-neg_pos (vol_at at p t) (depth w p (at r)) h hr)
+    (mul-pos (co t.i *ℤ co t.j) (co t.k) (mul-pos (co t.i) (co t.j) hi hj) hk)
 
 -- where p is strictly below all triangles the sum is not above 0
-sums-neg : (at : ℕ → Vector) (w p : Vector) (co : ℕ → ℤ) (r : ℕ) → pos 0 <ℤ depth w p (at r) → (ts : List Triple) → Corners (λ i. pos 0 <ℤ co i) ts → Each (λ t. vol_at at p t <ℤ pos 0) ts → sum_z (shared at w p co r) ts ≤ℤ pos 0
+sums-neg : (at : ℕ → Vector) (w p : Vector) (co : ℕ → ℤ) (r : ℕ) → pos 0 <ℤ depth w p (at r) → (ts : List Triple)
+    → Corners (λ i. pos 0 <ℤ co i) ts → Each (λ t. vol_at at p t <ℤ pos 0) ts → sum_z (shared at w p co r) ts ≤ℤ pos 0
 sums-neg at w p co r hr [] h v = omega (arith, ints)
 sums-neg at w p co r hr (t ∷ ts) h v =
     two (shared at w p co r t) (sum_z (shared at w p co r) ts) (shared-neg at w p co r t v.0 hr h.0 h.1.0 h.1.1.0) (sums-neg at w p co r hr ts h.1.1.1 v.1)
@@ -105,21 +120,24 @@ prod-pos f (x ∷ xs) h = mul-pos (f x) (prod_z f xs) h.0 (prod-pos f xs h.1)
 -- what holds of each holds of all but the first
 each-drop_first : (P : ℕ → Type 0) (q : ℕ → Bool) (xs : List ℕ) → Each P xs → Each P (drop_first q xs)
 each-drop_first P q [] h = tt
-each-drop_first P q (x ∷ xs) h = pick (q x) (each-drop_first P q xs h.1)
+each-drop_first P q (x ∷ xs) h = by_test (q x) (each-drop_first P q xs h.1)
   where
-    pick : (b : Bool) → Each P (drop_first q xs) → Each P (cond b xs (x ∷ drop_first q xs))
-    pick true r = h.1
-    pick false r = (h.0, r)
+    by_test : (b : Bool) → Each P (drop_first q xs) → Each P (cond b xs (x ∷ drop_first q xs))
+    by_test true r = h.1
+    by_test false r = (h.0, r)
 
 -- a step of the next
-prod_step : (f : ℕ → ℤ) (x y : ℕ) (ys r : List ℕ) (b : Bool) → (b ≡ true → x ≡ y) → (b ≡ false → prod_z f ys ≡ f x *ℤ prod_z f r) → f y *ℤ prod_z f ys ≡ f x *ℤ prod_z f (cond b ys (y ∷ r))
+prod_step : (f : ℕ → ℤ) (x y : ℕ) (ys r : List ℕ) (b : Bool) → (b ≡ true → x ≡ y)
+    → (b ≡ false → prod_z f ys ≡ f x *ℤ prod_z f r) → f y *ℤ prod_z f ys ≡ f x *ℤ prod_z f (cond b ys (y ∷ r))
 prod_step f x y ys r true e h = ap (λ v. f v *ℤ prod_z f ys) (sym (e refl))
 prod_step f x y ys r false e h = rw (h refl) (mul_swap (f y) (f x) (prod_z f r))
 
 -- a product with one factor taken out
 prod-drop_first : (f : ℕ → ℤ) (x : ℕ) (ys : List ℕ) → 0 < count (eqb x) ys → prod_z f ys ≡ f x *ℤ prod_z f (drop_first (eqb x) ys)
 prod-drop_first f x [] h = absurd (omega arith)
-prod-drop_first f x (y ∷ ys) h = prod_step f x y ys (drop_first (eqb x) ys) (eqb x y) (eqb-true x y) (λ e. prod-drop_first f x ys (later (eqb x y) (count (eqb x) ys) h e))
+prod-drop_first f x (y ∷ ys) h =
+    prod_step f x y ys (drop_first (eqb x) ys) (eqb x y) (eqb-true x y)
+    (λ e. prod-drop_first f x ys (later (eqb x y) (count (eqb x) ys) h e))
 
 -- a longer list counts no less
 more_there : (x y : ℕ) (n : ℕ) → 0 < n → 0 < cond (eqb x y) 1 0 + n
@@ -132,7 +150,11 @@ one_there x n = rw (eqb-refl x) (omega arith)
 -- each member stands in it
 all_there : (xs : List ℕ) → Each (λ x. 0 < count (eqb x) xs) xs
 all_there [] = tt
-all_there (x ∷ xs) = (one_there x (count (eqb x) xs), every_map (λ y. 0 < count (eqb y) xs) (λ y. 0 < count (eqb y) (x ∷ xs)) xs (λ y h. more_there y x (count (eqb y) xs) h) (all_there xs))
+all_there (x ∷ xs) = (
+  one_there x (count (eqb x) xs),
+  every_map (λ y. 0 < count (eqb y) xs) (λ y. 0 < count (eqb y) (x ∷ xs)) xs
+      (λ y h. more_there y x (count (eqb y) xs) h) (all_there xs),
+)
 
 -- what holds of all holds of each
 each-all : (P : ℕ → Type 0) → ((x : ℕ) → P x) → (xs : List ℕ) → Each P xs
@@ -154,10 +176,15 @@ none_below_all at w p t ts c d v =
     let all = ids (t ∷ ts) in
     let f : ℕ → ℤ = λ i. depth w p (at i) in
     let co : ℕ → ℤ = λ i. prod_z f (drop_first (eqb i) all) in
-    let up : Corners (λ i. pos 0 <ℤ co i) (t ∷ ts) = each-all (λ i. pos 0 <ℤ co i) (λ i. prod-pos f (drop_first (eqb i) all) (each-drop_first (λ x. pos 0 <ℤ f x) (eqb i) all d)) all in
-    let same : Corners (λ i. f i *ℤ co i ≡ prod_z f all) (t ∷ ts) = every_map (λ i. 0 < count (eqb i) all) (λ i. f i *ℤ co i ≡ prod_z f all) all (λ i h. sym (prod-drop_first f i all h)) (all_there all) in
+    let up : Corners (λ i. pos 0 <ℤ co i) (t ∷ ts) =
+    each-all (λ i. pos 0 <ℤ co i)
+    (λ i. prod-pos f (drop_first (eqb i) all) (each-drop_first (λ x. pos 0 <ℤ f x) (eqb i) all d)) all in
+    let same : Corners (λ i. f i *ℤ co i ≡ prod_z f all) (t ∷ ts) =
+    every_map (λ i. 0 < count (eqb i) all) (λ i. f i *ℤ co i ≡ prod_z f all) all
+    (λ i h. sym (prod-drop_first f i all h)) (all_there all) in
     not_both (sum_z (shared at w p co t.i) (t ∷ ts)) (shared-zero at w p co (prod_z f all) t.i (t ∷ ts) c same)
-    (neg_and_le (shared at w p co t.i t) (sum_z (shared at w p co t.i) ts) (shared-neg at w p co t.i t v.0 d.0 up.0 up.1.0 up.1.1.0) (sums-neg at w p co t.i d.0 ts up.1.1.1 v.1))
+    (neg_and_le (shared at w p co t.i t) (sum_z (shared at w p co t.i) ts)
+    (shared-neg at w p co t.i t v.0 d.0 up.0 up.1.0 up.1.1.0) (sums-neg at w p co t.i d.0 ts up.1.1.1 v.1))
 
 -- ---- the law, from members
 corners-of : (P : ℕ → Type 0) (ts : List Triple) → ((i : ℕ) → IsCornerOf ts i → P i) → Corners P ts
@@ -187,4 +214,6 @@ none_below_and_beyond at [] c w p beyond below = absurd (some c.some)
     some : 1 ≤ 0 → ⊥
     some h = omega arith
 none_below_and_beyond at (t ∷ ts) c w p beyond below =
-    none_below_all at w p t ts c.closed (corners-of (λ i. pos 0 <ℤ depth w p (at i)) (t ∷ ts) (λ i k. deep w p (at i) (beyond i k))) (each-of (λ t. vol_at at p t <ℤ pos 0) (t ∷ ts) below)
+    none_below_all at w p t ts c.closed
+    (corners-of (λ i. pos 0 <ℤ depth w p (at i)) (t ∷ ts) (λ i k. deep w p (at i) (beyond i k)))
+    (each-of (λ t. vol_at at p t <ℤ pos 0) (t ∷ ts) below)

@@ -58,7 +58,10 @@ own_negative x e = omega (arith, ints)
 -- what changes its sign with an edge's direction adds up to nothing
 pub edges-cancel : (g : (ℕ × ℕ) → ℤ) → ((e : ℕ × ℕ) → g (back e) ≡ neg_ℤ (g e)) → (ts : List Triple) → IsClosed ts → sum_z g (edges ts) ≡ pos 0
 edges-cancel g h ts c =
-    own_negative (sum_z g (edges ts)) (sum_z-same_counts is_edge edge_tests g (edges ts) (map back (edges ts)) (λ e. count-is (is_edge e) (edges ts) ∙ c e.0 e.1 ∙ sym (count-is (is_edge (back e)) (edges ts)) ∙ sym (count-back e (edges ts))) ∙ sum-back g h (edges ts))
+    own_negative (sum_z g (edges ts))
+    (sum_z-same_counts is_edge edge_tests g (edges ts) (map back (edges ts))
+    (λ e. count-is (is_edge e) (edges ts) ∙ c e.0 e.1 ∙ sym (count-is (is_edge (back e)) (edges ts))
+    ∙ sym (count-back e (edges ts))) ∙ sum-back g h (edges ts))
 
 -- the volume of a triangle and p
 abbrev pub vol_at : (ℕ → Vector) → Vector → Triple → ℤ
@@ -73,7 +76,8 @@ vols-boundary : (at : ℕ → Vector) (o p : Vector) (ts : List Triple) → sum_
 vols-boundary at o p [] = refl
 vols-boundary at o p (t ∷ ts) =
     rw (vol-boundary (at t.i) (at t.j) (at t.k) o p, vols-boundary at o p ts)
-    (regroup (vol (at t.i) (at t.j) (at t.k) o) (vol (at t.i) (at t.j) o p) (vol (at t.j) (at t.k) o p) (vol (at t.k) (at t.i) o p) (sum_z (vol_at at o) ts) (sum_z (edge_vol at o p) (edges ts)))
+    (regroup (vol (at t.i) (at t.j) (at t.k) o) (vol (at t.i) (at t.j) o p) (vol (at t.j) (at t.k) o p)
+    (vol (at t.k) (at t.i) o p) (sum_z (vol_at at o) ts) (sum_z (edge_vol at o p) (edges ts)))
   where
     regroup : (v a b c s e : ℤ) → v +ℤ (a +ℤ b +ℤ c) +ℤ (s +ℤ e) ≡ v +ℤ s +ℤ (a +ℤ (b +ℤ (c +ℤ e)))
     regroup v a b c s e = omega (arith, ints)
@@ -81,7 +85,9 @@ vols-boundary at o p (t ∷ ts) =
 -- signed volume: the sum does not depend on the fourth point
 pub vols-same : (at : ℕ → Vector) (o p : Vector) (ts : List Triple) → IsClosed ts → sum_z (vol_at at p) ts ≡ sum_z (vol_at at o) ts
 vols-same at o p ts c =
-    vols-boundary at o p ts ∙ drop_zero (sum_z (vol_at at o) ts) (sum_z (edge_vol at o p) (edges ts)) (edges-cancel (edge_vol at o p) (λ e. vol-flip (at e.1) (at e.0) o p) ts c)
+    vols-boundary at o p ts
+    ∙ drop_zero (sum_z (vol_at at o) ts) (sum_z (edge_vol at o p) (edges ts))
+    (edges-cancel (edge_vol at o p) (λ e. vol-flip (at e.1) (at e.0) o p) ts c)
   where
     drop_zero : (a b : ℤ) → b ≡ pos 0 → a +ℤ b ≡ a
     drop_zero a b e = omega (arith, ints)

@@ -36,7 +36,8 @@ later true n h e = cc
 later false n h e = omega arith
 
 -- a sum with one term taken out
-pub sum_z-drop_first : {X : Type 0} (eq : X → X → Bool) → Tests eq → (f : X → ℤ) (x : X) (ys : List X) → 0 < count (eq x) ys → sum_z f ys ≡ f x +ℤ sum_z f (drop_first (eq x) ys)
+pub sum_z-drop_first : {X : Type 0} (eq : X → X → Bool) → Tests eq → (f : X → ℤ) (x : X) (ys : List X)
+    → 0 < count (eq x) ys → sum_z f ys ≡ f x +ℤ sum_z f (drop_first (eq x) ys)
 sum_z-drop_first eq t f x [] h = absurd (omega arith)
 sum_z-drop_first eq t f x (y ∷ ys) h =
     sum_step f x y ys (drop_first (eq x) ys) (eq x y) (t.same x y) (λ e. sum_z-drop_first eq t f x ys (later (eq x y) (count (eq x) ys) h e))
@@ -51,7 +52,8 @@ count_step q x y ys r false e h = rw (h refl) (swap (cond (q y) 1 0) (cond (q x)
     swap a b c = omega arith
 
 -- a count with one member taken out
-pub count-drop_first : {X : Type 0} (eq : X → X → Bool) → Tests eq → (q : X → Bool) (x : X) (ys : List X) → 0 < count (eq x) ys → count q ys ≡ cond (q x) 1 0 + count q (drop_first (eq x) ys)
+pub count-drop_first : {X : Type 0} (eq : X → X → Bool) → Tests eq → (q : X → Bool) (x : X) (ys : List X)
+    → 0 < count (eq x) ys → count q ys ≡ cond (q x) 1 0 + count q (drop_first (eq x) ys)
 count-drop_first eq t q x [] h = absurd (omega arith)
 count-drop_first eq t q x (y ∷ ys) h =
     count_step q x y ys (drop_first (eq x) ys) (eq x y) (t.same x y) (λ e. count-drop_first eq t q x ys (later (eq x y) (count (eq x) ys) h e))
@@ -65,12 +67,15 @@ one_there : {X : Type 0} (eq : X → X → Bool) → Tests eq → (x : X) (n : �
 one_there eq t x n = rw (t.itself x) (omega arith)
 
 -- lists with the same counts have the same sum
-pub sum_z-same_counts : {X : Type 0} (eq : X → X → Bool) → Tests eq → (f : X → ℤ) (xs ys : List X) → ((z : X) → count (eq z) xs ≡ count (eq z) ys) → sum_z f xs ≡ sum_z f ys
+pub sum_z-same_counts : {X : Type 0} (eq : X → X → Bool) → Tests eq → (f : X → ℤ) (xs ys : List X)
+    → ((z : X) → count (eq z) xs ≡ count (eq z) ys) → sum_z f xs ≡ sum_z f ys
 sum_z-same_counts eq t f [] [] h = refl
 sum_z-same_counts eq t f [] (y ∷ ys) h = let p = one_there eq t y (count (eq y) ys) in let e = h y in absurd (omega arith)
 sum_z-same_counts eq t f (x ∷ xs) ys h =
     let there : 0 < count (eq x) ys = (let p = one_there eq t x (count (eq x) xs) in let e = h x in omega arith) in
-    let ih = sum_z-same_counts eq t f xs (drop_first (eq x) ys) (λ z. cancel (cond (eq z x) 1 0) (count (eq z) xs) (count (eq z) (drop_first (eq x) ys)) (h z ∙ count-drop_first eq t (eq z) x ys there)) in
+    let ih = sum_z-same_counts eq t f xs (drop_first (eq x) ys)
+    (λ z. cancel (cond (eq z x) 1 0) (count (eq z) xs) (count (eq z) (drop_first (eq x) ys))
+    (h z ∙ count-drop_first eq t (eq z) x ys there)) in
     rw ih (sym (sum_z-drop_first eq t f x ys there))
 
 -- the count is that of the definitions: std's

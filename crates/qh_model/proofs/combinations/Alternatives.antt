@@ -44,7 +44,9 @@ pad_three : (m n k : ℕ) (x y z : ℤ) → pos m *ℤ x +ℤ (pos n *ℤ y +ℤ
 pad_three m n k x y z = omega (arith, ints)
 
 -- four
-pad_four : (m n k l : ℕ) (x y z t : ℤ) → pos m *ℤ x +ℤ (pos n *ℤ y +ℤ (pos k *ℤ z +ℤ (pos l *ℤ t +ℤ pos 0))) ≡ pos m *ℤ x +ℤ pos n *ℤ y +ℤ pos k *ℤ z +ℤ pos l *ℤ t
+pad_four : (m n k l : ℕ) (x y z t : ℤ)
+    → pos m *ℤ x +ℤ (pos n *ℤ y +ℤ (pos k *ℤ z +ℤ (pos l *ℤ t +ℤ pos 0)))
+    ≡ pos m *ℤ x +ℤ pos n *ℤ y +ℤ pos k *ℤ z +ℤ pos l *ℤ t
 pad_four m n k l x y z t = omega (arith, ints)
 
 -- at most four terms are four, with weights 0 for those that lack
@@ -176,7 +178,9 @@ combination_of at ids p m = record {
     along u P g e = ap (λ t. pos t *ℤ P) (sym q.weighs) ∙ balance _ _ _ (total_from (λ i. vdot 3 u (toward at p i)) g P e m.terms) (m.sums u) ∙ q.sums g
 
 -- a negative scalar product of the difference is an order of scalar products
-past_from : (u v w ax ay az px py pz : ℤ) → (u *ℤ (ax -ℤ px) +ℤ (v *ℤ (ay -ℤ py) +ℤ (w *ℤ (az -ℤ pz) +ℤ pos 0))) <ℤ pos 0 → (u *ℤ ax +ℤ v *ℤ ay +ℤ w *ℤ az) <ℤ (u *ℤ px +ℤ v *ℤ py +ℤ w *ℤ pz)
+past_from : (u v w ax ay az px py pz : ℤ)
+    → (u *ℤ (ax -ℤ px) +ℤ (v *ℤ (ay -ℤ py) +ℤ (w *ℤ (az -ℤ pz) +ℤ pos 0))) <ℤ pos 0
+    → (u *ℤ ax +ℤ v *ℤ ay +ℤ w *ℤ az) <ℤ (u *ℤ px +ℤ v *ℤ py +ℤ w *ℤ pz)
 past_from u v w ax ay az px py pz h = let k = simp ring_rules at h in omega (arith, ints, k)
 
 -- separated differences are a separator
@@ -187,7 +191,9 @@ separator_of at ids p s = record {
 }
 
 -- one or the other, for points
-either : (at : ℕ → Vector) (ids : List ℕ) (p : Vector) → Balanced ℕ 3 (toward at p) ids ⊎ Separated ℕ 3 (toward at p) ids → Combination at (Members ids) p ⊎ Separator at (Members ids) p
+either : (at : ℕ → Vector) (ids : List ℕ) (p : Vector)
+    → Balanced ℕ 3 (toward at p) ids ⊎ Separated ℕ 3 (toward at p) ids
+    → Combination at (Members ids) p ⊎ Separator at (Members ids) p
 either at ids p (inl m) = inl (combination_of at ids p m)
 either at ids p (inr s) = inr (separator_of at ids p s)
 
@@ -203,12 +209,23 @@ scaled_dot W u v w x y z = simp ring_rules
 -- the scalar product of a weighted sum
 combined_dot : (k l m n u v w ax ay az bx by bz cx cy cz dx dy dz : ℤ) →
     u *ℤ (k *ℤ ax +ℤ l *ℤ bx +ℤ m *ℤ cx +ℤ n *ℤ dx) +ℤ v *ℤ (k *ℤ ay +ℤ l *ℤ by +ℤ m *ℤ cy +ℤ n *ℤ dy) +ℤ w *ℤ (k *ℤ az +ℤ l *ℤ bz +ℤ m *ℤ cz +ℤ n *ℤ dz)
-    ≡ k *ℤ (u *ℤ ax +ℤ v *ℤ ay +ℤ w *ℤ az) +ℤ l *ℤ (u *ℤ bx +ℤ v *ℤ by +ℤ w *ℤ bz) +ℤ m *ℤ (u *ℤ cx +ℤ v *ℤ cy +ℤ w *ℤ cz) +ℤ n *ℤ (u *ℤ dx +ℤ v *ℤ dy +ℤ w *ℤ dz)
+    ≡ k *ℤ (u *ℤ ax +ℤ v *ℤ ay +ℤ w *ℤ az) +ℤ l *ℤ (u *ℤ bx +ℤ v *ℤ by +ℤ w *ℤ bz) +ℤ m
+    *ℤ (u *ℤ cx +ℤ v *ℤ cy +ℤ w *ℤ cz) +ℤ n *ℤ (u *ℤ dx +ℤ v *ℤ dy +ℤ w *ℤ dz)
 combined_dot k l m n u v w ax ay az bx by bz cx cy cz dx dy dz = simp ring_rules
 
 -- numbers below P do not balance to P
-lower_weights : (k l m n : ℕ) (P A B C D : ℤ) → pos (k + l + m + n) *ℤ P ≡ pos k *ℤ A +ℤ pos l *ℤ B +ℤ pos m *ℤ C +ℤ pos n *ℤ D → 0 < k + l + m + n → A <ℤ P → B <ℤ P → C <ℤ P → D <ℤ P → ⊥
-lower_weights k l m n P A B C D e h a b c d = omega (arith, ints, mul-le-mul_left k (lt_out A P a), mul-le-mul_left l (lt_out B P b), mul-le-mul_left m (lt_out C P c), mul-le-mul_left n (lt_out D P d))
+lower_weights : (k l m n : ℕ) (P A B C D : ℤ)
+    → pos (k + l + m + n) *ℤ P ≡ pos k *ℤ A +ℤ pos l *ℤ B +ℤ pos m *ℤ C +ℤ pos n *ℤ D → 0 < k + l + m + n → A <ℤ P
+    → B <ℤ P → C <ℤ P → D <ℤ P → ⊥
+lower_weights k l m n P A B C D e h a b c d =
+    omega (
+      arith,
+      ints,
+      mul-le-mul_left k (lt_out A P a),
+      mul-le-mul_left l (lt_out B P b),
+      mul-le-mul_left m (lt_out C P c),
+      mul-le-mul_left n (lt_out D P d),
+    )
 
 -- w puts no convex combination's members all below it
 pub all_lower : (at : ℕ → Vector) (A : ℕ → Type 0) (p w : Vector) (m : Combination at A p)
@@ -218,7 +235,8 @@ all_lower at A p w m = lower_weights m.w1 m.w2 m.w3 m.w4 (dot w p) (dot w (at m.
     ∙ ap (λ t. w.x *ℤ t +ℤ w.y *ℤ (W *ℤ p.y) +ℤ w.z *ℤ (W *ℤ p.z)) m.x
     ∙ ap (λ t. w.x *ℤ side (λ q. q.x) +ℤ w.y *ℤ t +ℤ w.z *ℤ (W *ℤ p.z)) m.y
     ∙ ap (λ t. w.x *ℤ side (λ q. q.x) +ℤ w.y *ℤ side (λ q. q.y) +ℤ w.z *ℤ t) m.z
-    ∙ combined_dot (pos m.w1) (pos m.w2) (pos m.w3) (pos m.w4) w.x w.y w.z (at m.a).x (at m.a).y (at m.a).z (at m.b).x (at m.b).y (at m.b).z (at m.c).x (at m.c).y (at m.c).z (at m.d).x (at m.d).y (at m.d).z)
+    ∙ combined_dot (pos m.w1) (pos m.w2) (pos m.w3) (pos m.w4) w.x w.y w.z (at m.a).x (at m.a).y (at m.a).z (at m.b).x
+    (at m.b).y (at m.b).z (at m.c).x (at m.c).y (at m.c).z (at m.d).x (at m.d).y (at m.d).z)
     m.some_weight
   where
     W : ℤ

@@ -107,7 +107,8 @@ by_head : (n k : ℕ) (h : ℤ) (t : V n) → pos (suc k) ≡ h *ℤ h → Cut n
 by_head n k h t e = record {
   project = λ x. lin n h x.1 (neg_ℤ x.0) t;
   lift = λ u. (neg_ℤ (dot n u t), lin n h u (pos 0) u);
-  lifts = λ u x. ap (λ s. neg_ℤ (dot n u t) *ℤ x.0 +ℤ s) (dot_lin n h (pos 0) u u x.1) ∙ lift_head h x.0 (dot n u x.1) (dot n u t) ∙ sym (dot_lin_right n h (neg_ℤ x.0) u x.1 t);
+  lifts = λ u x. ap (λ s. neg_ℤ (dot n u t) *ℤ x.0 +ℤ s) (dot_lin n h (pos 0) u u x.1)
+      ∙ lift_head h x.0 (dot n u x.1) (dot n u t) ∙ sym (dot_lin_right n h (neg_ℤ x.0) u x.1 t);
   kills = λ u. ap (λ s. neg_ℤ (dot n u t) *ℤ h +ℤ s) (dot_lin n h (pos 0) u u t) ∙ kill_head h (dot n u t);
   grows = grow_head k h (dot n t t) e (dot_self n t);
   scale = k;
@@ -115,7 +116,8 @@ by_head n k h t e = record {
   rest = λ u. lin n h u.1 (pos 0) u.1;
   splits = λ u x. ap (λ s. s *ℤ (u.0 *ℤ x.0 +ℤ dot n u.1 x.1)) e
       ∙ split_head h u.0 x.0 (dot n u.1 x.1) (dot n u.1 t)
-      ∙ ap (λ s. (u.0 *ℤ h +ℤ dot n u.1 t) *ℤ s +ℤ h *ℤ (h *ℤ dot n u.1 x.1 +ℤ neg_ℤ x.0 *ℤ dot n u.1 t)) (sym (ap (λ s. h *ℤ x.0 +ℤ s) (dot_nil n x.1) ∙ +ℤ_idr (h *ℤ x.0)))
+      ∙ ap (λ s. (u.0 *ℤ h +ℤ dot n u.1 t) *ℤ s +ℤ h *ℤ (h *ℤ dot n u.1 x.1 +ℤ neg_ℤ x.0 *ℤ dot n u.1 t))
+      (sym (ap (λ s. h *ℤ x.0 +ℤ s) (dot_nil n x.1) ∙ +ℤ_idr (h *ℤ x.0)))
       ∙ ap (λ s. (u.0 *ℤ h +ℤ dot n u.1 t) *ℤ (h *ℤ x.0 +ℤ dot n (nil n) x.1) +ℤ s)
       (sym (dot_lin n h (pos 0) u.1 u.1 (lin n h x.1 (neg_ℤ x.0) t) ∙ no_second h _ ∙ ap (λ s. h *ℤ s) (dot_lin_right n h (neg_ℤ x.0) u.1 x.1 t)));
 }
@@ -157,10 +159,10 @@ flat_tail n t f u = flat_head u.0 _ (f u.1)
 -- a vector is zero, or the space can be cut along it
 pub cut : (n : ℕ) (d : V (suc n)) → Flat (suc n) d ⊎ Cut n d
 cut zero (pos zero, t) = inl (flat_tail zero t (λ u. refl))
-cut (suc n) (pos zero, t) = pick n t (cut n t)
+cut (suc n) (pos zero, t) = by_cases n t (cut n t)
   where
-    pick : (n : ℕ) (t : V (suc n)) → Flat (suc n) t ⊎ Cut n t → Flat (suc (suc n)) (pos 0, t) ⊎ Cut (suc n) (pos 0, t)
-    pick n t (inl f) = inl (flat_tail (suc n) t f)
-    pick n t (inr c) = inr (by_tail n t c)
+    by_cases : (n : ℕ) (t : V (suc n)) → Flat (suc n) t ⊎ Cut n t → Flat (suc (suc n)) (pos 0, t) ⊎ Cut (suc n) (pos 0, t)
+    by_cases n t (inl f) = inl (flat_tail (suc n) t f)
+    by_cases n t (inr c) = inr (by_tail n t c)
 cut n (pos (suc k), t) = inr (by_head n (k * k + k + k) (pos (suc k)) t (omega (arith, ints)))
 cut n (negsuc k, t) = inr (by_head n (k * k + k + k) (negsuc k) t (omega (arith, ints)))

@@ -55,7 +55,9 @@ count_scaled k (t ∷ ts) = ap suc (count_scaled k ts)
 -- with k times the total
 total_scaled : {A : Type 0} (k : ℕ) (g : A → ℤ) (ts : List (ℕ × A)) → total g (scaled k ts) ≡ pos k *ℤ total g ts
 total_scaled k g [] = sym (*ℤ-zero (pos k))
-total_scaled k g (t ∷ ts) = ap (λ s. pos (k * t.0) *ℤ g t.1 +ℤ s) (total_scaled k g ts) ∙ ap (λ s. s +ℤ pos k *ℤ total g ts) (mul_assoc (pos k) (pos t.0) (g t.1)) ∙ sym (mul_add (pos k) (pos t.0 *ℤ g t.1) (total g ts))
+total_scaled k g (t ∷ ts) = ap (λ s. pos (k * t.0) *ℤ g t.1 +ℤ s) (total_scaled k g ts)
+    ∙ ap (λ s. s +ℤ pos k *ℤ total g ts) (mul_assoc (pos k) (pos t.0) (g t.1))
+    ∙ sym (mul_add (pos k) (pos t.0 *ℤ g t.1) (total g ts))
 
 -- a step of the next
 linear_step : (α c m g q r G Q R : ℤ) → α *ℤ g ≡ c *ℤ q +ℤ r → α *ℤ G ≡ c *ℤ Q +ℤ R → α *ℤ (m *ℤ g +ℤ G) ≡ c *ℤ (m *ℤ q +ℤ Q) +ℤ (m *ℤ r +ℤ R)
@@ -65,7 +67,8 @@ linear_step α c m g q r G Q R e f =
     ∙ simp ring_rules
 
 -- totals are linear
-pub total_linear : {A : Type 0} (α c : ℤ) (g q r : A → ℤ) → ((a : A) → α *ℤ g a ≡ c *ℤ q a +ℤ r a) → (ts : List (ℕ × A)) → α *ℤ total g ts ≡ c *ℤ total q ts +ℤ total r ts
+pub total_linear : {A : Type 0} (α c : ℤ) (g q r : A → ℤ) → ((a : A) → α *ℤ g a ≡ c *ℤ q a +ℤ r a) → (ts : List (ℕ × A))
+    → α *ℤ total g ts ≡ c *ℤ total q ts +ℤ total r ts
 total_linear α c g q r e [] = *ℤ-zero α ∙ sym (*ℤ-zero c) ∙ sym (+ℤ_idr (c *ℤ pos 0))
 total_linear α c g q r e (t ∷ ts) = linear_step α c (pos t.0) (g t.1) (q t.1) (r t.1) _ _ _ (e t.1) (total_linear α c g q r e ts)
 
@@ -128,12 +131,14 @@ below_eq : (x y : ℤ) → y ≡ x → x <ℤ pos 0 → y <ℤ pos 0
 below_eq x y e h = omega (arith, ints)
 
 -- a separator of the projected vectors, lifted and scaled, less the vector of the cut
-parted : {A : Type 0} (n : ℕ) (f : A → V (suc n)) (a : A) (xs : List A) (c : Cut n (f a)) → Separated A n (λ b. c.project (f b)) xs → Separated A (suc n) f (a ∷ xs)
+parted : {A : Type 0} (n : ℕ) (f : A → V (suc n)) (a : A) (xs : List A) (c : Cut n (f a))
+    → Separated A n (λ b. c.project (f b)) xs → Separated A (suc n) f (a ∷ xs)
 parted {A} n f a xs c s = record {
   w = lin (suc n) (pos N) W (negsuc 0) (f a);
   below = (
     below_eq _ _ (dot_lin (suc n) (pos N) (negsuc 0) W (f a) (f a)) (lifted_itself N _ _ (c.kills s.w) c.grows),
-    every_zip (λ b. dot n s.w (c.project (f b)) <ℤ pos 0) (λ b. neg_ℤ (dot (suc n) (f a) (f b)) <ℤ pos N) (λ b. dot (suc n) (lin (suc n) (pos N) W (negsuc 0) (f a)) (f b) <ℤ pos 0) xs
+    every_zip (λ b. dot n s.w (c.project (f b)) <ℤ pos 0) (λ b. neg_ℤ (dot (suc n) (f a) (f b)) <ℤ pos N)
+        (λ b. dot (suc n) (lin (suc n) (pos N) W (negsuc 0) (f a)) (f b) <ℤ pos 0) xs
         (λ b h k. below_eq _ _ (dot_lin (suc n) (pos N) (negsuc 0) W (f a) (f b)) (lifted_below N _ _ (below_eq _ _ (c.lifts s.w (f b)) h) k))
         s.below (bound (λ b. dot (suc n) (f a) (f b)) xs).1,
   );
@@ -168,18 +173,23 @@ mixed {A} n f a xs s l c m = record {
   among = (inl refl, among_more a xs _ (among_scaled (suc c.scale) xs m.terms m.among));
   few = omega (arith, count_scaled (suc c.scale) m.terms, m.few);
   heavy = omega arith;
-  sums = λ u. ap (λ t. pos (suc κ.0) *ℤ dot (suc n) u (f a) +ℤ t) (total_scaled (suc c.scale) (λ b. dot (suc n) u (f b)) m.terms ∙ law u ∙ ap (λ t. dot (suc n) u (f a) *ℤ t) κ.1) ∙ two_cancel κ.0 _;
+  sums = λ u. ap (λ t. pos (suc κ.0) *ℤ dot (suc n) u (f a) +ℤ t)
+      (total_scaled (suc c.scale) (λ b. dot (suc n) u (f b)) m.terms ∙ law u ∙ ap (λ t. dot (suc n) u (f a) *ℤ t) κ.1)
+      ∙ two_cancel κ.0 _;
 }
   where
     K : ℤ
     K = total (λ b. dot (suc n) c.along (f b)) m.terms
 
     law : (u : V (suc n)) → pos (suc c.scale) *ℤ total (λ b. dot (suc n) u (f b)) m.terms ≡ dot (suc n) u (f a) *ℤ K
-    law u = total_linear (pos (suc c.scale)) (dot (suc n) u (f a)) (λ b. dot (suc n) u (f b)) (λ b. dot (suc n) c.along (f b)) (λ b. dot n (c.rest u) (c.project (f b))) (λ b. c.splits u (f b)) m.terms
+    law u = total_linear (pos (suc c.scale)) (dot (suc n) u (f a)) (λ b. dot (suc n) u (f b))
+        (λ b. dot (suc n) c.along (f b)) (λ b. dot n (c.rest u) (c.project (f b))) (λ b. c.splits u (f b)) m.terms
         ∙ ap (λ t. dot (suc n) u (f a) *ℤ K +ℤ t) (m.sums (c.rest u)) ∙ +ℤ_idr _
 
     κ : (k : ℕ) × (K ≡ negsuc k)
-    κ = sign c.scale (total (λ b. dot (suc n) s.w (f b)) m.terms) (dot (suc n) s.w (f a)) K (law s.w) (weight_below (weight m.terms) _ m.heavy (total_below (λ b. dot (suc n) s.w (f b)) xs m.terms s.below m.among)) l
+    κ = sign c.scale (total (λ b. dot (suc n) s.w (f b)) m.terms) (dot (suc n) s.w (f a)) K (law s.w)
+        (weight_below (weight m.terms) _ m.heavy (total_below (λ b. dot (suc n) s.w (f b)) xs m.terms s.below m.among))
+        l
 
 -- a balanced list, with one more
 with_more : {A : Type 0} (n : ℕ) (f : A → V n) (a : A) (xs : List A) → Balanced A n f xs → Balanced A n f (a ∷ xs)
@@ -191,7 +201,8 @@ Claim A n = (f : A → V n) (xs : List A) → Balanced A n f xs ⊎ Separated A 
 
 -- one more vector, by the answer one dimension lower
 projected : {A : Type 0} (n : ℕ) (f : A → V (suc n)) (a : A) (xs : List A) (s : Separated A (suc n) f xs) → pos 0 ≤ℤ dot (suc n) s.w (f a)
-    → (c : Cut n (f a)) → Balanced A n (λ b. c.project (f b)) xs ⊎ Separated A n (λ b. c.project (f b)) xs → Balanced A (suc n) f (a ∷ xs) ⊎ Separated A (suc n) f (a ∷ xs)
+    → (c : Cut n (f a)) → Balanced A n (λ b. c.project (f b)) xs ⊎ Separated A n (λ b. c.project (f b)) xs
+    → Balanced A (suc n) f (a ∷ xs) ⊎ Separated A (suc n) f (a ∷ xs)
 projected n f a xs s l c (inl m) = inl (mixed n f a xs s l c m)
 projected n f a xs s l c (inr p) = inr (parted n f a xs c p)
 
@@ -202,9 +213,13 @@ flat_or_cut n low f a xs s l (inl z) = inl (alone (suc n) f a xs z)
 flat_or_cut n low f a xs s l (inr c) = projected n f a xs s l c (low (λ b. c.project (f b)) xs)
 
 -- it is below 0 as well, or not
-one_more : {A : Type 0} (n : ℕ) → Claim A n → (f : A → V (suc n)) (a : A) (xs : List A) → Balanced A (suc n) f xs ⊎ Separated A (suc n) f xs → Balanced A (suc n) f (a ∷ xs) ⊎ Separated A (suc n) f (a ∷ xs)
+one_more : {A : Type 0} (n : ℕ) → Claim A n → (f : A → V (suc n)) (a : A) (xs : List A)
+    → Balanced A (suc n) f xs ⊎ Separated A (suc n) f xs
+    → Balanced A (suc n) f (a ∷ xs) ⊎ Separated A (suc n) f (a ∷ xs)
 one_more n low f a xs (inl m) = inl (with_more (suc n) f a xs m)
-one_more n low f a xs (inr s) = by_lt_z (dot (suc n) s.w (f a)) (pos 0) (λ h. inr (record { w = s.w; below = (h, s.below) })) (λ l. flat_or_cut n low f a xs s l (cut n (f a)))
+one_more n low f a xs (inr s) =
+    by_lt_z (dot (suc n) s.w (f a)) (pos 0) (λ h. inr (record { w = s.w; below = (h, s.below) }))
+    (λ l. flat_or_cut n low f a xs s l (cut n (f a)))
 
 -- the answer in dimension n + 1 from that in n
 step : {A : Type 0} (n : ℕ) → Claim A n → Claim A (suc n)

@@ -11,7 +11,9 @@ use Rattle.qh_model.specs.headline.Combination.{Combination}
 use Rattle.qh_model.specs.headline.Extreme.{Extreme}
 use Rattle.qh_model.specs.laws.DimensionLaws.{DimensionIsUnique, DimensionOfExtremes}
 use Rattle.qh_model.proofs.algebra.Order.{zero_or_not}
-use Rattle.qh_model.proofs.algebra.VectorIdentities.{vector_path, vol-linear, vol-first_last, vol-second_last, vol-third_last, left-dot, left-linear, left-turn, in_line-vol, in_line-left, in_line-twice, opposite, dot-opposite}
+use Rattle.qh_model.proofs.algebra.VectorIdentities.{vector_path, vol-linear, vol-first_last, vol-second_last}
+use Rattle.qh_model.proofs.algebra.VectorIdentities.{vol-third_last, left-dot, left-linear, left-turn, in_line-vol}
+use Rattle.qh_model.proofs.algebra.VectorIdentities.{in_line-left, in_line-twice, opposite, dot-opposite}
 use Rattle.qh_model.proofs.algebra.Ring.{equal_from_zero}
 use Rattle.qh_model.proofs.extremes.ExtremeIds.{listed_itself, combination_of_extremes}
 use Rattle.qh_model.proofs.extremes.AffineForms.{Form, form_as, NonZero, non_zero_member}
@@ -27,19 +29,29 @@ vol_form a b c = record { u = cross a b c; c = neg_ℤ (dot (cross a b c) a); is
 
 -- a set with a tetrahedron has one of what combines to it
 pub tetrahedron_of : (at : ℕ → Vector) (A E : ℕ → Type 0) → AreCombinations at A E → HasTetrahedron at A → HasTetrahedron at E
-tetrahedron_of at A E m h = fourth (non_zero_member at E (at h.l) (m h.l h.has_l) (vol (at h.i) (at h.j) (at h.k)) (vol_form (at h.i) (at h.j) (at h.k)) h.volume)
+tetrahedron_of at A E m h =
+    fourth (non_zero_member at E (at h.l) (m h.l h.has_l) (vol (at h.i) (at h.j) (at h.k))
+    (vol_form (at h.i) (at h.j) (at h.k)) h.volume)
   where
     first : (l' k' j' : ℕ) → E l' → E k' → E j' → NonZero at E (λ q. vol q (at j') (at k') (at l')) → HasTetrahedron at E
     first l' k' j' el ek ej r = record { i = r.e; j = j'; k = k'; l = l'; has_i = r.has; has_j = ej; has_k = ek; has_l = el; volume = r.differs }
 
     second : (l' k' : ℕ) → E l' → E k' → NonZero at E (λ q. vol (at h.i) q (at k') (at l')) → HasTetrahedron at E
-    second l' k' el ek r = first l' k' r.e el ek r.has (non_zero_member at E (at h.i) (m h.i h.has_i) (λ q. vol q (at r.e) (at k') (at l')) (form_as _ _ (vol_form (at l') (at k') (at r.e)) (λ q. vol-first_last q (at r.e) (at k') (at l'))) r.differs)
+    second l' k' el ek r =
+        first l' k' r.e el ek r.has
+        (non_zero_member at E (at h.i) (m h.i h.has_i) (λ q. vol q (at r.e) (at k') (at l'))
+        (form_as _ _ (vol_form (at l') (at k') (at r.e)) (λ q. vol-first_last q (at r.e) (at k') (at l'))) r.differs)
 
     third : (l' : ℕ) → E l' → NonZero at E (λ q. vol (at h.i) (at h.j) q (at l')) → HasTetrahedron at E
-    third l' el r = second l' r.e el r.has (non_zero_member at E (at h.j) (m h.j h.has_j) (λ q. vol (at h.i) q (at r.e) (at l')) (form_as _ _ (vol_form (at r.e) (at l') (at h.i)) (λ q. vol-second_last (at h.i) q (at r.e) (at l'))) r.differs)
+    third l' el r = second l' r.e el r.has
+        (non_zero_member at E (at h.j) (m h.j h.has_j) (λ q. vol (at h.i) q (at r.e) (at l'))
+        (form_as _ _ (vol_form (at r.e) (at l') (at h.i)) (λ q. vol-second_last (at h.i) q (at r.e) (at l'))) r.differs)
 
     fourth : NonZero at E (vol (at h.i) (at h.j) (at h.k)) → HasTetrahedron at E
-    fourth r = third r.e r.has (non_zero_member at E (at h.k) (m h.k h.has_k) (λ q. vol (at h.i) (at h.j) q (at r.e)) (form_as _ _ (vol_form (at h.j) (at h.i) (at r.e)) (λ q. vol-third_last (at h.i) (at h.j) q (at r.e))) r.differs)
+    fourth r = third r.e r.has
+        (non_zero_member at E (at h.k) (m h.k h.has_k) (λ q. vol (at h.i) (at h.j) q (at r.e))
+        (form_as _ _ (vol_form (at h.j) (at h.i) (at r.e)) (λ q. vol-third_last (at h.i) (at h.j) q (at r.e)))
+        r.differs)
 
 -- ---- the three axes
 -- the first axis
@@ -99,17 +111,32 @@ left_form : (n a b : Vector) → Form (left n a b)
 left_form n a b = record { u = cross_product n (minus b a); c = neg_ℤ (dot (cross_product n (minus b a)) a); is = λ q. left-linear n a b q }
 
 -- a triangle with a turn about n
-triangle_about : (at : ℕ → Vector) (A E : ℕ → Type 0) → AreCombinations at A E → (h : HasTriangle at A) (n : Vector) → left n (at h.i) (at h.j) (at h.k) ≢ pos 0 → HasTriangle at E
+triangle_about : (at : ℕ → Vector) (A E : ℕ → Type 0) → AreCombinations at A E → (h : HasTriangle at A) (n : Vector)
+    → left n (at h.i) (at h.j) (at h.k) ≢ pos 0 → HasTriangle at E
 triangle_about at A E m h n d = third (non_zero_member at E (at h.k) (m h.k h.has_k) (left n (at h.i) (at h.j)) (left_form n (at h.i) (at h.j)) d)
   where
     first : (k' j' : ℕ) → E k' → E j' → NonZero at E (λ q. left n q (at j') (at k')) → HasTriangle at E
-    first k' j' ek ej r = record { i = r.e; j = j'; k = k'; has_i = r.has; has_j = ej; has_k = ek; area = λ e. r.differs (in_line-left n (at r.e) (at j') (at k') e) }
+    first k' j' ek ej r =
+        record {
+          i = r.e;
+          j = j';
+          k = k';
+          has_i = r.has;
+          has_j = ej;
+          has_k = ek;
+          area = λ e. r.differs (in_line-left n (at r.e) (at j') (at k') e);
+        }
 
     second : (k' : ℕ) → E k' → NonZero at E (λ q. left n (at h.i) q (at k')) → HasTriangle at E
-    second k' ek r = first k' r.e ek r.has (non_zero_member at E (at h.i) (m h.i h.has_i) (λ q. left n q (at r.e) (at k')) (form_as _ _ (left_form n (at r.e) (at k')) (λ q. left-turn n q (at r.e) (at k'))) r.differs)
+    second k' ek r = first k' r.e ek r.has
+        (non_zero_member at E (at h.i) (m h.i h.has_i) (λ q. left n q (at r.e) (at k'))
+        (form_as _ _ (left_form n (at r.e) (at k')) (λ q. left-turn n q (at r.e) (at k'))) r.differs)
 
     third : NonZero at E (left n (at h.i) (at h.j)) → HasTriangle at E
-    third r = second r.e r.has (non_zero_member at E (at h.j) (m h.j h.has_j) (λ q. left n (at h.i) q (at r.e)) (form_as _ _ (left_form n (at r.e) (at h.i)) (λ q. left-turn n (at h.i) q (at r.e) ∙ left-turn n q (at r.e) (at h.i))) r.differs)
+    third r = second r.e r.has
+        (non_zero_member at E (at h.j) (m h.j h.has_j) (λ q. left n (at h.i) q (at r.e))
+        (form_as _ _ (left_form n (at r.e) (at h.i))
+        (λ q. left-turn n (at h.i) q (at r.e) ∙ left-turn n q (at r.e) (at h.i))) r.differs)
 
 -- a set with a triangle has one of what combines to it
 pub triangle_of : (at : ℕ → Vector) (A E : ℕ → Type 0) → AreCombinations at A E → HasTriangle at A → HasTriangle at E
@@ -122,7 +149,9 @@ triangle_of at A E m h = along (differ (cross (at h.i) (at h.j) (at h.k)) origin
     nothing n = omega (arith, ints)
 
     along : Differ (cross (at h.i) (at h.j) (at h.k)) origin → HasTriangle at E
-    along d = triangle_about at A E m h d.axis (λ e. d.differs (commuted d.axis (cross (at h.i) (at h.j) (at h.k)) origin ∙ sym (left-dot d.axis (at h.i) (at h.j) (at h.k)) ∙ e ∙ sym (nothing d.axis)))
+    along d = triangle_about at A E m h d.axis
+        (λ e. d.differs (commuted d.axis (cross (at h.i) (at h.j) (at h.k)) origin
+        ∙ sym (left-dot d.axis (at h.i) (at h.j) (at h.k)) ∙ e ∙ sym (nothing d.axis)))
 
 -- ---- two points
 -- a set of two has two of what combines to it
@@ -139,22 +168,57 @@ segment_of at A E d m h = along (differ (at h.i) (at h.j) (λ e. h.differ (d h.i
     none a b e = omega (arith, ints)
 
     second : (u : Vector) (i' : ℕ) → E i' → NonZero at E (λ q. dot u (at i') -ℤ dot u q) → HasSegment E
-    second u i' ei r = record { i = i'; j = r.e; has_i = ei; has_j = r.has; differ = λ e. r.differs (none (dot u (at i')) (dot u (at r.e)) (ap (λ t. dot u (at t)) e)) }
+    second u i' ei r = record {
+      i = i';
+      j = r.e;
+      has_i = ei;
+      has_j = r.has;
+      differ = λ e. r.differs (none (dot u (at i')) (dot u (at r.e)) (ap (λ t. dot u (at t)) e));
+    }
 
     first : (u : Vector) → NonZero at E (λ q. dot u q -ℤ dot u (at h.j)) → HasSegment E
-    first u r = second u r.e r.has (non_zero_member at E (at h.j) (m h.j h.has_j) (λ q. dot u (at r.e) -ℤ dot u q) (record { u = opposite u; c = dot u (at r.e); is = λ q. turned (dot u (at r.e)) (dot u q) (dot (opposite u) q) (dot-opposite u q) }) r.differs)
+    first u r = second u r.e r.has
+        (non_zero_member at E (at h.j) (m h.j h.has_j) (λ q. dot u (at r.e) -ℤ dot u q)
+        (record {
+          u = opposite u;
+          c = dot u (at r.e);
+          is = λ q. turned (dot u (at r.e)) (dot u q) (dot (opposite u) q) (dot-opposite u q);
+        }) r.differs)
 
     along : Differ (at h.i) (at h.j) → HasSegment E
-    along k = first k.axis (non_zero_member at E (at h.i) (m h.i h.has_i) (λ q. dot k.axis q -ℤ dot k.axis (at h.j)) (record { u = k.axis; c = neg_ℤ (dot k.axis (at h.j)); is = λ q. plus_neg (dot k.axis q) (dot k.axis (at h.j)) }) (λ e. k.differs (equal_from_zero (dot k.axis (at h.i)) (dot k.axis (at h.j)) e)))
+    along k = first k.axis
+        (non_zero_member at E (at h.i) (m h.i h.has_i) (λ q. dot k.axis q -ℤ dot k.axis (at h.j))
+        (record {
+          u = k.axis;
+          c = neg_ℤ (dot k.axis (at h.j));
+          is = λ q. plus_neg (dot k.axis q) (dot k.axis (at h.j));
+        }) (λ e.
+        k.differs (equal_from_zero (dot k.axis (at h.i)) (dot k.axis (at h.j)) e)))
 
 -- ---- one dimension
 -- corners of a tetrahedron are not in line, and corners of a triangle differ
 pub triangle_of_tetrahedron : (at : ℕ → Vector) (A : ℕ → Type 0) → HasTetrahedron at A → HasTriangle at A
-triangle_of_tetrahedron at A h = record { i = h.i; j = h.j; k = h.k; has_i = h.has_i; has_j = h.has_j; has_k = h.has_k; area = λ e. h.volume (in_line-vol (at h.i) (at h.j) (at h.k) (at h.l) e) }
+triangle_of_tetrahedron at A h =
+    record {
+      i = h.i;
+      j = h.j;
+      k = h.k;
+      has_i = h.has_i;
+      has_j = h.has_j;
+      has_k = h.has_k;
+      area = λ e. h.volume (in_line-vol (at h.i) (at h.j) (at h.k) (at h.l) e);
+    }
 
 -- two corners of a triangle
 pub segment_of_triangle : (at : ℕ → Vector) (A : ℕ → Type 0) → HasTriangle at A → HasSegment A
-segment_of_triangle at A h = record { i = h.i; j = h.j; has_i = h.has_i; has_j = h.has_j; differ = λ e. h.area (subst (λ t. AreInLine (at h.i) (at t) (at h.k)) e (in_line-twice (at h.i) (at h.k))) }
+segment_of_triangle at A h =
+    record {
+      i = h.i;
+      j = h.j;
+      has_i = h.has_i;
+      has_j = h.has_j;
+      differ = λ e. h.area (subst (λ t. AreInLine (at h.i) (at t) (at h.k)) e (in_line-twice (at h.i) (at h.k)));
+    }
 
 -- the dimension is one
 pub one_dimension : (at : ℕ → Vector) (A : ℕ → Type 0) (k l : ℕ) → IsDimension at A k → IsDimension at A l → k ≡ l
@@ -185,7 +249,8 @@ abbrev pub Both : Type 0 → Type 0 → Type 0
 Both P Q = (P → Q) × (Q → P)
 
 -- the dimension of another set with the same, of other points too
-pub dimension_as : (at at' : ℕ → Vector) (A B : ℕ → Type 0) → Both (HasTetrahedron at A) (HasTetrahedron at' B) → Both (HasTriangle at A) (HasTriangle at' B) → Both (HasSegment A) (HasSegment B)
+pub dimension_as : (at at' : ℕ → Vector) (A B : ℕ → Type 0) → Both (HasTetrahedron at A) (HasTetrahedron at' B)
+    → Both (HasTriangle at A) (HasTriangle at' B) → Both (HasSegment A) (HasSegment B)
     → (k : ℕ) → IsDimension at A k → IsDimension at' B k
 dimension_as at at' A B f g h k (inl (e, t)) = inl (e, f.0 t)
 dimension_as at at' A B f g h k (inr (inl (e, t, n))) = inr (inl (e, g.0 t, λ u. n (f.1 u)))

@@ -5,10 +5,12 @@ use Rattle.std.specs.Prelude.{ℤ, pos, negsuc, ◌+ℤ◌, ◌*ℤ◌, neg_ℤ,
 use Rattle.qh_model.specs.headline.Vector.{Vector, origin, minus, cross_product, dot}
 use Rattle.qh_model.specs.headline.Predicates.{cross, vol, left, AreInLine}
 use Rattle.qh_model.specs.laws.FaceLaws.{IsAlong}
-use Rattle.qh_model.proofs.algebra.Order.{mul-nonneg, mul-pos, cancel-nonneg, cancel-nonpos, cancel-pos, cancel-zero, le_antisym, square-nonneg, neg-positive, product_zero}
+use Rattle.qh_model.proofs.algebra.Order.{mul-nonneg, mul-pos, cancel-nonneg, cancel-nonpos, cancel-pos, cancel-zero}
+use Rattle.qh_model.proofs.algebra.Order.{le_antisym, square-nonneg, neg-positive, product_zero}
 use Rattle.qh_model.proofs.algebra.Ring.{ring}
 use Rattle.qh_model.proofs.algebra.Ring.Expr.{var, con, add, sub as less, mul, neg}
-use Rattle.qh_model.proofs.algebra.VectorIdentities.{vec, put, dotE, crossE, subE, combine3, opposite, vector_path, dot-minus, vol-dot, vol-linear, left-dot, dot_comm}
+use Rattle.qh_model.proofs.algebra.VectorIdentities.{vec, put, dotE, crossE, subE, combine3, opposite, vector_path}
+use Rattle.qh_model.proofs.algebra.VectorIdentities.{dot-minus, vol-dot, vol-linear, left-dot, dot_comm}
 use Rattle.qh_model.proofs.algebra.Signs.{equal_nonpos, equal_positive}
 use Rattle.qh_model.proofs.algebra.Integers.{zero_mul}
 
@@ -33,7 +35,9 @@ at_least_along s t v w h k e l = cancel-nonneg (pos t) w (positive_factor t k) (
 
 -- above 0
 pub positive_along : (s t : ℕ) (v w : ℤ) → 0 < s → 0 < t → pos s *ℤ v ≡ pos t *ℤ w → pos 0 <ℤ v → pos 0 <ℤ w
-positive_along s t v w h k e l = cancel-pos (pos t) w (positive_factor t k) (equal_positive (pos s *ℤ v) (pos t *ℤ w) e (mul-pos (pos s) v (positive_factor s h) l))
+positive_along s t v w h k e l =
+    cancel-pos (pos t) w (positive_factor t k)
+    (equal_positive (pos s *ℤ v) (pos t *ℤ w) e (mul-pos (pos s) v (positive_factor s h) l))
 
 -- 0
 pub zero_along : (s t : ℕ) (v w : ℤ) → 0 < t → pos s *ℤ v ≡ pos t *ℤ w → v ≡ pos 0 → w ≡ pos 0
@@ -55,7 +59,8 @@ dot_along n m h q =
 -- turns
 pub left_along : (n m : Vector) (h : IsAlong n m) (u v w : Vector) → pos h.s *ℤ left n u v w ≡ pos h.t *ℤ left m u v w
 left_along n m h u v w =
-    ap (λ x. pos h.s *ℤ x) (left-dot n u v w ∙ dot_comm (cross u v w) n) ∙ dot_along n m h (cross u v w) ∙ ap (λ x. pos h.t *ℤ x) (dot_comm m (cross u v w) ∙ sym (left-dot m u v w))
+    ap (λ x. pos h.s *ℤ x) (left-dot n u v w ∙ dot_comm (cross u v w) n) ∙ dot_along n m h (cross u v w)
+    ∙ ap (λ x. pos h.t *ℤ x) (dot_comm m (cross u v w) ∙ sym (left-dot m u v w))
 
 -- the other way round
 pub along_back : (n m : Vector) → IsAlong n m → IsAlong m n
@@ -75,11 +80,17 @@ parallel_product n p q h k =
     let env = put n (put p (put q [])) in
     record {
       x = combine3 (dot n n *ℤ r.x) (dot n r *ℤ n.x) a.x (dot n q) (pos 0) (neg_ℤ b.x) (dot n p) (pos 0) (pos 0) (pos 0) (pos 0)
-          (ring env (less (mul (dotE N N) R.x) (mul (dotE N R) N.x)) (add (add (mul A.x (less (dotE N Q) O)) (mul (neg B.x) (less (dotE N P) O))) (mul O (less O O))) refl) k h refl;
+          (ring env (less (mul (dotE N N) R.x) (mul (dotE N R) N.x))
+          (add (add (mul A.x (less (dotE N Q) O)) (mul (neg B.x) (less (dotE N P) O))) (mul O (less O O))) refl) k h
+          refl;
       y = combine3 (dot n n *ℤ r.y) (dot n r *ℤ n.y) a.y (dot n q) (pos 0) (neg_ℤ b.y) (dot n p) (pos 0) (pos 0) (pos 0) (pos 0)
-          (ring env (less (mul (dotE N N) R.y) (mul (dotE N R) N.y)) (add (add (mul A.y (less (dotE N Q) O)) (mul (neg B.y) (less (dotE N P) O))) (mul O (less O O))) refl) k h refl;
+          (ring env (less (mul (dotE N N) R.y) (mul (dotE N R) N.y))
+          (add (add (mul A.y (less (dotE N Q) O)) (mul (neg B.y) (less (dotE N P) O))) (mul O (less O O))) refl) k h
+          refl;
       z = combine3 (dot n n *ℤ r.z) (dot n r *ℤ n.z) a.z (dot n q) (pos 0) (neg_ℤ b.z) (dot n p) (pos 0) (pos 0) (pos 0) (pos 0)
-          (ring env (less (mul (dotE N N) R.z) (mul (dotE N R) N.z)) (add (add (mul A.z (less (dotE N Q) O)) (mul (neg B.z) (less (dotE N P) O))) (mul O (less O O))) refl) k h refl;
+          (ring env (less (mul (dotE N N) R.z) (mul (dotE N R) N.z))
+          (add (add (mul A.z (less (dotE N Q) O)) (mul (neg B.z) (less (dotE N P) O))) (mul O (less O O))) refl) k h
+          refl;
     }
 
 -- the normal of a triangle at right angles to n
@@ -126,7 +137,9 @@ square-positive n h = by_lt_z (pos 0) (dot n n) (λ q. q) (λ q. absurd (h (flat
 -- a vector parallel to n has its direction or the opposite one
 pub along_or_opposite : (n r : Vector) → n ≢ origin → r ≢ origin → Parallel n r → IsAlong n r ⊎ IsAlong n (opposite r)
 along_or_opposite n r h k e = by_lt_z (pos 0) s (λ l. inl (along_by n r s t l p (sym e.x) (sym e.y) (sym e.z)))
-    (λ l. by_lt_z s (pos 0) (λ q. inr (along_by n (opposite r) (neg_ℤ s) t (above q) p (turned n.x r.x e.x) (turned n.y r.y e.y) (turned n.z r.z e.z))) (λ q. absurd (k (flat (le_antisym s (pos 0) l q)))))
+    (λ l. by_lt_z s (pos 0)
+    (λ q. inr (along_by n (opposite r) (neg_ℤ s) t (above q) p (turned n.x r.x e.x) (turned n.y r.y e.y)
+    (turned n.z r.z e.z))) (λ q. absurd (k (flat (le_antisym s (pos 0) l q)))))
   where
     s : ℤ
     s = dot n r
@@ -145,7 +158,8 @@ along_or_opposite n r h k e = by_lt_z (pos 0) s (λ l. inl (along_by n r s t l p
       where
         signs : (s t x y : ℤ) → t *ℤ y ≡ s *ℤ x → neg_ℤ s *ℤ x ≡ t *ℤ neg_ℤ y
         signs s t x y e =
-            ring (s ∷ t ∷ x ∷ y ∷ []) (mul (neg (var 0)) (var 2)) (neg (mul (var 0) (var 2))) refl ∙ ap neg_ℤ (sym e) ∙ ring (s ∷ t ∷ x ∷ y ∷ []) (neg (mul (var 1) (var 3))) (mul (var 1) (neg (var 3))) refl
+            ring (s ∷ t ∷ x ∷ y ∷ []) (mul (neg (var 0)) (var 2)) (neg (mul (var 0) (var 2))) refl ∙ ap neg_ℤ (sym e)
+            ∙ ring (s ∷ t ∷ x ∷ y ∷ []) (neg (mul (var 1) (var 3))) (mul (var 1) (neg (var 3))) refl
 
     none : (x y : ℤ) → t *ℤ y ≡ s *ℤ x → s ≡ pos 0 → y ≡ pos 0
     none x y e z = cancel-zero t y p (e ∙ ap (λ v. v *ℤ x) z ∙ zero_mul x)
@@ -166,7 +180,9 @@ cross-flip a b c =
 
 -- three points are in line either way
 pub in_line-flip : (a b c : Vector) → AreInLine a c b → AreInLine a b c
-in_line-flip a b c e = vector_path (cross a b c) origin (plain (cross a b c).x (ap (λ v. v.x) back)) (plain (cross a b c).y (ap (λ v. v.y) back)) (plain (cross a b c).z (ap (λ v. v.z) back))
+in_line-flip a b c e =
+    vector_path (cross a b c) origin (plain (cross a b c).x (ap (λ v. v.x) back))
+    (plain (cross a b c).y (ap (λ v. v.y) back)) (plain (cross a b c).z (ap (λ v. v.z) back))
   where
     back : opposite (cross a b c) ≡ origin
     back = sym (cross-flip a b c) ∙ e
@@ -185,14 +201,17 @@ normal_along n a b c h k e f = either (along_or_opposite n (cross a b c) h k (pa
 
 -- the difference of two points from one of them in the plane
 pub from_plane : (a b c p l : Vector) → vol a b c p ≡ pos 0 → dot (cross a b c) (minus l p) ≡ vol a b c l
-from_plane a b c p l z = level (vol a b c l) (vol a b c p) (dot (cross a b c) l) (dot (cross a b c) p) (dot (cross a b c) a) _ (vol-linear a b c l) (vol-linear a b c p) (dot-minus (cross a b c) l p) z
+from_plane a b c p l z =
+    level (vol a b c l) (vol a b c p) (dot (cross a b c) l) (dot (cross a b c) p) (dot (cross a b c) a) _
+    (vol-linear a b c l) (vol-linear a b c p) (dot-minus (cross a b c) l p) z
   where
     level : (v w d e f m : ℤ) → v ≡ d +ℤ neg_ℤ f → w ≡ e +ℤ neg_ℤ f → m ≡ d +ℤ neg_ℤ e → w ≡ pos 0 → m ≡ v
     level v w d e f m h k l z = omega (arith, ints)
 
 -- volumes over two triangles of one plane and one direction
 pub vol_along : (a b c u v w l : Vector) (h : IsAlong (cross a b c) (cross u v w)) → vol a b c u ≡ pos 0 → pos h.s *ℤ vol a b c l ≡ pos h.t *ℤ vol u v w l
-vol_along a b c u v w l h z = ap (λ t. pos h.s *ℤ t) (sym (from_plane a b c u l z)) ∙ dot_along (cross a b c) (cross u v w) h (minus l u) ∙ ap (λ t. pos h.t *ℤ t) (sym (vol-dot u v w l))
+vol_along a b c u v w l h z = ap (λ t. pos h.s *ℤ t) (sym (from_plane a b c u l z))
+    ∙ dot_along (cross a b c) (cross u v w) h (minus l u) ∙ ap (λ t. pos h.t *ℤ t) (sym (vol-dot u v w l))
 
 -- each direction is its own
 pub along_itself : (n : Vector) → IsAlong n n

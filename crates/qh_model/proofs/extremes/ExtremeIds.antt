@@ -41,7 +41,9 @@ abbrev bent : Vector → V 4 → Vector
 bent w u = record { x = u.0 *ℤ w.x +ℤ u.1.0; y = u.0 *ℤ w.y +ℤ u.1.1.0; z = u.0 *ℤ w.z +ℤ u.1.1.1.0 }
 
 -- a step of the next
-bent_step : (n a b c u v w x y z : ℤ) → (n *ℤ u +ℤ a) *ℤ x +ℤ (n *ℤ v +ℤ b) *ℤ y +ℤ (n *ℤ w +ℤ c) *ℤ z ≡ n *ℤ (u *ℤ x +ℤ v *ℤ y +ℤ w *ℤ z) +ℤ (a *ℤ x +ℤ (b *ℤ y +ℤ (c *ℤ z +ℤ pos 0)))
+bent_step : (n a b c u v w x y z : ℤ)
+    → (n *ℤ u +ℤ a) *ℤ x +ℤ (n *ℤ v +ℤ b) *ℤ y +ℤ (n *ℤ w +ℤ c) *ℤ z
+    ≡ n *ℤ (u *ℤ x +ℤ v *ℤ y +ℤ w *ℤ z) +ℤ (a *ℤ x +ℤ (b *ℤ y +ℤ (c *ℤ z +ℤ pos 0)))
 bent_step n a b c u v w x y z = simp ring_rules (omega (arith, ints))
 
 -- its scalar product
@@ -60,11 +62,11 @@ unbottom T (inr t) = t
 -- what comes strictly before p, by keys of which each functional is one of the points, does not mix to p
 pub no_combination_by : (n : ℕ) (key : Vector → V n) (bend : V n → Vector) → ((u : V n) (p : Vector) → dot (bend u) p ≡ vdot n u (key p))
     → (at : ℕ → Vector) (A : ℕ → Type 0) (p : Vector) → ((j : ℕ) → A j → Less n (key (at j)) (key p)) → ¬ (Combination at A p)
-no_combination_by n key bend e at A p h m = go (collapse n (λ j. ⊥) (λ j. key (at j)) (key p) (m.a ∷ m.b ∷ m.c ∷ m.d ∷ [])
+no_combination_by n key bend e at A p h m = from_witness (collapse n (λ j. ⊥) (λ j. key (at j)) (key p) (m.a ∷ m.b ∷ m.c ∷ m.d ∷ [])
     (inr (h m.a m.has_a), (inr (h m.b m.has_b), (inr (h m.c m.has_c), (inr (h m.d m.has_d), tt)))))
   where
-    go : (U : V n) × Every (λ j. ⊥ ⊎ (vdot n U (key (at j)) <ℤ vdot n U (key p))) (m.a ∷ m.b ∷ m.c ∷ m.d ∷ []) → ⊥
-    go r = all_lower at A p (bend r.0) m (less m.a r.1.0) (less m.b r.1.1.0) (less m.c r.1.1.1.0) (less m.d r.1.1.1.1.0)
+    from_witness : (U : V n) × Every (λ j. ⊥ ⊎ (vdot n U (key (at j)) <ℤ vdot n U (key p))) (m.a ∷ m.b ∷ m.c ∷ m.d ∷ []) → ⊥
+    from_witness r = all_lower at A p (bend r.0) m (less m.a r.1.0) (less m.b r.1.1.0) (less m.c r.1.1.1.0) (less m.d r.1.1.1.1.0)
       where
         less : (j : ℕ) → ⊥ ⊎ (vdot n r.0 (key (at j)) <ℤ vdot n r.0 (key p)) → dot (bend r.0) (at j) <ℤ dot (bend r.0) p
         less j l = lt_by _ _ _ _ (e r.0 (at j)) (e r.0 p) (unbottom _ l)
@@ -92,19 +94,19 @@ combination_within at A B p m f = combination_by_names at at A B (λ j. j) f (λ
 
 -- a listed set combines to p or is separated from it
 pub alternative_in : (at : ℕ → Vector) (A : ℕ → Type 0) (xs : List ℕ) → Listed A xs → (p : Vector) → Combination at A p ⊎ Separator at A p
-alternative_in at A xs l p = go (combination_or_separator at xs p)
+alternative_in at A xs l p = by_cases (combination_or_separator at xs p)
   where
-    go : Combination at (Members xs) p ⊎ Separator at (Members xs) p → Combination at A p ⊎ Separator at A p
-    go (inl m) = inl (combination_within at (Members xs) A p m (λ j c. (l j).1 c))
-    go (inr s) = inr (record { w = s.w; past = λ a h. s.past a ((l a).0 h) })
+    by_cases : Combination at (Members xs) p ⊎ Separator at (Members xs) p → Combination at A p ⊎ Separator at A p
+    by_cases (inl m) = inl (combination_within at (Members xs) A p m (λ j c. (l j).1 c))
+    by_cases (inr s) = inr (record { w = s.w; past = λ a h. s.past a ((l a).0 h) })
 
 -- the members that pass a test, listed
 sifted : (P : ℕ → Type 0) → ((i : ℕ) → P i ⊎ (¬ (P i))) → (xs : List ℕ) → (ys : List ℕ) × Listed (λ j. In j xs × P j) ys
 sifted P D [] = ([], λ j. (λ h. absurd h.0, λ m. absurd m))
-sifted P D (x ∷ xs) = go x xs (D x) (sifted P D xs)
+sifted P D (x ∷ xs) = with_first x xs (D x) (sifted P D xs)
   where
-    go : (x : ℕ) (xs : List ℕ) → P x ⊎ (¬ (P x)) → (ys : List ℕ) × Listed (λ j. In j xs × P j) ys → (ys : List ℕ) × Listed (λ j. In j (x ∷ xs) × P j) ys
-    go x xs (inl p) (ys, l) = (x ∷ ys, λ j. (into j, out j))
+    with_first : (x : ℕ) (xs : List ℕ) → P x ⊎ (¬ (P x)) → (ys : List ℕ) × Listed (λ j. In j xs × P j) ys → (ys : List ℕ) × Listed (λ j. In j (x ∷ xs) × P j) ys
+    with_first x xs (inl p) (ys, l) = (x ∷ ys, λ j. (into j, out j))
       where
         into : (j : ℕ) → In j (x ∷ xs) × P j → In j (x ∷ ys)
         into j (inl e, q) = inl e
@@ -113,7 +115,7 @@ sifted P D (x ∷ xs) = go x xs (D x) (sifted P D xs)
         out : (j : ℕ) → In j (x ∷ ys) → In j (x ∷ xs) × P j
         out j (inl e) = (inl e, subst P (sym e) p)
         out j (inr m) = (inr ((l j).1 m).0, ((l j).1 m).1)
-    go x xs (inr n) (ys, l) = (ys, λ j. (into j, λ m. (inr ((l j).1 m).0, ((l j).1 m).1)))
+    with_first x xs (inr n) (ys, l) = (ys, λ j. (into j, λ m. (inr ((l j).1 m).0, ((l j).1 m).1)))
       where
         into : (j : ℕ) → In j (x ∷ xs) × P j → In j ys
         into j (inl e, q) = absurd (n (subst P e q))
@@ -121,33 +123,36 @@ sifted P D (x ∷ xs) = go x xs (D x) (sifted P D xs)
 
 -- the part of a listed set that passes a test
 pub listed_part : (A P : ℕ → Type 0) → ((i : ℕ) → P i ⊎ (¬ (P i))) → (xs : List ℕ) → Listed A xs → (ys : List ℕ) × Listed (λ j. A j × P j) ys
-listed_part A P D xs l = go (sifted P D xs)
+listed_part A P D xs l = from_witness (sifted P D xs)
   where
-    go : (ys : List ℕ) × Listed (λ j. In j xs × P j) ys → (ys : List ℕ) × Listed (λ j. A j × P j) ys
-    go (ys, k) = (ys, λ j. (λ h. (k j).0 ((l j).0 h.0, h.1), λ m. ((l j).1 ((k j).1 m).0, ((k j).1 m).1)))
+    from_witness : (ys : List ℕ) × Listed (λ j. In j xs × P j) ys → (ys : List ℕ) × Listed (λ j. A j × P j) ys
+    from_witness (ys, k) = (ys, λ j. (λ h. (k j).0 ((l j).0 h.0, h.1), λ m. ((l j).1 ((k j).1 m).0, ((k j).1 m).1)))
 
 -- two ids are one or not
 pub apart : (i j : ℕ) → (j ≢ i) ⊎ (¬ (j ≢ i))
-apart i j = go (ℕ_discrete j i)
+apart i j = by_decision (ℕ_discrete j i)
   where
-    go : Dec (j ≡ i) → (j ≢ i) ⊎ (¬ (j ≢ i))
-    go (yes e) = inr (λ n. n e)
-    go (no n) = inl n
+    by_decision : Dec (j ≡ i) → (j ≢ i) ⊎ (¬ (j ≢ i))
+    by_decision (yes e) = inr (λ n. n e)
+    by_decision (no n) = inl n
 
 -- whether a member is extreme can be told
-extreme_or_not : (at : ℕ → Vector) (A : ℕ → Type 0) (xs : List ℕ) → Listed A xs → (i : ℕ) → (¬ (Combination at (Others A i) (at i))) ⊎ (¬ (¬ (Combination at (Others A i) (at i))))
-extreme_or_not at A xs l i = go (listed_part A (λ j. j ≢ i) (apart i) xs l)
+extreme_or_not : (at : ℕ → Vector) (A : ℕ → Type 0) (xs : List ℕ) → Listed A xs → (i : ℕ)
+    → (¬ (Combination at (Others A i) (at i))) ⊎ (¬ (¬ (Combination at (Others A i) (at i))))
+extreme_or_not at A xs l i = from_witness (listed_part A (λ j. j ≢ i) (apart i) xs l)
   where
-    sides : Combination at (Others A i) (at i) ⊎ Separator at (Others A i) (at i) → (¬ (Combination at (Others A i) (at i))) ⊎ (¬ (¬ (Combination at (Others A i) (at i))))
+    sides : Combination at (Others A i) (at i) ⊎ Separator at (Others A i) (at i)
+        → (¬ (Combination at (Others A i) (at i))) ⊎ (¬ (¬ (Combination at (Others A i) (at i))))
     sides (inl m) = inr (λ n. n m)
     sides (inr s) = inl (λ m. all_lower at (Others A i) (at i) s.w m (s.past m.a m.has_a) (s.past m.b m.has_b) (s.past m.c m.has_c) (s.past m.d m.has_d))
 
-    go : (ys : List ℕ) × Listed (Others A i) ys → (¬ (Combination at (Others A i) (at i))) ⊎ (¬ (¬ (Combination at (Others A i) (at i))))
-    go (ys, k) = sides (alternative_in at (Others A i) ys k (at i))
+    from_witness : (ys : List ℕ) × Listed (Others A i) ys → (¬ (Combination at (Others A i) (at i))) ⊎ (¬ (¬ (Combination at (Others A i) (at i))))
+    from_witness (ys, k) = sides (alternative_in at (Others A i) ys k (at i))
 
 -- ---- each member is a mix of extremes
 -- the greatest member is extreme
-top_is_extreme : (at : ℕ → Vector) (A : ℕ → Type 0) (xs : List ℕ) → Listed A xs → HasDistinctPoints at A → (w : Vector) (g : Greatest 4 (λ j. key w (at j)) xs) → Extreme at A g.top
+top_is_extreme : (at : ℕ → Vector) (A : ℕ → Type 0) (xs : List ℕ) → Listed A xs → HasDistinctPoints at A
+    → (w : Vector) (g : Greatest 4 (λ j. key w (at j)) xs) → Extreme at A g.top
 top_is_extreme at A xs l d w g = (has, no_combination at (Others A g.top) w (at g.top) (λ j o. before j o (every_at _ xs j g.above ((l j).0 o.0))))
   where
     has : A g.top
@@ -169,18 +174,21 @@ a_greatest key [] i m = absurd m
 a_greatest key (x ∷ xs) i m = greatest 4 key x xs
 
 -- each member of a listed set is a convex combination of its extremes
-pub combination_of_extremes : (at : ℕ → Vector) (A : ℕ → Type 0) (xs : List ℕ) → Listed A xs → HasDistinctPoints at A → (i : ℕ) → A i → Combination at (Extreme at A) (at i)
-combination_of_extremes at A xs l d i h = go (listed_part A (λ j. ¬ (Combination at (Others A j) (at j))) (extreme_or_not at A xs l) xs l)
+pub combination_of_extremes : (at : ℕ → Vector) (A : ℕ → Type 0) (xs : List ℕ) → Listed A xs → HasDistinctPoints at A
+    → (i : ℕ) → A i → Combination at (Extreme at A) (at i)
+combination_of_extremes at A xs l d i h = from_witness (listed_part A (λ j. ¬ (Combination at (Others A j) (at j))) (extreme_or_not at A xs l) xs l)
   where
     sides : Combination at (Extreme at A) (at i) ⊎ Separator at (Extreme at A) (at i) → Combination at (Extreme at A) (at i)
     sides (inl m) = m
     sides (inr s) = absurd (clash (a_greatest (λ j. key s.w (at j)) xs i ((l i).0 h)))
       where
         clash : Greatest 4 (λ j. key s.w (at j)) xs → ⊥
-        clash g = not_above _ _ _ _ (every_at (λ j. AtMost 4 (key s.w (at j)) (key s.w (at g.top))) xs i g.above ((l i).0 h)) (s.past g.top (top_is_extreme at A xs l d s.w g))
+        clash g = not_above _ _ _ _
+            (every_at (λ j. AtMost 4 (key s.w (at j)) (key s.w (at g.top))) xs i g.above ((l i).0 h))
+            (s.past g.top (top_is_extreme at A xs l d s.w g))
 
-    go : (ys : List ℕ) × Listed (Extreme at A) ys → Combination at (Extreme at A) (at i)
-    go (ys, k) = sides (alternative_in at (Extreme at A) ys k (at i))
+    from_witness : (ys : List ℕ) × Listed (Extreme at A) ys → Combination at (Extreme at A) (at i)
+    from_witness (ys, k) = sides (alternative_in at (Extreme at A) ys k (at i))
 
 -- the law
 pub members_are_combinations : MembersAreCombinations
@@ -212,20 +220,21 @@ gathered (suc n) block = block n ++ gathered n block
 -- their members
 in_gathered : (n : ℕ) (block : ℕ → List ℕ) (j k : ℕ) → k < n → In j (block k) → In j (gathered n block)
 in_gathered zero block j k h m = absurd (omega arith)
-in_gathered (suc n) block j k h m = go (ℕ_discrete k n) (λ q. in_gathered n block j k q m)
+in_gathered (suc n) block j k h m = by_decision (ℕ_discrete k n) (λ q. in_gathered n block j k q m)
   where
-    go : Dec (k ≡ n) → (k < n → In j (gathered n block)) → In j (gathered (suc n) block)
-    go (yes e) f = in_append (block n) (gathered n block) j (inl (subst (λ t. In j (block t)) e m))
-    go (no e) f = in_append (block n) (gathered n block) j (inr (f (omega arith)))
+    by_decision : Dec (k ≡ n) → (k < n → In j (gathered n block)) → In j (gathered (suc n) block)
+    by_decision (yes e) f = in_append (block n) (gathered n block) j (inl (subst (λ t. In j (block t)) e m))
+    by_decision (no e) f = in_append (block n) (gathered n block) j (inr (f (omega arith)))
 
 -- and no others
 of_gathered : (n : ℕ) (block : ℕ → List ℕ) (j : ℕ) → In j (gathered n block) → InBlocks n (λ k. Members (block k)) j
 of_gathered zero block j m = absurd m
-of_gathered (suc n) block j m = go (of_append (block n) (gathered n block) j m) (of_gathered n block j)
+of_gathered (suc n) block j m = by_cases (of_append (block n) (gathered n block) j m) (of_gathered n block j)
   where
-    go : In j (block n) ⊎ In j (gathered n block) → (In j (gathered n block) → InBlocks n (λ k. Members (block k)) j) → InBlocks (suc n) (λ k. Members (block k)) j
-    go (inl h) f = (n, omega arith, h)
-    go (inr h) f = let r = f h in (r.0, omega (arith, r.1), r.2)
+    by_cases : In j (block n) ⊎ In j (gathered n block) → (In j (gathered n block) → InBlocks n (λ k. Members (block k)) j)
+        → InBlocks (suc n) (λ k. Members (block k)) j
+    by_cases (inl h) f = (n, omega arith, h)
+    by_cases (inr h) f = let r = f h in (r.0, omega (arith, r.1), r.2)
 
 -- so the union is listed
 listed_blocks : (n : ℕ) (block : ℕ → List ℕ) → Listed (InBlocks n (λ k. Members (block k))) (gathered n block)
@@ -233,6 +242,16 @@ listed_blocks n block j = (λ h. in_gathered n block j h.0 h.1 h.2, of_gathered 
 
 -- the law
 pub union_of_extremes : UnionOfExtremes
-union_of_extremes at n block d = extremes_between at (InBlocks n (λ k. Members (block k))) (InBlocks n (λ k. Extreme at (Members (block k)))) (gathered n block) (listed_blocks n block) d
+union_of_extremes at n block d =
+    extremes_between at (InBlocks n (λ k. Members (block k))) (InBlocks n (λ k. Extreme at (Members (block k))))
+    (gathered n block) (listed_blocks n block) d
     (λ i b. (b.0, b.1, b.2.0))
-    (λ i h. (h.0.0, h.0.1, (h.0.2, λ m. h.1 (combination_within at (Others (Members (block h.0.0)) i) (Others (InBlocks n (λ k. Members (block k))) i) (at i) m (λ j o. ((h.0.0, h.0.1, o.0), o.1))))))
+    (λ i h. (
+      h.0.0,
+      h.0.1,
+      (
+        h.0.2,
+        λ m. h.1 (combination_within at (Others (Members (block h.0.0)) i)
+            (Others (InBlocks n (λ k. Members (block k))) i) (at i) m (λ j o. ((h.0.0, h.0.1, o.0), o.1))),
+      ),
+    ))

@@ -7,7 +7,8 @@ use Rattle.qh_model.proofs.algebra.Integers.{ring_rules}
 use Rattle.qh_model.proofs.combinations.Vectors.{V, dot as vdot}
 use Rattle.qh_model.proofs.combinations.Alternatives.{all_lower}
 use Rattle.qh_model.proofs.extremes.LexicographicOrder.{Less}
-use Rattle.qh_model.proofs.extremes.ExtremeIds.{Listed, listed_itself, listed_part, alternative_in, combination_within, combination_of_extremes, no_combination_by}
+use Rattle.qh_model.proofs.extremes.ExtremeIds.{Listed, listed_itself, listed_part, alternative_in, combination_within}
+use Rattle.qh_model.proofs.extremes.ExtremeIds.{combination_of_extremes, no_combination_by}
 use Rattle.qh_model.specs.headline.Vector.{Vector, dot}
 use Rattle.qh_model.specs.headline.Predicates.{cross, vol}
 use Rattle.qh_model.specs.headline.Sets.{Members}
@@ -29,7 +30,9 @@ abbrev blend : Vector → Vector → V 2 → Vector
 blend n w u = record { x = u.0 *ℤ n.x +ℤ u.1.0 *ℤ w.x; y = u.0 *ℤ n.y +ℤ u.1.0 *ℤ w.y; z = u.0 *ℤ n.z +ℤ u.1.0 *ℤ w.z }
 
 -- a step of the next
-blend_step : (a b nx ny nz wx wy wz x y z : ℤ) → (a *ℤ nx +ℤ b *ℤ wx) *ℤ x +ℤ (a *ℤ ny +ℤ b *ℤ wy) *ℤ y +ℤ (a *ℤ nz +ℤ b *ℤ wz) *ℤ z ≡ a *ℤ (nx *ℤ x +ℤ ny *ℤ y +ℤ nz *ℤ z) +ℤ (b *ℤ (wx *ℤ x +ℤ wy *ℤ y +ℤ wz *ℤ z) +ℤ pos 0)
+blend_step : (a b nx ny nz wx wy wz x y z : ℤ)
+    → (a *ℤ nx +ℤ b *ℤ wx) *ℤ x +ℤ (a *ℤ ny +ℤ b *ℤ wy) *ℤ y +ℤ (a *ℤ nz +ℤ b *ℤ wz) *ℤ z
+    ≡ a *ℤ (nx *ℤ x +ℤ ny *ℤ y +ℤ nz *ℤ z) +ℤ (b *ℤ (wx *ℤ x +ℤ wy *ℤ y +ℤ wz *ℤ z) +ℤ pos 0)
 blend_step a b nx ny nz wx wy wz x y z = simp ring_rules (omega (arith, ints))
 
 -- its scalar product
@@ -47,7 +50,7 @@ on_plane d e c h k = omega (arith, ints)
 -- an extreme of a face is extreme
 pub face_up : (at : ℕ → Vector) (A : ℕ → Type 0) (xs : List ℕ) → Listed A xs → (i j k : ℕ) → Supports at A i j k
     → (l : ℕ) → Extreme at (OnPlane at A i j k) l → ¬ (Combination at (Others A l) (at l))
-face_up at A xs listed i j k s l h m = go (listed_part A (λ t. vol a b c (at t) ≡ pos 0) (λ t. zero_or_not (vol a b c (at t))) xs listed)
+face_up at A xs listed i j k s l h m = from_witness (listed_part A (λ t. vol a b c (at t) ≡ pos 0) (λ t. zero_or_not (vol a b c (at t))) xs listed)
   where
     a : Vector
     a = at i
@@ -61,23 +64,28 @@ face_up at A xs listed i j k s l h m = go (listed_part A (λ t. vol a b c (at t)
     n : Vector
     n = cross a b c
 
-    apart : (w : Separator at (Others (OnPlane at A i j k) l) (at l)) → (t : ℕ) → Others A l t → (vol a b c (at t) ≡ pos 0) ⊎ (¬ (vol a b c (at t) ≡ pos 0)) → Less 2 (pair n w.w (at t)) (pair n w.w (at l))
+    apart : (w : Separator at (Others (OnPlane at A i j k) l) (at l)) → (t : ℕ) → Others A l t
+        → (vol a b c (at t) ≡ pos 0) ⊎ (¬ (vol a b c (at t) ≡ pos 0)) → Less 2 (pair n w.w (at t)) (pair n w.w (at l))
     apart w t o (inl e) = inr (on_plane _ _ _ (sym e ∙ vol-linear a b c (at t)) (sym h.0.1 ∙ vol-linear a b c (at l)), inl (w.past t ((o.0, e), o.1)))
-    apart w t o (inr z) = inl (below_plane _ _ _ _ (vol-linear a b c (at t)) (by_lt_z (vol a b c (at t)) (pos 0) (λ q. q) (λ q. absurd (z (le_antisym _ _ (s t o.0) q)))) (sym h.0.1 ∙ vol-linear a b c (at l)))
+    apart w t o (inr z) =
+        inl (below_plane _ _ _ _ (vol-linear a b c (at t))
+        (by_lt_z (vol a b c (at t)) (pos 0) (λ q. q) (λ q. absurd (z (le_antisym _ _ (s t o.0) q))))
+        (sym h.0.1 ∙ vol-linear a b c (at l)))
 
     sides : Combination at (Others (OnPlane at A i j k) l) (at l) ⊎ Separator at (Others (OnPlane at A i j k) l) (at l) → ⊥
     sides (inl q) = h.1 q
-    sides (inr w) = no_combination_by 2 (pair n w.w) (blend n w.w) (blend_is n w.w) at (Others A l) (at l) (λ t o. apart w t o (zero_or_not (vol a b c (at t)))) m
+    sides (inr w) = no_combination_by 2 (pair n w.w) (blend n w.w) (blend_is n w.w) at (Others A l) (at l)
+        (λ t o. apart w t o (zero_or_not (vol a b c (at t)))) m
 
-    go : (ys : List ℕ) × Listed (OnPlane at A i j k) ys → ⊥
-    go (ys, q) = others (listed_part (OnPlane at A i j k) (λ t. t ≢ l) (λ t. differs t) ys q)
+    from_witness : (ys : List ℕ) × Listed (OnPlane at A i j k) ys → ⊥
+    from_witness (ys, q) = others (listed_part (OnPlane at A i j k) (λ t. t ≢ l) (λ t. differs t) ys q)
       where
         differs : (t : ℕ) → (t ≢ l) ⊎ (¬ (t ≢ l))
-        differs t = pick (ℕ_discrete t l)
+        differs t = by_decision (ℕ_discrete t l)
           where
-            pick : Dec (t ≡ l) → (t ≢ l) ⊎ (¬ (t ≢ l))
-            pick (yes e) = inr (λ z. z e)
-            pick (no z) = inl z
+            by_decision : Dec (t ≡ l) → (t ≢ l) ⊎ (¬ (t ≢ l))
+            by_decision (yes e) = inr (λ z. z e)
+            by_decision (no z) = inl z
 
         others : (zs : List ℕ) × Listed (Others (OnPlane at A i j k) l) zs → ⊥
         others (zs, r) = sides (alternative_in at (Others (OnPlane at A i j k) l) zs r (at l))
@@ -96,7 +104,9 @@ outside_is_past v d e c f h k l q = omega (arith, ints)
 
 -- the law
 pub support_of_extremes : SupportOfExtremes
-support_of_extremes at ids d i j k s l h = by_lt_z (pos 0) v (λ q. absurd (clash (combination_of_extremes at (Members ids) ids (listed_itself ids) d l h) q)) (λ q. q)
+support_of_extremes at ids d i j k s l h =
+    by_lt_z (pos 0) v (λ q. absurd (clash (combination_of_extremes at (Members ids) ids (listed_itself ids) d l h) q))
+    (λ q. q)
   where
     n : Vector
     n = cross (at i) (at j) (at k)

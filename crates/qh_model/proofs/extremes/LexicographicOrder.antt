@@ -65,7 +65,9 @@ same (suc n) u = (refl, same n u.1)
 -- two vectors compare
 compare : (n : ℕ) (u v : V n) → AtMost n u v ⊎ Less n v u
 compare zero u v = inl (inl tt)
-compare (suc n) u v = by_lt_z u.0 v.0 (λ h. inl (inr (inl h))) (λ h. by_lt_z v.0 u.0 (λ k. inr (inl k)) (λ k. tails (le_antisym u.0 v.0 k h) (compare n u.1 v.1)))
+compare (suc n) u v =
+    by_lt_z u.0 v.0 (λ h. inl (inr (inl h)))
+    (λ h. by_lt_z v.0 u.0 (λ k. inr (inl k)) (λ k. tails (le_antisym u.0 v.0 k h) (compare n u.1 v.1)))
   where
     tails : u.0 ≡ v.0 → AtMost n u.1 v.1 ⊎ Less n v.1 u.1 → AtMost (suc n) u v ⊎ Less (suc n) v u
     tails e (inl (inl s)) = inl (inl (e, s))
@@ -81,11 +83,20 @@ pub record Greatest {A : Type 0} (n : ℕ) (key : A → V n) (xs : List A) : Typ
 -- a list has one
 pub greatest : {A : Type 0} (n : ℕ) (key : A → V n) (i : A) (xs : List A) → Greatest n key (i ∷ xs)
 greatest n key i [] = record { top = i; member = inl refl; above = (inl (same n (key i)), tt) }
-greatest n key i (x ∷ xs) = pick n key i (x ∷ xs) (greatest n key x xs) (compare n _ _)
+greatest n key i (x ∷ xs) = with_first n key i (x ∷ xs) (greatest n key x xs) (compare n _ _)
   where
-    pick : {A : Type 0} (n : ℕ) (key : A → V n) (i : A) (xs : List A) (g : Greatest n key xs) → AtMost n (key i) (key g.top) ⊎ Less n (key g.top) (key i) → Greatest n key (i ∷ xs)
-    pick n key i xs g (inl h) = record { top = g.top; member = inr g.member; above = (h, g.above) }
-    pick n key i xs g (inr h) = record { top = i; member = inl refl; above = (inl (same n (key i)), every_map _ _ xs (λ j l. inr (at_most_less n (key j) (key g.top) (key i) l h)) g.above) }
+    with_first : {A : Type 0} (n : ℕ) (key : A → V n) (i : A) (xs : List A) (g : Greatest n key xs)
+        → AtMost n (key i) (key g.top) ⊎ Less n (key g.top) (key i) → Greatest n key (i ∷ xs)
+    with_first n key i xs g (inl h) = record { top = g.top; member = inr g.member; above = (h, g.above) }
+    with_first n key i xs g (inr h) =
+        record {
+          top = i;
+          member = inl refl;
+          above = (
+            inl (same n (key i)),
+            every_map _ _ xs (λ j l. inr (at_most_less n (key j) (key g.top) (key i) l h)) g.above,
+          );
+        }
 
 -- ---- one functional for the order
 -- the case of dimension 0
@@ -114,14 +125,15 @@ rest_decides : (N : ℕ) (a b t s : ℤ) → a ≤ℤ b → t <ℤ s → (pos N 
 rest_decides N a b t s h k = omega (arith, ints, mul-le-mul_left N (le_out a b h))
 
 -- both cases
-joined : (Q : Type 0) (N : ℕ) (a b t s : ℤ) → (Q ⊎ (a <ℤ b)) ⊎ (t <ℤ s) → (Q ⊎ (a ≤ℤ b)) × (neg_ℤ (s -ℤ t) <ℤ pos N) → Q ⊎ ((pos N *ℤ a +ℤ t) <ℤ (pos N *ℤ b +ℤ s))
+joined : (Q : Type 0) (N : ℕ) (a b t s : ℤ) → (Q ⊎ (a <ℤ b)) ⊎ (t <ℤ s) → (Q ⊎ (a ≤ℤ b)) × (neg_ℤ (s -ℤ t) <ℤ pos N)
+    → Q ⊎ ((pos N *ℤ a +ℤ t) <ℤ (pos N *ℤ b +ℤ s))
 joined Q N a b t s (inl (inl q)) h = inl q
 joined Q N a b t s (inl (inr l)) h = inr (first_decides N a b t s l h.1)
-joined Q N a b t s (inr l) h = pick h.0
+joined Q N a b t s (inr l) h = by_cases h.0
   where
-    pick : Q ⊎ (a ≤ℤ b) → Q ⊎ ((pos N *ℤ a +ℤ t) <ℤ (pos N *ℤ b +ℤ s))
-    pick (inl q) = inl q
-    pick (inr m) = inr (rest_decides N a b t s m l)
+    by_cases : Q ⊎ (a ≤ℤ b) → Q ⊎ ((pos N *ℤ a +ℤ t) <ℤ (pos N *ℤ b +ℤ s))
+    by_cases (inl q) = inl q
+    by_cases (inr m) = inr (rest_decides N a b t s m l)
 
 -- one more coordinate
 extend : {A : Type 0} (n : ℕ) (Q : A → Type 0) (key : A → V (suc n)) (K : V (suc n)) (xs : List A) → Every (λ j. Q j ⊎ Less (suc n) (key j) K) xs
@@ -129,9 +141,11 @@ extend : {A : Type 0} (n : ℕ) (Q : A → Type 0) (key : A → V (suc n)) (K : 
     → (U : V (suc n)) × Every (λ j. Q j ⊎ (dot (suc n) U (key j) <ℤ dot (suc n) U K)) xs
 extend {A} n Q key K xs h low = (
   (pos N, U),
-  every_zip (λ j. (Q j ⊎ ((key j).0 <ℤ K.0)) ⊎ (dot n U (key j).1 <ℤ dot n U K.1)) (λ j. (Q j ⊎ ((key j).0 ≤ℤ K.0)) × (neg_ℤ (dot n U K.1 -ℤ dot n U (key j).1) <ℤ pos N)) _ xs
+  every_zip (λ j. (Q j ⊎ ((key j).0 <ℤ K.0)) ⊎ (dot n U (key j).1 <ℤ dot n U K.1))
+      (λ j. (Q j ⊎ ((key j).0 ≤ℤ K.0)) × (neg_ℤ (dot n U K.1 -ℤ dot n U (key j).1) <ℤ pos N)) _ xs
       (λ j. joined (Q j) N (key j).0 K.0 (dot n U (key j).1) (dot n U K.1)) low.1
-      (every_zip _ _ _ xs (λ j f b. (f, b)) (every_map _ _ xs (λ j. first (Q j) (Less n (key j).1 K.1) (key j).0 K.0) h) (bound (λ j. dot n U K.1 -ℤ dot n U (key j).1) xs).1),
+      (every_zip _ _ _ xs (λ j f b. (f, b)) (every_map _ _ xs (λ j. first (Q j) (Less n (key j).1 K.1) (key j).0 K.0) h)
+      (bound (λ j. dot n U K.1 -ℤ dot n U (key j).1) xs).1),
 )
   where
     U : V n
@@ -145,4 +159,5 @@ pub collapse : {A : Type 0} (n : ℕ) (Q : A → Type 0) (key : A → V n) (K : 
     → (U : V n) × Every (λ j. Q j ⊎ (dot n U (key j) <ℤ dot n U K)) xs
 collapse zero Q key K xs h = (tt, every_map _ _ xs (λ j. keep (Q j) (pos 0 <ℤ pos 0)) h)
 collapse (suc n) Q key K xs h = extend n Q key K xs h
-    (collapse n (λ j. Q j ⊎ ((key j).0 <ℤ K.0)) (λ j. (key j).1) K.1 xs (every_map _ _ xs (λ j. regroup (Q j) ((key j).0 <ℤ K.0) ((key j).0 ≡ K.0) (Less n (key j).1 K.1)) h))
+    (collapse n (λ j. Q j ⊎ ((key j).0 <ℤ K.0)) (λ j. (key j).1) K.1 xs
+    (every_map _ _ xs (λ j. regroup (Q j) ((key j).0 <ℤ K.0) ((key j).0 ≡ K.0) (Less n (key j).1 K.1)) h))

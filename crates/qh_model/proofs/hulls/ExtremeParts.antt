@@ -22,7 +22,8 @@ pub part_set : (pts : List Vector) (ids part : List ℕ) → IsIdSet pts ids →
 part_set pts ids part set rising within = record { rising = rising; distinct = λ i j m n e. set.distinct i j (within i m) (within j n) e }
 
 -- where there are ids, a part with all extreme ids has some
-pub part_some : (pts : List Vector) (ids part : List ℕ) → IsIdSet pts ids → 0 < length ids → ((i : ℕ) → Extreme (place pts) (Members ids) i → In i part) → 0 < length part
+pub part_some : (pts : List Vector) (ids part : List ℕ) → IsIdSet pts ids → 0 < length ids
+    → ((i : ℕ) → Extreme (place pts) (Members ids) i → In i part) → 0 < length part
 part_some pts ids part set some extremes =
     let mix = members_are_combinations (place pts) ids set.distinct (get_or ids 0 0) (In-get_or ids 0 0 some) in
     let p = in_at part mix.a (extremes mix.a mix.has_a) in
@@ -30,8 +31,13 @@ part_some pts ids part set some extremes =
     omega (arith, l)
 
 -- its extreme ids are those of the set
-pub part_extremes : (pts : List Vector) (ids part xs : List ℕ) → IsIdSet pts ids → HasExtremes pts ids part → AreExtremes (place pts) (Members part) xs → AreExtremes (place pts) (Members ids) xs
-part_extremes pts ids part xs set h x = record { rising = x.rising; members = λ i. ((λ m. (same i).0 ((x.members i).0 m)), (λ e. (x.members i).1 ((same i).1 e))) }
+pub part_extremes : (pts : List Vector) (ids part xs : List ℕ) → IsIdSet pts ids → HasExtremes pts ids part
+    → AreExtremes (place pts) (Members part) xs → AreExtremes (place pts) (Members ids) xs
+part_extremes pts ids part xs set h x =
+    record {
+      rising = x.rising;
+      members = λ i. ((λ m. (same i).0 ((x.members i).0 m)), (λ e. (x.members i).1 ((same i).1 e)));
+    }
   where
     same : (i : ℕ) → Extreme (place pts) (Members part) i ↔ Extreme (place pts) (Members ids) i
     same = extremes_of_part (place pts) ids part set.distinct h.within h.extremes

@@ -13,11 +13,11 @@ use Rattle.qh_model.proofs.extremes.Directions.{positive_along, zero_along, norm
 
 -- four points of a set with no tetrahedron lie in one plane
 pub flat_volume : (at : ℕ → Vector) (A : ℕ → Type 0) → ¬ (HasTetrahedron at A) → (i j k l : ℕ) → A i → A j → A k → A l → vol (at i) (at j) (at k) (at l) ≡ pos 0
-flat_volume at A n i j k l hi hj hk hl = pick (zero_or_not (vol (at i) (at j) (at k) (at l)))
+flat_volume at A n i j k l hi hj hk hl = by_cases (zero_or_not (vol (at i) (at j) (at k) (at l)))
   where
-    pick : (vol (at i) (at j) (at k) (at l) ≡ pos 0) ⊎ (¬ (vol (at i) (at j) (at k) (at l) ≡ pos 0)) → vol (at i) (at j) (at k) (at l) ≡ pos 0
-    pick (inl e) = e
-    pick (inr d) = absurd (n (record { i = i; j = j; k = k; l = l; has_i = hi; has_j = hj; has_k = hk; has_l = hl; volume = d }))
+    by_cases : (vol (at i) (at j) (at k) (at l) ≡ pos 0) ⊎ (¬ (vol (at i) (at j) (at k) (at l) ≡ pos 0)) → vol (at i) (at j) (at k) (at l) ≡ pos 0
+    by_cases (inl e) = e
+    by_cases (inr d) = absurd (n (record { i = i; j = j; k = k; l = l; has_i = hi; has_j = hj; has_k = hk; has_l = hl; volume = d }))
 
 -- what points forward is not zero
 pub forward_not_zero : (n : Vector) → PointsForward n → n ≢ origin
@@ -38,7 +38,11 @@ forward_not_zero n (inr (x, inr (y, h))) e = positive_zero n.z (ap (λ v. v.z) e
 pub forward_along : (n m : Vector) → IsAlong n m → PointsForward n → PointsForward m
 forward_along n m h (inl x) = inl (positive_along h.s h.t n.x m.x h.some_s h.some_t h.x x)
 forward_along n m h (inr (x, inl y)) = inr (zero_along h.s h.t n.x m.x h.some_t h.x x, inl (positive_along h.s h.t n.y m.y h.some_s h.some_t h.y y))
-forward_along n m h (inr (x, inr (y, z))) = inr (zero_along h.s h.t n.x m.x h.some_t h.x x, inr (zero_along h.s h.t n.y m.y h.some_t h.y y, positive_along h.s h.t n.z m.z h.some_s h.some_t h.z z))
+forward_along n m h (inr (x, inr (y, z))) =
+    inr (
+      zero_along h.s h.t n.x m.x h.some_t h.x x,
+      inr (zero_along h.s h.t n.y m.y h.some_t h.y y, positive_along h.s h.t n.z m.z h.some_s h.some_t h.z z),
+    )
 
 -- a direction and its opposite do not both point forward
 not_both : (x : ℤ) → pos 0 <ℤ x → pos 0 <ℤ neg_ℤ x → ⊥

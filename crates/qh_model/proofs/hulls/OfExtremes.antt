@@ -21,13 +21,22 @@ use Rattle.qh_model.proofs.hulls.FlatSets.{forward_not_zero, forward_along, flat
 use Rattle.qh_model.proofs.hulls.Unique.{flat_of, alone_of}
 
 -- the extreme ids have themselves as extremes
-pub extremes_again : (at : ℕ → Vector) (ids : List ℕ) → HasDistinctPoints at (Members ids) → (i : ℕ) → Extreme at (Extreme at (Members ids)) i ↔ Extreme at (Members ids) i
+pub extremes_again : (at : ℕ → Vector) (ids : List ℕ) → HasDistinctPoints at (Members ids) → (i : ℕ)
+    → Extreme at (Extreme at (Members ids)) i ↔ Extreme at (Members ids) i
 extremes_again at ids d = extremes_between at (Members ids) (Extreme at (Members ids)) ids (listed_itself ids) d (λ i h. h.0) (λ i h. h)
 
 -- ---- supporting triples
 -- a triple that supports the extremes supports the set
-triple_up : (at : ℕ → Vector) (ids : List ℕ) → HasDistinctPoints at (Members ids) → (i j k : ℕ) → IsSupportingTriple at (Extreme at (Members ids)) i j k → IsSupportingTriple at (Members ids) i j k
-triple_up at ids d i j k t = record { has_i = t.has_i.0; has_j = t.has_j.0; has_k = t.has_k.0; area = t.area; supports = support_of_extremes at ids d i j k t.supports }
+triple_up : (at : ℕ → Vector) (ids : List ℕ) → HasDistinctPoints at (Members ids) → (i j k : ℕ)
+    → IsSupportingTriple at (Extreme at (Members ids)) i j k → IsSupportingTriple at (Members ids) i j k
+triple_up at ids d i j k t =
+    record {
+      has_i = t.has_i.0;
+      has_j = t.has_j.0;
+      has_k = t.has_k.0;
+      area = t.area;
+      supports = support_of_extremes at ids d i j k t.supports;
+    }
 
 -- the law
 pub triples_of_extremes : TriplesOfExtremes
@@ -39,18 +48,22 @@ triples_of_extremes at ids d i j k hi hj hk =
 face_down : (at : ℕ → Vector) (ids : List ℕ) → HasDistinctPoints at (Members ids) → (i j k : ℕ) (s : SpannedByExtremes at (Members ids) i j k) (q : List ℕ)
     → IsFacePolygon at (Members ids) i j k q → IsFacePolygon at (Extreme at (Members ids)) s.u s.v s.w q
 face_down at ids d i j k s q p =
-    polygon_as at (OnPlane at (Extreme at (Members ids)) i j k) (OnPlane at (Extreme at (Extreme at (Members ids))) s.u s.v s.w) (cross (at i) (at j) (at k)) (cross (at s.u) (at s.v) (at s.w)) q
+    polygon_as at (OnPlane at (Extreme at (Members ids)) i j k)
+    (OnPlane at (Extreme at (Extreme at (Members ids))) s.u s.v s.w) (cross (at i) (at j) (at k))
+    (cross (at s.u) (at s.v) (at s.w)) q
     (λ l. (λ h. ((extremes_again at ids d l).1 h.0, (s.same l).0 h.1), λ h. ((extremes_again at ids d l).0 h.0, (s.same l).1 h.1))) s.along p
 
 -- the other way round
 face_up : (at : ℕ → Vector) (ids : List ℕ) → HasDistinctPoints at (Members ids) → (i j k : ℕ) (s : SpannedByExtremes at (Members ids) i j k) (q : List ℕ)
     → IsFacePolygon at (Extreme at (Members ids)) s.u s.v s.w q → IsFacePolygon at (Members ids) i j k q
 face_up at ids d i j k s q p =
-    polygon_as at (OnPlane at (Extreme at (Extreme at (Members ids))) s.u s.v s.w) (OnPlane at (Extreme at (Members ids)) i j k) (cross (at s.u) (at s.v) (at s.w)) (cross (at i) (at j) (at k)) q
+    polygon_as at (OnPlane at (Extreme at (Extreme at (Members ids))) s.u s.v s.w)
+    (OnPlane at (Extreme at (Members ids)) i j k) (cross (at s.u) (at s.v) (at s.w)) (cross (at i) (at j) (at k)) q
     (λ l. (λ h. ((extremes_again at ids d l).0 h.0, (s.same l).1 h.1), λ h. ((extremes_again at ids d l).1 h.0, (s.same l).0 h.1))) (along_back _ _ s.along) p
 
 -- the polygon of an extreme triple, over the set and over the extremes
-face_same : (at : ℕ → Vector) (ids : List ℕ) → HasDistinctPoints at (Members ids) → (i j k : ℕ) (q : List ℕ) → IsFacePolygon at (Extreme at (Members ids)) i j k q ↔ IsFacePolygon at (Members ids) i j k q
+face_same : (at : ℕ → Vector) (ids : List ℕ) → HasDistinctPoints at (Members ids) → (i j k : ℕ) (q : List ℕ)
+    → IsFacePolygon at (Extreme at (Members ids)) i j k q ↔ IsFacePolygon at (Members ids) i j k q
 face_same at ids d i j k q = (
   λ p. polygon_as at (OnPlane at (Extreme at (Extreme at (Members ids))) i j k) (OnPlane at (Extreme at (Members ids)) i j k) n n q
       (λ l. (λ h. ((extremes_again at ids d l).0 h.0, h.1), λ h. ((extremes_again at ids d l).1 h.0, h.1))) (along_itself n) p,
@@ -62,7 +75,8 @@ face_same at ids d i j k q = (
     n = cross (at i) (at j) (at k)
 
 -- the polygons of the set are those of the extremes
-faces_down : (at : ℕ → Vector) (ids : List ℕ) → HasDistinctPoints at (Members ids) → (qs : List (List ℕ)) → AreFaces at (Members ids) qs → AreFaces at (Extreme at (Members ids)) qs
+faces_down : (at : ℕ → Vector) (ids : List ℕ) → HasDistinctPoints at (Members ids) → (qs : List (List ℕ))
+    → AreFaces at (Members ids) qs → AreFaces at (Extreme at (Members ids)) qs
 faces_down at ids d qs f = record { rising = f.rising; each = each; only = λ q i. only q (f.only q i) }
   where
     E : ℕ → Type 0
@@ -73,11 +87,23 @@ faces_down at ids d qs f = record { rising = f.rising; each = each; only = λ q 
 
     only : (q : List ℕ) → (i : ℕ) × (j : ℕ) × (k : ℕ) × IsSupportingTriple at (Members ids) i j k × IsFacePolygon at (Members ids) i j k q
         → (i : ℕ) × (j : ℕ) × (k : ℕ) × IsSupportingTriple at E i j k × IsFacePolygon at E i j k q
-    only q (i, j, k, t, p) = let s = planes_of_extremes at ids d i j k t in
-        (s.u, s.v, s.w, record { has_i = s.has_u; has_j = s.has_v; has_k = s.has_w; area = s.area; supports = λ l h. s.supports l h.0 }, face_down at ids d i j k s q p)
+    only q (i, j, k, t, p) = let s = planes_of_extremes at ids d i j k t in (
+      s.u,
+      s.v,
+      s.w,
+      record {
+        has_i = s.has_u;
+        has_j = s.has_v;
+        has_k = s.has_w;
+        area = s.area;
+        supports = λ l h. s.supports l h.0;
+      },
+      face_down at ids d i j k s q p,
+    )
 
 -- and the other way round
-faces_up : (at : ℕ → Vector) (ids : List ℕ) → HasDistinctPoints at (Members ids) → (qs : List (List ℕ)) → AreFaces at (Extreme at (Members ids)) qs → AreFaces at (Members ids) qs
+faces_up : (at : ℕ → Vector) (ids : List ℕ) → HasDistinctPoints at (Members ids) → (qs : List (List ℕ))
+    → AreFaces at (Extreme at (Members ids)) qs → AreFaces at (Members ids) qs
 faces_up at ids d qs f = record { rising = f.rising; each = each; only = λ q i. only q (f.only q i) }
   where
     E : ℕ → Type 0
@@ -94,7 +120,8 @@ faces_up at ids d qs f = record { rising = f.rising; each = each; only = λ q i.
 
 -- ---- dimension 2
 -- the flat polygon of the extremes is that of the set
-flat_up : (at : ℕ → Vector) (ids : List ℕ) → HasDistinctPoints at (Members ids) → (q : List ℕ) → IsFlatFace at (Extreme at (Members ids)) q → IsFlatFace at (Members ids) q
+flat_up : (at : ℕ → Vector) (ids : List ℕ) → HasDistinctPoints at (Members ids) → (q : List ℕ)
+    → IsFlatFace at (Extreme at (Members ids)) q → IsFlatFace at (Members ids) q
 flat_up at ids d q f = record {
   i = f.i;
   j = f.j;
@@ -120,10 +147,12 @@ record SameDirection (at : ℕ → Vector) (E : ℕ → Type 0) (n : Vector) : T
   along : IsAlong n (cross (at i) (at j) (at k))
 
 -- there is one
-same_direction : (at : ℕ → Vector) (ids : List ℕ) → HasDistinctPoints at (Members ids) → ¬ (HasTetrahedron at (Members ids)) → (i j k : ℕ) → Members ids i → Members ids j → Members ids k
+same_direction : (at : ℕ → Vector) (ids : List ℕ) → HasDistinctPoints at (Members ids)
+    → ¬ (HasTetrahedron at (Members ids)) → (i j k : ℕ) → Members ids i → Members ids j → Members ids k
     → PointsForward (cross (at i) (at j) (at k)) → SameDirection at (Extreme at (Members ids)) (cross (at i) (at j) (at k))
 same_direction at ids d n i j k hi hj hk f =
-    go (triangle_of at A E (λ l h. combination_of_extremes at A ids (listed_itself ids) d l h) (record { i = i; j = j; k = k; has_i = hi; has_j = hj; has_k = hk; area = forward_not_zero _ f }))
+    from_triangle (triangle_of at A E (λ l h. combination_of_extremes at A ids (listed_itself ids) d l h)
+    (record { i = i; j = j; k = k; has_i = hi; has_j = hj; has_k = hk; area = forward_not_zero _ f }))
   where
     A : ℕ → Type 0
     A = Members ids
@@ -131,16 +160,18 @@ same_direction at ids d n i j k hi hj hk f =
     E : ℕ → Type 0
     E = Extreme at (Members ids)
 
-    go : HasTriangle at E → SameDirection at E (cross (at i) (at j) (at k))
-    go t = pick (flat_normals at A n i j k t.i t.j t.k hi hj hk t.has_i.0 t.has_j.0 t.has_k.0 (forward_not_zero _ f) t.area)
+    from_triangle : HasTriangle at E → SameDirection at E (cross (at i) (at j) (at k))
+    from_triangle t = by_cases (flat_normals at A n i j k t.i t.j t.k hi hj hk t.has_i.0 t.has_j.0 t.has_k.0 (forward_not_zero _ f) t.area)
       where
-        pick : IsAlong (cross (at i) (at j) (at k)) (cross (at t.i) (at t.j) (at t.k)) ⊎ IsAlong (cross (at i) (at j) (at k)) (cross (at t.i) (at t.k) (at t.j))
+        by_cases : IsAlong (cross (at i) (at j) (at k)) (cross (at t.i) (at t.j) (at t.k))
+            ⊎ IsAlong (cross (at i) (at j) (at k)) (cross (at t.i) (at t.k) (at t.j))
             → SameDirection at E (cross (at i) (at j) (at k))
-        pick (inl h) = record { i = t.i; j = t.j; k = t.k; has_i = t.has_i; has_j = t.has_j; has_k = t.has_k; along = h }
-        pick (inr h) = record { i = t.i; j = t.k; k = t.j; has_i = t.has_i; has_j = t.has_k; has_k = t.has_j; along = h }
+        by_cases (inl h) = record { i = t.i; j = t.j; k = t.k; has_i = t.has_i; has_j = t.has_j; has_k = t.has_k; along = h }
+        by_cases (inr h) = record { i = t.i; j = t.k; k = t.j; has_i = t.has_i; has_j = t.has_k; has_k = t.has_j; along = h }
 
 -- the flat polygon of the set is that of the extremes
-flat_down : (at : ℕ → Vector) (ids : List ℕ) → HasDistinctPoints at (Members ids) → ¬ (HasTetrahedron at (Members ids)) → (q : List ℕ) → IsFlatFace at (Members ids) q → IsFlatFace at (Extreme at (Members ids)) q
+flat_down : (at : ℕ → Vector) (ids : List ℕ) → HasDistinctPoints at (Members ids) → ¬ (HasTetrahedron at (Members ids))
+    → (q : List ℕ) → IsFlatFace at (Members ids) q → IsFlatFace at (Extreme at (Members ids)) q
 flat_down at ids d n q f = record {
   i = s.i;
   j = s.j;
@@ -149,7 +180,9 @@ flat_down at ids d n q f = record {
   has_j = s.has_j;
   has_k = s.has_k;
   forward = forward_along _ _ s.along f.forward;
-  polygon = polygon_as at (Extreme at (Members ids)) (Extreme at (Extreme at (Members ids))) (cross (at f.i) (at f.j) (at f.k)) (cross (at s.i) (at s.j) (at s.k)) q (λ l. ((extremes_again at ids d l).1, (extremes_again at ids d l).0)) s.along f.polygon;
+  polygon = polygon_as at (Extreme at (Members ids)) (Extreme at (Extreme at (Members ids)))
+      (cross (at f.i) (at f.j) (at f.k)) (cross (at s.i) (at s.j) (at s.k)) q
+      (λ l. ((extremes_again at ids d l).1, (extremes_again at ids d l).0)) s.along f.polygon;
 }
   where
     s : SameDirection at (Extreme at (Members ids)) (cross (at f.i) (at f.j) (at f.k))
@@ -157,12 +190,34 @@ flat_down at ids d n q f = record {
 
 -- ---- dimensions 1 and 0
 -- the two ids
-segment_up : (at : ℕ → Vector) (ids : List ℕ) → HasDistinctPoints at (Members ids) → (q : List ℕ) → IsSegmentFace at (Extreme at (Members ids)) q → IsSegmentFace at (Members ids) q
-segment_up at ids d q f = record { i = f.i; j = f.j; members = λ l. (λ h. (extremes_again at ids d l).0 ((f.members l).0 h), λ h. (f.members l).1 ((extremes_again at ids d l).1 h)); lower = f.lower; is = f.is }
+segment_up : (at : ℕ → Vector) (ids : List ℕ) → HasDistinctPoints at (Members ids) → (q : List ℕ)
+    → IsSegmentFace at (Extreme at (Members ids)) q → IsSegmentFace at (Members ids) q
+segment_up at ids d q f =
+    record {
+      i = f.i;
+      j = f.j;
+      members = λ l. (
+        λ h. (extremes_again at ids d l).0 ((f.members l).0 h),
+        λ h. (f.members l).1 ((extremes_again at ids d l).1 h),
+      );
+      lower = f.lower;
+      is = f.is;
+    }
 
 -- and the other way round
-segment_down : (at : ℕ → Vector) (ids : List ℕ) → HasDistinctPoints at (Members ids) → (q : List ℕ) → IsSegmentFace at (Members ids) q → IsSegmentFace at (Extreme at (Members ids)) q
-segment_down at ids d q f = record { i = f.i; j = f.j; members = λ l. (λ h. (extremes_again at ids d l).1 ((f.members l).0 h), λ h. (f.members l).1 ((extremes_again at ids d l).0 h)); lower = f.lower; is = f.is }
+segment_down : (at : ℕ → Vector) (ids : List ℕ) → HasDistinctPoints at (Members ids) → (q : List ℕ)
+    → IsSegmentFace at (Members ids) q → IsSegmentFace at (Extreme at (Members ids)) q
+segment_down at ids d q f =
+    record {
+      i = f.i;
+      j = f.j;
+      members = λ l. (
+        λ h. (extremes_again at ids d l).1 ((f.members l).0 h),
+        λ h. (f.members l).1 ((extremes_again at ids d l).0 h),
+      );
+      lower = f.lower;
+      is = f.is;
+    }
 
 -- an id alone is extreme
 pub alone_is_extreme : (at : ℕ → Vector) (A : ℕ → Type 0) → ¬ (HasSegment A) → (i : ℕ) → A i → Extreme at A i
@@ -173,7 +228,8 @@ point_up : (at : ℕ → Vector) (ids : List ℕ) (q : List ℕ) → IsPointFace
 point_up at ids q f = record { i = f.i; has_i = f.has_i.0; is = f.is }
 
 -- and the other way round
-point_down : (at : ℕ → Vector) (ids : List ℕ) → ¬ (HasSegment (Members ids)) → (q : List ℕ) → IsPointFace (Members ids) q → IsPointFace (Extreme at (Members ids)) q
+point_down : (at : ℕ → Vector) (ids : List ℕ) → ¬ (HasSegment (Members ids)) → (q : List ℕ)
+    → IsPointFace (Members ids) q → IsPointFace (Extreme at (Members ids)) q
 point_down at ids n q f = record { i = f.i; has_i = alone_is_extreme at (Members ids) n f.i f.has_i; is = f.is }
 
 -- ---- all dimensions
@@ -199,13 +255,25 @@ body_of_extremes at ids b d = (
   λ f. let dim = (dimension_of_extremes at ids b.dim d).0 f.dim in
       record {
         dim = dim;
-        extremes = record { rising = f.extremes.rising; members = λ i. (λ h. (extremes_again at ids d i).0 ((f.extremes.members i).0 h), λ h. (f.extremes.members i).1 ((extremes_again at ids d i).1 h)) };
+        extremes = record {
+          rising = f.extremes.rising;
+          members = λ i. (
+            λ h. (extremes_again at ids d i).0 ((f.extremes.members i).0 h),
+            λ h. (f.extremes.members i).1 ((extremes_again at ids d i).1 h),
+          );
+        };
         polygons = (polygons_of_extremes at ids b.dim b.polygons d dim).0 f.polygons;
         edges = f.edges;
       },
   λ f. record {
     dim = (dimension_of_extremes at ids b.dim d).1 f.dim;
-    extremes = record { rising = f.extremes.rising; members = λ i. (λ h. (extremes_again at ids d i).1 ((f.extremes.members i).0 h), λ h. (f.extremes.members i).1 ((extremes_again at ids d i).0 h)) };
+    extremes = record {
+      rising = f.extremes.rising;
+      members = λ i. (
+        λ h. (extremes_again at ids d i).1 ((f.extremes.members i).0 h),
+        λ h. (f.extremes.members i).1 ((extremes_again at ids d i).0 h),
+      );
+    };
     polygons = (polygons_of_extremes at ids b.dim b.polygons d f.dim).1 f.polygons;
     edges = f.edges;
   },

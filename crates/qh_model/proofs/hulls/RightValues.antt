@@ -71,7 +71,8 @@ right_within pts ids bounds J xs x i m = let e = (x.members i).0 m in block_with
 
 -- ---- two sets of blocks together
 -- whatever the blocks, it can't be that the ids of the first n have no list
-not_unlisted : (ids bounds : List ℕ) (J : ℕ → Type 0) (n : ℕ) → ((zs : List ℕ) → ((i : ℕ) → ((k : ℕ) × (k < n) × J k × In i (block_ids ids bounds k)) ↔ In i zs) → ⊥) → ⊥
+not_unlisted : (ids bounds : List ℕ) (J : ℕ → Type 0) (n : ℕ)
+    → ((zs : List ℕ) → ((i : ℕ) → ((k : ℕ) × (k < n) × J k × In i (block_ids ids bounds k)) ↔ In i zs) → ⊥) → ⊥
 not_unlisted ids bounds J zero none = none [] (λ i. (λ b. let l = b.1 in absurd (omega (arith, l)), λ m. absurd m))
 not_unlisted ids bounds J (suc n) none = not_unlisted ids bounds J n step
   where
@@ -122,8 +123,13 @@ right_of_both pts ids bounds J K L xs ys zs vs apart both x y union v = record {
     sub i m = listed i ((union i).0 m)
 
     -- an extreme id of all is one of a part
-    in_part : (M : ℕ → Type 0) → ((k : ℕ) → M k → L k) → (i : ℕ) → IsIdOfBlocks ids bounds M i → Extreme (place pts) Every i → Extreme (place pts) (IsIdOfBlocks ids bounds M) i
-    in_part M part i b e = (b, λ m. e.1 (combination_within (place pts) (Others (IsIdOfBlocks ids bounds M) i) (Others Every i) (place pts i) m (λ j o. ((o.0.0, o.0.1, part o.0.0 o.0.2, o.0.3), o.1))))
+    in_part : (M : ℕ → Type 0) → ((k : ℕ) → M k → L k) → (i : ℕ) → IsIdOfBlocks ids bounds M i
+        → Extreme (place pts) Every i → Extreme (place pts) (IsIdOfBlocks ids bounds M) i
+    in_part M part i b e = (
+      b,
+      λ m. e.1 (combination_within (place pts) (Others (IsIdOfBlocks ids bounds M) i) (Others Every i)
+          (place pts i) m (λ j o. ((o.0.0, o.0.1, part o.0.0 o.0.2, o.0.3), o.1))),
+    )
 
     found : (i : ℕ) (e : Extreme (place pts) Every i) → J e.0.0 ⊎ K e.0.0 → In i zs
     found i e (inl h) = (union i).1 (inl ((x.members i).1 (in_part J (λ k j. (both k).1 (inl j)) i (e.0.0, e.0.1, h, e.0.3) e)))
@@ -136,10 +142,16 @@ right_of_both pts ids bounds J K L xs ys zs vs apart both x y union v = record {
     up i h = (sup i h, λ m. h.1 (combination_within (place pts) (Others (Members zs) i) (Others Every i) (place pts i) m (λ j o. (sub j o.0, o.1))))
 
     down : (i : ℕ) → Extreme (place pts) (Members zs) i → Extreme (place pts) Every i
-    down i h = (sub i h.0, λ m. not_unlisted ids bounds L (block_count bounds) (λ list l. ((extremes_between (place pts) Every (Members zs) list l distinct sub sup i).0 h).1 m))
+    down i h = (
+      sub i h.0,
+      λ m. not_unlisted ids bounds L (block_count bounds)
+          (λ list l. ((extremes_between (place pts) Every (Members zs) list l distinct sub sup i).0 h).1 m),
+    )
 
 -- ---- all blocks
-module _ (pts : List Vector) (ids bounds : List ℕ) (J : ℕ → Type 0) (xs : List ℕ) (cut : IsCut bounds) (whole : positions bounds ≡ length ids) (every : (k : ℕ) → k < block_count bounds → J k) (x : RightValue pts ids bounds J xs) where
+module _ (pts : List Vector) (ids bounds : List ℕ) (J : ℕ → Type 0) (xs : List ℕ) (cut : IsCut bounds)
+    (whole : positions bounds ≡ length ids) (every : (k : ℕ) → k < block_count bounds → J k)
+    (x : RightValue pts ids bounds J xs) where
   -- an extreme id is listed
   root_has : (i : ℕ) → Extreme (place pts) (Members ids) i → In i xs
   root_has i e =
@@ -147,7 +159,11 @@ module _ (pts : List Vector) (ids bounds : List ℕ) (J : ℕ → Type 0) (xs : 
       let l = p.1 in
       let b = blocks_cover bounds p.0 cut (grind (arith, l, whole)) in
       let m = subst (λ t. In t (block_ids ids bounds b.0)) p.2 (in_block ids bounds b.0 p.0 b.1 l) in
-      (x.members i).1 ((b.0, b.1.block, every b.0 b.1.block, m), λ mix. e.1 (combination_within (place pts) (Others (IsIdOfBlocks ids bounds J) i) (Others (Members ids) i) (place pts i) mix (λ j o. (block_within ids bounds o.0.0 j o.0.3, o.1))))
+      (x.members i).1 (
+        (b.0, b.1.block, every b.0 b.1.block, m),
+        λ mix. e.1 (combination_within (place pts) (Others (IsIdOfBlocks ids bounds J) i) (Others (Members ids) i)
+            (place pts i) mix (λ j o. (block_within ids bounds o.0.0 j o.0.3, o.1))),
+      )
 
   -- the hull of the list is that of all
   root_body : (b : BodyValue) → HasDistinctPoints (place pts) (Members ids) → IsBody (place pts) (Members xs) b → IsBody (place pts) (Members ids) b
@@ -155,11 +171,17 @@ module _ (pts : List Vector) (ids bounds : List ℕ) (J : ℕ → Type 0) (xs : 
 
 -- ---- the laws
 pub right_of_leaf : RightOfLeaf
-right_of_leaf pts ids bounds k xs h x = right_of_block pts ids bounds k (InSpan (block_count bounds) (block_count bounds + k)) xs h (λ l. span_of_leaf (block_count bounds) k l h) x
+right_of_leaf pts ids bounds k xs h x =
+    right_of_block pts ids bounds k (InSpan (block_count bounds) (block_count bounds + k)) xs h
+    (λ l. span_of_leaf (block_count bounds) k l h) x
 
 pub right_of_node : RightOfNode
-right_of_node pts ids bounds i xs ys zs vs apart lo hi x y union v = right_of_both pts ids bounds (InSpan (block_count bounds) (2 * i)) (InSpan (block_count bounds) (2 * i + 1)) (InSpan (block_count bounds) i) xs ys zs vs apart
+right_of_node pts ids bounds i xs ys zs vs apart lo hi x y union v =
+    right_of_both pts ids bounds (InSpan (block_count bounds) (2 * i)) (InSpan (block_count bounds) (2 * i + 1))
+    (InSpan (block_count bounds) i) xs ys zs vs apart
     (λ k. span_of_node (block_count bounds) i k lo hi) x y union v
 
 pub hull_of_root : HullOfRoot
-hull_of_root pts ids bounds xs b apart cut whole x h = root_body pts ids bounds (InSpan (block_count bounds) 1) xs cut whole (λ k l. (span_of_root (block_count bounds) k).1 l) x b apart h
+hull_of_root pts ids bounds xs b apart cut whole x h =
+    root_body pts ids bounds (InSpan (block_count bounds) 1) xs cut whole
+    (λ k l. (span_of_root (block_count bounds) k).1 l) x b apart h

@@ -13,7 +13,8 @@ use Rattle.qh_model.specs.headline.Polygons.{AreFaces, IsFacePolygon, IsFlatFace
 use Rattle.qh_model.specs.headline.Predicates.{place}
 use Rattle.qh_model.specs.headline.Hull.{BodyValue, HullValue, IsBody}
 use Rattle.qh_model.specs.headline.Text.{hull_text}
-use Rattle.qh_model.specs.laws.HullLaws.{BodyIsUnique, HullIsUnique, TextIsUnique, PolygonsAreUnique, EdgeCountIsUnique, RisingListIsUnique, DistinctIdsAreUnique}
+use Rattle.qh_model.specs.laws.HullLaws.{BodyIsUnique, HullIsUnique, TextIsUnique, PolygonsAreUnique, EdgeCountIsUnique}
+use Rattle.qh_model.specs.laws.HullLaws.{RisingListIsUnique, DistinctIdsAreUnique}
 use Rattle.qh_model.proofs.extremes.Dimensions.{one_dimension}
 use Rattle.qh_model.proofs.lists.Ordered.{ordered_rising, ordered_unique}
 use Rattle.qh_model.proofs.lists.OnceEach.{once_length}
@@ -29,7 +30,9 @@ rising_list_is_unique xs ys f g h = ordered_unique (λ i j. i < j) (λ i j p q. 
 
 -- the law
 pub distinct_ids_are_unique : DistinctIdsAreUnique
-distinct_ids_are_unique pts xs ys a b = rising_list_is_unique xs ys a.rising b.rising (λ i. (λ h. (b.members i).1 ((a.members i).0 h), λ h. (a.members i).1 ((b.members i).0 h)))
+distinct_ids_are_unique pts xs ys a b =
+    rising_list_is_unique xs ys a.rising b.rising
+    (λ i. (λ h. (b.members i).1 ((a.members i).0 h), λ h. (a.members i).1 ((b.members i).0 h)))
 
 -- the law
 pub edge_count_is_unique : EdgeCountIsUnique
@@ -44,19 +47,26 @@ one_face_list : (at : ℕ → Vector) (A : ℕ → Type 0) (ps qs : List (List �
 one_face_list at A ps qs a b = rising_unique ps qs a.rising b.rising (λ q. (over ps qs a b q, over qs ps b a q))
   where
     over : (ps qs : List (List ℕ)) → AreFaces at A ps → AreFaces at A qs → (q : List ℕ) → In q ps → In q qs
-    over ps qs a b q i = go (a.only q i)
+    over ps qs a b q i = from_witness (a.only q i)
       where
-        go : (i : ℕ) × (j : ℕ) × (k : ℕ) × IsSupportingTriple at A i j k × IsFacePolygon at A i j k q → In q qs
-        go (u, v, w, t, p) = let r = b.each u v w t in
+        from_witness : (i : ℕ) × (j : ℕ) × (k : ℕ) × IsSupportingTriple at A i j k × IsFacePolygon at A i j k q → In q qs
+        from_witness (u, v, w, t, p) = let r = b.each u v w t in
             subst (λ s. In s qs) (one_polygon at (OnPlane at (Extreme at A) u v w) (cross (at u) (at v) (at w)) r.0 q r.2 p) r.1
 
 -- dimension 2: one polygon
 one_flat_face : (at : ℕ → Vector) (A : ℕ → Type 0) → ¬ (HasTetrahedron at A) → (p q : List ℕ) → IsFlatFace at A p → IsFlatFace at A q → p ≡ q
-one_flat_face at A n p q a b = pick (flat_normals at A n a.i a.j a.k b.i b.j b.k a.has_i a.has_j a.has_k b.has_i b.has_j b.has_k (forward_not_zero _ a.forward) (forward_not_zero _ b.forward))
+one_flat_face at A n p q a b =
+    by_cases (flat_normals at A n a.i a.j a.k b.i b.j b.k a.has_i a.has_j a.has_k b.has_i b.has_j b.has_k
+    (forward_not_zero _ a.forward) (forward_not_zero _ b.forward))
   where
-    pick : IsAlong (cross (at a.i) (at a.j) (at a.k)) (cross (at b.i) (at b.j) (at b.k)) ⊎ IsAlong (cross (at a.i) (at a.j) (at a.k)) (cross (at b.i) (at b.k) (at b.j)) → p ≡ q
-    pick (inl h) = one_polygon at (Extreme at A) (cross (at b.i) (at b.j) (at b.k)) p q (polygon_as at (Extreme at A) (Extreme at A) (cross (at a.i) (at a.j) (at a.k)) (cross (at b.i) (at b.j) (at b.k)) p (λ i. (λ e. e, λ e. e)) h a.polygon) b.polygon
-    pick (inr h) = absurd (one_forward (cross (at b.i) (at b.j) (at b.k)) b.forward (subst PointsForward (cross-flip (at b.i) (at b.j) (at b.k)) (forward_along _ _ h a.forward)))
+    by_cases : IsAlong (cross (at a.i) (at a.j) (at a.k)) (cross (at b.i) (at b.j) (at b.k))
+        ⊎ IsAlong (cross (at a.i) (at a.j) (at a.k)) (cross (at b.i) (at b.k) (at b.j)) → p ≡ q
+    by_cases (inl h) = one_polygon at (Extreme at A) (cross (at b.i) (at b.j) (at b.k)) p q
+        (polygon_as at (Extreme at A) (Extreme at A) (cross (at a.i) (at a.j) (at a.k))
+        (cross (at b.i) (at b.j) (at b.k)) p (λ i. (λ e. e, λ e. e)) h a.polygon) b.polygon
+    by_cases (inr h) = absurd
+        (one_forward (cross (at b.i) (at b.j) (at b.k)) b.forward
+        (subst PointsForward (cross-flip (at b.i) (at b.j) (at b.k)) (forward_along _ _ h a.forward)))
 
 -- dimension 1: one pair
 one_segment_face : (at : ℕ → Vector) (A : ℕ → Type 0) (p q : List ℕ) → IsSegmentFace at A p → IsSegmentFace at A q → p ≡ q
@@ -86,7 +96,8 @@ one_point_face A n p q a b = a.is ∙ same (ℕ_discrete a.i b.i) ∙ sym b.is
     same (no d) = absurd (n (record { i = a.i; j = b.i; has_i = a.has_i; has_j = b.has_i; differ = d }))
 
 -- one list of one polygon
-one_of_one : (F : List ℕ → Type 0) → ((p q : List ℕ) → F p → F q → p ≡ q) → (ps qs : List (List ℕ)) → (p : List ℕ) × F p × (ps ≡ p ∷ []) → (q : List ℕ) × F q × (qs ≡ q ∷ []) → ps ≡ qs
+one_of_one : (F : List ℕ → Type 0) → ((p q : List ℕ) → F p → F q → p ≡ q) → (ps qs : List (List ℕ))
+    → (p : List ℕ) × F p × (ps ≡ p ∷ []) → (q : List ℕ) × F q × (qs ≡ q ∷ []) → ps ≡ qs
 one_of_one F u ps qs (p, a, e) (q, b, f) = e ∙ ap (λ r. r ∷ []) (u p q a b) ∙ sym f
 
 -- a set of dimension 2 has no tetrahedron
@@ -104,11 +115,13 @@ alone_of at A k e (inr (inr (inl (f, t, n)))) = absurd (omega arith)
 alone_of at A k e (inr (inr (inr (f, n)))) = n
 
 -- the cases of two lists of polygons of one dimension
-pub one_polygon_list : (at : ℕ → Vector) (A : ℕ → Type 0) (k : ℕ) (ps qs : List (List ℕ)) → IsDimension at A k → ArePolygons at A k ps → ArePolygons at A k qs → ps ≡ qs
+pub one_polygon_list : (at : ℕ → Vector) (A : ℕ → Type 0) (k : ℕ) (ps qs : List (List ℕ)) → IsDimension at A k
+    → ArePolygons at A k ps → ArePolygons at A k qs → ps ≡ qs
 one_polygon_list at A k ps qs d (inl (e, a)) (inl (f, b)) = one_face_list at A ps qs a b
 one_polygon_list at A k ps qs d (inr (inl (e, a))) (inr (inl (f, b))) = one_of_one (IsFlatFace at A) (one_flat_face at A (flat_of at A k e d)) ps qs a b
 one_polygon_list at A k ps qs d (inr (inr (inl (e, a)))) (inr (inr (inl (f, b)))) = one_of_one (IsSegmentFace at A) (one_segment_face at A) ps qs a b
-one_polygon_list at A k ps qs d (inr (inr (inr (e, a)))) (inr (inr (inr (f, b)))) = one_of_one (IsPointFace A) (one_point_face A (alone_of at A k e d)) ps qs a b
+one_polygon_list at A k ps qs d (inr (inr (inr (e, a)))) (inr (inr (inr (f, b)))) =
+    one_of_one (IsPointFace A) (one_point_face A (alone_of at A k e d)) ps qs a b
 one_polygon_list at A k ps qs d (inl (e, a)) (inr (inl (f, b))) = absurd (omega arith)
 one_polygon_list at A k ps qs d (inl (e, a)) (inr (inr (inl (f, b)))) = absurd (omega arith)
 one_polygon_list at A k ps qs d (inl (e, a)) (inr (inr (inr (f, b)))) = absurd (omega arith)
@@ -129,7 +142,10 @@ polygons_are_unique at ids k ps qs d a b = one_polygon_list at (Members ids) k p
 -- ---- whole bodies, hulls and texts
 -- a set has one body
 pub one_body : (at : ℕ → Vector) (A : ℕ → Type 0) (a b : BodyValue) → IsBody at A a → IsBody at A b → a ≡ b
-one_body at A a b f g = body_path a b dims extremes polygons (edge_count_is_unique a.polygons a.edges b.edges f.edges (subst (λ qs. IsEdgeCount qs b.edges) (sym polygons) g.edges))
+one_body at A a b f g =
+    body_path a b dims extremes polygons
+    (edge_count_is_unique a.polygons a.edges b.edges f.edges
+    (subst (λ qs. IsEdgeCount qs b.edges) (sym polygons) g.edges))
   where
     body_path : (a b : BodyValue) → a.dim ≡ b.dim → a.extremes ≡ b.extremes → a.polygons ≡ b.polygons → a.edges ≡ b.edges → a ≡ b
     body_path a b d e p n = λ i. record { dim = d i; extremes = e i; polygons = p i; edges = n i }
@@ -150,7 +166,10 @@ body_is_unique at ids a b f g = one_body at (Members ids) a b f g
 
 -- the law
 pub hull_is_unique : HullIsUnique
-hull_is_unique pts a b f g = hull_path a b (f.given ∙ sym g.given) (f.distinct ∙ ap length ids ∙ sym g.distinct) (one_body (place pts) (Members f.ids) a.body b.body f.body (subst (λ l. IsBody (place pts) (Members l) b.body) (sym ids) g.body))
+hull_is_unique pts a b f g =
+    hull_path a b (f.given ∙ sym g.given) (f.distinct ∙ ap length ids ∙ sym g.distinct)
+    (one_body (place pts) (Members f.ids) a.body b.body f.body
+    (subst (λ l. IsBody (place pts) (Members l) b.body) (sym ids) g.body))
   where
     hull_path : (a b : HullValue) → a.given ≡ b.given → a.distinct ≡ b.distinct → a.body ≡ b.body → a ≡ b
     hull_path a b e f g = λ i. record { given = e i; distinct = f i; body = g i }

@@ -16,8 +16,10 @@ of_map f (x ∷ xs) y (inl e) = (x, inl refl, e)
 of_map f (x ∷ xs) y (inr m) = let r = of_map f xs y m in (r.0, inr r.1, r.2)
 
 -- one more element of an image
-pub map-more : (f : ℕ → ℕ) (xs : List ℕ) (i d v : ℕ) (ks : List ℕ) → i < length xs → ks ≡ map f (take i xs) → v ≡ f (get_or xs i d) → ks ++ v ∷ [] ≡ map f (take (i + 1) xs)
-map-more f xs i d v ks h e k = ap (λ t. t ++ v ∷ []) e ∙ ap (λ t. map f (take i xs) ++ t ∷ []) k ∙ sym (map-append f (take i xs) (get_or xs i d ∷ [])) ∙ ap (map f) (sym (take_more xs i d h))
+pub map-more : (f : ℕ → ℕ) (xs : List ℕ) (i d v : ℕ) (ks : List ℕ) → i < length xs → ks ≡ map f (take i xs)
+    → v ≡ f (get_or xs i d) → ks ++ v ∷ [] ≡ map f (take (i + 1) xs)
+map-more f xs i d v ks h e k = ap (λ t. t ++ v ∷ []) e ∙ ap (λ t. map f (take i xs) ++ t ∷ []) k
+    ∙ sym (map-append f (take i xs) (get_or xs i d ∷ [])) ∙ ap (map f) (sym (take_more xs i d h))
 
 -- the image of a list that has each member once, under a function that keeps its members apart
 pub once_map : {X Y : Type 0} (f : X → Y) (xs : List X) → ((x y : X) → In x xs → In y xs → f x ≡ f y → x ≡ y) → Once xs → Once (map f xs)

@@ -15,20 +15,20 @@ in_append (y ∷ xs) ys x (inr h) = inr (in_append xs ys x (inr h))
 pub of_append : {X : Type 0} (xs ys : List X) (x : X) → In x (xs ++ ys) → In x xs ⊎ In x ys
 of_append [] ys x h = inr h
 of_append (y ∷ xs) ys x (inl e) = inl (inl e)
-of_append {X} (y ∷ xs) ys x (inr h) = go (of_append xs ys x h)
+of_append {X} (y ∷ xs) ys x (inr h) = by_cases (of_append xs ys x h)
   where
-    go : In x xs ⊎ In x ys → In x (y ∷ xs) ⊎ In x ys
-    go (inl k) = inl (inr k)
-    go (inr k) = inr k
+    by_cases : In x xs ⊎ In x ys → In x (y ∷ xs) ⊎ In x ys
+    by_cases (inl k) = inl (inr k)
+    by_cases (inr k) = inr k
 
 -- lists with nothing in common have each member once together
 pub once_append : {X : Type 0} (xs ys : List X) → Once xs → Once ys → ((x : X) → In x xs → In x ys → ⊥) → Once (xs ++ ys)
 once_append [] ys o p n = p
-once_append {X} (x ∷ xs) ys o p n = (λ i. go (of_append xs ys x i), once_append xs ys o.1 p (λ y i j. n y (inr i) j))
+once_append {X} (x ∷ xs) ys o p n = (λ i. by_cases (of_append xs ys x i), once_append xs ys o.1 p (λ y i j. n y (inr i) j))
   where
-    go : In x xs ⊎ In x ys → ⊥
-    go (inl i) = o.0 i
-    go (inr i) = n x (inl refl) i
+    by_cases : In x xs ⊎ In x ys → ⊥
+    by_cases (inl i) = o.0 i
+    by_cases (inr i) = n x (inl refl) i
 
 -- a member of the list of a member is one of all these lists joined
 pub in_flat_map : {X Y : Type 0} (f : X → List Y) (xs : List X) (x : X) (y : Y) → In x xs → In y (f x) → In y (flat_map f xs)
@@ -39,11 +39,11 @@ in_flat_map f (z ∷ xs) x y (inr m) h = in_append (f z) (flat_map f xs) y (inr 
 -- and back
 pub of_flat_map : {X Y : Type 0} (f : X → List Y) (xs : List X) (y : Y) → In y (flat_map f xs) → (x : X) × In x xs × In y (f x)
 of_flat_map f [] y m = absurd m
-of_flat_map {X} {Y} f (z ∷ xs) y m = go (of_flat_map f xs y) (of_append (f z) (flat_map f xs) y m)
+of_flat_map {X} {Y} f (z ∷ xs) y m = with_rest (of_flat_map f xs y) (of_append (f z) (flat_map f xs) y m)
   where
-    go : (In y (flat_map f xs) → (x : X) × In x xs × In y (f x)) → In y (f z) ⊎ In y (flat_map f xs) → (x : X) × In x (z ∷ xs) × In y (f x)
-    go rest (inl h) = (z, inl refl, h)
-    go rest (inr h) = let r = rest h in (r.0, inr r.1, r.2)
+    with_rest : (In y (flat_map f xs) → (x : X) × In x xs × In y (f x)) → In y (f z) ⊎ In y (flat_map f xs) → (x : X) × In x (z ∷ xs) × In y (f x)
+    with_rest rest (inl h) = (z, inl refl, h)
+    with_rest rest (inr h) = let r = rest h in (r.0, inr r.1, r.2)
 
 -- a beginning of a list that has each member once has too
 pub once_left : {X : Type 0} (xs ys : List X) → Once (xs ++ ys) → Once xs

@@ -25,11 +25,11 @@ without-others x [] i y j = absurd i
 without-others x (z ∷ xs) (inl e) y (inl d) = inl (d ∙ sym e)
 without-others x (z ∷ xs) (inl e) y (inr j) = inr j
 without-others x (z ∷ xs) (inr i) y (inl d) = inr (inl d)
-without-others {X} x (z ∷ xs) (inr i) y (inr j) = pick (without-others x xs i y j)
+without-others {X} x (z ∷ xs) (inr i) y (inr j) = by_cases (without-others x xs i y j)
   where
-    pick : (y ≡ x) ⊎ In y (without x xs i) → (y ≡ x) ⊎ ((y ≡ z) ⊎ In y (without x xs i))
-    pick (inl e) = inl e
-    pick (inr k) = inr (inr k)
+    by_cases : (y ≡ x) ⊎ In y (without x xs i) → (y ≡ x) ⊎ ((y ≡ z) ⊎ In y (without x xs i))
+    by_cases (inl e) = inl e
+    by_cases (inr k) = inr (inr k)
 
 -- a list that has each member once is no longer than one that has its members
 pub once_within : {X : Type 0} (xs ys : List X) → Once xs → ((z : X) → In z xs → In z ys) → length xs ≤ length ys

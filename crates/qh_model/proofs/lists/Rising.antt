@@ -12,7 +12,9 @@ use Rattle.qh_model.proofs.Cuts.{bounds_order}
 pub rising_between : (xs : List ℕ) (p q : ℕ) → IsStrictlyIncreasing xs → p < q → q < length xs → get_or xs p 0 < get_or xs q 0
 rising_between xs p q h l m =
     let step : get_or xs p 0 < get_or xs (p + 1) 0 = h p (grind (arith, l, m)) in
-    let rest : get_or xs (p + 1) 0 ≤ get_or xs q 0 = bounds_order (λ k. get_or xs k 0) (length xs - 1) (p + 1) q (λ k n. h k (grind (arith, n))) (grind (arith, l)) (grind (arith, m)) in
+    let rest : get_or xs (p + 1) 0 ≤ get_or xs q 0 =
+    bounds_order (λ k. get_or xs k 0) (length xs - 1) (p + 1) q (λ k n. h k (grind (arith, n))) (grind (arith, l))
+    (grind (arith, m)) in
     grind (arith, step, rest)
 
 -- the number at a position of a part
@@ -28,11 +30,22 @@ rising_part xs f n h k l =
     grind (arith, a, b, next)
 
 -- two rising lists, the second above the first, are one rising list
-pub rising_append : (xs ys : List ℕ) → IsStrictlyIncreasing xs → IsStrictlyIncreasing ys → ((x y : ℕ) → In x xs → In y ys → x < y) → IsStrictlyIncreasing (xs ++ ys)
+pub rising_append : (xs ys : List ℕ) → IsStrictlyIncreasing xs → IsStrictlyIncreasing ys
+    → ((x y : ℕ) → In x xs → In y ys → x < y) → IsStrictlyIncreasing (xs ++ ys)
 rising_append xs ys f g below k l =
-    let first : k + 1 < length xs → get_or (xs ++ ys) k 0 < get_or (xs ++ ys) (k + 1) 0 = (λ h. grind (arith, f k h, get_or_append_left xs ys 0 k, get_or_append_left xs ys 0 (k + 1))) in
+    let first : k + 1 < length xs → get_or (xs ++ ys) k 0 < get_or (xs ++ ys) (k + 1) 0 =
+    (λ h. grind (arith, f k h, get_or_append_left xs ys 0 k, get_or_append_left xs ys 0 (k + 1))) in
     let seam : k + 1 ≡ length xs → get_or (xs ++ ys) k 0 < get_or (xs ++ ys) (k + 1) 0 =
-    (λ h. grind (arith, h, l, common_steps, below (get_or xs k 0) (get_or ys 0 0) (In-get_or xs k 0 (grind (arith, h))) (In-get_or ys 0 0 (grind (arith, common_steps, h, l))), get_or_append_left xs ys 0 k, get_or-append_right xs ys (k + 1) 0)) in
+    (λ h. grind (
+      arith,
+      h,
+      l,
+      common_steps,
+      below (get_or xs k 0) (get_or ys 0 0) (In-get_or xs k 0 (grind (arith, h)))
+          (In-get_or ys 0 0 (grind (arith, common_steps, h, l))),
+      get_or_append_left xs ys 0 k,
+      get_or-append_right xs ys (k + 1) 0,
+    )) in
     let second : length xs ≤ k → get_or (xs ++ ys) k 0 < get_or (xs ++ ys) (k + 1) 0 =
     (λ h. grind (arith, h, g (k - length xs) (grind (arith, common_steps, h, l)), get_or-append_right xs ys k 0, get_or-append_right xs ys (k + 1) 0)) in
     grind (arith, first, seam, second)

@@ -8,13 +8,13 @@ use Rattle.qh_model.proofs.lists.Ranges.{pigeon}
 -- a number of which P holds, or none below n
 look : (P : ℕ → Type 0) → ((i : ℕ) → Dec (P i)) → (n : ℕ) → ((i : ℕ) × P i) ⊎ ((i : ℕ) → i < n → ¬ (P i))
 look P test zero = inr (λ i h. absurd (omega arith))
-look P test (suc n) = pick (test zero) (look (λ i. P (suc i)) (λ i. test (suc i)) n)
+look P test (suc n) = by_decision (test zero) (look (λ i. P (suc i)) (λ i. test (suc i)) n)
   where
-    pick : Dec (P zero) → ((i : ℕ) × P (suc i)) ⊎ ((i : ℕ) → i < n → ¬ (P (suc i)))
+    by_decision : Dec (P zero) → ((i : ℕ) × P (suc i)) ⊎ ((i : ℕ) → i < n → ¬ (P (suc i)))
         → ((i : ℕ) × P i) ⊎ ((i : ℕ) → i < suc n → ¬ (P i))
-    pick (yes p) r = inl (zero, p)
-    pick (no q) (inl r) = inl (suc r.0, r.1)
-    pick (no q) (inr r) = inr none
+    by_decision (yes p) r = inl (zero, p)
+    by_decision (no q) (inl r) = inl (suc r.0, r.1)
+    by_decision (no q) (inr r) = inr none
       where
         none : (i : ℕ) → i < suc n → ¬ (P i)
         none zero h = q
@@ -23,7 +23,7 @@ look P test (suc n) = pick (test zero) (look (λ i. P (suc i)) (λ i. test (suc 
 -- a walk that stays among the members of a list, and has one way only into each place, comes back to its first place
 pub comes_back : (u : ℕ → ℕ) (xs : List ℕ) → ((i : ℕ) → In (u i) xs) → ((i j : ℕ) → u (suc i) ≡ u (suc j) → u i ≡ u j)
     → (k : ℕ) × (u (suc k) ≡ u zero)
-comes_back u xs within one_way = pick (look (λ k. u (suc k) ≡ u zero) (λ k. ℕ_discrete (u (suc k)) (u zero)) (length xs))
+comes_back u xs within one_way = by_cases (look (λ k. u (suc k) ≡ u zero) (λ k. ℕ_discrete (u (suc k)) (u zero)) (length xs))
   where
     -- where the walk comes by a place again, it does so at its first place
     first_again : (i j : ℕ) → i < j → u i ≡ u j → (k : ℕ) × (k < j) × (u (suc k) ≡ u zero)
@@ -43,6 +43,6 @@ comes_back u xs within one_way = pick (look (λ k. u (suc k) ≡ u zero) (λ k. 
             let at_i = (in_at xs (u i) (within i)).2 in let at_j = (in_at xs (u j) (within j)).2 in
             let r = first_again i j h (sym at_i ∙ ap (λ k. get_or xs k 0) e ∙ at_j) in let b = r.1 in n r.0 (omega arith) r.2
 
-    pick : ((k : ℕ) × (u (suc k) ≡ u zero)) ⊎ ((k : ℕ) → k < length xs → u (suc k) ≡ u zero → ⊥) → (k : ℕ) × (u (suc k) ≡ u zero)
-    pick (inl r) = r
-    pick (inr n) = absurd (never n)
+    by_cases : ((k : ℕ) × (u (suc k) ≡ u zero)) ⊎ ((k : ℕ) → k < length xs → u (suc k) ≡ u zero → ⊥) → (k : ℕ) × (u (suc k) ≡ u zero)
+    by_cases (inl r) = r
+    by_cases (inr n) = absurd (never n)

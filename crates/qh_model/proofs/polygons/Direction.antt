@@ -9,7 +9,8 @@ use Rattle.qh_model.specs.laws.PolygonLaws.{PolygonByDirection}
 use Rattle.qh_model.proofs.extremes.Directions.{positive_along, left_along}
 
 -- the same set and direction, told otherwise
-pub polygon_as : (at : ℕ → Vector) (X Y : ℕ → Type 0) (n m : Vector) (q : List ℕ) → ((i : ℕ) → X i ↔ Y i) → IsAlong n m → IsPolygon at X n q → IsPolygon at Y m q
+pub polygon_as : (at : ℕ → Vector) (X Y : ℕ → Type 0) (n m : Vector) (q : List ℕ) → ((i : ℕ) → X i ↔ Y i) → IsAlong n m
+    → IsPolygon at X n q → IsPolygon at Y m q
 polygon_as at X Y n m q f h p = record {
   members = λ i. (λ j. (f i).0 ((p.members i).0 j), λ y. (p.members i).1 ((f i).1 y));
   once = p.once;

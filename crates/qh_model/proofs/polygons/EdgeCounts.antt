@@ -1,5 +1,6 @@
 -- The number of edges of faces, as a function, and the list of distinct pairs that it counts.
-use Rattle.std.proofs.Common.{ℕ, ◌≡◌, ◌≢◌, ◌<◌, suc, List, [], ◌∷◌, ◌⊎◌, inl, inr, refl, sym, subst, ap, ◌∙◌, length, arith, Bool, true, false, cond, min, max, eqb-true}
+use Rattle.std.proofs.Common.{ℕ, ◌≡◌, ◌≢◌, ◌<◌, suc, List, [], ◌∷◌, ◌⊎◌, inl, inr, refl, sym, subst, ap, ◌∙◌, length}
+use Rattle.std.proofs.Common.{arith, Bool, true, false, cond, min, max, eqb-true}
 use Rattle.std.proofs.lemmas.Bool.{eqb-false}
 use Rattle.std.specs.Prelude.{◌==◌, ◌&&◌, ◌||◌, if◌then◌else◌}
 use Rattle.std.specs.List.{flat_map, list_any}
@@ -23,75 +24,78 @@ distinct ((u, v) ∷ ps) = if (u == v) || list_any (λ p. (p.0 == u) && (p.1 == 
 -- it is as long as pairs are counted
 pub length-distinct : (ps : List (ℕ × ℕ)) → length (distinct ps) ≡ count_pairs ps
 length-distinct [] = refl
-length-distinct ((u, v) ∷ ps) = by ((u == v) || list_any (λ p. (p.0 == u) && (p.1 == v)) ps) (length-distinct ps)
+length-distinct ((u, v) ∷ ps) = by_test ((u == v) || list_any (λ p. (p.0 == u) && (p.1 == v)) ps) (length-distinct ps)
   where
-    by : (b : Bool) → length (distinct ps) ≡ count_pairs ps → length (cond b (distinct ps) ((u, v) ∷ distinct ps)) ≡ cond b (count_pairs ps) (suc (count_pairs ps))
-    by true e = e
-    by false e = ap suc e
+    by_test : (b : Bool) → length (distinct ps) ≡ count_pairs ps
+        → length (cond b (distinct ps) ((u, v) ∷ distinct ps)) ≡ cond b (count_pairs ps) (suc (count_pairs ps))
+    by_test true e = e
+    by_test false e = ap suc e
 
 -- a test that finds the pair
 found : (u v : ℕ) (ps : List (ℕ × ℕ)) → list_any (is_pair u v) ps ≡ true → In (u, v) ps
 found u v [] e = cc
-found u v ((a, b) ∷ ps) e = by (found u v ps) (a == u) (b == v) refl refl e
+found u v ((a, b) ∷ ps) e = with_rest (found u v ps) (a == u) (b == v) refl refl e
   where
-    by : (list_any (is_pair u v) ps ≡ true → In (u, v) ps) → (s t : Bool) → (a == u) ≡ s → (b == v) ≡ t → ((s && t) || list_any (is_pair u v) ps) ≡ true
+    with_rest : (list_any (is_pair u v) ps ≡ true → In (u, v) ps) → (s t : Bool) → (a == u) ≡ s → (b == v) ≡ t → ((s && t) || list_any (is_pair u v) ps) ≡ true
         → In (u, v) ((a, b) ∷ ps)
-    by rest true true p q h =
+    with_rest rest true true p q h =
         subst (λ x. In (x, v) ((a, b) ∷ ps)) (eqb-true a u p) (subst (λ y. In (a, y) ((a, b) ∷ ps)) (eqb-true b v q) (inl refl))
-    by rest true false p q h = inr (rest h)
-    by rest false t p q h = inr (rest h)
+    with_rest rest true false p q h = inr (rest h)
+    with_rest rest false t p q h = inr (rest h)
 
 -- and one that does not
 missed : (u v : ℕ) (ps : List (ℕ × ℕ)) → list_any (is_pair u v) ps ≡ false → ¬ (In (u, v) ps)
 missed u v [] e m = m
-missed u v ((a, b) ∷ ps) e m = by (missed u v ps) (a == u) (b == v) refl refl e m
+missed u v ((a, b) ∷ ps) e m = with_rest (missed u v ps) (a == u) (b == v) refl refl e m
   where
-    by : (list_any (is_pair u v) ps ≡ false → ¬ (In (u, v) ps)) → (s t : Bool) → (a == u) ≡ s → (b == v) ≡ t → ((s && t) || list_any (is_pair u v) ps) ≡ false
+    with_rest : (list_any (is_pair u v) ps ≡ false → ¬ (In (u, v) ps)) → (s t : Bool) → (a == u) ≡ s → (b == v) ≡ t
+        → ((s && t) || list_any (is_pair u v) ps) ≡ false
         → ¬ (In (u, v) ((a, b) ∷ ps))
-    by rest true true p q h m = cc
-    by rest true false p q h (inl f) = eqb-false b v q (sym (ap (λ (x : ℕ × ℕ). x.1) f))
-    by rest true false p q h (inr m) = rest h m
-    by rest false t p q h (inl f) = eqb-false a u p (sym (ap (λ (x : ℕ × ℕ). x.0) f))
-    by rest false t p q h (inr m) = rest h m
+    with_rest rest true true p q h m = cc
+    with_rest rest true false p q h (inl f) = eqb-false b v q (sym (ap (λ (x : ℕ × ℕ). x.1) f))
+    with_rest rest true false p q h (inr m) = rest h m
+    with_rest rest false t p q h (inl f) = eqb-false a u p (sym (ap (λ (x : ℕ × ℕ). x.0) f))
+    with_rest rest false t p q h (inr m) = rest h m
 
 -- its members are pairs of the list, of two different ids
 pub of_distinct : (ps : List (ℕ × ℕ)) (u v : ℕ) → In (u, v) (distinct ps) → In (u, v) ps × (u ≢ v)
 of_distinct [] u v m = absurd m
-of_distinct ((a, b) ∷ ps) u v m = by (of_distinct ps u v) (a == b) (list_any (is_pair a b) ps) refl m
+of_distinct ((a, b) ∷ ps) u v m = with_rest (of_distinct ps u v) (a == b) (list_any (is_pair a b) ps) refl m
   where
     later : In (u, v) ps × (u ≢ v) → In (u, v) ((a, b) ∷ ps) × (u ≢ v)
     later r = (inr r.0, r.1)
 
-    by : (In (u, v) (distinct ps) → In (u, v) ps × (u ≢ v)) → (s t : Bool) → (a == b) ≡ s → In (u, v) (cond (s || t) (distinct ps) ((a, b) ∷ distinct ps))
+    with_rest : (In (u, v) (distinct ps) → In (u, v) ps × (u ≢ v)) → (s t : Bool) → (a == b) ≡ s
+        → In (u, v) (cond (s || t) (distinct ps) ((a, b) ∷ distinct ps))
         → In (u, v) ((a, b) ∷ ps) × (u ≢ v)
-    by rest true t p m = later (rest m)
-    by rest false true p m = later (rest m)
-    by rest false false p (inl f) = (inl f, λ e. eqb-false a b p (sym (ap (λ (x : ℕ × ℕ). x.0) f) ∙ e ∙ ap (λ (x : ℕ × ℕ). x.1) f))
-    by rest false false p (inr m) = later (rest m)
+    with_rest rest true t p m = later (rest m)
+    with_rest rest false true p m = later (rest m)
+    with_rest rest false false p (inl f) = (inl f, λ e. eqb-false a b p (sym (ap (λ (x : ℕ × ℕ). x.0) f) ∙ e ∙ ap (λ (x : ℕ × ℕ). x.1) f))
+    with_rest rest false false p (inr m) = later (rest m)
 
 -- and all of these
 pub in_distinct : (ps : List (ℕ × ℕ)) (u v : ℕ) → In (u, v) ps → u ≢ v → In (u, v) (distinct ps)
 in_distinct [] u v m d = absurd m
-in_distinct ((a, b) ∷ ps) u v m d = by (λ i. in_distinct ps u v i d) (a == b) (list_any (is_pair a b) ps) refl refl m
+in_distinct ((a, b) ∷ ps) u v m d = with_rest (λ i. in_distinct ps u v i d) (a == b) (list_any (is_pair a b) ps) refl refl m
   where
-    by : (In (u, v) ps → In (u, v) (distinct ps)) → (s t : Bool) → (a == b) ≡ s → list_any (is_pair a b) ps ≡ t → In (u, v) ((a, b) ∷ ps)
+    with_rest : (In (u, v) ps → In (u, v) (distinct ps)) → (s t : Bool) → (a == b) ≡ s → list_any (is_pair a b) ps ≡ t → In (u, v) ((a, b) ∷ ps)
         → In (u, v) (cond (s || t) (distinct ps) ((a, b) ∷ distinct ps))
-    by rest true t p q (inl f) = absurd (d (ap (λ (x : ℕ × ℕ). x.0) f ∙ eqb-true a b p ∙ sym (ap (λ (x : ℕ × ℕ). x.1) f)))
-    by rest true t p q (inr m) = rest m
-    by rest false true p q (inl f) = rest (subst (λ x. In x ps) (sym f) (found a b ps q))
-    by rest false true p q (inr m) = rest m
-    by rest false false p q (inl f) = inl f
-    by rest false false p q (inr m) = inr (rest m)
+    with_rest rest true t p q (inl f) = absurd (d (ap (λ (x : ℕ × ℕ). x.0) f ∙ eqb-true a b p ∙ sym (ap (λ (x : ℕ × ℕ). x.1) f)))
+    with_rest rest true t p q (inr m) = rest m
+    with_rest rest false true p q (inl f) = rest (subst (λ x. In x ps) (sym f) (found a b ps q))
+    with_rest rest false true p q (inr m) = rest m
+    with_rest rest false false p q (inl f) = inl f
+    with_rest rest false false p q (inr m) = inr (rest m)
 
 -- each once
 pub once_distinct : (ps : List (ℕ × ℕ)) → Once (distinct ps)
 once_distinct [] = tt
-once_distinct ((a, b) ∷ ps) = by (once_distinct ps) (a == b) (list_any (is_pair a b) ps) refl
+once_distinct ((a, b) ∷ ps) = with_rest (once_distinct ps) (a == b) (list_any (is_pair a b) ps) refl
   where
-    by : Once (distinct ps) → (s t : Bool) → list_any (is_pair a b) ps ≡ t → Once (cond (s || t) (distinct ps) ((a, b) ∷ distinct ps))
-    by rest true t q = rest
-    by rest false true q = rest
-    by rest false false q = ((λ m. missed a b ps q (of_distinct ps a b m).0), rest)
+    with_rest : Once (distinct ps) → (s t : Bool) → list_any (is_pair a b) ps ≡ t → Once (cond (s || t) (distinct ps) ((a, b) ∷ distinct ps))
+    with_rest rest true t q = rest
+    with_rest rest false true q = rest
+    with_rest rest false false q = ((λ m. missed a b ps q (of_distinct ps a b m).0), rest)
 
 -- ---- pairs of neighbours
 -- neighbours on a way, the lower first
@@ -131,17 +135,17 @@ in_round u v (t ∷ r) h (inr f) = let o = turned u v h in subst (λ x. In x (pa
 -- and back
 of_round : (a b : ℕ) (q : List ℕ) → In (a, b) (pairs_round q) → a ≢ b → (a < b) × (Follows a b q ⊎ Follows b a q)
 of_round a b [] m d = absurd m
-of_round a b (t ∷ r) m d = go (of_along a b t r t m)
+of_round a b (t ∷ r) m d = along_ring (of_along a b t r t m)
   where
-    go : IsNeighbours t r t a b → (a < b) × (FollowsAlong a b t r t ⊎ FollowsAlong b a t r t)
-    go s = pick (way s.u s.v s.low s.high)
+    along_ring : IsNeighbours t r t a b → (a < b) × (FollowsAlong a b t r t ⊎ FollowsAlong b a t r t)
+    along_ring s = by_direction (way s.u s.v s.low s.high)
       where
         way : (u v : ℕ) → a ≡ min u v → b ≡ max u v → (a < b) × (((a ≡ u) × (b ≡ v)) ⊎ ((a ≡ v) × (b ≡ u)))
         way u v low high = grind (arith, low, high, d)
 
-        pick : (a < b) × (((a ≡ s.u) × (b ≡ s.v)) ⊎ ((a ≡ s.v) × (b ≡ s.u))) → (a < b) × (FollowsAlong a b t r t ⊎ FollowsAlong b a t r t)
-        pick (h, inl (p, q)) = (h, inl (subst (λ x. FollowsAlong x b t r t) (sym p) (subst (λ y. FollowsAlong s.u y t r t) (sym q) s.follows)))
-        pick (h, inr (p, q)) = (h, inr (subst (λ x. FollowsAlong x a t r t) (sym q) (subst (λ y. FollowsAlong s.u y t r t) (sym p) s.follows)))
+        by_direction : (a < b) × (((a ≡ s.u) × (b ≡ s.v)) ⊎ ((a ≡ s.v) × (b ≡ s.u))) → (a < b) × (FollowsAlong a b t r t ⊎ FollowsAlong b a t r t)
+        by_direction (h, inl (p, q)) = (h, inl (subst (λ x. FollowsAlong x b t r t) (sym p) (subst (λ y. FollowsAlong s.u y t r t) (sym q) s.follows)))
+        by_direction (h, inr (p, q)) = (h, inr (subst (λ x. FollowsAlong x a t r t) (sym q) (subst (λ y. FollowsAlong s.u y t r t) (sym p) s.follows)))
 
 -- the law
 pub edges_are_counted : EdgesAreCounted
@@ -153,10 +157,10 @@ edges_are_counted qs = record {
 }
   where
     there : (u v : ℕ) → In (u, v) (flat_map pairs_round qs) × (u ≢ v) → IsEdge qs u v
-    there u v (m, d) = go (of_flat_map pairs_round qs (u, v) m)
+    there u v (m, d) = from_witness (of_flat_map pairs_round qs (u, v) m)
       where
-        go : (q : List ℕ) × In q qs × In (u, v) (pairs_round q) → IsEdge qs u v
-        go (q, i, h) = let r = of_round u v q h d in (r.0, (q, i, r.1))
+        from_witness : (q : List ℕ) × In q qs × In (u, v) (pairs_round q) → IsEdge qs u v
+        from_witness (q, i, h) = let r = of_round u v q h d in (r.0, (q, i, r.1))
 
     back : (u v : ℕ) → IsEdge qs u v → In (u, v) (distinct (flat_map pairs_round qs))
     back u v (h, (q, i, f)) = in_distinct (flat_map pairs_round qs) u v (in_flat_map pairs_round qs q (u, v) i (in_round u v q h f)) (λ e. omega arith)

@@ -15,8 +15,11 @@ use Rattle.qh_model.specs.laws.FaceLaws.{IsAlong, SpannedByExtremes}
 use Rattle.qh_model.specs.headline.Polygon.{Follows}
 use Rattle.qh_model.specs.headline.Polygons.{IsFacePolygon}
 use Rattle.qh_model.specs.laws.EdgeLaws.{OneFaceEachWay, OtherFace}
-use Rattle.qh_model.proofs.algebra.Order.{mul-pos, mul-nonneg_nonpos, mul-pos_neg, mul-neg_neg, cancel-nonpos, cancel-zero, zero_or_not, le_antisym, positive_le, product_zero}
-use Rattle.qh_model.proofs.algebra.VectorIdentities.{opposite, dot-opposite, edge_product, vol-first, vol-second, vol-third, vol-flip, vol-swap_last, left-flip, left-linear, in_line-vol, in_line-left, in_line-twice, in_line-last}
+use Rattle.qh_model.proofs.algebra.Order.{mul-pos, mul-nonneg_nonpos, mul-pos_neg, mul-neg_neg, cancel-nonpos}
+use Rattle.qh_model.proofs.algebra.Order.{cancel-zero, zero_or_not, le_antisym, positive_le, product_zero}
+use Rattle.qh_model.proofs.algebra.VectorIdentities.{opposite, dot-opposite, edge_product, vol-first, vol-second}
+use Rattle.qh_model.proofs.algebra.VectorIdentities.{vol-third, vol-flip, vol-swap_last, left-flip, left-linear}
+use Rattle.qh_model.proofs.algebra.VectorIdentities.{in_line-vol, in_line-left, in_line-twice, in_line-last}
 use Rattle.qh_model.proofs.algebra.Signs.{less_differ}
 use Rattle.qh_model.proofs.algebra.Integers.{mul_comm}
 use Rattle.qh_model.proofs.extremes.Directions.{square-positive, vol_along, in_line-flip, zero_along}
@@ -62,18 +65,18 @@ not_zero x h e = omega (arith, ints)
 -- ---- a third member
 -- of three different numbers one is neither of two
 other_of_three : (x y z u v : ℕ) → x ≢ y → y ≢ z → x ≢ z → (w : ℕ) × ((w ≡ x) ⊎ (w ≡ y) ⊎ (w ≡ z)) × (w ≢ u) × (w ≢ v)
-other_of_three x y z u v xy yz xz = pick (ℕ_discrete x u) (ℕ_discrete x v) (ℕ_discrete y u) (ℕ_discrete y v)
+other_of_three x y z u v xy yz xz = by_decision (ℕ_discrete x u) (ℕ_discrete x v) (ℕ_discrete y u) (ℕ_discrete y v)
   where
     Found : Type 0
     Found = (w : ℕ) × ((w ≡ x) ⊎ (w ≡ y) ⊎ (w ≡ z)) × (w ≢ u) × (w ≢ v)
 
-    pick : Dec (x ≡ u) → Dec (x ≡ v) → Dec (y ≡ u) → Dec (y ≡ v) → Found
-    pick (no a) (no b) c d = (x, inl refl, a, b)
-    pick a b (no c) (no d) = (y, inr (inl refl), c, d)
-    pick (yes a) b (yes c) d = absurd (xy (a ∙ sym c))
-    pick a (yes b) c (yes d) = absurd (xy (b ∙ sym d))
-    pick (yes a) (no b) (no c) (yes d) = (z, inr (inr refl), (λ e. xz (a ∙ sym e)), (λ e. yz (d ∙ sym e)))
-    pick (no a) (yes b) (yes c) (no d) = (z, inr (inr refl), (λ e. yz (c ∙ sym e)), (λ e. xz (b ∙ sym e)))
+    by_decision : Dec (x ≡ u) → Dec (x ≡ v) → Dec (y ≡ u) → Dec (y ≡ v) → Found
+    by_decision (no a) (no b) c d = (x, inl refl, a, b)
+    by_decision a b (no c) (no d) = (y, inr (inl refl), c, d)
+    by_decision (yes a) b (yes c) d = absurd (xy (a ∙ sym c))
+    by_decision a (yes b) c (yes d) = absurd (xy (b ∙ sym d))
+    by_decision (yes a) (no b) (no c) (yes d) = (z, inr (inr refl), (λ e. xz (a ∙ sym e)), (λ e. yz (d ∙ sym e)))
+    by_decision (no a) (yes b) (yes c) (no d) = (z, inr (inr refl), (λ e. yz (c ∙ sym e)), (λ e. xz (b ∙ sym e)))
 
 -- a supporting plane, its polygon, and two neighbours on it
 pub record Way (at : ℕ → Vector) (A : ℕ → Type 0) (i j k : ℕ) (q : List ℕ) (u v : ℕ) : Type 0 where
@@ -89,7 +92,8 @@ pub record Third (at : ℕ → Vector) (A : ℕ → Type 0) (i j k u v : ℕ) : 
   pub not_v : w ≢ v
   pub turns : pos 0 <ℤ left (cross (at i) (at j) (at k)) (at u) (at v) (at w)
 
-module _ (at : ℕ → Vector) (ids : List ℕ) (d : HasDistinctPoints at (Members ids)) (i j k : ℕ) (q : List ℕ) (u v : ℕ) (way : Way at (Members ids) i j k q u v) where
+module _ (at : ℕ → Vector) (ids : List ℕ) (d : HasDistinctPoints at (Members ids)) (i j k : ℕ) (q : List ℕ) (u v : ℕ)
+    (way : Way at (Members ids) i j k q u v) where
   abbrev n : Vector
   n = cross (at i) (at j) (at k)
 
@@ -105,10 +109,10 @@ module _ (at : ℕ → Vector) (ids : List ℕ) (d : HasDistinctPoints at (Membe
 
   -- there is a third
   pub third : Third at (Members ids) i j k u v
-  third = pick (planes_of_extremes at ids d i j k way.triple)
+  third = from_spanned (planes_of_extremes at ids d i j k way.triple)
     where
-      pick : SpannedByExtremes at (Members ids) i j k → Third at (Members ids) i j k u v
-      pick s = go (other_of_three s.u s.v s.w u v xy yz xz)
+      from_spanned : SpannedByExtremes at (Members ids) i j k → Third at (Members ids) i j k u v
+      from_spanned s = from_witness (other_of_three s.u s.v s.w u v xy yz xz)
         where
           xy : s.u ≢ s.v
           xy e = s.area (subst (λ t. AreInLine (at s.u) (at t) (at s.w)) e (in_line-twice (at s.u) (at s.w)))
@@ -124,20 +128,22 @@ module _ (at : ℕ → Vector) (ids : List ℕ) (d : HasDistinctPoints at (Membe
           on w (inr (inl e)) = subst (OnPlane at (Extreme at (Members ids)) i j k) (sym e) (s.has_v, (s.same s.v).1 (vol-second (at s.u) (at s.v) (at s.w)))
           on w (inr (inr e)) = subst (OnPlane at (Extreme at (Members ids)) i j k) (sym e) (s.has_w, (s.same s.w).1 (vol-third (at s.u) (at s.v) (at s.w)))
 
-          go : (w : ℕ) × ((w ≡ s.u) ⊎ (w ≡ s.v) ⊎ (w ≡ s.w)) × (w ≢ u) × (w ≢ v) → Third at (Members ids) i j k u v
-          go f = record { w = f.0; member = on f.0 f.1; not_u = f.2; not_v = f.3; turns = to_left f.0 (on f.0 f.1) f.2 f.3 }
+          from_witness : (w : ℕ) × ((w ≡ s.u) ⊎ (w ≡ s.v) ⊎ (w ≡ s.w)) × (w ≢ u) × (w ≢ v) → Third at (Members ids) i j k u v
+          from_witness f = record { w = f.0; member = on f.0 f.1; not_u = f.2; not_v = f.3; turns = to_left f.0 (on f.0 f.1) f.2 f.3 }
 
   -- the square of the normal
   square : pos 0 <ℤ dot n n
   square = square-positive n way.triple.area
 
   -- volumes over u, v and a point of the plane
-  over : (l : ℕ) (y : Vector) → vol (at i) (at j) (at k) (at l) ≡ pos 0 → dot n n *ℤ vol (at u) (at v) (at l) y ≡ left n (at u) (at v) (at l) *ℤ vol (at i) (at j) (at k) y
+  over : (l : ℕ) (y : Vector) → vol (at i) (at j) (at k) (at l) ≡ pos 0
+      → dot n n *ℤ vol (at u) (at v) (at l) y ≡ left n (at u) (at v) (at l) *ℤ vol (at i) (at j) (at k) y
   over l y e = level_volume (at i) (at j) (at k) (at u) (at v) (at l) y has_u.1 has_v.1 e
 
   -- no member of the plane lies to the right
   not_right : (l : ℕ) → OnPlane at (Members ids) i j k l → pos 0 ≤ℤ left n (at u) (at v) (at l)
-  not_right l h = go (listed_part (Members ids) (λ x. vol (at i) (at j) (at k) (at x) ≡ pos 0) (λ x. zero_or_not (vol (at i) (at j) (at k) (at x))) ids (listed_itself ids))
+  not_right l h = from_witness (listed_part (Members ids) (λ x. vol (at i) (at j) (at k) (at x) ≡ pos 0)
+      (λ x. zero_or_not (vol (at i) (at j) (at k) (at x))) ids (listed_itself ids))
     where
       F : ℕ → Type 0
       F = OnPlane at (Members ids) i j k
@@ -152,19 +158,24 @@ module _ (at : ℕ → Vector) (ids : List ℕ) (d : HasDistinctPoints at (Membe
       extreme x e = test (ℕ_discrete x u) (ℕ_discrete x v)
         where
           test : Dec (x ≡ u) → Dec (x ≡ v) → pos 0 ≤ℤ left n (at u) (at v) (at x)
-          test (yes p) b = level _ (ap (λ t. left n (at u) (at v) (at t)) p ∙ in_line-left n (at u) (at v) (at u) (in_line-flip (at u) (at v) (at u) (in_line-twice (at u) (at v))))
+          test (yes p) b = level _
+              (ap (λ t. left n (at u) (at v) (at t)) p
+              ∙ in_line-left n (at u) (at v) (at u) (in_line-flip (at u) (at v) (at u) (in_line-twice (at u) (at v))))
           test (no a) (yes p) = level _ (ap (λ t. left n (at u) (at v) (at t)) p ∙ in_line-left n (at u) (at v) (at v) (in_line-last (at u) (at v)))
           test (no a) (no b) = positive_le _ (to_left x e a b)
 
       -- along the opposite of c all extremes are lower than what lies to the right
       lower : (x : ℕ) → Extreme at F x → left n (at u) (at v) (at l) <ℤ pos 0 → dot (opposite c) (at x) <ℤ dot (opposite c) (at l)
-      lower x e r = order _ _ _ _ _ _ _ (left-linear n (at u) (at v) (at l)) (left-linear n (at u) (at v) (at x)) (dot-opposite c (at x)) (dot-opposite c (at l)) r (extreme x ((extremes_of_face at ids i j k way.triple.supports x).0 e))
+      lower x e r = order _ _ _ _ _ _ _ (left-linear n (at u) (at v) (at l)) (left-linear n (at u) (at v) (at x))
+          (dot-opposite c (at x)) (dot-opposite c (at l)) r
+          (extreme x ((extremes_of_face at ids i j k way.triple.supports x).0 e))
         where
           order : (y z p r m x' l' : ℤ) → y ≡ p +ℤ m → z ≡ r +ℤ m → x' ≡ neg_ℤ r → l' ≡ neg_ℤ p → y <ℤ pos 0 → pos 0 ≤ℤ z → x' <ℤ l'
           order y z p r m x' l' e f g h a b = omega (arith, ints)
 
-      go : (ys : List ℕ) × Listed F ys → pos 0 ≤ℤ left n (at u) (at v) (at l)
-      go (ys, s) = by_lt_z (left n (at u) (at v) (at l)) (pos 0) (λ r. absurd (clash r (combination_of_extremes at F ys s (λ x y fx fy e. d x y fx.0 fy.0 e) l h))) (λ r. r)
+      from_witness : (ys : List ℕ) × Listed F ys → pos 0 ≤ℤ left n (at u) (at v) (at l)
+      from_witness (ys, s) = by_lt_z (left n (at u) (at v) (at l)) (pos 0)
+          (λ r. absurd (clash r (combination_of_extremes at F ys s (λ x y fx fy e. d x y fx.0 fy.0 e) l h))) (λ r. r)
         where
           clash : left n (at u) (at v) (at l) <ℤ pos 0 → Combination at (Extreme at F) (at l) → ⊥
           clash r m = all_lower at (Extreme at F) (at l) (opposite c) m (lower m.a m.has_a r) (lower m.b m.has_b r) (lower m.c m.has_c r) (lower m.d m.has_d r)
@@ -175,7 +186,9 @@ both_zero : (x y : ℤ) → x ≡ neg_ℤ y → x ≤ℤ pos 0 → y ≤ℤ pos 
 both_zero x y e h k = omega (arith, ints)
 
 -- a face seen from a triangle of its plane
-pub seen_from : (at : ℕ → Vector) (A : ℕ → Type 0) (i j k u v y : ℕ) (q : List ℕ) → IsFacePolygon at A i j k q → IsAlong (cross (at i) (at j) (at k)) (cross (at u) (at v) (at y)) → vol (at i) (at j) (at k) (at u) ≡ pos 0 → IsFacePolygon at A u v y q
+pub seen_from : (at : ℕ → Vector) (A : ℕ → Type 0) (i j k u v y : ℕ) (q : List ℕ) → IsFacePolygon at A i j k q
+    → IsAlong (cross (at i) (at j) (at k)) (cross (at u) (at v) (at y)) → vol (at i) (at j) (at k) (at u) ≡ pos 0
+    → IsFacePolygon at A u v y q
 seen_from at A i j k u v y q p h z =
     polygon_as at (OnPlane at (Extreme at A) i j k) (OnPlane at (Extreme at A) u v y) (cross (at i) (at j) (at k)) (cross (at u) (at v) (at y)) q
     (λ l. (λ o. (o.0, zero_along h.s h.t _ _ h.some_t (scale l) o.1), λ o. (o.0, zero_along h.t h.s _ _ h.some_s (sym (scale l)) o.1))) h p
@@ -185,7 +198,7 @@ seen_from at A i j k u v y q p h z =
 
 -- the law
 pub one_face_each_way : OneFaceEachWay
-one_face_each_way at ids i j k a b c p q u v d t r f g x y = go (third at ids d i j k p u v one) (third at ids d a b c q u v two)
+one_face_each_way at ids i j k a b c p q u v d t r f g x y = from_thirds (third at ids d i j k p u v one) (third at ids d a b c q u v two)
   where
     A : ℕ → Type 0
     A = Members ids
@@ -196,19 +209,27 @@ one_face_each_way at ids i j k a b c p q u v d t r f g x y = go (third at ids d 
     two : Way at A a b c q u v
     two = record { triple = r; face = g; follows = y }
 
-    go : Third at A i j k u v → Third at A a b c u v → p ≡ q
-    go w s = one_polygon at (OnPlane at (Extreme at A) u v s.w) (cross (at u) (at v) (at s.w)) p q
-        (seen_from at A i j k u v s.w p f (level_along (at i) (at j) (at k) (at u) (at v) (at s.w) t.area (has_u at ids d i j k p u v one).1 (has_v at ids d i j k p u v one).1 level (to_left at ids d i j k p u v one s.w (s.member.0, level) s.not_u s.not_v)) (has_u at ids d i j k p u v one).1)
-        (seen_from at A a b c u v s.w q g (level_along (at a) (at b) (at c) (at u) (at v) (at s.w) r.area (has_u at ids d a b c q u v two).1 (has_v at ids d a b c q u v two).1 s.member.1 s.turns) (has_u at ids d a b c q u v two).1)
+    from_thirds : Third at A i j k u v → Third at A a b c u v → p ≡ q
+    from_thirds w s = one_polygon at (OnPlane at (Extreme at A) u v s.w) (cross (at u) (at v) (at s.w)) p q
+        (seen_from at A i j k u v s.w p f
+        (level_along (at i) (at j) (at k) (at u) (at v) (at s.w) t.area (has_u at ids d i j k p u v one).1
+        (has_v at ids d i j k p u v one).1 level
+        (to_left at ids d i j k p u v one s.w (s.member.0, level) s.not_u s.not_v)) (has_u at ids d i j k p u v one).1)
+        (seen_from at A a b c u v s.w q g
+        (level_along (at a) (at b) (at c) (at u) (at v) (at s.w) r.area (has_u at ids d a b c q u v two).1
+        (has_v at ids d a b c q u v two).1 s.member.1 s.turns) (has_u at ids d a b c q u v two).1)
       where
         lhs : vol (at u) (at v) (at w.w) (at s.w) ≤ℤ pos 0
-        lhs = at_most _ _ _ _ (square at ids d i j k p u v one) (over at ids d i j k p u v one w.w (at s.w) w.member.1) (positive_le _ w.turns) (t.supports s.w s.member.0.0)
+        lhs = at_most _ _ _ _ (square at ids d i j k p u v one) (over at ids d i j k p u v one w.w (at s.w) w.member.1)
+            (positive_le _ w.turns) (t.supports s.w s.member.0.0)
 
         rhs : vol (at u) (at v) (at s.w) (at w.w) ≤ℤ pos 0
-        rhs = at_most _ _ _ _ (square at ids d a b c q u v two) (over at ids d a b c q u v two s.w (at w.w) s.member.1) (positive_le _ s.turns) (r.supports w.w w.member.0.0)
+        rhs = at_most _ _ _ _ (square at ids d a b c q u v two) (over at ids d a b c q u v two s.w (at w.w) s.member.1)
+            (positive_le _ s.turns) (r.supports w.w w.member.0.0)
 
         flat : left (cross (at i) (at j) (at k)) (at u) (at v) (at w.w) *ℤ vol (at i) (at j) (at k) (at s.w) ≡ pos 0
-        flat = sym (over at ids d i j k p u v one w.w (at s.w) w.member.1) ∙ product_zero _ _ (both_zero _ _ (vol-swap_last (at u) (at v) (at w.w) (at s.w)) lhs rhs)
+        flat = sym (over at ids d i j k p u v one w.w (at s.w) w.member.1)
+            ∙ product_zero _ _ (both_zero _ _ (vol-swap_last (at u) (at v) (at w.w) (at s.w)) lhs rhs)
 
         level : vol (at i) (at j) (at k) (at s.w) ≡ pos 0
         level = cancel-zero _ _ w.turns flat
@@ -238,7 +259,9 @@ true_below (negsuc n) h = omega (arith, ints)
 
 -- of two points the one beyond the plane of the other and the line u v comes first, by their volumes with a and b
 gift_wrap : (u v a b p y : Vector) → pos 0 <ℤ vol u v a b → pos 0 <ℤ vol u v p y → pos 0 <ℤ (vol u v a p *ℤ vol u v b y -ℤ vol u v b p *ℤ vol u v a y)
-gift_wrap u v a b p y h k = finish (vol u v a p *ℤ vol u v b y) (vol u v a y) (vol u v b p) (vol u v a b *ℤ vol u v p y) (edge_product u v a b p y) (mul-pos (vol u v a b) (vol u v p y) h k)
+gift_wrap u v a b p y h k =
+    finish (vol u v a p *ℤ vol u v b y) (vol u v a y) (vol u v b p) (vol u v a b *ℤ vol u v p y)
+    (edge_product u v a b p y) (mul-pos (vol u v a b) (vol u v p y) h k)
   where
     order : (x y z g : ℤ) → x -ℤ y ≡ g → z ≡ y → pos 0 <ℤ g → pos 0 <ℤ (x -ℤ z)
     order x y z g h e k = omega (arith, ints)
@@ -246,7 +269,9 @@ gift_wrap u v a b p y h k = finish (vol u v a p *ℤ vol u v b y) (vol u v a y) 
     finish : (x s t g : ℤ) → x -ℤ s *ℤ t ≡ g → pos 0 <ℤ g → pos 0 <ℤ (x -ℤ t *ℤ s)
     finish x s t g e h = order x (s *ℤ t) (t *ℤ s) g e (mul_comm t s) h
 
-module _ (at : ℕ → Vector) (ids : List ℕ) (d : HasDistinctPoints at (Members ids)) (solid : HasTetrahedron at (Members ids)) (i j k : ℕ) (q : List ℕ) (u v : ℕ) (way : Way at (Members ids) i j k q u v) (x : Third at (Members ids) i j k u v) where
+module _ (at : ℕ → Vector) (ids : List ℕ) (d : HasDistinctPoints at (Members ids))
+    (solid : HasTetrahedron at (Members ids)) (i j k : ℕ) (q : List ℕ) (u v : ℕ)
+    (way : Way at (Members ids) i j k q u v) (x : Third at (Members ids) i j k u v) where
   abbrev height : ℕ → ℤ
   height l = vol (at i) (at j) (at k) (at l)
 
@@ -256,7 +281,8 @@ module _ (at : ℕ → Vector) (ids : List ℕ) (d : HasDistinctPoints at (Membe
 
   -- for no member are they above
   not_over : (l : ℕ) → Members ids l → vol (at u) (at v) (at x.w) (at l) ≤ℤ pos 0
-  not_over l h = at_most _ _ _ _ (square at ids d i j k q u v way) (over at ids d i j k q u v way x.w (at l) x.member.1) (positive_le _ x.turns) (way.triple.supports l h)
+  not_over l h = at_most _ _ _ _ (square at ids d i j k q u v way) (over at ids d i j k q u v way x.w (at l) x.member.1)
+      (positive_le _ x.turns) (way.triple.supports l h)
 
   -- over the edge turned about, they are above 0
   turned : (l : ℕ) → height l <ℤ pos 0 → pos 0 <ℤ vol (at v) (at u) (at x.w) (at l)
@@ -279,8 +305,11 @@ module _ (at : ℕ → Vector) (ids : List ℕ) (d : HasDistinctPoints at (Membe
       level : (l : ℕ) → Members ids l → height l ≡ pos 0
       level l h = by_lt_z (height l) (pos 0) (λ r. absurd (none l h r)) (λ r. le_antisym (height l) (pos 0) (way.triple.supports l h) r)
 
-      product : dot (cross (at i) (at j) (at k)) (cross (at i) (at j) (at k)) *ℤ vol (at solid.i) (at solid.j) (at solid.k) (at solid.l) ≡ left (cross (at i) (at j) (at k)) (at solid.i) (at solid.j) (at solid.k) *ℤ height solid.l
-      product = level_volume (at i) (at j) (at k) (at solid.i) (at solid.j) (at solid.k) (at solid.l) (level solid.i solid.has_i) (level solid.j solid.has_j) (level solid.k solid.has_k)
+      product : dot (cross (at i) (at j) (at k)) (cross (at i) (at j) (at k))
+          *ℤ vol (at solid.i) (at solid.j) (at solid.k) (at solid.l)
+          ≡ left (cross (at i) (at j) (at k)) (at solid.i) (at solid.j) (at solid.k) *ℤ height solid.l
+      product = level_volume (at i) (at j) (at k) (at solid.i) (at solid.j) (at solid.k) (at solid.l)
+          (level solid.i solid.has_i) (level solid.j solid.has_j) (level solid.k solid.has_k)
 
   abbrev marked : ℕ → Bool
   marked l = is_below (height l)
@@ -297,21 +326,31 @@ module _ (at : ℕ → Vector) (ids : List ℕ) (d : HasDistinctPoints at (Membe
 
       base : ((g : ℕ) → In g ids → marked g ≡ true → ⊥) ⊎ Least marked (λ l. vol (at v) (at u) (at x.w) (at l)) (λ l. pos 0) ids → Next
       base (inl f) = absurd (none f)
-      base (inr b) = pick (least marked (λ l. vol (at v) (at u) (at x.w) (at l)) (λ l. vol (at v) (at u) (at b.m) (at l)) ids positive)
+      base (inr b) = by_cases (least marked (λ l. vol (at v) (at u) (at x.w) (at l)) (λ l. vol (at v) (at u) (at b.m) (at l)) ids positive)
         where
-          pick : ((g : ℕ) → In g ids → marked g ≡ true → ⊥) ⊎ Least marked (λ l. vol (at v) (at u) (at x.w) (at l)) (λ l. vol (at v) (at u) (at b.m) (at l)) ids → Next
-          pick (inl f) = absurd (none f)
-          pick (inr m) = record { w = m.m; has_w = m.there; low = true_below (height m.m) m.marked; first = first }
+          by_cases : ((g : ℕ) → In g ids → marked g ≡ true → ⊥)
+              ⊎ Least marked (λ l. vol (at v) (at u) (at x.w) (at l)) (λ l. vol (at v) (at u) (at b.m) (at l)) ids
+              → Next
+          by_cases (inl f) = absurd (none f)
+          by_cases (inr m) = record { w = m.m; has_w = m.there; low = true_below (height m.m) m.marked; first = first }
             where
               first : (l : ℕ) → Members ids l → height l <ℤ pos 0 → vol (at v) (at u) (at m.m) (at l) ≤ℤ pos 0
               first l h r = by_lt_z (pos 0) (vol (at v) (at u) (at m.m) (at l)) (λ s. absurd (m.least l h (below_true (height l) r) (beyond s))) (λ s. s)
                 where
-                  beyond : pos 0 <ℤ vol (at v) (at u) (at m.m) (at l) → pos 0 <ℤ (vol (at v) (at u) (at x.w) (at m.m) *ℤ vol (at v) (at u) (at b.m) (at l) -ℤ vol (at v) (at u) (at b.m) (at m.m) *ℤ vol (at v) (at u) (at x.w) (at l))
+                  beyond : pos 0 <ℤ vol (at v) (at u) (at m.m) (at l)
+                      → pos 0 <ℤ (vol (at v) (at u) (at x.w) (at m.m) *ℤ vol (at v) (at u) (at b.m) (at l)
+                      -ℤ vol (at v) (at u) (at b.m) (at m.m) *ℤ vol (at v) (at u) (at x.w) (at l))
                   beyond s = gift_wrap (at v) (at u) (at x.w) (at b.m) (at m.m) (at l) (positive b.m b.there b.marked) s
 
   -- the plane of the edge and that member supports the set
   triple : (w : Next) → IsSupportingTriple at (Members ids) v u w.w
-  triple w = record { has_i = (has_v at ids d i j k q u v way).0.0; has_j = (has_u at ids d i j k q u v way).0.0; has_k = w.has_w; area = area; supports = supports }
+  triple w = record {
+    has_i = (has_v at ids d i j k q u v way).0.0;
+    has_j = (has_u at ids d i j k q u v way).0.0;
+    has_k = w.has_w;
+    area = area;
+    supports = supports;
+  }
     where
       area : ¬ (AreInLine (at v) (at u) (at w.w))
       area e = less_differ _ (pos 0) (under w.w w.low) (sym (vol-both (at u) (at v) (at x.w) (at w.w)) ∙ in_line-vol (at v) (at u) (at w.w) (at x.w) e)
@@ -321,11 +360,12 @@ module _ (at : ℕ → Vector) (ids : List ℕ) (d : HasDistinctPoints at (Membe
         where
           level : height l ≡ pos 0 → vol (at v) (at u) (at w.w) (at l) ≤ℤ pos 0
           level e = subst (λ y. y ≤ℤ pos 0) (sym (vol-both (at u) (at v) (at l) (at w.w)))
-              (at_most _ _ _ _ (square at ids d i j k q u v way) (over at ids d i j k q u v way l (at w.w) e) (not_right at ids d i j k q u v way l (h, e)) (way.triple.supports w.w w.has_w))
+              (at_most _ _ _ _ (square at ids d i j k q u v way) (over at ids d i j k q u v way l (at w.w) e)
+              (not_right at ids d i j k q u v way l (h, e)) (way.triple.supports w.w w.has_w))
 
   -- in its polygon u comes after v
   comes_back : (w : Next) (p : List ℕ) → IsFacePolygon at (Members ids) v u w.w p → Follows v u p
-  comes_back w p f = go (next_member v p has)
+  comes_back w p f = from_witness (next_member v p has)
     where
       has : In v p
       has = (f.members v).1 ((has_v at ids d i j k q u v way).0, vol-first (at v) (at u) (at w.w))
@@ -334,7 +374,9 @@ module _ (at : ℕ → Vector) (ids : List ℕ) (d : HasDistinctPoints at (Membe
       has' = (f.members u).1 ((has_u at ids d i j k q u v way).0, vol-second (at v) (at u) (at w.w))
 
       differ : u ≢ v
-      differ e = not_zero _ x.turns (in_line-left (cross (at i) (at j) (at k)) (at u) (at v) (at x.w) (subst (λ t. AreInLine (at u) (at t) (at x.w)) e (in_line-twice (at u) (at x.w))))
+      differ e = not_zero _ x.turns
+          (in_line-left (cross (at i) (at j) (at k)) (at u) (at v) (at x.w)
+          (subst (λ t. AreInLine (at u) (at t) (at x.w)) e (in_line-twice (at u) (at x.w))))
 
       -- no member of the new plane lies to the right of the edge turned about
       not_right' : (y : ℕ) → In y p → pos 0 ≤ℤ left (cross (at v) (at u) (at w.w)) (at v) (at u) (at y)
@@ -344,8 +386,8 @@ module _ (at : ℕ → Vector) (ids : List ℕ) (d : HasDistinctPoints at (Membe
           (subst (λ z. z <ℤ pos 0) (sym (vol-both (at u) (at v) (at x.w) (at w.w))) (under w.w w.low))
           (subst (λ z. z ≤ℤ pos 0) (sym (vol-both (at u) (at v) (at x.w) (at y))) (not_over y o.0.0))
 
-      go : (y : ℕ) × Follows v y p → Follows v u p
-      go (y, h) = test (ℕ_discrete u y)
+      from_witness : (y : ℕ) × Follows v y p → Follows v u p
+      from_witness (y, h) = test (ℕ_discrete u y)
         where
           clash : (a b : ℤ) → a ≡ neg_ℤ b → pos 0 <ℤ a → pos 0 ≤ℤ b → ⊥
           clash a b e h k = omega (arith, ints)
@@ -361,10 +403,11 @@ pub other_face : OtherFace
 other_face at ids qs d (inr (inl e)) faces q m u v f = absurd (omega arith)
 other_face at ids qs d (inr (inr (inl e))) faces q m u v f = absurd (omega arith)
 other_face at ids qs d (inr (inr (inr e))) faces q m u v f = absurd (omega arith)
-other_face at ids qs d (inl solid) faces q m u v f = go (faces.only q m)
+other_face at ids qs d (inl solid) faces q m u v f = from_witness (faces.only q m)
   where
-    go : (i : ℕ) × (j : ℕ) × (k : ℕ) × IsSupportingTriple at (Members ids) i j k × IsFacePolygon at (Members ids) i j k q → (p : List ℕ) × In p qs × Follows v u p
-    go (i, j, k, t, g) = turn (next at ids d solid.1 i j k q u v way x)
+    from_witness : (i : ℕ) × (j : ℕ) × (k : ℕ) × IsSupportingTriple at (Members ids) i j k
+        × IsFacePolygon at (Members ids) i j k q → (p : List ℕ) × In p qs × Follows v u p
+    from_witness (i, j, k, t, g) = turn (next at ids d solid.1 i j k q u v way x)
       where
         way : Way at (Members ids) i j k q u v
         way = record { triple = t; face = g; follows = f }

@@ -65,16 +65,16 @@ fan_members (a ∷ []) t (inl e) i h = subst (In i) e h
 fan_members (a ∷ []) t (inr n) i h = absurd n
 fan_members (a ∷ b ∷ []) t (inl e) i h = subst (In i) e h
 fan_members (a ∷ b ∷ []) t (inr n) i h = absurd n
-fan_members (a ∷ b ∷ c ∷ r) t m i h = go (triangle_along a b (c ∷ r) t m)
+fan_members (a ∷ b ∷ c ∷ r) t m i h = along_fan (triangle_along a b (c ∷ r) t m)
   where
-    go : IsTriangleAlong a b (c ∷ r) t → In i (a ∷ b ∷ c ∷ r)
-    go s = pick (subst (In i) s.is h)
+    along_fan : IsTriangleAlong a b (c ∷ r) t → In i (a ∷ b ∷ c ∷ r)
+    along_fan s = among_three (subst (In i) s.is h)
       where
-        pick : In i (a ∷ s.v ∷ s.w ∷ []) → In i (a ∷ b ∷ c ∷ r)
-        pick (inl e) = inl e
-        pick (inr (inl e)) = inr (subst (λ x. In x (b ∷ c ∷ r)) (sym e) s.has_v)
-        pick (inr (inr (inl e))) = inr (inr (subst (λ x. In x (c ∷ r)) (sym e) s.has_w))
-        pick (inr (inr (inr n))) = absurd n
+        among_three : In i (a ∷ s.v ∷ s.w ∷ []) → In i (a ∷ b ∷ c ∷ r)
+        among_three (inl e) = inl e
+        among_three (inr (inl e)) = inr (subst (λ x. In x (b ∷ c ∷ r)) (sym e) s.has_v)
+        among_three (inr (inr (inl e))) = inr (inr (subst (λ x. In x (c ∷ r)) (sym e) s.has_w))
+        among_three (inr (inr (inr n))) = absurd n
 
 -- ---- the fans of faces
 module _ (at : ℕ → Vector) (ids : List ℕ) (d : HasDistinctPoints at (Members ids)) (i j k : ℕ) (triple : IsSupportingTriple at (Members ids) i j k) where
@@ -87,24 +87,24 @@ module _ (at : ℕ → Vector) (ids : List ℕ) (d : HasDistinctPoints at (Membe
   face_fan (a ∷ []) t p m = absurd (none (third at ids d i j k (a ∷ []) a a (record { triple = triple; face = p; follows = (refl, refl) })))
     where
       none : Third at (Members ids) i j k a a → ⊥
-      none x = pick ((p.members x.w).1 x.member)
+      none x = not_first ((p.members x.w).1 x.member)
         where
-          pick : In x.w (a ∷ []) → ⊥
-          pick (inl e) = x.not_u e
-          pick (inr n) = n
+          not_first : In x.w (a ∷ []) → ⊥
+          not_first (inl e) = x.not_u e
+          not_first (inr n) = n
   face_fan (a ∷ b ∷ []) t p m = absurd (none (third at ids d i j k (a ∷ b ∷ []) a b (record { triple = triple; face = p; follows = inl (refl, refl) })))
     where
       none : Third at (Members ids) i j k a b → ⊥
-      none x = pick ((p.members x.w).1 x.member)
+      none x = not_first_two ((p.members x.w).1 x.member)
         where
-          pick : In x.w (a ∷ b ∷ []) → ⊥
-          pick (inl e) = x.not_u e
-          pick (inr (inl e)) = x.not_v e
-          pick (inr (inr n)) = n
-  face_fan (a ∷ b ∷ c ∷ r) t p m = go (triangle_along a b (c ∷ r) t m)
+          not_first_two : In x.w (a ∷ b ∷ []) → ⊥
+          not_first_two (inl e) = x.not_u e
+          not_first_two (inr (inl e)) = x.not_v e
+          not_first_two (inr (inr n)) = n
+  face_fan (a ∷ b ∷ c ∷ r) t p m = along_fan (triangle_along a b (c ∷ r) t m)
     where
-      go : IsTriangleAlong a b (c ∷ r) t → IsSupportingTriangle at (Members ids) t
-      go s = (
+      along_fan : IsTriangleAlong a b (c ∷ r) t → IsSupportingTriangle at (Members ids) t
+      along_fan s = (
         a,
         s.v,
         s.w,
@@ -115,10 +115,11 @@ module _ (at : ℕ → Vector) (ids : List ℕ) (d : HasDistinctPoints at (Membe
 
 -- the law
 pub fans_support : FansSupport
-fans_support at ids qs d f t m = go (of_flat_map fan qs t m)
+fans_support at ids qs d f t m = from_witness (of_flat_map fan qs t m)
   where
-    go : (q : List ℕ) × In q qs × In t (fan q) → IsSupportingTriangle at (Members ids) t
-    go (q, has, h) = face (f.only q has)
+    from_witness : (q : List ℕ) × In q qs × In t (fan q) → IsSupportingTriangle at (Members ids) t
+    from_witness (q, has, h) = face (f.only q has)
       where
-        face : (i : ℕ) × (j : ℕ) × (k : ℕ) × IsSupportingTriple at (Members ids) i j k × IsFacePolygon at (Members ids) i j k q → IsSupportingTriangle at (Members ids) t
+        face : (i : ℕ) × (j : ℕ) × (k : ℕ) × IsSupportingTriple at (Members ids) i j k
+            × IsFacePolygon at (Members ids) i j k q → IsSupportingTriangle at (Members ids) t
         face (i, j, k, triple, p) = face_fan at ids d i j k triple q t p h

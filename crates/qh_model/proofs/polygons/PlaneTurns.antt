@@ -34,7 +34,10 @@ level_volume a b c u v l w hu hv hl =
     ∙ ap (λ x. x *ℤ dot n (minus w u)) (dot_comm n (cross u v l) ∙ sym (left-dot n u v l)) ∙ ap (λ x. left n u v l *ℤ x) (from_plane a b c u w hu)
 
 -- three points of a plane that turn left have its direction
-pub level_along : (a b c u v l : Vector) → ¬ (AreInLine a b c) → vol a b c u ≡ pos 0 → vol a b c v ≡ pos 0 → vol a b c l ≡ pos 0 → pos 0 <ℤ left (cross a b c) u v l → IsAlong (cross a b c) (cross u v l)
+pub level_along : (a b c u v l : Vector) → ¬ (AreInLine a b c) → vol a b c u ≡ pos 0 → vol a b c v ≡ pos 0
+    → vol a b c l ≡ pos 0 → pos 0 <ℤ left (cross a b c) u v l → IsAlong (cross a b c) (cross u v l)
 level_along a b c u v l area hu hv hl h =
     let n = cross a b c in let e = level_parallel a b c u v l hu hv hl in
-    along_by n (cross u v l) (dot n (cross u v l)) (dot n n) (subst (λ x. pos 0 <ℤ x) (left-dot n u v l ∙ dot_comm (cross u v l) n) h) (square-positive n area) (sym e.x) (sym e.y) (sym e.z)
+    along_by n (cross u v l) (dot n (cross u v l)) (dot n n)
+    (subst (λ x. pos 0 <ℤ x) (left-dot n u v l ∙ dot_comm (cross u v l) n) h) (square-positive n area) (sym e.x)
+    (sym e.y) (sym e.z)

@@ -22,7 +22,7 @@ follow : (n : Vector) (at : ℕ → Vector) (q p : List ℕ) → ((x : ℕ) → 
 follow n at q p m u [] [] e f g i o k a b = refl
 follow n at q p m u [] (w ∷ s) e f g i o k a b = absurd (⊎_elim (λ d. k.0 (inl (sym d))) (λ d. d) ((i w).1 (inr (inl refl))))
 follow n at q p m u (v ∷ r) [] e f g i o k a b = absurd (⊎_elim (λ d. o.0 (inl (sym d))) (λ d. d) ((i v).0 (inr (inl refl))))
-follow n at q p m u (v ∷ r) (w ∷ s) e f g i o k a b = go (λ f' g' i' k' b'. follow n at q p m v r s e f' g' i' o.1 k' a.1 b') (ℕ_discrete v w)
+follow n at q p m u (v ∷ r) (w ∷ s) e f g i o k a b = with_rest (λ f' g' i' k' b'. follow n at q p m v r s e f' g' i' o.1 k' a.1 b') (ℕ_discrete v w)
   where
     v_u : v ≢ u
     v_u d = o.0 (inl (sym d))
@@ -36,14 +36,19 @@ follow n at q p m u (v ∷ r) (w ∷ s) e f g i o k a b = go (λ f' g' i' k' b'.
     back : (x : ℕ) → In x (w ∷ s) → In x (v ∷ r)
     back x j = ⊎_elim (λ d. absurd (k.0 (subst (λ t. In t (w ∷ s)) d j))) (λ l. l) ((i x).1 (inr j))
 
-    tails : ((f : (x : ℕ) → In x (v ∷ r) → In x q) → ((x : ℕ) → In x (v ∷ s) → In x p) → ((x : ℕ) → In x (v ∷ r) ↔ In x (v ∷ s)) → Once (v ∷ s) → AlongPath (TurnsLeft at n p) v s e → r ≡ s) → (w ≡ v) → r ≡ s
+    tails : ((f : (x : ℕ) → In x (v ∷ r) → In x q) → ((x : ℕ) → In x (v ∷ s) → In x p)
+        → ((x : ℕ) → In x (v ∷ r) ↔ In x (v ∷ s)) → Once (v ∷ s) → AlongPath (TurnsLeft at n p) v s e → r ≡ s) → (w ≡ v)
+        → r ≡ s
     tails more d =
         more (λ x j. f x (inr j)) (λ x j. g x (inr (subst (λ t. In x (t ∷ s)) (sym d) j)))
-        (λ x. (λ j. subst (λ t. In x (t ∷ s)) d (forth x j), λ j. back x (subst (λ t. In x (t ∷ s)) (sym d) j))) (subst (λ t. Once (t ∷ s)) d k.1) (subst (λ t. AlongPath (TurnsLeft at n p) t s e) d b.1)
+        (λ x. (λ j. subst (λ t. In x (t ∷ s)) d (forth x j), λ j. back x (subst (λ t. In x (t ∷ s)) (sym d) j)))
+        (subst (λ t. Once (t ∷ s)) d k.1) (subst (λ t. AlongPath (TurnsLeft at n p) t s e) d b.1)
 
-    go : (((x : ℕ) → In x (v ∷ r) → In x q) → ((x : ℕ) → In x (v ∷ s) → In x p) → ((x : ℕ) → In x (v ∷ r) ↔ In x (v ∷ s)) → Once (v ∷ s) → AlongPath (TurnsLeft at n p) v s e → r ≡ s) → Dec (v ≡ w) → (v ∷ r) ≡ (w ∷ s)
-    go more (yes d) = let t : r ≡ s = tails more (sym d) in cc
-    go more (no ne) =
+    with_rest : (((x : ℕ) → In x (v ∷ r) → In x q) → ((x : ℕ) → In x (v ∷ s) → In x p)
+        → ((x : ℕ) → In x (v ∷ r) ↔ In x (v ∷ s)) → Once (v ∷ s) → AlongPath (TurnsLeft at n p) v s e → r ≡ s)
+        → Dec (v ≡ w) → (v ∷ r) ≡ (w ∷ s)
+    with_rest more (yes d) = let t : r ≡ s = tails more (sym d) in cc
+    with_rest more (no ne) =
         absurd (both_positive (left n (at u) (at v) (at w)) (left n (at u) (at w) (at v)) (left-flip n (at u) (at v) (at w))
         (a.0 w ((m w).1 (g w (inr (inl refl)))) w_u (λ d. ne (sym d))) (b.0 v ((m v).0 (f v (inr (inl refl)))) v_u ne))
 
@@ -66,7 +71,8 @@ one_polygon at X n (u ∷ p) (v ∷ q) a b = finish (heads u v p q a.least b.lea
     finish : u ≡ v → (u ∷ p) ≡ (v ∷ q)
     finish e =
         let t : p ≡ q = follow n at (u ∷ p) (v ∷ q) m u p q u (λ x i. i) (λ x i. subst (λ t. In x (t ∷ q)) e i)
-        (λ x. (λ i. subst (λ t. In x (t ∷ q)) (sym e) ((m x).0 i), λ i. (m x).1 (subst (λ t. In x (t ∷ q)) e i))) a.once (subst (λ t. Once (t ∷ q)) (sym e) b.once) (round_told (TurnsLeft at n (u ∷ p)) (u ∷ p) a.round)
+        (λ x. (λ i. subst (λ t. In x (t ∷ q)) (sym e) ((m x).0 i), λ i. (m x).1 (subst (λ t. In x (t ∷ q)) e i))) a.once
+        (subst (λ t. Once (t ∷ q)) (sym e) b.once) (round_told (TurnsLeft at n (u ∷ p)) (u ∷ p) a.round)
         (subst (λ t. AlongPath (TurnsLeft at n (v ∷ q)) t q t) (sym e) (round_told (TurnsLeft at n (v ∷ q)) (v ∷ q) b.round)) in
         cc
 

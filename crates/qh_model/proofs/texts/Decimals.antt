@@ -1,5 +1,6 @@
 -- Decimals as they are written are numbers: what they stand for, and their bytes.
-use Rattle.std.proofs.Common.{◌≡◌, ℕ, zero, suc, ◌+◌, ◌-◌, ◌*◌, ◌/◌, ◌%◌, ◌^◌, ◌<◌, ◌≤◌, ◌==◌, Bool, true, false, cond, refl, List, [], ◌∷◌, length, arith, sym, ap, subst, ◌∙◌, decimal, ne_eqb}
+use Rattle.std.proofs.Common.{◌≡◌, ℕ, zero, suc, ◌+◌, ◌-◌, ◌*◌, ◌/◌, ◌%◌, ◌^◌, ◌<◌, ◌≤◌, ◌==◌, Bool, true, false, cond}
+use Rattle.std.proofs.Common.{refl, List, [], ◌∷◌, length, arith, sym, ap, subst, ◌∙◌, decimal, ne_eqb}
 use Rattle.std.proofs.lemmas.Bool.{le-leb, lt-ltb}
 use Rattle.std.proofs.lemmas.Fmt.{decimal_is_IsNumeral_wide}
 use Rattle.std.proofs.lemmas.Str.{digit_value_digit}
@@ -23,10 +24,10 @@ AreSomeDigits cs = (0 < length cs) × Every IsDigit cs
 -- ---- the bytes of decimals
 -- the last digit
 glyph_digit : (n : ℕ) → IsDigit (digit_glyph false (n % 10))
-glyph_digit n = by (n % 10) (omega arith)
+glyph_digit n = each_digit (n % 10) (omega arith)
   where
-    by : (d : ℕ) → d < 10 → IsDigit (digit_glyph false d)
-    by d h = subst (λ (b : Bool). IsDigit (cond b (48 + d) (87 + d))) (sym (lt-ltb d 10 h)) (omega arith, omega arith)
+    each_digit : (d : ℕ) → d < 10 → IsDigit (digit_glyph false d)
+    each_digit d h = subst (λ (b : Bool). IsDigit (cond b (48 + d) (87 + d))) (sym (lt-ltb d 10 h)) (omega arith, omega arith)
 
 -- digits either way
 either_digits : (b : Bool) (cs ds : List ℕ) → AreSomeDigits cs → AreSomeDigits ds → AreSomeDigits (cond b cs ds)

@@ -1,5 +1,6 @@
 -- The text of faces, of the points of the extreme ids, is that of the set.
-use Rattle.std.proofs.Common.{◌≡◌, ℕ, suc, Bool, true, false, cond, refl, List, [], ◌∷◌, ◌++◌, map, sym, ap, ap₂, ◌∙◌, inl, inr, eqb-true, eq-eqb, ne_eqb, get_or, decimal}
+use Rattle.std.proofs.Common.{◌≡◌, ℕ, suc, Bool, true, false, cond, refl, List, [], ◌∷◌, ◌++◌, map, sym, ap, ap₂, ◌∙◌}
+use Rattle.std.proofs.Common.{inl, inr, eqb-true, eq-eqb, ne_eqb, get_or, decimal}
 use Rattle.std.proofs.lemmas.Bool.{eqb-false}
 use Rattle.std.proofs.lemmas.List.{length-map, map-append}
 use Rattle.std.proofs.lemmas.List.Folds.{flat_map-map}
@@ -24,15 +25,15 @@ flat_map_same s t (x ∷ xs) h = ap₂ (λ (a b : List ℕ). a ++ b) (h x (inl r
 vertex_number-map : (f : ℕ → ℕ) (xs : List ℕ) (i : ℕ) → ((j : ℕ) → In j xs → f j ≡ f i → j ≡ i)
     → vertex_number (map f xs) (f i) ≡ vertex_number xs i
 vertex_number-map f [] i apart = refl
-vertex_number-map f (x ∷ xs) i apart = by (vertex_number-map f xs i (λ j m. apart j (inr m))) (x == i) refl
+vertex_number-map f (x ∷ xs) i apart = with_rest (vertex_number-map f xs i (λ j m. apart j (inr m))) (x == i) refl
   where
     either : Bool → ℕ → ℕ
     either b n = cond b 0 (suc n)
 
-    by : vertex_number (map f xs) (f i) ≡ vertex_number xs i → (b : Bool) → (x == i) ≡ b
+    with_rest : vertex_number (map f xs) (f i) ≡ vertex_number xs i → (b : Bool) → (x == i) ≡ b
         → either (f x == f i) (vertex_number (map f xs) (f i)) ≡ either b (vertex_number xs i)
-    by rest true e = ap (λ b. either b (vertex_number (map f xs) (f i))) (eq-eqb (f x) (f i) (ap f (eqb-true x i e)))
-    by rest false e = ap₂ either (ne_eqb (f x) (f i) (λ d. eqb-false x i e (apart x (inl refl) d))) rest
+    with_rest rest true e = ap (λ b. either b (vertex_number (map f xs) (f i))) (eq-eqb (f x) (f i) (ap f (eqb-true x i e)))
+    with_rest rest false e = ap₂ either (ne_eqb (f x) (f i) (λ d. eqb-false x i e (apart x (inl refl) d))) rest
 
 -- members have their own positions
 number_apart : (xs : List ℕ) (i j : ℕ) → In i xs → In j xs → vertex_number xs j ≡ vertex_number xs i → j ≡ i

@@ -84,7 +84,8 @@ pub record IsChained (turn : ℕ → ℕ → ℕ → ℤ) (key : ℕ → ℤ) (D
 
 module _ (turn : ℕ → ℕ → ℕ → ℤ) (key : ℕ → ℤ) (A : ℕ → Type 0) (turn_laws : TurnLaws turn key A) where
   -- a kept_below top leaves the cap over what it was an end of
-  pop : (D : ℕ → Type 0) (y t r : ℕ) → ((x : ℕ) → D x → A x) → A y → D t → D r → key r <ℤ key t → HasOnLeft turn D r t → ((x : ℕ) → D x → key x <ℤ key y) → turn r t y ≤ℤ pos 0 → IsCapped turn key D y r
+  pop : (D : ℕ → Type 0) (y t r : ℕ) → ((x : ℕ) → D x → A x) → A y → D t → D r → key r <ℤ key t → HasOnLeft turn D r t
+      → ((x : ℕ) → D x → key x <ℤ key y) → turn r t y ≤ℤ pos 0 → IsCapped turn key D y r
   pop D y t r in_a ay dt dr lt edge below nl x dx h = turn_laws.about r t x y (in_a r dr) (in_a t dt) (in_a x dx) ay lt h (below r dr) nl (edge x dx)
 
   -- one pop, by whether the way over the top turns left
@@ -141,7 +142,9 @@ module _ (turn : ℕ → ℕ → ℕ → ℤ) (key : ℕ → ℤ) (A : ℕ → T
   new-edge D y t s in_a ay below g c sh x (inl e) = subst (λ v. pos 0 ≤ℤ turn t y v) (sym e) (at_least _ (turn_laws.there t y))
   new-edge D y t s in_a ay below g c sh x (inr d) =
       by_lt_z (key x) (key t) (λ h. behind-edge D y t s in_a ay below g sh x d h)
-      (λ k. by_lt_z (key t) (key x) (λ h. c x d h) (λ m. here (turn_laws.same x t (in_a x d) (in_a t (chain_top turn key D t s g)) (le_antisym (key x) (key t) m k))))
+      (λ k. by_lt_z (key t) (key x) (λ h. c x d h)
+      (λ m. here (turn_laws.same x t (in_a x d) (in_a t (chain_top turn key D t s g))
+      (le_antisym (key x) (key t) m k))))
     where
       here : x ≡ t → pos 0 ≤ℤ turn t y x
       here e = subst (λ v. pos 0 ≤ℤ turn t y v) (sym e) (at_least _ (turn_laws.back t y))
@@ -150,8 +153,13 @@ module _ (turn : ℕ → ℕ → ℕ → ℤ) (key : ℕ → ℤ) (A : ℕ → T
   pushes : (D : ℕ → Type 0) (y : ℕ) (s : List ℕ) → ((x : ℕ) → D x → A x) → A y → ((x : ℕ) → D x → key x <ℤ key y)
       → (p : Top turn key D y s) → IsChain turn key (Added D y) y s
   pushes D y s in_a ay below p =
-      subst (λ v. IsChain turn key (Added D y) y v) (sym p.is)
-      (inl refl, below p.top (chain_top turn key D p.top p.rest p.good), new-edge D y p.top p.rest in_a ay below p.good p.capped p.sharp, p.sharp, lift D y p.top p.rest in_a ay below p.good p.sharp)
+      subst (λ v. IsChain turn key (Added D y) y v) (sym p.is) (
+        inl refl,
+        below p.top (chain_top turn key D p.top p.rest p.good),
+        new-edge D y p.top p.rest in_a ay below p.good p.capped p.sharp,
+        p.sharp,
+        lift D y p.top p.rest in_a ay below p.good p.sharp,
+      )
 
   -- the stack stays a chain over what was passed
   chains : (D : ℕ → Type 0) (t : ℕ) (s xs : List ℕ) → ((x : ℕ) → D x → A x) → ((x : ℕ) → In x xs → A x)
@@ -159,7 +167,9 @@ module _ (turn : ℕ → ℕ → ℕ → ℤ) (key : ℕ → ℤ) (A : ℕ → T
   chains D t s [] in_a xs_a g le r = record { top = t; rest = s; is = refl; good = g; greatest = le }
   chains D t s (y ∷ ys) in_a xs_a g le r =
       chains (Added D y) y (kept_below turn y t s) ys in_more (λ x i. xs_a x (inr i))
-      (pushes D y (kept_below turn y t s) in_a (xs_a y (inl refl)) below (pops D y t s in_a (xs_a y (inl refl)) below g (λ x d h. absurd (not_less (key t) (key x) h (le x d))))) le_more r.1
+      (pushes D y (kept_below turn y t s) in_a (xs_a y (inl refl)) below
+      (pops D y t s in_a (xs_a y (inl refl)) below g (λ x d h. absurd (not_less (key t) (key x) h (le x d))))) le_more
+      r.1
     where
       under : (a b c : ℤ) → a ≤ℤ b → b <ℤ c → a <ℤ c
       under a b c h k = omega (arith, ints)
@@ -180,4 +190,5 @@ pub chain-good : (turn : ℕ → ℕ → ℕ → ℤ) (key : ℕ → ℤ) (A : �
     → ((x : ℕ) → In x (x₀ ∷ xs) → A x) → RisesBy key x₀ xs
     → IsChained turn key (Passed (λ x. x ≡ x₀) xs) (chain turn [] (x₀ ∷ xs))
 chain-good turn key A turn_laws x₀ xs in_a r =
-    chains turn key A turn_laws (λ x. x ≡ x₀) x₀ [] xs (λ x e. in_a x (inl e)) (λ x i. in_a x (inr i)) (refl, λ x e. equal_le (key x₀) (key x) (ap key (sym e))) (λ x e. equal_le (key x) (key x₀) (ap key e)) r
+    chains turn key A turn_laws (λ x. x ≡ x₀) x₀ [] xs (λ x e. in_a x (inl e)) (λ x i. in_a x (inr i))
+    (refl, λ x e. equal_le (key x₀) (key x) (ap key (sym e))) (λ x e. equal_le (key x) (key x₀) (ap key e)) r

@@ -88,12 +88,34 @@ module _ (turn : ℕ → ℕ → ℕ → ℤ) (key : ℕ → ℤ) (A : ℕ → T
 
   -- an edge of the rest is an edge of the whole
   span-more : (e t : ℕ) (s : List ℕ) → Span e s → Span e (t ∷ s)
-  span-more e t s p = record { u = p.u; v = p.v; has_u = inr p.has_u; has_v = inr p.has_v; is_u = p.is_u; is_v = p.is_v; before = p.before; after = p.after; edge = p.edge }
+  span-more e t s p = record {
+    u = p.u;
+    v = p.v;
+    has_u = inr p.has_u;
+    has_v = inr p.has_v;
+    is_u = p.is_u;
+    is_v = p.is_v;
+    before = p.before;
+    after = p.after;
+    edge = p.edge;
+  }
 
   -- what is no member lies under an edge
-  pub span : ((x y : ℕ) → A x → A y → key x ≡ key y → x ≡ y) → (t : ℕ) (s : List ℕ) → IsChain turn key A t s → (e : ℕ) → A e → (In e (t ∷ s) → ⊥) → key e <ℤ key t → Span e (t ∷ s)
+  pub span : ((x y : ℕ) → A x → A y → key x ≡ key y → x ≡ y) → (t : ℕ) (s : List ℕ) → IsChain turn key A t s → (e : ℕ)
+      → A e → (In e (t ∷ s) → ⊥) → key e <ℤ key t → Span e (t ∷ s)
   span same t [] g e ae out lt = absurd (not_less (key e) (key t) lt (g.1 e ae))
   span same t (r ∷ s) g e ae out lt =
       by_lt_z (key e) (key r) (λ l. span-more e t (r ∷ s) (span same r s g.4 e ae (λ i. out (inr i)) l))
-      (λ k. by_lt_z (key r) (key e) (λ l. record { u = r; v = t; has_u = inr (inl refl); has_v = inl refl; is_u = chain_top turn key A r s g.4; is_v = g.0; before = l; after = lt; edge = g.2 })
+      (λ k. by_lt_z (key r) (key e)
+      (λ l. record {
+        u = r;
+        v = t;
+        has_u = inr (inl refl);
+        has_v = inl refl;
+        is_u = chain_top turn key A r s g.4;
+        is_v = g.0;
+        before = l;
+        after = lt;
+        edge = g.2;
+      })
       (λ l. absurd (out (inr (inl (same e r ae (chain_top turn key A r s g.4) (le_antisym (key e) (key r) l k)))))))

@@ -20,11 +20,11 @@ Agree A turn other = (u v w : ℕ) → A u → A v → A w → is_left (turn u v
 -- what is kept was there
 kept_below-in : (turn : ℕ → ℕ → ℕ → ℤ) (y t : ℕ) (s : List ℕ) (x : ℕ) → In x (kept_below turn y t s) → In x (t ∷ s)
 kept_below-in turn y t [] x i = i
-kept_below-in turn y t (r ∷ s) x i = by (is_left (turn r t y)) (kept_below-in turn y r s x) i
+kept_below-in turn y t (r ∷ s) x i = by_test (is_left (turn r t y)) (kept_below-in turn y r s x) i
   where
-    by : (b : Bool) → (In x (kept_below turn y r s) → In x (r ∷ s)) → In x (cond b (t ∷ r ∷ s) (kept_below turn y r s)) → In x (t ∷ r ∷ s)
-    by true more i = i
-    by false more i = inr (more i)
+    by_test : (b : Bool) → (In x (kept_below turn y r s) → In x (r ∷ s)) → In x (cond b (t ∷ r ∷ s) (kept_below turn y r s)) → In x (t ∷ r ∷ s)
+    by_test true more i = i
+    by_test false more i = inr (more i)
 
 -- the same of any stack
 kept-in : (turn : ℕ → ℕ → ℕ → ℤ) (y : ℕ) (s : List ℕ) (x : ℕ) → In x (kept turn y s) → In x s
@@ -61,8 +61,11 @@ turns_agree pts n A flat u v w au av aw =
 
 -- the cycle over two chains in one plane
 pub joined-same : (pts : List Vector) (n : Vector) (A : ℕ → Type 0) (xs : List ℕ) → IsFlat n (place pts) A → ((x : ℕ) → In x xs → A x)
-    → joined (chain (turn_about n (place pts)) [] xs) (chain (turn_about n (place pts)) [] (reverse xs)) ≡ joined (chain (turn_of pts n) [] xs) (chain (turn_of pts n) [] (reverse xs))
-joined-same pts n A xs flat all = sym (ap (λ c. joined c (chain (turn_of pts n) [] (reverse xs))) (same xs all) ∙ ap (λ c. joined (chain (turn_about n (place pts)) [] xs) c) (same (reverse xs) back))
+    → joined (chain (turn_about n (place pts)) [] xs) (chain (turn_about n (place pts)) [] (reverse xs))
+    ≡ joined (chain (turn_of pts n) [] xs) (chain (turn_of pts n) [] (reverse xs))
+joined-same pts n A xs flat all =
+    sym (ap (λ c. joined c (chain (turn_of pts n) [] (reverse xs))) (same xs all)
+    ∙ ap (λ c. joined (chain (turn_about n (place pts)) [] xs) c) (same (reverse xs) back))
   where
     same : (ys : List ℕ) → ((x : ℕ) → In x ys → A x) → chain (turn_of pts n) [] ys ≡ chain (turn_about n (place pts)) [] ys
     same ys in_a = chain-same A (turn_of pts n) (turn_about n (place pts)) (turns_agree pts n A flat) [] ys (λ x i. absurd i) in_a

@@ -23,7 +23,7 @@ pub record Corner (at : ℕ → Vector) (A : ℕ → Type 0) (m : ℕ) : Type 0 
   pub beats : (x : ℕ) → A x → x ≢ m → dot w (at x) <ℤ dot w (at m)
 
 -- how far r lies beyond x across the way from q to t
-corner_eq : (n q r t x : Vector) → dot (cross_product (minus t q) n) r -ℤ dot (cross_product (minus t q) n) x ≡ left n q r x +ℤ left n r t x
+pub corner_eq : (n q r t x : Vector) → dot (cross_product (minus t q) n) r -ℤ dot (cross_product (minus t q) n) x ≡ left n q r x +ℤ left n r t x
 unfolding left cross
 corner_eq n q r t x =
     ring (put n (put q (put r (put t (put x [])))))
@@ -32,7 +32,10 @@ corner_eq n q r t x =
 
 -- nonnegative terms, not both zero
 beats_sign : (wx wr f g : ℤ) → wr -ℤ wx ≡ f +ℤ g → pos 0 ≤ℤ f → pos 0 ≤ℤ g → ((f ≡ pos 0) → (g ≡ pos 0) → ⊥) → wx <ℤ wr
-beats_sign wx wr f g e p q h = by_lt_z (pos 0) f (λ k. one wx wr f g e k q) (λ k. by_lt_z (pos 0) g (λ l. two wx wr f g e p l) (λ l. absurd (h (le_antisym f (pos 0) k p) (le_antisym g (pos 0) l q))))
+beats_sign wx wr f g e p q h =
+    by_lt_z (pos 0) f (λ k. one wx wr f g e k q)
+    (λ k. by_lt_z (pos 0) g (λ l. two wx wr f g e p l)
+    (λ l. absurd (h (le_antisym f (pos 0) k p) (le_antisym g (pos 0) l q))))
   where
     one : (wx wr f g : ℤ) → wr -ℤ wx ≡ f +ℤ g → pos 0 <ℤ f → pos 0 ≤ℤ g → wx <ℤ wr
     one wx wr f g e p q = omega (arith, ints)
@@ -57,15 +60,24 @@ pub inner : (n h : Vector) (at : ℕ → Vector) (A : ℕ → Type 0) → IsFlat
 inner n h at A flat keyed q r t aq ar at' e f sh = record {
   member = ar;
   w = cross_product (minus (at t) (at q)) n;
-  beats = λ x ax ne. beats_sign _ _ _ _ (corner_eq n (at q) (at r) (at t) (at x)) (e x ax) (f x ax) (λ z k. ne (keyed.same x r ax ar (level _ _ _ (dot-minus h (at x) (at r))
-      (apart (bracket n (step at q r) (step at r x)) (dot h (step at r t)) (bracket n (step at q r) (step at r t)) (dot h (step at r x)) (bracket n (step at r t) (step at r x)) (dot h (step at q r))
+  beats = λ x ax ne. beats_sign _ _ _ _ (corner_eq n (at q) (at r) (at t) (at x)) (e x ax) (f x ax)
+      (λ z k. ne (keyed.same x r ax ar (level _ _ _ (dot-minus h (at x) (at r))
+      (apart (bracket n (step at q r) (step at r x)) (dot h (step at r t)) (bracket n (step at q r) (step at r t))
+      (dot h (step at r x)) (bracket n (step at r t) (step at r x)) (dot h (step at q r))
       (bracket-fan n h (step at q r) (step at r t) (step at r x) flat.some (flat.even q r aq ar) (flat.even r t ar at') (flat.even r x ar ax))
-      (sym (left-middle n (at q) (at r) (at x)) ∙ z) (sym (left-bracket n (at r) (at t) (at x)) ∙ k) (subst (λ v. pos 0 <ℤ v) (left-middle n (at q) (at r) (at t)) sh)))));
+      (sym (left-middle n (at q) (at r) (at x)) ∙ z) (sym (left-bracket n (at r) (at t) (at x)) ∙ k)
+      (subst (λ v. pos 0 <ℤ v) (left-middle n (at q) (at r) (at t)) sh)))));
 }
 
 -- the one with the greatest key
-pub greatest_corner : (h : Vector) (at : ℕ → Vector) (A : ℕ → Type 0) → IsKeyed h at A → (m : ℕ) → A m → ((x : ℕ) → A x → height_of h at x ≤ℤ height_of h at m) → Corner at A m
-greatest_corner h at A keyed m am le = record { member = am; w = h; beats = λ x ax ne. le_less (dot h (at x)) (dot h (at m)) (le x ax) (λ e. ne (keyed.same x m ax am e)) }
+pub greatest_corner : (h : Vector) (at : ℕ → Vector) (A : ℕ → Type 0) → IsKeyed h at A → (m : ℕ) → A m
+    → ((x : ℕ) → A x → height_of h at x ≤ℤ height_of h at m) → Corner at A m
+greatest_corner h at A keyed m am le =
+    record {
+      member = am;
+      w = h;
+      beats = λ x ax ne. le_less (dot h (at x)) (dot h (at m)) (le x ax) (λ e. ne (keyed.same x m ax am e));
+    }
 
 -- a corner is extreme
 pub corner_extreme : (at : ℕ → Vector) (A : ℕ → Type 0) (m : ℕ) → Corner at A m → Extreme at A m
@@ -77,11 +89,14 @@ corner_extreme at A m c = (c.member, λ x. all_lower at (Others A m) (at m) c.w 
 -- ---- what is beyond two ends of an edge
 -- two directions of a plane, by their heights along h and w
 across_eq : (n h w a b : Vector) → dot n n *ℤ (dot h a *ℤ dot w b -ℤ dot h b *ℤ dot w a)
-    ≡ bracket n a b *ℤ dot (cross_product h w) n -ℤ dot n b *ℤ dot (cross_product h w) (cross_product n a) +ℤ dot n a *ℤ dot (cross_product h w) (cross_product n b)
+    ≡ bracket n a b *ℤ dot (cross_product h w) n -ℤ dot n b *ℤ dot (cross_product h w) (cross_product n a) +ℤ dot n a
+    *ℤ dot (cross_product h w) (cross_product n b)
 across_eq n h w a b =
     ring (put n (put a (put b (put h (put w [])))))
     (mul (dotE (vec 0) (vec 0)) (less (mul (dotE (vec 3) (vec 1)) (dotE (vec 4) (vec 2))) (mul (dotE (vec 3) (vec 2)) (dotE (vec 4) (vec 1)))))
-    (add (less (mul (bracketE 1 2) (dotE (crossE (vec 3) (vec 4)) (vec 0))) (mul (dotE (vec 0) (vec 2)) (dotE (crossE (vec 3) (vec 4)) (crossE (vec 0) (vec 1))))) (mul (dotE (vec 0) (vec 1)) (dotE (crossE (vec 3) (vec 4)) (crossE (vec 0) (vec 2))))) refl
+    (add (less (mul (bracketE 1 2) (dotE (crossE (vec 3) (vec 4)) (vec 0)))
+    (mul (dotE (vec 0) (vec 2)) (dotE (crossE (vec 3) (vec 4)) (crossE (vec 0) (vec 1))))) (mul
+    (dotE (vec 0) (vec 1)) (dotE (crossE (vec 3) (vec 4)) (crossE (vec 0) (vec 2))))) refl
 
 -- two terms that are zero
 two_zero : (l x p q y z : ℤ) → l ≡ x -ℤ p *ℤ y +ℤ q *ℤ z → p ≡ pos 0 → q ≡ pos 0 → l ≡ x
@@ -98,7 +113,8 @@ across_sign N ha hb wa wb P e p s b ab w aw =
   where
     split : (ha hb wa wb : ℤ) → ha *ℤ wb -ℤ hb *ℤ wa ≡ (ha -ℤ hb) *ℤ wb +ℤ hb *ℤ (wb -ℤ wa)
     split ha hb wa wb =
-        ring (ha ∷ hb ∷ wa ∷ wb ∷ []) (less (mul (var 0) (var 3)) (mul (var 1) (var 2))) (add (mul (less (var 0) (var 1)) (var 3)) (mul (var 1) (less (var 3) (var 2)))) refl
+        ring (ha ∷ hb ∷ wa ∷ wb ∷ []) (less (mul (var 0) (var 3)) (mul (var 1) (var 2)))
+        (add (mul (less (var 0) (var 1)) (var 3)) (mul (var 1) (less (var 3) (var 2)))) refl
 
     against : (d x y : ℤ) → d ≡ x +ℤ y → d ≤ℤ pos 0 → pos 0 <ℤ x → pos 0 <ℤ y → ⊥
     against d x y e h p q = omega (arith, ints)
@@ -123,7 +139,8 @@ core n h w at A flat u v e au av ae ue ev wu wv p =
 lined : (n h : Vector) (at : ℕ → Vector) (A : ℕ → Type 0) → IsFlat n at A → (u v m : ℕ) → A u → A v → Corner at A m → u ≢ m → v ≢ m
     → height_of h at u <ℤ height_of h at m → height_of h at m <ℤ height_of h at v → turn_about n at u v m ≡ pos 0 → ⊥
 lined n h at A flat u v m au av c nu nv um mv z =
-    core n h c.w at A flat u v m au av c.member um mv (c.beats u au nu) (c.beats v av nv) (subst (λ t. (t *ℤ dot (cross_product h c.w) n) ≤ℤ pos 0) (sym z) (none (dot (cross_product h c.w) n)))
+    core n h c.w at A flat u v m au av c.member um mv (c.beats u au nu) (c.beats v av nv)
+    (subst (λ t. (t *ℤ dot (cross_product h c.w) n) ≤ℤ pos 0) (sym z) (none (dot (cross_product h c.w) n)))
   where
     none : (x : ℤ) → (pos 0 *ℤ x) ≤ℤ pos 0
     none x = omega (arith, ints)
@@ -140,7 +157,9 @@ module _ (n h : Vector) (at : ℕ → Vector) (A : ℕ → Type 0) (flat : IsFla
   -- one of two different members comes first
   ordered : (C : Type 0) (u v : ℕ) → A u → A v → u ≢ v → (height_of h at u <ℤ height_of h at v → C) → (height_of h at v <ℤ height_of h at u → C) → C
   ordered C u v au av ne first second =
-      by_lt_z (height_of h at u) (height_of h at v) first (λ k. by_lt_z (height_of h at v) (height_of h at u) second (λ l. absurd (ne (keyed.same u v au av (le_antisym _ _ l k)))))
+      by_lt_z (height_of h at u) (height_of h at v) first
+      (λ k. by_lt_z (height_of h at v) (height_of h at u) second
+      (λ l. absurd (ne (keyed.same u v au av (le_antisym _ _ l k)))))
 
   -- three corners are not in line
   not_lined : (u v x : ℕ) → Corner at A u → Corner at A v → Corner at A x → u ≢ v → x ≢ u → x ≢ v → turn_about n at u v x ≡ pos 0 → ⊥
@@ -158,5 +177,6 @@ module _ (n h : Vector) (at : ℕ → Vector) (A : ℕ → Type 0) (flat : IsFla
       (λ lux. lined n h at A flat v x u cv.member cx.member cu (λ e. uv (sym e)) xu lvu lux (flipped v u x (swapped u v x z))))
 
   -- a corner on the left of the way between two lies strictly there
-  pub strict : (u v x : ℕ) → Corner at A u → Corner at A v → Corner at A x → u ≢ v → x ≢ u → x ≢ v → pos 0 ≤ℤ turn_about n at u v x → pos 0 <ℤ turn_about n at u v x
+  pub strict : (u v x : ℕ) → Corner at A u → Corner at A v → Corner at A x → u ≢ v → x ≢ u → x ≢ v
+      → pos 0 ≤ℤ turn_about n at u v x → pos 0 <ℤ turn_about n at u v x
   strict u v x cu cv cx uv xu xv h = by_lt_z (pos 0) (turn_about n at u v x) (λ q. q) (λ q. absurd (not_lined u v x cu cv cx uv xu xv (le_antisym _ _ q h)))

@@ -23,7 +23,8 @@ pub record GoesRound (n : Vector) (at : ℕ → Vector) (A : ℕ → Type 0) (q 
   pub round : AroundCycle (TurnsLeft at n q) q
 
 -- a chain over a set is one over the same set told otherwise
-chain_same : (turn : ℕ → ℕ → ℕ → ℤ) (key : ℕ → ℤ) (D E : ℕ → Type 0) → ((x : ℕ) → D x → E x) → ((x : ℕ) → E x → D x) → (t : ℕ) (s : List ℕ) → IsChain turn key D t s → IsChain turn key E t s
+chain_same : (turn : ℕ → ℕ → ℕ → ℤ) (key : ℕ → ℤ) (D E : ℕ → Type 0) → ((x : ℕ) → D x → E x) → ((x : ℕ) → E x → D x)
+    → (t : ℕ) (s : List ℕ) → IsChain turn key D t s → IsChain turn key E t s
 chain_same turn key D E f g t [] k = (f t k.0, λ x e. k.1 x (g x e))
 chain_same turn key D E f g t (r ∷ s) k = (f t k.0, k.1, λ x e. k.2 x (g x e), k.3, chain_same turn key D E f g r s k.4)
 
@@ -36,10 +37,17 @@ record Half (n h : Vector) (at : ℕ → Vector) (A : ℕ → Type 0) (c : List 
   greatest : (x : ℕ) → A x → height_of h at x ≤ℤ height_of h at top
 
 -- the chain of a rising list of the members
-half_of : (n h : Vector) (at : ℕ → Vector) (A : ℕ → Type 0) → IsFlat n at A → IsKeyed h at A → (x₀ : ℕ) (xs : List ℕ) → ((x : ℕ) → In x (x₀ ∷ xs) ↔ A x) → RisesBy (height_of h at) x₀ xs
+half_of : (n h : Vector) (at : ℕ → Vector) (A : ℕ → Type 0) → IsFlat n at A → IsKeyed h at A → (x₀ : ℕ) (xs : List ℕ)
+    → ((x : ℕ) → In x (x₀ ∷ xs) ↔ A x) → RisesBy (height_of h at) x₀ xs
     → Half n h at A (chain (turn_about n at) [] (x₀ ∷ xs))
 half_of n h at A flat keyed x₀ xs l r =
-    record { top = c.top; rest = c.rest; is = c.is; good = chain_same (turn_about n at) (height_of h at) (Passed (λ x. x ≡ x₀) xs) A into from c.top c.rest c.good; greatest = λ x a. c.greatest x (from x a) }
+    record {
+      top = c.top;
+      rest = c.rest;
+      is = c.is;
+      good = chain_same (turn_about n at) (height_of h at) (Passed (λ x. x ≡ x₀) xs) A into from c.top c.rest c.good;
+      greatest = λ x a. c.greatest x (from x a);
+    }
   where
     c : IsChained (turn_about n at) (height_of h at) (Passed (λ x. x ≡ x₀) xs) (chain (turn_about n at) [] (x₀ ∷ xs))
     c = chain-good (turn_about n at) (height_of h at) A (turn_laws n h at A flat keyed) x₀ xs (λ x i. (l x).0 i) r
@@ -55,7 +63,8 @@ alone : (a b x y : ℤ) → a <ℤ b → x ≤ℤ a → b ≤ℤ x → ⊥
 alone a b x y h k l = omega (arith, ints)
 
 -- the two chains close
-closes : (n h : Vector) (at : ℕ → Vector) (A : ℕ → Type 0) → IsFlat n at A → IsKeyed h at A → (p q : ℕ) → A p → A q → height_of h at p <ℤ height_of h at q → height_of (opposite h) at q <ℤ height_of (opposite h) at p
+closes : (n h : Vector) (at : ℕ → Vector) (A : ℕ → Type 0) → IsFlat n at A → IsKeyed h at A → (p q : ℕ) → A p → A q
+    → height_of h at p <ℤ height_of h at q → height_of (opposite h) at q <ℤ height_of (opposite h) at p
     → (m : ℕ) (s : List ℕ) (z : ℕ) (r : List ℕ)
     → IsChain (turn_about n at) (height_of h at) A m s → ((x : ℕ) → A x → height_of h at x ≤ℤ height_of h at m)
     → IsChain (turn_about n at) (height_of (opposite h) at) A z r → ((x : ℕ) → A x → height_of (opposite h) at x ≤ℤ height_of (opposite h) at z)
@@ -63,11 +72,25 @@ closes : (n h : Vector) (at : ℕ → Vector) (A : ℕ → Type 0) → IsFlat n 
 closes n h at A flat keyed p q ap aq l l' m [] z r g k g' k' = absurd (alone _ _ (height_of h at m) (pos 0) l (g.1 p ap) (k q aq))
 closes n h at A flat keyed p q ap aq l l' m (a ∷ s) z [] g k g' k' = absurd (alone _ _ (height_of (opposite h) at z) (pos 0) l' (g'.1 q aq) (k' p ap))
 closes n h at A flat keyed p q ap aq l l' m (a ∷ s) z (b ∷ r) g k g' k' =
-    let c : Chains n h at A m (a ∷ s) z (b ∷ r) = record { flat = flat; keyed = keyed; lower = g; upper = g'; last = k; first = k'; p = p; q = q; is_p = ap; is_q = aq; apart = l } in
+    let c : Chains n h at A m (a ∷ s) z (b ∷ r) =
+    record {
+      flat = flat;
+      keyed = keyed;
+      lower = g;
+      upper = g';
+      last = k;
+      first = k';
+      p = p;
+      q = q;
+      is_p = ap;
+      is_q = aq;
+      apart = l;
+    } in
     record { members = ring_members n h at A m a s z b r c; once = ring_once n h at A m a s z b r c; round = ring_round n h at A m a s z b r c }
 
 -- a rising list, and one that rises the other way round, over the same members
-pub goes_round : (n h : Vector) (at : ℕ → Vector) (A : ℕ → Type 0) → IsFlat n at A → IsKeyed h at A → (p q : ℕ) → A p → A q → height_of h at p <ℤ height_of h at q → height_of (opposite h) at q <ℤ height_of (opposite h) at p
+pub goes_round : (n h : Vector) (at : ℕ → Vector) (A : ℕ → Type 0) → IsFlat n at A → IsKeyed h at A → (p q : ℕ) → A p
+    → A q → height_of h at p <ℤ height_of h at q → height_of (opposite h) at q <ℤ height_of (opposite h) at p
     → (x₀ : ℕ) (xs : List ℕ) (y₀ : ℕ) (ys : List ℕ) → ((x : ℕ) → In x (x₀ ∷ xs) ↔ A x) → ((x : ℕ) → In x (y₀ ∷ ys) ↔ A x)
     → RisesBy (height_of h at) x₀ xs → RisesBy (height_of (opposite h) at) y₀ ys
     → GoesRound n at A (joined (chain (turn_about n at) [] (x₀ ∷ xs)) (chain (turn_about n at) [] (y₀ ∷ ys)))
@@ -98,5 +121,6 @@ pub goes_round-rotate : (n : Vector) (at : ℕ → Vector) (A : ℕ → Type 0) 
 goes_round-rotate n at A xs ys c = record {
   members = λ i. (λ k. (c.members i).0 (in-rotate ys xs i k), λ e. in-rotate xs ys i ((c.members i).1 e));
   once = let k = once-parts xs ys c.once in once_append ys xs k.1.0 k.0 (λ x i j. k.1.1 x j i);
-  round = cycle_map (TurnsLeft at n (xs ++ ys)) (TurnsLeft at n (ys ++ xs)) (λ u v f w i. f w (in-rotate ys xs w i)) (ys ++ xs) (cycle-rotate (TurnsLeft at n (xs ++ ys)) xs ys c.round);
+  round = cycle_map (TurnsLeft at n (xs ++ ys)) (TurnsLeft at n (ys ++ xs)) (λ u v f w i. f w (in-rotate ys xs w i))
+      (ys ++ xs) (cycle-rotate (TurnsLeft at n (xs ++ ys)) xs ys c.round);
 }

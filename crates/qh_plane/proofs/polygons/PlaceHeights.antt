@@ -51,7 +51,8 @@ pub place_code-less : (p q : Vector) → IsPlace p → IsPlace q → place_code 
 place_code-less p q h k l = less_height (place_code p) (place_code q) _ _ _ (place_code-height p h) (place_code-height q k) l
 
 -- ids of distinct points have different heights
-pub keyed_of : (pts : List Vector) (ids : List ℕ) → All (HasKey pts) ids → HasDistinctPoints (place pts) (λ x. In x ids) → IsKeyed order (place pts) (λ x. In x ids)
+pub keyed_of : (pts : List Vector) (ids : List ℕ) → All (HasKey pts) ids → HasDistinctPoints (place pts) (λ x. In x ids)
+    → IsKeyed order (place pts) (λ x. In x ids)
 keyed_of pts ids k d = record {
   same = λ i j mi mj e.
       let ki = All-In (HasKey pts) ids i k mi in

@@ -18,7 +18,12 @@ use Rattle.qh_plane.specs.contract.PlanarSets.{IsPlanarSet}
 
 -- the scalar product with the opposite
 negated : (c v : Vector) → dot (minus origin c) v ≡ neg_ℤ (dot c v)
-negated c v = ring (put c (put v [])) (dotE (record { x = less (con (pos 0)) (vec 0).x; y = less (con (pos 0)) (vec 0).y; z = less (con (pos 0)) (vec 0).z }) (vec 1)) (neg (dotE (vec 0) (vec 1))) refl
+negated c v = ring (put c (put v []))
+    (dotE (record {
+      x = less (con (pos 0)) (vec 0).x;
+      y = less (con (pos 0)) (vec 0).y;
+      z = less (con (pos 0)) (vec 0).z;
+    }) (vec 1)) (neg (dotE (vec 0) (vec 1))) refl
 
 -- what has the opposite zero is zero
 back_zero : (x : ℤ) → pos 0 -ℤ x ≡ pos 0 → x ≡ pos 0
@@ -26,14 +31,14 @@ back_zero x e = omega (arith, ints)
 
 -- of ids of which three are not in line there are at least two
 pub two_of_triangle : (at : ℕ → Vector) (ids : List ℕ) → HasTriangle at (Members ids) → 1 < length ids
-two_of_triangle at ids t = let s = segment_of_triangle at (Members ids) t in go ids s.i s.j s.has_i s.has_j s.differ
+two_of_triangle at ids t = let s = segment_of_triangle at (Members ids) t in along_list ids s.i s.j s.has_i s.has_j s.differ
   where
-    go : (xs : List ℕ) (a b : ℕ) → In a xs → In b xs → a ≢ b → 1 < length xs
-    go [] a b ma mb d = absurd ma
-    go (x ∷ []) a b (inl e) (inl f) d = absurd (d (e ∙ sym f))
-    go (x ∷ []) a b (inl e) (inr m) d = absurd m
-    go (x ∷ []) a b (inr m) mb d = absurd m
-    go (x ∷ y ∷ ys) a b ma mb d = omega arith
+    along_list : (xs : List ℕ) (a b : ℕ) → In a xs → In b xs → a ≢ b → 1 < length xs
+    along_list [] a b ma mb d = absurd ma
+    along_list (x ∷ []) a b (inl e) (inl f) d = absurd (d (e ∙ sym f))
+    along_list (x ∷ []) a b (inl e) (inr m) d = absurd m
+    along_list (x ∷ []) a b (inr m) mb d = absurd m
+    along_list (x ∷ y ∷ ys) a b ma mb d = omega arith
 
 module _ (pts : List Vector) (ids : List ℕ) (n : Vector) (p : IsPlanarSet pts ids n) where
   -- the normal of the three
@@ -42,26 +47,32 @@ module _ (pts : List Vector) (ids : List ℕ) (n : Vector) (p : IsPlanarSet pts 
 
   -- the way from i to a member is across the normal
   across : (l : ℕ) → In l ids → dot n (minus (place pts l) (place pts p.i)) ≡ pos 0
-  across l m = go p.normal
+  across l m = by_cases p.normal
     where
       zero_c : dot c (minus (place pts l) (place pts p.i)) ≡ pos 0
       zero_c = sym (vol-dot (place pts p.i) (place pts p.j) (place pts p.k) (place pts l)) ∙ p.plane l m
 
-      go : (n ≡ c) ⊎ (n ≡ minus origin c) → dot n (minus (place pts l) (place pts p.i)) ≡ pos 0
-      go (inl e) = ap (λ v. dot v (minus (place pts l) (place pts p.i))) e ∙ zero_c
-      go (inr e) = ap (λ v. dot v (minus (place pts l) (place pts p.i))) e ∙ opposite_zero _ _ (negated c (minus (place pts l) (place pts p.i))) zero_c
+      by_cases : (n ≡ c) ⊎ (n ≡ minus origin c) → dot n (minus (place pts l) (place pts p.i)) ≡ pos 0
+      by_cases (inl e) = ap (λ v. dot v (minus (place pts l) (place pts p.i))) e ∙ zero_c
+      by_cases (inr e) = ap (λ v. dot v (minus (place pts l) (place pts p.i))) e ∙ opposite_zero _ _ (negated c (minus (place pts l) (place pts p.i))) zero_c
 
   -- the normal is not zero
   some : n ≢ origin
-  some h = go p.normal
+  some h = by_cases p.normal
     where
-      go : (n ≡ c) ⊎ (n ≡ minus origin c) → ⊥
-      go (inl e) = p.area (sym e ∙ h)
-      go (inr e) = let o : minus origin c ≡ origin = sym e ∙ h in p.area (vector_path c origin (back_zero c.x (ap (λ v. v.x) o)) (back_zero c.y (ap (λ v. v.y) o)) (back_zero c.z (ap (λ v. v.z) o)))
+      by_cases : (n ≡ c) ⊎ (n ≡ minus origin c) → ⊥
+      by_cases (inl e) = p.area (sym e ∙ h)
+      by_cases (inr e) = let o : minus origin c ≡ origin = sym e ∙ h in
+          p.area (vector_path c origin (back_zero c.x (ap (λ v. v.x) o)) (back_zero c.y (ap (λ v. v.y) o))
+          (back_zero c.z (ap (λ v. v.z) o)))
 
   -- the ids are flat across the normal
   pub flat_of : IsFlat n (place pts) (λ x. In x ids)
-  flat_of = record { even = λ a b ma mb. none _ _ _ (between_eq n (place pts p.i) (place pts a) (place pts b)) (across b mb) (across a ma); some = square-positive n some }
+  flat_of = record {
+    even =
+        λ a b ma mb. none _ _ _ (between_eq n (place pts p.i) (place pts a) (place pts b)) (across b mb) (across a ma);
+    some = square-positive n some;
+  }
 
   -- three of them are not in line
   pub planar_triangle : HasTriangle (place pts) (Members ids)

@@ -14,7 +14,10 @@ front-of [] acc = refl
 front-of (v ∷ s) acc =
     let e : reverse (v ∷ s) ≡ reverse s ++ v ∷ [] = reverse-append (v ∷ []) s in
     let l : length (reverse (v ∷ s)) - 1 ≡ length (reverse s) = simp (length-reverse) (omega arith) in
-    turned_onto-is s acc ∙ ap (λ t. t ++ acc) (sym (ap (λ t. take t (reverse (v ∷ s))) l ∙ ap (take (length (reverse s))) e ∙ take_at (reverse s) (v ∷ []) (length (reverse s)) refl))
+    turned_onto-is s acc
+    ∙ ap (λ t. t ++ acc)
+    (sym (ap (λ t. take t (reverse (v ∷ s))) l ∙ ap (take (length (reverse s))) e
+    ∙ take_at (reverse s) (v ∷ []) (length (reverse s)) refl))
 
 -- the same of a list that was turned round
 pub front : (xs acc : List ℕ) → turned_onto (after_first (reverse xs)) acc ≡ take (length xs - 1) xs ++ acc
@@ -22,7 +25,8 @@ front xs acc = front-of (reverse xs) acc ∙ ap (λ t. take (length t - 1) t ++ 
 
 -- the cycle over two chains, in the words of std
 pub fronts : (xs ys : List ℕ) → joined (reverse xs) (reverse ys) ≡ take (length xs - 1) xs ++ take (length ys - 1) ys
-fronts xs ys = front xs (turned_onto (after_first (reverse ys)) []) ∙ ap (λ t. take (length xs - 1) xs ++ t) (front ys [] ∙ append-nil (take (length ys - 1) ys))
+fronts xs ys = front xs (turned_onto (after_first (reverse ys)) [])
+    ∙ ap (λ t. take (length xs - 1) xs ++ t) (front ys [] ∙ append-nil (take (length ys - 1) ys))
 
 -- turning a list round, in the words of std
 pub reverse-turned_onto : (s : List ℕ) → reverse s ≡ turned_onto s []

@@ -1,94 +1,45 @@
 -- The polygon of three points that are not in line.
-use Rattle.std.proofs.Common.{◌≡◌, ◌≢◌, ℕ, ◌<◌, ◌≤◌, List, [], ◌∷◌, arith, ap, sym, subst, ◌∙◌, ◌⊎◌, inl, inr, ⊎_elim, Bool, true, false, cond, refl, length, get_or}
+use Rattle.std.proofs.Common.{◌≡◌, ◌≢◌, ℕ, ◌<◌, List, [], ◌∷◌, arith, ap, sym, subst, ◌∙◌, inl, inr, Bool, true, false, cond, refl, length, get_or}
+use Rattle.std.proofs.lemmas.Grind.{common_steps}
 use Rattle.std.proofs.lemmas.Int.{ints}
 use Rattle.std.proofs.Math.Nat.{ne_of_lt}
-use Rattle.std.specs.Prelude.{ℤ, pos, neg_ℤ, ◌+ℤ◌, ◌*ℤ◌, ◌≤ℤ◌, ◌<ℤ◌, ◌↔◌}
+use Rattle.std.specs.Prelude.{ℤ, pos, neg_ℤ, ◌*ℤ◌, ◌≤ℤ◌, ◌<ℤ◌, ◌↔◌}
 use Rattle.qh_model.proofs.algebra.Order.{cancel-zero, le_less}
-use Rattle.qh_model.proofs.algebra.VectorIdentities.{vector_path, left-dot, left-linear, left-turn, left-flip, in_line-twice, in_line-last, dot_comm}
+use Rattle.qh_model.proofs.algebra.VectorIdentities.{vector_path, left-dot, left-turn, left-flip, in_line-twice, in_line-last, dot_comm}
 use Rattle.qh_model.proofs.algebra.Integers.{zero_mul}
-use Rattle.qh_model.proofs.polygons.Cycles.{round_holds}
 use Rattle.qh_model.proofs.extremes.Directions.{Parallel, parallel_normal, in_line-flip, square-positive}
 use Rattle.qh_model.specs.headline.Extreme.{Extreme}
-use Rattle.qh_model.specs.headline.Polygon.{IsPolygon, TurnsLeft}
+use Rattle.qh_model.specs.headline.Polygon.{IsPolygon}
 use Rattle.qh_model.specs.headline.Predicates.{place, cross, left, AreInLine}
 use Rattle.qh_model.specs.headline.Sets.{In, Members}
-use Rattle.qh_model.specs.headline.Vector.{Vector, origin, minus, cross_product, dot}
+use Rattle.qh_model.specs.headline.Vector.{Vector, origin, minus, dot}
 use Rattle.qh_plane.proofs.LinesAndPlanes.{three_line, same_point}
 use Rattle.qh_plane.proofs.polygons.Chain.{is_left-yes, is_left-no}
 use Rattle.qh_plane.proofs.polygons.ComponentTurns.{turns_agree}
-use Rattle.qh_plane.proofs.polygons.Corners.{Corner, corner_extreme}
+use Rattle.qh_plane.proofs.polygons.LeftCycles.{cycle_polygon, side_of, third_of}
 use Rattle.qh_plane.proofs.polygons.PlanarIds.{flat_of}
-use Rattle.qh_plane.proofs.polygons.Turns.{IsFlat, left-back, left-there}
+use Rattle.qh_plane.proofs.polygons.Turns.{IsFlat}
 use Rattle.qh_plane.specs.steps.Chains.{is_left, turn_of, triangle}
 use Rattle.qh_plane.specs.contract.PlanarSets.{IsPlanarSet}
 
--- what lies on the way or to its right is lower than what lies to its left
-lower : (l m p q k : ℤ) → l ≡ p +ℤ k → m ≡ q +ℤ k → l ≤ℤ pos 0 → pos 0 <ℤ m → p <ℤ q
-lower l m p q k e f z h = omega (arith, ints)
-
-at_most_zero : (y : ℤ) → y ≡ pos 0 → y ≤ℤ pos 0
-at_most_zero y e = omega (arith, ints)
-
--- c to the left of the way from a to b, where no other member is, is a corner
-pub left_corner : (n : Vector) (at : ℕ → Vector) (a b c : ℕ) (A : ℕ → Type 0) → A c
-    → ((x : ℕ) → A x → x ≢ c → left n (at a) (at b) (at x) ≤ℤ pos 0) → pos 0 <ℤ left n (at a) (at b) (at c) → Corner at A c
-left_corner n at a b c A ac only h = record {
-  member = ac;
-  w = cross_product n (minus (at b) (at a));
-  beats = λ x ax ne. lower _ _ _ _ _ (left-linear n (at a) (at b) (at x)) (left-linear n (at a) (at b) (at c)) (only x ax ne) h;
-}
-
--- the ends of the way from a to b are on it
-on_way : (n : Vector) (at : ℕ → Vector) (a b x : ℕ) → (x ≡ a) ⊎ (x ≡ b) → left n (at a) (at b) (at x) ≤ℤ pos 0
-on_way n at a b x (inl e) = subst (λ t. left n (at a) (at b) (at t) ≤ℤ pos 0) (sym e) (at_most_zero _ (left-back n (at a) (at b)))
-on_way n at a b x (inr e) = subst (λ t. left n (at a) (at b) (at t) ≤ℤ pos 0) (sym e) (at_most_zero _ (left-there n (at a) (at b)))
-
 -- a left turn over three members from the least on is their polygon
-pub left_triangle : (n : Vector) (at : ℕ → Vector) (A : ℕ → Type 0) (a b c : ℕ) → ((x : ℕ) → A x ↔ In x (a ∷ b ∷ c ∷ [])) → a < b → a < c → b ≢ c
-    → pos 0 <ℤ left n (at a) (at b) (at c) → IsPolygon at (Extreme at A) n (a ∷ b ∷ c ∷ [])
-left_triangle n at A a b c l ab ac bc h = record {
-  members = λ x. (λ i. corner_extreme at A x (corner x i), λ e. (l x).0 e.0);
-  once = (λ i. ⊎_elim (ne_of_lt ab) (λ j. ⊎_elim (ne_of_lt ac) (λ k. k) j) i, (λ i. ⊎_elim bc (λ k. k) i, (λ k. k, tt)));
-  round = round_holds (TurnsLeft at n (a ∷ b ∷ c ∷ [])) (a ∷ b ∷ c ∷ []) (turns_ab, (turns_bc, turns_ca));
-  least = λ v i. ⊎_elim (λ e. at_most a b v ab e) (λ j. ⊎_elim (λ e. at_most a c v ac e) (λ k. absurd k) j) i;
-}
+pub left_triangle : (n : Vector) (at : ℕ → Vector) (A : ℕ → Type 0) (a b c : ℕ) → ((x : ℕ) → A x ↔ In x (a ∷ b ∷ c ∷ []))
+    → a < b → a < c → b ≢ c → pos 0 <ℤ left n (at a) (at b) (at c) → IsPolygon at (Extreme at A) n (a ∷ b ∷ c ∷ [])
+left_triangle n at A a b c l ab ac bc h =
+    cycle_polygon n at A a (b ∷ c ∷ []) l (third_of a b c [] (ne_of_lt ab) (ne_of_lt ac) bc)
+    (grind (arith, common_steps, ab, ac, bc)) (λ v i. grind (arith, common_steps, i, ab, ac)) (
+      side_of n at (a ∷ b ∷ c ∷ []) c a b c (λ x i u v. grind (arith, common_steps, i, u, v)) hc h,
+      (
+        side_of n at (a ∷ b ∷ c ∷ []) a b c a (λ x i u v. grind (arith, common_steps, i, u, v)) h hb,
+        side_of n at (a ∷ b ∷ c ∷ []) b c a b (λ x i u v. grind (arith, common_steps, i, u, v)) hb hc,
+      ),
+    )
   where
-    at_most : (a b v : ℕ) → a < b → v ≡ b → a ≤ v
-    at_most a b v k e = omega arith
-
     hb : pos 0 <ℤ left n (at b) (at c) (at a)
     hb = subst (λ t. pos 0 <ℤ t) (left-turn n (at a) (at b) (at c)) h
 
     hc : pos 0 <ℤ left n (at c) (at a) (at b)
     hc = subst (λ t. pos 0 <ℤ t) (left-turn n (at b) (at c) (at a)) hb
-
-    -- by which of the three it is
-    third : (P : ℕ → Type 0) (x : ℕ) → In x (a ∷ b ∷ c ∷ []) → (x ≡ a → P x) → (x ≡ b → P x) → (x ≡ c → P x) → P x
-    third P x (inl e) f g k = f e
-    third P x (inr (inl e)) f g k = g e
-    third P x (inr (inr (inl e))) f g k = k e
-    third P x (inr (inr (inr m))) f g k = absurd m
-
-    corner_a : Corner at A a
-    corner_a = left_corner n at b c a A ((l a).1 (inl refl)) (λ x ax ne. on_way n at b c x (third (λ y. (y ≡ b) ⊎ (y ≡ c)) x ((l x).0 ax) (λ e. absurd (ne e)) (λ e. inl e) (λ e. inr e))) hb
-
-    corner_b : Corner at A b
-    corner_b = left_corner n at c a b A ((l b).1 (inr (inl refl))) (λ x ax ne. on_way n at c a x (third (λ y. (y ≡ c) ⊎ (y ≡ a)) x ((l x).0 ax) (λ e. inr e) (λ e. absurd (ne e)) (λ e. inl e))) hc
-
-    corner_c : Corner at A c
-    corner_c = left_corner n at a b c A ((l c).1 (inr (inr (inl refl)))) (λ x ax ne. on_way n at a b x (third (λ y. (y ≡ a) ⊎ (y ≡ b)) x ((l x).0 ax) (λ e. inl e) (λ e. inr e) (λ e. absurd (ne e)))) h
-
-    corner : (x : ℕ) → In x (a ∷ b ∷ c ∷ []) → Corner at A x
-    corner x i = third (Corner at A) x i (λ e. subst (Corner at A) (sym e) corner_a) (λ e. subst (Corner at A) (sym e) corner_b) (λ e. subst (Corner at A) (sym e) corner_c)
-
-    turns_ab : TurnsLeft at n (a ∷ b ∷ c ∷ []) a b
-    turns_ab w i wa wb = third (λ y. pos 0 <ℤ left n (at a) (at b) (at y)) w i (λ e. absurd (wa e)) (λ e. absurd (wb e)) (λ e. subst (λ t. pos 0 <ℤ left n (at a) (at b) (at t)) (sym e) h)
-
-    turns_bc : TurnsLeft at n (a ∷ b ∷ c ∷ []) b c
-    turns_bc w i wb wc = third (λ y. pos 0 <ℤ left n (at b) (at c) (at y)) w i (λ e. subst (λ t. pos 0 <ℤ left n (at b) (at c) (at t)) (sym e) hb) (λ e. absurd (wb e)) (λ e. absurd (wc e))
-
-    turns_ca : TurnsLeft at n (a ∷ b ∷ c ∷ []) c a
-    turns_ca w i wc wa = third (λ y. pos 0 <ℤ left n (at c) (at a) (at y)) w i (λ e. absurd (wa e)) (λ e. subst (λ t. pos 0 <ℤ left n (at c) (at a) (at t)) (sym e) hc) (λ e. absurd (wc e))
 
 -- ---- three ids of a planar set turn one way or the other
 -- a point twice is in line with any other
@@ -97,7 +48,9 @@ in_line-back a b = in_line-flip a b a (in_line-twice a b)
 
 -- no turn about the normal of the plane: the three are in line
 turn_zero : (n a b c : Vector) → pos 0 <ℤ dot n n → dot n (minus b a) ≡ pos 0 → dot n (minus c a) ≡ pos 0 → left n a b c ≡ pos 0 → AreInLine a b c
-turn_zero n a b c s p q z = vector_path (cross a b c) origin (none n.x (cross a b c).x along.x) (none n.y (cross a b c).y along.y) (none n.z (cross a b c).z along.z)
+turn_zero n a b c s p q z =
+    vector_path (cross a b c) origin (none n.x (cross a b c).x along.x) (none n.y (cross a b c).y along.y)
+    (none n.z (cross a b c).z along.z)
   where
     along : Parallel n (cross a b c)
     along = parallel_normal n a b c p q
@@ -112,13 +65,16 @@ module _ (pts : List Vector) (n : Vector) (i j k : ℕ) (h : IsPlanarSet pts (i 
 
   -- the three of them do turn
   turns : left n (place pts i) (place pts j) (place pts k) ≡ pos 0 → ⊥
-  turns z = h.area (three_line (place pts i) (place pts j) (place pts h.i) (place pts h.j) (place pts h.k) apart (each h.i h.has_i) (each h.j h.has_j) (each h.k h.has_k))
+  turns z = h.area (three_line (place pts i) (place pts j) (place pts h.i) (place pts h.j) (place pts h.k) apart
+      (each h.i h.has_i) (each h.j h.has_j) (each h.k h.has_k))
     where
       line : AreInLine (place pts i) (place pts j) (place pts k)
-      line = turn_zero n (place pts i) (place pts j) (place pts k) flat.some (flat.even i j (inl refl) (inr (inl refl))) (flat.even i k (inl refl) (inr (inr (inl refl)))) z
+      line = turn_zero n (place pts i) (place pts j) (place pts k) flat.some (flat.even i j (inl refl) (inr (inl refl)))
+          (flat.even i k (inl refl) (inr (inr (inl refl)))) z
 
       apart : pos 0 <ℤ dot (minus (place pts j) (place pts i)) (minus (place pts j) (place pts i))
-      apart = square-positive (minus (place pts j) (place pts i)) (λ e. ne_of_lt ij (h.set.distinct i j (inl refl) (inr (inl refl)) (same_point (place pts i) (place pts j) e)))
+      apart = square-positive (minus (place pts j) (place pts i))
+          (λ e. ne_of_lt ij (h.set.distinct i j (inl refl) (inr (inl refl)) (same_point (place pts i) (place pts j) e)))
 
       each : (x : ℕ) → In x (i ∷ j ∷ k ∷ []) → AreInLine (place pts i) (place pts j) (place pts x)
       each x (inl e) = subst (λ t. AreInLine (place pts i) (place pts j) (place pts t)) (sym e) (in_line-back (place pts i) (place pts j))
@@ -128,22 +84,12 @@ module _ (pts : List Vector) (n : Vector) (i j k : ℕ) (h : IsPlanarSet pts (i 
 
   -- so one order of them is their polygon
   pub triangle_polygon : IsPolygon (place pts) (Extreme (place pts) (Members (i ∷ j ∷ k ∷ []))) n (triangle (turn_of pts n) i j k)
-  triangle_polygon = by_side (is_left (turn_of pts n i j k)) (sym (turns_agree pts n (λ x. In x (i ∷ j ∷ k ∷ [])) flat i j k (inl refl) (inr (inl refl)) (inr (inr (inl refl)))))
+  triangle_polygon = by_side (is_left (turn_of pts n i j k))
+      (sym (turns_agree pts n (λ x. In x (i ∷ j ∷ k ∷ [])) flat i j k (inl refl) (inr (inl refl))
+      (inr (inr (inl refl)))))
     where
       ik : i < k
       ik = omega arith
-
-      exchanged : (x : ℕ) → In x (i ∷ j ∷ k ∷ []) → In x (i ∷ k ∷ j ∷ [])
-      exchanged x (inl e) = inl e
-      exchanged x (inr (inl e)) = inr (inr (inl e))
-      exchanged x (inr (inr (inl e))) = inr (inl e)
-      exchanged x (inr (inr (inr m))) = absurd m
-
-      back : (x : ℕ) → In x (i ∷ k ∷ j ∷ []) → In x (i ∷ j ∷ k ∷ [])
-      back x (inl e) = inl e
-      back x (inr (inl e)) = inr (inr (inl e))
-      back x (inr (inr (inl e))) = inr (inl e)
-      back x (inr (inr (inr m))) = absurd m
 
       turned : (x y : ℤ) → x ≡ neg_ℤ y → y ≤ℤ pos 0 → (y ≡ pos 0 → ⊥) → pos 0 <ℤ x
       turned x y e l ne = flipped x y e (le_less y (pos 0) l ne)
@@ -151,9 +97,12 @@ module _ (pts : List Vector) (n : Vector) (i j k : ℕ) (h : IsPlanarSet pts (i 
           flipped : (x y : ℤ) → x ≡ neg_ℤ y → y <ℤ pos 0 → pos 0 <ℤ x
           flipped x y e l = omega (arith, ints)
 
-      by_side : (b : Bool) → is_left (left n (place pts i) (place pts j) (place pts k)) ≡ b → IsPolygon (place pts) (Extreme (place pts) (Members (i ∷ j ∷ k ∷ []))) n (cond b (i ∷ j ∷ k ∷ []) (i ∷ k ∷ j ∷ []))
+      by_side : (b : Bool) → is_left (left n (place pts i) (place pts j) (place pts k)) ≡ b
+          → IsPolygon (place pts) (Extreme (place pts) (Members (i ∷ j ∷ k ∷ []))) n
+          (cond b (i ∷ j ∷ k ∷ []) (i ∷ k ∷ j ∷ []))
       by_side true e = left_triangle n (place pts) (Members (i ∷ j ∷ k ∷ [])) i j k (λ x. (λ m. m, λ m. m)) ij ik (ne_of_lt jk) (is_left-yes _ e)
-      by_side false e = left_triangle n (place pts) (Members (i ∷ j ∷ k ∷ [])) i k j (λ x. (exchanged x, back x)) ik ij (λ q. ne_of_lt jk (sym q))
+      by_side false e = left_triangle n (place pts) (Members (i ∷ j ∷ k ∷ [])) i k j
+          (λ x. (λ m. grind (arith, m), λ m. grind (arith, m))) ik ij (λ q. ne_of_lt jk (sym q))
           (turned _ _ (left-flip n (place pts i) (place pts k) (place pts j)) (is_left-no _ e) turns)
 
 -- ---- the same of a list of three
@@ -165,11 +114,13 @@ three_ids (a ∷ b ∷ c ∷ []) i j k l p q r = cc
 three_ids (a ∷ b ∷ c ∷ d ∷ ids) i j k l p q r = absurd (omega arith)
 
 -- the polygon of a planar set of three, as the code reads it
-pub polygon_of_three : (pts : List Vector) (ids : List ℕ) (n : Vector) (i j k : ℕ) (q : List ℕ) → length ids ≡ 3 → i ≡ get_or ids 0 i → j ≡ get_or ids 1 j → k ≡ get_or ids 2 k
+pub polygon_of_three : (pts : List Vector) (ids : List ℕ) (n : Vector) (i j k : ℕ) (q : List ℕ) → length ids ≡ 3
+    → i ≡ get_or ids 0 i → j ≡ get_or ids 1 j → k ≡ get_or ids 2 k
     → q ≡ triangle (turn_of pts n) i j k → IsPlanarSet pts ids n → IsPolygon (place pts) (Extreme (place pts) (Members ids)) n q
 polygon_of_three pts ids n i j k q l pi pj pk e h =
     subst (λ t. IsPolygon (place pts) (Extreme (place pts) (Members t)) n q) (sym is)
-    (subst (IsPolygon (place pts) (Extreme (place pts) (Members (i ∷ j ∷ k ∷ []))) n) (sym e) (triangle_polygon pts n i j k set (set.set.rising 0 (omega arith)) (set.set.rising 1 (omega arith))))
+    (subst (IsPolygon (place pts) (Extreme (place pts) (Members (i ∷ j ∷ k ∷ []))) n) (sym e)
+    (triangle_polygon pts n i j k set (set.set.rising 0 (omega arith)) (set.set.rising 1 (omega arith))))
   where
     is : ids ≡ i ∷ j ∷ k ∷ []
     is = three_ids ids i j k l pi pj pk

@@ -19,7 +19,9 @@ pub record IsFlat (n : Vector) (at : ℕ → Vector) (A : ℕ → Type 0) : Type
 -- the turn as a bracket of the two steps
 pub left-middle : (n u v w : Vector) → left n u v w ≡ bracket n (minus v u) (minus w v)
 unfolding left cross
-left-middle n u v w = ring (put n (put u (put v (put w [])))) (dotE (crossE (subE (vec 2) (vec 1)) (subE (vec 3) (vec 1))) (vec 0)) (dotE (crossE (subE (vec 2) (vec 1)) (subE (vec 3) (vec 2))) (vec 0)) refl
+left-middle n u v w =
+    ring (put n (put u (put v (put w [])))) (dotE (crossE (subE (vec 2) (vec 1)) (subE (vec 3) (vec 1))) (vec 0))
+    (dotE (crossE (subE (vec 2) (vec 1)) (subE (vec 3) (vec 2))) (vec 0)) refl
 
 -- the turn as a bracket of the ways from the first point
 pub left-bracket : (n u v w : Vector) → left n u v w ≡ bracket n (minus v u) (minus w u)
@@ -29,12 +31,16 @@ left-bracket n u v w = refl
 -- with the first and last turned: L r t x = [t - x, t - r]
 left-last : (n r t x : Vector) → left n r t x ≡ bracket n (minus t x) (minus t r)
 unfolding left cross
-left-last n r t x = ring (put n (put r (put t (put x [])))) (dotE (crossE (subE (vec 2) (vec 1)) (subE (vec 3) (vec 1))) (vec 0)) (dotE (crossE (subE (vec 2) (vec 3)) (subE (vec 2) (vec 1))) (vec 0)) refl
+left-last n r t x = ring (put n (put r (put t (put x []))))
+    (dotE (crossE (subE (vec 2) (vec 1)) (subE (vec 3) (vec 1))) (vec 0))
+    (dotE (crossE (subE (vec 2) (vec 3)) (subE (vec 2) (vec 1))) (vec 0)) refl
 
 -- L t y x = [t - x, y - t]
 left-across : (n t y x : Vector) → left n t y x ≡ bracket n (minus t x) (minus y t)
 unfolding left cross
-left-across n t y x = ring (put n (put t (put y (put x [])))) (dotE (crossE (subE (vec 2) (vec 1)) (subE (vec 3) (vec 1))) (vec 0)) (dotE (crossE (subE (vec 1) (vec 3)) (subE (vec 2) (vec 1))) (vec 0)) refl
+left-across n t y x =
+    ring (put n (put t (put y (put x [])))) (dotE (crossE (subE (vec 2) (vec 1)) (subE (vec 3) (vec 1))) (vec 0))
+    (dotE (crossE (subE (vec 1) (vec 3)) (subE (vec 2) (vec 1))) (vec 0)) refl
 
 -- the turn the other way along its first step
 pub left-swap : (n u v w : Vector) → left n u v w ≡ neg_ℤ (left n v u w)
@@ -78,18 +84,25 @@ step at u v = minus (at v) (at u)
 pub turn_laws : (n h : Vector) (at : ℕ → Vector) (A : ℕ → Type 0) → IsFlat n at A → IsKeyed h at A → TurnLaws (turn_about n at) (height_of h at) A
 turn_laws n h at A flat keyed = record {
   about = λ t c x y at' ac ax ay tc tx ty nl l. subst (λ v. pos 0 ≤ℤ v) (sym (left-bracket n (at t) (at y) (at x)))
-      (fan_sign (bracket n (step at t y) (step at t x)) (dot h (step at t c)) (bracket n (step at t y) (step at t c)) (dot h (step at t x)) (bracket n (step at t c) (step at t x)) (dot h (step at t y))
-      (bracket-fan n h (step at t y) (step at t c) (step at t x) flat.some (flat.even t y at' ay) (flat.even t c at' ac) (flat.even t x at' ax)) (fwd t y ty) (fwd t c tc) (fwd t x tx)
+      (fan_sign (bracket n (step at t y) (step at t x)) (dot h (step at t c)) (bracket n (step at t y) (step at t c))
+      (dot h (step at t x)) (bracket n (step at t c) (step at t x)) (dot h (step at t y))
+      (bracket-fan n h (step at t y) (step at t c) (step at t x) flat.some (flat.even t y at' ay) (flat.even t c at' ac)
+      (flat.even t x at' ax)) (fwd t y ty) (fwd t c tc) (fwd t x tx)
       (subst (λ v. pos 0 ≤ℤ v) (left-bracket n (at t) (at y) (at c)) (opposite_nonneg _ _ (left-flip n (at t) (at c) (at y)) nl))
       (subst (λ v. pos 0 ≤ℤ v) (left-bracket n (at t) (at c) (at x)) l));
   onward = λ u v w y au av aw ay uv vw vy sh l. subst (λ v. pos 0 <ℤ v) (sym (left-middle n (at u) (at v) (at y)))
-      (fan_sign_left (bracket n (step at u v) (step at v y)) (dot h (step at v w)) (bracket n (step at u v) (step at v w)) (dot h (step at v y)) (bracket n (step at v w) (step at v y)) (dot h (step at u v))
-      (bracket-fan n h (step at u v) (step at v w) (step at v y) flat.some (flat.even u v au av) (flat.even v w av aw) (flat.even v y av ay)) (fwd u v uv) (fwd v w vw) (fwd v y vy)
+      (fan_sign_left (bracket n (step at u v) (step at v y)) (dot h (step at v w))
+      (bracket n (step at u v) (step at v w)) (dot h (step at v y)) (bracket n (step at v w) (step at v y))
+      (dot h (step at u v))
+      (bracket-fan n h (step at u v) (step at v w) (step at v y) flat.some (flat.even u v au av) (flat.even v w av aw)
+      (flat.even v y av ay)) (fwd u v uv) (fwd v w vw) (fwd v y vy)
       (subst (λ v. pos 0 <ℤ v) (left-middle n (at u) (at v) (at w)) sh)
       (subst (λ v. pos 0 ≤ℤ v) (left-bracket n (at v) (at w) (at y)) l));
   behind = λ r t x y ar at' ax ay xt rt ty l sh. subst (λ v. pos 0 ≤ℤ v) (sym (left-across n (at t) (at y) (at x)))
-      (fan_sign (bracket n (step at x t) (step at t y)) (dot h (step at r t)) (bracket n (step at x t) (step at r t)) (dot h (step at t y)) (bracket n (step at r t) (step at t y)) (dot h (step at x t))
-      (bracket-fan n h (step at x t) (step at r t) (step at t y) flat.some (flat.even x t ax at') (flat.even r t ar at') (flat.even t y at' ay)) (fwd x t xt) (fwd r t rt) (fwd t y ty)
+      (fan_sign (bracket n (step at x t) (step at t y)) (dot h (step at r t)) (bracket n (step at x t) (step at r t))
+      (dot h (step at t y)) (bracket n (step at r t) (step at t y)) (dot h (step at x t))
+      (bracket-fan n h (step at x t) (step at r t) (step at t y) flat.some (flat.even x t ax at') (flat.even r t ar at')
+      (flat.even t y at' ay)) (fwd x t xt) (fwd r t rt) (fwd t y ty)
       (subst (λ v. pos 0 ≤ℤ v) (left-last n (at r) (at t) (at x)) l)
       (subst (λ v. pos 0 ≤ℤ v) (left-middle n (at r) (at t) (at y)) sh));
   swap = λ t y x. left-swap n (at t) (at y) (at x);

@@ -34,12 +34,12 @@ keyed_opposite h at A k = record { same = λ i j ai aj e. k.same i j ai aj (oppo
 -- an id is a member or not
 in_dec : (x : ℕ) (xs : List ℕ) → In x xs ⊎ (In x xs → ⊥)
 in_dec x [] = inr (λ i. i)
-in_dec x (y ∷ ys) = go (ℕ_discrete x y) (in_dec x ys)
+in_dec x (y ∷ ys) = by_decision (ℕ_discrete x y) (in_dec x ys)
   where
-    go : Dec (x ≡ y) → In x ys ⊎ (In x ys → ⊥) → In x (y ∷ ys) ⊎ (In x (y ∷ ys) → ⊥)
-    go (yes e) d = inl (inl e)
-    go (no ne) (inl i) = inl (inr i)
-    go (no ne) (inr f) = inr (λ i. ⊎_elim ne f i)
+    by_decision : Dec (x ≡ y) → In x ys ⊎ (In x ys → ⊥) → In x (y ∷ ys) ⊎ (In x (y ∷ ys) → ⊥)
+    by_decision (yes e) d = inl (inl e)
+    by_decision (no ne) (inl i) = inl (inr i)
+    by_decision (no ne) (inr f) = inr (λ i. ⊎_elim ne f i)
 
 -- two chains over the same members, from the least to the greatest and back
 pub record Chains (n h : Vector) (at : ℕ → Vector) (A : ℕ → Type 0) (m : ℕ) (s : List ℕ) (z : ℕ) (r : List ℕ) : Type 0 where
@@ -80,13 +80,17 @@ module _ (n h : Vector) (at : ℕ → Vector) (A : ℕ → Type 0) (m a : ℕ) (
   lower_ends : bottom a s ≡ z
   lower_ends =
       let g = chain-bottom (turn_about n at) (height_of h at) A m (a ∷ s) c.lower in
-      c.keyed.same (bottom a s) z g.0 c.upper.0 (le_antisym _ _ (g.1 z c.upper.0) (neg_le _ _ _ _ (dot-opposite h (at (bottom a s))) (dot-opposite h (at z)) (c.first (bottom a s) g.0)))
+      c.keyed.same (bottom a s) z g.0 c.upper.0
+      (le_antisym _ _ (g.1 z c.upper.0)
+      (neg_le _ _ _ _ (dot-opposite h (at (bottom a s))) (dot-opposite h (at z)) (c.first (bottom a s) g.0)))
 
   -- and ends where it begins
   upper_ends : bottom b r ≡ m
   upper_ends =
       let g = chain-bottom (turn_about n at) (height_of (opposite h) at) A z (b ∷ r) c.upper in
-      c.keyed.same (bottom b r) m g.0 c.lower.0 (le_antisym _ _ (c.last (bottom b r) g.0) (neg_le _ _ _ _ (dot-opposite h (at (bottom b r))) (dot-opposite h (at m)) (g.1 m c.lower.0)))
+      c.keyed.same (bottom b r) m g.0 c.lower.0
+      (le_antisym _ _ (c.last (bottom b r) g.0)
+      (neg_le _ _ _ _ (dot-opposite h (at (bottom b r))) (dot-opposite h (at m)) (g.1 m c.lower.0)))
 
   -- the way round
   ring_list : List ℕ
@@ -113,7 +117,8 @@ module _ (n h : Vector) (at : ℕ → Vector) (A : ℕ → Type 0) (m a : ℕ) (
   -- and nothing else
   of_chains : (x : ℕ) → In x ring_list → In x (a ∷ s) ⊎ In x (b ∷ r)
   unfolding ring_list
-  of_chains x i = ⊎_elim (λ k. inl k) (λ k. inr (⊎_elim (λ l. l) (λ l. absurd l) (turned_onto-in (b ∷ r) [] x k))) (turned_onto-in (a ∷ s) (turned_onto (b ∷ r) []) x i)
+  of_chains x i = ⊎_elim (λ k. inl k) (λ k. inr (⊎_elim (λ l. l) (λ l. absurd l) (turned_onto-in (b ∷ r) [] x k)))
+      (turned_onto-in (a ∷ s) (turned_onto (b ∷ r) []) x i)
 
   -- all are corners
   corners : (x : ℕ) → In x ring_list → Corner at A x
@@ -127,7 +132,10 @@ module _ (n h : Vector) (at : ℕ → Vector) (A : ℕ → Type 0) (m a : ℕ) (
   meet v av u i =
       let k = turn_laws n h at A c.flat c.keyed in
       meet_sign _ _ (k.swap v i.q i.t)
-      (k.behind u.u v i.t i.q u.is av i.is_t i.is_q (neg_lt _ _ _ _ (dot-opposite h (at v)) (dot-opposite h (at i.t)) i.after) u.before (neg_lt _ _ _ _ (dot-opposite h (at i.q)) (dot-opposite h (at v)) i.before) (u.edge i.t i.is_t) (u.edge i.q i.is_q)) i.sharp
+      (k.behind u.u v i.t i.q u.is av i.is_t i.is_q
+      (neg_lt _ _ _ _ (dot-opposite h (at v)) (dot-opposite h (at i.t)) i.after) u.before
+      (neg_lt _ _ _ _ (dot-opposite h (at i.q)) (dot-opposite h (at v)) i.before) (u.edge i.t i.is_t)
+      (u.edge i.q i.is_q)) i.sharp
 
   -- no inner id is on both ways
   disjoint : (v : ℕ) → In v (a ∷ s) → In v (b ∷ r) → ⊥
@@ -136,7 +144,9 @@ module _ (n h : Vector) (at : ℕ → Vector) (A : ℕ → Type 0) (m a : ℕ) (
       let up = chain-below (turn_about n at) (height_of (opposite h) at) A z (b ∷ r) c.upper v j in
       let down = chain-below (turn_about n at) (height_of h at) A m (a ∷ s) c.lower v i in
       ⊎_elim (λ l. not_less _ _ (neg_lt _ _ _ _ (dot-opposite h (at v)) (dot-opposite h (at z)) up) (l z c.upper.0))
-      (λ u. ⊎_elim (λ l. not_less _ _ (lt_neg _ _ _ _ (dot-opposite h (at m)) (dot-opposite h (at v)) down) (l m c.lower.0)) (λ k. meet v av u k) (inside (turn_about n at) (height_of (opposite h) at) A z (b ∷ r) c.upper v j))
+      (λ u. ⊎_elim (λ l. not_less _ _ (lt_neg _ _ _ _ (dot-opposite h (at m)) (dot-opposite h (at v)) down)
+      (l m c.lower.0)) (λ k.
+      meet v av u k) (inside (turn_about n at) (height_of (opposite h) at) A z (b ∷ r) c.upper v j))
       (under (turn_about n at) (height_of h at) A m (a ∷ s) c.lower v (inr i))
 
   -- each stands once
@@ -160,9 +170,13 @@ module _ (n h : Vector) (at : ℕ → Vector) (A : ℕ → Type 0) (m a : ℕ) (
   -- what is not on the way round is not beyond all of it
   beyond_all : (e : ℕ) → A e → (In e ring_list → ⊥) → Separator at (λ x. In x ring_list) (at e) → ⊥
   beyond_all e ae out f =
-      by_lt_z (pos 0) S (λ k. core n (opposite h) f.w at A c.flat up.u up.v e up.is_u up.is_v ae up.before up.after (f.past up.u (up_in up.u up.has_u)) (f.past up.v (up_in up.v up.has_v))
+      by_lt_z (pos 0) S (λ k.
+      core n (opposite h) f.w at A c.flat up.u up.v e up.is_u up.is_v ae up.before up.after
+      (f.past up.u (up_in up.u up.has_u)) (f.past up.v (up_in up.v up.has_v))
       (mul-nonneg_nonpos _ _ (up.edge e ae) (turned _ S (bracket-opposite h f.w n) k)))
-      (λ k. core n h f.w at A c.flat low.u low.v e low.is_u low.is_v ae low.before low.after (f.past low.u (low_in low.u low.has_u)) (f.past low.v (low_in low.v low.has_v)) (mul-nonneg_nonpos _ _ (low.edge e ae) k))
+      (λ k. core n h f.w at A c.flat low.u low.v e low.is_u low.is_v ae low.before low.after
+      (f.past low.u (low_in low.u low.has_u)) (f.past low.v (low_in low.v low.has_v))
+      (mul-nonneg_nonpos _ _ (low.edge e ae) k))
     where
       S : ℤ
       S = dot (cross_product h f.w) n
@@ -179,14 +193,19 @@ module _ (n h : Vector) (at : ℕ → Vector) (A : ℕ → Type 0) (m a : ℕ) (
       up_in x (inr i) = in_upper x i
 
       low : Span (turn_about n at) (height_of h at) A e (m ∷ a ∷ s)
-      low = span (turn_about n at) (height_of h at) A c.keyed.same m (a ∷ s) c.lower e ae (λ i. out (low_in e i)) (le_less _ _ (c.last e ae) (λ k. out (low_in e (inl (c.keyed.same e m ae c.lower.0 k)))))
+      low = span (turn_about n at) (height_of h at) A c.keyed.same m (a ∷ s) c.lower e ae (λ i. out (low_in e i))
+          (le_less _ _ (c.last e ae) (λ k. out (low_in e (inl (c.keyed.same e m ae c.lower.0 k)))))
 
       up : Span (turn_about n at) (height_of (opposite h) at) A e (z ∷ b ∷ r)
-      up = span (turn_about n at) (height_of (opposite h) at) A kb.same z (b ∷ r) c.upper e ae (λ i. out (up_in e i)) (le_less _ _ (c.first e ae) (λ k. out (up_in e (inl (kb.same e z ae c.upper.0 k)))))
+      up = span (turn_about n at) (height_of (opposite h) at) A kb.same z (b ∷ r) c.upper e ae (λ i. out (up_in e i))
+          (le_less _ _ (c.first e ae) (λ k. out (up_in e (inl (kb.same e z ae c.upper.0 k)))))
 
   -- so each extreme is on it
   extreme_in : (e : ℕ) → Extreme at A e → In e ring_list
-  extreme_in e x = ⊎_elim (λ i. i) (λ out. absurd (⊎_elim (λ f. x.1 (combination_within at (λ v. In v ring_list) (Others A e) (at e) f (λ j i. ((corners j i).member, λ k. out (subst (λ v. In v ring_list) k i)))))
+  extreme_in e x = ⊎_elim (λ i. i)
+      (λ out. absurd (⊎_elim
+      (λ f. x.1 (combination_within at (λ v. In v ring_list) (Others A e) (at e) f
+      (λ j i. ((corners j i).member, λ k. out (subst (λ v. In v ring_list) k i)))))
       (beyond_all e x.0 out) (alternative_in at (λ v. In v ring_list) ring_list (listed_itself ring_list) (at e)))) (in_dec e ring_list)
 
   -- the way round has the extremes and nothing else

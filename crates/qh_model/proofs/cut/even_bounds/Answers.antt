@@ -8,5 +8,7 @@ pub returns : goal.returns
 returns c =
     let inv = c.loop-block.invariant in
     let xs = c.loop-block.bounds.items in
-    let cut : IsEvenCut c.args.m c.args.size (xs ++ c.args.m ∷ []) = even_cut c.args.m c.args.size c.args.blocks xs (grind (arith, c.requires.size)) c.requires.blocks (grind (arith, inv.0, c.loop-block.auto)) (grind (arith, inv.1, c.loop-block.auto)) in
+    let cut : IsEvenCut c.args.m c.args.size (xs ++ c.args.m ∷ []) =
+    even_cut c.args.m c.args.size c.args.blocks xs (grind (arith, c.requires.size)) c.requires.blocks
+    (grind (arith, inv.0, c.loop-block.auto)) (grind (arith, inv.1, c.loop-block.auto)) in
     subst (IsEvenCut c.args.m c.args.size) (sym (c.in_ok-push-2.ensures.items)) cut

@@ -7,8 +7,14 @@ use Rattle.qh_plane.proofs.place_keys.place_keys.Goals as goal
 
 pub loop-id-preserved : goal.loop-id-preserved
 loop-id-preserved c = record {
-  value = c.in_ok-push.ensures.items ∙ map-more (key_at c.args.pts.now) c.args.ids.now c.loop-id.id-index c.id-item.result _ _ (omega arith) c.loop-id.invariant.value
+  value = c.in_ok-push.ensures.items
+      ∙ map-more (key_at c.args.pts.now) c.args.ids.now c.loop-id.id-index c.id-item.result _ _
+      (omega arith) c.loop-id.invariant.value
       (c.place_key.ensures.value ∙ ap (λ p. place_key p c.id-item.result) c.point_at.ensures ∙ ap (key_at c.args.pts.now) c.id-item.is);
   known = All-more (HasKey c.args.pts.now) c.args.ids.now c.loop-id.id-index c.id-item.result (omega arith) c.loop-id.invariant.known
-      (subst (HasKey c.args.pts.now) c.id-item.is (record { place_in = subst IsPlace c.point_at.ensures c.place_key.ensures.place; small = c.place_key.ensures.small }));
+      (subst (HasKey c.args.pts.now) c.id-item.is
+      (record {
+        place_in = subst IsPlace c.point_at.ensures c.place_key.ensures.place;
+        small = c.place_key.ensures.small;
+      }));
 }

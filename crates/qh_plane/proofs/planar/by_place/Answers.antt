@@ -10,7 +10,9 @@ use Rattle.qh_plane.proofs.planar.by_place.Goals as goal
 pub returns-clause-order : goal.returns-clause-order
 returns-clause-order c = record {
   keys = c.deref-ordered.result.now;
-  same = subst (λ v. IsPermutation v c.deref-ordered.result.now) c.in_ok-keys.ensures.value (subst (λ v. IsPermutation c.in_ok-keys.keys.items v) (sym c.deref-ordered.ensures.value) c.sort_unstable.ensures.permutation);
+  same = subst (λ v. IsPermutation v c.deref-ordered.result.now) c.in_ok-keys.ensures.value
+      (subst (λ v. IsPermutation c.in_ok-keys.keys.items v) (sym c.deref-ordered.ensures.value)
+      c.sort_unstable.ensures.permutation);
   rising = subst IsNonDecreasing (sym c.deref-ordered.ensures.value) (IsNonDecreasingBy-from_sort (λ x. x) _ c.sort_unstable.ensures.sorted);
   is = c.loop-key.invariant ∙ ap ids_in (take_all _ _ (omega arith));
 }

@@ -38,7 +38,9 @@ returns-then-goes_left c = (
   c.args.l,
   refl,
   sym c.goes_left.ensures ∙ c.if-goes_left.true,
-  λ z. last _ _ c.args.j c.args.k c.args.l z (elim c.if-turns_left.branch [ then-turns_left w ↦ one _ _ _ _ w.j-is | else-turns_left w ↦ other _ _ _ _ w.j-is ]),
+  λ z. last _ _ c.args.j c.args.k c.args.l z
+      (elim c.if-turns_left.branch
+      [ then-turns_left w ↦ one _ _ _ _ w.j-is | else-turns_left w ↦ other _ _ _ _ w.j-is ]),
 )
 
 pub returns-then-goes_left-2 : goal.returns-then-goes_left-2
@@ -48,7 +50,9 @@ returns-then-goes_left-2 c = (
   c.if-turns_left.j.1,
   refl,
   sym c.goes_left-else-goes_left.ensures ∙ c.if-goes_left-2.true,
-  λ z. middle _ _ c.args.j c.args.k c.args.l z (elim c.if-turns_left.branch [ then-turns_left w ↦ one _ _ _ _ w.j-is | else-turns_left w ↦ other _ _ _ _ w.j-is ]),
+  λ z. middle _ _ c.args.j c.args.k c.args.l z
+      (elim c.if-turns_left.branch
+      [ then-turns_left w ↦ one _ _ _ _ w.j-is | else-turns_left w ↦ other _ _ _ _ w.j-is ]),
 )
 
 pub returns-then-goes_left-3 : goal.returns-then-goes_left-3
@@ -58,5 +62,7 @@ returns-then-goes_left-3 c = (
   c.if-turns_left.j.1,
   refl,
   sym c.goes_left-else-goes_left-2.ensures ∙ c.if-goes_left-3.true,
-  λ z. front _ _ c.args.j c.args.k c.args.l z (elim c.if-turns_left.branch [ then-turns_left w ↦ one _ _ _ _ w.j-is | else-turns_left w ↦ other _ _ _ _ w.j-is ]),
+  λ z. front _ _ c.args.j c.args.k c.args.l z
+      (elim c.if-turns_left.branch
+      [ then-turns_left w ↦ one _ _ _ _ w.j-is | else-turns_left w ↦ other _ _ _ _ w.j-is ]),
 )

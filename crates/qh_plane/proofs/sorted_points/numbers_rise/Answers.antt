@@ -7,7 +7,7 @@ use Rattle.qh_plane.proofs.SeenPlaces.{point_read}
 use Rattle.qh_plane.proofs.sorted_points.numbers_rise.Goals as goal
 
 pub loop-j-preserved : goal.loop-j-preserved
-loop-j-preserved c = (omega (arith, one), λ k a b. by k a b (cases_lt (k + 1) j))
+loop-j-preserved c = (omega (arith, one), λ k a b. by_cases k a b (cases_lt (k + 1) j))
   where
     j : ℕ
     j = c.loop-j.j
@@ -23,7 +23,7 @@ loop-j-preserved c = (omega (arith, one), λ k a b. by k a b (cases_lt (k + 1) j
         let e = c.place_number.ensures in let f = c.place_number-in-loop-j.ensures in
         omega (arith, test, p, q, e, f)
 
-    by : (k : ℕ) → k + 1 < j + 1 → k + 1 < length c.args.pts.now → (k + 1 < j) ⊎ (j ≤ k + 1)
+    by_cases : (k : ℕ) → k + 1 < j + 1 → k + 1 < length c.args.pts.now → (k + 1 < j) ⊎ (j ≤ k + 1)
         → place_number (place c.args.pts.now k) < place_number (place c.args.pts.now (k + 1))
-    by k a b (inl l) = c.loop-j.invariant.1 k l b
-    by k a b (inr l) = let s : k ≡ j - 1 = omega (arith, a, l, one) in let t : k + 1 ≡ j = omega (arith, a, l) in rw (t, s) last
+    by_cases k a b (inl l) = c.loop-j.invariant.1 k l b
+    by_cases k a b (inr l) = let s : k ≡ j - 1 = omega (arith, a, l, one) in let t : k + 1 ≡ j = omega (arith, a, l) in rw (t, s) last

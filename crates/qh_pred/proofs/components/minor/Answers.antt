@@ -11,7 +11,9 @@ overflow_sub-result c =
     let fb : FitsSigned w64 c.args.b = c.ranges.b in
     let fc : FitsSigned w64 c.args.c = c.ranges.c in
     let fd : FitsSigned w64 c.args.d = c.ranges.d in
-    let f = minor_fits difference_limit c.args.a c.args.b c.args.c c.args.d (lit< tt) c.requires.a_within c.requires.b_within c.requires.c_within c.requires.d_within c.requires.wide c.requires.high in
+    let f = minor_fits difference_limit c.args.a c.args.b c.args.c c.args.d
+    (lit< tt) c.requires.a_within c.requires.b_within c.requires.c_within c.requires.d_within c.requires.wide
+    c.requires.high in
     let f1 : FitsSigned w64 (c.args.a *ℤ c.args.b) = f.first in
     let f2 : FitsSigned w64 (c.args.c *ℤ c.args.d) = f.second in
     simp to_z-of_z f.whole
@@ -22,7 +24,9 @@ returns c =
     let fb : FitsSigned w64 c.args.b = c.ranges.b in
     let fc : FitsSigned w64 c.args.c = c.ranges.c in
     let fd : FitsSigned w64 c.args.d = c.ranges.d in
-    let f = minor_fits difference_limit c.args.a c.args.b c.args.c c.args.d (lit< tt) c.requires.a_within c.requires.b_within c.requires.c_within c.requires.d_within c.requires.wide c.requires.high in
+    let f = minor_fits difference_limit c.args.a c.args.b c.args.c c.args.d
+    (lit< tt) c.requires.a_within c.requires.b_within c.requires.c_within c.requires.d_within c.requires.wide
+    c.requires.high in
     let f1 : FitsSigned w64 (c.args.a *ℤ c.args.b) = f.first in
     let f2 : FitsSigned w64 (c.args.c *ℤ c.args.d) = f.second in
     let f3 : FitsSigned w64 (c.args.a *ℤ c.args.b -ℤ c.args.c *ℤ c.args.d) = f.whole in
