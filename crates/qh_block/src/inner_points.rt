@@ -1,7 +1,7 @@
 //! Points inside a large set, which go before Quickhull sees them.
 //!
 //! The planes of the hull of a small sample of the set (`sample`) cut each column of a grid into cells
-//! (`columns`, `cells`, `bounds`). The few planes that come near a cell tell of its points which are strictly
+//! (`grid`, `columns`, `heights`, `cells`, `bounds`). The few planes that come near a cell tell of its points which are strictly
 //! inside the hull of the sample. These are not extreme, in the sample or in the set.
 //!
 //! Of a very large set a first round leaves many points. A sample of these lies near the surface
@@ -12,6 +12,8 @@ ghost use Rattle.qh_block.specs.steps.InnerPoints.{IsOuterPart};
 mod bounds;
 mod cells;
 mod columns;
+mod grid;
+mod heights;
 mod sample;
 pub mod sieves;
 

@@ -1,0 +1,98 @@
+//! Heights in a column between planes.
+
+use crate::inner_points::bounds::Bounds;
+use qh_model::Point;
+use qh_pred::Plane;
+use std::cmp::Ordering;
+
+/// Numbers along the z axis, from the least to the greatest.
+#[derive(Clone, Copy, Drop)]
+pub struct Heights {
+    pub low: i64,
+    pub high: i64,
+}
+
+impl Heights {
+    /// No heights.
+    pub fn none() -> Heights {
+        Heights { low: 1, high: 0 }
+    }
+
+    /// Those between bounds.
+    fn of(bounds: &Bounds) -> Heights {
+        Heights {
+            low: i64::from(bounds.low.z()),
+            high: i64::from(bounds.high.z()),
+        }
+    }
+
+    /// Those at which all places between bounds in x and y are below all planes, as far as numbers of 64
+    /// bits tell.
+    pub fn inside(planes: &[Plane], bounds: &Bounds) -> Heights {
+        let mut heights = Heights::of(bounds);
+        for plane in planes {
+            heights = heights.below(plane, bounds.far_corner(&plane.normal()));
+        }
+        heights
+    }
+
+    /// Those at which some place between bounds in x and y may be below all planes, as far as numbers of 64
+    /// bits tell.
+    pub fn reached(planes: &[Plane], bounds: &Bounds) -> Heights {
+        let mut heights = Heights::of(bounds);
+        for plane in planes {
+            heights = heights.below(plane, bounds.near_corner(&plane.normal()));
+        }
+        heights
+    }
+
+    /// Returns true if there are none.
+    pub fn is_empty(&self) -> bool {
+        self.low > self.high
+    }
+
+    /// Those above all of others.
+    pub fn above(&self, others: &Heights) -> Heights {
+        Heights {
+            low: others.high.saturating_add(1),
+            high: self.high,
+        }
+    }
+
+    /// Those below all of others.
+    pub fn under(&self, others: &Heights) -> Heights {
+        Heights {
+            low: self.low,
+            high: others.low.saturating_sub(1),
+        }
+    }
+
+    /// Those of them at which a place in x and y is below a plane. Where a product does not fit it is
+    /// wrong, which the tests of the cells tell.
+    fn below(self, plane: &Plane, place: Point) -> Heights {
+        let normal = plane.normal();
+        let (x, y, z) = (normal.x() as i64, normal.y() as i64, normal.z() as i64);
+        let reach = x
+            .wrapping_mul(i64::from(place.x()))
+            .wrapping_add(y.wrapping_mul(i64::from(place.y())));
+        let offset = i64::try_from(plane.offset()).unwrap_or(0);
+        let room = offset.wrapping_sub(reach).wrapping_sub(1);
+        let far_z = if z > 0 { self.high } else { self.low };
+        if z.wrapping_mul(far_z) <= room {
+            return self;
+        }
+        let end = room.checked_div_euclid(z.wrapping_abs()).unwrap_or(0);
+        match z.cmp(&0) {
+            Ordering::Greater => Heights {
+                low: self.low,
+                high: self.high.min(end),
+            },
+            Ordering::Less => Heights {
+                low: self.low.max(end.wrapping_neg()),
+                high: self.high,
+            },
+            Ordering::Equal if room < 0 => Heights::none(),
+            Ordering::Equal => self,
+        }
+    }
+}
