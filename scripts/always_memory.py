@@ -18,13 +18,9 @@ import sys
 import tempfile
 from pathlib import Path
 
-from wrong_workers import keep_modules
-
 ANSWER = "crates/qh_serve/src/answers.rt"
-CRATE = "crates/qh_tests"
-# The tests that call `answer`, and the modules that they need.
-TESTS = f"{CRATE}/src/tests"
-NEEDED = {"files", "points", "serve"}
+# The crates whose tests call `answer`.
+ROWS, WORKERS = "crates/qh_tests_serve", "crates/qh_tests_workers"
 RIGHT_BODY = """{
     let points = read_form(alloc, settings.form(), input)?;
     let text = text_of(rt, alloc, &points, settings, gate)?;
@@ -76,12 +72,11 @@ def plant(top):
     shutil.copytree("crates", top / "crates", symlinks=True, ignore=shutil.ignore_patterns("out"))
     for name in ["crates.txt", "HANDLES"]:
         shutil.copy(name, top / name)
-    keep_modules((top / TESTS).with_suffix(".rt"), NEEDED)
     replace_once(top / ANSWER, RIGHT_BODY, PLANTED_BODY)
-    replace_once(top / TESTS / "serve/limits.rt", LONGEST, SHORT)
-    replace_once(top / TESTS / "serve/gated.rt", WATCHED, ANSWER_ALONE)
+    replace_once(top / ROWS / "src/tests/serve/limits.rt", LONGEST, SHORT)
+    replace_once(top / WORKERS / "src/tests/gated.rt", WATCHED, ANSWER_ALONE)
     total = 0
-    for path in [top / TESTS / "serve.rt", *sorted((top / TESTS / "serve").glob("*.rt"))]:
+    for path in [path for crate in (ROWS, WORKERS) for path in sorted((top / crate / "src/tests").rglob("*.rt"))]:
         count = turn_round(path)
         total += count
         if count:
@@ -89,16 +84,23 @@ def plant(top):
     return total
 
 
+def tried(top, crate):
+    """What the tests of a crate say, run with no proof, and how each ended."""
+    run = subprocess.run(["rt", "try", "--test", "--seconds", "600"], cwd=top / crate, capture_output=True, text=True)
+    said = run.stdout + run.stderr
+    ends = ENDS.findall(said)
+    if not ends:
+        sys.exit(f"no test of {crate} was run:\n{said[-2000:]}")
+    return said, ends
+
+
 def main():
     with tempfile.TemporaryDirectory() as folder:
         top = Path(folder)
         total = plant(top)
-        command = ["rt", "try", "--test", "--seconds", "600"]
-        run = subprocess.run(command, cwd=top / CRATE, capture_output=True, text=True)
-    said = run.stdout + run.stderr
-    ends = ENDS.findall(said)
-    if not ends:
-        sys.exit(f"no test was run:\n{said[-2000:]}")
+        runs = [tried(top, crate) for crate in (ROWS, WORKERS)]
+    said = "\n".join(said for said, _ in runs)
+    ends = [end for _, ends in runs for end in ends]
     passing = [name for name, end in ends if end != "ok"]
     if passing:
         print("WRONG: rows of these tests pass where `answer` always wants memory:", *passing, said, sep="\n    ")

@@ -7,8 +7,8 @@ runs=${1:-10000}
 work=$(mktemp -d)
 trap 'rm -rf "$work"' EXIT
 tar --exclude=out -cf - crates crates.txt HANDLES | tar -xf - -C "$work"
-sed -i "s/^const RUNS: u32 = .*;/const RUNS: u32 = $runs;/" "$work/crates/qh_tests/src/tests/board/runs.rt"
-cd "$work/crates/qh_tests"
+sed -i "s/^const RUNS: u32 = .*;/const RUNS: u32 = $runs;/" "$work/crates/qh_tests_board/src/tests/board/runs.rt"
+cd "$work/crates/qh_tests_board"
 rt try --test -- board::runs:: > "$work/log" 2>&1 || { tail -20 "$work/log"; exit 1; }
 grep '^test .*board::runs::' "$work/log"
 echo "$runs boards were run"

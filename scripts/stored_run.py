@@ -18,7 +18,7 @@ from pathlib import Path
 from fuzz_hulls import hull_text
 
 FOLDER = Path("crates/qconvex")
-TEST = Path("crates/qh_tests/src/tests/serve/stored_points.rt")
+TEST = Path("crates/qh_tests_workers/src/tests/stored_points.rt")
 ARGS = ["--block", "3", "--workers", "7", "rank", "s", "Fx", "off", "offt"]
 OUTPUTS = ["rank", "s", "Fx", "off", "offt"]
 SEED = 20261123

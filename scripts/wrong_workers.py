@@ -7,7 +7,7 @@ Each body gives the right hull: by workers that do not run at once, that are too
 is not used or that tell their gate something wrong; or by a filter of all triples of points, which takes too long. No
 clause speaks of these things, so the checker has nothing to refuse, and none of the bodies is handed to it. The script
 copies the repository to a folder of its own, puts one body after the other in the place of the right one, and runs the
-tests of qh_tests there that watch the workers or the time. It ends with status 1 if a body passes all tests, or the right
+tests of qh_tests_workers there that watch the workers or the time. It ends with status 1 if a body passes all tests, or the right
 bodies fail one.
 """
 import re
@@ -24,12 +24,10 @@ JOB = "crates/qh_run/src/job.rt"
 WORKER = "crates/qh_run/src/worker.rt"
 HULLS = "crates/qh_block/src/hulls.rt"
 
-# The tests that run, and the modules that they need: those that watch workers, and the row of 20,000 points, which tells
-# the time.
-TESTS = Path("crates/qh_tests/src/tests")
-NEEDED = {"files", "points", "serve"}
+# The tests that run: those that watch workers, and the row of 20,000 points, which tells the time.
+TESTS = Path("crates/qh_tests_workers/src/tests")
 WATCHING = {"gated", "told_blocks"}
-TIMED = {"near_flat_sets", "paraboloid"}
+TIMED = {"paraboloid"}
 
 # A body's name, its file, and texts of the right body with what stands for them.
 BODIES = [
@@ -116,7 +114,7 @@ def keep_modules(file, names):
 def tests_of(top, seconds=1200):
     """What the tests say: a line for each, and whether all pass."""
     command = ["rt", "try", "--test", "--seconds", str(seconds)]
-    run = subprocess.run(command, cwd=top / "crates/qh_tests", capture_output=True, text=True)
+    run = subprocess.run(command, cwd=top / "crates/qh_tests_workers", capture_output=True, text=True)
     said = run.stdout + run.stderr
     return said, "test result: ok." in said
 
@@ -140,12 +138,11 @@ def plant(path, edits):
 
 
 def copied(top, modules):
-    """Copies the crates, with these modules alone of the tests of `serve`."""
+    """Copies the crates, with these modules alone of the tests of workers."""
     shutil.copytree("crates", top / "crates", symlinks=True, ignore=shutil.ignore_patterns("out"))
     for name in ["crates.txt", "HANDLES"]:
         shutil.copy(name, top / name)
-    keep_modules((top / TESTS).with_suffix(".rt"), NEEDED)
-    keep_modules(top / TESTS / "serve.rt", modules)
+    keep_modules((top / TESTS).with_suffix(".rt"), modules)
 
 
 def tell(name, passes, said, should_pass):

@@ -3,7 +3,8 @@ use Rattle.std.proofs.Common.{◌≡◌, ◌∙◌, ◌<◌, ap, sym, subst, ref
 use Rattle.std.specs.Prelude.{slice_index_or}
 use Rattle.std.specs.Borrow.{Bor}
 use Rattle.std.specs.Option.{option_map}
-use Rattle.clap.specs.Words.{App, Text, IsAmong, HasKind, all_of, fault_of, found_of, kind_of, matched_of, matches_of, one_of, one_text, raw_values, rows_of, takes}
+use Rattle.clap.specs.Words.{App, Text, IsAmong, HasKind, all_of, fault_of, found_of, kind_of, matched_of, matches_of}
+use Rattle.clap.specs.Words.{one_of, one_text, raw_values, rows_of, takes}
 use Rattle.clap.specs.declared.error.Error.{Error}
 use Rattle.clap.specs.declared.error.kind.ErrorKind.{ErrorKind}
 use Rattle.clap.specs.declared.error.kind.ErrorKind.TheVariants.{DisplayHelp, OutOfMemory}
@@ -17,7 +18,9 @@ use Rattle.qconvex.specs.contract.CommandLine.{AreOutsOf, AreSettingsIn, IsArgFa
 use Rattle.qconvex.specs.steps.Matches.{AreSettingsFound, IsFindingFault, IsOutsFault, IsRefusalOf}
 
 -- each of some outputs' words is that of an output
-pub word_at : (outs : List Out) (names : List (Bor Text)) (k : ℕ) (d : Bor Text) → map word_of outs ≡ map (λ w. w.now) names → k < length names → (out : Out) × (word_of out ≡ (slice_index_or names k d).now)
+pub word_at : (outs : List Out) (names : List (Bor Text)) (k : ℕ) (d : Bor Text)
+    → map word_of outs ≡ map (λ w. w.now) names → k < length names
+    → (out : Out) × (word_of out ≡ (slice_index_or names k d).now)
 word_at [] [] k d e h = absurd (omega arith)
 word_at [] (n ∷ ns) k d e h = cc
 word_at (o ∷ os) [] k d e h = cc
@@ -31,7 +34,8 @@ only_word (n ∷ []) d h = refl
 only_word (n ∷ m ∷ ns) d h = absurd (omega arith)
 
 -- what is found in the matches of the words is what the words say
-pub found_in : (app : App) (words : List Text) (found : Found) → rows_of found ≡ matches_of app words → (s : SettingsValue) → AreSettingsFound found s → AreSettingsIn app words s
+pub found_in : (app : App) (words : List Text) (found : Found) → rows_of found ≡ matches_of app words
+    → (s : SettingsValue) → AreSettingsFound found s → AreSettingsIn app words s
 found_in app words found rows s h = record {
   workers = subst (λ (t : Option Text). NumberOf t s.workers) (one_text-rows found (codes "workers") ∙ ap (one_of (codes "workers")) rows) h.workers;
   block = subst (λ (t : Option Text). NumberOf t s.block) (one_text-rows found (codes "block") ∙ ap (one_of (codes "block")) rows) h.block;
@@ -40,7 +44,8 @@ found_in app words found rows s h = record {
 }
 
 -- and the other way round
-said_found : (app : App) (words : List Text) (found : Found) → rows_of found ≡ matches_of app words → (s : SettingsValue) → AreSettingsIn app words s → AreSettingsFound found s
+said_found : (app : App) (words : List Text) (found : Found) → rows_of found ≡ matches_of app words
+    → (s : SettingsValue) → AreSettingsIn app words s → AreSettingsFound found s
 said_found app words found rows s h = record {
   workers = subst (λ (t : Option Text). NumberOf t s.workers) (sym (one_text-rows found (codes "workers") ∙ ap (one_of (codes "workers")) rows)) h.workers;
   block = subst (λ (t : Option Text). NumberOf t s.block) (sym (one_text-rows found (codes "block") ∙ ap (one_of (codes "block")) rows)) h.block;
@@ -49,7 +54,8 @@ said_found app words found rows s h = record {
 }
 
 -- a fault of the matches is one of the words
-pub unfound : (app : App) (words : List Text) (found : Found) → IsProgram app → rows_of found ≡ matches_of app words → (f : ArgFault) → IsFindingFault found f → IsArgFaultOf words f
+pub unfound : (app : App) (words : List Text) (found : Found) → IsProgram app → rows_of found ≡ matches_of app words
+    → (f : ArgFault) → IsFindingFault found f → IsArgFaultOf words f
 unfound app words found is rows (Help text) h = absurd h
 unfound app words found is rows Usage h = (app, is, inr (λ s g. h s (said_found app words found rows s g)))
 unfound app words found is rows Memory h = tt
@@ -68,11 +74,16 @@ refusal app words e is kinds passes (Help text) h = (app, is, among kinds)
     among : HasKind (fault_of app words) e → IsAmong DisplayHelp (fault_of app words)
     among (inl m) = let bad : DisplayHelp ≡ OutOfMemory = sym h ∙ m in cc
     among (inr a) = subst (λ (k : ErrorKind). IsAmong k (fault_of app words)) h a
-refusal app words e is kinds passes Usage h = (app, is, inl (record { refused = by (takes app words) refl; kind = kind_of e; among = told kinds; other = h.1 }))
+refusal app words e is kinds passes Usage h = (
+  app,
+  is,
+  inl (record
+      { refused = by_test (takes app words) refl; kind = kind_of e; among = told kinds; other = h.1 }),
+)
   where
-    by : (b : Bool) → takes app words ≡ b → takes app words ≡ false
-    by true t = absurd (h.0 (passes t))
-    by false t = t
+    by_test : (b : Bool) → takes app words ≡ b → takes app words ≡ false
+    by_test true t = absurd (h.0 (passes t))
+    by_test false t = t
 
     told : HasKind (fault_of app words) e → IsAmong (kind_of e) (fault_of app words)
     told (inl m) = absurd (h.0 m)

@@ -27,7 +27,8 @@ corners_by_face (q ∷ qs) = ap (λ t. face_corners q ++ t) (corners_by_face qs)
 -- their normals
 pub normals_by_face : (at : ℕ → Vector) (qs : List (List ℕ)) → flat_map (face_normals at) qs ≡ flat_map (normal_of at) (triangles_of qs)
 normals_by_face at [] = refl
-normals_by_face at (q ∷ qs) = ap (λ t. face_normals at q ++ t) (normals_by_face at qs) ∙ sym (flat_map-append (normal_of at) (face_triangles q) (triangles_of qs))
+normals_by_face at (q ∷ qs) = ap (λ t. face_normals at q ++ t) (normals_by_face at qs)
+    ∙ sym (flat_map-append (normal_of at) (face_triangles q) (triangles_of qs))
 
 -- each triangle along a list has three corners
 along_corners : (first u : ℕ) (r : List ℕ) → length (corners_of (triangles_along first u r)) ≡ 3 * length (triangles_along first u r)
@@ -35,7 +36,8 @@ along_corners first u [] = refl
 along_corners first u (v ∷ r) = let e = along_corners first v r in omega (arith, e)
 
 -- and a normal of three components
-along_normals : (at : ℕ → Vector) (first u : ℕ) (r : List ℕ) → length (flat_map (normal_of at) (triangles_along first u r)) ≡ 3 * length (triangles_along first u r)
+along_normals : (at : ℕ → Vector) (first u : ℕ) (r : List ℕ)
+    → length (flat_map (normal_of at) (triangles_along first u r)) ≡ 3 * length (triangles_along first u r)
 along_normals at first u [] = refl
 along_normals at first u (v ∷ r) = let e = along_normals at first v r in omega (arith, e)
 
@@ -90,7 +92,8 @@ pub fans_made : (pts : List Vector) (h : HullValue) (len : ℕ) (ts : List ℕ) 
 fans_made pts h len ts ns is t n e = record {
   hull = h;
   right = is;
-  counted = let a = ap length t in let b = length-corners h.body.polygons in third (length ts) (length (triangles_of h.body.polygons)) (len / 3) (omega (arith, a, b)) (ap (λ k. k / 3) e);
+  counted = let a = ap length t in let b = length-corners h.body.polygons in
+      third (length ts) (length (triangles_of h.body.polygons)) (len / 3) (omega (arith, a, b)) (ap (λ k. k / 3) e);
   triangle_corners = t ∙ corners_by_face h.body.polygons;
   triangle_normals = n ∙ normals_by_face (place pts) h.body.polygons;
 }
@@ -111,7 +114,8 @@ module _ (pts : List Vector) (count : ℕ) (ts : List ℕ) (ns : List ℤ) (f : 
       omega (arith, normals, all, counted)
 
   -- buffers that begin with the lists
-  pub fans_filled : (tb : List ℕ) (nb : List ℤ) → take (length ts) tb ≡ ts → take (length ns) nb ≡ ns → AreFans pts count (take (3 * count) tb) (take (3 * count) nb)
+  pub fans_filled : (tb : List ℕ) (nb : List ℤ) → take (length ts) tb ≡ ts → take (length ns) nb ≡ ns
+      → AreFans pts count (take (3 * count) tb) (take (3 * count) nb)
   fans_filled tb nb t n = record {
     hull = f.hull;
     right = f.right;

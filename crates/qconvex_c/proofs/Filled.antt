@@ -36,7 +36,8 @@ module _ (pts : List Vector) (s : Sizes) (es os cs : List ℕ) (f : IsFlatHull p
     };
   }
 
-  pub rest_kept : (eb ob cb eb' ob' cb' : List ℕ) → (drop (length es) eb' ≡ drop (length es) eb) × (drop (length os) ob' ≡ drop (length os) ob) × (drop (length cs) cb' ≡ drop (length cs) cb)
+  pub rest_kept : (eb ob cb eb' ob' cb' : List ℕ) → (drop (length es) eb' ≡ drop (length es) eb)
+      × (drop (length os) ob' ≡ drop (length os) ob) × (drop (length cs) cb' ≡ drop (length cs) cb)
       → (drop s.extremes eb' ≡ drop s.extremes eb) × (drop (s.faces + 1) ob' ≡ drop (s.faces + 1) ob) × (drop s.corners cb' ≡ drop s.corners cb)
   rest_kept eb ob cb eb' ob' cb' (e, o, c) =
       (subst (λ n. drop n eb' ≡ drop n eb) extremes_len e, subst (λ n. drop n ob' ≡ drop n ob) offsets_len o, subst (λ n. drop n cb' ≡ drop n cb) corners_len c)
@@ -44,7 +45,8 @@ module _ (pts : List Vector) (s : Sizes) (es os cs : List ℕ) (f : IsFlatHull p
   pub needs_room : (eb ob cb : List ℕ) → (length eb < length es) ⊎ (length ob < length os) ⊎ (length cb < length cs) → NeedsRoom pts s eb ob cb
   needs_room eb ob cb h = record { all_extremes = es; all_offsets = os; all_corners = cs; flat = f; short = short h }
     where
-      short : (length eb < length es) ⊎ (length ob < length os) ⊎ (length cb < length cs) → (length eb < s.extremes) ⊎ (length ob < s.faces + 1) ⊎ (length cb < s.corners)
+      short : (length eb < length es) ⊎ (length ob < length os) ⊎ (length cb < length cs)
+          → (length eb < s.extremes) ⊎ (length ob < s.faces + 1) ⊎ (length cb < s.corners)
       short (inl h) = inl (subst (λ n. length eb < n) extremes_len h)
       short (inr (inl h)) = inr (inl (subst (λ n. length ob < n) offsets_len h))
       short (inr (inr h)) = inr (inr (subst (λ n. length cb < n) corners_len h))

@@ -27,7 +27,9 @@ file =
     48 ∷ 32 ∷ 48 ∷ 32 ∷ 49 ∷ []
 
 -- its data words, each with its line
-pub words_of_file : data_words file ≡ word 51 1 ∷ word 52 2 ∷ word 48 3 ∷ word 48 3 ∷ word 48 3 ∷ word 49 4 ∷ word 48 4 ∷ word 48 4 ∷ word 48 5 ∷ word 49 5 ∷ word 48 5 ∷ word 48 6 ∷ word 48 6 ∷ word 49 6 ∷ []
+pub words_of_file : data_words file
+    ≡ word 51 1 ∷ word 52 2 ∷ word 48 3 ∷ word 48 3 ∷ word 48 3 ∷ word 49 4 ∷ word 48 4 ∷ word 48 4 ∷ word 48 5
+    ∷ word 49 5 ∷ word 48 5 ∷ word 48 6 ∷ word 48 6 ∷ word 49 6 ∷ []
 words_of_file = refl
 
 -- ---- which words are numbers

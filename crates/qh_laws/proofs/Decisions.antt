@@ -33,12 +33,12 @@ decided_as P Q f g (inr n) = inr (λ q. n (g q))
 -- a decided claim holds of each member of a list, or not
 pub each_or_not : {X : Type 0} (P : X → Type 0) → ((x : X) → Decided (P x)) → (xs : List X) → Decided ((x : X) → In x xs → P x)
 each_or_not P d [] = inl (λ x i. absurd i)
-each_or_not {X} P d (y ∷ xs) = by (d y) (each_or_not P d xs)
+each_or_not {X} P d (y ∷ xs) = by_decision (d y) (each_or_not P d xs)
   where
-    by : Decided (P y) → Decided ((x : X) → In x xs → P x) → Decided ((x : X) → In x (y ∷ xs) → P x)
-    by (inr n) r = inr (λ f. n (f y (inl refl)))
-    by (inl p) (inr n) = inr (λ f. n (λ x i. f x (inr i)))
-    by (inl p) (inl r) = inl all
+    by_decision : Decided (P y) → Decided ((x : X) → In x xs → P x) → Decided ((x : X) → In x (y ∷ xs) → P x)
+    by_decision (inr n) r = inr (λ f. n (f y (inl refl)))
+    by_decision (inl p) (inr n) = inr (λ f. n (λ x i. f x (inr i)))
+    by_decision (inl p) (inl r) = inl all
       where
         all : (x : X) → In x (y ∷ xs) → P x
         all x (inl e) = subst P (sym e) p
@@ -47,12 +47,12 @@ each_or_not {X} P d (y ∷ xs) = by (d y) (each_or_not P d xs)
 -- a decided claim holds of some member of a list, or of no member
 pub some_or_none : {X : Type 0} (P : X → Type 0) → ((x : X) → Decided (P x)) → (xs : List X) → Decided ((x : X) × In x xs × P x)
 some_or_none P d [] = inr (λ h. h.1)
-some_or_none {X} P d (y ∷ xs) = by (d y) (some_or_none P d xs)
+some_or_none {X} P d (y ∷ xs) = by_decision (d y) (some_or_none P d xs)
   where
-    by : Decided (P y) → Decided ((x : X) × In x xs × P x) → Decided ((x : X) × In x (y ∷ xs) × P x)
-    by (inl p) r = inl (y, inl refl, p)
-    by (inr n) (inl r) = inl (r.0, inr r.1, r.2)
-    by (inr n) (inr m) = inr none
+    by_decision : Decided (P y) → Decided ((x : X) × In x xs × P x) → Decided ((x : X) × In x (y ∷ xs) × P x)
+    by_decision (inl p) r = inl (y, inl refl, p)
+    by_decision (inr n) (inl r) = inl (r.0, inr r.1, r.2)
+    by_decision (inr n) (inr m) = inr none
       where
         none : (x : X) × In x (y ∷ xs) × P x → ⊥
         none (x, inl e, p) = n (subst P e p)
@@ -60,11 +60,11 @@ some_or_none {X} P d (y ∷ xs) = by (d y) (some_or_none P d xs)
 
 -- two ids are equal or not
 pub same_id : (i j : ℕ) → Decided (i ≡ j)
-same_id i j = by (ℕ_discrete i j)
+same_id i j = by_decision (ℕ_discrete i j)
   where
-    by : Dec (i ≡ j) → Decided (i ≡ j)
-    by (yes e) = inl e
-    by (no n) = inr n
+    by_decision : Dec (i ≡ j) → Decided (i ≡ j)
+    by_decision (yes e) = inl e
+    by_decision (no n) = inr n
 
 -- an id is a member of a list or not
 pub in_or_not : (i : ℕ) (xs : List ℕ) → Decided (In i xs)

@@ -69,11 +69,11 @@ module _ (at : ℕ → Vector) (ids : List ℕ) where
 
   -- so there is a dimension
   pub dimension_of : (k : ℕ) × IsDimension at (Members ids) k
-  dimension_of = by tetrahedron_or_not triangle_or_not segment_or_not
+  dimension_of = by_decision tetrahedron_or_not triangle_or_not segment_or_not
     where
-      by : Decided (HasTetrahedron at (Members ids)) → Decided (HasTriangle at (Members ids)) → Decided (HasSegment (Members ids))
+      by_decision : Decided (HasTetrahedron at (Members ids)) → Decided (HasTriangle at (Members ids)) → Decided (HasSegment (Members ids))
           → (k : ℕ) × IsDimension at (Members ids) k
-      by (inl t) b c = (3, inl (refl, t))
-      by (inr t) (inl b) c = (2, inr (inl (refl, b, t)))
-      by (inr t) (inr b) (inl c) = (1, inr (inr (inl (refl, c, b))))
-      by (inr t) (inr b) (inr c) = (0, inr (inr (inr (refl, c))))
+      by_decision (inl t) b c = (3, inl (refl, t))
+      by_decision (inr t) (inl b) c = (2, inr (inl (refl, b, t)))
+      by_decision (inr t) (inr b) (inl c) = (1, inr (inr (inl (refl, c, b))))
+      by_decision (inr t) (inr b) (inr c) = (0, inr (inr (inr (refl, c))))

@@ -38,14 +38,14 @@ compare : (p q : List ℕ) → Compare ComesBefore p q
 compare [] [] = inr (inl refl)
 compare [] (v ∷ q) = inl tt
 compare (u ∷ p) [] = inr (inr tt)
-compare (u ∷ p) (v ∷ q) = by (cases_order u v) (compare p q)
+compare (u ∷ p) (v ∷ q) = by_cases (cases_order u v) (compare p q)
   where
-    by : (u ≡ v) ⊎ ((u < v) ⊎ (v < u)) → Compare ComesBefore p q → Compare ComesBefore (u ∷ p) (v ∷ q)
-    by (inr (inl l)) c = inl (inl l)
-    by (inr (inr g)) c = inr (inr (inl g))
-    by (inl e) (inl l) = inl (inr (e, l))
-    by (inl e) (inr (inl d)) = inr (inl (λ i. e i ∷ d i))
-    by (inl e) (inr (inr g)) = inr (inr (inr (sym e, g)))
+    by_cases : (u ≡ v) ⊎ ((u < v) ⊎ (v < u)) → Compare ComesBefore p q → Compare ComesBefore (u ∷ p) (v ∷ q)
+    by_cases (inr (inl l)) c = inl (inl l)
+    by_cases (inr (inr g)) c = inr (inr (inl g))
+    by_cases (inl e) (inl l) = inl (inr (e, l))
+    by_cases (inl e) (inr (inl d)) = inr (inl (λ i. e i ∷ d i))
+    by_cases (inl e) (inr (inr g)) = inr (inr (inr (sym e, g)))
 
 -- a row of lists rises from its first
 rises_from : (q : List ℕ) (qs : List (List ℕ)) → Rises ComesBefore q qs → RisesFrom q qs
@@ -61,7 +61,7 @@ module _ (at : ℕ → Vector) (ids : List ℕ) (distinct : HasDistinctPoints at
   -- each supporting triple has a polygon
   pub face_polygon : (i j k : ℕ) → IsSupportingTriple at (Members ids) i j k → (q : List ℕ) × IsFacePolygon at (Members ids) i j k q
   face_polygon i j k t =
-      by (listed_part (Members ids) (λ l. volume l ≡ pos 0) (λ l. zero_or_not (volume l)) ids (listed_itself ids))
+      from_witness (listed_part (Members ids) (λ l. volume l ≡ pos 0) (λ l. zero_or_not (volume l)) ids (listed_itself ids))
     where
       volume : ℕ → ℤ
       volume l = vol (at i) (at j) (at k) (at l)
@@ -77,8 +77,8 @@ module _ (at : ℕ → Vector) (ids : List ℕ) (distinct : HasDistinctPoints at
         area = t.area;
       }
 
-      by : (ys : List ℕ) × ((l : ℕ) → OnPlane at (Members ids) i j k l ↔ In l ys) → (q : List ℕ) × IsFacePolygon at (Members ids) i j k q
-      by (ys, l) =
+      from_witness : (ys : List ℕ) × ((l : ℕ) → OnPlane at (Members ids) i j k l ↔ In l ys) → (q : List ℕ) × IsFacePolygon at (Members ids) i j k q
+      from_witness (ys, l) =
           let F = OnPlane at (Members ids) i j k in
           let n = cross (at i) (at j) (at k) in
           let E = OnPlane at (Extreme at (Members ids)) i j k in
@@ -111,16 +111,16 @@ module _ (at : ℕ → Vector) (ids : List ℕ) (distinct : HasDistinctPoints at
   -- each list of triples has these
   polygons : (ts : List (ℕ × (ℕ × ℕ))) → Polygons ts
   polygons [] = record { list = []; each = λ i j k m t. absurd m; only = λ q m. absurd m }
-  polygons ((a, (b, c)) ∷ ts) = by (supporting_or_not a b c) (polygons ts)
+  polygons ((a, (b, c)) ∷ ts) = by_decision (supporting_or_not a b c) (polygons ts)
     where
-      by : Decided (IsSupportingTriple at (Members ids) a b c) → Polygons ts → Polygons ((a, (b, c)) ∷ ts)
-      by (inr n) r = record { list = r.list; each = each; only = r.only }
+      by_decision : Decided (IsSupportingTriple at (Members ids) a b c) → Polygons ts → Polygons ((a, (b, c)) ∷ ts)
+      by_decision (inr n) r = record { list = r.list; each = each; only = r.only }
         where
           each : (i j k : ℕ) → In (i, (j, k)) ((a, (b, c)) ∷ ts) → IsSupportingTriple at (Members ids) i j k
               → (q : List ℕ) × In q r.list × IsFacePolygon at (Members ids) i j k q
           each i j k (inl e) t = absurd (n (subst (λ (v : ℕ × (ℕ × ℕ)). IsSupportingTriple at (Members ids) v.0 v.1.0 v.1.1) e t))
           each i j k (inr m) t = r.each i j k m t
-      by (inl s) r = record { list = p.0 ∷ r.list; each = each; only = only }
+      by_decision (inl s) r = record { list = p.0 ∷ r.list; each = each; only = only }
         where
           p : (q : List ℕ) × IsFacePolygon at (Members ids) a b c q
           p = face_polygon a b c s

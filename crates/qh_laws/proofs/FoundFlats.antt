@@ -40,17 +40,17 @@ zero_turned x e = omega (arith, ints)
 
 -- of two opposite directions one points forward
 forward_or_back : (n : Vector) → n ≢ origin → PointsForward n ⊎ PointsForward (opposite n)
-forward_or_back n d = by (sign n.x) (sign n.y) (sign n.z)
+forward_or_back n d = by_cases (sign n.x) (sign n.y) (sign n.z)
   where
-    by : (pos 0 <ℤ n.x) ⊎ ((n.x ≡ pos 0) ⊎ (pos 0 <ℤ neg_ℤ n.x)) → (pos 0 <ℤ n.y) ⊎ ((n.y ≡ pos 0) ⊎ (pos 0 <ℤ neg_ℤ n.y))
+    by_cases : (pos 0 <ℤ n.x) ⊎ ((n.x ≡ pos 0) ⊎ (pos 0 <ℤ neg_ℤ n.x)) → (pos 0 <ℤ n.y) ⊎ ((n.y ≡ pos 0) ⊎ (pos 0 <ℤ neg_ℤ n.y))
         → (pos 0 <ℤ n.z) ⊎ ((n.z ≡ pos 0) ⊎ (pos 0 <ℤ neg_ℤ n.z)) → PointsForward n ⊎ PointsForward (opposite n)
-    by (inl h) y z = inl (inl h)
-    by (inr (inr h)) y z = inr (inl h)
-    by (inr (inl e)) (inl h) z = inl (inr (e, inl h))
-    by (inr (inl e)) (inr (inr h)) z = inr (inr (zero_turned n.x e, inl h))
-    by (inr (inl e)) (inr (inl f)) (inl h) = inl (inr (e, inr (f, h)))
-    by (inr (inl e)) (inr (inl f)) (inr (inr h)) = inr (inr (zero_turned n.x e, inr (zero_turned n.y f, h)))
-    by (inr (inl e)) (inr (inl f)) (inr (inl g)) = absurd (d (vector_path n origin e f g))
+    by_cases (inl h) y z = inl (inl h)
+    by_cases (inr (inr h)) y z = inr (inl h)
+    by_cases (inr (inl e)) (inl h) z = inl (inr (e, inl h))
+    by_cases (inr (inl e)) (inr (inr h)) z = inr (inr (zero_turned n.x e, inl h))
+    by_cases (inr (inl e)) (inr (inl f)) (inl h) = inl (inr (e, inr (f, h)))
+    by_cases (inr (inl e)) (inr (inl f)) (inr (inr h)) = inr (inr (zero_turned n.x e, inr (zero_turned n.y f, h)))
+    by_cases (inr (inl e)) (inr (inl f)) (inr (inl g)) = absurd (d (vector_path n origin e f g))
 
 -- a triple product with its last two vectors swapped
 triple : (d e v : Vector) → dot (cross_product d e) v ≡ neg_ℤ (dot (cross_product d v) e)
@@ -84,14 +84,14 @@ no_part d e f =
 
 -- each vector that is not zero has a direction across it
 across : (d : Vector) → d ≢ origin → Across d
-across d s = by (same_vector (cross_product d first_axis) origin)
+across d s = by_decision (same_vector (cross_product d first_axis) origin)
   where
     level : (e v : Vector) → cross_product d v ≡ origin → dot (cross_product d e) v ≡ pos 0
     level e v h = opposite_zero _ _ (triple d e v) (ap (λ w. dot w e) h ∙ dot-origin e)
 
-    by : Decided (cross_product d first_axis ≡ origin) → Across d
-    by (inr n) = record { n = cross_product d first_axis; some = n; level = level first_axis }
-    by (inl e) = record { n = cross_product d second_axis; some = λ f. s (no_part d e f); level = level second_axis }
+    by_decision : Decided (cross_product d first_axis ≡ origin) → Across d
+    by_decision (inr n) = record { n = cross_product d first_axis; some = n; level = level first_axis }
+    by_decision (inl e) = record { n = cross_product d second_axis; some = λ f. s (no_part d e f); level = level second_axis }
 
 module _ (at : ℕ → Vector) (ids : List ℕ) (distinct : HasDistinctPoints at (Members ids)) where
   -- ---- dimension 2
@@ -114,23 +114,23 @@ module _ (at : ℕ → Vector) (ids : List ℕ) (distinct : HasDistinctPoints at
 
   -- a flat set has a polygon
   pub flat_found : ¬ (HasTetrahedron at (Members ids)) → HasTriangle at (Members ids) → (q : List ℕ) × IsFlatFace at (Members ids) q
-  flat_found n t = by (forward_or_back (cross (at t.i) (at t.j) (at t.k)) t.area)
+  flat_found n t = by_cases (forward_or_back (cross (at t.i) (at t.j) (at t.k)) t.area)
     where
-      by : PointsForward (cross (at t.i) (at t.j) (at t.k)) ⊎ PointsForward (opposite (cross (at t.i) (at t.j) (at t.k)))
+      by_cases : PointsForward (cross (at t.i) (at t.j) (at t.k)) ⊎ PointsForward (opposite (cross (at t.i) (at t.j) (at t.k)))
           → (q : List ℕ) × IsFlatFace at (Members ids) q
-      by (inl f) = flat_by n t.i t.j t.k t.has_i t.has_j t.has_k t.area f
-      by (inr f) =
+      by_cases (inl f) = flat_by n t.i t.j t.k t.has_i t.has_j t.has_k t.area f
+      by_cases (inr f) =
           flat_by n t.i t.k t.j t.has_i t.has_k t.has_j (λ e. t.area (in_line-flip (at t.i) (at t.j) (at t.k) e))
           (subst PointsForward (sym (cross-flip (at t.i) (at t.j) (at t.k))) f)
 
   -- ---- dimension 1
   -- any three members of a set without a triangle are in line
   in_line : ¬ (HasTriangle at (Members ids)) → (i j k : ℕ) → In i ids → In j ids → In k ids → AreInLine (at i) (at j) (at k)
-  in_line n i j k a b c = by (same_vector (cross (at i) (at j) (at k)) origin)
+  in_line n i j k a b c = by_decision (same_vector (cross (at i) (at j) (at k)) origin)
     where
-      by : Decided (AreInLine (at i) (at j) (at k)) → AreInLine (at i) (at j) (at k)
-      by (inl e) = e
-      by (inr d) = absurd (n (record { i = i; j = j; k = k; has_i = a; has_j = b; has_k = c; area = d }))
+      by_decision : Decided (AreInLine (at i) (at j) (at k)) → AreInLine (at i) (at j) (at k)
+      by_decision (inl e) = e
+      by_decision (inr d) = absurd (n (record { i = i; j = j; k = k; has_i = a; has_j = b; has_k = c; area = d }))
 
   -- the difference of two members is not zero
   apart : (i j : ℕ) → In i ids → In j ids → i ≢ j → minus (at j) (at i) ≢ origin
@@ -158,23 +158,23 @@ module _ (at : ℕ → Vector) (ids : List ℕ) (distinct : HasDistinctPoints at
   -- a set in line has no three extreme ids
   no_third : (n : Vector) (q : List ℕ) → IsPolygon at (Extreme at (Members ids)) n q → ¬ (HasTriangle at (Members ids))
       → (i j l : ℕ) → Extreme at (Members ids) i → Extreme at (Members ids) j → Extreme at (Members ids) l → j ≢ i → l ≢ i → l ≢ j → ⊥
-  no_third n q p t i j l a b c ji li lj = by (next_member i q ((p.members i).1 a))
+  no_third n q p t i j l a b c ji li lj = from_witness (next_member i q ((p.members i).1 a))
     where
-      by : (v : ℕ) × Follows i v q → ⊥
-      by (v, f) = pick (same_id j v)
+      from_witness : (v : ℕ) × Follows i v q → ⊥
+      from_witness (v, f) = by_decision (same_id j v)
         where
           straight : (w : ℕ) → Extreme at (Members ids) w → w ≢ i → w ≢ v → ⊥
           straight w e d g =
               less_differ (pos 0) (left n (at i) (at v) (at w)) (p.round i v f w ((p.members w).1 e) d g)
               (sym (in_line-left n (at i) (at v) (at w) (in_line t i v w a.0 ((p.members v).0 (follows_members i v q f).1).0 e.0)))
 
-          pick : Decided (j ≡ v) → ⊥
-          pick (inr d) = straight j b ji d
-          pick (inl e) = straight l c li (λ g. lj (g ∙ sym e))
+          by_decision : Decided (j ≡ v) → ⊥
+          by_decision (inr d) = straight j b ji d
+          by_decision (inl e) = straight l c li (λ g. lj (g ∙ sym e))
 
   -- a set in line has two ends
   pub segment_found : ¬ (HasTriangle at (Members ids)) → HasSegment (Members ids) → (q : List ℕ) × IsSegmentFace at (Members ids) q
-  segment_found t s = by (cases_order e.i e.j)
+  segment_found t s = by_cases (cases_order e.i e.j)
     where
       e : HasSegment (Extreme at (Members ids))
       e = segment_of at (Members ids) (Extreme at (Members ids)) distinct
@@ -202,10 +202,10 @@ module _ (at : ℕ → Vector) (ids : List ℕ) (distinct : HasDistinctPoints at
           back m (inr f) (inl g) h = inr g
           back m (inr f) (inr g) h = absurd (no_third n.0 p.0 p.1 t i j m a b h (λ q. omega arith) f g)
 
-      by : (e.i ≡ e.j) ⊎ ((e.i < e.j) ⊎ (e.j < e.i)) → (q : List ℕ) × IsSegmentFace at (Members ids) q
-      by (inl f) = absurd (e.differ f)
-      by (inr (inl l)) = ends e.i e.j e.has_i e.has_j l
-      by (inr (inr l)) = ends e.j e.i e.has_j e.has_i l
+      by_cases : (e.i ≡ e.j) ⊎ ((e.i < e.j) ⊎ (e.j < e.i)) → (q : List ℕ) × IsSegmentFace at (Members ids) q
+      by_cases (inl f) = absurd (e.differ f)
+      by_cases (inr (inl l)) = ends e.i e.j e.has_i e.has_j l
+      by_cases (inr (inr l)) = ends e.j e.i e.has_j e.has_i l
 
 -- ---- dimension 0
 -- a list that is not empty has a first id

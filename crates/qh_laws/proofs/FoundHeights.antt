@@ -93,7 +93,7 @@ rises key x (y ∷ xs) r = (r.0, rises key y xs r.1)
 
 -- a finite set that is not empty has that list
 pub rising : (h : Vector) (at : ℕ → Vector) (A : ℕ → Type 0) (xs : List ℕ) → Listed A xs → IsKeyed h at A → (a : ℕ) → A a → Rising h at A
-rising h at A xs l k a m = by row.list row.row row.members
+rising h at A xs l k a m = along_list row.list row.row row.members
   where
     compare : (i j : ℕ) → A i → A j → Compare (λ i j. height_of h at i <ℤ height_of h at j) i j
     compare i j b c =
@@ -103,9 +103,9 @@ rising h at A xs l k a m = by row.list row.row row.members
     row : Sorted (λ i j. height_of h at i <ℤ height_of h at j) xs
     row = sorted (λ i j. height_of h at i <ℤ height_of h at j) A compare xs (λ i b. (l i).1 b)
 
-    by : (ys : List ℕ) → InRow (λ i j. height_of h at i <ℤ height_of h at j) ys → ((i : ℕ) → In i ys ↔ In i xs) → Rising h at A
-    by [] o s = absurd ((s a).1 ((l a).0 m))
-    by (y ∷ ys) o s = record {
+    along_list : (ys : List ℕ) → InRow (λ i j. height_of h at i <ℤ height_of h at j) ys → ((i : ℕ) → In i ys ↔ In i xs) → Rising h at A
+    along_list [] o s = absurd ((s a).1 ((l a).0 m))
+    along_list (y ∷ ys) o s = record {
       first = y;
       rest = ys;
       members = λ i. (λ b. (l i).1 ((s i).0 b), λ b. (s i).1 ((l i).0 b));

@@ -28,13 +28,13 @@ pub record Passing (P : ℕ → Type 0) (xs : List ℕ) : Type 0 where
 -- a rising list has it for a decided claim
 pub passing : (P : ℕ → Type 0) → ((i : ℕ) → Decided (P i)) → (xs : List ℕ) → IsStrictlyIncreasing xs → Passing P xs
 passing P d [] r = record { list = []; rising = r; members = λ i. (λ m. absurd m, λ h. absurd h.0) }
-passing P d (x ∷ xs) r = by (d x) (passing P d xs (rising_tail x xs r))
+passing P d (x ∷ xs) r = by_decision (d x) (passing P d xs (rising_tail x xs r))
   where
     alone : IsStrictlyIncreasing (x ∷ [])
     alone k h = absurd (omega arith)
 
-    by : Decided (P x) → Passing P xs → Passing P (x ∷ xs)
-    by (inl p) s = record {
+    by_decision : Decided (P x) → Passing P xs → Passing P (x ∷ xs)
+    by_decision (inl p) s = record {
       list = x ∷ s.list;
       rising = rising_append (x ∷ []) s.list alone s.rising below;
       members = λ i. (there i, back i);
@@ -51,7 +51,7 @@ passing P d (x ∷ xs) r = by (d x) (passing P d xs (rising_tail x xs r))
         back : (i : ℕ) → In i (x ∷ xs) × P i → In i (x ∷ s.list)
         back i (inl e, q) = inl e
         back i (inr m, q) = inr ((s.members i).1 (m, q))
-    by (inr n) s = record { list = s.list; rising = s.rising; members = λ i. (there i, back i) }
+    by_decision (inr n) s = record { list = s.list; rising = s.rising; members = λ i. (there i, back i) }
       where
         there : (i : ℕ) → In i s.list → In i (x ∷ xs) × P i
         there i m = let h = (s.members i).0 m in (inr h.0, h.1)
@@ -86,11 +86,11 @@ distinct_ids_of pts = (p.list, record { rising = p.rising; members = λ i. (ther
 
 -- a point is a convex combination of a listed set or not
 pub combination_or_not : (at : ℕ → Vector) (A : ℕ → Type 0) (xs : List ℕ) → Listed A xs → (p : Vector) → Decided (Combination at A p)
-combination_or_not at A xs l p = by (alternative_in at A xs l p)
+combination_or_not at A xs l p = by_cases (alternative_in at A xs l p)
   where
-    by : Combination at A p ⊎ Separator at A p → Decided (Combination at A p)
-    by (inl m) = inl m
-    by (inr s) = inr (λ m. all_lower at A p s.w m (s.past m.a m.has_a) (s.past m.b m.has_b) (s.past m.c m.has_c) (s.past m.d m.has_d))
+    by_cases : Combination at A p ⊎ Separator at A p → Decided (Combination at A p)
+    by_cases (inl m) = inl m
+    by_cases (inr s) = inr (λ m. all_lower at A p s.w m (s.past m.a m.has_a) (s.past m.b m.has_b) (s.past m.c m.has_c) (s.past m.d m.has_d))
 
 -- each rising list of ids has a list of its extreme ids
 pub extremes_of : (at : ℕ → Vector) (ids : List ℕ) → IsStrictlyIncreasing ids → (es : List ℕ) × AreExtremes at (Members ids) es

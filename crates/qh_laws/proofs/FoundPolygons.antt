@@ -33,18 +33,18 @@ least (x ∷ []) = record { at = 0; within = λ h. h; least = here }
     here : (k : ℕ) → k < length (x ∷ []) → x ≤ get_or (x ∷ []) k 0
     here zero h = omega arith
     here (suc k) h = absurd (omega arith)
-least (x ∷ y ∷ ys) = by (least (y ∷ ys))
+least (x ∷ y ∷ ys) = with_first (least (y ∷ ys))
   where
-    by : Least (y ∷ ys) → Least (x ∷ y ∷ ys)
-    by r = pick (cases_lt x (get_or (y ∷ ys) r.at 0))
+    with_first : Least (y ∷ ys) → Least (x ∷ y ∷ ys)
+    with_first r = by_cases (cases_lt x (get_or (y ∷ ys) r.at 0))
       where
-        pick : (x < get_or (y ∷ ys) r.at 0) ⊎ (get_or (y ∷ ys) r.at 0 ≤ x) → Least (x ∷ y ∷ ys)
-        pick (inl l) = record { at = 0; within = λ h. h; least = here }
+        by_cases : (x < get_or (y ∷ ys) r.at 0) ⊎ (get_or (y ∷ ys) r.at 0 ≤ x) → Least (x ∷ y ∷ ys)
+        by_cases (inl l) = record { at = 0; within = λ h. h; least = here }
           where
             here : (k : ℕ) → k < length (x ∷ y ∷ ys) → x ≤ get_or (x ∷ y ∷ ys) k 0
             here zero h = omega arith
             here (suc k) h = let m : get_or (y ∷ ys) r.at 0 ≤ get_or (y ∷ ys) k 0 = r.least k (omega arith) in omega (arith, l, m)
-        pick (inr g) = record { at = suc r.at; within = λ h. within; least = later }
+        by_cases (inr g) = record { at = suc r.at; within = λ h. within; least = later }
           where
             within : suc r.at < length (x ∷ y ∷ ys)
             within = let m : r.at < length (y ∷ ys) = r.within (omega arith) in omega (arith, m)
@@ -68,10 +68,10 @@ module _ (n : Vector) (at : ℕ → Vector) (A : ℕ → Type 0) (xs : List ℕ)
 
   -- so a cycle goes round those of a flat set with two members
   cycle_of : HasSegment A → (c : List ℕ) × GoesRound n at A c
-  cycle_of s = by (direction at A xs listed distinct)
+  cycle_of s = from_witness (direction at A xs listed distinct)
     where
-      by : (h : Vector) × IsKeyed h at A → (c : List ℕ) × GoesRound n at A c
-      by (h, keyed) =
+      from_witness : (h : Vector) × IsKeyed h at A → (c : List ℕ) × GoesRound n at A c
+      from_witness (h, keyed) =
           by_lt_z (height_of h at s.i) (height_of h at s.j) (λ l. cycle h keyed s.i s.j s.has_i s.has_j l)
           (λ l. by_lt_z (height_of h at s.j) (height_of h at s.i) (λ m. cycle h keyed s.j s.i s.has_j s.has_i m)
           (λ m. absurd (s.differ (keyed.same s.i s.j s.has_i s.has_j (le_antisym _ _ m l)))))

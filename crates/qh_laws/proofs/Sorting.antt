@@ -39,17 +39,17 @@ module _ {X : Type 0} (R : X → X → Type 0) (A : X → Type 0) (compare : (x 
   -- x is inserted into a row
   inserted : (x : X) (ys : List X) → A x → ((y : X) → In y ys → A y) → InRow R ys → Inserted R x ys
   inserted x [] a f o = record { list = x ∷ []; row = tt; after = λ t l r. (l, tt); members = λ z. (λ i. i, λ i. i) }
-  inserted x (y ∷ ys) a f o = by (compare x y a (f y (inl refl))) (inserted x ys a (λ z i. f z (inr i)) (row_tail R y ys o))
+  inserted x (y ∷ ys) a f o = placed (compare x y a (f y (inl refl))) (inserted x ys a (λ z i. f z (inr i)) (row_tail R y ys o))
     where
-      by : Compare R x y → Inserted R x ys → Inserted R x (y ∷ ys)
-      by (inl l) s = record { list = x ∷ y ∷ ys; row = (l, o); after = λ t k r. (k, (l, o)); members = λ z. (λ i. i, λ i. i) }
-      by (inr (inl e)) s = record {
+      placed : Compare R x y → Inserted R x ys → Inserted R x (y ∷ ys)
+      placed (inl l) s = record { list = x ∷ y ∷ ys; row = (l, o); after = λ t k r. (k, (l, o)); members = λ z. (λ i. i, λ i. i) }
+      placed (inr (inl e)) s = record {
         list = y ∷ ys;
         row = o;
         after = λ t k r. r;
         members = λ z. (λ i. inr i, λ i. ⊎_elim (λ d. inl (d ∙ e)) (λ j. j) i);
       }
-      by (inr (inr g)) s = record {
+      placed (inr (inr g)) s = record {
         list = y ∷ s.list;
         row = s.after y g o;
         after = λ t k r. (r.0, s.after y g o);
@@ -72,10 +72,10 @@ module _ {X : Type 0} (R : X → X → Type 0) (A : X → Type 0) (compare : (x 
   -- a list can be sorted where any two of its members compare
   pub sorted : (xs : List X) → ((x : X) → In x xs → A x) → Sorted R xs
   sorted [] f = record { list = []; row = tt; members = λ x. (λ i. i, λ i. i) }
-  sorted (x ∷ xs) f = by (sorted xs (λ y i. f y (inr i)))
+  sorted (x ∷ xs) f = inserted_into (sorted xs (λ y i. f y (inr i)))
     where
-      by : Sorted R xs → Sorted R (x ∷ xs)
-      by s =
+      inserted_into : Sorted R xs → Sorted R (x ∷ xs)
+      inserted_into s =
           let t = inserted x s.list (f x (inl refl)) (λ y i. f y (inr ((s.members y).0 i))) s.row in
           record {
             list = t.list;

@@ -7,13 +7,14 @@ use Rattle.qh_model.proofs.Members.{In-get_or, in_at}
 use Rattle.qh_model.proofs.hulls.RightValues.{right_within}
 
 -- an id of the union is one of the list
-pub union_within : (pts : List Vector) (ids bounds : List ℕ) (J K : ℕ → Type 0) (xs ys both : List ℕ) → RightValue pts ids bounds J xs → RightValue pts ids bounds K ys
+pub union_within : (pts : List Vector) (ids bounds : List ℕ) (J K : ℕ → Type 0) (xs ys both : List ℕ)
+    → RightValue pts ids bounds J xs → RightValue pts ids bounds K ys
     → ((i : ℕ) → In i both ↔ (In i xs ⊎ In i ys)) → (i : ℕ) → In i both → In i ids
-union_within pts ids bounds J K xs ys both x y union i m = go ((union i).0 m)
+union_within pts ids bounds J K xs ys both x y union i m = by_cases ((union i).0 m)
   where
-    go : In i xs ⊎ In i ys → In i ids
-    go (inl h) = right_within pts ids bounds J xs x i h
-    go (inr h) = right_within pts ids bounds K ys y i h
+    by_cases : In i xs ⊎ In i ys → In i ids
+    by_cases (inl h) = right_within pts ids bounds J xs x i h
+    by_cases (inr h) = right_within pts ids bounds K ys y i h
 
 -- a list that has the ids of another isn't empty where that isn't
 pub some_within : (xs ys : List ℕ) → 0 < length xs → ((i : ℕ) → In i xs → In i ys) → 0 < length ys

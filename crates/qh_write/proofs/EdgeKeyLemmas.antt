@@ -1,5 +1,7 @@
 -- Edges counted by numbers of pairs: what is added, and how many numbers differ.
-use Rattle.std.proofs.Common.{◌≡◌, ◌≢◌, ◌∙◌, ℕ, ◌+◌, ◌*◌, ◌<◌, List, [], ◌∷◌, ◌++◌, length, arith, ap, sym, refl, subst, inl, inr, map, drop, get_or, append_assoc, min, max, IsPermutation, Bool, true, false, cond, eqb-true, nat_cmp}
+use Rattle.std.proofs.Common.{◌≡◌, ◌≢◌, ◌∙◌, ℕ, ◌+◌, ◌*◌, ◌<◌, List, [], ◌∷◌, ◌++◌, length, arith, ap, sym, refl, subst}
+use Rattle.std.proofs.Common.{inl, inr, map, drop, get_or, append_assoc, min, max, IsPermutation, Bool, true, false}
+use Rattle.std.proofs.Common.{cond, eqb-true, nat_cmp}
 use Rattle.std.proofs.lemmas.Bool.{eqb-false}
 use Rattle.std.proofs.lemmas.Grind.{flat_map-append}
 use Rattle.std.proofs.lemmas.List.{length-map}
@@ -42,7 +44,8 @@ adds_then ps qs a b c s t = record {
     both (p ∷ ps) qs h k = (h.0, both ps qs h.1 k)
 
 -- a part of what is left is added
-pub completes_more : (one left left' all : List (ℕ × ℕ)) (now next start : List ℕ) → left ≡ one ++ left' → AddsPairs one now next → Completes left all now start → Completes left' all next start
+pub completes_more : (one left left' all : List (ℕ × ℕ)) (now next start : List ℕ) → left ≡ one ++ left'
+    → AddsPairs one now next → Completes left all now start → Completes left' all next start
 completes_more one left left' all now next start e s h end t = h end (subst (λ x. AddsPairs x now end) (sym e) (adds_then one left' now next end s t))
 
 -- what is left along a list
@@ -56,7 +59,8 @@ pub triangles_left : (first last x : ℕ) (along : List ℕ) (i : ℕ) → i < l
 triangles_left first last x along i h e = ap (λ t. pairs_of (triangles_along first last t)) (drop_next along i x h e)
 
 -- and of fans
-pub fans_left : (qs : List (List ℕ)) (i : ℕ) (q : List ℕ) → i < length qs → q ≡ get_or qs i q → pairs_of (fans (drop i qs)) ≡ pairs_of (fan q) ++ pairs_of (fans (drop (i + 1) qs))
+pub fans_left : (qs : List (List ℕ)) (i : ℕ) (q : List ℕ) → i < length qs → q ≡ get_or qs i q
+    → pairs_of (fans (drop i qs)) ≡ pairs_of (fan q) ++ pairs_of (fans (drop (i + 1) qs))
 fans_left qs i q h e = ap (λ t. pairs_of (fans t)) (drop_next qs i q h e) ∙ flat_map-append pairs_round (fan q) (fans (drop (i + 1) qs))
 
 -- ---- counting
@@ -70,34 +74,36 @@ one_code a b u v h k e = (omega arith, omega arith)
 
 -- a number of a pair
 of_key : (u v z : ℕ) → In z (pair_key (u, v)) → (u ≢ v) × (z ≡ code (u, v))
-of_key u v z m = by (u == v) refl m
+of_key u v z m = by_test (u == v) refl m
   where
-    by : (b : Bool) → (u == v) ≡ b → In z (cond b [] ((u * ROOM + v) ∷ [])) → (u ≢ v) × (z ≡ code (u, v))
-    by true p m = absurd m
-    by false p (inl e) = (eqb-false u v p, e)
-    by false p (inr n) = absurd n
+    by_test : (b : Bool) → (u == v) ≡ b → In z (cond b [] ((u * ROOM + v) ∷ [])) → (u ≢ v) × (z ≡ code (u, v))
+    by_test true p m = absurd m
+    by_test false p (inl e) = (eqb-false u v p, e)
+    by_test false p (inr n) = absurd n
 
 in_key : (u v : ℕ) → u ≢ v → In (code (u, v)) (pair_key (u, v))
-in_key u v d = by (u == v) refl
+in_key u v d = by_test (u == v) refl
   where
-    by : (b : Bool) → (u == v) ≡ b → In (code (u, v)) (cond b [] ((u * ROOM + v) ∷ []))
-    by true p = absurd (d (eqb-true u v p))
-    by false p = inl refl
+    by_test : (b : Bool) → (u == v) ≡ b → In (code (u, v)) (cond b [] ((u * ROOM + v) ∷ []))
+    by_test true p = absurd (d (eqb-true u v p))
+    by_test false p = inl refl
 
 -- pairs with different numbers stand once, as their numbers do
 once_codes : (ps : List (ℕ × ℕ)) → ((u v : ℕ) → In (u, v) ps → v < ROOM) → Once ps → Once (map code ps)
 once_codes [] small o = tt
-once_codes ((a, b) ∷ ps) small o = ((λ m. go (of_map code ps (code (a, b)) m)), once_codes ps (λ u v i. small u v (inr i)) o.1)
+once_codes ((a, b) ∷ ps) small o = ((λ m. from_witness (of_map code ps (code (a, b)) m)), once_codes ps (λ u v i. small u v (inr i)) o.1)
   where
-    go : (x : ℕ × ℕ) × In x ps × (code (a, b) ≡ code x) → ⊥
-    go ((u, v), i, e) = let s = one_code a b u v (small a b (inl refl)) (small u v (inr i)) e in
+    from_witness : (x : ℕ × ℕ) × In x ps × (code (a, b) ≡ code x) → ⊥
+    from_witness ((u, v), i, e) = let s = one_code a b u v (small a b (inl refl)) (small u v (inr i)) e in
         o.0 (subst (λ x. In (x, b) ps) (sym s.0) (subst (λ y. In (u, y) ps) (sym s.1) i))
 
 -- as many different numbers as distinct pairs
 pub edges_by_keys : (faces : List (List ℕ)) (keys sorted : List ℕ) → AddsPairs (pairs_of faces) [] keys → IsPermutation keys sorted → IsSorted nat_cmp sorted
     → length (dedup eqb sorted) ≡ edge_count faces
 edges_by_keys faces keys sorted added same rising =
-    once_length (dedup eqb sorted) (map code (distinct ps)) (rising_once (dedup eqb sorted) (IsStrictlyIncreasing-dedup sorted rising)) (once_codes (distinct ps) small (once_distinct ps)) members
+    once_length (dedup eqb sorted) (map code (distinct ps))
+    (rising_once (dedup eqb sorted) (IsStrictlyIncreasing-dedup sorted rising))
+    (once_codes (distinct ps) small (once_distinct ps)) members
     ∙ length-map (distinct ps) code ∙ length-distinct ps
   where
     ps : List (ℕ × ℕ)
@@ -107,15 +113,22 @@ edges_by_keys faces keys sorted added same rising =
     small u v m = every_at HasRoom ps (u, v) added.told (of_distinct ps u v m).0
 
     there : (z : ℕ) → (p : ℕ × ℕ) × In p ps × In z (pair_key p) → In z (map code (distinct ps))
-    there z ((u, v), i, h) = let k = of_key u v z h in subst (λ x. In x (map code (distinct ps))) (sym k.1) (in_map code (distinct ps) (u, v) (in_distinct ps u v i k.0))
+    there z ((u, v), i, h) = let k = of_key u v z h in
+        subst (λ x. In x (map code (distinct ps))) (sym k.1)
+        (in_map code (distinct ps) (u, v) (in_distinct ps u v i k.0))
 
     back : (z : ℕ) → (p : ℕ × ℕ) × In p (distinct ps) × (z ≡ code p) → In z keys
     back z ((u, v), i, e) = let r = of_distinct ps u v i in
-        subst (λ x. In z x) (sym added.keys) (subst (λ x. In x (flat_map pair_key ps)) (sym e) (in_flat_map pair_key ps (u, v) (code (u, v)) r.0 (in_key u v r.1)))
+        subst (λ x. In z x) (sym added.keys)
+        (subst (λ x. In x (flat_map pair_key ps)) (sym e)
+        (in_flat_map pair_key ps (u, v) (code (u, v)) r.0 (in_key u v r.1)))
 
     members : (z : ℕ) → In z (dedup eqb sorted) ↔ In z (map code (distinct ps))
     members z = (
       λ m. there z (of_flat_map pair_key ps z (subst (λ x. In z x) added.keys
-          (in_permutation sorted keys (IsPermutation-sym keys sorted same) z (of_contains sorted z (Contains-from_dedup eqb sorted z (to_contains (dedup eqb sorted) z m)))))),
-      λ m. of_contains (dedup eqb sorted) z (Contains-dedup_nat sorted z (to_contains sorted z (in_permutation keys sorted same z (back z (of_map code (distinct ps) z m))))),
+          (in_permutation sorted keys (IsPermutation-sym keys sorted same) z
+          (of_contains sorted z (Contains-from_dedup eqb sorted z (to_contains (dedup eqb sorted) z m)))))),
+      λ m. of_contains (dedup eqb sorted) z
+          (Contains-dedup_nat sorted z
+          (to_contains sorted z (in_permutation keys sorted same z (back z (of_map code (distinct ps) z m))))),
     )

@@ -39,7 +39,8 @@ drop_next xs i x h e = drop-cons xs i x h ∙ ap (λ t. t ∷ drop (suc i) xs) (
 
 -- the fans of one polygon more
 pub fans_more : (qs : List (List ℕ)) (i : ℕ) (q : List ℕ) → i < length qs → q ≡ get_or qs i q → fans (take (i + 1) qs) ≡ fans (take i qs) ++ fan q
-fans_more qs i q h e = ap fans (take_more qs i q h ∙ ap (λ (x : List ℕ). take i qs ++ x ∷ []) (sym e)) ∙ flat_map-append fan (take i qs) (q ∷ []) ∙ ap (λ t. fans (take i qs) ++ t) (none (fan q))
+fans_more qs i q h e = ap fans (take_more qs i q h ∙ ap (λ (x : List ℕ). take i qs ++ x ∷ []) (sym e))
+    ∙ flat_map-append fan (take i qs) (q ∷ []) ∙ ap (λ t. fans (take i qs) ++ t) (none (fan q))
   where
     none : (xs : List (List ℕ)) → xs ++ [] ≡ xs
     none [] = refl

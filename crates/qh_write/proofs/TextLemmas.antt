@@ -1,5 +1,7 @@
 -- Texts that grow by pieces, and vertex numbers out of a table.
-use Rattle.std.proofs.Common.{◌≡◌, ◌≢◌, ◌∙◌, ℕ, suc, ◌+◌, ◌<◌, List, [], ◌∷◌, ◌++◌, length, map, arith, ap, sym, refl, subst, inl, inr, ◌⊎◌, set, length-set, get_or, get_or-set_same, get_or-set_other, eqb-true, Bool, zero-add, ap₂, true, false, cond, All, replicate, decimal, slice_index}
+use Rattle.std.proofs.Common.{◌≡◌, ◌≢◌, ◌∙◌, ℕ, suc, ◌+◌, ◌<◌, List, [], ◌∷◌, ◌++◌, length, map, arith, ap, sym, refl}
+use Rattle.std.proofs.Common.{subst, inl, inr, ◌⊎◌, set, length-set, get_or, get_or-set_same, get_or-set_other}
+use Rattle.std.proofs.Common.{eqb-true, Bool, zero-add, ap₂, true, false, cond, All, replicate, decimal, slice_index}
 use Rattle.std.proofs.lemmas.Bool.{eqb-false}
 use Rattle.std.proofs.lemmas.List.{length-replicate}
 use Rattle.std.proofs.lemmas.List.Elements.{All-from_get_or}
@@ -27,7 +29,7 @@ numbered-other table (e ∷ es) n i h =
 -- the table has at each id of the list its number, from n on
 numbered-at : (table es : List ℕ) (n i : ℕ) → Once es → In i es → i < length table → slice_index (numbered table n es) i ≡ n + vertex_number es i
 numbered-at table [] n i once h l = absurd h
-numbered-at table (e ∷ es) n i once h l = by (numbered-at (set table e n) es (suc n) i once.1) (e == i) refl h
+numbered-at table (e ∷ es) n i once h l = with_rest (numbered-at (set table e n) es (suc n) i once.1) (e == i) refl h
   where
     first : e ≡ i → slice_index (numbered (set table e n) (suc n) es) i ≡ n + 0
     first s =
@@ -39,11 +41,11 @@ numbered-at table (e ∷ es) n i once h l = by (numbered-at (set table e n) es (
         → In i es → slice_index (numbered (set table e n) (suc n) es) i ≡ n + suc (vertex_number es i)
     later rest h = rest h (rw length-set l) ∙ omega arith
 
-    by : (In i es → i < length (set table e n) → slice_index (numbered (set table e n) (suc n) es) i ≡ suc n + vertex_number es i)
+    with_rest : (In i es → i < length (set table e n) → slice_index (numbered (set table e n) (suc n) es) i ≡ suc n + vertex_number es i)
         → (b : Bool) → (e == i) ≡ b → (i ≡ e) ⊎ In i es → slice_index (numbered (set table e n) (suc n) es) i ≡ n + cond b 0 (suc (vertex_number es i))
-    by rest true s h = first (eqb-true e i s)
-    by rest false s (inl h) = absurd (eqb-false e i s (sym h))
-    by rest false s (inr h) = later rest h
+    with_rest rest true s h = first (eqb-true e i s)
+    with_rest rest false s (inl h) = absurd (eqb-false e i s (sym h))
+    with_rest rest false s (inr h) = later rest h
 
 -- the table of the extreme ids has the vertex number of each
 vertex_number_at : (extremes : List ℕ) (count : ℕ) → IsStrictlyIncreasing extremes → All (λ i. i < count) extremes
@@ -76,7 +78,9 @@ faces_by_numbers extremes count rising within (q ∷ qs) named =
 pub grown_by_faces : (extremes : List ℕ) (count : ℕ) (qs : List (List ℕ)) (table old new : List ℕ) → All (λ i. i < count) extremes → IsBodyInOrder extremes qs
     → table ≡ numbered (replicate count 0) 0 extremes → new ≡ old ++ flat_map (face_by_table table) qs → new ≡ old ++ flat_map (face_text extremes) qs
 grown_by_faces extremes count qs table old new within order is e =
-    e ∙ ap (λ (t : List ℕ). old ++ t) (ap (λ (t : List ℕ). flat_map (face_by_table t) qs) is ∙ faces_by_numbers extremes count order.rising within qs order.named)
+    e ∙ ap (λ (t : List ℕ). old ++ t)
+    (ap (λ (t : List ℕ). flat_map (face_by_table t) qs) is
+    ∙ faces_by_numbers extremes count order.rising within qs order.named)
 
 -- the table has a place for each vertex of each face
 pub faces_numbered : (extremes : List ℕ) (count : ℕ) (qs : List (List ℕ)) (table : List ℕ) → All (λ i. i < count) extremes → IsBodyInOrder extremes qs
@@ -86,5 +90,7 @@ faces_numbered extremes count qs table within order is =
     All-from_get_or (AreNumbered table) qs []
     (λ k h. All-from_get_or (λ i. i < length table) (get_or qs k []) 0
     (λ j l. let small : get_or (get_or qs k []) j 0 < count =
-    All-In (λ i. i < count) extremes _ within (order.named (get_or qs k []) (In-get_or qs k [] h) (get_or (get_or qs k []) j 0) (In-get_or (get_or qs k []) j 0 l)) in
+    All-In (λ i. i < count) extremes _ within
+    (order.named (get_or qs k []) (In-get_or qs k [] h) (get_or (get_or qs k []) j 0)
+    (In-get_or (get_or qs k []) j 0 l)) in
     omega (arith, small, long)))

@@ -31,12 +31,12 @@ next_round k planes z o e room within kept more = record {
 
 -- a closed mesh has a facet
 some_facet : (at : ℕ → Vector) (fs : List StoredFacet) → IsClosedMesh at fs → (f : ℕ) × In f (surface_of fs).live
-some_facet at fs c = by (surface_of fs).live refl
+some_facet at fs c = along_list (surface_of fs).live refl
   where
-    by : (gs : List ℕ) → (surface_of fs).live ≡ gs → (f : ℕ) × In f (surface_of fs).live
-    by [] e = let h = subst (λ (gs : List ℕ). signed_volume at (triples_from (surface_of fs) gs) origin <ℤ pos 0) e (c.volume origin) in
+    along_list : (gs : List ℕ) → (surface_of fs).live ≡ gs → (f : ℕ) × In f (surface_of fs).live
+    along_list [] e = let h = subst (λ (gs : List ℕ). signed_volume at (triples_from (surface_of fs) gs) origin <ℤ pos 0) e (c.volume origin) in
         absurd (less_one_way (pos 0) (pos 0) h h)
-    by (g ∷ gs) e = (g, subst (In g) (sym e) (inl refl))
+    along_list (g ∷ gs) e = (g, subst (In g) (sym e) (inl refl))
 
 -- a mesh that sees no point of the list is finished
 pub finished : (pts : List Vector) (fs : List StoredFacet) → IsGrown pts fs → ((p : ℕ) → p < length pts → IsDone pts fs p)

@@ -22,16 +22,16 @@ module _ {pts : List Vector} {fs : List StoredFacet} {old : List PlaneValue} {ma
   pub more_renewed : {ps : List PlaneValue} {i : ℕ} (plane : PlaneValue) → i < length made → slice_index made i < length ps
       → ((p : Vector) → height plane p ≡ facet_vol (place pts) fs (slice_index made i) p)
       → AreRenewed pts fs old made i ps → AreRenewed pts fs old made (i + 1) (slice_set ps (slice_index made i) plane)
-  more_renewed {ps} {i} plane m b h r = record { is = λ f l g. by f (cases_eq f (slice_index made i)) (r.is f l g) }
+  more_renewed {ps} {i} plane m b h r = record { is = λ f l g. by_cases f (cases_eq f (slice_index made i)) (r.is f l g) }
     where
       long : length (slice_set ps (slice_index made i) plane) ≡ length ps
       long = length-set ps (slice_index made i) plane
 
-      by : (f : ℕ) → (f ≡ slice_index made i) ⊎ (f ≡ slice_index made i → ⊥) → IsPlaneOf pts fs ps f ⊎ In f (drop i made)
+      by_cases : (f : ℕ) → (f ≡ slice_index made i) ⊎ (f ≡ slice_index made i → ⊥) → IsPlaneOf pts fs ps f ⊎ In f (drop i made)
           → IsPlaneOf pts fs (slice_set ps (slice_index made i) plane) f ⊎ In f (drop (i + 1) made)
-      by f (inl q) _ = inl (omega (arith, long), λ p. rw (q, get_or-set_same ps (slice_index made i) plane no_plane b) (h p))
-      by f (inr d) (inl (k, q)) = inl (omega (arith, long), λ p. rw (get_or-set_other ps (slice_index made i) f plane no_plane d) (q p))
-      by f (inr d) (inr n) = elim (rw (drop_more made i 0 m) at n) [ inl q ↦ absurd (d q) | inr l ↦ inr l ]
+      by_cases f (inl q) _ = inl (omega (arith, long), λ p. rw (q, get_or-set_same ps (slice_index made i) plane no_plane b) (h p))
+      by_cases f (inr d) (inl (k, q)) = inl (omega (arith, long), λ p. rw (get_or-set_other ps (slice_index made i) f plane no_plane d) (q p))
+      by_cases f (inr d) (inr n) = elim (rw (drop_more made i 0 m) at n) [ inl q ↦ absurd (d q) | inr l ↦ inr l ]
 
   -- and all
   pub all_renewed : {ps : List PlaneValue} {i : ℕ} → length made ≤ i → AreRenewed pts fs old made i ps

@@ -8,5 +8,6 @@ body_normals-requires c = extremes_within c.args.pts.now _ (subst (IsHull c.args
 
 pub returns : goal.returns
 returns c =
-    fans_made c.args.pts.now _ c.len.result c.in_ok-triangles.triangles.items c.in_ok-normals.normals.items (subst (IsHull c.args.pts.now) (sym c.hull.view_is) c.requires)
+    fans_made c.args.pts.now _ c.len.result c.in_ok-triangles.triangles.items c.in_ok-normals.normals.items
+    (subst (IsHull c.args.pts.now) (sym c.hull.view_is) c.requires)
     c.in_ok-triangles.ensures c.in_ok-normals.ensures (c.len.ensures ∙ c.in_ok-triangles.triangles.ok.0)

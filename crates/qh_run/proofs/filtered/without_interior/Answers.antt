@@ -21,5 +21,6 @@ returns-in-Ok-clause-part g c =
     record {
       rising = (rw (c.in-Some.is) at c.in_ok-ids.ensures.rising) job.rising;
       within = within;
-      hull = λ b h. body_of_part (place job.pts.now) job.ids.now c.in-Some.ids.items b job.distinct within (rw (c.in-Some.is) at c.in_ok-ids.ensures.extremes) h;
+      hull = λ b h. body_of_part (place job.pts.now) job.ids.now c.in-Some.ids.items b job.distinct within
+          (rw (c.in-Some.is) at c.in_ok-ids.ensures.extremes) h;
     }

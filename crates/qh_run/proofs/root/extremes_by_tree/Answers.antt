@@ -21,7 +21,9 @@ pub returns-in-Ok-Some : goal.returns-in-Ok-Some
 returns-in-Ok-Some g c =
     let part = rw (c.in-Ok-Some.field-0-is) at c.in-Ok-Some.ensures.part in
     let job = c.args.job in
-    IfSome_then c.root_over_blocks.result {P = λ found. StandsFor job.pts.now c.in-Ok-Some.part.ids.items found.ids.items} (rw (c.deref.ensures.value) at c.root_over_blocks.ensures)
+    IfSome_then c.root_over_blocks.result
+    {P = λ found. StandsFor job.pts.now c.in-Ok-Some.part.ids.items found.ids.items}
+    (rw (c.deref.ensures.value) at c.root_over_blocks.ensures)
     (λ found s. record {
       rising = s.rising;
       within = λ i m. part.within i (s.within i m);

@@ -4,4 +4,6 @@ use Rattle.qh_model.specs.contract.IdSets.{AreIndices}
 use Rattle.qh_run.proofs.job.Job.ask_sample.Goals as goal
 
 pub extremes_unlooked-requires-clause-indices : goal.extremes_unlooked-requires-clause-indices
-extremes_unlooked-requires-clause-indices c = subst (AreIndices c.args.self.now.pts.now) (sym c.split_at.ensures.front) (λ k d h. let r = c.requires k d (grind (arith, common_steps, h)) in grind (arith, common_steps, h, r))
+extremes_unlooked-requires-clause-indices c =
+    subst (AreIndices c.args.self.now.pts.now) (sym c.split_at.ensures.front)
+    (λ k d h. let r = c.requires k d (grind (arith, common_steps, h)) in grind (arith, common_steps, h, r))

@@ -17,7 +17,8 @@ pub extremes_among-requires-clause-indices : goal.extremes_among-requires-clause
 extremes_among-requires-clause-indices c =
     let job = c.args.self.now in
     let union = rw (c.deref.ensures.value, c.deref-2.ensures.value) at c.in_ok-both.ensures.members in
-    let within = union_within job.pts.now job.ids.now job.cut.now _ _ c.args.even.ids.items c.args.odd.ids.items c.in_ok-both.both.items c.requires.even c.requires.odd union in
+    let within = union_within job.pts.now job.ids.now job.cut.now _ _ c.args.even.ids.items c.args.odd.ids.items
+    c.in_ok-both.both.items c.requires.even c.requires.odd union in
     subst (AreIndices job.pts.now) (sym c.deref-3.ensures.value) (part_indices job.pts.now job.ids.now c.in_ok-both.both.items job.indices within)
 
 pub extremes_among-requires-clause-set : goal.extremes_among-requires-clause-set
@@ -35,5 +36,7 @@ returns c =
     let union = rw (c.deref.ensures.value, c.deref-2.ensures.value) at c.in_ok-both.ensures.members in
     let found = rw (c.deref-3.ensures.value) at c.extremes_among.ensures in
     IfOk-weaker c.extremes_among.result _ _
-    (λ v x. right_of_node job.pts.now job.ids.now job.cut.now c.args._node c.args.even.ids.items c.args.odd.ids.items c.in_ok-both.both.items v.ids.items job.distinct c.requires.inner.0 c.requires.inner.1 c.requires.even c.requires.odd union x)
+    (λ v x. right_of_node job.pts.now job.ids.now job.cut.now c.args._node c.args.even.ids.items c.args.odd.ids.items
+    c.in_ok-both.both.items v.ids.items job.distinct c.requires.inner.0 c.requires.inner.1 c.requires.even
+    c.requires.odd union x)
     found

@@ -5,7 +5,9 @@ use Rattle.qh_run.proofs.job.JobReduction.reduce.Goals as goal
 pub extremes_among-requires-clause-set : goal.extremes_among-requires-clause-set
 extremes_among-requires-clause-set c =
     let job = c.args.self.now in
-    rw (c.block-from.ensures.from, c.block-from.ensures.to) (block_set job.pts.now job.ids.now job.cut.now c.args.block (record { rising = job.rising; distinct = job.distinct }))
+    rw (c.block-from.ensures.from, c.block-from.ensures.to)
+    (block_set job.pts.now job.ids.now job.cut.now c.args.block
+    (record { rising = job.rising; distinct = job.distinct }))
 
 pub returns : goal.returns
 returns c =

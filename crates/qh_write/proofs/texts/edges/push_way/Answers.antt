@@ -12,5 +12,6 @@ loop-id-preserved c =
 
 pub returns : goal.returns
 returns c =
-    subst (λ left. Completes (pairs_along c.loop-id.last left c.args.to) (pairs_along c.args.from c.args.along.now c.args.to) c.loop-id.keys.items c.args.keys.now.items)
+    subst (λ left. Completes (pairs_along c.loop-id.last left c.args.to)
+    (pairs_along c.args.from c.args.along.now c.args.to) c.loop-id.keys.items c.args.keys.now.items)
     (drop_all c.loop-id.id-index c.args.along.now c.loop-id-test.false) c.loop-id.invariant c.push_pair-2.new.keys.items c.in_ok-push_pair-2.ensures

@@ -10,5 +10,6 @@ push_fans-requires c =
 
 pub returns : goal.returns
 returns c =
-    grown_by_faces c.args.extremes.now c.args.count (fans c.args.faces.now) _ _ _ c.requires.within (fans_in_order c.args.extremes.now c.args.faces.now c.requires.order)
+    grown_by_faces c.args.extremes.now c.args.count (fans c.args.faces.now) _ _ _ c.requires.within
+    (fans_in_order c.args.extremes.now c.args.faces.now c.requires.order)
     (c.deref.ensures.value ∙ c.in_ok-numbers.ensures) c.in_ok-push_fans.ensures

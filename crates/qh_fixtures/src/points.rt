@@ -1,0 +1,113 @@
+//! Sets of points that several libraries are asked about.
+ghost use Rattle.qh_model.specs.headline.Limits.{IsCoordinate};
+
+use qh_model::{COORDINATE_LIMIT, Point};
+use std::alloc::{AllocError, Global};
+
+/// The greatest coordinate.
+pub const LIMIT: i32 = COORDINATE_LIMIT as i32;
+
+/// Returns the point with these coordinates, each clamped to the limit.
+pub fn point(x: i32, y: i32, z: i32) -> Point {
+    Point::new(
+        x.clamp(-LIMIT, LIMIT),
+        y.clamp(-LIMIT, LIMIT),
+        z.clamp(-LIMIT, LIMIT),
+    )
+}
+
+/// Returns the corners of a square, and its centre.
+pub fn square() -> [Point; 5] {
+    [
+        Point::new(0, 0, 0),
+        Point::new(2, 0, 0),
+        Point::new(2, 2, 0),
+        Point::new(0, 2, 0),
+        Point::new(1, 1, 0),
+    ]
+}
+
+/// Returns the origin and its neighbours along x, y and z.
+pub fn tetrahedron() -> [Point; 4] {
+    [
+        Point::new(0, 0, 0),
+        Point::new(1, 0, 0),
+        Point::new(0, 1, 0),
+        Point::new(0, 0, 1),
+    ]
+}
+
+/// Returns the corners of a cube along the axes, in rising order of their coordinates.
+pub fn cube(low: i32, high: i32) -> [Point; 8]
+    requires low { IsCoordinate low }
+    requires high { IsCoordinate high }
+{
+    [
+        Point::new(low, low, low),
+        Point::new(low, low, high),
+        Point::new(low, high, low),
+        Point::new(low, high, high),
+        Point::new(high, low, low),
+        Point::new(high, low, high),
+        Point::new(high, high, low),
+        Point::new(high, high, high),
+    ]
+}
+
+/// Returns the corners of a regular octahedron and the middles of its edges.
+pub fn octahedron() -> [Point; 18] {
+    [
+        Point::new(2, 0, 0),
+        Point::new(1, 1, 0),
+        Point::new(0, 2, 0),
+        Point::new(-2, 0, 0),
+        Point::new(-1, -1, 0),
+        Point::new(0, -2, 0),
+        Point::new(0, 0, 2),
+        Point::new(1, 0, 1),
+        Point::new(0, 1, 1),
+        Point::new(0, 0, -2),
+        Point::new(-1, 0, -1),
+        Point::new(0, -1, -1),
+        Point::new(1, -1, 0),
+        Point::new(-1, 1, 0),
+        Point::new(-1, 0, 1),
+        Point::new(1, 0, -1),
+        Point::new(0, -1, 1),
+        Point::new(0, 1, -1),
+    ]
+}
+
+/// Returns all points whose x, y and z are among these coordinates, in rising order of their places in the list, and all of
+/// them again up to the number of times.
+///
+/// # Errors
+///
+/// `AllocError` if an allocation fails.
+pub fn lattice(alloc: Global, coordinates: &[i32], times: usize) -> Result<Vec<Point>, AllocError> {
+    let mut pts = Vec::new(alloc);
+    for _ in 0..times {
+        for x in coordinates {
+            for y in coordinates {
+                for z in coordinates {
+                    pts.push(point(*x, *y, *z))?;
+                }
+            }
+        }
+    }
+    Ok(pts)
+}
+
+/// Returns the corners of the unit cube, each twice in a row.
+///
+/// # Errors
+///
+/// `AllocError` if an allocation fails.
+pub fn doubled_cube(alloc: Global) -> Result<Vec<Point>, AllocError> {
+    let mut pts = Vec::new(alloc);
+    for corner in cube(0, 1) {
+        pts.push(corner)?;
+        pts.push(corner)?;
+    }
+    Ok(pts)
+}

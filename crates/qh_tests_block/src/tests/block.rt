@@ -1,0 +1,197 @@
+//! Rows of sets in a point, a line and a plane.
+ghost use Rattle.std.specs.Prelude.{◌<◌, length};
+ghost use Rattle.qh_model.specs.contract.IdSets.{AreIndices};
+
+use qh_block::{extremes, hull};
+use qh_fixtures::ids::are;
+use qh_fixtures::points::{point, square};
+use qh_model::{Body, Id, Memory, POINT_LIMIT, Point};
+use qh_plane::distinct;
+use std::alloc::Global;
+use std::process::Abort;
+use std::test::Fail;
+use std::thread::Threads;
+
+mod face_order;
+mod looks;
+mod refusals;
+mod solid_rows;
+mod surfaces;
+
+/// What the hull of some points is: the dimension, the extreme ids, the faces and the number of edges.
+#[derive(Clone, Copy, Drop)]
+struct Row<'a> {
+    dim: u8,
+    extremes: &'a [u32],
+    faces: &'a [&'a [u32]],
+    edges: u64,
+}
+
+const SQUARE: Row<'static> = Row {
+    dim: 2,
+    extremes: &[0, 1, 2, 3],
+    faces: &[&[0, 1, 2, 3]],
+    edges: 4,
+};
+
+/// The square seen from its other side.
+const TURNED_SQUARE: Row<'static> = Row {
+    faces: &[&[0, 3, 2, 1]],
+    ..SQUARE
+};
+
+/// Whether a body is that of a row.
+fn is(body: &Body, row: &Row) -> bool {
+    body.dim == row.dim
+        && body.edges == row.edges
+        && are(&body.extremes, row.extremes)
+        && body.polygons.len() == row.faces.len()
+        && body
+            .polygons
+            .iter()
+            .zip(row.faces)
+            .all(|(polygon, face)| are(polygon.ids(), face))
+}
+
+/// The hull of some ids, and their extreme ids.
+fn hull_and_extremes(alloc: Global, pts: &[Point], ids: &[Id]) -> Result<(Body, Vec<Id>), Memory>
+    requires some { 0 < length ids.now }
+    requires indices { AreIndices pts.now ids.now }
+{
+    let body = hull(alloc, pts, ids)?;
+    let corners = extremes(alloc, pts, ids)?;
+    Ok((body, corners))
+}
+
+/// The hull of the distinct points of a list that is not too long and not empty, and their extreme ids.
+fn hull_of<R: Threads + Sync>(
+    rt: &R,
+    alloc: Global,
+    pts: &[Point],
+) -> Result<Option<(Body, Vec<Id>)>, Memory> {
+    if pts.len() > POINT_LIMIT as usize {
+        return Ok(None);
+    }
+    let ids = distinct(rt, alloc, pts)?;
+    if ids.is_empty() {
+        return Ok(None);
+    }
+    let found = hull_and_extremes(alloc, pts, &ids)?;
+    Ok(Some(found))
+}
+
+/// Asserts that the hull of the distinct points of a list, and their extreme ids alone, are those of a row.
+fn assert_hull<R: AllocGlobal + Abort + Threads + Sync>(
+    rt: &R,
+    pts: &[Point],
+    row: &Row,
+) -> Result<(), Fail> {
+    let (body, corners) = hull_of(rt, rt.alloc(), pts)?.ok_or("no points")?;
+    let holds = is(&body, row) && are(&corners, row.extremes);
+    assert!(rt; holds, "{body:?} and {corners:?}");
+    Ok(())
+}
+
+#[test]
+fn one_point(rt: HostRuntime) -> Result<(), Fail> {
+    let pts = [Point::new(3, 1, 0), Point::new(5, 5, 5)];
+    let body = hull(rt.alloc(), &pts, &[Id::new(1)])?;
+    let row = Row {
+        dim: 0,
+        extremes: &[1],
+        faces: &[&[1]],
+        edges: 0,
+    };
+    assert!(rt; is(&body, &row), "{body:?}");
+    Ok(())
+}
+
+#[test]
+fn five_in_line(rt: HostRuntime) -> Result<(), Fail> {
+    let pts = [
+        Point::new(1, 1, 1),
+        Point::new(0, 0, 0),
+        Point::new(4, 4, 4),
+        Point::new(2, 2, 2),
+        Point::new(3, 3, 3),
+    ];
+    let row = Row {
+        dim: 1,
+        extremes: &[1, 2],
+        faces: &[&[1, 2]],
+        edges: 1,
+    };
+    assert_hull(&rt, &pts, &row)
+}
+
+#[test]
+fn square_with_centre(rt: HostRuntime) -> Result<(), Fail> {
+    assert_hull(&rt, &square(), &SQUARE)
+}
+
+/// The point with all coordinates so many times as large, kept within the limit.
+fn times(p: Point, factor: i32) -> Point {
+    point(
+        p.x().wrapping_mul(factor),
+        p.y().wrapping_mul(factor),
+        p.z().wrapping_mul(factor),
+    )
+}
+
+/// Three places beside the origin.
+type Places = [(i32, i32, i32); 3];
+
+/// Squares with a corner at the origin, of which the normals have each pattern of signs; and the row of each.
+const SQUARES: [(Places, Row<'static>); 8] = [
+    ([(2, 1, -2), (4, -1, -1), (2, -2, 1)], TURNED_SQUARE),
+    ([(2, 1, 2), (4, -1, 1), (2, -2, -1)], SQUARE),
+    ([(2, -1, -2), (4, 1, -1), (2, 2, 1)], SQUARE),
+    ([(2, -1, 2), (4, 1, 1), (2, 2, -1)], TURNED_SQUARE),
+    ([(-2, 1, -2), (-4, -1, -1), (-2, -2, 1)], TURNED_SQUARE),
+    ([(-2, 1, 2), (-4, -1, 1), (-2, -2, -1)], SQUARE),
+    ([(-2, -1, -2), (-4, 1, -1), (-2, 2, 1)], SQUARE),
+    ([(-2, -1, 2), (-4, 1, 1), (-2, 2, -1)], TURNED_SQUARE),
+];
+
+/// How many times as large the squares are taken, too: up to 2^20 and to 2^30.
+const FACTORS: [i32; 3] = [1, 262144, 268435456];
+
+/// Asserts the hull of a square, as it is and larger.
+fn assert_squares<R: AllocGlobal + Abort + Threads + Sync>(
+    rt: &R,
+    corners: &[Point; 4],
+    row: &Row,
+) -> Result<(), Fail> {
+    for factor in FACTORS {
+        assert_hull(rt, &corners.map(|corner| times(corner, factor)), row)?;
+    }
+    Ok(())
+}
+
+/// Asserts the hulls of squares with a corner at the origin.
+fn assert_rows<R: AllocGlobal + Abort + Threads + Sync>(
+    rt: &R,
+    rows: &[(Places, Row)],
+) -> Result<(), Fail> {
+    for (places, row) in rows {
+        let [b, c, d] = places.map(|(x, y, z)| point(x, y, z));
+        assert_squares(rt, &[point(0, 0, 0), b, c, d], row)?;
+    }
+    Ok(())
+}
+
+#[test]
+fn squares(rt: HostRuntime) -> Result<(), Fail> {
+    assert_rows(&rt, &SQUARES)
+}
+
+#[test]
+fn squares_across_the_first_axis(rt: HostRuntime) -> Result<(), Fail> {
+    let corners = [
+        Point::new(5, 0, 0),
+        Point::new(5, 0, 2),
+        Point::new(5, 2, 2),
+        Point::new(5, 2, 0),
+    ];
+    assert_squares(&rt, &corners, &TURNED_SQUARE)
+}

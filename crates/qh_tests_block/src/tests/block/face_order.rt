@@ -1,0 +1,77 @@
+//! The order of the faces of a solid: a cuboctahedron, round each corner of which triangles and squares take turns.
+//! Some of its triangles have ids below 2^21 alone, others do not.
+use super::{Row, is};
+use qh_block::hull;
+use qh_fixtures::ids::ids_of;
+use qh_model::{Body, Memory, Point};
+use std::alloc::{AllocError, Global};
+use std::test::Fail;
+
+/// The points of the corners.
+fn corners() -> [Point; 12] {
+    [
+        Point::new(0, -1, 1),
+        Point::new(1, 0, -1),
+        Point::new(0, -1, -1),
+        Point::new(-1, 1, 0),
+        Point::new(0, 1, -1),
+        Point::new(1, 0, 1),
+        Point::new(1, 1, 0),
+        Point::new(-1, 0, -1),
+        Point::new(1, -1, 0),
+        Point::new(-1, 0, 1),
+        Point::new(0, 1, 1),
+        Point::new(-1, -1, 0),
+    ]
+}
+
+/// Its hull: a square across each end of an axis, and a triangle in each octant, the faces in lexicographic order.
+const CUBOCTAHEDRON: Row<'static> = Row {
+    dim: 3,
+    extremes: &[2, 3, 4, 5, 6, 7, 8, 9, 2097151, 2097152, 2097153, 2097154],
+    faces: &[
+        &[2, 7, 2097153, 2097152],
+        &[2, 2097151, 7],
+        &[2, 2097152, 2097154],
+        &[2, 2097154, 4, 2097151],
+        &[3, 4, 9, 6],
+        &[3, 6, 8],
+        &[3, 8, 7, 2097151],
+        &[3, 2097151, 4],
+        &[4, 2097154, 9],
+        &[5, 6, 9],
+        &[5, 9, 2097154, 2097152],
+        &[5, 2097152, 2097153],
+        &[5, 2097153, 8, 6],
+        &[7, 8, 2097153],
+    ],
+    edges: 24,
+};
+
+/// The points up to the last corner: where no corner is, the centre.
+fn points(alloc: Global) -> Result<Vec<Point>, AllocError> {
+    let mut pts = vec![in alloc; Point::new(0, 0, 0); 2097155]?;
+    for (number, corner) in CUBOCTAHEDRON.extremes.iter().zip(&corners()) {
+        if let Some(place) = pts.get_mut(*number as usize) {
+            *place = *corner;
+        }
+    }
+    Ok(pts)
+}
+
+/// The hull of the corners.
+fn hull_of_corners(alloc: Global) -> Result<Option<Body>, Memory> {
+    let pts = points(alloc)?;
+    let ids = ids_of(alloc, &pts, CUBOCTAHEDRON.extremes)?;
+    if ids.is_empty() {
+        return Ok(None);
+    }
+    Ok(Some(hull(alloc, &pts, &ids)?))
+}
+
+#[test]
+fn triangles_and_squares(rt: HostRuntime) -> Result<(), Fail> {
+    let body = hull_of_corners(rt.alloc())?.ok_or("no corners")?;
+    assert!(rt; is(&body, &CUBOCTAHEDRON), "{body:?}");
+    Ok(())
+}

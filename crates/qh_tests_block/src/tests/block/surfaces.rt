@@ -1,0 +1,193 @@
+//! The surfaces of solid sets, against a plain checker: each edge has its opposite, each triangle
+//! supports all points, and the counts are Euler's.
+ghost use Rattle.qh_model.specs.contract.IdSets.{IsIdSet};
+ghost use Rattle.qh_model.specs.contract.IdSets.{AreIndices};
+
+use qh_block::surface;
+use qh_fixtures::points::{LIMIT, lattice, octahedron, point, tetrahedron};
+use qh_mesh::Mesh;
+use qh_model::{Id, Memory, POINT_LIMIT, Point};
+use qh_plane::{Shape, distinct, rank};
+use qh_pred::Plane;
+use std::alloc::{AllocError, Global};
+use std::process::Abort;
+use std::test::Fail;
+use std::thread::Threads;
+
+/// The corners of a triangle, counterclockwise seen from outside.
+type Triangle = (u32, u32, u32);
+
+/// The points (x, y, x^2 + y^2) with x below 50 and y below 40. Each is extreme.
+fn paraboloid(alloc: Global) -> Result<Vec<Point>, AllocError> {
+    let mut pts = Vec::new(alloc);
+    for x in 0..50i32 {
+        for y in 0..40i32 {
+            let z = x.wrapping_mul(x).wrapping_add(y.wrapping_mul(y));
+            pts.push(point(x, y, z))?;
+        }
+    }
+    Ok(pts)
+}
+
+/// The surface of a set, if it is solid.
+fn surface_of_set(alloc: Global, pts: &[Point], ids: &[Id]) -> Result<Option<Mesh>, Memory>
+    requires indices { AreIndices pts.now ids.now }
+    requires set { IsIdSet pts.now ids.now }
+{
+    if ids.is_empty() {
+        return Ok(None);
+    }
+    match rank(pts, ids) {
+        Shape::Solid(_, _, _, _) => Ok(Some(surface(alloc, pts, ids)?)),
+        _ => Ok(None),
+    }
+}
+
+/// The surface of the distinct points of a list, if they are solid.
+pub fn solid_surface<R: Threads + Sync>(
+    rt: &R,
+    alloc: Global,
+    pts: &[Point],
+) -> Result<Option<Mesh>, Memory> {
+    if pts.len() > POINT_LIMIT as usize {
+        return Ok(None);
+    }
+    let ids = distinct(rt, alloc, pts)?;
+    surface_of_set(alloc, pts, ids.as_slice())
+}
+
+/// The triangles of a mesh.
+pub fn triangles(alloc: Global, mesh: &Mesh) -> Result<Vec<Triangle>, AllocError> {
+    let mut triangles = Vec::new(alloc);
+    for f in mesh.live() {
+        let [a, b, c] = mesh.facet(f);
+        triangles.push((a.number(), b.number(), c.number()))?;
+    }
+    Ok(triangles)
+}
+
+/// Whether the edges of triangles are all different, and each has its opposite.
+fn closes(alloc: Global, triangles: &[Triangle]) -> Result<bool, AllocError> {
+    let mut edges = Vec::new(alloc);
+    let mut opposites = Vec::new(alloc);
+    for (a, b, c) in triangles {
+        for (from, to) in [(*a, *b), (*b, *c), (*c, *a)] {
+            edges.push((from, to))?;
+            opposites.push((to, from))?;
+        }
+    }
+    edges.sort_unstable();
+    edges.dedup();
+    opposites.sort_unstable();
+    Ok(edges.as_slice() == opposites.as_slice())
+}
+
+/// Whether a triangle strictly sees none of the points.
+fn supports(pts: &[Point], triangle: Triangle) -> bool {
+    let (a, b, c) = triangle;
+    match (
+        pts.get(a as usize),
+        pts.get(b as usize),
+        pts.get(c as usize),
+    ) {
+        (Some(a), Some(b), Some(c)) => {
+            let plane = Plane::through(*a, *b, *c);
+            pts.iter().all(|p| !plane.sees(*p))
+        }
+        _ => false,
+    }
+}
+
+/// The number of different corners.
+fn corner_count(alloc: Global, triangles: &[Triangle]) -> Result<usize, AllocError> {
+    let mut used = Vec::new(alloc);
+    for (a, b, c) in triangles {
+        for corner in [*a, *b, *c] {
+            used.push(corner)?;
+        }
+    }
+    used.sort_unstable();
+    used.dedup();
+    Ok(used.len())
+}
+
+/// Whether the triangles close up, support all points, and are 2 V - 4, as on a sphere.
+pub fn is_surface(
+    alloc: Global,
+    pts: &[Point],
+    triangles: &[Triangle],
+) -> Result<bool, AllocError> {
+    let corners = corner_count(alloc, triangles)?;
+    Ok(
+        closes(alloc, triangles)?
+            && triangles.iter().all(|t| supports(pts, *t))
+            && triangles.len().checked_add(4) == corners.checked_mul(2),
+    )
+}
+
+/// Whether the triangles of a mesh are a surface of the points, and the numbers of triangles and of corners.
+fn told(alloc: Global, pts: &[Point], mesh: &Mesh) -> Result<(bool, usize, usize), AllocError> {
+    let triangles = triangles(alloc, mesh)?;
+    let is_sound = is_surface(alloc, pts, &triangles)?;
+    let corners = corner_count(alloc, &triangles)?;
+    Ok((is_sound, triangles.len(), corners))
+}
+
+/// The numbers of triangles and of corners of the surface of a solid set, which must be one.
+fn counts_of<R: AllocGlobal + Abort + Threads + Sync>(
+    rt: &R,
+    pts: &[Point],
+) -> Result<(usize, usize), Fail> {
+    let mesh = solid_surface(rt, rt.alloc(), pts)?.ok_or("a flat set")?;
+    let (is_sound, triangles, corners) = told(rt.alloc(), pts, &mesh)?;
+    assert!(rt; is_sound, "{triangles} triangles, {corners} corners");
+    Ok((triangles, corners))
+}
+
+#[test]
+fn corner_tetrahedron(rt: HostRuntime) -> Result<(), Fail> {
+    let counts = counts_of(&rt, &tetrahedron())?;
+    assert_eq!(rt; counts, (4, 4));
+    Ok(())
+}
+
+/// Asserts that the surface of a cube, each corner of which is given so many times, has its triangles and corners.
+fn assert_cube<R: AllocGlobal + Abort + Threads + Sync>(
+    rt: &R,
+    low: i32,
+    high: i32,
+    times: usize,
+) -> Result<(), Fail> {
+    let pts = lattice(rt.alloc(), &[low, high], times)?;
+    let counts = counts_of(rt, &pts)?;
+    assert_eq!(rt;
+        counts,
+        (12, 8),
+        "{times} times a cube from {low} to {high}"
+    );
+    Ok(())
+}
+
+#[test]
+fn cubes(rt: HostRuntime) -> Result<(), Fail> {
+    assert_cube(&rt, 0, 1, 1)?;
+    assert_cube(&rt, 0, 1, 2)?;
+    assert_cube(&rt, -1048576, 1048576, 1)?;
+    assert_cube(&rt, -LIMIT, LIMIT, 1)
+}
+
+#[test]
+fn points_within_faces(rt: HostRuntime) -> Result<(), Fail> {
+    let (_, of_lattice) = counts_of(&rt, &lattice(rt.alloc(), &[0, 1, 2], 1)?)?;
+    assert!(rt; of_lattice >= 8);
+    let (_, of_octahedron) = counts_of(&rt, &octahedron())?;
+    assert!(rt; of_octahedron >= 6);
+    Ok(())
+}
+
+#[test]
+fn points_of_a_paraboloid(rt: HostRuntime) -> Result<(), Fail> {
+    let (_, corners) = counts_of(&rt, &paraboloid(rt.alloc())?)?;
+    assert_eq!(rt; corners, 2000);
+    Ok(())
+}

@@ -1,0 +1,5 @@
+//! The tests of each library.
+
+mod model;
+mod plane;
+mod pred;

@@ -1,0 +1,81 @@
+//! Rows of cuts.
+
+use qh_model::{BLOCK_LIMIT, Cut, CutError, POINT_LIMIT};
+use std::alloc::Global;
+use std::process::Abort;
+
+mod refusals;
+
+/// How a cut was answered: the number of its blocks and the bounds of the first and of the last, or why it was refused.
+type Answer = Result<(u32, (u32, u32), (u32, u32)), CutError>;
+
+/// How a cut was answered.
+fn ends(cut: Result<Cut, CutError>) -> Answer {
+    let cut = cut?;
+    let blocks = cut.blocks();
+    Ok((blocks, cut.block(0), cut.block(blocks - 1)))
+}
+
+/// Asserts how a cut was answered. A failure names the row.
+fn assert_cut<R: Abort>(rt: &R, cut: Result<Cut, CutError>, want: Answer, row: &[u32]) {
+    assert_eq!(rt; ends(cut), want, "{row:?}");
+}
+
+/// The cut with these bounds.
+fn from(alloc: Global, bounds: &[u32]) -> Result<Cut, CutError> {
+    let Ok(bounds) = Vec::from_slice(alloc, bounds) else {
+        return Err(CutError::Memory);
+    };
+    Cut::from_bounds(bounds)
+}
+
+/// The number of points and the size of a block, with the even cut's answer.
+const EVEN: [(u32, u32, Answer); 5] = [
+    (7, 3, Ok((3, (0, 3), (6, 7)))),
+    (5, 9, Ok((1, (0, 5), (0, 5)))),
+    (1048576, 16, Ok((65536, (0, 16), (1048560, 1048576)))),
+    (1048576, 15, Err(CutError::TooManyBlocks)),
+    (5, 0, Err(CutError::ZeroSize)),
+];
+
+#[test]
+fn even_cuts(rt: HostRuntime) {
+    for (m, size, want) in EVEN {
+        let cut = Cut::even(rt.alloc(), m.clamp(1, POINT_LIMIT), size);
+        assert_cut(&rt, cut, want, &[m, size]);
+    }
+}
+
+/// Bounds with the answer of their cut.
+const GIVEN: [(&[u32], Answer); 5] = [
+    (&[0, 2, 3], Ok((2, (0, 2), (2, 3)))),
+    (&[0, 2, 2], Err(CutError::BadBounds)),
+    (&[0], Err(CutError::BadBounds)),
+    (&[1, 5], Err(CutError::BadBounds)),
+    (&[0, POINT_LIMIT + 1], Err(CutError::BadBounds)),
+];
+
+#[test]
+fn given_bounds(rt: HostRuntime) {
+    for (bounds, want) in GIVEN {
+        assert_cut(&rt, from(rt.alloc(), bounds), want, bounds);
+    }
+}
+
+/// The cut of this many bounds, the numbers from 0 on.
+fn unit_blocks(alloc: Global, count: u32) -> Result<Cut, CutError> {
+    let mut bounds = Vec::new(alloc);
+    for number in 0..count {
+        if bounds.push(number).is_err() {
+            return Err(CutError::Memory);
+        }
+    }
+    Cut::from_bounds(bounds)
+}
+
+#[test]
+fn too_many_bounds(rt: HostRuntime) {
+    let cut = unit_blocks(rt.alloc(), BLOCK_LIMIT + 2);
+    let want = Err(CutError::TooManyBlocks);
+    assert_cut(&rt, cut, want, &[BLOCK_LIMIT + 2]);
+}

@@ -1,0 +1,129 @@
+//! Rows of eight points of a square, and of repeated points.
+use qh_fixtures::ids::{are, ids_of};
+use qh_model::{Id, Memory, POINT_LIMIT, Point, Polygon};
+use qh_plane::{Shape, distinct, distinct_alone, polygon, rank};
+use qh_pred::{Normal, cross};
+use std::alloc::Global;
+use std::process::Abort;
+use std::test::Fail;
+use std::thread::Threads;
+
+mod large_polygons;
+mod refusals;
+
+/// Asserts that the ids have these numbers.
+fn assert_ids<R: Abort>(rt: &R, ids: &[Id], numbers: &[u32]) {
+    assert!(rt; are(ids, numbers), "{ids:?} and {numbers:?}");
+}
+
+/// The corners of a square, the middles of its sides but one, and its centre.
+fn square() -> [Point; 8] {
+    [
+        Point::new(0, 0, 0),
+        Point::new(1, 0, 0),
+        Point::new(2, 0, 0),
+        Point::new(2, 1, 0),
+        Point::new(2, 2, 0),
+        Point::new(1, 1, 0),
+        Point::new(0, 2, 0),
+        Point::new(0, 1, 0),
+    ]
+}
+
+/// The numbers of all eight.
+const ALL_EIGHT: [u32; 8] = [0, 1, 2, 3, 4, 5, 6, 7];
+
+/// The distinct ids of points, by threads, if they are those that the calling thread finds alone.
+fn distinct_ids<R: Threads + Sync>(
+    rt: &R,
+    alloc: Global,
+    pts: &[Point],
+) -> Result<Option<Vec<Id>>, Memory> {
+    if pts.len() > POINT_LIMIT as usize {
+        return Ok(None);
+    }
+    let ids = distinct(rt, alloc, pts)?;
+    let alone = distinct_alone(alloc, pts)?;
+    Ok((ids.as_slice() == alone.as_slice()).then_some(ids))
+}
+
+#[test]
+fn repeated_points(rt: HostRuntime) -> Result<(), Fail> {
+    let pts = [
+        Point::new(7, 0, 0),
+        Point::new(1, 0, 0),
+        Point::new(7, 0, 0),
+        Point::new(2, 1, 0),
+        Point::new(1, 0, 0),
+        Point::new(-1, 1, 0),
+    ];
+    for (count, numbers) in [(6, [0, 1, 3, 5].as_slice()), (0, [].as_slice())] {
+        let ids = distinct_ids(&rt, rt.alloc(), &pts[..count])?.ok_or("other ids alone")?;
+        assert_ids(&rt, &ids, numbers);
+    }
+    Ok(())
+}
+
+/// The polygon of some of the points.
+fn polygon_of(
+    alloc: Global,
+    pts: &[Point],
+    numbers: &[u32],
+    normal: &Normal,
+) -> Result<Polygon, Memory> {
+    let ids = ids_of(alloc, pts, numbers)?;
+    polygon(alloc, pts, &ids, normal)
+}
+
+/// Asserts what the polygon of some of the points is, seen from the side of a normal and from the other.
+fn assert_polygons<R: AllocGlobal + Abort>(
+    rt: &R,
+    pts: &[Point],
+    numbers: &[u32],
+    normal: &Normal,
+    wanted: [&[u32]; 2],
+) -> Result<(), Fail> {
+    let above = polygon_of(rt.alloc(), pts, numbers, normal)?;
+    let below = polygon_of(rt.alloc(), pts, numbers, &normal.opposite())?;
+    assert_ids(rt, above.ids(), wanted[0]);
+    assert_ids(rt, below.ids(), wanted[1]);
+    Ok(())
+}
+
+#[test]
+fn polygons(rt: HostRuntime) -> Result<(), Fail> {
+    let pts = square();
+    let up = cross(pts[0], pts[1], pts[7]);
+    assert_polygons(&rt, &pts, &ALL_EIGHT, &up, [&[0, 2, 4, 6], &[0, 6, 4, 2]])
+}
+
+#[test]
+fn triangles(rt: HostRuntime) -> Result<(), Fail> {
+    let pts = square();
+    let up = cross(pts[0], pts[2], pts[4]);
+    assert_polygons(&rt, &pts, &[0, 2, 4], &up, [&[0, 2, 4], &[0, 4, 2]])
+}
+
+/// Asserts what the shape of some of the points is.
+fn assert_shape<R: AllocGlobal + Abort>(
+    rt: &R,
+    pts: &[Point],
+    numbers: &[u32],
+    wanted: Shape,
+) -> Result<(), Fail> {
+    let ids = ids_of(rt.alloc(), pts, numbers)?;
+    if ids.is_empty() {
+        return Err("no ids".into());
+    }
+    assert_eq!(rt; rank(pts, &ids), wanted);
+    Ok(())
+}
+
+#[test]
+fn shapes(rt: HostRuntime) -> Result<(), Fail> {
+    let pts = square();
+    let [a, b, c, d] = [0, 1, 3, 4].map(Id::new);
+    assert_shape(&rt, &pts, &ALL_EIGHT, Shape::Flat(a, b, c))?;
+    assert_shape(&rt, &pts, &[3], Shape::Point(c))?;
+    assert_shape(&rt, &pts, &[0, 4, 5], Shape::Segment(a, d))
+}

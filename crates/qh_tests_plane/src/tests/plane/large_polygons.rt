@@ -1,0 +1,71 @@
+//! A large grid in planes across each axis and in a slanted one: its inner points go before the sort.
+use qh_model::{Memory, Point, Polygon};
+use qh_plane::{distinct_alone, outer_ids, polygon};
+use qh_pred::{Normal, cross};
+use std::alloc::Global;
+use std::process::Abort;
+use std::test::Fail;
+
+/// A grid with 70 points on each side.
+type Grid = [Point; 4900];
+
+/// Grids in a plane across each axis, and in a slanted one.
+fn grids() -> [Grid; 4] {
+    let mut grids = [[Point::new(0, 0, 0); 4900]; 4];
+    for number in 0..4900usize {
+        let (x, y) = ((number % 70) as i32, (number / 70) as i32);
+        grids[0][number] = Point::new(0, x, y);
+        grids[1][number] = Point::new(y, 0, x);
+        grids[2][number] = Point::new(x, y, 0);
+        grids[3][number] = Point::new(x, y, x + y);
+    }
+    grids
+}
+
+/// The slanted grid, of which one inner point is moved to another place of the plane, outside a side.
+pub fn grid_with_point_outside() -> Grid {
+    let [_, _, _, mut grid] = grids();
+    grid[2450] = Point::new(35, -1, 34);
+    grid
+}
+
+/// The normal from whose side rows of a grid are seen one above the other.
+pub fn normal_of(grid: &Grid) -> Normal {
+    cross(grid[0], grid[69], grid[4899])
+}
+
+/// How many ids a look leaves.
+fn left_of(alloc: Global, grid: &Grid, normal: &Normal) -> Result<usize, Memory> {
+    let ids = distinct_alone(alloc, grid)?;
+    match outer_ids(alloc, grid, normal, &ids)? {
+        Some(outer) => Ok(outer.len()),
+        None => Ok(ids.len()),
+    }
+}
+
+/// The polygon of a grid.
+pub fn polygon_of(alloc: Global, grid: &Grid, normal: &Normal) -> Result<Polygon, Memory> {
+    let ids = distinct_alone(alloc, grid)?;
+    polygon(alloc, grid, &ids, normal)
+}
+
+/// Asserts that a look from a side leaves few ids of a grid.
+fn assert_few_left<R: AllocGlobal + Abort>(
+    rt: &R,
+    grid: &Grid,
+    normal: &Normal,
+) -> Result<(), Fail> {
+    let left = left_of(rt.alloc(), grid, normal)?;
+    assert!(rt; left < 1000, "{left}");
+    Ok(())
+}
+
+#[test]
+fn inner_points_go(rt: HostRuntime) -> Result<(), Fail> {
+    for grid in grids() {
+        let normal = normal_of(&grid);
+        assert_few_left(&rt, &grid, &normal)?;
+        assert_few_left(&rt, &grid, &normal.opposite())?;
+    }
+    Ok(())
+}

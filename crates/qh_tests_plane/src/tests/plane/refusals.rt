@@ -1,0 +1,108 @@
+//! Calls of which one growth is refused: what they answer is right, or memory was wanted and the same
+//! call gives it. `scripts/refusals.py` refuses each growth in turn.
+use super::large_polygons::{self, grid_with_point_outside, normal_of};
+use super::{assert_ids, polygon_of};
+use qh_fixtures::points::{cube, square};
+use qh_model::{Id, Memory, POINT_LIMIT, Point, Polygon};
+use qh_plane::distinct;
+use qh_pred::{Normal, cross};
+use std::alloc::Global;
+use std::process::Abort;
+use std::test::Fail;
+use std::thread::Threads;
+
+/// A side of an octahedron with the middles of its edges, one of them twice.
+fn side() -> [Point; 7] {
+    [
+        Point::new(2, 0, 0),
+        Point::new(1, 1, 0),
+        Point::new(0, 2, 0),
+        Point::new(0, 0, 2),
+        Point::new(1, 1, 0),
+        Point::new(1, 0, 1),
+        Point::new(0, 1, 1),
+    ]
+}
+
+/// The distinct ids, asked for again where memory was refused; none of points that are too many.
+fn distinct_again<R: Threads + Sync>(
+    rt: &R,
+    alloc: Global,
+    pts: &[Point],
+) -> Result<Option<Vec<Id>>, Memory> {
+    if pts.len() > POINT_LIMIT as usize {
+        return Ok(None);
+    }
+    match distinct(rt, alloc, pts) {
+        Err(Memory) => Ok(Some(distinct(rt, alloc, pts)?)),
+        Ok(ids) => Ok(Some(ids)),
+    }
+}
+
+/// The polygon of some of the points, asked for again where memory was refused.
+fn polygon_again(
+    alloc: Global,
+    pts: &[Point],
+    numbers: &[u32],
+    normal: &Normal,
+) -> Result<Polygon, Memory> {
+    match polygon_of(alloc, pts, numbers, normal) {
+        Err(Memory) => polygon_of(alloc, pts, numbers, normal),
+        polygon => polygon,
+    }
+}
+
+/// Asserts which ids are distinct, asked for again where memory was refused.
+fn assert_distinct<R: AllocGlobal + Abort + Threads + Sync>(
+    rt: &R,
+    pts: &[Point],
+    wanted: &[u32],
+) -> Result<(), Fail> {
+    let ids = distinct_again(rt, rt.alloc(), pts)?.ok_or("too many points")?;
+    assert_ids(rt, &ids, wanted);
+    Ok(())
+}
+
+#[test]
+fn tries_again_for_distinct_ids(rt: HostRuntime) -> Result<(), Fail> {
+    assert_distinct(&rt, &square(), &[0, 1, 2, 3, 4])?;
+    assert_distinct(&rt, &cube(0, 1), &[0, 1, 2, 3, 4, 5, 6, 7])?;
+    assert_distinct(&rt, &side(), &[0, 1, 2, 3, 5, 6])
+}
+
+/// Asserts what the polygon of some of the points is, asked for again where memory was refused.
+fn assert_polygon<R: AllocGlobal + Abort>(
+    rt: &R,
+    pts: &[Point],
+    numbers: &[u32],
+    normal: &Normal,
+    wanted: &[u32],
+) -> Result<(), Fail> {
+    let corners = polygon_again(rt.alloc(), pts, numbers, normal)?;
+    assert_ids(rt, corners.ids(), wanted);
+    Ok(())
+}
+
+#[test]
+fn tries_again_for_polygons(rt: HostRuntime) -> Result<(), Fail> {
+    let (square, cube, side) = (square(), cube(0, 1), side());
+    let up = cross(square[0], square[1], square[2]);
+    let left = cross(cube[0], cube[1], cube[2]);
+    let outward = cross(side[0], side[2], side[3]);
+    assert_polygon(&rt, &square, &[0, 1, 2, 3, 4], &up, &[0, 1, 2, 3])?;
+    assert_polygon(&rt, &cube, &[0, 1, 2, 3], &left, &[0, 1, 3, 2])?;
+    assert_polygon(&rt, &side, &[0, 1, 2, 3, 5, 6], &outward, &[0, 2, 3])?;
+    assert_polygon(&rt, &side, &[0, 2, 3], &outward, &[0, 2, 3])
+}
+
+#[test]
+fn tries_again_for_a_large_polygon(rt: HostRuntime) -> Result<(), Fail> {
+    let grid = grid_with_point_outside();
+    let normal = normal_of(&grid);
+    let corners = match large_polygons::polygon_of(rt.alloc(), &grid, &normal) {
+        Err(Memory) => large_polygons::polygon_of(rt.alloc(), &grid, &normal)?,
+        Ok(corners) => corners,
+    };
+    assert_ids(&rt, corners.ids(), &[0, 2450, 69, 4899, 4830]);
+    Ok(())
+}

@@ -1,0 +1,80 @@
+//! Volumes of the unit corner, of the cube at the limit, and of a tetrahedron whose volume 64 bits lose; turns across two
+//! axes. What each predicate is equal to, for all points, stands in its contract.
+ghost use Rattle.qh_model.specs.headline.Limits.{IsCoordinate};
+
+use qh_model::{COORDINATE_LIMIT, Point};
+use qh_pred::{cross, left, vol};
+use std::cmp::Ordering;
+
+const LIMIT: i32 = COORDINATE_LIMIT as i32;
+
+/// The corner of the cube at a limit that is below on all axes, and its neighbours along x, y and z.
+fn cube_corner(limit: i32) -> [Point; 4]
+    requires { IsCoordinate limit }
+{
+    [
+        Point::new(-limit, -limit, -limit),
+        Point::new(limit, -limit, -limit),
+        Point::new(-limit, limit, -limit),
+        Point::new(-limit, -limit, limit),
+    ]
+}
+
+/// Four corners of the cube at a limit, no two of them neighbours. Their volume is a power of two.
+fn wrapping_tetrahedron(limit: i32) -> [Point; 4]
+    requires { IsCoordinate limit }
+{
+    [
+        Point::new(-limit, -limit, -limit),
+        Point::new(limit, limit, -limit),
+        Point::new(limit, -limit, limit),
+        Point::new(-limit, limit, limit),
+    ]
+}
+
+/// The corner of the unit cube: the origin, and its neighbours along x, y and z.
+fn unit_corner() -> [Point; 4] {
+    [
+        Point::new(0, 0, 0),
+        Point::new(1, 0, 0),
+        Point::new(0, 1, 0),
+        Point::new(0, 0, 1),
+    ]
+}
+
+/// The volume of four points.
+fn volume([a, b, c, d]: [Point; 4]) -> i128 {
+    vol(a, b, c, d)
+}
+
+/// Limits with the volumes at them of the cube and of the tetrahedron.
+const VOLUMES: [(i32, i128, i128); 2] = [
+    (1048576, 9223372036854775808, -18446744073709551616),
+    (
+        LIMIT,
+        9903520314283042199192993792,
+        -19807040628566084398385987584,
+    ),
+];
+
+#[test]
+fn volumes(rt: HostRuntime) {
+    assert_eq!(rt; volume(unit_corner()), 1i128);
+    for (limit, cube, wrapping) in VOLUMES {
+        let limit = limit.clamp(0, LIMIT);
+        let found = (
+            volume(cube_corner(limit)),
+            volume(wrapping_tetrahedron(limit)),
+        );
+        assert_eq!(rt; found, (cube, wrapping), "at {limit}");
+    }
+}
+
+#[test]
+fn turns(rt: HostRuntime) {
+    let [o, x, y, z] = unit_corner();
+    let down = cross(o, x, y).opposite();
+    let across = cross(o, x, z);
+    let found = (left(&down, o, x, y), left(&across, o, x, z));
+    assert_eq!(rt; found, (Ordering::Less, Ordering::Greater));
+}

@@ -1,0 +1,4 @@
+//! The tests of each library.
+
+mod hull;
+mod run;

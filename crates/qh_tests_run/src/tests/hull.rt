@@ -1,0 +1,37 @@
+//! Rows of points and their hulls, from the list of a cube in Geomview's OFF.
+use qh_fixtures::points::doubled_cube;
+use qh_hull::hull_alone;
+use qh_model::{Hull, Memory, POINT_LIMIT, Point};
+use std::alloc::Global;
+use std::test::Fail;
+
+mod large_sets;
+
+/// What a hull says: how many points there are, distinct points, the dimension, edges, extreme ids and faces.
+fn counts_of(hull: &Hull) -> (u32, u32, u8, u64, usize, usize) {
+    let body = &hull.body;
+    (
+        hull.given,
+        hull.distinct,
+        body.dim,
+        body.edges,
+        body.extremes.len(),
+        body.polygons.len(),
+    )
+}
+
+/// The hull of these points, which are some, and not too many.
+fn hull_of(alloc: Global, points: &[Point]) -> Result<Hull, Memory> {
+    if points.is_empty() || points.len() > POINT_LIMIT as usize {
+        return Err(Memory);
+    }
+    hull_alone(alloc, points)
+}
+
+#[test]
+fn cube_with_each_corner_twice(rt: HostRuntime) -> Result<(), Fail> {
+    let points = doubled_cube(rt.alloc())?;
+    let hull = hull_of(rt.alloc(), &points)?;
+    assert_eq!(rt; counts_of(&hull), (16, 8, 3, 12, 8, 6));
+    Ok(())
+}

@@ -1,0 +1,269 @@
+//! Rows of points and their hulls, by several cuts and numbers of workers.
+ghost use Rattle.std.specs.Prelude.{◌≡◌, IfOk};
+ghost use Rattle.qh_board.specs.contract.Closings.{closed_setup};
+ghost use Rattle.qh_model.specs.headline.DistinctIds.{AreDistinctIds};
+
+use qh_board::{Board, BoardError, Closed, Mark};
+use qh_fixtures::points::{doubled_cube, octahedron};
+use qh_model::{Cut, CutError, Hull, Id, POINT_LIMIT, Point};
+use qh_plane::distinct;
+use qh_run::{Job, NoGate, RunError, run_hull, work};
+use std::alloc::{AllocError, Global};
+use std::process::Abort;
+use std::test::Fail;
+use std::thread::Threads;
+
+mod finishes;
+mod refusals;
+
+/// What the hull of the octahedron says, as `numbers_of` has it.
+const OCTAHEDRON_HULL: [usize; 43] = [
+    18, 18, 3, 12, 6, 0, 2, 3, 5, 6, 9, 3, 0, 2, 6, 3, 0, 5, 9, 3, 0, 6, 5, 3, 0, 9, 2, 3, 2, 3, 6,
+    3, 2, 9, 3, 3, 3, 5, 6, 3, 3, 9, 5,
+];
+
+/// The points (x, y, x² + y²) for x below 64 and y below 32: all are extreme.
+fn paraboloid(alloc: Global) -> Result<Vec<Point>, AllocError> {
+    let mut points = Vec::new(alloc);
+    for number in 0..2048u32 {
+        let (x, y) = (number / 32, number % 32);
+        let height = x * x + y * y;
+        points.push(Point::new(x as i32, y as i32, height as i32))?;
+    }
+    Ok(points)
+}
+
+/// The points (x, y, z) for x and y below 16 and z below 8: 8 are extreme.
+fn lattice(alloc: Global) -> Result<Vec<Point>, AllocError> {
+    let mut points = Vec::new(alloc);
+    for number in 0..2048u32 {
+        let (x, y, z) = (number / 128, number / 8 % 16, number % 8);
+        points.push(Point::new(x as i32, y as i32, z as i32))?;
+    }
+    Ok(points)
+}
+
+/// What the hull of the corners of a cube, each given twice, says.
+const CUBE_HULL: [usize; 43] = [
+    16, 8, 3, 12, 8, 0, 2, 4, 6, 8, 10, 12, 14, 4, 0, 2, 6, 4, 4, 0, 4, 12, 8, 4, 0, 8, 10, 2, 4,
+    2, 10, 14, 6, 4, 4, 6, 14, 12, 4, 8, 12, 14, 10,
+];
+
+/// Cuts of so many positions, of which there are more than 6: even ones, the last of which may have
+/// one block, and an uneven one.
+fn cuts_of(alloc: Global, count: u32) -> Result<Vec<Cut>, CutError> {
+    if count <= 6 || count > POINT_LIMIT {
+        return Err(CutError::BadBounds);
+    }
+    let mut cuts = Vec::new(alloc);
+    for size in [1, 3, 4, 18] {
+        cuts.push(Cut::even(alloc, count, size)?)
+            .map_err(|_| CutError::Memory)?;
+    }
+    let bounds = Vec::from_slice(alloc, &[0, 1, 6, count]).map_err(|_| CutError::Memory)?;
+    cuts.push(Cut::from_bounds(bounds)?)
+        .map_err(|_| CutError::Memory)?;
+    Ok(cuts)
+}
+
+/// The hull of a list of points by a cut of its distinct ids; none where the cut is of another number
+/// of positions.
+fn hull_by<R: Threads + Sync>(
+    rt: &R,
+    alloc: Global,
+    points: &[Point],
+    cut: &Cut,
+    workers: u32,
+) -> Result<Option<Hull>, RunError> {
+    if points.len() > POINT_LIMIT as usize {
+        return Ok(None);
+    }
+    let ids = distinct(rt, alloc, points)?;
+    let (_, end) = cut.block(cut.blocks() - 1);
+    if end as usize != ids.len() {
+        return Ok(None);
+    }
+    Ok(Some(run_hull(rt, alloc, points, &ids, cut, workers, &NoGate)?))
+}
+
+/// The number of ids, and the ids.
+fn push_ids(numbers: &mut Vec<usize>, ids: &[Id]) -> Result<(), AllocError> {
+    numbers.push(ids.len())?;
+    for id in ids {
+        numbers.push(id.index())?;
+    }
+    Ok(())
+}
+
+/// What a hull says, as numbers: how many points and distinct points there are, the dimension, how
+/// many edges, then the extreme ids and the ids of each face, each list after its length.
+fn numbers_of(alloc: Global, hull: &Hull) -> Result<Vec<usize>, AllocError> {
+    let mut numbers = Vec::new(alloc);
+    numbers.push(hull.given as usize)?;
+    numbers.push(hull.distinct as usize)?;
+    numbers.push(hull.body.dim as usize)?;
+    numbers.push(hull.body.edges as usize)?;
+    push_ids(&mut numbers, &hull.body.extremes)?;
+    for polygon in &hull.body.polygons {
+        push_ids(&mut numbers, polygon.ids())?;
+    }
+    Ok(numbers)
+}
+
+/// The board of a job whose one pass was worked to its end.
+fn worked_by_one<'a>(alloc: Global, job: Job<'a>) -> Result<Closed<Job<'a>>, BoardError>
+    ensures { IfOk result (λ c. (closed_setup c).passes ≡ 1) }
+{
+    let blocks = job.cut.blocks();
+    let (board, mut passes) = Board::new(alloc, job, blocks, 1)?;
+    let mut lefts = Vec::with_capacity(alloc, 1)?;
+    if let Some(pass) = passes.pop() {
+        lefts.push_reserved(work(alloc, &board, pass, &NoGate));
+    }
+    Ok(board.close(lefts))
+}
+
+/// The points, their distinct ids and a cut of them as a job; none where the cut is of another number
+/// of positions.
+fn job<'a>(pts: &'a [Point], ids: &'a [Id], cut: &'a Cut) -> Option<Job<'a>>
+    requires { AreDistinctIds pts.now ids.now }
+{
+    let (_, end) = cut.block(cut.blocks() - 1);
+    if end as usize != ids.len() {
+        return None;
+    }
+    Some(Job { pts, ids, cut })
+}
+
+/// What one pass finds of all blocks: the number of claims, the mark, and the ids at the root.
+fn reduced_by_one<'a>(alloc: Global, job: Job<'a>) -> Result<(u64, Mark, Vec<usize>), Fail> {
+    let closed = worked_by_one(alloc, job)?;
+    let (claims, mark) = (closed.claims(), closed.mark(0));
+    let root = closed.into_root().ok_or("no root")?;
+    let mut numbers = Vec::new(alloc);
+    push_ids(&mut numbers, &root.ids)?;
+    Ok((claims, mark, numbers))
+}
+
+#[test]
+fn one_pass_reduces_all_blocks(rt: HostRuntime) -> Result<(), Fail> {
+    let points = octahedron();
+    let ids = distinct(&rt, rt.alloc(), &points)?;
+    let cut = Cut::even(rt.alloc(), 18, 3)?;
+    let job = job(&points, &ids, &cut).ok_or("another cut")?;
+    let (claims, mark, root) = reduced_by_one(rt.alloc(), job)?;
+    let want = (7, Mark::Left, [6, 0, 2, 3, 5, 6, 9].as_slice());
+    assert_eq!(rt; (claims, mark, root.as_slice()), want);
+    Ok(())
+}
+
+/// How one pass ends on 2,048 points in blocks of a size: the number of claims, and the mark.
+fn end_of<R: Threads + Sync>(
+    rt: &R,
+    alloc: Global,
+    points: &[Point],
+    size: u32,
+) -> Result<Option<(u64, Mark)>, BoardError> {
+    if points.len() > POINT_LIMIT as usize {
+        return Ok(None);
+    }
+    let ids = distinct(rt, alloc, points).map_err(|_| BoardError::Memory)?;
+    let Ok(cut) = Cut::even(alloc, 2048, size) else {
+        return Ok(None);
+    };
+    let Some(job) = job(points, &ids, &cut) else {
+        return Ok(None);
+    };
+    let closed = worked_by_one(alloc, job)?;
+    Ok(Some((closed.claims(), closed.mark(0))))
+}
+
+/// Asserts how one pass ends on 2,048 points in blocks of each size.
+fn assert_ends<R: AllocGlobal + Abort + Threads + Sync>(
+    rt: &R,
+    points: &[Point],
+    rows: &[(u32, u64, Mark)],
+) -> Result<(), Fail> {
+    for (size, claims, mark) in rows {
+        let end = end_of(rt, rt.alloc(), points, *size)?;
+        assert_eq!(rt; end, Some((*claims, *mark)), "blocks of {size}");
+    }
+    Ok(())
+}
+
+/// Blocks that tell by their first ids, one that tells by all of its own, then blocks that tell by the
+/// first two joined, and by the first four.
+const PARABOLOID_ENDS: [(u32, u64, Mark); 4] = [
+    (2048, 1, Mark::GaveUp),
+    (1024, 1, Mark::GaveUp),
+    (512, 2, Mark::GaveUp),
+    (256, 4, Mark::GaveUp),
+];
+
+/// One block is worked at like any other.
+const LATTICE_ENDS: [(u32, u64, Mark); 3] = [
+    (2048, 2, Mark::Left),
+    (1024, 3, Mark::Left),
+    (512, 5, Mark::Left),
+];
+
+#[test]
+fn gives_up_where_the_tree_does_not_pay(rt: HostRuntime) -> Result<(), Fail> {
+    assert_ends(&rt, &paraboloid(rt.alloc())?, &PARABOLOID_ENDS)?;
+    assert_ends(&rt, &lattice(rt.alloc())?, &LATTICE_ENDS)
+}
+
+/// Asserts what the hull of a list of points by a cut says, whatever the number of workers.
+fn assert_hull<R: AllocGlobal + Abort + Threads + Sync>(
+    rt: &R,
+    points: &[Point],
+    cut: &Cut,
+    want: &[usize],
+) -> Result<(), Fail> {
+    for workers in [1, 2, 7, 64] {
+        let hull = hull_by(rt, rt.alloc(), points, cut, workers)?.ok_or("another cut")?;
+        let numbers = numbers_of(rt.alloc(), &hull)?;
+        assert_eq!(rt; numbers.as_slice(), want, "{workers} workers, {cut:?}");
+    }
+    Ok(())
+}
+
+#[test]
+fn has_one_hull_of_an_octahedron(rt: HostRuntime) -> Result<(), Fail> {
+    let points = octahedron();
+    for cut in &cuts_of(rt.alloc(), 18)? {
+        assert_hull(&rt, &points, cut, &OCTAHEDRON_HULL)?;
+    }
+    Ok(())
+}
+
+#[test]
+fn has_one_hull_of_a_doubled_cube(rt: HostRuntime) -> Result<(), Fail> {
+    let points = doubled_cube(rt.alloc())?;
+    for cut in &cuts_of(rt.alloc(), 8)? {
+        assert_hull(&rt, &points, cut, &CUBE_HULL)?;
+    }
+    Ok(())
+}
+
+/// Asserts that numbers of workers that are out of range are refused.
+fn assert_refused<R: AllocGlobal + Abort + Threads + Sync>(
+    rt: &R,
+    points: &[Point],
+    cut: &Cut,
+) -> Result<(), Fail> {
+    for workers in [0, 65, 4294967295] {
+        let refused = hull_by(rt, rt.alloc(), points, cut, workers).err();
+        assert_eq!(rt; refused, Some(RunError::BadWorkers), "{workers} workers");
+    }
+    Ok(())
+}
+
+#[test]
+fn refuses_no_workers_and_too_many(rt: HostRuntime) -> Result<(), Fail> {
+    let points = octahedron();
+    for cut in &cuts_of(rt.alloc(), 18)? {
+        assert_refused(&rt, &points, cut)?;
+    }
+    Ok(())
+}

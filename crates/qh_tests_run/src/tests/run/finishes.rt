@@ -1,0 +1,36 @@
+//! A gate that counts the hulls that it takes.
+use qh_model::{Body, Id, Memory, Point};
+use qh_run::{Gate, NoGate};
+use std::alloc::Global;
+use std::sync::atomic::{AtomicU64, Ordering};
+
+/// A gate that counts the calls of its `finish`.
+#[derive(Drop)]
+pub struct Finishes {
+    calls: AtomicU64,
+}
+
+impl Finishes {
+    /// A gate that was not called yet.
+    pub fn new() -> Finishes {
+        Finishes {
+            calls: AtomicU64::new(0),
+        }
+    }
+
+    /// The number of calls of `finish`.
+    pub fn calls(&self) -> u64 {
+        self.calls.load(Ordering::SeqCst)
+    }
+}
+
+impl Gate for Finishes {
+    fn claimed(&self, _pass: u32, _block: u32) {}
+
+    fn delivered(&self, _pass: u32, _block: u32) {}
+
+    fn finish(&self, alloc: Global, pts: &[Point], ids: &[Id]) -> Result<Body, Memory> {
+        self.calls.fetch_add(1, Ordering::SeqCst);
+        NoGate.finish(alloc, pts, ids)
+    }
+}

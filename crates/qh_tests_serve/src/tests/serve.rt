@@ -1,0 +1,98 @@
+//! The worked rows: what settings and an input answer, by `answer` and by `serve`.
+
+mod devices;
+mod fans;
+mod faults;
+mod hostile;
+mod limits;
+mod near_flat_sets;
+mod off_files;
+mod ranks;
+mod refusals;
+mod rows;
+mod solids;
+
+use qh_outcomes::{Asked, Told, answered_by, served_by};
+use qh_run::NoGate;
+use std::process::Abort;
+use std::test::Fail;
+use std::thread::Threads;
+
+/// How an input begins, for messages.
+fn beginning(input: &[u8]) -> &str {
+    str::from_utf8(&input[..input.len().min(200)]).unwrap_or("no text")
+}
+
+/// Asserts what `answer` gives for an input under settings.
+fn assert_answered<R: AllocGlobal + Abort + Threads + Sync>(
+    rt: &R,
+    asked: Asked,
+    input: &[u8],
+    want: Told,
+) -> Result<(), Fail> {
+    let settings = asked.settings(rt.alloc())?;
+    let answered = answered_by(rt, rt.alloc(), input, &settings, &NoGate)?;
+    let begins = beginning(input);
+    assert_eq!(rt; answered.told(), want, "answer at {asked:?}: {begins:?}");
+    Ok(())
+}
+
+/// Asserts what `serve` gives for an input under settings.
+fn assert_served<R: AllocGlobal + Abort + Threads + Sync>(
+    rt: &R,
+    asked: Asked,
+    input: &[u8],
+    want: Told,
+) -> Result<(), Fail> {
+    let settings = asked.settings(rt.alloc())?;
+    let served = served_by(rt, rt.alloc(), input, &settings, &NoGate)?;
+    let begins = beginning(input);
+    assert_eq!(rt; served.told(), want, "serve at {asked:?}: {begins:?}");
+    Ok(())
+}
+
+/// Asserts what `answer` and `serve` give for an input under settings.
+fn assert_gives<R: AllocGlobal + Abort + Threads + Sync>(
+    rt: &R,
+    asked: Asked,
+    input: &[u8],
+    want: Told,
+) -> Result<(), Fail> {
+    assert_answered(rt, asked, input, want)?;
+    assert_served(rt, asked, input, want)
+}
+
+/// Asserts the text of each row: settings, an input and what it answers.
+fn assert_rows<R: AllocGlobal + Abort + Threads + Sync>(
+    rt: &R,
+    rows: &[(Asked, &str, &str)],
+) -> Result<(), Fail> {
+    for (asked, input, text) in rows {
+        assert_gives(rt, *asked, input.as_bytes(), (text, "", 0))?;
+    }
+    Ok(())
+}
+
+/// Asserts the text of each row under settings: an input and what it answers.
+fn assert_texts<R: AllocGlobal + Abort + Threads + Sync>(
+    rt: &R,
+    asked: Asked,
+    rows: &[(&str, &str)],
+) -> Result<(), Fail> {
+    for (input, text) in rows {
+        assert_gives(rt, asked, input.as_bytes(), (text, "", 0))?;
+    }
+    Ok(())
+}
+
+/// Asserts that each row is refused with status 1 under settings: an input and its fault line.
+fn assert_faults<R: AllocGlobal + Abort + Threads + Sync>(
+    rt: &R,
+    asked: Asked,
+    rows: &[(&str, &str)],
+) -> Result<(), Fail> {
+    for (input, fault) in rows {
+        assert_gives(rt, asked, input.as_bytes(), ("", fault, 1))?;
+    }
+    Ok(())
+}

@@ -1,0 +1,127 @@
+//! Devices that fail: of each the call that failed is its last, and what stands on the output is a
+//! beginning of the text.
+ghost use Rattle.std.specs.Prelude.{◌<◌};
+
+use qh_fixtures::files::{CUBE, CUBE_OFF, ONE_POINT, TETRAHEDRON, TETRAHEDRON_OFF};
+use qh_outcomes::OFF;
+use qh_read::fakes::FailSource;
+use qh_read::{MemSource, ReadFault, Source};
+use qh_run::NoGate;
+use qh_serve::{Fault, serve};
+use qh_write::fakes::{FailSink, SinkPlan};
+use qh_write::{MemSink, Sink};
+use std::process::Abort;
+use std::test::Fail;
+use std::thread::Threads;
+
+/// A plan that never fails.
+const FREE: SinkPlan = SinkPlan {
+    greatest_piece: 100,
+    room: 100,
+    failing_write: None,
+    flush_fails: false,
+};
+
+/// What `serve` did: its outcome, what went out, and how often the source and the sink failed.
+type Served<'a> = (Result<(), Fault>, &'a [u8], u64, u64);
+
+/// Asserts what `off` of an input does under a plan of the source, to a sink that takes all.
+fn assert_read<R: AllocGlobal + Abort + Threads + Sync>(
+    rt: &R,
+    input: &[u8],
+    piece: usize,
+    failing_read: u64,
+    want: Served,
+) -> Result<(), Fail>
+    requires { 0 < piece }
+{
+    let settings = OFF.settings(rt.alloc())?;
+    let mut source = FailSource::new(input, piece, Some(failing_read));
+    let mut sink = MemSink::new(rt.alloc());
+    let outcome = serve(rt, rt.alloc(), &mut source, &mut sink, &settings, &NoGate);
+    let served = (outcome, sink.bytes(), source.failures(), sink.failures());
+    assert_eq!(rt; served, want, "at read {failing_read}");
+    Ok(())
+}
+
+/// Asserts what `off` of an input does under a plan of the sink.
+fn assert_written<R: AllocGlobal + Abort + Threads + Sync>(
+    rt: &R,
+    input: &[u8],
+    plan: SinkPlan,
+    want: Served,
+) -> Result<(), Fail> {
+    let settings = OFF.settings(rt.alloc())?;
+    let mut source = MemSource::new(input);
+    let mut sink = FailSink::new(rt.alloc(), plan);
+    let outcome = serve(rt, rt.alloc(), &mut source, &mut sink, &settings, &NoGate);
+    let served = (outcome, sink.bytes(), source.failures(), sink.failures());
+    assert_eq!(rt; served, want, "{plan:?}");
+    Ok(())
+}
+
+/// What `serve` does where the source fails.
+const UNREAD: Served<'static> = (Err(Fault::Read(ReadFault::Device)), &[], 1, 0);
+
+#[test]
+fn a_failing_source_sends_nothing(rt: HostRuntime) -> Result<(), Fail> {
+    // One byte a read: each of the 52 bytes and the end.
+    for k in 1..54u64 {
+        assert_read(&rt, CUBE.as_bytes(), 1, k, UNREAD)?;
+    }
+    assert_read(
+        &rt,
+        CUBE.as_bytes(),
+        1,
+        54,
+        (Ok(()), CUBE_OFF.as_bytes(), 0, 0),
+    )?;
+    // The first read gives 4 bytes, the second fails.
+    assert_read(&rt, TETRAHEDRON.as_bytes(), 4, 2, UNREAD)
+}
+
+#[test]
+fn a_failing_sink_has_a_beginning(rt: HostRuntime) -> Result<(), Fail> {
+    let text = TETRAHEDRON_OFF.as_bytes();
+    assert_eq!(rt; text.len(), 66);
+    for k in 1..67usize {
+        let plan = SinkPlan {
+            greatest_piece: 1,
+            failing_write: Some(k as u64),
+            ..FREE
+        };
+        let want = (Err(Fault::Send), &text[..k - 1], 0, 1);
+        assert_written(&rt, TETRAHEDRON.as_bytes(), plan, want)?;
+    }
+    Ok(())
+}
+
+#[test]
+fn the_worked_failures(rt: HostRuntime) -> Result<(), Fail> {
+    // An input, a plan of the sink, and what goes out before it fails.
+    let rows = [
+        (ONE_POINT, SinkPlan { room: 7, ..FREE }, "OFF\n1 1"),
+        (
+            ONE_POINT,
+            SinkPlan {
+                flush_fails: true,
+                ..FREE
+            },
+            "OFF\n1 1 0\n5 5 5\n1 0\n",
+        ),
+        (
+            TETRAHEDRON,
+            SinkPlan {
+                greatest_piece: 1,
+                flush_fails: true,
+                ..FREE
+            },
+            TETRAHEDRON_OFF,
+        ),
+    ];
+    for (input, plan, sent) in rows {
+        let want = (Err(Fault::Send), sent.as_bytes(), 0, 1);
+        assert_written(&rt, input.as_bytes(), plan, want)?;
+    }
+    Ok(())
+}

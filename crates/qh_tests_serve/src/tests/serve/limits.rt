@@ -1,0 +1,33 @@
+//! Inputs of as many bytes as there may be, and of one more.
+use super::assert_answered;
+use qh_fixtures::files::ONE_POINT;
+use qh_outcomes::RANK;
+use std::alloc::{AllocError, Global};
+use std::test::Fail;
+
+/// One byte more than an input may have.
+const TOO_MANY: usize = 268435457;
+
+/// A text, then blanks up to one byte more than an input may have.
+fn too_long(alloc: Global, text: &[u8]) -> Result<Vec<u8>, AllocError> {
+    let mut bytes = Vec::from_elem(alloc, b' ', TOO_MANY)?;
+    for (byte, of_text) in bytes.iter_mut().zip(text) {
+        *byte = *of_text;
+    }
+    Ok(bytes)
+}
+
+#[test]
+fn takes_just_as_many_bytes_as_there_may_be(rt: HostRuntime) -> Result<(), Fail> {
+    let alloc = rt.alloc();
+    let mut bytes = too_long(alloc, ONE_POINT.as_bytes())?;
+    assert_answered(&rt, RANK, &bytes, ("", "qconvex: 10: Big", 1))?;
+    let _blank = bytes.pop();
+    assert_answered(&rt, RANK, &bytes, ("1 1 0\n", "", 0))
+}
+
+#[test]
+fn is_too_big_before_all_other_faults(rt: HostRuntime) -> Result<(), Fail> {
+    let bytes = too_long(rt.alloc(), b"3\n1\n0.5\n")?;
+    assert_answered(&rt, RANK, &bytes, ("", "qconvex: 10: Big", 1))
+}

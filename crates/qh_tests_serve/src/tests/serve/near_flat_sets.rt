@@ -1,0 +1,122 @@
+//! Sets with corners one lattice step over a face, on which floating point loses corners: at coordinates up to 2^20,
+//! and with the same faces at coordinates up to 2^30. Their numbers of corners and facets are those that programs of
+//! exact arithmetic find.
+use super::assert_answered;
+use qh_outcomes::{Asked, SUMMARY, push_point};
+use std::alloc::{AllocError, Global};
+use std::process::Abort;
+use std::test::Fail;
+use std::thread::Threads;
+
+/// The combination i u + j v + k w of three edges of a lattice cell of volume 1 and of sides about m.
+fn combined(m: i64, i: i64, j: i64, k: i64) -> [i64; 3] {
+    let by = |a: i64, b: i64| a.wrapping_mul(b);
+    let less = m.wrapping_sub(1);
+    [
+        by(i, m).wrapping_add(k),
+        by(i, less).wrapping_add(by(j, m)).wrapping_add(by(2, k)),
+        by(j, less).wrapping_add(k),
+    ]
+}
+
+/// Two triangles that meet in a roof one step high, and its foot.
+fn roof(alloc: Global, m: i64) -> Result<String, AllocError> {
+    let mut text = String::from_str(alloc, "3\n5\n")?;
+    for (i, j, k) in [(0, 0, 0), (3, 0, 0), (0, 3, 0), (1, 1, 1)] {
+        push_point(&mut text, alloc, combined(m, i, j, k))?;
+    }
+    push_point(&mut text, alloc, [0, m.wrapping_mul(3), 0])?;
+    Ok(text)
+}
+
+/// A bowl of 121 points on a paraboloid over a wide lattice, and a point far above.
+fn bowl(alloc: Global, m: i64) -> Result<String, AllocError> {
+    let mut text = String::from_str(alloc, "3\n122\n")?;
+    for i in -5..=5i64 {
+        for j in -5..=5i64 {
+            let rise = i.wrapping_mul(i).wrapping_add(j.wrapping_mul(j));
+            push_point(&mut text, alloc, combined(m, i, j, rise))?;
+        }
+    }
+    let far = m.wrapping_mul(5);
+    push_point(&mut text, alloc, [far, far.wrapping_neg(), far])?;
+    Ok(text)
+}
+
+/// The scalar product of a row of a matrix and three coordinates, times a factor.
+fn row_product(row: [i64; 3], p: [i64; 3], factor: i64) -> i64 {
+    let [a, b, c] = row;
+    let [x, y, z] = p;
+    let sum = a.wrapping_mul(x).wrapping_add(b.wrapping_mul(y));
+    sum.wrapping_add(c.wrapping_mul(z)).wrapping_mul(factor)
+}
+
+/// The lattice points of a ball of radius 3 under a matrix of determinant 1, times a factor.
+fn basis(alloc: Global, factor: i64) -> Result<String, AllocError> {
+    let mut text = String::from_str(alloc, "3\n123\n")?;
+    for x in -3..=3i64 {
+        for y in -3..=3i64 {
+            for z in -3..=3i64 {
+                if row_product([x, y, z], [x, y, z], 1) <= 9 {
+                    let image = [
+                        row_product([1, 166, 147], [x, y, z], factor),
+                        row_product([-176, -29215, -26084], [x, y, z], factor),
+                        row_product([47, 7991, -33158], [x, y, z], factor),
+                    ];
+                    push_point(&mut text, alloc, image)?;
+                }
+            }
+        }
+    }
+    Ok(text)
+}
+
+const ROOF: &str =
+    "Convex hull of 5 points in 3-d:\n  dimension: 3\n  distinct points: 5\n  extreme points: 5\n  facets: 6\n  edges: 9\n";
+
+const BOWL: &str =
+    "Convex hull of 122 points in 3-d:\n  dimension: 3\n  distinct points: 122\n  extreme points: 122\n  facets: 124\n  edges: 244\n";
+
+const BASIS: &str =
+    "Convex hull of 123 points in 3-d:\n  dimension: 3\n  distinct points: 123\n  extreme points: 30\n  facets: 56\n  edges: 84\n";
+
+/// Asserts the summary of a set.
+fn assert_summary<R: AllocGlobal + Abort + Threads + Sync>(
+    rt: &R,
+    text: &str,
+    summary: &str,
+) -> Result<(), Fail> {
+    let small_blocks = Asked {
+        workers: 3,
+        block: 5,
+        ..SUMMARY
+    };
+    for asked in [SUMMARY, small_blocks] {
+        assert_answered(rt, asked, text.as_bytes(), (summary, "", 0))?;
+    }
+    Ok(())
+}
+
+#[test]
+fn keeps_all_corners_of_a_roof(rt: HostRuntime) -> Result<(), Fail> {
+    for size in [300_000, 357_913_941] {
+        assert_summary(&rt, roof(rt.alloc(), size)?.as_str(), ROOF)?;
+    }
+    Ok(())
+}
+
+#[test]
+fn keeps_all_corners_of_a_bowl(rt: HostRuntime) -> Result<(), Fail> {
+    for size in [100_000, 107_374_172] {
+        assert_summary(&rt, bowl(rt.alloc(), size)?.as_str(), BOWL)?;
+    }
+    Ok(())
+}
+
+#[test]
+fn keeps_all_corners_of_a_basis(rt: HostRuntime) -> Result<(), Fail> {
+    for factor in [1, 9_693] {
+        assert_summary(&rt, basis(rt.alloc(), factor)?.as_str(), BASIS)?;
+    }
+    Ok(())
+}

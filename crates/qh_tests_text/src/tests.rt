@@ -1,0 +1,4 @@
+//! The tests of each library.
+
+mod read;
+mod write;

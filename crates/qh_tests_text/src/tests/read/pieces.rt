@@ -1,0 +1,98 @@
+//! The same bytes in pieces.
+use super::{
+    TETRAHEDRON, Way, assert_fault, assert_full, assert_points, feed_times, read_cut,
+    read_in_pieces,
+};
+use qh_fixtures::files::COMMENTED_TETRAHEDRON;
+use qh_model::Form;
+use qh_read::{FeedFault, ReadFault, Reader};
+use std::alloc::{AllocError, Global};
+use std::test::Fail;
+
+#[test]
+fn cuts_change_nothing(rt: HostRuntime) {
+    let bytes = COMMENTED_TETRAHEDRON.as_bytes();
+    let outcome = read_in_pieces(rt.alloc(), Form::Qhull, bytes, 1);
+    assert_points(
+        &rt,
+        outcome,
+        &TETRAHEDRON,
+        COMMENTED_TETRAHEDRON,
+        Way::Pieces(1),
+    );
+    for cut in 0..bytes.len() {
+        let outcome = read_cut(rt.alloc(), Form::Qhull, bytes, cut);
+        assert_points(
+            &rt,
+            outcome,
+            &TETRAHEDRON,
+            COMMENTED_TETRAHEDRON,
+            Way::Cut(cut),
+        );
+    }
+}
+
+/// A million times this digit after a beginning, and an end.
+fn long_word(alloc: Global, front: &[u8], digit: u8, back: &[u8]) -> Result<Vec<u8>, AllocError> {
+    let mut bytes = Vec::from_slice(alloc, front)?;
+    let digits = Vec::from_elem(alloc, digit, 1000000)?;
+    bytes.extend_from_slice(&digits)?;
+    bytes.extend_from_slice(back)?;
+    Ok(bytes)
+}
+
+#[test]
+fn tells_long_words_without_keeping_them(rt: HostRuntime) -> Result<(), Fail> {
+    let zeros = long_word(rt.alloc(), b"3\n1\n", b'0', b"5 0 0")?;
+    let outcome = read_in_pieces(rt.alloc(), Form::Qhull, &zeros, 4096);
+    assert_points(&rt, outcome, &[(5, 0, 0)], "zeros", Way::Pieces(4096));
+    let nines = long_word(rt.alloc(), b"3\n1\n0 0 ", b'9', b"")?;
+    let outcome = read_in_pieces(rt.alloc(), Form::Qhull, &nines, 4096);
+    assert_fault(
+        &rt,
+        outcome,
+        ReadFault::Range(3),
+        "nines",
+        Way::Pieces(4096),
+    );
+    Ok(())
+}
+
+#[test]
+fn finds_no_header_in_nothing(rt: HostRuntime) -> Result<(), Fail> {
+    for times in 0..3 {
+        let mut reader = Reader::new(rt.alloc());
+        feed_times(&mut reader, b"", times)?;
+        assert_fault(
+            &rt,
+            reader.finish(),
+            ReadFault::NoHeader,
+            "",
+            Way::Pieces(0),
+        );
+    }
+    Ok(())
+}
+
+/// Feeds one point, and blanks up to the most bytes that a reader takes.
+fn fill(reader: &mut Reader) -> Result<(), FeedFault> {
+    let blanks = [b' '; 65536];
+    reader.feed(b"3 1 5 5 5 ")?;
+    reader.feed(&blanks[10..])?;
+    feed_times(reader, &blanks, 4095)
+}
+
+#[test]
+fn takes_just_the_greatest_length(rt: HostRuntime) -> Result<(), Fail> {
+    let mut reader = Reader::new(rt.alloc());
+    fill(&mut reader)?;
+    assert_full(&rt, &mut reader);
+    assert_points(
+        &rt,
+        reader.finish(),
+        &[(5, 5, 5)],
+        "full",
+        Way::Pieces(65536),
+    );
+    Ok(())
+}

@@ -1,0 +1,83 @@
+//! Readings of which one growth is refused: the points are right, or memory was wanted and the same
+//! call gives them. `scripts/refusals.py` refuses each growth in turn.
+use super::{CUBE_CORNERS, Place, Way, assert_points};
+use qh_fixtures::files::{CUBE, OCTAHEDRON, SQUARE};
+use qh_model::Point;
+use qh_read::{FeedFault, MemSource, ReadFault, Reader, read_from, read_points};
+use std::alloc::Global;
+
+/// Each text with its points.
+const ROWS: [(&str, &[Place]); 3] = [
+    (
+        SQUARE,
+        &[(0, 0, 0), (2, 0, 0), (2, 2, 0), (0, 2, 0), (1, 1, 0)],
+    ),
+    (CUBE, &CUBE_CORNERS),
+    (
+        OCTAHEDRON,
+        &[
+            (2, 0, 0),
+            (1, 1, 0),
+            (0, 2, 0),
+            (-2, 0, 0),
+            (-1, -1, 0),
+            (0, -2, 0),
+            (0, 0, 2),
+            (1, 0, 1),
+            (0, 1, 1),
+            (0, 0, -2),
+            (-1, 0, -1),
+            (0, -1, -1),
+            (1, -1, 0),
+            (-1, 1, 0),
+            (-1, 0, 1),
+            (1, 0, -1),
+            (0, -1, 1),
+            (0, 1, -1),
+        ],
+    ),
+];
+
+/// Feeds each byte by itself, a refused one once more.
+fn feed_again(reader: &mut Reader, bytes: &[u8]) -> Result<(), FeedFault> {
+    for piece in bytes.chunks(1) {
+        if reader.feed(piece) == Err(FeedFault::Memory) {
+            reader.feed(piece)?;
+        }
+    }
+    Ok(())
+}
+
+/// The reading of these bytes one by one.
+fn fed(alloc: Global, bytes: &[u8]) -> Result<Vec<Point>, ReadFault> {
+    let mut reader = Reader::new(alloc);
+    feed_again(&mut reader, bytes)?;
+    reader.finish()
+}
+
+/// The reading of a whole text, once more where it is refused.
+fn whole(alloc: Global, bytes: &[u8]) -> Result<Vec<Point>, ReadFault> {
+    match read_points(alloc, bytes) {
+        Err(ReadFault::Memory) => read_points(alloc, bytes),
+        outcome => outcome,
+    }
+}
+
+/// The reading of a source, once more where it is refused.
+fn streamed(alloc: Global, bytes: &[u8]) -> Result<Vec<Point>, ReadFault> {
+    match read_from(alloc, &mut MemSource::new(bytes)) {
+        Err(ReadFault::Memory) => read_from(alloc, &mut MemSource::new(bytes)),
+        outcome => outcome,
+    }
+}
+
+#[test]
+fn tries_again(rt: HostRuntime) {
+    let alloc = rt.alloc();
+    for (text, points) in ROWS {
+        let bytes = text.as_bytes();
+        assert_points(&rt, whole(alloc, bytes), points, text, Way::Whole);
+        assert_points(&rt, fed(alloc, bytes), points, text, Way::Pieces(1));
+        assert_points(&rt, streamed(alloc, bytes), points, text, Way::Source);
+    }
+}

@@ -1,0 +1,133 @@
+//! Texts of small hulls, and what sinks keep of them.
+ghost use Rattle.std.specs.Prelude.{◌≡◌, [], ◌∷◌, IfOk};
+
+use qh_model::{Body, Hull, Id, Memory, Point, Polygon};
+use qh_write::fakes::{FailSink, SinkPlan};
+use qh_write::{MemSink, Out, SendFault, Sink, StdSink, send, text};
+use std::alloc::Global;
+use std::process::Abort;
+use std::test::Fail;
+
+mod refusals;
+mod writers;
+
+/// The hull of one point that was given once.
+fn one_point(alloc: Global) -> Result<Hull, Memory>
+    ensures { IfOk result (λ h. h.body.extremes ≡ 0 ∷ []) }
+{
+    let extremes = Vec::from_array(alloc, [Id::new(0)])?;
+    let face = Vec::from_array(alloc, [Id::new(0)])?;
+    let mut polygons = Vec::new(alloc);
+    polygons.push(Polygon::of(face))?;
+    let body = Body {
+        dim: 0,
+        extremes,
+        polygons,
+        edges: 0,
+    };
+    Ok(Hull {
+        given: 1,
+        distinct: 1,
+        body,
+    })
+}
+
+/// The texts of the hull of the point (5, 5, 5).
+const TEXTS: [(&[Out], &str); 2] = [
+    (
+        &[Out::Rank, Out::Fx, Out::Off, Out::OffTriangles, Out::Rank],
+        "1 1 0\n1\n0\nOFF\n1 1 0\n5 5 5\n1 0\nOFF\n1 1 0\n5 5 5\n1 0\n1 1 0\n",
+    ),
+    (
+        &[Out::Summary],
+        "Convex hull of 1 points in 3-d:\n  dimension: 0\n  distinct points: 1\n  extreme points: 1\n  facets: 1\n  edges: 0\n",
+    ),
+];
+
+/// Asserts the texts of the hull of the point (5, 5, 5), one after the other.
+fn assert_texts<R: AllocGlobal + Abort>(rt: &R, outs: &[Out], want: &str) -> Result<(), Fail> {
+    let hull = one_point(rt.alloc())?;
+    let texts = text(rt.alloc(), &hull, &[Point::new(5, 5, 5)], outs)?;
+    assert_eq!(rt; texts.as_slice(), want.as_bytes());
+    Ok(())
+}
+
+#[test]
+fn texts_of_one_point(rt: HostRuntime) -> Result<(), Fail> {
+    for (outs, want) in TEXTS {
+        assert_texts(&rt, outs, want)?;
+    }
+    Ok(())
+}
+
+/// The text of `off` of the tetrahedron with three corners on the axes, 66 bytes.
+const TETRAHEDRON: &str =
+    "OFF\n4 4 6\n0 0 0\n1 0 0\n0 1 0\n0 0 1\n3 0 1 3\n3 0 2 1\n3 0 3 2\n3 1 2 3\n";
+
+fn plan(greatest_piece: usize, room: usize) -> SinkPlan {
+    SinkPlan {
+        greatest_piece,
+        room,
+        failing_write: None,
+        flush_fails: false,
+    }
+}
+
+/// Asserts how a device that fails by a plan is sent the tetrahedron: with this answer it has so many bytes, which are
+/// the first ones, and has failed once or, where all went well, not at all.
+fn assert_sent<R: AllocGlobal + Abort>(
+    rt: &R,
+    plan: SinkPlan,
+    want: Result<(), SendFault>,
+    length: usize,
+) {
+    let bytes = TETRAHEDRON.as_bytes();
+    let mut sink = FailSink::new(rt.alloc(), plan);
+    let answer = send(&mut sink, bytes);
+    let kept = (sink.bytes().len(), bytes.starts_with(sink.bytes()));
+    let failures = u64::from(want.is_err());
+    assert_eq!(rt;
+        (answer, kept, sink.failures()),
+        (want, (length, true), failures),
+        "{plan:?}"
+    );
+}
+
+#[test]
+fn sends_all(rt: HostRuntime) {
+    for piece in [1usize, 7, 65, 66, 100] {
+        assert_sent(&rt, plan(piece, 66), Ok(()), 66);
+    }
+}
+
+#[test]
+fn sends_a_beginning(rt: HostRuntime) {
+    for k in 1..67usize {
+        let failing = SinkPlan {
+            failing_write: Some(k as u64),
+            ..plan(1, 66)
+        };
+        assert_sent(&rt, failing, Err(SendFault), k - 1);
+    }
+    assert_sent(&rt, plan(100, 7), Err(SendFault), 7);
+    let stuck = SinkPlan {
+        flush_fails: true,
+        ..plan(100, 66)
+    };
+    assert_sent(&rt, stuck, Err(SendFault), 66);
+}
+
+#[test]
+fn sends_to_memory(rt: HostRuntime) {
+    let bytes = TETRAHEDRON.as_bytes();
+    let mut sink = MemSink::new(rt.alloc());
+    let answer = send(&mut sink, bytes);
+    assert!(rt; answer == Ok(()) && sink.bytes() == bytes, "{answer:?}");
+}
+
+#[test]
+fn sends_to_a_writer(rt: HostRuntime) {
+    let mut sink = StdSink::new(Vec::new(rt.alloc()));
+    let answer = send(&mut sink, TETRAHEDRON.as_bytes());
+    assert_eq!(rt; (answer, sink.failures()), (Ok(()), 0));
+}
