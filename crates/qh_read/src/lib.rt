@@ -6,14 +6,20 @@
 //! which takes the bytes in pieces and keeps none of them.
 #![tactic(auto)]
 
+mod batch;
 mod builder;
 mod coordinate;
 pub mod fakes;
 mod fault;
+mod filling;
+mod known_points;
 mod numbers;
 mod reader;
 mod scanner;
+mod segment;
+mod segments;
 mod source;
+mod threads;
 mod token;
 mod whole;
 
@@ -21,6 +27,7 @@ pub use fault::FeedFault;
 pub use qh_model::ReadFault;
 pub use reader::Reader;
 pub use source::{DeviceFault, MemSource, Source, StdSource};
+pub use threads::{Sizes, read_form_sizes, read_form_threads};
 pub use whole::{
     PIECE_LENGTH, read_form, read_form_from, read_from, read_off, read_off_from, read_points,
 };
