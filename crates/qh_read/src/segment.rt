@@ -6,6 +6,7 @@ ghost use Rattle.qh_read.specs.steps.Segments.{IsSegment};
 use crate::numbers::next_point;
 use qh_model::Point;
 use std::alloc::Global;
+use std::mem;
 
 /// The points of a segment of the bytes, if a point begins after its first line.
 ///
@@ -81,9 +82,13 @@ impl Segment {
         requires { length text.now < 2 ^ 31 }
         ensures { IsSegment self.new text.now }
     {
-        self.points.clear();
+        // Out of the segment, whose neighbours other threads write to: each point changes the length.
+        let alloc = *self.points.allocator();
+        let mut points = mem::replace(&mut self.points, Vec::new(alloc));
+        points.clear();
         self.head = after_line(text);
-        let (lines, rest) = push_points(&mut self.points, &text[self.head..]);
+        let (lines, rest) = push_points(&mut points, &text[self.head..]);
+        self.points = points;
         self.lines = lines;
         self.taken = text.len() - rest.len();
     }
