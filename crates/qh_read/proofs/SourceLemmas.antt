@@ -56,15 +56,15 @@ pub Stops-after : (e : ReadFault) (before : ℕ) (old mid new : Option (List ℕ
     → Stops e count mid new failures_mid failures_new → Stops e before old new failures_old failures_new
 Stops-after e before old mid new fo fm fn given count took same is s = record {
   big = λ h. let more = s.big h in (
-      given ++ more.0,
-      Consumes-append old mid new given more.0 took more.1,
-      (omega (arith, is, length-append given more.0, more.2.0), omega (arith, is, length-append given more.0, more.2.1)),
-    );
+    given ++ more.0,
+    Consumes-append old mid new given more.0 took more.1,
+    (omega (arith, is, length-append given more.0, more.2.0), omega (arith, is, length-append given more.0, more.2.1)),
+  );
   big_first = λ h. let more = s.big_first h in (
-      given ++ more.0,
-      Consumes-append old mid new given more.0 took more.1,
-      omega (arith, is, length-append given more.0, more.2),
-    );
+    given ++ more.0,
+    Consumes-append old mid new given more.0 took more.1,
+    omega (arith, is, length-append given more.0, more.2),
+  );
   device = λ h. omega (arith, s.device h, same);
   no_device = λ h. s.no_device h ∙ same;
   no_text = s.no_text;

@@ -20,6 +20,15 @@ use std::alloc::Global;
 use std::mem;
 use std::thread::{Threads, join_mut};
 
+/// How many bytes go serially before the first batch: a file of no more starts no thread.
+const START_LENGTH: u32 = 262144;
+
+/// The number of bytes of a batch. Of two batches and the points of their segments, little leaves the caches.
+const BATCH_LENGTH: usize = 524288;
+
+/// No more segments than this pay: the calling thread takes as long for its own part of the work.
+const SEGMENT_LIMIT: usize = 3;
+
 /// How a file is cut for several threads.
 #[derive(Clone, Copy, Debug)]
 pub struct Sizes {
@@ -202,9 +211,9 @@ pub fn read_form_threads<R: Threads + Sync, S: Source>(
         return read_form_from(alloc, form, source);
     }
     let sizes = Sizes {
-        start: 262144,
-        batch: 2097152,
-        segments: threads - 1,
+        start: START_LENGTH,
+        batch: BATCH_LENGTH,
+        segments: (threads - 1).min(SEGMENT_LIMIT),
     };
     read_form_sizes(rt, alloc, form, source, sizes)
 }

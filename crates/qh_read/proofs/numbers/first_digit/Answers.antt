@@ -1,4 +1,4 @@
-use Rattle.std.proofs.Common.{◌≡◌, ◌∷◌, [], ap, subst, List, ℕ}
+use Rattle.std.proofs.Common.{◌∷◌, [], ap, subst, List, ℕ}
 use Rattle.qh_read.specs.steps.Numbers.{IsEndOf}
 use Rattle.qh_read.proofs.NumberLaws.{end-end}
 use Rattle.qh_read.proofs.numbers.first_digit.Goals as goal

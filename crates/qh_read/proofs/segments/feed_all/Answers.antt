@@ -1,4 +1,4 @@
-use Rattle.std.proofs.Common.{arith, ◌≡◌, ◌∙◌, ◌+◌, ◌*◌, ◌++◌, ℕ, List, take, drop, length, length-append, ap, sym, subst, append_assoc}
+use Rattle.std.proofs.Common.{arith, ◌≡◌, ◌∙◌, ◌+◌, ◌*◌, ◌++◌, ℕ, List, take, length, length-append, ap, sym, subst, append_assoc}
 use Rattle.std.proofs.Math.Seq.{take-add}
 use Rattle.qh_read.specs.contract.Holding.{Fed}
 use Rattle.qh_read.specs.steps.Segments.{segment_size, segment_text}

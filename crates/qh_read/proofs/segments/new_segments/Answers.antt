@@ -1,4 +1,4 @@
-use Rattle.std.proofs.Common.{arith, sym, subst, [], List}
+use Rattle.std.proofs.Common.{arith, sym, subst, []}
 use Rattle.std.specs.Prelude.{All}
 use Rattle.std.proofs.lemmas.List.Elements.{All-push}
 use Rattle.qh_read.specs.steps.Segments.{IsSegment}

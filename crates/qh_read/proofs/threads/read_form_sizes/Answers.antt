@@ -1,8 +1,7 @@
-use Rattle.std.proofs.Common.{arith, ◌≡◌, ap, sym, subst, Ok, List}
+use Rattle.std.proofs.Common.{◌≡◌, ap, sym, subst, Ok}
 use Rattle.std.proofs.lemmas.Result.{err_from_is_err_and, MatchResult-weaker}
-use Rattle.std.specs.Io.KnownBytes.{IsAtEnd}
 use Rattle.qh_model.specs.declared.read_fault.ReadFault.TheVariants as faults
-use Rattle.qh_read.specs.headline.SourceBytes.{Gives, GivesAll}
+use Rattle.qh_read.specs.headline.SourceBytes.{GivesAll}
 use Rattle.qh_read.specs.contract.Holding.{Reading, Fed}
 use Rattle.qh_read.proofs.SourceLemmas.{FedOn-append, Gives-all, Stops-after, Stops-big, Stops-big_first}
 use Rattle.qh_read.proofs.threads.read_form_sizes.Given.{Over}

@@ -3,7 +3,6 @@ use Rattle.std.proofs.Common.{Ok, Err, inl, inr}
 use Rattle.std.proofs.lemmas.{Bool.cases_lt, Result.err_from_is_err_and}
 use Rattle.std.proofs.Math.Seq.{take-append_seam}
 use Rattle.qh_model.specs.declared.limits.TheConstants.{BYTE_LIMIT}
-use Rattle.qh_model.specs.declared.read_fault.ReadFault.{ReadFault}
 use Rattle.qh_model.specs.declared.read_fault.ReadFault.TheVariants as faults
 use Rattle.qh_read.specs.contract.Holding.{Fed}
 use Rattle.qh_read.specs.contract.ReadFaults.{read_fault, IsTextFault}
@@ -79,7 +78,7 @@ returns-in_err-feed-clause-stops g c =
     let took = Consumes-append _ _ _ s.given piece s.took c.in_ok-count.ensures.bytes.0 in
     let new = c.read.new.self in
     let stops : Stops (read_fault f) c.args.reader.now.count (g.S.Source.remaining c.args.source.now) (g.S.Source.remaining new)
-        (g.S.Source.failure_count c.args.source.now) (g.S.Source.failure_count new) = record {
+    (g.S.Source.failure_count c.args.source.now) (g.S.Source.failure_count new) = record {
       big = λ e.
           let passed : BYTE_LIMIT < c.loop-source.reader.count + length fed = c.in_err-feed.ensures.big.0 (ap Err (only_big f e)) in (
             s.given ++ piece,

@@ -1,4 +1,4 @@
-use Rattle.std.proofs.Common.{◌≡◌, ◌∙◌, ◌*◌, ◌/◌, ◌+◌, ℕ, List, [], take, drop, length, ap, sym, subst}
+use Rattle.std.proofs.Common.{◌≡◌, ◌∙◌, ◌*◌, ℕ, [], take, length, ap, sym, subst}
 use Rattle.std.proofs.Math.Seq.{drop-nil, take-nil}
 use Rattle.qh_read.specs.steps.Segments.{IsSegment, segment_size, segment_text}
 use Rattle.qh_read.proofs.batch.Batch.new.Goals as goal

@@ -17,7 +17,7 @@ returns c =
     subst (λ (u : List ℕ). ArePoints 0 u found.new.points.items found.result.0 rest) (take_rest text head) found.ensures.told in
     record {
       told = subst (ArePoints 0 (drop head text) found.new.points.items found.result.0) (sym is) told;
-      room = omega (arith, found.ensures.room, length-drop head text, take_rest text head, c.after_line-self.ensures);
+      room = omega (arith, found.ensures.room, length-drop head text, c.after_line-self.ensures);
       lines = omega (arith, found.ensures.lines, length-drop head text, c.after_line-self.ensures);
       within = omega arith;
     }
