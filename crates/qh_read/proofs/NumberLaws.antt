@@ -52,8 +52,10 @@ points-none line bytes form wanted takes left t base =
     ∙ ap (λ (u : List ℤ). held_by (quiet form (wanted left u) (base + line) Empty) bytes) (sym (append-nil t))
 
 -- three coordinates in range
-three : (wanted : ℕ → List ℤ → Progress) → Takes wanted → (left : ℕ) (t : List ℤ) (x y z : ℤ) (i j k : ℕ) → IsCoordinate x → IsCoordinate y → IsCoordinate z
-    → after (after (after (wanted (suc (suc (suc left))) t) false (Some x) i) false (Some y) j) false (Some z) k ≡ wanted left (t ++ x ∷ y ∷ z ∷ [])
+three : (wanted : ℕ → List ℤ → Progress) → Takes wanted → (left : ℕ) (t : List ℤ) (x y z : ℤ) (i j k : ℕ)
+    → IsCoordinate x → IsCoordinate y → IsCoordinate z
+    → after (after (after (wanted (suc (suc (suc left))) t) false (Some x) i) false (Some y) j) false (Some z) k
+    ≡ wanted left (t ++ x ∷ y ∷ z ∷ [])
 three wanted takes left t x y z i j k p q r =
     ap (λ (s : Progress). after (after s false (Some y) j) false (Some z) k) (takes (suc (suc left)) t x i p)
     ∙ ap (λ (s : Progress). after s false (Some z) k) (takes (suc left) (t ++ x ∷ []) y j q)
@@ -61,8 +63,9 @@ three wanted takes left t x y z i j k p q r =
     ∙ ap (wanted left) (ap (λ (u : List ℤ). u ++ z ∷ []) (append_assoc t (x ∷ []) (y ∷ [])) ∙ append_assoc t (x ∷ y ∷ []) (z ∷ []))
 
 -- one point more
-pub points-more : (line : ℕ) (bytes : List ℕ) (points : List Vector) (mid : ℕ) (more : List ℕ) (p : Vector) (later : ℕ) (rest : List ℕ)
-    → ArePoints line bytes points mid more → ArePoint mid more p.x p.y p.z later rest → IsCoordinate p.x → IsCoordinate p.y → IsCoordinate p.z
+pub points-more : (line : ℕ) (bytes : List ℕ) (points : List Vector) (mid : ℕ) (more : List ℕ) (p : Vector)
+    (later : ℕ) (rest : List ℕ) → ArePoints line bytes points mid more → ArePoint mid more p.x p.y p.z later rest
+    → IsCoordinate p.x → IsCoordinate p.y → IsCoordinate p.z
     → ArePoints line bytes (points ++ p ∷ []) later rest
 points-more line bytes points mid more p later rest many one a b c form wanted takes left t base =
     let u : List ℤ = t ++ coordinates points in
@@ -73,7 +76,8 @@ points-more line bytes points mid more p later rest many one a b c form wanted t
     ap (λ (n : ℕ). held_by (quiet form (wanted n t) (base + line) Empty) bytes) count
     ∙ many form wanted takes (suc (suc (suc left))) t base
     ∙ told.3
-    ∙ ap (λ (s : Progress). held_by (quiet form s (base + later) Empty) rest) (three wanted takes left u p.x p.y p.z told.0 told.1 told.2 a b c ∙ ap (wanted left) all)
+    ∙ ap (λ (s : Progress). held_by (quiet form s (base + later) Empty) rest)
+    (three wanted takes left u p.x p.y p.z told.0 told.1 told.2 a b c ∙ ap (wanted left) all)
 
 -- coordinates that are to come take one each
 in_range : (z : ℤ) → IsCoordinate z → is_coordinate z ≡ true

@@ -51,7 +51,8 @@ Stops-equal e f before old new failures failures_after same s =
     subst (λ (x : ReadFault). Stops x before old new failures failures_after) (sym same) s
 
 -- why reading stops after these bytes
-pub Stops-after : (e : ReadFault) (before : ℕ) (old mid new : Option (List ℕ)) (failures_old failures_mid failures_new : ℕ) (given : List ℕ) (count : ℕ)
+pub Stops-after : (e : ReadFault) (before : ℕ) (old mid new : Option (List ℕ))
+    (failures_old failures_mid failures_new : ℕ) (given : List ℕ) (count : ℕ)
     → Consumes old mid given → failures_mid ≡ failures_old → count ≡ before + length given
     → Stops e count mid new failures_mid failures_new → Stops e before old new failures_old failures_new
 Stops-after e before old mid new fo fm fn given count took same is s = record {
@@ -101,7 +102,8 @@ Stops-feed refusals.Memory before old new failures failures_after given took sam
 }
 
 -- all that the source gave was fed from the start
-pub Gives-all : (form : Form) (start reader : Reading) (old new : Option (List ℕ)) → Fed form start [] → FedOn start reader old new → Gives old new (Fed form reader)
+pub Gives-all : (form : Form) (start reader : Reading) (old new : Option (List ℕ)) → Fed form start []
+    → FedOn start reader old new → Gives old new (Fed form reader)
 Gives-all form start reader old new h f = (f.given, f.took, f.fed form [] h)
 
 -- why reading stops from the start

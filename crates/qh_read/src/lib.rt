@@ -2,8 +2,8 @@
 //! vertices of OFF files.
 //!
 //! [`read_points`] and [`read_off`] answer the points of a byte string, or the first fault that it has,
-//! [`read_from`] and [`read_off_from`] those of the bytes that a [`Source`] gives. All stand on [`Reader`],
-//! which takes the bytes in pieces and keeps none of them.
+//! [`read_from`] and [`read_off_from`] those of the bytes that a [`Source`] gives, and [`read_form_threads`] does
+//! that by several threads. All stand on [`Reader`], which takes the bytes in pieces and keeps none of them.
 #![tactic(auto)]
 
 mod batch;

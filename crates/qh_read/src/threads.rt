@@ -1,7 +1,7 @@
 //! Reading by several threads.
 //!
-//! A file is read in batches, and a batch is cut into segments. While threads go over the segments of one batch,
-//! the calling thread takes what the segments of the batch before it tell, and reads the next.
+//! A file is read in batches, and a batch is cut into segments. While threads go over the segments of one batch, the
+//! calling thread feeds the batch before it to the reader, and reads the next.
 ghost use Rattle.std.specs.Prelude.{◌≡◌, ◌≢◌, ◌≤◌, ◌<◌, ◌+◌, ◌-◌, ◌^◌, true, false, length, IfOk, IfErr, OnOk, Ok, Err};
 ghost use Rattle.std.specs.Thread.{IsSync};
 ghost use Rattle.std.specs.Io.KnownBytes.{IsAtEnd};
@@ -20,23 +20,23 @@ use std::alloc::Global;
 use std::mem;
 use std::thread::{Threads, join_mut};
 
-/// How many bytes go serially before the first batch: a file of no more starts no thread.
-const START_LENGTH: u32 = 262144;
+/// How many bytes are read serially before the first batch. A file of no more bytes starts no thread.
+const START_LENGTH: u32 = 524288;
 
-/// The number of bytes of a batch. Of two batches and the points of their segments, little leaves the caches.
+/// The number of bytes of a batch: few enough for the caches, and enough to pay for the threads that start.
 const BATCH_LENGTH: usize = 524288;
 
-/// No more segments than this pay: the calling thread takes as long for its own part of the work.
+/// The most segments of a batch. More do not pay, since the calling thread takes as long for its own part.
 const SEGMENT_LIMIT: usize = 3;
 
 /// How a file is cut for several threads.
 #[derive(Clone, Copy, Debug)]
 pub struct Sizes {
-    /// How many bytes go serially before the first batch.
+    /// How many bytes are read serially before the first batch.
     pub start: u32,
-    /// The number of bytes of a batch, from 1; 0 counts as 1.
+    /// The number of bytes of a batch. 0 counts as 1, and more than `BYTE_LIMIT` as that.
     pub batch: usize,
-    /// The number of segments of a batch, each in a thread of its own; 0 counts as 1.
+    /// The number of segments of a batch, each with a thread of its own. 0 counts as 1.
     pub segments: usize,
 }
 
@@ -140,10 +140,11 @@ fn feed_batches<R: Threads + Sync, S: Source>(
     Ok(())
 }
 
-/// The points of the file of this form that a source gives, with the answers of [`read_form_from`], cut in
-/// these sizes, whatever they are.
+/// The points of the file of this form that a source gives, with the answers of [`read_form_from`], cut in these
+/// sizes.
 ///
-/// [`read_form_threads`] has sizes that pay.
+/// The sizes change the time and the memory that it takes, never the answer. [`read_form_threads`] has sizes that pay;
+/// tests have sizes of a few bytes.
 pub fn read_form_sizes<R: Threads + Sync, S: Source>(
     rt: &R,
     alloc: Global,
@@ -177,10 +178,12 @@ pub fn read_form_sizes<R: Threads + Sync, S: Source>(
     reader.finish()
 }
 
-/// The points of the file of this form that a source gives, with the answers of [`read_form_from`], gone over by
-/// so many threads, the calling one among them.
+/// The points of the file of this form that a source gives, with the answers of [`read_form_from`], by at most
+/// this number of threads, the calling thread among them.
 ///
-/// With one thread, and for a file of few bytes, it is `read_form_from`.
+/// A file of at most 524,288 bytes is read by the calling thread alone, and so is any file if `threads` is 0 or 1.
+/// The answer does not depend on the number of threads, nor on which of them can be started. Out of memory for the
+/// points of a segment costs time and no more.
 pub fn read_form_threads<R: Threads + Sync, S: Source>(
     rt: &R,
     alloc: Global,

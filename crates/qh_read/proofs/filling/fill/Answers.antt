@@ -13,7 +13,8 @@ returns-then-taken-before-clause-stops g c =
     let piece : List ℕ = take c.in_ok-taken.taken (drop at new) in
     let inv = c.loop-count.invariant in
     let before : length was ≡ at = omega (arith, length-take at c.loop-count.bytes, inv.within) in
-    let more : length piece ≡ c.in_ok-taken.taken = omega (arith, length-take c.in_ok-taken.taken (drop at new), length-drop at new, c.in_ok-taken.ensures.within) in
+    let more : length piece ≡ c.in_ok-taken.taken =
+    omega (arith, length-take c.in_ok-taken.taken (drop at new), length-drop at new, c.in_ok-taken.ensures.within) in
     record {
       big = λ e. (
         was ++ piece,
@@ -39,7 +40,8 @@ loop-count-preserved g c =
     let both : take at c.loop-count.bytes ++ take n (drop at new) ≡ take (at + n) new =
     ap (λ (u : List ℕ). u ++ take n (drop at new)) (sym c.in_ok-taken.ensures.before) ∙ sym (take-add at n new) in
     record {
-      given = subst (Consumes _ _) both (Consumes-append _ _ _ (take at c.loop-count.bytes) (take n (drop at new)) inv.given c.in_ok-taken.ensures.bytes);
+      given = subst (Consumes _ _) both
+          (Consumes-append _ _ _ (take at c.loop-count.bytes) (take n (drop at new)) inv.given c.in_ok-taken.ensures.bytes);
       steady = c.in_ok-taken.ensures.kept ∙ inv.steady;
       len = c.in_ok-taken.ensures.len ∙ inv.len;
       fits = omega (arith, c.if-taken-before.false, inv.fits);

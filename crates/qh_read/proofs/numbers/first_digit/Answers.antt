@@ -11,6 +11,8 @@ returns-clause-end c =
     let rest : List ℕ = c.in_ok-digit.rest.now in
     let digit : IsEndOf rest c.if-first-eq43.unsigned.now = (c.in_ok-digit.digit.now ∷ [], c.in_ok-digit.ensures.cases.0) in
     elim c.if-first-eq43.branch [
-      | then-first-eq43 w ↦ end-end rest c.in_ok-first.after.now bytes (subst (IsEndOf rest) (ap (λ b. b.now) w.unsigned-is) digit) (c.in_ok-first.first.now ∷ [], c.in_ok-first.ensures.cases.0)
+      | then-first-eq43 w ↦ end-end rest c.in_ok-first.after.now bytes
+          (subst (IsEndOf rest) (ap (λ b. b.now) w.unsigned-is) digit)
+          (c.in_ok-first.first.now ∷ [], c.in_ok-first.ensures.cases.0)
       | else-first-eq43 w ↦ subst (IsEndOf rest) (ap (λ b. b.now) w.unsigned-is) digit
     ]

@@ -40,7 +40,8 @@ loop-at_end-preserved g c =
         given = s.given ++ done;
         took = subst (Consumes (g.S.Source.remaining c.args.source.now) (g.S.Source.remaining c.turn.new.source)) both
             (Consumes-append _ _ _ (s.given ++ (done ++ raw)) more s.took filled.given);
-        fed = λ form bytes h. subst (Fed form c.turn.new.reader) (append_assoc bytes s.given done) (filled.fed form (bytes ++ s.given) (s.fed form bytes h));
+        fed = λ form bytes h. subst (Fed form c.turn.new.reader) (append_assoc bytes s.given done)
+            (filled.fed form (bytes ++ s.given) (s.fed form bytes h));
         count = omega (arith, s.count, filled.count, length-append s.given done);
       };
       gone_over = subst IsGoneOver (sym c.swap.ensures.x_after) c.turn.ensures.gone_over;
@@ -66,5 +67,13 @@ returns-clause-fed g c =
           ∙ append_assoc (bytes ++ s.given) done raw
           ∙ append_assoc bytes s.given (done ++ raw))
           (c.in_ok-feed-2.ensures.fed form ((bytes ++ s.given) ++ done) one);
-      count = omega (arith, s.count, c.in_ok-feed.ensures.count, c.in_ok-feed-2.ensures.count, ap length last, length-append s.given (done ++ raw), length-append done raw);
+      count = omega (
+        arith,
+        s.count,
+        c.in_ok-feed.ensures.count,
+        c.in_ok-feed-2.ensures.count,
+        ap length last,
+        length-append s.given (done ++ raw),
+        length-append done raw,
+      );
     }

@@ -13,7 +13,8 @@ one_of false f h = absurd (h refl)
 pub returns-clause-read : goal.returns-clause-read
 returns-clause-read g c =
     let ok = c.in_ok-feed_from in
-    let end : IsAtEnd (g.S.Source.remaining c.feed_from.new.source) = one_of ok.field-0 (λ e. ok.ensures.end (ap Ok e)) (λ e. omega (arith, ok.ensures.enough (ap Ok e), c.feed_from.ensures.fits)) in
+    let end : IsAtEnd (g.S.Source.remaining c.feed_from.new.source) = one_of ok.field-0 (λ e. ok.ensures.end (ap Ok e))
+    (λ e. omega (arith, ok.ensures.enough (ap Ok e), c.feed_from.ensures.fits)) in
     let all = Gives-all c.args.form _ _ _ _ c.of_form-reader.ensures ok.ensures.fed in
     MatchResult-weaker c.finish.result c.finish.ensures.read
     (λ points reads. (end, (all.0, all.1, reads c.args.form all.0 all.2))) (λ e h. h)
@@ -21,7 +22,8 @@ returns-clause-read g c =
 pub returns-clause-text : goal.returns-clause-text
 returns-clause-text g c =
     let ok = c.in_ok-feed_from in
-    let end : IsAtEnd (g.S.Source.remaining c.feed_from.new.source) = one_of ok.field-0 (λ e. ok.ensures.end (ap Ok e)) (λ e. omega (arith, ok.ensures.enough (ap Ok e), c.feed_from.ensures.fits)) in
+    let end : IsAtEnd (g.S.Source.remaining c.feed_from.new.source) = one_of ok.field-0 (λ e. ok.ensures.end (ap Ok e))
+    (λ e. omega (arith, ok.ensures.enough (ap Ok e), c.feed_from.ensures.fits)) in
     let all = Gives-all c.args.form _ _ _ _ c.of_form-reader.ensures ok.ensures.fed in
     MatchResult-weaker c.finish.result c.finish.ensures.fault (λ points h. h)
     (λ e first is_text. (end, (all.0, all.1, first c.args.form all.0 all.2)))
