@@ -1,5 +1,6 @@
 pub mod BuildingLemmas
 pub mod DigitLaws
+pub mod NumberLaws
 pub mod SourceLemmas
 pub mod Lexing
 pub mod LexingLaws

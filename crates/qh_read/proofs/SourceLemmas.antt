@@ -1,9 +1,19 @@
 -- The bytes that a source gives over several reads.
-use Rattle.std.proofs.Common.{◌∙◌, ◌++◌, ℕ, List, ap, sym, append_assoc}
+use Rattle.std.proofs.Common.{◌≡◌, ◌≢◌, ◌≤◌, ◌<◌, ◌∙◌, ◌++◌, ◌+◌, ℕ, List, [], refl, ap, sym, subst, arith, length, length-append, append_assoc}
+use Rattle.std.proofs.lemmas.List.{append-nil}
 use Rattle.std.specs.Prelude.{Option, Some, None}
 use Rattle.std.specs.Io.KnownBytes.{Consumes}
+use Rattle.qh_model.specs.declared.limits.TheConstants.{BYTE_LIMIT}
+use Rattle.qh_model.specs.declared.read_fault.ReadFault.{ReadFault}
+use Rattle.qh_model.specs.declared.read_fault.ReadFault.TheVariants as faults
 use Rattle.qh_model.specs.declared.form.Form.{Form}
 use Rattle.qh_read.specs.contract.Holding.{Reading, Fed}
+use Rattle.qh_read.specs.contract.ReadFaults.{read_fault}
+use Rattle.qh_read.specs.declared.fault.FeedFault.{FeedFault}
+use Rattle.qh_read.specs.declared.fault.FeedFault.TheVariants as refusals
+use Rattle.qh_read.specs.headline.SourceBytes.{Gives}
+use Rattle.qh_read.specs.declared.whole.TheConstants.{PIECE_LENGTH}
+use Rattle.qh_read.specs.steps.Sources.{FedOn, Stops}
 
 -- what two reads give, one after the other
 pub Consumes-append : (old mid new : Option (List ℕ)) (xs ys : List ℕ) → Consumes old mid xs → Consumes mid new ys → Consumes old new (xs ++ ys)
@@ -12,8 +22,96 @@ Consumes-append (Some a) None new xs ys h k = absurd h
 Consumes-append (Some a) (Some b) None xs ys h k = absurd k
 Consumes-append (Some a) (Some b) (Some d) xs ys h k = h ∙ ap (λ (t : List ℕ). xs ++ t) k ∙ sym (append_assoc xs ys d)
 
--- the reader was fed all that the source gave
-pub record FedFrom (form : Form) (reader : Reading) (old new : Option (List ℕ)) : Type 0 where
+-- nothing was read
+pub Consumes-none : (old : Option (List ℕ)) → Consumes old old []
+Consumes-none None = tt
+Consumes-none (Some a) = refl
+
+pub FedOn-none : (reader : Reading) (old : Option (List ℕ)) → FedOn reader reader old old
+FedOn-none reader old = record {
+  given = [];
+  took = Consumes-none old;
+  fed = λ form bytes h. subst (Fed form reader) (sym (append-nil bytes)) h;
+  count = omega arith;
+}
+
+-- first this, and then that
+pub FedOn-append : (a b d : Reading) (old mid new : Option (List ℕ)) → FedOn a b old mid → FedOn b d mid new → FedOn a d old new
+FedOn-append a b d old mid new f g = record {
+  given = f.given ++ g.given;
+  took = Consumes-append old mid new f.given g.given f.took g.took;
+  fed = λ form bytes h. subst (Fed form d) (append_assoc bytes f.given g.given) (g.fed form (bytes ++ f.given) (f.fed form bytes h));
+  count = omega (arith, f.count, g.count, length-append f.given g.given);
+}
+
+-- why reading stops, by another name
+pub Stops-equal : (e f : ReadFault) (before : ℕ) (old new : Option (List ℕ)) (failures failures_after : ℕ) → e ≡ f
+    → Stops f before old new failures failures_after → Stops e before old new failures failures_after
+Stops-equal e f before old new failures failures_after same s =
+    subst (λ (x : ReadFault). Stops x before old new failures failures_after) (sym same) s
+
+-- why reading stops after these bytes
+pub Stops-after : (e : ReadFault) (before : ℕ) (old mid new : Option (List ℕ))
+    (failures_old failures_mid failures_new : ℕ) (given : List ℕ) (count : ℕ)
+    → Consumes old mid given → failures_mid ≡ failures_old → count ≡ before + length given
+    → Stops e count mid new failures_mid failures_new → Stops e before old new failures_old failures_new
+Stops-after e before old mid new fo fm fn given count took same is s = record {
+  big = λ h. let more = s.big h in (
+    given ++ more.0,
+    Consumes-append old mid new given more.0 took more.1,
+    (omega (arith, is, length-append given more.0, more.2.0), omega (arith, is, length-append given more.0, more.2.1)),
+  );
+  big_first = λ h. let more = s.big_first h in (
+    given ++ more.0,
+    Consumes-append old mid new given more.0 took more.1,
+    omega (arith, is, length-append given more.0, more.2),
+  );
+  device = λ h. omega (arith, s.device h, same);
+  no_device = λ h. s.no_device h ∙ same;
+  no_text = s.no_text;
+}
+
+-- memory was refused before anything was read
+pub Stops-memory : (before : ℕ) (old : Option (List ℕ)) (failures : ℕ) → before ≤ BYTE_LIMIT → Stops faults.Memory before old old failures failures
+Stops-memory before old failures h = record {
+  big = λ e. cc;
+  big_first = λ e. ([], Consumes-none old, omega (arith, h));
+  device = λ e. cc;
+  no_device = λ e. refl;
+  no_text = λ t. t.0 refl;
+}
+
+-- the reader was fed some of what the source gave, and these bytes are still to be fed
+pub record FedBut (before after : Reading) (ahead : List ℕ) (old new : Option (List ℕ)) : Type 0 where
   pub given : List ℕ
-  pub fed : Fed form reader given
-  pub took : Consumes old new given
+  pub took : Consumes old new (given ++ ahead)
+  pub fed : (form : Form) (bytes : List ℕ) → Fed form before bytes → Fed form after (bytes ++ given)
+  pub count : after.count ≡ before.count + length given
+
+-- a piece that was refused within the limit was refused memory
+pub Stops-feed : (f : FeedFault) (before : ℕ) (old new : Option (List ℕ)) (failures failures_after : ℕ) (given : List ℕ)
+    → Consumes old new given → failures_after ≡ failures → before + length given ≤ BYTE_LIMIT → f ≢ refusals.Big
+    → Stops (read_fault f) before old new failures failures_after
+Stops-feed refusals.Big before old new failures failures_after given took same fits memory = absurd (memory refl)
+Stops-feed refusals.Memory before old new failures failures_after given took same fits memory = record {
+  big = λ e. cc;
+  big_first = λ e. (given, took, fits);
+  device = λ e. cc;
+  no_device = λ e. same;
+  no_text = λ t. t.0 refl;
+}
+
+-- all that the source gave was fed from the start
+pub Gives-all : (form : Form) (start reader : Reading) (old new : Option (List ℕ)) → Fed form start []
+    → FedOn start reader old new → Gives old new (Fed form reader)
+Gives-all form start reader old new h f = (f.given, f.took, f.fed form [] h)
+
+-- why reading stops from the start
+pub Stops-big : (e : ReadFault) (before : ℕ) (old new : Option (List ℕ)) (failures failures_after : ℕ) → before ≡ 0
+    → Stops e before old new failures failures_after → e ≡ faults.Big
+    → Gives old new (λ bytes. (BYTE_LIMIT < length bytes) × (length bytes ≤ BYTE_LIMIT + PIECE_LENGTH))
+Stops-big e before old new fo fn none s h = let r = s.big h in (r.0, r.1, (omega (arith, none, r.2.0), omega (arith, none, r.2.1)))
+
+pub Stops-big_first : (e : ReadFault) (before : ℕ) (old new : Option (List ℕ)) (failures failures_after : ℕ) → before ≡ 0
+    → Stops e before old new failures failures_after → e ≡ faults.Memory → Gives old new (λ bytes. length bytes ≤ BYTE_LIMIT)
+Stops-big_first e before old new fo fn none s h = let r = s.big_first h in (r.0, r.1, omega (arith, none, r.2))

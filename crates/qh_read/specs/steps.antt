@@ -3,5 +3,7 @@ pub mod Building
 pub mod Numbers
 pub mod Reader
 pub mod Scanning
+pub mod Segments
 pub mod SmallTokens
+pub mod Sources
 pub mod Stages

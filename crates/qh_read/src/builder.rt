@@ -100,12 +100,13 @@ fn after_keyword(is_keyword: bool) -> Stage
 }
 
 impl Builder {
-    ghost use Rattle.std.specs.Prelude.{◌≡◌, ◌≤◌, ◌<◌, ◌+◌, ◌*◌, ◌++◌, [], ◌∷◌, ℕ, Some, OnOk, IfOk, IfErr, IfSome, vec_len, vec_capacity};
+    ghost use Rattle.std.specs.Prelude.{◌≡◌, ◌≤◌, ◌<◌, ◌+◌, ◌*◌, ◌++◌, [], ◌∷◌, ℕ, Some, OnOk, IfOk, IfErr, IfSome, length, vec_len, vec_capacity};
     ghost use Rattle.qh_read.specs.contract.ReadFaults.{IsTextFault};
     ghost use Rattle.qh_read.specs.contract.Tokens.{is_keyword, value_of};
     ghost use Rattle.qh_read.specs.steps.SmallTokens.{IsSmall};
     ghost use Rattle.qh_read.specs.steps.Building.{shown, taken, taken_count, lack, AreAll};
-    ghost use Rattle.qh_read.specs.steps.Numbers.{AwaitsPoint};
+    ghost use Rattle.qh_read.specs.steps.Numbers.{AwaitsPoint, AwaitsPoints};
+    ghost use Rattle.qh_model.specs.headline.PointFile.{coordinates};
 
     /// Nothing read yet.
     pub fn new(alloc: Global, form: Form) -> Builder
@@ -199,6 +200,34 @@ impl Builder {
     {
         let point = Point::new(x.value, y.value, z.value);
         self.points.push(point).unwrap();
+        self.stage = next;
+    }
+
+    /// The stage after so many points more, where a point begins and all their coordinates are to come.
+    pub fn after_points(&self, count: usize) -> Option<Stage>
+        ensures { IfSome result (AwaitsPoints self.now count) }
+    {
+        match (self.pending, self.stage) {
+            (Pending::Zero, Stage::Coordinates(left)) if left as usize / 3 >= count => {
+                Some(Stage::Coordinates(left - 3 * count as u32))
+            }
+            (Pending::Zero, Stage::Vertices(left)) if left as usize / 3 >= count => {
+                Some(Stage::Vertices(left - 3 * count as u32))
+            }
+            _ => None,
+        }
+    }
+
+    /// Takes these points, after which this stage comes. There is room for them.
+    pub fn append(&mut self, next: Stage, points: &[Point])
+        requires room { vec_len self.old.points + length points.now ≤ vec_capacity self.old.points }
+        requires awaits { AwaitsPoints self.old (length points.now) next }
+        ensures shown { shown self.new
+            ≡ stage_shown next (taken self.old ++ coordinates points.now) }
+        ensures count { taken_count self.new ≡ taken_count self.old + 3 * length points.now }
+        ensures kept { vec_capacity self.old.points ≤ vec_capacity self.new.points }
+    {
+        self.points.extend_from_slice(points).unwrap();
         self.stage = next;
     }
 

@@ -2,18 +2,24 @@
 //! vertices of OFF files.
 //!
 //! [`read_points`] and [`read_off`] answer the points of a byte string, or the first fault that it has,
-//! [`read_from`] and [`read_off_from`] those of the bytes that a [`Source`] gives. All stand on [`Reader`],
-//! which takes the bytes in pieces and keeps none of them.
+//! [`read_from`] and [`read_off_from`] those of the bytes that a [`Source`] gives, and [`read_form_threads`] does
+//! that by several threads. All stand on [`Reader`], which takes the bytes in pieces and keeps none of them.
 #![tactic(auto)]
 
+mod batch;
 mod builder;
 mod coordinate;
 pub mod fakes;
 mod fault;
+mod filling;
+mod known_points;
 mod numbers;
 mod reader;
 mod scanner;
+mod segment;
+mod segments;
 mod source;
+mod threads;
 mod token;
 mod whole;
 
@@ -21,6 +27,7 @@ pub use fault::FeedFault;
 pub use qh_model::ReadFault;
 pub use reader::Reader;
 pub use source::{DeviceFault, MemSource, Source, StdSource};
+pub use threads::{Sizes, read_form_sizes, read_form_threads};
 pub use whole::{
     PIECE_LENGTH, read_form, read_form_from, read_from, read_off, read_off_from, read_points,
 };

@@ -4,7 +4,7 @@
 //! scanner's step from byte to byte.
 ghost use Rattle.std.specs.Prelude.{◌≡◌, ◌≤◌, ◌<◌, ◌+◌, ◌^◌, length, IfSome};
 ghost use Rattle.qh_read.specs.contract.Tokens.{signed};
-ghost use Rattle.qh_read.specs.steps.Numbers.{IsParted, IsBegun, IsContinued, IsEnded, IsNumber, ArePoint};
+ghost use Rattle.qh_read.specs.steps.Numbers.{IsParted, IsEndOf, IsBegun, IsContinued, IsEnded, IsNumber, ArePoint};
 
 use crate::coordinate::Coordinate;
 use crate::token::blank;
@@ -26,6 +26,7 @@ pub struct Number<'a> {
 pub fn after_blanks(line: u32, bytes: &[u8]) -> (u32, &[u8])
     requires { line + length bytes.now < 2 ^ 31 }
     ensures held { IsParted line bytes.now result.0 result.1.now }
+    ensures end { IsEndOf result.1.now bytes.now }
     ensures left { length result.1.now ≤ length bytes.now }
     ensures lines { result.0 + length result.1.now ≤ line + length bytes.now }
 {
@@ -47,6 +48,7 @@ pub fn after_blanks(line: u32, bytes: &[u8]) -> (u32, &[u8])
 #[inline(always)]
 fn first_digit(bytes: &[u8]) -> Option<(bool, u32, &[u8])>
     ensures held { IfSome result (λ r. IsBegun bytes.now r.0 r.1 r.2.now) }
+    ensures end { IfSome result (λ r. IsEndOf r.2.now bytes.now) }
     ensures small { IfSome result (λ r. r.1 ≤ 9) }
     ensures left { IfSome result (λ r. length bytes.now ≤ length r.2.now + 2) }
     ensures fewer { IfSome result (λ r. length r.2.now + 1 ≤ length bytes.now) }
@@ -73,6 +75,7 @@ fn few_digits(first: u32, bytes: &[u8]) -> (u32, &[u8])
     requires small { first ≤ 9 }
     requires left { 8 ≤ length bytes.now }
     ensures held { IsContinued first bytes.now result.0 result.1.now }
+    ensures end { IsEndOf result.1.now bytes.now }
     ensures small { result.0 ≤ COORDINATE_LIMIT }
     ensures left { length result.1.now ≤ length bytes.now }
 {
@@ -104,6 +107,7 @@ fn signed_coordinate(minus: bool, magnitude: u32) -> Coordinate
 fn after_end(line: u32, bytes: &[u8]) -> Option<(u32, &[u8])>
     requires { line + length bytes.now < 2 ^ 31 }
     ensures held { IfSome result (λ r. IsEnded line bytes.now r.0 r.1.now) }
+    ensures end { IfSome result (λ r. IsEndOf r.1.now bytes.now) }
     ensures left { IfSome result (λ r. length r.1.now + 1 ≤ length bytes.now) }
     ensures lines { IfSome result (λ r. r.0 + length r.1.now ≤ line + length bytes.now) }
 {

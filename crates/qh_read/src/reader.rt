@@ -1,13 +1,16 @@
 //! Reading in pieces.
-ghost use Rattle.std.specs.Prelude.{◌≡◌, ◌<◌, ◌+◌, ◌++◌, ◌↔◌, List, ℕ, [], length, IfOk, IfErr, OnOk, OnErr, Err};
+ghost use Rattle.std.specs.Prelude.{◌≡◌, ◌≤◌, ◌<◌, ◌+◌, ◌++◌, ◌↔◌, List, ℕ, [], length, IfOk, IfErr, OnOk, OnErr, Err};
 ghost use Rattle.qh_model.specs.declared.form.Form.{Form};
 ghost use Rattle.qh_model.specs.declared.form.Form.TheVariants as forms;
 ghost use Rattle.qh_model.specs.headline.Forms.{ReadsIn, IsFirstFault};
 ghost use Rattle.qh_read.specs.contract.ReadFaults.{IsTextFault};
 ghost use Rattle.qh_read.specs.contract.Holding.{Fed};
+ghost use Rattle.qh_read.specs.steps.Segments.{IsSegment};
 
 use crate::fault::FeedFault;
+use crate::known_points::KnownPoints;
 use crate::scanner::Scanner;
+use crate::segment::Segment;
 use crate::token::Token;
 use qh_model::{BYTE_LIMIT, Form, Point, ReadFault};
 use std::alloc::Global;
@@ -63,6 +66,14 @@ impl Reader {
         }
     }
 
+    /// The number of bytes fed.
+    pub(crate) fn fed(&self) -> u32
+        ensures count { result ≡ self.now.count }
+        ensures limit { result ≤ BYTE_LIMIT }
+    {
+        self.count
+    }
+
     /// Takes the next bytes of the file.
     ///
     /// `Big` is answered just where more than `BYTE_LIMIT` bytes would have come, before any
@@ -72,17 +83,56 @@ impl Reader {
         ensures fed { OnOk result
             ((form : Form) (before : List ℕ)
             → Fed form self.old before → Fed form self.new (before ++ piece.now)) }
+        ensures count { OnOk result (self.new.count ≡ self.old.count + length piece.now) }
         ensures big { (result ≡ Err FeedFault.Big)
             ↔ (BYTE_LIMIT < self.old.count + length piece.now) }
         ensures refused { OnErr result (self.new ≡ self.old) }
     {
-        if piece.len() > (BYTE_LIMIT - self.count) as usize {
+        self.feed_known(&KnownPoints::none(piece))
+    }
+
+    /// Takes the next bytes of the file, of which the first points are known, with the answers of `feed`.
+    fn feed_known(&mut self, known: &KnownPoints<'_>) -> Result<(), FeedFault>
+        ensures fed { OnOk result
+            ((form : Form) (before : List ℕ)
+            → Fed form self.old before → Fed form self.new (before ++ known.now.piece.now)) }
+        ensures count { OnOk result (self.new.count ≡ self.old.count + length known.now.piece.now) }
+        ensures big { (result ≡ Err FeedFault.Big)
+            ↔ (BYTE_LIMIT < self.old.count + length known.now.piece.now) }
+        ensures refused { OnErr result (self.new ≡ self.old) }
+    {
+        let length = known.piece.len();
+        if length > (BYTE_LIMIT - self.count) as usize {
             return Err(FeedFault::Big);
         }
-        self.scanner.reserve(piece.len())?;
-        self.count += piece.len() as u32;
-        self.token = self.scanner.scan(self.token, piece);
+        self.scanner.reserve(length)?;
+        self.count += length as u32;
+        let rest = self.scanner.take_known(self.token, known);
+        self.token = self.scanner.scan(self.token, rest);
         Ok(())
+    }
+
+    /// Takes the next bytes of the file, which are those of a segment.
+    ///
+    /// The first line goes byte by byte, since a word or a comment may be under way.
+    pub(crate) fn feed_segment(&mut self, segment: &Segment, text: &[u8]) -> Result<(), FeedFault>
+        requires { IsSegment segment.now text.now }
+        ensures fed { OnOk result
+            ((form : Form) (before : List ℕ)
+            → Fed form self.old before → Fed form self.new (before ++ text.now)) }
+        ensures count { OnOk result (self.new.count ≡ self.old.count + length text.now) }
+        ensures big { result ≡ Err FeedFault.Big → BYTE_LIMIT < self.old.count + length text.now }
+    {
+        let (first, piece) = text.split_at(segment.head);
+        if let Err(fault) = self.feed(first) {
+            return Err(fault);
+        }
+        self.feed_known(&KnownPoints {
+            piece,
+            points: segment.points.as_slice(),
+            lines: segment.lines,
+            rest: &text[segment.taken..],
+        })
     }
 
     /// The points of the bytes fed, or their first fault, from `NoHeader` to `Short` or `NotOff`.

@@ -7,6 +7,7 @@ ghost use Rattle.qh_read.specs.contract.Holding.{held_at_start, ended_held, held
 ghost use Rattle.qh_read.specs.steps.Scanning.{held, under_way, HasRoom};
 
 use crate::builder::Builder;
+use crate::known_points::KnownPoints;
 use crate::numbers::{after_blanks, next_point};
 use crate::token::{Token, begins_data, blank, with_digit};
 use qh_model::Form;
@@ -182,6 +183,28 @@ impl Scanner {
             rest = z.rest;
         }
         rest
+    }
+
+    /// Takes the known points of a piece, where no word is under way, no comment runs and as many are to
+    /// come. It answers the bytes that are left.
+    pub fn take_known<'a>(&mut self, token: Token, known: &KnownPoints<'a>) -> &'a [u8]
+        requires room { HasRoom self.old token (length known.now.piece.now) }
+        requires line { self.old.line + length known.now.piece.now < 2 ^ 31 }
+        ensures held { held_by (held self.new token) result.now
+            ≡ held_by (held self.old token) known.now.piece.now }
+        ensures room { HasRoom self.new token (length result.now) }
+        ensures line { self.new.line + length result.now
+            ≤ self.old.line + length known.now.piece.now }
+    {
+        if !token.is_empty() || self.comment {
+            return known.piece;
+        }
+        let Some(next) = self.builder.after_points(known.points.len()) else {
+            return known.piece;
+        };
+        self.builder.append(next, known.points);
+        self.line += known.lines;
+        known.rest
     }
 
     /// Takes the next bytes. It answers the word under way after them.

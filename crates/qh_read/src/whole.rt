@@ -1,9 +1,11 @@
 //! Reading of a whole input.
-ghost use Rattle.std.specs.Prelude.{◌≡◌, ◌≢◌, ◌≤◌, ◌<◌, ◌+◌, ◌-◌, ◌^◌, length, vec_len, IfOk, IfErr, Err};
+ghost use Rattle.std.specs.Prelude.{◌≡◌, ◌≢◌, ◌≤◌, ◌<◌, ◌+◌, ◌-◌, ◌^◌, true, false, length, vec_len, IfOk, IfErr, OnOk, Ok, Err};
+ghost use Rattle.std.specs.Io.KnownBytes.{IsAtEnd};
 ghost use Rattle.qh_model.specs.declared.form.Form.TheVariants as forms;
 ghost use Rattle.qh_model.specs.headline.Forms.{ReadsIn, IsFirstFault};
 ghost use Rattle.qh_read.specs.contract.ReadFaults.{IsFaultOf, IsTextFault};
 ghost use Rattle.qh_read.specs.headline.SourceBytes.{Gives, GivesAll};
+ghost use Rattle.qh_read.specs.steps.Sources.{FedOn, Stops};
 
 use crate::reader::Reader;
 use crate::source::Source;
@@ -61,6 +63,36 @@ fn new_buffer(alloc: Global) -> Result<Vec<u8>, AllocError>
     vec![in alloc; 0; PIECE_LENGTH]
 }
 
+/// Feeds a reader what a source gives, in pieces, until it was fed `enough` bytes or the end comes. It answers
+/// whether the end came.
+pub(crate) fn feed_from<S: Source>(
+    alloc: Global,
+    reader: &mut Reader,
+    source: &mut S,
+    enough: u32,
+) -> Result<bool, ReadFault>
+    requires failures { S.failure_count source.old < 2 ^ 64 - 1 }
+    requires fits { reader.old.count ≤ BYTE_LIMIT }
+    ensures fed { OnOk result
+        (FedOn reader.old reader.new (S.remaining source.old) (S.remaining source.new)) }
+    ensures fits { reader.new.count ≤ BYTE_LIMIT }
+    ensures end { result ≡ Ok true → IsAtEnd (S.remaining source.new) }
+    ensures enough { result ≡ Ok false → enough ≤ reader.new.count }
+    ensures steady { OnOk result (S.failure_count source.new ≡ S.failure_count source.old) }
+    ensures stops { IfErr result (λ e. Stops e reader.old.count (S.remaining source.old)
+        (S.remaining source.new) (S.failure_count source.old) (S.failure_count source.new)) }
+{
+    let mut buffer = new_buffer(alloc)?;
+    while reader.fed() < enough {
+        let count = source.read(&mut buffer)?;
+        if count == 0 {
+            return Ok(true);
+        }
+        reader.feed(&buffer[..count])?;
+    }
+    Ok(false)
+}
+
 /// The points of the file of this form that a source gives, in its order, or its first fault.
 ///
 /// Points and faults of the text are answered only once the end was read, of all bytes that came.
@@ -91,15 +123,9 @@ pub fn read_form_from<S: Source>(
     ensures no_device { result ≢ Err ReadFault.Device
         → S.failure_count source.new ≡ S.failure_count source.old }
 {
-    let mut buffer = new_buffer(alloc)?;
     let mut reader = Reader::of_form(alloc, form);
-    loop {
-        let count = source.read(&mut buffer)?;
-        if count == 0 {
-            return reader.finish();
-        }
-        reader.feed(&buffer[..count])?;
-    }
+    feed_from(alloc, &mut reader, source, u32::MAX)?;
+    reader.finish()
 }
 
 /// The points of the point file that a source gives, in its order, or its first fault, with the answers

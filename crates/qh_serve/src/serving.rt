@@ -7,7 +7,7 @@ ghost use Rattle.qh_serve.specs.headline.Serving.{Devices, IsServed, IsServeFaul
 use crate::answers::text_of;
 use crate::fault::Fault;
 use crate::settings::Settings;
-use qh_read::{ReadFault, Source, read_form_from};
+use qh_read::{ReadFault, Source, read_form_threads};
 use qh_run::Gate;
 use qh_write::{Sink, send};
 use std::alloc::Global;
@@ -15,7 +15,7 @@ use std::thread::Threads;
 
 /// Reads points from the source to its end and sends the texts that the settings ask for.
 ///
-/// Nothing is sent before the whole text stands. The answer tells what the devices did: the table of
+/// As many threads read as workers make the hull. Nothing is sent before the whole text stands. The answer tells what the devices did: the table of
 /// `IsServed` and `IsServeFault` has a line for each. After a failure neither device is called again.
 /// The gate is told of the workers' blocks, and takes the hull at the end of their run. Outputs that are all
 /// the rank need no hull: the gate is not called then.
@@ -37,7 +37,8 @@ pub fn serve<R: Threads + Sync, S: Source, K: Sink, G: Gate>(
     ensures big_first { result ≡ Err (Fault.Read ReadFault.Memory)
         → Gives (S.remaining source.old) (S.remaining source.new) (λ bytes. length bytes ≤ BYTE_LIMIT) }
 {
-    let points = read_form_from(alloc, settings.form(), source)?;
+    let threads = settings.workers() as usize;
+    let points = read_form_threads(rt, alloc, threads, settings.form(), source)?;
     let text = text_of(rt, alloc, &points, settings, gate)?;
     send(sink, &text)?;
     Ok(())

@@ -10,6 +10,7 @@ use Rattle.qh_read.specs.contract.Holding.{Held, held_by, next_held}
 use Rattle.qh_read.specs.contract.Progress.{Progress}
 use Rattle.qh_read.specs.steps.Numbers.{quiet}
 use Rattle.qh_read.proofs.DigitLaws.{greatest, greatest-rises}
+use Rattle.qh_read.proofs.NumberLaws.{end-drop}
 use Rattle.qh_read.proofs.numbers.few_digits.Goals as goal
 
 -- one digit more, below the cap
@@ -41,3 +42,9 @@ returns-clause-held c form p line minus =
     let bytes : List ℕ = c.args.bytes.now in
     let all : drop c.loop-i.i bytes ≡ take (length bytes - 8) (drop 8 bytes) = rw (eight, take_rest) refl in
     c.loop-i.invariant.continued form p line minus ∙ ap (held_by (quiet form p line (Digits minus c.loop-i.magnitude))) all
+
+pub returns-then-not-is_ascii_digit-clause-end : goal.returns-then-not-is_ascii_digit-clause-end
+returns-then-not-is_ascii_digit-clause-end c = rw take_rest (end-drop c.loop-i.i c.args.bytes.now)
+
+pub returns-clause-end : goal.returns-clause-end
+returns-clause-end c = rw take_rest (end-drop 8 c.args.bytes.now)

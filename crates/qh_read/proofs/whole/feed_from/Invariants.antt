@@ -1,17 +1,17 @@
 use Rattle.std.proofs.Common.{◌≡◌, ◌≤◌, ◌-◌, vec_len}
 use Rattle.qh_model.specs.declared.limits.TheConstants.{BYTE_LIMIT}
 use Rattle.qh_read.specs.declared.whole.TheConstants.{PIECE_LENGTH}
-use Rattle.qh_read.proofs.SourceLemmas.{FedFrom}
-use Rattle.qh_read.proofs.whole.read_form_from.Given as goal
+use Rattle.qh_read.specs.steps.Sources.{FedOn}
+use Rattle.qh_read.proofs.whole.feed_from.Given as goal
 
 -- the reader was fed all that the source gave so far, and no read failed
-abbrev pub invariant-loop-reader : goal.invariant-loop-reader
-invariant-loop-reader g l = record {
-  so_far : FedFrom l.fn.form l.reader (g.S.Source.remaining l.fn.source) (g.S.Source.remaining l.source);
+abbrev pub invariant-loop-source : goal.invariant-loop-source
+invariant-loop-source g l = record {
+  so_far : FedOn l.fn.reader l.reader (g.S.Source.remaining l.fn.source) (g.S.Source.remaining l.source);
   steady : g.S.Source.failure_count l.source ≡ g.S.Source.failure_count l.fn.source;
   buffer : vec_len l.buffer ≡ PIECE_LENGTH;
   small : l.reader.count ≤ BYTE_LIMIT;
 }
 
-abbrev pub decreases-loop-reader : goal.decreases-loop-reader
-decreases-loop-reader g l = BYTE_LIMIT - l.reader.count
+abbrev pub decreases-loop-source : goal.decreases-loop-source
+decreases-loop-source g l = BYTE_LIMIT - l.reader.count

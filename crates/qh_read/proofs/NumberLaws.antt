@@ -1,0 +1,94 @@
+-- Numbers and points that are told from any base of lines.
+use Rattle.std.proofs.Common.{◌≡◌, ◌∙◌, ◌++◌, [], ◌∷◌, ◌+◌, ◌-◌, ◌*◌, take, drop, ℕ, List, true, false, ap, sym, arith, suc, refl, length, length-append, append_assoc}
+use Rattle.std.proofs.lemmas.List.{append-nil, take-append-drop}
+use Rattle.std.proofs.Math.Seq.{drop-append_seam}
+use Rattle.std.specs.Prelude.{ℤ, Some}
+use Rattle.std.proofs.lemmas.Bool.Decides.{nat_tests}
+use Rattle.qh_model.specs.declared.form.Form.{Form}
+use Rattle.qh_model.specs.headline.Vector.{Vector}
+use Rattle.qh_model.specs.headline.Limits.{IsCoordinate, is_coordinate}
+use Rattle.qh_model.specs.headline.PointFile.{coordinates}
+use Rattle.qh_read.proofs.BuildingLemmas.{coordinates-push}
+use Rattle.qh_read.specs.contract.Holding.{held_by}
+use Rattle.qh_read.specs.contract.Progress.{Progress, after, wants, wants_vertices}
+use Rattle.qh_read.specs.steps.Numbers.{quiet, IsParted, IsEndOf, ArePoint, ArePoints, Takes}
+use Rattle.qh_read.specs.declared.token.Token.TheVariants.{Empty}
+
+-- what comes after some bytes
+pub end-drop : (i : ℕ) (bytes : List ℕ) → IsEndOf (drop i bytes) bytes
+end-drop i bytes = (take i bytes, sym (take-append-drop i bytes))
+
+-- nothing
+pub end-none : (bytes : List ℕ) → IsEndOf [] bytes
+end-none bytes = (bytes, sym (append-nil bytes))
+
+-- the end of an end
+pub end-end : (rest middle bytes : List ℕ) → IsEndOf rest middle → IsEndOf middle bytes → IsEndOf rest bytes
+end-end rest middle bytes h k = (k.0 ++ h.0, k.1 ∙ ap (λ (u : List ℕ). k.0 ++ u) h.1 ∙ sym (append_assoc k.0 h.0 rest))
+
+-- the end, by how many bytes it has
+pub end-is : (rest bytes : List ℕ) → IsEndOf rest bytes → drop (length bytes - length rest) bytes ≡ rest
+end-is rest bytes h =
+    let front : List ℕ = h.0 in
+    let count : length bytes - length rest ≡ length front = omega (arith, ap length h.1, length-append front rest) in
+    ap (λ (n : ℕ). drop n bytes) count ∙ ap (drop (length front)) h.1 ∙ drop-append_seam front rest
+
+pub none_before : (n : ℕ) → 0 + n ≡ n
+none_before n = omega arith
+
+-- what parts words, from the line itself
+pub parted : (line : ℕ) (bytes : List ℕ) (later : ℕ) (rest : List ℕ) → IsParted line bytes later rest → (form : Form) (p : Progress)
+    → held_by (quiet form p line Empty) bytes ≡ held_by (quiet form p later Empty) rest
+parted line bytes later rest h form p =
+    ap (λ (n : ℕ). held_by (quiet form p n Empty) bytes) (sym (none_before line))
+    ∙ h form p 0
+    ∙ ap (λ (n : ℕ). held_by (quiet form p n Empty) rest) (none_before later)
+
+-- no point
+pub points-none : (line : ℕ) (bytes : List ℕ) → ArePoints line bytes [] line bytes
+points-none line bytes form wanted takes left t base =
+    let none : 3 * 0 + left ≡ left = omega arith in
+    ap (λ (n : ℕ). held_by (quiet form (wanted n t) (base + line) Empty) bytes) none
+    ∙ ap (λ (u : List ℤ). held_by (quiet form (wanted left u) (base + line) Empty) bytes) (sym (append-nil t))
+
+-- three coordinates in range
+three : (wanted : ℕ → List ℤ → Progress) → Takes wanted → (left : ℕ) (t : List ℤ) (x y z : ℤ) (i j k : ℕ)
+    → IsCoordinate x → IsCoordinate y → IsCoordinate z
+    → after (after (after (wanted (suc (suc (suc left))) t) false (Some x) i) false (Some y) j) false (Some z) k
+    ≡ wanted left (t ++ x ∷ y ∷ z ∷ [])
+three wanted takes left t x y z i j k p q r =
+    ap (λ (s : Progress). after (after s false (Some y) j) false (Some z) k) (takes (suc (suc left)) t x i p)
+    ∙ ap (λ (s : Progress). after s false (Some z) k) (takes (suc left) (t ++ x ∷ []) y j q)
+    ∙ takes left ((t ++ x ∷ []) ++ y ∷ []) z k r
+    ∙ ap (wanted left) (ap (λ (u : List ℤ). u ++ z ∷ []) (append_assoc t (x ∷ []) (y ∷ [])) ∙ append_assoc t (x ∷ y ∷ []) (z ∷ []))
+
+-- one point more
+pub points-more : (line : ℕ) (bytes : List ℕ) (points : List Vector) (mid : ℕ) (more : List ℕ) (p : Vector)
+    (later : ℕ) (rest : List ℕ) → ArePoints line bytes points mid more → ArePoint mid more p.x p.y p.z later rest
+    → IsCoordinate p.x → IsCoordinate p.y → IsCoordinate p.z
+    → ArePoints line bytes (points ++ p ∷ []) later rest
+points-more line bytes points mid more p later rest many one a b c form wanted takes left t base =
+    let u : List ℤ = t ++ coordinates points in
+    let count : 3 * length (points ++ p ∷ []) + left ≡ 3 * length points + suc (suc (suc left)) = omega (arith, length-append points (p ∷ [])) in
+    let told = one.held form (wanted (suc (suc (suc left))) u) base in
+    let all : u ++ p.x ∷ p.y ∷ p.z ∷ [] ≡ t ++ coordinates (points ++ p ∷ []) =
+    append_assoc t (coordinates points) (p.x ∷ p.y ∷ p.z ∷ []) ∙ ap (λ (v : List ℤ). t ++ v) (sym (coordinates-push points p)) in
+    ap (λ (n : ℕ). held_by (quiet form (wanted n t) (base + line) Empty) bytes) count
+    ∙ many form wanted takes (suc (suc (suc left))) t base
+    ∙ told.3
+    ∙ ap (λ (s : Progress). held_by (quiet form s (base + later) Empty) rest)
+    (three wanted takes left u p.x p.y p.z told.0 told.1 told.2 a b c ∙ ap (wanted left) all)
+
+-- coordinates that are to come take one each
+in_range : (z : ℤ) → IsCoordinate z → is_coordinate z ≡ true
+in_range z h = grind (arith, nat_tests)
+
+pub wants-takes : Takes wants
+wants-takes left t z n h = let e : is_coordinate z ≡ true = in_range z h in cc
+
+pub wants_vertices-takes : Takes wants_vertices
+wants_vertices-takes left t z n h = let e : is_coordinate z ≡ true = in_range z h in cc
+
+pub coordinates-append : (ps qs : List Vector) → coordinates (ps ++ qs) ≡ coordinates ps ++ coordinates qs
+coordinates-append [] qs = refl
+coordinates-append (p ∷ ps) qs = ap (λ (t : List ℤ). p.x ∷ p.y ∷ p.z ∷ t) (coordinates-append ps qs)

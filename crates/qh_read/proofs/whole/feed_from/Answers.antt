@@ -1,0 +1,107 @@
+use Rattle.std.proofs.Common.{◌≡◌, ◌≤◌, ◌<◌, ◌+◌, ◌++◌, ◌∙◌, ℕ, List, arith, ap, length, length-append, length-take, take, drop, refl, sym, subst, append_assoc}
+use Rattle.std.proofs.Common.{Ok, Err, inl, inr}
+use Rattle.std.proofs.lemmas.{Bool.cases_lt, Result.err_from_is_err_and}
+use Rattle.std.proofs.Math.Seq.{take-append_seam}
+use Rattle.qh_model.specs.declared.limits.TheConstants.{BYTE_LIMIT}
+use Rattle.qh_model.specs.declared.read_fault.ReadFault.TheVariants as faults
+use Rattle.qh_read.specs.contract.Holding.{Fed}
+use Rattle.qh_read.specs.contract.ReadFaults.{read_fault, IsTextFault}
+use Rattle.qh_read.specs.declared.whole.TheConstants.{PIECE_LENGTH}
+use Rattle.qh_read.specs.declared.fault.FeedFault.{FeedFault}
+use Rattle.qh_read.specs.declared.fault.FeedFault.TheVariants as refusals
+use Rattle.qh_read.specs.steps.Sources.{Stops}
+use Rattle.qh_read.proofs.SourceLemmas.{Consumes-append, Stops-equal}
+use Rattle.qh_read.proofs.whole.feed_from.Goals as goal
+
+-- `Big` comes of `Big` alone
+only_big : (f : FeedFault) → read_fault f ≡ faults.Big → f ≡ refusals.Big
+only_big refusals.Big h = refl
+only_big refusals.Memory h = cc
+
+-- `Memory` of `Memory` alone
+only_memory : (f : FeedFault) → read_fault f ≡ faults.Memory → f ≡ refusals.Memory
+only_memory refusals.Big h = cc
+only_memory refusals.Memory h = refl
+
+-- and no fault of the device or the text of either
+no_device : (f : FeedFault) → read_fault f ≡ faults.Device → ⊥
+no_device refusals.Big h = cc
+no_device refusals.Memory h = cc
+
+no_text : (f : FeedFault) → IsTextFault (read_fault f) → ⊥
+no_text refusals.Big t = t.2 refl
+no_text refusals.Memory t = t.0 refl
+
+not_refused : (x : Unit {0}) (f : FeedFault) → Ok x ≡ Err f → ⊥
+not_refused x f h = cc
+
+-- what is written back to a vector by a slice of its length
+written : (n : ℕ) (new rest : List ℕ) → length new ≡ n → take n (new ++ rest) ≡ new
+written n new rest e = ap (λ (k : ℕ). take k (new ++ rest)) (sym e) ∙ take-append_seam new rest
+
+-- one piece more
+pub loop-source-preserved : goal.loop-source-preserved
+loop-source-preserved g c =
+    let s = c.loop-source.invariant.so_far in
+    let piece : List ℕ = take c.in_ok-count.count c.read.new.buf in
+    let len : length c.read.new.buf ≡ c.loop-source.buffer.len = omega (arith, c.deref_mut.ensures.len) in
+    let same : c.deref.result.now ≡ c.read.new.buf = c.deref.ensures.value
+    ∙ written c.loop-source.buffer.len c.read.new.buf (drop (length c.read.new.buf) c.loop-source.buffer.items) len in
+    let is : take c.in_ok-count.count c.deref.result.now ≡ piece = ap (take c.in_ok-count.count) same in
+    record {
+      so_far = record {
+        given = s.given ++ piece;
+        took = Consumes-append _ _ _ s.given piece s.took c.in_ok-count.ensures.bytes.0;
+        fed = λ form bytes h. subst (Fed form c.feed.new.self)
+            (ap (λ (u : List ℕ). (bytes ++ s.given) ++ u) is ∙ append_assoc bytes s.given piece)
+            (c.in_ok-feed.ensures.fed form (bytes ++ s.given) (s.fed form bytes h));
+        count = omega (arith, s.count, c.in_ok-feed.ensures.count, ap length is, length-append s.given piece);
+      };
+      steady = c.in_ok-count.ensures.kept ∙ c.loop-source.invariant.steady;
+      buffer = c.loop-source.invariant.buffer;
+      small = elim (cases_lt BYTE_LIMIT (c.loop-source.reader.count + length (take c.in_ok-count.count c.deref.result.now))) [
+        | inl passed ↦ absurd (not_refused _ _ (c.in_ok-feed.ensures.big.1 passed))
+        | inr h ↦ omega (arith, h, c.in_ok-feed.ensures.count)
+      ];
+    }
+
+-- the piece that was refused was no longer than the buffer; one that was refused memory did not pass the limit
+pub returns-in_err-feed-clause-stops : goal.returns-in_err-feed-clause-stops
+returns-in_err-feed-clause-stops g c =
+    let s = c.loop-source.invariant.so_far in
+    let piece : List ℕ = take c.in_ok-count.count c.read.new.buf in
+    let fed : List ℕ = take c.in_ok-count.count c.deref.result.now in
+    let fits : c.in_ok-count.count ≤ PIECE_LENGTH = omega (arith, c.in_ok-count.ensures.bound, c.deref_mut.ensures.len, c.loop-source.invariant.buffer) in
+    let same : length fed ≡ length piece = omega (arith, length-take c.in_ok-count.count c.read.new.buf,
+    length-take c.in_ok-count.count c.deref.result.now) in
+    let few : length piece ≤ PIECE_LENGTH = omega (arith, fits, length-take c.in_ok-count.count c.read.new.buf) in
+    let p = err_from_is_err_and c.from_residual-in_err-feed.result c.from_residual-in_err-feed.ensures.1 in
+    let f : FeedFault = c.in_err-feed.field-0.0 in
+    let took = Consumes-append _ _ _ s.given piece s.took c.in_ok-count.ensures.bytes.0 in
+    let new = c.read.new.self in
+    let stops : Stops (read_fault f) c.args.reader.now.count (g.S.Source.remaining c.args.source.now) (g.S.Source.remaining new)
+    (g.S.Source.failure_count c.args.source.now) (g.S.Source.failure_count new) = record {
+      big = λ e.
+          let passed : BYTE_LIMIT < c.loop-source.reader.count + length fed = c.in_err-feed.ensures.big.0 (ap Err (only_big f e)) in (
+            s.given ++ piece,
+            took,
+            (
+              omega (arith, length-append s.given piece, s.count, passed, same),
+              omega (arith, length-append s.given piece, s.count, c.loop-source.invariant.small, few),
+            ),
+          );
+      big_first = λ e.
+          let within : c.loop-source.reader.count + length fed ≤ BYTE_LIMIT =
+          elim (cases_lt BYTE_LIMIT (c.loop-source.reader.count + length fed)) [
+            | inl passed ↦ (let b = c.in_err-feed.ensures.big.1 passed in let m = only_memory f e in cc)
+            | inr h ↦ h
+          ] in (
+            s.given ++ piece,
+            took,
+            omega (arith, length-append s.given piece, s.count, within, same),
+          );
+      device = λ e. absurd (no_device f e);
+      no_device = λ e. c.in_ok-count.ensures.kept ∙ c.loop-source.invariant.steady;
+      no_text = no_text f;
+    } in
+    rw p.1 (Stops-equal _ _ _ _ _ _ _ p.2 stops)

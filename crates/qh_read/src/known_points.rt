@@ -1,0 +1,34 @@
+//! Pieces whose first points are known before the reader comes to them.
+ghost use Rattle.std.specs.Prelude.{◌≡◌, ◌≤◌, ◌+◌, ◌*◌, length};
+ghost use Rattle.qh_read.specs.steps.Numbers.{ArePoints};
+
+use qh_model::Point;
+
+/// A piece, and the points that it begins with if a point begins there.
+#[derive(Clone, Copy)]
+pub struct KnownPoints<'a> {
+    pub piece: &'a [u8],
+    /// The points that the piece begins with.
+    pub points: &'a [Point],
+    /// The number of lines that end among them.
+    pub lines: u32,
+    /// The bytes after the points.
+    pub rest: &'a [u8],
+    ghost told: { ArePoints 0 piece.now points.now lines rest.now },
+    ghost room: { 6 * length points.now + length rest.now ≤ length piece.now },
+    ghost within: { lines + length rest.now ≤ length piece.now },
+}
+
+impl<'a> KnownPoints<'a> {
+    /// A piece of which no point is known.
+    pub fn none(piece: &'a [u8]) -> KnownPoints<'a>
+        ensures { result.piece.now ≡ piece.now }
+    {
+        KnownPoints {
+            piece,
+            points: &[],
+            lines: 0,
+            rest: piece,
+        }
+    }
+}

@@ -1,0 +1,95 @@
+//! The points of a segment, told before it is known what stands before the segment.
+ghost use Rattle.std.specs.Prelude.{◌≡◌, ◌≤◌, ◌<◌, ◌+◌, ◌*◌, ◌^◌, [], length, vec_len};
+ghost use Rattle.qh_read.specs.steps.Numbers.{ArePoints, IsEndOf};
+ghost use Rattle.qh_read.specs.steps.Segments.{IsSegment};
+
+use crate::numbers::next_point;
+use qh_model::Point;
+use std::alloc::Global;
+use std::mem;
+
+/// The points of a segment of the bytes, if a point begins after its first line.
+///
+/// A segment is cut anywhere. Whether a point does begin there is known later, when the reader comes to it.
+#[derive(Drop)]
+pub struct Segment {
+    /// The points after the first line.
+    pub points: Vec<Point>,
+    /// The length of the first line with its end, or 0 where no line ends.
+    pub head: usize,
+    /// The number of lines that end among the points.
+    pub lines: u32,
+    /// The number of bytes to the end of the points.
+    pub taken: usize,
+}
+
+/// The number of bytes through the first end of a line, or 0 where no line ends.
+fn after_line(bytes: &[u8]) -> usize
+    ensures { result ≤ length bytes.now }
+{
+    for (i, byte) in bytes.iter().enumerate() {
+        if *byte == b'\n' {
+            return i + 1;
+        }
+    }
+    0
+}
+
+/// Takes the points that the bytes begin with, as far as there is room. It answers the number of lines
+/// that end before the bytes that are left, and these.
+fn push_points<'a>(points: &mut Vec<Point>, bytes: &'a [u8]) -> (u32, &'a [u8])
+    requires small { length bytes.now < 2 ^ 31 }
+    requires none { points.old.items ≡ [] }
+    ensures told { ArePoints 0 bytes.now points.new.items result.0 result.1.now }
+    ensures end { IsEndOf result.1.now bytes.now }
+    ensures room { 6 * vec_len points.new + length result.1.now ≤ length bytes.now }
+    ensures lines { result.0 + length result.1.now ≤ length bytes.now }
+{
+    let mut line = 0;
+    let mut rest = bytes;
+    while points.len() < points.capacity() {
+        let Some((x, y, z)) = next_point(line, rest) else {
+            return (line, rest);
+        };
+        let point = Point::new(x.coordinate.value, y.coordinate.value, z.coordinate.value);
+        points.push_reserved(point);
+        line = z.line;
+        rest = z.rest;
+    }
+    (line, rest)
+}
+
+impl Segment {
+    /// A segment of no bytes, with room for the points of so many, or without where memory was refused.
+    pub fn new(alloc: Global, bytes: usize) -> Segment
+        ensures { IsSegment result [] }
+    {
+        // A point takes six bytes at least.
+        let points = match Vec::with_capacity(alloc, bytes / 6 + 1) {
+            Ok(points) => points,
+            Err(_) => Vec::new(alloc),
+        };
+        Segment {
+            points,
+            head: 0,
+            lines: 0,
+            taken: 0,
+        }
+    }
+
+    /// Takes the points of these bytes, as far as there is room, and drops those that it had.
+    pub fn go_over(&mut self, text: &[u8])
+        requires { length text.now < 2 ^ 31 }
+        ensures { IsSegment self.new text.now }
+    {
+        // Out of the segment, whose neighbours other threads write to: each point changes the length.
+        let alloc = *self.points.allocator();
+        let mut points = mem::replace(&mut self.points, Vec::new(alloc));
+        points.clear();
+        self.head = after_line(text);
+        let (lines, rest) = push_points(&mut points, &text[self.head..]);
+        self.points = points;
+        self.lines = lines;
+        self.taken = text.len() - rest.len();
+    }
+}

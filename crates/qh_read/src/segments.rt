@@ -1,0 +1,71 @@
+//! The segments of the same bytes, side by side and in their order.
+ghost use Rattle.std.specs.Prelude.{◌≡◌, ◌≤◌, ◌<◌, ◌+◌, ◌^◌, ◌++◌, [], ℕ, List, length, vec_len, All, IfOk, OnOk, Err};
+ghost use Rattle.qh_model.specs.declared.form.Form.{Form};
+ghost use Rattle.qh_read.specs.contract.Holding.{Fed};
+ghost use Rattle.qh_read.specs.steps.Segments.{IsSegment, AreSegments, segment_text};
+
+use crate::fault::FeedFault;
+use crate::reader::Reader;
+use crate::segment::Segment;
+use qh_model::BYTE_LIMIT;
+use std::alloc::{AllocError, Global};
+use std::thread;
+use std::thread::Threads;
+
+/// Segments of no bytes, so many, with room for the points of that number of bytes each.
+pub fn new_segments(alloc: Global, count: usize, bytes: usize) -> Result<Vec<Segment>, AllocError>
+    ensures count { IfOk result (λ segments. vec_len segments ≡ count) }
+    ensures none { IfOk result (λ segments. All (λ s. IsSegment s []) segments.items) }
+{
+    let mut segments = Vec::with_capacity(alloc, count)?;
+    for _ in 0..count {
+        segments.push_reserved(Segment::new(alloc, bytes));
+    }
+    Ok(segments)
+}
+
+/// Segment `i` of the bytes, which are cut into segments of this size.
+fn segment_at(text: &[u8], size: usize, i: usize) -> &[u8]
+    ensures text { result.now ≡ segment_text size text.now i }
+    ensures small { length result.now ≤ length text.now }
+{
+    let rest = &text[i.saturating_mul(size).min(text.len())..];
+    &rest[..size.min(rest.len())]
+}
+
+/// Goes over the segments of these bytes, each in a thread of its own.
+pub fn go_over_all<R: Threads + Sync>(rt: &R, segments: &mut [Segment], text: &[u8])
+    requires some { 0 < length segments.old }
+    requires small { length text.now < 2 ^ 31 }
+    ensures { AreSegments segments.new text.now }
+{
+    let threads = segments.len();
+    let size = text.len() / threads + 1;
+    thread::for_each_mut(
+        rt,
+        segments,
+        threads,
+        &|i: usize, segment: &mut Segment|
+            requires { length text.now < 2 ^ 31 }
+            ensures { IsSegment segment.new (segment_text size text.entry.now i) }
+        { segment.go_over(segment_at(text, size, i)) },
+    );
+}
+
+/// Takes the segments of these bytes in their order.
+pub fn feed_all(reader: &mut Reader, segments: &[Segment], text: &[u8]) -> Result<(), FeedFault>
+    requires some { 0 < length segments.now }
+    requires segments { AreSegments segments.now text.now }
+    ensures fed { OnOk result ((form : Form) (before : List ℕ) → Fed form reader.old before
+        → Fed form reader.new (before ++ text.now)) }
+    ensures count { OnOk result (reader.new.count ≡ reader.old.count + length text.now) }
+    ensures big { result ≡ Err FeedFault.Big → BYTE_LIMIT < reader.old.count + length text.now }
+{
+    let size = text.len() / segments.len() + 1;
+    for i in 0..segments.len() {
+        if let Err(fault) = reader.feed_segment(&segments[i], segment_at(text, size, i)) {
+            return Err(fault);
+        }
+    }
+    Ok(())
+}
