@@ -12,18 +12,19 @@ use qh_model::BLOCK_LIMIT;
 
 /// The interior filter takes sets of at least this many ids.
 ///
-/// In a smaller set the hull of the filter's sample costs as much as the filter saves.
+/// Of a smaller set the filter's sample is a large part.
 pub(crate) const FILTER_FROM: usize = 50_000;
 
 /// The interior filter's sample has about this many ids, spread evenly over the set.
 ///
-/// A smaller one leaves more points outside its hull; the hull of a larger one takes longer than it
-/// saves.
+/// A smaller one leaves more points outside its hull. The hull of a larger one takes longer, and has more
+/// planes to ask.
 pub(crate) const FILTER_SAMPLE: usize = 2048;
 
-/// Threads share a phase of the filter where it goes over at least this many ids.
+/// Threads share the filter's way over at least this many ids.
 ///
-/// A thread is started in about the time in which another goes over some thousand ids.
+/// Fewer are gone over in a small part of a millisecond, so that threads would take more time to start than
+/// they save.
 pub(crate) const SHARED_FROM: usize = 16_384;
 
 /// This many ids tell by the share of them that is extreme whether a division pays.
@@ -74,8 +75,8 @@ pub(crate) fn filter_pays(inside: usize, sample: usize) -> bool {
 /// Returns the size of the blocks of a list of points, of which a caller wants this size: a greater one
 /// if there would be more than `BLOCK_LIMIT` blocks.
 ///
-/// The program wants 4096 where its command line names no other size: a block's hull then takes about a
-/// millisecond, so that workers have many blocks to choose from.
+/// The program wants 4096 where its command line names no other size, so that of a large set workers have
+/// many blocks to choose from.
 pub fn block_size(count: u32, wanted: u32) -> u32
     requires { 0 < wanted }
     ensures least { wanted ≤ result }
