@@ -16,7 +16,7 @@ use qh_model::{Cut, CutError, Hull, Id, Memory, Point};
 use qh_plane::distinct;
 use qh_read::read_form;
 use qh_run::{Gate, RunError, run_hull};
-use qh_write::text;
+use qh_write::text_in_threads;
 use std::alloc::Global;
 use std::thread::Threads;
 
@@ -77,7 +77,7 @@ fn hull_text_of<R: Threads + Sync, G: Gate>(
 {
     let cut = even_cut(alloc, ids.len() as u32, settings.block())?;
     let hull = hull_of(rt, alloc, pts, ids, &cut, settings, gate)?;
-    text(alloc, &hull, pts, settings.outs())
+    text_in_threads(rt, alloc, &hull, pts, settings.outs(), settings.workers())
 }
 
 /// Returns the texts of the outputs that the settings ask for, of at least one point and at most

@@ -1,6 +1,6 @@
 //! Writes hulls: their texts, and sending them to a device.
 //!
-//! [`text`] makes the text of a list of outputs, [`send`] hands it to a [`Sink`]. The devices are
+//! [`text`] makes the text of a list of outputs, [`text_in_threads`] by several threads; [`send`] hands it to a [`Sink`]. The devices are
 //! [`MemSink`], which keeps the bytes, and [`StdSink`], which wraps a writer of std.
 #![tactic(auto)]
 
@@ -16,4 +16,4 @@ pub use qh_model::Out;
 pub use sending::{SendFault, send};
 pub use sink::{Sink, SinkFault};
 pub use std_sink::StdSink;
-pub use texts::text;
+pub use texts::{text, text_in_threads};

@@ -9,56 +9,109 @@ mod lines;
 mod numbering;
 mod off;
 mod room;
+mod scribes;
 mod summary;
 
+use self::scribes::{Alone, InThreads, Scribe};
 use qh_model::{Hull, Memory, Out, Point};
 use std::alloc::{AllocError, Global};
+use std::thread::Threads;
 
 /// Appends the text of one output.
-fn push_output(
+fn push_output<S: Scribe>(
+    scribe: &S,
     text: &mut Vec<u8>,
     alloc: Global,
     hull: &Hull,
     pts: &[Point],
     out: Out,
 ) -> Result<(), AllocError>
-    requires { AreIndices pts.now hull.now.body.extremes }
+    requires indices { AreIndices pts.now hull.now.body.extremes }
+    requires ready { S.ready scribe.now }
     ensures { OnOk result (text.new.items ≡ text.old.items ++ output_text hull.now pts.now out) }
 {
     match out {
         Out::Rank => summary::push_rank(text, hull),
         Out::Summary => summary::push_summary(text, hull),
         Out::Fx => off::push_extremes(text, &hull.body),
-        Out::Off => off::push_off(text, alloc, &hull.body, pts),
+        Out::Off => off::push_off(scribe, text, alloc, &hull.body, pts),
         Out::OffTriangles => fans::push_off_triangles(text, alloc, &hull.body, pts),
     }
 }
 
-fn push_outputs(
+fn push_outputs<S: Scribe>(
+    scribe: &S,
     text: &mut Vec<u8>,
     alloc: Global,
     hull: &Hull,
     pts: &[Point],
     outs: &[Out],
 ) -> Result<(), AllocError>
-    requires { AreIndices pts.now hull.now.body.extremes }
+    requires indices { AreIndices pts.now hull.now.body.extremes }
+    requires ready { S.ready scribe.now }
     ensures { OnOk result (text.new.items ≡ text.old.items ++ hull_text hull.now pts.now outs.now) }
 {
     for out in outs {
-        push_output(text, alloc, hull, pts, *out)?;
+        push_output(scribe, text, alloc, hull, pts, *out)?;
     }
     Ok(())
 }
 
-/// The texts of the outputs, joined in their order.
+/// The texts of the outputs, joined in their order, by a way to write faces.
+fn text_by<S: Scribe>(
+    scribe: &S,
+    alloc: Global,
+    hull: &Hull,
+    pts: &[Point],
+    outs: &[Out],
+) -> Result<Vec<u8>, Memory>
+    requires indices { AreIndices pts.now hull.now.body.extremes }
+    requires ready { S.ready scribe.now }
+    ensures { IfOk result (λ t. t.items ≡ hull_text hull.now pts.now outs.now) }
+{
+    let mut text = Vec::with_capacity(alloc, room::room_for(&hull.body, outs))?;
+    push_outputs(scribe, &mut text, alloc, hull, pts, outs)?;
+    Ok(text)
+}
+
+/// The texts of the outputs, joined in their order, written by the calling thread alone.
 ///
-/// The caller sees to it that every id in the hull is the index of a point in `pts`. The only error
-/// is want of memory. Source: Qhull manual (`Fx`), Geomview OFF.
+/// The caller sees to it that every id in the hull is the index of a point in `pts`.
+///
+/// # Errors
+///
+/// `Memory` if an allocation failed.
+///
+/// Source: Qhull manual (`Fx`), Geomview OFF.
 pub fn text(alloc: Global, hull: &Hull, pts: &[Point], outs: &[Out]) -> Result<Vec<u8>, Memory>
     requires { AreIndices pts.now hull.now.body.extremes }
     ensures { IfOk result (λ t. t.items ≡ hull_text hull.now pts.now outs.now) }
 {
-    let mut text = Vec::with_capacity(alloc, room::room_for(&hull.body, outs))?;
-    push_outputs(&mut text, alloc, hull, pts, outs)?;
-    Ok(text)
+    text_by(&Alone, alloc, hull, pts, outs)
+}
+
+/// The texts of the outputs, joined in their order, as [`text`] gives them. At most so many threads write
+/// the faces of a large hull side by side; the number changes nothing but the time.
+///
+/// The caller sees to it that every id in the hull is the index of a point in `pts`.
+///
+/// # Errors
+///
+/// `Memory` if an allocation failed.
+pub fn text_in_threads<R: Threads + Sync>(
+    rt: &R,
+    alloc: Global,
+    hull: &Hull,
+    pts: &[Point],
+    outs: &[Out],
+    threads: u32,
+) -> Result<Vec<u8>, Memory>
+    requires { AreIndices pts.now hull.now.body.extremes }
+    ensures { IfOk result (λ t. t.items ≡ hull_text hull.now pts.now outs.now) }
+{
+    let scribe = InThreads {
+        rt,
+        threads: threads as usize,
+    };
+    text_by(&scribe, alloc, hull, pts, outs)
 }

@@ -9,6 +9,7 @@ ghost use Rattle.qh_model.specs.contract.IdSets.{AreIndices};
 
 use super::lines::{push_line_end, push_number, push_signed, push_spaced};
 use super::numbering::vertex_numbers;
+use super::scribes::Scribe;
 use qh_model::{Body, Id, Point, Polygon};
 use std::alloc::{AllocError, Global};
 
@@ -81,7 +82,12 @@ pub fn push_face(text: &mut Vec<u8>, numbers: &[usize], face: &[Id]) -> Result<(
     push_line_end(text)
 }
 
-fn push_faces(text: &mut Vec<u8>, numbers: &[usize], faces: &[Polygon]) -> Result<(), AllocError>
+/// Appends faces, each vertex by its number.
+pub fn push_faces(
+    text: &mut Vec<u8>,
+    numbers: &[usize],
+    faces: &[Polygon],
+) -> Result<(), AllocError>
     requires { All (AreNumbered numbers.now) faces.now }
     ensures { OnOk result (text.new.items ≡ text.old.items ++ flat_map (face_by_table numbers.now) faces.now) }
 {
@@ -91,8 +97,9 @@ fn push_faces(text: &mut Vec<u8>, numbers: &[usize], faces: &[Polygon]) -> Resul
     Ok(())
 }
 
-/// Appends the faces, each vertex by its number.
-fn push_numbered_faces(
+/// Appends the faces, each vertex by its number among the extreme ids.
+fn push_numbered_faces<S: Scribe>(
+    scribe: &S,
     text: &mut Vec<u8>,
     alloc: Global,
     extremes: &[Id],
@@ -101,10 +108,11 @@ fn push_numbered_faces(
 ) -> Result<(), AllocError>
     requires within { All (λ i. i < count) extremes.now }
     requires order { IsBodyInOrder extremes.now faces.now }
+    requires ready { S.ready scribe.now }
     ensures { OnOk result (text.new.items ≡ text.old.items ++ flat_map (face_text extremes.now) faces.now) }
 {
     let numbers = vertex_numbers(alloc, extremes, count)?;
-    push_faces(text, &numbers, faces)?;
+    scribe.push_faces(text, alloc, &numbers, faces)?;
     Ok(())
 }
 
@@ -118,17 +126,26 @@ fn push_counts(text: &mut Vec<u8>, body: &Body) -> Result<(), AllocError>
 }
 
 /// Appends the text of `off`.
-pub fn push_off(
+pub fn push_off<S: Scribe>(
+    scribe: &S,
     text: &mut Vec<u8>,
     alloc: Global,
     body: &Body,
     pts: &[Point],
 ) -> Result<(), AllocError>
-    requires { AreIndices pts.now body.now.extremes }
+    requires indices { AreIndices pts.now body.now.extremes }
+    requires ready { S.ready scribe.now }
     ensures { OnOk result (text.new.items ≡ text.old.items ++ off_text body.now pts.now) }
 {
     text.extend_from_slice(b"OFF\n")?;
     push_counts(text, body)?;
     push_vertices(text, pts, &body.extremes)?;
-    push_numbered_faces(text, alloc, &body.extremes, &body.polygons, pts.len())
+    push_numbered_faces(
+        scribe,
+        text,
+        alloc,
+        &body.extremes,
+        &body.polygons,
+        pts.len(),
+    )
 }

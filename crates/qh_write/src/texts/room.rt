@@ -27,6 +27,11 @@ fn fan_numbers(faces: &[Polygon]) -> usize {
     triangles.saturating_mul(4)
 }
 
+/// At least as many bytes as the lines of faces take.
+pub fn faces_room(faces: &[Polygon]) -> usize {
+    face_numbers(faces).saturating_mul(NUMBER)
+}
+
 fn output_room(body: &Body, out: Out) -> usize {
     let vertices = body.extremes.len().saturating_mul(NUMBER);
     match out {
@@ -34,7 +39,7 @@ fn output_room(body: &Body, out: Out) -> usize {
         Out::Fx => SUMMARY.saturating_add(vertices),
         Out::Off => SUMMARY
             .saturating_add(vertices.saturating_mul(3))
-            .saturating_add(face_numbers(&body.polygons).saturating_mul(NUMBER)),
+            .saturating_add(faces_room(&body.polygons)),
         Out::OffTriangles => SUMMARY
             .saturating_add(vertices.saturating_mul(3))
             .saturating_add(fan_numbers(&body.polygons).saturating_mul(NUMBER)),

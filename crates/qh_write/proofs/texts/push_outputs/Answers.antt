@@ -4,7 +4,7 @@ use Rattle.qh_model.specs.headline.Text.{output_text}
 use Rattle.qh_write.proofs.texts.push_outputs.Goals as goal
 
 pub returns : goal.returns
-returns c =
+returns g c =
     c.loop-out.invariant
     ∙ ap (λ outs. c.args.text.now.items ++ flat_map (output_text c.args.hull.now c.args.pts.now) outs)
     (take_all c.loop-out.out-index c.args.outs.now c.loop-out-test.false)

@@ -1,0 +1,144 @@
+//! Who writes the lines of faces: the calling thread alone, or threads side by side.
+ghost use Rattle.std.specs.Prelude.{◌≡◌, ◌++◌, ◌*◌, ◌≤◌, ◌<◌, ℕ, IfOk, OnOk, Result, Vec, All, length, take, drop, slice_index_or};
+ghost use Rattle.std.specs.List.{flat_map};
+ghost use Rattle.std.specs.Thread.{IsSync};
+ghost use Rattle.qh_write.specs.steps.VertexTables.{AreNumbered, face_by_table};
+
+use super::off::push_faces;
+use super::room::faces_room;
+use qh_model::Polygon;
+use std::alloc::{AllocError, Global};
+use std::thread::{self, Threads};
+
+/// Threads share the lines of at least this many faces.
+///
+/// Fewer are written in about a millisecond.
+const SHARED_FROM: usize = 16_384;
+
+/// A way to write the lines of faces.
+pub trait Scribe {
+    /// What is known of one that writes.
+    ghost ready: { Self → Type 0 };
+
+    /// Appends the faces, each vertex by its number in a table.
+    fn push_faces(
+        &self,
+        text: &mut Vec<u8>,
+        alloc: Global,
+        numbers: &[usize],
+        faces: &[Polygon],
+    ) -> Result<(), AllocError>
+        requires ready { ready self.now }
+        requires numbered { All (AreNumbered numbers.now) faces.now }
+        ensures { OnOk result (text.new.items ≡ text.old.items ++ flat_map (face_by_table numbers.now) faces.now) };
+}
+
+/// The part of faces with a number, where they are cut into parts of so many; the last may be shorter, and
+/// there is nothing past it.
+fn part_of(faces: &[Polygon], size: usize, number: usize) -> &[Polygon]
+    ensures { result.now ≡ take size (drop (number * size) faces.now) }
+{
+    let from = number.saturating_mul(size).min(faces.len());
+    let (_, rest) = faces.split_at(from);
+    let (part, _) = rest.split_at(size.min(rest.len()));
+    part
+}
+
+/// The text of faces, each vertex by its number in a table.
+fn faces_text(alloc: Global, numbers: &[usize], faces: &[Polygon]) -> Result<Vec<u8>, AllocError>
+    requires { All (AreNumbered numbers.now) faces.now }
+    ensures { IfOk result (λ t. t.items ≡ flat_map (face_by_table numbers.now) faces.now) }
+{
+    let mut text = Vec::with_capacity(alloc, faces_room(faces))?;
+    push_faces(&mut text, numbers, faces)?;
+    Ok(text)
+}
+
+/// Appends the texts of the parts of faces.
+fn push_parts(
+    text: &mut Vec<u8>,
+    numbers: &[usize],
+    faces: &[Polygon],
+    parts: &[Result<Vec<u8>, AllocError>],
+    size: usize,
+) -> Result<(), AllocError>
+    requires parts { (i : ℕ) (d : Result (Vec ℕ Global) AllocError) → i < length parts.now → IfOk (slice_index_or parts.now i d)
+        (λ t. t.items ≡ flat_map (face_by_table numbers.now) (take size (drop (i * size) faces.now))) }
+    requires all { length faces.now ≤ length parts.now * size }
+    ensures { OnOk result (text.new.items ≡ text.old.items ++ flat_map (face_by_table numbers.now) faces.now) }
+{
+    for part in parts {
+        match part {
+            Ok(lines) => text.extend_from_slice(lines)?,
+            Err(error) => return Err(*error),
+        }
+    }
+    Ok(())
+}
+
+/// Appends faces by as many threads, each at a part of them.
+fn push_faces_in_threads<R: Threads + Sync>(
+    rt: &R,
+    text: &mut Vec<u8>,
+    alloc: Global,
+    numbers: &[usize],
+    faces: &[Polygon],
+    threads: usize,
+) -> Result<(), AllocError>
+    requires { All (AreNumbered numbers.now) faces.now }
+    ensures { OnOk result (text.new.items ≡ text.old.items ++ flat_map (face_by_table numbers.now) faces.now) }
+{
+    if threads < 2 || faces.len() < SHARED_FROM {
+        return push_faces(text, numbers, faces);
+    }
+    let size = faces.len() / threads + 1;
+    let parts = thread::map_indices(
+        rt,
+        alloc,
+        threads,
+        &move |number: usize| -> Result<Vec<u8>, AllocError>
+            requires { All (AreNumbered numbers.now) faces.now }
+            ensures { IfOk result (λ t. t.items ≡ flat_map (face_by_table numbers.entry.now) (take size (drop (number * size) faces.entry.now))) }
+        { faces_text(alloc, numbers, part_of(faces, size, number)) },
+    )?;
+    push_parts(text, numbers, faces, &parts, size)
+}
+
+/// The calling thread alone.
+#[derive(Clone, Copy, Debug)]
+pub struct Alone;
+
+impl Scribe for Alone {
+    ghost ready = { λ _. Unit {0} };
+
+    fn push_faces(
+        &self,
+        text: &mut Vec<u8>,
+        _alloc: Global,
+        numbers: &[usize],
+        faces: &[Polygon],
+    ) -> Result<(), AllocError> {
+        push_faces(text, numbers, faces)
+    }
+}
+
+/// At most so many threads of a runtime.
+#[derive(Clone, Copy, Debug)]
+pub struct InThreads<'a, R> {
+    pub rt: &'a R,
+    pub threads: usize,
+}
+
+impl<R: Threads + Sync> Scribe for InThreads<'_, R> {
+    ghost ready = { λ _. IsSync R.row };
+
+    fn push_faces(
+        &self,
+        text: &mut Vec<u8>,
+        alloc: Global,
+        numbers: &[usize],
+        faces: &[Polygon],
+    ) -> Result<(), AllocError> {
+        push_faces_in_threads(self.rt, text, alloc, numbers, faces, self.threads)
+    }
+}
