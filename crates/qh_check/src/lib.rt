@@ -20,6 +20,8 @@ mod levels;
 mod order;
 mod places;
 mod solids;
+#[cfg(test)]
+mod tests;
 mod verdict;
 
 pub use claims::{check, check_by_workers};
