@@ -1,8 +1,10 @@
 pub mod BlockBoxes
+pub mod Chunks
 pub mod ClaimedFaces
 pub mod FaultCases
 pub mod FirstCorners
 pub mod FoundIds
+pub mod FoundParts
 pub mod Listed
 pub mod OrderedPolygons
 pub mod PointBoxes

@@ -19,7 +19,9 @@ use Rattle.qh_check.specs.declared.verdict.FaceFault.{FaceFault}
 use Rattle.qh_check.specs.declared.verdict.Verdict.{Verdict}
 use Rattle.qh_check.specs.declared.verdict.Verdict.TheVariants.{Right, OtherPolygons, OutOfOrder, NoFace, Open}
 use Rattle.qh_check.specs.contract.Claims.{ArePolygonsOf, IsOutOfOrder, IsOpen, IsReason}
+use Rattle.qh_check.specs.declared.findings.Finding.{Finding}
 use Rattle.qh_check.specs.steps.Faces.{IsFaceOf, IsFaultOf}
+use Rattle.qh_check.specs.steps.Findings.{IsFoundFrom}
 use Rattle.qh_check.specs.steps.Verdicts.{IsVerdictOf}
 use Rattle.qh_check.proofs.FirstCorners.{no_face}
 use Rattle.qh_check.proofs.OrderedPolygons.{rises_at}
@@ -54,16 +56,21 @@ module _ (pts : List Vector) (ids : List ℕ) (qs : List (List ℕ)) (set : IsId
       → IsVerdictOf pts ids qs v
   wrong v n none reason = record { right = (λ e. absurd (n e), λ p. absurd (none (faces_of p))); reason = reason }
 
-  pub out_of_order : (n : ℕ) → IsOutOfOrder qs n → IsVerdictOf pts ids qs (OutOfOrder n)
-  out_of_order n h = wrong (OutOfOrder n) (λ e. cc) (λ f. h.1 (rises_at qs f.rising n h.0)) h
+  pub is_out_of_order : (n : ℕ) → IsOutOfOrder qs n → IsVerdictOf pts ids qs (OutOfOrder n)
+  is_out_of_order n h = wrong (OutOfOrder n) (λ e. cc) (λ f. h.1 (rises_at qs f.rising n h.0)) h
 
-  pub is_no_face : (n : ℕ) (fault : FaceFault) → n < length qs → IsFaultOf pts ids (get_or qs n []) fault
+  is_no_face : (n : ℕ) (fault : FaceFault) → n < length qs → IsFaultOf pts ids (get_or qs n []) fault
       → IsVerdictOf pts ids qs (NoFace n fault)
   is_no_face n fault l h =
       wrong (NoFace n fault) (λ e. cc)
       (λ f. no_face at ids set.distinct (get_or qs n []) fault (h set.distinct)
       (f.only (get_or qs n []) (In-get_or qs n [] l)))
       (l, h set.distinct)
+
+  pub is_found : (f : Finding) → IsFoundFrom pts ids qs 0 f → IsVerdictOf pts ids qs (NoFace f.position f.fault)
+  is_found f (k, l, e, h) =
+      let same : k ≡ f.position = omega (arith, e) in
+      subst (λ n. IsVerdictOf pts ids qs (NoFace n f.fault)) same (is_no_face k f.fault l h)
 
   pub is_open : (u v : ℕ) → IsOpen qs u v → IsVerdictOf pts ids qs (Open u v)
   is_open u v h = wrong (Open u v) (λ e. cc) (λ f. h (faces_close at ids qs set.distinct solid f u v)) h

@@ -1,6 +1,7 @@
 -- What private functions speak of: nothing to believe.
 pub mod Boxes
 pub mod Faces
+pub mod Findings
 pub mod Levels
 pub mod Places
 pub mod StepKeys

@@ -1,81 +1,19 @@
 //! Whether polygons are those of a set.
-ghost use Rattle.std.specs.Prelude.{◌≡◌, ◌<◌, ◌⊎◌, ◌↔◌, ℕ, List, [], IfOk, MatchOption, IsTrue, length, slice_index_or};
-ghost use Rattle.std.specs.List.{All};
-ghost use Rattle.qh_model.specs.headline.Dimension.{IsDimension};
+ghost use Rattle.std.specs.Prelude.{◌≡◌, ◌<◌, ◌⊎◌, ◌↔◌, IfOk, IsTrue, length};
 ghost use Rattle.qh_model.specs.headline.Predicates.{place};
 ghost use Rattle.qh_model.specs.headline.Sets.{Members};
 ghost use Rattle.qh_model.specs.contract.IdSets.{AreIndices, IsIdSet};
 ghost use Rattle.qh_check.specs.declared.verdict.Verdict.TheVariants.{Right, OtherPolygons};
 ghost use Rattle.qh_check.specs.contract.Claims.{ArePolygonsOf, IsReason};
-ghost use Rattle.qh_check.specs.steps.Places.{ArePlaces};
-ghost use Rattle.qh_check.specs.steps.Faces.{IsFaceOf, IsFaultOf};
-ghost use Rattle.qh_check.specs.steps.Verdicts.{IsVerdictOf};
 
-use crate::closed::open_step;
-use crate::faces::{PlacedSet, are_same, fault_of};
-use crate::order::out_of_order;
-use crate::places::Places;
-use crate::verdict::{FaceFault, Verdict};
+use crate::faces::are_same;
+use crate::solids::{check_solid, check_solid_by_workers};
+use crate::verdict::Verdict;
 use qh_block::hull;
 use qh_model::{Id, Memory, Point, Polygon};
 use qh_plane::{Shape, rank};
 use std::alloc::Global;
-
-/// A polygon that is no face, by its position, and its fault.
-#[derive(Clone, Copy, Drop)]
-struct Finding {
-    position: usize,
-    fault: FaceFault,
-}
-
-/// The first of the polygons that is no face of the set.
-fn first_fault(
-    alloc: Global,
-    set: PlacedSet,
-    polygons: &[Polygon],
-) -> Result<Option<Finding>, Memory>
-    ensures { IfOk result (λ found. (ids : List ℕ) → ArePlaces set.entry.pts.now ids set.entry.places.now
-        → MatchOption found (All (IsFaceOf set.entry.pts.now ids) polygons.now)
-        (λ f. (f.position < length polygons.now) × IsFaultOf set.entry.pts.now ids (slice_index_or polygons.now f.position []) f.fault)) }
-{
-    let mut in_plane = Vec::new(alloc);
-    for position in 0..polygons.len() {
-        if let Some(fault) = fault_of(alloc, set, &polygons[position], &mut in_plane)? {
-            return Ok(Some(Finding { position, fault }));
-        }
-    }
-    Ok(None)
-}
-
-/// Whether polygons, one at least, are the faces of a solid set.
-fn check_solid(
-    alloc: Global,
-    pts: &[Point],
-    ids: &[Id],
-    polygons: &[Polygon],
-) -> Result<Verdict, Memory>
-    requires some { 0 < length ids.now }
-    requires indices { AreIndices pts.now ids.now }
-    requires claimed { 0 < length polygons.now }
-    ensures { IfOk result (λ v. IsIdSet pts.now ids.now → IsDimension (place pts.now) (Members ids.now) 3
-        → IsVerdictOf pts.now ids.now polygons.now v) }
-{
-    if let Some(position) = out_of_order(polygons) {
-        return Ok(Verdict::OutOfOrder(position));
-    }
-    let places = Places::over(alloc, pts, ids)?;
-    let set = PlacedSet {
-        pts,
-        places: &places,
-    };
-    if let Some(found) = first_fault(alloc, set, polygons)? {
-        return Ok(Verdict::NoFace(found.position, found.fault));
-    }
-    match open_step(alloc, polygons)? {
-        Some(step) => Ok(Verdict::Open(step.from, step.to)),
-        None => Ok(Verdict::Right),
-    }
-}
+use std::thread::Threads;
 
 /// Returns true if two lists of polygons are the same.
 fn are_same_polygons(polygons: &[Polygon], others: &[Polygon]) -> bool
@@ -143,6 +81,39 @@ pub fn check(
     }
     match rank(pts, ids) {
         Shape::Solid(_, _, _, _) => check_solid(alloc, pts, ids, polygons),
+        _ => compare(alloc, pts, ids, polygons),
+    }
+}
+
+/// Checks polygons as [`check`] does, by a number of threads: each looks at a part of the polygons.
+///
+/// No `workers` means one. The verdict may name another of several polygons that are no faces.
+///
+/// # Errors
+///
+/// `Memory` where an allocation failed.
+pub fn check_by_workers<R: Threads + Sync>(
+    rt: &R,
+    alloc: Global,
+    pts: &[Point],
+    ids: &[Id],
+    polygons: &[Polygon],
+    workers: usize,
+) -> Result<Verdict, Memory>
+    requires some { 0 < length ids.now }
+    requires indices { AreIndices pts.now ids.now }
+    ensures right { IfOk result (λ v. IsIdSet pts.now ids.now
+        → (v ≡ Right) ↔ ArePolygonsOf (place pts.now) (Members ids.now) polygons.now) }
+    ensures reason { IfOk result (λ v. IsIdSet pts.now ids.now
+        → IsReason (place pts.now) (Members ids.now) polygons.now v) }
+{
+    if polygons.is_empty() {
+        return compare(alloc, pts, ids, polygons);
+    }
+    match rank(pts, ids) {
+        Shape::Solid(_, _, _, _) => {
+            check_solid_by_workers(rt, alloc, pts, ids, polygons, workers.max(1))
+        }
         _ => compare(alloc, pts, ids, polygons),
     }
 }

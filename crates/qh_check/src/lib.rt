@@ -15,10 +15,14 @@ mod boxes;
 mod claims;
 mod closed;
 mod faces;
+mod findings;
 mod levels;
 mod order;
 mod places;
+mod solids;
+#[cfg(test)]
+mod tests;
 mod verdict;
 
-pub use claims::check;
+pub use claims::{check, check_by_workers};
 pub use verdict::{FaceFault, Verdict};
