@@ -13,7 +13,7 @@ use crate::ranks::{are_all_ranks, rank_text};
 use crate::settings::Settings;
 use qh_block::block_size;
 use qh_model::{Cut, CutError, Hull, Id, Memory, Point};
-use qh_plane::distinct;
+use qh_plane::{distinct, distinct_alone};
 use qh_read::read_form;
 use qh_run::{Gate, RunError, run_hull};
 use qh_write::text_in_threads;
@@ -35,6 +35,23 @@ fn even_cut(alloc: Global, count: u32, wanted: u32) -> Result<Cut, Memory>
         Err(CutError::ZeroSize) => unreachable!(),
         Err(CutError::TooManyBlocks) => unreachable!(),
         Err(CutError::BadBounds) => unreachable!(),
+    }
+}
+
+/// The distinct ids of the points, which one worker finds without a thread.
+fn distinct_ids<R: Threads + Sync>(
+    rt: &R,
+    alloc: Global,
+    pts: &[Point],
+    workers: u32,
+) -> Result<Vec<Id>, Memory>
+    requires { length pts.now ≤ POINT_LIMIT }
+    ensures { IfOk result (λ v. AreDistinctIds pts.now v.items) }
+{
+    if workers < 2 {
+        distinct_alone(alloc, pts)
+    } else {
+        distinct(rt, alloc, pts)
     }
 }
 
@@ -100,7 +117,7 @@ pub(crate) fn text_of<R: Threads + Sync, G: Gate>(
     requires few { length pts.now ≤ POINT_LIMIT }
     ensures { IfOk result (λ t. IsText pts.now settings.now.outs t.items) }
 {
-    let ids = distinct(rt, alloc, pts)?;
+    let ids = distinct_ids(rt, alloc, pts, settings.workers())?;
     if are_all_ranks(settings.outs()) {
         return rank_text(alloc, pts, &ids, settings.outs());
     }
