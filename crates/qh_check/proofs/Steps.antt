@@ -1,16 +1,21 @@
--- Polygons are closed just where the keys of their steps and those of the steps back are the same when sorted.
-use Rattle.std.proofs.Common.{◌≡◌, ◌≢◌, ℕ, ◌+◌, ◌*◌, ◌/◌, ◌%◌, arith, refl, sym, ap, subst, ◌∙◌, List, map}
-use Rattle.std.proofs.Common.{Bool, true, false, cond, eqb, eqb-true, IsPermutation}
+-- Polygons are closed just where the keys of their steps to higher ids, and those of their steps to lower ids turned
+-- back, are the same when sorted.
+use Rattle.std.proofs.Common.{◌≡◌, ◌≢◌, ℕ, ◌+◌, ◌*◌, ◌/◌, ◌%◌, ◌<◌, ◌≤◌, arith, refl, sym, ap, subst, ◌∙◌, inl, inr}
+use Rattle.std.proofs.Common.{List, [], ◌∷◌, map, Bool, true, false, cond, eqb, eqb-true, IsPermutation}
+use Rattle.std.proofs.lemmas.Bool.{cases_Bool, cases_lt}
+use Rattle.std.proofs.lemmas.Bool.Decides.{nat_tests}
 use Rattle.std.proofs.lemmas.List.Sorted.{sum_by-IsPermutation}
-use Rattle.std.specs.Prelude.{count_by}
+use Rattle.std.specs.Prelude.{count_by, filter, nat_lt}
 use Rattle.std.specs.List.{flat_map}
 use Rattle.qh_model.specs.contract.ClosedSurface.{is_edge}
 use Rattle.qh_model.specs.contract.ClosedPolygons.{steps_round, step_count, AreClosed}
 use Rattle.qh_model.proofs.lists.Counts.{count-map}
 use Rattle.qh_model.proofs.closed_surfaces.SignedVolume.{edge_tests, eqb-refl, is_edge-back}
+use Rattle.qh_model.proofs.closed_surfaces.Sums.{count, count-is}
 use Rattle.qh_check.specs.declared.closed.TheConstants.{ROOM}
-use Rattle.qh_check.specs.steps.StepKeys.{step_in, back, CountOtherwise}
+use Rattle.qh_check.specs.steps.StepKeys.{step_in, back, goes_up, goes_down, CountOtherwise}
 
+-- ---- keys
 -- keys are the same where their steps are
 same_step : (z k : ℕ) → eqb z k ≡ is_edge (step_in z) (step_in k)
 same_step z k = alike (eqb z k) (is_edge (step_in z) (step_in k)) there back_again
@@ -34,35 +39,97 @@ same_step z k = alike (eqb z k) (is_edge (step_in z) (step_in k)) there back_aga
         let same : z ≡ k = sym (whole z) ∙ ap (λ (q : ℕ × ℕ). q.0 * ROOM + q.1) p ∙ whole k in
         subst (λ n. eqb z n ≡ true) same (eqb-refl z)
 
--- a list of keys has a step as often in any order
-in_order : (s : ℕ × ℕ) (ks ls : List ℕ) → IsPermutation ks ls
-    → count_by (is_edge s) (map step_in ks) ≡ count_by (λ k. is_edge s (step_in k)) ls
-in_order s ks ls r =
-    count-map step_in (is_edge s) ks ∙ sym (sum_by-IsPermutation (λ k. cond (is_edge s (step_in k)) 1 0) ks ls r)
+-- the test of a key's step
+abbrev on : ℕ → ℕ → ℕ → Bool
+on u v k = is_edge (u, v) (step_in k)
 
-module _ (qs : List (List ℕ)) (keys turned there round : List ℕ) (steps : map step_in keys ≡ flat_map steps_round qs)
-    (backs : map step_in turned ≡ map back (map step_in keys)) (p : IsPermutation keys there)
-    (q : IsPermutation turned round) where
-  -- the sorted keys count the steps, those of the steps back the steps turned round
-  steps_there : (u v : ℕ) → step_count qs u v ≡ count_by (λ k. is_edge (u, v) (step_in k)) there
-  steps_there u v = ap (count_by (is_edge (u, v))) (sym steps) ∙ in_order (u, v) keys there p
+-- where all that count pass, a filter keeps the count
+kept : (f p : ℕ → Bool) → ((k : ℕ) → f k ≡ true → p k ≡ true) → (ks : List ℕ) → count f (filter p ks) ≡ count f ks
+kept f p h [] = refl
+kept f p h (k ∷ ks) = elim (cases_Bool (p k)) [
+  | inl t ↦ rw t (ap (λ n. cond (f k) 1 0 + n) (kept f p h ks))
+  | inr t ↦ rw t (kept f p h ks ∙ skip (f k) refl t)
+]
+  where
+    skip : (b : Bool) → f k ≡ b → p k ≡ false → count f ks ≡ cond b 1 0 + count f ks
+    skip true e t = let q = h k e in cc
+    skip false e t = omega arith
 
-  steps_back : (u v : ℕ) → step_count qs v u ≡ count_by (λ k. is_edge (u, v) (step_in k)) round
-  steps_back u v =
-      ap (λ (f : ℕ × ℕ → Bool). count_by f (flat_map steps_round qs)) (λ i s. sym (is_edge-back (u, v) s) i)
-      ∙ sym (count-map back (is_edge (u, v)) (flat_map steps_round qs))
-      ∙ ap (count_by (is_edge (u, v))) (sym (backs ∙ ap (map back) steps)) ∙ in_order (u, v) turned round q
+-- where none of them passes, nothing
+lost : (f p : ℕ → Bool) → ((k : ℕ) → f k ≡ true → p k ≡ false) → (ks : List ℕ) → count f (filter p ks) ≡ 0
+lost f p h [] = refl
+lost f p h (k ∷ ks) = elim (cases_Bool (p k)) [
+  | inl t ↦ rw t (first (f k) refl t (lost f p h ks))
+  | inr t ↦ rw t (lost f p h ks)
+]
+  where
+    first : (b : Bool) → f k ≡ b → p k ≡ true → count f (filter p ks) ≡ 0 → cond b 1 0 + count f (filter p ks) ≡ 0
+    first true e t z = let q = h k e in cc
+    first false e t z = omega arith
+
+-- so by a test that goes by what counts
+halved : (f p : ℕ → Bool) (b : Bool) → ((k : ℕ) → f k ≡ true → p k ≡ b) → (ks : List ℕ)
+    → count f (filter p ks) ≡ cond b (count f ks) 0
+halved f p true h ks = kept f p h ks
+halved f p false h ks = lost f p h ks
+
+up_by : (u v k : ℕ) → on u v k ≡ true → goes_up k ≡ nat_lt u v
+up_by u v k e = ap (λ (s : ℕ × ℕ). nat_lt s.0 s.1) (sym (edge_tests.same (u, v) (step_in k) e))
+
+down_by : (u v k : ℕ) → on v u k ≡ true → goes_down k ≡ nat_lt u v
+down_by u v k e = ap (λ (s : ℕ × ℕ). nat_lt s.1 s.0) (sym (edge_tests.same (v, u) (step_in k) e))
+
+-- ---- steps round polygons
+module _ (qs : List (List ℕ)) (keys up down there round : List ℕ) (steps : map step_in keys ≡ flat_map steps_round qs)
+    (ups : up ≡ filter goes_up keys) (downs : map step_in down ≡ map back (map step_in (filter goes_down keys)))
+    (p : IsPermutation up there) (q : IsPermutation down round) where
+  -- the keys count the steps
+  in_keys : (u v : ℕ) → count (on u v) keys ≡ step_count qs u v
+  in_keys u v =
+      count-is (on u v) keys ∙ sym (count-map step_in (is_edge (u, v)) keys) ∙ ap (count_by (is_edge (u, v))) steps
+
+  -- the sorted keys count the steps to a higher id, and the steps back
+  half_up : (u v : ℕ) → count_by (on u v) there ≡ cond (nat_lt u v) (step_count qs u v) 0
+  half_up u v =
+      sum_by-IsPermutation (λ k. cond (on u v k) 1 0) up there p ∙ ap (count_by (on u v)) ups
+      ∙ sym (count-is (on u v) (filter goes_up keys)) ∙ halved (on u v) goes_up (nat_lt u v) (up_by u v) keys
+      ∙ ap (λ n. cond (nat_lt u v) n 0) (in_keys u v)
+
+  half_down : (u v : ℕ) → count_by (on u v) round ≡ cond (nat_lt u v) (step_count qs v u) 0
+  half_down u v =
+      sum_by-IsPermutation (λ k. cond (on u v k) 1 0) down round q ∙ sym (count-map step_in (is_edge (u, v)) down)
+      ∙ ap (count_by (is_edge (u, v))) downs ∙ count-map back (is_edge (u, v)) (map step_in lower)
+      ∙ ap (λ (f : ℕ × ℕ → Bool). count_by f (map step_in lower)) (λ i s. is_edge-back (u, v) s i)
+      ∙ count-map step_in (is_edge (v, u)) lower ∙ sym (count-is (on v u) lower)
+      ∙ halved (on v u) goes_down (nat_lt u v) (down_by u v) keys ∙ ap (λ n. cond (nat_lt u v) n 0) (in_keys v u)
+    where
+      lower : List ℕ
+      lower = filter goes_down keys
 
   pub closed_by_keys : there ≡ round → AreClosed qs
-  closed_by_keys same u v =
-      steps_there u v ∙ ap (count_by (λ k. is_edge (u, v) (step_in k))) same ∙ sym (steps_back u v)
+  closed_by_keys same u v = elim (cases_lt u v) [
+    | inl l ↦ ahead u v l
+    | inr r ↦ elim (cases_lt v u) [ inl l ↦ sym (ahead v u l) | inr s ↦ level r s ]
+  ]
+    where
+      pick : (b : Bool) (x y : ℕ) → b ≡ true → cond b x 0 ≡ cond b y 0 → x ≡ y
+      pick true x y e h = h
+      pick false x y e h = cc
+
+      ahead : (u v : ℕ) → u < v → step_count qs u v ≡ step_count qs v u
+      ahead u v l =
+          let t : nat_lt u v ≡ true = grind (arith, nat_tests, l) in
+          pick (nat_lt u v) _ _ t (sym (half_up u v) ∙ ap (count_by (on u v)) same ∙ half_down u v)
+
+      level : v ≤ u → u ≤ v → step_count qs u v ≡ step_count qs v u
+      level r s = let e : u ≡ v = omega arith in subst (λ w. step_count qs u w ≡ step_count qs w u) e refl
 
   -- a key that they do not have equally often is that of an open step
   pub open_by_key : (z : ℕ) → CountOtherwise there round z
       → step_count qs (step_in z).0 (step_in z).1 ≢ step_count qs (step_in z).1 (step_in z).0
   open_by_key z otherwise e =
-      otherwise (by_step there ∙ sym (steps_there (z / ROOM) (z % ROOM)) ∙ e ∙ steps_back (z / ROOM) (z % ROOM)
-      ∙ sym (by_step round))
+      otherwise (by_step there ∙ half_up (z / ROOM) (z % ROOM) ∙ ap (λ n. cond (nat_lt (z / ROOM) (z % ROOM)) n 0) e
+      ∙ sym (half_down (z / ROOM) (z % ROOM)) ∙ sym (by_step round))
     where
-      by_step : (ks : List ℕ) → count_by (eqb z) ks ≡ count_by (λ k. is_edge (step_in z) (step_in k)) ks
+      by_step : (ks : List ℕ) → count_by (eqb z) ks ≡ count_by (on (z / ROOM) (z % ROOM)) ks
       by_step ks = ap (λ (f : ℕ → Bool). count_by f ks) (λ i k. same_step z k i)

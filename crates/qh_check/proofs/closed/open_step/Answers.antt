@@ -3,25 +3,27 @@ use Rattle.std.proofs.lemmas.List.Sorted.{IsNonDecreasingBy-from_sort}
 use Rattle.qh_check.proofs.Steps.{closed_by_keys, open_by_key}
 use Rattle.qh_check.proofs.closed.open_step.Goals as goal
 
-pub other_key-requires-clause-there : goal.other_key-requires-clause-there
-other_key-requires-clause-there c =
-    rw c.deref-2.ensures.value (IsNonDecreasingBy-from_sort (λ x. x) _ c.sort_unstable.ensures.sorted)
+pub other_key-requires-clause-up : goal.other_key-requires-clause-up
+other_key-requires-clause-up c =
+    rw c.deref-3.ensures.value (IsNonDecreasingBy-from_sort (λ x. x) _ c.sort_unstable.ensures.sorted)
 
-pub other_key-requires-clause-back : goal.other_key-requires-clause-back
-other_key-requires-clause-back c =
-    rw c.deref-3.ensures.value (IsNonDecreasingBy-from_sort (λ x. x) _ c.sort_unstable-2.ensures.sorted)
+pub other_key-requires-clause-down : goal.other_key-requires-clause-down
+other_key-requires-clause-down c =
+    rw c.deref-4.ensures.value (IsNonDecreasingBy-from_sort (λ x. x) _ c.sort_unstable-2.ensures.sorted)
 
 pub returns-in-Some : goal.returns-in-Some
 returns-in-Some c =
-    let backs = rw c.deref.ensures.value at c.in_ok-back.ensures in
-    let otherwise = rw (c.deref-2.ensures.value, c.deref-3.ensures.value) at c.in-Some.ensures in
+    let ups = rw c.deref.ensures.value at c.in_ok-up.ensures in
+    let downs = rw c.deref-2.ensures.value at c.in_ok-down.ensures in
+    let otherwise = rw (c.deref-3.ensures.value, c.deref-4.ensures.value) at c.in-Some.ensures in
     rw (c.of.ensures.from, c.of.ensures.to)
-    (open_by_key c.args.polygons.now _ _ _ _ c.in_ok-there.ensures backs c.sort_unstable.ensures.permutation
+    (open_by_key c.args.polygons.now _ _ _ _ _ c.in_ok-keys.ensures ups downs c.sort_unstable.ensures.permutation
     c.sort_unstable-2.ensures.permutation c.in-Some.key otherwise)
 
 pub returns : goal.returns
 returns c =
-    let backs = rw c.deref.ensures.value at c.in_ok-back.ensures in
-    let same = rw (c.deref-2.ensures.value, c.deref-3.ensures.value) at c.in-None.ensures in
-    closed_by_keys c.args.polygons.now _ _ _ _ c.in_ok-there.ensures backs c.sort_unstable.ensures.permutation
+    let ups = rw c.deref.ensures.value at c.in_ok-up.ensures in
+    let downs = rw c.deref-2.ensures.value at c.in_ok-down.ensures in
+    let same = rw (c.deref-3.ensures.value, c.deref-4.ensures.value) at c.in-None.ensures in
+    closed_by_keys c.args.polygons.now _ _ _ _ _ c.in_ok-keys.ensures ups downs c.sort_unstable.ensures.permutation
     c.sort_unstable-2.ensures.permutation same

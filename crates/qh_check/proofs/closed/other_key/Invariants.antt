@@ -3,4 +3,4 @@ use Rattle.std.proofs.Common.{◌≡◌, take}
 use Rattle.qh_check.proofs.closed.other_key.Given as goal
 
 abbrev pub invariant-loop-k : goal.invariant-loop-k
-invariant-loop-k l = take l.k l.there ≡ take l.k l.back
+invariant-loop-k l = take l.k l.up ≡ take l.k l.down
