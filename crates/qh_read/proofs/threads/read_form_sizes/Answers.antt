@@ -35,8 +35,7 @@ all_fed g c =
     let old = g.S.Source.remaining c.args.source.now in
     elim c.if-not-branch.branch [
       | then-not-branch+in_ok-feed_batches w ↦ subst (λ s. GivesAll old (g.S.Source.remaining s) (Fed form c.if-not-branch.reader)) (sym w.source-is)
-          (subst (λ (r : Reading). GivesAll old (g.S.Source.remaining w.feed_batches.new.source) (Fed form r)) (sym w.reader-is)
-          (
+          (subst (λ (r : Reading). GivesAll old (g.S.Source.remaining w.feed_batches.new.source) (Fed form r)) (sym w.reader-is) (
             w.in_ok-feed_batches.ensures.end,
             Gives-all form _ _ _ _ c.of_form-reader.ensures
                 (FedOn-append _ _ _ _ _ _ c.in_ok-feed_from.ensures.fed w.in_ok-feed_batches.ensures.fed),
