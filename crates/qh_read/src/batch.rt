@@ -1,4 +1,4 @@
-//! Batches of bytes, whose segments are gone over side by side.
+//! Batches of bytes, whose segments are parsed side by side.
 ghost use Rattle.std.specs.Prelude.{◌≤◌, ◌<◌, vec_len};
 
 use crate::fault::FeedFault;
@@ -11,11 +11,11 @@ use qh_model::{BYTE_LIMIT, ReadFault};
 use std::alloc::{AllocError, Global};
 use std::thread::Threads;
 
-/// Bytes that came from a source together, and their segments.
+/// Bytes of a source, and their segments.
 #[derive(Drop)]
 pub struct Batch {
     bytes: Vec<u8>,
-    /// How many bytes came.
+    /// The number of bytes of the batch; the rest of `bytes` is room.
     count: usize,
     segments: Vec<Segment>,
     ghost within: { count ≤ vec_len bytes },
@@ -31,7 +31,7 @@ impl Batch {
     ghost use Rattle.qh_read.specs.steps.Segments.{batch_text, IsGoneOver};
     ghost use Rattle.qh_read.specs.steps.Sources.{Stops};
 
-    /// A batch of no bytes, with room for so many and this number of segments.
+    /// Creates an empty batch with room for `bytes` bytes in `segments` segments.
     pub fn new(alloc: Global, bytes: usize, segments: usize) -> Result<Batch, AllocError>
         requires some { 0 < bytes }
         requires segmented { 0 < segments }
@@ -46,15 +46,15 @@ impl Batch {
         })
     }
 
-    /// The number of its bytes.
+    /// Returns the number of bytes.
     pub fn len(&self) -> usize
         ensures { result ≡ length (batch_text self.now) }
     {
         self.count
     }
 
-    /// Takes the next bytes of a source instead of those that it has, where `before` bytes had come before
-    /// these. It answers whether the end came.
+    /// Replaces the bytes by the next ones of the source, which gave `before` bytes earlier. Returns true if the
+    /// source ended.
     pub fn fill<S: Source>(&mut self, source: &mut S, before: u32) -> Result<bool, ReadFault>
         requires failures { S.failure_count source.old < 2 ^ 64 - 1 }
         requires before { before ≤ BYTE_LIMIT }
@@ -72,7 +72,7 @@ impl Batch {
         Ok(at_end)
     }
 
-    /// Goes over its segments, each in a thread of its own.
+    /// Parses the segments, each in a thread of its own.
     pub fn go_over<R: Threads + Sync>(&mut self, rt: &R)
         requires { length (batch_text self.old) ≤ BYTE_LIMIT }
         ensures gone_over { IsGoneOver self.new }
@@ -81,7 +81,7 @@ impl Batch {
         go_over_all(rt, self.segments.as_mut_slice(), &self.bytes[..self.count]);
     }
 
-    /// Feeds its bytes to a reader, by what its segments tell.
+    /// Feeds the bytes to a reader, the points of the segments together.
     pub fn feed(&self, reader: &mut Reader) -> Result<(), FeedFault>
         requires { IsGoneOver self.now }
         ensures fed { OnOk result ((form : Form) (before : List ℕ) → Fed form reader.old before

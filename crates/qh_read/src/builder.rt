@@ -203,7 +203,7 @@ impl Builder {
         self.stage = next;
     }
 
-    /// The stage after so many points more, where a point begins and all their coordinates are to come.
+    /// Returns the stage after `count` more points, if a point begins here and all their coordinates are to come.
     pub fn after_points(&self, count: usize) -> Option<Stage>
         ensures { IfSome result (AwaitsPoints self.now count) }
     {
@@ -218,7 +218,7 @@ impl Builder {
         }
     }
 
-    /// Takes these points, after which this stage comes. There is room for them.
+    /// Appends these points, for which there is room, and goes to the next stage.
     pub fn append(&mut self, next: Stage, points: &[Point])
         requires room { vec_len self.old.points + length points.now ≤ vec_capacity self.old.points }
         requires awaits { AwaitsPoints self.old (length points.now) next }

@@ -1,16 +1,16 @@
-//! Pieces whose first points are known before the reader comes to them.
+//! Pieces whose first points are already parsed.
 ghost use Rattle.std.specs.Prelude.{◌≡◌, ◌≤◌, ◌+◌, ◌*◌, length};
 ghost use Rattle.qh_read.specs.steps.Numbers.{ArePoints};
 
 use qh_model::Point;
 
-/// A piece, and the points that it begins with if a point begins there.
+/// A piece, and the points that it begins with if a point begins where the piece does.
 #[derive(Clone, Copy)]
 pub struct KnownPoints<'a> {
     pub piece: &'a [u8],
-    /// The points that the piece begins with.
+    /// The first points of the piece.
     pub points: &'a [Point],
-    /// The number of lines that end among them.
+    /// The number of line ends among them.
     pub lines: u32,
     /// The bytes after the points.
     pub rest: &'a [u8],
@@ -20,7 +20,7 @@ pub struct KnownPoints<'a> {
 }
 
 impl<'a> KnownPoints<'a> {
-    /// A piece of which no point is known.
+    /// A piece of which no point is parsed.
     pub fn none(piece: &'a [u8]) -> KnownPoints<'a>
         ensures { result.piece.now ≡ piece.now }
     {

@@ -66,7 +66,7 @@ impl Reader {
         }
     }
 
-    /// The number of bytes fed.
+    /// Returns the number of bytes fed.
     pub(crate) fn fed(&self) -> u32
         ensures count { result ≡ self.now.count }
         ensures limit { result ≤ BYTE_LIMIT }
@@ -91,7 +91,7 @@ impl Reader {
         self.feed_known(&KnownPoints::none(piece))
     }
 
-    /// Takes the next bytes of the file, of which the first points are known, with the answers of `feed`.
+    /// Takes the next bytes of the file, whose first points may be parsed already. The answers are those of `feed`.
     fn feed_known(&mut self, known: &KnownPoints<'_>) -> Result<(), FeedFault>
         ensures fed { OnOk result
             ((form : Form) (before : List ℕ)
@@ -112,9 +112,9 @@ impl Reader {
         Ok(())
     }
 
-    /// Takes the next bytes of the file, which are those of a segment.
+    /// Takes the next bytes of the file, which are the text of this segment.
     ///
-    /// The first line goes byte by byte, since a word or a comment may be under way.
+    /// The first line is fed as it is, since a word, a point or a comment may be under way.
     pub(crate) fn feed_segment(&mut self, segment: &Segment, text: &[u8]) -> Result<(), FeedFault>
         requires { IsSegment segment.now text.now }
         ensures fed { OnOk result

@@ -185,8 +185,8 @@ impl Scanner {
         rest
     }
 
-    /// Takes the known points of a piece, where no word is under way, no comment runs and as many are to
-    /// come. It answers the bytes that are left.
+    /// Takes the points of a piece if no word is under way, no comment runs and at least as many points are to
+    /// come. Returns the bytes that are left: all, if it took no point.
     pub fn take_known<'a>(&mut self, token: Token, known: &KnownPoints<'a>) -> &'a [u8]
         requires room { HasRoom self.old token (length known.now.piece.now) }
         requires line { self.old.line + length known.now.piece.now < 2 ^ 31 }

@@ -1,4 +1,4 @@
-//! The points of a segment, told before it is known what stands before the segment.
+//! Segments of a file, parsed before it is known what stands before them.
 ghost use Rattle.std.specs.Prelude.{◌≡◌, ◌≤◌, ◌<◌, ◌+◌, ◌*◌, ◌^◌, [], length, vec_len};
 ghost use Rattle.qh_read.specs.steps.Numbers.{ArePoints, IsEndOf};
 ghost use Rattle.qh_read.specs.steps.Segments.{IsSegment};
@@ -8,22 +8,23 @@ use qh_model::Point;
 use std::alloc::Global;
 use std::mem;
 
-/// The points of a segment of the bytes, if a point begins after its first line.
+/// A segment of a file, and the points that follow its first line if a point begins there.
 ///
-/// A segment is cut anywhere. Whether a point does begin there is known later, when the reader comes to it.
+/// A file is cut into segments anywhere. Only the reader knows whether a point begins after the first line: a comment
+/// may run, or a point may have begun on that line.
 #[derive(Drop)]
 pub struct Segment {
     /// The points after the first line.
     pub points: Vec<Point>,
     /// The length of the first line with its end, or 0 where no line ends.
     pub head: usize,
-    /// The number of lines that end among the points.
+    /// The number of line ends among the points.
     pub lines: u32,
-    /// The number of bytes to the end of the points.
+    /// The offset of the first byte after the points.
     pub taken: usize,
 }
 
-/// The number of bytes through the first end of a line, or 0 where no line ends.
+/// Returns the length of the first line with its end, or 0 if no line ends.
 fn after_line(bytes: &[u8]) -> usize
     ensures { result ≤ length bytes.now }
 {
@@ -35,8 +36,8 @@ fn after_line(bytes: &[u8]) -> usize
     0
 }
 
-/// Takes the points that the bytes begin with, as far as there is room. It answers the number of lines
-/// that end before the bytes that are left, and these.
+/// Pushes the points that the bytes begin with, as many as there is room for. Returns the number of line ends
+/// among them and the bytes after them.
 fn push_points<'a>(points: &mut Vec<Point>, bytes: &'a [u8]) -> (u32, &'a [u8])
     requires small { length bytes.now < 2 ^ 31 }
     requires none { points.old.items ≡ [] }
@@ -60,7 +61,7 @@ fn push_points<'a>(points: &mut Vec<Point>, bytes: &'a [u8]) -> (u32, &'a [u8])
 }
 
 impl Segment {
-    /// A segment of no bytes, with room for the points of so many, or without where memory was refused.
+    /// Creates an empty segment with room for the points of `bytes` bytes, or with no room if the allocation fails.
     pub fn new(alloc: Global, bytes: usize) -> Segment
         ensures { IsSegment result [] }
     {
@@ -77,12 +78,13 @@ impl Segment {
         }
     }
 
-    /// Takes the points of these bytes, as far as there is room, and drops those that it had.
+    /// Finds the points of this text, as many as there is room for, in place of the earlier ones.
     pub fn go_over(&mut self, text: &[u8])
         requires { length text.now < 2 ^ 31 }
         ensures { IsSegment self.new text.now }
     {
-        // Out of the segment, whose neighbours other threads write to: each point changes the length.
+        // Each point changes the length of the vector. In the segment it would share a cache line with lengths
+        // that other threads change.
         let alloc = *self.points.allocator();
         let mut points = mem::replace(&mut self.points, Vec::new(alloc));
         points.clear();

@@ -1,4 +1,4 @@
-//! The segments of the same bytes, side by side and in their order.
+//! The segments of one text: parsed side by side, fed in order.
 ghost use Rattle.std.specs.Prelude.{◌≡◌, ◌≤◌, ◌<◌, ◌+◌, ◌^◌, ◌++◌, [], ℕ, List, length, vec_len, All, IfOk, OnOk, Err};
 ghost use Rattle.qh_model.specs.declared.form.Form.{Form};
 ghost use Rattle.qh_read.specs.contract.Holding.{Fed};
@@ -12,7 +12,7 @@ use std::alloc::{AllocError, Global};
 use std::thread;
 use std::thread::Threads;
 
-/// Segments of no bytes, so many, with room for the points of that number of bytes each.
+/// Creates `count` empty segments, each with room for the points of `bytes` bytes.
 pub fn new_segments(alloc: Global, count: usize, bytes: usize) -> Result<Vec<Segment>, AllocError>
     ensures count { IfOk result (λ segments. vec_len segments ≡ count) }
     ensures none { IfOk result (λ segments. All (λ s. IsSegment s []) segments.items) }
@@ -24,7 +24,7 @@ pub fn new_segments(alloc: Global, count: usize, bytes: usize) -> Result<Vec<Seg
     Ok(segments)
 }
 
-/// Segment `i` of the bytes, which are cut into segments of this size.
+/// Returns segment `i` of a text that is cut into segments of this size.
 fn segment_at(text: &[u8], size: usize, i: usize) -> &[u8]
     ensures text { result.now ≡ segment_text size text.now i }
     ensures small { length result.now ≤ length text.now }
@@ -33,7 +33,7 @@ fn segment_at(text: &[u8], size: usize, i: usize) -> &[u8]
     &rest[..size.min(rest.len())]
 }
 
-/// Goes over the segments of these bytes, each in a thread of its own.
+/// Parses the segments of this text, each in a thread of its own.
 pub fn go_over_all<R: Threads + Sync>(rt: &R, segments: &mut [Segment], text: &[u8])
     requires some { 0 < length segments.old }
     requires small { length text.now < 2 ^ 31 }
@@ -52,7 +52,7 @@ pub fn go_over_all<R: Threads + Sync>(rt: &R, segments: &mut [Segment], text: &[
     );
 }
 
-/// Takes the segments of these bytes in their order.
+/// Feeds the segments of this text to the reader, in order.
 pub fn feed_all(reader: &mut Reader, segments: &[Segment], text: &[u8]) -> Result<(), FeedFault>
     requires some { 0 < length segments.now }
     requires segments { AreSegments segments.now text.now }

@@ -1,7 +1,7 @@
 //! Reading by several threads.
 //!
-//! A file is read in batches, and a batch is cut into segments. While threads go over the segments of one batch, the
-//! calling thread feeds the batch before it to the reader, and reads the next.
+//! A file is read in batches, and a batch is cut into segments. While threads parse the segments of one batch, the
+//! calling thread feeds the batch before it to the reader, and reads the next one.
 ghost use Rattle.std.specs.Prelude.{◌≡◌, ◌≢◌, ◌≤◌, ◌<◌, ◌+◌, ◌-◌, ◌^◌, true, false, length, IfOk, IfErr, OnOk, Ok, Err};
 ghost use Rattle.std.specs.Thread.{IsSync};
 ghost use Rattle.std.specs.Io.KnownBytes.{IsAtEnd};
@@ -21,7 +21,7 @@ use std::mem;
 use std::thread::{Threads, join_mut};
 
 /// How many bytes are read serially before the first batch. A file of no more bytes starts no thread.
-const START_LENGTH: u32 = 524288;
+const START_LENGTH: u32 = 262144;
 
 /// The number of bytes of a batch: few enough for the caches, and enough to pay for the threads that start.
 const BATCH_LENGTH: usize = 1048576;
@@ -40,7 +40,7 @@ pub struct Sizes {
     pub segments: usize,
 }
 
-/// Feeds a batch to the reader, and fills it with the next bytes of the source, where `ahead` bytes came between.
+/// Feeds a batch to the reader, then fills it from the source. `ahead` bytes of the source lie between the two.
 fn feed_and_fill<S: Source>(
     reader: &mut Reader,
     source: &mut S,
@@ -63,7 +63,7 @@ fn feed_and_fill<S: Source>(
     batch.fill(source, reader.fed() + ahead as u32)
 }
 
-/// Goes over the segments of the raw batch, and meanwhile feeds the other to the reader and fills it again.
+/// Parses the segments of the raw batch, and meanwhile feeds the other batch to the reader and fills it again.
 fn turn<R: Threads + Sync, S: Source>(
     rt: &R,
     reader: &mut Reader,
@@ -108,7 +108,7 @@ fn turn<R: Threads + Sync, S: Source>(
     at_end
 }
 
-/// Feeds a reader all that a source gives, in batches.
+/// Feeds a source to a reader to its end, in batches.
 fn feed_batches<R: Threads + Sync, S: Source>(
     rt: &R,
     alloc: Global,
@@ -181,7 +181,7 @@ pub fn read_form_sizes<R: Threads + Sync, S: Source>(
 /// The points of the file of this form that a source gives, with the answers of [`read_form_from`], by at most
 /// this number of threads, the calling thread among them.
 ///
-/// A file of at most 524,288 bytes is read by the calling thread alone, and so is any file if `threads` is 0 or 1.
+/// A file of at most 262,144 bytes is read by the calling thread alone, and so is any file if `threads` is 0 or 1.
 /// The answer does not depend on the number of threads, nor on which of them can be started. Out of memory for the
 /// points of a segment costs time and no more.
 pub fn read_form_threads<R: Threads + Sync, S: Source>(

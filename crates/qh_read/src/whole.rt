@@ -63,8 +63,8 @@ fn new_buffer(alloc: Global) -> Result<Vec<u8>, AllocError>
     vec![in alloc; 0; PIECE_LENGTH]
 }
 
-/// Feeds a reader what a source gives, in pieces, until it was fed `enough` bytes or the end comes. It answers
-/// whether the end came.
+/// Feeds a source to a reader in pieces, until the reader was fed at least `enough` bytes or the source ends.
+/// Returns true if the source ended.
 pub(crate) fn feed_from<S: Source>(
     alloc: Global,
     reader: &mut Reader,

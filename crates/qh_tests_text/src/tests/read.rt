@@ -8,6 +8,7 @@ mod readers;
 mod refusals;
 mod rows;
 mod sources;
+mod threads;
 
 use qh_model::{Form, Point};
 use qh_read::{FeedFault, ReadFault, Reader};

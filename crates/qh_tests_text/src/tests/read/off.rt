@@ -8,7 +8,7 @@ use std::process::Abort;
 use std::test::Fail;
 
 /// OFF files with their vertices. Source: the rows of texts, comments and faces that say nothing.
-const READ: [(&str, &[Place]); 14] = [
+pub const READ: [(&str, &[Place]); 14] = [
     ("OFF\n1 1 0\n5 5 5\n1 0\n", &[(5, 5, 5)]),
     ("OFF\n2 1 1\n0 0 0\n2 2 2\n2 0 1\n", &[(0, 0, 0), (2, 2, 2)]),
     (
@@ -35,7 +35,7 @@ const READ: [(&str, &[Place]); 14] = [
 ];
 
 /// OFF files with their first faults.
-const REFUSED: [(&str, ReadFault); 28] = [
+pub const REFUSED: [(&str, ReadFault); 28] = [
     ("COFF\n1 0 0\n5 5 5\n", ReadFault::NotOff),
     ("OFF BINARY\n", ReadFault::BadNumber(1)),
     ("", ReadFault::NoHeader),

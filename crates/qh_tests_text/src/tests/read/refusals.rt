@@ -2,9 +2,12 @@
 //! call gives them. `scripts/refusals.py` refuses each growth in turn.
 use super::{CUBE_CORNERS, Place, Way, assert_points};
 use qh_fixtures::files::{CUBE, OCTAHEDRON, SQUARE};
-use qh_model::Point;
-use qh_read::{FeedFault, MemSource, ReadFault, Reader, read_from, read_points};
+use qh_model::{Form, Point};
+use qh_read::{
+    FeedFault, MemSource, ReadFault, Reader, Sizes, read_form_sizes, read_from, read_points,
+};
 use std::alloc::Global;
+use std::thread::Threads;
 
 /// Each text with its points.
 const ROWS: [(&str, &[Place]); 3] = [
@@ -71,6 +74,25 @@ fn streamed(alloc: Global, bytes: &[u8]) -> Result<Vec<Point>, ReadFault> {
     }
 }
 
+/// The reading of a source in batches of a few bytes, once more where it is refused.
+fn threaded<R: Threads + Sync>(
+    rt: &R,
+    alloc: Global,
+    bytes: &[u8],
+) -> Result<Vec<Point>, ReadFault> {
+    let sizes = Sizes {
+        start: 8,
+        batch: 40,
+        segments: 2,
+    };
+    match read_form_sizes(rt, alloc, Form::Qhull, &mut MemSource::new(bytes), sizes) {
+        Err(ReadFault::Memory) => {
+            read_form_sizes(rt, alloc, Form::Qhull, &mut MemSource::new(bytes), sizes)
+        }
+        outcome => outcome,
+    }
+}
+
 #[test]
 fn tries_again(rt: HostRuntime) {
     let alloc = rt.alloc();
@@ -79,5 +101,7 @@ fn tries_again(rt: HostRuntime) {
         assert_points(&rt, whole(alloc, bytes), points, text, Way::Whole);
         assert_points(&rt, fed(alloc, bytes), points, text, Way::Pieces(1));
         assert_points(&rt, streamed(alloc, bytes), points, text, Way::Source);
+        let outcome = threaded(&rt, alloc, bytes);
+        assert_points(&rt, outcome, points, text, Way::Pieces(40));
     }
 }

@@ -9,7 +9,7 @@ use std::process::Abort;
 use std::test::Fail;
 
 /// Files with their points.
-const READ: [(&str, &[Place]); 18] = [
+pub const READ: [(&str, &[Place]); 18] = [
     ("3\n1\n5 5 5\n", &[(5, 5, 5)]),
     ("3 2\n0 0 0\n2 2 2\n", &[(0, 0, 0), (2, 2, 2)]),
     ("4 3\n0 0 0\n1 0 0\n0 1 0\n0 0 1\n", &TETRAHEDRON),
@@ -40,7 +40,7 @@ const READ: [(&str, &[Place]); 18] = [
 ];
 
 /// Files with their first faults.
-const REFUSED: [(&str, ReadFault); 37] = [
+pub const REFUSED: [(&str, ReadFault); 37] = [
     ("", ReadFault::NoHeader),
     ("3", ReadFault::NoHeader),
     ("2", ReadFault::NoHeader),

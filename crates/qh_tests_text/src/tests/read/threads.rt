@@ -1,0 +1,300 @@
+//! Texts read by several threads, in batches and segments of a few bytes.
+//!
+//! A segment tells points only after the end of its first line, and of numbers that eleven bytes follow, so the texts
+//! are longer than those of the other rows.
+use super::{Place, Way, assert_fault, assert_points, joined, off, rows};
+use qh_model::{Form, Point};
+use qh_read::fakes::{FailSource, Spaces};
+use qh_read::{MemSource, ReadFault, Sizes, Source, read_form_sizes, read_form_threads};
+use std::alloc::{AllocError, Global};
+use std::test::Fail;
+use std::thread::Threads;
+
+/// A line for each point, of every layout.
+const LINES: [&str; 24] = [
+    "0 -1 0\n",
+    "-8\t-7  8\n",
+    "  -75 -6 50 \n",
+    "-878368 907787 64169\n",
+    "-151620148 -912699176 -704601254\r\n",
+    "0\x0b0\x0c-1\n",
+    "-2 -7 8 # 1 2 3\n",
+    "00000000009 -84 45\n",
+    "-740369 986946 -531834\n",
+    "-808046351\t629987860  -860757348\n",
+    "  -1 -1 1 \n",
+    "-5 0 4\n",
+    "-63 39 -69\r\n",
+    "197292\x0b-353067\x0c174944\n",
+    "-297527925 -631120926 -266841915 # 1 2 3\n",
+    "00000000000 -1 1\n",
+    "-7 9 -8\n",
+    "59\t-47  28\n",
+    "  426902 115098 -103274 \n",
+    "+275509999 926002960 872670256\n",
+    "0 0 -1\r\n",
+    "-4\x0b-2\x0c-7\n",
+    "48 -23 35 # 1 2 3\n",
+    "00000038334 835296 -279680\n",
+];
+
+/// Their points.
+const PLACES: [Place; 24] = [
+    (0, -1, 0),
+    (-8, -7, 8),
+    (-75, -6, 50),
+    (-878368, 907787, 64169),
+    (-151620148, -912699176, -704601254),
+    (0, 0, -1),
+    (-2, -7, 8),
+    (9, -84, 45),
+    (-740369, 986946, -531834),
+    (-808046351, 629987860, -860757348),
+    (-1, -1, 1),
+    (-5, 0, 4),
+    (-63, 39, -69),
+    (197292, -353067, 174944),
+    (-297527925, -631120926, -266841915),
+    (0, -1, 1),
+    (-7, 9, -8),
+    (59, -47, 28),
+    (426902, 115098, -103274),
+    (275509999, 926002960, 872670256),
+    (0, 0, -1),
+    (-4, -2, -7),
+    (48, -23, 35),
+    (38334, 835296, -279680),
+];
+
+/// What may stand before them, with the number of its lines.
+const HEADERS: [(Form, &str); 2] = [
+    (Form::Qhull, "3 lines\n24\n"),
+    (Form::Off, "OFF # lines\n24 1 1\n"),
+];
+
+/// A comment with a point on each side of many cuts.
+const LONG_COMMENT: &str =
+    "# 1 2 3 4 5 6 7 8 9 10 11 12 13 14 15 16 17 18 19 20 21 22 23 24 25 26 27 28 29 30 31 32 33 34 35 36 37 38 39 40 41 42 43 44 45 46 47 48\n";
+
+/// Faces, longer than a batch.
+const FACES: &str =
+    "4 0 1 2 3\n4 0 1 2 3\n4 0 1 2 3\n4 0 1 2 3\n4 0 1 2 3\n4 0 1 2 3\n4 0 1 2 3\n4 0 1 2 3\n4 0 1 2 3\n4 0 1 2 3\n";
+
+/// Sizes of a few bytes.
+const SMALL: [Sizes; 6] = [
+    Sizes {
+        start: 0,
+        batch: 1,
+        segments: 2,
+    },
+    Sizes {
+        start: 0,
+        batch: 16,
+        segments: 1,
+    },
+    Sizes {
+        start: 16,
+        batch: 64,
+        segments: 1,
+    },
+    Sizes {
+        start: 0,
+        batch: 151,
+        segments: 2,
+    },
+    Sizes {
+        start: 7,
+        batch: 230,
+        segments: 3,
+    },
+    Sizes {
+        start: 0,
+        batch: 4096,
+        segments: 4,
+    },
+];
+
+/// The reading of these bytes in these sizes.
+fn read_sizes<R: Threads + Sync>(
+    rt: &R,
+    alloc: Global,
+    form: Form,
+    bytes: &[u8],
+    sizes: Sizes,
+) -> Result<Vec<Point>, ReadFault> {
+    read_form_sizes(rt, alloc, form, &mut MemSource::new(bytes), sizes)
+}
+
+/// The lines after a header, the line of this number exchanged for another.
+fn with_line(alloc: Global, header: &str, place: usize, line: &str) -> Result<Vec<u8>, AllocError> {
+    let mut bytes = joined(alloc, &[header])?;
+    for (i, other) in LINES.iter().enumerate() {
+        let text = if i == place { line } else { *other };
+        bytes.extend_from_slice(text.as_bytes())?;
+    }
+    Ok(bytes)
+}
+
+#[test]
+fn reads_rows_in_any_sizes(rt: HostRuntime) {
+    for sizes in SMALL {
+        for (text, places) in rows::READ {
+            let outcome = read_sizes(&rt, rt.alloc(), Form::Qhull, text.as_bytes(), sizes);
+            assert_points(&rt, outcome, places, text, Way::Pieces(sizes.batch));
+        }
+        for (text, places) in off::READ {
+            let outcome = read_sizes(&rt, rt.alloc(), Form::Off, text.as_bytes(), sizes);
+            assert_points(&rt, outcome, places, text, Way::Pieces(sizes.batch));
+        }
+    }
+}
+
+#[test]
+fn finds_faults_of_rows_in_any_sizes(rt: HostRuntime) {
+    for sizes in SMALL {
+        for (text, fault) in rows::REFUSED {
+            let outcome = read_sizes(&rt, rt.alloc(), Form::Qhull, text.as_bytes(), sizes);
+            assert_fault(&rt, outcome, fault, text, Way::Pieces(sizes.batch));
+        }
+        for (text, fault) in off::REFUSED {
+            let outcome = read_sizes(&rt, rt.alloc(), Form::Off, text.as_bytes(), sizes);
+            assert_fault(&rt, outcome, fault, text, Way::Pieces(sizes.batch));
+        }
+    }
+}
+
+#[test]
+fn reads_lines_cut_anywhere(rt: HostRuntime) -> Result<(), Fail> {
+    for (form, header) in HEADERS {
+        let bytes = with_line(rt.alloc(), header, 24, "")?;
+        for batch in 90..130 {
+            let sizes = Sizes {
+                start: 0,
+                batch,
+                segments: 2,
+            };
+            let outcome = read_sizes(&rt, rt.alloc(), form, &bytes, sizes);
+            assert_points(&rt, outcome, &PLACES, header, Way::Pieces(batch));
+        }
+    }
+    Ok(())
+}
+
+#[test]
+fn tells_the_line_of_each_fault(rt: HostRuntime) -> Result<(), Fail> {
+    for (form, header) in HEADERS {
+        for place in 0..24 {
+            // Two lines stand before the points.
+            let line = 3 + place as u32;
+            let bad = with_line(rt.alloc(), header, place, "7 7.5 7\n")?;
+            let far = with_line(rt.alloc(), header, place, "7 1073741825 7\n")?;
+            for sizes in SMALL {
+                let way = Way::Pieces(sizes.batch);
+                let outcome = read_sizes(&rt, rt.alloc(), form, &bad, sizes);
+                assert_fault(&rt, outcome, ReadFault::BadNumber(line), header, way);
+                let outcome = read_sizes(&rt, rt.alloc(), form, &far, sizes);
+                assert_fault(&rt, outcome, ReadFault::Range(line), header, way);
+            }
+        }
+    }
+    Ok(())
+}
+
+#[test]
+fn tells_points_too_few_or_too_many(rt: HostRuntime) -> Result<(), Fail> {
+    let few = with_line(rt.alloc(), "3\n25\n", 24, "")?;
+    let many = with_line(rt.alloc(), "3\n23\n", 24, "")?;
+    let off = with_line(rt.alloc(), "OFF\n23 0 0\n", 24, "")?;
+    for sizes in SMALL {
+        let way = Way::Pieces(sizes.batch);
+        let outcome = read_sizes(&rt, rt.alloc(), Form::Qhull, &few, sizes);
+        assert_fault(&rt, outcome, ReadFault::Short, "25 points", way);
+        let outcome = read_sizes(&rt, rt.alloc(), Form::Qhull, &many, sizes);
+        assert_fault(&rt, outcome, ReadFault::Long(26), "23 points", way);
+        let outcome = read_sizes(&rt, rt.alloc(), Form::Off, &off, sizes);
+        assert_points(&rt, outcome, &PLACES[..23], "23 vertices", way);
+    }
+    Ok(())
+}
+
+#[test]
+fn reads_no_comment_and_no_face(rt: HostRuntime) -> Result<(), Fail> {
+    let commented = with_line(
+        rt.alloc(),
+        "3\n24\n",
+        0,
+        "0 -1 0 x 1 1 1 1 1 1 1 1 1 1 1 1 1 1 1 1 1 1 1 1 1 1 1 1 1 1 1\n",
+    )?;
+    let mut long = joined(rt.alloc(), &["3\n24\n", LONG_COMMENT, LONG_COMMENT])?;
+    let mut faces = joined(rt.alloc(), &["OFF\n24 20 0\n", LONG_COMMENT])?;
+    for line in LINES {
+        long.extend_from_slice(line.as_bytes())?;
+        faces.extend_from_slice(line.as_bytes())?;
+    }
+    faces.extend_from_slice(FACES.as_bytes())?;
+    for sizes in SMALL {
+        let way = Way::Pieces(sizes.batch);
+        let outcome = read_sizes(&rt, rt.alloc(), Form::Qhull, &commented, sizes);
+        assert_points(&rt, outcome, &PLACES, "a comment", way);
+        let outcome = read_sizes(&rt, rt.alloc(), Form::Qhull, &long, sizes);
+        assert_points(&rt, outcome, &PLACES, "two long comments", way);
+        let outcome = read_sizes(&rt, rt.alloc(), Form::Off, &faces, sizes);
+        assert_points(&rt, outcome, &PLACES, "faces", way);
+    }
+    Ok(())
+}
+
+/// The reading of one point byte by byte in batches of four, where the read with this number fails, and how many
+/// failures the source counted.
+fn read_failing<R: Threads + Sync>(
+    rt: &R,
+    alloc: Global,
+    fails_at: u64,
+) -> (Result<Vec<Point>, ReadFault>, u64) {
+    let mut source = FailSource::new(b"3\n1\n5 5 5\n", 1, Some(fails_at));
+    let sizes = Sizes {
+        start: 2,
+        batch: 4,
+        segments: 2,
+    };
+    let outcome = read_form_sizes(rt, alloc, Form::Qhull, &mut source, sizes);
+    (outcome, source.failures())
+}
+
+#[test]
+fn tells_failing_reads(rt: HostRuntime) {
+    // The 10 bytes, and their end.
+    for fails_at in 1..12 {
+        let (outcome, failures) = read_failing(&rt, rt.alloc(), fails_at);
+        let way = Way::FailingRead(fails_at);
+        assert_fault(&rt, outcome, ReadFault::Device, "one point", way);
+        assert_eq!(rt; failures, 1, "{way:?}");
+    }
+    let (outcome, failures) = read_failing(&rt, rt.alloc(), 12);
+    assert_points(
+        &rt,
+        outcome,
+        &[(5, 5, 5)],
+        "one point",
+        Way::FailingRead(12),
+    );
+    assert_eq!(rt; failures, 0);
+}
+
+#[test]
+fn reads_by_any_number_of_threads(rt: HostRuntime) -> Result<(), Fail> {
+    let bytes = with_line(rt.alloc(), "3\n24\n", 24, "")?;
+    for threads in 0..5 {
+        let outcome = read_form_threads(
+            &rt,
+            rt.alloc(),
+            threads,
+            Form::Qhull,
+            &mut MemSource::new(&bytes),
+        );
+        assert_points(&rt, outcome, &PLACES, "lines", Way::Source);
+    }
+    let endless = read_form_threads(&rt, rt.alloc(), 4, Form::Qhull, &mut Spaces);
+    assert_fault(&rt, endless, ReadFault::Big, "without end", Way::Source);
+    Ok(())
+}
