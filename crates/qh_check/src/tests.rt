@@ -61,12 +61,7 @@ fn verdict(
     if ids.is_empty() {
         return Ok(None);
     }
-    Ok(Some(check(
-        alloc,
-        pts,
-        &ids,
-        &polygons_of(alloc, faces)?,
-    )?))
+    Ok(Some(check(alloc, pts, &ids, &polygons_of(alloc, faces)?)?))
 }
 
 /// The verdict on faces of a cube.
@@ -152,7 +147,10 @@ fn a_face_seen_from_inside_has_points_above(rt: HostRuntime) -> Result<(), Fail>
         &[4, 6, 7, 5],
     ];
     let told = of_cube(rt.alloc(), &faces)?;
-    assert!(rt; matches!(told, Some(Verdict::NoFace(2, FaceFault::Above(_)))), "{told:?}");
+    assert!(rt;
+        matches!(told, Some(Verdict::NoFace(2, FaceFault::Above(_)))),
+        "{told:?}"
+    );
     Ok(())
 }
 
@@ -168,7 +166,10 @@ fn half_of_a_face_is_another_polygon(rt: HostRuntime) -> Result<(), Fail> {
         &[4, 6, 7, 5],
     ];
     let told = of_cube(rt.alloc(), &faces)?;
-    assert!(rt; matches!(told, Some(Verdict::NoFace(0, FaceFault::OtherFace))), "{told:?}");
+    assert!(rt;
+        matches!(told, Some(Verdict::NoFace(0, FaceFault::OtherFace))),
+        "{told:?}"
+    );
     Ok(())
 }
 
@@ -176,7 +177,10 @@ fn half_of_a_face_is_another_polygon(rt: HostRuntime) -> Result<(), Fail> {
 fn two_corners_span_no_plane(rt: HostRuntime) -> Result<(), Fail> {
     let faces: [&[u32]; 2] = [&[0, 1], &[0, 1, 3, 2]];
     let told = of_cube(rt.alloc(), &faces)?;
-    assert!(rt; matches!(told, Some(Verdict::NoFace(0, FaceFault::NoPlane))), "{told:?}");
+    assert!(rt;
+        matches!(told, Some(Verdict::NoFace(0, FaceFault::NoPlane))),
+        "{told:?}"
+    );
     Ok(())
 }
 
@@ -184,7 +188,10 @@ fn two_corners_span_no_plane(rt: HostRuntime) -> Result<(), Fail> {
 fn a_corner_that_is_no_id_of_the_set_spans_no_plane(rt: HostRuntime) -> Result<(), Fail> {
     let faces: [&[u32]; 1] = [&[0, 1, 3, 2]];
     let told = verdict(rt.alloc(), &cube(), &[0, 1, 2, 4, 5, 6, 7], &faces)?;
-    assert!(rt; matches!(told, Some(Verdict::NoFace(0, FaceFault::NoPlane))), "{told:?}");
+    assert!(rt;
+        matches!(told, Some(Verdict::NoFace(0, FaceFault::NoPlane))),
+        "{told:?}"
+    );
     Ok(())
 }
 
