@@ -6,6 +6,7 @@ use crate::{FaceFault, Verdict, check, check_by_workers};
 use qh_model::{Id, Memory, Point, Polygon};
 use std::alloc::{AllocError, Global};
 use std::test::Fail;
+use std::thread::Threads;
 
 /// The corners of a cube, in rising order of their coordinates.
 fn cube() -> [Point; 8] {
@@ -84,6 +85,21 @@ fn the_faces_of_a_cube_are_right(rt: HostRuntime) -> Result<(), Fail> {
     Ok(())
 }
 
+/// The verdict of three threads on faces of a cube.
+fn by_three_threads<R: Threads + Sync>(
+    rt: &R,
+    alloc: Global,
+    faces: &[&[u32]],
+) -> Result<Option<Verdict>, Memory> {
+    let pts = cube();
+    let ids = ids_of(alloc, &pts, &EIGHT)?;
+    if ids.is_empty() {
+        return Ok(None);
+    }
+    let polygons = polygons_of(alloc, faces)?;
+    Ok(Some(check_by_workers(rt, alloc, &pts, &ids, &polygons, 3)?))
+}
+
 #[test]
 fn three_threads_tell_the_same(rt: HostRuntime) -> Result<(), Fail> {
     let faces: [&[u32]; 6] = [
@@ -94,16 +110,22 @@ fn three_threads_tell_the_same(rt: HostRuntime) -> Result<(), Fail> {
         &[2, 3, 7, 6],
         &[4, 6, 7, 5],
     ];
-    let alloc = rt.alloc();
-    let pts = cube();
-    let ids = ids_of(alloc, &pts, &EIGHT)?;
-    if ids.is_empty() {
-        return Ok(());
-    }
-    let told = check_by_workers(&rt, alloc, &pts, &ids, &polygons_of(alloc, &faces)?, 3)?;
-    assert!(rt; matches!(told, Verdict::Right), "{told:?}");
-    let fewer = check_by_workers(&rt, alloc, &pts, &ids, &polygons_of(alloc, &faces[..5])?, 3)?;
-    assert!(rt; matches!(fewer, Verdict::Open(_, _)), "{fewer:?}");
+    let told = by_three_threads(&rt, rt.alloc(), &faces)?;
+    assert!(rt; matches!(told, Some(Verdict::Right)), "{told:?}");
+    Ok(())
+}
+
+#[test]
+fn three_threads_find_the_open_edge(rt: HostRuntime) -> Result<(), Fail> {
+    let faces: [&[u32]; 5] = [
+        &[0, 1, 3, 2],
+        &[0, 2, 6, 4],
+        &[0, 4, 5, 1],
+        &[1, 5, 7, 3],
+        &[2, 3, 7, 6],
+    ];
+    let told = by_three_threads(&rt, rt.alloc(), &faces)?;
+    assert!(rt; matches!(told, Some(Verdict::Open(_, _))), "{told:?}");
     Ok(())
 }
 

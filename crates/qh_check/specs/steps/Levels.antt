@@ -1,5 +1,5 @@
 -- Boxes over consecutive positions of a list of points, and what they and the points tell of a plane.
-use Rattle.std.specs.Prelude.{ℕ, ◌≡◌, ◌+◌, ◌-◌, ◌*◌, ◌<◌, ◌≤◌, List, length, ℤ, pos, ◌≤ℤ◌, ◌<ℤ◌, slice_index_or}
+use Rattle.std.specs.Prelude.{ℕ, ◌≡◌, ◌+◌, ◌-◌, ◌*◌, ◌^◌, ◌<◌, ◌≤◌, List, length, ℤ, pos, ◌≤ℤ◌, ◌<ℤ◌, slice_index_or}
 use Rattle.qh_model.specs.headline.Vector.{Vector, origin}
 use Rattle.qh_model.specs.headline.Sets.{In}
 use Rattle.qh_pred.specs.contract.Planes.{PlaneValue, height}
@@ -17,7 +17,7 @@ AreBoxes points size bs =
     (n : ℕ) (b : PointBox) → n < length bs → b ≡ slice_index_or bs n b → IsBoxOf points (n * size) (n * size + size) b
 
 abbrev pub IsLevel : List Vector → Level → Type 0
-IsLevel points l = AreBoxes points l.size l.boxes.items
+IsLevel points l = AreBoxes points (2 ^ l.shift) l.boxes.items
 
 -- the blocks so far have their boxes, and the rest is left
 pub record HasBoxes (points rest : List Vector) (size : ℕ) (bs : List PointBox) : Type 0 where

@@ -1,4 +1,7 @@
 -- One more block has its box.
+use Rattle.std.proofs.Common.{ℕ, ◌<◌, subst, sym}
+use Rattle.std.proofs.lemmas.Nat.{pow_pos}
+use Rattle.qh_check.specs.steps.Levels.{AreBoxes}
 use Rattle.qh_check.proofs.BlockBoxes.{boxes_start, boxes_grow}
 use Rattle.qh_check.proofs.levels.Level.over.Goals as goal
 
@@ -7,9 +10,11 @@ loop-rest-init c = rw c.new-boxes.ensures.items (boxes_start _ _)
 
 pub loop-rest-preserved : goal.loop-rest-preserved
 loop-rest-preserved c =
+    let some = subst (λ (s : ℕ). 0 < s) (sym c.positions-size.ensures) (pow_pos c.args.shift) in
     rw (c.in_ok-push.ensures.items, c.split_at.ensures.back)
-    (boxes_grow _ _ _ _ _ _ c.requires c.loop-rest.invariant c.min.ensures
-    (rw c.split_at.ensures.front at c.around.ensures))
+    (boxes_grow _ _ _ _ _ _ some c.loop-rest.invariant c.min.ensures (rw c.split_at.ensures.front at c.around.ensures))
 
 pub returns : goal.returns
-returns c = c.loop-rest.invariant.boxes
+returns c =
+    subst (λ (s : ℕ). AreBoxes c.args.points.now s c.loop-rest.boxes.items) c.positions-size.ensures
+    c.loop-rest.invariant.boxes
