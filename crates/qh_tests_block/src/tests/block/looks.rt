@@ -1,10 +1,11 @@
-//! Looks at a set of few points and at the lattice points of a cube, of which 8 are extreme, and extreme
-//! ids without a look.
+//! Filters a set of few points and the lattice points of a cube, of which 8 are extreme, and extreme ids
+//! without a filter.
 use qh_block::{extremes_unlooked, outer};
 use qh_model::{Id, Memory, POINT_LIMIT, Point};
 use qh_plane::distinct_alone;
 use std::alloc::{AllocError, Global};
 use std::test::Fail;
+use std::thread::Threads;
 
 /// The lattice points of a cube with 3 on each side.
 fn few(alloc: Global) -> Result<Vec<Point>, AllocError> {
@@ -24,8 +25,13 @@ fn many(alloc: Global) -> Result<Vec<Point>, AllocError> {
     Ok(points)
 }
 
-/// The ids that a look leaves of a list of points, and those that are extreme.
-fn left_of(alloc: Global, points: &[Point]) -> Result<(Option<Vec<Id>>, Vec<Id>), Memory> {
+/// The ids that the filter leaves of a list of points, by so many threads, and those that are extreme.
+fn left_of<R: Threads + Sync>(
+    rt: &R,
+    alloc: Global,
+    points: &[Point],
+    threads: u32,
+) -> Result<(Option<Vec<Id>>, Vec<Id>), Memory> {
     if points.len() > POINT_LIMIT as usize {
         return Err(Memory);
     }
@@ -33,7 +39,7 @@ fn left_of(alloc: Global, points: &[Point]) -> Result<(Option<Vec<Id>>, Vec<Id>)
     if ids.is_empty() {
         return Err(Memory);
     }
-    let left = outer(alloc, points, &ids)?;
+    let left = outer(rt, alloc, points, &ids, threads)?;
     let extremes = extremes_unlooked(alloc, points, &ids)?;
     Ok((left, extremes))
 }
@@ -41,7 +47,7 @@ fn left_of(alloc: Global, points: &[Point]) -> Result<(Option<Vec<Id>>, Vec<Id>)
 #[test]
 fn few_points(rt: HostRuntime) -> Result<(), Fail> {
     let points = few(rt.alloc()).map_err(|_| "no memory")?;
-    let (left, extremes) = left_of(rt.alloc(), &points).map_err(|_| "no memory")?;
+    let (left, extremes) = left_of(&rt, rt.alloc(), &points, 4).map_err(|_| "no memory")?;
     assert!(rt; left.is_none());
     assert_eq!(rt; extremes.len(), 8usize);
     Ok(())
@@ -50,9 +56,11 @@ fn few_points(rt: HostRuntime) -> Result<(), Fail> {
 #[test]
 fn many_points(rt: HostRuntime) -> Result<(), Fail> {
     let points = many(rt.alloc()).map_err(|_| "no memory")?;
-    let (left, extremes) = left_of(rt.alloc(), &points).map_err(|_| "no memory")?;
+    let (left, extremes) = left_of(&rt, rt.alloc(), &points, 3).map_err(|_| "no memory")?;
+    let (alone, _) = left_of(&rt, rt.alloc(), &points, 1).map_err(|_| "no memory")?;
+    assert!(rt; alone == left);
     let Some(left) = left else {
-        return Err("the look found nothing".into());
+        return Err("the filter found nothing".into());
     };
     assert!(rt; left.len() < points.len() / 2);
     for corner in &extremes {
