@@ -16,5 +16,5 @@ even_cut-requires-clause-few g c =
     let few : length c.args.ids.now ≤ length c.args.pts.now = few_ids c.args.pts.now c.args.ids.now c.requires.distinct in
     omega (arith, few, c.requires.few)
 
-pub text_in_threads-requires : goal.text_in_threads-requires
-text_in_threads-requires g c = names_of c.args.pts.now c.in_ok-hull.hull c.in_ok-hull.ensures
+pub text_in_threads-requires-after_bounds : goal.text_in_threads-requires-after_bounds
+text_in_threads-requires-after_bounds g c = names_of c.args.pts.now c.in_ok-hull.hull c.in_ok-hull.ensures
