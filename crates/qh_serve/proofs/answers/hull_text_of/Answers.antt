@@ -17,4 +17,4 @@ even_cut-requires-clause-few g c =
     omega (arith, few, c.requires.few)
 
 pub text_in_threads-requires-after_bounds : goal.text_in_threads-requires-after_bounds
-text_in_threads-requires-after_bounds g c = names_of c.args.pts.now c.in_ok-hull.hull c.in_ok-hull.ensures
+text_in_threads-requires-after_bounds g c lifetimes lives = names_of c.args.pts.now c.in_ok-hull.hull c.in_ok-hull.ensures
