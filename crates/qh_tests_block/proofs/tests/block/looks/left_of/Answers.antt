@@ -3,7 +3,7 @@ use Rattle.qh_model.proofs.DistinctIds.{ids_within}
 use Rattle.qh_tests_block.proofs.tests.block.looks.left_of.Goals as goal
 
 pub outer-requires-clause-indices : goal.outer-requires-clause-indices
-outer-requires-clause-indices g c =
+outer-requires-clause-indices g c lifetimes lives =
     rw (c.deref.ensures.value) (ids_within c.args.points.now c.in_ok-ids.ids.items c.in_ok-ids.ensures)
 
 pub extremes_unlooked-requires-clause-indices : goal.extremes_unlooked-requires-clause-indices
