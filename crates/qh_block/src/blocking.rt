@@ -10,21 +10,43 @@ ghost use Rattle.qh_model.specs.declared.limits.TheConstants.{BLOCK_LIMIT};
 
 use qh_model::BLOCK_LIMIT;
 
-/// The interior filter takes sets of at least this many ids.
-///
-/// Of a smaller set the filter's sample is a large part.
-pub(crate) const FILTER_FROM: usize = 50_000;
+/// A round of the interior filter: the sets that it takes, and its sample.
+#[derive(Clone, Copy, Drop)]
+pub(crate) struct Round {
+    /// The round takes sets of at least this many ids.
+    pub from: usize,
+    /// The round's sample has about this many ids, spread evenly over the set.
+    pub sample: usize,
+}
 
-/// The interior filter's sample has about this many ids, spread evenly over the set.
+impl Round {
+    /// Returns how many ids of a set of this length stand between two of the sample, the first of them
+    /// among these.
+    pub fn stride(&self, count: usize) -> usize
+        ensures { 0 < result }
+    {
+        count.checked_div(self.sample).unwrap_or(1).max(1)
+    }
+}
+
+/// The first round goes over all ids, most of which a small sample's hull holds where it holds any.
 ///
-/// A smaller one leaves more points outside its hull. The hull of a larger one takes longer, and has more
-/// planes to ask.
-pub(crate) const FILTER_SAMPLE: usize = 2048;
+/// Of fewer ids the sample is a large part.
+pub(crate) const FIRST_ROUND: Round = Round {
+    from: 50_000,
+    sample: 2_048,
+};
+
+/// The second round goes over what the first leaves, which lies near the surface of the hull.
+///
+/// Its sample is larger, since a point near the surface is outside of the hull of a small one. The
+/// hull of a still larger sample takes as much longer as the tree above the filter is faster.
+pub(crate) const SECOND_ROUND: Round = Round {
+    from: 32_768,
+    sample: 8_192,
+};
 
 /// Threads share the filter's way over at least this many ids.
-///
-/// Fewer are gone over in a small part of a millisecond, so that threads would take more time to start than
-/// they save.
 pub(crate) const SHARED_FROM: usize = 16_384;
 
 /// This many ids tell by the share of them that is extreme whether a division pays.

@@ -4,8 +4,8 @@
 //! (`grid`, `columns`, `heights`, `cells`, `bounds`). The few planes that come near a cell tell of its points which are strictly
 //! inside the hull of the sample. These are not extreme, in the sample or in the set.
 //!
-//! Of a very large set a first round leaves many points. A sample of these lies near the surface
-//! of the hull, so a second round leaves few.
+//! Of a large set a first round leaves many points. A sample of these lies near the surface of the hull,
+//! so a second round leaves few.
 ghost use Rattle.std.specs.Prelude.{◌<◌, IfOk, IfSome, length};
 ghost use Rattle.qh_block.specs.steps.InnerPoints.{IsOuterPart};
 
@@ -17,7 +17,7 @@ mod heights;
 mod sample;
 pub mod sieves;
 
-use crate::blocking::{FILTER_FROM, FILTER_SAMPLE, filter_pays};
+use crate::blocking::{FIRST_ROUND, Round, SECOND_ROUND, filter_pays};
 use crate::id_set::IdSet;
 use crate::inner_points::columns::Columns;
 use crate::inner_points::sample::{inner_columns, one_of};
@@ -26,7 +26,7 @@ use qh_model::{Id, Memory};
 use qh_pred::point_at;
 use std::alloc::Global;
 
-/// Whether at least half of the ids lie in the columns, so that it pays to look at all.
+/// Returns true if at least half of the ids lie in the columns, so that it pays to go over all.
 fn hold_most(sample: IdSet, columns: &Columns) -> bool {
     let mut held: usize = 0;
     for id in sample.ids {
@@ -37,18 +37,23 @@ fn hold_most(sample: IdSet, columns: &Columns) -> bool {
     filter_pays(held, sample.ids.len())
 }
 
-/// The ids of a large set but those that one round finds inside; none where no round pays.
-fn outer_ids_once<S: Sieve>(sieve: &S, alloc: Global, set: IdSet) -> Result<Option<Vec<Id>>, Memory>
+/// The ids of a large set but those that a round finds inside; none where the round does not pay.
+fn outer_ids_once<S: Sieve>(
+    sieve: &S,
+    alloc: Global,
+    set: IdSet,
+    round: &Round,
+) -> Result<Option<Vec<Id>>, Memory>
     requires some { 0 < length set.ids.now }
     requires ready { S.ready sieve.now }
     ensures some { IfOk result (λ found. IfSome found (λ v. 0 < length v.items)) }
     ensures part { IfOk result (λ found. IfSome found (λ v. IsOuterPart set.entry.pts.now set.entry.ids.now v.items)) }
 {
     let IdSet { pts, ids } = set;
-    if ids.len() < FILTER_FROM {
+    if ids.len() < round.from {
         return Ok(None);
     }
-    let sample = one_of(alloc, ids, ids.len() / FILTER_SAMPLE)?;
+    let sample = one_of(alloc, ids, round.stride(ids.len()))?;
     let sampled = IdSet { pts, ids: &sample };
     let Some(columns) = inner_columns(alloc, sampled)? else {
         return Ok(None);
@@ -71,14 +76,14 @@ pub fn outer_ids<S: Sieve>(sieve: &S, alloc: Global, set: IdSet) -> Result<Optio
     ensures some { IfOk result (λ found. IfSome found (λ v. 0 < length v.items)) }
     ensures part { IfOk result (λ found. IfSome found (λ v. IsOuterPart set.entry.pts.now set.entry.ids.now v.items)) }
 {
-    let Some(first) = outer_ids_once(sieve, alloc, set)? else {
+    let Some(first) = outer_ids_once(sieve, alloc, set, &FIRST_ROUND)? else {
         return Ok(None);
     };
     let left = IdSet {
         pts: set.pts,
         ids: &first,
     };
-    match outer_ids_once(sieve, alloc, left)? {
+    match outer_ids_once(sieve, alloc, left, &SECOND_ROUND)? {
         Some(second) => Ok(Some(second)),
         None => Ok(Some(first)),
     }

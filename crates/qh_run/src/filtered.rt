@@ -9,23 +9,37 @@ use qh_model::{Cut, Id, Memory};
 use std::alloc::{AllocError, Global};
 use std::thread::Threads;
 
-/// The ids of a job that the interior filter keeps, and the job's blocks without the others.
+/// What the interior filter leaves of a job.
 #[derive(Drop)]
-pub(crate) struct FilteredJob {
+pub(crate) struct Filtered {
+    /// The ids that are left, rising.
     pub ids: Vec<Id>,
+    /// The job's blocks without the ids that were removed, empty blocks left out.
     pub cut: Cut,
+    /// How many ids of the job each of these blocks stands for: those of the job's block, and of the empty
+    /// ones beside it.
+    pub counts: Vec<u32>,
     ghost whole: { positions cut ≡ length ids.items },
 }
 
-/// Returns the bounds of the job's blocks among the ids that are left of its own, empty blocks left
-/// out.
-fn bounds_among(alloc: Global, job: &Job, left: &[Id]) -> Result<Vec<u32>, AllocError>
+/// The blocks that are left of a job's.
+#[derive(Drop)]
+struct LeftBlocks {
+    /// Where they begin among the ids that are left, and the end of the last.
+    bounds: Vec<u32>,
+    /// How many ids of the job each stands for.
+    counts: Vec<u32>,
+}
+
+/// Returns the blocks of a job among the ids that are left of its own, empty blocks left out.
+fn blocks_among(alloc: Global, job: &Job, left: &[Id]) -> Result<LeftBlocks, AllocError>
     requires some { 0 < length left.now }
     requires few { length left.now ≤ positions job.now.cut.now }
-    ensures { IfOk result (λ v. positions v.items ≡ length left.now) }
+    ensures { IfOk result (λ b. positions b.bounds.items ≡ length left.now) }
 {
     let mut bounds = Vec::new(alloc);
-    let mut last = 0;
+    let mut counts = Vec::new(alloc);
+    let (mut last, mut counted) = (0, 0);
     bounds.push(0)?;
     for block in 1..job.cut.blocks() {
         let (from, _) = job.cut.block(block);
@@ -33,11 +47,13 @@ fn bounds_among(alloc: Global, job: &Job, left: &[Id]) -> Result<Vec<u32>, Alloc
         let at = left.partition_point(|id| *id < first);
         if at > last && at < left.len() {
             bounds.push(at as u32)?;
-            last = at;
+            counts.push(from.saturating_sub(counted))?;
+            (last, counted) = (at, from);
         }
     }
     bounds.push(left.len() as u32)?;
-    Ok(bounds)
+    counts.push((job.ids.len() as u32).saturating_sub(counted))?;
+    Ok(LeftBlocks { bounds, counts })
 }
 
 /// Filters a job by at most so many threads: returns what is left of its ids and blocks, or `None` where
@@ -51,7 +67,7 @@ pub(crate) fn without_interior<R: Threads + Sync>(
     alloc: Global,
     job: &Job,
     threads: u32,
-) -> Result<Option<FilteredJob>, Memory>
+) -> Result<Option<Filtered>, Memory>
     requires { 0 < length job.now.ids.now }
     ensures part { IfOk result (λ found. IfSome found (λ c. StandsFor job.now.pts.now job.now.ids.now c.ids.items)) }
     ensures some { IfOk result (λ found. IfSome found (λ c. 0 < length c.ids.items)) }
@@ -59,9 +75,9 @@ pub(crate) fn without_interior<R: Threads + Sync>(
     let Some(ids) = outer(rt, alloc, job.pts, job.ids, threads)? else {
         return Ok(None);
     };
-    let bounds = bounds_among(alloc, job, &ids)?;
+    let LeftBlocks { bounds, counts } = blocks_among(alloc, job, &ids)?;
     match Cut::from_bounds(bounds) {
-        Ok(cut) => Ok(Some(FilteredJob { ids, cut })),
+        Ok(cut) => Ok(Some(Filtered { ids, cut, counts })),
         Err(_) => Ok(None),
     }
 }

@@ -1,8 +1,10 @@
 //! What the workers' board keeps: the points, and how they are cut into blocks.
-ghost use Rattle.std.specs.Prelude.{◌≡◌, ◌<◌, IfOk, length};
+ghost use Rattle.std.specs.Prelude.{◌≡◌, ◌<◌, ◌+◌, IfOk, length};
 ghost use Rattle.std.specs.List.Sorted.{IsStrictlyIncreasing};
-ghost use Rattle.qh_model.specs.contract.Cut.{positions};
+ghost use Rattle.qh_model.specs.contract.BoardMachine.{InSpan};
+ghost use Rattle.qh_model.specs.contract.Cut.{block_count, positions};
 ghost use Rattle.qh_model.specs.contract.IdSets.{HasDistinctPoints, IsIdSet};
+ghost use Rattle.qh_model.specs.contract.RightValue.{RightValue};
 ghost use Rattle.qh_model.specs.headline.Hull.{AreExtremes};
 ghost use Rattle.qh_model.specs.headline.Predicates.{place};
 ghost use Rattle.qh_model.specs.headline.Sets.{Members};
@@ -32,14 +34,12 @@ pub struct Job<'a> {
 pub struct Extremes {
     /// The extreme ids of the blocks' ids, rising.
     pub ids: Vec<Id>,
-    /// How many ids the blocks have.
+    /// How many ids the blocks of the caller's cut have.
     pub among: usize,
     ghost some: { 0 < length ids.items },
 }
 
 impl<'a> Spans for Job<'a> {
-    ghost use Rattle.qh_model.specs.contract.RightValue.{RightValue};
-
     type Value = Extremes;
 
     ghost right = { λ job span found. RightValue job.pts.now job.ids.now job.cut.now span found.ids.items };
@@ -74,11 +74,25 @@ impl<'a> Job<'a> {
         }
         Ok(Extremes { ids, among })
     }
+
+    /// The extreme ids of a block, which stands for so many ids; none where they tell that a tree does not
+    /// pay.
+    pub(crate) fn reduced(
+        &self,
+        alloc: Global,
+        block: u32,
+        among: usize,
+    ) -> Result<Extremes, GivesUp>
+        requires { block < block_count self.now.cut.now }
+        ensures { IfOk result (λ found. RightValue self.now.pts.now self.now.ids.now self.now.cut.now
+            (InSpan (block_count self.now.cut.now) (block_count self.now.cut.now + block)) found.ids.items) }
+    {
+        let (from, to) = self.cut.block(block);
+        self.extremes_among(alloc, &self.ids[from as usize..to as usize], among)
+    }
 }
 
 impl<'a> Reduction for Job<'a> {
-    ghost use Rattle.qh_model.specs.contract.Cut.{block_count};
-
     ghost count = { λ job. block_count job.cut.now };
 
     fn blocks(&self) -> u32 {
@@ -87,11 +101,11 @@ impl<'a> Reduction for Job<'a> {
 
     fn reduce(&self, alloc: Global, block: u32, claimed: Claimed) -> Result<Extremes, GivesUp> {
         let (from, to) = self.cut.block(block);
-        let block = &self.ids[from as usize..to as usize];
+        let ids = &self.ids[from as usize..to as usize];
         if claimed == Claimed::First {
-            self.ask_sample(alloc, block)?;
+            self.ask_sample(alloc, ids)?;
         }
-        self.extremes_among(alloc, block, block.len())
+        self.reduced(alloc, block, ids.len())
     }
 
     fn combine(

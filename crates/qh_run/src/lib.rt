@@ -12,6 +12,7 @@
 #![tactic(auto)]
 
 mod filtered;
+mod filtered_job;
 mod gate;
 mod job;
 mod passes;

@@ -7,6 +7,7 @@ ghost use Rattle.qh_run.specs.steps.Parts.{StandsFor};
 ghost use Rattle.qh_run.specs.steps.Turns.{IsWorked};
 
 use crate::filtered::without_interior;
+use crate::filtered_job::FilteredJob;
 use crate::gate::Gate;
 use crate::job::{Extremes, Job};
 use crate::passes::run_passes;
@@ -46,27 +47,26 @@ fn reduced<S: Reduction, R: Threads + Sync, G: Gate>(
     Ok(root_of(board, lefts))
 }
 
-/// Returns the extreme ids of a job as the workers find them, no more workers than blocks; `None`
-/// where one gave up, or where an allocation for the board or a thread failed.
-fn root_over_blocks<R: Threads + Sync, G: Gate>(
+/// Returns what the workers find for all blocks, by so many passes; `None` where one gave up, or where
+/// an allocation for the board or a thread failed.
+fn root_over_blocks<S: Reduction, R: Threads + Sync, G: Gate>(
     rt: &R,
     alloc: Global,
-    job: Job,
-    workers: u32,
+    spans: S,
+    passes: u32,
     gate: &G,
-) -> Option<Extremes>
-    requires { 0 < workers }
-    ensures { IfSome result (λ found. StandsFor job.entry.pts.now job.entry.ids.now found.ids.items) }
+) -> Option<S::Value>
+    requires { 0 < passes }
+    ensures { IfSome result (S.right spans (InSpan (S.count spans) 1)) }
 {
-    let passes = workers.min(job.cut.blocks());
-    match reduced(rt, alloc, job, passes, gate) {
+    match reduced(rt, alloc, spans, passes, gate) {
         Ok(root) => root,
         Err(_) => None,
     }
 }
 
 /// Returns ids that stand for a job's, as the workers find them in its blocks, each without the points
-/// that the interior filter removes.
+/// that the interior filter removes. No more workers than blocks work.
 ///
 /// `None` says that a worker gave up, or that an allocation for the filter, the board or a thread
 /// failed.
@@ -88,9 +88,17 @@ pub(crate) fn extremes_by_tree<R: Threads + Sync, G: Gate>(
                 ids: &part.ids,
                 cut: &part.cut,
             };
-            root_over_blocks(rt, alloc, left, workers, gate)
+            let passes = workers.min(part.cut.blocks());
+            let left = FilteredJob {
+                job: left,
+                counts: &part.counts,
+            };
+            root_over_blocks(rt, alloc, left, passes, gate)
         }
-        Ok(None) => root_over_blocks(rt, alloc, job, workers, gate),
+        Ok(None) => {
+            let passes = workers.min(job.cut.blocks());
+            root_over_blocks(rt, alloc, job, passes, gate)
+        }
         Err(_) => None,
     }
 }

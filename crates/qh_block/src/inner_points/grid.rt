@@ -8,7 +8,7 @@ use qh_model::{COORDINATE_LIMIT, Point};
 use qh_pred::point_at;
 
 /// The grid has 2 to this power columns along each axis.
-pub const SIDE_BITS: u32 = 6;
+pub const SIDE_BITS: u32 = 5;
 
 /// Where columns stand: from the least x and y on, each 2 to a power wide.
 #[derive(Clone, Copy, Drop)]

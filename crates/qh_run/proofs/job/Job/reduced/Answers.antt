@@ -1,6 +1,6 @@
 use Rattle.std.proofs.lemmas.Result.{IfOk-weaker}
 use Rattle.qh_model.proofs.hulls.RightValues.{block_set, right_of_leaf}
-use Rattle.qh_run.proofs.job.JobReduction.reduce.Goals as goal
+use Rattle.qh_run.proofs.job.Job.reduced.Goals as goal
 
 pub extremes_among-requires-clause-set : goal.extremes_among-requires-clause-set
 extremes_among-requires-clause-set c =

@@ -1,0 +1,27 @@
+-- What is right for all blocks of a cut stands for all ids.
+use Rattle.std.proofs.Common.{ℕ, ◌≡◌, List, length}
+use Rattle.qh_model.specs.headline.Vector.{Vector}
+use Rattle.qh_model.specs.headline.Predicates.{place}
+use Rattle.qh_model.specs.headline.Sets.{Members}
+use Rattle.qh_model.specs.contract.BoardMachine.{InSpan}
+use Rattle.qh_model.specs.contract.Cut.{IsCut, block_count, positions}
+use Rattle.qh_model.specs.contract.IdSets.{HasDistinctPoints}
+use Rattle.qh_model.specs.contract.RightValue.{RightValue}
+use Rattle.qh_model.proofs.hulls.RightValues.{hull_of_root, right_within}
+use Rattle.qh_run.specs.steps.Parts.{StandsFor}
+
+pub root_stands : (pts : List Vector) (ids bounds found : List ℕ) → HasDistinctPoints (place pts) (Members ids) → IsCut bounds
+    → positions bounds ≡ length ids → RightValue pts ids bounds (InSpan (block_count bounds) 1) found → StandsFor pts ids found
+root_stands pts ids bounds found distinct cut whole right = record {
+  rising = right.rising;
+  within = right_within pts ids bounds (InSpan (block_count bounds) 1) found right;
+  hull = λ b h. hull_of_root pts ids bounds found b distinct cut whole right h;
+}
+
+-- what stands for a part that stands for the ids stands for these
+pub part_stands : (pts : List Vector) (ids part found : List ℕ) → StandsFor pts ids part → StandsFor pts part found → StandsFor pts ids found
+part_stands pts ids part found one two = record {
+  rising = two.rising;
+  within = λ i m. one.within i (two.within i m);
+  hull = λ b h. one.hull b (two.hull b h);
+}
