@@ -1,2 +1,3 @@
 pub mod RightUnions
+pub mod Roots
 pub mod WorkedBoards
