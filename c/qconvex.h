@@ -21,6 +21,9 @@
 extern "C" {
 #endif
 
+#define QCONVEX_VERSION "0.2.0"
+#define QCONVEX_VERSION_NUMBER 200 /* 10000 times the major number, 100 times the minor one, and the patch's */
+
 #define QCONVEX_COORDINATE_LIMIT 1073741824 /* the greatest size of a coordinate, either way: 2^30 */
 #define QCONVEX_POINT_LIMIT 1048576         /* the greatest number of points */
 
@@ -46,6 +49,9 @@ enum {
     QCONVEX_MEMORY = 4,   /* malloc or realloc refused; all that was taken is given back */
     QCONVEX_ROOM = 5      /* a buffer is too short: sizes says how long they have to be */
 };
+
+/* QCONVEX_VERSION_NUMBER of the library that is linked or loaded, which may differ from this header's. */
+uint32_t qconvex_version(void);
 
 /* The hull. QCONVEX_DONE: sizes is filled in, and the buffers begin with
  *   extremes  [sizes.extremes]   the indices of the extreme points, rising, none missed and none else

@@ -1,8 +1,9 @@
 #!/usr/bin/env python3
 """Makes the manual page docs/qconvex.1 of the help text, which stands in crates/qconvex/src/help.rt.
 
-    scripts/man_page.py            writes docs/qconvex.1
-    scripts/man_page.py --check    says whether it is what would be written; the status is 1 if not
+    scripts/man_page.py              writes docs/qconvex.1
+    scripts/man_page.py --check      says whether it is what would be written; the status is 1 if not
+    scripts/man_page.py --name NAME  prints the page of the program as it is installed by another name
 
 So there is one source: edit the help text, build the program, run this. The page is read by `man docs/qconvex.1`.
 """
@@ -85,11 +86,20 @@ def page(text):
     return "\n".join([*lines, ".SH DIAGNOSTICS", *map(quoted, rest[-1]), SEE_ALSO, ""])
 
 
+def named(text, name):
+    """A help text of the program by another name."""
+    return re.sub(r"(?<=^)qconvex(?= [0-9])|(?<=Usage: )qconvex|(?<=\| )qconvex", name, text)
+
+
 def main():
     parser = argparse.ArgumentParser(description=__doc__, formatter_class=argparse.RawDescriptionHelpFormatter)
     parser.add_argument("--check", action="store_true", help="only compare")
+    parser.add_argument("--name", help="the name that the program is installed by")
     options = parser.parse_args()
-    made = page(help_text())
+    made = page(named(help_text(), options.name or "qconvex"))
+    if options.name:
+        print(made, end="")
+        return
     if not options.check:
         with open(PAGE, "w", encoding="utf-8") as target:
             target.write(made)

@@ -50,7 +50,7 @@ BODIES = [
     (
         "hulls-on-the-caller-alone",
         ROOT,
-        [("match reduced(rt, alloc, job, passes, gate) {", "match reduced(rt, alloc, job, passes.min(0), gate) {")],
+        [("match reduced(rt, alloc, spans, passes, gate) {", "match reduced(rt, alloc, spans, passes.min(0), gate) {")],
     ),
     (
         "ignores-the-roots-list",

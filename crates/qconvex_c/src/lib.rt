@@ -18,9 +18,11 @@ mod judging;
 mod sizes;
 #[cfg(test)]
 mod tests;
+mod version;
 mod written;
 
 pub use code::{DONE, MEMORY, NO_POINT, RANGE, ROOM, TOO_MANY};
 pub use exported::{qconvex_fans, qconvex_hull};
 pub use given::Given;
 pub use sizes::Sizes;
+pub use version::{VERSION, qconvex_version};

@@ -1,0 +1,36 @@
+# Builds and installs the program; the library for C has its own Makefile in c/.
+#
+#     make                  builds the program, which proves it first where it was not proved
+#     make install          the program, its manual page and what shells complete, under PREFIX (/usr/local), below DESTDIR
+#     make install NAME=qconvex-exact
+#                           the same by another name, beside Qhull's program qconvex
+#     make uninstall
+#     make -C c install     the libraries for C, with header, qconvex.pc and a CMake package
+PREFIX ?= /usr/local
+NAME ?= qconvex
+BINDIR ?= $(PREFIX)/bin
+DATADIR ?= $(PREFIX)/share
+PROGRAM = crates/qconvex/out/qconvex
+
+PAGE = $(DESTDIR)$(DATADIR)/man/man1/$(NAME).1
+BASH_COMPLETION = $(DESTDIR)$(DATADIR)/bash-completion/completions/$(NAME)
+ZSH_COMPLETION = $(DESTDIR)$(DATADIR)/zsh/site-functions/_$(NAME)
+FISH_COMPLETION = $(DESTDIR)$(DATADIR)/fish/vendor_completions.d/$(NAME).fish
+
+all: $(PROGRAM)
+
+$(PROGRAM):
+	cd crates/qconvex && rt run -- s < ../../examples/unit-cube.txt
+
+install: $(PROGRAM)
+	install -d $(DESTDIR)$(BINDIR) $(dir $(PAGE)) $(dir $(BASH_COMPLETION)) $(dir $(ZSH_COMPLETION)) $(dir $(FISH_COMPLETION))
+	install -m 755 $(PROGRAM) $(DESTDIR)$(BINDIR)/$(NAME)
+	scripts/man_page.py --name $(NAME) > $(PAGE)
+	scripts/completions.py bash --name $(NAME) > $(BASH_COMPLETION)
+	scripts/completions.py zsh --name $(NAME) > $(ZSH_COMPLETION)
+	scripts/completions.py fish --name $(NAME) > $(FISH_COMPLETION)
+
+uninstall:
+	rm -f $(DESTDIR)$(BINDIR)/$(NAME) $(PAGE) $(BASH_COMPLETION) $(ZSH_COMPLETION) $(FISH_COMPLETION)
+
+.PHONY: all install uninstall
