@@ -2,31 +2,45 @@
 from __future__ import annotations
 
 from functools import cached_property
-from typing import Any
+from typing import TYPE_CHECKING, Any, Sequence, Union
 
 import numpy as np
+from numpy.typing import NDArray
 
 from ._library import COORDINATE_LIMIT, RANGE_REFUSAL, flat_hull
+from ._texts import obj_text, off_text
 from ._triangles import exact_sum_of_products, neighbors_of, normals_of
 
+if TYPE_CHECKING:
+    from ._floats import FloatHull
 
-def _whole(points: Any) -> np.ndarray:
-    """The points as an (n, 3) array of int32 whose rows lie one after the other."""
-    given = np.asarray(points)
+WholePoints = Union[NDArray[np.integer[Any]], NDArray[np.object_], Sequence[Sequence[int]]]
+"""Points that `ConvexHull` takes: an array of whole numbers, or lists of them."""
+
+
+def _whole(points: WholePoints, copy: bool) -> NDArray[np.int32]:
+    """The points as an aligned (n, 3) array of int32 whose rows lie one after the other, and are read alone if copied."""
+    given: NDArray[Any] = np.asarray(points)
     if given.ndim != 2 or given.shape[1] != 3:
         raise ValueError(f"points must have the shape (n, 3), and have {given.shape}")
-    if given.dtype.kind == "O" and all(isinstance(number, int) for number in given.flat):
-        raise ValueError(RANGE_REFUSAL)  # whole numbers that no integer type of numpy has
+    if given.dtype.kind == "O" and all(isinstance(number, (int, np.integer)) for number in given.flat):
+        if any(abs(int(number)) > COORDINATE_LIMIT for number in given.flat):
+            raise ValueError(RANGE_REFUSAL)
+        given = given.astype(np.int32)
     if given.dtype.kind not in "iu":
         raise TypeError(
-            f"points must be whole numbers, and are {given.dtype}: multiply them by a scale that makes them whole, and "
-            "convert them, as in numpy.rint(points * 1000).astype(numpy.int64); lengths of the hull are then as many "
-            "times longer"
+            f"points must be whole numbers, and are {given.dtype}: ConvexHull.from_floats takes floats, by whole numbers near "
+            "them; or multiply them by a scale that makes them whole, and convert them, as in "
+            "numpy.rint(points * 1000).astype(numpy.int64)"
         )
     if len(given) and not np.can_cast(given.dtype, np.int32):  # what int32 holds the library judges
         if not -COORDINATE_LIMIT <= given.min() <= given.max() <= COORDINATE_LIMIT:
             raise ValueError(RANGE_REFUSAL)
-    return np.ascontiguousarray(given, dtype=np.int32)
+    whole: NDArray[np.int32] = np.require(given, dtype=np.int32, requirements=["C", "A"])
+    if copy:
+        whole = whole.copy() if np.shares_memory(whole, given) else whole
+        whole.setflags(write=False)
+    return whole
 
 
 class ConvexHull:
@@ -40,6 +54,9 @@ class ConvexHull:
     ----------
     points : array_like of shape (n, 3), of any integer type
         From 1 to `POINT_LIMIT` points, each coordinate from -`COORDINATE_LIMIT` to `COORDINATE_LIMIT`.
+    copy : bool, default True
+        Whether `points` is a copy that can't be written. Else it is the array that was given, where that is an aligned one
+        of int32 with its rows one after the other: leave it as it is while attributes are computed of it.
 
     Raises
     ------
@@ -54,6 +71,10 @@ class ConvexHull:
     ----------
     points : ndarray of shape (n, 3), int32
         The points as given.
+    npoints, ndim : int
+        How many they are, and 3.
+    min_bound, max_bound : ndarray of shape (3,), int32
+        Their least and their greatest coordinates.
     dimension : int
         The dimension of the set, from 0 to 3.
     distinct : int
@@ -68,18 +89,57 @@ class ConvexHull:
         The corners of face j are ``corners[offsets[j]:offsets[j + 1]]``.
     """
 
-    def __init__(self, points: Any) -> None:
-        self.points: np.ndarray = _whole(points)
+    def __init__(self, points: WholePoints, *, copy: bool = True) -> None:
+        self.points: NDArray[np.int32] = _whole(points, copy)
         hull = flat_hull(self.points)
         self.dimension: int = hull.dimension
         self.distinct: int = hull.distinct
         self.nedges: int = hull.edges
-        self.vertices: np.ndarray = hull.extremes
-        self.corners: np.ndarray = hull.corners
-        self.offsets: np.ndarray = hull.offsets
+        self.vertices: NDArray[np.int32] = hull.extremes
+        self.corners: NDArray[np.int32] = hull.corners
+        self.offsets: NDArray[np.intp] = hull.offsets
+
+    @classmethod
+    def from_floats(cls, points: Any, bits: int = 30) -> FloatHull:
+        """The exact hull of points near the given floats, in their units: see `FloatHull`."""
+        from ._floats import FloatHull
+
+        return FloatHull(points, bits)
+
+    def __repr__(self) -> str:
+        return (
+            f"<{type(self).__name__} of {self.npoints} points: dimension {self.dimension}, {len(self.vertices)} vertices, "
+            f"{len(self)} faces>"
+        )
+
+    def __len__(self) -> int:
+        """The number of faces."""
+        return len(self.offsets) - 1
+
+    @property
+    def npoints(self) -> int:
+        """The number of points as given."""
+        return len(self.points)
+
+    @property
+    def ndim(self) -> int:
+        """The number of coordinates of a point: 3."""
+        return 3
 
     @cached_property
-    def faces(self) -> list[np.ndarray]:
+    def min_bound(self) -> NDArray[np.int32]:
+        """The least coordinate of the points along each axis."""
+        bound: NDArray[np.int32] = self.points.min(axis=0)
+        return bound
+
+    @cached_property
+    def max_bound(self) -> NDArray[np.int32]:
+        """The greatest coordinate of the points along each axis."""
+        bound: NDArray[np.int32] = self.points.max(axis=0)
+        return bound
+
+    @cached_property
+    def faces(self) -> list[NDArray[np.int32]]:
         """The faces: each an int32 array of indices, counterclockwise seen from outside, from the least on.
 
         A set in a plane has one face; a set in a line its two ends; one point itself.
@@ -88,7 +148,7 @@ class ConvexHull:
         return [self.corners[start:end] for start, end in zip(ends, ends[1:])]
 
     @cached_property
-    def simplices(self) -> np.ndarray:
+    def simplices(self) -> NDArray[np.int32]:
         """Triangles, an int32 array of shape (nsimplices, 3): each face as a fan from its first corner.
 
         All are counterclockwise seen from outside. Below dimension 2 there are none.
@@ -97,25 +157,27 @@ class ConvexHull:
         first = np.repeat(self.offsets[:-1], counts)
         steps = np.arange(len(first)) - np.repeat(np.cumsum(counts) - counts, counts)
         second = first + steps + 1
-        return self.corners[np.column_stack((first, second, second + 1))]
+        triangles: NDArray[np.int32] = self.corners[np.column_stack((first, second, second + 1))]
+        return triangles
 
     @cached_property
-    def normals(self) -> np.ndarray:
+    def normals(self) -> NDArray[np.int64]:
         """An outer normal of each triangle, an int64 array of shape (nsimplices, 3), exact: twice its area long."""
         return normals_of(self.points, self.simplices)
 
     @cached_property
-    def equations(self) -> np.ndarray:
+    def equations(self) -> NDArray[np.float64]:
         """[normal, offset] of each triangle, a float64 array of shape (nsimplices, 4), rounded.
 
         The normals have length 1 and point outside: normal . x + offset <= 0 for the points of the hull.
         """
         normals = self.normals / self._doubled_areas[:, np.newaxis]
         heights = (normals * self.points[self.simplices[:, 0]]).sum(axis=1)
-        return np.column_stack((normals, -heights))
+        equations: NDArray[np.float64] = np.column_stack((normals, -heights))
+        return equations
 
     @cached_property
-    def neighbors(self) -> np.ndarray:
+    def neighbors(self) -> NDArray[np.int32]:
         """The triangle over the side opposite to each corner, an int32 array of shape (nsimplices, 3).
 
         It is -1 where there is none, as at the rim of a set in a plane.
@@ -130,7 +192,7 @@ class ConvexHull:
         arms = self.points[self.simplices[:, 0]].astype(np.int64) - self.points[self.vertices[0]].astype(np.int64)
         return exact_sum_of_products(self.normals, arms)
 
-    @property
+    @cached_property
     def volume(self) -> float:
         """The volume, rounded once."""
         return self.six_volumes / 6
@@ -141,12 +203,41 @@ class ConvexHull:
         return float(self._doubled_areas.sum()) / 2
 
     @cached_property
-    def _doubled_areas(self) -> np.ndarray:
+    def _doubled_areas(self) -> NDArray[np.float64]:
         """Twice the area of each triangle, rounded."""
         normals = self.normals.astype(np.float64)
-        return np.sqrt((normals * normals).sum(axis=1))
+        areas: NDArray[np.float64] = np.sqrt((normals * normals).sum(axis=1))
+        return areas
 
     @property
     def nsimplex(self) -> int:
         """The number of triangles."""
         return len(self.simplices)
+
+    def to_off(self) -> str:
+        """The hull as an OFF file, as the program's output `off` writes it."""
+        return off_text(self._coordinates()[self.vertices], self._numbered_faces(), self.nedges)
+
+    def to_obj(self) -> str:
+        """The hull as a Wavefront OBJ file, faces as polygons."""
+        return obj_text(self._coordinates()[self.vertices], self._numbered_faces())
+
+    def plot(self, ax: Any = None, **style: Any) -> Any:
+        """Draws the faces on axes of matplotlib, new ones where none are given, and returns the axes.
+
+        `style` goes to `Poly3DCollection`. A set below dimension 2 is drawn as points and a line.
+        """
+        from ._plots import draw
+
+        return draw(self._coordinates(), self.faces, ax, style)
+
+    def _coordinates(self) -> NDArray[Any]:
+        """The points in the units of their caller."""
+        return self.points
+
+    def _numbered_faces(self) -> list[list[int]]:
+        """The faces, each corner by its number among the vertices."""
+        numbers = np.zeros(len(self.points), np.int64)
+        numbers[self.vertices] = np.arange(len(self.vertices))
+        corners, ends = numbers[self.corners].tolist(), self.offsets.tolist()
+        return [corners[start:end] for start, end in zip(ends, ends[1:])]

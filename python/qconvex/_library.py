@@ -7,6 +7,7 @@ from pathlib import Path
 from typing import NamedTuple
 
 import numpy as np
+from numpy.typing import NDArray
 
 COORDINATE_LIMIT = 1 << 30
 """The greatest size of a coordinate, either way."""
@@ -41,9 +42,9 @@ class FlatHull(NamedTuple):
     dimension: int
     distinct: int
     edges: int
-    extremes: np.ndarray  # int32, rising
-    offsets: np.ndarray  # intp: the corners of face j stand from offsets[j] to before offsets[j + 1]
-    corners: np.ndarray  # int32
+    extremes: NDArray[np.int32]  # int32, rising
+    offsets: NDArray[np.intp]  # intp: the corners of face j stand from offsets[j] to before offsets[j + 1]
+    corners: NDArray[np.int32]  # int32
 
 
 def _path() -> str:
@@ -57,12 +58,23 @@ def _path() -> str:
 def _load() -> ctypes.CDLL:
     library = ctypes.CDLL(_path())
     buffer = [ctypes.c_void_p, ctypes.c_size_t]
+    library.qconvex_version.restype = ctypes.c_uint32
+    library.qconvex_version.argtypes = []
     library.qconvex_hull.restype = ctypes.c_uint32
     library.qconvex_hull.argtypes = [*buffer, ctypes.POINTER(_Sizes), *buffer, *buffer, *buffer]
     return library
 
 
 _LIBRARY = _load()
+
+
+def _version() -> str:
+    number = int(_LIBRARY.qconvex_version())
+    return f"{number // 10000}.{number // 100 % 100}.{number % 100}"
+
+
+VERSION = _version()
+"""The version of the library that was loaded."""
 
 
 class _Buffers:
@@ -79,14 +91,16 @@ class _Buffers:
         start = self.words.ctypes.data
         return start + 8 * offsets, start, start + 8 * offsets + 4 * extremes
 
-    def lists(self, extremes: int, offsets: int, corners: int) -> tuple[np.ndarray, np.ndarray, np.ndarray]:
+    def lists(
+        self, extremes: int, offsets: int, corners: int
+    ) -> tuple[NDArray[np.int32], NDArray[np.intp], NDArray[np.int32]]:
         """So many of each, in memory of their own: the buffers are mostly longer than what stands in them."""
         numbers = self.words[self.rooms[1] :].view(np.int32)
         first = self.rooms[0]
         return numbers[:extremes].copy(), self.words[:offsets].copy(), numbers[first : first + corners].copy()
 
 
-def _call(points: np.ndarray, sizes: _Sizes, room: tuple[int, int, int]) -> tuple[int, _Buffers]:
+def _call(points: NDArray[np.int32], sizes: _Sizes, room: tuple[int, int, int]) -> tuple[int, _Buffers]:
     """One call with so much room for extreme points, offsets and corners: its answer, and the buffers."""
     buffers = _Buffers(*room)
     extremes, offsets, corners = buffers.addresses()
@@ -97,7 +111,7 @@ def _call(points: np.ndarray, sizes: _Sizes, room: tuple[int, int, int]) -> tupl
     return code, buffers
 
 
-def flat_hull(points: np.ndarray) -> FlatHull:
+def flat_hull(points: NDArray[np.int32]) -> FlatHull:
     """The hull of an (n, 3) array of int32 whose rows lie one after the other.
 
     Raises ValueError where the library refuses the points, and MemoryError where memory was refused.

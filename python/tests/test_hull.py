@@ -134,4 +134,5 @@ def test_agrees_with_scipy():
 
 
 def test_exported_names():
-    assert sorted(qconvex.__all__) == ["COORDINATE_LIMIT", "ConvexHull", "POINT_LIMIT"]
+    names = ["COORDINATE_LIMIT", "ConvexHull", "FloatHull", "POINT_LIMIT", "Snapped", "__version__", "snap"]
+    assert sorted(qconvex.__all__) == names
