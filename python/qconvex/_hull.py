@@ -231,6 +231,12 @@ class ConvexHull:
 
         return draw(self._coordinates(), self.faces, ax, style)
 
+    def _repr_html_(self) -> str:
+        """A picture that turns, for notebooks."""
+        from ._view import frame, page
+
+        return frame(page(self.vertices.tolist(), self._coordinates()[self.vertices].tolist(), self._numbered_faces(), repr(self)))
+
     def _coordinates(self) -> NDArray[Any]:
         """The points in the units of their caller."""
         return self.points

@@ -1,0 +1,1 @@
+"""Commands that the package installs."""
