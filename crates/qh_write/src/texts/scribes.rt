@@ -11,8 +11,6 @@ use std::alloc::{AllocError, Global};
 use std::thread::{self, Threads};
 
 /// Threads share the lines of at least this many faces.
-///
-/// Fewer are written in about a millisecond.
 const SHARED_FROM: usize = 16_384;
 
 /// A way to write the lines of faces.
