@@ -31,7 +31,7 @@ order_key : (c i j : ℕ) → i ≤ j → c + i ≤ c + j
 order_key c i j h = omega arith
 
 -- the ids below a count rise
-rises_each : (n : ℕ) (all : List ℕ) → AllIds n all → IsStrictlyIncreasing all
+pub rises_each : (n : ℕ) (all : List ℕ) → AllIds n all → IsStrictlyIncreasing all
 rises_each n all a k h = let e = a.len in rw (a.each k (omega arith), a.each (k + 1) (omega arith)) (omega arith)
 
 -- each number below the count is listed
@@ -39,7 +39,7 @@ pub all_in : (n : ℕ) (all : List ℕ) → AllIds n all → (i : ℕ) → i < n
 all_in n all a i h = subst (λ v. In v all) (a.each i h) (In-get_or all i 0 (let e = a.len in omega arith))
 
 -- and nothing else
-in_all : (n : ℕ) (all : List ℕ) → AllIds n all → (i : ℕ) → In i all → i < n
+pub in_all : (n : ℕ) (all : List ℕ) → AllIds n all → (i : ℕ) → In i all → i < n
 in_all n all a i m =
     let r = in_at all i m in
     let lt : r.0 < n = subst (λ v. r.0 < v) a.len r.1 in
@@ -70,10 +70,11 @@ marked_distinct pts marks is = record {
 abbrev pub key_by : ℕ → (ℕ → ℕ) → ℕ → ℕ
 key_by room code i = code i * room + i
 
--- the sorted keys of all ids of the points: equal points have one number
+-- the sorted keys of some ids of the points: equal points have one number
 pub record AreSortedKeys (pts : List Vector) (room : ℕ) (code : ℕ → ℕ) (keys : List ℕ) : Type 0 where
   pub ids : List ℕ
-  pub all : AllIds (length pts) ids
+  pub up : IsStrictlyIncreasing ids
+  pub inside : (i : ℕ) → In i ids → i < length pts
   pub same : IsPermutation (map (key_by room code) ids) keys
   pub rising : IsNonDecreasing keys
   pub small : (i : ℕ) → i < length pts → i < room
@@ -88,7 +89,7 @@ pub record StandsAt (room : ℕ) (code : ℕ → ℕ) (keys : List ℕ) (i n : �
 module _ (pts : List Vector) (room : ℕ) (code : ℕ → ℕ) (keys : List ℕ) (k : AreSortedKeys pts room code keys) where
   -- a key tells its id
   tell : TellIds room (key_by room code) k.ids
-  tell i m = mod-mul-add (code i) room i (k.small i (in_all (length pts) k.ids k.all i m))
+  tell i m = mod-mul-add (code i) room i (k.small i (k.inside i m))
 
   -- each key is the key of its id
   told : (x : ℕ) → In x keys → IsKeyIn room (key_by room code) k.ids x
@@ -96,15 +97,15 @@ module _ (pts : List Vector) (room : ℕ) (code : ℕ → ℕ) (keys : List ℕ)
 
   -- which is an index
   pub index_in : (x : ℕ) → In x keys → x % room < length pts
-  index_in x m = in_all (length pts) k.ids k.all (x % room) (told x m).has
+  index_in x m = k.inside (x % room) (told x m).has
 
   -- the keys rise strictly
   pub up : IsStrictlyIncreasing keys
-  up = keys_rise room (key_by room code) k.ids keys k.same tell (rises_each (length pts) k.ids k.all) k.rising
+  up = keys_rise room (key_by room code) k.ids keys k.same tell k.up k.rising
 
-  -- each index has a key
-  listed : (i : ℕ) → i < length pts → In (key_by room code i) keys
-  listed i h = key_listed room (key_by room code) k.ids keys k.same tell i (all_in (length pts) k.ids k.all i h)
+  -- each of the ids has a key
+  listed : (i : ℕ) → In i k.ids → In (key_by room code i) keys
+  listed = key_listed room (key_by room code) k.ids keys k.same tell
 
   -- which tells its place
   code_in_key : (i : ℕ) → i < length pts → key_by room code i / room ≡ code i
@@ -126,10 +127,10 @@ module _ (pts : List Vector) (room : ℕ) (code : ℕ → ℕ) (keys : List ℕ)
   pub stands : (n : ℕ) → n < length keys → StandsAt room code keys (get_or keys n 0 % room) n
   stands n h = record { within = h; place_told = code_told (get_or keys n 0) (In-get_or keys n 0 h); id_told = refl }
 
-  -- the key of each index stands somewhere
-  pub position : (i : ℕ) → i < length pts → (n : ℕ) × StandsAt room code keys i n
-  position i h =
-      let r = in_at keys (key_by room code i) (listed i h) in (
+  -- the key of each of the ids stands somewhere
+  pub position : (i : ℕ) → In i k.ids → (n : ℕ) × StandsAt room code keys i n
+  position i m =
+      let h = k.inside i m in let r = in_at keys (key_by room code i) (listed i m) in (
         r.0,
         record {
           within = r.1;
@@ -138,8 +139,8 @@ module _ (pts : List Vector) (room : ℕ) (code : ℕ → ℕ) (keys : List ℕ)
         },
       )
 
-  -- ---- the first of each place
-  module _ (none : ℕ) (other : (i : ℕ) → i < length pts → code i ≢ none)
+  -- ---- the first of each place, where the ids are all
+  module _ (every : (i : ℕ) → i < length pts → In i k.ids) (none : ℕ) (other : (i : ℕ) → i < length pts → code i ≢ none)
       (apart : (i j : ℕ) → i < j → j < length pts → code i ≡ code j → place pts i ≡ place pts j) where
     -- no key has the number of no place
     fresh : IsBefore room none keys
@@ -173,7 +174,7 @@ module _ (pts : List Vector) (room : ℕ) (code : ℕ → ℕ) (keys : List ℕ)
             codes = k.equal j i e
 
             first : r.0 ≤ key_by room code j
-            first = s.least (key_by room code j) (listed j jt) (code_in_key j jt ∙ codes ∙ sym (ap (λ v. v / room) is ∙ code_in_key i lt))
+            first = s.least (key_by room code j) (listed j (every j jt)) (code_in_key j jt ∙ codes ∙ sym (ap (λ v. v / room) is ∙ code_in_key i lt))
 
             late : i ≤ j → j < i → ⊥
             late p q = omega (arith, p, q)
@@ -184,7 +185,7 @@ module _ (pts : List Vector) (room : ℕ) (code : ℕ → ℕ) (keys : List ℕ)
         subst (λ v. In v (map (λ x. x % room) (place_starts room none keys))) (id_in_key i f.0)
         (in_map (λ x. x % room) (place_starts room none keys) (key_by room code i)
         (starts_all room none keys (key_by room code i) up
-        (record { has = listed i f.0; new = λ e. other i f.0 (sym (code_in_key i f.0) ∙ e); least = least })))
+        (record { has = listed i (every i f.0); new = λ e. other i f.0 (sym (code_in_key i f.0) ∙ e); least = least })))
       where
         least : (y : ℕ) → In y keys → y / room ≡ key_by room code i / room → key_by room code i ≤ y
         least y m e = by_cases (cases_lt (y % room) i)

@@ -4,7 +4,9 @@ pub mod MarkedIds
 pub mod PlaceStarts
 pub mod SortedPoints
 pub mod DistinctLists
+pub mod KeysBelow
 pub mod PlaceLists
+pub mod RepeatedIds
 pub mod KeptIds
 pub mod SeenPlaces
 pub mod PlaneDirections

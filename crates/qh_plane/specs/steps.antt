@@ -4,5 +4,6 @@ pub mod CloseBoxes
 pub mod Marks
 pub mod PlaceKeys
 pub mod HashedKeys
+pub mod Repeats
 pub mod InnerPlaces
 pub mod SortedPoints

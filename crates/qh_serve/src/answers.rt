@@ -2,19 +2,21 @@
 ghost use Rattle.std.specs.Prelude.{◌≡◌, ◌≢◌, ◌<◌, ◌≤◌, IfOk, IfErr, Err, length};
 ghost use Rattle.qh_model.specs.contract.Cut.{positions};
 ghost use Rattle.qh_model.specs.headline.DistinctIds.{AreDistinctIds};
+ghost use Rattle.qh_model.specs.headline.Forms.{ReadsIn};
 ghost use Rattle.qh_model.specs.headline.Hull.{IsHull};
 ghost use Rattle.qh_model.specs.headline.Text.{IsText};
 ghost use Rattle.qh_model.specs.declared.limits.TheConstants.{BYTE_LIMIT, POINT_LIMIT};
 ghost use Rattle.qh_model.specs.declared.read_fault.ReadFault.TheVariants as reads;
+ghost use Rattle.qh_read.specs.contract.ReadFaults.{IsFaultOf};
 ghost use Rattle.qh_serve.specs.headline.Answers.{IsAnswer, IsAnswerFault};
 
 use crate::fault::Fault;
 use crate::ranks::{are_all_ranks, rank_text};
 use crate::settings::Settings;
 use qh_block::block_size;
-use qh_model::{Cut, CutError, Hull, Id, Memory, Point};
-use qh_plane::{distinct, distinct_alone};
-use qh_read::read_form;
+use qh_model::{BYTE_LIMIT, Cut, CutError, Hull, Id, Memory, Point};
+use qh_plane::distinct_in_threads;
+use qh_read::{MemSource, ReadFault, read_form_threads};
 use qh_run::{Gate, RunError, run_hull};
 use qh_write::text_in_threads;
 use std::alloc::Global;
@@ -35,23 +37,6 @@ fn even_cut(alloc: Global, count: u32, wanted: u32) -> Result<Cut, Memory>
         Err(CutError::ZeroSize) => unreachable!(),
         Err(CutError::TooManyBlocks) => unreachable!(),
         Err(CutError::BadBounds) => unreachable!(),
-    }
-}
-
-/// The distinct ids of the points, which one worker finds without a thread.
-fn distinct_ids<R: Threads + Sync>(
-    rt: &R,
-    alloc: Global,
-    pts: &[Point],
-    workers: u32,
-) -> Result<Vec<Id>, Memory>
-    requires { length pts.now ≤ POINT_LIMIT }
-    ensures { IfOk result (λ v. AreDistinctIds pts.now v.items) }
-{
-    if workers < 2 {
-        distinct_alone(alloc, pts)
-    } else {
-        distinct(rt, alloc, pts)
     }
 }
 
@@ -117,18 +102,38 @@ pub(crate) fn text_of<R: Threads + Sync, G: Gate>(
     requires few { length pts.now ≤ POINT_LIMIT }
     ensures { IfOk result (λ t. IsText pts.now settings.now.outs t.items) }
 {
-    let ids = distinct_ids(rt, alloc, pts, settings.workers())?;
+    let ids = distinct_in_threads(rt, alloc, pts, settings.workers())?;
     if are_all_ranks(settings.outs()) {
         return rank_text(alloc, pts, &ids, settings.outs());
     }
     hull_text_of(rt, alloc, pts, &ids, settings, gate)
 }
 
+/// The points in the input, or its first fault, read by as many threads as workers make the hull.
+fn points_in<R: Threads + Sync>(
+    rt: &R,
+    alloc: Global,
+    input: &[u8],
+    settings: &Settings,
+) -> Result<Vec<Point>, ReadFault>
+    ensures read { IfOk result (λ points. ReadsIn settings.now.form input.now points.items) }
+    ensures fault { IfErr result (λ e. IsFaultOf settings.now.form input.now e) }
+    ensures big { BYTE_LIMIT < length input.now → result ≡ Err reads.Big }
+    ensures no_device { result ≢ Err reads.Device }
+{
+    if input.len() > BYTE_LIMIT as usize {
+        return Err(ReadFault::Big);
+    }
+    let threads = settings.workers() as usize;
+    let mut source = MemSource::new(input);
+    read_form_threads(rt, alloc, threads, settings.form(), &mut source)
+}
+
 /// The texts that the settings ask for, of the points in the input: the one text that the points alone
 /// define.
 ///
-/// The gate is told of the workers' blocks, and takes the hull at the end of their run. Outputs that are all
-/// the rank need no hull: the gate is not called then.
+/// As many threads read as workers make the hull. The gate is told of the workers' blocks, and takes the hull at
+/// the end of their run. Outputs that are all the rank need no hull: the gate is not called then.
 ///
 /// The fault is the first of the input, or out of memory. `Big` goes before all other faults, out of
 /// memory too. `answer` never answers that a device failed, that the text could not be sent or that a
@@ -147,7 +152,7 @@ pub fn answer<R: Threads + Sync, G: Gate>(
     ensures no_send { result ≢ Err Fault.Send }
     ensures no_usage { result ≢ Err Fault.Usage }
 {
-    let points = read_form(alloc, settings.form(), input)?;
+    let points = points_in(rt, alloc, input, settings)?;
     let text = text_of(rt, alloc, &points, settings, gate)?;
     Ok(text)
 }

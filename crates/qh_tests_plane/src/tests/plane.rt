@@ -9,6 +9,7 @@ use std::test::Fail;
 use std::thread::Threads;
 
 mod large_polygons;
+mod many_points;
 mod refusals;
 
 /// Asserts that the ids have these numbers.

@@ -1,10 +1,18 @@
-use Rattle.std.proofs.Common.{ap, ◌∙◌, arith}
-use Rattle.qh_model.proofs.lists.Images.{map-more}
-use Rattle.qh_plane.specs.steps.HashedKeys.{hashed_key, hashed_key_at}
+use Rattle.std.proofs.Common.{◌≡◌, ◌∙◌, ◌+◌, ◌*◌, ◌∷◌, ◌++◌, [], ap, sym, subst}
+use Rattle.qh_plane.proofs.KeysBelow.{no_keys, key_added}
+use Rattle.qh_plane.proofs.SeenPlaces.{point_read}
+use Rattle.qh_plane.specs.declared.hashed_keys.TheConstants.{ID_ROOM}
+use Rattle.qh_plane.specs.steps.HashedKeys.{place_hash, hashed_key_at, AllHashes, AreKeysBelow}
 use Rattle.qh_plane.proofs.hashed_keys.hashed_keys.Goals as goal
 
-pub loop-id-preserved : goal.loop-id-preserved
-loop-id-preserved c =
-    c.in_ok-push.ensures.items ∙ map-more (hashed_key_at c.args.pts.now) c.args.ids.now c.loop-id.id-index c.id-item.result _ _
-    (omega arith) c.loop-id.invariant
-    (c.hashed_key.ensures ∙ ap (λ p. hashed_key p c.id-item.result) c.point_at.ensures ∙ ap (hashed_key_at c.args.pts.now) c.id-item.is)
+pub loop-number-init : goal.loop-number-init
+loop-number-init c = rw c.in_ok-keys.ensures.items (no_keys c.args.pts.now AllHashes)
+
+pub loop-number-preserved : goal.loop-number-preserved
+loop-number-preserved c =
+    let pts = c.args.pts.now in let n = c.loop-number.number in let keys = c.loop-number.keys.items in
+    let key : c.key_of.result ≡ hashed_key_at pts n =
+    c.key_of.ensures ∙ ap (λ h. h * ID_ROOM + n)
+    (c.place_hash.ensures.value ∙ ap place_hash (point_read pts n c.index-pts-number.result c.loop-number-test.true c.index-pts-number.is)) in
+    subst (AreKeysBelow pts AllHashes (n + 1)) (sym (c.in_ok-push.ensures.items ∙ ap (λ k. keys ++ k ∷ []) key))
+    (key_added pts AllHashes n keys c.loop-number.invariant tt)

@@ -1,12 +1,12 @@
 use Rattle.std.proofs.Common.{ap, sym, ◌∙◌, take, length, ◌-◌, ◌++◌, [], reverse}
-use Rattle.rayon.proofs.ListFacts.{IfOk-then}
+use Rattle.std.proofs.lemmas.Result.{IfOk-weaker}
 use Rattle.qh_plane.proofs.polygons.Stacks.{fronts}
 use Rattle.qh_plane.specs.steps.Chains.{turn_of, joined, chain}
 use Rattle.qh_plane.proofs.planar.cycle.Goals as goal
 
 pub returns : goal.returns
 returns c =
-    IfOk-then c.joined.result _ _ c.joined.ensures (λ v h.
+    IfOk-weaker c.joined.result _ _ (λ v h.
     h
     ∙ ap (λ t. take (length c.in_ok-there.there.items - 1) c.in_ok-there.there.items ++ take (length t - 1) t) c.deref-3.ensures.value
     ∙ sym (fronts c.in_ok-there.there.items c.in_ok-back.back.items)
@@ -15,3 +15,4 @@ returns c =
     ∙ ap (λ t. joined (chain (turn_of c.args.pts.now c.args.normal.now) [] c.args.sorted.items) t)
     (c.in_ok-back.ensures
     ∙ ap (chain (turn_of c.args.pts.now c.args.normal.now) []) (c.deref-2.ensures.value ∙ c.reverse.ensures.items)))
+    c.joined.ensures

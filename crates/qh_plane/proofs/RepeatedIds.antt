@@ -1,0 +1,203 @@
+-- Points that stand before: told key by key, joined from parts of the hashes, and left out.
+use Rattle.std.proofs.Common.{◌≡◌, ◌≢◌, ℕ, zero, suc, ◌+◌, ◌-◌, ◌^◌, ◌*◌, ◌/◌, ◌%◌, ◌<◌, ◌≤◌, ◌⊎◌, inl, inr, List, [], ◌∷◌, ◌++◌, Bool, true, false, length}
+use Rattle.std.proofs.Common.{get_or, set, replicate, arith, ap, sym, subst, ◌∙◌, refl, get_or-set_same, get_or-set_other}
+use Rattle.std.proofs.lemmas.Bool.{cases_lt}
+use Rattle.std.proofs.lemmas.List.{length-set, get_or-replicate, length-replicate}
+use Rattle.std.proofs.Math.Nat.{div-lt_iff_lt-mul, mul-lt-mul_of_pos_right}
+use native.Mathlib.Decide.{ℕ_discrete}
+use Rattle.qh_model.proofs.lists.Joined.{in_append, of_append}
+use Rattle.qh_model.specs.headline.DistinctIds.{IsDistinctId, AreDistinctIds}
+use Rattle.qh_model.specs.headline.Predicates.{place}
+use Rattle.qh_model.specs.headline.Sets.{In}
+use Rattle.qh_model.specs.headline.Vector.{Vector}
+use Rattle.qh_plane.proofs.DistinctLists.{all_distinct, marked_distinct}
+use Rattle.qh_plane.specs.declared.hashed_keys.TheConstants.{ID_ROOM, NO_HASH, MIXER}
+use Rattle.qh_plane.specs.steps.HashedKeys.{Hashes, place_number, place_hash, hash_at, IsRepeat, RepeatsTold}
+use Rattle.qh_plane.specs.steps.Marks.{marked_ids}
+use Rattle.qh_plane.specs.steps.PlaceKeys.{AllIds}
+use Rattle.qh_plane.specs.steps.Repeats.{IsRepeatedId, AreRepeats, AreAllRepeats, MarksWithout}
+
+-- ---- key by key
+-- the first key repeats none
+pub none_told : (pts : List Vector) (keys : List ℕ) → RepeatsTold pts keys 1 []
+none_told pts keys = record {
+  tells = λ j l. absurd (omega (arith, l));
+  has = λ j l. absurd (omega (arith, l));
+  only = λ i m. absurd m;
+}
+
+module _ (pts : List Vector) (keys : List ℕ) (j : ℕ) (ids : List ℕ) (some : 1 ≤ j) (told : RepeatsTold pts keys j ids) where
+  abbrev key : ℕ → ℕ
+  key k = get_or keys k 0
+
+  -- a key that repeats the one before is told
+  pub repeat_told : j < length keys → IsRepeat pts (key (j - 1)) (key j) → RepeatsTold pts keys (j + 1) (ids ++ key j % ID_ROOM ∷ [])
+  repeat_told within here = record {
+    tells = λ i l w e. tells i l w e (ℕ_discrete (i + 2) j);
+    has = λ i l w r. in_append ids (key j % ID_ROOM ∷ []) (key (i + 1) % ID_ROOM) (has i l w r (ℕ_discrete (i + 1) j));
+    only = λ i m. only i (of_append ids (key j % ID_ROOM ∷ []) i m);
+  }
+    where
+      tells : (i : ℕ) → i + 2 < j + 1 → i + 2 < length keys → key i / ID_ROOM ≡ key (i + 2) / ID_ROOM → Dec (i + 2 ≡ j)
+          → IsRepeat pts (key (i + 1)) (key (i + 2))
+      tells i l w e (yes q) =
+          let before : j - 1 ≡ i + 1 = omega (arith, q) in
+          subst (λ m. IsRepeat pts (key (i + 1)) (key m)) (sym q) (subst (λ m. IsRepeat pts (key m) (key j)) before here)
+      tells i l w e (no ne) = told.tells i (omega (arith, l, ne)) w e
+
+      has : (i : ℕ) → i + 1 < j + 1 → i + 1 < length keys → IsRepeat pts (key i) (key (i + 1)) → Dec (i + 1 ≡ j)
+          → In (key (i + 1) % ID_ROOM) ids ⊎ In (key (i + 1) % ID_ROOM) (key j % ID_ROOM ∷ [])
+      has i l w r (yes q) = inr (inl (ap (λ m. key m % ID_ROOM) q))
+      has i l w r (no ne) = inl (told.has i (omega (arith, l, ne)) w r)
+
+      only : (i : ℕ) → In i ids ⊎ In i (key j % ID_ROOM ∷ [])
+          → (k : ℕ) × (k + 1 < length keys) × IsRepeat pts (key k) (key (k + 1)) × (i ≡ key (k + 1) % ID_ROOM)
+      only i (inl m) = told.only i m
+      only i (inr (inl e)) =
+          let next : j ≡ j - 1 + 1 = omega (arith, some) in (
+            j - 1,
+            subst (λ m. m < length keys) next within,
+            subst (λ m. IsRepeat pts (key (j - 1)) (key m)) next here,
+            e ∙ ap (λ m. key m % ID_ROOM) next,
+          )
+      only i (inr (inr a)) = absurd a
+
+  -- and none that doesn't, where it is not the third of its hash
+  pub new_told : (IsRepeat pts (key (j - 1)) (key j) → ⊥) → (2 ≤ j → key (j - 2) / ID_ROOM ≢ key j / ID_ROOM) → RepeatsTold pts keys (j + 1) ids
+  new_told new apart = record {
+    tells = λ i l w e. tells i l w e (ℕ_discrete (i + 2) j);
+    has = λ i l w r. has i l w r (ℕ_discrete (i + 1) j);
+    only = told.only;
+  }
+    where
+      tells : (i : ℕ) → i + 2 < j + 1 → i + 2 < length keys → key i / ID_ROOM ≡ key (i + 2) / ID_ROOM → Dec (i + 2 ≡ j)
+          → IsRepeat pts (key (i + 1)) (key (i + 2))
+      tells i l w e (yes q) =
+          let third : j - 2 ≡ i = omega (arith, q) in
+          absurd (apart (omega (arith, q)) (ap (λ m. key m / ID_ROOM) third ∙ e ∙ ap (λ m. key m / ID_ROOM) q))
+      tells i l w e (no ne) = told.tells i (omega (arith, l, ne)) w e
+
+      has : (i : ℕ) → i + 1 < j + 1 → i + 1 < length keys → IsRepeat pts (key i) (key (i + 1)) → Dec (i + 1 ≡ j) → In (key (i + 1) % ID_ROOM) ids
+      has i l w r (yes q) =
+          let before : i ≡ j - 1 = omega (arith, q) in
+          absurd (new (subst (λ m. IsRepeat pts (key (j - 1)) (key m)) q (subst (λ m. IsRepeat pts (key m) (key (i + 1))) before r)))
+      has i l w r (no ne) = told.has i (omega (arith, l, ne)) w r
+
+-- in the end all keys are told
+pub told_all : (pts : List Vector) (keys : List ℕ) (n : ℕ) (ids : List ℕ) → length keys ≤ n → RepeatsTold pts keys n ids
+    → RepeatsTold pts keys (length keys) ids
+told_all pts keys n ids h told = record {
+  tells = λ j l w. told.tells j (omega (arith, h, w)) w;
+  has = λ j l w. told.has j (omega (arith, h, w)) w;
+  only = told.only;
+}
+
+-- ---- part by part
+-- of no hashes there is none
+pub no_repeats : (pts : List Vector) (some : Hashes) → ((h : ℕ) → some h → ⊥) → AreRepeats pts some []
+no_repeats pts some none = record { has = λ i s. absurd (none (hash_at pts i) s); only = λ i m. absurd m }
+
+-- those of some hashes and of others are those of both
+pub repeats_joined : (pts : List Vector) (some more both : Hashes) (xs ys : List ℕ) → ((h : ℕ) → both h → some h ⊎ more h)
+    → AreRepeats pts some xs → AreRepeats pts more ys → AreRepeats pts both (xs ++ ys)
+repeats_joined pts some more both xs ys which a b = record {
+  has = λ i s r. in_append xs ys i (listed i r (which (hash_at pts i) s));
+  only = λ i m. told i (of_append xs ys i m);
+}
+  where
+    listed : (i : ℕ) → IsRepeatedId pts i → some (hash_at pts i) ⊎ more (hash_at pts i) → In i xs ⊎ In i ys
+    listed i r (inl s) = inl (a.has i s r)
+    listed i r (inr s) = inr (b.has i s r)
+
+    told : (i : ℕ) → In i xs ⊎ In i ys → IsRepeatedId pts i
+    told i (inl m) = a.only i m
+    told i (inr m) = b.only i m
+
+-- a number below the next one
+pub below_next : (q i : ℕ) → q < i + 1 → (q < i) ⊎ (q ≡ i)
+below_next q i h = by_cases (cases_lt q i)
+  where
+    by_cases : (q < i) ⊎ (i ≤ q) → (q < i) ⊎ (q ≡ i)
+    by_cases (inl l) = inl l
+    by_cases (inr g) = inr (omega (arith, h, g))
+
+-- a hash lies in one of the parts
+hash_small : (n : ℕ) → n % 2 ^ 64 / ID_ROOM < NO_HASH
+hash_small n = omega arith
+
+place_hash_small : (p : Vector) → place_hash p < NO_HASH
+unfolding place_hash
+place_hash_small p = hash_small (place_number p * MIXER)
+
+part_small : (h n : ℕ) → h < NO_HASH → 0 < n → h * n / NO_HASH < n
+part_small h n l some = (div-lt_iff_lt-mul (omega arith)).1 (other_way (h * n) (mul-lt-mul_of_pos_right l some))
+  where
+    other_way : (q : ℕ) → q < NO_HASH * n → q < n * NO_HASH
+    other_way q g = omega (arith, g)
+
+-- those of the first parts, as many as there are, are all
+pub repeats_of_parts : (pts : List Vector) (n k : ℕ) (ids : List ℕ) → 0 < n → n ≤ k → AreRepeats pts (λ h. h * n / NO_HASH < k) ids → AreAllRepeats pts ids
+repeats_of_parts pts n k ids some h r = record { has = λ i s. r.has i (below i); only = r.only }
+  where
+    below : (i : ℕ) → hash_at pts i * n / NO_HASH < k
+    below i = let l = part_small (hash_at pts i) n (place_hash_small (place pts i)) some in omega (arith, l, h)
+
+-- ---- left out
+-- where no point stands before, all ids are distinct
+pub none_repeated : (pts : List Vector) (all ids : List ℕ) → AllIds (length pts) all → AreAllRepeats pts ids → ids ≡ [] → AreDistinctIds pts all
+none_repeated pts all ids a r none =
+    all_distinct pts all a (λ i j l h e. subst (In j) none (r.has j tt (h, i, l, e)))
+
+-- at first every mark is set
+pub all_marked : (count : ℕ) → MarksWithout count [] (replicate count true)
+all_marked count = record {
+  len = length-replicate count true;
+  has = λ i l n. get_or-replicate count i true false l;
+  only = λ i e m. m;
+}
+
+-- one mark more is taken away
+pub mark_taken : (count : ℕ) (ids : List ℕ) (marks : List Bool) (k : ℕ) → k < count → MarksWithout count ids marks
+    → MarksWithout count (ids ++ k ∷ []) (set marks k false)
+mark_taken count ids marks k h m = record {
+  len = length-set marks k false ∙ m.len;
+  has = λ i l n. get_or-set_other marks k i false false (λ e. n (in_append ids (k ∷ []) i (inr (inl e))))
+      ∙ m.has i l (λ a. n (in_append ids (k ∷ []) i (inl a)));
+  only = λ i e a. by_decision i e (of_append ids (k ∷ []) i a) (ℕ_discrete i k);
+}
+  where
+    here : k < length marks
+    here = subst (λ v. k < v) (sym m.len) h
+
+    clash : true ≡ false → ⊥
+    clash e = cc
+
+    by_decision : (i : ℕ) → get_or (set marks k false) i false ≡ true → In i ids ⊎ In i (k ∷ []) → Dec (i ≡ k) → ⊥
+    by_decision i e a (yes q) =
+        clash (sym e ∙ ap (λ v. get_or (set marks k false) v false) q ∙ get_or-set_same marks k false false here)
+    by_decision i e (inl a) (no ne) = m.only i (sym (get_or-set_other marks k i false false ne) ∙ e) a
+    by_decision i e (inr (inl q)) (no ne) = ne q
+    by_decision i e (inr (inr a)) (no ne) = a
+
+-- the marks that are left are those of the distinct ids
+pub distinct_left : (pts : List Vector) (ids : List ℕ) (marks : List Bool) → AreAllRepeats pts ids → MarksWithout (length pts) ids marks
+    → AreDistinctIds pts (marked_ids 0 marks)
+distinct_left pts ids marks r m = marked_distinct pts marks (λ i. (only i, has i))
+  where
+    within : (i : ℕ) → get_or marks i false ≡ true → (i < length marks) ⊎ (length marks ≤ i) → i < length pts
+    within i e (inl l) = subst (λ v. i < v) m.len l
+    within i e (inr g) = absurd (clash (sym e ∙ beyond marks i g))
+      where
+        clash : true ≡ false → ⊥
+        clash e = cc
+
+        beyond : (bs : List Bool) (i : ℕ) → length bs ≤ i → get_or bs i false ≡ false
+        beyond [] i g = refl
+        beyond (b ∷ bs) zero g = absurd (omega arith)
+        beyond (b ∷ bs) (suc i) g = beyond bs i (omega arith)
+
+    only : (i : ℕ) → get_or marks i false ≡ true → IsDistinctId pts i
+    only i e = let lt = within i e (cases_lt i (length marks)) in (lt, λ j l q. m.only i e (r.has i tt (lt, j, l, q)))
+
+    has : (i : ℕ) → IsDistinctId pts i → get_or marks i false ≡ true
+    has i f = m.has i f.0 (λ a. let q = r.only i a in f.1 q.1 q.2 q.3)

@@ -1,0 +1,25 @@
+-- Points that stand in a list before. Only private functions speak of them.
+use Rattle.std.specs.Prelude.{ℕ, ◌≡◌, ◌<◌, List, Bool, true, false, length, slice_index_or}
+use Rattle.qh_model.specs.headline.Predicates.{place}
+use Rattle.qh_model.specs.headline.Sets.{In}
+use Rattle.qh_model.specs.headline.Vector.{Vector}
+use Rattle.qh_plane.specs.steps.HashedKeys.{Hashes, AllHashes, hash_at}
+
+-- a lower id has the same point
+abbrev pub IsRepeatedId : List Vector → ℕ → Type 0
+IsRepeatedId pts i = (i < length pts) × (j : ℕ) × (j < i) × (place pts j ≡ place pts i)
+
+-- the ids of points that stand before: all of those with some hashes
+pub record AreRepeats (pts : List Vector) (some : Hashes) (ids : List ℕ) : Type 0 where
+  pub has : (i : ℕ) → some (hash_at pts i) → IsRepeatedId pts i → In i ids
+  pub only : (i : ℕ) → In i ids → IsRepeatedId pts i
+
+-- all of them
+abbrev pub AreAllRepeats : List Vector → List ℕ → Type 0
+AreAllRepeats pts ids = AreRepeats pts AllHashes ids
+
+-- so many marks, of which those of the ids are not set
+pub record MarksWithout (count : ℕ) (ids : List ℕ) (marks : List Bool) : Type 0 where
+  pub len : length marks ≡ count
+  pub has : (i : ℕ) → i < count → (In i ids → ⊥) → slice_index_or marks i false ≡ true
+  pub only : (i : ℕ) → slice_index_or marks i false ≡ true → In i ids → ⊥

@@ -1,0 +1,56 @@
+//! Points that stand in a list before, told by sorted keys of 64 bits.
+ghost use Rattle.std.specs.Prelude.{◌≡◌, ◌≤◌, ◌<◌, ◌%◌, IfOk, IfSome, length};
+ghost use Rattle.std.specs.List.{All};
+ghost use Rattle.std.specs.List.Sorted.{IsNonDecreasing};
+ghost use Rattle.qh_plane.specs.steps.HashedKeys.{PartHashes, AreHashedKeys, RepeatsTold};
+ghost use Rattle.qh_plane.specs.steps.Repeats.{AreRepeats, AreAllRepeats};
+
+use crate::hash_parts::Part;
+use crate::hashed_keys::{ID_ROOM, hash_in, hashed_keys, id_in, is_repeat};
+use qh_model::{Id, POINT_LIMIT, Point};
+use std::alloc::{AllocError, Global};
+
+/// The ids of the keys that repeat the one before, of rising keys; none where one hash has different
+/// points past its first two keys.
+///
+/// So points that differ meet, among the keys of one hash, at most in its first two.
+fn repeats_told(alloc: Global, pts: &[Point], keys: &[u64]) -> Result<Option<Vec<Id>>, AllocError>
+    requires { All (λ k. k % ID_ROOM < length pts.now) keys.now }
+    ensures { IfOk result (λ found. IfSome found (λ v. RepeatsTold pts.now keys.now (length keys.now) v.items)) }
+{
+    let mut repeats = Vec::new(alloc);
+    for j in 1..keys.len() {
+        if is_repeat(pts, keys[j - 1], keys[j]) {
+            repeats.push(id_in(keys[j]))?;
+        } else if 2 <= j && hash_in(keys[j - 2]) == hash_in(keys[j]) {
+            return Ok(None);
+        }
+    }
+    Ok(Some(repeats))
+}
+
+/// The ids of all points that stand before; none where too many have one hash.
+pub fn repeats_of_all(alloc: Global, pts: &[Point]) -> Result<Option<Vec<Id>>, AllocError>
+    requires { length pts.now ≤ POINT_LIMIT }
+    ensures { IfOk result (λ found. IfSome found (λ v. AreAllRepeats pts.now v.items)) }
+{
+    let mut keys = hashed_keys(alloc, pts)?;
+    keys.sort_unstable();
+    repeats_told(alloc, pts, &keys)
+}
+
+/// The ids of the points that stand before and have hashes of a part; none where too many have one hash.
+pub fn repeats_of_part(
+    alloc: Global,
+    pts: &[Point],
+    part: Part,
+) -> Result<Option<Vec<Id>>, AllocError>
+    requires few { length pts.now ≤ POINT_LIMIT }
+    requires some { 0 < part.parts }
+    requires parts { part.parts ≤ ID_ROOM }
+    ensures { IfOk result (λ found. IfSome found (λ v. AreRepeats pts.now (PartHashes part.parts part.number) v.items)) }
+{
+    let mut keys = part.keys(alloc, pts)?;
+    keys.sort_unstable();
+    repeats_told(alloc, pts, &keys)
+}

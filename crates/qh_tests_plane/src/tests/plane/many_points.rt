@@ -1,0 +1,75 @@
+//! Lists that are long enough for threads, without repeats and with.
+use qh_model::{Id, Memory, POINT_LIMIT, Point};
+use qh_plane::{distinct, distinct_alone, distinct_in_threads};
+use std::alloc::{AllocError, Global};
+use std::process::Abort;
+use std::test::Fail;
+use std::thread::Threads;
+
+/// How many places there are. They differ in x, and lie neither close together nor in order.
+const PLACES: usize = 100_000;
+
+/// The place with a number.
+fn place(number: usize) -> Point {
+    let x = number % PLACES * 7919 % PLACES;
+    let y = number % PLACES * 31_337 % 999_983;
+    let z = number % PLACES * (number % PLACES) % 999_979;
+    Point::new(x as i32, y as i32, z as i32)
+}
+
+/// So many points. They begin again with the first place after the last.
+fn places(alloc: Global, count: usize) -> Result<Vec<Point>, AllocError> {
+    let mut pts = Vec::new(alloc);
+    for number in 0..count {
+        pts.push(place(number))?;
+    }
+    Ok(pts)
+}
+
+/// The distinct ids in at most so many threads; none of points that are too many.
+fn ids_in_threads<R: Threads + Sync>(
+    rt: &R,
+    alloc: Global,
+    pts: &[Point],
+    threads: u32,
+) -> Result<Option<Vec<Id>>, Memory> {
+    if pts.len() > POINT_LIMIT as usize {
+        return Ok(None);
+    }
+    Ok(Some(distinct_in_threads(rt, alloc, pts, threads)?))
+}
+
+/// The distinct ids by all processors and by the calling thread alone; none of points that are too many.
+fn ids_otherwise<R: Threads + Sync>(
+    rt: &R,
+    alloc: Global,
+    pts: &[Point],
+) -> Result<Option<[Vec<Id>; 2]>, Memory> {
+    if pts.len() > POINT_LIMIT as usize {
+        return Ok(None);
+    }
+    Ok(Some([distinct(rt, alloc, pts)?, distinct_alone(alloc, pts)?]))
+}
+
+/// Asserts that the ids are those of the first points, one for each place.
+fn assert_first<R: Abort>(rt: &R, ids: &[Id]) {
+    assert_eq!(rt; ids.len(), PLACES);
+    for (number, id) in ids.iter().enumerate() {
+        assert_eq!(rt; id.index(), number);
+    }
+}
+
+#[test]
+fn first_of_each_place(rt: HostRuntime) -> Result<(), Fail> {
+    for count in [PLACES, PLACES + 40_000] {
+        let pts = places(rt.alloc(), count)?;
+        for threads in [0, 1, 2, 3, 4] {
+            let ids = ids_in_threads(&rt, rt.alloc(), &pts, threads)?.ok_or("too many points")?;
+            assert_first(&rt, &ids);
+        }
+        let both = ids_otherwise(&rt, rt.alloc(), &pts)?.ok_or("too many points")?;
+        assert_first(&rt, &both[0]);
+        assert_first(&rt, &both[1]);
+    }
+    Ok(())
+}
