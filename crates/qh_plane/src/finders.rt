@@ -6,7 +6,7 @@ ghost use Rattle.qh_plane.specs.steps.Repeats.{AreRepeats, AreAllRepeats};
 
 use crate::hash_parts::Part;
 use crate::hashed_keys::ID_ROOM;
-use crate::repeats::{repeats_of_all, repeats_of_part};
+use crate::repeats::{repeats_by_sort, repeats_of_all, repeats_of_part};
 use qh_model::{Id, POINT_LIMIT, Point};
 use std::alloc::{AllocError, Global};
 use std::thread::{self, Threads};
@@ -98,7 +98,19 @@ impl Finder for Alone {
     }
 }
 
-/// At most so many threads of a runtime.
+/// The threads of a runtime, which sort all keys.
+#[derive(Clone, Copy, Debug)]
+pub struct BySort<'a, R>(pub &'a R);
+
+impl<R: Threads + Sync> Finder for BySort<'_, R> {
+    ghost ready = { λ _. IsSync R.row };
+
+    fn repeats(&self, alloc: Global, pts: &[Point]) -> Result<Option<Vec<Id>>, AllocError> {
+        repeats_by_sort(self.0, alloc, pts)
+    }
+}
+
+/// At most so many threads of a runtime, each at a part of the hashes.
 #[derive(Clone, Copy, Debug)]
 pub struct InThreads<'a, R> {
     pub rt: &'a R,

@@ -8,7 +8,9 @@ ghost use Rattle.qh_plane.specs.steps.Repeats.{AreRepeats, AreAllRepeats};
 use crate::hash_parts::Part;
 use crate::hashed_keys::{ID_ROOM, hash_in, hashed_keys, id_in, is_repeat};
 use qh_model::{Id, POINT_LIMIT, Point};
+use rayon::slice::par_sort_unstable;
 use std::alloc::{AllocError, Global};
+use std::thread::Threads;
 
 /// The ids of the keys that repeat the one before, of rising keys; none where one hash has different
 /// points past its first two keys.
@@ -36,6 +38,21 @@ pub fn repeats_of_all(alloc: Global, pts: &[Point]) -> Result<Option<Vec<Id>>, A
 {
     let mut keys = hashed_keys(alloc, pts)?;
     keys.sort_unstable();
+    repeats_told(alloc, pts, &keys)
+}
+
+/// The ids of all points that stand before, by a sort of all keys by the threads of a runtime; none where too many
+/// have one hash.
+pub fn repeats_by_sort<R: Threads + Sync>(
+    rt: &R,
+    alloc: Global,
+    pts: &[Point],
+) -> Result<Option<Vec<Id>>, AllocError>
+    requires { length pts.now ≤ POINT_LIMIT }
+    ensures { IfOk result (λ found. IfSome found (λ v. AreAllRepeats pts.now v.items)) }
+{
+    let mut keys = hashed_keys(alloc, pts)?;
+    par_sort_unstable(rt, &mut keys);
     repeats_told(alloc, pts, &keys)
 }
 

@@ -31,9 +31,9 @@ returns-in-Ok-Some g c =
     let set = part_set pts job.ids.now ids (record { rising = job.rising; distinct = job.distinct }) part.rising part.within in
     IfSome_then c.root_over_blocks.result {P = λ found. RightValue pts ids cut (InSpan (block_count cut) 1) found.ids.items}
     (subst (λ xs. IfSome c.root_over_blocks.result (λ found. RightValue pts xs cut (InSpan (block_count cut) 1) found.ids.items))
-        c.deref.ensures.value c.root_over_blocks.ensures)
+    c.deref.ensures.value c.root_over_blocks.ensures)
     (λ found right. part_stands pts job.ids.now ids found.ids.items part
-        (root_stands pts ids cut found.ids.items set.distinct c.blocks-in-Ok-Some.ensures.cut left.whole right))
+    (root_stands pts ids cut found.ids.items set.distinct c.blocks-in-Ok-Some.ensures.cut left.whole right))
 
 pub returns-in-Ok-None : goal.returns-in-Ok-None
 returns-in-Ok-None g c =
