@@ -9,8 +9,13 @@ import numpy as np
 from ._library import COORDINATE_LIMIT, RANGE_REFUSAL, flat_hull
 from ._triangles import exact_sum_of_products, neighbors_of, normals_of
 
+WHOLE_REFUSAL = (
+    "points must be whole numbers, and are {}: multiply them by a scale that makes them whole, and convert them, as in "
+    "numpy.rint(points * 1000).astype(numpy.int64); lengths of the hull are then as many times longer"
+)
 
-def _whole(points: Any) -> np.ndarray:
+
+def whole_points(points: Any) -> np.ndarray:
     """The points as an (n, 3) array of int32 whose rows lie one after the other."""
     given = np.asarray(points)
     if given.ndim != 2 or given.shape[1] != 3:
@@ -18,11 +23,7 @@ def _whole(points: Any) -> np.ndarray:
     if given.dtype.kind == "O" and all(isinstance(number, int) for number in given.flat):
         raise ValueError(RANGE_REFUSAL)  # whole numbers that no integer type of numpy has
     if given.dtype.kind not in "iu":
-        raise TypeError(
-            f"points must be whole numbers, and are {given.dtype}: multiply them by a scale that makes them whole, and "
-            "convert them, as in numpy.rint(points * 1000).astype(numpy.int64); lengths of the hull are then as many "
-            "times longer"
-        )
+        raise TypeError(WHOLE_REFUSAL.format(given.dtype))
     if len(given) and not np.can_cast(given.dtype, np.int32):  # what int32 holds the library judges
         if not -COORDINATE_LIMIT <= given.min() <= given.max() <= COORDINATE_LIMIT:
             raise ValueError(RANGE_REFUSAL)
@@ -69,7 +70,7 @@ class ConvexHull:
     """
 
     def __init__(self, points: Any) -> None:
-        self.points: np.ndarray = _whole(points)
+        self.points: np.ndarray = whole_points(points)
         hull = flat_hull(self.points)
         self.dimension: int = hull.dimension
         self.distinct: int = hull.distinct
