@@ -222,6 +222,8 @@ def _computed(value: Any, client: Any, retries: int) -> Part:
 
 def _client_set() -> Any:
     """The client that is set as Dask's scheduler, or None."""
+    if dask.config.get("scheduler", None) not in (None, "dask.distributed", "distributed"):
+        return None
     try:
         from distributed import default_client
 

@@ -2,7 +2,10 @@
 from __future__ import annotations
 
 import os
+import pathlib
 import signal
+import subprocess
+import sys
 import threading
 import time
 
@@ -65,12 +68,14 @@ def test_every_integer_type(client, kind):
     matches(extremes(da.from_array(points, chunks=700), client), points)
 
 
-def test_degenerate_sets_in_odd_chunks():
-    rng = np.random.default_rng(11)
-    for _ in range(200):
+@pytest.mark.parametrize(("scheduler", "sets"), [("threads", 180), ("distributed", 20)])
+def test_degenerate_sets_in_odd_chunks(client, scheduler, sets):
+    rng = np.random.default_rng(sets)
+    for _ in range(sets):
         points = degenerate(rng)
         columns = [(3,), (1, 2), (1, 1, 1)][rng.integers(0, 3)]
-        matches(extremes(da.from_array(points, chunks=(cuts(rng, len(points)), columns))), points)
+        with dask.config.set(scheduler=scheduler):
+            matches(extremes(da.from_array(points, chunks=(cuts(rng, len(points)), columns))), points)
 
 
 def test_chunks_of_unknown_length(client):
@@ -153,6 +158,20 @@ def test_a_failing_task_is_tried_again(client, tmp_path):
 def test_by_a_schedulers_address(client):
     points = np.random.default_rng(4).integers(-99, 99, (5000, 3))
     matches(extremes(da.from_array(points, chunks=999), client.scheduler.address), points)
+
+
+def test_hullmany_by_the_workers_of_a_scheduler(client, tmp_path):
+    top = pathlib.Path(__file__).parents[2]
+    program = top / "crates" / "qconvex" / "out" / "qconvex"
+    if not program.exists():
+        pytest.skip("the program is not built: hullmany.py was not tried")
+    path = point_file(tmp_path / "points.txt", np.random.default_rng(1).integers(-999, 999, (3000, 3)))
+    script = [sys.executable, str(top / "scripts" / "hullmany.py")]
+    engine = ["--engine", client.scheduler.address.replace("tcp", "dask"), "--file", str(path)]
+    with open(path, "rb") as source:
+        here = subprocess.run([*script, "--quiet", "Fx", "off"], stdin=source, capture_output=True, check=True)
+    there = subprocess.run([*script, *engine, "Fx", "off"], capture_output=True, check=True)
+    assert there.stdout == here.stdout
 
 
 # ---- files
