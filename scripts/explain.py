@@ -125,7 +125,7 @@ def header_advice(reading):
     if reading.fault.name == "Count":
         count = second if first == 3 else first
         return [f"The count is {count}; it is to be 1 to {POINT_LIMIT}."] + (
-            ["scripts/many_points.py takes the hull of more points, exactly."] if count > POINT_LIMIT else []
+            ["scripts/hullmany.py takes the hull of more points, exactly."] if count > POINT_LIMIT else []
         )
     return [
         f"One of the first two numbers is to be 3, the dimension; they are {first} and {second}.",
@@ -165,7 +165,7 @@ def advice(data, reading):
     """How to mend the file."""
     name = reading.fault.name
     if name == "Big":
-        return [f"The file has {len(data)} bytes; at most {BYTE_LIMIT} are read. scripts/many_points.py takes larger ones."]
+        return [f"The file has {len(data)} bytes; at most {BYTE_LIMIT} are read. scripts/hullmany.py takes larger ones."]
     if name in ("NoHeader", "NotThree", "Count"):
         return file_advice(data, reading) or header_advice(reading)
     about_word = word_advice(reading) if reading.fault.word else []

@@ -121,7 +121,7 @@ def write_points(vertices, by):
     sys.stdout.writelines("%d %d %d\n" % point for point in points)
     print(f"{rounded(vertices, by)} of {3 * len(points)} coordinates were rounded", file=sys.stderr)
     if len(points) > POINT_LIMIT:
-        print(f"more than {POINT_LIMIT} points: scripts/many_points.py takes them", file=sys.stderr)
+        print(f"more than {POINT_LIMIT} points: scripts/hullmany.py takes them", file=sys.stderr)
 
 
 def map_of(path):

@@ -17,8 +17,13 @@ if TYPE_CHECKING:
 WholePoints = Union[NDArray[np.integer[Any]], NDArray[np.object_], Sequence[Sequence[int]]]
 """Points that `ConvexHull` takes: an array of whole numbers, or lists of them."""
 
+WHOLE_REFUSAL = (
+    "points must be whole numbers, and are {}: ConvexHull.from_floats takes floats, by whole numbers near them; or multiply them "
+    "by a scale that makes them whole, and convert them, as in numpy.rint(points * 1000).astype(numpy.int64)"
+)
 
-def _whole(points: WholePoints, copy: bool) -> NDArray[np.int32]:
+
+def whole_points(points: WholePoints, copy: bool = False) -> NDArray[np.int32]:
     """The points as an aligned (n, 3) array of int32 whose rows lie one after the other, and are read alone if copied."""
     given: NDArray[Any] = np.asarray(points)
     if given.ndim != 2 or given.shape[1] != 3:
@@ -28,11 +33,7 @@ def _whole(points: WholePoints, copy: bool) -> NDArray[np.int32]:
             raise ValueError(RANGE_REFUSAL)
         given = given.astype(np.int32)
     if given.dtype.kind not in "iu":
-        raise TypeError(
-            f"points must be whole numbers, and are {given.dtype}: ConvexHull.from_floats takes floats, by whole numbers near "
-            "them; or multiply them by a scale that makes them whole, and convert them, as in "
-            "numpy.rint(points * 1000).astype(numpy.int64)"
-        )
+        raise TypeError(WHOLE_REFUSAL.format(given.dtype))
     if len(given) and not np.can_cast(given.dtype, np.int32):  # what int32 holds the library judges
         if not -COORDINATE_LIMIT <= given.min() <= given.max() <= COORDINATE_LIMIT:
             raise ValueError(RANGE_REFUSAL)
@@ -90,7 +91,7 @@ class ConvexHull:
     """
 
     def __init__(self, points: WholePoints, *, copy: bool = True) -> None:
-        self.points: NDArray[np.int32] = _whole(points, copy)
+        self.points: NDArray[np.int32] = whole_points(points, copy)
         hull = flat_hull(self.points)
         self.dimension: int = hull.dimension
         self.distinct: int = hull.distinct

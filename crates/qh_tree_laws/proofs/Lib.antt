@@ -1,0 +1,3 @@
+pub mod Lowest
+pub mod Answers
+pub mod Trees

@@ -1,0 +1,10 @@
+#!/bin/sh
+# Reads lines of points, a point a line and no header, and writes those of the extreme points in their order, for job
+# runners that cut a set into parts: of what all parts leave, put together in their order, `off` is that of the whole.
+# The status is 0 only if each line was written. QCONVEX is the program, if it is not found as qconvex.
+set -eu
+part=$(mktemp)
+trap 'rm -f "$part"' EXIT
+cat > "$part"
+{ echo 3; wc -l < "$part"; cat "$part"; } | "${QCONVEX:-qconvex}" off |
+    awk 'NR == 2 { last = $1 + 2 } NR > 2 && NR <= last { print } END { exit !(last && NR >= last) }'

@@ -1,0 +1,200 @@
+#!/usr/bin/env python3
+"""Makes the exact hull of more points than the program takes at once, in parts, here or on other machines.
+
+    scripts/hullmany.py [--part N] [--jobs N] [--run COMMAND]... [--engine dask://ADDRESS] [--file FILE]... [OUT]... < points.txt
+
+The input is a point file whose count may be any number. It is cut at line ends into parts of N points; of each part the
+extreme points are taken, then of what is left, put together anew, and so on until it fits one part; of that the answer is
+made. A point that is not extreme in a part is not extreme in the whole, so this is exact, and the answer is the same to the
+byte whatever the parts. OUT is `Fx` (the default), with the indices of the whole file, or `off`, whose faces name the
+extreme points as ever. Of equal points the lowest index stands for all. Points that do not stand a line each are taken word
+by word, which is slower.
+
+Each part is given to a shell command on its standard input, `COMMAND Fx off`, whose standard output is read. By itself that
+is the built program here; other machines, or a job runner, are named by --run, once each. Every command works at --jobs
+parts at a time, and takes the next part as soon as it is free. A part that a command fails at is tried again, by another
+command if there is one:
+
+    scripts/hullmany.py --run 'ssh one qconvex' --run 'ssh two qconvex' --jobs 4 off < points.txt
+
+With --engine the parts are taken by the workers of a Dask scheduler, which open the files of --file by the same names;
+docs/MANY-POINTS.md says what they need. The last step, of the points that are left, is done here.
+
+A line on standard error tells how far it is, and about how long the first round still takes. Of the points only those that
+are left are kept in memory, beside two parts a job. If a round takes away fewer than one point in a hundred, what is left
+is given to the program at once; if that is more than it takes, there is no answer: the hull has then very many corners. The
+status is 0, or 1 with a line that says what was wrong.
+"""
+import argparse
+import os
+import shlex
+import sys
+import time
+from collections import deque
+from concurrent.futures import ThreadPoolExecutor
+
+from limits import POINT_LIMIT, PROGRAM, TOP
+from part_lines import LineParts, Refused, header_of, part_of_points, word_parts
+from part_runs import Irregular, Runs
+
+OUTPUTS = ["Fx", "off"]
+HERE = f"{shlex.quote(PROGRAM)} --workers 1"
+# With no --part, the first round has about so many parts for each that is worked at at a time, of so many points at least.
+PARTS_EACH, LEAST_PART = 6, 1 << 16
+
+
+class Progress:
+    """A line on standard error that tells how far a round is."""
+
+    def __init__(self, number, total, shown):
+        self.number, self.total, self.shown = number, total, shown
+        self.parts = self.points = self.kept = 0
+        self.start = time.monotonic()
+
+    def done(self, part, kept):
+        """Another part is done."""
+        self.parts += 1
+        self.points += part.count
+        self.kept += kept
+        if sys.stderr.isatty():
+            seconds = (time.monotonic() - self.start) * max(self.total - self.points, 0) / self.points
+            self.tell(f", {seconds:.0f} s left \r")
+
+    def tell(self, end="\n"):
+        """Writes the line."""
+        if self.shown:
+            text = f"round {self.number}: {self.parts} parts, {self.points} points, {self.kept} kept"
+            print(text, end=end, file=sys.stderr, flush=True)
+
+
+def in_order(parts, runs, pool, pending):
+    """Each part with its extreme points, in order; those that are worked at stand in `pending`, twice as many as there are runs."""
+    for part in parts:
+        pending.append((part, pool.submit(runs.extremes, part)))
+        if len(pending) == 2 * runs.count:
+            yield pending[0][0], pending[0][1].result()
+            pending.popleft()
+    while pending:
+        yield pending[0][0], pending[0][1].result()
+        pending.popleft()
+
+
+def first_round(parts, runs, progress):
+    """The extreme points of parts of lines, each as its index and its line, and the number of all points."""
+    kept, first, pending = [], 0, deque()
+    with ThreadPoolExecutor(runs.count) as pool:
+        answers = in_order(parts, runs, pool, pending)
+        while True:
+            try:
+                for part, (places, points) in answers:
+                    kept += zip((first + place for place in places), points)
+                    first += part.count
+                    progress.done(part, len(places))
+                return kept, first
+            except Irregular:
+                held = [part for part, _ in pending]
+                pending.clear()
+                answers = in_order(word_parts(held, parts.lines_left(), parts.size), runs, pool, pending)
+
+
+def next_round(points, size, runs, progress):
+    """The extreme points of parts of points that are left."""
+    count = -(-len(points) // size)
+    dealt = [points[start::count] for start in range(count)]  # each point in another part than its neighbours
+    kept = []
+    with ThreadPoolExecutor(runs.count) as pool:
+        parts = [part_of_points(point for _, point in part) for part in dealt]
+        for part, (of_part, (places, _)) in zip(dealt, in_order(parts, runs, pool, deque())):
+            kept += (part[place] for place in places)
+            progress.done(of_part, len(places))
+    return sorted(kept)
+
+
+def survivors(source, options, runs):
+    """Points among which all extreme points are, in the order of their indices, as many as fit one part."""
+    header = header_of(source)
+    size = options.part or min(POINT_LIMIT, max(LEAST_PART, -(-header.count // (PARTS_EACH * runs.count))))
+    progress = Progress(1, header.count, not options.quiet)
+    parts = LineParts(source, size, header.rest, header.lines - bool(header.rest))
+    points, found = first_round(parts, runs, progress)
+    progress.tell()
+    if found != header.count:
+        raise Refused(f"the input has {found} points; the header counts {header.count}")
+    return fewer(points, options, runs)
+
+
+def fewer(points, options, runs):
+    """As many of the points as fit one part, all extreme points among them."""
+    size, number, before = options.part or POINT_LIMIT, 2, None
+    while len(points) > size:
+        if before is not None and 100 * len(points) > 99 * before:
+            if len(points) > POINT_LIMIT:
+                raise Refused(f"{len(points)} points are extreme in their parts; the program takes {POINT_LIMIT} at once")
+            break
+        progress = Progress(number, len(points), not options.quiet)
+        before, points, number = len(points), next_round(points, size, runs, progress), number + 1
+        progress.tell()
+    return points
+
+
+def by_dask(options):
+    """The extreme points of files, by the workers of a Dask scheduler."""
+    sys.path.insert(0, os.path.join(TOP, "python"))
+    try:
+        from qconvex.dask import extremes
+
+        found = extremes(options.file, options.engine.replace("dask://", "tcp://", 1), options.retries)
+    except (ImportError, OSError, ValueError) as why:
+        raise Refused(f"{options.engine}: {why}") from None
+    return [(index, b"%d %d %d" % tuple(point)) for index, point in zip(found.indices.tolist(), found.points.tolist())]
+
+
+def answer(points, runs, outputs):
+    """The texts of the outputs for the whole input."""
+    text = runs.answer(part_of_points(point for _, point in points))
+    head, _, off = text.partition(b"OFF\n")
+    indices = [points[int(place)][0] for place in head.split()[1:]]
+    texts = {"Fx": b"".join(b"%d\n" % number for number in [len(indices), *indices]), "off": b"OFF\n" + off}
+    return b"".join(texts[output] for output in outputs)
+
+
+def arguments():
+    parser = argparse.ArgumentParser(description=__doc__, formatter_class=argparse.RawDescriptionHelpFormatter)
+    parser.add_argument("--part", type=int, help=f"points of a part (default: {POINT_LIMIT}, or fewer in the first round)")
+    parser.add_argument("--jobs", type=int, default=2, help="how many parts a command works at at a time (default 2)")
+    parser.add_argument("--run", action="append", metavar="COMMAND", help="a shell command that runs the program somewhere")
+    parser.add_argument("--retries", type=int, default=3, help="how often a part is tried again (default 3)")
+    parser.add_argument("--engine", metavar="dask://ADDRESS", help="the scheduler whose workers take the parts")
+    parser.add_argument("--file", action="append", help="a file in place of standard input; with --engine several, and npy")
+    parser.add_argument("--quiet", action="store_true", help="no progress line")
+    parser.add_argument("outputs", nargs="*", default=["Fx"], metavar="OUT", help="Fx or off (default Fx)")
+    options = parser.parse_args()
+    if set(options.outputs) - set(OUTPUTS):
+        parser.error("OUT is Fx or off")
+    if options.jobs < 1 or options.retries < 0 or not 1 <= (options.part or 1) <= POINT_LIMIT:
+        parser.error(f"--part is 1 to {POINT_LIMIT}, --jobs 1 or more, --retries 0 or more")
+    if options.engine and not (options.engine.startswith("dask://") and options.file):
+        parser.error("--engine is dask://ADDRESS, and wants --file")
+    if not options.engine and len(options.file or []) > 1:
+        parser.error("without --engine there is one --file at most")
+    return options
+
+
+def main():
+    options = arguments()
+    runs = Runs(options.run or [HERE], options.jobs, options.retries)
+    try:
+        if options.engine:
+            points = by_dask(options)
+        else:
+            with open(options.file[0], "rb") if options.file else sys.stdin.buffer as source:
+                points = survivors(source, options, runs)
+        if not points:
+            raise Refused("there are no points")
+        sys.stdout.buffer.write(answer(points, runs, options.outputs))
+    except (Refused, OSError) as why:
+        sys.exit(f"hullmany.py: {why}")
+
+
+if __name__ == "__main__":
+    main()

@@ -1,0 +1,126 @@
+"""Commands that take parts of points as they are free; a part that one fails at is tried again, by another if there is one."""
+import os
+import re
+import subprocess
+import sys
+import tempfile
+import threading
+
+from part_lines import Refused
+
+# What the program says on standard error where it refuses the points: a number, a name, and mostly a line.
+REFUSAL = re.compile(r"qconvex: (\d+): (\w+)(?: at line (\d+))?\s*$")
+IRREGULAR = ("Long", "Short")
+HEADER_LINES = 2
+# After so many failures with no answer between, a command gets no more parts, unless it is the last one.
+FAILURES = 4
+
+
+class Irregular(Exception):
+    """The lines of a part are not a point each."""
+
+
+class Failed(Exception):
+    """Why a command has no answer; another try may have one."""
+
+
+def unnamed_file():
+    """A file in memory where the system has such."""
+    return os.fdopen(os.memfd_create("part"), "w+b") if hasattr(os, "memfd_create") else tempfile.TemporaryFile()
+
+
+def attempt(command, part):
+    """What a command answers of a part to `Fx off`."""
+    with unnamed_file() as given, unnamed_file() as told:
+        given.write(b"3\n%d\n" % part.count)
+        given.write(part.text)
+        given.seek(0)
+        done = subprocess.run(f"{command} Fx off", shell=True, stdin=given, stdout=told, stderr=subprocess.PIPE)
+        told.seek(0)
+        answer = told.read()
+    why = done.stderr.decode(errors="replace").strip()
+    refusal = REFUSAL.search(why)
+    if done.returncode == 1 and refusal:
+        raise Irregular if refusal[2] in IRREGULAR else Refused(f"{place_of(part, refusal[3])}: {command}: {refusal[2]}")
+    if done.returncode:
+        raise Failed(why or f"status {done.returncode}")
+    return answer
+
+
+def place_of(part, line):
+    """Where in the file a line of a part is."""
+    if line is None or part.line < 0:
+        return f"a part of {part.count} points" if line is None else f"point {int(line) - HEADER_LINES - 1} of a part"
+    return f"line {part.line + int(line) - HEADER_LINES}"
+
+
+def extremes_in(answer):
+    """The places of the extreme points that `Fx off` tells, and their lines."""
+    try:
+        head, _, rest = answer.partition(b"OFF\n")
+        count, *places = map(int, head.split())
+        counts, *lines = rest.split(b"\n", count + 1)[: count + 1]
+        corners, faces, _ = map(int, counts.split())
+    except ValueError:
+        raise Failed("what it answers is not what Fx off writes") from None
+    if not count == corners == len(places) == len(lines) or answer.count(b"\n", len(head)) != corners + faces + 2:
+        raise Failed("its answer is cut off")
+    return places, lines
+
+
+class Runs:
+    """The commands, each at several parts at a time."""
+
+    def __init__(self, commands, jobs, retries):
+        self.free = commands * jobs
+        self.count = len(self.free)
+        self.retries = retries
+        self.failures = dict.fromkeys(commands, 0)
+        self.change = threading.Condition()
+
+    def answer(self, part):
+        """What a free command answers of a part to `Fx off`."""
+        return self.tried(part)[0]
+
+    def extremes(self, part):
+        """The places of a part's extreme points, and their lines."""
+        return self.tried(part)[1]
+
+    def tried(self, part):
+        """The answer of a part as text and as places and lines, after as many tries as it takes."""
+        failed = []
+        while True:
+            command = self.taken(failed)
+            try:
+                answer = attempt(command, part)
+                told = answer, extremes_in(answer)
+                self.given_back(command, 0)
+                return told
+            except Failed as why:
+                self.given_back(command, 1)
+                failed.append(command)
+                if len(failed) > self.retries:
+                    raise Refused(f"{command}: {why}, at the last of {len(failed)} tries") from None
+                print(f"{command}: {why}; its part is tried again", file=sys.stderr)
+            except (Irregular, Refused):
+                self.given_back(command, 0)
+                raise
+
+    def taken(self, failed):
+        """A free command, one that did not fail yet if there is such."""
+        with self.change:
+            while True:
+                able = [name for name, failures in self.failures.items() if failures < FAILURES] or list(self.failures)
+                wanted = [name for name in able if name not in failed] or able
+                found = next((name for name in self.free if name in wanted), None)
+                if found is not None:
+                    self.free.remove(found)
+                    return found
+                self.change.wait()
+
+    def given_back(self, command, failure):
+        """Notes that a command is free again, and whether it failed."""
+        with self.change:
+            self.failures[command] = (self.failures[command] + failure) * failure
+            self.free.append(command)
+            self.change.notify_all()

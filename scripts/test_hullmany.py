@@ -1,0 +1,126 @@
+#!/usr/bin/env python3
+"""Tests of hullmany.py: any parts, jobs and failing commands give the answer of one run of the built program.
+
+    scripts/test_hullmany.py
+"""
+import os
+import random
+import subprocess
+import sys
+import tempfile
+import unittest
+
+from limits import PROGRAM, TOP
+
+SCRIPT = os.path.join(TOP, "scripts", "hullmany.py")
+
+
+def hullmany(data, *words):
+    return subprocess.run([sys.executable, SCRIPT, "--quiet", *map(str, words)], input=data, capture_output=True)
+
+
+def whole(data, *outputs):
+    return subprocess.run([PROGRAM, *outputs], input=data, capture_output=True)
+
+
+def points_of(rng, count, size):
+    return [[rng.randint(-size, size) for _ in range(3)] for _ in range(count)]
+
+
+def regular(points, end="\n"):
+    return f"3\n{len(points)}\n" + "".join("%d %d %d" % tuple(point) + end for point in points)
+
+
+def commented(rng, points):
+    ends = ["\n", "\r\n", " # 7 7\n", "\n\n", " x 1\n# 5 5 5\n"]
+    return f"3 # of three\n{len(points)}\n" + "".join("%d %d %d%s" % (*point, rng.choice(ends)) for point in points)
+
+
+def any_lines(rng, points):
+    """Words in lines of any number, also behind the header and after some regular lines."""
+    words = [str(number) for point in points for number in point]
+    text, place = f"{len(points)} 3 {words.pop(0)}\n", 0
+    while place < len(words):
+        count = 3 if rng.random() < 0.5 else rng.randint(1, 7)
+        text += " ".join(words[place : place + count]) + "\n"
+        place += count
+    return text
+
+
+def late(rng, points):
+    """Regular at first."""
+    cut = rng.randint(0, len(points))
+    rest = any_lines(rng, points[cut:]).split("\n", 1) if cut < len(points) else ["", ""]
+    first = rest[0].split()[2:]
+    return f"3\n{len(points)}\n" + regular(points[:cut]).split("\n", 2)[2] + " ".join(first) + "\n" + rest[1]
+
+
+@unittest.skipUnless(os.path.exists(PROGRAM), "the program is not built")
+class Tests(unittest.TestCase):
+    def same(self, data, *words):
+        got, want = hullmany(data, *words, "Fx", "off"), whole(data, "Fx", "off")
+        self.assertEqual((got.stdout, got.returncode), (want.stdout, 0), got.stderr)
+        return got
+
+    def test_any_parts_of_any_text(self):
+        rng = random.Random(4)
+        for _ in range(5):
+            for write in (lambda r, p: regular(p), commented, any_lines, late):
+                points = points_of(rng, rng.randint(1, 300), rng.choice([1, 3, 20, 1 << 30]))
+                self.same(write(rng, points).encode(), "--part", rng.choice([5, 40, 300]), "--jobs", rng.choice([1, 4]))
+
+    def test_flat_sets_with_repeats_in_and_across_parts(self):
+        rng = random.Random(5)
+        for dimension in range(3):
+            for _ in range(5):
+                few = [point[:dimension] + [3] * (3 - dimension) for point in points_of(rng, 12, 3)]
+                self.same(regular([rng.choice(few) for _ in range(70)]).encode(), "--part", rng.choice([5, 9]))
+
+    def test_a_file_in_place_of_standard_input(self):
+        data = regular(points_of(random.Random(6), 500, 99)).encode()
+        with tempfile.NamedTemporaryFile() as file:
+            file.write(data)
+            file.flush()
+            self.assertEqual(hullmany(b"", "--file", file.name, "--part", 100, "off").stdout, whole(data, "off").stdout)
+
+    def test_failed_parts_are_tried_again(self):
+        data = regular(points_of(random.Random(7), 600, 99)).encode()
+        for failing in ("sh -c 'kill -9 $$' --", f"sh -c '{PROGRAM} \"$@\" | head -c 900' --", "echo", "exit 7;"):
+            got = self.same(data, "--part", 100, "--run", failing, "--run", PROGRAM)
+            self.assertIn(b"its part is tried again", got.stderr)
+
+    def test_a_command_that_fails_now_and_then_is_enough(self):
+        data = regular(points_of(random.Random(8), 600, 99)).encode()
+        with tempfile.TemporaryDirectory() as folder:
+            marks = " || ".join(f"mkdir {folder}/{mark} 2> /dev/null" for mark in "ab")
+            flaky = f"sh -c '{marks} || exec {PROGRAM} \"$@\"; exit 255' --"
+            self.same(data, "--part", 50, "--run", flaky, "--jobs", 1)
+            got = hullmany(data, "--part", 50, "--run", "exit 255;", "--retries", 2)
+            self.assertEqual(got.returncode, 1)
+            self.assertIn(b"status 255, at the last of 3 tries", got.stderr)
+
+    def test_refusals(self):
+        cases = [
+            (b"", b"no header"),
+            (b"4\n2\n", b"neither number of the header is 3"),
+            (b"3\n0\n", b"there are no points"),
+            (b"3\n2\n1 2 3\n", b"1 points; the header counts 2"),
+            (b"3\n1\n1 2 3\n4 5 6\n", b"2 points; the header counts 1"),
+            (b"3\n2\n1 2 3\n4 5\n", b"the input ends 1 numbers before the end of a point"),
+            (b"3\n4\n" + b"1 2 3\n" * 3 + b"1 2.5 3\n", b"line 6: "),
+            (b"3\n4\n" + b"1 2 3\n" * 3 + b"1 2.5 3\n", b"BadNumber"),
+            (b"3\n1\n1 2 1073741825\n", b"Range"),
+        ]
+        for data, why in cases:
+            got = hullmany(data, "--part", 2)
+            self.assertEqual((got.returncode, got.stdout), (1, b""))
+            self.assertIn(why, got.stderr)
+
+    def test_too_many_extreme_points_are_counted(self):
+        points = [[x, y, x * x + y * y] for x in range(-525, 525) for y in range(-525, 525)]
+        got = hullmany(regular(points).encode(), "--jobs", 4)
+        self.assertIn(b"1102500 points are extreme in their parts; the program takes 1048576 at once", got.stderr)
+
+
+if __name__ == "__main__":
+    unittest.main()
