@@ -1,4 +1,5 @@
 pub mod BlockBoxes
+pub mod BundleSlabs
 pub mod Chunks
 pub mod ClaimedFaces
 pub mod FaultCases
@@ -6,6 +7,7 @@ pub mod FirstCorners
 pub mod FoundIds
 pub mod FoundParts
 pub mod Listed
+pub mod NearPositions
 pub mod OrderedPolygons
 pub mod PointBoxes
 pub mod SortedNumbers

@@ -15,7 +15,7 @@ le_trans a b c h k = omega (arith, ints)
 
 -- ---- planes
 -- with a factor above 0 the greatest number gives the greatest product, with one not above 0 the least
-greatest : (a l h e n : ℤ) → IsFarEnd a l h e → IsBetween l n h → (a *ℤ n) ≤ℤ (a *ℤ e)
+pub greatest : (a l h e n : ℤ) → IsFarEnd a l h e → IsBetween l n h → (a *ℤ n) ≤ℤ (a *ℤ e)
 greatest a l h e n far in_range = by_lt_z (pos 0) a
     (λ up. let q = far.0 up in mul-le a n e (omega (arith, ints)) (omega (arith, ints)))
     (λ down. let q = far.1 down in let more = mul-le (neg_ℤ a) e n (omega (arith, ints)) (omega (arith, ints)) in

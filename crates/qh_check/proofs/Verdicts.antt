@@ -21,7 +21,7 @@ use Rattle.qh_check.specs.declared.verdict.Verdict.TheVariants.{Right, OtherPoly
 use Rattle.qh_check.specs.contract.Claims.{ArePolygonsOf, IsOutOfOrder, IsOpen, IsReason}
 use Rattle.qh_check.specs.declared.findings.Finding.{Finding}
 use Rattle.qh_check.specs.steps.Faces.{IsFaceOf, IsFaultOf}
-use Rattle.qh_check.specs.steps.Findings.{IsFoundFrom}
+use Rattle.qh_check.specs.steps.Findings.{IsFound}
 use Rattle.qh_check.specs.steps.Verdicts.{IsVerdictOf}
 use Rattle.qh_check.proofs.FirstCorners.{no_face}
 use Rattle.qh_check.proofs.OrderedPolygons.{rises_at}
@@ -67,10 +67,8 @@ module _ (pts : List Vector) (ids : List ℕ) (qs : List (List ℕ)) (set : IsId
       (f.only (get_or qs n []) (In-get_or qs n [] l)))
       (l, h set.distinct)
 
-  pub is_found : (f : Finding) → IsFoundFrom pts ids qs 0 f → IsVerdictOf pts ids qs (NoFace f.position f.fault)
-  is_found f (k, l, e, h) =
-      let same : k ≡ f.position = omega (arith, e) in
-      subst (λ n. IsVerdictOf pts ids qs (NoFace n f.fault)) same (is_no_face k f.fault l h)
+  pub is_found : (f : Finding) → IsFound pts ids qs f → IsVerdictOf pts ids qs (NoFace f.position f.fault)
+  is_found f (l, h) = is_no_face f.position f.fault l h
 
   pub is_open : (u v : ℕ) → IsOpen qs u v → IsVerdictOf pts ids qs (Open u v)
   is_open u v h = wrong (Open u v) (λ e. cc) (λ f. h (faces_close at ids qs set.distinct solid f u v)) h

@@ -1,16 +1,20 @@
 //! The search for a polygon that is no face of a set, by one thread or by many.
-ghost use Rattle.std.specs.Prelude.{◌≡◌, ◌+◌, ◌<◌, ◌^◌, ℕ, List, [], IfOk, MatchOption, Ok, Some, None, length};
+ghost use Rattle.std.specs.Prelude.{◌≡◌, ◌<◌, ℕ, List, [], IfOk, MatchOption, Ok, Some, None, length, slice_index_or};
 ghost use Rattle.std.specs.List.{All};
 ghost use Rattle.qh_model.specs.headline.Sets.{In};
 ghost use Rattle.qh_check.specs.steps.Places.{ArePlaces};
-ghost use Rattle.qh_check.specs.steps.Faces.{IsFaceOf};
-ghost use Rattle.qh_check.specs.steps.Findings.{IsFoundFrom};
+ghost use Rattle.qh_check.specs.steps.Faces.{IsFaultOf};
+ghost use Rattle.qh_check.specs.steps.Findings.{IsFaceAmong, IsFound};
 
-use crate::faces::{PlacedSet, fault_of};
+use crate::bundles::Bundle;
+use crate::faces::{NearSet, PlacedSet, fault_of};
 use crate::verdict::FaceFault;
-use qh_model::{Memory, Polygon};
+use qh_model::{Id, Memory, Polygon};
 use std::alloc::Global;
 use std::thread::{self, Threads};
+
+/// The polygons whose planes are asked together.
+const GROUP: usize = 16;
 
 /// A polygon that is no face, by its position, and its fault.
 #[derive(Clone, Copy, Drop)]
@@ -19,28 +23,80 @@ pub(crate) struct Finding {
     pub fault: FaceFault,
 }
 
-/// The first of the polygons that is no face of the set. Their positions begin with `start`.
+/// A polygon of a group, by its position, that is no face of the set. The planes of a group are asked together.
+fn fault_in_group(
+    alloc: Global,
+    set: PlacedSet,
+    polygons: &[Polygon],
+    group: &[usize],
+) -> Result<Option<Finding>, Memory>
+    ensures { IfOk result (λ found. (ids : List ℕ) → ArePlaces set.entry.pts.now ids set.entry.places.now
+        → MatchOption found (All (IsFaceAmong set.entry.pts.now ids polygons.now) group.now)
+        (IsFound set.entry.pts.now ids polygons.now)) }
+{
+    let near = set
+        .places
+        .near(alloc, Bundle::of(set.pts, polygons, group))?;
+    let near_set = NearSet {
+        pts: set.pts,
+        places: set.places,
+        near: &near,
+    };
+    let mut in_plane = Vec::new(alloc);
+    for index in 0..group.len() {
+        let position = group[index];
+        if let Some(fault) = fault_among(alloc, near_set, polygons, position, &mut in_plane)? {
+            return Ok(Some(Finding { position, fault }));
+        }
+    }
+    Ok(None)
+}
+
+/// What is wrong with the polygon at a position, if there is one and anything is.
+fn fault_among(
+    alloc: Global,
+    set: NearSet,
+    polygons: &[Polygon],
+    position: usize,
+    in_plane: &mut Vec<Id>,
+) -> Result<Option<FaceFault>, Memory>
+    ensures { IfOk result (λ fault. (ids : List ℕ) → ArePlaces set.entry.pts.now ids set.entry.places.now
+        → MatchOption fault (IsFaceAmong set.entry.pts.now ids polygons.now position)
+        (λ f. (position < length polygons.now) × IsFaultOf set.entry.pts.now ids (slice_index_or polygons.now position []) f)) }
+{
+    if position >= polygons.len() {
+        return Ok(None);
+    }
+    fault_of(alloc, set, &polygons[position], in_plane)
+}
+
+/// A polygon that is no face of the set, if there is one among those at the positions of a list.
 pub(crate) fn first_fault(
     alloc: Global,
     set: PlacedSet,
     polygons: &[Polygon],
-    start: usize,
+    order: &[usize],
 ) -> Result<Option<Finding>, Memory>
-    requires { start + length polygons.now < 2 ^ 64 }
     ensures { IfOk result (λ found. (ids : List ℕ) → ArePlaces set.entry.pts.now ids set.entry.places.now
-        → MatchOption found (All (IsFaceOf set.entry.pts.now ids) polygons.now)
-        (IsFoundFrom set.entry.pts.now ids polygons.now start)) }
+        → MatchOption found (All (IsFaceAmong set.entry.pts.now ids polygons.now) order.now)
+        (IsFound set.entry.pts.now ids polygons.now)) }
 {
-    let mut in_plane = Vec::new(alloc);
-    for k in 0..polygons.len() {
-        if let Some(fault) = fault_of(alloc, set, &polygons[k], &mut in_plane)? {
-            return Ok(Some(Finding {
-                position: start + k,
-                fault,
-            }));
+    let mut rest = order;
+    while rest.len() > 0 {
+        let (group, others) = rest.split_at(GROUP.min(rest.len()));
+        if let Some(finding) = fault_in_group(alloc, set, polygons, group)? {
+            return Ok(Some(finding));
         }
+        rest = others;
     }
     Ok(None)
+}
+
+/// Polygons, and the positions of those that are asked.
+#[derive(Clone, Copy, Drop)]
+pub(crate) struct Asked<'a> {
+    pub polygons: &'a [Polygon],
+    pub order: &'a [usize],
 }
 
 /// The first finding among answers.
@@ -55,25 +111,26 @@ fn first_of(answers: &[Result<Option<Finding>, Memory>]) -> Result<Option<Findin
     Ok(None)
 }
 
-/// The first of the polygons that is no face of the set, by a thread for each part of `size` polygons.
+/// A polygon that is no face of the set, if there is one among those at the positions of a list, by a thread for
+/// each part of `size` positions.
 pub(crate) fn first_fault_in_parts<R: Threads + Sync>(
     rt: &R,
     alloc: Global,
     set: PlacedSet,
-    polygons: &[Polygon],
+    asked: Asked,
     size: usize,
 ) -> Result<Option<Finding>, Memory>
     requires { 0 < size }
     ensures { IfOk result (λ found. (ids : List ℕ) → ArePlaces set.entry.pts.now ids set.entry.places.now
-        → MatchOption found (All (IsFaceOf set.entry.pts.now ids) polygons.now)
-        (IsFoundFrom set.entry.pts.now ids polygons.now 0)) }
+        → MatchOption found (All (IsFaceAmong set.entry.pts.now ids asked.entry.polygons.now) asked.entry.order.now)
+        (IsFound set.entry.pts.now ids asked.entry.polygons.now)) }
 {
-    let look = move |start: usize, part: &[Polygon]| -> Result<Option<Finding>, Memory>
-        requires { start + length part.now < 2 ^ 64 }
+    let polygons = asked.polygons;
+    let look = move |_start: usize, part: &[usize]| -> Result<Option<Finding>, Memory>
         ensures { IfOk result (λ found. (ids : List ℕ) → ArePlaces set.entry.pts.now ids set.entry.places.now
-            → MatchOption found (All (IsFaceOf set.entry.pts.now ids) part.now)
-            (IsFoundFrom set.entry.pts.now ids part.now start)) }
-    { first_fault(alloc, set, part, start) };
-    let answers = thread::map_chunks(rt, alloc, polygons, size, &look)?;
+            → MatchOption found (All (IsFaceAmong set.entry.pts.now ids polygons.entry.now) part.now)
+            (IsFound set.entry.pts.now ids polygons.entry.now)) }
+    { first_fault(alloc, set, polygons, part) };
+    let answers = thread::map_chunks(rt, alloc, asked.order, size, &look)?;
     first_of(&answers)
 }

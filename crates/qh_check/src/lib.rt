@@ -11,14 +11,18 @@
 //! lexicographic order.
 #![tactic(auto)]
 
+mod asking;
 mod boxes;
+mod bundles;
 mod claims;
 mod closed;
 mod faces;
 mod findings;
 mod levels;
 mod order;
+mod outward;
 mod places;
+mod slabs;
 mod solids;
 #[cfg(test)]
 mod tests;

@@ -1,30 +1,45 @@
-//! The ids of a set along a Morton curve, with their points and boxes over these.
-ghost use Rattle.std.specs.Prelude.{◌≡◌, ◌<◌, ◌≤◌, ◌↔◌, ℕ, List, pos, IfOk, MatchOption, IsTrue, length, map};
+//! The ids of a set along a Morton curve, with their points and blocks of these.
+ghost use Rattle.std.specs.Prelude.{◌≡◌, ◌+◌, ◌<◌, ◌≤◌, ◌↔◌, ℕ, List, pos, IfOk, MatchOption, IsTrue, length, map};
 ghost use Rattle.std.specs.List.{All};
 ghost use Rattle.qh_model.specs.headline.Sets.{In};
 ghost use Rattle.qh_model.specs.headline.Vector.{Vector};
 ghost use Rattle.qh_model.specs.headline.Predicates.{place};
 ghost use Rattle.qh_model.specs.contract.IdSets.{AreIndices};
 ghost use Rattle.qh_pred.specs.contract.Planes.{height};
-ghost use Rattle.qh_check.specs.steps.Levels.{IsLevel, HasFound, IsAboveAt};
+ghost use Rattle.qh_check.specs.steps.Levels.{IsLevel, IsNear, AreBelowAll, HasLooked, IsAboveAt};
 
-use crate::levels::{Level, below, levels_over};
-use qh_model::{Id, Memory, Point};
+use crate::bundles::Bundle;
+use crate::levels::{Level, below_all, levels_over};
+use crate::outward::{outward_of, ranks_of};
+use qh_model::{Id, Memory, Point, Polygon};
 use qh_pred::{Plane, point_at};
 use qh_surface::{ends_of, morton_order};
 use std::alloc::{AllocError, Global};
 
-/// The positions that are looked at one by one where no box lies below the plane.
+/// The positions that are looked at together: those of a block of the lowest level.
 const LEAF: usize = 16;
 
-/// The ids of a set in an order of space, with their points and the boxes over these.
+/// The binary logarithm of `LEAF`.
+const LEAF_SHIFT: u32 = 4;
+
+/// The ids of a set in an order of space, with their points and blocks of these. `ranks` tells where an id stands.
 #[derive(Drop)]
 pub(crate) struct Places {
     pub ids: Vec<Id>,
     pub points: Vec<Point>,
+    pub ranks: Vec<usize>,
     levels: Vec<Level>,
+    leaves: Level,
     ghost same: { length points.items ≡ length ids.items },
-    ghost boxes: { All (IsLevel points.items) levels.items },
+    ghost blocks: { All (IsLevel points.items) levels.items },
+    ghost lowest: { IsLevel points.items leaves },
+}
+
+/// Where the points are that planes of a bundle may meet: in the `LEAF` positions from each start on.
+#[derive(Drop)]
+pub(crate) struct Near {
+    pub bundle: Bundle,
+    pub starts: Vec<usize>,
 }
 
 /// Returns true if a point lies in a plane.
@@ -49,19 +64,30 @@ fn points_of(alloc: Global, pts: &[Point], ids: &[Id]) -> Result<Vec<Point>, All
 impl Places {
     ghost use Rattle.qh_check.specs.steps.Places.{ArePlaces, IsAbove, AreLevel};
 
-    /// The ids along a Morton curve, with their points and boxes over these.
-    pub fn over(alloc: Global, pts: &[Point], ids: &[Id]) -> Result<Places, Memory>
+    /// The ids along a Morton curve, with their points and blocks of these. Which way is out is guessed from
+    /// the polygons.
+    pub fn over(
+        alloc: Global,
+        pts: &[Point],
+        ids: &[Id],
+        polygons: &[Polygon],
+    ) -> Result<Places, Memory>
         requires some { 0 < length ids.now }
         requires indices { AreIndices pts.now ids.now }
         ensures { IfOk result (ArePlaces pts.now ids.now) }
     {
         let ids = morton_order(alloc, pts, ids, &ends_of(pts, ids))?;
         let points = points_of(alloc, pts, &ids)?;
-        let levels = levels_over(alloc, &points)?;
+        let ranks = ranks_of(alloc, pts.len(), &ids)?;
+        let outward = outward_of(alloc, pts, polygons, &ranks)?;
+        let levels = levels_over(alloc, &points, &outward)?;
+        let leaves = Level::over(alloc, &points, &outward, LEAF_SHIFT)?;
         Ok(Places {
             ids,
             points,
+            ranks,
             levels,
+            leaves,
         })
     }
 
@@ -76,8 +102,7 @@ impl Places {
     ) -> Result<Option<Id>, AllocError>
         requires { to ≤ length self.now.points.items }
         ensures { IfOk result (λ above. MatchOption above
-            (from ≤ to → HasFound self.now.points.items self.now.ids.items plane.now from found.old.items
-            → HasFound self.now.points.items self.now.ids.items plane.now to found.new.items)
+            (from ≤ to → HasLooked self.now.points.items self.now.ids.items plane.now from to found.old.items found.new.items)
             (IsAboveAt self.now.points.items self.now.ids.items plane.now)) }
     {
         for position in from..to {
@@ -92,24 +117,73 @@ impl Places {
         Ok(None)
     }
 
-    /// Lists in `found` the ids whose points lie in a plane, in the order of the places, if no point lies above
-    /// the plane; else answers the id of one that does.
-    pub fn on_plane(&self, plane: &Plane, found: &mut Vec<Id>) -> Result<Option<Id>, AllocError>
+    /// Looks, as `look` does, at the positions that begin at one.
+    fn look_from(
+        &self,
+        plane: &Plane,
+        start: usize,
+        found: &mut Vec<Id>,
+    ) -> Result<Option<Id>, AllocError>
+        ensures { IfOk result (λ above. MatchOption above
+            (HasLooked self.now.points.items self.now.ids.items plane.now start (start + LEAF) found.old.items found.new.items)
+            (IsAboveAt self.now.points.items self.now.ids.items plane.now)) }
+    {
+        if start >= self.points.len() || self.leaves.below(plane, start) >= LEAF {
+            return Ok(None);
+        }
+        let to = start.saturating_add(LEAF).min(self.points.len());
+        self.look(plane, start, to, found)
+    }
+
+    /// The number of points from a position on that one block shows to lie below all planes of a bundle, or 0.
+    fn below_all(&self, bundle: &Bundle, from: usize) -> usize
+        ensures { AreBelowAll self.now.points.items bundle.now from (from + result) }
+    {
+        let below = below_all(&self.levels, bundle, from);
+        if below > 0 {
+            return below;
+        }
+        self.leaves.below_all(bundle, from)
+    }
+
+    /// The positions that planes of a bundle have to look at.
+    pub fn near(&self, alloc: Global, bundle: Bundle) -> Result<Near, AllocError>
+        ensures { IfOk result (IsNear self.now.points.items) }
+    {
+        let mut starts = Vec::new(alloc);
+        let mut from = 0;
+        while from < self.points.len() {
+            let below = self.below_all(&bundle, from);
+            if below > 0 {
+                from = from.saturating_add(below);
+            } else {
+                starts.push(from)?;
+                from = from.saturating_add(LEAF);
+            }
+        }
+        Ok(Near { bundle, starts })
+    }
+
+    /// Lists in `found` the ids whose points lie in a plane, if no point lies above the plane; else answers the id
+    /// of one that does. A plane of the bundle looks at the positions that are near alone.
+    pub fn on_plane(
+        &self,
+        plane: &Plane,
+        near: &Near,
+        found: &mut Vec<Id>,
+    ) -> Result<Option<Id>, AllocError>
+        requires { IsNear self.now.points.items near.now }
         ensures { IfOk result (λ above. (pts : List Vector) (ids : List ℕ) → ArePlaces pts ids self.now
             → MatchOption above (AreLevel pts ids plane.now found.new.items) (IsAbove pts ids plane.now)) }
     {
         found.clear();
-        let mut from = 0;
-        while from < self.points.len() {
-            let below = below(&self.levels, plane, from);
-            if below > 0 {
-                from = from.saturating_add(below);
-            } else {
-                let to = from.saturating_add(LEAF).min(self.points.len());
-                if let Some(id) = self.look(plane, from, to, found)? {
-                    return Ok(Some(id));
-                }
-                from = to;
+        if !near.bundle.has(plane) {
+            return self.look(plane, 0, self.points.len(), found);
+        }
+        for index in 0..near.starts.len() {
+            let start = near.starts[index];
+            if let Some(id) = self.look_from(plane, start, found)? {
+                return Ok(Some(id));
             }
         }
         Ok(None)

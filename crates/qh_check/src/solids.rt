@@ -8,12 +8,13 @@ ghost use Rattle.qh_model.specs.headline.Sets.{Members};
 ghost use Rattle.qh_model.specs.headline.Vector.{Vector};
 ghost use Rattle.qh_model.specs.contract.IdSets.{AreIndices, IsIdSet};
 ghost use Rattle.qh_check.specs.steps.Faces.{IsFaceOf};
-ghost use Rattle.qh_check.specs.steps.Findings.{IsFoundFrom};
+ghost use Rattle.qh_check.specs.steps.Findings.{IsFound};
 ghost use Rattle.qh_check.specs.steps.Verdicts.{IsVerdictOf};
 
+use crate::asking::by_rank;
 use crate::closed::open_step;
 use crate::faces::PlacedSet;
-use crate::findings::{Finding, first_fault, first_fault_in_parts};
+use crate::findings::{Asked, Finding, first_fault, first_fault_in_parts};
 use crate::order::out_of_order;
 use crate::places::Places;
 use crate::verdict::Verdict;
@@ -26,7 +27,7 @@ use std::thread::Threads;
 fn judged(alloc: Global, polygons: &[Polygon], found: Option<Finding>) -> Result<Verdict, Memory>
     ensures { IfOk result (λ v. (pts : List Vector) (ids : List ℕ) → IsIdSet pts ids → IsDimension (place pts) (Members ids) 3
         → 0 < length polygons.now → RiseStrictly polygons.now
-        → MatchOption found (All (IsFaceOf pts ids) polygons.now) (IsFoundFrom pts ids polygons.now 0)
+        → MatchOption found (All (IsFaceOf pts ids) polygons.now) (IsFound pts ids polygons.now)
         → IsVerdictOf pts ids polygons.now v) }
 {
     if let Some(finding) = found {
@@ -54,12 +55,13 @@ pub(crate) fn check_solid(
     if let Some(position) = out_of_order(polygons) {
         return Ok(Verdict::OutOfOrder(position));
     }
-    let places = Places::over(alloc, pts, ids)?;
+    let places = Places::over(alloc, pts, ids, polygons)?;
     let set = PlacedSet {
         pts,
         places: &places,
     };
-    let found = first_fault(alloc, set, polygons, 0)?;
+    let order = by_rank(alloc, polygons, &places.ranks)?;
+    let found = first_fault(alloc, set, polygons, &order)?;
     judged(alloc, polygons, found)
 }
 
@@ -82,12 +84,17 @@ pub(crate) fn check_solid_by_workers<R: Threads + Sync>(
     if let Some(position) = out_of_order(polygons) {
         return Ok(Verdict::OutOfOrder(position));
     }
-    let places = Places::over(alloc, pts, ids)?;
+    let places = Places::over(alloc, pts, ids, polygons)?;
     let set = PlacedSet {
         pts,
         places: &places,
     };
+    let order = by_rank(alloc, polygons, &places.ranks)?;
+    let asked = Asked {
+        polygons,
+        order: &order,
+    };
     let size = (polygons.len() - 1) / workers + 1;
-    let found = first_fault_in_parts(rt, alloc, set, polygons, size)?;
+    let found = first_fault_in_parts(rt, alloc, set, asked, size)?;
     judged(alloc, polygons, found)
 }

@@ -1,27 +1,30 @@
--- Boxes over consecutive positions of a list of points, and what they and the points tell of a plane.
+-- Blocks of consecutive positions of a list of points, and what they and the points tell of a plane.
 use Rattle.std.specs.Prelude.{ℕ, ◌≡◌, ◌+◌, ◌-◌, ◌*◌, ◌^◌, ◌<◌, ◌≤◌, List, length, ℤ, pos, ◌≤ℤ◌, ◌<ℤ◌, slice_index_or}
 use Rattle.qh_model.specs.headline.Vector.{Vector, origin}
 use Rattle.qh_model.specs.headline.Sets.{In}
 use Rattle.qh_pred.specs.contract.Planes.{PlaneValue, height}
-use Rattle.qh_check.specs.declared.boxes.PointBox.{PointBox}
+use Rattle.qh_check.specs.declared.slabs.Block.{Block}
+use Rattle.qh_check.specs.declared.bundles.Bundle.{Bundle}
+use Rattle.qh_check.specs.declared.places.TheConstants.{LEAF}
+use Rattle.qh_check.specs.declared.places.Near.{Near}
 use Rattle.qh_check.specs.declared.levels.Level.{Level}
-use Rattle.qh_check.specs.steps.Boxes.{IsBoxOf}
+use Rattle.qh_check.specs.steps.Slabs.{IsBlockOf, IsOfBundle}
 
 -- how far the point at a position is above a plane
 abbrev pub rise_at : List Vector → PlaneValue → ℕ → ℤ
 rise_at points plane k = height plane (slice_index_or points k origin)
 
--- each box has the points of its block of positions
-abbrev pub AreBoxes : List Vector → ℕ → List PointBox → Type 0
-AreBoxes points size bs =
-    (n : ℕ) (b : PointBox) → n < length bs → b ≡ slice_index_or bs n b → IsBoxOf points (n * size) (n * size + size) b
+-- each block has the points of its positions
+abbrev pub AreBlocks : List Vector → ℕ → List Block → Type 0
+AreBlocks points size bs =
+    (n : ℕ) (b : Block) → n < length bs → b ≡ slice_index_or bs n b → IsBlockOf points (n * size) (n * size + size) b
 
 abbrev pub IsLevel : List Vector → Level → Type 0
-IsLevel points l = AreBoxes points (2 ^ l.shift) l.boxes.items
+IsLevel points l = AreBlocks points (2 ^ l.shift) l.blocks.items
 
--- the blocks so far have their boxes, and the rest is left
-pub record HasBoxes (points rest : List Vector) (size : ℕ) (bs : List PointBox) : Type 0 where
-  pub boxes : AreBoxes points size bs
+-- the positions so far have their blocks, and the rest is left
+pub record HasBlocks (points rest : List Vector) (size : ℕ) (bs : List Block) : Type 0 where
+  pub blocks : AreBlocks points size bs
   pub len : length rest ≡ length points - length bs * size
   pub same : (k : ℕ) → k < length rest → slice_index_or rest k origin ≡ slice_index_or points (length bs * size + k) origin
 
@@ -34,9 +37,40 @@ abbrev pub IsAboveAt : List Vector → List ℕ → PlaneValue → ℕ → Type 
 IsAboveAt points ids plane i =
     (k : ℕ) × (k < length points) × (slice_index_or ids k 0 ≡ i) × (pos 0 <ℤ rise_at points plane k)
 
--- no point before a position is above the plane, and the ids of those in the plane are found
-pub record HasFound (points : List Vector) (ids : List ℕ) (plane : PlaneValue) (to : ℕ) (found : List ℕ) : Type 0 where
-  pub below : (k : ℕ) → k < to → k < length points → rise_at points plane k ≤ℤ pos 0
-  pub lists : (k : ℕ) → k < to → k < length points → rise_at points plane k ≡ pos 0 → In (slice_index_or ids k 0) found
-  pub only : (i : ℕ) → In i found
-      → (k : ℕ) × (k < length points) × (slice_index_or ids k 0 ≡ i) × (rise_at points plane k ≡ pos 0)
+-- each plane of the bundle is strictly above the points from one position to another
+abbrev pub AreBelowAll : List Vector → Bundle → ℕ → ℕ → Type 0
+AreBelowAll points b from to = (plane : PlaneValue) → IsOfBundle b plane → AreBelow points plane from to
+
+-- the position is one of those that begin at the first n of the starts
+abbrev pub IsBegun : List ℕ → ℕ → ℕ → Type 0
+IsBegun starts n k =
+    (j : ℕ) × (j < n) × (slice_index_or starts j 0 ≤ k) × (k < slice_index_or starts j 0 + LEAF)
+
+-- of the positions before one, those that do not begin at a start are below each plane of the bundle
+abbrev pub IsNearUpTo : List Vector → Bundle → List ℕ → ℕ → Type 0
+IsNearUpTo points b starts to = (plane : PlaneValue) → IsOfBundle b plane → (k : ℕ) → k < to → k < length points
+    → ¬ (IsBegun starts (length starts) k) → rise_at points plane k <ℤ pos 0
+
+-- so are those of all positions
+abbrev pub IsNear : List Vector → Near → Type 0
+IsNear points near = IsNearUpTo points near.bundle near.starts.items (length points)
+
+-- each id that is found is at a position whose point is in the plane
+abbrev pub AreOn : List Vector → List ℕ → PlaneValue → List ℕ → Type 0
+AreOn points ids plane found = (i : ℕ) → In i found
+    → (k : ℕ) × (k < length points) × (slice_index_or ids k 0 ≡ i) × (rise_at points plane k ≡ pos 0)
+
+-- no point from a position to another is above the plane, and the ids of those in it are found, beside the old
+pub record HasLooked (points : List Vector) (ids : List ℕ) (plane : PlaneValue) (from to : ℕ) (old found : List ℕ) : Type 0 where
+  pub below : (k : ℕ) → from ≤ k → k < to → k < length points → rise_at points plane k ≤ℤ pos 0
+  pub lists : (k : ℕ) → from ≤ k → k < to → k < length points → rise_at points plane k ≡ pos 0
+      → In (slice_index_or ids k 0) found
+  pub kept : (i : ℕ) → In i old → In i found
+  pub only : AreOn points ids plane old → AreOn points ids plane found
+
+-- the same of the positions that begin at the first n of the starts
+pub record HasSeen (points : List Vector) (ids : List ℕ) (plane : PlaneValue) (starts : List ℕ) (n : ℕ) (found : List ℕ) : Type 0 where
+  pub below : (k : ℕ) → IsBegun starts n k → k < length points → rise_at points plane k ≤ℤ pos 0
+  pub lists : (k : ℕ) → IsBegun starts n k → k < length points → rise_at points plane k ≡ pos 0
+      → In (slice_index_or ids k 0) found
+  pub only : AreOn points ids plane found

@@ -1,23 +1,31 @@
--- Points that a plane is above are passed over; what is found at the end is all.
-use Rattle.std.proofs.Common.{arith, ◌≤◌, ◌+◌, length}
-use Rattle.qh_check.proofs.FoundIds.{found_start, found_skip, above_of, level_of}
+-- What is found at all starts is all, where the plane is one of the bundle.
+use Rattle.std.proofs.Common.{arith, length, ◌≡◌, ◌<◌, ◌≤◌}
+use Rattle.std.proofs.lemmas.Result.{IfOk-weaker}
+use Rattle.qh_check.proofs.NearPositions.{seen_start, seen_goes, seen_all}
+use Rattle.qh_check.proofs.FoundIds.{above_of, all_looked, level_of_near}
 use Rattle.qh_check.proofs.places.Places.on_plane.Goals as goal
 
-pub loop-from-init : goal.loop-from-init
-loop-from-init c = rw c.clear.ensures.items (found_start _ _ _)
+pub loop-index-init : goal.loop-index-init
+loop-index-init c = rw c.clear.ensures.items (seen_start _ _ _ _)
 
-pub loop-from-preserved-then-below-gt0 : goal.loop-from-preserved-then-below-gt0
-loop-from-preserved-then-below-gt0 c =
-    let within : c.saturating_add-from.result ≤ c.loop-from.from + c.below-below.result =
-    omega (arith, c.saturating_add-from.ensures) in
-    let told = c.below-below.ensures c.args.self.now.points.items (rw c.deref.ensures.value c.args.self.now.boxes) in
-    found_skip _ _ _ _ _ _ c.loop-from.invariant (λ k l m n. told k l (omega (arith, within, m)) n)
+pub loop-index-preserved : goal.loop-index-preserved
+loop-index-preserved c =
+    let t = c.loop-index-test.true in
+    let l : c.loop-index.index < length c.args.near.now.starts.items = omega (arith, t, c.len-index-end.ensures) in
+    seen_goes _ _ _ _ _ _ _ _ c.loop-index.invariant l c.index-start.ensures (rw c.in_default.is at c.in_ok-id.ensures)
 
 pub returns-in-Some : goal.returns-in-Some
 returns-in-Some c = λ pts ids are. above_of pts ids c.args.self.now are _ _ (rw c.in-Some.is at c.in_ok-id.ensures)
 
+pub returns-then-not-has : goal.returns-then-not-has
+returns-then-not-has c =
+    let e : c.len.result ≡ length c.args.self.now.points.items = omega (arith, c.len.ensures) in
+    IfOk-weaker c.look.result _ _ (λ o h pts ids are. all_looked pts ids c.args.self.now are c.args.plane.now o _
+    (rw (c.clear.ensures.items, e) at h)) c.look.ensures
+
 pub returns : goal.returns
 returns c = λ pts ids are.
-    let end = c.loop-from-test.false in
-    let whole : length c.args.self.now.points.items ≤ c.loop-from.from = omega (arith, end, c.len.ensures) in
-    level_of pts ids c.args.self.now are _ _ _ whole c.loop-from.invariant
+    let t = c.loop-index-test.false in
+    let l : length c.args.near.now.starts.items ≤ c.loop-index.index = omega (arith, t, c.len-index-end.ensures) in
+    level_of_near pts ids c.args.self.now are c.args.plane.now c.args.near.now _ c.requires (c.has.ensures (let n = c.if-not-has.false in cc))
+    (seen_all _ _ _ _ _ _ c.loop-index.invariant l)

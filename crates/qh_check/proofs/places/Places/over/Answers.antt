@@ -16,7 +16,8 @@ invariant_of-result c = record {
   same =
       ap length c.in_ok-points.ensures ∙ length-map c.deref.result.now (place c.args.pts.now)
       ∙ ap length c.deref.ensures.value;
-  boxes = rw c.deref-2.ensures.value at c.in_ok-levels.ensures;
+  blocks = rw c.deref-4.ensures.value at c.in_ok-levels.ensures;
+  lowest = rw c.deref-6.ensures.value at c.in_ok-leaves.ensures;
 }
 
 pub returns : goal.returns
