@@ -55,8 +55,8 @@ fn compare(
 ///
 /// `ids` has at least one id, each the index of one of the points. That the ids rise and have distinct points
 /// (`IsIdSet`) is the caller's condition. The verdict is `Right` exactly where the polygons are those of the
-/// set; another verdict says what is wrong: first the order, then the first polygon that is no face, then an
-/// open edge.
+/// set; another verdict says what is wrong: first the order, then a polygon that is no face, then an open edge.
+/// Of several polygons that are no faces it names any one.
 ///
 /// # Errors
 ///

@@ -82,7 +82,7 @@ pub(crate) fn first_fault(
         (IsFound set.entry.pts.now ids polygons.now)) }
 {
     let mut rest = order;
-    while rest.len() > 0 {
+    while !rest.is_empty() {
         let (group, others) = rest.split_at(GROUP.min(rest.len()));
         if let Some(finding) = fault_in_group(alloc, set, polygons, group)? {
             return Ok(Some(finding));
