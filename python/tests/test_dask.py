@@ -222,6 +222,8 @@ def test_tables_as_parquet_files_are_read(monkeypatch):
     [
         (b"3\n2\n+1 -2\t3 # 9 9\n\n4 5 6\r\n", [[1, -2, 3], [4, 5, 6]]),
         (b"2 3\n1 2 3 4 5 6", [[1, 2, 3], [4, 5, 6]]),
+        (b"3\n2\n1 2 3 # not a line end: \r 4 5 6\n7\f8\v0009\n", [[1, 2, 3], [7, 8, 9]]),
+        (b"3\n1\n7\f8\v+0000000000000000000000000000009\n", [[7, 8, 9]]),
         (b"a comment\n3\nanother\n1 rest\n1\n2\n3\n", [[1, 2, 3]]),
     ],
 )
