@@ -144,7 +144,7 @@ def by_dask(options):
         from qconvex.dask import extremes
 
         found = extremes(options.file, options.engine.replace("dask://", "tcp://", 1), options.retries)
-    except (ImportError, OSError, ValueError) as why:
+    except (ImportError, OSError, TypeError, ValueError) as why:
         raise Refused(f"{options.engine}: {why}") from None
     return [(index, b"%d %d %d" % tuple(point)) for index, point in zip(found.indices.tolist(), found.points.tolist())]
 

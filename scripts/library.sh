@@ -23,7 +23,7 @@ fi
 block python > c/build/readme.py
 expect Python "$(PYTHONPATH=python "$python" c/build/readme.py)"
 if "$python" -c 'import pytest' 2> /dev/null; then
-    (cd python && "$python" -m pytest -q)
+    (cd python && "$python" -m pytest -q -rs)
 else
     echo 'pytest is missing: the tests of the module for Python were not run'
 fi

@@ -86,7 +86,7 @@ class LineParts:
 
     def lines_left(self):
         """The lines that were given to no part."""
-        return chain((self.rest + self.source.readline()).splitlines(), self.source)
+        return chain((self.rest + self.source.readline()).split(b"\n"), self.source)
 
 
 def end_of_line(text, number):
@@ -104,7 +104,7 @@ def end_of_line(text, number):
 
 def word_parts(parts, rest, size):
     """The points of some parts and of the lines behind them, in parts of a size, whatever lines they stand on."""
-    lines = chain(chain.from_iterable(part.text.splitlines() for part in parts), rest)
+    lines = chain(chain.from_iterable(part.text.split(b"\n") for part in parts), rest)
     words = chain.from_iterable(map(data_words, lines))
     while piece := list(islice(words, 3 * size)):
         if len(piece) % 3:

@@ -32,7 +32,7 @@ def regular(points, end="\n"):
 
 
 def commented(rng, points):
-    ends = ["\n", "\r\n", " # 7 7\n", "\n\n", " x 1\n# 5 5 5\n"]
+    ends = ["\n", "\r\n", " # 7 7\n", "\n\n", " x 1\n# 5 5 5\n", " # not a line end: \r 5 5 5\n"]
     return f"3 # of three\n{len(points)}\n" + "".join("%d %d %d%s" % (*point, rng.choice(ends)) for point in points)
 
 

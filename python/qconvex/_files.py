@@ -11,7 +11,7 @@ _DATA_WORD = re.compile(rb"[+-]?[0-9]+")
 _DATA_WORD_STARTS = b"0123456789+-."  # any other word begins a comment, up to the end of its line
 # Digits, signs and blanks, each as one byte, and anything else as another.
 _KINDS = bytes(
-    ord("0") if byte in b"0123456789" else ord("-") if byte in b"+-" else ord(" ") if byte in b" \t\r\n" else ord("?")
+    ord("0") if byte in b"0123456789" else ord("-") if byte in b"+-" else ord(" ") if byte in b" \t\r\n\v\f" else ord("?")
     for byte in range(256)
 )
 _SIGNS_AMISS = (b"?", b"0-", b"--", b"- ")
@@ -72,7 +72,7 @@ def _numbers_of(text: bytes, path: str | Path, begin: int) -> np.ndarray:
     kinds = text.translate(_KINDS)
     if not any(amiss in kinds for amiss in _SIGNS_AMISS) and not kinds.endswith(b"-"):
         return np.fromstring(text, np.int64, sep=" ") if kinds.strip() else np.empty(0, np.int64)
-    words = [word for line in text.splitlines() for word in _data_words(line)]
+    words = [word for line in text.split(b"\n") for word in _data_words(line)]
     for word in words:
         if not _DATA_WORD.fullmatch(word):
             raise ValueError(f"{path}: the word {word.decode(errors='replace')} behind byte {begin} is no whole number")

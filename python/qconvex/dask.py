@@ -55,14 +55,14 @@ class IndexedHull(ConvexHull):
         self.indices: np.ndarray = extremes.indices
 
 
-def extremes(points: da.Array | Paths, client: Any = None, retries: int = 3) -> Extremes:
-    """Returns the extreme points of a dask array, or of files as `read` takes them.
+def extremes(points: da.Array | np.ndarray | Paths, client: Any = None, retries: int = 3) -> Extremes:
+    """Returns the extreme points of a dask array, of one of numpy, or of files as `read` takes them.
 
     Chunks of more than `POINT_LIMIT` rows are cut. The work is done by the scheduler that Dask has set.
 
     Parameters
     ----------
-    points : dask array of shape (n, 3), of any integer type, or paths
+    points : array of shape (n, 3), of any integer type, or paths
         The chunks may be of any shape, and of unknown length.
     client : distributed.Client or str, optional
         The client, or the address of the scheduler, that does the work in place of Dask's own choice.
@@ -78,6 +78,8 @@ def extremes(points: da.Array | Paths, client: Any = None, retries: int = 3) -> 
     TooManyExtremes
         The extreme points of two parts together are more than `POINT_LIMIT`.
     """
+    if isinstance(points, np.ndarray):
+        points = da.from_array(points, chunks=(POINT_LIMIT, *points.shape[1:]))
     array, counts = (points, None) if isinstance(points, da.Array) else _opened(points)
     part = _computed(_tree_of(_parts_of(array)), client, retries)
     if counts is not None and part.count != counts:
@@ -87,8 +89,8 @@ def extremes(points: da.Array | Paths, client: Any = None, retries: int = 3) -> 
     return Extremes(part.indices, part.points)
 
 
-def hull(points: da.Array | Paths, client: Any = None, retries: int = 3) -> IndexedHull:
-    """Returns the hull of a dask array, or of files: that of its extreme points, with their rows in the whole array.
+def hull(points: da.Array | np.ndarray | Paths, client: Any = None, retries: int = 3) -> IndexedHull:
+    """Returns the hull of an array, or of files: that of its extreme points, with their rows in the whole array.
 
     Takes and raises what `extremes` does.
     """
@@ -114,7 +116,7 @@ def _opened(paths: Paths, columns: Sequence[str] | None = None) -> tuple[da.Arra
     listed = [paths] if isinstance(paths, (str, Path)) else list(paths)
     if not listed:
         raise ValueError("there is no file")
-    opened = [_opened_one(Path(path), columns) for path in listed]
+    opened = [_opened_one(Path(path).absolute(), columns) for path in listed]
     counts = [count for _, count in opened]
     array = da.concatenate([array for array, _ in opened], allow_unknown_chunksizes=True)
     return array, None if None in counts else sum(counts)

@@ -80,8 +80,10 @@ def test_degenerate_sets_in_odd_chunks(client, scheduler, sets):
 
 def test_chunks_of_unknown_length(client):
     points = np.random.default_rng(2).integers(-1000, 1000, (20000, 3))
-    array = da.from_array(points, chunks=3000)
-    matches(extremes(array[array[:, 0] > 0], client), points[points[:, 0] > 0])
+    for columns in (3, 2):
+        array = da.from_array(points, chunks=(3000, columns))
+        matches(extremes(array[array[:, 0] > 0], client), points[points[:, 0] > 0])
+    matches(extremes(points), points)
 
 
 def test_a_chunk_above_the_limit_is_cut(client):
@@ -204,11 +206,24 @@ def test_parquet(tmp_path):
     matches(extremes(tmp_path / "points.parquet"), points)
 
 
+def test_tables_as_parquet_files_are_read(monkeypatch):
+    frames = pytest.importorskip("dask.dataframe", reason="pandas is missing: no table was read")
+    import pandas
+
+    points = np.random.default_rng(7).integers(-500, 500, (3000, 3))
+    table = frames.from_pandas(pandas.DataFrame(points, columns=["x", "y", "z"]).assign(weight=0.5), npartitions=4)
+    monkeypatch.setattr(frames, "read_parquet", lambda path, columns: table[columns])
+    matches(extremes(read("a.parquet", ["x", "y", "z"])), points)
+    matches(extremes(read(["a.parquet"], ["z", "y", "x"])), points[:, ::-1])
+
+
 @pytest.mark.parametrize(
     ("text", "points"),
     [
         (b"3\n2\n+1 -2\t3 # 9 9\n\n4 5 6\r\n", [[1, -2, 3], [4, 5, 6]]),
         (b"2 3\n1 2 3 4 5 6", [[1, 2, 3], [4, 5, 6]]),
+        (b"3\n2\n1 2 3 # not a line end: \r 4 5 6\n7\f8\v0009\n", [[1, 2, 3], [7, 8, 9]]),
+        (b"3\n1\n7\f8\v+0000000000000000000000000000009\n", [[7, 8, 9]]),
         (b"a comment\n3\nanother\n1 rest\n1\n2\n3\n", [[1, 2, 3]]),
     ],
 )
