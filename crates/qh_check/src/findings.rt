@@ -82,7 +82,7 @@ pub(crate) fn first_fault(
         (IsFound set.entry.pts.now ids polygons.now)) }
 {
     let mut rest = order;
-    while !rest.is_empty() {
+    while rest.len() > 0 {
         let (group, others) = rest.split_at(GROUP.min(rest.len()));
         if let Some(finding) = fault_in_group(alloc, set, polygons, group)? {
             return Ok(Some(finding));
