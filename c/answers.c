@@ -114,7 +114,15 @@ static void longest_normal(void) {
     expect(qconvex_fans(square, 2, &count, triangles, 6, normals, 6) == QCONVEX_DONE && count == 0, "a segment has no triangles");
 }
 
+static void version_is_that_of_the_header(void) {
+    int major, minor, patch;
+    expect(sscanf(QCONVEX_VERSION, "%d.%d.%d", &major, &minor, &patch) == 3, "the header's version has three numbers");
+    expect(10000 * major + 100 * minor + patch == QCONVEX_VERSION_NUMBER, "the header's version as one number");
+    expect(qconvex_version() == QCONVEX_VERSION_NUMBER, "the library has the version of the header");
+}
+
 int main(void) {
+    version_is_that_of_the_header();
     cube_is_done();
     fans_of_a_cube();
     longest_normal();
