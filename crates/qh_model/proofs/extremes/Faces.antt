@@ -22,11 +22,11 @@ use Rattle.qh_model.proofs.algebra.VectorIdentities.{vol-linear}
 
 -- ---- two directions, one after the other
 -- scalar products with n, then with w
-abbrev pair : Vector → Vector → Vector → V 2
+abbrev pub pair : Vector → Vector → Vector → V 2
 pair n w p = (dot n p, (dot w p, tt))
 
 -- a direction from two
-abbrev blend : Vector → Vector → V 2 → Vector
+abbrev pub blend : Vector → Vector → V 2 → Vector
 blend n w u = record { x = u.0 *ℤ n.x +ℤ u.1.0 *ℤ w.x; y = u.0 *ℤ n.y +ℤ u.1.0 *ℤ w.y; z = u.0 *ℤ n.z +ℤ u.1.0 *ℤ w.z }
 
 -- a step of the next
@@ -36,15 +36,15 @@ blend_step : (a b nx ny nz wx wy wz x y z : ℤ)
 blend_step a b nx ny nz wx wy wz x y z = simp ring_rules (omega (arith, ints))
 
 -- its scalar product
-blend_is : (n w : Vector) (u : V 2) (p : Vector) → dot (blend n w u) p ≡ vdot 2 u (pair n w p)
+pub blend_is : (n w : Vector) (u : V 2) (p : Vector) → dot (blend n w u) p ≡ vdot 2 u (pair n w p)
 blend_is n w u p = blend_step u.0 u.1.0 n.x n.y n.z w.x w.y w.z p.x p.y p.z
 
 -- what is below a plane comes first along its normal
-below_plane : (v d e c : ℤ) → v ≡ d +ℤ c → v <ℤ pos 0 → pos 0 ≡ e +ℤ c → d <ℤ e
+pub below_plane : (v d e c : ℤ) → v ≡ d +ℤ c → v <ℤ pos 0 → pos 0 ≡ e +ℤ c → d <ℤ e
 below_plane v d e c h k l = omega (arith, ints)
 
 -- points of one plane are level
-on_plane : (d e c : ℤ) → pos 0 ≡ d +ℤ c → pos 0 ≡ e +ℤ c → d ≡ e
+pub on_plane : (d e c : ℤ) → pos 0 ≡ d +ℤ c → pos 0 ≡ e +ℤ c → d ≡ e
 on_plane d e c h k = omega (arith, ints)
 
 -- an extreme of a face is extreme

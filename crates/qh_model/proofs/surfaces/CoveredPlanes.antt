@@ -37,7 +37,7 @@ above-middle a b c p o n k =
 -- ---- what no facet sees is beyond no plane that has the corners and o on one side
 module _ (m : Surface) (home : ℕ → Weighted) (o : Weighted) (w : IsWhole m) (z : IsSound m home o) where
   -- nor is a point that the facet over which it lies doesn't see
-  at_facet : (n x : Weighted) (l : Located m home o x) → HoldsOfCorners m (λ i. weighted_dot n (home i) ≤ℤ pos 0)
+  pub at_facet : (n x : Weighted) (l : Located m home o x) → HoldsOfCorners m (λ i. weighted_dot n (home i) ≤ℤ pos 0)
       → weighted_dot n o ≤ℤ pos 0
       → rise m home l.f x ≤ℤ pos 0 → pos 0 <ℤ weighted_dot n x → ⊥
   at_facet n x l corners n_o blind beyond =

@@ -54,7 +54,7 @@ module _ (at : ℕ → Vector) (ids : List ℕ) (m : Surface) (z : IsFinished at
   little_beyond = beyond o (middle m home f) b
 
   -- a facet that sees it is in the plane
-  seen_level : (g : ℕ) → In g m.live → Sees m home g little_beyond → IsLevelFacet at m g f
+  pub seen_level : (g : ℕ) → In g m.live → Sees m home g little_beyond → IsLevelFacet at m g f
   seen_level g i sees =
       let z = level_parts _ _ _ _ _ _ low.0 low.1 low.2 (equal_le _ _ (sym flat)) in
       of_corners m f (IsLevelWith at m g) (level (m.i f) z.0) (level (m.j f) z.1) (level (m.k f) z.2)
@@ -74,7 +74,7 @@ module _ (at : ℕ → Vector) (ids : List ℕ) (m : Surface) (z : IsFinished at
       level l e = sym (rise_is_vol (at (m.i g)) (at (m.j g)) (at (m.k g)) (at l)) ∙ e
 
   -- and one in the plane sees it
-  level_sees : (g : ℕ) → In g m.live → IsLevelFacet at m g f → Sees m home g little_beyond
+  pub level_sees : (g : ℕ) → In g m.live → IsLevelFacet at m g f → Sees m home g little_beyond
   level_sees g i level =
       on_sees_beyond _ _ _ o (middle m home f) b
       (sum_level _ _ _ _ _ _ (zero (m.i f) (inl refl)) (zero (m.j f) (inr (inl refl))) (zero (m.k f) (inr (inr refl)))) (z.sound.inner g i)
@@ -83,7 +83,7 @@ module _ (at : ℕ → Vector) (ids : List ℕ) (m : Surface) (z : IsFinished at
       zero l c = rise_is_vol (at (m.i g)) (at (m.j g)) (at (m.k g)) (at l) ∙ level l c
 
   -- a walk in the plane is one over what the point sees
-  found : (c : ℕ → Bool) → IsPlaneWalk at m f c → (g : ℕ) → In g m.live → IsLevelFacet at m f g → c g ≡ true
+  pub found : (c : ℕ → Bool) → IsPlaneWalk at m f c → (g : ℕ) → In g m.live → IsLevelFacet at m f g → c g ≡ true
   found c w g i level =
       walk_finds_all m home o z.whole z.sound little_beyond c (record {
         f0 = f;
