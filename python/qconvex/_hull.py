@@ -7,7 +7,8 @@ from typing import TYPE_CHECKING, Any, Sequence, Union
 import numpy as np
 from numpy.typing import NDArray
 
-from ._library import COORDINATE_LIMIT, RANGE_REFUSAL, flat_hull
+from ._library import RANGE_REFUSAL, flat_hull
+from ._limits import COORDINATE_LIMIT
 from ._texts import obj_text, off_text
 from ._triangles import exact_sum_of_products, neighbors_of, normals_of
 

@@ -9,11 +9,7 @@ from typing import NamedTuple
 import numpy as np
 from numpy.typing import NDArray
 
-COORDINATE_LIMIT = 1 << 30
-"""The greatest size of a coordinate, either way."""
-
-POINT_LIMIT = 1 << 20
-"""The greatest number of points."""
+from ._limits import COORDINATE_LIMIT, POINT_LIMIT
 
 _DONE, _NO_POINT, _TOO_MANY, _RANGE, _MEMORY, _ROOM = range(6)
 _REFUSALS = {
