@@ -12,15 +12,18 @@ from ._limits import COORDINATE_LIMIT, POINT_LIMIT
 if TYPE_CHECKING:
     from ._floats import FloatHull, Snapped, snap
     from ._hull import ConvexHull
+    from ._hulls import Hulls, hulls
     from ._library import VERSION as __version__
 
-__all__ = ["COORDINATE_LIMIT", "POINT_LIMIT", "ConvexHull", "FloatHull", "Snapped", "__version__", "snap"]
+__all__ = ["COORDINATE_LIMIT", "POINT_LIMIT", "ConvexHull", "FloatHull", "Hulls", "Snapped", "__version__", "hulls", "snap"]
 
 # Where each name stands that needs the library, and what it is called there.
 _NEEDS_LIBRARY = {
     "ConvexHull": ("._hull", "ConvexHull"),
     "FloatHull": ("._floats", "FloatHull"),
+    "Hulls": ("._hulls", "Hulls"),
     "Snapped": ("._floats", "Snapped"),
+    "hulls": ("._hulls", "hulls"),
     "snap": ("._floats", "snap"),
     "__version__": ("._library", "VERSION"),
 }
