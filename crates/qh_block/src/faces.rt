@@ -25,8 +25,8 @@ use qh_mesh::FacetNo;
 use qh_model::{Id, Memory, Point, Polygon};
 use qh_plane::polygon;
 use qh_pred::{cross, point_at};
-use qh_surface::NamedMesh;
 use qh_surface::walk::walk;
+use qh_surface::{NamedMesh, plane_of};
 use std::alloc::{AllocError, Global};
 
 /// Room for the facets of a plane and for their corners, used again from plane to plane.
@@ -135,6 +135,7 @@ fn new_face(
     let level = IsLevel {
         pts: &surface.points,
         start: f,
+        plane: plane_of(&surface.points, &surface.mesh, f),
     };
     walk(&surface.mesh, &level, f, marks, &mut room.facets)?;
     // Most planes have one facet: its corners are the face.
