@@ -26,7 +26,7 @@ import compare
 
 TOP = Path(__file__).resolve().parents[1]
 sys.path.insert(0, str(TOP / "python"))
-HULLMANY = str(TOP / "scripts" / "hullmany.py")
+HULLMANY = str(TOP / "python" / "bin" / "hullmany")
 BY_DASK = (
     "import sys, dask; from qconvex.dask import extremes; dask.config.set(scheduler='threads', num_workers=4); "
     "found = extremes(sys.argv[1]); print(len(found.indices), *found.indices.tolist(), sep='\\n')"
@@ -66,8 +66,8 @@ def of_file(given):
         hullmany = [sys.executable, HULLMANY, "--quiet"]
         commands = {
             f"{given.qhull} s": [given.qhull, "s"],
-            "hullmany.py --jobs 1 Fx": [*hullmany, "--jobs", "1", "Fx"],
-            "hullmany.py --jobs 4 Fx": [*hullmany, "--jobs", "4", "Fx"],
+            "hullmany --jobs 1 Fx": [*hullmany, "--jobs", "1", "Fx"],
+            "hullmany --jobs 4 Fx": [*hullmany, "--jobs", "4", "Fx"],
             "qconvex.dask.extremes, four threads": [sys.executable, "-c", BY_DASK, path],
         }
         results = {name: [] for name in commands}

@@ -47,7 +47,8 @@ enum {
     QCONVEX_TOO_MANY = 2, /* exactly where count is above QCONVEX_POINT_LIMIT */
     QCONVEX_RANGE = 3,    /* else exactly where a coordinate is past QCONVEX_COORDINATE_LIMIT */
     QCONVEX_MEMORY = 4,   /* malloc or realloc refused; all that was taken is given back */
-    QCONVEX_ROOM = 5      /* a buffer is too short: sizes says how long they have to be */
+    QCONVEX_ROOM = 5,     /* a buffer is too short: sizes says how long they have to be */
+    QCONVEX_STARTS = 6    /* of qconvex_hulls alone: the starts don't rise, go beyond the points, or are none */
 };
 
 /* QCONVEX_VERSION_NUMBER of the library that is linked or loaded, which may differ from this header's. */
@@ -82,6 +83,31 @@ uint32_t qconvex_hull(const qconvex_point *points, size_t count, qconvex_sizes *
 uint32_t qconvex_fans(const qconvex_point *points, size_t count, size_t *triangle_count,
                       uint32_t *triangles, size_t triangles_room,
                       int64_t *normals, size_t normals_room);
+
+/* What a set among many is told. */
+typedef struct {
+    uint32_t code;       /* the answer of qconvex_hull for the set alone */
+    qconvex_sizes sizes; /* the sizes of its hull for QCONVEX_DONE and QCONVEX_ROOM; else all are 0 */
+} qconvex_answer;
+
+/* The hulls of many sets in one call. Set j has the points from points[starts[j]] to before points[starts[j + 1]], so
+ * start_count is the number of sets and one more. QCONVEX_DONE: answers begins with the answer of each set, and its hull
+ * stands in its part of each buffer, as qconvex_hull writes it there, with indices that count from the set's first point:
+ *   extremes  from starts[j] on                 as many elements as the set has points, n
+ *   offsets   from 2 * starts[j] + 2 * j on     2 * n + 2
+ *   corners   from 6 * starts[j] + 4 * j on     6 * n + 4
+ * A set that is refused leaves its parts as they were, and the others are answered; one may have no point, or more than
+ * QCONVEX_POINT_LIMIT. With e the last start and m the number of sets there is to be room for m answers, and for e,
+ * 2 * e + 2 * m and 6 * e + 4 * m elements in the buffers.
+ *
+ * QCONVEX_STARTS where starts don't rise, one is above point_count, or there is none; QCONVEX_ROOM where there is less
+ * room: both leave answers and buffers as they were. There is no other answer. */
+uint32_t qconvex_hulls(const qconvex_point *points, size_t point_count,
+                       const size_t *starts, size_t start_count,
+                       qconvex_answer *answers, size_t answers_room,
+                       uint32_t *extremes, size_t extremes_room,
+                       size_t *offsets, size_t offsets_room,
+                       uint32_t *corners, size_t corners_room);
 
 #ifdef __cplusplus
 }

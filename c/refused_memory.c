@@ -36,10 +36,15 @@ void rattle_dealloc(void *place) {
 
 enum { POINTS = 400, OFFSETS = 2 * POINTS + 2, CORNERS = 6 * POINTS + 4 };
 
+/* The same points as several sets, one of which has none. */
+enum { SETS = 4 };
+static const size_t starts[SETS + 1] = {0, 150, 150, 290, POINTS};
+
 struct buffers {
     qconvex_sizes sizes;
-    uint32_t extremes[POINTS], corners[CORNERS];
-    size_t offsets[OFFSETS], count;
+    qconvex_answer answers[SETS];
+    uint32_t extremes[POINTS], corners[CORNERS + 4 * SETS];
+    size_t offsets[OFFSETS + 2 * SETS], count;
     uint32_t triangles[CORNERS];
     int64_t normals[CORNERS];
 };
@@ -85,6 +90,44 @@ static void refuse_each(bool fans, long *tried, long *memory, long *wrong) {
     }
 }
 
+/* The hulls of the sets in blank buffers; one request may be refused. */
+static uint32_t call_sets(struct buffers *to) {
+    requests = 0;
+    memcpy(to, &blank, sizeof blank);
+    return qconvex_hulls(points, POINTS, starts, SETS + 1, to->answers, SETS, to->extremes, POINTS, to->offsets, OFFSETS + 2 * SETS - 2,
+                         to->corners, CORNERS + 4 * SETS - 4);
+}
+
+/* Whether a set's parts of the buffers are those of other buffers. */
+static bool has_parts_of(size_t set, const struct buffers *other) {
+    size_t from = starts[set], size = starts[set + 1] - from;
+    return memcmp(now.extremes + from, other->extremes + from, size * sizeof *now.extremes) == 0 &&
+           memcmp(now.offsets + 2 * (from + set), other->offsets + 2 * (from + set), (2 * size + 2) * sizeof *now.offsets) == 0 &&
+           memcmp(now.corners + 6 * from + 4 * set, other->corners + 6 * from + 4 * set, (6 * size + 4) * sizeof *now.corners) == 0;
+}
+
+/* Whether a set is told what is right, or that memory was refused, which is counted. */
+static bool set_is_right(size_t set, long *memory) {
+    const qconvex_answer *told = &now.answers[set], *wanted = &right.answers[set];
+    if (told->code != QCONVEX_MEMORY)
+        return told->code == wanted->code && told->sizes.corners == wanted->sizes.corners && has_parts_of(set, &right);
+    ++*memory;
+    return told->sizes.points == 0 && told->sizes.corners == 0 && has_parts_of(set, &blank);
+}
+
+/* Refuses each request of a call for many sets in turn: at most one set is told so, and the others are answered. */
+static void refuse_each_of_sets(long *tried, long *memory, long *wrong) {
+    refused = 0;
+    *wrong += call_sets(&right) != QCONVEX_DONE || living != 0 || right.answers[1].code != QCONVEX_NO_POINT;
+    long total = requests;
+    for (refused = 1; refused <= total; refused++, ++*tried) {
+        long before = *memory;
+        *wrong += call_sets(&now) != QCONVEX_DONE || living != 0;
+        for (size_t set = 0; set < SETS; set++) *wrong += !set_is_right(set, memory);
+        *wrong += *memory > before + 1;
+    }
+}
+
 int main(void) {
     long tried = 0, memory = 0, wrong = 0;
     memset(&blank, 0x55, sizeof blank);
@@ -92,6 +135,7 @@ int main(void) {
         make_points(family);
         refuse_each(false, &tried, &memory, &wrong);
         refuse_each(true, &tried, &memory, &wrong);
+        refuse_each_of_sets(&tried, &memory, &wrong);
     }
     printf("%ld requests refused in turn: %ld times QCONVEX_MEMORY, else the right answer; %ld wrong\n", tried, memory, wrong);
     return wrong != 0;

@@ -20,10 +20,11 @@ import argparse
 import sys
 from collections import defaultdict
 
-from off_files import read_off_file
+import package  # noqa: F401
 from point_boxes import Box
-from point_files import points_of_file
-from vectors import cross, dot, lowest_terms, minus, polygon_normal, triangle_normal
+from qconvex.commands.off_files import read_off_file
+from qconvex.commands.point_files import points_of_file
+from qconvex.commands.vectors import cross, dot, lowest_terms, minus, polygon_normal, triangle_normal
 
 
 class Wrong(Exception):

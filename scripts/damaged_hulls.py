@@ -20,9 +20,10 @@ from types import SimpleNamespace
 from check_hull import Checker, Wrong, check
 from fuzz_hulls import small_set
 from limits import PROGRAM
-from off_files import Faces, read_off
-from point_files import text_of
-from vectors import minus, plus, times
+import package  # noqa: F401
+from qconvex.commands.off_files import Faces, read_off
+from qconvex.commands.point_files import text_of
+from qconvex.commands.vectors import minus, plus, times
 
 CASES = 200
 OPTIONS = SimpleNamespace(whole=False, unoriented=False)

@@ -1,7 +1,7 @@
 #!/usr/bin/env python3
 """Runs the commands of the documents, and compares what they print with what stands there.
 
-    scripts/doc_commands.py [--all] [FILE]...      from anywhere; with no FILE: README, WHY-EXACT, TUTORIAL, FAULTS, MANY-POINTS
+    scripts/doc_commands.py [--all] [FILE]...      from anywhere; with no FILE: README and the PAGES of docs
 
 In an indented block of a document a line that begins with `$ ` is a command, with the lines after it that begin with `> `,
 and the lines up to the next one or the end of the block are what it prints, on standard output and standard error together. A line `...` stands for any lines. The
@@ -26,7 +26,8 @@ from collections import namedtuple
 
 from limits import TOP
 
-DOCUMENTS = ["README.md", "docs/WHY-EXACT.md", "docs/TUTORIAL.md", "docs/FAULTS.md", "docs/MANY-POINTS.md"]
+PAGES = ["WHY-EXACT", "TUTORIAL", "FAULTS", "MANY-POINTS", "LIBRARY"]
+DOCUMENTS = ["README.md", *(f"docs/{page}.md" for page in PAGES)]
 # A command with what it is to print, the line of the document, and what is special about its block.
 Command = namedtuple("Command", "words wanted line marks")
 MARK = re.compile(r"<!--\s*(.*?)\s*-->$")

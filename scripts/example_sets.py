@@ -20,8 +20,9 @@ make the whole lattice, but u and v are long and the lattice steps from plane to
 import math
 import sys
 
-from point_files import text_of
-from vectors import cross, dot, minus, plus, times
+import package  # noqa: F401
+from qconvex.commands.point_files import text_of
+from qconvex.commands.vectors import cross, dot, minus, plus, times
 
 
 def slanted(size):

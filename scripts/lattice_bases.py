@@ -17,16 +17,19 @@ import random
 import subprocess
 import sys
 from collections import Counter
+from fractions import Fraction
 from math import isqrt
 from types import SimpleNamespace
 
 from check_hull import Checker, Wrong, check
 from example_sets import ball
 from limits import COORDINATE_LIMIT, PROGRAM, TOP
-from off_files import Malformed, read_off
-from point_files import text_of
-from points_of_mesh import Map, vertices_of_mesh, whole_point
-from vectors import dot
+import package  # noqa: F401
+from qconvex.commands.meshes import vertices_of_mesh
+from qconvex.commands.meshpoints import Map, rounded
+from qconvex.commands.off_files import Malformed, read_off
+from qconvex.commands.point_files import text_of
+from qconvex.commands.vectors import dot
 
 sys.path.insert(0, os.path.join(TOP, "bench"))
 from points import FAMILIES  # noqa: E402
@@ -99,9 +102,9 @@ def grids():
 
 def meshes():
     """The mesh of examples/ on grids of several widths."""
-    vertices, centre = vertices_of_mesh(os.path.join(TOP, "examples", "knot.obj")), (0, 0, 0)
-    scales = [10, 100, 1_000, 10_000, 100_000]
-    return [[whole_point(vertex, Map(scale, centre)) for vertex in vertices] for scale in scales]
+    vertices, centre = vertices_of_mesh(os.path.join(TOP, "examples", "knot.obj")), (Fraction(0),) * 3
+    scales = map(Fraction, [10, 100, 1_000, 10_000, 100_000])
+    return [rounded(vertices, Map(scale, centre)).points for scale in scales]
 
 
 def ordinary(options):

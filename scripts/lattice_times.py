@@ -16,7 +16,8 @@ import time
 
 from example_sets import SETS
 from limits import PROGRAM
-from point_files import text_of
+import package  # noqa: F401
+from qconvex.commands.point_files import text_of
 
 LIMIT = 60
 

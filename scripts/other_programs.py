@@ -24,8 +24,9 @@ from types import SimpleNamespace
 
 from check_hull import Checker, check
 from limits import PROGRAM, TOP
-from off_files import off_text, read_off
-from point_files import points_of_file, text_of
+import package  # noqa: F401
+from qconvex.commands.off_files import off_text, read_off
+from qconvex.commands.point_files import points_of_file, text_of
 
 SETS = [os.path.join(TOP, "examples", f"{name}.txt") for name in ("sliver4", "roof5", "bowl122", "basis")]
 # Debian's own Python, for whose packages it is asked.

@@ -18,9 +18,10 @@ import math
 import sys
 from collections import namedtuple
 
-from contents import text_of
-from off_files import read_off_file
-from vectors import cross, dot, minus, plus, polygon_normal, times
+import package  # noqa: F401
+from qconvex.commands.contents import text_of
+from qconvex.commands.off_files import read_off_file
+from qconvex.commands.vectors import cross, dot, minus, plus, polygon_normal, times
 
 SIZE = 240
 MARGIN = 8

@@ -16,6 +16,6 @@ scripts/picture.py --eye=2,6,-3 --size 320 "$work/right.off" > "$pictures/bowl12
 scripts/picture.py --eye=-6,5,-4 --size 320 \
     --title 'exact: 122 corners, 124 faces' --title 'Qhull: 23 corners, 23 faces' \
     "$work/right.off" "$work/qhull.off" > "$pictures/bowl122-both.svg"
-scripts/points_of_mesh.py --scale 1000 --centre 0,0,0 examples/knot.obj > "$work/knot.txt"
-"$program" off < "$work/knot.txt" | scripts/points_of_mesh.py --back "$work/knot.txt" > "$work/knot.off"
+python/bin/meshpoints --scale 1000 --centre 0,0,0 examples/knot.obj > "$work/knot.txt"
+"$program" off < "$work/knot.txt" | python/bin/meshpoints --back "$work/knot.txt" > "$work/knot.off"
 scripts/picture.py --eye=1,-1.5,2 --size 360 --mesh examples/knot.obj "$work/knot.off" > "$pictures/knot.svg"

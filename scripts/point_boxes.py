@@ -1,5 +1,6 @@
 """Points in boxes within boxes, to ask quickly and exactly whether one lies above a plane."""
-from vectors import dot
+import package  # noqa: F401
+from qconvex.commands.vectors import dot
 
 # A box with as few points is not parted further.
 FEW = 16

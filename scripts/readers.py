@@ -21,9 +21,10 @@ import tempfile
 from collections import namedtuple
 
 from limits import PROGRAM, TOP
-from off_files import read_off
 from other_programs import has, run, version
-from point_files import points_of_file, text_of
+import package  # noqa: F401
+from qconvex.commands.off_files import read_off
+from qconvex.commands.point_files import points_of_file, text_of
 
 SOLIDS = ("corner-tetrahedron", "unit-cube", "octahedron-midpoints", "sphere-60", "bowl122")
 MANY = 100_000

@@ -1,6 +1,42 @@
-"""The convex hull of whole-number points in space, exact and proved: see `ConvexHull`."""
-from ._floats import FloatHull, Snapped, snap
-from ._hull import ConvexHull
-from ._library import COORDINATE_LIMIT, POINT_LIMIT, VERSION as __version__
+"""The convex hull of whole-number points in space, exact and proved: see `ConvexHull`.
 
-__all__ = ["COORDINATE_LIMIT", "POINT_LIMIT", "ConvexHull", "FloatHull", "Snapped", "__version__", "snap"]
+The library is loaded, and numpy with it, when a name that needs it is first asked for.
+"""
+from __future__ import annotations
+
+from importlib import import_module
+from typing import TYPE_CHECKING, Any
+
+from ._limits import COORDINATE_LIMIT, POINT_LIMIT
+
+if TYPE_CHECKING:
+    from ._floats import FloatHull, Snapped, snap
+    from ._hull import ConvexHull
+    from ._hulls import Hulls, hulls
+    from ._library import VERSION as __version__
+
+__all__ = ["COORDINATE_LIMIT", "POINT_LIMIT", "ConvexHull", "FloatHull", "Hulls", "Snapped", "__version__", "hulls", "snap"]
+
+# Where each name stands that needs the library, and what it is called there.
+_NEEDS_LIBRARY = {
+    "ConvexHull": ("._hull", "ConvexHull"),
+    "FloatHull": ("._floats", "FloatHull"),
+    "Hulls": ("._hulls", "Hulls"),
+    "Snapped": ("._floats", "Snapped"),
+    "hulls": ("._hulls", "hulls"),
+    "snap": ("._floats", "snap"),
+    "__version__": ("._library", "VERSION"),
+}
+
+
+def __getattr__(name: str) -> Any:
+    if name not in _NEEDS_LIBRARY:
+        raise AttributeError(f"module {__name__!r} has no attribute {name!r}")
+    module, there = _NEEDS_LIBRARY[name]
+    found = getattr(import_module(module, __name__), there)
+    globals()[name] = found
+    return found
+
+
+def __dir__() -> list[str]:
+    return sorted({*globals(), *__all__})

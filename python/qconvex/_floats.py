@@ -10,6 +10,7 @@ import numpy as np
 from numpy.typing import NDArray
 
 from ._hull import ConvexHull
+from ._triangles import equations_of
 
 BITS_LIMIT = 30
 """The greatest number of bits of the whole numbers: coordinates go to 2 to this power, either way."""
@@ -127,10 +128,7 @@ class FloatHull(ConvexHull):
     @cached_property
     def equations(self) -> NDArray[np.float64]:
         """[normal, offset] of each triangle in the units of the floats, rounded."""
-        normals = self.normals / self._doubled_areas[:, np.newaxis]
-        heights = (normals * self.coordinates[self.simplices[:, 0]]).sum(axis=1)
-        equations: NDArray[np.float64] = np.column_stack((normals, -heights))
-        return equations
+        return equations_of(self.normals, self._doubled_areas, self.coordinates[self.simplices[:, 0]])
 
     @cached_property
     def min_bound(self) -> NDArray[np.float64]:  # type: ignore[override]

@@ -7,9 +7,10 @@ from typing import TYPE_CHECKING, Any, Sequence, Union
 import numpy as np
 from numpy.typing import NDArray
 
-from ._library import COORDINATE_LIMIT, RANGE_REFUSAL, flat_hull
+from ._library import RANGE_REFUSAL, FlatHull, flat_hull
+from ._limits import COORDINATE_LIMIT
 from ._texts import obj_text, off_text
-from ._triangles import exact_sum_of_products, neighbors_of, normals_of
+from ._triangles import equations_of, exact_sum_of_products, fans_of, lengths_of, neighbors_of, normals_of
 
 if TYPE_CHECKING:
     from ._floats import FloatHull
@@ -34,13 +35,13 @@ def whole_points(points: WholePoints, copy: bool = False) -> NDArray[np.int32]:
         given = given.astype(np.int32)
     if given.dtype.kind not in "iu":
         raise TypeError(WHOLE_REFUSAL.format(given.dtype))
-    if len(given) and not np.can_cast(given.dtype, np.int32):  # what int32 holds the library judges
+    if given.dtype != np.int32 and len(given) and not np.can_cast(given.dtype, np.int32):  # what int32 holds the library judges
         if not -COORDINATE_LIMIT <= given.min() <= given.max() <= COORDINATE_LIMIT:
             raise ValueError(RANGE_REFUSAL)
-    whole: NDArray[np.int32] = np.require(given, dtype=np.int32, requirements=["C", "A"])
-    if copy:
-        whole = whole.copy() if np.shares_memory(whole, given) else whole
-        whole.setflags(write=False)
+    if not copy:
+        return np.require(given, dtype=np.int32, requirements=["C", "A"])
+    whole: NDArray[np.int32] = np.array(given, dtype=np.int32, order="C")
+    whole.setflags(write=False)
     return whole
 
 
@@ -91,8 +92,18 @@ class ConvexHull:
     """
 
     def __init__(self, points: WholePoints, *, copy: bool = True) -> None:
-        self.points: NDArray[np.int32] = whole_points(points, copy)
-        hull = flat_hull(self.points)
+        whole = whole_points(points, copy)
+        self._take(whole, flat_hull(whole))
+
+    @classmethod
+    def _of(cls, points: NDArray[np.int32], hull: FlatHull) -> ConvexHull:
+        """The hull of points that was made already."""
+        made = cls.__new__(cls)
+        made._take(points, hull)
+        return made
+
+    def _take(self, points: NDArray[np.int32], hull: FlatHull) -> None:
+        self.points: NDArray[np.int32] = points
         self.dimension: int = hull.dimension
         self.distinct: int = hull.distinct
         self.nedges: int = hull.edges
@@ -154,12 +165,7 @@ class ConvexHull:
 
         All are counterclockwise seen from outside. Below dimension 2 there are none.
         """
-        counts = np.maximum(np.diff(self.offsets) - 2, 0)
-        first = np.repeat(self.offsets[:-1], counts)
-        steps = np.arange(len(first)) - np.repeat(np.cumsum(counts) - counts, counts)
-        second = first + steps + 1
-        triangles: NDArray[np.int32] = self.corners[np.column_stack((first, second, second + 1))]
-        return triangles
+        return fans_of(self.corners, self.offsets)
 
     @cached_property
     def normals(self) -> NDArray[np.int64]:
@@ -172,10 +178,7 @@ class ConvexHull:
 
         The normals have length 1 and point outside: normal . x + offset <= 0 for the points of the hull.
         """
-        normals = self.normals / self._doubled_areas[:, np.newaxis]
-        heights = (normals * self.points[self.simplices[:, 0]]).sum(axis=1)
-        equations: NDArray[np.float64] = np.column_stack((normals, -heights))
-        return equations
+        return equations_of(self.normals, self._doubled_areas, self._first_corners)
 
     @cached_property
     def neighbors(self) -> NDArray[np.int32]:
@@ -183,14 +186,14 @@ class ConvexHull:
 
         It is -1 where there is none, as at the rim of a set in a plane.
         """
-        return neighbors_of(self.simplices, len(self.points))
+        return neighbors_of(self.simplices, len(self.points), closed=self.dimension == 3)
 
     @cached_property
     def six_volumes(self) -> int:
         """Six times the volume, exact; 0 below dimension 3."""
         if self.dimension < 3:
             return 0
-        arms = self.points[self.simplices[:, 0]].astype(np.int64) - self.points[self.vertices[0]].astype(np.int64)
+        arms = self._first_corners.astype(np.int64) - self.points[self.vertices[0]]
         return exact_sum_of_products(self.normals, arms)
 
     @cached_property
@@ -204,11 +207,14 @@ class ConvexHull:
         return float(self._doubled_areas.sum()) / 2
 
     @cached_property
+    def _first_corners(self) -> NDArray[np.int32]:
+        """A point of each triangle."""
+        return self.points.take(self.simplices[:, 0], 0)
+
+    @cached_property
     def _doubled_areas(self) -> NDArray[np.float64]:
         """Twice the area of each triangle, rounded."""
-        normals = self.normals.astype(np.float64)
-        areas: NDArray[np.float64] = np.sqrt((normals * normals).sum(axis=1))
-        return areas
+        return lengths_of(self.normals)
 
     @property
     def nsimplex(self) -> int:

@@ -9,11 +9,7 @@ from typing import NamedTuple
 import numpy as np
 from numpy.typing import NDArray
 
-COORDINATE_LIMIT = 1 << 30
-"""The greatest size of a coordinate, either way."""
-
-POINT_LIMIT = 1 << 20
-"""The greatest number of points."""
+from ._limits import COORDINATE_LIMIT, POINT_LIMIT
 
 _DONE, _NO_POINT, _TOO_MANY, _RANGE, _MEMORY, _ROOM = range(6)
 _REFUSALS = {
@@ -65,11 +61,11 @@ def _load() -> ctypes.CDLL:
     return library
 
 
-_LIBRARY = _load()
+LIBRARY = _load()
 
 
 def _version() -> str:
-    number = int(_LIBRARY.qconvex_version())
+    number = int(LIBRARY.qconvex_version())
     return f"{number // 10000}.{number // 100 % 100}.{number % 100}"
 
 
@@ -105,10 +101,15 @@ def _call(points: NDArray[np.int32], sizes: _Sizes, room: tuple[int, int, int]) 
     buffers = _Buffers(*room)
     extremes, offsets, corners = buffers.addresses()
     source = points if len(points) else np.zeros((1, 3), np.int32)  # a pointer that is not null, also for no points
-    code = _LIBRARY.qconvex_hull(
+    code = LIBRARY.qconvex_hull(
         source.ctypes.data, len(points), ctypes.byref(sizes), extremes, room[0], offsets, room[1], corners, room[2]
     )
     return code, buffers
+
+
+def error_of(code: int) -> Exception:
+    """What an answer other than that all is done, or that there is too little room, means."""
+    return MemoryError("memory was refused") if code == _MEMORY else ValueError(_REFUSALS[code])
 
 
 def flat_hull(points: NDArray[np.int32]) -> FlatHull:
@@ -121,9 +122,7 @@ def flat_hull(points: NDArray[np.int32]) -> FlatHull:
     code, buffers = _call(points, sizes, (max(count, 1), 2 * min(count, POINT_LIMIT) + 2, 6 * min(count, POINT_LIMIT) + 4))
     if code == _ROOM:
         code, buffers = _call(points, sizes, (sizes.extremes, sizes.faces + 1, sizes.corners))
-    if code == _MEMORY:
-        raise MemoryError("memory was refused")
     if code != _DONE:
-        raise ValueError(_REFUSALS[code])
+        raise error_of(code)
     lists = buffers.lists(sizes.extremes, sizes.faces + 1, sizes.corners)
     return FlatHull(sizes.dimension, sizes.distinct, sizes.edges, *lists)

@@ -11,7 +11,8 @@ from typing import NamedTuple
 import numpy as np
 
 from ._hull import whole_points
-from ._library import POINT_LIMIT, flat_hull
+from ._library import flat_hull
+from ._limits import POINT_LIMIT
 
 
 class TooManyExtremes(ValueError):

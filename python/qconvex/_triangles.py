@@ -1,10 +1,32 @@
 """What numpy finds of the triangles of a surface."""
 from __future__ import annotations
 
+from operator import mul
 from typing import Any
 
 import numpy as np
 from numpy.typing import NDArray
+
+# The places behind and before each of three places that go round.
+_NEXT, _LAST = np.array([1, 2, 0]), np.array([2, 0, 1])
+# Of so few products Python's own sum is faster than several of numpy's.
+_FEW = 3000
+
+
+def fans_of(corners: NDArray[np.int32], offsets: NDArray[np.intp]) -> NDArray[np.int32]:
+    """The fans of faces in flat lists: each face's first corner with each two neighbours behind it."""
+    faces = len(offsets) - 1
+    if len(corners) == 3 * faces and (faces > 1 or len(corners) == 3):  # each face of a solid has three corners at least
+        return corners.reshape(-1, 3)
+    inner = np.ones(len(corners), np.bool_)
+    inner[offsets[:-1]] = False
+    inner[offsets[1:] - 1] = False
+    second = inner.nonzero()[0]
+    triangles = np.empty((len(second), 3), np.int32)
+    triangles[:, 0] = corners[offsets[:-1].repeat(np.maximum(offsets[1:] - offsets[:-1] - 2, 0))]
+    triangles[:, 1] = corners[second]
+    triangles[:, 2] = corners[second + 1]
+    return triangles
 
 
 def normals_of(points: NDArray[np.int32], triangles: NDArray[np.int32]) -> NDArray[np.int64]:
@@ -13,24 +35,44 @@ def normals_of(points: NDArray[np.int32], triangles: NDArray[np.int32]) -> NDArr
     A difference of coordinates is at most 2^31 in size, a product of two 2^62. A component is twice the area of a
     triangle in a square of side 2^31, so it is at most 2^62 in size, too, and 64 bits hold it.
     """
-    places = points.astype(np.int64)
-    first = places[triangles[:, 0]]
-    (ux, uy, uz), (vx, vy, vz) = ((places[triangles[:, corner]] - first).T for corner in (1, 2))
-    normals: NDArray[np.int64] = np.column_stack((uy * vz - uz * vy, uz * vx - ux * vz, ux * vy - uy * vx))
+    first, second, third = points.astype(np.int64)[triangles.T]
+    u, v = second - first, third - first
+    normals: NDArray[np.int64] = u.take(_NEXT, 1) * v.take(_LAST, 1) - u.take(_LAST, 1) * v.take(_NEXT, 1)
     return normals
 
 
-def neighbors_of(triangles: NDArray[np.int32], count: int) -> NDArray[np.int32]:
+def lengths_of(vectors: NDArray[np.int64]) -> NDArray[np.float64]:
+    """The length of each vector, rounded."""
+    decimal = vectors.astype(np.float64)
+    lengths: NDArray[np.float64] = np.sqrt(np.einsum("ij,ij->i", decimal, decimal))
+    return lengths
+
+
+def equations_of(normals: NDArray[np.int64], lengths: NDArray[np.float64], places: NDArray[Any]) -> NDArray[np.float64]:
+    """The unit normal and the offset of each plane, by a normal, its length and a place of the plane, rounded."""
+    equations = np.empty((len(normals), 4))
+    units = equations[:, :3]
+    np.divide(normals, lengths[:, np.newaxis], out=units)
+    np.negative(np.einsum("ij,ij->i", units, places), out=equations[:, 3])
+    return equations
+
+
+def neighbors_of(triangles: NDArray[np.int32], count: int, *, closed: bool) -> NDArray[np.int32]:
     """Of each triangle the one over the side opposite to each corner, or -1; the corners are below a count.
 
-    No side is in more than two triangles. So the sides, sorted by their two ends, stand in pairs or alone.
+    No side is in more than two triangles, and in a closed surface each is in two. So the sides, sorted by their two ends,
+    stand in pairs, or alone.
     """
-    starts, ends = (triangles[:, order].ravel().astype(np.int64) for order in ([1, 2, 0], [2, 0, 1]))
+    wide = triangles.astype(np.int64)
+    starts, ends = wide.take(_NEXT, 1).ravel(), wide.take(_LAST, 1).ravel()
     keys = np.minimum(starts, ends) * count + np.maximum(starts, ends)
-    order = np.argsort(keys)
-    rising = keys[order]
-    paired = rising[1:] == rising[:-1]
-    one, other = order[:-1][paired], order[1:][paired]
+    order = keys.argsort()
+    if closed:
+        one, other = order[0::2], order[1::2]
+    else:
+        rising = keys[order]
+        paired = rising[1:] == rising[:-1]
+        one, other = order[:-1][paired], order[1:][paired]
     neighbors = np.full(len(keys), -1, np.int32)
     neighbors[one], neighbors[other] = other // 3, one // 3
     return neighbors.reshape(-1, 3)
@@ -42,6 +84,8 @@ def exact_sum_of_products(left: NDArray[Any], right: NDArray[Any]) -> int:
     Both are cut into pieces of 21 and of 16 bits. A product of two pieces is at most 2^37, so sums of them have 64 bits.
     """
     left, right = left.ravel(), right.ravel()
+    if len(left) <= _FEW:
+        return sum(map(mul, left.tolist(), right.tolist()))
     lefts = (left & 0x1FFFFF, (left >> 21) & 0x1FFFFF, left >> 42)
     rights = (right & 0xFFFF, right >> 16)
     return sum(

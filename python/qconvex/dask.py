@@ -18,7 +18,7 @@ import numpy as np
 
 from ._files import header_of, read_block
 from ._hull import WHOLE_REFUSAL, ConvexHull
-from ._library import POINT_LIMIT
+from ._limits import POINT_LIMIT
 from ._parts import Part, TooManyExtremes, joined, part_of_block
 
 __all__ = ["Extremes", "IndexedHull", "TooManyExtremes", "extremes", "hull", "read"]

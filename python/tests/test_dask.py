@@ -166,9 +166,9 @@ def test_hullmany_by_the_workers_of_a_scheduler(client, tmp_path):
     top = pathlib.Path(__file__).parents[2]
     program = top / "crates" / "qconvex" / "out" / "qconvex"
     if not program.exists():
-        pytest.skip("the program is not built: hullmany.py was not tried")
+        pytest.skip("the program is not built: hullmany was not tried")
     path = point_file(tmp_path / "points.txt", np.random.default_rng(1).integers(-999, 999, (3000, 3)))
-    script = [sys.executable, str(top / "scripts" / "hullmany.py")]
+    script = [sys.executable, str(top / "python" / "bin" / "hullmany")]
     engine = ["--engine", client.scheduler.address.replace("tcp", "dask"), "--file", str(path)]
     with open(path, "rb") as source:
         here = subprocess.run([*script, "--quiet", "Fx", "off"], stdin=source, capture_output=True, check=True)

@@ -110,7 +110,7 @@ def test_room_is_asked_for_again_where_it_is_too_little(monkeypatch):
 
 def test_triangles_and_normals_are_those_of_the_library():
     random = np.random.default_rng(11)
-    fans = _library._LIBRARY.qconvex_fans
+    fans = _library.LIBRARY.qconvex_fans
     fans.argtypes = [ctypes.c_void_p, ctypes.c_size_t, ctypes.c_void_p] + 2 * [ctypes.c_void_p, ctypes.c_size_t]
     for reach, flatten in ((3, (1, 1, 1)), (COORDINATE_LIMIT, (1, 1, 1)), (9, (1, 1, 0)), (9, (1, 0, 0))):
         points = (random.integers(-reach, reach + 1, (100, 3)) * flatten).astype(np.int32)
@@ -134,5 +134,5 @@ def test_agrees_with_scipy():
 
 
 def test_exported_names():
-    names = ["COORDINATE_LIMIT", "ConvexHull", "FloatHull", "POINT_LIMIT", "Snapped", "__version__", "snap"]
+    names = ["COORDINATE_LIMIT", "ConvexHull", "FloatHull", "Hulls", "POINT_LIMIT", "Snapped", "__version__", "hulls", "snap"]
     assert sorted(qconvex.__all__) == names

@@ -37,5 +37,5 @@ Exit status:
   3  memory was refused: 8 Memory
   4  a device failed: 9 Device, 11 Send
 
-docs/FAULTS.md explains each fault; scripts/explain.py FILE shows where it is.
+docs/FAULTS.md explains each fault; hullexplain FILE shows where it is.
 ";

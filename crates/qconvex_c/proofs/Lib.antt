@@ -1,3 +1,6 @@
 pub mod Filled
 pub mod FaultCodes
 pub mod FanLists
+pub mod SetParts
+pub mod SetHulls
+pub mod StartsTest

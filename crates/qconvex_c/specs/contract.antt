@@ -3,3 +3,4 @@ pub mod Flat
 pub mod Answered
 pub mod Triangles
 pub mod Codes
+pub mod Sets

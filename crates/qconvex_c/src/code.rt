@@ -17,3 +17,6 @@ pub const MEMORY: u32 = 4;
 
 /// A buffer is too short.
 pub const ROOM: u32 = 5;
+
+/// Of many sets the starts do not rise, or are beyond the points; or there is not one.
+pub const STARTS: u32 = 6;

@@ -2,8 +2,8 @@
 //! as triangles with their normals.
 //!
 //! `given` takes the points, `judging` refuses those that have no hull here, `flat_hull` and `fans` lay a
-//! hull out in flat lists, and `buffers`, `written` and `fan_lists` fill the caller's buffers. Nothing
-//! here starts a thread or keeps anything between calls.
+//! hull out in flat lists, and `buffers`, `written` and `fan_lists` fill the caller's buffers. `sets` and
+//! `set_hulls` do so for many sets in one call. Nothing here starts a thread or keeps anything between calls.
 #![tactic(auto)]
 
 mod buffers;
@@ -15,14 +15,22 @@ mod fault;
 mod flat_hull;
 mod given;
 mod judging;
+mod many;
+mod set_answer;
+mod set_hulls;
+#[cfg(test)]
+mod set_tests;
+mod sets;
 mod sizes;
 #[cfg(test)]
 mod tests;
 mod version;
 mod written;
 
-pub use code::{DONE, MEMORY, NO_POINT, RANGE, ROOM, TOO_MANY};
+pub use code::{DONE, MEMORY, NO_POINT, RANGE, ROOM, STARTS, TOO_MANY};
 pub use exported::{qconvex_fans, qconvex_hull};
 pub use given::Given;
+pub use many::qconvex_hulls;
+pub use set_answer::SetAnswer;
 pub use sizes::Sizes;
 pub use version::{VERSION, qconvex_version};

@@ -24,3 +24,7 @@ QCONVEX_MEMORY = 4
 -- a buffer is too short
 abbrev pub QCONVEX_ROOM : ℕ
 QCONVEX_ROOM = 5
+
+-- of many sets the starts do not rise, or are beyond the points; or there is not one
+abbrev pub QCONVEX_STARTS : ℕ
+QCONVEX_STARTS = 6

@@ -1,14 +1,18 @@
-#!/usr/bin/env python3
 """Reads the faces of a hull and gives the exact normals, offsets, neighbours and incidences, and six times the volume.
 
-    scripts/facets.py [--json] [FILE]          FILE is the OFF text of `off`; standard input where none is named
+    hullfacets [FILE]                      FILE is the OFF text of `off`; standard input where none is named
+    hullfacets --form json [FILE]          the same as one JSON object
+    hullfacets --form normaliz [FILE]      the inequalities, and the equations of a flat set, as an input file of Normaliz,
+    hullfacets --form polymake [FILE]      as a line for polymake that makes the polytope $p of vertices and facets,
+    hullfacets --form lrs [FILE]           or as an H-representation for lrs
 
 All numbers are whole. The points of the hull are the points p with `normal . p <= offset` for every facet; normal and
 offset have no common divisor. The neighbours of a facet stand in the order of its sides: the first lies beyond the
 side from its first corner to its second. Of each corner the facets are listed in their order round it, counterclockwise
-from outside. A flat hull has one facet without neighbours, and the volume 0; a line or a point has none.
+from outside. A flat hull has one facet without neighbours, and the volume 0; a line or a point has none. The forms for
+other programs describe those, too: by the equations of their plane, line or place, and what bounds them in it.
 
-    crates/qconvex/out/qconvex off < examples/unit-cube.txt | scripts/facets.py
+    qconvex off < examples/unit-cube.txt | hullfacets
 """
 import argparse
 import json
@@ -16,8 +20,9 @@ import signal
 import sys
 from math import gcd
 
-from off_files import read_off_file
-from vectors import cross, dot, minus, polygon_normal
+from .halfspaces import FORMS
+from .off_files import read_off_file
+from .vectors import cross, dot, minus, polygon_normal
 
 
 def plane(points, face):
@@ -96,21 +101,30 @@ def lines_of(hull):
         yield f"corner {place}: point {joined(corner['point'])}, facets {joined(corner['facets'])}"
 
 
+def in_form(hull, form):
+    """The lines of a form."""
+    if form in FORMS:
+        return FORMS[form](hull.points, hull.faces)
+    told = described(hull)
+    return [json.dumps(told)] if form == "json" else lines_of(told)
+
+
 def main():
-    parser = argparse.ArgumentParser(description=__doc__, formatter_class=argparse.RawDescriptionHelpFormatter)
-    parser.add_argument("--json", action="store_true", help="write one JSON object")
+    """Writes what is asked on standard output; a file that is no hull ends the process with a line that says why."""
+    parser = argparse.ArgumentParser(prog="hullfacets", description=__doc__, formatter_class=argparse.RawDescriptionHelpFormatter)
+    parser.add_argument("--form", choices=["text", "json", *FORMS], default="text", help="the form of the answer (default text)")
+    parser.add_argument("--json", action="store_const", dest="form", const="json", help="the same as --form json")
     parser.add_argument("file", nargs="?", default="-", metavar="FILE", help="the text of `off` (default: standard input)")
     options = parser.parse_args()
     signal.signal(signal.SIGPIPE, signal.SIG_DFL)
+    hull = read_off_file(options.file)
+    if not hull.faces or any(part != int(part) for point in hull.points for part in point):
+        sys.exit("hullfacets: a hull has faces, and whole coordinates")
     try:
-        hull = described(read_off_file(options.file))
+        lines = list(in_form(hull, options.form))
     except KeyError:
-        sys.exit("the faces are no closed surface; scripts/check_hull.py says what is wrong")
-    if options.json:
-        json.dump(hull, sys.stdout)
-        print()
-    else:
-        sys.stdout.writelines(f"{line}\n" for line in lines_of(hull))
+        sys.exit("hullfacets: the faces are no closed surface; scripts/check_hull.py says what is wrong")
+    sys.stdout.writelines(f"{line}\n" for line in lines)
 
 
 if __name__ == "__main__":

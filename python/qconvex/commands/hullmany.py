@@ -1,7 +1,6 @@
-#!/usr/bin/env python3
 """Makes the exact hull of more points than the program takes at once, in parts, here or on other machines.
 
-    scripts/hullmany.py [--part N] [--jobs N] [--run COMMAND]... [--engine dask://ADDRESS] [--file FILE]... [OUT]... < points.txt
+    hullmany [--part N] [--jobs N] [--run COMMAND]... [--engine dask://ADDRESS] [--file FILE]... [OUT]... < points.txt
 
 The input is a point file whose count may be any number. It is cut at line ends into parts of N points; of each part the
 extreme points are taken, then of what is left, put together anew, and so on until it fits one part; of that the answer is
@@ -11,11 +10,12 @@ extreme points as ever. Of equal points the lowest index stands for all. Points 
 by word, which is slower.
 
 Each part is given to a shell command on its standard input, `COMMAND Fx off`, whose standard output is read. By itself that
-is the built program here; other machines, or a job runner, are named by --run, once each. Every command works at --jobs
-parts at a time, and takes the next part as soon as it is free. A part that a command fails at is tried again, by another
+is the program that was built where this command stands in its repository, else `qconvex-exact` or `qconvex` as installed;
+other machines, or a job runner, are named by --run, once each. Every command works at --jobs parts at a time, and takes
+the next part as soon as it is free. A part that a command fails at is tried again, by another
 command if there is one:
 
-    scripts/hullmany.py --run 'ssh one qconvex' --run 'ssh two qconvex' --jobs 4 off < points.txt
+    hullmany --run 'ssh one qconvex' --run 'ssh two qconvex' --jobs 4 off < points.txt
 
 With --engine the parts are taken by the workers of a Dask scheduler, which open the files of --file by the same names;
 docs/MANY-POINTS.md says what they need. The last step, of the points that are left, is done here.
@@ -26,19 +26,20 @@ is given to the program at once; if that is more than it takes, there is no answ
 status is 0, or 1 with a line that says what was wrong.
 """
 import argparse
-import os
 import shlex
+import shutil
 import sys
 import time
 from collections import deque
 from concurrent.futures import ThreadPoolExecutor
+from pathlib import Path
 
-from limits import POINT_LIMIT, PROGRAM, TOP
-from part_lines import LineParts, Refused, header_of, part_of_points, word_parts
-from part_runs import Irregular, Runs
+from .._limits import POINT_LIMIT
+from .part_lines import LineParts, Refused, header_of, part_of_points, word_parts
+from .part_runs import Irregular, Runs
 
 OUTPUTS = ["Fx", "off"]
-HERE = f"{shlex.quote(PROGRAM)} --workers 1"
+BUILT = Path(__file__).resolve().parents[3] / "crates" / "qconvex" / "out" / "qconvex"
 # With no --part, the first round has about so many parts for each that is worked at at a time, of so many points at least.
 PARTS_EACH, LEAST_PART = 6, 1 << 16
 
@@ -139,9 +140,8 @@ def fewer(points, options, runs):
 
 def by_dask(options):
     """The extreme points of files, by the workers of a Dask scheduler."""
-    sys.path.insert(0, os.path.join(TOP, "python"))
     try:
-        from qconvex.dask import extremes
+        from ..dask import extremes
 
         found = extremes(options.file, options.engine.replace("dask://", "tcp://", 1), options.retries)
     except (ImportError, OSError, TypeError, ValueError) as why:
@@ -158,8 +158,17 @@ def answer(points, runs, outputs):
     return b"".join(texts[output] for output in outputs)
 
 
+def own_command():
+    """The program with one worker: that of this repository where it was built, else one that is installed."""
+    installed = shutil.which("qconvex-exact") or shutil.which("qconvex")
+    program = str(BUILT) if BUILT.exists() else installed
+    if not program:
+        raise Refused("the program is not installed: name one by --run")
+    return f"{shlex.quote(program)} --workers 1"
+
+
 def arguments():
-    parser = argparse.ArgumentParser(description=__doc__, formatter_class=argparse.RawDescriptionHelpFormatter)
+    parser = argparse.ArgumentParser(prog="hullmany", description=__doc__, formatter_class=argparse.RawDescriptionHelpFormatter)
     parser.add_argument("--part", type=int, help=f"points of a part (default: {POINT_LIMIT}, or fewer in the first round)")
     parser.add_argument("--jobs", type=int, default=2, help="how many parts a command works at at a time (default 2)")
     parser.add_argument("--run", action="append", metavar="COMMAND", help="a shell command that runs the program somewhere")
@@ -182,8 +191,8 @@ def arguments():
 
 def main():
     options = arguments()
-    runs = Runs(options.run or [HERE], options.jobs, options.retries)
     try:
+        runs = Runs(options.run or [own_command()], options.jobs, options.retries)
         if options.engine:
             points = by_dask(options)
         else:
@@ -193,7 +202,7 @@ def main():
             raise Refused("there are no points")
         sys.stdout.buffer.write(answer(points, runs, options.outputs))
     except (Refused, OSError) as why:
-        sys.exit(f"hullmany.py: {why}")
+        sys.exit(f"hullmany: {why}")
 
 
 if __name__ == "__main__":

@@ -1,14 +1,13 @@
-#!/usr/bin/env python3
 """Explains why a point file is refused: the line, the column and the word, what was counted, and how to mend it.
 
-    scripts/explain.py FILE            FILE may be - for standard input
-    scripts/explain.py --comments FILE     shows every comment, not only the first ten
+    hullexplain FILE                   FILE may be - for standard input
+    hullexplain --comments FILE        shows every comment, not only the first ten
 
 It reads the file as the program does, and says besides which words were taken as comments: a word that begins with no
 digit, sign or point begins a comment that goes to the end of its line. The status is 1 if the file is refused.
 docs/FAULTS.md has each fault with a file that has it.
 
-    scripts/explain.py examples/faults/missing-number.txt
+    hullexplain examples/faults/missing-number.txt
 """
 import argparse
 import re
@@ -16,9 +15,9 @@ import signal
 import sys
 from collections import Counter
 
-from contents import bytes_of
-from limits import BYTE_LIMIT, COORDINATE_LIMIT, POINT_LIMIT
-from point_files import message, read, value_of
+from .._limits import BYTE_LIMIT, COORDINATE_LIMIT, POINT_LIMIT
+from .contents import bytes_of
+from .point_files import message, read, value_of
 
 BYTE_ORDER_MARK = b"\xef\xbb\xbf"
 # Of how many comments the text is shown, and how much of each.
@@ -111,7 +110,7 @@ def number_advice(word):
     if b"," in text or b";" in text:
         return "Numbers are parted by blanks: put a blank in place of each comma, as by tr ',;' '  '."
     if any(sign in text for sign in (b".", b"e", b"E")) and text[:2].lower() != b"0x":
-        return "Coordinates are whole: scale them up and round them (of a mesh, scripts/points_of_mesh.py does it)."
+        return "Coordinates are whole: scale them up and round them (of a mesh, meshpoints does it)."
     if text in (b"+", b"-") or text[:1] in (b"+", b"-"):
         return "A sign stands before a number, without a blank, and once."
     return "If it is meant as a comment, put # before it: a word that begins with a digit is never a comment."
@@ -125,7 +124,7 @@ def header_advice(reading):
     if reading.fault.name == "Count":
         count = second if first == 3 else first
         return [f"The count is {count}; it is to be 1 to {POINT_LIMIT}."] + (
-            ["scripts/hullmany.py takes the hull of more points, exactly."] if count > POINT_LIMIT else []
+            ["hullmany takes the hull of more points, exactly."] if count > POINT_LIMIT else []
         )
     return [
         f"One of the first two numbers is to be 3, the dimension; they are {first} and {second}.",
@@ -165,7 +164,7 @@ def advice(data, reading):
     """How to mend the file."""
     name = reading.fault.name
     if name == "Big":
-        return [f"The file has {len(data)} bytes; at most {BYTE_LIMIT} are read. scripts/hullmany.py takes larger ones."]
+        return [f"The file has {len(data)} bytes; at most {BYTE_LIMIT} are read. hullmany takes larger ones."]
     if name in ("NoHeader", "NotThree", "Count"):
         return file_advice(data, reading) or header_advice(reading)
     about_word = word_advice(reading) if reading.fault.word else []
@@ -189,7 +188,7 @@ def whole(reading, everything):
 
 
 def main():
-    parser = argparse.ArgumentParser(description=__doc__, formatter_class=argparse.RawDescriptionHelpFormatter)
+    parser = argparse.ArgumentParser(prog="hullexplain", description=__doc__, formatter_class=argparse.RawDescriptionHelpFormatter)
     parser.add_argument("--comments", action="store_true", help="show every comment")
     parser.add_argument("file", metavar="FILE", help="a point file, or - for standard input")
     options = parser.parse_args()

@@ -6,7 +6,7 @@ import sys
 import tempfile
 import threading
 
-from part_lines import Refused
+from .part_lines import Refused
 
 # What the program says on standard error where it refuses the points: a number, a name, and mostly a line.
 REFUSAL = re.compile(r"qconvex: (\d+): (\w+)(?: at line (\d+))?\s*$")

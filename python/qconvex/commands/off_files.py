@@ -3,7 +3,7 @@ import sys
 from collections import namedtuple
 from fractions import Fraction
 
-import contents
+from . import contents
 
 # The points that faces name by their places, each with three exact numbers, and the faces as lists of places.
 Faces = namedtuple("Faces", "points faces")

@@ -1,22 +1,19 @@
-#!/usr/bin/env python3
-"""Tests of hullmany.py: any parts, jobs and failing commands give the answer of one run of the built program.
-
-    scripts/test_hullmany.py
-"""
+"""hullmany: any parts, jobs and failing commands give the answer of one run of the built program."""
 import os
 import random
 import subprocess
 import sys
 import tempfile
 import unittest
+from pathlib import Path
 
-from limits import PROGRAM, TOP
-
-SCRIPT = os.path.join(TOP, "scripts", "hullmany.py")
+TOP = Path(__file__).resolve().parents[2]
+PROGRAM = str(TOP / "crates" / "qconvex" / "out" / "qconvex")
+COMMAND = [sys.executable, str(TOP / "python" / "bin" / "hullmany"), "--quiet"]
 
 
 def hullmany(data, *words):
-    return subprocess.run([sys.executable, SCRIPT, "--quiet", *map(str, words)], input=data, capture_output=True)
+    return subprocess.run([*COMMAND, *map(str, words)], input=data, capture_output=True)
 
 
 def whole(data, *outputs):
@@ -120,7 +117,3 @@ class Tests(unittest.TestCase):
         points = [[x, y, x * x + y * y] for x in range(-525, 525) for y in range(-525, 525)]
         got = hullmany(regular(points).encode(), "--jobs", 4)
         self.assertIn(b"1102500 points are extreme in their parts; the program takes 1048576 at once", got.stderr)
-
-
-if __name__ == "__main__":
-    unittest.main()

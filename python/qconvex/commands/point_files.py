@@ -3,8 +3,8 @@ import re
 import sys
 from collections import namedtuple
 
-from contents import bytes_of
-from limits import BYTE_LIMIT, COORDINATE_LIMIT, POINT_LIMIT
+from .._limits import BYTE_LIMIT, COORDINATE_LIMIT, POINT_LIMIT
+from .contents import bytes_of
 
 # A word, the line and the column where it begins, both from 1, counted in bytes.
 Word = namedtuple("Word", "text line column")
@@ -127,7 +127,7 @@ def points_of_file(path):
         return points
     reading = read(data)
     if reading.fault:
-        sys.exit(f"{path}: {message(reading.fault)}; scripts/explain.py {path} shows where")
+        sys.exit(f"{path}: {message(reading.fault)}; hullexplain {path} shows where")
     return triples(reading.numbers)
 
 

@@ -1,0 +1,68 @@
+//! The call for many sets that C makes.
+ghost use Rattle.std.specs.Prelude.{◌≡◌, ◌≢◌, ◌≤◌, ◌<◌, ◌↔◌, ◌⊎◌, ◌+◌, ◌*◌, length, drop, slice_index};
+ghost use Rattle.qconvex_c.specs.contract.Sets.{AreStarts, HaveRoom, AreSetHulls, AreKeptBetween, sets_in, end_of};
+ghost use Rattle.qconvex_c.specs.contract.Codes.{QCONVEX_DONE, QCONVEX_ROOM, QCONVEX_STARTS};
+
+use crate::code::{DONE, ROOM, STARTS};
+use crate::given::Given;
+use crate::set_answer::SetAnswer;
+use crate::set_hulls::write_hulls;
+use crate::sets::{Rooms, are_starts, have_room};
+use std::alloc::Global;
+
+/// The hulls of many sets of points, in buffers of the caller.
+///
+/// Set j has the points from `starts[j]` to before `starts[j + 1]`, so there are as many sets as starts, less one. It
+/// answers `DONE` where `answers` begins with the answer of each set, which is that of [`qconvex_hull`](crate::qconvex_hull)
+/// for it alone, with ids that count from the set's first point. Its hull stands in its part of each buffer: the part of
+/// set j begins at `starts[j]` in `extremes`, at `2 * starts[j] + 2 * j` in `offsets`, and at `6 * starts[j] + 4 * j` in
+/// `corners`. A set that is refused leaves its parts as they were, and the other sets are answered.
+///
+/// Else all stays as it was: it answers `STARTS` where starts do not rise, one is beyond the points, or there is none, and
+/// `ROOM` where there is no room for all answers and parts.
+#[unsafe(no_mangle)]
+pub extern "C" fn qconvex_hulls(
+    alloc: Global,
+    points: &[Given],
+    starts: &[usize],
+    answers: &mut [SetAnswer],
+    extremes: &mut [u32],
+    offsets: &mut [usize],
+    corners: &mut [u32],
+) -> u32
+    ensures done { result ≡ QCONVEX_DONE
+        → AreSetHulls points.now starts.now answers.new extremes.old extremes.new offsets.old offsets.new corners.old corners.new }
+    ensures starts { (result ≡ QCONVEX_STARTS) ↔ ¬ (AreStarts (length points.now) starts.now) }
+    ensures room { result ≡ QCONVEX_ROOM
+        → ¬ (HaveRoom starts.now (length answers.old) (length extremes.old) (length offsets.old) (length corners.old)) }
+    ensures codes { (result ≡ QCONVEX_DONE) ⊎ (result ≡ QCONVEX_STARTS) ⊎ (result ≡ QCONVEX_ROOM) }
+
+    // What stands before and behind the parts of all sets, and what a refusal leaves alone.
+    ensures answers_rest { result ≡ QCONVEX_DONE
+        → drop (sets_in starts.now) answers.new ≡ drop (sets_in starts.now) answers.old }
+    ensures extremes_rest { result ≡ QCONVEX_DONE
+        → AreKeptBetween (slice_index starts.now 0) (end_of starts.now) extremes.old extremes.new }
+    ensures offsets_rest { result ≡ QCONVEX_DONE
+        → AreKeptBetween (2 * slice_index starts.now 0) (2 * end_of starts.now + 2 * sets_in starts.now) offsets.old offsets.new }
+    ensures corners_rest { result ≡ QCONVEX_DONE
+        → AreKeptBetween (6 * slice_index starts.now 0) (6 * end_of starts.now + 4 * sets_in starts.now) corners.old corners.new }
+    ensures answers_kept { result ≢ QCONVEX_DONE → answers.new ≡ answers.old }
+    ensures extremes_kept { result ≢ QCONVEX_DONE → extremes.new ≡ extremes.old }
+    ensures offsets_kept { result ≢ QCONVEX_DONE → offsets.new ≡ offsets.old }
+    ensures corners_kept { result ≢ QCONVEX_DONE → corners.new ≡ corners.old }
+{
+    if !are_starts(starts, points.len()) {
+        return STARTS;
+    }
+    let rooms = Rooms {
+        answers: answers.len(),
+        extremes: extremes.len(),
+        offsets: offsets.len(),
+        corners: corners.len(),
+    };
+    if !have_room(starts, rooms) {
+        return ROOM;
+    }
+    write_hulls(alloc, points, starts, answers, extremes, offsets, corners);
+    DONE
+}

@@ -1,0 +1,173 @@
+"""The hulls of many sets of points, by one call of the library."""
+from __future__ import annotations
+
+import ctypes
+from collections.abc import Iterator, Sequence
+from typing import Any, NamedTuple, overload
+
+import numpy as np
+from numpy.typing import ArrayLike, NDArray
+
+from ._hull import ConvexHull, WholePoints, whole_points
+from ._library import LIBRARY, FlatHull, error_of
+
+_DONE, _STARTS, _ROOM = 0, 6, 5
+
+# What a set is told: qconvex_answer of the header.
+_ANSWER = np.dtype(
+    {
+        "names": ["code", "points", "distinct", "dimension", "extremes", "faces", "corners", "edges"],
+        "formats": ["u4", "u4", "u4", "u4", "u8", "u8", "u8", "u8"],
+        "offsets": [0, 8, 12, 16, 24, 32, 40, 48],
+        "itemsize": 56,
+    }
+)
+
+
+def _load() -> None:
+    buffer = [ctypes.c_void_p, ctypes.c_size_t]
+    LIBRARY.qconvex_hulls.restype = ctypes.c_uint32
+    LIBRARY.qconvex_hulls.argtypes = buffer * 6
+
+
+_load()
+
+
+class _Buffers(NamedTuple):
+    """The parts of all sets, one after the other."""
+
+    answers: NDArray[Any]
+    extremes: NDArray[np.int32]
+    offsets: NDArray[np.intp]
+    corners: NDArray[np.int32]
+
+
+class Hulls(Sequence[ConvexHull]):
+    """The hulls of many sets: ``hulls[j]`` is that of set j, or an error where it was refused.
+
+    The arrays tell of all sets at once; of a refused set they are 0.
+
+    Attributes
+    ----------
+    codes : ndarray of uint32
+        0 for each set that has its hull, else why it was refused; `refusal` says it in words.
+    dimension, distinct, nvertices, nfaces, nedges : ndarray
+        As the attributes of each hull.
+    """
+
+    def __init__(self, points: NDArray[np.int32], starts: NDArray[np.intp], buffers: _Buffers) -> None:
+        self._points, self._starts, self._buffers = points, starts, buffers
+        answers = buffers.answers
+        self.codes: NDArray[np.uint32] = answers["code"]
+        self.dimension: NDArray[np.uint32] = answers["dimension"]
+        self.distinct: NDArray[np.uint32] = answers["distinct"]
+        self.nvertices: NDArray[np.uint64] = answers["extremes"]
+        self.nfaces: NDArray[np.uint64] = answers["faces"]
+        self.nedges: NDArray[np.uint64] = answers["edges"]
+
+    def __len__(self) -> int:
+        return len(self.codes)
+
+    def __repr__(self) -> str:
+        refused = int(np.count_nonzero(self.codes))
+        return f"<Hulls of {len(self)} sets: {len(self._points)} points, {refused} refused>"
+
+    @overload
+    def __getitem__(self, place: int) -> ConvexHull: ...
+    @overload
+    def __getitem__(self, place: slice) -> list[ConvexHull]: ...
+    def __getitem__(self, place: int | slice) -> ConvexHull | list[ConvexHull]:
+        if isinstance(place, slice):
+            return [self[one] for one in range(*place.indices(len(self)))]
+        number = place + len(self) if place < 0 else place
+        if not 0 <= number < len(self):
+            raise IndexError(f"there are {len(self)} sets")
+        if self.codes[number] != _DONE:
+            raise self._error(number)
+        begin, end = self._starts[number : number + 2].tolist()
+        return ConvexHull._of(self._points[begin:end], self._flat(number, begin))
+
+    def __iter__(self) -> Iterator[ConvexHull]:
+        return (self[place] for place in range(len(self)))
+
+    def refusal(self, place: int) -> str | None:
+        """Why a set has no hull, or None where it has one."""
+        return None if self.codes[place] == _DONE else str(self._error(place))
+
+    def _error(self, place: int) -> Exception:
+        return error_of(int(self.codes[place]))
+
+    def _flat(self, number: int, begin: int) -> FlatHull:
+        """The hull of a set, in its parts of the buffers."""
+        answers, extremes, offsets, corners = self._buffers
+        _, _, distinct, dimension, extreme_count, faces, corner_count, edges = answers[number].item()
+        first, ends = 6 * begin + 4 * number, 2 * begin + 2 * number
+        return FlatHull(
+            dimension,
+            distinct,
+            edges,
+            extremes[begin : begin + extreme_count],
+            offsets[ends : ends + faces + 1],
+            corners[first : first + corner_count],
+        )
+
+
+def hulls(points: WholePoints, starts: ArrayLike, *, copy: bool = True) -> Hulls:
+    """The hulls of many sets of points, which stand one after the other in one array.
+
+    A set that is refused, as one without a point, leaves the others their hulls. Each hull has its own arrays of the library's
+    buffers; what takes numpy time is computed for the hulls that are asked for.
+
+    Parameters
+    ----------
+    points : array_like of shape (n, 3), of any integer type
+        The points of all sets, any number of them.
+    starts : array_like of shape (sets + 1,)
+        Set j has the points from ``starts[j]`` to before ``starts[j + 1]``.
+    copy : bool, default True
+        As of `ConvexHull`.
+
+    Raises
+    ------
+    TypeError
+        The points, or the starts, are no whole numbers.
+    ValueError
+        The shape is not (n, 3), the starts don't rise or go beyond the points, or a coordinate has more than 32 bits.
+    """
+    whole, places = whole_points(points, copy), _whole_starts(starts)
+    sets, end = len(places) - 1, int(places[-1])
+    buffers = _Buffers(
+        np.zeros(sets, _ANSWER),
+        np.zeros(end, np.int32),
+        np.zeros(2 * (end + sets), np.intp),
+        np.zeros(6 * end + 4 * sets, np.int32),
+    )
+    code = _call(whole, places, buffers)
+    if code == _STARTS:
+        raise ValueError("starts must rise, and go no further than the points")
+    assert code == _DONE, code
+    for list_of_numbers in buffers:
+        list_of_numbers.setflags(write=False)
+    return Hulls(whole, places, buffers)
+
+
+def _whole_starts(starts: ArrayLike) -> NDArray[np.intp]:
+    """The starts as the library takes them; it looks itself whether they rise."""
+    given = np.asarray(starts)
+    if given.ndim != 1 or not len(given):
+        raise ValueError(f"starts must have the shape (sets + 1,), and have {given.shape}")
+    if given.dtype.kind not in "iu":
+        raise TypeError(f"starts must be whole numbers, and are {given.dtype}")
+    if given.min() < 0 or given.max() > 1 << 56:
+        raise ValueError("starts must rise, and go no further than the points")
+    places: NDArray[np.intp] = np.require(given, dtype=np.intp, requirements=["C", "A"])
+    return places.copy() if np.shares_memory(places, given) else places
+
+
+def _call(points: NDArray[np.int32], starts: NDArray[np.intp], buffers: _Buffers) -> int:
+    """One call of the library; each pointer is one that is not null, also for no elements."""
+    arguments: list[int] = []
+    nothing = np.zeros(8, np.intp)
+    for array in (points, starts, *buffers):
+        arguments += [(array if array.size else nothing).ctypes.data, len(array)]
+    return int(LIBRARY.qconvex_hulls(*arguments))

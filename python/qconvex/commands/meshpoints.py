@@ -1,0 +1,158 @@
+"""Makes a point file of a mesh's vertices, scaled to whole numbers; and turns the hull back to the mesh's own units.
+
+    meshpoints MESH > points.txt                the vertices of an off, obj, ply or stl file, of text or of bytes
+    meshpoints --back points.txt < hull.off > hull-in-units.off
+
+A vertex v becomes the whole point nearest to (v - centre) * scale, exactly computed; halves go to the even number. By
+itself the centre is the middle of the mesh's bounding box and the scale as large as the coordinates may be; both stand as
+exact fractions in a comment of the file's first line, where --back finds them. On standard error it says how many
+coordinates were rounded, and by how much at most, in the mesh's units. Choose --scale so that none is: for coordinates in
+millimetres with three digits, --scale 1000.
+
+Rounding moves a point by at most half a unit of the grid. It does change which points lie in one plane: faces that were
+flat and slanted fall into triangles, and of corners that are mirror images one may be moved another way than the other.
+With --centre 0,0,0 a mesh that is symmetric to the origin's planes stays so, since -v is rounded to minus what v is.
+"""
+import argparse
+import re
+import sys
+from decimal import ROUND_CEILING, Context, Decimal
+from fractions import Fraction
+from math import ceil, floor
+from typing import NamedTuple
+
+from .._limits import COORDINATE_LIMIT, POINT_LIMIT
+from . import contents
+from .meshes import vertices_of_mesh
+from .off_files import off_text, read_off_file
+
+NOTE = re.compile(r"scale (\S+) centre (\S+) (\S+) (\S+)")
+
+
+class Map(NamedTuple):
+    """How a mesh is turned into whole numbers."""
+
+    scale: Fraction
+    centre: tuple
+
+
+class Rounded(NamedTuple):
+    """The whole points of vertices, how many coordinates were rounded, and by how much at most."""
+
+    points: list
+    count: int
+    most: Fraction
+
+
+# To whole numbers and back.
+
+
+def middle_of(vertices):
+    """The middle of the bounding box."""
+    return tuple(Fraction(min(part) + max(part), 2 * vertices.divisor) for part in vertices.axes)
+
+
+def greatest_scale(vertices, centre):
+    """The greatest whole scale, or fraction of one, that keeps all coordinates in range."""
+    ends = ((Fraction(end(part), vertices.divisor) for end in (min, max)) for part in vertices.axes)
+    extent = max(abs(part - middle) for parts, middle in zip(ends, centre) for part in parts)
+    if not extent:
+        return Fraction(1)
+    scale = COORDINATE_LIMIT / extent
+    return Fraction(floor(scale)) if scale >= 1 else Fraction(1, ceil(1 / scale))
+
+
+def along_axis(numbers, divisor, middle, scale):
+    """The whole numbers of one axis, how many were rounded, and by how much at most, in units of the grid.
+
+    (n / divisor - middle) * scale is (n * top - offset) / bottom, and what is left of the division tells how to round.
+    """
+    bottom = divisor * middle.denominator * scale.denominator
+    top, offset = middle.denominator * scale.numerator, divisor * middle.numerator * scale.numerator
+    whole, count, most = [], 0, 0
+    for number in numbers:
+        quotient, left = divmod(number * top - offset, bottom)
+        if left:
+            count += 1
+            up = 2 * left > bottom or 2 * left == bottom and quotient % 2
+            quotient, left = (quotient + 1, bottom - left) if up else (quotient, left)
+            most = max(most, left)
+        whole.append(quotient)
+    return whole, count, Fraction(most, bottom)
+
+
+def rounded(vertices, by):
+    """The whole points of the vertices."""
+    axes = [along_axis(part, vertices.divisor, middle, by.scale) for part, middle in zip(vertices.axes, by.centre)]
+    wholes, counts, mosts = zip(*axes)
+    return Rounded(list(zip(*wholes)), sum(counts), max(mosts) / abs(by.scale))
+
+
+def bound(size):
+    """A few digits that are no less than a size."""
+    return f"{Context(prec=3, rounding=ROUND_CEILING).divide(Decimal(size.numerator), Decimal(size.denominator)):g}"
+
+
+def write_points(found, by):
+    """Writes the point file."""
+    if max(abs(part) for point in found.points for part in point) > COORDINATE_LIMIT:
+        sys.exit(f"meshpoints: with this scale a coordinate is beyond {COORDINATE_LIMIT}")
+    print(3, "scale", by.scale, "centre", *by.centre)
+    print(len(found.points))
+    sys.stdout.writelines("%d %d %d\n" % point for point in found.points)
+    by_most = f", by at most {bound(found.most)}" if found.count else ""
+    print(f"{found.count} of {3 * len(found.points)} coordinates were rounded{by_most}", file=sys.stderr)
+    if len(found.points) > POINT_LIMIT:
+        print(f"more than {POINT_LIMIT} points: hullmany takes them", file=sys.stderr)
+
+
+def map_of(path):
+    """The map that a point file's first line tells."""
+    found = NOTE.search(contents.text_of(path).split("\n", 1)[0])
+    if not found:
+        sys.exit(f"{path}: its first line has no scale and centre")
+    scale, *centre = map(Fraction, found.groups())
+    return Map(scale, tuple(centre))
+
+
+def decimal(value):
+    """A number in decimals: exactly where it has few, else as near as a double is."""
+    value = Fraction(value)
+    return str(value.numerator) if value.denominator == 1 else repr(float(value))
+
+
+def write_back(by):
+    """Writes the hull of standard input in the mesh's units."""
+    hull = read_off_file("-")
+    points = [[decimal(part / by.scale + middle) for part, middle in zip(point, by.centre)] for point in hull.points]
+    sys.stdout.write(off_text(points, hull.faces))
+
+
+def vector(words):
+    """Three numbers with commas between."""
+    parts = tuple(map(Fraction, words.split(",")))
+    if len(parts) != 3:
+        raise ValueError("three numbers")
+    return parts
+
+
+def main():
+    parser = argparse.ArgumentParser(prog="meshpoints", description=__doc__, formatter_class=argparse.RawDescriptionHelpFormatter)
+    parser.add_argument("--scale", type=Fraction, help="how many units of the grid one unit of the mesh has, as 1000 or 1/3")
+    parser.add_argument("--centre", type=vector, metavar="X,Y,Z", help="what becomes the origin (write --centre=-1,0,0)")
+    parser.add_argument("--back", metavar="POINTS", help="turn the faces of standard input to the units of this file's mesh")
+    parser.add_argument("mesh", nargs="?", metavar="MESH", help="a file whose name ends with .off, .obj, .ply or .stl")
+    options = parser.parse_args()
+    if options.back:
+        write_back(map_of(options.back))
+        return
+    if not options.mesh:
+        parser.error("a MESH is wanted, or --back")
+    vertices = vertices_of_mesh(options.mesh)
+    centre = options.centre or middle_of(vertices)
+    by = Map(options.scale or greatest_scale(vertices, centre), centre)
+    write_points(rounded(vertices, by), by)
+
+
+if __name__ == "__main__":
+    main()

@@ -1,0 +1,261 @@
+"""The commands: each has its help, and what they write is what other programs and formats say of the same shapes."""
+from __future__ import annotations
+
+import json
+import os
+import re
+import shutil
+import struct
+import subprocess
+import sys
+import time
+import tomllib
+from pathlib import Path
+
+import pytest
+
+from qconvex import _limits
+
+TOP = Path(__file__).resolve().parents[2]
+BIN = TOP / "python" / "bin"
+STATED = TOP / "crates" / "qh_model" / "src" / "limits.rt"
+CUBE = [(x, y, z) for x in (0, 1) for y in (0, 1) for z in (0, 1)]
+CUBE_OFF = """OFF
+8 6 12
+0 0 0
+0 0 1
+0 1 0
+0 1 1
+1 0 0
+1 0 1
+1 1 0
+1 1 1
+4 0 1 3 2
+4 0 2 6 4
+4 0 4 5 1
+4 1 5 7 3
+4 2 3 7 6
+4 4 6 7 5
+"""
+SQUARE_OFF = "OFF\n4 1 4\n0 0 1\n2 0 1\n2 2 1\n0 2 1\n4 0 1 2 3\n"
+SEGMENT_OFF = "OFF\n2 1 1\n1 1 1\n3 1 5\n2 0 1\n"
+POINT_OFF = "OFF\n1 1 0\n4 5 6\n1 0\n"
+SHAPES = {"cube": CUBE_OFF, "square": SQUARE_OFF, "segment": SEGMENT_OFF, "point": POINT_OFF}
+
+
+def run(name, *words, given=""):
+    """A command, by the interpreter that runs the tests."""
+    data = given.encode() if isinstance(given, str) else given
+    return subprocess.run([sys.executable, str(BIN / name), *map(str, words)], input=data, capture_output=True, timeout=120)
+
+
+def out(name, *words, given=""):
+    done = run(name, *words, given=given)
+    assert done.returncode == 0, done.stderr
+    return done.stdout.decode()
+
+
+def vertices_in(text):
+    """The vertices of an OFF text, as they stand there."""
+    rows = [line.split() for line in text.splitlines()[1:]]
+    return [tuple(map(int, row)) for row in rows[1 : int(rows[0][0]) + 1]]
+
+
+# ---- all
+
+
+def test_each_has_its_help_and_is_installed():
+    scripts = tomllib.loads((TOP / "python" / "pyproject.toml").read_text())["project"]["scripts"]
+    assert set(scripts) == {place.name for place in BIN.iterdir() if place.is_symlink()}
+    for name, place in scripts.items():
+        assert place == f"qconvex.commands.{name}:main"
+        assert out(name, "--help").startswith(f"usage: {name} ")
+
+
+def test_limits_are_those_of_the_program():
+    pattern = re.compile(r"pub const ([A-Z_]+): u\d+ = (\d[\d_]*)(?: << (\d+))?;")
+    stated = {name: int(value) << int(shift or 0) for name, value, shift in pattern.findall(STATED.read_text())}
+    for name in ("COORDINATE_LIMIT", "POINT_LIMIT", "BYTE_LIMIT"):
+        assert getattr(_limits, name) == stated[name]
+
+
+# ---- hullfacets
+
+
+def test_facets_of_a_cube():
+    lines = out("hullfacets", given=CUBE_OFF).splitlines()
+    assert lines[:2] == ["six times the volume: 6", "facet 0: normal -1 0 0, offset 0, corners 0 1 3 2, neighbours 2 3 4 1"]
+    assert lines[-1] == "corner 7: point 1 1 1, facets 3 5 4"
+    told = json.loads(out("hullfacets", "--form", "json", given=CUBE_OFF))
+    assert told["six_volumes"] == 6 and len(told["facets"]) == 6 and len(told["corners"]) == 8
+
+
+def holds(row, point):
+    return row[0] + sum(factor * part for factor, part in zip(row[1:], point))
+
+
+@pytest.mark.parametrize("name", SHAPES)
+def test_inequalities_hold_just_for_the_points_of_a_shape(name):
+    from qconvex.commands.halfspaces import halfspaces_of
+    from qconvex.commands.off_files import read_off
+
+    points, faces = read_off(SHAPES[name])
+    told = halfspaces_of(points, faces)
+    within = [
+        (x, y, z)
+        for x in range(-1, 7) for y in range(-1, 7) for z in range(-1, 7)
+        if all(holds(row, (x, y, z)) >= 0 for row in told.inequalities) and not any(holds(row, (x, y, z)) for row in told.equations)
+    ]
+    wanted = {"cube": CUBE, "square": [(x, y, 1) for x in range(3) for y in range(3)], "segment": [(1, 1, 1), (2, 1, 3), (3, 1, 5)]}
+    assert within == sorted(wanted.get(name, [(4, 5, 6)]))
+
+
+@pytest.mark.skipif(not shutil.which("normaliz"), reason="normaliz is missing")
+@pytest.mark.parametrize("name", SHAPES)
+def test_normaliz_finds_the_vertices_again(name, tmp_path):
+    (tmp_path / "hull.in").write_text(out("hullfacets", "--form", "normaliz", given=SHAPES[name]))
+    subprocess.run(["normaliz", "--VerticesOfPolyhedron", "hull"], cwd=tmp_path, check=True, capture_output=True)
+    text = (tmp_path / "hull.out").read_text()
+    rows = re.search(r"\d+ vertices of polyhedron:\n((?: *-?\d+.*\n)+)", text).group(1).splitlines()
+    assert sorted(tuple(map(int, row.split()[:3])) for row in rows) == sorted(vertices_in(SHAPES[name]))
+
+
+@pytest.mark.skipif(not shutil.which("lrs"), reason="lrs is missing")
+@pytest.mark.parametrize("name", SHAPES)
+def test_lrs_finds_the_vertices_again(name, tmp_path):
+    (tmp_path / "hull.ine").write_text(out("hullfacets", "--form", "lrs", given=SHAPES[name]))
+    text = subprocess.run(["lrs", "hull.ine"], cwd=tmp_path, check=True, capture_output=True, text=True).stdout
+    rows = {tuple(map(int, line.split()[1:])) for line in text.splitlines() if re.match(r" 1 +-?\d", line)}
+    assert sorted(rows) == sorted(vertices_in(SHAPES[name]))
+
+
+@pytest.mark.skipif(not shutil.which("polymake"), reason="polymake is missing")
+@pytest.mark.parametrize("name", SHAPES)
+def test_polymake_takes_vertices_and_facets(name):
+    line = out("hullfacets", "--form", "polymake", given=SHAPES[name])
+    asked = ' print $p->N_VERTICES, " ", $p->DIM, " ", $p->VOLUME, " ", $p->LATTICE ? 1 : 0;'
+    told = subprocess.run(["polymake", "my " + line + asked], check=True, capture_output=True, text=True).stdout.split()
+    dimension = {"cube": "3", "square": "2", "segment": "1", "point": "0"}[name]
+    assert told[:2] == [str(len(vertices_in(SHAPES[name]))), dimension] and told[3] == "1"
+
+
+def test_what_is_no_hull_is_refused():
+    for given in ("", "OFF\n1 0 0\n0 0 0\n", "OFF\n1 1 0\n0.5 0 0\n1 0\n", CUBE_OFF.replace("4 4 6 7 5", "4 4 5 7 6")):
+        done = run("hullfacets", given=given)
+        assert done.returncode == 1 and done.stderr and not done.stdout
+
+
+# ---- meshpoints
+
+
+def ply(order, kind="float"):
+    letter = {"float": "f", "double": "d"}[kind]
+    head = f"ply\nformat {order} 1.0\nelement marker 1\nproperty short a\nelement vertex 8\nproperty uchar red\n"
+    head += "".join(f"property {kind} {axis}\n" for axis in "xyz") + "element face 0\nproperty list uchar int vertex_indices\nend_header\n"
+    if order == "ascii":
+        return head.encode() + b"7\n" + b"".join(b"9 %d.0 %d %de0\n" % point for point in CUBE)
+    sign = "<" if order == "binary_little_endian" else ">"
+    rows = b"".join(struct.pack(f"{sign}B3{letter}", 9, *point) for point in CUBE)
+    return head.encode() + struct.pack(f"{sign}h", 7) + rows
+
+
+def stl_triangles():
+    """Two triangles on each side of the cube."""
+    faces = [line.split()[1:] for line in CUBE_OFF.splitlines() if line.startswith("4 ")]
+    return [[CUBE[int(face[k])] for k in corners] for face in faces for corners in ((0, 1, 2), (0, 2, 3))]
+
+
+def stl_binary():
+    triangles = stl_triangles()
+    rows = b"".join(struct.pack("<12fH", 0, 0, 0, *sum(triangle, ()), 0) for triangle in triangles)
+    return b"solid but of bytes".ljust(80) + struct.pack("<I", len(triangles)) + rows
+
+
+def stl_text():
+    loops = ["".join("vertex %d %d %d\n" % corner for corner in triangle) for triangle in stl_triangles()]
+    rows = [f"facet normal 0 0 0\nouter loop\n{loop}endloop\nendfacet\n" for loop in loops]
+    return ("solid cube\n" + "".join(rows) + "endsolid cube\n").encode()
+
+
+MESHES = {
+    "cube.off": CUBE_OFF.encode(),
+    "cube.obj": b"# a cube\n" + b"".join(b"v %d %d %d\nvn 1 0 0\n" % point for point in CUBE),
+    "ascii.ply": ply("ascii"),
+    "little.ply": ply("binary_little_endian"),
+    "big.ply": ply("binary_big_endian", "double"),
+    "bytes.stl": stl_binary(),
+    "text.stl": stl_text(),
+}
+
+
+@pytest.mark.parametrize("name", MESHES)
+def test_vertices_of_each_format(name, tmp_path):
+    path = tmp_path / name
+    path.write_bytes(MESHES[name])
+    lines = out("meshpoints", "--scale", 2, "--centre", "0,0,0", path).splitlines()
+    assert lines[:2] == ["3 scale 2 centre 0 0 0", "8"]
+    assert sorted(tuple(map(int, line.split())) for line in lines[2:]) == [tuple(2 * part for part in point) for point in CUBE]
+
+
+def test_the_error_is_told_and_is_no_less_than_it_was(tmp_path):
+    path = tmp_path / "thirds.obj"
+    path.write_text("v 0.1 0.25 -1e-3\nv 1 2 3\n")
+    done = run("meshpoints", "--scale", 10, "--centre", "0,0,0", path)
+    assert done.stdout.decode().splitlines()[2:] == ["1 2 0", "10 20 30"]  # 2.5 goes to the even number
+    assert done.stderr.decode() == "2 of 6 coordinates were rounded, by at most 0.05\n"
+    third = run("meshpoints", "--scale", "1/3", "--centre", "0,0,0", path).stderr.decode()
+    assert third == "5 of 6 coordinates were rounded, by at most 1\n"
+    assert run("meshpoints", path).stdout.decode().split("\n")[0].startswith("3 scale ")
+
+
+def test_a_hull_comes_back_in_the_units_of_the_mesh(tmp_path):
+    path = tmp_path / "points.txt"
+    path.write_text(out("meshpoints", "--scale", 8, "--centre", "1/2,0,0", TOP / "examples" / "knot.obj"))
+    assert out("meshpoints", "--back", path, given="OFF\n1 1 0\n4 -8 1\n1 0\n") == "OFF\n1 1 0\n1 -1 0.125\n1 0\n"
+
+
+def test_a_hundred_thousand_vertices_take_a_second_or_so(tmp_path):
+    path = tmp_path / "many.stl"
+    count = 200_000
+    corners = [struct.pack("<3f", k % 317, k % 1009 / 8, k / 100_000) for k in range(100_000)]
+    places = ((k // 2, (k + 7) // 2 % 100_000, (k + 99) % 100_000) for k in range(count))
+    rows = b"".join(bytes(12) + b"".join(corners[place] for place in triangle) + b"\0\0" for triangle in places)
+    path.write_bytes(bytes(80) + struct.pack("<I", count) + rows)
+    start = time.perf_counter()
+    assert out("meshpoints", path).count("\n") == 100_002
+    assert time.perf_counter() - start < 10  # about 1 on a quiet machine
+
+
+NO_MESHES = {
+    "none.xyz": b"",
+    "empty.obj": b"",
+    "words.obj": b"v a b c\n",
+    "far.obj": b"v 1 2 1e999999999\n",
+    "nan.obj": b"v 1 2 nan\n",
+    "two.obj": b"v 1 2\n",
+    "short.ply": ply("binary_little_endian")[:-3],
+    "list.ply": ply("binary_little_endian").replace(b"property short a", b"property list uchar int a"),
+    "head.ply": b"ply\nformat ascii 1.0\n",
+    "nan.stl": bytes(80) + struct.pack("<I12fH", 1, *[float("nan")] * 12, 0),
+}
+
+
+@pytest.mark.parametrize("name", NO_MESHES)
+def test_what_is_no_mesh_is_refused(name, tmp_path):
+    path = tmp_path / name
+    path.write_bytes(NO_MESHES[name])
+    done = run("meshpoints", path)
+    assert done.returncode == 1 and not done.stdout and b"Traceback" not in done.stderr
+
+
+# ---- hullexplain
+
+
+def test_a_fault_is_shown_where_it_stands(tmp_path):
+    done = run("hullexplain", TOP / "examples" / "faults" / "comma.txt")
+    text = done.stdout.decode()
+    assert done.returncode == 1 and text.startswith("qconvex: 2: BadNumber at line 3\n") and "line 3, column 1" in text
+    path = tmp_path / "right.txt"
+    path.write_text("3\n1\n1 2 3 # a point\n")
+    assert out("hullexplain", path).startswith("No fault: 1 points.")
+    assert os.access(BIN / "hullexplain", os.X_OK)
