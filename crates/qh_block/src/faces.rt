@@ -18,7 +18,7 @@ ghost use Rattle.qh_plane.specs.contract.PlanarSets.{IsPlanarSet};
 ghost use Rattle.qh_surface.specs.contract.NamedMeshes.{named, IsNamedMesh};
 ghost use Rattle.qh_surface.specs.contract.Corners.{AreCornersBelow};
 ghost use Rattle.qh_surface.specs.contract.Walks.{mark_at};
-ghost use Rattle.qh_block.specs.steps.Faces.{corners_of, from_least, IsListedCorner, IsNewPlane, IsNewFace, AreFacetFaces};
+ghost use Rattle.qh_block.specs.steps.Faces.{corners_of, from_least, IsListedCorner, IsFacetPolygon, IsNewPlane, IsNewFace, AreFacetFaces};
 
 use crate::plane_walk::IsLevel;
 use qh_mesh::FacetNo;
@@ -162,6 +162,46 @@ pub fn faces(alloc: Global, pts: &[Point], surface: &NamedMesh) -> Result<Vec<Po
     let mut faces = Vec::new(alloc);
     for f in surface.mesh.live() {
         if !marks[f.index()] {
+            faces.push(new_face(alloc, pts, surface, f, marks, &mut room)?)?;
+        }
+    }
+    Ok(faces)
+}
+
+/// The faces of a finished mesh in the planes of chosen facets, one for each plane that has a chosen one, in no order. `chosen`
+/// tells for each place of the mesh whether its facet is chosen. The facets of one plane may be chosen or not, each for itself.
+///
+/// # Errors
+///
+/// `Memory` where an allocation failed.
+pub fn faces_of_chosen(
+    alloc: Global,
+    pts: &[Point],
+    surface: &NamedMesh,
+    chosen: &[bool],
+) -> Result<Vec<Polygon>, Memory>
+    requires named { IsNamedMesh pts.now surface.now }
+    requires marks { length surface.now.mesh ≡ length chosen.now }
+    ensures each { let fs = named surface.now in
+        IfOk result (λ v. (ids : List ℕ) → IsIdSet pts.now ids → IsFinished (place pts.now) ids (surface_of fs)
+        → (f : ℕ) → IsLive fs f → mark_at chosen.now f ≡ true
+        → (q : List ℕ) × In q v.items × IsFacetPolygon (place pts.now) (Members ids) fs f q) }
+    ensures only { let fs = named surface.now in
+        IfOk result (λ v. (ids : List ℕ) → IsIdSet pts.now ids → IsFinished (place pts.now) ids (surface_of fs)
+        → (q : List ℕ) → In q v.items
+        → (f : ℕ) × IsLive fs f × (mark_at chosen.now f ≡ true) × IsFacetPolygon (place pts.now) (Members ids) fs f q) }
+{
+    let mut places = no_marks(alloc, surface.mesh.places())?;
+    let marks = places.as_mut_slice();
+    let mut room = Room {
+        facets: Vec::new(alloc),
+        corners: Vec::new(alloc),
+    };
+    let mut faces = Vec::new(alloc);
+    for f in surface.mesh.live() {
+        let is_chosen = chosen[f.index()];
+        let is_marked = marks[f.index()];
+        if is_chosen && !is_marked {
             faces.push(new_face(alloc, pts, surface, f, marks, &mut room)?)?;
         }
     }

@@ -14,7 +14,7 @@ use Rattle.qh_model.proofs.extremes.ExtremeIds.{listed_itself, alternative_in}
 use Rattle.qh_model.proofs.surfaces.Determinants.{dot-together, above-together}
 use Rattle.qh_model.proofs.surfaces.{Facets.plane-is, Located.Located, Located.shares, Located.mix, CoveredPlanes.nothing_outside}
 use Rattle.qh_model.proofs.surfaces.{Simplex.middle_is_below, SurfaceLaws.rise_is_vol, Finished.unseen_above}
-use Rattle.qh_seam_laws.specs.contract.Seam.{height}
+use Rattle.qh_seam_laws.specs.contract.Seam.{height_over}
 use Rattle.qh_seam_laws.specs.laws.PointLaws.{LevelIsInPolygon, WithinIsBelow, BetweenIsBelow}
 use Rattle.qh_seam_laws.specs.laws.PointLaws.{MiddleIsInner, BetweenFourIsBelow, BelowIsCombination}
 use Rattle.qh_seam_laws.proofs.{Decisions.at_most_zero, Faces.face_combination}
@@ -39,7 +39,7 @@ within_is_below at ids m z o unseen f live p w g i = at_most_zero _ outside
     corner : (l : ℕ) → IsCorner m f l → weighted_dot plane (home l) ≤ℤ pos 0
     corner l c = equal_nonpos _ _ (sym (value (home l))) (unseen_above at ids m z g i l (z.corners f live l c))
 
-    outside : pos 0 <ℤ height at m g p → ⊥
+    outside : pos 0 <ℤ height_over at m g p → ⊥
     outside above =
         no_sum _ _ _ _ _ (mix over plane)
         (mul-pos _ _ (neg-positive _ w.inner) (equal_positive _ _ (sym (value (weighted p))) (seen_rise at m g p above)))

@@ -41,7 +41,7 @@ faces_of_kept at all kept d k q (i, j, l, t, p) = (
     same = extremes_between at (Members all) (Members kept) all (listed_itself all) d k.inside k.extremes
 
 -- each joined face is a face of all
-closed_faces : (at : ℕ → Vector) (all kept : List ℕ) (qs : List (List ℕ)) → HasDistinctPoints at (Members all) → AreKept at all kept
+pub closed_faces : (at : ℕ → Vector) (all kept : List ℕ) (qs : List (List ℕ)) → HasDistinctPoints at (Members all) → AreKept at all kept
     → AreJoined at all kept qs → AreClosedFaces at (Members all) qs
 closed_faces at all kept qs d k j =
     record { some = j.some; there = j.there; faces = λ q i. face q (j.each q i); closed = j.closed }

@@ -19,7 +19,7 @@ use Rattle.qh_model.proofs.surfaces.CoveredPlanes.{above-last, beyond, on_sees_b
 use Rattle.qh_model.proofs.surfaces.SurfaceLaws.{walk_finds_all}
 use Rattle.qh_model.proofs.surfaces.Finished.{unseen_above}
 use Rattle.qh_model.proofs.surfaces.FacetPlanes.{level_facets_span, plane_walk_finds_all, level_itself, level_back, seen_level}
-use Rattle.qh_seam_laws.specs.contract.Seam.{height, IsBelowAll, IsRing}
+use Rattle.qh_seam_laws.specs.contract.Seam.{height_over, IsBelowAll, IsRing}
 use Rattle.qh_seam_laws.specs.laws.PointLaws.{IsBeside, SidesHideRest}
 use Rattle.qh_seam_laws.proofs.Decisions.{at_most_zero, flag, flag-holds, flag-true}
 use Rattle.qh_seam_laws.proofs.Heights.{rise_is_height, blind_rise, seen_rise, level_or_not}
@@ -32,14 +32,14 @@ past_sees_beyond a b c o y k past low =
 
 -- ---- a point in the plane of a facet, drawn a little to the facet's middle and then a little out
 module _ (at : ℕ → Vector) (ids : List ℕ) (m : Surface) (z : IsFinished at ids m) (f : ℕ) (live : In f m.live) (p : Vector)
-    (on : height at m f p ≡ pos 0) where
+    (on : height_over at m f p ≡ pos 0) where
   abbrev home : ℕ → Weighted
   home = weighted_at at
 
   abbrev o : Weighted
   o = middle_at at z.s z.t z.u z.v
 
-  -- the middle's height above any facet, for a facet of the surface
+  -- how far the middle is above a facet
   abbrev mid : ℕ → ℤ
   mid g = rise m home g (middle m home f)
 
@@ -67,7 +67,7 @@ module _ (at : ℕ → Vector) (ids : List ℕ) (m : Surface) (z : IsFinished at
   sees_x g i past = past_sees_beyond (home (m.i g)) (home (m.j g)) (home (m.k g)) o y b past (z.sound.inner g i)
 
   -- p is in the plane of each facet that is in the plane of f
-  pub level_point : (g : ℕ) → In g m.live → IsLevelFacet at m f g → height at m g p ≡ pos 0
+  pub level_point : (g : ℕ) → In g m.live → IsLevelFacet at m f g → height_over at m g p ≡ pos 0
   level_point g i level =
       let h = (level_facets_span at ids m z f g live i level).along in
       zero_along h.s h.t _ _ h.some_t
@@ -86,7 +86,7 @@ module _ (at : ℕ → Vector) (ids : List ℕ) (m : Surface) (z : IsFinished at
       flat = sum_level _ _ _ _ _ _ (corner (m.i f) (inl refl)) (corner (m.j f) (inr (inl refl))) (corner (m.k f) (inr (inr refl)))
 
   -- a facet beside the plane does not, if p is not above it
-  beside_blind : (g : ℕ) → In g m.live → ¬ (IsLevelFacet at m f g) → height at m g p ≤ℤ pos 0 → ¬ (Sees m home g x)
+  beside_blind : (g : ℕ) → In g m.live → ¬ (IsLevelFacet at m f g) → height_over at m g p ≤ℤ pos 0 → ¬ (Sees m home g x)
   beside_blind g i other below sees = other (level_back at ids m z g f i live level)
     where
       corner : (l : ℕ) → IsCorner m f l → rise m home g (home l) ≤ℤ pos 0
@@ -110,13 +110,13 @@ module _ (at : ℕ → Vector) (ids : List ℕ) (m : Surface) (z : IsFinished at
       level = seen_level at ids m z f live g i (on_sees_beyond _ _ _ o (middle m home f) b mid_level (z.sound.inner g i))
 
   -- what sees p sees x
-  above_sees : (g : ℕ) → In g m.live → pos 0 <ℤ height at m g p → Sees m home g x
+  above_sees : (g : ℕ) → In g m.live → pos 0 <ℤ height_over at m g p → Sees m home g x
   above_sees g i h =
       sees_x g i (positive_le _ (equal_positive _ _ (sym (y-is g))
       (scale (mid g) _ a (suc a) ((bound mid m.live).1 g i).1 (omega arith) (seen_rise at m g p h))))
 
   -- a walk over what sees x does not leave the plane
-  hidden : ((g : ℕ) → IsBeside at m f g → height at m g p ≤ℤ pos 0) → IsBelowAll at m p
+  hidden : ((g : ℕ) → IsBeside at m f g → height_over at m g p ≤ℤ pos 0) → IsBelowAll at m p
   hidden sides g i = at_most_zero _ (λ above. less_differ (pos 0) _ above (sym (level_point g i (found above))))
     where
       in_plane : ℕ → Bool
@@ -134,7 +134,7 @@ module _ (at : ℕ → Vector) (ids : List ℕ) (m : Surface) (z : IsFinished at
           decide (inr other) =
               absurd (beside_blind (m.over h s) (z.whole h j s).live other (sides (m.over h s) (beside other)) sees)
 
-      found : pos 0 <ℤ height at m g p → IsLevelFacet at m f g
+      found : pos 0 <ℤ height_over at m g p → IsLevelFacet at m f g
       found above = flag-holds (level_or_not at m f g) (walk_finds_all m home o z.whole z.sound x in_plane (record {
         f0 = f;
         live = live;

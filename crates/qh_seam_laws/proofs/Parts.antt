@@ -9,7 +9,7 @@ use Rattle.qh_model.proofs.algebra.{Order.zero_or_not, Signs.not_less, Signs.les
 use Rattle.qh_model.proofs.extremes.ExtremeIds.{Listed, listed_itself, listed_part, extremes_between, combination_within}
 use Rattle.qh_model.proofs.extremes.Faces.{extremes_of_face, support_of_extremes}
 use Rattle.qh_model.proofs.surfaces.Finished.{facet_area, extremes_are_corners}
-use Rattle.qh_seam_laws.specs.contract.Seam.{height, IsBelowAll, SeesGone, IsRing}
+use Rattle.qh_seam_laws.specs.contract.Seam.{height_over, IsBelowAll, SeesGone, IsRing}
 use Rattle.qh_seam_laws.specs.contract.Parts.{AreKept, IsPart, IsClear}
 use Rattle.qh_seam_laws.specs.laws.PointLaws.{IsBeside}
 use Rattle.qh_seam_laws.specs.laws.PartLaws.{StrictIsClear, SeamOfOthers, ExtremesAreKept, StayingSupports, StayingHasPolygon}
@@ -37,8 +37,8 @@ finished_with at ids m z l b = record {
   unseen = unseen;
 }
   where
-    unseen : (f : ℕ) → In f m.live → (k : ℕ) → Members (l ∷ ids) k → height at m f (at k) ≤ℤ pos 0
-    unseen f i k (inl e) = subst (λ n. height at m f (at n) ≤ℤ pos 0) (sym e) (b f i)
+    unseen : (f : ℕ) → In f m.live → (k : ℕ) → Members (l ∷ ids) k → height_over at m f (at k) ≤ℤ pos 0
+    unseen f i k (inl e) = subst (λ n. height_over at m f (at n) ≤ℤ pos 0) (sym e) (b f i)
     unseen f i k (inr h) = z.unseen f i k h
 
 -- the law
@@ -53,10 +53,10 @@ module _ (at : ℕ → Vector) (all kept ids : List ℕ) (m : Surface) (stay : �
   z = part.finished
 
   -- a kept id is above no facet that stays
-  below : (l : ℕ) → In l kept → (f : ℕ) → In f m.live → stay f ≡ true → height at m f (at l) ≤ℤ pos 0
+  below : (l : ℕ) → In l kept → (f : ℕ) → In f m.live → stay f ≡ true → height_over at m f (at l) ≤ℤ pos 0
   below l h f live stays = by_answer (part.seam.answer l h)
     where
-      by_answer : IsBelowAll at m (at l) ⊎ SeesGone at m stay (at l) → height at m f (at l) ≤ℤ pos 0
+      by_answer : IsBelowAll at m (at l) ⊎ SeesGone at m stay (at l) → height_over at m f (at l) ≤ℤ pos 0
       by_answer (inl b) = b f live
       by_answer (inr s) = ring_hides_rest at ids m z stay (at l) s (λ g r. part.seam.ring g r l h) f live stays
 
@@ -85,18 +85,18 @@ module _ (at : ℕ → Vector) (all kept ids : List ℕ) (m : Surface) (stay : �
   -- ---- a clear facet
   module _ (f : ℕ) (live : In f m.live) (stays : stay f ≡ true) (clear : IsClear at kept m stay f) where
     -- a kept id in the plane of f is above no facet
-    level_below : (l : ℕ) → In l kept → height at m f (at l) ≡ pos 0 → IsBelowAll at m (at l)
+    level_below : (l : ℕ) → In l kept → height_over at m f (at l) ≡ pos 0 → IsBelowAll at m (at l)
     level_below l h on w i = at_most_zero _ (λ above. not_less (pos 0) _ above (hidden above w i))
       where
         -- where it is above some facet no facet of the ring lies in the plane
-        no_ring : pos 0 <ℤ height at m w (at l) → (g : ℕ) → IsRing m stay g → IsLevelFacet at m f g → ⊥
+        no_ring : pos 0 <ℤ height_over at m w (at l) → (g : ℕ) → IsRing m stay g → IsLevelFacet at m f g → ⊥
         no_ring above g r level =
             not_less (pos 0) _ above (clear g r level l (h, level_point at ids m z f live (at l) on g r.live level) w i)
 
-        hidden : pos 0 <ℤ height at m w (at l) → IsBelowAll at m (at l)
+        hidden : pos 0 <ℤ height_over at m w (at l) → IsBelowAll at m (at l)
         hidden above = sides_hide_rest at ids m z f live (at l) on side
           where
-            side : (g : ℕ) → IsBeside at m f g → height at m g (at l) ≤ℤ pos 0
+            side : (g : ℕ) → IsBeside at m f g → height_over at m g (at l) ≤ℤ pos 0
             side g b = by_mark (stay g) refl
               where
                 over_live : In g m.live
@@ -105,7 +105,7 @@ module _ (at : ℕ → Vector) (all kept ids : List ℕ) (m : Surface) (stay : �
                 near_stays : stay b.h ≡ true
                 near_stays = level_stay at ids m z f live stay stays (no_ring above) b.h b.live b.level
 
-                by_mark : (x : Bool) → stay g ≡ x → height at m g (at l) ≤ℤ pos 0
+                by_mark : (x : Bool) → stay g ≡ x → height_over at m g (at l) ≤ℤ pos 0
                 by_mark true e = below l h g over_live e
                 by_mark false e = absurd (no_ring above b.h
                     (record { live = b.live; stays = near_stays; side = b.side; gone = ap stay b.over_is ∙ e }) b.level)
@@ -122,7 +122,7 @@ module _ (at : ℕ → Vector) (all kept ids : List ℕ) (m : Surface) (stay : �
     same_extremes : (l : ℕ)
         → OnPlane at (Extreme at (Members ids)) (m.i f) (m.j f) (m.k f) l ↔ OnPlane at (Extreme at (Members all)) (m.i f) (m.j f) (m.k f) l
     same_extremes l =
-        between (listed_part (Members all) (λ h. height at m f (at h) ≡ pos 0) (λ h. zero_or_not _) all (listed_itself all))
+        between (listed_part (Members all) (λ h. height_over at m f (at h) ≡ pos 0) (λ h. zero_or_not _) all (listed_itself all))
       where
         small : (h : ℕ) → Extreme at Own h ↔ OnPlane at (Extreme at (Members ids)) (m.i f) (m.j f) (m.k f) h
         small h = extremes_of_face at ids (m.i f) (m.j f) (m.k f) (z.unseen f live) h
@@ -177,7 +177,7 @@ staying_has_polygon at all kept ids m stay distinct known part f live stays clea
 pub strict_is_clear : StrictIsClear
 strict_is_clear at kept ids m stay z strict f g r level l h = by_cases (strict g r l h.0)
   where
-    by_cases : In l ids ⊎ (height at m g (at l) <ℤ pos 0) → IsBelowAll at m (at l)
+    by_cases : In l ids ⊎ (height_over at m g (at l) <ℤ pos 0) → IsBelowAll at m (at l)
     by_cases (inl i) = λ f live. z.unseen f live l i
     by_cases (inr b) = absurd (less_differ _ (pos 0) b h.1)
 
@@ -190,6 +190,6 @@ seam_of_others at kept others ids m stay z split seam =
     answer l (inl i) = inl (λ f live. z.unseen f live l i)
     answer l (inr o) = seam.answer l o
 
-    ring : (f : ℕ) → IsRing m stay f → (l : ℕ) → In l ids ⊎ In l others → height at m f (at l) ≤ℤ pos 0
+    ring : (f : ℕ) → IsRing m stay f → (l : ℕ) → In l ids ⊎ In l others → height_over at m f (at l) ≤ℤ pos 0
     ring f r l (inl i) = z.unseen f r.live l i
     ring f r l (inr o) = seam.ring f r l o

@@ -8,19 +8,19 @@ use Rattle.qh_model.specs.headline.SupportingPlane.{Supports}
 use Rattle.qh_model.specs.contract.Surface.{Side, Surface}
 
 -- how far a point is above the plane of facet f
-abbrev pub height : (ℕ → Vector) → Surface → ℕ → Vector → ℤ
-height at m f p = vol (at (m.i f)) (at (m.j f)) (at (m.k f)) p
+abbrev pub height_over : (ℕ → Vector) → Surface → ℕ → Vector → ℤ
+height_over at m f p = vol (at (m.i f)) (at (m.j f)) (at (m.k f)) p
 
 -- p is above no live facet
 abbrev pub IsBelowAll : (ℕ → Vector) → Surface → Vector → Type 0
-IsBelowAll at m p = (f : ℕ) → In f m.live → height at m f p ≤ℤ pos 0
+IsBelowAll at m p = (f : ℕ) → In f m.live → height_over at m f p ≤ℤ pos 0
 
 -- p is above a live facet that does not stay
 pub record SeesGone (at : ℕ → Vector) (m : Surface) (stay : ℕ → Bool) (p : Vector) : Type 0 where
   pub f : ℕ
   pub live : In f m.live
   pub gone : stay f ≡ false
-  pub sees : pos 0 <ℤ height at m f p
+  pub sees : pos 0 <ℤ height_over at m f p
 
 -- a live facet that stays, with a neighbour that does not
 pub record IsRing (m : Surface) (stay : ℕ → Bool) (f : ℕ) : Type 0 where
@@ -37,4 +37,4 @@ pub record IsSeam (at : ℕ → Vector) (m : Surface) (stay : ℕ → Bool) (A :
 -- each kept id is one of the part or strictly below each facet of the ring
 abbrev pub IsStrictRing : (ℕ → Vector) → (kept ids : List ℕ) → Surface → (ℕ → Bool) → Type 0
 IsStrictRing at kept ids m stay =
-    (g : ℕ) → IsRing m stay g → (l : ℕ) → In l kept → In l ids ⊎ (height at m g (at l) <ℤ pos 0)
+    (g : ℕ) → IsRing m stay g → (l : ℕ) → In l kept → In l ids ⊎ (height_over at m g (at l) <ℤ pos 0)

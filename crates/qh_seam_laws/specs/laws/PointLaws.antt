@@ -11,15 +11,15 @@ use Rattle.qh_model.specs.contract.SoundSurface.{IsInner}
 use Rattle.qh_model.specs.contract.FinishedSurface.{weighted_at, middle_at, IsFinished}
 use Rattle.qh_model.specs.laws.UnseenPoints.{IsUnseen}
 use Rattle.qh_model.specs.laws.FacetPlanes.{IsLevelFacet}
-use Rattle.qh_seam_laws.specs.contract.Seam.{height, IsBelowAll, SeesGone, IsRing}
+use Rattle.qh_seam_laws.specs.contract.Seam.{height_over, IsBelowAll, SeesGone, IsRing}
 use Rattle.qh_seam_laws.specs.contract.Between.{IsWithin, IsBetween, IsBetweenFour}
 
 -- what is above a facet that does not stay and above none of the ring is above none that stays
 abbrev pub RingHidesRest : Type 0
 RingHidesRest = (at : ℕ → Vector) (ids : List ℕ) (m : Surface) → IsFinished at ids m
     → (stay : ℕ → Bool) (p : Vector) → SeesGone at m stay p
-    → ((f : ℕ) → IsRing m stay f → height at m f p ≤ℤ pos 0)
-    → (f : ℕ) → In f m.live → stay f ≡ true → height at m f p ≤ℤ pos 0
+    → ((f : ℕ) → IsRing m stay f → height_over at m f p ≤ℤ pos 0)
+    → (f : ℕ) → In f m.live → stay f ≡ true → height_over at m f p ≤ℤ pos 0
 
 -- ---- points in the plane of a facet
 -- a neighbour, over a side of a facet in the plane of f, that is in another plane
@@ -34,8 +34,8 @@ pub record IsBeside (at : ℕ → Vector) (m : Surface) (f g : ℕ) : Type 0 whe
 -- what is in the plane of f and above none of the facets beside that plane is above no facet
 abbrev pub SidesHideRest : Type 0
 SidesHideRest = (at : ℕ → Vector) (ids : List ℕ) (m : Surface) → IsFinished at ids m → (f : ℕ) → In f m.live
-    → (p : Vector) → height at m f p ≡ pos 0
-    → ((g : ℕ) → IsBeside at m f g → height at m g p ≤ℤ pos 0)
+    → (p : Vector) → height_over at m f p ≡ pos 0
+    → ((g : ℕ) → IsBeside at m f g → height_over at m g p ≤ℤ pos 0)
     → IsBelowAll at m p
 
 -- what is above no facet is a convex combination of the set
@@ -46,7 +46,7 @@ BelowIsCombination = (at : ℕ → Vector) (ids : List ℕ) (m : Surface) → Is
 -- and, in the plane of a facet, of the members in that plane
 abbrev pub LevelIsInPolygon : Type 0
 LevelIsInPolygon = (at : ℕ → Vector) (ids : List ℕ) (m : Surface) → IsFinished at ids m → (f : ℕ) → In f m.live
-    → (p : Vector) → IsBelowAll at m p → height at m f p ≡ pos 0
+    → (p : Vector) → IsBelowAll at m p → height_over at m f p ≡ pos 0
     → Combination at (OnPlane at (Members ids) (m.i f) (m.j f) (m.k f)) p
 
 -- ---- points between a facet and an inner place
