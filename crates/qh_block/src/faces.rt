@@ -18,7 +18,8 @@ ghost use Rattle.qh_plane.specs.contract.PlanarSets.{IsPlanarSet};
 ghost use Rattle.qh_surface.specs.contract.NamedMeshes.{named, IsNamedMesh};
 ghost use Rattle.qh_surface.specs.contract.Corners.{AreCornersBelow};
 ghost use Rattle.qh_surface.specs.contract.Walks.{mark_at};
-ghost use Rattle.qh_block.specs.steps.Faces.{corners_of, from_least, IsListedCorner, IsFacetPolygon, IsNewPlane, IsNewFace, AreFacetFaces};
+ghost use Rattle.qh_block.specs.contract.FacetPolygons.{IsFacetPolygon};
+ghost use Rattle.qh_block.specs.steps.Faces.{corners_of, from_least, IsListedCorner, IsNewPlane, IsNewFace, AreFacetFaces};
 
 use crate::plane_walk::IsLevel;
 use qh_mesh::FacetNo;
@@ -147,7 +148,11 @@ fn new_face(
 }
 
 /// The faces of a finished mesh, one for each plane of its live facets, in no order.
-pub fn faces(alloc: Global, pts: &[Point], surface: &NamedMesh) -> Result<Vec<Polygon>, Memory>
+pub(crate) fn faces(
+    alloc: Global,
+    pts: &[Point],
+    surface: &NamedMesh,
+) -> Result<Vec<Polygon>, Memory>
     requires { IsNamedMesh pts.now surface.now }
     ensures { let fs = named surface.now in
         IfOk result (λ v. (ids : List ℕ) → IsIdSet pts.now ids → IsFinished (place pts.now) ids (surface_of fs)

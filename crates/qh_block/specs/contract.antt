@@ -1,0 +1,2 @@
+-- What public contracts speak of.
+pub mod FacetPolygons
