@@ -1,16 +1,15 @@
 -- Parts of a set, each with a finished surface and a seam to the others, and faces that they give out.
 -- This project's own.
-use Rattle.std.specs.Prelude.{ℕ, ◌≡◌, ◌⊎◌, List, Bool, true}
+use Rattle.std.specs.Prelude.{ℕ, ◌≡◌, ◌⊎◌, List, Bool, true, pos}
 use Rattle.qh_model.specs.headline.Vector.{Vector}
 use Rattle.qh_model.specs.headline.Sets.{In, Members}
 use Rattle.qh_model.specs.headline.Extreme.{Extreme}
 use Rattle.qh_model.specs.headline.SupportingPlane.{OnPlane}
 use Rattle.qh_model.specs.headline.Polygons.{IsFacePolygon}
-use Rattle.qh_model.specs.contract.Surface.{Surface}
+use Rattle.qh_model.specs.contract.Surface.{Surface, IsCorner}
 use Rattle.qh_model.specs.contract.FinishedSurface.{IsFinished}
 use Rattle.qh_model.specs.contract.ClosedPolygons.{IsFace, AreClosed}
-use Rattle.qh_model.specs.laws.FacetPlanes.{IsLevelFacet}
-use Rattle.qh_seam_laws.specs.contract.Seam.{IsBelowAll, IsRing, IsSeam}
+use Rattle.qh_seam_laws.specs.contract.Seam.{height_over, IsBelowAll, IsRing, IsSeam}
 
 -- the kept ids are a part of all with all extreme ids
 pub record AreKept (at : ℕ → Vector) (all kept : List ℕ) : Type 0 where
@@ -23,10 +22,14 @@ pub record IsPart (at : ℕ → Vector) (all kept ids : List ℕ) (m : Surface) 
   pub inside : (l : ℕ) → In l ids → In l all
   pub seam : IsSeam at m stay (Members kept)
 
+-- the corners of facet g are in the plane of facet f
+abbrev pub IsInPlaneOf : (ℕ → Vector) → Surface → (f g : ℕ) → Type 0
+IsInPlaneOf at m f g = (l : ℕ) → IsCorner m g l → height_over at m f (at l) ≡ pos 0
+
 -- where a facet of the ring lies in the plane of f, no kept id that lies in it is above a facet
 abbrev pub IsClear : (ℕ → Vector) → List ℕ → Surface → (ℕ → Bool) → ℕ → Type 0
 IsClear at kept m stay f =
-    (g : ℕ) → IsRing m stay g → IsLevelFacet at m f g
+    (g : ℕ) → IsRing m stay g → IsInPlaneOf at m f g
     → (l : ℕ) → OnPlane at (Members kept) (m.i g) (m.j g) (m.k g) l → IsBelowAll at m (at l)
 
 -- the polygon, in a part, of a facet that stays and has a clear plane
