@@ -9,6 +9,7 @@ ghost use Rattle.qh_model.specs.contract.IdSets.{IsIdSet};
 ghost use Rattle.qh_model.specs.headline.Extreme.{Extreme};
 ghost use Rattle.qh_model.specs.contract.FinishedSurface.{IsFinished};
 ghost use Rattle.qh_model.specs.headline.Polygon.{IsPolygon};
+ghost use Rattle.qh_model.specs.headline.Polygons.{IsFacePolygon};
 ghost use Rattle.qh_model.specs.headline.Predicates.{cross, place};
 ghost use Rattle.qh_model.specs.headline.Sets.{In, Members};
 ghost use Rattle.qh_model.specs.contract.StoredSurface.{facet_at, surface_of};
@@ -18,7 +19,6 @@ ghost use Rattle.qh_plane.specs.contract.PlanarSets.{IsPlanarSet};
 ghost use Rattle.qh_surface.specs.contract.NamedMeshes.{named, IsNamedMesh};
 ghost use Rattle.qh_surface.specs.contract.Corners.{AreCornersBelow};
 ghost use Rattle.qh_surface.specs.contract.Walks.{mark_at};
-ghost use Rattle.qh_block.specs.contract.FacetPolygons.{IsFacetPolygon};
 ghost use Rattle.qh_block.specs.steps.Faces.{corners_of, from_least, IsListedCorner, IsNewPlane, IsNewFace, AreFacetFaces};
 
 use crate::plane_walk::IsLevel;
@@ -187,14 +187,14 @@ pub fn faces_of_chosen(
 ) -> Result<Vec<Polygon>, Memory>
     requires named { IsNamedMesh pts.now surface.now }
     requires marks { length surface.now.mesh ≡ length chosen.now }
-    ensures each { let fs = named surface.now in
+    ensures each { let fs = named surface.now in let t = facet_at fs in
         IfOk result (λ v. (ids : List ℕ) → IsIdSet pts.now ids → IsFinished (place pts.now) ids (surface_of fs)
         → (f : ℕ) → IsLive fs f → mark_at chosen.now f ≡ true
-        → (q : List ℕ) × In q v.items × IsFacetPolygon (place pts.now) (Members ids) fs f q) }
-    ensures only { let fs = named surface.now in
+        → (q : List ℕ) × In q v.items × IsFacePolygon (place pts.now) (Members ids) (t f).i (t f).j (t f).k q) }
+    ensures only { let fs = named surface.now in let t = facet_at fs in
         IfOk result (λ v. (ids : List ℕ) → IsIdSet pts.now ids → IsFinished (place pts.now) ids (surface_of fs)
         → (q : List ℕ) → In q v.items
-        → (f : ℕ) × IsLive fs f × (mark_at chosen.now f ≡ true) × IsFacetPolygon (place pts.now) (Members ids) fs f q) }
+        → (f : ℕ) × IsLive fs f × (mark_at chosen.now f ≡ true) × IsFacePolygon (place pts.now) (Members ids) (t f).i (t f).j (t f).k q) }
 {
     let mut places = no_marks(alloc, surface.mesh.places())?;
     let marks = places.as_mut_slice();

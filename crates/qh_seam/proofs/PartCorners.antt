@@ -30,8 +30,9 @@ module _ (pts : List Vector) (ids shared kept : List ℕ) (parts : List Part) (a
   extremes : (l : ℕ) → Extreme (place pts) (Members ids) l → In l kept
   extremes l x =
       let (p, i, h) = of_flat_map ids_in parts l ((all l).1 x.0) in
-      (members l).1 (elim ((part p i).corners l (extremes_are_kept (place pts) ids p.ids.items (surface_of (named p.surface))
-      (part p i).finished (part_inside p i) l x h)) [
+      let m = surface_of (named p.surface) in
+      let (f, live, k) = extremes_are_kept (place pts) ids p.ids.items m (part p i).finished (part_inside p i) l x h in
+      (members l).1 (elim ((part p i).corners f live l k) [
         | inl o ↦ inl (in_flat_map own_in parts p l i o)
         | inr s ↦ inr s
       ])

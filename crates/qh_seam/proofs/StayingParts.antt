@@ -8,7 +8,7 @@ use Rattle.qh_model.proofs.{Members.All-of, Members.In-get_or, Members.to_contai
 use Rattle.qh_model.proofs.surfaces.Stored.{live_is_marked}
 use Rattle.qh_mesh.specs.contract.Replacement.{IsLive}
 use Rattle.qh_surface.specs.contract.{NamedMeshes.named}
-use Rattle.qh_block.specs.contract.FacetPolygons.{IsFacetPolygon}
+use Rattle.qh_block.specs.steps.Faces.{IsFacetPolygon}
 use Rattle.qh_seam_laws.specs.contract.Parts.{IsPartFace}
 use Rattle.qh_seam_laws.proofs.Parts.{strict_is_clear}
 use Rattle.qh_seam.specs.declared.parts.Part.{Part}

@@ -5,9 +5,10 @@ ghost use Rattle.qh_model.specs.headline.Sets.{In, Once};
 ghost use Rattle.qh_model.specs.contract.IdSets.{AreIndices};
 ghost use Rattle.qh_model.specs.contract.FinishedSurface.{IsFinished};
 ghost use Rattle.qh_model.specs.contract.StoredSurface.{surface_of};
+ghost use Rattle.qh_model.specs.laws.CompletenessLaws.{IsLiveCorner};
 ghost use Rattle.qh_surface.specs.contract.Corners.{AreCornersBelow};
 ghost use Rattle.qh_surface.specs.contract.NamedMeshes.{named, IsNamedMesh};
-ghost use Rattle.qh_seam.specs.contract.Parts.{IsCornerOf, IsPartOf};
+ghost use Rattle.qh_seam.specs.contract.Parts.{IsPartOf};
 
 use qh_model::{Id, Memory, Point};
 use qh_plane::{Shape, rank, rising_ids};
@@ -39,8 +40,8 @@ fn mesh_of(alloc: Global, pts: &[Point], ids: &[Id]) -> Result<Option<NamedMesh>
 /// The ids of the corners of the live facets, as they come.
 fn corners_of(alloc: Global, surface: &NamedMesh) -> Result<Vec<Id>, AllocError>
     requires { AreCornersBelow (length surface.now.ids.items) surface.now.mesh }
-    ensures all { IfOk result (λ v. (l : ℕ) → IsCornerOf (surface_of (named surface.now)) l → In l v.items) }
-    ensures only { IfOk result (λ v. (l : ℕ) → In l v.items → IsCornerOf (surface_of (named surface.now)) l) }
+    ensures all { IfOk result (λ v. (l : ℕ) → IsLiveCorner (surface_of (named surface.now)) l → In l v.items) }
+    ensures only { IfOk result (λ v. (l : ℕ) → In l v.items → IsLiveCorner (surface_of (named surface.now)) l) }
 {
     let mut corners = Vec::new(alloc);
     for f in surface.mesh.live() {

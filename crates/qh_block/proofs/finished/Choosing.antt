@@ -6,8 +6,7 @@ use Rattle.qh_model.specs.contract.{IdSets.IsIdSet, FinishedSurface.IsFinished, 
 use Rattle.qh_model.proofs.{lists.Joined.of_append, surfaces.Stored.live_is_marked}
 use Rattle.qh_mesh.specs.contract.Replacement.{IsLive}
 use Rattle.qh_surface.specs.contract.Walks.{mark_at}
-use Rattle.qh_block.specs.contract.FacetPolygons.{IsFacetPolygon}
-use Rattle.qh_block.specs.steps.{Faces.IsNewPlane, Faces.IsNewFace, Faces.AreMarkedFaces}
+use Rattle.qh_block.specs.steps.{Faces.IsFacetPolygon, Faces.IsNewPlane, Faces.IsNewFace, Faces.AreMarkedFaces}
 use Rattle.qh_block.proofs.finished.FaceLists.{no_faces, new_plane, next_face}
 use Rattle.qh_surface.proofs.LiveFacets.{live_below}
 

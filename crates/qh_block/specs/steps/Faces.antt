@@ -7,7 +7,7 @@ use Rattle.qh_model.specs.headline.Sets.{In}
 use Rattle.qh_model.specs.contract.Surface.{IsCorner}
 use Rattle.qh_model.specs.laws.FacetPlanes.{IsLevelFacet}
 use Rattle.qh_model.specs.contract.StoredSurface.{StoredFacet, facet_at, surface_of}
-use Rattle.qh_block.specs.contract.FacetPolygons.{IsFacetPolygon}
+use Rattle.qh_model.specs.headline.Polygons.{IsFacePolygon}
 use Rattle.qh_mesh.specs.contract.Replacement.{IsLive}
 use Rattle.qh_surface.specs.contract.Walks.{mark_at}
 
@@ -28,6 +28,10 @@ from_least i j k =
 -- l is a corner of a listed facet
 abbrev pub IsListedCorner : List StoredFacet → List ℕ → ℕ → Type 0
 IsListedCorner fs vs l = (g : ℕ) × In g vs × IsCorner (surface_of fs) g l
+
+-- q is the polygon of the plane of facet f
+abbrev pub IsFacetPolygon : (ℕ → Vector) → (ℕ → Type 0) → List StoredFacet → ℕ → List ℕ → Type 0
+IsFacetPolygon at A fs f q = IsFacePolygon at A (facet_at fs f).i (facet_at fs f).j (facet_at fs f).k q
 
 -- the live facets in the plane of facet f, and no others, were marked; q is the polygon of the plane
 pub record IsNewFace (at : ℕ → Vector) (A : ℕ → Type 0) (fs : List StoredFacet) (f : ℕ) (before after : List Bool) (q : List ℕ)

@@ -6,16 +6,12 @@ use Rattle.std.specs.List.Sorted.{IsStrictlyIncreasing}
 use Rattle.qh_model.specs.headline.Vector.{Vector}
 use Rattle.qh_model.specs.headline.Predicates.{place}
 use Rattle.qh_model.specs.headline.Sets.{In, Members}
-use Rattle.qh_model.specs.contract.Surface.{Surface, IsCorner}
 use Rattle.qh_model.specs.contract.FinishedSurface.{IsFinished}
+use Rattle.qh_model.specs.contract.Surface.{IsCorner}
 use Rattle.qh_model.specs.contract.StoredSurface.{surface_of}
 use Rattle.qh_surface.specs.contract.NamedMeshes.{named, IsNamedMesh}
 use Rattle.qh_seam_laws.specs.contract.Seam.{IsSeam, IsStrictRing}
 use Rattle.qh_seam.specs.declared.parts.Part.{Part}
-
--- l is a corner of a live facet
-abbrev pub IsCornerOf : Surface → ℕ → Type 0
-IsCornerOf m l = (f : ℕ) × In f m.live × IsCorner m f l
 
 -- the ids of a part
 abbrev pub ids_in : Part → List ℕ
@@ -35,7 +31,7 @@ pub record IsPartOf (pts : List Vector) (shared : List ℕ) (p : Part) : Type 0 
   pub rising : IsStrictlyIncreasing p.ids.items
   pub mesh : IsNamedMesh pts p.surface
   pub finished : IsFinished (place pts) p.ids.items (surface_of (named p.surface))
-  pub corners : (l : ℕ) → IsCornerOf (surface_of (named p.surface)) l → In l p.own.items ⊎ In l shared
+  pub corners : let m = surface_of (named p.surface) in (f : ℕ) → In f m.live → (l : ℕ) → IsCorner m f l → In l p.own.items ⊎ In l shared
   pub inside : (l : ℕ) → In l p.own.items → In l p.ids.items
   pub has_shared : (l : ℕ) → In l shared → In l p.ids.items
 

@@ -22,10 +22,14 @@ pub record IsPart (at : ℕ → Vector) (all kept ids : List ℕ) (m : Surface) 
   pub inside : (l : ℕ) → In l ids → In l all
   pub seam : IsSeam at m stay (Members kept)
 
+-- the corners of facet g are in the plane of facet f
+abbrev pub IsInPlaneOf : (ℕ → Vector) → Surface → (f g : ℕ) → Type 0
+IsInPlaneOf at m f g = (l : ℕ) → IsCorner m g l → height_over at m f (at l) ≡ pos 0
+
 -- where a facet of the ring lies in the plane of f, no kept id that lies in it is above a facet
 abbrev pub IsClear : (ℕ → Vector) → List ℕ → Surface → (ℕ → Bool) → ℕ → Type 0
 IsClear at kept m stay f =
-    (g : ℕ) → IsRing m stay g → ((i : ℕ) → IsCorner m g i → height_over at m f (at i) ≡ pos 0)
+    (g : ℕ) → IsRing m stay g → IsInPlaneOf at m f g
     → (l : ℕ) → OnPlane at (Members kept) (m.i g) (m.j g) (m.k g) l → IsBelowAll at m (at l)
 
 -- the polygon, in a part, of a facet that stays and has a clear plane

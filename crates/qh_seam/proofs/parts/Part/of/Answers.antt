@@ -20,7 +20,7 @@ returns-clause-part c = record {
   rising = c.in_ok-ids.ensures.rising;
   mesh = rw c.in-Some.is at c.in_ok-surface.ensures.named;
   finished = finished;
-  corners = λ l k. all l ((listed l).1 (c.in_ok-listed_corners.ensures.all l k));
+  corners = λ f live l k. all l ((listed l).1 (c.in_ok-listed_corners.ensures.all l (f, live, k)));
   has_shared = rw c.deref.ensures.value at (c.are_in.ensures c.if-not-are_in.false);
   inside = λ l i. (let (f, live, k) = c.in_ok-listed_corners.ensures.only l ((listed l).0 (only l i)) in finished.corners f live l k);
 }

@@ -1,2 +1,0 @@
--- What public contracts speak of.
-pub mod FacetPolygons
