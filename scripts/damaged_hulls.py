@@ -21,7 +21,7 @@ from types import SimpleNamespace
 
 from check_hull import Checker, Wrong, check, span
 from fuzz_hulls import small_set
-from limits import PROGRAM
+from limits import COORDINATE_LIMIT, PROGRAM
 import package  # noqa: F401
 from qconvex.commands.off_files import Faces, read_off
 from qconvex.commands.point_files import text_of
@@ -203,6 +203,11 @@ def shuffled(faces):
     return with_faces(faces, rng.sample(turned_on, len(turned_on)))
 
 
+def are_in_range(points):
+    """Whether the programs take the points."""
+    return all(abs(part) <= COORDINATE_LIMIT for point in points for part in point)
+
+
 def told(points, faces):
     """What hullcheck finds wrong, or None."""
     with tempfile.NamedTemporaryFile("w") as given:
@@ -218,7 +223,7 @@ def told(points, faces):
 def verdict(points, faces):
     """What is wrong, or None."""
     by_script = None
-    solid = OPTIONS.checker and len(span(points)) == 3
+    solid = OPTIONS.checker and len(span(points)) == 3 and are_in_range([*points, *faces.points])
     if not (solid and OPTIONS.alone):
         try:
             check(Checker(points), faces, OPTIONS)

@@ -113,7 +113,7 @@ fn options_stand_before_or_behind_files(rt: HostRuntime) -> Result<(), Fail> {
     )?;
     let settings = settings_of(&words);
     let Ok(settings) = settings else {
-        return Err(Fail);
+        return Err(Fail::new("no settings"));
     };
     assert!(rt; settings.workers == 64 && settings.reading.naming == Naming::Indices);
     assert!(rt; settings.points == Some("a") && settings.faces == Some("b"));
