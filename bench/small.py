@@ -7,7 +7,8 @@
 Each row is some seeded sets of one size, all solid, about 8,192 points together. `small_hulls.cpp` makes them by all libraries in
 turn, with what each keeps in memory already, and the least CPU time of the rounds counts, in microseconds a hull. `hulls` is
 one call of qconvex_hulls for all sets. The ratios are of qconvex_hull to each peer; the goals are 0.3 of Qhull, 0.8 of CGAL
-from 8 points on and 1.0 of Bullet. A set that Qhull refuses has no ratio.
+from 8 points on and 1.0 of Bullet. A `*` stands where a peer
+finds another number of vertices; where it refuses a set, it has no time.
 
 In Python `ConvexHull` with all attributes that scipy's constructor computes stands beside that, and one call of `hulls` beside
 the C call: its goal is 1.5 of that. Needs `make -C c`. The status is 1 where a goal is missed by more than a tenth.
@@ -71,12 +72,12 @@ def built(folder):
 
 
 def library_times(program, sets, rounds):
-    """Microseconds a hull of each library, or None where it refused a set or found another number of vertices."""
+    """Microseconds a hull of each library, or None where it refused a set, and the libraries that find other vertices."""
     data = struct.pack("<2Q", len(sets), sets.shape[1]) + sets.tobytes()
     text = subprocess.run([program, str(rounds)], input=data, capture_output=True, check=True).stdout.decode()
     rows = [line.split() for line in text.splitlines()]
-    vertices = rows[0][2]
-    return {name: float(time) / len(sets) * 1e6 if found == vertices else None for name, time, found in rows}
+    times = {name: float(time) / len(sets) * 1e6 if found != "-1" else None for name, time, found in rows}
+    return times, {name for name, _, found in rows if found not in (rows[0][2], "-1")}
 
 
 def best_of(work, rounds):
@@ -118,11 +119,11 @@ def missed_goals(count, times):
     return missed + (["hulls"] if times["module hulls"] > 1.5 * OVER * times["hulls"] else [])
 
 
-def cells_of(family, count, times):
+def cells_of(family, count, times, others):
     """A row of the table."""
     ratios = ["%.2f" % (times["hull"] / times[name]) if times[name] else "" for name in GOALS]
     names = ["hull", "hulls", "qhull", "cgal", "bullet"]
-    libraries = ["%.1f" % times[name] if times[name] else "refused" for name in names]
+    libraries = ["%.1f%s" % (times[name], "*" * (name in others)) if times[name] else "refused" for name in names]
     module = ["%.1f" % times[name] for name in ("module hulls", "module", "all", "scipy")]
     return [family, str(count), *libraries, *ratios, *module, "%.2f" % (times["all"] / times["scipy"])]
 
@@ -142,10 +143,11 @@ def main():
         for family in given.families.split(","):
             for count in map(int, given.counts.split(",")):
                 sets = sets_of(family, count)
-                times = {**library_times(program, sets, given.rounds), **module_times(sets, given.rounds)}
+                times, others = library_times(program, sets, given.rounds)
+                times.update(module_times(sets, given.rounds))
                 missed = missed_goals(count, times)
                 status = status or bool(missed)
-                print("| " + " | ".join([*cells_of(family, count, times), " ".join(missed)]) + " |", flush=True)
+                print("| " + " | ".join([*cells_of(family, count, times, others), " ".join(missed)]) + " |", flush=True)
     return int(status)
 
 

@@ -114,6 +114,26 @@ static void longest_normal(void) {
     expect(qconvex_fans(square, 2, &count, triangles, 6, normals, 6) == QCONVEX_DONE && count == 0, "a segment has no triangles");
 }
 
+static void volumes(void) {
+    static const int32_t end = QCONVEX_COORDINATE_LIMIT;
+    const qconvex_point corner[4] = {{-end, -end, -end}, {end, -end, -end}, {-end, end, -end}, {-end, -end, end}};
+    static const uint32_t outward[13] = {0, 2, 1, 0, 1, 3, 0, 3, 2, 1, 2, 3, 9}, beyond[3] = {0, 1, 9};
+    qconvex_wide volume = {UNTOUCHED, UNTOUCHED};
+    expect(qconvex_six_volumes(cube, 0, outward, 12, &volume) == QCONVEX_NO_POINT && volume.low == UNTOUCHED, "volume of no point");
+    expect(qconvex_six_volumes(cube, 9, beyond, 3, &volume) == QCONVEX_RANGE && volume.low == UNTOUCHED, "a corner beyond the points");
+    expect(qconvex_six_volumes(corner, 4, outward, 12, &volume) == QCONVEX_DONE, "the largest corner");
+    expect(volume.low == 0 && volume.high == (uint64_t)1 << 29, "six volumes of 2^93");
+    static const uint32_t inward[12] = {0, 1, 2, 0, 3, 1, 0, 2, 3, 1, 3, 2};
+    expect(qconvex_six_volumes(corner, 4, inward, 12, &volume) == QCONVEX_DONE, "the same, inside out");
+    expect(volume.low == 0 && volume.high == (uint64_t)-1 - ((uint64_t)1 << 29) + 1, "less than nothing");
+    expect(qconvex_six_volumes(corner, 4, outward, 2, &volume) == QCONVEX_DONE && volume.low == 0 && volume.high == 0, "no triangle");
+    uint32_t triangles[36];
+    int64_t normals[36];
+    size_t count;
+    expect(qconvex_fans(cube, 9, &count, triangles, 36, normals, 36) == QCONVEX_DONE, "triangles of the cube");
+    expect(qconvex_six_volumes(cube, 9, triangles, 3 * count, &volume) == QCONVEX_DONE && volume.low == 6 && volume.high == 0, "a cube");
+}
+
 static void version_is_that_of_the_header(void) {
     int major, minor, patch;
     expect(sscanf(QCONVEX_VERSION, "%d.%d.%d", &major, &minor, &patch) == 3, "the header's version has three numbers");
@@ -126,6 +146,7 @@ int main(void) {
     cube_is_done();
     fans_of_a_cube();
     longest_normal();
+    volumes();
     short_buffers_are_refused();
     bad_points_are_refused();
     printf(wrong ? "%d answers are wrong\n" : "all answers are right\n", wrong);

@@ -84,6 +84,20 @@ uint32_t qconvex_fans(const qconvex_point *points, size_t count, size_t *triangl
                       uint32_t *triangles, size_t triangles_room,
                       int64_t *normals, size_t normals_room);
 
+/* A whole number of 128 bits, in two's complement: high * 2^64 + low, less 2^128 where high is 2^63 or more. */
+typedef struct {
+    uint64_t low, high;
+} qconvex_wide;
+
+/* Six times the volume inside triangles that close up, as those of qconvex_fans do: the sum of the determinants of the
+ * corners of each, seen from the first point; exact, and above 0 where they are counterclockwise seen from outside. Three
+ * numbers of `triangles` are one triangle; one or two that are left count nothing. QCONVEX_DONE: volume is the sum.
+ * QCONVEX_NO_POINT, QCONVEX_RANGE where a coordinate is out of range or a corner is the index of no point, and QCONVEX_ROOM
+ * where the sum, or one on the way to it, has more than 128 bits, which takes millions of triangles, leave it as it was.
+ * There is no other answer, and no memory is asked for. */
+uint32_t qconvex_six_volumes(const qconvex_point *points, size_t count, const uint32_t *triangles, size_t corner_count,
+                             qconvex_wide *volume);
+
 /* What a set among many is told. */
 typedef struct {
     uint32_t code;       /* the answer of qconvex_hull for the set alone */

@@ -70,7 +70,7 @@ def commands(text):
         starts = [index for index, line in enumerate(block) if line.startswith("$ ")]
         for start, end in zip(starts, [*starts[1:], len(block)]):
             words, rest = [block[start][2:]], block[start + 1 : end]
-            while rest and rest[0].startswith("> "):
+            while rest and (rest[0] == ">" or rest[0].startswith("> ")):
                 words.append(rest.pop(0)[2:])
             found.append(Command("\n".join(words), without_blank_end(rest), first + start, marks))
     return found

@@ -7,10 +7,10 @@ from typing import TYPE_CHECKING, Any, Sequence, Union
 import numpy as np
 from numpy.typing import NDArray
 
-from ._library import RANGE_REFUSAL, FlatHull, flat_hull
+from ._library import RANGE_REFUSAL, FlatHull, flat_hull, six_volumes
 from ._limits import COORDINATE_LIMIT
 from ._texts import obj_text, off_text
-from ._triangles import equations_of, exact_sum_of_products, fans_of, lengths_of, neighbors_of, normals_of
+from ._triangles import equations_of, fans_of, lengths_of, neighbors_of, normals_of
 
 if TYPE_CHECKING:
     from ._floats import FloatHull
@@ -193,8 +193,7 @@ class ConvexHull:
         """Six times the volume, exact; 0 below dimension 3."""
         if self.dimension < 3:
             return 0
-        arms = self._first_corners.astype(np.int64) - self.points[self.vertices[0]]
-        return exact_sum_of_products(self.normals, arms)
+        return six_volumes(self.points, self.simplices)
 
     @cached_property
     def volume(self) -> float:

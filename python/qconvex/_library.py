@@ -32,6 +32,10 @@ class _Sizes(ctypes.Structure):
     ]
 
 
+class _Wide(ctypes.Structure):
+    _fields_ = [("low", ctypes.c_uint64), ("high", ctypes.c_uint64)]
+
+
 class FlatHull(NamedTuple):
     """A hull in flat lists, as the library writes it."""
 
@@ -58,6 +62,8 @@ def _load() -> ctypes.CDLL:
     library.qconvex_version.argtypes = []
     library.qconvex_hull.restype = ctypes.c_uint32
     library.qconvex_hull.argtypes = [*buffer, ctypes.POINTER(_Sizes), *buffer, *buffer, *buffer]
+    library.qconvex_six_volumes.restype = ctypes.c_uint32
+    library.qconvex_six_volumes.argtypes = [*buffer, *buffer, ctypes.POINTER(_Wide)]
     return library
 
 
@@ -110,6 +116,23 @@ def _call(points: NDArray[np.int32], sizes: _Sizes, room: tuple[int, int, int]) 
 def error_of(code: int) -> Exception:
     """What an answer other than that all is done, or that there is too little room, means."""
     return MemoryError("memory was refused") if code == _MEMORY else ValueError(_REFUSALS[code])
+
+
+def six_volumes(points: NDArray[np.int32], triangles: NDArray[np.int32]) -> int:
+    """Six times the volume inside triangles, for arrays of int32 with three numbers a row, whose rows lie one after the other.
+
+    Raises ValueError where the library refuses the points or the corners, and OverflowError where a sum has more than 128 bits.
+    """
+    volume = _Wide()
+    code = LIBRARY.qconvex_six_volumes(
+        points.ctypes.data, len(points), triangles.ctypes.data, triangles.size, ctypes.byref(volume)
+    )
+    if code == _ROOM:
+        raise OverflowError("a sum of volumes has more than 128 bits")
+    if code != _DONE:
+        raise error_of(code)
+    bits = volume.high << 64 | volume.low
+    return bits - (bits >> 127 << 128)
 
 
 def flat_hull(points: NDArray[np.int32]) -> FlatHull:

@@ -1,7 +1,6 @@
 """What numpy finds of the triangles of a surface."""
 from __future__ import annotations
 
-from operator import mul
 from typing import Any
 
 import numpy as np
@@ -9,8 +8,6 @@ from numpy.typing import NDArray
 
 # The places behind and before each of three places that go round.
 _NEXT, _LAST = np.array([1, 2, 0]), np.array([2, 0, 1])
-# Of so few products Python's own sum is faster than several of numpy's.
-_FEW = 3000
 
 
 def fans_of(corners: NDArray[np.int32], offsets: NDArray[np.intp]) -> NDArray[np.int32]:
@@ -76,20 +73,3 @@ def neighbors_of(triangles: NDArray[np.int32], count: int, *, closed: bool) -> N
     neighbors = np.full(len(keys), -1, np.int32)
     neighbors[one], neighbors[other] = other // 3, one // 3
     return neighbors.reshape(-1, 3)
-
-
-def exact_sum_of_products(left: NDArray[Any], right: NDArray[Any]) -> int:
-    """The sum of the products of equal places, for left at most 2^62 in size and right 2^31, at most 2^25 of them.
-
-    Both are cut into pieces of 21 and of 16 bits. A product of two pieces is at most 2^37, so sums of them have 64 bits.
-    """
-    left, right = left.ravel(), right.ravel()
-    if len(left) <= _FEW:
-        return sum(map(mul, left.tolist(), right.tolist()))
-    lefts = (left & 0x1FFFFF, (left >> 21) & 0x1FFFFF, left >> 42)
-    rights = (right & 0xFFFF, right >> 16)
-    return sum(
-        int(np.dot(piece, other)) << (21 * place + 16 * step)
-        for place, piece in enumerate(lefts)
-        for step, other in enumerate(rights)
-    )

@@ -4,3 +4,4 @@ pub mod FanLists
 pub mod SetParts
 pub mod SetHulls
 pub mod StartsTest
+pub mod VolumeSums

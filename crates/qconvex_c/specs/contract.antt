@@ -4,3 +4,4 @@ pub mod Answered
 pub mod Triangles
 pub mod Codes
 pub mod Sets
+pub mod Volumes

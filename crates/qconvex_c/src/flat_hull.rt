@@ -48,8 +48,8 @@ fn faces_of(alloc: Global, faces: &[Polygon]) -> Result<Faces, AllocError>
     ensures corners { IfOk result (λ f. f.corners.items ≡ corners_of faces.now) }
     ensures offsets { IfOk result (λ f. f.offsets.items ≡ offsets_of faces.now) }
 {
-    let mut corners = Vec::new(alloc);
-    let mut offsets = Vec::new(alloc);
+    let mut corners = Vec::with_capacity(alloc, faces.len().saturating_mul(3))?;
+    let mut offsets = Vec::with_capacity(alloc, faces.len().saturating_add(1))?;
     offsets.push(0usize)?;
     for face in faces {
         push_numbers(&mut corners, face.ids())?;

@@ -1,8 +1,9 @@
 //! Points as C gives them.
-ghost use Rattle.std.specs.Prelude.{◌≡◌, ◌≤◌, ◌<◌, ◌↔◌, IsTrue, IfOk};
+ghost use Rattle.std.specs.Prelude.{◌≡◌, ◌≤◌, ◌<◌, ◌↔◌, length, IsTrue, IfOk};
 ghost use Rattle.std.specs.List.{All};
 ghost use Rattle.qh_model.specs.headline.Limits.{IsCoordinate};
 ghost use Rattle.qh_model.specs.contract.Places.{IsPlace};
+ghost use Rattle.qh_model.specs.headline.Predicates.{place};
 
 use qh_model::{COORDINATE_LIMIT, Memory, Point};
 use std::alloc::Global;
@@ -81,4 +82,15 @@ pub fn points_of(alloc: Global, given: &[Given]) -> Result<Vec<Point>, Memory>
         points.push(Point::new(point.x, point.y, point.z))?;
     }
     Ok(points)
+}
+
+/// One of the points, as volumes are made of it.
+#[tactic(auto, unfolding(qh_model::specs::headline::Predicates::place))]
+pub fn point_of(given: &[Given], index: u32) -> Point
+    requires places { All IsPlace given.now }
+    requires index { index < length given.now }
+    ensures { result ≡ place given.now index }
+{
+    let point = given[index as usize];
+    Point::new(point.x, point.y, point.z)
 }

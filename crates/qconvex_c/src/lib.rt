@@ -25,6 +25,9 @@ mod sizes;
 #[cfg(test)]
 mod tests;
 mod version;
+#[cfg(test)]
+mod volume_tests;
+mod volumes;
 mod written;
 
 pub use code::{DONE, MEMORY, NO_POINT, RANGE, ROOM, STARTS, TOO_MANY};
@@ -34,3 +37,4 @@ pub use many::qconvex_hulls;
 pub use set_answer::SetAnswer;
 pub use sizes::Sizes;
 pub use version::{VERSION, qconvex_version};
+pub use volumes::{Wide, qconvex_six_volumes};
