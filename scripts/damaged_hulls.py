@@ -1,32 +1,34 @@
 #!/usr/bin/env python3
 """Damages right hulls, and shows that check_hull.py finds each damage and passes the right ones.
 
-    scripts/damaged_hulls.py [--cases N] [--seed N] [--program PATH] [--qhull COMMAND]
+    scripts/damaged_hulls.py [--cases N] [--seed N] [--program PATH] [--qhull COMMAND] [--checker PATH [--alone]]
 
 The right hulls are this program's, of the small sets of fuzz_hulls.py. Each damage makes a wrong hull of any right one:
 a face is lost, doubled, turned, joined with its neighbour, loses or changes a corner; a corner is moved; a point is
 forgotten or comes on; a corner is put within an edge or a face. Where Qhull is installed, its facets (options `o` and
 `Qt o`) of the same sets have to pass, too, if they are the right ones: if it names the same points for each facet as this
-program. It prints how many of each were tried, and each that came out otherwise; the status is then 1.
+program. With --checker the program hullcheck has to say the same of each set that is not flat, of faces in any order and beginning at
+any corner; with --alone it is asked alone. It prints how many of each were tried, and each that came out otherwise; the status is then 1.
 """
 import argparse
 import random
 import shutil
 import subprocess
 import sys
+import tempfile
 from collections import Counter
 from types import SimpleNamespace
 
-from check_hull import Checker, Wrong, check
+from check_hull import Checker, Wrong, check, span
 from fuzz_hulls import small_set
-from limits import PROGRAM
+from limits import COORDINATE_LIMIT, PROGRAM
 import package  # noqa: F401
 from qconvex.commands.off_files import Faces, read_off
 from qconvex.commands.point_files import text_of
 from qconvex.commands.vectors import minus, plus, times
 
 CASES = 200
-OPTIONS = SimpleNamespace(whole=False, unoriented=False)
+OPTIONS = SimpleNamespace(whole=False, unoriented=False, checker=None, alone=False, words=[])
 
 
 def written(command, points):
@@ -188,13 +190,51 @@ DAMAGES = [
 ]  # fmt: skip
 
 
+def off_text(faces):
+    """The OFF text of faces."""
+    rows = [[len(faces.points), len(faces.faces), 0], *faces.points, *([len(face), *face] for face in faces.faces)]
+    return "OFF\n" + "".join(" ".join(map(str, row)) + "\n" for row in rows)
+
+
+def shuffled(faces):
+    """The same faces in another order, beginning at other corners."""
+    rng = random.Random(len(faces.faces))
+    turned_on = [face[k:] + face[:k] for face in faces.faces for k in [rng.randrange(len(face))]]
+    return with_faces(faces, rng.sample(turned_on, len(turned_on)))
+
+
+def are_in_range(points):
+    """Whether the programs take the points."""
+    return all(abs(part) <= COORDINATE_LIMIT for point in points for part in point)
+
+
+def told(points, faces):
+    """What hullcheck finds wrong, or None."""
+    with tempfile.NamedTemporaryFile("w") as given:
+        given.write(text_of(points))
+        given.flush()
+        command = [OPTIONS.checker, *OPTIONS.words, given.name]
+        done = subprocess.run(command, input=off_text(shuffled(faces)).encode(), capture_output=True)
+    if done.returncode not in (0, 1):
+        raise RuntimeError(f"status {done.returncode}: {done.stderr.decode()}: {points}, {faces}")
+    return done.stdout.decode().strip() if done.returncode else None
+
+
 def verdict(points, faces):
     """What is wrong, or None."""
-    try:
-        check(Checker(points), faces, OPTIONS)
-    except Wrong as wrong:
-        return str(wrong)
-    return None
+    by_script = None
+    solid = OPTIONS.checker and len(span(points)) == 3 and are_in_range([*points, *faces.points])
+    if not (solid and OPTIONS.alone):
+        try:
+            check(Checker(points), faces, OPTIONS)
+        except Wrong as wrong:
+            by_script = str(wrong)
+    if not solid:
+        return by_script
+    by_program = told(points, faces)
+    if not OPTIONS.alone and (by_program is None) != (by_script is None):
+        raise RuntimeError(f"{by_program} by hullcheck, {by_script} by check_hull.py: {points}, {faces}")
+    return by_program
 
 
 def facets(faces):
@@ -229,15 +269,23 @@ def try_right(rng, program, qhull, counts):
         return None
     if facets(read_off(text)) != facets(mine):
         counts["another hull by Qhull"] += 1
-        return None if verdict(points, read_off(text)) else f"Qhull's hull is another and passes: {points}"
+        return None if verdict_of_qhull(points, text) else f"Qhull's hull is another and passes: {points}"
     counts["Qhull's"] += 1
     return next((f"Qhull's {o} is refused: {points}" for o in ("o", "Qt o") if not passes(qhull, o, points)), None)
+
+
+def verdict_of_qhull(points, text):
+    """What is wrong with Qhull's facets, which run clockwise, or None."""
+    OPTIONS.words = ["--clockwise"]
+    found = verdict(points, read_off(text))
+    OPTIONS.words = []
+    return found
 
 
 def passes(qhull, options, points):
     """Whether Qhull's facets pass."""
     text = written([*qhull, *options.split()], points)
-    return text is not None and verdict(points, read_off(text)) is None
+    return text is not None and verdict_of_qhull(points, text) is None
 
 
 class Kinds(list):
@@ -254,12 +302,15 @@ def arguments():
     parser.add_argument("--seed", type=int, default=1, help="the seed of the sets (default 1)")
     parser.add_argument("--program", default=PROGRAM, help="the built program")
     parser.add_argument("--qhull", default="qhull", help="Qhull's program (default qhull)")
+    parser.add_argument("--checker", help="the built hullcheck, to be asked, too")
+    parser.add_argument("--alone", action="store_true", help="asks hullcheck alone where it can be asked")
     return parser.parse_args()
 
 
 def main():
     options = arguments()
     rng = random.Random(options.seed)
+    OPTIONS.checker, OPTIONS.alone = options.checker, options.alone
     qhull = [options.qhull] if shutil.which(options.qhull) else []
     damages, right, kinds = Counter(), Counter(), Kinds(options.program)
     outcomes = [try_damage(rng, kinds, damages) for _ in range(options.cases)]

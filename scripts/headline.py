@@ -28,7 +28,7 @@ MOST_LINES = 450
 DEVICES = ((CRATES / "qh_read/src/source.rt", "Source"), (CRATES / "qh_write/src/sink.rt", "Sink"))
 HEADLINE = {(CRATES / "qh_serve/src/answers.rt", "answer"), (CRATES / "qh_serve/src/serving.rt", "serve")}
 SETTINGS = CRATES / "qh_serve/src/settings.rt"
-LAWS = (CRATES / "qh_model/src/laws", CRATES / "qh_laws/src", CRATES / "qh_tree_laws/src")
+LAWS = (CRATES / "qh_model/src/laws", CRATES / "qh_laws/src", CRATES / "qh_tree_laws/src", CRATES / "qh_seam_laws/src")
 NAMED = re.compile(r"`([^`\s]+)`")
 ROW = re.compile(r"^\| \[\w+\]\(([^)]*\.antt)\) \| ([^|]*) \|", re.M)
 
@@ -114,7 +114,7 @@ def laws():
 
 
 def laws_faults():
-    """Where docs/LAWS.md has more or less than the laws of qh_model, qh_laws and qh_tree_laws."""
+    """Where docs/LAWS.md has more or less than the laws of the crates."""
     listed, law = defaultdict(set), None
     for line in Path("docs/LAWS.md").read_text().split("\n"):
         cells = [cell.strip() for cell in line.split("|")]
@@ -123,7 +123,7 @@ def laws_faults():
             listed[law] |= set(NAMED.findall(cells[2]))
     stated = laws()
     for name in sorted(set(listed) ^ set(stated)):
-        yield "docs/LAWS.md and the laws of qh_model, qh_laws and qh_tree_laws disagree on %s" % name
+        yield "docs/LAWS.md and the laws of the crates disagree on %s" % name
     for name in sorted(set(listed) & set(stated)):
         if listed[name] != stated[name]:
             yield "docs/LAWS.md has other clauses of %s: %s" % (name, ", ".join(sorted(listed[name] ^ stated[name])))

@@ -1,5 +1,5 @@
 -- Points inside the hull of a sample: its planes, the cells between them, and the ids that are left without what these hold.
-use Rattle.std.proofs.Common.{ℕ, ◌≡◌, ◌+◌, ◌<◌, ◌⊎◌, ⊎_elim, inl, inr, List, [], ◌∷◌, ◌++◌, All, arith, length, get_or, refl, subst}
+use Rattle.std.proofs.Common.{ℕ, ◌≡◌, ◌+◌, ◌<◌, ◌⊎◌, ⊎_elim, inl, inr, List, [], ◌∷◌, ◌++◌, All, arith, length, get_or, refl, subst, suc, sym}
 use Rattle.std.proofs.lemmas.Grind.{common_steps}
 use Rattle.std.proofs.lemmas.List.{get_or_append_left}
 use Rattle.std.proofs.Math.Seq.{get_or-append_right}
@@ -7,14 +7,16 @@ use Rattle.std.specs.Prelude.{pos, ◌<ℤ◌}
 use Rattle.std.specs.List.Sorted.{IsStrictlyIncreasing}
 use Rattle.qh_model.specs.headline.{Vector.Vector, Predicates.place, Sets.In, Sets.Members, Extreme.Extreme, Extreme.Others}
 use Rattle.qh_model.specs.contract.{FinishedSurface.IsFinished, StoredSurface.StoredFacet, StoredSurface.surface_of}
-use Rattle.qh_model.proofs.Members.{All-In, All-of, in_at, rising_tail, rising_first}
+use Rattle.qh_model.proofs.Members.{All-In, in_at, rising_tail, rising_first}
 use Rattle.qh_model.proofs.extremes.{ExtremeIds.combination_within}
 use Rattle.qh_model.proofs.lists.{Joined.in_append, Joined.of_append, Rising.rising_append, Rising.rising_between}
 use Rattle.qh_model.proofs.surfaces.{Inside.inner_is_not_extreme, Stored.live_is_marked}
 use Rattle.qh_pred.specs.contract.Planes.{PlaneValue, height}
 use Rattle.qh_mesh.specs.contract.{Replacement.IsLive, SoundMesh.facet_vol}
 use Rattle.qh_block.specs.declared.inner_points.cells.Cell.{Cell}
-use Rattle.qh_block.specs.steps.InnerPoints.{IsBelow, IsCellOf, IsHeld, HasPlane, HasPlanes, HasNoExtreme, AreInner, IsKept, KeepsExtremes, IsOuterPart}
+use Rattle.qh_block.specs.declared.inner_points.columns.Columns.{Columns}
+use Rattle.qh_block.specs.steps.InnerPoints.{numbered, IsCellOf, IsHeld, HoldsPoint, HasPlane, HasPlanes, HasNoExtreme, AreInner}
+use Rattle.qh_block.specs.steps.InnerPoints.{IsKept, KeepsExtremes, IsOuterPart}
 use Rattle.qh_surface.proofs.LiveFacets.{all_live, rest_live}
 
 -- ---- the planes of the live facets
@@ -48,20 +50,29 @@ pub all_listed : {pts : List Vector} {fs : List StoredFacet} {all : List ℕ} {p
 all_listed old is g l = ⊎_elim (λ p. p) (λ i. absurd (subst (In g) is i)) (old.rest g l)
 
 -- ---- cells
+-- a plane of the list has a number
+number_of : (planes : List PlaneValue) (plane : PlaneValue) → In plane planes → (k : ℕ) × (k < length planes) × (numbered planes k ≡ plane)
+number_of [] plane m = absurd m
+number_of (q ∷ qs) plane (inl e) = (0, omega arith, sym e)
+number_of (q ∷ qs) plane (inr m) = let r = number_of qs plane m in let h = r.1 in (suc r.0, omega (arith, h), r.2)
+
 -- a point that a cell holds is strictly below each plane of the list
-held_is_below : (planes : List PlaneValue) (c : Cell) (p : Vector) → IsCellOf planes c → IsHeld c p → (plane : PlaneValue) → In plane planes
+held_is_below : (planes : List PlaneValue) (c : Cell) (p : Vector) → IsCellOf planes c → IsHeld planes c p → (plane : PlaneValue) → In plane planes
     → height plane p <ℤ pos 0
 held_is_below planes c p cell held plane i =
-    ⊎_elim (λ below. below p held.0) (λ near. All-In (λ q. height q p <ℤ pos 0) c.near.items plane held.1 near)
-    (All-In (λ q. IsBelow c.bounds q ⊎ In q c.near.items) planes plane cell i)
+    let at = number_of planes plane i in
+    subst (λ q. height q p <ℤ pos 0) at.2
+    (⊎_elim (λ below. below p held.0) (λ near. All-In (λ k. height (numbered planes k) p <ℤ pos 0) c.near.items at.0 held.1 near) (cell at.0 at.1))
 
--- so what a cell between all planes of the sample's surface holds is not extreme
-pub cells_are_inner : (pts : List Vector) (sample : List ℕ) (fs : List StoredFacet) (planes : List PlaneValue) (cs : List Cell)
-    → IsFinished (place pts) sample (surface_of fs) → HasPlanes pts fs planes → All (IsCellOf planes) cs → AreInner pts sample cs
-cells_are_inner pts sample fs planes cs z has cells ids sub =
-    All-of (HasNoExtreme pts ids) cs (λ c i l member held. inner_is_not_extreme (place pts) sample (surface_of fs) z l
+-- so what columns between all planes of the sample's surface hold is not extreme
+pub columns_are_inner : (pts : List Vector) (sample : List ℕ) (fs : List StoredFacet) (columns : Columns)
+    → IsFinished (place pts) sample (surface_of fs) → HasPlanes pts fs columns.planes.items → All (IsCellOf columns.planes.items) columns.cells.items
+    → AreInner pts sample columns
+columns_are_inner pts sample fs columns z has cells ids sub l member held =
+    inner_is_not_extreme (place pts) sample (surface_of fs) z l
     (λ f live. (let h = has f ((live_is_marked fs f).0 live) in subst (λ n. n <ℤ pos 0) (h.2 (place pts l))
-    (held_is_below planes c (place pts l) (All-In (IsCellOf planes) cs c cells i) held h.0 h.1))) ids sub)
+    (held_is_below columns.planes.items held.0 (place pts l) (All-In (IsCellOf columns.planes.items) columns.cells.items held.0 cells held.1) held.2 h.0 h.1)))
+    ids sub
 
 -- ---- the ids that are left
 -- a member without one of the numbers is one with it
@@ -105,23 +116,22 @@ inner_goes pts all ids kept rest x inner h = record {
 }
 
 -- all ids are kept where none was looked at
-pub all_kept : (pts : List Vector) (cs : List Cell) (ids : List ℕ) → KeepsExtremes pts cs ids ids
-all_kept pts cs ids = record { each = λ all sub none. record { rising = λ r. r; within = λ i m. m; extremes = λ i m e. m } }
+pub all_kept : (pts : List Vector) (columns : Columns) (ids : List ℕ) → KeepsExtremes pts columns ids ids
+all_kept pts columns ids = record { each = λ all sub none. record { rising = λ r. r; within = λ i m. m; extremes = λ i m e. m } }
 
--- an id of the set that a cell holds goes
-pub held_goes : (pts : List Vector) (cs : List Cell) (ids kept rest : List ℕ) (x : ℕ) (c : Cell) → In x ids → In c cs → IsHeld c (place pts x)
-    → KeepsExtremes pts cs ids (kept ++ x ∷ rest) → KeepsExtremes pts cs ids (kept ++ rest)
-held_goes pts cs ids kept rest x c member i held h = record {
-  each = λ all sub none. inner_goes pts all ids kept rest x
-      (All-In (HasNoExtreme pts all) cs c none i x (sub x member) held) (h.each all sub none);
+-- an id of the set whose point the columns hold goes
+pub held_goes : (pts : List Vector) (columns : Columns) (ids kept rest : List ℕ) (x : ℕ) → In x ids → HoldsPoint columns (place pts x)
+    → KeepsExtremes pts columns ids (kept ++ x ∷ rest) → KeepsExtremes pts columns ids (kept ++ rest)
+held_goes pts columns ids kept rest x member held h = record {
+  each = λ all sub none. inner_goes pts all ids kept rest x (none x (sub x member) held) (h.each all sub none);
 }
 
 -- what is kept of two parts is kept of both
-pub both_kept : (pts : List Vector) (cs : List Cell) (front back one two : List ℕ) → KeepsExtremes pts cs front one
-    → KeepsExtremes pts cs back two → KeepsExtremes pts cs (front ++ back) (one ++ two)
-both_kept pts cs front back one two a b = record { each = each }
+pub both_kept : (pts : List Vector) (columns : Columns) (front back one two : List ℕ) → KeepsExtremes pts columns front one
+    → KeepsExtremes pts columns back two → KeepsExtremes pts columns (front ++ back) (one ++ two)
+both_kept pts columns front back one two a b = record { each = each }
   where
-    each : (all : List ℕ) → ((i : ℕ) → In i (front ++ back) → In i all) → All (HasNoExtreme pts all) cs
+    each : (all : List ℕ) → ((i : ℕ) → In i (front ++ back) → In i all) → HasNoExtreme pts all columns
         → IsKept pts all (front ++ back) (one ++ two)
     each all sub none =
         let p = a.each all (λ i m. sub i (in_append front back i (inl m))) none in
@@ -134,9 +144,9 @@ both_kept pts cs front back one two a b = record { each = each }
         }
 
 -- what is kept of all ids of a set is a part with all its extreme ids
-pub kept_part : (pts : List Vector) (cs : List Cell) (ids kept : List ℕ) → All (HasNoExtreme pts ids) cs → KeepsExtremes pts cs ids kept
+pub kept_part : (pts : List Vector) (columns : Columns) (ids kept : List ℕ) → HasNoExtreme pts ids columns → KeepsExtremes pts columns ids kept
     → IsOuterPart pts ids kept
-kept_part pts cs ids kept none h = let k = h.each ids (λ i m. m) none in record {
+kept_part pts columns ids kept none h = let k = h.each ids (λ i m. m) none in record {
   rising = k.rising;
   extremes = record { within = k.within; extremes = λ i e. k.extremes i e.0 e };
 }

@@ -3,3 +3,4 @@ pub mod finished
 pub mod Cells
 pub mod InnerBoxes
 pub mod InnerPoints
+pub mod GatheredSets

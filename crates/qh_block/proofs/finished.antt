@@ -5,6 +5,7 @@ pub mod NewFaces
 pub mod LoneTriangles
 pub mod FaceLists
 pub mod Gathering
+pub mod Choosing
 pub mod FaceKeys
 pub mod MergedFaces
 pub mod FaceOrder

@@ -9,6 +9,7 @@ ghost use Rattle.qh_model.specs.contract.IdSets.{IsIdSet};
 ghost use Rattle.qh_model.specs.headline.Extreme.{Extreme};
 ghost use Rattle.qh_model.specs.contract.FinishedSurface.{IsFinished};
 ghost use Rattle.qh_model.specs.headline.Polygon.{IsPolygon};
+ghost use Rattle.qh_model.specs.headline.Polygons.{IsFacePolygon};
 ghost use Rattle.qh_model.specs.headline.Predicates.{cross, place};
 ghost use Rattle.qh_model.specs.headline.Sets.{In, Members};
 ghost use Rattle.qh_model.specs.contract.StoredSurface.{facet_at, surface_of};
@@ -25,8 +26,8 @@ use qh_mesh::FacetNo;
 use qh_model::{Id, Memory, Point, Polygon};
 use qh_plane::polygon;
 use qh_pred::{cross, point_at};
-use qh_surface::NamedMesh;
 use qh_surface::walk::walk;
+use qh_surface::{NamedMesh, plane_of};
 use std::alloc::{AllocError, Global};
 
 /// Room for the facets of a plane and for their corners, used again from plane to plane.
@@ -135,6 +136,7 @@ fn new_face(
     let level = IsLevel {
         pts: &surface.points,
         start: f,
+        plane: plane_of(&surface.points, &surface.mesh, f),
     };
     walk(&surface.mesh, &level, f, marks, &mut room.facets)?;
     // Most planes have one facet: its corners are the face.
@@ -146,7 +148,11 @@ fn new_face(
 }
 
 /// The faces of a finished mesh, one for each plane of its live facets, in no order.
-pub fn faces(alloc: Global, pts: &[Point], surface: &NamedMesh) -> Result<Vec<Polygon>, Memory>
+pub(crate) fn faces(
+    alloc: Global,
+    pts: &[Point],
+    surface: &NamedMesh,
+) -> Result<Vec<Polygon>, Memory>
     requires { IsNamedMesh pts.now surface.now }
     ensures { let fs = named surface.now in
         IfOk result (λ v. (ids : List ℕ) → IsIdSet pts.now ids → IsFinished (place pts.now) ids (surface_of fs)
@@ -161,6 +167,46 @@ pub fn faces(alloc: Global, pts: &[Point], surface: &NamedMesh) -> Result<Vec<Po
     let mut faces = Vec::new(alloc);
     for f in surface.mesh.live() {
         if !marks[f.index()] {
+            faces.push(new_face(alloc, pts, surface, f, marks, &mut room)?)?;
+        }
+    }
+    Ok(faces)
+}
+
+/// The faces of a finished mesh in the planes of chosen facets, one for each plane that has a chosen one, in no order. `chosen`
+/// tells for each place of the mesh whether its facet is chosen. The facets of one plane may be chosen or not, each for itself.
+///
+/// # Errors
+///
+/// `Memory` where an allocation failed.
+pub fn faces_of_chosen(
+    alloc: Global,
+    pts: &[Point],
+    surface: &NamedMesh,
+    chosen: &[bool],
+) -> Result<Vec<Polygon>, Memory>
+    requires named { IsNamedMesh pts.now surface.now }
+    requires marks { length surface.now.mesh ≡ length chosen.now }
+    ensures each { let fs = named surface.now in let t = facet_at fs in
+        IfOk result (λ v. (ids : List ℕ) → IsIdSet pts.now ids → IsFinished (place pts.now) ids (surface_of fs)
+        → (f : ℕ) → IsLive fs f → mark_at chosen.now f ≡ true
+        → (q : List ℕ) × In q v.items × IsFacePolygon (place pts.now) (Members ids) (t f).i (t f).j (t f).k q) }
+    ensures only { let fs = named surface.now in let t = facet_at fs in
+        IfOk result (λ v. (ids : List ℕ) → IsIdSet pts.now ids → IsFinished (place pts.now) ids (surface_of fs)
+        → (q : List ℕ) → In q v.items
+        → (f : ℕ) × IsLive fs f × (mark_at chosen.now f ≡ true) × IsFacePolygon (place pts.now) (Members ids) (t f).i (t f).j (t f).k q) }
+{
+    let mut places = no_marks(alloc, surface.mesh.places())?;
+    let marks = places.as_mut_slice();
+    let mut room = Room {
+        facets: Vec::new(alloc),
+        corners: Vec::new(alloc),
+    };
+    let mut faces = Vec::new(alloc);
+    for f in surface.mesh.live() {
+        let is_chosen = chosen[f.index()];
+        let is_marked = marks[f.index()];
+        if is_chosen && !is_marked {
             faces.push(new_face(alloc, pts, surface, f, marks, &mut room)?)?;
         }
     }

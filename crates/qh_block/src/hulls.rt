@@ -11,17 +11,19 @@ ghost use Rattle.qh_block.specs.steps.IdSets.{AreExtremesOf, IsHullOf};
 
 use crate::bodies::{flat_body, polygon_of};
 use crate::flat_sets::{polygon_hull, segment_hull};
+use crate::gathered::{ids_at, positions_below};
 use crate::id_set::IdSet;
 use crate::inner_points::outer_ids;
 use crate::inner_points::sieves::{Alone, InThreads};
 use crate::solids::{solid_body, solid_extremes, solid_mesh};
 use qh_model::{Body, Id, Memory, Point};
 use qh_plane::{Shape, rank};
+use qh_surface::points_of;
 use std::alloc::Global;
 use std::thread::Threads;
 
-/// The extreme ids of a set, rising, by a run over all of its ids.
-fn extremes_of_all(alloc: Global, set: IdSet) -> Result<Vec<Id>, Memory>
+/// The extreme ids of a set, rising, by a run over all of its ids where they stand.
+fn extremes_in_place(alloc: Global, set: IdSet) -> Result<Vec<Id>, Memory>
     requires some { 0 < length set.ids.now }
     ensures { IfOk result (λ v. AreExtremesOf set.entry v.items) }
 {
@@ -31,6 +33,21 @@ fn extremes_of_all(alloc: Global, set: IdSet) -> Result<Vec<Id>, Memory>
     }
     let body = hull_of_all(alloc, set)?;
     Ok(body.extremes)
+}
+
+/// The extreme ids of a set, rising, by a run over all of its points, gathered.
+fn extremes_of_all(alloc: Global, set: IdSet) -> Result<Vec<Id>, Memory>
+    requires some { 0 < length set.ids.now }
+    ensures { IfOk result (λ v. AreExtremesOf set.entry v.items) }
+{
+    let points = points_of(alloc, set.pts, set.ids)?;
+    let positions = positions_below(alloc, set.ids.len())?;
+    let gathered = IdSet {
+        pts: &points,
+        ids: &positions,
+    };
+    let found = extremes_in_place(alloc, gathered)?;
+    Ok(ids_at(alloc, set.ids, &found)?)
 }
 
 /// The hull of a set, by a run over all of its ids.

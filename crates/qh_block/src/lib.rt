@@ -8,7 +8,7 @@
 //! Of a large set `inner_points` drops most of what is inside first. `qh_surface` makes the surface. A walk
 //! finds the triangles of one plane (`plane_walk`), of which `faces` makes the polygon.
 //! `face_order` and `solid_edges` order the faces, most of them by the numbers of `face_keys`, and count their edges,
-//! and `solids` puts them together.
+//! and `solids` puts them together. `gathered` puts the points of a set next to each other.
 //! `blocking` has the rules of how a set is divided, for this crate and those above.
 //! `segment` finds the ends of a line, `normals` the side from which a polygon is seen, and `bodies`
 //! puts the hulls of flat sets together.
@@ -20,6 +20,7 @@ mod face_keys;
 mod face_order;
 mod faces;
 mod flat_sets;
+mod gathered;
 mod hulls;
 mod id_set;
 mod inner_points;
@@ -30,6 +31,7 @@ mod solid_edges;
 mod solids;
 
 pub use blocking::{BLOCK_ALONE, TELLING, WHOLE_ALONE, are_few, block_size, tree_pays};
+pub use faces::faces_of_chosen;
 pub use hulls::{extremes, extremes_unlooked, hull, outer};
 pub use qh_surface::surface;
 pub use solids::body_of_faces;

@@ -1,46 +1,51 @@
 //! The facets of a mesh that lie in the plane of one of them, for a walk.
-ghost use Rattle.std.specs.Prelude.{◌≡◌, ◌<◌, ◌↔◌, IsTrue, length};
+ghost use Rattle.std.specs.Prelude.{◌≡◌, ◌↔◌, IsTrue, length};
+ghost use Rattle.qh_model.specs.headline.Vector.{Vector};
 ghost use Rattle.qh_model.specs.headline.Predicates.{place};
 ghost use Rattle.qh_model.specs.laws.FacetPlanes.{IsLevelWith, IsLevelFacet};
+ghost use Rattle.qh_model.specs.contract.Surface.{rest};
 ghost use Rattle.qh_model.specs.contract.StoredSurface.{surface_of};
+ghost use Rattle.qh_mesh.specs.contract.Edges.{facet_of, side_of_edge};
 ghost use Rattle.qh_mesh.specs.contract.Replacement.{IsLive};
+ghost use Rattle.qh_mesh.specs.contract.SoundMesh.{facet_vol};
+ghost use Rattle.qh_pred.specs.contract.Planes.{height};
 ghost use Rattle.qh_surface.specs.contract.Corners.{AreCornersBelow};
 
 use qh_mesh::{EdgeNo, FacetNo, Mesh};
-use qh_model::{Id, Point};
-use qh_pred::{point_at, vol};
+use qh_model::Point;
+use qh_pred::{Plane, point_at};
 use qh_surface::walk::Test;
 
-/// Whether the point of an id lies in the plane of a live facet.
-fn is_level(pts: &[Point], mesh: &Mesh, f: FacetNo, id: Id) -> bool
-    requires corners { AreCornersBelow (length pts.now) mesh.now }
-    requires live { IsLive mesh.now f }
-    requires id_in { id < length pts.now }
-    ensures { IsTrue result ↔ IsLevelWith (place pts.now) (surface_of mesh.now) f id }
-{
-    let [a, b, c] = mesh.facet(f);
-    vol(
-        point_at(pts, a),
-        point_at(pts, b),
-        point_at(pts, c),
-        point_at(pts, id),
-    ) == 0
-}
-
-/// Whether a facet lies in the plane of a live one.
+/// Whether a facet lies in the plane of a live one, which the walk starts from.
 #[derive(Clone, Copy, Drop)]
 pub struct IsLevel<'a> {
     pub pts: &'a [Point],
     pub start: FacetNo,
+    pub plane: Plane,
+}
+
+impl IsLevel<'_> {
+    /// Whether the corner of a live facet across from one of its edges lies in the plane.
+    fn has_opposite(&self, mesh: &Mesh, edge: EdgeNo) -> bool
+        requires corners { AreCornersBelow (length self.now.pts.now) mesh.now }
+        requires plane { (p : Vector) → height self.now.plane p ≡ facet_vol (place self.now.pts.now) mesh.now self.now.start p }
+        requires live { IsLive mesh.now (facet_of edge) }
+        ensures { IsTrue result ↔ IsLevelWith (place self.now.pts.now) (surface_of mesh.now) self.now.start
+            (rest (surface_of mesh.now) (facet_of edge) (side_of_edge edge)) }
+    {
+        let corner = point_at(self.pts, mesh.opposite(edge));
+        self.plane.height(corner) == 0
+    }
 }
 
 impl Test for IsLevel<'_> {
-    ghost Fits = { λ t fs. AreCornersBelow (length t.pts.now) fs × IsLive fs t.start };
+    ghost Fits = { λ t fs. AreCornersBelow (length t.pts.now) fs × IsLive fs t.start
+        × ((p : Vector) → height t.plane p ≡ facet_vol (place t.pts.now) fs t.start p) };
 
     ghost Passes = { λ t fs f. IsLevelFacet (place t.pts.now) (surface_of fs) t.start f };
 
     // Two of its corners are of a facet in the plane.
     fn passes(&self, mesh: &Mesh, edge: EdgeNo) -> bool {
-        is_level(self.pts, mesh, self.start, mesh.opposite(edge))
+        self.has_opposite(mesh, edge)
     }
 }

@@ -14,9 +14,11 @@ use Rattle.qh_model.proofs.algebra.VectorIdentities.{left-turn}
 use Rattle.qh_model.proofs.polygons.Edges.{seen_from}
 use Rattle.qh_model.proofs.polygons.Fans.{corners_support, face_fan}
 use Rattle.qh_model.proofs.polygons.PlaneTurns.{level_along}
+use Rattle.qh_check.specs.declared.extent.Extent.TheVariants.{Whole}
 use Rattle.qh_check.specs.declared.verdict.FaceFault.{FaceFault}
 use Rattle.qh_check.specs.declared.verdict.FaceFault.TheVariants.{NoPlane, Above, OtherFace}
-use Rattle.qh_check.specs.contract.Claims.{BeginsWith, IsFaceFault}
+use Rattle.qh_check.specs.contract.Claims.{IsFaceFault}
+use Rattle.qh_check.specs.contract.Pieces.{BeginsWith}
 
 -- the three are a supporting triple whose polygon is q
 abbrev HasFace : (ℕ → Vector) → (ℕ → Type 0) → List ℕ → (i j k : ℕ) → Type 0
@@ -96,7 +98,7 @@ corners_at at ids d q (u, v, w, plane, p) i j k (r, e) = go (corners_of at ids d
 
 -- so a polygon with a fault is no face
 pub no_face : (at : ℕ → Vector) (ids : List ℕ) → HasDistinctPoints at (Members ids) → (q : List ℕ) (fault : FaceFault)
-    → IsFaceFault at (Members ids) q fault → ¬ (IsFace at (Members ids) q)
+    → IsFaceFault Whole at (Members ids) q fault → ¬ (IsFace at (Members ids) q)
 no_face at ids d q NoPlane h f =
     let (i, j, k, b, s) = some_corners at ids d q f in s.0.area (h i j k b s.0.has_i s.0.has_j s.0.has_k)
 no_face at ids d q (Above l) (i, j, k, b, m, above) f =

@@ -9,7 +9,11 @@ pub mod FoundParts
 pub mod Listed
 pub mod NearPositions
 pub mod OrderedPolygons
+pub mod Pieces
 pub mod PointBoxes
+pub mod MetLists
+pub mod RepeatedNumbers
 pub mod SortedNumbers
 pub mod Steps
+pub mod SurfaceVerdicts
 pub mod Verdicts

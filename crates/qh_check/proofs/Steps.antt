@@ -1,6 +1,6 @@
 -- Polygons are closed just where the keys of their steps to higher ids, and those of their steps to lower ids turned
 -- back, are the same when sorted.
-use Rattle.std.proofs.Common.{◌≡◌, ◌≢◌, ℕ, ◌+◌, ◌*◌, ◌/◌, ◌%◌, ◌<◌, ◌≤◌, arith, refl, sym, ap, subst, ◌∙◌, inl, inr}
+use Rattle.std.proofs.Common.{◌≡◌, ◌≢◌, ℕ, zero, suc, ◌+◌, ◌*◌, ◌/◌, ◌%◌, ◌<◌, ◌≤◌, arith, refl, sym, ap, subst, ◌∙◌, inl, inr}
 use Rattle.std.proofs.Common.{List, [], ◌∷◌, map, Bool, true, false, cond, eqb, eqb-true, IsPermutation}
 use Rattle.std.proofs.lemmas.Bool.{cases_Bool, cases_lt}
 use Rattle.std.proofs.lemmas.Bool.Decides.{nat_tests}
@@ -13,7 +13,7 @@ use Rattle.qh_model.proofs.lists.Counts.{count-map}
 use Rattle.qh_model.proofs.closed_surfaces.SignedVolume.{edge_tests, eqb-refl, is_edge-back}
 use Rattle.qh_model.proofs.closed_surfaces.Sums.{count, count-is}
 use Rattle.qh_check.specs.declared.closed.TheConstants.{ROOM}
-use Rattle.qh_check.specs.steps.StepKeys.{step_in, back, goes_up, goes_down, CountOtherwise}
+use Rattle.qh_check.specs.steps.StepKeys.{step_in, back, goes_up, goes_down, CountOtherwise, EachOnce, IsTwice}
 
 -- ---- keys
 -- keys are the same where their steps are
@@ -80,28 +80,76 @@ down_by : (u v k : ℕ) → on v u k ≡ true → goes_down k ≡ nat_lt u v
 down_by u v k e = ap (λ (s : ℕ × ℕ). nat_lt s.1 s.0) (sym (edge_tests.same (v, u) (step_in k) e))
 
 -- ---- steps round polygons
-module _ (qs : List (List ℕ)) (keys up down there round : List ℕ) (steps : map step_in keys ≡ flat_map steps_round qs)
-    (ups : up ≡ filter goes_up keys) (downs : map step_in down ≡ map back (map step_in (filter goes_down keys)))
-    (p : IsPermutation up there) (q : IsPermutation down round) where
+module _ (qs : List (List ℕ)) (keys up there : List ℕ) (steps : map step_in keys ≡ flat_map steps_round qs)
+    (ups : up ≡ filter goes_up keys) (p : IsPermutation up there) where
   -- the keys count the steps
   in_keys : (u v : ℕ) → count (on u v) keys ≡ step_count qs u v
   in_keys u v =
       count-is (on u v) keys ∙ sym (count-map step_in (is_edge (u, v)) keys) ∙ ap (count_by (is_edge (u, v))) steps
 
-  -- the sorted keys count the steps to a higher id, and the steps back
+  -- the sorted keys count the steps to a higher id
   half_up : (u v : ℕ) → count_by (on u v) there ≡ cond (nat_lt u v) (step_count qs u v) 0
   half_up u v =
       sum_by-IsPermutation (λ k. cond (on u v k) 1 0) up there p ∙ ap (count_by (on u v)) ups
       ∙ sym (count-is (on u v) (filter goes_up keys)) ∙ halved (on u v) goes_up (nat_lt u v) (up_by u v) keys
       ∙ ap (λ n. cond (nat_lt u v) n 0) (in_keys u v)
 
+  -- a key that is counted
+  counted_key : (f : ℕ → Bool) (ks : List ℕ) → 0 < count f ks → (z : ℕ) × (f z ≡ true)
+  counted_key f [] h = absurd (omega arith)
+  counted_key f (k ∷ ks) h = by (f k) refl h (λ l. counted_key f ks l)
+    where
+      by : (b : Bool) → f k ≡ b → 0 < cond b 1 0 + count f ks → (0 < count f ks → (z : ℕ) × (f z ≡ true))
+          → (z : ℕ) × (f z ≡ true)
+      by true e h g = (k, e)
+      by false e h g = g (omega arith)
+
+  -- keys that stand once there are those of steps that are taken once
+  pub once_by_keys : EachOnce there → (u v : ℕ) → u < v → step_count qs u v ≤ 1
+  once_by_keys once u v l = by_count (step_count qs u v) told
+    where
+      t : nat_lt u v ≡ true
+      t = grind (arith, nat_tests, l)
+
+      told : count_by (on u v) there ≡ step_count qs u v
+      told = half_up u v ∙ ap (λ b. cond b (step_count qs u v) 0) t
+
+      by_count : (n : ℕ) → count_by (on u v) there ≡ n → n ≤ 1
+      by_count n e =
+          at_most n (λ more. (
+          let z = counted_key (on u v) there (subst (λ (m : ℕ). 0 < m) (sym (count-is (on u v) there ∙ e)) more) in
+          let same : count_by (eqb z.0) there ≡ n =
+          ap (λ (f : ℕ → Bool). count_by f there) (λ i k. (same_step z.0 k ∙ ap (λ (s : ℕ × ℕ). is_edge s (step_in k)) (sym (edge_tests.same (u, v) (step_in z.0) z.1))) i) ∙ e in
+          subst (λ (m : ℕ). m ≤ 1) same (once z.0)))
+        where
+          at_most : (n : ℕ) → (0 < n → n ≤ 1) → n ≤ 1
+          at_most zero f = omega arith
+          at_most (suc n) f = f (omega arith)
+
+  -- a key that stands there twice is that of a step to a higher id that is taken twice
+  pub twice_by_key : (z : ℕ) → IsTwice there z
+      → ((step_in z).0 < (step_in z).1) × (1 < step_count qs (step_in z).0 (step_in z).1)
+  twice_by_key z twice = by (nat_lt (z / ROOM) (z % ROOM)) refl (subst (λ (m : ℕ). 1 < m) told twice)
+    where
+      told : count_by (eqb z) there ≡ cond (nat_lt (z / ROOM) (z % ROOM)) (step_count qs (z / ROOM) (z % ROOM)) 0
+      told = ap (λ (f : ℕ → Bool). count_by f there) (λ i k. same_step z k i) ∙ half_up (z / ROOM) (z % ROOM)
+
+      by : (b : Bool) → nat_lt (z / ROOM) (z % ROOM) ≡ b → 1 < cond b (step_count qs (z / ROOM) (z % ROOM)) 0
+          → (z / ROOM < z % ROOM) × (1 < step_count qs (z / ROOM) (z % ROOM))
+      by true e h = (grind (arith, nat_tests, e), h)
+      by false e h = absurd (omega arith)
+
+module _ (qs : List (List ℕ)) (keys up down there round : List ℕ) (steps : map step_in keys ≡ flat_map steps_round qs)
+    (ups : up ≡ filter goes_up keys) (downs : map step_in down ≡ map back (map step_in (filter goes_down keys)))
+    (p : IsPermutation up there) (q : IsPermutation down round) where
+  -- and those of the steps back
   half_down : (u v : ℕ) → count_by (on u v) round ≡ cond (nat_lt u v) (step_count qs v u) 0
   half_down u v =
       sum_by-IsPermutation (λ k. cond (on u v k) 1 0) down round q ∙ sym (count-map step_in (is_edge (u, v)) down)
       ∙ ap (count_by (is_edge (u, v))) downs ∙ count-map back (is_edge (u, v)) (map step_in lower)
       ∙ ap (λ (f : ℕ × ℕ → Bool). count_by f (map step_in lower)) (λ i s. is_edge-back (u, v) s i)
       ∙ count-map step_in (is_edge (v, u)) lower ∙ sym (count-is (on v u) lower)
-      ∙ halved (on v u) goes_down (nat_lt u v) (down_by u v) keys ∙ ap (λ n. cond (nat_lt u v) n 0) (in_keys v u)
+      ∙ halved (on v u) goes_down (nat_lt u v) (down_by u v) keys ∙ ap (λ n. cond (nat_lt u v) n 0) (in_keys qs keys up there steps ups p v u)
     where
       lower : List ℕ
       lower = filter goes_down keys
@@ -119,7 +167,7 @@ module _ (qs : List (List ℕ)) (keys up down there round : List ℕ) (steps : m
       ahead : (u v : ℕ) → u < v → step_count qs u v ≡ step_count qs v u
       ahead u v l =
           let t : nat_lt u v ≡ true = grind (arith, nat_tests, l) in
-          pick (nat_lt u v) _ _ t (sym (half_up u v) ∙ ap (count_by (on u v)) same ∙ half_down u v)
+          pick (nat_lt u v) _ _ t (sym (half_up qs keys up there steps ups p u v) ∙ ap (count_by (on u v)) same ∙ half_down u v)
 
       level : v ≤ u → u ≤ v → step_count qs u v ≡ step_count qs v u
       level r s = let e : u ≡ v = omega arith in subst (λ w. step_count qs u w ≡ step_count qs w u) e refl
@@ -128,7 +176,7 @@ module _ (qs : List (List ℕ)) (keys up down there round : List ℕ) (steps : m
   pub open_by_key : (z : ℕ) → CountOtherwise there round z
       → step_count qs (step_in z).0 (step_in z).1 ≢ step_count qs (step_in z).1 (step_in z).0
   open_by_key z otherwise e =
-      otherwise (by_step there ∙ half_up (z / ROOM) (z % ROOM) ∙ ap (λ n. cond (nat_lt (z / ROOM) (z % ROOM)) n 0) e
+      otherwise (by_step there ∙ half_up qs keys up there steps ups p (z / ROOM) (z % ROOM) ∙ ap (λ n. cond (nat_lt (z / ROOM) (z % ROOM)) n 0) e
       ∙ sym (half_down (z / ROOM) (z % ROOM)) ∙ sym (by_step round))
     where
       by_step : (ks : List ℕ) → count_by (eqb z) ks ≡ count_by (on (z / ROOM) (z % ROOM)) ks

@@ -15,6 +15,7 @@ use Rattle.qh_model.proofs.extremes.Dimensions.{one_dimension}
 use Rattle.qh_model.proofs.hulls.Unique.{one_polygon_list}
 use Rattle.qh_model.proofs.polygons.ClosedFaces.{closed_faces_are_all}
 use Rattle.qh_model.proofs.polygons.Steps.{faces_close}
+use Rattle.qh_check.specs.declared.extent.Extent.TheVariants.{Whole}
 use Rattle.qh_check.specs.declared.verdict.FaceFault.{FaceFault}
 use Rattle.qh_check.specs.declared.verdict.Verdict.{Verdict}
 use Rattle.qh_check.specs.declared.verdict.Verdict.TheVariants.{Right, OtherPolygons, OutOfOrder, NoFace, Open}
@@ -59,7 +60,7 @@ module _ (pts : List Vector) (ids : List ℕ) (qs : List (List ℕ)) (set : IsId
   pub is_out_of_order : (n : ℕ) → IsOutOfOrder qs n → IsVerdictOf pts ids qs (OutOfOrder n)
   is_out_of_order n h = wrong (OutOfOrder n) (λ e. cc) (λ f. h.1 (rises_at qs f.rising n h.0)) h
 
-  is_no_face : (n : ℕ) (fault : FaceFault) → n < length qs → IsFaultOf pts ids (get_or qs n []) fault
+  is_no_face : (n : ℕ) (fault : FaceFault) → n < length qs → IsFaultOf Whole pts ids (get_or qs n []) fault
       → IsVerdictOf pts ids qs (NoFace n fault)
   is_no_face n fault l h =
       wrong (NoFace n fault) (λ e. cc)
@@ -67,13 +68,13 @@ module _ (pts : List Vector) (ids : List ℕ) (qs : List (List ℕ)) (set : IsId
       (f.only (get_or qs n []) (In-get_or qs n [] l)))
       (l, h set.distinct)
 
-  pub is_found : (f : Finding) → IsFound pts ids qs f → IsVerdictOf pts ids qs (NoFace f.position f.fault)
+  pub is_found : (f : Finding) → IsFound Whole pts ids qs f → IsVerdictOf pts ids qs (NoFace f.position f.fault)
   is_found f (l, h) = is_no_face f.position f.fault l h
 
   pub is_open : (u v : ℕ) → IsOpen qs u v → IsVerdictOf pts ids qs (Open u v)
   is_open u v h = wrong (Open u v) (λ e. cc) (λ f. h (faces_close at ids qs set.distinct solid f u v)) h
 
-  pub is_right : 0 < length qs → RiseStrictly qs → All (IsFaceOf pts ids) qs → AreClosed qs
+  pub is_right : 0 < length qs → RiseStrictly qs → All (IsFaceOf Whole pts ids) qs → AreClosed qs
       → IsVerdictOf pts ids qs Right
   is_right some rising faces closed = record { right = (λ e. claim, λ p. refl); reason = claim }
     where
@@ -85,7 +86,7 @@ module _ (pts : List Vector) (ids : List ℕ) (qs : List (List ℕ)) (set : IsId
       all = let f = first qs some in closed_faces_are_all at ids qs set.distinct (record {
         some = f.0;
         there = f.1;
-        faces = λ q m. All-In (IsFaceOf pts ids) qs q faces m set.distinct;
+        faces = λ q m. All-In (IsFaceOf Whole pts ids) qs q faces m set.distinct;
         closed = closed;
       }) rising
 

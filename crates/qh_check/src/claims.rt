@@ -31,7 +31,7 @@ fn are_same_polygons(polygons: &[Polygon], others: &[Polygon]) -> bool
 }
 
 /// Whether polygons are those of the hull of a set, by taking the hull.
-fn compare(
+pub(crate) fn compare(
     alloc: Global,
     pts: &[Point],
     ids: &[Id],

@@ -31,13 +31,14 @@ fn fault_in_group(
     group: &[usize],
 ) -> Result<Option<Finding>, Memory>
     ensures { IfOk result (λ found. (ids : List ℕ) → ArePlaces set.entry.pts.now ids set.entry.places.now
-        → MatchOption found (All (IsFaceAmong set.entry.pts.now ids polygons.now) group.now)
-        (IsFound set.entry.pts.now ids polygons.now)) }
+        → MatchOption found (All (IsFaceAmong set.entry.extent set.entry.pts.now ids polygons.now) group.now)
+        (IsFound set.entry.extent set.entry.pts.now ids polygons.now)) }
 {
     let near = set
         .places
         .near(alloc, Bundle::of(set.pts, polygons, group))?;
     let near_set = NearSet {
+        extent: set.extent,
         pts: set.pts,
         places: set.places,
         near: &near,
@@ -61,8 +62,8 @@ fn fault_among(
     in_plane: &mut Vec<Id>,
 ) -> Result<Option<FaceFault>, Memory>
     ensures { IfOk result (λ fault. (ids : List ℕ) → ArePlaces set.entry.pts.now ids set.entry.places.now
-        → MatchOption fault (IsFaceAmong set.entry.pts.now ids polygons.now position)
-        (λ f. (position < length polygons.now) × IsFaultOf set.entry.pts.now ids (slice_index_or polygons.now position []) f)) }
+        → MatchOption fault (IsFaceAmong set.entry.extent set.entry.pts.now ids polygons.now position)
+        (λ f. (position < length polygons.now) × IsFaultOf set.entry.extent set.entry.pts.now ids (slice_index_or polygons.now position []) f)) }
 {
     if position >= polygons.len() {
         return Ok(None);
@@ -78,8 +79,8 @@ pub(crate) fn first_fault(
     order: &[usize],
 ) -> Result<Option<Finding>, Memory>
     ensures { IfOk result (λ found. (ids : List ℕ) → ArePlaces set.entry.pts.now ids set.entry.places.now
-        → MatchOption found (All (IsFaceAmong set.entry.pts.now ids polygons.now) order.now)
-        (IsFound set.entry.pts.now ids polygons.now)) }
+        → MatchOption found (All (IsFaceAmong set.entry.extent set.entry.pts.now ids polygons.now) order.now)
+        (IsFound set.entry.extent set.entry.pts.now ids polygons.now)) }
 {
     let mut rest = order;
     while rest.len() > 0 {
@@ -122,14 +123,14 @@ pub(crate) fn first_fault_in_parts<R: Threads + Sync>(
 ) -> Result<Option<Finding>, Memory>
     requires { 0 < size }
     ensures { IfOk result (λ found. (ids : List ℕ) → ArePlaces set.entry.pts.now ids set.entry.places.now
-        → MatchOption found (All (IsFaceAmong set.entry.pts.now ids asked.entry.polygons.now) asked.entry.order.now)
-        (IsFound set.entry.pts.now ids asked.entry.polygons.now)) }
+        → MatchOption found (All (IsFaceAmong set.entry.extent set.entry.pts.now ids asked.entry.polygons.now) asked.entry.order.now)
+        (IsFound set.entry.extent set.entry.pts.now ids asked.entry.polygons.now)) }
 {
     let polygons = asked.polygons;
     let look = move |_start: usize, part: &[usize]| -> Result<Option<Finding>, Memory>
         ensures { IfOk result (λ found. (ids : List ℕ) → ArePlaces set.entry.pts.now ids set.entry.places.now
-            → MatchOption found (All (IsFaceAmong set.entry.pts.now ids polygons.entry.now) part.now)
-            (IsFound set.entry.pts.now ids polygons.entry.now)) }
+            → MatchOption found (All (IsFaceAmong set.entry.extent set.entry.pts.now ids polygons.entry.now) part.now)
+            (IsFound set.entry.extent set.entry.pts.now ids polygons.entry.now)) }
     { first_fault(alloc, set, polygons, part) };
     let answers = thread::map_chunks(rt, alloc, asked.order, size, &look)?;
     first_of(&answers)

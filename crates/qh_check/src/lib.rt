@@ -16,17 +16,24 @@ mod boxes;
 mod bundles;
 mod claims;
 mod closed;
+mod extent;
 mod faces;
 mod findings;
+mod flaw;
 mod levels;
 mod order;
 mod outward;
 mod places;
+mod rounds;
 mod slabs;
 mod solids;
+mod surfaces;
 #[cfg(test)]
 mod tests;
 mod verdict;
 
 pub use claims::{check, check_by_workers};
+pub use extent::Extent;
+pub use flaw::SurfaceVerdict;
+pub use surfaces::check_surface;
 pub use verdict::{FaceFault, Verdict};

@@ -7,12 +7,14 @@ ghost use Rattle.qh_model.specs.headline.Predicates.{place};
 ghost use Rattle.qh_model.specs.headline.Sets.{Members};
 ghost use Rattle.qh_model.specs.headline.Vector.{Vector};
 ghost use Rattle.qh_model.specs.contract.IdSets.{AreIndices, IsIdSet};
+ghost use Rattle.qh_check.specs.declared.extent.Extent.TheVariants.{Whole};
 ghost use Rattle.qh_check.specs.steps.Faces.{IsFaceOf};
 ghost use Rattle.qh_check.specs.steps.Findings.{IsFound};
 ghost use Rattle.qh_check.specs.steps.Verdicts.{IsVerdictOf};
 
 use crate::asking::by_rank;
 use crate::closed::open_step;
+use crate::extent::Extent;
 use crate::faces::PlacedSet;
 use crate::findings::{Asked, Finding, first_fault, first_fault_in_parts};
 use crate::order::out_of_order;
@@ -27,7 +29,7 @@ use std::thread::Threads;
 fn judged(alloc: Global, polygons: &[Polygon], found: Option<Finding>) -> Result<Verdict, Memory>
     ensures { IfOk result (λ v. (pts : List Vector) (ids : List ℕ) → IsIdSet pts ids → IsDimension (place pts) (Members ids) 3
         → 0 < length polygons.now → RiseStrictly polygons.now
-        → MatchOption found (All (IsFaceOf pts ids) polygons.now) (IsFound pts ids polygons.now)
+        → MatchOption found (All (IsFaceOf Whole pts ids) polygons.now) (IsFound Whole pts ids polygons.now)
         → IsVerdictOf pts ids polygons.now v) }
 {
     if let Some(finding) = found {
@@ -57,6 +59,7 @@ pub(crate) fn check_solid(
     }
     let places = Places::over(alloc, pts, ids, polygons)?;
     let set = PlacedSet {
+        extent: Extent::Whole,
         pts,
         places: &places,
     };
@@ -86,6 +89,7 @@ pub(crate) fn check_solid_by_workers<R: Threads + Sync>(
     }
     let places = Places::over(alloc, pts, ids, polygons)?;
     let set = PlacedSet {
+        extent: Extent::Whole,
         pts,
         places: &places,
     };

@@ -2,6 +2,8 @@
 ghost use Rattle.std.specs.Prelude.{IfOk};
 ghost use Rattle.qh_model.specs.contract.IdSets.{AreIndices};
 
+mod surfaces;
+
 use crate::{FaceFault, Verdict, check, check_by_workers};
 use qh_model::{Id, Memory, Point, Polygon};
 use std::alloc::{AllocError, Global};

@@ -11,4 +11,4 @@ mod quickhull;
 pub mod walk;
 
 pub use named_mesh::NamedMesh;
-pub use quickhull::{Simplex, ends_of, morton_order, plane_of, surface, surface_from};
+pub use quickhull::{Simplex, ends_of, morton_order, plane_of, points_of, surface, surface_from};

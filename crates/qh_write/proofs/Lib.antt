@@ -2,3 +2,4 @@ pub mod SendingLemmas
 pub mod TextLemmas
 pub mod FanLemmas
 pub mod EdgeKeyLemmas
+pub mod FormLemmas

@@ -1,5 +1,5 @@
 -- Texts that grow by pieces, and vertex numbers out of a table.
-use Rattle.std.proofs.Common.{◌≡◌, ◌≢◌, ◌∙◌, ℕ, suc, ◌+◌, ◌<◌, List, [], ◌∷◌, ◌++◌, length, map, arith, ap, sym, refl}
+use Rattle.std.proofs.Common.{◌≡◌, ◌≢◌, ◌∙◌, ℕ, suc, ◌+◌, ◌<◌, List, [], ◌∷◌, ◌++◌, length, arith, ap, sym, refl}
 use Rattle.std.proofs.Common.{subst, inl, inr, ◌⊎◌, set, length-set, get_or, get_or-set_same, get_or-set_other}
 use Rattle.std.proofs.Common.{eqb-true, Bool, zero-add, ap₂, true, false, cond, All, replicate, decimal, slice_index}
 use Rattle.std.proofs.lemmas.Bool.{eqb-false}

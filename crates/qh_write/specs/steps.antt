@@ -1,3 +1,4 @@
 -- What private functions speak of: nothing to believe.
 pub mod VertexTables
 pub mod EdgeKeys
+pub mod Forms

@@ -5,6 +5,7 @@ ghost use Rattle.qh_model.specs.contract.IdSets.{AreIndices};
 
 mod edges;
 mod fans;
+mod forms;
 mod lines;
 mod numbering;
 mod off;
@@ -35,7 +36,7 @@ fn push_output<S: Scribe>(
         Out::Summary => summary::push_summary(text, hull),
         Out::Fx => off::push_extremes(text, &hull.body),
         Out::Off => off::push_off(scribe, text, alloc, &hull.body, pts),
-        Out::OffTriangles => fans::push_off_triangles(text, alloc, &hull.body, pts),
+        Out::OffTriangles => fans::push_off_triangles(scribe, text, alloc, &hull.body, pts),
     }
 }
 
@@ -91,7 +92,7 @@ pub fn text(alloc: Global, hull: &Hull, pts: &[Point], outs: &[Out]) -> Result<V
 }
 
 /// The texts of the outputs, joined in their order, as [`text`] gives them. At most so many threads write
-/// the faces of a large hull side by side; the number changes nothing but the time.
+/// the faces of a large hull, or their fans, side by side; the number changes nothing but the time.
 ///
 /// The caller sees to it that every id in the hull is the index of a point in `pts`.
 ///

@@ -1,7 +1,7 @@
 -- Points that a filter finds inside a set: in cells of space, below all planes of the hull of a sample of it.
-use Rattle.std.specs.Prelude.{◌≡◌, ◌⊎◌, ℕ, List, All, ℤ, pos, ◌≤ℤ◌, ◌<ℤ◌}
+use Rattle.std.specs.Prelude.{◌≡◌, ◌⊎◌, ◌<◌, ℕ, List, All, length, slice_index_or, ℤ, pos, ◌≤ℤ◌, ◌<ℤ◌}
 use Rattle.std.specs.List.Sorted.{IsStrictlyIncreasing}
-use Rattle.qh_model.specs.headline.Vector.{Vector}
+use Rattle.qh_model.specs.headline.Vector.{Vector, origin}
 use Rattle.qh_model.specs.headline.Predicates.{place}
 use Rattle.qh_model.specs.headline.Sets.{In, Members}
 use Rattle.qh_model.specs.headline.Extreme.{Extreme}
@@ -12,6 +12,7 @@ use Rattle.qh_mesh.specs.contract.Replacement.{IsLive}
 use Rattle.qh_mesh.specs.contract.SoundMesh.{facet_vol}
 use Rattle.qh_block.specs.declared.inner_points.bounds.Bounds.{Bounds}
 use Rattle.qh_block.specs.declared.inner_points.cells.Cell.{Cell}
+use Rattle.qh_block.specs.declared.inner_points.columns.Columns.{Columns}
 
 -- a number in a range
 abbrev pub IsBetween : ℤ → ℤ → ℤ → Type 0
@@ -31,13 +32,25 @@ IsFarEnd a low high e = (pos 0 <ℤ a → e ≡ high) × (a ≤ℤ pos 0 → e �
 abbrev pub IsBelow : Bounds → PlaneValue → Type 0
 IsBelow b plane = (p : Vector) → IsWithin b p → height plane p <ℤ pos 0
 
--- each plane of the list is near the cell, or strictly above all points of its box
+-- the plane with a number in a list, or none of importance past its end
+abbrev pub numbered : List PlaneValue → ℕ → PlaneValue
+numbered planes k = slice_index_or planes k (record { normal = origin; offset = pos 0 })
+
+-- each plane of the list is listed as near, or strictly above all points of the box
+abbrev pub AreNear : List PlaneValue → Bounds → List ℕ → Type 0
+AreNear planes b near = (k : ℕ) → k < length planes → IsBelow b (numbered planes k) ⊎ In k near
+
+-- so it is for a cell
 abbrev pub IsCellOf : List PlaneValue → Cell → Type 0
-IsCellOf planes c = All (λ plane. IsBelow c.bounds plane ⊎ In plane c.near.items) planes
+IsCellOf planes c = AreNear planes c.bounds c.near.items
 
 -- a point of the cell's box, strictly below all planes near the cell
-abbrev pub IsHeld : Cell → Vector → Type 0
-IsHeld c p = IsWithin c.bounds p × All (λ plane. height plane p <ℤ pos 0) c.near.items
+abbrev pub IsHeld : List PlaneValue → Cell → Vector → Type 0
+IsHeld planes c p = IsWithin c.bounds p × All (λ k. height (numbered planes k) p <ℤ pos 0) c.near.items
+
+-- one of the cells holds the point
+abbrev pub HoldsPoint : Columns → Vector → Type 0
+HoldsPoint columns p = (c : Cell) × In c columns.cells.items × IsHeld columns.planes.items c p
 
 -- a plane of the list is that of facet f
 abbrev pub HasPlane : List Vector → List StoredFacet → List PlaneValue → ℕ → Type 0
@@ -47,13 +60,13 @@ HasPlane pts fs planes f = (plane : PlaneValue) × In plane planes × ((p : Vect
 abbrev pub HasPlanes : List Vector → List StoredFacet → List PlaneValue → Type 0
 HasPlanes pts fs planes = (f : ℕ) → IsLive fs f → HasPlane pts fs planes f
 
--- the cell holds the point of no extreme id, in any set with these ids among its own
-abbrev pub HasNoExtreme : List Vector → List ℕ → Cell → Type 0
-HasNoExtreme pts ids c = (i : ℕ) → In i ids → IsHeld c (place pts i) → ¬ (Extreme (place pts) (Members ids) i)
+-- the columns hold the point of no extreme id of the set
+abbrev pub HasNoExtreme : List Vector → List ℕ → Columns → Type 0
+HasNoExtreme pts ids columns = (i : ℕ) → In i ids → HoldsPoint columns (place pts i) → ¬ (Extreme (place pts) (Members ids) i)
 
--- cells that hold no extreme id, in each set that has the sample
-abbrev pub AreInner : List Vector → List ℕ → List Cell → Type 0
-AreInner pts sample cs = (ids : List ℕ) → ((i : ℕ) → In i sample → In i ids) → All (HasNoExtreme pts ids) cs
+-- nor of any set that has the sample
+abbrev pub AreInner : List Vector → List ℕ → Columns → Type 0
+AreInner pts sample columns = (ids : List ℕ) → ((i : ℕ) → In i sample → In i ids) → HasNoExtreme pts ids columns
 
 -- what is kept of some ids of a set, in their order: all of them that are extreme in the set
 pub record IsKept (pts : List Vector) (all ids kept : List ℕ) : Type 0 where
@@ -61,9 +74,9 @@ pub record IsKept (pts : List Vector) (all ids kept : List ℕ) : Type 0 where
   pub within : (i : ℕ) → In i kept → In i ids
   pub extremes : (i : ℕ) → In i ids → Extreme (place pts) (Members all) i → In i kept
 
--- so it is for each set that has the ids, and none of whose extreme ids the cells hold
-pub record KeepsExtremes (pts : List Vector) (cs : List Cell) (ids kept : List ℕ) : Type 0 where
-  pub each : (all : List ℕ) → ((i : ℕ) → In i ids → In i all) → All (HasNoExtreme pts all) cs → IsKept pts all ids kept
+-- so it is for each set that has the ids, and of which the columns hold no extreme id
+pub record KeepsExtremes (pts : List Vector) (columns : Columns) (ids kept : List ℕ) : Type 0 where
+  pub each : (all : List ℕ) → ((i : ℕ) → In i ids → In i all) → HasNoExtreme pts all columns → IsKept pts all ids kept
 
 -- a part of a set with all its extreme ids, rising where the set does
 pub record IsOuterPart (pts : List Vector) (ids part : List ℕ) : Type 0 where

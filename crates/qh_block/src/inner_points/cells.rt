@@ -1,37 +1,57 @@
 //! Cells of space between the planes of a hull.
-ghost use Rattle.std.specs.Prelude.{IfOk, IsTrue, List};
-ghost use Rattle.qh_pred.specs.contract.Planes.{PlaneValue};
-ghost use Rattle.qh_block.specs.steps.InnerPoints.{IsCellOf, IsHeld};
+ghost use Rattle.std.specs.Prelude.{◌≡◌, ◌<ℤ◌, pos, IfOk, IsTrue, List, length};
+ghost use Rattle.qh_pred.specs.contract.Planes.{PlaneValue, height};
+ghost use Rattle.qh_block.specs.steps.InnerPoints.{numbered, IsBelow, IsCellOf, IsHeld};
 
+use crate::gathered::numbers_below;
 use crate::inner_points::bounds::Bounds;
-use qh_model::{COORDINATE_LIMIT, Point};
+use qh_model::{COORDINATE_LIMIT, Memory, Point};
 use qh_pred::Plane;
 use std::alloc::{AllocError, Global};
 
-/// A box of space, and the planes of a hull that come near it.
+/// A box of space, and the planes of a hull that come near it, by their numbers in a list.
 ///
 /// Each other plane of the hull is strictly above all points of the box, so the planes that are near tell
-/// which of its points are strictly inside the hull.
+/// which of its points are strictly inside the hull. Numbers take little memory: the planes of all cells
+/// together would not fit a processor's own.
 #[derive(Drop)]
 pub struct Cell {
     pub bounds: Bounds,
-    pub near: Vec<Plane>,
+    pub near: Vec<u32>,
+}
+
+/// Returns true if a plane of the list is strictly above all points between bounds.
+fn is_far(planes: &[Plane], number: u32, bounds: &Bounds) -> bool
+    ensures { IsTrue result → IsBelow bounds.now (numbered planes.now number) }
+{
+    match planes.get(number as usize) {
+        Some(plane) => bounds.is_below(plane),
+        None => false,
+    }
+}
+
+/// Returns true if a point is strictly below a plane of the list.
+fn is_under(planes: &[Plane], number: u32, p: Point) -> bool
+    ensures { IsTrue result → height (numbered planes.now number) p <ℤ pos 0 }
+{
+    match planes.get(number as usize) {
+        Some(plane) => plane.height(p) < 0,
+        None => false,
+    }
 }
 
 impl Cell {
-    /// The cell of all points, to which all planes are near.
-    pub fn whole(alloc: Global, planes: &[Plane]) -> Result<Cell, AllocError>
-        ensures { IfOk result (IsCellOf planes.now) }
+    /// The cell of all points, to which all of so many planes are near.
+    pub fn whole(alloc: Global, count: usize) -> Result<Cell, Memory>
+        ensures { IfOk result (λ c. (planes : List PlaneValue) → length planes ≡ count → IsCellOf planes c) }
     {
         let limit = COORDINATE_LIMIT as i32;
-        let mut near = Vec::with_capacity(alloc, planes.len())?;
-        near.extend_from_slice(planes)?;
         Ok(Cell {
             bounds: Bounds {
                 low: Point::new(-limit, -limit, -limit),
                 high: Point::new(limit, limit, limit),
             },
-            near,
+            near: numbers_below(alloc, count)?,
         })
     }
 
@@ -45,24 +65,34 @@ impl Cell {
         }
     }
 
-    /// The part of the cell that lies between bounds.
-    pub fn part(&self, alloc: Global, bounds: &Bounds) -> Result<Cell, AllocError>
-        ensures { IfOk result (λ c. (planes : List PlaneValue) → IsCellOf planes self.now → IsCellOf planes c) }
+    /// The part of the cell that lies between bounds, with those planes that are near the part.
+    pub fn part(&self, alloc: Global, planes: &[Plane], bounds: &Bounds) -> Result<Cell, AllocError>
+        ensures { IfOk result (λ c. IsCellOf planes.now self.now → IsCellOf planes.now c) }
     {
         let bounds = self.bounds.common(bounds);
         let mut near = Vec::new(alloc);
-        for plane in &self.near {
-            if !bounds.is_below(plane) {
-                near.push(*plane)?;
+        for number in &self.near {
+            if !is_far(planes, *number, &bounds) {
+                near.push(*number)?;
             }
         }
         Ok(Cell { bounds, near })
     }
 
-    /// Returns true if a point is in the box and strictly below all planes that are near.
-    pub fn holds(&self, p: Point) -> bool
-        ensures { IsTrue result → IsHeld self.now p }
+    /// The part of the cell that lies between bounds, with all planes that are near the cell.
+    pub fn within(self, bounds: &Bounds) -> Cell
+        ensures { (planes : List PlaneValue) → IsCellOf planes self → IsCellOf planes result }
     {
-        self.bounds.contains(p) && self.near.iter().all(|plane| plane.height(p) < 0)
+        Cell {
+            bounds: self.bounds.common(bounds),
+            near: self.near,
+        }
+    }
+
+    /// Returns true if a point is in the box and strictly below all planes that are near.
+    pub fn holds(&self, planes: &[Plane], p: Point) -> bool
+        ensures { IsTrue result → IsHeld planes.now self.now p }
+    {
+        self.bounds.contains(p) && self.near.iter().all(|number| is_under(planes, *number, p))
     }
 }

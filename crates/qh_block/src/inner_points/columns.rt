@@ -1,113 +1,123 @@
 //! The columns of a grid, each in three cells of a hull: the middle, which is inside as far as a box can be,
 //! and what may be inside above and below it.
-ghost use Rattle.std.specs.Prelude.{IfOk, IsTrue, List};
+ghost use Rattle.std.specs.Prelude.{◌≡◌, IfOk, IsTrue};
 ghost use Rattle.std.specs.List.{All};
-ghost use Rattle.qh_model.specs.headline.Sets.{In};
-ghost use Rattle.qh_pred.specs.contract.Planes.{PlaneValue};
-ghost use Rattle.qh_block.specs.declared.inner_points.cells.Cell.{Cell};
-ghost use Rattle.qh_block.specs.steps.InnerPoints.{IsCellOf, IsHeld};
+ghost use Rattle.qh_block.specs.steps.InnerPoints.{IsCellOf, HoldsPoint};
 
 use crate::id_set::IdSet;
 use crate::inner_points::bounds::Bounds;
 use crate::inner_points::cells::Cell;
-use crate::inner_points::grid::{Grid, SIDE_BITS, Square, nearest_coordinate};
+use crate::inner_points::grid::{Grid, SIDE_BITS, Square};
 use crate::inner_points::heights::Heights;
-use qh_model::Point;
+use qh_model::{Memory, Point};
 use qh_pred::Plane;
 use std::alloc::{AllocError, Global};
 
 /// How many cells the columns have: three each.
 const CELLS: usize = 3 << (2 * SIDE_BITS);
 
-/// The cells of the columns of a grid, quarter by quarter: of each column first the middle, then what is
-/// above it, then what is below.
+/// The planes of a hull, and the cells of the columns of a grid between them, quarter by quarter: of each column
+/// first the middle, then what is above it, then what is below.
 #[derive(Drop)]
 pub struct Columns {
     grid: Grid,
+    pub planes: Vec<Plane>,
     pub cells: Vec<Cell>,
 }
 
 /// The part of a cell between these heights.
-fn cell_at(alloc: Global, whole: &Cell, heights: Heights) -> Result<Cell, AllocError>
-    ensures { IfOk result (λ c. (planes : List PlaneValue) → IsCellOf planes whole.now → IsCellOf planes c) }
+fn cell_at(
+    alloc: Global,
+    planes: &[Plane],
+    whole: &Cell,
+    heights: Heights,
+) -> Result<Cell, AllocError>
+    ensures { IfOk result (λ c. IsCellOf planes.now whole.now → IsCellOf planes.now c) }
 {
     if heights.is_empty() {
         return Ok(Cell::none(alloc));
     }
-    let (low, high) = (whole.bounds.low, whole.bounds.high);
-    let between = Bounds {
-        low: Point::new(low.x(), low.y(), nearest_coordinate(heights.low)),
-        high: Point::new(high.x(), high.y(), nearest_coordinate(heights.high)),
-    };
-    whole.part(alloc, &between)
+    whole.part(alloc, planes, &heights.cut(&whole.bounds))
 }
 
 /// The part of a cell over a square of columns, no higher and no lower than the planes near it let
 /// through.
-fn cell_over(alloc: Global, whole: &Cell, square: &Bounds) -> Result<Cell, AllocError>
-    ensures { IfOk result (λ c. (planes : List PlaneValue) → IsCellOf planes whole.now → IsCellOf planes c) }
+fn cell_over(
+    alloc: Global,
+    planes: &[Plane],
+    whole: &Cell,
+    square: &Bounds,
+) -> Result<Cell, AllocError>
+    ensures { IfOk result (λ c. IsCellOf planes.now whole.now → IsCellOf planes.now c) }
 {
-    let square = whole.bounds.common(square);
-    let reached = Heights::reached(&whole.near, &square);
+    let part = whole.part(alloc, planes, square)?;
+    let reached = Heights::reached(planes, &part.near, &part.bounds);
     if reached.is_empty() {
         return Ok(Cell::none(alloc));
     }
-    let (low, high) = (square.low, square.high);
-    let between = Bounds {
-        low: Point::new(low.x(), low.y(), nearest_coordinate(reached.low)),
-        high: Point::new(high.x(), high.y(), nearest_coordinate(reached.high)),
-    };
-    whole.part(alloc, &between)
+    let bounds = reached.cut(&part.bounds);
+    Ok(part.within(&bounds))
 }
 
 /// Adds the three cells of a column to a list.
-fn push_cells(alloc: Global, column: &Cell, cells: &mut Vec<Cell>) -> Result<(), AllocError>
-    ensures { IfOk result (λ _. (planes : List PlaneValue) → IsCellOf planes column.now → All (IsCellOf planes) cells.old.items → All (IsCellOf planes) cells.new.items) }
+fn push_cells(
+    alloc: Global,
+    planes: &[Plane],
+    column: &Cell,
+    cells: &mut Vec<Cell>,
+) -> Result<(), AllocError>
+    ensures { IfOk result (λ _. IsCellOf planes.now column.now → All (IsCellOf planes.now) cells.old.items → All (IsCellOf planes.now) cells.new.items) }
 {
-    let inside = Heights::inside(&column.near, &column.bounds);
-    let reached = Heights::reached(&column.near, &column.bounds);
+    let inside = Heights::inside(planes, &column.near, &column.bounds);
+    let reached = Heights::reached(planes, &column.near, &column.bounds);
     let (middle, above, below) = if inside.is_empty() {
         (reached, Heights::none(), Heights::none())
     } else {
         (inside, reached.above(&inside), reached.under(&inside))
     };
-    cells.push(cell_at(alloc, column, middle)?)?;
-    cells.push(cell_at(alloc, column, above)?)?;
-    cells.push(cell_at(alloc, column, below)?)?;
+    cells.push(cell_at(alloc, planes, column, middle)?)?;
+    cells.push(cell_at(alloc, planes, column, above)?)?;
+    cells.push(cell_at(alloc, planes, column, below)?)?;
     Ok(())
 }
 
 /// Adds the cells of all columns of a square to a list, of which one cell is known.
 fn push_square(
     alloc: Global,
+    planes: &[Plane],
     grid: &Grid,
     square: &Square,
     whole: &Cell,
     cells: &mut Vec<Cell>,
 ) -> Result<(), AllocError>
-    ensures { IfOk result (λ _. (planes : List PlaneValue) → IsCellOf planes whole.now → All (IsCellOf planes) cells.old.items → All (IsCellOf planes) cells.new.items) }
+    ensures { IfOk result (λ _. IsCellOf planes.now whole.now → All (IsCellOf planes.now) cells.old.items → All (IsCellOf planes.now) cells.new.items) }
 {
     let Some(bits) = square.bits.checked_sub(1) else {
-        return push_cells(alloc, whole, cells);
+        return push_cells(alloc, planes, whole, cells);
     };
     for number in 0..4u32 {
         let quarter = square.quarter(bits, number);
-        let part = cell_over(alloc, whole, &grid.bounds(&quarter))?;
-        push_square(alloc, grid, &quarter, &part, cells)?;
+        let part = cell_over(alloc, planes, whole, &grid.bounds(&quarter))?;
+        push_square(alloc, planes, grid, &quarter, &part, cells)?;
     }
     Ok(())
 }
 
 impl Columns {
     /// The columns over the points of ids, with their cells between planes.
-    pub fn between(alloc: Global, planes: &[Plane], set: IdSet) -> Result<Columns, AllocError>
-        ensures { IfOk result (λ c. All (IsCellOf planes.now) c.cells.items) }
+    pub fn between(alloc: Global, planes: Vec<Plane>, set: IdSet) -> Result<Columns, Memory>
+        ensures planes { IfOk result (λ c. c.planes.items ≡ planes.items) }
+        ensures cells { IfOk result (λ c. All (IsCellOf c.planes.items) c.cells.items) }
     {
         let grid = Grid::over(set);
-        let whole = Cell::whole(alloc, planes)?;
+        let whole = Cell::whole(alloc, planes.len())?;
         let mut cells = Vec::with_capacity(alloc, CELLS)?;
-        push_square(alloc, &grid, &Square::whole(), &whole, &mut cells)?;
-        Ok(Columns { grid, cells })
+        push_square(alloc, &planes, &grid, &Square::whole(), &whole, &mut cells)?;
+        Ok(Columns {
+            grid,
+            planes,
+            cells,
+        })
     }
 
     /// The place of the one cell of a point's column that may hold it.
@@ -122,10 +132,10 @@ impl Columns {
 
     /// Returns true if a point is in a cell, strictly below all planes that are near.
     pub fn hold(&self, p: Point) -> bool
-        ensures { IsTrue result → (c : Cell) × In c self.now.cells.items × IsHeld c p }
+        ensures { IsTrue result → HoldsPoint self.now p }
     {
         match self.cells.get(self.place(p)) {
-            Some(cell) => cell.holds(p),
+            Some(cell) => cell.holds(&self.planes, p),
             None => false,
         }
     }

@@ -1,6 +1,7 @@
 //! Heights in a column between planes.
 
 use crate::inner_points::bounds::Bounds;
+use crate::inner_points::grid::nearest_coordinate;
 use qh_model::Point;
 use qh_pred::Plane;
 use std::cmp::Ordering;
@@ -26,24 +27,37 @@ impl Heights {
         }
     }
 
-    /// Those at which all places between bounds in x and y are below all planes, as far as numbers of 64
-    /// bits tell.
-    pub fn inside(planes: &[Plane], bounds: &Bounds) -> Heights {
+    /// Those at which all places between bounds in x and y are below the planes that are near, as far as
+    /// numbers of 64 bits tell.
+    pub fn inside(planes: &[Plane], near: &[u32], bounds: &Bounds) -> Heights {
         let mut heights = Heights::of(bounds);
-        for plane in planes {
-            heights = heights.below(plane, bounds.far_corner(&plane.normal()));
+        for number in near {
+            if let Some(plane) = planes.get(*number as usize) {
+                heights = heights.below(plane, bounds.far_corner(&plane.normal()));
+            }
         }
         heights
     }
 
-    /// Those at which some place between bounds in x and y may be below all planes, as far as numbers of 64
-    /// bits tell.
-    pub fn reached(planes: &[Plane], bounds: &Bounds) -> Heights {
+    /// Those at which some place between bounds in x and y may be below the planes that are near, as far as
+    /// numbers of 64 bits tell.
+    pub fn reached(planes: &[Plane], near: &[u32], bounds: &Bounds) -> Heights {
         let mut heights = Heights::of(bounds);
-        for plane in planes {
-            heights = heights.below(plane, bounds.near_corner(&plane.normal()));
+        for number in near {
+            if let Some(plane) = planes.get(*number as usize) {
+                heights = heights.below(plane, bounds.near_corner(&plane.normal()));
+            }
         }
         heights
+    }
+
+    /// The bounds in x and y of others, between these heights.
+    pub fn cut(&self, bounds: &Bounds) -> Bounds {
+        let (low, high) = (bounds.low, bounds.high);
+        Bounds {
+            low: Point::new(low.x(), low.y(), nearest_coordinate(self.low)),
+            high: Point::new(high.x(), high.y(), nearest_coordinate(self.high)),
+        }
     }
 
     /// Returns true if there are none.

@@ -55,7 +55,7 @@ fn rise(ids: &[Id]) -> bool
 /// has facets so many that few ids can be inside.
 pub fn inner_columns(alloc: Global, sample: IdSet) -> Result<Option<Columns>, Memory>
     requires { 0 < length sample.ids.now }
-    ensures { IfOk result (λ found. IfSome found (λ c. AreInner sample.entry.pts.now sample.entry.ids.now c.cells.items)) }
+    ensures { IfOk result (λ found. IfSome found (AreInner sample.entry.pts.now sample.entry.ids.now)) }
 {
     let Shape::Solid(i, j, k, l) = rank(sample.pts, sample.ids) else {
         return Ok(None);
@@ -68,5 +68,5 @@ pub fn inner_columns(alloc: Global, sample: IdSet) -> Result<Option<Columns>, Me
     if !sample_pays(planes.len(), sample.ids.len()) {
         return Ok(None);
     }
-    Ok(Some(Columns::between(alloc, &planes, sample)?))
+    Ok(Some(Columns::between(alloc, planes, sample)?))
 }

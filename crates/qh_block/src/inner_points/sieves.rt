@@ -19,12 +19,12 @@ pub trait Sieve {
     /// The ids that the columns don't hold, in their order.
     fn outside(&self, alloc: Global, set: IdSet, columns: &Columns) -> Result<Vec<Id>, AllocError>
         requires { ready self.now }
-        ensures { IfOk result (λ v. KeepsExtremes set.entry.pts.now columns.now.cells.items set.entry.ids.now v.items) };
+        ensures { IfOk result (λ v. KeepsExtremes set.entry.pts.now columns.now set.entry.ids.now v.items) };
 }
 
 /// The ids that the columns don't hold, in their order, by the calling thread.
 fn ids_outside(alloc: Global, set: IdSet, columns: &Columns) -> Result<Vec<Id>, AllocError>
-    ensures { IfOk result (λ v. KeepsExtremes set.entry.pts.now columns.now.cells.items set.entry.ids.now v.items) }
+    ensures { IfOk result (λ v. KeepsExtremes set.entry.pts.now columns.now set.entry.ids.now v.items) }
 {
     let mut kept = Vec::new(alloc);
     for id in set.ids {
@@ -59,9 +59,9 @@ fn joined(
     size: usize,
 ) -> Result<Vec<Id>, AllocError>
     requires parts { (i : ℕ) (d : Result (Vec Id Global) AllocError) → i < length parts.now → IfOk (slice_index_or parts.now i d)
-        (λ v. KeepsExtremes set.pts.now columns.now.cells.items (take size (drop (i * size) set.ids.now)) v.items) }
+        (λ v. KeepsExtremes set.pts.now columns.now (take size (drop (i * size) set.ids.now)) v.items) }
     requires all { length set.ids.now ≤ length parts.now * size }
-    ensures { IfOk result (λ v. KeepsExtremes set.entry.pts.now columns.now.cells.items set.entry.ids.now v.items) }
+    ensures { IfOk result (λ v. KeepsExtremes set.entry.pts.now columns.now set.entry.ids.now v.items) }
 {
     let mut kept = Vec::new(alloc);
     for part in parts {
@@ -81,7 +81,7 @@ fn ids_outside_in_threads<R: Threads + Sync>(
     columns: &Columns,
     threads: usize,
 ) -> Result<Vec<Id>, AllocError>
-    ensures { IfOk result (λ v. KeepsExtremes set.entry.pts.now columns.now.cells.items set.entry.ids.now v.items) }
+    ensures { IfOk result (λ v. KeepsExtremes set.entry.pts.now columns.now set.entry.ids.now v.items) }
 {
     if threads < 2 || set.ids.len() < SHARED_FROM {
         return ids_outside(alloc, set, columns);
@@ -92,7 +92,7 @@ fn ids_outside_in_threads<R: Threads + Sync>(
         alloc,
         threads,
         &move |number: usize| -> Result<Vec<Id>, AllocError>
-            ensures { IfOk result (λ v. KeepsExtremes set.entry.pts.now columns.entry.now.cells.items (take size (drop (number * size) set.entry.ids.now)) v.items) }
+            ensures { IfOk result (λ v. KeepsExtremes set.entry.pts.now columns.entry.now (take size (drop (number * size) set.entry.ids.now)) v.items) }
         { ids_outside(alloc, part_at(set, size, number), columns) },
     )?;
     joined(alloc, set, columns, &parts, size)

@@ -30,7 +30,11 @@ use std::alloc::Global;
 const LARGE: usize = 16384;
 
 /// The points of ids, in their order.
-fn points_of(alloc: Global, pts: &[Point], ids: &[Id]) -> Result<Vec<Point>, Memory>
+///
+/// # Errors
+///
+/// `Memory` where memory was refused.
+pub fn points_of(alloc: Global, pts: &[Point], ids: &[Id]) -> Result<Vec<Point>, Memory>
     requires { AreIndices pts.now ids.now }
     ensures { IfOk result (λ v. v.items ≡ map (place pts.now) ids.now) }
 {

@@ -1,16 +1,16 @@
 //! The text of `offt`: that of `off`, with fans of triangles in place of the faces.
-ghost use Rattle.std.specs.Prelude.{◌≡◌, ◌++◌, ◌<◌, ℕ, OnOk, IfOk, All, length, decimal, List};
+ghost use Rattle.std.specs.Prelude.{◌≡◌, ◌++◌, ◌<◌, OnOk, IfOk, All, length, decimal};
 ghost use Rattle.std.specs.List.{flat_map};
 ghost use Rattle.qh_model.specs.headline.Fan.{triangles_along, fan, fans, edge_count};
-ghost use Rattle.qh_model.specs.headline.Text.{line, spaced, face_text, off_text, in_triangles};
-ghost use Rattle.qh_model.specs.contract.Bodies.{IsBodyInOrder};
+ghost use Rattle.qh_model.specs.headline.Text.{line, spaced, off_text, in_triangles};
 ghost use Rattle.qh_model.specs.contract.IdSets.{AreIndices};
 ghost use Rattle.qh_write.specs.steps.VertexTables.{AreNumbered, face_by_table};
 
 use super::edges::fan_edges;
+use super::forms::Form;
 use super::lines::{push_line_end, push_number, push_spaced};
-use super::numbering::vertex_numbers;
-use super::off::{push_face, push_vertices};
+use super::off::{push_face, push_numbered, push_vertices};
+use super::scribes::Scribe;
 use qh_model::{Body, Id, Point, Polygon};
 use std::alloc::{AllocError, Global};
 
@@ -49,30 +49,13 @@ fn push_fan(text: &mut Vec<u8>, numbers: &[usize], face: &[Id]) -> Result<(), Al
 }
 
 /// Appends faces as fans of triangles.
-fn push_fans(text: &mut Vec<u8>, numbers: &[usize], faces: &[Polygon]) -> Result<(), AllocError>
+pub fn push_fans(text: &mut Vec<u8>, numbers: &[usize], faces: &[Polygon]) -> Result<(), AllocError>
     requires { All (AreNumbered numbers.now) faces.now }
     ensures { OnOk result (text.new.items ≡ text.old.items ++ flat_map (face_by_table numbers.now) (fans faces.now)) }
 {
     for face in faces {
         push_fan(text, numbers, face.ids())?;
     }
-    Ok(())
-}
-
-/// Appends the fans of faces, each vertex by its number.
-fn push_numbered_fans(
-    text: &mut Vec<u8>,
-    alloc: Global,
-    extremes: &[Id],
-    faces: &[Polygon],
-    count: usize,
-) -> Result<(), AllocError>
-    requires within { All (λ i. i < count) extremes.now }
-    requires order { IsBodyInOrder extremes.now faces.now }
-    ensures { OnOk result (text.new.items ≡ text.old.items ++ flat_map (face_text extremes.now) (fans faces.now)) }
-{
-    let numbers = vertex_numbers(alloc, extremes, count)?;
-    push_fans(text, &numbers, faces)?;
     Ok(())
 }
 
@@ -111,17 +94,19 @@ fn push_fan_counts(text: &mut Vec<u8>, alloc: Global, body: &Body) -> Result<(),
 }
 
 /// Appends the text of `offt`.
-pub fn push_off_triangles(
+pub fn push_off_triangles<S: Scribe>(
+    scribe: &S,
     text: &mut Vec<u8>,
     alloc: Global,
     body: &Body,
     pts: &[Point],
 ) -> Result<(), AllocError>
-    requires { AreIndices pts.now body.now.extremes }
+    requires indices { AreIndices pts.now body.now.extremes }
+    requires ready { S.ready scribe.now }
     ensures { OnOk result (text.new.items ≡ text.old.items ++ off_text (in_triangles body.now) pts.now) }
 {
     text.extend_from_slice(b"OFF\n")?;
     push_fan_counts(text, alloc, body)?;
     push_vertices(text, pts, &body.extremes)?;
-    push_numbered_fans(text, alloc, &body.extremes, &body.polygons, pts.len())
+    push_numbered(scribe, text, alloc, Form::Fans, body, pts.len())
 }

@@ -4,9 +4,11 @@ ghost use Rattle.std.specs.List.{flat_map};
 ghost use Rattle.qh_model.specs.headline.Text.{line, spaced, extremes_text, vertex_text, face_text, off_text};
 ghost use Rattle.qh_model.specs.contract.Bodies.{IsBodyInOrder};
 ghost use Rattle.qh_model.specs.headline.Predicates.{place};
+ghost use Rattle.qh_write.specs.steps.Forms.{shown};
 ghost use Rattle.qh_write.specs.steps.VertexTables.{AreNumbered, face_by_table};
 ghost use Rattle.qh_model.specs.contract.IdSets.{AreIndices};
 
+use super::forms::Form;
 use super::lines::{push_line_end, push_number, push_signed, push_spaced};
 use super::numbering::vertex_numbers;
 use super::scribes::Scribe;
@@ -97,22 +99,23 @@ pub fn push_faces(
     Ok(())
 }
 
-/// Appends the faces, each vertex by its number among the extreme ids.
-fn push_numbered_faces<S: Scribe>(
+/// Appends the faces of a hull in a form, each vertex by its number among the extreme ids, all of which are below
+/// the count.
+pub fn push_numbered<S: Scribe>(
     scribe: &S,
     text: &mut Vec<u8>,
     alloc: Global,
-    extremes: &[Id],
-    faces: &[Polygon],
+    form: Form,
+    body: &Body,
     count: usize,
 ) -> Result<(), AllocError>
-    requires within { All (λ i. i < count) extremes.now }
-    requires order { IsBodyInOrder extremes.now faces.now }
+    requires within { All (λ i. i < count) body.now.extremes }
+    requires order { IsBodyInOrder body.now.extremes body.now.polygons }
     requires ready { S.ready scribe.now }
-    ensures { OnOk result (text.new.items ≡ text.old.items ++ flat_map (face_text extremes.now) faces.now) }
+    ensures { OnOk result (text.new.items ≡ text.old.items ++ flat_map (face_text body.now.extremes) (shown form body.now.polygons)) }
 {
-    let numbers = vertex_numbers(alloc, extremes, count)?;
-    scribe.push_faces(text, alloc, &numbers, faces)?;
+    let numbers = vertex_numbers(alloc, &body.extremes, count)?;
+    scribe.push_faces(text, alloc, form, &numbers, &body.polygons)?;
     Ok(())
 }
 
@@ -140,12 +143,5 @@ pub fn push_off<S: Scribe>(
     text.extend_from_slice(b"OFF\n")?;
     push_counts(text, body)?;
     push_vertices(text, pts, &body.extremes)?;
-    push_numbered_faces(
-        scribe,
-        text,
-        alloc,
-        &body.extremes,
-        &body.polygons,
-        pts.len(),
-    )
+    push_numbered(scribe, text, alloc, Form::Whole, body, pts.len())
 }

@@ -32,6 +32,11 @@ pub fn faces_room(faces: &[Polygon]) -> usize {
     face_numbers(faces).saturating_mul(NUMBER)
 }
 
+/// At least as many bytes as the lines of the fans of faces take.
+pub fn fans_room(faces: &[Polygon]) -> usize {
+    fan_numbers(faces).saturating_mul(NUMBER)
+}
+
 fn output_room(body: &Body, out: Out) -> usize {
     let vertices = body.extremes.len().saturating_mul(NUMBER);
     match out {
@@ -42,7 +47,7 @@ fn output_room(body: &Body, out: Out) -> usize {
             .saturating_add(faces_room(&body.polygons)),
         Out::OffTriangles => SUMMARY
             .saturating_add(vertices.saturating_mul(3))
-            .saturating_add(fan_numbers(&body.polygons).saturating_mul(NUMBER)),
+            .saturating_add(fans_room(&body.polygons)),
     }
 }
 

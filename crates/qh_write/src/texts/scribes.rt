@@ -2,10 +2,10 @@
 ghost use Rattle.std.specs.Prelude.{◌≡◌, ◌++◌, ◌*◌, ◌≤◌, ◌<◌, ℕ, IfOk, OnOk, Result, Vec, All, length, take, drop, slice_index_or};
 ghost use Rattle.std.specs.List.{flat_map};
 ghost use Rattle.std.specs.Thread.{IsSync};
+ghost use Rattle.qh_write.specs.steps.Forms.{shown};
 ghost use Rattle.qh_write.specs.steps.VertexTables.{AreNumbered, face_by_table};
 
-use super::off::push_faces;
-use super::room::faces_room;
+use super::forms::Form;
 use qh_model::Polygon;
 use std::alloc::{AllocError, Global};
 use std::thread::{self, Threads};
@@ -18,17 +18,18 @@ pub trait Scribe {
     /// What is known of one that writes.
     ghost ready: { Self → Type 0 };
 
-    /// Appends the faces, each vertex by its number in a table.
+    /// Appends the faces in a form, each vertex by its number in a table.
     fn push_faces(
         &self,
         text: &mut Vec<u8>,
         alloc: Global,
+        form: Form,
         numbers: &[usize],
         faces: &[Polygon],
     ) -> Result<(), AllocError>
         requires ready { ready self.now }
         requires numbered { All (AreNumbered numbers.now) faces.now }
-        ensures { OnOk result (text.new.items ≡ text.old.items ++ flat_map (face_by_table numbers.now) faces.now) };
+        ensures { OnOk result (text.new.items ≡ text.old.items ++ flat_map (face_by_table numbers.now) (shown form faces.now)) };
 }
 
 /// The part of faces with a number, where they are cut into parts of so many; the last may be shorter, and
@@ -42,28 +43,34 @@ fn part_of(faces: &[Polygon], size: usize, number: usize) -> &[Polygon]
     part
 }
 
-/// The text of faces, each vertex by its number in a table.
-fn faces_text(alloc: Global, numbers: &[usize], faces: &[Polygon]) -> Result<Vec<u8>, AllocError>
+/// The text of faces in a form, each vertex by its number in a table.
+fn faces_text(
+    alloc: Global,
+    form: Form,
+    numbers: &[usize],
+    faces: &[Polygon],
+) -> Result<Vec<u8>, AllocError>
     requires { All (AreNumbered numbers.now) faces.now }
-    ensures { IfOk result (λ t. t.items ≡ flat_map (face_by_table numbers.now) faces.now) }
+    ensures { IfOk result (λ t. t.items ≡ flat_map (face_by_table numbers.now) (shown form faces.now)) }
 {
-    let mut text = Vec::with_capacity(alloc, faces_room(faces))?;
-    push_faces(&mut text, numbers, faces)?;
+    let mut text = Vec::with_capacity(alloc, form.room(faces))?;
+    form.push(&mut text, numbers, faces)?;
     Ok(text)
 }
 
 /// Appends the texts of the parts of faces.
 fn push_parts(
     text: &mut Vec<u8>,
+    form: Form,
     numbers: &[usize],
     faces: &[Polygon],
     parts: &[Result<Vec<u8>, AllocError>],
     size: usize,
 ) -> Result<(), AllocError>
     requires parts { (i : ℕ) (d : Result (Vec ℕ Global) AllocError) → i < length parts.now → IfOk (slice_index_or parts.now i d)
-        (λ t. t.items ≡ flat_map (face_by_table numbers.now) (take size (drop (i * size) faces.now))) }
+        (λ t. t.items ≡ flat_map (face_by_table numbers.now) (shown form (take size (drop (i * size) faces.now)))) }
     requires all { length faces.now ≤ length parts.now * size }
-    ensures { OnOk result (text.new.items ≡ text.old.items ++ flat_map (face_by_table numbers.now) faces.now) }
+    ensures { OnOk result (text.new.items ≡ text.old.items ++ flat_map (face_by_table numbers.now) (shown form faces.now)) }
 {
     for part in parts {
         match part {
@@ -74,32 +81,33 @@ fn push_parts(
     Ok(())
 }
 
-/// Appends faces by as many threads, each at a part of them.
+/// Appends faces in a form by as many threads, each at a part of them.
 fn push_faces_in_threads<R: Threads + Sync>(
-    rt: &R,
+    scribe: &InThreads<'_, R>,
     text: &mut Vec<u8>,
     alloc: Global,
+    form: Form,
     numbers: &[usize],
     faces: &[Polygon],
-    threads: usize,
 ) -> Result<(), AllocError>
     requires { All (AreNumbered numbers.now) faces.now }
-    ensures { OnOk result (text.new.items ≡ text.old.items ++ flat_map (face_by_table numbers.now) faces.now) }
+    ensures { OnOk result (text.new.items ≡ text.old.items ++ flat_map (face_by_table numbers.now) (shown form faces.now)) }
 {
+    let threads = scribe.threads;
     if threads < 2 || faces.len() < SHARED_FROM {
-        return push_faces(text, numbers, faces);
+        return form.push(text, numbers, faces);
     }
     let size = faces.len() / threads + 1;
     let parts = thread::map_indices(
-        rt,
+        scribe.rt,
         alloc,
         threads,
         &move |number: usize| -> Result<Vec<u8>, AllocError>
             requires { All (AreNumbered numbers.now) faces.now }
-            ensures { IfOk result (λ t. t.items ≡ flat_map (face_by_table numbers.entry.now) (take size (drop (number * size) faces.entry.now))) }
-        { faces_text(alloc, numbers, part_of(faces, size, number)) },
+            ensures { IfOk result (λ t. t.items ≡ flat_map (face_by_table numbers.entry.now) (shown form (take size (drop (number * size) faces.entry.now)))) }
+        { faces_text(alloc, form, numbers, part_of(faces, size, number)) },
     )?;
-    push_parts(text, numbers, faces, &parts, size)
+    push_parts(text, form, numbers, faces, &parts, size)
 }
 
 /// The calling thread alone.
@@ -113,10 +121,11 @@ impl Scribe for Alone {
         &self,
         text: &mut Vec<u8>,
         _alloc: Global,
+        form: Form,
         numbers: &[usize],
         faces: &[Polygon],
     ) -> Result<(), AllocError> {
-        push_faces(text, numbers, faces)
+        form.push(text, numbers, faces)
     }
 }
 
@@ -134,9 +143,10 @@ impl<R: Threads + Sync> Scribe for InThreads<'_, R> {
         &self,
         text: &mut Vec<u8>,
         alloc: Global,
+        form: Form,
         numbers: &[usize],
         faces: &[Polygon],
     ) -> Result<(), AllocError> {
-        push_faces_in_threads(self.rt, text, alloc, numbers, faces, self.threads)
+        push_faces_in_threads(self, text, alloc, form, numbers, faces)
     }
 }

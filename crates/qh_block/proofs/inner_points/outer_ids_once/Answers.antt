@@ -25,6 +25,6 @@ invariant_of-sampled g c =
 pub returns-clause-part : goal.returns-clause-part
 returns-clause-part g c =
     let pts = c.args.set.pts.now in let ids = c.args.set.ids.now in let s = c.in_ok-sample in
-    let inner = subst (λ xs. AreInner pts xs c.in-Some.columns.cells.items) c.deref.ensures.value
+    let inner = subst (λ xs. AreInner pts xs c.in-Some.columns) c.deref.ensures.value
     (rw c.in-Some.is at c.in_ok-columns.ensures) ids (part ids s.sample.items _ s.ensures.inside s.ensures.each) in
-    kept_part pts c.in-Some.columns.cells.items ids c.in_ok-outer.outer.items inner c.in_ok-outer.ensures
+    kept_part pts c.in-Some.columns ids c.in_ok-outer.outer.items inner c.in_ok-outer.ensures

@@ -5,7 +5,7 @@ use Rattle.qh_check.proofs.findings.fault_in_group.Goals as goal
 
 pub loop-index-preserved : goal.loop-index-preserved
 loop-index-preserved c = λ ids are.
-    all_next (IsFaceAmong c.args.set.pts.now ids c.args.polygons.now) c.args.group.now c.loop-index.index
+    all_next (IsFaceAmong c.args.set.extent c.args.set.pts.now ids c.args.polygons.now) c.args.group.now c.loop-index.index
     (c.loop-index.invariant ids are) c.loop-index-test.true
     (rw c.in_default.is at (c.in_ok-fault.ensures ids are))
 
@@ -14,5 +14,5 @@ returns-in-Some c = λ ids are. rw c.in-Some.is at (c.in_ok-fault.ensures ids ar
 
 pub returns : goal.returns
 returns c = λ ids are.
-    all_ends (IsFaceAmong c.args.set.pts.now ids c.args.polygons.now) c.args.group.now c.loop-index.index
+    all_ends (IsFaceAmong c.args.set.extent c.args.set.pts.now ids c.args.polygons.now) c.args.group.now c.loop-index.index
     c.loop-index-test.false (c.loop-index.invariant ids are)

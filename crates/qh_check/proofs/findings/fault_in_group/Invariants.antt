@@ -7,4 +7,4 @@ use Rattle.qh_check.proofs.findings.fault_in_group.Given as goal
 
 abbrev pub invariant-loop-index : goal.invariant-loop-index
 invariant-loop-index l = (ids : List ℕ) → ArePlaces l.set.pts.now ids l.set.places.now
-    → All (IsFaceAmong l.set.pts.now ids l.polygons) (take l.index l.group)
+    → All (IsFaceAmong l.set.extent l.set.pts.now ids l.polygons) (take l.index l.group)

@@ -13,7 +13,7 @@ pub loop-rest-preserved : goal.loop-rest-preserved
 loop-rest-preserved c = λ ids are k m. elim (c.loop-rest.invariant ids are k m) [
   | inr f ↦ inr f
   | inl n ↦ elim (in_either c.min.result c.loop-rest.rest.now k n) [
-    | inl a ↦ inr (All-In (IsFaceAmong c.args.set.pts.now ids c.args.polygons.now) _ k
+    | inl a ↦ inr (All-In (IsFaceAmong c.args.set.extent c.args.set.pts.now ids c.args.polygons.now) _ k
         (rw c.in_default.is at (c.in_ok-finding.ensures ids are)) (rw (← c.split_at.ensures.front) at a))
     | inr b ↦ inl (rw (← c.split_at.ensures.back) at b)
   ]
@@ -23,5 +23,5 @@ pub returns-in-Some : goal.returns-in-Some
 returns-in-Some c = λ ids are. rw c.in-Some.is at (c.in_ok-finding.ensures ids are)
 
 pub returns : goal.returns
-returns c = λ ids are. All-of (IsFaceAmong c.args.set.pts.now ids c.args.polygons.now) c.args.order.now
+returns c = λ ids are. All-of (IsFaceAmong c.args.set.extent c.args.set.pts.now ids c.args.polygons.now) c.args.order.now
     (λ k m. elim (c.loop-rest.invariant ids are k m) [ inl n ↦ absurd (in_none c.loop-rest.rest.now k (let t = c.loop-rest-test.false in omega (arith, t)) n) | inr f ↦ f ])

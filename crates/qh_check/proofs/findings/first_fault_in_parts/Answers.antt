@@ -10,6 +10,6 @@ returns g c = IfOk-weaker c.first_of.result _ _ (λ o h ids are.
     let count = c.in_ok-answers.ensures.len in let ok = c.in_ok-answers.answers.ok.0 in
     let long : length items ≡ length c.args.asked.order.now / size + min 1 (length c.args.asked.order.now % size) =
     omega (arith, count, ok) in
-    found_parts c.args.set.pts.now ids c.args.asked.polygons.now c.args.asked.order.now size c.requires items long
+    found_parts c.args.set.extent c.args.set.pts.now ids c.args.asked.polygons.now c.args.asked.order.now size c.requires items long
     (λ n d l. (let e = (c.in_ok-answers.ensures.each n d l).1 in (e.argument.now, e.argument_is, IfOk-weaker (get_or items n d) _ _ (λ o k. k ids are) e.call)))
     o (rw c.deref.ensures.value at h)) c.first_of.ensures

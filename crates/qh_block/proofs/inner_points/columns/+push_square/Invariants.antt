@@ -1,7 +1,5 @@
 -- A quarter has half the side; the cells so far are cells between all planes if those were that were there before.
-use Rattle.std.proofs.Common.{List}
 use Rattle.std.specs.List.{All}
-use Rattle.qh_pred.specs.contract.Planes.{PlaneValue}
 use Rattle.qh_block.specs.steps.InnerPoints.{IsCellOf}
 use Rattle.qh_block.proofs.inner_points.columns.+push_square.Given as goal
 
@@ -9,5 +7,4 @@ abbrev pub decreases-push_square : goal.decreases-push_square
 decreases-push_square l = l.square.now.bits
 
 abbrev pub invariant-loop-number : goal.invariant-loop-number
-invariant-loop-number l = (planes : List PlaneValue) → IsCellOf planes l.whole → All (IsCellOf planes) l.initial.cells.items
-    → All (IsCellOf planes) l.cells.items
+invariant-loop-number l = IsCellOf l.planes l.whole → All (IsCellOf l.planes) l.initial.cells.items → All (IsCellOf l.planes) l.cells.items

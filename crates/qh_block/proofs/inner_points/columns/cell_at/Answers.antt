@@ -2,4 +2,4 @@
 use Rattle.qh_block.proofs.inner_points.columns.cell_at.Goals as goal
 
 pub returns-then-is_empty : goal.returns-then-is_empty
-returns-then-is_empty c planes column = c.none.ensures planes
+returns-then-is_empty c cell = c.none.ensures c.args.planes.now

@@ -4,7 +4,8 @@ use Rattle.qh_block.specs.steps.InnerPoints.{IsCellOf}
 use Rattle.qh_block.proofs.inner_points.columns.push_cells.Goals as goal
 
 pub returns : goal.returns
-returns c planes column olds =
-    let one = one_more (IsCellOf planes) _ _ _ c.in_ok-push.ensures.items olds (c.in_ok-cell_at.ensures planes column) in
-    let two = one_more (IsCellOf planes) _ _ _ c.in_ok-push-2.ensures.items one (c.in_ok-cell_at-2.ensures planes column) in
-    one_more (IsCellOf planes) _ _ _ c.in_ok-push-3.ensures.items two (c.in_ok-cell_at-3.ensures planes column)
+returns c column olds =
+    let is_cell = IsCellOf c.args.planes.now in
+    let one = one_more is_cell _ _ _ c.in_ok-push.ensures.items olds (c.in_ok-cell_at.ensures column) in
+    let two = one_more is_cell _ _ _ c.in_ok-push-2.ensures.items one (c.in_ok-cell_at-2.ensures column) in
+    one_more is_cell _ _ _ c.in_ok-push-3.ensures.items two (c.in_ok-cell_at-3.ensures column)

@@ -5,4 +5,4 @@ use Rattle.qh_block.proofs.inner_points.sieves.ids_outside.Given as goal
 
 abbrev pub invariant-loop-id : goal.invariant-loop-id
 invariant-loop-id l =
-    KeepsExtremes l.set.pts.now l.columns.cells.items l.set.ids.now (l.kept.items ++ drop l.id-index l.set.ids.now)
+    KeepsExtremes l.set.pts.now l.columns l.set.ids.now (l.kept.items ++ drop l.id-index l.set.ids.now)

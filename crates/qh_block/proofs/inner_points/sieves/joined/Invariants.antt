@@ -5,4 +5,4 @@ use Rattle.qh_block.proofs.inner_points.sieves.joined.Given as goal
 
 abbrev pub invariant-loop-part : goal.invariant-loop-part
 invariant-loop-part l =
-    KeepsExtremes l.set.pts.now l.columns.cells.items (take (l.part-index * l.size) l.set.ids.now) l.kept.items
+    KeepsExtremes l.set.pts.now l.columns (take (l.part-index * l.size) l.set.ids.now) l.kept.items

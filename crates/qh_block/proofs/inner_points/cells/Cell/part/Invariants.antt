@@ -3,5 +3,5 @@ use Rattle.std.proofs.Common.{drop}
 use Rattle.qh_block.proofs.Cells.{AreSifted}
 use Rattle.qh_block.proofs.inner_points.cells.Cell.part.Given as goal
 
-abbrev pub invariant-loop-plane : goal.invariant-loop-plane
-invariant-loop-plane l = AreSifted l.bounds l.self.near.items l.near.items (drop l.plane-index l.self.near.items)
+abbrev pub invariant-loop-number : goal.invariant-loop-number
+invariant-loop-number l = AreSifted l.planes l.bounds l.self.near.items l.near.items (drop l.number-index l.self.near.items)

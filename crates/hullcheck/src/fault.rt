@@ -1,0 +1,73 @@
+//! What keeps the program from a verdict.
+ghost use Rattle.std.specs.Prelude.{◌≡◌};
+ghost use Rattle.hullcheck.specs.declared.fault.Fault.TheVariants.{Memory};
+
+use qh_model::{Memory, ReadFault};
+use std::alloc::{AllocError, AllocFailed};
+use std::fmt;
+
+/// Why there is no verdict.
+#[derive(Clone, Copy, Debug, PartialEq, Eq)]
+pub enum Fault {
+    /// The words are no command line, or ask for help.
+    Usage,
+    /// Memory was refused.
+    Memory,
+    /// A file could not be opened or read.
+    Device,
+    /// The points could not be read.
+    Points(ReadFault),
+    /// The faces could not be read: this line of their file.
+    Faces(u32),
+}
+
+impl Fault {
+    /// The exit status.
+    pub fn status(self) -> u8 {
+        match self {
+            Fault::Usage => 2,
+            Fault::Memory | Fault::Points(ReadFault::Memory) => 3,
+            Fault::Device | Fault::Points(ReadFault::Device) => 4,
+            Fault::Points(_) | Fault::Faces(_) => 5,
+        }
+    }
+}
+
+impl From<Memory> for Fault {
+    ghost from_gives = { λ _ e. e ≡ Memory };
+
+    fn from(_memory: Memory) -> Fault {
+        Fault::Memory
+    }
+}
+
+impl From<AllocError> for Fault {
+    ghost from_gives = { λ _ e. e ≡ Memory };
+
+    fn from(_error: AllocError) -> Fault {
+        Fault::Memory
+    }
+}
+
+impl<T: Drop> From<AllocFailed<T>> for Fault {
+    ghost from_gives = { λ _ e. e ≡ Memory };
+
+    fn from(_refused: AllocFailed<T>) -> Fault {
+        Fault::Memory
+    }
+}
+
+impl fmt::Display for Fault {
+    fn fmt<W: fmt::Write>(&self, f: &mut fmt::Formatter<W>) -> fmt::Result {
+        match self {
+            Fault::Usage => write!(
+                f,
+                "usage: hullcheck [--workers N] [--indices] [--clockwise] POINTS [FACES]"
+            ),
+            Fault::Memory => write!(f, "hullcheck: memory was refused"),
+            Fault::Device => write!(f, "hullcheck: a file could not be read"),
+            Fault::Points(fault) => write!(f, "hullcheck: the points: {fault:?}"),
+            Fault::Faces(line) => write!(f, "hullcheck: the faces: line {line}"),
+        }
+    }
+}

@@ -1,0 +1,96 @@
+//! The program between files and standard streams.
+use crate::command_line::{Settings, settings_of};
+use crate::faces::{Faces, read_faces};
+use crate::fault::Fault;
+use crate::judgement::Judgement;
+use crate::judging::judge_faces;
+use qh_model::{Form, POINT_LIMIT, Point};
+use qh_read::{StdSource, read_form_threads};
+use std::alloc::Global;
+use std::io::Read;
+use std::process::ExitCode;
+use std::rt::{Env, Files};
+use std::thread::Threads;
+use std::{env, fs};
+
+/// The words of the command line.
+fn words<R: Env + AllocGlobal>(rt: &R) -> Result<Vec<String>, Fault> {
+    let args = env::args(rt).map_err(|_| Fault::Usage)?;
+    args.collect(rt.alloc()).map_err(|_| Fault::Memory)
+}
+
+/// The points of a file.
+fn points_in<R: Files + AllocGlobal + Threads + Sync>(
+    rt: &R,
+    path: &str,
+    workers: u32,
+) -> Result<Vec<Point>, Fault> {
+    let file = fs::open(rt, path).map_err(|_| Fault::Device)?;
+    let mut source = StdSource::new(file);
+    read_form_threads(rt, rt.alloc(), workers as usize, Form::Qhull, &mut source).map_err(
+        Fault::Points,
+    )
+}
+
+/// All bytes of a reader.
+fn bytes_of<S: Read + Drop>(alloc: Global, mut reader: S) -> Result<Vec<u8>, Fault> {
+    let mut bytes = Vec::new(alloc);
+    reader.read_to_end(&mut bytes).map_err(|_| Fault::Device)?;
+    Ok(bytes)
+}
+
+/// The faces of a file, or of standard input.
+fn faces_in<R: Files + Input + AllocGlobal>(rt: &R, settings: &Settings) -> Result<Faces, Fault> {
+    let alloc = rt.alloc();
+    let bytes = match settings.faces {
+        Some(path) => bytes_of(alloc, fs::open(rt, path).map_err(|_| Fault::Device)?)?,
+        None => bytes_of(alloc, rt.reader())?,
+    };
+    read_faces(alloc, &bytes, settings.reading)
+}
+
+/// What is told of the faces that a command line names.
+fn told<R: Env + Files + Input + AllocGlobal + Threads + Sync>(rt: &R) -> Result<Judgement, Fault> {
+    let words = words(rt)?;
+    let settings = settings_of(&words)?;
+    let path = settings.points.ok_or(Fault::Usage)?;
+    let pts = points_in(rt, path, settings.workers)?;
+    let faces = faces_in(rt, &settings)?;
+    if pts.is_empty() || pts.len() > POINT_LIMIT as usize {
+        return Err(Fault::Usage);
+    }
+    judge_faces(
+        rt,
+        rt.alloc(),
+        &pts,
+        &faces,
+        settings.reading.naming,
+        settings.workers,
+    )
+}
+
+/// Writes a judgement on standard output, and answers the exit status.
+fn end<R: Print>(rt: &R, judgement: Judgement) -> u8 {
+    let status = judgement.status();
+    match println!(rt; "{judgement}") {
+        Ok(()) => status,
+        Err(_) => Fault::Device.status(),
+    }
+}
+
+/// Writes a fault on standard error, and answers the exit status.
+fn refuse<R: Eprint>(rt: &R, fault: Fault) -> u8 {
+    let _ = eprintln!(rt; "{fault}");
+    fault.status()
+}
+
+/// Judges the faces that the command line names, and says with which status the program ends.
+pub fn run<R: Env + Files + Input + Print + Eprint + AllocGlobal + Threads + Sync>(
+    rt: &R,
+) -> ExitCode {
+    let status = match told(rt) {
+        Ok(judgement) => end(rt, judgement),
+        Err(fault) => refuse(rt, fault),
+    };
+    ExitCode::from(status)
+}

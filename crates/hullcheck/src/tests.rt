@@ -1,0 +1,128 @@
+//! Worked rows: faces of a cube in files, and what is told of them.
+use crate::command_line::settings_of;
+use crate::faces::{Faces, Naming, Reading, Turn, read_faces};
+use crate::fault::Fault;
+use crate::judgement::Judgement;
+use crate::judging::judge_faces;
+use qh_check::SurfaceVerdict;
+use qh_model::Point;
+use std::alloc::{AllocError, Global};
+use std::test::Fail;
+use std::thread::Threads;
+
+/// The corners of a cube, and two of them once more.
+fn cube() -> [Point; 10] {
+    [
+        Point::new(0, 0, 0),
+        Point::new(0, 0, 1),
+        Point::new(0, 1, 0),
+        Point::new(0, 1, 1),
+        Point::new(1, 0, 0),
+        Point::new(1, 0, 1),
+        Point::new(1, 1, 0),
+        Point::new(1, 1, 1),
+        Point::new(0, 0, 0),
+        Point::new(1, 1, 1),
+    ]
+}
+
+/// What is told of a text of faces of the cube.
+fn told<R: Threads + Sync>(
+    rt: &R,
+    alloc: Global,
+    text: &str,
+    reading: Reading,
+) -> Result<Judgement, Fault> {
+    let faces: Faces = read_faces(alloc, text.as_bytes(), reading)?;
+    judge_faces(rt, alloc, &cube(), &faces, reading.naming, 1)
+}
+
+/// How Qhull's `i` is read.
+const INDICES: Reading = Reading {
+    naming: Naming::Indices,
+    turn: Turn::Clockwise,
+};
+
+/// How an OFF file is read.
+const OFF: Reading = Reading {
+    naming: Naming::Vertices,
+    turn: Turn::Counterclockwise,
+};
+
+/// The faces of the cube as Qhull writes them, two corners under their second index.
+const BY_INDICES: &str = "6\n4 6 2 8 \n1 5 4 0 \n5 9 6 4 \n3 1 0 2 \n7 3 2 6 \n3 7 5 1 \n";
+
+/// An OFF file of a tetrahedron of corners of the cube, with a comment.
+const TETRAHEDRON: &str =
+    "OFF # four corners\n4 4 6\n1 1 1\n0 0 0\n1 0 0\n0 1 0\n3 0 1 2\n3 0 3 1\n3 0 2 3\n3 1 3 2\n";
+
+#[test]
+fn faces_by_indices_are_right(rt: HostRuntime) -> Result<(), Fail> {
+    let told = told(&rt, rt.alloc(), BY_INDICES, INDICES);
+    assert!(rt; matches!(told, Ok(Judgement::Told(SurfaceVerdict::Right))));
+    Ok(())
+}
+
+#[test]
+fn the_hull_of_some_of_the_points_is_wrong(rt: HostRuntime) -> Result<(), Fail> {
+    let told = told(&rt, rt.alloc(), TETRAHEDRON, OFF);
+    assert!(rt; matches!(told, Ok(Judgement::Told(SurfaceVerdict::NoPiece(_, _)))));
+    Ok(())
+}
+
+#[test]
+fn an_index_of_no_point_is_a_stranger(rt: HostRuntime) -> Result<(), Fail> {
+    let told = told(&rt, rt.alloc(), "2\n0 1 2\n0 1 10\n", INDICES);
+    assert!(rt; matches!(told, Ok(Judgement::Stranger(1))));
+    Ok(())
+}
+
+#[test]
+fn a_vertex_that_is_no_point_is_a_stranger(rt: HostRuntime) -> Result<(), Fail> {
+    let told = told(
+        &rt,
+        rt.alloc(),
+        "OFF\n3 1 3\n0 0 0\n2 0 0\n0 1 0\n3 0 1 2\n",
+        OFF,
+    );
+    assert!(rt; matches!(told, Ok(Judgement::Stranger(0))));
+    Ok(())
+}
+
+#[test]
+fn a_text_that_ends_early_has_its_line_told(rt: HostRuntime) -> Result<(), Fail> {
+    let told = told(&rt, rt.alloc(), "3\n0 1 2\n", INDICES);
+    assert!(rt; matches!(told, Err(Fault::Faces(3))));
+    Ok(())
+}
+
+/// Words, the program's name first.
+fn words(alloc: Global, texts: &[&str]) -> Result<Vec<String>, AllocError> {
+    let mut words = Vec::new(alloc);
+    for text in texts {
+        words.push(String::from_str(alloc, text)?)?;
+    }
+    Ok(words)
+}
+
+#[test]
+fn options_stand_before_or_behind_files(rt: HostRuntime) -> Result<(), Fail> {
+    let words = words(
+        rt.alloc(),
+        &["hullcheck", "a", "--workers", "64", "b", "--indices"],
+    )?;
+    let settings = settings_of(&words);
+    let Ok(settings) = settings else {
+        return Err(Fail::new("no settings"));
+    };
+    assert!(rt; settings.workers == 64 && settings.reading.naming == Naming::Indices);
+    assert!(rt; settings.points == Some("a") && settings.faces == Some("b"));
+    Ok(())
+}
+
+#[test]
+fn workers_out_of_range_are_no_command_line(rt: HostRuntime) -> Result<(), Fail> {
+    let words = words(rt.alloc(), &["hullcheck", "a", "--workers", "65"])?;
+    assert!(rt; matches!(settings_of(&words), Err(Fault::Usage)));
+    Ok(())
+}

@@ -1,0 +1,73 @@
+-- A set by the positions of its ids, in a list of their points: its extreme ids are those at the extreme positions.
+use Rattle.std.proofs.Common.{◌≡◌, ℕ, ◌+◌, ◌<◌, List, length, map, arith, sym, subst, ◌∙◌}
+use Rattle.std.proofs.lemmas.List.{length-map, get_or-map, get_or_default}
+use Rattle.std.proofs.lemmas.List.FromFn.{get_or-range_with_len, length-range_with_len}
+use Rattle.std.specs.List.{range_with_len}
+use Rattle.std.specs.List.Sorted.{IsStrictlyIncreasing}
+use Rattle.qh_model.specs.headline.{Vector.Vector, Vector.origin, Predicates.place, Sets.In, Sets.Members, Text.vertex_number}
+use Rattle.qh_model.specs.headline.Hull.{AreExtremes}
+use Rattle.qh_model.specs.contract.IdSets.{AreIndices, IsIdSet}
+use Rattle.qh_model.proofs.{Members.In-get_or, Members.rising_once}
+use Rattle.qh_model.proofs.lists.{Ranges.range_below, Ranges.range_has, Rising.rising_between}
+use Rattle.qh_model.proofs.renamed.{Lists.rising_map, Polygons.members_renamed, Positions.at_number, Positions.number_at}
+use Rattle.qh_model.proofs.renamed.Renaming.{IsRenaming, renaming_apart, extremes_renamed}
+use Rattle.qh_mesh.specs.contract.Names.{name_in}
+
+-- the numbers below n rise
+range_rises : (n : ℕ) → IsStrictlyIncreasing (range_with_len 0 n)
+range_rises n k h =
+    let e = length-range_with_len 0 n in
+    rw (get_or-range_with_len 0 n k 0 (omega arith), get_or-range_with_len 0 n (k + 1) 0 (omega arith)) (omega arith)
+
+module _ (pts : List Vector) (ids : List ℕ) where
+  -- the points in the order of the ids
+  abbrev pub gathered : List Vector
+  gathered = map (place pts) ids
+
+  -- their positions
+  abbrev pub positions : List ℕ
+  positions = range_with_len 0 (length ids)
+
+  -- there is a point at each
+  pub positions_in : AreIndices gathered positions
+  positions_in k d h =
+      let count = length-range_with_len 0 (length ids) in let places = length-map ids (place pts) in
+      rw (get_or-range_with_len 0 (length ids) k d (omega (arith, count, h))) (omega (arith, count, places, h))
+
+  -- and it is that of the id there
+  point_of : (k : ℕ) → k < length ids → place gathered k ≡ place pts (name_in ids k)
+  unfolding place
+  point_of k h = get_or-map (place pts) ids k k origin h
+
+  module _ (s : IsIdSet pts ids) where
+    -- positions name ids
+    by_position : IsRenaming (place gathered) (place pts) (Members positions) (Members ids) (name_in ids) (vertex_number ids)
+    by_position = record {
+      to = λ k m. In-get_or ids k k (below k m);
+      from = λ i m. range_has (length ids) (vertex_number ids i) (at_number ids i m).0;
+      over = λ k m. subst (λ n. vertex_number ids n ≡ k) (get_or_default ids k 0 k (below k m))
+          (number_at ids k (rising_once ids s.rising) (below k m));
+      under = λ i m. get_or_default ids (vertex_number ids i) (vertex_number ids i) 0 (at_number ids i m).0 ∙ (at_number ids i m).1;
+      point = λ k m. sym (point_of k (below k m));
+      rises = λ j k m n h. rw (get_or_default ids j j 0 (below j m), get_or_default ids k k 0 (below k n))
+          (rising_between ids j k s.rising h (below k n));
+    }
+      where
+        below : (k : ℕ) → In k positions → k < length ids
+        below = range_below (length ids)
+
+    -- they are a set of ids of the gathered points
+    pub positions_set : IsIdSet gathered positions
+    positions_set = record {
+      rising = range_rises (length ids);
+      distinct = λ j k m n e. renaming_apart by_position j k m n
+          (s.distinct (name_in ids j) (name_in ids k) (by_position.to j m) (by_position.to k n) (by_position.point j m ∙ e ∙ sym (by_position.point k n)));
+    }
+
+    -- the ids at the extreme positions are the extreme ids
+    pub extremes_by_position : (found : List ℕ) → AreExtremes (place gathered) (Members positions) found
+        → AreExtremes (place pts) (Members ids) (map (name_in ids) found)
+    extremes_by_position found h = record {
+      rising = rising_map (Members positions) (name_in ids) by_position.rises found (λ k m. ((h.members k).0 m).0) h.rising;
+      members = members_renamed (extremes_renamed by_position) found h.members;
+    }

@@ -1,0 +1,62 @@
+//! A set by positions: its points in a list of their own, in which they stand next to each other.
+//!
+//! The points of a part of a long list lie far apart. Where they are gathered, each way over them is short, and
+//! a mark for each position takes little room.
+ghost use Rattle.std.specs.Prelude.{◌≡◌, IfOk, map};
+ghost use Rattle.std.specs.List.{range_with_len};
+ghost use Rattle.qh_mesh.specs.contract.Names.{name_in};
+
+use qh_model::{Id, Memory};
+use std::alloc::{AllocError, Global};
+
+/// The numbers below a count, rising.
+///
+/// `Err` says that an allocation failed, or that there are more than numbers of 32 bits.
+pub fn numbers_below(alloc: Global, count: usize) -> Result<Vec<u32>, Memory>
+    ensures { IfOk result (λ v. v.items ≡ range_with_len 0 count) }
+{
+    let Ok(end) = u32::try_from(count) else {
+        return Err(Memory);
+    };
+    let mut numbers = Vec::with_capacity(alloc, count)?;
+    for number in 0..end {
+        numbers.push_reserved(number);
+    }
+    Ok(numbers)
+}
+
+/// The positions below a count, rising.
+///
+/// `Err` says that an allocation failed, or that there are more than ids have numbers.
+pub fn positions_below(alloc: Global, count: usize) -> Result<Vec<Id>, Memory>
+    ensures { IfOk result (λ v. v.items ≡ range_with_len 0 count) }
+{
+    let numbers = numbers_below(alloc, count)?;
+    Ok(
+        numbers
+            .into_iter()
+            .map(|number| Id::new(number))
+            .collect(alloc)?,
+    )
+}
+
+/// The id at a position, or the position where the list has no such.
+fn id_at(ids: &[Id], position: Id) -> Id
+    ensures { result ≡ name_in ids.now position }
+{
+    match ids.get(position.index()) {
+        Some(id) => *id,
+        None => position,
+    }
+}
+
+/// The ids at positions, in the order of the positions.
+pub fn ids_at(alloc: Global, ids: &[Id], positions: &[Id]) -> Result<Vec<Id>, AllocError>
+    ensures { IfOk result (λ v. v.items ≡ map (name_in ids.now) positions.now) }
+{
+    let mut found = Vec::with_capacity(alloc, positions.len())?;
+    for position in positions {
+        found.push(id_at(ids, *position))?;
+    }
+    Ok(found)
+}

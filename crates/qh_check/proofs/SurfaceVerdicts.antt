@@ -1,0 +1,93 @@
+-- Verdicts on surfaces: what is wrong with polygons shows that they are none, and where nothing is, they are.
+use Rattle.std.proofs.Common.{ℕ, ◌≡◌, ◌≢◌, ◌<◌, ◌≤◌, arith, refl, sym, subst, ◌⊎◌, inl, inr, ap, List, [], ◌∷◌, length}
+use Rattle.std.proofs.Common.{get_or, All}
+use Rattle.std.specs.Prelude.{◌↔◌}
+use Rattle.qh_model.specs.headline.Vector.{Vector}
+use Rattle.qh_model.specs.headline.Predicates.{place}
+use Rattle.qh_model.specs.headline.Sets.{In, Members}
+use Rattle.qh_model.specs.headline.Dimension.{IsDimension}
+use Rattle.qh_model.specs.headline.Polygons.{ArePolygons}
+use Rattle.qh_model.specs.contract.ClosedPolygons.{AreClosed, step_count}
+use Rattle.qh_model.specs.contract.IdSets.{IsIdSet}
+use Rattle.qh_model.proofs.Members.{All-In, In-get_or}
+use Rattle.qh_check.specs.declared.extent.Extent.TheVariants.{Piece}
+use Rattle.qh_check.specs.declared.findings.Finding.{Finding}
+use Rattle.qh_check.specs.declared.flaw.SurfaceVerdict.{SurfaceVerdict}
+use Rattle.qh_check.specs.declared.flaw.SurfaceVerdict.TheVariants.{Right, OtherPolygons, NoPiece, Open, Twice}
+use Rattle.qh_check.specs.contract.Claims.{ArePolygonsOf, IsOpen}
+use Rattle.qh_check.specs.contract.Surfaces.{IsFaceSurface, IsHullSurface, IsSurfaceReason}
+use Rattle.qh_check.specs.steps.Faces.{IsFaceOf}
+use Rattle.qh_check.specs.steps.Findings.{IsFound}
+use Rattle.qh_check.specs.steps.Verdicts.{IsSurfaceVerdictOf}
+use Rattle.qh_check.proofs.Pieces.{no_piece}
+
+-- ---- solid sets
+module _ (pts : List Vector) (ids : List ℕ) (qs : List (List ℕ)) (set : IsIdSet pts ids)
+    (solid : IsDimension (place pts) (Members ids) 3) where
+  abbrev at : ℕ → Vector
+  at = place pts
+
+  surface_of : IsHullSurface at (Members ids) qs → IsFaceSurface at (Members ids) qs
+  surface_of (inl h) = h.1
+  surface_of (inr h) = absurd (h.0 solid)
+
+  -- a verdict but `Right`, which no surface has
+  wrong : (v : SurfaceVerdict) → v ≢ Right → ¬ (IsFaceSurface at (Members ids) qs)
+      → IsSurfaceReason at (Members ids) qs v → IsSurfaceVerdictOf pts ids qs v
+  wrong v n none reason =
+      record { right = (λ e. absurd (n e), λ p. absurd (none (surface_of p))); reason = reason }
+
+  pub is_no_piece : (f : Finding) → IsFound Piece pts ids qs f → IsSurfaceVerdictOf pts ids qs (NoPiece f.position f.fault)
+  is_no_piece f (l, h) =
+      wrong (NoPiece f.position f.fault) (λ e. cc)
+      (λ s. no_piece at (Members ids) (get_or qs f.position []) f.fault (h set.distinct)
+      (s.pieces (get_or qs f.position []) (In-get_or qs f.position [] l)))
+      (l, h set.distinct)
+
+  pub is_open : (u v : ℕ) → IsOpen qs u v → IsSurfaceVerdictOf pts ids qs (Open u v)
+  is_open u v h = wrong (Open u v) (λ e. cc) (λ s. h (s.closed u v)) h
+
+  pub is_twice : (u v : ℕ) → (u < v) × (1 < step_count qs u v) → IsSurfaceVerdictOf pts ids qs (Twice u v)
+  is_twice u v h =
+      wrong (Twice u v) (λ e. cc) (λ s. (let once = s.once u v h.0 in let more = h.1 in omega (arith, once, more))) h
+
+  pub is_right : 0 < length qs → All (IsFaceOf Piece pts ids) qs → AreClosed qs
+      → ((u v : ℕ) → u < v → step_count qs u v ≤ 1) → IsSurfaceVerdictOf pts ids qs Right
+  is_right some faces closed once = record { right = (λ e. claim, λ p. refl); reason = claim }
+    where
+      claim : IsHullSurface at (Members ids) qs
+      claim = inl (
+        solid,
+        record {
+          some = some;
+          pieces = λ q m. All-In (IsFaceOf Piece pts ids) qs q faces m set.distinct;
+          closed = closed;
+          once = once;
+        },
+      )
+
+-- ---- sets that are not solid, whose hull is taken
+module _ (pts : List Vector) (ids : List ℕ) (qs : List (List ℕ)) (flat : ¬ (IsDimension (place pts) (Members ids) 3)) where
+  pub are_polygons : ArePolygonsOf (place pts) (Members ids) qs → IsSurfaceVerdictOf pts ids qs Right
+  are_polygons p = record { right = (λ e. inr (flat, p), λ h. refl); reason = inr (flat, p) }
+
+  pub are_others : ¬ (ArePolygonsOf (place pts) (Members ids) qs) → IsSurfaceVerdictOf pts ids qs OtherPolygons
+  are_others n = record { right = (λ e. cc, λ h. absurd (no_surface h)); reason = inl flat }
+    where
+      no_surface : IsHullSurface (place pts) (Members ids) qs → ⊥
+      no_surface (inl h) = flat h.0
+      no_surface (inr h) = n h.1
+
+-- ---- no polygon at all
+pub none_at_all : (at : ℕ → Vector) (A : ℕ → Type 0) (qs : List (List ℕ)) → length qs ≡ 0 → ¬ (IsHullSurface at A qs)
+none_at_all at A qs e (inl h) = let l = h.1.some in omega (arith, e, l)
+none_at_all at A qs e (inr (flat, (dim, is, polygons))) = by polygons
+  where
+    no_one : (q : List ℕ) → qs ≡ q ∷ [] → ⊥
+    no_one q f = let one : length qs ≡ 1 = ap length f in omega (arith, e, one)
+
+    by : ArePolygons at A dim qs → ⊥
+    by (inl p) = flat (subst (λ k. IsDimension at A k) p.0 is)
+    by (inr (inl p)) = no_one p.1.0 p.1.2
+    by (inr (inr (inl p))) = no_one p.1.0 p.1.2
+    by (inr (inr (inr p))) = no_one p.1.0 p.1.2

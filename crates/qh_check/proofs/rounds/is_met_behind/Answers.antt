@@ -1,0 +1,16 @@
+-- All are met, on the one way and on the other.
+use Rattle.std.proofs.Common.{◌≡◌, ◌+◌, ◌-◌, arith, drop, eq-eqb, eqb-true, length, take, List, ℕ}
+use Rattle.std.proofs.lemmas.List.{length-drop, take_all}
+use Rattle.qh_check.proofs.MetLists.{met_both}
+use Rattle.qh_check.proofs.rounds.is_met_behind.Goals as goal
+
+pub returns : goal.returns
+returns c =
+    let face = c.args.face.now in let from = c.args.position + 1 in
+    let long = length-drop from face in
+    let whole : take (length face - from) (drop from face) ≡ drop from face =
+    take_all (length face - from) (drop from face) (omega (arith, long)) in
+    let first = rw whole at c.met-behind.ensures.on in
+    let both = met_both c.args.part.now (drop from face) (take c.args.position face) c.met-behind.result c.met-all.result first
+    c.met-all.ensures.on c.met-all.ensures.bound in
+    (λ yes. both.0 (eqb-true _ _ yes), λ h. eq-eqb _ _ (both.1 h))

@@ -1,0 +1,54 @@
+//! What a check tells of a surface.
+use crate::verdict::FaceFault;
+use qh_model::Id;
+use std::fmt;
+
+/// What a check of a surface of pieces tells.
+#[derive(Clone, Copy, Debug, PartialEq, Eq)]
+pub enum SurfaceVerdict {
+    /// It is the surface of the hull.
+    Right,
+    /// The set is not solid, or there is no polygon: the polygons of the set are others.
+    OtherPolygons,
+    /// The polygon at this position is no piece of a face of the set.
+    NoPiece(usize, FaceFault),
+    /// The polygons take the step from the first id to the second, and the step back, not equally often: this
+    /// edge is open.
+    Open(Id, Id),
+    /// The polygons take the step from the first id to the second, a higher one, more than once.
+    Twice(Id, Id),
+}
+
+impl fmt::Display for SurfaceVerdict {
+    fn fmt<W: fmt::Write>(&self, f: &mut fmt::Formatter<W>) -> fmt::Result {
+        match self {
+            SurfaceVerdict::Right => write!(f, "all right"),
+            SurfaceVerdict::OtherPolygons => write!(f, "the polygons are others"),
+            SurfaceVerdict::NoPiece(position, fault) => write!(f, "face {position}: {fault}"),
+            SurfaceVerdict::Open(from, to) => {
+                let (u, v) = (from.number(), to.number());
+                write!(f, "the side from point {u} to point {v} is open")
+            }
+            SurfaceVerdict::Twice(from, to) => {
+                let (u, v) = (from.number(), to.number());
+                write!(
+                    f,
+                    "the side from point {u} to point {v} belongs to more than two faces"
+                )
+            }
+        }
+    }
+}
+
+impl fmt::Display for FaceFault {
+    fn fmt<W: fmt::Write>(&self, f: &mut fmt::Formatter<W>) -> fmt::Result {
+        match self {
+            FaceFault::NoPlane => write!(f, "its first three corners are no points in a plane"),
+            FaceFault::Above(id) => {
+                let number = id.number();
+                write!(f, "point {number} is above its plane")
+            }
+            FaceFault::OtherFace => write!(f, "the polygon of its plane is another"),
+        }
+    }
+}

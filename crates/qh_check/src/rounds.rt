@@ -1,0 +1,66 @@
+//! Whether a list of ids is met, in its order, by who goes round a polygon.
+ghost use Rattle.std.specs.Prelude.{◌≡◌, ◌+◌, ◌++◌, ◌<◌, ◌≤◌, ◌↔◌, ℕ, List, IsTrue, drop, length, slice_index_or, take};
+ghost use Rattle.qh_check.specs.contract.Pieces.{IsMetAlong, IsMetFrom, IsMetRound};
+
+use qh_model::Id;
+
+/// Returns true if an id stands at a position of a list.
+fn is_at(ids: &[Id], position: usize, id: Id) -> bool
+    ensures { IsTrue result ↔ ((position < length ids.now) × (slice_index_or ids.now position 0 ≡ id)) }
+{
+    if position >= ids.len() {
+        return false;
+    }
+    ids[position] == id
+}
+
+/// How many of a list are met by who goes along some ids and has met so many before.
+fn met(part: &[Id], before: usize, ids: &[Id]) -> usize
+    requires { before ≤ length part.now }
+    ensures bound { result ≤ length part.now }
+    ensures on { (rest : List ℕ) → IsMetAlong (drop result part.now) rest ↔ IsMetAlong (drop before part.now) (ids.now ++ rest) }
+{
+    let mut next = before;
+    for id in ids {
+        if is_at(part, next, *id) {
+            next += 1;
+        }
+    }
+    next
+}
+
+/// Returns true if a list is met by who goes round a polygon from behind a position to that position.
+fn is_met_behind(part: &[Id], face: &[Id], position: usize) -> bool
+    requires { position < length face.now }
+    ensures { IsTrue result ↔ IsMetAlong part.now (drop (position + 1) face.now ++ take position face.now) }
+{
+    let behind = met(part, 0, &face[position + 1..]);
+    let all = met(part, behind, &face[..position]);
+    all == part.len()
+}
+
+/// Returns true if an id stands at a position of a polygon, and a list is met by who goes round from there.
+fn is_met_from(first: Id, rest: &[Id], face: &[Id], position: usize) -> bool
+    requires { position < length face.now }
+    ensures { IsTrue result ↔ IsMetFrom first rest.now face.now position }
+{
+    if !is_at(face, position, first) {
+        return false;
+    }
+    is_met_behind(rest, face, position)
+}
+
+/// Returns true if a list goes round some corners of a polygon, in their order.
+pub(crate) fn is_met_round(part: &[Id], face: &[Id]) -> bool
+    ensures { IsTrue result ↔ IsMetRound part.now face.now }
+{
+    let [first, rest @ ..] = part else {
+        return false;
+    };
+    for position in 0..face.len() {
+        if is_met_from(*first, rest, face, position) {
+            return true;
+        }
+    }
+    false
+}

@@ -1,0 +1,165 @@
+//! Whether polygons, pieces of faces in any order, are the surface of a hull.
+ghost use Rattle.std.specs.Prelude.{◌≡◌, ◌<◌, ◌↔◌, ℕ, List, IfOk, MatchOption, length};
+ghost use Rattle.std.specs.List.{All};
+ghost use Rattle.qh_model.specs.headline.Dimension.{IsDimension};
+ghost use Rattle.qh_model.specs.headline.Predicates.{place};
+ghost use Rattle.qh_model.specs.headline.Sets.{Members};
+ghost use Rattle.qh_model.specs.headline.Vector.{Vector};
+ghost use Rattle.qh_model.specs.contract.IdSets.{AreIndices, IsIdSet};
+ghost use Rattle.qh_check.specs.declared.extent.Extent.TheVariants.{Piece};
+ghost use Rattle.qh_check.specs.declared.flaw.SurfaceVerdict.TheVariants.{Right, OtherPolygons};
+ghost use Rattle.qh_check.specs.contract.Surfaces.{IsHullSurface, IsSurfaceReason};
+ghost use Rattle.qh_check.specs.steps.Faces.{IsFaceOf};
+ghost use Rattle.qh_check.specs.steps.Findings.{IsFaceAmong, IsFound};
+ghost use Rattle.qh_check.specs.steps.Places.{ArePlaces};
+ghost use Rattle.qh_check.specs.steps.Verdicts.{IsSurfaceVerdictOf};
+
+use crate::asking::by_rank;
+use crate::claims::compare;
+use crate::closed::{open_step, repeated_step};
+use crate::extent::Extent;
+use crate::faces::PlacedSet;
+use crate::findings::{Asked, Finding, first_fault, first_fault_in_parts};
+use crate::flaw::SurfaceVerdict;
+use crate::places::Places;
+use crate::verdict::Verdict;
+use qh_model::{Id, Memory, Point, Polygon};
+use qh_plane::{Shape, rank};
+use std::alloc::Global;
+use std::thread::Threads;
+
+/// The verdict on polygons from the one that is no piece, if there is one. Else they have to close up, with two at
+/// each side.
+fn judged(
+    alloc: Global,
+    polygons: &[Polygon],
+    found: Option<Finding>,
+) -> Result<SurfaceVerdict, Memory>
+    ensures { IfOk result (λ v. (pts : List Vector) (ids : List ℕ) → IsIdSet pts ids → IsDimension (place pts) (Members ids) 3
+        → 0 < length polygons.now
+        → MatchOption found (All (IsFaceOf Piece pts ids) polygons.now) (IsFound Piece pts ids polygons.now)
+        → IsSurfaceVerdictOf pts ids polygons.now v) }
+{
+    if let Some(finding) = found {
+        return Ok(SurfaceVerdict::NoPiece(finding.position, finding.fault));
+    }
+    if let Some(step) = open_step(alloc, polygons)? {
+        return Ok(SurfaceVerdict::Open(step.from, step.to));
+    }
+    match repeated_step(alloc, polygons)? {
+        Some(step) => Ok(SurfaceVerdict::Twice(step.from, step.to)),
+        None => Ok(SurfaceVerdict::Right),
+    }
+}
+
+/// A polygon that is no piece of a face of the set, if there is one, by a number of threads; by none but the calling
+/// one where the number is 1.
+fn first_no_piece<R: Threads + Sync>(
+    rt: &R,
+    alloc: Global,
+    set: PlacedSet,
+    asked: Asked,
+    workers: usize,
+) -> Result<Option<Finding>, Memory>
+    requires { 0 < workers }
+    ensures { IfOk result (λ found. (ids : List ℕ) → ArePlaces set.entry.pts.now ids set.entry.places.now
+        → MatchOption found (All (IsFaceAmong set.entry.extent set.entry.pts.now ids asked.entry.polygons.now) asked.entry.order.now)
+        (IsFound set.entry.extent set.entry.pts.now ids asked.entry.polygons.now)) }
+{
+    if workers == 1 {
+        return first_fault(alloc, set, asked.polygons, asked.order);
+    }
+    let size = asked.order.len() / workers + 1;
+    first_fault_in_parts(rt, alloc, set, asked, size)
+}
+
+/// Checks polygons, one at least, of a solid set.
+fn check_solid_surface<R: Threads + Sync>(
+    rt: &R,
+    alloc: Global,
+    pts: &[Point],
+    ids: &[Id],
+    polygons: &[Polygon],
+    workers: usize,
+) -> Result<SurfaceVerdict, Memory>
+    requires some { 0 < length ids.now }
+    requires indices { AreIndices pts.now ids.now }
+    requires claimed { 0 < length polygons.now }
+    requires workers { 0 < workers }
+    ensures { IfOk result (λ v. IsIdSet pts.now ids.now → IsDimension (place pts.now) (Members ids.now) 3
+        → IsSurfaceVerdictOf pts.now ids.now polygons.now v) }
+{
+    let places = Places::over(alloc, pts, ids, polygons)?;
+    let set = PlacedSet {
+        extent: Extent::Piece,
+        pts,
+        places: &places,
+    };
+    let order = by_rank(alloc, polygons, &places.ranks)?;
+    let asked = Asked {
+        polygons,
+        order: &order,
+    };
+    let found = first_no_piece(rt, alloc, set, asked, workers)?;
+    judged(alloc, polygons, found)
+}
+
+/// Whether polygons are those of a set that is not solid.
+fn compare_surface(
+    alloc: Global,
+    pts: &[Point],
+    ids: &[Id],
+    polygons: &[Polygon],
+) -> Result<SurfaceVerdict, Memory>
+    requires some { 0 < length ids.now }
+    requires indices { AreIndices pts.now ids.now }
+    ensures { IfOk result (λ v. IsIdSet pts.now ids.now → ¬ (IsDimension (place pts.now) (Members ids.now) 3)
+        → IsSurfaceVerdictOf pts.now ids.now polygons.now v) }
+{
+    match compare(alloc, pts, ids, polygons)? {
+        Verdict::Right => Ok(SurfaceVerdict::Right),
+        _ => Ok(SurfaceVerdict::OtherPolygons),
+    }
+}
+
+/// Checks whether polygons are the surface of the hull of a set, however they are written: in a solid set pieces of
+/// its faces, such as triangles, in any order, each beginning at any corner, that close up. Those of another set are as
+/// [`check`](crate::check) wants them.
+///
+/// `ids` has at least one id, each the index of one of the points. That the ids rise and have distinct points
+/// (`IsIdSet`) is the caller's condition. The verdict is `Right` exactly where the polygons are such a surface; another
+/// verdict says what is wrong: first a polygon that is no piece of a face, then an open edge, then a step that is taken
+/// twice. Of several polygons that are no pieces it names any one.
+///
+/// Each worker looks at a part of the polygons; no `workers` means one, for which no thread is started.
+///
+/// # Errors
+///
+/// `Memory` where an allocation failed.
+///
+/// Source: this project's own.
+pub fn check_surface<R: Threads + Sync>(
+    rt: &R,
+    alloc: Global,
+    pts: &[Point],
+    ids: &[Id],
+    polygons: &[Polygon],
+    workers: usize,
+) -> Result<SurfaceVerdict, Memory>
+    requires some { 0 < length ids.now }
+    requires indices { AreIndices pts.now ids.now }
+    ensures right { IfOk result (λ v. IsIdSet pts.now ids.now
+        → (v ≡ Right) ↔ IsHullSurface (place pts.now) (Members ids.now) polygons.now) }
+    ensures reason { IfOk result (λ v. IsIdSet pts.now ids.now
+        → IsSurfaceReason (place pts.now) (Members ids.now) polygons.now v) }
+{
+    if polygons.is_empty() {
+        return Ok(SurfaceVerdict::OtherPolygons);
+    }
+    match rank(pts, ids) {
+        Shape::Solid(_, _, _, _) => {
+            check_solid_surface(rt, alloc, pts, ids, polygons, workers.max(1))
+        }
+        _ => compare_surface(alloc, pts, ids, polygons),
+    }
+}

@@ -1,0 +1,131 @@
+//! Worked rows: surfaces of a cube in pieces, and what is wrong with others.
+use crate::tests::{EIGHT, cube, ids_of, polygons_of};
+use crate::{FaceFault, SurfaceVerdict, check_surface};
+use qh_model::Memory;
+use std::alloc::Global;
+use std::test::Fail;
+use std::thread::Threads;
+
+/// The verdict of so many threads on polygons of the corners of a cube.
+fn verdict<R: Threads + Sync>(
+    rt: &R,
+    alloc: Global,
+    faces: &[&[u32]],
+    workers: usize,
+) -> Result<Option<SurfaceVerdict>, Memory> {
+    let pts = cube();
+    let ids = ids_of(alloc, &pts, &EIGHT)?;
+    if ids.is_empty() {
+        return Ok(None);
+    }
+    let polygons = polygons_of(alloc, faces)?;
+    Ok(Some(check_surface(rt, alloc, &pts, &ids, &polygons, workers)?))
+}
+
+/// The twelve triangles of a cube, as Qhull writes them, turned round.
+const TRIANGLES: [&[u32]; 12] = [
+    &[0, 2, 6],
+    &[0, 6, 4],
+    &[0, 4, 5],
+    &[0, 5, 1],
+    &[4, 6, 5],
+    &[7, 5, 6],
+    &[0, 3, 2],
+    &[0, 1, 3],
+    &[2, 3, 6],
+    &[7, 6, 3],
+    &[1, 5, 3],
+    &[7, 3, 5],
+];
+
+#[test]
+fn triangles_of_a_cube_are_right(rt: HostRuntime) -> Result<(), Fail> {
+    let told = verdict(&rt, rt.alloc(), &TRIANGLES, 1)?;
+    assert!(rt; matches!(told, Some(SurfaceVerdict::Right)), "{told:?}");
+    let by_three = verdict(&rt, rt.alloc(), &TRIANGLES, 3)?;
+    assert!(rt;
+        matches!(by_three, Some(SurfaceVerdict::Right)),
+        "{by_three:?}"
+    );
+    Ok(())
+}
+
+#[test]
+fn faces_in_any_order_from_any_corner_are_right(rt: HostRuntime) -> Result<(), Fail> {
+    let faces: [&[u32]; 6] = [
+        &[6, 7, 5, 4],
+        &[3, 2, 0, 1],
+        &[1, 5, 7, 3],
+        &[4, 0, 2, 6],
+        &[2, 3, 7, 6],
+        &[5, 1, 0, 4],
+    ];
+    let told = verdict(&rt, rt.alloc(), &faces, 1)?;
+    assert!(rt; matches!(told, Some(SurfaceVerdict::Right)), "{told:?}");
+    Ok(())
+}
+
+#[test]
+fn a_missing_triangle_leaves_a_side_open(rt: HostRuntime) -> Result<(), Fail> {
+    let told = verdict(&rt, rt.alloc(), &TRIANGLES[1..], 2)?;
+    assert!(rt;
+        matches!(told, Some(SurfaceVerdict::Open(_, _))),
+        "{told:?}"
+    );
+    Ok(())
+}
+
+#[test]
+fn a_surface_that_stands_twice_has_sides_of_four_pieces(rt: HostRuntime) -> Result<(), Fail> {
+    let faces: [&[u32]; 12] = [
+        &[0, 1, 3, 2],
+        &[0, 1, 3, 2],
+        &[0, 2, 6, 4],
+        &[0, 2, 6, 4],
+        &[0, 4, 5, 1],
+        &[0, 4, 5, 1],
+        &[1, 5, 7, 3],
+        &[1, 5, 7, 3],
+        &[2, 3, 7, 6],
+        &[2, 3, 7, 6],
+        &[4, 6, 7, 5],
+        &[4, 6, 7, 5],
+    ];
+    let told = verdict(&rt, rt.alloc(), &faces, 1)?;
+    assert!(rt;
+        matches!(told, Some(SurfaceVerdict::Twice(_, _))),
+        "{told:?}"
+    );
+    Ok(())
+}
+
+#[test]
+fn corners_out_of_their_order_are_no_piece(rt: HostRuntime) -> Result<(), Fail> {
+    let faces: [&[u32]; 1] = [&[0, 1, 3, 2, 1]];
+    let told = verdict(&rt, rt.alloc(), &faces, 1)?;
+    assert!(rt;
+        matches!(told, Some(SurfaceVerdict::NoPiece(0, FaceFault::OtherFace))),
+        "{told:?}"
+    );
+    Ok(())
+}
+
+#[test]
+fn no_polygon_is_no_surface(rt: HostRuntime) -> Result<(), Fail> {
+    let told = verdict(&rt, rt.alloc(), &[], 1)?;
+    assert!(rt;
+        matches!(told, Some(SurfaceVerdict::OtherPolygons)),
+        "{told:?}"
+    );
+    Ok(())
+}
+
+#[test]
+fn a_verdict_has_a_line(rt: HostRuntime) -> Result<(), Fail> {
+    let told = SurfaceVerdict::NoPiece(3, FaceFault::OtherFace).to_string(rt.alloc())?;
+    assert!(rt;
+        told.as_str() == "face 3: the polygon of its plane is another",
+        "{told}"
+    );
+    Ok(())
+}

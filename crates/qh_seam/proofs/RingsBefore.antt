@@ -1,0 +1,14 @@
+-- The ring of a mesh over positions is that of the mesh over ids.
+use Rattle.std.proofs.Common.{ℕ, Bool, sym, ap, ◌∙◌, subst}
+use Rattle.qh_model.specs.headline.Sets.{In}
+use Rattle.qh_model.specs.contract.StoredSurface.{surface_of}
+use Rattle.qh_surface.specs.declared.named_mesh.NamedMesh.{NamedMesh}
+use Rattle.qh_surface.specs.contract.NamedMeshes.{named}
+use Rattle.qh_block.proofs.finished.NamedWalks.{names}
+use Rattle.qh_seam_laws.specs.contract.Seam.{IsRing}
+
+-- a facet of the ring over ids is one over positions
+pub ring_before : (s : NamedMesh) (stay : ℕ → Bool) (f : ℕ) → IsRing (surface_of (named s)) stay f → IsRing (surface_of s.mesh) stay f
+ring_before s stay f r =
+    let live = subst (In f) (names s).live r.live in
+    record { live = live; stays = r.stays; side = r.side; gone = ap stay (sym ((names s).over_is f r.side live)) ∙ r.gone }

@@ -1,0 +1,16 @@
+-- The faces of the facets that stay are those of the set.
+use Rattle.std.proofs.Common.{get_or}
+use Rattle.qh_surface.specs.contract.Walks.{mark_at}
+use Rattle.qh_seam.proofs.StayingParts.{part_set, part_finished, face_of_part}
+use Rattle.qh_seam.proofs.staying.staying_faces.Goals as goal
+
+pub returns : goal.returns
+returns c = λ ids kept distinct inside keeps q i. (
+    let pts = c.args.set.pts.now in let shared = c.args.set.shared.now in let parts = c.args.set.parts.now in
+    let d = c.index-set-number.result in let stay = mark_at c.args.guess.stay.now in
+    let staying = c.stays.ensures.part c.if-not-stays.false d in
+    let own = part_set pts shared parts c.args.number d stay c.requires.parts c.requires.number staying ids kept distinct inside keeps in
+    let finished =
+    part_finished pts shared parts c.args.number d stay c.requires.parts c.requires.number staying ids kept distinct inside keeps in
+    face_of_part pts shared parts c.args.number d stay c.requires.parts c.requires.number staying ids kept distinct inside keeps q
+    (c.in_ok-faces.ensures.only (get_or parts c.args.number d).ids.items own finished q i))

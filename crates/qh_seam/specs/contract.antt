@@ -1,0 +1,3 @@
+-- What the public clauses cite.
+pub mod Witnesses
+pub mod Parts

@@ -1,0 +1,3 @@
+-- What private functions speak of.
+pub mod Triangles
+pub mod Apart

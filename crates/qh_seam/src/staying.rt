@@ -1,0 +1,91 @@
+//! The faces that a part gives out: those of its facets that stay where the corners of the other parts come in.
+ghost use Rattle.std.specs.Prelude.{◌≡◌, ◌<◌, ℕ, List, IfOk, IfSome, IsTrue, length, slice_index_or};
+ghost use Rattle.std.specs.List.{All, flat_map};
+ghost use Rattle.qh_model.specs.headline.Predicates.{place};
+ghost use Rattle.qh_model.specs.headline.Sets.{In, Members};
+ghost use Rattle.qh_model.specs.contract.IdSets.{AreIndices, HasDistinctPoints};
+ghost use Rattle.qh_surface.specs.contract.Walks.{mark_at};
+ghost use Rattle.qh_seam_laws.specs.contract.Parts.{IsPartFace};
+ghost use Rattle.qh_seam.specs.declared.parts.Part.{Part};
+ghost use Rattle.qh_seam.specs.contract.Parts.{ids_in, KeepsCorners, IsPartOf, IsStayingPart};
+
+use crate::parts::Part;
+use crate::seams::{Others, is_seam};
+use crate::witnesses::Run;
+use qh_block::faces_of_chosen;
+use qh_model::{Id, Memory, Point, Polygon};
+use std::alloc::Global;
+
+/// A set in parts, with ids that belong to every part.
+#[derive(Clone, Copy, Drop)]
+pub struct Divided<'a> {
+    pub pts: &'a [Point],
+    pub parts: &'a [Part],
+    pub shared: &'a [Id],
+}
+
+/// A guess of what stays of a part: a mark for each place of its mesh, the position of one of its ids, and for each part
+/// witnesses for the corners of that part.
+#[derive(Clone, Copy, Drop)]
+pub struct Guess<'a> {
+    pub stay: &'a [bool],
+    pub inner: usize,
+    pub runs: &'a [Vec<Run>],
+}
+
+/// Returns true if the guess for the part of this number is seen to be right. A right one may be refused.
+fn stays(set: Divided, number: usize, guess: Guess) -> bool
+    requires number { number < length set.parts.now }
+    requires parts { All (IsPartOf set.pts.now set.shared.now) set.parts.now }
+    ensures marks { IsTrue result → (d : Part)
+        → length (slice_index_or set.entry.parts.now number d).surface.mesh ≡ length guess.entry.stay.now }
+    ensures part { IsTrue result → (d : Part) → IsStayingPart set.entry.pts.now set.entry.shared.now set.entry.parts.now
+        (slice_index_or set.entry.parts.now number d) (mark_at guess.entry.stay.now) }
+{
+    let part = &set.parts[number];
+    if guess.stay.len() != part.surface.mesh.places() {
+        return false;
+    }
+    if guess.inner >= part.ids.len() || guess.runs.len() != set.parts.len() {
+        return false;
+    }
+    let inner = part.ids[guess.inner];
+    for other in 0..set.parts.len() {
+        if other != number {
+            let others = Others {
+                ids: &set.parts[other].own,
+                runs: &guess.runs[other],
+            };
+            if !is_seam(set.pts, &part.surface, guess.stay, inner, others) {
+                return false;
+            }
+        }
+    }
+    true
+}
+
+/// The faces of the set that the part of this number gives out, if the guess of what stays of it is seen to be right: the
+/// polygons of its marked facets, one for each plane, in no order.
+///
+/// # Errors
+///
+/// `Memory` where an allocation failed.
+pub fn staying_faces(
+    alloc: Global,
+    set: Divided,
+    number: usize,
+    guess: Guess,
+) -> Result<Option<Vec<Polygon>>, Memory>
+    requires number { number < length set.parts.now }
+    requires parts { All (IsPartOf set.pts.now set.shared.now) set.parts.now }
+    ensures { IfOk result (λ found. IfSome found (λ v. (ids kept : List ℕ) → HasDistinctPoints (place set.entry.pts.now) (Members ids)
+        → ((l : ℕ) → In l (flat_map ids_in set.entry.parts.now) → In l ids) → KeepsCorners set.entry.parts.now set.entry.shared.now kept
+        → (q : List ℕ) → In q v.items → IsPartFace (place set.entry.pts.now) ids kept q)) }
+{
+    if !stays(set, number, guess) {
+        return Ok(None);
+    }
+    let part = &set.parts[number];
+    let faces = faces_of_chosen(alloc, set.pts, &part.surface, guess.stay)?;
+    Ok(Some(faces))
+}

@@ -1,0 +1,24 @@
+-- Faces in a form: those of two parts, and their vertices.
+use Rattle.std.proofs.Common.{◌≡◌, ℕ, List, [], ◌++◌, refl}
+use Rattle.std.proofs.lemmas.Grind.{flat_map-append}
+use Rattle.qh_model.specs.headline.Fan.{fan}
+use Rattle.qh_model.specs.contract.Bodies.{IsBodyInOrder}
+use Rattle.qh_write.specs.declared.texts.forms.Form.{Form}
+use Rattle.qh_write.specs.declared.texts.forms.Form.TheVariants.{Whole, Fans}
+use Rattle.qh_write.specs.steps.Forms.{shown}
+use Rattle.qh_write.proofs.FanLemmas.{fans_in_order}
+
+-- the faces of two parts, one after the other
+pub shown_append : (form : Form) (ps qs : List (List ℕ)) → shown form (ps ++ qs) ≡ shown form ps ++ shown form qs
+shown_append Whole ps qs = refl
+shown_append Fans ps qs = flat_map-append fan ps qs
+
+-- none are no lines
+pub shown_none : (form : Form) → shown form [] ≡ []
+shown_none Whole = refl
+shown_none Fans = refl
+
+-- they name no other ids than the polygons
+pub shown_in_order : (form : Form) (extremes : List ℕ) (qs : List (List ℕ)) → IsBodyInOrder extremes qs → IsBodyInOrder extremes (shown form qs)
+shown_in_order Whole extremes qs order = order
+shown_in_order Fans extremes qs order = fans_in_order extremes qs order
