@@ -66,7 +66,7 @@ def vertices_in(text):
 
 def test_each_has_its_help_and_is_installed():
     scripts = tomllib.loads((TOP / "python" / "pyproject.toml").read_text())["project"]["scripts"]
-    assert set(scripts) == {place.name for place in BIN.iterdir() if place.is_symlink()}
+    assert set(scripts) == {place.name for place in BIN.iterdir() if place.is_file() and not place.suffix}
     for name, place in scripts.items():
         assert place == f"qconvex.commands.{name}:main"
         assert out(name, "--help").startswith(f"usage: {name} ")
