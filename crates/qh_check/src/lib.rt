@@ -27,6 +27,7 @@ mod places;
 mod rounds;
 mod slabs;
 mod solids;
+mod stretched;
 mod surfaces;
 #[cfg(test)]
 mod tests;

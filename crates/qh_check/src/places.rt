@@ -1,5 +1,5 @@
 //! The ids of a set along a Morton curve, with their points and blocks of these.
-ghost use Rattle.std.specs.Prelude.{◌≡◌, ◌+◌, ◌<◌, ◌≤◌, ◌↔◌, ℕ, List, pos, IfOk, MatchOption, IsTrue, length, map};
+ghost use Rattle.std.specs.Prelude.{◌≡◌, ◌+◌, ◌<◌, ◌≤◌, ◌↔◌, ℕ, List, pos, IfOk, MatchOption, IsPermutation, IsTrue, length, map};
 ghost use Rattle.std.specs.List.{All};
 ghost use Rattle.qh_model.specs.headline.Sets.{In};
 ghost use Rattle.qh_model.specs.headline.Vector.{Vector};
@@ -11,6 +11,7 @@ ghost use Rattle.qh_check.specs.steps.Levels.{IsLevel, IsNear, AreBelowAll, HasL
 use crate::bundles::Bundle;
 use crate::levels::{Level, below_all, levels_over};
 use crate::outward::{outward_of, ranks_of};
+use crate::stretched::stretched;
 use qh_model::{Id, Memory, Point, Polygon};
 use qh_pred::{Plane, point_at};
 use qh_surface::{ends_of, morton_order};
@@ -61,6 +62,16 @@ fn points_of(alloc: Global, pts: &[Point], ids: &[Id]) -> Result<Vec<Point>, All
     Ok(points)
 }
 
+/// The ids along a Morton curve through their points, stretched along the axes.
+fn order_along_curve(alloc: Global, pts: &[Point], ids: &[Id]) -> Result<Vec<Id>, Memory>
+    requires some { 0 < length ids.now }
+    requires indices { AreIndices pts.now ids.now }
+    ensures { IfOk result (λ v. IsPermutation ids.now v.items) }
+{
+    let near = stretched(alloc, pts, &ends_of(pts, ids))?;
+    morton_order(alloc, &near, ids, &ends_of(&near, ids))
+}
+
 impl Places {
     ghost use Rattle.qh_check.specs.steps.Places.{ArePlaces, IsAbove, AreLevel};
 
@@ -76,7 +87,7 @@ impl Places {
         requires indices { AreIndices pts.now ids.now }
         ensures { IfOk result (ArePlaces pts.now ids.now) }
     {
-        let ids = morton_order(alloc, pts, ids, &ends_of(pts, ids))?;
+        let ids = order_along_curve(alloc, pts, ids)?;
         let points = points_of(alloc, pts, &ids)?;
         let ranks = ranks_of(alloc, pts.len(), &ids)?;
         let outward = outward_of(alloc, pts, polygons, &ranks)?;
