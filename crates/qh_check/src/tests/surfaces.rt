@@ -50,17 +50,19 @@ fn triangles_of_a_cube_are_right(rt: HostRuntime) -> Result<(), Fail> {
     Ok(())
 }
 
+/// The faces of a cube in some order, from some corner each.
+const FACES: [&[u32]; 6] = [
+    &[6, 7, 5, 4],
+    &[3, 2, 0, 1],
+    &[1, 5, 7, 3],
+    &[4, 0, 2, 6],
+    &[2, 3, 7, 6],
+    &[5, 1, 0, 4],
+];
+
 #[test]
 fn faces_in_any_order_from_any_corner_are_right(rt: HostRuntime) -> Result<(), Fail> {
-    let faces: [&[u32]; 6] = [
-        &[6, 7, 5, 4],
-        &[3, 2, 0, 1],
-        &[1, 5, 7, 3],
-        &[4, 0, 2, 6],
-        &[2, 3, 7, 6],
-        &[5, 1, 0, 4],
-    ];
-    let told = verdict(&rt, rt.alloc(), &faces, 1)?;
+    let told = verdict(&rt, rt.alloc(), &FACES, 1)?;
     assert!(rt; matches!(told, Some(SurfaceVerdict::Right)), "{told:?}");
     Ok(())
 }
@@ -75,23 +77,25 @@ fn a_missing_triangle_leaves_a_side_open(rt: HostRuntime) -> Result<(), Fail> {
     Ok(())
 }
 
+/// Each face of a cube twice.
+const TWICE: [&[u32]; 12] = [
+    &[0, 1, 3, 2],
+    &[0, 1, 3, 2],
+    &[0, 2, 6, 4],
+    &[0, 2, 6, 4],
+    &[0, 4, 5, 1],
+    &[0, 4, 5, 1],
+    &[1, 5, 7, 3],
+    &[1, 5, 7, 3],
+    &[2, 3, 7, 6],
+    &[2, 3, 7, 6],
+    &[4, 6, 7, 5],
+    &[4, 6, 7, 5],
+];
+
 #[test]
 fn a_surface_that_stands_twice_has_sides_of_four_pieces(rt: HostRuntime) -> Result<(), Fail> {
-    let faces: [&[u32]; 12] = [
-        &[0, 1, 3, 2],
-        &[0, 1, 3, 2],
-        &[0, 2, 6, 4],
-        &[0, 2, 6, 4],
-        &[0, 4, 5, 1],
-        &[0, 4, 5, 1],
-        &[1, 5, 7, 3],
-        &[1, 5, 7, 3],
-        &[2, 3, 7, 6],
-        &[2, 3, 7, 6],
-        &[4, 6, 7, 5],
-        &[4, 6, 7, 5],
-    ];
-    let told = verdict(&rt, rt.alloc(), &faces, 1)?;
+    let told = verdict(&rt, rt.alloc(), &TWICE, 1)?;
     assert!(rt;
         matches!(told, Some(SurfaceVerdict::Twice(_, _))),
         "{told:?}"
@@ -99,10 +103,12 @@ fn a_surface_that_stands_twice_has_sides_of_four_pieces(rt: HostRuntime) -> Resu
     Ok(())
 }
 
+/// A face whose way round comes back to a corner.
+const BACK: [&[u32]; 1] = [&[0, 1, 3, 2, 1]];
+
 #[test]
 fn corners_out_of_their_order_are_no_piece(rt: HostRuntime) -> Result<(), Fail> {
-    let faces: [&[u32]; 1] = [&[0, 1, 3, 2, 1]];
-    let told = verdict(&rt, rt.alloc(), &faces, 1)?;
+    let told = verdict(&rt, rt.alloc(), &BACK, 1)?;
     assert!(rt;
         matches!(told, Some(SurfaceVerdict::NoPiece(0, FaceFault::OtherFace))),
         "{told:?}"
