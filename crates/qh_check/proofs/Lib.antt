@@ -1,16 +1,11 @@
-pub mod BlockBoxes
-pub mod BundleSlabs
 pub mod Chunks
 pub mod ClaimedFaces
 pub mod FaultCases
 pub mod FirstCorners
-pub mod FoundIds
 pub mod FoundParts
 pub mod Listed
-pub mod NearPositions
 pub mod OrderedPolygons
 pub mod Pieces
-pub mod PointBoxes
 pub mod MetLists
 pub mod RepeatedNumbers
 pub mod SortedNumbers

@@ -1,10 +1,6 @@
 -- What private functions speak of: nothing to believe.
 pub mod Asking
-pub mod Boxes
 pub mod Faces
 pub mod Findings
-pub mod Levels
-pub mod Places
-pub mod Slabs
 pub mod StepKeys
 pub mod Verdicts
