@@ -31,6 +31,7 @@ mod solid_edges;
 mod solids;
 
 pub use blocking::{BLOCK_ALONE, TELLING, WHOLE_ALONE, are_few, block_size, tree_pays};
+pub use face_order::sort_faces;
 pub use faces::faces_of_chosen;
 pub use hulls::{extremes, extremes_unlooked, hull, outer};
 pub use qh_surface::surface;

@@ -10,6 +10,7 @@
 //! (`qh_places`), and a plane is above most boxes. `order` tells whether the polygons stand in lexicographic order.
 #![tactic(auto)]
 
+mod asked_faces;
 mod asking;
 mod claims;
 mod closed;
@@ -25,6 +26,7 @@ mod surfaces;
 mod tests;
 mod verdict;
 
+pub use asked_faces::are_faces;
 pub use claims::{check, check_by_workers};
 pub use closed::{Step, open_step};
 pub use extent::Extent;

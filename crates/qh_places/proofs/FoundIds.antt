@@ -200,3 +200,13 @@ module _ (pts : List Vector) (ids : List ℕ) (p : Places) (are : ArePlaces pts 
       → MatchOption o (AreLevel pts ids plane found) (IsAbove pts ids plane)
   all_looked None found h = level_of_all found (h (omega arith))
   all_looked (Some i) found h = above_of i h
+
+-- where none is found in the plane, all are strictly below it
+pub none_found : (pts : List Vector) (ids : List ℕ) (plane : PlaneValue) (found : List ℕ) → AreLevel pts ids plane found
+    → length found ≡ 0 → (l : ℕ) → In l ids → height plane (place pts l) <ℤ pos 0
+none_found pts ids plane found h e l m =
+    le_less (height plane (place pts l)) (pos 0) (h.below l m) (λ z. none found e ((h.members l).1 (m, z)))
+  where
+    none : (xs : List ℕ) → length xs ≡ 0 → In l xs → ⊥
+    none [] e m = m
+    none (x ∷ xs) e m = absurd (omega (arith, e))

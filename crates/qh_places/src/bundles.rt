@@ -267,6 +267,15 @@ impl Bundle {
         found.unwrap_or(Bundle::none(Point::new(0, 0, 0)))
     }
 
+    /// The bundle of planes, seen from a point.
+    pub fn of_planes(origin: Point, planes: &[Plane]) -> Bundle {
+        let mut bundle = Bundle::none(origin);
+        for plane in planes {
+            bundle = bundle.with(plane);
+        }
+        bundle
+    }
+
     /// Returns true if a plane is known to be one of the bundle.
     pub fn has(&self, plane: &Plane) -> bool
         ensures { IsTrue result → IsOfBundle self.now plane.now }

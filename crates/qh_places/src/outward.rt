@@ -21,16 +21,21 @@ pub(crate) struct Outward {
 }
 
 impl Corners {
-    /// The first three corners of a polygon, if there are so many and all are points.
-    fn of(pts: &[Point], polygon: &Polygon) -> Option<Corners> {
-        let [i, j, k, ..] = polygon.ids() else {
-            return None;
-        };
+    /// The points of three ids, if all are points.
+    fn at(pts: &[Point], i: Id, j: Id, k: Id) -> Option<Corners> {
         Some(Corners {
             a: *pts.get(i.index())?,
             b: *pts.get(j.index())?,
             c: *pts.get(k.index())?,
         })
+    }
+
+    /// The first three corners of a polygon, if there are so many and all are points.
+    fn of(pts: &[Point], polygon: &Polygon) -> Option<Corners> {
+        let [i, j, k, ..] = polygon.ids() else {
+            return None;
+        };
+        Corners::at(pts, *i, *j, *k)
     }
 
     /// Their plane.
@@ -101,6 +106,28 @@ pub(crate) fn outward_of(
                 *sum = sum.plus(Outward::of(&corners));
             }
         }
+    }
+    Ok(outward)
+}
+
+/// For each rank the way out there, by triangles, of which the corners are listed three by three; a triangle counts for its first
+/// corner.
+pub(crate) fn outward_of_triangles(
+    alloc: Global,
+    pts: &[Point],
+    corners: &[Id],
+    ranks: &[usize],
+    count: usize,
+) -> Result<Vec<Outward>, AllocError> {
+    let mut outward = vec![in alloc; Outward::NONE; count]?;
+    let mut rest = corners;
+    while let [i, j, k, others @ ..] = rest {
+        if let Some(found) = Corners::at(pts, *i, *j, *k) {
+            if let Some(sum) = outward.get_mut(*ranks.get(i.index()).unwrap_or(&0)) {
+                *sum = sum.plus(Outward::of(&found));
+            }
+        }
+        rest = others;
     }
     Ok(outward)
 }

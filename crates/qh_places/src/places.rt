@@ -1,17 +1,17 @@
 //! The ids of a set along a Morton curve, with their points and blocks of these.
-ghost use Rattle.std.specs.Prelude.{◌≡◌, ◌+◌, ◌<◌, ◌≤◌, ◌↔◌, ℕ, List, pos, IfOk, MatchOption, IsPermutation, IsTrue, length, map};
+ghost use Rattle.std.specs.Prelude.{◌≡◌, ◌+◌, ◌<◌, ◌≤◌, ◌↔◌, ◌<ℤ◌, ℕ, List, pos, IfOk, MatchOption, IsPermutation, IsTrue, length, map};
 ghost use Rattle.std.specs.List.{All};
 ghost use Rattle.qh_model.specs.headline.Sets.{In};
 ghost use Rattle.qh_model.specs.headline.Vector.{Vector};
 ghost use Rattle.qh_model.specs.headline.Predicates.{place};
 ghost use Rattle.qh_model.specs.contract.IdSets.{AreIndices};
-ghost use Rattle.qh_pred.specs.contract.Planes.{height};
+ghost use Rattle.qh_pred.specs.contract.Planes.{PlaneValue, height};
 ghost use Rattle.qh_places.specs.contract.Near.{IsNear};
 ghost use Rattle.qh_places.specs.steps.Levels.{IsLevel, AreBelowAll, HasLooked, IsAboveAt};
 
 use crate::bundles::Bundle;
 use crate::levels::{Level, below_all, levels_over};
-use crate::outward::{outward_of, ranks_of};
+use crate::outward::{outward_of, outward_of_triangles, ranks_of};
 use crate::stretched::stretched;
 use qh_model::{Id, Memory, Point, Polygon};
 use qh_pred::{Plane, point_at};
@@ -25,7 +25,7 @@ const LEAF: usize = 16;
 const LEAF_SHIFT: u32 = 4;
 
 /// The ids of a set in an order of space, with their points and blocks of these. `ranks` has the position of an id, by its
-/// index.
+/// index; it is empty where nobody needs it.
 #[derive(Drop)]
 pub struct Places {
     pub ids: Vec<Id>,
@@ -110,6 +110,52 @@ impl Places {
             levels,
             leaves,
         })
+    }
+
+    /// The ids in their order, with their points and blocks of these. Which way is out is guessed from triangles, which
+    /// may be any; `corners` lists their corners, three by three.
+    ///
+    /// Each of `ids` is the index of one of the points. Near ids best stand near each other.
+    ///
+    /// # Errors
+    ///
+    /// `AllocError` where an allocation failed.
+    pub fn in_order(
+        alloc: Global,
+        pts: &[Point],
+        ids: &[Id],
+        corners: &[Id],
+    ) -> Result<Places, AllocError>
+        requires { AreIndices pts.now ids.now }
+        ensures { IfOk result (ArePlaces pts.now ids.now) }
+    {
+        let ids = Vec::from_slice(alloc, ids)?;
+        let points = points_of(alloc, pts, &ids)?;
+        let ranks = ranks_of(alloc, pts.len(), &ids)?;
+        let outward = outward_of_triangles(alloc, pts, corners, &ranks, ids.len())?;
+        let levels = levels_over(alloc, &points, &outward)?;
+        let leaves = Level::over(alloc, &points, &outward, LEAF_SHIFT)?;
+        Ok(Places {
+            ids,
+            points,
+            ranks,
+            levels,
+            leaves,
+        })
+    }
+
+    /// The same without `ranks`, which may take more room than all else where the ids are few of many points.
+    pub fn without_ranks(self, alloc: Global) -> Places
+        ensures ids { result.ids ≡ self.ids }
+        ensures points { result.points ≡ self.points }
+    {
+        Places {
+            ids: self.ids,
+            points: self.points,
+            ranks: Vec::new(alloc),
+            levels: self.levels,
+            leaves: self.leaves,
+        }
     }
 
     /// Lists the ids of the points from a position to another that lie in a plane, if none of these points lies
@@ -229,5 +275,33 @@ impl Places {
             }
         }
         Ok(None)
+    }
+
+    /// Returns true if all points are strictly below each of some planes, which best slant alike, and best pass near a point.
+    ///
+    /// # Errors
+    ///
+    /// `AllocError` where an allocation failed.
+    pub fn are_below(
+        &self,
+        alloc: Global,
+        origin: Point,
+        planes: &[Plane],
+    ) -> Result<bool, AllocError>
+        ensures { IfOk result (λ below. IsTrue below → (pts : List Vector) (ids : List ℕ) → ArePlaces pts ids self.now
+            → (plane : PlaneValue) → In plane planes.now → (l : ℕ) → In l ids → height plane (place pts l) <ℤ pos 0) }
+    {
+        let near = self.near(alloc, Bundle::of_planes(origin, planes))?;
+        let mut found = Vec::new(alloc);
+        for plane in planes {
+            let above = self.on_plane(plane, &near, &mut found)?;
+            if let Some(_) = above {
+                return Ok(false);
+            }
+            if found.len() > 0 {
+                return Ok(false);
+            }
+        }
+        Ok(true)
     }
 }

@@ -3,8 +3,10 @@ pub mod Asked
 pub mod Runs
 pub mod RingsBefore
 pub mod Answers
+pub mod RingFacets
 pub mod ListedCorners
 pub mod Chunked
 pub mod PartCorners
+pub mod JoinedLists
 pub mod StayingParts
 pub mod LeftIds

@@ -23,6 +23,10 @@ named_there xs k x is within = subst (λ y. In y xs) (sym is) (In-get_or xs k x 
 pub own_indices : {pts : List Vector} {shared : List ℕ} {p : Part} → IsPartOf pts shared p → All (λ i. i < length pts) p.own.items
 own_indices {pts} {shared} {p} z = All-of (λ i. i < length pts) p.own.items (λ l i. z.indices l (z.inside l i))
 
+-- so are the shared ids
+pub shared_indices : {pts : List Vector} {shared : List ℕ} {p : Part} → IsPartOf pts shared p → All (λ i. i < length pts) shared
+shared_indices {pts} {shared} {p} z = All-of (λ i. i < length pts) shared (λ l i. z.indices l (z.has_shared l i))
+
 -- what is asked of a part at a place, for another at a place, whatever would stand past the end
 pub apart_at : (pts : List Vector) (parts : List Part) (stay : ℕ → Bool) (k j : ℕ) (p q d e : Part) → k < length parts → j < length parts
     → IsApart pts (get_or parts k p) stay (own_in (get_or parts j q)) → IsApart pts (get_or parts k d) stay (own_in (get_or parts j e))

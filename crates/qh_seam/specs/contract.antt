@@ -1,3 +1,2 @@
--- What the public clauses cite.
-pub mod Witnesses
+-- What the contracts of public functions cite.
 pub mod Parts

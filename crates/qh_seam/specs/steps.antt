@@ -1,3 +1,5 @@
--- What private functions speak of.
-pub mod Triangles
+-- What private functions speak of: nothing to believe.
 pub mod Apart
+pub mod RingKeys
+pub mod Triangles
+pub mod Witnesses

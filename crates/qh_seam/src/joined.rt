@@ -1,29 +1,124 @@
-//! Faces of parts, and others, that close up: the hull of the set.
-ghost use Rattle.std.specs.Prelude.{ℕ, List, IfOk};
-ghost use Rattle.qh_model.specs.contract.IdSets.{HasDistinctPoints};
+//! Faces of parts, and polygons that close the gap between them: the hull of the set.
+ghost use Rattle.std.specs.Prelude.{◌≡◌, ◌⊎◌, ◌↔◌, ◌++◌, ℕ, List, IfOk, IfSome, IsTrue};
+ghost use Rattle.std.specs.List.{All};
+ghost use Rattle.qh_model.specs.contract.ClosedPolygons.{IsFace};
+ghost use Rattle.qh_model.specs.contract.IdSets.{AreIndices, HasDistinctPoints};
 ghost use Rattle.qh_model.specs.headline.Dimension.{IsDimension};
 ghost use Rattle.qh_model.specs.headline.Hull.{IsBody};
-ghost use Rattle.qh_model.specs.headline.Polygons.{RiseStrictly};
-ghost use Rattle.qh_model.specs.headline.Sets.{Members};
+ghost use Rattle.qh_model.specs.headline.Predicates.{place};
+ghost use Rattle.qh_model.specs.headline.Sets.{In, Members};
 ghost use Rattle.qh_model.specs.headline.Vector.{Vector};
-ghost use Rattle.qh_seam_laws.specs.contract.Parts.{AreKept, AreJoined};
+ghost use Rattle.qh_seam_laws.specs.contract.Parts.{AreKept, IsPartFace};
+ghost use Rattle.qh_seam.specs.contract.Parts.{KeepsCorners, IsPartOf};
 
-use qh_block::body_of_faces;
-use qh_model::{Body, Memory, Polygon};
-use std::alloc::Global;
+use crate::kept::corners_of_parts;
+use crate::staying::Divided;
+use qh_block::{body_of_faces, sort_faces};
+use qh_check::{are_faces, open_step, out_of_order};
+use qh_model::{Body, Id, Memory, Polygon};
+use qh_places::Places;
+use std::alloc::{AllocError, Global};
+use std::thread::Threads;
 
-/// The hull of a set, from faces of its parts and of the kept ids in rising lexicographic order.
+/// The first three corners of each polygon, one after the other.
+fn first_corners(alloc: Global, polygons: &[Polygon]) -> Result<Vec<Id>, AllocError> {
+    let mut corners = Vec::new(alloc);
+    for polygon in polygons {
+        if let [i, j, k, ..] = polygon.ids() {
+            corners.push(*i)?;
+            corners.push(*j)?;
+            corners.push(*k)?;
+        }
+    }
+    Ok(corners)
+}
+
+/// Returns true if each of some polygons is a face of what is kept of a set, by a number of threads.
+fn are_bridges<R: Threads + Sync>(
+    rt: &R,
+    alloc: Global,
+    set: Divided,
+    bridges: &[Polygon],
+    workers: usize,
+) -> Result<bool, Memory>
+    requires parts { All (IsPartOf set.pts.now set.shared.now) set.parts.now }
+    requires shared { AreIndices set.pts.now set.shared.now }
+    ensures { IfOk result (λ all. IsTrue all → (kept : List ℕ) → KeepsCorners set.entry.parts.now set.entry.shared.now kept
+        → HasDistinctPoints (place set.entry.pts.now) (Members kept)
+        → (q : List ℕ) → In q bridges.now → IsFace (place set.entry.pts.now) (Members kept) q) }
+{
+    let mut kept = corners_of_parts(alloc, set.parts)?;
+    kept.extend_from_slice(set.shared)?;
+    let corners = first_corners(alloc, bridges)?;
+    let places = Places::in_order(alloc, set.pts, &kept, &corners)?;
+    are_faces(rt, alloc, set.pts, &places, bridges, workers)
+}
+
+/// The polygons of two lists.
+fn both(mut polygons: Vec<Polygon>, mut others: Vec<Polygon>) -> Result<Vec<Polygon>, AllocError>
+    ensures { IfOk result (λ v. (q : List ℕ) → In q v.items → In q polygons.items ⊎ In q others.items) }
+{
+    while let Some(polygon) = others.pop() {
+        polygons.push(polygon)?;
+    }
+    Ok(polygons)
+}
+
+/// The hull of a set from polygons in order, if there is one and they close up.
 ///
-/// The caller promises that the polygons are joined: one at least, each the polygon of a facet that stays in a part and
-/// has a clear plane, or a face of the kept ids, and all close up. So they are all faces of the set
-/// (`qh_seam_laws::joined_faces_are_hull`).
+/// The caller promises that each is the polygon of a facet that stays in a part and has a clear plane, or a face of the kept
+/// ids. So they are all faces of the set (`qh_seam_laws::joined_faces_are_hull`).
+fn body_of_joined(alloc: Global, polygons: Vec<Polygon>) -> Result<Option<Body>, Memory>
+    ensures { IfOk result (λ found. IfSome found (λ b. (at : ℕ → Vector) (ids kept : List ℕ) → HasDistinctPoints at (Members ids)
+        → IsDimension at (Members ids) 3 → AreKept at ids kept
+        → ((q : List ℕ) → In q polygons.items → IsPartFace at ids kept q ⊎ IsFace at (Members kept) q) → IsBody at (Members ids) b)) }
+{
+    if polygons.len() == 0 {
+        return Ok(None);
+    }
+    if let Some(_) = out_of_order(&polygons) {
+        return Ok(None);
+    }
+    let open = open_step(alloc, &polygons)?;
+    if let Some(_) = open {
+        return Ok(None);
+    }
+    let body = body_of_faces(alloc, polygons)?;
+    Ok(Some(body))
+}
+
+/// The hull of a set from faces that its parts give out and polygons that close the gap between them. None where one of
+/// these is no face of what is kept of the set, or they do not close up.
+///
+/// The caller promises what `given` is; `bridges` may be any polygons. No `workers` means one.
 ///
 /// # Errors
 ///
 /// `Memory` where an allocation failed.
-pub fn body_of_joined(alloc: Global, polygons: Vec<Polygon>) -> Result<Body, Memory>
-    ensures { IfOk result (λ b. (at : ℕ → Vector) (ids kept : List ℕ) → HasDistinctPoints at (Members ids) → IsDimension at (Members ids) 3
-        → AreKept at ids kept → AreJoined at ids kept polygons.items → RiseStrictly polygons.items → IsBody at (Members ids) b) }
+pub fn join_faces<R: Threads + Sync>(
+    rt: &R,
+    alloc: Global,
+    set: Divided,
+    given: Vec<Polygon>,
+    bridges: Vec<Polygon>,
+    workers: usize,
+) -> Result<Option<Body>, Memory>
+    requires parts { All (IsPartOf set.pts.now set.shared.now) set.parts.now }
+    requires shared { AreIndices set.pts.now set.shared.now }
+    ensures { IfOk result (λ found. IfSome found (λ b. (ids kept : List ℕ) → HasDistinctPoints (place set.entry.pts.now) (Members ids)
+        → IsDimension (place set.entry.pts.now) (Members ids) 3 → AreKept (place set.entry.pts.now) ids kept
+        → KeepsCorners set.entry.parts.now set.entry.shared.now kept
+        → ((q : List ℕ) → In q given.items → IsPartFace (place set.entry.pts.now) ids kept q)
+        → IsBody (place set.entry.pts.now) (Members ids) b)) }
 {
-    body_of_faces(alloc, polygons)
+    let are = are_bridges(rt, alloc, set, &bridges, workers)?;
+    if !are {
+        return Ok(None);
+    }
+    let all = both(given, bridges)?;
+    let sorted = sort_faces(alloc, all)?;
+    let Some(body) = body_of_joined(alloc, sorted)? else {
+        return Ok(None);
+    };
+    Ok(Some(body))
 }

@@ -25,7 +25,7 @@ fn ids_of_parts(alloc: Global, parts: &[Part]) -> Result<Vec<Id>, AllocError>
 }
 
 /// The corners of all parts, part by part.
-fn corners_of_parts(alloc: Global, parts: &[Part]) -> Result<Vec<Id>, AllocError>
+pub(crate) fn corners_of_parts(alloc: Global, parts: &[Part]) -> Result<Vec<Id>, AllocError>
     ensures { IfOk result (λ v. v.items ≡ flat_map own_in parts.now) }
 {
     let mut ids = Vec::new(alloc);

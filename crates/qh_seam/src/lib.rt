@@ -5,11 +5,12 @@
 //!
 //! Some facets of a part are marked to stay where the corners of the other parts come in. The marks may be any: that
 //! they are right is checked here (`staying`, `seams`). Each corner of the others has a witness (`witnesses`): a facet that
-//! goes and that it is above, or one such that it lies between that facet and a point of the part. And the facets that stay
-//! beside one that goes have all others strictly below them (`rings`). Then no facet that stays sees a corner of the others
-//! (`qh_seam_laws::ring_hides_rest`), though few are asked, and their polygons are faces of the set.
+//! goes and that it is above, or one such that it lies between that facet and the middle of four points that belong to every
+//! part (`triangles`). And the facets that stay beside one that goes have all others strictly below them (`rings`). Then no
+//! facet that stays sees a corner of the others (`qh_seam_laws::ring_hides_rest`), though few are asked, and their polygons
+//! are faces of the set.
 //!
-//! Such polygons and others that close up are the hull (`joined`).
+//! Such polygons and others that are faces of what is kept of all parts, and close up, are the hull (`joined`).
 #![tactic(auto)]
 
 mod chunks;
@@ -26,9 +27,8 @@ mod triangles;
 mod witnesses;
 
 pub use chunks::parts_of;
-pub use joined::body_of_joined;
+pub use joined::join_faces;
 pub use kept::kept_ids;
 pub use parts::Part;
-pub use seams::{Others, is_seam};
 pub use staying::{Divided, Guess, staying_faces};
 pub use witnesses::Run;

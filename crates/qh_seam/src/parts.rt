@@ -1,5 +1,5 @@
 //! Parts of a set: the finished mesh of some of its ids, and the corners of the mesh.
-ghost use Rattle.std.specs.Prelude.{◌≡◌, ◌<◌, ◌⊎◌, ◌↔◌, ℕ, IfOk, IfSome, IsTrue, length};
+ghost use Rattle.std.specs.Prelude.{All, ◌≡◌, ◌<◌, ◌⊎◌, ◌↔◌, ℕ, IfOk, IfSome, IsTrue, length, true};
 ghost use Rattle.qh_model.specs.headline.Predicates.{place};
 ghost use Rattle.qh_model.specs.headline.Sets.{In, Once};
 ghost use Rattle.qh_model.specs.contract.IdSets.{AreIndices};
@@ -8,19 +8,23 @@ ghost use Rattle.qh_model.specs.contract.StoredSurface.{surface_of};
 ghost use Rattle.qh_model.specs.laws.CompletenessLaws.{IsLiveCorner};
 ghost use Rattle.qh_surface.specs.contract.Corners.{AreCornersBelow};
 ghost use Rattle.qh_surface.specs.contract.NamedMeshes.{named, IsNamedMesh};
+ghost use Rattle.qh_surface.specs.contract.Walks.{mark_at};
 ghost use Rattle.qh_seam.specs.contract.Parts.{IsPartOf};
 
 use qh_model::{Id, Memory, Point};
+use qh_places::Places;
 use qh_plane::{Shape, rank, rising_ids};
 use qh_surface::{NamedMesh, Simplex, surface_from};
 use std::alloc::{AllocError, Global};
 
-/// A part of a set: its ids, rising, their finished mesh, and the corners of the mesh that are no shared ids.
+/// A part of a set: its ids, rising, their finished mesh, and the corners of the mesh that are no shared ids, in the order
+/// in which the ids were listed, with their points by blocks.
 #[derive(Drop)]
 pub struct Part {
     pub ids: Vec<Id>,
     pub surface: NamedMesh,
     pub own: Vec<Id>,
+    pub places: Places,
 }
 
 /// The finished mesh of ids, if their points do not lie in one plane.
@@ -69,14 +73,41 @@ pub(crate) fn are_in(some: &[Id], ids: &[Id]) -> bool
     true
 }
 
-/// The ids of a list that are not in another, in their order.
-fn without(alloc: Global, ids: &[Id], others: &[Id]) -> Result<Vec<Id>, AllocError>
-    ensures all { IfOk result (λ v. (l : ℕ) → In l ids.now → In l v.items ⊎ In l others.now) }
+/// Marks for the first `count` ids, by which those of a list are marked.
+fn marks_of(alloc: Global, count: usize, ids: &[Id]) -> Result<Vec<bool>, AllocError>
+    requires { All (λ i. i < count) ids.now }
+    ensures { IfOk result (λ v. (l : ℕ) → In l ids.now → mark_at v.items l ≡ true) }
+{
+    let mut marks = vec![in alloc; false; count]?;
+    for id in ids {
+        marks[id.index()] = true;
+    }
+    Ok(marks)
+}
+
+/// Returns true if an id is marked and not one of the others.
+fn is_own(marks: &[bool], others: &[Id], id: Id) -> bool
+    ensures { mark_at marks.now id ≡ true → IsTrue result ⊎ In id others.now }
+{
+    let Some(marked) = marks.get(id.index()) else {
+        return false;
+    };
+    *marked && !has(others, id)
+}
+
+/// The marked ids of a list that are not in another, in their order.
+fn marked_without(
+    alloc: Global,
+    ids: &[Id],
+    marks: &[bool],
+    others: &[Id],
+) -> Result<Vec<Id>, AllocError>
+    ensures all { IfOk result (λ v. (l : ℕ) → In l ids.now → mark_at marks.now l ≡ true → In l v.items ⊎ In l others.now) }
     ensures only { IfOk result (λ v. (l : ℕ) → In l v.items → In l ids.now) }
 {
-    let mut left = Vec::with_capacity(alloc, ids.len())?;
+    let mut left = Vec::new(alloc);
     for id in ids {
-        if !has(others, *id) {
+        if is_own(marks, others, *id) {
             left.push(*id)?;
         }
     }
@@ -107,9 +138,16 @@ impl Part {
         let Some(surface) = mesh_of(alloc, pts, &ids)? else {
             return Ok(None);
         };
-        let listed_corners = corners_of(alloc, &surface)?;
-        let corners = rising_ids(alloc, &listed_corners)?;
-        let own = without(alloc, &corners, shared)?;
-        Ok(Some(Part { ids, surface, own }))
+        let corners = corners_of(alloc, &surface)?;
+        let marks = marks_of(alloc, pts.len(), &corners)?;
+        let own = marked_without(alloc, listed, &marks, shared)?;
+        let ranked = Places::in_order(alloc, pts, &own, &corners)?;
+        let places = ranked.without_ranks(alloc);
+        Ok(Some(Part {
+            ids,
+            surface,
+            own,
+            places,
+        }))
     }
 }

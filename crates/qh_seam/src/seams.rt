@@ -1,42 +1,44 @@
-//! Seams of parts to the points of others.
-ghost use Rattle.std.specs.Prelude.{◌≡◌, ◌<◌, ℕ, List, length, IsTrue};
+//! Seams of a marked part to the corners of another.
+ghost use Rattle.std.specs.Prelude.{◌<◌, ℕ, List, length, IfOk, IsTrue};
 ghost use Rattle.qh_model.specs.headline.Predicates.{place};
-ghost use Rattle.qh_model.specs.headline.Sets.{In, Members};
+ghost use Rattle.qh_model.specs.headline.Sets.{In};
 ghost use Rattle.qh_model.specs.contract.IdSets.{AreIndices};
-ghost use Rattle.qh_model.specs.contract.FinishedSurface.{IsFinished};
 ghost use Rattle.qh_model.specs.contract.StoredSurface.{surface_of};
-ghost use Rattle.qh_surface.specs.contract.NamedMeshes.{named, IsNamedMesh};
+ghost use Rattle.qh_mesh.specs.contract.Replacement.{IsLive};
+ghost use Rattle.qh_places.specs.contract.Places.{ArePlaces};
+ghost use Rattle.qh_surface.specs.contract.NamedMeshes.{named};
 ghost use Rattle.qh_surface.specs.contract.Walks.{mark_at};
-ghost use Rattle.qh_seam_laws.specs.contract.Seam.{IsSeam};
-ghost use Rattle.qh_seam.specs.contract.Witnesses.{IsRingOver};
+ghost use Rattle.qh_seam.specs.steps.Witnesses.{AreUnder, IsAnswered};
 
 use crate::marked::Marked;
+use crate::parts::Part;
+use crate::triangles::Four;
 use crate::witnesses::{Run, are_answered};
-use qh_model::{Id, Point};
-use qh_surface::NamedMesh;
+use qh_mesh::FacetNo;
+use std::alloc::{AllocError, Global};
 
-/// A list of ids, and witnesses for them in the order of the list.
-#[derive(Clone, Copy, Drop)]
-pub struct Others<'a> {
-    pub ids: &'a [Id],
-    pub runs: &'a [Run],
-}
-
-/// Returns true if the marked facets of a finished mesh are seen to stay where the points of the others come in: each of
-/// these has a witness, by the point of the id `inner`, and all are strictly below each facet that stays beside one that
-/// goes. Marks and witnesses may be any. A wrong guess is answered with false, and so may a right one be.
-///
-/// `stay` has a mark for each place of the mesh. `inner` is an id of the part, and best one that is no corner of a
-/// witness that stays. All ids are indices of points.
-pub fn is_seam(pts: &[Point], surface: &NamedMesh, stay: &[bool], inner: Id, others: Others) -> bool
-    requires named { IsNamedMesh pts.now surface.now }
-    requires marks { length surface.now.mesh ≡ length stay.now }
-    requires inner { inner < length pts.now }
-    requires others { AreIndices pts.now others.ids.now }
-    ensures seam { IsTrue result → (ids : List ℕ) → IsFinished (place pts.now) ids (surface_of (named surface.now)) → In inner ids
-        → IsSeam (place pts.now) (surface_of (named surface.now)) (mark_at stay.now) (Members others.entry.ids.now) }
-    ensures ring { IsTrue result → IsRingOver (place pts.now) (surface_of (named surface.now)) (mark_at stay.now) others.entry.ids.now }
-{
-    let part = Marked { pts, surface, stay };
-    are_answered(part, inner, others.runs, others.ids) && part.is_ring_over(others.ids)
+impl Marked<'_> {
+    /// Returns true if the marked facets are seen to stay where the corners of another part come in: each of these has a witness, by
+    /// the middle of four points of the part, and all are strictly below the facets of the ring.
+    pub fn is_apart(
+        self,
+        alloc: Global,
+        ring: &[FacetNo],
+        four: &Four,
+        other: &Part,
+        runs: &[Run],
+    ) -> Result<bool, AllocError>
+        requires live { (f : ℕ) → In f ring.now → IsLive self.surface.now.mesh f }
+        requires indices { AreIndices self.pts.now other.now.own.items }
+        ensures answers { IfOk result (λ yes. IsTrue yes → (l : ℕ) → In l other.now.own.items
+            → IsAnswered (place self.entry.pts.now) (surface_of (named self.entry.surface.now))
+            (mark_at self.entry.stay.now) four.now (place self.entry.pts.now l)) }
+        ensures ring { IfOk result (λ yes. IsTrue yes → (ids : List ℕ) → ArePlaces self.entry.pts.now ids other.now.places
+            → (f : ℕ) → In f ring.now → AreUnder (place self.entry.pts.now) (surface_of (named self.entry.surface.now)) f ids) }
+    {
+        if !are_answered(self, four, runs, &other.own) {
+            return Ok(false);
+        }
+        self.are_over(alloc, ring, &other.places)
+    }
 }

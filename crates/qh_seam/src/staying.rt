@@ -9,8 +9,9 @@ ghost use Rattle.qh_seam_laws.specs.contract.Parts.{IsPartFace};
 ghost use Rattle.qh_seam.specs.declared.parts.Part.{Part};
 ghost use Rattle.qh_seam.specs.contract.Parts.{ids_in, KeepsCorners, IsPartOf, IsStayingPart};
 
+use crate::marked::Marked;
 use crate::parts::Part;
-use crate::seams::{Others, is_seam};
+use crate::triangles::four_of;
 use crate::witnesses::Run;
 use qh_block::faces_of_chosen;
 use qh_model::{Id, Memory, Point, Polygon};
@@ -24,44 +25,56 @@ pub struct Divided<'a> {
     pub shared: &'a [Id],
 }
 
-/// A guess of what stays of a part: a mark for each place of its mesh, the position of one of its ids, and for each part
-/// witnesses for the corners of that part.
+/// A guess of what stays of a part: a mark for each place of its mesh, and for each part witnesses for the corners of that
+/// part.
 #[derive(Clone, Copy, Drop)]
 pub struct Guess<'a> {
     pub stay: &'a [bool],
-    pub inner: usize,
     pub runs: &'a [Vec<Run>],
 }
 
 /// Returns true if the guess for the part of this number is seen to be right. A right one may be refused.
-fn stays(set: Divided, number: usize, guess: Guess) -> bool
+fn stays<'a>(
+    alloc: Global,
+    set: Divided<'a>,
+    number: usize,
+    guess: Guess<'a>,
+) -> Result<bool, Memory>
     requires number { number < length set.parts.now }
     requires parts { All (IsPartOf set.pts.now set.shared.now) set.parts.now }
-    ensures marks { IsTrue result → (d : Part)
-        → length (slice_index_or set.entry.parts.now number d).surface.mesh ≡ length guess.entry.stay.now }
-    ensures part { IsTrue result → (d : Part) → IsStayingPart set.entry.pts.now set.entry.shared.now set.entry.parts.now
-        (slice_index_or set.entry.parts.now number d) (mark_at guess.entry.stay.now) }
+    ensures marks { IfOk result (λ yes. IsTrue yes → (d : Part)
+        → length (slice_index_or set.entry.parts.now number d).surface.mesh ≡ length guess.entry.stay.now) }
+    ensures part { IfOk result (λ yes. IsTrue yes → (d : Part) → IsStayingPart set.entry.pts.now set.entry.shared.now set.entry.parts.now
+        (slice_index_or set.entry.parts.now number d) (mark_at guess.entry.stay.now)) }
 {
     let part = &set.parts[number];
-    if guess.stay.len() != part.surface.mesh.places() {
-        return false;
+    if guess.stay.len() != part.surface.mesh.places() || guess.runs.len() != set.parts.len() {
+        return Ok(false);
     }
-    if guess.inner >= part.ids.len() || guess.runs.len() != set.parts.len() {
-        return false;
-    }
-    let inner = part.ids[guess.inner];
+    let Some(four) = four_of(set.pts, set.shared) else {
+        return Ok(false);
+    };
+    let marked = Marked {
+        pts: set.pts,
+        surface: &part.surface,
+        stay: guess.stay,
+    };
+    let ring = marked.ring(alloc)?;
     for other in 0..set.parts.len() {
         if other != number {
-            let others = Others {
-                ids: &set.parts[other].own,
-                runs: &guess.runs[other],
-            };
-            if !is_seam(set.pts, &part.surface, guess.stay, inner, others) {
-                return false;
+            let apart = marked.is_apart(
+                alloc,
+                &ring,
+                &four,
+                &set.parts[other],
+                &guess.runs[other],
+            )?;
+            if !apart {
+                return Ok(false);
             }
         }
     }
-    true
+    Ok(true)
 }
 
 /// The faces of the set that the part of this number gives out, if the guess of what stays of it is seen to be right: the
@@ -70,11 +83,11 @@ fn stays(set: Divided, number: usize, guess: Guess) -> bool
 /// # Errors
 ///
 /// `Memory` where an allocation failed.
-pub fn staying_faces(
+pub fn staying_faces<'a>(
     alloc: Global,
-    set: Divided,
+    set: Divided<'a>,
     number: usize,
-    guess: Guess,
+    guess: Guess<'a>,
 ) -> Result<Option<Vec<Polygon>>, Memory>
     requires number { number < length set.parts.now }
     requires parts { All (IsPartOf set.pts.now set.shared.now) set.parts.now }
@@ -82,7 +95,8 @@ pub fn staying_faces(
         → ((l : ℕ) → In l (flat_map ids_in set.entry.parts.now) → In l ids) → KeepsCorners set.entry.parts.now set.entry.shared.now kept
         → (q : List ℕ) → In q v.items → IsPartFace (place set.entry.pts.now) ids kept q)) }
 {
-    if !stays(set, number, guess) {
+    let stays = stays(alloc, set, number, guess)?;
+    if !stays {
         return Ok(None);
     }
     let part = &set.parts[number];

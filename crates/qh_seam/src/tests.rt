@@ -4,13 +4,14 @@ ghost use Rattle.qh_model.specs.contract.IdSets.{AreIndices};
 ghost use Rattle.qh_mesh.specs.contract.Replacement.{IsLive};
 ghost use Rattle.qh_surface.specs.contract.NamedMeshes.{IsNamedMesh};
 
-use crate::{Divided, Guess, Run, body_of_joined, kept_ids, parts_of, staying_faces};
+use crate::{Divided, Guess, Run, join_faces, kept_ids, parts_of, staying_faces};
 use qh_mesh::FacetNo;
 use qh_model::{Body, Id, Memory, Point, Polygon};
 use qh_pred::{point_at, vol};
 use qh_surface::NamedMesh;
 use std::alloc::{AllocError, Global};
 use std::test::Fail;
+use std::thread::Threads;
 
 /// The corners of a cube, in rising order of their coordinates.
 fn cube() -> [Point; 8] {
@@ -146,7 +147,6 @@ fn first_faces(alloc: Global, marking: Marking) -> Result<Option<Vec<Polygon>>, 
     };
     let guess = Guess {
         stay: &stay,
-        inner: 0,
         runs: &runs,
     };
     staying_faces(alloc, set, 0, guess)
@@ -214,8 +214,8 @@ fn all_corners_of_the_cube_are_kept(rt: HostRuntime) -> Result<(), Fail> {
     Ok(())
 }
 
-/// The hull of the cube from its faces.
-fn cube_of(alloc: Global, faces: &[&[u32]]) -> Result<Body, Memory> {
+/// The polygons with these corners.
+fn polygons_of(alloc: Global, faces: &[&[u32]]) -> Result<Vec<Polygon>, AllocError> {
     let mut polygons = Vec::new(alloc);
     for face in faces {
         let mut ids = Vec::new(alloc);
@@ -224,20 +224,77 @@ fn cube_of(alloc: Global, faces: &[&[u32]]) -> Result<Body, Memory> {
         }
         polygons.push(Polygon::of(ids))?;
     }
-    body_of_joined(alloc, polygons)
+    Ok(polygons)
 }
+
+/// The hull of the cube from the square that its first part gives out and other polygons; none where these do not make it.
+fn cube_with<R: Threads + Sync>(
+    rt: &R,
+    alloc: Global,
+    given: &[&[u32]],
+    bridges: &[&[u32]],
+) -> Result<Option<Body>, Memory> {
+    let pts = cube();
+    let listed = ids_of(alloc, &pts, &[1, 2, 4, 7])?;
+    let shared = ids_of(alloc, &pts, &SHARED)?;
+    let Some(parts) = parts_of(alloc, &pts, &listed, 2, &shared)? else {
+        return Ok(None);
+    };
+    let set = Divided {
+        pts: &pts,
+        parts: &parts,
+        shared: &shared,
+    };
+    let given = polygons_of(alloc, given)?;
+    let bridges = polygons_of(alloc, bridges)?;
+    join_faces(rt, alloc, set, given, bridges, 2)
+}
+
+/// The square that the first part gives out.
+const GIVEN: [&[u32]; 1] = [&[0, 1, 3, 2]];
+
+/// The other faces of the cube.
+const BRIDGES: [&[u32]; 5] = [
+    &[0, 2, 6, 4],
+    &[0, 4, 5, 1],
+    &[1, 5, 7, 3],
+    &[2, 3, 7, 6],
+    &[4, 6, 7, 5],
+];
+
+/// The other faces, of which the last is cut into halves.
+const HALVES: [&[u32]; 6] = [
+    &[0, 2, 6, 4],
+    &[0, 4, 5, 1],
+    &[1, 5, 7, 3],
+    &[2, 3, 7, 6],
+    &[4, 6, 7],
+    &[4, 7, 5],
+];
 
 #[test]
 fn six_faces_are_joined_to_a_cube(rt: HostRuntime) -> Result<(), Fail> {
-    let faces: [&[u32]; 6] = [
-        &[0, 1, 3, 2],
-        &[0, 2, 6, 4],
-        &[0, 4, 5, 1],
-        &[1, 5, 7, 3],
-        &[2, 3, 7, 6],
-        &[4, 6, 7, 5],
-    ];
-    let body = cube_of(rt.alloc(), &faces)?;
-    assert!(rt; body.dim == 3 && body.extremes.len() == 8 && body.edges == 12);
+    let found = cube_with(&rt, rt.alloc(), &GIVEN, &BRIDGES)?;
+    let told = match found {
+        Some(body) => body.dim == 3 && body.extremes.len() == 8 && body.edges == 12,
+        None => false,
+    };
+    assert!(rt; told);
+    Ok(())
+}
+
+#[test]
+fn a_gap_is_not_joined(rt: HostRuntime) -> Result<(), Fail> {
+    let open = cube_with(&rt, rt.alloc(), &GIVEN, &BRIDGES[1..])?;
+    assert!(rt; open.is_none());
+    let none = cube_with(&rt, rt.alloc(), &[], &[])?;
+    assert!(rt; none.is_none());
+    Ok(())
+}
+
+#[test]
+fn halves_of_a_face_are_not_joined(rt: HostRuntime) -> Result<(), Fail> {
+    let found = cube_with(&rt, rt.alloc(), &GIVEN, &HALVES)?;
+    assert!(rt; found.is_none());
     Ok(())
 }

@@ -9,10 +9,10 @@ ghost use Rattle.qh_surface.specs.contract.NamedMeshes.{named};
 ghost use Rattle.qh_surface.specs.contract.Walks.{mark_at};
 ghost use Rattle.qh_pred.specs.contract.Planes.{height};
 ghost use Rattle.qh_seam.specs.steps.Triangles.{IsInCone};
-ghost use Rattle.qh_seam.specs.contract.Witnesses.{IsAnswered};
+ghost use Rattle.qh_seam.specs.steps.Witnesses.{IsAnswered};
 
 use crate::marked::Marked;
-use crate::triangles::Triangle;
+use crate::triangles::{Four, Triangle};
 use qh_mesh::FacetNo;
 use qh_model::{Id, Point};
 use qh_pred::{Plane, point_at};
@@ -24,35 +24,34 @@ pub struct Run {
     pub count: usize,
 }
 
-/// A facet as a witness: its triangle and plane, whether it stays, and a point of the part.
+/// A facet as a witness: its triangle and plane, whether it stays, and four points of the part.
 #[derive(Clone, Copy, Drop)]
-struct Witness {
+struct Witness<'a> {
     triangle: Triangle,
     plane: Plane,
     stays: bool,
-    inner: Point,
+    four: &'a Four,
     ghost same: { (p : Vector) → height plane p ≡ vol triangle.a triangle.b triangle.c p },
 }
 
-impl Witness {
-    /// Returns true if a point is above the facet, which goes, or lies between it and the point of the part.
+impl Witness<'_> {
+    /// Returns true if a point is above the facet, which goes, or lies between it and the middle of the four points.
     fn settles(&self, p: Point) -> bool
         ensures { let t = self.now.triangle in IsTrue result
-            → ((self.now.stays ≡ false) × (pos 0 <ℤ vol t.a t.b t.c p)) ⊎ IsInCone t.a t.b t.c self.now.inner p }
+            → ((self.now.stays ≡ false) × (pos 0 <ℤ vol t.a t.b t.c p)) ⊎ IsInCone t.a t.b t.c self.now.four.now p }
     {
         if self.plane.sees(p) {
             return !self.stays;
         }
-        self.triangle.has_between(self.inner, p)
+        self.triangle.has_between(self.four, p)
     }
 }
 
 /// Returns true if a facet is a witness for each of the ids.
-fn is_witness(part: Marked, inner: Id, f: FacetNo, ids: &[Id]) -> bool
-    requires inner { inner < length part.pts.now }
-    requires ids { AreIndices part.pts.now ids.now }
+fn is_witness(part: Marked, four: &Four, f: FacetNo, ids: &[Id]) -> bool
+    requires { AreIndices part.pts.now ids.now }
     ensures { IsTrue result → (l : ℕ) → In l ids.now → IsAnswered (place part.entry.pts.now)
-        (surface_of (named part.entry.surface.now)) (mark_at part.entry.stay.now) inner (place part.entry.pts.now l) }
+        (surface_of (named part.entry.surface.now)) (mark_at part.entry.stay.now) four.now (place part.entry.pts.now l) }
 {
     if f.index() >= part.surface.mesh.places() || !part.surface.mesh.is_live(f) {
         return false;
@@ -63,7 +62,7 @@ fn is_witness(part: Marked, inner: Id, f: FacetNo, ids: &[Id]) -> bool
         triangle,
         plane,
         stays: part.stay[f.index()],
-        inner: point_at(part.pts, inner),
+        four,
     };
     for id in ids {
         if !witness.settles(point_at(part.pts, *id)) {
@@ -74,16 +73,15 @@ fn is_witness(part: Marked, inner: Id, f: FacetNo, ids: &[Id]) -> bool
 }
 
 /// Returns true if each of the ids has a witness, by runs of them in the order of the ids.
-pub(crate) fn are_answered(part: Marked, inner: Id, runs: &[Run], ids: &[Id]) -> bool
-    requires inner { inner < length part.pts.now }
-    requires ids { AreIndices part.pts.now ids.now }
+pub(crate) fn are_answered(part: Marked, four: &Four, runs: &[Run], ids: &[Id]) -> bool
+    requires { AreIndices part.pts.now ids.now }
     ensures { IsTrue result → (l : ℕ) → In l ids.now → IsAnswered (place part.entry.pts.now)
-        (surface_of (named part.entry.surface.now)) (mark_at part.entry.stay.now) inner (place part.entry.pts.now l) }
+        (surface_of (named part.entry.surface.now)) (mark_at part.entry.stay.now) four.now (place part.entry.pts.now l) }
 {
     let mut rest = ids;
     for run in runs {
         let (own, others) = rest.split_at(run.count.min(rest.len()));
-        if !is_witness(part, inner, run.facet, own) {
+        if !is_witness(part, four, run.facet, own) {
             return false;
         }
         rest = others;

@@ -1,7 +1,6 @@
 -- The faces of a solid, gathered plane by plane from the facets of its finished mesh.
-use Rattle.std.specs.Cmp.Lexicographic.{pointwise}
-use Rattle.std.specs.List.{IsDistinct, flat_map}
-use Rattle.std.specs.Prelude.{◌≡◌, ◌⊎◌, ℕ, List, [], ◌∷◌, take, Bool, true, nat_eq, nat_lt, ◌&&◌, if◌then◌else◌}
+use Rattle.std.specs.List.{flat_map}
+use Rattle.std.specs.Prelude.{◌≡◌, ◌⊎◌, ℕ, List, [], ◌∷◌, Bool, true, nat_lt, ◌&&◌, if◌then◌else◌}
 use Rattle.qh_model.specs.headline.Vector.{Vector}
 use Rattle.qh_model.specs.headline.Sets.{In}
 use Rattle.qh_model.specs.contract.Surface.{IsCorner}
@@ -10,6 +9,7 @@ use Rattle.qh_model.specs.contract.StoredSurface.{StoredFacet, facet_at, surface
 use Rattle.qh_model.specs.headline.Polygons.{IsFacePolygon}
 use Rattle.qh_mesh.specs.contract.Replacement.{IsLive}
 use Rattle.qh_surface.specs.contract.Walks.{mark_at}
+use Rattle.qh_block.specs.contract.ApartPolygons.{AreApart}
 
 -- the corners of a facet, and of the listed facets, as listed
 abbrev pub three_of : List StoredFacet → ℕ → List ℕ
@@ -44,19 +44,6 @@ pub record IsNewFace (at : ℕ → Vector) (A : ℕ → Type 0) (fs : List Store
 -- no marked live facet is in the plane of facet f
 abbrev pub IsNewPlane : (ℕ → Vector) → List StoredFacet → List Bool → ℕ → Type 0
 IsNewPlane at fs marks f = (g : ℕ) → IsLive fs g → mark_at marks g ≡ true → ¬ (IsLevelFacet at (surface_of fs) f g)
-
--- a list of three or more
-pub data HasThree : List ℕ → Type 0 where
-  three : (a b c : ℕ) (q : List ℕ) → HasThree (a ∷ b ∷ c ∷ q)
-
--- two lists begin with the same three
-abbrev pub begin_alike : List ℕ → List ℕ → Bool
-begin_alike p q = pointwise nat_eq (take 3 p) (take 3 q)
-
--- each has at least three members, and no two begin with the same three
-pub record AreApart (qs : List (List ℕ)) : Type 0 where
-  pub three : (q : List ℕ) → In q qs → HasThree q
-  pub apart : IsDistinct begin_alike qs
 
 -- the polygons of the planes of the marked facets, each plane once
 pub record AreMarkedFaces (at : ℕ → Vector) (A : ℕ → Type 0) (fs : List StoredFacet) (marks : List Bool) (qs : List (List ℕ)) : Type 0 where

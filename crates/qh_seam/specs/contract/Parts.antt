@@ -10,6 +10,7 @@ use Rattle.qh_model.specs.contract.FinishedSurface.{IsFinished}
 use Rattle.qh_model.specs.contract.Surface.{IsCorner}
 use Rattle.qh_model.specs.contract.StoredSurface.{surface_of}
 use Rattle.qh_surface.specs.contract.NamedMeshes.{named, IsNamedMesh}
+use Rattle.qh_places.specs.contract.Places.{ArePlaces}
 use Rattle.qh_seam_laws.specs.contract.Seam.{IsSeam, IsStrictRing}
 use Rattle.qh_seam.specs.declared.parts.Part.{Part}
 
@@ -25,7 +26,7 @@ own_in p = p.own.items
 abbrev pub KeepsCorners : List Part → (shared kept : List ℕ) → Type 0
 KeepsCorners parts shared kept = (l : ℕ) → In l kept ↔ (In l (flat_map own_in parts) ⊎ In l shared)
 
--- rising ids, shared ones among them, with their finished mesh, whose corners are own or shared ids
+-- rising ids, shared ones among them, with their finished mesh, whose corners are own or shared ids, the own ones by blocks
 pub record IsPartOf (pts : List Vector) (shared : List ℕ) (p : Part) : Type 0 where
   pub indices : (l : ℕ) → In l p.ids.items → l < length pts
   pub rising : IsStrictlyIncreasing p.ids.items
@@ -34,6 +35,7 @@ pub record IsPartOf (pts : List Vector) (shared : List ℕ) (p : Part) : Type 0 
   pub corners : let m = surface_of (named p.surface) in (f : ℕ) → In f m.live → (l : ℕ) → IsCorner m f l → In l p.own.items ⊎ In l shared
   pub inside : (l : ℕ) → In l p.own.items → In l p.ids.items
   pub has_shared : (l : ℕ) → In l shared → In l p.ids.items
+  pub places : ArePlaces pts p.own.items p.places
 
 -- a part whose marked facets stay where the corners of the other parts come in
 pub record IsStayingPart (pts : List Vector) (shared : List ℕ) (parts : List Part) (p : Part) (stay : ℕ → Bool) : Type 0 where

@@ -8,7 +8,7 @@ use Rattle.qh_model.specs.contract.StoredSurface.{surface_of}
 use Rattle.qh_surface.specs.contract.NamedMeshes.{named}
 use Rattle.qh_seam_laws.specs.contract.Seam.{IsSeam}
 use Rattle.qh_seam.specs.declared.parts.Part.{Part}
-use Rattle.qh_seam.specs.contract.Witnesses.{IsRingOver}
+use Rattle.qh_seam.specs.steps.Witnesses.{IsRingOver}
 
 -- the facets that stay have a seam to the others, which are strictly below the ring
 pub record IsApart (pts : List Vector) (p : Part) (stay : ℕ → Bool) (others : List ℕ) : Type 0 where

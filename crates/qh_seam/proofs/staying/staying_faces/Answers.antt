@@ -8,7 +8,7 @@ pub returns : goal.returns
 returns c = λ ids kept distinct inside keeps q i. (
     let pts = c.args.set.pts.now in let shared = c.args.set.shared.now in let parts = c.args.set.parts.now in
     let d = c.index-set-number.result in let stay = mark_at c.args.guess.stay.now in
-    let staying = c.stays.ensures.part c.if-not-stays.false d in
+    let staying = c.in_ok-stays.ensures.part c.if-not-stays.false d in
     let own = part_set pts shared parts c.args.number d stay c.requires.parts c.requires.number staying ids kept distinct inside keeps in
     let finished =
     part_finished pts shared parts c.args.number d stay c.requires.parts c.requires.number staying ids kept distinct inside keeps in

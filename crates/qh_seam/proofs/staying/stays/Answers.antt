@@ -1,25 +1,25 @@
 -- The part is asked for each other part in its turn.
-use Rattle.std.proofs.Common.{◌≡◌, ◌<◌, ◌⊎◌, inl, inr, All, length, get_or, sym, subst, arith}
+use Rattle.std.proofs.Common.{◌≡◌, ◌<◌, ◌⊎◌, inl, inr, length, get_or, sym, subst, arith}
 use Rattle.std.proofs.lemmas.Bool.{cases_lt}
-use Rattle.qh_model.specs.headline.{Sets.In}
-use Rattle.qh_surface.specs.contract.Walks.{mark_at}
+use Rattle.qh_model.specs.headline.{Predicates.place, Sets.In}
+use Rattle.qh_model.specs.contract.StoredSurface.{surface_of}
+use Rattle.qh_surface.specs.contract.{NamedMeshes.named, Walks.mark_at}
 use Rattle.qh_seam.specs.declared.parts.Part.{Part}
-use Rattle.qh_seam.specs.contract.Parts.{own_in, IsPartOf}
-use Rattle.qh_seam.specs.steps.Apart.{IsApart}
-use Rattle.qh_seam.proofs.StayingParts.{named_there, own_indices, apart_at, staying_part}
-use Rattle.qh_seam.proofs.staying.stays.Goals.{then-other-number+else-not-is_seam, else-other-number}
+use Rattle.qh_seam.specs.contract.Parts.{own_in}
+use Rattle.qh_seam.specs.steps.{Apart.IsApart, Witnesses.IsRingOver}
+use Rattle.qh_seam.proofs.Answers.{apart_of}
+use Rattle.qh_seam.proofs.StayingParts.{own_indices, shared_indices, apart_at, staying_part}
+use Rattle.qh_seam.proofs.staying.stays.Goals.{then-other-number+in_ok-apart+else-not-apart, else-other-number}
 use Rattle.qh_seam.proofs.staying.stays.Goals as goal
 
-pub is_seam-requires-clause-inner : goal.is_seam-requires-clause-inner
-is_seam-requires-clause-inner c =
-    let part = get_or c.args.set.parts.now c.args.number c.index-set-number.result in
-    (c.requires.parts c.args.number c.index-set-number.result c.requires.number).indices c.index-inner.result.now
-    (named_there part.ids.items c.args.guess.inner _ c.index-inner.ensures (let ok = part.ids.ok.0 in omega (arith, ok)))
+pub four_of-requires : goal.four_of-requires
+four_of-requires c = shared_indices (c.requires.parts c.args.number c.index-set-number.result c.requires.number)
 
-pub is_seam-requires-clause-others : goal.is_seam-requires-clause-others
-is_seam-requires-clause-others c =
-    subst (All (λ i. i < length c.args.set.pts.now)) (sym c.deref.ensures.value)
-    (own_indices (c.requires.parts c.loop-other.other c.index-set-other.result (omega arith)))
+pub is_apart-requires : goal.is_apart-requires
+is_apart-requires c = record {
+  live = rw c.deref.ensures.value c.in_ok-ring.ensures.live;
+  indices = own_indices (c.requires.parts c.loop-other.other c.index-set-other.result (omega arith));
+}
 
 pub loop-other-preserved : goal.loop-other-preserved
 loop-other-preserved c = λ j h d e. elim (cases_lt j c.loop-other.other) [
@@ -30,27 +30,26 @@ loop-other-preserved c = λ j h d e. elim (cases_lt j c.loop-other.other) [
 ]
   where
     within : c.loop-other.other < length c.args.set.parts.now
-    within = omega arith
-
-    is : IsPartOf c.args.set.pts.now c.args.set.shared.now (get_or c.args.set.parts.now c.args.number c.index-set-number.result)
-    is = c.requires.parts c.args.number c.index-set-number.result c.requires.number
-
-    inner : In c.index-inner.result.now (get_or c.args.set.parts.now c.args.number c.index-set-number.result).ids.items
-    inner =
-        named_there _ c.args.guess.inner _ c.index-inner.ensures
-        (let ok = (get_or c.args.set.parts.now c.args.number c.index-set-number.result).ids.ok.0 in omega (arith, ok))
+    within = c.loop-other-test.true
 
     at_other : (d e : Part) → (c.loop-other.other ≡ c.args.number) ⊎ IsApart c.args.set.pts.now
         (get_or c.args.set.parts.now c.args.number d) (mark_at c.args.guess.stay.now)
         (own_in (get_or c.args.set.parts.now c.loop-other.other e))
-    at_other d e = elim c.if-other-number.branch [
-      | then-other-number+else-not-is_seam w ↦ inr (apart_at c.args.set.pts.now c.args.set.parts.now (mark_at c.args.guess.stay.now)
-          c.args.number c.loop-other.other c.index-set-number.result w.index-set-other.result d e c.requires.number within (record {
-            seam = rw w.deref.ensures.value at (w.is_seam.ensures.seam w.if-not-is_seam.false _ is.finished inner);
-            ring = rw w.deref.ensures.value at (w.is_seam.ensures.ring w.if-not-is_seam.false);
-          }))
-      | else-other-number w ↦ inl (let same = w.if-other-number.false in omega (arith, same))
-    ]
+    at_other d e =
+        let pts = c.args.set.pts.now in let shared = c.args.set.shared.now in let parts = c.args.set.parts.now in
+        let stay = mark_at c.args.guess.stay.now in let own = c.index-set-number.result in
+        elim c.if-other-number.branch [
+          | then-other-number+in_ok-apart+else-not-apart w ↦ (
+              let other = w.index-set-other.result in let ids = own_in (get_or parts c.loop-other.other other) in
+              let held = (c.requires.parts c.loop-other.other other within).places in
+              let ring : IsRingOver (place pts) (surface_of (named (get_or parts c.args.number own).surface)) stay ids = λ f r. w.in_ok-apart.ensures.ring w.if-not-apart.false ids held f
+              (subst (In f) (sym w.deref.ensures.value) (c.in_ok-ring.ensures.all f r)) in
+              inr (apart_at pts parts stay c.args.number c.loop-other.other own other d e c.requires.number within
+              (apart_of pts shared c.in-Some.four c.in-Some.ensures (get_or parts c.args.number own)
+              (c.requires.parts c.args.number own c.requires.number) stay ids
+              (w.in_ok-apart.ensures.answers w.if-not-apart.false) ring)))
+          | else-other-number w ↦ inl (let same = w.if-other-number.false in omega (arith, same))
+        ]
 
 pub returns-clause-part : goal.returns-clause-part
 returns-clause-part c = λ _ d.

@@ -6,9 +6,9 @@ use Rattle.qh_seam.proofs.witnesses.are_answered.Goals as goal
 pub loop-run-init : goal.loop-run-init
 loop-run-init c = left_at_start _ c.args.ids.now
 
-pub is_witness-requires-clause-ids : goal.is_witness-requires-clause-ids
-is_witness-requires-clause-ids c =
-    all_of_part (λ i. i < length c.args.part.pts.now) c.args.ids.now _ c.requires.ids
+pub is_witness-requires : goal.is_witness-requires
+is_witness-requires c =
+    all_of_part (λ i. i < length c.args.part.pts.now) c.args.ids.now _ c.requires
     (front_inside _ _ _ _ _ _ c.loop-run.invariant c.split_at.ensures.front c.split_at.ensures.back)
 
 pub loop-run-preserved : goal.loop-run-preserved

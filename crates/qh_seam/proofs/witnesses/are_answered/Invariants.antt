@@ -2,10 +2,10 @@
 use Rattle.qh_model.specs.headline.{Predicates.place}
 use Rattle.qh_model.specs.contract.StoredSurface.{surface_of}
 use Rattle.qh_surface.specs.contract.{NamedMeshes.named, Walks.mark_at}
-use Rattle.qh_seam.specs.contract.Witnesses.{IsAnswered}
+use Rattle.qh_seam.specs.steps.Witnesses.{IsAnswered}
 use Rattle.qh_seam.proofs.Runs.{AreLeft}
 use Rattle.qh_seam.proofs.witnesses.are_answered.Given as goal
 
 abbrev pub invariant-loop-run : goal.invariant-loop-run
 invariant-loop-run l = AreLeft (λ i. IsAnswered (place l.part.pts.now) (surface_of (named l.part.surface.now)) (mark_at l.part.stay.now)
-    l.inner (place l.part.pts.now i)) l.ids l.rest
+    l.four (place l.part.pts.now i)) l.ids l.rest

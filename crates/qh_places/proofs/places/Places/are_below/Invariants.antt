@@ -1,0 +1,11 @@
+-- The points are below the planes so far.
+use Rattle.std.proofs.Common.{ℕ, ◌<◌, List, get_or}
+use Rattle.std.specs.Prelude.{pos, ◌<ℤ◌}
+use Rattle.qh_model.specs.headline.{Vector.Vector, Predicates.place, Sets.In}
+use Rattle.qh_pred.specs.contract.Planes.{PlaneValue, height}
+use Rattle.qh_places.specs.contract.Places.{ArePlaces}
+use Rattle.qh_places.proofs.places.Places.are_below.Given as goal
+
+abbrev pub invariant-loop-plane : goal.invariant-loop-plane
+invariant-loop-plane l = (pts : List Vector) (ids : List ℕ) → ArePlaces pts ids l.self → (k : ℕ) → k < l.plane-index
+    → (d : PlaneValue) (i : ℕ) → In i ids → height (get_or l.planes k d) (place pts i) <ℤ pos 0

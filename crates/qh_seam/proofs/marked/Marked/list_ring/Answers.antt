@@ -1,0 +1,17 @@
+-- The key of the facet is listed, or the facet is none of the ring.
+use Rattle.std.proofs.Common.{◌≡◌, ◌∙◌, ◌++◌, inl, inr, ap, map, refl, [], ◌∷◌, Bool, true, false}
+use Rattle.std.proofs.lemmas.List.{map-append}
+use Rattle.qh_seam.specs.steps.RingKeys.{facet_in}
+use Rattle.qh_seam.proofs.marked.Marked.list_ring.Goals as goal
+
+pub returns-then-not-is_ring : goal.returns-then-not-is_ring
+returns-then-not-is_ring c = inr (λ r. clash (c.is_ring.ensures r) c.if-not-is_ring.true, refl)
+  where
+    clash : {b : Bool} → b ≡ true → b ≡ false → ⊥
+    clash p q = cc
+
+pub returns : goal.returns
+returns c =
+    let keys = c.args.keys.now.items in let key = c.ring_key.result in
+    inl (ap (map facet_in) c.in_ok-push.ensures.items ∙ map-append facet_in keys (key ∷ [])
+    ∙ ap (λ f. map facet_in keys ++ f ∷ []) c.ring_key.ensures)
