@@ -8,6 +8,6 @@ pub returns : goal.returns
 returns c = λ at ids kept distinct solid keeps each.
     let rising = rw c.deref.ensures.value at c.in_default.ensures in
     let closed = rw c.deref-2.ensures.value at (rw c.in_default-open.is at c.in_ok-open.ensures) in
-    let some = λ (e : length c.args.polygons.items ≡ 0). absurd (omega (arith, e, c.len.ensures, c.if-len-eq0.false)) in
+    let some = λ (e : length c.args.polygons.items ≡ 0). absurd (omega (arith, e, c.len.ensures)) in
     c.in_ok-body.ensures at ids distinct solid
     (closed_faces at ids kept c.args.polygons.items distinct keeps (are_joined at ids kept c.args.polygons.items some each closed)) rising
