@@ -1,0 +1,2 @@
+pub mod Popped
+pub mod Divided

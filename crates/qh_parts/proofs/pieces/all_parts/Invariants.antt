@@ -1,0 +1,12 @@
+-- The parts so far are parts, and so are those in the answers that are left.
+use Rattle.std.proofs.Common.{All, length}
+use Rattle.std.specs.Prelude.{IfOk, IfSome}
+use Rattle.qh_seam.specs.contract.Parts.{IsPartOf}
+use Rattle.qh_parts.proofs.pieces.all_parts.Given as goal
+
+abbrev pub invariant-loop-answer : goal.invariant-loop-answer
+invariant-loop-answer l = All (IsPartOf l.pieces.pts.now l.pieces.shared.now) l.parts.items
+    × All (λ r. IfOk r (λ found. IfSome found (IsPartOf l.pieces.pts.now l.pieces.shared.now))) l.made.items
+
+abbrev pub decreases-loop-answer : goal.decreases-loop-answer
+decreases-loop-answer l = length l.made.items

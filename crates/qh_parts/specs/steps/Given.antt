@@ -1,0 +1,20 @@
+-- Faces that the parts of a set give out.
+-- This project's own.
+use Rattle.std.specs.Prelude.{ℕ, List}
+use Rattle.std.specs.List.{flat_map}
+use Rattle.qh_model.specs.headline.{Vector.Vector, Predicates.place, Sets.In, Sets.Members}
+use Rattle.qh_model.specs.contract.IdSets.{HasDistinctPoints}
+use Rattle.qh_seam_laws.specs.contract.Parts.{IsPartFace}
+use Rattle.qh_seam.specs.declared.parts.Part.{Part}
+use Rattle.qh_parts.specs.declared.given.Given.{Given}
+use Rattle.qh_seam.specs.contract.Parts.{ids_in, KeepsCorners}
+
+-- each polygon is one of a facet that stays in a part, for every set that has the ids of all parts
+abbrev pub AreGiven : List Vector → List ℕ → List Part → List (List ℕ) → Type 0
+AreGiven pts shared parts qs = (ids kept : List ℕ) → HasDistinctPoints (place pts) (Members ids)
+    → ((l : ℕ) → In l (flat_map ids_in parts) → In l ids) → KeepsCorners parts shared kept
+    → (q : List ℕ) → In q qs → IsPartFace (place pts) ids kept q
+
+-- so are the faces of what parts give out
+abbrev pub IsGiven : List Vector → List ℕ → List Part → Given → Type 0
+IsGiven pts shared parts g = AreGiven pts shared parts g.faces.items

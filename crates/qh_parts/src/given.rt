@@ -1,0 +1,119 @@
+//! What the parts of a set give out: their faces that stay, each part's seen to be right by a thread of its own.
+ghost use Rattle.std.specs.Prelude.{All, ◌≡◌, ◌<◌, ◌⊎◌, ℕ, List, IfOk, IfSome, OnOk, length};
+ghost use Rattle.qh_model.specs.headline.Sets.{In};
+ghost use Rattle.qh_seam.specs.contract.Parts.{IsPartOf};
+ghost use Rattle.qh_parts.specs.steps.Given.{IsGiven};
+
+use qh_guess::{Outline, marks_of, outline_of};
+use qh_model::{Id, Memory, Polygon};
+use qh_seam::{Divided, Guess, staying_faces};
+use std::alloc::{AllocError, Global};
+use std::thread::{self, Threads};
+
+/// Faces that stay, and the corners of the facets that go beside them.
+#[derive(Drop)]
+pub(crate) struct Given {
+    pub faces: Vec<Polygon>,
+    pub seam: Vec<Id>,
+}
+
+/// The outlines of all parts, by a thread for each.
+pub(crate) fn outlines_in_threads<R: Threads + Sync>(
+    rt: &R,
+    alloc: Global,
+    set: Divided,
+) -> Result<Vec<Outline>, Memory> {
+    let mut made = thread::map_indices(
+        rt,
+        alloc,
+        set.parts.len(),
+        &move |number: usize| -> Result<Outline, Memory> { outline_of(alloc, set, number) },
+    )?;
+    let mut outlines = Vec::new(alloc);
+    while let Some(outline) = made.pop() {
+        outlines.push(outline?)?;
+    }
+    outlines.reverse();
+    Ok(outlines)
+}
+
+/// What the part with a number gives out, if the guess of it is seen to be right.
+fn given_by(
+    alloc: Global,
+    set: Divided,
+    outlines: &[Outline],
+    number: usize,
+) -> Result<Option<Given>, Memory>
+    requires { All (IsPartOf set.pts.now set.shared.now) set.parts.now }
+    ensures { IfOk result (λ found. IfSome found (IsGiven set.entry.pts.now set.entry.shared.now set.entry.parts.now)) }
+{
+    if number >= set.parts.len() {
+        return Ok(None);
+    }
+    let marks = marks_of(alloc, set, outlines, number)?;
+    let guess = Guess {
+        stay: &marks.stay,
+        runs: &marks.runs,
+    };
+    let Some(faces) = staying_faces(alloc, set, number, guess)? else {
+        return Ok(None);
+    };
+    Ok(Some(Given {
+        faces,
+        seam: marks.seam,
+    }))
+}
+
+/// Adds polygons to a list.
+fn add_all(polygons: &mut Vec<Polygon>, mut others: Vec<Polygon>) -> Result<(), AllocError>
+    ensures { OnOk result ((q : List ℕ) → In q polygons.new.items → In q polygons.old.items ⊎ In q others.items) }
+{
+    while let Some(polygon) = others.pop() {
+        polygons.push(polygon)?;
+    }
+    Ok(())
+}
+
+/// What all parts give out together, if each gives out something.
+fn all_given(
+    alloc: Global,
+    set: Divided,
+    mut made: Vec<Result<Option<Given>, Memory>>,
+) -> Result<Option<Given>, Memory>
+    requires { All (λ r. IfOk r (λ found. IfSome found (IsGiven set.pts.now set.shared.now set.parts.now))) made.items }
+    ensures { IfOk result (λ found. IfSome found (IsGiven set.entry.pts.now set.entry.shared.now set.entry.parts.now)) }
+{
+    let mut faces = Vec::new(alloc);
+    let mut seam = Vec::new(alloc);
+    while let Some(answer) = made.pop() {
+        let found = answer?;
+        let Some(given) = found else {
+            return Ok(None);
+        };
+        add_all(&mut faces, given.faces)?;
+        seam.extend_from_slice(&given.seam)?;
+    }
+    Ok(Some(Given { faces, seam }))
+}
+
+/// What the parts of a set give out, by a thread for each. None where the guess of one is not seen to be right.
+pub(crate) fn given_in_threads<R: Threads + Sync>(
+    rt: &R,
+    alloc: Global,
+    set: Divided,
+    outlines: &[Outline],
+) -> Result<Option<Given>, Memory>
+    requires { All (IsPartOf set.pts.now set.shared.now) set.parts.now }
+    ensures { IfOk result (λ found. IfSome found (IsGiven set.entry.pts.now set.entry.shared.now set.entry.parts.now)) }
+{
+    let made = thread::map_indices(
+        rt,
+        alloc,
+        set.parts.len(),
+        &move |number: usize| -> Result<Option<Given>, Memory>
+            requires { All (IsPartOf set.pts.now set.shared.now) set.parts.now }
+            ensures { IfOk result (λ found. IfSome found (IsGiven set.entry.pts.now set.entry.shared.now set.entry.parts.now)) }
+        { given_by(alloc, set, outlines, number) },
+    )?;
+    all_given(alloc, set, made)
+}

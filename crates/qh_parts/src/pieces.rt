@@ -1,0 +1,86 @@
+//! The parts of a set, each made by a thread of its own.
+ghost use Rattle.std.specs.Prelude.{All, ◌≡◌, ◌<◌, ℕ, List, IfOk, IfSome, IsTrue, length};
+ghost use Rattle.qh_model.specs.contract.IdSets.{AreIndices};
+ghost use Rattle.qh_seam.specs.contract.Parts.{IsPartOf};
+
+use qh_model::{Id, Memory, Point};
+use qh_seam::Part;
+use std::alloc::Global;
+use std::thread::{self, Threads};
+
+/// A list of ids that is cut into pieces of so many, the last perhaps shorter, with ids that belong to every piece.
+#[derive(Clone, Copy, Drop)]
+pub(crate) struct Pieces<'a> {
+    pub pts: &'a [Point],
+    pub listed: &'a [Id],
+    pub shared: &'a [Id],
+    pub size: usize,
+    ghost listed_in: { AreIndices pts.now listed.now },
+    ghost shared_in: { AreIndices pts.now shared.now },
+}
+
+/// Returns true if all ids are indices of points.
+pub(crate) fn are_indices(pts: &[Point], ids: &[Id]) -> bool
+    ensures { IsTrue result → AreIndices pts.now ids.now }
+{
+    for id in ids {
+        if id.index() >= pts.len() {
+            return false;
+        }
+    }
+    true
+}
+
+impl Pieces<'_> {
+    /// The part of the piece with a number, if its points do not lie in one plane.
+    fn part(self, alloc: Global, number: usize) -> Result<Option<Part>, Memory>
+        ensures { IfOk result (λ found. IfSome found (IsPartOf self.entry.pts.now self.entry.shared.now)) }
+    {
+        let from = number.saturating_mul(self.size).min(self.listed.len());
+        let (_, rest) = self.listed.split_at(from);
+        let (own, _) = rest.split_at(self.size.min(rest.len()));
+        let mut ids = Vec::from_slice(alloc, own)?;
+        ids.extend_from_slice(self.shared)?;
+        Part::of(alloc, self.pts, &ids, self.shared)
+    }
+}
+
+/// The parts among answers, if all are there.
+fn all_parts(
+    alloc: Global,
+    pieces: Pieces,
+    mut made: Vec<Result<Option<Part>, Memory>>,
+) -> Result<Option<Vec<Part>>, Memory>
+    requires { All (λ r. IfOk r (λ found. IfSome found (IsPartOf pieces.pts.now pieces.shared.now))) made.items }
+    ensures { IfOk result (λ found. IfSome found (λ v. All (IsPartOf pieces.entry.pts.now pieces.entry.shared.now) v.items)) }
+{
+    let mut parts = Vec::new(alloc);
+    while let Some(answer) = made.pop() {
+        let found = answer?;
+        let Some(part) = found else {
+            return Ok(None);
+        };
+        parts.push(part)?;
+    }
+    Ok(Some(parts))
+}
+
+/// The parts of the first `count` pieces, a thread for each. None where the points of one lie in one plane.
+pub(crate) fn parts_in_threads<R: Threads + Sync>(
+    rt: &R,
+    alloc: Global,
+    pieces: Pieces,
+    count: usize,
+) -> Result<Option<Vec<Part>>, Memory>
+    ensures { IfOk result (λ found. IfSome found (λ v. All (IsPartOf pieces.entry.pts.now pieces.entry.shared.now) v.items)) }
+{
+    let made = thread::map_indices(
+        rt,
+        alloc,
+        count,
+        &move |number: usize| -> Result<Option<Part>, Memory>
+            ensures { IfOk result (λ found. IfSome found (IsPartOf pieces.entry.pts.now pieces.entry.shared.now)) }
+        { pieces.part(alloc, number) },
+    )?;
+    all_parts(alloc, pieces, made)
+}
