@@ -12,6 +12,6 @@ pub returns : goal.returns
 returns g c = λ ids set inside keeps rising are.
     let pts = c.args.set.pts.now in let shared = c.args.set.shared.now in let parts = c.args.set.parts.now in
     let solid = is_solid pts shared ids parts c.requires.parts c.requires.some inside in
-    let given = rw c.in-Some.is at c.in_ok-given.ensures in
-    (rw c.in-Some-joined.is at c.in_ok-joined.ensures) ids c.args.kept.now set.distinct solid are keeps
+    let given = rw c.in-Some-2.is at c.in_ok-given.ensures in
+    (rw c.in-Some-4.is at c.in_ok-joined.ensures) ids c.args.kept.now set.distinct solid are keeps
     (given ids c.args.kept.now set.distinct inside keeps)
