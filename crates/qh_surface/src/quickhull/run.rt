@@ -11,6 +11,7 @@ use crate::quickhull::outside_sets::OutsideSets;
 use crate::quickhull::planes::{SPARE, make_room, renew};
 use crate::quickhull::queue::{enqueue, next_apex};
 use crate::quickhull::settling::{release, settle_orphans};
+use crate::quickhull::turns::Turns;
 use crate::quickhull::walk::Walk;
 use qh_mesh::{FacetNo, Mesh};
 use qh_model::{Id, Memory, Point};
@@ -43,6 +44,8 @@ pub struct Run {
     ring: ConeRing,
     /// The facets that wait for their turn.
     pending: Vec<FacetNo>,
+    /// Whose turn it is.
+    turns: Turns,
     /// How many facets were made so far: what the run costs.
     pub made: usize,
 }
@@ -114,6 +117,7 @@ impl Run {
             walk: Walk::new(alloc),
             ring: ConeRing::new(alloc),
             pending: room_for(alloc, SMALL),
+            turns: Turns::newest(),
             made: 0,
         };
         run.settle(&[
@@ -122,6 +126,8 @@ impl Run {
             FacetNo::new(2),
             FacetNo::new(3),
         ])?;
+        let (first_planes, _) = run.planes.split_at(run.planes.len().min(4));
+        run.turns = Turns::over(first_planes, &run.points);
         Ok(run)
     }
 
@@ -181,7 +187,11 @@ impl Run {
         ensures grown { OnOk result (IsGrown self.old.points.items self.new.mesh) }
         ensures done { OnOk result ((p : ℕ) → p < length self.old.points.items → IsDone self.old.points.items self.new.mesh p) }
     {
-        while let Some((facet, apex)) = next_apex(&mut self.pending, &mut self.sets) {
+        while let Some((facet, apex)) = next_apex(
+            &mut self.pending,
+            &mut self.turns,
+            &mut self.sets,
+        ) {
             self.add(alloc, facet, apex)?;
         }
         Ok(())
