@@ -36,7 +36,7 @@ impl Round {
 /// Its sample and its grid are small, so that they cost little where the set is small, too. Of fewer ids
 /// the sample is a large part.
 pub(crate) const SMALL_ROUND: Round = Round {
-    from: 2_048,
+    from: 8_192,
     sample: 128,
     side_bits: 3,
 };
