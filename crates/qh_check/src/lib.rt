@@ -13,10 +13,14 @@
 mod asking;
 mod claims;
 mod closed;
+mod corner_table;
 mod extent;
+mod face_table;
 mod faces;
 mod findings;
 mod flaw;
+mod found_pieces;
+mod hull_faces;
 mod order;
 mod rounds;
 mod solids;
