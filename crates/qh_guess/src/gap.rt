@@ -5,4 +5,5 @@
 mod edges;
 mod flood;
 
-pub use flood::bridge;
+pub use edges::{Border, border_of};
+pub use flood::{bridge, bridge_over};

@@ -6,10 +6,13 @@ use qh_model::Point;
 use std::alloc::{AllocError, Global};
 
 /// The points of a block of the lowest level, and the blocks of a level in one of the next.
-pub(crate) const BRANCHES: usize = 8;
+const BRANCHES: usize = 8;
 
 /// The binary logarithm of `BRANCHES`.
 const BRANCH_BITS: u32 = 3;
+
+/// The consecutive points that have one direction in which the surface faces there.
+pub(crate) const FACING_TOGETHER: usize = 32;
 
 /// The most levels, of which the highest has one block over 2^24 points.
 const LEVELS: u32 = 8;
@@ -49,7 +52,16 @@ fn size_at(level: u32) -> usize {
     BRANCHES.wrapping_shl(level.wrapping_mul(BRANCH_BITS))
 }
 
-/// The blocks of a level. `ways` has a direction for each block of the lowest one.
+/// The direction of the block of `size` points with a number, where `ways` has one for each `FACING_TOGETHER` of them.
+fn way_at(ways: &[Vector], size: usize, number: usize) -> Vector {
+    if size >= FACING_TOGETHER {
+        return way_of(piece(ways, size / FACING_TOGETHER, number));
+    }
+    let place = size.saturating_mul(number) / FACING_TOGETHER;
+    ways.get(place).copied().unwrap_or(Vector::NONE)
+}
+
+/// The blocks of a level. `ways` has a direction for each `FACING_TOGETHER` points.
 fn level_over(
     alloc: Global,
     points: &[Point],
@@ -63,14 +75,13 @@ fn level_over(
         if own.is_empty() {
             break;
         }
-        let way = way_of(piece(ways, size / BRANCHES, number));
-        blocks.push(Block::around(own, way))?;
+        blocks.push(Block::around(own, way_at(ways, size, number)))?;
     }
     Ok(blocks)
 }
 
 impl Outline {
-    /// The outline over points, with a direction for each `BRANCHES` of them.
+    /// The outline over points, with a direction for each `FACING_TOGETHER` of them.
     pub(crate) fn over(
         alloc: Global,
         points: Vec<Point>,

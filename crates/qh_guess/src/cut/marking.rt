@@ -3,7 +3,7 @@ use crate::cut::cover::Cover;
 use crate::cut::cutting::{Cutting, Others};
 use crate::cut::facets::Facets;
 use crate::cut::rays::Rays;
-use crate::outlines::{BRANCHES, Outline, piece};
+use crate::outlines::{FACING_TOGETHER, Outline, piece};
 use crate::vector::Vector;
 use qh_mesh::FacetNo;
 use qh_model::{Id, Memory, Point};
@@ -45,7 +45,7 @@ fn four_of(set: Divided) -> Option<[Point; 4]> {
     ])
 }
 
-/// For each block of the lowest level the direction in which the surface faces at its middle point.
+/// For each `FACING_TOGETHER` points the direction in which the surface faces at the one in their middle.
 fn ways_out(
     alloc: Global,
     facets: Facets,
@@ -57,7 +57,7 @@ fn ways_out(
         return Ok(ways);
     };
     for number in 0..points.len() {
-        let own = piece(points, BRANCHES, number);
+        let own = piece(points, FACING_TOGETHER, number);
         let Some(point) = own.get(own.len() / 2) else {
             break;
         };

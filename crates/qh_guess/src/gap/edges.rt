@@ -1,5 +1,5 @@
 //! Edges from id to id round polygons, as keys that can be sorted.
-use qh_model::{Id, Polygon};
+use qh_model::{Id, Memory, Polygon};
 use std::alloc::{AllocError, Global};
 
 /// The bits of an id in a key.
@@ -75,30 +75,56 @@ fn marks_of(alloc: Global, count: usize, ids: &[Id]) -> Result<Vec<bool>, AllocE
     Ok(marks)
 }
 
-/// The sorted keys of the edges of polygons between ids of the seam, where `count` is above all ids.
-fn seam_edges(
+/// The border of some polygons to a gap: their edges between ids beside the gap.
+#[derive(Drop)]
+pub struct Border {
+    edges: Vec<u64>,
+    is_empty: bool,
+}
+
+impl Border {
+    /// Whether there are no polygons at all.
+    pub(crate) fn is_empty(&self) -> bool {
+        self.is_empty
+    }
+}
+
+/// The border of polygons that a part gives out, where `seam` has the corners of the facets of the part that go, and `count` is above
+/// all ids.
+///
+/// # Errors
+///
+/// `Memory` where an allocation failed.
+pub fn border_of(
     alloc: Global,
     polygons: &[Polygon],
     count: usize,
     seam: &[Id],
-) -> Result<Vec<u64>, AllocError> {
+) -> Result<Border, Memory> {
     let marks = marks_of(alloc, count, seam)?;
     let mut edges = Vec::new(alloc);
     for polygon in polygons {
         Round::of(polygon).list_marked(&marks, &mut edges)?;
     }
+    Ok(Border {
+        edges,
+        is_empty: polygons.is_empty(),
+    })
+}
+
+/// The sorted keys of the edges of borders.
+fn edges_of(alloc: Global, borders: &[Border]) -> Result<Vec<u64>, AllocError> {
+    let mut edges = Vec::new(alloc);
+    for border in borders {
+        edges.extend_from_slice(&border.edges)?;
+    }
     edges.sort_unstable();
     Ok(edges)
 }
 
-/// The sorted keys of the edges of polygons between ids of the seam that no polygon takes the other way.
-pub(crate) fn open_edges(
-    alloc: Global,
-    polygons: &[Polygon],
-    count: usize,
-    seam: &[Id],
-) -> Result<Vec<u64>, AllocError> {
-    let edges = seam_edges(alloc, polygons, count, seam)?;
+/// The sorted keys of the edges of borders that none takes the other way.
+pub(crate) fn open_edges(alloc: Global, borders: &[Border]) -> Result<Vec<u64>, AllocError> {
+    let edges = edges_of(alloc, borders)?;
     let mut open = Vec::new(alloc);
     for edge in &edges {
         if edges.binary_search(&reverse(*edge)).is_err() {

@@ -2,7 +2,7 @@
 ghost use Rattle.std.specs.Prelude.{IfOk};
 ghost use Rattle.qh_model.specs.contract.IdSets.{AreIndices};
 
-use crate::gap::edges::{Round, open_edges, reverse};
+use crate::gap::edges::{Border, Round, border_of, open_edges, reverse};
 use qh_block::hull;
 use qh_model::{Id, Memory, Point, Polygon};
 use qh_plane::rising_ids;
@@ -152,9 +152,36 @@ fn marked(
     Ok(left)
 }
 
-/// The polygons that close the gap between given ones, by the hull of the ids of the seam: all corners beside the gap.
-/// They begin at their least ids. None where the open edges lead to an edge that no polygon of that hull has. Where nothing is
-/// given, all polygons of that hull are taken.
+/// The polygons that close the gap between borders, by the hull of the ids of the seam: all corners beside the gap. They
+/// begin at their least ids. None where the open edges lead to an edge that no polygon of that hull has. Where no border has a
+/// polygon, all polygons of that hull are taken.
+///
+/// # Errors
+///
+/// `Memory` where an allocation failed.
+pub fn bridge_over(
+    alloc: Global,
+    pts: &[Point],
+    borders: &[Border],
+    seam: &[Id],
+) -> Result<Option<Vec<Polygon>>, Memory> {
+    let rising = rising_ids(alloc, seam)?;
+    let ids = indices_among(alloc, pts, &rising)?;
+    if ids.is_empty() {
+        return Ok(Some(Vec::new(alloc)));
+    }
+    let polygons = hull(alloc, pts, &ids)?.polygons;
+    if borders.iter().all(|border| border.is_empty()) {
+        return Ok(Some(polygons));
+    }
+    let open = open_edges(alloc, borders)?;
+    let Some(marks) = reached(alloc, &polygons, &open)? else {
+        return Ok(None);
+    };
+    Ok(Some(marked(alloc, polygons, &marks)?))
+}
+
+/// The polygons that close the gap between given ones, as [`bridge_over`] finds them.
 ///
 /// # Errors
 ///
@@ -165,18 +192,6 @@ pub fn bridge(
     given: &[Polygon],
     seam: &[Id],
 ) -> Result<Option<Vec<Polygon>>, Memory> {
-    let rising = rising_ids(alloc, seam)?;
-    let ids = indices_among(alloc, pts, &rising)?;
-    if ids.is_empty() {
-        return Ok(Some(Vec::new(alloc)));
-    }
-    let polygons = hull(alloc, pts, &ids)?.polygons;
-    if given.is_empty() {
-        return Ok(Some(polygons));
-    }
-    let open = open_edges(alloc, given, pts.len(), &ids)?;
-    let Some(marks) = reached(alloc, &polygons, &open)? else {
-        return Ok(None);
-    };
-    Ok(Some(marked(alloc, polygons, &marks)?))
+    let borders = [border_of(alloc, given, pts.len(), seam)?];
+    bridge_over(alloc, pts, &borders, seam)
 }
