@@ -17,6 +17,8 @@ pub(crate) struct Round {
     pub from: usize,
     /// The round's sample has about this many ids, spread evenly over the set.
     pub sample: usize,
+    /// The round's grid has 2 to this power columns along each axis.
+    pub side_bits: u32,
 }
 
 impl Round {
@@ -29,12 +31,23 @@ impl Round {
     }
 }
 
+/// The one round of a set too small for the first of two rounds.
+///
+/// Its sample and its grid are small, so that they cost little where the set is small, too. Of fewer ids
+/// the sample is a large part.
+pub(crate) const SMALL_ROUND: Round = Round {
+    from: 8_192,
+    sample: 128,
+    side_bits: 3,
+};
+
 /// The first round goes over all ids, most of which a small sample's hull holds where it holds any.
 ///
 /// Of fewer ids the sample is a large part.
 pub(crate) const FIRST_ROUND: Round = Round {
     from: 50_000,
     sample: 2_048,
+    side_bits: 5,
 };
 
 /// The second round goes over what the first leaves, which lies near the surface of the hull.
@@ -44,7 +57,17 @@ pub(crate) const FIRST_ROUND: Round = Round {
 pub(crate) const SECOND_ROUND: Round = Round {
     from: 32_768,
     sample: 8_192,
+    side_bits: 5,
 };
+
+/// Returns the round that goes over all ids of a set of this length.
+pub(crate) fn round_of_all(count: usize) -> Round {
+    if count < FIRST_ROUND.from {
+        SMALL_ROUND
+    } else {
+        FIRST_ROUND
+    }
+}
 
 /// Threads share the filter's way over at least this many ids.
 pub(crate) const SHARED_FROM: usize = 16_384;

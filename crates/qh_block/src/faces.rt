@@ -164,7 +164,7 @@ pub(crate) fn faces(
         facets: Vec::new(alloc),
         corners: Vec::new(alloc),
     };
-    let mut faces = Vec::new(alloc);
+    let mut faces = Vec::with_capacity(alloc, surface.mesh.places())?;
     for f in surface.mesh.live() {
         if !marks[f.index()] {
             faces.push(new_face(alloc, pts, surface, f, marks, &mut room)?)?;

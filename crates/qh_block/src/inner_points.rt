@@ -17,7 +17,7 @@ mod heights;
 mod sample;
 pub mod sieves;
 
-use crate::blocking::{FIRST_ROUND, Round, SECOND_ROUND, filter_pays};
+use crate::blocking::{Round, SECOND_ROUND, filter_pays, round_of_all};
 use crate::id_set::IdSet;
 use crate::inner_points::columns::Columns;
 use crate::inner_points::sample::{inner_columns, one_of};
@@ -55,7 +55,7 @@ fn outer_ids_once<S: Sieve>(
     }
     let sample = one_of(alloc, ids, round.stride(ids.len()))?;
     let sampled = IdSet { pts, ids: &sample };
-    let Some(columns) = inner_columns(alloc, sampled)? else {
+    let Some(columns) = inner_columns(alloc, sampled, round.side_bits)? else {
         return Ok(None);
     };
     if !hold_most(sampled, &columns) {
@@ -68,15 +68,16 @@ fn outer_ids_once<S: Sieve>(
     Ok(Some(outer))
 }
 
-/// The ids of a large set but those that are found inside, in two rounds; none where the first does not
-/// pay.
+/// The ids of a large set but those that are found inside, in two rounds, or of a smaller one in one; none
+/// where the first does not pay.
 pub fn outer_ids<S: Sieve>(sieve: &S, alloc: Global, set: IdSet) -> Result<Option<Vec<Id>>, Memory>
     requires some { 0 < length set.ids.now }
     requires ready { S.ready sieve.now }
     ensures some { IfOk result (λ found. IfSome found (λ v. 0 < length v.items)) }
     ensures part { IfOk result (λ found. IfSome found (λ v. IsOuterPart set.entry.pts.now set.entry.ids.now v.items)) }
 {
-    let Some(first) = outer_ids_once(sieve, alloc, set, &FIRST_ROUND)? else {
+    let round = round_of_all(set.ids.len());
+    let Some(first) = outer_ids_once(sieve, alloc, set, &round)? else {
         return Ok(None);
     };
     let left = IdSet {

@@ -47,7 +47,7 @@ pub fn solid_mesh(
 fn listed_ids(alloc: Global, polygons: &[Polygon]) -> Result<Vec<Id>, AllocError>
     ensures { IfOk result (λ v. v.items ≡ all_members polygons.now) }
 {
-    let mut ids = Vec::new(alloc);
+    let mut ids = Vec::with_capacity(alloc, polygons.len().saturating_mul(3))?;
     for polygon in polygons {
         ids.extend_from_slice(polygon.ids())?;
     }

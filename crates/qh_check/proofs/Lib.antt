@@ -3,9 +3,11 @@ pub mod ClaimedFaces
 pub mod FaultCases
 pub mod FirstCorners
 pub mod FoundParts
+pub mod HullPieces
 pub mod Listed
 pub mod OrderedPolygons
 pub mod Pieces
+pub mod MetBehind
 pub mod MetLists
 pub mod RepeatedNumbers
 pub mod SortedNumbers

@@ -2,5 +2,7 @@
 pub mod Asking
 pub mod Faces
 pub mod Findings
+pub mod HullFaces
+pub mod Rounds
 pub mod StepKeys
 pub mod Verdicts

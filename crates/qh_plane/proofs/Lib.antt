@@ -7,6 +7,7 @@ pub mod DistinctLists
 pub mod KeysBelow
 pub mod PlaceLists
 pub mod RepeatedIds
+pub mod SharedSlots
 pub mod KeptIds
 pub mod SeenPlaces
 pub mod PlaneDirections

@@ -125,11 +125,11 @@ below_next q i h = by_cases (cases_lt q i)
 hash_small : (n : ℕ) → n % 2 ^ 64 / ID_ROOM < NO_HASH
 hash_small n = omega arith
 
-place_hash_small : (p : Vector) → place_hash p < NO_HASH
+pub place_hash_small : (p : Vector) → place_hash p < NO_HASH
 unfolding place_hash
 place_hash_small p = hash_small (place_number p * MIXER)
 
-part_small : (h n : ℕ) → h < NO_HASH → 0 < n → h * n / NO_HASH < n
+pub part_small : (h n : ℕ) → h < NO_HASH → 0 < n → h * n / NO_HASH < n
 part_small h n l some = (div-lt_iff_lt-mul (omega arith)).1 (other_way (h * n) (mul-lt-mul_of_pos_right l some))
   where
     other_way : (q : ℕ) → q < NO_HASH * n → q < n * NO_HASH

@@ -7,3 +7,4 @@ pub mod HashedKeys
 pub mod Repeats
 pub mod InnerPlaces
 pub mod SortedPoints
+pub mod SharedSlots

@@ -19,6 +19,7 @@ mod planar;
 mod ranking;
 mod repeats;
 mod shape;
+mod shared_slots;
 mod sorted_points;
 
 pub use distinct_points::{distinct, distinct_alone, distinct_in_threads};

@@ -7,10 +7,17 @@ ghost use Rattle.qh_plane.specs.steps.Repeats.{AreRepeats, AreAllRepeats};
 
 use crate::hash_parts::Part;
 use crate::hashed_keys::{ID_ROOM, hash_in, hashed_keys, id_in, is_repeat};
+use crate::shared_slots::{keys_in_slots, shared_slots};
 use qh_model::{Id, POINT_LIMIT, Point};
 use rayon::slice::par_sort_unstable;
 use std::alloc::{AllocError, Global};
 use std::thread::Threads;
+
+/// From so many points on, few of which share a slot, a table saves time.
+const TABLE_FROM: usize = 64;
+
+/// The table of more points than this lies outside of a processor's own memory, and a sort is as fast.
+const TABLE_TO: usize = 65_536;
 
 /// The ids of the keys that repeat the one before, of rising keys; none where one hash has different
 /// points past its first two keys.
@@ -31,14 +38,40 @@ fn repeats_told(alloc: Global, pts: &[Point], keys: &[u64]) -> Result<Option<Vec
     Ok(Some(repeats))
 }
 
-/// The ids of all points that stand before; none where too many have one hash.
-pub fn repeats_of_all(alloc: Global, pts: &[Point]) -> Result<Option<Vec<Id>>, AllocError>
+/// The ids of all points that stand before, by a sort of all keys; none where too many have one hash.
+fn repeats_of_keys(alloc: Global, pts: &[Point]) -> Result<Option<Vec<Id>>, AllocError>
     requires { length pts.now ≤ POINT_LIMIT }
     ensures { IfOk result (λ found. IfSome found (λ v. AreAllRepeats pts.now v.items)) }
 {
     let mut keys = hashed_keys(alloc, pts)?;
     keys.sort_unstable();
     repeats_told(alloc, pts, &keys)
+}
+
+/// The ids of all points that stand before, by a sort of the keys that share a slot of a table; none where too
+/// many have one hash.
+fn repeats_in_slots(alloc: Global, pts: &[Point]) -> Result<Option<Vec<Id>>, AllocError>
+    requires some { 0 < length pts.now }
+    requires few { length pts.now ≤ TABLE_TO }
+    ensures { IfOk result (λ found. IfSome found (λ v. AreAllRepeats pts.now v.items)) }
+{
+    let shared = shared_slots(alloc, pts)?;
+    let mut keys = keys_in_slots(alloc, pts, &shared)?;
+    keys.sort_unstable();
+    repeats_told(alloc, pts, &keys)
+}
+
+/// The ids of all points that stand before; none where too many have one hash.
+pub fn repeats_of_all(alloc: Global, pts: &[Point]) -> Result<Option<Vec<Id>>, AllocError>
+    requires { length pts.now ≤ POINT_LIMIT }
+    ensures { IfOk result (λ found. IfSome found (λ v. AreAllRepeats pts.now v.items)) }
+{
+    let count = pts.len();
+    if TABLE_FROM <= count && count <= TABLE_TO {
+        repeats_in_slots(alloc, pts)
+    } else {
+        repeats_of_keys(alloc, pts)
+    }
 }
 
 /// The ids of all points that stand before, by a sort of all keys by the threads of a runtime; none where too many

@@ -4,7 +4,7 @@
 //! and its mesh has positions as corners. At its end they get the ids as their names (`surfaces`). A
 //! large set is taken in an order that keeps near points together (`near_order`).
 //! Each point that is not settled stands in the outside set of a facet that it is above
-//! (`outside_sets`), and the facets that have one wait for their turn (`queue`). In a round the first
+//! (`outside_sets`), and the facets that have one wait for their turn (`queue`, `turns`). In a round the first
 //! point of the next facet's set is the apex; a walk over twins finds the facets that it sees
 //! (`walk`), and its cone replaces them. The points of the facets that went are tested against the new
 //! facets alone: one that is above none of these is above none at all (`settling`, `planes`). A cone of
@@ -27,6 +27,7 @@ mod settling;
 mod surfaces;
 #[cfg(test)]
 mod tests;
+mod turns;
 mod walk;
 
 pub use ends::ends_of;

@@ -7,14 +7,11 @@ ghost use Rattle.qh_block.specs.steps.InnerPoints.{IsCellOf, HoldsPoint};
 use crate::id_set::IdSet;
 use crate::inner_points::bounds::Bounds;
 use crate::inner_points::cells::Cell;
-use crate::inner_points::grid::{Grid, SIDE_BITS, Square};
+use crate::inner_points::grid::{Grid, Square};
 use crate::inner_points::heights::Heights;
 use qh_model::{Memory, Point};
 use qh_pred::Plane;
 use std::alloc::{AllocError, Global};
-
-/// How many cells the columns have: three each.
-const CELLS: usize = 3 << (2 * SIDE_BITS);
 
 /// The planes of a hull, and the cells of the columns of a grid between them, quarter by quarter: of each column
 /// first the middle, then what is above it, then what is below.
@@ -104,15 +101,21 @@ fn push_square(
 }
 
 impl Columns {
-    /// The columns over the points of ids, with their cells between planes.
-    pub fn between(alloc: Global, planes: Vec<Plane>, set: IdSet) -> Result<Columns, Memory>
+    /// The columns over the points of ids, 2 to a power along each axis, with their cells between planes.
+    pub fn between(
+        alloc: Global,
+        planes: Vec<Plane>,
+        set: IdSet,
+        side_bits: u32,
+    ) -> Result<Columns, Memory>
         ensures planes { IfOk result (λ c. c.planes.items ≡ planes.items) }
         ensures cells { IfOk result (λ c. All (IsCellOf c.planes.items) c.cells.items) }
     {
-        let grid = Grid::over(set);
+        let grid = Grid::over(set, side_bits);
         let whole = Cell::whole(alloc, planes.len())?;
-        let mut cells = Vec::with_capacity(alloc, CELLS)?;
-        push_square(alloc, &planes, &grid, &Square::whole(), &whole, &mut cells)?;
+        let square = Square::whole(side_bits);
+        let mut cells = Vec::with_capacity(alloc, square.columns().saturating_mul(3))?;
+        push_square(alloc, &planes, &grid, &square, &whole, &mut cells)?;
         Ok(Columns {
             grid,
             planes,

@@ -7,9 +7,6 @@ use crate::inner_points::bounds::Bounds;
 use qh_model::{COORDINATE_LIMIT, Point};
 use qh_pred::point_at;
 
-/// The grid has 2 to this power columns along each axis.
-pub const SIDE_BITS: u32 = 5;
-
 /// Where columns stand: from the least x and y on, each 2 to a power wide.
 #[derive(Clone, Copy, Drop)]
 pub struct Grid {
@@ -42,13 +39,18 @@ fn spread(halves: u32) -> u32 {
 }
 
 impl Square {
-    /// All columns.
-    pub fn whole() -> Square {
+    /// All columns, 2 to a power along each axis.
+    pub fn whole(side_bits: u32) -> Square {
         Square {
             x: 0,
             y: 0,
-            bits: SIDE_BITS,
+            bits: side_bits,
         }
+    }
+
+    /// How many columns it has.
+    pub fn columns(&self) -> usize {
+        1usize.wrapping_shl(self.bits.saturating_mul(2))
     }
 
     /// One of the four squares in it, by the two bits of its number, with a side of this length.
@@ -65,8 +67,8 @@ impl Square {
 }
 
 impl Grid {
-    /// The grid over the points of ids.
-    pub fn over(set: IdSet) -> Grid {
+    /// The grid over the points of ids, with 2 to a power columns along each axis.
+    pub fn over(set: IdSet, side_bits: u32) -> Grid {
         let (mut west, mut east) = (i32::MAX, i32::MIN);
         let (mut south, mut north) = (i32::MAX, i32::MIN);
         for id in set.ids {
@@ -81,7 +83,7 @@ impl Grid {
         Grid {
             west,
             south,
-            width_bits: bits.saturating_sub(SIDE_BITS),
+            width_bits: bits.saturating_sub(side_bits),
         }
     }
 

@@ -51,9 +51,13 @@ fn rise(ids: &[Id]) -> bool
     true
 }
 
-/// The columns inside the hull of a sample; none where it lies in a plane or does not rise, or where it
-/// has facets so many that few ids can be inside.
-pub fn inner_columns(alloc: Global, sample: IdSet) -> Result<Option<Columns>, Memory>
+/// The columns inside the hull of a sample, 2 to a power along each axis; none where it lies in a plane or
+/// does not rise, or where it has facets so many that few ids can be inside.
+pub fn inner_columns(
+    alloc: Global,
+    sample: IdSet,
+    side_bits: u32,
+) -> Result<Option<Columns>, Memory>
     requires { 0 < length sample.ids.now }
     ensures { IfOk result (λ found. IfSome found (AreInner sample.entry.pts.now sample.entry.ids.now)) }
 {
@@ -68,5 +72,7 @@ pub fn inner_columns(alloc: Global, sample: IdSet) -> Result<Option<Columns>, Me
     if !sample_pays(planes.len(), sample.ids.len()) {
         return Ok(None);
     }
-    Ok(Some(Columns::between(alloc, planes, sample)?))
+    Ok(Some(Columns::between(
+        alloc, planes, sample, side_bits,
+    )?))
 }

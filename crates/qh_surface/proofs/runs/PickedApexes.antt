@@ -1,5 +1,5 @@
 -- The next apex: facets without an outside set are passed over, and the first point of a set is taken out of it.
-use Rattle.std.proofs.Common.{◌≡◌, ℕ, ◌<◌, arith, ap, sym, ◌∙◌, refl, ◌⊎◌, ⊎_elim, inl, inr, Some, List, [], ◌∷◌, ◌++◌, All, length, drop}
+use Rattle.std.proofs.Common.{◌≡◌, ℕ, ◌<◌, arith, ap, sym, ◌∙◌, refl, ◌⊎◌, ⊎_elim, inl, inr, List, [], ◌∷◌, All, length, drop}
 use Rattle.std.proofs.Common.{subst, slice_set, length-set}
 use Rattle.std.proofs.lemmas.{Grind.common_steps, List.set-get_or}
 use Rattle.qh_model.specs.headline.{Vector.Vector, Sets.In}
@@ -7,8 +7,10 @@ use Rattle.qh_model.specs.contract.StoredSurface.{StoredFacet}
 use Rattle.qh_pred.specs.contract.Planes.{PlaneValue}
 use Rattle.qh_surface.specs.steps.OutsideSets.{OutsideValue, set_of}
 use Rattle.qh_surface.specs.steps.Runs.{IsDone, IsOutside, IsUnderWay, IsPicked}
-use Rattle.qh_model.proofs.lists.Joined.{of_append}
-use Rattle.std.proofs.lemmas.List.Elements.{All-pop}
+use Rattle.std.proofs.lemmas.List.Elements.{All-head, All-tail}
+use Rattle.std.proofs.lemmas.List.Sorted.{All-permutation}
+use Rattle.std.specs.Prelude.{IsPermutation}
+use Rattle.qh_model.proofs.Members.{in_permutation}
 use Rattle.qh_surface.proofs.runs.SetWrites.{of_write}
 
 -- the sets without the first point of the set at f
@@ -26,13 +28,14 @@ none_taken v f e =
     λ i. record { positions = v.positions; orphans = v.orphans; sets = same i }
 
 module _ {pts : List Vector} {fs : List StoredFacet} {ps : List PlaneValue} {v : OutsideValue} {pending : List ℕ}
-    (k : IsUnderWay pts fs ps v pending) (rest : List ℕ) (f : ℕ) (is : pending ≡ rest ++ f ∷ []) where
+    (k : IsUnderWay pts fs ps v pending) (rest : List ℕ) (f : ℕ) (is : IsPermutation pending (f ∷ rest)) where
   range : All (λ g. g < length v.sets) rest × (f < length v.sets)
-  range = All-pop (λ g. g < length v.sets) pending rest (Some f) is k.range
+  range =
+      let all = All-permutation (λ g. g < length v.sets) pending (f ∷ rest) is k.range in
+      (All-tail (λ g. g < length v.sets) f rest all, All-head (λ g. g < length v.sets) f rest all)
 
   waits : (g p : ℕ) → In p (set_of v g) → In g rest ⊎ (g ≡ f)
-  waits g p i = elim (of_append rest (f ∷ []) g (subst (In g) is (k.waits g p i)))
-      [ inl n ↦ inl n | inr (inl e) ↦ inr e | inr (inr h) ↦ absurd h ]
+  waits g p i = elim (in_permutation pending (f ∷ rest) is g (k.waits g p i)) [ inl e ↦ inr e | inr n ↦ inl n ]
 
   -- a facet whose set is empty need not wait
   pub passed_over : set_of v f ≡ [] → IsUnderWay pts fs ps v rest

@@ -16,7 +16,7 @@ use qh_model::{Id, Point};
 use qh_pred::{Plane, cross, point_at, vol};
 
 /// For each corner about so many ids are looked at, spread over all: those of a large set are as far apart.
-const LOOKED_AT: usize = 16_384;
+const LOOKED_AT: usize = 1_024;
 
 /// Four ids, or four positions of them, whose points are not in one plane: the corners of a first simplex.
 #[derive(Clone, Copy, Drop)]

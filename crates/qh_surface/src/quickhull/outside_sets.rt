@@ -112,6 +112,13 @@ impl OutsideSets {
         })
     }
 
+    /// Asks for room for the sets of so many more facets. Where it is refused, they grow step by step.
+    pub fn ask_for_room(&mut self, facets: usize)
+        ensures { self.new ≡ self.old }
+    {
+        let _ = self.ends.reserve(facets);
+    }
+
     /// Takes the memory for sets of so many more facets; nothing else changes.
     ///
     /// `Err` says that memory was refused.

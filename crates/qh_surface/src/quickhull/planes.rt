@@ -16,7 +16,7 @@ use qh_pred::{Plane, point_at};
 use std::alloc::AllocError;
 
 /// Room is made for so many places more than are asked for, so that few rounds make any.
-const SPARE: usize = 64;
+pub const SPARE: usize = 64;
 
 /// The plane of a live facet, whose corners are positions of the points: a point is above it where it strictly sees the
 /// facet.

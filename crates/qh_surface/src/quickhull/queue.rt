@@ -1,4 +1,4 @@
-//! The facets that wait for their turn, the last one first.
+//! The facets that wait for their turn.
 ghost use Rattle.std.specs.Prelude.{All, ◌≡◌, ◌+◌, ◌<◌, ◌≤◌, ◌⊎◌, ℕ, List, [], ◌∷◌, ◌++◌, length, OnOk, IfNone, IfSome};
 ghost use Rattle.std.specs.Prelude.{vec_len, vec_capacity};
 ghost use Rattle.qh_model.specs.headline.Vector.{Vector};
@@ -9,6 +9,7 @@ ghost use Rattle.qh_surface.specs.steps.OutsideSets.{set_of, listed};
 ghost use Rattle.qh_surface.specs.steps.Runs.{IsDone, IsUnderWay, IsPicked};
 
 use crate::quickhull::outside_sets::OutsideSets;
+use crate::quickhull::turns::Turns;
 use qh_mesh::FacetNo;
 use std::alloc::AllocError;
 
@@ -48,7 +49,11 @@ pub fn enqueue(
 
 /// The next facet that has an outside set, and the first point of that set, which leaves all sets.
 /// Facets without one are passed over.
-pub fn next_apex(pending: &mut Vec<FacetNo>, sets: &mut OutsideSets) -> Option<(FacetNo, u32)>
+pub fn next_apex(
+    pending: &mut Vec<FacetNo>,
+    turns: &mut Turns,
+    sets: &mut OutsideSets,
+) -> Option<(FacetNo, u32)>
     requires { All (λ f. f < length sets.old.sets) pending.old.items }
     ensures done { IfNone result ((pts : List Vector) (fs : List StoredFacet) (ps : List PlaneValue)
         → IsUnderWay pts fs ps sets.old pending.old.items → (p : ℕ) → p < length pts → IsDone pts fs p) }
@@ -56,7 +61,8 @@ pub fn next_apex(pending: &mut Vec<FacetNo>, sets: &mut OutsideSets) -> Option<(
         → IsUnderWay pts fs ps sets.old pending.old.items → IsPicked pts fs ps sets.new pending.new.items next.0 next.1) }
     ensures listed { IfSome result (λ _. listed sets.new + 1 ≡ listed sets.old) }
 {
-    while let Some(facet) = pending.pop() {
+    while pending.len() > 0 {
+        let facet = pending.swap_remove(turns.next(pending.len()));
         if let Some(apex) = sets.take_first(facet) {
             return Some((facet, apex));
         }

@@ -8,9 +8,10 @@ ghost use Rattle.qh_surface.specs.steps.Runs.{IsDone, IsGrown, IsUnderWay, IsPic
 use crate::quickhull::cone_ring::{ConeRing, SCANNED};
 use crate::quickhull::far_simplex::Simplex;
 use crate::quickhull::outside_sets::OutsideSets;
-use crate::quickhull::planes::{make_room, renew};
+use crate::quickhull::planes::{SPARE, make_room, renew};
 use crate::quickhull::queue::{enqueue, next_apex};
 use crate::quickhull::settling::{release, settle_orphans};
+use crate::quickhull::turns::Turns;
 use crate::quickhull::walk::Walk;
 use qh_mesh::{FacetNo, Mesh};
 use qh_model::{Id, Memory, Point};
@@ -19,6 +20,9 @@ use std::alloc::Global;
 
 /// From so many points on, a run asks for room for all its facets at once.
 const LARGE: usize = 262_144;
+
+/// Any other run asks for room for the facets of so many points, which most runs over few points need.
+const SMALL: usize = 32;
 
 /// A mesh over points has at most two facets for each, and one more is room to spare.
 const PLACES_EACH: usize = 3;
@@ -40,26 +44,29 @@ pub struct Run {
     ring: ConeRing,
     /// The facets that wait for their turn.
     pending: Vec<FacetNo>,
+    /// Whose turn it is.
+    turns: Turns,
     /// How many facets were made so far: what the run costs.
     pub made: usize,
 }
 
 /// For how many places a run over so many points asks at its start.
 fn places_asked(points: usize) -> usize {
-    if points < LARGE {
-        0
+    let asked_for = if points < LARGE {
+        points.min(SMALL)
     } else {
-        points.saturating_mul(PLACES_EACH)
-    }
+        points
+    };
+    asked_for.saturating_mul(PLACES_EACH)
 }
 
-/// No planes yet, with room for so many, where it is not refused.
-fn room_for(alloc: Global, places: usize) -> Vec<Plane>
+/// An empty list with room for so many items, where it is not refused.
+fn room_for<T>(alloc: Global, items: usize) -> Vec<T>
     ensures { result.items ≡ [] }
 {
-    let mut planes = Vec::new(alloc);
-    let _ = planes.reserve(places);
-    planes
+    let mut list = Vec::new(alloc);
+    let _ = list.reserve(items);
+    list
 }
 
 /// Takes the memory that a round needs after its mesh has changed: the cone over the horizon of so
@@ -100,14 +107,17 @@ impl Run {
         let mut mesh = Mesh::simplex(alloc, &points, first.i, first.j, first.k, first.l)?;
         let places = places_asked(points.len());
         mesh.ask_for_room(places);
+        let mut sets = OutsideSets::new(alloc, positions)?;
+        sets.ask_for_room(places.saturating_add(SPARE));
         let mut run = Run {
             mesh,
             points,
-            planes: room_for(alloc, places),
-            sets: OutsideSets::new(alloc, positions)?,
+            planes: room_for(alloc, places.saturating_add(SPARE)),
+            sets,
             walk: Walk::new(alloc),
             ring: ConeRing::new(alloc),
-            pending: Vec::new(alloc),
+            pending: room_for(alloc, SMALL),
+            turns: Turns::newest(),
             made: 0,
         };
         run.settle(&[
@@ -116,6 +126,8 @@ impl Run {
             FacetNo::new(2),
             FacetNo::new(3),
         ])?;
+        let (first_planes, _) = run.planes.split_at(run.planes.len().min(4));
+        run.turns = Turns::over(first_planes, &run.points);
         Ok(run)
     }
 
@@ -175,7 +187,11 @@ impl Run {
         ensures grown { OnOk result (IsGrown self.old.points.items self.new.mesh) }
         ensures done { OnOk result ((p : ℕ) → p < length self.old.points.items → IsDone self.old.points.items self.new.mesh p) }
     {
-        while let Some((facet, apex)) = next_apex(&mut self.pending, &mut self.sets) {
+        while let Some((facet, apex)) = next_apex(
+            &mut self.pending,
+            &mut self.turns,
+            &mut self.sets,
+        ) {
             self.add(alloc, facet, apex)?;
         }
         Ok(())

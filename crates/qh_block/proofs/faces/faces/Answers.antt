@@ -14,7 +14,7 @@ loop-f-init c =
     let same : length (named surface) ≡ length surface.mesh = length-map surface.mesh (named_facet (name_in surface.ids.items)) in
     let long : length c.as_mut_slice-marks.result.now ≡ length surface.mesh =
     ap (λ (xs : List Bool). length xs) items ∙ c.in_ok-places.ensures.len ∙ c.places.ensures in
-    rw (c.into_iter-f-iterator.ensures.into_iter_gives ∙ c.live-f-items.ensures ∙ sym (names surface).live, c.new-faces.ensures.items)
+    rw (c.into_iter-f-iterator.ensures.into_iter_gives ∙ c.live-f-items.ensures ∙ sym (names surface).live, c.in_ok-faces.ensures.items)
     (gathering_starts c.args.pts.now (named surface) c.as_mut_slice-marks.result.now
     (subst (λ (xs : List Bool). (f : ℕ) → mark_at xs f ≡ false) (sym items) c.in_ok-places.ensures.none) (omega (arith, same, long)))
 

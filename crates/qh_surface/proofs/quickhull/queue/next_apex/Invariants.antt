@@ -6,8 +6,8 @@ use Rattle.qh_pred.specs.contract.Planes.{PlaneValue}
 use Rattle.qh_surface.specs.steps.Runs.{IsUnderWay}
 use Rattle.qh_surface.proofs.quickhull.queue.next_apex.Given as goal
 
-abbrev pub invariant-loop-facet : goal.invariant-loop-facet
-invariant-loop-facet l = record {
+abbrev pub invariant-loop-pending : goal.invariant-loop-pending
+invariant-loop-pending l = record {
   within : All (λ f. f < length l.sets.sets) l.pending.items;
   same : l.sets ≡ l.initial.sets;
   under_way : (pts : List Vector) (fs : List StoredFacet) (ps : List PlaneValue)
@@ -15,5 +15,5 @@ invariant-loop-facet l = record {
       → IsUnderWay pts fs ps l.sets l.pending.items;
 }
 
-abbrev pub decreases-loop-facet : goal.decreases-loop-facet
-decreases-loop-facet l = length l.pending.items
+abbrev pub decreases-loop-pending : goal.decreases-loop-pending
+decreases-loop-pending l = length l.pending.items

@@ -24,9 +24,9 @@ first c = record {
 pub settle-requires-clause-remade : goal.settle-requires-clause-remade
 settle-requires-clause-remade c =
     let count = c.in-Ok.ensures.1 ∙ c.len.ensures ∙ c.args.points.ok.0 in
-    let pts = c.args.points.items in let fs = c.in_ok-mesh.mesh in let v = c.in_ok-new.field-0 in let s = c.args.first in
-    rw (c.ask_for_room.ensures, c.new-5.ensures, c.new-6.ensures, c.new-7.ensures, c.new-8.ensures)
-    (subst (λ (ps : List PlaneValue). IsRemade pts fs ps v c.new-4.result.items four_facets) (sym c.room_for.ensures)
-    (subst (λ (ns : List ℕ). IsRemade pts fs [] v ns four_facets) (sym c.new-4.ensures.items)
+    let pts = c.args.points.items in let fs = c.in_ok-mesh.mesh in let v = c.in_ok-sets.sets in let s = c.args.first in
+    rw (c.ask_for_room.ensures, c.ask_for_room-2.ensures, c.new-4.ensures, c.new-5.ensures, c.new-6.ensures, c.new-7.ensures)
+    (subst (λ (ps : List PlaneValue). IsRemade pts fs ps v c.room_for-2.result.items four_facets) (sym c.room_for.ensures)
+    (subst (λ (ns : List ℕ). IsRemade pts fs [] v ns four_facets) (sym c.room_for-2.ensures)
     (first_remade pts fs v s.i s.j s.k s.l (first c)
-    (c.in_ok-new.ensures.positions ∙ count) (c.in_ok-new.ensures.orphans ∙ ap (range_with_len 0) count) c.in_ok-new.ensures.sets)))
+    (c.in_ok-sets.ensures.positions ∙ count) (c.in_ok-sets.ensures.orphans ∙ ap (range_with_len 0) count) c.in_ok-sets.ensures.sets)))

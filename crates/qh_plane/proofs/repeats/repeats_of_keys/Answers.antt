@@ -3,7 +3,7 @@ use Rattle.std.proofs.lemmas.Option.{IfSome_then}
 use Rattle.std.proofs.lemmas.Result.{IfOk-weaker}
 use Rattle.qh_plane.proofs.PlaceLists.{sorted_within, sorted_repeats}
 use Rattle.qh_plane.specs.steps.HashedKeys.{AllHashes}
-use Rattle.qh_plane.proofs.repeats.repeats_of_all.Goals as goal
+use Rattle.qh_plane.proofs.repeats.repeats_of_keys.Goals as goal
 
 pub repeats_told-requires : goal.repeats_told-requires
 repeats_told-requires c =

@@ -1,0 +1,58 @@
+//! Blocks of points: a box, and how far its points reach along a direction in which the surface faces there.
+use crate::vector::Vector;
+use qh_model::Point;
+
+/// Points between two corners of a box, told by its middle and half its extents, that reach no further than `reach` beyond the
+/// middle along a direction of length 1.
+#[derive(Clone, Copy, Drop)]
+pub(crate) struct Block {
+    pub middle: Vector,
+    pub half: Vector,
+    pub way: Vector,
+    pub reach: f64,
+}
+
+/// The corners of a box: the least and the greatest coordinates of points.
+#[derive(Clone, Copy, Drop)]
+struct Bounds {
+    low: Vector,
+    high: Vector,
+}
+
+impl Bounds {
+    /// The bounds of points.
+    fn around(points: &[Point]) -> Bounds {
+        let [mut west, mut south, mut bottom] = [i32::MAX; 3];
+        let [mut east, mut north, mut top] = [i32::MIN; 3];
+        for point in points {
+            west = west.min(point.x());
+            east = east.max(point.x());
+            south = south.min(point.y());
+            north = north.max(point.y());
+            bottom = bottom.min(point.z());
+            top = top.max(point.z());
+        }
+        Bounds {
+            low: Vector::of(west, south, bottom),
+            high: Vector::of(east, north, top),
+        }
+    }
+}
+
+impl Block {
+    /// The block of points for a direction of length 1, or none.
+    pub fn around(points: &[Point], way: Vector) -> Block {
+        let bounds = Bounds::around(points);
+        let middle = bounds.high.plus(bounds.low).times(0.5);
+        let mut reach = -f64::INFINITY;
+        for point in points {
+            reach = reach.max(way.dot(Vector::to(*point).minus(middle)));
+        }
+        Block {
+            middle,
+            half: bounds.high.minus(bounds.low).times(0.5),
+            way,
+            reach,
+        }
+    }
+}

@@ -1,0 +1,176 @@
+//! The facets of a part that go and those that stay, as they are found.
+use crate::cut::facets::Facets;
+use crate::outlines::Outline;
+use crate::sights::Sight;
+use qh_mesh::FacetNo;
+use qh_model::Point;
+use std::alloc::{AllocError, Global};
+
+/// What is known of a facet.
+#[derive(Clone, Copy, Debug, PartialEq, Eq, Drop)]
+pub(crate) enum State {
+    /// Nothing yet: it stays, if nothing more is found.
+    Unasked,
+    /// All points of the others are strictly below it.
+    Stays,
+    /// A point of the others is above it or in its plane, or all parts have it.
+    Goes,
+}
+
+/// The outlines of all parts, with the number of the one that is asked about.
+#[derive(Clone, Copy, Drop)]
+pub(crate) struct Others<'a> {
+    pub outlines: &'a [Outline],
+    pub number: usize,
+}
+
+/// The facets of a part, with what is known of each.
+#[derive(Drop)]
+pub(crate) struct Cutting<'a> {
+    facets: Facets<'a>,
+    others: Others<'a>,
+    states: Vec<State>,
+    /// The facets that go.
+    gone: Vec<FacetNo>,
+    /// Facets beside such that go, to be asked.
+    waiting: Vec<FacetNo>,
+    /// The facets of a plane.
+    plane: Vec<FacetNo>,
+}
+
+impl Others<'_> {
+    /// Whether the corners of all other parts are strictly below a plane.
+    pub fn are_below(&self, sight: &Sight) -> bool {
+        for other in 0..self.outlines.len() {
+            if other != self.number && !self.outlines[other].is_below(sight) {
+                return false;
+            }
+        }
+        true
+    }
+}
+
+impl<'a> Cutting<'a> {
+    /// The facets of a part, of which nothing is known.
+    pub fn start(
+        alloc: Global,
+        facets: Facets<'a>,
+        others: Others<'a>,
+    ) -> Result<Cutting<'a>, AllocError> {
+        Ok(Cutting {
+            facets,
+            others,
+            states: vec![in alloc; State::Unasked; facets.places()]?,
+            gone: Vec::new(alloc),
+            waiting: Vec::new(alloc),
+            plane: Vec::new(alloc),
+        })
+    }
+
+    /// What is known of a facet.
+    pub fn state(&self, f: FacetNo) -> State {
+        match self.states.get(f.index()) {
+            Some(state) => *state,
+            None => State::Unasked,
+        }
+    }
+
+    /// The facets that go.
+    pub fn gone(&self) -> &[FacetNo] {
+        &self.gone
+    }
+
+    /// Adds a facet to those of the plane whose state is set.
+    fn enter(&mut self, f: FacetNo, state: State) -> Result<(), AllocError> {
+        if let Some(known) = self.states.get_mut(f.index()) {
+            *known = state;
+        }
+        if state == State::Goes {
+            self.gone.push(f)?;
+        }
+        self.plane.push(f)?;
+        Ok(())
+    }
+
+    /// Goes on from a facet to its neighbours: those of the plane get the state, and others wait where the plane goes.
+    fn spread(&mut self, f: FacetNo, corners: [Point; 3], state: State) -> Result<(), AllocError> {
+        let sight = Sight::of(corners);
+        for side in 0..3 {
+            let Some(beyond) = self.facets.across(f, side) else {
+                continue;
+            };
+            let known = self.state(beyond.facet);
+            if known == state {
+                continue;
+            }
+            if sight.meets(beyond.opposite) {
+                self.enter(beyond.facet, state)?;
+            } else if state == State::Goes && known == State::Unasked {
+                self.waiting.push(beyond.facet)?;
+            }
+        }
+        Ok(())
+    }
+
+    /// Sets the state of all facets in the plane of one.
+    pub fn settle(&mut self, f: FacetNo, state: State) -> Result<(), AllocError> {
+        let Some(corners) = self.facets.corners(f) else {
+            return Ok(());
+        };
+        self.plane.clear();
+        self.enter(f, state)?;
+        for place in 0..self.states.len() {
+            let Some(next) = self.plane.get(place).copied() else {
+                break;
+            };
+            self.spread(next, corners, state)?;
+        }
+        Ok(())
+    }
+
+    /// Lets a facet go, with its plane, if it has not gone yet.
+    pub fn drop_facet(&mut self, f: FacetNo) -> Result<(), AllocError> {
+        if self.state(f) == State::Goes {
+            return Ok(());
+        }
+        self.settle(f, State::Goes)
+    }
+
+    /// Asks whether a facet stays, if nothing is known of it.
+    pub fn ask(&mut self, f: FacetNo) -> Result<(), AllocError> {
+        if self.state(f) != State::Unasked {
+            return Ok(());
+        }
+        let Some(sight) = self.facets.sight(f) else {
+            return Ok(());
+        };
+        let state = if self.others.are_below(&sight) {
+            State::Stays
+        } else {
+            State::Goes
+        };
+        self.settle(f, state)
+    }
+
+    /// Asks the facets that wait, and those that come to wait meanwhile.
+    pub fn ask_waiting(&mut self) -> Result<(), AllocError> {
+        for _ in 0..self.states.len().saturating_mul(4) {
+            let Some(f) = self.waiting.pop() else {
+                break;
+            };
+            self.ask(f)?;
+        }
+        Ok(())
+    }
+
+    /// A mark for each place: whether a facet stays there.
+    pub fn marks(&self, alloc: Global) -> Result<Vec<bool>, AllocError> {
+        let mut stay = Vec::with_capacity(alloc, self.states.len())?;
+        for place in 0..self.states.len() {
+            let f = FacetNo::new(place);
+            let stays = self.states[place] != State::Goes && self.facets.is_live(f);
+            stay.push(stays)?;
+        }
+        Ok(stay)
+    }
+}

@@ -1,0 +1,100 @@
+//! The facets of a part, with the points of their corners. What is asked of a place that is free has no answer.
+use crate::sights::Sight;
+use qh_mesh::FacetNo;
+use qh_model::{Id, Point};
+use qh_surface::NamedMesh;
+
+/// The facets of the hull of a part.
+#[derive(Clone, Copy, Drop)]
+pub(crate) struct Facets<'a> {
+    surface: &'a NamedMesh,
+}
+
+/// The facet across a side of another, and its corner that does not lie on the side.
+#[derive(Clone, Copy, Drop)]
+pub(crate) struct Neighbour {
+    pub facet: FacetNo,
+    pub opposite: Point,
+}
+
+impl<'a> Facets<'a> {
+    /// The facets of a mesh.
+    pub fn of(surface: &'a NamedMesh) -> Facets<'a> {
+        Facets { surface }
+    }
+
+    /// The number of places, free ones with them.
+    pub fn places(self) -> usize {
+        self.surface.mesh.places()
+    }
+
+    /// Whether there is a facet at a place.
+    pub fn is_live(self, f: FacetNo) -> bool {
+        f.index() < self.surface.mesh.places() && self.surface.mesh.is_live(f)
+    }
+
+    /// The first facet from a place on.
+    pub fn first_from(self, place: usize) -> Option<FacetNo> {
+        (place..self.places())
+            .map(|place| FacetNo::new(place))
+            .find(|f| self.is_live(*f))
+    }
+
+    /// The positions of a facet's corners among the points of the mesh.
+    pub fn positions(self, f: FacetNo) -> Option<[Id; 3]> {
+        if f.index() >= self.surface.mesh.places() || !self.surface.mesh.is_live(f) {
+            return None;
+        }
+        Some(self.surface.mesh.facet(f))
+    }
+
+    /// The points of a facet's corners.
+    pub fn corners(self, f: FacetNo) -> Option<[Point; 3]> {
+        let [a, b, c] = self.positions(f)?;
+        let points = &self.surface.points;
+        Some([
+            *points.get(a.index())?,
+            *points.get(b.index())?,
+            *points.get(c.index())?,
+        ])
+    }
+
+    /// The ids of a facet's corners.
+    pub fn ids(self, f: FacetNo) -> Option<[Id; 3]> {
+        let [a, b, c] = self.positions(f)?;
+        let ids = &self.surface.ids;
+        Some([
+            *ids.get(a.index())?,
+            *ids.get(b.index())?,
+            *ids.get(c.index())?,
+        ])
+    }
+
+    /// The plane of a facet.
+    pub fn sight(self, f: FacetNo) -> Option<Sight> {
+        Some(Sight::of(self.corners(f)?))
+    }
+
+    /// The number of the facet across a side of another: 0, 1 or 2.
+    pub fn next(self, f: FacetNo, side: usize) -> Option<FacetNo> {
+        let mesh = &self.surface.mesh;
+        if f.index() >= mesh.places() || !mesh.is_live(f) || side >= 3 {
+            return None;
+        }
+        Some(mesh.facet_of(mesh.across(f, side)))
+    }
+
+    /// The facet across a side of another: 0, 1 or 2.
+    pub fn across(self, f: FacetNo, side: usize) -> Option<Neighbour> {
+        let mesh = &self.surface.mesh;
+        if f.index() >= mesh.places() || !mesh.is_live(f) || side >= 3 {
+            return None;
+        }
+        let edge = mesh.across(f, side);
+        let opposite = mesh.opposite(edge);
+        Some(Neighbour {
+            facet: mesh.facet_of(edge),
+            opposite: *self.surface.points.get(opposite.index())?,
+        })
+    }
+}

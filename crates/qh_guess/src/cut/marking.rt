@@ -1,0 +1,194 @@
+//! Marks of the facets of a part that stay, with witnesses.
+use crate::cut::cover::Cover;
+use crate::cut::cutting::{Cutting, Others};
+use crate::cut::facets::Facets;
+use crate::cut::rays::Rays;
+use crate::outlines::{FACING_TOGETHER, Outline, piece};
+use crate::vector::Vector;
+use qh_mesh::FacetNo;
+use qh_model::{Id, Memory, Point};
+use qh_seam::{Divided, Part, Run};
+use std::alloc::{AllocError, Global};
+
+/// A guess of what stays of a part.
+#[derive(Drop)]
+pub struct Marks {
+    /// For each place of the mesh whether the facet there stays.
+    pub stay: Vec<bool>,
+    /// For each part witnesses for its own corners, in their order; none for the part itself.
+    pub runs: Vec<Vec<Run>>,
+    /// The ids of the corners of the facets that go. An id may stand several times.
+    pub seam: Vec<Id>,
+}
+
+/// The points of ids. An id of no point is passed over.
+fn points_of(alloc: Global, pts: &[Point], ids: &[Id]) -> Result<Vec<Point>, AllocError> {
+    let mut points = Vec::with_capacity(alloc, ids.len())?;
+    for id in ids {
+        if let Some(point) = pts.get(id.index()) {
+            points.push(*point)?;
+        }
+    }
+    Ok(points)
+}
+
+/// The points of the first four shared ids. Their middle is inside of every part.
+fn four_of(set: Divided) -> Option<[Point; 4]> {
+    let [i, j, k, l, ..] = set.shared else {
+        return None;
+    };
+    Some([
+        *set.pts.get(i.index())?,
+        *set.pts.get(j.index())?,
+        *set.pts.get(k.index())?,
+        *set.pts.get(l.index())?,
+    ])
+}
+
+/// For each `FACING_TOGETHER` points the direction in which the surface faces at the one in their middle.
+fn ways_out(
+    alloc: Global,
+    facets: Facets,
+    four: [Point; 4],
+    points: &[Point],
+) -> Result<Vec<Vector>, AllocError> {
+    let mut ways = Vec::new(alloc);
+    let Some(mut rays) = Rays::from_middle(facets, four) else {
+        return Ok(ways);
+    };
+    for number in 0..points.len() {
+        let own = piece(points, FACING_TOGETHER, number);
+        let Some(point) = own.get(own.len() / 2) else {
+            break;
+        };
+        let way = match facets.sight(rays.leaves(*point)) {
+            Some(sight) => sight.way(),
+            None => Vector::NONE,
+        };
+        ways.push(way)?;
+    }
+    Ok(ways)
+}
+
+/// The outline of the part of a number: what the marks of the other parts ask of it.
+///
+/// # Errors
+///
+/// `Memory` where an allocation failed.
+pub fn outline_of(alloc: Global, set: Divided, number: usize) -> Result<Outline, Memory> {
+    let Some(part) = set.parts.get(number) else {
+        return Ok(Outline::over(alloc, Vec::new(alloc), &[])?);
+    };
+    let points = points_of(alloc, set.pts, &part.own)?;
+    let ways = match four_of(set) {
+        Some(four) => ways_out(alloc, Facets::of(&part.surface), four, &points)?,
+        None => Vec::new(alloc),
+    };
+    Ok(Outline::over(alloc, points, &ways)?)
+}
+
+/// For each of some ids whether it is shared.
+fn marks_of_shared(alloc: Global, ids: &[Id], shared: &[Id]) -> Result<Vec<bool>, AllocError> {
+    let mut marks = Vec::with_capacity(alloc, ids.len())?;
+    for id in ids {
+        marks.push(shared.contains(id))?;
+    }
+    Ok(marks)
+}
+
+/// Whether all corners of a facet are marked.
+fn is_marked(facets: Facets, marks: &[bool], f: FacetNo) -> bool {
+    match facets.positions(f) {
+        Some(positions) => positions
+            .iter()
+            .all(|p| marks.get(p.index()).copied().unwrap_or(false)),
+        None => false,
+    }
+}
+
+/// Lets the facets go all of whose corners are shared: each part may have them.
+fn drop_shared(
+    alloc: Global,
+    part: &Part,
+    shared: &[Id],
+    cutting: &mut Cutting,
+) -> Result<(), AllocError> {
+    let facets = Facets::of(&part.surface);
+    let marks = marks_of_shared(alloc, &part.surface.ids, shared)?;
+    for place in 0..facets.places() {
+        let f = FacetNo::new(place);
+        if is_marked(facets, &marks, f) {
+            cutting.drop_facet(f)?;
+        }
+    }
+    Ok(())
+}
+
+/// Witnesses for the corners of each other part.
+fn all_witnesses(
+    alloc: Global,
+    facets: Facets,
+    four: [Point; 4],
+    others: Others,
+    cutting: &mut Cutting,
+) -> Result<Vec<Vec<Run>>, AllocError> {
+    let mut runs = Vec::new(alloc);
+    let Some(mut cover) = Cover::start(alloc, facets, four) else {
+        return Ok(runs);
+    };
+    for other in 0..others.outlines.len() {
+        if other == others.number {
+            runs.push(Vec::new(alloc))?;
+        } else {
+            runs.push(cover.witnesses(cutting, &others.outlines[other])?)?;
+        }
+    }
+    Ok(runs)
+}
+
+/// The ids of the corners of facets.
+fn corners_of(alloc: Global, facets: Facets, listed: &[FacetNo]) -> Result<Vec<Id>, AllocError> {
+    let mut ids = Vec::new(alloc);
+    for f in listed {
+        if let Some(corners) = facets.ids(*f) {
+            ids.extend_from_slice(&corners)?;
+        }
+    }
+    Ok(ids)
+}
+
+/// Guesses what stays of the part of a number where the corners of the other parts come in. `outlines` has the outline of each
+/// part.
+///
+/// # Errors
+///
+/// `Memory` where an allocation failed.
+pub fn marks_of<'a>(
+    alloc: Global,
+    set: Divided<'a>,
+    outlines: &'a [Outline],
+    number: usize,
+) -> Result<Marks, Memory> {
+    let none = Marks {
+        stay: Vec::new(alloc),
+        runs: Vec::new(alloc),
+        seam: Vec::new(alloc),
+    };
+    let Some(part) = set.parts.get(number) else {
+        return Ok(none);
+    };
+    let Some(four) = four_of(set) else {
+        return Ok(none);
+    };
+    let facets = Facets::of(&part.surface);
+    let others = Others { outlines, number };
+    let mut cutting = Cutting::start(alloc, facets, others)?;
+    drop_shared(alloc, part, set.shared, &mut cutting)?;
+    let runs = all_witnesses(alloc, facets, four, others, &mut cutting)?;
+    cutting.ask_waiting()?;
+    Ok(Marks {
+        stay: cutting.marks(alloc)?,
+        runs,
+        seam: corners_of(alloc, facets, cutting.gone())?,
+    })
+}

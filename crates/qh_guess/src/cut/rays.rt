@@ -1,0 +1,126 @@
+//! Rays from a point within a part: the facet through which each leaves.
+use crate::cut::facets::Facets;
+use qh_mesh::FacetNo;
+use qh_model::Point;
+
+/// After so many facets a walk is given up, and all facets are looked at.
+const STEP_LIMIT: usize = 4_096;
+
+/// All walks together look at no more facets than this for each place of the mesh: then none is begun any more.
+const STEPS_FOR_EACH: usize = 64;
+
+/// Four times the way from the middle of four points to another point.
+#[derive(Clone, Copy, Drop)]
+struct Way {
+    x: i64,
+    y: i64,
+    z: i64,
+}
+
+/// The product of two components.
+fn product(a: i64, b: i64) -> i128 {
+    i128::from(a).wrapping_mul(i128::from(b))
+}
+
+/// The difference of the products of two pairs of components.
+fn minor(a: i64, d: i64, b: i64, c: i64) -> i128 {
+    product(a, d).wrapping_sub(product(b, c))
+}
+
+impl Way {
+    /// Whether a way lies beyond the plane through this one and another, as seen from within: the three go clockwise.
+    fn turns_back(self, to: Way, way: Way) -> bool {
+        let x = minor(self.y, to.z, self.z, to.y).wrapping_mul(i128::from(way.x));
+        let y = minor(self.z, to.x, self.x, to.z).wrapping_mul(i128::from(way.y));
+        let z = minor(self.x, to.y, self.y, to.x).wrapping_mul(i128::from(way.z));
+        x.wrapping_add(y).wrapping_add(z) < 0
+    }
+}
+
+/// Rays from the middle of four points of a part, with the facet through which the last one left.
+#[derive(Drop)]
+pub(crate) struct Rays<'a> {
+    facets: Facets<'a>,
+    sum: Way,
+    last: FacetNo,
+    steps_left: usize,
+}
+
+impl<'a> Rays<'a> {
+    /// The rays from the middle of four points, if there is a facet at all.
+    pub fn from_middle(facets: Facets<'a>, four: [Point; 4]) -> Option<Rays<'a>> {
+        let mut sum = Way { x: 0, y: 0, z: 0 };
+        for point in four {
+            sum = Way {
+                x: sum.x.wrapping_add(i64::from(point.x())),
+                y: sum.y.wrapping_add(i64::from(point.y())),
+                z: sum.z.wrapping_add(i64::from(point.z())),
+            };
+        }
+        Some(Rays {
+            facets,
+            sum,
+            last: facets.first_from(0)?,
+            steps_left: facets.places().saturating_mul(STEPS_FOR_EACH),
+        })
+    }
+
+    /// The way to a point.
+    fn way(&self, point: Point) -> Way {
+        let part = |coordinate: i32, sum: i64| -> i64 {
+            i64::from(coordinate).wrapping_mul(4).wrapping_sub(sum)
+        };
+        Way {
+            x: part(point.x(), self.sum.x),
+            y: part(point.y(), self.sum.y),
+            z: part(point.z(), self.sum.z),
+        }
+    }
+
+    /// A side of a facet that a way lies beyond, if there is one.
+    fn side_beyond(&self, f: FacetNo, way: Way) -> Option<usize> {
+        let [a, b, c] = self.facets.corners(f)?;
+        let (a, b, c) = (self.way(a), self.way(b), self.way(c));
+        if a.turns_back(b, way) {
+            Some(0)
+        } else if b.turns_back(c, way) {
+            Some(1)
+        } else if c.turns_back(a, way) {
+            Some(2)
+        } else {
+            None
+        }
+    }
+
+    /// The facet through which a way leaves, sought among all.
+    fn sought(&self, way: Way) -> Option<FacetNo> {
+        (0..self.facets.places())
+            .map(|place| FacetNo::new(place))
+            .find(|f| self.facets.is_live(*f) && self.side_beyond(*f, way).is_none())
+    }
+
+    /// A walk from the last facet towards the one through which a way leaves: whether it came there in so many steps. The last
+    /// facet is then the one where it ended.
+    fn walk(&mut self, way: Way, limit: usize) -> bool {
+        for step in 0..limit {
+            let Some(side) = self.side_beyond(self.last, way) else {
+                self.steps_left = self.steps_left.saturating_sub(step);
+                return true;
+            };
+            self.last = self.facets.next(self.last, side).unwrap_or(self.last);
+        }
+        self.steps_left = self.steps_left.saturating_sub(limit);
+        false
+    }
+
+    /// The facet through which the ray to a point leaves. Where walks became too long, it is any facet.
+    pub fn leaves(&mut self, point: Point) -> FacetNo {
+        let way = self.way(point);
+        let is_there = self.walk(way, STEP_LIMIT.min(self.steps_left));
+        if !is_there && self.steps_left > 0 {
+            self.steps_left = self.steps_left.saturating_sub(self.facets.places());
+            self.last = self.sought(way).unwrap_or(self.last);
+        }
+        self.last
+    }
+}

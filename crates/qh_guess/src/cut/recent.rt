@@ -1,0 +1,59 @@
+//! The facets that points were found to be above last: most points near them are above one of these, too.
+use crate::blocks::Block;
+use crate::sights::Sight;
+use qh_mesh::FacetNo;
+use qh_model::Point;
+use std::alloc::{AllocError, Global};
+
+/// How many are kept.
+const KEPT: usize = 4;
+
+/// A facet with its plane.
+#[derive(Clone, Copy, Drop)]
+struct Seeing {
+    facet: FacetNo,
+    sight: Sight,
+}
+
+/// A few facets that go, the last one first.
+#[derive(Drop)]
+pub(crate) struct Recent {
+    seeing: Vec<Seeing>,
+}
+
+impl Recent {
+    /// None yet.
+    pub fn none(alloc: Global) -> Recent {
+        Recent {
+            seeing: Vec::new(alloc),
+        }
+    }
+
+    /// Puts a facet first.
+    pub fn put(&mut self, facet: FacetNo, sight: Sight) -> Result<(), AllocError> {
+        self.seeing.truncate(KEPT - 1);
+        self.seeing.insert(0, Seeing { facet, sight })?;
+        Ok(())
+    }
+
+    /// Moves the facet at a position one to the front, and answers its number.
+    fn raised(&mut self, position: usize) -> Option<FacetNo> {
+        let facet = self.seeing.get(position)?.facet;
+        if position > 0 && position < self.seeing.len() {
+            self.seeing.swap(position, position - 1);
+        }
+        Some(facet)
+    }
+
+    /// One that a point is above.
+    pub fn under(&mut self, point: Point) -> Option<FacetNo> {
+        let position = self.seeing.iter().position(|s| s.sight.sees(point))?;
+        self.raised(position)
+    }
+
+    /// One that all points of a block are above.
+    pub fn under_all(&mut self, block: &Block) -> Option<FacetNo> {
+        let position = self.seeing.iter().position(|s| s.sight.sees_all(block))?;
+        self.raised(position)
+    }
+}

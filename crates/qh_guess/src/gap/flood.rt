@@ -1,0 +1,197 @@
+//! Polygons of a hull that open edges lead to.
+ghost use Rattle.std.specs.Prelude.{IfOk};
+ghost use Rattle.qh_model.specs.contract.IdSets.{AreIndices};
+
+use crate::gap::edges::{Border, Round, border_of, open_edges, reverse};
+use qh_block::hull;
+use qh_model::{Id, Memory, Point, Polygon};
+use qh_plane::rising_ids;
+use std::alloc::{AllocError, Global};
+
+/// The room of a position in a side's key: 2^64.
+const POSITION_ROOM: u128 = 18446744073709551616;
+
+/// The edges of polygons, sorted, each with the position of its polygon.
+#[derive(Drop)]
+struct Sides {
+    keys: Vec<u128>,
+}
+
+/// An edge and the position of a polygon in one.
+fn side_key(edge: u64, position: u64) -> u128 {
+    u128::from(edge) << 64 | u128::from(position)
+}
+
+impl Sides {
+    /// The edges of polygons.
+    fn of(alloc: Global, polygons: &[Polygon]) -> Result<Sides, AllocError> {
+        let mut keys = Vec::new(alloc);
+        let mut edges = Vec::new(alloc);
+        for position in 0..polygons.len() {
+            edges.clear();
+            Round::of(&polygons[position]).list(&mut edges)?;
+            for edge in &edges {
+                keys.push(side_key(*edge, position as u64))?;
+            }
+        }
+        keys.sort_unstable();
+        Ok(Sides { keys })
+    }
+
+    /// The position of a polygon that has an edge.
+    fn polygon_of(&self, edge: u64) -> Option<usize> {
+        let least = side_key(edge, 0);
+        let place = self.keys.partition_point(|key| *key < least);
+        let key = *self.keys.get(place)?;
+        if key >> 64 == u128::from(edge) {
+            Some((key % POSITION_ROOM) as usize)
+        } else {
+            None
+        }
+    }
+}
+
+/// A hull that open edges are led to, with marks of its polygons that are taken.
+#[derive(Drop)]
+struct Flood<'a> {
+    polygons: &'a [Polygon],
+    sides: Sides,
+    open: &'a [u64],
+    taken: Vec<bool>,
+    /// Edges that a polygon has to take.
+    wanted: Vec<u64>,
+}
+
+impl Flood<'_> {
+    /// Takes the polygon at a position, if it is not taken yet: the edges against its own are wanted, unless they are open.
+    fn take(&mut self, position: usize, edges: &mut Vec<u64>) -> Result<(), AllocError> {
+        let Some(taken) = self.taken.get_mut(position) else {
+            return Ok(());
+        };
+        if *taken {
+            return Ok(());
+        }
+        *taken = true;
+        let Some(polygon) = self.polygons.get(position) else {
+            return Ok(());
+        };
+        edges.clear();
+        Round::of(polygon).list(edges)?;
+        for edge in &*edges {
+            let beyond = reverse(*edge);
+            if self.open.binary_search(&beyond).is_err() {
+                self.wanted.push(beyond)?;
+            }
+        }
+        Ok(())
+    }
+
+    /// Takes polygons until none is wanted. False where no polygon has an edge that is wanted.
+    fn run(&mut self, alloc: Global) -> Result<bool, AllocError> {
+        let mut edges = Vec::new(alloc);
+        let most = self.open.len().saturating_add(self.sides.keys.len());
+        for _ in 0..most {
+            let Some(edge) = self.wanted.pop() else {
+                return Ok(true);
+            };
+            let Some(position) = self.sides.polygon_of(edge) else {
+                return Ok(false);
+            };
+            self.take(position, &mut edges)?;
+        }
+        Ok(self.wanted.is_empty())
+    }
+}
+
+/// For each of some polygons whether the open edges lead to it; none where they lead to an edge that no polygon has.
+fn reached(
+    alloc: Global,
+    polygons: &[Polygon],
+    open: &[u64],
+) -> Result<Option<Vec<bool>>, AllocError> {
+    let mut wanted = Vec::with_capacity(alloc, open.len())?;
+    for edge in open {
+        wanted.push(reverse(*edge))?;
+    }
+    let mut flood = Flood {
+        polygons,
+        sides: Sides::of(alloc, polygons)?,
+        open,
+        taken: vec![in alloc; false; polygons.len()]?,
+        wanted,
+    };
+    let is_closed = flood.run(alloc)?;
+    Ok(if is_closed { Some(flood.taken) } else { None })
+}
+
+/// The ids of a list that are indices of points.
+fn indices_among(alloc: Global, pts: &[Point], ids: &[Id]) -> Result<Vec<Id>, AllocError>
+    ensures { IfOk result (λ v. AreIndices pts.now v.items) }
+{
+    let mut indices = Vec::with_capacity(alloc, ids.len())?;
+    for id in ids {
+        if id.index() < pts.len() {
+            indices.push(*id)?;
+        }
+    }
+    Ok(indices)
+}
+
+/// The polygons that are marked.
+fn marked(
+    alloc: Global,
+    polygons: Vec<Polygon>,
+    marks: &[bool],
+) -> Result<Vec<Polygon>, AllocError> {
+    let mut left = Vec::new(alloc);
+    for (position, polygon) in polygons.into_iter().enumerate() {
+        if marks.get(position).copied().unwrap_or(false) {
+            left.push(polygon)?;
+        }
+    }
+    Ok(left)
+}
+
+/// The polygons that close the gap between borders, by the hull of the ids of the seam: all corners beside the gap. They
+/// begin at their least ids. None where the open edges lead to an edge that no polygon of that hull has. Where no border has a
+/// polygon, all polygons of that hull are taken.
+///
+/// # Errors
+///
+/// `Memory` where an allocation failed.
+pub fn bridge_over(
+    alloc: Global,
+    pts: &[Point],
+    borders: &[Border],
+    seam: &[Id],
+) -> Result<Option<Vec<Polygon>>, Memory> {
+    let rising = rising_ids(alloc, seam)?;
+    let ids = indices_among(alloc, pts, &rising)?;
+    if ids.is_empty() {
+        return Ok(Some(Vec::new(alloc)));
+    }
+    let polygons = hull(alloc, pts, &ids)?.polygons;
+    if borders.iter().all(|border| border.is_empty()) {
+        return Ok(Some(polygons));
+    }
+    let open = open_edges(alloc, borders)?;
+    let Some(marks) = reached(alloc, &polygons, &open)? else {
+        return Ok(None);
+    };
+    Ok(Some(marked(alloc, polygons, &marks)?))
+}
+
+/// The polygons that close the gap between given ones, as [`bridge_over`] finds them.
+///
+/// # Errors
+///
+/// `Memory` where an allocation failed.
+pub fn bridge(
+    alloc: Global,
+    pts: &[Point],
+    given: &[Polygon],
+    seam: &[Id],
+) -> Result<Option<Vec<Polygon>>, Memory> {
+    let borders = [border_of(alloc, given, pts.len(), seam)?];
+    bridge_over(alloc, pts, &borders, seam)
+}

@@ -1,0 +1,183 @@
+//! The outline of a part: its own corners in their order, with blocks of them, of blocks of blocks, and so on.
+use crate::blocks::Block;
+use crate::sights::Sight;
+use crate::vector::Vector;
+use qh_model::Point;
+use std::alloc::{AllocError, Global};
+
+/// The points of a block of the lowest level, and the blocks of a level in one of the next.
+const BRANCHES: usize = 8;
+
+/// The binary logarithm of `BRANCHES`.
+const BRANCH_BITS: u32 = 3;
+
+/// The consecutive points that have one direction in which the surface faces there.
+pub(crate) const FACING_TOGETHER: usize = 32;
+
+/// The most levels, of which the highest has one block over 2^24 points.
+const LEVELS: u32 = 8;
+
+/// The corners of a part that belong to it alone, with blocks of consecutive ones: the smallest first.
+#[derive(Drop)]
+pub struct Outline {
+    points: Vec<Point>,
+    levels: Vec<Vec<Block>>,
+}
+
+/// A block of an outline.
+#[derive(Clone, Copy, Debug, Drop)]
+pub(crate) struct Cursor {
+    level: usize,
+    index: usize,
+}
+
+/// The piece of a list with a number, where it is cut into pieces of one size. The last may be shorter, and there is nothing past it.
+pub(crate) fn piece<T: Copy>(items: &[T], size: usize, number: usize) -> &[T] {
+    let from = size.saturating_mul(number).min(items.len());
+    let to = from.saturating_add(size).min(items.len());
+    items.get(from..to).unwrap_or(&[])
+}
+
+/// The direction of the sum of some.
+fn way_of(ways: &[Vector]) -> Vector {
+    let mut sum = Vector::NONE;
+    for way in ways {
+        sum = sum.plus(*way);
+    }
+    sum.unit()
+}
+
+/// The number of points of a block of a level.
+fn size_at(level: u32) -> usize {
+    BRANCHES.wrapping_shl(level.wrapping_mul(BRANCH_BITS))
+}
+
+/// The direction of the block of `size` points with a number, where `ways` has one for each `FACING_TOGETHER` of them.
+fn way_at(ways: &[Vector], size: usize, number: usize) -> Vector {
+    if size >= FACING_TOGETHER {
+        return way_of(piece(ways, size / FACING_TOGETHER, number));
+    }
+    let place = size.saturating_mul(number) / FACING_TOGETHER;
+    ways.get(place).copied().unwrap_or(Vector::NONE)
+}
+
+/// The blocks of a level. `ways` has a direction for each `FACING_TOGETHER` points.
+fn level_over(
+    alloc: Global,
+    points: &[Point],
+    ways: &[Vector],
+    level: u32,
+) -> Result<Vec<Block>, AllocError> {
+    let size = size_at(level);
+    let mut blocks = Vec::new(alloc);
+    for number in 0..points.len() {
+        let own = piece(points, size, number);
+        if own.is_empty() {
+            break;
+        }
+        blocks.push(Block::around(own, way_at(ways, size, number)))?;
+    }
+    Ok(blocks)
+}
+
+impl Outline {
+    /// The outline over points, with a direction for each `FACING_TOGETHER` of them.
+    pub(crate) fn over(
+        alloc: Global,
+        points: Vec<Point>,
+        ways: &[Vector],
+    ) -> Result<Outline, AllocError> {
+        let mut levels = Vec::new(alloc);
+        for level in 0..LEVELS {
+            let blocks = level_over(alloc, &points, ways, level)?;
+            let is_top = blocks.len() <= 1;
+            levels.push(blocks)?;
+            if is_top {
+                break;
+            }
+        }
+        Ok(Outline { points, levels })
+    }
+
+    /// The number of points.
+    pub(crate) fn len(&self) -> usize {
+        self.points.len()
+    }
+
+    /// More than the blocks of all levels.
+    pub(crate) fn block_limit(&self) -> usize {
+        self.points.len().saturating_add(LEVELS as usize)
+    }
+
+    /// The first block of the highest level.
+    pub(crate) fn top(&self) -> Cursor {
+        Cursor {
+            level: self.levels.len().saturating_sub(1),
+            index: 0,
+        }
+    }
+
+    /// The block at a cursor, if there is one.
+    pub(crate) fn block(&self, cursor: Cursor) -> Option<&Block> {
+        self.levels.get(cursor.level)?.get(cursor.index)
+    }
+
+    /// The points of a block.
+    pub(crate) fn points_of(&self, cursor: Cursor) -> &[Point] {
+        let level = u32::try_from(cursor.level).unwrap_or(LEVELS);
+        piece(&self.points, size_at(level), cursor.index)
+    }
+
+    /// The first block after all points of a block, as large as such a one can be.
+    pub(crate) fn after(&self, cursor: Cursor) -> Cursor {
+        let mut next = Cursor {
+            level: cursor.level,
+            index: cursor.index.saturating_add(1),
+        };
+        for _ in cursor.level..self.levels.len().saturating_sub(1) {
+            if next.index % BRANCHES != 0 {
+                break;
+            }
+            next = Cursor {
+                level: next.level.saturating_add(1),
+                index: next.index / BRANCHES,
+            };
+        }
+        next
+    }
+
+    /// Whether all points are strictly below a plane.
+    pub(crate) fn is_below(&self, sight: &Sight) -> bool {
+        let mut cursor = self.top();
+        for _ in 0..self.block_limit() {
+            let Some(block) = self.block(cursor) else {
+                return true;
+            };
+            if sight.hides_all(block) {
+                cursor = self.after(cursor);
+            } else if let Some(first) = cursor.first_within() {
+                cursor = first;
+            } else if self
+                .points_of(cursor)
+                .iter()
+                .all(|point| sight.hides(*point))
+            {
+                cursor = self.after(cursor);
+            } else {
+                return false;
+            }
+        }
+        false
+    }
+}
+
+impl Cursor {
+    /// The first block within a block, unless that is of the lowest level.
+    pub fn first_within(self) -> Option<Cursor> {
+        let level = self.level.checked_sub(1)?;
+        Some(Cursor {
+            level,
+            index: self.index.saturating_mul(BRANCHES),
+        })
+    }
+}

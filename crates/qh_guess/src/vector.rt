@@ -1,0 +1,92 @@
+//! Vectors of floating-point numbers: for what needs no more than to be near enough.
+use qh_model::Point;
+use qh_pred::Normal;
+use std::num::nearest_i64_to_f64;
+
+/// Three floating-point components.
+#[derive(Clone, Copy, Debug, Drop)]
+pub(crate) struct Vector {
+    pub x: f64,
+    pub y: f64,
+    pub z: f64,
+}
+
+/// The float nearest to a component of a normal, whose size is below 2^63.
+fn component(number: i128) -> f64 {
+    nearest_i64_to_f64(i64::try_from(number).unwrap_or(0))
+}
+
+impl Vector {
+    /// No way at all.
+    pub const NONE: Vector = Vector {
+        x: 0.0,
+        y: 0.0,
+        z: 0.0,
+    };
+
+    /// The vector of three whole components, which it has exactly.
+    pub fn of(x: i32, y: i32, z: i32) -> Vector {
+        Vector {
+            x: f64::from(x),
+            y: f64::from(y),
+            z: f64::from(z),
+        }
+    }
+
+    /// The vector to a point.
+    pub fn to(point: Point) -> Vector {
+        Vector::of(point.x(), point.y(), point.z())
+    }
+
+    /// The vector nearest to a normal.
+    pub fn along(normal: &Normal) -> Vector {
+        Vector {
+            x: component(normal.x()),
+            y: component(normal.y()),
+            z: component(normal.z()),
+        }
+    }
+
+    /// The scalar product with another.
+    pub fn dot(self, other: Vector) -> f64 {
+        self.x * other.x + self.y * other.y + self.z * other.z
+    }
+
+    /// The sum with another.
+    pub fn plus(self, other: Vector) -> Vector {
+        Vector {
+            x: self.x + other.x,
+            y: self.y + other.y,
+            z: self.z + other.z,
+        }
+    }
+
+    /// The vector some times as long.
+    pub fn times(self, factor: f64) -> Vector {
+        Vector {
+            x: self.x * factor,
+            y: self.y * factor,
+            z: self.z * factor,
+        }
+    }
+
+    /// The difference to another.
+    pub fn minus(self, other: Vector) -> Vector {
+        self.plus(other.times(-1.0))
+    }
+
+    /// The greatest scalar product with a vector whose components are no larger than these sizes, either way.
+    pub fn most_within(self, sizes: Vector) -> f64 {
+        self.x.abs() * sizes.x + self.y.abs() * sizes.y + self.z.abs() * sizes.z
+    }
+
+    /// The vector of length 1 that points the same way, or none.
+    pub fn unit(self) -> Vector {
+        let square = self.dot(self);
+        if square > 0.0 {
+            self.times(1.0 / square.sqrt())
+        } else {
+            Vector::NONE
+        }
+    }
+}

@@ -1,0 +1,66 @@
+//! Whether it pays to join the hulls of parts at their seams.
+use crate::cut::{Facets, Others};
+use crate::outlines::Outline;
+use qh_seam::{Divided, Part};
+
+/// The hull of so few corners is made soon enough.
+const FEW_CORNERS: usize = 40_000;
+
+/// So many facets of each part are asked, spread over all.
+const ASKED: usize = 64;
+
+/// Of some facets, how many are asked and how many of these go.
+#[derive(Clone, Copy, Drop)]
+struct Tally {
+    asked: usize,
+    gone: usize,
+}
+
+impl Tally {
+    /// With the facets of a part that are asked.
+    fn with(self, part: &Part, others: Others) -> Tally {
+        let facets = Facets::of(&part.surface);
+        let step = facets.places() / ASKED + 1;
+        let mut tally = self;
+        for number in 0..ASKED {
+            let place = step.wrapping_mul(number);
+            let found = facets.first_from(place).and_then(|f| facets.sight(f));
+            let Some(sight) = found else {
+                break;
+            };
+            tally.asked = tally.asked.saturating_add(1);
+            if !others.are_below(&sight) {
+                tally.gone = tally.gone.saturating_add(1);
+            }
+        }
+        tally
+    }
+}
+
+/// The number of corners of all parts.
+fn corner_count(set: Divided) -> usize {
+    let mut count = set.shared.len();
+    for part in set.parts {
+        count = count.saturating_add(part.own.len());
+    }
+    count
+}
+
+/// Returns true if it seems to pay to join the hulls of parts where they have more than `few` corners. It does not where most
+/// facets go.
+pub(crate) fn is_worth_above(few: usize, set: Divided, outlines: &[Outline]) -> bool {
+    if corner_count(set) <= few {
+        return false;
+    }
+    let mut tally = Tally { asked: 0, gone: 0 };
+    for number in 0..set.parts.len() {
+        tally = tally.with(&set.parts[number], Others { outlines, number });
+    }
+    tally.gone <= tally.asked / 2
+}
+
+/// Returns true if it seems to pay to join the hulls of the parts of a set at their seams: they have many corners, and most of
+/// their facets are likely to stay. `outlines` has the outline of each part.
+pub fn is_worth(set: Divided, outlines: &[Outline]) -> bool {
+    is_worth_above(FEW_CORNERS, set, outlines)
+}
