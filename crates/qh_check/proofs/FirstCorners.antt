@@ -21,7 +21,7 @@ use Rattle.qh_check.specs.contract.Claims.{IsFaceFault}
 use Rattle.qh_check.specs.contract.Pieces.{BeginsWith}
 
 -- the three are a supporting triple whose polygon is q
-abbrev HasFace : (ℕ → Vector) → (ℕ → Type 0) → List ℕ → (i j k : ℕ) → Type 0
+abbrev pub HasFace : (ℕ → Vector) → (ℕ → Type 0) → List ℕ → (i j k : ℕ) → Type 0
 HasFace at A q i j k = IsSupportingTriple at A i j k × IsFacePolygon at A i j k q
 
 -- the first three corners, with their plane

@@ -6,11 +6,13 @@ pub mod FaultCases
 pub mod FirstCorners
 pub mod FoundIds
 pub mod FoundParts
+pub mod HullPieces
 pub mod Listed
 pub mod NearPositions
 pub mod OrderedPolygons
 pub mod Pieces
 pub mod PointBoxes
+pub mod MetBehind
 pub mod MetLists
 pub mod RepeatedNumbers
 pub mod SortedNumbers

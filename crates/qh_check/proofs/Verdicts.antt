@@ -34,7 +34,7 @@ module _ (pts : List Vector) (ids : List ℕ) (qs : List (List ℕ)) (set : IsId
   at = place pts
 
   -- the polygons of the set are its faces
-  faces_of : ArePolygonsOf at (Members ids) qs → AreFaces at (Members ids) qs
+  pub faces_of : ArePolygonsOf at (Members ids) qs → AreFaces at (Members ids) qs
   faces_of (dim, is, polygons) = go (one_dimension at (Members ids) dim 3 is solid) polygons
     where
       go : dim ≡ 3 → ArePolygons at (Members ids) dim qs → AreFaces at (Members ids) qs

@@ -3,8 +3,10 @@ pub mod Asking
 pub mod Boxes
 pub mod Faces
 pub mod Findings
+pub mod HullFaces
 pub mod Levels
 pub mod Places
+pub mod Rounds
 pub mod Slabs
 pub mod StepKeys
 pub mod Verdicts

@@ -1,6 +1,7 @@
 //! Whether a list of ids is met, in its order, by who goes round a polygon.
 ghost use Rattle.std.specs.Prelude.{◌≡◌, ◌+◌, ◌++◌, ◌<◌, ◌≤◌, ◌↔◌, ℕ, List, IsTrue, drop, length, slice_index_or, take};
 ghost use Rattle.qh_check.specs.contract.Pieces.{IsMetAlong, IsMetFrom, IsMetRound};
+ghost use Rattle.qh_check.specs.steps.Rounds.{IsBehind, way_behind};
 
 use qh_model::Id;
 
@@ -63,4 +64,56 @@ pub(crate) fn is_met_round(part: &[Id], face: &[Id]) -> bool
         }
     }
     false
+}
+
+/// The position of a corner on the way round a polygon from behind another corner: 0 for the next.
+fn steps_behind(from: usize, to: usize, count: usize) -> usize
+    requires from { from < count }
+    requires to { to < count }
+    ensures { IsBehind from to count result }
+{
+    if to > from {
+        to - from - 1
+    } else {
+        to + (count - from) - 1
+    }
+}
+
+/// Returns true if a list goes round corners of a polygon that stand at these positions of it. It takes the time of the
+/// list, however many corners the polygon has.
+pub(crate) fn goes_round(part: &[Id], face: &[Id], positions: &[usize]) -> bool
+    ensures { IsTrue result → IsMetRound part.now face.now }
+{
+    let [first, rest @ ..] = part else {
+        return false;
+    };
+    let [begin, others @ ..] = positions else {
+        return false;
+    };
+    if others.len() != rest.len() || !is_at(face, *begin, *first) {
+        return false;
+    }
+    goes_on(rest, others, face, *begin)
+}
+
+/// Returns true if a list is met by who goes round a polygon from behind a position, at these positions of it. The
+/// last comes first, so that each has to come before the one behind it.
+fn goes_on(rest: &[Id], positions: &[usize], face: &[Id], begin: usize) -> bool
+    requires begin { begin < length face.now }
+    requires same { length positions.now ≡ length rest.now }
+    ensures { IsTrue result → IsMetAlong rest.now (way_behind face.now begin) }
+{
+    let mut before = face.len() - 1;
+    for index in 0..rest.len() {
+        let place = rest.len() - 1 - index;
+        if !is_at(face, positions[place], rest[place]) {
+            return false;
+        }
+        let steps = steps_behind(begin, positions[place], face.len());
+        if steps >= before {
+            return false;
+        }
+        before = steps;
+    }
+    true
 }

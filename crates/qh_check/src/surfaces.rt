@@ -21,6 +21,7 @@ use crate::extent::Extent;
 use crate::faces::PlacedSet;
 use crate::findings::{Asked, Finding, first_fault, first_fault_in_parts};
 use crate::flaw::SurfaceVerdict;
+use crate::found_pieces::are_pieces_of_hull;
 use crate::places::Places;
 use crate::verdict::Verdict;
 use qh_model::{Id, Memory, Point, Polygon};
@@ -73,8 +74,8 @@ fn first_no_piece<R: Threads + Sync>(
     first_fault_in_parts(rt, alloc, set, asked, size)
 }
 
-/// Checks polygons, one at least, of a solid set.
-fn check_solid_surface<R: Threads + Sync>(
+/// Checks polygons, one at least, of a solid set, by asking the plane of each.
+fn check_by_planes<R: Threads + Sync>(
     rt: &R,
     alloc: Global,
     pts: &[Point],
@@ -102,6 +103,30 @@ fn check_solid_surface<R: Threads + Sync>(
     };
     let found = first_no_piece(rt, alloc, set, asked, workers)?;
     judged(alloc, polygons, found)
+}
+
+/// Checks polygons, one at least, of a solid set. Most are right, and found in its hull: planes are asked only where one
+/// is not found there.
+fn check_solid_surface<R: Threads + Sync>(
+    rt: &R,
+    alloc: Global,
+    pts: &[Point],
+    ids: &[Id],
+    polygons: &[Polygon],
+    workers: usize,
+) -> Result<SurfaceVerdict, Memory>
+    requires some { 0 < length ids.now }
+    requires indices { AreIndices pts.now ids.now }
+    requires claimed { 0 < length polygons.now }
+    requires workers { 0 < workers }
+    ensures { IfOk result (λ v. IsIdSet pts.now ids.now → IsDimension (place pts.now) (Members ids.now) 3
+        → IsSurfaceVerdictOf pts.now ids.now polygons.now v) }
+{
+    if are_pieces_of_hull(alloc, pts, ids, polygons)? {
+        judged(alloc, polygons, None)
+    } else {
+        check_by_planes(rt, alloc, pts, ids, polygons, workers)
+    }
 }
 
 /// Whether polygons are those of a set that is not solid.

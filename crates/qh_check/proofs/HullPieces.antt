@@ -1,0 +1,104 @@
+-- A polygon that goes round corners of a face, and turns as the face does, is a piece of it.
+use Rattle.std.proofs.Common.{ℕ, ◌≡◌, ◌≢◌, ap, inl, inr, refl, sym, subst, ◌∙◌, true, List, [], ◌∷◌, get_or}
+use Rattle.std.specs.Prelude.{pos, ◌<ℤ◌, ◌≤ℤ◌}
+use Rattle.std.specs.Ordering.{is_gt}
+use Rattle.qh_model.specs.headline.Hull.{BodyValue, IsBody}
+use Rattle.qh_model.specs.headline.Dimension.{IsDimension}
+use Rattle.qh_model.specs.headline.Vector.{Vector, origin, minus, dot}
+use Rattle.qh_model.specs.headline.Predicates.{cross, left, place, vol}
+use Rattle.qh_model.specs.headline.Sets.{In, Members}
+use Rattle.qh_model.specs.headline.SupportingPlane.{IsSupportingTriple}
+use Rattle.qh_model.specs.headline.Polygons.{AreFaces, ArePolygons, IsFacePolygon}
+use Rattle.qh_model.specs.contract.ClosedPolygons.{IsFace}
+use Rattle.qh_model.specs.contract.IdSets.{HasDistinctPoints, IsIdSet}
+use Rattle.qh_model.proofs.Members.{In-get_or}
+use Rattle.qh_model.proofs.algebra.Order.{cancel-nonpos, mul-nonneg_nonpos, positive_le}
+use Rattle.qh_model.proofs.algebra.Signs.{less_differ}
+use Rattle.qh_model.proofs.algebra.VectorIdentities.{in_line-left}
+use Rattle.qh_model.proofs.extremes.Directions.{from_plane, square-positive}
+use Rattle.qh_model.proofs.polygons.Edges.{seen_from}
+use Rattle.qh_model.proofs.polygons.PlaneTurns.{level_along, level_volume}
+use Rattle.qh_pred.specs.contract.Turns.{IsAcross, first_product}
+use Rattle.qh_pred.proofs.Turns.{turn_sign}
+use Rattle.qh_plane.proofs.polygons.Chain.{is_left-yes}
+use Rattle.qh_check.specs.contract.Pieces.{BeginsWith, IsMetRound, IsPiece}
+use Rattle.qh_check.specs.steps.HullFaces.{IsPieceAmong, IsPieceOfFace, TurnsAlike}
+use Rattle.qh_check.specs.steps.Faces.{IsFaceOf}
+use Rattle.qh_check.specs.declared.extent.Extent.TheVariants.{Piece}
+use Rattle.qh_check.proofs.FirstCorners.{HasFace, corners_at}
+use Rattle.qh_check.proofs.MetBehind.{round_has}
+use Rattle.qh_check.proofs.Verdicts.{faces_of}
+
+module _ (pts : List Vector) (ids : List ℕ) (d : HasDistinctPoints (place pts) (Members ids)) (face q : List ℕ)
+    (own : IsFace (place pts) (Members ids) face) (met : IsMetRound q face) (t : TurnsAlike pts face q) where
+  abbrev at : ℕ → Vector
+  at = place pts
+
+  -- the plane of the first three corners of the face
+  plane : HasFace at (Members ids) face t.u t.v t.w
+  plane = corners_at at ids d face own t.u t.v t.w t.plane
+
+  abbrev n : Vector
+  n = cross (at t.u) (at t.v) (at t.w)
+
+  -- the first three corners of the piece lie in it, and are members
+  corner : (x : ℕ) → In x q → Members ids x × (vol (at t.u) (at t.v) (at t.w) (at x) ≡ pos 0)
+  corner x m = let on = (plane.1.members x).0 (round_has q face met x m) in (on.0.0, on.1)
+
+  has_i : In t.i q
+  has_i = rw t.begins.1 (inl refl)
+
+  has_j : In t.j q
+  has_j = rw t.begins.1 (inr (inl refl))
+
+  has_k : In t.k q
+  has_k = rw t.begins.1 (inr (inr (inl refl)))
+
+  -- they turn left
+  turn : pos 0 <ℤ left n (at t.i) (at t.j) (at t.k)
+  turn = is_left-yes (left n (at t.i) (at t.j) (at t.k)) (sym (ap is_gt (turn_sign n (at t.i) (at t.j) (at t.k) across)) ∙ t.turn)
+    where
+      some : n ≢ origin
+      some e = less_differ (pos 0) (dot n n) (square-positive n plane.0.area) (sym (ap (λ (m : Vector). dot m m) e))
+
+      across : IsAcross n (at t.i) (at t.j) (at t.k)
+      across = record {
+        some = some;
+        to_v = from_plane (at t.u) (at t.v) (at t.w) (at t.i) (at t.j) (corner t.i has_i).1 ∙ (corner t.j has_j).1;
+        to_w = from_plane (at t.u) (at t.v) (at t.w) (at t.i) (at t.k) (corner t.i has_i).1 ∙ (corner t.k has_k).1;
+      }
+
+  -- so they are a supporting triple
+  triple : IsSupportingTriple at (Members ids) t.i t.j t.k
+  triple = record {
+    has_i = (corner t.i has_i).0;
+    has_j = (corner t.j has_j).0;
+    has_k = (corner t.k has_k).0;
+    area = λ e. less_differ (pos 0) (left n (at t.i) (at t.j) (at t.k)) turn (sym (in_line-left n (at t.i) (at t.j) (at t.k) e));
+    supports = λ l a. cancel-nonpos (dot n n) (vol (at t.i) (at t.j) (at t.k) (at l)) (square-positive n plane.0.area)
+        (subst (λ x. x ≤ℤ pos 0)
+        (sym (level_volume (at t.u) (at t.v) (at t.w) (at t.i) (at t.j) (at t.k) (at l) (corner t.i has_i).1 (corner t.j has_j).1 (corner t.k has_k).1))
+        (mul-nonneg_nonpos (left n (at t.i) (at t.j) (at t.k)) (vol (at t.u) (at t.v) (at t.w) (at l)) (positive_le _ turn) (plane.0.supports l a)));
+  }
+
+  -- with the same polygon
+  polygon : IsFacePolygon at (Members ids) t.i t.j t.k face
+  polygon =
+      let along = level_along (at t.u) (at t.v) (at t.w) (at t.i) (at t.j) (at t.k) plane.0.area (corner t.i has_i).1 (corner t.j has_j).1 (corner t.k has_k).1 turn in
+      seen_from at (Members ids) t.u t.v t.w t.i t.j t.k face plane.1 along (corner t.i has_i).1
+
+  pub turned_piece : IsPiece at (Members ids) q
+  turned_piece = (t.i, t.j, t.k, triple, (t.begins, (face, polygon, met)))
+
+-- so is one of the faces of a solid set
+pub piece_among : (pts : List Vector) (ids : List ℕ) (faces : List (List ℕ)) (q : List ℕ) → AreFaces (place pts) (Members ids) faces
+    → IsPieceAmong pts faces q → IsFaceOf Piece pts ids q
+piece_among pts ids faces q are (k, (l, met, t)) =
+    λ d. turned_piece pts ids d (get_or faces k []) q (are.only (get_or faces k []) (In-get_or faces k [] l)) met t
+
+-- the polygons of the hull of a solid set are its faces
+pub faces_of_body : (pts : List Vector) (ids : List ℕ) → IsIdSet pts ids → IsDimension (place pts) (Members ids) 3
+    → (b : BodyValue) → IsBody (place pts) (Members ids) b → (faces : List (List ℕ)) → b.polygons ≡ faces
+    → AreFaces (place pts) (Members ids) faces
+faces_of_body pts ids set solid b body faces e =
+    faces_of pts ids faces set solid (b.dim, body.dim, subst (ArePolygons (place pts) (Members ids) b.dim) e body.polygons)

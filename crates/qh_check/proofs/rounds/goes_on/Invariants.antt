@@ -1,0 +1,9 @@
+-- What was looked at is met from the place of its first on.
+use Rattle.std.proofs.Common.{◌+◌, ◌-◌, ◌≤◌, drop, length}
+use Rattle.qh_check.specs.contract.Pieces.{IsMetAlong}
+use Rattle.qh_check.specs.steps.Rounds.{way_behind}
+use Rattle.qh_check.proofs.rounds.goes_on.Given as goal
+
+abbrev pub invariant-loop-index : goal.invariant-loop-index
+invariant-loop-index l = (l.before + 1 ≤ length l.face)
+    × IsMetAlong (drop (length l.rest - l.index) l.rest) (drop l.before (way_behind l.face l.begin))

@@ -1,0 +1,73 @@
+//! Whether a polygon is a piece of a given face of a hull.
+//!
+//! The corners of a face stand in its polygon in their order. So no plane is asked again: a piece is met on the way
+//! round the face, and its first three corners turn as those of the face do.
+ghost use Rattle.std.specs.Prelude.{IsTrue};
+ghost use Rattle.qh_check.specs.steps.HullFaces.{IsPieceOfFace, TurnsAlike};
+
+use crate::faces::Three;
+use crate::rounds::{goes_round, is_met_round};
+use qh_model::{Id, Point, Polygon};
+use qh_pred::{cross, left, point_at};
+
+/// Returns true if a polygon has three corners at most.
+pub(crate) fn is_triangle(ids: &[Id]) -> bool {
+    ids.len() <= 3
+}
+
+/// Faces of the hull of points, in rising order.
+#[derive(Clone, Copy, Drop)]
+pub(crate) struct HullFaces<'a> {
+    pub pts: &'a [Point],
+    pub faces: &'a [Polygon],
+}
+
+/// Returns true if the first three corners of a polygon turn left in the plane of a face, seen from the same side.
+fn turns_alike(pts: &[Point], face: &Polygon, claimed: &Polygon) -> bool
+    ensures { IsTrue result → TurnsAlike pts.now face.now claimed.now }
+{
+    let Some(plane) = Three::of(pts, face) else {
+        return false;
+    };
+    let Some(three) = Three::of(pts, claimed) else {
+        return false;
+    };
+    let normal = cross(
+        point_at(pts, plane.i),
+        point_at(pts, plane.j),
+        point_at(pts, plane.k),
+    );
+    left(
+        &normal,
+        point_at(pts, three.i),
+        point_at(pts, three.j),
+        point_at(pts, three.k),
+    )
+    .is_gt()
+}
+
+impl HullFaces<'_> {
+    /// Returns true if the face at a position is a triangle, and a polygon goes round its corners.
+    pub fn is_triangle_at(self, position: usize, claimed: &Polygon) -> bool
+        ensures { IsTrue result → IsPieceOfFace self.entry.pts.now self.entry.faces.now position claimed.now }
+    {
+        if position >= self.faces.len() {
+            return false;
+        }
+        let face = &self.faces[position];
+        is_triangle(face.ids())
+            && is_met_round(claimed.ids(), face.ids())
+            && turns_alike(self.pts, face, claimed)
+    }
+
+    /// Returns true if a polygon goes round corners of the face at a position, which stand at these positions of it.
+    pub fn has_piece_at(self, position: usize, claimed: &Polygon, corners: &[usize]) -> bool
+        ensures { IsTrue result → IsPieceOfFace self.entry.pts.now self.entry.faces.now position claimed.now }
+    {
+        if position >= self.faces.len() {
+            return false;
+        }
+        let face = &self.faces[position];
+        goes_round(claimed.ids(), face.ids(), corners) && turns_alike(self.pts, face, claimed)
+    }
+}
