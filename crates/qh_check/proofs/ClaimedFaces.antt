@@ -18,7 +18,7 @@ use Rattle.qh_model.proofs.hulls.SameSets.{extreme_as}
 use Rattle.qh_model.proofs.polygons.Direction.{polygon_as}
 use Rattle.qh_pred.specs.contract.Planes.{PlaneValue, height}
 use Rattle.qh_plane.specs.contract.PlanarSets.{IsPlanarSet}
-use Rattle.qh_check.specs.steps.Places.{AreLevel}
+use Rattle.qh_places.specs.contract.Places.{AreLevel}
 
 -- the same ids in another order
 pub level_as : (pts : List Vector) (ids : List ℕ) (plane : PlaneValue) (found level : List ℕ)

@@ -1,17 +1,12 @@
-pub mod BlockBoxes
-pub mod BundleSlabs
 pub mod Chunks
 pub mod ClaimedFaces
 pub mod FaultCases
 pub mod FirstCorners
-pub mod FoundIds
 pub mod FoundParts
 pub mod HullPieces
 pub mod Listed
-pub mod NearPositions
 pub mod OrderedPolygons
 pub mod Pieces
-pub mod PointBoxes
 pub mod MetBehind
 pub mod MetLists
 pub mod RepeatedNumbers

@@ -2,14 +2,13 @@
 use Rattle.std.proofs.Common.{◌≡◌, ℕ, ◌+◌, ◌<◌, ◌≤◌, arith, refl, sym, subst, inl, inr, List, [], ◌∷◌, length, get_or, take, drop, ◌⊎◌}
 use Rattle.std.proofs.Common.{◌++◌, All, Bool, true, false, eqb, eqb-true}
 use Rattle.std.proofs.lemmas.List.{take-append-drop, get_or_default, get_or-take, length-take, take_more}
-use Rattle.std.proofs.lemmas.List.Elements.{All-append}
 use Rattle.std.specs.Prelude.{◌||◌}
 use Rattle.std.specs.Cmp.Lexicographic.{pointwise}
 use Rattle.std.specs.List.{list_any}
 use Rattle.qh_model.specs.headline.Sets.{In}
-use Rattle.qh_model.proofs.Members.{All-of}
 use Rattle.qh_model.proofs.lists.Joined.{of_append}
 use Rattle.qh_model.proofs.closed_surfaces.SignedVolume.{eqb-refl}
+use Rattle.qh_places.proofs.Listed.{all_and}
 
 pub any_in : (x : ℕ) (xs : List ℕ) → list_any (λ y. eqb y x) xs ≡ true → In x xs
 any_in x [] e = cc
@@ -36,18 +35,7 @@ same_itself [] = refl
 same_itself (x ∷ xs) = rw (eqb-refl x) (same_itself xs)
 
 -- ---- what holds of each so far
-All-one : {X : Type 0} (P : X → Type 0) (x : X) → P x → All P (x ∷ [])
-All-one {X} P x h = All-of P (x ∷ []) one
-  where
-    one : (y : X) → In y (x ∷ []) → P y
-    one y (inl e) = subst P (sym e) h
-    one y (inr n) = absurd n
-
--- of one more at the end
-pub all_and : {X : Type 0} (P : X → Type 0) (xs : List X) (x : X) → All P xs → P x → All P (xs ++ x ∷ [])
-all_and P xs x h p = All-append P xs (x ∷ []) h (All-one P x p)
-
--- and of one more of a list
+-- of one more of a list
 pub all_goes : {X : Type 0} (P : X → Type 0) (xs : List X) (k : ℕ) (x : X) → All P (take k xs) → k < length xs
     → x ≡ get_or xs k x → P x → All P (take (k + 1) xs)
 all_goes P xs k x h l e p =

@@ -3,8 +3,8 @@ ghost use Rattle.std.specs.Prelude.{◌≡◌, ◌%◌, ◌<◌, ℕ, IfOk, leng
 ghost use Rattle.qh_model.specs.headline.Sets.{In};
 ghost use Rattle.qh_check.specs.steps.Asking.{position_in};
 
-use crate::outward::first_rank;
 use qh_model::Polygon;
+use qh_places::first_rank;
 use std::alloc::{AllocError, Global};
 
 /// The room of a position in a key: 2^64.

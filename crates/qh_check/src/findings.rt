@@ -2,11 +2,10 @@
 ghost use Rattle.std.specs.Prelude.{◌≡◌, ◌<◌, ℕ, List, [], IfOk, MatchOption, Ok, Some, None, length, slice_index_or};
 ghost use Rattle.std.specs.List.{All};
 ghost use Rattle.qh_model.specs.headline.Sets.{In};
-ghost use Rattle.qh_check.specs.steps.Places.{ArePlaces};
+ghost use Rattle.qh_places.specs.contract.Places.{ArePlaces};
 ghost use Rattle.qh_check.specs.steps.Faces.{IsFaultOf};
 ghost use Rattle.qh_check.specs.steps.Findings.{IsFaceAmong, IsFound};
 
-use crate::bundles::Bundle;
 use crate::faces::{NearSet, PlacedSet, fault_of};
 use crate::verdict::FaceFault;
 use qh_model::{Id, Memory, Polygon};
@@ -34,9 +33,7 @@ fn fault_in_group(
         → MatchOption found (All (IsFaceAmong set.entry.extent set.entry.pts.now ids polygons.now) group.now)
         (IsFound set.entry.extent set.entry.pts.now ids polygons.now)) }
 {
-    let near = set
-        .places
-        .near(alloc, Bundle::of(set.pts, polygons, group))?;
+    let near = set.places.near_polygons(alloc, set.pts, polygons, group)?;
     let near_set = NearSet {
         extent: set.extent,
         pts: set.pts,

@@ -6,14 +6,11 @@
 //! supporting plane (`faces`), and each step has to be taken as often as the step back (`closed`). Nobody
 //! needs to know how the polygons were found.
 //!
-//! A plane asks few of the points: they stand along a Morton curve (`places`), with boxes over consecutive
-//! positions (`levels`, `boxes`), and a plane is above most boxes. `order` tells whether the polygons stand in
-//! lexicographic order.
+//! A plane asks few of the points: they stand along a Morton curve, with boxes over consecutive positions
+//! (`qh_places`), and a plane is above most boxes. `order` tells whether the polygons stand in lexicographic order.
 #![tactic(auto)]
 
 mod asking;
-mod boxes;
-mod bundles;
 mod claims;
 mod closed;
 mod corner_table;
@@ -24,21 +21,18 @@ mod findings;
 mod flaw;
 mod found_pieces;
 mod hull_faces;
-mod levels;
 mod order;
-mod outward;
-mod places;
 mod rounds;
-mod slabs;
 mod solids;
-mod stretched;
 mod surfaces;
 #[cfg(test)]
 mod tests;
 mod verdict;
 
 pub use claims::{check, check_by_workers};
+pub use closed::{Step, open_step};
 pub use extent::Extent;
 pub use flaw::SurfaceVerdict;
+pub use order::out_of_order;
 pub use surfaces::check_surface;
 pub use verdict::{FaceFault, Verdict};

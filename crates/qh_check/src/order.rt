@@ -18,7 +18,7 @@ fn comes_before(p: &[Id], q: &[Id]) -> bool
 }
 
 /// The position of the first polygon that does not come before the next.
-pub(crate) fn out_of_order(polygons: &[Polygon]) -> Option<usize>
+pub fn out_of_order(polygons: &[Polygon]) -> Option<usize>
     ensures { MatchOption result (RiseStrictly polygons.now) (IsOutOfOrder polygons.now) }
 {
     for next in 1..polygons.len() {

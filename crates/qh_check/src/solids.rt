@@ -18,9 +18,9 @@ use crate::extent::Extent;
 use crate::faces::PlacedSet;
 use crate::findings::{Asked, Finding, first_fault, first_fault_in_parts};
 use crate::order::out_of_order;
-use crate::places::Places;
 use crate::verdict::Verdict;
 use qh_model::{Id, Memory, Point, Polygon};
+use qh_places::Places;
 use std::alloc::Global;
 use std::thread::Threads;
 

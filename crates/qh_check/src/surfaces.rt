@@ -11,7 +11,7 @@ ghost use Rattle.qh_check.specs.declared.flaw.SurfaceVerdict.TheVariants.{Right,
 ghost use Rattle.qh_check.specs.contract.Surfaces.{IsHullSurface, IsSurfaceReason};
 ghost use Rattle.qh_check.specs.steps.Faces.{IsFaceOf};
 ghost use Rattle.qh_check.specs.steps.Findings.{IsFaceAmong, IsFound};
-ghost use Rattle.qh_check.specs.steps.Places.{ArePlaces};
+ghost use Rattle.qh_places.specs.contract.Places.{ArePlaces};
 ghost use Rattle.qh_check.specs.steps.Verdicts.{IsSurfaceVerdictOf};
 
 use crate::asking::by_rank;
@@ -22,9 +22,9 @@ use crate::faces::PlacedSet;
 use crate::findings::{Asked, Finding, first_fault, first_fault_in_parts};
 use crate::flaw::SurfaceVerdict;
 use crate::found_pieces::are_pieces_of_hull;
-use crate::places::Places;
 use crate::verdict::Verdict;
 use qh_model::{Id, Memory, Point, Polygon};
+use qh_places::Places;
 use qh_plane::{Shape, rank};
 use std::alloc::Global;
 use std::thread::Threads;

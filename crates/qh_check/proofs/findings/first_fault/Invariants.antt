@@ -2,7 +2,7 @@
 use Rattle.std.proofs.Common.{ℕ, List, length, ◌⊎◌}
 use Rattle.qh_model.specs.headline.Sets.{In}
 use Rattle.qh_check.specs.steps.Findings.{IsFaceAmong}
-use Rattle.qh_check.specs.steps.Places.{ArePlaces}
+use Rattle.qh_places.specs.contract.Places.{ArePlaces}
 use Rattle.qh_check.proofs.findings.first_fault.Given as goal
 
 abbrev pub invariant-loop-rest : goal.invariant-loop-rest

@@ -1,7 +1,0 @@
--- One shifted is a power of two.
-use Rattle.std.proofs.Common.{arith}
-use Rattle.std.proofs.lemmas.Nat.{one_shl}
-use Rattle.qh_check.proofs.levels.positions.Goals as goal
-
-pub returns : goal.returns
-returns c = one_shl c.args.shift 64 (omega (arith, c.requires))

@@ -1,8 +1,0 @@
--- What is found up to a position.
-use Rattle.std.proofs.Common.{◌≤◌}
-use Rattle.qh_check.specs.steps.Levels.{HasLooked}
-use Rattle.qh_check.proofs.places.Places.look.Given as goal
-
-abbrev pub invariant-loop-position : goal.invariant-loop-position
-invariant-loop-position l =
-    HasLooked l.self.points.items l.self.ids.items l.plane l.from l.position l.initial.found.items l.found.items

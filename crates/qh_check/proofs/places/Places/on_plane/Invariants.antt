@@ -1,6 +1,0 @@
--- What is seen at the starts so far.
-use Rattle.qh_check.specs.steps.Levels.{HasSeen}
-use Rattle.qh_check.proofs.places.Places.on_plane.Given as goal
-
-abbrev pub invariant-loop-index : goal.invariant-loop-index
-invariant-loop-index l = HasSeen l.self.points.items l.self.ids.items l.plane l.near.starts.items l.index l.found.items

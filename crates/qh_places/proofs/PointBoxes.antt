@@ -1,0 +1,49 @@
+-- Boxes round points, and boxes below planes: a scalar product over a box is greatest at a corner.
+use Rattle.std.proofs.Common.{◌≡◌, ℕ, ◌+◌, ◌<◌, ◌≤◌, arith, subst, ◌∙◌, inl, inr, List, length, get_or}
+use Rattle.std.proofs.lemmas.List.{get_or_default}
+use Rattle.std.proofs.lemmas.Int.{ints, by_lt_z}
+use Rattle.std.proofs.lemmas.Bool.{cases_lt}
+use Rattle.std.specs.Prelude.{ℤ, pos, ◌*ℤ◌, neg_ℤ, ◌<ℤ◌, ◌≤ℤ◌}
+use Rattle.qh_model.specs.headline.Vector.{Vector, origin}
+use Rattle.qh_model.proofs.algebra.{Order.mul-le, Integers.neg_mul}
+use Rattle.qh_pred.specs.contract.Planes.{PlaneValue, height}
+use Rattle.qh_places.specs.declared.boxes.PointBox.{PointBox}
+use Rattle.qh_places.specs.contract.Bundles.{IsBetween}
+use Rattle.qh_places.specs.steps.Boxes.{IsWithin, IsFarEnd, IsBoxOf}
+
+pub le_trans : (a b c : ℤ) → a ≤ℤ b → b ≤ℤ c → a ≤ℤ c
+le_trans a b c h k = omega (arith, ints)
+
+-- ---- planes
+-- with a factor above 0 the greatest number gives the greatest product, with one not above 0 the least
+pub greatest : (a l h e n : ℤ) → IsFarEnd a l h e → IsBetween l n h → (a *ℤ n) ≤ℤ (a *ℤ e)
+greatest a l h e n far in_range = by_lt_z (pos 0) a
+    (λ up. let q = far.0 up in mul-le a n e (omega (arith, ints)) (omega (arith, ints)))
+    (λ down. let q = far.1 down in let more = mul-le (neg_ℤ a) e n (omega (arith, ints)) (omega (arith, ints)) in
+    omega (arith, ints, neg_mul a e, neg_mul a n, more))
+
+-- so a box is below a plane where its corner that lies furthest along the normal is
+pub below_by_corner : (b : PointBox) (plane : PlaneValue) (n q : Vector) → n ≡ plane.normal
+    → IsFarEnd n.x b.low.x b.high.x q.x → IsFarEnd n.y b.low.y b.high.y q.y → IsFarEnd n.z b.low.z b.high.z q.z
+    → height plane q <ℤ pos 0 → (p : Vector) → IsWithin b p → height plane p <ℤ pos 0
+below_by_corner b plane n q e x y z h p w =
+    let at_x = rw e at (greatest n.x b.low.x b.high.x q.x p.x x w.x) in
+    let at_y = rw e at (greatest n.y b.low.y b.high.y q.y p.y y w.y) in
+    let at_z = rw e at (greatest n.z b.low.z b.high.z q.z p.z z w.z) in omega (arith, ints, at_x, at_y, at_z, h)
+
+-- ---- points
+-- one more point
+pub box_grows : (points : List Vector) (k : ℕ) (b c : PointBox) (p : Vector) → IsBoxOf points 0 k b
+    → ((q : Vector) → IsWithin b q → IsWithin c q) → k < length points → p ≡ get_or points k p → IsWithin c p
+    → IsBoxOf points 0 (k + 1) c
+box_grows points k b c p h f l e own j from to m = elim (cases_lt j k) [
+  | inl x ↦ f _ (h j from x m)
+  | inr x ↦ (let same : k ≡ j = omega arith in
+      subst (λ i. IsWithin c (get_or points i origin)) same
+      (subst (IsWithin c) (e ∙ get_or_default points k p origin l) own))
+]
+
+-- all points
+pub box_whole : (points : List Vector) (k : ℕ) (b : PointBox) → IsBoxOf points 0 k b → length points ≤ k
+    → IsBoxOf points 0 (length points) b
+box_whole points k b h l j from to m = h j from (omega arith) m

@@ -1,0 +1,51 @@
+-- The sum of the bounds along the three axes.
+use Rattle.std.proofs.Common.{rules}
+use Rattle.std.specs.Prelude.{◌-ℤ◌}
+use Rattle.qh_places.proofs.BundleSlabs.{way_between, three_below}
+use Rattle.qh_places.proofs.bundles.Bundle.far_rest.Goals as goal
+use Rattle.std.proofs.lemmas.Int.{to_z-of_z}
+use mir.Syntax.{w16, w32, w64, w128}
+use mir.Val.{SFits}
+
+pub returns-clause-value : goal.returns-clause-value
+returns-clause-value c = λ n p spans within.
+    let o = c.args.self.now.origin in let b = c.args.bounds.now in
+    let kx : SFits w16 c.args.along.x = search rules in
+    let ky : SFits w16 c.args.along.y = search rules in
+    let kz : SFits w16 c.args.along.z = search rules in
+    let fx : SFits w32 c.x.result = search rules in
+    let fx-2 : SFits w32 c.x-2.result = search rules in
+    let fx-3 : SFits w32 c.x-3.result = search rules in
+    let fx-4 : SFits w32 c.x-4.result = search rules in
+    let fy : SFits w32 c.y.result = search rules in
+    let fy-2 : SFits w32 c.y-2.result = search rules in
+    let fy-3 : SFits w32 c.y-3.result = search rules in
+    let fy-4 : SFits w32 c.y-4.result = search rules in
+    let fz : SFits w32 c.z.result = search rules in
+    let fz-2 : SFits w32 c.z-2.result = search rules in
+    let fz-3 : SFits w32 c.z-3.result = search rules in
+    let fz-4 : SFits w32 c.z-4.result = search rules in
+    let fway : SFits w64 c.way.result = search rules in
+    let fway-2 : SFits w64 c.way-2.result = search rules in
+    let fway-3 : SFits w64 c.way-3.result = search rules in
+    let fway-4 : SFits w64 c.way-4.result = search rules in
+    let fway-5 : SFits w64 c.way-5.result = search rules in
+    let fway-6 : SFits w64 c.way-6.result = search rules in
+    let gfar_rest : SFits w128 c.far_rest.result = search rules in
+    let gfar_rest-2 : SFits w128 c.far_rest-2.result = search rules in
+    let gfar_rest-3 : SFits w128 c.far_rest-3.result = search rules in
+    let gsum : SFits w128 c.sum.result = search rules in
+    let lowx = rw (c.x-2.ensures.value, c.x.ensures.value) at (simp to_z-of_z at c.way.ensures.value) in
+    let highx = rw (c.x-4.ensures.value, c.x-3.ensures.value) at (simp to_z-of_z at c.way-2.ensures.value) in
+    let topx = (simp to_z-of_z at c.far_rest.ensures.value) n.x (p.x -ℤ o.x) spans.x
+    (way_between b.low.x p.x b.high.x o.x c.way.result c.way-2.result lowx highx within.x) in
+    let lowy = rw (c.y-2.ensures.value, c.y.ensures.value) at (simp to_z-of_z at c.way-3.ensures.value) in
+    let highy = rw (c.y-4.ensures.value, c.y-3.ensures.value) at (simp to_z-of_z at c.way-4.ensures.value) in
+    let topy = (simp to_z-of_z at c.far_rest-2.ensures.value) n.y (p.y -ℤ o.y) spans.y
+    (way_between b.low.y p.y b.high.y o.y c.way-3.result c.way-4.result lowy highy within.y) in
+    let lowz = rw (c.z-2.ensures.value, c.z.ensures.value) at (simp to_z-of_z at c.way-5.ensures.value) in
+    let highz = rw (c.z-4.ensures.value, c.z-3.ensures.value) at (simp to_z-of_z at c.way-6.ensures.value) in
+    let topz = (simp to_z-of_z at c.far_rest-3.ensures.value) n.z (p.z -ℤ o.z) spans.z
+    (way_between b.low.z p.z b.high.z o.z c.way-5.result c.way-6.result lowz highz within.z) in
+    let total = simp to_z-of_z at c.sum.ensures.value in
+    simp to_z-of_z (three_below _ _ _ _ _ _ c.sum.result total topx topy topz)

@@ -1,0 +1,20 @@
+-- The product at the far end is the greatest.
+use Rattle.std.proofs.Common.{rules, subst, sym}
+use Rattle.std.specs.Prelude.{◌*ℤ◌, ◌≤ℤ◌}
+use Rattle.qh_places.proofs.PointBoxes.{greatest}
+use Rattle.qh_places.proofs.bundles.far_product.Goals as goal
+use Rattle.std.proofs.lemmas.Int.{to_z-of_z}
+use mir.Syntax.{w64, w128}
+use mir.Val.{SFits}
+
+pub returns-clause-value : goal.returns-clause-value
+returns-clause-value c = λ r within.
+    let fw : SFits w64 c.args.way = c.ranges.way in
+    let fl : SFits w128 c.args.low = c.ranges.low in
+    let fh : SFits w128 c.args.high = c.ranges.high in
+    let fe : SFits w128 c.far_end.result = search rules in
+    let fp : SFits w128 c.way_product.result = search rules in
+    let far = simp to_z-of_z at c.far_end.ensures.far in
+    let value = simp to_z-of_z at c.way_product.ensures.value in
+    let most = greatest c.args.way c.args.low c.args.high c.far_end.result r far within in
+    simp to_z-of_z (subst (λ x. (c.args.way *ℤ r) ≤ℤ x) (sym value) most)

@@ -1,0 +1,1 @@
+-- Beyond the end and below the plane is nothing to see.

@@ -1,0 +1,10 @@
+-- The starts so far are near up to a position.
+use Rattle.std.proofs.Common.{◌-◌, length}
+use Rattle.qh_places.specs.contract.Near.{IsNearUpTo}
+use Rattle.qh_places.proofs.places.Places.near.Given as goal
+
+abbrev pub invariant-loop-from : goal.invariant-loop-from
+invariant-loop-from l = IsNearUpTo l.self.points.items l.bundle l.starts.items l.from
+
+abbrev pub decreases-loop-from : goal.decreases-loop-from
+decreases-loop-from l = length l.self.points.items - l.from

@@ -1,0 +1,28 @@
+-- The ids along the curve are those of the set.
+use Rattle.std.proofs.Common.{◌∙◌, ap, length, map}
+use Rattle.std.proofs.lemmas.List.{length-map}
+use Rattle.std.proofs.lemmas.List.Sorted.{IsPermutation-sym}
+use Rattle.qh_model.specs.headline.Predicates.{place}
+use Rattle.qh_model.proofs.Members.{in_permutation}
+use Rattle.qh_surface.proofs.runs.OrderedIds.{indices_reordered}
+use Rattle.qh_places.proofs.places.Places.over.Goals as goal
+
+pub points_of-requires : goal.points_of-requires
+points_of-requires c =
+    rw c.deref.ensures.value (indices_reordered c.in_ok-ids.ensures c.args.pts.now c.requires.indices)
+
+pub invariant_of-result : goal.invariant_of-result
+invariant_of-result c = record {
+  same =
+      ap length c.in_ok-points.ensures ∙ length-map c.deref.result.now (place c.args.pts.now)
+      ∙ ap length c.deref.ensures.value;
+  blocks = rw c.deref-4.ensures.value at c.in_ok-levels.ensures;
+  lowest = rw c.deref-6.ensures.value at c.in_ok-leaves.ensures;
+}
+
+pub returns : goal.returns
+returns c =
+    let ids = c.args.ids.now in let near = c.in_ok-ids.ids.items in let order = c.in_ok-ids.ensures in record {
+      same = λ l. (in_permutation near ids (IsPermutation-sym ids near order) l, in_permutation ids near order l);
+      points = c.in_ok-points.ensures ∙ ap (map (place c.args.pts.now)) c.deref.ensures.value;
+    }

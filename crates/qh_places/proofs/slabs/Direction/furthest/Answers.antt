@@ -1,0 +1,27 @@
+-- One more point reaches no further.
+use Rattle.std.proofs.Common.{rules, arith, subst, ◌∙◌, inl, inr, ◌≡◌, get_or}
+use Rattle.std.proofs.lemmas.List.{get_or_default}
+use Rattle.std.proofs.lemmas.Bool.{cases_lt}
+use Rattle.std.specs.Prelude.{◌≤ℤ◌}
+use Rattle.qh_model.specs.headline.Vector.{Vector, origin, dot}
+use Rattle.qh_places.specs.steps.Slabs.{vector_of}
+use Rattle.qh_places.proofs.PointBoxes.{le_trans}
+use Rattle.qh_places.proofs.slabs.Direction.furthest.Goals as goal
+use Rattle.std.proofs.lemmas.Int.{to_z-of_z}
+use mir.Syntax.{w64}
+use mir.Val.{SFits}
+
+pub loop-point-preserved : goal.loop-point-preserved
+loop-point-preserved c = λ k l m.
+    let fr : SFits w64 c.reach.result = search rules in
+    let fm : SFits w64 c.max-furthest.result = search rules in
+    let up = c.max-furthest.ensures.self_bound in
+    let own = simp to_z-of_z at c.max-furthest.ensures.other_bound in
+    simp to_z-of_z (elim (cases_lt k c.loop-point.point-index) [
+      | inl x ↦ le_trans _ _ _ (c.loop-point.invariant k x m) up
+      | inr x ↦ (let same : c.loop-point.point-index ≡ k = omega (arith, l, x) in
+          let here = c.point-item.is ∙ get_or_default c.args.points.now c.loop-point.point-index _ origin c.loop-point-test.true in
+          subst (λ i. dot (vector_of c.args.self) (get_or c.args.points.now i origin) ≤ℤ c.max-furthest.result) same
+          (subst (λ (v : Vector). dot (vector_of c.args.self) v ≤ℤ c.max-furthest.result) here
+          (subst (λ r. r ≤ℤ c.max-furthest.result) c.reach.ensures.value own)))
+    ])

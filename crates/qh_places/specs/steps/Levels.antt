@@ -1,0 +1,58 @@
+-- Blocks of consecutive positions of a list of points, and what they and the points tell of a plane.
+use Rattle.std.specs.Prelude.{ℕ, ◌≡◌, ◌+◌, ◌-◌, ◌*◌, ◌^◌, ◌<◌, ◌≤◌, List, length, pos, ◌≤ℤ◌, ◌<ℤ◌, slice_index_or}
+use Rattle.qh_model.specs.headline.Vector.{Vector, origin}
+use Rattle.qh_model.specs.headline.Sets.{In}
+use Rattle.qh_pred.specs.contract.Planes.{PlaneValue}
+use Rattle.qh_places.specs.declared.slabs.Block.{Block}
+use Rattle.qh_places.specs.declared.bundles.Bundle.{Bundle}
+use Rattle.qh_places.specs.declared.levels.Level.{Level}
+use Rattle.qh_places.specs.contract.Bundles.{IsOfBundle}
+use Rattle.qh_places.specs.contract.Near.{rise_at, IsBegun}
+use Rattle.qh_places.specs.steps.Slabs.{IsBlockOf}
+
+-- each block has the points of its positions
+abbrev pub AreBlocks : List Vector → ℕ → List Block → Type 0
+AreBlocks points size bs =
+    (n : ℕ) (b : Block) → n < length bs → b ≡ slice_index_or bs n b → IsBlockOf points (n * size) (n * size + size) b
+
+abbrev pub IsLevel : List Vector → Level → Type 0
+IsLevel points l = AreBlocks points (2 ^ l.shift) l.blocks.items
+
+-- the positions so far have their blocks, and the rest is left
+pub record HasBlocks (points rest : List Vector) (size : ℕ) (bs : List Block) : Type 0 where
+  pub blocks : AreBlocks points size bs
+  pub len : length rest ≡ length points - length bs * size
+  pub same : (k : ℕ) → k < length rest → slice_index_or rest k origin ≡ slice_index_or points (length bs * size + k) origin
+
+-- the plane is strictly above the points from one position to another
+abbrev pub AreBelow : List Vector → PlaneValue → ℕ → ℕ → Type 0
+AreBelow points plane from to = (k : ℕ) → from ≤ k → k < to → k < length points → rise_at points plane k <ℤ pos 0
+
+-- i is the id at a position whose point is above the plane
+abbrev pub IsAboveAt : List Vector → List ℕ → PlaneValue → ℕ → Type 0
+IsAboveAt points ids plane i =
+    (k : ℕ) × (k < length points) × (slice_index_or ids k 0 ≡ i) × (pos 0 <ℤ rise_at points plane k)
+
+-- each plane of the bundle is strictly above the points from one position to another
+abbrev pub AreBelowAll : List Vector → Bundle → ℕ → ℕ → Type 0
+AreBelowAll points b from to = (plane : PlaneValue) → IsOfBundle b plane → AreBelow points plane from to
+
+-- each id that is found is at a position whose point is in the plane
+abbrev pub AreOn : List Vector → List ℕ → PlaneValue → List ℕ → Type 0
+AreOn points ids plane found = (i : ℕ) → In i found
+    → (k : ℕ) × (k < length points) × (slice_index_or ids k 0 ≡ i) × (rise_at points plane k ≡ pos 0)
+
+-- no point from a position to another is above the plane, and the ids of those in it are found, beside the old
+pub record HasLooked (points : List Vector) (ids : List ℕ) (plane : PlaneValue) (from to : ℕ) (old found : List ℕ) : Type 0 where
+  pub below : (k : ℕ) → from ≤ k → k < to → k < length points → rise_at points plane k ≤ℤ pos 0
+  pub lists : (k : ℕ) → from ≤ k → k < to → k < length points → rise_at points plane k ≡ pos 0
+      → In (slice_index_or ids k 0) found
+  pub kept : (i : ℕ) → In i old → In i found
+  pub only : AreOn points ids plane old → AreOn points ids plane found
+
+-- the same of the positions that begin at the first n of the starts
+pub record HasSeen (points : List Vector) (ids : List ℕ) (plane : PlaneValue) (starts : List ℕ) (n : ℕ) (found : List ℕ) : Type 0 where
+  pub below : (k : ℕ) → IsBegun starts n k → k < length points → rise_at points plane k ≤ℤ pos 0
+  pub lists : (k : ℕ) → IsBegun starts n k → k < length points → rise_at points plane k ≡ pos 0
+      → In (slice_index_or ids k 0) found
+  pub only : AreOn points ids plane found

@@ -1,0 +1,123 @@
+//! Boxes of space with sides along the axes, round points.
+ghost use Rattle.std.specs.Prelude.{◌≡◌, ◌⊎◌, ◌<◌, ◌≤ℤ◌, ◌<ℤ◌, pos, length, IsTrue};
+ghost use Rattle.qh_model.specs.headline.Vector.{Vector};
+ghost use Rattle.qh_pred.specs.contract.Planes.{height};
+ghost use Rattle.qh_places.specs.steps.Boxes.{IsWithin, IsFarEnd, IsBoxOf};
+
+use qh_model::Point;
+use qh_pred::{Normal, Plane};
+
+/// The points from one corner to the opposite one, these among them.
+#[derive(Clone, Copy, Drop)]
+pub(crate) struct PointBox {
+    pub low: Point,
+    pub high: Point,
+}
+
+/// For each coordinate the lower one of two points.
+fn low_corner(p: Point, q: Point) -> Point
+    ensures x_p { result.x ≤ℤ p.x }
+    ensures x_q { result.x ≤ℤ q.x }
+    ensures y_p { result.y ≤ℤ p.y }
+    ensures y_q { result.y ≤ℤ q.y }
+    ensures z_p { result.z ≤ℤ p.z }
+    ensures z_q { result.z ≤ℤ q.z }
+{
+    Point::new(
+        lower(p.x(), q.x()),
+        lower(p.y(), q.y()),
+        lower(p.z(), q.z()),
+    )
+}
+
+/// For each coordinate the higher one of two points.
+fn high_corner(p: Point, q: Point) -> Point
+    ensures x_p { p.x ≤ℤ result.x }
+    ensures x_q { q.x ≤ℤ result.x }
+    ensures y_p { p.y ≤ℤ result.y }
+    ensures y_q { q.y ≤ℤ result.y }
+    ensures z_p { p.z ≤ℤ result.z }
+    ensures z_q { q.z ≤ℤ result.z }
+{
+    Point::new(
+        higher(p.x(), q.x()),
+        higher(p.y(), q.y()),
+        higher(p.z(), q.z()),
+    )
+}
+
+/// The lower of two coordinates.
+fn lower(a: i32, b: i32) -> i32
+    ensures end { (result ≡ a) ⊎ (result ≡ b) }
+    ensures below_a { result ≤ℤ a }
+    ensures below_b { result ≤ℤ b }
+{
+    if a < b { a } else { b }
+}
+
+/// The higher of two coordinates.
+fn higher(a: i32, b: i32) -> i32
+    ensures end { (result ≡ a) ⊎ (result ≡ b) }
+    ensures above_a { a ≤ℤ result }
+    ensures above_b { b ≤ℤ result }
+{
+    if a < b { b } else { a }
+}
+
+/// The end of a range at which a product with this factor is greatest.
+fn far_end(factor: i128, low: i32, high: i32) -> i32
+    ensures end { (result ≡ low) ⊎ (result ≡ high) }
+    ensures far { IsFarEnd factor low high result }
+{
+    if factor > 0 { high } else { low }
+}
+
+impl PointBox {
+    /// The box with one more point.
+    fn with(self, p: Point) -> PointBox
+        ensures own { IsWithin result p }
+        ensures others { (q : Vector) → IsWithin self q → IsWithin result q }
+    {
+        PointBox {
+            low: low_corner(self.low, p),
+            high: high_corner(self.high, p),
+        }
+    }
+
+    /// The smallest box round points.
+    pub fn around(points: &[Point]) -> PointBox
+        requires { 0 < length points.now }
+        ensures { IsBoxOf points.now 0 (length points.now) result }
+    {
+        let first = points[0];
+        let mut bounds = PointBox {
+            low: first,
+            high: first,
+        };
+        for point in points {
+            bounds = bounds.with(*point);
+        }
+        bounds
+    }
+
+    /// The corner that lies furthest along a normal.
+    fn far_corner(&self, normal: &Normal) -> Point
+        ensures x { IsFarEnd normal.now.x self.now.low.x self.now.high.x result.x }
+        ensures y { IsFarEnd normal.now.y self.now.low.y self.now.high.y result.y }
+        ensures z { IsFarEnd normal.now.z self.now.low.z self.now.high.z result.z }
+    {
+        Point::new(
+            far_end(normal.x(), self.low.x(), self.high.x()),
+            far_end(normal.y(), self.low.y(), self.high.y()),
+            far_end(normal.z(), self.low.z(), self.high.z()),
+        )
+    }
+
+    /// Returns true if the box lies strictly below the plane: its corner that lies furthest along the
+    /// normal does.
+    pub fn is_below(&self, plane: &Plane) -> bool
+        ensures { IsTrue result → (p : Vector) → IsWithin self.now p → height plane.now p <ℤ pos 0 }
+    {
+        plane.height(self.far_corner(&plane.normal())) < 0
+    }
+}

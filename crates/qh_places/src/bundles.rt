@@ -1,0 +1,358 @@
+//! Bundles of planes that slant nearly alike, so that one test of a block of points tells for all of them.
+//!
+//! A normal of the bundle is a whole number of times the direction of the block, and a rest. The rest is small where both slant
+//! alike, so that it matters little how long the box is.
+ghost use Rattle.std.specs.Prelude.{◌≡◌, ◌<◌, ◌≤◌, ◌^◌, ◌+ℤ◌, ◌*ℤ◌, ◌-ℤ◌, ◌≤ℤ◌, ◌<ℤ◌, ℤ, pos, IsTrue, unsigned_abs};
+ghost use Rattle.qh_model.specs.headline.Vector.{Vector, minus, dot};
+ghost use Rattle.qh_pred.specs.contract.Planes.{PlaneValue, height};
+ghost use Rattle.qh_pred.specs.contract.Bounds.{normal_limit};
+ghost use Rattle.qh_places.specs.contract.Bundles.{IsBetween};
+ghost use Rattle.qh_places.specs.steps.Boxes.{IsFarEnd, IsWithin};
+ghost use Rattle.qh_places.specs.contract.Bundles.{IsOfBundle, IsInSpans};
+ghost use Rattle.qh_places.specs.steps.Slabs.{vector_of, less_times, IsInBlock};
+
+use crate::boxes::PointBox;
+use crate::outward::corners_at;
+use crate::slabs::{Block, Direction};
+use qh_model::{Point, Polygon};
+use qh_pred::{Normal, Plane};
+
+/// The size that normals are scaled to, if they are smaller: 2^58.
+const SCALE: u64 = 288230376151711744;
+
+/// The most times that a direction is taken: 2^48.
+const TIMES_LIMIT: u64 = 281474976710656;
+
+/// The numbers from one to another.
+#[derive(Clone, Copy, Drop)]
+pub(crate) struct Span {
+    pub low: i64,
+    pub high: i64,
+}
+
+/// Bounds of the normals of planes, each scaled by a whole number, with how deep a point lies below each of the
+/// planes so scaled.
+#[derive(Clone, Copy, Drop)]
+pub(crate) struct Bundle {
+    pub origin: Point,
+    pub x: Span,
+    pub y: Span,
+    pub z: Span,
+    pub depth: i128,
+}
+
+/// The way from one coordinate to another.
+fn way(from: i32, to: i32) -> i64
+    ensures value { result ≡ to -ℤ from }
+    ensures limit { unsigned_abs result ≤ 2 ^ 32 }
+{
+    i64::from(to) - i64::from(from)
+}
+
+/// The end of a range at which a product with this factor is greatest.
+fn far_end(factor: i64, low: i128, high: i128) -> i128
+    requires low { unsigned_abs low ≤ 2 ^ 64 }
+    requires high { unsigned_abs high ≤ 2 ^ 64 }
+    ensures far { IsFarEnd factor low high result }
+    ensures limit { unsigned_abs result ≤ 2 ^ 64 }
+{
+    if factor > 0 { high } else { low }
+}
+
+/// The product of a way and a number.
+fn way_product(way: i64, number: i128) -> i128
+    requires way { unsigned_abs way ≤ 2 ^ 32 }
+    requires number { unsigned_abs number ≤ 2 ^ 64 }
+    ensures value { result ≡ way *ℤ number }
+    ensures limit { unsigned_abs result ≤ 2 ^ 96 }
+{
+    i128::from(way) * number
+}
+
+/// The greatest product of a way with the numbers from one to another.
+fn far_product(way: i64, low: i128, high: i128) -> i128
+    requires way { unsigned_abs way ≤ 2 ^ 32 }
+    requires low { unsigned_abs low ≤ 2 ^ 64 }
+    requires high { unsigned_abs high ≤ 2 ^ 64 }
+    ensures value { (r : ℤ) → IsBetween low r high → (way *ℤ r) ≤ℤ result }
+    ensures limit { unsigned_abs result ≤ 2 ^ 96 }
+{
+    way_product(way, far_end(way, low, high))
+}
+
+/// The sum of three products.
+fn sum(a: i128, b: i128, c: i128) -> i128
+    requires a { unsigned_abs a ≤ 2 ^ 96 }
+    requires b { unsigned_abs b ≤ 2 ^ 96 }
+    requires c { unsigned_abs c ≤ 2 ^ 96 }
+    ensures value { result ≡ a +ℤ b +ℤ c }
+    ensures limit { unsigned_abs result ≤ 2 ^ 98 }
+{
+    a + b + c
+}
+
+/// A number taken some times.
+fn taken(number: i128, times: u64) -> i128
+    requires number { unsigned_abs number ≤ 2 ^ 64 }
+    requires times { times ≤ TIMES_LIMIT }
+    ensures value { result ≡ pos times *ℤ number }
+    ensures limit { unsigned_abs result ≤ 2 ^ 112 }
+{
+    i128::from(times) * number
+}
+
+/// The difference of two reaches.
+fn reach_beyond(reach: i64, own: i64) -> i128
+    requires { unsigned_abs own ≤ 2 ^ 48 }
+    ensures value { result ≡ reach -ℤ own }
+    ensures limit { unsigned_abs result ≤ 2 ^ 64 }
+{
+    i128::from(reach) - i128::from(own)
+}
+
+/// The greater of two numbers.
+fn greater(a: i128, b: i128) -> i128
+    requires a { unsigned_abs a ≤ 2 ^ 96 }
+    requires b { unsigned_abs b ≤ 2 ^ 96 }
+    ensures above_a { a ≤ℤ result }
+    ensures above_b { b ≤ℤ result }
+    ensures limit { unsigned_abs result ≤ 2 ^ 96 }
+{
+    if a < b { b } else { a }
+}
+
+/// A number in 64 bits, or the nearest that they hold.
+fn narrow(number: i128) -> i64 {
+    i64::try_from(number).unwrap_or(if number > 0 { i64::MAX } else { i64::MIN })
+}
+
+/// How many times a normal is taken, so that it has about the size of `SCALE`.
+fn scale_of(normal: &Normal) -> u64
+    ensures some { 0 < result }
+    ensures limit { result ≤ SCALE }
+{
+    let flat = normal.x().unsigned_abs().max(normal.y().unsigned_abs());
+    let size = u64::try_from(flat.max(normal.z().unsigned_abs())).unwrap_or(SCALE);
+    (SCALE / size.max(1)).max(1)
+}
+
+/// A component of a normal, taken some times.
+fn scaled(component: i128, times: u64) -> i128
+    requires component { unsigned_abs component ≤ normal_limit }
+    requires times { times ≤ SCALE }
+    ensures { result ≡ component *ℤ pos times }
+{
+    component * i128::from(times)
+}
+
+/// Returns true if a point, by its height above a plane, is at least as deep below the plane as a number says,
+/// where the plane is taken some times.
+fn is_deep(height: i128, times: u64, depth: i128) -> bool
+    ensures { IsTrue result → (height *ℤ pos times +ℤ depth) ≤ℤ pos 0 }
+{
+    let Some(risen) = height.checked_mul(i128::from(times)) else {
+        return false;
+    };
+    match risen.checked_add(depth) {
+        Some(sum) => sum <= 0,
+        None => false,
+    }
+}
+
+/// A component of a direction, and how many times the direction is taken.
+#[derive(Clone, Copy, Drop)]
+struct Share {
+    times: u64,
+    component: i16,
+}
+
+impl Span {
+    /// The low end less a share.
+    fn low_rest(&self, share: Share) -> i128
+        requires { share.times ≤ TIMES_LIMIT }
+        ensures value { result ≡ self.now.low -ℤ pos share.times *ℤ share.component }
+        ensures limit { unsigned_abs result ≤ 2 ^ 64 }
+    {
+        i128::from(self.low) - i128::from(share.times) * i128::from(share.component)
+    }
+
+    /// The high end less a share.
+    fn high_rest(&self, share: Share) -> i128
+        requires { share.times ≤ TIMES_LIMIT }
+        ensures value { result ≡ self.now.high -ℤ pos share.times *ℤ share.component }
+        ensures limit { unsigned_abs result ≤ 2 ^ 64 }
+    {
+        i128::from(self.high) - i128::from(share.times) * i128::from(share.component)
+    }
+
+    /// The greatest product of two numbers: one of the span less the share, and one from `from` to `to`.
+    fn far_rest(&self, share: Share, from: i64, to: i64) -> i128
+        requires times { share.times ≤ TIMES_LIMIT }
+        requires from { unsigned_abs from ≤ 2 ^ 32 }
+        requires to { unsigned_abs to ≤ 2 ^ 32 }
+        ensures value { (n w : ℤ) → IsBetween self.now.low n self.now.high → IsBetween from w to
+            → ((n -ℤ pos share.times *ℤ share.component) *ℤ w) ≤ℤ result }
+        ensures limit { unsigned_abs result ≤ 2 ^ 96 }
+    {
+        let (low, high) = (self.low_rest(share), self.high_rest(share));
+        greater(far_product(from, low, high), far_product(to, low, high))
+    }
+
+    /// Returns true if a number is of the span.
+    fn has(self, number: i128) -> bool
+        ensures { IsTrue result → IsBetween self.low number self.high }
+    {
+        i128::from(self.low) <= number && number <= i128::from(self.high)
+    }
+
+    /// The span with one more number.
+    fn with(self, number: i64) -> Span {
+        Span {
+            low: self.low.min(number),
+            high: self.high.max(number),
+        }
+    }
+
+    /// The product of the middle of the span and a component, by their upper bits.
+    fn middle_product(self, component: i16) -> i64 {
+        (self.low / 2 + self.high / 2)
+            .wrapping_shr(28)
+            .wrapping_mul(i64::from(component))
+    }
+}
+
+impl Bundle {
+    /// A bundle of no planes.
+    fn none(origin: Point) -> Bundle {
+        let none = Span {
+            low: i64::MAX,
+            high: i64::MIN,
+        };
+        Bundle {
+            origin,
+            x: none,
+            y: none,
+            z: none,
+            depth: i128::MAX,
+        }
+    }
+
+    /// The bundle with one more plane.
+    fn with(self, plane: &Plane) -> Bundle {
+        let normal = plane.normal();
+        let times = scale_of(&normal);
+        let risen = plane.height(self.origin).checked_mul(i128::from(times));
+        let depth = match risen {
+            Some(height) => height.checked_neg().unwrap_or(i128::MIN),
+            None => i128::MIN,
+        };
+        Bundle {
+            origin: self.origin,
+            x: self.x.with(narrow(scaled(normal.x(), times))),
+            y: self.y.with(narrow(scaled(normal.y(), times))),
+            z: self.z.with(narrow(scaled(normal.z(), times))),
+            depth: self.depth.min(depth),
+        }
+    }
+
+    /// The bundle of the planes of polygons, by their positions, seen from the first corner of the first.
+    pub fn of(pts: &[Point], polygons: &[Polygon], positions: &[usize]) -> Bundle {
+        let mut found = None;
+        for position in positions {
+            if let Some(corners) = corners_at(pts, polygons, *position) {
+                let bundle = found.unwrap_or(Bundle::none(corners.a));
+                found = Some(bundle.with(&corners.plane()));
+            }
+        }
+        found.unwrap_or(Bundle::none(Point::new(0, 0, 0)))
+    }
+
+    /// Returns true if a plane is known to be one of the bundle.
+    pub fn has(&self, plane: &Plane) -> bool
+        ensures { IsTrue result → IsOfBundle self.now plane.now }
+    {
+        let normal = plane.normal();
+        let times = scale_of(&normal);
+        self.x.has(scaled(normal.x(), times))
+            && self.y.has(scaled(normal.y(), times))
+            && self.z.has(scaled(normal.z(), times))
+            && is_deep(plane.height(self.origin), times, self.depth)
+    }
+
+    /// How many times a direction goes into the normals, or 0 where they look the other way. It is only a guess.
+    fn times_along(&self, along: Direction) -> u64
+        ensures { result ≤ TIMES_LIMIT }
+    {
+        let product = self
+            .x
+            .middle_product(along.x)
+            .wrapping_add(self.y.middle_product(along.y))
+            .wrapping_add(self.z.middle_product(along.z));
+        let times = product.wrapping_shl(10).checked_div(along.square());
+        let upper = u64::try_from(times.unwrap_or(0)).unwrap_or(0);
+        upper.saturating_mul(262144).min(TIMES_LIMIT)
+    }
+
+    /// A bound of the products of normals, less a direction taken some times, with the ways from the origin to the
+    /// points of a box.
+    fn far_rest(&self, bounds: &PointBox, along: Direction, times: u64) -> i128
+        requires { times ≤ TIMES_LIMIT }
+        ensures value { (n p : Vector) → IsInSpans self.now n → IsWithin bounds.now p
+            → dot (less_times n times (vector_of along)) (minus p self.now.origin) ≤ℤ result }
+        ensures limit { unsigned_abs result ≤ 2 ^ 98 }
+    {
+        let (o, low, high) = (self.origin, bounds.low, bounds.high);
+        let x = Share {
+            times,
+            component: along.x,
+        };
+        let y = Share {
+            times,
+            component: along.y,
+        };
+        let z = Share {
+            times,
+            component: along.z,
+        };
+        sum(
+            self.x
+                .far_rest(x, way(o.x(), low.x()), way(o.x(), high.x())),
+            self.y
+                .far_rest(y, way(o.y(), low.y()), way(o.y(), high.y())),
+            self.z
+                .far_rest(z, way(o.z(), low.z()), way(o.z(), high.z())),
+        )
+    }
+
+    /// How far the points of a block reach beyond the origin along its direction, taken some times.
+    fn far_share(&self, block: &Block, times: u64) -> i128
+        requires { times ≤ TIMES_LIMIT }
+        ensures value { result ≡ pos times *ℤ (block.now.reach -ℤ dot (vector_of block.now.along) self.now.origin) }
+        ensures limit { unsigned_abs result ≤ 2 ^ 112 }
+    {
+        taken(
+            reach_beyond(block.reach, block.along.reach(self.origin)),
+            times,
+        )
+    }
+
+    /// Returns true if a sum is below the depth.
+    fn is_deeper(&self, share: i128, rest: i128) -> bool
+        requires share { unsigned_abs share ≤ 2 ^ 112 }
+        requires rest { unsigned_abs rest ≤ 2 ^ 98 }
+        ensures { IsTrue result → (share +ℤ rest) <ℤ self.now.depth }
+    {
+        share + rest < self.depth
+    }
+
+    /// Returns true if all planes of the bundle are strictly above a block, as the direction of the block shows it.
+    pub fn is_above(&self, block: &Block) -> bool
+        ensures { IsTrue result → (plane : PlaneValue) → IsOfBundle self.now plane
+            → (p : Vector) → IsInBlock block.now p → height plane p <ℤ pos 0 }
+    {
+        let times = self.times_along(block.along);
+        let share = self.far_share(block, times);
+        let rest = self.far_rest(&block.bounds, block.along, times);
+        self.is_deeper(share, rest)
+    }
+}

@@ -1,0 +1,129 @@
+//! Blocks of consecutive positions of a list of points.
+ghost use Rattle.std.specs.Prelude.{◌≡◌, ◌+◌, ◌^◌, ◌<◌, List, IfOk};
+ghost use Rattle.std.specs.List.{All};
+ghost use Rattle.qh_model.specs.headline.Vector.{Vector};
+ghost use Rattle.qh_places.specs.steps.Levels.{IsLevel, AreBelow, AreBelowAll};
+
+use crate::bundles::Bundle;
+use crate::outward::{Outward, direction_of};
+use crate::slabs::Block;
+use qh_model::Point;
+use qh_pred::Plane;
+use std::alloc::{AllocError, Global};
+
+/// The binary logarithm of the positions of a block on each level but the lowest, the largest blocks first.
+const SHIFTS: [u32; 8] = [20, 18, 16, 14, 12, 10, 8, 6];
+
+/// Blocks of `2 ^ shift` consecutive positions. The last block may have fewer.
+#[derive(Drop)]
+pub(crate) struct Level {
+    pub shift: u32,
+    pub blocks: Vec<Block>,
+}
+
+/// The positions of a block with this binary logarithm.
+fn positions(shift: u32) -> usize
+    requires { shift < 63 }
+    ensures { result ≡ 2 ^ shift }
+{
+    1 << shift
+}
+
+impl Level {
+    /// The blocks of `2 ^ shift` positions. `outward` has a guess for each point of which way is out.
+    pub fn over(
+        alloc: Global,
+        points: &[Point],
+        outward: &[Outward],
+        shift: u32,
+    ) -> Result<Level, AllocError>
+        requires { shift < 63 }
+        ensures { IfOk result (IsLevel points.now) }
+    {
+        let size = positions(shift);
+        let mut blocks = Vec::new(alloc);
+        let mut rest = points;
+        let mut ways = outward;
+        while !rest.is_empty() {
+            let (block, others) = rest.split_at(size.min(rest.len()));
+            let (own, further) = ways.split_at(size.min(ways.len()));
+            blocks.push(Block::around(block, direction_of(own)))?;
+            rest = others;
+            ways = further;
+        }
+        Ok(Level { shift, blocks })
+    }
+
+    /// The number of points from a position on that the box of one block shows to lie below the plane: its
+    /// size where it begins at the position and lies below, else 0.
+    pub fn below(&self, plane: &Plane, from: usize) -> usize
+        ensures { (points : List Vector) → IsLevel points self.now → AreBelow points plane.now from (from + result) }
+    {
+        if self.shift >= 63 {
+            return 0;
+        }
+        let block = from >> self.shift;
+        let size = positions(self.shift);
+        if block * size != from {
+            return 0;
+        }
+        match self.blocks.get(block) {
+            Some(found) => {
+                if found.bounds.is_below(plane) {
+                    size
+                } else {
+                    0
+                }
+            }
+            None => 0,
+        }
+    }
+
+    /// The number of points from a position on that one block shows to lie below all planes of a bundle: its
+    /// size where it begins at the position and lies below, else 0.
+    pub fn below_all(&self, bundle: &Bundle, from: usize) -> usize
+        ensures { (points : List Vector) → IsLevel points self.now → AreBelowAll points bundle.now from (from + result) }
+    {
+        if self.shift >= 63 {
+            return 0;
+        }
+        let block = from >> self.shift;
+        let size = positions(self.shift);
+        if from != block * size {
+            return 0;
+        }
+        match self.blocks.get(block) {
+            Some(found) => { if bundle.is_above(found) { size } else { 0 } }
+            None => 0,
+        }
+    }
+}
+
+/// The levels over points but the lowest, the largest blocks first. `outward` has a guess for each point of which way is out.
+pub(crate) fn levels_over(
+    alloc: Global,
+    points: &[Point],
+    outward: &[Outward],
+) -> Result<Vec<Level>, AllocError>
+    ensures { IfOk result (λ v. All (IsLevel points.now) v.items) }
+{
+    let mut levels = Vec::new(alloc);
+    for shift in SHIFTS {
+        levels.push(Level::over(alloc, points, outward, shift)?)?;
+    }
+    Ok(levels)
+}
+
+/// The number of points from a position on that the largest block which begins there and lies below all planes
+/// of a bundle shows to lie below them; 0 where there is no such block.
+pub(crate) fn below_all(levels: &[Level], bundle: &Bundle, from: usize) -> usize
+    ensures { (points : List Vector) → All (IsLevel points) levels.now → AreBelowAll points bundle.now from (from + result) }
+{
+    for level in levels {
+        let below = level.below_all(bundle, from);
+        if below > 0 {
+            return below;
+        }
+    }
+    0
+}

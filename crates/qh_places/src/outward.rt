@@ -1,0 +1,127 @@
+//! Guesses of which way is out, from polygons. A wrong guess costs time alone.
+use crate::slabs::Direction;
+use qh_model::{Id, Point, Polygon};
+use qh_pred::{Plane, cross};
+use std::alloc::{AllocError, Global};
+
+/// The first three corners of a polygon.
+#[derive(Clone, Copy, Drop)]
+pub(crate) struct Corners {
+    pub a: Point,
+    pub b: Point,
+    pub c: Point,
+}
+
+/// The sum of the normals of the polygons that begin at a point.
+#[derive(Clone, Copy, Drop)]
+pub(crate) struct Outward {
+    x: i64,
+    y: i64,
+    z: i64,
+}
+
+impl Corners {
+    /// The first three corners of a polygon, if there are so many and all are points.
+    fn of(pts: &[Point], polygon: &Polygon) -> Option<Corners> {
+        let [i, j, k, ..] = polygon.ids() else {
+            return None;
+        };
+        Some(Corners {
+            a: *pts.get(i.index())?,
+            b: *pts.get(j.index())?,
+            c: *pts.get(k.index())?,
+        })
+    }
+
+    /// Their plane.
+    pub fn plane(&self) -> Plane {
+        Plane::through(self.a, self.b, self.c)
+    }
+}
+
+/// The first three corners of the polygon at a position.
+pub(crate) fn corners_at(pts: &[Point], polygons: &[Polygon], position: usize) -> Option<Corners> {
+    Corners::of(pts, polygons.get(position)?)
+}
+
+impl Outward {
+    /// The way out where no polygon begins: none.
+    const NONE: Outward = Outward { x: 0, y: 0, z: 0 };
+
+    /// The sum with another.
+    fn plus(self, other: Outward) -> Outward {
+        Outward {
+            x: self.x.wrapping_add(other.x),
+            y: self.y.wrapping_add(other.y),
+            z: self.z.wrapping_add(other.z),
+        }
+    }
+
+    /// The normal of three corners.
+    fn of(corners: &Corners) -> Outward {
+        let normal = cross(corners.a, corners.b, corners.c);
+        Outward {
+            x: i64::try_from(normal.x()).unwrap_or(0),
+            y: i64::try_from(normal.y()).unwrap_or(0),
+            z: i64::try_from(normal.z()).unwrap_or(0),
+        }
+    }
+}
+
+/// The position of each id in a list, by its index; 0 where the list has it not.
+pub(crate) fn ranks_of(alloc: Global, count: usize, ids: &[Id]) -> Result<Vec<usize>, AllocError> {
+    let mut ranks = vec![in alloc; 0; count]?;
+    for position in 0..ids.len() {
+        if let Some(rank) = ranks.get_mut(ids[position].index()) {
+            *rank = position;
+        }
+    }
+    Ok(ranks)
+}
+
+/// The position of the first corner of a polygon, by the positions of all ids; 0 where there is none.
+pub fn first_rank(polygon: &Polygon, ranks: &[usize]) -> usize {
+    match polygon.ids() {
+        [first, ..] => *ranks.get(first.index()).unwrap_or(&0),
+        [] => 0,
+    }
+}
+
+/// For each rank the way out there, by the polygons whose first corner has it.
+pub(crate) fn outward_of(
+    alloc: Global,
+    pts: &[Point],
+    polygons: &[Polygon],
+    ranks: &[usize],
+) -> Result<Vec<Outward>, AllocError> {
+    let mut outward = vec![in alloc; Outward::NONE; ranks.len()]?;
+    for polygon in polygons {
+        if let Some(corners) = Corners::of(pts, polygon) {
+            if let Some(sum) = outward.get_mut(first_rank(polygon, ranks)) {
+                *sum = sum.plus(Outward::of(&corners));
+            }
+        }
+    }
+    Ok(outward)
+}
+
+/// A component, made as small as a direction wants it, where `greatest` is the size of the greatest.
+fn small(component: i64, greatest: u64) -> i16 {
+    let divisor = i64::try_from(greatest / 32767 + 1).unwrap_or(1);
+    i16::try_from(component.checked_div(divisor).unwrap_or(0)).unwrap_or(0)
+}
+
+/// The direction of the sum of ways.
+pub(crate) fn direction_of(ways: &[Outward]) -> Direction {
+    let mut sum = Outward::NONE;
+    for way in ways {
+        sum = sum.plus(*way);
+    }
+    let flat = sum.x.unsigned_abs().max(sum.y.unsigned_abs());
+    let greatest = flat.max(sum.z.unsigned_abs());
+    Direction {
+        x: small(sum.x, greatest),
+        y: small(sum.y, greatest),
+        z: small(sum.z, greatest),
+    }
+}

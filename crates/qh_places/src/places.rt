@@ -1,0 +1,233 @@
+//! The ids of a set along a Morton curve, with their points and blocks of these.
+ghost use Rattle.std.specs.Prelude.{◌≡◌, ◌+◌, ◌<◌, ◌≤◌, ◌↔◌, ℕ, List, pos, IfOk, MatchOption, IsPermutation, IsTrue, length, map};
+ghost use Rattle.std.specs.List.{All};
+ghost use Rattle.qh_model.specs.headline.Sets.{In};
+ghost use Rattle.qh_model.specs.headline.Vector.{Vector};
+ghost use Rattle.qh_model.specs.headline.Predicates.{place};
+ghost use Rattle.qh_model.specs.contract.IdSets.{AreIndices};
+ghost use Rattle.qh_pred.specs.contract.Planes.{height};
+ghost use Rattle.qh_places.specs.contract.Near.{IsNear};
+ghost use Rattle.qh_places.specs.steps.Levels.{IsLevel, AreBelowAll, HasLooked, IsAboveAt};
+
+use crate::bundles::Bundle;
+use crate::levels::{Level, below_all, levels_over};
+use crate::outward::{outward_of, ranks_of};
+use crate::stretched::stretched;
+use qh_model::{Id, Memory, Point, Polygon};
+use qh_pred::{Plane, point_at};
+use qh_surface::{ends_of, morton_order};
+use std::alloc::{AllocError, Global};
+
+/// The positions that are looked at together: those of a block of the lowest level.
+const LEAF: usize = 16;
+
+/// The binary logarithm of `LEAF`.
+const LEAF_SHIFT: u32 = 4;
+
+/// The ids of a set in an order of space, with their points and blocks of these. `ranks` has the position of an id, by its
+/// index.
+#[derive(Drop)]
+pub struct Places {
+    pub ids: Vec<Id>,
+    pub points: Vec<Point>,
+    pub ranks: Vec<usize>,
+    levels: Vec<Level>,
+    leaves: Level,
+    ghost same: { length points.items ≡ length ids.items },
+    ghost blocks: { All (IsLevel points.items) levels.items },
+    ghost lowest: { IsLevel points.items leaves },
+}
+
+/// Where the points are that some planes may meet. Planes that slant nearly alike leave few positions.
+///
+/// They are among the first `LEAF` positions from each start on; the planes are those of the bundle.
+#[derive(Drop)]
+pub struct Near {
+    bundle: Bundle,
+    starts: Vec<usize>,
+}
+
+/// Returns true if a point lies in a plane.
+fn is_on(plane: &Plane, point: Point) -> bool
+    ensures { IsTrue result ↔ (height plane.now point ≡ pos 0) }
+{
+    plane.height(point) == 0
+}
+
+/// The points of ids.
+fn points_of(alloc: Global, pts: &[Point], ids: &[Id]) -> Result<Vec<Point>, AllocError>
+    requires { AreIndices pts.now ids.now }
+    ensures { IfOk result (λ v. v.items ≡ map (place pts.now) ids.now) }
+{
+    let mut points = Vec::with_capacity(alloc, ids.len())?;
+    for id in ids {
+        points.push(point_at(pts, *id))?;
+    }
+    Ok(points)
+}
+
+/// The ids along a Morton curve through their points, stretched along the axes.
+fn order_along_curve(alloc: Global, pts: &[Point], ids: &[Id]) -> Result<Vec<Id>, Memory>
+    requires some { 0 < length ids.now }
+    requires indices { AreIndices pts.now ids.now }
+    ensures { IfOk result (λ v. IsPermutation ids.now v.items) }
+{
+    let near = stretched(alloc, pts, &ends_of(pts, ids))?;
+    morton_order(alloc, &near, ids, &ends_of(&near, ids))
+}
+
+impl Places {
+    ghost use Rattle.qh_places.specs.contract.Places.{ArePlaces, IsAbove, AreLevel};
+
+    /// The ids along a Morton curve, with their points and blocks of these. Which way is out is guessed from
+    /// the polygons, which may be any.
+    ///
+    /// `ids` has at least one id, each the index of one of the points.
+    ///
+    /// # Errors
+    ///
+    /// `Memory` where an allocation failed.
+    pub fn over(
+        alloc: Global,
+        pts: &[Point],
+        ids: &[Id],
+        polygons: &[Polygon],
+    ) -> Result<Places, Memory>
+        requires some { 0 < length ids.now }
+        requires indices { AreIndices pts.now ids.now }
+        ensures { IfOk result (ArePlaces pts.now ids.now) }
+    {
+        let ids = order_along_curve(alloc, pts, ids)?;
+        let points = points_of(alloc, pts, &ids)?;
+        let ranks = ranks_of(alloc, pts.len(), &ids)?;
+        let outward = outward_of(alloc, pts, polygons, &ranks)?;
+        let levels = levels_over(alloc, &points, &outward)?;
+        let leaves = Level::over(alloc, &points, &outward, LEAF_SHIFT)?;
+        Ok(Places {
+            ids,
+            points,
+            ranks,
+            levels,
+            leaves,
+        })
+    }
+
+    /// Lists the ids of the points from a position to another that lie in a plane, if none of these points lies
+    /// above it; else answers the id of one that does.
+    fn look(
+        &self,
+        plane: &Plane,
+        from: usize,
+        to: usize,
+        found: &mut Vec<Id>,
+    ) -> Result<Option<Id>, AllocError>
+        requires { to ≤ length self.now.points.items }
+        ensures { IfOk result (λ above. MatchOption above
+            (from ≤ to → HasLooked self.now.points.items self.now.ids.items plane.now from to found.old.items found.new.items)
+            (IsAboveAt self.now.points.items self.now.ids.items plane.now)) }
+    {
+        for position in from..to {
+            let point = self.points[position];
+            if plane.sees(point) {
+                return Ok(Some(self.ids[position]));
+            }
+            if is_on(plane, point) {
+                found.push(self.ids[position])?;
+            }
+        }
+        Ok(None)
+    }
+
+    /// Looks, as `look` does, at the positions that begin at one.
+    fn look_from(
+        &self,
+        plane: &Plane,
+        start: usize,
+        found: &mut Vec<Id>,
+    ) -> Result<Option<Id>, AllocError>
+        ensures { IfOk result (λ above. MatchOption above
+            (HasLooked self.now.points.items self.now.ids.items plane.now start (start + LEAF) found.old.items found.new.items)
+            (IsAboveAt self.now.points.items self.now.ids.items plane.now)) }
+    {
+        if start >= self.points.len() || self.leaves.below(plane, start) >= LEAF {
+            return Ok(None);
+        }
+        let to = start.saturating_add(LEAF).min(self.points.len());
+        self.look(plane, start, to, found)
+    }
+
+    /// The number of points from a position on that one block shows to lie below all planes of a bundle, or 0.
+    fn below_all(&self, bundle: &Bundle, from: usize) -> usize
+        ensures { AreBelowAll self.now.points.items bundle.now from (from + result) }
+    {
+        let below = below_all(&self.levels, bundle, from);
+        if below > 0 {
+            return below;
+        }
+        self.leaves.below_all(bundle, from)
+    }
+
+    /// The positions that planes of a bundle have to look at.
+    fn near(&self, alloc: Global, bundle: Bundle) -> Result<Near, AllocError>
+        ensures { IfOk result (IsNear self.now.points.items) }
+    {
+        let mut starts = Vec::new(alloc);
+        let mut from = 0;
+        while from < self.points.len() {
+            let below = self.below_all(&bundle, from);
+            if below > 0 {
+                from = from.saturating_add(below);
+            } else {
+                starts.push(from)?;
+                from = from.saturating_add(LEAF);
+            }
+        }
+        Ok(Near { bundle, starts })
+    }
+
+    /// The positions that the planes of some polygons, by their positions in a list, have to look at.
+    ///
+    /// # Errors
+    ///
+    /// `AllocError` where an allocation failed.
+    pub fn near_polygons(
+        &self,
+        alloc: Global,
+        pts: &[Point],
+        polygons: &[Polygon],
+        positions: &[usize],
+    ) -> Result<Near, AllocError>
+        ensures { IfOk result (IsNear self.now.points.items) }
+    {
+        self.near(alloc, Bundle::of(pts, polygons, positions))
+    }
+
+    /// Lists in `found` the ids whose points lie in a plane, if no point lies above the plane; else answers the id
+    /// of one that does. A plane for which `near` was made looks at the positions there alone, any other plane at all.
+    ///
+    /// # Errors
+    ///
+    /// `AllocError` where an allocation failed.
+    pub fn on_plane(
+        &self,
+        plane: &Plane,
+        near: &Near,
+        found: &mut Vec<Id>,
+    ) -> Result<Option<Id>, AllocError>
+        requires { IsNear self.now.points.items near.now }
+        ensures { IfOk result (λ above. (pts : List Vector) (ids : List ℕ) → ArePlaces pts ids self.now
+            → MatchOption above (AreLevel pts ids plane.now found.new.items) (IsAbove pts ids plane.now)) }
+    {
+        found.clear();
+        if !near.bundle.has(plane) {
+            return self.look(plane, 0, self.points.len(), found);
+        }
+        for index in 0..near.starts.len() {
+            let start = near.starts[index];
+            if let Some(id) = self.look_from(plane, start, found)? {
+                return Ok(Some(id));
+            }
+        }
+        Ok(None)
+    }
+}

@@ -1,0 +1,90 @@
+//! Blocks of points: a box, and how far its points reach along a direction that slants as the surface does there.
+ghost use Rattle.std.specs.Prelude.{◌≡◌, ◌<◌, ◌≤◌, ◌^◌, ◌+ℤ◌, ◌*ℤ◌, ◌≤ℤ◌, ℕ, length, slice_index_or, unsigned_abs};
+ghost use Rattle.qh_model.specs.headline.Vector.{Vector, origin, dot};
+ghost use Rattle.qh_places.specs.steps.Slabs.{vector_of, IsBlockOf};
+
+use crate::boxes::PointBox;
+use qh_model::Point;
+
+/// A direction of small components.
+#[derive(Clone, Copy, Drop)]
+pub(crate) struct Direction {
+    pub x: i16,
+    pub y: i16,
+    pub z: i16,
+}
+
+/// Points of a box that reach no further than `reach` along a direction.
+#[derive(Clone, Copy, Drop)]
+pub(crate) struct Block {
+    pub bounds: PointBox,
+    pub along: Direction,
+    pub reach: i64,
+}
+
+/// The product of a component and a coordinate.
+fn component_product(component: i16, coordinate: i32) -> i64
+    ensures value { result ≡ component *ℤ coordinate }
+    ensures limit { unsigned_abs result ≤ 2 ^ 46 }
+{
+    i64::from(component) * i64::from(coordinate)
+}
+
+/// The sum of three products.
+fn sum(a: i64, b: i64, c: i64) -> i64
+    requires a { unsigned_abs a ≤ 2 ^ 46 }
+    requires b { unsigned_abs b ≤ 2 ^ 46 }
+    requires c { unsigned_abs c ≤ 2 ^ 46 }
+    ensures value { result ≡ a +ℤ b +ℤ c }
+    ensures limit { unsigned_abs result ≤ 2 ^ 48 }
+{
+    a + b + c
+}
+
+impl Direction {
+    /// How far a point reaches along the direction: their scalar product.
+    pub fn reach(self, p: Point) -> i64
+        ensures value { result ≡ dot (vector_of self) p }
+        ensures limit { unsigned_abs result ≤ 2 ^ 48 }
+    {
+        sum(
+            component_product(self.x, p.x()),
+            component_product(self.y, p.y()),
+            component_product(self.z, p.z()),
+        )
+    }
+
+    /// Its product with itself.
+    pub fn square(self) -> i64 {
+        let (x, y, z) = (i64::from(self.x), i64::from(self.y), i64::from(self.z));
+        x.wrapping_mul(x)
+            .wrapping_add(y.wrapping_mul(y))
+            .wrapping_add(z.wrapping_mul(z))
+    }
+
+    /// How far the points that reach furthest along the direction do.
+    fn furthest(self, points: &[Point]) -> i64
+        requires { 0 < length points.now }
+        ensures { (k : ℕ) → k < length points.now → dot (vector_of self) (slice_index_or points.now k origin) ≤ℤ result }
+    {
+        let mut furthest = self.reach(points[0]);
+        for point in points {
+            furthest = furthest.max(self.reach(*point));
+        }
+        furthest
+    }
+}
+
+impl Block {
+    /// The smallest block of points for a direction.
+    pub fn around(points: &[Point], along: Direction) -> Block
+        requires { 0 < length points.now }
+        ensures { IsBlockOf points.now 0 (length points.now) result }
+    {
+        Block {
+            bounds: PointBox::around(points),
+            along,
+            reach: along.furthest(points),
+        }
+    }
+}
