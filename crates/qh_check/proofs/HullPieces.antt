@@ -1,10 +1,10 @@
 -- A polygon that goes round corners of a face, and turns as the face does, is a piece of it.
-use Rattle.std.proofs.Common.{ℕ, ◌≡◌, ◌≢◌, ap, inl, inr, refl, sym, subst, ◌∙◌, true, List, [], ◌∷◌, get_or}
+use Rattle.std.proofs.Common.{ℕ, ◌≡◌, ◌≢◌, ap, inl, inr, refl, sym, subst, ◌∙◌, List, [], get_or}
 use Rattle.std.specs.Prelude.{pos, ◌<ℤ◌, ◌≤ℤ◌}
 use Rattle.std.specs.Ordering.{is_gt}
 use Rattle.qh_model.specs.headline.Hull.{BodyValue, IsBody}
 use Rattle.qh_model.specs.headline.Dimension.{IsDimension}
-use Rattle.qh_model.specs.headline.Vector.{Vector, origin, minus, dot}
+use Rattle.qh_model.specs.headline.Vector.{Vector, origin, dot}
 use Rattle.qh_model.specs.headline.Predicates.{cross, left, place, vol}
 use Rattle.qh_model.specs.headline.Sets.{In, Members}
 use Rattle.qh_model.specs.headline.SupportingPlane.{IsSupportingTriple}
@@ -18,11 +18,11 @@ use Rattle.qh_model.proofs.algebra.VectorIdentities.{in_line-left}
 use Rattle.qh_model.proofs.extremes.Directions.{from_plane, square-positive}
 use Rattle.qh_model.proofs.polygons.Edges.{seen_from}
 use Rattle.qh_model.proofs.polygons.PlaneTurns.{level_along, level_volume}
-use Rattle.qh_pred.specs.contract.Turns.{IsAcross, first_product}
+use Rattle.qh_pred.specs.contract.Turns.{IsAcross}
 use Rattle.qh_pred.proofs.Turns.{turn_sign}
 use Rattle.qh_plane.proofs.polygons.Chain.{is_left-yes}
-use Rattle.qh_check.specs.contract.Pieces.{BeginsWith, IsMetRound, IsPiece}
-use Rattle.qh_check.specs.steps.HullFaces.{IsPieceAmong, IsPieceOfFace, TurnsAlike}
+use Rattle.qh_check.specs.contract.Pieces.{IsMetRound, IsPiece}
+use Rattle.qh_check.specs.steps.HullFaces.{IsPieceAmong, TurnsAlike}
 use Rattle.qh_check.specs.steps.Faces.{IsFaceOf}
 use Rattle.qh_check.specs.declared.extent.Extent.TheVariants.{Piece}
 use Rattle.qh_check.proofs.FirstCorners.{HasFace, corners_at}

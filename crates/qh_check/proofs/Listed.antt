@@ -1,6 +1,6 @@
 -- A test that finds a member, what holds of each of a list, and lists that are the same so far.
 use Rattle.std.proofs.Common.{◌≡◌, ℕ, ◌+◌, ◌<◌, ◌≤◌, arith, refl, sym, subst, inl, inr, List, [], ◌∷◌, length, get_or, take, drop, ◌⊎◌}
-use Rattle.std.proofs.Common.{◌++◌, All, Bool, true, false, eqb, eqb-true}
+use Rattle.std.proofs.Common.{All, Bool, true, false, eqb, eqb-true}
 use Rattle.std.proofs.lemmas.List.{take-append-drop, get_or_default, get_or-take, length-take, take_more}
 use Rattle.std.specs.Prelude.{◌||◌}
 use Rattle.std.specs.Cmp.Lexicographic.{pointwise}

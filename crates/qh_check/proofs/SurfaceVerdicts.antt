@@ -1,10 +1,9 @@
 -- Verdicts on surfaces: what is wrong with polygons shows that they are none, and where nothing is, they are.
-use Rattle.std.proofs.Common.{ℕ, ◌≡◌, ◌≢◌, ◌<◌, ◌≤◌, arith, refl, sym, subst, ◌⊎◌, inl, inr, ap, List, [], ◌∷◌, length}
+use Rattle.std.proofs.Common.{ℕ, ◌≡◌, ◌≢◌, ◌<◌, ◌≤◌, arith, refl, subst, inl, inr, ap, List, [], ◌∷◌, length}
 use Rattle.std.proofs.Common.{get_or, All}
-use Rattle.std.specs.Prelude.{◌↔◌}
 use Rattle.qh_model.specs.headline.Vector.{Vector}
 use Rattle.qh_model.specs.headline.Predicates.{place}
-use Rattle.qh_model.specs.headline.Sets.{In, Members}
+use Rattle.qh_model.specs.headline.Sets.{Members}
 use Rattle.qh_model.specs.headline.Dimension.{IsDimension}
 use Rattle.qh_model.specs.headline.Polygons.{ArePolygons}
 use Rattle.qh_model.specs.contract.ClosedPolygons.{AreClosed, step_count}

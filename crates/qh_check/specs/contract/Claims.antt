@@ -1,5 +1,5 @@
 -- Claims that polygons are those of a set, and what is wrong with wrong ones. This project's own.
-use Rattle.std.specs.Prelude.{ℕ, pos, ◌≡◌, ◌<◌, ◌+◌, ◌<ℤ◌, ◌⊎◌, List, [], ◌∷◌, length, slice_index_or}
+use Rattle.std.specs.Prelude.{ℕ, pos, ◌≡◌, ◌<◌, ◌+◌, ◌<ℤ◌, ◌⊎◌, List, [], length, slice_index_or}
 use Rattle.qh_model.specs.headline.Vector.{Vector}
 use Rattle.qh_model.specs.headline.Predicates.{vol, AreInLine}
 use Rattle.qh_model.specs.headline.Dimension.{IsDimension}

@@ -1,5 +1,5 @@
 -- Pieces of the faces of a hull.
-use Rattle.std.specs.Prelude.{ℕ, ◌≡◌, ◌<◌, List, [], IsTrue, length, slice_index_or}
+use Rattle.std.specs.Prelude.{ℕ, ◌<◌, List, [], IsTrue, length, slice_index_or}
 use Rattle.std.specs.Ordering.{is_gt}
 use Rattle.qh_model.specs.headline.Vector.{Vector}
 use Rattle.qh_model.specs.headline.Predicates.{place, cross}

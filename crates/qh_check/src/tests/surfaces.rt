@@ -1,4 +1,5 @@
 //! Worked rows: surfaces of a cube in pieces, and what is wrong with others.
+use crate::found_pieces::are_pieces_of_hull;
 use crate::tests::{EIGHT, cube, ids_of, polygons_of};
 use crate::{FaceFault, SurfaceVerdict, check_surface};
 use qh_model::Memory;
@@ -47,6 +48,25 @@ fn triangles_of_a_cube_are_right(rt: HostRuntime) -> Result<(), Fail> {
         matches!(by_three, Some(SurfaceVerdict::Right)),
         "{by_three:?}"
     );
+    Ok(())
+}
+
+/// Whether polygons of a cube are all found among the faces of its hull.
+fn are_found(alloc: Global, faces: &[&[u32]]) -> Result<Option<bool>, Memory> {
+    let pts = cube();
+    let ids = ids_of(alloc, &pts, &EIGHT)?;
+    if ids.is_empty() {
+        return Ok(None);
+    }
+    let polygons = polygons_of(alloc, faces)?;
+    Ok(Some(are_pieces_of_hull(alloc, &pts, &ids, &polygons)?))
+}
+
+#[test]
+fn pieces_are_found_in_the_hull(rt: HostRuntime) -> Result<(), Fail> {
+    assert!(rt; are_found(rt.alloc(), &TRIANGLES)? == Some(true));
+    assert!(rt; are_found(rt.alloc(), &FACES)? == Some(true));
+    assert!(rt; are_found(rt.alloc(), &[&[0, 2, 7]])? == Some(false));
     Ok(())
 }
 

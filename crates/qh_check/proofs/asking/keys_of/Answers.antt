@@ -1,5 +1,5 @@
 -- One more position has its key.
-use Rattle.std.proofs.Common.{arith, ℕ, ◌<◌, ◌≡◌, ◌+◌, sym, subst, inl, inr, refl, ◌++◌, [], ◌∷◌, map}
+use Rattle.std.proofs.Common.{arith, ◌≡◌, sym, subst, inl, inr, [], ◌∷◌, map}
 use Rattle.std.proofs.lemmas.List.{map-append}
 use Rattle.std.proofs.lemmas.Bool.{cases_lt}
 use Rattle.qh_model.specs.headline.Sets.{In}

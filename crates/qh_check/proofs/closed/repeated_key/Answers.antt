@@ -1,5 +1,5 @@
 -- Two side by side are the same, or none.
-use Rattle.std.proofs.Common.{◌∙◌, ◌≡◌, ◌≤◌, ◌<◌, ◌+◌, ◌-◌, arith, get_or, subst, sym}
+use Rattle.std.proofs.Common.{◌≤◌, ◌<◌, ◌-◌, arith, subst}
 use Rattle.qh_model.proofs.closed_surfaces.Sums.{count-is}
 use Rattle.qh_check.proofs.RepeatedNumbers.{counts_once, counts_twice}
 use Rattle.qh_check.proofs.closed.repeated_key.Goals as goal

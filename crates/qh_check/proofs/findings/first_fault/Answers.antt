@@ -1,6 +1,5 @@
 -- The polygons of one more group are faces, or one of them has a fault.
-use Rattle.std.proofs.Common.{ℕ, inl, inr, ◌⊎◌, arith, subst, sym, length}
-use Rattle.qh_model.specs.headline.Sets.{In}
+use Rattle.std.proofs.Common.{inl, inr, arith}
 use Rattle.qh_model.proofs.Members.{All-In, All-of}
 use Rattle.qh_check.specs.steps.Findings.{IsFaceAmong}
 use Rattle.qh_check.proofs.Listed.{in_either, in_none}

@@ -8,9 +8,9 @@ pub loop-polygon-preserved : goal.loop-polygon-preserved
 loop-polygon-preserved c =
     let polygons = c.args.polygons.now in let k = c.loop-polygon.polygon-index in
     let here : c.polygon-item.result ≡ get_or polygons k [] =
-        c.polygon-item.is ∙ get_or_default polygons k c.polygon-item.result [] c.loop-polygon-test.true in
+    c.polygon-item.is ∙ get_or_default polygons k c.polygon-item.result [] c.loop-polygon-test.true in
     below_more _ _ c.loop-polygon.invariant
-        (subst (IsPieceAmong c.args.hull.pts.now c.args.hull.faces.now) here (c.in_ok-has_piece.ensures c.if-not-branch.false))
+    (subst (IsPieceAmong c.args.hull.pts.now c.args.hull.faces.now) here (c.in_ok-has_piece.ensures c.if-not-branch.false))
 
 pub returns : goal.returns
 returns c = λ yes k d l.

@@ -1,5 +1,5 @@
 -- What is found among the faces of the hull is a piece of a face of the set.
-use Rattle.std.proofs.Common.{◌≡◌, List, ℕ, subst, sym}
+use Rattle.std.proofs.Common.{◌≡◌}
 use Rattle.qh_model.specs.headline.Predicates.{place}
 use Rattle.qh_model.specs.headline.Sets.{Members}
 use Rattle.qh_model.specs.headline.Polygons.{AreFaces}
@@ -17,4 +17,4 @@ returns c = λ yes set solid.
     let told : c.in_ok-body.body.polygons ≡ faces = cc in
     let are : AreFaces (place pts) (Members ids) faces = faces_of_body pts ids set solid c.in_ok-body.body (c.in_ok-body.ensures set) faces told in
     All-of (IsFaceOf Piece pts ids) polygons
-        (λ q m. piece_among pts ids faces q are (All-In (IsPieceAmong pts faces) polygons q (c.in_ok-are_pieces.ensures yes) m))
+    (λ q m. piece_among pts ids faces q are (All-In (IsPieceAmong pts faces) polygons q (c.in_ok-are_pieces.ensures yes) m))

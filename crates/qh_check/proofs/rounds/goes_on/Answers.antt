@@ -1,5 +1,5 @@
 -- One member more is met, before the one that was looked at before it.
-use Rattle.std.proofs.Common.{ℕ, ◌≡◌, ◌∙◌, ◌+◌, ◌-◌, ◌<◌, ◌≤◌, arith, ap, drop, get_or, length, subst, sym}
+use Rattle.std.proofs.Common.{ℕ, ◌≡◌, ◌∙◌, ◌+◌, ◌-◌, ◌<◌, ◌≤◌, arith, drop, get_or, length, subst, sym}
 use Rattle.std.proofs.lemmas.List.{get_or_default}
 use Rattle.qh_check.specs.contract.Pieces.{IsMetAlong}
 use Rattle.qh_check.specs.steps.Rounds.{way_behind}
@@ -19,13 +19,14 @@ loop-index-preserved c =
     let last : length rest - index ≡ k + 1 = omega (arith, below) in
     let this : k ≡ length rest - (index + 1) = omega (arith, below) in
     let here : get_or rest k 0 ≡ get_or way steps 0 =
-        sym (at.1 ∙ c.index-rest-place.is ∙ get_or_default rest k c.index-rest-place.result 0 within)
-        ∙ sym (behind face from c.requires.begin to steps at.0 (omega (arith, less, bound)) c.steps_behind-steps.ensures) in
+    sym (at.1 ∙ c.index-rest-place.is ∙ get_or_default rest k c.index-rest-place.result 0 within)
+    ∙ sym (behind face from c.requires.begin to steps at.0 (omega (arith, less, bound)) c.steps_behind-steps.ensures) in
     let met : IsMetAlong (drop (k + 1) rest) (drop before way) =
-        subst (λ n. IsMetAlong (drop n rest) (drop before way)) last c.loop-index.invariant.1 in
-    (omega (arith, less, bound),
-    subst (λ n. IsMetAlong (drop n rest) (drop steps way)) this
-    (met_before rest way k steps before within (omega (arith, less, bound, long)) less here met))
+    subst (λ n. IsMetAlong (drop n rest) (drop before way)) last c.loop-index.invariant.1 in (
+      omega (arith, less, bound),
+      subst (λ n. IsMetAlong (drop n rest) (drop steps way)) this
+          (met_before rest way k steps before within (omega (arith, less, bound, long)) less here met),
+    )
 
 pub returns : goal.returns
 returns c = λ yes.

@@ -1,5 +1,5 @@
 -- All are met, on the one way and on the other.
-use Rattle.std.proofs.Common.{◌≡◌, ◌+◌, ◌-◌, arith, drop, eq-eqb, eqb-true, length, take, List, ℕ}
+use Rattle.std.proofs.Common.{◌≡◌, ◌+◌, ◌-◌, arith, drop, eq-eqb, eqb-true, length, take}
 use Rattle.std.proofs.lemmas.List.{length-drop, take_all}
 use Rattle.qh_check.proofs.MetLists.{met_both}
 use Rattle.qh_check.proofs.rounds.is_met_behind.Goals as goal

@@ -1,5 +1,5 @@
 -- One more id is the next of the list, or is not.
-use Rattle.std.proofs.Common.{◌∙◌, ◌≡◌, ◌<◌, arith, drop, false, get_or, length, sym, true, ◌++◌, List, ℕ}
+use Rattle.std.proofs.Common.{◌∙◌, ◌≡◌, arith, drop, get_or, sym, ◌++◌}
 use Rattle.std.proofs.lemmas.List.{get_or_default}
 use Rattle.qh_check.specs.contract.Pieces.{IsMetAlong}
 use Rattle.qh_check.proofs.MetLists.{met_step, met_skip}

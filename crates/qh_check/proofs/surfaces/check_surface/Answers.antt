@@ -1,5 +1,4 @@
 -- A solid set has its own way.
-use Rattle.std.proofs.Common.{inl, inr}
 use Rattle.std.proofs.lemmas.Result.{IfOk-weaker}
 use Rattle.qh_model.proofs.extremes.Dimensions.{one_dimension}
 use Rattle.qh_surface.proofs.runs.FirstSimplexes.{solid_only}

@@ -1,5 +1,4 @@
 -- The polygons of the hull are the surface, or others.
-use Rattle.std.proofs.Common.{sym, ◌∙◌}
 use Rattle.qh_check.proofs.SurfaceVerdicts.{are_polygons, are_others}
 use Rattle.qh_check.proofs.surfaces.compare_surface.Goals as goal
 
