@@ -1,7 +1,7 @@
 //! The faces that a file claims.
 use crate::fault::Fault;
 use crate::words::{Words, number_of};
-use qh_model::{Id, Point};
+use qh_model::{Id, Point, Polygon};
 use qh_read::{ReadFault, read_off};
 use std::alloc::Global;
 
@@ -37,10 +37,8 @@ pub struct Reading {
 pub struct Faces {
     /// The vertices of the file, where the numbers name these.
     pub vertices: Vec<Point>,
-    /// The numbers of the corners of all faces, one face after the other.
-    pub corners: Vec<Id>,
-    /// Where each face ends among the corners.
-    pub ends: Vec<usize>,
+    /// The numbers of the corners of each face, counterclockwise seen from outside.
+    pub polygons: Vec<Polygon>,
 }
 
 /// The number of a point that a word is.
@@ -61,93 +59,97 @@ fn next_id(words: &mut Words) -> Result<Id, Fault> {
     word.and_then(id_of).ok_or(Fault::Faces(words.line()))
 }
 
-impl Faces {
-    /// No face yet.
-    fn none(alloc: Global) -> Faces {
-        Faces {
-            vertices: Vec::new(alloc),
-            corners: Vec::new(alloc),
-            ends: Vec::new(alloc),
-        }
+/// The polygon of corners in the order of a file.
+fn face_of(mut corners: Vec<Id>, turn: Turn) -> Polygon {
+    if turn == Turn::Clockwise {
+        corners.reverse();
     }
+    Polygon::of(corners)
+}
 
-    /// Ends a face, whose corners are those that were read since the end of the last.
-    fn end(&mut self, turn: Turn) -> Result<(), Fault> {
-        let from = self.ends.last().copied().unwrap_or(0);
-        if turn == Turn::Clockwise && from <= self.corners.len() {
-            self.corners[from..].reverse();
-        }
-        self.ends.push(self.corners.len())?;
-        Ok(())
+/// Reads a face of an OFF file: its number of corners, and the corners. What follows on the line is its colour, and
+/// passed over.
+fn read_counted(alloc: Global, words: &mut Words, turn: Turn) -> Result<Polygon, Fault> {
+    let count = next_number(words)?;
+    let mut corners = Vec::new(alloc);
+    for _ in 0..count {
+        corners.push(next_id(words)?)?;
     }
+    words.skip_line();
+    Ok(face_of(corners, turn))
+}
 
-    /// Reads the corners of a face of an OFF file, after its number of them.
-    fn read_counted(&mut self, words: &mut Words, turn: Turn) -> Result<(), Fault> {
-        let count = next_number(words)?;
-        for _ in 0..count {
-            self.corners.push(next_id(words)?)?;
-        }
-        self.end(turn)
+/// Reads a face that is a line, of one corner at least.
+fn read_line(alloc: Global, words: &mut Words, turn: Turn) -> Result<Polygon, Fault> {
+    let mut corners = Vec::new(alloc);
+    corners.push(next_id(words)?)?;
+    for _ in 0..u32::MAX {
+        let Some(word) = words.next_here() else {
+            break;
+        };
+        corners.push(id_of(word).ok_or(Fault::Faces(words.line()))?)?;
     }
+    Ok(face_of(corners, turn))
+}
 
-    /// Reads the corners of a face that is a line.
-    fn read_line(&mut self, words: &mut Words, turn: Turn) -> Result<(), Fault> {
-        self.corners.push(next_id(words)?)?;
-        for _ in 0..u32::MAX {
-            let Some(word) = words.next_here() else {
-                break;
-            };
-            self.corners
-                .push(id_of(word).ok_or(Fault::Faces(words.line()))?)?;
-        }
-        self.end(turn)
+/// Refuses a text that goes on.
+fn finish(words: &mut Words) -> Result<(), Fault> {
+    match words.next() {
+        Some(_) => Err(Fault::Faces(words.line())),
+        None => Ok(()),
     }
+}
 
-    /// Refuses a text that goes on.
-    fn finish(self, words: &mut Words) -> Result<Faces, Fault> {
-        match words.next() {
-            Some(_) => Err(Fault::Faces(words.line())),
-            None => Ok(self),
-        }
+/// The vertices of an OFF file.
+fn read_vertices(alloc: Global, bytes: &[u8]) -> Result<Vec<Point>, Fault> {
+    match read_off(alloc, bytes) {
+        Ok(vertices) => Ok(vertices),
+        Err(ReadFault::Memory) => Err(Fault::Memory),
+        Err(ReadFault::BadNumber(line)) | Err(ReadFault::Range(line)) => Err(Fault::Faces(line)),
+        Err(_) => Err(Fault::Faces(1)),
     }
+}
+
+/// Passes over the header of an OFF file and so many vertices, and answers the number of faces.
+fn skip_vertices(words: &mut Words, vertices: usize) -> Result<i64, Fault> {
+    words.next();
+    next_number(words)?;
+    let count = next_number(words)?;
+    next_number(words)?;
+    for _ in 0..vertices {
+        next_number(words)?;
+        next_number(words)?;
+        next_number(words)?;
+    }
+    Ok(count)
 }
 
 /// The faces of an OFF file.
 fn read_off_faces(alloc: Global, bytes: &[u8], turn: Turn) -> Result<Faces, Fault> {
-    let mut faces = Faces::none(alloc);
-    faces.vertices = match read_off(alloc, bytes) {
-        Ok(vertices) => vertices,
-        Err(ReadFault::Memory) => return Err(Fault::Memory),
-        Err(ReadFault::BadNumber(line)) | Err(ReadFault::Range(line)) => {
-            return Err(Fault::Faces(line));
-        }
-        Err(_) => return Err(Fault::Faces(1)),
-    };
+    let vertices = read_vertices(alloc, bytes)?;
     let mut words = Words::of(bytes);
-    words.next();
-    next_number(&mut words)?;
-    let count = next_number(&mut words)?;
-    next_number(&mut words)?;
-    for _ in 0..faces.vertices.len() {
-        next_number(&mut words)?;
-        next_number(&mut words)?;
-        next_number(&mut words)?;
-    }
+    let count = skip_vertices(&mut words, vertices.len())?;
+    let mut polygons = Vec::new(alloc);
     for _ in 0..count {
-        faces.read_counted(&mut words, turn)?;
+        polygons.push(read_counted(alloc, &mut words, turn)?)?;
     }
-    faces.finish(&mut words)
+    finish(&mut words)?;
+    Ok(Faces { vertices, polygons })
 }
 
 /// The faces of a file that has their number, and then a line for each.
 fn read_index_faces(alloc: Global, bytes: &[u8], turn: Turn) -> Result<Faces, Fault> {
-    let mut faces = Faces::none(alloc);
     let mut words = Words::of(bytes);
     let count = next_number(&mut words)?;
+    let mut polygons = Vec::new(alloc);
     for _ in 0..count {
-        faces.read_line(&mut words, turn)?;
+        polygons.push(read_line(alloc, &mut words, turn)?)?;
     }
-    faces.finish(&mut words)
+    finish(&mut words)?;
+    Ok(Faces {
+        vertices: Vec::new(alloc),
+        polygons,
+    })
 }
 
 /// The faces of a file.

@@ -1,5 +1,6 @@
 //! What keeps the program from a verdict.
 ghost use Rattle.std.specs.Prelude.{◌≡◌};
+ghost use Rattle.hullcheck.specs.headline.Statuses.{fault_status};
 ghost use Rattle.hullcheck.specs.declared.fault.Fault.TheVariants.{Memory};
 
 use qh_model::{Memory, ReadFault};
@@ -23,7 +24,9 @@ pub enum Fault {
 
 impl Fault {
     /// The exit status.
-    pub fn status(self) -> u8 {
+    pub fn status(self) -> u8
+        ensures { result ≡ fault_status self }
+    {
         match self {
             Fault::Usage => 2,
             Fault::Memory | Fault::Points(ReadFault::Memory) => 3,

@@ -1,9 +1,15 @@
 //! The program between files and standard streams.
+ghost use Rattle.std.specs.Prelude.{◌≡◌, ◌⊎◌, IfOk};
+ghost use Rattle.std.specs.Process.{exit_status};
+ghost use Rattle.hullcheck.specs.headline.Judging.{IsToldOfSome};
+ghost use Rattle.hullcheck.specs.headline.Statuses.{IsRunStatus, fault_status, judgement_status, no_device};
+
 use crate::command_line::{Settings, settings_of};
 use crate::faces::{Faces, read_faces};
 use crate::fault::Fault;
-use crate::judgement::Judgement;
-use crate::judging::judge_faces;
+use crate::judging::judge;
+use crate::statuses::status_of;
+use qh_judge::Judgement;
 use qh_model::{Form, POINT_LIMIT, Point};
 use qh_read::{StdSource, read_form_threads};
 use std::alloc::Global;
@@ -50,7 +56,9 @@ fn faces_in<R: Files + Input + AllocGlobal>(rt: &R, settings: &Settings) -> Resu
 }
 
 /// What is told of the faces that a command line names.
-fn told<R: Env + Files + Input + AllocGlobal + Threads + Sync>(rt: &R) -> Result<Judgement, Fault> {
+fn told<R: Env + Files + Input + AllocGlobal + Threads + Sync>(rt: &R) -> Result<Judgement, Fault>
+    ensures { IfOk result IsToldOfSome }
+{
     let words = words(rt)?;
     let settings = settings_of(&words)?;
     let path = settings.points.ok_or(Fault::Usage)?;
@@ -59,19 +67,22 @@ fn told<R: Env + Files + Input + AllocGlobal + Threads + Sync>(rt: &R) -> Result
     if pts.is_empty() || pts.len() > POINT_LIMIT as usize {
         return Err(Fault::Usage);
     }
-    judge_faces(
+    let judgement = judge(
         rt,
         rt.alloc(),
         &pts,
         &faces,
         settings.reading.naming,
         settings.workers,
-    )
+    )?;
+    Ok(judgement)
 }
 
 /// Writes a judgement on standard output, and answers the exit status.
-fn end<R: Print>(rt: &R, judgement: Judgement) -> u8 {
-    let status = judgement.status();
+fn end<R: Print>(rt: &R, judgement: Judgement) -> u8
+    ensures { (result ≡ judgement_status judgement) ⊎ (result ≡ no_device) }
+{
+    let status = status_of(&judgement);
     match println!(rt; "{judgement}") {
         Ok(()) => status,
         Err(_) => Fault::Device.status(),
@@ -79,7 +90,9 @@ fn end<R: Print>(rt: &R, judgement: Judgement) -> u8 {
 }
 
 /// Writes a fault on standard error, and answers the exit status.
-fn refuse<R: Eprint>(rt: &R, fault: Fault) -> u8 {
+fn refuse<R: Eprint>(rt: &R, fault: Fault) -> u8
+    ensures { result ≡ fault_status fault }
+{
     let _ = eprintln!(rt; "{fault}");
     fault.status()
 }
@@ -87,7 +100,9 @@ fn refuse<R: Eprint>(rt: &R, fault: Fault) -> u8 {
 /// Judges the faces that the command line names, and says with which status the program ends.
 pub fn run<R: Env + Files + Input + Print + Eprint + AllocGlobal + Threads + Sync>(
     rt: &R,
-) -> ExitCode {
+) -> ExitCode
+    ensures { IsRunStatus (exit_status result) }
+{
     let status = match told(rt) {
         Ok(judgement) => end(rt, judgement),
         Err(fault) => refuse(rt, fault),

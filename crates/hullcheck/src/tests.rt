@@ -2,9 +2,9 @@
 use crate::command_line::settings_of;
 use crate::faces::{Faces, Naming, Reading, Turn, read_faces};
 use crate::fault::Fault;
-use crate::judgement::Judgement;
-use crate::judging::judge_faces;
+use crate::judging::judge;
 use qh_check::SurfaceVerdict;
+use qh_judge::Judgement;
 use qh_model::Point;
 use std::alloc::{AllocError, Global};
 use std::test::Fail;
@@ -34,7 +34,7 @@ fn told<R: Threads + Sync>(
     reading: Reading,
 ) -> Result<Judgement, Fault> {
     let faces: Faces = read_faces(alloc, text.as_bytes(), reading)?;
-    judge_faces(rt, alloc, &cube(), &faces, reading.naming, 1)
+    Ok(judge(rt, alloc, &cube(), &faces, reading.naming, 1)?)
 }
 
 /// How Qhull's `i` is read.

@@ -92,6 +92,13 @@ impl<'a> Words<'a> {
         self.take()
     }
 
+    /// Passes over the rest of this line.
+    pub fn skip_line(&mut self) {
+        let all = self.rest.len();
+        let ends = self.rest.iter().position(|byte| *byte == b'\n');
+        self.rest = self.rest.split_at(ends.unwrap_or(all).min(all)).1;
+    }
+
     /// The word that begins here, if one does.
     fn take(&mut self) -> Option<&'a [u8]> {
         let all = self.rest.len();

@@ -1,0 +1,3 @@
+-- What a reader has to believe of the program.
+pub mod Judging
+pub mod Statuses

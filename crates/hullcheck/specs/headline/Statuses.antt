@@ -1,0 +1,64 @@
+-- The exit statuses of the program. This project's own.
+use Rattle.std.specs.Prelude.{ℕ, ◌≡◌, ◌⊎◌}
+use Rattle.qh_model.specs.declared.read_fault.ReadFault.TheVariants as read
+use Rattle.qh_check.specs.declared.flaw.SurfaceVerdict.TheVariants.{Right, OtherPolygons, NoPiece, Open, Twice}
+use Rattle.hullcheck.specs.declared.fault.Fault.{Fault}
+use Rattle.hullcheck.specs.declared.fault.Fault.TheVariants.{Usage, Memory, Device, Points, Faces}
+use Rattle.qh_judge.specs.declared.judgement.Judgement.{Judgement}
+use Rattle.qh_judge.specs.declared.judgement.Judgement.TheVariants.{Told, Stranger}
+use Rattle.hullcheck.specs.headline.Judging.{IsToldOfSome}
+
+-- the faces are the hull
+abbrev pub all_right : ℕ
+all_right = 0
+
+-- they are not
+abbrev pub not_right : ℕ
+not_right = 1
+
+-- the words are no command line
+abbrev pub no_command : ℕ
+no_command = 2
+
+-- memory was refused
+abbrev pub no_memory : ℕ
+no_memory = 3
+
+-- a file or a stream failed
+abbrev pub no_device : ℕ
+no_device = 4
+
+-- a file has another text than is wanted
+abbrev pub no_such_text : ℕ
+no_such_text = 5
+
+-- the status of what is told
+abbrev pub judgement_status : Judgement → ℕ
+judgement_status (Told Right) = all_right
+judgement_status (Told OtherPolygons) = not_right
+judgement_status (Told (NoPiece n fault)) = not_right
+judgement_status (Told (Open u v)) = not_right
+judgement_status (Told (Twice u v)) = not_right
+judgement_status (Stranger n) = not_right
+
+-- and of what keeps the program from it
+abbrev pub fault_status : Fault → ℕ
+fault_status Usage = no_command
+fault_status Memory = no_memory
+fault_status Device = no_device
+fault_status (Points read.NoHeader) = no_such_text
+fault_status (Points (read.BadNumber line)) = no_such_text
+fault_status (Points read.NotThree) = no_such_text
+fault_status (Points read.Count) = no_such_text
+fault_status (Points (read.Range line)) = no_such_text
+fault_status (Points (read.Long line)) = no_such_text
+fault_status (Points read.Short) = no_such_text
+fault_status (Points read.Memory) = no_memory
+fault_status (Points read.Device) = no_device
+fault_status (Points read.Big) = no_such_text
+fault_status (Points read.NotOff) = no_such_text
+fault_status (Faces line) = no_such_text
+
+-- the status with which a run ends: that of what was told of points and faces that were read, or that of a fault
+abbrev pub IsRunStatus : ℕ → Type 0
+IsRunStatus status = ((j : Judgement) × IsToldOfSome j × (status ≡ judgement_status j)) ⊎ ((f : Fault) × (status ≡ fault_status f))

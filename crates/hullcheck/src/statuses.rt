@@ -1,0 +1,16 @@
+//! The exit statuses.
+ghost use Rattle.std.specs.Prelude.{◌≡◌};
+ghost use Rattle.hullcheck.specs.headline.Statuses.{judgement_status};
+
+use qh_check::SurfaceVerdict;
+use qh_judge::Judgement;
+
+/// The exit status of what is told: 0 where all is right, else 1.
+pub fn status_of(judgement: &Judgement) -> u8
+    ensures { result ≡ judgement_status judgement.now }
+{
+    match judgement {
+        Judgement::Told(SurfaceVerdict::Right) => 0,
+        _ => 1,
+    }
+}

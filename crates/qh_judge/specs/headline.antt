@@ -1,0 +1,3 @@
+-- What a reader has to believe.
+pub mod Judging
+pub mod Naming
