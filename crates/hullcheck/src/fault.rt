@@ -1,6 +1,6 @@
 //! What keeps the program from a verdict.
 ghost use Rattle.std.specs.Prelude.{◌≡◌};
-ghost use Rattle.hullcheck.specs.headline.Statuses.{fault_status};
+ghost use Rattle.hullcheck.specs.contract.Statuses.{fault_status};
 ghost use Rattle.hullcheck.specs.declared.fault.Fault.TheVariants.{Memory};
 
 use qh_model::{Memory, ReadFault};

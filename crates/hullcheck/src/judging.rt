@@ -1,8 +1,8 @@
 //! What is told of the faces of a file.
 ghost use Rattle.std.specs.Prelude.{◌<◌, ◌≤◌, IfOk, length};
 ghost use Rattle.qh_model.specs.declared.limits.TheConstants.{POINT_LIMIT};
-ghost use Rattle.qh_judge.specs.headline.Judging.{IsJudgement};
-ghost use Rattle.hullcheck.specs.headline.Judging.{named_points};
+ghost use Rattle.qh_judge.specs.contract.Judging.{IsJudgement};
+ghost use Rattle.hullcheck.specs.contract.Judging.{named_points};
 
 use crate::faces::{Faces, Naming};
 use qh_judge::{Judgement, judge_faces};

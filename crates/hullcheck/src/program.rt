@@ -1,8 +1,8 @@
 //! The program between files and standard streams.
 ghost use Rattle.std.specs.Prelude.{◌≡◌, ◌⊎◌, IfOk};
 ghost use Rattle.std.specs.Process.{exit_status};
-ghost use Rattle.hullcheck.specs.headline.Judging.{IsToldOfSome};
-ghost use Rattle.hullcheck.specs.headline.Statuses.{IsRunStatus, fault_status, judgement_status, no_device};
+ghost use Rattle.hullcheck.specs.contract.Judging.{IsToldOfSome};
+ghost use Rattle.hullcheck.specs.contract.Statuses.{IsRunStatus, fault_status, judgement_status, no_device};
 
 use crate::command_line::{Settings, settings_of};
 use crate::faces::{Faces, read_faces};

@@ -1,6 +1,6 @@
 //! The exit statuses.
 ghost use Rattle.std.specs.Prelude.{◌≡◌};
-ghost use Rattle.hullcheck.specs.headline.Statuses.{judgement_status};
+ghost use Rattle.hullcheck.specs.contract.Statuses.{judgement_status};
 
 use qh_check::SurfaceVerdict;
 use qh_judge::Judgement;

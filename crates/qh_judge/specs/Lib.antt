@@ -1,1 +1,1 @@
-pub mod headline
+pub mod contract

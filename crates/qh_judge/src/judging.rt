@@ -1,7 +1,7 @@
 //! The verdict on faces of points.
 ghost use Rattle.std.specs.Prelude.{◌<◌, ◌≤◌, IfOk, length};
 ghost use Rattle.qh_model.specs.declared.limits.TheConstants.{POINT_LIMIT};
-ghost use Rattle.qh_judge.specs.headline.Judging.{IsJudgement};
+ghost use Rattle.qh_judge.specs.contract.Judging.{IsJudgement};
 
 use crate::judgement::Judgement;
 use crate::naming::polygons_of;

@@ -1,7 +1,7 @@
 //! The distinct ids that the corners of faces stand for.
 ghost use Rattle.std.specs.Prelude.{◌≡◌, ◌<◌, ◌↔◌, [], IfOk, IsTrue, MatchOption, MatchResult, length, slice_index_or};
 ghost use Rattle.qh_model.specs.contract.IdSets.{AreIndices};
-ghost use Rattle.qh_judge.specs.headline.Naming.{AreNamed, AreNamedFaces, HasStranger, IsAt, IsNamed, IsNowhere, IsStranger};
+ghost use Rattle.qh_judge.specs.contract.Naming.{AreNamed, AreNamedFaces, HasStranger, IsAt, IsNamed, IsNowhere, IsStranger};
 
 use crate::positions::positions_of;
 use qh_model::{Id, Point, Polygon};

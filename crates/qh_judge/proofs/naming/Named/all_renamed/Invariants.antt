@@ -1,6 +1,6 @@
 -- The polygons so far are those of the faces.
 use Rattle.std.proofs.Common.{ℕ, ◌≡◌, ◌<◌, [], get_or, length}
-use Rattle.qh_judge.specs.headline.Naming.{AreNamed}
+use Rattle.qh_judge.specs.contract.Naming.{AreNamed}
 use Rattle.qh_judge.proofs.naming.Named.all_renamed.Given as goal
 
 abbrev pub invariant-loop-position : goal.invariant-loop-position

@@ -1,6 +1,6 @@
 -- The numbers so far stand for the ids.
 use Rattle.std.proofs.Common.{ℕ, ◌≡◌, ◌<◌, get_or, length}
-use Rattle.qh_judge.specs.headline.Naming.{IsNamed}
+use Rattle.qh_judge.specs.contract.Naming.{IsNamed}
 use Rattle.qh_judge.proofs.naming.Named.renamed.Given as goal
 
 abbrev pub invariant-loop-number : goal.invariant-loop-number

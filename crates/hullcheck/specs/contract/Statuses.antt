@@ -6,7 +6,7 @@ use Rattle.hullcheck.specs.declared.fault.Fault.{Fault}
 use Rattle.hullcheck.specs.declared.fault.Fault.TheVariants.{Usage, Memory, Device, Points, Faces}
 use Rattle.qh_judge.specs.declared.judgement.Judgement.{Judgement}
 use Rattle.qh_judge.specs.declared.judgement.Judgement.TheVariants.{Told, Stranger}
-use Rattle.hullcheck.specs.headline.Judging.{IsToldOfSome}
+use Rattle.hullcheck.specs.contract.Judging.{IsToldOfSome}
 
 -- the faces are the hull
 abbrev pub all_right : ℕ

@@ -2,7 +2,7 @@
 use Rattle.std.specs.Prelude.{ℕ, List}
 use Rattle.qh_model.specs.headline.Vector.{Vector}
 use Rattle.qh_judge.specs.declared.judgement.Judgement.{Judgement}
-use Rattle.qh_judge.specs.headline.Judging.{IsJudgement}
+use Rattle.qh_judge.specs.contract.Judging.{IsJudgement}
 use Rattle.hullcheck.specs.declared.faces.Naming.{Naming}
 use Rattle.hullcheck.specs.declared.faces.Naming.TheVariants.{Vertices, Indices}
 

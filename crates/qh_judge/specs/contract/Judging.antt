@@ -9,7 +9,7 @@ use Rattle.qh_check.specs.declared.flaw.SurfaceVerdict.TheVariants.{Right}
 use Rattle.qh_check.specs.contract.Surfaces.{IsHullSurface, IsSurfaceReason}
 use Rattle.qh_judge.specs.declared.judgement.Judgement.{Judgement}
 use Rattle.qh_judge.specs.declared.judgement.Judgement.TheVariants.{Told, Stranger}
-use Rattle.qh_judge.specs.headline.Naming.{AreNamedFaces, HasStranger}
+use Rattle.qh_judge.specs.contract.Naming.{AreNamedFaces, HasStranger}
 
 -- the verdict is `Right` just where the faces, named by the distinct ids of the points, are the surface of their hull;
 -- and what it says is so

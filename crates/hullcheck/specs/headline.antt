@@ -1,3 +1,0 @@
--- What a reader has to believe of the program.
-pub mod Judging
-pub mod Statuses

@@ -1,0 +1,3 @@
+-- What public clauses cite.
+pub mod Judging
+pub mod Naming

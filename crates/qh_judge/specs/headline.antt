@@ -1,3 +1,0 @@
--- What a reader has to believe.
-pub mod Judging
-pub mod Naming
