@@ -72,7 +72,5 @@ pub fn inner_columns(
     if !sample_pays(planes.len(), sample.ids.len()) {
         return Ok(None);
     }
-    Ok(Some(Columns::between(
-        alloc, planes, sample, side_bits,
-    )?))
+    Ok(Some(Columns::between(alloc, planes, sample, side_bits)?))
 }
