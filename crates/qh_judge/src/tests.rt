@@ -34,17 +34,3 @@ fn corners_may_be_named_by_a_later_index(rt: HostRuntime) -> Result<(), Fail> {
     assert!(rt; told == Judgement::Told(SurfaceVerdict::Right));
     Ok(())
 }
-
-#[test]
-fn a_vertex_where_no_point_is_makes_its_face_strange(rt: HostRuntime) -> Result<(), Fail> {
-    let vertices = [
-        Point::new(0, 0, 0),
-        Point::new(1, 0, 0),
-        Point::new(0, 1, 0),
-        Point::new(0, 0, 2),
-    ];
-    let faces = triangles(rt.alloc(), &[[0, 2, 1], [0, 1, 3]])?;
-    let told = judge_faces(&rt, rt.alloc(), &corners(), &vertices, &faces, 1)?;
-    assert!(rt; told == Judgement::Stranger(1));
-    Ok(())
-}
