@@ -2,10 +2,12 @@
 from __future__ import annotations
 
 import re
+from dataclasses import dataclass
 from pathlib import Path
-from typing import BinaryIO, NamedTuple
+from typing import BinaryIO
 
 import numpy as np
+from numpy.typing import NDArray
 
 _DATA_WORD = re.compile(rb"[+-]?[0-9]+")
 _DATA_WORD_STARTS = b"0123456789+-."  # any other word begins a comment, up to the end of its line
@@ -17,7 +19,8 @@ _KINDS = bytes(
 _SIGNS_AMISS = (b"?", b"0-", b"--", b"- ")
 
 
-class Header(NamedTuple):
+@dataclass(frozen=True)
+class Header:
     """What stands before the points of a file."""
 
     count: int  # of the points
@@ -44,7 +47,7 @@ def header_of(path: str | Path) -> Header:
     return Header(second if first == 3 else first, end)
 
 
-def read_block(path: str | Path, start: int, end: int) -> np.ndarray:
+def read_block(path: str | Path, start: int, end: int) -> NDArray[np.int64]:
     """The points of the lines that begin from the offset start to before the offset end, an int64 array of shape (n, 3).
 
     Raises ValueError where a word is no number, or a point goes over the end of the block's last line.
@@ -67,7 +70,7 @@ def _next_line(source: BinaryIO, offset: int) -> int:
     return source.tell()
 
 
-def _numbers_of(text: bytes, path: str | Path, begin: int) -> np.ndarray:
+def _numbers_of(text: bytes, path: str | Path, begin: int) -> NDArray[np.int64]:
     """The numbers of some lines. Those past 64 bits are read as the last number that has 64, so they stay out of range."""
     kinds = text.translate(_KINDS)
     if not any(amiss in kinds for amiss in _SIGNS_AMISS) and not kinds.endswith(b"-"):

@@ -131,7 +131,7 @@ def six_volumes(points: NDArray[np.int32], triangles: NDArray[np.int32]) -> int:
         raise OverflowError("a sum of volumes has more than 128 bits")
     if code != _DONE:
         raise error_of(code)
-    bits = volume.high << 64 | volume.low
+    bits: int = volume.high << 64 | volume.low
     return bits - (bits >> 127 << 128)
 
 

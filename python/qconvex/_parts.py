@@ -6,9 +6,11 @@ whatever the tree, if indices rise within what a call is given. Here they do: po
 from __future__ import annotations
 
 from collections.abc import Iterable
-from typing import NamedTuple
+from dataclasses import dataclass, replace
+from typing import Any
 
 import numpy as np
+from numpy.typing import NDArray
 
 from ._hull import whole_points
 from ._library import flat_hull
@@ -32,18 +34,19 @@ class TooManyExtremes(ValueError):
         return f"{self.count} points are extreme in two parts; a hull takes {POINT_LIMIT} at most"
 
 
-class Part(NamedTuple):
+@dataclass(frozen=True)
+class Part:
     """What is left of points that follow one another."""
 
     count: int  # of the points that there were
-    indices: np.ndarray  # int64, rising: the places of the extreme points among these
-    points: np.ndarray  # int32, (m, 3): the extreme points
+    indices: NDArray[np.int64]  # int64, rising: the places of the extreme points among these
+    points: NDArray[np.int32]  # int32, (m, 3): the extreme points
 
 
 EMPTY = Part(0, np.empty(0, np.int64), np.empty((0, 3), np.int32))
 
 
-def part_of_block(block: np.ndarray) -> Part:
+def part_of_block(block: NDArray[Any]) -> Part:
     """The extreme points of a block of points of any length, looked at in cuts of `POINT_LIMIT` at most."""
     starts = range(0, len(block), POINT_LIMIT)
     return joined(_part_of_cut(block[start : start + POINT_LIMIT]) for start in starts)
@@ -54,20 +57,21 @@ def joined(parts: Iterable[Part]) -> Part:
 
     Raises TooManyExtremes where the extreme points of what came before and of a part together are more than a call takes.
     """
-    pile, size, count = [], 0, 0
+    pile: list[Part] = []
+    size = count = 0
     for part in parts:
         if size + len(part.indices) > POINT_LIMIT:
             pile = [_extremes_of(pile)]
             size = len(pile[0].indices)
         if size + len(part.indices) > POINT_LIMIT:
             raise TooManyExtremes(size + len(part.indices))
-        pile.append(part._replace(indices=part.indices + count))
+        pile.append(replace(part, indices=part.indices + count))
         size += len(part.indices)
         count += part.count
-    return _extremes_of(pile)._replace(count=count)
+    return replace(_extremes_of(pile), count=count)
 
 
-def _part_of_cut(cut: np.ndarray) -> Part:
+def _part_of_cut(cut: NDArray[Any]) -> Part:
     """The extreme points of `POINT_LIMIT` points at most, one at least."""
     points = whole_points(cut)
     places = flat_hull(points).extremes

@@ -15,6 +15,7 @@ from typing import Any, NamedTuple, Union
 import dask
 import dask.array as da
 import numpy as np
+from numpy.typing import NDArray
 
 from ._files import header_of, read_block
 from ._hull import WHOLE_REFUSAL, ConvexHull
@@ -32,10 +33,10 @@ Paths = Union[str, Path, Sequence[Union[str, Path]]]
 class Extremes(NamedTuple):
     """The extreme points of an array."""
 
-    indices: np.ndarray
+    indices: NDArray[np.int64]
     """int64, rising: their rows in the whole array; of equal points the lowest."""
 
-    points: np.ndarray
+    points: NDArray[np.int32]
     """int32, of shape (m, 3): the points of these rows."""
 
 
@@ -52,10 +53,10 @@ class IndexedHull(ConvexHull):
 
     def __init__(self, extremes: Extremes) -> None:
         super().__init__(extremes.points)
-        self.indices: np.ndarray = extremes.indices
+        self.indices: NDArray[np.int64] = extremes.indices
 
 
-def extremes(points: da.Array | np.ndarray | Paths, client: Any = None, retries: int = 3) -> Extremes:
+def extremes(points: da.Array | NDArray[Any] | Paths, client: Any = None, retries: int = 3) -> Extremes:
     """Returns the extreme points of a dask array, of one of numpy, or of files as `read` takes them.
 
     Chunks of more than `POINT_LIMIT` rows are cut. The work is done by the scheduler that Dask has set.
@@ -89,7 +90,7 @@ def extremes(points: da.Array | np.ndarray | Paths, client: Any = None, retries:
     return Extremes(part.indices, part.points)
 
 
-def hull(points: da.Array | np.ndarray | Paths, client: Any = None, retries: int = 3) -> IndexedHull:
+def hull(points: da.Array | NDArray[Any] | Paths, client: Any = None, retries: int = 3) -> IndexedHull:
     """Returns the hull of an array, or of files: that of its extreme points, with their rows in the whole array.
 
     Takes and raises what `extremes` does.
@@ -119,7 +120,8 @@ def _opened(paths: Paths, columns: Sequence[str] | None = None) -> tuple[da.Arra
     opened = [_opened_one(Path(path).absolute(), columns) for path in listed]
     counts = [count for _, count in opened]
     array = da.concatenate([array for array, _ in opened], allow_unknown_chunksizes=True)
-    return array, None if None in counts else sum(counts)
+    known = [count for count in counts if count is not None]
+    return array, sum(known) if len(known) == len(counts) else None
 
 
 def _opened_one(path: Path, columns: Sequence[str] | None) -> tuple[da.Array, int | None]:
@@ -146,7 +148,7 @@ def _array_of_npy(path: Path) -> da.Array:
     )
 
 
-def _rows_of_npy(path: Path, start: int, end: int) -> np.ndarray:
+def _rows_of_npy(path: Path, start: int, end: int) -> NDArray[Any]:
     return np.array(np.load(path, mmap_mode="r")[start:end])
 
 
@@ -184,11 +186,11 @@ def _pieces(length: float) -> list[float]:
     """The lengths of the cuts of a chunk, of which one of unknown length is cut when it is there."""
     if math.isnan(length) or length <= POINT_LIMIT:
         return [length]
-    count = -(-length // POINT_LIMIT)
+    count = int(-(-length // POINT_LIMIT))
     return [length * (place + 1) // count - length * place // count for place in range(count)]
 
 
-def _held_part(block: np.ndarray) -> np.ndarray:
+def _held_part(block: NDArray[Any]) -> NDArray[Any]:
     """The part of a chunk, in an array of one."""
     held = np.empty((1, 1), object)
     held[0, 0] = part_of_block(block)
@@ -213,13 +215,20 @@ def _computed(value: Any, client: Any, retries: int) -> Part:
     if client is None:
         client = _client_set()
     if client is None:
-        return value.compute()
+        here: Part = value.compute()
+        return here
     if isinstance(client, str):
         from distributed import Client
 
         with Client(client, set_as_default=False) as opened:
-            return opened.compute(value, retries=retries).result()
-    return client.compute(value, retries=retries).result()
+            return _result_of(opened, value, retries)
+    return _result_of(client, value, retries)
+
+
+def _result_of(client: Any, value: Any, retries: int) -> Part:
+    """The value by a client."""
+    result: Part = client.compute(value, retries=retries).result()
+    return result
 
 
 def _client_set() -> Any:

@@ -1,27 +1,32 @@
 """The inequalities and equations of a hull, and the texts in which other programs read them."""
+from __future__ import annotations
+
 from math import gcd
-from typing import NamedTuple
+from typing import Iterable, List, NamedTuple, Sequence, Tuple
 
-from .vectors import cross, dot, minus, polygon_normal, times
+from .vectors import Vector, cross, dot, minus, polygon_normal, times
 
-AXES = ((1, 0, 0), (0, 1, 0), (0, 0, 1))
+# The numbers b and a of b + a . p.
+Row = Tuple[int, ...]
+
+AXES: Tuple[Vector, ...] = ((1, 0, 0), (0, 1, 0), (0, 0, 1))
 
 
 class Halfspaces(NamedTuple):
     """What a hull is: the points p with b + a . p >= 0 for each inequality (b, a), and = 0 for each equation."""
 
-    inequalities: list
-    equations: list
+    inequalities: List[Row]
+    equations: List[Row]
 
 
-def row_of(normal, offset):
+def row_of(normal: Vector, offset: int) -> Row:
     """The row of `normal . p <= offset`, without a common divisor."""
     row = (offset, *times(-1, normal))
     divisor = gcd(*row)
     return tuple(number // divisor for number in row)
 
 
-def halfspaces_of(points, faces):
+def halfspaces_of(points: Sequence[Vector], faces: Sequence[Sequence[int]]) -> Halfspaces:
     """The inequalities and equations of a hull of any dimension."""
     if len(faces) > 1:
         planes = ((polygon_normal([points[corner] for corner in face]), points[face[0]]) for face in faces)
@@ -31,14 +36,14 @@ def halfspaces_of(points, faces):
     return of_dimension.get(len(corners), of_polygon)(corners)
 
 
-def of_polygon(corners):
+def of_polygon(corners: List[Vector]) -> Halfspaces:
     """A plane, and in it what bounds the polygon along each side."""
     normal = polygon_normal(corners)
     sides = ((cross(minus(end, start), normal), start) for start, end in zip(corners, corners[1:] + corners[:1]))
     return Halfspaces([row_of(out, dot(out, start)) for out, start in sides], [row_of(normal, dot(normal, corners[0]))])
 
 
-def of_segment(corners):
+def of_segment(corners: List[Vector]) -> Halfspaces:
     """A line, and on it the two ends."""
     start, end = corners
     along = minus(end, start)
@@ -48,17 +53,17 @@ def of_segment(corners):
     return Halfspaces(ends, [row_of(vector, dot(vector, start)) for vector in across])
 
 
-def of_place(corners):
+def of_place(corners: List[Vector]) -> Halfspaces:
     """One point."""
     return Halfspaces([], [row_of(axis, dot(axis, corners[0])) for axis in AXES])
 
 
-def lines_of(rows):
+def lines_of(rows: Iterable[Row]) -> List[str]:
     """Rows of numbers as lines."""
     return [" ".join(map(str, row)) for row in rows]
 
 
-def normaliz_text(points, faces):
+def normaliz_text(points: Sequence[Vector], faces: Sequence[Sequence[int]]) -> List[str]:
     """An input file of Normaliz: the constant stands last."""
     hull = halfspaces_of(points, faces)
     lines = ["amb_space 3"]
@@ -68,7 +73,7 @@ def normaliz_text(points, faces):
     return lines
 
 
-def lrs_text(points, faces):
+def lrs_text(points: Sequence[Vector], faces: Sequence[Sequence[int]]) -> List[str]:
     """An H-representation for lrs: the equations stand first."""
     hull = halfspaces_of(points, faces)
     count = len(hull.equations)
@@ -77,10 +82,10 @@ def lrs_text(points, faces):
     return ["hull", "H-representation", *linearity, "begin", f"{len(rows)} 4 integer", *lines_of(rows), "end"]
 
 
-def polymake_text(points, faces):
+def polymake_text(points: Sequence[Vector], faces: Sequence[Sequence[int]]) -> List[str]:
     """A line for polymake that makes the polytope $p of its vertices and its facets."""
     hull = halfspaces_of(points, faces)
-    parts = {
+    parts: dict[str, Sequence[Row]] = {
         "VERTICES": [(1, *point) for point in points],
         "LINEALITY_SPACE": [],
         "FACETS": hull.inequalities,

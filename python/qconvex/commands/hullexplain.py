@@ -9,15 +9,18 @@ docs/FAULTS.md has each fault with a file that has it.
 
     hullexplain examples/faults/missing-number.txt
 """
+from __future__ import annotations
+
 import argparse
 import re
 import signal
 import sys
 from collections import Counter
+from typing import List
 
 from .._limits import BYTE_LIMIT, COORDINATE_LIMIT, POINT_LIMIT
 from .contents import bytes_of
-from .point_files import message, read, value_of
+from .point_files import Fault, Reading, Word, message, read, value_of
 
 BYTE_ORDER_MARK = b"\xef\xbb\xbf"
 # Of how many comments the text is shown, and how much of each.
@@ -26,14 +29,14 @@ COMMENT_LENGTH = 40
 AXES = "xyz"
 
 
-def shown(text, length=COMMENT_LENGTH):
+def shown(text: bytes, length: int = COMMENT_LENGTH) -> str:
     """Bytes as text, cut where they are long."""
     plain = text.decode("utf-8", "backslashreplace")
     plain = "".join(letter if letter.isprintable() else f"\\x{ord(letter):02x}" for letter in plain)
     return plain if len(plain) <= length else plain[:length] + ".."
 
 
-def marked(data, word):
+def marked(data: bytes, word: Word) -> List[str]:
     """The line of a word, with the word underlined."""
     line = data.split(b"\n")[word.line - 1].rstrip(b"\r").expandtabs(1)
     start = max(0, word.column - 1 - COMMENT_LENGTH)
@@ -43,7 +46,7 @@ def marked(data, word):
     return [f"    {before}{text}{after}", f"    {' ' * len(before)}{'^' * len(text)} {place}"]
 
 
-def counted(reading):
+def counted(reading: Reading) -> str:
     """How far the file was read."""
     if reading.count is None:
         words = ", ".join(f"`{shown(word.text)}` (line {word.line})" for word in reading.header)
@@ -57,7 +60,7 @@ def counted(reading):
     )
 
 
-def comments(reading, everything):
+def comments(reading: Reading, everything: bool) -> List[str]:
     """Which words were taken as comments."""
     if not reading.comments:
         return ["No word was taken as a comment."]
@@ -67,7 +70,7 @@ def comments(reading, everything):
     return ["Taken as comments:", *lines] + ([f"  and {more} more (--comments shows them)"] if more else [])
 
 
-def uneven_rows(reading):
+def uneven_rows(reading: Reading) -> List[str]:
     """The lines that have another number of data words than most lines after the header, if they are few."""
     header_line = max(word.line for word in reading.header)
     rows = Counter(word.line for word in reading.words[2:] if word.line > header_line)
@@ -82,7 +85,7 @@ def uneven_rows(reading):
     return [f"Most lines have 3 numbers, but {listed}."] if odd else []
 
 
-def swallowed(reading):
+def swallowed(reading: Reading) -> List[str]:
     """Comments with numbers in them, on lines that have fewer than three data words."""
     full = Counter(word.line for word in reading.words[2:])
     lost = [c for c in reading.comments if c.line > 2 and full[c.line] < 3 and re.search(rb"[ \t][+-]?\d", c.text)]
@@ -91,7 +94,7 @@ def swallowed(reading):
     return [f"Numbers stand in comments, as in line {lost[0].line}: a name goes behind the numbers of its row, not before."]
 
 
-def file_advice(data, reading):
+def file_advice(data: bytes, reading: Reading) -> List[str]:
     """What the file as a whole suggests."""
     if data.startswith(BYTE_ORDER_MARK):
         return ["The file begins with a byte order mark, which makes its first line a comment: drop the first 3 bytes,",
@@ -104,7 +107,7 @@ def file_advice(data, reading):
     return []
 
 
-def number_advice(word):
+def number_advice(word: Word) -> str:
     """How to mend a word that is no number."""
     text = word.text
     if b"," in text or b";" in text:
@@ -116,12 +119,12 @@ def number_advice(word):
     return "If it is meant as a comment, put # before it: a word that begins with a digit is never a comment."
 
 
-def header_advice(reading):
+def header_advice(reading: Reading, fault: Fault) -> List[str]:
     """How to mend a header."""
     if len(reading.header) < 2:
         return ["A point file begins with two numbers: the dimension 3, and the number of points."]
     first, second = map(value_of, reading.header)
-    if reading.fault.name == "Count":
+    if fault.name == "Count":
         count = second if first == 3 else first
         return [f"The count is {count}; it is to be 1 to {POINT_LIMIT}."] + (
             ["hullmany takes the hull of more points, exactly."] if count > POINT_LIMIT else []
@@ -133,9 +136,9 @@ def header_advice(reading):
     ]
 
 
-def word_advice(reading):
+def word_advice(reading: Reading, fault: Fault, word: Word) -> List[str]:
     """What the word of the fault was to be, and how to mend it."""
-    fault, place = reading.fault, len(reading.numbers)
+    place = len(reading.numbers)
     if fault.name == "Long":
         extra = len(reading.words) - 2 - place
         return [f"The count asks for {place} coordinates, and {extra} more word{'s' * (extra != 1)} follow from here on."]
@@ -145,13 +148,13 @@ def word_advice(reading):
         wanted = f"is to be {AXES[place % 3]} of point {place // 3}, counted from 0"
     if fault.name == "Range":
         return [f"This word {wanted}; it is to be from -{COORDINATE_LIMIT} to {COORDINATE_LIMIT}."]
-    return [f"This word {wanted}, and is no number: a sign, if any, and decimal digits.", number_advice(fault.word)]
+    return [f"This word {wanted}, and is no number: a sign, if any, and decimal digits.", number_advice(word)]
 
 
-def rows_advice(reading):
+def rows_advice(reading: Reading, fault: Fault) -> List[str]:
     """How to mend a file that has too few or too many numbers."""
     found = len(reading.words) - 2
-    if reading.fault.name not in ("Short", "Long"):
+    if fault.name not in ("Short", "Long"):
         return []
     if found % 3:
         wants = f"{found} is no multiple of 3: in some row a number is missing, or is one too many."
@@ -160,34 +163,33 @@ def rows_advice(reading):
     return [wants, *swallowed(reading), *uneven_rows(reading)]
 
 
-def advice(data, reading):
+def advice(data: bytes, reading: Reading, fault: Fault) -> List[str]:
     """How to mend the file."""
-    name = reading.fault.name
+    name = fault.name
     if name == "Big":
         return [f"The file has {len(data)} bytes; at most {BYTE_LIMIT} are read. hullmany takes larger ones."]
     if name in ("NoHeader", "NotThree", "Count"):
-        return file_advice(data, reading) or header_advice(reading)
-    about_word = word_advice(reading) if reading.fault.word else []
-    return file_advice(data, reading) + about_word + rows_advice(reading)
+        return file_advice(data, reading) or header_advice(reading, fault)
+    about_word = word_advice(reading, fault, fault.word) if fault.word else []
+    return file_advice(data, reading) + about_word + rows_advice(reading, fault)
 
 
-def explanation(data, reading, everything):
+def explanation(data: bytes, reading: Reading, fault: Fault, everything: bool) -> List[str]:
     """The lines that explain the first fault of a file."""
-    fault = reading.fault
     lines = [f"qconvex: {message(fault)}", ""]
     if fault.word:
         lines += marked(data, fault.word) + [""]
     if fault.name == "Big":
-        return lines + advice(data, reading)
-    return lines + advice(data, reading) + ["", counted(reading), *comments(reading, everything)]
+        return lines + advice(data, reading, fault)
+    return lines + advice(data, reading, fault) + ["", counted(reading), *comments(reading, everything)]
 
 
-def whole(reading, everything):
+def whole(reading: Reading, everything: bool) -> List[str]:
     """The lines that tell of a file without a fault."""
     return [f"No fault: {reading.count} points.", *comments(reading, everything)]
 
 
-def main():
+def main() -> None:
     parser = argparse.ArgumentParser(prog="hullexplain", description=__doc__, formatter_class=argparse.RawDescriptionHelpFormatter)
     parser.add_argument("--comments", action="store_true", help="show every comment")
     parser.add_argument("file", metavar="FILE", help="a point file, or - for standard input")
@@ -195,7 +197,7 @@ def main():
     signal.signal(signal.SIGPIPE, signal.SIG_DFL)
     data = bytes_of(options.file)
     reading = read(data)
-    lines = explanation(data, reading, options.comments) if reading.fault else whole(reading, options.comments)
+    lines = explanation(data, reading, reading.fault, options.comments) if reading.fault else whole(reading, options.comments)
     print("\n".join(lines))
     sys.exit(1 if reading.fault else 0)
 

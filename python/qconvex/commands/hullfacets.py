@@ -14,18 +14,24 @@ other programs describe those, too: by the equations of their plane, line or pla
 
     qconvex off < examples/unit-cube.txt | hullfacets
 """
+from __future__ import annotations
+
 import argparse
 import json
 import signal
 import sys
 from math import gcd
+from typing import Any, Dict, Iterable, Iterator, List, Optional, Sequence, Tuple
 
 from .halfspaces import FORMS
-from .off_files import read_off_file
-from .vectors import cross, dot, minus, polygon_normal
+from .off_files import Faces, read_off_file
+from .vectors import Vector, cross, dot, minus, polygon_normal
+
+# The facet at each side, by the corners of the side.
+Owners = Dict[Tuple[int, int], int]
 
 
-def plane(points, face):
+def plane(points: Sequence[Vector], face: List[int]) -> Tuple[List[int], int]:
     """The normal and the offset of a face's plane, without a common divisor."""
     corners = [points[corner] for corner in face]
     normal = polygon_normal(corners)
@@ -34,12 +40,12 @@ def plane(points, face):
     return [part // divisor for part in normal], offset // divisor
 
 
-def sides(face):
+def sides(face: List[int]) -> Iterator[Tuple[int, int]]:
     """The sides of a face, in order."""
     return zip(face, face[1:] + face[:1])
 
 
-def six_volumes(points, faces):
+def six_volumes(points: Sequence[Vector], faces: Sequence[List[int]]) -> int:
     """Six times the volume: the sum over the triangles of all faces."""
     total = 0
     for face in faces:
@@ -49,16 +55,16 @@ def six_volumes(points, faces):
     return total
 
 
-def incidences(points, faces, owner):
+def incidences(points: Sequence[Vector], faces: Sequence[List[int]], owner: Owners) -> List[List[int]]:
     """Of each corner the facets round it."""
-    around = [[] for _ in points]
+    around: List[List[int]] = [[] for _ in points]
     for place, face in enumerate(faces):
         for corner in face:
             around[corner].append(place)
     return [in_order(corner, places, faces, owner) for corner, places in enumerate(around)]
 
 
-def in_order(corner, places, faces, owner):
+def in_order(corner: int, places: List[int], faces: Sequence[List[int]], owner: Owners) -> List[int]:
     """The facets round a corner, the lowest first, counterclockwise from outside."""
     order = places[:1]
     while len(order) < len(places):
@@ -67,9 +73,8 @@ def in_order(corner, places, faces, owner):
     return order
 
 
-def described(hull):
+def described(points: Sequence[Vector], faces: Sequence[List[int]]) -> Dict[str, Any]:
     """All that is told of a hull."""
-    points, faces = hull
     solid = [face for face in faces if len(face) > 2]
     owner = {side: place for place, face in enumerate(solid) for side in sides(face)}
     facets = []
@@ -84,12 +89,12 @@ def described(hull):
     return {"six_volumes": six_volumes(points, faces), "facets": facets, "corners": corners}
 
 
-def joined(numbers):
+def joined(numbers: Iterable[int]) -> str:
     """Numbers with blanks between."""
     return " ".join(map(str, numbers)) or "none"
 
 
-def lines_of(hull):
+def lines_of(hull: Dict[str, Any]) -> Iterator[str]:
     """What is told of a hull, in lines."""
     yield f"six times the volume: {hull['six_volumes']}"
     for place, facet in enumerate(hull["facets"]):
@@ -101,15 +106,22 @@ def lines_of(hull):
         yield f"corner {place}: point {joined(corner['point'])}, facets {joined(corner['facets'])}"
 
 
-def in_form(hull, form):
+def whole_points(hull: Faces) -> Optional[List[Vector]]:
+    """The points, if all of their coordinates are whole."""
+    if any(part != int(part) for point in hull.points for part in point):
+        return None
+    return [(int(x), int(y), int(z)) for x, y, z in hull.points]
+
+
+def in_form(points: Sequence[Vector], faces: Sequence[List[int]], form: str) -> Iterable[str]:
     """The lines of a form."""
     if form in FORMS:
-        return FORMS[form](hull.points, hull.faces)
-    told = described(hull)
+        return FORMS[form](points, faces)
+    told = described(points, faces)
     return [json.dumps(told)] if form == "json" else lines_of(told)
 
 
-def main():
+def main() -> None:
     """Writes what is asked on standard output; a file that is no hull ends the process with a line that says why."""
     parser = argparse.ArgumentParser(prog="hullfacets", description=__doc__, formatter_class=argparse.RawDescriptionHelpFormatter)
     parser.add_argument("--form", choices=["text", "json", *FORMS], default="text", help="the form of the answer (default text)")
@@ -118,10 +130,11 @@ def main():
     options = parser.parse_args()
     signal.signal(signal.SIGPIPE, signal.SIG_DFL)
     hull = read_off_file(options.file)
-    if not hull.faces or any(part != int(part) for point in hull.points for part in point):
+    points = whole_points(hull)
+    if not hull.faces or points is None:
         sys.exit("hullfacets: a hull has faces, and whole coordinates")
     try:
-        lines = list(in_form(hull, options.form))
+        lines = list(in_form(points, hull.faces, options.form))
     except KeyError:
         sys.exit("hullfacets: the faces are no closed surface; scripts/check_hull.py says what is wrong")
     sys.stdout.writelines(f"{line}\n" for line in lines)

@@ -25,18 +25,25 @@ are left are kept in memory, beside two parts a job. If a round takes away fewer
 is given to the program at once; if that is more than it takes, there is no answer: the hull has then very many corners. The
 status is 0, or 1 with a line that says what was wrong.
 """
+from __future__ import annotations
+
 import argparse
 import shlex
 import shutil
 import sys
 import time
 from collections import deque
-from concurrent.futures import ThreadPoolExecutor
+from concurrent.futures import Future, ThreadPoolExecutor
 from pathlib import Path
+from typing import BinaryIO, Deque, Iterable, Iterator, List, Optional, Tuple
 
 from .._limits import POINT_LIMIT
-from .part_lines import LineParts, Refused, header_of, part_of_points, word_parts
-from .part_runs import Irregular, Runs
+from .part_lines import LineParts, Part, Refused, header_of, part_of_points, word_parts
+from .part_runs import Extremes, Irregular, Runs
+
+# A point as its index and its line.
+Indexed = Tuple[int, bytes]
+Pending = Deque[Tuple[Part, "Future[Extremes]"]]
 
 OUTPUTS = ["Fx", "off"]
 BUILT = Path(__file__).resolve().parents[3] / "crates" / "qconvex" / "out" / "qconvex"
@@ -47,12 +54,12 @@ PARTS_EACH, LEAST_PART = 6, 1 << 16
 class Progress:
     """A line on standard error that tells how far a round is."""
 
-    def __init__(self, number, total, shown):
+    def __init__(self, number: int, total: int, shown: bool) -> None:
         self.number, self.total, self.shown = number, total, shown
         self.parts = self.points = self.kept = 0
         self.start = time.monotonic()
 
-    def done(self, part, kept):
+    def done(self, part: Part, kept: int) -> None:
         """Another part is done."""
         self.parts += 1
         self.points += part.count
@@ -61,14 +68,14 @@ class Progress:
             seconds = (time.monotonic() - self.start) * max(self.total - self.points, 0) / self.points
             self.tell(f", {seconds:.0f} s left \r")
 
-    def tell(self, end="\n"):
+    def tell(self, end: str = "\n") -> None:
         """Writes the line."""
         if self.shown:
             text = f"round {self.number}: {self.parts} parts, {self.points} points, {self.kept} kept"
             print(text, end=end, file=sys.stderr, flush=True)
 
 
-def in_order(parts, runs, pool, pending):
+def in_order(parts: Iterable[Part], runs: Runs, pool: ThreadPoolExecutor, pending: Pending) -> Iterator[Tuple[Part, Extremes]]:
     """Each part with its extreme points, in order; those that are worked at stand in `pending`, twice as many as there are runs."""
     for part in parts:
         pending.append((part, pool.submit(runs.extremes, part)))
@@ -80,9 +87,11 @@ def in_order(parts, runs, pool, pending):
         pending.popleft()
 
 
-def first_round(parts, runs, progress):
+def first_round(parts: LineParts, runs: Runs, progress: Progress) -> Tuple[List[Indexed], int]:
     """The extreme points of parts of lines, each as its index and its line, and the number of all points."""
-    kept, first, pending = [], 0, deque()
+    kept: List[Indexed] = []
+    pending: Pending = deque()
+    first = 0
     with ThreadPoolExecutor(runs.count) as pool:
         answers = in_order(parts, runs, pool, pending)
         while True:
@@ -98,11 +107,11 @@ def first_round(parts, runs, progress):
                 answers = in_order(word_parts(held, parts.lines_left(), parts.size), runs, pool, pending)
 
 
-def next_round(points, size, runs, progress):
+def next_round(points: List[Indexed], size: int, runs: Runs, progress: Progress) -> List[Indexed]:
     """The extreme points of parts of points that are left."""
     count = -(-len(points) // size)
     dealt = [points[start::count] for start in range(count)]  # each point in another part than its neighbours
-    kept = []
+    kept: List[Indexed] = []
     with ThreadPoolExecutor(runs.count) as pool:
         parts = [part_of_points(point for _, point in part) for part in dealt]
         for part, (of_part, (places, _)) in zip(dealt, in_order(parts, runs, pool, deque())):
@@ -111,7 +120,7 @@ def next_round(points, size, runs, progress):
     return sorted(kept)
 
 
-def survivors(source, options, runs):
+def survivors(source: BinaryIO, options: argparse.Namespace, runs: Runs) -> List[Indexed]:
     """Points among which all extreme points are, in the order of their indices, as many as fit one part."""
     header = header_of(source)
     size = options.part or min(POINT_LIMIT, max(LEAST_PART, -(-header.count // (PARTS_EACH * runs.count))))
@@ -124,9 +133,10 @@ def survivors(source, options, runs):
     return fewer(points, options, runs)
 
 
-def fewer(points, options, runs):
+def fewer(points: List[Indexed], options: argparse.Namespace, runs: Runs) -> List[Indexed]:
     """As many of the points as fit one part, all extreme points among them."""
-    size, number, before = options.part or POINT_LIMIT, 2, None
+    size, number = options.part or POINT_LIMIT, 2
+    before: Optional[int] = None
     while len(points) > size:
         if before is not None and 100 * len(points) > 99 * before:
             if len(points) > POINT_LIMIT:
@@ -138,7 +148,7 @@ def fewer(points, options, runs):
     return points
 
 
-def by_dask(options):
+def by_dask(options: argparse.Namespace) -> List[Indexed]:
     """The extreme points of files, by the workers of a Dask scheduler."""
     try:
         from ..dask import extremes
@@ -149,7 +159,7 @@ def by_dask(options):
     return [(index, b"%d %d %d" % tuple(point)) for index, point in zip(found.indices.tolist(), found.points.tolist())]
 
 
-def answer(points, runs, outputs):
+def answer(points: List[Indexed], runs: Runs, outputs: List[str]) -> bytes:
     """The texts of the outputs for the whole input."""
     text = runs.answer(part_of_points(point for _, point in points))
     head, _, off = text.partition(b"OFF\n")
@@ -158,7 +168,7 @@ def answer(points, runs, outputs):
     return b"".join(texts[output] for output in outputs)
 
 
-def own_command():
+def own_command() -> str:
     """The program with one worker: that of this repository where it was built, else one that is installed."""
     installed = shutil.which("qconvex-exact") or shutil.which("qconvex")
     program = str(BUILT) if BUILT.exists() else installed
@@ -167,7 +177,7 @@ def own_command():
     return f"{shlex.quote(program)} --workers 1"
 
 
-def arguments():
+def arguments() -> argparse.Namespace:
     parser = argparse.ArgumentParser(prog="hullmany", description=__doc__, formatter_class=argparse.RawDescriptionHelpFormatter)
     parser.add_argument("--part", type=int, help=f"points of a part (default: {POINT_LIMIT}, or fewer in the first round)")
     parser.add_argument("--jobs", type=int, default=2, help="how many parts a command works at at a time (default 2)")
@@ -189,7 +199,7 @@ def arguments():
     return options
 
 
-def main():
+def main() -> None:
     options = arguments()
     try:
         runs = Runs(options.run or [own_command()], options.jobs, options.retries)

@@ -1,10 +1,13 @@
 """The vertices of meshes, exactly: in off, obj, and text and binary ply and stl."""
+from __future__ import annotations
+
 import os
 import struct
 import sys
+from dataclasses import dataclass
 from decimal import Context, Decimal, InvalidOperation
 from itertools import chain
-from typing import NamedTuple
+from typing import Any, List, NamedTuple, Sequence, Tuple, Union
 
 from . import contents
 from .off_files import Malformed, rows_of
@@ -17,19 +20,19 @@ EXACT = Context(prec=10**6)
 class Vertices(NamedTuple):
     """Vertices as whole numbers: coordinate k of a vertex is its number on axis k divided by the divisor."""
 
-    axes: list  # three lists of whole numbers
+    axes: List[List[int]]  # three lists of whole numbers
     divisor: int
 
 
 # What rows of words, and lists of numbers, stand for.
 
 
-def along_axes(numbers):
+def along_axes(numbers: List[int]) -> List[List[int]]:
     """Numbers, three for each vertex, in a list for each axis."""
     return [numbers[axis::3] for axis in range(3)]
 
 
-def of_words(rows):
+def of_words(rows: Sequence[Sequence[str]]) -> Vertices:
     """The vertices of rows of three decimal words."""
     if any(len(row) != 3 for row in rows):
         raise Malformed("a vertex has fewer than three coordinates")
@@ -39,7 +42,7 @@ def of_words(rows):
     return Vertices(along_axes(numbers), 10**decimals)
 
 
-def of_plain_words(words):
+def of_plain_words(words: List[str]) -> Tuple[List[int], int]:
     """Decimals without exponents, as whole numbers, and how many of their digits stand behind the point."""
     parts = [word.partition(".") for word in words]
     decimals = max((len(behind) for _, _, behind in parts), default=0)
@@ -47,18 +50,18 @@ def of_plain_words(words):
     return [int(before + behind) * powers[decimals - len(behind)] for before, _, behind in parts], decimals
 
 
-def of_any_words(words):
+def of_any_words(words: List[str]) -> Tuple[List[int], int]:
     """The same of any decimals."""
     numbers = list(map(Decimal, words))
     if not all(map(Decimal.is_finite, numbers)):
         raise Malformed("a coordinate is not finite")
-    decimals = max(0, *(-number.as_tuple().exponent for number in numbers))
+    decimals = max(0, *(-int(number.as_tuple().exponent) for number in numbers))
     if decimals > MOST_DECIMALS or any(number.adjusted() > MOST_DECIMALS for number in numbers):
         raise Malformed(f"a coordinate has more than {MOST_DECIMALS} digits before or behind the point")
     return [int(number.scaleb(decimals, EXACT)) for number in numbers], decimals
 
 
-def of_numbers(numbers):
+def of_numbers(numbers: Sequence[Union[int, float]]) -> Vertices:
     """The vertices of a list of whole numbers and floats, three for each."""
     try:
         ratios = [number.as_integer_ratio() for number in numbers]
@@ -71,24 +74,25 @@ def of_numbers(numbers):
 # The formats.
 
 
-def of_off(data):
+def of_off(data: bytes) -> Vertices:
     """The vertices of an OFF text; of COFF and its like the first three numbers of each row."""
     rows = rows_of(data.decode("utf-8", "replace"))
     return of_words([row[:3] for row in rows[1 : int(rows[0][0]) + 1]])
 
 
-def of_obj(data):
+def of_obj(data: bytes) -> Vertices:
     """The vertices of an OBJ text: its lines that begin with v."""
     rows = (line.split() for line in data.decode("utf-8", "replace").split("\n"))
     return of_words([row[1:4] for row in rows if row[:1] == ["v"]])
 
 
-class Element(NamedTuple):
+@dataclass(frozen=True)
+class Element:
     """An element of a ply file: its name, how often it stands there, and the words of each of its properties."""
 
     name: str
     count: int
-    properties: list
+    properties: List[List[str]]
 
 
 # The types of ply, by struct's letters.
@@ -97,13 +101,14 @@ PLY_TYPES.update(zip("int8 uint8 int16 uint16 int32 uint32 float32 float64".spli
 PLY_ORDERS = {"binary_little_endian": "<", "binary_big_endian": ">", "ascii": ""}
 
 
-def ply_header(data):
+def ply_header(data: bytes) -> Tuple[List[Element], str, int]:
     """The elements of a ply file, the order of its bytes (none for text), and where its body begins."""
     end = data.find(b"end_header")
     body = data.find(b"\n", end) + 1
     if not data.startswith(b"ply") or end < 0 or not body:
         raise Malformed("the header of a ply file is missing")
-    elements, order = [], None
+    elements: List[Element] = []
+    order = None
     for words in (line.split() for line in data[:end].decode("ascii", "replace").splitlines()):
         if words[:1] == ["format"]:
             order = PLY_ORDERS.get(words[1])
@@ -116,28 +121,29 @@ def ply_header(data):
     return elements, order, body
 
 
-def of_ply(data):
+def of_ply(data: bytes) -> Vertices:
     """The vertices of a ply file, by the places that its header gives to x, y and z."""
     elements, order, body = ply_header(data)
-    before = []
+    before: List[Element] = []
     for element in elements:
         if element.name == "vertex":
             places = [[words[-1] for words in element.properties].index(axis) for axis in "xyz"]
-            return (ply_binary if order else ply_text)(data[body:], element, places, (before, order))
+            if order:
+                return ply_binary(data[body:], element, places, before, order)
+            return ply_text(data[body:], element, places, before)
         before.append(element)
     raise Malformed("the ply file has no element vertex")
 
 
-def ply_text(body, element, places, around):
+def ply_text(body: bytes, element: Element, places: List[int], before: List[Element]) -> Vertices:
     """The vertices of a text, behind the rows of the elements before."""
-    first = sum(other.count for other in around[0])
+    first = sum(other.count for other in before)
     rows = [line.split() for line in body.decode("ascii", "replace").split("\n")[first : first + element.count]]
     return of_words([[row[place] for place in places] for row in rows])
 
 
-def ply_binary(body, element, places, around):
+def ply_binary(body: bytes, element: Element, places: List[int], before: List[Element], order: str) -> Vertices:
     """The vertices of bytes, behind those of the elements before, which must have no lists."""
-    before, order = around
     row = row_layout(element, order)
     first = sum(other.count * row_layout(other, order).size for other in before)
     end = first + element.count * row.size
@@ -147,7 +153,7 @@ def ply_binary(body, element, places, around):
     return of_numbers(list(chain.from_iterable((row[places[0]], row[places[1]], row[places[2]]) for row in rows)))
 
 
-def row_layout(element, order):
+def row_layout(element: Element, order: str) -> struct.Struct:
     """How the bytes of an element are laid out."""
     if any(words[0] == "list" for words in element.properties):
         raise Malformed(f"the element {element.name} of the ply file has a list, and stands before the vertices or is these")
@@ -157,7 +163,7 @@ def row_layout(element, order):
 STL_HEAD, STL_TRIANGLE = 84, struct.Struct("<12x12s12s12s2x")
 
 
-def of_stl(data):
+def of_stl(data: bytes) -> Vertices:
     """The corners of the triangles of an stl file, each once."""
     count = int.from_bytes(data[80:STL_HEAD], "little")
     if len(data) == STL_HEAD + count * STL_TRIANGLE.size:
@@ -170,7 +176,7 @@ def of_stl(data):
 READERS = {".off": of_off, ".obj": of_obj, ".ply": of_ply, ".stl": of_stl}
 
 
-def vertices_of_mesh(path):
+def vertices_of_mesh(path: str) -> Vertices:
     """The vertices of a file; one that can't be read ends the process."""
     ending = os.path.splitext(path)[1].lower()
     if ending not in READERS:

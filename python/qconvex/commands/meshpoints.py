@@ -13,18 +13,23 @@ Rounding moves a point by at most half a unit of the grid. It does change which 
 flat and slanted fall into triangles, and of corners that are mirror images one may be moved another way than the other.
 With --centre 0,0,0 a mesh that is symmetric to the origin's planes stays so, since -v is rounded to minus what v is.
 """
+from __future__ import annotations
+
 import argparse
 import re
 import sys
+from dataclasses import dataclass
 from decimal import ROUND_CEILING, Context, Decimal
 from fractions import Fraction
 from math import ceil, floor
-from typing import NamedTuple
+from typing import List, NamedTuple, Sequence, Tuple
 
 from .._limits import COORDINATE_LIMIT, POINT_LIMIT
 from . import contents
-from .meshes import vertices_of_mesh
-from .off_files import off_text, read_off_file
+from .meshes import Vertices, vertices_of_mesh
+from .off_files import Number, off_text, read_off_file
+
+Fractions = Tuple[Fraction, ...]
 
 NOTE = re.compile(r"scale (\S+) centre (\S+) (\S+) (\S+)")
 
@@ -33,13 +38,14 @@ class Map(NamedTuple):
     """How a mesh is turned into whole numbers."""
 
     scale: Fraction
-    centre: tuple
+    centre: Fractions
 
 
-class Rounded(NamedTuple):
+@dataclass(frozen=True)
+class Rounded:
     """The whole points of vertices, how many coordinates were rounded, and by how much at most."""
 
-    points: list
+    points: List[Tuple[int, ...]]
     count: int
     most: Fraction
 
@@ -47,12 +53,12 @@ class Rounded(NamedTuple):
 # To whole numbers and back.
 
 
-def middle_of(vertices):
+def middle_of(vertices: Vertices) -> Fractions:
     """The middle of the bounding box."""
     return tuple(Fraction(min(part) + max(part), 2 * vertices.divisor) for part in vertices.axes)
 
 
-def greatest_scale(vertices, centre):
+def greatest_scale(vertices: Vertices, centre: Fractions) -> Fraction:
     """The greatest whole scale, or fraction of one, that keeps all coordinates in range."""
     ends = ((Fraction(end(part), vertices.divisor) for end in (min, max)) for part in vertices.axes)
     extent = max(abs(part - middle) for parts, middle in zip(ends, centre) for part in parts)
@@ -62,14 +68,15 @@ def greatest_scale(vertices, centre):
     return Fraction(floor(scale)) if scale >= 1 else Fraction(1, ceil(1 / scale))
 
 
-def along_axis(numbers, divisor, middle, scale):
+def along_axis(numbers: Sequence[int], divisor: int, middle: Fraction, scale: Fraction) -> Tuple[List[int], int, Fraction]:
     """The whole numbers of one axis, how many were rounded, and by how much at most, in units of the grid.
 
     (n / divisor - middle) * scale is (n * top - offset) / bottom, and what is left of the division tells how to round.
     """
     bottom = divisor * middle.denominator * scale.denominator
     top, offset = middle.denominator * scale.numerator, divisor * middle.numerator * scale.numerator
-    whole, count, most = [], 0, 0
+    whole: List[int] = []
+    count = most = 0
     for number in numbers:
         quotient, left = divmod(number * top - offset, bottom)
         if left:
@@ -81,19 +88,19 @@ def along_axis(numbers, divisor, middle, scale):
     return whole, count, Fraction(most, bottom)
 
 
-def rounded(vertices, by):
+def rounded(vertices: Vertices, by: Map) -> Rounded:
     """The whole points of the vertices."""
     axes = [along_axis(part, vertices.divisor, middle, by.scale) for part, middle in zip(vertices.axes, by.centre)]
     wholes, counts, mosts = zip(*axes)
     return Rounded(list(zip(*wholes)), sum(counts), max(mosts) / abs(by.scale))
 
 
-def bound(size):
+def bound(size: Fraction) -> str:
     """A few digits that are no less than a size."""
     return f"{Context(prec=3, rounding=ROUND_CEILING).divide(Decimal(size.numerator), Decimal(size.denominator)):g}"
 
 
-def write_points(found, by):
+def write_points(found: Rounded, by: Map) -> None:
     """Writes the point file."""
     if max(abs(part) for point in found.points for part in point) > COORDINATE_LIMIT:
         sys.exit(f"meshpoints: with this scale a coordinate is beyond {COORDINATE_LIMIT}")
@@ -106,7 +113,7 @@ def write_points(found, by):
         print(f"more than {POINT_LIMIT} points: hullmany takes them", file=sys.stderr)
 
 
-def map_of(path):
+def map_of(path: str) -> Map:
     """The map that a point file's first line tells."""
     found = NOTE.search(contents.text_of(path).split("\n", 1)[0])
     if not found:
@@ -115,20 +122,20 @@ def map_of(path):
     return Map(scale, tuple(centre))
 
 
-def decimal(value):
+def decimal(value: Number) -> str:
     """A number in decimals: exactly where it has few, else as near as a double is."""
     value = Fraction(value)
     return str(value.numerator) if value.denominator == 1 else repr(float(value))
 
 
-def write_back(by):
+def write_back(by: Map) -> None:
     """Writes the hull of standard input in the mesh's units."""
     hull = read_off_file("-")
     points = [[decimal(part / by.scale + middle) for part, middle in zip(point, by.centre)] for point in hull.points]
     sys.stdout.write(off_text(points, hull.faces))
 
 
-def vector(words):
+def vector(words: str) -> Fractions:
     """Three numbers with commas between."""
     parts = tuple(map(Fraction, words.split(",")))
     if len(parts) != 3:
@@ -136,7 +143,7 @@ def vector(words):
     return parts
 
 
-def main():
+def main() -> None:
     parser = argparse.ArgumentParser(prog="meshpoints", description=__doc__, formatter_class=argparse.RawDescriptionHelpFormatter)
     parser.add_argument("--scale", type=Fraction, help="how many units of the grid one unit of the mesh has, as 1000 or 1/3")
     parser.add_argument("--centre", type=vector, metavar="X,Y,Z", help="what becomes the origin (write --centre=-1,0,0)")

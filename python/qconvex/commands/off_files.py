@@ -1,25 +1,34 @@
 """Faces as programs write them: OFF texts, ours and those of others, and the text of Qhull's option `o`."""
+from __future__ import annotations
+
 import sys
-from collections import namedtuple
 from fractions import Fraction
+from typing import Any, List, NamedTuple, Sequence, Tuple, Union
 
 from . import contents
 
-# The points that faces name by their places, each with three exact numbers, and the faces as lists of places.
-Faces = namedtuple("Faces", "points faces")
+# A whole number where it is whole.
+Number = Union[int, Fraction]
+
+
+class Faces(NamedTuple):
+    """The points that faces name by their places, each with three exact numbers, and the faces as lists of places."""
+
+    points: List[Tuple[Number, ...]]
+    faces: List[List[int]]
 
 
 class Malformed(Exception):
     """A text that is no OFF text."""
 
 
-def number(word):
+def number(word: str) -> Number:
     """A number, exactly: whole where it is whole."""
     value = Fraction(word)
     return value.numerator if value.denominator == 1 else value
 
 
-def rows_of(text):
+def rows_of(text: str) -> List[List[str]]:
     """The rows of words, without comments, empty lines and the keyword."""
     rows = [line.split("#")[0].split() for line in text.split("\n")]
     rows = [row for row in rows if row]
@@ -31,7 +40,7 @@ def rows_of(text):
     return rows
 
 
-def face_of(row, count):
+def face_of(row: List[str], count: int) -> List[int]:
     """The places that a face names."""
     size = int(row[0])
     places = [int(word) for word in row[1 : size + 1]]
@@ -40,7 +49,7 @@ def face_of(row, count):
     return places
 
 
-def read_off(text):
+def read_off(text: str) -> Faces:
     """The points and the faces of a text, one row each."""
     rows = rows_of(text)
     try:
@@ -55,7 +64,7 @@ def read_off(text):
         raise Malformed(f"no OFF text: {wrong}") from wrong
 
 
-def read_off_file(path):
+def read_off_file(path: str) -> Faces:
     """The points and the faces of a file, or of standard input where the path is `-`; a wrong file ends the script."""
     try:
         return read_off(contents.text_of(path))
@@ -63,7 +72,7 @@ def read_off_file(path):
         sys.exit(f"{path}: {wrong}")
 
 
-def off_text(points, faces):
+def off_text(points: Sequence[Sequence[Any]], faces: Sequence[List[int]]) -> str:
     """Points and faces as an OFF text."""
     edges = {frozenset(pair) for face in faces for pair in zip(face, face[1:] + face[:1]) if pair[0] != pair[1]}
     lines = ["OFF", f"{len(points)} {len(faces)} {len(edges)}"]

@@ -1,6 +1,9 @@
 """A point file in parts of whole lines, and word by word where points do not stand a line each."""
+from __future__ import annotations
+
+from dataclasses import dataclass
 from itertools import chain, islice
-from typing import NamedTuple
+from typing import BinaryIO, Iterable, Iterator, List
 
 # A data word begins with one of these bytes; any other word begins a comment.
 DATA_WORD_STARTS = b"0123456789+-."
@@ -11,7 +14,8 @@ class Refused(Exception):
     """Why there is no answer."""
 
 
-class Part(NamedTuple):
+@dataclass(frozen=True)
+class Part:
     """Points in turn, as a text of lines."""
 
     text: bytes
@@ -19,7 +23,8 @@ class Part(NamedTuple):
     line: int  # the number of lines of the file before it; below 0 where the lines are not the file's
 
 
-class Header(NamedTuple):
+@dataclass(frozen=True)
+class Header:
     """What stands before the points."""
 
     count: int
@@ -27,9 +32,10 @@ class Header(NamedTuple):
     rest: bytes  # the words of its last line that are points
 
 
-def header_of(source):
+def header_of(source: BinaryIO) -> Header:
     """The header of a stream."""
-    words, lines = [], 0
+    words: List[bytes] = []
+    lines = 0
     while len(words) < 2 and (line := source.readline()):
         words += data_words(line)
         lines += 1
@@ -42,7 +48,7 @@ def header_of(source):
     return Header(second if first == 3 else first, lines, b" ".join(words[2:]))
 
 
-def data_words(line):
+def data_words(line: bytes) -> List[bytes]:
     """The words of a line before its comment."""
     words = line.split()
     for place, word in enumerate(words):
@@ -57,12 +63,12 @@ class LineParts:
     The first words are those that were read of it already, behind so many lines of the file.
     """
 
-    def __init__(self, source, size, words, lines):
+    def __init__(self, source: BinaryIO, size: int, words: bytes, lines: int) -> None:
         self.source, self.size, self.lines = source, size, lines
         self.rest = words and words + b"\n"  # what was read and given to no part
-        self.width = 24  # about how many bytes a line has
+        self.width: float = 24  # about how many bytes a line has
 
-    def __iter__(self):
+    def __iter__(self) -> Iterator[Part]:
         while (found := self.filled()) or self.rest:
             count, end = min(found, self.size), len(self.rest)
             if found >= self.size:
@@ -73,7 +79,7 @@ class LineParts:
             yield Part(text, count, self.lines)
             self.lines, self.width = self.lines + count, len(text) / count
 
-    def filled(self):
+    def filled(self) -> int:
         """Reads until there are lines for a part, or no more; how many line ends there are."""
         found = self.rest.count(b"\n")
         while found < self.size:
@@ -84,12 +90,12 @@ class LineParts:
             found += more.count(b"\n")
         return found
 
-    def lines_left(self):
+    def lines_left(self) -> Iterator[bytes]:
         """The lines that were given to no part."""
         return chain((self.rest + self.source.readline()).split(b"\n"), self.source)
 
 
-def end_of_line(text, number):
+def end_of_line(text: bytes, number: int) -> int:
     """Where the line of a number, counted from 1, ends in a text that has it."""
     low, high = 0, len(text)
     while high - low > 1:
@@ -102,7 +108,7 @@ def end_of_line(text, number):
     return high
 
 
-def word_parts(parts, rest, size):
+def word_parts(parts: Iterable[Part], rest: Iterable[bytes], size: int) -> Iterator[Part]:
     """The points of some parts and of the lines behind them, in parts of a size, whatever lines they stand on."""
     lines = chain(chain.from_iterable(part.text.split(b"\n") for part in parts), rest)
     words = chain.from_iterable(map(data_words, lines))
@@ -112,7 +118,7 @@ def word_parts(parts, rest, size):
         yield part_of_points(b" ".join(piece[place : place + 3]) for place in range(0, len(piece), 3))
 
 
-def part_of_points(points):
+def part_of_points(points: Iterable[bytes]) -> Part:
     """Points as a part that is not of the file's lines."""
     points = list(points)
     return Part(b"".join(b"%b\n" % point for point in points), len(points), -1)

@@ -1,12 +1,18 @@
 """Commands that take parts of points as they are free; a part that one fails at is tried again, by another if there is one."""
+from __future__ import annotations
+
 import os
 import re
 import subprocess
 import sys
 import tempfile
 import threading
+from typing import IO, List, Optional, Tuple
 
-from .part_lines import Refused
+from .part_lines import Part, Refused
+
+# The places of extreme points, and their lines.
+Extremes = Tuple[List[int], List[bytes]]
 
 # What the program says on standard error where it refuses the points: a number, a name, and mostly a line.
 REFUSAL = re.compile(r"qconvex: (\d+): (\w+)(?: at line (\d+))?\s*$")
@@ -24,12 +30,12 @@ class Failed(Exception):
     """Why a command has no answer; another try may have one."""
 
 
-def unnamed_file():
+def unnamed_file() -> IO[bytes]:
     """A file in memory where the system has such."""
     return os.fdopen(os.memfd_create("part"), "w+b") if hasattr(os, "memfd_create") else tempfile.TemporaryFile()
 
 
-def attempt(command, part):
+def attempt(command: str, part: Part) -> bytes:
     """What a command answers of a part to `Fx off`."""
     with unnamed_file() as given, unnamed_file() as told:
         given.write(b"3\n%d\n" % part.count)
@@ -41,20 +47,22 @@ def attempt(command, part):
     why = done.stderr.decode(errors="replace").strip()
     refusal = REFUSAL.search(why)
     if done.returncode == 1 and refusal:
-        raise Irregular if refusal[2] in IRREGULAR else Refused(f"{place_of(part, refusal[3])}: {command}: {refusal[2]}")
+        if refusal[2] in IRREGULAR:
+            raise Irregular
+        raise Refused(f"{place_of(part, refusal[3])}: {command}: {refusal[2]}")
     if done.returncode:
         raise Failed(why or f"status {done.returncode}")
     return answer
 
 
-def place_of(part, line):
+def place_of(part: Part, line: Optional[str]) -> str:
     """Where in the file a line of a part is."""
     if line is None or part.line < 0:
         return f"a part of {part.count} points" if line is None else f"point {int(line) - HEADER_LINES - 1} of a part"
     return f"line {part.line + int(line) - HEADER_LINES}"
 
 
-def extremes_in(answer):
+def extremes_in(answer: bytes) -> Extremes:
     """The places of the extreme points that `Fx off` tells, and their lines."""
     try:
         head, _, rest = answer.partition(b"OFF\n")
@@ -71,24 +79,24 @@ def extremes_in(answer):
 class Runs:
     """The commands, each at several parts at a time."""
 
-    def __init__(self, commands, jobs, retries):
+    def __init__(self, commands: List[str], jobs: int, retries: int) -> None:
         self.free = commands * jobs
         self.count = len(self.free)
         self.retries = retries
         self.failures = dict.fromkeys(commands, 0)
         self.change = threading.Condition()
 
-    def answer(self, part):
+    def answer(self, part: Part) -> bytes:
         """What a free command answers of a part to `Fx off`."""
         return self.tried(part)[0]
 
-    def extremes(self, part):
+    def extremes(self, part: Part) -> Extremes:
         """The places of a part's extreme points, and their lines."""
         return self.tried(part)[1]
 
-    def tried(self, part):
+    def tried(self, part: Part) -> Tuple[bytes, Extremes]:
         """The answer of a part as text and as places and lines, after as many tries as it takes."""
-        failed = []
+        failed: List[str] = []
         while True:
             command = self.taken(failed)
             try:
@@ -106,7 +114,7 @@ class Runs:
                 self.given_back(command, 0)
                 raise
 
-    def taken(self, failed):
+    def taken(self, failed: List[str]) -> str:
         """A free command, one that did not fail yet if there is such."""
         with self.change:
             while True:
@@ -118,7 +126,7 @@ class Runs:
                     return found
                 self.change.wait()
 
-    def given_back(self, command, failure):
+    def given_back(self, command: str, failure: int) -> None:
         """Notes that a command is free again, and whether it failed."""
         with self.change:
             self.failures[command] = (self.failures[command] + failure) * failure

@@ -1,17 +1,45 @@
 """Point files: their words and comments with the places where they stand, their points, and their first fault."""
+from __future__ import annotations
+
 import re
 import sys
-from collections import namedtuple
+from dataclasses import dataclass
+from typing import Iterable, List, NamedTuple, Optional, Sequence, Tuple
 
 from .._limits import BYTE_LIMIT, COORDINATE_LIMIT, POINT_LIMIT
 from .contents import bytes_of
 
-# A word, the line and the column where it begins, both from 1, counted in bytes.
-Word = namedtuple("Word", "text line column")
-# What the program says of a file that it refuses, and the word that it means, or None.
-Fault = namedtuple("Fault", "number name line word")
-# What a point file has: its header's two words, the count, its numbers so far, and the first fault or None.
-Reading = namedtuple("Reading", "header count numbers fault words comments")
+Point = Tuple[int, int, int]
+
+
+class Word(NamedTuple):
+    """A word, the line and the column where it begins, both from 1, counted in bytes."""
+
+    text: bytes
+    line: int
+    column: int
+
+
+class Fault(NamedTuple):
+    """What the program says of a file that it refuses, and the word that it means, or None."""
+
+    number: int
+    name: str
+    line: Optional[int]
+    word: Optional[Word]
+
+
+@dataclass(frozen=True)
+class Reading:
+    """What a point file has: its header's two words, the count, its numbers so far, and the first fault or None."""
+
+    header: List[Word]
+    count: Optional[int]
+    numbers: List[int]
+    fault: Optional[Fault]
+    words: List[Word]
+    comments: List[Word]
+
 
 # In a line: a longest run of bytes that are no blanks.
 WORD = re.compile(rb"[^\x09\x0b\x0c\x0d\x20]+")
@@ -20,15 +48,16 @@ DATA_WORD = re.compile(rb"[0-9+.-]")
 NUMBER = re.compile(rb"[+-]?[0-9]+")
 
 
-def value_of(word):
+def value_of(word: Word) -> int:
     """The value of a number; of one that is far out of every range, one that is, too."""
     sign, digits = (-1 if word.text[:1] == b"-" else 1), word.text.lstrip(b"+-").lstrip(b"0")
     return sign * (int(digits or b"0") if len(digits) < 40 else 10**40)
 
 
-def words_and_comments(data):
+def words_and_comments(data: bytes) -> Tuple[List[Word], List[Word]]:
     """The data words of a file, and its comments, each from its first word to the end of its line."""
-    words, comments = [], []
+    words: List[Word] = []
+    comments: List[Word] = []
     for number, line in enumerate(data.split(b"\n"), 1):
         for found in WORD.finditer(line):
             if not DATA_WORD.match(found.group()):
@@ -38,13 +67,13 @@ def words_and_comments(data):
     return words, comments
 
 
-def bad_number(words):
+def bad_number(words: Iterable[Word]) -> Optional[Fault]:
     """The fault of the first of these words that is no number, or None."""
     wrong = next((word for word in words if not NUMBER.fullmatch(word.text)), None)
-    return wrong and Fault(2, "BadNumber", wrong.line, wrong)
+    return None if wrong is None else Fault(2, "BadNumber", wrong.line, wrong)
 
 
-def header_fault(header):
+def header_fault(header: Sequence[Word]) -> Optional[Fault]:
     """The fault of the header's words, or None."""
     fault = bad_number(header)
     if fault:
@@ -57,15 +86,15 @@ def header_fault(header):
     return None if 1 <= count <= POINT_LIMIT else Fault(4, "Count", None, None)
 
 
-def count_of(header):
+def count_of(header: Sequence[Word]) -> int:
     """The number of points that a header tells; a 3 that stands first is the dimension."""
     first, second = map(value_of, header)
     return second if first == 3 else first
 
 
-def coordinates_of(words, wanted):
+def coordinates_of(words: Sequence[Word], wanted: int) -> Tuple[List[int], Optional[Fault]]:
     """The coordinates up to the first fault, and the fault or None."""
-    numbers = []
+    numbers: List[int] = []
     for word in words[:wanted]:
         if not NUMBER.fullmatch(word.text):
             return numbers, Fault(2, "BadNumber", word.line, word)
@@ -79,7 +108,7 @@ def coordinates_of(words, wanted):
     return numbers, None
 
 
-def read(data):
+def read(data: bytes) -> Reading:
     """What the bytes of a point file have, up to their first fault."""
     if len(data) > BYTE_LIMIT:
         return Reading([], None, [], Fault(10, "Big", None, None), [], [])
@@ -93,18 +122,18 @@ def read(data):
     return Reading(header, count, numbers, fault, words, comments)
 
 
-def message(fault):
+def message(fault: Fault) -> str:
     """What the program writes of a fault, without the name of the program."""
     where = "" if fault.line is None else f" at line {fault.line}"
     return f"{fault.number}: {fault.name}{where}"
 
 
-def triples(numbers):
+def triples(numbers: Sequence[int]) -> List[Point]:
     """The points of a list of coordinates."""
     return list(zip(numbers[0::3], numbers[1::3], numbers[2::3]))
 
 
-def plain_points(data):
+def plain_points(data: bytes) -> Optional[List[Point]]:
     """The points of a file that has nothing but right numbers after its first two lines; None for any other."""
     head, _, rest = data.partition(b"\n")
     second, _, rest = rest.partition(b"\n")
@@ -119,7 +148,7 @@ def plain_points(data):
     return triples(numbers) if in_range and len(numbers) == 3 * count_of(words) else None
 
 
-def points_of_file(path):
+def points_of_file(path: str) -> List[Point]:
     """The points of a file; a file that has a fault ends the script."""
     data = bytes_of(path)
     points = plain_points(data)
@@ -131,7 +160,7 @@ def points_of_file(path):
     return triples(reading.numbers)
 
 
-def text_of(points, comment=""):
+def text_of(points: Sequence[Point], comment: str = "") -> str:
     """The points as a point file, with a comment in its first line."""
     first = f"3 {comment}".rstrip()
     return "".join([f"{first}\n{len(points)}\n", *("%d %d %d\n" % point for point in points)])
