@@ -15,7 +15,7 @@ use Rattle.qh_pred.specs.contract.Planes.{PlaneValue, height}
 use Rattle.qh_mesh.specs.contract.{Replacement.IsLive, SoundMesh.facet_vol}
 use Rattle.qh_block.specs.declared.inner_points.cells.Cell.{Cell}
 use Rattle.qh_block.specs.declared.inner_points.columns.Columns.{Columns}
-use Rattle.qh_block.specs.steps.InnerPoints.{numbered, IsCellOf, IsHeld, HoldsPoint, HasPlane, HasPlanes, HasNoExtreme, AreInner}
+use Rattle.qh_block.specs.steps.InnerPoints.{numbered, IsCellOf, IsHeld, HoldsPoint, HasPlane, HasPlanes, IsUnderFacet, HasNoExtreme, AreInner}
 use Rattle.qh_block.specs.steps.InnerPoints.{IsKept, KeepsExtremes, IsOuterPart}
 use Rattle.qh_surface.proofs.LiveFacets.{all_live, rest_live}
 
@@ -35,8 +35,7 @@ none_listed pts fs = record {
 module _ {pts : List Vector} {fs : List StoredFacet} {all left : List ℕ} {f : ℕ} {planes : List PlaneValue}
     (old : AreListed pts fs all planes) where
   -- with its plane the next is listed
-  pub next_listed : all ≡ f ∷ left → (plane : PlaneValue) → ((p : Vector) → height plane p ≡ facet_vol (place pts) fs f p)
-      → AreListed pts fs left (planes ++ plane ∷ [])
+  pub next_listed : all ≡ f ∷ left → (plane : PlaneValue) → IsUnderFacet pts fs f plane → AreListed pts fs left (planes ++ plane ∷ [])
   next_listed is plane own = record {
     live = rest_live fs all left f old.live is;
     rest = λ g l. ⊎_elim (λ h. inl (h.0, in_append planes (plane ∷ []) h.0 (inl h.1), h.2))
@@ -62,7 +61,7 @@ held_is_below : (planes : List PlaneValue) (c : Cell) (p : Vector) → IsCellOf 
 held_is_below planes c p cell held plane i =
     let at = number_of planes plane i in
     subst (λ q. height q p <ℤ pos 0) at.2
-    (⊎_elim (λ below. below p held.0) (λ near. All-In (λ k. height (numbered planes k) p <ℤ pos 0) c.near.items at.0 held.1 near) (cell at.0 at.1))
+    (⊎_elim (λ below. below p held.1) (λ near. All-In (λ k. height (numbered planes k) p <ℤ pos 0) c.near.items at.0 held.2 near) (cell at.0 at.1))
 
 -- so what columns between all planes of the sample's surface hold is not extreme
 pub columns_are_inner : (pts : List Vector) (sample : List ℕ) (fs : List StoredFacet) (columns : Columns)
@@ -70,7 +69,7 @@ pub columns_are_inner : (pts : List Vector) (sample : List ℕ) (fs : List Store
     → AreInner pts sample columns
 columns_are_inner pts sample fs columns z has cells ids sub l member held =
     inner_is_not_extreme (place pts) sample (surface_of fs) z l
-    (λ f live. (let h = has f ((live_is_marked fs f).0 live) in subst (λ n. n <ℤ pos 0) (h.2 (place pts l))
+    (λ f live. (let h = has f ((live_is_marked fs f).0 live) in h.2 (place pts l) held.2.0
     (held_is_below columns.planes.items held.0 (place pts l) (All-In (IsCellOf columns.planes.items) columns.cells.items held.0 cells held.1) held.2 h.0 h.1)))
     ids sub
 

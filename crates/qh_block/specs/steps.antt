@@ -1,4 +1,5 @@
 -- What private functions speak of: nothing to believe.
+pub mod CoarsePlanes
 pub mod FaceKeys
 pub mod Faces
 pub mod FlatBodies

@@ -1,6 +1,6 @@
 //! Points inside a large set, which go before Quickhull sees them.
 //!
-//! The planes of the hull of a small sample of the set (`sample`) cut each column of a grid into cells
+//! Planes close under those of the hull of a small sample of the set (`sample`, `coarse_planes`) cut each column of a grid into cells
 //! (`grid`, `columns`, `heights`, `cells`, `bounds`). The few planes that come near a cell tell of its points which are strictly
 //! inside the hull of the sample. These are not extreme, in the sample or in the set.
 //!
@@ -11,6 +11,7 @@ ghost use Rattle.qh_block.specs.steps.InnerPoints.{IsOuterPart};
 
 mod bounds;
 mod cells;
+mod coarse_planes;
 mod columns;
 mod grid;
 mod heights;

@@ -3,6 +3,7 @@ use Rattle.std.specs.Prelude.{◌≡◌, ◌⊎◌, ◌<◌, ℕ, List, All, len
 use Rattle.std.specs.List.Sorted.{IsStrictlyIncreasing}
 use Rattle.qh_model.specs.headline.Vector.{Vector, origin}
 use Rattle.qh_model.specs.headline.Predicates.{place}
+use Rattle.qh_model.specs.contract.Places.{IsPlace}
 use Rattle.qh_model.specs.headline.Sets.{In, Members}
 use Rattle.qh_model.specs.headline.Extreme.{Extreme}
 use Rattle.qh_model.specs.laws.HullLaws.{HasExtremes}
@@ -46,17 +47,21 @@ IsCellOf planes c = AreNear planes c.bounds c.near.items
 
 -- a point of the cell's box, strictly below all planes near the cell
 abbrev pub IsHeld : List PlaneValue → Cell → Vector → Type 0
-IsHeld planes c p = IsWithin c.bounds p × All (λ k. height (numbered planes k) p <ℤ pos 0) c.near.items
+IsHeld planes c p = IsPlace p × IsWithin c.bounds p × All (λ k. height (numbered planes k) p <ℤ pos 0) c.near.items
 
 -- one of the cells holds the point
 abbrev pub HoldsPoint : Columns → Vector → Type 0
 HoldsPoint columns p = (c : Cell) × In c columns.cells.items × IsHeld columns.planes.items c p
 
--- a plane of the list is that of facet f
-abbrev pub HasPlane : List Vector → List StoredFacet → List PlaneValue → ℕ → Type 0
-HasPlane pts fs planes f = (plane : PlaneValue) × In plane planes × ((p : Vector) → height plane p ≡ facet_vol (place pts) fs f p)
+-- each point that is strictly below a plane is strictly below that of facet f
+abbrev pub IsUnderFacet : List Vector → List StoredFacet → ℕ → PlaneValue → Type 0
+IsUnderFacet pts fs f plane = (p : Vector) → IsPlace p → height plane p <ℤ pos 0 → facet_vol (place pts) fs f p <ℤ pos 0
 
--- each live facet has its plane in the list
+-- the list has such a plane
+abbrev pub HasPlane : List Vector → List StoredFacet → List PlaneValue → ℕ → Type 0
+HasPlane pts fs planes f = (plane : PlaneValue) × In plane planes × IsUnderFacet pts fs f plane
+
+-- so it is for each live facet
 abbrev pub HasPlanes : List Vector → List StoredFacet → List PlaneValue → Type 0
 HasPlanes pts fs planes = (f : ℕ) → IsLive fs f → HasPlane pts fs planes f
 

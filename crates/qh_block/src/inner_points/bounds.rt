@@ -1,10 +1,11 @@
 //! Boxes of space with sides along the axes.
 ghost use Rattle.std.specs.Prelude.{◌≡◌, ◌⊎◌, ◌↔◌, ◌≤ℤ◌, pos, IsTrue};
+ghost use Rattle.qh_model.specs.contract.Places.{IsPlace};
 ghost use Rattle.qh_model.specs.headline.Vector.{Vector};
 ghost use Rattle.qh_block.specs.steps.InnerPoints.{IsBetween, IsWithin, IsFarEnd, IsBelow};
 
+use crate::inner_points::coarse_planes::CoarsePlane;
 use qh_model::Point;
-use qh_pred::{Normal, Plane};
 
 /// The points from one corner to the opposite one, these among them. There are none where a coordinate
 /// of the first corner is the greater one.
@@ -22,7 +23,7 @@ fn is_between(low: i32, number: i32, high: i32) -> bool
 }
 
 /// The end of a range at which a product with this factor is greatest.
-fn far_end(factor: i128, low: i32, high: i32) -> i32
+fn far_end(factor: i32, low: i32, high: i32) -> i32
     ensures end { (result ≡ low) ⊎ (result ≡ high) }
     ensures far { IsFarEnd factor low high result }
 {
@@ -30,7 +31,7 @@ fn far_end(factor: i128, low: i32, high: i32) -> i32
 }
 
 /// The end of a range at which a product with this factor is least.
-fn near_end(factor: i128, low: i32, high: i32) -> i32
+fn near_end(factor: i32, low: i32, high: i32) -> i32
     ensures { (result ≡ low) ⊎ (result ≡ high) }
 {
     if factor > 0 { low } else { high }
@@ -91,41 +92,44 @@ impl Bounds {
 
     /// Whether a point is among theirs.
     pub fn contains(&self, p: Point) -> bool
-        ensures { IsTrue result ↔ IsWithin self.now p }
+        ensures within { IsTrue result ↔ IsWithin self.now p }
+        ensures place { IsPlace p }
     {
         is_between(self.low.x(), p.x(), self.high.x())
             & is_between(self.low.y(), p.y(), self.high.y())
             & is_between(self.low.z(), p.z(), self.high.z())
     }
 
-    /// The corner that lies furthest along a normal.
-    pub fn far_corner(&self, normal: &Normal) -> Point
-        ensures x { IsFarEnd normal.now.x self.now.low.x self.now.high.x result.x }
-        ensures y { IsFarEnd normal.now.y self.now.low.y self.now.high.y result.y }
-        ensures z { IsFarEnd normal.now.z self.now.low.z self.now.high.z result.z }
+    /// The corner that lies furthest along a plane's normal.
+    pub fn far_corner(&self, plane: &CoarsePlane) -> Point
+        ensures x { IsFarEnd plane.now.normal.x self.now.low.x self.now.high.x result.x }
+        ensures y { IsFarEnd plane.now.normal.y self.now.low.y self.now.high.y result.y }
+        ensures z { IsFarEnd plane.now.normal.z self.now.low.z self.now.high.z result.z }
     {
+        let tip = plane.tip();
         Point::new(
-            far_end(normal.x(), self.low.x(), self.high.x()),
-            far_end(normal.y(), self.low.y(), self.high.y()),
-            far_end(normal.z(), self.low.z(), self.high.z()),
+            far_end(tip.x(), self.low.x(), self.high.x()),
+            far_end(tip.y(), self.low.y(), self.high.y()),
+            far_end(tip.z(), self.low.z(), self.high.z()),
         )
     }
 
-    /// The corner that lies furthest against a normal.
-    pub fn near_corner(&self, normal: &Normal) -> Point {
+    /// The corner that lies furthest against a plane's normal.
+    pub fn near_corner(&self, plane: &CoarsePlane) -> Point {
+        let tip = plane.tip();
         Point::new(
-            near_end(normal.x(), self.low.x(), self.high.x()),
-            near_end(normal.y(), self.low.y(), self.high.y()),
-            near_end(normal.z(), self.low.z(), self.high.z()),
+            near_end(tip.x(), self.low.x(), self.high.x()),
+            near_end(tip.y(), self.low.y(), self.high.y()),
+            near_end(tip.z(), self.low.z(), self.high.z()),
         )
     }
 
     /// Returns true if a plane is strictly above all of the points: the corner that lies furthest along
     /// its normal is below it.
-    pub fn is_below(&self, plane: &Plane) -> bool
+    pub fn is_below(&self, plane: &CoarsePlane) -> bool
         ensures { IsTrue result → IsBelow self.now plane.now }
     {
-        plane.height(self.far_corner(&plane.normal())) < 0
+        plane.is_above(self.far_corner(plane))
     }
 
     /// The points that are among both.

@@ -5,8 +5,8 @@ ghost use Rattle.qh_block.specs.steps.InnerPoints.{numbered, IsBelow, IsCellOf, 
 
 use crate::gathered::numbers_below;
 use crate::inner_points::bounds::Bounds;
+use crate::inner_points::coarse_planes::CoarsePlane;
 use qh_model::{COORDINATE_LIMIT, Memory, Point};
-use qh_pred::Plane;
 use std::alloc::{AllocError, Global};
 
 /// A box of space, and the planes of a hull that come near it, by their numbers in a list.
@@ -21,7 +21,7 @@ pub struct Cell {
 }
 
 /// Returns true if a plane of the list is strictly above all points between bounds.
-fn is_far(planes: &[Plane], number: u32, bounds: &Bounds) -> bool
+fn is_far(planes: &[CoarsePlane], number: u32, bounds: &Bounds) -> bool
     ensures { IsTrue result → IsBelow bounds.now (numbered planes.now number) }
 {
     match planes.get(number as usize) {
@@ -31,11 +31,11 @@ fn is_far(planes: &[Plane], number: u32, bounds: &Bounds) -> bool
 }
 
 /// Returns true if a point is strictly below a plane of the list.
-fn is_under(planes: &[Plane], number: u32, p: Point) -> bool
+fn is_under(planes: &[CoarsePlane], number: u32, p: Point) -> bool
     ensures { IsTrue result → height (numbered planes.now number) p <ℤ pos 0 }
 {
     match planes.get(number as usize) {
-        Some(plane) => plane.height(p) < 0,
+        Some(plane) => plane.is_above(p),
         None => false,
     }
 }
@@ -66,7 +66,12 @@ impl Cell {
     }
 
     /// The part of the cell that lies between bounds, with those planes that are near the part.
-    pub fn part(&self, alloc: Global, planes: &[Plane], bounds: &Bounds) -> Result<Cell, AllocError>
+    pub fn part(
+        &self,
+        alloc: Global,
+        planes: &[CoarsePlane],
+        bounds: &Bounds,
+    ) -> Result<Cell, AllocError>
         ensures { IfOk result (λ c. IsCellOf planes.now self.now → IsCellOf planes.now c) }
     {
         let bounds = self.bounds.common(bounds);
@@ -90,7 +95,7 @@ impl Cell {
     }
 
     /// Returns true if a point is in the box and strictly below all planes that are near.
-    pub fn holds(&self, planes: &[Plane], p: Point) -> bool
+    pub fn holds(&self, planes: &[CoarsePlane], p: Point) -> bool
         ensures { IsTrue result → IsHeld planes.now self.now p }
     {
         self.bounds.contains(p) && self.near.iter().all(|number| is_under(planes, *number, p))

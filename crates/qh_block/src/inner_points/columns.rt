@@ -7,25 +7,25 @@ ghost use Rattle.qh_block.specs.steps.InnerPoints.{IsCellOf, HoldsPoint};
 use crate::id_set::IdSet;
 use crate::inner_points::bounds::Bounds;
 use crate::inner_points::cells::Cell;
+use crate::inner_points::coarse_planes::CoarsePlane;
 use crate::inner_points::grid::{Grid, Square};
 use crate::inner_points::heights::Heights;
 use qh_model::{Memory, Point};
-use qh_pred::Plane;
 use std::alloc::{AllocError, Global};
 
-/// The planes of a hull, and the cells of the columns of a grid between them, quarter by quarter: of each column
+/// Planes close under those of a hull, and the cells of the columns of a grid between them, quarter by quarter: of each column
 /// first the middle, then what is above it, then what is below.
 #[derive(Drop)]
 pub struct Columns {
     grid: Grid,
-    pub planes: Vec<Plane>,
+    pub planes: Vec<CoarsePlane>,
     pub cells: Vec<Cell>,
 }
 
 /// The part of a cell between these heights.
 fn cell_at(
     alloc: Global,
-    planes: &[Plane],
+    planes: &[CoarsePlane],
     whole: &Cell,
     heights: Heights,
 ) -> Result<Cell, AllocError>
@@ -41,7 +41,7 @@ fn cell_at(
 /// through.
 fn cell_over(
     alloc: Global,
-    planes: &[Plane],
+    planes: &[CoarsePlane],
     whole: &Cell,
     square: &Bounds,
 ) -> Result<Cell, AllocError>
@@ -59,7 +59,7 @@ fn cell_over(
 /// Adds the three cells of a column to a list.
 fn push_cells(
     alloc: Global,
-    planes: &[Plane],
+    planes: &[CoarsePlane],
     column: &Cell,
     cells: &mut Vec<Cell>,
 ) -> Result<(), AllocError>
@@ -81,7 +81,7 @@ fn push_cells(
 /// Adds the cells of all columns of a square to a list, of which one cell is known.
 fn push_square(
     alloc: Global,
-    planes: &[Plane],
+    planes: &[CoarsePlane],
     grid: &Grid,
     square: &Square,
     whole: &Cell,
@@ -104,7 +104,7 @@ impl Columns {
     /// The columns over the points of ids, 2 to a power along each axis, with their cells between planes.
     pub fn between(
         alloc: Global,
-        planes: Vec<Plane>,
+        planes: Vec<CoarsePlane>,
         set: IdSet,
         side_bits: u32,
     ) -> Result<Columns, Memory>

@@ -1,9 +1,9 @@
 //! Heights in a column between planes.
 
 use crate::inner_points::bounds::Bounds;
+use crate::inner_points::coarse_planes::CoarsePlane;
 use crate::inner_points::grid::nearest_coordinate;
 use qh_model::Point;
-use qh_pred::Plane;
 use std::cmp::Ordering;
 
 /// Numbers along the z axis, from the least to the greatest.
@@ -27,25 +27,23 @@ impl Heights {
         }
     }
 
-    /// Those at which all places between bounds in x and y are below the planes that are near, as far as
-    /// numbers of 64 bits tell.
-    pub fn inside(planes: &[Plane], near: &[u32], bounds: &Bounds) -> Heights {
+    /// Those at which all places between bounds in x and y are below the planes that are near.
+    pub fn inside(planes: &[CoarsePlane], near: &[u32], bounds: &Bounds) -> Heights {
         let mut heights = Heights::of(bounds);
         for number in near {
             if let Some(plane) = planes.get(*number as usize) {
-                heights = heights.below(plane, bounds.far_corner(&plane.normal()));
+                heights = heights.below(plane, bounds.far_corner(plane));
             }
         }
         heights
     }
 
-    /// Those at which some place between bounds in x and y may be below the planes that are near, as far as
-    /// numbers of 64 bits tell.
-    pub fn reached(planes: &[Plane], near: &[u32], bounds: &Bounds) -> Heights {
+    /// Those at which some place between bounds in x and y may be below the planes that are near.
+    pub fn reached(planes: &[CoarsePlane], near: &[u32], bounds: &Bounds) -> Heights {
         let mut heights = Heights::of(bounds);
         for number in near {
             if let Some(plane) = planes.get(*number as usize) {
-                heights = heights.below(plane, bounds.near_corner(&plane.normal()));
+                heights = heights.below(plane, bounds.near_corner(plane));
             }
         }
         heights
@@ -81,16 +79,14 @@ impl Heights {
         }
     }
 
-    /// Those of them at which a place in x and y is below a plane. Where a product does not fit it is
-    /// wrong, which the tests of the cells tell.
-    fn below(self, plane: &Plane, place: Point) -> Heights {
-        let normal = plane.normal();
-        let (x, y, z) = (normal.x() as i64, normal.y() as i64, normal.z() as i64);
+    /// Those of them at which a place in x and y is below a plane.
+    fn below(self, plane: &CoarsePlane, place: Point) -> Heights {
+        let tip = plane.tip();
+        let (x, y, z) = (i64::from(tip.x()), i64::from(tip.y()), i64::from(tip.z()));
         let reach = x
             .wrapping_mul(i64::from(place.x()))
             .wrapping_add(y.wrapping_mul(i64::from(place.y())));
-        let offset = i64::try_from(plane.offset()).unwrap_or(0);
-        let room = offset.wrapping_sub(reach).wrapping_sub(1);
+        let room = plane.offset().wrapping_sub(reach).wrapping_sub(1);
         let far_z = if z > 0 { self.high } else { self.low };
         if z.wrapping_mul(far_z) <= room {
             return self;

@@ -7,12 +7,12 @@ ghost use Rattle.qh_surface.specs.contract.Corners.{AreCornersBelow};
 
 use crate::blocking::sample_pays;
 use crate::id_set::IdSet;
+use crate::inner_points::coarse_planes::CoarsePlane;
 use crate::inner_points::columns::Columns;
 use crate::solids::solid_mesh;
 use qh_mesh::Mesh;
 use qh_model::{Id, Memory, Point};
 use qh_plane::{Shape, rank};
-use qh_pred::Plane;
 use qh_surface::plane_of;
 use std::alloc::{AllocError, Global};
 
@@ -27,14 +27,14 @@ pub fn one_of(alloc: Global, ids: &[Id], many: usize) -> Result<Vec<Id>, AllocEr
     ids.chunks(many).map(|part| part[0]).collect(alloc)
 }
 
-/// The planes of the live facets.
-fn planes_of(alloc: Global, pts: &[Point], mesh: &Mesh) -> Result<Vec<Plane>, AllocError>
+/// Coarse planes under those of the live facets.
+fn planes_of(alloc: Global, pts: &[Point], mesh: &Mesh) -> Result<Vec<CoarsePlane>, AllocError>
     requires corners { AreCornersBelow (length pts.now) mesh.now }
     ensures { IfOk result (λ v. HasPlanes pts.now mesh.now v.items) }
 {
     let mut planes = Vec::new(alloc);
     for facet in mesh.live() {
-        planes.push(plane_of(pts, mesh, facet))?;
+        planes.push(CoarsePlane::under(&plane_of(pts, mesh, facet)))?;
     }
     Ok(planes)
 }

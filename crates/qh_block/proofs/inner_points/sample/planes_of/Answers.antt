@@ -1,5 +1,6 @@
 -- The planes of the facets so far.
 use Rattle.std.proofs.Common.{ℕ, List, ◌∙◌, sym, subst}
+use Rattle.std.specs.Prelude.{pos, ◌<ℤ◌}
 use Rattle.qh_pred.specs.contract.Planes.{PlaneValue}
 use Rattle.qh_block.proofs.InnerPoints.{AreListed, none_listed, next_listed, all_listed}
 use Rattle.qh_surface.proofs.LiveFacets.{next_live}
@@ -20,7 +21,7 @@ plane_of-requires-clause-live c =
 pub loop-facet-preserved : goal.loop-facet-preserved
 loop-facet-preserved c =
     subst (λ (xs : List PlaneValue). AreListed c.args.pts.now c.args.mesh.now c.next.new.self xs) (sym c.in_ok-push.ensures.items)
-    (next_listed c.loop-facet.invariant c.in-Some.ensures.steps c.plane_of.result c.plane_of.ensures)
+    (next_listed c.loop-facet.invariant c.in-Some.ensures.steps c.under.result (λ p at h. subst (λ n. n <ℤ pos 0) (c.plane_of.ensures p) (c.under.ensures p at h)))
 
 pub returns : goal.returns
 returns c = all_listed c.loop-facet.invariant c.in-None.ensures.steps.0

@@ -12,8 +12,8 @@ both false b p q = (λ t. cc, λ h. p.1 h.0)
 same : (b : Bool) (l n h l' n' h' : ℤ) → l' ≡ l → n' ≡ n → h' ≡ h → (IsTrue b ↔ IsBetween l' n' h') → IsTrue b ↔ IsBetween l n h
 same b l n h l' n' h' p q r f = rw (p, q, r) at f
 
-pub returns : goal.returns
-returns c =
+pub returns-clause-within : goal.returns-clause-within
+returns-clause-within c =
     let low = c.args.self.now.low in let high = c.args.self.now.high in let p = c.args.p in
     let x = same _ low.x p.x high.x _ _ _ (omega (arith, ints)) (omega (arith, ints)) (omega (arith, ints)) c.is_between.ensures in
     let y = same _ low.y p.y high.y _ _ _ (omega (arith, ints)) (omega (arith, ints)) (omega (arith, ints)) c.is_between-2.ensures in

@@ -1,12 +1,10 @@
 -- A box whose furthest corner is below a plane is below it.
-use Rattle.std.proofs.Common.{arith}
-use Rattle.std.proofs.lemmas.Int.{ints}
-use Rattle.std.specs.Prelude.{pos, ◌<ℤ◌}
+use Rattle.std.proofs.Common.{refl}
 use Rattle.qh_block.proofs.InnerBoxes.{below_by_corner}
 use Rattle.qh_block.proofs.inner_points.bounds.Bounds.is_below.Goals as goal
 
 pub returns : goal.returns
 returns c t =
-    let negative : c.height.result <ℤ pos 0 = grind (arith, ints, t) in let far = c.far_corner.ensures in
-    below_by_corner c.args.self.now c.args.plane.now c.normal.result c.far_corner.result c.normal.ensures far.x far.y far.z
-    (rw c.height.ensures at negative)
+    let far = c.far_corner.ensures in
+    below_by_corner c.args.self.now c.args.plane.now c.args.plane.now.normal c.far_corner.result refl far.x far.y far.z
+    (c.is_above.ensures.below.0 t)
