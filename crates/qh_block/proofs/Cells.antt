@@ -55,4 +55,5 @@ lesser_is_cell planes whole b near within all k h = ⊎_elim (λ below. inl (λ 
 
 -- a list with one more
 pub one_more : {X : Type 0} (P : X → Type 0) (xs ys : List X) (x : X) → ys ≡ xs ++ x ∷ [] → All P xs → P x → All P ys
-one_more P xs ys x is all p = subst (All P) (sym is) (All-append P xs (x ∷ []) all (All-of P (x ∷ []) (λ y i. ⊎_elim (λ e. subst P (sym e) p) (λ k. absurd k) i)))
+one_more P xs ys x is all p = subst (All P) (sym is)
+    (All-append P xs (x ∷ []) all (All-of P (x ∷ []) (λ y i. ⊎_elim (λ e. subst P (sym e) p) (λ k. absurd k) i)))

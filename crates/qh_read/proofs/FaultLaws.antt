@@ -7,7 +7,8 @@ use Rattle.qh_model.specs.declared.limits.TheConstants.{POINT_LIMIT, BYTE_LIMIT}
 use Rattle.qh_model.specs.headline.Limits.{is_coordinate}
 use Rattle.qh_model.specs.headline.Words.{Word, data_words}
 use Rattle.qh_model.specs.headline.Numbers.{number_of}
-use Rattle.qh_model.specs.headline.FileFault.{is_three, coordinate_fault, coordinates_fault, counted_fault, number_fault, next_number_fault, long_fault, headed_fault, words_fault, first_fault}
+use Rattle.qh_model.specs.headline.FileFault.{is_three, coordinate_fault, coordinates_fault, counted_fault, number_fault}
+use Rattle.qh_model.specs.headline.FileFault.{next_number_fault, long_fault, headed_fault, words_fault, first_fault}
 use Rattle.qh_read.specs.steps.Building.{lack}
 use Rattle.qh_read.specs.contract.Tokens.{cap}
 use Rattle.qh_read.specs.steps.SmallTokens.{capped}
@@ -28,7 +29,8 @@ same_three (pos n) = grind (arith, nat_tests)
 same_three (negsuc n) = refl
 
 -- a test that chooses what goes on
-pub chosen : (b d : Bool) (p q : Progress) (ws : List Word) (x y : Option ReadFault) → b ≡ d → lack (judged p ws) ≡ x → lack (judged q ws) ≡ y → lack (judged (cond b p q) ws) ≡ cond d x y
+pub chosen : (b d : Bool) (p q : Progress) (ws : List Word) (x y : Option ReadFault) → b ≡ d → lack (judged p ws) ≡ x → lack (judged q ws) ≡ y
+    → lack (judged (cond b p q) ws) ≡ cond d x y
 chosen true true p q ws x y e f g = f
 chosen false false p q ws x y e f g = g
 chosen true false p q ws x y e f g = cc
@@ -46,14 +48,17 @@ coordinates (w ∷ ws) zero t = fallen (faults.Long w.line) ws
 coordinates (w ∷ ws) (suc k) t = by (λ z. coordinates ws k (t ++ z ∷ [])) (number_of w.text)
   where
     by : ((z : ℤ) → lack (judged (wants k (t ++ z ∷ [])) ws) ≡ coordinates_fault long_fault k ws) → (o : Option ℤ)
-        → lack (judged (after (wants (suc k) t) (is_off w) (option_map capped o) w.line) ws) ≡ option_or (coordinate_fault o w.line) (coordinates_fault long_fault k ws)
+        → lack (judged (after (wants (suc k) t) (is_off w) (option_map capped o) w.line) ws)
+        ≡ option_or (coordinate_fault o w.line) (coordinates_fault long_fault k ws)
     by rest None = fallen (faults.BadNumber w.line) ws
-    by rest (Some z) = chosen (is_coordinate (capped z)) (is_coordinate z) (wants k (t ++ capped z ∷ [])) (fails (faults.Range w.line)) ws (coordinates_fault long_fault k ws) (Some (faults.Range w.line))
+    by rest (Some z) = chosen (is_coordinate (capped z)) (is_coordinate z) (wants k (t ++ capped z ∷ [])) (fails (faults.Range w.line)) ws
+        (coordinates_fault long_fault k ws) (Some (faults.Range w.line))
         (same_limit z) (rest (capped z)) (fallen (faults.Range w.line) ws)
         ∙ either (is_coordinate z) (coordinates_fault long_fault k ws) (faults.Range w.line)
 
 -- the count, and then the coordinates, if a reader finds what is wrong with these
-pub counts : (next : ℕ → List ℤ → Progress) (rest : List Word → Option ReadFault) (ws : List Word) → ((k : ℕ) → lack (judged (next k []) ws) ≡ coordinates_fault rest k ws)
+pub counts : (next : ℕ → List ℤ → Progress) (rest : List Word → Option ReadFault) (ws : List Word)
+    → ((k : ℕ) → lack (judged (next k []) ws) ≡ coordinates_fault rest k ws)
     → (z : ℤ) → lack (judged (counted next (capped z)) ws) ≡ counted_fault rest z ws
 counts next rest ws h (negsuc n) = fallen faults.Count ws
 counts next rest ws h (pos n) = by (nat_le 1 (cap n) && nat_le (cap n) POINT_LIMIT) refl
@@ -63,7 +68,8 @@ counts next rest ws h (pos n) = by (nat_le 1 (cap n) && nat_le (cap n) POINT_LIM
     by true e =
         let same : cap n ≡ n = grind (arith, nat_tests) in
         let test : (nat_le 1 n && nat_le n POINT_LIMIT) ≡ true = grind (arith, nat_tests) in
-        h (3 * cap n) ∙ ap (λ (k : ℕ). coordinates_fault rest (3 * k) ws) same ∙ ap (λ (b : Bool). cond b (coordinates_fault rest (3 * n) ws) (Some faults.Count)) (sym test)
+        h (3 * cap n) ∙ ap (λ (k : ℕ). coordinates_fault rest (3 * k) ws) same
+        ∙ ap (λ (b : Bool). cond b (coordinates_fault rest (3 * n) ws) (Some faults.Count)) (sym test)
     by false e =
         let test : (nat_le 1 n && nat_le n POINT_LIMIT) ≡ false = grind (arith, nat_tests) in
         fallen faults.Count ws ∙ ap (λ (b : Bool). cond b (coordinates_fault rest (3 * n) ws) (Some faults.Count)) (sym test)
@@ -89,12 +95,14 @@ pub lacks : (ws : List Word) → lack (judged wants_first ws) ≡ words_fault ws
 lacks [] = refl
 lacks (w ∷ ws) = by (number_of w.text)
   where
-    by : (o : Option ℤ) → lack (judged (after wants_first (is_off w) (option_map capped o) w.line) ws) ≡ number_fault (λ first. next_number_fault (headed_fault first)) o w.line ws
+    by : (o : Option ℤ) → lack (judged (after wants_first (is_off w) (option_map capped o) w.line) ws)
+        ≡ number_fault (λ first. next_number_fault (headed_fault first)) o w.line ws
     by None = fallen (faults.BadNumber w.line) ws
     by (Some a) = seconds a ws
 
 first : (bs : List ℕ) → length bs ≤ BYTE_LIMIT → first_fault bs ≡ words_fault (data_words bs)
-first bs h = let e : nat_lt BYTE_LIMIT (length bs) ≡ false = grind (arith, nat_tests) in ap (λ (b : Bool). cond b (Some faults.Big) (words_fault (data_words bs))) e
+first bs h = let e : nat_lt BYTE_LIMIT (length bs) ≡ false = grind (arith, nat_tests) in
+    ap (λ (b : Bool). cond b (Some faults.Big) (words_fault (data_words bs))) e
 
 pub found : (bs : List ℕ) (e : ReadFault) → length bs ≤ BYTE_LIMIT → lack (judged wants_first (data_words bs)) ≡ Some e → first_fault bs ≡ Some e
 found bs e small h = first bs small ∙ sym (lacks (data_words bs)) ∙ h

@@ -25,7 +25,8 @@ use Rattle.qh_read.proofs.OffProgressLaws as off
 use Rattle.qh_read.proofs.FaultLaws as point_file
 use Rattle.qh_read.proofs.OffFaultLaws as off_file
 
-none_left : (ps : List Vector) (q : Pending) (k : ℕ) → length (coordinates ps ++ pending_list q) ≡ 3 * k → (coordinates ps ++ pending_list q ≡ coordinates ps) × (length ps ≡ k)
+none_left : (ps : List Vector) (q : Pending) (k : ℕ) → length (coordinates ps ++ pending_list q) ≡ 3 * k
+    → (coordinates ps ++ pending_list q ≡ coordinates ps) × (length ps ≡ k)
 none_left ps pendings.Zero k h =
     let none = append-nil (coordinates ps) in
     (none, omega (arith, thrice ps, length-append (coordinates ps) []))
@@ -81,6 +82,7 @@ reads Qhull = reads_points
 reads Off = reads_off
 
 -- what is lacking is the first fault
-pub found : (form : Form) (bs : List ℕ) (e : ReadFault) → length bs ≤ BYTE_LIMIT → lack (judged (started form) (words_in form bs)) ≡ Some e → IsFirstFault form bs e
+pub found : (form : Form) (bs : List ℕ) (e : ReadFault) → length bs ≤ BYTE_LIMIT → lack (judged (started form) (words_in form bs)) ≡ Some e
+    → IsFirstFault form bs e
 found Qhull = point_file.found
 found Off = off_file.found

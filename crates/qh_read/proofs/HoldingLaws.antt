@@ -105,7 +105,8 @@ digit_marked Off h c e =
     ap (λ (b : Bool). cond b (record (ended_held h) { comment = true }) (record h { token = grown h.token c })) plain
 
 -- whether a digit is told apart makes no difference
-told_digit : (form : Form) (h : Held) (c : ℕ) (b : Bool) → is_ascii_digit c ≡ b → held_marked form h c ≡ cond b (record h { token = grown h.token c }) (held_marked form h c)
+told_digit : (form : Form) (h : Held) (c : ℕ) (b : Bool) → is_ascii_digit c ≡ b
+    → held_marked form h c ≡ cond b (record h { token = grown h.token c }) (held_marked form h c)
 told_digit form h c true e = digit_marked form h c e
 told_digit form h c false e = refl
 
@@ -113,16 +114,19 @@ marks : (form : Form) (s : Lexed) (c : ℕ) → held_of form (marked form s c) �
 marks Qhull s c = begins s.words s.line s.comment s.under_way c
 marks Off s c =
     push_cond (held_of Off) (c == 35) _ _ _ _
-    (λ e. ap (λ (p : Progress). record { form = Off; progress = p; token = Empty; comment = true; line = s.line }) (word_ends (started Off) s.words s.line s.under_way))
+    (λ e. ap (λ (p : Progress). record { form = Off; progress = p; token = Empty; comment = true; line = s.line })
+    (word_ends (started Off) s.words s.line s.under_way))
     (λ e. ap (λ (t : Token). record (held_of Off s) { token = t }) (grown_more s.under_way Empty c))
 
 steps : (form : Form) (s : Lexed) (c : ℕ) → held_of form (next form s c) ≡ next_held (held_of form s) c
 steps form s c =
     push_cond (held_of form) (c == 10) _ _ _ _
-    (λ e. ap (λ (p : Progress). record { form = form; progress = p; token = Empty; comment = false; line = s.line + 1 }) (word_ends (started form) s.words s.line s.under_way))
+    (λ e. ap (λ (p : Progress). record { form = form; progress = p; token = Empty; comment = false; line = s.line + 1 })
+    (word_ends (started form) s.words s.line s.under_way))
     (λ e. push_cond (held_of form) s.comment _ _ _ _ (λ f. refl)
     (λ f. push_cond (held_of form) (is_blank c) _ _ _ _
-    (λ g. ap (λ (p : Progress). record { form = form; progress = p; token = Empty; comment = s.comment; line = s.line }) (word_ends (started form) s.words s.line s.under_way))
+    (λ g. ap (λ (p : Progress). record { form = form; progress = p; token = Empty; comment = s.comment; line = s.line })
+    (word_ends (started form) s.words s.line s.under_way))
     (λ g. marks form s c ∙ told_digit form (held_of form s) c (is_ascii_digit c) refl)))
 
 runs : (form : Form) (bs : List ℕ) (s : Lexed) → held_of form (lexed form s bs) ≡ held_by (held_of form s) bs

@@ -88,7 +88,8 @@ begun_good ws n (b ∷ w) c v nb =
       same = λ l ls. ap (λ t. ws ++ (on_line n (before_comment (words_of (b ∷ t))) ++ words_from (own false) (n + 1) ls)) (append_assoc w (c ∷ []) l);
     }
 
-good_at : (ws : List Word) (n : ℕ) (b : Bool) (w : List ℕ) (c : ℕ) (over : Bool) → let s : Lexed = record { words = ws; line = n; comment = b; under_way = w } in
+good_at : (ws : List Word) (n : ℕ) (b : Bool) (w : List ℕ) (c : ℕ) (over : Bool)
+    → let s : Lexed = record { words = ws; line = n; comment = b; under_way = w } in
     Valid s → Good s c over (cond over (record { words = closed s; line = n + 1; comment = false; under_way = [] })
     (cond b s (cond (is_blank c) (record s { words = closed s; under_way = [] }) (begun s w c))))
 good_at ws n b w c true v =
@@ -103,7 +104,8 @@ good_at ws n false w c false v =
     in_cond (Good s c false) (is_blank c) (record s { words = closed s; under_way = [] }) (begun s w c)
     (λ e. record {
       valid = record { clean = tt; data_word = tt; quiet = λ q. refl };
-      same = λ l ls. append_assoc ws (ended n w) _ ∙ ap (λ t. ws ++ t) (sym (append_assoc (ended n w) (on_line n (own false l)) (words_from (own false) (n + 1) ls)))
+      same = λ l ls. append_assoc ws (ended n w) _
+          ∙ ap (λ t. ws ++ t) (sym (append_assoc (ended n w) (on_line n (own false l)) (words_from (own false) (n + 1) ls)))
           ∙ ap (λ t. ws ++ (t ++ words_from (own false) (n + 1) ls)) (sym (blank_ends n w c l v.clean v.data_word e));
     })
     (λ e. begun_good ws n w c v e)

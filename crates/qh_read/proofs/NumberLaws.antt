@@ -1,5 +1,6 @@
 -- Numbers and points that are told from any base of lines.
-use Rattle.std.proofs.Common.{◌≡◌, ◌∙◌, ◌++◌, [], ◌∷◌, ◌+◌, ◌-◌, ◌*◌, take, drop, ℕ, List, true, false, ap, sym, arith, suc, refl, length, length-append, append_assoc}
+use Rattle.std.proofs.Common.{◌≡◌, ◌∙◌, ◌++◌, [], ◌∷◌, ◌+◌, ◌-◌, ◌*◌, take, drop, ℕ}
+use Rattle.std.proofs.Common.{List, true, false, ap, sym, arith, suc, refl, length, length-append, append_assoc}
 use Rattle.std.proofs.lemmas.List.{append-nil, take-append-drop}
 use Rattle.std.proofs.Math.Seq.{drop-append_seam}
 use Rattle.std.specs.Prelude.{ℤ, Some}

@@ -29,9 +29,11 @@ vertices [] (suc k) t = refl
 vertices (w ∷ ws) (suc k) t = by (λ z. vertices ws k (t ++ z ∷ [])) (number_of w.text)
   where
     by : ((z : ℤ) → lack (judged (wants_vertices k (t ++ z ∷ [])) ws) ≡ coordinates_fault anything k ws) → (o : Option ℤ)
-        → lack (judged (after (wants_vertices (suc k) t) (is_off w) (option_map capped o) w.line) ws) ≡ option_or (coordinate_fault o w.line) (coordinates_fault anything k ws)
+        → lack (judged (after (wants_vertices (suc k) t) (is_off w) (option_map capped o) w.line) ws)
+        ≡ option_or (coordinate_fault o w.line) (coordinates_fault anything k ws)
     by rest None = fallen (faults.BadNumber w.line) ws
-    by rest (Some z) = chosen (is_coordinate (capped z)) (is_coordinate z) (wants_vertices k (t ++ capped z ∷ [])) (fails (faults.Range w.line)) ws (coordinates_fault anything k ws) (Some (faults.Range w.line))
+    by rest (Some z) = chosen (is_coordinate (capped z)) (is_coordinate z) (wants_vertices k (t ++ capped z ∷ [])) (fails (faults.Range w.line)) ws
+        (coordinates_fault anything k ws) (Some (faults.Range w.line))
         (same_limit z) (rest (capped z)) (fallen (faults.Range w.line) ws)
         ∙ either (is_coordinate z) (coordinates_fault anything k ws) (faults.Range w.line)
 
@@ -39,11 +41,13 @@ edge_count : (v : ℤ) (ws : List Word) → lack (judged (wants_edge_count (capp
 edge_count v [] = refl
 edge_count v (w ∷ ws) = by (number_of w.text)
   where
-    by : (o : Option ℤ) → lack (judged (after (wants_edge_count (capped v)) (is_off w) (option_map capped o) w.line) ws) ≡ number_fault (λ edges. counted_fault anything v) o w.line ws
+    by : (o : Option ℤ) → lack (judged (after (wants_edge_count (capped v)) (is_off w) (option_map capped o) w.line) ws)
+        ≡ number_fault (λ edges. counted_fault anything v) o w.line ws
     by None = fallen (faults.BadNumber w.line) ws
     by (Some z) = counts wants_vertices anything ws (λ k. vertices ws k []) v
 
-face_count : (v : ℤ) (ws : List Word) → lack (judged (wants_face_count (capped v)) ws) ≡ next_number_fault (λ faces. next_number_fault (λ edges. counted_fault anything v)) ws
+face_count : (v : ℤ) (ws : List Word) → lack (judged (wants_face_count (capped v)) ws)
+    ≡ next_number_fault (λ faces. next_number_fault (λ edges. counted_fault anything v)) ws
 face_count v [] = refl
 face_count v (w ∷ ws) = by (number_of w.text)
   where
@@ -70,7 +74,8 @@ lacks (w ∷ ws) = by (is_off w)
     by false = fallen faults.NotOff ws
 
 first : (bs : List ℕ) → length bs ≤ BYTE_LIMIT → first_off_fault bs ≡ off_words_fault (off_words bs)
-first bs h = let e : nat_lt BYTE_LIMIT (length bs) ≡ false = grind (arith, nat_tests) in ap (λ (b : Bool). cond b (Some faults.Big) (off_words_fault (off_words bs))) e
+first bs h = let e : nat_lt BYTE_LIMIT (length bs) ≡ false = grind (arith, nat_tests) in
+    ap (λ (b : Bool). cond b (Some faults.Big) (off_words_fault (off_words bs))) e
 
 pub found : (bs : List ℕ) (e : ReadFault) → length bs ≤ BYTE_LIMIT → lack (judged wants_keyword (off_words bs)) ≡ Some e → first_off_fault bs ≡ Some e
 found bs e small h = first bs small ∙ sym (lacks (off_words bs)) ∙ h

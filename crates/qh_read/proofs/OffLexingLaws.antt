@@ -1,5 +1,6 @@
 -- The words of the bytes of an OFF file that come one at a time are the words of the whole.
-use Rattle.std.proofs.Common.{◌≡◌, ◌∙◌, ◌++◌, [], ◌∷◌, ◌+◌, ◌==◌, ℕ, ◌<◌, length, List, Bool, true, false, cond, refl, ap, sym, subst, append_assoc, arith, filter}
+use Rattle.std.proofs.Common.{◌≡◌, ◌∙◌, ◌++◌, [], ◌∷◌, ◌+◌, ◌==◌, ℕ, ◌<◌, length, List}
+use Rattle.std.proofs.Common.{Bool, true, false, cond, refl, ap, sym, subst, append_assoc, arith, filter}
 use Rattle.std.proofs.lemmas.List.{append-nil}
 use Rattle.std.proofs.lemmas.Bool.Decides.{nat_tests}
 use Rattle.std.specs.List.{slice_split, onto_first}
@@ -78,14 +79,16 @@ marked_good ws n w c v nb =
     (λ e. record {
       valid = record { clean = tt; plain = tt; quiet = λ q. refl };
       same = λ l ls. append_assoc ws (ended n w) (words_from (own false) (n + 1) ls)
-          ∙ ap (λ t. ws ++ (t ++ words_from (own false) (n + 1) ls)) (sym (ends n w (c ∷ l) v.clean v.plain (ap (λ (t : Bool). cond t [] (c ∷ before_hash l)) e)));
+          ∙ ap (λ t. ws ++ (t ++ words_from (own false) (n + 1) ls))
+          (sym (ends n w (c ∷ l) v.clean v.plain (ap (λ (t : Bool). cond t [] (c ∷ before_hash l)) e)));
     })
     (λ e. record {
       valid = record { clean = clear_append is_blank w c v.clean nb; plain = clear_append is_hash w c v.plain e; quiet = λ q. cc };
       same = λ l ls. ap (λ (t : List ℕ). ws ++ (on_line n (words_of (before_hash t)) ++ words_from (own false) (n + 1) ls)) (append_assoc w (c ∷ []) l);
     })
 
-good_at : (ws : List Word) (n : ℕ) (b : Bool) (w : List ℕ) (c : ℕ) (over : Bool) → let s : Lexed = record { words = ws; line = n; comment = b; under_way = w } in
+good_at : (ws : List Word) (n : ℕ) (b : Bool) (w : List ℕ) (c : ℕ) (over : Bool)
+    → let s : Lexed = record { words = ws; line = n; comment = b; under_way = w } in
     Valid s → Good s c over (cond over (record { words = closed s; line = n + 1; comment = false; under_way = [] })
     (cond b s (cond (is_blank c) (record s { words = closed s; under_way = [] })
     (cond (c == 35) (record s { words = closed s; under_way = []; comment = true }) (record s { under_way = w ++ c ∷ [] })))))
@@ -98,10 +101,12 @@ good_at ws n true w c false v =
     record { valid = v; same = λ l ls. refl }
 good_at ws n false w c false v =
     let s : Lexed = record { words = ws; line = n; comment = false; under_way = w } in
-    in_cond (Good s c false) (is_blank c) (record s { words = closed s; under_way = [] }) (cond (c == 35) (record s { words = closed s; under_way = []; comment = true }) (record s { under_way = w ++ c ∷ [] }))
+    in_cond (Good s c false) (is_blank c) (record s { words = closed s; under_way = [] })
+    (cond (c == 35) (record s { words = closed s; under_way = []; comment = true }) (record s { under_way = w ++ c ∷ [] }))
     (λ e. record {
       valid = record { clean = tt; plain = tt; quiet = λ q. refl };
-      same = λ l ls. append_assoc ws (ended n w) _ ∙ ap (λ t. ws ++ t) (sym (append_assoc (ended n w) (on_line n (own false l)) (words_from (own false) (n + 1) ls)))
+      same = λ l ls. append_assoc ws (ended n w) _
+          ∙ ap (λ t. ws ++ t) (sym (append_assoc (ended n w) (on_line n (own false l)) (words_from (own false) (n + 1) ls)))
           ∙ ap (λ t. ws ++ (t ++ words_from (own false) (n + 1) ls)) (sym (blank_ends n w c l v.clean v.plain e));
     })
     (λ e. marked_good ws n w c v e)

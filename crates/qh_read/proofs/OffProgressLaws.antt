@@ -12,7 +12,8 @@ use Rattle.qh_model.specs.headline.Numbers.{number_of}
 use Rattle.qh_read.specs.contract.Tokens.{cap}
 use Rattle.qh_read.specs.steps.SmallTokens.{capped}
 use Rattle.qh_read.specs.steps.Building.{filled_in}
-use Rattle.qh_read.specs.contract.Progress.{Progress, wants_keyword, wants_vertex_count, wants_face_count, wants_edge_count, wants_vertices, fails, counted, after}
+use Rattle.qh_read.specs.contract.Progress.{Progress, wants_keyword, wants_vertex_count, wants_face_count}
+use Rattle.qh_read.specs.contract.Progress.{wants_edge_count, wants_vertices, fails, counted, after}
 use Rattle.qh_model.specs.declared.read_fault.ReadFault.TheVariants as faults
 use Rattle.qh_read.proofs.ProgressLaws.{is_off, judged, stays, numbers, Filled, filled_more, in_range}
 
@@ -36,7 +37,8 @@ front_filled [] (suc k) t u h = cc
 front_filled (w ∷ ws) (suc k) t u h = by (λ z. front_filled ws k (t ++ z ∷ []) u) (number_of w.text) refl h
   where
     by : ((z : ℤ) → filled_in (judged (wants_vertices k (t ++ z ∷ [])) ws) ≡ Some u → FrontFilled ws k (t ++ z ∷ []) u)
-        → (o : Option ℤ) → number_of w.text ≡ o → filled_in (judged (after (wants_vertices (suc k) t) (is_off w) (option_map capped o) w.line) ws) ≡ Some u → FrontFilled (w ∷ ws) (suc k) t u
+        → (o : Option ℤ) → number_of w.text ≡ o → filled_in (judged (after (wants_vertices (suc k) t) (is_off w) (option_map capped o) w.line) ws) ≡ Some u
+        → FrontFilled (w ∷ ws) (suc k) t u
     by rest None e h = cc (ap filled_in (stays (faults.BadNumber w.line) ws))
     by rest (Some z) e h =
         let r = in_range (wants_vertices k) ws t u w.line z h in
@@ -54,7 +56,8 @@ counts : (z : ℤ) (ws : List Word) (u : List ℤ) → filled_in (judged (counte
 counts (negsuc n) ws u h = cc (ap filled_in (stays faults.Count ws))
 counts (pos n) ws u h = by (nat_le 1 (cap n) && nat_le (cap n) POINT_LIMIT) refl h
   where
-    by : (b : Bool) → (nat_le 1 (cap n) && nat_le (cap n) POINT_LIMIT) ≡ b → filled_in (judged (cond b (wants_vertices (3 * cap n) []) (fails faults.Count)) ws) ≡ Some u → Counts (pos n) ws u
+    by : (b : Bool) → (nat_le 1 (cap n) && nat_le (cap n) POINT_LIMIT) ≡ b
+        → filled_in (judged (cond b (wants_vertices (3 * cap n) []) (fails faults.Count)) ws) ≡ Some u → Counts (pos n) ws u
     by false e h = cc (ap filled_in (stays faults.Count ws))
     by true e h =
         let range : (1 ≤ cap n) × (cap n ≤ POINT_LIMIT) = grind (arith, nat_tests) in
@@ -121,8 +124,10 @@ whole (w ∷ ws) u h = by (is_off w) refl h
     by false e h = cc (ap filled_in (stays faults.NotOff ws))
     by true e h =
         let v = count wants_vertex_count wants_face_count (record { none = refl; bad = λ k l. refl; good = λ k z l. refl }) ws u h in
-        let f = count (wants_face_count (capped v.z)) (λ z. wants_edge_count (capped v.z)) (record { none = refl; bad = λ k l. refl; good = λ k z l. refl }) v.rest u v.filled in
-        let g = count (wants_edge_count (capped v.z)) (λ z. counted wants_vertices (capped v.z)) (record { none = refl; bad = λ k l. refl; good = λ k z l. refl }) f.rest u f.filled in
+        let f = count (wants_face_count (capped v.z)) (λ z. wants_edge_count (capped v.z))
+        (record { none = refl; bad = λ k l. refl; good = λ k z l. refl }) v.rest u v.filled in
+        let g = count (wants_edge_count (capped v.z)) (λ z. counted wants_vertices (capped v.z))
+        (record { none = refl; bad = λ k l. refl; good = λ k z l. refl }) f.rest u f.filled in
         let c = counts v.z g.rest u g.filled in
         let all : u ≡ c.filled.filled.more = c.filled.filled.all in
         let first : number_of v.w.text ≡ Some (pos c.n) = v.number ∙ ap Some c.is in

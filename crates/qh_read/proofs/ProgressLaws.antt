@@ -1,5 +1,6 @@
 -- A file that is filled in has a header and as many coordinates as it says.
-use Rattle.std.proofs.Common.{◌≡◌, ◌≢◌, ◌∙◌, ◌++◌, [], ◌∷◌, ◌*◌, ◌≤◌, ◌&&◌, ℕ, List, Bool, true, false, cond, refl, ap, sym, arith, zero, suc, min, length, map, inl, inr, append_assoc, subst}
+use Rattle.std.proofs.Common.{◌≡◌, ◌≢◌, ◌∙◌, ◌++◌, [], ◌∷◌, ◌*◌, ◌≤◌, ◌&&◌, ℕ, List, Bool, true, false}
+use Rattle.std.proofs.Common.{cond, refl, ap, sym, arith, zero, suc, min, length, map, inl, inr, append_assoc, subst}
 use Rattle.std.proofs.lemmas.List.{append-nil}
 use Rattle.std.specs.Prelude.{ℤ, codes, pos, negsuc, Option, Some, None, option_map, nat_le}
 use Rattle.std.specs.List.{AllByRecursion}
@@ -89,7 +90,8 @@ filled (w ∷ ws) zero t u h = cc (ap filled_in (stays (faults.Long w.line) ws))
 filled (w ∷ ws) (suc k) t u h = by (λ z. filled ws k (t ++ z ∷ []) u) (number_of w.text) refl h
   where
     by : ((z : ℤ) → filled_in (judged (wants k (t ++ z ∷ [])) ws) ≡ Some u → Filled ws k (t ++ z ∷ []) u)
-        → (o : Option ℤ) → number_of w.text ≡ o → filled_in (judged (after (wants (suc k) t) (is_off w) (option_map capped o) w.line) ws) ≡ Some u → Filled (w ∷ ws) (suc k) t u
+        → (o : Option ℤ) → number_of w.text ≡ o → filled_in (judged (after (wants (suc k) t) (is_off w) (option_map capped o) w.line) ws) ≡ Some u
+        → Filled (w ∷ ws) (suc k) t u
     by rest None e h = cc (ap filled_in (stays (faults.BadNumber w.line) ws))
     by rest (Some z) e h =
         let r = in_range (wants k) ws t u w.line z h in
@@ -113,7 +115,8 @@ counts : (z : ℤ) (ws : List Word) (u : List ℤ) → filled_in (judged (counte
 counts (negsuc n) ws u h = cc (ap filled_in (stays faults.Count ws))
 counts (pos n) ws u h = by (nat_le 1 (cap n) && nat_le (cap n) POINT_LIMIT) refl h
   where
-    by : (b : Bool) → (nat_le 1 (cap n) && nat_le (cap n) POINT_LIMIT) ≡ b → filled_in (judged (cond b (wants (3 * cap n) []) (fails faults.Count)) ws) ≡ Some u → Counts (pos n) ws u
+    by : (b : Bool) → (nat_le 1 (cap n) && nat_le (cap n) POINT_LIMIT) ≡ b
+        → filled_in (judged (cond b (wants (3 * cap n) []) (fails faults.Count)) ws) ≡ Some u → Counts (pos n) ws u
     by false e h = cc (ap filled_in (stays faults.Count ws))
     by true e h =
         let range : (1 ≤ cap n) × (cap n ≤ POINT_LIMIT) = grind (arith, nat_tests) in
@@ -142,7 +145,8 @@ pub whole : (ws : List Word) (u : List ℤ) → filled_in (judged wants_first ws
 whole [] u h = cc
 whole (w ∷ ws) u h = one (number_of w.text) refl h
   where
-    made : (a b z : ℤ) (vs : List Word) (v : Word) → ws ≡ v ∷ vs → number_of w.text ≡ Some a → number_of v.text ≡ Some b → ((n : ℕ) → z ≡ pos n → IsHeader a b n) → Counts z vs u → Whole (w ∷ ws) u
+    made : (a b z : ℤ) (vs : List Word) (v : Word) → ws ≡ v ∷ vs → number_of w.text ≡ Some a → number_of v.text ≡ Some b
+        → ((n : ℕ) → z ≡ pos n → IsHeader a b n) → Counts z vs u → Whole (w ∷ ws) u
     made a b z vs v s e f header c =
         let all : u ≡ c.filled.more = c.filled.all in
         let rest : numbers (v ∷ vs) ≡ map Some (b ∷ u) = cc (c.filled.are, f) in
@@ -150,7 +154,8 @@ whole (w ∷ ws) u h = one (number_of w.text) refl h
           first = a;
           second = b;
           n = c.n;
-          are = ap (λ (x : List Word). numbers (w ∷ x)) s ∙ ap (λ (x : List (Option ℤ)). number_of w.text ∷ x) rest ∙ ap (λ (x : Option ℤ). x ∷ map Some (b ∷ u)) e;
+          are = ap (λ (x : List Word). numbers (w ∷ x)) s ∙ ap (λ (x : List (Option ℤ)). number_of w.text ∷ x) rest
+              ∙ ap (λ (x : Option ℤ). x ∷ map Some (b ∷ u)) e;
           header = header c.n c.is;
           some = c.some;
           few = c.few;

@@ -88,8 +88,10 @@ pub value-number : (w : List ℕ) → value_of (grown_by Empty w) ≡ option_map
 value-number [] = refl
 value-number (c ∷ cs) = at (c == 43) (c == 45) (c == 79)
   where
-    at : (b d o : Bool) → value_of (grown_by (cond b (Sign false) (cond d (Sign true) (cond (is_ascii_digit c) (Digits false (c - 48)) (cond o (Keyword 1) Other)))) cs)
-        ≡ option_map capped (cond b (option_map pos (magnitude_of cs)) (cond d (option_map (λ n. neg_ℤ (pos n)) (magnitude_of cs)) (option_map pos (magnitude_of (c ∷ cs)))))
+    at : (b d o : Bool) → value_of (grown_by
+        (cond b (Sign false) (cond d (Sign true) (cond (is_ascii_digit c) (Digits false (c - 48)) (cond o (Keyword 1) Other)))) cs)
+        ≡ option_map capped (cond b (option_map pos (magnitude_of cs))
+        (cond d (option_map (λ n. neg_ℤ (pos n)) (magnitude_of cs)) (option_map pos (magnitude_of (c ∷ cs)))))
     at true d o = magnitude false cs ∙ plain (magnitude_of cs)
     at false true o = magnitude true cs ∙ minus_of (magnitude_of cs)
     at false false o = plain_start (is_ascii_digit c) o (Digits false (c - 48)) cs ∙ magnitude false (c ∷ cs) ∙ plain (magnitude_of (c ∷ cs))
@@ -145,7 +147,8 @@ keyword-off [] = refl
 keyword-off (c ∷ w) = at (c == 43) (c == 45) (is_ascii_digit c) (c == 79) refl refl refl refl
   where
     at : (a b d o : Bool) → (c == 43) ≡ a → (c == 45) ≡ b → is_ascii_digit c ≡ d → (c == 79) ≡ o
-        → is_keyword (grown_by (cond a (Sign false) (cond b (Sign true) (cond d (Digits false (c - 48)) (cond o (Keyword 1) Other)))) w) ≡ (o && bytes_eq w (70 ∷ 70 ∷ []))
+        → is_keyword (grown_by (cond a (Sign false) (cond b (Sign true) (cond d (Digits false (c - 48)) (cond o (Keyword 1) Other)))) w)
+        ≡ (o && bytes_eq w (70 ∷ 70 ∷ []))
     at true b d true p q r s = absurd (grind (arith, nat_tests))
     at true b d false p q r s = signed_word w false
     at false true d true p q r s = absurd (grind (arith, nat_tests))

@@ -21,7 +21,8 @@ plane_of-requires-clause-live c =
 pub loop-facet-preserved : goal.loop-facet-preserved
 loop-facet-preserved c =
     subst (λ (xs : List PlaneValue). AreListed c.args.pts.now c.args.mesh.now c.next.new.self xs) (sym c.in_ok-push.ensures.items)
-    (next_listed c.loop-facet.invariant c.in-Some.ensures.steps c.under.result (λ p at h. subst (λ n. n <ℤ pos 0) (c.plane_of.ensures p) (c.under.ensures p at h)))
+    (next_listed c.loop-facet.invariant c.in-Some.ensures.steps c.under.result
+    (λ p at h. subst (λ n. n <ℤ pos 0) (c.plane_of.ensures p) (c.under.ensures p at h)))
 
 pub returns : goal.returns
 returns c = all_listed c.loop-facet.invariant c.in-None.ensures.steps.0

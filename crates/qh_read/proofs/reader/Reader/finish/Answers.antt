@@ -12,13 +12,15 @@ use Rattle.qh_read.proofs.FormLaws.{reads, found}
 use Rattle.qh_read.proofs.reader.Reader.finish.Goals as goal
 
 -- the builder shows what the words of the bytes fed make of the file
-told : (c : goal.After-finish) (form : Form) (bytes : List ℕ) → Fed form c.args.self bytes → shown c.end_word.new.self.builder ≡ judged (started form) (words_in form bytes)
+told : (c : goal.After-finish) (form : Form) (bytes : List ℕ) → Fed form c.args.self bytes
+    → shown c.end_word.new.self.builder ≡ judged (started form) (words_in form bytes)
 told c form bytes fed =
     ap (λ (h : Held). h.progress) (c.end_word.ensures.held ∙ ap ended_held (ap (λ (r : Reading). r.held) c.self.view_is ∙ fed.held))
     ∙ progress-words form bytes
 
 small : (c : goal.After-finish) (form : Form) (bytes : List ℕ) → Fed form c.args.self bytes → length bytes ≤ BYTE_LIMIT
-small c form bytes fed = let count : c.self.inside.count ≡ length bytes = ap (λ (r : Reading). r.count) c.self.view_is ∙ fed.count in omega (arith, c.self.invariant.fits)
+small c form bytes fed = let count : c.self.inside.count ≡ length bytes = ap (λ (r : Reading). r.count) c.self.view_is ∙ fed.count in
+    omega (arith, c.self.invariant.fits)
 
 pub returns-clause-read : goal.returns-clause-read
 returns-clause-read c =

@@ -16,7 +16,8 @@ loop-next-preserved c =
     let form = was.form in
     let none = c.loop-next.invariant.quiet in
     let point = c.in-Some-next_point.ensures.held form (shown was.builder) 0 in
-    let blanks = parted was.line c.loop-next.rest.now c.after_blanks-line.result.0 c.after_blanks-line.result.1.now c.after_blanks-line.ensures.held form (shown was.builder) in
+    let blanks = parted was.line c.loop-next.rest.now c.after_blanks-line.result.0 c.after_blanks-line.result.1.now c.after_blanks-line.ensures.held form
+    (shown was.builder) in
     record {
       told = ap (λ (b : Bool). held_by (record (quiet form (shown c.take_point.new.self) z.line Empty) { comment = b }) z.rest.now) none
           ∙ ap (λ (n : ℕ). held_by (quiet form (shown c.take_point.new.self) n Empty) z.rest.now) (sym (none_before z.line))
