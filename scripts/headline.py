@@ -10,6 +10,7 @@ comments. Besides:
 - what else a clause of a public function or of a public trait cites stands in `specs/contract`;
 - docs/DEFINITIONS.md names each definition of these two folders, and no other;
 - docs/LAWS.md names each law and each clause of a law, and no other;
+- docs/CHECKING.md says the number of lines for `check_streams` and `run` of hullcheck;
 - README.md says the number of lines, and that of the lines in which the traits `Source` and `Sink` say what a device does.
 
 It prints each file with its definitions and lines (--list: each definition), the types and constants of the program that
@@ -27,6 +28,7 @@ MOST_LINES = 450
 # The traits of the devices, whose clauses the contract of `serve` takes for granted.
 DEVICES = ((CRATES / "qh_read/src/source.rt", "Source"), (CRATES / "qh_write/src/sink.rt", "Sink"))
 HEADLINE = {(CRATES / "qh_serve/src/answers.rt", "answer"), (CRATES / "qh_serve/src/serving.rt", "serve")}
+CHECKER = {(CRATES / "hullcheck/src/judging.rt", "check_streams"), (CRATES / "hullcheck/src/program.rt", "run")}
 SETTINGS = CRATES / "qh_serve/src/settings.rt"
 LAWS = (CRATES / "qh_model/src/laws", CRATES / "qh_laws/src", CRATES / "qh_tree_laws/src", CRATES / "qh_seam_laws/src")
 NAMED = re.compile(r"`([^`\s]+)`")
@@ -38,6 +40,12 @@ def headline(project):
     clauses = [clause for clause in project.clauses
                if (clause.path, clause.function) in HEADLINE
                or clause.path == SETTINGS and clause.kind == "Value"]
+    return project.reached(set().union(*(clause.cites for clause in clauses)))
+
+
+def checker(project):
+    """All definitions that the contracts of the program `hullcheck` use."""
+    clauses = [clause for clause in project.clauses if (clause.path, clause.function) in CHECKER]
     return project.reached(set().union(*(clause.cites for clause in clauses)))
 
 
@@ -148,6 +156,12 @@ def number_faults(lines):
         yield "README.md does not say: %d lines of definitions" % lines
 
 
+def checker_faults(lines):
+    """Where docs/CHECKING.md says another number of lines."""
+    if "%d lines of definitions" % lines not in Path("docs/CHECKING.md").read_text():
+        yield "docs/CHECKING.md does not say: %d lines of definitions" % lines
+
+
 def main():
     parser = argparse.ArgumentParser(description=__doc__, formatter_class=argparse.RawDescriptionHelpFormatter)
     parser.add_argument("--list", action="store_true", help="print each definition, too")
@@ -158,8 +172,10 @@ def main():
     print_files(believed, every)
     print("%d definitions, %d lines" % (len(believed), lines))
     print("%d lines of the traits of devices" % device_lines())
+    checker_lines = lines_of(checker(project))
+    print("%d lines of hullcheck" % checker_lines)
     faults = [*folder_faults(project, believed, contract(project)), *definitions_faults(project), *laws_faults(),
-              *number_faults(lines)]
+              *number_faults(lines), *checker_faults(checker_lines)]
     for fault in faults:
         print("FAULT:", fault)
     sys.exit(1 if faults else 0)

@@ -1,3 +1,4 @@
--- What public clauses cite: all that a reader of the program has to believe, beside qh_judge and qh_check.
+-- What public clauses cite: all that a reader of the program has to believe, beside qh_judge, qh_check and qh_faces.
+pub mod Checking
 pub mod Judging
 pub mod Statuses

@@ -1,7 +1,6 @@
 //! The words of a command line.
-use crate::faces::{Naming, Reading, Turn};
 use crate::fault::Fault;
-use crate::words::number_of;
+use qh_faces::{Layout, Reading, Turn};
 use qh_model::WORKER_LIMIT;
 
 /// What is asked.
@@ -28,8 +27,7 @@ enum Next {
 
 /// A number of workers, if a word is one.
 fn workers_of(word: &str) -> Result<u32, Fault> {
-    let number = number_of(word.as_bytes()).ok_or(Fault::Usage)?;
-    let workers = u32::try_from(number).map_err(|_| Fault::Usage)?;
+    let workers: u32 = word.parse().map_err(|_| Fault::Usage)?;
     if workers < 1 || workers > WORKER_LIMIT {
         return Err(Fault::Usage);
     }
@@ -42,7 +40,7 @@ impl<'a> Settings<'a> {
         Settings {
             workers: 4,
             reading: Reading {
-                naming: Naming::Vertices,
+                layout: Layout::Off,
                 turn: Turn::Counterclockwise,
             },
             points: None,
@@ -69,7 +67,8 @@ impl<'a> Settings<'a> {
     fn take(&mut self, word: &'a str) -> Result<Next, Fault> {
         match word {
             "--workers" => return Ok(Next::Workers),
-            "--indices" => self.reading.naming = Naming::Indices,
+            "--indices" => self.reading.layout = Layout::Lines,
+            "--counted" => self.reading.layout = Layout::Counted,
             "--clockwise" => self.reading.turn = Turn::Clockwise,
             _ => self.take_file(word)?,
         }

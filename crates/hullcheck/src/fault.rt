@@ -1,6 +1,6 @@
 //! What keeps the program from a verdict.
 ghost use Rattle.std.specs.Prelude.{◌≡◌};
-ghost use Rattle.hullcheck.specs.contract.Statuses.{fault_status};
+ghost use Rattle.hullcheck.specs.contract.Statuses.{fault_status, read_fault_status};
 ghost use Rattle.hullcheck.specs.declared.fault.Fault.TheVariants.{Memory};
 
 use qh_model::{Memory, ReadFault};
@@ -18,8 +18,19 @@ pub enum Fault {
     Device,
     /// The points could not be read.
     Points(ReadFault),
-    /// The faces could not be read: this line of their file.
-    Faces(u32),
+    /// The faces could not be read.
+    Faces(ReadFault),
+}
+
+/// The exit status where a file could not be read.
+fn read_status(fault: ReadFault) -> u8
+    ensures { result ≡ read_fault_status fault }
+{
+    match fault {
+        ReadFault::Memory => 3,
+        ReadFault::Device => 4,
+        _ => 5,
+    }
 }
 
 impl Fault {
@@ -29,9 +40,9 @@ impl Fault {
     {
         match self {
             Fault::Usage => 2,
-            Fault::Memory | Fault::Points(ReadFault::Memory) => 3,
-            Fault::Device | Fault::Points(ReadFault::Device) => 4,
-            Fault::Points(_) | Fault::Faces(_) => 5,
+            Fault::Memory => 3,
+            Fault::Device => 4,
+            Fault::Points(fault) | Fault::Faces(fault) => read_status(fault),
         }
     }
 }
@@ -65,12 +76,12 @@ impl fmt::Display for Fault {
         match self {
             Fault::Usage => write!(
                 f,
-                "usage: hullcheck [--workers N] [--indices] [--clockwise] POINTS [FACES]"
+                "usage: hullcheck [--workers N] [--indices | --counted] [--clockwise] POINTS [FACES]"
             ),
             Fault::Memory => write!(f, "hullcheck: memory was refused"),
             Fault::Device => write!(f, "hullcheck: a file could not be read"),
             Fault::Points(fault) => write!(f, "hullcheck: the points: {fault:?}"),
-            Fault::Faces(line) => write!(f, "hullcheck: the faces: line {line}"),
+            Fault::Faces(fault) => write!(f, "hullcheck: the faces: {fault:?}"),
         }
     }
 }

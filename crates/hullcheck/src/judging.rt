@@ -1,31 +1,61 @@
-//! What is told of the faces of a file.
-ghost use Rattle.std.specs.Prelude.{◌<◌, ◌≤◌, IfOk, length};
+//! What is told of the faces in a file.
+ghost use Rattle.std.specs.Prelude.{◌<◌, ◌≤◌, ◌-◌, ◌^◌, IfErr, IfOk, length};
 ghost use Rattle.qh_model.specs.declared.limits.TheConstants.{POINT_LIMIT};
+ghost use Rattle.qh_read.specs.headline.SourceBytes.{GivesAll};
 ghost use Rattle.qh_judge.specs.contract.Judging.{IsJudgement};
-ghost use Rattle.hullcheck.specs.contract.Judging.{named_points};
+ghost use Rattle.hullcheck.specs.contract.Checking.{IsCheckFault};
+ghost use Rattle.hullcheck.specs.contract.Judging.{IsTold, named_points};
 
-use crate::faces::{Faces, Naming};
+use crate::fault::Fault;
+use qh_faces::{Faces, Layout, Reading, read_faces};
 use qh_judge::{Judgement, judge_faces};
-use qh_model::{Memory, Point};
+use qh_model::{Form, Memory, Point};
+use qh_read::{Source, read_form_threads};
 use std::alloc::Global;
 use std::thread::Threads;
 
-/// What is told of the faces of a file, whose numbers name its vertices or the points of the set.
-pub fn judge<R: Threads + Sync>(
+/// What is told of faces, whose numbers name their vertices or the points of the set.
+fn judge<R: Threads + Sync>(
     rt: &R,
     alloc: Global,
     pts: &[Point],
     faces: &Faces,
-    naming: Naming,
+    layout: Layout,
     workers: u32,
 ) -> Result<Judgement, Memory>
     requires some { 0 < length pts.now }
     requires few { length pts.now ≤ POINT_LIMIT }
-    ensures { IfOk result (IsJudgement pts.now (named_points naming pts.now faces.now.vertices.items) faces.now.polygons.items) }
+    ensures { IfOk result (IsJudgement pts.now (named_points layout pts.now faces.now.vertices.items) faces.now.polygons.items) }
 {
-    let named = match naming {
-        Naming::Vertices => faces.vertices.as_slice(),
-        Naming::Indices => pts,
+    let named = match layout {
+        Layout::Off => faces.vertices.as_slice(),
+        Layout::Counted | Layout::Lines => pts,
     };
     judge_faces(rt, alloc, pts, named, &faces.polygons, workers)
+}
+
+/// What is told of the faces in a text, beside the points that a source gives.
+///
+/// # Errors
+///
+/// `Points` or `Faces` with the first fault of either, and `Memory` where an allocation failed.
+pub fn check_streams<R: Threads + Sync, S: Source>(
+    rt: &R,
+    alloc: Global,
+    source: &mut S,
+    text: &[u8],
+    reading: Reading,
+    workers: u32,
+) -> Result<Judgement, Fault>
+    requires { S.failure_count source.old < 2 ^ 64 - 1 }
+    ensures told { IfOk result (λ j. GivesAll (S.remaining source.old) (S.remaining source.new)
+        (λ bytes. IsTold reading bytes text.now j)) }
+    ensures fault { IfErr result (IsCheckFault reading (S.remaining source.old) (S.remaining source.new) text.now) }
+{
+    let pts = read_form_threads(rt, alloc, workers as usize, Form::Qhull, source).map_err(
+        Fault::Points,
+    )?;
+    let faces = read_faces(alloc, text, reading).map_err(Fault::Faces)?;
+    let judgement = judge(rt, alloc, &pts, &faces, reading.layout, workers)?;
+    Ok(judgement)
 }

@@ -5,13 +5,11 @@ ghost use Rattle.hullcheck.specs.contract.Judging.{IsToldOfSome};
 ghost use Rattle.hullcheck.specs.contract.Statuses.{IsRunStatus, fault_status, judgement_status, no_device};
 
 use crate::command_line::{Settings, settings_of};
-use crate::faces::{Faces, read_faces};
 use crate::fault::Fault;
-use crate::judging::judge;
+use crate::judging::check_streams;
 use crate::statuses::status_of;
 use qh_judge::Judgement;
-use qh_model::{Form, POINT_LIMIT, Point};
-use qh_read::{StdSource, read_form_threads};
+use qh_read::StdSource;
 use std::alloc::Global;
 use std::io::Read;
 use std::process::ExitCode;
@@ -25,19 +23,6 @@ fn words<R: Env + AllocGlobal>(rt: &R) -> Result<Vec<String>, Fault> {
     args.collect(rt.alloc()).map_err(|_| Fault::Memory)
 }
 
-/// The points of a file.
-fn points_in<R: Files + AllocGlobal + Threads + Sync>(
-    rt: &R,
-    path: &str,
-    workers: u32,
-) -> Result<Vec<Point>, Fault> {
-    let file = fs::open(rt, path).map_err(|_| Fault::Device)?;
-    let mut source = StdSource::new(file);
-    read_form_threads(rt, rt.alloc(), workers as usize, Form::Qhull, &mut source).map_err(
-        Fault::Points,
-    )
-}
-
 /// All bytes of a reader.
 fn bytes_of<S: Read + Drop>(alloc: Global, mut reader: S) -> Result<Vec<u8>, Fault> {
     let mut bytes = Vec::new(alloc);
@@ -45,14 +30,16 @@ fn bytes_of<S: Read + Drop>(alloc: Global, mut reader: S) -> Result<Vec<u8>, Fau
     Ok(bytes)
 }
 
-/// The faces of a file, or of standard input.
-fn faces_in<R: Files + Input + AllocGlobal>(rt: &R, settings: &Settings) -> Result<Faces, Fault> {
+/// The text of the file of faces, or of standard input.
+fn faces_text<R: Files + Input + AllocGlobal>(
+    rt: &R,
+    settings: &Settings,
+) -> Result<Vec<u8>, Fault> {
     let alloc = rt.alloc();
-    let bytes = match settings.faces {
-        Some(path) => bytes_of(alloc, fs::open(rt, path).map_err(|_| Fault::Device)?)?,
-        None => bytes_of(alloc, rt.reader())?,
-    };
-    read_faces(alloc, &bytes, settings.reading)
+    match settings.faces {
+        Some(path) => bytes_of(alloc, fs::open(rt, path).map_err(|_| Fault::Device)?),
+        None => bytes_of(alloc, rt.reader()),
+    }
 }
 
 /// What is told of the faces that a command line names.
@@ -62,20 +49,16 @@ fn told<R: Env + Files + Input + AllocGlobal + Threads + Sync>(rt: &R) -> Result
     let words = words(rt)?;
     let settings = settings_of(&words)?;
     let path = settings.points.ok_or(Fault::Usage)?;
-    let pts = points_in(rt, path, settings.workers)?;
-    let faces = faces_in(rt, &settings)?;
-    if pts.is_empty() || pts.len() > POINT_LIMIT as usize {
-        return Err(Fault::Usage);
-    }
-    let judgement = judge(
+    let mut source = StdSource::new(fs::open(rt, path).map_err(|_| Fault::Device)?);
+    let text = faces_text(rt, &settings)?;
+    check_streams(
         rt,
         rt.alloc(),
-        &pts,
-        &faces,
-        settings.reading.naming,
+        &mut source,
+        &text,
+        settings.reading,
         settings.workers,
-    )?;
-    Ok(judgement)
+    )
 }
 
 /// Writes a judgement on standard output, and answers the exit status.

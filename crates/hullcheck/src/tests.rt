@@ -1,30 +1,18 @@
 //! Worked rows: faces of a cube in files, and what is told of them.
 use crate::command_line::settings_of;
-use crate::faces::{Faces, Naming, Reading, Turn, read_faces};
 use crate::fault::Fault;
-use crate::judging::judge;
+use crate::judging::check_streams;
 use qh_check::SurfaceVerdict;
+use qh_faces::{Layout, Reading, Turn};
 use qh_judge::Judgement;
-use qh_model::Point;
+use qh_model::ReadFault;
+use qh_read::MemSource;
 use std::alloc::{AllocError, Global};
 use std::test::Fail;
 use std::thread::Threads;
 
 /// The corners of a cube, and two of them once more.
-fn cube() -> [Point; 10] {
-    [
-        Point::new(0, 0, 0),
-        Point::new(0, 0, 1),
-        Point::new(0, 1, 0),
-        Point::new(0, 1, 1),
-        Point::new(1, 0, 0),
-        Point::new(1, 0, 1),
-        Point::new(1, 1, 0),
-        Point::new(1, 1, 1),
-        Point::new(0, 0, 0),
-        Point::new(1, 1, 1),
-    ]
-}
+const CUBE: &str = "3 10\n0 0 0\n0 0 1\n0 1 0\n0 1 1\n1 0 0\n1 0 1\n1 1 0\n1 1 1\n0 0 0\n1 1 1\n";
 
 /// What is told of a text of faces of the cube.
 fn told<R: Threads + Sync>(
@@ -33,24 +21,27 @@ fn told<R: Threads + Sync>(
     text: &str,
     reading: Reading,
 ) -> Result<Judgement, Fault> {
-    let faces: Faces = read_faces(alloc, text.as_bytes(), reading)?;
-    Ok(judge(rt, alloc, &cube(), &faces, reading.naming, 1)?)
+    let mut source = MemSource::new(CUBE.as_bytes());
+    check_streams(rt, alloc, &mut source, text.as_bytes(), reading, 1)
 }
 
 /// How Qhull's `i` is read.
 const INDICES: Reading = Reading {
-    naming: Naming::Indices,
+    layout: Layout::Lines,
     turn: Turn::Clockwise,
 };
 
 /// How an OFF file is read.
 const OFF: Reading = Reading {
-    naming: Naming::Vertices,
+    layout: Layout::Off,
     turn: Turn::Counterclockwise,
 };
 
 /// The faces of the cube as Qhull writes them, two corners under their second index.
 const BY_INDICES: &str = "6\n4 6 2 8 \n1 5 4 0 \n5 9 6 4 \n3 1 0 2 \n7 3 2 6 \n3 7 5 1 \n";
+
+/// The same with the number of corners before these, in the order of OFF files.
+const COUNTED: &str = "6\n4 8 2 6 4\n4 0 4 5 1\n4 4 6 9 5\n4 2 0 1 3\n4 6 2 3 7\n4 1 5 7 3\n";
 
 /// An OFF file of a tetrahedron of corners of the cube, with a comment.
 const TETRAHEDRON: &str =
@@ -59,6 +50,17 @@ const TETRAHEDRON: &str =
 #[test]
 fn faces_by_indices_are_right(rt: HostRuntime) -> Result<(), Fail> {
     let told = told(&rt, rt.alloc(), BY_INDICES, INDICES);
+    assert!(rt; matches!(told, Ok(Judgement::Told(SurfaceVerdict::Right))));
+    Ok(())
+}
+
+#[test]
+fn counted_faces_are_right(rt: HostRuntime) -> Result<(), Fail> {
+    let reading = Reading {
+        layout: Layout::Counted,
+        turn: Turn::Counterclockwise,
+    };
+    let told = told(&rt, rt.alloc(), COUNTED, reading);
     assert!(rt; matches!(told, Ok(Judgement::Told(SurfaceVerdict::Right))));
     Ok(())
 }
@@ -90,9 +92,9 @@ fn a_vertex_that_is_no_point_is_a_stranger(rt: HostRuntime) -> Result<(), Fail> 
 }
 
 #[test]
-fn a_text_that_ends_early_has_its_line_told(rt: HostRuntime) -> Result<(), Fail> {
+fn a_text_that_ends_early_is_short(rt: HostRuntime) -> Result<(), Fail> {
     let told = told(&rt, rt.alloc(), "3\n0 1 2\n", INDICES);
-    assert!(rt; matches!(told, Err(Fault::Faces(3))));
+    assert!(rt; matches!(told, Err(Fault::Faces(ReadFault::Short))));
     Ok(())
 }
 
@@ -115,7 +117,7 @@ fn options_stand_before_or_behind_files(rt: HostRuntime) -> Result<(), Fail> {
     let Ok(settings) = settings else {
         return Err(Fail::new("no settings"));
     };
-    assert!(rt; settings.workers == 64 && settings.reading.naming == Naming::Indices);
+    assert!(rt; settings.workers == 64 && settings.reading.layout == Layout::Lines);
     assert!(rt; settings.points == Some("a") && settings.faces == Some("b"));
     Ok(())
 }

@@ -78,7 +78,7 @@ word_ends p ws n (c ∷ w) =
     ∙ ap (λ (b : Bool). after (judged p ws) b (value_of (grown_by Empty (c ∷ w))) n) (sym (keyword-off (c ∷ w)))
     ∙ sym (ended_solid (judged p ws) (grown_by Empty (c ∷ w)) n (solid_by w (grown Empty c) (solid_grown Empty c)))
 
-grown_more : (w : List ℕ) (t : Token) (c : ℕ) → grown_by t (w ++ c ∷ []) ≡ grown (grown_by t w) c
+pub grown_more : (w : List ℕ) (t : Token) (c : ℕ) → grown_by t (w ++ c ∷ []) ≡ grown (grown_by t w) c
 grown_more [] t c = refl
 grown_more (b ∷ w) t c = grown_more w (grown t b) c
 

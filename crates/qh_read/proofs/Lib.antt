@@ -12,3 +12,4 @@ pub mod HoldingLaws
 pub mod FaultLaws
 pub mod OffFaultLaws
 pub mod FormLaws
+pub mod ArrivingLaws

@@ -1,5 +1,6 @@
 -- What else the contracts of public functions cite.
 pub mod Holding
+pub mod Numerals
 pub mod Progress
 pub mod ReadFaults
 pub mod Tokens

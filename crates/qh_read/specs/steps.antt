@@ -1,4 +1,5 @@
 -- What private functions speak of: nothing to believe.
+pub mod Arriving
 pub mod Building
 pub mod Numbers
 pub mod Reader

@@ -4,6 +4,7 @@
 //! [`read_points`] and [`read_off`] answer the points of a byte string, or the first fault that it has,
 //! [`read_from`] and [`read_off_from`] those of the bytes that a [`Source`] gives, and [`read_form_threads`] does
 //! that by several threads. All stand on [`Reader`], which takes the bytes in pieces and keeps none of them.
+//! [`Numerals`] gives the words of a text one by one as numbers, of which the faces of an OFF file are made.
 #![tactic(auto)]
 
 mod batch;
@@ -14,6 +15,7 @@ mod fault;
 mod filling;
 mod known_points;
 mod numbers;
+mod numerals;
 mod reader;
 mod scanner;
 mod segment;
@@ -24,6 +26,7 @@ mod token;
 mod whole;
 
 pub use fault::FeedFault;
+pub use numerals::{Numeral, Numerals};
 pub use qh_model::ReadFault;
 pub use reader::Reader;
 pub use source::{DeviceFault, MemSource, Source, StdSource};

@@ -1,17 +1,30 @@
--- What is told of the faces of a file. This project's own.
+-- What is told of the faces in a file. This project's own.
 use Rattle.std.specs.Prelude.{ℕ, List}
+use Rattle.qh_model.specs.headline.PointFile.{Reads}
 use Rattle.qh_model.specs.headline.Vector.{Vector}
+use Rattle.qh_faces.specs.declared.reading.Layout.{Layout}
+use Rattle.qh_faces.specs.declared.reading.Layout.TheVariants.{Off, Counted, Lines}
+use Rattle.qh_faces.specs.declared.reading.Reading.{Reading}
+use Rattle.qh_faces.specs.contract.FaceFiles.{ReadsFaces}
 use Rattle.qh_judge.specs.declared.judgement.Judgement.{Judgement}
 use Rattle.qh_judge.specs.contract.Judging.{IsJudgement}
-use Rattle.hullcheck.specs.declared.faces.Naming.{Naming}
-use Rattle.hullcheck.specs.declared.faces.Naming.TheVariants.{Vertices, Indices}
 
 -- the points that the numbers of a file are indices of: its vertices, or the points of the set
--- Source: Geomview OFF (a face is the list of the indices of its vertices, from 0); Qhull's option `i` (indices of points).
-abbrev pub named_points : Naming → List Vector → List Vector → List Vector
-named_points Vertices pts vertices = vertices
-named_points Indices pts vertices = pts
+-- Source: Geomview OFF (a face is the list of the indices of its vertices, from 0); Qhull's options `i` and `Fv` (indices of points).
+abbrev pub named_points : Layout → List Vector → List Vector → List Vector
+named_points Off pts vertices = vertices
+named_points Counted pts vertices = pts
+named_points Lines pts vertices = pts
 
--- it is told of some points and some faces
+-- the bytes of the first file are points, those of the second are faces, and this is told of them
+pub record IsTold (reading : Reading) (points faces : List ℕ) (j : Judgement) : Type 0 where
+  pub pts : List Vector
+  pub vertices : List Vector
+  pub polygons : List (List ℕ)
+  pub points_read : Reads points pts
+  pub faces_read : ReadsFaces reading faces vertices polygons
+  pub judged : IsJudgement pts (named_points reading.layout pts vertices) polygons j
+
+-- it is told of the bytes of some files
 abbrev pub IsToldOfSome : Judgement → Type 0
-IsToldOfSome j = (pts : List Vector) × (named : List Vector) × (faces : List (List ℕ)) × IsJudgement pts named faces j
+IsToldOfSome j = (reading : Reading) × (points : List ℕ) × (faces : List ℕ) × IsTold reading points faces j

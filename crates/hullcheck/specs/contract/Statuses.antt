@@ -1,5 +1,6 @@
 -- The exit statuses of the program. This project's own.
 use Rattle.std.specs.Prelude.{ℕ, ◌≡◌, ◌⊎◌}
+use Rattle.qh_model.specs.declared.read_fault.ReadFault.{ReadFault}
 use Rattle.qh_model.specs.declared.read_fault.ReadFault.TheVariants as read
 use Rattle.qh_check.specs.declared.flaw.SurfaceVerdict.TheVariants.{Right, OtherPolygons, NoPiece, Open, Twice}
 use Rattle.hullcheck.specs.declared.fault.Fault.{Fault}
@@ -41,23 +42,27 @@ judgement_status (Told (Open u v)) = not_right
 judgement_status (Told (Twice u v)) = not_right
 judgement_status (Stranger n) = not_right
 
--- and of what keeps the program from it
+-- where a file could not be read
+abbrev pub read_fault_status : ReadFault → ℕ
+read_fault_status read.NoHeader = no_such_text
+read_fault_status (read.BadNumber line) = no_such_text
+read_fault_status read.NotThree = no_such_text
+read_fault_status read.Count = no_such_text
+read_fault_status (read.Range line) = no_such_text
+read_fault_status (read.Long line) = no_such_text
+read_fault_status read.Short = no_such_text
+read_fault_status read.Memory = no_memory
+read_fault_status read.Device = no_device
+read_fault_status read.Big = no_such_text
+read_fault_status read.NotOff = no_such_text
+
+-- and of all that keeps the program from a verdict
 abbrev pub fault_status : Fault → ℕ
 fault_status Usage = no_command
 fault_status Memory = no_memory
 fault_status Device = no_device
-fault_status (Points read.NoHeader) = no_such_text
-fault_status (Points (read.BadNumber line)) = no_such_text
-fault_status (Points read.NotThree) = no_such_text
-fault_status (Points read.Count) = no_such_text
-fault_status (Points (read.Range line)) = no_such_text
-fault_status (Points (read.Long line)) = no_such_text
-fault_status (Points read.Short) = no_such_text
-fault_status (Points read.Memory) = no_memory
-fault_status (Points read.Device) = no_device
-fault_status (Points read.Big) = no_such_text
-fault_status (Points read.NotOff) = no_such_text
-fault_status (Faces line) = no_such_text
+fault_status (Points f) = read_fault_status f
+fault_status (Faces f) = read_fault_status f
 
 -- the status with which a run ends: that of what was told of points and faces that were read, or that of a fault
 abbrev pub IsRunStatus : ℕ → Type 0

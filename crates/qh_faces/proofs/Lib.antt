@@ -1,0 +1,3 @@
+pub mod WordLaws
+pub mod ListLaws
+pub mod FileLaws

@@ -1,0 +1,13 @@
+-- Whatever faces are to come, the first ones are those so far; and so many fewer are to come.
+use Rattle.std.proofs.Common.{ℕ, ◌≡◌, ◌-◌, ◌++◌, List, length}
+use Rattle.qh_faces.specs.contract.FaceFaults.{faces_fault}
+use Rattle.qh_faces.specs.contract.FaceWords.{AreFaces}
+use Rattle.qh_faces.proofs.list.take_faces.Given as goal
+
+abbrev pub invariant-faces : goal.invariant-faces
+invariant-faces l = record {
+  taken : (more : List (List ℕ)) → AreFaces l.reading.layout l.reading.turn l.words more
+      → AreFaces l.reading.layout l.reading.turn l.fn.words (l.faces.items ++ more);
+  count : length l.faces.items ≡ l.counter;
+  passes : faces_fault l.reading.layout l.fn.count l.fn.words ≡ faces_fault l.reading.layout (l.fn.count - l.counter) l.words;
+}

@@ -1,0 +1,4 @@
+-- What public clauses cite.
+pub mod FaceFaults
+pub mod FaceFiles
+pub mod FaceWords

@@ -1,0 +1,82 @@
+-- The words that arrive from the first byte on are those of the text.
+use Rattle.std.proofs.Common.{◌≡◌, ◌∙◌, [], ◌∷◌, ◌+◌, ◌==◌, ◌++◌, ℕ, List, Bool, true, false, cond, refl, ap, sym, arith, append_assoc, map}
+use Rattle.std.proofs.lemmas.List.{map-append}
+use Rattle.std.proofs.lemmas.Bool.Decides.{nat_tests}
+use Rattle.std.specs.Prelude.{ℤ, pos, negsuc, Option, Some, None, option_map, nat_le}
+use Rattle.qh_model.specs.declared.form.Form.TheVariants.{Off}
+use Rattle.qh_model.specs.declared.limits.TheConstants.{COORDINATE_LIMIT}
+use Rattle.qh_model.specs.headline.Words.{Word, is_blank}
+use Rattle.qh_model.specs.headline.Numbers.{number_of}
+use Rattle.qh_read.specs.contract.Numerals.{small_number, numeral_of, numerals_in}
+use Rattle.qh_read.specs.contract.Tokens.{cap}
+use Rattle.qh_read.specs.declared.numerals.Numeral.{Numeral}
+use Rattle.qh_read.specs.declared.token.Token.{Token}
+use Rattle.qh_read.specs.declared.token.Token.TheVariants.{Empty}
+use Rattle.qh_read.specs.steps.Arriving.{told_if, grown_on, arriving}
+use Rattle.qh_read.specs.steps.SmallTokens.{capped}
+use Rattle.qh_read.proofs.Lexing.{Lexed, start, ended, closed, next, lexed}
+use Rattle.qh_read.proofs.OffLexingLaws.{off_words-lexed}
+use Rattle.qh_read.proofs.HoldingLaws.{grown_more}
+use Rattle.qh_read.proofs.TokenLaws.{grown_by, value-number}
+
+-- a small number is told apart from all others
+small-capped : (o : Option ℤ) → small_number (option_map capped o) ≡ small_number o
+small-capped None = refl
+small-capped (Some (pos n)) = at (nat_le n COORDINATE_LIMIT) refl
+  where
+    at : (b : Bool) → nat_le n COORDINATE_LIMIT ≡ b → small_number (Some (pos (cap n))) ≡ cond b (Some n) None
+    at true e =
+        let same : cap n ≡ n = grind (arith, nat_tests) in
+        ap (λ k. small_number (Some (pos k))) same ∙ ap (λ (b : Bool). cond b (Some n) None) e
+    at false e =
+        let more : nat_le (cap n) COORDINATE_LIMIT ≡ false = grind (arith, nat_tests) in
+        ap (λ (b : Bool). cond b (Some (cap n)) None) more
+small-capped (Some (negsuc n)) = refl
+
+-- the token of a word under way
+abbrev under : List ℕ → Option Token
+under [] = None
+under (c ∷ w) = Some (grown_by Empty (c ∷ w))
+
+ends : (n : ℕ) (w : List ℕ) → map numeral_of (ended n w) ≡ told_if (under w) n
+ends n [] = refl
+ends n (c ∷ w) =
+    let same = small-capped (number_of (c ∷ w)) in
+    let value = value-number (c ∷ w) in
+    ap (λ (o : Option ℕ). record { number = o; line = n } ∷ []) (sym same ∙ ap small_number (sym value))
+
+closes : (ws : List Word) (n : ℕ) (w : List ℕ) → map numeral_of (ws ++ ended n w) ≡ map numeral_of ws ++ told_if (under w) n
+closes ws n w = map-append numeral_of ws (ended n w) ∙ ap (λ (t : List Numeral). map numeral_of ws ++ t) (ends n w)
+
+grows : (w : List ℕ) (c : ℕ) → under (w ++ c ∷ []) ≡ Some (grown_on (under w) c)
+grows [] c = refl
+grows (b ∷ w) c = ap Some (grown_more (b ∷ w) Empty c)
+
+-- the words that ended, and those that arrive
+abbrev shown : Lexed → List ℕ → List Numeral
+shown s cs = map numeral_of s.words ++ arriving (under s.under_way) s.comment s.line cs
+
+-- a word ends, and others arrive
+goes_on : (ws : List Word) (n : ℕ) (w : List ℕ) (more : List Numeral) → map numeral_of (ws ++ ended n w) ++ more ≡ map numeral_of ws ++ (told_if (under w) n ++ more)
+goes_on ws n w more = ap (λ (t : List Numeral). t ++ more) (closes ws n w) ∙ append_assoc (map numeral_of ws) (told_if (under w) n) more
+
+step_at : (ws : List Word) (n : ℕ) (b : Bool) (w : List ℕ) (c : ℕ) (cs : List ℕ) (line blank hash : Bool) →
+    let s : Lexed = record { words = ws; line = n; comment = b; under_way = w } in
+    shown (cond line (record { words = closed s; line = n + 1; comment = false; under_way = [] })
+    (cond b s (cond blank (record s { words = closed s; under_way = [] })
+    (cond hash (record s { words = closed s; under_way = []; comment = true }) (record s { under_way = w ++ c ∷ [] }))))) cs
+    ≡ map numeral_of ws ++ cond line (told_if (under w) n ++ arriving None false (n + 1) cs)
+    (cond b (arriving (under w) b n cs) (cond blank (told_if (under w) n ++ arriving None false n cs)
+    (cond hash (told_if (under w) n ++ arriving None true n cs) (arriving (Some (grown_on (under w) c)) false n cs))))
+step_at ws n b w c cs true blank hash = goes_on ws n w (arriving None false (n + 1) cs)
+step_at ws n true w c cs false blank hash = refl
+step_at ws n false w c cs false true hash = goes_on ws n w (arriving None false n cs)
+step_at ws n false w c cs false false true = goes_on ws n w (arriving None true n cs)
+step_at ws n false w c cs false false false = ap (λ (o : Option Token). map numeral_of ws ++ arriving o false n cs) (grows w c)
+
+whole : (bs : List ℕ) (s : Lexed) → map numeral_of (closed (lexed Off s bs)) ≡ shown s bs
+whole [] s = closes s.words s.line s.under_way
+whole (c ∷ cs) s = whole cs (next Off s c) ∙ step_at s.words s.line s.comment s.under_way c cs (c == 10) (is_blank c) (c == 35)
+
+pub arriving-all : (bs : List ℕ) → arriving None false 1 bs ≡ numerals_in bs
+arriving-all bs = sym (whole bs start) ∙ ap (map numeral_of) (off_words-lexed bs)

@@ -1,0 +1,12 @@
+-- The bytes so far are of the word.
+use Rattle.std.proofs.Common.{ℕ, ◌≡◌, false, drop}
+use Rattle.std.specs.Prelude.{Some}
+use Rattle.qh_read.specs.steps.Arriving.{arriving}
+use Rattle.qh_read.specs.steps.SmallTokens.{IsSmall}
+use Rattle.qh_read.proofs.numerals.after_word.Given as goal
+
+abbrev pub invariant-loop-i : goal.invariant-loop-i
+invariant-loop-i l = record {
+  told : (line : ℕ) → arriving (Some l.fn.begun) false line l.bytes ≡ arriving (Some l.token) false line (drop l.i l.bytes);
+  small : IsSmall l.token;
+}

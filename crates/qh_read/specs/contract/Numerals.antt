@@ -1,0 +1,27 @@
+-- The words of a text as numbers: those of an OFF file, which stand in no comment.
+-- Source: as for OFF files (Geomview OFF; a comment begins at any byte `#`), of which the faces are such numbers.
+use Rattle.std.specs.Prelude.{ℕ, ℤ, pos, negsuc, List, [], ◌∷◌, ◌≢◌, map, nat_le, if◌then◌else◌, Option, Some, None}
+use Rattle.qh_model.specs.declared.limits.TheConstants.{COORDINATE_LIMIT}
+use Rattle.qh_model.specs.headline.Words.{Word}
+use Rattle.qh_model.specs.headline.Numbers.{number_of}
+use Rattle.qh_model.specs.headline.OffFile.{off_words}
+use Rattle.qh_read.specs.declared.numerals.Numeral.{Numeral}
+
+-- a number from 0 to the limit
+abbrev pub small_number : Option ℤ → Option ℕ
+small_number None = None
+small_number (Some (pos n)) = if nat_le n COORDINATE_LIMIT then Some n else None
+small_number (Some (negsuc n)) = None
+
+-- a word as such a number, if it is one, and its line
+abbrev pub numeral_of : Word → Numeral
+numeral_of w = record { number = small_number (number_of w.text); line = w.line }
+
+-- all words of a text, in their order
+abbrev pub numerals_in : List ℕ → List Numeral
+numerals_in bytes = map numeral_of (off_words bytes)
+
+-- none of the words is left, or the next stands on another line
+abbrev pub IsElsewhere : ℕ → List Numeral → Type 0
+IsElsewhere line [] = Unit {0}
+IsElsewhere line (w ∷ ws) = w.line ≢ line
