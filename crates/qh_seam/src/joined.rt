@@ -14,7 +14,7 @@ ghost use Rattle.qh_seam.specs.contract.Parts.{KeepsCorners, IsPartOf};
 use crate::bridges::are_bridges;
 use crate::staying::Divided;
 use qh_block::{body_of_faces, sort_faces};
-use qh_check::{open_step, out_of_order};
+use qh_check::{open_step_in_threads, out_of_order};
 use qh_model::{Body, Memory, Polygon};
 use std::alloc::{AllocError, Global};
 use std::thread::Threads;
@@ -33,7 +33,11 @@ fn both(mut polygons: Vec<Polygon>, mut others: Vec<Polygon>) -> Result<Vec<Poly
 ///
 /// The caller promises that each is the polygon of a facet that stays in a part and has a clear plane, or a face of the kept
 /// ids. So they are all faces of the set (`qh_seam_laws::joined_faces_are_hull`).
-fn body_of_joined(alloc: Global, polygons: Vec<Polygon>) -> Result<Option<Body>, Memory>
+fn body_of_joined<R: Threads + Sync>(
+    rt: &R,
+    alloc: Global,
+    polygons: Vec<Polygon>,
+) -> Result<Option<Body>, Memory>
     ensures { IfOk result (λ found. IfSome found (λ b. (at : ℕ → Vector) (ids kept : List ℕ) → HasDistinctPoints at (Members ids)
         → IsDimension at (Members ids) 3 → AreKept at ids kept
         → ((q : List ℕ) → In q polygons.items → IsPartFace at ids kept q ⊎ IsFace at (Members kept) q) → IsBody at (Members ids) b)) }
@@ -44,7 +48,7 @@ fn body_of_joined(alloc: Global, polygons: Vec<Polygon>) -> Result<Option<Body>,
     if let Some(_) = out_of_order(&polygons) {
         return Ok(None);
     }
-    let open = open_step(alloc, &polygons)?;
+    let open = open_step_in_threads(rt, alloc, &polygons)?;
     if let Some(_) = open {
         return Ok(None);
     }
@@ -82,7 +86,7 @@ pub fn join_faces<R: Threads + Sync>(
     }
     let all = both(given, bridges)?;
     let sorted = sort_faces(alloc, all)?;
-    let Some(body) = body_of_joined(alloc, sorted)? else {
+    let Some(body) = body_of_joined(rt, alloc, sorted)? else {
         return Ok(None);
     };
     Ok(Some(body))
