@@ -32,7 +32,7 @@ mod verdict;
 
 pub use asked_faces::are_faces;
 pub use claims::{check, check_by_workers};
-pub use closed::{Step, open_step};
+pub use closed::{Step, open_step, open_step_in_threads};
 pub use extent::Extent;
 pub use flaw::SurfaceVerdict;
 pub use order::out_of_order;

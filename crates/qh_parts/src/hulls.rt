@@ -11,7 +11,7 @@ ghost use Rattle.qh_seam.specs.contract.Parts.{ids_in, KeepsCorners, IsPartOf};
 
 use crate::given::{given_in_threads, outlines_in_threads};
 use crate::pieces::{Pieces, are_indices, parts_in_threads};
-use qh_block::hull;
+use qh_block::{TELLING, are_few, extremes, hull};
 use qh_guess::{along_curve, bridge, is_worth, shared_ids};
 use qh_model::{Body, Id, Memory, Point};
 use qh_seam::{Divided, join_faces, kept_ids};
@@ -23,6 +23,18 @@ const LARGE: usize = 50_000;
 
 /// The least number of parts. So many have about the shortest seams, however few threads there are.
 const PARTS: usize = 8;
+
+/// Whether few ids seem to be extreme, by the first ones. A hull of one thread drops the others soon.
+fn few_stand_out(alloc: Global, pts: &[Point], ids: &[Id]) -> Result<bool, Memory>
+    requires { AreIndices pts.now ids.now }
+{
+    if ids.len() <= TELLING {
+        return Ok(false);
+    }
+    let (sample, _) = ids.split_at(TELLING);
+    let found = extremes(alloc, pts, sample)?;
+    Ok(are_few(found.len(), TELLING))
+}
 
 /// The hull of kept ids, if there are any.
 fn hull_of_kept(alloc: Global, pts: &[Point], kept: &[Id]) -> Result<Option<Body>, Memory>
@@ -122,7 +134,8 @@ fn hull_by_parts<R: Threads + Sync>(
     Ok(Some(body))
 }
 
-/// The hull of a set, as [`hull`](qh_block::hull) gives it, by a number of threads where the set is large: of parts of it, joined.
+/// The hull of a set, as [`hull`](qh_block::hull) gives it, by a number of threads where the set is large and most of its first ids are
+/// extreme among these: of parts of it, joined.
 ///
 /// `ids` has at least one id, each the index of one of the points. That the ids rise and have distinct
 /// points (`IsIdSet`) is the caller's condition.
@@ -142,6 +155,9 @@ pub fn hull_in_parts<R: Threads + Sync>(
     ensures { IfOk result (λ b. IsIdSet pts.now ids.now → IsBody (place pts.now) (Members ids.now) b) }
 {
     if workers < 2 || ids.len() < LARGE {
+        return hull(alloc, pts, ids);
+    }
+    if few_stand_out(alloc, pts, ids)? {
         return hull(alloc, pts, ids);
     }
     match hull_by_parts(rt, alloc, pts, ids, workers)? {

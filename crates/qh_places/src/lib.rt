@@ -16,5 +16,5 @@ mod places;
 mod slabs;
 mod stretched;
 
-pub use outward::first_rank;
+pub use outward::{Outward, first_rank};
 pub use places::{Near, Places};

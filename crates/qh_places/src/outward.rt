@@ -12,9 +12,9 @@ pub(crate) struct Corners {
     pub c: Point,
 }
 
-/// The sum of the normals of the polygons that begin at a point.
+/// The sum of the normals of polygons: a guess of which way is out where they meet.
 #[derive(Clone, Copy, Drop)]
-pub(crate) struct Outward {
+pub struct Outward {
     x: i64,
     y: i64,
     z: i64,
@@ -50,16 +50,21 @@ pub(crate) fn corners_at(pts: &[Point], polygons: &[Polygon], position: usize) -
 }
 
 impl Outward {
-    /// The way out where no polygon begins: none.
-    const NONE: Outward = Outward { x: 0, y: 0, z: 0 };
+    /// The way out where there is no polygon: none.
+    pub const NONE: Outward = Outward { x: 0, y: 0, z: 0 };
 
     /// The sum with another.
-    fn plus(self, other: Outward) -> Outward {
+    pub fn plus(self, other: Outward) -> Outward {
         Outward {
             x: self.x.wrapping_add(other.x),
             y: self.y.wrapping_add(other.y),
             z: self.z.wrapping_add(other.z),
         }
+    }
+
+    /// The normal of a triangle, counterclockwise seen from outside.
+    pub fn of_triangle(a: Point, b: Point, c: Point) -> Outward {
+        Outward::of(&Corners { a, b, c })
     }
 
     /// The normal of three corners.
@@ -106,28 +111,6 @@ pub(crate) fn outward_of(
                 *sum = sum.plus(Outward::of(&corners));
             }
         }
-    }
-    Ok(outward)
-}
-
-/// For each rank the way out there, by triangles, of which the corners are listed three by three; a triangle counts for its first
-/// corner.
-pub(crate) fn outward_of_triangles(
-    alloc: Global,
-    pts: &[Point],
-    corners: &[Id],
-    ranks: &[usize],
-    count: usize,
-) -> Result<Vec<Outward>, AllocError> {
-    let mut outward = vec![in alloc; Outward::NONE; count]?;
-    let mut rest = corners;
-    while let [i, j, k, others @ ..] = rest {
-        if let Some(found) = Corners::at(pts, *i, *j, *k) {
-            if let Some(sum) = outward.get_mut(*ranks.get(i.index()).unwrap_or(&0)) {
-                *sum = sum.plus(Outward::of(&found));
-            }
-        }
-        rest = others;
     }
     Ok(outward)
 }

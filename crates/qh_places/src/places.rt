@@ -11,7 +11,7 @@ ghost use Rattle.qh_places.specs.steps.Levels.{IsLevel, AreBelowAll, HasLooked, 
 
 use crate::bundles::Bundle;
 use crate::levels::{Level, below_all, levels_over};
-use crate::outward::{outward_of, outward_of_triangles, ranks_of};
+use crate::outward::{Outward, outward_of, ranks_of};
 use crate::stretched::stretched;
 use qh_model::{Id, Memory, Point, Polygon};
 use qh_pred::{Plane, point_at};
@@ -112,8 +112,8 @@ impl Places {
         })
     }
 
-    /// The ids in their order, with their points and blocks of these. Which way is out is guessed from triangles, which
-    /// may be any; `corners` lists their corners, three by three.
+    /// The ids in their order, with their points and blocks of these, but without `ranks`. `outward` has a guess for each id of
+    /// which way is out.
     ///
     /// Each of `ids` is the index of one of the points. Near ids best stand near each other.
     ///
@@ -124,38 +124,22 @@ impl Places {
         alloc: Global,
         pts: &[Point],
         ids: &[Id],
-        corners: &[Id],
+        outward: &[Outward],
     ) -> Result<Places, AllocError>
         requires { AreIndices pts.now ids.now }
         ensures { IfOk result (ArePlaces pts.now ids.now) }
     {
         let ids = Vec::from_slice(alloc, ids)?;
         let points = points_of(alloc, pts, &ids)?;
-        let ranks = ranks_of(alloc, pts.len(), &ids)?;
-        let outward = outward_of_triangles(alloc, pts, corners, &ranks, ids.len())?;
-        let levels = levels_over(alloc, &points, &outward)?;
-        let leaves = Level::over(alloc, &points, &outward, LEAF_SHIFT)?;
+        let levels = levels_over(alloc, &points, outward)?;
+        let leaves = Level::over(alloc, &points, outward, LEAF_SHIFT)?;
         Ok(Places {
             ids,
             points,
-            ranks,
+            ranks: Vec::new(alloc),
             levels,
             leaves,
         })
-    }
-
-    /// The same without `ranks`, which may take more room than all else where the ids are few of many points.
-    pub fn without_ranks(self, alloc: Global) -> Places
-        ensures ids { result.ids ≡ self.ids }
-        ensures points { result.points ≡ self.points }
-    {
-        Places {
-            ids: self.ids,
-            points: self.points,
-            ranks: Vec::new(alloc),
-            levels: self.levels,
-            leaves: self.leaves,
-        }
     }
 
     /// Lists the ids of the points from a position to another that lie in a plane, if none of these points lies
@@ -248,6 +232,22 @@ impl Places {
         self.near(alloc, Bundle::of(pts, polygons, positions))
     }
 
+    /// The positions that some planes have to look at, which best slant alike, and best pass near a point.
+    ///
+    /// # Errors
+    ///
+    /// `AllocError` where an allocation failed.
+    pub fn near_planes(
+        &self,
+        alloc: Global,
+        origin: Point,
+        planes: &[Plane],
+    ) -> Result<Near, AllocError>
+        ensures { IfOk result (IsNear self.now.points.items) }
+    {
+        self.near(alloc, Bundle::of_planes(origin, planes))
+    }
+
     /// Lists in `found` the ids whose points lie in a plane, if no point lies above the plane; else answers the id
     /// of one that does. A plane for which `near` was made looks at the positions there alone, any other plane at all.
     ///
@@ -291,7 +291,7 @@ impl Places {
         ensures { IfOk result (λ below. IsTrue below → (pts : List Vector) (ids : List ℕ) → ArePlaces pts ids self.now
             → (plane : PlaneValue) → In plane planes.now → (l : ℕ) → In l ids → height plane (place pts l) <ℤ pos 0) }
     {
-        let near = self.near(alloc, Bundle::of_planes(origin, planes))?;
+        let near = self.near_planes(alloc, origin, planes)?;
         let mut found = Vec::new(alloc);
         for plane in planes {
             let above = self.on_plane(plane, &near, &mut found)?;

@@ -10,3 +10,6 @@ pub mod PartCorners
 pub mod JoinedLists
 pub mod StayingParts
 pub mod LeftIds
+pub mod OnceListed
+pub mod LevelPlanes
+pub mod BridgeLevels

@@ -11,48 +11,13 @@ ghost use Rattle.qh_model.specs.headline.Vector.{Vector};
 ghost use Rattle.qh_seam_laws.specs.contract.Parts.{AreKept, IsPartFace};
 ghost use Rattle.qh_seam.specs.contract.Parts.{KeepsCorners, IsPartOf};
 
-use crate::kept::corners_of_parts;
+use crate::bridges::are_bridges;
 use crate::staying::Divided;
 use qh_block::{body_of_faces, sort_faces};
-use qh_check::{are_faces, open_step, out_of_order};
-use qh_model::{Body, Id, Memory, Polygon};
-use qh_places::Places;
+use qh_check::{open_step_in_threads, out_of_order};
+use qh_model::{Body, Memory, Polygon};
 use std::alloc::{AllocError, Global};
 use std::thread::Threads;
-
-/// The first three corners of each polygon, one after the other.
-fn first_corners(alloc: Global, polygons: &[Polygon]) -> Result<Vec<Id>, AllocError> {
-    let mut corners = Vec::new(alloc);
-    for polygon in polygons {
-        if let [i, j, k, ..] = polygon.ids() {
-            corners.push(*i)?;
-            corners.push(*j)?;
-            corners.push(*k)?;
-        }
-    }
-    Ok(corners)
-}
-
-/// Returns true if each of some polygons is a face of what is kept of a set, by a number of threads.
-fn are_bridges<R: Threads + Sync>(
-    rt: &R,
-    alloc: Global,
-    set: Divided,
-    bridges: &[Polygon],
-    workers: usize,
-) -> Result<bool, Memory>
-    requires parts { All (IsPartOf set.pts.now set.shared.now) set.parts.now }
-    requires shared { AreIndices set.pts.now set.shared.now }
-    ensures { IfOk result (λ all. IsTrue all → (kept : List ℕ) → KeepsCorners set.entry.parts.now set.entry.shared.now kept
-        → HasDistinctPoints (place set.entry.pts.now) (Members kept)
-        → (q : List ℕ) → In q bridges.now → IsFace (place set.entry.pts.now) (Members kept) q) }
-{
-    let mut kept = corners_of_parts(alloc, set.parts)?;
-    kept.extend_from_slice(set.shared)?;
-    let corners = first_corners(alloc, bridges)?;
-    let places = Places::in_order(alloc, set.pts, &kept, &corners)?;
-    are_faces(rt, alloc, set.pts, &places, bridges, workers)
-}
 
 /// The polygons of two lists.
 fn both(mut polygons: Vec<Polygon>, mut others: Vec<Polygon>) -> Result<Vec<Polygon>, AllocError>
@@ -68,7 +33,11 @@ fn both(mut polygons: Vec<Polygon>, mut others: Vec<Polygon>) -> Result<Vec<Poly
 ///
 /// The caller promises that each is the polygon of a facet that stays in a part and has a clear plane, or a face of the kept
 /// ids. So they are all faces of the set (`qh_seam_laws::joined_faces_are_hull`).
-fn body_of_joined(alloc: Global, polygons: Vec<Polygon>) -> Result<Option<Body>, Memory>
+fn body_of_joined<R: Threads + Sync>(
+    rt: &R,
+    alloc: Global,
+    polygons: Vec<Polygon>,
+) -> Result<Option<Body>, Memory>
     ensures { IfOk result (λ found. IfSome found (λ b. (at : ℕ → Vector) (ids kept : List ℕ) → HasDistinctPoints at (Members ids)
         → IsDimension at (Members ids) 3 → AreKept at ids kept
         → ((q : List ℕ) → In q polygons.items → IsPartFace at ids kept q ⊎ IsFace at (Members kept) q) → IsBody at (Members ids) b)) }
@@ -79,7 +48,7 @@ fn body_of_joined(alloc: Global, polygons: Vec<Polygon>) -> Result<Option<Body>,
     if let Some(_) = out_of_order(&polygons) {
         return Ok(None);
     }
-    let open = open_step(alloc, &polygons)?;
+    let open = open_step_in_threads(rt, alloc, &polygons)?;
     if let Some(_) = open {
         return Ok(None);
     }
@@ -117,7 +86,7 @@ pub fn join_faces<R: Threads + Sync>(
     }
     let all = both(given, bridges)?;
     let sorted = sort_faces(alloc, all)?;
-    let Some(body) = body_of_joined(alloc, sorted)? else {
+    let Some(body) = body_of_joined(rt, alloc, sorted)? else {
         return Ok(None);
     };
     Ok(Some(body))

@@ -25,7 +25,7 @@ fn ids_of_parts(alloc: Global, parts: &[Part]) -> Result<Vec<Id>, AllocError>
 }
 
 /// The corners of all parts, part by part.
-pub(crate) fn corners_of_parts(alloc: Global, parts: &[Part]) -> Result<Vec<Id>, AllocError>
+fn corners_of_parts(alloc: Global, parts: &[Part]) -> Result<Vec<Id>, AllocError>
     ensures { IfOk result (λ v. v.items ≡ flat_map own_in parts.now) }
 {
     let mut ids = Vec::new(alloc);
@@ -36,7 +36,7 @@ pub(crate) fn corners_of_parts(alloc: Global, parts: &[Part]) -> Result<Vec<Id>,
 }
 
 /// Returns true if two lists of ids are the same.
-fn are_same(ids: &[Id], others: &[Id]) -> bool
+pub(crate) fn are_same(ids: &[Id], others: &[Id]) -> bool
     ensures { IsTrue result → ids.now ≡ others.now }
 {
     ids == others

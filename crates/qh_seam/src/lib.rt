@@ -13,10 +13,12 @@
 //! Such polygons and others that are faces of what is kept of all parts, and close up, are the hull (`joined`).
 #![tactic(auto)]
 
+mod bridges;
 mod chunks;
 mod joined;
 mod kept;
 mod marked;
+mod near_parts;
 mod parts;
 mod rings;
 mod seams;

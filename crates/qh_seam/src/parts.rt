@@ -1,5 +1,5 @@
 //! Parts of a set: the finished mesh of some of its ids, and the corners of the mesh.
-ghost use Rattle.std.specs.Prelude.{All, ◌≡◌, ◌<◌, ◌⊎◌, ◌↔◌, ℕ, IfOk, IfSome, IsTrue, length, true};
+ghost use Rattle.std.specs.Prelude.{All, ◌≡◌, ◌<◌, ◌⊎◌, ◌↔◌, ℕ, IfOk, IfSome, IsTrue, List, length, true};
 ghost use Rattle.qh_model.specs.headline.Predicates.{place};
 ghost use Rattle.qh_model.specs.headline.Sets.{In, Once};
 ghost use Rattle.qh_model.specs.contract.IdSets.{AreIndices};
@@ -8,13 +8,17 @@ ghost use Rattle.qh_model.specs.contract.StoredSurface.{surface_of};
 ghost use Rattle.qh_model.specs.laws.CompletenessLaws.{IsLiveCorner};
 ghost use Rattle.qh_surface.specs.contract.Corners.{AreCornersBelow};
 ghost use Rattle.qh_surface.specs.contract.NamedMeshes.{named, IsNamedMesh};
+ghost use Rattle.qh_surface.specs.contract.Simplexes.{IsSimplexOf};
 ghost use Rattle.qh_surface.specs.contract.Walks.{mark_at};
+ghost use Rattle.std.specs.List.Sorted.{IsStrictlyIncreasing};
 ghost use Rattle.qh_seam.specs.contract.Parts.{IsPartOf};
 
+use qh_mesh::FacetNo;
 use qh_model::{Id, Memory, Point};
-use qh_places::Places;
-use qh_plane::{Shape, rank, rising_ids};
-use qh_surface::{NamedMesh, Simplex, surface_from};
+use qh_places::{Outward, Places};
+use qh_plane::rising_ids;
+use qh_pred::{point_at, vol};
+use qh_surface::{NamedMesh, Simplex, surface_along};
 use std::alloc::{AllocError, Global};
 
 /// A part of a set: its ids, rising, their finished mesh, and the corners of the mesh that are no shared ids, in the order
@@ -27,18 +31,96 @@ pub struct Part {
     pub places: Places,
 }
 
-/// The finished mesh of ids, if their points do not lie in one plane.
-fn mesh_of(alloc: Global, pts: &[Point], ids: &[Id]) -> Result<Option<NamedMesh>, Memory>
-    requires some { 0 < length ids.now }
-    requires indices { AreIndices pts.now ids.now }
-    ensures named { IfOk result (λ found. IfSome found (IsNamedMesh pts.now)) }
-    ensures finished { IfOk result (λ found. IfSome found
-        (λ m. Once ids.now → IsFinished (place pts.now) ids.now (surface_of (named m)))) }
+/// The first four of the shared ids, if their points do not lie in one plane.
+fn simplex_of(pts: &[Point], shared: &[Id]) -> Option<Simplex>
+    requires { AreIndices pts.now shared.now }
+    ensures { IfSome result (λ s. (ids : List ℕ) → ((l : ℕ) → In l shared.now → In l ids) → IsSimplexOf pts.now ids s) }
 {
-    let Shape::Solid(i, j, k, l) = rank(pts, ids) else {
-        return Ok(None);
+    let [i, j, k, l, ..] = shared else {
+        return None;
     };
-    Ok(Some(surface_from(alloc, pts, ids, Simplex { i, j, k, l })?))
+    let (a, b) = (point_at(pts, *i), point_at(pts, *j));
+    let (c, d) = (point_at(pts, *k), point_at(pts, *l));
+    if vol(a, b, c, d) == 0 {
+        return None;
+    }
+    Some(Simplex {
+        i: *i,
+        j: *j,
+        k: *k,
+        l: *l,
+    })
+}
+
+/// The listed ids in their order, then the shared ones, each once; where another is listed twice, they rise instead. `rising` has
+/// the same ids.
+fn each_once(
+    alloc: Global,
+    listed: &[Id],
+    shared: &[Id],
+    rising: &[Id],
+) -> Result<Vec<Id>, AllocError>
+    requires rising { IsStrictlyIncreasing rising.now }
+    requires same { (l : ℕ) → In l rising.now ↔ In l listed.now }
+    requires shared { (l : ℕ) → In l shared.now → In l rising.now }
+    ensures once { IfOk result (λ v. Once v.items) }
+    ensures same { IfOk result (λ v. (l : ℕ) → In l v.items ↔ In l rising.now) }
+{
+    let mut ids = without(alloc, listed, shared)?;
+    ids.extend_from_slice(shared)?;
+    if ids.len() > rising.len() {
+        return Vec::from_slice(alloc, rising);
+    }
+    Ok(ids)
+}
+
+/// The ids of a list that are not in another, in their order.
+fn without(alloc: Global, ids: &[Id], others: &[Id]) -> Result<Vec<Id>, AllocError>
+    ensures all { IfOk result (λ v. (l : ℕ) → In l ids.now → In l v.items ⊎ In l others.now) }
+    ensures only { IfOk result (λ v. (l : ℕ) → In l v.items → In l ids.now) }
+{
+    let mut left = Vec::new(alloc);
+    for id in ids {
+        if !has(others, *id) {
+            left.push(*id)?;
+        }
+    }
+    Ok(left)
+}
+
+/// For each position of a mesh the way out there, by the facets that begin at it. No answer depends on it.
+fn ways_out(alloc: Global, surface: &NamedMesh) -> Result<Vec<Outward>, AllocError> {
+    let points = &surface.points;
+    let mut ways = vec![in alloc; Outward::NONE; points.len()]?;
+    for place in 0..surface.mesh.places() {
+        let f = FacetNo::new(place);
+        if surface.mesh.is_live(f) {
+            let [i, j, k] = surface.mesh.facet(f);
+            let corners = (
+                points.get(i.index()),
+                points.get(j.index()),
+                points.get(k.index()),
+            );
+            if let (Some(a), Some(b), Some(c)) = corners {
+                if let Some(way) = ways.get_mut(i.index()) {
+                    *way = way.plus(Outward::of_triangle(*a, *b, *c));
+                }
+            }
+        }
+    }
+    Ok(ways)
+}
+
+/// The ways out at those ids of a mesh that stand in a list, in the same order. No answer depends on it.
+fn outward_of(alloc: Global, surface: &NamedMesh, own: &[Id]) -> Result<Vec<Outward>, AllocError> {
+    let ways = ways_out(alloc, surface)?;
+    let mut outward = Vec::with_capacity(alloc, own.len())?;
+    for position in 0..surface.ids.len().min(ways.len()) {
+        if own.get(outward.len()) == Some(&surface.ids[position]) {
+            outward.push(ways[position])?;
+        }
+    }
+    Ok(outward)
 }
 
 /// The ids of the corners of the live facets, as they come.
@@ -115,8 +197,8 @@ fn marked_without(
 }
 
 impl Part {
-    /// The part of listed ids, if their points do not lie in one plane and the shared ids, those of every part, are among them.
-    /// The ids may stand in any order, and more than once.
+    /// The part of listed ids, if the shared ids, those of every part, are among them, and the points of the first four of these do
+    /// not lie in one plane. The ids may stand in any order, and more than once; near ones best stand near each other.
     ///
     /// # Errors
     ///
@@ -135,14 +217,16 @@ impl Part {
         if ids.len() == 0 || !are_in(shared, &ids) {
             return Ok(None);
         }
-        let Some(surface) = mesh_of(alloc, pts, &ids)? else {
+        let Some(first) = simplex_of(pts, shared) else {
             return Ok(None);
         };
+        let order = each_once(alloc, listed, shared, &ids)?;
+        let surface = surface_along(alloc, pts, order, first)?;
         let corners = corners_of(alloc, &surface)?;
         let marks = marks_of(alloc, pts.len(), &corners)?;
         let own = marked_without(alloc, listed, &marks, shared)?;
-        let ranked = Places::in_order(alloc, pts, &own, &corners)?;
-        let places = ranked.without_ranks(alloc);
+        let outward = outward_of(alloc, &surface, &own)?;
+        let places = Places::in_order(alloc, pts, &own, &outward)?;
         Ok(Some(Part {
             ids,
             surface,

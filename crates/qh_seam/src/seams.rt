@@ -2,7 +2,6 @@
 ghost use Rattle.std.specs.Prelude.{◌<◌, ℕ, List, length, IfOk, IsTrue};
 ghost use Rattle.qh_model.specs.headline.Predicates.{place};
 ghost use Rattle.qh_model.specs.headline.Sets.{In};
-ghost use Rattle.qh_model.specs.contract.IdSets.{AreIndices};
 ghost use Rattle.qh_model.specs.contract.StoredSurface.{surface_of};
 ghost use Rattle.qh_mesh.specs.contract.Replacement.{IsLive};
 ghost use Rattle.qh_places.specs.contract.Places.{ArePlaces};
@@ -29,14 +28,13 @@ impl Marked<'_> {
         runs: &[Run],
     ) -> Result<bool, AllocError>
         requires live { (f : ℕ) → In f ring.now → IsLive self.surface.now.mesh f }
-        requires indices { AreIndices self.pts.now other.now.own.items }
-        ensures answers { IfOk result (λ yes. IsTrue yes → (l : ℕ) → In l other.now.own.items
-            → IsAnswered (place self.entry.pts.now) (surface_of (named self.entry.surface.now))
+        ensures answers { IfOk result (λ yes. IsTrue yes → (ids : List ℕ) → ArePlaces self.entry.pts.now ids other.now.places
+            → (l : ℕ) → In l ids → IsAnswered (place self.entry.pts.now) (surface_of (named self.entry.surface.now))
             (mark_at self.entry.stay.now) four.now (place self.entry.pts.now l)) }
         ensures ring { IfOk result (λ yes. IsTrue yes → (ids : List ℕ) → ArePlaces self.entry.pts.now ids other.now.places
             → (f : ℕ) → In f ring.now → AreUnder (place self.entry.pts.now) (surface_of (named self.entry.surface.now)) f ids) }
     {
-        if !are_answered(self, four, runs, &other.own) {
+        if !are_answered(self, four, runs, &other.places.points) {
             return Ok(false);
         }
         self.are_over(alloc, ring, &other.places)

@@ -3,7 +3,6 @@ ghost use Rattle.std.specs.Prelude.{◌≡◌, ◌<◌, ◌⊎◌, ℕ, length, 
 ghost use Rattle.qh_model.specs.headline.Vector.{Vector};
 ghost use Rattle.qh_model.specs.headline.Predicates.{place, vol};
 ghost use Rattle.qh_model.specs.headline.Sets.{In};
-ghost use Rattle.qh_model.specs.contract.IdSets.{AreIndices};
 ghost use Rattle.qh_model.specs.contract.StoredSurface.{surface_of};
 ghost use Rattle.qh_surface.specs.contract.NamedMeshes.{named};
 ghost use Rattle.qh_surface.specs.contract.Walks.{mark_at};
@@ -14,10 +13,10 @@ ghost use Rattle.qh_seam.specs.steps.Witnesses.{IsAnswered};
 use crate::marked::Marked;
 use crate::triangles::{Four, Triangle};
 use qh_mesh::FacetNo;
-use qh_model::{Id, Point};
-use qh_pred::{Plane, point_at};
+use qh_model::Point;
+use qh_pred::Plane;
 
-/// A facet that is the witness for the next `count` ids of a list.
+/// A facet that is the witness for the next `count` points of a list.
 #[derive(Clone, Copy, Drop)]
 pub struct Run {
     pub facet: FacetNo,
@@ -47,11 +46,10 @@ impl Witness<'_> {
     }
 }
 
-/// Returns true if a facet is a witness for each of the ids.
-fn is_witness(part: Marked, four: &Four, f: FacetNo, ids: &[Id]) -> bool
-    requires { AreIndices part.pts.now ids.now }
-    ensures { IsTrue result → (l : ℕ) → In l ids.now → IsAnswered (place part.entry.pts.now)
-        (surface_of (named part.entry.surface.now)) (mark_at part.entry.stay.now) four.now (place part.entry.pts.now l) }
+/// Returns true if a facet is a witness for each of the points.
+fn is_witness(part: Marked, four: &Four, f: FacetNo, points: &[Point]) -> bool
+    ensures { IsTrue result → (p : Vector) → In p points.now → IsAnswered (place part.entry.pts.now)
+        (surface_of (named part.entry.surface.now)) (mark_at part.entry.stay.now) four.now p }
 {
     if f.index() >= part.surface.mesh.places() || !part.surface.mesh.is_live(f) {
         return false;
@@ -64,21 +62,20 @@ fn is_witness(part: Marked, four: &Four, f: FacetNo, ids: &[Id]) -> bool
         stays: part.stay[f.index()],
         four,
     };
-    for id in ids {
-        if !witness.settles(point_at(part.pts, *id)) {
+    for point in points {
+        if !witness.settles(*point) {
             return false;
         }
     }
     true
 }
 
-/// Returns true if each of the ids has a witness, by runs of them in the order of the ids.
-pub(crate) fn are_answered(part: Marked, four: &Four, runs: &[Run], ids: &[Id]) -> bool
-    requires { AreIndices part.pts.now ids.now }
-    ensures { IsTrue result → (l : ℕ) → In l ids.now → IsAnswered (place part.entry.pts.now)
-        (surface_of (named part.entry.surface.now)) (mark_at part.entry.stay.now) four.now (place part.entry.pts.now l) }
+/// Returns true if each of the points has a witness, by runs of them in the order of the points.
+pub(crate) fn are_answered(part: Marked, four: &Four, runs: &[Run], points: &[Point]) -> bool
+    ensures { IsTrue result → (p : Vector) → In p points.now → IsAnswered (place part.entry.pts.now)
+        (surface_of (named part.entry.surface.now)) (mark_at part.entry.stay.now) four.now p }
 {
-    let mut rest = ids;
+    let mut rest = points;
     for run in runs {
         let (own, others) = rest.split_at(run.count.min(rest.len()));
         if !is_witness(part, four, run.facet, own) {

@@ -11,4 +11,6 @@ mod quickhull;
 pub mod walk;
 
 pub use named_mesh::NamedMesh;
-pub use quickhull::{Simplex, ends_of, morton_order, plane_of, points_of, surface, surface_from};
+pub use quickhull::{
+    Simplex, ends_of, morton_order, plane_of, points_of, surface, surface_along, surface_from,
+};

@@ -34,4 +34,4 @@ pub use ends::ends_of;
 pub use far_simplex::Simplex;
 pub use near_order::morton_order;
 pub use planes::plane_of;
-pub use surfaces::{points_of, surface, surface_from};
+pub use surfaces::{points_of, surface, surface_along, surface_from};

@@ -51,13 +51,14 @@ impl Sides {
     }
 }
 
-/// A hull that open edges are led to, with marks of its polygons that are taken.
+/// A hull that open edges are led to, with marks of its polygons that are taken, and their positions in the order in which they were.
 #[derive(Drop)]
 struct Flood<'a> {
     polygons: &'a [Polygon],
     sides: Sides,
     open: &'a [u64],
     taken: Vec<bool>,
+    order: Vec<usize>,
     /// Edges that a polygon has to take.
     wanted: Vec<u64>,
 }
@@ -72,6 +73,7 @@ impl Flood<'_> {
             return Ok(());
         }
         *taken = true;
+        self.order.push(position)?;
         let Some(polygon) = self.polygons.get(position) else {
             return Ok(());
         };
@@ -103,12 +105,13 @@ impl Flood<'_> {
     }
 }
 
-/// For each of some polygons whether the open edges lead to it; none where they lead to an edge that no polygon has.
+/// The positions of the polygons that the open edges lead to, mostly neighbours one after the other; none where they lead to an edge
+/// that no polygon has.
 fn reached(
     alloc: Global,
     polygons: &[Polygon],
     open: &[u64],
-) -> Result<Option<Vec<bool>>, AllocError> {
+) -> Result<Option<Vec<usize>>, AllocError> {
     let mut wanted = Vec::with_capacity(alloc, open.len())?;
     for edge in open {
         wanted.push(reverse(*edge))?;
@@ -118,10 +121,11 @@ fn reached(
         sides: Sides::of(alloc, polygons)?,
         open,
         taken: vec![in alloc; false; polygons.len()]?,
+        order: Vec::new(alloc),
         wanted,
     };
     let is_closed = flood.run(alloc)?;
-    Ok(if is_closed { Some(flood.taken) } else { None })
+    Ok(if is_closed { Some(flood.order) } else { None })
 }
 
 /// The ids of a list that are indices of points.
@@ -137,23 +141,23 @@ fn indices_among(alloc: Global, pts: &[Point], ids: &[Id]) -> Result<Vec<Id>, Al
     Ok(indices)
 }
 
-/// The polygons that are marked.
-fn marked(
+/// Copies of the polygons at positions, in the order of these.
+fn polygons_at(
     alloc: Global,
-    polygons: Vec<Polygon>,
-    marks: &[bool],
+    polygons: &[Polygon],
+    order: &[usize],
 ) -> Result<Vec<Polygon>, AllocError> {
-    let mut left = Vec::new(alloc);
-    for (position, polygon) in polygons.into_iter().enumerate() {
-        if marks.get(position).copied().unwrap_or(false) {
-            left.push(polygon)?;
+    let mut copies = Vec::with_capacity(alloc, order.len())?;
+    for position in order {
+        if let Some(polygon) = polygons.get(*position) {
+            copies.push(Polygon::of(Vec::from_slice(alloc, polygon.ids())?))?;
         }
     }
-    Ok(left)
+    Ok(copies)
 }
 
 /// The polygons that close the gap between borders, by the hull of the ids of the seam: all corners beside the gap. They
-/// begin at their least ids. None where the open edges lead to an edge that no polygon of that hull has. Where no border has a
+/// begin at their least ids, and mostly neighbours follow each other. None where the open edges lead to an edge that no polygon of that hull has. Where no border has a
 /// polygon, all polygons of that hull are taken.
 ///
 /// # Errors
@@ -175,10 +179,10 @@ pub fn bridge_over(
         return Ok(Some(polygons));
     }
     let open = open_edges(alloc, borders)?;
-    let Some(marks) = reached(alloc, &polygons, &open)? else {
+    let Some(order) = reached(alloc, &polygons, &open)? else {
         return Ok(None);
     };
-    Ok(Some(marked(alloc, polygons, &marks)?))
+    Ok(Some(polygons_at(alloc, &polygons, &order)?))
 }
 
 /// The polygons that close the gap between given ones, as [`bridge_over`] finds them.

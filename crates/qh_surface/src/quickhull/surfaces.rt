@@ -97,8 +97,13 @@ pub(super) fn run_over(
     Ok(run)
 }
 
-/// The surface of a set by a run over its ids as they come.
-fn surface_along(
+/// The surface of a set by a run over its ids as they come, from a first simplex, as [`surface_from`] makes it. Near ids best stand
+/// near each other.
+///
+/// # Errors
+///
+/// `Memory` where memory was refused.
+pub fn surface_along(
     alloc: Global,
     pts: &[Point],
     ids: Vec<Id>,

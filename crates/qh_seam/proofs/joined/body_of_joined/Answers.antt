@@ -5,7 +5,7 @@ use Rattle.qh_seam.proofs.JoinedLists.{are_joined}
 use Rattle.qh_seam.proofs.joined.body_of_joined.Goals as goal
 
 pub returns : goal.returns
-returns c = λ at ids kept distinct solid keeps each.
+returns g c = λ at ids kept distinct solid keeps each.
     let rising = rw c.deref.ensures.value at c.in_default.ensures in
     let closed = rw c.deref-2.ensures.value at (rw c.in_default-open.is at c.in_ok-open.ensures) in
     let some = λ (e : length c.args.polygons.items ≡ 0). absurd (omega (arith, e, c.len.ensures)) in

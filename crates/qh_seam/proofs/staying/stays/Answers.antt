@@ -8,7 +8,7 @@ use Rattle.qh_seam.specs.declared.parts.Part.{Part}
 use Rattle.qh_seam.specs.contract.Parts.{own_in}
 use Rattle.qh_seam.specs.steps.{Apart.IsApart, Witnesses.IsRingOver}
 use Rattle.qh_seam.proofs.Answers.{apart_of}
-use Rattle.qh_seam.proofs.StayingParts.{own_indices, shared_indices, apart_at, staying_part}
+use Rattle.qh_seam.proofs.StayingParts.{shared_indices, apart_at, staying_part}
 use Rattle.qh_seam.proofs.staying.stays.Goals.{then-other-number+in_ok-apart+else-not-apart, else-other-number}
 use Rattle.qh_seam.proofs.staying.stays.Goals as goal
 
@@ -16,10 +16,7 @@ pub four_of-requires : goal.four_of-requires
 four_of-requires c = shared_indices (c.requires.parts c.args.number c.index-set-number.result c.requires.number)
 
 pub is_apart-requires : goal.is_apart-requires
-is_apart-requires c = record {
-  live = rw c.deref.ensures.value c.in_ok-ring.ensures.live;
-  indices = own_indices (c.requires.parts c.loop-other.other c.index-set-other.result (omega arith));
-}
+is_apart-requires c = record { live = rw c.deref.ensures.value c.in_ok-ring.ensures.live }
 
 pub loop-other-preserved : goal.loop-other-preserved
 loop-other-preserved c = λ j h d e. elim (cases_lt j c.loop-other.other) [
@@ -47,7 +44,7 @@ loop-other-preserved c = λ j h d e. elim (cases_lt j c.loop-other.other) [
               inr (apart_at pts parts stay c.args.number c.loop-other.other own other d e c.requires.number within
               (apart_of pts shared c.in-Some.four c.in-Some.ensures (get_or parts c.args.number own)
               (c.requires.parts c.args.number own c.requires.number) stay ids
-              (w.in_ok-apart.ensures.answers w.if-not-apart.false) ring)))
+              (w.in_ok-apart.ensures.answers w.if-not-apart.false ids held) ring)))
           | else-other-number w ↦ inl (let same = w.if-other-number.false in omega (arith, same))
         ]
 

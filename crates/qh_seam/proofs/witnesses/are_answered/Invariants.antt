@@ -1,4 +1,4 @@
--- The ids that are not left are answered.
+-- The points that are not left are answered.
 use Rattle.qh_model.specs.headline.{Predicates.place}
 use Rattle.qh_model.specs.contract.StoredSurface.{surface_of}
 use Rattle.qh_surface.specs.contract.{NamedMeshes.named, Walks.mark_at}
@@ -7,5 +7,5 @@ use Rattle.qh_seam.proofs.Runs.{AreLeft}
 use Rattle.qh_seam.proofs.witnesses.are_answered.Given as goal
 
 abbrev pub invariant-loop-run : goal.invariant-loop-run
-invariant-loop-run l = AreLeft (λ i. IsAnswered (place l.part.pts.now) (surface_of (named l.part.surface.now)) (mark_at l.part.stay.now)
-    l.four (place l.part.pts.now i)) l.ids l.rest
+invariant-loop-run l = AreLeft (IsAnswered (place l.part.pts.now) (surface_of (named l.part.surface.now)) (mark_at l.part.stay.now) l.four)
+    l.points l.rest

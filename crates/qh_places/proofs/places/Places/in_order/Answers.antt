@@ -1,5 +1,5 @@
 -- The ids are those that were given.
-use Rattle.std.proofs.Common.{◌≡◌, ◌∙◌, ap, length, map, sym, subst}
+use Rattle.std.proofs.Common.{◌∙◌, ap, length, map, sym, subst}
 use Rattle.std.proofs.lemmas.List.{length-map}
 use Rattle.qh_model.specs.headline.{Predicates.place, Sets.In}
 use Rattle.qh_places.proofs.places.Places.in_order.Goals as goal
@@ -12,8 +12,8 @@ invariant_of-result c = record {
   same =
       ap length c.in_ok-points.ensures ∙ length-map c.deref.result.now (place c.args.pts.now)
       ∙ ap length c.deref.ensures.value;
-  blocks = rw c.deref-4.ensures.value at c.in_ok-levels.ensures;
-  lowest = rw c.deref-6.ensures.value at c.in_ok-leaves.ensures;
+  blocks = rw c.deref-2.ensures.value at c.in_ok-levels.ensures;
+  lowest = rw c.deref-3.ensures.value at c.in_ok-leaves.ensures;
 }
 
 pub returns : goal.returns

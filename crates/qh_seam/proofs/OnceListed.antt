@@ -1,0 +1,58 @@
+-- A list of as many ids as it has different ones has each once.
+use Rattle.std.proofs.Common.{ℕ, ◌+◌, ◌≤◌, inl, inr, List, [], ◌∷◌, ◌++◌, length, arith, sym, subst}
+use Rattle.std.proofs.lemmas.List.{length-append}
+use Rattle.std.specs.Prelude.{◌↔◌}
+use Rattle.qh_model.specs.headline.{Vector.Vector, Sets.In, Sets.Once}
+use Rattle.qh_model.specs.contract.{FinishedSurface.IsFinished, Surface.Surface}
+use Rattle.qh_model.proofs.lists.Joined.{in_append, of_append}
+use Rattle.qh_model.proofs.lists.OnceEach.{once_within}
+
+module _ {X : Type 0} (each : List X) (once : Once each) where
+  -- where the members of `each` stand in two lists that together are no longer, the second list has each of its members once
+  behind : (before xs : List X) → ((x : X) → In x each → In x (before ++ xs)) → length before + length xs ≤ length each → Once xs
+  behind before [] all short = tt
+  behind before (x ∷ xs) all short = (again, behind (before ++ x ∷ []) xs moved (omega (arith, short, length-append before (x ∷ []))))
+    where
+      -- were x to stand twice, it could be left out
+      again : In x xs → ⊥
+      again m =
+          let most = once_within each (before ++ xs) once left_out in
+          let long = length-append before xs in
+          omega (arith, most, long, short)
+        where
+          left_out : (y : X) → In y each → In y (before ++ xs)
+          left_out y h = in_append before xs y (elim (of_append before (x ∷ xs) y (all y h)) [
+            | inl b ↦ inl b
+            | inr (inl e) ↦ inr (subst (λ z. In z xs) (sym e) m)
+            | inr (inr r) ↦ inr r
+          ])
+
+      moved : (y : X) → In y each → In y ((before ++ x ∷ []) ++ xs)
+      moved y h = in_append (before ++ x ∷ []) xs y (elim (of_append before (x ∷ xs) y (all y h)) [
+        | inl b ↦ inl (in_append before (x ∷ []) y (inl b))
+        | inr (inl e) ↦ inl (in_append before (x ∷ []) y (inr (inl e)))
+        | inr (inr r) ↦ inr r
+      ])
+
+  pub once_by_length : (xs : List X) → ((x : X) → In x each → In x xs) → length xs ≤ length each → Once xs
+  once_by_length xs all short = behind [] xs all (omega (arith, short))
+
+-- a surface is finished for the same ids in another list
+pub finished_for : (at : ℕ → Vector) (a b : List ℕ) (m : Surface) → IsFinished at a m → ((l : ℕ) → In l a ↔ In l b) → IsFinished at b m
+finished_for at a b m z same = record {
+  s = z.s;
+  t = z.t;
+  u = z.u;
+  v = z.v;
+  has_s = (same z.s).0 z.has_s;
+  has_t = (same z.t).0 z.has_t;
+  has_u = (same z.u).0 z.has_u;
+  has_v = (same z.v).0 z.has_v;
+  volume = z.volume;
+  whole = z.whole;
+  sound = z.sound;
+  some = z.some;
+  some_live = z.some_live;
+  corners = λ f i l k. (same l).0 (z.corners f i l k);
+  unseen = λ f i l k. z.unseen f i l ((same l).1 k);
+}

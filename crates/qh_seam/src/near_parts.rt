@@ -1,0 +1,12 @@
+//! Parts of which planes ask few corners.
+ghost use Rattle.qh_places.specs.contract.Near.{IsNear};
+
+use qh_places::{Near, Places};
+
+/// The own corners of a part, with the positions that some planes have to look at.
+#[derive(Drop)]
+pub(crate) struct NearPart<'a> {
+    pub places: &'a Places,
+    pub near: Near,
+    ghost found: { IsNear places.now.points.items near },
+}
