@@ -34,7 +34,7 @@ fn first_corners(alloc: Global, polygons: &[Polygon]) -> Result<Vec<Id>, AllocEr
 }
 
 /// Returns true if each of some polygons is a face of what is kept of a set, by a number of threads.
-fn are_bridges<R: Threads + Sync>(
+fn are_bridges<R: Threads>(
     rt: &R,
     alloc: Global,
     set: Divided,
@@ -95,7 +95,7 @@ fn body_of_joined(alloc: Global, polygons: Vec<Polygon>) -> Result<Option<Body>,
 /// # Errors
 ///
 /// `Memory` where an allocation failed.
-pub fn join_faces<R: Threads + Sync>(
+pub fn join_faces<R: Threads>(
     rt: &R,
     alloc: Global,
     set: Divided,

@@ -9,13 +9,13 @@ in_order-requires g c =
     (kept_indices c.args.set.pts.now c.args.set.shared.now c.args.set.parts.now c.requires.parts c.requires.shared)
 
 pub are_faces-requires-clause-indices : goal.are_faces-requires-clause-indices
-are_faces-requires-clause-indices g c = λ _ _.
+are_faces-requires-clause-indices g c =
     let held = rw (c.deref.ensures.value, c.in_ok-extend_from_slice.ensures.items, c.in_ok-kept.ensures) at c.in_ok-places.ensures in
     let ok = kept_indices c.args.set.pts.now c.args.set.shared.now c.args.set.parts.now c.requires.parts c.requires.shared in
     held_indices _ _ _ held ok
 
 pub are_faces-requires-clause-points : goal.are_faces-requires-clause-points
-are_faces-requires-clause-points g c = λ _ _. c.in_ok-places.ensures.points
+are_faces-requires-clause-points g c = c.in_ok-places.ensures.points
 
 pub returns : goal.returns
 returns g c =
