@@ -62,7 +62,14 @@ pub fn respond<R: Threads + Sync, S: Source, K: Sink>(
     match asked {
         Ok(settings) => {
             let workers = settings.workers();
-            serve(rt, alloc, source, sink, &settings, &Threaded { rt, workers })
+            serve(
+                rt,
+                alloc,
+                source,
+                sink,
+                &settings,
+                &Threaded { rt, workers },
+            )
         }
         Err(ArgFault::Help(text)) => match send(sink, text.as_bytes()) {
             Ok(()) => Ok(()),
