@@ -10,8 +10,7 @@ ghost use Rattle.qconvex.specs.declared.command_line.ArgFault.TheVariants.{Usage
 
 use crate::command_line::{ArgFault, settings_of};
 use qh_read::{ReadFault, Source, StdSource};
-use qh_run::NoGate;
-use qh_serve::{Fault, Settings, serve};
+use qh_serve::{Fault, Settings, Threaded, serve};
 use qh_write::{Sink, StdSink, send};
 use std::alloc::Global;
 use std::io::ErrorKind;
@@ -61,7 +60,17 @@ pub fn respond<R: Threads + Sync, S: Source, K: Sink>(
         IsOutcome asked old new result }
 {
     match asked {
-        Ok(settings) => serve(rt, alloc, source, sink, &settings, &NoGate),
+        Ok(settings) => {
+            let workers = settings.workers();
+            serve(
+                rt,
+                alloc,
+                source,
+                sink,
+                &settings,
+                &Threaded { rt, workers },
+            )
+        }
         Err(ArgFault::Help(text)) => match send(sink, text.as_bytes()) {
             Ok(()) => Ok(()),
             Err(_) => Err(Fault::Send),

@@ -22,7 +22,7 @@ use std::thread::Threads;
 /// # Errors
 ///
 /// `Memory` where an allocation failed.
-pub fn are_faces<R: Threads + Sync>(
+pub fn are_faces<R: Threads>(
     rt: &R,
     alloc: Global,
     pts: &[Point],

@@ -92,7 +92,7 @@ pub fn check(
 /// # Errors
 ///
 /// `Memory` where an allocation failed.
-pub fn check_by_workers<R: Threads + Sync>(
+pub fn check_by_workers<R: Threads>(
     rt: &R,
     alloc: Global,
     pts: &[Point],

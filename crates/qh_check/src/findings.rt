@@ -9,8 +9,9 @@ ghost use Rattle.qh_check.specs.steps.Findings.{IsFaceAmong, IsFound};
 use crate::faces::{NearSet, PlacedSet, fault_of};
 use crate::verdict::FaceFault;
 use qh_model::{Id, Memory, Polygon};
+use qh_threads::map_chunks;
 use std::alloc::Global;
-use std::thread::{self, Threads};
+use std::thread::Threads;
 
 /// The polygons whose planes are asked together.
 const GROUP: usize = 16;
@@ -111,7 +112,7 @@ fn first_of(answers: &[Result<Option<Finding>, Memory>]) -> Result<Option<Findin
 
 /// A polygon that is no face of the set, if there is one among those at the positions of a list, by a thread for
 /// each part of `size` positions.
-pub(crate) fn first_fault_in_parts<R: Threads + Sync>(
+pub(crate) fn first_fault_in_parts<R: Threads>(
     rt: &R,
     alloc: Global,
     set: PlacedSet,
@@ -129,6 +130,6 @@ pub(crate) fn first_fault_in_parts<R: Threads + Sync>(
             → MatchOption found (All (IsFaceAmong set.entry.extent set.entry.pts.now ids polygons.entry.now) part.now)
             (IsFound set.entry.extent set.entry.pts.now ids polygons.entry.now)) }
     { first_fault(alloc, set, polygons, part) };
-    let answers = thread::map_chunks(rt, alloc, asked.order, size, &look)?;
+    let answers = map_chunks(rt, alloc, asked.order, size, &look)?;
     first_of(&answers)
 }

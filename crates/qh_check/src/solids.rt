@@ -69,7 +69,7 @@ pub(crate) fn check_solid(
 }
 
 /// Checks polygons, one at least, of a solid set, by a number of threads.
-pub(crate) fn check_solid_by_workers<R: Threads + Sync>(
+pub(crate) fn check_solid_by_workers<R: Threads>(
     rt: &R,
     alloc: Global,
     pts: &[Point],

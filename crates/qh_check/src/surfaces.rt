@@ -55,7 +55,7 @@ fn judged(
 
 /// A polygon that is no piece of a face of the set, if there is one, by a number of threads; by none but the calling
 /// one where the number is 1.
-fn first_no_piece<R: Threads + Sync>(
+fn first_no_piece<R: Threads>(
     rt: &R,
     alloc: Global,
     set: PlacedSet,
@@ -75,7 +75,7 @@ fn first_no_piece<R: Threads + Sync>(
 }
 
 /// Checks polygons, one at least, of a solid set, by asking the plane of each.
-fn check_by_planes<R: Threads + Sync>(
+fn check_by_planes<R: Threads>(
     rt: &R,
     alloc: Global,
     pts: &[Point],
@@ -107,7 +107,7 @@ fn check_by_planes<R: Threads + Sync>(
 
 /// Checks polygons, one at least, of a solid set. Most are right, and found in its hull: planes are asked only where one
 /// is not found there.
-fn check_solid_surface<R: Threads + Sync>(
+fn check_solid_surface<R: Threads>(
     rt: &R,
     alloc: Global,
     pts: &[Point],
@@ -163,7 +163,7 @@ fn compare_surface(
 /// `Memory` where an allocation failed.
 ///
 /// Source: this project's own.
-pub fn check_surface<R: Threads + Sync>(
+pub fn check_surface<R: Threads>(
     rt: &R,
     alloc: Global,
     pts: &[Point],

@@ -1,6 +1,5 @@
 -- Lists of which the last is taken.
 use Rattle.std.proofs.Common.{inl, inr, refl, List, [], ◌∷◌, ◌++◌, All}
-use Rattle.qh_model.specs.headline.Sets.{In}
 use Rattle.qh_model.proofs.{Members.All-In, Members.All-of, lists.Joined.in_append}
 
 module _ {X : Type 0} (P : X → Type 0) (xs : List X) (x : X) (all : All P (xs ++ x ∷ [])) where

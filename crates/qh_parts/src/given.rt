@@ -7,8 +7,9 @@ ghost use Rattle.qh_parts.specs.steps.Given.{IsGiven};
 use qh_guess::{Outline, marks_of, outline_of};
 use qh_model::{Id, Memory, Polygon};
 use qh_seam::{Divided, Guess, staying_faces};
+use qh_threads::map_indices;
 use std::alloc::{AllocError, Global};
-use std::thread::{self, Threads};
+use std::thread::Threads;
 
 /// Faces that stay, and the corners of the facets that go beside them.
 #[derive(Drop)]
@@ -18,12 +19,12 @@ pub(crate) struct Given {
 }
 
 /// The outlines of all parts, by a thread for each.
-pub(crate) fn outlines_in_threads<R: Threads + Sync>(
+pub(crate) fn outlines_in_threads<R: Threads>(
     rt: &R,
     alloc: Global,
     set: Divided,
 ) -> Result<Vec<Outline>, Memory> {
-    let mut made = thread::map_indices(
+    let mut made = map_indices(
         rt,
         alloc,
         set.parts.len(),
@@ -97,7 +98,7 @@ fn all_given(
 }
 
 /// What the parts of a set give out, by a thread for each. None where the guess of one is not seen to be right.
-pub(crate) fn given_in_threads<R: Threads + Sync>(
+pub(crate) fn given_in_threads<R: Threads>(
     rt: &R,
     alloc: Global,
     set: Divided,
@@ -106,7 +107,7 @@ pub(crate) fn given_in_threads<R: Threads + Sync>(
     requires { All (IsPartOf set.pts.now set.shared.now) set.parts.now }
     ensures { IfOk result (λ found. IfSome found (IsGiven set.entry.pts.now set.entry.shared.now set.entry.parts.now)) }
 {
-    let made = thread::map_indices(
+    let made = map_indices(
         rt,
         alloc,
         set.parts.len(),

@@ -12,7 +12,7 @@ ghost use Rattle.qh_seam.specs.contract.Parts.{ids_in, KeepsCorners, IsPartOf};
 use crate::given::{given_in_threads, outlines_in_threads};
 use crate::pieces::{Pieces, are_indices, parts_in_threads};
 use qh_block::{TELLING, are_few, extremes, hull};
-use qh_guess::{along_curve, bridge, is_worth, shared_ids};
+use qh_guess::{Outline, along_curve, bridge, is_worth, shared_ids};
 use qh_model::{Body, Id, Memory, Point};
 use qh_seam::{Divided, join_faces, kept_ids};
 use std::alloc::Global;
@@ -23,6 +23,23 @@ const LARGE: usize = 50_000;
 
 /// The least number of parts. So many have about the shortest seams, however few threads there are.
 const PARTS: usize = 8;
+
+/// Which parts are joined at their seams. The corners of the others have one hull.
+#[derive(Clone, Copy, Debug, Drop)]
+pub enum Seams {
+    /// Those where it seems to pay: they have many corners, and most facets stay.
+    WhereTheyPay,
+    /// All, for trials.
+    Always,
+}
+
+/// How a set is taken by parts.
+#[derive(Clone, Copy, Debug, Drop)]
+pub struct Parting {
+    /// The number of parts. Zero means one.
+    pub parts: usize,
+    pub seams: Seams,
+}
 
 /// Whether few ids seem to be extreme, by the first ones. A hull of one thread drops the others soon.
 fn few_stand_out(alloc: Global, pts: &[Point], ids: &[Id]) -> Result<bool, Memory>
@@ -50,14 +67,23 @@ fn hull_of_kept(alloc: Global, pts: &[Point], kept: &[Id]) -> Result<Option<Body
     Ok(Some(body))
 }
 
+/// Returns true if parts are to be joined at their seams.
+fn has_seams(set: Divided, outlines: &[Outline], seams: Seams) -> bool {
+    match seams {
+        Seams::WhereTheyPay => is_worth(set, outlines),
+        Seams::Always => true,
+    }
+}
+
 /// The hull of a set from its parts: of what is kept of it where the parts are told apart by too many facets, else of faces that
 /// the parts give out. None where it does not come out.
-fn hull_of_divided<R: Threads + Sync>(
+fn hull_of_divided<R: Threads>(
     rt: &R,
     alloc: Global,
     set: Divided,
     kept: &[Id],
     workers: u32,
+    seams: Seams,
 ) -> Result<Option<Body>, Memory>
     requires some { 0 < length set.parts.now }
     requires parts { All (IsPartOf set.pts.now set.shared.now) set.parts.now }
@@ -68,7 +94,7 @@ fn hull_of_divided<R: Threads + Sync>(
         → AreKept (place set.entry.pts.now) ids kept.now → IsBody (place set.entry.pts.now) (Members ids) b)) }
 {
     let outlines = outlines_in_threads(rt, alloc, set)?;
-    if !is_worth(set, &outlines) {
+    if !has_seams(set, &outlines, seams) {
         let Some(body) = hull_of_kept(alloc, set.pts, kept)? else {
             return Ok(None);
         };
@@ -86,13 +112,21 @@ fn hull_of_divided<R: Threads + Sync>(
     Ok(Some(joined))
 }
 
-/// The hull of a set by parts of it. None where it does not come out.
-fn hull_by_parts<R: Threads + Sync>(
+/// The hull of a set by parts of it, however small it is. None where it does not come out: a part lies in a plane, or a guess of what
+/// stays of the parts, or of what closes the gap between them, is not seen to be right.
+///
+/// `ids` are indices of points. That they rise and have distinct points (`IsIdSet`) is the caller's condition.
+///
+/// # Errors
+///
+/// `Memory` where an allocation failed.
+pub fn hull_by_parts<R: Threads>(
     rt: &R,
     alloc: Global,
     pts: &[Point],
     ids: &[Id],
     workers: u32,
+    parting: Parting,
 ) -> Result<Option<Body>, Memory>
     requires { AreIndices pts.now ids.now }
     ensures { IfOk result (λ found. IfSome found (λ b. IsIdSet pts.now ids.now → IsBody (place pts.now) (Members ids.now) b)) }
@@ -107,7 +141,7 @@ fn hull_by_parts<R: Threads + Sync>(
     if !are_indices(pts, &listed) {
         return Ok(None);
     }
-    let count = PARTS.max(workers as usize);
+    let count = parting.parts.max(1);
     let pieces = Pieces {
         pts,
         listed: &listed,
@@ -128,7 +162,7 @@ fn hull_by_parts<R: Threads + Sync>(
         parts: &parts,
         shared: &shared,
     };
-    let Some(body) = hull_of_divided(rt, alloc, set, &kept, workers)? else {
+    let Some(body) = hull_of_divided(rt, alloc, set, &kept, workers, parting.seams)? else {
         return Ok(None);
     };
     Ok(Some(body))
@@ -143,7 +177,7 @@ fn hull_by_parts<R: Threads + Sync>(
 /// # Errors
 ///
 /// `Memory` where memory was refused.
-pub fn hull_in_parts<R: Threads + Sync>(
+pub fn hull_in_parts<R: Threads>(
     rt: &R,
     alloc: Global,
     pts: &[Point],
@@ -160,7 +194,11 @@ pub fn hull_in_parts<R: Threads + Sync>(
     if few_stand_out(alloc, pts, ids)? {
         return hull(alloc, pts, ids);
     }
-    match hull_by_parts(rt, alloc, pts, ids, workers)? {
+    let parting = Parting {
+        parts: PARTS.max(workers as usize),
+        seams: Seams::WhereTheyPay,
+    };
+    match hull_by_parts(rt, alloc, pts, ids, workers, parting)? {
         Some(body) => Ok(body),
         None => hull(alloc, pts, ids),
     }

@@ -11,4 +11,4 @@ mod given;
 mod hulls;
 mod pieces;
 
-pub use hulls::hull_in_parts;
+pub use hulls::{Parting, Seams, hull_by_parts, hull_in_parts};

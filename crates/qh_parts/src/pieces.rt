@@ -5,8 +5,9 @@ ghost use Rattle.qh_seam.specs.contract.Parts.{IsPartOf};
 
 use qh_model::{Id, Memory, Point};
 use qh_seam::Part;
+use qh_threads::map_indices;
 use std::alloc::Global;
-use std::thread::{self, Threads};
+use std::thread::Threads;
 
 /// A list of ids that is cut into pieces of so many, the last perhaps shorter, with ids that belong to every piece.
 #[derive(Clone, Copy, Drop)]
@@ -66,7 +67,7 @@ fn all_parts(
 }
 
 /// The parts of the first `count` pieces, a thread for each. None where the points of one lie in one plane.
-pub(crate) fn parts_in_threads<R: Threads + Sync>(
+pub(crate) fn parts_in_threads<R: Threads>(
     rt: &R,
     alloc: Global,
     pieces: Pieces,
@@ -74,7 +75,7 @@ pub(crate) fn parts_in_threads<R: Threads + Sync>(
 ) -> Result<Option<Vec<Part>>, Memory>
     ensures { IfOk result (λ found. IfSome found (λ v. All (IsPartOf pieces.entry.pts.now pieces.entry.shared.now) v.items)) }
 {
-    let made = thread::map_indices(
+    let made = map_indices(
         rt,
         alloc,
         count,

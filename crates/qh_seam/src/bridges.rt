@@ -21,8 +21,9 @@ use crate::staying::Divided;
 use qh_model::{Id, Memory, Point, Polygon};
 use qh_plane::{polygon, rising_ids};
 use qh_pred::{Plane, cross, in_line, point_at};
+use qh_threads::map_chunks;
 use std::alloc::{AllocError, Global};
-use std::thread::{self, Threads};
+use std::thread::Threads;
 
 /// The polygons whose planes are asked together.
 const GROUP: usize = 16;
@@ -278,7 +279,7 @@ fn are_all(answers: &[Result<bool, Memory>]) -> Result<bool, Memory>
 }
 
 /// Returns true if each of some polygons is a face of what is kept of a set, by a number of threads. No `workers` means one.
-pub(crate) fn are_bridges<R: Threads + Sync>(
+pub(crate) fn are_bridges<R: Threads>(
     rt: &R,
     alloc: Global,
     set: Divided,
@@ -297,6 +298,6 @@ pub(crate) fn are_bridges<R: Threads + Sync>(
             (IsBridge set.entry.pts.now set.entry.parts.now set.entry.shared.now) part.now) }
     { are_faces(alloc, set, part) };
     let size = bridges.len() / workers.max(1) + 1;
-    let answers = thread::map_chunks(rt, alloc, bridges, size, &look)?;
+    let answers = map_chunks(rt, alloc, bridges, size, &look)?;
     are_all(&answers)
 }

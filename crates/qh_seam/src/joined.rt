@@ -33,7 +33,7 @@ fn both(mut polygons: Vec<Polygon>, mut others: Vec<Polygon>) -> Result<Vec<Poly
 ///
 /// The caller promises that each is the polygon of a facet that stays in a part and has a clear plane, or a face of the kept
 /// ids. So they are all faces of the set (`qh_seam_laws::joined_faces_are_hull`).
-fn body_of_joined<R: Threads + Sync>(
+fn body_of_joined<R: Threads>(
     rt: &R,
     alloc: Global,
     polygons: Vec<Polygon>,
@@ -64,7 +64,7 @@ fn body_of_joined<R: Threads + Sync>(
 /// # Errors
 ///
 /// `Memory` where an allocation failed.
-pub fn join_faces<R: Threads + Sync>(
+pub fn join_faces<R: Threads>(
     rt: &R,
     alloc: Global,
     set: Divided,

@@ -228,7 +228,7 @@ fn polygons_of(alloc: Global, faces: &[&[u32]]) -> Result<Vec<Polygon>, AllocErr
 }
 
 /// The hull of the cube from the square that its first part gives out and other polygons; none where these do not make it.
-fn cube_with<R: Threads + Sync>(
+fn cube_with<R: Threads>(
     rt: &R,
     alloc: Global,
     given: &[&[u32]],

@@ -15,8 +15,10 @@ mod fault;
 mod ranks;
 mod serving;
 mod settings;
+mod threaded;
 
 pub use answers::answer;
 pub use fault::Fault;
 pub use serving::serve;
 pub use settings::{BLOCK_SIZE_LIMIT, Settings, SettingsError};
+pub use threaded::Threaded;

@@ -83,7 +83,7 @@ fn the_stored_run_joins_all_pairs(rt: HostRuntime) -> Result<(), Fail> {
 #[test]
 fn the_paraboloid_joins_until_a_pass_gives_up(rt: HostRuntime) -> Result<(), Fail> {
     // No pass gives up below a node of 256 blocks, which have 1,024 points.
-    let input = points(rt.alloc())?;
+    let input = points(rt.alloc(), 20000)?;
     let joins = joins_of(&rt, asked_in((7, 4)), input.as_bytes(), 5000)?;
     assert!(rt; joins >= 100, "{joins} joins");
     Ok(())

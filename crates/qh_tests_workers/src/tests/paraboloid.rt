@@ -1,10 +1,14 @@
-//! The 20,000 points of a paraboloid, all of them extreme, in four settings.
+//! The 20,000 points of a paraboloid, all of them extreme, in four settings, and 60,000 whose hull is taken by threads.
 use qh_outcomes::{Asked, OFFT, Outcome, SUMMARY, answered_by, push_point};
-use qh_run::NoGate;
+use qh_run::{Gate, NoGate};
+use qh_serve::Threaded;
 use qh_write::Out;
 use std::alloc::{AllocError, Global};
 use std::test::Fail;
 use std::thread::Threads;
+
+/// The most points that are made: their coordinates fit.
+const COUNT_LIMIT: u32 = 60000;
 
 const BEGINNING: &str =
     "Convex hull of 20000 points in 3-d:\n  dimension: 3\n  distinct points: 20000\n  extreme points: 20000\n  facets: 19706\n  edges: 39704\n";
@@ -28,32 +32,33 @@ pub fn asked_in(way: (u32, u32)) -> Asked<'static> {
     }
 }
 
-/// The points (x, y, x x + y y) for x below 200 and y below 100.
-pub fn points(alloc: Global) -> Result<String, AllocError> {
-    let mut text = String::from_str(alloc, "3\n20000\n")?;
-    for number in 0..20000u32 {
+/// The first points (x, y, x x + y y) for y below 100.
+pub fn points(alloc: Global, count: u32) -> Result<String, AllocError> {
+    let mut text = format!(in alloc; "3\n{count}\n")?;
+    for number in 0..count.min(COUNT_LIMIT) {
         let (x, y) = (number / 100, number % 100);
         push_point(&mut text, alloc, [x, y, x * x + y * y].map(i64::from))?;
     }
     Ok(text)
 }
 
-/// The outcome of `answer` for an input under settings.
-fn outcome_of<R: AllocGlobal + Threads + Sync>(
+/// The outcome of `answer` for an input under settings, watched by a gate.
+fn outcome_of<R: AllocGlobal + Threads + Sync, G: Gate>(
     rt: &R,
     asked: Asked,
     input: &[u8],
+    gate: &G,
 ) -> Result<Outcome, Fail> {
     let settings = asked.settings(rt.alloc())?;
-    Ok(answered_by(rt, rt.alloc(), input, &settings, &NoGate)?)
+    Ok(answered_by(rt, rt.alloc(), input, &settings, gate)?)
 }
 
 #[test]
 fn has_one_text_in_all_settings(rt: HostRuntime) -> Result<(), Fail> {
-    let input = points(rt.alloc())?;
-    let first = outcome_of(&rt, asked_in(WAYS[0]), input.as_bytes())?;
+    let input = points(rt.alloc(), 20000)?;
+    let first = outcome_of(&rt, asked_in(WAYS[0]), input.as_bytes(), &NoGate)?;
     for way in WAYS {
-        let outcome = outcome_of(&rt, asked_in(way), input.as_bytes())?;
+        let outcome = outcome_of(&rt, asked_in(way), input.as_bytes(), &NoGate)?;
         assert!(rt; outcome.output.starts_with(BEGINNING), "{way:?}");
         assert!(rt; outcome.output == first.output, "{way:?}");
     }
@@ -65,12 +70,30 @@ const TRIANGLES: &str = "OFF\n20000 39996 59994\n";
 
 #[test]
 fn has_its_triangles(rt: HostRuntime) -> Result<(), Fail> {
-    let input = points(rt.alloc())?;
-    let outcome = outcome_of(&rt, OFFT, input.as_bytes())?;
+    let input = points(rt.alloc(), 20000)?;
+    let outcome = outcome_of(&rt, OFFT, input.as_bytes(), &NoGate)?;
     assert!(rt; outcome.output.starts_with(TRIANGLES));
     // Two lines of counts, and one for each vertex; all that follow are triangles.
     let faces = outcome.output.lines().skip(2 + 20000);
     let count = faces.filter(|line| line.starts_with("3 ")).count();
     assert_eq!(rt; count, 39996);
+    Ok(())
+}
+
+const LARGE_BEGINNING: &str =
+    "Convex hull of 60000 points in 3-d:\n  dimension: 3\n  distinct points: 60000\n  extreme points: 60000\n";
+
+#[test]
+fn has_the_same_text_by_parts(rt: HostRuntime) -> Result<(), Fail> {
+    let input = points(rt.alloc(), 60000)?;
+    let asked = asked_in((2, 4096));
+    let whole = outcome_of(&rt, asked, input.as_bytes(), &NoGate)?;
+    let gate = Threaded {
+        rt: &rt,
+        workers: 2,
+    };
+    let by_parts = outcome_of(&rt, asked, input.as_bytes(), &gate)?;
+    assert!(rt; whole.output.starts_with(LARGE_BEGINNING));
+    assert!(rt; by_parts.output == whole.output);
     Ok(())
 }

@@ -7,11 +7,11 @@ pub polygons_of-requires : goal.polygons_of-requires
 polygons_of-requires g c = rw c.deref.ensures.value (ids_within c.args.pts.now c.in_ok-ids.ids.items c.in_ok-ids.ensures)
 
 pub check_surface-requires-clause-some : goal.check_surface-requires-clause-some
-check_surface-requires-clause-some g c lifetimes lives =
+check_surface-requires-clause-some g c =
     rw c.deref-in-Ok.ensures.value (some_id c.args.pts.now c.in_ok-ids.ids.items c.in_ok-ids.ensures c.requires.some)
 
 pub check_surface-requires-clause-indices : goal.check_surface-requires-clause-indices
-check_surface-requires-clause-indices g c lifetimes lives =
+check_surface-requires-clause-indices g c =
     rw c.deref-in-Ok.ensures.value (ids_within c.args.pts.now c.in_ok-ids.ids.items c.in_ok-ids.ensures)
 
 pub returns-in-Ok : goal.returns-in-Ok

@@ -1,5 +1,5 @@
 -- One more polygon of the others.
-use Rattle.std.proofs.Common.{◌∷◌, [], inl, inr, sym, subst, refl}
+use Rattle.std.proofs.Common.{◌∷◌, [], inl, inr, sym, subst}
 use Rattle.qh_model.specs.headline.Sets.{In}
 use Rattle.qh_model.proofs.lists.Joined.{in_append, of_append}
 use Rattle.qh_parts.proofs.given.add_all.Goals as goal

@@ -3,8 +3,8 @@ use Rattle.qh_model.proofs.hulls.ExtremeParts.{part_body}
 use Rattle.qh_parts.proofs.Divided.{is_solid}
 use Rattle.qh_parts.proofs.hulls.hull_of_divided.Goals as goal
 
-pub returns-then-not-is_worth : goal.returns-then-not-is_worth
-returns-then-not-is_worth g c = λ ids set inside keeps rising are.
+pub returns-then-not-has_seams : goal.returns-then-not-has_seams
+returns-then-not-has_seams g c = λ ids set inside keeps rising are.
     part_body c.args.set.pts.now ids c.args.kept.now c.in-Some.body set rising
     (record { within = are.inside; extremes = are.extremes }) (rw c.in-Some.is at c.in_ok-body.ensures)
 

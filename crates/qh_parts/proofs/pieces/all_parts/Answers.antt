@@ -1,5 +1,4 @@
 -- One more part.
-use Rattle.std.proofs.Common.{All}
 use Rattle.std.specs.Prelude.{IfOk, IfSome}
 use Rattle.qh_seam.specs.contract.Parts.{IsPartOf}
 use Rattle.qh_seam.proofs.Chunked.{all_none}

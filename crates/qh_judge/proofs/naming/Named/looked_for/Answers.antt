@@ -1,5 +1,5 @@
 -- The id at hand lies at the place, or none does.
-use Rattle.std.proofs.Common.{ℕ, ◌≡◌, ◌∙◌, arith, ap, get_or, subst, sym}
+use Rattle.std.proofs.Common.{◌≡◌, ◌∙◌, arith, ap, get_or, subst, sym}
 use Rattle.std.proofs.lemmas.List.{get_or_default}
 use Rattle.qh_model.specs.headline.Predicates.{place}
 use Rattle.qh_model.specs.headline.Sets.{In}

@@ -1,0 +1,23 @@
+//! A gate that takes the hull of a large set by threads.
+use qh_model::{Body, Id, Memory, Point};
+use qh_parts::hull_in_parts;
+use qh_run::Gate;
+use std::alloc::Global;
+use std::thread::Threads;
+
+/// A gate that lets all blocks pass, and takes the hull by `qh_parts::hull_in_parts`: by at most `workers` threads of a runtime.
+#[derive(Clone, Copy, Debug, Drop)]
+pub struct Threaded<'a, R> {
+    pub rt: &'a R,
+    pub workers: u32,
+}
+
+impl<R: Threads + Sync> Gate for Threaded<'_, R> {
+    fn claimed(&self, _pass: u32, _block: u32) {}
+
+    fn delivered(&self, _pass: u32, _block: u32) {}
+
+    fn finish(&self, alloc: Global, pts: &[Point], ids: &[Id]) -> Result<Body, Memory> {
+        hull_in_parts(self.rt, alloc, pts, ids, self.workers)
+    }
+}

@@ -1,0 +1,3 @@
+//! What threads tell.
+mod hulls;
+mod threads;
