@@ -21,8 +21,11 @@ use std::thread::Threads;
 /// Sets of fewer ids have their hull by one thread.
 const LARGE: usize = 50_000;
 
-/// The least number of parts. So many have about the shortest seams, however few threads there are.
+/// The most parts. More have longer seams, and are no faster.
 const PARTS: usize = 8;
+
+/// Fewer workers take a hull no sooner by parts than one of them alone, since parts take twice the work.
+const LEAST_WORKERS: u32 = 3;
 
 /// Which parts are joined at their seams. The corners of the others have one hull.
 #[derive(Clone, Copy, Debug, Drop)]
@@ -168,8 +171,8 @@ pub fn hull_by_parts<R: Threads>(
     Ok(Some(body))
 }
 
-/// The hull of a set, as [`hull`](qh_block::hull) gives it, by a number of threads where the set is large and most of its first ids are
-/// extreme among these: of parts of it, joined.
+/// The hull of a set, as [`hull`](qh_block::hull) gives it. Three or more workers take a large set by parts, which are joined, where
+/// most of its first ids are extreme among these: by at most so many threads.
 ///
 /// `ids` has at least one id, each the index of one of the points. That the ids rise and have distinct
 /// points (`IsIdSet`) is the caller's condition.
@@ -188,14 +191,14 @@ pub fn hull_in_parts<R: Threads>(
     requires indices { AreIndices pts.now ids.now }
     ensures { IfOk result (λ b. IsIdSet pts.now ids.now → IsBody (place pts.now) (Members ids.now) b) }
 {
-    if workers < 2 || ids.len() < LARGE {
+    if workers < LEAST_WORKERS || ids.len() < LARGE {
         return hull(alloc, pts, ids);
     }
     if few_stand_out(alloc, pts, ids)? {
         return hull(alloc, pts, ids);
     }
     let parting = Parting {
-        parts: PARTS.max(workers as usize),
+        parts: PARTS.min(workers as usize),
         seams: Seams::WhereTheyPay,
     };
     match hull_by_parts(rt, alloc, pts, ids, workers, parting)? {

@@ -86,11 +86,11 @@ const LARGE_BEGINNING: &str =
 #[test]
 fn has_the_same_text_by_parts(rt: HostRuntime) -> Result<(), Fail> {
     let input = points(rt.alloc(), 60000)?;
-    let asked = asked_in((2, 4096));
+    let asked = asked_in((4, 4096));
     let whole = outcome_of(&rt, asked, input.as_bytes(), &NoGate)?;
     let gate = Threaded {
         rt: &rt,
-        workers: 2,
+        workers: 4,
     };
     let by_parts = outcome_of(&rt, asked, input.as_bytes(), &gate)?;
     assert!(rt; whole.output.starts_with(LARGE_BEGINNING));
