@@ -1,3 +1,0 @@
-//! What threads tell.
-mod hulls;
-mod threads;
