@@ -148,7 +148,8 @@ class Project:
             container = last_before(containers, found.start())
             if container and function and not function.group(1) and function.start() > container.start():
                 container = None
-            clause = Clause(path, function.group(3) if function else "", bool(function and function.group(2)),
+            public = bool(function and function.group(2)) and not is_of_closure(text, function, found)
+            clause = Clause(path, function.group(3) if function else "", public,
                             container.group(1) + re.sub(r"<[^<>]*>", "", container.group(2)) if container else "",
                             found.group(2) or found.group(1))
             clause.cites, clause.items = self._cited(block(text, found.end()), "", imports)
@@ -170,6 +171,12 @@ class Project:
                 seen.add(cited)
                 todo.append(cited)
         return seen
+
+
+def is_of_closure(text, function, clause):
+    """Whether a clause stands deeper than those of the function: it is that of a closure in its body."""
+    indent = clause.start() - text.rfind("\n", 0, clause.start()) - 1
+    return indent > len(function.group(1)) + 4
 
 
 def last_before(found, position):
