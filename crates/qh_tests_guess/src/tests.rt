@@ -140,8 +140,12 @@ fn bridged(alloc: Global, faces: &[&[u32]]) -> Result<Option<Vec<u32>>, Memory> 
 fn four_squares_are_between_two(rt: HostRuntime) -> Result<(), Fail> {
     let squares: [&[u32]; 2] = [&[0, 1, 3, 2], &[4, 6, 7, 5]];
     let found = bridged(rt.alloc(), &squares)?.ok_or("a gap")?;
-    let right = [0, 2, 6, 4, 0, 4, 5, 1, 1, 5, 7, 3, 2, 3, 7, 6];
-    assert!(rt; found.as_slice() == right.as_slice());
+    let right: [[u32; 4]; 4] = [[0, 2, 6, 4], [0, 4, 5, 1], [1, 5, 7, 3], [2, 3, 7, 6]];
+    assert_eq!(rt; found.len(), 16);
+    for square in right {
+        let is_there = found.chunks(4).any(|part| part == square.as_slice());
+        assert!(rt; is_there);
+    }
     Ok(())
 }
 
