@@ -9,7 +9,9 @@ trap 'rm -r "$work"' EXIT
 for name in octahedron-midpoints sphere-60; do
     "$program" off < "examples/$name.txt" | scripts/picture.py > "$pictures/$name.svg"
 done
-scripts/example_sets.py ball7 | "$program" off | scripts/picture.py --size 320 > "$pictures/lattice-ball.svg"
+scripts/example_sets.py ball7 | "$program" off > "$work/lattice-ball.off"
+scripts/picture.py --size 320 "$work/lattice-ball.off" > "$pictures/lattice-ball.svg"
+python/bin/hullview "$work/lattice-ball.off" > "$pictures/lattice-ball.html"
 "$program" off < examples/bowl122.txt > "$work/right.off"
 qhull o < examples/bowl122.txt > "$work/qhull.off"
 scripts/picture.py --eye=2,6,-3 --size 320 "$work/right.off" > "$pictures/bowl122.svg"
