@@ -26,7 +26,7 @@ from collections import namedtuple
 
 from limits import TOP
 
-PAGES = ["WHY-EXACT", "TUTORIAL", "FAULTS", "MANY-POINTS", "LIBRARY"]
+PAGES = ["WHY-EXACT", "TUTORIAL", "PROGRAM", "FAULTS", "MANY-POINTS", "PYTHON", "LIBRARY", "CHECKING"]
 DOCUMENTS = ["README.md", *(f"docs/{page}.md" for page in PAGES)]
 # A command with what it is to print, the line of the document, and what is special about its block.
 Command = namedtuple("Command", "words wanted line marks")

@@ -24,7 +24,7 @@ from pathlib import Path
 
 TOP = Path(__file__).resolve().parent.parent
 PYTHON = os.environ.get("PYTHON", "/usr/bin/python3")
-PAGES = ["README.md", "CHANGELOG.md", "docs/LIBRARY.md", "docs/FAULTS.md", "docs/TUTORIAL.md"]
+PAGES = ["README.md", "CHANGELOG.md", "docs/PROGRAM.md", "docs/PYTHON.md", "docs/LIBRARY.md", "docs/FAULTS.md", "docs/TUTORIAL.md"]
 CUBE = TOP / "examples/unit-cube.txt"
 CONTROL = """Package: qconvex-exact
 Version: {version}
