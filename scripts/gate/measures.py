@@ -1,0 +1,182 @@
+#!/usr/bin/env python3
+"""Counts what is to become less: long parameter lists, bare bools, long files, long lines, and words that are not used.
+
+    scripts/gate/measures.py [--list]      from anywhere
+
+The limits stand below, by name. Each is the count of the day when it was set; who lowers a count lowers its limit. The
+words are those of the table of docs/GLOSSARY.md, names (written there as code) in the sources alone, others in the
+documents, too; a word without a limit here may not stand anywhere. Parameters are counted without self, rt and alloc.
+The status is 1 if a count is above its limit.
+"""
+import argparse
+import re
+import sys
+from collections import namedtuple
+from pathlib import Path
+
+TOP = Path(__file__).resolve().parents[2]
+GLOSSARY = TOP / "docs" / "GLOSSARY.md"
+MOST_PARAMETERS = 5
+MOST_LINES = 300
+MOST_CHARACTERS = 160
+
+LIMITS = {
+    "longest parameter list": 7,
+    "long parameter lists": 15,
+    "bare bools": 13,
+    "long files": 11,
+    "long lines": 62,
+}
+WORD_LIMITS = {
+    "near order": 5,
+    "near_order": 8,
+    "first simplex": 20,
+    "far_simplex": 18,
+    "the look": 4,
+    "extremes_unlooked": 13,
+    "are_one": 9,
+    "give_out": 2,
+    "gives out": 13,
+    "given out": 9,
+    "raised": 62,
+    "taken back": 3,
+    "takes back": 2,
+    "take back": 1,
+    "want of memory": 1,
+    "memory was refused": 77,
+    "two and two": 2,
+    "/// Whether": 95,
+    "as many": 65,
+    "so many": 133,
+    "such a": 23,
+    "that one": 14,
+    "is none": 40,
+    "are none": 16,
+    "shall be": 1,
+}
+
+# Something that is counted: its name and where it stands.
+Count = namedtuple("Count", "name places")
+FUNCTION = re.compile(r"\bfn\s+(\w+)")
+HANDED_ON = {"self", "rt", "alloc", "_alloc"}
+BARE_BOOL = re.compile(r"\w+\s*:\s*bool")
+OPENING, CLOSING = "([{<", ")]}>"
+FORBIDDEN = re.compile(r"^\| (`?)([^`|]+?)\1 \| ")
+UNREAD = {"GLOSSARY.md", "CHANGELOG.md"}
+
+
+def closing_index(text, start):
+    """The index of the bracket that closes the one at `start`; the head of an arrow closes nothing."""
+    depth = 0
+    for index in range(start, len(text)):
+        if text[index] in OPENING:
+            depth += 1
+        elif text[index] in CLOSING and text[index - 1 : index + 1] not in ("->", "=>"):
+            depth -= 1
+            if depth == 0:
+                return index
+    raise ValueError("a bracket stays open")
+
+
+def parts_of(text):
+    """The parts of a list with commas between them; commas within brackets part nothing."""
+    parts, depth = [""], 0
+    for index, letter in enumerate(text):
+        depth += letter in OPENING
+        depth -= letter in CLOSING and text[index - 1 : index + 1] not in ("->", "=>")
+        if letter == "," and depth == 0:
+            parts.append("")
+        else:
+            parts[-1] += letter
+    return [part.strip() for part in parts if part.strip()]
+
+
+def functions_of(text):
+    """Each function of a source, by name, with its parameters without those that are only handed on."""
+    for found in FUNCTION.finditer(text):
+        start = found.end()
+        if text[start : start + 1] == "<":
+            start = closing_index(text, start) + 1
+        if text[start : start + 1] != "(":
+            continue
+        parameters = parts_of(text[start + 1 : closing_index(text, start)])
+        names = [re.sub(r"^&?('\w+ )?(mut )?", "", part.split(":")[0].strip()) for part in parameters]
+        yield found.group(1), [part for part, name in zip(parameters, names) if name not in HANDED_ON]
+
+
+def parameter_counts(sources):
+    """Functions with more parameters than there may be, and functions with a bare bool."""
+    longer, bools, most = [], [], 0
+    for path, text in sources:
+        for name, parameters in functions_of(text):
+            most = max(most, len(parameters))
+            if len(parameters) > MOST_PARAMETERS:
+                longer.append(f"{path}: {name}: {len(parameters)}")
+            if any(BARE_BOOL.fullmatch(part) for part in parameters):
+                bools.append(f"{path}: {name}")
+    longest = [f"parameter {number}" for number in range(1, most + 1)]
+    return [Count("longest parameter list", longest), Count("long parameter lists", longer), Count("bare bools", bools)]
+
+
+def size_counts(sources):
+    """Files with more lines than there may be, and lines with more characters."""
+    files, lines = [], []
+    for path, text in sources:
+        rows = text.splitlines()
+        if len(rows) > MOST_LINES:
+            files.append(f"{path}: {len(rows)}")
+        lines += [f"{path}:{number}" for number, row in enumerate(rows, 1) if len(row) > MOST_CHARACTERS]
+    return [Count("long files", files), Count("long lines", lines)]
+
+
+def forbidden_words(glossary):
+    """The words of the table of words that are not used, each with whether it is a name."""
+    table = glossary.split("## Words that are not used")[1].split("\n## ")[0]
+    found = [FORBIDDEN.match(line) for line in table.split("\n")]
+    pairs = [(match.group(2), bool(match.group(1))) for match in found if match]
+    return [pair for pair in pairs if pair[0] not in ("Not used", "---")]
+
+
+def word_count(sources, word):
+    """Where a word stands."""
+    pattern = re.compile((r"\b" if word[0].isalnum() else "") + re.escape(word) + r"\b")
+    places = []
+    for path, text in sources:
+        if word in text:
+            places += [f"{path}:{text.count(chr(10), 0, found.start()) + 1}" for found in pattern.finditer(text)]
+    return Count(word, places)
+
+
+def read(*patterns):
+    """The files of some patterns, by their paths from the top, with their texts."""
+    paths = sorted(path for pattern in patterns for path in TOP.glob(pattern) if path.is_file())
+    paths = [path for path in paths if "out" not in path.relative_to(TOP).parts and path.name not in UNREAD]
+    return [(path.relative_to(TOP), path.read_text(encoding="utf-8")) for path in paths]
+
+
+def above(count, limits, every):
+    """Prints a count beside its limit, and says whether it is above."""
+    number, limit = len(count.places), limits.get(count.name, 0)
+    note = "ABOVE" if number > limit else "may be lowered" if number < limit else ""
+    print(f"{number:6} of {limit:6}  {count.name}  {note}".rstrip())
+    for place in count.places if every or number > limit else []:
+        print("       ", place)
+    return number > limit
+
+
+def main():
+    parser = argparse.ArgumentParser(description=__doc__, formatter_class=argparse.RawDescriptionHelpFormatter)
+    parser.add_argument("--list", action="store_true", help="print where each stands")
+    every = parser.parse_args().list
+    programs = read("crates/*/src/**/*.rt")
+    sources = programs + read("crates/*/specs/**/*.antt", "crates/*/proofs/**/*.antt")
+    documents = read("*.md", "docs/*.md", "scripts/README.md", "examples/README.md")
+    words = forbidden_words(GLOSSARY.read_text(encoding="utf-8"))
+    faults = [above(count, LIMITS, every) for count in parameter_counts(programs) + size_counts(sources)]
+    counts = [word_count(sources if is_name else sources + documents, word) for word, is_name in words]
+    faults += [above(count, WORD_LIMITS, every) for count in counts]
+    sys.exit(1 if any(faults) else 0)
+
+
+if __name__ == "__main__":
+    main()
