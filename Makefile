@@ -25,10 +25,10 @@ $(PROGRAM):
 install: $(PROGRAM)
 	install -d $(DESTDIR)$(BINDIR) $(dir $(PAGE)) $(dir $(BASH_COMPLETION)) $(dir $(ZSH_COMPLETION)) $(dir $(FISH_COMPLETION))
 	install -m 755 $(PROGRAM) $(DESTDIR)$(BINDIR)/$(NAME)
-	scripts/man_page.py --name $(NAME) > $(PAGE)
-	scripts/completions.py bash --name $(NAME) > $(BASH_COMPLETION)
-	scripts/completions.py zsh --name $(NAME) > $(ZSH_COMPLETION)
-	scripts/completions.py fish --name $(NAME) > $(FISH_COMPLETION)
+	scripts/make/man_page.py --name $(NAME) > $(PAGE)
+	scripts/make/completions.py bash --name $(NAME) > $(BASH_COMPLETION)
+	scripts/make/completions.py zsh --name $(NAME) > $(ZSH_COMPLETION)
+	scripts/make/completions.py fish --name $(NAME) > $(FISH_COMPLETION)
 
 uninstall:
 	rm -f $(DESTDIR)$(BINDIR)/$(NAME) $(PAGE) $(BASH_COMPLETION) $(ZSH_COMPLETION) $(FISH_COMPLETION)

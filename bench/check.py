@@ -18,6 +18,8 @@ import tempfile
 from pathlib import Path
 
 BENCH = Path(__file__).resolve().parent
+sys.path.insert(0, str(BENCH.parent / "scripts"))
+from lib.paths import CHECKER, PROGRAM  # noqa: E402
 
 
 def cpu_time(command, source=None):
@@ -60,8 +62,8 @@ def row(given, family, count, folder):
 
 def main():
     parser = argparse.ArgumentParser(description=__doc__.split("\n\n", maxsplit=1)[0])
-    parser.add_argument("--ours", default="crates/qconvex/out/qconvex")
-    parser.add_argument("--checker", default="crates/hullcheck/out/hullcheck")
+    parser.add_argument("--ours", default=PROGRAM)
+    parser.add_argument("--checker", default=CHECKER)
     parser.add_argument("--peer", help="qhull, where it is not in PATH; Debian installs it as qhull")
     parser.add_argument("--families", default="sphere,cube")
     parser.add_argument("--counts", default="100000")

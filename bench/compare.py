@@ -17,6 +17,10 @@ import tempfile
 import time
 
 FAMILIES = ["ball", "cube", "cube-surface", "flat", "grid", "line", "paraboloid", "sphere"]
+
+sys.path.insert(0, os.path.join(os.path.dirname(os.path.dirname(os.path.abspath(__file__))), "scripts"))
+from lib.paths import PROGRAM  # noqa: E402
+
 POINTS = os.path.join(os.path.dirname(os.path.abspath(__file__)), "points.py")
 
 
@@ -37,7 +41,7 @@ def best(results):
 
 def main():
     parser = argparse.ArgumentParser(description=__doc__.splitlines()[0])
-    parser.add_argument("--ours", default="crates/qconvex/out/qconvex", help="this program")
+    parser.add_argument("--ours", default=PROGRAM, help="this program")
     parser.add_argument("--words", default="s", help="the words that it is given")
     parser.add_argument("--peer", action="append", help="a command to compare with; may be repeated")
     parser.add_argument("--rounds", type=int, default=3)

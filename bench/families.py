@@ -49,7 +49,7 @@ def row(given, family, count, path):
 
 def main():
     parser = argparse.ArgumentParser(description=__doc__.splitlines()[0])
-    parser.add_argument("--ours", default="crates/qconvex/out/qconvex", help="this program")
+    parser.add_argument("--ours", default=compare.PROGRAM, help="this program")
     parser.add_argument("--words", default="s", help="the words that it is given")
     parser.add_argument("--peer", action="append", help="a command to compare with; may be repeated")
     parser.add_argument("--counts", default="10000,100000,1000000")

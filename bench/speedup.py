@@ -62,7 +62,7 @@ def faults(given, family, count, outs, times):
 
 def main():
     parser = argparse.ArgumentParser(description=__doc__.splitlines()[0])
-    parser.add_argument("--ours", default="crates/qconvex/out/qconvex", help="this program")
+    parser.add_argument("--ours", default=compare.PROGRAM, help="this program")
     parser.add_argument("--other", help="an older build of it, run with one worker")
     parser.add_argument("--peer", default="/usr/bin/qconvex", help="Qhull's qconvex; empty for none")
     parser.add_argument("--counts", default="100000,1000000")

@@ -11,7 +11,10 @@ import re
 import sys
 from pathlib import Path
 
-TOP = Path(__file__).resolve().parents[2]
+sys.path.insert(0, str(Path(__file__).resolve().parents[1]))
+from lib.paths import TOP  # noqa: E402
+from lib.usage import names_given  # noqa: E402
+
 MAP = TOP / "docs" / "README.md"
 LINK = re.compile(r"\]\(([^()\s]+)\)|(?:src|href)=\"([^\"]+)\"")
 HEADING = re.compile(r"^#+ (.*)$")
@@ -91,7 +94,7 @@ def documents():
 
 
 def main():
-    names = sys.argv[1:]
+    names = names_given(__doc__)
     paths = [Path(name).resolve() for name in names] if names else documents()
     faults = [*link_faults(paths), *([] if names else map_faults())]
     for fault in faults:

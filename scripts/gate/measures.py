@@ -14,7 +14,9 @@ import sys
 from collections import namedtuple
 from pathlib import Path
 
-TOP = Path(__file__).resolve().parents[2]
+sys.path.insert(0, str(Path(__file__).resolve().parents[1]))
+from lib.paths import TOP  # noqa: E402
+
 GLOSSARY = TOP / "docs" / "GLOSSARY.md"
 MOST_PARAMETERS = 5
 MOST_LINES = 300

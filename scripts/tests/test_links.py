@@ -3,8 +3,8 @@ import sys
 import unittest
 from pathlib import Path
 
-sys.path.insert(0, str(Path(__file__).resolve().parents[1] / "gate"))
-from links import TOP, anchors, fault_of, links, slug  # noqa: E402
+sys.path.insert(0, str(Path(__file__).resolve().parents[1]))
+from gate.links import TOP, anchors, fault_of, links, slug  # noqa: E402
 
 
 class Slugs(unittest.TestCase):

@@ -5,8 +5,8 @@ import sys
 import unittest
 from pathlib import Path
 
-sys.path.insert(0, str(Path(__file__).resolve().parents[1] / "gate"))
-from measures import (  # noqa: E402
+sys.path.insert(0, str(Path(__file__).resolve().parents[1]))
+from gate.measures import (  # noqa: E402
     Count, above, forbidden_words, functions_of, parameter_counts, parts_of, size_counts, word_count,
 )
 

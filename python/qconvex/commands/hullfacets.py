@@ -136,7 +136,7 @@ def main() -> None:
     try:
         lines = list(in_form(points, hull.faces, options.form))
     except KeyError:
-        sys.exit("hullfacets: the faces are no closed surface; scripts/check_hull.py says what is wrong")
+        sys.exit("hullfacets: the faces are no closed surface; scripts/tools/check_hull.py says what is wrong")
     sys.stdout.writelines(f"{line}\n" for line in lines)
 
 

@@ -1,0 +1,23 @@
+#!/bin/sh
+# Makes the pictures of the documents in docs/pictures. Needs the built program and
+# Qhull's (Debian's package qhull-bin), whose answer one of them shows.
+set -eu
+. "$(dirname "$0")/../lib/paths.sh"
+pictures=docs/pictures
+work=$(mktemp -d)
+trap 'rm -r "$work"' EXIT
+for name in octahedron-midpoints sphere-60; do
+    "$program" off < "examples/$name.txt" | scripts/tools/picture.py > "$pictures/$name.svg"
+done
+scripts/make/example_sets.py ball7 | "$program" off > "$work/lattice-ball.off"
+scripts/tools/picture.py --size 320 "$work/lattice-ball.off" > "$pictures/lattice-ball.svg"
+python/bin/hullview "$work/lattice-ball.off" > "$pictures/lattice-ball.html"
+"$program" off < examples/bowl122.txt > "$work/right.off"
+qhull o < examples/bowl122.txt > "$work/qhull.off"
+scripts/tools/picture.py --eye=2,6,-3 --size 320 "$work/right.off" > "$pictures/bowl122.svg"
+scripts/tools/picture.py --eye=-6,5,-4 --size 320 \
+    --title 'exact: 122 corners, 124 faces' --title 'Qhull: 23 corners, 23 faces' \
+    "$work/right.off" "$work/qhull.off" > "$pictures/bowl122-both.svg"
+python/bin/meshpoints --scale 1000 --centre 0,0,0 examples/knot.obj > "$work/knot.txt"
+"$program" off < "$work/knot.txt" | python/bin/meshpoints --back "$work/knot.txt" > "$work/knot.off"
+scripts/tools/picture.py --eye=1,-1.5,2 --size 360 --mesh examples/knot.obj "$work/knot.off" > "$pictures/knot.svg"

@@ -1,0 +1,15 @@
+#!/bin/sh
+# Runs many boards of 7 to 64 blocks with 2 to 8 passes in threads, some of which give up: each block is got once, and
+# there is one root or none as `close` says. By hand: scripts/trials/board_runs.sh [RUNS]
+# The runs prove nothing: how many boards there are changes no proof, and the gate proves the tests.
+set -eu
+. "$(dirname "$0")/../lib/paths.sh"
+runs=${1:-10000}
+work=$(mktemp -d)
+trap 'rm -rf "$work"' EXIT
+tar --exclude=out -cf - crates crates.txt HANDLES | tar -xf - -C "$work"
+sed -i "s/^const RUNS: u32 = .*;/const RUNS: u32 = $runs;/" "$work/crates/qh_tests_board/src/tests/board/runs.rt"
+cd "$work/crates/qh_tests_board"
+rt try --test -- board::runs:: > "$work/log" 2>&1 || { tail -20 "$work/log"; exit 1; }
+grep '^test .*board::runs::' "$work/log"
+echo "$runs boards were run"
