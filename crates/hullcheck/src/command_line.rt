@@ -25,7 +25,7 @@ enum Next {
     Workers,
 }
 
-/// A number of workers, if a word is one.
+/// Returns a number of workers, if a word is one.
 fn workers_of(word: &str) -> Result<u32, Fault> {
     let workers: u32 = word.parse().map_err(|_| Fault::Usage)?;
     if workers < 1 || workers > WORKER_LIMIT {
@@ -35,7 +35,7 @@ fn workers_of(word: &str) -> Result<u32, Fault> {
 }
 
 impl<'a> Settings<'a> {
-    /// What no words ask.
+    /// Returns what no words ask.
     fn none() -> Settings<'a> {
         Settings {
             workers: 4,
@@ -76,7 +76,7 @@ impl<'a> Settings<'a> {
     }
 }
 
-/// What the words of a command line ask, the first of which is the program's name.
+/// Returns what the words of a command line ask, the first of which is the program's name.
 pub fn settings_of<'a>(words: &'a [String]) -> Result<Settings<'a>, Fault> {
     let mut settings = Settings::none();
     let mut next = Next::Any;

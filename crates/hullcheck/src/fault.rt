@@ -22,7 +22,7 @@ pub enum Fault {
     Faces(ReadFault),
 }
 
-/// The exit status where a file could not be read.
+/// Returns the exit status where a file could not be read.
 fn read_status(fault: ReadFault) -> u8
     ensures { result ≡ read_fault_status fault }
 {
@@ -34,7 +34,7 @@ fn read_status(fault: ReadFault) -> u8
 }
 
 impl Fault {
-    /// The exit status.
+    /// Returns the exit status.
     pub fn status(self) -> u8
         ensures { result ≡ fault_status self }
     {

@@ -14,7 +14,7 @@ use qh_read::{Source, read_form_threads};
 use std::alloc::Global;
 use std::thread::Threads;
 
-/// What is told of faces, whose numbers name their vertices or the points of the set.
+/// Returns what is told of faces, whose numbers name their vertices or the points of the set.
 fn judge<R: Threads + Sync>(
     rt: &R,
     alloc: Global,
@@ -34,7 +34,7 @@ fn judge<R: Threads + Sync>(
     judge_faces(rt, alloc, pts, named, &faces.polygons, workers)
 }
 
-/// What is told of the faces in a text, beside the points that a source gives.
+/// Returns what is told of the faces in a text, beside the points that a source gives.
 ///
 /// # Errors
 ///

@@ -1,7 +1,8 @@
 //! The program `hullcheck`: whether faces that any program wrote are the convex hull of points.
 //!
-//! `command_line` says what is asked, `judging` reads points and faces and asks `judge_faces` of qh_judge, `statuses` says
-//! with which status the program ends, and `program` runs this between files and standard streams.
+//! `command_line` says what is asked, `judging` reads points and faces and asks `judge_faces` of qh_judge,
+//! `statuses` says with which status the program ends, and `program` runs this between files and standard
+//! streams.
 #![tactic(auto)]
 
 mod command_line;

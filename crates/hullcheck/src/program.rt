@@ -17,20 +17,20 @@ use std::rt::{Env, Files};
 use std::thread::Threads;
 use std::{env, fs};
 
-/// The words of the command line.
+/// Returns the words of the command line.
 fn words<R: Env + AllocGlobal>(rt: &R) -> Result<Vec<String>, Fault> {
     let args = env::args(rt).map_err(|_| Fault::Usage)?;
     args.collect(rt.alloc()).map_err(|_| Fault::Memory)
 }
 
-/// All bytes of a reader.
+/// Returns all bytes of a reader.
 fn bytes_of<S: Read + Drop>(alloc: Global, mut reader: S) -> Result<Vec<u8>, Fault> {
     let mut bytes = Vec::new(alloc);
     reader.read_to_end(&mut bytes).map_err(|_| Fault::Device)?;
     Ok(bytes)
 }
 
-/// The text of the file of faces, or of standard input.
+/// Returns the text of the file of faces, or of standard input.
 fn faces_text<R: Files + Input + AllocGlobal>(
     rt: &R,
     settings: &Settings,
@@ -42,7 +42,7 @@ fn faces_text<R: Files + Input + AllocGlobal>(
     }
 }
 
-/// What is told of the faces that a command line names.
+/// Returns what is told of the faces that a command line names.
 fn told<R: Env + Files + Input + AllocGlobal + Threads + Sync>(rt: &R) -> Result<Judgement, Fault>
     ensures { IfOk result IsToldOfSome }
 {

@@ -14,7 +14,7 @@ use std::thread::Threads;
 /// The corners of a cube, and two of them once more.
 const CUBE: &str = "3 10\n0 0 0\n0 0 1\n0 1 0\n0 1 1\n1 0 0\n1 0 1\n1 1 0\n1 1 1\n0 0 0\n1 1 1\n";
 
-/// What is told of a text of faces of the cube.
+/// Returns what is told of a text of faces of the cube.
 fn told<R: Threads + Sync>(
     rt: &R,
     alloc: Global,

@@ -34,7 +34,7 @@ pub enum ArgFault {
 /// The words of the outputs.
 static NAMES: [&str; 5] = ["rank", "s", "Fx", "off", "offt"];
 
-/// The parser of whole numbers from 1 to a limit.
+/// Returns the parser of whole numbers from 1 to a limit.
 fn up_to<'a>(limit: u32) -> ValueParser<'a>
     requires { 0 < limit }
     ensures { result ≡ from_one_to limit }
@@ -42,7 +42,7 @@ fn up_to<'a>(limit: u32) -> ValueParser<'a>
     value_parser!(u32).range(1..=i64::from(limit))
 }
 
-/// An option `--name N` with a default, for numbers from 1 to a limit.
+/// Returns an option `--name N` with a default, for numbers from 1 to a limit.
 fn number_arg<'a>(alloc: Global, name: &'a str, default: &'a str, limit: u32) -> Arg<'a>
     requires { 0 < limit }
     ensures rule { rule_of result ≡ number_option name.entry.now default.entry.now limit }
@@ -59,7 +59,7 @@ fn number_arg<'a>(alloc: Global, name: &'a str, default: &'a str, limit: u32) ->
 /// The words of the forms.
 static FORMS: [&str; 2] = ["qhull", "off"];
 
-/// The option `--from FORM`.
+/// Returns the option `--from FORM`.
 fn from_arg<'a>(alloc: Global) -> Arg<'a>
     ensures rule { (p : _) × (words_taken p ≡ map form_word (forms.Qhull ∷ forms.Off ∷ [])) × (rule_of result ≡ from_option p) }
     ensures local { result.global ≡ false }
@@ -72,7 +72,7 @@ fn from_arg<'a>(alloc: Global) -> Arg<'a>
         .value_parser(FORMS.as_slice())
 }
 
-/// The words OUT, which may stand between options.
+/// Returns the words OUT, which may stand between options.
 fn outs_arg<'a>(alloc: Global) -> Arg<'a>
     ensures rule { (p : _) × (words_taken p ≡ map word_of (Rank ∷ Summary ∷ Fx ∷ Off ∷ OffTriangles ∷ [])) × (rule_of result ≡ outs_rule p) }
     ensures local { result.global ≡ false }
@@ -83,7 +83,7 @@ fn outs_arg<'a>(alloc: Global) -> Arg<'a>
         .value_parser(NAMES.as_slice())
 }
 
-/// The command line of the program.
+/// Returns the command line of the program.
 fn command<'a>(alloc: Global) -> Result<Command<'a>, AllocError>
     ensures { IfOk result (λ c. IsProgram (app_of c)) }
 {
@@ -99,7 +99,7 @@ fn command<'a>(alloc: Global) -> Result<Command<'a>, AllocError>
         .arg(outs)
 }
 
-/// The output of a word.
+/// Returns the output of a word.
 fn out_of(name: &str) -> Option<Out>
     ensures some { IfSome result (λ out. word_of out ≡ name.now) }
     ensures none { IfNone result ((out : Out) → word_of out ≢ name.now) }
@@ -114,7 +114,7 @@ fn out_of(name: &str) -> Option<Out>
     }
 }
 
-/// The outputs of the words, or the summary where there are none.
+/// Returns the outputs of the words, or the summary where there are none.
 fn outs_of(alloc: Global, names: Option<&[&str]>) -> Result<Vec<Out>, ArgFault>
     ensures outs { IfOk result (λ v. AreOutsOf (option_map (λ s. map (λ w. w.now) s.now) names.entry) v.items) }
     ensures fault { IfErr result (IsOutsFault (option_map (λ s. map (λ w. w.now) s.now) names.entry)) }
@@ -133,7 +133,7 @@ fn outs_of(alloc: Global, names: Option<&[&str]>) -> Result<Vec<Out>, ArgFault>
     Ok(outs)
 }
 
-/// The form of a word.
+/// Returns the form of a word.
 fn form_named(name: &str) -> Option<Form>
     ensures some { IfSome result (λ form. form_word form ≡ name.now) }
     ensures none { IfNone result ((form : Form) → form_word form ≢ name.now) }
@@ -145,7 +145,7 @@ fn form_named(name: &str) -> Option<Form>
     }
 }
 
-/// The form of the words, where there is one word.
+/// Returns the form of the words, where there is one word.
 fn form_of(names: Option<&[&str]>) -> Option<Form>
     ensures some { IfSome result (λ form. IsFormOf (option_map (λ s. map (λ w. w.now) s.now) names.entry) form) }
     ensures none { IfNone result ((form : Form) → ¬ (IsFormOf (option_map (λ s. map (λ w. w.now) s.now) names.entry) form)) }
@@ -159,7 +159,7 @@ fn form_of(names: Option<&[&str]>) -> Option<Form>
     form_named(names[0])
 }
 
-/// What stands for an error of clap.
+/// Returns what stands for an error of clap.
 fn refused(alloc: Global, error: &Error) -> ArgFault
     ensures { IsRefusalOf (kind_of error.now) result }
 {
@@ -173,7 +173,7 @@ fn refused(alloc: Global, error: &Error) -> ArgFault
     }
 }
 
-/// The value of an option.
+/// Returns the value of an option.
 fn number(matches: &ArgMatches, id: &str) -> Option<u32>
     ensures some { IfSome result (λ n. NumberOf (one_text (found_of matches.now) id.now) n) }
     ensures none { IfNone result ((n : ℕ) → n < 2 ^ 32 → ¬ (NumberOf (one_text (found_of matches.now) id.now) n)) }
@@ -181,7 +181,7 @@ fn number(matches: &ArgMatches, id: &str) -> Option<u32>
     matches.get_one::<u32>(id)
 }
 
-/// The settings that matched words say.
+/// Returns the settings that matched words say.
 fn settings_from(alloc: Global, matches: &ArgMatches) -> Result<Settings, ArgFault>
     ensures found { IfOk result (AreSettingsFound (found_of matches.now)) }
     ensures fault { IfErr result (IsFindingFault (found_of matches.now)) }
@@ -207,7 +207,7 @@ fn settings_from(alloc: Global, matches: &ArgMatches) -> Result<Settings, ArgFau
     }
 }
 
-/// The settings that these words ask for.
+/// Returns the settings that these words ask for.
 fn settings_in<'a>(alloc: Global, words: &'a [String]) -> Result<Settings, ArgFault>
     ensures settings { IfOk result (AreSettingsOf (map string_bytes words.entry.now)) }
     ensures fault { IfErr result (IsArgFaultOf (map string_bytes words.entry.now)) }
@@ -221,7 +221,7 @@ fn settings_in<'a>(alloc: Global, words: &'a [String]) -> Result<Settings, ArgFa
     }
 }
 
-/// The settings that a command line asks for; the first word is the program's name.
+/// Returns the settings that a command line asks for; the first word is the program's name.
 ///
 /// # Errors
 ///

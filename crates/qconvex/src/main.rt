@@ -1,7 +1,7 @@
 //! The program `qconvex`: reads points, writes the outputs that are asked for.
 //!
-//! `command_line` says what is wanted, `help` what there is, and `program` runs `serve` of qh_serve between the standard
-//! streams.
+//! `command_line` says what is wanted, `help` what there is, and `program` runs `serve` of qh_serve between
+//! the standard streams.
 #![tactic(auto)]
 
 mod command_line;

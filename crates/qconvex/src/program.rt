@@ -19,7 +19,8 @@ use std::rt::Env;
 use std::thread::Threads;
 use std::{env, io};
 
-/// Why words that could not be read give no settings: out of memory, or a word is not UTF-8.
+/// Returns why words that could not be read give no settings: out of memory, or a word is not
+/// UTF-8.
 fn unread(kind: ErrorKind) -> ArgFault
     ensures memory { kind ≡ OutOfMemory → result ≡ Memory }
     ensures usage { kind ≢ OutOfMemory → result ≡ Usage }
@@ -30,7 +31,7 @@ fn unread(kind: ErrorKind) -> ArgFault
     }
 }
 
-/// The words of the command line, the program's name first.
+/// Returns the words of the command line, the program's name first.
 fn words<R: Env + AllocGlobal>(rt: &R) -> Result<Vec<String>, ArgFault> {
     let args = match env::args(rt) {
         Ok(args) => args,
@@ -39,7 +40,7 @@ fn words<R: Env + AllocGlobal>(rt: &R) -> Result<Vec<String>, ArgFault> {
     args.collect(rt.alloc()).map_err(|_| ArgFault::Memory)
 }
 
-/// The settings that the command line asks for.
+/// Returns the settings that the command line asks for.
 fn asked<R: Env + AllocGlobal>(rt: &R) -> Result<Settings, ArgFault> {
     settings_of(rt.alloc(), words(rt)?)
 }
@@ -80,7 +81,7 @@ pub fn respond<R: Threads + Sync, S: Source, K: Sink>(
     }
 }
 
-/// The exit status of an outcome: 0, or that of the fault.
+/// Returns the exit status of an outcome: 0, or that of the fault.
 fn exit_code(outcome: Result<(), Fault>) -> ExitCode
     ensures done { OnOk outcome (exit_status result ≡ 0) }
     ensures fault { IfErr outcome (λ f. exit_status result ≡ status_of f) }
@@ -102,8 +103,8 @@ fn end<R: Eprint>(rt: &R, outcome: Result<(), Fault>) -> ExitCode
     exit_code(outcome)
 }
 
-/// Judges the command line, serves the standard streams or writes the help text, and says with which status the program
-/// ends: 0, or that of a fault.
+/// Judges the command line, serves the standard streams or writes the help text, and says with which status
+/// the program ends: 0, or that of a fault.
 pub fn run<R: Env + Input + Print + Eprint + AllocGlobal + Threads + Sync>(rt: &R) -> ExitCode
     ensures { (exit_status result ≡ 0) ⊎ ((f : Fault) × (exit_status result ≡ status_of f)) }
 {

@@ -14,14 +14,14 @@ use crate::sizes::Sizes;
 use crate::written::write_hull;
 use std::alloc::Global;
 
-/// The hull of points, in buffers of the caller.
+/// Returns the hull of points, in buffers of the caller.
 ///
 /// It answers `DONE` where `sizes` counts the parts of the hull, `extremes` begins with the extreme ids,
 /// rising, and `corners` with the corners of the faces, one face after the other: those of face j stand
 /// from `offsets[j]` to before `offsets[j + 1]`, counterclockwise seen from outside.
 ///
 /// Else it answers `NO_POINT`, `TOO_MANY` for more than `POINT_LIMIT` points, `RANGE` for a coordinate
-/// out of range, `MEMORY` where memory was refused, or `ROOM` where a buffer is too short: then `sizes`
+/// out of range, `MEMORY` if an allocation failed, or `ROOM` where a buffer is too short: then `sizes`
 /// counts the parts of the hull, and so tells how long the buffers have to be. The buffers stay as they
 /// were, and but for `ROOM` so does `sizes`. What stands behind an answer in a buffer stays, too.
 #[unsafe(no_mangle)]
@@ -55,7 +55,8 @@ pub extern "C" fn qconvex_hull(
     }
 }
 
-/// The faces of the hull of points as fans of triangles, with their normals, in buffers of the caller.
+/// Returns the faces of the hull of points as fans of triangles, with their normals, in buffers of the
+/// caller.
 ///
 /// It answers `DONE` where `count` is the number of triangles, `triangles` begins with the corners of each,
 /// counterclockwise seen from outside, and `normals` with the three components of the outer normal of

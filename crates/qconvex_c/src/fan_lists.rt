@@ -23,7 +23,7 @@ struct FanLists {
     normals: Vec<i64>,
 }
 
-/// The fans of a hull.
+/// Returns the fans of a hull.
 fn fan_lists(alloc: Global, pts: &[Point], hull: &Hull) -> Result<FanLists, Memory>
     requires { IsHull pts.now hull.now }
     ensures { IfOk result (λ f. AreFans pts.now f.count f.triangles.items f.normals.items) }
@@ -37,7 +37,7 @@ fn fan_lists(alloc: Global, pts: &[Point], hull: &Hull) -> Result<FanLists, Memo
     })
 }
 
-/// The fans of the hull of points that are fit.
+/// Returns the fans of the hull of points that are fit.
 fn fan_lists_of(alloc: Global, points: &[Given]) -> Result<FanLists, Memory>
     requires some { 0 < length points.now }
     requires few { length points.now ≤ POINT_LIMIT }
@@ -66,7 +66,7 @@ fn fill_fans(fans: &FanLists, triangles: &mut [u32], normals: &mut [i64]) -> boo
     true
 }
 
-/// The fans of the hull of points, in buffers.
+/// Returns the fans of the hull of points, in buffers.
 ///
 /// # Errors
 ///

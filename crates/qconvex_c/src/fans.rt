@@ -51,7 +51,7 @@ fn push_fan(numbers: &mut Vec<u32>, face: &[Id]) -> Result<(), AllocError>
     }
 }
 
-/// The corners of the triangles of faces.
+/// Returns the corners of the triangles of faces.
 fn fan_corners(alloc: Global, faces: &[Polygon]) -> Result<Vec<u32>, AllocError>
     ensures { IfOk result (λ v. v.items ≡ flat_map face_corners faces.now) }
 {
@@ -111,7 +111,7 @@ fn push_fan_normals(components: &mut Vec<i64>, pts: &[Point], face: &[Id]) -> Re
     }
 }
 
-/// The normals of the triangles of faces.
+/// Returns the normals of the triangles of faces.
 fn fan_normals(alloc: Global, pts: &[Point], faces: &[Polygon]) -> Result<Vec<i64>, AllocError>
     requires { All (AreIndices pts.now) faces.now }
     ensures { IfOk result (λ v. v.items ≡ flat_map (face_normals (place pts.now)) faces.now) }
@@ -123,14 +123,14 @@ fn fan_normals(alloc: Global, pts: &[Point], faces: &[Polygon]) -> Result<Vec<i6
     Ok(components)
 }
 
-/// The corners of the triangles of a hull.
+/// Returns the corners of the triangles of a hull.
 pub fn body_corners(alloc: Global, body: &Body) -> Result<Vec<u32>, AllocError>
     ensures { IfOk result (λ v. v.items ≡ flat_map face_corners body.now.polygons) }
 {
     fan_corners(alloc, &body.polygons)
 }
 
-/// The normals of the triangles of a hull.
+/// Returns the normals of the triangles of a hull.
 pub fn body_normals(alloc: Global, pts: &[Point], body: &Body) -> Result<Vec<i64>, AllocError>
     requires { AreIndices pts.now body.now.extremes }
     ensures { IfOk result (λ v. v.items ≡ flat_map (face_normals (place pts.now)) body.now.polygons) }

@@ -21,7 +21,7 @@ pub enum Fault {
 }
 
 impl Fault {
-    /// Its number for C.
+    /// Returns its number for C.
     pub fn code(self) -> u32
         ensures { result ≡ code_of self }
     {

@@ -34,7 +34,7 @@ fn push_numbers(numbers: &mut Vec<u32>, ids: &[Id]) -> Result<(), AllocError>
     Ok(())
 }
 
-/// The numbers of ids.
+/// Returns the numbers of ids.
 fn numbers_of(alloc: Global, ids: &[Id]) -> Result<Vec<u32>, AllocError>
     ensures { IfOk result (λ v. v.items ≡ ids.now) }
 {
@@ -43,7 +43,7 @@ fn numbers_of(alloc: Global, ids: &[Id]) -> Result<Vec<u32>, AllocError>
     Ok(numbers)
 }
 
-/// The faces in flat lists.
+/// Returns the faces in flat lists.
 fn faces_of(alloc: Global, faces: &[Polygon]) -> Result<Faces, AllocError>
     ensures corners { IfOk result (λ f. f.corners.items ≡ corners_of faces.now) }
     ensures offsets { IfOk result (λ f. f.offsets.items ≡ offsets_of faces.now) }
@@ -58,11 +58,11 @@ fn faces_of(alloc: Global, faces: &[Polygon]) -> Result<Faces, AllocError>
     Ok(Faces { corners, offsets })
 }
 
-/// The hull in flat lists.
+/// Returns the hull in flat lists.
 ///
 /// # Errors
 ///
-/// `Memory` where memory was refused.
+/// `Memory` if an allocation failed.
 pub fn flat_hull(alloc: Global, hull: &Hull) -> Result<FlatHull, Memory>
     ensures { IfOk result (λ f. (pts : List Vector) → IsHull pts hull.now → IsFlatHull pts f.sizes f.extremes.items f.offsets.items f.corners.items) }
 {

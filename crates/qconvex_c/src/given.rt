@@ -34,7 +34,7 @@ impl Model for Given {
 }
 
 impl Given {
-    /// The point with these coordinates.
+    /// Returns the point with these coordinates.
     pub fn new(x: i32, y: i32, z: i32) -> Given
         ensures { result ≡ record { x = x; y = y; z = z } }
     {
@@ -42,21 +42,21 @@ impl Given {
     }
 }
 
-/// Whether a coordinate is in range.
+/// Returns true if a coordinate is in range.
 fn is_coordinate(coordinate: i32) -> bool
     ensures { IsTrue result ↔ IsCoordinate coordinate }
 {
     coordinate.unsigned_abs() <= COORDINATE_LIMIT
 }
 
-/// Whether each coordinate of a point is in range.
+/// Returns true if each coordinate of a point is in range.
 fn is_place(point: Given) -> bool
     ensures { IsTrue result ↔ IsPlace point }
 {
     is_coordinate(point.x) && is_coordinate(point.y) && is_coordinate(point.z)
 }
 
-/// Whether each point is in range.
+/// Returns true if each point is in range.
 pub fn are_places(points: &[Given]) -> bool
     ensures { IsTrue result ↔ All IsPlace points.now }
 {
@@ -68,11 +68,11 @@ pub fn are_places(points: &[Given]) -> bool
     true
 }
 
-/// The same points, as a hull is made of them.
+/// Returns the same points, as a hull is made of them.
 ///
 /// # Errors
 ///
-/// `Memory` where memory was refused.
+/// `Memory` if an allocation failed.
 pub fn points_of(alloc: Global, given: &[Given]) -> Result<Vec<Point>, Memory>
     requires { All IsPlace given.now }
     ensures { IfOk result (λ v. v.items ≡ given.now) }
@@ -84,7 +84,7 @@ pub fn points_of(alloc: Global, given: &[Given]) -> Result<Vec<Point>, Memory>
     Ok(points)
 }
 
-/// One of the points, as volumes are made of it.
+/// Returns one of the points, as volumes are made of it.
 #[tactic(auto, unfolding(qh_model::specs::headline::Predicates::place))]
 pub fn point_of(given: &[Given], index: u32) -> Point
     requires places { All IsPlace given.now }

@@ -8,7 +8,8 @@ use crate::fault::Fault;
 use crate::given::{Given, are_places};
 use qh_model::POINT_LIMIT;
 
-/// Whether points have a hull here: there is one, they are not too many, and all are in range.
+/// Returns true if points have a hull here: there is one, they are not too many, and all are in
+/// range.
 ///
 /// # Errors
 ///

@@ -10,16 +10,17 @@ use crate::set_hulls::write_hulls;
 use crate::sets::{Rooms, are_starts, have_room};
 use std::alloc::Global;
 
-/// The hulls of many sets of points, in buffers of the caller.
+/// Returns the hulls of many sets of points, in buffers of the caller.
 ///
-/// Set j has the points from `starts[j]` to before `starts[j + 1]`, so there are as many sets as starts, less one. It
-/// answers `DONE` where `answers` begins with the answer of each set, which is that of [`qconvex_hull`](crate::qconvex_hull)
-/// for it alone, with ids that count from the set's first point. Its hull stands in its part of each buffer: the part of
-/// set j begins at `starts[j]` in `extremes`, at `2 * starts[j] + 2 * j` in `offsets`, and at `6 * starts[j] + 4 * j` in
-/// `corners`. A set that is refused leaves its parts as they were, and the other sets are answered.
+/// Set j has the points from `starts[j]` to before `starts[j + 1]`, so there are as many sets as starts, less
+/// one. It answers `DONE` where `answers` begins with the answer of each set, which is that of
+/// [`qconvex_hull`](crate::qconvex_hull) for it alone, with ids that count from the set's first point. Its
+/// hull stands in its part of each buffer: the part of set j begins at `starts[j]` in `extremes`, at `2 *
+/// starts[j] + 2 * j` in `offsets`, and at `6 * starts[j] + 4 * j` in `corners`. A set that is refused leaves
+/// its parts as they were, and the other sets are answered.
 ///
-/// Else all stays as it was: it answers `STARTS` where starts do not rise, one is beyond the points, or there is none, and
-/// `ROOM` where there is no room for all answers and parts.
+/// Else all stays as it was: it answers `STARTS` where starts do not rise, one is beyond the points, or there
+/// is none, and `ROOM` where there is no room for all answers and parts.
 #[unsafe(no_mangle)]
 pub extern "C" fn qconvex_hulls(
     alloc: Global,

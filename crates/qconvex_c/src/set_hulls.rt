@@ -9,7 +9,7 @@ use crate::sets::{Set, set_at};
 use crate::sizes::Sizes;
 use std::alloc::Global;
 
-/// The sizes of no hull.
+/// Returns the sizes of no hull.
 fn no_sizes() -> Sizes
     ensures { result ≡ NO_SIZES }
 {
@@ -24,7 +24,7 @@ fn no_sizes() -> Sizes
     }
 }
 
-/// The hull of one set, in its part of each buffer.
+/// Returns the hull of one set, in its part of each buffer.
 fn hull_of_set(
     alloc: Global,
     points: &[Given],
@@ -60,7 +60,7 @@ fn hull_of_set(
     SetAnswer { code, sizes }
 }
 
-/// The hull of each set, in its part of each buffer.
+/// Writes the hull of each set into its part of each buffer.
 pub fn write_hulls(
     alloc: Global,
     points: &[Given],

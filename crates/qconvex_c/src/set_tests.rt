@@ -27,7 +27,7 @@ const CORNERS: [u32; 49] = [
     99, 99, 99, 99, 99, 0, 1, 99, 99, 99, 99, 99, 99, 99, 99, 99, 99, 99, 99, 99, 99, 99,
 ];
 
-/// A tetrahedron, and a segment.
+/// Returns a tetrahedron, and a segment.
 fn points() -> [Given; 6] {
     [
         Given::new(0, 0, 0),

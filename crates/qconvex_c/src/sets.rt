@@ -19,7 +19,7 @@ pub struct Rooms {
     pub corners: usize,
 }
 
-/// Whether starts rise, there is one, and none is beyond so many points.
+/// Returns true if starts rise, there is one, and none is beyond the number of points.
 pub fn are_starts(starts: &[usize], count: usize) -> bool
     ensures { IsTrue result ↔ AreStarts count starts.now }
 {
@@ -33,7 +33,8 @@ pub fn are_starts(starts: &[usize], count: usize) -> bool
     !starts.is_empty()
 }
 
-/// Whether there is room for the hull of each set by Euler's formula: a part for each in each buffer.
+/// Returns true if there is room for the hull of each set by Euler's formula: a part for each in each
+/// buffer.
 pub fn have_room(starts: &[usize], rooms: Rooms) -> bool
     requires { 0 < length starts.now }
     ensures { IsTrue result ↔ HaveRoom starts.now rooms.answers rooms.extremes rooms.offsets rooms.corners }
@@ -47,7 +48,7 @@ pub fn have_room(starts: &[usize], rooms: Rooms) -> bool
     answers && extremes && offsets && corners
 }
 
-/// The set of a number.
+/// Returns the set of a number.
 pub fn set_at(starts: &[usize], number: usize) -> Set
     requires { number + 1 < length starts.now }
     ensures { result ≡ record { number = number; begin = slice_index starts.now number; end = slice_index starts.now (number + 1) } }

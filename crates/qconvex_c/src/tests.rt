@@ -2,7 +2,7 @@
 use crate::{DONE, Given, NO_POINT, RANGE, ROOM, Sizes, qconvex_fans, qconvex_hull};
 use std::test::Fail;
 
-/// No sizes yet.
+/// Returns no sizes yet.
 fn no_sizes() -> Sizes {
     Sizes {
         points: 0,
@@ -15,7 +15,7 @@ fn no_sizes() -> Sizes {
     }
 }
 
-/// The corners of a cube, in rising order of their coordinates, and the first once more.
+/// Returns the corners of a cube, in rising order of their coordinates, and the first once more.
 fn cube() -> [Given; 9] {
     [
         Given::new(0, 0, 0),

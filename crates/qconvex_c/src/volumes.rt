@@ -22,7 +22,7 @@ pub struct Wide {
     pub high: u64,
 }
 
-/// The words of a number.
+/// Returns the words of a number.
 fn words_of(number: i128) -> Wide
     ensures { result.low + 2 ^ 64 * result.high ≡ cast_unsigned w128 number }
 {
@@ -33,7 +33,7 @@ fn words_of(number: i128) -> Wide
     }
 }
 
-/// Whether each corner is the index of a point.
+/// Returns true if each corner is the index of a point.
 fn are_indices(corners: &[u32], points: &[Given]) -> bool
     ensures { IsTrue result ↔ AreIndices points.now corners.now }
 {
@@ -45,7 +45,7 @@ fn are_indices(corners: &[u32], points: &[Given]) -> bool
     true
 }
 
-/// The sum over triangles, or none where 128 bits do not hold it or one on the way to it.
+/// Returns the sum over triangles, or none where 128 bits do not hold it or one on the way to it.
 fn sum_of_volumes(points: &[Given], triangles: &[u32]) -> Option<i128>
     requires some { 0 < length points.now }
     requires places { All IsPlace points.now }
@@ -71,13 +71,14 @@ fn sum_of_volumes(points: &[Given], triangles: &[u32]) -> Option<i128>
     Some(total)
 }
 
-/// Six times the volume inside triangles that close up, as those of `qconvex_fans` do: the sum of the determinants of
-/// the corners of each, seen from the first point. It is exact, and above 0 where the triangles are counterclockwise
-/// seen from outside.
+/// Returns six times the volume inside triangles that close up, as those of `qconvex_fans` do: the sum of the
+/// determinants of the corners of each, seen from the first point. It is exact, and above 0 where the triangles are
+/// counterclockwise seen from outside.
 ///
-/// `triangles` has the corners of each triangle, three for each; one or two that are left count nothing. It answers `DONE`
-/// where `volume` is the sum, `NO_POINT`, `RANGE` where a coordinate is out of range or a corner is the index of no point, or
-/// `ROOM` where the sum, or one on the way to it, has more than 128 bits. All but `DONE` leave `volume` as it was.
+/// `triangles` has the corners of each triangle, three for each; one or two that are left count nothing. It
+/// answers `DONE` where `volume` is the sum, `NO_POINT`, `RANGE` where a coordinate is out of range or a
+/// corner is the index of no point, or `ROOM` where the sum, or one on the way to it, has more than 128 bits.
+/// All but `DONE` leave `volume` as it was.
 #[unsafe(no_mangle)]
 pub extern "C" fn qconvex_six_volumes(points: &[Given], triangles: &[u32], volume: &mut Wide) -> u32
     ensures done { result ≡ QCONVEX_DONE

@@ -16,7 +16,7 @@ use qh_hull::hull_alone;
 use qh_model::Memory;
 use std::alloc::Global;
 
-/// The hull of points that are fit, in flat lists.
+/// Returns the hull of points that are fit, in flat lists.
 fn flat_hull_of(alloc: Global, points: &[Given]) -> Result<FlatHull, Memory>
     requires some { 0 < length points.now }
     requires few { length points.now ≤ POINT_LIMIT }
@@ -28,7 +28,7 @@ fn flat_hull_of(alloc: Global, points: &[Given]) -> Result<FlatHull, Memory>
     flat_hull(alloc, &hull)
 }
 
-/// The hull of points, in buffers.
+/// Returns the hull of points, in buffers.
 ///
 /// # Errors
 ///

@@ -6,14 +6,14 @@ use qh_model::{Body, Id, Memory, Polygon};
 use qh_plane::rising_ids;
 use std::alloc::Global;
 
-/// The polygon of a few ids.
+/// Returns the polygon of a few ids.
 pub fn polygon_of(alloc: Global, ids: &[Id]) -> Result<Polygon, Memory>
     ensures { IfOk result (λ q. q ≡ ids.now) }
 {
     Ok(Polygon::of(Vec::from_slice(alloc, ids)?))
 }
 
-/// The hull of a set that has one polygon, in this dimension and with so many edges.
+/// Returns the hull of a set that has one polygon, in this dimension and with this number of edges.
 pub fn flat_body(alloc: Global, dim: u8, polygon: Polygon, edges: u64) -> Result<Body, Memory>
     ensures { IfOk result (λ b. IsFlatBody dim polygon edges b) }
 {

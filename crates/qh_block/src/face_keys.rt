@@ -8,7 +8,7 @@ use qh_model::{Id, Polygon};
 /// The room of an id in a key: three ids below 2^21 fill 63 bits.
 const ID_ROOM: u64 = 2097152;
 
-/// The key of three ids, if all of them have room.
+/// Returns the key of three ids, if all of them have room.
 fn key_of_three(a: Id, b: Id, c: Id) -> Option<u64>
     ensures { result ≡ key_of_three a b c }
 {
@@ -23,7 +23,7 @@ fn key_of_three(a: Id, b: Id, c: Id) -> Option<u64>
     None
 }
 
-/// The key of a triangle, if its ids have room. Other polygons have none.
+/// Returns the key of a triangle, if its ids have room. Other polygons have none.
 pub fn key_of(polygon: &Polygon) -> Option<u64>
     ensures { result ≡ key_of polygon.now }
 {
@@ -33,7 +33,7 @@ pub fn key_of(polygon: &Polygon) -> Option<u64>
     }
 }
 
-/// The triangle of a key.
+/// Returns the triangle of a key.
 pub fn triangle_in(key: u64) -> Polygon
     ensures { result ≡ triangle_in key }
 {

@@ -30,14 +30,14 @@ use qh_surface::walk::walk;
 use qh_surface::{NamedMesh, plane_of};
 use std::alloc::{AllocError, Global};
 
-/// Room for the facets of a plane and for their corners, used again from plane to plane.
+/// Scratch for the facets of a plane and for their corners, used again from plane to plane.
 #[derive(Drop)]
-pub struct Room {
+pub struct Scratch {
     facets: Vec<FacetNo>,
     corners: Vec<Id>,
 }
 
-/// As many marks, none set.
+/// Returns `count` cleared marks.
 fn no_marks(alloc: Global, count: usize) -> Result<Vec<bool>, AllocError>
     ensures none { IfOk result (λ v. (f : ℕ) → mark_at v.items f ≡ false) }
     ensures len { IfOk result (λ v. length v.items ≡ count) }
@@ -79,7 +79,7 @@ fn gather_corners(
     Ok(())
 }
 
-/// The polygon of ids in the plane of a live facet, seen from its outer side.
+/// Returns the polygon of ids in the plane of a live facet, seen from its outer side.
 fn facet_polygon(
     alloc: Global,
     pts: &[Point],
@@ -98,7 +98,7 @@ fn facet_polygon(
     polygon(alloc, pts, ids, &normal)
 }
 
-/// The corners of a live facet, from the least on.
+/// Returns the corners of a live facet, from the least on.
 fn lone_triangle(surface: &NamedMesh, f: FacetNo) -> Polygon
     requires positions { AreCornersBelow (length surface.now.ids.items) surface.now.mesh }
     requires live { IsLive surface.now.mesh f }
@@ -114,14 +114,15 @@ fn lone_triangle(surface: &NamedMesh, f: FacetNo) -> Polygon
     }
 }
 
-/// The polygon of the plane of a live facet that has no mark; marks the facets in that plane.
+/// Returns the polygon of the plane of a live facet that has no mark; marks the facets in that
+/// plane.
 fn new_face(
     alloc: Global,
     pts: &[Point],
     surface: &NamedMesh,
     f: FacetNo,
     marks: &mut [bool],
-    room: &mut Room,
+    room: &mut Scratch,
 ) -> Result<Polygon, Memory>
     requires named { IsNamedMesh pts.now surface.now }
     requires live { IsLive surface.now.mesh f }
@@ -147,7 +148,7 @@ fn new_face(
     facet_polygon(alloc, pts, surface, f, &room.corners)
 }
 
-/// The faces of a finished mesh, one for each plane of its live facets, in no order.
+/// Returns the faces of a finished mesh, one for each plane of its live facets, in no order.
 pub(crate) fn faces(
     alloc: Global,
     pts: &[Point],
@@ -160,7 +161,7 @@ pub(crate) fn faces(
 {
     let mut places = no_marks(alloc, surface.mesh.places())?;
     let marks = places.as_mut_slice();
-    let mut room = Room {
+    let mut room = Scratch {
         facets: Vec::new(alloc),
         corners: Vec::new(alloc),
     };
@@ -173,8 +174,9 @@ pub(crate) fn faces(
     Ok(faces)
 }
 
-/// The faces of a finished mesh in the planes of chosen facets, one for each plane that has a chosen one, in no order. `chosen`
-/// tells for each place of the mesh whether its facet is chosen. The facets of one plane may be chosen or not, each for itself.
+/// Returns the faces of a finished mesh in the planes of chosen facets, one for each plane that has a chosen one, in
+/// no order. `chosen` tells for each place of the mesh whether its facet is chosen. The facets of one plane may be
+/// chosen or not, each for itself.
 ///
 /// # Errors
 ///
@@ -198,7 +200,7 @@ pub fn faces_of_chosen(
 {
     let mut places = no_marks(alloc, surface.mesh.places())?;
     let marks = places.as_mut_slice();
-    let mut room = Room {
+    let mut room = Scratch {
         facets: Vec::new(alloc),
         corners: Vec::new(alloc),
     };

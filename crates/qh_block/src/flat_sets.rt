@@ -12,7 +12,7 @@ use qh_plane::polygon;
 use qh_pred::{cross, point_at};
 use std::alloc::Global;
 
-/// The hull of a set in the line of its first two ids, `i` and `j`.
+/// Returns the hull of a set in the line of its first two ids, `i` and `j`.
 pub(crate) fn segment_hull(alloc: Global, set: IdSet, i: Id, j: Id) -> Result<Body, Memory>
     requires two { AreFirstTwo set.ids.now i j }
     requires line { Each (IsInLine set.pts.now i j) set.ids.now }
@@ -28,7 +28,8 @@ pub(crate) fn segment_hull(alloc: Global, set: IdSet, i: Id, j: Id) -> Result<Bo
     flat_body(alloc, 1, polygon_of(alloc, &ends)?, 1)
 }
 
-/// The hull of a set in the plane of `i`, `j` and `k`: its first two ids and the first off their line.
+/// Returns the hull of a set in the plane of `i`, `j` and `k`: its first two ids and the first off
+/// their line.
 pub(crate) fn polygon_hull(alloc: Global, set: IdSet, i: Id, j: Id, k: Id) -> Result<Body, Memory>
     requires two { AreFirstTwo set.ids.now i j }
     requires off_line { IsFirstNot (IsInLine set.pts.now i j) set.ids.now k }

@@ -9,7 +9,7 @@ ghost use Rattle.qh_mesh.specs.contract.Names.{name_in};
 use qh_model::{Id, Memory};
 use std::alloc::{AllocError, Global};
 
-/// The numbers below a count, rising.
+/// Returns the numbers below a count, rising.
 ///
 /// `Err` says that an allocation failed, or that there are more than numbers of 32 bits.
 pub fn numbers_below(alloc: Global, count: usize) -> Result<Vec<u32>, Memory>
@@ -25,7 +25,7 @@ pub fn numbers_below(alloc: Global, count: usize) -> Result<Vec<u32>, Memory>
     Ok(numbers)
 }
 
-/// The positions below a count, rising.
+/// Returns the positions below a count, rising.
 ///
 /// `Err` says that an allocation failed, or that there are more than ids have numbers.
 pub fn positions_below(alloc: Global, count: usize) -> Result<Vec<Id>, Memory>
@@ -40,7 +40,7 @@ pub fn positions_below(alloc: Global, count: usize) -> Result<Vec<Id>, Memory>
     )
 }
 
-/// The id at a position, or the position where the list has no such.
+/// Returns the id at a position, or the position where the list has no such.
 fn id_at(ids: &[Id], position: Id) -> Id
     ensures { result ≡ name_in ids.now position }
 {
@@ -50,7 +50,7 @@ fn id_at(ids: &[Id], position: Id) -> Id
     }
 }
 
-/// The ids at positions, in the order of the positions.
+/// Returns the ids at positions, in the order of the positions.
 pub fn ids_at(alloc: Global, ids: &[Id], positions: &[Id]) -> Result<Vec<Id>, AllocError>
     ensures { IfOk result (λ v. v.items ≡ map (name_in ids.now) positions.now) }
 {

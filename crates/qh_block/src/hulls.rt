@@ -13,7 +13,7 @@ use crate::bodies::{flat_body, polygon_of};
 use crate::flat_sets::{polygon_hull, segment_hull};
 use crate::gathered::{ids_at, positions_below};
 use crate::id_set::IdSet;
-use crate::inner_points::outer_ids;
+use crate::inner_points::cull_ids;
 use crate::inner_points::sieves::{Alone, InThreads};
 use crate::solids::{solid_body, solid_extremes, solid_mesh};
 use qh_model::{Body, Id, Memory, Point};
@@ -22,7 +22,7 @@ use qh_surface::points_of;
 use std::alloc::Global;
 use std::thread::Threads;
 
-/// The extreme ids of a set, rising, by a run over all of its ids where they stand.
+/// Returns the extreme ids of a set, rising, by a run over all of its ids where they stand.
 fn extremes_in_place(alloc: Global, set: IdSet) -> Result<Vec<Id>, Memory>
     requires some { 0 < length set.ids.now }
     ensures { IfOk result (λ v. AreExtremesOf set.entry v.items) }
@@ -35,7 +35,7 @@ fn extremes_in_place(alloc: Global, set: IdSet) -> Result<Vec<Id>, Memory>
     Ok(body.extremes)
 }
 
-/// The extreme ids of a set, rising, by a run over all of its points, gathered.
+/// Returns the extreme ids of a set, rising, by a run over all of its points, gathered.
 fn extremes_of_all(alloc: Global, set: IdSet) -> Result<Vec<Id>, Memory>
     requires some { 0 < length set.ids.now }
     ensures { IfOk result (λ v. AreExtremesOf set.entry v.items) }
@@ -50,7 +50,7 @@ fn extremes_of_all(alloc: Global, set: IdSet) -> Result<Vec<Id>, Memory>
     Ok(ids_at(alloc, set.ids, &found)?)
 }
 
-/// The hull of a set, by a run over all of its ids.
+/// Returns the hull of a set, by a run over all of its ids.
 fn hull_of_all(alloc: Global, set: IdSet) -> Result<Body, Memory>
     requires some { 0 < length set.ids.now }
     ensures { IfOk result (IsHullOf set.entry) }
@@ -74,8 +74,8 @@ fn hull_of_all(alloc: Global, set: IdSet) -> Result<Body, Memory>
 ///
 /// # Errors
 ///
-/// `Memory` where memory was refused.
-pub fn outer<R: Threads + Sync>(
+/// `Memory` if an allocation failed.
+pub fn cull_interior<R: Threads + Sync>(
     rt: &R,
     alloc: Global,
     pts: &[Point],
@@ -93,16 +93,16 @@ pub fn outer<R: Threads + Sync>(
         rt,
         threads: threads as usize,
     };
-    outer_ids(&sieve, alloc, IdSet { pts, ids })
+    cull_ids(&sieve, alloc, IdSet { pts, ids })
 }
 
-/// The extreme ids of a set, as [`extremes`] gives them, by a run over all of its ids: for a set that
-/// [`outer`] was asked of before, or that is a part of such a one.
+/// Returns the extreme ids of a set, as [`extremes`] gives them, by a run over all of its ids: for a
+/// set that [`cull_interior`] was asked of before, or that is a part of such a one.
 ///
 /// # Errors
 ///
-/// `Memory` where memory was refused.
-pub fn extremes_unlooked(alloc: Global, pts: &[Point], ids: &[Id]) -> Result<Vec<Id>, Memory>
+/// `Memory` if an allocation failed.
+pub fn extremes_unculled(alloc: Global, pts: &[Point], ids: &[Id]) -> Result<Vec<Id>, Memory>
     requires some { 0 < length ids.now }
     requires indices { AreIndices pts.now ids.now }
     ensures { IfOk result (λ v. IsIdSet pts.now ids.now → AreExtremes (place pts.now) (Members ids.now) v.items) }
@@ -110,14 +110,14 @@ pub fn extremes_unlooked(alloc: Global, pts: &[Point], ids: &[Id]) -> Result<Vec
     extremes_of_all(alloc, IdSet { pts, ids })
 }
 
-/// The extreme ids of a set, rising.
+/// Returns the extreme ids of a set, rising.
 ///
 /// `ids` has at least one id, each the index of one of the points. That the ids rise and have distinct
 /// points (`IsIdSet`) is the caller's condition.
 ///
 /// # Errors
 ///
-/// `Memory` where memory was refused.
+/// `Memory` if an allocation failed.
 ///
 /// Source: Barber, Dobkin and Huhdanpaa 1996, for a set of dimension 3.
 pub fn extremes(alloc: Global, pts: &[Point], ids: &[Id]) -> Result<Vec<Id>, Memory>
@@ -126,13 +126,13 @@ pub fn extremes(alloc: Global, pts: &[Point], ids: &[Id]) -> Result<Vec<Id>, Mem
     ensures { IfOk result (λ v. IsIdSet pts.now ids.now → AreExtremes (place pts.now) (Members ids.now) v.items) }
 {
     let set = IdSet { pts, ids };
-    match outer_ids(&Alone, alloc, set)? {
+    match cull_ids(&Alone, alloc, set)? {
         Some(outer) => extremes_of_all(alloc, IdSet { pts, ids: &outer }),
         None => extremes_of_all(alloc, set),
     }
 }
 
-/// The hull of a set: its dimension, its extreme ids, its faces and the number of its edges.
+/// Returns the hull of a set: its dimension, its extreme ids, its faces and the number of its edges.
 ///
 /// `ids` has at least one id, each the index of one of the points. That the ids rise and have distinct
 /// points (`IsIdSet`) is the caller's condition.
@@ -143,7 +143,7 @@ pub fn extremes(alloc: Global, pts: &[Point], ids: &[Id]) -> Result<Vec<Id>, Mem
 ///
 /// # Errors
 ///
-/// `Memory` where memory was refused.
+/// `Memory` if an allocation failed.
 ///
 /// Source: Barber, Dobkin and Huhdanpaa 1996, for a set of dimension 3.
 pub fn hull(alloc: Global, pts: &[Point], ids: &[Id]) -> Result<Body, Memory>
@@ -152,7 +152,7 @@ pub fn hull(alloc: Global, pts: &[Point], ids: &[Id]) -> Result<Body, Memory>
     ensures { IfOk result (λ b. IsIdSet pts.now ids.now → IsBody (place pts.now) (Members ids.now) b) }
 {
     let set = IdSet { pts, ids };
-    match outer_ids(&Alone, alloc, set)? {
+    match cull_ids(&Alone, alloc, set)? {
         Some(outer) => hull_of_all(alloc, IdSet { pts, ids: &outer }),
         None => hull_of_all(alloc, set),
     }

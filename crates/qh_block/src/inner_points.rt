@@ -1,8 +1,9 @@
 //! Points inside a large set, which go before Quickhull sees them.
 //!
-//! Planes close under those of the hull of a small sample of the set (`sample`, `coarse_planes`) cut each column of a grid into cells
-//! (`grid`, `columns`, `heights`, `cells`, `bounds`). The few planes that come near a cell tell of its points which are strictly
-//! inside the hull of the sample. These are not extreme, in the sample or in the set.
+//! Planes close under those of the hull of a small sample of the set (`sample`, `coarse_planes`) cut each
+//! column of a grid into cells (`grid`, `columns`, `heights`, `cells`, `bounds`). The few planes that come
+//! near a cell tell of its points which are strictly inside the hull of the sample. These are not extreme, in
+//! the sample or in the set.
 //!
 //! Of a large set a first round leaves many points. A sample of these lies near the surface of the hull,
 //! so a second round leaves few.
@@ -38,8 +39,9 @@ fn hold_most(sample: IdSet, columns: &Columns) -> bool {
     filter_pays(held, sample.ids.len())
 }
 
-/// The ids of a large set but those that a round finds inside; none where the round does not pay.
-fn outer_ids_once<S: Sieve>(
+/// Returns the ids of a large set but those that a round finds inside; `None` if the round does
+/// not pay.
+fn ids_after_round<S: Sieve>(
     sieve: &S,
     alloc: Global,
     set: IdSet,
@@ -69,23 +71,23 @@ fn outer_ids_once<S: Sieve>(
     Ok(Some(outer))
 }
 
-/// The ids of a large set but those that are found inside, in two rounds, or of a smaller one in one; none
-/// where the first does not pay.
-pub fn outer_ids<S: Sieve>(sieve: &S, alloc: Global, set: IdSet) -> Result<Option<Vec<Id>>, Memory>
+/// Returns the ids of a large set but those that are found inside, in two rounds, or of a smaller one in
+/// one; `None` if the first does not pay.
+pub fn cull_ids<S: Sieve>(sieve: &S, alloc: Global, set: IdSet) -> Result<Option<Vec<Id>>, Memory>
     requires some { 0 < length set.ids.now }
     requires ready { S.ready sieve.now }
     ensures some { IfOk result (λ found. IfSome found (λ v. 0 < length v.items)) }
     ensures part { IfOk result (λ found. IfSome found (λ v. IsOuterPart set.entry.pts.now set.entry.ids.now v.items)) }
 {
     let round = round_of_all(set.ids.len());
-    let Some(first) = outer_ids_once(sieve, alloc, set, &round)? else {
+    let Some(first) = ids_after_round(sieve, alloc, set, &round)? else {
         return Ok(None);
     };
     let left = IdSet {
         pts: set.pts,
         ids: &first,
     };
-    match outer_ids_once(sieve, alloc, left, &SECOND_ROUND)? {
+    match ids_after_round(sieve, alloc, left, &SECOND_ROUND)? {
         Some(second) => Ok(Some(second)),
         None => Ok(Some(first)),
     }

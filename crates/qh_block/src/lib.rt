@@ -33,6 +33,6 @@ mod solids;
 pub use blocking::{BLOCK_ALONE, TELLING, WHOLE_ALONE, are_few, block_size, tree_pays};
 pub use face_order::sort_faces;
 pub use faces::faces_of_chosen;
-pub use hulls::{extremes, extremes_unlooked, hull, outer};
+pub use hulls::{cull_interior, extremes, extremes_unculled, hull};
 pub use qh_surface::surface;
 pub use solids::body_of_faces;

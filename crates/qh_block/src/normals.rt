@@ -5,7 +5,7 @@ ghost use Rattle.qh_model.specs.headline.Vector.{origin, minus};
 
 use qh_pred::Normal;
 
-/// Whether the first component that is not 0 is above 0.
+/// Returns true if the first component that is not 0 is above 0.
 fn points_forward(normal: &Normal) -> bool
     ensures { IsTrue result ↔ PointsForward normal.now }
 {
@@ -13,7 +13,7 @@ fn points_forward(normal: &Normal) -> bool
     x > 0 || x == 0 && (y > 0 || y == 0 && z > 0)
 }
 
-/// The normal or its opposite, whichever points forward.
+/// Returns the normal or its opposite, whichever points forward.
 pub fn forward(normal: Normal) -> Normal
     requires { normal ≢ origin }
     ensures forward { PointsForward result }

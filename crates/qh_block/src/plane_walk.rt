@@ -14,7 +14,7 @@ ghost use Rattle.qh_surface.specs.contract.Corners.{AreCornersBelow};
 use qh_mesh::{EdgeNo, FacetNo, Mesh};
 use qh_model::Point;
 use qh_pred::{Plane, point_at};
-use qh_surface::walk::Test;
+use qh_surface::walk::FacetPredicate;
 
 /// Whether a facet lies in the plane of a live one, which the walk starts from.
 #[derive(Clone, Copy, Drop)]
@@ -25,7 +25,7 @@ pub struct IsLevel<'a> {
 }
 
 impl IsLevel<'_> {
-    /// Whether the corner of a live facet across from one of its edges lies in the plane.
+    /// Returns true if the corner of a live facet across from one of its edges lies in the plane.
     fn has_opposite(&self, mesh: &Mesh, edge: EdgeNo) -> bool
         requires corners { AreCornersBelow (length self.now.pts.now) mesh.now }
         requires plane { (p : Vector) → height self.now.plane p ≡ facet_vol (place self.now.pts.now) mesh.now self.now.start p }
@@ -38,7 +38,7 @@ impl IsLevel<'_> {
     }
 }
 
-impl Test for IsLevel<'_> {
+impl FacetPredicate for IsLevel<'_> {
     ghost Fits = { λ t fs. AreCornersBelow (length t.pts.now) fs × IsLive fs t.start
         × ((p : Vector) → height t.plane p ≡ facet_vol (place t.pts.now) fs t.start p) };
 

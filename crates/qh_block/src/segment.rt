@@ -6,7 +6,8 @@ use crate::id_set::IdSet;
 use qh_model::{Id, Point};
 use qh_pred::{along, point_at};
 
-/// The one of `k` and `l` whose point comes first along the way from the point of `a` to that of `b`.
+/// Returns the one of `k` and `l` whose point comes first along the way from the point of `a` to that
+/// of `b`.
 fn earlier(pts: &[Point], a: Id, b: Id, k: Id, l: Id) -> Id
     requires a_in { a < length pts.now }
     requires b_in { b < length pts.now }
@@ -24,7 +25,7 @@ fn earlier(pts: &[Point], a: Id, b: Id, k: Id, l: Id) -> Id
     }
 }
 
-/// The id whose point is the first along the way from the point of `a` to that of `b`.
+/// Returns the id whose point is the first along the way from the point of `a` to that of `b`.
 pub fn first_along(set: IdSet, a: Id, b: Id) -> Id
     requires some { 0 < length set.ids.now }
     requires a_in { a < length set.pts.now }

@@ -4,7 +4,7 @@ ghost use Rattle.qh_block.specs.steps.SolidEdges.{ups, all_edges_up};
 
 use qh_model::{Id, Memory, Polygon};
 
-/// How often the way round a polygon goes to a higher id.
+/// Returns how often the way round a polygon goes to a higher id.
 fn edges_up(ids: &[Id]) -> usize
     ensures count { result ≡ length (ups ids.now) }
     ensures limit { result ≤ length ids.now }
@@ -26,8 +26,8 @@ fn edges_up(ids: &[Id]) -> usize
     count
 }
 
-/// How often the ways round polygons go to a higher id: for the faces of a solid the number of their
-/// edges, since two faces go along each edge, in opposite ways.
+/// Returns how often the ways round polygons go to a higher id: for the faces of a solid the number
+/// of their edges, since two faces go along each edge, in opposite ways.
 pub fn edge_count(polygons: &[Polygon]) -> Result<u64, Memory>
     ensures { IfOk result (λ n. n ≡ all_edges_up polygons.now) }
 {

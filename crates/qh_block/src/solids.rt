@@ -23,7 +23,7 @@ use qh_plane::rising_ids;
 use qh_surface::{NamedMesh, Simplex, surface_from};
 use std::alloc::{AllocError, Global};
 
-/// The finished mesh of a set with these first ids off a line and a plane.
+/// Returns the finished mesh of a set with these first ids off a line and a plane.
 pub fn solid_mesh(
     alloc: Global,
     pts: &[Point],
@@ -43,7 +43,7 @@ pub fn solid_mesh(
     surface_from(alloc, pts, ids, Simplex { i, j, k, l })
 }
 
-/// The ids of all polygons, one after the other.
+/// Returns the ids of all polygons, one after the other.
 fn listed_ids(alloc: Global, polygons: &[Polygon]) -> Result<Vec<Id>, AllocError>
     ensures { IfOk result (λ v. v.items ≡ all_members polygons.now) }
 {
@@ -54,7 +54,7 @@ fn listed_ids(alloc: Global, polygons: &[Polygon]) -> Result<Vec<Id>, AllocError
     Ok(ids)
 }
 
-/// The ids of all polygons, rising, each once.
+/// Returns the ids of all polygons, rising, each once.
 fn corners(alloc: Global, polygons: &[Polygon]) -> Result<Vec<Id>, Memory>
     ensures rising { IfOk result (λ v. IsStrictlyIncreasing v.items) }
     ensures members { IfOk result (λ v. (i : ℕ) → In i v.items ↔ In i (all_members polygons.now)) }
@@ -63,7 +63,7 @@ fn corners(alloc: Global, polygons: &[Polygon]) -> Result<Vec<Id>, Memory>
     rising_ids(alloc, &ids)
 }
 
-/// The extreme ids of a set with a finished mesh, rising: the members of its faces.
+/// Returns the extreme ids of a set with a finished mesh, rising: the members of its faces.
 pub fn solid_extremes(alloc: Global, pts: &[Point], surface: &NamedMesh) -> Result<Vec<Id>, Memory>
     requires { IsNamedMesh pts.now surface.now }
     ensures { IfOk result (λ v. (ids : List ℕ) → IsIdSet pts.now ids → IsFinished (place pts.now) ids (surface_of (named surface.now))
@@ -74,7 +74,7 @@ pub fn solid_extremes(alloc: Global, pts: &[Point], surface: &NamedMesh) -> Resu
     Ok(extremes)
 }
 
-/// The hull of a solid set, from its faces in rising lexicographic order.
+/// Returns the hull of a solid set, from its faces in rising lexicographic order.
 ///
 /// The caller promises that the polygons are faces of the set, one at least, and that they close up: each
 /// step from a corner to the next is taken as often as the step back. Then they are all faces of the set
@@ -97,7 +97,7 @@ pub fn body_of_faces(alloc: Global, polygons: Vec<Polygon>) -> Result<Body, Memo
     })
 }
 
-/// The hull of a set with a finished mesh.
+/// Returns the hull of a set with a finished mesh.
 pub fn solid_body(alloc: Global, pts: &[Point], surface: &NamedMesh) -> Result<Body, Memory>
     requires { IsNamedMesh pts.now surface.now }
     ensures { IfOk result (λ b. (ids : List ℕ) → IsIdSet pts.now ids → IsFinished (place pts.now) ids (surface_of (named surface.now))

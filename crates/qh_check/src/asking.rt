@@ -10,14 +10,14 @@ use std::alloc::{AllocError, Global};
 /// The room of a position in a key: 2^64.
 const PLACE: u128 = 18446744073709551616;
 
-/// A rank and a position in one, so that a sort by ranks is one of numbers.
+/// Returns a rank and a position in one, so that a sort by ranks is one of numbers.
 fn key(rank: usize, position: usize) -> u128
     ensures { position_in result ≡ position }
 {
     u128::from(rank as u64) * PLACE + u128::from(position as u64)
 }
 
-/// The keys of the positions of polygons, by the ranks of their first corners.
+/// Returns the keys of the positions of polygons, by the ranks of their first corners.
 fn keys_of(alloc: Global, polygons: &[Polygon], ranks: &[usize]) -> Result<Vec<u128>, AllocError>
     ensures { IfOk result (λ v. (k : ℕ) → k < length polygons.now → In k (map position_in v.items)) }
 {
@@ -28,7 +28,7 @@ fn keys_of(alloc: Global, polygons: &[Polygon], ranks: &[usize]) -> Result<Vec<u
     Ok(keys)
 }
 
-/// The positions of keys.
+/// Returns the positions of keys.
 fn positions_of(alloc: Global, keys: Vec<u128>) -> Result<Vec<usize>, AllocError>
     ensures { IfOk result (λ v. v.items ≡ map position_in keys.items) }
 {
@@ -37,7 +37,7 @@ fn positions_of(alloc: Global, keys: Vec<u128>) -> Result<Vec<usize>, AllocError
         .collect(alloc)
 }
 
-/// All positions of polygons, in the order of the ranks of their first corners.
+/// Returns all positions of polygons, in the order of the ranks of their first corners.
 pub(crate) fn by_rank(
     alloc: Global,
     polygons: &[Polygon],

@@ -30,7 +30,7 @@ fn are_same_polygons(polygons: &[Polygon], others: &[Polygon]) -> bool
     true
 }
 
-/// Whether polygons are those of the hull of a set, by taking the hull.
+/// Returns true if polygons are those of the hull of a set, by taking the hull.
 pub(crate) fn compare(
     alloc: Global,
     pts: &[Point],

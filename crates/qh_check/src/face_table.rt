@@ -1,7 +1,7 @@
 //! Where a face of a hull is found that has given corners.
 //!
-//! A face begins with its least corner, and the faces stand in rising order: so a triangle is found by its first step.
-//! Larger faces are found by their corners (`corner_table`).
+//! A face begins with its least corner, and the faces stand in rising order: so a triangle is found by its
+//! first step. Larger faces are found by their corners (`corner_table`).
 //!
 //! Nothing is proved of what is found: a face is asked whether the polygon is a piece of it (`hull_faces`).
 ghost use Rattle.std.specs.Prelude.{IfOk, IsTrue};
@@ -29,7 +29,7 @@ fn extend_to(numbers: &mut Vec<usize>, index: usize, number: usize) -> Result<()
     Ok(())
 }
 
-/// For each id below a count the number of faces that begin with a lower one, and then the number of all.
+/// Returns for each id below a count the number of faces that begin with a lower one, and then the number of all.
 fn starts_of(alloc: Global, faces: &[Polygon], count: usize) -> Result<Vec<usize>, AllocError> {
     let mut starts = Vec::with_capacity(alloc, count.saturating_add(1))?;
     for position in 0..faces.len() {
@@ -41,12 +41,12 @@ fn starts_of(alloc: Global, faces: &[Polygon], count: usize) -> Result<Vec<usize
     Ok(starts)
 }
 
-/// The second corner of the face at a position.
+/// Returns the second corner of the face at a position.
 fn second_corner(faces: &[Polygon], position: usize) -> Option<Id> {
     faces.get(position)?.ids().get(1).copied()
 }
 
-/// The first position between two at which a face has this second corner or a higher one.
+/// Returns the first position between two at which a face has this second corner or a higher one.
 fn position_of(faces: &[Polygon], from: usize, to: usize, second: Id) -> usize {
     let mut low = from;
     let mut high = to;
@@ -60,7 +60,8 @@ fn position_of(faces: &[Polygon], from: usize, to: usize, second: Id) -> usize {
     low
 }
 
-/// The least corner of a polygon, and the next one; the first ids where the polygon has fewer than two corners.
+/// Returns the least corner of a polygon, and the next one; the first ids where the polygon has fewer than two
+/// corners.
 fn least_step(ids: &[Id]) -> (Id, Id) {
     let mut from = Id::new(0);
     let mut to = Id::new(0);
@@ -76,7 +77,7 @@ fn least_step(ids: &[Id]) -> (Id, Id) {
 }
 
 impl FaceTable {
-    /// The faces of a hull of so many points, in rising order.
+    /// Returns the faces of a hull of `count` points, in rising order.
     pub fn over(alloc: Global, faces: &[Polygon], count: usize) -> Result<FaceTable, AllocError> {
         Ok(FaceTable {
             starts: starts_of(alloc, faces, count)?,
@@ -84,7 +85,7 @@ impl FaceTable {
         })
     }
 
-    /// The position of the face that takes a step first, if there is one.
+    /// Returns the position of the face that takes a step first, if there is one.
     fn position_of(&self, faces: &[Polygon], from: Id, to: Id) -> usize {
         let start = self.starts.get(from.index());
         let end = self.starts.get(from.index().saturating_add(1));

@@ -23,7 +23,8 @@ pub(crate) struct Finding {
     pub fault: FaceFault,
 }
 
-/// A polygon of a group, by its position, that is no face of the set. The planes of a group are asked together.
+/// Returns a polygon of a group, by its position, that is no face of the set. The planes of a group are asked
+/// together.
 fn fault_in_group(
     alloc: Global,
     set: PlacedSet,
@@ -51,7 +52,7 @@ fn fault_in_group(
     Ok(None)
 }
 
-/// What is wrong with the polygon at a position, if there is one and anything is.
+/// Returns what is wrong with the polygon at a position, if there is one and anything is.
 fn fault_among(
     alloc: Global,
     set: NearSet,
@@ -69,7 +70,8 @@ fn fault_among(
     fault_of(alloc, set, &polygons[position], in_plane)
 }
 
-/// A polygon that is no face of the set, if there is one among those at the positions of a list.
+/// Returns a polygon that is no face of the set, if there is one among those at the positions of a
+/// list.
 pub(crate) fn first_fault(
     alloc: Global,
     set: PlacedSet,
@@ -98,7 +100,7 @@ pub(crate) struct Asked<'a> {
     pub order: &'a [usize],
 }
 
-/// The first finding among answers.
+/// Returns the first finding among answers.
 fn first_of(answers: &[Result<Option<Finding>, Memory>]) -> Result<Option<Finding>, Memory>
     ensures { IfOk result (λ found. MatchOption found (All (λ a. a ≡ Ok None) answers.now) (λ f. In (Ok (Some f)) answers.now)) }
 {
@@ -110,8 +112,8 @@ fn first_of(answers: &[Result<Option<Finding>, Memory>]) -> Result<Option<Findin
     Ok(None)
 }
 
-/// A polygon that is no face of the set, if there is one among those at the positions of a list, by a thread for
-/// each part of `size` positions.
+/// Returns a polygon that is no face of the set, if there is one among those at the positions of a list, by a
+/// thread for each part of `size` positions.
 pub(crate) fn first_fault_in_parts<R: Threads>(
     rt: &R,
     alloc: Global,

@@ -29,7 +29,8 @@ fn are_pieces(alloc: Global, hull: HullFaces, polygons: &[Polygon]) -> Result<bo
     Ok(true)
 }
 
-/// Returns true if each of some polygons is found to be a piece of a face of a solid set, whose hull is made for this.
+/// Returns true if each of some polygons is found to be a piece of a face of a solid set, whose hull is made for
+/// this.
 pub(crate) fn are_pieces_of_hull(
     alloc: Global,
     pts: &[Point],

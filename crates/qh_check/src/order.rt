@@ -17,7 +17,7 @@ fn comes_before(p: &[Id], q: &[Id]) -> bool
     p.len() < q.len()
 }
 
-/// The position of the first polygon that does not come before the next.
+/// Returns the position of the first polygon that does not come before the next.
 pub fn out_of_order(polygons: &[Polygon]) -> Option<usize>
     ensures { MatchOption result (RiseStrictly polygons.now) (IsOutOfOrder polygons.now) }
 {

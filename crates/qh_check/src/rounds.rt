@@ -15,7 +15,7 @@ fn is_at(ids: &[Id], position: usize, id: Id) -> bool
     ids[position] == id
 }
 
-/// How many of a list are met by who goes along some ids and has met so many before.
+/// Returns how many items of a list are met on a way along some ids, after `met` that were met before.
 fn met(part: &[Id], before: usize, ids: &[Id]) -> usize
     requires { before ≤ length part.now }
     ensures bound { result ≤ length part.now }
@@ -66,7 +66,8 @@ pub(crate) fn is_met_round(part: &[Id], face: &[Id]) -> bool
     false
 }
 
-/// The position of a corner on the way round a polygon from behind another corner: 0 for the next.
+/// Returns the position of a corner on the way round a polygon from behind another corner: 0 for
+/// the next.
 fn steps_behind(from: usize, to: usize, count: usize) -> usize
     requires from { from < count }
     requires to { to < count }
@@ -79,8 +80,8 @@ fn steps_behind(from: usize, to: usize, count: usize) -> usize
     }
 }
 
-/// Returns true if a list goes round corners of a polygon that stand at these positions of it. It takes the time of the
-/// list, however many corners the polygon has.
+/// Returns true if a list goes round corners of a polygon that stand at these positions of it. It takes the
+/// time of the list, however many corners the polygon has.
 pub(crate) fn goes_round(part: &[Id], face: &[Id], positions: &[usize]) -> bool
     ensures { IsTrue result → IsMetRound part.now face.now }
 {

@@ -24,8 +24,8 @@ use qh_places::Places;
 use std::alloc::Global;
 use std::thread::Threads;
 
-/// The verdict on polygons in order, from the one that is no face, if there is one. Else they have to close
-/// up.
+/// Returns the verdict on polygons in order, from the one that is no face, if there is one. Else they have
+/// to close up.
 fn judged(alloc: Global, polygons: &[Polygon], found: Option<Finding>) -> Result<Verdict, Memory>
     ensures { IfOk result (λ v. (pts : List Vector) (ids : List ℕ) → IsIdSet pts ids → IsDimension (place pts) (Members ids) 3
         → 0 < length polygons.now → RiseStrictly polygons.now

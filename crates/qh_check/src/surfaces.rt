@@ -29,8 +29,8 @@ use qh_plane::{Shape, rank};
 use std::alloc::Global;
 use std::thread::Threads;
 
-/// The verdict on polygons from the one that is no piece, if there is one. Else they have to close up, with two at
-/// each side.
+/// Returns the verdict on polygons from the one that is no piece, if there is one. Else they have to close up,
+/// with two at each side.
 fn judged(
     alloc: Global,
     polygons: &[Polygon],
@@ -53,8 +53,8 @@ fn judged(
     }
 }
 
-/// A polygon that is no piece of a face of the set, if there is one, by a number of threads; by none but the calling
-/// one where the number is 1.
+/// Returns a polygon that is no piece of a face of the set, if there is one, by a number of threads; by none but the
+/// calling one where the number is 1.
 fn first_no_piece<R: Threads>(
     rt: &R,
     alloc: Global,
@@ -105,8 +105,8 @@ fn check_by_planes<R: Threads>(
     judged(alloc, polygons, found)
 }
 
-/// Checks polygons, one at least, of a solid set. Most are right, and found in its hull: planes are asked only where one
-/// is not found there.
+/// Checks polygons, one at least, of a solid set. Most are right, and found in its hull: planes are asked
+/// only where one is not found there.
 fn check_solid_surface<R: Threads>(
     rt: &R,
     alloc: Global,
@@ -129,7 +129,7 @@ fn check_solid_surface<R: Threads>(
     }
 }
 
-/// Whether polygons are those of a set that is not solid.
+/// Returns true if polygons are those of a set that is not solid.
 fn compare_surface(
     alloc: Global,
     pts: &[Point],
@@ -147,14 +147,14 @@ fn compare_surface(
     }
 }
 
-/// Checks whether polygons are the surface of the hull of a set, however they are written: in a solid set pieces of
-/// its faces, such as triangles, in any order, each beginning at any corner, that close up. Those of another set are as
-/// [`check`](crate::check) wants them.
+/// Checks whether polygons are the surface of the hull of a set, however they are written: in a solid set
+/// pieces of its faces, such as triangles, in any order, each beginning at any corner, that close up. Those
+/// of another set are as [`check`](crate::check) wants them.
 ///
 /// `ids` has at least one id, each the index of one of the points. That the ids rise and have distinct points
-/// (`IsIdSet`) is the caller's condition. The verdict is `Right` exactly where the polygons are such a surface; another
-/// verdict says what is wrong: first a polygon that is no piece of a face, then an open edge, then a step that is taken
-/// twice. Of several polygons that are no pieces it names any one.
+/// (`IsIdSet`) is the caller's condition. The verdict is `Right` exactly where the polygons are such a
+/// surface; another verdict says what is wrong: first a polygon that is no piece of a face, then an open
+/// edge, then a step that is taken twice. Of several polygons that are no pieces it names any one.
 ///
 /// Each worker looks at a part of the polygons; no `workers` means one, for which no thread is started.
 ///

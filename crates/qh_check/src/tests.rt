@@ -10,7 +10,7 @@ use std::alloc::{AllocError, Global};
 use std::test::Fail;
 use std::thread::Threads;
 
-/// The corners of a cube, in rising order of their coordinates.
+/// Returns the corners of a cube, in rising order of their coordinates.
 fn cube() -> [Point; 8] {
     [
         Point::new(0, 0, 0),
@@ -27,7 +27,7 @@ fn cube() -> [Point; 8] {
 /// The ids of eight points.
 const EIGHT: [u32; 8] = [0, 1, 2, 3, 4, 5, 6, 7];
 
-/// The ids with those of the numbers that are indices of the points.
+/// Returns the ids with those of the numbers that are indices of the points.
 fn ids_of(alloc: Global, pts: &[Point], numbers: &[u32]) -> Result<Vec<Id>, AllocError>
     ensures { IfOk result (λ v. AreIndices pts.now v.items) }
 {
@@ -40,7 +40,7 @@ fn ids_of(alloc: Global, pts: &[Point], numbers: &[u32]) -> Result<Vec<Id>, Allo
     Ok(ids)
 }
 
-/// The polygons with these corners.
+/// Returns the polygons with these corners.
 fn polygons_of(alloc: Global, faces: &[&[u32]]) -> Result<Vec<Polygon>, AllocError> {
     let mut polygons = Vec::new(alloc);
     for face in faces {
@@ -53,7 +53,7 @@ fn polygons_of(alloc: Global, faces: &[&[u32]]) -> Result<Vec<Polygon>, AllocErr
     Ok(polygons)
 }
 
-/// The verdict on faces of some of the points; none where there are no points.
+/// Returns the verdict on faces of some of the points; `None` if there are no points.
 fn verdict(
     alloc: Global,
     pts: &[Point],
@@ -67,7 +67,7 @@ fn verdict(
     Ok(Some(check(alloc, pts, &ids, &polygons_of(alloc, faces)?)?))
 }
 
-/// The verdict on faces of a cube.
+/// Returns the verdict on faces of a cube.
 fn of_cube(alloc: Global, faces: &[&[u32]]) -> Result<Option<Verdict>, Memory> {
     verdict(alloc, &cube(), &EIGHT, faces)
 }
@@ -87,7 +87,7 @@ fn the_faces_of_a_cube_are_right(rt: HostRuntime) -> Result<(), Fail> {
     Ok(())
 }
 
-/// The verdict of three threads on faces of a cube.
+/// Returns the verdict of three threads on faces of a cube.
 fn by_three_threads<R: Threads + Sync>(
     rt: &R,
     alloc: Global,

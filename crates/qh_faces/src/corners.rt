@@ -24,7 +24,7 @@ pub struct Corners {
     pub last: u32,
 }
 
-/// The number that a word is.
+/// Returns the number that a word is.
 fn number_of(word: Numeral) -> Result<Number, ReadFault>
     ensures ok { IfOk result (λ n. word ≡ record { number = Some n.value; line = n.line }) }
     ensures fault { IfErr result (λ e. (after : ℕ → ℕ → List Numeral → Option ReadFault) (ws : List Numeral)
@@ -51,7 +51,7 @@ pub fn next_number(words: &mut Numerals<'_>) -> Result<Number, ReadFault>
     }
 }
 
-/// Takes so many corners after a word of this line.
+/// Takes a number of corners after a word of this line.
 pub fn take_corners(
     alloc: Global,
     words: &mut Numerals<'_>,

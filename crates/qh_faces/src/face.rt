@@ -42,7 +42,7 @@ fn take_written(
     }
 }
 
-/// The polygon of corners in the order of a file.
+/// Returns the polygon of corners in the order of a file.
 fn polygon_of(corners: Vec<Id>, turn: Turn) -> Polygon
     ensures { result ≡ turned turn corners.items }
 {

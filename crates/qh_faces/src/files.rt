@@ -10,7 +10,7 @@ use qh_model::{BYTE_LIMIT, ReadFault};
 use qh_read::{Numerals, read_off};
 use std::alloc::Global;
 
-/// The vertices and the faces of an OFF file.
+/// Returns the vertices and the faces of an OFF file.
 fn read_off_faces(alloc: Global, bytes: &[u8], reading: Reading) -> Result<Faces, ReadFault>
     requires { reading.layout ≡ layouts.Off }
     ensures read { IfOk result (λ faces. AreOffFaces reading bytes.now faces.vertices.items faces.polygons.items) }
@@ -24,7 +24,7 @@ fn read_off_faces(alloc: Global, bytes: &[u8], reading: Reading) -> Result<Faces
     Ok(Faces { vertices, polygons })
 }
 
-/// The faces of a file that is the list of these.
+/// Returns the faces of a file that is the list of these.
 fn read_whole_faces(alloc: Global, bytes: &[u8], reading: Reading) -> Result<Faces, ReadFault>
     ensures read { IfOk result (λ faces. AreWholeFaces reading bytes.now faces.vertices.items faces.polygons.items) }
     ensures fault { IfErr result (IsWholeFault reading.layout bytes.now) }
@@ -40,14 +40,14 @@ fn read_whole_faces(alloc: Global, bytes: &[u8], reading: Reading) -> Result<Fac
     })
 }
 
-/// The vertices and the faces of a file, in its order, or its first fault.
+/// Returns the vertices and the faces of a file, in its order, or its first fault.
 ///
 /// A file that is no OFF file has no vertices of its own.
 ///
 /// # Errors
 ///
-/// `Memory` where an allocation failed, `Big` where there are more than `BYTE_LIMIT` bytes, and else the first fault of
-/// the text.
+/// `Memory` where an allocation failed, `Big` where there are more than `BYTE_LIMIT` bytes, and else the
+/// first fault of the text.
 pub fn read_faces(alloc: Global, bytes: &[u8], reading: Reading) -> Result<Faces, ReadFault>
     ensures read { IfOk result (λ faces. ReadsFaces reading bytes.now faces.vertices.items faces.polygons.items) }
     ensures fault { IfErr result (IsFaultOfFaces reading.layout bytes.now) }

@@ -1,7 +1,8 @@
 //! Reads the faces that a file has, which any program may have written.
 //!
-//! [`read_faces`] answers the vertices and the faces of a byte string, or the first fault that it has. `corners` takes the
-//! corners of faces from the words of `qh_read`, `face` takes a face, `list` all faces, and `files` begins where these stand.
+//! [`read_faces`] answers the vertices and the faces of a byte string, or the first fault that it has.
+//! `corners` takes the corners of faces from the words of `qh_read`, `face` takes a face, `list` all faces,
+//! and `files` begins where these stand.
 #![tactic(auto)]
 
 mod corners;

@@ -24,7 +24,7 @@ fn finish(words: &mut Numerals<'_>) -> Result<(), ReadFault>
     }
 }
 
-/// Takes so many faces, after which no word comes.
+/// Takes a number of faces, after which no word comes.
 fn take_faces(
     alloc: Global,
     words: &mut Numerals<'_>,
@@ -44,7 +44,7 @@ fn take_faces(
     Ok(faces)
 }
 
-/// Passes over so many words.
+/// Passes over a number of words.
 pub fn skip_words(words: &mut Numerals<'_>, count: usize)
     ensures { words.new ≡ drop count words.old }
 {
@@ -53,7 +53,7 @@ pub fn skip_words(words: &mut Numerals<'_>, count: usize)
     }
 }
 
-/// Takes the number of faces, passes over so many words, and takes the faces.
+/// Takes the number of faces, passes over a number of words, and takes the faces.
 pub fn take_list(
     alloc: Global,
     words: &mut Numerals<'_>,

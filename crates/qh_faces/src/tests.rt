@@ -4,7 +4,7 @@ use qh_model::{Polygon, ReadFault};
 use std::alloc::Global;
 use std::test::Fail;
 
-/// A file of this layout, whose faces go as in OFF files.
+/// Returns a file of this layout, whose faces go as in OFF files.
 fn counterclockwise(layout: Layout) -> Reading {
     Reading {
         layout,
@@ -12,13 +12,13 @@ fn counterclockwise(layout: Layout) -> Reading {
     }
 }
 
-/// The polygons of a text.
+/// Returns the polygons of a text.
 fn polygons(alloc: Global, text: &str, reading: Reading) -> Result<Vec<Polygon>, ReadFault> {
     let faces = read_faces(alloc, text.as_bytes(), reading)?;
     Ok(faces.polygons)
 }
 
-/// The corners of a face, as numbers.
+/// Returns the corners of a face, as numbers.
 fn corners(polygons: &[Polygon], face: usize) -> [u32; 3] {
     match polygons.get(face).map(|polygon| polygon.ids()) {
         Some([i, j, k]) => [i.number(), j.number(), k.number()],

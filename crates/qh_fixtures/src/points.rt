@@ -78,8 +78,8 @@ pub fn octahedron() -> [Point; 18] {
     ]
 }
 
-/// Returns all points whose x, y and z are among these coordinates, in rising order of their places in the list, and all of
-/// them again up to the number of times.
+/// Returns all points whose x, y and z are among these coordinates, in rising order of their places in the
+/// list, and all of them again up to the number of times.
 ///
 /// # Errors
 ///

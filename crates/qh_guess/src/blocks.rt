@@ -2,8 +2,8 @@
 use crate::vector::Vector;
 use qh_model::Point;
 
-/// Points between two corners of a box, told by its middle and half its extents, that reach no further than `reach` beyond the
-/// middle along a direction of length 1.
+/// Points between two corners of a box, told by its middle and half its extents, that reach no further than
+/// `reach` beyond the middle along a direction of length 1.
 #[derive(Clone, Copy, Drop)]
 pub(crate) struct Block {
     pub middle: Vector,
@@ -20,7 +20,7 @@ struct Bounds {
 }
 
 impl Bounds {
-    /// The bounds of points.
+    /// Returns the bounds of points.
     fn around(points: &[Point]) -> Bounds {
         let [mut west, mut south, mut bottom] = [i32::MAX; 3];
         let [mut east, mut north, mut top] = [i32::MIN; 3];
@@ -40,7 +40,7 @@ impl Bounds {
 }
 
 impl Block {
-    /// The block of points for a direction of length 1, or none.
+    /// Returns the block of points for a direction of length 1, or none.
     pub fn around(points: &[Point], way: Vector) -> Block {
         let bounds = Bounds::around(points);
         let middle = bounds.high.plus(bounds.low).times(0.5);

@@ -31,14 +31,15 @@ pub(crate) struct Cursor {
     index: usize,
 }
 
-/// The piece of a list with a number, where it is cut into pieces of one size. The last may be shorter, and there is nothing past it.
+/// Returns the piece of a list with a number, where it is cut into pieces of one size. The last may be shorter, and
+/// there is nothing past it.
 pub(crate) fn piece<T: Copy>(items: &[T], size: usize, number: usize) -> &[T] {
     let from = size.saturating_mul(number).min(items.len());
     let to = from.saturating_add(size).min(items.len());
     items.get(from..to).unwrap_or(&[])
 }
 
-/// The direction of the sum of some.
+/// Returns the direction of the sum of some.
 fn way_of(ways: &[Vector]) -> Vector {
     let mut sum = Vector::NONE;
     for way in ways {
@@ -47,12 +48,13 @@ fn way_of(ways: &[Vector]) -> Vector {
     sum.unit()
 }
 
-/// The number of points of a block of a level.
+/// Returns the number of points of a block of a level.
 fn size_at(level: u32) -> usize {
     BRANCHES.wrapping_shl(level.wrapping_mul(BRANCH_BITS))
 }
 
-/// The direction of the block of `size` points with a number, where `ways` has one for each `FACING_TOGETHER` of them.
+/// Returns the direction of the block of `size` points with a number, where `ways` has one for each `FACING_TOGETHER`
+/// of them.
 fn way_at(ways: &[Vector], size: usize, number: usize) -> Vector {
     if size >= FACING_TOGETHER {
         return way_of(piece(ways, size / FACING_TOGETHER, number));
@@ -61,7 +63,7 @@ fn way_at(ways: &[Vector], size: usize, number: usize) -> Vector {
     ways.get(place).copied().unwrap_or(Vector::NONE)
 }
 
-/// The blocks of a level. `ways` has a direction for each `FACING_TOGETHER` points.
+/// Returns the blocks of a level. `ways` has a direction for each `FACING_TOGETHER` points.
 fn level_over(
     alloc: Global,
     points: &[Point],
@@ -81,7 +83,7 @@ fn level_over(
 }
 
 impl Outline {
-    /// The outline over points, with a direction for each `FACING_TOGETHER` of them.
+    /// Returns the outline over points, with a direction for each `FACING_TOGETHER` of them.
     pub(crate) fn over(
         alloc: Global,
         points: Vec<Point>,
@@ -99,17 +101,17 @@ impl Outline {
         Ok(Outline { points, levels })
     }
 
-    /// The number of points.
+    /// Returns the number of points.
     pub(crate) fn len(&self) -> usize {
         self.points.len()
     }
 
-    /// More than the blocks of all levels.
+    /// Returns a number above that of the blocks of all levels.
     pub(crate) fn block_limit(&self) -> usize {
         self.points.len().saturating_add(LEVELS as usize)
     }
 
-    /// The first block of the highest level.
+    /// Returns the first block of the highest level.
     pub(crate) fn top(&self) -> Cursor {
         Cursor {
             level: self.levels.len().saturating_sub(1),
@@ -117,18 +119,18 @@ impl Outline {
         }
     }
 
-    /// The block at a cursor, if there is one.
+    /// Returns the block at a cursor, if there is one.
     pub(crate) fn block(&self, cursor: Cursor) -> Option<&Block> {
         self.levels.get(cursor.level)?.get(cursor.index)
     }
 
-    /// The points of a block.
+    /// Returns the points of a block.
     pub(crate) fn points_of(&self, cursor: Cursor) -> &[Point] {
         let level = u32::try_from(cursor.level).unwrap_or(LEVELS);
         piece(&self.points, size_at(level), cursor.index)
     }
 
-    /// The first block after all points of a block, as large as such a one can be.
+    /// Returns the first block after all points of a block, as large as such a one can be.
     pub(crate) fn after(&self, cursor: Cursor) -> Cursor {
         let mut next = Cursor {
             level: cursor.level,
@@ -146,7 +148,7 @@ impl Outline {
         next
     }
 
-    /// Whether all points are strictly below a plane.
+    /// Returns true if all points are strictly below a plane.
     pub(crate) fn is_below(&self, sight: &Sight) -> bool {
         let mut cursor = self.top();
         for _ in 0..self.block_limit() {
@@ -172,7 +174,7 @@ impl Outline {
 }
 
 impl Cursor {
-    /// The first block within a block, unless that is of the lowest level.
+    /// Returns the first block within a block, unless that is of the lowest level.
     pub fn first_within(self) -> Option<Cursor> {
         let level = self.level.checked_sub(1)?;
         Some(Cursor {

@@ -7,7 +7,7 @@ use qh_pred::{Plane, cross};
 use qh_surface::ends_of;
 use std::alloc::{AllocError, Global};
 
-/// About so many ids are looked at for each corner of a far simplex, spread over all.
+/// The number of ids, spread over all, that are looked at for each corner of an initial simplex.
 const LOOKED_AT: usize = 16_384;
 
 /// What the next corner of a simplex is to be far from.
@@ -20,7 +20,7 @@ enum FarFrom {
 }
 
 impl FarFrom {
-    /// A number that grows with the distance of a point.
+    /// Returns a number that grows with the distance of a point.
     fn distance(&self, p: Point) -> u128 {
         match *self {
             FarFrom::Line(a, b) => {
@@ -35,7 +35,7 @@ impl FarFrom {
         }
     }
 
-    /// The first of some ids whose points are furthest. An id of no point is passed over.
+    /// Returns the first of some ids whose points are furthest. An id of no point is passed over.
     fn furthest(&self, pts: &[Point], ids: &[Id]) -> Option<Id> {
         let mut found = None;
         let mut most = 0;
@@ -52,7 +52,7 @@ impl FarFrom {
     }
 }
 
-/// The ends of a set, and ids spread over all of it.
+/// Returns the ends of a set, and ids spread over all of it.
 fn candidates(alloc: Global, ids: &[Id], ends: &[Id; 6]) -> Result<Vec<Id>, AllocError> {
     let mut listed = Vec::from_slice(alloc, ends)?;
     let step = ids.len() / LOOKED_AT + 1;
@@ -62,8 +62,8 @@ fn candidates(alloc: Global, ids: &[Id], ends: &[Id; 6]) -> Result<Vec<Id>, Allo
     Ok(listed)
 }
 
-/// Four of some ids that are far apart: the first two, the one that is furthest from their line, and the one that is furthest
-/// from the plane of the three. None where there are no such four.
+/// Returns four of some ids that are far apart: the first two, the one that is furthest from their line, and the one
+/// that is furthest from the plane of the three. None where there are no such four.
 fn far_corners(pts: &[Point], ids: &[Id]) -> Option<[Id; 4]> {
     let [i, j, ..] = ids else {
         return None;
@@ -75,8 +75,8 @@ fn far_corners(pts: &[Point], ids: &[Id]) -> Option<[Id; 4]> {
     Some([*i, *j, k, l])
 }
 
-/// The ids that are to belong to every part of a set: first four that are far apart and do not lie in one plane, then the
-/// ends of the set along the three axes that are not among these. None where all lie in one plane.
+/// Returns the ids that are to belong to every part of a set: first four that are far apart and do not lie in one
+/// plane, then the ends of the set along the three axes that are not among these. None where all lie in one plane.
 ///
 /// # Errors
 ///

@@ -4,8 +4,8 @@ use crate::vector::Vector;
 use qh_model::Point;
 use qh_pred::Plane;
 
-/// How much the floating-point height of a block over a plane may be wrong, for each unit of the normal's components: 2^-16. The
-/// products with coordinates to 2^30 lose 2^-23 each, and there are a few of them.
+/// How much the floating-point height of a block over a plane may be wrong, for each unit of the normal's
+/// components: 2^-16. The products with coordinates to 2^30 lose 2^-23 each, and there are a few of them.
 const SLACK: f64 = 0.0000152587890625;
 
 /// The plane of a facet: exact, for points, and nearly so, for blocks.
@@ -18,7 +18,7 @@ pub(crate) struct Sight {
 }
 
 impl Sight {
-    /// The plane through the corners of a facet, which go counterclockwise seen from above.
+    /// Returns the plane through the corners of a facet, which go counterclockwise seen from above.
     pub fn of(corners: [Point; 3]) -> Sight {
         let [a, b, c] = corners;
         let plane = Plane::through(a, b, c);
@@ -31,34 +31,34 @@ impl Sight {
         }
     }
 
-    /// The direction of the normal.
+    /// Returns the direction of the normal.
     pub fn way(&self) -> Vector {
         self.normal.unit()
     }
 
-    /// Whether a point is strictly above.
+    /// Returns true if a point is strictly above.
     pub fn sees(&self, point: Point) -> bool {
         self.plane.sees(point)
     }
 
-    /// Whether a point is strictly below.
+    /// Returns true if a point is strictly below.
     pub fn hides(&self, point: Point) -> bool {
         self.plane.height(point) < 0
     }
 
-    /// Whether a point is in the plane.
+    /// Returns true if a point is in the plane.
     pub fn meets(&self, point: Point) -> bool {
         self.plane.height(point) == 0
     }
 
-    /// Whether all points of a block are seen to lie strictly above.
+    /// Returns true if all points of a block are seen to lie strictly above.
     pub fn sees_all(&self, block: &Block) -> bool {
         let height = self.normal.dot(block.middle) - self.offset;
         height - self.normal.most_within(block.half) > self.slack
     }
 
-    /// Whether all points of a block are seen to lie strictly below: by its box alone, or by how far they reach along its direction,
-    /// taken so often that the rest of the normal is least.
+    /// Returns true if all points of a block are seen to lie strictly below: by its box alone, or by how far they
+    /// reach along its direction, taken so often that the rest of the normal is least.
     pub fn hides_all(&self, block: &Block) -> bool {
         let height = self.normal.dot(block.middle) - self.offset;
         if height + self.normal.most_within(block.half) < -self.slack {

@@ -11,7 +11,7 @@ pub(crate) struct Vector {
     pub z: f64,
 }
 
-/// The float nearest to a component of a normal, whose size is below 2^63.
+/// Returns the float nearest to a component of a normal, whose size is below 2^63.
 fn component(number: i128) -> f64 {
     nearest_i64_to_f64(i64::try_from(number).unwrap_or(0))
 }
@@ -24,7 +24,7 @@ impl Vector {
         z: 0.0,
     };
 
-    /// The vector of three whole components, which it has exactly.
+    /// Returns the vector of three whole components, which it has exactly.
     pub fn of(x: i32, y: i32, z: i32) -> Vector {
         Vector {
             x: f64::from(x),
@@ -33,12 +33,12 @@ impl Vector {
         }
     }
 
-    /// The vector to a point.
+    /// Returns the vector to a point.
     pub fn to(point: Point) -> Vector {
         Vector::of(point.x(), point.y(), point.z())
     }
 
-    /// The vector nearest to a normal.
+    /// Returns the vector nearest to a normal.
     pub fn along(normal: &Normal) -> Vector {
         Vector {
             x: component(normal.x()),
@@ -47,12 +47,12 @@ impl Vector {
         }
     }
 
-    /// The scalar product with another.
+    /// Returns the scalar product with another.
     pub fn dot(self, other: Vector) -> f64 {
         self.x * other.x + self.y * other.y + self.z * other.z
     }
 
-    /// The sum with another.
+    /// Returns the sum with another.
     pub fn plus(self, other: Vector) -> Vector {
         Vector {
             x: self.x + other.x,
@@ -61,7 +61,7 @@ impl Vector {
         }
     }
 
-    /// The vector some times as long.
+    /// Returns the vector some times as long.
     pub fn times(self, factor: f64) -> Vector {
         Vector {
             x: self.x * factor,
@@ -70,17 +70,18 @@ impl Vector {
         }
     }
 
-    /// The difference to another.
+    /// Returns the difference to another.
     pub fn minus(self, other: Vector) -> Vector {
         self.plus(other.times(-1.0))
     }
 
-    /// The greatest scalar product with a vector whose components are no larger than these sizes, either way.
+    /// Returns the greatest scalar product with a vector whose components are no larger than these sizes,
+    /// either way.
     pub fn most_within(self, sizes: Vector) -> f64 {
         self.x.abs() * sizes.x + self.y.abs() * sizes.y + self.z.abs() * sizes.z
     }
 
-    /// The vector of length 1 that points the same way, or none.
+    /// Returns the vector of length 1 that points the same way, or none.
     pub fn unit(self) -> Vector {
         let square = self.dot(self);
         if square > 0.0 {

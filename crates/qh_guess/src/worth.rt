@@ -17,7 +17,7 @@ struct Tally {
 }
 
 impl Tally {
-    /// With the facets of a part that are asked.
+    /// Returns the tally with the facets of a part that are asked.
     fn with(self, part: &Part, others: Others) -> Tally {
         let facets = Facets::of(&part.surface);
         let step = facets.places() / ASKED + 1;
@@ -37,7 +37,7 @@ impl Tally {
     }
 }
 
-/// The number of corners of all parts.
+/// Returns the number of corners of all parts.
 fn corner_count(set: Divided) -> usize {
     let mut count = set.shared.len();
     for part in set.parts {
@@ -46,8 +46,8 @@ fn corner_count(set: Divided) -> usize {
     count
 }
 
-/// Returns true if it seems to pay to join the hulls of parts where they have more than `few` corners. It does not where most
-/// facets go.
+/// Returns true if it seems to pay to join the hulls of parts where they have more than `few` corners. It
+/// does not where most facets go.
 pub(crate) fn is_worth_above(few: usize, set: Divided, outlines: &[Outline]) -> bool {
     if corner_count(set) <= few {
         return false;
@@ -59,8 +59,8 @@ pub(crate) fn is_worth_above(few: usize, set: Divided, outlines: &[Outline]) -> 
     tally.gone <= tally.asked / 2
 }
 
-/// Returns true if it seems to pay to join the hulls of the parts of a set at their seams: they have many corners, and most of
-/// their facets are likely to stay. `outlines` has the outline of each part.
+/// Returns true if it seems to pay to join the hulls of the parts of a set at their seams: they have many
+/// corners, and most of their facets are likely to stay. `outlines` has the outline of each part.
 pub fn is_worth(set: Divided, outlines: &[Outline]) -> bool {
     is_worth_above(FEW_CORNERS, set, outlines)
 }

@@ -12,7 +12,7 @@ use qh_model::{Body, Id, Memory, Point};
 use qh_plane::rising_ids;
 use std::alloc::Global;
 
-/// Whether blocks pay: the set is large, and of its first ids few are extreme.
+/// Returns true if blocks pay: the set is large, and of its first ids few are extreme.
 fn blocks_pay(alloc: Global, pts: &[Point], ids: &[Id]) -> Result<bool, Memory>
     requires { AreIndices pts.now ids.now }
 {
@@ -24,7 +24,8 @@ fn blocks_pay(alloc: Global, pts: &[Point], ids: &[Id]) -> Result<bool, Memory>
     Ok(are_few(found.len(), TELLING))
 }
 
-/// The ids that are extreme in their block, and all ids from behind the first block of which most are.
+/// Returns the ids that are extreme in their block, and all ids from behind the first block of which
+/// most are.
 fn extremes_of_blocks(alloc: Global, pts: &[Point], ids: &[Id]) -> Result<Vec<Id>, Memory>
     requires indices { AreIndices pts.now ids.now }
     requires set { IsIdSet pts.now ids.now }
@@ -45,7 +46,7 @@ fn extremes_of_blocks(alloc: Global, pts: &[Point], ids: &[Id]) -> Result<Vec<Id
     Ok(kept)
 }
 
-/// The hull of a set of ids by the extremes of its blocks.
+/// Returns the hull of a set of ids by the extremes of its blocks.
 fn hull_by_blocks(alloc: Global, pts: &[Point], ids: &[Id]) -> Result<Body, Memory>
     requires some { 0 < length ids.now }
     requires indices { AreIndices pts.now ids.now }
@@ -57,7 +58,7 @@ fn hull_by_blocks(alloc: Global, pts: &[Point], ids: &[Id]) -> Result<Body, Memo
     hull(alloc, pts, &part)
 }
 
-/// The hull of a set of ids.
+/// Returns the hull of a set of ids.
 pub fn body_alone(alloc: Global, pts: &[Point], ids: &[Id]) -> Result<Body, Memory>
     requires some { 0 < length ids.now }
     requires indices { AreIndices pts.now ids.now }

@@ -11,7 +11,7 @@ use qh_model::{Body, Hull, Id, Memory, Point};
 use qh_plane::distinct_alone;
 use std::alloc::Global;
 
-/// The hull of a list of points, given that of its distinct ids.
+/// Returns the hull of a list of points, given that of its distinct ids.
 ///
 /// `ids` are the distinct ids, rising, as `qh_plane::distinct` gives them, and the list has at most
 /// `POINT_LIMIT` points. These are the caller's conditions.
@@ -29,13 +29,13 @@ pub fn hull_of_body(pts: &[Point], ids: &[Id], body: Body) -> Hull
     }
 }
 
-/// The hull of a list of points, by the calling thread alone.
+/// Returns the hull of a list of points, by the calling thread alone.
 ///
 /// The list has at least one point and at most `POINT_LIMIT` points, which the caller keeps.
 ///
 /// # Errors
 ///
-/// `Memory` where memory was refused.
+/// `Memory` if an allocation failed.
 pub fn hull_alone(alloc: Global, pts: &[Point]) -> Result<Hull, Memory>
     requires some { 0 < length pts.now }
     requires few { length pts.now ≤ POINT_LIMIT }

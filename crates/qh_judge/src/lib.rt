@@ -1,8 +1,8 @@
-//! What is told of faces whose corners are numbers of points: whether they are the hull of a list of points, and what is
-//! wrong where they are not.
+//! What is told of faces whose corners are numbers of points: whether they are the hull of a list of points,
+//! and what is wrong where they are not.
 //!
-//! The numbers are indices of points of any list, such as the vertices of a file. `naming` takes the distinct ids at their
-//! places (`positions` finds these), and [`judge_faces`] asks `qh_check` about the polygons.
+//! The numbers are indices of points of any list, such as the vertices of a file. `naming` takes the distinct
+//! ids at their places (`positions` finds these), and [`judge_faces`] asks `qh_check` about the polygons.
 #![tactic(auto)]
 
 mod judgement;

@@ -26,7 +26,7 @@ fn are_same(a: Point, b: Point) -> bool
 }
 
 impl Named<'_> {
-    /// The distinct id at a place, looked for one by one.
+    /// Returns the distinct id at a place, looked for one by one.
     fn looked_for(self, point: Point) -> Option<Id>
         ensures { MatchOption result (IsNowhere self.entry.pts.now self.entry.ids.now point) (IsAt self.entry.pts.now self.entry.ids.now point) }
     {
@@ -38,8 +38,8 @@ impl Named<'_> {
         None
     }
 
-    /// The distinct id at a place, which is that at a position if it is known. Else it is looked for, which happens once at
-    /// most: the place is that of no point.
+    /// Returns the distinct id at a place, which is that at a position if it is known. Else it is looked for, which
+    /// happens once at most: the place is that of no point.
     fn id_at(self, point: Point, position: usize) -> Option<Id>
         ensures { MatchOption result (IsNowhere self.entry.pts.now self.entry.ids.now point) (IsAt self.entry.pts.now self.entry.ids.now point) }
     {
@@ -49,7 +49,7 @@ impl Named<'_> {
         self.looked_for(point)
     }
 
-    /// The distinct id that a number stands for.
+    /// Returns the distinct id that a number stands for.
     fn id_of(self, number: Id) -> Option<Id>
         ensures { MatchOption result (IsStranger self.entry.pts.now self.entry.ids.now self.entry.list.now number)
             (IsNamed self.entry.pts.now self.entry.ids.now self.entry.list.now number) }
@@ -61,7 +61,8 @@ impl Named<'_> {
         self.id_at(point_at(self.list, number), position.unwrap_or(0))
     }
 
-    /// A face, its corners named by distinct ids; none if one of them lies where no point is.
+    /// Returns a face, its corners named by distinct ids; none if one of them lies where no point
+    /// is.
     fn renamed(self, alloc: Global, face: &Polygon) -> Result<Option<Polygon>, AllocError>
         ensures { IfOk result (λ r. MatchOption r (HasStranger self.entry.pts.now self.entry.ids.now self.entry.list.now face.now)
             (AreNamed self.entry.pts.now self.entry.ids.now self.entry.list.now face.now)) }
@@ -76,7 +77,7 @@ impl Named<'_> {
         Ok(Some(Polygon::of(ids)))
     }
 
-    /// The polygons of faces, or the position of one with a corner where no point is.
+    /// Returns the polygons of faces, or the position of one with a corner where no point is.
     fn all_renamed(
         self,
         alloc: Global,
@@ -97,8 +98,8 @@ impl Named<'_> {
     }
 }
 
-/// The polygons of faces, named by the distinct ids of the points, or the position of a face with a corner where no point
-/// is.
+/// Returns the polygons of faces, named by the distinct ids of the points, or the position of a face with a corner
+/// where no point is.
 pub fn polygons_of(
     alloc: Global,
     pts: &[Point],

@@ -7,19 +7,19 @@ use std::alloc::{AllocError, Global};
 /// The room of a number in a key: 2^32.
 const ROOM: u128 = 4294967296;
 
-/// A coordinate, raised above 0.
-fn raised(coordinate: i32) -> u128 {
+/// Returns a coordinate, biased above 0.
+fn biased(coordinate: i32) -> u128 {
     u128::from((i64::from(coordinate) + 2147483648).unsigned_abs())
 }
 
-/// A point and a number in one, by which points are sorted by places.
+/// Returns a point and a number in one, by which points are sorted by places.
 fn key(point: Point, number: u32) -> u128 {
-    let (x, y, z) = (raised(point.x()), raised(point.y()), raised(point.z()));
+    let (x, y, z) = (biased(point.x()), biased(point.y()), biased(point.z()));
     x << 96 | y << 64 | z << 32 | u128::from(number)
 }
 
-/// The sorted keys of the points of some ids, and of those of a list: each with its position, those of the list behind
-/// the others.
+/// Returns the sorted keys of the points of some ids, and of those of a list: each with its position, those of the
+/// list behind the others.
 fn sorted_keys(
     alloc: Global,
     pts: &[Point],
@@ -50,7 +50,8 @@ fn is_list_of(pts: &[Point], ids: &[Id], list: &[Point]) -> bool {
     true
 }
 
-/// The positions that keys tell of the points of a list: that of the id at the same place, of so many.
+/// Returns the positions that keys tell of the points of a list: that of the id at the same place, of
+/// so many.
 fn positions_in(
     alloc: Global,
     keys: &[u128],
@@ -70,7 +71,7 @@ fn positions_in(
     Ok(positions)
 }
 
-/// For each point of a list the position of the distinct id at its place, if there is one.
+/// Returns for each point of a list the position of the distinct id at its place, if there is one.
 pub fn positions_of(
     alloc: Global,
     pts: &[Point],

@@ -5,7 +5,7 @@ use qh_model::{Id, Point, Polygon};
 use std::alloc::Global;
 use std::test::Fail;
 
-/// The corners of a tetrahedron, one of them once more.
+/// Returns the corners of a tetrahedron, one of them once more.
 fn corners() -> [Point; 5] {
     [
         Point::new(0, 0, 0),
@@ -16,7 +16,7 @@ fn corners() -> [Point; 5] {
     ]
 }
 
-/// The triangles of faces.
+/// Returns the triangles of faces.
 fn triangles(alloc: Global, faces: &[[u32; 3]]) -> Result<Vec<Polygon>, Fail> {
     let mut polygons = Vec::new(alloc);
     for face in faces {

@@ -19,7 +19,7 @@ fn set_twin(facets: &mut [Facet], e: EdgeNo, twin: u32)
     facets[e.facet().index()].set_twin(e.side(), twin);
 }
 
-/// The number of a side of the j-th facet of a list.
+/// Returns the number of a side of the j-th facet of a list.
 fn edge_at(made: &[FacetNo], j: usize, side: usize) -> u32
     requires inside { j < length made.now }
     requires side { side < 3 }
@@ -29,8 +29,8 @@ fn edge_at(made: &[FacetNo], j: usize, side: usize) -> u32
     made[j].edge(side).number()
 }
 
-/// Each half-edge across the horizon gets its twin in the cone. Answers whether the table names each side
-/// at both of its corners, so that no two start and no two end at one.
+/// Returns each half-edge across the horizon gets its twin in the cone. Answers whether the table names
+/// each side at both of its corners, so that no two start and no two end at one.
 #[tactic(auto, using(crate::proofs::WrittenFacets::joined_more))]
 pub fn join_outer(
     facets: &mut [Facet],

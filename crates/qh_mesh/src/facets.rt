@@ -25,21 +25,21 @@ impl Model for FacetNo {
 }
 
 impl FacetNo {
-    /// The facet with this number.
+    /// Returns the facet with this number.
     pub fn new(number: usize) -> FacetNo
         ensures { result ≡ number }
     {
         FacetNo(number)
     }
 
-    /// Its number, as an index into a list.
+    /// Returns its number, as an index into a list.
     pub fn index(self) -> usize
         ensures { result ≡ self }
     {
         self.0
     }
 
-    /// Its side 0, 1 or 2.
+    /// Returns its side 0, 1 or 2.
     #[tactic(auto, using(crate::proofs::EdgeSides::side_left_over))]
     pub(crate) fn edge(self, side: usize) -> EdgeNo
         requires side { side < 3 }
@@ -68,7 +68,7 @@ impl Model for EdgeNo {
 }
 
 impl EdgeNo {
-    /// Its number, as a mesh keeps it.
+    /// Returns its number, as a mesh keeps it.
     pub(crate) fn number(self) -> u32
         requires { self < 2 ^ 32 }
         ensures { result ≡ self }
@@ -76,14 +76,14 @@ impl EdgeNo {
         self.0 as u32
     }
 
-    /// Its facet.
+    /// Returns its facet.
     pub(crate) fn facet(self) -> FacetNo
         ensures { result ≡ facet_of self }
     {
         FacetNo(self.0 / 3)
     }
 
-    /// Which side of its facet it is: 0, 1 or 2.
+    /// Returns which side of its facet it is: 0, 1 or 2.
     pub(crate) fn side(self) -> usize
         ensures side { nth_side result ≡ side_of_edge self }
         ensures inside { result < 3 }
@@ -101,7 +101,7 @@ pub struct FacetSide {
 }
 
 impl FacetSide {
-    /// The half-edge across it.
+    /// Returns the half-edge across it.
     pub fn across(self) -> EdgeNo
         ensures { result ≡ self.outer }
     {
@@ -138,7 +138,7 @@ impl Model for Facet {
 }
 
 impl Facet {
-    /// The facet of three corners, with the half-edges across its sides.
+    /// Returns the facet of three corners, with the half-edges across its sides.
     pub fn new(i: u32, j: u32, k: u32, ij: u32, jk: u32, ki: u32) -> Facet
         ensures { result ≡ facet_from i j k ij jk ki }
     {
@@ -151,7 +151,7 @@ impl Facet {
         }
     }
 
-    /// No facet.
+    /// Returns no facet.
     pub fn none() -> Facet
         ensures { result ≡ no_facet }
     {
@@ -164,14 +164,14 @@ impl Facet {
         }
     }
 
-    /// Whether it is one of the surface.
+    /// Returns true if it is one of the surface.
     pub fn is_live(self) -> bool
         ensures { result ≡ self.live }
     {
         self.live
     }
 
-    /// The facet, no longer live.
+    /// Returns the facet, no longer live.
     pub fn removed(self) -> Facet
         ensures { result ≡ removed self }
     {
@@ -180,14 +180,14 @@ impl Facet {
         facet
     }
 
-    /// Its corners.
+    /// Returns its corners.
     pub fn corners(self) -> [Id; 3]
         ensures { result ≡ self.i ∷ self.j ∷ self.k ∷ [] }
     {
         [Id::new(self.i), Id::new(self.j), Id::new(self.k)]
     }
 
-    /// Its side 0, 1 or 2.
+    /// Returns its side 0, 1 or 2.
     pub fn side(self, number: usize) -> FacetSide
         requires { number < 3 }
         ensures { result ≡ side_of self (nth_side number) }
@@ -201,7 +201,7 @@ impl Facet {
         FacetSide { from, to, outer }
     }
 
-    /// The half-edge across its side 0, 1 or 2.
+    /// Returns the half-edge across its side 0, 1 or 2.
     pub fn across(self, number: usize) -> EdgeNo
         requires { number < 3 }
         ensures { result ≡ outer_of self (nth_side number) }
@@ -217,8 +217,8 @@ impl Facet {
         self.twins[number] = twin;
     }
 
-    /// The facet with the names of its corners in a list of ids: corner l becomes the id at position l.
-    /// A corner past the end of the list stays.
+    /// Returns the facet with the names of its corners in a list of ids: corner l becomes the id at
+    /// position l. A corner past the end of the list stays.
     pub fn named(self, ids: &[Id]) -> Facet
         ensures { result ≡ named_facet (name_in ids.now) self }
     {
@@ -230,7 +230,7 @@ impl Facet {
     }
 }
 
-/// The id at a position, or the position itself where the list has none.
+/// Returns the id at a position, or the position itself where the list has none.
 fn name_at(ids: &[Id], position: u32) -> u32
     ensures { result ≡ name_in ids.now position }
 {

@@ -21,7 +21,7 @@ fn add_side(facets: &[Facet], side: FacetSide, horizon: &mut Vec<FacetSide>)
     }
 }
 
-/// The facet at a place.
+/// Returns the facet at a place.
 fn facet_in(facets: &[Facet], f: FacetNo) -> Facet
     requires { f < length facets.now }
     ensures { result ≡ facet_at facets.now f }
@@ -29,7 +29,7 @@ fn facet_in(facets: &[Facet], f: FacetNo) -> Facet
     facets[f.index()]
 }
 
-/// The sides of the listed facets across which a live facet lies.
+/// Gathers the sides of the listed facets across which a live facet lies.
 pub fn gather(facets: &[Facet], visible: &[FacetNo], horizon: &mut Vec<FacetSide>)
     requires inside { All (HasSidesInside facets.now) visible.now }
     requires empty { horizon.old.items ≡ [] }

@@ -25,7 +25,7 @@ impl<'a> Model for Live<'a> {
     ghost view = { λ l. live_after l.mesh.now l.next };
 }
 
-/// The first live facet from a number on, or the number of places.
+/// Returns the first live facet from a number on, or the number of places.
 fn first_live(mesh: &Mesh, from: usize) -> usize
     ensures same { live_after mesh.now from ≡ live_after mesh.now result }
     ensures live { result < length mesh.now → IsLive mesh.now result }
@@ -40,7 +40,7 @@ fn first_live(mesh: &Mesh, from: usize) -> usize
 }
 
 impl<'a> Live<'a> {
-    /// All live facets of a mesh.
+    /// Returns all live facets of a mesh.
     pub(crate) fn of(mesh: &'a Mesh) -> Live<'a>
         ensures { result ≡ (surface_of mesh.now).live }
     {

@@ -57,7 +57,7 @@ impl Model for Mesh {
     ghost invariant = { λ m. IsSurface m.facets.items m.free.items };
 }
 
-/// Whether the triangle a b c strictly sees d.
+/// Returns true if the triangle a b c strictly sees d.
 fn sees(pts: &[Point], a: Id, b: Id, c: Id, d: Id) -> bool
     requires a_in { a < length pts.now }
     requires b_in { b < length pts.now }
@@ -73,7 +73,7 @@ fn sees(pts: &[Point], a: Id, b: Id, c: Id, d: Id) -> bool
     ) > 0
 }
 
-/// The facets a b c, a d b, a c d and b d c.
+/// Returns the facets a b c, a d b, a c d and b d c.
 fn four(a: u32, b: u32, c: u32, d: u32) -> [Facet; 4]
     ensures { result ≡ simplex_facets a b c d }
 {
@@ -85,10 +85,10 @@ fn four(a: u32, b: u32, c: u32, d: u32) -> [Facet; 4]
     ]
 }
 
-/// Whether the half-edges of so many places and so many more have numbers that fit 32 bits.
+/// Returns true if the half-edges of `places + more` places have numbers that fit 32 bits.
 ///
 /// By Euler's count a hull has fewer than twice as many triangles as points, and a replacement asks for room
-/// for at most twice as many more as there are: at the most points they fit.
+/// for at most twice their number: with the greatest number of points they fit.
 fn are_numbered(places: usize, more: usize) -> bool
     ensures exact { IsTrue result ↔ (3 * (places + more) < 2 ^ 32) }
     ensures hull { places + more ≤ 3 * (2 * POINT_LIMIT) → IsTrue result }
@@ -96,7 +96,7 @@ fn are_numbered(places: usize, more: usize) -> bool
     places <= PLACES && more <= PLACES - places
 }
 
-/// Makes room for what a replacement of so many facets can need, at so many points.
+/// Makes room for what a replacement of `count` facets can need.
 fn make_room(
     facets: &mut Vec<Facet>,
     free: &mut Vec<FacetNo>,
@@ -135,7 +135,7 @@ fn make_room(
 }
 
 impl Mesh {
-    /// The four triangles of the points a, b, c and d, turned outward.
+    /// Returns the four triangles of the points a, b, c and d, turned outward.
     ///
     /// `Err` says that memory was refused.
     #[tactic(auto, using(crate::proofs::SoundMeshes::simplex_rules))]
@@ -159,7 +159,7 @@ impl Mesh {
         }
     }
 
-    /// The triangles a b c, a d b, a c d and b d c.
+    /// Returns the triangles a b c, a d b, a c d and b d c.
     fn of_corners(alloc: Global, a: Id, b: Id, c: Id, d: Id) -> Result<Mesh, Memory>
         ensures { IfOk result (λ m. m ≡ simplex_facets a b c d) }
     {
@@ -176,7 +176,7 @@ impl Mesh {
         })
     }
 
-    /// Asks for room for so many more facets, so that the mesh need not move while it grows. Where it is
+    /// Asks for room for `facets` more facets, so that the mesh need not move while it grows. Where it is
     /// refused, the mesh grows step by step.
     pub fn ask_for_room(&mut self, facets: usize)
         ensures { self.new ≡ self.old }
@@ -184,21 +184,21 @@ impl Mesh {
         let _ = self.facets.reserve(facets);
     }
 
-    /// The number of places, free ones with them: facet numbers are below it.
+    /// Returns the number of places, free ones with them: facet numbers are below it.
     pub fn places(&self) -> usize
         ensures { result ≡ length self.now }
     {
         self.facets.len()
     }
 
-    /// The live facets, each once, by rising numbers.
+    /// Returns the live facets, each once, by rising numbers.
     pub fn live(&self) -> Live<'_>
         ensures { result ≡ (surface_of self.now).live }
     {
         Live::of(self)
     }
 
-    /// Whether the place, below [`Mesh::places`], is that of a facet.
+    /// Returns true if the place, below [`Mesh::places`], is that of a facet.
     pub fn is_live(&self, f: FacetNo) -> bool
         requires { f < length self.now }
         ensures { result ≡ (facet_at self.now f).live }
@@ -206,7 +206,7 @@ impl Mesh {
         self.facets[f.index()].is_live()
     }
 
-    /// A live facet as the mesh keeps it.
+    /// Returns a live facet as the mesh keeps it.
     fn kept(&self, f: FacetNo) -> Facet
         requires { IsLive self.now f }
         ensures facet { result ≡ facet_at self.now f }
@@ -215,7 +215,7 @@ impl Mesh {
         self.facets[f.index()]
     }
 
-    /// The corners of a live facet, counterclockwise seen from outside.
+    /// Returns the corners of a live facet, counterclockwise seen from outside.
     pub fn facet(&self, f: FacetNo) -> [Id; 3]
         requires { IsLive self.now f }
         ensures { result ≡ (facet_at self.now f).i ∷ (facet_at self.now f).j ∷ (facet_at self.now f).k ∷ [] }
@@ -223,7 +223,7 @@ impl Mesh {
         self.kept(f).corners()
     }
 
-    /// The edge of a live facet that starts at its corner `side`, which is 0, 1 or 2.
+    /// Returns the edge of a live facet that starts at its corner `side`, which is 0, 1 or 2.
     pub fn edge(&self, f: FacetNo, side: usize) -> EdgeNo
         requires facet { IsLive self.now f }
         requires side { side < 3 }
@@ -234,14 +234,14 @@ impl Mesh {
         f.edge(side)
     }
 
-    /// The facet of an edge.
+    /// Returns the facet of an edge.
     pub fn facet_of(&self, e: EdgeNo) -> FacetNo
         ensures { result ≡ facet_of e }
     {
         e.facet()
     }
 
-    /// The corner of a live facet across from one of its edges.
+    /// Returns the corner of a live facet across from one of its edges.
     pub fn opposite(&self, e: EdgeNo) -> Id
         requires { IsLive self.now (facet_of e) }
         ensures { result ≡ rest (surface_of self.now) (facet_of e) (side_of_edge e) }
@@ -254,7 +254,7 @@ impl Mesh {
         }
     }
 
-    /// The ids at which an edge of a live facet starts and ends.
+    /// Returns the ids at which an edge of a live facet starts and ends.
     pub fn ends(&self, e: EdgeNo) -> (Id, Id)
         requires { IsLive self.now (facet_of e) }
         ensures from { result.0 ≡ edge_start self.now e }
@@ -264,7 +264,7 @@ impl Mesh {
         (Id::new(side.from), Id::new(side.to))
     }
 
-    /// The edge of the neighbour across a side of a live facet: 0, 1 or 2.
+    /// Returns the edge of the neighbour across a side of a live facet: 0, 1 or 2.
     pub fn across(&self, f: FacetNo, side: usize) -> EdgeNo
         requires facet { IsLive self.now f }
         requires side { side < 3 }
@@ -277,7 +277,7 @@ impl Mesh {
         self.kept(f).across(side)
     }
 
-    /// The edge of the neighbour that runs against an edge of a live facet.
+    /// Returns the edge of the neighbour that runs against an edge of a live facet.
     pub fn twin(&self, e: EdgeNo) -> EdgeNo
         requires { IsLive self.now (facet_of e) }
         ensures twin { result ≡ twin_of self.now e }

@@ -8,7 +8,7 @@ ghost use Rattle.qh_mesh.specs.steps.Places.{Removed, IsPool};
 use crate::facets::{Facet, FacetNo, FacetSide};
 use crate::slots::{Slot, note};
 
-/// Takes the listed facets away: their places are free.
+/// Removes the listed facets and frees their places.
 pub fn remove(facets: &mut [Facet], free: &mut Vec<FacetNo>, visible: &[FacetNo])
     requires pool { IsPool facets.old (reverse free.old.items) }
     requires live { All (IsLive facets.old) visible.now }
@@ -25,9 +25,9 @@ pub fn remove(facets: &mut [Facet], free: &mut Vec<FacetNo>, visible: &[FacetNo]
     }
 }
 
-/// Gives out a free place, or else a new one at the end.
+/// Allocates a free place, or else a new one at the end.
 #[tactic(auto, using(crate::proofs::Pools::pool_pops, crate::proofs::Pools::pool_grows))]
-fn give_out(facets: &mut Vec<Facet>, free: &mut Vec<FacetNo>, made: &mut Vec<FacetNo>)
+fn allocate(facets: &mut Vec<Facet>, free: &mut Vec<FacetNo>, made: &mut Vec<FacetNo>)
     requires pool { IsPool facets.old.items (made.old.items ++ reverse free.old.items) }
     requires room { vec_len free.old ≡ 0 → vec_len facets.old < vec_capacity facets.old }
     requires made_room { vec_len made.old < vec_capacity made.old }
@@ -49,9 +49,9 @@ fn give_out(facets: &mut Vec<Facet>, free: &mut Vec<FacetNo>, made: &mut Vec<Fac
     }
 }
 
-/// A place for the facet over each side of a horizon: free ones first, then new ones at the end. Each
+/// Allocates a place for the facet over each side of a horizon: free ones first, then new ones at the end. Each
 /// side is noted at its corners on the way.
-pub fn choose(
+pub fn allocate_all(
     facets: &mut Vec<Facet>,
     free: &mut Vec<FacetNo>,
     slots: &mut [Slot],
@@ -71,7 +71,7 @@ pub fn choose(
     ensures made { vec_len made.new ≡ length horizon.now }
 {
     for j in 0..horizon.len() {
-        give_out(facets, free, made);
+        allocate(facets, free, made);
         note(slots, horizon[j], j as u32);
     }
 }

@@ -8,7 +8,7 @@ ghost use Rattle.qh_mesh.specs.steps.Surfaces.{IsSurface};
 use crate::cone::{join_outer, write_cone};
 use crate::facets::{Facet, FacetNo, FacetSide};
 use crate::horizon::gather;
-use crate::places::{choose, remove};
+use crate::places::{allocate_all, remove};
 use crate::slots::Slot;
 
 /// Takes the visible facets away and notes their horizon.
@@ -64,7 +64,7 @@ fn prepare(
     ensures { IsPrepared facets.old.items facets.new.items free.new.items visible.now horizon.new.items made.new.items }
 {
     clear(facets.as_mut_slice(), free, horizon, visible);
-    choose(facets, free, slots, horizon.as_slice(), made);
+    allocate_all(facets, free, slots, horizon.as_slice(), made);
 }
 
 /// Takes the visible facets away and puts the cone from the apex over their horizon.

@@ -12,7 +12,7 @@ pub struct Slot {
     pub ending: u32,
 }
 
-/// The corner where a side ends, or where it starts.
+/// Returns the corner where a side ends, or where it starts.
 fn corner(side: FacetSide, ends: bool) -> u32
     ensures { result ≡ corner ends side }
 {
@@ -29,7 +29,7 @@ pub fn note(slots: &mut [Slot], side: FacetSide, j: u32) {
     }
 }
 
-/// The side that the table has for a corner: one that ends there, or one that starts there.
+/// Returns the side that the table has for a corner: one that ends there, or one that starts there.
 fn noted(slots: &[Slot], ends: bool, at: usize) -> usize
     requires { at < length slots.now }
     ensures { result ≡ noted slots.now ends at }
@@ -41,7 +41,7 @@ fn noted(slots: &[Slot], ends: bool, at: usize) -> usize
     }
 }
 
-/// Whether the table has room for a corner of a side and names the side there.
+/// Returns true if the table has room for a corner of a side and names the side there.
 pub fn is_noted(slots: &[Slot], side: FacetSide, ends: bool, j: usize) -> bool
     ensures { result ≡ true → (corner ends side < length slots.now) × (noted slots.now ends (corner ends side) ≡ j) }
 {
@@ -49,7 +49,7 @@ pub fn is_noted(slots: &[Slot], side: FacetSide, ends: bool, j: usize) -> bool
     at < slots.len() && noted(slots, ends, at) == j
 }
 
-/// How many of the sides before the j-th end where it ends, or start where it starts.
+/// Returns how many of the sides before the j-th end where it ends, or start where it starts.
 fn rank(horizon: &[FacetSide], ends: bool, j: usize) -> usize
     requires { j < length horizon.now }
     ensures { result ≡ rank horizon.now ends (corner ends (side_at horizon.now j)) j }
@@ -64,7 +64,7 @@ fn rank(horizon: &[FacetSide], ends: bool, j: usize) -> usize
     count
 }
 
-/// The side that meets side j there, found without the table.
+/// Returns the side that meets side j there, found without the table.
 #[tactic(auto, using(crate::proofs::Mates::rank_below))]
 fn find_mate(horizon: &[FacetSide], ends: bool, j: usize) -> usize
     requires inside { j < length horizon.now }
@@ -84,7 +84,7 @@ fn find_mate(horizon: &[FacetSide], ends: bool, j: usize) -> usize
     unreachable!()
 }
 
-/// The side of the horizon that starts where side j ends, or ends where it starts.
+/// Returns the side of the horizon that starts where side j ends, or ends where it starts.
 #[tactic(auto, using(crate::proofs::Mates::mate_noted))]
 pub fn mate(slots: &[Slot], are_noted: bool, horizon: &[FacetSide], ends: bool, j: usize) -> usize
     requires inside { j < length horizon.now }

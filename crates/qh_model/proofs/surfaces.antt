@@ -4,7 +4,7 @@ pub mod PlanesThroughLine
 pub mod CramersRule
 pub mod VisibleFacets
 pub mod Facets
-pub mod DrawnInwards
+pub mod PerturbedInwards
 pub mod Connected
 pub mod Cone
 pub mod KeptSound
@@ -12,7 +12,7 @@ pub mod Unseen
 pub mod SimplexBoundary
 pub mod Located
 pub mod FacetSides
-pub mod DrawnHorizon
+pub mod PerturbedHorizon
 pub mod Horizon
 pub mod Rewired
 pub mod CoveredPlanes

@@ -40,7 +40,7 @@ pub enum CutError {
     BadBounds,
 }
 
-/// The bounds of so many blocks of a size, of which the last ends at `m`.
+/// Returns the bounds of `count` blocks of a size, of which the last ends at `m`.
 fn even_bounds(alloc: Global, m: u32, size: u32, blocks: u32) -> Result<Vec<u32>, AllocError>
     requires size { size ≢ 0 }
     requires blocks { blocks ≡ blocks_of m size }
@@ -54,7 +54,7 @@ fn even_bounds(alloc: Global, m: u32, size: u32, blocks: u32) -> Result<Vec<u32>
     Ok(bounds)
 }
 
-/// Whether each bound is below the next.
+/// Returns true if each bound is below the next.
 fn rises(bounds: &[u32]) -> bool
     ensures { IsTrue result ↔ Rises bounds.now }
 {
@@ -66,7 +66,7 @@ fn rises(bounds: &[u32]) -> bool
     true
 }
 
-/// Whether these are the bounds of a cut, of however many blocks.
+/// Returns true if these are the bounds of a cut, of however many blocks.
 fn are_bounds(bounds: &[u32]) -> bool
     ensures { IsTrue result ↔ AreBounds bounds.now }
 {
@@ -79,7 +79,7 @@ impl Cut {
     ///
     /// # Errors
     ///
-    /// `ZeroSize`, then `TooManyBlocks` by these numbers alone; `Memory` where memory was refused.
+    /// `ZeroSize`, then `TooManyBlocks` by these numbers alone; `Memory` if an allocation failed.
     pub fn even(alloc: Global, m: u32, size: u32) -> Result<Cut, CutError>
         requires some { 0 < m }
         requires few { m ≤ POINT_LIMIT }
@@ -101,7 +101,7 @@ impl Cut {
         Ok(Cut { bounds })
     }
 
-    /// The cut with these bounds, which it keeps: it takes no memory.
+    /// Returns the cut with these bounds, which it keeps: it takes no memory.
     ///
     /// # Errors
     ///
@@ -122,7 +122,7 @@ impl Cut {
         Ok(Cut { bounds })
     }
 
-    /// The number of blocks, from 1 to `BLOCK_LIMIT`.
+    /// Returns the number of blocks, from 1 to `BLOCK_LIMIT`.
     pub fn blocks(&self) -> u32
         ensures count { result ≡ block_count self.now }
         ensures cut { IsCut self.now }
@@ -130,7 +130,7 @@ impl Cut {
         self.bounds.len() as u32 - 1
     }
 
-    /// The first position of a block and the position past its last.
+    /// Returns the first position of a block and the position past its last.
     pub fn block(&self, j: u32) -> (u32, u32)
         requires { j < block_count self.now }
         ensures from { result.0 ≡ bound self.now j }

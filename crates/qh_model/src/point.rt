@@ -32,7 +32,7 @@ impl Model for Point {
 }
 
 impl Point {
-    /// The point with these coordinates, which the caller keeps within the limit.
+    /// Returns the point with these coordinates, which the caller keeps within the limit.
     pub fn new(x: i32, y: i32, z: i32) -> Point
         requires { IsPlace (record { x = x; y = y; z = z }) }
         ensures { result ≡ record { x = x; y = y; z = z } }
@@ -40,7 +40,7 @@ impl Point {
         Point { x, y, z }
     }
 
-    /// The first coordinate.
+    /// Returns the first coordinate.
     pub fn x(self) -> i32
         ensures value { result ≡ self.x }
         ensures limit { IsPlace self }
@@ -48,7 +48,7 @@ impl Point {
         self.x
     }
 
-    /// The second coordinate.
+    /// Returns the second coordinate.
     pub fn y(self) -> i32
         ensures value { result ≡ self.y }
         ensures limit { IsPlace self }
@@ -56,7 +56,7 @@ impl Point {
         self.y
     }
 
-    /// The third coordinate.
+    /// Returns the third coordinate.
     pub fn z(self) -> i32
         ensures value { result ≡ self.z }
         ensures limit { IsPlace self }
@@ -82,21 +82,21 @@ impl Model for Id {
 }
 
 impl Id {
-    /// The id with this number.
+    /// Returns the id with this number.
     pub fn new(number: u32) -> Id
         ensures { result ≡ number }
     {
         Id(number)
     }
 
-    /// Its number.
+    /// Returns its number.
     pub fn number(self) -> u32
         ensures { result ≡ self }
     {
         self.0
     }
 
-    /// Its number, as an index into a list.
+    /// Returns its number, as an index into a list.
     pub fn index(self) -> usize
         ensures { result ≡ self }
     {

@@ -31,7 +31,7 @@ impl Model for Polygon {
 }
 
 impl Polygon {
-    /// The polygon of three ids. It takes no memory.
+    /// Returns the polygon of three ids. It takes no memory.
     pub fn triangle(i: Id, j: Id, k: Id) -> Polygon
         ensures { result ≡ i ∷ j ∷ k ∷ [] }
     {
@@ -40,8 +40,8 @@ impl Polygon {
         }
     }
 
-    /// The polygon of a list of ids. It takes no memory, and keeps the list unless there are three or
-    /// four.
+    /// Returns the polygon of a list of ids. It takes no memory, and keeps the list unless there are
+    /// three or four.
     pub fn of(ids: Vec<Id>) -> Polygon
         ensures { result ≡ ids.items }
     {
@@ -53,7 +53,7 @@ impl Polygon {
         Polygon { corners }
     }
 
-    /// The ids, from the least on.
+    /// Returns the ids, from the least on.
     pub fn ids(&self) -> &[Id]
         ensures { result.now ≡ self.now }
     {

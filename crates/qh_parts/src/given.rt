@@ -18,7 +18,7 @@ pub(crate) struct Given {
     pub seam: Vec<Id>,
 }
 
-/// The outlines of all parts, by a thread for each.
+/// Returns the outlines of all parts, by a thread for each.
 pub(crate) fn outlines_in_threads<R: Threads>(
     rt: &R,
     alloc: Global,
@@ -38,7 +38,7 @@ pub(crate) fn outlines_in_threads<R: Threads>(
     Ok(outlines)
 }
 
-/// What the part with a number gives out, if the guess of it is seen to be right.
+/// Returns what the part with a number gives out, if the guess of it is seen to be right.
 fn given_by(
     alloc: Global,
     set: Divided,
@@ -75,7 +75,7 @@ fn add_all(polygons: &mut Vec<Polygon>, mut others: Vec<Polygon>) -> Result<(), 
     Ok(())
 }
 
-/// What all parts give out together, if each gives out something.
+/// Returns what all parts give out together, if each gives out something.
 fn all_given(
     alloc: Global,
     set: Divided,
@@ -97,7 +97,8 @@ fn all_given(
     Ok(Some(Given { faces, seam }))
 }
 
-/// What the parts of a set give out, by a thread for each. None where the guess of one is not seen to be right.
+/// Returns what the parts of a set give out, by a thread for each. None where the guess of one is not seen to
+/// be right.
 pub(crate) fn given_in_threads<R: Threads>(
     rt: &R,
     alloc: Global,

@@ -44,7 +44,8 @@ pub struct Parting {
     pub seams: Seams,
 }
 
-/// Whether few ids seem to be extreme, by the first ones. A hull of one thread drops the others soon.
+/// Returns true if few ids seem to be extreme, by the first ones. A hull of one thread drops the
+/// others soon.
 fn few_stand_out(alloc: Global, pts: &[Point], ids: &[Id]) -> Result<bool, Memory>
     requires { AreIndices pts.now ids.now }
 {
@@ -56,7 +57,7 @@ fn few_stand_out(alloc: Global, pts: &[Point], ids: &[Id]) -> Result<bool, Memor
     Ok(are_few(found.len(), TELLING))
 }
 
-/// The hull of kept ids, if there are any.
+/// Returns the hull of kept ids, if there are any.
 fn hull_of_kept(alloc: Global, pts: &[Point], kept: &[Id]) -> Result<Option<Body>, Memory>
     ensures { IfOk result (λ found. IfSome found (λ b. IsIdSet pts.now kept.now → IsBody (place pts.now) (Members kept.now) b)) }
 {
@@ -78,8 +79,8 @@ fn has_seams(set: Divided, outlines: &[Outline], seams: Seams) -> bool {
     }
 }
 
-/// The hull of a set from its parts: of what is kept of it where the parts are told apart by too many facets, else of faces that
-/// the parts give out. None where it does not come out.
+/// Returns the hull of a set from its parts: of what is kept of it where the parts are told apart by too many facets,
+/// else of faces that the parts give out. None where it does not come out.
 fn hull_of_divided<R: Threads>(
     rt: &R,
     alloc: Global,
@@ -115,8 +116,8 @@ fn hull_of_divided<R: Threads>(
     Ok(Some(joined))
 }
 
-/// The hull of a set by parts of it, however small it is. None where it does not come out: a part lies in a plane, or a guess of what
-/// stays of the parts, or of what closes the gap between them, is not seen to be right.
+/// Returns the hull of a set by parts of it, however small it is. None where it does not come out: a part lies in a
+/// plane, or a guess of what stays of the parts, or of what closes the gap between them, is not seen to be right.
 ///
 /// `ids` are indices of points. That they rise and have distinct points (`IsIdSet`) is the caller's condition.
 ///
@@ -171,15 +172,15 @@ pub fn hull_by_parts<R: Threads>(
     Ok(Some(body))
 }
 
-/// The hull of a set, as [`hull`](qh_block::hull) gives it. Three or more workers take a large set by parts, which are joined, where
-/// most of its first ids are extreme among these: by at most so many threads.
+/// Returns the hull of a set, as [`hull`](qh_block::hull) gives it. Three or more workers take a large set by parts,
+/// which are joined, where most of its first ids are extreme among these: by at most so many threads.
 ///
 /// `ids` has at least one id, each the index of one of the points. That the ids rise and have distinct
 /// points (`IsIdSet`) is the caller's condition.
 ///
 /// # Errors
 ///
-/// `Memory` where memory was refused.
+/// `Memory` if an allocation failed.
 pub fn hull_in_parts<R: Threads>(
     rt: &R,
     alloc: Global,

@@ -9,7 +9,7 @@ use qh_threads::map_indices;
 use std::alloc::Global;
 use std::thread::Threads;
 
-/// A list of ids that is cut into pieces of so many, the last perhaps shorter, with ids that belong to every piece.
+/// A list of ids that is cut into pieces of one size, the last perhaps shorter, with ids that belong to every piece.
 #[derive(Clone, Copy, Drop)]
 pub(crate) struct Pieces<'a> {
     pub pts: &'a [Point],
@@ -33,7 +33,7 @@ pub(crate) fn are_indices(pts: &[Point], ids: &[Id]) -> bool
 }
 
 impl Pieces<'_> {
-    /// The part of the piece with a number, if its points do not lie in one plane.
+    /// Returns the part of the piece with a number, if its points do not lie in one plane.
     fn part(self, alloc: Global, number: usize) -> Result<Option<Part>, Memory>
         ensures { IfOk result (λ found. IfSome found (IsPartOf self.entry.pts.now self.entry.shared.now)) }
     {
@@ -46,7 +46,7 @@ impl Pieces<'_> {
     }
 }
 
-/// The parts among answers, if all are there.
+/// Returns the parts among answers, if all are there.
 fn all_parts(
     alloc: Global,
     pieces: Pieces,
@@ -66,7 +66,8 @@ fn all_parts(
     Ok(Some(parts))
 }
 
-/// The parts of the first `count` pieces, a thread for each. None where the points of one lie in one plane.
+/// Returns the parts of the first `count` pieces, a thread for each. None where the points of one lie in
+/// one plane.
 pub(crate) fn parts_in_threads<R: Threads>(
     rt: &R,
     alloc: Global,

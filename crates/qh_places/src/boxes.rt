@@ -14,7 +14,7 @@ pub(crate) struct PointBox {
     pub high: Point,
 }
 
-/// For each coordinate the lower one of two points.
+/// Returns the lower one of two points for each coordinate.
 fn low_corner(p: Point, q: Point) -> Point
     ensures x_p { result.x ≤ℤ p.x }
     ensures x_q { result.x ≤ℤ q.x }
@@ -30,7 +30,7 @@ fn low_corner(p: Point, q: Point) -> Point
     )
 }
 
-/// For each coordinate the higher one of two points.
+/// Returns the higher one of two points for each coordinate.
 fn high_corner(p: Point, q: Point) -> Point
     ensures x_p { p.x ≤ℤ result.x }
     ensures x_q { q.x ≤ℤ result.x }
@@ -46,7 +46,7 @@ fn high_corner(p: Point, q: Point) -> Point
     )
 }
 
-/// The lower of two coordinates.
+/// Returns the lower of two coordinates.
 fn lower(a: i32, b: i32) -> i32
     ensures end { (result ≡ a) ⊎ (result ≡ b) }
     ensures below_a { result ≤ℤ a }
@@ -55,7 +55,7 @@ fn lower(a: i32, b: i32) -> i32
     if a < b { a } else { b }
 }
 
-/// The higher of two coordinates.
+/// Returns the higher of two coordinates.
 fn higher(a: i32, b: i32) -> i32
     ensures end { (result ≡ a) ⊎ (result ≡ b) }
     ensures above_a { a ≤ℤ result }
@@ -64,7 +64,7 @@ fn higher(a: i32, b: i32) -> i32
     if a < b { b } else { a }
 }
 
-/// The end of a range at which a product with this factor is greatest.
+/// Returns the end of a range at which a product with this factor is greatest.
 fn far_end(factor: i128, low: i32, high: i32) -> i32
     ensures end { (result ≡ low) ⊎ (result ≡ high) }
     ensures far { IsFarEnd factor low high result }
@@ -73,7 +73,7 @@ fn far_end(factor: i128, low: i32, high: i32) -> i32
 }
 
 impl PointBox {
-    /// The box with one more point.
+    /// Returns the box with one more point.
     fn with(self, p: Point) -> PointBox
         ensures own { IsWithin result p }
         ensures others { (q : Vector) → IsWithin self q → IsWithin result q }
@@ -84,7 +84,7 @@ impl PointBox {
         }
     }
 
-    /// The smallest box round points.
+    /// Returns the smallest box round points.
     pub fn around(points: &[Point]) -> PointBox
         requires { 0 < length points.now }
         ensures { IsBoxOf points.now 0 (length points.now) result }
@@ -100,7 +100,7 @@ impl PointBox {
         bounds
     }
 
-    /// The corner that lies furthest along a normal.
+    /// Returns the corner that lies furthest along a normal.
     fn far_corner(&self, normal: &Normal) -> Point
         ensures x { IsFarEnd normal.now.x self.now.low.x self.now.high.x result.x }
         ensures y { IsFarEnd normal.now.y self.now.low.y self.now.high.y result.y }

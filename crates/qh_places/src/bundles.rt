@@ -1,7 +1,7 @@
 //! Bundles of planes that slant nearly alike, so that one test of a block of points tells for all of them.
 //!
-//! A normal of the bundle is a whole number of times the direction of the block, and a rest. The rest is small where both slant
-//! alike, so that it matters little how long the box is.
+//! A normal of the bundle is a whole number of times the direction of the block, and a rest. The rest is
+//! small where both slant alike, so that it matters little how long the box is.
 ghost use Rattle.std.specs.Prelude.{◌≡◌, ◌<◌, ◌≤◌, ◌^◌, ◌+ℤ◌, ◌*ℤ◌, ◌-ℤ◌, ◌≤ℤ◌, ◌<ℤ◌, ℤ, pos, IsTrue, unsigned_abs};
 ghost use Rattle.qh_model.specs.headline.Vector.{Vector, minus, dot};
 ghost use Rattle.qh_pred.specs.contract.Planes.{PlaneValue, height};
@@ -41,7 +41,7 @@ pub(crate) struct Bundle {
     pub depth: i128,
 }
 
-/// The way from one coordinate to another.
+/// Returns the way from one coordinate to another.
 fn way(from: i32, to: i32) -> i64
     ensures value { result ≡ to -ℤ from }
     ensures limit { unsigned_abs result ≤ 2 ^ 32 }
@@ -49,7 +49,7 @@ fn way(from: i32, to: i32) -> i64
     i64::from(to) - i64::from(from)
 }
 
-/// The end of a range at which a product with this factor is greatest.
+/// Returns the end of a range at which a product with this factor is greatest.
 fn far_end(factor: i64, low: i128, high: i128) -> i128
     requires low { unsigned_abs low ≤ 2 ^ 64 }
     requires high { unsigned_abs high ≤ 2 ^ 64 }
@@ -59,7 +59,7 @@ fn far_end(factor: i64, low: i128, high: i128) -> i128
     if factor > 0 { high } else { low }
 }
 
-/// The product of a way and a number.
+/// Returns the product of a way and a number.
 fn way_product(way: i64, number: i128) -> i128
     requires way { unsigned_abs way ≤ 2 ^ 32 }
     requires number { unsigned_abs number ≤ 2 ^ 64 }
@@ -69,7 +69,7 @@ fn way_product(way: i64, number: i128) -> i128
     i128::from(way) * number
 }
 
-/// The greatest product of a way with the numbers from one to another.
+/// Returns the greatest product of a way with the numbers from one to another.
 fn far_product(way: i64, low: i128, high: i128) -> i128
     requires way { unsigned_abs way ≤ 2 ^ 32 }
     requires low { unsigned_abs low ≤ 2 ^ 64 }
@@ -80,7 +80,7 @@ fn far_product(way: i64, low: i128, high: i128) -> i128
     way_product(way, far_end(way, low, high))
 }
 
-/// The sum of three products.
+/// Returns the sum of three products.
 fn sum(a: i128, b: i128, c: i128) -> i128
     requires a { unsigned_abs a ≤ 2 ^ 96 }
     requires b { unsigned_abs b ≤ 2 ^ 96 }
@@ -91,7 +91,7 @@ fn sum(a: i128, b: i128, c: i128) -> i128
     a + b + c
 }
 
-/// A number taken some times.
+/// Returns a number taken some times.
 fn taken(number: i128, times: u64) -> i128
     requires number { unsigned_abs number ≤ 2 ^ 64 }
     requires times { times ≤ TIMES_LIMIT }
@@ -101,7 +101,7 @@ fn taken(number: i128, times: u64) -> i128
     i128::from(times) * number
 }
 
-/// The difference of two reaches.
+/// Returns the difference of two reaches.
 fn reach_beyond(reach: i64, own: i64) -> i128
     requires { unsigned_abs own ≤ 2 ^ 48 }
     ensures value { result ≡ reach -ℤ own }
@@ -110,7 +110,7 @@ fn reach_beyond(reach: i64, own: i64) -> i128
     i128::from(reach) - i128::from(own)
 }
 
-/// The greater of two numbers.
+/// Returns the greater of two numbers.
 fn greater(a: i128, b: i128) -> i128
     requires a { unsigned_abs a ≤ 2 ^ 96 }
     requires b { unsigned_abs b ≤ 2 ^ 96 }
@@ -121,12 +121,12 @@ fn greater(a: i128, b: i128) -> i128
     if a < b { b } else { a }
 }
 
-/// A number in 64 bits, or the nearest that they hold.
+/// Returns a number in 64 bits, or the nearest that they hold.
 fn narrow(number: i128) -> i64 {
     i64::try_from(number).unwrap_or(if number > 0 { i64::MAX } else { i64::MIN })
 }
 
-/// How many times a normal is taken, so that it has about the size of `SCALE`.
+/// Returns how many times a normal is taken, so that it has about the size of `SCALE`.
 fn scale_of(normal: &Normal) -> u64
     ensures some { 0 < result }
     ensures limit { result ≤ SCALE }
@@ -136,7 +136,7 @@ fn scale_of(normal: &Normal) -> u64
     (SCALE / size.max(1)).max(1)
 }
 
-/// A component of a normal, taken some times.
+/// Returns a component of a normal, taken some times.
 fn scaled(component: i128, times: u64) -> i128
     requires component { unsigned_abs component ≤ normal_limit }
     requires times { times ≤ SCALE }
@@ -167,7 +167,7 @@ struct Share {
 }
 
 impl Span {
-    /// The low end less a share.
+    /// Returns the low end less a share.
     fn low_rest(&self, share: Share) -> i128
         requires { share.times ≤ TIMES_LIMIT }
         ensures value { result ≡ self.now.low -ℤ pos share.times *ℤ share.component }
@@ -176,7 +176,7 @@ impl Span {
         i128::from(self.low) - i128::from(share.times) * i128::from(share.component)
     }
 
-    /// The high end less a share.
+    /// Returns the high end less a share.
     fn high_rest(&self, share: Share) -> i128
         requires { share.times ≤ TIMES_LIMIT }
         ensures value { result ≡ self.now.high -ℤ pos share.times *ℤ share.component }
@@ -185,7 +185,8 @@ impl Span {
         i128::from(self.high) - i128::from(share.times) * i128::from(share.component)
     }
 
-    /// The greatest product of two numbers: one of the span less the share, and one from `from` to `to`.
+    /// Returns the greatest product of two numbers: one of the span less the share, and one from `from`
+    /// to `to`.
     fn far_rest(&self, share: Share, from: i64, to: i64) -> i128
         requires times { share.times ≤ TIMES_LIMIT }
         requires from { unsigned_abs from ≤ 2 ^ 32 }
@@ -205,7 +206,7 @@ impl Span {
         i128::from(self.low) <= number && number <= i128::from(self.high)
     }
 
-    /// The span with one more number.
+    /// Returns the span with one more number.
     fn with(self, number: i64) -> Span {
         Span {
             low: self.low.min(number),
@@ -213,7 +214,7 @@ impl Span {
         }
     }
 
-    /// The product of the middle of the span and a component, by their upper bits.
+    /// Returns the product of the middle of the span and a component, by their upper bits.
     fn middle_product(self, component: i16) -> i64 {
         (self.low / 2 + self.high / 2)
             .wrapping_shr(28)
@@ -222,7 +223,7 @@ impl Span {
 }
 
 impl Bundle {
-    /// A bundle of no planes.
+    /// Returns a bundle of no planes.
     fn none(origin: Point) -> Bundle {
         let none = Span {
             low: i64::MAX,
@@ -237,7 +238,7 @@ impl Bundle {
         }
     }
 
-    /// The bundle with one more plane.
+    /// Returns the bundle with one more plane.
     fn with(self, plane: &Plane) -> Bundle {
         let normal = plane.normal();
         let times = scale_of(&normal);
@@ -255,7 +256,8 @@ impl Bundle {
         }
     }
 
-    /// The bundle of the planes of polygons, by their positions, seen from the first corner of the first.
+    /// Returns the bundle of the planes of polygons, by their positions, seen from the first corner of
+    /// the first.
     pub fn of(pts: &[Point], polygons: &[Polygon], positions: &[usize]) -> Bundle {
         let mut found = None;
         for position in positions {
@@ -267,7 +269,7 @@ impl Bundle {
         found.unwrap_or(Bundle::none(Point::new(0, 0, 0)))
     }
 
-    /// The bundle of planes, seen from a point.
+    /// Returns the bundle of planes, seen from a point.
     pub fn of_planes(origin: Point, planes: &[Plane]) -> Bundle {
         let mut bundle = Bundle::none(origin);
         for plane in planes {
@@ -288,7 +290,8 @@ impl Bundle {
             && is_deep(plane.height(self.origin), times, self.depth)
     }
 
-    /// How many times a direction goes into the normals, or 0 where they look the other way. It is only a guess.
+    /// Returns how many times a direction goes into the normals, or 0 where they look the other way. It is only
+    /// a guess.
     fn times_along(&self, along: Direction) -> u64
         ensures { result ≤ TIMES_LIMIT }
     {
@@ -302,8 +305,8 @@ impl Bundle {
         upper.saturating_mul(262144).min(TIMES_LIMIT)
     }
 
-    /// A bound of the products of normals, less a direction taken some times, with the ways from the origin to the
-    /// points of a box.
+    /// Returns a bound of the products of normals, less a direction taken some times, with the ways from the
+    /// origin to the points of a box.
     fn far_rest(&self, bounds: &PointBox, along: Direction, times: u64) -> i128
         requires { times ≤ TIMES_LIMIT }
         ensures value { (n p : Vector) → IsInSpans self.now n → IsWithin bounds.now p
@@ -333,7 +336,8 @@ impl Bundle {
         )
     }
 
-    /// How far the points of a block reach beyond the origin along its direction, taken some times.
+    /// Returns how far the points of a block reach beyond the origin along its direction, taken
+    /// some times.
     fn far_share(&self, block: &Block, times: u64) -> i128
         requires { times ≤ TIMES_LIMIT }
         ensures value { result ≡ pos times *ℤ (block.now.reach -ℤ dot (vector_of block.now.along) self.now.origin) }

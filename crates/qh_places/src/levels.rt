@@ -21,7 +21,7 @@ pub(crate) struct Level {
     pub blocks: Vec<Block>,
 }
 
-/// The positions of a block with this binary logarithm.
+/// Returns the positions of a block with this binary logarithm.
 fn positions(shift: u32) -> usize
     requires { shift < 63 }
     ensures { result ≡ 2 ^ shift }
@@ -30,7 +30,8 @@ fn positions(shift: u32) -> usize
 }
 
 impl Level {
-    /// The blocks of `2 ^ shift` positions. `outward` has a guess for each point of which way is out.
+    /// Returns the blocks of `2 ^ shift` positions. `outward` has a guess for each point of which way
+    /// is out.
     pub fn over(
         alloc: Global,
         points: &[Point],
@@ -54,8 +55,8 @@ impl Level {
         Ok(Level { shift, blocks })
     }
 
-    /// The number of points from a position on that the box of one block shows to lie below the plane: its
-    /// size where it begins at the position and lies below, else 0.
+    /// Returns the number of points from a position on that the box of one block shows to lie below the
+    /// plane: its size where it begins at the position and lies below, else 0.
     pub fn below(&self, plane: &Plane, from: usize) -> usize
         ensures { (points : List Vector) → IsLevel points self.now → AreBelow points plane.now from (from + result) }
     {
@@ -79,8 +80,8 @@ impl Level {
         }
     }
 
-    /// The number of points from a position on that one block shows to lie below all planes of a bundle: its
-    /// size where it begins at the position and lies below, else 0.
+    /// Returns the number of points from a position on that one block shows to lie below all planes of a
+    /// bundle: its size where it begins at the position and lies below, else 0.
     pub fn below_all(&self, bundle: &Bundle, from: usize) -> usize
         ensures { (points : List Vector) → IsLevel points self.now → AreBelowAll points bundle.now from (from + result) }
     {
@@ -99,7 +100,8 @@ impl Level {
     }
 }
 
-/// The levels over points but the lowest, the largest blocks first. `outward` has a guess for each point of which way is out.
+/// Returns the levels over points but the lowest, the largest blocks first. `outward` has a guess for each point of
+/// which way is out.
 pub(crate) fn levels_over(
     alloc: Global,
     points: &[Point],
@@ -114,8 +116,8 @@ pub(crate) fn levels_over(
     Ok(levels)
 }
 
-/// The number of points from a position on that the largest block which begins there and lies below all planes
-/// of a bundle shows to lie below them; 0 where there is no such block.
+/// Returns the number of points from a position on that the largest block which begins there and lies below
+/// all planes of a bundle shows to lie below them; 0 where there is no such block.
 pub(crate) fn below_all(levels: &[Level], bundle: &Bundle, from: usize) -> usize
     ensures { (points : List Vector) → All (IsLevel points) levels.now → AreBelowAll points bundle.now from (from + result) }
 {

@@ -21,7 +21,7 @@ pub struct Outward {
 }
 
 impl Corners {
-    /// The points of three ids, if all are points.
+    /// Returns the points of three ids, if all are points.
     fn at(pts: &[Point], i: Id, j: Id, k: Id) -> Option<Corners> {
         Some(Corners {
             a: *pts.get(i.index())?,
@@ -30,7 +30,7 @@ impl Corners {
         })
     }
 
-    /// The first three corners of a polygon, if there are so many and all are points.
+    /// Returns the first three corners of a polygon, if it has three and all are points.
     fn of(pts: &[Point], polygon: &Polygon) -> Option<Corners> {
         let [i, j, k, ..] = polygon.ids() else {
             return None;
@@ -38,13 +38,13 @@ impl Corners {
         Corners::at(pts, *i, *j, *k)
     }
 
-    /// Their plane.
+    /// Returns their plane.
     pub fn plane(&self) -> Plane {
         Plane::through(self.a, self.b, self.c)
     }
 }
 
-/// The first three corners of the polygon at a position.
+/// Returns the first three corners of the polygon at a position.
 pub(crate) fn corners_at(pts: &[Point], polygons: &[Polygon], position: usize) -> Option<Corners> {
     Corners::of(pts, polygons.get(position)?)
 }
@@ -53,7 +53,7 @@ impl Outward {
     /// The way out where there is no polygon: none.
     pub const NONE: Outward = Outward { x: 0, y: 0, z: 0 };
 
-    /// The sum with another.
+    /// Returns the sum with another.
     pub fn plus(self, other: Outward) -> Outward {
         Outward {
             x: self.x.wrapping_add(other.x),
@@ -62,12 +62,12 @@ impl Outward {
         }
     }
 
-    /// The normal of a triangle, counterclockwise seen from outside.
+    /// Returns the normal of a triangle, counterclockwise seen from outside.
     pub fn of_triangle(a: Point, b: Point, c: Point) -> Outward {
         Outward::of(&Corners { a, b, c })
     }
 
-    /// The normal of three corners.
+    /// Returns the normal of three corners.
     fn of(corners: &Corners) -> Outward {
         let normal = cross(corners.a, corners.b, corners.c);
         Outward {
@@ -78,7 +78,7 @@ impl Outward {
     }
 }
 
-/// The position of each id in a list, by its index; 0 where the list has it not.
+/// Returns the position of each id in a list, by its index; 0 where the list has it not.
 pub(crate) fn ranks_of(alloc: Global, count: usize, ids: &[Id]) -> Result<Vec<usize>, AllocError> {
     let mut ranks = vec![in alloc; 0; count]?;
     for position in 0..ids.len() {
@@ -89,7 +89,8 @@ pub(crate) fn ranks_of(alloc: Global, count: usize, ids: &[Id]) -> Result<Vec<us
     Ok(ranks)
 }
 
-/// The position of the first corner of a polygon, by the positions of all ids; 0 where there is none.
+/// Returns the position of the first corner of a polygon, by the positions of all ids; 0 where there
+/// is none.
 pub fn first_rank(polygon: &Polygon, ranks: &[usize]) -> usize {
     match polygon.ids() {
         [first, ..] => *ranks.get(first.index()).unwrap_or(&0),
@@ -97,7 +98,7 @@ pub fn first_rank(polygon: &Polygon, ranks: &[usize]) -> usize {
     }
 }
 
-/// For each rank the way out there, by the polygons whose first corner has it.
+/// Returns for each rank the way out there, by the polygons whose first corner has it.
 pub(crate) fn outward_of(
     alloc: Global,
     pts: &[Point],
@@ -115,13 +116,14 @@ pub(crate) fn outward_of(
     Ok(outward)
 }
 
-/// A component, made as small as a direction wants it, where `greatest` is the size of the greatest.
+/// Returns a component, made as small as a direction wants it, where `greatest` is the size of the
+/// greatest.
 fn small(component: i64, greatest: u64) -> i16 {
     let divisor = i64::try_from(greatest / 32767 + 1).unwrap_or(1);
     i16::try_from(component.checked_div(divisor).unwrap_or(0)).unwrap_or(0)
 }
 
-/// The direction of the sum of ways.
+/// Returns the direction of the sum of ways.
 pub(crate) fn direction_of(ways: &[Outward]) -> Direction {
     let mut sum = Outward::NONE;
     for way in ways {

@@ -24,8 +24,8 @@ const LEAF: usize = 16;
 /// The binary logarithm of `LEAF`.
 const LEAF_SHIFT: u32 = 4;
 
-/// The ids of a set in an order of space, with their points and blocks of these. `ranks` has the position of an id, by its
-/// index; it is empty where nobody needs it.
+/// The ids of a set in an order of space, with their points and blocks of these. `ranks` has the position of
+/// an id, by its index; it is empty where nobody needs it.
 #[derive(Drop)]
 pub struct Places {
     pub ids: Vec<Id>,
@@ -54,7 +54,7 @@ fn is_on(plane: &Plane, point: Point) -> bool
     plane.height(point) == 0
 }
 
-/// The points of ids.
+/// Returns the points of ids.
 fn points_of(alloc: Global, pts: &[Point], ids: &[Id]) -> Result<Vec<Point>, AllocError>
     requires { AreIndices pts.now ids.now }
     ensures { IfOk result (λ v. v.items ≡ map (place pts.now) ids.now) }
@@ -66,7 +66,7 @@ fn points_of(alloc: Global, pts: &[Point], ids: &[Id]) -> Result<Vec<Point>, All
     Ok(points)
 }
 
-/// The ids along a Morton curve through their points, stretched along the axes.
+/// Returns the ids along a Morton curve through their points, stretched along the axes.
 fn order_along_curve(alloc: Global, pts: &[Point], ids: &[Id]) -> Result<Vec<Id>, Memory>
     requires some { 0 < length ids.now }
     requires indices { AreIndices pts.now ids.now }
@@ -79,8 +79,8 @@ fn order_along_curve(alloc: Global, pts: &[Point], ids: &[Id]) -> Result<Vec<Id>
 impl Places {
     ghost use Rattle.qh_places.specs.contract.Places.{ArePlaces, IsAbove, AreLevel};
 
-    /// The ids along a Morton curve, with their points and blocks of these. Which way is out is guessed from
-    /// the polygons, which may be any.
+    /// Returns the ids along a Morton curve, with their points and blocks of these. Which way is out is
+    /// guessed from the polygons, which may be any.
     ///
     /// `ids` has at least one id, each the index of one of the points.
     ///
@@ -112,8 +112,8 @@ impl Places {
         })
     }
 
-    /// The ids in their order, with their points and blocks of these, but without `ranks`. `outward` has a guess for each id of
-    /// which way is out.
+    /// Returns the ids in their order, with their points and blocks of these, but without `ranks`. `outward` has a
+    /// guess for each id of which way is out.
     ///
     /// Each of `ids` is the index of one of the points. Near ids best stand near each other.
     ///
@@ -186,7 +186,8 @@ impl Places {
         self.look(plane, start, to, found)
     }
 
-    /// The number of points from a position on that one block shows to lie below all planes of a bundle, or 0.
+    /// Returns the number of points from a position on that one block shows to lie below all planes of a
+    /// bundle, or 0.
     fn below_all(&self, bundle: &Bundle, from: usize) -> usize
         ensures { AreBelowAll self.now.points.items bundle.now from (from + result) }
     {
@@ -197,7 +198,7 @@ impl Places {
         self.leaves.below_all(bundle, from)
     }
 
-    /// The positions that planes of a bundle have to look at.
+    /// Returns the positions that planes of a bundle have to look at.
     fn near(&self, alloc: Global, bundle: Bundle) -> Result<Near, AllocError>
         ensures { IfOk result (IsNear self.now.points.items) }
     {
@@ -215,7 +216,8 @@ impl Places {
         Ok(Near { bundle, starts })
     }
 
-    /// The positions that the planes of some polygons, by their positions in a list, have to look at.
+    /// Returns the positions that the planes of some polygons, by their positions in a list, have to
+    /// look at.
     ///
     /// # Errors
     ///
@@ -232,7 +234,8 @@ impl Places {
         self.near(alloc, Bundle::of(pts, polygons, positions))
     }
 
-    /// The positions that some planes have to look at, which best slant alike, and best pass near a point.
+    /// Returns the positions that some planes have to look at, which best slant alike, and best pass near
+    /// a point.
     ///
     /// # Errors
     ///
@@ -248,8 +251,9 @@ impl Places {
         self.near(alloc, Bundle::of_planes(origin, planes))
     }
 
-    /// Lists in `found` the ids whose points lie in a plane, if no point lies above the plane; else answers the id
-    /// of one that does. A plane for which `near` was made looks at the positions there alone, any other plane at all.
+    /// Lists in `found` the ids whose points lie in a plane, if no point lies above the plane; else answers
+    /// the id of one that does. A plane for which `near` was made looks at the positions there alone, any
+    /// other plane at all.
     ///
     /// # Errors
     ///
@@ -277,7 +281,8 @@ impl Places {
         Ok(None)
     }
 
-    /// Returns true if all points are strictly below each of some planes, which best slant alike, and best pass near a point.
+    /// Returns true if all points are strictly below each of some planes, which best slant alike, and best pass
+    /// near a point.
     ///
     /// # Errors
     ///

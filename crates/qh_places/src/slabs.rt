@@ -22,7 +22,7 @@ pub(crate) struct Block {
     pub reach: i64,
 }
 
-/// The product of a component and a coordinate.
+/// Returns the product of a component and a coordinate.
 fn component_product(component: i16, coordinate: i32) -> i64
     ensures value { result ≡ component *ℤ coordinate }
     ensures limit { unsigned_abs result ≤ 2 ^ 46 }
@@ -30,7 +30,7 @@ fn component_product(component: i16, coordinate: i32) -> i64
     i64::from(component) * i64::from(coordinate)
 }
 
-/// The sum of three products.
+/// Returns the sum of three products.
 fn sum(a: i64, b: i64, c: i64) -> i64
     requires a { unsigned_abs a ≤ 2 ^ 46 }
     requires b { unsigned_abs b ≤ 2 ^ 46 }
@@ -42,7 +42,7 @@ fn sum(a: i64, b: i64, c: i64) -> i64
 }
 
 impl Direction {
-    /// How far a point reaches along the direction: their scalar product.
+    /// Returns how far a point reaches along the direction: their scalar product.
     pub fn reach(self, p: Point) -> i64
         ensures value { result ≡ dot (vector_of self) p }
         ensures limit { unsigned_abs result ≤ 2 ^ 48 }
@@ -54,7 +54,7 @@ impl Direction {
         )
     }
 
-    /// Its product with itself.
+    /// Returns its product with itself.
     pub fn square(self) -> i64 {
         let (x, y, z) = (i64::from(self.x), i64::from(self.y), i64::from(self.z));
         x.wrapping_mul(x)
@@ -62,7 +62,7 @@ impl Direction {
             .wrapping_add(z.wrapping_mul(z))
     }
 
-    /// How far the points that reach furthest along the direction do.
+    /// Returns how far the points that reach furthest along the direction do.
     fn furthest(self, points: &[Point]) -> i64
         requires { 0 < length points.now }
         ensures { (k : ℕ) → k < length points.now → dot (vector_of self) (slice_index_or points.now k origin) ≤ℤ result }
@@ -76,7 +76,7 @@ impl Direction {
 }
 
 impl Block {
-    /// The smallest block of points for a direction.
+    /// Returns the smallest block of points for a direction.
     pub fn around(points: &[Point], along: Direction) -> Block
         requires { 0 < length points.now }
         ensures { IsBlockOf points.now 0 (length points.now) result }

@@ -1,5 +1,5 @@
-//! Points stretched along the axes, so that a set extends about equally along each: by these, near points stand near each
-//! other along a curve, however flat or long the set is. No verdict depends on them.
+//! Points stretched along the axes, so that a set extends about equally along each: by these, near points
+//! stand near each other along a curve, however flat or long the set is. No verdict depends on them.
 ghost use Rattle.std.specs.Prelude.{◌≡◌, IfOk, length};
 ghost use Rattle.qh_model.specs.headline.Limits.{IsCoordinate};
 ghost use Rattle.qh_model.specs.contract.IdSets.{AreIndices};
@@ -22,7 +22,7 @@ struct Axis {
 }
 
 impl Axis {
-    /// The axis from one coordinate to another.
+    /// Returns the axis from one coordinate to another.
     fn between(least: i32, greatest: i32) -> Axis {
         Axis {
             least,
@@ -30,7 +30,7 @@ impl Axis {
         }
     }
 
-    /// A coordinate, stretched.
+    /// Returns a coordinate, stretched.
     fn place(self, coordinate: i32) -> i32
         ensures { IsCoordinate result }
     {
@@ -53,7 +53,7 @@ struct Axes {
 }
 
 impl Axes {
-    /// The axes of a set with these ends.
+    /// Returns the axes of a set with these ends.
     fn of(pts: &[Point], ends: &[Id; 6]) -> Axes
         requires { AreIndices pts.now ends.now }
     {
@@ -65,7 +65,7 @@ impl Axes {
         }
     }
 
-    /// A point, stretched.
+    /// Returns a point, stretched.
     fn stretch(&self, point: Point) -> Point {
         let (x, y, z) = (self.x, self.y, self.z);
         Point::new(x.place(point.x()), y.place(point.y()), z.place(point.z()))

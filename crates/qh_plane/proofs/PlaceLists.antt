@@ -13,13 +13,13 @@ use Rattle.qh_model.specs.headline.Sets.{In}
 use Rattle.qh_model.specs.headline.Vector.{Vector}
 use Rattle.qh_plane.proofs.DistinctLists.{AreSortedKeys, StandsAt, all_in, in_all, rises_each, all_within, index_in, up}
 use Rattle.qh_plane.proofs.DistinctLists.{position, distinct_ids}
-use Rattle.qh_plane.proofs.PlaceOrder.{place_code-same, raised_small}
+use Rattle.qh_plane.proofs.PlaceOrder.{place_code-same, biased_small}
 use Rattle.qh_plane.specs.declared.distinct_points.TheConstants.{NO_PLACE}
 use Rattle.qh_plane.specs.declared.hashed_keys.TheConstants.{ID_ROOM}
 use Rattle.qh_plane.specs.declared.place_keys.TheConstants.{ROOM}
 use Rattle.qh_plane.specs.steps.HashedKeys.{place_hash, hash_at, Hashes, AreKeysBelow, AreHashedKeys, IsRepeat, RepeatsTold}
 use Rattle.qh_plane.specs.steps.Marks.{place_starts, marked, marked_ids}
-use Rattle.qh_plane.specs.steps.PlaceKeys.{raised, place_code, place_key, HasKey, ArePlaceKeys}
+use Rattle.qh_plane.specs.steps.PlaceKeys.{biased, place_code, place_key, HasKey, ArePlaceKeys}
 use Rattle.qh_plane.specs.steps.Repeats.{IsRepeatedId, AreRepeats}
 
 -- no number has the number of none
@@ -49,8 +49,8 @@ module _ (pts : List Vector) (keys : List ℕ) (k : ArePlaceKeys pts keys) (risi
   other : (i : ℕ) → i < length pts → code i ≢ NO_PLACE
   unfolding place_code
   other i h =
-      below_none (bound (raised p.x) (raised p.y) (raised p.z) (raised_small p.x in_place.x) (raised_small p.y in_place.y)
-      (raised_small p.z in_place.z))
+      below_none (bound (biased p.x) (biased p.y) (biased p.z) (biased_small p.x in_place.x) (biased_small p.y in_place.y)
+      (biased_small p.z in_place.z))
     where
       p : Vector
       p = place pts i

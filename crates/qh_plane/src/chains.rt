@@ -7,7 +7,7 @@ use qh_model::{Id, Point};
 use qh_pred::{Normal, left, point_at};
 use std::alloc::{AllocError, Global};
 
-/// Whether the way from u over v to w turns left.
+/// Returns true if the way from u over v to w turns left.
 pub fn turns_left(pts: &[Point], normal: &Normal, u: Id, v: Id, w: Id) -> bool
     requires u_in { u < length pts.now }
     requires v_in { v < length pts.now }
@@ -17,7 +17,8 @@ pub fn turns_left(pts: &[Point], normal: &Normal, u: Id, v: Id, w: Id) -> bool
     left(normal, point_at(pts, u), point_at(pts, v), point_at(pts, w)).is_gt()
 }
 
-/// Whether the top of the stack goes before the next id comes: the way over it does not turn left.
+/// Returns true if the top of the stack goes before the next id comes: the way over it does not
+/// turn left.
 fn is_dropped(stack: &[Id], pts: &[Point], normal: &Normal, next: Id) -> bool
     requires stack_in { AreIndices pts.now stack.now }
     requires next_in { next < length pts.now }
@@ -39,8 +40,8 @@ fn drop_tops(stack: &mut Vec<Id>, pts: &[Point], normal: &Normal, next: Id)
     }
 }
 
-/// The chain of the ids, in their order: of those in order of place it keeps the corners to the right
-/// of which no point lies.
+/// Returns the chain of the ids, in their order: of those in order of place it keeps the corners to
+/// the right of which no point lies.
 pub fn chain(
     alloc: Global,
     pts: &[Point],

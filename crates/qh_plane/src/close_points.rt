@@ -8,15 +8,15 @@ ghost use Rattle.std.specs.Prelude.{◌≡◌, ◌≤◌, ◌<◌, ◌↔◌, If
 ghost use Rattle.qh_model.specs.headline.DistinctIds.{AreDistinctIds};
 ghost use Rattle.qh_plane.specs.steps.CloseBoxes.{slot_of};
 
-use crate::place_keys::raised;
+use crate::place_keys::biased;
 use qh_model::{Id, POINT_LIMIT, Point};
 use qh_pred::in_line;
 use std::alloc::{AllocError, Global};
 
-/// A box has at most so many slots for each point.
+/// The greatest number of slots of a box for each point.
 const SLOTS_FOR_EACH: u64 = 2;
 
-/// A line has at most so many slots for each point.
+/// The greatest number of slots of a line for each point.
 const LINE_SLOTS_FOR_EACH: u64 = 3;
 
 /// So many points tell whether all seem to lie in one line.
@@ -34,7 +34,7 @@ struct Span {
 
 /// The coordinates of points along each axis.
 #[derive(Clone, Copy, Drop)]
-struct Spans {
+struct BoundingBox {
     x: Span,
     y: Span,
     z: Span,
@@ -54,7 +54,7 @@ pub struct CloseBox {
 }
 
 impl Span {
-    /// No numbers yet.
+    /// Returns no numbers yet.
     fn none() -> Span {
         Span {
             least: u64::MAX,
@@ -62,7 +62,7 @@ impl Span {
         }
     }
 
-    /// With one number more.
+    /// Returns the span with one number more.
     fn with(self, number: u64) -> Span {
         Span {
             least: self.least.min(number),
@@ -70,25 +70,25 @@ impl Span {
         }
     }
 
-    /// How many numbers there are.
+    /// Returns how many numbers there are.
     fn extent(&self) -> u64 {
         self.greatest.saturating_sub(self.least).saturating_add(1)
     }
 }
 
-impl Spans {
-    /// The coordinates of points.
-    fn of(pts: &[Point]) -> Spans {
+impl BoundingBox {
+    /// Returns the coordinates of points.
+    fn of(pts: &[Point]) -> BoundingBox {
         let (mut x, mut y, mut z) = (Span::none(), Span::none(), Span::none());
         for point in pts {
-            x = x.with(raised(point.x()));
-            y = y.with(raised(point.y()));
-            z = z.with(raised(point.z()));
+            x = x.with(biased(point.x()));
+            y = y.with(biased(point.y()));
+            z = z.with(biased(point.z()));
         }
-        Spans { x, y, z }
+        BoundingBox { x, y, z }
     }
 
-    /// As many slots, with a factor for each coordinate.
+    /// Returns the box with a factor for each coordinate.
     fn with_factors(&self, x_factor: u64, y_factor: u64, z_factor: u64, slots: u64) -> CloseBox {
         CloseBox {
             x: self.x.least,
@@ -101,7 +101,7 @@ impl Spans {
         }
     }
 
-    /// A slot for each place of the box; none where there are too many.
+    /// Returns a slot for each place of the box; `None` if there are too many.
     fn full(&self) -> Option<CloseBox> {
         let height = self.z.extent();
         let area = self.y.extent().checked_mul(height)?;
@@ -109,7 +109,7 @@ impl Spans {
         Some(self.with_factors(area, height, 1, slots))
     }
 
-    /// A slot for each place along the longest axis.
+    /// Returns a slot for each place along the longest axis.
     fn along_axis(&self) -> CloseBox {
         let (x, y, z) = (self.x.extent(), self.y.extent(), self.z.extent());
         if x >= y && x >= z {
@@ -122,7 +122,8 @@ impl Spans {
     }
 }
 
-/// Whether points seem to lie in one line, as a few of them tell that are spread over the list.
+/// Returns true if points seem to lie in one line, as a few of them tell that are spread over the
+/// list.
 fn seem_in_line(pts: &[Point]) -> bool
     requires { length pts.now ≤ POINT_LIMIT }
 {
@@ -135,7 +136,7 @@ fn seem_in_line(pts: &[Point]) -> bool
         let Some(&point) = pts.get(number * step) else {
             return true;
         };
-        if are_one(first, other) {
+        if same_point(first, other) {
             other = point;
         }
         if !in_line(first, other, point) {
@@ -146,12 +147,12 @@ fn seem_in_line(pts: &[Point]) -> bool
 }
 
 impl CloseBox {
-    /// The slots for points that lie close together, or seem to lie in one line, where they are few for so
-    /// many points.
+    /// Returns the slots for points that lie close together, or seem to lie in one line, where they are
+    /// few for the number of points.
     fn around(pts: &[Point]) -> Option<CloseBox>
         requires { length pts.now ≤ POINT_LIMIT }
     {
-        let spans = Spans::of(pts);
+        let spans = BoundingBox::of(pts);
         let count = pts.len() as u64;
         if let Some(full) = spans.full() {
             if full.slots / SLOTS_FOR_EACH <= count {
@@ -166,31 +167,32 @@ impl CloseBox {
         }
     }
 
-    /// The slot of a point.
+    /// Returns the slot of a point.
     fn slot(&self, point: Point) -> u64
         ensures { result ≡ slot_of self.now point }
     {
-        let x = raised(point.x())
+        let x = biased(point.x())
             .saturating_sub(self.x)
             .wrapping_mul(self.x_factor);
-        let y = raised(point.y())
+        let y = biased(point.y())
             .saturating_sub(self.y)
             .wrapping_mul(self.y_factor);
-        let z = raised(point.z())
+        let z = biased(point.z())
             .saturating_sub(self.z)
             .wrapping_mul(self.z_factor);
         x.wrapping_add(y).wrapping_add(z)
     }
 }
 
-/// Whether two points are one.
-pub fn are_one(p: Point, q: Point) -> bool
+/// Returns true if two points are one.
+pub fn same_point(p: Point, q: Point) -> bool
     ensures { IsTrue result ↔ p ≡ q }
 {
     p.x() == q.x() && p.y() == q.y() && p.z() == q.z()
 }
 
-/// The distinct ids of points that lie close together or in one line, rising; none where they do not.
+/// Returns the distinct ids of points that lie close together or in one line, rising; `None` if they
+/// do not.
 pub fn distinct_in_box(alloc: Global, pts: &[Point]) -> Result<Option<Vec<Id>>, AllocError>
     requires few { length pts.now ≤ POINT_LIMIT }
     ensures { IfOk result (λ found. IfSome found (λ v. AreDistinctIds pts.now v.items)) }
@@ -208,7 +210,7 @@ pub fn distinct_in_box(alloc: Global, pts: &[Point]) -> Result<Option<Vec<Id>>, 
         if slots[slot] == NO_ID {
             slots[slot] = number as u32;
             ids.push(Id::new(number as u32))?;
-        } else if !are_one(pts[slots[slot] as usize], pts[number]) {
+        } else if !same_point(pts[slots[slot] as usize], pts[number]) {
             return Ok(None);
         }
     }

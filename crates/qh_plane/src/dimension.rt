@@ -5,7 +5,7 @@ ghost use Rattle.qh_plane.specs.contract.Shapes.{dimension_of};
 use crate::shape::Shape;
 
 impl Shape {
-    /// The dimension of a set of this shape, from 0 to 3.
+    /// Returns the dimension of a set of this shape, from 0 to 3.
     pub fn dimension(self) -> u8
         ensures { result ≡ dimension_of self }
     {

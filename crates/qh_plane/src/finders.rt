@@ -11,7 +11,7 @@ use qh_model::{Id, POINT_LIMIT, Point};
 use std::alloc::{AllocError, Global};
 use std::thread::{self, Threads};
 
-/// Each thread has at least so many points to sort.
+/// The least number of points that a thread sorts.
 ///
 /// Two threads sort 32,768 points in no less time than one does.
 const POINTS_FOR_EACH: usize = 32_768;
@@ -21,14 +21,14 @@ pub trait Finder {
     /// What is known of one that finds them.
     ghost ready: { Self → Type 0 };
 
-    /// The ids of all points that stand before; none where too many have one hash.
+    /// Returns the ids of all points that stand before; `None` if too many have one hash.
     fn repeats(&self, alloc: Global, pts: &[Point]) -> Result<Option<Vec<Id>>, AllocError>
         requires ready { ready self.now }
         requires few { length pts.now ≤ POINT_LIMIT }
         ensures { IfOk result (λ found. IfSome found (λ v. AreAllRepeats pts.now v.items)) };
 }
 
-/// What was found in the parts of the hashes, one after the other.
+/// Returns what was found in the parts of the hashes, one after the other.
 fn joined(
     alloc: Global,
     pts: &[Point],
@@ -53,8 +53,8 @@ fn joined(
     Ok(Some(repeats))
 }
 
-/// The ids of all points that stand before, by as many threads, each at a part of the hashes; none where too
-/// many have one hash.
+/// Returns the ids of all points that stand before, by as many threads, each at a part of the hashes; none
+/// where too many have one hash.
 fn repeats_in_threads<R: Threads + Sync>(
     rt: &R,
     alloc: Global,
@@ -110,7 +110,7 @@ impl<R: Threads + Sync> Finder for BySort<'_, R> {
     }
 }
 
-/// At most so many threads of a runtime, each at a part of the hashes.
+/// A runtime and the greatest number of its threads, each at a part of the hashes.
 #[derive(Clone, Copy, Debug)]
 pub struct InThreads<'a, R> {
     pub rt: &'a R,

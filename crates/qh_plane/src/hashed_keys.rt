@@ -7,8 +7,8 @@
 ghost use Rattle.std.specs.Prelude.{◌≡◌, ◌<◌, ◌≤◌, ◌+◌, ◌*◌, ◌/◌, ◌%◌, ◌↔◌, IfOk, IsTrue, length};
 ghost use Rattle.qh_plane.specs.steps.HashedKeys.{place_number, place_hash, hashed_key, AllHashes, AreKeysBelow, IsRepeat};
 
-use crate::close_points::are_one;
-use crate::place_keys::raised;
+use crate::close_points::same_point;
+use crate::place_keys::biased;
 use qh_model::{Id, POINT_LIMIT, Point};
 use qh_pred::point_at;
 use std::alloc::{AllocError, Global};
@@ -29,15 +29,15 @@ pub const ID_ROOM: u64 = POINT_LIMIT as u64;
 /// The hash of no place: all places have lower ones.
 pub const NO_HASH: u64 = u64::MAX / ID_ROOM + 1;
 
-/// The number of a place.
+/// Returns the number of a place.
 pub fn place_number(point: Point) -> u64
     ensures { result ≡ place_number point }
 {
-    let line = raised(point.x()) * SPREAD + raised(point.y());
-    line.wrapping_mul(SPREAD).wrapping_add(raised(point.z()))
+    let line = biased(point.x()) * SPREAD + biased(point.y());
+    line.wrapping_mul(SPREAD).wrapping_add(biased(point.z()))
 }
 
-/// The hash of a place: the upper bits of a product.
+/// Returns the hash of a place: the upper bits of a product.
 #[tactic(auto, unfolding(crate::specs::steps::HashedKeys::place_hash))]
 pub fn place_hash(point: Point) -> u64
     ensures value { result ≡ place_hash point }
@@ -46,7 +46,7 @@ pub fn place_hash(point: Point) -> u64
     place_number(point).wrapping_mul(MIXER) / ID_ROOM
 }
 
-/// The key of a hash and an id.
+/// Returns the key of a hash and an id.
 pub fn key_of(hash: u64, id: u64) -> u64
     requires hash { hash < NO_HASH }
     requires id { id < ID_ROOM }
@@ -55,21 +55,21 @@ pub fn key_of(hash: u64, id: u64) -> u64
     hash * ID_ROOM + id
 }
 
-/// The hash in a key.
+/// Returns the hash in a key.
 pub fn hash_in(key: u64) -> u64
     ensures { result ≡ key / ID_ROOM }
 {
     key / ID_ROOM
 }
 
-/// The id in a key.
+/// Returns the id in a key.
 pub fn id_in(key: u64) -> Id
     ensures { result ≡ key % ID_ROOM }
 {
     Id::new((key % ID_ROOM) as u32)
 }
 
-/// The keys of all points, in the order of their ids.
+/// Returns the keys of all points, in the order of their ids.
 pub fn hashed_keys(alloc: Global, pts: &[Point]) -> Result<Vec<u64>, AllocError>
     requires { length pts.now ≤ POINT_LIMIT }
     ensures { IfOk result (λ v. AreKeysBelow pts.now AllHashes (length pts.now) v.items) }
@@ -81,12 +81,12 @@ pub fn hashed_keys(alloc: Global, pts: &[Point]) -> Result<Vec<u64>, AllocError>
     Ok(keys)
 }
 
-/// Whether two keys have one hash and equal points.
+/// Returns true if two keys have one hash and equal points.
 pub fn is_repeat(pts: &[Point], before: u64, key: u64) -> bool
     requires before { before % ID_ROOM < length pts.now }
     requires key { key % ID_ROOM < length pts.now }
     ensures { IsTrue result ↔ IsRepeat pts.now before key }
 {
     hash_in(before) == hash_in(key)
-        && are_one(point_at(pts, id_in(before)), point_at(pts, id_in(key)))
+        && same_point(point_at(pts, id_in(before)), point_at(pts, id_in(key)))
 }

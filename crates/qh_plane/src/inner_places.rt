@@ -18,10 +18,11 @@ use qh_model::{Id, Memory, Point};
 use qh_pred::{Normal, point_at};
 use std::alloc::{AllocError, Global};
 
-/// From so many ids on, a set is looked through.
+/// The least number of ids from which on a set is looked through.
 const MANY: usize = 4096;
 
-/// One of so many ids is looked at for a place on the cycle, and to tell whether it pays to look at all.
+/// The step of the sample: one of this number of ids is looked at for a place on the cycle, and to tell whether it
+/// pays to look at all.
 const LOOKED_AT: usize = 16;
 
 /// A direction of a plane, along the two coordinates that are looked at.
@@ -43,8 +44,8 @@ const DIRECTIONS: [Direction; 8] = [
     Direction { right: 1, up: -1 },
 ];
 
-/// Two coordinates that tell the points of a plane apart, the second to the left of the first as seen from
-/// the side to which the normal points.
+/// Returns two coordinates that tell the points of a plane apart, the second to the left of the first as
+/// seen from the side to which the normal points.
 fn coordinates(normal: &Normal, p: Point) -> (i64, i64) {
     let (x, y, z) = (i64::from(p.x()), i64::from(p.y()), i64::from(p.z()));
     let (right, up, component) = if normal.z() != 0 {
@@ -62,7 +63,8 @@ fn coordinates(normal: &Normal, p: Point) -> (i64, i64) {
 }
 
 impl Direction {
-    /// How far a point lies along this direction. The sum of two coordinates fits; nothing rests on it.
+    /// Returns how far a point lies along this direction. The sum of two coordinates fits; nothing
+    /// rests on it.
     fn reach(self, normal: &Normal, p: Point) -> i64 {
         let (right, up) = coordinates(normal, p);
         let (right, up) = (self.right.wrapping_mul(right), self.up.wrapping_mul(up));
@@ -70,7 +72,7 @@ impl Direction {
     }
 }
 
-/// The first of the ids looked at whose points lie furthest along a direction.
+/// Returns the first of the ids looked at whose points lie furthest along a direction.
 fn furthest(pts: &[Point], normal: &Normal, ids: &[Id], direction: Direction) -> Id
     requires some { 0 < length ids.now }
     requires indices { AreIndices pts.now ids.now }
@@ -89,7 +91,7 @@ fn furthest(pts: &[Point], normal: &Normal, ids: &[Id], direction: Direction) ->
     found
 }
 
-/// Ids far out along each direction in turn, none twice in a row.
+/// Returns ids far out along each direction in turn, none twice in a row.
 fn far_cycle(
     alloc: Global,
     pts: &[Point],
@@ -113,7 +115,7 @@ fn far_cycle(
     Ok(cycle)
 }
 
-/// Whether a point lies to the left of each side of a cycle.
+/// Returns true if a point lies to the left of each side of a cycle.
 fn is_inside(pts: &[Point], normal: &Normal, cycle: &[Id], id: Id) -> bool
     requires cycle_in { AreIndices pts.now cycle.now }
     requires id_in { id < length pts.now }
@@ -132,7 +134,7 @@ fn is_inside(pts: &[Point], normal: &Normal, cycle: &[Id], id: Id) -> bool
     turns_left(pts, normal, from, cycle[0], id)
 }
 
-/// The ids whose points don't lie to the left of each side of a cycle.
+/// Returns the ids whose points don't lie to the left of each side of a cycle.
 fn ids_outside(
     alloc: Global,
     pts: &[Point],
@@ -153,7 +155,8 @@ fn ids_outside(
     Ok(kept)
 }
 
-/// Whether at least half of the ids looked at have points inside a cycle, so that it pays to look at all.
+/// Returns true if at least half of the ids looked at have points inside a cycle, so that it pays to look
+/// at all.
 fn holds_most(pts: &[Point], normal: &Normal, ids: &[Id], cycle: &[Id]) -> bool
     requires ids_in { AreIndices pts.now ids.now }
     requires cycle_in { AreIndices pts.now cycle.now }
@@ -168,15 +171,15 @@ fn holds_most(pts: &[Point], normal: &Normal, ids: &[Id], cycle: &[Id]) -> bool
     held >= parts / 2
 }
 
-/// The ids of a large set in one plane but some that one look finds inside, strictly between others, in the
-/// order of the set; none where no look pays: the set is small, or few points are inside.
+/// Returns the ids of a large set in one plane but some that one look finds inside, strictly between others, in
+/// the order of the set; `None` if no look pays: the set is small, or few points are inside.
 ///
 /// Each id is the index of one of the points. The caller keeps `IsPlanarSet`, as for [`polygon`](crate::polygon):
 /// then what is left has all extreme ids, and so the polygon of the set.
 ///
 /// # Errors
 ///
-/// `Memory` where memory was refused.
+/// `Memory` if an allocation failed.
 pub fn outer_ids(
     alloc: Global,
     pts: &[Point],

@@ -4,7 +4,7 @@ ghost use Rattle.std.specs.Prelude.{◌≡◌, ◌+◌, ◌*◌, ◌/◌, ◌%�
 ghost use Rattle.std.specs.List.{All};
 ghost use Rattle.qh_model.specs.headline.Limits.{IsCoordinate};
 ghost use Rattle.qh_model.specs.contract.Places.{IsPlace};
-ghost use Rattle.qh_plane.specs.steps.PlaceKeys.{raised, place_code, place_key, key_at, HasKey};
+ghost use Rattle.qh_plane.specs.steps.PlaceKeys.{biased, place_code, place_key, key_at, HasKey};
 ghost use Rattle.qh_model.specs.contract.IdSets.{AreIndices};
 
 use qh_model::{COORDINATE_LIMIT, Id, Point};
@@ -14,27 +14,27 @@ use std::alloc::{AllocError, Global};
 /// The room of a coordinate and of an id in a key: 2^32.
 pub const ROOM: u128 = 4294967296;
 
-/// A coordinate, raised above 0.
-pub fn raised(coordinate: i32) -> u64
+/// Returns a coordinate, biased above 0.
+pub fn biased(coordinate: i32) -> u64
     requires { IsCoordinate coordinate }
-    ensures value { result ≡ raised coordinate }
+    ensures value { result ≡ biased coordinate }
     ensures limit { result < ROOM }
 {
     (i64::from(coordinate) + i64::from(COORDINATE_LIMIT)) as u64
 }
 
-/// The number of a place, which orders points by x, then y, then z.
+/// Returns the number of a place, which orders points by x, then y, then z.
 #[tactic(auto, unfolding(crate::specs::steps::PlaceKeys::place_code))]
 fn place_code(point: Point) -> u128
     ensures value { result ≡ place_code point }
     ensures limit { result < ROOM * ROOM * ROOM }
     ensures place { IsPlace point }
 {
-    let line = u128::from(raised(point.x())) * ROOM + u128::from(raised(point.y()));
-    line * ROOM + u128::from(raised(point.z()))
+    let line = u128::from(biased(point.x())) * ROOM + u128::from(biased(point.y()));
+    line * ROOM + u128::from(biased(point.z()))
 }
 
-/// The key of a point and its id.
+/// Returns the key of a point and its id.
 #[tactic(auto, unfolding(crate::specs::steps::PlaceKeys::place_key))]
 fn place_key(point: Point, id: Id) -> u128
     ensures value { result ≡ place_key point id }
@@ -44,21 +44,21 @@ fn place_key(point: Point, id: Id) -> u128
     place_code(point) * ROOM + u128::from(id.number())
 }
 
-/// The number of the place in a key.
+/// Returns the number of the place in a key.
 pub fn place_in(key: u128) -> u128
     ensures { result ≡ key / ROOM }
 {
     key / ROOM
 }
 
-/// The id in a key.
+/// Returns the id in a key.
 pub fn id_in(key: u128) -> Id
     ensures { result ≡ key % ROOM }
 {
     Id::new((key % ROOM) as u32)
 }
 
-/// The keys of points, in the order of their ids in the list.
+/// Returns the keys of points, in the order of their ids in the list.
 pub fn place_keys(alloc: Global, pts: &[Point], ids: &[Id]) -> Result<Vec<u128>, AllocError>
     requires { AreIndices pts.now ids.now }
     ensures value { IfOk result (λ v. v.items ≡ map (key_at pts.now) ids.now) }

@@ -18,7 +18,7 @@ use qh_model::{Id, Memory, Point, Polygon};
 use qh_pred::Normal;
 use std::alloc::{AllocError, Global};
 
-/// The ids in the order of their places.
+/// Returns the ids in the order of their places.
 fn by_place(alloc: Global, pts: &[Point], ids: &[Id]) -> Result<Vec<Id>, AllocError>
     requires { AreIndices pts.now ids.now }
     ensures order { IfOk result (λ v. AreByPlace pts.now ids.now v.items) }
@@ -35,7 +35,7 @@ fn by_place(alloc: Global, pts: &[Point], ids: &[Id]) -> Result<Vec<Id>, AllocEr
     Ok(sorted)
 }
 
-/// Two chains, there and back, as one cycle: each without its last, where the other begins.
+/// Returns two chains, there and back, as one cycle: each without its last, where the other begins.
 fn joined(mut there: Vec<Id>, back: &[Id]) -> Result<Vec<Id>, AllocError>
     ensures { IfOk result (λ v. v.items ≡ take (length there.items - 1) there.items ++ take (length back.now - 1) back.now) }
 {
@@ -47,7 +47,7 @@ fn joined(mut there: Vec<Id>, back: &[Id]) -> Result<Vec<Id>, AllocError>
     Ok(there)
 }
 
-/// The cycle over the two chains of ids in order of place.
+/// Returns the cycle over the two chains of ids in order of place.
 fn cycle(
     alloc: Global,
     pts: &[Point],
@@ -63,7 +63,7 @@ fn cycle(
     joined(there, &back)
 }
 
-/// The position of the least id.
+/// Returns the position of the least id.
 fn least_position(ids: &[Id]) -> usize
     ensures within { result ≤ length ids.now }
     ensures proper { 0 < length ids.now → result < length ids.now }
@@ -78,7 +78,7 @@ fn least_position(ids: &[Id]) -> usize
     least
 }
 
-/// The cycle of three ids, from the first on, that turns left.
+/// Returns the cycle of three ids, from the first on, that turns left.
 fn triangle(pts: &[Point], normal: &Normal, i: Id, j: Id, k: Id) -> Polygon
     requires i_in { i < length pts.now }
     requires j_in { j < length pts.now }
@@ -92,7 +92,7 @@ fn triangle(pts: &[Point], normal: &Normal, i: Id, j: Id, k: Id) -> Polygon
     }
 }
 
-/// Whether the way round four ids turns left at each.
+/// Returns true if the way round four ids turns left at each.
 fn goes_left(pts: &[Point], normal: &Normal, i: Id, j: Id, k: Id, l: Id) -> bool
     requires i_in { i < length pts.now }
     requires j_in { j < length pts.now }
@@ -106,8 +106,8 @@ fn goes_left(pts: &[Point], normal: &Normal, i: Id, j: Id, k: Id, l: Id) -> bool
         && turns_left(pts, normal, l, i, j)
 }
 
-/// The cycle of four ids, from the first on, that turns left at each, if there is one: else one of them lies
-/// between others.
+/// Returns the cycle of four ids, from the first on, that turns left at each, if there is one: else one of
+/// them lies between others.
 fn quadrilateral(pts: &[Point], normal: &Normal, i: Id, j: Id, k: Id, l: Id) -> Option<[Id; 4]>
     requires i_in { i < length pts.now }
     requires j_in { j < length pts.now }
@@ -132,7 +132,8 @@ fn quadrilateral(pts: &[Point], normal: &Normal, i: Id, j: Id, k: Id, l: Id) -> 
     }
 }
 
-/// The cycle of more ids in one plane, over the two chains of their order, from the least on.
+/// Returns the cycle of more ids in one plane, over the two chains of their order, from the least
+/// on.
 fn corners(alloc: Global, pts: &[Point], normal: &Normal, ids: &[Id]) -> Result<Vec<Id>, AllocError>
     requires { AreIndices pts.now ids.now }
     ensures { IfOk result (λ v. IsFlatSet pts.now ids.now normal.now → IsPolygon (place pts.now) (Extreme (place pts.now) (Members ids.now)) normal.now v.items) }
@@ -144,8 +145,9 @@ fn corners(alloc: Global, pts: &[Point], normal: &Normal, ids: &[Id]) -> Result<
     Ok(corners)
 }
 
-/// The polygon of points in one plane: the extreme ids, counterclockwise seen from the side to which
-/// the normal points, from the least id on. It takes time in proportion to `n log n` for n ids.
+/// Returns the polygon of points in one plane: the extreme ids, counterclockwise seen from the side
+/// to which the normal points, from the least id on. It takes time in proportion to `n log n` for n
+/// ids.
 ///
 /// Each id is the index of one of the points. The caller keeps `IsPlanarSet`: the ids rise, their
 /// points are distinct, lie in one plane and not in one line, and the normal is that of three of them
@@ -153,7 +155,7 @@ fn corners(alloc: Global, pts: &[Point], normal: &Normal, ids: &[Id]) -> Result<
 ///
 /// # Errors
 ///
-/// `Memory` where memory was refused.
+/// `Memory` if an allocation failed.
 ///
 /// Source: Andrew's monotone chain (1979).
 pub fn polygon(alloc: Global, pts: &[Point], ids: &[Id], normal: &Normal) -> Result<Polygon, Memory>

@@ -11,7 +11,7 @@ use crate::shape::Shape;
 use qh_model::{Id, Point};
 use qh_pred::{in_line, point_at, vol};
 
-/// Whether the points of three ids lie in one line.
+/// Returns true if the points of three ids lie in one line.
 fn are_in_line(pts: &[Point], i: Id, j: Id, k: Id) -> bool
     requires i_in { i < length pts.now }
     requires j_in { j < length pts.now }
@@ -21,7 +21,7 @@ fn are_in_line(pts: &[Point], i: Id, j: Id, k: Id) -> bool
     in_line(point_at(pts, i), point_at(pts, j), point_at(pts, k))
 }
 
-/// Whether the points of four ids lie in one plane.
+/// Returns true if the points of four ids lie in one plane.
 fn are_in_plane(pts: &[Point], i: Id, j: Id, k: Id, l: Id) -> bool
     requires i_in { i < length pts.now }
     requires j_in { j < length pts.now }
@@ -37,7 +37,7 @@ fn are_in_plane(pts: &[Point], i: Id, j: Id, k: Id, l: Id) -> bool
     ) == 0
 }
 
-/// The first id that is not in line with i and j.
+/// Returns the first id that is not in line with i and j.
 fn first_off_line(pts: &[Point], ids: &[Id], i: Id, j: Id) -> Option<Id>
     requires ids_in { AreIndices pts.now ids.now }
     requires i_in { i < length pts.now }
@@ -53,7 +53,7 @@ fn first_off_line(pts: &[Point], ids: &[Id], i: Id, j: Id) -> Option<Id>
     None
 }
 
-/// The first id that is not in the plane of i, j and k.
+/// Returns the first id that is not in the plane of i, j and k.
 fn first_off_plane(pts: &[Point], ids: &[Id], i: Id, j: Id, k: Id) -> Option<Id>
     requires ids_in { AreIndices pts.now ids.now }
     requires i_in { i < length pts.now }
@@ -69,7 +69,7 @@ fn first_off_plane(pts: &[Point], ids: &[Id], i: Id, j: Id, k: Id) -> Option<Id>
     None
 }
 
-/// The shape of a set of points, in two passes over its ids, with no memory.
+/// Returns the shape of a set of points, in two passes over its ids, with no memory.
 ///
 /// `ids` has at least one id, and each is the index of one of the points. That the ids rise and have
 /// distinct points (`IsIdSet`) is the caller's condition where the shape is to tell the dimension.

@@ -13,14 +13,14 @@ use rayon::slice::par_sort_unstable;
 use std::alloc::{AllocError, Global};
 use std::thread::Threads;
 
-/// From so many points on, few of which share a slot, a table saves time.
+/// The least number of points from which on a table saves time, if few of them share a slot.
 const TABLE_FROM: usize = 64;
 
 /// The table of more points than this lies outside of a processor's own memory, and a sort is as fast.
 const TABLE_TO: usize = 65_536;
 
-/// The ids of the keys that repeat the one before, of rising keys; none where one hash has different
-/// points past its first two keys.
+/// Returns the ids of the keys that repeat the one before, of rising keys; `None` if one hash has
+/// different points past its first two keys.
 ///
 /// So points that differ meet, among the keys of one hash, at most in its first two.
 fn repeats_told(alloc: Global, pts: &[Point], keys: &[u64]) -> Result<Option<Vec<Id>>, AllocError>
@@ -38,7 +38,8 @@ fn repeats_told(alloc: Global, pts: &[Point], keys: &[u64]) -> Result<Option<Vec
     Ok(Some(repeats))
 }
 
-/// The ids of all points that stand before, by a sort of all keys; none where too many have one hash.
+/// Returns the ids of all points that stand before, by a sort of all keys; `None` if too many have
+/// one hash.
 fn repeats_of_keys(alloc: Global, pts: &[Point]) -> Result<Option<Vec<Id>>, AllocError>
     requires { length pts.now ≤ POINT_LIMIT }
     ensures { IfOk result (λ found. IfSome found (λ v. AreAllRepeats pts.now v.items)) }
@@ -48,8 +49,8 @@ fn repeats_of_keys(alloc: Global, pts: &[Point]) -> Result<Option<Vec<Id>>, Allo
     repeats_told(alloc, pts, &keys)
 }
 
-/// The ids of all points that stand before, by a sort of the keys that share a slot of a table; none where too
-/// many have one hash.
+/// Returns the ids of all points that stand before, by a sort of the keys that share a slot of a table; none
+/// where too many have one hash.
 fn repeats_in_slots(alloc: Global, pts: &[Point]) -> Result<Option<Vec<Id>>, AllocError>
     requires some { 0 < length pts.now }
     requires few { length pts.now ≤ TABLE_TO }
@@ -61,7 +62,7 @@ fn repeats_in_slots(alloc: Global, pts: &[Point]) -> Result<Option<Vec<Id>>, All
     repeats_told(alloc, pts, &keys)
 }
 
-/// The ids of all points that stand before; none where too many have one hash.
+/// Returns the ids of all points that stand before; `None` if too many have one hash.
 pub fn repeats_of_all(alloc: Global, pts: &[Point]) -> Result<Option<Vec<Id>>, AllocError>
     requires { length pts.now ≤ POINT_LIMIT }
     ensures { IfOk result (λ found. IfSome found (λ v. AreAllRepeats pts.now v.items)) }
@@ -74,8 +75,8 @@ pub fn repeats_of_all(alloc: Global, pts: &[Point]) -> Result<Option<Vec<Id>>, A
     }
 }
 
-/// The ids of all points that stand before, by a sort of all keys by the threads of a runtime; none where too many
-/// have one hash.
+/// Returns the ids of all points that stand before, by a sort of all keys by the threads of a runtime; none where
+/// too many have one hash.
 pub fn repeats_by_sort<R: Threads + Sync>(
     rt: &R,
     alloc: Global,
@@ -89,7 +90,8 @@ pub fn repeats_by_sort<R: Threads + Sync>(
     repeats_told(alloc, pts, &keys)
 }
 
-/// The ids of the points that stand before and have hashes of a part; none where too many have one hash.
+/// Returns the ids of the points that stand before and have hashes of a part; `None` if too many have
+/// one hash.
 pub fn repeats_of_part(
     alloc: Global,
     pts: &[Point],

@@ -10,10 +10,10 @@ use crate::hashed_keys::{ID_ROOM, NO_HASH, key_of, place_hash};
 use qh_model::{POINT_LIMIT, Point};
 use std::alloc::{AllocError, Global};
 
-/// A table has so many slots for each point: of different points about one in five comes to the slot of another.
+/// The number of slots of a table for each point: of different points about one in five comes to the slot of another.
 pub const SLOTS_FOR_EACH: usize = 4;
 
-/// The slot of a hash in a table of so many.
+/// Returns the slot of a hash in a table of `slots` slots.
 fn slot_of(hash: u64, slots: usize) -> usize
     requires hash { hash < NO_HASH }
     requires some { 0 < slots }
@@ -52,7 +52,7 @@ fn is_marked(marks: &[bool], hash: u64) -> bool
     marks[slot_of(hash, marks.len())]
 }
 
-/// The keys of the points whose slots are marked, in the order of their ids.
+/// Returns the keys of the points whose slots are marked, in the order of their ids.
 pub fn keys_in_slots(alloc: Global, pts: &[Point], marks: &[bool]) -> Result<Vec<u64>, AllocError>
     requires few { length pts.now ≤ POINT_LIMIT }
     requires table { IsTable marks.now }

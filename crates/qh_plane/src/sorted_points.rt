@@ -6,7 +6,7 @@ ghost use Rattle.qh_plane.specs.steps.SortedPoints.{NumbersRise, NumbersFall, Al
 use crate::hashed_keys::place_number;
 use qh_model::Point;
 
-/// Whether the number of each place is above that of the one before.
+/// Returns true if the number of each place is above that of the one before.
 fn numbers_rise(pts: &[Point]) -> bool
     ensures { IsTrue result → NumbersRise pts.now }
 {
@@ -18,7 +18,7 @@ fn numbers_rise(pts: &[Point]) -> bool
     true
 }
 
-/// Whether it is below.
+/// Returns true if it is below.
 fn numbers_fall(pts: &[Point]) -> bool
     ensures { IsTrue result → NumbersFall pts.now }
 {
@@ -30,7 +30,7 @@ fn numbers_fall(pts: &[Point]) -> bool
     true
 }
 
-/// Whether points are seen to differ, since they stand in order or against it.
+/// Returns true if points are seen to differ, since they stand in order or against it.
 pub fn are_in_order(pts: &[Point]) -> bool
     ensures { IsTrue result → AllDiffer pts.now }
 {

@@ -60,7 +60,7 @@ impl Model for Components {
     ghost inverse = { λ v. record { x = v.x; y = v.y; z = v.z } };
 }
 
-/// The difference of two coordinates.
+/// Returns the difference of two coordinates.
 fn coordinate_difference(b: i32, a: i32) -> i64
     requires b_within { IsCoordinate b }
     requires a_within { IsCoordinate a }
@@ -70,8 +70,8 @@ fn coordinate_difference(b: i32, a: i32) -> i64
     i64::from(b) - i64::from(a)
 }
 
-/// A component of a cross product, a b - c d: twice the area of the triangle whose sides from one
-/// corner are (a, c) and (d, b), in a square of side `difference_limit`.
+/// Returns a component of a cross product, a b - c d: twice the area of the triangle whose sides
+/// from one corner are (a, c) and (d, b), in a square of side `difference_limit`.
 fn minor(a: i64, b: i64, c: i64, d: i64) -> i64
     requires a_within { unsigned_abs a ≤ difference_limit }
     requires b_within { unsigned_abs b ≤ difference_limit }
@@ -85,7 +85,7 @@ fn minor(a: i64, b: i64, c: i64, d: i64) -> i64
     a * b - c * d
 }
 
-/// The sign of the product of two numbers, without the product.
+/// Returns the sign of the product of two numbers, without the product.
 fn product_sign(a: i64, b: i64) -> Ordering
     ensures { result ≡ sign (a *ℤ b) }
 {
@@ -96,7 +96,7 @@ fn product_sign(a: i64, b: i64) -> Ordering
     }
 }
 
-/// The product of two numbers of 64 bits, in 128.
+/// Returns the product of two numbers of 64 bits, in 128.
 fn wide_product(a: i64, b: i64) -> i128
     ensures { result ≡ a *ℤ b }
 {
@@ -104,7 +104,7 @@ fn wide_product(a: i64, b: i64) -> i128
 }
 
 impl Difference {
-    /// The way from a to b.
+    /// Returns the way from a to b.
     pub fn between(a: Point, b: Point) -> Difference
         ensures value { result ≡ minus b a }
         ensures from { IsPlace a }
@@ -117,7 +117,8 @@ impl Difference {
         }
     }
 
-    /// The cross product of two differences from one point, whose own difference is one of points too.
+    /// Returns the cross product of two differences from one point, whose own difference is one of
+    /// points too.
     pub fn cross(self, other: Difference) -> Components
         requires { IsDifference (minus self other) }
         ensures { result ≡ cross_product self other }
@@ -129,7 +130,7 @@ impl Difference {
         }
     }
 
-    /// The same vector, with room for products.
+    /// Returns the same vector, with room for products.
     pub fn components(self) -> Components
         ensures { result ≡ self }
     {
@@ -142,7 +143,7 @@ impl Difference {
 }
 
 impl Components {
-    /// The vector with these components, which the caller keeps within the limit.
+    /// Returns the vector with these components, which the caller keeps within the limit.
     pub fn new(x: i64, y: i64, z: i64) -> Components
         requires { IsNormal (record { x = x; y = y; z = z }) }
         ensures { result ≡ record { x = x; y = y; z = z } }
@@ -150,7 +151,7 @@ impl Components {
         Components { x, y, z }
     }
 
-    /// The way from the origin to a point.
+    /// Returns the way from the origin to a point.
     pub fn of_point(p: Point) -> Components
         ensures { result ≡ p }
     {
@@ -161,7 +162,7 @@ impl Components {
         }
     }
 
-    /// The first component.
+    /// Returns the first component.
     pub fn x(self) -> i64
         ensures value { result ≡ self.x }
         ensures limit { IsNormal self }
@@ -169,7 +170,7 @@ impl Components {
         self.x
     }
 
-    /// The second component.
+    /// Returns the second component.
     pub fn y(self) -> i64
         ensures value { result ≡ self.y }
         ensures limit { IsNormal self }
@@ -177,7 +178,7 @@ impl Components {
         self.y
     }
 
-    /// The third component.
+    /// Returns the third component.
     pub fn z(self) -> i64
         ensures value { result ≡ self.z }
         ensures limit { IsNormal self }
@@ -185,14 +186,15 @@ impl Components {
         self.z
     }
 
-    /// Whether each component is 0.
+    /// Returns true if each component is 0.
     pub fn is_zero(self) -> bool
         ensures { IsTrue result ↔ (self ≡ origin) }
     {
         self.x == 0 && self.y == 0 && self.z == 0
     }
 
-    /// The sign of the first component that is not 0, times the same component of another vector.
+    /// Returns the sign of the first component that is not 0, times the same component of another
+    /// vector.
     pub fn first_sign(self, other: Components) -> Ordering
         ensures { result ≡ sign (first_product self other) }
     {
@@ -205,7 +207,7 @@ impl Components {
         }
     }
 
-    /// The scalar product of two vectors.
+    /// Returns the scalar product of two vectors.
     pub fn dot(self, other: Components) -> i128
         ensures value { result ≡ dot self other }
         ensures limit { unsigned_abs result ≤ offset_limit }

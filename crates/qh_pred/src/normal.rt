@@ -34,7 +34,7 @@ impl Model for Normal {
 }
 
 impl Normal {
-    /// The normal with the components of a cross product.
+    /// Returns the normal with the components of a cross product.
     pub(crate) fn of_product(product: Components) -> Normal
         ensures { result ≡ product }
     {
@@ -45,14 +45,14 @@ impl Normal {
         }
     }
 
-    /// Its components in 64 bits, which hold them.
+    /// Returns its components in 64 bits, which hold them.
     pub(crate) fn components(&self) -> Components
         ensures { result ≡ self.now }
     {
         Components::new(self.x as i64, self.y as i64, self.z as i64)
     }
 
-    /// The first component.
+    /// Returns the first component.
     pub fn x(&self) -> i128
         ensures value { result ≡ self.now.x }
         ensures limit { IsNormal self.now }
@@ -60,7 +60,7 @@ impl Normal {
         self.x
     }
 
-    /// The second component.
+    /// Returns the second component.
     pub fn y(&self) -> i128
         ensures value { result ≡ self.now.y }
         ensures limit { IsNormal self.now }
@@ -68,7 +68,7 @@ impl Normal {
         self.y
     }
 
-    /// The third component.
+    /// Returns the third component.
     pub fn z(&self) -> i128
         ensures value { result ≡ self.now.z }
         ensures limit { IsNormal self.now }
@@ -76,7 +76,7 @@ impl Normal {
         self.z
     }
 
-    /// The normal of the other side.
+    /// Returns the normal of the other side.
     pub fn opposite(&self) -> Normal
         ensures { result ≡ minus origin self.now }
     {

@@ -41,7 +41,8 @@ impl Model for Plane {
 }
 
 impl Plane {
-    /// The plane of the triangle a, b, c, with the side above from which it goes counterclockwise.
+    /// Returns the plane of the triangle a, b, c, with the side above from which it goes
+    /// counterclockwise.
     pub fn through(a: Point, b: Point, c: Point) -> Plane
         ensures { (p : Vector) → height result p ≡ vol a b c p }
     {
@@ -54,21 +55,21 @@ impl Plane {
         }
     }
 
-    /// Its normal, which points to the side above.
+    /// Returns its normal, which points to the side above.
     pub fn normal(&self) -> Normal
         ensures { result ≡ self.now.normal }
     {
         Normal::of_product(Components::new(self.x, self.y, self.z))
     }
 
-    /// The scalar product of the normal and each point of the plane.
+    /// Returns the scalar product of the normal and each point of the plane.
     pub fn offset(&self) -> i128
         ensures { result ≡ self.now.offset }
     {
         self.offset
     }
 
-    /// The scalar product of the normal and a point.
+    /// Returns the scalar product of the normal and a point.
     fn reach(&self, p: Point) -> i128
         ensures value { result ≡ dot self.now.normal p }
         ensures limit { unsigned_abs result ≤ offset_limit }
@@ -76,15 +77,15 @@ impl Plane {
         Components::new(self.x, self.y, self.z).dot(Components::of_point(p))
     }
 
-    /// Six times the volume of the triangle's tetrahedron with `p`: above 0 where `p` is above the
-    /// plane, 0 where it is on it.
+    /// Returns six times the volume of the triangle's tetrahedron with `p`: above 0 where `p` is
+    /// above the plane, 0 where it is on it.
     pub fn height(&self, p: Point) -> i128
         ensures { result ≡ height self.now p }
     {
         self.reach(p) - self.offset
     }
 
-    /// Whether `p` is above the plane, so that the triangle strictly sees it.
+    /// Returns true if `p` is above the plane, so that the triangle strictly sees it.
     pub fn sees(&self, p: Point) -> bool
         ensures { IsTrue result ↔ (pos 0 <ℤ height self.now p) }
     {

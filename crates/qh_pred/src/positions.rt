@@ -5,7 +5,8 @@ ghost use Rattle.qh_model.specs.headline.Vector.{minus, dot};
 use crate::components::Difference;
 use qh_model::Point;
 
-/// How far `p` lies along the way from `a` to `b`, times the length of that way: below 0 behind `a`.
+/// Returns how far `p` lies along the way from `a` to `b`, times the length of that way: below 0
+/// behind `a`.
 ///
 /// It is the scalar product `(b - a) . (p - a)`.
 pub fn along(a: Point, b: Point, p: Point) -> i128

@@ -15,7 +15,7 @@ pub enum Stage {
     First,
     /// The second number of the header, after this one.
     Second(i32),
-    /// One of so many coordinates, or none.
+    /// The number of the coordinate in its point.
     Coordinates(u32),
     /// The keyword of an OFF file.
     Keyword,
@@ -49,7 +49,7 @@ pub struct Builder {
     ghost text_fault: { HasTextFault stage },
 }
 
-/// The stage after a header that gives this count.
+/// Returns the stage after a header that gives this count.
 fn counted(count: i32) -> Stage
     ensures shown { stage_shown result [] ≡ progress.counted progress.wants count }
     ensures text_fault { HasTextFault result }
@@ -61,7 +61,7 @@ fn counted(count: i32) -> Stage
     }
 }
 
-/// The stage after the counts of an OFF file with so many vertices.
+/// Returns the stage after the counts of an OFF file with so many vertices.
 fn counted_vertices(count: i32) -> Stage
     ensures shown { stage_shown result [] ≡ progress.counted progress.wants_vertices count }
     ensures text_fault { HasTextFault result }
@@ -73,7 +73,7 @@ fn counted_vertices(count: i32) -> Stage
     }
 }
 
-/// The stage after a header of these two numbers.
+/// Returns the stage after a header of these two numbers.
 fn headed(first: i32, second: i32) -> Stage
     ensures shown { stage_shown result [] ≡ progress.headed first second }
     ensures text_fault { HasTextFault result }
@@ -87,7 +87,7 @@ fn headed(first: i32, second: i32) -> Stage
     }
 }
 
-/// The stage after the first word of an OFF file.
+/// Returns the stage after the first word of an OFF file.
 fn after_keyword(is_keyword: bool) -> Stage
     ensures keyword { is_keyword ≡ true → result ≡ Stage.VertexCount }
     ensures other { is_keyword ≡ false → result ≡ Stage.Failed ReadFault.NotOff }
@@ -108,7 +108,7 @@ impl Builder {
     ghost use Rattle.qh_read.specs.steps.Numbers.{AwaitsPoint, AwaitsPoints};
     ghost use Rattle.qh_model.specs.headline.PointFile.{coordinates};
 
-    /// Nothing read yet.
+    /// Creates a builder that has read nothing yet.
     pub fn new(alloc: Global, form: Form) -> Builder
         ensures shown { shown result ≡ progress.started form }
         ensures count { taken_count result ≡ 0 }
@@ -123,7 +123,7 @@ impl Builder {
         }
     }
 
-    /// Makes room for so many points more. It leaves all as it was but the room.
+    /// Makes room for `more` more points. Nothing else changes.
     pub fn reserve(&mut self, points: usize) -> Result<(), AllocError>
         ensures shown { shown self.new ≡ shown self.old }
         ensures count { taken_count self.new ≡ taken_count self.old }
@@ -173,7 +173,8 @@ impl Builder {
         }
     }
 
-    /// The stage after one point more, where a point begins and all its coordinates are to come.
+    /// Returns the stage after one point more, where a point begins and all its coordinates are to
+    /// come.
     #[inline]
     pub fn after_point(&self) -> Option<Stage>
         ensures { IfSome result (AwaitsPoint self.now) }
@@ -261,7 +262,7 @@ impl Builder {
         }
     }
 
-    /// The points, if the text ends here, or what it lacks.
+    /// Returns the points, if the text ends here, or what it lacks.
     pub fn finish(self) -> Result<Vec<Point>, ReadFault>
         ensures all { IfOk result (λ points. AreAll (shown self) points.items) }
         ensures lack { IfErr result (λ e. lack (shown self) ≡ Some e) }

@@ -16,7 +16,7 @@ pub struct FailSource<'a> {
 }
 
 impl<'a> FailSource<'a> {
-    /// A source of these bytes, of which each read gives at most `greatest_piece`.
+    /// Creates a source of these bytes, of which each read gives at most `greatest_piece`.
     ///
     /// The read with the number `fails_at`, from 1, fails; with `None` or 0 none does.
     pub fn new(bytes: &'a [u8], greatest_piece: usize, fails_at: Option<u64>) -> FailSource<'a>

@@ -20,7 +20,7 @@ pub struct KnownPoints<'a> {
 }
 
 impl<'a> KnownPoints<'a> {
-    /// A piece of which no point is parsed.
+    /// Returns a piece of which no point is parsed.
     pub fn none(piece: &'a [u8]) -> KnownPoints<'a>
         ensures { result.piece.now ≡ piece.now }
     {

@@ -10,7 +10,7 @@ use crate::coordinate::Coordinate;
 use crate::token::blank;
 use qh_model::COORDINATE_LIMIT;
 
-/// A sign, nine digits and the byte after them: so many bytes are left where a number is taken at once.
+/// The bytes that must be left for a number to be taken at once: a sign, nine digits and the byte after them.
 const LONGEST: usize = 11;
 
 /// A number in the range of coordinates, and what comes after it and the byte that ends it.
@@ -89,7 +89,7 @@ fn few_digits(first: u32, bytes: &[u8]) -> (u32, &[u8])
     (magnitude, &bytes[8..])
 }
 
-/// The coordinate of this magnitude and sign.
+/// Returns the coordinate of this magnitude and sign.
 #[inline(always)]
 fn signed_coordinate(minus: bool, magnitude: u32) -> Coordinate
     requires { magnitude ≤ COORDINATE_LIMIT }

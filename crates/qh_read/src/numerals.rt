@@ -74,7 +74,7 @@ fn ends_word(byte: u8) -> bool
     byte == b'\n' || byte == b'#' || blank(byte)
 }
 
-/// The word with one byte more.
+/// Returns the word with one byte more.
 #[inline]
 fn grow(token: Token, byte: u8) -> Token
     requires { IsSmall token }
@@ -106,7 +106,7 @@ fn after_word(begun: Token, bytes: &[u8]) -> (Token, &[u8])
     (token, &[])
 }
 
-/// A word that ends on this line.
+/// Returns a word that ends on this line.
 fn numeral_of(token: Token, line: u32) -> Numeral
     requires { IsSmall token }
     ensures { result ≡ told token line }
@@ -120,7 +120,7 @@ fn numeral_of(token: Token, line: u32) -> Numeral
 }
 
 impl<'a> Numerals<'a> {
-    /// The words of a text, of which there are at most `BYTE_LIMIT` bytes.
+    /// Returns the words of a text, of which there are at most `BYTE_LIMIT` bytes.
     pub fn of(bytes: &'a [u8]) -> Numerals<'a>
         requires { length bytes.now ≤ BYTE_LIMIT }
         ensures { result ≡ numerals_in bytes.now }
@@ -128,7 +128,7 @@ impl<'a> Numerals<'a> {
         Numerals::from_line(1, bytes)
     }
 
-    /// The words of these bytes, the first of which stands on this line.
+    /// Returns the words of these bytes, the first of which stands on this line.
     fn from_line(line: u32, bytes: &'a [u8]) -> Numerals<'a>
         requires { line + length bytes.now ≤ BYTE_LIMIT + 1 }
         ensures { result ≡ arriving None false line bytes.now }

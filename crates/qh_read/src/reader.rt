@@ -41,21 +41,23 @@ impl Model for Reader {
 }
 
 impl Reader {
-    /// A reader of a point file that was fed nothing. It takes no memory yet, and grows by `alloc`.
+    /// Creates a reader of a point file that was fed nothing. It takes no memory yet, and grows by
+    /// `alloc`.
     pub fn new(alloc: Global) -> Reader
         ensures { Fed forms.Qhull result [] }
     {
         Reader::of_form(alloc, Form::Qhull)
     }
 
-    /// A reader of an OFF file that was fed nothing. It takes no memory yet, and grows by `alloc`.
+    /// Creates a reader of an OFF file that was fed nothing. It takes no memory yet, and grows by
+    /// `alloc`.
     pub fn new_off(alloc: Global) -> Reader
         ensures { Fed forms.Off result [] }
     {
         Reader::of_form(alloc, Form::Off)
     }
 
-    /// A reader of a file of this form.
+    /// Returns a reader of a file of this form.
     pub(crate) fn of_form(alloc: Global, form: Form) -> Reader
         ensures { Fed form result [] }
     {
@@ -135,7 +137,8 @@ impl Reader {
         })
     }
 
-    /// The points of the bytes fed, or their first fault, from `NoHeader` to `Short` or `NotOff`.
+    /// Returns the points of the bytes fed, or their first fault, from `NoHeader` to `Short` or
+    /// `NotOff`.
     ///
     /// It takes no memory.
     pub fn finish(self) -> Result<Vec<Point>, ReadFault>

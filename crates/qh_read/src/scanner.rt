@@ -26,7 +26,7 @@ pub struct Scanner {
 }
 
 impl Scanner {
-    /// No byte yet.
+    /// Creates no byte yet.
     pub fn new(alloc: Global, form: Form) -> Scanner
         ensures held { held result Token.Empty ≡ held_at_start form }
         ensures line { result.line ≡ 1 }
@@ -40,7 +40,7 @@ impl Scanner {
         }
     }
 
-    /// Makes room for all points that so many bytes more can complete.
+    /// Makes room for all points that `bytes` more bytes can complete.
     ///
     /// A coordinate takes two bytes at least, one of them a blank.
     pub fn reserve(&mut self, bytes: usize) -> Result<(), AllocError>

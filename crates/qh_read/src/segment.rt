@@ -36,7 +36,7 @@ fn after_line(bytes: &[u8]) -> usize
     0
 }
 
-/// Pushes the points that the bytes begin with, as many as there is room for. Returns the number of line ends
+/// Pushes the points that the bytes begin with, up to the room there is. Returns the number of line ends
 /// among them and the bytes after them.
 fn push_points<'a>(points: &mut Vec<Point>, bytes: &'a [u8]) -> (u32, &'a [u8])
     requires small { length bytes.now < 2 ^ 31 }
@@ -78,7 +78,7 @@ impl Segment {
         }
     }
 
-    /// Finds the points of this text, as many as there is room for, in place of the earlier ones.
+    /// Finds the points of this text, up to the room there is, in place of the earlier ones.
     pub fn go_over(&mut self, text: &[u8])
         requires { length text.now < 2 ^ 31 }
         ensures { IsSegment self.new text.now }

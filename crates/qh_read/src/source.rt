@@ -28,7 +28,7 @@ pub trait Source {
         ensures kept { OnOk result (failure_count self.new ≡ failure_count self.old) }
         ensures failed { OnErr result (failure_count self.new ≡ failure_count self.old + 1) };
 
-    /// The number of reads that failed so far.
+    /// Returns the number of reads that failed so far.
     fn failures(&self) -> u64
         ensures { result ≡ failure_count self.now };
 }
@@ -48,7 +48,7 @@ impl<'a> Model for MemSource<'a> {
 }
 
 impl<'a> MemSource<'a> {
-    /// A source of these bytes.
+    /// Creates a source of these bytes.
     pub fn new(bytes: &'a [u8]) -> MemSource<'a>
         ensures { result ≡ bytes.now }
     {
@@ -84,7 +84,7 @@ pub struct StdSource<R> {
 }
 
 impl<R: Read> StdSource<R> {
-    /// A source of the bytes that this reader has still to give, with no failure yet.
+    /// Creates a source of the bytes that this reader has still to give, with no failure yet.
     pub fn new(reader: R) -> StdSource<R>
         ensures bytes { ⟦<StdSource<R> as Source>⟧.remaining result ≡ R.remaining reader }
         ensures failures { ⟦<StdSource<R> as Source>⟧.failure_count result ≡ 0 }

@@ -140,11 +140,11 @@ fn feed_batches<R: Threads + Sync, S: Source>(
     Ok(())
 }
 
-/// The points of the file of this form that a source gives, with the answers of [`read_form_from`], cut in these
-/// sizes.
+/// Returns the points of the file of this form that a source gives, with the answers of [`read_form_from`], cut in
+/// these sizes.
 ///
-/// The sizes change the time and the memory that it takes, never the answer. [`read_form_threads`] has sizes that pay;
-/// tests have sizes of a few bytes.
+/// The sizes change the time and the memory that it takes, never the answer. [`read_form_threads`] has sizes
+/// that pay; tests have sizes of a few bytes.
 pub fn read_form_sizes<R: Threads + Sync, S: Source>(
     rt: &R,
     alloc: Global,
@@ -178,8 +178,8 @@ pub fn read_form_sizes<R: Threads + Sync, S: Source>(
     reader.finish()
 }
 
-/// The points of the file of this form that a source gives, with the answers of [`read_form_from`], by at most
-/// this number of threads, the calling thread among them.
+/// Returns the points of the file of this form that a source gives, with the answers of [`read_form_from`], by at
+/// most this number of threads, the calling thread among them.
 ///
 /// A file of at most 262,144 bytes is read by the calling thread alone, and so is any file if `threads` is 0 or 1.
 /// The answer does not depend on the number of threads, nor on which of them can be started. Out of memory for the

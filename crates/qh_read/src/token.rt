@@ -25,21 +25,21 @@ pub enum Token {
     Other,
 }
 
-/// Whether the byte parts words within a line.
+/// Returns true if the byte parts words within a line.
 pub fn blank(byte: u8) -> bool
     ensures { result ≡ is_blank byte }
 {
     matches!(byte, 9 | 11 | 12 | 13 | 32)
 }
 
-/// Whether a word that begins with this byte is a data word.
+/// Returns true if a word that begins with this byte is a data word.
 pub fn begins_data(byte: u8) -> bool
     ensures { result ≡ is_data (byte ∷ []) }
 {
     byte.is_ascii_digit() || matches!(byte, b'+' | b'-' | b'.')
 }
 
-/// The magnitude after one more digit, up to the cap.
+/// Returns the magnitude after one more digit, up to the cap.
 #[inline]
 pub fn with_digit(magnitude: u32, digit: u8) -> u32
     requires small { magnitude ≤ MAGNITUDE_CAP }
@@ -57,14 +57,14 @@ pub fn with_digit(magnitude: u32, digit: u8) -> u32
 }
 
 impl Token {
-    /// Whether no word is under way.
+    /// Returns true if no word is under way.
     pub fn is_empty(self) -> bool
         ensures { IsTrue result ↔ (self ≡ Token.Empty) }
     {
         matches!(self, Token::Empty)
     }
 
-    /// The word with one digit more.
+    /// Returns the word with one digit more.
     #[inline]
     pub fn grow_digit(self, byte: u8) -> Token
         requires small { IsSmall self }
@@ -81,7 +81,7 @@ impl Token {
         }
     }
 
-    /// The word with one byte more that is no digit.
+    /// Returns the word with one byte more that is no digit.
     pub fn grow_other(self, byte: u8) -> Token
         requires { is_ascii_digit byte ≡ false }
         ensures grown { result ≡ grown self byte }
@@ -97,14 +97,14 @@ impl Token {
         }
     }
 
-    /// Whether the word is the keyword `OFF`.
+    /// Returns true if the word is the keyword `OFF`.
     pub fn is_keyword(self) -> bool
         ensures { result ≡ is_keyword self }
     {
         matches!(self, Token::Keyword(3))
     }
 
-    /// The number of the word, up to the cap, if it is one.
+    /// Returns the number of the word, up to the cap, if it is one.
     pub fn value(self) -> Option<i32>
         requires { IsSmall self }
         ensures { result ≡ value_of self }

@@ -15,7 +15,7 @@ use std::alloc::{AllocError, Global};
 /// How many bytes are taken at once, so that the room made for them stays small.
 pub const PIECE_LENGTH: usize = 65536;
 
-/// The points of a file of this form, in its order, or its first fault.
+/// Returns the points of a file of this form, in its order, or its first fault.
 ///
 /// `Big` goes before all other faults, and is found before any growth. `Memory` is answered where
 /// room for the points was refused; `Device` never.
@@ -35,7 +35,8 @@ pub fn read_form(alloc: Global, form: Form, bytes: &[u8]) -> Result<Vec<Point>, 
     reader.finish()
 }
 
-/// The points of a point file, in its order, or its first fault, with the answers of [`read_form`].
+/// Returns the points of a point file, in its order, or its first fault, with the answers of
+/// [`read_form`].
 pub fn read_points(alloc: Global, bytes: &[u8]) -> Result<Vec<Point>, ReadFault>
     ensures read { IfOk result (λ points. ReadsIn forms.Qhull bytes.now points.items) }
     ensures fault { IfErr result (λ e. IsFaultOf forms.Qhull bytes.now e) }
@@ -45,8 +46,8 @@ pub fn read_points(alloc: Global, bytes: &[u8]) -> Result<Vec<Point>, ReadFault>
     read_form(alloc, Form::Qhull, bytes)
 }
 
-/// The points that are the vertices of an OFF file, in its order, or its first fault, with the answers of
-/// [`read_form`].
+/// Returns the points that are the vertices of an OFF file, in its order, or its first fault, with the
+/// answers of [`read_form`].
 pub fn read_off(alloc: Global, bytes: &[u8]) -> Result<Vec<Point>, ReadFault>
     ensures read { IfOk result (λ points. ReadsIn forms.Off bytes.now points.items) }
     ensures fault { IfErr result (λ e. IsFaultOf forms.Off bytes.now e) }
@@ -56,7 +57,7 @@ pub fn read_off(alloc: Global, bytes: &[u8]) -> Result<Vec<Point>, ReadFault>
     read_form(alloc, Form::Off, bytes)
 }
 
-/// Room for a piece, on the heap.
+/// Returns room for a piece, on the heap.
 fn new_buffer(alloc: Global) -> Result<Vec<u8>, AllocError>
     ensures { IfOk result (λ buffer. vec_len buffer ≡ PIECE_LENGTH) }
 {
@@ -93,7 +94,8 @@ pub(crate) fn feed_from<S: Source>(
     Ok(false)
 }
 
-/// The points of the file of this form that a source gives, in its order, or its first fault.
+/// Returns the points of the file of this form that a source gives, in its order, or its first
+/// fault.
 ///
 /// Points and faults of the text are answered only once the end was read, of all bytes that came.
 /// `Device` is answered where a read failed, and no call follows that read; `Big` where more than
@@ -128,8 +130,8 @@ pub fn read_form_from<S: Source>(
     reader.finish()
 }
 
-/// The points of the point file that a source gives, in its order, or its first fault, with the answers
-/// of [`read_form_from`].
+/// Returns the points of the point file that a source gives, in its order, or its first fault, with the
+/// answers of [`read_form_from`].
 pub fn read_from<S: Source>(alloc: Global, source: &mut S) -> Result<Vec<Point>, ReadFault>
     requires { S.failure_count source.old < 2 ^ 64 - 1 }
     ensures read { IfOk result (λ points.
@@ -153,8 +155,8 @@ pub fn read_from<S: Source>(alloc: Global, source: &mut S) -> Result<Vec<Point>,
     read_form_from(alloc, Form::Qhull, source)
 }
 
-/// The points that are the vertices of the OFF file that a source gives, in its order, or its first fault,
-/// with the answers of [`read_form_from`].
+/// Returns the points that are the vertices of the OFF file that a source gives, in its order, or its
+/// first fault, with the answers of [`read_form_from`].
 pub fn read_off_from<S: Source>(alloc: Global, source: &mut S) -> Result<Vec<Point>, ReadFault>
     requires { S.failure_count source.old < 2 ^ 64 - 1 }
     ensures read { IfOk result (λ points.

@@ -4,7 +4,7 @@ ghost use Rattle.qh_model.specs.contract.Cut.{positions};
 ghost use Rattle.qh_run.specs.steps.Parts.{StandsFor};
 
 use crate::job::Job;
-use qh_block::outer;
+use qh_block::cull_interior;
 use qh_model::{Cut, Id, Memory};
 use std::alloc::{AllocError, Global};
 use std::thread::Threads;
@@ -72,7 +72,7 @@ pub(crate) fn without_interior<R: Threads + Sync>(
     ensures part { IfOk result (λ found. IfSome found (λ c. StandsFor job.now.pts.now job.now.ids.now c.ids.items)) }
     ensures some { IfOk result (λ found. IfSome found (λ c. 0 < length c.ids.items)) }
 {
-    let Some(ids) = outer(rt, alloc, job.pts, job.ids, threads)? else {
+    let Some(ids) = cull_interior(rt, alloc, job.pts, job.ids, threads)? else {
         return Ok(None);
     };
     let LeftBlocks { bounds, counts } = blocks_among(alloc, job, &ids)?;

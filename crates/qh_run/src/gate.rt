@@ -14,17 +14,18 @@ use std::alloc::Global;
 ///
 /// A gate may hold back the thread that calls it. No other worker waits for that one.
 pub trait Gate: Sync {
-    /// Is told that a pass has claimed a block, before the pass works at it.
+    /// Learns that a pass has claimed a block, before the pass works at it.
     fn claimed(&self, pass: u32, block: u32);
 
-    /// Is told that a pass has delivered the extreme ids of a block, once the board has answered.
+    /// Learns that a pass has delivered the extreme ids of a block, once the board has answered.
     fn delivered(&self, pass: u32, block: u32);
 
-    /// The hull of a set, under the condition of `qh_block::hull`, which is also the caller's.
+    /// Returns the hull of a set, under the condition of `qh_block::hull`, which is also the
+    /// caller's.
     ///
     /// # Errors
     ///
-    /// `Memory` where memory was refused; a gate may say that it was.
+    /// `Memory` if an allocation failed; a gate may say that it was.
     fn finish(&self, alloc: Global, pts: &[Point], ids: &[Id]) -> Result<Body, Memory>
         requires some { 0 < length ids.now }
         requires indices { AreIndices pts.now ids.now }

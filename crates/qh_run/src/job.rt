@@ -12,12 +12,12 @@ ghost use Rattle.qh_model.specs.contract.IdSets.{AreIndices};
 
 use crate::reduction::{Claimed, GivesUp, Reduction};
 use crate::unions::union;
-use qh_block::{TELLING, extremes_unlooked, tree_pays};
+use qh_block::{TELLING, extremes_unculled, tree_pays};
 use qh_board::Spans;
 use qh_model::{Cut, Id, Point};
 use std::alloc::Global;
 
-/// The points, their distinct ids, rising, and a cut of as many positions.
+/// The points, their distinct ids, rising, and a cut of their positions.
 #[derive(Drop)]
 pub struct Job<'a> {
     pub pts: &'a [Point],
@@ -52,7 +52,7 @@ impl<'a> Job<'a> {
     {
         if block.len() > TELLING {
             let (sample, _) = block.split_at(TELLING);
-            let found = extremes_unlooked(alloc, self.pts, sample)?;
+            let found = extremes_unculled(alloc, self.pts, sample)?;
             if !tree_pays(found.len(), TELLING) {
                 return Err(GivesUp);
             }
@@ -60,23 +60,23 @@ impl<'a> Job<'a> {
         Ok(())
     }
 
-    /// The extreme ids of a part of the ids, which has all that are extreme among so many; none where
-    /// they tell that a tree does not pay.
+    /// Returns the extreme ids of a part of the ids, which has all that are extreme among so many;
+    /// none where they tell that a tree does not pay.
     fn extremes_among(&self, alloc: Global, part: &[Id], among: usize) -> Result<Extremes, GivesUp>
         requires some { 0 < length part.now }
         requires indices { AreIndices self.now.pts.now part.now }
         requires set { IsIdSet self.now.pts.now part.now }
         ensures { IfOk result (λ found. AreExtremes (place self.now.pts.now) (Members part.now) found.ids.items) }
     {
-        let ids = extremes_unlooked(alloc, self.pts, part)?;
+        let ids = extremes_unculled(alloc, self.pts, part)?;
         if !tree_pays(ids.len(), among) {
             return Err(GivesUp);
         }
         Ok(Extremes { ids, among })
     }
 
-    /// The extreme ids of a block, which stands for so many ids; none where they tell that a tree does not
-    /// pay.
+    /// Returns the extreme ids of a block, which stands for so many ids; `None` if they tell that a tree
+    /// does not pay.
     pub(crate) fn reduced(
         &self,
         alloc: Global,

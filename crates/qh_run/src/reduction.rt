@@ -31,16 +31,18 @@ pub(crate) trait Reduction: Spans {
     // The number of blocks.
     ghost count: { Self → ℕ };
 
-    /// The number of blocks.
+    /// Returns the number of blocks.
     fn blocks(&self) -> u32
         ensures { result ≡ Self.count self.now };
 
-    /// What is found for a block. Of the first block of a pass a sample may tell that the pass gives up.
+    /// Returns what is found for a block. Of the first block of a pass a sample may tell that the pass
+    /// gives up.
     fn reduce(&self, alloc: Global, block: u32, claimed: Claimed) -> Result<Self::Value, GivesUp>
         requires { block < Self.count self.now }
         ensures { IfOk result (Self.right self.now (InSpan (Self.count self.now) (Self.count self.now + block))) };
 
-    /// What is found for an inner node, from the values of its even child and of its odd child.
+    /// Returns what is found for an inner node, from the values of its even child and of its odd
+    /// child.
     fn combine(
         &self,
         alloc: Global,

@@ -47,7 +47,7 @@ fn reduced<S: Reduction, R: Threads + Sync, G: Gate>(
     Ok(root_of(board, lefts))
 }
 
-/// Returns what the workers find for all blocks, by so many passes; `None` where one gave up, or where
+/// Returns what the workers find for all blocks, by a number of passes; `None` where one gave up, or where
 /// an allocation for the board or a thread failed.
 fn root_over_blocks<S: Reduction, R: Threads + Sync, G: Gate>(
     rt: &R,

@@ -58,13 +58,14 @@ fn finished<G: Gate>(
     }
 }
 
-/// The hull of a list of points.
+/// Returns the hull of a list of points.
 ///
-/// `ids` are its distinct ids, rising, as `qh_plane::distinct` gives them, and `cut` a cut of as many
-/// positions; the list has at most `POINT_LIMIT` points. These are the caller's conditions.
+/// `ids` are its distinct ids, rising, as `qh_plane::distinct` gives them, and `cut` a cut of their
+/// positions, as many positions; the list has at most `POINT_LIMIT` points. These are the caller's
+/// conditions.
 ///
 /// The calling thread filters a large set first: it removes points that it finds inside from the
-/// blocks, and leaves out the blocks that are empty then (`qh_block::outer`). The workers share the
+/// blocks, and leaves out the blocks that are empty then (`qh_block::cull_interior`). The workers share the
 /// blocks, no more workers than blocks, and the gate is told of each. Then the calling thread calls the
 /// gate's `finish` once: with the extreme ids that came out of all blocks, or with all ids where there
 /// are none, since a worker gave up or an allocation for the filter, the board or a thread failed. The

@@ -6,7 +6,7 @@ ghost use Rattle.qh_model.specs.headline.Sets.{In};
 use qh_model::{Id, Memory};
 use std::alloc::Global;
 
-/// The ids of two lists, rising, each once.
+/// Returns the ids of two lists, rising, each once.
 pub(crate) fn union(alloc: Global, one: &[Id], two: &[Id]) -> Result<Vec<Id>, Memory>
     ensures rising { IfOk result (λ v. IsStrictlyIncreasing v.items) }
     ensures members { IfOk result (λ v. (i : ℕ) → In i v.items ↔ (In i one.now ⊎ In i two.now)) }

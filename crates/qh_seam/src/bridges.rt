@@ -1,6 +1,7 @@
 //! Polygons that close the gap between the faces of parts: whether each is a face of what is kept of all parts.
 //!
-//! A plane asks the own corners of each part by their blocks. The planes of polygons that follow each other are asked together.
+//! A plane asks the own corners of each part by their blocks. The planes of polygons that follow each other are
+//! asked together.
 ghost use Rattle.std.specs.Prelude.{◌≡◌, ◌++◌, ◌<◌, ◌↔◌, ℕ, List, IfOk, IfSome, IsTrue, Ok, length, map, pos, true};
 ghost use Rattle.std.specs.List.{All, flat_map};
 ghost use Rattle.std.specs.List.Sorted.{IsStrictlyIncreasing};
@@ -36,7 +37,8 @@ struct Three {
     k: Id,
 }
 
-/// For each part the positions that some planes have to look at, which best slant alike, and best pass near a point.
+/// Returns for each part the positions that some planes have to look at, which best slant alike, and best pass near
+/// a point.
 fn nears_of<'a>(
     alloc: Global,
     parts: &'a [Part],
@@ -56,8 +58,8 @@ fn nears_of<'a>(
     Ok(nears)
 }
 
-/// Lists in `level` the own corners of all parts whose points lie in a plane. False where one is above it. `room` is for those of
-/// one part.
+/// Lists in `level` the own corners of all parts whose points lie in a plane. False where one is above it.
+/// `room` is for those of one part.
 fn list_own(
     plane: &Plane,
     nears: &[NearPart],
@@ -108,7 +110,8 @@ fn list_ids(
     Ok(true)
 }
 
-/// The ids of what is kept of all parts that lie in a plane, rising, if none is above it. `nears` has each part.
+/// Returns the ids of what is kept of all parts that lie in a plane, rising, if none is above it. `nears` has
+/// each part.
 fn level_of(
     alloc: Global,
     set: Divided,
@@ -136,7 +139,8 @@ fn level_of(
     Ok(Some(rising))
 }
 
-/// Returns true if a polygon that begins with three ids is a face of what is kept of all parts. `nears` has each part.
+/// Returns true if a polygon that begins with three ids is a face of what is kept of all parts. `nears` has each
+/// part.
 fn is_face_at(
     alloc: Global,
     set: Divided,
@@ -198,7 +202,7 @@ fn is_face(
     is_face_at(alloc, set, nears, three, claimed)
 }
 
-/// The planes of polygons, as far as these have three corners that are points.
+/// Returns the planes of polygons, as far as these have three corners that are points.
 fn planes_of(alloc: Global, pts: &[Point], polygons: &[Polygon]) -> Result<Vec<Plane>, AllocError> {
     let mut planes = Vec::with_capacity(alloc, polygons.len())?;
     for claimed in polygons {
@@ -212,7 +216,7 @@ fn planes_of(alloc: Global, pts: &[Point], polygons: &[Polygon]) -> Result<Vec<P
     Ok(planes)
 }
 
-/// The first corner of the first polygon, or another point.
+/// Returns the first corner of the first polygon, or another point.
 fn origin_of(pts: &[Point], polygons: &[Polygon]) -> Point {
     let none = Point::new(0, 0, 0);
     let Some(claimed) = polygons.first() else {
@@ -278,7 +282,8 @@ fn are_all(answers: &[Result<bool, Memory>]) -> Result<bool, Memory>
     Ok(true)
 }
 
-/// Returns true if each of some polygons is a face of what is kept of a set, by a number of threads. No `workers` means one.
+/// Returns true if each of some polygons is a face of what is kept of a set, by a number of threads. No `workers`
+/// means one.
 pub(crate) fn are_bridges<R: Threads>(
     rt: &R,
     alloc: Global,

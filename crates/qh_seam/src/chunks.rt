@@ -8,7 +8,7 @@ use crate::parts::Part;
 use qh_model::{Id, Memory, Point};
 use std::alloc::Global;
 
-/// The part of some ids and the shared ones, if their points do not lie in one plane.
+/// Returns the part of some ids and the shared ones, if their points do not lie in one plane.
 fn part_with(
     alloc: Global,
     pts: &[Point],
@@ -24,9 +24,9 @@ fn part_with(
     Part::of(alloc, pts, &listed, shared)
 }
 
-/// The parts of `size` consecutive ids of a list each, of fewer at its end, with the shared ids. None where the points of
-/// one lie in one plane. The order of the list may be any; near ids near each other make the parts that are told apart by
-/// few facets.
+/// Returns the parts of `size` consecutive ids of a list each, of fewer at its end, with the shared ids. None where
+/// the points of one lie in one plane. The order of the list may be any; near ids near each other make the parts that
+/// are told apart by few facets.
 ///
 /// # Errors
 ///

@@ -19,7 +19,7 @@ use qh_model::{Body, Memory, Polygon};
 use std::alloc::{AllocError, Global};
 use std::thread::Threads;
 
-/// The polygons of two lists.
+/// Returns the polygons of two lists.
 fn both(mut polygons: Vec<Polygon>, mut others: Vec<Polygon>) -> Result<Vec<Polygon>, AllocError>
     ensures { IfOk result (λ v. (q : List ℕ) → In q v.items → In q polygons.items ⊎ In q others.items) }
 {
@@ -29,10 +29,10 @@ fn both(mut polygons: Vec<Polygon>, mut others: Vec<Polygon>) -> Result<Vec<Poly
     Ok(polygons)
 }
 
-/// The hull of a set from polygons in order, if there is one and they close up.
+/// Returns the hull of a set from polygons in order, if there is one and they close up.
 ///
-/// The caller promises that each is the polygon of a facet that stays in a part and has a clear plane, or a face of the kept
-/// ids. So they are all faces of the set (`qh_seam_laws::joined_faces_are_hull`).
+/// The caller promises that each is the polygon of a facet that stays in a part and has a clear plane, or a
+/// face of the kept ids. So they are all faces of the set (`qh_seam_laws::joined_faces_are_hull`).
 fn body_of_joined<R: Threads>(
     rt: &R,
     alloc: Global,
@@ -56,8 +56,8 @@ fn body_of_joined<R: Threads>(
     Ok(Some(body))
 }
 
-/// The hull of a set from faces that its parts give out and polygons that close the gap between them. None where one of
-/// these is no face of what is kept of the set, or they do not close up.
+/// Returns the hull of a set from faces that its parts give out and polygons that close the gap between them. None
+/// where one of these is no face of what is kept of the set, or they do not close up.
 ///
 /// The caller promises what `given` is; `bridges` may be any polygons. No `workers` means one.
 ///

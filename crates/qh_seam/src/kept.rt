@@ -13,7 +13,7 @@ use qh_model::{Id, Memory};
 use qh_plane::rising_ids;
 use std::alloc::{AllocError, Global};
 
-/// The ids of all parts, part by part.
+/// Returns the ids of all parts, part by part.
 fn ids_of_parts(alloc: Global, parts: &[Part]) -> Result<Vec<Id>, AllocError>
     ensures { IfOk result (λ v. v.items ≡ flat_map ids_in parts.now) }
 {
@@ -24,7 +24,7 @@ fn ids_of_parts(alloc: Global, parts: &[Part]) -> Result<Vec<Id>, AllocError>
     Ok(ids)
 }
 
-/// The corners of all parts, part by part.
+/// Returns the corners of all parts, part by part.
 fn corners_of_parts(alloc: Global, parts: &[Part]) -> Result<Vec<Id>, AllocError>
     ensures { IfOk result (λ v. v.items ≡ flat_map own_in parts.now) }
 {
@@ -51,7 +51,7 @@ fn have_all(alloc: Global, parts: &[Part], ids: &[Id]) -> Result<bool, Memory>
     Ok(are_same(&rising, ids))
 }
 
-/// The corners of all parts and the shared ids, rising.
+/// Returns the corners of all parts and the shared ids, rising.
 fn corners_and_shared(alloc: Global, parts: &[Part], shared: &[Id]) -> Result<Vec<Id>, Memory>
     ensures rising { IfOk result (λ v. IsStrictlyIncreasing v.items) }
     ensures members { IfOk result (λ v. KeepsCorners parts.now shared.now v.items) }
@@ -61,8 +61,8 @@ fn corners_and_shared(alloc: Global, parts: &[Part], shared: &[Id]) -> Result<Ve
     rising_ids(alloc, &listed)
 }
 
-/// The ids that are kept of a set, rising: the corners of its parts and the shared ids. None where the parts do not have just
-/// the ids of the set, or a shared id is none of it. `ids` rise.
+/// Returns the ids that are kept of a set, rising: the corners of its parts and the shared ids. None where the parts
+/// do not have just the ids of the set, or a shared id is none of it. `ids` rise.
 ///
 /// # Errors
 ///

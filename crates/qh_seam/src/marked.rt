@@ -22,7 +22,7 @@ pub(crate) struct Marked<'a> {
 }
 
 impl Marked<'_> {
-    /// The corners of a live facet.
+    /// Returns the corners of a live facet.
     pub fn triangle(self, f: FacetNo) -> Triangle
         requires { IsLive self.surface.now.mesh f }
         ensures a { result.a ≡ place self.entry.pts.now (facet_at (named self.entry.surface.now) f).i }

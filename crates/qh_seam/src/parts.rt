@@ -21,8 +21,8 @@ use qh_pred::{point_at, vol};
 use qh_surface::{NamedMesh, Simplex, surface_along};
 use std::alloc::{AllocError, Global};
 
-/// A part of a set: its ids, rising, their finished mesh, and the corners of the mesh that are no shared ids, in the order
-/// in which the ids were listed, with their points by blocks.
+/// A part of a set: its ids, rising, their finished mesh, and the corners of the mesh that are no shared ids,
+/// in the order in which the ids were listed, with their points by blocks.
 #[derive(Drop)]
 pub struct Part {
     pub ids: Vec<Id>,
@@ -31,7 +31,7 @@ pub struct Part {
     pub places: Places,
 }
 
-/// The first four of the shared ids, if their points do not lie in one plane.
+/// Returns the first four of the shared ids, if their points do not lie in one plane.
 fn simplex_of(pts: &[Point], shared: &[Id]) -> Option<Simplex>
     requires { AreIndices pts.now shared.now }
     ensures { IfSome result (λ s. (ids : List ℕ) → ((l : ℕ) → In l shared.now → In l ids) → IsSimplexOf pts.now ids s) }
@@ -52,8 +52,8 @@ fn simplex_of(pts: &[Point], shared: &[Id]) -> Option<Simplex>
     })
 }
 
-/// The listed ids in their order, then the shared ones, each once; where another is listed twice, they rise instead. `rising` has
-/// the same ids.
+/// Returns the listed ids in their order, then the shared ones, each once; where another is listed twice, they rise
+/// instead. `rising` has the same ids.
 fn each_once(
     alloc: Global,
     listed: &[Id],
@@ -74,7 +74,7 @@ fn each_once(
     Ok(ids)
 }
 
-/// The ids of a list that are not in another, in their order.
+/// Returns the ids of a list that are not in another, in their order.
 fn without(alloc: Global, ids: &[Id], others: &[Id]) -> Result<Vec<Id>, AllocError>
     ensures all { IfOk result (λ v. (l : ℕ) → In l ids.now → In l v.items ⊎ In l others.now) }
     ensures only { IfOk result (λ v. (l : ℕ) → In l v.items → In l ids.now) }
@@ -88,7 +88,7 @@ fn without(alloc: Global, ids: &[Id], others: &[Id]) -> Result<Vec<Id>, AllocErr
     Ok(left)
 }
 
-/// For each position of a mesh the way out there, by the facets that begin at it. No answer depends on it.
+/// Returns for each position of a mesh the way out there, by the facets that begin at it. No answer depends on it.
 fn ways_out(alloc: Global, surface: &NamedMesh) -> Result<Vec<Outward>, AllocError> {
     let points = &surface.points;
     let mut ways = vec![in alloc; Outward::NONE; points.len()]?;
@@ -111,7 +111,8 @@ fn ways_out(alloc: Global, surface: &NamedMesh) -> Result<Vec<Outward>, AllocErr
     Ok(ways)
 }
 
-/// The ways out at those ids of a mesh that stand in a list, in the same order. No answer depends on it.
+/// Returns the ways out at those ids of a mesh that stand in a list, in the same order. No answer
+/// depends on it.
 fn outward_of(alloc: Global, surface: &NamedMesh, own: &[Id]) -> Result<Vec<Outward>, AllocError> {
     let ways = ways_out(alloc, surface)?;
     let mut outward = Vec::with_capacity(alloc, own.len())?;
@@ -123,7 +124,7 @@ fn outward_of(alloc: Global, surface: &NamedMesh, own: &[Id]) -> Result<Vec<Outw
     Ok(outward)
 }
 
-/// The ids of the corners of the live facets, as they come.
+/// Returns the ids of the corners of the live facets, as they come.
 fn corners_of(alloc: Global, surface: &NamedMesh) -> Result<Vec<Id>, AllocError>
     requires { AreCornersBelow (length surface.now.ids.items) surface.now.mesh }
     ensures all { IfOk result (λ v. (l : ℕ) → IsLiveCorner (surface_of (named surface.now)) l → In l v.items) }
@@ -177,7 +178,7 @@ fn is_own(marks: &[bool], others: &[Id], id: Id) -> bool
     *marked && !has(others, id)
 }
 
-/// The marked ids of a list that are not in another, in their order.
+/// Returns the marked ids of a list that are not in another, in their order.
 fn marked_without(
     alloc: Global,
     ids: &[Id],
@@ -197,8 +198,9 @@ fn marked_without(
 }
 
 impl Part {
-    /// The part of listed ids, if the shared ids, those of every part, are among them, and the points of the first four of these do
-    /// not lie in one plane. The ids may stand in any order, and more than once; near ones best stand near each other.
+    /// Returns the part of listed ids, if the shared ids, those of every part, are among them, and the points of the
+    /// first four of these do not lie in one plane. The ids may stand in any order, and more than once; near ones
+    /// best stand near each other.
     ///
     /// # Errors
     ///

@@ -26,14 +26,15 @@ const GROUP: usize = 16;
 /// The room of a facet in a key: 2^64.
 const PLACE: u128 = 18446744073709551616;
 
-/// The position of a facet's first corner and the facet in one, so that a sort by positions is one of numbers.
+/// Returns the position of a facet's first corner and the facet in one, so that a sort by positions is one of
+/// numbers.
 fn ring_key(first: Id, f: FacetNo) -> u128
     ensures { facet_in result ≡ f }
 {
     u128::from(first.number()) * PLACE + u128::from(f.index() as u64)
 }
 
-/// The facets of keys.
+/// Returns the facets of keys.
 fn facets_of(alloc: Global, keys: Vec<u128>) -> Result<Vec<FacetNo>, AllocError>
     ensures { IfOk result (λ v. v.items ≡ map facet_in keys.items) }
 {
@@ -43,7 +44,7 @@ fn facets_of(alloc: Global, keys: Vec<u128>) -> Result<Vec<FacetNo>, AllocError>
 }
 
 impl Marked<'_> {
-    /// Whether the neighbour over a side of a live facet goes.
+    /// Returns true if the neighbour over a side of a live facet goes.
     fn goes_over(self, f: FacetNo, side: usize) -> bool
         requires live { IsLive self.surface.now.mesh f }
         requires side { side < 3 }
@@ -54,7 +55,7 @@ impl Marked<'_> {
         !self.stay[next.index()]
     }
 
-    /// Whether a live facet stays beside one that goes.
+    /// Returns true if a live facet stays beside one that goes.
     fn is_ring(self, f: FacetNo) -> bool
         requires { IsLive self.surface.now.mesh f }
         ensures { IsRing (surface_of self.entry.surface.now.mesh) (mark_at self.entry.stay.now) f → IsTrue result }
@@ -79,7 +80,7 @@ impl Marked<'_> {
         Ok(())
     }
 
-    /// The keys of the facets of the ring, as they come.
+    /// Returns the keys of the facets of the ring, as they come.
     fn ring_keys(self, alloc: Global) -> Result<Vec<u128>, AllocError>
         ensures all { IfOk result (λ v. (f : ℕ) → IsRing (surface_of (named self.entry.surface.now)) (mark_at self.entry.stay.now) f
             → In f (map facet_in v.items)) }
@@ -92,7 +93,7 @@ impl Marked<'_> {
         Ok(keys)
     }
 
-    /// The facets of the ring, near ones one after the other.
+    /// Returns the facets of the ring, near ones one after the other.
     pub fn ring(self, alloc: Global) -> Result<Vec<FacetNo>, AllocError>
         ensures all { IfOk result (λ v. (f : ℕ) → IsRing (surface_of (named self.entry.surface.now)) (mark_at self.entry.stay.now) f
             → In f v.items) }
@@ -103,7 +104,7 @@ impl Marked<'_> {
         facets_of(alloc, keys)
     }
 
-    /// The planes of live facets.
+    /// Returns the planes of live facets.
     fn planes_of(self, alloc: Global, facets: &[FacetNo]) -> Result<Vec<Plane>, AllocError>
         requires { (f : ℕ) → In f facets.now → IsLive self.surface.now.mesh f }
         ensures { IfOk result (λ v. (f : ℕ) → In f facets.now
@@ -116,8 +117,8 @@ impl Marked<'_> {
         Ok(planes)
     }
 
-    /// Returns true if the points of all ids of the places are strictly below live facets, which best stand in an order in
-    /// which near ones follow each other.
+    /// Returns true if the points of all ids of the places are strictly below live facets, which best stand
+    /// in an order in which near ones follow each other.
     pub fn are_over(
         self,
         alloc: Global,

@@ -17,8 +17,9 @@ use qh_mesh::FacetNo;
 use std::alloc::{AllocError, Global};
 
 impl Marked<'_> {
-    /// Returns true if the marked facets are seen to stay where the corners of another part come in: each of these has a witness, by
-    /// the middle of four points of the part, and all are strictly below the facets of the ring.
+    /// Returns true if the marked facets are seen to stay where the corners of another part come in: each of
+    /// these has a witness, by the middle of four points of the part, and all are strictly below the facets
+    /// of the ring.
     pub fn is_apart(
         self,
         alloc: Global,

@@ -25,8 +25,8 @@ pub struct Divided<'a> {
     pub shared: &'a [Id],
 }
 
-/// A guess of what stays of a part: a mark for each place of its mesh, and for each part witnesses for the corners of that
-/// part.
+/// A guess of what stays of a part: a mark for each place of its mesh, and for each part witnesses for the
+/// corners of that part.
 #[derive(Clone, Copy, Drop)]
 pub struct Guess<'a> {
     pub stay: &'a [bool],
@@ -77,8 +77,8 @@ fn stays<'a>(
     Ok(true)
 }
 
-/// The faces of the set that the part of this number gives out, if the guess of what stays of it is seen to be right: the
-/// polygons of its marked facets, one for each plane, in no order.
+/// Returns the faces of the set that the part of this number gives out, if the guess of what stays of it is seen to
+/// be right: the polygons of its marked facets, one for each plane, in no order.
 ///
 /// # Errors
 ///

@@ -13,7 +13,7 @@ use std::alloc::{AllocError, Global};
 use std::test::Fail;
 use std::thread::Threads;
 
-/// The corners of a cube, in rising order of their coordinates.
+/// Returns the corners of a cube, in rising order of their coordinates.
 fn cube() -> [Point; 8] {
     [
         Point::new(0, 0, 0),
@@ -37,7 +37,7 @@ enum Marking {
 /// The corners of both parts.
 const SHARED: [u32; 4] = [0, 3, 5, 6];
 
-/// The ids with those of the numbers that are indices of the points.
+/// Returns the ids with those of the numbers that are indices of the points.
 fn ids_of(alloc: Global, pts: &[Point], numbers: &[u32]) -> Result<Vec<Id>, AllocError>
     ensures { IfOk result (λ v. AreIndices pts.now v.items) }
 {
@@ -50,7 +50,7 @@ fn ids_of(alloc: Global, pts: &[Point], numbers: &[u32]) -> Result<Vec<Id>, Allo
     Ok(ids)
 }
 
-/// Whether all corners of a live facet have the coordinate x of 0.
+/// Returns true if all corners of a live facet have the coordinate x of 0.
 fn is_at_zero(pts: &[Point], surface: &NamedMesh, f: FacetNo) -> bool
     requires named { IsNamedMesh pts.now surface.now }
     requires live { IsLive surface.now.mesh f }
@@ -59,7 +59,7 @@ fn is_at_zero(pts: &[Point], surface: &NamedMesh, f: FacetNo) -> bool
     point_at(pts, a).x() == 0 && point_at(pts, b).x() == 0 && point_at(pts, c).x() == 0
 }
 
-/// Whether a live facet sees the point of an id.
+/// Returns true if a live facet sees the point of an id.
 fn sees(pts: &[Point], surface: &NamedMesh, f: FacetNo, id: Id) -> bool
     requires named { IsNamedMesh pts.now surface.now }
     requires live { IsLive surface.now.mesh f }
@@ -87,7 +87,7 @@ fn marks_of(alloc: Global, pts: &[Point], surface: &NamedMesh) -> Result<Vec<boo
     Ok(marks)
 }
 
-/// The first facet that sees the point of an id, or the facet of number 0.
+/// Returns the first facet that sees the point of an id, or the facet of number 0.
 fn witness_of(pts: &[Point], surface: &NamedMesh, id: Id) -> Run
     requires named { IsNamedMesh pts.now surface.now }
     requires id { id < length pts.now }
@@ -104,7 +104,7 @@ fn witness_of(pts: &[Point], surface: &NamedMesh, id: Id) -> Run
     }
 }
 
-/// A witness for each id of a part, by the mesh of another.
+/// Returns a witness for each id of a part, by the mesh of another.
 fn runs_of(
     alloc: Global,
     pts: &[Point],
@@ -122,7 +122,8 @@ fn runs_of(
     Ok(runs)
 }
 
-/// The faces that the first part gives out, where the facets in the plane x = 0 are marked, or all are.
+/// Returns the faces that the first part gives out, where the facets in the plane x = 0 are marked, or
+/// all are.
 fn first_faces(alloc: Global, marking: Marking) -> Result<Option<Vec<Polygon>>, Memory> {
     let pts = cube();
     let listed = ids_of(alloc, &pts, &[1, 2, 4, 7])?;
@@ -152,7 +153,7 @@ fn first_faces(alloc: Global, marking: Marking) -> Result<Option<Vec<Polygon>>, 
     staying_faces(alloc, set, 0, guess)
 }
 
-/// The ids of polygons.
+/// Returns the ids of polygons.
 fn are(polygons: &[Polygon], faces: &[&[u32]]) -> bool {
     if polygons.len() != faces.len() {
         return false;
@@ -190,7 +191,7 @@ fn facets_that_others_see_do_not_stay(rt: HostRuntime) -> Result<(), Fail> {
     Ok(())
 }
 
-/// The number of ids that are kept of the cube; none where its parts lack an id.
+/// Returns the number of ids that are kept of the cube; `None` if its parts lack an id.
 fn kept_count(alloc: Global, numbers: &[u32]) -> Result<Option<usize>, Memory> {
     let pts = cube();
     let listed = ids_of(alloc, &pts, &[1, 2, 4, 7])?;
@@ -214,7 +215,7 @@ fn all_corners_of_the_cube_are_kept(rt: HostRuntime) -> Result<(), Fail> {
     Ok(())
 }
 
-/// The polygons with these corners.
+/// Returns the polygons with these corners.
 fn polygons_of(alloc: Global, faces: &[&[u32]]) -> Result<Vec<Polygon>, AllocError> {
     let mut polygons = Vec::new(alloc);
     for face in faces {
@@ -227,7 +228,8 @@ fn polygons_of(alloc: Global, faces: &[&[u32]]) -> Result<Vec<Polygon>, AllocErr
     Ok(polygons)
 }
 
-/// The hull of the cube from the square that its first part gives out and other polygons; none where these do not make it.
+/// Returns the hull of the cube from the square that its first part gives out and other polygons; `None` if these do
+/// not make it.
 fn cube_with<R: Threads>(
     rt: &R,
     alloc: Global,

@@ -26,7 +26,7 @@ pub(crate) struct Four {
     pub v: Point,
 }
 
-/// The points of the first four ids of a list, if they do not lie in one plane.
+/// Returns the points of the first four ids of a list, if they do not lie in one plane.
 pub(crate) fn four_of(pts: &[Point], ids: &[Id]) -> Option<Four>
     requires { AreIndices pts.now ids.now }
     ensures { IfSome result (IsFourOf pts.now ids.now) }
@@ -61,7 +61,7 @@ fn is_low(a: i128, b: i128, c: i128, d: i128) -> bool
     }
 }
 
-/// Whether d is above the plane of a, b and c.
+/// Returns true if d is above the plane of a, b and c.
 fn is_above(a: Point, b: Point, c: Point, d: Point) -> bool
     ensures { result ≡ false → vol a b c d ≤ℤ pos 0 }
 {
@@ -83,15 +83,15 @@ impl Four {
 }
 
 impl Triangle {
-    /// Its plane.
+    /// Returns its plane.
     pub fn plane(&self) -> Plane
         ensures { (p : Vector) → height result p ≡ vol self.now.a self.now.b self.now.c p }
     {
         Plane::through(self.a, self.b, self.c)
     }
 
-    /// Returns true if a point lies between the triangle and the middle of four points: not above the triangle, and beyond
-    /// none of the planes through the middle and a side.
+    /// Returns true if a point lies between the triangle and the middle of four points: not above the
+    /// triangle, and beyond none of the planes through the middle and a side.
     pub fn has_between(&self, four: &Four, p: Point) -> bool
         ensures { IsTrue result → IsInCone self.now.a self.now.b self.now.c four.now p }
     {

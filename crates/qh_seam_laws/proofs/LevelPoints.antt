@@ -13,7 +13,7 @@ use Rattle.qh_model.proofs.algebra.Order.{mul-nonneg, mul-nonneg_nonpos, positiv
 use Rattle.qh_model.proofs.algebra.Signs.{less_differ, equal_positive}
 use Rattle.qh_model.proofs.algebra.Integers.{one_mul}
 use Rattle.qh_model.proofs.extremes.Directions.{vol_along, zero_along}
-use Rattle.qh_model.proofs.surfaces.DrawnInwards.{bound, scale}
+use Rattle.qh_model.proofs.surfaces.PerturbedInwards.{bound, scale}
 use Rattle.qh_model.proofs.surfaces.Facets.{middle, sum_blind, sum_level}
 use Rattle.qh_model.proofs.surfaces.CoveredPlanes.{above-last, beyond, on_sees_beyond, sees_beyond_on}
 use Rattle.qh_model.proofs.surfaces.SurfaceLaws.{walk_finds_all}
@@ -30,7 +30,7 @@ past_sees_beyond a b c o y k past low =
     let sum = above-last a b c y o (pos k) (neg_ℤ (pos 1)) in
     let share = mul-nonneg (pos k) (above a b c y) (omega (arith, ints)) past in omega (arith, ints, sum, share, low)
 
--- ---- a point in the plane of a facet, drawn a little to the facet's middle and then a little out
+-- ---- a point in the plane of a facet, moved a little to the facet's middle and then a little out
 module _ (at : ℕ → Vector) (ids : List ℕ) (m : Surface) (z : IsFinished at ids m) (f : ℕ) (live : In f m.live) (p : Vector)
     (on : height_over at m f p ≡ pos 0) where
   abbrev home : ℕ → Weighted

@@ -22,8 +22,8 @@ use qh_write::text_in_threads;
 use std::alloc::Global;
 use std::thread::Threads;
 
-/// The cut of so many positions into blocks of the wanted size, or of a greater one where these would
-/// be too many.
+/// Returns the cut of `positions` positions into blocks of the wanted size, or of a greater one where
+/// these would be too many.
 fn even_cut(alloc: Global, count: u32, wanted: u32) -> Result<Cut, Memory>
     requires some { 0 < count }
     requires few { count ≤ POINT_LIMIT }
@@ -40,7 +40,7 @@ fn even_cut(alloc: Global, count: u32, wanted: u32) -> Result<Cut, Memory>
     }
 }
 
-/// The hull of the points, by as many workers as the settings say, watched by the gate.
+/// Returns the hull of the points, by the number of workers in the settings, watched by the gate.
 fn hull_of<R: Threads + Sync, G: Gate>(
     rt: &R,
     alloc: Global,
@@ -109,7 +109,8 @@ pub(crate) fn text_of<R: Threads + Sync, G: Gate>(
     hull_text_of(rt, alloc, pts, &ids, settings, gate)
 }
 
-/// The points in the input, or its first fault, read by as many threads as workers make the hull.
+/// Returns the points in the input, or its first fault, read by as many threads as workers make the
+/// hull.
 fn points_in<R: Threads + Sync>(
     rt: &R,
     alloc: Global,
@@ -129,7 +130,7 @@ fn points_in<R: Threads + Sync>(
     read_form_threads(rt, alloc, threads, settings.form(), &mut source)
 }
 
-/// The texts that the settings ask for, of the points in the input: the one text that the points alone
+/// Returns the texts that the settings ask for, of the points in the input: the one text that the points alone
 /// define.
 ///
 /// As many threads read as workers make the hull. The gate is told of the workers' blocks, and takes the hull at

@@ -21,7 +21,7 @@ pub enum Fault {
 }
 
 impl Fault {
-    /// The exit status: 2 for the command line, 3 for memory, 4 for a device, else 1.
+    /// Returns the exit status: 2 for the command line, 3 for memory, 4 for a device, else 1.
     pub fn status(&self) -> u8
         ensures { result ≡ status_of self.now }
     {

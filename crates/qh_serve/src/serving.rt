@@ -15,10 +15,10 @@ use std::thread::Threads;
 
 /// Reads points from the source to its end and sends the texts that the settings ask for.
 ///
-/// As many threads read as workers make the hull. Nothing is sent before the whole text stands. The answer tells what the devices did: the table of
-/// `IsServed` and `IsServeFault` has a line for each. After a failure neither device is called again.
-/// The gate is told of the workers' blocks, and takes the hull at the end of their run. Outputs that are all
-/// the rank need no hull: the gate is not called then.
+/// As many threads read as workers make the hull. Nothing is sent before the whole text stands. The answer
+/// tells what the devices did: the table of `IsServed` and `IsServeFault` has a line for each. After a
+/// failure neither device is called again. The gate is told of the workers' blocks, and takes the hull at the
+/// end of their run. Outputs that are all the rank need no hull: the gate is not called then.
 ///
 /// Out of memory is answered only where the source gave at most `BYTE_LIMIT` bytes: `Big` comes first.
 pub fn serve<R: Threads + Sync, S: Source, K: Sink, G: Gate>(

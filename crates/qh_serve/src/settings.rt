@@ -81,7 +81,7 @@ impl Settings {
         })
     }
 
-    /// How many workers make the hull, from 1 to `WORKER_LIMIT`.
+    /// Returns how many workers make the hull, from 1 to `WORKER_LIMIT`.
     pub fn workers(&self) -> u32
         ensures value { result ≡ self.now.workers }
         ensures range { IsWorkers result }
@@ -89,7 +89,7 @@ impl Settings {
         self.workers
     }
 
-    /// How many points a block has, from 1 to `BLOCK_SIZE_LIMIT`.
+    /// Returns how many points a block has, from 1 to `BLOCK_SIZE_LIMIT`.
     pub fn block(&self) -> u32
         ensures value { result ≡ self.now.block }
         ensures range { IsBlockSize result }
@@ -97,14 +97,14 @@ impl Settings {
         self.block
     }
 
-    /// The outputs, in their order.
+    /// Returns the outputs, in their order.
     pub fn outs(&self) -> &[Out]
         ensures { result.now ≡ self.now.outs }
     {
         self.outs.as_slice()
     }
 
-    /// How the input tells its points.
+    /// Returns how the input tells its points.
     pub fn form(&self) -> Form
         ensures { result ≡ self.now.form }
     {

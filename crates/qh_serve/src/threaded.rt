@@ -5,7 +5,8 @@ use qh_run::Gate;
 use std::alloc::Global;
 use std::thread::Threads;
 
-/// A gate that lets all blocks pass, and takes the hull by `qh_parts::hull_in_parts`: by at most `workers` threads of a runtime.
+/// A gate that lets all blocks pass, and takes the hull by `qh_parts::hull_in_parts`: by at most `workers` threads
+/// of a runtime.
 #[derive(Clone, Copy, Debug, Drop)]
 pub struct Threaded<'a, R> {
     pub rt: &'a R,

@@ -1,6 +1,6 @@
 -- What private functions speak of: nothing to believe.
 pub mod Cones
-pub mod NearOrder
+pub mod MortonOrder
 pub mod OutsideSets
 pub mod Planes
 pub mod PositionChains

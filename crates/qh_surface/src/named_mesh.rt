@@ -20,7 +20,7 @@ pub struct NamedMesh {
 }
 
 impl NamedMesh {
-    /// The ids of the corners of a live facet.
+    /// Returns the ids of the corners of a live facet.
     pub fn corners(&self, f: FacetNo) -> [Id; 3]
         requires live { IsLive self.now.mesh f }
         requires positions { AreCornersBelow (length self.now.ids.items) self.now.mesh }
@@ -34,7 +34,7 @@ impl NamedMesh {
         ]
     }
 
-    /// The mesh with the ids as its corners.
+    /// Returns the mesh with the ids as its corners.
     pub fn renamed(self) -> Mesh
         ensures { result ≡ named self }
     {

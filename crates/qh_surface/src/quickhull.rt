@@ -1,37 +1,36 @@
 //! The surface of a solid set by Quickhull.
 //!
-//! A `run` works over the points of the ids, gathered into one list: it knows each by its position there,
-//! and its mesh has positions as corners. At its end they get the ids as their names (`surfaces`). A
-//! large set is taken in an order that keeps near points together (`near_order`).
-//! Each point that is not settled stands in the outside set of a facet that it is above
-//! (`outside_sets`), and the facets that have one wait for their turn (`queue`, `turns`). In a round the first
-//! point of the next facet's set is the apex; a walk over twins finds the facets that it sees
-//! (`walk`), and its cone replaces them. The points of the facets that went are tested against the new
-//! facets alone: one that is above none of these is above none at all (`settling`, `planes`). A cone of
-//! many facets is searched, not scanned (`cone_ring`, `cone_search`): else a point under a cone of h
-//! facets would cost h tests. When no facet waits, no facet sees a point, and the surface is that of
-//! the hull (`surfaces`).
+//! A `run` works over the points of the ids, gathered into one list: it knows each by its position there, and
+//! its mesh has positions as corners. At its end they get the ids as their names (`surfaces`). A large set is
+//! taken in an order that keeps near points together (`morton`). Each point that is not settled stands in the
+//! outside set of a facet that it is above (`outside_sets`), and the facets that have one wait for their turn
+//! (`waiting_facets`, `turns`). In a round the first point of the next facet's set is the apex; a walk over
+//! twins finds the facets that it sees (`walk`), and its cone replaces them. The points of the facets that
+//! went are tested against the new facets alone: one that is above none of these is above none at all
+//! (`settling`, `planes`). A cone of many facets is searched, not scanned (`cone_ring`, `cone_search`): else
+//! a point under a cone of h facets would cost h tests. When no facet waits, no facet sees a point, and the
+//! surface is that of the hull (`surfaces`).
 //!
 //! Source: Barber, Dobkin and Huhdanpaa 1996.
 
 mod cone_ring;
 mod cone_search;
 mod ends;
-mod far_simplex;
-mod near_order;
+mod initial_simplex;
+mod morton;
 mod outside_sets;
 mod planes;
-mod queue;
 mod run;
 mod settling;
 mod surfaces;
 #[cfg(test)]
 mod tests;
 mod turns;
+mod waiting_facets;
 mod walk;
 
 pub use ends::ends_of;
-pub use far_simplex::Simplex;
-pub use near_order::morton_order;
+pub use initial_simplex::Simplex;
+pub use morton::morton_order;
 pub use planes::plane_of;
 pub use surfaces::{points_of, surface, surface_along, surface_from};

@@ -13,14 +13,14 @@ use qh_mesh::{EdgeNo, FacetNo, Mesh};
 use std::alloc::AllocError;
 
 /// What a walk asks of the next facet.
-pub trait Test {
+pub trait FacetPredicate {
     // What the test needs to know of a mesh.
     ghost Fits: { Self → List StoredFacet → Type 0 };
 
     // That the facet at a place passes.
     ghost Passes: { Self → List StoredFacet → ℕ → Type 0 };
 
-    /// Whether the facet of an edge passes. The one over the edge does.
+    /// Returns true if the facet of an edge passes. The one over the edge does.
     fn passes(&self, mesh: &Mesh, edge: EdgeNo) -> bool
         requires fits { Self.Fits self.now mesh.now }
         requires live { IsLive mesh.now (facet_of edge) }
@@ -29,8 +29,8 @@ pub trait Test {
         requires ends { edge_end mesh.now edge ≡ edge_start mesh.now (twin_of mesh.now edge) }
         ensures { IsTrue result ↔ Self.Passes self.now mesh.now (facet_of edge) };
 
-    /// Whether a walk enters the facet of an edge: it has no mark yet and passes. A test that costs little
-    /// is asked in any case, since which facets have marks can't be foreseen.
+    /// Returns true if a walk enters the facet of an edge: it has no mark yet and passes. A test that
+    /// costs little is asked in any case, since which facets have marks can't be foreseen.
     fn enters(&self, mesh: &Mesh, edge: EdgeNo, is_marked: bool) -> bool
         requires fits { Self.Fits self.now mesh.now }
         requires live { IsLive mesh.now (facet_of edge) }
@@ -44,8 +44,8 @@ pub trait Test {
 }
 
 /// Goes over a side of a facet that was found: the neighbour is found too if it passes and has no mark.
-/// It is listed in any case, and taken back where it doesn't: a count costs less than a wrong guess.
-fn cross<T: Test>(
+/// It is pushed, then popped if it does not; this keeps the loop free of branches.
+fn cross<T: FacetPredicate>(
     mesh: &Mesh,
     test: &T,
     f: FacetNo,
@@ -79,7 +79,7 @@ fn cross<T: Test>(
 }
 
 /// Goes over the three sides of a facet that was found.
-fn cross_all<T: Test>(
+fn cross_all<T: FacetPredicate>(
     mesh: &Mesh,
     test: &T,
     f: FacetNo,
@@ -102,11 +102,12 @@ fn cross_all<T: Test>(
     Ok(())
 }
 
-/// Lists and marks the facets that a walk from `start` finds, `start` first: those that pass the test and hang together with it
-/// over twins. Marked facets are not entered. The list is cleared before. There is a mark for each place of the mesh.
+/// Lists and marks the facets that a walk from `start` finds, `start` first: those that pass the test and
+/// hang together with it over twins. Marked facets are not entered. The list is cleared before. There is a
+/// mark for each place of the mesh.
 ///
 /// `Err` says that memory was refused: what is listed and marked then is not said.
-pub fn walk<T: Test>(
+pub fn walk<T: FacetPredicate>(
     mesh: &Mesh,
     test: &T,
     start: FacetNo,

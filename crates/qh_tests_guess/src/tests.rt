@@ -1,5 +1,5 @@
-//! A cube in two parts: four corners belong to both, and each has two more. The square at x = 0 stays of the one part, that at
-//! x = 1 of the other.
+//! A cube in two parts: four corners belong to both, and each has two more. The square at x = 0 stays of the
+//! one part, that at x = 1 of the other.
 ghost use Rattle.std.specs.Prelude.{IfOk};
 ghost use Rattle.qh_model.specs.contract.IdSets.{AreIndices};
 
@@ -10,7 +10,7 @@ use qh_seam::{Divided, Run, parts_of};
 use std::alloc::{AllocError, Global};
 use std::test::Fail;
 
-/// The corners of a cube, in rising order of their coordinates.
+/// Returns the corners of a cube, in rising order of their coordinates.
 fn cube() -> [Point; 8] {
     [
         Point::new(0, 0, 0),
@@ -33,8 +33,8 @@ const LISTED: [u32; 4] = [1, 2, 4, 7];
 /// All corners.
 const ALL: [u32; 8] = [0, 1, 2, 3, 4, 5, 6, 7];
 
-/// What is found of the first part: how many of its facets stay, how many corners of the other have witnesses, how many
-/// corners are beside the gap, and whether the seam pays.
+/// What is found of the first part: how many of its facets stay, how many corners of the other have
+/// witnesses, how many corners are beside the gap, and whether the seam pays.
 #[derive(Clone, Copy, Debug, PartialEq, Eq, Drop)]
 struct Found {
     staying: usize,
@@ -43,7 +43,7 @@ struct Found {
     is_worth: bool,
 }
 
-/// The ids with those of the numbers that are indices of the points.
+/// Returns the ids with those of the numbers that are indices of the points.
 fn ids_of(alloc: Global, pts: &[Point], numbers: &[u32]) -> Result<Vec<Id>, AllocError>
     ensures { IfOk result (λ v. AreIndices pts.now v.items) }
 {
@@ -56,7 +56,7 @@ fn ids_of(alloc: Global, pts: &[Point], numbers: &[u32]) -> Result<Vec<Id>, Allo
     Ok(ids)
 }
 
-/// How many ids have witnesses.
+/// Returns how many ids have witnesses.
 fn count(runs: &[Vec<Run>]) -> usize {
     let mut count = 0usize;
     for run in runs.iter().flatten() {
@@ -65,7 +65,7 @@ fn count(runs: &[Vec<Run>]) -> usize {
     count
 }
 
-/// What is found of the first part of the cube.
+/// Returns what is found of the first part of the cube.
 fn first_part(alloc: Global) -> Result<Option<Found>, Memory> {
     let pts = cube();
     let listed = ids_of(alloc, &pts, &LISTED)?;
@@ -114,7 +114,7 @@ fn polygons_of(alloc: Global, faces: &[&[u32]]) -> Result<Vec<Polygon>, AllocErr
     Ok(polygons)
 }
 
-/// The numbers round polygons, one after the other.
+/// Returns the numbers round polygons, one after the other.
 fn numbers(alloc: Global, polygons: &[Polygon]) -> Result<Vec<u32>, AllocError> {
     let mut numbers = Vec::new(alloc);
     for polygon in polygons {
@@ -125,7 +125,7 @@ fn numbers(alloc: Global, polygons: &[Polygon]) -> Result<Vec<u32>, AllocError> 
     Ok(numbers)
 }
 
-/// The numbers round the polygons that close the gap between some faces of the cube.
+/// Returns the numbers round the polygons that close the gap between some faces of the cube.
 fn bridged(alloc: Global, faces: &[&[u32]]) -> Result<Option<Vec<u32>>, Memory> {
     let pts = cube();
     let seam = ids_of(alloc, &pts, &ALL)?;

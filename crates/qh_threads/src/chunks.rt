@@ -6,7 +6,8 @@ use crate::indices::map_indices;
 use std::alloc::{AllocError, Global};
 use std::thread::Threads;
 
-/// The number of chunks of `size` elements in a slice of `len`, the last one perhaps shorter.
+/// Returns the number of chunks of `size` elements in a slice of `len`, the last one perhaps
+/// shorter.
 fn chunk_count(len: usize, size: usize) -> usize
     requires { 0 < size }
     ensures is { result ≡ len / size + min 1 (len % size) }
@@ -15,7 +16,7 @@ fn chunk_count(len: usize, size: usize) -> usize
     len.div_ceil(size)
 }
 
-/// The chunk with a number.
+/// Returns the chunk with a number.
 fn chunk_at<T>(s: &[T], size: usize, number: usize) -> &[T]
     requires size { 0 < size }
     requires inside { number * size < length s.now }
@@ -26,7 +27,8 @@ fn chunk_at<T>(s: &[T], size: usize, number: usize) -> &[T]
     chunk
 }
 
-/// Calls `f` at each chunk of `size` elements and the index at which it begins, as [`map_indices`] calls a closure at indices.
+/// Calls `f` at each chunk of `size` elements and the index at which it begins, as [`map_indices`] calls a closure
+/// at indices.
 ///
 /// # Errors
 ///

@@ -9,8 +9,8 @@ use std::thread::{Threads, join};
 
 /// Calls `f` at each index below `count` and returns the results in order.
 ///
-/// The calling thread makes the call at 0. Each other call has a thread of its own where one can be started, and is made by the
-/// calling thread where none can be. So `count` is a number of threads, and small.
+/// The calling thread makes the call at 0. Each other call has a thread of its own where one can be started,
+/// and is made by the calling thread where none can be. So `count` is a number of threads, and small.
 ///
 /// # Errors
 ///

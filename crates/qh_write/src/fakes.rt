@@ -30,7 +30,7 @@ pub struct FailSink {
 impl FailSink {
     ghost use Rattle.qh_write.specs.contract.Devices.{kept_before_failing, plan_of};
 
-    /// A sink that has nothing yet and fails by `plan`.
+    /// Creates a sink that has nothing yet and fails by `plan`.
     pub fn new(alloc: Global, plan: SinkPlan) -> FailSink
         ensures empty { kept_before_failing result ≡ [] }
         ensures count { ⟦<FailSink as Sink>⟧.count result ≡ 0 }
@@ -45,7 +45,7 @@ impl FailSink {
         }
     }
 
-    /// What went out, oldest first.
+    /// Returns what went out, oldest first.
     pub fn bytes(&self) -> &[u8]
         ensures { result.now ≡ kept_before_failing self.now }
     {

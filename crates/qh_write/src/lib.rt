@@ -1,7 +1,8 @@
 //! Writes hulls: their texts, and sending them to a device.
 //!
-//! [`text`] makes the text of a list of outputs, [`text_in_threads`] by several threads; [`send`] hands it to a [`Sink`]. The devices are
-//! [`MemSink`], which keeps the bytes, and [`StdSink`], which wraps a writer of std.
+//! [`text`] makes the text of a list of outputs, [`text_in_threads`] by several threads; [`send`] hands it to
+//! a [`Sink`]. The devices are [`MemSink`], which keeps the bytes, and [`StdSink`], which wraps a writer of
+//! std.
 #![tactic(auto)]
 
 pub mod fakes;

@@ -14,7 +14,7 @@ pub struct MemSink {
 impl MemSink {
     ghost use Rattle.qh_write.specs.contract.Devices.{kept};
 
-    /// A sink that has nothing yet and grows by `alloc`.
+    /// Creates a sink that has nothing yet and grows by `alloc`.
     pub fn new(alloc: Global) -> MemSink
         ensures empty { kept result ≡ [] }
         ensures count { ⟦<MemSink as Sink>⟧.count result ≡ 0 }
@@ -25,7 +25,7 @@ impl MemSink {
         }
     }
 
-    /// What went out, oldest first.
+    /// Returns what went out, oldest first.
     pub fn bytes(&self) -> &[u8]
         ensures { result.now ≡ kept self.now }
     {

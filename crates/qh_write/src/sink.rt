@@ -33,7 +33,7 @@ pub trait Sink {
         ensures went { Keeps (went self.old) (went self.new) }
         ensures count { count self.new ≡ (if is_ok result then count self.old else count self.old + 1) };
 
-    /// How many calls have failed.
+    /// Returns how many calls have failed.
     fn failures(&self) -> u64
         ensures { result ≡ count self.now };
 }

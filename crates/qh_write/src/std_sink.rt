@@ -13,7 +13,7 @@ pub struct StdSink<W: Write + Drop> {
 }
 
 impl<W: Write + Drop> StdSink<W> {
-    /// A sink that hands its bytes to `writer`.
+    /// Creates a sink that hands its bytes to `writer`.
     pub fn new(writer: W) -> StdSink<W>
         ensures went { ⟦<StdSink<W> as Sink>⟧.went result ≡ W.contents writer }
         ensures count { ⟦<StdSink<W> as Sink>⟧.count result ≡ 0 }

@@ -58,7 +58,7 @@ fn push_outputs<S: Scribe>(
     Ok(())
 }
 
-/// The texts of the outputs, joined in their order, by a way to write faces.
+/// Returns the texts of the outputs, joined in their order, by a way to write faces.
 fn text_by<S: Scribe>(
     scribe: &S,
     alloc: Global,
@@ -75,7 +75,7 @@ fn text_by<S: Scribe>(
     Ok(text)
 }
 
-/// The texts of the outputs, joined in their order, written by the calling thread alone.
+/// Returns the texts of the outputs, joined in their order, written by the calling thread alone.
 ///
 /// The caller sees to it that every id in the hull is the index of a point in `pts`.
 ///
@@ -91,8 +91,9 @@ pub fn text(alloc: Global, hull: &Hull, pts: &[Point], outs: &[Out]) -> Result<V
     text_by(&Alone, alloc, hull, pts, outs)
 }
 
-/// The texts of the outputs, joined in their order, as [`text`] gives them. At most so many threads write
-/// the faces of a large hull, or their fans, side by side; the number changes nothing but the time.
+/// Returns the texts of the outputs, joined in their order, as [`text`] gives them. At most `threads`
+/// threads write the faces of a large hull, or their fans, side by side; the number changes nothing but
+/// the time.
 ///
 /// The caller sees to it that every id in the hull is the index of a point in `pts`.
 ///

@@ -13,7 +13,7 @@ use std::io::Read;
 use std::process::ExitCode;
 use std::thread::Threads;
 
-/// The form and the bytes of the first file, and what follows it.
+/// Returns the form and the bytes of the first file, and what follows it.
 fn next_file(input: &[u8]) -> Option<(Form, &[u8], &[u8])> {
     if input.len() < 8 {
         return None;
@@ -46,7 +46,7 @@ fn sizes_of(number: usize) -> Sizes {
     }
 }
 
-/// Whether three ways in sizes of few bytes give the same.
+/// Returns true if three ways in sizes of few bytes give the same.
 fn is_same<R: Threads + Sync>(
     rt: &R,
     alloc: Global,
@@ -70,7 +70,7 @@ fn is_same<R: Threads + Sync>(
     true
 }
 
-/// A sum over the points that tells their order.
+/// Returns a sum over the points that tells their order.
 fn sum(points: &[Point]) -> i64 {
     let mut sum = 0i64;
     for point in points {

@@ -13,7 +13,7 @@ fn push_word(words: &mut Vec<String>, alloc: Global, word: &str) -> Result<(), A
     Ok(())
 }
 
-/// The words of a line, with the program's name before them.
+/// Returns the words of a line, with the program's name before them.
 fn words(alloc: Global, line: &str) -> Result<Vec<String>, AllocError> {
     let mut words = Vec::new(alloc);
     push_word(&mut words, alloc, "qconvex")?;
@@ -31,7 +31,7 @@ enum Judged {
     Refused,
 }
 
-/// What becomes of a line.
+/// Returns what becomes of a line.
 fn judge(alloc: Global, line: &str) -> Result<Judged, AllocError> {
     match settings_of(alloc, words(alloc, line)?) {
         Ok(settings) => Ok(Judged::Accepted(settings)),

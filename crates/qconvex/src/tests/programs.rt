@@ -94,8 +94,8 @@ const RUNS: [(&[&str], &str, usize, u8, &str, &str); 12] = [
     ),
 ];
 
-/// How the program ends on these words and this input, and whether what came on standard output and on
-/// standard error is what was wanted.
+/// Returns how the program ends on these words and this input, and whether what came on standard
+/// output and on standard error is what was wanted.
 fn outcome<'a, R: AllocGlobal + Threads + Sync>(
     rt: &R,
     words: &'a [&'a str],

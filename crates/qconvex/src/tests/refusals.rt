@@ -11,7 +11,7 @@ const OCTAHEDRON: &str =
 const OCTAHEDRON_OFF: &str =
     "OFF\n6 8 12\n2 0 0\n0 2 0\n-2 0 0\n0 -2 0\n0 0 2\n0 0 -2\n3 0 1 4\n3 0 3 5\n3 0 4 3\n3 0 5 1\n3 1 2 4\n3 1 5 2\n3 2 3 4\n3 2 5 3\n";
 
-/// Whether the program, while it judges its words and after that, ends with the text of the
+/// Returns true if the program, while it judges its words and after that, ends with the text of the
 /// octahedron, or out of memory with the line of that fault.
 #[test]
 fn tells_that_it_is_out_of_memory(rt: HostRuntime) -> Result<(), Fail> {

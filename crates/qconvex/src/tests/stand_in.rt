@@ -21,7 +21,7 @@ pub struct Stream<'a> {
 }
 
 impl<'a> Stream<'a> {
-    /// A stream of which these bytes are wanted, and which fails once it has so many.
+    /// Creates a stream of which these bytes are wanted, and which fails once it has so many.
     pub fn new(wanted: &'a [u8], room: usize) -> Stream<'a> {
         Stream {
             wanted,
@@ -30,12 +30,12 @@ impl<'a> Stream<'a> {
         }
     }
 
-    /// Whether all that is wanted came, and nothing else.
+    /// Returns true if all that is wanted came, and nothing else.
     pub fn is_whole(&self) -> bool {
         self.came.load(Ordering::SeqCst) == self.wanted.len()
     }
 
-    /// Whether nothing came.
+    /// Returns true if nothing came.
     pub fn is_untouched(&self) -> bool {
         self.came.load(Ordering::SeqCst) == 0
     }

@@ -15,14 +15,14 @@ pub struct Bounds {
     pub high: Point,
 }
 
-/// Whether a number is in a range.
+/// Returns true if a number is in a range.
 fn is_between(low: i32, number: i32, high: i32) -> bool
     ensures { IsTrue result ↔ IsBetween low number high }
 {
     (low <= number) & (number <= high)
 }
 
-/// The end of a range at which a product with this factor is greatest.
+/// Returns the end of a range at which a product with this factor is greatest.
 fn far_end(factor: i32, low: i32, high: i32) -> i32
     ensures end { (result ≡ low) ⊎ (result ≡ high) }
     ensures far { IsFarEnd factor low high result }
@@ -30,14 +30,14 @@ fn far_end(factor: i32, low: i32, high: i32) -> i32
     if factor > 0 { high } else { low }
 }
 
-/// The end of a range at which a product with this factor is least.
+/// Returns the end of a range at which a product with this factor is least.
 fn near_end(factor: i32, low: i32, high: i32) -> i32
     ensures { (result ≡ low) ⊎ (result ≡ high) }
 {
     if factor > 0 { low } else { high }
 }
 
-/// The greater of two numbers.
+/// Returns the greater of two numbers.
 fn greater(one: i32, two: i32) -> i32
     ensures end { (result ≡ one) ⊎ (result ≡ two) }
     ensures least { one ≤ℤ result }
@@ -45,7 +45,7 @@ fn greater(one: i32, two: i32) -> i32
     if one < two { two } else { one }
 }
 
-/// The lesser of two numbers.
+/// Returns the lesser of two numbers.
 fn lesser(one: i32, two: i32) -> i32
     ensures end { (result ≡ one) ⊎ (result ≡ two) }
     ensures most { result ≤ℤ one }
@@ -53,7 +53,7 @@ fn lesser(one: i32, two: i32) -> i32
     if two < one { two } else { one }
 }
 
-/// The point with the greater of each two coordinates.
+/// Returns the point with the greater of each two coordinates.
 fn greatest_of(one: Point, two: Point) -> Point
     ensures x { one.x ≤ℤ result.x }
     ensures y { one.y ≤ℤ result.y }
@@ -66,7 +66,7 @@ fn greatest_of(one: Point, two: Point) -> Point
     )
 }
 
-/// The point with the lesser of each two coordinates.
+/// Returns the point with the lesser of each two coordinates.
 fn least_of(one: Point, two: Point) -> Point
     ensures x { result.x ≤ℤ one.x }
     ensures y { result.y ≤ℤ one.y }
@@ -90,7 +90,7 @@ impl Bounds {
         }
     }
 
-    /// Whether a point is among theirs.
+    /// Returns true if a point is among theirs.
     pub fn contains(&self, p: Point) -> bool
         ensures within { IsTrue result ↔ IsWithin self.now p }
         ensures place { IsPlace p }
@@ -100,7 +100,7 @@ impl Bounds {
             & is_between(self.low.z(), p.z(), self.high.z())
     }
 
-    /// The corner that lies furthest along a plane's normal.
+    /// Returns the corner that lies furthest along a plane's normal.
     pub fn far_corner(&self, plane: &CoarsePlane) -> Point
         ensures x { IsFarEnd plane.now.normal.x self.now.low.x self.now.high.x result.x }
         ensures y { IsFarEnd plane.now.normal.y self.now.low.y self.now.high.y result.y }
@@ -114,7 +114,7 @@ impl Bounds {
         )
     }
 
-    /// The corner that lies furthest against a plane's normal.
+    /// Returns the corner that lies furthest against a plane's normal.
     pub fn near_corner(&self, plane: &CoarsePlane) -> Point {
         let tip = plane.tip();
         Point::new(
@@ -132,7 +132,7 @@ impl Bounds {
         plane.is_above(self.far_corner(plane))
     }
 
-    /// The points that are among both.
+    /// Returns the points that are among both.
     pub fn common(&self, other: &Bounds) -> Bounds
         ensures { (p : Vector) → IsWithin result p → IsWithin self.now p }
     {

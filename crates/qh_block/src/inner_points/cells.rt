@@ -41,7 +41,7 @@ fn is_under(planes: &[CoarsePlane], number: u32, p: Point) -> bool
 }
 
 impl Cell {
-    /// The cell of all points, to which all of so many planes are near.
+    /// Returns the cell of all points, to which all planes are near.
     pub fn whole(alloc: Global, count: usize) -> Result<Cell, Memory>
         ensures { IfOk result (λ c. (planes : List PlaneValue) → length planes ≡ count → IsCellOf planes c) }
     {
@@ -55,7 +55,7 @@ impl Cell {
         })
     }
 
-    /// The cell of no points, to which no plane is near.
+    /// Returns the cell of no points, to which no plane is near.
     pub fn none(alloc: Global) -> Cell
         ensures { (planes : List PlaneValue) → IsCellOf planes result }
     {
@@ -65,7 +65,8 @@ impl Cell {
         }
     }
 
-    /// The part of the cell that lies between bounds, with those planes that are near the part.
+    /// Returns the part of the cell that lies between bounds, with those planes that are near the
+    /// part.
     pub fn part(
         &self,
         alloc: Global,
@@ -84,7 +85,8 @@ impl Cell {
         Ok(Cell { bounds, near })
     }
 
-    /// The part of the cell that lies between bounds, with all planes that are near the cell.
+    /// Returns the part of the cell that lies between bounds, with all planes that are near the
+    /// cell.
     pub fn within(self, bounds: &Bounds) -> Cell
         ensures { (planes : List PlaneValue) → IsCellOf planes self → IsCellOf planes result }
     {

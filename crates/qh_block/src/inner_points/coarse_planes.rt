@@ -1,7 +1,8 @@
 //! Planes with normals of few bits, whose heights take 64 bits.
 //!
-//! The normal of three points far apart has components of 62 bits, so that a height takes 128. Where all that counts is that
-//! points are strictly below a plane, a plane with a shorter normal tells, a little below the plane wherever points are.
+//! The normal of three points far apart has components of 62 bits, so that a height takes 128. Where all that
+//! counts is that points are strictly below a plane, a plane with a shorter normal tells, a little below the
+//! plane wherever points are.
 ghost use Rattle.std.specs.Prelude.{◌≡◌, ◌≤◌, ◌<◌, ◌*◌, ◌^◌, ◌↔◌, pos, ◌+ℤ◌, ◌-ℤ◌, ◌*ℤ◌, ◌≤ℤ◌, ◌<ℤ◌, IfSome, IsTrue, unsigned_abs};
 ghost use Rattle.qh_model.specs.declared.limits.TheConstants.{COORDINATE_LIMIT};
 ghost use Rattle.qh_model.specs.headline.Limits.{IsCoordinate};
@@ -44,7 +45,7 @@ impl Model for CoarsePlane {
     ghost inverse = { λ p. record { tip = p.normal; offset = p.offset } };
 }
 
-/// The product of two coordinates.
+/// Returns the product of two coordinates.
 fn product(a: i32, b: i32) -> i64
     requires a { IsCoordinate a }
     requires b { IsCoordinate b }
@@ -54,7 +55,7 @@ fn product(a: i32, b: i32) -> i64
     i64::from(a) * i64::from(b)
 }
 
-/// The sum of three products of coordinates.
+/// Returns the sum of three products of coordinates.
 fn sum(a: i64, b: i64, c: i64) -> i64
     requires a { unsigned_abs a ≤ COORDINATE_LIMIT * COORDINATE_LIMIT }
     requires b { unsigned_abs b ≤ COORDINATE_LIMIT * COORDINATE_LIMIT }
@@ -64,7 +65,7 @@ fn sum(a: i64, b: i64, c: i64) -> i64
     a + b + c
 }
 
-/// The length of so many steps.
+/// Returns the length of a number of steps.
 fn length(steps: i64, step: i64) -> i128
     ensures value { result ≡ steps *ℤ step }
     ensures limit { unsigned_abs result ≤ 2 ^ 126 }
@@ -72,7 +73,8 @@ fn length(steps: i64, step: i64) -> i128
     i128::from(steps) * i128::from(step)
 }
 
-/// The step by which components of a normal are divided: a power of 2, and 1 where they are small.
+/// Returns the step by which components of a normal are divided: a power of 2, and 1 where they are
+/// small.
 fn step_of(normal: &Normal) -> i64 {
     let greatest = normal
         .x()
@@ -83,7 +85,7 @@ fn step_of(normal: &Normal) -> i64 {
     1i64.wrapping_shl(bits.saturating_sub(COMPONENT_BITS))
 }
 
-/// The whole steps in a component of a normal, if they are as few as coordinates are great.
+/// Returns the whole steps in a component of a normal, if they are as few as coordinates are great.
 fn steps_in(component: i128, step: i64) -> Option<i32>
     requires { unsigned_abs component ≤ normal_limit }
     ensures { IfSome result IsCoordinate }
@@ -97,7 +99,7 @@ fn steps_in(component: i128, step: i64) -> Option<i32>
     }
 }
 
-/// What is left of a component of a normal without a part of it.
+/// Returns what is left of a component of a normal without a part of it.
 fn left_of(component: i128, part: i128) -> i128
     requires component { unsigned_abs component ≤ normal_limit }
     requires part { unsigned_abs part ≤ 2 ^ 126 }
@@ -107,7 +109,7 @@ fn left_of(component: i128, part: i128) -> i128
     component - part
 }
 
-/// A number that is not below 0 and has 64 bits, if it is such.
+/// Returns a number that is not below 0 and has 64 bits, if it is such.
 fn small(number: i128) -> Option<i128>
     ensures same { IfSome result (λ found. found ≡ number) }
     ensures low { IfSome result (λ found. pos 0 ≤ℤ found) }
@@ -120,7 +122,8 @@ fn small(number: i128) -> Option<i128>
     }
 }
 
-/// What so many steps leave of a component of a normal, if that is not below 0 and has 64 bits.
+/// Returns what a number of steps leaves of a component of a normal, if that is not below 0 and has 64
+/// bits.
 fn rest_of(component: i128, steps: i32, step: i64) -> Option<i128>
     requires { unsigned_abs component ≤ normal_limit }
     ensures rest { IfSome result (IsRest component steps step) }
@@ -131,7 +134,7 @@ fn rest_of(component: i128, steps: i32, step: i64) -> Option<i128>
     Some(rest)
 }
 
-/// The sum of three rests.
+/// Returns the sum of three rests.
 fn total(x: i128, y: i128, z: i128) -> i128
     requires x { unsigned_abs x ≤ 2 ^ 64 }
     requires y { unsigned_abs y ≤ 2 ^ 64 }
@@ -142,7 +145,7 @@ fn total(x: i128, y: i128, z: i128) -> i128
     x + y + z
 }
 
-/// The room for rests of this sum: the greatest scalar product of the rests and a point.
+/// Returns the room for rests of this sum: the greatest scalar product of the rests and a point.
 fn room(total: i128) -> i128
     requires { unsigned_abs total ≤ 2 ^ 66 }
     ensures value { result ≡ total *ℤ pos COORDINATE_LIMIT }
@@ -151,7 +154,7 @@ fn room(total: i128) -> i128
     total * i128::from(COORDINATE_LIMIT)
 }
 
-/// The normal in whole steps, as a point.
+/// Returns the normal in whole steps, as a point.
 fn tip_of(normal: &Normal, step: i64) -> Option<Point>
     ensures { IfSome result IsPlace }
 {
@@ -161,7 +164,7 @@ fn tip_of(normal: &Normal, step: i64) -> Option<Point>
     Some(Point::new(x, y, z))
 }
 
-/// The room for what the steps leave of the components of a normal.
+/// Returns the room for what the steps leave of the components of a normal.
 fn room_for(normal: &Normal, tip: Point, step: i64) -> Option<i128>
     ensures room { IfSome result (IsRoomFor normal.now tip step) }
     ensures limit { IfSome result (λ r. unsigned_abs r ≤ 2 ^ 96) }
@@ -172,7 +175,7 @@ fn room_for(normal: &Normal, tip: Point, step: i64) -> Option<i128>
     Some(room(total(x, y, z)))
 }
 
-/// The greatest offset in steps that is found to leave so much room below that of a plane.
+/// Returns the greatest offset in steps that is found to leave so much room below that of a plane.
 fn lowered(plane: &Plane, room: i128, step: i64) -> Option<i64>
     requires { unsigned_abs room ≤ 2 ^ 96 }
     ensures low { IfSome result (IsLowered plane.now.offset room step) }
@@ -191,7 +194,7 @@ fn lowered(plane: &Plane, room: i128, step: i64) -> Option<i64>
 }
 
 impl CoarsePlane {
-    /// The plane with a normal, by its tip, and an offset.
+    /// Returns the plane with a normal, by its tip, and an offset.
     fn new(tip: Point, offset: i64) -> CoarsePlane
         requires { IsPlace tip }
         ensures { result ≡ record { normal = tip; offset = offset } }
@@ -199,14 +202,14 @@ impl CoarsePlane {
         CoarsePlane { tip, offset }
     }
 
-    /// A plane that no point is strictly below.
+    /// Returns a plane that no point is strictly below.
     fn below_all() -> CoarsePlane
         ensures { (p : Vector) → height result p ≡ pos 0 }
     {
         CoarsePlane::new(Point::new(0, 0, 0), 0)
     }
 
-    /// The plane under another one whose normal is that of the other, divided by a step.
+    /// Returns the plane under another one whose normal is that of the other, divided by a step.
     fn with_step(plane: &Plane, step: i64) -> Option<CoarsePlane>
         ensures { IfSome result (IsUnder plane.now) }
     {
@@ -220,8 +223,8 @@ impl CoarsePlane {
         Some(CoarsePlane::new(tip, offset))
     }
 
-    /// A plane under another one, as near to it as so few bits let it be: a point that is strictly below it is
-    /// strictly below the other.
+    /// Returns a plane under another one, as near to it as so few bits let it be: a point that is strictly
+    /// below it is strictly below the other.
     pub fn under(plane: &Plane) -> CoarsePlane
         ensures { IsUnder plane.now result }
     {
@@ -231,21 +234,21 @@ impl CoarsePlane {
         }
     }
 
-    /// The normal, as the point to which it leads from the origin.
+    /// Returns the normal, as the point to which it leads from the origin.
     pub fn tip(&self) -> Point
         ensures { result ≡ self.now.normal }
     {
         self.tip
     }
 
-    /// The scalar product of the normal and each point of the plane.
+    /// Returns the scalar product of the normal and each point of the plane.
     pub fn offset(&self) -> i64
         ensures { result ≡ self.now.offset }
     {
         self.offset
     }
 
-    /// The scalar product of the normal and a point.
+    /// Returns the scalar product of the normal and a point.
     fn reach(&self, p: Point) -> i64
         ensures value { result ≡ dot self.now.normal p }
         ensures place { IsPlace p }

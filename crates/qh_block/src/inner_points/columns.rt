@@ -13,8 +13,8 @@ use crate::inner_points::heights::Heights;
 use qh_model::{Memory, Point};
 use std::alloc::{AllocError, Global};
 
-/// Planes close under those of a hull, and the cells of the columns of a grid between them, quarter by quarter: of each column
-/// first the middle, then what is above it, then what is below.
+/// Planes close under those of a hull, and the cells of the columns of a grid between them, quarter by
+/// quarter: of each column first the middle, then what is above it, then what is below.
 #[derive(Drop)]
 pub struct Columns {
     grid: Grid,
@@ -22,7 +22,7 @@ pub struct Columns {
     pub cells: Vec<Cell>,
 }
 
-/// The part of a cell between these heights.
+/// Returns the part of a cell between these heights.
 fn cell_at(
     alloc: Global,
     planes: &[CoarsePlane],
@@ -37,8 +37,8 @@ fn cell_at(
     whole.part(alloc, planes, &heights.cut(&whole.bounds))
 }
 
-/// The part of a cell over a square of columns, no higher and no lower than the planes near it let
-/// through.
+/// Returns the part of a cell over a square of columns, no higher and no lower than the planes near
+/// it let through.
 fn cell_over(
     alloc: Global,
     planes: &[CoarsePlane],
@@ -101,7 +101,8 @@ fn push_square(
 }
 
 impl Columns {
-    /// The columns over the points of ids, 2 to a power along each axis, with their cells between planes.
+    /// Returns the columns over the points of ids, 2 to a power along each axis, with their cells between
+    /// planes.
     pub fn between(
         alloc: Global,
         planes: Vec<CoarsePlane>,
@@ -123,7 +124,7 @@ impl Columns {
         })
     }
 
-    /// The place of the one cell of a point's column that may hold it.
+    /// Returns the place of the one cell of a point's column that may hold it.
     fn place(&self, p: Point) -> usize {
         let middle = self.grid.number(p).saturating_mul(3);
         match self.cells.get(middle) {

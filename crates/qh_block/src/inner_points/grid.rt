@@ -23,7 +23,7 @@ pub struct Square {
     pub bits: u32,
 }
 
-/// The coordinate nearest to a number.
+/// Returns the coordinate nearest to a number.
 pub fn nearest_coordinate(number: i64) -> i32
     ensures { IsCoordinate result }
 {
@@ -39,7 +39,7 @@ fn spread(halves: u32) -> u32 {
 }
 
 impl Square {
-    /// All columns, 2 to a power along each axis.
+    /// Returns all columns, 2 to a power along each axis.
     pub fn whole(side_bits: u32) -> Square {
         Square {
             x: 0,
@@ -48,12 +48,13 @@ impl Square {
         }
     }
 
-    /// How many columns it has.
+    /// Returns how many columns it has.
     pub fn columns(&self) -> usize {
         1usize.wrapping_shl(self.bits.saturating_mul(2))
     }
 
-    /// One of the four squares in it, by the two bits of its number, with a side of this length.
+    /// Returns one of the four squares in it, by the two bits of its number, with a side of this
+    /// length.
     pub fn quarter(&self, bits: u32, number: u32) -> Square
         ensures { result.bits ≡ bits }
     {
@@ -67,7 +68,7 @@ impl Square {
 }
 
 impl Grid {
-    /// The grid over the points of ids, with 2 to a power columns along each axis.
+    /// Returns the grid over the points of ids, with 2 to a power columns along each axis.
     pub fn over(set: IdSet, side_bits: u32) -> Grid {
         let (mut west, mut east) = (i32::MAX, i32::MIN);
         let (mut south, mut north) = (i32::MAX, i32::MIN);
@@ -87,7 +88,7 @@ impl Grid {
         }
     }
 
-    /// The least and the greatest coordinate between two places along one axis.
+    /// Returns the least and the greatest coordinate between two places along one axis.
     fn ends(&self, from: i32, place: u32, next: u32) -> (i32, i32)
         ensures low { IsCoordinate result.0 }
         ensures high { IsCoordinate result.1 }
@@ -101,7 +102,7 @@ impl Grid {
         )
     }
 
-    /// All points over a square of columns.
+    /// Returns all points over a square of columns.
     pub fn bounds(&self, square: &Square) -> Bounds {
         let side = 1u32.wrapping_shl(square.bits);
         let (west, east) = self.ends(self.west, square.x, square.x.saturating_add(side));
@@ -113,7 +114,8 @@ impl Grid {
         }
     }
 
-    /// The number of a point's column in the order of the quarters, where the grid has one over it.
+    /// Returns the number of a point's column in the order of the quarters, where the grid has one
+    /// over it.
     pub fn number(&self, p: Point) -> usize {
         let x = p.x().abs_diff(self.west).wrapping_shr(self.width_bits);
         let y = p.y().abs_diff(self.south).wrapping_shr(self.width_bits);

@@ -14,12 +14,12 @@ pub struct Heights {
 }
 
 impl Heights {
-    /// No heights.
+    /// Returns no heights.
     pub fn none() -> Heights {
         Heights { low: 1, high: 0 }
     }
 
-    /// Those between bounds.
+    /// Returns those between bounds.
     fn of(bounds: &Bounds) -> Heights {
         Heights {
             low: i64::from(bounds.low.z()),
@@ -27,7 +27,8 @@ impl Heights {
         }
     }
 
-    /// Those at which all places between bounds in x and y are below the planes that are near.
+    /// Returns those at which all places between bounds in x and y are below the planes that are
+    /// near.
     pub fn inside(planes: &[CoarsePlane], near: &[u32], bounds: &Bounds) -> Heights {
         let mut heights = Heights::of(bounds);
         for number in near {
@@ -38,7 +39,8 @@ impl Heights {
         heights
     }
 
-    /// Those at which some place between bounds in x and y may be below the planes that are near.
+    /// Returns those at which some place between bounds in x and y may be below the planes that are
+    /// near.
     pub fn reached(planes: &[CoarsePlane], near: &[u32], bounds: &Bounds) -> Heights {
         let mut heights = Heights::of(bounds);
         for number in near {
@@ -49,7 +51,7 @@ impl Heights {
         heights
     }
 
-    /// The bounds in x and y of others, between these heights.
+    /// Returns the bounds in x and y of others, between these heights.
     pub fn cut(&self, bounds: &Bounds) -> Bounds {
         let (low, high) = (bounds.low, bounds.high);
         Bounds {
@@ -63,7 +65,7 @@ impl Heights {
         self.low > self.high
     }
 
-    /// Those above all of others.
+    /// Returns those above all of others.
     pub fn above(&self, others: &Heights) -> Heights {
         Heights {
             low: others.high.saturating_add(1),
@@ -71,7 +73,7 @@ impl Heights {
         }
     }
 
-    /// Those below all of others.
+    /// Returns those below all of others.
     pub fn under(&self, others: &Heights) -> Heights {
         Heights {
             low: self.low,
@@ -79,7 +81,7 @@ impl Heights {
         }
     }
 
-    /// Those of them at which a place in x and y is below a plane.
+    /// Returns those of them at which a place in x and y is below a plane.
     fn below(self, plane: &CoarsePlane, place: Point) -> Heights {
         let tip = plane.tip();
         let (x, y, z) = (i64::from(tip.x()), i64::from(tip.y()), i64::from(tip.z()));

@@ -16,7 +16,7 @@ use qh_plane::{Shape, rank};
 use qh_surface::plane_of;
 use std::alloc::{AllocError, Global};
 
-/// One of so many ids, from the first on.
+/// Returns every `step`-th id, from the first on.
 pub fn one_of(alloc: Global, ids: &[Id], many: usize) -> Result<Vec<Id>, AllocError>
     requires some { 0 < length ids.now }
     requires many { 0 < many }
@@ -27,7 +27,7 @@ pub fn one_of(alloc: Global, ids: &[Id], many: usize) -> Result<Vec<Id>, AllocEr
     ids.chunks(many).map(|part| part[0]).collect(alloc)
 }
 
-/// Coarse planes under those of the live facets.
+/// Returns coarse planes under those of the live facets.
 fn planes_of(alloc: Global, pts: &[Point], mesh: &Mesh) -> Result<Vec<CoarsePlane>, AllocError>
     requires corners { AreCornersBelow (length pts.now) mesh.now }
     ensures { IfOk result (λ v. HasPlanes pts.now mesh.now v.items) }
@@ -39,7 +39,7 @@ fn planes_of(alloc: Global, pts: &[Point], mesh: &Mesh) -> Result<Vec<CoarsePlan
     Ok(planes)
 }
 
-/// Whether each id is above the one before.
+/// Returns true if each id is above the one before.
 fn rise(ids: &[Id]) -> bool
     ensures { IsTrue result → IsStrictlyIncreasing ids.now }
 {
@@ -51,8 +51,8 @@ fn rise(ids: &[Id]) -> bool
     true
 }
 
-/// The columns inside the hull of a sample, 2 to a power along each axis; none where it lies in a plane or
-/// does not rise, or where it has facets so many that few ids can be inside.
+/// Returns the columns inside the hull of a sample, 2 to a power along each axis; `None` if it lies in a
+/// plane or does not rise, or if it has more facets than a set has with many ids inside.
 pub fn inner_columns(
     alloc: Global,
     sample: IdSet,

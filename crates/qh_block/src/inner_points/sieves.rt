@@ -16,13 +16,13 @@ pub trait Sieve {
     /// What is known of one that goes over ids.
     ghost ready: { Self → Type 0 };
 
-    /// The ids that the columns don't hold, in their order.
+    /// Returns the ids that the columns don't hold, in their order.
     fn outside(&self, alloc: Global, set: IdSet, columns: &Columns) -> Result<Vec<Id>, AllocError>
         requires { ready self.now }
         ensures { IfOk result (λ v. KeepsExtremes set.entry.pts.now columns.now set.entry.ids.now v.items) };
 }
 
-/// The ids that the columns don't hold, in their order, by the calling thread.
+/// Returns the ids that the columns don't hold, in their order, by the calling thread.
 fn ids_outside(alloc: Global, set: IdSet, columns: &Columns) -> Result<Vec<Id>, AllocError>
     ensures { IfOk result (λ v. KeepsExtremes set.entry.pts.now columns.now set.entry.ids.now v.items) }
 {
@@ -35,8 +35,8 @@ fn ids_outside(alloc: Global, set: IdSet, columns: &Columns) -> Result<Vec<Id>, 
     Ok(kept)
 }
 
-/// The part with a number, where a set is cut into parts of so many ids; the last may be shorter, and
-/// there is nothing past it.
+/// Returns the part with a number, where a set is cut into parts of `size` ids; the last may be
+/// shorter, and there is nothing past it.
 fn part_at(set: IdSet, size: usize, number: usize) -> IdSet
     ensures points { result.pts.now ≡ set.entry.pts.now }
     ensures ids { result.ids.now ≡ take size (drop (number * size) set.entry.ids.now) }
@@ -50,7 +50,7 @@ fn part_at(set: IdSet, size: usize, number: usize) -> IdSet
     }
 }
 
-/// What was kept of the parts of a set, one after the other.
+/// Returns what was kept of the parts of a set, one after the other.
 fn joined(
     alloc: Global,
     set: IdSet,
@@ -73,7 +73,8 @@ fn joined(
     Ok(kept)
 }
 
-/// The ids that the columns don't hold, in their order, by as many threads, each at a part of the ids.
+/// Returns the ids that the columns don't hold, in their order, by a number of threads, each at a part of
+/// the ids.
 fn ids_outside_in_threads<R: Threads + Sync>(
     rt: &R,
     alloc: Global,
@@ -110,7 +111,7 @@ impl Sieve for Alone {
     }
 }
 
-/// At most so many threads of a runtime.
+/// A runtime and the greatest number of its threads.
 #[derive(Clone, Copy, Debug)]
 pub struct InThreads<'a, R> {
     pub rt: &'a R,

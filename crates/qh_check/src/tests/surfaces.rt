@@ -7,7 +7,7 @@ use std::alloc::Global;
 use std::test::Fail;
 use std::thread::Threads;
 
-/// The verdict of so many threads on polygons of the corners of a cube.
+/// Returns the verdict of a number of threads on polygons of the corners of a cube.
 fn verdict<R: Threads + Sync>(
     rt: &R,
     alloc: Global,
@@ -51,7 +51,7 @@ fn triangles_of_a_cube_are_right(rt: HostRuntime) -> Result<(), Fail> {
     Ok(())
 }
 
-/// Whether polygons of a cube are all found among the faces of its hull.
+/// Returns true if polygons of a cube are all found among the faces of its hull.
 fn are_found(alloc: Global, faces: &[&[u32]]) -> Result<Option<bool>, Memory> {
     let pts = cube();
     let ids = ids_of(alloc, &pts, &EIGHT)?;

@@ -15,7 +15,7 @@ struct Axis {
 }
 
 impl Axis {
-    /// The axis from one coordinate to another.
+    /// Returns the axis from one coordinate to another.
     fn between(least: i32, greatest: i32) -> Axis {
         let extent = greatest.abs_diff(least);
         Axis {
@@ -24,7 +24,7 @@ impl Axis {
         }
     }
 
-    /// The place of a coordinate of the axis, below 2^10.
+    /// Returns the place of a coordinate of the axis, below 2^10.
     fn place(self, coordinate: i32) -> u32 {
         let above = coordinate.abs_diff(self.least);
         if self.bits < PLACE_BITS {
@@ -52,7 +52,7 @@ pub(crate) struct Cell {
 }
 
 impl Axes {
-    /// The axes of a set with these ends ([`ends_of`](qh_surface::ends_of)).
+    /// Returns the axes of a set with these ends ([`ends_of`](qh_surface::ends_of)).
     pub fn of(pts: &[Point], ends: &[Id; 6]) -> Axes
         requires { AreIndices pts.now ends.now }
     {
@@ -64,7 +64,7 @@ impl Axes {
         }
     }
 
-    /// The cell of a point.
+    /// Returns the cell of a point.
     pub fn cell(&self, point: Point) -> Cell {
         let (x, y, z) = (self.x, self.y, self.z);
         Cell {

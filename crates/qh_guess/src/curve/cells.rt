@@ -1,4 +1,5 @@
-//! The numbers of cells along a curve: that of Hilbert through the larger cells, and within each of these that of Morton.
+//! The numbers of cells along a curve: that of Hilbert through the larger cells, and within each of these that of
+//! Morton.
 //!
 //! Source: Skilling 2004 (Hilbert's order from places, by exchanges and turns of their bits).
 use crate::curve::axes::Cell;
@@ -22,7 +23,7 @@ pub(crate) struct Cells {
     turned: Vec<u32>,
 }
 
-/// The lowest 10 bits of a number, each with two zeros before it.
+/// Returns the lowest 10 bits of a number, each with two zeros before it.
 fn spread(number: u32) -> u32 {
     let bytes = (number | number << 16) & 0x0300_00ff;
     let nibbles = (bytes | bytes << 8) & 0x0300_f00f;
@@ -31,12 +32,13 @@ fn spread(number: u32) -> u32 {
 }
 
 impl Cell {
-    /// The number in Morton's order: the bits of the places, taken in turn.
+    /// Returns the number in Morton's order: the bits of the places, taken in turn.
     fn interleaved(self) -> u32 {
         spread(self.x) << 2 | spread(self.y) << 1 | spread(self.z)
     }
 
-    /// The cell after the turns that a bit of its places asks for. `below` has the bits below it.
+    /// Returns the cell after the turns that a bit of its places asks for. `below` has the bits
+    /// below it.
     fn turned_below(self, bit: u32, below: u32) -> Cell {
         let mut cell = self;
         if cell.x & bit != 0 {
@@ -59,7 +61,7 @@ impl Cell {
         cell
     }
 
-    /// The cell whose number in Morton's order is that of this larger cell in Hilbert's.
+    /// Returns the cell whose number in Morton's order is that of this larger cell in Hilbert's.
     fn turned(self) -> Cell {
         let mut cell = self;
         for level in 1..LARGE_BITS {
@@ -77,7 +79,7 @@ impl Cell {
     }
 }
 
-/// For each bit of a larger place whether the number of bits set above it is odd.
+/// Returns for each bit of a larger place whether the number of bits set above it is odd.
 fn parities(place: u32) -> u32 {
     let mut change = 0;
     for level in 1..LARGE_BITS {
@@ -90,7 +92,7 @@ fn parities(place: u32) -> u32 {
 }
 
 impl Cells {
-    /// The larger cells in Hilbert's order.
+    /// Returns the larger cells in Hilbert's order.
     ///
     /// # Errors
     ///
@@ -110,7 +112,7 @@ impl Cells {
         Ok(Cells { turned })
     }
 
-    /// The number of a cell along the curve.
+    /// Returns the number of a cell along the curve.
     pub fn number(&self, cell: Cell) -> u32 {
         let number = cell.interleaved();
         let large = match self.turned.get((number >> INNER_BITS) as usize) {

@@ -10,8 +10,8 @@ use qh_model::Point;
 use qh_seam::Run;
 use std::alloc::{AllocError, Global};
 
-/// Finds for each point of the others a facet that shows where it lies: one that goes and that it is above, or the one
-/// through which the ray to it leaves.
+/// Finds for each point of the others a facet that shows where it lies: one that goes and that it is above,
+/// or the one through which the ray to it leaves.
 #[derive(Drop)]
 pub(crate) struct Cover<'a> {
     alloc: Global,
@@ -30,7 +30,8 @@ fn add(runs: &mut Vec<Run>, facet: FacetNo, count: usize) -> Result<(), AllocErr
 }
 
 impl<'a> Cover<'a> {
-    /// A cover by facets, with rays from the middle of four points; none where there is no facet.
+    /// Returns a cover by facets, with rays from the middle of four points; `None` if there is no
+    /// facet.
     pub fn start(alloc: Global, facets: Facets<'a>, four: [Point; 4]) -> Option<Cover<'a>> {
         let Some(rays) = Rays::from_middle(facets, four) else {
             return None;
@@ -43,8 +44,8 @@ impl<'a> Cover<'a> {
         })
     }
 
-    /// The facet through which the ray to a point leaves. If the point is above it, it goes; if the point is in its plane, it
-    /// is asked.
+    /// Returns the facet through which the ray to a point leaves. If the point is above it, it goes; if the point is
+    /// in its plane, it is asked.
     fn met(&mut self, cutting: &mut Cutting, point: Point) -> Result<FacetNo, AllocError> {
         let f = self.rays.leaves(point);
         let Some(sight) = self.facets.sight(f) else {
@@ -59,7 +60,7 @@ impl<'a> Cover<'a> {
         Ok(f)
     }
 
-    /// The witness for a point.
+    /// Returns the witness for a point.
     fn witness(&mut self, cutting: &mut Cutting, point: Point) -> Result<FacetNo, AllocError> {
         match self.recent.under(point) {
             Some(f) => Ok(f),
@@ -67,7 +68,8 @@ impl<'a> Cover<'a> {
         }
     }
 
-    /// A facet that goes and that all points of a block are above, if one is found. `own` has the points.
+    /// Returns a facet that goes and that all points of a block are above, if one is found. `own` has the
+    /// points.
     fn witness_of_all(
         &mut self,
         cutting: &mut Cutting,
@@ -96,7 +98,7 @@ impl<'a> Cover<'a> {
         Ok(())
     }
 
-    /// The witnesses for the points of an outline, in their order.
+    /// Returns the witnesses for the points of an outline, in their order.
     pub fn witnesses(
         &mut self,
         cutting: &mut Cutting,

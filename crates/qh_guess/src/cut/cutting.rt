@@ -39,7 +39,7 @@ pub(crate) struct Cutting<'a> {
 }
 
 impl Others<'_> {
-    /// Whether the corners of all other parts are strictly below a plane.
+    /// Returns true if the corners of all other parts are strictly below a plane.
     pub fn are_below(&self, sight: &Sight) -> bool {
         for other in 0..self.outlines.len() {
             if other != self.number && !self.outlines[other].is_below(sight) {
@@ -51,7 +51,7 @@ impl Others<'_> {
 }
 
 impl<'a> Cutting<'a> {
-    /// The facets of a part, of which nothing is known.
+    /// Returns the facets of a part, of which nothing is known.
     pub fn start(
         alloc: Global,
         facets: Facets<'a>,
@@ -67,7 +67,7 @@ impl<'a> Cutting<'a> {
         })
     }
 
-    /// What is known of a facet.
+    /// Returns what is known of a facet.
     pub fn state(&self, f: FacetNo) -> State {
         match self.states.get(f.index()) {
             Some(state) => *state,
@@ -75,7 +75,7 @@ impl<'a> Cutting<'a> {
         }
     }
 
-    /// The facets that go.
+    /// Returns the facets that go.
     pub fn gone(&self) -> &[FacetNo] {
         &self.gone
     }
@@ -92,7 +92,8 @@ impl<'a> Cutting<'a> {
         Ok(())
     }
 
-    /// Goes on from a facet to its neighbours: those of the plane get the state, and others wait where the plane goes.
+    /// Goes on from a facet to its neighbours: those of the plane get the state, and others wait where the plane
+    /// goes.
     fn spread(&mut self, f: FacetNo, corners: [Point; 3], state: State) -> Result<(), AllocError> {
         let sight = Sight::of(corners);
         for side in 0..3 {
@@ -163,7 +164,7 @@ impl<'a> Cutting<'a> {
         Ok(())
     }
 
-    /// A mark for each place: whether a facet stays there.
+    /// Returns a mark for each place: whether a facet stays there.
     pub fn marks(&self, alloc: Global) -> Result<Vec<bool>, AllocError> {
         let mut stay = Vec::with_capacity(alloc, self.states.len())?;
         for place in 0..self.states.len() {

@@ -18,29 +18,29 @@ pub(crate) struct Neighbour {
 }
 
 impl<'a> Facets<'a> {
-    /// The facets of a mesh.
+    /// Returns the facets of a mesh.
     pub fn of(surface: &'a NamedMesh) -> Facets<'a> {
         Facets { surface }
     }
 
-    /// The number of places, free ones with them.
+    /// Returns the number of places, free ones with them.
     pub fn places(self) -> usize {
         self.surface.mesh.places()
     }
 
-    /// Whether there is a facet at a place.
+    /// Returns true if there is a facet at a place.
     pub fn is_live(self, f: FacetNo) -> bool {
         f.index() < self.surface.mesh.places() && self.surface.mesh.is_live(f)
     }
 
-    /// The first facet from a place on.
+    /// Returns the first facet from a place on.
     pub fn first_from(self, place: usize) -> Option<FacetNo> {
         (place..self.places())
             .map(|place| FacetNo::new(place))
             .find(|f| self.is_live(*f))
     }
 
-    /// The positions of a facet's corners among the points of the mesh.
+    /// Returns the positions of a facet's corners among the points of the mesh.
     pub fn positions(self, f: FacetNo) -> Option<[Id; 3]> {
         if f.index() >= self.surface.mesh.places() || !self.surface.mesh.is_live(f) {
             return None;
@@ -48,7 +48,7 @@ impl<'a> Facets<'a> {
         Some(self.surface.mesh.facet(f))
     }
 
-    /// The points of a facet's corners.
+    /// Returns the points of a facet's corners.
     pub fn corners(self, f: FacetNo) -> Option<[Point; 3]> {
         let [a, b, c] = self.positions(f)?;
         let points = &self.surface.points;
@@ -59,7 +59,7 @@ impl<'a> Facets<'a> {
         ])
     }
 
-    /// The ids of a facet's corners.
+    /// Returns the ids of a facet's corners.
     pub fn ids(self, f: FacetNo) -> Option<[Id; 3]> {
         let [a, b, c] = self.positions(f)?;
         let ids = &self.surface.ids;
@@ -70,12 +70,12 @@ impl<'a> Facets<'a> {
         ])
     }
 
-    /// The plane of a facet.
+    /// Returns the plane of a facet.
     pub fn sight(self, f: FacetNo) -> Option<Sight> {
         Some(Sight::of(self.corners(f)?))
     }
 
-    /// The number of the facet across a side of another: 0, 1 or 2.
+    /// Returns the number of the facet across a side of another: 0, 1 or 2.
     pub fn next(self, f: FacetNo, side: usize) -> Option<FacetNo> {
         let mesh = &self.surface.mesh;
         if f.index() >= mesh.places() || !mesh.is_live(f) || side >= 3 {
@@ -84,7 +84,7 @@ impl<'a> Facets<'a> {
         Some(mesh.facet_of(mesh.across(f, side)))
     }
 
-    /// The facet across a side of another: 0, 1 or 2.
+    /// Returns the facet across a side of another: 0, 1 or 2.
     pub fn across(self, f: FacetNo, side: usize) -> Option<Neighbour> {
         let mesh = &self.surface.mesh;
         if f.index() >= mesh.places() || !mesh.is_live(f) || side >= 3 {

@@ -21,7 +21,7 @@ pub struct Marks {
     pub seam: Vec<Id>,
 }
 
-/// The points of ids. An id of no point is passed over.
+/// Returns the points of ids. An id of no point is passed over.
 fn points_of(alloc: Global, pts: &[Point], ids: &[Id]) -> Result<Vec<Point>, AllocError> {
     let mut points = Vec::with_capacity(alloc, ids.len())?;
     for id in ids {
@@ -32,7 +32,7 @@ fn points_of(alloc: Global, pts: &[Point], ids: &[Id]) -> Result<Vec<Point>, All
     Ok(points)
 }
 
-/// The points of the first four shared ids. Their middle is inside of every part.
+/// Returns the points of the first four shared ids. Their middle is inside of every part.
 fn four_of(set: Divided) -> Option<[Point; 4]> {
     let [i, j, k, l, ..] = set.shared else {
         return None;
@@ -45,7 +45,7 @@ fn four_of(set: Divided) -> Option<[Point; 4]> {
     ])
 }
 
-/// For each `FACING_TOGETHER` points the direction in which the surface faces at the one in their middle.
+/// Returns for each `FACING_TOGETHER` points the direction in which the surface faces at the one in their middle.
 fn ways_out(
     alloc: Global,
     facets: Facets,
@@ -70,7 +70,7 @@ fn ways_out(
     Ok(ways)
 }
 
-/// The outline of the part of a number: what the marks of the other parts ask of it.
+/// Returns the outline of the part of a number: what the marks of the other parts ask of it.
 ///
 /// # Errors
 ///
@@ -87,7 +87,7 @@ pub fn outline_of(alloc: Global, set: Divided, number: usize) -> Result<Outline,
     Ok(Outline::over(alloc, points, &ways)?)
 }
 
-/// For each of some ids whether it is shared.
+/// Returns for each of some ids whether it is shared.
 fn marks_of_shared(alloc: Global, ids: &[Id], shared: &[Id]) -> Result<Vec<bool>, AllocError> {
     let mut marks = Vec::with_capacity(alloc, ids.len())?;
     for id in ids {
@@ -96,7 +96,7 @@ fn marks_of_shared(alloc: Global, ids: &[Id], shared: &[Id]) -> Result<Vec<bool>
     Ok(marks)
 }
 
-/// Whether all corners of a facet are marked.
+/// Returns true if all corners of a facet are marked.
 fn is_marked(facets: Facets, marks: &[bool], f: FacetNo) -> bool {
     match facets.positions(f) {
         Some(positions) => positions
@@ -146,7 +146,7 @@ fn all_witnesses(
     Ok(runs)
 }
 
-/// The ids of the corners of facets.
+/// Returns the ids of the corners of facets.
 fn corners_of(alloc: Global, facets: Facets, listed: &[FacetNo]) -> Result<Vec<Id>, AllocError> {
     let mut ids = Vec::new(alloc);
     for f in listed {
@@ -157,8 +157,8 @@ fn corners_of(alloc: Global, facets: Facets, listed: &[FacetNo]) -> Result<Vec<I
     Ok(ids)
 }
 
-/// Guesses what stays of the part of a number where the corners of the other parts come in. `outlines` has the outline of each
-/// part.
+/// Guesses what stays of the part of a number where the corners of the other parts come in. `outlines` has
+/// the outline of each part.
 ///
 /// # Errors
 ///

@@ -3,7 +3,7 @@ use crate::cut::facets::Facets;
 use qh_mesh::FacetNo;
 use qh_model::Point;
 
-/// After so many facets a walk is given up, and all facets are looked at.
+/// The number of facets after which a walk is given up, and all facets are looked at.
 const STEP_LIMIT: usize = 4_096;
 
 /// All walks together look at no more facets than this for each place of the mesh: then none is begun any more.
@@ -17,18 +17,19 @@ struct Way {
     z: i64,
 }
 
-/// The product of two components.
+/// Returns the product of two components.
 fn product(a: i64, b: i64) -> i128 {
     i128::from(a).wrapping_mul(i128::from(b))
 }
 
-/// The difference of the products of two pairs of components.
+/// Returns the difference of the products of two pairs of components.
 fn minor(a: i64, d: i64, b: i64, c: i64) -> i128 {
     product(a, d).wrapping_sub(product(b, c))
 }
 
 impl Way {
-    /// Whether a way lies beyond the plane through this one and another, as seen from within: the three go clockwise.
+    /// Returns true if a way lies beyond the plane through this one and another, as seen from within: the three go
+    /// clockwise.
     fn turns_back(self, to: Way, way: Way) -> bool {
         let x = minor(self.y, to.z, self.z, to.y).wrapping_mul(i128::from(way.x));
         let y = minor(self.z, to.x, self.x, to.z).wrapping_mul(i128::from(way.y));
@@ -47,7 +48,7 @@ pub(crate) struct Rays<'a> {
 }
 
 impl<'a> Rays<'a> {
-    /// The rays from the middle of four points, if there is a facet at all.
+    /// Returns the rays from the middle of four points, if there is a facet at all.
     pub fn from_middle(facets: Facets<'a>, four: [Point; 4]) -> Option<Rays<'a>> {
         let mut sum = Way { x: 0, y: 0, z: 0 };
         for point in four {
@@ -65,7 +66,7 @@ impl<'a> Rays<'a> {
         })
     }
 
-    /// The way to a point.
+    /// Returns the way to a point.
     fn way(&self, point: Point) -> Way {
         let part = |coordinate: i32, sum: i64| -> i64 {
             i64::from(coordinate).wrapping_mul(4).wrapping_sub(sum)
@@ -77,7 +78,7 @@ impl<'a> Rays<'a> {
         }
     }
 
-    /// A side of a facet that a way lies beyond, if there is one.
+    /// Returns a side of a facet that a way lies beyond, if there is one.
     fn side_beyond(&self, f: FacetNo, way: Way) -> Option<usize> {
         let [a, b, c] = self.facets.corners(f)?;
         let (a, b, c) = (self.way(a), self.way(b), self.way(c));
@@ -92,15 +93,15 @@ impl<'a> Rays<'a> {
         }
     }
 
-    /// The facet through which a way leaves, sought among all.
+    /// Returns the facet through which a way leaves, sought among all.
     fn sought(&self, way: Way) -> Option<FacetNo> {
         (0..self.facets.places())
             .map(|place| FacetNo::new(place))
             .find(|f| self.facets.is_live(*f) && self.side_beyond(*f, way).is_none())
     }
 
-    /// A walk from the last facet towards the one through which a way leaves: whether it came there in so many steps. The last
-    /// facet is then the one where it ended.
+    /// Returns a walk from the last facet towards the one through which a way leaves: whether it came there in so
+    /// many steps. The last facet is then the one where it ended.
     fn walk(&mut self, way: Way, limit: usize) -> bool {
         for step in 0..limit {
             let Some(side) = self.side_beyond(self.last, way) else {
@@ -113,7 +114,8 @@ impl<'a> Rays<'a> {
         false
     }
 
-    /// The facet through which the ray to a point leaves. Where walks became too long, it is any facet.
+    /// Returns the facet through which the ray to a point leaves. Where walks became too long, it is
+    /// any facet.
     pub fn leaves(&mut self, point: Point) -> FacetNo {
         let way = self.way(point);
         let is_there = self.walk(way, STEP_LIMIT.min(self.steps_left));

@@ -22,7 +22,7 @@ pub(crate) struct Recent {
 }
 
 impl Recent {
-    /// None yet.
+    /// Creates an empty list of recent facets.
     pub fn none(alloc: Global) -> Recent {
         Recent {
             seeing: Vec::new(alloc),
@@ -45,13 +45,13 @@ impl Recent {
         Some(facet)
     }
 
-    /// One that a point is above.
+    /// Returns one that a point is above.
     pub fn under(&mut self, point: Point) -> Option<FacetNo> {
         let position = self.seeing.iter().position(|s| s.sight.sees(point))?;
         self.raised(position)
     }
 
-    /// One that all points of a block are above.
+    /// Returns one that all points of a block are above.
     pub fn under_all(&mut self, block: &Block) -> Option<FacetNo> {
         let position = self.seeing.iter().position(|s| s.sight.sees_all(block))?;
         self.raised(position)

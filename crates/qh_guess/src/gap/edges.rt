@@ -5,12 +5,13 @@ use std::alloc::{AllocError, Global};
 /// The bits of an id in a key.
 const ID_BITS: u32 = 32;
 
-/// The key of an edge: the number of the id where it starts, then that of the one where it ends.
+/// Returns the key of an edge: the number of the id where it starts, then that of the one where it
+/// ends.
 pub(crate) fn edge_key(from: Id, to: Id) -> u64 {
     u64::from(from.number()) << ID_BITS | u64::from(to.number())
 }
 
-/// The key of the edge that runs the other way.
+/// Returns the key of the edge that runs the other way.
 pub(crate) fn reverse(edge: u64) -> u64 {
     edge.rotate_left(ID_BITS)
 }
@@ -22,7 +23,7 @@ pub(crate) struct Round<'a> {
 }
 
 impl<'a> Round<'a> {
-    /// The edges round a polygon.
+    /// Returns the edges round a polygon.
     pub fn of(polygon: &'a Polygon) -> Round<'a> {
         Round { ids: polygon.ids() }
     }
@@ -59,12 +60,12 @@ impl<'a> Round<'a> {
     }
 }
 
-/// Whether an id is marked.
+/// Returns true if an id is marked.
 fn is_marked(marks: &[bool], id: Id) -> bool {
     marks.get(id.index()).copied().unwrap_or(false)
 }
 
-/// As many marks, of which those of the ids are set.
+/// Returns `count` marks, of which those of the ids are set.
 fn marks_of(alloc: Global, count: usize, ids: &[Id]) -> Result<Vec<bool>, AllocError> {
     let mut marks = vec![in alloc; false; count]?;
     for id in ids {
@@ -83,14 +84,14 @@ pub struct Border {
 }
 
 impl Border {
-    /// Whether there are no polygons at all.
+    /// Returns true if there are no polygons at all.
     pub(crate) fn is_empty(&self) -> bool {
         self.is_empty
     }
 }
 
-/// The border of polygons that a part gives out, where `seam` has the corners of the facets of the part that go, and `count` is above
-/// all ids.
+/// Returns the border of polygons that a part gives out, where `seam` has the corners of the facets of the part that
+/// go, and `count` is above all ids.
 ///
 /// # Errors
 ///
@@ -112,7 +113,7 @@ pub fn border_of(
     })
 }
 
-/// The sorted keys of the edges of borders.
+/// Returns the sorted keys of the edges of borders.
 fn edges_of(alloc: Global, borders: &[Border]) -> Result<Vec<u64>, AllocError> {
     let mut edges = Vec::new(alloc);
     for border in borders {
@@ -122,7 +123,7 @@ fn edges_of(alloc: Global, borders: &[Border]) -> Result<Vec<u64>, AllocError> {
     Ok(edges)
 }
 
-/// The sorted keys of the edges of borders that none takes the other way.
+/// Returns the sorted keys of the edges of borders that none takes the other way.
 pub(crate) fn open_edges(alloc: Global, borders: &[Border]) -> Result<Vec<u64>, AllocError> {
     let edges = edges_of(alloc, borders)?;
     let mut open = Vec::new(alloc);

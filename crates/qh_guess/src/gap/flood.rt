@@ -17,13 +17,13 @@ struct Sides {
     keys: Vec<u128>,
 }
 
-/// An edge and the position of a polygon in one.
+/// Returns an edge and the position of a polygon in one.
 fn side_key(edge: u64, position: u64) -> u128 {
     u128::from(edge) << 64 | u128::from(position)
 }
 
 impl Sides {
-    /// The edges of polygons.
+    /// Returns the edges of polygons.
     fn of(alloc: Global, polygons: &[Polygon]) -> Result<Sides, AllocError> {
         let mut keys = Vec::new(alloc);
         let mut edges = Vec::new(alloc);
@@ -38,7 +38,7 @@ impl Sides {
         Ok(Sides { keys })
     }
 
-    /// The position of a polygon that has an edge.
+    /// Returns the position of a polygon that has an edge.
     fn polygon_of(&self, edge: u64) -> Option<usize> {
         let least = side_key(edge, 0);
         let place = self.keys.partition_point(|key| *key < least);
@@ -51,7 +51,8 @@ impl Sides {
     }
 }
 
-/// A hull that open edges are led to, with marks of its polygons that are taken, and their positions in the order in which they were.
+/// A hull that open edges are led to, with marks of its polygons that are taken, and their positions in the order
+/// in which they were.
 #[derive(Drop)]
 struct Flood<'a> {
     polygons: &'a [Polygon],
@@ -64,7 +65,8 @@ struct Flood<'a> {
 }
 
 impl Flood<'_> {
-    /// Takes the polygon at a position, if it is not taken yet: the edges against its own are wanted, unless they are open.
+    /// Takes the polygon at a position, if it is not taken yet: the edges against its own are wanted, unless they
+    /// are open.
     fn take(&mut self, position: usize, edges: &mut Vec<u64>) -> Result<(), AllocError> {
         let Some(taken) = self.taken.get_mut(position) else {
             return Ok(());
@@ -105,8 +107,8 @@ impl Flood<'_> {
     }
 }
 
-/// The positions of the polygons that the open edges lead to, mostly neighbours one after the other; none where they lead to an edge
-/// that no polygon has.
+/// Returns the positions of the polygons that the open edges lead to, mostly neighbours one after the other; none
+/// where they lead to an edge that no polygon has.
 fn reached(
     alloc: Global,
     polygons: &[Polygon],
@@ -128,7 +130,7 @@ fn reached(
     Ok(if is_closed { Some(flood.order) } else { None })
 }
 
-/// The ids of a list that are indices of points.
+/// Returns the ids of a list that are indices of points.
 fn indices_among(alloc: Global, pts: &[Point], ids: &[Id]) -> Result<Vec<Id>, AllocError>
     ensures { IfOk result (λ v. AreIndices pts.now v.items) }
 {
@@ -156,9 +158,9 @@ fn polygons_at(
     Ok(copies)
 }
 
-/// The polygons that close the gap between borders, by the hull of the ids of the seam: all corners beside the gap. They
-/// begin at their least ids, and mostly neighbours follow each other. None where the open edges lead to an edge that no polygon of that hull has. Where no border has a
-/// polygon, all polygons of that hull are taken.
+/// Returns the polygons that close the gap between borders, by the hull of the ids of the seam: all corners beside
+/// the gap. They begin at their least ids, and mostly neighbours follow each other. None where the open edges lead to
+/// an edge that no polygon of that hull has. Where no border has a polygon, all polygons of that hull are taken.
 ///
 /// # Errors
 ///
@@ -185,7 +187,7 @@ pub fn bridge_over(
     Ok(Some(polygons_at(alloc, &polygons, &order)?))
 }
 
-/// The polygons that close the gap between given ones, as [`bridge_over`] finds them.
+/// Returns the polygons that close the gap between given ones, as [`bridge_over`] finds them.
 ///
 /// # Errors
 ///

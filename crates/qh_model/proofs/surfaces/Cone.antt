@@ -2,7 +2,7 @@
 use Rattle.qh_model.specs.contract.Surface.{IsCorner, Side, Surface, HasTwin, IsWhole, end, rise, start, rest}
 use Rattle.qh_model.specs.steps.FarCorners.{far}
 use Rattle.qh_model.specs.headline.Sets.{In}
-use Rattle.qh_model.specs.contract.SoundSurface.{IsInner, IsStrictWhenDrawn, IsSound, IsStrict, drawn, towards}
+use Rattle.qh_model.specs.contract.SoundSurface.{IsInner, IsStrictWhenPerturbed, IsSound, IsStrict, perturbed, towards}
 use Rattle.qh_model.specs.contract.Weighted.{Weighted, above}
 use Rattle.std.proofs.Common.{◌≡◌, ◌≢◌, ℕ, ◌+◌, ◌≤◌, refl, arith, ap, sym, ◌∙◌, subst, ◌⊎◌, inl, inr}
 use native.Mathlib.Decide.{ℕ_discrete}
@@ -11,7 +11,7 @@ use Rattle.std.specs.Prelude.{ℤ, pos, ◌-ℤ◌, ◌*ℤ◌, ◌≤ℤ◌, �
 use Rattle.qh_model.proofs.algebra.Order.{mul-pos, mul-nonneg, mul-nonneg_nonpos, mul-nonpos_nonneg, mul-nonpos, mul-neg_pos, mul-pos_neg}
 use Rattle.qh_model.proofs.algebra.Order.{positive_le, negative_le}
 use Rattle.qh_model.proofs.algebra.Signs.{not_less, equal_negative}
-use Rattle.qh_model.proofs.surfaces.{DrawnInwards.Choice, DrawnInwards.choose, PlanesThroughLine.line_product, Connected.cert}
+use Rattle.qh_model.proofs.surfaces.{PerturbedInwards.Choice, PerturbedInwards.choose, PlanesThroughLine.line_product, Connected.cert}
 use Rattle.qh_model.proofs.surfaces.Facets.{corner_start, corner_end, corner_rest, corner_cases, corner_test, far_apart, weak, bends}
 use Rattle.qh_model.proofs.surfaces.Facets.{side_rise, far_rise, side_seen, side_blind, side_below, far_seen, far_blind, far_below}
 
@@ -247,11 +247,11 @@ module _ {m m' : Surface} {home : ℕ → Weighted} {o : Weighted} {p : ℕ} (w 
       from (inl k) = equal_negative _ _ (kept_rise k home o) (q.inner f' k.live)
       from (inr n) = equal_negative _ _ (cone_rise n home o) (cone_inside n).1
 
-  -- all is strict again, with p drawn inwards far more than the others
-  pub lifted_kept : IsStrictWhenDrawn m' home o
+  -- all is strict again, with p perturbed inwards far more than the others
+  pub lifted_kept : IsStrictWhenPerturbed m' home o
   lifted_kept = record { h = h; from = t.from + ch.from; strict = λ n b. strict n (omega (arith, b)) (omega (arith, b)) }
     where
-      t : IsStrictWhenDrawn m home o
+      t : IsStrictWhenPerturbed m home o
       t = q.lifted
 
       ch : Choice m home o t.h (home p)
@@ -260,26 +260,26 @@ module _ {m m' : Surface} {home : ℕ → Weighted} {o : Weighted} {p : ℕ} (w 
       h : ℕ → ℕ
       h = with_share t.h p ch.k
 
-      at_p : (n : ℕ) → drawn home o h n p ≡ towards o (pos n) (home p) (pos ch.k)
+      at_p : (n : ℕ) → perturbed home o h n p ≡ towards o (pos n) (home p) (pos ch.k)
       at_p n = ap (λ v. towards o (pos n) (home p) (pos v)) (share_p t.h p ch.k)
 
-      at_old : (n l : ℕ) → Old m l → drawn home o h n l ≡ drawn home o t.h n l
+      at_old : (n l : ℕ) → Old m l → perturbed home o h n l ≡ perturbed home o t.h n l
       at_old n l k = ap (λ v. towards o (pos n) (home l) (pos v)) (share_other t.h p ch.k l (λ e. p_fresh (subst (Old m) e k)))
 
-      kept_as : (n f' : ℕ) → KeptOf m m' home p f' → (y : Weighted) → rise m (drawn home o t.h n) f' y ≡ rise m' (drawn home o h n) f' y
+      kept_as : (n f' : ℕ) → KeptOf m m' home p f' → (y : Weighted) → rise m (perturbed home o t.h n) f' y ≡ rise m' (perturbed home o h n) f' y
       kept_as n f k y =
-          let same : (l : ℕ) → IsCorner m f l → drawn home o t.h n l ≡ drawn home o h n l = λ l c. sym (at_old n l (f, k.live, c)) in
+          let same : (l : ℕ) → IsCorner m f l → perturbed home o t.h n l ≡ perturbed home o h n l = λ l c. sym (at_old n l (f, k.live, c)) in
           rw (same (m.i f) (inl refl), same (m.j f) (inr (inl refl)), same (m.k f) (inr (inr refl)))
-          (kept_rise k (drawn home o h n) y)
+          (kept_rise k (perturbed home o h n) y)
 
-      strict : (n : ℕ) → t.from ≤ n → ch.from ≤ n → IsStrict m' (drawn home o h n)
+      strict : (n : ℕ) → t.from ≤ n → ch.from ≤ n → IsStrict m' (perturbed home o h n)
       strict n b1 b2 f' g' i j l c nc = below (r.origin f' i) (old_or_apex r g' l j c)
         where
           at : ℕ → Weighted
-          at = drawn home o t.h n
+          at = perturbed home o t.h n
 
           at' : ℕ → Weighted
-          at' = drawn home o h n
+          at' = perturbed home o h n
 
           top : Weighted
           top = towards o (pos n) (home p) (pos ch.k)

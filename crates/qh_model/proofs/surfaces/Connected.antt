@@ -1,9 +1,9 @@
--- Surfaces whose corners may be drawn inwards so that all is strict: what a real point sees hangs together.
+-- Surfaces whose corners may be perturbed inwards so that all is strict: what a real point sees hangs together.
 use Rattle.qh_model.specs.contract.Surface.{IsCorner, Side, Surface, HasTwin, IsWhole, start, end, rest, rise}
 use Rattle.qh_model.specs.contract.Surface.Side.{first, second, third}
 use Rattle.qh_model.specs.steps.FarCorners.{far}
 use Rattle.qh_model.specs.headline.Sets.{In}
-use Rattle.qh_model.specs.contract.SoundSurface.{HasDistinctFacets, IsInner, IsStrict, IsStrictWhenDrawn, IsSound, drawn, towards}
+use Rattle.qh_model.specs.contract.SoundSurface.{HasDistinctFacets, IsInner, IsStrict, IsStrictWhenPerturbed, IsSound, perturbed, towards}
 use Rattle.qh_model.specs.contract.Weighted.{Weighted, weighted_dot, plane_of}
 use Rattle.std.proofs.Common.{◌≡◌, ◌≢◌, ℕ, zero, suc, ◌+◌, arith, refl, ap, sym, ◌∙◌, subst, inl, inr, Bool, true, false}
 use Rattle.std.proofs.lemmas.{Int.ints, Int.by_lt_z, Bool.and_parts, Bool.both_ways, Bool.not-true}
@@ -11,7 +11,7 @@ use Rattle.std.specs.Prelude.{ℤ, pos, negsuc, ◌+ℤ◌, ◌*ℤ◌, neg_ℤ,
 use Rattle.qh_model.proofs.algebra.{Order.mul-pos, Signs.not_less, Signs.less_one_way}
 use Rattle.qh_model.proofs.surfaces.VisibleFacets.{Corners, Over, Cut, none_cut_off}
 use Rattle.qh_model.proofs.surfaces.Facets.{rise_side, rise_over, weak, middle, middle_on, middle_weak, middle_below, bends, plane-is}
-use Rattle.qh_model.proofs.surfaces.DrawnInwards.{tilt, above-drawn_all, Choice, choose, size, size_le, cube, scale}
+use Rattle.qh_model.proofs.surfaces.PerturbedInwards.{tilt, above-perturbed_all, Choice, choose, size, size_le, cube, scale}
 
 -- the corners of a facet at their places
 abbrev pub placed : Surface → (ℕ → Weighted) → ℕ → Corners
@@ -125,7 +125,7 @@ connected_at m at real o w n h d p sees up down c r f i e = reached (c f) refl
         (plane-is (at (m.i r.f0)) (at (m.j r.f0)) (at (m.k r.f0)) y ∙ middle_on m at r.f0)
         cut f i (marked f e q))
 
--- ---- drawn inwards
+-- ---- perturbed inwards
 -- does the facet see p?
 abbrev pub sees : Surface → (ℕ → Weighted) → Weighted → ℕ → Bool
 sees m home p f = positive (rise m home f p)
@@ -135,9 +135,9 @@ pub connected : (m : Surface) (home : ℕ → Weighted) (o : Weighted) → IsWho
     → (p : Weighted) (c : ℕ → Bool) → Grown m (sees m home p) c → (f : ℕ) → In f m.live → pos 0 <ℤ rise m home f p → c f ≡ true
 connected m home o w s p c g f i q =
     connected_at m at home o w s.inner (l.strict n (omega arith)) s.distinct top (sees m home p)
-    (λ f j e. ch.up n (omega arith) f j (positive-is (rise m home f p) e)) drawn_back c g f i (positive-true (rise m home f p) q)
+    (λ f j e. ch.up n (omega arith) f j (positive-is (rise m home f p) e)) perturbed_back c g f i (positive-true (rise m home f p) q)
   where
-    l : IsStrictWhenDrawn m home o
+    l : IsStrictWhenPerturbed m home o
     l = s.lifted
 
     ch : Choice m home o l.h p
@@ -147,22 +147,22 @@ connected m home o w s p c g f i q =
     n = l.from + ch.from
 
     at : ℕ → Weighted
-    at = drawn home o l.h n
+    at = perturbed home o l.h n
 
     top : Weighted
     top = towards o (pos n) p (pos ch.k)
 
-    drawn_back : (f : ℕ) → In f m.live → pos 0 <ℤ rise m at f top → sees m home p f ≡ true
-    drawn_back f j e =
+    perturbed_back : (f : ℕ) → In f m.live → pos 0 <ℤ rise m at f top → sees m home p f ≡ true
+    perturbed_back f j e =
         by_lt_z (pos 0) (rise m home f p) (positive-true (rise m home f p))
         (λ k. absurd (less_one_way _ _ e (ch.down n (omega arith) f j k)))
 
 -- no corner is above a facet
-pub cert : (m : Surface) (home : ℕ → Weighted) (o : Weighted) → IsStrictWhenDrawn m home o
+pub cert : (m : Surface) (home : ℕ → Weighted) (o : Weighted) → IsStrictWhenPerturbed m home o
     → (f g : ℕ) → In f m.live → In g m.live → (l : ℕ) → IsCorner m g l → rise m home f (home l) ≤ℤ pos 0
 cert m home o t f g i j l c =
     by_lt_z (pos 0) (rise m home f (home l))
-    (λ q. absurd (not_less _ _ (drawn_above q) (weak m (drawn home o t.h n) (t.strict n (omega arith)) f g i j l c)))
+    (λ q. absurd (not_less _ _ (perturbed_above q) (weak m (perturbed home o t.h n) (t.strict n (omega arith)) f g i j l c)))
     (λ q. q)
   where
     h : ℕ → ℤ
@@ -174,13 +174,13 @@ cert m home o t f g i j l c =
     n : ℕ
     n = t.from + suc (suc (size e))
 
-    drawn_above : pos 0 <ℤ rise m home f (home l) → pos 0 <ℤ rise m (drawn home o t.h n) f (drawn home o t.h n l)
-    drawn_above q =
+    perturbed_above : pos 0 <ℤ rise m home f (home l) → pos 0 <ℤ rise m (perturbed home o t.h n) f (perturbed home o t.h n l)
+    perturbed_above q =
         subst (λ v. pos 0 <ℤ v) (sym value) (mul-pos _ _ (cube (suc (size e)) n (omega arith))
         (scale e (rise m home f (home l)) (suc (size e)) n (under e) (omega arith) q))
       where
         under : (x : ℤ) → neg_ℤ x <ℤ pos (suc (size x))
         under x = let b = size_le x in omega (arith, ints, b.1)
 
-        value : rise m (drawn home o t.h n) f (drawn home o t.h n l) ≡ pos n *ℤ pos n *ℤ pos n *ℤ (pos n *ℤ rise m home f (home l) +ℤ e)
-        value = above-drawn_all o (home (m.i f)) (home (m.j f)) (home (m.k f)) (home l) (pos n) (h (m.i f)) (h (m.j f)) (h (m.k f)) (h l)
+        value : rise m (perturbed home o t.h n) f (perturbed home o t.h n l) ≡ pos n *ℤ pos n *ℤ pos n *ℤ (pos n *ℤ rise m home f (home l) +ℤ e)
+        value = above-perturbed_all o (home (m.i f)) (home (m.j f)) (home (m.k f)) (home l) (pos n) (h (m.i f)) (h (m.j f)) (h (m.k f)) (h l)

@@ -14,11 +14,11 @@ use Rattle.qh_model.proofs.algebra.Integers.{one_mul, neg_mul, mul_comm}
 use Rattle.qh_model.proofs.algebra.Ring.Expr.{var, add, mul}
 use Rattle.qh_model.proofs.surfaces.{CramersRule.cramer_level, Located.Located, Located.located, Located.shares, Located.mix}
 use Rattle.qh_model.proofs.surfaces.Facets.{rise_own, sum4, sum_blind, sum_level, level_parts, plane-is}
-use Rattle.qh_model.proofs.surfaces.DrawnInwards.{towardsE, bound, share, scale}
+use Rattle.qh_model.proofs.surfaces.PerturbedInwards.{towardsE, bound, share, scale}
 use Rattle.qh_model.proofs.surfaces.Determinants.{above_of, quad, aboveE, put4, above-first, above-second, above-third}
 use Rattle.qh_model.specs.contract.Surface.Side.{first, second, third}
 
--- a point drawn, as the last
+-- a point perturbed, as the last
 pub above-last : (a b c p o : Weighted) (n k : ℤ) → above a b c (towards o n p k) ≡ n *ℤ above a b c p +ℤ k *ℤ above a b c o
 unfolding above
 above-last a b c p o n k =

@@ -6,7 +6,7 @@ use Rattle.qh_model.specs.contract.{Weighted.Weighted, Surface.Surface, Surface.
 use Rattle.qh_model.specs.contract.FinishedSurface.{weighted_at, middle_at, IsFinished}
 use Rattle.qh_model.specs.laws.FacetPlanes.{IsLevelWith, IsLevelFacet, IsPlaneWalk, LevelFacetsSpan, PlaneWalkFindsAll}
 use Rattle.qh_model.proofs.algebra.{VectorIdentities.vol-first, VectorIdentities.vol-second, VectorIdentities.vol-third, Signs.equal_le}
-use Rattle.qh_model.proofs.surfaces.{DrawnInwards.bound, SurfaceLaws.rise_is_vol, SurfaceLaws.walk_finds_all}
+use Rattle.qh_model.proofs.surfaces.{PerturbedInwards.bound, SurfaceLaws.rise_is_vol, SurfaceLaws.walk_finds_all}
 use Rattle.qh_model.proofs.surfaces.Facets.{middle, of_corners, sum_blind, sum_level, level_parts}
 use Rattle.qh_model.proofs.surfaces.CoveredPlanes.{beyond, on_sees_beyond, sees_beyond_on}
 use Rattle.qh_model.proofs.surfaces.Finished.{one_plane, unseen_above, facets_support}

@@ -1,7 +1,7 @@
 -- The horizon: where one side of it ends exactly one begins, and the other way round.
 use Rattle.qh_model.specs.contract.{Rewired.IsHorizonSide, Weighted.Weighted, Weighted.above}
 use Rattle.qh_model.specs.contract.Surface.{Side, Surface, IsWhole, end, rise, start}
-use Rattle.qh_model.specs.contract.SoundSurface.{IsSound, drawn, towards}
+use Rattle.qh_model.specs.contract.SoundSurface.{IsSound, perturbed, towards}
 use Rattle.qh_model.specs.contract.Surface.Side.{first, second, third}
 use Rattle.qh_model.specs.laws.Horizons.{HasHorizonSide}
 use Rattle.qh_model.specs.headline.Sets.{In}
@@ -12,8 +12,8 @@ use Rattle.std.proofs.lemmas.Int.{by_lt_z}
 use Rattle.std.specs.Prelude.{pos, ◌≤ℤ◌, ◌<ℤ◌}
 use Rattle.qh_model.proofs.algebra.Signs.{less_one_way, opposite_positive}
 use Rattle.qh_model.proofs.lists.{Joined.in_flat_map, Searches.comes_back}
-use Rattle.qh_model.proofs.surfaces.{Facets.corner_start, Facets.ends_differ, DrawnInwards.Choice, DrawnInwards.choose, Determinants.swap14}
-use Rattle.qh_model.proofs.surfaces.DrawnHorizon.{Scene, HorizonSide, Joined, horizon_below, horizon_once, horizon_next}
+use Rattle.qh_model.proofs.surfaces.{Facets.corner_start, Facets.ends_differ, PerturbedInwards.Choice, PerturbedInwards.choose, Determinants.swap14}
+use Rattle.qh_model.proofs.surfaces.PerturbedHorizon.{Scene, HorizonSide, Joined, horizon_below, horizon_once, horizon_next}
 
 -- ---- and where it starts another ends
 -- a horizon side that ends at u
@@ -105,7 +105,7 @@ module _ (m : Surface) (home : ℕ → Weighted) (o : Weighted) (w : IsWhole m) 
       n = z.lifted.from + ch.from
 
       at : ℕ → Weighted
-      at = drawn home o z.lifted.h n
+      at = perturbed home o z.lifted.h n
 
       top : Weighted
       top = towards o (pos n) p (pos ch.k)

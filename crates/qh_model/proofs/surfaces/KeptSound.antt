@@ -1,6 +1,6 @@
 -- What a surface keeps where a cone replaces the facets that see an id, and which points see none of it.
 use Rattle.qh_model.specs.contract.Surface.{IsCorner, Side, Surface, HasTwin, IsWhole, end, rise, start, rest}
-use Rattle.qh_model.specs.contract.SoundSurface.{HasDistinctFacets, IsInner, IsSound, IsStrict, drawn}
+use Rattle.qh_model.specs.contract.SoundSurface.{HasDistinctFacets, IsInner, IsSound, IsStrict, perturbed}
 use Rattle.qh_model.specs.headline.Sets.{In}
 use Rattle.qh_model.specs.contract.Weighted.{Weighted}
 use Rattle.std.proofs.Common.{◌≡◌, ◌≢◌, ℕ, refl, arith, ap, sym, ◌∙◌, subst, ◌⊎◌, inl, inr}
@@ -29,7 +29,7 @@ pub edge_once : (m : Surface) (home : ℕ → Weighted) (o : Weighted) → IsSou
 edge_once m home o q f g i j s t e1 e2 = same (corner_test m f (rest m g t)) (corner_test m g (rest m f s))
   where
     at : ℕ → Weighted
-    at = drawn home o q.lifted.h q.lifted.from
+    at = perturbed home o q.lifted.h q.lifted.from
 
     st : IsStrict m at
     st = q.lifted.strict q.lifted.from (omega arith)

@@ -2,7 +2,7 @@
 use Rattle.qh_model.specs.headline.Sets.{In}
 use Rattle.qh_model.specs.contract.Surface.{Side, Surface, IsWhole, end, rise, start, rest}
 use Rattle.qh_model.specs.steps.FarCorners.{far}
-use Rattle.qh_model.specs.contract.SoundSurface.{IsSound, IsStrict, drawn, towards}
+use Rattle.qh_model.specs.contract.SoundSurface.{IsSound, IsStrict, perturbed, towards}
 use Rattle.qh_model.specs.contract.Weighted.{Weighted, weighted_dot, above}
 use Rattle.qh_model.specs.contract.Surface.Side.{first, second, third}
 use Rattle.std.proofs.Common.{◌∙◌, ◌≡◌, ℕ, suc, refl, [], ◌∷◌, arith, sym, subst, ◌⊎◌, inl, inr, true}
@@ -12,7 +12,7 @@ use Rattle.qh_model.proofs.algebra.{Integers.neg_mul, Ring.ring}
 use Rattle.qh_model.proofs.algebra.Order.{mul-pos, cancel-nonpos, mul-pos_neg, neg-positive, neg-nonneg}
 use Rattle.qh_model.proofs.algebra.Ring.Expr.{var, sub as less, mul, neg}
 use Rattle.qh_model.proofs.surfaces.{VisibleFacets.Least, VisibleFacets.least, VisibleFacets.crosses, Facets.side_rise, Facets.rise_side}
-use Rattle.qh_model.proofs.surfaces.{Facets.rise_over, Facets.bends, DrawnInwards.towardsE, DrawnInwards.cube, CramersRule.cramer}
+use Rattle.qh_model.proofs.surfaces.{Facets.rise_over, Facets.bends, PerturbedInwards.towardsE, PerturbedInwards.cube, CramersRule.cramer}
 use Rattle.qh_model.proofs.surfaces.Determinants.{above_of, quad, aboveE, put4, above-turn}
 
 -- the facet over which x lies: x is beyond none of the planes through o and a side
@@ -22,18 +22,18 @@ pub record Located (m : Surface) (home : ℕ → Weighted) (o x : Weighted) : Ty
   pub within : (s : Side) → above (home (start m f s)) (home (end m f s)) x o ≤ℤ pos 0
 
 -- drawing towards o moves nothing as seen from o
-above-drawn : (o a b x : Weighted) (n h i : ℤ) → above (towards o n a h) (towards o n b i) x o ≡ n *ℤ n *ℤ above a b x o
+above-perturbed : (o a b x : Weighted) (n h i : ℤ) → above (towards o n a h) (towards o n b i) x o ≡ n *ℤ n *ℤ above a b x o
 unfolding above
-above-drawn o a b x n h i =
+above-perturbed o a b x n h i =
     ring (put4 o (put4 a (put4 b (put4 x (n ∷ h ∷ i ∷ [])))))
     (aboveE (towardsE (quad 0) (var 16) (quad 1) (var 17)) (towardsE (quad 0) (var 16) (quad 2) (var 18)) (quad 3) (quad 0))
     (mul (mul (var 16) (var 16)) (above_of 1 2 3 0)) refl
 
--- three drawn corners
-above-drawn3 : (o a b c : Weighted) (n h i j : ℤ)
+-- three perturbed corners
+above-perturbed3 : (o a b c : Weighted) (n h i j : ℤ)
     → above (towards o n a h) (towards o n b i) (towards o n c j) o ≡ n *ℤ n *ℤ n *ℤ above a b c o
 unfolding above
-above-drawn3 o a b c n h i j =
+above-perturbed3 o a b c n h i j =
     ring (put4 o (put4 a (put4 b (put4 c (n ∷ h ∷ i ∷ j ∷ [])))))
     (aboveE (towardsE (quad 0) (var 16) (quad 1) (var 17)) (towardsE (quad 0) (var 16) (quad 2) (var 18))
     (towardsE (quad 0) (var 16) (quad 3) (var 19)) (quad 0))
@@ -52,7 +52,7 @@ located m home o w z f0 i0 x =
     h l = pos (z.lifted.h l)
 
     at : ℕ → Weighted
-    at = drawn home o z.lifted.h n
+    at = perturbed home o z.lifted.h n
 
     st : IsStrict m at
     st = z.lifted.strict n (omega arith)
@@ -63,7 +63,7 @@ located m home o w z f0 i0 x =
     inside : (g : ℕ) → In g m.live → rise m at g o <ℤ pos 0
     inside g i =
         subst (λ v. v <ℤ pos 0)
-        (sym (above-drawn3 o (home (m.i g)) (home (m.j g)) (home (m.k g)) (pos n) (h (m.i g)) (h (m.j g)) (h (m.k g))))
+        (sym (above-perturbed3 o (home (m.i g)) (home (m.j g)) (home (m.k g)) (pos n) (h (m.i g)) (h (m.j g)) (h (m.k g))))
         (mul-pos_neg (pos n *ℤ pos n *ℤ pos n) (rise m home g o) (cube z.lifted.from n (omega arith)) (z.inner g i))
 
     swap : (a b c d : ℤ) → a *ℤ b -ℤ c *ℤ d ≡ neg_ℤ c *ℤ d -ℤ a *ℤ neg_ℤ b
@@ -79,7 +79,7 @@ located m home o w z f0 i0 x =
         side : (s : Side) → above (home (start m l.m s)) (home (end m l.m s)) x o ≤ℤ pos 0
         side s =
             cancel-nonpos (pos n *ℤ pos n) _ (mul-pos (pos n) (pos n) scale scale)
-            (subst (λ v. v ≤ℤ pos 0) (above-drawn o (home u) (home v) x (pos n) (h u) (h v)) low)
+            (subst (λ v. v ≤ℤ pos 0) (above-perturbed o (home u) (home v) x (pos n) (h u) (h v)) low)
           where
             u : ℕ
             u = start m l.m s

@@ -9,7 +9,7 @@ use Rattle.qh_model.specs.headline.{Vector.Vector, Vector.origin, Predicates.pla
 use Rattle.qh_model.specs.contract.{Weighted.Weighted, Weighted.weighted, Weighted.middle_of, Weighted.above, Simplex.one_of}
 use Rattle.qh_model.specs.contract.{Simplex.by_side, FinishedSurface.weighted_at, FinishedSurface.middle_at, FinishedSurface.IsFinished}
 use Rattle.qh_model.specs.contract.Surface.{Side, Surface, start, end, IsCorner, HasTwin, IsWhole, rise}
-use Rattle.qh_model.specs.contract.SoundSurface.{IsStrict, HasDistinctFacets, IsSound, towards, drawn}
+use Rattle.qh_model.specs.contract.SoundSurface.{IsStrict, HasDistinctFacets, IsSound, towards, perturbed}
 use Rattle.qh_model.specs.contract.StoredSurface.{StoredFacet, named_facet, facet_at, live_from, surface_of}
 use Rattle.qh_model.specs.contract.Surface.Side.{first, second, third}
 use Rattle.qh_model.proofs.lists.{Images.in_map, Images.of_map, Ranges.range_below, Ranges.range_named}
@@ -148,15 +148,15 @@ module _ {m m' : Surface} {name : ℕ → ℕ} (r : IsNamed m m' name) where
     lifted = record {
       h = share;
       from = z.lifted.from;
-      strict = λ n e. strict_named (drawn home o z.lifted.h n) (drawn home' o share n) (drawn_placed n) (z.lifted.strict n e);
+      strict = λ n e. strict_named (perturbed home o z.lifted.h n) (perturbed home' o share n) (perturbed_placed n) (z.lifted.strict n e);
     };
   }
     where
       share : ℕ → ℕ
       share l = z.lifted.h (position l)
 
-      drawn_placed : (n : ℕ) → ArePlaced m (drawn home o z.lifted.h n) (drawn home' o share n) name
-      drawn_placed n f i l c = λ k. towards o (pos n) (p f i l c k) (pos (z.lifted.h (b f i l c k)))
+      perturbed_placed : (n : ℕ) → ArePlaced m (perturbed home o z.lifted.h n) (perturbed home' o share n) name
+      perturbed_placed n f i l c = λ k. towards o (pos n) (p f i l c k) (pos (z.lifted.h (b f i l c k)))
 
 -- ---- the law
 -- a surface finished over numbers is finished over their names

@@ -1,12 +1,12 @@
 -- The first simplex.
 use Rattle.qh_model.specs.contract.{Surface.IsCorner, Surface.Surface, Surface.rise, Weighted.Weighted, Weighted.above}
-use Rattle.qh_model.specs.contract.SoundSurface.{HasDistinctFacets, IsInner, IsSound, IsStrict, drawn}
+use Rattle.qh_model.specs.contract.SoundSurface.{HasDistinctFacets, IsInner, IsSound, IsStrict, perturbed}
 use Rattle.qh_model.specs.laws.SimplexSurface.{IsSimplexBoundary}
 use Rattle.std.proofs.Common.{ap, ◌≡◌, ℕ, ◌≤◌, arith, sym, ◌∙◌, subst, ◌⊎◌, inl, inr}
 use Rattle.std.proofs.lemmas.Int.{ints}
 use Rattle.std.specs.Prelude.{ℤ, pos, ◌+ℤ◌, ◌*ℤ◌, ◌<ℤ◌}
 use Rattle.qh_model.proofs.algebra.{Order.mul-pos_neg, Signs.less_differ}
-use Rattle.qh_model.proofs.surfaces.{Facets.rise_own, DrawnInwards.above-drawn_all, DrawnInwards.cube}
+use Rattle.qh_model.proofs.surfaces.{Facets.rise_own, PerturbedInwards.above-perturbed_all, PerturbedInwards.cube}
 
 module _ (m : Surface) (home : ℕ → Weighted) (r : IsSimplexBoundary m home) where
   -- all is strict as it stands
@@ -26,8 +26,8 @@ module _ (m : Surface) (home : ℕ → Weighted) (r : IsSimplexBoundary m home) 
       same (inr e) = r.once f g i j (sym e)
 
 -- with no share at all
-strict_drawn : (m : Surface) (home : ℕ → Weighted) (o : Weighted) → IsStrict m home → (n : ℕ) → 1 ≤ n → IsStrict m (drawn home o (λ l. 0) n)
-strict_drawn m home o st n b f g i j l c nc =
+strict_perturbed : (m : Surface) (home : ℕ → Weighted) (o : Weighted) → IsStrict m home → (n : ℕ) → 1 ≤ n → IsStrict m (perturbed home o (λ l. 0) n)
+strict_perturbed m home o st n b f g i j l c nc =
     subst (λ v. v <ℤ pos 0) (sym value)
     (mul-pos_neg (pos n *ℤ pos n *ℤ pos n) _ (cube 0 n b) (mul-pos_neg (pos n) _ (omega (arith, ints)) (st f g i j l c nc)))
   where
@@ -38,10 +38,10 @@ strict_drawn m home o st n b f g i j l c nc =
         plain : (x a b c d : ℤ) → x +ℤ (pos 0 *ℤ a +ℤ pos 0 *ℤ b +ℤ pos 0 *ℤ c +ℤ pos 0 *ℤ d) ≡ x
         plain x a b c d = omega (arith, ints)
 
-    value : rise m (drawn home o (λ l. 0) n) f (drawn home o (λ l. 0) n l) ≡ pos n *ℤ pos n *ℤ pos n *ℤ (pos n *ℤ rise m home f (home l))
+    value : rise m (perturbed home o (λ l. 0) n) f (perturbed home o (λ l. 0) n l) ≡ pos n *ℤ pos n *ℤ pos n *ℤ (pos n *ℤ rise m home f (home l))
     value =
         let p = home (m.i f) in let q = home (m.j f) in let r = home (m.k f) in let y = home l in
-        above-drawn_all o p q r y (pos n) (pos 0) (pos 0) (pos 0) (pos 0)
+        above-perturbed_all o p q r y (pos n) (pos 0) (pos 0) (pos 0) (pos 0)
         ∙ no_tilt (pos n) (above p q r y) (above o q r y) (above p o r y) (above p q o y) (above p q r o)
 
 -- THEOREM: the first simplex has it
@@ -50,5 +50,5 @@ pub simplex_boundary_sound : (m : Surface) (home : ℕ → Weighted) (o : Weight
 simplex_boundary_sound m home o i r = record {
   inner = i;
   distinct = distinct_home m home r;
-  lifted = record { h = λ l. 0; from = 1; strict = strict_drawn m home o (strict_home m home r) };
+  lifted = record { h = λ l. 0; from = 1; strict = strict_perturbed m home o (strict_home m home r) };
 }

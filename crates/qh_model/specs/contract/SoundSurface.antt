@@ -1,4 +1,4 @@
--- Sound surfaces: strictly convex as soon as their corners are drawn a very little towards an inner point,
+-- Sound surfaces: strictly convex as soon as their corners are perturbed a very little towards an inner point,
 -- each by a share of its own. Level facets and points are so told apart with no special case.
 -- Source: simulation of simplicity, Edelsbrunner and Mücke 1990, here along lines to one inner point.
 use Rattle.std.specs.Prelude.{◌≡◌, ℕ, ◌≤◌, ℤ, pos, ◌+ℤ◌, ◌*ℤ◌, ◌<ℤ◌}
@@ -18,22 +18,22 @@ IsInner m at c = (f : ℕ) → In f m.live → rise m at f c <ℤ pos 0
 abbrev pub HasDistinctFacets : Surface → Type 0
 HasDistinctFacets m = (f g : ℕ) → In f m.live → In g m.live → ((l : ℕ) → IsCorner m f l → IsCorner m g l) → f ≡ g
 
--- p drawn towards o, by k to n
+-- p perturbed towards o, by k to n
 abbrev pub towards : Weighted → ℤ → Weighted → ℤ → Weighted
 towards o n p k = record { w = n *ℤ p.w +ℤ k *ℤ o.w; x = n *ℤ p.x +ℤ k *ℤ o.x; y = n *ℤ p.y +ℤ k *ℤ o.y; z = n *ℤ p.z +ℤ k *ℤ o.z }
 
--- each place drawn towards o by its own share h, at scale n
-abbrev pub drawn : (home : ℕ → Weighted) (o : Weighted) (h : ℕ → ℕ) (n : ℕ) → ℕ → Weighted
-drawn home o h n l = towards o (pos n) (home l) (pos (h l))
+-- each place perturbed towards o by its own share h, at scale n
+abbrev pub perturbed : (home : ℕ → Weighted) (o : Weighted) (h : ℕ → ℕ) (n : ℕ) → ℕ → Weighted
+perturbed home o h n l = towards o (pos n) (home l) (pos (h l))
 
--- shares by which the corners are drawn towards o, and a scale from which on all is strict
-pub record IsStrictWhenDrawn (m : Surface) (home : ℕ → Weighted) (o : Weighted) : Type 0 where
+-- shares by which the corners are perturbed towards o, and a scale from which on all is strict
+pub record IsStrictWhenPerturbed (m : Surface) (home : ℕ → Weighted) (o : Weighted) : Type 0 where
   pub h : ℕ → ℕ
   pub from : ℕ
-  pub strict : (n : ℕ) → from ≤ n → IsStrict m (drawn home o h n)
+  pub strict : (n : ℕ) → from ≤ n → IsStrict m (perturbed home o h n)
 
--- what a surface keeps while points are added: o is inside, the facets differ, and it is strict when drawn
+-- what a surface keeps while points are added: o is inside, the facets differ, and it is strict when perturbed
 pub record IsSound (m : Surface) (home : ℕ → Weighted) (o : Weighted) : Type 0 where
   pub inner : IsInner m home o
   pub distinct : HasDistinctFacets m
-  pub lifted : IsStrictWhenDrawn m home o
+  pub lifted : IsStrictWhenPerturbed m home o

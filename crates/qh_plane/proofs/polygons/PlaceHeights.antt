@@ -14,7 +14,7 @@ use Rattle.qh_model.specs.headline.Vector.{Vector, dot}
 use Rattle.qh_plane.proofs.PlaceOrder.{place_code-same}
 use Rattle.qh_plane.proofs.polygons.Turns.{IsKeyed}
 use Rattle.qh_plane.specs.declared.place_keys.TheConstants.{ROOM}
-use Rattle.qh_plane.specs.steps.PlaceKeys.{raised, place_code, HasKey}
+use Rattle.qh_plane.specs.steps.PlaceKeys.{biased, place_code, HasKey}
 
 -- the direction along which places rise by x, then y, then z
 abbrev pub order : Vector
@@ -24,9 +24,9 @@ order = record { x = pos (ROOM * ROOM); y = pos ROOM; z = pos 1 }
 abbrev ground_level : ℕ
 ground_level = (COORDINATE_LIMIT * ROOM + COORDINATE_LIMIT) * ROOM + COORDINATE_LIMIT
 
--- a raised coordinate
-raised_is : (z : ℤ) → IsCoordinate z → pos (raised z) ≡ z +ℤ pos COORDINATE_LIMIT
-raised_is z h = omega (arith, ints)
+-- a biased coordinate
+biased_is : (z : ℤ) → IsCoordinate z → pos (biased z) ≡ z +ℤ pos COORDINATE_LIMIT
+biased_is z h = omega (arith, ints)
 
 -- the number of a place is its height, over the number of the origin
 height : (x y z : ℤ) (a b c : ℕ) → pos a ≡ x +ℤ pos COORDINATE_LIMIT → pos b ≡ y +ℤ pos COORDINATE_LIMIT → pos c ≡ z +ℤ pos COORDINATE_LIMIT
@@ -36,7 +36,7 @@ height x y z a b c e f g = omega (arith, ints)
 -- the number of a place is its height and that of the origin
 place_code-height : (p : Vector) → IsPlace p → pos (place_code p) ≡ dot order p +ℤ pos ground_level
 unfolding place_code
-place_code-height p h = height p.x p.y p.z (raised p.x) (raised p.y) (raised p.z) (raised_is p.x h.x) (raised_is p.y h.y) (raised_is p.z h.z)
+place_code-height p h = height p.x p.y p.z (biased p.x) (biased p.y) (biased p.z) (biased_is p.x h.x) (biased_is p.y h.y) (biased_is p.z h.z)
 
 -- equal heights, equal numbers
 same_height : (a b : ℕ) (x y c : ℤ) → pos a ≡ x +ℤ c → pos b ≡ y +ℤ c → x ≡ y → a ≡ b

@@ -7,13 +7,13 @@ use Rattle.qh_model.specs.headline.Sets.{In}
 use Rattle.qh_model.specs.headline.DistinctIds.{IsDistinctId}
 use Rattle.qh_plane.specs.declared.close_points.CloseBox.{CloseBox}
 use Rattle.qh_plane.specs.declared.close_points.TheConstants.{NO_ID}
-use Rattle.qh_plane.specs.steps.PlaceKeys.{raised}
+use Rattle.qh_plane.specs.steps.PlaceKeys.{biased}
 
 -- the slot of a point: of numbers of 64 bits, whatever the box
 abbrev pub slot_of : CloseBox → Vector → ℕ
 slot_of b p =
-    (((raised p.x - b.x) * b.x_factor % 2 ^ 64 + (raised p.y - b.y) * b.y_factor % 2 ^ 64) % 2 ^ 64
-    + (raised p.z - b.z) * b.z_factor % 2 ^ 64) % 2 ^ 64
+    (((biased p.x - b.x) * b.x_factor % 2 ^ 64 + (biased p.y - b.y) * b.y_factor % 2 ^ 64) % 2 ^ 64
+    + (biased p.z - b.z) * b.z_factor % 2 ^ 64) % 2 ^ 64
 
 -- what stands in a slot
 abbrev pub slot_at : List ℕ → ℕ → ℕ

@@ -4,7 +4,7 @@ use Rattle.std.specs.Prelude.{◌≢◌, ℕ, pos, List}
 use Rattle.qh_model.specs.headline.Vector.{Vector}
 use Rattle.qh_model.specs.headline.Predicates.{place, vol}
 use Rattle.qh_model.specs.headline.Sets.{Members}
-use Rattle.qh_surface.specs.declared.quickhull.far_simplex.Simplex.{Simplex}
+use Rattle.qh_surface.specs.declared.quickhull.initial_simplex.Simplex.{Simplex}
 
 -- four of the ids, with points that are not in one plane
 pub record IsSimplexOf (pts : List Vector) (ids : List ℕ) (s : Simplex) : Type 0 where

@@ -12,8 +12,8 @@ use Rattle.qh_mesh.specs.contract.Edges.{edge_of, facet_of, twin_of}
 use Rattle.qh_mesh.specs.contract.SoundMesh.{facet_vol}
 use Rattle.qh_surface.specs.steps.Planes.{plane_at}
 use Rattle.qh_surface.specs.declared.quickhull.cone_ring.Wedge.{Wedge}
-use Rattle.qh_surface.specs.declared.quickhull.cone_search.Asked.{Asked}
-use Rattle.qh_surface.specs.declared.quickhull.cone_search.Asked.TheVariants.{Seen, Unseen, Unknown}
+use Rattle.qh_surface.specs.declared.quickhull.cone_search.Visibility.{Visibility}
+use Rattle.qh_surface.specs.declared.quickhull.cone_search.Visibility.TheVariants.{Seen, Unseen, Unknown}
 
 -- the facets have one third corner, and with each the list has the neighbour over its second side
 pub record IsFan (fs : List StoredFacet) (made : List ℕ) : Type 0 where
@@ -84,7 +84,7 @@ pub record IsAmongRays (a : Vector) (ws : List Wedge) (p : Vector) : Type 0 wher
   pub between : IsBetweenRays a (wedge_at ws 0).from (wedge_at ws place).from (wedge_at ws place).to p
 
 -- the certificate of each answer
-abbrev pub IsAnswer : Vector → List Wedge → Vector → Asked → Type 0
+abbrev pub IsAnswer : Vector → List Wedge → Vector → Visibility → Type 0
 IsAnswer a ws p (Seen f) = IsSeenBy ws p f
 IsAnswer a ws p Unseen = IsAmongRays a ws p
 IsAnswer a ws p Unknown = Unit {0}

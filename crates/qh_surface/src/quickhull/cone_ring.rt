@@ -47,7 +47,7 @@ pub struct ConeRing {
     pub opposite: usize,
 }
 
-/// The neighbour of a facet over the ray where it ends.
+/// Returns the neighbour of a facet over the ray where it ends.
 fn next_facet(mesh: &Mesh, facet: FacetNo) -> FacetNo
     requires { IsLive mesh.now facet }
     ensures { result ≡ facet_of (twin_of mesh.now (edge_of facet second)) }
@@ -55,7 +55,7 @@ fn next_facet(mesh: &Mesh, facet: FacetNo) -> FacetNo
     mesh.facet_of(mesh.twin(mesh.edge(facet, 1)))
 }
 
-/// The wedge of a facet.
+/// Returns the wedge of a facet.
 fn wedge_of(pts: &[Point], mesh: &Mesh, planes: &[Plane], facet: FacetNo) -> Wedge
     requires live { IsLive mesh.now facet }
     requires corners { AreCornersBelow (length pts.now) mesh.now }
@@ -74,8 +74,8 @@ fn wedge_of(pts: &[Point], mesh: &Mesh, planes: &[Plane], facet: FacetNo) -> Wed
     }
 }
 
-/// A facet where the cone is strictly convex: the ray before it is strictly below its plane. There is
-/// one, since no plane has all rays of a cone.
+/// Returns a facet where the cone is strictly convex: the ray before it is strictly below its plane.
+/// There is one, since no plane has all rays of a cone.
 fn first_facet(pts: &[Point], mesh: &Mesh, planes: &[Plane], made: &[FacetNo]) -> FacetNo
     requires some { 0 < length made.now }
     requires live { All (IsLive mesh.now) made.now }
@@ -95,7 +95,7 @@ fn first_facet(pts: &[Point], mesh: &Mesh, planes: &[Plane], made: &[FacetNo]) -
     before.facet
 }
 
-/// Lists so many wedges from a facet on, each after its neighbour.
+/// Lists `count` wedges from a facet on, each after its neighbour.
 fn go_round(
     wedges: &mut Vec<Wedge>,
     pts: &[Point],
@@ -121,7 +121,8 @@ fn go_round(
     Ok(())
 }
 
-/// The place of a wedge whose plane has the first ray strictly below; 0 where there is none.
+/// Returns the place of a wedge whose plane has the first ray strictly below; 0 where there is
+/// none.
 pub fn opposite_of(wedges: &[Wedge]) -> usize {
     for place in 1..wedges.len() {
         if wedges[place].plane.height(wedges[0].from) < 0 {
@@ -132,7 +133,7 @@ pub fn opposite_of(wedges: &[Wedge]) -> usize {
 }
 
 impl ConeRing {
-    /// A ring with no wedge. It takes no memory.
+    /// Creates a ring with no wedge. It takes no memory.
     pub fn new(alloc: Global) -> ConeRing
         ensures { result.wedges.items ≡ [] }
     {
@@ -143,7 +144,7 @@ impl ConeRing {
         }
     }
 
-    /// Takes the memory for so many wedges; nothing else changes.
+    /// Reserves memory for `wedges` wedges; nothing else changes.
     ///
     /// `Err` says that memory was refused.
     pub fn reserve(&mut self, wedges: usize) -> Result<(), Memory>

@@ -20,7 +20,7 @@ use qh_pred::Plane;
 
 /// What a search through a ring tells of a point.
 #[derive(Clone, Copy, Drop)]
-pub enum Asked {
+pub enum Visibility {
     /// This facet sees it.
     Seen(FacetNo),
     /// It lies between three rays, so no facet of the cone sees it.
@@ -29,8 +29,8 @@ pub enum Asked {
     Unknown,
 }
 
-/// Whether a point that the wedge does not see lies between its rays and the first. The half-plane is
-/// that of the apex, the corner of the first ray and the point.
+/// Returns true if a point that the wedge does not see lies between its rays and the first. The
+/// half-plane is that of the apex, the corner of the first ray and the point.
 fn is_between(half: &Plane, first: Point, wedge: &Wedge) -> bool
     ensures spans { IsTrue result → height wedge.now.plane first <ℤ pos 0 }
     ensures from { IsTrue result → pos 0 ≤ℤ height half.now wedge.now.from }
@@ -40,7 +40,7 @@ fn is_between(half: &Plane, first: Point, wedge: &Wedge) -> bool
 }
 
 impl ConeRing {
-    /// The wedge at a place.
+    /// Returns the wedge at a place.
     fn wedge(&self, place: usize) -> &Wedge
         requires { place < length self.now.wedges.items }
         ensures { result.now ≡ wedge_at self.now.wedges.items place }
@@ -48,8 +48,8 @@ impl ConeRing {
         &self.wedges[place]
     }
 
-    /// The place of the last wedge but one that begins at the half-plane or before it, which goes from
-    /// the first ray through a point that neither the first nor the last wedge sees.
+    /// Returns the place of the last wedge but one that begins at the half-plane or before it, which
+    /// goes from the first ray through a point that neither the first nor the last wedge sees.
     fn place_of(&self, half: &Plane) -> usize
         requires { 2 < length self.now.wedges.items }
     {
@@ -71,35 +71,35 @@ impl ConeRing {
         low
     }
 
-    /// What a search tells of a point.
-    pub fn asked(&self, point: Point) -> Asked
+    /// Returns what a search tells of a point.
+    pub fn visibility(&self, point: Point) -> Visibility
         requires { AreTriangles self.now.apex self.now.wedges.items }
         ensures { IsAnswer self.now.apex self.now.wedges.items point result }
     {
         let count = self.wedges.len();
         if count < 3 {
-            return Asked::Unknown;
+            return Visibility::Unknown;
         }
         let first = self.wedge(0);
         if first.plane.sees(point) {
-            return Asked::Seen(first.facet);
+            return Visibility::Seen(first.facet);
         }
         let last = self.wedge(count - 1);
         if last.plane.sees(point) {
-            return Asked::Seen(last.facet);
+            return Visibility::Seen(last.facet);
         }
         let half = Plane::through(self.apex, first.from, point);
         let place = self.place_of(&half);
         if place >= count {
-            return Asked::Unknown;
+            return Visibility::Unknown;
         }
         let wedge = self.wedge(place);
         if wedge.plane.sees(point) {
-            Asked::Seen(wedge.facet)
+            Visibility::Seen(wedge.facet)
         } else if is_between(&half, first.from, wedge) {
-            Asked::Unseen
+            Visibility::Unseen
         } else {
-            Asked::Unknown
+            Visibility::Unknown
         }
     }
 }

@@ -15,7 +15,7 @@ struct End {
 }
 
 impl End {
-    /// Whichever of this end and another reaches further.
+    /// Returns whichever of this end and another reaches further.
     fn or(self, id: Id, reach: i32) -> End
         ensures { (ids : List ℕ) → Members ids self.id → Members ids id → Members ids result.id }
     {
@@ -27,8 +27,8 @@ impl End {
     }
 }
 
-/// The first ids of the least and the greatest x, of the least and the greatest y, and of the least and the
-/// greatest z.
+/// Returns the first ids of the least and the greatest x, of the least and the greatest y, and of the least
+/// and the greatest z.
 pub fn ends_of(pts: &[Point], ids: &[Id]) -> [Id; 6]
     requires some { 0 < length ids.now }
     requires indices { AreIndices pts.now ids.now }

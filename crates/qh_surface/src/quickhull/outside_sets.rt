@@ -30,7 +30,7 @@ struct Ends {
 }
 
 impl Ends {
-    /// The ends with a position put in front. The caller says whether there was none.
+    /// Returns the ends with a position put in front. The caller says whether there was none.
     fn with_front(self, position: u32, is_empty: bool) -> Ends
         ensures first { result.first ≡ position }
         ensures only { is_empty ≡ true → result.last ≡ position }
@@ -42,7 +42,7 @@ impl Ends {
         }
     }
 
-    /// The ends with a position put after the first, of which there is one.
+    /// Returns the ends with a position put after the first, of which there is one.
     fn with_second(self, position: u32) -> Ends
         ensures first { result.first ≡ self.first }
         ensures second { self.first ≡ self.last → result.last ≡ position }
@@ -81,7 +81,7 @@ impl Model for OutsideSets {
     ghost invariant = { λ s. AreKept s.links.items s.ends.items s.orphan };
 }
 
-/// For each of so many positions the next number.
+/// Returns for each position the next number.
 fn rising_links(alloc: Global, positions: u32) -> Result<Vec<u32>, AllocError>
     ensures len { IfOk result (λ v. length v.items ≡ positions) }
     ensures next { IfOk result (λ v. (k : ℕ) → k < positions → slice_index v.items k ≡ k + 1) }
@@ -95,7 +95,7 @@ fn rising_links(alloc: Global, positions: u32) -> Result<Vec<u32>, AllocError>
 
 #[tactic(auto, using(crate::proofs::outside_sets::Steps::field_facts))]
 impl OutsideSets {
-    /// So many positions, all of them orphans, in rising order, and no facet.
+    /// Creates the sets of a run: all positions are orphans, in rising order, and there is no facet.
     ///
     /// `Err` says that memory was refused.
     pub fn new(alloc: Global, positions: u32) -> Result<OutsideSets, Memory>
@@ -112,14 +112,14 @@ impl OutsideSets {
         })
     }
 
-    /// Asks for room for the sets of so many more facets. Where it is refused, they grow step by step.
+    /// Asks for room for the sets of `facets` more facets. Where it is refused, they grow step by step.
     pub fn ask_for_room(&mut self, facets: usize)
         ensures { self.new ≡ self.old }
     {
         let _ = self.ends.reserve(facets);
     }
 
-    /// Takes the memory for sets of so many more facets; nothing else changes.
+    /// Reserves memory for the sets of more facets; nothing else changes.
     ///
     /// `Err` says that memory was refused.
     pub fn reserve(&mut self, facets: usize) -> Result<(), Memory>
@@ -129,7 +129,7 @@ impl OutsideSets {
         Ok(())
     }
 
-    /// Makes sure that the facets below so many places have sets: the new ones are empty, the old ones
+    /// Makes sure that the facets below `places` have sets: the new ones are empty, the old ones
     /// and the orphans as they were.
     ///
     /// `Err` says that memory was refused: everything is as before.
@@ -151,21 +151,21 @@ impl OutsideSets {
         Ok(())
     }
 
-    /// The number of places that have a set.
+    /// Returns the number of places that have a set.
     pub fn places(&self) -> usize
         ensures { result ≡ length self.now.sets }
     {
         self.ends.len()
     }
 
-    /// Whether the number is a position.
+    /// Returns true if the number is a position.
     fn is_position(&self, position: u32) -> bool
         ensures { IsTrue result ↔ (position < self.now.positions) }
     {
         (position as usize) < self.links.len()
     }
 
-    /// The first orphan, if there is one.
+    /// Returns the first orphan, if there is one.
     pub fn first_orphan(&self) -> Option<u32>
         ensures none { IsNone result ↔ (self.now.orphans ≡ []) }
         ensures first { IfSome result (λ p. self.now.orphans ≡ p ∷ drop 1 self.now.orphans) }
@@ -246,7 +246,7 @@ impl OutsideSets {
         self.links[ends.first as usize] = second;
     }
 
-    /// The first position of the outside set of a facet, if it has one.
+    /// Returns the first position of the outside set of a facet, if it has one.
     pub fn first(&self, facet: FacetNo) -> Option<u32>
         requires { facet < length self.now.sets }
         ensures none { IsNone result ↔ (set_of self.now facet ≡ []) }

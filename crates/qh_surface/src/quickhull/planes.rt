@@ -15,11 +15,11 @@ use qh_model::Point;
 use qh_pred::{Plane, point_at};
 use std::alloc::AllocError;
 
-/// Room is made for so many places more than are asked for, so that few rounds make any.
+/// The number of places for which room is made beyond those that are asked for, so that few rounds make any.
 pub const SPARE: usize = 64;
 
-/// The plane of a live facet, whose corners are positions of the points: a point is above it where it strictly sees the
-/// facet.
+/// Returns the plane of a live facet, whose corners are positions of the points: a point is above it where it
+/// strictly sees the facet.
 pub fn plane_of(pts: &[Point], mesh: &Mesh, facet: FacetNo) -> Plane
     requires live { IsLive mesh.now facet }
     requires corners { AreCornersBelow (length pts.now) mesh.now }
@@ -29,13 +29,13 @@ pub fn plane_of(pts: &[Point], mesh: &Mesh, facet: FacetNo) -> Plane
     Plane::through(point_at(pts, a), point_at(pts, b), point_at(pts, c))
 }
 
-/// The plane that stands at a place until a facet is there.
+/// Returns the plane that stands at a place until a facet is there.
 fn no_plane() -> Plane {
     let origin = Point::new(0, 0, 0);
     Plane::through(origin, origin, origin)
 }
 
-/// Makes room for the planes of so many places, and some to spare.
+/// Makes room for the planes of `places` places, and some to spare.
 pub fn make_room(planes: &mut Vec<Plane>, places: usize) -> Result<(), AllocError>
     ensures room { OnOk result (places ≤ length planes.new.items) }
     ensures kept { (f : ℕ) → f < length planes.old.items

@@ -6,22 +6,22 @@ ghost use Rattle.qh_surface.specs.steps.Cones.{IsFan};
 ghost use Rattle.qh_surface.specs.steps.Runs.{IsDone, IsGrown, IsUnderWay, IsPicked, IsRemade};
 
 use crate::quickhull::cone_ring::{ConeRing, SCANNED};
-use crate::quickhull::far_simplex::Simplex;
+use crate::quickhull::initial_simplex::Simplex;
 use crate::quickhull::outside_sets::OutsideSets;
 use crate::quickhull::planes::{SPARE, make_room, renew};
-use crate::quickhull::queue::{enqueue, next_apex};
 use crate::quickhull::settling::{release, settle_orphans};
 use crate::quickhull::turns::Turns;
+use crate::quickhull::waiting_facets::{enqueue, next_apex};
 use crate::quickhull::walk::Walk;
 use qh_mesh::{FacetNo, Mesh};
 use qh_model::{Id, Memory, Point};
 use qh_pred::Plane;
 use std::alloc::Global;
 
-/// From so many points on, a run asks for room for all its facets at once.
+/// The least number of points for which a run asks for room for all its facets at once.
 const LARGE: usize = 262_144;
 
-/// Any other run asks for room for the facets of so many points, which most runs over few points need.
+/// The number of points for whose facets any other run asks for room, which most runs over few points need.
 const SMALL: usize = 32;
 
 /// A mesh over points has at most two facets for each, and one more is room to spare.
@@ -50,7 +50,7 @@ pub struct Run {
     pub made: usize,
 }
 
-/// For how many places a run over so many points asks at its start.
+/// Returns the number of places that a run over `points` points asks for at its start.
 fn places_asked(points: usize) -> usize {
     let asked_for = if points < LARGE {
         points.min(SMALL)
@@ -60,7 +60,7 @@ fn places_asked(points: usize) -> usize {
     asked_for.saturating_mul(PLACES_EACH)
 }
 
-/// An empty list with room for so many items, where it is not refused.
+/// Returns an empty list, with room for `items` items unless the allocation fails.
 fn room_for<T>(alloc: Global, items: usize) -> Vec<T>
     ensures { result.items ≡ [] }
 {
@@ -93,7 +93,8 @@ fn make_ready(
 }
 
 impl Run {
-    /// A run over points that has the four facets of a first simplex, four positions of them.
+    /// Returns a run over points that has the four facets of a first simplex, four positions of
+    /// them.
     ///
     /// `Err` says that memory was refused, or that there are too many points for their numbers.
     pub fn start(alloc: Global, points: Vec<Point>, first: Simplex) -> Result<Run, Memory>

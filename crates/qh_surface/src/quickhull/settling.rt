@@ -13,7 +13,7 @@ ghost use Rattle.qh_surface.specs.steps.Settling.{IsAboveNone, IsOneSettled, Are
 ghost use Rattle.qh_surface.specs.steps.Cones.{AreWedges};
 
 use crate::quickhull::cone_ring::{ConeRing, SCANNED};
-use crate::quickhull::cone_search::Asked;
+use crate::quickhull::cone_search::Visibility;
 use crate::quickhull::outside_sets::OutsideSets;
 use qh_mesh::FacetNo;
 use qh_model::Point;
@@ -42,7 +42,7 @@ struct Below {
     height: i128,
 }
 
-/// The first of the facets that the point is above.
+/// Returns the first of the facets that the point is above.
 fn first_below(planes: &[Plane], made: &[FacetNo], point: Point) -> Option<Below>
     requires { All (λ f. f < length planes.now) made.now }
     ensures none { IfNone result (IsAboveNone planes.now made.now point) }
@@ -60,8 +60,9 @@ fn first_below(planes: &[Plane], made: &[FacetNo], point: Point) -> Option<Below
     None
 }
 
-/// A facet of those made that the point is above. The first few are looked at one by one, so that points
-/// gather in few sets, and where there are more, a search through their ring tells of the others.
+/// Returns a facet of those made that the point is above. The first few are looked at one by one, so
+/// that points gather in few sets, and where there are more, a search through their ring tells of the
+/// others.
 fn one_below(planes: &[Plane], ring: &ConeRing, made: &[FacetNo], point: Point) -> Option<Below>
     requires planes { All (λ f. f < length planes.now) made.now }
     requires ring { AreWedges planes.now made.now ring.now.apex ring.now.wedges.items }
@@ -75,19 +76,19 @@ fn one_below(planes: &[Plane], ring: &ConeRing, made: &[FacetNo], point: Point) 
     if let Some(below) = first_below(planes, &made[..SCANNED], point) {
         return Some(below);
     }
-    match ring.asked(point) {
-        Asked::Seen(facet) => Some(Below {
+    match ring.visibility(point) {
+        Visibility::Seen(facet) => Some(Below {
             facet,
             at: SCANNED,
             height: 0,
         }),
-        Asked::Unseen => None,
-        Asked::Unknown => first_below(planes, made, point),
+        Visibility::Unseen => None,
+        Visibility::Unknown => first_below(planes, made, point),
     }
 }
 
-/// Whether the point is further above the facet than the first point of its outside set, or that set
-/// is empty.
+/// Returns true if the point is further above the facet than the first point of its outside set, or
+/// that set is empty.
 fn is_above_first(
     sets: &OutsideSets,
     planes: &[Plane],
@@ -106,8 +107,9 @@ fn is_above_first(
     }
 }
 
-/// Whether no point that came to the facet is further above it than this one. Of the facets looked at one
-/// by one the greatest heights are kept, so that the height of a set's first point is not worked out again.
+/// Returns true if no point that came to the facet is further above it than this one. Of the facets looked
+/// at one by one the greatest heights are kept, so that the height of a set's first point is not worked out
+/// again.
 fn is_furthest(
     greatest: &mut [i128; SCANNED],
     sets: &OutsideSets,

@@ -17,8 +17,8 @@ ghost use Rattle.qh_surface.specs.steps.Positions.{IsPositionOf, ArePositionsOf}
 
 use crate::named_mesh::NamedMesh;
 use crate::quickhull::ends::ends_of;
-use crate::quickhull::far_simplex::{Simplex, far_simplex};
-use crate::quickhull::near_order::morton_order;
+use crate::quickhull::initial_simplex::{Simplex, initial_simplex};
+use crate::quickhull::morton::morton_order;
 use crate::quickhull::run::Run;
 use qh_mesh::Mesh;
 use qh_model::{Id, Memory, Point};
@@ -26,14 +26,14 @@ use qh_plane::{Shape, rank};
 use qh_pred::point_at;
 use std::alloc::Global;
 
-/// From so many ids on, a run takes them in an order that keeps near points together.
+/// The least number of ids that a run takes in Morton order, which keeps near points together.
 const LARGE: usize = 16384;
 
-/// The points of ids, in their order.
+/// Returns the points of ids, in their order.
 ///
 /// # Errors
 ///
-/// `Memory` where memory was refused.
+/// `Memory` if an allocation failed.
 pub fn points_of(alloc: Global, pts: &[Point], ids: &[Id]) -> Result<Vec<Point>, Memory>
     requires { AreIndices pts.now ids.now }
     ensures { IfOk result (λ v. v.items ≡ map (place pts.now) ids.now) }
@@ -45,7 +45,7 @@ pub fn points_of(alloc: Global, pts: &[Point], ids: &[Id]) -> Result<Vec<Point>,
     Ok(points)
 }
 
-/// The position of an id in a list that has it.
+/// Returns the position of an id in a list that has it.
 ///
 /// `Err` says that positions have no numbers of 32 bits.
 fn position_of(ids: &[Id], id: Id) -> Result<Id, Memory>
@@ -61,7 +61,7 @@ fn position_of(ids: &[Id], id: Id) -> Result<Id, Memory>
     }
 }
 
-/// The positions of a first simplex in a list that has its corners.
+/// Returns the positions of a first simplex in a list that has its corners.
 fn positions_of(ids: &[Id], first: Simplex) -> Result<Simplex, Memory>
     requires i { Members ids.now first.i }
     requires j { Members ids.now first.j }
@@ -77,7 +77,7 @@ fn positions_of(ids: &[Id], first: Simplex) -> Result<Simplex, Memory>
     })
 }
 
-/// A run over the points of ids, done: the corners of its surface are positions of the ids.
+/// Returns a run over the points of ids, done: the corners of its surface are positions of the ids.
 pub(super) fn run_over(
     alloc: Global,
     pts: &[Point],
@@ -97,12 +97,12 @@ pub(super) fn run_over(
     Ok(run)
 }
 
-/// The surface of a set by a run over its ids as they come, from a first simplex, as [`surface_from`] makes it. Near ids best stand
-/// near each other.
+/// Returns the surface of a set by a run over its ids as they come, from a first simplex, as [`surface_from`] makes
+/// it. Near ids best stand near each other.
 ///
 /// # Errors
 ///
-/// `Memory` where memory was refused.
+/// `Memory` if an allocation failed.
 pub fn surface_along(
     alloc: Global,
     pts: &[Point],
@@ -122,14 +122,15 @@ pub fn surface_along(
     })
 }
 
-/// The surface of a set from a first simplex: four of its ids whose points are not in one plane. The corners of its
-/// triangles are positions of the ids, in an order of its own.
+/// Returns the surface of a set from a first simplex: four of its ids whose points are not in one plane. The corners
+/// of its triangles are positions of the ids, in an order of its own.
 ///
-/// `ids` are indices of points, each once; where one stands twice, no more is said than that the corners are positions.
+/// `ids` are indices of points, each once; where one stands twice, no more is said than that the corners are
+/// positions.
 ///
 /// # Errors
 ///
-/// `Memory` where memory was refused.
+/// `Memory` if an allocation failed.
 pub fn surface_from(
     alloc: Global,
     pts: &[Point],
@@ -142,7 +143,7 @@ pub fn surface_from(
     ensures named { IfOk result (λ m. IsNamedMesh pts.now m) }
 {
     let ends = ends_of(pts, ids);
-    let far = far_simplex(pts, ids, &ends, first);
+    let far = initial_simplex(pts, ids, &ends, first);
     if ids.len() < LARGE {
         return surface_along(alloc, pts, Vec::from_slice(alloc, ids)?, far);
     }
@@ -150,9 +151,10 @@ pub fn surface_from(
     surface_along(alloc, pts, near, far)
 }
 
-/// The surface of the hull of a set of dimension 3, by Quickhull: a closed surface of triangles over
-/// the ids, each counterclockwise seen from outside, none of which strictly sees a point of the set.
-/// So the corners of each triangle are a supporting triple of the set, and each extreme id is a corner.
+/// Returns the surface of the hull of a set of dimension 3, by Quickhull: a closed surface of triangles
+/// over the ids, each counterclockwise seen from outside, none of which strictly sees a point of the
+/// set. So the corners of each triangle are a supporting triple of the set, and each extreme id is a
+/// corner.
 ///
 /// `ids` rise, have distinct points, and each is the index of one of the points. Which of several
 /// triangulations of a face comes out is not fixed, and a corner need not be an extreme id: it may lie
@@ -160,7 +162,7 @@ pub fn surface_from(
 ///
 /// # Errors
 ///
-/// `Memory` where memory was refused.
+/// `Memory` if an allocation failed.
 ///
 /// Source: Barber, Dobkin and Huhdanpaa 1996.
 #[tactic(auto, using(crate::proofs::runs::FirstSimplexes::simplex_is))]

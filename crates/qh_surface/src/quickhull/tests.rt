@@ -10,7 +10,7 @@ use qh_model::{COORDINATE_LIMIT, Point};
 /// The greatest coordinate.
 const LIMIT: i32 = COORDINATE_LIMIT as i32;
 
-/// The point with these coordinates, kept within the limit.
+/// Returns the point with these coordinates, kept within the limit.
 fn point(x: i32, y: i32, z: i32) -> Point {
     Point::new(
         x.clamp(-LIMIT, LIMIT),

@@ -11,7 +11,7 @@ use qh_pred::Plane;
 /// So many points, spread over all, tell whether many are inside.
 const LOOKED_AT: usize = 128;
 
-/// Many are inside where at least one in so many is strictly inside the first simplex.
+/// Many points are inside if at least one in this number is strictly inside the initial simplex.
 const ONE_IN: usize = 16;
 
 /// Which of the facets that wait is next.
@@ -49,7 +49,7 @@ fn are_many_inside(planes: &[Plane], points: &[Point]) -> bool {
 }
 
 impl Turns {
-    /// The turns of facets of which the one that has waited for the shortest time is next.
+    /// Returns the turns of facets of which the one that has waited for the shortest time is next.
     pub fn newest() -> Turns {
         Turns {
             order: Order::Newest,
@@ -57,7 +57,8 @@ impl Turns {
         }
     }
 
-    /// The turns of the facets of a run over points that begins with facets in these planes.
+    /// Returns the turns of the facets of a run over points that begins with facets in these
+    /// planes.
     pub fn over(planes: &[Plane], points: &[Point]) -> Turns {
         let order = if are_many_inside(planes, points) {
             Order::Around
@@ -67,7 +68,7 @@ impl Turns {
         Turns { order, taken: 0 }
     }
 
-    /// The place of the next facet among so many that wait.
+    /// Returns the place of the next facet among those that wait.
     pub fn next(&mut self, waiting: usize) -> usize
         requires { 0 < waiting }
         ensures { result < waiting }

@@ -9,7 +9,7 @@ ghost use Rattle.qh_pred.specs.contract.Planes.{height};
 ghost use Rattle.qh_surface.specs.steps.Planes.{plane_at, ArePlanes};
 ghost use Rattle.qh_surface.specs.contract.Walks.{IsMarked, mark_at};
 
-use crate::walk::{Test, walk};
+use crate::walk::{FacetPredicate, walk};
 use qh_mesh::{EdgeNo, FacetNo, Mesh};
 use qh_model::{Memory, Point};
 use qh_pred::Plane;
@@ -23,7 +23,7 @@ struct Sees<'a> {
     apex: Point,
 }
 
-impl Test for Sees<'_> {
+impl FacetPredicate for Sees<'_> {
     ghost Fits = { λ t fs. length fs ≤ length t.planes.now };
 
     ghost Passes = { λ t fs f. pos 0 <ℤ height (plane_at t.planes.now f) t.apex };
@@ -60,7 +60,7 @@ impl Model for Walk {
     ghost invariant = { λ w. (f : ℕ) → mark_at w.marks.items f ≡ false };
 }
 
-/// Makes room for the marks of so many places.
+/// Makes room for the marks of `places` places.
 fn make_room(marks: &mut Vec<bool>, places: usize) -> Result<(), AllocError>
     ensures same { (f : ℕ) → mark_at marks.new.items f ≡ mark_at marks.old.items f }
     ensures room { OnOk result (places ≤ length marks.new.items) }
@@ -83,7 +83,7 @@ fn take_back(marks: &mut [bool], found: &[FacetNo])
 }
 
 impl Walk {
-    /// A walk that found nothing yet. It takes no memory.
+    /// Creates a walk that found nothing yet. It takes no memory.
     pub fn new(alloc: Global) -> Walk
         ensures { result ≡ [] }
     {
@@ -123,7 +123,7 @@ impl Walk {
         Ok(())
     }
 
-    /// The facets that the last call of [`Walk::find`] found, each once.
+    /// Returns the facets that the last call of [`Walk::find`] found, each once.
     pub fn visible(&self) -> &[FacetNo]
         ensures { result.now ≡ self.now }
     {

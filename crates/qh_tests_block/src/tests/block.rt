@@ -40,7 +40,7 @@ const TURNED_SQUARE: Row<'static> = Row {
     ..SQUARE
 };
 
-/// Whether a body is that of a row.
+/// Returns true if a body is that of a row.
 fn is(body: &Body, row: &Row) -> bool {
     body.dim == row.dim
         && body.edges == row.edges
@@ -53,7 +53,7 @@ fn is(body: &Body, row: &Row) -> bool {
             .all(|(polygon, face)| are(polygon.ids(), face))
 }
 
-/// The hull of some ids, and their extreme ids.
+/// Returns the hull of some ids, and their extreme ids.
 fn hull_and_extremes(alloc: Global, pts: &[Point], ids: &[Id]) -> Result<(Body, Vec<Id>), Memory>
     requires some { 0 < length ids.now }
     requires indices { AreIndices pts.now ids.now }
@@ -63,7 +63,8 @@ fn hull_and_extremes(alloc: Global, pts: &[Point], ids: &[Id]) -> Result<(Body, 
     Ok((body, corners))
 }
 
-/// The hull of the distinct points of a list that is not too long and not empty, and their extreme ids.
+/// Returns the hull of the distinct points of a list that is not too long and not empty, and their
+/// extreme ids.
 fn hull_of<R: Threads + Sync>(
     rt: &R,
     alloc: Global,
@@ -129,7 +130,7 @@ fn square_with_centre(rt: HostRuntime) -> Result<(), Fail> {
     assert_hull(&rt, &square(), &SQUARE)
 }
 
-/// The point with all coordinates so many times as large, kept within the limit.
+/// Returns the point with all coordinates multiplied by a factor, kept within the limit.
 fn times(p: Point, factor: i32) -> Point {
     point(
         p.x().wrapping_mul(factor),

@@ -12,7 +12,7 @@ mod refusals;
 mod rows;
 mod runs;
 
-/// How many numbers a list has; none where they are not those from 0 on.
+/// Returns how many numbers a list has; `None` if they are not those from 0 on.
 fn counted(list: &[u32]) -> Option<usize> {
     for (number, place) in list.iter().zip(0u32..) {
         if *number != place {
@@ -22,7 +22,7 @@ fn counted(list: &[u32]) -> Option<usize> {
     Some(list.len())
 }
 
-/// What came out at the root, if something did, as `counted` has it.
+/// Returns what came out at the root, if something did, as `counted` has it.
 fn counted_root(closed: Closed<Numbers>) -> Option<Option<usize>> {
     match closed.into_root() {
         Some(root) => Some(counted(&root)),
@@ -30,7 +30,7 @@ fn counted_root(closed: Closed<Numbers>) -> Option<Option<usize>> {
     }
 }
 
-/// How many passes of a board left.
+/// Returns how many passes of a board left.
 fn passes_left(closed: &Closed<Numbers>, passes: u32) -> u32
     requires { (closed_setup closed.now).passes ≡ passes }
 {

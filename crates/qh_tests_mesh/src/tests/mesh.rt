@@ -14,7 +14,7 @@ mod refusals;
 /// A triangle as its ids, written from the least.
 type Triangle = (u32, u32, u32);
 
-/// The triangle of a place, or none.
+/// Returns the triangle of a place, or none.
 fn triangle(mesh: &Mesh, f: FacetNo) -> Option<Triangle> {
     if f.index() >= mesh.places() || !mesh.is_live(f) {
         return None;
@@ -30,7 +30,7 @@ fn triangle(mesh: &Mesh, f: FacetNo) -> Option<Triangle> {
     }
 }
 
-/// The point with a number, or the origin where there is none.
+/// Returns the point with a number, or the origin where there is none.
 fn point_of(pts: &[Point], number: u32) -> Point {
     match pts.get(number as usize) {
         Some(point) => *point,
@@ -38,7 +38,7 @@ fn point_of(pts: &[Point], number: u32) -> Point {
     }
 }
 
-/// Whether the triangle of a place strictly sees a point.
+/// Returns true if the triangle of a place strictly sees a point.
 fn sees(mesh: &Mesh, pts: &[Point], f: FacetNo, apex: u32) -> bool {
     match triangle(mesh, f) {
         Some((a, b, c)) => {
@@ -49,7 +49,7 @@ fn sees(mesh: &Mesh, pts: &[Point], f: FacetNo, apex: u32) -> bool {
     }
 }
 
-/// Whether the facets of a list are live ones by rising numbers.
+/// Returns true if the facets of a list are live ones by rising numbers.
 fn are_facets(mesh: &Mesh, list: &[FacetNo]) -> bool
     ensures { result ≡ true → AreFacets mesh.now list.now }
 {
@@ -63,7 +63,7 @@ fn are_facets(mesh: &Mesh, list: &[FacetNo]) -> bool
     true
 }
 
-/// The facets that a point sees.
+/// Returns the facets that a point sees.
 fn seen_by(alloc: Global, mesh: &Mesh, pts: &[Point], apex: u32) -> Result<Vec<FacetNo>, AllocError>
     ensures { IfOk result (λ list. AreFacets mesh.now list.items) }
 {
@@ -80,7 +80,7 @@ fn seen_by(alloc: Global, mesh: &Mesh, pts: &[Point], apex: u32) -> Result<Vec<F
     }
 }
 
-/// The triangles of a list, sorted.
+/// Returns the triangles of a list, sorted.
 fn triangles(alloc: Global, mesh: &Mesh, list: &[FacetNo]) -> Result<Vec<Triangle>, AllocError> {
     let mut out = Vec::new(alloc);
     for f in list {
@@ -92,7 +92,7 @@ fn triangles(alloc: Global, mesh: &Mesh, list: &[FacetNo]) -> Result<Vec<Triangl
     Ok(out)
 }
 
-/// The live facets.
+/// Returns the live facets.
 fn live(alloc: Global, mesh: &Mesh) -> Result<Vec<FacetNo>, AllocError> {
     let mut out = Vec::new(alloc);
     for f in mesh.live() {
@@ -101,7 +101,7 @@ fn live(alloc: Global, mesh: &Mesh) -> Result<Vec<FacetNo>, AllocError> {
     Ok(out)
 }
 
-/// Whether the twin of each side of a facet runs against it and has it as its twin.
+/// Returns true if the twin of each side of a facet runs against it and has it as its twin.
 fn has_twins(mesh: &Mesh, f: FacetNo) -> bool {
     for side in 0..3 {
         if f.index() >= mesh.places() || !mesh.is_live(f) {
@@ -118,7 +118,8 @@ fn has_twins(mesh: &Mesh, f: FacetNo) -> bool {
     true
 }
 
-/// The simplex of the first four points. `Err` says that memory was refused, or that they are in one plane.
+/// Returns the simplex of the first four points. `Err` says that memory was refused, or that they are in
+/// one plane.
 fn first_simplex(alloc: Global, pts: &[Point]) -> Result<Mesh, Memory> {
     let (a, b, c, d) = (Id::new(0), Id::new(1), Id::new(2), Id::new(3));
     if pts.len() < 4 {
@@ -136,7 +137,7 @@ fn first_simplex(alloc: Global, pts: &[Point]) -> Result<Mesh, Memory> {
     Mesh::simplex(alloc, pts, a, b, c, d)
 }
 
-/// Seven points, of which each after the fourth is outside the hull of those before it.
+/// Returns seven points, of which each after the fourth is outside the hull of those before it.
 fn seven() -> [Point; 7] {
     [
         Point::new(0, 0, 0),
@@ -185,8 +186,8 @@ fn assert_triangles<R: AllocGlobal + Abort>(
     Ok(())
 }
 
-/// Asserts how many live facets and how many places there are after the step to an apex, and that each side of a facet
-/// has its twin.
+/// Asserts how many live facets and how many places there are after the step to an apex, and that each side
+/// of a facet has its twin.
 fn assert_counts<R: AllocGlobal + Abort>(
     rt: &R,
     mesh: &Mesh,
@@ -246,7 +247,7 @@ fn replaces(rt: HostRuntime) -> Result<(), Fail> {
     Ok(())
 }
 
-/// The corner of the unit cube, and a point in one plane with three of its points.
+/// Returns the corner of the unit cube, and a point in one plane with three of its points.
 fn five() -> [Point; 5] {
     [
         Point::new(0, 0, 0),

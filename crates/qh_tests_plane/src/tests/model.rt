@@ -6,10 +6,11 @@ use std::process::Abort;
 
 mod refusals;
 
-/// How a cut was answered: the number of its blocks and the bounds of the first and of the last, or why it was refused.
+/// How a cut was answered: the number of its blocks and the bounds of the first and of the last, or why it was
+/// refused.
 type Answer = Result<(u32, (u32, u32), (u32, u32)), CutError>;
 
-/// How a cut was answered.
+/// Returns how a cut was answered.
 fn ends(cut: Result<Cut, CutError>) -> Answer {
     let cut = cut?;
     let blocks = cut.blocks();
@@ -21,7 +22,7 @@ fn assert_cut<R: Abort>(rt: &R, cut: Result<Cut, CutError>, want: Answer, row: &
     assert_eq!(rt; ends(cut), want, "{row:?}");
 }
 
-/// The cut with these bounds.
+/// Returns the cut with these bounds.
 fn from(alloc: Global, bounds: &[u32]) -> Result<Cut, CutError> {
     let Ok(bounds) = Vec::from_slice(alloc, bounds) else {
         return Err(CutError::Memory);
@@ -62,7 +63,7 @@ fn given_bounds(rt: HostRuntime) {
     }
 }
 
-/// The cut of this many bounds, the numbers from 0 on.
+/// Returns the cut of this many bounds, the numbers from 0 on.
 fn unit_blocks(alloc: Global, count: u32) -> Result<Cut, CutError> {
     let mut bounds = Vec::new(alloc);
     for number in 0..count {

@@ -17,7 +17,7 @@ fn assert_ids<R: Abort>(rt: &R, ids: &[Id], numbers: &[u32]) {
     assert!(rt; are(ids, numbers), "{ids:?} and {numbers:?}");
 }
 
-/// The corners of a square, the middles of its sides but one, and its centre.
+/// Returns the corners of a square, the middles of its sides but one, and its centre.
 fn square() -> [Point; 8] {
     [
         Point::new(0, 0, 0),
@@ -34,7 +34,8 @@ fn square() -> [Point; 8] {
 /// The numbers of all eight.
 const ALL_EIGHT: [u32; 8] = [0, 1, 2, 3, 4, 5, 6, 7];
 
-/// The distinct ids of points, by threads, if they are those that the calling thread finds alone.
+/// Returns the distinct ids of points, by threads, if they are those that the calling thread finds
+/// alone.
 fn distinct_ids<R: Threads + Sync>(
     rt: &R,
     alloc: Global,
@@ -65,7 +66,7 @@ fn repeated_points(rt: HostRuntime) -> Result<(), Fail> {
     Ok(())
 }
 
-/// The polygon of some of the points.
+/// Returns the polygon of some of the points.
 fn polygon_of(
     alloc: Global,
     pts: &[Point],

@@ -1,5 +1,5 @@
-//! Volumes of the unit corner, of the cube at the limit, and of a tetrahedron whose volume 64 bits lose; turns across two
-//! axes. What each predicate is equal to, for all points, stands in its contract.
+//! Volumes of the unit corner, of the cube at the limit, and of a tetrahedron whose volume 64 bits lose;
+//! turns across two axes. What each predicate is equal to, for all points, stands in its contract.
 ghost use Rattle.qh_model.specs.headline.Limits.{IsCoordinate};
 
 use qh_model::{COORDINATE_LIMIT, Point};
@@ -8,7 +8,8 @@ use std::cmp::Ordering;
 
 const LIMIT: i32 = COORDINATE_LIMIT as i32;
 
-/// The corner of the cube at a limit that is below on all axes, and its neighbours along x, y and z.
+/// Returns the corner of the cube at a limit that is below on all axes, and its neighbours along x,
+/// y and z.
 fn cube_corner(limit: i32) -> [Point; 4]
     requires { IsCoordinate limit }
 {
@@ -20,7 +21,8 @@ fn cube_corner(limit: i32) -> [Point; 4]
     ]
 }
 
-/// Four corners of the cube at a limit, no two of them neighbours. Their volume is a power of two.
+/// Returns four corners of the cube at a limit, no two of them neighbours. Their volume is a power
+/// of two.
 fn wrapping_tetrahedron(limit: i32) -> [Point; 4]
     requires { IsCoordinate limit }
 {
@@ -32,7 +34,7 @@ fn wrapping_tetrahedron(limit: i32) -> [Point; 4]
     ]
 }
 
-/// The corner of the unit cube: the origin, and its neighbours along x, y and z.
+/// Returns the corner of the unit cube: the origin, and its neighbours along x, y and z.
 fn unit_corner() -> [Point; 4] {
     [
         Point::new(0, 0, 0),
@@ -42,7 +44,7 @@ fn unit_corner() -> [Point; 4] {
     ]
 }
 
-/// The volume of four points.
+/// Returns the volume of four points.
 fn volume([a, b, c, d]: [Point; 4]) -> i128 {
     vol(a, b, c, d)
 }

@@ -22,7 +22,7 @@ const OCTAHEDRON_HULL: [usize; 43] = [
     3, 2, 9, 3, 3, 3, 5, 6, 3, 3, 9, 5,
 ];
 
-/// The points (x, y, x² + y²) for x below 64 and y below 32: all are extreme.
+/// Returns the points (x, y, x² + y²) for x below 64 and y below 32: all are extreme.
 fn paraboloid(alloc: Global) -> Result<Vec<Point>, AllocError> {
     let mut points = Vec::new(alloc);
     for number in 0..2048u32 {
@@ -33,7 +33,7 @@ fn paraboloid(alloc: Global) -> Result<Vec<Point>, AllocError> {
     Ok(points)
 }
 
-/// The points (x, y, z) for x and y below 16 and z below 8: 8 are extreme.
+/// Returns the points (x, y, z) for x and y below 16 and z below 8: 8 are extreme.
 fn lattice(alloc: Global) -> Result<Vec<Point>, AllocError> {
     let mut points = Vec::new(alloc);
     for number in 0..2048u32 {
@@ -66,8 +66,8 @@ fn cuts_of(alloc: Global, count: u32) -> Result<Vec<Cut>, CutError> {
     Ok(cuts)
 }
 
-/// The hull of a list of points by a cut of its distinct ids; none where the cut is of another number
-/// of positions.
+/// Returns the hull of a list of points by a cut of its distinct ids; `None` if the cut is of
+/// another number of positions.
 fn hull_by<R: Threads + Sync>(
     rt: &R,
     alloc: Global,
@@ -86,7 +86,7 @@ fn hull_by<R: Threads + Sync>(
     Ok(Some(run_hull(rt, alloc, points, &ids, cut, workers, &NoGate)?))
 }
 
-/// The number of ids, and the ids.
+/// Returns the number of ids, and the ids.
 fn push_ids(numbers: &mut Vec<usize>, ids: &[Id]) -> Result<(), AllocError> {
     numbers.push(ids.len())?;
     for id in ids {
@@ -95,8 +95,9 @@ fn push_ids(numbers: &mut Vec<usize>, ids: &[Id]) -> Result<(), AllocError> {
     Ok(())
 }
 
-/// What a hull says, as numbers: how many points and distinct points there are, the dimension, how
-/// many edges, then the extreme ids and the ids of each face, each list after its length.
+/// Returns what a hull says, as numbers: how many points and distinct points there are, the
+/// dimension, how many edges, then the extreme ids and the ids of each face, each list after its
+/// length.
 fn numbers_of(alloc: Global, hull: &Hull) -> Result<Vec<usize>, AllocError> {
     let mut numbers = Vec::new(alloc);
     numbers.push(hull.given as usize)?;
@@ -110,7 +111,7 @@ fn numbers_of(alloc: Global, hull: &Hull) -> Result<Vec<usize>, AllocError> {
     Ok(numbers)
 }
 
-/// The board of a job whose one pass was worked to its end.
+/// Returns the board of a job whose one pass was worked to its end.
 fn worked_by_one<'a>(alloc: Global, job: Job<'a>) -> Result<Closed<Job<'a>>, BoardError>
     ensures { IfOk result (λ c. (closed_setup c).passes ≡ 1) }
 {
@@ -123,8 +124,8 @@ fn worked_by_one<'a>(alloc: Global, job: Job<'a>) -> Result<Closed<Job<'a>>, Boa
     Ok(board.close(lefts))
 }
 
-/// The points, their distinct ids and a cut of them as a job; none where the cut is of another number
-/// of positions.
+/// Returns the points, their distinct ids and a cut of them as a job; `None` if the cut is of
+/// another number of positions.
 fn job<'a>(pts: &'a [Point], ids: &'a [Id], cut: &'a Cut) -> Option<Job<'a>>
     requires { AreDistinctIds pts.now ids.now }
 {
@@ -135,7 +136,8 @@ fn job<'a>(pts: &'a [Point], ids: &'a [Id], cut: &'a Cut) -> Option<Job<'a>>
     Some(Job { pts, ids, cut })
 }
 
-/// What one pass finds of all blocks: the number of claims, the mark, and the ids at the root.
+/// Returns what one pass finds of all blocks: the number of claims, the mark, and the ids at the
+/// root.
 fn reduced_by_one<'a>(alloc: Global, job: Job<'a>) -> Result<(u64, Mark, Vec<usize>), Fail> {
     let closed = worked_by_one(alloc, job)?;
     let (claims, mark) = (closed.claims(), closed.mark(0));
@@ -157,7 +159,8 @@ fn one_pass_reduces_all_blocks(rt: HostRuntime) -> Result<(), Fail> {
     Ok(())
 }
 
-/// How one pass ends on 2,048 points in blocks of a size: the number of claims, and the mark.
+/// Returns how one pass ends on 2,048 points in blocks of a size: the number of claims, and the
+/// mark.
 fn end_of<R: Threads + Sync>(
     rt: &R,
     alloc: Global,

@@ -18,7 +18,7 @@ use std::process::Abort;
 use std::test::Fail;
 use std::thread::Threads;
 
-/// How an input begins, for messages.
+/// Returns how an input begins, for messages.
 fn beginning(input: &[u8]) -> &str {
     str::from_utf8(&input[..input.len().min(200)]).unwrap_or("no text")
 }

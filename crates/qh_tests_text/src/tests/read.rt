@@ -33,7 +33,7 @@ const CUBE_CORNERS: [Place; 8] = [
     (1, 1, 1),
 ];
 
-/// Whether the reading gave just these points, in this order.
+/// Returns true if the reading gave just these points, in this order.
 fn gave(outcome: &Result<Vec<Point>, ReadFault>, places: &[Place]) -> bool {
     match outcome {
         Ok(points) => {
@@ -82,7 +82,7 @@ fn assert_fault<R: Abort>(
     assert_eq!(rt; outcome.err(), Some(fault), "{text:?}, {way:?}");
 }
 
-/// These texts, one after the other.
+/// Returns these texts, one after the other.
 fn joined(alloc: Global, texts: &[&str]) -> Result<Vec<u8>, AllocError> {
     let mut bytes = Vec::new(alloc);
     for text in texts {
@@ -91,7 +91,7 @@ fn joined(alloc: Global, texts: &[&str]) -> Result<Vec<u8>, AllocError> {
     Ok(bytes)
 }
 
-/// A reader of files of this form.
+/// Returns a reader of files of this form.
 fn reader_of(alloc: Global, form: Form) -> Reader {
     match form {
         Form::Qhull => Reader::new(alloc),
@@ -113,7 +113,7 @@ fn assert_full<R: Abort>(rt: &R, reader: &mut Reader) {
     assert_eq!(rt; answers, (Err(FeedFault::Big), Ok(())));
 }
 
-/// The reading of these bytes, cut in two.
+/// Returns the reading of these bytes, cut in two.
 fn read_cut(alloc: Global, form: Form, bytes: &[u8], cut: usize) -> Result<Vec<Point>, ReadFault>
     requires { cut ≤ length bytes.now }
 {
@@ -134,7 +134,7 @@ fn feed_in_pieces(reader: &mut Reader, bytes: &[u8], length: usize) -> Result<()
     Ok(())
 }
 
-/// The reading of these bytes in pieces of this length, which is above 0.
+/// Returns the reading of these bytes in pieces of this length, which is above 0.
 fn read_in_pieces(
     alloc: Global,
     form: Form,

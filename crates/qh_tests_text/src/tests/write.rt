@@ -11,7 +11,7 @@ use std::test::Fail;
 mod refusals;
 mod writers;
 
-/// The hull of one point that was given once.
+/// Returns the hull of one point that was given once.
 fn one_point(alloc: Global) -> Result<Hull, Memory>
     ensures { IfOk result (λ h. h.body.extremes ≡ 0 ∷ []) }
 {
@@ -73,8 +73,8 @@ fn plan(greatest_piece: usize, room: usize) -> SinkPlan {
     }
 }
 
-/// Asserts how a device that fails by a plan is sent the tetrahedron: with this answer it has so many bytes, which are
-/// the first ones, and has failed once or, where all went well, not at all.
+/// Asserts how a device that fails by a plan is sent the tetrahedron: with this answer it has so many bytes,
+/// which are the first ones, and has failed once or, where all went well, not at all.
 fn assert_sent<R: AllocGlobal + Abort>(
     rt: &R,
     plan: SinkPlan,

@@ -55,7 +55,7 @@ impl Hold {
         }
     }
 
-    /// An event came.
+    /// Counts an event.
     fn tell(&self) {
         self.came.fetch_add(1, Ordering::SeqCst);
     }
@@ -70,7 +70,7 @@ impl Hold {
         self.late.fetch_add(1, Ordering::SeqCst);
     }
 
-    /// Whether the events came, and before any worker went on.
+    /// Returns true if the events came, and before any worker went on.
     fn came_in_time(&self) -> bool {
         self.came.load(Ordering::SeqCst) > 0 && self.late.load(Ordering::SeqCst) == 0
     }
@@ -131,7 +131,7 @@ pub(super) enum Watched {
 /// Each of them.
 pub(super) const WATCHED: [Watched; 3] = [Watched::RunHull, Watched::Answer, Watched::Serve];
 
-/// The text of the hull that `run_hull` takes of the points, in blocks of 3.
+/// Returns the text of the hull that `run_hull` takes of the points, in blocks of 3.
 fn text_by<R: Threads + Sync, G: Gate>(
     rt: &R,
     alloc: Global,
@@ -151,7 +151,7 @@ fn text_by<R: Threads + Sync, G: Gate>(
     Ok(text(alloc, &hull, points, settings.outs())?)
 }
 
-/// The outcome of `run_hull`, watched by a gate.
+/// Returns the outcome of `run_hull`, watched by a gate.
 fn hulled_by<R: Threads + Sync, G: Gate>(
     rt: &R,
     alloc: Global,
@@ -165,7 +165,7 @@ fn hulled_by<R: Threads + Sync, G: Gate>(
     }
 }
 
-/// The outcome of a call on the points under settings, watched by a gate.
+/// Returns the outcome of a call on the points under settings, watched by a gate.
 pub(super) fn outcome_by<R: AllocGlobal + Threads + Sync, G: Gate>(
     rt: &R,
     watched: Watched,

@@ -20,7 +20,7 @@ pub struct Joins {
 }
 
 impl Joins {
-    /// A gate for a board of this many blocks.
+    /// Returns a gate for a board of this many blocks.
     pub fn of(alloc: Global, blocks: u32) -> Result<Joins, AllocError> {
         let mut delivered = Vec::with_capacity(alloc, blocks as usize)?;
         for _ in 0..blocks {
@@ -33,7 +33,7 @@ impl Joins {
         })
     }
 
-    /// The number of nodes.
+    /// Returns the number of nodes.
     pub fn joins(&self) -> u64 {
         self.joins.load(Ordering::SeqCst)
     }

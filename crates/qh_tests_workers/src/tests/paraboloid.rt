@@ -1,4 +1,5 @@
-//! The 20,000 points of a paraboloid, all of them extreme, in four settings, and 60,000 whose hull is taken by threads.
+//! The 20,000 points of a paraboloid, all of them extreme, in four settings, and 60,000 whose hull is taken by
+//! threads.
 use qh_outcomes::{Asked, OFFT, Outcome, SUMMARY, answered_by, push_point};
 use qh_run::{Gate, NoGate};
 use qh_serve::Threaded;
@@ -22,7 +23,7 @@ const OUTPUTS: Asked<'static> = Asked {
 /// Numbers of workers and sizes of blocks.
 const WAYS: [(u32, u32); 4] = [(1, 20000), (2, 4096), (7, 4), (64, 4096)];
 
-/// The outputs by so many workers, in blocks of a size.
+/// Returns the outputs by so many workers, in blocks of a size.
 pub fn asked_in(way: (u32, u32)) -> Asked<'static> {
     let (workers, block) = way;
     Asked {
@@ -32,7 +33,7 @@ pub fn asked_in(way: (u32, u32)) -> Asked<'static> {
     }
 }
 
-/// The first points (x, y, x x + y y) for y below 100.
+/// Returns the first points (x, y, x x + y y) for y below 100.
 pub fn points(alloc: Global, count: u32) -> Result<String, AllocError> {
     let mut text = format!(in alloc; "3\n{count}\n")?;
     for number in 0..count.min(COUNT_LIMIT) {
@@ -42,7 +43,7 @@ pub fn points(alloc: Global, count: u32) -> Result<String, AllocError> {
     Ok(text)
 }
 
-/// The outcome of `answer` for an input under settings, watched by a gate.
+/// Returns the outcome of `answer` for an input under settings, watched by a gate.
 fn outcome_of<R: AllocGlobal + Threads + Sync, G: Gate>(
     rt: &R,
     asked: Asked,

@@ -19,7 +19,7 @@ const FREE: u64 = 0;
 /// What is kept of a block after it was delivered.
 const DELIVERED: u64 = 1000;
 
-/// What is kept of a block between: the pass that claimed it, and 1.
+/// Returns what is kept of a block between: the pass that claimed it, and 1.
 fn claimed_by(pass: u32) -> u64 {
     u64::from(pass).wrapping_add(1)
 }
@@ -29,13 +29,13 @@ fn claimed_by(pass: u32) -> u64 {
 struct Keeper {
     passes: u32,
     blocks: Vec<AtomicU64>,
-    /// How often it was told what is wrong: of a pass or a block that there is not, of a block that was claimed before, or
-    /// that another pass had claimed.
+    /// How often it was told what is wrong: of a pass or a block that there is not, of a block that was
+    /// claimed before, or that another pass had claimed.
     wrong: AtomicU64,
 }
 
 impl Keeper {
-    /// A keeper for a run of so many passes.
+    /// Creates a keeper for a run of so many passes.
     fn new(alloc: Global, passes: u32) -> Result<Keeper, AllocError> {
         let mut blocks = Vec::new(alloc);
         for _ in 0..BLOCKS {

@@ -83,7 +83,8 @@ fn push_fans(keys: &mut Vec<u64>, faces: &[Polygon]) -> Result<(), AllocError>
     Ok(())
 }
 
-/// The number of edges of the fans of faces; `count` is how many faces the fans have, for the memory.
+/// Returns the number of edges of the fans of faces; `count` is how many faces the fans have, for the
+/// memory.
 pub fn fan_edges(alloc: Global, faces: &[Polygon], count: usize) -> Result<usize, AllocError>
     ensures { IfOk result (λ n. n ≡ edge_count (fans faces.now)) }
 {

@@ -59,14 +59,14 @@ pub fn push_fans(text: &mut Vec<u8>, numbers: &[usize], faces: &[Polygon]) -> Re
     Ok(())
 }
 
-/// How many faces the fan of a face has.
+/// Returns how many faces the fan of a face has.
 pub fn fan_size(face: &[Id]) -> usize
     ensures { result ≡ length (fan face.now) }
 {
     if face.len() < 3 { 1 } else { face.len() - 2 }
 }
 
-/// How many faces the fans of faces have.
+/// Returns how many faces the fans of faces have.
 fn fan_faces(faces: &[Polygon]) -> Result<usize, AllocError>
     ensures { IfOk result (λ n. n ≡ length (fans faces.now)) }
 {

@@ -36,7 +36,7 @@ impl Form {
         }
     }
 
-    /// At least as many bytes as the lines of faces take in this form.
+    /// Returns an upper bound of the bytes that the lines of faces take in this form.
     pub fn room(self, faces: &[Polygon]) -> usize {
         match self {
             Form::Whole => faces_room(faces),

@@ -5,7 +5,7 @@ ghost use Rattle.qh_write.specs.steps.VertexTables.{numbered};
 use qh_model::Id;
 use std::alloc::{AllocError, Global};
 
-/// A table with the position among the extreme ids at each of them, and 0 elsewhere.
+/// Returns a table with the position among the extreme ids at each of them, and 0 elsewhere.
 pub fn vertex_numbers(
     alloc: Global,
     extremes: &[Id],

@@ -9,7 +9,7 @@ const NUMBER: usize = 12;
 /// The most bytes of the texts of `rank` and `s`.
 const SUMMARY: usize = 256;
 
-/// How many numbers the faces have in all, their lengths with them.
+/// Returns how many numbers the faces have in all, their lengths with them.
 fn face_numbers(faces: &[Polygon]) -> usize {
     let mut numbers = faces.len();
     for face in faces {
@@ -18,7 +18,7 @@ fn face_numbers(faces: &[Polygon]) -> usize {
     numbers
 }
 
-/// How many numbers the fans of the faces have at most, their lengths with them.
+/// Returns how many numbers the fans of the faces have at most, their lengths with them.
 fn fan_numbers(faces: &[Polygon]) -> usize {
     let mut triangles = 0usize;
     for face in faces {
@@ -27,12 +27,12 @@ fn fan_numbers(faces: &[Polygon]) -> usize {
     triangles.saturating_mul(4)
 }
 
-/// At least as many bytes as the lines of faces take.
+/// Returns an upper bound of the bytes that the lines of faces take.
 pub fn faces_room(faces: &[Polygon]) -> usize {
     face_numbers(faces).saturating_mul(NUMBER)
 }
 
-/// At least as many bytes as the lines of the fans of faces take.
+/// Returns an upper bound of the bytes that the lines of the fans of faces take.
 pub fn fans_room(faces: &[Polygon]) -> usize {
     fan_numbers(faces).saturating_mul(NUMBER)
 }
@@ -51,7 +51,7 @@ fn output_room(body: &Body, out: Out) -> usize {
     }
 }
 
-/// At least as many bytes as the outputs take.
+/// Returns an upper bound of the bytes that the outputs take.
 pub fn room_for(body: &Body, outs: &[Out]) -> usize {
     let mut room = 0usize;
     for out in outs {

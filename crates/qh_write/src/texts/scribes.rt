@@ -32,8 +32,8 @@ pub trait Scribe {
         ensures { OnOk result (text.new.items ≡ text.old.items ++ flat_map (face_by_table numbers.now) (shown form faces.now)) };
 }
 
-/// The part of faces with a number, where they are cut into parts of so many; the last may be shorter, and
-/// there is nothing past it.
+/// Returns the part of faces with a number, where they are cut into parts of so many; the last may be
+/// shorter, and there is nothing past it.
 fn part_of(faces: &[Polygon], size: usize, number: usize) -> &[Polygon]
     ensures { result.now ≡ take size (drop (number * size) faces.now) }
 {
@@ -43,7 +43,7 @@ fn part_of(faces: &[Polygon], size: usize, number: usize) -> &[Polygon]
     part
 }
 
-/// The text of faces in a form, each vertex by its number in a table.
+/// Returns the text of faces in a form, each vertex by its number in a table.
 fn faces_text(
     alloc: Global,
     form: Form,
@@ -81,7 +81,7 @@ fn push_parts(
     Ok(())
 }
 
-/// Appends faces in a form by as many threads, each at a part of them.
+/// Appends faces in a form by a number of threads, each at a part of them.
 fn push_faces_in_threads<R: Threads + Sync>(
     scribe: &InThreads<'_, R>,
     text: &mut Vec<u8>,
@@ -129,7 +129,7 @@ impl Scribe for Alone {
     }
 }
 
-/// At most so many threads of a runtime.
+/// A runtime and the greatest number of its threads.
 #[derive(Clone, Copy, Debug)]
 pub struct InThreads<'a, R> {
     pub rt: &'a R,

@@ -7,7 +7,7 @@ use Rattle.qh_plane.specs.declared.close_points.CloseBox.{CloseBox}
 use Rattle.qh_plane.specs.declared.close_points.TheConstants.{NO_ID}
 use Rattle.qh_plane.specs.steps.CloseBoxes.{slot_of, slot_at, AreSeen}
 use Rattle.qh_plane.proofs.SeenPlaces.{point_read, new_seen, again_seen, all_seen}
-use Rattle.qh_plane.proofs.close_points.distinct_in_box.Goals.{then-index+in_ok-push, else-index+else-not-are_one}
+use Rattle.qh_plane.proofs.close_points.distinct_in_box.Goals.{then-index+in_ok-push, else-index+else-not-same_point}
 use Rattle.qh_plane.proofs.close_points.distinct_in_box.Goals as goal
 
 -- what stands in a slot that holds an id
@@ -48,13 +48,13 @@ loop-number-preserved c =
           ∙ w.in_ok-push.ensures.items ∙ ap (λ n. ids ++ n ∷ []) w.new.ensures in
           subst (λ xs. AreSeen pts b xs (k + 1) c.if-index.ids.items) (sym slots-are)
           (subst (λ xs. AreSeen pts b (set slots (slot_of b (place pts k)) k) (k + 1) xs) (sym ids-are) next)
-      | else-index+else-not-are_one w ↦
+      | else-index+else-not-same_point w ↦
           let i = w.index-else-index.result.now in
           let read : i ≡ slot_at slots s = get_or_read slots s i room w.index-else-index.ensures NO_ID in
           let below : i < k = seen_id pts b slots k ids old s c.index.result.now i room c.index.ensures w.if-index.false w.index-else-index.ensures in
           let same : place pts i ≡ place pts k =
           sym (point_read pts i w.index-pts-index.result (omega (arith, below, within)) w.index-pts-index.is)
-          ∙ w.are_one.ensures.0 w.if-not-are_one.false
+          ∙ w.same_point.ensures.0 w.if-not-same_point.false
           ∙ point_read pts k w.index-pts-number-else-index.result within w.index-pts-number-else-index.is in
           let next = again_seen pts b slots k ids old within c.requires.few i (subst (λ n. slot_at slots n ≡ i) at (sym read)) below same in
           subst (λ xs. AreSeen pts b xs (k + 1) c.if-index.ids.items)

@@ -12,7 +12,7 @@ use Rattle.qh_surface.proofs.walk.cross.Goals.{After-push_reserved}
 -- whether it is entered or not, the neighbour is marked if it passes
 module _ (g : Over) (c : After-push_reserved g) where
   abbrev P : ℕ → Type 0
-  P = g.T.Test.Passes c.args.test.now c.args.mesh.now
+  P = g.T.FacetPredicate.Passes c.args.test.now c.args.mesh.now
 
   abbrev place : ℕ
   place = c.index-place.result
@@ -45,7 +45,7 @@ pub returns-else-not-is_entered-clause-walk : goal.returns-else-not-is_entered-c
 returns-else-not-is_entered-clause-walk g c =
     let is = c.if-not-is_entered.false in let e = c.enters-is_entered.ensures.0 is in
     rw (e.0, is, c.push_reserved.ensures.items, c.index-place.ensures, c.facet_of-neighbour.ensures)
-    (joined (g.T.Test.Passes c.args.test.now c.args.mesh.now) c.args.mesh.now c.args.marks.now c.args.found.now.items
+    (joined (g.T.FacetPredicate.Passes c.args.test.now c.args.mesh.now) c.args.mesh.now c.args.marks.now c.args.found.now.items
     (facet_of c.across-twin.result) c.requires.walk c.requires.marks c.across-twin.ensures.live
     (rw (c.index-place.ensures, c.facet_of-neighbour.ensures) at e.0) e.1)
 
@@ -53,6 +53,6 @@ pub returns-else-not-is_entered-clause-further : goal.returns-else-not-is_entere
 returns-else-not-is_entered-clause-further g c =
     let is = c.if-not-is_entered.false in let e = c.enters-is_entered.ensures.0 is in
     rw (e.0, is, c.push_reserved.ensures.items, c.index-place.ensures, c.facet_of-neighbour.ensures)
-    (joined_further (g.T.Test.Passes c.args.test.now c.args.mesh.now) c.args.mesh.now c.args.marks.now c.args.found.now.items
+    (joined_further (g.T.FacetPredicate.Passes c.args.test.now c.args.mesh.now) c.args.mesh.now c.args.marks.now c.args.found.now.items
     (facet_of c.across-twin.result) c.requires.walk c.requires.marks c.across-twin.ensures.live
     (rw (c.index-place.ensures, c.facet_of-neighbour.ensures) at e.0) e.1)

@@ -13,7 +13,7 @@ loop-next-smaller g c =
 
 pub loop-next-preserved : goal.loop-next-preserved
 loop-next-preserved g c =
-    let P = g.T.Test.Passes c.args.test.now c.args.mesh.now in let fs = c.args.mesh.now in
+    let P = g.T.FacetPredicate.Passes c.args.test.now c.args.mesh.now in let fs = c.args.mesh.now in
     let old = c.loop-next in let us = old.found.items in let vs = c.cross_all.new.found.items in let after = c.cross_all.new.marks in
     let step = c.in_ok-cross_all.ensures in let more = step.further.longer in let some = old.invariant.some in
     let h : old.next < length us = search rules in

@@ -1,11 +1,11 @@
-//! A large cone is searched: no point under it or about it is left to a look at every facet, neither of the cone as it
-//! is nor scaled up to coordinates near the limit.
+//! A large cone is searched: no point under it or about it is left to a look at every facet, neither of the
+//! cone as it is nor scaled up to coordinates near the limit.
 ghost use Rattle.std.specs.Prelude.{IfOk, length, ◌<◌};
 ghost use Rattle.qh_surface.specs.steps.Cones.{AreTriangles};
 
 use super::point;
 use crate::quickhull::cone_ring::{ConeRing, Wedge, opposite_of};
-use crate::quickhull::cone_search::Asked;
+use crate::quickhull::cone_search::Visibility;
 use qh_mesh::FacetNo;
 use qh_model::Point;
 use qh_pred::Plane;
@@ -13,7 +13,7 @@ use std::alloc::{AllocError, Global};
 use std::process::Abort;
 use std::test::Fail;
 
-/// The points, with all coordinates so many times as large.
+/// Returns the points, with all coordinates multiplied by a factor.
 fn scaled(alloc: Global, points: &[Point], factor: i32) -> Result<Vec<Point>, AllocError> {
     let mut all = Vec::new(alloc);
     for p in points {
@@ -24,7 +24,8 @@ fn scaled(alloc: Global, points: &[Point], factor: i32) -> Result<Vec<Point>, Al
     Ok(all)
 }
 
-/// The corners (t, t^2) with t from -500 to 500, and on the edge that closes them three more.
+/// Returns the corners (t, t^2) with t from -500 to 500, and on the edge that closes them three
+/// more.
 fn rim(alloc: Global) -> Result<Vec<Point>, AllocError> {
     let mut corners = Vec::new(alloc);
     for t in -500..=500i32 {
@@ -36,7 +37,7 @@ fn rim(alloc: Global) -> Result<Vec<Point>, AllocError> {
     Ok(corners)
 }
 
-/// The ring of the cone from an apex over a rim.
+/// Returns the ring of the cone from an apex over a rim.
 fn ring_of(alloc: Global, apex: Point, rim: &[Point]) -> Result<ConeRing, AllocError>
     ensures { IfOk result (λ r. AreTriangles r.apex r.wedges.items) }
 {
@@ -65,7 +66,8 @@ fn ring_of(alloc: Global, apex: Point, rim: &[Point]) -> Result<ConeRing, AllocE
     })
 }
 
-/// Points of a lattice over the rim's box and higher than the apex, and the middles of the rays.
+/// Returns points of a lattice over the rim's box and higher than the apex, and the middles of the
+/// rays.
 fn orphans(alloc: Global, apex: Point, rim: &[Point]) -> Result<Vec<Point>, AllocError> {
     let mut points = Vec::new(alloc);
     for x in [-700, -500, -499, -300, -7, 0, 1, 7, 250, 499, 500, 700] {
@@ -86,7 +88,8 @@ fn orphans(alloc: Global, apex: Point, rim: &[Point]) -> Result<Vec<Point>, Allo
     Ok(points)
 }
 
-/// How many points a facet of the cone sees, how many none sees, and of how many the search does not tell.
+/// Returns how many points a facet of the cone sees, how many none sees, and of how many the search does
+/// not tell.
 fn told(
     alloc: Global,
     apex: Point,
@@ -96,17 +99,17 @@ fn told(
     let ring = ring_of(alloc, apex, rim)?;
     let (mut seen, mut unseen, mut unknown) = (0u32, 0u32, 0u32);
     for point in points {
-        match ring.asked(*point) {
-            Asked::Seen(_) => seen = seen.wrapping_add(1),
-            Asked::Unseen => unseen = unseen.wrapping_add(1),
-            Asked::Unknown => unknown = unknown.wrapping_add(1),
+        match ring.visibility(*point) {
+            Visibility::Seen(_) => seen = seen.wrapping_add(1),
+            Visibility::Unseen => unseen = unseen.wrapping_add(1),
+            Visibility::Unknown => unknown = unknown.wrapping_add(1),
         }
     }
     Ok([seen, unseen, unknown])
 }
 
-/// Asserts what a search of a cone tells of points: how many are seen and how many are not, counted by determinants of
-/// whole numbers without bound, and that it tells of all.
+/// Asserts what a search of a cone tells of points: how many are seen and how many are not, counted by
+/// determinants of whole numbers without bound, and that it tells of all.
 fn assert_told<R: AllocGlobal + Abort>(
     rt: &R,
     apex: Point,

@@ -4,12 +4,12 @@ ghost use Rattle.qh_model.specs.contract.IdSets.{AreIndices};
 
 use super::{LIMIT, point};
 use crate::quickhull::ends::ends_of;
-use crate::quickhull::near_order::morton_order;
+use crate::quickhull::morton::morton_order;
 use qh_model::{Id, Memory, Point};
 use std::alloc::Global;
 use std::test::Fail;
 
-/// Whether the ids have these numbers.
+/// Returns true if the ids have these numbers.
 fn are(ids: &[Id], numbers: &[u32]) -> bool {
     ids.len() == numbers.len()
         && ids
@@ -18,7 +18,7 @@ fn are(ids: &[Id], numbers: &[u32]) -> bool {
             .all(|(id, number)| id.number() == *number)
 }
 
-/// The ids with those of the numbers that are indices of the points.
+/// Returns the ids with those of the numbers that are indices of the points.
 fn ids_of(alloc: Global, pts: &[Point], numbers: &[u32]) -> Result<Vec<Id>, Memory>
     ensures { IfOk result (λ v. AreIndices pts.now v.items) }
 {
@@ -31,7 +31,7 @@ fn ids_of(alloc: Global, pts: &[Point], numbers: &[u32]) -> Result<Vec<Id>, Memo
     Ok(ids)
 }
 
-/// The ends of some of the points along the axes; none where there are no points.
+/// Returns the ends of some of the points along the axes; `None` if there are no points.
 fn ends_among(alloc: Global, pts: &[Point], numbers: &[u32]) -> Result<Option<[Id; 6]>, Memory> {
     let ids = ids_of(alloc, pts, numbers)?;
     if ids.is_empty() {
@@ -40,7 +40,7 @@ fn ends_among(alloc: Global, pts: &[Point], numbers: &[u32]) -> Result<Option<[I
     Ok(Some(ends_of(pts, &ids)))
 }
 
-/// Some of the points in their order along the curve.
+/// Returns some of the points in their order along the curve.
 fn ordered(alloc: Global, pts: &[Point], numbers: &[u32]) -> Result<Vec<Id>, Memory> {
     let ids = ids_of(alloc, pts, numbers)?;
     if ids.is_empty() {

@@ -5,7 +5,7 @@ ghost use Rattle.qh_model.specs.contract.IdSets.{IsIdSet};
 ghost use Rattle.qh_model.specs.contract.IdSets.{AreIndices};
 
 use super::point;
-use crate::quickhull::far_simplex::Simplex;
+use crate::quickhull::initial_simplex::Simplex;
 use crate::quickhull::surfaces::run_over;
 use qh_model::{Id, Memory, POINT_LIMIT, Point};
 use qh_plane::{Shape, distinct, rank};
@@ -13,7 +13,7 @@ use std::alloc::{AllocError, Global};
 use std::test::Fail;
 use std::thread::Threads;
 
-/// The corners (t, t^2) of a polygon, with t from -1000 to 1000, below and then above.
+/// Returns the corners (t, t^2) of a polygon, with t from -1000 to 1000, below and then above.
 fn prism(alloc: Global) -> Result<Vec<Point>, AllocError> {
     let mut corners = Vec::new(alloc);
     for z in [-1_000_000, 1_000_000] {
@@ -24,7 +24,7 @@ fn prism(alloc: Global) -> Result<Vec<Point>, AllocError> {
     Ok(corners)
 }
 
-/// How many facets a run over a set makes; none where it is not solid.
+/// Returns how many facets a run over a set makes; `None` if it is not solid.
 #[tactic(auto, using(crate::proofs::runs::FirstSimplexes::simplex_is))]
 fn made_by_run(alloc: Global, pts: &[Point], ids: &[Id]) -> Result<Option<usize>, Memory>
     requires indices { AreIndices pts.now ids.now }
@@ -40,7 +40,8 @@ fn made_by_run(alloc: Global, pts: &[Point], ids: &[Id]) -> Result<Option<usize>
     Ok(Some(run.made))
 }
 
-/// How many facets a run over the distinct points of a list makes; none where they are not solid.
+/// Returns how many facets a run over the distinct points of a list makes; `None` if they are not
+/// solid.
 fn facets_made<R: Threads + Sync>(
     rt: &R,
     alloc: Global,

@@ -7,7 +7,7 @@ use qh_model::{Body, Memory, Point};
 use std::alloc::{AllocError, Global};
 use std::test::Fail;
 
-/// The points of the corners.
+/// Returns the points of the corners.
 fn corners() -> [Point; 12] {
     [
         Point::new(0, -1, 1),
@@ -48,7 +48,7 @@ const CUBOCTAHEDRON: Row<'static> = Row {
     edges: 24,
 };
 
-/// The points up to the last corner: where no corner is, the centre.
+/// Returns the points up to the last corner: where no corner is, the centre.
 fn points(alloc: Global) -> Result<Vec<Point>, AllocError> {
     let mut pts = vec![in alloc; Point::new(0, 0, 0); 2097155]?;
     for (number, corner) in CUBOCTAHEDRON.extremes.iter().zip(&corners()) {
@@ -59,7 +59,7 @@ fn points(alloc: Global) -> Result<Vec<Point>, AllocError> {
     Ok(pts)
 }
 
-/// The hull of the corners.
+/// Returns the hull of the corners.
 fn hull_of_corners(alloc: Global) -> Result<Option<Body>, Memory> {
     let pts = points(alloc)?;
     let ids = ids_of(alloc, &pts, CUBOCTAHEDRON.extremes)?;

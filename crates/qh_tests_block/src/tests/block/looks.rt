@@ -1,13 +1,13 @@
 //! Filters a set of few points and the lattice points of a cube, of which 8 are extreme, and extreme ids
 //! without a filter.
-use qh_block::{extremes_unlooked, outer};
+use qh_block::{cull_interior, extremes_unculled};
 use qh_model::{Id, Memory, POINT_LIMIT, Point};
 use qh_plane::distinct_alone;
 use std::alloc::{AllocError, Global};
 use std::test::Fail;
 use std::thread::Threads;
 
-/// The lattice points of a cube with 3 on each side.
+/// Returns the lattice points of a cube with 3 on each side.
 fn few(alloc: Global) -> Result<Vec<Point>, AllocError> {
     let mut points = Vec::new(alloc);
     for number in 0..27 {
@@ -16,7 +16,7 @@ fn few(alloc: Global) -> Result<Vec<Point>, AllocError> {
     Ok(points)
 }
 
-/// The lattice points of a cube with 40 on each side: 64,000.
+/// Returns the lattice points of a cube with 40 on each side: 64,000.
 fn many(alloc: Global) -> Result<Vec<Point>, AllocError> {
     let mut points = Vec::new(alloc);
     for number in 0..64000 {
@@ -25,7 +25,8 @@ fn many(alloc: Global) -> Result<Vec<Point>, AllocError> {
     Ok(points)
 }
 
-/// The ids that the filter leaves of a list of points, by so many threads, and those that are extreme.
+/// Returns the ids that the filter leaves of a list of points, by a number of threads, and those that are
+/// extreme.
 fn left_of<R: Threads + Sync>(
     rt: &R,
     alloc: Global,
@@ -39,8 +40,8 @@ fn left_of<R: Threads + Sync>(
     if ids.is_empty() {
         return Err(Memory);
     }
-    let left = outer(rt, alloc, points, &ids, threads)?;
-    let extremes = extremes_unlooked(alloc, points, &ids)?;
+    let left = cull_interior(rt, alloc, points, &ids, threads)?;
+    let extremes = extremes_unculled(alloc, points, &ids)?;
     Ok((left, extremes))
 }
 

@@ -10,7 +10,7 @@ use std::alloc::{AllocError, Global};
 use std::test::Fail;
 use std::thread::Threads;
 
-/// The hull and the extreme ids, asked for again where memory was refused.
+/// Returns the hull and the extreme ids, asked for again if an allocation failed.
 fn hull_again<R: Threads + Sync>(
     rt: &R,
     alloc: Global,
@@ -22,8 +22,8 @@ fn hull_again<R: Threads + Sync>(
     }
 }
 
-/// Whether the surface, asked for again where memory was refused, is one; none where the points are
-/// flat.
+/// Returns true if the surface, asked for again if an allocation failed, is one; `None` if the
+/// points are flat.
 fn has_surface<R: Threads + Sync>(
     rt: &R,
     alloc: Global,
@@ -46,8 +46,8 @@ fn has_surface<R: Threads + Sync>(
     }
 }
 
-/// Whether the hull, the extreme ids and the surface of some points, each asked for again where memory was
-/// refused, are those of a row.
+/// Returns true if the hull, the extreme ids and the surface of some points, each asked for again where
+/// memory was refused, are those of a row.
 fn comes_out_right<R: Threads + Sync>(
     rt: &R,
     alloc: Global,

@@ -104,7 +104,7 @@ fn few_points(rt: HostRuntime) -> Result<(), Fail> {
     Ok(())
 }
 
-/// 20,000 points, each second one with the greatest x and the others with the least.
+/// Returns 20,000 points, each second one with the greatest x and the others with the least.
 fn greatest_and_least(alloc: Global, greatest: i32) -> Result<Vec<Point>, AllocError> {
     let mut pts = Vec::new(alloc);
     for y in 0..100i32 {

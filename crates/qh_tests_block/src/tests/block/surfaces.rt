@@ -17,7 +17,7 @@ use std::thread::Threads;
 /// The corners of a triangle, counterclockwise seen from outside.
 type Triangle = (u32, u32, u32);
 
-/// The points (x, y, x^2 + y^2) with x below 50 and y below 40. Each is extreme.
+/// Returns the points (x, y, x^2 + y^2) with x below 50 and y below 40. Each is extreme.
 fn paraboloid(alloc: Global) -> Result<Vec<Point>, AllocError> {
     let mut pts = Vec::new(alloc);
     for x in 0..50i32 {
@@ -29,7 +29,7 @@ fn paraboloid(alloc: Global) -> Result<Vec<Point>, AllocError> {
     Ok(pts)
 }
 
-/// The surface of a set, if it is solid.
+/// Returns the surface of a set, if it is solid.
 fn surface_of_set(alloc: Global, pts: &[Point], ids: &[Id]) -> Result<Option<Mesh>, Memory>
     requires indices { AreIndices pts.now ids.now }
     requires set { IsIdSet pts.now ids.now }
@@ -43,7 +43,7 @@ fn surface_of_set(alloc: Global, pts: &[Point], ids: &[Id]) -> Result<Option<Mes
     }
 }
 
-/// The surface of the distinct points of a list, if they are solid.
+/// Returns the surface of the distinct points of a list, if they are solid.
 pub fn solid_surface<R: Threads + Sync>(
     rt: &R,
     alloc: Global,
@@ -56,7 +56,7 @@ pub fn solid_surface<R: Threads + Sync>(
     surface_of_set(alloc, pts, ids.as_slice())
 }
 
-/// The triangles of a mesh.
+/// Returns the triangles of a mesh.
 pub fn triangles(alloc: Global, mesh: &Mesh) -> Result<Vec<Triangle>, AllocError> {
     let mut triangles = Vec::new(alloc);
     for f in mesh.live() {
@@ -66,7 +66,7 @@ pub fn triangles(alloc: Global, mesh: &Mesh) -> Result<Vec<Triangle>, AllocError
     Ok(triangles)
 }
 
-/// Whether the edges of triangles are all different, and each has its opposite.
+/// Returns true if the edges of triangles are all different, and each has its opposite.
 fn closes(alloc: Global, triangles: &[Triangle]) -> Result<bool, AllocError> {
     let mut edges = Vec::new(alloc);
     let mut opposites = Vec::new(alloc);
@@ -82,7 +82,7 @@ fn closes(alloc: Global, triangles: &[Triangle]) -> Result<bool, AllocError> {
     Ok(edges.as_slice() == opposites.as_slice())
 }
 
-/// Whether a triangle strictly sees none of the points.
+/// Returns true if a triangle strictly sees none of the points.
 fn supports(pts: &[Point], triangle: Triangle) -> bool {
     let (a, b, c) = triangle;
     match (
@@ -98,7 +98,7 @@ fn supports(pts: &[Point], triangle: Triangle) -> bool {
     }
 }
 
-/// The number of different corners.
+/// Returns the number of different corners.
 fn corner_count(alloc: Global, triangles: &[Triangle]) -> Result<usize, AllocError> {
     let mut used = Vec::new(alloc);
     for (a, b, c) in triangles {
@@ -111,7 +111,7 @@ fn corner_count(alloc: Global, triangles: &[Triangle]) -> Result<usize, AllocErr
     Ok(used.len())
 }
 
-/// Whether the triangles close up, support all points, and are 2 V - 4, as on a sphere.
+/// Returns true if the triangles close up, support all points, and are 2 V - 4, as on a sphere.
 pub fn is_surface(
     alloc: Global,
     pts: &[Point],
@@ -125,7 +125,8 @@ pub fn is_surface(
     )
 }
 
-/// Whether the triangles of a mesh are a surface of the points, and the numbers of triangles and of corners.
+/// Returns true if the triangles of a mesh are a surface of the points, and the numbers of triangles and of
+/// corners.
 fn told(alloc: Global, pts: &[Point], mesh: &Mesh) -> Result<(bool, usize, usize), AllocError> {
     let triangles = triangles(alloc, mesh)?;
     let is_sound = is_surface(alloc, pts, &triangles)?;
@@ -133,7 +134,8 @@ fn told(alloc: Global, pts: &[Point], mesh: &Mesh) -> Result<(bool, usize, usize
     Ok((is_sound, triangles.len(), corners))
 }
 
-/// The numbers of triangles and of corners of the surface of a solid set, which must be one.
+/// Returns the numbers of triangles and of corners of the surface of a solid set, which must be
+/// one.
 fn counts_of<R: AllocGlobal + Abort + Threads + Sync>(
     rt: &R,
     pts: &[Point],
@@ -151,7 +153,7 @@ fn corner_tetrahedron(rt: HostRuntime) -> Result<(), Fail> {
     Ok(())
 }
 
-/// Asserts that the surface of a cube, each corner of which is given so many times, has its triangles and corners.
+/// Asserts that the surface of a cube, each corner of which is given several times, has its triangles and corners.
 fn assert_cube<R: AllocGlobal + Abort + Threads + Sync>(
     rt: &R,
     low: i32,

@@ -18,7 +18,7 @@ impl Spans for Numbers {
     ghost right = { λ _ span list. IsRisingListOf span list.items };
 }
 
-/// The list of one number.
+/// Returns the list of one number.
 pub fn alone(alloc: Global, number: u32) -> Result<Vec<u32>, AllocError>
     ensures { IfOk result (λ list. list.items ≡ number ∷ []) }
 {
@@ -27,7 +27,7 @@ pub fn alone(alloc: Global, number: u32) -> Result<Vec<u32>, AllocError>
     Ok(list)
 }
 
-/// Two lists of the children of a node as one of the node.
+/// Returns two lists of the children of a node as one of the node.
 pub fn merged(a: Vec<u32>, b: Vec<u32>) -> Result<Vec<u32>, AllocError>
     ensures { IfOk result (λ list. (blocks : ℕ) (i : ℕ) → 0 < i → i < blocks → IsRisingListOf (InSpan blocks (2 * i)) a.items → IsRisingListOf (InSpan blocks (2 * i + 1)) b.items → IsRisingListOf (InSpan blocks i) list.items) }
 {

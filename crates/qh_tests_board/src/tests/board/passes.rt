@@ -36,7 +36,7 @@ pub struct Log {
 }
 
 impl Log {
-    /// Nothing yet.
+    /// Creates an empty log.
     pub fn new(alloc: Global) -> Log {
         Log {
             met: Vec::new(alloc),
@@ -153,7 +153,7 @@ fn work_all(
     Ok(lefts)
 }
 
-/// A board all of whose passes were worked to their end, the last first, and what they met.
+/// Returns a board all of whose passes were worked to their end, the last first, and what they met.
 pub fn run(alloc: Global, blocks: u32, passes: u32) -> Result<(Closed<Numbers>, Log), BoardError>
     ensures { IfOk result (λ r. (closed_setup r.0).passes ≡ passes) }
 {
@@ -163,7 +163,7 @@ pub fn run(alloc: Global, blocks: u32, passes: u32) -> Result<(Closed<Numbers>, 
     Ok((board.close(lefts), log))
 }
 
-/// A board of two blocks whose one pass leaves at once.
+/// Returns a board of two blocks whose one pass leaves at once.
 pub fn leave_at_once(alloc: Global) -> Result<Closed<Numbers>, BoardError>
     ensures { IfOk result (λ closed. (closed_setup closed).passes ≡ 1) }
 {
@@ -194,8 +194,8 @@ fn give_up_at_once(board: &Board<Numbers>, pass: Pass<Numbers>) -> Option<(Left<
     }
 }
 
-/// A board of two blocks whose first pass gives up at its block before the second works to its end,
-/// what tokens tell, and what the second met; none where the first gets no block.
+/// Returns a board of two blocks whose first pass gives up at its block before the second works to
+/// its end, what tokens tell, and what the second met; `None` if the first gets no block.
 pub fn first_gives_up(alloc: Global) -> Result<Option<(Closed<Numbers>, Told, Log)>, BoardError>
     ensures { IfOk result (λ r. IfSome r (λ s. (closed_setup s.0).passes ≡ 2)) }
 {

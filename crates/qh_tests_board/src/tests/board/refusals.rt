@@ -10,7 +10,8 @@ use qh_board::{BoardError, Closed};
 use std::alloc::Global;
 use std::test::Fail;
 
-/// A board all of whose passes were worked to their end, made again where memory was refused.
+/// Returns a board all of whose passes were worked to their end, made again where memory was
+/// refused.
 fn run_again(alloc: Global, blocks: u32, passes: u32) -> Result<(Closed<Numbers>, Log), BoardError>
     ensures { IfOk result (λ r. (closed_setup r.0).passes ≡ passes) }
 {

@@ -60,7 +60,7 @@ const SEVEN_JOINED: [Lists; 6] = [
     (1, &[1, 2, 3, 4], &[0, 5, 6]),
 ];
 
-/// Whether these lists were joined, in this order.
+/// Returns true if these lists were joined, in this order.
 fn are_joined(joins: &[Join], want: &[Lists]) -> bool {
     for (join, lists) in joins.iter().zip(want) {
         let (node, even, odd) = *lists;
@@ -133,7 +133,7 @@ fn no_root_where_nothing_is_claimed(rt: HostRuntime) -> Result<(), Fail> {
     Ok(())
 }
 
-/// Why there is no board of so many blocks and passes, if there is none.
+/// Returns why there is no board of so many blocks and passes, if there is none.
 fn refusal(alloc: Global, blocks: u32, passes: u32) -> Option<BoardError> {
     Board::new(alloc, Numbers { blocks }, blocks, passes).err()
 }

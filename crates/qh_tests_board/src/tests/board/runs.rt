@@ -46,7 +46,7 @@ fn work_last(
     Ok(Ended { lefts, met })
 }
 
-/// The passes of both, and what they met.
+/// Returns the passes of both, and what they met.
 fn gathered(one: Ended, two: Ended) -> Result<Ended, AllocError>
     ensures { IfOk result (λ e. e.lefts.items ≡ one.lefts.items ++ two.lefts.items) }
 {
@@ -89,7 +89,7 @@ fn work_side_by_side<R: Threads + Sync>(
     gathered(one?, two?)
 }
 
-/// A board worked side by side to its end, and what its passes met.
+/// Returns a board worked side by side to its end, and what its passes met.
 pub fn run_side_by_side<R: Threads + Sync>(
     rt: &R,
     alloc: Global,
@@ -104,7 +104,7 @@ pub fn run_side_by_side<R: Threads + Sync>(
     Ok((board.close(ended.lefts), ended.met))
 }
 
-/// The blocks that passes got, rising.
+/// Returns the blocks that passes got, rising.
 fn blocks_got(alloc: Global, met: &[Met]) -> Result<Vec<u32>, AllocError> {
     let mut blocks = Vec::new(alloc);
     for met in met {
@@ -116,7 +116,7 @@ fn blocks_got(alloc: Global, met: &[Met]) -> Result<Vec<u32>, AllocError> {
     Ok(blocks)
 }
 
-/// How many roots passes published.
+/// Returns how many roots passes published.
 fn roots_of(met: &[Met]) -> usize {
     let mut roots = 0usize;
     for met in met {

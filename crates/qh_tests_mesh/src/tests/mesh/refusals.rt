@@ -21,7 +21,7 @@ fn place(mesh: &Mesh, f: FacetNo) -> Place {
     ))
 }
 
-/// The number of places, and what the first eight hold.
+/// Returns the number of places, and what the first eight hold.
 fn places(mesh: &Mesh) -> (usize, [Place; 8]) {
     let mut places = [None; 8];
     for f in 0..8 {
@@ -30,7 +30,7 @@ fn places(mesh: &Mesh) -> (usize, [Place; 8]) {
     (mesh.places(), places)
 }
 
-/// Whether the triangles of a list of places are the wanted ones, and each has its twins.
+/// Returns true if the triangles of a list of places are the wanted ones, and each has its twins.
 fn are(mesh: &Mesh, list: &[FacetNo], want: &[Triangle]) -> bool {
     list.len() == want.len()
         && want

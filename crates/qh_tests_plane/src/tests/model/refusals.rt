@@ -6,7 +6,7 @@ use super::{Answer, assert_cut};
 use qh_model::{Cut, CutError, POINT_LIMIT};
 use std::alloc::Global;
 
-/// The even cut, asked for again where memory was refused.
+/// Returns the even cut, asked for again if an allocation failed.
 fn even_again(alloc: Global, m: u32, size: u32) -> Result<Cut, CutError>
     requires some { 0 < m }
     requires few { m ≤ POINT_LIMIT }

@@ -22,19 +22,20 @@ fn grids() -> [Grid; 4] {
     grids
 }
 
-/// The slanted grid, of which one inner point is moved to another place of the plane, outside a side.
+/// Returns the slanted grid, of which one inner point is moved to another place of the plane, outside
+/// a side.
 pub fn grid_with_point_outside() -> Grid {
     let [_, _, _, mut grid] = grids();
     grid[2450] = Point::new(35, -1, 34);
     grid
 }
 
-/// The normal from whose side rows of a grid are seen one above the other.
+/// Returns the normal from whose side rows of a grid are seen one above the other.
 pub fn normal_of(grid: &Grid) -> Normal {
     cross(grid[0], grid[69], grid[4899])
 }
 
-/// How many ids a look leaves.
+/// Returns how many ids a look leaves.
 fn left_of(alloc: Global, grid: &Grid, normal: &Normal) -> Result<usize, Memory> {
     let ids = distinct_alone(alloc, grid)?;
     match outer_ids(alloc, grid, normal, &ids)? {
@@ -43,7 +44,7 @@ fn left_of(alloc: Global, grid: &Grid, normal: &Normal) -> Result<usize, Memory>
     }
 }
 
-/// The polygon of a grid.
+/// Returns the polygon of a grid.
 pub fn polygon_of(alloc: Global, grid: &Grid, normal: &Normal) -> Result<Polygon, Memory> {
     let ids = distinct_alone(alloc, grid)?;
     polygon(alloc, grid, &ids, normal)

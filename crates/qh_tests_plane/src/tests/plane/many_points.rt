@@ -9,7 +9,7 @@ use std::thread::Threads;
 /// How many places there are. They differ in x, and lie neither close together nor in order.
 const PLACES: usize = 100_000;
 
-/// The place with a number.
+/// Returns the place with a number.
 fn place(number: usize) -> Point {
     let x = number % PLACES * 7919 % PLACES;
     let y = number % PLACES * 31_337 % 999_983;
@@ -17,7 +17,7 @@ fn place(number: usize) -> Point {
     Point::new(x as i32, y as i32, z as i32)
 }
 
-/// So many points. They begin again with the first place after the last.
+/// Returns `count` points. They begin again with the first place after the last.
 fn places(alloc: Global, count: usize) -> Result<Vec<Point>, AllocError> {
     let mut pts = Vec::new(alloc);
     for number in 0..count {
@@ -26,7 +26,7 @@ fn places(alloc: Global, count: usize) -> Result<Vec<Point>, AllocError> {
     Ok(pts)
 }
 
-/// The distinct ids in at most so many threads; none of points that are too many.
+/// Returns the distinct ids in at most so many threads; none of points that are too many.
 fn ids_in_threads<R: Threads + Sync>(
     rt: &R,
     alloc: Global,
@@ -39,7 +39,8 @@ fn ids_in_threads<R: Threads + Sync>(
     Ok(Some(distinct_in_threads(rt, alloc, pts, threads)?))
 }
 
-/// The distinct ids by all processors and by the calling thread alone; none of points that are too many.
+/// Returns the distinct ids by all processors and by the calling thread alone; none of points that are
+/// too many.
 fn ids_otherwise<R: Threads + Sync>(
     rt: &R,
     alloc: Global,

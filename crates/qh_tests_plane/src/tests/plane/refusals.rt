@@ -11,7 +11,7 @@ use std::process::Abort;
 use std::test::Fail;
 use std::thread::Threads;
 
-/// A side of an octahedron with the middles of its edges, one of them twice.
+/// Returns a side of an octahedron with the middles of its edges, one of them twice.
 fn side() -> [Point; 7] {
     [
         Point::new(2, 0, 0),
@@ -24,7 +24,8 @@ fn side() -> [Point; 7] {
     ]
 }
 
-/// The distinct ids, asked for again where memory was refused; none of points that are too many.
+/// Returns the distinct ids, asked for again if an allocation failed; none of points that are too
+/// many.
 fn distinct_again<R: Threads + Sync>(
     rt: &R,
     alloc: Global,
@@ -39,7 +40,7 @@ fn distinct_again<R: Threads + Sync>(
     }
 }
 
-/// The polygon of some of the points, asked for again where memory was refused.
+/// Returns the polygon of some of the points, asked for again if an allocation failed.
 fn polygon_again(
     alloc: Global,
     pts: &[Point],
@@ -52,7 +53,7 @@ fn polygon_again(
     }
 }
 
-/// Asserts which ids are distinct, asked for again where memory was refused.
+/// Asserts which ids are distinct, asked for again if an allocation failed.
 fn assert_distinct<R: AllocGlobal + Abort + Threads + Sync>(
     rt: &R,
     pts: &[Point],
@@ -70,7 +71,7 @@ fn tries_again_for_distinct_ids(rt: HostRuntime) -> Result<(), Fail> {
     assert_distinct(&rt, &side(), &[0, 1, 2, 3, 5, 6])
 }
 
-/// Asserts what the polygon of some of the points is, asked for again where memory was refused.
+/// Asserts what the polygon of some of the points is, asked for again if an allocation failed.
 fn assert_polygon<R: AllocGlobal + Abort>(
     rt: &R,
     pts: &[Point],

@@ -5,7 +5,7 @@ use qh_model::Point;
 use std::alloc::{AllocError, Global};
 use std::test::Fail;
 
-/// The lattice points of a cube with 51 on each side: 132,651.
+/// Returns the lattice points of a cube with 51 on each side: 132,651.
 fn lattice(alloc: Global) -> Result<Vec<Point>, AllocError> {
     let mut points = Vec::new(alloc);
     for number in 0..132651 {

@@ -11,14 +11,14 @@ pub struct Finishes {
 }
 
 impl Finishes {
-    /// A gate that was not called yet.
+    /// Creates a gate that was not called yet.
     pub fn new() -> Finishes {
         Finishes {
             calls: AtomicU64::new(0),
         }
     }
 
-    /// The number of calls of `finish`.
+    /// Returns the number of calls of `finish`.
     pub fn calls(&self) -> u64 {
         self.calls.load(Ordering::SeqCst)
     }

@@ -23,7 +23,7 @@ const CUBE_HULL: [usize; 43] = [
     7, 3, 4, 2, 3, 7, 6, 4, 4, 6, 7, 5,
 ];
 
-/// The hull, asked for again where memory was refused.
+/// Returns the hull, asked for again if an allocation failed.
 fn hull_again<R: Threads + Sync>(
     rt: &R,
     alloc: Global,
@@ -37,7 +37,7 @@ fn hull_again<R: Threads + Sync>(
     }
 }
 
-/// The numbers of a hull, asked for again where memory was refused.
+/// Returns the numbers of a hull, asked for again if an allocation failed.
 fn numbers_again(alloc: Global, hull: &Hull) -> Result<Vec<usize>, AllocError> {
     match numbers_of(alloc, hull) {
         Err(AllocError) => numbers_of(alloc, hull),
@@ -45,7 +45,7 @@ fn numbers_again(alloc: Global, hull: &Hull) -> Result<Vec<usize>, AllocError> {
     }
 }
 
-/// The even cut, asked for again where memory was refused.
+/// Returns the even cut, asked for again if an allocation failed.
 fn cut_again(alloc: Global, m: u32, size: u32) -> Result<Cut, CutError>
     requires some { 0 < m }
     requires few { m ≤ POINT_LIMIT }
@@ -56,8 +56,8 @@ fn cut_again(alloc: Global, m: u32, size: u32) -> Result<Cut, CutError>
     }
 }
 
-/// Whether the hull of a list of points by the even cut of its positions, each asked for again where memory
-/// was refused, says these numbers.
+/// Returns true if the hull of a list of points by the even cut of its positions, each asked for again
+/// if an allocation failed, says these numbers.
 fn comes_out_right<R: Threads + Sync>(
     rt: &R,
     alloc: Global,
@@ -98,7 +98,7 @@ enum Found {
     GaveUp,
 }
 
-/// What one pass finds of the octahedron in blocks of 3.
+/// Returns what one pass finds of the octahedron in blocks of 3.
 fn found_by_one(alloc: Global, points: &[Point], ids: &[Id], cut: &Cut) -> Result<Found, BoardError>
     requires { AreDistinctIds points.now ids.now }
 {
@@ -140,7 +140,8 @@ fn a_worker_gives_up(rt: HostRuntime) -> Result<(), Fail> {
     Ok(())
 }
 
-/// The points of a cubic lattice with 40 along each side: so many that the interior filter takes them.
+/// Returns the points of a cubic lattice with 40 along each side: so many that the interior filter
+/// takes them.
 fn lattice(alloc: Global) -> Result<Vec<Point>, AllocError> {
     let mut points = Vec::with_capacity(alloc, 64000)?;
     for number in 0..64000 {
@@ -149,7 +150,7 @@ fn lattice(alloc: Global) -> Result<Vec<Point>, AllocError> {
     Ok(points)
 }
 
-/// The distinct ids of some points, asked for again if an allocation failed.
+/// Returns the distinct ids of some points, asked for again if an allocation failed.
 fn ids_again<R: Threads + Sync>(rt: &R, alloc: Global, points: &[Point]) -> Result<Vec<Id>, Memory>
     requires few { length points.now ≤ POINT_LIMIT }
     ensures { IfOk result (λ ids. AreDistinctIds points.now ids.items) }
@@ -160,7 +161,8 @@ fn ids_again<R: Threads + Sync>(rt: &R, alloc: Global, points: &[Point]) -> Resu
     }
 }
 
-/// How often a run over a cut of some points calls the gate's `finish`, whatever comes of it.
+/// Returns how often a run over a cut of some points calls the gate's `finish`, whatever comes of
+/// it.
 fn finishes_of<R: Threads + Sync>(
     rt: &R,
     alloc: Global,

@@ -1,4 +1,4 @@
-//! Inputs of as many bytes as there may be, and of one more.
+//! Inputs of the greatest length that is read, and of one byte more.
 use super::assert_answered;
 use qh_fixtures::files::ONE_POINT;
 use qh_outcomes::RANK;
@@ -8,7 +8,7 @@ use std::test::Fail;
 /// One byte more than an input may have.
 const TOO_MANY: usize = 268435457;
 
-/// A text, then blanks up to one byte more than an input may have.
+/// Returns a text, then blanks up to one byte more than an input may have.
 fn too_long(alloc: Global, text: &[u8]) -> Result<Vec<u8>, AllocError> {
     let mut bytes = Vec::from_elem(alloc, b' ', TOO_MANY)?;
     for (byte, of_text) in bytes.iter_mut().zip(text) {

@@ -8,7 +8,8 @@ use std::process::Abort;
 use std::test::Fail;
 use std::thread::Threads;
 
-/// The combination i u + j v + k w of three edges of a lattice cell of volume 1 and of sides about m.
+/// Returns the combination i u + j v + k w of three edges of a lattice cell of volume 1 and of sides
+/// about m.
 fn combined(m: i64, i: i64, j: i64, k: i64) -> [i64; 3] {
     let by = |a: i64, b: i64| a.wrapping_mul(b);
     let less = m.wrapping_sub(1);
@@ -19,7 +20,7 @@ fn combined(m: i64, i: i64, j: i64, k: i64) -> [i64; 3] {
     ]
 }
 
-/// Two triangles that meet in a roof one step high, and its foot.
+/// Returns two triangles that meet in a roof one step high, and its foot.
 fn roof(alloc: Global, m: i64) -> Result<String, AllocError> {
     let mut text = String::from_str(alloc, "3\n5\n")?;
     for (i, j, k) in [(0, 0, 0), (3, 0, 0), (0, 3, 0), (1, 1, 1)] {
@@ -29,7 +30,7 @@ fn roof(alloc: Global, m: i64) -> Result<String, AllocError> {
     Ok(text)
 }
 
-/// A bowl of 121 points on a paraboloid over a wide lattice, and a point far above.
+/// Returns a bowl of 121 points on a paraboloid over a wide lattice, and a point far above.
 fn bowl(alloc: Global, m: i64) -> Result<String, AllocError> {
     let mut text = String::from_str(alloc, "3\n122\n")?;
     for i in -5..=5i64 {
@@ -43,7 +44,7 @@ fn bowl(alloc: Global, m: i64) -> Result<String, AllocError> {
     Ok(text)
 }
 
-/// The scalar product of a row of a matrix and three coordinates, times a factor.
+/// Returns the scalar product of a row of a matrix and three coordinates, times a factor.
 fn row_product(row: [i64; 3], p: [i64; 3], factor: i64) -> i64 {
     let [a, b, c] = row;
     let [x, y, z] = p;
@@ -51,7 +52,8 @@ fn row_product(row: [i64; 3], p: [i64; 3], factor: i64) -> i64 {
     sum.wrapping_add(c.wrapping_mul(z)).wrapping_mul(factor)
 }
 
-/// The lattice points of a ball of radius 3 under a matrix of determinant 1, times a factor.
+/// Returns the lattice points of a ball of radius 3 under a matrix of determinant 1, times a
+/// factor.
 fn basis(alloc: Global, factor: i64) -> Result<String, AllocError> {
     let mut text = String::from_str(alloc, "3\n123\n")?;
     for x in -3..=3i64 {

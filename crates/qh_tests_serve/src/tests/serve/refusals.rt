@@ -17,7 +17,7 @@ const ROWS: [(&str, u32, &str); 3] = [
     (OCTAHEDRON, 3, OCTAHEDRON_OFF),
 ];
 
-/// Settings for `off`, asked for again where memory was refused.
+/// Settings for `off`, asked for again if an allocation failed.
 fn settings_again(alloc: Global, workers: u32, block: u32) -> Result<Settings, SettingsError> {
     let asked = Asked {
         workers,
@@ -30,7 +30,7 @@ fn settings_again(alloc: Global, workers: u32, block: u32) -> Result<Settings, S
     }
 }
 
-/// Whether `answer`, called again where memory was refused, gives this text.
+/// Returns true if `answer`, called again if an allocation failed, gives this text.
 fn answers<R: Threads + Sync>(
     rt: &R,
     alloc: Global,
@@ -75,7 +75,7 @@ fn served_once<R: Threads + Sync>(
     }
 }
 
-/// Whether each row comes out right, by `answer` and by `serve`.
+/// Returns true if each row comes out right, by `answer` and by `serve`.
 fn rows_come_out_right<R: AllocGlobal + Threads + Sync>(
     rt: &R,
     workers: u32,

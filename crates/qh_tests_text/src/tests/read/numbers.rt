@@ -143,7 +143,8 @@ fn finds_faults_after_points_at_once(rt: HostRuntime) -> Result<(), Fail> {
     Ok(())
 }
 
-/// A file of 400 points, of which each second one is on a line with words that are none, and its points.
+/// Returns a file of 400 points, of which each second one is on a line with words that are none, and its
+/// points.
 fn long_file(alloc: Global) -> Result<(Vec<u8>, Vec<Place>), AllocError> {
     let mut text = Vec::from_slice(alloc, b"3\n400\n")?;
     let mut places = Vec::new(alloc);

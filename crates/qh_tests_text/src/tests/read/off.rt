@@ -101,7 +101,7 @@ fn finds_first_faults(rt: HostRuntime) {
     assert_refused(&rt, &REFUSED);
 }
 
-/// The reading of one vertex byte by byte, where the read with this number fails.
+/// Returns the reading of one vertex byte by byte, where the read with this number fails.
 fn read_failing(alloc: Global, fails_at: u64) -> Result<Vec<Point>, ReadFault> {
     let mut source = FailSource::new(b"OFF\n1 0 0\n5 5 5\n", 1, Some(fails_at));
     read_off_from(alloc, &mut source)

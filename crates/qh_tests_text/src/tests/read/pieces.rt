@@ -32,7 +32,7 @@ fn cuts_change_nothing(rt: HostRuntime) {
     }
 }
 
-/// A million times this digit after a beginning, and an end.
+/// Returns a million times this digit after a beginning, and an end.
 fn long_word(alloc: Global, front: &[u8], digit: u8, back: &[u8]) -> Result<Vec<u8>, AllocError> {
     let mut bytes = Vec::from_slice(alloc, front)?;
     let digits = Vec::from_elem(alloc, digit, 1000000)?;

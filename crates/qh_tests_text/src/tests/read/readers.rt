@@ -45,7 +45,7 @@ impl Read for Endless<'_> {
     }
 }
 
-/// The fault of a reading of blanks without end, and how many were read.
+/// Returns the fault of a reading of blanks without end, and how many were read.
 fn read_without_end(alloc: Global) -> (Option<ReadFault>, u64) {
     let given = AtomicU64::new(0);
     let mut source = StdSource::new(Endless { given: &given });
@@ -63,8 +63,8 @@ fn reads_one_piece_too_many(rt: HostRuntime) {
     );
 }
 
-/// The fault of a reading whose reader fails at a read, how many failures the source counted, and how many reads
-/// there were.
+/// Returns the fault of a reading whose reader fails at a read, how many failures the source counted, and how
+/// many reads there were.
 fn read_failing(alloc: Global, kind: ErrorKind, fails_at: u64) -> (Option<ReadFault>, u64, u64) {
     let reads = AtomicU64::new(0);
     let rest = b"3\n1\n5 5 5\n".as_slice();

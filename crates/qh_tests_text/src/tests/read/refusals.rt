@@ -51,14 +51,14 @@ fn feed_again(reader: &mut Reader, bytes: &[u8]) -> Result<(), FeedFault> {
     Ok(())
 }
 
-/// The reading of these bytes one by one.
+/// Returns the reading of these bytes one by one.
 fn fed(alloc: Global, bytes: &[u8]) -> Result<Vec<Point>, ReadFault> {
     let mut reader = Reader::new(alloc);
     feed_again(&mut reader, bytes)?;
     reader.finish()
 }
 
-/// The reading of a whole text, once more where it is refused.
+/// Returns the reading of a whole text, once more where it is refused.
 fn whole(alloc: Global, bytes: &[u8]) -> Result<Vec<Point>, ReadFault> {
     match read_points(alloc, bytes) {
         Err(ReadFault::Memory) => read_points(alloc, bytes),
@@ -66,7 +66,7 @@ fn whole(alloc: Global, bytes: &[u8]) -> Result<Vec<Point>, ReadFault> {
     }
 }
 
-/// The reading of a source, once more where it is refused.
+/// Returns the reading of a source, once more where it is refused.
 fn streamed(alloc: Global, bytes: &[u8]) -> Result<Vec<Point>, ReadFault> {
     match read_from(alloc, &mut MemSource::new(bytes)) {
         Err(ReadFault::Memory) => read_from(alloc, &mut MemSource::new(bytes)),
@@ -74,7 +74,7 @@ fn streamed(alloc: Global, bytes: &[u8]) -> Result<Vec<Point>, ReadFault> {
     }
 }
 
-/// The reading of a source in batches of a few bytes, once more where it is refused.
+/// Returns the reading of a source in batches of a few bytes, once more where it is refused.
 fn threaded<R: Threads + Sync>(
     rt: &R,
     alloc: Global,

@@ -134,7 +134,7 @@ fn refuses_words_that_are_no_numbers(rt: HostRuntime) -> Result<(), Fail> {
     Ok(())
 }
 
-/// How many points the beginning of the cube with this length gives, or its fault.
+/// Returns how many points the beginning of the cube with this length gives, or its fault.
 fn count_in_beginning(alloc: Global, length: usize) -> Result<usize, ReadFault>
     requires { length ≤ 52 }
 {

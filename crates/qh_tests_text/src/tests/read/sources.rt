@@ -16,8 +16,8 @@ fn reads_to_the_end(rt: HostRuntime) {
     assert_eq!(rt; source.failures(), 0);
 }
 
-/// How many points the cube gives byte by byte where the read with this number fails, or the fault, and how many
-/// failures the source counted.
+/// Returns how many points the cube gives byte by byte where the read with this number fails, or the fault, and
+/// how many failures the source counted.
 fn read_failing(alloc: Global, fails_at: u64) -> (Result<usize, ReadFault>, u64) {
     let mut source = FailSource::new(CUBE.as_bytes(), 1, Some(fails_at));
     let outcome = read_from(alloc, &mut source);

@@ -114,7 +114,7 @@ const SMALL: [Sizes; 6] = [
     },
 ];
 
-/// The reading of these bytes in these sizes.
+/// Returns the reading of these bytes in these sizes.
 fn read_sizes<R: Threads + Sync>(
     rt: &R,
     alloc: Global,
@@ -125,7 +125,7 @@ fn read_sizes<R: Threads + Sync>(
     read_form_sizes(rt, alloc, form, &mut MemSource::new(bytes), sizes)
 }
 
-/// The lines after a header, the line of this number exchanged for another.
+/// Returns the lines after a header, the line of this number exchanged for another.
 fn with_line(alloc: Global, header: &str, place: usize, line: &str) -> Result<Vec<u8>, AllocError> {
     let mut bytes = joined(alloc, &[header])?;
     for (i, other) in LINES.iter().enumerate() {
@@ -244,8 +244,8 @@ fn reads_no_comment_and_no_face(rt: HostRuntime) -> Result<(), Fail> {
     Ok(())
 }
 
-/// The reading of one point byte by byte in batches of four, where the read with this number fails, and how many
-/// failures the source counted.
+/// Returns the reading of one point byte by byte in batches of four, where the read with this number fails, and
+/// how many failures the source counted.
 fn read_failing<R: Threads + Sync>(
     rt: &R,
     alloc: Global,

@@ -7,7 +7,7 @@ use qh_write::{MemSink, Out, Sink, send, text};
 use std::alloc::Global;
 use std::test::Fail;
 
-/// The hull of the corners of a square and of its centre.
+/// Returns the hull of the corners of a square and of its centre.
 fn square(alloc: Global) -> Result<Hull, Memory>
     ensures { IfOk result (λ h. h.body.extremes ≡ 0 ∷ 1 ∷ 2 ∷ 3 ∷ []) }
 {
@@ -40,7 +40,7 @@ const OUTS: [Out; 5] = [
 const SQUARE_TEXT: &str =
     "5 5 2\nConvex hull of 5 points in 3-d:\n  dimension: 2\n  distinct points: 5\n  extreme points: 4\n  facets: 1\n  edges: 4\n4\n0\n1\n2\n3\nOFF\n4 1 4\n0 0 0\n2 0 0\n2 2 0\n0 2 0\n4 0 1 2 3\nOFF\n4 2 5\n0 0 0\n2 0 0\n2 2 0\n0 2 0\n3 0 1 2\n3 0 2 3\n";
 
-/// The same, asked for again where memory was refused.
+/// Returns the same, asked for again if an allocation failed.
 fn square_again(alloc: Global) -> Result<Hull, Memory>
     ensures { IfOk result (λ h. h.body.extremes ≡ 0 ∷ 1 ∷ 2 ∷ 3 ∷ []) }
 {
@@ -50,7 +50,7 @@ fn square_again(alloc: Global) -> Result<Hull, Memory>
     }
 }
 
-/// All texts of that hull, asked for again where memory was refused.
+/// Returns all texts of that hull, asked for again if an allocation failed.
 fn texts_again(alloc: Global) -> Result<Vec<u8>, Memory> {
     let pts = [
         Point::new(0, 0, 0),
@@ -73,8 +73,8 @@ fn tries_again_for_texts(rt: HostRuntime) -> Result<(), Fail> {
     Ok(())
 }
 
-/// Whether memory takes all bytes that are sent, once more where memory was refused. That is to be counted once, and
-/// nothing kept of it.
+/// Returns true if memory takes all bytes that are sent, once more if an allocation failed. That is to be counted
+/// once, and nothing kept of it.
 fn sends_again(alloc: Global, bytes: &[u8]) -> bool {
     let mut sink = MemSink::new(alloc);
     if send(&mut sink, bytes).is_err() {

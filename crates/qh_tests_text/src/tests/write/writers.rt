@@ -36,7 +36,8 @@ impl Calls {
         }
     }
 
-    /// The writes, the bytes taken, the flushes, and the bytes that were there at the last of them.
+    /// Returns the writes, the bytes taken, the flushes, and the bytes that were there at the last
+    /// of them.
     fn counts(&self) -> [u64; 4] {
         [
             self.writes.load(Ordering::SeqCst),
@@ -98,7 +99,8 @@ fn fails_to_flush(kind: ErrorKind) -> Manner {
     }
 }
 
-/// What sending bytes to a writer answers, how often the sink failed, and what the writer was called for.
+/// Returns what sending bytes to a writer answers, how often the sink failed, and what the writer was
+/// called for.
 fn calls_of(manner: Manner, bytes: &[u8]) -> (Result<(), SendFault>, u64, [u64; 4]) {
     let calls = Calls::none();
     let mut sink = StdSink::new(Counting {

@@ -3,7 +3,7 @@ use Rattle.std.proofs.lemmas.Grind.{common_steps}
 use Rattle.qh_model.specs.contract.IdSets.{AreIndices}
 use Rattle.qh_run.proofs.job.Job.ask_sample.Goals as goal
 
-pub extremes_unlooked-requires-clause-indices : goal.extremes_unlooked-requires-clause-indices
-extremes_unlooked-requires-clause-indices c =
+pub extremes_unculled-requires-clause-indices : goal.extremes_unculled-requires-clause-indices
+extremes_unculled-requires-clause-indices c =
     subst (AreIndices c.args.self.now.pts.now) (sym c.split_at.ensures.front)
     (λ k d h. let r = c.requires k d (grind (arith, common_steps, h)) in grind (arith, common_steps, h, r))

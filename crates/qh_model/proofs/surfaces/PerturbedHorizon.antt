@@ -1,0 +1,226 @@
+-- The horizon at perturbed places: where one of its sides ends exactly one begins.
+use Rattle.qh_model.specs.contract.{SoundSurface.IsSound, SoundSurface.IsStrict, Weighted.Weighted, Weighted.above}
+use Rattle.qh_model.specs.contract.Surface.{IsCorner, Side, Surface, HasTwin, IsWhole, end, rise, start, rest}
+use Rattle.qh_model.specs.steps.FarCorners.{far}
+use Rattle.qh_model.specs.headline.Sets.{In}
+use Rattle.std.proofs.Common.{◌≡◌, ◌≢◌, ℕ, refl, [], ◌∷◌, ap, sym, ◌∙◌, subst, ◌⊎◌, inl, inr, Bool, true, false}
+use native.Mathlib.Decide.{ℕ_discrete}
+use Rattle.std.proofs.lemmas.Bool.{and_parts}
+use Rattle.std.specs.Prelude.{ℤ, pos, ◌-ℤ◌, ◌*ℤ◌, neg_ℤ, ◌<ℤ◌, ◌&&◌}
+use Rattle.qh_model.proofs.algebra.{Order.mul-neg_neg, Order.neg-positive, Ring.ring}
+use Rattle.qh_model.proofs.algebra.Signs.{less_one_way, equal_negative, opposite_positive, opposite_negative}
+use Rattle.qh_model.proofs.algebra.Ring.Expr.{var, sub as less, mul, neg}
+use Rattle.qh_model.proofs.surfaces.{VisibleFacets.Least, VisibleFacets.least, PlanesThroughLine.line_product, Cone.Old, Cone.apex_rise}
+use Rattle.qh_model.proofs.surfaces.{Cone.corner_below_cone, KeptSound.edge_once, KeptSound.side_once}
+use Rattle.qh_model.proofs.surfaces.Facets.{rise_over, corner_end, corner_rest, corner_test, ends_differ, rest_differs}
+use Rattle.qh_model.proofs.surfaces.Connected.{positive, positive-is, positive-true}
+use Rattle.qh_model.proofs.surfaces.FacetSides.{side_next, start_next, end_next, from, from_is}
+use Rattle.qh_model.proofs.surfaces.Determinants.{above-turn, swap24, turned_first}
+
+-- ---- at perturbed places: every facet sees top or is seen to be above it
+pub record Scene (m : Surface) (home : ℕ → Weighted) (o : Weighted) : Type 0 where
+  pub whole : IsWhole m
+  pub sound : IsSound m home o
+  pub at : ℕ → Weighted
+  pub strict : IsStrict m at
+  pub top : Weighted
+  pub known : (f : ℕ) → In f m.live → (pos 0 <ℤ rise m at f top) ⊎ (rise m at f top <ℤ pos 0)
+
+-- a side of the horizon
+pub record HorizonSide (m : Surface) (at : ℕ → Weighted) (top : Weighted) (f : ℕ) (s : Side) : Type 0 where
+  pub live : In f m.live
+  pub seen : pos 0 <ℤ rise m at f top
+  pub blind : rise m at (m.over f s) top <ℤ pos 0
+
+module _ (m : Surface) (home : ℕ → Weighted) (o : Weighted) (c : Scene m home o) where
+  -- all other corners are strictly below the plane through a horizon side and top
+  pub horizon_below : (f : ℕ) (s : Side) → HorizonSide m c.at c.top f s
+      → (l : ℕ) → Old m l → l ≢ start m f s → l ≢ end m f s → apex_rise m c.at f s c.top (c.at l) <ℤ pos 0
+  horizon_below f s r l k ns ne = corner_below_cone m home o c.whole c.sound.inner c.at c.strict f r.live s l k ns ne c.top r.seen r.blind
+
+  -- a horizon side is known by its start, and by its end
+  pub horizon_once : (f g : ℕ) (s t : Side) → HorizonSide m c.at c.top f s → HorizonSide m c.at c.top g t → start m f s ≡ start m g t
+      → (f ≡ g) × (s ≡ t)
+  horizon_once f g s t a b e = one (ℕ_discrete (end m f s) (end m g t))
+    where
+      never : end m f s ≢ end m g t → ⊥
+      never n =
+          less_one_way _ _
+          (opposite_positive _ _ (swap24 (c.at (start m f s)) (c.at (end m f s)) c.top (c.at (end m g t)))
+          (subst (λ u. above (c.at u) (c.at (end m g t)) c.top (c.at (end m f s)) <ℤ pos 0) (sym e)
+          (horizon_below g t b (end m f s) (f, a.live, corner_end m f s)
+          (λ q. ends_differ m home o c.sound.inner f a.live s (e ∙ sym q)) n)))
+          (horizon_below f s a (end m g t) (g, b.live, corner_end m g t)
+          (λ q. ends_differ m home o c.sound.inner g b.live t (sym e ∙ sym q)) (λ q. n (sym q)))
+
+      one : Dec (end m f s ≡ end m g t) → (f ≡ g) × (s ≡ t)
+      one (no n) = absurd (never n)
+      one (yes k) =
+          let q = edge_once m home o c.sound f g a.live b.live s t e k in
+          (q, side_once m home o c.sound.inner g b.live s t (ap (λ h. start m h s) (sym q) ∙ e))
+
+-- ---- where a horizon side ends another begins
+-- is v a corner of the facet?
+has_corner : (m : Surface) (f v : ℕ) → Bool
+has_corner m f v = elim (corner_test m f v) [ inl c ↦ true | inr n ↦ false ]
+
+-- the test is right
+has_corner-is : (m : Surface) (f v : ℕ) → has_corner m f v ≡ true → IsCorner m f v
+unfolding has_corner
+has_corner-is m f v e = told (corner_test m f v) e
+  where
+    told : (d : IsCorner m f v ⊎ (¬ (IsCorner m f v))) → elim d [ inl c ↦ true | inr n ↦ false ] ≡ true → IsCorner m f v
+    told (inl c) k = c
+    told (inr n) k = cc
+
+-- and finds all
+has_corner-true : (m : Surface) (f v : ℕ) → IsCorner m f v → has_corner m f v ≡ true
+unfolding has_corner
+has_corner-true m f v c = passes (corner_test m f v)
+  where
+    passes : (d : IsCorner m f v ⊎ (¬ (IsCorner m f v))) → elim d [ inl c ↦ true | inr n ↦ false ] ≡ true
+    passes (inl k) = refl
+    passes (inr n) = absurd (n c)
+
+-- a horizon side that starts at v
+pub record Joined (m : Surface) (at : ℕ → Weighted) (top : Weighted) (v : ℕ) : Type 0 where
+  pub f : ℕ
+  pub s : Side
+  pub horizon : HorizonSide m at top f s
+  pub starts : start m f s ≡ v
+
+-- where a horizon side ends another starts
+pub horizon_next : (m : Surface) (home : ℕ → Weighted) (o : Weighted) (c : Scene m home o) (f : ℕ) (s : Side) → HorizonSide m c.at c.top f s
+    → Joined m c.at c.top (end m f s)
+horizon_next m home o c f s r = found (least mark p q m.live (λ g i e. p_pos g i e))
+  where
+    at : ℕ → Weighted
+    at = c.at
+
+    top : Weighted
+    top = c.top
+
+    u : ℕ
+    u = start m f s
+
+    v : ℕ
+    v = end m f s
+
+    w : ℕ
+    w = rest m f s
+
+    mark : ℕ → Bool
+    mark g = positive (rise m at g top) && has_corner m g v
+
+    out : ℕ → ℕ
+    out g = end m g (from m g v)
+
+    -- how far a point is above the plane through v, top and another
+    round : ℕ → Weighted → ℤ
+    round l y = above (at v) top (at l) y
+
+    p : ℕ → ℤ
+    p g = neg_ℤ (round u (at (out g)))
+
+    q : ℕ → ℤ
+    q g = neg_ℤ (round w (at (out g)))
+
+    parts : (g : ℕ) → mark g ≡ true → (positive (rise m at g top) ≡ true) × (has_corner m g v ≡ true)
+    parts g = and_parts (positive (rise m at g top)) (has_corner m g v)
+
+    seen : (g : ℕ) → mark g ≡ true → pos 0 <ℤ rise m at g top
+    seen g e = positive-is (rise m at g top) (parts g e).0
+
+    marked : (g : ℕ) → pos 0 <ℤ rise m at g top → IsCorner m g v → mark g ≡ true
+    marked g a b = rw (positive-true (rise m at g top) a, has_corner-true m g v b) refl
+
+    starts : (g : ℕ) → mark g ≡ true → start m g (from m g v) ≡ v
+    starts g e = from_is m g v (has_corner-is m g v (parts g e).1)
+
+    t : HasTwin m f s
+    t = c.whole f r.live s
+
+    -- the way back over the horizon side is no seen facet's
+    out_not_u : (g : ℕ) → In g m.live → mark g ≡ true → out g ≢ u
+    out_not_u g i e k =
+        let one = edge_once m home o c.sound g (m.over f s) i t.live (from m g v) (m.back f s) (starts g e ∙ sym t.start_is)
+        (k ∙ sym t.end_is) in
+        less_one_way _ _ (seen g e) (subst (λ h. rise m at h top <ℤ pos 0) (sym one) r.blind)
+
+    below : (l : ℕ) → Old m l → l ≢ u → l ≢ v → round u (at l) <ℤ pos 0
+    below l k a b = equal_negative _ _ (above-turn (at u) (at v) top (at l)) (horizon_below m home o c f s r l k a b)
+
+    p_pos : (g : ℕ) → In g m.live → mark g ≡ true → pos 0 <ℤ p g
+    p_pos g i e =
+        neg-positive _ (below (out g) (g, i, corner_end m g (from m g v)) (out_not_u g i e)
+        (λ k. ends_differ m home o c.sound.inner g i (from m g v) (starts g e ∙ sym k)))
+
+    vw : round u (at w) <ℤ pos 0
+    vw = let d = rest_differs m home o c.sound.inner f r.live s in below w (f, r.live, corner_rest m f s) d.0 d.1
+
+    -- the facet over the side that starts at v comes before
+    further : (g : ℕ) → In g m.live → mark g ≡ true → (d : Side) → from m g v ≡ d → pos 0 <ℤ rise m at (m.over g d) top
+        → (mark (m.over g d) ≡ true) × (pos 0 <ℤ (p g *ℤ q (m.over g d) -ℤ q g *ℤ p (m.over g d)))
+    further g i e d de k = (g'_marked, after_g)
+      where
+        g' : ℕ
+        g' = m.over g d
+
+        twin : HasTwin m g d
+        twin = c.whole g i d
+
+        starts_at_v : start m g d ≡ v
+        starts_at_v = ap (start m g) (sym de) ∙ starts g e
+
+        ends_at_v : end m g' (m.back g d) ≡ v
+        ends_at_v = twin.end_is ∙ starts_at_v
+
+        g'_marked : mark g' ≡ true
+        g'_marked = marked g' k (subst (IsCorner m g') ends_at_v (corner_end m g' (m.back g d)))
+
+        turn : from m g' v ≡ side_next (m.back g d)
+        turn =
+            side_once m home o c.sound.inner g' twin.live (from m g' v) (side_next (m.back g d))
+            (starts g' g'_marked ∙ sym ends_at_v ∙ sym (start_next m g' (m.back g d)))
+
+        out' : out g' ≡ far m g d
+        out' = ap (end m g') turn ∙ end_next m g' (m.back g d)
+
+        back_d : d ≡ from m g v
+        back_d = sym de
+
+        back_out : far m g d ≡ out g'
+        back_out = sym out'
+
+        rising : rise m at g' top ≡ neg_ℤ (round (out g) (at (out g')))
+        rising =
+            rise_over m at c.whole g i d top
+            ∙ (λ z. above (at (end m g (back_d z))) (at (starts_at_v z)) (at (back_out z)) top)
+            ∙ turned_first (at v) top (at (out g)) (at (out g'))
+
+        after_g : pos 0 <ℤ (p g *ℤ q g' -ℤ q g *ℤ p g')
+        after_g =
+            subst (λ z. pos 0 <ℤ z) (sym (same (round u (at (out g))) (round w (at (out g'))) (round u (at (out g'))) (round w (at (out g)))
+            ∙ line_product (at v) top (at u) (at w) (at (out g)) (at (out g'))))
+            (mul-neg_neg (round u (at w)) (round (out g) (at (out g'))) vw (opposite_negative _ _ rising k))
+          where
+            same : (a b x y : ℤ) → neg_ℤ a *ℤ neg_ℤ b -ℤ neg_ℤ y *ℤ neg_ℤ x ≡ a *ℤ b -ℤ x *ℤ y
+            same a b x y =
+                ring (a ∷ b ∷ x ∷ y ∷ []) (less (mul (neg (var 0)) (neg (var 1))) (mul (neg (var 3)) (neg (var 2))))
+                (less (mul (var 0) (var 1)) (mul (var 2) (var 3))) refl
+
+    found : ((g : ℕ) → In g m.live → mark g ≡ true → ⊥) ⊎ Least mark p q m.live → Joined m at top v
+    found (inl n) = absurd (n f r.live (marked f r.seen (corner_end m f s)))
+    found (inr l) = last (c.known (m.over l.m d) (c.whole l.m l.there d).live)
+      where
+        d : Side
+        d = from m l.m v
+
+        last : (pos 0 <ℤ rise m at (m.over l.m d) top) ⊎ (rise m at (m.over l.m d) top <ℤ pos 0) → Joined m at top v
+        last (inl k) = let h = further l.m l.there l.marked d refl k in absurd (l.least (m.over l.m d) (c.whole l.m l.there d).live h.0 h.1)
+        last (inr k) = record {
+          f = l.m;
+          s = d;
+          horizon = record { live = l.there; seen = seen l.m l.marked; blind = k };
+          starts = starts l.m l.marked;
+        }

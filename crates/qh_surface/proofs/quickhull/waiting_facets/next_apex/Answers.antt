@@ -1,0 +1,48 @@
+-- A facet without an outside set is passed over, and the first point of a set is the apex.
+use Rattle.std.proofs.Common.{◌<◌, ◌≡◌, ◌∙◌, ◌∷◌, sym, subst, length, refl, arith, IsPermutation}
+use Rattle.std.proofs.lemmas.List.{nil_from_length}
+use Rattle.std.proofs.lemmas.List.Elements.{All-head, All-tail}
+use Rattle.std.proofs.lemmas.List.Sorted.{All-permutation, IsPermutation-swap_remove}
+use Rattle.qh_surface.specs.steps.{OutsideSets.OutsideValue, Runs.IsUnderWay, Runs.IsPicked}
+use Rattle.qh_surface.proofs.runs.PickedApexes.{taken_is, none_taken, passed_over, picked, all_done}
+use Rattle.qh_surface.proofs.quickhull.waiting_facets.next_apex.Goals as goal
+
+-- the facet taken out and the others are those that waited
+taken_out : (c : goal.After-take_first-arg-1)
+    → IsPermutation c.loop-pending.pending.items (c.swap_remove-facet.result ∷ c.swap_remove-facet.new.self.items)
+taken_out c =
+    let pending = c.loop-pending.pending in let i = c.next.result in let f = c.swap_remove-facet.result in
+    let next = c.next.ensures in let len = c.len-in-loop-pending.ensures in let long = pending.ok.0 in
+    subst (λ rest. IsPermutation pending.items (f ∷ rest)) (sym c.swap_remove-facet.ensures.items)
+    (IsPermutation-swap_remove pending.items i f (omega (arith, next, len, long)) c.swap_remove-facet.ensures.value)
+
+pub take_first-requires : goal.take_first-requires
+take_first-requires c =
+    let v = c.loop-pending.sets in
+    All-head (λ f. f < length v.sets) _ _
+    (All-permutation (λ f. f < length v.sets) _ _ (taken_out c) c.loop-pending.invariant.within)
+
+pub returns-in-Some-clause-picked : goal.returns-in-Some-clause-picked
+returns-in-Some-clause-picked c pts fs ps k =
+    let e = c.in-Some.ensures in
+    subst (λ (v : OutsideValue). IsPicked pts fs ps v c.swap_remove-facet.new.self.items c.swap_remove-facet.result c.in-Some.apex)
+    (sym (taken_is _ _ _ e.positions e.orphans e.sets))
+    (picked (c.loop-pending.invariant.under_way pts fs ps k) _ _ (taken_out c.before.before) e.first e.position)
+
+pub loop-pending-preserved : goal.loop-pending-preserved
+loop-pending-preserved c =
+    let v = c.loop-pending.sets in let rest = c.swap_remove-facet.new.self.items in let old = c.loop-pending.invariant in
+    let e = c.in_default.ensures in let f = c.swap_remove-facet.result in let out = taken_out c.before.before in
+    let empty = e.none.0 refl in
+    let same : c.take_first.new.self ≡ v = taken_is _ _ _ e.positions e.orphans e.sets ∙ none_taken v f empty in record {
+      within = rw same (All-tail (λ g. g < length v.sets) f rest (All-permutation (λ g. g < length v.sets) _ _ out old.within));
+      same = same ∙ old.same;
+      under_way = λ pts fs ps k. subst (λ (w : OutsideValue). IsUnderWay pts fs ps w rest) (sym same)
+          (passed_over (old.under_way pts fs ps k) _ _ out empty);
+    }
+
+pub returns-clause-done : goal.returns-clause-done
+returns-clause-done c pts fs ps k =
+    let pending = c.loop-pending.pending in let long = pending.ok.0 in let len = c.len.ensures in let none = c.loop-pending-test.false in
+    all_done (subst (IsUnderWay pts fs ps c.loop-pending.sets) (nil_from_length pending.items (omega (arith, len, none, long)))
+    (c.loop-pending.invariant.under_way pts fs ps k))
