@@ -23,24 +23,21 @@ use qh_plane::rising_ids;
 use qh_surface::{NamedMesh, Simplex, surface_from};
 use std::alloc::{AllocError, Global};
 
-/// Returns the finished mesh of a set with these first ids off a line and a plane.
+/// Returns the finished mesh of a set whose first ids off a point, a line and a plane are those of `first`.
 pub fn solid_mesh(
     alloc: Global,
     pts: &[Point],
     ids: &[Id],
-    i: Id,
-    j: Id,
-    k: Id,
-    l: Id,
+    first: Simplex,
 ) -> Result<NamedMesh, Memory>
     requires indices { AreIndices pts.now ids.now }
-    requires two { AreFirstTwo ids.now i j }
-    requires off_line { IsFirstNot (IsInLine pts.now i j) ids.now k }
-    requires off_plane { IsFirstNot (IsInPlane pts.now i j k) ids.now l }
+    requires two { AreFirstTwo ids.now first.i first.j }
+    requires off_line { IsFirstNot (IsInLine pts.now first.i first.j) ids.now first.k }
+    requires off_plane { IsFirstNot (IsInPlane pts.now first.i first.j first.k) ids.now first.l }
     ensures finished { IfOk result (λ m. Once ids.now → IsFinished (place pts.now) ids.now (surface_of (named m))) }
     ensures named { IfOk result (λ m. IsNamedMesh pts.now m) }
 {
-    surface_from(alloc, pts, ids, Simplex { i, j, k, l })
+    surface_from(alloc, pts, ids, first)
 }
 
 /// Returns the ids of all polygons, one after the other.

@@ -14,7 +14,7 @@ pub struct Heights {
 }
 
 impl Heights {
-    /// Returns no heights.
+    /// Returns the empty range of heights.
     pub fn none() -> Heights {
         Heights { low: 1, high: 0 }
     }

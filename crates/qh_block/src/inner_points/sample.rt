@@ -13,7 +13,7 @@ use crate::solids::solid_mesh;
 use qh_mesh::Mesh;
 use qh_model::{Id, Memory, Point};
 use qh_plane::{Shape, rank};
-use qh_surface::plane_of;
+use qh_surface::{Simplex, plane_of};
 use std::alloc::{AllocError, Global};
 
 /// Returns every `step`-th id, from the first on.
@@ -67,7 +67,7 @@ pub fn inner_columns(
     if !rise(sample.ids) {
         return Ok(None);
     }
-    let mesh = solid_mesh(alloc, sample.pts, sample.ids, i, j, k, l)?.renamed();
+    let mesh = solid_mesh(alloc, sample.pts, sample.ids, Simplex { i, j, k, l })?.renamed();
     let planes = planes_of(alloc, sample.pts, &mesh)?;
     if !sample_pays(planes.len(), sample.ids.len()) {
         return Ok(None);
