@@ -20,7 +20,7 @@ LINK = re.compile(r"\]\(([^()\s]+)\)|(?:src|href)=\"([^\"]+)\"")
 HEADING = re.compile(r"^#+ (.*)$")
 ANCHOR = re.compile(r"<a id=\"([^\"]+)\">")
 SCHEME = re.compile(r"[a-z]+:")
-SKIPPED = {"out", "build", ".git", "venv", "node_modules"}
+SKIPPED = {"out", "build", "dist", "venv", "node_modules"}
 
 
 def prose_lines(text):
@@ -89,8 +89,9 @@ def map_faults():
 
 
 def documents():
-    """Every Markdown file of the repository."""
-    return sorted(path for path in TOP.rglob("*.md") if not SKIPPED & set(path.relative_to(TOP).parts))
+    """Every Markdown file of the repository; folders whose names begin with a point are left out."""
+    found = [(path, path.relative_to(TOP).parts) for path in TOP.rglob("*.md")]
+    return sorted(path for path, parts in found if not SKIPPED & set(parts) and not any(part[0] == "." for part in parts))
 
 
 def main():

@@ -24,7 +24,7 @@ MOST_CHARACTERS = 160
 
 LIMITS = {
     "longest parameter list": 7,
-    "long parameter lists": 15,
+    "long parameter lists": 14,
     "bare bools": 13,
     "long files": 12,
     "long lines": 61,
