@@ -66,7 +66,7 @@ no_outs found (Help text) h = absurd h
 no_outs found Usage h = λ s g r. h s.outs g.outs
 no_outs found Memory h = tt
 
--- an error of clap: help is what the words ask for; else clap refuses them, unless memory was refused
+-- an error of clap: help is what the words ask for; else clap refuses them, unless an allocation failed
 pub refusal : (app : App) (words : List Text) (e : Error) → IsProgram app → HasKind (fault_of app words) e → (takes app words ≡ true → kind_of e ≡ OutOfMemory)
     → (f : ArgFault) → IsRefusalOf (kind_of e) f → IsArgFaultOf words f
 refusal app words e is kinds passes (Help text) h = (app, is, among kinds)

@@ -114,7 +114,7 @@ fn out_of(name: &str) -> Option<Out>
     }
 }
 
-/// Returns the outputs of the words, or the summary where there are none.
+/// Returns the outputs of the words, or the summary if there are no words.
 fn outs_of(alloc: Global, names: Option<&[&str]>) -> Result<Vec<Out>, ArgFault>
     ensures outs { IfOk result (λ v. AreOutsOf (option_map (λ s. map (λ w. w.now) s.now) names.entry) v.items) }
     ensures fault { IfErr result (IsOutsFault (option_map (λ s. map (λ w. w.now) s.now) names.entry)) }
@@ -226,7 +226,7 @@ fn settings_in<'a>(alloc: Global, words: &'a [String]) -> Result<Settings, ArgFa
 /// # Errors
 ///
 /// `Help` with the help text where it is asked for, `Usage` where the words are no command line, and `Memory` where
-/// memory was refused.
+/// an allocation failed.
 pub fn settings_of(alloc: Global, words: Vec<String>) -> Result<Settings, ArgFault>
     ensures settings { IfOk result (AreSettingsOf (map string_bytes words.items)) }
     ensures fault { IfErr result (IsArgFaultOf (map string_bytes words.items)) }

@@ -5,7 +5,7 @@ use Rattle.qconvex_c.specs.contract.Flat.{ends_from, IsFlatHull}
 use Rattle.qconvex_c.specs.contract.Answered.{IsAnswered, NeedsRoom}
 use Rattle.qconvex_c.specs.declared.sizes.Sizes.{Sizes}
 
--- as many ends as faces
+-- one end for each face
 length-ends : (n : ℕ) (qs : List (List ℕ)) → length (ends_from n qs) ≡ length qs
 length-ends n [] = refl
 length-ends n (q ∷ qs) = let e = length-ends (n + length q) qs in omega (arith, e)

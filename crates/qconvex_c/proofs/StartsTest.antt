@@ -1,4 +1,4 @@
--- When starts are none: one falls, or one is beyond the points.
+-- When starts are invalid: one falls, or one is beyond the points.
 use Rattle.std.proofs.Common.{◌≡◌, ℕ, ◌+◌, ◌≤◌, ◌<◌, zero, suc, List, length, slice_index, arith, ap}
 use Rattle.qconvex_c.specs.contract.Sets.{AreStarts}
 

@@ -12,7 +12,7 @@ use std::alloc::Global;
 
 /// Returns the hulls of many sets of points, in buffers of the caller.
 ///
-/// Set j has the points from `starts[j]` to before `starts[j + 1]`, so there are as many sets as starts, less
+/// Set j has the points from `starts[j]` to before `starts[j + 1]`, so the number of sets is that of the starts, less
 /// one. It answers `DONE` where `answers` begins with the answer of each set, which is that of
 /// [`qconvex_hull`](crate::qconvex_hull) for it alone, with ids that count from the set's first point. Its
 /// hull stands in its part of each buffer: the part of set j begins at `starts[j]` in `extremes`, at `2 *

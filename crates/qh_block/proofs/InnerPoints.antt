@@ -150,7 +150,7 @@ kept_part pts columns ids kept none h = let k = h.each ids (λ i m. m) none in r
   extremes = record { within = k.within; extremes = λ i e. k.extremes i e.0 e };
 }
 
--- a part of such a part is one: an id that is extreme among more points is extreme among fewer
+-- a part of an outer part is an outer part: an id that is extreme among more points is extreme among fewer
 pub part_of_part : (pts : List Vector) (ids first second : List ℕ) → IsOuterPart pts ids first → IsOuterPart pts first second
     → IsOuterPart pts ids second
 part_of_part pts ids first second one two = record {

@@ -105,7 +105,7 @@ pub fn tree_pays(extremes: usize, among: usize) -> bool
 
 /// Returns true if the hull of the interior filter's sample has few enough facets.
 ///
-/// A hull of n points has at most 2 n - 4 facets. More than half as many say that most of the sample
+/// A hull of n points has at most 2 n - 4 facets. More than half of this number say that most of the sample
 /// is extreme, so that few points of the set are inside.
 pub(crate) fn sample_pays(facets: usize, sample: usize) -> bool {
     facets <= sample

@@ -97,7 +97,7 @@ pub fn cull_interior<R: Threads + Sync>(
 }
 
 /// Returns the extreme ids of a set, as [`extremes`] gives them, by a run over all of its ids: for a
-/// set that [`cull_interior`] was asked of before, or that is a part of such a one.
+/// set that [`cull_interior`] was asked of before, or that is a part of a culled set.
 ///
 /// # Errors
 ///

@@ -16,7 +16,7 @@ use qh_model::Point;
 use qh_pred::{Plane, point_at};
 use qh_surface::walk::FacetPredicate;
 
-/// Whether a facet lies in the plane of a live one, which the walk starts from.
+/// The predicate that a facet lies in the plane of a live one, which the walk starts from.
 #[derive(Clone, Copy, Drop)]
 pub struct IsLevel<'a> {
     pub pts: &'a [Point],

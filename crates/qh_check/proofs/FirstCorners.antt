@@ -1,4 +1,4 @@
--- The first three corners of a face are a supporting triple with this face, so a fault of a polygon shows that it is none.
+-- The first three corners of a face are a supporting triple with this face, so a fault of a polygon shows that it is no face.
 use Rattle.std.proofs.Common.{ℕ, ◌≡◌, ◌≢◌, inl, inr, refl, sym, subst, ◌∙◌, List, [], ◌∷◌}
 use Rattle.std.specs.Prelude.{pos, ◌<ℤ◌}
 use Rattle.qh_model.specs.headline.Vector.{Vector}

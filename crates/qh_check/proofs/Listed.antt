@@ -51,7 +51,7 @@ pub all_ends : {X : Type 0} (P : X → Type 0) (xs : List X) (k : ℕ) → lengt
 all_ends P xs k l h i d m =
     subst P (get_or-take k xs i d (omega arith)) (h i d (subst (λ n. i < n) (sym (length-take k xs)) (omega arith)))
 
--- a member of a list is one of its first so many, or of the others
+-- a member of a list is among its first items, or among the others
 pub in_either : (n : ℕ) (xs : List ℕ) (x : ℕ) → In x xs → In x (take n xs) ⊎ In x (drop n xs)
 in_either n xs x m = of_append (take n xs) (drop n xs) x (subst (In x) (sym (take-append-drop n xs)) m)
 

@@ -1,4 +1,4 @@
--- Verdicts on surfaces: what is wrong with polygons shows that they are none, and where nothing is, they are.
+-- Verdicts on surfaces: what is wrong with polygons shows that they are no surface, and where nothing is wrong, they are one.
 use Rattle.std.proofs.Common.{ℕ, ◌≡◌, ◌≢◌, ◌<◌, ◌≤◌, arith, refl, subst, inl, inr, ap, List, [], ◌∷◌, length}
 use Rattle.std.proofs.Common.{get_or, All}
 use Rattle.qh_model.specs.headline.Vector.{Vector}

@@ -103,7 +103,7 @@ module _ (at : ℕ → Vector) (A : ℕ → Type 0) (b : BodyValue) (body : IsBo
       n (one_polygon_list at A b.dim b.polygons qs body.dim body.polygons
       (subst (λ k. ArePolygons at A k qs) (one_dimension at A dim b.dim is body.dim) polygons))
 
--- what such a verdict says is so where the set is not solid or there are no polygons
+-- what a verdict says is so where the set is not solid or there are no polygons
 pub compared : (at : ℕ → Vector) (A : ℕ → Type 0) (qs : List (List ℕ)) (v : Verdict)
     → (v ≡ Right) ↔ ArePolygonsOf at A qs → (v ≡ Right) ⊎ (v ≡ OtherPolygons)
     → (¬ (IsDimension at A 3)) ⊎ (qs ≡ []) → IsReason at A qs v

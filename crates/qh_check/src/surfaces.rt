@@ -152,7 +152,7 @@ fn compare_surface(
 /// of another set are as [`check`](crate::check) wants them.
 ///
 /// `ids` has at least one id, each the index of one of the points. That the ids rise and have distinct points
-/// (`IsIdSet`) is the caller's condition. The verdict is `Right` exactly where the polygons are such a
+/// (`IsIdSet`) is the caller's condition. The verdict is `Right` exactly where the polygons are a closed
 /// surface; another verdict says what is wrong: first a polygon that is no piece of a face, then an open
 /// edge, then a step that is taken twice. Of several polygons that are no pieces it names any one.
 ///

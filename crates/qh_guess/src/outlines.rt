@@ -130,7 +130,7 @@ impl Outline {
         piece(&self.points, size_at(level), cursor.index)
     }
 
-    /// Returns the first block after all points of a block, as large as such a one can be.
+    /// Returns the first block after all points of a block, as large as a block there can be.
     pub(crate) fn after(&self, cursor: Cursor) -> Cursor {
         let mut next = Cursor {
             level: cursor.level,

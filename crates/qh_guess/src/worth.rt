@@ -6,7 +6,7 @@ use qh_seam::{Divided, Part};
 /// The hull of so few corners is made soon enough.
 const FEW_CORNERS: usize = 40_000;
 
-/// So many facets of each part are asked, spread over all.
+/// The number of facets of each part that are asked, spread over all.
 const ASKED: usize = 64;
 
 /// Of some facets, how many are asked and how many of these go.

@@ -7,7 +7,7 @@ use std::fmt;
 pub enum Judgement {
     /// The verdict on the surface.
     Told(SurfaceVerdict),
-    /// The face at this position has a corner that is none of the points.
+    /// The face at this position has a corner that is not one of the points.
     Stranger(usize),
 }
 

@@ -1,4 +1,4 @@
-//! What the parts of a set give out: their faces that stay, each part's seen to be right by a thread of its own.
+//! What the parts of a set contribute: their faces that stay, each part's seen to be right by a thread of its own.
 ghost use Rattle.std.specs.Prelude.{All, ◌≡◌, ◌<◌, ◌⊎◌, ℕ, List, IfOk, IfSome, OnOk, length};
 ghost use Rattle.qh_model.specs.headline.Sets.{In};
 ghost use Rattle.qh_seam.specs.contract.Parts.{IsPartOf};
@@ -38,7 +38,7 @@ pub(crate) fn outlines_in_threads<R: Threads>(
     Ok(outlines)
 }
 
-/// Returns what the part with a number gives out, if the guess of it is seen to be right.
+/// Returns what the part with a number contributes, if the guess of it is seen to be right.
 fn given_by(
     alloc: Global,
     set: Divided,
@@ -75,7 +75,7 @@ fn add_all(polygons: &mut Vec<Polygon>, mut others: Vec<Polygon>) -> Result<(), 
     Ok(())
 }
 
-/// Returns what all parts give out together, if each gives out something.
+/// Returns what all parts contribute together, if each contributes something.
 fn all_given(
     alloc: Global,
     set: Divided,
@@ -97,7 +97,7 @@ fn all_given(
     Ok(Some(Given { faces, seam }))
 }
 
-/// Returns what the parts of a set give out, by a thread for each. None where the guess of one is not seen to
+/// Returns what the parts of a set contribute, by a thread for each. None where the guess of one is not seen to
 /// be right.
 pub(crate) fn given_in_threads<R: Threads>(
     rt: &R,

@@ -173,7 +173,7 @@ pub fn hull_by_parts<R: Threads>(
 }
 
 /// Returns the hull of a set, as [`hull`](qh_block::hull) gives it. Three or more workers take a large set by parts,
-/// which are joined, where most of its first ids are extreme among these: by at most so many threads.
+/// which are joined, where most of its first ids are extreme among these: by at most `workers` threads.
 ///
 /// `ids` has at least one id, each the index of one of the points. That the ids rise and have distinct
 /// points (`IsIdSet`) is the caller's condition.

@@ -44,7 +44,7 @@ module _ (points : List Vector) (ids : List ℕ) (plane : PlaneValue) where
   pub looked_beyond : (from to : ℕ) (old : List ℕ) → length points ≤ from → HasLooked points ids plane from to old old
   looked_beyond from to old h = looked_below from to old (λ k f m l. absurd (omega arith))
 
-  -- positions that are none
+  -- numbers that are no positions
   pub looked_further : (from to more : ℕ) (old found : List ℕ) → HasLooked points ids plane from to old found
       → ((k : ℕ) → k < more → k < length points → k < to) → HasLooked points ids plane from more old found
   looked_further from to more old found h w = record {

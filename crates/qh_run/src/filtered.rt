@@ -56,7 +56,7 @@ fn blocks_among(alloc: Global, job: &Job, left: &[Id]) -> Result<LeftBlocks, All
     Ok(LeftBlocks { bounds, counts })
 }
 
-/// Filters a job by at most so many threads: returns what is left of its ids and blocks, or `None` where
+/// Filters a job by at most `threads` threads: returns what is left of its ids and blocks, or `None` where
 /// no filter pays.
 ///
 /// # Errors

@@ -12,7 +12,7 @@ use std::alloc::Global;
 
 /// What is told of the blocks of a run, by the workers' threads, and takes the hull at its end.
 ///
-/// A gate may hold back the thread that calls it. No other worker waits for that one.
+/// A gate may hold back the thread that calls it. No other worker waits for that thread.
 pub trait Gate: Sync {
     /// Learns that a pass has claimed a block, before the pass works at it.
     fn claimed(&self, pass: u32, block: u32);

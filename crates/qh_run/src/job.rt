@@ -60,7 +60,7 @@ impl<'a> Job<'a> {
         Ok(())
     }
 
-    /// Returns the extreme ids of a part of the ids, which has all that are extreme among so many;
+    /// Returns the extreme ids of a part of the ids, which has all that are extreme among `among` ids;
     /// none where they tell that a tree does not pay.
     fn extremes_among(&self, alloc: Global, part: &[Id], among: usize) -> Result<Extremes, GivesUp>
         requires some { 0 < length part.now }
@@ -75,7 +75,7 @@ impl<'a> Job<'a> {
         Ok(Extremes { ids, among })
     }
 
-    /// Returns the extreme ids of a block, which stands for so many ids; `None` if they tell that a tree
+    /// Returns the extreme ids of a block, with the number of ids that it stands for; `None` if they tell that a tree
     /// does not pay.
     pub(crate) fn reduced(
         &self,

@@ -6,7 +6,7 @@ use qh_board::Spans;
 use qh_model::Memory;
 use std::alloc::Global;
 
-/// Why a pass gives up: memory was refused, or going on would cost more than it saves.
+/// Why a pass gives up: an allocation failed, or going on would cost more than it saves.
 #[derive(Clone, Copy, Debug, Drop)]
 pub(crate) struct GivesUp;
 

@@ -22,7 +22,7 @@ use std::thread::Threads;
 pub enum RunError {
     /// 1: the number of workers is not from 1 to `WORKER_LIMIT`.
     BadWorkers,
-    /// 2: memory was refused.
+    /// 2: an allocation failed.
     Memory,
 }
 
@@ -61,14 +61,14 @@ fn finished<G: Gate>(
 /// Returns the hull of a list of points.
 ///
 /// `ids` are its distinct ids, rising, as `qh_plane::distinct` gives them, and `cut` a cut of their
-/// positions, as many positions; the list has at most `POINT_LIMIT` points. These are the caller's
+/// positions, whose number is that of the ids; the list has at most `POINT_LIMIT` points. These are the caller's
 /// conditions.
 ///
 /// The calling thread filters a large set first: it removes points that it finds inside from the
 /// blocks, and leaves out the blocks that are empty then (`qh_block::cull_interior`). The workers share the
 /// blocks, no more workers than blocks, and the gate is told of each. Then the calling thread calls the
 /// gate's `finish` once: with the extreme ids that came out of all blocks, or with all ids where there
-/// are none, since a worker gave up or an allocation for the filter, the board or a thread failed. The
+/// do not exist, since a worker gave up or an allocation for the filter, the board or a thread failed. The
 /// answer does not depend on the cut, nor on the number of workers or the order of their steps.
 ///
 /// # Errors

@@ -11,7 +11,7 @@ pub record AreListed (m : Surface) (left corners : List ℕ) : Type 0 where
   pub all : AreAsked (λ f. (l : ℕ) → IsCorner m f l → In l corners) m.live left
   pub only : (l : ℕ) → In l corners → IsLiveCorner m l
 
--- at the start there are none
+-- at the start there is no such corner
 pub none_listed : (m : Surface) (left corners : List ℕ) → left ≡ m.live → corners ≡ [] → AreListed m left corners
 none_listed m left corners e none = record {
   all = asking_starts _ m.live left e;

@@ -1,4 +1,4 @@
--- A list of as many ids as it has different ones has each once.
+-- A list with no fewer different ids than items has each once.
 use Rattle.std.proofs.Common.{ℕ, ◌+◌, ◌≤◌, inl, inr, List, [], ◌∷◌, ◌++◌, length, arith, sym, subst}
 use Rattle.std.proofs.lemmas.List.{length-append}
 use Rattle.std.specs.Prelude.{◌↔◌}

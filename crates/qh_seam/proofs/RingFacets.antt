@@ -12,7 +12,7 @@ pub record AreRing (Q : ℕ → Type 0) (live left found : List ℕ) : Type 0 wh
   pub all : AreAsked (λ f. Q f → In f found) live left
   pub only : (f : ℕ) → In f found → In f live
 
--- at the start there are none
+-- at the start there is no such corner
 pub ring_starts : (Q : ℕ → Type 0) (live left found : List ℕ) → left ≡ live → found ≡ [] → AreRing Q live left found
 ring_starts Q live left found e none = record {
   all = asking_starts _ live left e;
@@ -37,7 +37,7 @@ module _ (Q : ℕ → Type 0) (live all left found : List ℕ) (f : ℕ) (a : Ar
         asked = λ g i. elim (a.all.asked g i) [ inl k ↦ inl k | inr h ↦ inr (λ q. in_append found (f ∷ []) g (inl (h q))) ];
       }
 
-  -- one that is none of it
+  -- one that is not in it
   pub none_found : (Q f → ⊥) → AreRing Q live left found
   none_found out = record {
     all = asking_goes _ live all left f a.all is (λ q. absurd (out q));

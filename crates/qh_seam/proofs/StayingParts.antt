@@ -1,4 +1,4 @@
--- A part that was asked for each other part stays, and gives out its faces.
+-- A part that was asked for each other part stays, and contributes its faces.
 use Rattle.std.proofs.Common.{◌≡◌, ℕ, ◌<◌, ◌⊎◌, inl, inr, List, All, Bool, true, length, get_or, sym, subst, ap, ◌∙◌}
 use Rattle.std.proofs.lemmas.List.{get_or_default}
 use Rattle.std.specs.List.{flat_map}

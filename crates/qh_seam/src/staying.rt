@@ -1,4 +1,4 @@
-//! The faces that a part gives out: those of its facets that stay where the corners of the other parts come in.
+//! The faces that a part contributes: those of its facets that stay where the corners of the other parts come in.
 ghost use Rattle.std.specs.Prelude.{◌≡◌, ◌<◌, ℕ, List, IfOk, IfSome, IsTrue, length, slice_index_or};
 ghost use Rattle.std.specs.List.{All, flat_map};
 ghost use Rattle.qh_model.specs.headline.Predicates.{place};
@@ -77,7 +77,7 @@ fn stays<'a>(
     Ok(true)
 }
 
-/// Returns the faces of the set that the part of this number gives out, if the guess of what stays of it is seen to
+/// Returns the faces of the set that the part of this number contributes, if the guess of what stays of it is seen to
 /// be right: the polygons of its marked facets, one for each plane, in no order.
 ///
 /// # Errors

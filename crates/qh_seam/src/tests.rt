@@ -122,7 +122,7 @@ fn runs_of(
     Ok(runs)
 }
 
-/// Returns the faces that the first part gives out, where the facets in the plane x = 0 are marked, or
+/// Returns the faces that the first part contributes, where the facets in the plane x = 0 are marked, or
 /// all are.
 fn first_faces(alloc: Global, marking: Marking) -> Result<Option<Vec<Polygon>>, Memory> {
     let pts = cube();
@@ -228,8 +228,8 @@ fn polygons_of(alloc: Global, faces: &[&[u32]]) -> Result<Vec<Polygon>, AllocErr
     Ok(polygons)
 }
 
-/// Returns the hull of the cube from the square that its first part gives out and other polygons; `None` if these do
-/// not make it.
+/// Returns the hull of the cube from the square that its first part contributes and other polygons; `None` if
+/// these do not make it.
 fn cube_with<R: Threads>(
     rt: &R,
     alloc: Global,
@@ -252,7 +252,7 @@ fn cube_with<R: Threads>(
     join_faces(rt, alloc, set, given, bridges, 2)
 }
 
-/// The square that the first part gives out.
+/// The square that the first part contributes.
 const GIVEN: [&[u32]; 1] = [&[0, 1, 3, 2]];
 
 /// The other faces of the cube.

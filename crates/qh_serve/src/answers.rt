@@ -109,7 +109,7 @@ pub(crate) fn text_of<R: Threads + Sync, G: Gate>(
     hull_text_of(rt, alloc, pts, &ids, settings, gate)
 }
 
-/// Returns the points in the input, or its first fault, read by as many threads as workers make the
+/// Returns the points in the input, or its first fault, read by one thread for each worker that makes the
 /// hull.
 fn points_in<R: Threads + Sync>(
     rt: &R,
@@ -133,8 +133,8 @@ fn points_in<R: Threads + Sync>(
 /// Returns the texts that the settings ask for, of the points in the input: the one text that the points alone
 /// define.
 ///
-/// As many threads read as workers make the hull. The gate is told of the workers' blocks, and takes the hull at
-/// the end of their run. Outputs that are all the rank need no hull: the gate is not called then.
+/// One thread reads for each worker that makes the hull. The gate is told of the workers' blocks, and takes
+/// the hull at the end of their run. Outputs that are all the rank need no hull: the gate is not called then.
 ///
 /// The fault is the first of the input, or out of memory. `Big` goes before all other faults, out of
 /// memory too. `answer` never answers that a device failed, that the text could not be sent or that a

@@ -12,11 +12,11 @@ use std::fmt;
 /// Why the program gave no answer. Its text is the line on standard error, without its end.
 #[derive(Clone, Copy, Debug, PartialEq, Eq)]
 pub enum Fault {
-    /// 1 to 10, and 14: the input could not be read, or memory was refused.
+    /// 1 to 10, and 14: the input could not be read, or an allocation failed.
     Read(ReadFault),
     /// 11: the output could not be sent.
     Send,
-    /// 12: the command line is none.
+    /// 12: the command line is invalid.
     Usage,
 }
 

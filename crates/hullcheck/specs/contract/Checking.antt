@@ -9,7 +9,7 @@ use Rattle.qh_faces.specs.contract.FaceFiles.{IsFaultOfFaces}
 use Rattle.hullcheck.specs.declared.fault.Fault.{Fault}
 use Rattle.hullcheck.specs.declared.fault.Fault.TheVariants.{Usage, Memory, Device, Points, Faces}
 
--- memory was refused; or it is a fault of the points that came, which is their first one if it is one of the text; or the first
+-- an allocation failed; or it is a fault of the points that came, which is their first one if it is one of the text; or the first
 -- one of the faces
 abbrev pub IsCheckFault : Reading → Option (List ℕ) → Option (List ℕ) → List ℕ → Fault → Type 0
 IsCheckFault reading old new faces Usage = ⊥

@@ -21,7 +21,7 @@ not_right = 1
 abbrev pub no_command : ℕ
 no_command = 2
 
--- memory was refused
+-- an allocation failed
 abbrev pub no_memory : ℕ
 no_memory = 3
 

@@ -110,7 +110,7 @@ pub record IsRefused (app : App) (words : List Text) : Type 0 where
 abbrev pub IsUsageOf : App → List Text → Type 0
 IsUsageOf app words = IsRefused app words ⊎ ((s : SettingsValue) → AreSettingsIn app words s → ¬ (IsInRange s.workers s.block))
 
--- why there are no settings: help is what the words ask for; a bad command line; or memory was refused
+-- why there are no settings: help is what the words ask for; a bad command line; or an allocation failed
 abbrev pub IsArgFaultOf : List Text → ArgFault → Type 0
 IsArgFaultOf words (Help text) = (app : App) × IsProgram app × IsAmong DisplayHelp (fault_of app words)
 IsArgFaultOf words Usage = (app : App) × IsProgram app × IsUsageOf app words

@@ -19,13 +19,13 @@ pub record AreSettingsFound (found : Found) (s : SettingsValue) : Type 0 where
   pub outs : AreOutsOf (option_map raw_values (matched_of found (codes "outs"))) s.outs
   pub form : IsFormOf (option_map raw_values (matched_of found (codes "from"))) s.form
 
--- why no settings were found: none are in range, or memory was refused
+-- why no settings were found: no value is in range, or an allocation failed
 abbrev pub IsFindingFault : Found → ArgFault → Type 0
 IsFindingFault found (Help text) = ⊥
 IsFindingFault found Usage = (s : SettingsValue) → AreSettingsFound found s → ¬ (IsInRange s.workers s.block)
 IsFindingFault found Memory = Unit {0}
 
--- why there are no outputs: a word is that of none, or memory was refused
+-- why there are no outputs: a word names no output, or an allocation failed
 abbrev pub IsOutsFault : Option (List Text) → ArgFault → Type 0
 IsOutsFault words (Help text) = ⊥
 IsOutsFault words Usage = (outs : List Out) → ¬ (AreOutsOf words outs)

@@ -21,7 +21,7 @@ pub struct Stream<'a> {
 }
 
 impl<'a> Stream<'a> {
-    /// Creates a stream of which these bytes are wanted, and which fails once it has so many.
+    /// Creates a stream of which these bytes are wanted, and which fails once it has a number of bytes.
     pub fn new(wanted: &'a [u8], room: usize) -> Stream<'a> {
         Stream {
             wanted,

@@ -17,7 +17,7 @@ QCONVEX_TOO_MANY = 2
 abbrev pub QCONVEX_RANGE : ℕ
 QCONVEX_RANGE = 3
 
--- memory was refused
+-- an allocation failed
 abbrev pub QCONVEX_MEMORY : ℕ
 QCONVEX_MEMORY = 4
 

@@ -9,7 +9,7 @@ use Rattle.qconvex_c.specs.contract.Codes.{QCONVEX_DONE, QCONVEX_NO_POINT, QCONV
 use Rattle.qconvex_c.specs.declared.set_answer.SetAnswer.{SetAnswer}
 use Rattle.qconvex_c.specs.declared.sizes.Sizes.{Sizes}
 
--- set j has the points from start j to before start j + 1: starts rise, there is one, and none is beyond so many points
+-- set j has the points from start j to before start j + 1: starts rise, there is one, and no one is beyond the number of points
 pub record AreStarts (count : ℕ) (starts : List ℕ) : Type 0 where
   pub some : 0 < length starts
   pub rising : (j : ℕ) → j + 1 < length starts → slice_index starts j ≤ slice_index starts (j + 1)

@@ -50,7 +50,7 @@ all_once (q ∷ qs) o each one = once_append (ups q) (flat_map ups qs) (once_ups
         o.0 (subst (λ (p : List ℕ). In p qs)
         (sym (one q r.0 (inl refl) (inr r.1) u v ((in_ups u v q).0 i).1 ((in_ups u v r.0).0 r.2).1)) r.1)
 
--- the faces of a solid have as many edges as their ways go up
+-- the faces of a solid have an edge for each step up
 pub edges_of_faces : (at : ℕ → Vector) (ids : List ℕ) (qs : List (List ℕ)) → HasDistinctPoints at (Members ids)
     → IsDimension at (Members ids) 3 → AreFaces at (Members ids) qs → Once qs → IsEdgeCount qs (all_edges_up qs)
 edges_of_faces at ids qs d solid faces once = record {

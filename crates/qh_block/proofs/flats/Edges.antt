@@ -1,4 +1,4 @@
--- The number of edges of one polygon: none for a point, one for a segment, else as many as it has members.
+-- The number of edges of one polygon: none for a point, one for a segment, else one for each member.
 use Rattle.std.proofs.Common.{◌≡◌, ◌≢◌, ℕ, suc, ◌<◌, [], ◌∷◌, ◌++◌, List, length, arith, inl, false, max, min, subst, sym, ◌⊎◌}
 use Rattle.std.proofs.lemmas.Grind.{common_steps}
 use Rattle.std.specs.List.{list_any}

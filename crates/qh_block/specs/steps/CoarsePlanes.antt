@@ -14,7 +14,7 @@ pub record IsCoarse (plane : PlaneValue) : Type 0 where
   pub normal : IsPlace plane.normal
   pub offset : IsOffset plane.offset
 
--- what so many steps leave of a number, not below 0
+-- what a number of steps leaves of a number, not below 0
 abbrev pub IsRest : ℤ → ℤ → ℤ → ℤ → Type 0
 IsRest number steps step rest = (number ≡ steps *ℤ step +ℤ rest) × (pos 0 ≤ℤ rest)
 
@@ -29,7 +29,7 @@ abbrev pub IsRoomFor : Vector → Vector → ℤ → ℤ → Type 0
 IsRoomFor normal tip step room = (rests : Vector) × AreRests normal tip step rests
     × (room ≡ (rests.x +ℤ rests.y +ℤ rests.z) *ℤ pos COORDINATE_LIMIT)
 
--- so many steps leave room below an offset
+-- a number of steps leaves room below an offset
 abbrev pub IsLowered : ℤ → ℤ → ℤ → ℤ → Type 0
 IsLowered offset room step steps = (steps *ℤ step +ℤ room) ≤ℤ offset
 

@@ -4,7 +4,7 @@ use Rattle.std.specs.List.Sorted.{IsStrictlyIncreasing}
 use Rattle.qh_model.specs.headline.Hull.{BodyValue}
 use Rattle.qh_model.specs.headline.Sets.{In}
 
--- a hull of this dimension with one polygon, so many edges, and the polygon's members as the extreme ids
+-- a hull of this dimension with one polygon, this number of edges, and the polygon's members as the extreme ids
 pub record IsFlatBody (dim : ℕ) (q : List ℕ) (edges : ℕ) (b : BodyValue) : Type 0 where
   pub is : b ≡ record { dim = dim; extremes = b.extremes; polygons = q ∷ []; edges = edges }
   pub rising : IsStrictlyIncreasing b.extremes

@@ -57,7 +57,7 @@ HoldsPoint columns p = (c : Cell) × In c columns.cells.items × IsHeld columns.
 abbrev pub IsUnderFacet : List Vector → List StoredFacet → ℕ → PlaneValue → Type 0
 IsUnderFacet pts fs f plane = (p : Vector) → IsPlace p → height plane p <ℤ pos 0 → facet_vol (place pts) fs f p <ℤ pos 0
 
--- the list has such a plane
+-- the list has a plane like that
 abbrev pub HasPlane : List Vector → List StoredFacet → List PlaneValue → ℕ → Type 0
 HasPlane pts fs planes f = (plane : PlaneValue) × In plane planes × IsUnderFacet pts fs f plane
 

@@ -7,7 +7,7 @@ ghost use Rattle.qh_block.specs.steps.InnerPoints.{IsBetween, IsWithin, IsFarEnd
 use crate::inner_points::coarse_planes::CoarsePlane;
 use qh_model::Point;
 
-/// The points from one corner to the opposite one, these among them. There are none where a coordinate
+/// The points from one corner to the opposite one, these among them. There is no such point where a coordinate
 /// of the first corner is the greater one.
 #[derive(Clone, Copy, Drop)]
 pub struct Bounds {

@@ -60,7 +60,7 @@ impl Heights {
         }
     }
 
-    /// Returns true if there are none.
+    /// Returns true if there are no heights.
     pub fn is_empty(&self) -> bool {
         self.low > self.high
     }

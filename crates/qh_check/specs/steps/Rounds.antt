@@ -1,7 +1,7 @@
 -- Positions on the way round a polygon.
 use Rattle.std.specs.Prelude.{ℕ, ◌≡◌, ◌+◌, ◌++◌, ◌<◌, ◌≤◌, ◌⊎◌, List, drop, take}
 
--- who goes on from a position comes to another after so many steps and one, over the end or not
+-- who goes on from a position comes to another after this number of steps and one, over the end or not
 abbrev pub IsBehind : ℕ → ℕ → ℕ → ℕ → Type 0
 IsBehind from to count steps = ((from < to) × (from + 1 + steps ≡ to)) ⊎ ((to ≤ from) × (from + 1 + steps ≡ to + count))
 

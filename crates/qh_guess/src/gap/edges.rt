@@ -90,8 +90,8 @@ impl Border {
     }
 }
 
-/// Returns the border of polygons that a part gives out, where `seam` has the corners of the facets of the part that
-/// go, and `count` is above all ids.
+/// Returns the border of polygons that a part contributes, where `seam` has the corners of the facets of the
+/// part that go, and `count` is above all ids.
 ///
 /// # Errors
 ///

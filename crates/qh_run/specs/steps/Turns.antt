@@ -22,7 +22,7 @@ module _ {S X : Type 0} where
   answered (Root p) = p.pass
   answered (Both t x y) = t.pass
 
-  -- the node to go on from, 0 where there is none
+  -- the node to go on from, 0 if there is no such node
   abbrev pub answered_node : Delivered S X → ℕ
   answered_node (Parked p) = 0
   answered_node (Root p) = 0

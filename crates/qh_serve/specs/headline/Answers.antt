@@ -19,7 +19,7 @@ pub record ReadsAs (form : Form) (bytes : List ℕ) (P : List Vector → Type 0)
 abbrev pub IsAnswer : Form → List ℕ → List Out → List ℕ → Type 0
 IsAnswer form input outs text = ReadsAs form input (λ pts. IsText pts outs text)
 
--- memory was refused, or the fault is the first of the bytes
+-- an allocation failed, or the fault is the first of the bytes
 abbrev pub IsAnswerFault : Form → List ℕ → Fault → Type 0
 IsAnswerFault form input (faults.Read f) = (f ≡ reads.Memory) ⊎ IsFirstFault form input f
 IsAnswerFault form input faults.Send = ⊥

@@ -49,7 +49,7 @@ const CUBE_HULL: [usize; 43] = [
     2, 10, 14, 6, 4, 4, 6, 14, 12, 4, 8, 12, 14, 10,
 ];
 
-/// Cuts of so many positions, of which there are more than 6: even ones, the last of which may have
+/// Cuts of more than 6 positions: even ones, the last of which may have
 /// one block, and an uneven one.
 fn cuts_of(alloc: Global, count: u32) -> Result<Vec<Cut>, CutError> {
     if count <= 6 || count > POINT_LIMIT {

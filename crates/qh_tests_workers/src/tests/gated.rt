@@ -60,7 +60,7 @@ impl Hold {
         self.came.fetch_add(1, Ordering::SeqCst);
     }
 
-    /// Waits until so many events came, for `TURNS` turns at most.
+    /// Waits until a number of events came, for `TURNS` turns at most.
     fn wait(&self, events: u64) {
         for _ in 0..TURNS {
             if self.came.load(Ordering::SeqCst) >= events {

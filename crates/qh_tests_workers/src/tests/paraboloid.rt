@@ -23,7 +23,7 @@ const OUTPUTS: Asked<'static> = Asked {
 /// Numbers of workers and sizes of blocks.
 const WAYS: [(u32, u32); 4] = [(1, 20000), (2, 4096), (7, 4), (64, 4096)];
 
-/// Returns the outputs by so many workers, in blocks of a size.
+/// Returns the outputs by a number of workers, in blocks of a size.
 pub fn asked_in(way: (u32, u32)) -> Asked<'static> {
     let (workers, block) = way;
     Asked {
@@ -66,7 +66,7 @@ fn has_one_text_in_all_settings(rt: HostRuntime) -> Result<(), Fail> {
     Ok(())
 }
 
-/// How `offt` begins: as many vertices as points, 39,996 triangles, and their edges.
+/// How `offt` begins: one vertex for each point, 39,996 triangles, and their edges.
 const TRIANGLES: &str = "OFF\n20000 39996 59994\n";
 
 #[test]

@@ -35,7 +35,7 @@ struct Keeper {
 }
 
 impl Keeper {
-    /// Creates a keeper for a run of so many passes.
+    /// Creates a keeper for a run of a number of passes.
     fn new(alloc: Global, passes: u32) -> Result<Keeper, AllocError> {
         let mut blocks = Vec::new(alloc);
         for _ in 0..BLOCKS {

@@ -1,4 +1,4 @@
--- Each polygon is given out by a part or is a face of what is kept.
+-- Each polygon is contributed by a part or is a face of what is kept.
 use Rattle.std.proofs.Common.{ℕ, List, ◌⊎◌, inl, inr}
 use Rattle.qh_model.specs.headline.{Predicates.place, Sets.In, Sets.Members}
 use Rattle.qh_model.specs.contract.{IdSets.HasDistinctPoints, ClosedPolygons.IsFace}

@@ -1,4 +1,4 @@
--- As many ids as there are different ones are each once.
+-- A list without repeats has each of its ids once.
 use Rattle.std.proofs.Common.{◌≤◌, inl, inr, length, arith, sym, subst}
 use Rattle.std.proofs.lemmas.Result.{IfOk-weaker}
 use Rattle.qh_model.specs.headline.Sets.{In, Once}

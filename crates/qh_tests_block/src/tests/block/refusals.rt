@@ -47,7 +47,7 @@ fn has_surface<R: Threads + Sync>(
 }
 
 /// Returns true if the hull, the extreme ids and the surface of some points, each asked for again where
-/// memory was refused, are those of a row.
+/// an allocation failed, are those of a row.
 fn comes_out_right<R: Threads + Sync>(
     rt: &R,
     alloc: Global,

@@ -140,7 +140,7 @@ fn a_worker_gives_up(rt: HostRuntime) -> Result<(), Fail> {
     Ok(())
 }
 
-/// Returns the points of a cubic lattice with 40 along each side: so many that the interior filter
+/// Returns the points of a cubic lattice with 40 along each side: enough that the interior filter
 /// takes them.
 fn lattice(alloc: Global) -> Result<Vec<Point>, AllocError> {
     let mut points = Vec::with_capacity(alloc, 64000)?;

@@ -50,7 +50,7 @@ fn answers<R: Threads + Sync>(
 enum Served {
     /// All of the text was sent.
     Right,
-    /// Nothing was sent: memory was refused, of the hull or of the sink itself.
+    /// Nothing was sent: an allocation of the hull or of the sink itself failed.
     Refused,
     /// Anything else.
     Wrong,

@@ -1,4 +1,4 @@
--- The key of the facet is listed, or the facet is none of the ring.
+-- The key of the facet is listed, or the facet is not in the ring.
 use Rattle.std.proofs.Common.{◌≡◌, ◌∙◌, ◌++◌, inl, inr, ap, map, refl, [], ◌∷◌, Bool, true, false}
 use Rattle.std.proofs.lemmas.List.{map-append}
 use Rattle.qh_seam.specs.steps.RingKeys.{facet_in}

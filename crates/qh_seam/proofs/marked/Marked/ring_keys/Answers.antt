@@ -1,4 +1,4 @@
--- One more facet is listed, or is none of the ring.
+-- One more facet is listed, or is not in the ring.
 use Rattle.std.proofs.Common.{◌∙◌, ap, map}
 use Rattle.qh_model.proofs.surfaces.Stored.{live_is_marked}
 use Rattle.qh_surface.specs.contract.Walks.{mark_at}

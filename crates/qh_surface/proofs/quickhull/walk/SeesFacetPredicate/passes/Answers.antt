@@ -5,7 +5,7 @@ use Rattle.qh_mesh.specs.contract.Edges.{facet_of}
 use Rattle.qh_pred.specs.contract.Planes.{PlaneValue, height}
 use Rattle.qh_surface.specs.steps.Planes.{no_plane}
 use Rattle.qh_surface.proofs.LiveFacets.{live_below}
-use Rattle.qh_surface.proofs.quickhull.walk.Sees.passes.Goals as goal
+use Rattle.qh_surface.proofs.quickhull.walk.SeesFacetPredicate.passes.Goals as goal
 
 pub returns : goal.returns
 returns c =
