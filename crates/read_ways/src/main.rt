@@ -1,4 +1,4 @@
-//! Reads each file of its standard input in several ways, for `scripts/fuzz_ways.py`.
+//! Reads each file of its standard input in several ways, for `scripts/trials/fuzz_ways.py`.
 //!
 //! A file comes as `q` or `o` for its form, six digits for its length, a line end, and its bytes. Its line of the
 //! standard output is the number of its points and a sum over them, or its fault; `DIFFERENT` stands before it where

@@ -1,4 +1,4 @@
-//! The program where one allocation fails. `scripts/refusals.py` refuses each growth in turn.
+//! The program where one allocation fails. `scripts/trials/refusals.py` refuses each growth in turn.
 use super::stand_in::{StandIn, Stream};
 use crate::program::run;
 use std::process::ExitCode;

@@ -1,4 +1,4 @@
-//! The points of the stored run, as `scripts/stored_run.py` writes them.
+//! The points of the stored run, as `scripts/make/stored_run.py` writes them.
 
 pub const STORED: &str = "3 a sphere and a lattice
 284

@@ -1,5 +1,5 @@
 //! Calls of which one growth is refused: what they answer is right, or memory was wanted and the same
-//! call gives it. `scripts/refusals.py` refuses each growth in turn.
+//! call gives it. `scripts/trials/refusals.py` refuses each growth in turn.
 use super::solid_rows::{CUBE, OCTAHEDRON};
 use super::surfaces::{is_surface, solid_surface, triangles};
 use super::{Row, SQUARE, hull_of, is};

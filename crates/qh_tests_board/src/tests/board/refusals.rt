@@ -1,5 +1,5 @@
 //! Boards of which one growth is refused: their passes meet what they should, or memory was wanted and
-//! the same calls give it. `scripts/refusals.py` refuses each growth in turn.
+//! the same calls give it. `scripts/trials/refusals.py` refuses each growth in turn.
 ghost use Rattle.std.specs.Prelude.{◌≡◌, IfOk};
 ghost use Rattle.qh_board.specs.contract.Closings.{closed_setup};
 

@@ -13,7 +13,7 @@ use std::process::Abort;
 use std::test::Fail;
 use std::thread::{Threads, join};
 
-/// How many boards are run: `scripts/board_runs.sh` runs more of them.
+/// How many boards are run: `scripts/trials/board_runs.sh` runs more of them.
 const RUNS: u32 = 200;
 
 /// Passes that have ended, and what they met.

@@ -1,5 +1,5 @@
 //! The steps of the seven points, where one growth is refused. Each call that is refused leaves the
-//! mesh as it was, and is made again. `scripts/refusals.py` refuses each growth in turn.
+//! mesh as it was, and is made again. `scripts/trials/refusals.py` refuses each growth in turn.
 use super::{ROWS, Triangle, first_simplex, has_twins, seen_by, seven, triangle};
 use qh_mesh::{EdgeNo, FacetNo, Mesh};
 use qh_model::{Id, Memory};

@@ -1,5 +1,5 @@
 //! Cuts of which one growth is refused: the cut is right, or memory was wanted and the same call gives
-//! it. `scripts/refusals.py` refuses each growth in turn.
+//! it. `scripts/trials/refusals.py` refuses each growth in turn.
 ghost use Rattle.std.specs.Prelude.{◌<◌, ◌≤◌};
 
 use super::{Answer, assert_cut};

@@ -1,5 +1,5 @@
 //! Calls of which one growth is refused: what they answer is right, or memory was wanted and the same
-//! call gives it. `scripts/refusals.py` refuses each growth in turn.
+//! call gives it. `scripts/trials/refusals.py` refuses each growth in turn.
 use super::large_polygons::{self, grid_with_point_outside, normal_of};
 use super::{assert_ids, polygon_of};
 use qh_fixtures::points::{cube, square};

@@ -1,5 +1,5 @@
 //! Runs of which one growth is refused: the hull is right, or memory was wanted and the same call gives
-//! it. A worker whose growth is refused gives up. `scripts/refusals.py` refuses each growth in turn.
+//! it. A worker whose growth is refused gives up. `scripts/trials/refusals.py` refuses each growth in turn.
 ghost use Rattle.std.specs.Prelude.{◌<◌, ◌≤◌, IfOk, length};
 ghost use Rattle.qh_model.specs.headline.DistinctIds.{AreDistinctIds};
 

@@ -1,5 +1,5 @@
 //! Readings of which one growth is refused: the points are right, or memory was wanted and the same
-//! call gives them. `scripts/refusals.py` refuses each growth in turn.
+//! call gives them. `scripts/trials/refusals.py` refuses each growth in turn.
 use super::{CUBE_CORNERS, Place, Way, assert_points};
 use qh_fixtures::files::{CUBE, OCTAHEDRON, SQUARE};
 use qh_model::{Form, Point};

@@ -1,5 +1,5 @@
 //! Calls of which one growth is refused: what they give is right, or memory was wanted and the same
-//! call gives it. `scripts/refusals.py` refuses each growth in turn.
+//! call gives it. `scripts/trials/refusals.py` refuses each growth in turn.
 ghost use Rattle.std.specs.Prelude.{◌≡◌, [], ◌∷◌, IfOk};
 
 use qh_model::{Body, Hull, Id, Memory, Point, Polygon};
