@@ -24,7 +24,7 @@ ESCAPES = {"\\n": "\n", "\\\\": "\\", '\\"': '"'}
 # An item of a list: two blanks, its word, two blanks or more, what it is.
 ITEM = re.compile(r"  (\S.*?)  +(\S.*)")
 SEE_ALSO = """.SH SEE ALSO
-The repository's README.md, docs/FAULTS.md, docs/TUTORIAL.md and docs/WHY-EXACT.md.
+The repository's README.md, docs/PROGRAM.md, docs/FAULTS.md, docs/TUTORIAL.md and docs/WHY-EXACT.md.
 .PP
 Qhull has another program of this name, and Debian's page
 .B qconvex(1)
