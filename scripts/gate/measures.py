@@ -87,11 +87,14 @@ def functions_of(text):
     """Each function of a source, by name, with its parameters without those that are only handed on."""
     for found in FUNCTION.finditer(text):
         start = found.end()
-        if text[start : start + 1] == "<":
-            start = closing_index(text, start) + 1
-        if text[start : start + 1] != "(":
-            continue
-        parameters = parts_of(text[start + 1 : closing_index(text, start)])
+        try:
+            if text[start : start + 1] == "<":
+                start = closing_index(text, start) + 1
+            if text[start : start + 1] != "(":
+                continue
+            parameters = parts_of(text[start + 1 : closing_index(text, start)])
+        except ValueError:
+            continue  # words of a comment
         names = [re.sub(r"^&?('\w+ )?(mut )?", "", part.split(":")[0].strip()) for part in parameters]
         yield found.group(1), [part for part, name in zip(parameters, names) if name not in HANDED_ON]
 
