@@ -10,9 +10,8 @@ from lib.file_oracle import Fault, off_points_of, points_of  # noqa: E402
 from lib.hull_oracle import file_of, hull_text  # noqa: E402
 from lib.limits import BYTE_LIMIT, COORDINATE_LIMIT, POINT_LIMIT, limits_in  # noqa: E402
 from lib.paths import TOP  # noqa: E402
-from lib.point_boxes import Box  # noqa: E402
 from qconvex.commands.point_files import read, triples  # noqa: E402
-from qconvex.commands.vectors import dot  # noqa: E402
+from tools.check_hull import Box, dot  # noqa: E402
 
 CUBE = [(x, y, z) for x in (0, 1) for y in (0, 1) for z in (0, 1)]
 

@@ -7,7 +7,8 @@ POINTS is a point file. FACES is OFF text (ours, CGAL's, MeshLab's, ..) or what 
 standard input. It prints the first face or point that is wrong and ends with status 1, or `all right` with status 0:
 each face is a convex polygon of points of the file with all points on or below its plane, each side belongs to two faces
 that run along it in opposite ways, and each corner is an extreme point. Together that says that the faces are the whole
-hull, each part of it once.
+hull, each part of it once. The time grows with the number of faces and corners alone, but for points that no face names.
+The script needs nothing but Python, and can be copied alone.
 
 Corners are known by their coordinates. These are accepted by themselves, and the last line says so: faces that are parts
 of a larger one, such as triangles (--whole refuses them); faces that all run clockwise seen from outside, as Qhull's
@@ -17,20 +18,94 @@ polygon or parts of it, seen from either side; a line its two ends as one face; 
     crates/qconvex/out/qconvex off < examples/unit-cube.txt | scripts/tools/check_hull.py examples/unit-cube.txt -
 """
 import argparse
+import re
 import sys
-from collections import defaultdict
-from pathlib import Path
+from collections import defaultdict, namedtuple
+from fractions import Fraction
+from math import gcd
 
-sys.path.insert(0, str(Path(__file__).resolve().parents[1]))
-from lib import package  # noqa: E402,F401
-from lib.point_boxes import Box  # noqa: E402
-from qconvex.commands.off_files import read_off_file  # noqa: E402
-from qconvex.commands.point_files import points_of_file  # noqa: E402
-from qconvex.commands.vectors import cross, dot, lowest_terms, minus, polygon_normal, triangle_normal  # noqa: E402
+# A box with as few points is not parted further.
+FEW = 16
+
+# The points that faces name by their places, and the faces as lists of places.
+Faces = namedtuple("Faces", "points faces")
 
 
 class Wrong(Exception):
     """What is wrong with the faces."""
+
+
+def minus(p, q):
+    """The way from q to p."""
+    return (p[0] - q[0], p[1] - q[1], p[2] - q[2])
+
+
+def dot(p, q):
+    """The scalar product."""
+    return p[0] * q[0] + p[1] * q[1] + p[2] * q[2]
+
+
+def cross(p, q):
+    """The vector product."""
+    return (p[1] * q[2] - p[2] * q[1], p[2] * q[0] - p[0] * q[2], p[0] * q[1] - p[1] * q[0])
+
+
+def triangle_normal(a, b, c):
+    """The normal of a triangle, seen counterclockwise from its tip; zero if the corners are in line."""
+    return cross(minus(b, a), minus(c, a))
+
+
+def total_of(vectors):
+    """The sum of vectors."""
+    return tuple(map(sum, zip((0, 0, 0), *vectors)))
+
+
+def polygon_normal(points):
+    """The normal of a plane polygon, seen counterclockwise from its tip, as long as twice its area."""
+    return total_of([triangle_normal(points[0], b, c) for b, c in zip(points[1:], points[2:])])
+
+
+def lowest_terms(vector):
+    """The shortest whole vector of the same direction."""
+    divisor = gcd(*vector)
+    return tuple(part // divisor for part in vector) if divisor else vector
+
+
+class Box:
+    """Points with their bounds, parted in two once a plane that they may lie above asks for it."""
+
+    def __init__(self, points):
+        columns = list(zip(*points))
+        self.low, self.high = tuple(map(min, columns)), tuple(map(max, columns))
+        self.points, self.halves = points, ()
+
+    def part(self):
+        """Parts the box in the middle of its longest side. The points are distinct, so none of the halves is empty."""
+        if len(self.points) <= FEW:
+            return
+        axis = max(range(3), key=lambda k: self.high[k] - self.low[k])
+        middle = (self.high[axis] + self.low[axis]) // 2
+        below = [point for point in self.points if point[axis] <= middle]
+        above = [point for point in self.points if point[axis] > middle]
+        self.points, self.halves = (), (Box(below), Box(above))
+
+    def highest(self, normal):
+        """A bound of the heights of the points in the direction of a normal."""
+        return sum(part * (high if part > 0 else low) for part, low, high in zip(normal, self.low, self.high))
+
+    def above(self, normal, offset):
+        """Some point whose height is greater than the offset, or None."""
+        boxes = [self]
+        while boxes:
+            box = boxes.pop()
+            if box.highest(normal) <= offset:
+                continue
+            box.part()
+            boxes.extend(box.halves)
+            found = next((point for point in box.points if dot(normal, point) > offset), None)
+            if found is not None:
+                return found
+        return None
 
 
 def span(points):
@@ -55,8 +130,7 @@ class Checker:
         for number, point in enumerate(points):
             self.number.setdefault(point, number)
         self.ways = span(list(self.number))
-        self.box = Box(list(self.number))
-        self.total = tuple(sum(point[axis] for point in self.number) for axis in range(3))
+        self.total = total_of(self.number)
 
     def named(self, point):
         """A point as a message names it."""
@@ -101,11 +175,25 @@ class Checker:
             if not ahead or dot(triangle_normal(first, second, after), normal) <= 0:
                 raise Wrong(f"face {place} is no convex polygon: its sides cross at {self.named(after)}")
 
-    def check_support(self, place, polygon, normal):
-        """That no point lies above a face."""
-        outside = self.box.above(normal, dot(normal, polygon[0]))
+    def check_below(self, place, normal, offset, points):
+        """That none of some points lies above a face."""
+        outside = next((point for point in points if dot(normal, point) > offset), None)
         if outside is not None:
             raise Wrong(f"face {place}: {self.named(outside)} lies outside its plane")
+
+    def check_middle(self, place, polygon, normal):
+        """That the middle of all points lies below a face: one of the points lies above it if the middle does not."""
+        offset = dot(normal, polygon[0])
+        if dot(normal, self.total) >= len(self.number) * offset:
+            self.check_below(place, normal, offset, self.number)
+
+    def check_others(self, polygons, normals):
+        """That no point lies above a face, of those that no face names."""
+        others = list(set(self.number).difference(*polygons))
+        box = Box(others) if others else None
+        for place, (polygon, normal) in enumerate(zip(polygons, normals)) if box else ():
+            outside = box.above(normal, dot(normal, polygon[0]))
+            self.check_below(place, normal, dot(normal, polygon[0]), [] if outside is None else [outside])
 
     def is_inward(self, polygon):
         """Whether the middle of all points lies above a face."""
@@ -113,7 +201,7 @@ class Checker:
         return dot(normal, self.total) > len(self.number) * dot(normal, polygon[0])
 
     def pair_sides(self, polygons):
-        """The sides that no face runs along the other way, each with its face; no side may be run along twice."""
+        """The sides, each with its face; no side may be run along twice."""
         sides = {}
         for place, polygon in enumerate(polygons):
             for side in zip(polygon, polygon[1:] + polygon[:1]):
@@ -121,7 +209,25 @@ class Checker:
                     ends = " to ".join(map(self.named, side))
                     raise Wrong(f"faces {sides[side]} and {place} both run from {ends}")
                 sides[side] = place
-        return {side: place for side, place in sides.items() if side[::-1] not in sides}
+        return sides
+
+    def check_bends(self, polygons, normals, sides):
+        """That no face bends outward at a side: the corner of the next face behind the side is not above this one."""
+        for next_place, polygon in enumerate(polygons):
+            for start, end, behind in zip(polygon, polygon[1:] + polygon[:1], polygon[2:] + polygon[:2]):
+                place = sides[end, start]
+                self.check_below(place, normals[place], dot(normals[place], end), [behind])
+
+    def check_once(self, polygons, normals):
+        """That the faces go round the middle of all points once: the way from there through face 0 meets no other."""
+        count = len(self.number)
+        way = minus([count * part for part in total_of(polygons[0])], [len(polygons[0]) * part for part in self.total])
+        for place, (polygon, normal) in enumerate(zip(polygons, normals)):
+            if place == 0 or dot(normal, way) <= 0:
+                continue
+            rays = [minus([count * part for part in point], self.total) for point in polygon]
+            if all(dot(way, cross(ray, after)) >= 0 for ray, after in zip(rays, rays[1:] + rays[:1])):
+                raise Wrong(f"faces 0 and {place} lie one behind the other")
 
     def check_corners(self, polygons, normals):
         """That each corner is extreme: the planes of its faces meet in it alone."""
@@ -166,15 +272,34 @@ def planes_of(polygons, normals, whole):
     return len(planes)
 
 
+def unpaired(sides):
+    """The sides that no face runs along the other way, each with its face."""
+    return {side: place for side, place in sides.items() if side[::-1] not in sides}
+
+
+def check_convex(checker, polygons, normals):
+    """That polygons are the surface of a convex body around all points.
+
+    They close up, and each is seen from the middle of all points from within. So each way from there meets as many of
+    them as any other, which is one. Then they bound a body that is seen whole from the middle, and one that bends outward
+    at no side is convex. Points that are no corners are asked one face after the other.
+    """
+    for place, (polygon, normal) in enumerate(zip(polygons, normals)):
+        checker.check_polygon(place, polygon, normal)
+        checker.check_middle(place, polygon, normal)
+    sides = checker.pair_sides(polygons)
+    for side, place in unpaired(sides).items():
+        raise Wrong(f"face {place}: no face has its side from {' to '.join(map(checker.named, side))} as well")
+    checker.check_bends(polygons, normals, sides)
+    checker.check_once(polygons, normals)
+    checker.check_others(polygons, normals)
+
+
 def check_solid(checker, polygons, options):
     """Checks the faces of a solid set, and says what it has."""
     polygons, turned = outward(checker, polygons, options.unoriented)
     normals = normals_of(checker, polygons)
-    for place, (polygon, normal) in enumerate(zip(polygons, normals)):
-        checker.check_polygon(place, polygon, normal)
-        checker.check_support(place, polygon, normal)
-    for side, place in checker.pair_sides(polygons).items():
-        raise Wrong(f"face {place}: no face has its side from {' to '.join(map(checker.named, side))} as well")
+    check_convex(checker, polygons, normals)
     corners = checker.check_corners(polygons, normals)
     planes = planes_of(polygons, normals, options.whole)
     remarks = [f"{corners} corners, {len(polygons)} faces"]
@@ -185,10 +310,10 @@ def check_solid(checker, polygons, options):
 
 def check_border(checker, sides, normal):
     """That each side of the border of a flat set leaves all points to its left, and joins two extreme points."""
-    followers = dict(sides)
+    followers, box = dict(sides), Box(list(checker.number))
     for start, end in sides:
         way = cross(minus(end, start), normal)
-        outside = checker.box.above(way, dot(way, start))
+        outside = box.above(way, dot(way, start))
         if outside is not None:
             raise Wrong(f"{checker.named(outside)} lies outside the side from {' to '.join(map(checker.named, (start, end)))}")
         if end not in followers or dot(triangle_normal(start, end, followers[end]), normal) <= 0:
@@ -207,7 +332,7 @@ def check_flat(checker, polygons, options):
         if normal != normals[0]:
             raise Wrong(f"face {place} is seen from the other side than face 0")
         checker.check_polygon(place, polygon, normal)
-    border = check_border(checker, list(checker.pair_sides(polygons)), normals[0])
+    border = check_border(checker, list(unpaired(checker.pair_sides(polygons))), normals[0])
     if not border:
         raise Wrong("the faces of a flat set have no border")
     within = next((point for polygon in polygons for point in polygon if point not in border), None)
@@ -236,6 +361,52 @@ def check(checker, faces, options):
     return check_thin(checker, polygons)
 
 
+def number(word):
+    """A number, exactly: whole where it is whole."""
+    value = Fraction(word)
+    return value.numerator if value.denominator == 1 else value
+
+
+def text_of(path):
+    """The text of a file, or of standard input where the path is `-`."""
+    with open(0 if path == "-" else path, encoding="latin-1") as source:
+        return source.read()
+
+
+def points_of_file(path):
+    """The points of a file: a 3 and their number, in any order, and three whole numbers for each."""
+    lines = [re.split(r"(?:^|\s)[^-+.0-9\s]", line, maxsplit=1)[0] for line in text_of(path).split("\n")]
+    words = list(map(int, " ".join(lines).split()))
+    count = words[1] if words[0] == 3 else words[0]
+    if 3 not in words[:2] or len(words) != 2 + 3 * count:
+        raise ValueError(f"{count} points are announced, and {len(words) - 2} numbers follow")
+    return list(zip(words[2::3], words[3::3], words[4::3]))
+
+
+def faces_of_file(path):
+    """The points and the faces of a file, each in a line of its own."""
+    rows = [line.split("#")[0].split() for line in text_of(path).split("\n")]
+    rows = [row for row in rows if row]
+    if rows[0][0].upper().endswith("OFF") or rows[0] == ["3"]:
+        rows[0].pop(0)
+    rows = [row for row in rows if row]
+    points, faces = map(int, rows[0][:2])
+    if len(rows) < 1 + points + faces:
+        raise ValueError(f"{points} points and {faces} faces are announced, and {len(rows) - 1} rows follow")
+    found = [[int(word) for word in row[1 : int(row[0]) + 1]] for row in rows[points + 1 : points + faces + 1]]
+    if not all(face and 0 <= min(face) and max(face) < points for face in found):
+        raise ValueError(f"a face names no point of {points}")
+    return Faces([tuple(map(number, row[:3])) for row in rows[1 : points + 1]], found)
+
+
+def read(reader, path):
+    """What a file has; a wrong one ends the script."""
+    try:
+        return reader(path)
+    except (OSError, ValueError, IndexError) as wrong:
+        sys.exit(f"{path}: {wrong}")
+
+
 def arguments(words=None):
     """The options of the command line."""
     parser = argparse.ArgumentParser(description=__doc__, formatter_class=argparse.RawDescriptionHelpFormatter)
@@ -248,7 +419,7 @@ def arguments(words=None):
 
 def main():
     options = arguments()
-    checker, faces = Checker(points_of_file(options.points)), read_off_file(options.faces)
+    checker, faces = Checker(read(points_of_file, options.points)), read(faces_of_file, options.faces)
     try:
         print("all right:", check(checker, faces, options))
     except Wrong as wrong:
