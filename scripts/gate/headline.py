@@ -10,7 +10,7 @@ comments. Besides:
 - what else a clause of a public function or of a public trait cites stands in `specs/contract`;
 - docs/DEFINITIONS.md names each definition of these two folders, and no other;
 - docs/LAWS.md names each law and each clause of a law, and no other;
-- docs/CHECKING.md says the number of lines for `check_streams` and `run` of hullcheck;
+- docs/CHECKING.md says the number of lines for `check_streams`, `judge_words` and `run` of hullcheck;
 - README.md says the number of lines, and that of the lines in which the traits `Source` and `Sink` say what a device does.
 
 It prints each file with its definitions and lines (--list: each definition), the types and constants of the program that
@@ -30,7 +30,8 @@ MOST_LINES = 450
 # The traits of the devices, whose clauses the contract of `serve` takes for granted.
 DEVICES = ((CRATES / "qh_read/src/source.rt", "Source"), (CRATES / "qh_write/src/sink.rt", "Sink"))
 HEADLINE = {(CRATES / "qh_serve/src/answers.rt", "answer"), (CRATES / "qh_serve/src/serving.rt", "serve")}
-CHECKER = {(CRATES / "hullcheck/src/judging.rt", "check_streams"), (CRATES / "hullcheck/src/program.rt", "run")}
+CHECKER = {(CRATES / "hullcheck/src/judging.rt", "check_streams"), (CRATES / "hullcheck/src/program.rt", "judge_words"),
+           (CRATES / "hullcheck/src/program.rt", "run")}
 SETTINGS = CRATES / "qh_serve/src/settings.rt"
 LAWS = (CRATES / "qh_model/src/laws", CRATES / "qh_laws/src", CRATES / "qh_tree_laws/src", CRATES / "qh_seam_laws/src")
 NAMED = re.compile(r"`([^`\s]+)`")
