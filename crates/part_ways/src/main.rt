@@ -133,7 +133,7 @@ fn by_parts<R: Threads>(
     Ok(outcome(&found, whole))
 }
 
-/// Returns what becomes of the hull of points by so many parts: all joined, and joined where it seems to pay.
+/// Returns what becomes of the hull of points by `parts` parts: all joined, and joined where it seems to pay.
 fn outcomes<R: Threads>(
     rt: &R,
     alloc: Global,

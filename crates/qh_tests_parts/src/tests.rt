@@ -8,7 +8,7 @@ use std::alloc::Global;
 use std::test::Fail;
 use std::thread::Threads;
 
-/// The ids of a set that has at most so many points.
+/// The ids of a set, of which a test takes the first ones.
 const NUMBERS: [u32; 18] = [0, 1, 2, 3, 4, 5, 6, 7, 8, 9, 10, 11, 12, 13, 14, 15, 16, 17];
 
 /// What is told of a hull.
@@ -48,7 +48,7 @@ const OCTAHEDRON: Told = Told {
     edges: 12,
 };
 
-/// Returns what is told of the hull of points by so many parts; `None` if it does not come out.
+/// Returns what is told of the hull of points by `parts` parts; `None` if it does not come out.
 fn by_parts<R: Threads>(
     rt: &R,
     alloc: Global,
