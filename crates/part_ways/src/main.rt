@@ -101,7 +101,7 @@ fn is_same(body: &Body, other: &Body) -> bool {
 }
 
 /// Returns what a hull by parts is beside that of one thread.
-fn outcome(found: &Option<Body>, whole: &Body) -> Outcome {
+fn compared(found: &Option<Body>, whole: &Body) -> Outcome {
     match found {
         Some(body) if is_same(body, whole) => Outcome::Same,
         Some(_) => Outcome::Different,
@@ -130,7 +130,7 @@ fn by_parts<R: Threads>(
     requires { AreIndices pts.now ids.now }
 {
     let found = hull_by_parts(rt, alloc, pts, ids, THREADS, parting)?;
-    Ok(outcome(&found, whole))
+    Ok(compared(&found, whole))
 }
 
 /// Returns what becomes of the hull of points by `parts` parts: all joined, and joined where it seems to pay.
