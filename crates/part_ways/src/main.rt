@@ -161,6 +161,14 @@ fn outcomes<R: Threads>(
     Ok([joined, taken])
 }
 
+/// Returns the words of two outcomes.
+fn words_of(found: Result<[Outcome; 2], Memory>) -> (&'static str, &'static str) {
+    match found {
+        Ok([joined, taken]) => (joined.word(), taken.word()),
+        Err(Memory) => ("memory", "memory"),
+    }
+}
+
 fn main(rt: HostRuntime) -> io::Result<ExitCode> {
     let mut input = Vec::new(rt.alloc());
     let mut reader = rt.reader();
@@ -175,10 +183,8 @@ fn main(rt: HostRuntime) -> io::Result<ExitCode> {
             println!(rt; "fault")?;
             continue;
         };
-        match outcomes(&rt, rt.alloc(), &pts, task.parts) {
-            Ok([joined, taken]) => println!(rt; "{} {}", joined.word(), taken.word())?,
-            Err(Memory) => println!(rt; "memory")?,
-        }
+        let (joined, taken) = words_of(outcomes(&rt, rt.alloc(), &pts, task.parts));
+        println!(rt; "{joined} {taken}")?;
     }
     Ok(ExitCode::SUCCESS)
 }
