@@ -139,13 +139,13 @@ fn outcomes<R: Threads>(
     alloc: Global,
     pts: &[Point],
     parts: usize,
-) -> Result<[Outcome; 2], Memory> {
+) -> Result<(Outcome, Outcome), Memory> {
     if pts.len() > POINT_LIMIT as usize {
-        return Ok([Outcome::Missing; 2]);
+        return Ok((Outcome::Missing, Outcome::Missing));
     }
     let ids = distinct_ids(alloc, pts)?;
     if ids.len() == 0 {
-        return Ok([Outcome::Missing; 2]);
+        return Ok((Outcome::Missing, Outcome::Missing));
     }
     let whole = hull(alloc, pts, &ids)?;
     let all = Parting {
@@ -158,13 +158,13 @@ fn outcomes<R: Threads>(
     };
     let joined = by_parts(rt, alloc, pts, &ids, all, &whole)?;
     let taken = by_parts(rt, alloc, pts, &ids, paying, &whole)?;
-    Ok([joined, taken])
+    Ok((joined, taken))
 }
 
 /// Returns the words of two outcomes.
-fn words_of(found: Result<[Outcome; 2], Memory>) -> (&'static str, &'static str) {
+fn words_of(found: Result<(Outcome, Outcome), Memory>) -> (&'static str, &'static str) {
     match found {
-        Ok([joined, taken]) => (joined.word(), taken.word()),
+        Ok((joined, taken)) => (joined.word(), taken.word()),
         Err(Memory) => ("memory", "memory"),
     }
 }
