@@ -131,7 +131,7 @@ def disc_and_dome(rng, count):
 
 
 def prism(rng, count):
-    """A polygon's corners at heights from below to above."""
+    """The corners of a polygon at heights from below to above."""
     corners = most_corners(count)
     levels = max(2, count // corners)
     return [(x, y, round(SIZE * (2 * level / (levels - 1) - 1))) for level in range(levels) for x, y in polygon(corners)]
@@ -147,7 +147,8 @@ def cone(rng, count):
 
 
 def ring(count, radius, z, turn=0.0):
-    return [rounded(radius * math.cos(turn + math.tau * k / count), radius * math.sin(turn + math.tau * k / count), z) for k in range(count)]
+    angles = [turn + math.tau * k / count for k in range(count)]
+    return [rounded(radius * math.cos(angle), radius * math.sin(angle), z) for angle in angles]
 
 
 def few_rings(rng, count):

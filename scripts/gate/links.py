@@ -1,5 +1,5 @@
 #!/usr/bin/env python3
-"""Looks whether every relative link of the documents leads to a file, and every anchor to a heading.
+"""Checks that every relative link of the documents leads to a file, and every anchor to a heading.
 
     scripts/gate/links.py [FILE]...      from anywhere; with no FILE: every Markdown file of the repository
 

@@ -43,7 +43,11 @@ def options(text):
 def bash(name, outs, opts):
     function = "_" + name.replace("-", "_")
     words = [word for word, _ in outs] + ["--" + word for _, word, _, _ in opts]
-    cases = [f"        --{word}) COMPREPLY=($(compgen -W '{' '.join(VALUES.get(word, []))}' -- \"$word\")) ;;" for _, word, takes, _ in opts if takes]
+    cases = [
+        f"        --{word}) COMPREPLY=($(compgen -W '{' '.join(VALUES.get(word, []))}' -- \"$word\")) ;;"
+        for _, word, takes, _ in opts
+        if takes
+    ]
     return "\n".join([
         f"{function}() {{",
         "    local word=${COMP_WORDS[COMP_CWORD]} before=${COMP_WORDS[COMP_CWORD - 1]}",

@@ -63,7 +63,13 @@ BODIES = [
     (
         "gives-up-at-a-join",
         JOB,
-        [("        let both = union(alloc, &even.ids, &odd.ids)?;\n", "        let both = union(alloc, &even.ids, &odd.ids)?;\n        if !both.is_empty() {\n            return Err(GivesUp);\n        }\n")],
+        [
+            (
+                "        let both = union(alloc, &even.ids, &odd.ids)?;\n",
+                "        let both = union(alloc, &even.ids, &odd.ids)?;\n"
+                "        if !both.is_empty() {\n            return Err(GivesUp);\n        }\n",
+            )
+        ],
     ),
     ("tells-the-block-for-the-pass", WORKER, [("gate.claimed(pass, block)", "gate.claimed(block, pass)")]),
 ]
