@@ -35,7 +35,7 @@ def outputs(text):
 
 
 def options(text):
-    """The options: a letter or none, a word, whether it takes a value, and what it is."""
+    """Returns the options: the letter or None, the word, whether it takes a value, and its meaning."""
     found = [found.groups() for found in map(OPTION.fullmatch, section(text, "Options:")) if found]
     return [(letter, word, value is not None, re.split("[,:]", what)[0]) for letter, word, value, what in found]
 
