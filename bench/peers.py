@@ -1,6 +1,6 @@
 #!/usr/bin/env python3
 """Builds the peers that are libraries into small programs: each reads a point file and prints the numbers of
-vertices and faces of its hull.
+vertices and faces of its hull. CGAL's writes the hull as OFF text where it is run with a word, as `off`.
 
     bench/peers.py cgal PROGRAM      CGAL's convex_hull_3 with its exact-predicates kernel (Debian's libcgal-dev)
     bench/peers.py cgal-plain PROGRAM    the same over plain doubles, whose predicates are rounded
@@ -37,6 +37,7 @@ CGAL = READ + r"""
 #include <CGAL/Simple_cartesian.h>
 #include <CGAL/Polyhedron_3.h>
 #include <CGAL/convex_hull_3.h>
+#include <map>
 
 #ifdef PLAIN
 typedef CGAL::Simple_cartesian<double> Kernel;
@@ -45,14 +46,32 @@ typedef CGAL::Exact_predicates_inexact_constructions_kernel Kernel;
 #endif
 typedef Kernel::Point_3 Point;
 
-int main() {
+void write(const CGAL::Polyhedron_3<Kernel> &mesh) {
+    std::printf("OFF\n%zu %zu 0\n", (size_t)mesh.size_of_vertices(), (size_t)mesh.size_of_facets());
+    std::map<const void *, size_t> places;
+    for (auto vertex = mesh.vertices_begin(); vertex != mesh.vertices_end(); ++vertex) {
+        places.emplace(&*vertex, places.size());
+        Point p = vertex->point();
+        std::printf("%ld %ld %ld\n", (long)p.x(), (long)p.y(), (long)p.z());
+    }
+    for (auto facet = mesh.facets_begin(); facet != mesh.facets_end(); ++facet) {
+        std::printf("%zu", (size_t)facet->facet_degree());
+        auto edge = facet->facet_begin(), first = edge;
+        do std::printf(" %zu", places.at(&*edge->vertex()));
+        while (++edge != first);
+        std::printf("\n");
+    }
+}
+
+int main(int words, char **) {
     std::vector<Point> points;
     read([&](long x, long y, long z) { points.emplace_back(x, y, z); });
     CGAL::Object object;
     CGAL::convex_hull_3(points.begin(), points.end(), object);
     CGAL::Polyhedron_3<Kernel> mesh;
-    if (CGAL::assign(mesh, object)) std::printf("%zu %zu\n", (size_t)mesh.size_of_vertices(), (size_t)mesh.size_of_facets());
-    else std::printf("degenerate\n");
+    if (!CGAL::assign(mesh, object)) std::printf("degenerate\n");
+    else if (words > 1) write(mesh);
+    else std::printf("%zu %zu\n", (size_t)mesh.size_of_vertices(), (size_t)mesh.size_of_facets());
 }
 """
 

@@ -10,7 +10,7 @@ script also checks that
 - every other definition that a clause of a public function or trait uses stands in `specs/contract`;
 - docs/DEFINITIONS.md names each definition of these two folders, and no other;
 - docs/LAWS.md names each law and each clause of a law, and no other;
-- docs/CHECKING.md has the number of lines for `check_streams` and `run` of hullcheck;
+- docs/CHECKING.md has the number of lines for `check_streams`, `judge_words` and `run` of hullcheck;
 - README.md has the number of lines, and the number of lines in which the traits `Source` and `Sink` say what a device does.
 
 It prints each file with its number of definitions and lines (--list: with each definition), the types and constants of the
@@ -30,7 +30,8 @@ MOST_LINES = 450
 # The traits of the devices, whose clauses the contract of `serve` takes for granted.
 DEVICES = ((CRATES / "qh_read/src/source.rt", "Source"), (CRATES / "qh_write/src/sink.rt", "Sink"))
 HEADLINE = {(CRATES / "qh_serve/src/answers.rt", "answer"), (CRATES / "qh_serve/src/serving.rt", "serve")}
-CHECKER = {(CRATES / "hullcheck/src/judging.rt", "check_streams"), (CRATES / "hullcheck/src/program.rt", "run")}
+CHECKER = {(CRATES / "hullcheck/src/judging.rt", "check_streams"), (CRATES / "hullcheck/src/program.rt", "judge_words"),
+           (CRATES / "hullcheck/src/program.rt", "run")}
 SETTINGS = CRATES / "qh_serve/src/settings.rt"
 LAWS = (CRATES / "qh_model/src/laws", CRATES / "qh_laws/src", CRATES / "qh_tree_laws/src", CRATES / "qh_seam_laws/src")
 NAMED = re.compile(r"`([^`\s]+)`")

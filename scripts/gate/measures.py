@@ -41,7 +41,7 @@ WORD_LIMITS = {
     "/// Whether": 3,
     "as many": 40,
     "so many": 33,
-    "such a": 13,
+    "such a": 14,
     "that one": 9,
     "is none": 28,
     "are none": 3,

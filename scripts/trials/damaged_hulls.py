@@ -1,13 +1,13 @@
 #!/usr/bin/env python3
 """Damages right hulls, and shows that check_hull.py finds each damage and passes the right ones.
 
-    scripts/trials/damaged_hulls.py [--cases N] [--seed N] [--program PATH] [--qhull COMMAND] [--checker PATH [--alone]]
+    scripts/trials/damaged_hulls.py [--cases N] [--seed N] [--program PATH] [--qhull COMMAND] [--cgal PATH] [--checker PATH [--alone]]
 
 The right hulls are this program's, of the small sets of fuzz_hulls.py. Each damage makes a wrong hull of any right one:
 a face is lost, doubled, turned, joined with its neighbour, loses or changes a corner; a corner is moved; a point is
 forgotten or comes on; a corner is put within an edge or a face. Where Qhull is installed, its facets (options `o` and
 `Qt o`) of the same sets have to pass, too, if they are the right ones: if it names the same points for each facet as this
-program. With --checker the program hullcheck has to say the same of each set that is not flat, of faces in any order and beginning at
+program. With --cgal the triangles of CGAL's program (`bench/peers.py cgal`) have to pass. With --checker the program hullcheck has to say the same of each set that is not flat, of faces in any order and beginning at
 any corner; with --alone it is asked alone. It prints how many of each were tried, and each that came out otherwise; the status is then 1.
 """
 import argparse
@@ -121,12 +121,23 @@ def try_damage(rng, kinds, counts):
     return None if verdict(*damaged) else f"{damage.__name__} is not found: {damaged}"
 
 
-def try_right(rng, program, qhull, counts):
+def try_cgal(points, cgal, counts):
+    """What is wrong with CGAL's triangles of a solid set, or None."""
+    text = written([cgal, "off"], points) if cgal else None
+    if text is None or not text.startswith("OFF"):
+        return None
+    counts["CGAL's"] += 1
+    return verdict(points, read_off(text))
+
+
+def try_right(rng, program, peers, counts):
     """The right hulls of a set have to pass."""
     points, _ = small_set(rng)
-    mine = ours(program, points)
+    mine, qhull = ours(program, points), peers.qhull
     counts["ours"] += 1
     found = verdict(points, mine)
+    if try_cgal(points, peers.cgal, counts):
+        return f"CGAL's is refused: {points}"
     if found or not qhull:
         return found and f"ours is refused: {found}: {points}"
     # Of a header's two numbers Qhull takes the smaller as the dimension.
@@ -169,6 +180,7 @@ def arguments():
     parser.add_argument("--seed", type=int, default=1, help="the seed of the sets (default 1)")
     parser.add_argument("--program", default=PROGRAM, help="the built program")
     parser.add_argument("--qhull", default="qhull", help="Qhull's program (default qhull)")
+    parser.add_argument("--cgal", help="the program that bench/peers.py builds")
     parser.add_argument("--checker", help="the built hullcheck, to be asked, too")
     parser.add_argument("--alone", action="store_true", help="asks hullcheck alone where it can be asked")
     return parser.parse_args()
@@ -178,10 +190,10 @@ def main():
     options = arguments()
     rng = random.Random(options.seed)
     OPTIONS.checker, OPTIONS.alone = options.checker, options.alone
-    qhull = [options.qhull] if shutil.which(options.qhull) else []
+    peers = SimpleNamespace(qhull=[options.qhull] if shutil.which(options.qhull) else [], cgal=options.cgal)
     damages, right, kinds = Counter(), Counter(), Kinds(options.program)
     outcomes = [try_damage(rng, kinds, damages) for _ in range(options.cases)]
-    outcomes += [try_right(rng, options.program, qhull, right) for _ in range(options.cases)]
+    outcomes += [try_right(rng, options.program, peers, right) for _ in range(options.cases)]
     wrong = [outcome for outcome in outcomes if outcome]
     print("\n".join(wrong), end="\n" if wrong else "")
     print("damaged:", ", ".join(f"{name} {damages[name]}" for name in sorted(damages)))

@@ -1,12 +1,19 @@
 //! The words of a command line.
+ghost use Rattle.std.specs.Prelude.{◌≡◌, ◌==◌, ◌∷◌, ℕ, List, None, Some, IfOk, IsSome, MatchResult, codes, map, slice_index, string_bytes};
+ghost use Rattle.std.specs.Str.{bytes_eq};
+ghost use Rattle.hullcheck.specs.declared.fault.Fault.TheVariants.{Usage};
+ghost use Rattle.hullcheck.specs.declared.command_line.Next.TheVariants.{Any};
+ghost use Rattle.hullcheck.specs.contract.CommandLine.{asked_by, asked_by_default, asked_in, with_file, with_points, with_word, workers_in};
+ghost use Rattle.hullcheck.specs.steps.Words.{with_next};
+
 use crate::fault::Fault;
 use qh_faces::{Layout, Reading, Turn};
 use qh_model::WORKER_LIMIT;
 
-/// What is asked.
+/// The settings of a command line.
 #[derive(Clone, Copy, Drop)]
 pub struct Settings<'a> {
-    /// How many workers look at the faces, from 1 to `WORKER_LIMIT`.
+    /// The number of workers that check the faces, from 1 to `WORKER_LIMIT`.
     pub workers: u32,
     /// How the faces are read.
     pub reading: Reading,
@@ -25,18 +32,35 @@ enum Next {
     Workers,
 }
 
-/// Returns a number of workers, if a word is one.
-fn workers_of(word: &str) -> Result<u32, Fault> {
-    let workers: u32 = word.parse().map_err(|_| Fault::Usage)?;
+/// Returns the number of workers that a word stands for.
+fn workers_of(word: &str) -> Result<u32, Fault>
+    ensures { MatchResult result (λ n. workers_in word.now ≡ Some n)
+        (λ f. (f ≡ Usage) × (workers_in word.now ≡ None)) }
+{
+    let Ok(workers) = word.parse::<u32>() else {
+        return Err(Fault::Usage);
+    };
     if workers < 1 || workers > WORKER_LIMIT {
         return Err(Fault::Usage);
     }
     Ok(workers)
 }
 
+/// Returns true if a word begins with a minus, as options do.
+fn is_option(word: &str) -> bool
+    ensures { result ≡ (slice_index word.now 0 == 45) }
+{
+    match word.as_bytes() {
+        [first, ..] => *first == b'-',
+        [] => false,
+    }
+}
+
 impl<'a> Settings<'a> {
-    /// Returns what no words ask.
-    fn none() -> Settings<'a> {
+    /// Returns the settings of a command line without words.
+    fn none() -> Settings<'a>
+        ensures { asked_in result ≡ asked_by_default }
+    {
         Settings {
             workers: 4,
             reading: Reading {
@@ -49,45 +73,70 @@ impl<'a> Settings<'a> {
     }
 
     /// Takes the name of a file: first that of the points, then that of the faces.
-    fn take_file(&mut self, word: &'a str) -> Result<(), Fault> {
-        if word.starts_with("-") {
+    fn take_file(&mut self, word: &'a str) -> Result<(), Fault>
+        ensures { MatchResult result (λ _. with_file (asked_in self.old) word.entry.now ≡ Some (asked_in self.new))
+            (λ f. (f ≡ Usage) × (with_file (asked_in self.old) word.entry.now ≡ None)) }
+    {
+        if is_option(word) {
             return Err(Fault::Usage);
         }
-        if self.points.is_none() {
-            self.points = Some(word);
-        } else if self.faces.is_none() {
-            self.faces = Some(word);
-        } else {
-            return Err(Fault::Usage);
+        match (self.points, self.faces) {
+            (None, _) => self.points = Some(word),
+            (Some(_), None) => self.faces = Some(word),
+            (Some(_), Some(_)) => return Err(Fault::Usage),
         }
         Ok(())
     }
 
-    /// Takes a word, and says what the next one is.
-    fn take(&mut self, word: &'a str) -> Result<Next, Fault> {
-        match word {
-            "--workers" => return Ok(Next::Workers),
-            "--indices" => self.reading.layout = Layout::Lines,
-            "--counted" => self.reading.layout = Layout::Counted,
-            "--clockwise" => self.reading.turn = Turn::Clockwise,
-            _ => self.take_file(word)?,
+    /// Takes an option that stands alone, or the name of a file.
+    fn take_word(&mut self, word: &'a str) -> Result<(), Fault>
+        ensures { MatchResult result (λ _. with_word (asked_in self.old) word.entry.now ≡ Some (asked_in self.new))
+            (λ f. (f ≡ Usage) × (with_word (asked_in self.old) word.entry.now ≡ None)) }
+    {
+        if word == "--indices" {
+            self.reading.layout = Layout::Lines;
+        } else if word == "--counted" {
+            self.reading.layout = Layout::Counted;
+        } else if word == "--clockwise" {
+            self.reading.turn = Turn::Clockwise;
+        } else {
+            return self.take_file(word);
+        }
+        Ok(())
+    }
+
+    /// Takes a word, and returns what the next one is.
+    fn take(&mut self, next: Next, word: &'a str) -> Result<Next, Fault>
+        ensures { (rest : List (List ℕ)) → MatchResult result
+            (λ more. with_next next (asked_in self.old) (word.entry.now ∷ rest) ≡ with_next more (asked_in self.new) rest)
+            (λ f. (f ≡ Usage) × (with_next next (asked_in self.old) (word.entry.now ∷ rest) ≡ None)) }
+    {
+        match next {
+            Next::Workers => self.workers = workers_of(word)?,
+            Next::Any if word == "--workers" => return Ok(Next::Workers),
+            Next::Any => self.take_word(word)?,
         }
         Ok(Next::Any)
     }
 }
 
-/// Returns what the words of a command line ask, the first of which is the program's name.
-pub fn settings_of<'a>(words: &'a [String]) -> Result<Settings<'a>, Fault> {
+/// Returns the settings that the words of a command line ask for; the first word is the name of the program.
+///
+/// # Errors
+///
+/// `Usage` if the words are no command line.
+pub fn settings_of<'a>(words: &'a [String]) -> Result<Settings<'a>, Fault>
+    ensures asked { MatchResult result (λ s. asked_by (map string_bytes words.entry.now) ≡ Some (asked_in s))
+        (λ f. (f ≡ Usage) × (asked_by (map string_bytes words.entry.now) ≡ None)) }
+    ensures points { IfOk result (λ s. IsSome s.points) }
+{
+    let [_, rest @ ..] = words else {
+        return Err(Fault::Usage);
+    };
     let mut settings = Settings::none();
     let mut next = Next::Any;
-    for word in words.iter().skip(1) {
-        next = match next {
-            Next::Any => settings.take(word.as_str())?,
-            Next::Workers => {
-                settings.workers = workers_of(word.as_str())?;
-                Next::Any
-            }
-        };
+    for word in rest {
+        next = settings.take(next, word.as_str())?;
     }
     if next == Next::Workers || settings.points.is_none() {
         return Err(Fault::Usage);

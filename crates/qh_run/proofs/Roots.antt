@@ -1,5 +1,6 @@
 -- What is right for all blocks of a cut stands for all ids.
 use Rattle.std.proofs.Common.{ℕ, ◌≡◌, List, length}
+use Rattle.std.specs.List.Sorted.{IsStrictlyIncreasing}
 use Rattle.qh_model.specs.headline.Vector.{Vector}
 use Rattle.qh_model.specs.headline.Predicates.{place}
 use Rattle.qh_model.specs.headline.Sets.{Members}
@@ -25,3 +26,7 @@ part_stands pts ids part found one two = record {
   within = λ i m. one.within i (two.within i m);
   hull = λ b h. one.hull b (two.hull b h);
 }
+
+-- a list of rising ids stands for itself
+pub all_stand : (pts : List Vector) (ids : List ℕ) → IsStrictlyIncreasing ids → StandsFor pts ids ids
+all_stand pts ids rising = record { rising = rising; within = λ i m. m; hull = λ b h. h }

@@ -16,30 +16,18 @@ pub(crate) struct Filtered {
     pub ids: Vec<Id>,
     /// The job's blocks without the ids that were removed, empty blocks left out.
     pub cut: Cut,
-    /// How many ids of the job each of these blocks stands for: those of the job's block, and of the empty
-    /// ones beside it.
-    pub counts: Vec<u32>,
     ghost whole: { positions cut ≡ length ids.items },
 }
 
-/// The blocks that are left of a job's.
-#[derive(Drop)]
-struct LeftBlocks {
-    /// Where they begin among the ids that are left, and the end of the last.
-    bounds: Vec<u32>,
-    /// How many ids of the job each stands for.
-    counts: Vec<u32>,
-}
-
-/// Returns the blocks of a job among the ids that are left of its own, empty blocks left out.
-fn blocks_among(alloc: Global, job: &Job, left: &[Id]) -> Result<LeftBlocks, AllocError>
+/// Returns where the blocks of a job begin among the ids that are left of its own, empty blocks left out, and the
+/// end of the last.
+fn bounds_among(alloc: Global, job: &Job, left: &[Id]) -> Result<Vec<u32>, AllocError>
     requires some { 0 < length left.now }
     requires few { length left.now ≤ positions job.now.cut.now }
-    ensures { IfOk result (λ b. positions b.bounds.items ≡ length left.now) }
+    ensures { IfOk result (λ b. positions b.items ≡ length left.now) }
 {
     let mut bounds = Vec::new(alloc);
-    let mut counts = Vec::new(alloc);
-    let (mut last, mut counted) = (0, 0);
+    let mut last = 0;
     bounds.push(0)?;
     for block in 1..job.cut.blocks() {
         let (from, _) = job.cut.block(block);
@@ -47,13 +35,11 @@ fn blocks_among(alloc: Global, job: &Job, left: &[Id]) -> Result<LeftBlocks, All
         let at = left.partition_point(|id| *id < first);
         if at > last && at < left.len() {
             bounds.push(at as u32)?;
-            counts.push(from.saturating_sub(counted))?;
-            (last, counted) = (at, from);
+            last = at;
         }
     }
     bounds.push(left.len() as u32)?;
-    counts.push((job.ids.len() as u32).saturating_sub(counted))?;
-    Ok(LeftBlocks { bounds, counts })
+    Ok(bounds)
 }
 
 /// Filters a job by at most `threads` threads: returns what is left of its ids and blocks, or `None` where
@@ -75,9 +61,8 @@ pub(crate) fn without_interior<R: Threads + Sync>(
     let Some(ids) = cull_interior(rt, alloc, job.pts, job.ids, threads)? else {
         return Ok(None);
     };
-    let LeftBlocks { bounds, counts } = blocks_among(alloc, job, &ids)?;
-    match Cut::from_bounds(bounds) {
-        Ok(cut) => Ok(Some(Filtered { ids, cut, counts })),
+    match Cut::from_bounds(bounds_among(alloc, job, &ids)?) {
+        Ok(cut) => Ok(Some(Filtered { ids, cut })),
         Err(_) => Ok(None),
     }
 }

@@ -34,7 +34,7 @@ pub struct Job<'a> {
 pub struct Extremes {
     /// The extreme ids of the blocks' ids, rising.
     pub ids: Vec<Id>,
-    /// How many ids the blocks of the caller's cut have.
+    /// The number of ids that these blocks have.
     pub among: usize,
     ghost some: { 0 < length ids.items },
 }
@@ -60,8 +60,8 @@ impl<'a> Job<'a> {
         Ok(())
     }
 
-    /// Returns the extreme ids of a part of the ids, which has all that are extreme among `among` ids;
-    /// none where they tell that a tree does not pay.
+    /// Returns the extreme ids of a part of the ids, which has all that are extreme among `among` ids. Gives up if
+    /// they tell that a tree does not pay.
     fn extremes_among(&self, alloc: Global, part: &[Id], among: usize) -> Result<Extremes, GivesUp>
         requires some { 0 < length part.now }
         requires indices { AreIndices self.now.pts.now part.now }
@@ -75,20 +75,15 @@ impl<'a> Job<'a> {
         Ok(Extremes { ids, among })
     }
 
-    /// Returns the extreme ids of a block, with the number of ids that it stands for; `None` if they tell that a tree
-    /// does not pay.
-    pub(crate) fn reduced(
-        &self,
-        alloc: Global,
-        block: u32,
-        among: usize,
-    ) -> Result<Extremes, GivesUp>
+    /// Returns the extreme ids of a block. Gives up if they tell that a tree does not pay.
+    fn reduced(&self, alloc: Global, block: u32) -> Result<Extremes, GivesUp>
         requires { block < block_count self.now.cut.now }
         ensures { IfOk result (λ found. RightValue self.now.pts.now self.now.ids.now self.now.cut.now
             (InSpan (block_count self.now.cut.now) (block_count self.now.cut.now + block)) found.ids.items) }
     {
         let (from, to) = self.cut.block(block);
-        self.extremes_among(alloc, &self.ids[from as usize..to as usize], among)
+        let ids = &self.ids[from as usize..to as usize];
+        self.extremes_among(alloc, ids, ids.len())
     }
 }
 
@@ -100,12 +95,11 @@ impl<'a> Reduction for Job<'a> {
     }
 
     fn reduce(&self, alloc: Global, block: u32, claimed: Claimed) -> Result<Extremes, GivesUp> {
-        let (from, to) = self.cut.block(block);
-        let ids = &self.ids[from as usize..to as usize];
         if claimed == Claimed::First {
-            self.ask_sample(alloc, ids)?;
+            let (from, to) = self.cut.block(block);
+            self.ask_sample(alloc, &self.ids[from as usize..to as usize])?;
         }
-        self.reduced(alloc, block, ids.len())
+        self.reduced(alloc, block)
     }
 
     fn combine(

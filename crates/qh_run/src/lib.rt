@@ -3,8 +3,8 @@
 //! [`run_hull`] puts the blocks on a board of `qh_board`, a combining tree. Workers claim blocks and
 //! deliver their extreme ids ([`work`]); whoever comes second at a node takes the extreme ids of both
 //! children's: an id that is not extreme in its part is not extreme in the whole. The calling thread
-//! takes the hull of what comes out at the root, or of all ids where a worker gave up. So the hull is
-//! the same for every cut, every number of workers and every order of their steps.
+//! takes the hull of what comes out at the root, or of all ids that the filter left where a worker gave up. So the hull
+//! is the same for every cut, every number of workers and every order of their steps.
 //!
 //! A [`Gate`] is told of the blocks, and takes that hull; [`NoGate`] lets them pass.
 //!
@@ -12,7 +12,6 @@
 #![tactic(auto)]
 
 mod filtered;
-mod filtered_job;
 mod gate;
 mod job;
 mod passes;

@@ -3,16 +3,17 @@ ghost use Rattle.std.specs.Prelude.{◌≡◌, ◌↔◌, ◌<◌, All, IfOk, If
 ghost use Rattle.qh_model.specs.contract.BoardMachine.{InSpan};
 ghost use Rattle.qh_board.specs.declared.view.Mark.TheVariants as marks;
 ghost use Rattle.qh_board.specs.contract.Tokens.{IsOf, IsRightAt};
+ghost use Rattle.qh_model.specs.contract.IdSets.{AreIndices, IsIdSet};
 ghost use Rattle.qh_run.specs.steps.Parts.{StandsFor};
 ghost use Rattle.qh_run.specs.steps.Turns.{IsWorked};
 
-use crate::filtered::without_interior;
-use crate::filtered_job::FilteredJob;
+use crate::filtered::{Filtered, without_interior};
 use crate::gate::Gate;
-use crate::job::{Extremes, Job};
+use crate::job::Job;
 use crate::passes::run_passes;
 use crate::reduction::Reduction;
 use qh_board::{Board, BoardError, Left, Spans};
+use qh_model::{Id, Point};
 use std::alloc::Global;
 use std::thread::Threads;
 
@@ -47,58 +48,78 @@ fn reduced<S: Reduction, R: Threads + Sync, G: Gate>(
     Ok(root_of(board, lefts))
 }
 
-/// Returns what the workers find for all blocks, by a number of passes; `None` where one gave up, or where
-/// an allocation for the board or a thread failed.
-fn root_over_blocks<S: Reduction, R: Threads + Sync, G: Gate>(
-    rt: &R,
-    alloc: Global,
-    spans: S,
-    passes: u32,
-    gate: &G,
-) -> Option<S::Value>
-    requires { 0 < passes }
-    ensures { IfSome result (S.right spans (InSpan (S.count spans) 1)) }
-{
-    match reduced(rt, alloc, spans, passes, gate) {
-        Ok(root) => root,
-        Err(_) => None,
-    }
-}
-
-/// Returns ids that stand for a job's, as the workers find them in its blocks, each without the points
-/// that the interior filter removes. No more workers than blocks work.
-///
-/// `None` says that a worker gave up, or that an allocation for the filter, the board or a thread
-/// failed.
-pub(crate) fn extremes_by_tree<R: Threads + Sync, G: Gate>(
+/// Returns the extreme ids of a job, as the workers find them in its blocks, or `None` where one gave up. No more
+/// workers than blocks work.
+fn root_ids<R: Threads + Sync, G: Gate>(
     rt: &R,
     alloc: Global,
     job: Job,
     workers: u32,
     gate: &G,
-) -> Option<Extremes>
+) -> Result<Option<Vec<Id>>, BoardError>
+    requires { 0 < workers }
+    ensures some { IfOk result (λ r. IfSome r (λ ids. 0 < length ids.items)) }
+    ensures stand { IfOk result (λ r. IfSome r (λ ids. StandsFor job.entry.pts.now job.entry.ids.now ids.items)) }
+{
+    let passes = workers.min(job.cut.blocks());
+    match reduced(rt, alloc, job, passes, gate)? {
+        Some(root) => Ok(Some(root.ids)),
+        None => Ok(None),
+    }
+}
+
+/// Returns ids that stand for those that the interior filter left: the extreme ones, as the workers find them in the
+/// blocks, or all of them where a worker gave up. `None` says that an allocation for the board or a thread failed.
+fn ids_of_left<R: Threads + Sync, G: Gate>(
+    rt: &R,
+    alloc: Global,
+    pts: &[Point],
+    left: Filtered,
+    workers: u32,
+    gate: &G,
+) -> Option<Vec<Id>>
+    requires workers { 0 < workers }
+    requires some { 0 < length left.ids.items }
+    requires indices { AreIndices pts.now left.ids.items }
+    requires set { IsIdSet pts.now left.ids.items }
+    ensures some { IfSome result (λ ids. 0 < length ids.items) }
+    ensures stand { IfSome result (λ ids. StandsFor pts.now left.ids.items ids.items) }
+{
+    let job = Job {
+        pts,
+        ids: &left.ids,
+        cut: &left.cut,
+    };
+    match root_ids(rt, alloc, job, workers, gate) {
+        Ok(Some(ids)) => Some(ids),
+        Ok(None) => Some(left.ids),
+        Err(_) => None,
+    }
+}
+
+/// Returns ids that stand for a job's: the extreme ones, as the workers find them in its blocks, each without the
+/// points that the interior filter removes; where a worker gave up, all that the filter leaves.
+///
+/// `None` says that a worker gave up and the filter removes nothing, or that an allocation for the filter, the board
+/// or a thread failed.
+pub(crate) fn ids_by_tree<R: Threads + Sync, G: Gate>(
+    rt: &R,
+    alloc: Global,
+    job: Job,
+    workers: u32,
+    gate: &G,
+) -> Option<Vec<Id>>
     requires some { 0 < length job.ids.now }
     requires workers { 0 < workers }
-    ensures { IfSome result (λ found. StandsFor job.entry.pts.now job.entry.ids.now found.ids.items) }
+    ensures some { IfSome result (λ ids. 0 < length ids.items) }
+    ensures stand { IfSome result (λ ids. StandsFor job.entry.pts.now job.entry.ids.now ids.items) }
 {
     match without_interior(rt, alloc, &job, workers) {
-        Ok(Some(part)) => {
-            let left = Job {
-                pts: job.pts,
-                ids: &part.ids,
-                cut: &part.cut,
-            };
-            let passes = workers.min(part.cut.blocks());
-            let left = FilteredJob {
-                job: left,
-                counts: &part.counts,
-            };
-            root_over_blocks(rt, alloc, left, passes, gate)
-        }
-        Ok(None) => {
-            let passes = workers.min(job.cut.blocks());
-            root_over_blocks(rt, alloc, job, passes, gate)
-        }
+        Ok(Some(left)) => ids_of_left(rt, alloc, job.pts, left, workers, gate),
+        Ok(None) => match root_ids(rt, alloc, job, workers, gate) {
+            Ok(ids) => ids,
+            Err(_) => None,
+        },
         Err(_) => None,
     }
 }

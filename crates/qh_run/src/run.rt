@@ -10,8 +10,8 @@ ghost use Rattle.qh_model.specs.declared.limits.TheConstants.{POINT_LIMIT, WORKE
 ghost use Rattle.qh_run.specs.steps.Parts.{StandsFor};
 
 use crate::gate::Gate;
-use crate::job::{Extremes, Job};
-use crate::root::extremes_by_tree;
+use crate::job::Job;
+use crate::root::ids_by_tree;
 use qh_hull::hull_of_body;
 use qh_model::{Body, Cut, Hull, Id, Memory, Point, WORKER_LIMIT};
 use std::alloc::Global;
@@ -37,23 +37,24 @@ impl From<Memory> for RunError {
     }
 }
 
-/// Takes the hull of a job's ids, by the gate's `finish`: of the ids that came out at the root of the
-/// workers' tree, or of all ids where there is no root.
+/// Takes the hull of a job's ids, by the gate's `finish`: of ids that stand for them, or of all ids where there are
+/// no others.
 fn finished<G: Gate>(
     alloc: Global,
     pts: &[Point],
     ids: &[Id],
-    root: &Option<Extremes>,
+    found: &Option<Vec<Id>>,
     gate: &G,
 ) -> Result<Body, Memory>
     requires some { 0 < length ids.now }
     requires indices { AreIndices pts.now ids.now }
     requires set { IsIdSet pts.now ids.now }
-    requires root { IfSome root.now (λ found. StandsFor pts.now ids.now found.ids.items) }
+    requires found_some { IfSome found.now (λ part. 0 < length part.items) }
+    requires found { IfSome found.now (λ part. StandsFor pts.now ids.now part.items) }
     ensures { IfOk result (λ b. IsBody (place pts.now) (Members ids.now) b) }
 {
-    match root {
-        Some(found) => gate.finish(alloc, pts, &found.ids),
+    match found {
+        Some(part) => gate.finish(alloc, pts, part),
         None => gate.finish(alloc, pts, ids),
     }
 }
@@ -67,9 +68,9 @@ fn finished<G: Gate>(
 /// The calling thread filters a large set first: it removes points that it finds inside from the
 /// blocks, and leaves out the blocks that are empty then (`qh_block::cull_interior`). The workers share the
 /// blocks, no more workers than blocks, and the gate is told of each. Then the calling thread calls the
-/// gate's `finish` once: with the extreme ids that came out of all blocks, or with all ids where there
-/// do not exist, since a worker gave up or an allocation for the filter, the board or a thread failed. The
-/// answer does not depend on the cut, nor on the number of workers or the order of their steps.
+/// gate's `finish` once: with the extreme ids that came out of all blocks; where a worker gave up, with
+/// the ids that the filter left; where an allocation for the filter, the board or a thread failed, with all
+/// ids. The answer does not depend on the cut, nor on the number of workers or the order of their steps.
 ///
 /// # Errors
 ///
@@ -96,7 +97,7 @@ pub fn run_hull<R: Threads + Sync, G: Gate>(
         return Err(RunError::BadWorkers);
     }
     let job = Job { pts, ids, cut };
-    let root = extremes_by_tree(rt, alloc, job, workers, gate);
-    let body = finished(alloc, pts, ids, &root, gate)?;
+    let found = ids_by_tree(rt, alloc, job, workers, gate);
+    let body = finished(alloc, pts, ids, &found, gate)?;
     Ok(hull_of_body(pts, ids, body))
 }

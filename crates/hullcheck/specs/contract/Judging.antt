@@ -1,5 +1,5 @@
 -- What is told of the faces in a file. This project's own.
-use Rattle.std.specs.Prelude.{ℕ, List}
+use Rattle.std.specs.Prelude.{ℕ, ◌≡◌, List, Some}
 use Rattle.qh_model.specs.headline.PointFile.{Reads}
 use Rattle.qh_model.specs.headline.Vector.{Vector}
 use Rattle.qh_faces.specs.declared.reading.Layout.{Layout}
@@ -8,6 +8,7 @@ use Rattle.qh_faces.specs.declared.reading.Reading.{Reading}
 use Rattle.qh_faces.specs.contract.FaceFiles.{ReadsFaces}
 use Rattle.qh_judge.specs.declared.judgement.Judgement.{Judgement}
 use Rattle.qh_judge.specs.contract.Judging.{IsJudgement}
+use Rattle.hullcheck.specs.contract.CommandLine.{Asked, asked_by}
 
 -- the points that the numbers of a file are indices of: its vertices, or the points of the set
 -- Source: Geomview OFF (a face is the list of the indices of its vertices, from 0); Qhull's options `i` and `Fv` (indices of points).
@@ -25,6 +26,10 @@ pub record IsTold (reading : Reading) (points faces : List ℕ) (j : Judgement) 
   pub faces_read : ReadsFaces reading faces vertices polygons
   pub judged : IsJudgement pts (named_points reading.layout pts vertices) polygons j
 
--- it is told of the bytes of some files
+-- the words are a command line, and it is told of the bytes of two files, read as the words ask
+abbrev pub IsToldBy : List (List ℕ) → Judgement → Type 0
+IsToldBy words j = (asked : Asked) × (asked_by words ≡ Some asked) × (points : List ℕ) × (faces : List ℕ) × IsTold asked.reading points faces j
+
+-- so of some words
 abbrev pub IsToldOfSome : Judgement → Type 0
-IsToldOfSome j = (reading : Reading) × (points : List ℕ) × (faces : List ℕ) × IsTold reading points faces j
+IsToldOfSome j = (words : List (List ℕ)) × IsToldBy words j

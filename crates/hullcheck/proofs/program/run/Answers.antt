@@ -6,7 +6,7 @@ use Rattle.hullcheck.proofs.program.run.Goals as goal
 
 pub returns : goal.returns
 returns g c =
-    elim c.match-told.branch [
+    elim c.match-judge_command_line.branch [
       | in-Ok w ↦ elim w.end-status.ensures [
         | inl e ↦ inl (w.in-Ok.judgement, w.in-Ok.ensures, c.from.ensures ∙ w.status-is ∙ e)
         | inr e ↦ inr (Device, c.from.ensures ∙ w.status-is ∙ e)

@@ -7,8 +7,8 @@ use Rattle.qh_model.proofs.hulls.SameSets.{body_of_part}
 use Rattle.qh_model.proofs.lists.OnceEach.{once_within}
 use Rattle.qh_run.proofs.filtered.without_interior.Goals as goal
 
-pub blocks_among-requires-clause-few : goal.blocks_among-requires-clause-few
-blocks_among-requires-clause-few g c =
+pub bounds_among-requires-clause-few : goal.bounds_among-requires-clause-few
+bounds_among-requires-clause-few g c =
     let job = c.args.job.now in
     let rising = (rw (c.in-Some.is) at c.in_ok-ids.ensures.rising) job.rising in
     let no_longer = once_within c.in-Some.ids.items job.ids.now (rising_once c.in-Some.ids.items rising) (rw (c.in-Some.is) at c.in_ok-ids.ensures.within) in

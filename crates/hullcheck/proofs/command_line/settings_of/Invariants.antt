@@ -1,0 +1,10 @@
+-- The words so far and those to come ask what all words do.
+use Rattle.std.proofs.Common.{◌≡◌, drop, map}
+use Rattle.std.specs.Prelude.{string_bytes}
+use Rattle.hullcheck.specs.contract.CommandLine.{asked_by_default, asked_in, with_words}
+use Rattle.hullcheck.specs.steps.Words.{with_next}
+use Rattle.hullcheck.proofs.command_line.settings_of.Given as goal
+
+abbrev pub invariant-loop-word : goal.invariant-loop-word
+invariant-loop-word l = with_next l.next (asked_in l.settings) (map string_bytes (drop l.word-index l.rest))
+    ≡ with_words asked_by_default (map string_bytes l.rest)
