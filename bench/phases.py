@@ -1,5 +1,5 @@
 #!/usr/bin/env python3
-"""Says where this program's CPU time goes: reading, distinct points, the look for inner points, surfaces, faces, text.
+"""Says where this program's CPU time goes: reading, distinct points, the interior filter, surfaces, faces, text.
 
     apt-get install linux-perf
     bench/phases.py --words off

@@ -203,7 +203,8 @@ def write(path, text):
 def ours(top, folder):
     """The path of the proved program."""
     for crate in COPIED:
-        shutil.copytree(os.path.join(top, "crates", crate), os.path.join(folder, "crates", crate), ignore=shutil.ignore_patterns("must-fail"))
+        source, target = (os.path.join(place, "crates", crate) for place in (top, folder))
+        shutil.copytree(source, target, ignore=shutil.ignore_patterns("must-fail"))
     shutil.copy(os.path.join(top, "HANDLES"), folder)
     write(os.path.join(folder, "crates.txt"), CRATES)
     crate = os.path.join(folder, "crates", "replacing")

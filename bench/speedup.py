@@ -48,7 +48,7 @@ def row(given, outs, path):
 
 
 def faults(given, family, count, outs, times):
-    """What is not as it is wanted."""
+    """Yields each goal that is missed."""
     number = len(given.workers.split(","))
     (one, one_cpu), (most, most_cpu) = times[0], times[number - 1]
     limit = wanted(family, count, outs)

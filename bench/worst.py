@@ -45,7 +45,7 @@ def cpu_seconds(command, path, limit):
 
 
 def best_run(command, path, limit, rounds):
-    """The best of so many runs; one alone where it came to the limit or failed."""
+    """Returns the best of some runs; stops after one that came to the limit or failed."""
     seconds, ended = cpu_seconds(command, path, limit)
     for _ in range(rounds - 1):
         if ended != 0:

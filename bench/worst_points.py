@@ -21,7 +21,7 @@ def rounded(x, y, z):
 
 @functools.lru_cache(maxsize=4)
 def polygon(corners):
-    """So many corners of a strictly convex polygon around 0, with whole coordinates: its sides are the shortest
+    """Returns the corners of a strictly convex polygon around 0, with whole coordinates: its sides are the shortest
     steps of two whole numbers without a common divisor, in the order of their directions. Up to 57,112 fit."""
     radius = math.isqrt(int(corners * math.pi / 6)) + 3
     steps = [(x, y) for x in range(-radius, radius + 1) for y in range(-radius, radius + 1) if math.gcd(x, y) == 1]
@@ -40,7 +40,7 @@ def polygon(corners):
 
 
 def most_corners(count):
-    """As many corners of a polygon as fit, of so many points half."""
+    """Returns the number of corners of a polygon for a number of points: half of it, or the most that fit."""
     return min(57112, count // 2)
 
 
@@ -131,7 +131,7 @@ def disc_and_dome(rng, count):
 
 
 def prism(rng, count):
-    """A polygon's corners at heights from below to above."""
+    """The corners of a polygon at heights from below to above."""
     corners = most_corners(count)
     levels = max(2, count // corners)
     return [(x, y, round(SIZE * (2 * level / (levels - 1) - 1))) for level in range(levels) for x, y in polygon(corners)]
@@ -147,7 +147,8 @@ def cone(rng, count):
 
 
 def ring(count, radius, z, turn=0.0):
-    return [rounded(radius * math.cos(turn + math.tau * k / count), radius * math.sin(turn + math.tau * k / count), z) for k in range(count)]
+    angles = [turn + math.tau * k / count for k in range(count)]
+    return [rounded(radius * math.cos(angle), radius * math.sin(angle), z) for angle in angles]
 
 
 def few_rings(rng, count):

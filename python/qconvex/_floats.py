@@ -22,7 +22,7 @@ class Snapped(NamedTuple):
     points: NDArray[np.int32]  # (n, 3)
     step: float  # a power of two
     centre: tuple[int, int, int]
-    error: float  # the greatest distance along an axis from a float to what stands for it, exactly
+    error: float  # the greatest distance along an axis from a float to its point, exactly
 
 
 FINEST = -1074
@@ -32,7 +32,7 @@ FINEST = -1074
 def _step_exponent(floats: NDArray[np.float64], bits: int) -> int:
     """The least exponent of 2 by which the longest side of the box has at most 2^(bits + 1) - 2 steps.
 
-    Of one point repeated it is the greatest, up to 0, by which its coordinates are whole.
+    For one repeated point it is the greatest exponent, at most 0, with which its coordinates are whole.
     """
     low, high = ([Fraction(float(number)) for number in ends] for ends in (floats.min(axis=0), floats.max(axis=0)))
     extent = max(end - start for start, end in zip(low, high))
@@ -57,10 +57,10 @@ def _along_axis(floats: NDArray[np.float64], exponent: int) -> tuple[NDArray[np.
 
 
 def snap(points: Any, bits: int = BITS_LIMIT) -> Snapped:
-    """Whole numbers of at most so many bits near floats: the nearest on a grid whose step is a power of two.
+    """Returns whole numbers of at most `bits` bits near floats: the nearest on a grid whose step is a power of two.
 
-    The step is the least by which the whole extent fits, so the error is at most half of a 2^bits-th part of the longest side of the
-    points' box. It is 0 where each float stands on the grid, as floats with whole values up to 2^bits do.
+    The step is the least with which the box of the points fits, so the error is at most about 2^-(bits + 1) of the longest side
+    of the box. The error is 0 if each float stands on the grid, as floats with whole values up to 2^bits do.
 
     Raises
     ------
@@ -86,19 +86,19 @@ def snap(points: Any, bits: int = BITS_LIMIT) -> Snapped:
 class FloatHull(ConvexHull):
     """The exact hull of points near floats, in the units of the floats.
 
-    It is the hull of the points that `snap` gives, each at most `snap_error` away from its float along each axis: exact
-    for these, and exact for the floats where `snap_error` is 0. Else a float that is extreme may be no vertex, and a vertex may be
-    no extreme float, by no more than that error. `points`, `vertices`, `faces` and the like speak of the whole numbers;
-    `coordinates`, `volume`, `area`, `equations` and the bounds are in the units of the floats, rounded.
+    It is the exact hull of the points that `snap` returns. Each of these is at most `snap_error` away from its float along each
+    axis. If `snap_error` is 0, the hull is also that of the floats. Otherwise a float that is extreme by no more than this error
+    may be no vertex, and a vertex may be no extreme float. `points`, `vertices`, `faces`, `normals` and `six_volumes` belong to
+    the whole numbers; `coordinates`, `volume`, `area`, `equations` and the bounds are in the units of the floats, rounded.
 
     Attributes
     ----------
     scale : float
-        What one step of the whole numbers is in the units of the floats: a power of two.
+        The step of the grid in the units of the floats: a power of two.
     centre : tuple of three ints
         Float i is about ``(points[i] + centre) * scale``.
     snap_error : float
-        The greatest distance along an axis from a float to the point that stands for it, exactly.
+        The greatest distance along an axis from a float to its point, exactly.
     """
 
     def __init__(self, points: Any, bits: int = BITS_LIMIT) -> None:

@@ -25,7 +25,7 @@ WHOLE_REFUSAL = (
 
 
 def whole_points(points: WholePoints, copy: bool = False) -> NDArray[np.int32]:
-    """The points as an aligned (n, 3) array of int32 whose rows lie one after the other, and are read alone if copied."""
+    """Returns the points as an aligned, C-contiguous (n, 3) array of int32; a copy cannot be written."""
     given: NDArray[Any] = np.asarray(points)
     if given.ndim != 2 or given.shape[1] != 3:
         raise ValueError(f"points must have the shape (n, 3), and have {given.shape}")
@@ -48,45 +48,45 @@ def whole_points(points: WholePoints, copy: bool = False) -> NDArray[np.int32]:
 class ConvexHull:
     """The convex hull of points in space with whole coordinates, exact.
 
-    Points may be repeated, lie in one line or in one plane. `vertices`, `faces`, `dimension`, `distinct` and `nedges`
-    come from the proved library as they are; the other attributes are computed from these by numpy when first asked
-    for, and are tested, not proved.
+    Points may be repeated, and may lie in one line or one plane. The proved library computes `vertices`, `faces`, `dimension`,
+    `distinct`, `nedges` and `six_volumes`. numpy computes the other attributes when they are first asked for; they are tested,
+    not proved.
 
     Parameters
     ----------
     points : array_like of shape (n, 3), of any integer type
         From 1 to `POINT_LIMIT` points, each coordinate from -`COORDINATE_LIMIT` to `COORDINATE_LIMIT`.
     copy : bool, default True
-        Whether `points` is a copy that can't be written. Else it is the array that was given, where that is an aligned one
-        of int32 with its rows one after the other: leave it as it is while attributes are computed of it.
+        If true, the attribute `points` is a copy that can't be written. If false, it is the given array itself, if that is an
+        aligned, C-contiguous array of int32: leave it unchanged while you use the hull.
 
     Raises
     ------
     TypeError
-        The points are no whole numbers, floats with whole values among them.
+        The points are not of an integer type; floats with whole values are refused, too.
     ValueError
         The shape is not (n, 3), there is no point, there are too many, or a coordinate is out of range.
     MemoryError
-        Memory was refused.
+        Out of memory.
 
     Attributes
     ----------
     points : ndarray of shape (n, 3), int32
         The points as given.
     npoints, ndim : int
-        How many they are, and 3.
+        The number of points, and 3.
     min_bound, max_bound : ndarray of shape (3,), int32
-        Their least and their greatest coordinates.
+        The least and the greatest coordinate along each axis.
     dimension : int
         The dimension of the set, from 0 to 3.
     distinct : int
-        The number of distinct points; of equal ones the lowest index stands for all.
+        The number of distinct points. Of equal points the lowest index stands for all.
     nedges : int
         The number of edges of the faces.
     vertices : ndarray of shape (nvertices,), int32
         The indices of the extreme points, rising.
     corners : ndarray of shape (ncorners,), int32
-        The indices round each face, one face after the other.
+        The indices of the corners of all faces, one face after the other.
     offsets : ndarray of shape (nfaces + 1,), intp
         The corners of face j are ``corners[offsets[j]:offsets[j + 1]]``.
     """
@@ -97,7 +97,7 @@ class ConvexHull:
 
     @classmethod
     def _of(cls, points: NDArray[np.int32], hull: FlatHull) -> ConvexHull:
-        """The hull of points that was made already."""
+        """Returns an object for a hull that was made already."""
         made = cls.__new__(cls)
         made._take(points, hull)
         return made
@@ -113,7 +113,7 @@ class ConvexHull:
 
     @classmethod
     def from_floats(cls, points: Any, bits: int = 30) -> FloatHull:
-        """The exact hull of points near the given floats, in their units: see `FloatHull`."""
+        """Returns the exact hull of points near the given floats, in their units: see `FloatHull`."""
         from ._floats import FloatHull
 
         return FloatHull(points, bits)
@@ -152,9 +152,9 @@ class ConvexHull:
 
     @cached_property
     def faces(self) -> list[NDArray[np.int32]]:
-        """The faces: each an int32 array of indices, counterclockwise seen from outside, from the least on.
+        """The faces: each an int32 array of indices, counterclockwise seen from outside, the least first.
 
-        A set in a plane has one face; a set in a line its two ends; one point itself.
+        A set in a plane has one face. The face of a set in a line has its two ends, and that of one point has the point.
         """
         ends = self.offsets.tolist()
         return [self.corners[start:end] for start, end in zip(ends, ends[1:])]
@@ -163,13 +163,13 @@ class ConvexHull:
     def simplices(self) -> NDArray[np.int32]:
         """Triangles, an int32 array of shape (nsimplices, 3): each face as a fan from its first corner.
 
-        All are counterclockwise seen from outside. Below dimension 2 there are none.
+        All are counterclockwise seen from outside. Below dimension 2 there are no triangles.
         """
         return fans_of(self.corners, self.offsets)
 
     @cached_property
     def normals(self) -> NDArray[np.int64]:
-        """An outer normal of each triangle, an int64 array of shape (nsimplices, 3), exact: twice its area long."""
+        """The outer normal of each triangle, an int64 array of shape (nsimplices, 3), exact. Its length is twice the area."""
         return normals_of(self.points, self.simplices)
 
     @cached_property
@@ -184,7 +184,7 @@ class ConvexHull:
     def neighbors(self) -> NDArray[np.int32]:
         """The triangle over the side opposite to each corner, an int32 array of shape (nsimplices, 3).
 
-        It is -1 where there is none, as at the rim of a set in a plane.
+        It is -1 where no triangle is, as at the border of a set in a plane.
         """
         return neighbors_of(self.simplices, len(self.points), closed=self.dimension == 3)
 
@@ -202,12 +202,12 @@ class ConvexHull:
 
     @cached_property
     def area(self) -> float:
-        """The area of all faces together, rounded; of a set in a plane that of its one face."""
+        """The area of all faces together, rounded. For a set in a plane it is the area of its one face."""
         return float(self._doubled_areas.sum()) / 2
 
     @cached_property
     def _first_corners(self) -> NDArray[np.int32]:
-        """A point of each triangle."""
+        """The first corner of each triangle."""
         return self.points.take(self.simplices[:, 0], 0)
 
     @cached_property
@@ -221,24 +221,24 @@ class ConvexHull:
         return len(self.simplices)
 
     def to_off(self) -> str:
-        """The hull as an OFF file, as the program's output `off` writes it."""
+        """Returns the hull as an OFF file, as the program's output `off` writes it."""
         return off_text(self._coordinates()[self.vertices], self._numbered_faces(), self.nedges)
 
     def to_obj(self) -> str:
-        """The hull as a Wavefront OBJ file, faces as polygons."""
+        """Returns the hull as a Wavefront OBJ file, with faces as polygons."""
         return obj_text(self._coordinates()[self.vertices], self._numbered_faces())
 
     def plot(self, ax: Any = None, **style: Any) -> Any:
-        """Draws the faces on axes of matplotlib, new ones where none are given, and returns the axes.
+        """Draws the faces on axes of matplotlib, or on new axes if `ax` is None, and returns the axes.
 
-        `style` goes to `Poly3DCollection`. A set below dimension 2 is drawn as points and a line.
+        `style` is passed to `Poly3DCollection`. A set below dimension 2 is drawn as points and a line.
         """
         from ._plots import draw
 
         return draw(self._coordinates(), self.faces, ax, style)
 
     def _repr_html_(self) -> str:
-        """A picture that turns, for notebooks."""
+        """Returns a picture that can be turned, for notebooks."""
         from ._view import frame, page
 
         return frame(page(self.vertices.tolist(), self._coordinates()[self.vertices].tolist(), self._numbered_faces(), repr(self)))
@@ -248,7 +248,7 @@ class ConvexHull:
         return self.points
 
     def _numbered_faces(self) -> list[list[int]]:
-        """The faces, each corner by its number among the vertices."""
+        """Returns the faces, with each corner as its position in `vertices`."""
         numbers = np.zeros(len(self.points), np.int64)
         numbers[self.vertices] = np.arange(len(self.vertices))
         corners, ends = numbers[self.corners].tolist(), self.offsets.tolist()

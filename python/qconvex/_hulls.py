@@ -91,14 +91,14 @@ class Hulls(Sequence[ConvexHull]):
         return (self[place] for place in range(len(self)))
 
     def refusal(self, place: int) -> str | None:
-        """Why a set has no hull, or None where it has one."""
+        """Returns why a set has no hull, or None if it has one."""
         return None if self.codes[place] == _DONE else str(self._error(place))
 
     def _error(self, place: int) -> Exception:
         return error_of(int(self.codes[place]))
 
     def _flat(self, number: int, begin: int) -> FlatHull:
-        """The hull of a set, in its parts of the buffers."""
+        """Returns the hull of a set, as slices of the buffers."""
         answers, extremes, offsets, corners = self._buffers
         _, _, distinct, dimension, extreme_count, faces, corner_count, edges = answers[number].item()
         first, ends = 6 * begin + 4 * number, 2 * begin + 2 * number
@@ -113,24 +113,24 @@ class Hulls(Sequence[ConvexHull]):
 
 
 def hulls(points: WholePoints, starts: ArrayLike, *, copy: bool = True) -> Hulls:
-    """The hulls of many sets of points, which stand one after the other in one array.
+    """Returns the hulls of many sets of points, which stand one after the other in one array.
 
-    A set that is refused, as one without a point, leaves the others their hulls. Each hull has its own arrays of the library's
-    buffers; what takes numpy time is computed for the hulls that are asked for.
+    If a set is refused, such as one without a point, the others still have their hulls. The arrays of a hull are slices of common
+    buffers; numpy computes the other attributes of a hull when they are first asked for.
 
     Parameters
     ----------
     points : array_like of shape (n, 3), of any integer type
-        The points of all sets, any number of them.
+        The points of all sets; their number has no limit.
     starts : array_like of shape (sets + 1,)
         Set j has the points from ``starts[j]`` to before ``starts[j + 1]``.
     copy : bool, default True
-        As of `ConvexHull`.
+        As for `ConvexHull`.
 
     Raises
     ------
     TypeError
-        The points, or the starts, are no whole numbers.
+        The points or the starts are not whole numbers.
     ValueError
         The shape is not (n, 3), the starts don't rise or go beyond the points, or a coordinate has more than 32 bits.
     """
@@ -152,7 +152,7 @@ def hulls(points: WholePoints, starts: ArrayLike, *, copy: bool = True) -> Hulls
 
 
 def _whole_starts(starts: ArrayLike) -> NDArray[np.intp]:
-    """The starts as the library takes them; it looks itself whether they rise."""
+    """Returns the starts as the library takes them. The library checks that they rise."""
     given = np.asarray(starts)
     if given.ndim != 1 or not len(given):
         raise ValueError(f"starts must have the shape (sets + 1,), and have {given.shape}")
@@ -165,7 +165,7 @@ def _whole_starts(starts: ArrayLike) -> NDArray[np.intp]:
 
 
 def _call(points: NDArray[np.int32], starts: NDArray[np.intp], buffers: _Buffers) -> int:
-    """One call of the library; each pointer is one that is not null, also for no elements."""
+    """Calls the library and returns its code. No pointer is null, not even for an empty array."""
     arguments: list[int] = []
     nothing = np.zeros(8, np.intp)
     for array in (points, starts, *buffers):

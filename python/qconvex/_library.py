@@ -80,7 +80,7 @@ VERSION = _version()
 
 
 class _Buffers:
-    """Room for so many offsets, extreme points and corners, one after the other in one piece of memory."""
+    """Room for offsets, extreme points and corners, one after the other in one piece of memory."""
 
     def __init__(self, extremes: int, offsets: int, corners: int) -> None:
         self.rooms = extremes, offsets, corners
@@ -88,7 +88,7 @@ class _Buffers:
         self.words = np.zeros(offsets + (extremes + corners + 1) // 2, np.intp)
 
     def addresses(self) -> tuple[int, int, int]:
-        """Where the extreme points, the offsets and the corners begin."""
+        """Returns the addresses of the extreme points, the offsets and the corners."""
         extremes, offsets, _corners = self.rooms
         start = self.words.ctypes.data
         return start + 8 * offsets, start, start + 8 * offsets + 4 * extremes
@@ -96,14 +96,14 @@ class _Buffers:
     def lists(
         self, extremes: int, offsets: int, corners: int
     ) -> tuple[NDArray[np.int32], NDArray[np.intp], NDArray[np.int32]]:
-        """So many of each, in memory of their own: the buffers are mostly longer than what stands in them."""
+        """Returns copies of the first entries of each buffer; the buffers are mostly longer than the answer."""
         numbers = self.words[self.rooms[1] :].view(np.int32)
         first = self.rooms[0]
         return numbers[:extremes].copy(), self.words[:offsets].copy(), numbers[first : first + corners].copy()
 
 
 def _call(points: NDArray[np.int32], sizes: _Sizes, room: tuple[int, int, int]) -> tuple[int, _Buffers]:
-    """One call with so much room for extreme points, offsets and corners: its answer, and the buffers."""
+    """Calls the library with room for extreme points, offsets and corners. Returns the code and the buffers."""
     buffers = _Buffers(*room)
     extremes, offsets, corners = buffers.addresses()
     source = points if len(points) else np.zeros((1, 3), np.int32)  # a pointer that is not null, also for no points
@@ -114,14 +114,14 @@ def _call(points: NDArray[np.int32], sizes: _Sizes, room: tuple[int, int, int]) 
 
 
 def error_of(code: int) -> Exception:
-    """What an answer other than that all is done, or that there is too little room, means."""
-    return MemoryError("memory was refused") if code == _MEMORY else ValueError(_REFUSALS[code])
+    """Returns the error of a code other than DONE and ROOM."""
+    return MemoryError("out of memory") if code == _MEMORY else ValueError(_REFUSALS[code])
 
 
 def six_volumes(points: NDArray[np.int32], triangles: NDArray[np.int32]) -> int:
-    """Six times the volume inside triangles, for arrays of int32 with three numbers a row, whose rows lie one after the other.
+    """Returns six times the volume inside triangles. Both arrays are C-contiguous, of int32, with three numbers a row.
 
-    Raises ValueError where the library refuses the points or the corners, and OverflowError where a sum has more than 128 bits.
+    Raises ValueError if the library refuses the points or the corners, and OverflowError if a sum has more than 128 bits.
     """
     volume = _Wide()
     code = LIBRARY.qconvex_six_volumes(
@@ -136,12 +136,12 @@ def six_volumes(points: NDArray[np.int32], triangles: NDArray[np.int32]) -> int:
 
 
 def flat_hull(points: NDArray[np.int32]) -> FlatHull:
-    """The hull of an (n, 3) array of int32 whose rows lie one after the other.
+    """Returns the hull of a C-contiguous (n, 3) array of int32.
 
-    Raises ValueError where the library refuses the points, and MemoryError where memory was refused.
+    Raises ValueError if the library refuses the points, and MemoryError if it is out of memory.
     """
     count, sizes = len(points), _Sizes()
-    # Enough by Euler's formula. Should it not be, the sizes say what is.
+    # Enough by Euler's formula. If it is not, the sizes say how much is.
     code, buffers = _call(points, sizes, (max(count, 1), 2 * min(count, POINT_LIMIT) + 2, 6 * min(count, POINT_LIMIT) + 4))
     if code == _ROOM:
         code, buffers = _call(points, sizes, (sizes.extremes, sizes.faces + 1, sizes.corners))

@@ -18,12 +18,12 @@ from ._limits import POINT_LIMIT
 
 
 class TooManyExtremes(ValueError):
-    """The extreme points of two parts together are more than a hull takes.
+    """Two parts together have more extreme points than one call takes.
 
     Attributes
     ----------
     count : int
-        How many they are.
+        The number of these points.
     """
 
     def __init__(self, count: int) -> None:
@@ -36,10 +36,10 @@ class TooManyExtremes(ValueError):
 
 @dataclass(frozen=True)
 class Part:
-    """What is left of points that follow one another."""
+    """The extreme points of consecutive points."""
 
-    count: int  # of the points that there were
-    indices: NDArray[np.int64]  # int64, rising: the places of the extreme points among these
+    count: int  # the number of points that the part was made of
+    indices: NDArray[np.int64]  # int64, rising: the positions of the extreme points among these
     points: NDArray[np.int32]  # int32, (m, 3): the extreme points
 
 
@@ -47,7 +47,7 @@ EMPTY = Part(0, np.empty(0, np.int64), np.empty((0, 3), np.int32))
 
 
 def part_of_block(block: NDArray[Any]) -> Part:
-    """The extreme points of a block of points of any length, looked at in cuts of `POINT_LIMIT` at most."""
+    """Returns the extreme points of a block of any length, which is cut into pieces of at most `POINT_LIMIT` points."""
     starts = range(0, len(block), POINT_LIMIT)
     return joined(_part_of_cut(block[start : start + POINT_LIMIT]) for start in starts)
 

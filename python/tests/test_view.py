@@ -71,7 +71,8 @@ def test_hovering_tells_faces_and_vertices(tmp_path):
 
 @needs_browser
 def test_a_square_and_a_point_are_shown(tmp_path):
-    square = asked(page_of([[0, 0, 0], [1, 0, 0], [1, 1, 0], [0, 1, 0]]), tmp_path, MOVE % "say(canvas.clientWidth / 2, canvas.clientHeight / 2)")
+    middle = MOVE % "say(canvas.clientWidth / 2, canvas.clientHeight / 2)"
+    square = asked(page_of([[0, 0, 0], [1, 0, 0], [1, 1, 0], [0, 1, 0]]), tmp_path, middle)
     assert square == "face 0: 0 1 2 3"
     assert asked(page_of([[5, 5, 5]]), tmp_path, MOVE % "say(seen[0], seen[1])") == "vertex 0 (5, 5, 5)"
 

@@ -22,12 +22,12 @@ class Definition:
         self.lines, self.cites, self.items = [], set(), set()
 
     def folder(self):
-        """The folder below specs/ in which it stands, or nothing."""
+        """The folder below specs/ with the definition, or an empty text."""
         below = self.path.relative_to(CRATES / self.crate / "specs").parts
         return below[0] if len(below) > 1 else ""
 
     def code(self):
-        """Its text without comments."""
+        """The text of the definition without comments."""
         return "\n".join(line for line in self.lines if not line.strip().startswith("--"))
 
 
@@ -44,7 +44,7 @@ class Clause:
         self.cites, self.items = set(), set()
 
     def is_public(self, exports):
-        """Whether a caller of the crate sees it, of which the names in `exports` go out."""
+        """Returns true if callers of the crate see the clause. `exports` are the names that the crate exports."""
         if self.kind not in ("requires", "ensures", "Value"):
             return False
         if not self.container:
@@ -156,7 +156,7 @@ class Project:
             self.clauses.append(clause)
 
     def exports(self, crate):
-        """The names that a crate hands out; of a program, all that are public in its files."""
+        """The names that a crate exports; for a program, all public names of its files."""
         root = CRATES / crate / "src/lib.rt"
         if root.exists():
             return {name for group in REEXPORT.findall(root.read_text()) for name in re.findall(r"\w+", group)}
@@ -174,13 +174,13 @@ class Project:
 
 
 def is_of_closure(text, function, clause):
-    """Whether a clause stands deeper than those of the function: it is that of a closure in its body."""
+    """Returns true if a clause is indented deeper than those of its function: then it belongs to a closure in the body."""
     indent = clause.start() - text.rfind("\n", 0, clause.start()) - 1
     return indent > len(function.group(1)) + 4
 
 
 def last_before(found, position):
-    """The last of the matches that begins before the position, or nothing."""
+    """The last match that begins before the position, or None."""
     return max((match for match in found if match.start() < position), key=lambda match: match.start(), default=None)
 
 

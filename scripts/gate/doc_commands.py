@@ -1,18 +1,19 @@
 #!/usr/bin/env python3
-"""Runs the commands of the documents, and compares what they print with what stands there.
+"""Runs the commands of the documents and compares their output with the output in the document.
 
     scripts/gate/doc_commands.py [--all] [FILE]...      from anywhere; with no FILE: README and the PAGES of docs
 
-In an indented block of a document a line that begins with `$ ` is a command, with the lines after it that begin with `> `,
-and the lines up to the next one or the end of the block are what it prints, on standard output and standard error together. A line `...` stands for any lines. The
-commands of one document run one after the other in one shell, in a new folder that has all that the top of the
-repository has; so files that one writes, the next can read. A comment just before a block says what is special:
+In an indented block of a document, a line that begins with `$ ` is a command; lines after it that begin with `> ` belong to
+it. The lines up to the next command or the end of the block are its expected output, of standard output and standard error
+together. A line `...` stands for any lines. The commands of one document run one after the other in one shell, in a new
+folder with links to everything at the top of the repository; so a command can read the files that an earlier one wrote. A
+comment just before a block may mark it:
 
-    <!-- needs: qhull -->          left out where one of these programs is missing
-    <!-- seconds vary -->          numbers with a point in them, and `over N`, are not compared
-    <!-- long -->                  left out without --all
+    <!-- needs: qhull -->          skipped if one of these programs is missing
+    <!-- seconds vary -->          numbers with a decimal point, and `over N`, are not compared
+    <!-- long -->                  skipped without --all
 
-The script prints each difference, what it left out, and how many commands it ran; the status is 1 after a difference.
+The script prints each difference, what it skipped, and how many commands it ran. The status is 1 after a difference.
 """
 import argparse
 import difflib
@@ -31,7 +32,7 @@ from lib.paths import TOP  # noqa: E402
 
 PAGES = ["WHY-EXACT", "TUTORIAL", "PROGRAM", "FAULTS", "MANY-POINTS", "PYTHON", "LIBRARY", "CHECKING"]
 DOCUMENTS = ["README.md", *(f"docs/{page}.md" for page in PAGES)]
-# A command with what it is to print, the line of the document, and what is special about its block.
+# A command with its expected output, its line in the document, and the marks of its block.
 Command = namedtuple("Command", "words wanted line marks")
 MARK = re.compile(r"<!--\s*(.*?)\s*-->$")
 INDENT = "    "
@@ -80,13 +81,13 @@ def commands(text):
 
 
 def missing(command):
-    """The programs that a command needs and that are not there."""
+    """The programs that a command needs and that are not installed."""
     needs = [mark.split(":")[1] for mark in command.marks if mark.startswith("needs:")]
     return [name for name in " ".join(needs).replace(",", " ").split() if not shutil.which(name)]
 
 
 def script_of(chosen):
-    """A shell script that runs the commands, with a line that tells the end of each."""
+    """A shell script that runs the commands and prints a line after each."""
     lines = []
     for number, command in enumerate(chosen):
         lines += [command.words, f"(s=$?; printf '{END}{number}\\n'; exit $s)"]
@@ -116,7 +117,7 @@ def pattern(line, vary):
 
 
 def agrees(command, lines):
-    """Whether lines are what a command is to print."""
+    """Returns true if the lines are the expected output of a command."""
     vary = "seconds vary" in command.marks
     lines = [" ".join(line.split()) if vary else line.rstrip() for line in lines]
     whole = "".join(r"(?:.*\n)*" if line.strip() == "..." else pattern(line, vary) + r"\n" for line in command.wanted)
@@ -131,14 +132,14 @@ def tell(document, command, lines):
 
 
 def furnished(folder):
-    """Puts links to all that the top of the repository has into a folder."""
+    """Puts links to everything at the top of the repository into a folder."""
     for name in os.listdir(TOP):
         if not name.startswith("."):
             os.symlink(os.path.join(TOP, name), os.path.join(folder, name))
 
 
 def chosen_of(document, everything):
-    """The commands of a document that are to be run; it says which are left out."""
+    """The commands of a document to run; prints those that are skipped."""
     with open(os.path.join(TOP, document), encoding="utf-8") as source:
         found = commands(source.read())
     chosen = []
@@ -153,7 +154,7 @@ def chosen_of(document, everything):
 
 
 def differences(document, everything):
-    """How many commands of a document ran, and how many printed something else."""
+    """The number of commands of a document that ran, and the number whose output differs."""
     chosen = chosen_of(document, everything)
     with tempfile.TemporaryDirectory() as folder:
         furnished(folder)

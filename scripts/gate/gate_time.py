@@ -34,7 +34,7 @@ def read(path):
 
 
 def stat_of(pid):
-    """The parent of a process, its start and its processor seconds; none where it has ended."""
+    """Returns the parent of a process, its start and its processor seconds, or None if it has ended."""
     text = read(f"/proc/{pid}/stat")
     if not text:
         return None
@@ -43,7 +43,7 @@ def stat_of(pid):
 
 
 def part_of(pid):
-    """The crate and the part that a process of the prover checks; none where it is another process."""
+    """Returns the crate and the part that a process of the prover checks, or None for another process."""
     words = [word.decode(errors="replace") for word in read(f"/proc/{pid}/cmdline").split(b"\0")]
     if len(words) < 2 or not words[0].endswith("/rattle") or "--crate-name" not in words:
         return None

@@ -1,20 +1,20 @@
 #!/usr/bin/env python3
-"""Follows the contracts of `answer` and `serve` to every definition that they use, and looks where it stands.
+"""Follows the contracts of `answer` and `serve` to every definition that they use, and checks its folder.
 
     scripts/gate/headline.py [--list]      from the top of the repository
 
-The definitions that a reader of the headline must believe are those that the two contracts cite, and what these cite in
-turn. They have to be just those of the folders `specs/headline` of all crates, and at most 450 lines without their
-comments. Besides:
+A reader of the headline must believe the definitions that the two contracts use, directly or through other definitions. They
+have to be exactly those of the folders `specs/headline` of all crates, and at most 450 lines without their comments. The
+script also checks that
 
-- what else a clause of a public function or of a public trait cites stands in `specs/contract`;
+- every other definition that a clause of a public function or trait uses stands in `specs/contract`;
 - docs/DEFINITIONS.md names each definition of these two folders, and no other;
 - docs/LAWS.md names each law and each clause of a law, and no other;
-- docs/CHECKING.md says the number of lines for `check_streams`, `judge_words` and `run` of hullcheck;
-- README.md says the number of lines, and that of the lines in which the traits `Source` and `Sink` say what a device does.
+- docs/CHECKING.md has the number of lines for `check_streams`, `judge_words` and `run` of hullcheck;
+- README.md has the number of lines, and the number of lines in which the traits `Source` and `Sink` say what a device does.
 
-It prints each file with its definitions and lines (--list: each definition), the types and constants of the program that
-they speak of, and the number of lines; then each fault. The status is 1 if there was one.
+It prints each file with its number of definitions and lines (--list: with each definition), the types and constants of the
+program that they use, and the number of lines; then each fault. The status is 1 if there is a fault.
 """
 import argparse
 import re
@@ -39,7 +39,7 @@ ROW = re.compile(r"^\| \[\w+\]\(([^)]*\.antt)\) \| ([^|]*) \|", re.M)
 
 
 def headline(project):
-    """All definitions that the contracts of `answer` and `serve` use."""
+    """Returns all definitions that the contracts of `answer` and `serve` use."""
     clauses = [clause for clause in project.clauses
                if (clause.path, clause.function) in HEADLINE
                or clause.path == SETTINGS and clause.kind == "Value"]
@@ -62,7 +62,7 @@ def contract(project):
 
 
 def print_files(definitions, every):
-    """A line for each file of definitions, and one for each definition where that is asked."""
+    """Prints a line for each file of definitions, and with `every` a line for each definition."""
     files = defaultdict(list)
     for definition in definitions:
         files[definition.path].append(definition)
@@ -87,7 +87,7 @@ def standing(project, folder):
 
 
 def folder_faults(project, believed, cited):
-    """What stands in a folder where it should not."""
+    """Yields each definition that stands in the wrong folder."""
     for definition in sorted(believed - standing(project, "headline"), key=str_of):
         yield "%s is used by the headline, and stands elsewhere" % str_of(definition)
     for definition in sorted(standing(project, "headline") - believed, key=str_of):
@@ -101,7 +101,7 @@ def str_of(definition):
 
 
 def definitions_faults(project):
-    """Where docs/DEFINITIONS.md has more or less than the two folders: a row for each file, with its definitions."""
+    """Yields each file whose row in docs/DEFINITIONS.md does not name exactly its definitions."""
     page = Path("docs/DEFINITIONS.md")
     listed, stated = {}, defaultdict(list)
     for link, names in ROW.findall(page.read_text()):
@@ -125,7 +125,7 @@ def laws():
 
 
 def laws_faults():
-    """Where docs/LAWS.md has more or less than the laws of the crates."""
+    """Yields each law that docs/LAWS.md lacks, or has with other clauses."""
     listed, law = defaultdict(set), None
     for line in Path("docs/LAWS.md").read_text().split("\n"):
         cells = [cell.strip() for cell in line.split("|")]
@@ -150,7 +150,7 @@ def device_lines():
 
 
 def number_faults(lines):
-    """Where a number of lines is too large, or not the one that README says."""
+    """Yields each number of lines that is too large, or differs from the number in README."""
     if "%d lines more" % device_lines() not in Path("README.md").read_text():
         yield "README.md does not say: %d lines more" % device_lines()
     if lines > MOST_LINES:
@@ -160,7 +160,7 @@ def number_faults(lines):
 
 
 def checker_faults(lines):
-    """Where docs/CHECKING.md says another number of lines."""
+    """Yields a fault if docs/CHECKING.md has another number of lines."""
     if "%d lines of definitions" % lines not in Path("docs/CHECKING.md").read_text():
         yield "docs/CHECKING.md does not say: %d lines of definitions" % lines
 

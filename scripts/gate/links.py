@@ -1,5 +1,5 @@
 #!/usr/bin/env python3
-"""Looks whether every relative link of the documents leads to a file, and every anchor to a heading.
+"""Checks that every relative link of the documents leads to a file, and every anchor to a heading.
 
     scripts/gate/links.py [FILE]...      from anywhere; with no FILE: every Markdown file of the repository
 
@@ -24,7 +24,7 @@ SKIPPED = {"out", "build", "dist", "venv", "node_modules"}
 
 
 def prose_lines(text):
-    """The lines of a document without those of fenced code, each with its number and without code in it."""
+    """Yields the lines of a document outside fenced code, each with its number and without inline code."""
     fenced = False
     for number, line in enumerate(text.split("\n"), 1):
         if line.startswith("```"):
@@ -61,7 +61,7 @@ def links(text):
 
 
 def fault_of(path, target):
-    """What is wrong with a link of a file, or None."""
+    """Returns what is wrong with a link of a file, or None."""
     name, _, anchor = target.partition("#")
     goal = (path.parent / name).resolve() if name else path
     if not goal.exists():
@@ -72,7 +72,7 @@ def fault_of(path, target):
 
 
 def link_faults(paths):
-    """Each link that leads nowhere, as a line of text."""
+    """Yields a line of text for each broken link."""
     for path in paths:
         for number, target in links(path.read_text(encoding="utf-8")):
             fault = fault_of(path, target)
@@ -81,7 +81,7 @@ def link_faults(paths):
 
 
 def map_faults():
-    """Each page of docs that docs/README.md does not name."""
+    """Yields a line of text for each page of docs that docs/README.md does not name."""
     named = {target.partition("#")[0] for _, target in links(MAP.read_text(encoding="utf-8"))}
     for page in sorted(MAP.parent.glob("*.md")):
         if page != MAP and page.name not in named:

@@ -1,12 +1,12 @@
 #!/usr/bin/env python3
-"""Counts what is to become less: long parameter lists, bare bools, long files, long lines, and words that are not used.
+"""Counts what should become rarer: long parameter lists, bare bools, long files, long lines, and unwanted words.
 
     scripts/gate/measures.py [--list]      from anywhere
 
-The limits stand below, by name. Each is the count of the day when it was set; who lowers a count lowers its limit. The
-words are those of the table of docs/GLOSSARY.md, names (written there as code) in the sources alone, others in the
-documents, too; a word without a limit here may not stand anywhere. Parameters are counted without self, rt and alloc.
-The status is 1 if a count is above its limit.
+Each limit below is the count on the day when it was set; lower it when you lower the count. The words are those of the table
+"Words that are not used" of docs/GLOSSARY.md. Names (written there as code) are counted in the sources only, other words in
+the documents, too. The limit of a word that is not named below is 0. Parameters are counted without self, rt and alloc. The
+status is 1 if a count is above its limit.
 """
 import argparse
 import re
@@ -33,15 +33,15 @@ WORD_LIMITS = {
     "near order": 2,
     "first simplex": 11,
     "the look": 1,
-    "gives out": 3,
+    "gives out": 2,
     "given out": 3,
     "raised": 3,
-    "memory was refused": 23,
+    "memory was refused": 21,
     "two and two": 1,
     "/// Whether": 3,
-    "as many": 41,
+    "as many": 40,
     "so many": 33,
-    "such a": 16,
+    "such a": 14,
     "that one": 9,
     "is none": 28,
     "are none": 3,
@@ -58,7 +58,7 @@ UNREAD = {"GLOSSARY.md", "CHANGELOG.md"}
 
 
 def closing_index(text, start):
-    """The index of the bracket that closes the one at `start`; the head of an arrow closes nothing."""
+    """Returns the index of the bracket that closes the one at `start`. The `>` of an arrow is no bracket."""
     depth = 0
     for index in range(start, len(text)):
         if text[index] in OPENING:
@@ -71,7 +71,7 @@ def closing_index(text, start):
 
 
 def parts_of(text):
-    """The parts of a list with commas between them; commas within brackets part nothing."""
+    """Returns the parts of a list that is separated by commas. Commas within brackets separate nothing."""
     parts, depth = [""], 0
     for index, letter in enumerate(text):
         depth += letter in OPENING
@@ -84,7 +84,7 @@ def parts_of(text):
 
 
 def functions_of(text):
-    """Each function of a source, by name, with its parameters without those that are only handed on."""
+    """Yields the name of each function of a source, and its parameters without self, rt and alloc."""
     for found in FUNCTION.finditer(text):
         start = found.end()
         try:
@@ -100,7 +100,7 @@ def functions_of(text):
 
 
 def parameter_counts(sources):
-    """Functions with more parameters than there may be, and functions with a bare bool."""
+    """Counts functions with too many parameters, and functions with a bare bool."""
     longer, bools, most = [], [], 0
     for path, text in sources:
         for name, parameters in functions_of(text):
@@ -114,7 +114,7 @@ def parameter_counts(sources):
 
 
 def size_counts(sources):
-    """Files with more lines than there may be, and lines with more characters."""
+    """Counts files with too many lines, and lines with too many characters."""
     files, lines = [], []
     for path, text in sources:
         rows = text.splitlines()
@@ -150,7 +150,7 @@ def read(*patterns):
 
 
 def above(count, limits, every):
-    """Prints a count beside its limit, and says whether it is above."""
+    """Prints a count beside its limit. Returns true if it is above."""
     number, limit = len(count.places), limits.get(count.name, 0)
     note = "ABOVE" if number > limit else "may be lowered" if number < limit else ""
     print(f"{number:6} of {limit:6}  {count.name}  {note}".rstrip())

@@ -22,7 +22,7 @@ CHECKED = re.compile(r"checked (\S+), \d+ of \d+")
 
 
 def stat_of(pid):
-    """A process's parent, and the seconds of it and of its children that ended; none where it is gone."""
+    """Returns the parent of a process, and its seconds with those of its ended children, or None if it has ended."""
     try:
         fields = Path(f"/proc/{pid}/stat").read_text().rpartition(")")[2].split()
     except OSError:

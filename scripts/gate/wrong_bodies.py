@@ -1,5 +1,5 @@
 #!/usr/bin/env python3
-"""Tries all wrong bodies of crates: those that the gate tries, and those that it leaves out for time.
+"""Tries all wrong bodies of crates: those that the gate tries, and those that it skips to save time.
 
     scripts/gate/wrong_bodies.py [CRATE..]        from the top of the repository; without a name, all crates
 
@@ -27,7 +27,7 @@ WRONG = re.compile(r": (NOT REFUSED|BAD EDIT|NOT TRIED)")
 
 
 def copied(top):
-    """Copies the crates' sources into the folder, each crate's wrong bodies all in its must-fail."""
+    """Copies the sources of the crates into the folder, with all wrong bodies of a crate in its must-fail."""
     shutil.copytree("crates", top / "crates", symlinks=True, ignore=shutil.ignore_patterns("out"))
     for name in ["crates.txt", "HANDLES"]:
         shutil.copy(name, top / name)
@@ -44,7 +44,7 @@ def crates_with_bodies(top):
 
 
 def tried(top, crate):
-    """Tries a crate's bodies, prints what rt says of each, and returns these lines."""
+    """Tries the bodies of a crate, prints what rt says of each, and returns these lines."""
     run = subprocess.Popen(["rt", "must-fail", crate], cwd=top, stdout=subprocess.PIPE, stderr=subprocess.STDOUT, text=True)
     lines = []
     for line in run.stdout:

@@ -1,4 +1,4 @@
-"""The points of a point file or an OFF file, or its first fault: what trials compare the program's reader with.
+"""An independent reader of point files and OFF files, with which trials compare the program's reader.
 
 It is written from docs/PROGRAM.md, docs/FAULTS.md and docs/DEFINITIONS.md, and uses nothing of the package for Python.
 """
@@ -10,7 +10,7 @@ BYTE_LIMIT = 1 << 28
 
 
 class Fault(Exception):
-    """The first fault of an input: its number, its name, and its line where one is meant."""
+    """The first fault of an input: its number, its name, and its line if it has one."""
 
     def __init__(self, number, name, line=None):
         super().__init__(name)
@@ -70,7 +70,7 @@ def coordinate_of(words):
 
 
 def points_of(data):
-    """The points of a point file, or its first fault, raised."""
+    """Returns the points of a point file, or raises its first fault."""
     if len(data) > BYTE_LIMIT:
         raise Fault(10, "Big")
     words = data_words(data)
@@ -88,7 +88,7 @@ def off_words(data):
 
 
 def off_points_of(data):
-    """The vertices of an OFF file, or its first fault, raised. What follows them is not looked at."""
+    """Returns the vertices of an OFF file, or raises its first fault. What follows them is ignored."""
     if len(data) > BYTE_LIMIT:
         raise Fault(10, "Big")
     words = off_words(data)

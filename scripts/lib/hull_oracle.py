@@ -1,4 +1,4 @@
-"""The hull of points by a look at all triples: what trials compare the program with.
+"""A brute-force hull over all triples of points, with which trials compare the program.
 
 It is written from docs/PROGRAM.md and docs/DEFINITIONS.md, over whole numbers of any size, and uses nothing of the package
 for Python: every triple of distinct points whose plane leaves none outside gives a face, every pair of a face's points that
@@ -43,7 +43,7 @@ def distinct_ids(points):
 
 
 def first_normal(points, ids):
-    """The normal of some three that are not in line, or None."""
+    """Returns the normal of some three points that are not in line, or None."""
     for i, j, k in combinations(ids, 3):
         normal = cross(points[i], points[j], points[k])
         if any(normal):
@@ -63,7 +63,7 @@ def dimension(points, ids):
 
 
 def is_side(points, ids, normal, u, v):
-    """Whether all others lie to the left of the way from u to v, or between the two."""
+    """Returns true if all other points lie to the left of the line from u to v, or between u and v."""
     way = minus(points[v], points[u])
     for w in ids:
         if w in (u, v):
@@ -76,7 +76,7 @@ def is_side(points, ids, normal, u, v):
 
 
 def polygon(points, ids, normal):
-    """The corners of points in one plane, counterclockwise from the tip of the normal, the least first."""
+    """Returns the corners of points in one plane, counterclockwise seen from the tip of the normal, the least first."""
     following = {u: v for u, v in permutations(ids, 2) if is_side(points, ids, normal, u, v)}
     corners = [min(following)]
     while following[corners[-1]] != corners[0]:
@@ -87,7 +87,7 @@ def polygon(points, ids, normal):
 
 
 def one_sided_heights(points, ids, normal, offset):
-    """The heights of all points over a plane, or None where some lie above it and some below."""
+    """Returns the heights of all points over a plane, or None if some lie above it and some below."""
     heights, least, greatest = [], 0, 0
     for index in ids:
         height = dot(normal, points[index]) - offset
@@ -99,7 +99,7 @@ def one_sided_heights(points, ids, normal, offset):
 
 
 def supporting_planes(points, ids):
-    """Of each plane through three points that leaves none outside: its members, and its normal that points outside."""
+    """Returns the members and the outer normal of each plane through three points that has no point outside."""
     planes = {}
     for i, j, k in combinations(ids, 3):
         normal = cross(points[i], points[j], points[k])
@@ -136,12 +136,12 @@ def edges(faces):
 
 
 def fan(face):
-    """A face as triangles from its first corner, or as it is where it has fewer than three."""
+    """Returns a face as triangles from its first corner; a face with fewer than three corners is unchanged."""
     return [[face[0], *pair] for pair in zip(face[1:], face[2:])] or [face]
 
 
 def hull_text(points, outputs):
-    """What the program writes of the points for these outputs, and the dimension."""
+    """Returns the text that the program has to write of the points for these outputs, and the dimension."""
     ids = distinct_ids(points)
     dim = dimension(points, ids)
     faces = polygons(points, ids, dim)

@@ -1,4 +1,4 @@
-"""The limits of the input, as the program has them: read from the one file that states them."""
+"""The limits of the input, read from the one file of the program that states them."""
 import re
 
 from lib.paths import TOP

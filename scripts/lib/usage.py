@@ -1,4 +1,4 @@
-"""Helps scripts that take names alone, without options."""
+"""Help for scripts whose arguments are names, without options."""
 import sys
 
 

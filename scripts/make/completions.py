@@ -35,7 +35,7 @@ def outputs(text):
 
 
 def options(text):
-    """The options: a letter or none, a word, whether it takes a value, and what it is."""
+    """Returns the options: the letter or None, the word, whether it takes a value, and its meaning."""
     found = [found.groups() for found in map(OPTION.fullmatch, section(text, "Options:")) if found]
     return [(letter, word, value is not None, re.split("[,:]", what)[0]) for letter, word, value, what in found]
 
@@ -43,7 +43,11 @@ def options(text):
 def bash(name, outs, opts):
     function = "_" + name.replace("-", "_")
     words = [word for word, _ in outs] + ["--" + word for _, word, _, _ in opts]
-    cases = [f"        --{word}) COMPREPLY=($(compgen -W '{' '.join(VALUES.get(word, []))}' -- \"$word\")) ;;" for _, word, takes, _ in opts if takes]
+    cases = [
+        f"        --{word}) COMPREPLY=($(compgen -W '{' '.join(VALUES.get(word, []))}' -- \"$word\")) ;;"
+        for _, word, takes, _ in opts
+        if takes
+    ]
     return "\n".join([
         f"{function}() {{",
         "    local word=${COMP_WORDS[COMP_CWORD]} before=${COMP_WORDS[COMP_CWORD - 1]}",

@@ -1,5 +1,5 @@
 #!/usr/bin/env python3
-"""Makes what a release hands out of what was built, and tries it in an empty folder.
+"""Makes the files of a release from what was built, and tries each in an empty folder.
 
     scripts/make/release.py [FOLDER]        from the top of the repository; FOLDER is dist where none is given
 
@@ -102,7 +102,7 @@ def try_tree(tree, program, wanted):
 
 
 def try_wheel(made, room):
-    """Installs the wheel into a folder, and takes a hull by it."""
+    """Installs the wheel into a folder, and makes a hull with it."""
     packages = room / "packages"
     output(PYTHON, "-m", "pip", "install", "-q", "--no-deps", "--no-index", "--target", packages, made)
     code = "import qconvex; print(len(qconvex.ConvexHull([[0, 0, 0], [1, 0, 0], [0, 1, 0], [0, 0, 1]]).vertices))"

@@ -32,7 +32,7 @@ LATTICE_HEIGHT = 1000
 
 
 def sphere_point(generator):
-    """A point near the sphere, in a direction that no side of a cube is favoured in."""
+    """Returns a point near the sphere, in a random direction, uniform over the sphere."""
     direction = [generator.gauss(0, 1) for _ in range(3)]
     length = sum(x * x for x in direction) ** 0.5
     return tuple(round(RADIUS * x / length) for x in direction)

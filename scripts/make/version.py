@@ -1,5 +1,5 @@
 #!/usr/bin/env python3
-"""The version of the program and the libraries: says where it stands, or puts another one there.
+"""Prints where the version of the program and the libraries stands, or changes it in all these places.
 
     scripts/make/version.py            prints the version; the status is 1 if two places differ
     scripts/make/version.py 1.2.3      writes this version to all places

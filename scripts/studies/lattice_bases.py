@@ -70,7 +70,7 @@ def verdict(command, points):
 
 
 def counted(sets):
-    """What Qhull and this program answer of some sets: how often each verdict."""
+    """Counts the verdicts on Qhull and on this program over some sets."""
     qhull, ours = Counter(), Counter()
     for points in sets:
         qhull[verdict(["qhull", "o"], points)] += 1

@@ -1,5 +1,5 @@
 #!/usr/bin/env python3
-"""Asks every hull program that is installed for the hull of the same points, and says which agree.
+"""Runs every hull program that is installed on the same points, and says which agree.
 
     scripts/studies/other_programs.py [POINTS]...      the four sets of examples/ on which rounding fails, if none is named
 
@@ -68,7 +68,7 @@ def refusal(done):
 
 
 def answer_of(done, corners, faces):
-    """The answer of a run whose numbers were found, or why there are none."""
+    """Returns the numbers that a run found, or why there is no answer."""
     why = refusal(done) if corners is None and faces is None else ""
     warning = re.search(r"QH7\d+", done.stderr + done.stdout)
     return Answer(corners, faces, why, done.returncode, f" (warns: {warning.group()})" if warning else "")
@@ -175,12 +175,12 @@ def ask_meshlab(points):
 
 
 def has(*commands):
-    """Whether all of these commands are there."""
+    """Returns true if all of these commands are installed."""
     return all(map(shutil.which, commands))
 
 
 def has_module(name):
-    """Whether Debian's Python has a module."""
+    """Returns true if Debian's Python has a module."""
     return os.path.exists(PYTHON) and run([PYTHON, "-c", f"import {name}"]).returncode == 0
 
 
@@ -222,7 +222,7 @@ def right_hull(points):
 
 
 def agrees(program, answer, right):
-    """Whether an answer has the right numbers."""
+    """Returns true if an answer has the right numbers."""
     corners, faces = right
     return answer.corners == corners and answer.faces == faces[program.triangles]
 

@@ -34,7 +34,10 @@ class Sizes(unittest.TestCase):
 
 
 class Words(unittest.TestCase):
-    TABLE = "## Words that are not used\n\n| Not used | Instead |\n|---|---|\n| so many | n |\n| `raised` | `biased` |\n\n## Sources\n| no | x |\n"
+    TABLE = (
+        "## Words that are not used\n\n| Not used | Instead |\n|---|---|\n| so many | n |\n| `raised` | `biased` |\n"
+        "\n## Sources\n| no | x |\n"
+    )
 
     def test_the_table_is_read(self):
         self.assertEqual(forbidden_words(self.TABLE), [("so many", False), ("raised", True)])

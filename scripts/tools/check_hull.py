@@ -24,7 +24,7 @@ from collections import defaultdict, namedtuple
 from fractions import Fraction
 from math import gcd
 
-# A box with as few points is not parted further.
+# A box with at most this number of points is not split.
 FEW = 16
 
 # The points that faces name by their places, and the faces as lists of places.
@@ -36,7 +36,7 @@ class Wrong(Exception):
 
 
 def minus(p, q):
-    """The way from q to p."""
+    """The vector from q to p."""
     return (p[0] - q[0], p[1] - q[1], p[2] - q[2])
 
 
@@ -72,7 +72,7 @@ def lowest_terms(vector):
 
 
 class Box:
-    """Points with their bounds, parted in two once a plane that they may lie above asks for it."""
+    """Points with their bounds. The box is split in two when a plane needs it that the points may lie above."""
 
     def __init__(self, points):
         columns = list(zip(*points))
@@ -80,7 +80,7 @@ class Box:
         self.points, self.halves = points, ()
 
     def part(self):
-        """Parts the box in the middle of its longest side. The points are distinct, so none of the halves is empty."""
+        """Splits the box in the middle of its longest side. The points are distinct, so neither half is empty."""
         if len(self.points) <= FEW:
             return
         axis = max(range(3), key=lambda k: self.high[k] - self.low[k])
@@ -109,7 +109,7 @@ class Box:
 
 
 def span(points):
-    """Ways from the first point that are no combinations of those before: as many as the points have dimensions."""
+    """Vectors from the first point that are linearly independent; their number is the dimension of the points."""
     ways = []
     for point in points:
         way = minus(point, points[0])
@@ -153,7 +153,7 @@ class Checker:
         return found
 
     def check_polygon(self, place, polygon, normal):
-        """That a face is a convex polygon in one plane, counterclockwise seen from the tip of the normal."""
+        """Checks that a face is a convex polygon in one plane, counterclockwise seen from the tip of the normal."""
         offset = dot(normal, polygon[0])
         for point in polygon:
             if dot(normal, point) != offset:
@@ -168,7 +168,7 @@ class Checker:
         self.check_round(place, polygon, normal)
 
     def check_round(self, place, polygon, normal):
-        """That a polygon that turns left everywhere goes round once: it is seen in order from its first corner."""
+        """Checks that a polygon that turns left everywhere goes round once: its first corner sees the others in order."""
         first, second = polygon[:2]
         for point, after in zip(polygon[1:], polygon[2:]):
             ahead = dot(triangle_normal(first, point, after), normal) > 0
@@ -176,19 +176,19 @@ class Checker:
                 raise Wrong(f"face {place} is no convex polygon: its sides cross at {self.named(after)}")
 
     def check_below(self, place, normal, offset, points):
-        """That none of some points lies above a face."""
+        """Checks that none of some points lies above a face."""
         outside = next((point for point in points if dot(normal, point) > offset), None)
         if outside is not None:
             raise Wrong(f"face {place}: {self.named(outside)} lies outside its plane")
 
     def check_middle(self, place, polygon, normal):
-        """That the middle of all points lies below a face: one of the points lies above it if the middle does not."""
+        """Checks that the middle of all points lies below a face. If it does not, one of the points lies above the face."""
         offset = dot(normal, polygon[0])
         if dot(normal, self.total) >= len(self.number) * offset:
             self.check_below(place, normal, offset, self.number)
 
     def check_others(self, polygons, normals):
-        """That no point lies above a face, of those that no face names."""
+        """Checks that no point that no face names lies above a face."""
         others = list(set(self.number).difference(*polygons))
         box = Box(others) if others else None
         for place, (polygon, normal) in enumerate(zip(polygons, normals)) if box else ():
@@ -196,7 +196,7 @@ class Checker:
             self.check_below(place, normal, dot(normal, polygon[0]), [] if outside is None else [outside])
 
     def is_inward(self, polygon):
-        """Whether the middle of all points lies above a face."""
+        """Returns true if the middle of all points lies above a face."""
         normal = polygon_normal(polygon)
         return dot(normal, self.total) > len(self.number) * dot(normal, polygon[0])
 
@@ -212,14 +212,14 @@ class Checker:
         return sides
 
     def check_bends(self, polygons, normals, sides):
-        """That no face bends outward at a side: the corner of the next face behind the side is not above this one."""
+        """Checks that no face bends outward at a side: no corner of the neighbour behind the side lies above this face."""
         for next_place, polygon in enumerate(polygons):
             for start, end, behind in zip(polygon, polygon[1:] + polygon[:1], polygon[2:] + polygon[:2]):
                 place = sides[end, start]
                 self.check_below(place, normals[place], dot(normals[place], end), [behind])
 
     def check_once(self, polygons, normals):
-        """That the faces go round the middle of all points once: the way from there through face 0 meets no other."""
+        """Checks that the faces go round the middle of all points once: the ray from there through face 0 meets no other."""
         count = len(self.number)
         way = minus([count * part for part in total_of(polygons[0])], [len(polygons[0]) * part for part in self.total])
         for place, (polygon, normal) in enumerate(zip(polygons, normals)):
@@ -230,7 +230,7 @@ class Checker:
                 raise Wrong(f"faces 0 and {place} lie one behind the other")
 
     def check_corners(self, polygons, normals):
-        """That each corner is extreme: the planes of its faces meet in it alone."""
+        """Checks that each corner is extreme: the planes of its faces meet in it alone."""
         around = defaultdict(list)
         for polygon, normal in zip(polygons, normals):
             for point in polygon:
@@ -278,11 +278,11 @@ def unpaired(sides):
 
 
 def check_convex(checker, polygons, normals):
-    """That polygons are the surface of a convex body around all points.
+    """Checks that polygons are the surface of a convex body around all points.
 
-    They close up, and each is seen from the middle of all points from within. So each way from there meets as many of
-    them as any other, which is one. Then they bound a body that is seen whole from the middle, and one that bends outward
-    at no side is convex. Points that are no corners are asked one face after the other.
+    The polygons close up, and the middle of all points lies below each. So all rays from the middle meet the same number of
+    them, which is one. Then they bound a body that is star-shaped around the middle, and such a body is convex if it bends
+    outward at no side. Points that are no corners are compared with one face after the other.
     """
     for place, (polygon, normal) in enumerate(zip(polygons, normals)):
         checker.check_polygon(place, polygon, normal)
@@ -309,7 +309,7 @@ def check_solid(checker, polygons, options):
 
 
 def check_border(checker, sides, normal):
-    """That each side of the border of a flat set leaves all points to its left, and joins two extreme points."""
+    """Checks that each side of the border of a flat set has all points to its left, and joins two extreme points."""
     followers, box = dict(sides), Box(list(checker.number))
     for start, end in sides:
         way = cross(minus(end, start), normal)
@@ -352,7 +352,7 @@ def check_thin(checker, polygons):
 
 
 def check(checker, faces, options):
-    """What is right of the faces; raises Wrong."""
+    """Returns what the faces have; raises Wrong if they are not the hull."""
     polygons = checker.polygons(faces)
     if len(checker.ways) == 3:
         return check_solid(checker, polygons, options)

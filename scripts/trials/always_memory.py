@@ -1,5 +1,5 @@
 #!/usr/bin/env python3
-"""Plants a body of `answer` that always wants memory, and shows that each row that calls it fails.
+"""Plants a body of `answer` that is always out of memory, and shows that each row that calls it fails.
 
     scripts/trials/always_memory.py        from the top of the repository
 

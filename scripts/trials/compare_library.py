@@ -1,5 +1,5 @@
 #!/usr/bin/env python3
-"""Compares the library for Python with the program, and with scipy where scipy answers.
+"""Compares the module for Python with the program, and with scipy if scipy answers.
 
     scripts/trials/compare_library.py [--small N] [--large N] [--seed N] [--program PATH]      from the top of the repository
 

@@ -36,7 +36,7 @@ OPTIONS = SimpleNamespace(whole=False, unoriented=False, checker=None, alone=Fal
 
 
 def written(command, points):
-    """What a program writes of the points, or None where it fails."""
+    """Returns what a program writes of the points, or None if it fails."""
     done = subprocess.run(command, input=text_of(points).encode(), capture_output=True)
     return done.stdout.decode() if done.returncode == 0 else None
 
@@ -47,7 +47,7 @@ def ours(program, points):
 
 
 def without_point(program):
-    """A damage: one extreme point is forgotten, and the hull is that of the others."""
+    """Returns a damage: the hull of all points but one extreme point."""
 
     def point_forgotten(rng, points, faces):
         left_out = rng.choice(faces.points)
@@ -71,7 +71,7 @@ def shuffled(faces):
 
 
 def are_in_range(points):
-    """Whether the programs take the points."""
+    """Returns true if the points are within the limits of the programs."""
     return all(abs(part) <= COORDINATE_LIMIT for point in points for part in point)
 
 

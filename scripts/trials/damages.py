@@ -1,4 +1,4 @@
-"""Damages of hulls: each function makes of points, their faces and a random source what is wrong, or None where it can't."""
+"""Damages of hulls: each function takes points, their faces and a random source, and returns a wrong hull, or None if it can't."""
 import sys
 from pathlib import Path
 
@@ -13,7 +13,7 @@ def with_faces(faces, changed):
 
 
 def some_face(rng, faces, least=3):
-    """The place of a face with at least so many corners, or None."""
+    """Returns the position of a face with at least the given number of corners, or None."""
     places = [place for place, face in enumerate(faces.faces) if len(face) >= least]
     return rng.choice(places) if places else None
 
@@ -75,7 +75,7 @@ def corner_moved(rng, points, faces):
 
 
 def point_comes_on(rng, points, faces):
-    """A point outside: a corner, away from another as far again."""
+    """Adds a point outside: a corner, moved away from another by their distance."""
     if len(faces.points) < 2:
         return None
     one, other = rng.sample(faces.points, 2)
@@ -97,7 +97,7 @@ def joined(rng, points, faces):
 
 
 def scaled(factor, points, faces):
-    """All as many times as large."""
+    """Scales all points by one factor."""
     return [times(factor, point) for point in points], Faces([times(factor, p) for p in faces.points], faces.faces)
 
 

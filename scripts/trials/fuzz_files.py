@@ -54,7 +54,7 @@ def pieces_of(rng, data):
 
 
 def run_on(command, source, feed):
-    """What a run says whose standard input is this descriptor, while its other end is fed."""
+    """Returns the answer of a run that reads this descriptor, while its other end is fed."""
     with subprocess.Popen(command, stdin=source, stdout=subprocess.PIPE, stderr=subprocess.PIPE) as running:
         feed()
         said, told = running.communicate()
@@ -62,7 +62,7 @@ def run_on(command, source, feed):
 
 
 def on_pipe(command, pieces, flags=0):
-    """What a run says that gets its input on a pipe in these pieces."""
+    """Returns the answer of a run that gets its input on a pipe in these pieces."""
     source, sink = os.pipe2(os.O_CLOEXEC | flags)
 
     def feed():
@@ -97,7 +97,7 @@ WAYS = [in_one_piece, from_file, in_pieces]
 
 
 def wanted(data, reader):
-    """What a run must say of these bytes, by a reader of them, and the name of the fault."""
+    """Returns the answer that a reader requires for these bytes, and the name of the fault."""
     try:
         points = reader(data)
     except Fault as fault:
@@ -106,7 +106,7 @@ def wanted(data, reader):
 
 
 def smallest(command, reader, data):
-    """As few of the bytes as still make a difference in one piece, by leaving out one at a time."""
+    """Returns a shorter input that still makes a difference in one piece, leaving out one byte at a time."""
     place = 0
     while place < len(data):
         fewer = data[:place] + data[place + 1 :]
@@ -118,7 +118,7 @@ def smallest(command, reader, data):
 
 
 def large_files():
-    """Inputs at the limits of points and bytes, with what a run must say."""
+    """Yields inputs at the limits of points and bytes, with the required answer."""
     head = b"3\n1\n5 5 5\n"
     big = Fault(10, "Big").message
     one = b"1\n0\nOFF\n1 1 0\n5 5 5\n1 0\n"
@@ -130,7 +130,7 @@ def large_files():
 
 
 def differing_large(command):
-    """How many of the large inputs are answered wrong."""
+    """Returns the number of large inputs with a wrong answer."""
     differences = 0
     for data, want in large_files():
         got = in_one_piece(None, command, data)

@@ -1,15 +1,16 @@
 #!/usr/bin/env python3
-"""Compares the hulls of small degenerate sets with a hull that looks at all triples of points.
+"""Compares the program's hulls of small degenerate sets with a brute-force hull over all triples of points.
 
     scripts/trials/fuzz_hulls.py [--cases N] [--seed N] [--program PATH]      from the top of the repository
 
-The hull is that of lib/hull_oracle.py, over whole numbers of any size. The sets, those of small_sets.py, are grids,
-planes, lines, repeats, prisms, antiprisms, cones, corners of the range of coordinates, slivers, and solids with points
-within their faces and edges, moved and turned at random; each has at most 14 points. The program must write the same bytes of `rank s Fx off offt` on standard output, nothing on standard error, and
-end with status 0, under a random number of workers and a random block size.
+The brute-force hull is that of lib/hull_oracle.py, over whole numbers of any size. The sets are those of small_sets.py:
+grids, planes, lines, repeats, prisms, antiprisms, cones, corners of the range of coordinates, slivers, and solids with points
+within their faces and edges, moved and turned at random. Each has at most 14 points. With a random number of workers and a
+random block size, the program must write the same bytes of `rank s Fx off offt` on standard output and nothing on standard
+error, and end with status 0.
 
-It prints each difference with the words of the run and the file's bytes, then how many sets it tried of each family and
-each dimension. The status is 1 if there was a difference. The sets are seeded: the same seed gives the same sets.
+The script prints each difference with the arguments of the run and the bytes of the file, then the number of sets of each
+family and dimension. The status is 1 if there was a difference. The same seed gives the same sets.
 """
 import argparse
 import random

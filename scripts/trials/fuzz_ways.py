@@ -34,7 +34,7 @@ def long_points(rng):
 
 
 def long_file(rng, off):
-    """A valid file whose points mostly stand a line each, sometimes with other gaps and comments between."""
+    """Returns a valid file, mostly with one point a line, sometimes with other gaps and comments."""
     points = long_points(rng)
     odd = rng.choice([0, 0, 0.02, 0.3])
     line_end = rng.choice([b"\n", b"\n", b"\r\n"])

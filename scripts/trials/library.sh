@@ -1,5 +1,6 @@
 #!/bin/sh
-# Builds the library for C, and runs all that tests it: in C, in Python, and the lines of README. By hand; KIT is the folder of the Rattle kit, where `rt doc` doesn't say it.
+# Builds the library for C and runs all its tests: in C, in Python, and the programs of README. Run by hand. KIT is the folder
+# of the Rattle kit, needed only if `rt doc` doesn't name it.
 set -eu
 . "$(dirname "$0")/../lib/paths.sh"
 make -s -C c test

@@ -22,7 +22,7 @@ COMMENTS = [b"x", b"# 7 8", b"rbox c z", b"_1", b"/5 5", b"\x00 9", b"\xff\xfe",
 
 
 def gap(rng, plain, line_end):
-    """What stands between two words."""
+    """Returns a gap between two words."""
     if plain:
         return rng.choice([b" ", line_end])
     blanks = b"".join(rng.choice([b" ", b"\t", b"\x0b", b"\x0c", b"\r"]) for _ in range(rng.randint(1, 3)))
@@ -51,7 +51,7 @@ OFF_COMMENTS = [b"#", b"# 7 8", b"#OFF", b"##", b"#x y", b"#\x00\xff", b"# one\t
 
 
 def off_gap(rng, plain, line_end):
-    """What stands between two words of an OFF file, a comment right behind the first among others."""
+    """Returns a gap between two words of an OFF file; it may be a comment right after the first word."""
     if plain or rng.random() < 0.7:
         return rng.choice([b" ", b"\t", line_end])
     return rng.choice([b"", b" "]) + rng.choice(OFF_COMMENTS) + line_end
@@ -100,7 +100,7 @@ def limit_word(rng):
 
 
 def with_slice(rng, data, made, most):
-    """Up to so many bytes, from a random place on, exchanged for others."""
+    """Returns the bytes with a random slice of limited length replaced."""
     first = rng.randint(0, len(data))
     return data[:first] + made + data[first + rng.randint(0, most) :]
 

@@ -1,5 +1,5 @@
 #!/usr/bin/env python3
-"""Refuses each growth and each thread of the refusal tests in turn, one a run, and looks at how they end.
+"""Refuses each allocation and each thread of the refusal tests in turn, one in each run, and checks how they end.
 
     scripts/trials/refusals.py [CRATE..]        from the top of the repository; without a name, all crates with such tests
 

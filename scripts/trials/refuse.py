@@ -1,5 +1,5 @@
 #!/usr/bin/env python3
-"""Refuses each growth and each thread of the built program in turn, and looks at what it answers.
+"""Refuses each allocation and each thread of the built program in turn, and checks its answer.
 
     scripts/trials/refuse.py [--program PATH] [--only INPUT] [--workers N] [--step N]      from the top of the repository
 

@@ -63,7 +63,13 @@ BODIES = [
     (
         "gives-up-at-a-join",
         JOB,
-        [("        let both = union(alloc, &even.ids, &odd.ids)?;\n", "        let both = union(alloc, &even.ids, &odd.ids)?;\n        if !both.is_empty() {\n            return Err(GivesUp);\n        }\n")],
+        [
+            (
+                "        let both = union(alloc, &even.ids, &odd.ids)?;\n",
+                "        let both = union(alloc, &even.ids, &odd.ids)?;\n"
+                "        if !both.is_empty() {\n            return Err(GivesUp);\n        }\n",
+            )
+        ],
     ),
     ("tells-the-block-for-the-pass", WORKER, [("gate.claimed(pass, block)", "gate.claimed(block, pass)")]),
 ]
@@ -103,7 +109,7 @@ TIME_LIMIT = 600
 
 
 def keep_modules(file, names):
-    """Leaves of the modules of a file only these, and their files."""
+    """Removes all other modules of a file, and their files."""
     text = file.read_text()
     for line, name in re.findall(r"^((?:pub )?mod (\w+);\n)", text, re.MULTILINE):
         if name not in names:
@@ -122,13 +128,13 @@ def tests_of(top, seconds=1200):
 
 
 def failures(said):
-    """The lines that tell what went wrong."""
+    """Returns the lines that say what went wrong."""
     lines = [line for line in said.splitlines() if line.startswith("test ") and not line.endswith("... ok")]
     return lines or said.splitlines()[-3:]
 
 
 def plant(path, edits):
-    """Puts the edits into a file, and answers the text that it had."""
+    """Makes the edits in a file. Returns the text before."""
     right = path.read_text()
     wrong = right
     for old, new in edits:
@@ -148,7 +154,7 @@ def copied(top, modules):
 
 
 def tell(name, passes, said, should_pass):
-    """Prints how a body fared, and returns whether it should have fared otherwise."""
+    """Prints how a body fared. Returns true if that is wrong."""
     if passes == should_pass:
         print(f"ok: {name} {'pass all tests' if passes else 'fails'}", *([] if passes else failures(said)), sep="\n    ", flush=True)
     else:
