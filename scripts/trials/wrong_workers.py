@@ -52,12 +52,12 @@ BODIES = [
     (
         "hulls-on-the-caller-alone",
         ROOT,
-        [("match reduced(rt, alloc, spans, passes, gate) {", "match reduced(rt, alloc, spans, passes.min(0), gate) {")],
+        [("match reduced(rt, alloc, job, passes, gate)? {", "match reduced(rt, alloc, job, passes.min(0), gate)? {")],
     ),
     (
         "ignores-the-roots-list",
         RUN,
-        [("Some(found) => gate.finish(alloc, pts, &found.ids),", "Some(_) => gate.finish(alloc, pts, ids),")],
+        [("Some(part) => gate.finish(alloc, pts, part),", "Some(_) => gate.finish(alloc, pts, ids),")],
     ),
     ("starts-no-worker", PASSES, [("run_pass(alloc, board, pass, gate)", "board.leave(pass)")]),
     (
