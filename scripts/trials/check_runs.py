@@ -9,7 +9,7 @@ standard output, and a line on standard error.
 
 Memory: with the library of refuse.py each growth, and then each thread, is refused in turn, of checks of right and of
 wrong faces of the examples, in triangles and whole. Each run has to give the verdict of a run that meets no refusal, or
-status 3 and the line of Memory; and to give back as many blocks as it took. The right faces are those of fuzz_hulls.py.
+status 3 and a line that says so; and to give back as many blocks as it took. The right faces are those of fuzz_hulls.py.
 
 It prints each run that was wrong, and a line for each kind. The status is 1 if a run was wrong.
 """
@@ -27,7 +27,9 @@ from lib.hull_oracle import hull_text  # noqa: E402
 from lib.paths import CHECKER  # noqa: E402
 from trials.refuse import EXAMPLES, WORKERS, build, is_refusal, run  # noqa: E402
 
-MEMORY = (3, b"", b"hullcheck: memory was refused\n")
+# The lines of runs out of memory: while points or faces were read, or elsewhere.
+WITHOUT_MEMORY = [b"the points: Memory", b"the faces: Memory", b"memory was refused"]
+MEMORY = [(3, b"", b"hullcheck: " + line + b"\n") for line in WITHOUT_MEMORY]
 VARIABLES = ["REFUSE_GROWTH", "REFUSE_GROWTHS_FROM", "REFUSE_THREAD", "REFUSE_THREADS_FROM"]
 POINTS = "examples/unit-cube.txt"
 # Words, the status, and what standard output is.
@@ -78,12 +80,12 @@ def sweep(command, faces, library, variable):
     outcomes, number = Counter(), 1
     while True:
         said, report = run(command, faces, library, {variable: str(number)})
-        right = said == wanted or (is_refusal(report) and said == MEMORY)
+        right = said == wanted or (is_refusal(report) and said in MEMORY)
         if not right or report.new != report.given_back:
             print(f"WRONG: {variable}={number} {' '.join(command)}: {said}, {report}", flush=True)
             outcomes["WRONG"] += 1
         elif is_refusal(report):
-            outcomes["Memory" if said == MEMORY else "verdict"] += 1
+            outcomes["Memory" if said in MEMORY else "verdict"] += 1
         if not is_refusal(report):
             return outcomes
         number += 1
