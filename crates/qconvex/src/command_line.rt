@@ -8,7 +8,9 @@ ghost use Rattle.qh_model.specs.declared.out.Out.{Out};
 ghost use Rattle.qh_model.specs.declared.out.Out.TheVariants.{Rank, Summary, Fx, Off, OffTriangles};
 ghost use Rattle.qh_serve.specs.headline.SettingsValue.{SettingsValue};
 ghost use Rattle.qh_serve.specs.contract.Ranges.{IsInRange};
-ghost use Rattle.qconvex.specs.contract.CommandLine.{AreOutsOf, AreSettingsOf, IsArgFaultOf, IsFormOf, IsProgram, NumberOf, form_word, from_one_to, from_option, number_option, outs_rule, word_of, words_taken};
+ghost use Rattle.qconvex.specs.contract.CommandLine.{AreOutsOf, AreSettingsOf, IsArgFaultOf, IsFormOf, IsProgram, NumberOf};
+ghost use Rattle.qconvex.specs.contract.CommandLine.{form_word, from_one_to, from_option, number_option, outs_rule, word_of};
+ghost use Rattle.qconvex.specs.contract.CommandLine.{words_taken};
 ghost use Rattle.qconvex.specs.steps.Matches.{AreSettingsFound, IsFindingFault, IsOutsFault, IsRefusalOf};
 
 use crate::help::HELP;

@@ -84,7 +84,8 @@ module _ (pts : List Vector) (ids : List ℕ) (d : HasDistinctPoints (place pts)
   -- with the same polygon
   polygon : IsFacePolygon at (Members ids) t.i t.j t.k face
   polygon =
-      let along = level_along (at t.u) (at t.v) (at t.w) (at t.i) (at t.j) (at t.k) plane.0.area (corner t.i has_i).1 (corner t.j has_j).1 (corner t.k has_k).1 turn in
+      let along = level_along (at t.u) (at t.v) (at t.w) (at t.i) (at t.j) (at t.k) plane.0.area (corner t.i has_i).1
+      (corner t.j has_j).1 (corner t.k has_k).1 turn in
       seen_from at (Members ids) t.u t.v t.w t.i t.j t.k face plane.1 along (corner t.i has_i).1
 
   pub turned_piece : IsPiece at (Members ids) q

@@ -42,7 +42,8 @@ module _ (face : List ℕ) (from : ℕ) (there : from < length face) where
       omega (arith, e, d, t, there)
 
   -- after this number of steps comes the corner at the other position
-  pub behind : (to steps : ℕ) → to < length face → steps + 1 < length face → IsBehind from to (length face) steps → get_or (way_behind face from) steps 0 ≡ get_or face to 0
+  pub behind : (to steps : ℕ) → to < length face → steps + 1 < length face → IsBehind from to (length face) steps
+      → get_or (way_behind face from) steps 0 ≡ get_or face to 0
   behind to steps l short (inl (less, e)) =
       get_or_append_left (drop (from + 1) face) (take from face) 0 steps
       (let d = length-drop (from + 1) face in omega (arith, d, e, l, there))

@@ -119,7 +119,8 @@ module _ (qs : List (List ℕ)) (keys up there : List ℕ) (steps : map step_in 
           at_most n (λ more. (
           let z = counted_key (on u v) there (subst (λ (m : ℕ). 0 < m) (sym (count-is (on u v) there ∙ e)) more) in
           let same : count_by (eqb z.0) there ≡ n =
-          ap (λ (f : ℕ → Bool). count_by f there) (λ i k. (same_step z.0 k ∙ ap (λ (s : ℕ × ℕ). is_edge s (step_in k)) (sym (edge_tests.same (u, v) (step_in z.0) z.1))) i) ∙ e in
+          ap (λ (f : ℕ → Bool). count_by f there)
+          (λ i k. (same_step z.0 k ∙ ap (λ (s : ℕ × ℕ). is_edge s (step_in k)) (sym (edge_tests.same (u, v) (step_in z.0) z.1))) i) ∙ e in
           subst (λ (m : ℕ). m ≤ 1) same (once z.0)))
         where
           at_most : (n : ℕ) → (0 < n → n ≤ 1) → n ≤ 1

@@ -1,5 +1,6 @@
 -- What is taken from words one by one.
-use Rattle.std.proofs.Common.{ℕ, ◌≡◌, ◌≢◌, ◌∙◌, ◌++◌, ◌<◌, ◌-◌, ◌+◌, ◌==◌, [], ◌∷◌, List, Bool, true, false, suc, cond, refl, ap, sym, subst, arith, map, append_assoc}
+use Rattle.std.proofs.Common.{ℕ, ◌≡◌, ◌≢◌, ◌∙◌, ◌++◌, ◌<◌, ◌-◌, ◌+◌, ◌==◌, [], ◌∷◌, List, Bool, true, false, suc, cond, refl}
+use Rattle.std.proofs.Common.{ap, sym, subst, arith, map, append_assoc}
 use Rattle.std.proofs.lemmas.List.{append-nil, map-append}
 use Rattle.std.proofs.lemmas.Bool.Decides.{nat_tests}
 use Rattle.std.specs.Prelude.{Option, Some}

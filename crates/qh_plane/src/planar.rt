@@ -55,7 +55,8 @@ fn cycle(
     mut sorted: Vec<Id>,
 ) -> Result<Vec<Id>, AllocError>
     requires { AreIndices pts.now sorted.items }
-    ensures { IfOk result (λ v. v.items ≡ joined (chain (turn_of pts.now normal.now) [] sorted.items) (chain (turn_of pts.now normal.now) [] (reverse sorted.items))) }
+    ensures { IfOk result (λ v. v.items ≡ joined (chain (turn_of pts.now normal.now) [] sorted.items)
+        (chain (turn_of pts.now normal.now) [] (reverse sorted.items))) }
 {
     let there = chain(alloc, pts, normal, &sorted)?;
     sorted.reverse();
@@ -136,7 +137,8 @@ fn quadrilateral(pts: &[Point], normal: &Normal, i: Id, j: Id, k: Id, l: Id) -> 
 /// on.
 fn corners(alloc: Global, pts: &[Point], normal: &Normal, ids: &[Id]) -> Result<Vec<Id>, AllocError>
     requires { AreIndices pts.now ids.now }
-    ensures { IfOk result (λ v. IsFlatSet pts.now ids.now normal.now → IsPolygon (place pts.now) (Extreme (place pts.now) (Members ids.now)) normal.now v.items) }
+    ensures { IfOk result (λ v. IsFlatSet pts.now ids.now normal.now
+        → IsPolygon (place pts.now) (Extreme (place pts.now) (Members ids.now)) normal.now v.items) }
 {
     let sorted = by_place(alloc, pts, ids)?;
     let mut corners = cycle(alloc, pts, normal, sorted)?;

@@ -57,7 +57,8 @@ abbrev shown : Lexed → List ℕ → List Numeral
 shown s cs = map numeral_of s.words ++ arriving (under s.under_way) s.comment s.line cs
 
 -- a word ends, and others arrive
-goes_on : (ws : List Word) (n : ℕ) (w : List ℕ) (more : List Numeral) → map numeral_of (ws ++ ended n w) ++ more ≡ map numeral_of ws ++ (told_if (under w) n ++ more)
+goes_on : (ws : List Word) (n : ℕ) (w : List ℕ) (more : List Numeral)
+    → map numeral_of (ws ++ ended n w) ++ more ≡ map numeral_of ws ++ (told_if (under w) n ++ more)
 goes_on ws n w more = ap (λ (t : List Numeral). t ++ more) (closes ws n w) ∙ append_assoc (map numeral_of ws) (told_if (under w) n) more
 
 step_at : (ws : List Word) (n : ℕ) (b : Bool) (w : List ℕ) (c : ℕ) (cs : List ℕ) (line blank hash : Bool) →

@@ -37,11 +37,13 @@ pub(crate) fn run_passes<S: Reduction, R: Threads + Sync, G: Gate>(
     let (one, two) = join(
         rt,
         || -> Result<Vec<Left<S>>, AllocError>
-            requires { All (IsOf board.now) passes.items × All (λ p. p.pass.over ≡ false) passes.items × (board.now.setup.blocks ≡ S.count board.now.setup.spans) }
+            requires { All (IsOf board.now) passes.items × All (λ p. p.pass.over ≡ false) passes.items
+                × (board.now.setup.blocks ≡ S.count board.now.setup.spans) }
             ensures { IfOk result (λ v. (length v.items ≡ length passes.items) × All (IsWorked board.entry.now) v.items) }
         { run_passes(rt, alloc, board, passes, gate) },
         || -> Result<Vec<Left<S>>, AllocError>
-            requires { All (IsOf board.now) others.items × All (λ p. p.pass.over ≡ false) others.items × (board.now.setup.blocks ≡ S.count board.now.setup.spans) }
+            requires { All (IsOf board.now) others.items × All (λ p. p.pass.over ≡ false) others.items
+                × (board.now.setup.blocks ≡ S.count board.now.setup.spans) }
             ensures { IfOk result (λ v. (length v.items ≡ length others.items) × All (IsWorked board.entry.now) v.items) }
         { run_passes(rt, alloc, board, others, gate) },
     );

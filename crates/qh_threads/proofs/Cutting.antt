@@ -32,7 +32,9 @@ is_chunk xs size n p l =
       value = refl;
       start_is_multiple = subst (λ k. k % size ≡ 0) {x = n * size + 0} (omega arith) (mod-mul-add n size 0 p);
       len = omega arith;
-      full_size = λ z. let q = length xs / size in let e : q * size ≡ length xs = omega (arith, div-add-mod' (length xs) size) in omega (arith, ends_below n q size (below_half n q size (omega arith)));
+      full_size = λ z. let q = length xs / size in
+          let e : q * size ≡ length xs = omega (arith, div-add-mod' (length xs) size) in
+          omega (arith, ends_below n q size (below_half n q size (omega arith)));
       nonempty = omega arith;
       at_most_size = omega arith;
       in_bounds = omega arith;

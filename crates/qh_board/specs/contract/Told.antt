@@ -39,7 +39,8 @@ module _ {S : Type 0} where
     pub done : after.pass ≡ without_node task.pass
 
   -- the arrival found the sibling there: the values of the parent's children, each right for its node, and the own one as handed in
-  pub record CameSecond {X : Type 0} (right : S → (ℕ → Type 0) → X → Type 0) (b : BoardValue S) (task : Token S) (value : X) (after : Token S) (even odd : X) : Type 0 where
+  pub record CameSecond {X : Type 0} (right : S → (ℕ → Type 0) → X → Type 0) (b : BoardValue S) (task : Token S)
+      (value : X) (after : Token S) (even odd : X) : Type 0 where
     pub inner : 1 < task_node task
     pub mine : IsOf b after
     pub done : after.pass ≡ come_second (task_node task / 2) task.pass

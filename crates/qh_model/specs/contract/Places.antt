@@ -12,4 +12,5 @@ pub record IsPlace (p : Vector) : Type 0 where
 
 -- a vector as data of the program
 abbrev pub vector_code : Coded Vector
-vector_code = code_by (ℤ × (ℤ × ℤ)) (coded× coded_ℤ (coded× coded_ℤ coded_ℤ)) (λ p. (p.x, (p.y, p.z))) (λ t. record { x = t.0; y = t.1.0; z = t.1.1 }) (λ _. refl)
+vector_code = code_by (ℤ × (ℤ × ℤ)) (coded× coded_ℤ (coded× coded_ℤ coded_ℤ)) (λ p. (p.x, (p.y, p.z)))
+    (λ t. record { x = t.0; y = t.1.0; z = t.1.1 }) (λ _. refl)

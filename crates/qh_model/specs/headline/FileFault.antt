@@ -1,5 +1,6 @@
 -- The first fault of a byte string that is no point file. The order of the faults is this project's profile.
-use Rattle.std.specs.Prelude.{ℕ, ℤ, pos, negsuc, List, [], ◌∷◌, ◌*◌, ◌==◌, ◌&&◌, nat_le, nat_lt, length, Option, Some, None, Bool, false, if◌then◌else◌, zero, suc}
+use Rattle.std.specs.Prelude.{ℕ, ℤ, pos, negsuc, List, [], ◌∷◌, ◌*◌, ◌==◌, ◌&&◌, nat_le, nat_lt, length, Option, Some, None}
+use Rattle.std.specs.Prelude.{Bool, false, if◌then◌else◌, zero, suc}
 use Rattle.std.specs.Option.{option_or}
 use Rattle.qh_model.specs.declared.limits.TheConstants.{POINT_LIMIT, BYTE_LIMIT}
 use Rattle.qh_model.specs.declared.read_fault.ReadFault.{ReadFault}

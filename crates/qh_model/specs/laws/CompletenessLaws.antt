@@ -15,7 +15,8 @@ use Rattle.qh_model.specs.contract.FinishedSurface.{IsFinished}
 
 -- the corners of each live facet are a supporting triple
 abbrev pub FacetsSupport : Type 0
-FacetsSupport = (at : ℕ → Vector) (ids : List ℕ) (m : Surface) → IsFinished at ids m → (f : ℕ) → In f m.live → IsSupportingTriple at (Members ids) (m.i f) (m.j f) (m.k f)
+FacetsSupport = (at : ℕ → Vector) (ids : List ℕ) (m : Surface) → IsFinished at ids m → (f : ℕ) → In f m.live
+    → IsSupportingTriple at (Members ids) (m.i f) (m.j f) (m.k f)
 
 -- l is a corner of a live facet
 abbrev pub IsLiveCorner : Surface → ℕ → Type 0
@@ -46,7 +47,8 @@ pub record FacetOfPlane (at : ℕ → Vector) (m : Surface) (i j k : ℕ) : Type
 
 -- each supporting plane is that of a live facet
 abbrev pub PlanesHaveFacets : Type 0
-PlanesHaveFacets = (at : ℕ → Vector) (ids : List ℕ) (m : Surface) → IsFinished at ids m → (i j k : ℕ) → IsSupportingTriple at (Members ids) i j k → FacetOfPlane at m i j k
+PlanesHaveFacets = (at : ℕ → Vector) (ids : List ℕ) (m : Surface) → IsFinished at ids m → (i j k : ℕ)
+    → IsSupportingTriple at (Members ids) i j k → FacetOfPlane at m i j k
 
 -- a set with a finished surface has dimension 3
 abbrev pub FinishedIsSolid : Type 0
@@ -59,7 +61,8 @@ ExtremesOfCorners = (at : ℕ → Vector) (ids : List ℕ) (m : Surface) → Has
 
 -- the extreme ids of a supporting plane are the extremes of the corners of the live facets in that plane
 abbrev pub ExtremesOfPlane : Type 0
-ExtremesOfPlane = (at : ℕ → Vector) (ids : List ℕ) (m : Surface) → HasDistinctPoints at (Members ids) → IsFinished at ids m → (i j k : ℕ) → IsSupportingTriple at (Members ids) i j k
+ExtremesOfPlane = (at : ℕ → Vector) (ids : List ℕ) (m : Surface) → HasDistinctPoints at (Members ids)
+    → IsFinished at ids m → (i j k : ℕ) → IsSupportingTriple at (Members ids) i j k
     → (l : ℕ) → Extreme at (CornerInPlane at m i j k) l ↔ OnPlane at (Extreme at (Members ids)) i j k l
 
 -- the rising list of the polygons of the live facets' planes is the list of the set's polygons

@@ -26,7 +26,9 @@ pub record CombinationWithInner (m : Surface) (home : ℕ → Weighted) (o x : W
   pub v_nonneg : pos 0 ≤ℤ v
   pub w_nonneg : pos 0 ≤ℤ w
   pub t_nonneg : pos 0 ≤ℤ t
-  pub mix : (n : Weighted) → all *ℤ weighted_dot n x ≡ u *ℤ weighted_dot n (home (m.i f)) +ℤ v *ℤ weighted_dot n (home (m.j f)) +ℤ w *ℤ weighted_dot n (home (m.k f)) +ℤ t *ℤ weighted_dot n o
+  pub mix : (n : Weighted)
+      → all *ℤ weighted_dot n x ≡ u *ℤ weighted_dot n (home (m.i f)) +ℤ v *ℤ weighted_dot n (home (m.j f))
+      +ℤ w *ℤ weighted_dot n (home (m.k f)) +ℤ t *ℤ weighted_dot n o
 
 -- e is a convex combination of the corners of a live facet in the plane of a, b, c
 pub record CombinationInPlane (m : Surface) (home : ℕ → Weighted) (a b c e : Weighted) : Type 0 where
@@ -41,4 +43,6 @@ pub record CombinationInPlane (m : Surface) (home : ℕ → Weighted) (a b c e :
   pub u_nonneg : pos 0 ≤ℤ u
   pub v_nonneg : pos 0 ≤ℤ v
   pub w_nonneg : pos 0 ≤ℤ w
-  pub mix : (n : Weighted) → all *ℤ weighted_dot n e ≡ u *ℤ weighted_dot n (home (m.i f)) +ℤ v *ℤ weighted_dot n (home (m.j f)) +ℤ w *ℤ weighted_dot n (home (m.k f))
+  pub mix : (n : Weighted)
+      → all *ℤ weighted_dot n e ≡ u *ℤ weighted_dot n (home (m.i f)) +ℤ v *ℤ weighted_dot n (home (m.j f))
+      +ℤ w *ℤ weighted_dot n (home (m.k f))

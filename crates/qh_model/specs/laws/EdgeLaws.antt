@@ -18,5 +18,6 @@ OneFaceEachWay = (at : ℕ → Vector) (ids : List ℕ) (i j k a b c : ℕ) (p q
 
 -- where a face goes from u to v, a face goes from v to u
 abbrev pub OtherFace : Type 0
-OtherFace = (at : ℕ → Vector) (ids : List ℕ) (qs : List (List ℕ)) → HasDistinctPoints at (Members ids) → IsDimension at (Members ids) 3 → AreFaces at (Members ids) qs
+OtherFace = (at : ℕ → Vector) (ids : List ℕ) (qs : List (List ℕ)) → HasDistinctPoints at (Members ids)
+    → IsDimension at (Members ids) 3 → AreFaces at (Members ids) qs
     → (q : List ℕ) → In q qs → (u v : ℕ) → Follows u v q → (p : List ℕ) × In p qs × Follows v u p

@@ -11,4 +11,5 @@ PolygonIsUnique = (at : ℕ → Vector) (ids : List ℕ) (n : Vector) (p q : Lis
 
 -- a normal of the same direction gives the same polygon
 abbrev pub PolygonByDirection : Type 0
-PolygonByDirection = (at : ℕ → Vector) (ids : List ℕ) (n m : Vector) (q : List ℕ) → IsAlong n m → IsPolygon at (Members ids) n q → IsPolygon at (Members ids) m q
+PolygonByDirection = (at : ℕ → Vector) (ids : List ℕ) (n m : Vector) (q : List ℕ) → IsAlong n m
+    → IsPolygon at (Members ids) n q → IsPolygon at (Members ids) m q

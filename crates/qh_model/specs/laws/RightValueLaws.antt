@@ -16,11 +16,13 @@ RightOfLeaf = (pts : List Vector) (ids bounds : List ℕ) (k : ℕ) (xs : List �
 
 -- the extreme ids of what is right for both children of a node are right for it
 abbrev pub RightOfNode : Type 0
-RightOfNode = (pts : List Vector) (ids bounds : List ℕ) (i : ℕ) (xs ys zs vs : List ℕ) → HasDistinctPoints (place pts) (Members ids) → 0 < i → i < block_count bounds
+RightOfNode = (pts : List Vector) (ids bounds : List ℕ) (i : ℕ) (xs ys zs vs : List ℕ)
+    → HasDistinctPoints (place pts) (Members ids) → 0 < i → i < block_count bounds
     → RightValue pts ids bounds (InSpan (block_count bounds) (2 * i)) xs → RightValue pts ids bounds (InSpan (block_count bounds) (2 * i + 1)) ys
     → ((j : ℕ) → In j zs ↔ (In j xs ⊎ In j ys)) → AreExtremes (place pts) (Members zs) vs → RightValue pts ids bounds (InSpan (block_count bounds) i) vs
 
 -- the hull of what is right for the root is that of all ids
 abbrev pub HullOfRoot : Type 0
-HullOfRoot = (pts : List Vector) (ids bounds xs : List ℕ) (b : BodyValue) → HasDistinctPoints (place pts) (Members ids) → IsCut bounds → positions bounds ≡ length ids
+HullOfRoot = (pts : List Vector) (ids bounds xs : List ℕ) (b : BodyValue) → HasDistinctPoints (place pts) (Members ids)
+    → IsCut bounds → positions bounds ≡ length ids
     → RightValue pts ids bounds (InSpan (block_count bounds) 1) xs → IsBody (place pts) (Members xs) b → IsBody (place pts) (Members ids) b

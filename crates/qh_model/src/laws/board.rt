@@ -1,5 +1,7 @@
 //! The laws of the board.
-ghost use Rattle.qh_model.specs.laws.BoardLaws.{SingleHolder, HeldOnce, ChildrenFirst, RootAtTheEnd, RootWhereAllLeft, NoRootWhereGivenUp, StepBound, SpanOfLeaf, SpanOfNode, SpansApart, SpanOfRoot};
+ghost use Rattle.qh_model.specs.laws.BoardLaws.{SingleHolder, HeldOnce, ChildrenFirst, RootAtTheEnd, RootWhereAllLeft};
+ghost use Rattle.qh_model.specs.laws.BoardLaws.{NoRootWhereGivenUp, StepBound, SpanOfLeaf, SpanOfNode, SpansApart};
+ghost use Rattle.qh_model.specs.laws.BoardLaws.{SpanOfRoot};
 
 /// Whatever the order of the passes' events: no pass holds two nodes, and no node is held a second time;
 /// an inner node is reached only after both its children; the root is published exactly where all blocks

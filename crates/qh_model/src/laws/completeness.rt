@@ -1,6 +1,8 @@
 //! The laws by which a finished surface is the hull.
 ghost use Rattle.qh_model.specs.laws.FacetPlanes.{LevelFacetsSpan, PlaneWalkFindsAll};
-ghost use Rattle.qh_model.specs.laws.CompletenessLaws.{FacetsSupport, ExtremesAreCorners, ExtremesOfPlaneAreCorners, PlanesHaveFacets, FinishedIsSolid, ExtremesOfCorners, ExtremesOfPlane, PolygonsOfFacets};
+ghost use Rattle.qh_model.specs.laws.CompletenessLaws.{FacetsSupport, ExtremesAreCorners, ExtremesOfPlaneAreCorners};
+ghost use Rattle.qh_model.specs.laws.CompletenessLaws.{PlanesHaveFacets, FinishedIsSolid, ExtremesOfCorners, ExtremesOfPlane};
+ghost use Rattle.qh_model.specs.laws.CompletenessLaws.{PolygonsOfFacets};
 
 /// Each live facet of a finished surface is a supporting triple, each extreme id is a corner, and each
 /// supporting plane is that of a live facet, with its extreme ids as corners. So nothing is missed.

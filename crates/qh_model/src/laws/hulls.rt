@@ -1,6 +1,7 @@
 //! The laws by which a hull is one value.
 ghost use Rattle.qh_model.specs.laws.DimensionLaws.{DimensionIsUnique};
-ghost use Rattle.qh_model.specs.laws.HullLaws.{PolygonsAreUnique, EdgeCountIsUnique, RisingListIsUnique, DistinctIdsAreUnique, BodyIsUnique, HullIsUnique, TextIsUnique};
+ghost use Rattle.qh_model.specs.laws.HullLaws.{PolygonsAreUnique, EdgeCountIsUnique, RisingListIsUnique};
+ghost use Rattle.qh_model.specs.laws.HullLaws.{DistinctIdsAreUnique, BodyIsUnique, HullIsUnique, TextIsUnique};
 
 /// No two hulls are right for one list of points, and no two texts for one list of points and outputs.
 /// So an answer says nothing of how it was found.

@@ -1,5 +1,7 @@
 //! The laws of surfaces of facets, by which Quickhull's steps are right.
-ghost use Rattle.qh_model.specs.laws.SurfaceLaws.{RiseIsVol, SimplexBoundaryIsSound, SimplexIsSound, MiddleIsBelow, WalkFindsAll, HorizonGoesOn, HorizonIsKnown, ReplaceKeeps, CornersAreSettled, AddedIsSettled, SettledStayUnseen, DroppedStayUnseen};
+ghost use Rattle.qh_model.specs.laws.SurfaceLaws.{RiseIsVol, SimplexBoundaryIsSound, SimplexIsSound, MiddleIsBelow};
+ghost use Rattle.qh_model.specs.laws.SurfaceLaws.{WalkFindsAll, HorizonGoesOn, HorizonIsKnown, ReplaceKeeps};
+ghost use Rattle.qh_model.specs.laws.SurfaceLaws.{CornersAreSettled, AddedIsSettled, SettledStayUnseen, DroppedStayUnseen};
 ghost use Rattle.qh_model.specs.laws.CoverageLaws.{NothingOutside, PlaneIsCovered, SettledIsCombination, LevelIsCombination};
 ghost use Rattle.qh_model.specs.laws.LiveFacets.{LiveIsMarked, LiveIsListedOnce};
 

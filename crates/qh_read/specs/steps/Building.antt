@@ -4,7 +4,8 @@ use Rattle.qh_model.specs.headline.Vector.{Vector}
 use Rattle.qh_model.specs.headline.PointFile.{coordinates}
 use Rattle.qh_model.specs.declared.read_fault.ReadFault.{ReadFault}
 use Rattle.qh_model.specs.declared.read_fault.ReadFault.TheVariants.{NoHeader, Short}
-use Rattle.qh_read.specs.contract.Progress.{Progress, wants_first, wants_second, wants, wants_keyword, wants_vertex_count, wants_face_count, wants_edge_count, wants_vertices, fails}
+use Rattle.qh_read.specs.contract.Progress.{Progress, wants_first, wants_second, wants, wants_keyword, wants_vertex_count}
+use Rattle.qh_read.specs.contract.Progress.{wants_face_count, wants_edge_count, wants_vertices, fails}
 use Rattle.qh_read.specs.steps.Stages.{stage_shown, pending_list, pending_count}
 use Rattle.qh_read.specs.declared.builder.Pending.{Pending}
 use Rattle.qh_read.specs.declared.builder.Builder.{Builder}

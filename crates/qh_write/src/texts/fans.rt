@@ -83,7 +83,8 @@ fn fan_faces(faces: &[Polygon]) -> Result<usize, AllocError>
 
 /// Appends the numbers of vertices, of triangles and of their edges.
 fn push_fan_counts(text: &mut Vec<u8>, alloc: Global, body: &Body) -> Result<(), AllocError>
-    ensures { OnOk result (text.new.items ≡ text.old.items ++ line (decimal (length body.now.extremes) ++ spaced (length (fans body.now.polygons)) ++ spaced (edge_count (fans body.now.polygons)))) }
+    ensures { OnOk result (text.new.items ≡ text.old.items ++ line (decimal (length body.now.extremes)
+        ++ spaced (length (fans body.now.polygons)) ++ spaced (edge_count (fans body.now.polygons)))) }
 {
     let faces = fan_faces(&body.polygons)?;
     let edges = fan_edges(alloc, &body.polygons, faces)?;

@@ -120,7 +120,8 @@ pub fn push_numbered<S: Scribe>(
 }
 
 fn push_counts(text: &mut Vec<u8>, body: &Body) -> Result<(), AllocError>
-    ensures { OnOk result (text.new.items ≡ text.old.items ++ line (decimal (length body.now.extremes) ++ spaced (length body.now.polygons) ++ spaced body.now.edges)) }
+    ensures { OnOk result (text.new.items ≡ text.old.items ++ line (decimal (length body.now.extremes)
+        ++ spaced (length body.now.polygons) ++ spaced body.now.edges)) }
 {
     push_number(text, body.extremes.len() as u64)?;
     push_spaced(text, body.polygons.len() as u64)?;

@@ -15,7 +15,8 @@ loop-position-preserved c = λ k l.
     (elim (cases_lt k c.loop-position.position) [
       | inl x ↦ in_append (map position_in xs) (map position_in (c.key.result ∷ [])) k (inl (c.loop-position.invariant k x))
       | inr x ↦ (let same : c.loop-position.position ≡ k = omega (arith, l, x) in
-          in_append (map position_in xs) (map position_in (c.key.result ∷ [])) k (inr (inl (sym (subst (λ j. position_in c.key.result ≡ j) same c.key.ensures)))))
+          in_append (map position_in xs) (map position_in (c.key.result ∷ [])) k
+          (inr (inl (sym (subst (λ j. position_in c.key.result ≡ j) same c.key.ensures)))))
     ]))
 
 pub returns : goal.returns

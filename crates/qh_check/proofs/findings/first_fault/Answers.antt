@@ -23,4 +23,7 @@ returns-in-Some c = λ ids are. rw c.in-Some.is at (c.in_ok-finding.ensures ids 
 
 pub returns : goal.returns
 returns c = λ ids are. All-of (IsFaceAmong c.args.set.extent c.args.set.pts.now ids c.args.polygons.now) c.args.order.now
-    (λ k m. elim (c.loop-rest.invariant ids are k m) [ inl n ↦ absurd (in_none c.loop-rest.rest.now k (let t = c.loop-rest-test.false in omega (arith, t)) n) | inr f ↦ f ])
+    (λ k m. elim (c.loop-rest.invariant ids are k m) [
+      | inl n ↦ absurd (in_none c.loop-rest.rest.now k (let t = c.loop-rest-test.false in omega (arith, t)) n)
+      | inr f ↦ f
+    ])

@@ -14,4 +14,5 @@ invariant_of-set g c = let are = c.in_ok-places.ensures in record {
 pub returns : goal.returns
 returns g c = IfOk-weaker c.judged.result _ _ (λ v h set solid.
     h c.args.pts.now c.args.ids.now set solid c.requires.claimed
-    (all_asked Piece _ _ _ _ _ (rw (← c.deref-2.ensures.value) at c.in_ok-order.ensures) (c.in_ok-found.ensures c.args.ids.now c.in_ok-places.ensures))) c.judged.ensures
+    (all_asked Piece _ _ _ _ _ (rw (← c.deref-2.ensures.value) at c.in_ok-order.ensures)
+    (c.in_ok-found.ensures c.args.ids.now c.in_ok-places.ensures))) c.judged.ensures

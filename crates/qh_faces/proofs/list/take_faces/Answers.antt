@@ -25,7 +25,8 @@ faces-preserved c =
       taken = λ more later.
           let one : AreFaces layout turn c.faces.words (face ∷ more) = (t.0, left, t.1, t.2, later) in
           subst (λ (fs : List (List ℕ)). AreFaces layout turn c.args.words.now fs)
-          (sym (ap (λ (fs : List (List ℕ)). fs ++ more) pushed ∙ append_assoc c.faces.faces.items (face ∷ []) more)) (c.faces.invariant.taken (face ∷ more) one);
+          (sym (ap (λ (fs : List (List ℕ)). fs ++ more) pushed ∙ append_assoc c.faces.faces.items (face ∷ []) more))
+          (c.faces.invariant.taken (face ∷ more) one);
       count = rw pushed (grind (arith, common_steps));
       passes = c.faces.invariant.passes ∙ faces-next layout count k c.faces.words (omega arith)
           ∙ c.in_ok-face.ensures.passes (λ rest. faces_fault layout (count - (k + 1)) rest);

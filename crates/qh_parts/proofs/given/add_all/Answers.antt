@@ -11,7 +11,8 @@ pub loop-polygon-preserved : goal.loop-polygon-preserved
 loop-polygon-preserved c = (
   λ q i. elim (of_append _ (c.in-Some.polygon ∷ []) q (subst (λ v. In q v) c.in_ok-push.ensures.items i)) [
     | inl o ↦ c.loop-polygon.invariant.0 q o
-    | inr (inl e) ↦ inr (c.loop-polygon.invariant.1 q (subst (λ v. In q v) (sym c.in-Some.ensures.items) (in_append _ (c.in-Some.polygon ∷ []) q (inr (inl e)))))
+    | inr (inl e) ↦ inr (c.loop-polygon.invariant.1 q
+        (subst (λ v. In q v) (sym c.in-Some.ensures.items) (in_append _ (c.in-Some.polygon ∷ []) q (inr (inl e)))))
     | inr (inr n) ↦ absurd n
   ],
   λ q i. c.loop-polygon.invariant.1 q (subst (λ v. In q v) (sym c.in-Some.ensures.items) (in_append _ (c.in-Some.polygon ∷ []) q (inl i))),

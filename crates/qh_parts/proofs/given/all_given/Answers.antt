@@ -12,7 +12,8 @@ loop-answer-init c = (λ ids kept d inside keeps q m. absurd (subst (λ v. In q 
 pub loop-answer-preserved : goal.loop-answer-preserved
 loop-answer-preserved c =
     let all = rw c.in-Some.ensures.items at c.loop-answer.invariant.1 in
-    let own = rw (c.in_ok-found.was, c.in-Some-found.is) at (of_last (λ r. IfOk r (λ found. IfSome found (IsGiven c.args.set.pts.now c.args.set.shared.now c.args.set.parts.now)))
+    let own = rw (c.in_ok-found.was, c.in-Some-found.is) at
+    (of_last (λ r. IfOk r (λ found. IfSome found (IsGiven c.args.set.pts.now c.args.set.shared.now c.args.set.parts.now)))
     _ _ all) in (
       λ ids kept d inside keeps q m. elim (c.in_ok-add_all.ensures q m) [
         | inl o ↦ c.loop-answer.invariant.0 ids kept d inside keeps q o

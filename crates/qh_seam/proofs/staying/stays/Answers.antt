@@ -39,7 +39,8 @@ loop-other-preserved c = λ j h d e. elim (cases_lt j c.loop-other.other) [
           | then-other-number+in_ok-apart+else-not-apart w ↦ (
               let other = w.index-set-other.result in let ids = own_in (get_or parts c.loop-other.other other) in
               let held = (c.requires.parts c.loop-other.other other within).places in
-              let ring : IsRingOver (place pts) (surface_of (named (get_or parts c.args.number own).surface)) stay ids = λ f r. w.in_ok-apart.ensures.ring w.if-not-apart.false ids held f
+              let ring : IsRingOver (place pts) (surface_of (named (get_or parts c.args.number own).surface)) stay ids =
+              λ f r. w.in_ok-apart.ensures.ring w.if-not-apart.false ids held f
               (subst (In f) (sym w.deref.ensures.value) (c.in_ok-ring.ensures.all f r)) in
               inr (apart_at pts parts stay c.args.number c.loop-other.other own other d e c.requires.number within
               (apart_of pts shared c.in-Some.four c.in-Some.ensures (get_or parts c.args.number own)

@@ -29,7 +29,9 @@ pub fn alone(alloc: Global, number: u32) -> Result<Vec<u32>, AllocError>
 
 /// Returns two lists of the children of a node as one of the node.
 pub fn merged(a: Vec<u32>, b: Vec<u32>) -> Result<Vec<u32>, AllocError>
-    ensures { IfOk result (λ list. (blocks : ℕ) (i : ℕ) → 0 < i → i < blocks → IsRisingListOf (InSpan blocks (2 * i)) a.items → IsRisingListOf (InSpan blocks (2 * i + 1)) b.items → IsRisingListOf (InSpan blocks i) list.items) }
+    ensures { IfOk result (λ list. (blocks : ℕ) (i : ℕ) → 0 < i → i < blocks
+        → IsRisingListOf (InSpan blocks (2 * i)) a.items
+        → IsRisingListOf (InSpan blocks (2 * i + 1)) b.items → IsRisingListOf (InSpan blocks i) list.items) }
 {
     let mut list = a;
     list.extend_from_slice(&b)?;

@@ -78,11 +78,13 @@ fn work_side_by_side<R: Threads + Sync>(
     let (one, two) = join(
         rt,
         || -> Result<Ended, AllocError>
-            requires { All (IsOf board.now) passes.items × All (λ p. p.pass.over ≡ false) passes.items × (board.now.setup.spans.blocks ≡ board.now.setup.blocks) }
+            requires { All (IsOf board.now) passes.items × All (λ p. p.pass.over ≡ false) passes.items
+                × (board.now.setup.spans.blocks ≡ board.now.setup.blocks) }
             ensures { IfOk result (λ e. (length e.lefts.items ≡ length passes.items) × All (IsOf board.entry.now) e.lefts.items) }
         { work_side_by_side(rt, alloc, board, passes, gives_up_at) },
         || -> Result<Ended, AllocError>
-            requires { All (IsOf board.now) others.items × All (λ p. p.pass.over ≡ false) others.items × (board.now.setup.spans.blocks ≡ board.now.setup.blocks) }
+            requires { All (IsOf board.now) others.items × All (λ p. p.pass.over ≡ false) others.items
+                × (board.now.setup.spans.blocks ≡ board.now.setup.blocks) }
             ensures { IfOk result (λ e. (length e.lefts.items ≡ length others.items) × All (IsOf board.entry.now) e.lefts.items) }
         { work_side_by_side(rt, alloc, board, others, gives_up_at) },
     );
