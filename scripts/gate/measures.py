@@ -27,7 +27,7 @@ LIMITS = {
     "long parameter lists": 14,
     "bare bools": 13,
     "long files": 12,
-    "long lines": 10,
+    "long lines": 12,
 }
 WORD_LIMITS = {
     "near order": 2,

@@ -28,7 +28,7 @@ from lib.paths import CHECKER  # noqa: E402
 from trials.refuse import EXAMPLES, WORKERS, build, is_refusal, run  # noqa: E402
 
 # The lines of runs out of memory: while points or faces were read, or elsewhere.
-WITHOUT_MEMORY = [b"the points: Memory", b"the faces: Memory", b"memory was refused"]
+WITHOUT_MEMORY = [b"the points: Memory", b"the faces: Memory", b"out of memory"]
 MEMORY = [(3, b"", b"hullcheck: " + line + b"\n") for line in WITHOUT_MEMORY]
 VARIABLES = ["REFUSE_GROWTH", "REFUSE_GROWTHS_FROM", "REFUSE_THREAD", "REFUSE_THREADS_FROM"]
 POINTS = "examples/unit-cube.txt"

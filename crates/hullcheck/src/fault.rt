@@ -78,7 +78,7 @@ impl fmt::Display for Fault {
                 f,
                 "usage: hullcheck [--workers N] [--indices | --counted] [--clockwise] POINTS [FACES]"
             ),
-            Fault::Memory => write!(f, "hullcheck: memory was refused"),
+            Fault::Memory => write!(f, "hullcheck: out of memory"),
             Fault::Device => write!(f, "hullcheck: a file could not be read"),
             Fault::Points(fault) => write!(f, "hullcheck: the points: {fault:?}"),
             Fault::Faces(fault) => write!(f, "hullcheck: the faces: {fault:?}"),

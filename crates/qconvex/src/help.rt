@@ -34,7 +34,7 @@ Exit status:
   1  the input is refused: 1 NoHeader, 2 BadNumber, 3 NotThree, 4 Count,
      5 Range, 6 Long, 7 Short, 10 Big, 14 NotOff
   2  the command line is refused: 12 Usage
-  3  memory was refused: 8 Memory
+  3  out of memory: 8 Memory
   4  a device failed: 9 Device, 11 Send
 
 docs/FAULTS.md explains each fault; hullexplain FILE shows where it is.

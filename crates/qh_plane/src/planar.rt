@@ -93,40 +93,47 @@ fn triangle(pts: &[Point], normal: &Normal, i: Id, j: Id, k: Id) -> Polygon
     }
 }
 
+/// Points, and the normal of the plane in which some of them are seen.
+#[derive(Clone, Copy, Drop)]
+struct Seen<'a> {
+    pts: &'a [Point],
+    normal: &'a Normal,
+}
+
 /// Returns true if the way round four ids turns left at each.
-fn goes_left(pts: &[Point], normal: &Normal, i: Id, j: Id, k: Id, l: Id) -> bool
-    requires i_in { i < length pts.now }
-    requires j_in { j < length pts.now }
-    requires k_in { k < length pts.now }
-    requires l_in { l < length pts.now }
-    ensures { result ≡ goes_left (turn_of pts.now normal.now) i j k l }
+fn goes_left(seen: Seen, i: Id, j: Id, k: Id, l: Id) -> bool
+    requires i_in { i < length seen.pts.now }
+    requires j_in { j < length seen.pts.now }
+    requires k_in { k < length seen.pts.now }
+    requires l_in { l < length seen.pts.now }
+    ensures { result ≡ goes_left (turn_of seen.entry.pts.now seen.entry.normal.now) i j k l }
 {
-    turns_left(pts, normal, i, j, k)
-        && turns_left(pts, normal, j, k, l)
-        && turns_left(pts, normal, k, l, i)
-        && turns_left(pts, normal, l, i, j)
+    turns_left(seen.pts, seen.normal, i, j, k)
+        && turns_left(seen.pts, seen.normal, j, k, l)
+        && turns_left(seen.pts, seen.normal, k, l, i)
+        && turns_left(seen.pts, seen.normal, l, i, j)
 }
 
 /// Returns the cycle of four ids, from the first on, that turns left at each, if there is one: else one of
 /// them lies between others.
-fn quadrilateral(pts: &[Point], normal: &Normal, i: Id, j: Id, k: Id, l: Id) -> Option<[Id; 4]>
-    requires i_in { i < length pts.now }
-    requires j_in { j < length pts.now }
-    requires k_in { k < length pts.now }
-    requires l_in { l < length pts.now }
-    ensures { IfSome result (λ q. IsLeftCycle (turn_of pts.now normal.now) i j k l q) }
+fn quadrilateral(seen: Seen, i: Id, j: Id, k: Id, l: Id) -> Option<[Id; 4]>
+    requires i_in { i < length seen.pts.now }
+    requires j_in { j < length seen.pts.now }
+    requires k_in { k < length seen.pts.now }
+    requires l_in { l < length seen.pts.now }
+    ensures { IfSome result (λ q. IsLeftCycle (turn_of seen.entry.pts.now seen.entry.normal.now) i j k l q) }
 {
     // The second and the third in the order that turns left; the last comes after any of the first three.
-    let (j, k) = if turns_left(pts, normal, i, j, k) {
+    let (j, k) = if turns_left(seen.pts, seen.normal, i, j, k) {
         (j, k)
     } else {
         (k, j)
     };
-    if goes_left(pts, normal, i, j, k, l) {
+    if goes_left(seen, i, j, k, l) {
         Some([i, j, k, l])
-    } else if goes_left(pts, normal, i, j, l, k) {
+    } else if goes_left(seen, i, j, l, k) {
         Some([i, j, l, k])
-    } else if goes_left(pts, normal, i, l, j, k) {
+    } else if goes_left(seen, i, l, j, k) {
         Some([i, l, j, k])
     } else {
         None
@@ -169,7 +176,8 @@ pub fn polygon(alloc: Global, pts: &[Point], ids: &[Id], normal: &Normal) -> Res
         return Ok(triangle(pts, normal, ids[0], ids[1], ids[2]));
     }
     if ids.len() == 4 {
-        if let Some(cycle) = quadrilateral(pts, normal, ids[0], ids[1], ids[2], ids[3]) {
+        let seen = Seen { pts, normal };
+        if let Some(cycle) = quadrilateral(seen, ids[0], ids[1], ids[2], ids[3]) {
             return Ok(Polygon::of(Vec::from_slice(alloc, &cycle)?));
         }
     }

@@ -71,7 +71,7 @@ Stops-after e before old mid new fo fm fn given count took same is s = record {
   no_text = s.no_text;
 }
 
--- memory was refused before anything was read
+-- an allocation failed before anything was read
 pub Stops-memory : (before : ℕ) (old : Option (List ℕ)) (failures : ℕ) → before ≤ BYTE_LIMIT → Stops faults.Memory before old old failures failures
 Stops-memory before old failures h = record {
   big = λ e. cc;

@@ -1,6 +1,7 @@
 //! The points that the words so far make up.
 ghost use Rattle.std.specs.Prelude.{◌≡◌, ◌≤◌, ◌+◌, ◌*◌, [], true, false, vec_len};
 ghost use Rattle.qh_read.specs.contract.Progress as progress;
+ghost use Rattle.qh_read.specs.contract.Tokens.{is_keyword};
 ghost use Rattle.qh_read.specs.steps.Stages.{stage_shown, HasTextFault, is_header, pending_count};
 
 use crate::coordinate::Coordinate;
@@ -88,11 +89,11 @@ fn headed(first: i32, second: i32) -> Stage
 }
 
 /// Returns the stage after the first word of an OFF file.
-fn after_keyword(is_keyword: bool) -> Stage
-    ensures keyword { is_keyword ≡ true → result ≡ Stage.VertexCount }
-    ensures other { is_keyword ≡ false → result ≡ Stage.Failed ReadFault.NotOff }
+fn after_keyword(token: Token) -> Stage
+    ensures keyword { is_keyword token ≡ true → result ≡ Stage.VertexCount }
+    ensures other { is_keyword token ≡ false → result ≡ Stage.Failed ReadFault.NotOff }
 {
-    if is_keyword {
+    if token.is_keyword() {
         Stage::VertexCount
     } else {
         Stage::Failed(ReadFault::NotOff)
@@ -148,7 +149,7 @@ impl Builder {
             Pending::One(x) => self.pending = Pending::Two(x, coordinate),
             Pending::Two(x, y) => {
                 let point = Point::new(x.value, y.value, coordinate.value);
-                self.points.push(point).unwrap();
+                self.points.push_reserved(point);
                 self.pending = Pending::Zero;
             }
         }
@@ -200,7 +201,7 @@ impl Builder {
         ensures kept { vec_capacity self.old.points ≤ vec_capacity self.new.points }
     {
         let point = Point::new(x.value, y.value, z.value);
-        self.points.push(point).unwrap();
+        self.points.push_reserved(point);
         self.stage = next;
     }
 
@@ -252,7 +253,7 @@ impl Builder {
                 self.coordinate(Stage::Vertices(left - 1), value, line)
             }
             (Stage::Failed(_), _) => {}
-            (Stage::Keyword, _) => self.stage = after_keyword(token.is_keyword()),
+            (Stage::Keyword, _) => self.stage = after_keyword(token),
             (_, None) => self.stage = Stage::Failed(ReadFault::BadNumber(line)),
             (Stage::First, Some(first)) => self.stage = Stage::Second(first),
             (Stage::Second(first), Some(second)) => self.stage = headed(first, second),

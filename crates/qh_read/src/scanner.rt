@@ -26,7 +26,7 @@ pub struct Scanner {
 }
 
 impl Scanner {
-    /// Creates no byte yet.
+    /// Creates a scanner that has read no byte yet.
     pub fn new(alloc: Global, form: Form) -> Scanner
         ensures held { held result Token.Empty ≡ held_at_start form }
         ensures line { result.line ≡ 1 }

@@ -30,6 +30,6 @@ pub record IsTold (reading : Reading) (points faces : List ℕ) (j : Judgement) 
 abbrev pub IsToldBy : List (List ℕ) → Judgement → Type 0
 IsToldBy words j = (asked : Asked) × (asked_by words ≡ Some asked) × (points : List ℕ) × (faces : List ℕ) × IsTold asked.reading points faces j
 
--- so of some words
+-- it is told by some command line
 abbrev pub IsToldOfSome : Judgement → Type 0
 IsToldOfSome j = (words : List (List ℕ)) × IsToldBy words j

@@ -10,7 +10,7 @@ abbrev pub with_number : Asked → List (List ℕ) → Option Asked
 with_number asked [] = None
 with_number asked (word ∷ rest) = option_and_then (λ n. with_words (with_workers asked n) rest) (workers_in word)
 
--- with all of some words, of which the first is such a one
+-- what all words ask, where the first is an option or a file, or the number of workers
 abbrev pub with_next : Next → Asked → List (List ℕ) → Option Asked
 with_next Any asked words = with_words asked words
 with_next Workers asked words = with_number asked words

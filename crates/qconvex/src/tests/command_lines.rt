@@ -129,7 +129,7 @@ const HELPED: [&str; 16] = [
     "1 to 1048576 [default: 4096]",
     "\n  1  the input is refused",
     "\n  2  the command line is refused",
-    "\n  3  memory was refused",
+    "\n  3  out of memory",
     "\n  4  a device failed",
 ];
 

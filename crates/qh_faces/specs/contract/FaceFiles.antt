@@ -58,6 +58,6 @@ IsFileFault layout bytes e =
     IsFaultBefore layout bytes e
     ⊎ ((vertices : List Vector) × (ws : List Numeral) × IsListOf layout bytes vertices ws × (list_fault layout ws ≡ Some e))
 
--- memory was refused, or this is the first fault of the file
+-- an allocation failed, or this is the first fault of the file
 abbrev pub IsFaultOfFaces : Layout → List ℕ → ReadFault → Type 0
 IsFaultOfFaces layout bytes e = (e ≡ Memory) ⊎ IsFileFault layout bytes e

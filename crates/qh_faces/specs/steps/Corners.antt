@@ -18,6 +18,6 @@ pub record AreTaken (line : ℕ) (old : List Numeral) (corners : List ℕ) (last
 abbrev pub IsTakenFace : Layout → Turn → List Numeral → List ℕ → List Numeral → Type 0
 IsTakenFace layout turn old face new = (corners : List ℕ) × IsFace layout old corners new × (face ≡ turned turn corners)
 
--- memory was refused, or this is the fault whatever is to come
+-- an allocation failed, or this is the fault whatever is to come
 abbrev pub IsFaultFor : {C : Type 0} → (C → Option ReadFault) → ReadFault → Type 0
 IsFaultFor {C} fault e = (e ≡ Memory) ⊎ ((after : C) → fault after ≡ Some e)

@@ -27,7 +27,7 @@ abbrev pub AreWholeFaces : Reading → List ℕ → List Vector → List (List �
 AreWholeFaces reading bytes vertices faces =
     (ws : List Numeral) × IsWholeList bytes vertices ws × IsList reading.layout reading.turn ws faces
 
--- memory was refused, or a list has too many bytes or this fault
+-- an allocation failed, or a list has too many bytes or this fault
 abbrev pub IsWholeFault : Layout → List ℕ → ReadFault → Type 0
 IsWholeFault layout bytes e =
     (e ≡ Memory) ⊎ ((BYTE_LIMIT < length bytes) × (e ≡ Big)) ⊎ ((length bytes ≤ BYTE_LIMIT) × (list_fault layout (numerals_in bytes) ≡ Some e))

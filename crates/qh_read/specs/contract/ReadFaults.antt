@@ -11,7 +11,7 @@ use Rattle.qh_read.specs.declared.fault.FeedFault.TheVariants as refusals
 abbrev pub IsTextFault : ReadFault → Type 0
 IsTextFault f = (f ≢ Memory) × (f ≢ Device) × (f ≢ Big)
 
--- memory was refused, or this is the first fault of the bytes in this form
+-- an allocation failed, or this is the first fault of the bytes in this form
 abbrev pub IsFaultOf : Form → List ℕ → ReadFault → Type 0
 IsFaultOf form bytes f = (f ≡ Memory) ⊎ IsFirstFault form bytes f
 

@@ -8,12 +8,12 @@ use Rattle.qh_read.proofs.builder.Builder.take_point.Goals as goal
 
 pub returns-clause-shown : goal.returns-clause-shown
 returns-clause-shown c i j k =
-    let items : c.push.new.self.items ≡ c.args.self.now.points.items ++ c.new-point.result ∷ [] = grind (arith, common_steps) in
+    let items : c.push_reserved.new.self.items ≡ c.args.self.now.points.items ++ c.new-point.result ∷ [] = grind (arith, common_steps) in
     let was = c.args.self.now in
     let x = c.args.x in
     let y = c.args.y in
     let z = c.args.z in
-    let all : coordinates c.push.new.self.items ++ pending_list was.pending ≡ taken was ++ x.value ∷ y.value ∷ z.value ∷ [] =
+    let all : coordinates c.push_reserved.new.self.items ++ pending_list was.pending ≡ taken was ++ x.value ∷ y.value ∷ z.value ∷ [] =
     rw (items, coordinates-push, c.requires.awaits.begins) (grind (arith, common_steps)) in
     ap (stage_shown c.args.next) all
     ∙ sym (c.requires.awaits.led (taken was) x.value y.value z.value i j k x.in_limit y.in_limit z.in_limit)
