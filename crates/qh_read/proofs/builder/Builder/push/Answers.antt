@@ -5,5 +5,5 @@ use Rattle.qh_read.proofs.builder.Builder.push.Goals as goal
 
 pub returns-in-Two-clause-taken : goal.returns-in-Two-clause-taken
 returns-in-Two-clause-taken c =
-    let items : c.push.new.self.items ≡ c.args.self.now.points.items ++ c.new-point.result ∷ [] = grind (arith, common_steps) in
+    let items : c.push_reserved.new.self.items ≡ c.args.self.now.points.items ++ c.new-point.result ∷ [] = grind (arith, common_steps) in
     rw (items, coordinates-push, c.in-Two.is) (grind (arith, common_steps))
