@@ -17,6 +17,8 @@ mod live;
 mod mesh;
 mod places;
 mod rebuild;
+mod room;
+mod simplex;
 mod slots;
 
 pub use facets::{EdgeNo, FacetNo};

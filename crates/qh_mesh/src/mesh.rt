@@ -1,7 +1,5 @@
 //! The mesh, its questions, and how it is made and grows.
-ghost use Rattle.std.specs.Prelude.{◌≡◌, ◌↔◌, IsTrue, ◌≢◌, ◌+◌, ◌*◌, ◌-◌, ◌/◌, ◌^◌, ◌≤◌, ◌<◌, length, map, max, vec_len, vec_capacity};
-ghost use Rattle.std.specs.Prelude.{OnOk, OnErr, IfOk, true, false, pos, [], ◌∷◌, ℕ, ◌<ℤ◌};
-ghost use Rattle.qh_model.specs.declared.limits.TheConstants.{POINT_LIMIT};
+ghost use Rattle.std.specs.Prelude.{◌≡◌, ◌≢◌, ◌<◌, length, map, max, OnErr, IfOk, true, pos, [], ◌∷◌, ℕ, ◌<ℤ◌};
 ghost use Rattle.qh_model.specs.headline.Predicates.{vol, place};
 ghost use Rattle.qh_model.specs.headline.Vector.{Vector};
 ghost use Rattle.qh_model.specs.contract.Weighted.{Weighted};
@@ -16,18 +14,15 @@ ghost use Rattle.qh_mesh.specs.contract.SoundMesh.{simplex_facets, IsSoundMesh, 
 ghost use Rattle.qh_model.specs.contract.Rewired.{IsRewired};
 ghost use Rattle.qh_model.specs.contract.Surface.{rest};
 
-use crate::facets::{EdgeNo, Facet, FacetNo, FacetSide, name_all};
+use crate::facets::{EdgeNo, Facet, FacetNo, name_all};
 use crate::live::Live;
 use crate::rebuild::rebuild;
-use crate::slots::Slot;
+use crate::room::{Scratch, make_room};
+use crate::simplex::{four, sees};
 use qh_model::{Id, Memory, Point};
-use qh_pred::{point_at, vol};
-use std::alloc::{AllocError, Global};
+use std::alloc::Global;
 use std::marker::Model;
 use std::mem;
-
-/// More places than this have half-edges whose numbers don't fit 32 bits.
-const PLACES: usize = 1_431_655_765;
 
 /// A closed surface of triangles, each counterclockwise seen from outside.
 ///
@@ -37,12 +32,8 @@ pub struct Mesh {
     facets: Vec<Facet>,
     /// The places of no facet.
     free: Vec<FacetNo>,
-    /// A table of the corners, for the horizon of a replacement.
-    slots: Vec<Slot>,
-    /// Room for that horizon.
-    horizon: Vec<FacetSide>,
-    /// Room for the list of the next cone's facets.
-    spare: Vec<FacetNo>,
+    /// What replacements use.
+    scratch: Scratch,
 }
 
 impl Model for Mesh {
@@ -55,83 +46,6 @@ impl Model for Mesh {
     ghost view = { λ m. m.facets.items };
 
     ghost invariant = { λ m. IsSurface m.facets.items m.free.items };
-}
-
-/// Returns true if the triangle a b c strictly sees d.
-fn sees(pts: &[Point], a: Id, b: Id, c: Id, d: Id) -> bool
-    requires a_in { a < length pts.now }
-    requires b_in { b < length pts.now }
-    requires c_in { c < length pts.now }
-    requires d_in { d < length pts.now }
-    ensures { IsTrue result ↔ (pos 0 <ℤ vol (place pts.now a) (place pts.now b) (place pts.now c) (place pts.now d)) }
-{
-    vol(
-        point_at(pts, a),
-        point_at(pts, b),
-        point_at(pts, c),
-        point_at(pts, d),
-    ) > 0
-}
-
-/// Returns the facets a b c, a d b, a c d and b d c.
-fn four(a: u32, b: u32, c: u32, d: u32) -> [Facet; 4]
-    ensures { result ≡ simplex_facets a b c d }
-{
-    [
-        Facet::new(a, b, c, 5, 11, 6),
-        Facet::new(a, d, b, 8, 9, 0),
-        Facet::new(a, c, d, 2, 10, 3),
-        Facet::new(b, d, c, 4, 7, 1),
-    ]
-}
-
-/// Returns true if the half-edges of `places + more` places have numbers that fit 32 bits.
-///
-/// By Euler's count a hull has fewer than twice as many triangles as points, and a replacement asks for room
-/// for at most twice their number: with the greatest number of points they fit.
-fn are_numbered(places: usize, more: usize) -> bool
-    ensures exact { IsTrue result ↔ (3 * (places + more) < 2 ^ 32) }
-    ensures hull { places + more ≤ 3 * (2 * POINT_LIMIT) → IsTrue result }
-{
-    places <= PLACES && more <= PLACES - places
-}
-
-/// Makes room for what a replacement of `count` facets can need.
-fn make_room(
-    facets: &mut Vec<Facet>,
-    free: &mut Vec<FacetNo>,
-    slots: &mut Vec<Slot>,
-    horizon: &mut Vec<FacetSide>,
-    points: usize,
-    count: usize,
-) -> Result<(), AllocError>
-    ensures facets { facets.new.items ≡ facets.old.items }
-    ensures free { free.new.items ≡ free.old.items }
-    ensures horizon { horizon.new.items ≡ [] }
-    ensures horizon_room { OnOk result (3 * count ≤ vec_capacity horizon.new) }
-    ensures free_room { OnOk result (vec_len free.new + count ≤ vec_capacity free.new) }
-    ensures spare { OnOk result (vec_len facets.new + 2 * count ≤ vec_capacity facets.new + vec_len free.new) }
-    ensures small { OnOk result (3 * (vec_len facets.new + (2 * count - vec_len free.new)) < 2 ^ 32) }
-{
-    horizon.clear();
-    let Some(most) = count.checked_mul(3) else {
-        return Err(AllocError);
-    };
-    let spare = (2 * count).saturating_sub(free.len());
-    if !are_numbered(facets.len(), spare) {
-        return Err(AllocError);
-    }
-    if slots.len() < points {
-        let empty = Slot {
-            starting: 0,
-            ending: 0,
-        };
-        slots.resize(points, empty)?;
-    }
-    horizon.reserve(most)?;
-    free.reserve(count)?;
-    facets.reserve(spare)?;
-    Ok(())
 }
 
 impl Mesh {
@@ -170,9 +84,7 @@ impl Mesh {
         Ok(Mesh {
             facets,
             free: Vec::new(alloc),
-            slots: Vec::new(alloc),
-            horizon: Vec::new(alloc),
-            spare: Vec::new(alloc),
+            scratch: Scratch::new(alloc),
         })
     }
 
@@ -321,32 +233,23 @@ impl Mesh {
         ensures places { IfOk result (λ _. length self.new ≡ max (length self.old) (length (surface_of self.new).live)) }
         ensures memory { OnErr result (self.new ≡ self.old) }
     {
-        let count = visible.len();
         let Ok(()) = make_room(
             &mut self.facets,
             &mut self.free,
-            &mut self.slots,
-            &mut self.horizon,
+            &mut self.scratch,
             pts.len(),
-            count,
+            visible.len(),
         ) else {
-            return Err(Memory);
-        };
-        let mut made = mem::replace(&mut self.spare, Vec::new(alloc));
-        made.clear();
-        let Ok(()) = made.reserve(3 * count) else {
             return Err(Memory);
         };
         rebuild(
             &mut self.facets,
             &mut self.free,
-            self.slots.as_mut_slice(),
-            &mut self.horizon,
-            &mut made,
+            &mut self.scratch,
             visible,
             apex.number(),
         );
-        Ok(made)
+        Ok(mem::replace(&mut self.scratch.made, Vec::new(alloc)))
     }
 
     /// Takes a list of facets, such as [`Mesh::replace`] answers, for its room: the next answer needs no
@@ -354,7 +257,7 @@ impl Mesh {
     pub fn take_room(&mut self, list: Vec<FacetNo>)
         ensures { self.new ≡ self.old }
     {
-        self.spare = list;
+        self.scratch.made = list;
     }
 
     /// Gives the corners, which are positions of a list, their names in it: corner l becomes the id at

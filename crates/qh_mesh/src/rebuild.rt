@@ -9,6 +9,7 @@ use crate::cone::{join_outer, write_cone};
 use crate::facets::{Facet, FacetNo, FacetSide};
 use crate::horizon::gather;
 use crate::places::{allocate_all, remove};
+use crate::room::Scratch;
 use crate::slots::Slot;
 
 /// Takes the visible facets away and notes their horizon.
@@ -38,62 +39,66 @@ fn close(facets: &mut [Facet], slots: &[Slot], horizon: &[FacetSide], made: &[Fa
     requires { IsReady facets.old horizon.now made.now }
     ensures { IsConed facets.old facets.new horizon.now made.now apex }
 {
-    let are_noted = join_outer(facets, slots, horizon, made);
-    write_cone(facets, slots, are_noted, horizon, made, apex);
+    let table = join_outer(facets, slots, horizon, made);
+    write_cone(facets, table, horizon, made, apex);
 }
 
-/// Takes the visible facets away, notes their horizon and gives out places for the cone over it.
+/// Takes the visible facets away, notes their horizon and allocates places for the cone over it.
 #[tactic(auto, using(crate::proofs::Pools::few_free))]
 fn prepare(
     facets: &mut Vec<Facet>,
     free: &mut Vec<FacetNo>,
-    slots: &mut [Slot],
-    horizon: &mut Vec<FacetSide>,
-    made: &mut Vec<FacetNo>,
+    scratch: &mut Scratch,
     visible: &[FacetNo],
 )
     requires surface { IsSurface facets.old.items free.old.items }
     requires facets { AreFacets facets.old.items visible.now }
-    requires horizon_empty { horizon.old.items ≡ [] }
-    requires horizon_room { 3 * length visible.now ≤ vec_capacity horizon.old }
-    requires made_empty { made.old.items ≡ [] }
-    requires made_room { 3 * length visible.now ≤ vec_capacity made.old }
+    requires horizon_empty { scratch.old.horizon.items ≡ [] }
+    requires horizon_room { 3 * length visible.now ≤ vec_capacity scratch.old.horizon }
+    requires made_empty { scratch.old.made.items ≡ [] }
+    requires made_room { 3 * length visible.now ≤ vec_capacity scratch.old.made }
     requires free_room { vec_len free.old + length visible.now ≤ vec_capacity free.old }
     requires spare { vec_len facets.old + 2 * length visible.now ≤ vec_capacity facets.old + vec_len free.old }
     requires small { 3 * (vec_len facets.old + (2 * length visible.now - vec_len free.old)) < 2 ^ 32 }
-    ensures { IsPrepared facets.old.items facets.new.items free.new.items visible.now horizon.new.items made.new.items }
+    ensures { IsPrepared facets.old.items facets.new.items free.new.items visible.now scratch.new.horizon.items
+        scratch.new.made.items }
 {
-    clear(facets.as_mut_slice(), free, horizon, visible);
-    allocate_all(facets, free, slots, horizon.as_slice(), made);
+    clear(facets.as_mut_slice(), free, &mut scratch.horizon, visible);
+    allocate_all(
+        facets,
+        free,
+        scratch.slots.as_mut_slice(),
+        scratch.horizon.as_slice(),
+        &mut scratch.made,
+    );
 }
 
-/// Takes the visible facets away and puts the cone from the apex over their horizon.
+/// Takes the visible facets away and puts the cone from the apex over their horizon. The facets of the
+/// cone are listed.
 pub fn rebuild(
     facets: &mut Vec<Facet>,
     free: &mut Vec<FacetNo>,
-    slots: &mut [Slot],
-    horizon: &mut Vec<FacetSide>,
-    made: &mut Vec<FacetNo>,
+    scratch: &mut Scratch,
     visible: &[FacetNo],
     apex: u32,
 )
     requires surface { IsSurface facets.old.items free.old.items }
     requires facets { AreFacets facets.old.items visible.now }
-    requires horizon_empty { horizon.old.items ≡ [] }
-    requires horizon_room { 3 * length visible.now ≤ vec_capacity horizon.old }
-    requires made_empty { made.old.items ≡ [] }
-    requires made_room { 3 * length visible.now ≤ vec_capacity made.old }
+    requires horizon_empty { scratch.old.horizon.items ≡ [] }
+    requires horizon_room { 3 * length visible.now ≤ vec_capacity scratch.old.horizon }
+    requires made_empty { scratch.old.made.items ≡ [] }
+    requires made_room { 3 * length visible.now ≤ vec_capacity scratch.old.made }
     requires free_room { vec_len free.old + length visible.now ≤ vec_capacity free.old }
     requires spare { vec_len facets.old + 2 * length visible.now ≤ vec_capacity facets.old + vec_len free.old }
     requires small { 3 * (vec_len facets.old + (2 * length visible.now - vec_len free.old)) < 2 ^ 32 }
-    ensures { IsRebuilt facets.old.items facets.new.items free.new.items visible.now apex made.new.items }
+    ensures { IsRebuilt facets.old.items facets.new.items free.new.items visible.now apex scratch.new.made.items }
 {
-    prepare(facets, free, slots, horizon, made, visible);
+    prepare(facets, free, scratch, visible);
     close(
         facets.as_mut_slice(),
-        slots,
-        horizon.as_slice(),
-        made.as_slice(),
+        scratch.slots.as_slice(),
+        scratch.horizon.as_slice(),
+        scratch.made.as_slice(),
         apex,
     );
 }

@@ -6,13 +6,13 @@ use Rattle.qh_mesh.proofs.Replacing.{is_ready, rebuilt}
 use Rattle.qh_mesh.proofs.rebuild.rebuild.Goals as goal
 
 pub close-requires : goal.close-requires
-close-requires c = rw (c.as_mut_slice.ensures.value, c.as_slice.ensures.value, c.as_slice-2.ensures.value)
+close-requires c = rw (c.as_mut_slice.ensures.value, c.as_slice-2.ensures.value, c.as_slice-3.ensures.value)
     (is_ready _ _ _ _ _ _ _ c.requires.surface c.requires.facets c.prepare.ensures)
 
 pub returns : goal.returns
 returns c =
-    let p = c.prepare.new in let w : IsConed p.facets.items c.close.new.facets p.horizon.items p.made.items c.args.apex =
-    rw (c.as_mut_slice.ensures.value, c.as_slice.ensures.value, c.as_slice-2.ensures.value) at c.close.ensures in
+    let p = c.prepare.new in let w : IsConed p.facets.items c.close.new.facets p.scratch.horizon.items p.scratch.made.items c.args.apex =
+    rw (c.as_mut_slice.ensures.value, c.as_slice-2.ensures.value, c.as_slice-3.ensures.value) at c.close.ensures in
     let n = w.written.len in let m = w.joined.len in
     rw (with_items_is p.facets c.close.new.facets (omega (arith, p.facets.ok, n, m)))
     (rebuilt _ _ _ _ _ _ _ c.requires.surface c.requires.facets c.prepare.ensures _ _ w)

@@ -1,0 +1,84 @@
+//! Room for a replacement, which is made before the mesh changes.
+ghost use Rattle.std.specs.Prelude.{◌≡◌, ◌↔◌, IsTrue, ◌+◌, ◌*◌, ◌-◌, ◌/◌, ◌^◌, ◌≤◌, ◌<◌, OnOk, [], vec_len, vec_capacity};
+ghost use Rattle.qh_model.specs.declared.limits.TheConstants.{POINT_LIMIT};
+
+use crate::facets::{Facet, FacetNo, FacetSide};
+use crate::slots::Slot;
+use std::alloc::{AllocError, Global};
+
+/// More places than this have half-edges whose numbers don't fit 32 bits.
+const PLACES: usize = 1_431_655_765;
+
+/// Memory that a replacement uses, and that a mesh keeps for the next one.
+#[derive(Drop)]
+pub struct Scratch {
+    /// A table of the corners.
+    pub slots: Vec<Slot>,
+    /// The horizon.
+    pub horizon: Vec<FacetSide>,
+    /// The facets of the cone.
+    pub made: Vec<FacetNo>,
+}
+
+impl Scratch {
+    /// Creates a scratch without memory.
+    pub fn new(alloc: Global) -> Scratch {
+        Scratch {
+            slots: Vec::new(alloc),
+            horizon: Vec::new(alloc),
+            made: Vec::new(alloc),
+        }
+    }
+}
+
+/// Returns true if the half-edges of `places + more` places have numbers that fit 32 bits.
+///
+/// By Euler's count a hull has fewer than twice as many triangles as points, and a replacement asks for room
+/// for at most twice their number: with the greatest number of points they fit.
+fn are_numbered(places: usize, more: usize) -> bool
+    ensures exact { IsTrue result ↔ (3 * (places + more) < 2 ^ 32) }
+    ensures hull { places + more ≤ 3 * (2 * POINT_LIMIT) → IsTrue result }
+{
+    places <= PLACES && more <= PLACES - places
+}
+
+/// Makes room for what a replacement of `count` facets can need.
+pub fn make_room(
+    facets: &mut Vec<Facet>,
+    free: &mut Vec<FacetNo>,
+    scratch: &mut Scratch,
+    points: usize,
+    count: usize,
+) -> Result<(), AllocError>
+    ensures facets { facets.new.items ≡ facets.old.items }
+    ensures free { free.new.items ≡ free.old.items }
+    ensures horizon { scratch.new.horizon.items ≡ [] }
+    ensures horizon_room { OnOk result (3 * count ≤ vec_capacity scratch.new.horizon) }
+    ensures made { scratch.new.made.items ≡ [] }
+    ensures made_room { OnOk result (3 * count ≤ vec_capacity scratch.new.made) }
+    ensures free_room { OnOk result (vec_len free.new + count ≤ vec_capacity free.new) }
+    ensures spare { OnOk result (vec_len facets.new + 2 * count ≤ vec_capacity facets.new + vec_len free.new) }
+    ensures small { OnOk result (3 * (vec_len facets.new + (2 * count - vec_len free.new)) < 2 ^ 32) }
+{
+    scratch.horizon.clear();
+    scratch.made.clear();
+    let Some(most) = count.checked_mul(3) else {
+        return Err(AllocError);
+    };
+    let spare = (2 * count).saturating_sub(free.len());
+    if !are_numbered(facets.len(), spare) {
+        return Err(AllocError);
+    }
+    if scratch.slots.len() < points {
+        let empty = Slot {
+            starting: 0,
+            ending: 0,
+        };
+        scratch.slots.resize(points, empty)?;
+    }
+    scratch.horizon.reserve(most)?;
+    free.reserve(count)?;
+    facets.reserve(spare)?;
+    scratch.made.reserve(most)?;
+    Ok(())
+}
