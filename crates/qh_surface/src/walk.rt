@@ -7,10 +7,57 @@ ghost use Rattle.std.specs.Prelude.{◌≡◌, ◌≤◌, ◌<◌, ◌+◌, ◌�
 ghost use Rattle.qh_model.specs.contract.StoredSurface.{StoredFacet, surface_of};
 ghost use Rattle.qh_mesh.specs.contract.Edges.{edge_end, edge_start, facet_of, nth_side, twin_of};
 ghost use Rattle.qh_mesh.specs.contract.Replacement.{IsLive};
-ghost use Rattle.qh_surface.specs.contract.Walks.{mark_at, IsMet, IsCrossed, IsFurther, IsWalk, IsWalkFrom};
+ghost use Rattle.qh_surface.specs.contract.Walks.{is_set, mark_at, IsMet, IsCrossed, IsFurther, IsWalk, IsWalkFrom};
 
 use qh_mesh::{EdgeNo, FacetNo, Mesh};
 use std::alloc::AllocError;
+
+/// The mark of a facet, which keeps a walk from finding it twice.
+#[derive(Clone, Copy)]
+pub enum Mark {
+    /// No walk has found the facet yet.
+    Unset,
+    /// A walk has found it.
+    Set,
+}
+
+impl Mark {
+    /// Returns the mark at a place.
+    fn at(marks: &[bool], place: usize) -> Mark
+        requires { place < length marks.now }
+        ensures { is_set result ≡ mark_at marks.now place }
+    {
+        if marks[place] { Mark::Set } else { Mark::Unset }
+    }
+
+    /// Returns true if it is set.
+    pub fn is_set(self) -> bool
+        ensures { result ≡ is_set self }
+    {
+        match self {
+            Mark::Unset => false,
+            Mark::Set => true,
+        }
+    }
+}
+
+/// A side of a facet.
+#[derive(Clone, Copy)]
+struct Side {
+    facet: FacetNo,
+    /// Which of its sides it is: 0, 1 or 2.
+    number: usize,
+}
+
+impl Side {
+    /// Returns the side of a facet with this number.
+    fn new(facet: FacetNo, number: usize) -> Side
+        ensures facet { result.facet ≡ facet }
+        ensures number { result.number ≡ number }
+    {
+        Side { facet, number }
+    }
+}
 
 /// What a walk asks of the next facet.
 pub trait FacetPredicate {
@@ -31,15 +78,15 @@ pub trait FacetPredicate {
 
     /// Returns true if a walk enters the facet of an edge: it has no mark yet and passes. A test that
     /// costs little is asked in any case, since which facets have marks can't be foreseen.
-    fn enters(&self, mesh: &Mesh, edge: EdgeNo, is_marked: bool) -> bool
+    fn enters(&self, mesh: &Mesh, edge: EdgeNo, mark: Mark) -> bool
         requires fits { Self.Fits self.now mesh.now }
         requires live { IsLive mesh.now (facet_of edge) }
         requires over { Self.Passes self.now mesh.now (facet_of (twin_of mesh.now edge)) }
         requires starts { edge_start mesh.now edge ≡ edge_end mesh.now (twin_of mesh.now edge) }
         requires ends { edge_end mesh.now edge ≡ edge_start mesh.now (twin_of mesh.now edge) }
-        ensures { IsTrue result ↔ ((is_marked ≡ false) × Self.Passes self.now mesh.now (facet_of edge)) }
+        ensures { IsTrue result ↔ ((is_set mark ≡ false) × Self.Passes self.now mesh.now (facet_of edge)) }
     {
-        !is_marked && self.passes(mesh, edge)
+        !mark.is_set() && self.passes(mesh, edge)
     }
 }
 
@@ -48,30 +95,28 @@ pub trait FacetPredicate {
 fn cross<T: FacetPredicate>(
     mesh: &Mesh,
     test: &T,
-    f: FacetNo,
-    side: usize,
+    side: Side,
     marks: &mut [bool],
     found: &mut Vec<FacetNo>,
 )
     requires fits { T.Fits test.now mesh.now }
-    requires live { IsLive mesh.now f }
-    requires side { side < 3 }
-    requires passes { T.Passes test.now mesh.now f }
+    requires live { IsLive mesh.now side.facet }
+    requires side { side.number < 3 }
+    requires passes { T.Passes test.now mesh.now side.facet }
     requires marks { length mesh.now ≤ length marks.old }
     requires room { vec_len found.old < vec_capacity found.old }
     requires walk { IsWalk (T.Passes test.now mesh.now) mesh.now marks.old found.old.items }
     ensures walk { IsWalk (T.Passes test.now mesh.now) mesh.now marks.new found.new.items }
     ensures further { IsFurther marks.old marks.new found.old.items found.new.items }
-    ensures crossed { IsMet (T.Passes test.now mesh.now) marks.new ((surface_of mesh.now).over f (nth_side side)) }
+    ensures crossed { IsMet (T.Passes test.now mesh.now) marks.new ((surface_of mesh.now).over side.facet (nth_side side.number)) }
     ensures len { vec_len found.new ≤ vec_len found.old + 1 }
     ensures capacity { vec_capacity found.new ≡ vec_capacity found.old }
 {
-    let twin = mesh.across(f, side);
+    let twin = mesh.across(side.facet, side.number);
     let neighbour = mesh.facet_of(twin);
     let place = neighbour.index();
-    let is_marked = marks[place];
-    let is_entered = test.enters(mesh, twin, is_marked);
-    marks[place] = is_marked | is_entered;
+    let is_entered = test.enters(mesh, twin, Mark::at(marks, place));
+    marks[place] |= is_entered;
     found.push_reserved(neighbour);
     if !is_entered {
         let _ = found.take_last();
@@ -96,9 +141,9 @@ fn cross_all<T: FacetPredicate>(
     ensures crossed { OnOk result (IsCrossed (T.Passes test.now mesh.now) mesh.now marks.new f) }
 {
     found.reserve(3)?;
-    cross(mesh, test, f, 0, marks, found);
-    cross(mesh, test, f, 1, marks, found);
-    cross(mesh, test, f, 2, marks, found);
+    cross(mesh, test, Side::new(f, 0), marks, found);
+    cross(mesh, test, Side::new(f, 1), marks, found);
+    cross(mesh, test, Side::new(f, 2), marks, found);
     Ok(())
 }
 

@@ -5,6 +5,13 @@ use Rattle.qh_model.specs.headline.Sets.{In}
 use Rattle.qh_model.specs.contract.StoredSurface.{StoredFacet, surface_of}
 use Rattle.qh_model.specs.contract.Surface.{Side}
 use Rattle.qh_mesh.specs.contract.Replacement.{AreFacets}
+use Rattle.qh_surface.specs.declared.walk.Mark.{Mark}
+use Rattle.qh_surface.specs.declared.walk.Mark.TheVariants as marks
+
+-- is the mark set?
+abbrev pub is_set : Mark → Bool
+is_set marks.Unset = false
+is_set marks.Set = true
 
 -- the mark of place f; past the end there is none
 abbrev pub mark_at : List Bool → ℕ → Bool

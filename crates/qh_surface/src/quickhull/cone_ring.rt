@@ -95,25 +95,25 @@ fn first_facet(pts: &[Point], mesh: &Mesh, planes: &[Plane], made: &[FacetNo]) -
     before.facet
 }
 
-/// Lists `count` wedges from a facet on, each after its neighbour.
+/// Lists the wedges of the facets that were made, each after its neighbour, from one on where the cone is
+/// strictly convex.
 fn go_round(
     wedges: &mut Vec<Wedge>,
     pts: &[Point],
     mesh: &Mesh,
     planes: &[Plane],
     made: &[FacetNo],
-    first: FacetNo,
 ) -> Result<(), AllocError>
+    requires some { 0 < length made.now }
     requires live { All (IsLive mesh.now) made.now }
     requires corners { AreCornersBelow (length pts.now) mesh.now }
     requires below { HasNoCornerAbove pts.now mesh.now }
     requires planes { All (IsPlaneOf pts.now mesh.now planes.now) made.now }
     requires fan { IsFan mesh.now made.now }
-    requires first { In first made.now }
     requires empty { wedges.old.items ≡ [] }
     ensures { OnOk result (AreWedges planes.now made.now (apex_of pts.now mesh.now made.now) wedges.new.items) }
 {
-    let mut facet = first;
+    let mut facet = first_facet(pts, mesh, planes, made);
     for _ in 0..made.len() {
         wedges.push(wedge_of(pts, mesh, planes, facet))?;
         facet = next_facet(mesh, facet);
@@ -175,8 +175,7 @@ impl ConeRing {
         if made.len() > SCANNED {
             let [_, _, apex] = mesh.facet(made[0]);
             self.apex = point_at(pts, apex);
-            let first = first_facet(pts, mesh, planes, made);
-            go_round(&mut self.wedges, pts, mesh, planes, made, first)?;
+            go_round(&mut self.wedges, pts, mesh, planes, made)?;
             self.opposite = opposite_of(self.wedges.as_slice());
         }
         Ok(())

@@ -30,12 +30,13 @@ struct Ends {
 }
 
 impl Ends {
-    /// Returns the ends with a position put in front. The caller says whether there was none.
-    fn with_front(self, position: u32, is_empty: bool) -> Ends
+    /// Returns the ends with a position put in front. In an empty set the first is not below `positions`.
+    fn with_front(self, position: u32, positions: usize) -> Ends
         ensures first { result.first ≡ position }
-        ensures only { is_empty ≡ true → result.last ≡ position }
-        ensures last { is_empty ≡ false → result.last ≡ self.last }
+        ensures only { positions ≤ self.first → result.last ≡ position }
+        ensures last { self.first < positions → result.last ≡ self.last }
     {
+        let is_empty = self.first as usize >= positions;
         Ends {
             first: position,
             last: if is_empty { position } else { self.last },
@@ -189,26 +190,8 @@ impl OutsideSets {
         self.orphan = self.links[self.orphan as usize];
     }
 
-    /// Puts the first orphan into the outside set of a facet: in front of it, or after its first, as the
-    /// caller says; in front where the set was empty.
-    pub fn assign_orphan(&mut self, facet: FacetNo, in_front: bool)
-        requires some { 0 < length self.old.orphans }
-        requires place { facet < length self.old.sets }
-        ensures orphans { self.new.orphans ≡ drop 1 self.old.orphans }
-        ensures sets { self.new.sets
-            ≡ slice_set self.old.sets facet (joined in_front (slice_index self.old.orphans 0) (set_of self.old facet)) }
-        ensures positions { self.new.positions ≡ self.old.positions }
-        ensures listed { listed self.new ≡ listed self.old }
-    {
-        if in_front || self.first(facet).is_none() {
-            self.put_in_front(facet);
-        } else {
-            self.put_second(facet);
-        }
-    }
-
     /// Puts the first orphan in front of the outside set of a facet.
-    fn put_in_front(&mut self, facet: FacetNo)
+    pub fn assign_in_front(&mut self, facet: FacetNo)
         requires some { 0 < length self.old.orphans }
         requires place { facet < length self.old.sets }
         ensures orphans { self.new.orphans ≡ drop 1 self.old.orphans }
@@ -220,10 +203,27 @@ impl OutsideSets {
         let orphan = self.orphan;
         let place = facet.index();
         let ends = self.ends[place];
-        let is_empty = ends.first as usize >= self.links.len();
-        self.ends[place] = ends.with_front(orphan, is_empty);
+        self.ends[place] = ends.with_front(orphan, self.links.len());
         self.orphan = self.links[orphan as usize];
         self.links[orphan as usize] = ends.first;
+    }
+
+    /// Puts the first orphan after the first position of the outside set of a facet, if it has one, and
+    /// else in front.
+    pub fn assign_second(&mut self, facet: FacetNo)
+        requires some { 0 < length self.old.orphans }
+        requires place { facet < length self.old.sets }
+        ensures orphans { self.new.orphans ≡ drop 1 self.old.orphans }
+        ensures sets { self.new.sets
+            ≡ slice_set self.old.sets facet (joined false (slice_index self.old.orphans 0) (set_of self.old facet)) }
+        ensures positions { self.new.positions ≡ self.old.positions }
+        ensures listed { listed self.new ≡ listed self.old }
+    {
+        if self.first(facet).is_none() {
+            self.assign_in_front(facet);
+        } else {
+            self.put_second(facet);
+        }
     }
 
     /// Puts the first orphan after the first position of the outside set of a facet, which has one.

@@ -107,23 +107,35 @@ fn is_above_first(
     }
 }
 
+/// The cone over a horizon, among whose facets orphans are settled.
+#[derive(Clone, Copy, Drop)]
+struct Cone<'a> {
+    /// The points, by position.
+    points: &'a [Point],
+    /// The planes of the facets, by place.
+    planes: &'a [Plane],
+    /// The facets of the cone.
+    made: &'a [FacetNo],
+    /// Their ring, if they are many.
+    ring: &'a ConeRing,
+}
+
 /// Returns true if no point that came to the facet is further above it than this one. Of the facets looked
 /// at one by one the greatest heights are kept, so that the height of a set's first point is not worked out
 /// again.
 fn is_furthest(
     greatest: &mut [i128; SCANNED],
     sets: &OutsideSets,
-    planes: &[Plane],
-    points: &[Point],
+    cone: &Cone<'_>,
     below: &Below,
     point: Point,
 ) -> bool
-    requires plane { below.now.facet < length planes.now }
+    requires plane { below.now.facet < length cone.now.planes.now }
     requires place { below.now.facet < length sets.now.sets }
-    requires points { sets.now.positions ≡ length points.now }
+    requires points { sets.now.positions ≡ length cone.now.points.now }
 {
     let Some(height) = greatest.get_mut(below.at) else {
-        return is_above_first(sets, planes, points, below.facet, point);
+        return is_above_first(sets, cone.planes, cone.points, below.facet, point);
     };
     let is_above = below.height > *height;
     *height = below.height.max(*height);
@@ -135,29 +147,29 @@ fn is_furthest(
 /// `greatest` has the height of the first point of each facet looked at one by one.
 fn settle_orphan(
     sets: &mut OutsideSets,
-    planes: &[Plane],
-    points: &[Point],
-    ring: &ConeRing,
-    made: &[FacetNo],
+    cone: &Cone<'_>,
     greatest: &mut [i128; SCANNED],
     orphan: u32,
 )
-    requires points { sets.old.positions ≡ length points.now }
-    requires planes { All (λ f. f < length planes.now) made.now }
-    requires places { All (λ f. f < length sets.old.sets) made.now }
+    requires points { sets.old.positions ≡ length cone.now.points.now }
+    requires planes { All (λ f. f < length cone.now.planes.now) cone.now.made.now }
+    requires places { All (λ f. f < length sets.old.sets) cone.now.made.now }
     requires orphan { sets.old.orphans ≡ orphan ∷ drop 1 sets.old.orphans }
     requires position { orphan < sets.old.positions }
-    requires ring { AreWedges planes.now made.now ring.now.apex ring.now.wedges.items }
-    ensures settled { IsOneSettled planes.now points.now made.now sets.old sets.new }
+    requires ring { AreWedges cone.now.planes.now cone.now.made.now cone.now.ring.now.apex cone.now.ring.now.wedges.items }
+    ensures settled { IsOneSettled cone.now.planes.now cone.now.points.now cone.now.made.now sets.old sets.new }
     ensures places { length sets.new.sets ≡ length sets.old.sets }
     ensures positions { sets.new.positions ≡ sets.old.positions }
     ensures listed { listed sets.new ≤ listed sets.old }
 {
-    let point = points[orphan as usize];
-    match one_below(planes, ring, made, point) {
+    let point = cone.points[orphan as usize];
+    match one_below(cone.planes, cone.ring, cone.made, point) {
         Some(below) => {
-            let in_front = is_furthest(greatest, sets, planes, points, &below, point);
-            sets.assign_orphan(below.facet, in_front);
+            if is_furthest(greatest, sets, cone, &below, point) {
+                sets.assign_in_front(below.facet);
+            } else {
+                sets.assign_second(below.facet);
+            }
         }
         None => sets.drop_orphan(),
     }
@@ -182,8 +194,14 @@ pub fn settle_orphans(
     ensures positions { sets.new.positions ≡ sets.old.positions }
     ensures listed { listed sets.new ≤ listed sets.old }
 {
+    let cone = Cone {
+        points,
+        planes,
+        made,
+        ring,
+    };
     let mut greatest = [0; SCANNED];
     while let Some(orphan) = sets.first_orphan() {
-        settle_orphan(sets, planes, points, ring, made, &mut greatest, orphan);
+        settle_orphan(sets, &cone, &mut greatest, orphan);
     }
 }

@@ -9,7 +9,7 @@ ghost use Rattle.qh_pred.specs.contract.Planes.{height};
 ghost use Rattle.qh_surface.specs.steps.Planes.{plane_at, ArePlanes};
 ghost use Rattle.qh_surface.specs.contract.Walks.{IsMarked, mark_at};
 
-use crate::walk::{FacetPredicate, walk};
+use crate::walk::{FacetPredicate, Mark, walk};
 use qh_mesh::{EdgeNo, FacetNo, Mesh};
 use qh_model::{Memory, Point};
 use qh_pred::Plane;
@@ -33,8 +33,8 @@ impl FacetPredicate for Sees<'_> {
     }
 
     // Without a branch on the mark.
-    fn enters(&self, mesh: &Mesh, edge: EdgeNo, is_marked: bool) -> bool {
-        !is_marked & self.passes(mesh, edge)
+    fn enters(&self, mesh: &Mesh, edge: EdgeNo, mark: Mark) -> bool {
+        !mark.is_set() & self.passes(mesh, edge)
     }
 }
 

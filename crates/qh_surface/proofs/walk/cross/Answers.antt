@@ -20,20 +20,20 @@ module _ (g : Over) (c : After-push_reserved g) where
   at : place ≡ facet_of c.across-twin.result
   at = c.index-place.ensures ∙ c.facet_of-neighbour.ensures
 
-  over : (surface_of c.args.mesh.now).over c.args.f (nth_side c.args.side) ≡ facet_of c.across-twin.result
-  over = over-twin c.args.mesh.now c.args.f (nth_side c.args.side) ∙ ap facet_of (sym c.across-twin.ensures.twin)
+  over : (surface_of c.args.mesh.now).over c.args.side.facet (nth_side c.args.side.number) ≡ facet_of c.across-twin.result
+  over = over-twin c.args.mesh.now c.args.side.facet (nth_side c.args.side.number) ∙ ap facet_of (sym c.across-twin.ensures.twin)
 
   within : place < length c.args.marks.now
   within = let b = live_below c.args.mesh.now (facet_of c.across-twin.result) c.across-twin.ensures.live in
       let r = c.requires.marks in let e = at in omega (arith, b, r, e)
 
   crossed : IsMet P (set c.args.marks.now place (mark_at c.args.marks.now place || c.enters-is_entered.result))
-      ((surface_of c.args.mesh.now).over c.args.f (nth_side c.args.side))
+      ((surface_of c.args.mesh.now).over c.args.side.facet (nth_side c.args.side.number))
   crossed = subst (IsMet P (set c.args.marks.now place (mark_at c.args.marks.now place || c.enters-is_entered.result)))
       (at ∙ sym over)
       (met (P place) c.args.marks.now place c.enters-is_entered.result within
       (subst (λ f. IsTrue c.enters-is_entered.result ↔ ((mark_at c.args.marks.now place ≡ false) × P f)) (sym at)
-      c.enters-is_entered.ensures))
+      (rw c.at.ensures at c.enters-is_entered.ensures)))
 
 pub returns-then-not-is_entered-clause-crossed : goal.returns-then-not-is_entered-clause-crossed
 returns-then-not-is_entered-clause-crossed g c = crossed g c.before.before.before
@@ -43,7 +43,7 @@ returns-else-not-is_entered-clause-crossed g c = crossed g c.before
 
 pub returns-else-not-is_entered-clause-walk : goal.returns-else-not-is_entered-clause-walk
 returns-else-not-is_entered-clause-walk g c =
-    let is = c.if-not-is_entered.false in let e = c.enters-is_entered.ensures.0 is in
+    let is = c.if-not-is_entered.false in let e = (rw c.at.ensures at c.enters-is_entered.ensures.0) is in
     rw (e.0, is, c.push_reserved.ensures.items, c.index-place.ensures, c.facet_of-neighbour.ensures)
     (joined (g.T.FacetPredicate.Passes c.args.test.now c.args.mesh.now) c.args.mesh.now c.args.marks.now c.args.found.now.items
     (facet_of c.across-twin.result) c.requires.walk c.requires.marks c.across-twin.ensures.live
@@ -51,7 +51,7 @@ returns-else-not-is_entered-clause-walk g c =
 
 pub returns-else-not-is_entered-clause-further : goal.returns-else-not-is_entered-clause-further
 returns-else-not-is_entered-clause-further g c =
-    let is = c.if-not-is_entered.false in let e = c.enters-is_entered.ensures.0 is in
+    let is = c.if-not-is_entered.false in let e = (rw c.at.ensures at c.enters-is_entered.ensures.0) is in
     rw (e.0, is, c.push_reserved.ensures.items, c.index-place.ensures, c.facet_of-neighbour.ensures)
     (joined_further (g.T.FacetPredicate.Passes c.args.test.now c.args.mesh.now) c.args.mesh.now c.args.marks.now c.args.found.now.items
     (facet_of c.across-twin.result) c.requires.walk c.requires.marks c.across-twin.ensures.live

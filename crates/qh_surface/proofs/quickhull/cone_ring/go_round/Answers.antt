@@ -1,10 +1,15 @@
 -- One wedge of the ring more.
-use Rattle.std.proofs.Common.{sym, subst}
+use Rattle.std.proofs.Common.{sym, subst, ◌<◌, length}
+use Rattle.std.proofs.lemmas.List.Elements.{All-weaker}
 use Rattle.qh_model.proofs.Members.{All-In}
 use Rattle.qh_mesh.specs.contract.Replacement.{IsLive}
 use Rattle.qh_surface.specs.steps.{Runs.IsPlaneOf, Cones.IsWedge, Cones.apex_of}
 use Rattle.qh_surface.proofs.runs.ConeRings.{fan_next, read_wedge, each_more}
 use Rattle.qh_surface.proofs.quickhull.cone_ring.go_round.Goals as goal
+
+pub first_facet-facet-requires-clause-planes : goal.first_facet-facet-requires-clause-planes
+first_facet-facet-requires-clause-planes c =
+    All-weaker (IsPlaneOf _ _ _) (λ f. f < length c.args.planes.now) (λ f h. h.0) c.args.made.now c.requires.planes
 
 pub wedge_of-requires-clause-plane : goal.wedge_of-requires-clause-plane
 wedge_of-requires-clause-plane c =

@@ -1,8 +1,7 @@
 -- The first orphan goes in front of a set.
-use Rattle.std.proofs.Common.{length-drop, length-set, arith, le-leb}
-use Rattle.std.proofs.lemmas.Bool.{lt-leb}
+use Rattle.std.proofs.Common.{length-drop, length-set, arith}
 use Rattle.qh_surface.proofs.outside_sets.Steps.{kept_some, answered, put_front}
-use Rattle.qh_surface.proofs.quickhull.outside_sets.OutsideSets.put_in_front.Goals as goal
+use Rattle.qh_surface.proofs.quickhull.outside_sets.OutsideSets.assign_in_front.Goals as goal
 
 pub invariant_of-self : goal.invariant_of-self
 invariant_of-self c =
@@ -10,7 +9,7 @@ invariant_of-self c =
     let k = kept_some c.self.invariant c.self.view_is c.requires.some in
     let place = rw (← c.index-place.ensures) at c.requires.place in
     let p = put_front k c.index.ensures place c.index-ends.ensures c.with_front.result w.first in
-    (_, _, p (λ h. w.only (le-leb _ _ (omega arith))) (λ h. w.last (lt-leb _ _ (omega arith))))
+    (_, _, p (λ h. w.only (omega arith)) (λ h. w.last (omega arith)))
 
 pub returns : goal.returns
 unfolding invariant_of-self
