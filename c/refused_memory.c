@@ -106,7 +106,7 @@ static bool has_parts_of(size_t set, const struct buffers *other) {
            memcmp(now.corners + 6 * from + 4 * set, other->corners + 6 * from + 4 * set, (6 * size + 4) * sizeof *now.corners) == 0;
 }
 
-/* Whether a set is told what is right, or that memory was refused, which is counted. */
+/* Whether a set is told what is right, or that an allocation failed, which is counted. */
 static bool set_is_right(size_t set, long *memory) {
     const qconvex_answer *told = &now.answers[set], *wanted = &right.answers[set];
     if (told->code != QCONVEX_MEMORY)

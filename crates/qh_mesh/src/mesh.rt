@@ -51,7 +51,7 @@ impl Model for Mesh {
 impl Mesh {
     /// Returns the four triangles of the points a, b, c and d, turned outward.
     ///
-    /// `Err` says that memory was refused.
+    /// `Err` says that an allocation failed.
     #[tactic(auto, using(crate::proofs::SoundMeshes::simplex_rules))]
     pub fn simplex(alloc: Global, pts: &[Point], a: Id, b: Id, c: Id, d: Id) -> Result<Mesh, Memory>
         requires a_in { a < length pts.now }
@@ -205,7 +205,7 @@ impl Mesh {
     /// listed in the order of the horizon: the visible facets as listed, of each the sides 0, 1 and 2
     /// across which a facet stays.
     ///
-    /// `Err` says that memory was refused, or that half-edges would have numbers past 32 bits: the mesh is
+    /// `Err` says that an allocation failed, or that half-edges would have numbers past 32 bits: the mesh is
     /// as before.
     pub fn replace(
         &mut self,

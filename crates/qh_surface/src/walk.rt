@@ -151,7 +151,7 @@ fn cross_all<T: FacetPredicate>(
 /// hang together with it over twins. Marked facets are not entered. The list is cleared before. There is a
 /// mark for each place of the mesh.
 ///
-/// `Err` says that memory was refused: what is listed and marked then is not said.
+/// `Err` says that an allocation failed: what is listed and marked then is not said.
 pub fn walk<T: FacetPredicate>(
     mesh: &Mesh,
     test: &T,

@@ -146,7 +146,7 @@ impl ConeRing {
 
     /// Reserves memory for `wedges` wedges; nothing else changes.
     ///
-    /// `Err` says that memory was refused.
+    /// `Err` says that an allocation failed.
     pub fn reserve(&mut self, wedges: usize) -> Result<(), Memory>
         ensures { self.new.wedges.items ≡ self.old.wedges.items }
     {
@@ -156,7 +156,7 @@ impl ConeRing {
 
     /// Takes the facets that were made, if they are more than [`SCANNED`], and else none.
     ///
-    /// `Err` says that memory was refused.
+    /// `Err` says that an allocation failed.
     pub fn take(
         &mut self,
         pts: &[Point],

@@ -1,9 +1,9 @@
-//! A first simplex whose corners are far apart.
+//! A initial simplex whose corners are far apart.
 //!
 //! The larger the simplex that a run begins with, the more points lie inside it and are never asked
 //! again. No answer depends on which simplex it is.
 //!
-//! Source: Barber, Dobkin and Huhdanpaa 1996 (the first simplex has points with the least and the
+//! Source: Barber, Dobkin and Huhdanpaa 1996 (the initial simplex has points with the least and the
 //! greatest coordinates).
 ghost use Rattle.std.specs.Prelude.{◌≡◌, ◌≢◌, ◌<◌, pos, length};
 ghost use Rattle.std.specs.List.{All};
@@ -19,7 +19,7 @@ use qh_pred::{Plane, cross, point_at, vol};
 /// large set lie as far apart.
 const LOOKED_AT: usize = 1_024;
 
-/// Four ids, or four positions of them, whose points are not in one plane: the corners of a first simplex.
+/// Four ids, or four positions of them, whose points are not in one plane: the corners of an initial simplex.
 #[derive(Clone, Copy, Drop)]
 pub struct Simplex {
     pub i: Id,

@@ -98,7 +98,7 @@ fn rising_links(alloc: Global, positions: u32) -> Result<Vec<u32>, AllocError>
 impl OutsideSets {
     /// Creates the sets of a run: all positions are orphans, in rising order, and there is no facet.
     ///
-    /// `Err` says that memory was refused.
+    /// `Err` says that an allocation failed.
     pub fn new(alloc: Global, positions: u32) -> Result<OutsideSets, Memory>
         ensures positions { IfOk result (λ s. s.positions ≡ positions) }
         ensures orphans { IfOk result (λ s. s.orphans ≡ range_with_len 0 positions) }
@@ -122,7 +122,7 @@ impl OutsideSets {
 
     /// Reserves memory for the sets of more facets; nothing else changes.
     ///
-    /// `Err` says that memory was refused.
+    /// `Err` says that an allocation failed.
     pub fn reserve(&mut self, facets: usize) -> Result<(), Memory>
         ensures { self.new ≡ self.old }
     {
@@ -133,7 +133,7 @@ impl OutsideSets {
     /// Makes sure that the facets below `places` have sets: the new ones are empty, the old ones
     /// and the orphans as they were.
     ///
-    /// `Err` says that memory was refused: everything is as before.
+    /// `Err` says that an allocation failed: everything is as before.
     pub fn make_room(&mut self, places: usize) -> Result<(), Memory>
         ensures sets { OnOk result (self.new.sets ≡ self.old.sets ++ replicate (places - length self.old.sets) []) }
         ensures places { OnOk result (places ≤ length self.new.sets) }

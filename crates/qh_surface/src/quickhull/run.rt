@@ -93,10 +93,10 @@ fn make_ready(
 }
 
 impl Run {
-    /// Returns a run over points that has the four facets of a first simplex, four positions of
+    /// Returns a run over points that has the four facets of an initial simplex, four positions of
     /// them.
     ///
-    /// `Err` says that memory was refused, or that there are too many points for their numbers.
+    /// `Err` says that an allocation failed, or that there are too many points for their numbers.
     pub fn start(alloc: Global, points: Vec<Point>, first: Simplex) -> Result<Run, Memory>
         requires { IsSimplexIn points.items first }
         ensures points { IfOk result (λ r. r.points.items ≡ points.items) }

@@ -61,7 +61,7 @@ fn position_of(ids: &[Id], id: Id) -> Result<Id, Memory>
     }
 }
 
-/// Returns the positions of a first simplex in a list that has its corners.
+/// Returns the positions of an initial simplex in a list that has its corners.
 fn positions_of(ids: &[Id], first: Simplex) -> Result<Simplex, Memory>
     requires i { Members ids.now first.i }
     requires j { Members ids.now first.j }
@@ -97,7 +97,7 @@ pub(super) fn run_over(
     Ok(run)
 }
 
-/// Returns the surface of a set by a run over its ids as they come, from a first simplex, as [`surface_from`] makes
+/// Returns the surface of a set by a run over its ids as they come, from an initial simplex, as [`surface_from`] makes
 /// it. Near ids best stand near each other.
 ///
 /// # Errors
@@ -122,7 +122,7 @@ pub fn surface_along(
     })
 }
 
-/// Returns the surface of a set from a first simplex: four of its ids whose points are not in one plane. The corners
+/// Returns the surface of a set from an initial simplex: four of its ids whose points are not in one plane. The corners
 /// of its triangles are positions of the ids, in an order of its own.
 ///
 /// `ids` are indices of points, each once; where one stands twice, no more is said than that the corners are

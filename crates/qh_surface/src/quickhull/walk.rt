@@ -96,7 +96,7 @@ impl Walk {
     /// Finds the facets that a point, the apex, sees, from one of them. The planes are those of the
     /// facets, by place.
     ///
-    /// `Err` says that memory was refused: what is found then is not said.
+    /// `Err` says that an allocation failed: what is found then is not said.
     pub fn find(
         &mut self,
         mesh: &Mesh,

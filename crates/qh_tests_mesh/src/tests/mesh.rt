@@ -118,7 +118,7 @@ fn has_twins(mesh: &Mesh, f: FacetNo) -> bool {
     true
 }
 
-/// Returns the simplex of the first four points. `Err` says that memory was refused, or that they are in
+/// Returns the simplex of the first four points. `Err` says that an allocation failed, or that they are in
 /// one plane.
 fn first_simplex(alloc: Global, pts: &[Point]) -> Result<Mesh, Memory> {
     let (a, b, c, d) = (Id::new(0), Id::new(1), Id::new(2), Id::new(3));

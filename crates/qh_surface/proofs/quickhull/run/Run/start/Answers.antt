@@ -1,4 +1,4 @@
--- The first simplex, with all points orphans.
+-- The initial simplex, with all points orphans.
 use Rattle.std.proofs.Common.{ℕ, ◌∙◌, ap, sym, subst, List, []}
 use Rattle.std.specs.List.{range_with_len}
 use Rattle.qh_pred.specs.contract.Planes.{PlaneValue}
@@ -6,7 +6,7 @@ use Rattle.qh_surface.specs.steps.Runs.{IsRemade}
 use Rattle.qh_surface.proofs.runs.FirstSimplexes.{four_facets, IsFirst, first_remade}
 use Rattle.qh_surface.proofs.quickhull.run.Run.start.Goals as goal
 
--- the mesh is that of a first simplex of the points
+-- the mesh is that of an initial simplex of the points
 first : (c : goal.After-settle-arg-2-1)
     → IsFirst c.args.points.items c.in_ok-mesh.mesh c.args.first.i c.args.first.j c.args.first.k c.args.first.l
 first c = record {
