@@ -1,4 +1,4 @@
-//! A initial simplex whose corners are far apart.
+//! An initial simplex whose corners are far apart.
 //!
 //! The larger the simplex that a run begins with, the more points lie inside it and are never asked
 //! again. No answer depends on which simplex it is.
