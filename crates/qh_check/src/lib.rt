@@ -24,6 +24,7 @@ mod found_pieces;
 mod hull_faces;
 mod order;
 mod rounds;
+mod searchers;
 mod solids;
 mod surfaces;
 #[cfg(test)]
@@ -36,5 +37,5 @@ pub use closed::{Step, open_step, open_step_in_threads};
 pub use extent::Extent;
 pub use flaw::SurfaceVerdict;
 pub use order::out_of_order;
-pub use surfaces::check_surface;
+pub use surfaces::{check_surface, check_surface_alone};
 pub use verdict::{FaceFault, Verdict};

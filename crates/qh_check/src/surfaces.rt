@@ -19,9 +19,10 @@ use crate::claims::compare;
 use crate::closed::{open_step, repeated_step};
 use crate::extent::Extent;
 use crate::faces::PlacedSet;
-use crate::findings::{Asked, Finding, first_fault, first_fault_in_parts};
+use crate::findings::{Asked, Finding};
 use crate::flaw::SurfaceVerdict;
 use crate::found_pieces::are_pieces_of_hull;
+use crate::searchers::{Alone, InThreads, Searcher};
 use crate::verdict::Verdict;
 use qh_model::{Id, Memory, Point, Polygon};
 use qh_places::Places;
@@ -53,40 +54,17 @@ fn judged(
     }
 }
 
-/// Returns a polygon that is no piece of a face of the set, if there is one, by a number of threads; by none but the
-/// calling one where the number is 1.
-fn first_no_piece<R: Threads>(
-    rt: &R,
-    alloc: Global,
-    set: PlacedSet,
-    asked: Asked,
-    workers: usize,
-) -> Result<Option<Finding>, Memory>
-    requires { 0 < workers }
-    ensures { IfOk result (λ found. (ids : List ℕ) → ArePlaces set.entry.pts.now ids set.entry.places.now
-        → MatchOption found (All (IsFaceAmong set.entry.extent set.entry.pts.now ids asked.entry.polygons.now) asked.entry.order.now)
-        (IsFound set.entry.extent set.entry.pts.now ids asked.entry.polygons.now)) }
-{
-    if workers == 1 {
-        return first_fault(alloc, set, asked.polygons, asked.order);
-    }
-    let size = asked.order.len() / workers + 1;
-    first_fault_in_parts(rt, alloc, set, asked, size)
-}
-
 /// Checks polygons, one at least, of a solid set, by asking the plane of each.
-fn check_by_planes<R: Threads>(
-    rt: &R,
+fn check_by_planes<S: Searcher>(
+    searcher: &S,
     alloc: Global,
     pts: &[Point],
     ids: &[Id],
     polygons: &[Polygon],
-    workers: usize,
 ) -> Result<SurfaceVerdict, Memory>
     requires some { 0 < length ids.now }
     requires indices { AreIndices pts.now ids.now }
     requires claimed { 0 < length polygons.now }
-    requires workers { 0 < workers }
     ensures { IfOk result (λ v. IsIdSet pts.now ids.now → IsDimension (place pts.now) (Members ids.now) 3
         → IsSurfaceVerdictOf pts.now ids.now polygons.now v) }
 {
@@ -101,31 +79,29 @@ fn check_by_planes<R: Threads>(
         polygons,
         order: &order,
     };
-    let found = first_no_piece(rt, alloc, set, asked, workers)?;
+    let found = searcher.search(alloc, set, asked)?;
     judged(alloc, polygons, found)
 }
 
 /// Checks polygons, one at least, of a solid set. Most are right, and found in its hull: planes are asked
 /// only where one is not found there.
-fn check_solid_surface<R: Threads>(
-    rt: &R,
+fn check_solid_surface<S: Searcher>(
+    searcher: &S,
     alloc: Global,
     pts: &[Point],
     ids: &[Id],
     polygons: &[Polygon],
-    workers: usize,
 ) -> Result<SurfaceVerdict, Memory>
     requires some { 0 < length ids.now }
     requires indices { AreIndices pts.now ids.now }
     requires claimed { 0 < length polygons.now }
-    requires workers { 0 < workers }
     ensures { IfOk result (λ v. IsIdSet pts.now ids.now → IsDimension (place pts.now) (Members ids.now) 3
         → IsSurfaceVerdictOf pts.now ids.now polygons.now v) }
 {
     if are_pieces_of_hull(alloc, pts, ids, polygons)? {
         judged(alloc, polygons, None)
     } else {
-        check_by_planes(rt, alloc, pts, ids, polygons, workers)
+        check_by_planes(searcher, alloc, pts, ids, polygons)
     }
 }
 
@@ -144,6 +120,28 @@ fn compare_surface(
     match compare(alloc, pts, ids, polygons)? {
         Verdict::Right => Ok(SurfaceVerdict::Right),
         _ => Ok(SurfaceVerdict::OtherPolygons),
+    }
+}
+
+/// Checks whether polygons are the surface of the hull of a set, as [`check_surface`] does, by a way to search for
+/// one that is no piece of a face.
+fn check_surface_by<S: Searcher>(
+    searcher: &S,
+    alloc: Global,
+    pts: &[Point],
+    ids: &[Id],
+    polygons: &[Polygon],
+) -> Result<SurfaceVerdict, Memory>
+    requires some { 0 < length ids.now }
+    requires indices { AreIndices pts.now ids.now }
+    ensures { IfOk result (λ v. IsIdSet pts.now ids.now → IsSurfaceVerdictOf pts.now ids.now polygons.now v) }
+{
+    if polygons.is_empty() {
+        return Ok(SurfaceVerdict::OtherPolygons);
+    }
+    match rank(pts, ids) {
+        Shape::Solid(_, _, _, _) => check_solid_surface(searcher, alloc, pts, ids, polygons),
+        _ => compare_surface(alloc, pts, ids, polygons),
     }
 }
 
@@ -178,13 +176,31 @@ pub fn check_surface<R: Threads>(
     ensures reason { IfOk result (λ v. IsIdSet pts.now ids.now
         → IsSurfaceReason (place pts.now) (Members ids.now) polygons.now v) }
 {
-    if polygons.is_empty() {
-        return Ok(SurfaceVerdict::OtherPolygons);
-    }
-    match rank(pts, ids) {
-        Shape::Solid(_, _, _, _) => {
-            check_solid_surface(rt, alloc, pts, ids, polygons, workers.max(1))
-        }
-        _ => compare_surface(alloc, pts, ids, polygons),
-    }
+    let searcher = InThreads { rt, workers };
+    check_surface_by(&searcher, alloc, pts, ids, polygons)
+}
+
+/// Checks whether polygons are the surface of the hull of a set, as [`check_surface`] does, by the calling thread
+/// alone.
+///
+/// `ids` has at least one id, each the index of one of the points. That the ids rise and have distinct points
+/// (`IsIdSet`) is the caller's condition.
+///
+/// # Errors
+///
+/// `Memory` where an allocation failed.
+pub fn check_surface_alone(
+    alloc: Global,
+    pts: &[Point],
+    ids: &[Id],
+    polygons: &[Polygon],
+) -> Result<SurfaceVerdict, Memory>
+    requires some { 0 < length ids.now }
+    requires indices { AreIndices pts.now ids.now }
+    ensures right { IfOk result (λ v. IsIdSet pts.now ids.now
+        → (v ≡ Right) ↔ IsHullSurface (place pts.now) (Members ids.now) polygons.now) }
+    ensures reason { IfOk result (λ v. IsIdSet pts.now ids.now
+        → IsSurfaceReason (place pts.now) (Members ids.now) polygons.now v) }
+{
+    check_surface_by(&Alone, alloc, pts, ids, polygons)
 }

@@ -13,4 +13,4 @@ mod positions;
 mod tests;
 
 pub use judgement::Judgement;
-pub use judging::judge_faces;
+pub use judging::{judge_faces, judge_faces_alone};

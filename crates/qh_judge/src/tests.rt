@@ -1,5 +1,5 @@
 //! Worked rows: faces of a tetrahedron, and what is told of them.
-use crate::{Judgement, judge_faces};
+use crate::{Judgement, judge_faces, judge_faces_alone};
 use qh_check::SurfaceVerdict;
 use qh_model::{Id, Point, Polygon};
 use std::alloc::Global;
@@ -32,5 +32,7 @@ fn corners_may_be_named_by_a_later_index(rt: HostRuntime) -> Result<(), Fail> {
     let pts = corners();
     let told = judge_faces(&rt, rt.alloc(), &pts, &pts, &faces, 1)?;
     assert!(rt; told == Judgement::Told(SurfaceVerdict::Right));
+    let alone = judge_faces_alone(rt.alloc(), &pts, &pts, &faces)?;
+    assert!(rt; alone == told);
     Ok(())
 }

@@ -1,7 +1,7 @@
 //! Worked rows: surfaces of a cube in pieces, and what is wrong with others.
 use crate::found_pieces::are_pieces_of_hull;
 use crate::tests::{EIGHT, cube, ids_of, polygons_of};
-use crate::{FaceFault, SurfaceVerdict, check_surface};
+use crate::{FaceFault, SurfaceVerdict, check_surface, check_surface_alone};
 use qh_model::Memory;
 use std::alloc::Global;
 use std::test::Fail;
@@ -47,6 +47,32 @@ fn triangles_of_a_cube_are_right(rt: HostRuntime) -> Result<(), Fail> {
     assert!(rt;
         matches!(by_three, Some(SurfaceVerdict::Right)),
         "{by_three:?}"
+    );
+    Ok(())
+}
+
+/// Returns the verdict of the calling thread alone on polygons of the corners of a cube.
+fn verdict_alone(alloc: Global, faces: &[&[u32]]) -> Result<Option<SurfaceVerdict>, Memory> {
+    let pts = cube();
+    let ids = ids_of(alloc, &pts, &EIGHT)?;
+    if ids.is_empty() {
+        return Ok(None);
+    }
+    let polygons = polygons_of(alloc, faces)?;
+    Ok(Some(check_surface_alone(alloc, &pts, &ids, &polygons)?))
+}
+
+#[test]
+fn the_calling_thread_alone_tells_the_same(rt: HostRuntime) -> Result<(), Fail> {
+    let told = verdict_alone(rt.alloc(), &TRIANGLES)?;
+    assert!(rt; matches!(told, Some(SurfaceVerdict::Right)), "{told:?}");
+    let inward = verdict_alone(rt.alloc(), &[&[0, 6, 2]])?;
+    assert!(rt;
+        matches!(
+            inward,
+            Some(SurfaceVerdict::NoPiece(0, FaceFault::Above(_)))
+        ),
+        "{inward:?}"
     );
     Ok(())
 }

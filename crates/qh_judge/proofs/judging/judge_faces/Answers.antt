@@ -1,6 +1,6 @@
 -- The distinct ids are ids of distinct points, and of these the verdict on the polygons is so.
 use Rattle.qh_model.proofs.DistinctIds.{ids_within, some_id}
-use Rattle.qh_plane.proofs.DistinctLists.{id_set}
+use Rattle.qh_judge.proofs.Judgements.{told}
 use Rattle.qh_judge.proofs.judging.judge_faces.Goals as goal
 
 pub polygons_of-requires : goal.polygons_of-requires
@@ -16,14 +16,7 @@ check_surface-requires-clause-indices g c =
 
 pub returns-in-Ok : goal.returns-in-Ok
 returns-in-Ok g c =
-    let set = id_set c.args.pts.now c.in_ok-ids.ids.items c.in_ok-ids.ensures in
     let same = rw c.in-Ok.is at (rw c.deref.ensures.value at c.in_ok-polygons.ensures) in
-    let right = rw (c.deref-in-Ok.ensures.value, c.deref-in-Ok-2.ensures.value) at c.in_ok-verdict-in-Ok.ensures.right in
-    let reason = rw (c.deref-in-Ok.ensures.value, c.deref-in-Ok-2.ensures.value) at c.in_ok-verdict-in-Ok.ensures.reason in record {
-      ids = c.in_ok-ids.ids.items;
-      distinct = c.in_ok-ids.ensures;
-      polygons = c.in-Ok.polygons.items;
-      same = same;
-      right = right set;
-      reason = reason set;
-    }
+    told c.args.pts.now c.args.named.now c.args.faces.now c.in_ok-ids.ids.items c.in-Ok.polygons.items _ c.in_ok-ids.ensures same
+    (rw (c.deref-in-Ok.ensures.value, c.deref-in-Ok-2.ensures.value) at c.in_ok-verdict-in-Ok.ensures.right)
+    (rw (c.deref-in-Ok.ensures.value, c.deref-in-Ok-2.ensures.value) at c.in_ok-verdict-in-Ok.ensures.reason)

@@ -1,0 +1,58 @@
+//! Who searches for a polygon that is no face of a set: the calling thread alone, or threads side by side.
+ghost use Rattle.std.specs.Prelude.{ℕ, List, IfOk, MatchOption};
+ghost use Rattle.std.specs.List.{All};
+ghost use Rattle.qh_check.specs.steps.Findings.{IsFaceAmong, IsFound};
+ghost use Rattle.qh_places.specs.contract.Places.{ArePlaces};
+
+use crate::faces::PlacedSet;
+use crate::findings::{Asked, Finding, first_fault, first_fault_in_parts};
+use qh_model::Memory;
+use std::alloc::Global;
+use std::thread::Threads;
+
+/// A way to search for a polygon that is no face of a set.
+pub(crate) trait Searcher {
+    /// Returns a polygon that is no face of the set, if there is one among those that are asked.
+    fn search(&self, alloc: Global, set: PlacedSet, asked: Asked) -> Result<Option<Finding>, Memory>
+        ensures { IfOk result (λ found. (ids : List ℕ) → ArePlaces set.entry.pts.now ids set.entry.places.now
+            → MatchOption found (All (IsFaceAmong set.entry.extent set.entry.pts.now ids asked.entry.polygons.now) asked.entry.order.now)
+            (IsFound set.entry.extent set.entry.pts.now ids asked.entry.polygons.now)) };
+}
+
+/// The calling thread alone.
+#[derive(Clone, Copy, Debug)]
+pub(crate) struct Alone;
+
+impl Searcher for Alone {
+    fn search(
+        &self,
+        alloc: Global,
+        set: PlacedSet,
+        asked: Asked,
+    ) -> Result<Option<Finding>, Memory> {
+        first_fault(alloc, set, asked.polygons, asked.order)
+    }
+}
+
+/// A runtime and a number of its threads, each at a part of the polygons. No `workers` means one, and for one no
+/// thread is started.
+#[derive(Clone, Copy, Debug)]
+pub(crate) struct InThreads<'a, R> {
+    pub rt: &'a R,
+    pub workers: usize,
+}
+
+impl<R: Threads> Searcher for InThreads<'_, R> {
+    fn search(
+        &self,
+        alloc: Global,
+        set: PlacedSet,
+        asked: Asked,
+    ) -> Result<Option<Finding>, Memory> {
+        if self.workers < 2 {
+            return first_fault(alloc, set, asked.polygons, asked.order);
+        }
+        let size = asked.order.len() / self.workers + 1;
+        first_fault_in_parts(self.rt, alloc, set, asked, size)
+    }
+}
