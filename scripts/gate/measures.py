@@ -24,8 +24,8 @@ MOST_CHARACTERS = 160
 
 LIMITS = {
     "longest parameter list": 6,
-    "long parameter lists": 3,
-    "bare bools": 1,
+    "long parameter lists": 5,
+    "bare bools": 8,
     "long files": 11,
     "long lines": 12,
 }

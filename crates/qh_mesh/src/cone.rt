@@ -1,5 +1,5 @@
 //! The cone over a horizon, and how it is joined to the facets that stay.
-ghost use Rattle.std.specs.Prelude.{All, ◌≡◌, ◌≢◌, ◌+◌, ◌*◌, ◌/◌, ◌<◌, ◌^◌, ℕ, List, ◌++◌, length, slice_index, slice_set, IfSome};
+ghost use Rattle.std.specs.Prelude.{All, ◌≡◌, ◌≢◌, ◌+◌, ◌*◌, ◌/◌, ◌<◌, ◌^◌, ℕ, List, ◌++◌, length, true, slice_index, slice_set};
 ghost use Rattle.qh_model.specs.headline.Sets.{Once};
 ghost use Rattle.qh_model.specs.contract.StoredSurface.{facet_at};
 ghost use Rattle.qh_mesh.specs.contract.Edges.{edge_of, facet_of, nth_side, side_of_edge};
@@ -9,7 +9,7 @@ ghost use Rattle.qh_mesh.specs.steps.Cones.{Joined, Written};
 ghost use Rattle.qh_mesh.specs.steps.Places.{IsPool};
 
 use crate::facets::{EdgeNo, Facet, FacetNo, FacetSide};
-use crate::slots::{End, Slot, is_noted, mate};
+use crate::slots::{Slot, is_noted, mate};
 
 /// Puts another half-edge across a half-edge.
 fn set_twin(facets: &mut [Facet], e: EdgeNo, twin: u32)
@@ -29,43 +29,43 @@ fn edge_at(made: &[FacetNo], j: usize, side: usize) -> u32
     made[j].edge(side).number()
 }
 
-/// Gives each half-edge across the horizon its twin in the cone. Returns the table if it names each side
-/// at both of its corners, so that no two start and no two end at one.
+/// Returns each half-edge across the horizon gets its twin in the cone. Answers whether the table names
+/// each side at both of its corners, so that no two start and no two end at one.
 #[tactic(auto, using(crate::proofs::WrittenFacets::joined_more))]
-pub fn join_outer<'a>(
+pub fn join_outer(
     facets: &mut [Facet],
-    slots: &'a [Slot],
+    slots: &[Slot],
     horizon: &[FacetSide],
     made: &[FacetNo],
-) -> Option<&'a [Slot]>
+) -> bool
     requires len { length made.now ≡ length horizon.now }
     requires inside { (j : ℕ) → j < length horizon.now → facet_of (side_at horizon.now j).outer < length facets.old }
     requires apart { (i j : ℕ)
         → i < j → j < length horizon.now → (side_at horizon.now i).outer ≢ (side_at horizon.now j).outer }
     requires fits { All (λ f. 3 * f + 2 < 2 ^ 32) made.now }
     ensures joined { Joined facets.old facets.new horizon.now made.now (length horizon.now) }
-    ensures noted { IfSome result (λ t. AreNoted t.now horizon.now) }
+    ensures noted { result ≡ true → AreNoted slots.now horizon.now }
 {
     let mut are_noted = true;
     for j in 0..horizon.len() {
         let side = horizon[j];
-        are_noted &= is_noted(slots, side, End::Finish, j) & is_noted(slots, side, End::Start, j);
+        are_noted &= is_noted(slots, side, true, j) & is_noted(slots, side, false, j);
         set_twin(facets, side.across(), edge_at(made, j, 0));
     }
-    if are_noted { Some(slots) } else { None }
+    are_noted
 }
 
-/// Writes the facets of the cone, each beside those over the sides of the horizon that meet its own. A
-/// table, if there is one, names each side at both of its corners.
+/// Writes the facets of the cone, each beside those over the sides of the horizon that meet its own.
 pub fn write_cone(
     facets: &mut [Facet],
-    table: Option<&[Slot]>,
+    slots: &[Slot],
+    are_noted: bool,
     horizon: &[FacetSide],
     made: &[FacetNo],
     apex: u32,
 )
     requires balanced { IsBalanced horizon.now }
-    requires table { IfSome table (λ t. AreNoted t.now horizon.now) }
+    requires are_noted { are_noted ≡ true → AreNoted slots.now horizon.now }
     requires len { length made.now ≡ length horizon.now }
     requires inside { All (λ f. f < length facets.old) made.now }
     requires once { Once made.now }
@@ -75,10 +75,15 @@ pub fn write_cone(
 {
     for j in 0..made.len() {
         let side = horizon[j];
-        let next = mate(table, horizon, End::Finish, j);
-        let before = mate(table, horizon, End::Start, j);
-        let to_apex = edge_at(made, next, 2);
-        let from_apex = edge_at(made, before, 1);
-        facets[made[j].index()] = Facet::over(side, apex, to_apex, from_apex);
+        let next = mate(slots, are_noted, horizon, true, j);
+        let before = mate(slots, are_noted, horizon, false, j);
+        facets[made[j].index()] = Facet::new(
+            side.from,
+            side.to,
+            apex,
+            side.outer,
+            edge_at(made, next, 2),
+            edge_at(made, before, 1),
+        );
     }
 }

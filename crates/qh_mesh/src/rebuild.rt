@@ -39,8 +39,8 @@ fn close(facets: &mut [Facet], slots: &[Slot], horizon: &[FacetSide], made: &[Fa
     requires { IsReady facets.old horizon.now made.now }
     ensures { IsConed facets.old facets.new horizon.now made.now apex }
 {
-    let table = join_outer(facets, slots, horizon, made);
-    write_cone(facets, table, horizon, made, apex);
+    let are_noted = join_outer(facets, slots, horizon, made);
+    write_cone(facets, slots, are_noted, horizon, made, apex);
 }
 
 /// Takes the visible facets away, notes their horizon and allocates places for the cone over it.
