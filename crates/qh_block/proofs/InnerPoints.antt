@@ -115,22 +115,22 @@ inner_goes pts all ids kept rest x inner h = record {
 }
 
 -- all ids are kept where none was looked at
-pub all_kept : (pts : List Vector) (columns : Columns) (ids : List ℕ) → KeepsExtremes pts columns ids ids
-all_kept pts columns ids = record { each = λ all sub none. record { rising = λ r. r; within = λ i m. m; extremes = λ i m e. m } }
+pub all_kept : (pts : List Vector) (held : Vector → Type 0) (ids : List ℕ) → KeepsExtremes pts held ids ids
+all_kept pts held ids = record { each = λ all sub none. record { rising = λ r. r; within = λ i m. m; extremes = λ i m e. m } }
 
--- an id of the set whose point the columns hold goes
-pub held_goes : (pts : List Vector) (columns : Columns) (ids kept rest : List ℕ) (x : ℕ) → In x ids → HoldsPoint columns (place pts x)
-    → KeepsExtremes pts columns ids (kept ++ x ∷ rest) → KeepsExtremes pts columns ids (kept ++ rest)
-held_goes pts columns ids kept rest x member held h = record {
-  each = λ all sub none. inner_goes pts all ids kept rest x (none x (sub x member) held) (h.each all sub none);
+-- an id of the set whose point is held goes
+pub held_goes : (pts : List Vector) (held : Vector → Type 0) (ids kept rest : List ℕ) (x : ℕ) → In x ids → held (place pts x)
+    → KeepsExtremes pts held ids (kept ++ x ∷ rest) → KeepsExtremes pts held ids (kept ++ rest)
+held_goes pts held ids kept rest x member is_held h = record {
+  each = λ all sub none. inner_goes pts all ids kept rest x (none x (sub x member) is_held) (h.each all sub none);
 }
 
 -- what is kept of two parts is kept of both
-pub both_kept : (pts : List Vector) (columns : Columns) (front back one two : List ℕ) → KeepsExtremes pts columns front one
-    → KeepsExtremes pts columns back two → KeepsExtremes pts columns (front ++ back) (one ++ two)
-both_kept pts columns front back one two a b = record { each = each }
+pub both_kept : (pts : List Vector) (held : Vector → Type 0) (front back one two : List ℕ) → KeepsExtremes pts held front one
+    → KeepsExtremes pts held back two → KeepsExtremes pts held (front ++ back) (one ++ two)
+both_kept pts held front back one two a b = record { each = each }
   where
-    each : (all : List ℕ) → ((i : ℕ) → In i (front ++ back) → In i all) → HasNoExtreme pts all columns
+    each : (all : List ℕ) → ((i : ℕ) → In i (front ++ back) → In i all) → HasNoExtreme pts all held
         → IsKept pts all (front ++ back) (one ++ two)
     each all sub none =
         let p = a.each all (λ i m. sub i (in_append front back i (inl m))) none in
@@ -143,9 +143,9 @@ both_kept pts columns front back one two a b = record { each = each }
         }
 
 -- what is kept of all ids of a set is a part with all its extreme ids
-pub kept_part : (pts : List Vector) (columns : Columns) (ids kept : List ℕ) → HasNoExtreme pts ids columns → KeepsExtremes pts columns ids kept
+pub kept_part : (pts : List Vector) (held : Vector → Type 0) (ids kept : List ℕ) → HasNoExtreme pts ids held → KeepsExtremes pts held ids kept
     → IsOuterPart pts ids kept
-kept_part pts columns ids kept none h = let k = h.each ids (λ i m. m) none in record {
+kept_part pts held ids kept none h = let k = h.each ids (λ i m. m) none in record {
   rising = k.rising;
   extremes = record { within = k.within; extremes = λ i e. k.extremes i e.0 e };
 }

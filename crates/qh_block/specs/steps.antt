@@ -1,5 +1,6 @@
 -- What private functions speak of: nothing to believe.
 pub mod CoarsePlanes
+pub mod CornerBoxes
 pub mod FaceKeys
 pub mod Faces
 pub mod FlatBodies

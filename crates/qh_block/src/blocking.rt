@@ -69,6 +69,14 @@ pub(crate) fn round_of_all(count: usize) -> Round {
     }
 }
 
+/// One thread looks for the points in the corner box of a set of at least this many ids.
+///
+/// The box of fewer points holds few of them.
+pub(crate) const BOX_FROM: usize = 256;
+
+/// About this many ids, spread over the set, tell whether the corner box has most of its points.
+pub(crate) const BOX_SAMPLE: usize = 128;
+
 /// Threads share the filter's way over at least this many ids.
 pub(crate) const SHARED_FROM: usize = 16_384;
 

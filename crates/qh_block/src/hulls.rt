@@ -13,8 +13,8 @@ use crate::bodies::{flat_body, polygon_of};
 use crate::flat_sets::{polygon_hull, segment_hull};
 use crate::gathered::{ids_at, positions_below};
 use crate::id_set::IdSet;
-use crate::inner_points::cull_ids;
-use crate::inner_points::sieves::{Alone, InThreads};
+use crate::inner_points::sieves::InThreads;
+use crate::inner_points::{cull_alone, cull_ids};
 use crate::solids::{solid_body, solid_extremes, solid_mesh};
 use qh_model::{Body, Id, Memory, Point};
 use qh_plane::{Shape, rank};
@@ -126,7 +126,7 @@ pub fn extremes(alloc: Global, pts: &[Point], ids: &[Id]) -> Result<Vec<Id>, Mem
     ensures { IfOk result (λ v. IsIdSet pts.now ids.now → AreExtremes (place pts.now) (Members ids.now) v.items) }
 {
     let set = IdSet { pts, ids };
-    match cull_ids(&Alone, alloc, set)? {
+    match cull_alone(alloc, set)? {
         Some(outer) => extremes_of_all(alloc, IdSet { pts, ids: &outer }),
         None => extremes_of_all(alloc, set),
     }
@@ -152,7 +152,7 @@ pub fn hull(alloc: Global, pts: &[Point], ids: &[Id]) -> Result<Body, Memory>
     ensures { IfOk result (λ b. IsIdSet pts.now ids.now → IsBody (place pts.now) (Members ids.now) b) }
 {
     let set = IdSet { pts, ids };
-    match cull_ids(&Alone, alloc, set)? {
+    match cull_alone(alloc, set)? {
         Some(outer) => hull_of_all(alloc, IdSet { pts, ids: &outer }),
         None => hull_of_all(alloc, set),
     }

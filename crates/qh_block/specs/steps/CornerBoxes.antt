@@ -7,6 +7,12 @@ use Rattle.qh_block.specs.declared.inner_points.bounds.Bounds.{Bounds}
 use Rattle.qh_block.specs.declared.inner_points.corner_box.Diagonals.{Diagonals}
 use Rattle.qh_block.specs.steps.InnerPoints.{IsWithin}
 
+-- no greater along any axis
+pub record IsUnder (p q : Vector) : Type 0 where
+  pub x : p.x ≤ℤ q.x
+  pub y : p.y ≤ℤ q.y
+  pub z : p.z ≤ℤ q.z
+
 -- no nearer than the end of a range that is above, or below
 abbrev pub IsBeyond : Bool → ℤ → ℤ → ℤ → Type 0
 IsBeyond true low high n = high ≤ℤ n

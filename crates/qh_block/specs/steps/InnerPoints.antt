@@ -65,13 +65,13 @@ HasPlane pts fs planes f = (plane : PlaneValue) × In plane planes × IsUnderFac
 abbrev pub HasPlanes : List Vector → List StoredFacet → List PlaneValue → Type 0
 HasPlanes pts fs planes = (f : ℕ) → IsLive fs f → HasPlane pts fs planes f
 
--- the columns hold the point of no extreme id of the set
-abbrev pub HasNoExtreme : List Vector → List ℕ → Columns → Type 0
-HasNoExtreme pts ids columns = (i : ℕ) → In i ids → HoldsPoint columns (place pts i) → ¬ (Extreme (place pts) (Members ids) i)
+-- the point of no extreme id of the set is like that
+abbrev pub HasNoExtreme : List Vector → List ℕ → (Vector → Type 0) → Type 0
+HasNoExtreme pts ids held = (i : ℕ) → In i ids → held (place pts i) → ¬ (Extreme (place pts) (Members ids) i)
 
--- nor of any set that has the sample
+-- the columns hold the point of no extreme id of any set that has the sample
 abbrev pub AreInner : List Vector → List ℕ → Columns → Type 0
-AreInner pts sample columns = (ids : List ℕ) → ((i : ℕ) → In i sample → In i ids) → HasNoExtreme pts ids columns
+AreInner pts sample columns = (ids : List ℕ) → ((i : ℕ) → In i sample → In i ids) → HasNoExtreme pts ids (HoldsPoint columns)
 
 -- what is kept of some ids of a set, in their order: all of them that are extreme in the set
 pub record IsKept (pts : List Vector) (all ids kept : List ℕ) : Type 0 where
@@ -79,9 +79,9 @@ pub record IsKept (pts : List Vector) (all ids kept : List ℕ) : Type 0 where
   pub within : (i : ℕ) → In i kept → In i ids
   pub extremes : (i : ℕ) → In i ids → Extreme (place pts) (Members all) i → In i kept
 
--- so it is for each set that has the ids, and of which the columns hold no extreme id
-pub record KeepsExtremes (pts : List Vector) (columns : Columns) (ids kept : List ℕ) : Type 0 where
-  pub each : (all : List ℕ) → ((i : ℕ) → In i ids → In i all) → HasNoExtreme pts all columns → IsKept pts all ids kept
+-- so it is for each set that has the ids, and that has no extreme id whose point is held
+pub record KeepsExtremes (pts : List Vector) (held : Vector → Type 0) (ids kept : List ℕ) : Type 0 where
+  pub each : (all : List ℕ) → ((i : ℕ) → In i ids → In i all) → HasNoExtreme pts all held → IsKept pts all ids kept
 
 -- a part of a set with all its extreme ids, rising where the set does
 pub record IsOuterPart (pts : List Vector) (ids part : List ℕ) : Type 0 where

@@ -3,6 +3,7 @@ ghost use Rattle.std.specs.Prelude.{◌≡◌, ◌⊎◌, ◌↔◌, ◌≤ℤ�
 ghost use Rattle.qh_model.specs.contract.Places.{IsPlace};
 ghost use Rattle.qh_model.specs.headline.Vector.{Vector};
 ghost use Rattle.qh_block.specs.steps.InnerPoints.{IsBetween, IsWithin, IsFarEnd, IsBelow};
+ghost use Rattle.qh_block.specs.steps.CornerBoxes.{IsCorner, IsEnd, IsUnder};
 
 use crate::inner_points::coarse_planes::CoarsePlane;
 use qh_model::Point;
@@ -20,6 +21,13 @@ fn is_between(low: i32, number: i32, high: i32) -> bool
     ensures { IsTrue result ↔ IsBetween low number high }
 {
     (low <= number) & (number <= high)
+}
+
+/// Returns true if a number is the least or the greatest of a range.
+fn is_end(low: i32, number: i32, high: i32) -> bool
+    ensures { IsTrue result ↔ IsEnd low number high }
+{
+    number == low || number == high
 }
 
 /// Returns the end of a range at which a product with this factor is greatest.
@@ -40,7 +48,8 @@ fn near_end(factor: i32, low: i32, high: i32) -> i32
 /// Returns the greater of two numbers.
 fn greater(one: i32, two: i32) -> i32
     ensures end { (result ≡ one) ⊎ (result ≡ two) }
-    ensures least { one ≤ℤ result }
+    ensures one { one ≤ℤ result }
+    ensures two { two ≤ℤ result }
 {
     if one < two { two } else { one }
 }
@@ -48,16 +57,16 @@ fn greater(one: i32, two: i32) -> i32
 /// Returns the lesser of two numbers.
 fn lesser(one: i32, two: i32) -> i32
     ensures end { (result ≡ one) ⊎ (result ≡ two) }
-    ensures most { result ≤ℤ one }
+    ensures one { result ≤ℤ one }
+    ensures two { result ≤ℤ two }
 {
     if two < one { two } else { one }
 }
 
 /// Returns the point with the greater of each two coordinates.
-fn greatest_of(one: Point, two: Point) -> Point
-    ensures x { one.x ≤ℤ result.x }
-    ensures y { one.y ≤ℤ result.y }
-    ensures z { one.z ≤ℤ result.z }
+pub fn greatest_of(one: Point, two: Point) -> Point
+    ensures one { IsUnder one result }
+    ensures two { IsUnder two result }
 {
     Point::new(
         greater(one.x(), two.x()),
@@ -67,10 +76,9 @@ fn greatest_of(one: Point, two: Point) -> Point
 }
 
 /// Returns the point with the lesser of each two coordinates.
-fn least_of(one: Point, two: Point) -> Point
-    ensures x { result.x ≤ℤ one.x }
-    ensures y { result.y ≤ℤ one.y }
-    ensures z { result.z ≤ℤ one.z }
+pub fn least_of(one: Point, two: Point) -> Point
+    ensures one { IsUnder result one }
+    ensures two { IsUnder result two }
 {
     Point::new(
         lesser(one.x(), two.x()),
@@ -98,6 +106,15 @@ impl Bounds {
         is_between(self.low.x(), p.x(), self.high.x())
             & is_between(self.low.y(), p.y(), self.high.y())
             & is_between(self.low.z(), p.z(), self.high.z())
+    }
+
+    /// Returns true if a point is one of the corners.
+    pub fn has_corner(&self, p: Point) -> bool
+        ensures { IsTrue result ↔ IsCorner self.now p }
+    {
+        is_end(self.low.x(), p.x(), self.high.x())
+            & is_end(self.low.y(), p.y(), self.high.y())
+            & is_end(self.low.z(), p.z(), self.high.z())
     }
 
     /// Returns the corner that lies furthest along a plane's normal.

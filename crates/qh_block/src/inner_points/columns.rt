@@ -10,6 +10,7 @@ use crate::inner_points::cells::Cell;
 use crate::inner_points::coarse_planes::CoarsePlane;
 use crate::inner_points::grid::{Grid, Square};
 use crate::inner_points::heights::Heights;
+use crate::inner_points::regions::Region;
 use qh_model::{Memory, Point};
 use std::alloc::{AllocError, Global};
 
@@ -142,5 +143,14 @@ impl Columns {
             Some(cell) => cell.holds(&self.planes, p),
             None => false,
         }
+    }
+}
+
+impl Region for Columns {
+    ghost held = { HoldsPoint };
+
+    #[inline(always)]
+    fn has(&self, p: Point) -> bool {
+        self.hold(p)
     }
 }

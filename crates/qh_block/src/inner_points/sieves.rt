@@ -1,11 +1,12 @@
 //! Who sorts out the ids that columns hold: the calling thread alone, or threads side by side.
 ghost use Rattle.std.specs.Prelude.{◌≡◌, ◌*◌, ◌≤◌, ◌<◌, ℕ, IfOk, Result, Vec, take, drop, length, slice_index_or};
 ghost use Rattle.std.specs.Thread.{IsSync};
-ghost use Rattle.qh_block.specs.steps.InnerPoints.{KeepsExtremes};
+ghost use Rattle.qh_block.specs.steps.InnerPoints.{HoldsPoint, KeepsExtremes};
 
 use crate::blocking::SHARED_FROM;
 use crate::id_set::IdSet;
 use crate::inner_points::columns::Columns;
+use crate::inner_points::regions::Region;
 use qh_model::Id;
 use qh_pred::point_at;
 use std::alloc::{AllocError, Global};
@@ -19,16 +20,16 @@ pub trait Sieve {
     /// Returns the ids that the columns don't hold, in their order.
     fn outside(&self, alloc: Global, set: IdSet, columns: &Columns) -> Result<Vec<Id>, AllocError>
         requires { ready self.now }
-        ensures { IfOk result (λ v. KeepsExtremes set.entry.pts.now columns.now set.entry.ids.now v.items) };
+        ensures { IfOk result (λ v. KeepsExtremes set.entry.pts.now (HoldsPoint columns.now) set.entry.ids.now v.items) };
 }
 
-/// Returns the ids that the columns don't hold, in their order, by the calling thread.
-fn ids_outside(alloc: Global, set: IdSet, columns: &Columns) -> Result<Vec<Id>, AllocError>
-    ensures { IfOk result (λ v. KeepsExtremes set.entry.pts.now columns.now set.entry.ids.now v.items) }
+/// Returns the ids whose points a region doesn't have, in their order, by the calling thread.
+pub fn ids_outside<R: Region>(alloc: Global, set: IdSet, region: &R) -> Result<Vec<Id>, AllocError>
+    ensures { IfOk result (λ v. KeepsExtremes set.entry.pts.now (R.held region.now) set.entry.ids.now v.items) }
 {
-    let mut kept = Vec::new(alloc);
+    let mut kept = Vec::with_capacity(alloc, set.ids.len())?;
     for id in set.ids {
-        if !columns.hold(point_at(set.pts, *id)) {
+        if !region.has(point_at(set.pts, *id)) {
             kept.push(*id)?;
         }
     }
@@ -59,9 +60,9 @@ fn joined(
     size: usize,
 ) -> Result<Vec<Id>, AllocError>
     requires parts { (i : ℕ) (d : Result (Vec Id Global) AllocError) → i < length parts.now → IfOk (slice_index_or parts.now i d)
-        (λ v. KeepsExtremes set.pts.now columns.now (take size (drop (i * size) set.ids.now)) v.items) }
+        (λ v. KeepsExtremes set.pts.now (HoldsPoint columns.now) (take size (drop (i * size) set.ids.now)) v.items) }
     requires all { length set.ids.now ≤ length parts.now * size }
-    ensures { IfOk result (λ v. KeepsExtremes set.entry.pts.now columns.now set.entry.ids.now v.items) }
+    ensures { IfOk result (λ v. KeepsExtremes set.entry.pts.now (HoldsPoint columns.now) set.entry.ids.now v.items) }
 {
     let mut kept = Vec::new(alloc);
     for part in parts {
@@ -82,7 +83,7 @@ fn ids_outside_in_threads<R: Threads + Sync>(
     columns: &Columns,
     threads: usize,
 ) -> Result<Vec<Id>, AllocError>
-    ensures { IfOk result (λ v. KeepsExtremes set.entry.pts.now columns.now set.entry.ids.now v.items) }
+    ensures { IfOk result (λ v. KeepsExtremes set.entry.pts.now (HoldsPoint columns.now) set.entry.ids.now v.items) }
 {
     if threads < 2 || set.ids.len() < SHARED_FROM {
         return ids_outside(alloc, set, columns);
@@ -93,7 +94,7 @@ fn ids_outside_in_threads<R: Threads + Sync>(
         alloc,
         threads,
         &move |number: usize| -> Result<Vec<Id>, AllocError>
-            ensures { IfOk result (λ v. KeepsExtremes set.entry.pts.now columns.entry.now (take size (drop (number * size) set.entry.ids.now)) v.items) }
+            ensures { IfOk result (λ v. KeepsExtremes set.entry.pts.now (HoldsPoint columns.entry.now) (take size (drop (number * size) set.entry.ids.now)) v.items) }
         { ids_outside(alloc, part_at(set, size, number), columns) },
     )?;
     joined(alloc, set, columns, &parts, size)

@@ -4,7 +4,7 @@ use Rattle.qh_model.specs.contract.IdSets.{AreIndices}
 use Rattle.qh_model.specs.headline.Sets.{In}
 use Rattle.qh_model.proofs.Members.{In-get_or, in_at}
 use Rattle.qh_model.proofs.hulls.ExtremeParts.{part_indices}
-use Rattle.qh_block.specs.steps.InnerPoints.{AreInner}
+use Rattle.qh_block.specs.steps.InnerPoints.{AreInner, HoldsPoint}
 use Rattle.qh_block.proofs.InnerPoints.{kept_part}
 use Rattle.qh_block.proofs.inner_points.ids_after_round.Goals as goal
 
@@ -27,4 +27,4 @@ returns-clause-part g c =
     let pts = c.args.set.pts.now in let ids = c.args.set.ids.now in let s = c.in_ok-sample in
     let inner = subst (λ xs. AreInner pts xs c.in-Some.columns) c.deref.ensures.value
     (rw c.in-Some.is at c.in_ok-columns.ensures) ids (part ids s.sample.items _ s.ensures.inside s.ensures.each) in
-    kept_part pts c.in-Some.columns ids c.in_ok-outer.outer.items inner c.in_ok-outer.ensures
+    kept_part pts (HoldsPoint c.in-Some.columns) ids c.in_ok-outer.outer.items inner c.in_ok-outer.ensures

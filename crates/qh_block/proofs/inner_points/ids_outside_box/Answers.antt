@@ -6,5 +6,5 @@ use Rattle.qh_block.proofs.inner_points.ids_outside_box.Goals as goal
 
 pub returns-clause-part : goal.returns-clause-part
 returns-clause-part c =
-    let pts = c.args.set.pts.now in let ids = c.args.set.ids.now in let b = c.of.result.bounds in
-    kept_part pts (IsHeldBy b) ids c.in_ok-outer.outer.items (box_has_no_extreme pts ids b c.of.ensures) c.in_ok-outer.ensures
+    let pts = c.args.set.pts.now in let ids = c.args.set.ids.now in let b = c.of-corner_box.result.bounds in
+    kept_part pts (IsHeldBy b) ids c.in_ok-outer.outer.items (box_has_no_extreme pts ids b c.of-corner_box.ensures) c.in_ok-outer.ensures

@@ -7,11 +7,14 @@ use Rattle.qh_block.proofs.inner_points.bounds.greatest_of.Goals as goal
 pub new-requires : goal.new-requires
 new-requires c = record { x = omega (arith, ints); y = omega (arith, ints); z = omega (arith, ints) }
 
-pub returns-clause-x : goal.returns-clause-x
-returns-clause-x c = let q = ap (λ (v : Vector). v.x) c.new.ensures in omega (arith, ints)
+pub returns-clause-one : goal.returns-clause-one
+returns-clause-one c =
+    let x = ap (λ (v : Vector). v.x) c.new.ensures in let y = ap (λ (v : Vector). v.y) c.new.ensures in
+    let z = ap (λ (v : Vector). v.z) c.new.ensures in
+    record { x = omega (arith, ints); y = omega (arith, ints); z = omega (arith, ints) }
 
-pub returns-clause-y : goal.returns-clause-y
-returns-clause-y c = let q = ap (λ (v : Vector). v.y) c.new.ensures in omega (arith, ints)
-
-pub returns-clause-z : goal.returns-clause-z
-returns-clause-z c = let q = ap (λ (v : Vector). v.z) c.new.ensures in omega (arith, ints)
+pub returns-clause-two : goal.returns-clause-two
+returns-clause-two c =
+    let x = ap (λ (v : Vector). v.x) c.new.ensures in let y = ap (λ (v : Vector). v.y) c.new.ensures in
+    let z = ap (λ (v : Vector). v.z) c.new.ensures in
+    record { x = omega (arith, ints); y = omega (arith, ints); z = omega (arith, ints) }

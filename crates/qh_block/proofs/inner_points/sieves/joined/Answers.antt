@@ -3,20 +3,20 @@ use Rattle.std.proofs.Common.{◌≡◌, ◌≤◌, ◌++◌, ◌*◌, ◌+◌, 
 use Rattle.std.proofs.Math.Nat.{mul-le-mul_right}
 use Rattle.std.proofs.Math.Seq.{take-add}
 use Rattle.std.proofs.lemmas.List.{take_all}
-use Rattle.qh_block.specs.steps.InnerPoints.{KeepsExtremes}
+use Rattle.qh_block.specs.steps.InnerPoints.{HoldsPoint, KeepsExtremes}
 use Rattle.qh_block.proofs.InnerPoints.{all_kept, both_kept}
 use Rattle.qh_block.proofs.inner_points.sieves.joined.Goals as goal
 
 pub loop-part-init : goal.loop-part-init
 loop-part-init c =
-    let pts = c.args.set.pts.now in let cs = c.args.columns.now in let ids = c.args.set.ids.now in
+    let pts = c.args.set.pts.now in let cs = HoldsPoint c.args.columns.now in let ids = c.args.set.ids.now in
     let zero : 0 * c.args.size ≡ 0 = omega arith in
     subst (λ (ys : List ℕ). KeepsExtremes pts cs ys c.new-kept.result.items) (sym (ap (λ n. take n ids) zero))
     (subst (λ (xs : List ℕ). KeepsExtremes pts cs [] xs) (sym c.new-kept.ensures.items) (all_kept pts cs []))
 
 pub loop-part-preserved : goal.loop-part-preserved
 loop-part-preserved c =
-    let pts = c.args.set.pts.now in let cs = c.args.columns.now in let ids = c.args.set.ids.now in
+    let pts = c.args.set.pts.now in let cs = HoldsPoint c.args.columns.now in let ids = c.args.set.ids.now in
     let i = c.loop-part.part-index in let size = c.args.size in
     let front = take (i * size) ids in let back = take size (drop (i * size) ids) in
     let part : KeepsExtremes pts cs back c.in-Ok.ids.items = rw c.in-Ok.is at
@@ -31,7 +31,7 @@ loop-part-preserved c =
 
 pub returns : goal.returns
 returns c =
-    let pts = c.args.set.pts.now in let cs = c.args.columns.now in let ids = c.args.set.ids.now in
+    let pts = c.args.set.pts.now in let cs = HoldsPoint c.args.columns.now in let ids = c.args.set.ids.now in
     let more : length c.args.parts.now * c.args.size ≤ c.loop-part.part-index * c.args.size =
     mul-le-mul_right c.args.size c.loop-part-test.false in
     let all = c.requires.all in

@@ -1,13 +1,10 @@
 -- The three tests together.
-use Rattle.std.proofs.Common.{◌≡◌, ◌&&◌, Bool, true, false, IsTrue, arith, refl}
+use Rattle.std.proofs.Common.{◌≡◌, Bool, IsTrue, arith}
 use Rattle.std.proofs.lemmas.Int.{ints}
 use Rattle.std.specs.Prelude.{ℤ, ◌↔◌}
 use Rattle.qh_block.specs.steps.InnerPoints.{IsBetween}
+use Rattle.qh_block.proofs.InnerBoxes.{both}
 use Rattle.qh_block.proofs.inner_points.bounds.Bounds.contains.Goals as goal
-
-both : {P Q : Type 0} (a b : Bool) → (IsTrue a ↔ P) → (IsTrue b ↔ Q) → IsTrue (a && b) ↔ (P × Q)
-both true b p q = (λ t. (p.0 refl, q.0 t), λ h. q.1 h.1)
-both false b p q = (λ t. cc, λ h. p.1 h.0)
 
 same : (b : Bool) (l n h l' n' h' : ℤ) → l' ≡ l → n' ≡ n → h' ≡ h → (IsTrue b ↔ IsBetween l' n' h') → IsTrue b ↔ IsBetween l n h
 same b l n h l' n' h' p q r f = rw (p, q, r) at f
