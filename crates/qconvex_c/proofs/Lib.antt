@@ -5,3 +5,4 @@ pub mod SetParts
 pub mod SetHulls
 pub mod StartsTest
 pub mod VolumeSums
+pub mod RightVerdicts

@@ -1,5 +1,5 @@
 -- When starts are invalid: one falls, or one is beyond the points.
-use Rattle.std.proofs.Common.{◌≡◌, ℕ, ◌+◌, ◌≤◌, ◌<◌, zero, suc, List, length, slice_index, arith, ap}
+use Rattle.std.proofs.Common.{◌≡◌, ℕ, ◌+◌, ◌<◌, zero, suc, List, length, slice_index, arith, ap}
 use Rattle.qconvex_c.specs.contract.Sets.{AreStarts}
 
 -- a start below the one before it

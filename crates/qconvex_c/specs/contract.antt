@@ -5,3 +5,4 @@ pub mod Triangles
 pub mod Codes
 pub mod Sets
 pub mod Volumes
+pub mod Checked

@@ -3,11 +3,16 @@
 //!
 //! `given` takes the points, `judging` refuses those that have no hull here, `flat_hull` and `fans` lay a
 //! hull out in flat lists, and `buffers`, `written` and `fan_lists` fill the caller's buffers. `sets` and
-//! `set_hulls` do so for many sets in one call. Nothing here starts a thread or keeps anything between calls.
+//! `set_hulls` do so for many sets in one call. `cut_faces` takes faces of a caller, which `checked` judges, and
+//! `told` says what was found. Nothing here starts a thread or keeps anything between calls.
 #![tactic(auto)]
 
 mod buffers;
+#[cfg(test)]
+mod check_tests;
+mod checked;
 mod code;
+mod cut_faces;
 mod exported;
 mod fan_lists;
 mod fans;
@@ -15,6 +20,7 @@ mod fault;
 mod flat_hull;
 mod given;
 mod judging;
+mod kind;
 mod many;
 mod set_answer;
 mod set_hulls;
@@ -24,17 +30,22 @@ mod sets;
 mod sizes;
 #[cfg(test)]
 mod tests;
+mod told;
+mod verdict;
 mod version;
 #[cfg(test)]
 mod volume_tests;
 mod volumes;
 mod written;
 
+pub use checked::qconvex_check;
 pub use code::{DONE, MEMORY, NO_POINT, RANGE, ROOM, STARTS, TOO_MANY};
 pub use exported::{qconvex_fans, qconvex_hull};
 pub use given::Given;
+pub use kind::{ABOVE, NO_PLANE, OPEN, OTHER_FACE, OTHERS, RIGHT, STRANGER, TWICE};
 pub use many::qconvex_hulls;
 pub use set_answer::SetAnswer;
 pub use sizes::Sizes;
+pub use verdict::Verdict;
 pub use version::{VERSION, qconvex_version};
 pub use volumes::{Wide, qconvex_six_volumes};

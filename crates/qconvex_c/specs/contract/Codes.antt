@@ -28,3 +28,36 @@ QCONVEX_ROOM = 5
 -- of many sets the starts do not rise, or are beyond the points; or there is not one
 abbrev pub QCONVEX_STARTS : ℕ
 QCONVEX_STARTS = 6
+
+-- ---- what is told of faces
+-- they are the surface of the hull
+abbrev pub QCONVEX_RIGHT : ℕ
+QCONVEX_RIGHT = 0
+
+-- a corner of a face is the index of no point
+abbrev pub QCONVEX_STRANGER : ℕ
+QCONVEX_STRANGER = 1
+
+-- the first three corners of a face are no points in a plane
+abbrev pub QCONVEX_NO_PLANE : ℕ
+QCONVEX_NO_PLANE = 2
+
+-- a point lies above the plane of a face
+abbrev pub QCONVEX_ABOVE : ℕ
+QCONVEX_ABOVE = 3
+
+-- the plane of a face supports the points, and its polygon is another
+abbrev pub QCONVEX_OTHER_FACE : ℕ
+QCONVEX_OTHER_FACE = 4
+
+-- more faces run along an edge one way than the other
+abbrev pub QCONVEX_OPEN : ℕ
+QCONVEX_OPEN = 5
+
+-- an edge belongs to more than two faces
+abbrev pub QCONVEX_TWICE : ℕ
+QCONVEX_TWICE = 6
+
+-- there is no face, or the points lie in one plane and have another polygon
+abbrev pub QCONVEX_OTHERS : ℕ
+QCONVEX_OTHERS = 7

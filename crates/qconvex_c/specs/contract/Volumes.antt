@@ -1,6 +1,6 @@
 -- Six times the volume inside triangles, by their corners in one list.
 use Rattle.std.specs.Int.{w128}
-use Rattle.std.specs.Prelude.{ℕ, ℤ, pos, ◌+ℤ◌, FitsSigned, List, [], ◌∷◌}
+use Rattle.std.specs.Prelude.{ℕ, ℤ, pos, ◌+ℤ◌, FitsSigned, List, ◌∷◌}
 use Rattle.qh_model.specs.headline.Predicates.{vol}
 use Rattle.qh_model.specs.headline.Vector.{Vector}
 

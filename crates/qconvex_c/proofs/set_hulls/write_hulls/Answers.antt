@@ -1,4 +1,4 @@
-use Rattle.std.proofs.Common.{◌≡◌, ◌<◌, ◌≤◌, ◌+◌, ◌*◌, length, slice_index, arith, ap, sym, subst, ◌∙◌}
+use Rattle.std.proofs.Common.{◌<◌, arith, ap}
 use Rattle.qconvex_c.proofs.SetHulls.{fits_part, written_more}
 use Rattle.qconvex_c.specs.contract.Sets.{sets_in}
 use Rattle.qconvex_c.proofs.set_hulls.write_hulls.Goals as goal

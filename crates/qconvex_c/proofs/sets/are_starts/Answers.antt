@@ -1,4 +1,3 @@
-use Rattle.std.proofs.Common.{◌≡◌, ◌<◌, ◌+◌, ◌-◌, slice_index, arith, ℕ, zero, suc, refl}
 use Rattle.qconvex_c.proofs.StartsTest.{falls, beyond}
 use Rattle.qconvex_c.proofs.sets.are_starts.Goals as goal
 use Rattle.qconvex_c.proofs.sets.are_starts.Goals.{then-start-last-via-then-start-last}
