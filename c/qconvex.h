@@ -48,7 +48,7 @@ enum {
     QCONVEX_RANGE = 3,    /* else exactly where a coordinate is past QCONVEX_COORDINATE_LIMIT */
     QCONVEX_MEMORY = 4,   /* malloc or realloc refused; all that was taken is given back */
     QCONVEX_ROOM = 5,     /* a buffer is too short: sizes says how long they have to be */
-    QCONVEX_STARTS = 6    /* of qconvex_hulls alone: the starts don't rise, go beyond the points, or are none */
+    QCONVEX_STARTS = 6    /* the starts of sets, or the offsets of faces, don't rise, go beyond the list, or are none */
 };
 
 /* QCONVEX_VERSION_NUMBER of the library that is linked or loaded, which may differ from this header's. */
@@ -122,6 +122,38 @@ uint32_t qconvex_hulls(const qconvex_point *points, size_t point_count,
                        uint32_t *extremes, size_t extremes_room,
                        size_t *offsets, size_t offsets_room,
                        uint32_t *corners, size_t corners_room);
+
+/* What qconvex_check tells of faces. Of several points at one place the lowest index is named. */
+enum {
+    QCONVEX_RIGHT = 0,      /* they are the surface of the hull */
+    QCONVEX_STRANGER = 1,   /* face: a corner of it is the index of no point */
+    QCONVEX_NO_PLANE = 2,   /* face: it has fewer than three corners, or its first three lie in one line */
+    QCONVEX_ABOVE = 3,      /* face, point: the point is above the plane of the first three corners, so outside */
+    QCONVEX_OTHER_FACE = 4, /* face: no point is above its plane, but its corners don't go round the face in order */
+    QCONVEX_OPEN = 5,       /* from, to: more faces run along this edge one way than the other */
+    QCONVEX_TWICE = 6,      /* from, to: faces run along this edge, this way, more than once */
+    QCONVEX_OTHERS = 7      /* there is no face, or the points lie in one plane and have another polygon */
+};
+
+typedef struct {
+    uint32_t kind;     /* QCONVEX_RIGHT, or what is wrong */
+    uint32_t point;    /* what the kind names above; the fields that it doesn't name are 0 */
+    uint32_t from, to;
+    size_t face;       /* by its position, from 0 */
+} qconvex_verdict;
+
+/* Tells whether faces, whoever made them, are the surface of the hull of points: the faces of the hull or pieces of them,
+ * such as triangles, in any cutting and any order, each counterclockwise seen from outside, from any of its corners on.
+ * Face j has the corners from corners[offsets[j]] to before corners[offsets[j + 1]], so offset_count is the number of faces
+ * and one more; a corner is the index of a point. Each corner has to be an extreme point; of equal points any will do.
+ * The faces of points in one plane have to be what qconvex_hull writes: one polygon, or the two ends, or the one point.
+ *
+ * QCONVEX_DONE: verdict is filled in. Its kind is QCONVEX_RIGHT exactly where the faces are the surface of the hull; another
+ * kind is so, of the face, the point or the edge that it names, which is one of several where more is wrong.
+ * QCONVEX_STARTS where the offsets don't rise, one is above corner_count, or there is none. The other answers are those of
+ * qconvex_hull, but never QCONVEX_ROOM; all but QCONVEX_DONE leave verdict as it was. */
+uint32_t qconvex_check(const qconvex_point *points, size_t count, const size_t *offsets, size_t offset_count,
+                       const uint32_t *corners, size_t corner_count, qconvex_verdict *verdict);
 
 #ifdef __cplusplus
 }

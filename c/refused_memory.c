@@ -128,6 +128,35 @@ static void refuse_each_of_sets(long *tried, long *memory, long *wrong) {
     }
 }
 
+/* A check of the faces of a hull, with a verdict that no call gives; one request may be refused. */
+static uint32_t call_check(const struct buffers *hull, qconvex_verdict *to) {
+    requests = 0;
+    memset(to, 0x55, sizeof *to);
+    return qconvex_check(points, POINTS, hull->offsets, hull->sizes.faces + 1, hull->corners, hull->sizes.corners, to);
+}
+
+/* Refuses each request of a check in turn: of the right faces, or with the first of them turned round. */
+static void refuse_each_of_check(bool turned, long *tried, long *memory, long *wrong) {
+    static struct buffers hull;
+    qconvex_verdict wanted, told, blank_verdict;
+    memset(&blank_verdict, 0x55, sizeof blank_verdict);
+    refused = 0;
+    *wrong += call(false, &hull) != QCONVEX_DONE;
+    if (turned) {
+        uint32_t corner = hull.corners[0];
+        hull.corners[0] = hull.corners[2];
+        hull.corners[2] = corner;
+    }
+    *wrong += call_check(&hull, &wanted) != QCONVEX_DONE || living != 0 || (wanted.kind == QCONVEX_RIGHT) == turned;
+    long total = requests;
+    for (refused = 1; refused <= total; refused++, ++*tried) {
+        uint32_t code = call_check(&hull, &told);
+        *memory += code == QCONVEX_MEMORY;
+        *wrong += code != QCONVEX_MEMORY && code != QCONVEX_DONE;
+        *wrong += living != 0 || memcmp(&told, code == QCONVEX_MEMORY ? &blank_verdict : &wanted, sizeof told) != 0;
+    }
+}
+
 int main(void) {
     long tried = 0, memory = 0, wrong = 0;
     memset(&blank, 0x55, sizeof blank);
@@ -136,6 +165,8 @@ int main(void) {
         refuse_each(false, &tried, &memory, &wrong);
         refuse_each(true, &tried, &memory, &wrong);
         refuse_each_of_sets(&tried, &memory, &wrong);
+        refuse_each_of_check(false, &tried, &memory, &wrong);
+        if (family < 2) refuse_each_of_check(true, &tried, &memory, &wrong);
     }
     printf("%ld requests refused in turn: %ld times QCONVEX_MEMORY, else the right answer; %ld wrong\n", tried, memory, wrong);
     return wrong != 0;
