@@ -10,12 +10,25 @@ from typing import TYPE_CHECKING, Any
 from ._limits import COORDINATE_LIMIT, POINT_LIMIT
 
 if TYPE_CHECKING:
+    from ._checks import Verdict, check
     from ._floats import FloatHull, Snapped, snap
     from ._hull import ConvexHull
     from ._hulls import Hulls, hulls
     from ._library import VERSION as __version__
 
-__all__ = ["COORDINATE_LIMIT", "POINT_LIMIT", "ConvexHull", "FloatHull", "Hulls", "Snapped", "__version__", "hulls", "snap"]
+__all__ = [
+    "COORDINATE_LIMIT",
+    "POINT_LIMIT",
+    "ConvexHull",
+    "FloatHull",
+    "Hulls",
+    "Snapped",
+    "Verdict",
+    "__version__",
+    "check",
+    "hulls",
+    "snap",
+]
 
 # Where each name stands that needs the library, and what it is called there.
 _NEEDS_LIBRARY = {
@@ -23,6 +36,8 @@ _NEEDS_LIBRARY = {
     "FloatHull": ("._floats", "FloatHull"),
     "Hulls": ("._hulls", "Hulls"),
     "Snapped": ("._floats", "Snapped"),
+    "Verdict": ("._checks", "Verdict"),
+    "check": ("._checks", "check"),
     "hulls": ("._hulls", "hulls"),
     "snap": ("._floats", "snap"),
     "__version__": ("._library", "VERSION"),

@@ -22,9 +22,12 @@ def test_the_package_passes() -> None:
     assert said.returncode == 0, said.stdout
 
 
-@pytest.mark.parametrize("call", ['ConvexHull("abc")', "ConvexHull(7)", 'snap([[0.5, 0.5, 0.5]], bits="30")'])
+CALLS = ['ConvexHull("abc")', "ConvexHull(7)", 'snap([[0.5, 0.5, 0.5]], bits="30")', "check([[0, 0, 0]], 7)"]
+
+
+@pytest.mark.parametrize("call", CALLS)
 def test_a_wrong_argument_is_refused(call: str, tmp_path: Path) -> None:
     user = tmp_path / "user.py"
-    user.write_text(f"from qconvex import ConvexHull, snap\n\n{call}\n")
+    user.write_text(f"from qconvex import ConvexHull, check, snap\n\n{call}\n")
     said = checked("--strict", str(user))
     assert said.returncode == 1 and "arg-type" in said.stdout, said.stdout
