@@ -4,6 +4,7 @@ from __future__ import annotations
 import ctypes
 from collections.abc import Sequence
 from dataclasses import dataclass
+from itertools import chain
 from typing import Any, Union
 
 import numpy as np
@@ -114,12 +115,16 @@ def _flat_faces(faces: Faces, count: int) -> tuple[NDArray[np.intp], NDArray[np.
             raise ValueError(f"an array of faces must have the shape (n, corners), and has {faces.shape}")
         offsets = np.arange(len(faces) + 1, dtype=np.intp) * faces.shape[1]
         return offsets, np.ascontiguousarray(_indices(faces, count).ravel())
-    rows = [_indices(face, count) for face in faces]
-    if any(row.ndim != 1 for row in rows):
+    try:
+        sizes = [len(face) for face in faces]
+    except TypeError:
+        raise ValueError("each face must be a list of indices") from None
+    corners = _indices(list(chain.from_iterable(faces)), count)
+    if corners.ndim != 1:
         raise ValueError("each face must be a list of indices")
-    offsets = np.zeros(len(rows) + 1, np.intp)
-    np.cumsum([len(row) for row in rows], out=offsets[1:])
-    return offsets, np.concatenate([np.zeros(0, np.uint32), *rows])
+    offsets = np.zeros(len(sizes) + 1, np.intp)
+    np.cumsum(sizes, out=offsets[1:])
+    return offsets, corners
 
 
 def check(points: WholePoints, faces: Faces) -> Verdict:
