@@ -94,7 +94,8 @@ fn ids_outside_in_threads<R: Threads + Sync>(
         alloc,
         threads,
         &move |number: usize| -> Result<Vec<Id>, AllocError>
-            ensures { IfOk result (λ v. KeepsExtremes set.entry.pts.now (HoldsPoint columns.entry.now) (take size (drop (number * size) set.entry.ids.now)) v.items) }
+            ensures { IfOk result (λ v. KeepsExtremes set.entry.pts.now (HoldsPoint columns.entry.now)
+                (take size (drop (number * size) set.entry.ids.now)) v.items) }
         { ids_outside(alloc, part_at(set, size, number), columns) },
     )?;
     joined(alloc, set, columns, &parts, size)
