@@ -1,7 +1,8 @@
-# Builds and installs the program; the library for C has its own Makefile in c/.
+# Builds and installs the programs; the library for C has its own Makefile in c/.
 #
-#     make                  builds the program, which proves it first where it was not proved
-#     make install          the program, its manual page and what shells complete, under PREFIX (/usr/local), below DESTDIR
+#     make                  builds the programs, which proves them first where they were not proved
+#     make install          the program with its manual page and what shells complete, and hullcheck, under PREFIX (/usr/local),
+#                           below DESTDIR
 #     make install NAME=qconvex-exact
 #                           the same by another name, beside Qhull's program qconvex
 #     make uninstall
@@ -11,26 +12,31 @@ NAME ?= qconvex
 BINDIR ?= $(PREFIX)/bin
 DATADIR ?= $(PREFIX)/share
 PROGRAM = crates/qconvex/out/qconvex
+CHECKER = crates/hullcheck/out/hullcheck
 
 PAGE = $(DESTDIR)$(DATADIR)/man/man1/$(NAME).1
 BASH_COMPLETION = $(DESTDIR)$(DATADIR)/bash-completion/completions/$(NAME)
 ZSH_COMPLETION = $(DESTDIR)$(DATADIR)/zsh/site-functions/_$(NAME)
 FISH_COMPLETION = $(DESTDIR)$(DATADIR)/fish/vendor_completions.d/$(NAME).fish
 
-all: $(PROGRAM)
+all: $(PROGRAM) $(CHECKER)
 
 $(PROGRAM):
 	cd crates/qconvex && rt run -- s < ../../examples/unit-cube.txt
 
-install: $(PROGRAM)
+$(CHECKER): $(PROGRAM)
+	$(PROGRAM) off < examples/unit-cube.txt | (cd crates/hullcheck && rt run -- ../../examples/unit-cube.txt)
+
+install: $(PROGRAM) $(CHECKER)
 	install -d $(DESTDIR)$(BINDIR) $(dir $(PAGE)) $(dir $(BASH_COMPLETION)) $(dir $(ZSH_COMPLETION)) $(dir $(FISH_COMPLETION))
 	install -m 755 $(PROGRAM) $(DESTDIR)$(BINDIR)/$(NAME)
+	install -m 755 $(CHECKER) $(DESTDIR)$(BINDIR)/hullcheck
 	scripts/make/man_page.py --name $(NAME) > $(PAGE)
 	scripts/make/completions.py bash --name $(NAME) > $(BASH_COMPLETION)
 	scripts/make/completions.py zsh --name $(NAME) > $(ZSH_COMPLETION)
 	scripts/make/completions.py fish --name $(NAME) > $(FISH_COMPLETION)
 
 uninstall:
-	rm -f $(DESTDIR)$(BINDIR)/$(NAME) $(PAGE) $(BASH_COMPLETION) $(ZSH_COMPLETION) $(FISH_COMPLETION)
+	rm -f $(DESTDIR)$(BINDIR)/$(NAME) $(DESTDIR)$(BINDIR)/hullcheck $(PAGE) $(BASH_COMPLETION) $(ZSH_COMPLETION) $(FISH_COMPLETION)
 
 .PHONY: all install uninstall

@@ -38,8 +38,9 @@ Section: science
 Priority: optional
 Description: exact and proved convex hull of whole-number points in space
  The extreme points and every face as a polygon, counterclockwise from outside,
- none missed. The program is called qconvex-exact; the library for C has its
- header, qconvex.pc and a CMake package.
+ none missed. The program is called qconvex-exact, and hullcheck checks the
+ faces of any program; the library for C has its header, qconvex.pc and a CMake
+ package.
 """
 
 

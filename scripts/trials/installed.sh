@@ -20,6 +20,8 @@ installed=$(cd "$prefix" && find . ! -type d | sort)
 # The program, its page and what a shell completes.
 answer 'the program' "$("$prefix/bin/qconvex-exact" rank < examples/unit-cube.txt | tail -n 1)" \
     "$("$program" rank < examples/unit-cube.txt | tail -n 1)"
+answer 'the checker' "$("$prefix/bin/qconvex-exact" off < examples/unit-cube.txt | "$prefix/bin/hullcheck" examples/unit-cube.txt)" \
+    'all right'
 answer 'its page' "$(sed -n 's/^\.TH \([^ ]*\) .*/\1/p' "$prefix/share/man/man1/qconvex-exact.1")" QCONVEX-EXACT
 completed() {
     bash -c '. "$0"; COMP_WORDS=("${@:1}"); COMP_CWORD=$(($# - 1)); _qconvex_exact; echo "${COMPREPLY[@]}"' \
