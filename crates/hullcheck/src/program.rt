@@ -6,6 +6,7 @@ ghost use Rattle.hullcheck.specs.declared.fault.Fault.TheVariants.{Device, Memor
 ghost use Rattle.hullcheck.specs.contract.CommandLine.{asked_by};
 ghost use Rattle.hullcheck.specs.contract.Judging.{IsToldBy, IsToldOfSome};
 ghost use Rattle.hullcheck.specs.contract.Statuses.{IsRunStatus, fault_status, judgement_status, no_device};
+ghost use Rattle.hullcheck.specs.steps.Unread.{IsFileFault, IsWordsFault};
 
 use crate::command_line::{Settings, settings_of};
 use crate::fault::Fault;
@@ -24,6 +25,7 @@ use std::{env, fs};
 fn unread_words(kind: ErrorKind) -> Fault
     ensures memory { kind ≡ OutOfMemory → result ≡ Memory }
     ensures usage { kind ≢ OutOfMemory → result ≡ Usage }
+    ensures either { IsWordsFault result }
 {
     match kind {
         ErrorKind::OutOfMemory => Fault::Memory,
@@ -35,7 +37,7 @@ fn unread_words(kind: ErrorKind) -> Fault
 fn unread_file(kind: ErrorKind) -> Fault
     ensures memory { kind ≡ OutOfMemory → result ≡ Memory }
     ensures device { kind ≢ OutOfMemory → result ≡ Device }
-    ensures words { result ≢ Usage }
+    ensures either { IsFileFault result }
 {
     match kind {
         ErrorKind::OutOfMemory => Fault::Memory,
@@ -44,7 +46,9 @@ fn unread_file(kind: ErrorKind) -> Fault
 }
 
 /// Returns the words of the command line, the name of the program first.
-fn words<R: Env + AllocGlobal>(rt: &R) -> Result<Vec<String>, Fault> {
+fn words<R: Env + AllocGlobal>(rt: &R) -> Result<Vec<String>, Fault>
+    ensures { IfErr result IsWordsFault }
+{
     let args = match env::args(rt) {
         Ok(args) => args,
         Err(error) => return Err(unread_words(error.kind())),
@@ -54,7 +58,7 @@ fn words<R: Env + AllocGlobal>(rt: &R) -> Result<Vec<String>, Fault> {
 
 /// Opens a file.
 fn open<R: Files>(rt: &R, path: &str) -> Result<R::File, Fault>
-    ensures { IfErr result (λ f. f ≢ Usage) }
+    ensures { IfErr result IsFileFault }
 {
     match fs::open(rt, path) {
         Ok(file) => Ok(file),
@@ -65,7 +69,7 @@ fn open<R: Files>(rt: &R, path: &str) -> Result<R::File, Fault>
 /// Returns all bytes of a reader.
 fn bytes_of<S: Read + Drop>(alloc: Global, mut reader: S) -> Result<Vec<u8>, Fault>
     ensures bytes { IfOk result (λ v. IfSome (S.remaining reader) (λ xs. v.items ≡ xs)) }
-    ensures fault { IfErr result (λ f. f ≢ Usage) }
+    ensures fault { IfErr result IsFileFault }
 {
     let mut bytes = Vec::new(alloc);
     match reader.read_to_end(&mut bytes) {
@@ -76,7 +80,7 @@ fn bytes_of<S: Read + Drop>(alloc: Global, mut reader: S) -> Result<Vec<u8>, Fau
 
 /// Returns the bytes of the file of faces, or of standard input.
 fn faces_text<R: Files + Input + AllocGlobal>(rt: &R, settings: &Settings) -> Result<Vec<u8>, Fault>
-    ensures { IfErr result (λ f. f ≢ Usage) }
+    ensures { IfErr result IsFileFault }
 {
     match settings.faces {
         Some(path) => bytes_of(rt.alloc(), open(rt, path)?),
