@@ -41,13 +41,15 @@ ANSWER_ALONE = "pub(super) const WATCHED: [Watched; 1] = [Watched::Answer];"
 # The comparisons, and what stands for each. A name before a dot is one that the tests give to an outcome of `answer`.
 TURNED = [
     (r"assert_eq!(\(rt; answered\.told\(\), want)", r"assert_ne!\1"),
-    (r"assert!\(rt; (outcome\.output\.starts_with\()", r"assert!(rt; !\1"),
-    (r"assert_eq!(\(rt; count, )", r"assert_ne!\1"),
+    (r"assert!\(rt; ((?:outcome|whole)\.output\.starts_with\()", r"assert!(rt; !\1"),
+    (r"assert_eq!(\(rt; (?:count|joins), )", r"assert_ne!\1"),
+    (r"assert!\(rt; (joins >= 100)", r"assert!(rt; !(\1)"),
     (r"assert!\(rt; (gate\.came_in_time\(\))", r"assert!(rt; !\1"),
     (r"assert!\(rt; (gate\.was_told_right\(\))", r"assert!(rt; !\1"),
     (r"assert_eq!(\(rt; outcome\.told\(\), \(OCTAHEDRON_OFF)", r"assert_ne!\1"),
     (r"assert!\(rt; (text\.is_ok_and\()", r"assert!(rt; !\1"),
     (r"if !(answers\()", r"if \1"),
+    (r"if outcome\.status != 0", "if outcome.status == 0"),
 ]
 # The line that tells how a test ended.
 ENDS = re.compile(r"^test (\S+) \.\.\. (\w+)$", re.MULTILINE)
