@@ -79,7 +79,7 @@ pub fn points_of(alloc: Global, given: &[Given]) -> Result<Vec<Point>, Memory>
 {
     let mut points = Vec::with_capacity(alloc, given.len())?;
     for point in given {
-        points.push(Point::new(point.x, point.y, point.z))?;
+        points.push_reserved(Point::new(point.x, point.y, point.z));
     }
     Ok(points)
 }

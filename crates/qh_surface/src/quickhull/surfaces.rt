@@ -40,7 +40,7 @@ pub fn points_of(alloc: Global, pts: &[Point], ids: &[Id]) -> Result<Vec<Point>,
 {
     let mut points = Vec::with_capacity(alloc, ids.len())?;
     for id in ids {
-        points.push(point_at(pts, *id))?;
+        points.push_reserved(point_at(pts, *id));
     }
     Ok(points)
 }
