@@ -1,9 +1,7 @@
 -- The distinct ids of points in a small box, point by point: what stands in the slots, and which ids are kept.
 use Rattle.std.proofs.Common.{◌≡◌, ◌≢◌, ◌∙◌, ℕ, ◌+◌, ◌<◌, ◌≤◌, ◌⊎◌, inl, inr, List, [], ◌∷◌, ◌++◌, length, set}
 use Rattle.std.proofs.Common.{replicate, slice_index_or, arith, ap, sym, subst, get_or-set_same, get_or-set_other}
-use Rattle.std.proofs.Common.{Bool, true, false, ◌==◌, min, append-nil, zero-add}
-use Rattle.std.proofs.lemmas.Bool.Decides.{nat_tests}
-use Rattle.std.proofs.lemmas.List.{get_or_read, length-set, get_or-replicate, length-replicate, set-get_or}
+use Rattle.std.proofs.lemmas.List.{get_or_read, length-set, get_or-replicate, length-replicate}
 use Rattle.std.specs.List.Sorted.{IsStrictlyIncreasing}
 use native.Mathlib.Decide.{ℕ_discrete}
 use Rattle.qh_model.specs.headline.Vector.{Vector, origin}
@@ -16,8 +14,6 @@ use Rattle.qh_model.proofs.lists.Rising.{rising_append}
 use Rattle.qh_plane.specs.declared.close_points.CloseBox.{CloseBox}
 use Rattle.qh_plane.specs.declared.close_points.TheConstants.{NO_ID}
 use Rattle.qh_plane.specs.steps.CloseBoxes.{slot_of, slot_at, HasFirst, AreSeen}
-use Rattle.qh_plane.specs.steps.Marks.{marked_ids}
-use Rattle.qh_plane.proofs.MarkedIds.{marked_more}
 
 -- a point that was read is that of its id
 pub point_read : (pts : List Vector) (k : ℕ) (p : Vector) → k < length pts → p ≡ slice_index_or pts k p → p ≡ place pts k
@@ -27,13 +23,6 @@ point_read pts k p l e = get_or_read pts k p l e origin
 -- no id of the points stands for none
 id_is_none : (k n : ℕ) → k < n → n ≤ POINT_LIMIT → k ≢ NO_ID
 id_is_none k n l h e = omega (arith, l, h, e)
-
--- a number is the other, or is not
-is_equal : (n m : ℕ) → n ≡ m → (n == m) ≡ true
-is_equal n m e = grind (arith, e, nat_tests)
-
-is_other : (n m : ℕ) → n < m → (n == m) ≡ false
-is_other n m l = grind (arith, l, nat_tests)
 
 -- at first no point was seen
 pub none_seen : (pts : List Vector) (b : CloseBox) (n : ℕ) → AreSeen pts b (replicate n NO_ID) 0 []
@@ -160,40 +149,6 @@ module _ (pts : List Vector) (b : CloseBox) (slots : List ℕ) (k : ℕ) (ids : 
           by_decision : Dec (j ≡ k) → In j ids
           by_decision (yes q) = absurd ((subst (IsDistinctId pts) q h.0).1 i l e)
           by_decision (no ne) = let n = h.1 in (old.members j).1 (h.0, omega (arith, n, ne))
-
--- ---- either
--- a mark is set where the slot was free, or has the id of an equal point and stays
-pub next_seen : (pts : List Vector) (b : CloseBox) (slots : List ℕ) (k : ℕ) (marks : List Bool) → AreSeen pts b slots k (marked_ids 0 marks)
-    → k < length pts → length pts ≤ POINT_LIMIT → length marks ≡ k → (s : ℕ) → s ≡ slot_of b (place pts k) → s < length slots
-    → (first : ℕ) → first ≡ min (slot_at slots s) k → place pts first ≡ place pts k
-    → AreSeen pts b (set slots s first) (k + 1) (marked_ids 0 (marks ++ (first == k) ∷ []))
-next_seen pts b slots k marks old within few count s at room first is same = by_slot (old.held s room)
-  where
-    free_first : (n f : ℕ) → n ≡ NO_ID → f ≡ min n k → f ≡ k
-    free_first n f e q = let big = few in omega (arith, e, q, big, within)
-
-    held_first : (n f : ℕ) → n < k → f ≡ min n k → f ≡ n
-    held_first n f l q = omega (arith, l, q)
-
-    by_slot : (slot_at slots s ≡ NO_ID) ⊎ (slot_at slots s < k) → AreSeen pts b (set slots s first) (k + 1) (marked_ids 0 (marks ++ (first == k) ∷ []))
-    by_slot (inl free) =
-        let e : first ≡ k = free_first (slot_at slots s) first free is in
-        let next = new_seen pts b slots k (marked_ids 0 marks) old within few (subst (λ n. n < length slots) at room)
-        (subst (λ n. slot_at slots n ≡ NO_ID) at free) in
-        let told : marked_ids 0 (marks ++ (first == k) ∷ []) ≡ marked_ids 0 marks ++ k ∷ [] =
-        ap (λ v. marked_ids 0 (marks ++ v ∷ [])) (is_equal first k e) ∙ marked_more 0 marks true ∙ ap (λ v. marked_ids 0 marks ++ v ∷ []) (zero-add (length marks) ∙ count) in
-        let slots-are : set slots s first ≡ set slots (slot_of b (place pts k)) k = ap (λ n. set slots n first) at ∙ ap (set slots (slot_of b (place pts k))) e in
-        subst (λ xs. AreSeen pts b xs (k + 1) (marked_ids 0 (marks ++ (first == k) ∷ []))) (sym slots-are)
-        (subst (λ xs. AreSeen pts b (set slots (slot_of b (place pts k)) k) (k + 1) xs) (sym told) next)
-    by_slot (inr held) =
-        let e : first ≡ slot_at slots s = held_first (slot_at slots s) first held is in
-        let below : first < k = subst (λ n. n < k) (sym e) held in
-        let next = again_seen pts b slots k (marked_ids 0 marks) old within few first (subst (λ n. slot_at slots n ≡ first) at (sym e)) below same in
-        let told : marked_ids 0 (marks ++ (first == k) ∷ []) ≡ marked_ids 0 marks =
-        ap (λ v. marked_ids 0 (marks ++ v ∷ [])) (is_other first k below) ∙ marked_more 0 marks false ∙ append-nil (marked_ids 0 marks) in
-        let slots-are : set slots s first ≡ slots = ap (set slots s) e ∙ set-get_or slots s NO_ID in
-        subst (λ xs. AreSeen pts b xs (k + 1) (marked_ids 0 (marks ++ (first == k) ∷ []))) (sym slots-are)
-        (subst (λ xs. AreSeen pts b slots (k + 1) xs) (sym told) next)
 
 -- when all were seen, the ids are the distinct ones
 pub all_seen : (pts : List Vector) (b : CloseBox) (slots : List ℕ) (k : ℕ) (ids : List ℕ) → AreSeen pts b slots k ids → length pts ≤ k → AreDistinctIds pts ids

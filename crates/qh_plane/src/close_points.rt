@@ -8,7 +8,6 @@ ghost use Rattle.std.specs.Prelude.{◌≡◌, ◌≤◌, ◌<◌, ◌↔◌, If
 ghost use Rattle.qh_model.specs.headline.DistinctIds.{AreDistinctIds};
 ghost use Rattle.qh_plane.specs.steps.CloseBoxes.{slot_of};
 
-use crate::distinct_points::marked_ids;
 use crate::place_keys::biased;
 use qh_model::{Id, POINT_LIMIT, Point};
 use qh_pred::in_line;
@@ -202,19 +201,18 @@ pub fn distinct_in_box(alloc: Global, pts: &[Point]) -> Result<Option<Vec<Id>>, 
         return Ok(None);
     };
     let mut slots = vec![in alloc; NO_ID; close.slots as usize]?;
-    let mut marks = Vec::with_capacity(alloc, pts.len())?;
+    let mut ids = Vec::with_capacity(alloc, pts.len().min(slots.len()))?;
     for number in 0..pts.len() {
         let slot = close.slot(pts[number]) as usize;
         if slot >= slots.len() {
             return Ok(None);
         }
-        // Whether the slot is free is no branch: none could foresee it, and each would wait for the slot.
-        let first = slots[slot].min(number as u32);
-        if !same_point(pts[first as usize], pts[number]) {
+        if slots[slot] == NO_ID {
+            slots[slot] = number as u32;
+            ids.push(Id::new(number as u32))?;
+        } else if !same_point(pts[slots[slot] as usize], pts[number]) {
             return Ok(None);
         }
-        slots[slot] = first;
-        marks.push_reserved(first as usize == number);
     }
-    Ok(Some(marked_ids(alloc, &marks)?))
+    Ok(Some(ids))
 }
