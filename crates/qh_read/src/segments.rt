@@ -12,6 +12,9 @@ use std::alloc::{AllocError, Global};
 use std::thread;
 use std::thread::Threads;
 
+/// Fewer bytes are parsed by the calling thread, which takes less time than the start of others.
+const SHARED_FROM: usize = 393_216;
+
 /// Creates `count` empty segments, each with room for the points of `bytes` bytes.
 pub fn new_segments(alloc: Global, count: usize, bytes: usize) -> Result<Vec<Segment>, AllocError>
     ensures count { IfOk result (λ segments. vec_len segments ≡ count) }
@@ -33,14 +36,22 @@ fn segment_at(text: &[u8], size: usize, i: usize) -> &[u8]
     &rest[..size.min(rest.len())]
 }
 
-/// Parses the segments of this text, each in a thread of its own.
+/// Returns how many threads parse the segments of a text of this length.
+fn threads_for(segments: usize, length: usize) -> usize
+    requires { 0 < segments }
+    ensures { 0 < result }
+{
+    if length < SHARED_FROM { 1 } else { segments }
+}
+
+/// Parses the segments of this text, each in a thread of its own where the text is long.
 pub fn go_over_all<R: Threads + Sync>(rt: &R, segments: &mut [Segment], text: &[u8])
     requires some { 0 < length segments.old }
     requires small { length text.now < 2 ^ 31 }
     ensures { AreSegments segments.new text.now }
 {
-    let threads = segments.len();
-    let size = text.len() / threads + 1;
+    let size = text.len() / segments.len() + 1;
+    let threads = threads_for(segments.len(), text.len());
     thread::for_each_mut(
         rt,
         segments,
