@@ -1,5 +1,5 @@
 -- A plane whose normal is divided by a step, with room below its offset for what the division leaves, is under the plane.
-use Rattle.std.proofs.Common.{◌≡◌, arith, sym, ◌∙◌, ap}
+use Rattle.std.proofs.Common.{◌≡◌, arith, ◌∙◌, ap}
 use Rattle.std.proofs.lemmas.Int.{ints}
 use Rattle.std.specs.Prelude.{ℤ, pos, ◌+ℤ◌, ◌-ℤ◌, ◌*ℤ◌, ◌≤ℤ◌, ◌<ℤ◌}
 use Rattle.qh_model.specs.declared.limits.TheConstants.{COORDINATE_LIMIT}
@@ -7,7 +7,7 @@ use Rattle.qh_model.specs.headline.Vector.{Vector, dot}
 use Rattle.qh_model.specs.headline.Limits.{IsCoordinate}
 use Rattle.qh_model.proofs.algebra.Order.{mul-le}
 use Rattle.qh_model.proofs.algebra.Integers.{add_mul, mul_add, mul_assoc, mul_comm, mul_one, mul_swap}
-use Rattle.qh_pred.specs.contract.Planes.{PlaneValue, height}
+use Rattle.qh_pred.specs.contract.Planes.{PlaneValue}
 use Rattle.qh_block.specs.steps.CoarsePlanes.{IsLowered, IsRest, IsRoomFor, IsUnder}
 
 -- the greatest coordinate

@@ -1,9 +1,9 @@
 -- Where the octants of a box have points of a set, what the box holds, but at a corner, is not extreme in the set.
-use Rattle.std.proofs.Common.{ℕ, ◌≡◌, ◌⊎◌, ⊎_elim, inl, inr, List, [], ◌∷◌, Bool, true, false, arith, refl, subst, sym}
+use Rattle.std.proofs.Common.{ℕ, ◌≡◌, ⊎_elim, inl, inr, List, [], ◌∷◌, Bool, true, false, arith, refl, subst, sym}
 use Rattle.std.proofs.lemmas.Int.{ints, by_lt_z}
-use Rattle.std.specs.Prelude.{ℤ, pos, ◌*ℤ◌, ◌≤ℤ◌, ◌<ℤ◌}
+use Rattle.std.specs.Prelude.{ℤ, pos, ◌*ℤ◌, ◌≤ℤ◌}
 use Rattle.std.proofs.lemmas.List.Elements.{All-from_recursion}
-use Rattle.qh_model.specs.headline.{Vector.Vector, Vector.dot, Predicates.place, Sets.In, Sets.Members, Extreme.Extreme, Extreme.Others}
+use Rattle.qh_model.specs.headline.{Vector.Vector, Predicates.place, Sets.Members, Extreme.Others}
 use Rattle.qh_model.specs.laws.Separator.{Separator}
 use Rattle.qh_model.proofs.Members.{All-In}
 use Rattle.qh_model.proofs.combinations.Alternatives.{combination_or_separator}

@@ -12,10 +12,10 @@ use Rattle.qh_model.proofs.extremes.{ExtremeIds.combination_within}
 use Rattle.qh_model.proofs.lists.{Joined.in_append, Joined.of_append, Rising.rising_append, Rising.rising_between}
 use Rattle.qh_model.proofs.surfaces.{Inside.inner_is_not_extreme, Stored.live_is_marked}
 use Rattle.qh_pred.specs.contract.Planes.{PlaneValue, height}
-use Rattle.qh_mesh.specs.contract.{Replacement.IsLive, SoundMesh.facet_vol}
+use Rattle.qh_mesh.specs.contract.{Replacement.IsLive}
 use Rattle.qh_block.specs.declared.inner_points.cells.Cell.{Cell}
 use Rattle.qh_block.specs.declared.inner_points.columns.Columns.{Columns}
-use Rattle.qh_block.specs.steps.InnerPoints.{numbered, IsCellOf, IsHeld, HoldsPoint, HasPlane, HasPlanes, IsUnderFacet, HasNoExtreme, AreInner}
+use Rattle.qh_block.specs.steps.InnerPoints.{numbered, IsCellOf, IsHeld, HasPlane, HasPlanes, IsUnderFacet, HasNoExtreme, AreInner}
 use Rattle.qh_block.specs.steps.InnerPoints.{IsKept, KeepsExtremes, IsOuterPart}
 use Rattle.qh_surface.proofs.LiveFacets.{all_live, rest_live}
 

@@ -7,4 +7,3 @@ pub mod FlatBodies
 pub mod IdSets
 pub mod InnerPoints
 pub mod Segments
-pub mod SolidEdges

@@ -80,6 +80,9 @@ pub(crate) const BOX_SAMPLE: usize = 128;
 /// Threads share the filter's way over at least this many ids.
 pub(crate) const SHARED_FROM: usize = 16_384;
 
+/// Threads share the making of the cells of at least this many columns.
+pub(crate) const SHARED_COLUMNS: usize = 256;
+
 /// This many ids tell by the share of them that is extreme whether a division pays.
 ///
 /// Of fewer ids a large share is extreme in every set.

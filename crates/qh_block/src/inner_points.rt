@@ -65,7 +65,7 @@ fn ids_after_round<S: Sieve>(
     }
     let sample = one_of(alloc, ids, round.stride(ids.len()))?;
     let sampled = IdSet { pts, ids: &sample };
-    let Some(columns) = inner_columns(alloc, sampled, round.side_bits)? else {
+    let Some(columns) = inner_columns(sieve, alloc, sampled, round.side_bits)? else {
         return Ok(None);
     };
     if !has_most(&columns, sampled, 1) {

@@ -35,4 +35,4 @@ pub use face_order::sort_faces;
 pub use faces::faces_of_chosen;
 pub use hulls::{cull_interior, extremes, extremes_unculled, hull};
 pub use qh_surface::surface;
-pub use solids::body_of_faces;
+pub use solids::{Tally, body_of_faces, tally_of};

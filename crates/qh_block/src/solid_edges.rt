@@ -1,6 +1,6 @@
 //! The number of edges of polygons.
 ghost use Rattle.std.specs.Prelude.{◌≡◌, ◌≤◌, IfOk, List, ℕ, length};
-ghost use Rattle.qh_block.specs.steps.SolidEdges.{ups, all_edges_up};
+ghost use Rattle.qh_block.specs.contract.SolidEdges.{ups, all_edges_up};
 
 use qh_model::{Id, Memory, Polygon};
 

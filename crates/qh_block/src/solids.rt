@@ -12,7 +12,7 @@ ghost use Rattle.qh_model.specs.headline.Sets.{In, Once, Members};
 ghost use Rattle.qh_model.specs.headline.Vector.{Vector};
 ghost use Rattle.qh_model.specs.contract.StoredSurface.{surface_of};
 ghost use Rattle.qh_plane.specs.contract.Shapes.{IsInLine, IsInPlane, IsFirstNot, AreFirstTwo};
-ghost use Rattle.qh_block.specs.steps.Faces.{all_members};
+ghost use Rattle.qh_block.specs.contract.Tallies.{all_members, IsTally};
 ghost use Rattle.qh_surface.specs.contract.NamedMeshes.{named, IsNamedMesh};
 
 use crate::face_order::sort_faces;
@@ -71,27 +71,44 @@ pub fn solid_extremes(alloc: Global, pts: &[Point], surface: &NamedMesh) -> Resu
     Ok(extremes)
 }
 
-/// Returns the hull of a solid set, from its faces in rising lexicographic order.
-///
-/// The caller promises that the polygons are faces of the set, one at least, and that they close up: each
-/// step from a corner to the next is taken as often as the step back. Then they are all faces of the set
-/// (`laws::closed_faces_are_hull`).
+/// What is told of the faces of a solid set beside them.
+#[derive(Drop)]
+pub struct Tally {
+    /// Their corners, rising, each once: the extreme ids.
+    pub extremes: Vec<Id>,
+    /// How many edges they have.
+    pub edges: u64,
+}
+
+/// Returns what is told of polygons beside them.
 ///
 /// # Errors
 ///
 /// `Memory` where an allocation failed.
-pub fn body_of_faces(alloc: Global, polygons: Vec<Polygon>) -> Result<Body, Memory>
-    ensures { IfOk result (λ b. (at : ℕ → Vector) (ids : List ℕ) → HasDistinctPoints at (Members ids) → IsDimension at (Members ids) 3
-        → AreClosedFaces at (Members ids) polygons.items → RiseStrictly polygons.items → IsBody at (Members ids) b) }
+pub fn tally_of(alloc: Global, polygons: &[Polygon]) -> Result<Tally, Memory>
+    ensures { IfOk result (IsTally polygons.now) }
 {
-    let extremes = corners(alloc, &polygons)?;
-    let edges = edge_count(&polygons)?;
-    Ok(Body {
+    let extremes = corners(alloc, polygons)?;
+    let edges = edge_count(polygons)?;
+    Ok(Tally { extremes, edges })
+}
+
+/// Returns the hull of a solid set, from its faces in rising lexicographic order, and what is told of them.
+///
+/// The caller promises that the polygons are faces of the set, one at least, and that they close up: each
+/// step from a corner to the next is taken as often as the step back. Then they are all faces of the set
+/// (`laws::closed_faces_are_hull`).
+pub fn body_of_faces(polygons: Vec<Polygon>, tally: Tally) -> Body
+    requires { IsTally polygons.items tally }
+    ensures { (at : ℕ → Vector) (ids : List ℕ) → HasDistinctPoints at (Members ids) → IsDimension at (Members ids) 3
+        → AreClosedFaces at (Members ids) polygons.items → RiseStrictly polygons.items → IsBody at (Members ids) result }
+{
+    Body {
         dim: 3,
-        extremes,
+        extremes: tally.extremes,
         polygons,
-        edges,
-    })
+        edges: tally.edges,
+    }
 }
 
 /// Returns the hull of a set with a finished mesh.
@@ -102,5 +119,6 @@ pub fn solid_body(alloc: Global, pts: &[Point], surface: &NamedMesh) -> Result<B
 {
     let polygons = faces(alloc, pts, surface)?;
     let polygons = sort_faces(alloc, polygons)?;
-    body_of_faces(alloc, polygons)
+    let tally = tally_of(alloc, &polygons)?;
+    Ok(body_of_faces(polygons, tally))
 }

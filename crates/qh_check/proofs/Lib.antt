@@ -11,6 +11,7 @@ pub mod MetBehind
 pub mod MetLists
 pub mod RepeatedNumbers
 pub mod SortedNumbers
+pub mod StepHalves
 pub mod Steps
 pub mod SurfaceVerdicts
 pub mod Verdicts

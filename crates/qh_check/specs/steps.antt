@@ -4,5 +4,6 @@ pub mod Faces
 pub mod Findings
 pub mod HullFaces
 pub mod Rounds
+pub mod StepHalves
 pub mod StepKeys
 pub mod Verdicts

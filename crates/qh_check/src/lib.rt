@@ -14,6 +14,7 @@ mod asked_faces;
 mod asking;
 mod claims;
 mod closed;
+mod closed_in_threads;
 mod corner_table;
 mod extent;
 mod face_table;
@@ -33,7 +34,8 @@ mod verdict;
 
 pub use asked_faces::are_faces;
 pub use claims::{check, check_by_workers};
-pub use closed::{Step, open_step, open_step_in_threads};
+pub use closed::{Step, open_step};
+pub use closed_in_threads::open_step_in_threads;
 pub use extent::Extent;
 pub use flaw::SurfaceVerdict;
 pub use order::out_of_order;

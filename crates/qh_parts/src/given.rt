@@ -4,17 +4,20 @@ ghost use Rattle.qh_model.specs.headline.Sets.{In};
 ghost use Rattle.qh_seam.specs.contract.Parts.{IsPartOf};
 ghost use Rattle.qh_parts.specs.steps.Given.{IsGiven};
 
-use qh_guess::{Outline, marks_of, outline_of};
+use qh_block::sort_faces;
+use qh_guess::{Border, Outline, border_of, marks_of, outline_of};
 use qh_model::{Id, Memory, Polygon};
 use qh_seam::{Divided, Guess, staying_faces};
 use qh_threads::map_indices;
 use std::alloc::{AllocError, Global};
 use std::thread::Threads;
 
-/// Faces that stay, and the corners of the facets that go beside them.
+/// Faces that parts contribute, and what the polygons between them are found by: the border of each part, and the
+/// corners of the facets that go.
 #[derive(Drop)]
 pub(crate) struct Given {
     pub faces: Vec<Polygon>,
+    pub borders: Vec<Border>,
     pub seam: Vec<Id>,
 }
 
@@ -59,20 +62,14 @@ fn given_by(
     let Some(faces) = staying_faces(alloc, set, number, guess)? else {
         return Ok(None);
     };
+    let sorted = sort_faces(alloc, faces)?;
+    let mut borders = Vec::new(alloc);
+    borders.push(border_of(alloc, &sorted, set.pts.len(), &marks.seam)?)?;
     Ok(Some(Given {
-        faces,
+        faces: sorted,
+        borders,
         seam: marks.seam,
     }))
-}
-
-/// Adds polygons to a list.
-fn add_all(polygons: &mut Vec<Polygon>, mut others: Vec<Polygon>) -> Result<(), AllocError>
-    ensures { OnOk result ((q : List ℕ) → In q polygons.new.items → In q polygons.old.items ⊎ In q others.items) }
-{
-    while let Some(polygon) = others.pop() {
-        polygons.push(polygon)?;
-    }
-    Ok(())
 }
 
 /// Returns what all parts contribute together, if each contributes something.
@@ -85,16 +82,23 @@ fn all_given(
     ensures { IfOk result (λ found. IfSome found (IsGiven set.entry.pts.now set.entry.shared.now set.entry.parts.now)) }
 {
     let mut faces = Vec::new(alloc);
+    let mut borders = Vec::new(alloc);
     let mut seam = Vec::new(alloc);
     while let Some(answer) = made.pop() {
         let found = answer?;
         let Some(given) = found else {
             return Ok(None);
         };
-        add_all(&mut faces, given.faces)?;
+        let (mut own, mut border) = (given.faces, given.borders);
+        faces.append(&mut own)?;
+        borders.append(&mut border)?;
         seam.extend_from_slice(&given.seam)?;
     }
-    Ok(Some(Given { faces, seam }))
+    Ok(Some(Given {
+        faces,
+        borders,
+        seam,
+    }))
 }
 
 /// Returns what the parts of a set contribute, by a thread for each. None where the guess of one is not seen to

@@ -2,19 +2,22 @@
 ghost use Rattle.std.specs.Prelude.{◌≡◌, ◌<◌, ℕ, List, IfOk, IfSome, length};
 ghost use Rattle.std.specs.List.{All, flat_map};
 ghost use Rattle.std.specs.List.Sorted.{IsStrictlyIncreasing};
-ghost use Rattle.qh_model.specs.contract.IdSets.{AreIndices, IsIdSet};
+ghost use Rattle.qh_model.specs.contract.IdSets.{AreIndices, HasDistinctPoints, IsIdSet};
+ghost use Rattle.qh_model.specs.headline.Dimension.{IsDimension};
 ghost use Rattle.qh_model.specs.headline.Hull.{IsBody};
 ghost use Rattle.qh_model.specs.headline.Predicates.{place};
 ghost use Rattle.qh_model.specs.headline.Sets.{In, Members};
+ghost use Rattle.qh_model.specs.headline.Vector.{Vector};
 ghost use Rattle.qh_seam_laws.specs.contract.Parts.{AreKept};
 ghost use Rattle.qh_seam.specs.contract.Parts.{ids_in, KeepsCorners, IsPartOf};
+ghost use Rattle.qh_parts.specs.steps.Outcomes.{IsOutcome};
 
 use crate::given::{given_in_threads, outlines_in_threads};
 use crate::pieces::{Pieces, are_indices, parts_in_threads};
 use qh_block::{TELLING, are_few, extremes, hull};
-use qh_guess::{Outline, along_curve, bridge, is_worth, shared_ids};
-use qh_model::{Body, Id, Memory, Point};
-use qh_seam::{Divided, join_faces, kept_ids};
+use qh_guess::{Outline, along_curve, bridge_over, is_worth, shared_ids};
+use qh_model::{Body, Id, Memory, Point, Polygon};
+use qh_seam::{Divided, body_of_joined, join_faces, kept_ids};
 use std::alloc::Global;
 use std::thread::Threads;
 
@@ -79,41 +82,71 @@ fn has_seams(set: Divided, outlines: &[Outline], seams: Seams) -> bool {
     }
 }
 
-/// Returns the hull of a set from its parts: of what is kept of it where the parts are told apart by too many facets,
-/// else of faces that the parts give out. None where it does not come out.
-fn hull_of_divided<R: Threads>(
+/// What the parts of a set come to.
+#[derive(Drop)]
+pub(crate) enum Outcome {
+    /// The hull of what is kept of the set, and so of the set.
+    Hull(Body),
+    /// Faces of the set, in order. Whether they are all is not seen yet.
+    Faces(Vec<Polygon>),
+}
+
+/// Returns what the parts of a set come to: the hull of what is kept of it where the parts are told apart by too many
+/// facets, else faces that the parts contribute and those between them. None where it does not come out.
+fn outcome_of<R: Threads>(
     rt: &R,
     alloc: Global,
     set: Divided,
     kept: &[Id],
     workers: u32,
     seams: Seams,
-) -> Result<Option<Body>, Memory>
-    requires some { 0 < length set.parts.now }
+) -> Result<Option<Outcome>, Memory>
     requires parts { All (IsPartOf set.pts.now set.shared.now) set.parts.now }
     requires shared { AreIndices set.pts.now set.shared.now }
-    ensures { IfOk result (λ found. IfSome found (λ b. (ids : List ℕ) → IsIdSet set.entry.pts.now ids
+    ensures { IfOk result (λ found. IfSome found (λ o. (ids : List ℕ) → IsIdSet set.entry.pts.now ids
         → ((l : ℕ) → In l (flat_map ids_in set.entry.parts.now) → In l ids)
         → KeepsCorners set.entry.parts.now set.entry.shared.now kept.now → IsStrictlyIncreasing kept.now
-        → AreKept (place set.entry.pts.now) ids kept.now → IsBody (place set.entry.pts.now) (Members ids) b)) }
+        → AreKept (place set.entry.pts.now) ids kept.now → IsOutcome set.entry.pts.now ids kept.now o)) }
 {
     let outlines = outlines_in_threads(rt, alloc, set)?;
     if !has_seams(set, &outlines, seams) {
         let Some(body) = hull_of_kept(alloc, set.pts, kept)? else {
             return Ok(None);
         };
-        return Ok(Some(body));
+        return Ok(Some(Outcome::Hull(body)));
     }
     let Some(given) = given_in_threads(rt, alloc, set, &outlines)? else {
         return Ok(None);
     };
-    let Some(bridges) = bridge(alloc, set.pts, &given.faces, &given.seam)? else {
+    let Some(bridges) = bridge_over(alloc, set.pts, &given.borders, &given.seam)? else {
         return Ok(None);
     };
-    let Some(joined) = join_faces(rt, alloc, set, given.faces, bridges, workers as usize)? else {
+    let Some(faces) = join_faces(rt, alloc, set, given.faces, bridges, workers as usize)? else {
         return Ok(None);
     };
-    Ok(Some(joined))
+    Ok(Some(Outcome::Faces(faces)))
+}
+
+/// Returns the hull of a set from what its parts come to. None where their faces do not close up.
+fn body_of_outcome<R: Threads>(
+    rt: &R,
+    alloc: Global,
+    outcome: Outcome,
+    workers: usize,
+) -> Result<Option<Body>, Memory>
+    ensures { IfOk result (λ found. IfSome found (λ b. (pts : List Vector) (ids kept : List ℕ) → HasDistinctPoints (place pts) (Members ids)
+        → IsDimension (place pts) (Members ids) 3 → AreKept (place pts) ids kept → IsOutcome pts ids kept outcome
+        → IsBody (place pts) (Members ids) b)) }
+{
+    match outcome {
+        Outcome::Hull(body) => Ok(Some(body)),
+        Outcome::Faces(faces) => {
+            let Some(body) = body_of_joined(rt, alloc, faces, workers)? else {
+                return Ok(None);
+            };
+            Ok(Some(body))
+        }
+    }
 }
 
 /// Returns the hull of a set by parts of it, however small it is. None where it does not come out: a part lies in a
@@ -166,7 +199,12 @@ pub fn hull_by_parts<R: Threads>(
         parts: &parts,
         shared: &shared,
     };
-    let Some(body) = hull_of_divided(rt, alloc, set, &kept, workers, parting.seams)? else {
+    let Some(outcome) = outcome_of(rt, alloc, set, &kept, workers, parting.seams)? else {
+        return Ok(None);
+    };
+    // The meshes make way for the steps round the faces.
+    drop(parts);
+    let Some(body) = body_of_outcome(rt, alloc, outcome, workers as usize)? else {
         return Ok(None);
     };
     Ok(Some(body))

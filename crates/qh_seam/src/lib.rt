@@ -29,7 +29,7 @@ mod triangles;
 mod witnesses;
 
 pub use chunks::parts_of;
-pub use joined::join_faces;
+pub use joined::{body_of_joined, join_faces};
 pub use kept::kept_ids;
 pub use parts::Part;
 pub use staying::{Divided, Guess, staying_faces};

@@ -4,7 +4,7 @@ ghost use Rattle.qh_model.specs.contract.IdSets.{AreIndices};
 ghost use Rattle.qh_mesh.specs.contract.Replacement.{IsLive};
 ghost use Rattle.qh_surface.specs.contract.NamedMeshes.{IsNamedMesh};
 
-use crate::{Divided, Guess, Run, join_faces, kept_ids, parts_of, staying_faces};
+use crate::{Divided, Guess, Run, body_of_joined, join_faces, kept_ids, parts_of, staying_faces};
 use qh_mesh::FacetNo;
 use qh_model::{Body, Id, Memory, Point, Polygon};
 use qh_pred::{point_at, vol};
@@ -249,7 +249,10 @@ fn cube_with<R: Threads>(
     };
     let given = polygons_of(alloc, given)?;
     let bridges = polygons_of(alloc, bridges)?;
-    join_faces(rt, alloc, set, given, bridges, 2)
+    match join_faces(rt, alloc, set, given, bridges, 2)? {
+        Some(faces) => body_of_joined(rt, alloc, faces, 2),
+        None => Ok(None),
+    }
 }
 
 /// The square that the first part contributes.

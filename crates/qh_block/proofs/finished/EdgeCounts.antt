@@ -8,7 +8,7 @@ use Rattle.qh_model.specs.contract.IdSets.{HasDistinctPoints}
 use Rattle.qh_model.specs.headline.{Polygon.FollowsAlong, Polygon.Follows, Polygons.AreFaces, Polygons.IsEdge, Polygons.IsEdgeCount}
 use Rattle.qh_model.proofs.polygons.{Edges.one_face_each_way, Edges.other_face, Neighbours.along_members}
 use Rattle.qh_model.proofs.lists.Joined.{once_append, in_flat_map, of_flat_map}
-use Rattle.qh_block.specs.steps.SolidEdges.{ups_along, ups, all_edges_up}
+use Rattle.qh_block.specs.contract.SolidEdges.{ups_along, ups, all_edges_up}
 
 abbrev Pair : Type 0
 Pair = ℕ × ℕ

@@ -12,7 +12,8 @@ use Rattle.qh_model.proofs.polygons.ClosedFaces.{closed_faces_are_all, closed_fa
 use Rattle.qh_model.proofs.polygons.Steps.{faces_close, ordered_once}
 use Rattle.qh_model.proofs.surfaces.{Complete.finished_is_solid, Complete.polygons_of_facets, FacetPlanes.level_itself}
 use Rattle.qh_model.proofs.surfaces.{Finished.extremes_are_corners, Stored.live_is_marked}
-use Rattle.qh_block.specs.steps.{Faces.AreFacetFaces, Faces.all_members, SolidEdges.all_edges_up}
+use Rattle.qh_block.specs.steps.Faces.{AreFacetFaces}
+use Rattle.qh_block.specs.contract.{SolidEdges.all_edges_up, Tallies.all_members}
 use Rattle.qh_block.proofs.finished.EdgeCounts.{edges_of_faces}
 
 -- the hull of a solid set, by faces that close up, with their members and their ways up

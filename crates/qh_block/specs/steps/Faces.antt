@@ -57,7 +57,3 @@ pub record AreFacetFaces (at : ℕ → Vector) (A : ℕ → Type 0) (fs : List S
   pub each : (f : ℕ) → IsLive fs f → (q : List ℕ) × In q qs × IsFacetPolygon at A fs f q
   pub only : (q : List ℕ) → In q qs → (f : ℕ) × IsLive fs f × IsFacetPolygon at A fs f q
   pub apart : AreApart qs
-
--- the members of all polygons, one after the other
-abbrev pub all_members : List (List ℕ) → List ℕ
-all_members qs = flat_map (λ q. q) qs

@@ -11,6 +11,7 @@ use crate::inner_points::coarse_planes::CoarsePlane;
 use crate::inner_points::grid::{Grid, Square};
 use crate::inner_points::heights::Heights;
 use crate::inner_points::regions::Region;
+use crate::inner_points::sieves::Sieve;
 use qh_model::{Memory, Point};
 use std::alloc::{AllocError, Global};
 
@@ -101,23 +102,60 @@ fn push_square(
     Ok(())
 }
 
+/// Returns the cells of all columns of a grid, 2 to a power along each axis, quarter by quarter.
+pub fn cells_between(
+    alloc: Global,
+    planes: &[CoarsePlane],
+    grid: &Grid,
+    side_bits: u32,
+) -> Result<Vec<Cell>, Memory>
+    ensures { IfOk result (λ v. All (IsCellOf planes.now) v.items) }
+{
+    let whole = Cell::whole(alloc, planes.len())?;
+    let square = Square::whole(side_bits);
+    let mut cells = Vec::with_capacity(alloc, square.columns().saturating_mul(3))?;
+    push_square(alloc, planes, grid, &square, &whole, &mut cells)?;
+    Ok(cells)
+}
+
+/// Returns the cells of those quarters of a grid that have these numbers, one quarter after the other.
+pub fn cells_of_quarters(
+    alloc: Global,
+    planes: &[CoarsePlane],
+    grid: &Grid,
+    side_bits: u32,
+    numbers: &[u32],
+) -> Result<Vec<Cell>, Memory>
+    ensures { IfOk result (λ v. All (IsCellOf planes.now) v.items) }
+{
+    let whole = Cell::whole(alloc, planes.len())?;
+    let square = Square::whole(side_bits);
+    let bits = side_bits.saturating_sub(1);
+    let mut cells = Vec::new(alloc);
+    for number in numbers {
+        let quarter = square.quarter(bits, *number);
+        let part = cell_over(alloc, planes, &whole, &grid.bounds(&quarter))?;
+        push_square(alloc, planes, grid, &quarter, &part, &mut cells)?;
+    }
+    Ok(cells)
+}
+
 impl Columns {
     /// Returns the columns over the points of ids, 2 to a power along each axis, with their cells between
-    /// planes.
-    pub fn between(
+    /// planes, which a sieve makes.
+    pub fn between<S: Sieve>(
+        sieve: &S,
         alloc: Global,
         planes: Vec<CoarsePlane>,
         set: IdSet,
         side_bits: u32,
     ) -> Result<Columns, Memory>
+        requires { S.ready sieve.now }
         ensures planes { IfOk result (λ c. c.planes.items ≡ planes.items) }
         ensures cells { IfOk result (λ c. All (IsCellOf c.planes.items) c.cells.items) }
     {
         let grid = Grid::over(set, side_bits);
-        let whole = Cell::whole(alloc, planes.len())?;
-        let square = Square::whole(side_bits);
-        let mut cells = Vec::with_capacity(alloc, square.columns().saturating_mul(3))?;
-        push_square(alloc, &planes, &grid, &square, &whole, &mut cells)?;
+        let cells = sieve.cells(alloc, &planes, &grid, side_bits)?;
         Ok(Columns {
             grid,
             planes,

@@ -9,6 +9,7 @@ use crate::blocking::sample_pays;
 use crate::id_set::IdSet;
 use crate::inner_points::coarse_planes::CoarsePlane;
 use crate::inner_points::columns::Columns;
+use crate::inner_points::sieves::Sieve;
 use crate::solids::solid_mesh;
 use qh_mesh::Mesh;
 use qh_model::{Id, Memory, Point};
@@ -51,14 +52,16 @@ fn rise(ids: &[Id]) -> bool
     true
 }
 
-/// Returns the columns inside the hull of a sample, 2 to a power along each axis; `None` if it lies in a
+/// Returns the columns inside the hull of a sample, 2 to a power along each axis, by a sieve; `None` if it lies in a
 /// plane or does not rise, or if it has more facets than a set has with many ids inside.
-pub fn inner_columns(
+pub fn inner_columns<S: Sieve>(
+    sieve: &S,
     alloc: Global,
     sample: IdSet,
     side_bits: u32,
 ) -> Result<Option<Columns>, Memory>
-    requires { 0 < length sample.ids.now }
+    requires some { 0 < length sample.ids.now }
+    requires ready { S.ready sieve.now }
     ensures { IfOk result (λ found. IfSome found (AreInner sample.entry.pts.now sample.entry.ids.now)) }
 {
     let Shape::Solid(i, j, k, l) = rank(sample.pts, sample.ids) else {
@@ -72,5 +75,5 @@ pub fn inner_columns(
     if !sample_pays(planes.len(), sample.ids.len()) {
         return Ok(None);
     }
-    Ok(Some(Columns::between(alloc, planes, sample, side_bits)?))
+    Ok(Some(Columns::between(sieve, alloc, planes, sample, side_bits)?))
 }

@@ -1,21 +1,38 @@
-//! Who sorts out the ids that columns hold: the calling thread alone, or threads side by side.
-ghost use Rattle.std.specs.Prelude.{◌≡◌, ◌*◌, ◌≤◌, ◌<◌, ℕ, IfOk, Result, Vec, take, drop, length, slice_index_or};
+//! Who makes the cells of columns, and sorts out the ids that columns hold: the calling thread alone, or threads
+//! side by side.
+ghost use Rattle.std.specs.Prelude.{◌≡◌, ◌*◌, ◌≤◌, ◌<◌, ℕ, List, IfOk, Result, Vec, take, drop, length, slice_index_or};
+ghost use Rattle.std.specs.List.{All};
 ghost use Rattle.std.specs.Thread.{IsSync};
-ghost use Rattle.qh_block.specs.steps.InnerPoints.{HoldsPoint, KeepsExtremes};
+ghost use Rattle.qh_pred.specs.contract.Planes.{PlaneValue};
+ghost use Rattle.qh_block.specs.steps.InnerPoints.{HoldsPoint, IsCellOf, KeepsExtremes};
 
-use crate::blocking::SHARED_FROM;
+use crate::blocking::{SHARED_COLUMNS, SHARED_FROM};
 use crate::id_set::IdSet;
-use crate::inner_points::columns::Columns;
+use crate::inner_points::cells::Cell;
+use crate::inner_points::coarse_planes::CoarsePlane;
+use crate::inner_points::columns::{Columns, cells_between, cells_of_quarters};
+use crate::inner_points::grid::{Grid, Square};
 use crate::inner_points::regions::Region;
-use qh_model::Id;
+use qh_model::{Id, Memory};
 use qh_pred::point_at;
 use std::alloc::{AllocError, Global};
 use std::thread::{self, Threads};
 
-/// A way to go over the ids of a set.
+/// A way to make the cells of columns, and to go over the ids of a set.
 pub trait Sieve {
     /// What is known of one that goes over ids.
     ghost ready: { Self → Type 0 };
+
+    /// Returns the cells of all columns of a grid, 2 to a power along each axis, quarter by quarter.
+    fn cells(
+        &self,
+        alloc: Global,
+        planes: &[CoarsePlane],
+        grid: &Grid,
+        side_bits: u32,
+    ) -> Result<Vec<Cell>, Memory>
+        requires { ready self.now }
+        ensures { IfOk result (λ v. All (IsCellOf planes.now) v.items) };
 
     /// Returns the ids that the columns don't hold, in their order.
     fn outside(&self, alloc: Global, set: IdSet, columns: &Columns) -> Result<Vec<Id>, AllocError>
@@ -101,12 +118,63 @@ fn ids_outside_in_threads<R: Threads + Sync>(
     joined(alloc, set, columns, &parts, size)
 }
 
+/// Returns the cells in a list of parts, one part after the other.
+fn joined_cells(alloc: Global, parts: Vec<Result<Vec<Cell>, Memory>>) -> Result<Vec<Cell>, Memory>
+    ensures { IfOk result (λ v. (planes : List PlaneValue) → All (λ r. IfOk r (λ part. All (IsCellOf planes) part.items)) parts.items
+        → All (IsCellOf planes) v.items) }
+{
+    let mut cells = Vec::new(alloc);
+    for part in parts {
+        let mut own = part?;
+        cells.append(&mut own)?;
+    }
+    Ok(cells)
+}
+
+/// Returns the cells of all columns of a grid, 2 to a power along each axis, quarter by quarter, by a number of
+/// threads, each at some of the quarters.
+fn cells_in_threads<R: Threads + Sync>(
+    rt: &R,
+    alloc: Global,
+    planes: &[CoarsePlane],
+    grid: &Grid,
+    side_bits: u32,
+    threads: usize,
+) -> Result<Vec<Cell>, Memory>
+    ensures { IfOk result (λ v. All (IsCellOf planes.now) v.items) }
+{
+    if threads < 2 || Square::whole(side_bits).columns() < SHARED_COLUMNS {
+        return cells_between(alloc, planes, grid, side_bits);
+    }
+    let quarters = [0, 1, 2, 3];
+    let parts = thread::map_chunks(
+        rt,
+        alloc,
+        &quarters,
+        quarters.len().div_ceil(threads),
+        &move |_start: usize, numbers: &[u32]| -> Result<Vec<Cell>, Memory>
+            ensures { IfOk result (λ v. All (IsCellOf planes.entry.now) v.items) }
+        { cells_of_quarters(alloc, planes, grid, side_bits, numbers) },
+    )?;
+    joined_cells(alloc, parts)
+}
+
 /// The calling thread alone.
 #[derive(Clone, Copy, Debug)]
 pub struct Alone;
 
 impl Sieve for Alone {
     ghost ready = { λ _. Unit {0} };
+
+    fn cells(
+        &self,
+        alloc: Global,
+        planes: &[CoarsePlane],
+        grid: &Grid,
+        side_bits: u32,
+    ) -> Result<Vec<Cell>, Memory> {
+        cells_between(alloc, planes, grid, side_bits)
+    }
 
     fn outside(&self, alloc: Global, set: IdSet, columns: &Columns) -> Result<Vec<Id>, AllocError> {
         ids_outside(alloc, set, columns)
@@ -122,6 +190,16 @@ pub struct InThreads<'a, R> {
 
 impl<R: Threads + Sync> Sieve for InThreads<'_, R> {
     ghost ready = { λ _. IsSync R.row };
+
+    fn cells(
+        &self,
+        alloc: Global,
+        planes: &[CoarsePlane],
+        grid: &Grid,
+        side_bits: u32,
+    ) -> Result<Vec<Cell>, Memory> {
+        cells_in_threads(self.rt, alloc, planes, grid, side_bits, self.threads)
+    }
 
     fn outside(&self, alloc: Global, set: IdSet, columns: &Columns) -> Result<Vec<Id>, AllocError> {
         ids_outside_in_threads(self.rt, alloc, set, columns, self.threads)

@@ -1,6 +1,6 @@
 -- The steps up of the polygons so far.
 use Rattle.std.proofs.Common.{◌≡◌, take}
-use Rattle.qh_block.specs.steps.SolidEdges.{all_edges_up}
+use Rattle.qh_block.specs.contract.SolidEdges.{all_edges_up}
 use Rattle.qh_block.proofs.solid_edges.edge_count.Given as goal
 
 abbrev pub invariant-loop-polygon : goal.invariant-loop-polygon

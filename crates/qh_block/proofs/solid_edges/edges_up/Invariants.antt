@@ -1,6 +1,6 @@
 -- What is counted, and the steps up that are left on the way.
 use Rattle.std.proofs.Common.{◌≡◌, ◌+◌, ◌≤◌, drop, length}
-use Rattle.qh_block.specs.steps.SolidEdges.{ups_along}
+use Rattle.qh_block.specs.contract.SolidEdges.{ups_along}
 use Rattle.qh_block.proofs.solid_edges.edges_up.Given as goal
 
 abbrev pub invariant-loop-id : goal.invariant-loop-id

@@ -2,6 +2,7 @@
 use Rattle.std.proofs.Common.{inl, inr, subst}
 use Rattle.std.specs.Prelude.{IfOk, IfSome}
 use Rattle.qh_model.specs.headline.Sets.{In}
+use Rattle.qh_model.proofs.lists.Joined.{of_append}
 use Rattle.qh_parts.specs.steps.Given.{IsGiven}
 use Rattle.qh_parts.proofs.Popped.{of_last, of_front}
 use Rattle.qh_parts.proofs.given.all_given.Goals as goal
@@ -15,7 +16,7 @@ loop-answer-preserved c =
     let own = rw (c.in_ok-found.was, c.in-Some-found.is) at
     (of_last (λ r. IfOk r (λ found. IfSome found (IsGiven c.args.set.pts.now c.args.set.shared.now c.args.set.parts.now)))
     _ _ all) in (
-      λ ids kept d inside keeps q m. elim (c.in_ok-add_all.ensures q m) [
+      λ ids kept d inside keeps q m. elim (of_append _ _ q (rw c.in_ok-append.ensures.items at m)) [
         | inl o ↦ c.loop-answer.invariant.0 ids kept d inside keeps q o
         | inr o ↦ own ids kept d inside keeps q o
       ],

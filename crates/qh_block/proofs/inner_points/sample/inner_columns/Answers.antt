@@ -6,7 +6,7 @@ use Rattle.qh_block.proofs.InnerPoints.{columns_are_inner}
 use Rattle.qh_block.proofs.inner_points.sample.inner_columns.Goals as goal
 
 pub returns : goal.returns
-returns c =
+returns g c =
     let pts = c.args.sample.pts.now in let ids = c.args.sample.ids.now in let between = c.in_ok-between in
     columns_are_inner pts ids c.renamed-mesh.result between.field-0
     (rw c.renamed-mesh.ensures (c.in_ok-solid_mesh.ensures.finished (rising_once ids (c.rise.ensures c.if-not-rise.false))))

@@ -1,6 +1,4 @@
 -- Each end is as before or the new point.
-use Rattle.std.proofs.Common.{sym, subst}
-use Rattle.qh_block.specs.steps.CornerBoxes.{IsPointOf}
 use Rattle.qh_block.proofs.inner_points.corner_box.Diagonal.see.Goals.{then-reach-self, else-reach-self}
 use Rattle.qh_block.proofs.inner_points.corner_box.Diagonal.see.Goals as goal
 
