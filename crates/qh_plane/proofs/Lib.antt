@@ -8,6 +8,7 @@ pub mod KeysBelow
 pub mod PlaceLists
 pub mod RepeatedIds
 pub mod SharedSlots
+mod SlotRanges
 pub mod KeptIds
 pub mod SeenPlaces
 pub mod PlaneDirections

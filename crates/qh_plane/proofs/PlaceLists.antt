@@ -17,7 +17,7 @@ use Rattle.qh_plane.proofs.PlaceOrder.{place_code-same, biased_small}
 use Rattle.qh_plane.specs.declared.distinct_points.TheConstants.{NO_PLACE}
 use Rattle.qh_plane.specs.declared.hashed_keys.TheConstants.{ID_ROOM}
 use Rattle.qh_plane.specs.declared.place_keys.TheConstants.{ROOM}
-use Rattle.qh_plane.specs.steps.HashedKeys.{place_hash, hash_at, Hashes, AreKeysBelow, AreHashedKeys, IsRepeat, RepeatsTold}
+use Rattle.qh_plane.specs.steps.HashedKeys.{place_hash, hash_at, Hashes, WithHashes, AreKeysBelow, AreHashedKeys, IsRepeat, RepeatsTold}
 use Rattle.qh_plane.specs.steps.Marks.{place_starts, marked, marked_ids}
 use Rattle.qh_plane.specs.steps.PlaceKeys.{biased, place_code, place_key, HasKey, ArePlaceKeys}
 use Rattle.qh_plane.specs.steps.Repeats.{IsRepeatedId, AreRepeats}
@@ -190,7 +190,7 @@ module _ (pts : List Vector) (some : Hashes) (keys : List ℕ) (few : length pts
         lower x y a b = omega (arith, a, b)
 
     -- so these are the ids of the points that stand before
-    pub repeats_are : AreRepeats pts some ids
+    pub repeats_are : AreRepeats pts (WithHashes pts some) ids
     repeats_are = record { has = repeats; only = repeated }
 
 -- of the keys of some hashes, once they are sorted
@@ -204,6 +204,7 @@ module _ (pts : List Vector) (some : Hashes) (given keys : List ℕ) (few : leng
   sorted_within read e = subst (All (λ x. x % ID_ROOM < length pts)) (sym e) (hashes_within pts some keys few hashed_keys rising)
 
   -- and those told are the ids of the points that stand before
-  pub sorted_repeats : (read : List ℕ) → read ≡ keys → (ids : List ℕ) → RepeatsTold pts read (length read) ids → AreRepeats pts some ids
+  pub sorted_repeats : (read : List ℕ) → read ≡ keys → (ids : List ℕ) → RepeatsTold pts read (length read) ids
+      → AreRepeats pts (WithHashes pts some) ids
   sorted_repeats read e ids told =
       repeats_are pts some keys few hashed_keys rising ids (subst (λ v. RepeatsTold pts v (length v) ids) e told)

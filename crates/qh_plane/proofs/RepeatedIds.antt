@@ -12,10 +12,10 @@ use Rattle.qh_model.specs.headline.Sets.{In}
 use Rattle.qh_model.specs.headline.Vector.{Vector}
 use Rattle.qh_plane.proofs.DistinctLists.{all_distinct, marked_distinct}
 use Rattle.qh_plane.specs.declared.hashed_keys.TheConstants.{ID_ROOM, NO_HASH, MIXER}
-use Rattle.qh_plane.specs.steps.HashedKeys.{Hashes, place_number, place_hash, hash_at, IsRepeat, RepeatsTold}
+use Rattle.qh_plane.specs.steps.HashedKeys.{place_number, place_hash, hash_at, PartHashes, WithHashes, IsRepeat, RepeatsTold}
 use Rattle.qh_plane.specs.steps.Marks.{marked_ids}
 use Rattle.qh_plane.specs.steps.PlaceKeys.{AllIds}
-use Rattle.qh_plane.specs.steps.Repeats.{IsRepeatedId, AreRepeats, AreAllRepeats, MarksWithout}
+use Rattle.qh_plane.specs.steps.Repeats.{Ids, PartsBelow, IsRepeatedId, AreRepeats, AreAllRepeats, MarksWithout}
 
 -- ---- key by key
 -- the first key repeats none
@@ -93,54 +93,66 @@ told_all pts keys n ids h told = record {
 }
 
 -- ---- part by part
--- of no hashes there is none
-pub no_repeats : (pts : List Vector) (some : Hashes) → ((h : ℕ) → some h → ⊥) → AreRepeats pts some []
-no_repeats pts some none = record { has = λ i s. absurd (none (hash_at pts i) s); only = λ i m. absurd m }
+-- of no part there is none
+pub no_repeats : (pts : List Vector) (part : ℕ → Ids) → AreRepeats pts (PartsBelow part 0) []
+no_repeats pts part = record { has = λ i s. absurd (none s.0 s.1); only = λ i m. absurd m }
+  where
+    none : (n : ℕ) → n < 0 → ⊥
+    none n l = omega (arith, l)
 
--- those of some hashes and of others are those of both
-pub repeats_joined : (pts : List Vector) (some more both : Hashes) (xs ys : List ℕ) → ((h : ℕ) → both h → some h ⊎ more h)
-    → AreRepeats pts some xs → AreRepeats pts more ys → AreRepeats pts both (xs ++ ys)
-repeats_joined pts some more both xs ys which a b = record {
-  has = λ i s r. in_append xs ys i (listed i r (which (hash_at pts i) s));
+-- those of some parts and of the next one are those of both
+pub repeats_joined : (pts : List Vector) (part : ℕ → Ids) (n : ℕ) (xs ys : List ℕ)
+    → AreRepeats pts (PartsBelow part n) xs → AreRepeats pts (part n) ys → AreRepeats pts (PartsBelow part (n + 1)) (xs ++ ys)
+repeats_joined pts part n xs ys a b = record {
+  has = λ i s r. in_append xs ys i (listed i r s.0 s.2 (below_next s.0 n s.1));
   only = λ i m. told i (of_append xs ys i m);
 }
   where
-    listed : (i : ℕ) → IsRepeatedId pts i → some (hash_at pts i) ⊎ more (hash_at pts i) → In i xs ⊎ In i ys
-    listed i r (inl s) = inl (a.has i s r)
-    listed i r (inr s) = inr (b.has i s r)
+    below_next : (q i : ℕ) → q < i + 1 → (q < i) ⊎ (q ≡ i)
+    below_next q i h = by_cases (cases_lt q i)
+      where
+        by_cases : (q < i) ⊎ (i ≤ q) → (q < i) ⊎ (q ≡ i)
+        by_cases (inl l) = inl l
+        by_cases (inr g) = inr (omega (arith, h, g))
+
+    listed : (i : ℕ) → IsRepeatedId pts i → (k : ℕ) → part k i → (k < n) ⊎ (k ≡ n) → In i xs ⊎ In i ys
+    listed i r k s (inl l) = inl (a.has i (k, l, s) r)
+    listed i r k s (inr e) = inr (b.has i (subst (λ v. part v i) e s) r)
 
     told : (i : ℕ) → In i xs ⊎ In i ys → IsRepeatedId pts i
     told i (inl m) = a.only i m
     told i (inr m) = b.only i m
 
--- a number below the next one
-pub below_next : (q i : ℕ) → q < i + 1 → (q < i) ⊎ (q ≡ i)
-below_next q i h = by_cases (cases_lt q i)
+-- those of at least some parts are those of these
+pub repeats_of_fewer : (pts : List Vector) (part : ℕ → Ids) (n k : ℕ) (ids : List ℕ) → n ≤ k → AreRepeats pts (PartsBelow part k) ids
+    → AreRepeats pts (PartsBelow part n) ids
+repeats_of_fewer pts part n k ids h r = record { has = λ i s. r.has i (s.0, later s.0 s.1, s.2); only = r.only }
   where
-    by_cases : (q < i) ⊎ (i ≤ q) → (q < i) ⊎ (q ≡ i)
-    by_cases (inl l) = inl l
-    by_cases (inr g) = inr (omega (arith, h, g))
+    later : (v : ℕ) → v < n → v < k
+    later v l = omega (arith, l, h)
+
+-- where each id lies in a part, they are all
+pub repeats_of_parts : (pts : List Vector) (part : ℕ → Ids) (n : ℕ) (ids : List ℕ) → ((i : ℕ) → PartsBelow part n i)
+    → AreRepeats pts (PartsBelow part n) ids → AreAllRepeats pts ids
+repeats_of_parts pts part n ids each r = record { has = λ i s. r.has i (each i); only = r.only }
 
 -- a hash lies in one of the parts
 hash_small : (n : ℕ) → n % 2 ^ 64 / ID_ROOM < NO_HASH
 hash_small n = omega arith
 
-pub place_hash_small : (p : Vector) → place_hash p < NO_HASH
+place_hash_small : (p : Vector) → place_hash p < NO_HASH
 unfolding place_hash
 place_hash_small p = hash_small (place_number p * MIXER)
 
-pub part_small : (h n : ℕ) → h < NO_HASH → 0 < n → h * n / NO_HASH < n
+part_small : (h n : ℕ) → h < NO_HASH → 0 < n → h * n / NO_HASH < n
 part_small h n l some = (div-lt_iff_lt-mul (omega arith)).1 (other_way (h * n) (mul-lt-mul_of_pos_right l some))
   where
     other_way : (q : ℕ) → q < NO_HASH * n → q < n * NO_HASH
     other_way q g = omega (arith, g)
 
--- those of the first parts, as many as there are, are all
-pub repeats_of_parts : (pts : List Vector) (n k : ℕ) (ids : List ℕ) → 0 < n → n ≤ k → AreRepeats pts (λ h. h * n / NO_HASH < k) ids → AreAllRepeats pts ids
-repeats_of_parts pts n k ids some h r = record { has = λ i s. r.has i (below i); only = r.only }
-  where
-    below : (i : ℕ) → hash_at pts i * n / NO_HASH < k
-    below i = let l = part_small (hash_at pts i) n (place_hash_small (place pts i)) some in omega (arith, l, h)
+-- the part of the hashes in which an id lies
+pub hash_part : (pts : List Vector) (n : ℕ) → 0 < n → (i : ℕ) → PartsBelow (λ k. WithHashes pts (PartHashes n k)) n i
+hash_part pts n some i = (hash_at pts i * n / NO_HASH, part_small (hash_at pts i) n (place_hash_small (place pts i)) some, refl)
 
 -- ---- left out
 -- where no point stands before, all ids are distinct

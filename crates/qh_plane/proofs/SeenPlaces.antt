@@ -1,4 +1,4 @@
--- The distinct ids of points in a small box, point by point: what stands in the slots, and which ids are kept.
+-- Points of a small box, point by point: what stands in the slots, and which ids are distinct.
 use Rattle.std.proofs.Common.{◌≡◌, ◌≢◌, ◌∙◌, ℕ, ◌+◌, ◌<◌, ◌≤◌, ◌⊎◌, inl, inr, List, [], ◌∷◌, ◌++◌, length, set}
 use Rattle.std.proofs.Common.{replicate, slice_index_or, arith, ap, sym, subst, get_or-set_same, get_or-set_other}
 use Rattle.std.proofs.lemmas.List.{get_or_read, length-set, get_or-replicate, length-replicate}
@@ -13,7 +13,7 @@ use Rattle.qh_model.proofs.lists.Joined.{in_append, of_append}
 use Rattle.qh_model.proofs.lists.Rising.{rising_append}
 use Rattle.qh_plane.specs.declared.close_points.CloseBox.{CloseBox}
 use Rattle.qh_plane.specs.declared.close_points.TheConstants.{NO_ID}
-use Rattle.qh_plane.specs.steps.CloseBoxes.{slot_of, slot_at, HasFirst, AreSeen}
+use Rattle.qh_plane.specs.steps.CloseBoxes.{slot_of, slot_at, HasFirst, HaveFirsts, AreSeen}
 
 -- a point that was read is that of its id
 pub point_read : (pts : List Vector) (k : ℕ) (p : Vector) → k < length pts → p ≡ slice_index_or pts k p → p ≡ place pts k
@@ -24,57 +24,64 @@ point_read pts k p l e = get_or_read pts k p l e origin
 id_is_none : (k n : ℕ) → k < n → n ≤ POINT_LIMIT → k ≢ NO_ID
 id_is_none k n l h e = omega (arith, l, h, e)
 
--- at first no point was seen
-pub none_seen : (pts : List Vector) (b : CloseBox) (n : ℕ) → AreSeen pts b (replicate n NO_ID) 0 []
-none_seen pts b n = record {
+-- ---- what stands in the slots
+-- what stands in a slot that holds an id
+held_id : (k n : ℕ) → (n ≡ NO_ID) ⊎ (n < k) → n ≢ NO_ID → n < k
+held_id k n (inl e) ne = absurd (ne e)
+held_id k n (inr l) ne = l
+
+-- at first nothing
+pub no_firsts : (pts : List Vector) (some : Vector → Type 0) (at : Vector → ℕ) (n : ℕ) → HaveFirsts pts some at (replicate n NO_ID) 0
+no_firsts pts some at n = record {
   firsts = λ j l. absurd (omega (arith, l));
   held = λ s l. inl (get_or-replicate n s NO_ID NO_ID (subst (λ (v : ℕ). s < v) (length-replicate n NO_ID) l));
-  rising = λ k l. absurd (omega (arith, l));
-  members = λ i. ((λ m. absurd m), (λ h. absurd (nothing i h.1)));
 }
-  where
-    nothing : (i : ℕ) → i < 0 → ⊥
-    nothing i l = omega (arith, l)
 
--- one point more was seen
-more_seen : (pts : List Vector) (b : CloseBox) (slots : List ℕ) (k : ℕ) (p : Vector) → HasFirst pts b slots k p → HasFirst pts b slots (k + 1) p
-more_seen pts b slots k p h = let l = h.seen in record { first = h.first; seen = omega (arith, l); is = h.is; same = h.same }
+-- the id that is read from a slot is one that was seen
+pub seen_id : (pts : List Vector) (some : Vector → Type 0) (at : Vector → ℕ) (slots : List ℕ) (k : ℕ) → HaveFirsts pts some at slots k → (s n i : ℕ) → s < length slots
+    → n ≡ slice_index_or slots s n → n ≢ NO_ID → i ≡ slice_index_or slots s i → i < k
+seen_id pts some at slots k old s n i room e ne f =
+    subst (λ m. m < k) (sym (get_or_read slots s i room f NO_ID))
+    (held_id k (slot_at slots s) (old.held s room) (λ q. ne (get_or_read slots s n room e NO_ID ∙ q)))
 
-module _ (pts : List Vector) (b : CloseBox) (slots : List ℕ) (k : ℕ) (ids : List ℕ) (old : AreSeen pts b slots k ids)
+module _ (pts : List Vector) (some : Vector → Type 0) (at : Vector → ℕ) (slots : List ℕ) (k : ℕ) (old : HaveFirsts pts some at slots k)
     (within : k < length pts) (few : length pts ≤ POINT_LIMIT) where
-  -- ---- a slot that no point has come to
-  module _ (room : slot_of b (place pts k) < length slots) (free : slot_at slots (slot_of b (place pts k)) ≡ NO_ID) where
-    abbrev pub here : ℕ
-    here = slot_of b (place pts k)
+  -- a point before has the same equal point
+  more_seen : (p : Vector) → HasFirst pts at slots k p → HasFirst pts at slots (k + 1) p
+  more_seen p h = let l = h.seen in record { first = h.first; seen = omega (arith, l); is = h.is; same = h.same }
 
-    abbrev pub after : List ℕ
+  -- and no other one has the slot of this point, where that is free
+  module _ (room : at (place pts k) < length slots) (free : slot_at slots (at (place pts k)) ≡ NO_ID) where
+    abbrev here : ℕ
+    here = at (place pts k)
+
+    abbrev after : List ℕ
     after = set slots here k
 
-    -- no point before is equal
-    new_place : (j : ℕ) → j < k → place pts j ≢ place pts k
-    new_place j l e = let f = old.firsts j l in
-        id_is_none f.first (length pts) (let s = f.seen in omega (arith, s, within)) few (sym f.is ∙ ap (λ (p : Vector). slot_at slots (slot_of b p)) e ∙ free)
-
-    kept_slot : (j : ℕ) → j < k → slot_of b (place pts j) ≢ here
-    kept_slot j l e = let f = old.firsts j l in
+    kept_slot : (j : ℕ) → j < k → some (place pts j) → at (place pts j) ≢ here
+    kept_slot j l m e = let f = old.firsts j l m in
         id_is_none f.first (length pts) (let s = f.seen in omega (arith, s, within)) few (sym f.is ∙ ap (slot_at slots) e ∙ free)
 
-    firsts_after : (j : ℕ) → j < k + 1 → HasFirst pts b after (k + 1) (place pts j)
-    firsts_after j l = by_decision (ℕ_discrete j k)
+    -- so no point before is equal
+    pub new_place : some (place pts k) → (j : ℕ) → j < k → place pts j ≢ place pts k
+    new_place m j l e = kept_slot j l (subst some (sym e) m) (ap at e)
+
+    firsts_after : (j : ℕ) → j < k + 1 → some (place pts j) → HasFirst pts at after (k + 1) (place pts j)
+    firsts_after j l m = by_decision (ℕ_discrete j k)
       where
-        by_decision : Dec (j ≡ k) → HasFirst pts b after (k + 1) (place pts j)
+        by_decision : Dec (j ≡ k) → HasFirst pts at after (k + 1) (place pts j)
         by_decision (yes e) = record {
           first = k;
           seen = omega arith;
-          is = ap (λ (n : ℕ). slot_at after (slot_of b (place pts n))) e ∙ get_or-set_same slots here k NO_ID room;
+          is = ap (λ (n : ℕ). slot_at after (at (place pts n))) e ∙ get_or-set_same slots here k NO_ID room;
           same = ap (place pts) (sym e);
         }
         by_decision (no ne) =
-            let below : j < k = omega (arith, l, ne) in let f = old.firsts j below in let s = f.seen in
+            let below : j < k = omega (arith, l, ne) in let f = old.firsts j below m in let s = f.seen in
             record {
               first = f.first;
               seen = omega (arith, s);
-              is = get_or-set_other slots here (slot_of b (place pts j)) k NO_ID (kept_slot j below) ∙ f.is;
+              is = get_or-set_other slots here (at (place pts j)) k NO_ID (kept_slot j below m) ∙ f.is;
               same = f.same;
             }
 
@@ -96,13 +103,58 @@ module _ (pts : List Vector) (b : CloseBox) (slots : List ℕ) (k : ℕ) (ids : 
         by_decision (no ne) = likewise (slot_at after s) (slot_at slots s) (get_or-set_other slots here s k NO_ID ne)
             (old.held s (subst (λ (n : ℕ). s < n) (length-set slots here k) l))
 
-    -- so it is one more distinct id
-    pub new_seen : AreSeen pts b after (k + 1) (ids ++ k ∷ [])
-    new_seen = record { firsts = firsts_after; held = held_after; rising = rises; members = λ i. (to i, from i) }
+    pub new_firsts : HaveFirsts pts some at after (k + 1)
+    new_firsts = record { firsts = firsts_after; held = held_after }
+
+  -- where the point has an equal one in its slot, or lies in none of the places, the slots stay
+  pub kept_firsts : (some (place pts k) → HasFirst pts at slots (k + 1) (place pts k)) → HaveFirsts pts some at slots (k + 1)
+  kept_firsts own = record { firsts = firsts; held = λ s h. later s (old.held s h) }
+    where
+      firsts : (j : ℕ) → j < k + 1 → some (place pts j) → HasFirst pts at slots (k + 1) (place pts j)
+      firsts j h m = by_decision (ℕ_discrete j k)
+        where
+          by_decision : Dec (j ≡ k) → HasFirst pts at slots (k + 1) (place pts j)
+          by_decision (yes q) = subst (λ (n : ℕ). HasFirst pts at slots (k + 1) (place pts n)) (sym q) (own (subst (λ n. some (place pts n)) q m))
+          by_decision (no ne) = more_seen (place pts j) (old.firsts j (omega (arith, h, ne)) m)
+
+      later : (s : ℕ) → (slot_at slots s ≡ NO_ID) ⊎ (slot_at slots s < k) → (slot_at slots s ≡ NO_ID) ⊎ (slot_at slots s < k + 1)
+      later s (inl h) = inl h
+      later s (inr h) = inr (omega (arith, h))
+
+  -- an equal point in its slot
+  pub its_first : (i : ℕ) → slot_at slots (at (place pts k)) ≡ i → i < k → place pts i ≡ place pts k → HasFirst pts at slots (k + 1) (place pts k)
+  its_first i is l e = record { first = i; seen = omega (arith, l); is = is; same = e }
+
+-- ---- which ids are distinct
+-- at first no point was seen
+pub none_seen : (pts : List Vector) (b : CloseBox) (n : ℕ) → AreSeen pts b (replicate n NO_ID) 0 []
+none_seen pts b n = record {
+  firsts = no_firsts pts (λ _. Unit {0}) (slot_of b) n;
+  rising = λ k l. absurd (omega (arith, l));
+  members = λ i. ((λ m. absurd m), (λ h. absurd (nothing i h.1)));
+}
+  where
+    nothing : (i : ℕ) → i < 0 → ⊥
+    nothing i l = omega (arith, l)
+
+module _ (pts : List Vector) (b : CloseBox) (slots : List ℕ) (k : ℕ) (ids : List ℕ) (old : AreSeen pts b slots k ids)
+    (within : k < length pts) (few : length pts ≤ POINT_LIMIT) where
+  abbrev every : Vector → Type 0
+  every _ = Unit {0}
+
+  -- a slot that no point has come to: one more distinct id
+  module _ (room : slot_of b (place pts k) < length slots) (free : slot_at slots (slot_of b (place pts k)) ≡ NO_ID) where
+    pub new_seen : AreSeen pts b (set slots (slot_of b (place pts k)) k) (k + 1) (ids ++ k ∷ [])
+    new_seen = record {
+      firsts = new_firsts pts every (slot_of b) slots k old.firsts within few room free;
+      rising = rises;
+      members = λ i. (to i, from i);
+    }
       where
         one : (i : ℕ) → In i ids ⊎ In i (k ∷ []) → IsDistinctId pts i × (i < k + 1)
         one i (inl m) = let h = (old.members i).0 m in let l = h.1 in (h.0, omega (arith, l))
-        one i (inr (inl e)) = subst (λ (n : ℕ). IsDistinctId pts n × (n < k + 1)) (sym e) ((within, new_place), omega arith)
+        one i (inr (inl e)) = subst (λ (n : ℕ). IsDistinctId pts n × (n < k + 1)) (sym e)
+            ((within, new_place pts every (slot_of b) slots k old.firsts within few room free tt), omega arith)
         one i (inr (inr m)) = absurd m
 
         to : (i : ℕ) → In i (ids ++ k ∷ []) → IsDistinctId pts i × (i < k + 1)
@@ -122,24 +174,15 @@ module _ (pts : List Vector) (b : CloseBox) (slots : List ℕ) (k : ℕ) (ids : 
             below x y m (inl e) = let l = ((old.members x).0 m).1 in subst (λ (n : ℕ). x < n) (sym e) l
             below x y m (inr n) = absurd n
 
-  -- ---- a slot with the id of an equal point
-  -- there is no distinct id more
+  -- a slot with the id of an equal point: none more
   pub again_seen : (i : ℕ) → slot_at slots (slot_of b (place pts k)) ≡ i → i < k → place pts i ≡ place pts k → AreSeen pts b slots (k + 1) ids
-  again_seen i is l e = record { firsts = firsts; held = λ s h. later s (old.held s h); rising = old.rising; members = λ j. (to j, from j) }
+  again_seen i is l e = record {
+    firsts = kept_firsts pts every (slot_of b) slots k old.firsts within few
+        (λ _. its_first pts every (slot_of b) slots k old.firsts within few i is l e);
+    rising = old.rising;
+    members = λ j. (to j, from j);
+  }
     where
-      firsts : (j : ℕ) → j < k + 1 → HasFirst pts b slots (k + 1) (place pts j)
-      firsts j h = by_decision (ℕ_discrete j k)
-        where
-          by_decision : Dec (j ≡ k) → HasFirst pts b slots (k + 1) (place pts j)
-          by_decision (yes q) =
-              subst (λ (n : ℕ). HasFirst pts b slots (k + 1) (place pts n)) (sym q)
-              (record { first = i; seen = omega (arith, l); is = is; same = e })
-          by_decision (no ne) = more_seen pts b slots k (place pts j) (old.firsts j (omega (arith, h, ne)))
-
-      later : (s : ℕ) → (slot_at slots s ≡ NO_ID) ⊎ (slot_at slots s < k) → (slot_at slots s ≡ NO_ID) ⊎ (slot_at slots s < k + 1)
-      later s (inl h) = inl h
-      later s (inr h) = inr (omega (arith, h))
-
       to : (j : ℕ) → In j ids → IsDistinctId pts j × (j < k + 1)
       to j m = let h = (old.members j).0 m in let n = h.1 in (h.0, omega (arith, n))
 

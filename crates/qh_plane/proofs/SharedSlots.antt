@@ -5,7 +5,7 @@ use Rattle.std.proofs.lemmas.List.{length-set}
 use native.Mathlib.Decide.{ℕ_discrete}
 use Rattle.qh_model.specs.headline.Predicates.{place}
 use Rattle.qh_model.specs.headline.Vector.{Vector}
-use Rattle.qh_plane.specs.steps.HashedKeys.{place_hash, hash_at}
+use Rattle.qh_plane.specs.steps.HashedKeys.{place_hash, hash_at, WithHashes}
 use Rattle.qh_plane.specs.steps.Repeats.{AreRepeats, AreAllRepeats}
 use Rattle.qh_plane.specs.steps.SharedSlots.{slot_in, MarkedHashes, AreTaken, AreShared}
 
@@ -80,7 +80,7 @@ module _ (pts : List Vector) (n slots s : ℕ) (is : s ≡ slot_in slots (hash_a
 
 -- equal points come to one slot, so those that stand before are among the points of shared slots
 pub all_in_slots : (pts : List Vector) (shared : List Bool) (ids : List ℕ) → AreShared pts (length pts) shared
-    → AreRepeats pts (MarkedHashes shared) ids → AreAllRepeats pts ids
+    → AreRepeats pts (WithHashes pts (MarkedHashes shared)) ids → AreAllRepeats pts ids
 all_in_slots pts shared ids a r = record {
   has = λ i s q. r.has i (marked i q.1 q.0 q.2 q.3) q;
   only = r.only;

@@ -22,8 +22,11 @@ const LINE_SLOTS_FOR_EACH: u64 = 3;
 /// So many points tell whether all seem to lie in one line.
 const LOOKED_AT: usize = 32;
 
+/// Where the first points of a list, at most this many, lie too far apart for the whole list, no more are looked at.
+const FIRST_POINTS: usize = 4096;
+
 /// What stands in a slot that no point has come to.
-const NO_ID: u32 = 4294967295;
+pub const NO_ID: u32 = 4294967295;
 
 /// The numbers from one to another.
 #[derive(Clone, Copy, Drop)]
@@ -41,7 +44,7 @@ struct BoundingBox {
 }
 
 /// The slots of a box of places: its least coordinates, what each coordinate above them counts in a slot's
-/// number, and how many slots there are.
+/// number, and the number of slots.
 #[derive(Clone, Copy, Drop)]
 pub struct CloseBox {
     x: u64,
@@ -50,7 +53,8 @@ pub struct CloseBox {
     x_factor: u64,
     y_factor: u64,
     z_factor: u64,
-    slots: u64,
+    /// How many slots there are.
+    pub slots: u64,
 }
 
 impl Span {
@@ -120,6 +124,21 @@ impl BoundingBox {
             self.with_factors(0, 0, 1, z)
         }
     }
+
+    /// Returns a slot for each place of the box or along its longest axis, where these are few for `count` points.
+    fn slots_for(&self, count: u64) -> Option<CloseBox> {
+        if let Some(full) = self.full() {
+            if full.slots / SLOTS_FOR_EACH <= count {
+                return Some(full);
+            }
+        }
+        let line = self.along_axis();
+        if line.slots / LINE_SLOTS_FOR_EACH <= count {
+            Some(line)
+        } else {
+            None
+        }
+    }
 }
 
 /// Returns true if points seem to lie in one line, as a few of them tell that are spread over the
@@ -149,26 +168,28 @@ fn seem_in_line(pts: &[Point]) -> bool
 impl CloseBox {
     /// Returns the slots for points that lie close together, or seem to lie in one line, where they are
     /// few for the number of points.
-    fn around(pts: &[Point]) -> Option<CloseBox>
+    pub fn around(pts: &[Point]) -> Option<CloseBox>
         requires { length pts.now ≤ POINT_LIMIT }
     {
-        let spans = BoundingBox::of(pts);
         let count = pts.len() as u64;
-        if let Some(full) = spans.full() {
-            if full.slots / SLOTS_FOR_EACH <= count {
-                return Some(full);
-            }
+        let (first, _) = pts.split_at(pts.len().min(FIRST_POINTS));
+        if BoundingBox::of(first).slots_for(count).is_none() {
+            return None;
         }
-        let line = spans.along_axis();
-        if line.slots / LINE_SLOTS_FOR_EACH <= count && seem_in_line(pts) {
-            Some(line)
-        } else {
-            None
+        let slots = BoundingBox::of(pts).slots_for(count)?;
+        if slots.is_line() && !seem_in_line(pts) {
+            return None;
         }
+        Some(slots)
+    }
+
+    /// Returns true if the slots tell places along one axis only.
+    fn is_line(&self) -> bool {
+        self.x_factor == 0 || self.y_factor == 0 || self.z_factor == 0
     }
 
     /// Returns the slot of a point.
-    fn slot(&self, point: Point) -> u64
+    pub fn slot(&self, point: Point) -> u64
         ensures { result ≡ slot_of self.now point }
     {
         let x = biased(point.x())
@@ -191,15 +212,16 @@ pub fn same_point(p: Point, q: Point) -> bool
     p.x() == q.x() && p.y() == q.y() && p.z() == q.z()
 }
 
-/// Returns the distinct ids of points that lie close together or in one line, rising; `None` if they
-/// do not.
-pub fn distinct_in_box(alloc: Global, pts: &[Point]) -> Result<Option<Vec<Id>>, AllocError>
+/// Returns the distinct ids of points, rising, each of which has a slot of its place; `None` if points that differ come
+/// to one slot, or one comes to none.
+pub fn distinct_by_slots(
+    alloc: Global,
+    pts: &[Point],
+    close: CloseBox,
+) -> Result<Option<Vec<Id>>, AllocError>
     requires few { length pts.now ≤ POINT_LIMIT }
     ensures { IfOk result (λ found. IfSome found (λ v. AreDistinctIds pts.now v.items)) }
 {
-    let Some(close) = CloseBox::around(pts) else {
-        return Ok(None);
-    };
     let mut slots = vec![in alloc; NO_ID; close.slots as usize]?;
     let mut ids = Vec::with_capacity(alloc, pts.len().min(slots.len()))?;
     for number in 0..pts.len() {
@@ -215,4 +237,16 @@ pub fn distinct_in_box(alloc: Global, pts: &[Point]) -> Result<Option<Vec<Id>>, 
         }
     }
     Ok(Some(ids))
+}
+
+/// Returns the distinct ids of points that lie close together or in one line, rising; `None` if they
+/// do not.
+pub fn distinct_in_box(alloc: Global, pts: &[Point]) -> Result<Option<Vec<Id>>, AllocError>
+    requires few { length pts.now ≤ POINT_LIMIT }
+    ensures { IfOk result (λ found. IfSome found (λ v. AreDistinctIds pts.now v.items)) }
+{
+    match CloseBox::around(pts) {
+        Some(close) => distinct_by_slots(alloc, pts, close),
+        None => Ok(None),
+    }
 }

@@ -1,17 +1,18 @@
 //! Who finds the points that stand in a list before: the calling thread alone, or threads side by side.
-ghost use Rattle.std.specs.Prelude.{◌≡◌, ◌≤◌, ◌<◌, ℕ, IfOk, IfSome, Option, Result, Vec, length, slice_index_or};
+ghost use Rattle.std.specs.Prelude.{◌≤◌, IfOk, IfSome, length};
 ghost use Rattle.std.specs.Thread.{IsSync};
-ghost use Rattle.qh_plane.specs.steps.HashedKeys.{PartHashes};
-ghost use Rattle.qh_plane.specs.steps.Repeats.{AreRepeats, AreAllRepeats};
+ghost use Rattle.qh_model.specs.headline.DistinctIds.{AreDistinctIds};
+ghost use Rattle.qh_plane.specs.steps.Repeats.{AreAllRepeats};
 
-use crate::hash_parts::Part;
-use crate::hashed_keys::ID_ROOM;
-use crate::repeats::{repeats_by_sort, repeats_of_all, repeats_of_part};
+use crate::close_points::distinct_in_box;
+use crate::hash_parts::repeats_by_hash;
+use crate::repeats::{repeats_by_sort, repeats_of_all};
+use crate::slot_ranges::distinct_in_ranges;
 use qh_model::{Id, POINT_LIMIT, Point};
 use std::alloc::{AllocError, Global};
-use std::thread::{self, Threads};
+use std::thread::Threads;
 
-/// The least number of points that a thread sorts.
+/// The least number of points that keeps a thread busy.
 ///
 /// Two threads sort 32,768 points in no less time than one does.
 const POINTS_FOR_EACH: usize = 32_768;
@@ -21,69 +22,17 @@ pub trait Finder {
     /// What is known of one that finds them.
     ghost ready: { Self → Type 0 };
 
+    /// Returns the distinct ids of points that lie close together or in one line, rising; `None` if they do not.
+    fn distinct_in_box(&self, alloc: Global, pts: &[Point]) -> Result<Option<Vec<Id>>, AllocError>
+        requires ready { ready self.now }
+        requires few { length pts.now ≤ POINT_LIMIT }
+        ensures { IfOk result (λ found. IfSome found (λ v. AreDistinctIds pts.now v.items)) };
+
     /// Returns the ids of all points that stand before; `None` if too many have one hash.
     fn repeats(&self, alloc: Global, pts: &[Point]) -> Result<Option<Vec<Id>>, AllocError>
         requires ready { ready self.now }
         requires few { length pts.now ≤ POINT_LIMIT }
         ensures { IfOk result (λ found. IfSome found (λ v. AreAllRepeats pts.now v.items)) };
-}
-
-/// Returns what was found in the parts of the hashes, one after the other.
-fn joined(
-    alloc: Global,
-    pts: &[Point],
-    parts: &[Result<Option<Vec<Id>>, AllocError>],
-) -> Result<Option<Vec<Id>>, AllocError>
-    requires some { 0 < length parts.now }
-    requires parts { (i : ℕ) (d : Result (Option (Vec Id Global)) AllocError) → i < length parts.now → IfOk (slice_index_or parts.now i d)
-        (λ found. IfSome found (λ v. AreRepeats pts.now (PartHashes (length parts.now) i) v.items)) }
-    ensures { IfOk result (λ found. IfSome found (λ v. AreAllRepeats pts.now v.items)) }
-{
-    let mut repeats = Vec::new(alloc);
-    for part in parts {
-        let found = match part {
-            Ok(found) => found,
-            Err(error) => return Err(*error),
-        };
-        let Some(ids) = found else {
-            return Ok(None);
-        };
-        repeats.extend_from_slice(ids)?;
-    }
-    Ok(Some(repeats))
-}
-
-/// Returns the ids of all points that stand before, by as many threads, each at a part of the hashes; none
-/// where too many have one hash.
-fn repeats_in_threads<R: Threads + Sync>(
-    rt: &R,
-    alloc: Global,
-    pts: &[Point],
-    threads: usize,
-) -> Result<Option<Vec<Id>>, AllocError>
-    requires { length pts.now ≤ POINT_LIMIT }
-    ensures { IfOk result (λ found. IfSome found (λ v. AreAllRepeats pts.now v.items)) }
-{
-    let count = threads.min(pts.len() / POINTS_FOR_EACH);
-    if count < 2 {
-        return repeats_of_all(alloc, pts);
-    }
-    let parts = thread::map_indices(
-        rt,
-        alloc,
-        count,
-        &move |number: usize| -> Result<Option<Vec<Id>>, AllocError>
-            requires { (length pts.now ≤ POINT_LIMIT) × (0 < count) × (count ≤ ID_ROOM) }
-            ensures { IfOk result (λ found. IfSome found (λ v. AreRepeats pts.entry.now (PartHashes count number) v.items)) }
-        {
-            let part = Part {
-                parts: count as u64,
-                number: number as u64,
-            };
-            repeats_of_part(alloc, pts, part)
-        },
-    )?;
-    joined(alloc, pts, &parts)
 }
 
 /// The calling thread alone.
@@ -92,6 +41,10 @@ pub struct Alone;
 
 impl Finder for Alone {
     ghost ready = { λ _. Unit {0} };
+
+    fn distinct_in_box(&self, alloc: Global, pts: &[Point]) -> Result<Option<Vec<Id>>, AllocError> {
+        distinct_in_box(alloc, pts)
+    }
 
     fn repeats(&self, alloc: Global, pts: &[Point]) -> Result<Option<Vec<Id>>, AllocError> {
         repeats_of_all(alloc, pts)
@@ -105,6 +58,10 @@ pub struct BySort<'a, R>(pub &'a R);
 impl<R: Threads + Sync> Finder for BySort<'_, R> {
     ghost ready = { λ _. IsSync R.row };
 
+    fn distinct_in_box(&self, alloc: Global, pts: &[Point]) -> Result<Option<Vec<Id>>, AllocError> {
+        distinct_in_box(alloc, pts)
+    }
+
     fn repeats(&self, alloc: Global, pts: &[Point]) -> Result<Option<Vec<Id>>, AllocError> {
         repeats_by_sort(self.0, alloc, pts)
     }
@@ -117,10 +74,31 @@ pub struct InThreads<'a, R> {
     pub threads: usize,
 }
 
+impl<R> InThreads<'_, R> {
+    /// Returns how many threads a list of points keeps busy.
+    fn for_points(&self, pts: &[Point]) -> usize
+        ensures { result ≤ length pts.now }
+    {
+        self.threads.min(pts.len() / POINTS_FOR_EACH)
+    }
+}
+
 impl<R: Threads + Sync> Finder for InThreads<'_, R> {
     ghost ready = { λ _. IsSync R.row };
 
+    fn distinct_in_box(&self, alloc: Global, pts: &[Point]) -> Result<Option<Vec<Id>>, AllocError> {
+        let count = self.for_points(pts);
+        if count < 2 {
+            return distinct_in_box(alloc, pts);
+        }
+        distinct_in_ranges(self.rt, alloc, pts, count)
+    }
+
     fn repeats(&self, alloc: Global, pts: &[Point]) -> Result<Option<Vec<Id>>, AllocError> {
-        repeats_in_threads(self.rt, alloc, pts, self.threads)
+        let count = self.for_points(pts);
+        if count < 2 {
+            return repeats_of_all(alloc, pts);
+        }
+        repeats_by_hash(self.rt, alloc, pts, count)
     }
 }

@@ -14,12 +14,14 @@ mod hash_parts;
 mod hashed_keys;
 mod id_lists;
 mod inner_places;
+mod parts;
 mod place_keys;
 mod planar;
 mod ranking;
 mod repeats;
 mod shape;
 mod shared_slots;
+mod slot_ranges;
 mod sorted_points;
 
 pub use distinct_points::{distinct, distinct_alone, distinct_in_threads};

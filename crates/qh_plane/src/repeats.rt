@@ -2,7 +2,7 @@
 ghost use Rattle.std.specs.Prelude.{◌≡◌, ◌≤◌, ◌<◌, ◌%◌, IfOk, IfSome, length};
 ghost use Rattle.std.specs.List.{All};
 ghost use Rattle.std.specs.List.Sorted.{IsNonDecreasing};
-ghost use Rattle.qh_plane.specs.steps.HashedKeys.{PartHashes, AreHashedKeys, RepeatsTold};
+ghost use Rattle.qh_plane.specs.steps.HashedKeys.{PartHashes, WithHashes, AreHashedKeys, RepeatsTold};
 ghost use Rattle.qh_plane.specs.steps.Repeats.{AreRepeats, AreAllRepeats};
 
 use crate::hash_parts::Part;
@@ -100,7 +100,7 @@ pub fn repeats_of_part(
     requires few { length pts.now ≤ POINT_LIMIT }
     requires some { 0 < part.parts }
     requires parts { part.parts ≤ ID_ROOM }
-    ensures { IfOk result (λ found. IfSome found (λ v. AreRepeats pts.now (PartHashes part.parts part.number) v.items)) }
+    ensures { IfOk result (λ found. IfSome found (λ v. AreRepeats pts.now (WithHashes pts.now (PartHashes part.parts part.number)) v.items)) }
 {
     let mut keys = part.keys(alloc, pts)?;
     keys.sort_unstable();

@@ -1,5 +1,5 @@
 //! Faces of parts, and polygons that close the gap between them: the hull of the set.
-ghost use Rattle.std.specs.Prelude.{◌≡◌, ◌⊎◌, ◌↔◌, ◌++◌, ℕ, List, IfOk, IfSome, IsNone, IsTrue};
+ghost use Rattle.std.specs.Prelude.{◌≡◌, ◌≤◌, ◌⊎◌, ◌↔◌, ◌++◌, ℕ, List, IfOk, IfSome, IsNone, IsTrue};
 ghost use Rattle.std.specs.List.{All};
 ghost use Rattle.qh_block.specs.contract.Tallies.{IsTally};
 ghost use Rattle.qh_model.specs.contract.ClosedPolygons.{AreClosed, IsFace};
@@ -30,8 +30,8 @@ fn both(mut polygons: Vec<Polygon>, mut others: Vec<Polygon>) -> Result<Vec<Poly
     Ok(polygons)
 }
 
-/// Returns what is told of polygons, and a step that they do not take as often as the step back: the one by a
-/// thread of its own, the other by `workers` threads.
+/// Returns what is told of polygons, and a step that they do not take as often as the step back: the one by one of
+/// the `workers`, the other by the rest of them. One worker, or none, makes both by the calling thread.
 fn tally_and_open_step<R: Threads>(
     rt: &R,
     alloc: Global,
@@ -41,14 +41,21 @@ fn tally_and_open_step<R: Threads>(
     ensures tally { IfOk result.0 (IsTally polygons.now) }
     ensures open { IfOk result.1 (λ found. IsNone found → AreClosed polygons.now) }
 {
+    if workers < 2 {
+        return (
+            tally_of(alloc, polygons),
+            open_step_in_threads(rt, alloc, polygons, workers),
+        );
+    }
     join(
         rt,
         || -> Result<Tally, Memory>
             ensures { IfOk result (IsTally polygons.entry.now) }
         { tally_of(alloc, polygons) },
         || -> Result<Option<Step>, Memory>
+            requires { 2 ≤ workers }
             ensures { IfOk result (λ found. IsNone found → AreClosed polygons.entry.now) }
-        { open_step_in_threads(rt, alloc, polygons, workers) },
+        { open_step_in_threads(rt, alloc, polygons, workers - 1) },
     )
 }
 

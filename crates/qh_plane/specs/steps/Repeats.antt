@@ -3,20 +3,28 @@ use Rattle.std.specs.Prelude.{ℕ, ◌≡◌, ◌<◌, List, Bool, true, false, 
 use Rattle.qh_model.specs.headline.Predicates.{place}
 use Rattle.qh_model.specs.headline.Sets.{In}
 use Rattle.qh_model.specs.headline.Vector.{Vector}
-use Rattle.qh_plane.specs.steps.HashedKeys.{Hashes, AllHashes, hash_at}
+use Rattle.qh_plane.specs.steps.HashedKeys.{AllHashes, WithHashes}
 
 -- a lower id has the same point
 abbrev pub IsRepeatedId : List Vector → ℕ → Type 0
 IsRepeatedId pts i = (i < length pts) × (j : ℕ) × (j < i) × (place pts j ≡ place pts i)
 
--- the ids of points that stand before: all of those with some hashes
-pub record AreRepeats (pts : List Vector) (some : Hashes) (ids : List ℕ) : Type 0 where
-  pub has : (i : ℕ) → some (hash_at pts i) → IsRepeatedId pts i → In i ids
+-- ids, told by a fact of each
+abbrev pub Ids : Type 1
+Ids = ℕ → Type 0
+
+-- those of the first n parts
+abbrev pub PartsBelow : (ℕ → Ids) → ℕ → Ids
+PartsBelow part n i = (k : ℕ) × (k < n) × part k i
+
+-- the ids of points that stand before: all of some ids
+pub record AreRepeats (pts : List Vector) (some : Ids) (ids : List ℕ) : Type 0 where
+  pub has : (i : ℕ) → some i → IsRepeatedId pts i → In i ids
   pub only : (i : ℕ) → In i ids → IsRepeatedId pts i
 
 -- all of them
 abbrev pub AreAllRepeats : List Vector → List ℕ → Type 0
-AreAllRepeats pts ids = AreRepeats pts AllHashes ids
+AreAllRepeats pts ids = AreRepeats pts (WithHashes pts AllHashes) ids
 
 -- so many marks, of which those of the ids are not set
 pub record MarksWithout (count : ℕ) (ids : List ℕ) (marks : List Bool) : Type 0 where

@@ -1,37 +1,23 @@
-use Rattle.std.proofs.Common.{rules, ◌≡◌, ◌≢◌, ◌∙◌, ℕ, ◌+◌, ◌<◌, ◌⊎◌, inl, inr, List, [], ◌∷◌, ◌++◌, length, set}
-use Rattle.std.proofs.Common.{slice_index_or, arith, ap, sym, subst, Vec, Global}
+use Rattle.std.proofs.Common.{rules, ◌≡◌, ◌∙◌, ℕ, ◌+◌, ◌<◌, [], ◌∷◌, ◌++◌, length, set}
+use Rattle.std.proofs.Common.{arith, ap, sym, subst, Vec, Global}
 use Rattle.std.proofs.lemmas.List.{get_or_read}
 use Rattle.qh_model.specs.headline.Predicates.{place}
-use Rattle.qh_model.specs.headline.Vector.{Vector}
-use Rattle.qh_plane.specs.declared.close_points.CloseBox.{CloseBox}
 use Rattle.qh_plane.specs.declared.close_points.TheConstants.{NO_ID}
 use Rattle.qh_plane.specs.steps.CloseBoxes.{slot_of, slot_at, AreSeen}
-use Rattle.qh_plane.proofs.SeenPlaces.{point_read, new_seen, again_seen, all_seen}
-use Rattle.qh_plane.proofs.close_points.distinct_in_box.Goals.{then-index+in_ok-push, else-index+else-not-same_point}
-use Rattle.qh_plane.proofs.close_points.distinct_in_box.Goals as goal
-
--- what stands in a slot that holds an id
-held_id : (k n : ℕ) → (n ≡ NO_ID) ⊎ (n < k) → n ≢ NO_ID → n < k
-held_id k n (inl e) ne = absurd (ne e)
-held_id k n (inr l) ne = l
-
--- the id that is read from such a slot is one that was seen
-seen_id : (pts : List Vector) (b : CloseBox) (slots : List ℕ) (k : ℕ) (ids : List ℕ) → AreSeen pts b slots k ids → (s n i : ℕ) → s < length slots
-    → n ≡ slice_index_or slots s n → n ≢ NO_ID → i ≡ slice_index_or slots s i → i < k
-seen_id pts b slots k ids old s n i room e ne f =
-    subst (λ m. m < k) (sym (get_or_read slots s i room f NO_ID))
-    (held_id k (slot_at slots s) (old.held s room) (λ q. ne (get_or_read slots s n room e NO_ID ∙ q)))
+use Rattle.qh_plane.proofs.SeenPlaces.{point_read, seen_id, new_seen, again_seen, all_seen}
+use Rattle.qh_plane.proofs.close_points.distinct_by_slots.Goals.{then-index+in_ok-push, else-index+else-not-same_point}
+use Rattle.qh_plane.proofs.close_points.distinct_by_slots.Goals as goal
 
 pub bounds-pts-index : goal.bounds-pts-index
 bounds-pts-index c =
-    let below = seen_id _ _ _ _ _ c.loop-number.invariant c.slot-slot.result c.index.result.now
+    let below = seen_id _ _ _ _ _ c.loop-number.invariant.firsts c.slot-slot.result c.index.result.now
     c.index-else-index.result.now (search rules) c.index.ensures c.if-index.false c.index-else-index.ensures in
     let within = c.loop-number-test.true in
     omega (arith, below, within)
 
 pub loop-number-preserved : goal.loop-number-preserved
 loop-number-preserved c =
-    let pts = c.args.pts.now in let b = c.in-Some.close in let slots = c.loop-number.slots.items in
+    let pts = c.args.pts.now in let b = c.args.close in let slots = c.loop-number.slots.items in
     let ids = c.loop-number.ids.items in let k = c.loop-number.number in
     let old = c.loop-number.invariant in let s = c.slot-slot.result in
     let within : k < length pts = c.loop-number-test.true in
@@ -51,7 +37,7 @@ loop-number-preserved c =
       | else-index+else-not-same_point w ↦
           let i = w.index-else-index.result.now in
           let read : i ≡ slot_at slots s = get_or_read slots s i room w.index-else-index.ensures NO_ID in
-          let below : i < k = seen_id pts b slots k ids old s c.index.result.now i room c.index.ensures w.if-index.false w.index-else-index.ensures in
+          let below : i < k = seen_id pts _ (slot_of b) slots k old.firsts s c.index.result.now i room c.index.ensures w.if-index.false w.index-else-index.ensures in
           let same : place pts i ≡ place pts k =
           sym (point_read pts i w.index-pts-index.result (omega (arith, below, within)) w.index-pts-index.is)
           ∙ w.same_point.ensures.0 w.if-not-same_point.false
@@ -63,5 +49,5 @@ loop-number-preserved c =
     ]
 
 pub returns : goal.returns
-returns c = all_seen c.args.pts.now c.in-Some.close c.loop-number.slots.items c.loop-number.number
+returns c = all_seen c.args.pts.now c.args.close c.loop-number.slots.items c.loop-number.number
     c.loop-number.ids.items c.loop-number.invariant c.loop-number-test.false
