@@ -166,21 +166,28 @@ fn seem_in_line(pts: &[Point]) -> bool
 }
 
 impl CloseBox {
+    /// Returns slots for the box around some of the points, where they are few for all, or for the line in which all
+    /// seem to lie.
+    fn around_some(pts: &[Point], some: &[Point]) -> Option<CloseBox>
+        requires { length pts.now ≤ POINT_LIMIT }
+    {
+        let slots = BoundingBox::of(some).slots_for(pts.len() as u64)?;
+        if slots.is_line() && !seem_in_line(pts) {
+            return None;
+        }
+        Some(slots)
+    }
+
     /// Returns the slots for points that lie close together, or seem to lie in one line, where they are
     /// few for the number of points.
     pub fn around(pts: &[Point]) -> Option<CloseBox>
         requires { length pts.now ≤ POINT_LIMIT }
     {
-        let count = pts.len() as u64;
         let (first, _) = pts.split_at(pts.len().min(FIRST_POINTS));
-        if BoundingBox::of(first).slots_for(count).is_none() {
+        if CloseBox::around_some(pts, first).is_none() {
             return None;
         }
-        let slots = BoundingBox::of(pts).slots_for(count)?;
-        if slots.is_line() && !seem_in_line(pts) {
-            return None;
-        }
-        Some(slots)
+        CloseBox::around_some(pts, pts)
     }
 
     /// Returns true if the slots tell places along one axis only.
