@@ -8,7 +8,7 @@
 //! Of a large set `inner_points` drops most of what is inside first. `qh_surface` makes the surface. A walk
 //! finds the triangles of one plane (`plane_walk`), of which `faces` makes the polygon.
 //! `face_order` and `solid_edges` order the faces, most of them by the numbers of `face_keys`, and count their edges,
-//! and `solids` puts them together. `gathered` puts the points of a set next to each other.
+//! and `solids` puts them together. `unsorted_faces` keeps faces of parts of a set until all are there. `gathered` puts the points of a set next to each other.
 //! `blocking` has the rules of how a set is divided, for this crate and those above.
 //! `segment` finds the ends of a line, `normals` the side from which a polygon is seen, and `bodies`
 //! puts the hulls of flat sets together.
@@ -29,10 +29,11 @@ mod plane_walk;
 mod segment;
 mod solid_edges;
 mod solids;
+mod unsorted_faces;
 
 pub use blocking::{BLOCK_ALONE, TELLING, WHOLE_ALONE, are_few, block_size, tree_pays};
-pub use face_order::sort_faces;
 pub use faces::faces_of_chosen;
 pub use hulls::{cull_interior, extremes, extremes_unculled, hull};
 pub use qh_surface::surface;
 pub use solids::{Tally, body_of_faces, tally_of};
+pub use unsorted_faces::UnsortedFaces;

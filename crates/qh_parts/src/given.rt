@@ -4,9 +4,9 @@ ghost use Rattle.qh_model.specs.headline.Sets.{In};
 ghost use Rattle.qh_seam.specs.contract.Parts.{IsPartOf};
 ghost use Rattle.qh_parts.specs.steps.Given.{IsGiven};
 
-use qh_block::sort_faces;
+use qh_block::UnsortedFaces;
 use qh_guess::{Border, Outline, border_of, marks_of, outline_of};
-use qh_model::{Id, Memory, Polygon};
+use qh_model::{Id, Memory};
 use qh_seam::{Divided, Guess, staying_faces};
 use qh_threads::map_indices;
 use std::alloc::{AllocError, Global};
@@ -16,7 +16,7 @@ use std::thread::Threads;
 /// corners of the facets that go.
 #[derive(Drop)]
 pub(crate) struct Given {
-    pub faces: Vec<Polygon>,
+    pub faces: UnsortedFaces,
     pub borders: Vec<Border>,
     pub seam: Vec<Id>,
 }
@@ -62,11 +62,10 @@ fn given_by(
     let Some(faces) = staying_faces(alloc, set, number, guess)? else {
         return Ok(None);
     };
-    let sorted = sort_faces(alloc, faces)?;
     let mut borders = Vec::new(alloc);
-    borders.push(border_of(alloc, &sorted, set.pts.len(), &marks.seam)?)?;
+    borders.push(border_of(alloc, &faces, set.pts.len(), &marks.seam)?)?;
     Ok(Some(Given {
-        faces: sorted,
+        faces: UnsortedFaces::of(alloc, faces)?,
         borders,
         seam: marks.seam,
     }))
@@ -81,7 +80,7 @@ fn all_given(
     requires { All (λ r. IfOk r (λ found. IfSome found (IsGiven set.pts.now set.shared.now set.parts.now))) made.items }
     ensures { IfOk result (λ found. IfSome found (IsGiven set.entry.pts.now set.entry.shared.now set.entry.parts.now)) }
 {
-    let mut faces = Vec::new(alloc);
+    let mut faces = UnsortedFaces::none(alloc);
     let mut borders = Vec::new(alloc);
     let mut seam = Vec::new(alloc);
     while let Some(answer) = made.pop() {
@@ -89,8 +88,8 @@ fn all_given(
         let Some(given) = found else {
             return Ok(None);
         };
-        let (mut own, mut border) = (given.faces, given.borders);
-        faces.append(&mut own)?;
+        let mut border = given.borders;
+        faces = faces.and(given.faces)?;
         borders.append(&mut border)?;
         seam.extend_from_slice(&given.seam)?;
     }

@@ -14,9 +14,9 @@ ghost use Rattle.qh_parts.specs.steps.Outcomes.{IsOutcome};
 
 use crate::given::{given_in_threads, outlines_in_threads};
 use crate::pieces::{Pieces, are_indices, parts_in_threads};
-use qh_block::{TELLING, are_few, extremes, hull};
+use qh_block::{TELLING, UnsortedFaces, are_few, extremes, hull};
 use qh_guess::{Outline, along_curve, bridge_over, is_worth, shared_ids};
-use qh_model::{Body, Id, Memory, Point, Polygon};
+use qh_model::{Body, Id, Memory, Point};
 use qh_seam::{Divided, body_of_joined, join_faces, kept_ids};
 use std::alloc::Global;
 use std::thread::Threads;
@@ -87,8 +87,8 @@ fn has_seams(set: Divided, outlines: &[Outline], seams: Seams) -> bool {
 pub(crate) enum Outcome {
     /// The hull of what is kept of the set, and so of the set.
     Hull(Body),
-    /// Faces of the set, in order. Whether they are all is not seen yet.
-    Faces(Vec<Polygon>),
+    /// Faces of the set. Whether they are all is not seen yet.
+    Faces(UnsortedFaces),
 }
 
 /// Returns what the parts of a set come to: the hull of what is kept of it where the parts are told apart by too many

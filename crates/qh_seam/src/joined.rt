@@ -14,21 +14,11 @@ ghost use Rattle.qh_seam.specs.contract.Parts.{IsPartOf};
 
 use crate::bridges::are_bridges;
 use crate::staying::Divided;
-use qh_block::{Tally, body_of_faces, sort_faces, tally_of};
+use qh_block::{Tally, UnsortedFaces, body_of_faces, tally_of};
 use qh_check::{Step, open_step_in_threads, out_of_order};
 use qh_model::{Body, Memory, Polygon};
-use std::alloc::{AllocError, Global};
+use std::alloc::Global;
 use std::thread::{Threads, join};
-
-/// Returns the polygons of two lists.
-fn both(mut polygons: Vec<Polygon>, mut others: Vec<Polygon>) -> Result<Vec<Polygon>, AllocError>
-    ensures { IfOk result (λ v. (q : List ℕ) → In q v.items → In q polygons.items ⊎ In q others.items) }
-{
-    while let Some(polygon) = others.pop() {
-        polygons.push(polygon)?;
-    }
-    Ok(polygons)
-}
 
 /// Returns what is told of polygons, and a step that they do not take as often as the step back: the one by one of
 /// the `workers`, the other by the rest of them. One worker, or none, makes both by the calling thread.
@@ -59,8 +49,8 @@ fn tally_and_open_step<R: Threads>(
     )
 }
 
-/// Returns faces that parts of a set contribute and polygons that close the gap between them, in order. None where one
-/// of the latter is no face of what is kept of the set.
+/// Returns faces that parts of a set contribute and polygons that close the gap between them. None where one of the
+/// latter is no face of what is kept of the set.
 ///
 /// The caller promises what `given` is; `bridges` may be any polygons. No `workers` means one.
 ///
@@ -71,24 +61,24 @@ pub fn join_faces<R: Threads>(
     rt: &R,
     alloc: Global,
     set: Divided,
-    given: Vec<Polygon>,
+    given: UnsortedFaces,
     bridges: Vec<Polygon>,
     workers: usize,
-) -> Result<Option<Vec<Polygon>>, Memory>
+) -> Result<Option<UnsortedFaces>, Memory>
     requires parts { All (IsPartOf set.pts.now set.shared.now) set.parts.now }
     requires shared { AreIndices set.pts.now set.shared.now }
     ensures { IfOk result (λ found. IfSome found (λ v.
-        AreJoined set.entry.pts.now set.entry.parts.now set.entry.shared.now given.items v.items)) }
+        AreJoined set.entry.pts.now set.entry.parts.now set.entry.shared.now given v)) }
 {
     let are = are_bridges(rt, alloc, set, &bridges, workers)?;
     if !are {
         return Ok(None);
     }
-    let all = both(given, bridges)?;
-    Ok(Some(sort_faces(alloc, all)?))
+    let bridges = UnsortedFaces::of(alloc, bridges)?;
+    Ok(Some(given.and(bridges)?))
 }
 
-/// Returns the hull of a set from faces in order, if there is one and they close up.
+/// Returns the hull of a set from faces, if there is one and they close up.
 ///
 /// The caller promises that each is the polygon of a facet that stays in a part and has a clear plane, or a
 /// face of the kept ids. So they are all faces of the set (`qh_seam_laws::joined_faces_are_hull`). No `workers` means
@@ -100,13 +90,14 @@ pub fn join_faces<R: Threads>(
 pub fn body_of_joined<R: Threads>(
     rt: &R,
     alloc: Global,
-    polygons: Vec<Polygon>,
+    faces: UnsortedFaces,
     workers: usize,
 ) -> Result<Option<Body>, Memory>
     ensures { IfOk result (λ found. IfSome found (λ b. (at : ℕ → Vector) (ids kept : List ℕ) → HasDistinctPoints at (Members ids)
         → IsDimension at (Members ids) 3 → AreKept at ids kept
-        → ((q : List ℕ) → In q polygons.items → IsPartFace at ids kept q ⊎ IsFace at (Members kept) q) → IsBody at (Members ids) b)) }
+        → ((q : List ℕ) → In q faces → IsPartFace at ids kept q ⊎ IsFace at (Members kept) q) → IsBody at (Members ids) b)) }
 {
+    let polygons = faces.sorted(alloc)?;
     if polygons.len() == 0 {
         return Ok(None);
     }

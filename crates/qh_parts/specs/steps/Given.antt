@@ -17,4 +17,4 @@ AreGiven pts shared parts qs = (ids kept : List ℕ) → HasDistinctPoints (plac
 
 -- so are the faces of what parts give out
 abbrev pub IsGiven : List Vector → List ℕ → List Part → Given → Type 0
-IsGiven pts shared parts g = AreGiven pts shared parts g.faces.items
+IsGiven pts shared parts g = AreGiven pts shared parts g.faces

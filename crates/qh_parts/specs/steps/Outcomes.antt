@@ -9,4 +9,4 @@ use Rattle.qh_parts.specs.declared.hulls.Outcome.TheVariants.{Hull, Faces}
 -- the hull of the set, or faces that parts contribute or that what is kept of it has
 abbrev pub IsOutcome : List Vector → (ids kept : List ℕ) → Outcome → Type 0
 IsOutcome pts ids kept (Hull b) = IsBody (place pts) (Members ids) b
-IsOutcome pts ids kept (Faces v) = (q : List ℕ) → In q v.items → IsJoined pts ids kept q
+IsOutcome pts ids kept (Faces v) = (q : List ℕ) → In q v → IsJoined pts ids kept q

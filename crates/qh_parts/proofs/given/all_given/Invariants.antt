@@ -5,7 +5,7 @@ use Rattle.qh_parts.specs.steps.Given.{AreGiven, IsGiven}
 use Rattle.qh_parts.proofs.given.all_given.Given as goal
 
 abbrev pub invariant-loop-answer : goal.invariant-loop-answer
-invariant-loop-answer l = AreGiven l.set.pts.now l.set.shared.now l.set.parts.now l.faces.items
+invariant-loop-answer l = AreGiven l.set.pts.now l.set.shared.now l.set.parts.now l.faces
     × All (λ r. IfOk r (λ found. IfSome found (IsGiven l.set.pts.now l.set.shared.now l.set.parts.now))) l.made.items
 
 abbrev pub decreases-loop-answer : goal.decreases-loop-answer

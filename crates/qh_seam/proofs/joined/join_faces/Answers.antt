@@ -2,7 +2,9 @@
 use Rattle.std.proofs.Common.{inl, inr}
 use Rattle.qh_model.specs.headline.{Predicates.place, Sets.Members}
 use Rattle.qh_model.specs.contract.IdSets.{HasDistinctPoints}
-use Rattle.qh_model.proofs.Members.{All-In}
+use Rattle.std.proofs.lemmas.List.Sorted.{IsPermutation-sym}
+use Rattle.qh_model.proofs.Members.{All-In, in_permutation}
+use Rattle.qh_model.proofs.lists.Joined.{of_append}
 use Rattle.qh_seam.specs.steps.Bridges.{IsBridge}
 use Rattle.qh_seam.proofs.joined.join_faces.Goals as goal
 
@@ -12,7 +14,7 @@ returns g c = λ ids kept distinct are keeps faces q m.
     let apart : HasDistinctPoints (place pts) (Members kept) = λ i j hi hj e. distinct i j (are.inside i hi) (are.inside j hj) e in
     let closing = rw c.deref.ensures.value at (c.in_ok-are.ensures c.if-not-are.false) in
     let bridge = IsBridge pts c.args.set.parts.now c.args.set.shared.now in
-    elim (c.in_ok-all.ensures q ((c.in_ok-sort_faces.ensures.members q).0 m)) [
+    elim (of_append _ _ q (in_permutation _ _ (IsPermutation-sym _ _ c.in_ok-and.ensures) q m)) [
       | inl o ↦ inl (faces q o)
-      | inr o ↦ inr (All-In bridge c.args.bridges.items q closing o kept keeps apart)
+      | inr o ↦ inr (All-In bridge c.args.bridges.items q closing (in_permutation _ _ (IsPermutation-sym _ _ c.in_ok-bridges.ensures) q o) kept keeps apart)
     ]
