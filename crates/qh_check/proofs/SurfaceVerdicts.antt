@@ -14,10 +14,9 @@ use Rattle.qh_check.specs.declared.findings.Finding.{Finding}
 use Rattle.qh_check.specs.declared.flaw.SurfaceVerdict.{SurfaceVerdict}
 use Rattle.qh_check.specs.declared.flaw.SurfaceVerdict.TheVariants.{Right, OtherPolygons, NoPiece, Open, Twice}
 use Rattle.qh_check.specs.contract.Claims.{ArePolygonsOf, IsOpen}
-use Rattle.qh_check.specs.contract.Surfaces.{IsFaceSurface, IsHullSurface, IsSurfaceReason}
+use Rattle.qh_check.specs.contract.Surfaces.{IsFaceSurface, IsHullSurface, IsSurfaceReason, IsSurfaceVerdictOf}
 use Rattle.qh_check.specs.steps.Faces.{IsFaceOf}
 use Rattle.qh_check.specs.steps.Findings.{IsFound}
-use Rattle.qh_check.specs.steps.Verdicts.{IsSurfaceVerdictOf}
 use Rattle.qh_check.proofs.Pieces.{no_piece}
 
 -- ---- solid sets

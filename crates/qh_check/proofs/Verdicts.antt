@@ -19,11 +19,10 @@ use Rattle.qh_check.specs.declared.extent.Extent.TheVariants.{Whole}
 use Rattle.qh_check.specs.declared.verdict.FaceFault.{FaceFault}
 use Rattle.qh_check.specs.declared.verdict.Verdict.{Verdict}
 use Rattle.qh_check.specs.declared.verdict.Verdict.TheVariants.{Right, OtherPolygons, OutOfOrder, NoFace, Open}
-use Rattle.qh_check.specs.contract.Claims.{ArePolygonsOf, IsOutOfOrder, IsOpen, IsReason}
+use Rattle.qh_check.specs.contract.Claims.{ArePolygonsOf, IsOutOfOrder, IsOpen, IsReason, IsVerdictOf}
 use Rattle.qh_check.specs.declared.findings.Finding.{Finding}
 use Rattle.qh_check.specs.steps.Faces.{IsFaceOf, IsFaultOf}
 use Rattle.qh_check.specs.steps.Findings.{IsFound}
-use Rattle.qh_check.specs.steps.Verdicts.{IsVerdictOf}
 use Rattle.qh_check.proofs.FirstCorners.{no_face}
 use Rattle.qh_check.proofs.OrderedPolygons.{rises_at}
 
@@ -103,9 +102,12 @@ module _ (at : ℕ → Vector) (A : ℕ → Type 0) (b : BodyValue) (body : IsBo
       n (one_polygon_list at A b.dim b.polygons qs body.dim body.polygons
       (subst (λ k. ArePolygons at A k qs) (one_dimension at A dim b.dim is body.dim) polygons))
 
--- what a verdict says is so where the set is not solid or there are no polygons
-pub compared : (at : ℕ → Vector) (A : ℕ → Type 0) (qs : List (List ℕ)) (v : Verdict)
-    → (v ≡ Right) ↔ ArePolygonsOf at A qs → (v ≡ Right) ⊎ (v ≡ OtherPolygons)
-    → (¬ (IsDimension at A 3)) ⊎ (qs ≡ []) → IsReason at A qs v
-compared at A qs v right (inl e) why = subst (IsReason at A qs) (sym e) (right.0 e)
-compared at A qs v right (inr e) why = subst (IsReason at A qs) (sym e) why
+-- the verdict of a comparison is so where the set is not solid or there are no polygons
+pub compared : (pts : List Vector) (ids : List ℕ) (qs : List (List ℕ)) (v : Verdict)
+    → (v ≡ Right) ↔ ArePolygonsOf (place pts) (Members ids) qs → (v ≡ Right) ⊎ (v ≡ OtherPolygons)
+    → (¬ (IsDimension (place pts) (Members ids) 3)) ⊎ (qs ≡ []) → IsVerdictOf pts ids qs v
+compared pts ids qs v right told why = record { right = right; reason = reason told }
+  where
+    reason : (v ≡ Right) ⊎ (v ≡ OtherPolygons) → IsReason (place pts) (Members ids) qs v
+    reason (inl e) = subst (IsReason (place pts) (Members ids) qs) (sym e) (right.0 e)
+    reason (inr e) = subst (IsReason (place pts) (Members ids) qs) (sym e) why

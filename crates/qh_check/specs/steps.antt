@@ -6,4 +6,3 @@ pub mod HullFaces
 pub mod Rounds
 pub mod StepHalves
 pub mod StepKeys
-pub mod Verdicts

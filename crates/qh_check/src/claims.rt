@@ -4,10 +4,12 @@ ghost use Rattle.qh_model.specs.headline.Predicates.{place};
 ghost use Rattle.qh_model.specs.headline.Sets.{Members};
 ghost use Rattle.qh_model.specs.contract.IdSets.{AreIndices, IsIdSet};
 ghost use Rattle.qh_check.specs.declared.verdict.Verdict.TheVariants.{Right, OtherPolygons};
-ghost use Rattle.qh_check.specs.contract.Claims.{ArePolygonsOf, IsReason};
+ghost use Rattle.qh_check.specs.contract.Claims.{ArePolygonsOf, IsVerdictOf};
 
+use crate::claim::Claim;
 use crate::faces::are_same;
-use crate::solids::{check_solid, check_solid_by_workers};
+use crate::searchers::{Alone, InThreads, Searcher};
+use crate::solids::check_solid;
 use crate::verdict::Verdict;
 use qh_block::hull;
 use qh_model::{Id, Memory, Point, Polygon};
@@ -31,22 +33,30 @@ fn are_same_polygons(polygons: &[Polygon], others: &[Polygon]) -> bool
 }
 
 /// Returns true if polygons are those of the hull of a set, by taking the hull.
-pub(crate) fn compare(
-    alloc: Global,
-    pts: &[Point],
-    ids: &[Id],
-    polygons: &[Polygon],
-) -> Result<Verdict, Memory>
-    requires some { 0 < length ids.now }
-    requires indices { AreIndices pts.now ids.now }
+pub(crate) fn compare(alloc: Global, claim: Claim) -> Result<Verdict, Memory>
     ensures { IfOk result (λ v. ((v ≡ Right) ⊎ (v ≡ OtherPolygons))
-        × (IsIdSet pts.now ids.now → (v ≡ Right) ↔ ArePolygonsOf (place pts.now) (Members ids.now) polygons.now)) }
+        × (IsIdSet claim.entry.pts.now claim.entry.ids.now → (v ≡ Right)
+        ↔ ArePolygonsOf (place claim.entry.pts.now) (Members claim.entry.ids.now) claim.entry.polygons.now)) }
 {
-    let body = hull(alloc, pts, ids)?;
-    if are_same_polygons(&body.polygons, polygons) {
+    let body = hull(alloc, claim.pts, claim.ids)?;
+    if are_same_polygons(&body.polygons, claim.polygons) {
         Ok(Verdict::Right)
     } else {
         Ok(Verdict::OtherPolygons)
+    }
+}
+
+/// Checks whether polygons are those of a set, as [`check`] does, by a way to search for one that is no face.
+fn check_by<S: Searcher>(searcher: &S, alloc: Global, claim: Claim) -> Result<Verdict, Memory>
+    ensures { IfOk result (λ v. IsIdSet claim.entry.pts.now claim.entry.ids.now
+        → IsVerdictOf claim.entry.pts.now claim.entry.ids.now claim.entry.polygons.now v) }
+{
+    if claim.polygons.is_empty() {
+        return compare(alloc, claim);
+    }
+    match rank(claim.pts, claim.ids) {
+        Shape::Solid(_, _, _, _) => check_solid(searcher, alloc, claim),
+        _ => compare(alloc, claim),
     }
 }
 
@@ -71,18 +81,10 @@ pub fn check(
 ) -> Result<Verdict, Memory>
     requires some { 0 < length ids.now }
     requires indices { AreIndices pts.now ids.now }
-    ensures right { IfOk result (λ v. IsIdSet pts.now ids.now
-        → (v ≡ Right) ↔ ArePolygonsOf (place pts.now) (Members ids.now) polygons.now) }
-    ensures reason { IfOk result (λ v. IsIdSet pts.now ids.now
-        → IsReason (place pts.now) (Members ids.now) polygons.now v) }
+    ensures { IfOk result (λ v. IsIdSet pts.now ids.now → IsVerdictOf pts.now ids.now polygons.now v) }
 {
-    if polygons.is_empty() {
-        return compare(alloc, pts, ids, polygons);
-    }
-    match rank(pts, ids) {
-        Shape::Solid(_, _, _, _) => check_solid(alloc, pts, ids, polygons),
-        _ => compare(alloc, pts, ids, polygons),
-    }
+    let claim = Claim { pts, ids, polygons };
+    check_by(&Alone, alloc, claim)
 }
 
 /// Checks polygons as [`check`] does, by a number of threads: each looks at a part of the polygons.
@@ -102,18 +104,9 @@ pub fn check_by_workers<R: Threads>(
 ) -> Result<Verdict, Memory>
     requires some { 0 < length ids.now }
     requires indices { AreIndices pts.now ids.now }
-    ensures right { IfOk result (λ v. IsIdSet pts.now ids.now
-        → (v ≡ Right) ↔ ArePolygonsOf (place pts.now) (Members ids.now) polygons.now) }
-    ensures reason { IfOk result (λ v. IsIdSet pts.now ids.now
-        → IsReason (place pts.now) (Members ids.now) polygons.now v) }
+    ensures { IfOk result (λ v. IsIdSet pts.now ids.now → IsVerdictOf pts.now ids.now polygons.now v) }
 {
-    if polygons.is_empty() {
-        return compare(alloc, pts, ids, polygons);
-    }
-    match rank(pts, ids) {
-        Shape::Solid(_, _, _, _) => {
-            check_solid_by_workers(rt, alloc, pts, ids, polygons, workers.max(1))
-        }
-        _ => compare(alloc, pts, ids, polygons),
-    }
+    let searcher = InThreads { rt, workers };
+    let claim = Claim { pts, ids, polygons };
+    check_by(&searcher, alloc, claim)
 }

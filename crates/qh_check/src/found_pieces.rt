@@ -1,18 +1,19 @@
 //! The quick way to see that polygons are pieces of faces: the hull is made, and each polygon is looked for in it.
-ghost use Rattle.std.specs.Prelude.{◌<◌, IfOk, IsTrue, length};
+ghost use Rattle.std.specs.Prelude.{IfOk, IsTrue};
 ghost use Rattle.std.specs.List.{All};
 ghost use Rattle.qh_model.specs.headline.Dimension.{IsDimension};
 ghost use Rattle.qh_model.specs.headline.Predicates.{place};
 ghost use Rattle.qh_model.specs.headline.Sets.{Members};
-ghost use Rattle.qh_model.specs.contract.IdSets.{AreIndices, IsIdSet};
+ghost use Rattle.qh_model.specs.contract.IdSets.{IsIdSet};
 ghost use Rattle.qh_check.specs.declared.extent.Extent.TheVariants.{Piece};
 ghost use Rattle.qh_check.specs.steps.Faces.{IsFaceOf};
 ghost use Rattle.qh_check.specs.steps.HullFaces.{IsPieceAmong};
 
+use crate::claim::Claim;
 use crate::face_table::FaceTable;
 use crate::hull_faces::HullFaces;
 use qh_block::hull;
-use qh_model::{Id, Memory, Point, Polygon};
+use qh_model::{Memory, Polygon};
 use std::alloc::{AllocError, Global};
 
 /// Returns true if each of some polygons is found to be a piece of a face of a hull.
@@ -31,21 +32,15 @@ fn are_pieces(alloc: Global, hull: HullFaces, polygons: &[Polygon]) -> Result<bo
 
 /// Returns true if each of some polygons is found to be a piece of a face of a solid set, whose hull is made for
 /// this.
-pub(crate) fn are_pieces_of_hull(
-    alloc: Global,
-    pts: &[Point],
-    ids: &[Id],
-    polygons: &[Polygon],
-) -> Result<bool, Memory>
-    requires some { 0 < length ids.now }
-    requires indices { AreIndices pts.now ids.now }
-    ensures { IfOk result (λ b. IsTrue b → IsIdSet pts.now ids.now → IsDimension (place pts.now) (Members ids.now) 3
-        → All (IsFaceOf Piece pts.now ids.now) polygons.now) }
+pub(crate) fn are_pieces_of_hull(alloc: Global, claim: Claim) -> Result<bool, Memory>
+    ensures { IfOk result (λ b. IsTrue b → IsIdSet claim.entry.pts.now claim.entry.ids.now
+        → IsDimension (place claim.entry.pts.now) (Members claim.entry.ids.now) 3
+        → All (IsFaceOf Piece claim.entry.pts.now claim.entry.ids.now) claim.entry.polygons.now) }
 {
-    let body = hull(alloc, pts, ids)?;
+    let body = hull(alloc, claim.pts, claim.ids)?;
     let faces = HullFaces {
-        pts,
+        pts: claim.pts,
         faces: &body.polygons,
     };
-    Ok(are_pieces(alloc, faces, polygons)?)
+    Ok(are_pieces(alloc, faces, claim.polygons)?)
 }

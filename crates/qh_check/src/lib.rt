@@ -12,6 +12,7 @@
 
 mod asked_faces;
 mod asking;
+mod claim;
 mod claims;
 mod closed;
 mod closed_in_threads;

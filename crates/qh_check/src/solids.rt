@@ -6,23 +6,21 @@ ghost use Rattle.qh_model.specs.headline.Polygons.{RiseStrictly};
 ghost use Rattle.qh_model.specs.headline.Predicates.{place};
 ghost use Rattle.qh_model.specs.headline.Sets.{Members};
 ghost use Rattle.qh_model.specs.headline.Vector.{Vector};
-ghost use Rattle.qh_model.specs.contract.IdSets.{AreIndices, IsIdSet};
+ghost use Rattle.qh_model.specs.contract.IdSets.{IsIdSet};
 ghost use Rattle.qh_check.specs.declared.extent.Extent.TheVariants.{Whole};
+ghost use Rattle.qh_check.specs.contract.Claims.{IsVerdictOf};
 ghost use Rattle.qh_check.specs.steps.Faces.{IsFaceOf};
 ghost use Rattle.qh_check.specs.steps.Findings.{IsFound};
-ghost use Rattle.qh_check.specs.steps.Verdicts.{IsVerdictOf};
 
-use crate::asking::by_rank;
+use crate::claim::Claim;
 use crate::closed::open_step;
 use crate::extent::Extent;
-use crate::faces::PlacedSet;
-use crate::findings::{Asked, Finding, first_fault, first_fault_in_parts};
+use crate::findings::Finding;
 use crate::order::out_of_order;
+use crate::searchers::{Searcher, find_fault};
 use crate::verdict::Verdict;
-use qh_model::{Id, Memory, Point, Polygon};
-use qh_places::Places;
+use qh_model::{Memory, Polygon};
 use std::alloc::Global;
-use std::thread::Threads;
 
 /// Returns the verdict on polygons in order, from the one that is no face, if there is one. Else they have
 /// to close up.
@@ -41,64 +39,20 @@ fn judged(alloc: Global, polygons: &[Polygon], found: Option<Finding>) -> Result
     }
 }
 
-/// Checks polygons, one at least, of a solid set.
-pub(crate) fn check_solid(
+/// Checks polygons, one at least, of a solid set, by a way to search for one that is no face.
+pub(crate) fn check_solid<S: Searcher>(
+    searcher: &S,
     alloc: Global,
-    pts: &[Point],
-    ids: &[Id],
-    polygons: &[Polygon],
+    claim: Claim,
 ) -> Result<Verdict, Memory>
-    requires some { 0 < length ids.now }
-    requires indices { AreIndices pts.now ids.now }
-    requires claimed { 0 < length polygons.now }
-    ensures { IfOk result (λ v. IsIdSet pts.now ids.now → IsDimension (place pts.now) (Members ids.now) 3
-        → IsVerdictOf pts.now ids.now polygons.now v) }
+    requires { 0 < length claim.polygons.now }
+    ensures { IfOk result (λ v. IsIdSet claim.entry.pts.now claim.entry.ids.now
+        → IsDimension (place claim.entry.pts.now) (Members claim.entry.ids.now) 3
+        → IsVerdictOf claim.entry.pts.now claim.entry.ids.now claim.entry.polygons.now v) }
 {
-    if let Some(position) = out_of_order(polygons) {
+    if let Some(position) = out_of_order(claim.polygons) {
         return Ok(Verdict::OutOfOrder(position));
     }
-    let places = Places::over(alloc, pts, ids, polygons)?;
-    let set = PlacedSet {
-        extent: Extent::Whole,
-        pts,
-        places: &places,
-    };
-    let order = by_rank(alloc, polygons, &places.ranks)?;
-    let found = first_fault(alloc, set, polygons, &order)?;
-    judged(alloc, polygons, found)
-}
-
-/// Checks polygons, one at least, of a solid set, by a number of threads.
-pub(crate) fn check_solid_by_workers<R: Threads>(
-    rt: &R,
-    alloc: Global,
-    pts: &[Point],
-    ids: &[Id],
-    polygons: &[Polygon],
-    workers: usize,
-) -> Result<Verdict, Memory>
-    requires some { 0 < length ids.now }
-    requires indices { AreIndices pts.now ids.now }
-    requires claimed { 0 < length polygons.now }
-    requires workers { 0 < workers }
-    ensures { IfOk result (λ v. IsIdSet pts.now ids.now → IsDimension (place pts.now) (Members ids.now) 3
-        → IsVerdictOf pts.now ids.now polygons.now v) }
-{
-    if let Some(position) = out_of_order(polygons) {
-        return Ok(Verdict::OutOfOrder(position));
-    }
-    let places = Places::over(alloc, pts, ids, polygons)?;
-    let set = PlacedSet {
-        extent: Extent::Whole,
-        pts,
-        places: &places,
-    };
-    let order = by_rank(alloc, polygons, &places.ranks)?;
-    let asked = Asked {
-        polygons,
-        order: &order,
-    };
-    let size = (polygons.len() - 1) / workers + 1;
-    let found = first_fault_in_parts(rt, alloc, set, asked, size)?;
-    judged(alloc, polygons, found)
+    let found = find_fault(searcher, alloc, claim, Extent::Whole)?;
+    judged(alloc, claim.polygons, found)
 }

@@ -1,5 +1,5 @@
 //! Whether polygons, pieces of faces in any order, are the surface of a hull.
-ghost use Rattle.std.specs.Prelude.{◌≡◌, ◌<◌, ◌↔◌, ℕ, List, IfOk, MatchOption, length};
+ghost use Rattle.std.specs.Prelude.{◌<◌, ℕ, List, IfOk, MatchOption, length};
 ghost use Rattle.std.specs.List.{All};
 ghost use Rattle.qh_model.specs.headline.Dimension.{IsDimension};
 ghost use Rattle.qh_model.specs.headline.Predicates.{place};
@@ -7,25 +7,20 @@ ghost use Rattle.qh_model.specs.headline.Sets.{Members};
 ghost use Rattle.qh_model.specs.headline.Vector.{Vector};
 ghost use Rattle.qh_model.specs.contract.IdSets.{AreIndices, IsIdSet};
 ghost use Rattle.qh_check.specs.declared.extent.Extent.TheVariants.{Piece};
-ghost use Rattle.qh_check.specs.declared.flaw.SurfaceVerdict.TheVariants.{Right, OtherPolygons};
-ghost use Rattle.qh_check.specs.contract.Surfaces.{IsHullSurface, IsSurfaceReason};
+ghost use Rattle.qh_check.specs.contract.Surfaces.{IsSurfaceVerdictOf};
 ghost use Rattle.qh_check.specs.steps.Faces.{IsFaceOf};
-ghost use Rattle.qh_check.specs.steps.Findings.{IsFaceAmong, IsFound};
-ghost use Rattle.qh_places.specs.contract.Places.{ArePlaces};
-ghost use Rattle.qh_check.specs.steps.Verdicts.{IsSurfaceVerdictOf};
+ghost use Rattle.qh_check.specs.steps.Findings.{IsFound};
 
-use crate::asking::by_rank;
+use crate::claim::Claim;
 use crate::claims::compare;
 use crate::closed::{open_step, repeated_step};
 use crate::extent::Extent;
-use crate::faces::PlacedSet;
-use crate::findings::{Asked, Finding};
+use crate::findings::Finding;
 use crate::flaw::SurfaceVerdict;
 use crate::found_pieces::are_pieces_of_hull;
-use crate::searchers::{Alone, InThreads, Searcher};
+use crate::searchers::{Alone, InThreads, Searcher, find_fault};
 use crate::verdict::Verdict;
 use qh_model::{Id, Memory, Point, Polygon};
-use qh_places::Places;
 use qh_plane::{Shape, rank};
 use std::alloc::Global;
 use std::thread::Threads;
@@ -54,70 +49,32 @@ fn judged(
     }
 }
 
-/// Checks polygons, one at least, of a solid set, by asking the plane of each.
-fn check_by_planes<S: Searcher>(
-    searcher: &S,
-    alloc: Global,
-    pts: &[Point],
-    ids: &[Id],
-    polygons: &[Polygon],
-) -> Result<SurfaceVerdict, Memory>
-    requires some { 0 < length ids.now }
-    requires indices { AreIndices pts.now ids.now }
-    requires claimed { 0 < length polygons.now }
-    ensures { IfOk result (λ v. IsIdSet pts.now ids.now → IsDimension (place pts.now) (Members ids.now) 3
-        → IsSurfaceVerdictOf pts.now ids.now polygons.now v) }
-{
-    let places = Places::over(alloc, pts, ids, polygons)?;
-    let set = PlacedSet {
-        extent: Extent::Piece,
-        pts,
-        places: &places,
-    };
-    let order = by_rank(alloc, polygons, &places.ranks)?;
-    let asked = Asked {
-        polygons,
-        order: &order,
-    };
-    let found = searcher.search(alloc, set, asked)?;
-    judged(alloc, polygons, found)
-}
-
 /// Checks polygons, one at least, of a solid set. Most are right, and found in its hull: planes are asked
 /// only where one is not found there.
 fn check_solid_surface<S: Searcher>(
     searcher: &S,
     alloc: Global,
-    pts: &[Point],
-    ids: &[Id],
-    polygons: &[Polygon],
+    claim: Claim,
 ) -> Result<SurfaceVerdict, Memory>
-    requires some { 0 < length ids.now }
-    requires indices { AreIndices pts.now ids.now }
-    requires claimed { 0 < length polygons.now }
-    ensures { IfOk result (λ v. IsIdSet pts.now ids.now → IsDimension (place pts.now) (Members ids.now) 3
-        → IsSurfaceVerdictOf pts.now ids.now polygons.now v) }
+    requires { 0 < length claim.polygons.now }
+    ensures { IfOk result (λ v. IsIdSet claim.entry.pts.now claim.entry.ids.now
+        → IsDimension (place claim.entry.pts.now) (Members claim.entry.ids.now) 3
+        → IsSurfaceVerdictOf claim.entry.pts.now claim.entry.ids.now claim.entry.polygons.now v) }
 {
-    if are_pieces_of_hull(alloc, pts, ids, polygons)? {
-        judged(alloc, polygons, None)
-    } else {
-        check_by_planes(searcher, alloc, pts, ids, polygons)
+    if are_pieces_of_hull(alloc, claim)? {
+        return judged(alloc, claim.polygons, None);
     }
+    let found = find_fault(searcher, alloc, claim, Extent::Piece)?;
+    judged(alloc, claim.polygons, found)
 }
 
 /// Returns true if polygons are those of a set that is not solid.
-fn compare_surface(
-    alloc: Global,
-    pts: &[Point],
-    ids: &[Id],
-    polygons: &[Polygon],
-) -> Result<SurfaceVerdict, Memory>
-    requires some { 0 < length ids.now }
-    requires indices { AreIndices pts.now ids.now }
-    ensures { IfOk result (λ v. IsIdSet pts.now ids.now → ¬ (IsDimension (place pts.now) (Members ids.now) 3)
-        → IsSurfaceVerdictOf pts.now ids.now polygons.now v) }
+fn compare_surface(alloc: Global, claim: Claim) -> Result<SurfaceVerdict, Memory>
+    ensures { IfOk result (λ v. IsIdSet claim.entry.pts.now claim.entry.ids.now
+        → ¬ (IsDimension (place claim.entry.pts.now) (Members claim.entry.ids.now) 3)
+        → IsSurfaceVerdictOf claim.entry.pts.now claim.entry.ids.now claim.entry.polygons.now v) }
 {
-    match compare(alloc, pts, ids, polygons)? {
+    match compare(alloc, claim)? {
         Verdict::Right => Ok(SurfaceVerdict::Right),
         _ => Ok(SurfaceVerdict::OtherPolygons),
     }
@@ -128,20 +85,17 @@ fn compare_surface(
 fn check_surface_by<S: Searcher>(
     searcher: &S,
     alloc: Global,
-    pts: &[Point],
-    ids: &[Id],
-    polygons: &[Polygon],
+    claim: Claim,
 ) -> Result<SurfaceVerdict, Memory>
-    requires some { 0 < length ids.now }
-    requires indices { AreIndices pts.now ids.now }
-    ensures { IfOk result (λ v. IsIdSet pts.now ids.now → IsSurfaceVerdictOf pts.now ids.now polygons.now v) }
+    ensures { IfOk result (λ v. IsIdSet claim.entry.pts.now claim.entry.ids.now
+        → IsSurfaceVerdictOf claim.entry.pts.now claim.entry.ids.now claim.entry.polygons.now v) }
 {
-    if polygons.is_empty() {
+    if claim.polygons.is_empty() {
         return Ok(SurfaceVerdict::OtherPolygons);
     }
-    match rank(pts, ids) {
-        Shape::Solid(_, _, _, _) => check_solid_surface(searcher, alloc, pts, ids, polygons),
-        _ => compare_surface(alloc, pts, ids, polygons),
+    match rank(claim.pts, claim.ids) {
+        Shape::Solid(_, _, _, _) => check_solid_surface(searcher, alloc, claim),
+        _ => compare_surface(alloc, claim),
     }
 }
 
@@ -171,13 +125,11 @@ pub fn check_surface<R: Threads>(
 ) -> Result<SurfaceVerdict, Memory>
     requires some { 0 < length ids.now }
     requires indices { AreIndices pts.now ids.now }
-    ensures right { IfOk result (λ v. IsIdSet pts.now ids.now
-        → (v ≡ Right) ↔ IsHullSurface (place pts.now) (Members ids.now) polygons.now) }
-    ensures reason { IfOk result (λ v. IsIdSet pts.now ids.now
-        → IsSurfaceReason (place pts.now) (Members ids.now) polygons.now v) }
+    ensures { IfOk result (λ v. IsIdSet pts.now ids.now → IsSurfaceVerdictOf pts.now ids.now polygons.now v) }
 {
     let searcher = InThreads { rt, workers };
-    check_surface_by(&searcher, alloc, pts, ids, polygons)
+    let claim = Claim { pts, ids, polygons };
+    check_surface_by(&searcher, alloc, claim)
 }
 
 /// Checks whether polygons are the surface of the hull of a set, as [`check_surface`] does, by the calling thread
@@ -197,10 +149,8 @@ pub fn check_surface_alone(
 ) -> Result<SurfaceVerdict, Memory>
     requires some { 0 < length ids.now }
     requires indices { AreIndices pts.now ids.now }
-    ensures right { IfOk result (λ v. IsIdSet pts.now ids.now
-        → (v ≡ Right) ↔ IsHullSurface (place pts.now) (Members ids.now) polygons.now) }
-    ensures reason { IfOk result (λ v. IsIdSet pts.now ids.now
-        → IsSurfaceReason (place pts.now) (Members ids.now) polygons.now v) }
+    ensures { IfOk result (λ v. IsIdSet pts.now ids.now → IsSurfaceVerdictOf pts.now ids.now polygons.now v) }
 {
-    check_surface_by(&Alone, alloc, pts, ids, polygons)
+    let claim = Claim { pts, ids, polygons };
+    check_surface_by(&Alone, alloc, claim)
 }

@@ -1,7 +1,8 @@
 -- Claims that polygons are those of a set, and what is wrong with wrong ones. This project's own.
-use Rattle.std.specs.Prelude.{ℕ, pos, ◌≡◌, ◌<◌, ◌+◌, ◌<ℤ◌, ◌⊎◌, List, [], length, slice_index_or}
+use Rattle.std.specs.Prelude.{ℕ, pos, ◌≡◌, ◌<◌, ◌+◌, ◌<ℤ◌, ◌⊎◌, ◌↔◌, List, [], length, slice_index_or}
 use Rattle.qh_model.specs.headline.Vector.{Vector}
-use Rattle.qh_model.specs.headline.Predicates.{vol, AreInLine}
+use Rattle.qh_model.specs.headline.Predicates.{place, vol, AreInLine}
+use Rattle.qh_model.specs.headline.Sets.{Members}
 use Rattle.qh_model.specs.headline.Dimension.{IsDimension}
 use Rattle.qh_model.specs.headline.SupportingPlane.{IsSupportingTriple}
 use Rattle.qh_model.specs.headline.Polygons.{ComesBefore, ArePolygons}
@@ -41,3 +42,8 @@ IsReason at A qs OtherPolygons = (¬ (IsDimension at A 3)) ⊎ (qs ≡ [])
 IsReason at A qs (OutOfOrder n) = IsOutOfOrder qs n
 IsReason at A qs (NoFace n fault) = (n < length qs) × IsFaceFault Whole at A (slice_index_or qs n []) fault
 IsReason at A qs (Open u v) = IsOpen qs u v
+
+-- the verdict is `Right` just where the polygons are those of the set, and what it says is so
+pub record IsVerdictOf (pts : List Vector) (ids : List ℕ) (qs : List (List ℕ)) (v : Verdict) : Type 0 where
+  pub right : (v ≡ Right) ↔ ArePolygonsOf (place pts) (Members ids) qs
+  pub reason : IsReason (place pts) (Members ids) qs v

@@ -1,8 +1,9 @@
 -- Surfaces of hulls, cut into pieces in any way, and what is wrong with others. This project's own.
-use Rattle.std.specs.Prelude.{ℕ, ◌≡◌, ◌<◌, ◌≤◌, ◌⊎◌, List, [], length, slice_index_or}
+use Rattle.std.specs.Prelude.{ℕ, ◌≡◌, ◌<◌, ◌≤◌, ◌⊎◌, ◌↔◌, List, [], length, slice_index_or}
 use Rattle.qh_model.specs.headline.Vector.{Vector}
 use Rattle.qh_model.specs.headline.Dimension.{IsDimension}
-use Rattle.qh_model.specs.headline.Sets.{In}
+use Rattle.qh_model.specs.headline.Predicates.{place}
+use Rattle.qh_model.specs.headline.Sets.{In, Members}
 use Rattle.qh_model.specs.contract.ClosedPolygons.{AreClosed, step_count}
 use Rattle.qh_check.specs.declared.extent.Extent.TheVariants.{Piece}
 use Rattle.qh_check.specs.declared.flaw.SurfaceVerdict.{SurfaceVerdict}
@@ -30,3 +31,8 @@ IsSurfaceReason at A qs OtherPolygons = (¬ (IsDimension at A 3)) ⊎ (length qs
 IsSurfaceReason at A qs (NoPiece n fault) = (n < length qs) × IsFaceFault Piece at A (slice_index_or qs n []) fault
 IsSurfaceReason at A qs (Open u v) = IsOpen qs u v
 IsSurfaceReason at A qs (Twice u v) = (u < v) × (1 < step_count qs u v)
+
+-- the verdict is `Right` just where the polygons are the surface, and what it says is so
+pub record IsSurfaceVerdictOf (pts : List Vector) (ids : List ℕ) (qs : List (List ℕ)) (v : SurfaceVerdict) : Type 0 where
+  pub right : (v ≡ Right) ↔ IsHullSurface (place pts) (Members ids) qs
+  pub reason : IsSurfaceReason (place pts) (Members ids) qs v

@@ -9,7 +9,7 @@ returns-then-are_same_polygons c =
     let same = told ∙ c.are_same_polygons.ensures.0 c.if-are_same_polygons.true in (
       inl refl,
       λ set. (
-        λ e. same_polygons _ _ c.in_ok-body.body (c.in_ok-body.ensures set) c.args.polygons.now same,
+        λ e. same_polygons _ _ c.in_ok-body.body (c.in_ok-body.ensures set) c.args.claim.polygons.now same,
         λ p. refl,
       ),
     )
@@ -20,7 +20,7 @@ returns c =
       inr refl,
       λ set. (
         λ e. cc,
-        λ p. absurd (other_polygons _ _ c.in_ok-body.body (c.in_ok-body.ensures set) c.args.polygons.now
+        λ p. absurd (other_polygons _ _ c.in_ok-body.body (c.in_ok-body.ensures set) c.args.claim.polygons.now
             (λ e. (let yes = c.are_same_polygons.ensures.1 (sym told ∙ e) in let n = c.if-are_same_polygons.false in cc)) p),
       ),
     )

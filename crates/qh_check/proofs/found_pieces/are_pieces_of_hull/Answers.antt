@@ -12,7 +12,7 @@ use Rattle.qh_check.proofs.found_pieces.are_pieces_of_hull.Goals as goal
 
 pub returns : goal.returns
 returns c = λ yes set solid.
-    let pts = c.args.pts.now in let ids = c.args.ids.now in let polygons = c.args.polygons.now in
+    let pts = c.args.claim.pts.now in let ids = c.args.claim.ids.now in let polygons = c.args.claim.polygons.now in
     let faces = c.deref.result.now in
     let told : c.in_ok-body.body.polygons ≡ faces = cc in
     let are : AreFaces (place pts) (Members ids) faces = faces_of_body pts ids set solid c.in_ok-body.body (c.in_ok-body.ensures set) faces told in

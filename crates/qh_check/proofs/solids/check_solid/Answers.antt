@@ -1,23 +1,14 @@
 -- The first thing that is wrong tells, or nothing is.
 use Rattle.std.proofs.lemmas.Result.{IfOk-weaker}
-use Rattle.qh_check.specs.declared.extent.Extent.TheVariants.{Whole}
-use Rattle.qh_check.proofs.ClaimedFaces.{part_indices}
-use Rattle.qh_check.proofs.FoundParts.{all_asked}
 use Rattle.qh_check.proofs.Verdicts.{is_out_of_order}
 use Rattle.qh_check.proofs.solids.check_solid.Goals as goal
 
 pub returns-in-Some : goal.returns-in-Some
-returns-in-Some c = λ set solid.
-    is_out_of_order c.args.pts.now c.args.ids.now c.args.polygons.now set solid c.in-Some.position c.in-Some.ensures
-
-pub invariant_of-set : goal.invariant_of-set
-invariant_of-set c = let are = c.in_ok-places.ensures in record {
-  indices = part_indices c.args.pts.now c.args.ids.now _ c.requires.indices (λ l. (are.same l).0);
-  points = are.points;
-}
+returns-in-Some g c = λ set solid.
+    is_out_of_order c.args.claim.pts.now c.args.claim.ids.now c.args.claim.polygons.now set solid c.in-Some.position
+    c.in-Some.ensures
 
 pub returns : goal.returns
-returns c = IfOk-weaker c.judged.result _ _ (λ v h set solid.
-    h c.args.pts.now c.args.ids.now set solid c.requires.claimed c.in_default.ensures
-    (all_asked Whole _ _ _ _ _ (rw (← c.deref-2.ensures.value) at c.in_ok-order.ensures)
-    (c.in_ok-found.ensures c.args.ids.now c.in_ok-places.ensures))) c.judged.ensures
+returns g c = IfOk-weaker c.judged.result _ _ (λ v h set solid.
+    h c.args.claim.pts.now c.args.claim.ids.now set solid c.requires c.in_default.ensures c.in_ok-found.ensures)
+    c.judged.ensures

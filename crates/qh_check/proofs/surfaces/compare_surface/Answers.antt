@@ -4,9 +4,9 @@ use Rattle.qh_check.proofs.surfaces.compare_surface.Goals as goal
 
 pub returns-in-Right : goal.returns-in-Right
 returns-in-Right c = λ set flat.
-    are_polygons c.args.pts.now c.args.ids.now c.args.polygons.now flat ((c.in_ok-compare.ensures.1 set).0 c.in-Right.is)
+    are_polygons c.args.claim.pts.now c.args.claim.ids.now c.args.claim.polygons.now flat ((c.in_ok-compare.ensures.1 set).0 c.in-Right.is)
 
 pub returns-in_default : goal.returns-in_default
 returns-in_default c = λ set flat.
-    are_others c.args.pts.now c.args.ids.now c.args.polygons.now flat
+    are_others c.args.claim.pts.now c.args.claim.ids.now c.args.claim.polygons.now flat
     (λ p. c.in_default.not-Right ((c.in_ok-compare.ensures.1 set).1 p))

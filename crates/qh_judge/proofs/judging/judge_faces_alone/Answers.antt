@@ -18,5 +18,4 @@ pub returns-in-Ok : goal.returns-in-Ok
 returns-in-Ok c =
     let same = rw c.in-Ok.is at (rw c.deref.ensures.value at c.in_ok-polygons.ensures) in
     told c.args.pts.now c.args.named.now c.args.faces.now c.in_ok-ids.ids.items c.in-Ok.polygons.items _ c.in_ok-ids.ensures same
-    (rw (c.deref-in-Ok.ensures.value, c.deref-in-Ok-2.ensures.value) at c.in_ok-found-in-Ok.ensures.right)
-    (rw (c.deref-in-Ok.ensures.value, c.deref-in-Ok-2.ensures.value) at c.in_ok-found-in-Ok.ensures.reason)
+    (rw (c.deref-in-Ok.ensures.value, c.deref-in-Ok-2.ensures.value) at c.in_ok-found-in-Ok.ensures)

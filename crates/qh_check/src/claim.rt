@@ -1,0 +1,15 @@
+//! Polygons that are claimed to be those of a set.
+ghost use Rattle.std.specs.Prelude.{◌<◌, length};
+ghost use Rattle.qh_model.specs.contract.IdSets.{AreIndices};
+
+use qh_model::{Id, Point, Polygon};
+
+/// A set of ids, at least one and each the index of one of the points, and polygons that may be its polygons.
+#[derive(Clone, Copy, Drop)]
+pub(crate) struct Claim<'a> {
+    pub pts: &'a [Point],
+    pub ids: &'a [Id],
+    pub polygons: &'a [Polygon],
+    ghost some: { 0 < length ids.now },
+    ghost indices: { AreIndices pts.now ids.now },
+}
