@@ -11,10 +11,10 @@ is_room Range e = absurd (omega (arith, e))
 is_room Memory e = absurd (omega (arith, e))
 is_room Room e = refl
 
-abbrev is_done : Result (Unit {0}) Fault → Type 0
+abbrev is_done : {A : Type 0} → Result A Fault → Type 0
 is_done (Ok x) = Unit {0}
 is_done (Err f) = ⊥
 
 -- a call that is done has no fault
-pub no_fault : (f : Fault) → ¬ (◌≡◌ {A = Result (Unit {0}) Fault} (Ok tt) (Err f))
-no_fault f e = subst is_done e tt
+pub no_fault : {A : Type 0} (x : A) (f : Fault) → ¬ (◌≡◌ {A = Result A Fault} (Ok x) (Err f))
+no_fault x f e = subst is_done e tt

@@ -7,11 +7,12 @@ ghost use Rattle.qconvex_c.specs.contract.Answered.{IsAnswered, NeedsRoom};
 ghost use Rattle.qconvex_c.specs.contract.Triangles.{AreFans, NeedsFanRoom};
 ghost use Rattle.qconvex_c.specs.contract.Codes.{QCONVEX_DONE, QCONVEX_NO_POINT, QCONVEX_TOO_MANY, QCONVEX_RANGE, QCONVEX_ROOM};
 
-use crate::code::DONE;
+use crate::buffers::fill;
+use crate::code::{DONE, ROOM};
 use crate::fan_lists::write_fans;
 use crate::given::Given;
+use crate::given_hull::given_hull;
 use crate::sizes::Sizes;
-use crate::written::write_hull;
 use std::alloc::Global;
 
 /// Returns the hull of points, in buffers of the caller.
@@ -49,8 +50,15 @@ pub extern "C" fn qconvex_hull(
     ensures corners_kept { result ≢ QCONVEX_DONE → corners.new ≡ corners.old }
     ensures sizes_kept { result ≢ QCONVEX_DONE → result ≢ QCONVEX_ROOM → sizes.new ≡ sizes.old }
 {
-    match write_hull(alloc, points, sizes, extremes, offsets, corners) {
-        Ok(()) => DONE,
+    match given_hull(alloc, points) {
+        Ok(flat) => {
+            *sizes = flat.sizes;
+            if fill(&flat, extremes, offsets, corners) {
+                DONE
+            } else {
+                ROOM
+            }
+        }
         Err(fault) => fault.code(),
     }
 }

@@ -2,8 +2,8 @@
 //! as triangles with their normals.
 //!
 //! `given` takes the points, `judging` refuses those that have no hull here, `flat_hull` and `fans` lay a
-//! hull out in flat lists, and `buffers`, `written` and `fan_lists` fill the caller's buffers. `sets` and
-//! `set_hulls` do so for many sets in one call. `cut_faces` takes faces of a caller, which `checked` judges, and
+//! hull out in flat lists, which `given_hull` returns, and `buffers` and `fan_lists` fill the caller's buffers. `sets`
+//! and `set_hulls` do so for many sets in one call. `cut_faces` takes faces of a caller, which `checked` judges, and
 //! `told` says what was found. Nothing here starts a thread or keeps anything between calls.
 #![tactic(auto)]
 
@@ -19,6 +19,7 @@ mod fans;
 mod fault;
 mod flat_hull;
 mod given;
+mod given_hull;
 mod judging;
 mod kind;
 mod many;
@@ -36,7 +37,6 @@ mod version;
 #[cfg(test)]
 mod volume_tests;
 mod volumes;
-mod written;
 
 pub use checked::qconvex_check;
 pub use code::{DONE, MEMORY, NO_POINT, RANGE, ROOM, STARTS, TOO_MANY};

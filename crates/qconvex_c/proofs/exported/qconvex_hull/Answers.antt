@@ -1,9 +1,21 @@
-use Rattle.std.proofs.Common.{ap, sym, ◌∙◌, arith, Err}
-use Rattle.qconvex_c.proofs.FaultCodes.{is_room, no_fault}
+use Rattle.std.proofs.Common.{arith}
+use Rattle.qconvex_c.proofs.FaultCodes.{no_fault}
+use Rattle.qconvex_c.proofs.Filled.{filled, needs_room, rest_kept}
 use Rattle.qconvex_c.proofs.exported.qconvex_hull.Goals as goal
 
-pub returns-in-Ok-clause-range : goal.returns-in-Ok-clause-range
-returns-in-Ok-clause-range c = (λ e. absurd (omega (arith, e)), λ x. absurd (no_fault _ (c.in-Ok.ensures.range.1 x)))
+pub returns-then-fill-clause-done : goal.returns-then-fill-clause-done
+returns-then-fill-clause-done c e =
+    let d = c.fill.ensures.done c.if-fill.true in filled _ _ _ _ _ c.in-Ok.ensures.hull _ _ _ d.0 d.1 d.2
 
-pub returns-in-Err-clause-room : goal.returns-in-Err-clause-room
-returns-in-Err-clause-room c e = c.in-Err.ensures.room (ap Err (is_room c.in-Err.fault (sym c.code.ensures ∙ e)))
+pub returns-then-fill-clause-range : goal.returns-then-fill-clause-range
+returns-then-fill-clause-range c = (λ e. absurd (omega (arith, e)), λ x. absurd (no_fault _ _ (c.in-Ok.ensures.range.1 x)))
+
+pub returns-then-fill-clause-offsets_rest : goal.returns-then-fill-clause-offsets_rest
+returns-then-fill-clause-offsets_rest c e =
+    (rest_kept _ _ _ _ _ c.in-Ok.ensures.hull _ _ _ _ _ _ (c.fill.ensures.rest c.if-fill.true)).1
+
+pub returns-in-Ok-clause-range : goal.returns-in-Ok-clause-range
+returns-in-Ok-clause-range c = (λ e. absurd (omega (arith, e)), λ x. absurd (no_fault _ _ (c.in-Ok.ensures.range.1 x)))
+
+pub returns-in-Ok-clause-room : goal.returns-in-Ok-clause-room
+returns-in-Ok-clause-room c e = needs_room _ _ _ _ _ c.in-Ok.ensures.hull _ _ _ (c.fill.ensures.short c.if-fill.false)

@@ -1,7 +1,7 @@
 use Rattle.std.proofs.Common.{subst, ◌∙◌}
 use Rattle.std.proofs.lemmas.Result.{IfOk-weaker}
 use Rattle.qh_model.specs.headline.Hull.{IsHull}
-use Rattle.qconvex_c.proofs.written.flat_hull_of.Goals as goal
+use Rattle.qconvex_c.proofs.given_hull.flat_hull_of.Goals as goal
 
 pub returns : goal.returns
 returns c = IfOk-weaker c.flat_hull.result _ _
