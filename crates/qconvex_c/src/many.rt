@@ -6,8 +6,8 @@ ghost use Rattle.qconvex_c.specs.contract.Codes.{QCONVEX_DONE, QCONVEX_ROOM, QCO
 use crate::code::{DONE, ROOM, STARTS};
 use crate::given::Given;
 use crate::set_answer::SetAnswer;
-use crate::set_hulls::write_hulls;
-use crate::sets::{Rooms, are_starts, have_room};
+use crate::set_hulls::hull_of_set;
+use crate::sets::{Rooms, are_starts, have_room, set_at};
 use std::alloc::Global;
 
 /// Returns the hulls of many sets of points, in buffers of the caller.
@@ -64,6 +64,9 @@ pub extern "C" fn qconvex_hulls(
     if !have_room(starts, rooms) {
         return ROOM;
     }
-    write_hulls(alloc, points, starts, answers, extremes, offsets, corners);
+    for number in 0..starts.len() - 1 {
+        let set = set_at(starts, number);
+        answers[number] = hull_of_set(alloc, points, set, extremes, offsets, corners);
+    }
     DONE
 }

@@ -1,11 +1,11 @@
-//! The hulls of many sets, each in its part of the buffers.
-ghost use Rattle.std.specs.Prelude.{◌≡◌, ◌≤◌, ◌<◌, ◌+◌, ◌*◌, ◌-◌, length, take, drop, slice_index, slice_range};
-ghost use Rattle.qconvex_c.specs.contract.Sets.{AreStarts, HaveRoom, AreSetHulls, IsSetHull, NO_SIZES, AreKeptBetween, sets_in, end_of};
+//! The hull of one of many sets, in its part of the buffers.
+ghost use Rattle.std.specs.Prelude.{◌≡◌, ◌≤◌, ◌+◌, ◌*◌, length, slice_range};
+ghost use Rattle.qconvex_c.specs.contract.Sets.{IsSetHull, NO_SIZES, AreKeptBetween};
 
 use crate::exported::qconvex_hull;
 use crate::given::Given;
 use crate::set_answer::SetAnswer;
-use crate::sets::{Set, set_at};
+use crate::sets::Set;
 use crate::sizes::Sizes;
 use std::alloc::Global;
 
@@ -25,7 +25,7 @@ fn no_sizes() -> Sizes
 }
 
 /// Returns the hull of one set, in its part of each buffer.
-fn hull_of_set(
+pub fn hull_of_set(
     alloc: Global,
     points: &[Given],
     set: Set,
@@ -58,31 +58,4 @@ fn hull_of_set(
         &mut corners[6 * set.begin + 4 * set.number..6 * set.end + 4 * (set.number + 1)],
     );
     SetAnswer { code, sizes }
-}
-
-/// Writes the hull of each set into its part of each buffer.
-pub fn write_hulls(
-    alloc: Global,
-    points: &[Given],
-    starts: &[usize],
-    answers: &mut [SetAnswer],
-    extremes: &mut [u32],
-    offsets: &mut [usize],
-    corners: &mut [u32],
-)
-    requires starts { AreStarts (length points.now) starts.now }
-    requires room { HaveRoom starts.now (length answers.old) (length extremes.old) (length offsets.old) (length corners.old) }
-    ensures hulls { AreSetHulls points.now starts.now answers.new
-        extremes.old extremes.new offsets.old offsets.new corners.old corners.new }
-    ensures answers { drop (sets_in starts.now) answers.new ≡ drop (sets_in starts.now) answers.old }
-    ensures extremes { AreKeptBetween (slice_index starts.now 0) (end_of starts.now) extremes.old extremes.new }
-    ensures offsets { AreKeptBetween (2 * slice_index starts.now 0) (2 * end_of starts.now + 2 * sets_in starts.now)
-        offsets.old offsets.new }
-    ensures corners { AreKeptBetween (6 * slice_index starts.now 0) (6 * end_of starts.now + 4 * sets_in starts.now)
-        corners.old corners.new }
-{
-    for number in 0..starts.len() - 1 {
-        let set = set_at(starts, number);
-        answers[number] = hull_of_set(alloc, points, set, extremes, offsets, corners);
-    }
 }

@@ -1,5 +1,5 @@
 use Rattle.qconvex_c.proofs.SetHulls.{WrittenSoFar}
-use Rattle.qconvex_c.proofs.set_hulls.write_hulls.Given as goal
+use Rattle.qconvex_c.proofs.many.qconvex_hulls.Given as goal
 
 abbrev pub invariant-loop-number : goal.invariant-loop-number
 invariant-loop-number l =
