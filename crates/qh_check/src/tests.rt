@@ -1,18 +1,85 @@
-//! Worked rows: a cube, a tetrahedron and a square, with what is wrong with claims of their faces.
-ghost use Rattle.std.specs.Prelude.{IfOk};
-ghost use Rattle.qh_model.specs.contract.IdSets.{AreIndices};
-
-mod surfaces;
-
-use crate::{FaceFault, Verdict, check, check_by_workers};
+//! Worked rows: surfaces of a cube in pieces, and what is wrong with others.
+use crate::found_pieces::are_pieces_of_hull;
+use crate::{FaceFault, SurfaceVerdict, check_surface, check_surface_alone};
 use qh_model::{Id, Memory, Point, Polygon};
-use std::alloc::{AllocError, Global};
+use std::alloc::Global;
+use std::process::Abort;
 use std::test::Fail;
 use std::thread::Threads;
 
-/// Returns the corners of a cube, in rising order of their coordinates.
-fn cube() -> [Point; 8] {
-    [
+/// The twelve triangles of a cube, as Qhull writes them, turned round.
+const TRIANGLES: [&[u32]; 12] = [
+    &[0, 2, 6],
+    &[0, 6, 4],
+    &[0, 4, 5],
+    &[0, 5, 1],
+    &[4, 6, 5],
+    &[7, 5, 6],
+    &[0, 3, 2],
+    &[0, 1, 3],
+    &[2, 3, 6],
+    &[7, 6, 3],
+    &[1, 5, 3],
+    &[7, 3, 5],
+];
+
+/// The faces of a cube in some order, from some corner each.
+const FACES: [&[u32]; 6] = [
+    &[6, 7, 5, 4],
+    &[3, 2, 0, 1],
+    &[1, 5, 7, 3],
+    &[4, 0, 2, 6],
+    &[2, 3, 7, 6],
+    &[5, 1, 0, 4],
+];
+
+/// A call that asks about polygons.
+#[derive(Clone, Copy, Debug)]
+enum Call {
+    /// The check by this number of threads.
+    ByThreads(usize),
+    /// The check by the calling thread alone.
+    Alone,
+    /// The search among the faces of the hull, which tells pieces from others.
+    InHull,
+}
+
+/// What a call tells.
+#[derive(Clone, Copy, Debug, PartialEq, Eq)]
+enum Answer {
+    Verdict(SurfaceVerdict),
+    Found(bool),
+}
+
+/// The verdict on a surface.
+const RIGHT: Answer = Answer::Verdict(SurfaceVerdict::Right);
+
+/// Returns the id that stands in a row for any id that a verdict names.
+fn any() -> Id {
+    Id::new(0)
+}
+
+/// Returns a verdict with `any` for each id that it names.
+fn unnamed(verdict: SurfaceVerdict) -> Answer {
+    Answer::Verdict(match verdict {
+        SurfaceVerdict::Open(_, _) => SurfaceVerdict::Open(any(), any()),
+        SurfaceVerdict::Twice(_, _) => SurfaceVerdict::Twice(any(), any()),
+        SurfaceVerdict::NoPiece(position, FaceFault::Above(_)) => {
+            SurfaceVerdict::NoPiece(position, FaceFault::Above(any()))
+        }
+        told => told,
+    })
+}
+
+/// Returns what a call tells of polygons of the corners of a cube, which stand in rising order of their
+/// coordinates.
+fn told<R: Threads + Sync>(
+    rt: &R,
+    alloc: Global,
+    call: Call,
+    faces: &[&[u32]],
+) -> Result<Answer, Memory> {
+    let pts = [
         Point::new(0, 0, 0),
         Point::new(0, 0, 1),
         Point::new(0, 1, 0),
@@ -21,218 +88,104 @@ fn cube() -> [Point; 8] {
         Point::new(1, 0, 1),
         Point::new(1, 1, 0),
         Point::new(1, 1, 1),
-    ]
-}
-
-/// The ids of eight points.
-const EIGHT: [u32; 8] = [0, 1, 2, 3, 4, 5, 6, 7];
-
-/// Returns the ids with those of the numbers that are indices of the points.
-fn ids_of(alloc: Global, pts: &[Point], numbers: &[u32]) -> Result<Vec<Id>, AllocError>
-    ensures { IfOk result (λ v. AreIndices pts.now v.items) }
-{
-    let mut ids = Vec::new(alloc);
-    for number in numbers {
-        if (*number as usize) < pts.len() {
-            ids.push(Id::new(*number))?;
-        }
-    }
-    Ok(ids)
-}
-
-/// Returns the polygons with these corners.
-fn polygons_of(alloc: Global, faces: &[&[u32]]) -> Result<Vec<Polygon>, AllocError> {
-    let mut polygons = Vec::new(alloc);
+    ];
+    let ids = [0, 1, 2, 3, 4, 5, 6, 7].map(|number| Id::new(number));
+    let mut polygons = Vec::with_capacity(alloc, faces.len())?;
     for face in faces {
-        let mut ids = Vec::new(alloc);
-        for number in *face {
-            ids.push(Id::new(*number))?;
-        }
-        polygons.push(Polygon::of(ids))?;
+        let corners = face.iter().map(|number| Id::new(*number)).collect(alloc)?;
+        polygons.push(Polygon::of(corners))?;
     }
-    Ok(polygons)
+    Ok(match call {
+        Call::ByThreads(n) => unnamed(check_surface(rt, alloc, &pts, &ids, &polygons, n)?),
+        Call::Alone => unnamed(check_surface_alone(alloc, &pts, &ids, &polygons)?),
+        Call::InHull => Answer::Found(are_pieces_of_hull(alloc, &pts, &ids, &polygons)?),
+    })
 }
 
-/// Returns the verdict on faces of some of the points; `None` if there are no points.
-fn verdict(
-    alloc: Global,
-    pts: &[Point],
-    numbers: &[u32],
-    faces: &[&[u32]],
-) -> Result<Option<Verdict>, Memory> {
-    let ids = ids_of(alloc, pts, numbers)?;
-    if ids.is_empty() {
-        return Ok(None);
-    }
-    Ok(Some(check(alloc, pts, &ids, &polygons_of(alloc, faces)?)?))
-}
-
-/// Returns the verdict on faces of a cube.
-fn of_cube(alloc: Global, faces: &[&[u32]]) -> Result<Option<Verdict>, Memory> {
-    verdict(alloc, &cube(), &EIGHT, faces)
-}
-
-#[test]
-fn the_faces_of_a_cube_are_right(rt: HostRuntime) -> Result<(), Fail> {
-    let faces: [&[u32]; 6] = [
-        &[0, 1, 3, 2],
-        &[0, 2, 6, 4],
-        &[0, 4, 5, 1],
-        &[1, 5, 7, 3],
-        &[2, 3, 7, 6],
-        &[4, 6, 7, 5],
-    ];
-    let told = of_cube(rt.alloc(), &faces)?;
-    assert!(rt; matches!(told, Some(Verdict::Right)), "{told:?}");
-    Ok(())
-}
-
-/// Returns the verdict of three threads on faces of a cube.
-fn by_three_threads<R: Threads + Sync>(
+/// Asserts what a call tells of polygons of the corners of a cube.
+fn assert_told<R: AllocGlobal + Abort + Threads + Sync>(
     rt: &R,
-    alloc: Global,
+    call: Call,
     faces: &[&[u32]],
-) -> Result<Option<Verdict>, Memory> {
-    let pts = cube();
-    let ids = ids_of(alloc, &pts, &EIGHT)?;
-    if ids.is_empty() {
-        return Ok(None);
+    wanted: Answer,
+) -> Result<(), Fail> {
+    let told = told(rt, rt.alloc(), call, faces)?;
+    assert_eq!(rt; told, wanted, "{call:?}: {faces:?}");
+    Ok(())
+}
+
+/// Asserts what calls tell of polygons of the corners of a cube.
+fn assert_rows<R: AllocGlobal + Abort + Threads + Sync>(
+    rt: &R,
+    rows: &[(Call, &[&[u32]], Answer)],
+) -> Result<(), Fail> {
+    for (call, faces, wanted) in rows {
+        assert_told(rt, *call, faces, *wanted)?;
     }
-    let polygons = polygons_of(alloc, faces)?;
-    Ok(Some(check_by_workers(rt, alloc, &pts, &ids, &polygons, 3)?))
-}
-
-#[test]
-fn three_threads_tell_the_same(rt: HostRuntime) -> Result<(), Fail> {
-    let faces: [&[u32]; 6] = [
-        &[0, 1, 3, 2],
-        &[0, 2, 6, 4],
-        &[0, 4, 5, 1],
-        &[1, 5, 7, 3],
-        &[2, 3, 7, 6],
-        &[4, 6, 7, 5],
-    ];
-    let told = by_three_threads(&rt, rt.alloc(), &faces)?;
-    assert!(rt; matches!(told, Some(Verdict::Right)), "{told:?}");
     Ok(())
 }
 
 #[test]
-fn three_threads_find_the_open_edge(rt: HostRuntime) -> Result<(), Fail> {
-    let faces: [&[u32]; 5] = [
-        &[0, 1, 3, 2],
-        &[0, 2, 6, 4],
-        &[0, 4, 5, 1],
-        &[1, 5, 7, 3],
-        &[2, 3, 7, 6],
-    ];
-    let told = by_three_threads(&rt, rt.alloc(), &faces)?;
-    assert!(rt; matches!(told, Some(Verdict::Open(_, _))), "{told:?}");
-    Ok(())
+fn surfaces_of_a_cube(rt: HostRuntime) -> Result<(), Fail> {
+    assert_rows(
+        &rt,
+        &[
+            (Call::ByThreads(1), &TRIANGLES, RIGHT),
+            (Call::ByThreads(3), &TRIANGLES, RIGHT),
+            (Call::Alone, &TRIANGLES, RIGHT),
+            (Call::ByThreads(1), &FACES, RIGHT),
+        ],
+    )
 }
 
 #[test]
-fn a_missing_face_leaves_an_edge_open(rt: HostRuntime) -> Result<(), Fail> {
-    let faces: [&[u32]; 5] = [
-        &[0, 1, 3, 2],
-        &[0, 2, 6, 4],
-        &[0, 4, 5, 1],
-        &[1, 5, 7, 3],
-        &[2, 3, 7, 6],
-    ];
-    let told = of_cube(rt.alloc(), &faces)?;
-    assert!(rt; matches!(told, Some(Verdict::Open(_, _))), "{told:?}");
-    Ok(())
+fn pieces_are_found_in_the_hull(rt: HostRuntime) -> Result<(), Fail> {
+    assert_rows(
+        &rt,
+        &[
+            (Call::InHull, &TRIANGLES, Answer::Found(true)),
+            (Call::InHull, &FACES, Answer::Found(true)),
+            (Call::InHull, &[&[0, 2, 7]], Answer::Found(false)),
+        ],
+    )
 }
 
 #[test]
-fn polygons_out_of_order_are_told(rt: HostRuntime) -> Result<(), Fail> {
-    let faces: [&[u32]; 6] = [
-        &[0, 1, 3, 2],
-        &[0, 2, 6, 4],
-        &[1, 5, 7, 3],
-        &[0, 4, 5, 1],
-        &[2, 3, 7, 6],
-        &[4, 6, 7, 5],
-    ];
-    let told = of_cube(rt.alloc(), &faces)?;
-    assert!(rt; matches!(told, Some(Verdict::OutOfOrder(2))), "{told:?}");
-    Ok(())
+fn polygons_that_are_no_pieces(rt: HostRuntime) -> Result<(), Fail> {
+    let inward = SurfaceVerdict::NoPiece(0, FaceFault::Above(any()));
+    let back_to_a_corner = SurfaceVerdict::NoPiece(0, FaceFault::OtherFace);
+    assert_rows(
+        &rt,
+        &[
+            (Call::Alone, &[&[0, 6, 2]], Answer::Verdict(inward)),
+            (
+                Call::ByThreads(1),
+                &[&[0, 1, 3, 2, 1]],
+                Answer::Verdict(back_to_a_corner),
+            ),
+        ],
+    )
 }
 
 #[test]
-fn a_face_seen_from_inside_has_points_above(rt: HostRuntime) -> Result<(), Fail> {
-    let faces: [&[u32]; 6] = [
-        &[0, 1, 3, 2],
-        &[0, 4, 5, 1],
-        &[0, 4, 6, 2],
-        &[1, 5, 7, 3],
-        &[2, 3, 7, 6],
-        &[4, 6, 7, 5],
-    ];
-    let told = of_cube(rt.alloc(), &faces)?;
+fn pieces_that_are_no_surface(rt: HostRuntime) -> Result<(), Fail> {
+    let open = Answer::Verdict(SurfaceVerdict::Open(any(), any()));
+    let twice = Answer::Verdict(SurfaceVerdict::Twice(any(), any()));
+    let other = Answer::Verdict(SurfaceVerdict::OtherPolygons);
+    let [a, b, c]: [&[u32]; 3] = [&[0, 1, 3, 2], &[0, 2, 6, 4], &[0, 4, 5, 1]];
+    let [d, e, f]: [&[u32]; 3] = [&[1, 5, 7, 3], &[2, 3, 7, 6], &[4, 6, 7, 5]];
+    let each_twice = [a, a, b, b, c, c, d, d, e, e, f, f];
+    assert_told(&rt, Call::ByThreads(2), &TRIANGLES[1..], open)?;
+    assert_told(&rt, Call::ByThreads(1), &each_twice, twice)?;
+    assert_told(&rt, Call::ByThreads(1), &[], other)
+}
+
+#[test]
+fn a_verdict_has_a_line(rt: HostRuntime) -> Result<(), Fail> {
+    let told = SurfaceVerdict::NoPiece(3, FaceFault::OtherFace).to_string(rt.alloc())?;
     assert!(rt;
-        matches!(told, Some(Verdict::NoFace(2, FaceFault::Above(_)))),
-        "{told:?}"
+        told.as_str() == "face 3: the polygon of its plane is another",
+        "{told}"
     );
-    Ok(())
-}
-
-#[test]
-fn half_of_a_face_is_another_polygon(rt: HostRuntime) -> Result<(), Fail> {
-    let faces: [&[u32]; 7] = [
-        &[0, 1, 3],
-        &[0, 2, 6, 4],
-        &[0, 3, 2],
-        &[0, 4, 5, 1],
-        &[1, 5, 7, 3],
-        &[2, 3, 7, 6],
-        &[4, 6, 7, 5],
-    ];
-    let told = of_cube(rt.alloc(), &faces)?;
-    assert!(rt;
-        matches!(told, Some(Verdict::NoFace(0, FaceFault::OtherFace))),
-        "{told:?}"
-    );
-    Ok(())
-}
-
-#[test]
-fn two_corners_span_no_plane(rt: HostRuntime) -> Result<(), Fail> {
-    let faces: [&[u32]; 2] = [&[0, 1], &[0, 1, 3, 2]];
-    let told = of_cube(rt.alloc(), &faces)?;
-    assert!(rt;
-        matches!(told, Some(Verdict::NoFace(0, FaceFault::NoPlane))),
-        "{told:?}"
-    );
-    Ok(())
-}
-
-#[test]
-fn a_corner_that_is_no_id_of_the_set_spans_no_plane(rt: HostRuntime) -> Result<(), Fail> {
-    let faces: [&[u32]; 1] = [&[0, 1, 3, 2]];
-    let told = verdict(rt.alloc(), &cube(), &[0, 1, 2, 4, 5, 6, 7], &faces)?;
-    assert!(rt;
-        matches!(told, Some(Verdict::NoFace(0, FaceFault::NoPlane))),
-        "{told:?}"
-    );
-    Ok(())
-}
-
-#[test]
-fn a_solid_without_a_polygon_has_others(rt: HostRuntime) -> Result<(), Fail> {
-    let told = of_cube(rt.alloc(), &[])?;
-    assert!(rt; matches!(told, Some(Verdict::OtherPolygons)), "{told:?}");
-    Ok(())
-}
-
-#[test]
-fn a_square_has_one_polygon(rt: HostRuntime) -> Result<(), Fail> {
-    let square: [&[u32]; 1] = [&[0, 2, 3, 1]];
-    let turned: [&[u32]; 1] = [&[0, 1, 3, 2]];
-    let told = verdict(rt.alloc(), &cube(), &[0, 1, 2, 3], &square)?;
-    assert!(rt; matches!(told, Some(Verdict::Right)), "{told:?}");
-    let other = verdict(rt.alloc(), &cube(), &[0, 1, 2, 3], &turned)?;
-    assert!(rt; matches!(other, Some(Verdict::OtherPolygons)), "{other:?}");
     Ok(())
 }
