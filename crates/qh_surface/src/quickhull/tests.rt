@@ -1,8 +1,6 @@
-//! What no contract pins: that a large cone is searched to the end, in which order points that are near each other
-//! stand, and that a run makes few facets.
+//! What no contract pins: that a large cone is searched to the end, and that a run makes few facets.
 
 mod cones;
-mod orders;
 mod prisms;
 
 use qh_model::{COORDINATE_LIMIT, Point};

@@ -3,6 +3,7 @@ ghost use Rattle.std.specs.Prelude.{◌<◌, length};
 ghost use Rattle.qh_model.specs.contract.IdSets.{AreIndices};
 
 use qh_block::{extremes, hull};
+use qh_fixtures::faces::are_round;
 use qh_fixtures::ids::are;
 use qh_fixtures::points::{point, square};
 use qh_model::{Body, Id, Memory, POINT_LIMIT, Point};
@@ -45,12 +46,7 @@ fn is(body: &Body, row: &Row) -> bool {
     body.dim == row.dim
         && body.edges == row.edges
         && are(&body.extremes, row.extremes)
-        && body.polygons.len() == row.faces.len()
-        && body
-            .polygons
-            .iter()
-            .zip(row.faces)
-            .all(|(polygon, face)| are(polygon.ids(), face))
+        && are_round(&body.polygons, row.faces)
 }
 
 /// Returns the hull of some ids, and their extreme ids.

@@ -1,6 +1,7 @@
 //! Rows of solid sets: their extreme ids, faces and edges.
 
 use super::{Row, assert_hull};
+use qh_fixtures::faces::CUBE_FACES;
 use qh_fixtures::points::{LIMIT, cube, doubled_cube, lattice, octahedron, point, tetrahedron};
 use qh_model::Point;
 use std::alloc::{AllocError, Global};
@@ -9,14 +10,7 @@ use std::test::Fail;
 pub(super) const CUBE: Row<'static> = Row {
     dim: 3,
     extremes: &[0, 1, 2, 3, 4, 5, 6, 7],
-    faces: &[
-        &[0, 1, 3, 2],
-        &[0, 2, 6, 4],
-        &[0, 4, 5, 1],
-        &[1, 5, 7, 3],
-        &[2, 3, 7, 6],
-        &[4, 6, 7, 5],
-    ],
+    faces: &CUBE_FACES,
     edges: 12,
 };
 

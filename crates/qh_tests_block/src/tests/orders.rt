@@ -1,35 +1,10 @@
 //! Along an axis the points of the curve rise, from the least coordinate to the greatest.
-ghost use Rattle.std.specs.Prelude.{IfOk};
-ghost use Rattle.qh_model.specs.contract.IdSets.{AreIndices};
-
-use super::{LIMIT, point};
-use crate::quickhull::ends::ends_of;
-use crate::quickhull::morton::morton_order;
+use qh_fixtures::ids::{are, ids_of};
+use qh_fixtures::points::{LIMIT, point};
 use qh_model::{Id, Memory, Point};
+use qh_surface::{ends_of, morton_order};
 use std::alloc::Global;
 use std::test::Fail;
-
-/// Returns true if the ids have these numbers.
-fn are(ids: &[Id], numbers: &[u32]) -> bool {
-    ids.len() == numbers.len()
-        && ids
-            .iter()
-            .zip(numbers)
-            .all(|(id, number)| id.number() == *number)
-}
-
-/// Returns the ids with those of the numbers that are indices of the points.
-fn ids_of(alloc: Global, pts: &[Point], numbers: &[u32]) -> Result<Vec<Id>, Memory>
-    ensures { IfOk result (λ v. AreIndices pts.now v.items) }
-{
-    let mut ids = Vec::new(alloc);
-    for number in numbers {
-        if (*number as usize) < pts.len() {
-            ids.push(Id::new(*number))?;
-        }
-    }
-    Ok(ids)
-}
 
 /// Returns the ends of some of the points along the axes; `None` if there are no points.
 fn ends_among(alloc: Global, pts: &[Point], numbers: &[u32]) -> Result<Option<[Id; 6]>, Memory> {
