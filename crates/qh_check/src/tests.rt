@@ -1,4 +1,5 @@
 //! Worked rows: surfaces of a cube in pieces, and what is wrong with others.
+use crate::claim::Claim;
 use crate::found_pieces::are_pieces_of_hull;
 use crate::{FaceFault, SurfaceVerdict, check_surface, check_surface_alone};
 use qh_model::{Id, Memory, Point, Polygon};
@@ -98,7 +99,14 @@ fn told<R: Threads + Sync>(
     Ok(match call {
         Call::ByThreads(n) => unnamed(check_surface(rt, alloc, &pts, &ids, &polygons, n)?),
         Call::Alone => unnamed(check_surface_alone(alloc, &pts, &ids, &polygons)?),
-        Call::InHull => Answer::Found(are_pieces_of_hull(alloc, &pts, &ids, &polygons)?),
+        Call::InHull => {
+            let claim = Claim {
+                pts: &pts,
+                ids: &ids,
+                polygons: &polygons,
+            };
+            Answer::Found(are_pieces_of_hull(alloc, claim)?)
+        }
     })
 }
 
