@@ -2,7 +2,7 @@
 ghost use Rattle.std.specs.Prelude.{All, ◌≡◌, ◌<◌, ◌⊎◌, ℕ, List, IfOk, IfSome, OnOk, length};
 ghost use Rattle.qh_model.specs.headline.Sets.{In};
 ghost use Rattle.qh_seam.specs.contract.Parts.{IsPartOf};
-ghost use Rattle.qh_parts.specs.steps.Given.{IsGiven};
+ghost use Rattle.qh_parts.specs.steps.Given.{IsContribution, IsGiven};
 
 use qh_block::UnsortedFaces;
 use qh_guess::{Border, Outline, border_of, marks_of, outline_of};
@@ -12,8 +12,16 @@ use qh_threads::map_indices;
 use std::alloc::{AllocError, Global};
 use std::thread::Threads;
 
-/// Faces that parts contribute, and what the polygons between them are found by: the border of each part, and the
-/// corners of the facets that go.
+/// Faces that a part contributes, and what the polygons between the parts are found by: its border, and the corners of
+/// its facets that go.
+#[derive(Drop)]
+pub(crate) struct Contribution {
+    pub faces: UnsortedFaces,
+    pub border: Border,
+    pub seam: Vec<Id>,
+}
+
+/// What all parts contribute.
 #[derive(Drop)]
 pub(crate) struct Given {
     pub faces: UnsortedFaces,
@@ -47,9 +55,9 @@ fn given_by(
     set: Divided,
     outlines: &[Outline],
     number: usize,
-) -> Result<Option<Given>, Memory>
+) -> Result<Option<Contribution>, Memory>
     requires { All (IsPartOf set.pts.now set.shared.now) set.parts.now }
-    ensures { IfOk result (λ found. IfSome found (IsGiven set.entry.pts.now set.entry.shared.now set.entry.parts.now)) }
+    ensures { IfOk result (λ found. IfSome found (IsContribution set.entry.pts.now set.entry.shared.now set.entry.parts.now)) }
 {
     if number >= set.parts.len() {
         return Ok(None);
@@ -62,11 +70,10 @@ fn given_by(
     let Some(faces) = staying_faces(alloc, set, number, guess)? else {
         return Ok(None);
     };
-    let mut borders = Vec::new(alloc);
-    borders.push(border_of(alloc, &faces, set.pts.len(), &marks.seam)?)?;
-    Ok(Some(Given {
+    let border = border_of(alloc, &faces, set.pts.len(), &marks.seam)?;
+    Ok(Some(Contribution {
         faces: UnsortedFaces::of(alloc, faces)?,
-        borders,
+        border,
         seam: marks.seam,
     }))
 }
@@ -75,9 +82,9 @@ fn given_by(
 fn all_given(
     alloc: Global,
     set: Divided,
-    mut made: Vec<Result<Option<Given>, Memory>>,
+    mut made: Vec<Result<Option<Contribution>, Memory>>,
 ) -> Result<Option<Given>, Memory>
-    requires { All (λ r. IfOk r (λ found. IfSome found (IsGiven set.pts.now set.shared.now set.parts.now))) made.items }
+    requires { All (λ r. IfOk r (λ found. IfSome found (IsContribution set.pts.now set.shared.now set.parts.now))) made.items }
     ensures { IfOk result (λ found. IfSome found (IsGiven set.entry.pts.now set.entry.shared.now set.entry.parts.now)) }
 {
     let mut faces = UnsortedFaces::none(alloc);
@@ -85,13 +92,12 @@ fn all_given(
     let mut seam = Vec::new(alloc);
     while let Some(answer) = made.pop() {
         let found = answer?;
-        let Some(given) = found else {
+        let Some(part) = found else {
             return Ok(None);
         };
-        let mut border = given.borders;
-        faces = faces.and(given.faces)?;
-        borders.append(&mut border)?;
-        seam.extend_from_slice(&given.seam)?;
+        seam.extend_from_slice(&part.seam)?;
+        faces = faces.and(part.faces)?;
+        borders.push(part.border)?;
     }
     Ok(Some(Given {
         faces,
@@ -115,9 +121,9 @@ pub(crate) fn given_in_threads<R: Threads>(
         rt,
         alloc,
         set.parts.len(),
-        &move |number: usize| -> Result<Option<Given>, Memory>
+        &move |number: usize| -> Result<Option<Contribution>, Memory>
             requires { All (IsPartOf set.pts.now set.shared.now) set.parts.now }
-            ensures { IfOk result (λ found. IfSome found (IsGiven set.entry.pts.now set.entry.shared.now set.entry.parts.now)) }
+            ensures { IfOk result (λ found. IfSome found (IsContribution set.entry.pts.now set.entry.shared.now set.entry.parts.now)) }
         { given_by(alloc, set, outlines, number) },
     )?;
     all_given(alloc, set, made)

@@ -13,9 +13,9 @@ ghost use Rattle.qh_seam.specs.contract.Parts.{ids_in, KeepsCorners, IsPartOf};
 ghost use Rattle.qh_parts.specs.steps.Outcomes.{IsOutcome};
 
 use crate::given::{given_in_threads, outlines_in_threads};
-use crate::pieces::{Pieces, are_indices, parts_in_threads};
+use crate::pieces::{are_indices, parted};
 use qh_block::{TELLING, UnsortedFaces, are_few, extremes, hull};
-use qh_guess::{Outline, along_curve, bridge_over, is_worth, shared_ids};
+use qh_guess::{Outline, bridge_over, is_worth};
 use qh_model::{Body, Id, Memory, Point};
 use qh_seam::{Divided, body_of_joined, join_faces, kept_ids};
 use std::alloc::Global;
@@ -168,29 +168,10 @@ pub fn hull_by_parts<R: Threads>(
     requires { AreIndices pts.now ids.now }
     ensures { IfOk result (λ found. IfSome found (λ b. IsIdSet pts.now ids.now → IsBody (place pts.now) (Members ids.now) b)) }
 {
-    let Some(shared) = shared_ids(alloc, pts, ids)? else {
+    let Some(parted) = parted(rt, alloc, pts, ids, parting.parts, workers)? else {
         return Ok(None);
     };
-    let listed = along_curve(rt, alloc, pts, ids, workers)?;
-    if !are_indices(pts, &shared) {
-        return Ok(None);
-    }
-    if !are_indices(pts, &listed) {
-        return Ok(None);
-    }
-    let count = parting.parts.max(1);
-    let pieces = Pieces {
-        pts,
-        listed: &listed,
-        shared: &shared,
-        size: listed.len() / count + 1,
-    };
-    let Some(parts) = parts_in_threads(rt, alloc, pieces, count)? else {
-        return Ok(None);
-    };
-    if parts.len() == 0 {
-        return Ok(None);
-    }
+    let (shared, parts) = (parted.shared, parted.parts);
     let Some(kept) = kept_ids(alloc, ids, &parts, &shared)? else {
         return Ok(None);
     };

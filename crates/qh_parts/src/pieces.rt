@@ -3,6 +3,7 @@ ghost use Rattle.std.specs.Prelude.{All, ◌≡◌, ◌<◌, ℕ, List, IfOk, If
 ghost use Rattle.qh_model.specs.contract.IdSets.{AreIndices};
 ghost use Rattle.qh_seam.specs.contract.Parts.{IsPartOf};
 
+use qh_guess::{along_curve, shared_ids};
 use qh_model::{Id, Memory, Point};
 use qh_seam::Part;
 use qh_threads::map_indices;
@@ -85,4 +86,48 @@ pub(crate) fn parts_in_threads<R: Threads>(
         { pieces.part(alloc, number) },
     )?;
     all_parts(alloc, pieces, made)
+}
+
+/// A set in parts, at least one, and the ids that belong to each of them.
+#[derive(Drop)]
+pub(crate) struct Parted {
+    pub shared: Vec<Id>,
+    pub parts: Vec<Part>,
+}
+
+/// Returns a set in `count` parts, of ids that lie along a curve, each made by a thread. Zero means one. None where the
+/// points of one lie in one plane.
+pub(crate) fn parted<R: Threads>(
+    rt: &R,
+    alloc: Global,
+    pts: &[Point],
+    ids: &[Id],
+    count: usize,
+    workers: u32,
+) -> Result<Option<Parted>, Memory>
+    ensures parts { IfOk result (λ found. IfSome found (λ p. All (IsPartOf pts.now p.shared.items) p.parts.items)) }
+    ensures some { IfOk result (λ found. IfSome found (λ p. 0 < length p.parts.items)) }
+    ensures shared { IfOk result (λ found. IfSome found (λ p. AreIndices pts.now p.shared.items)) }
+{
+    let Some(shared) = shared_ids(alloc, pts, ids)? else {
+        return Ok(None);
+    };
+    let listed = along_curve(rt, alloc, pts, ids, workers)?;
+    if !are_indices(pts, &shared) || !are_indices(pts, &listed) {
+        return Ok(None);
+    }
+    let count = count.max(1);
+    let pieces = Pieces {
+        pts,
+        listed: &listed,
+        shared: &shared,
+        size: listed.len() / count + 1,
+    };
+    let Some(parts) = parts_in_threads(rt, alloc, pieces, count)? else {
+        return Ok(None);
+    };
+    if parts.len() == 0 {
+        return Ok(None);
+    }
+    Ok(Some(Parted { shared, parts }))
 }

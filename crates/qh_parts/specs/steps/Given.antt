@@ -6,6 +6,7 @@ use Rattle.qh_model.specs.headline.{Vector.Vector, Predicates.place, Sets.In, Se
 use Rattle.qh_model.specs.contract.IdSets.{HasDistinctPoints}
 use Rattle.qh_seam_laws.specs.contract.Parts.{IsPartFace}
 use Rattle.qh_seam.specs.declared.parts.Part.{Part}
+use Rattle.qh_parts.specs.declared.given.Contribution.{Contribution}
 use Rattle.qh_parts.specs.declared.given.Given.{Given}
 use Rattle.qh_seam.specs.contract.Parts.{ids_in, KeepsCorners}
 
@@ -15,6 +16,10 @@ AreGiven pts shared parts qs = (ids kept : List ℕ) → HasDistinctPoints (plac
     → ((l : ℕ) → In l (flat_map ids_in parts) → In l ids) → KeepsCorners parts shared kept
     → (q : List ℕ) → In q qs → IsPartFace (place pts) ids kept q
 
--- so are the faces of what parts give out
+-- so are the faces of what a part contributes
+abbrev pub IsContribution : List Vector → List ℕ → List Part → Contribution → Type 0
+IsContribution pts shared parts c = AreGiven pts shared parts c.faces
+
+-- and those of what all contribute
 abbrev pub IsGiven : List Vector → List ℕ → List Part → Given → Type 0
 IsGiven pts shared parts g = AreGiven pts shared parts g.faces

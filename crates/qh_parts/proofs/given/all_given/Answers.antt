@@ -5,7 +5,7 @@ use Rattle.qh_model.specs.headline.Sets.{In}
 use Rattle.std.proofs.lemmas.List.Sorted.{IsPermutation-sym}
 use Rattle.qh_model.proofs.Members.{in_permutation}
 use Rattle.qh_model.proofs.lists.Joined.{of_append}
-use Rattle.qh_parts.specs.steps.Given.{IsGiven}
+use Rattle.qh_parts.specs.steps.Given.{IsContribution}
 use Rattle.qh_parts.proofs.Popped.{of_last, of_front}
 use Rattle.qh_parts.proofs.given.all_given.Goals as goal
 
@@ -16,11 +16,11 @@ pub loop-answer-preserved : goal.loop-answer-preserved
 loop-answer-preserved c =
     let all = rw c.in-Some.ensures.items at c.loop-answer.invariant.1 in
     let own = rw (c.in_ok-found.was, c.in-Some-found.is) at
-    (of_last (λ r. IfOk r (λ found. IfSome found (IsGiven c.args.set.pts.now c.args.set.shared.now c.args.set.parts.now)))
+    (of_last (λ r. IfOk r (λ found. IfSome found (IsContribution c.args.set.pts.now c.args.set.shared.now c.args.set.parts.now)))
     _ _ all) in (
       λ ids kept d inside keeps q m. elim (of_append _ _ q (in_permutation _ _ (IsPermutation-sym _ _ c.in_ok-and.ensures) q m)) [
         | inl o ↦ c.loop-answer.invariant.0 ids kept d inside keeps q o
         | inr o ↦ own ids kept d inside keeps q o
       ],
-      of_front (λ r. IfOk r (λ found. IfSome found (IsGiven c.args.set.pts.now c.args.set.shared.now c.args.set.parts.now))) _ _ all,
+      of_front (λ r. IfOk r (λ found. IfSome found (IsContribution c.args.set.pts.now c.args.set.shared.now c.args.set.parts.now))) _ _ all,
     )
