@@ -26,16 +26,15 @@ fn side() -> [Point; 7] {
 
 /// Returns the distinct ids, asked for again if an allocation failed; none of points that are too
 /// many.
-fn distinct_again<R: Threads + Sync>(
+fn distinct_again<R: AllocGlobal + Threads + Sync>(
     rt: &R,
-    alloc: Global,
     pts: &[Point],
 ) -> Result<Option<Vec<Id>>, Memory> {
     if pts.len() > POINT_LIMIT as usize {
         return Ok(None);
     }
-    match distinct(rt, alloc, pts) {
-        Err(Memory) => Ok(Some(distinct(rt, alloc, pts)?)),
+    match distinct(rt, rt.alloc(), pts) {
+        Err(Memory) => Ok(Some(distinct(rt, rt.alloc(), pts)?)),
         Ok(ids) => Ok(Some(ids)),
     }
 }
@@ -59,7 +58,7 @@ fn assert_distinct<R: AllocGlobal + Abort + Threads + Sync>(
     pts: &[Point],
     wanted: &[u32],
 ) -> Result<(), Fail> {
-    let ids = distinct_again(rt, rt.alloc(), pts)?.ok_or("too many points")?;
+    let ids = distinct_again(rt, pts)?.ok_or("too many points")?;
     assert_ids(rt, &ids, wanted);
     Ok(())
 }
