@@ -23,8 +23,6 @@ mod parts;
 mod rings;
 mod seams;
 mod staying;
-#[cfg(test)]
-mod tests;
 mod triangles;
 mod witnesses;
 
