@@ -37,20 +37,6 @@ fn assert_answered<R: AllocGlobal + Abort + Threads + Sync>(
     Ok(())
 }
 
-/// Asserts what `serve` gives for an input under settings.
-fn assert_served<R: AllocGlobal + Abort + Threads + Sync>(
-    rt: &R,
-    asked: Asked,
-    input: &[u8],
-    want: Told,
-) -> Result<(), Fail> {
-    let settings = asked.settings(rt.alloc())?;
-    let served = served_by(rt, rt.alloc(), input, &settings, &NoGate)?;
-    let begins = beginning(input);
-    assert_eq!(rt; served.told(), want, "serve at {asked:?}: {begins:?}");
-    Ok(())
-}
-
 /// Asserts what `answer` and `serve` give for an input under settings.
 fn assert_gives<R: AllocGlobal + Abort + Threads + Sync>(
     rt: &R,
@@ -59,7 +45,11 @@ fn assert_gives<R: AllocGlobal + Abort + Threads + Sync>(
     want: Told,
 ) -> Result<(), Fail> {
     assert_answered(rt, asked, input, want)?;
-    assert_served(rt, asked, input, want)
+    let settings = asked.settings(rt.alloc())?;
+    let served = served_by(rt, rt.alloc(), input, &settings, &NoGate)?;
+    let begins = beginning(input);
+    assert_eq!(rt; served.told(), want, "serve at {asked:?}: {begins:?}");
+    Ok(())
 }
 
 /// Asserts the text of each row: settings, an input and what it answers.
