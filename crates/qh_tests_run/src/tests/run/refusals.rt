@@ -24,15 +24,14 @@ const CUBE_HULL: [usize; 43] = [
 ];
 
 /// Returns the hull, asked for again if an allocation failed.
-fn hull_again<R: Threads + Sync>(
+fn hull_again<R: AllocGlobal + Threads + Sync>(
     rt: &R,
-    alloc: Global,
     points: &[Point],
     cut: &Cut,
     workers: u32,
 ) -> Result<Option<Hull>, RunError> {
-    match hull_by(rt, alloc, points, cut, workers) {
-        Err(RunError::Memory) => hull_by(rt, alloc, points, cut, workers),
+    match hull_by(rt, rt.alloc(), points, cut, workers) {
+        Err(RunError::Memory) => hull_by(rt, rt.alloc(), points, cut, workers),
         hull => hull,
     }
 }
@@ -58,9 +57,8 @@ fn cut_again(alloc: Global, m: u32, size: u32) -> Result<Cut, CutError>
 
 /// Returns true if the hull of a list of points by the even cut of its positions, each asked for again
 /// if an allocation failed, says these numbers.
-fn comes_out_right<R: Threads + Sync>(
+fn comes_out_right<R: AllocGlobal + Threads + Sync>(
     rt: &R,
-    alloc: Global,
     points: &[Point],
     size: u32,
     workers: u32,
@@ -69,9 +67,9 @@ fn comes_out_right<R: Threads + Sync>(
     requires some { 0 < length points.now }
     requires few { length points.now ≤ POINT_LIMIT }
 {
-    let cut = cut_again(alloc, points.len() as u32, size)?;
-    let hull = hull_again(rt, alloc, points, &cut, workers)?.ok_or("another cut")?;
-    let numbers = numbers_again(alloc, &hull)?;
+    let cut = cut_again(rt.alloc(), points.len() as u32, size)?;
+    let hull = hull_again(rt, points, &cut, workers)?.ok_or("another cut")?;
+    let numbers = numbers_again(rt.alloc(), &hull)?;
     Ok(numbers.as_slice() == want)
 }
 
@@ -79,9 +77,9 @@ fn comes_out_right<R: Threads + Sync>(
 fn tries_again(rt: HostRuntime) -> Result<(), Fail> {
     let (square, cube, octahedron) = (square(), cube(0, 1), octahedron());
     for workers in [1, 2, 7] {
-        let right = comes_out_right(&rt, rt.alloc(), &square, 2, workers, &SQUARE_HULL)?
-            && comes_out_right(&rt, rt.alloc(), &cube, 3, workers, &CUBE_HULL)?
-            && comes_out_right(&rt, rt.alloc(), &octahedron, 3, workers, &OCTAHEDRON_HULL)?;
+        let right = comes_out_right(&rt, &square, 2, workers, &SQUARE_HULL)?
+            && comes_out_right(&rt, &cube, 3, workers, &CUBE_HULL)?
+            && comes_out_right(&rt, &octahedron, 3, workers, &OCTAHEDRON_HULL)?;
         assert!(rt; right, "{workers} workers");
     }
     Ok(())
