@@ -1,4 +1,5 @@
 //! Rows of checks: the faces of a cube, as Geomview's OFF has them, and faces that are wrong.
+use crate::tests::cube;
 use crate::{
     ABOVE, DONE, Given, NO_PLANE, NO_POINT, OPEN, OTHERS, RANGE, RIGHT, STARTS, STRANGER, TWICE,
     Verdict, qconvex_check,
@@ -13,21 +14,6 @@ const OFFSETS: [usize; 7] = [0, 4, 8, 12, 16, 20, 24];
 const CORNERS: [u32; 24] = [
     6, 7, 5, 4, 3, 2, 0, 1, 1, 5, 7, 3, 4, 0, 2, 6, 2, 3, 7, 6, 5, 1, 0, 4,
 ];
-
-/// Returns the corners of a cube, in rising order of their coordinates, and the first once more.
-fn cube() -> [Given; 9] {
-    [
-        Given::new(0, 0, 0),
-        Given::new(0, 0, 1),
-        Given::new(0, 1, 0),
-        Given::new(0, 1, 1),
-        Given::new(1, 0, 0),
-        Given::new(1, 0, 1),
-        Given::new(1, 1, 0),
-        Given::new(1, 1, 1),
-        Given::new(0, 0, 0),
-    ]
-}
 
 /// Returns a verdict that is told of nothing.
 fn untold() -> Verdict {

@@ -1,5 +1,6 @@
 //! Rows with expected values from outside: the lists of Geomview's OFF for a cube and a point.
 use crate::{DONE, Given, NO_POINT, RANGE, ROOM, Sizes, qconvex_fans, qconvex_hull};
+use std::alloc::Global;
 use std::test::Fail;
 
 /// Returns no sizes yet.
@@ -16,7 +17,7 @@ fn no_sizes() -> Sizes {
 }
 
 /// Returns the corners of a cube, in rising order of their coordinates, and the first once more.
-fn cube() -> [Given; 9] {
+pub(crate) fn cube() -> [Given; 9] {
     [
         Given::new(0, 0, 0),
         Given::new(0, 0, 1),
@@ -30,18 +31,22 @@ fn cube() -> [Given; 9] {
     ]
 }
 
+/// Returns the code of a call for the hull of the cube into some buffers, and the sizes that it tells.
+fn hull_of_cube(
+    alloc: Global,
+    extremes: &mut [u32],
+    offsets: &mut [usize],
+    corners: &mut [u32],
+) -> (u32, Sizes) {
+    let mut sizes = no_sizes();
+    let code = qconvex_hull(alloc, &cube(), &mut sizes, extremes, offsets, corners);
+    (code, sizes)
+}
+
 #[test]
 fn unit_cube(rt: HostRuntime) -> Result<(), Fail> {
     let (mut extremes, mut offsets, mut corners) = ([99u32; 9], [99usize; 8], [99u32; 25]);
-    let mut sizes = no_sizes();
-    let code = qconvex_hull(
-        rt.alloc(),
-        &cube(),
-        &mut sizes,
-        &mut extremes,
-        &mut offsets,
-        &mut corners,
-    );
+    let (code, sizes) = hull_of_cube(rt.alloc(), &mut extremes, &mut offsets, &mut corners);
     assert_eq!(rt; code, DONE);
     assert_eq!(rt;
         (sizes.points, sizes.distinct, sizes.dimension),
@@ -73,15 +78,7 @@ fn unit_cube(rt: HostRuntime) -> Result<(), Fail> {
 #[test]
 fn short_buffers(rt: HostRuntime) -> Result<(), Fail> {
     let (mut extremes, mut offsets, mut corners) = ([99u32; 8], [99usize; 7], [99u32; 23]);
-    let mut sizes = no_sizes();
-    let code = qconvex_hull(
-        rt.alloc(),
-        &cube(),
-        &mut sizes,
-        &mut extremes,
-        &mut offsets,
-        &mut corners,
-    );
+    let (code, sizes) = hull_of_cube(rt.alloc(), &mut extremes, &mut offsets, &mut corners);
     assert_eq!(rt; code, ROOM);
     assert_eq!(rt;
         (sizes.extremes, sizes.faces, sizes.corners),
