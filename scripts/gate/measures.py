@@ -24,9 +24,9 @@ MOST_CHARACTERS = 160
 
 LIMITS = {
     "longest parameter list": 6,
-    "long parameter lists": 5,
+    "long parameter lists": 4,
     "bare bools": 8,
-    "long files": 11,
+    "long files": 10,
     "long lines": 12,
 }
 WORD_LIMITS = {
@@ -39,9 +39,9 @@ WORD_LIMITS = {
     "memory was refused": 2,
     "two and two": 1,
     "/// Whether": 3,
-    "as many": 39,
+    "as many": 37,
     "so many": 33,
-    "such a": 13,
+    "such a": 12,
     "that one": 9,
     "is none": 28,
     "are none": 3,

@@ -38,7 +38,8 @@ no_firsts pts some at n = record {
 }
 
 -- the id that is read from a slot is one that was seen
-pub seen_id : (pts : List Vector) (some : Vector → Type 0) (at : Vector → ℕ) (slots : List ℕ) (k : ℕ) → HaveFirsts pts some at slots k → (s n i : ℕ) → s < length slots
+pub seen_id : (pts : List Vector) (some : Vector → Type 0) (at : Vector → ℕ) (slots : List ℕ) (k : ℕ) → HaveFirsts pts some at slots k
+    → (s n i : ℕ) → s < length slots
     → n ≡ slice_index_or slots s n → n ≢ NO_ID → i ≡ slice_index_or slots s i → i < k
 seen_id pts some at slots k old s n i room e ne f =
     subst (λ m. m < k) (sym (get_or_read slots s i room f NO_ID))

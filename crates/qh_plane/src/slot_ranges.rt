@@ -12,7 +12,7 @@ use qh_model::{Id, POINT_LIMIT, Point};
 use std::alloc::{AllocError, Global};
 use std::thread::Threads;
 
-/// Fewer slots than this lie in a processor's own memory: one thread goes over the points as fast as many do.
+/// Fewer slots than this lie in a processor's own memory, where a single thread takes no longer.
 const SHARED_SLOTS: u64 = 65_536;
 
 /// All ranges of the slots of a box, of one size.
@@ -79,7 +79,7 @@ impl Parts for SlotRanges {
     }
 }
 
-/// Returns the distinct ids of points that lie close together or in one line, rising, by as many threads, each at
+/// Returns the distinct ids of points that lie close together or in one line, rising, by a number of threads, each at
 /// a range of the slots; `None` if they do not.
 pub fn distinct_in_ranges<R: Threads + Sync>(
     rt: &R,

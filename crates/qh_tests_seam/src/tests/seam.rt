@@ -4,6 +4,7 @@ ghost use Rattle.qh_mesh.specs.contract.Replacement.{IsLive};
 ghost use Rattle.qh_surface.specs.contract.NamedMeshes.{IsNamedMesh};
 
 use super::{ALL, halves_of};
+use qh_block::UnsortedFaces;
 use qh_fixtures::faces::{CUBE_FACES, are_round, polygons_of};
 use qh_fixtures::ids::ids_of;
 use qh_fixtures::points::cube;
@@ -174,7 +175,7 @@ fn cube_with<R: Threads>(
     bridges: &[&[u32]],
 ) -> Result<Option<Body>, Memory> {
     let pts = cube(0, 1);
-    let given = polygons_of(alloc, given)?;
+    let given = UnsortedFaces::of(alloc, polygons_of(alloc, given)?)?;
     let bridges = polygons_of(alloc, bridges)?;
     let Some(halves) = halves_of(alloc, &pts)? else {
         return Ok(None);

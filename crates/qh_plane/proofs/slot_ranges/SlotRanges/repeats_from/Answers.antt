@@ -49,7 +49,8 @@ loop-number-preserved c =
       | else-index+then-same_point+in_ok-push w ↦
           let i = w.index-else-index.result.now in
           let read : i ≡ slot_at slots s = get_or_read slots s i room w.index-else-index.ensures NO_ID in
-          let lower : i < k = seen_id pts _ (place_in r first) slots k old.firsts s c.index.result.now i room c.index.ensures w.if-index.false w.index-else-index.ensures in
+          let lower : i < k = seen_id pts _ (place_in r first) slots k old.firsts s c.index.result.now i room c.index.ensures
+          w.if-index.false w.index-else-index.ensures in
           let same : place pts i ≡ place pts k =
           sym (point_read pts i w.index-pts-index.result (omega (arith, lower, within)) w.index-pts-index.is)
           ∙ w.same_point.ensures.0 w.if-same_point.true
