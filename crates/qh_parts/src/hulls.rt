@@ -13,7 +13,7 @@ ghost use Rattle.qh_seam.specs.contract.Parts.{ids_in, KeepsCorners, IsPartOf};
 ghost use Rattle.qh_parts.specs.steps.Outcomes.{IsOutcome};
 
 use crate::given::{given_in_threads, outlines_in_threads};
-use crate::pieces::{are_indices, parted};
+use crate::pieces::{are_indices, parts_along_curve};
 use qh_block::{TELLING, UnsortedFaces, are_few, extremes, hull};
 use qh_guess::{Outline, bridge_over, is_worth};
 use qh_model::{Body, Id, Memory, Point};
@@ -168,7 +168,7 @@ pub fn hull_by_parts<R: Threads>(
     requires { AreIndices pts.now ids.now }
     ensures { IfOk result (λ found. IfSome found (λ b. IsIdSet pts.now ids.now → IsBody (place pts.now) (Members ids.now) b)) }
 {
-    let Some(parted) = parted(rt, alloc, pts, ids, parting.parts, workers)? else {
+    let Some(parted) = parts_along_curve(rt, alloc, pts, ids, parting.parts, workers)? else {
         return Ok(None);
     };
     let (shared, parts) = (parted.shared, parted.parts);

@@ -97,7 +97,7 @@ pub(crate) struct Parted {
 
 /// Returns a set in `count` parts, of ids that lie along a curve, each made by a thread. Zero means one. None where the
 /// points of one lie in one plane.
-pub(crate) fn parted<R: Threads>(
+pub(crate) fn parts_along_curve<R: Threads>(
     rt: &R,
     alloc: Global,
     pts: &[Point],
@@ -105,6 +105,7 @@ pub(crate) fn parted<R: Threads>(
     count: usize,
     workers: u32,
 ) -> Result<Option<Parted>, Memory>
+    requires { AreIndices pts.now ids.now }
     ensures parts { IfOk result (λ found. IfSome found (λ p. All (IsPartOf pts.now p.shared.items) p.parts.items)) }
     ensures some { IfOk result (λ found. IfSome found (λ p. 0 < length p.parts.items)) }
     ensures shared { IfOk result (λ found. IfSome found (λ p. AreIndices pts.now p.shared.items)) }

@@ -18,7 +18,7 @@ loop-answer-preserved c =
     let own = rw (c.in_ok-found.was, c.in-Some-found.is) at
     (of_last (λ r. IfOk r (λ found. IfSome found (IsContribution c.args.set.pts.now c.args.set.shared.now c.args.set.parts.now)))
     _ _ all) in (
-      λ ids kept d inside keeps q m. elim (of_append _ _ q (in_permutation _ _ (IsPermutation-sym _ _ c.in_ok-and.ensures) q m)) [
+      λ ids kept d inside keeps q m. elim (of_append _ _ q (in_permutation _ _ (IsPermutation-sym _ _ c.in_ok-faces.ensures) q m)) [
         | inl o ↦ c.loop-answer.invariant.0 ids kept d inside keeps q o
         | inr o ↦ own ids kept d inside keeps q o
       ],
