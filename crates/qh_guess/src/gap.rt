@@ -6,4 +6,4 @@ mod edges;
 mod flood;
 
 pub use edges::{Border, border_of};
-pub use flood::{bridge, bridge_over};
+pub use flood::bridge_over;

@@ -20,7 +20,7 @@ mod worth;
 
 pub use curve::along_curve;
 pub use cut::{Marks, marks_of, outline_of};
-pub use gap::{Border, border_of, bridge, bridge_over};
+pub use gap::{Border, border_of, bridge_over};
 pub use outlines::Outline;
 pub use shared::shared_ids;
 pub use worth::is_worth;

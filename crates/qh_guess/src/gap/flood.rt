@@ -2,7 +2,7 @@
 ghost use Rattle.std.specs.Prelude.{IfOk};
 ghost use Rattle.qh_model.specs.contract.IdSets.{AreIndices};
 
-use crate::gap::edges::{Border, Round, border_of, open_edges, reverse};
+use crate::gap::edges::{Border, Round, open_edges, reverse};
 use qh_block::hull;
 use qh_model::{Id, Memory, Point, Polygon};
 use qh_plane::rising_ids;
@@ -185,19 +185,4 @@ pub fn bridge_over(
         return Ok(None);
     };
     Ok(Some(polygons_at(alloc, &polygons, &order)?))
-}
-
-/// Returns the polygons that close the gap between given ones, as [`bridge_over`] finds them.
-///
-/// # Errors
-///
-/// `Memory` where an allocation failed.
-pub fn bridge(
-    alloc: Global,
-    pts: &[Point],
-    given: &[Polygon],
-    seam: &[Id],
-) -> Result<Option<Vec<Polygon>>, Memory> {
-    let borders = [border_of(alloc, given, pts.len(), seam)?];
-    bridge_over(alloc, pts, &borders, seam)
 }

@@ -3,7 +3,7 @@ use super::{ALL, halves_of};
 use qh_fixtures::faces::{CUBE_FACES, polygons_of};
 use qh_fixtures::ids::ids_of;
 use qh_fixtures::points::cube;
-use qh_guess::{along_curve, bridge, is_worth, marks_of, outline_of, shared_ids};
+use qh_guess::{along_curve, border_of, bridge_over, is_worth, marks_of, outline_of, shared_ids};
 use qh_model::{Memory, Polygon};
 use qh_plane::rising_ids;
 use qh_seam::{Divided, Run};
@@ -79,7 +79,8 @@ fn bridged(alloc: Global, faces: &[&[u32]]) -> Result<Option<Vec<u32>>, Memory> 
     let pts = cube(0, 1);
     let seam = ids_of(alloc, &pts, &ALL)?;
     let given = polygons_of(alloc, faces)?;
-    match bridge(alloc, &pts, &given, &seam)? {
+    let borders = [border_of(alloc, &given, pts.len(), &seam)?];
+    match bridge_over(alloc, &pts, &borders, &seam)? {
         Some(polygons) => Ok(Some(numbers(alloc, &polygons)?)),
         None => Ok(None),
     }
