@@ -6,6 +6,7 @@ ghost use Rattle.qh_model.specs.contract.ClosedPolygons.{AreClosed, IsFace};
 ghost use Rattle.qh_model.specs.contract.IdSets.{AreIndices, HasDistinctPoints};
 ghost use Rattle.qh_model.specs.headline.Dimension.{IsDimension};
 ghost use Rattle.qh_model.specs.headline.Hull.{IsBody};
+ghost use Rattle.qh_model.specs.headline.Polygons.{RiseStrictly};
 ghost use Rattle.qh_model.specs.headline.Sets.{In, Members};
 ghost use Rattle.qh_model.specs.headline.Vector.{Vector};
 ghost use Rattle.qh_seam_laws.specs.contract.Parts.{AreKept, IsPartFace};
@@ -20,28 +21,38 @@ use qh_model::{Body, Memory, Polygon};
 use std::alloc::Global;
 use std::thread::{Threads, join};
 
-/// Returns what is told of polygons, and a step that they do not take as often as the step back: the one by one of
-/// the `workers`, the other by the rest of them. One worker, or none, makes both by the calling thread.
+/// Returns what is told of polygons; None where they are not in order.
+fn ordered_tally(alloc: Global, polygons: &[Polygon]) -> Result<Option<Tally>, Memory>
+    ensures { IfOk result (λ found. IfSome found (λ t. RiseStrictly polygons.now × IsTally polygons.now t)) }
+{
+    if let Some(_) = out_of_order(polygons) {
+        return Ok(None);
+    }
+    Ok(Some(tally_of(alloc, polygons)?))
+}
+
+/// Returns what is told of polygons in order, and a step that they do not take as often as the step back: the one by one
+/// of the `workers`, the other by the rest of them. One worker, or none, makes both by the calling thread.
 fn tally_and_open_step<R: Threads>(
     rt: &R,
     alloc: Global,
     polygons: &[Polygon],
     workers: usize,
-) -> (Result<Tally, Memory>, Result<Option<Step>, Memory>)
-    ensures tally { IfOk result.0 (IsTally polygons.now) }
+) -> (Result<Option<Tally>, Memory>, Result<Option<Step>, Memory>)
+    ensures tally { IfOk result.0 (λ found. IfSome found (λ t. RiseStrictly polygons.now × IsTally polygons.now t)) }
     ensures open { IfOk result.1 (λ found. IsNone found → AreClosed polygons.now) }
 {
     if workers < 2 {
         return (
-            tally_of(alloc, polygons),
+            ordered_tally(alloc, polygons),
             open_step_in_threads(rt, alloc, polygons, workers),
         );
     }
     join(
         rt,
-        || -> Result<Tally, Memory>
-            ensures { IfOk result (IsTally polygons.entry.now) }
-        { tally_of(alloc, polygons) },
+        || -> Result<Option<Tally>, Memory>
+            ensures { IfOk result (λ found. IfSome found (λ t. RiseStrictly polygons.entry.now × IsTally polygons.entry.now t)) }
+        { ordered_tally(alloc, polygons) },
         || -> Result<Option<Step>, Memory>
             requires { 2 ≤ workers }
             ensures { IfOk result (λ found. IsNone found → AreClosed polygons.entry.now) }
@@ -101,11 +112,10 @@ pub fn body_of_joined<R: Threads>(
     if polygons.len() == 0 {
         return Ok(None);
     }
-    if let Some(_) = out_of_order(&polygons) {
-        return Ok(None);
-    }
     let (tallied, open) = tally_and_open_step(rt, alloc, &polygons, workers);
-    let tally = tallied?;
+    let Some(tally) = tallied? else {
+        return Ok(None);
+    };
     if let Some(_) = open? {
         return Ok(None);
     }
