@@ -113,8 +113,12 @@ pub(crate) fn parts_along_curve<R: Threads>(
     let Some(shared) = shared_ids(alloc, pts, ids)? else {
         return Ok(None);
     };
-    let listed = along_curve(rt, alloc, pts, ids, workers)?;
-    if !are_indices(pts, &shared) || !are_indices(pts, &listed) {
+    if !are_indices(pts, &shared) {
+        return Ok(None);
+    }
+    // The ends of the set are among the ids that are shared.
+    let listed = along_curve(rt, alloc, pts, ids, &shared, workers)?;
+    if !are_indices(pts, &listed) {
         return Ok(None);
     }
     let count = count.max(1);

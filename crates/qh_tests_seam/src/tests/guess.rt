@@ -124,7 +124,7 @@ fn first_four_shared_corners_are_solid(rt: HostRuntime) -> Result<(), Fail> {
 fn the_curve_has_each_id_once(rt: HostRuntime) -> Result<(), Fail> {
     let pts = cube(0, 1);
     let ids = ids_of(rt.alloc(), &pts, &ALL)?;
-    let listed = along_curve(&rt, rt.alloc(), &pts, &ids, 2)?;
+    let listed = along_curve(&rt, rt.alloc(), &pts, &ids, &ids, 2)?;
     let rising = rising_ids(rt.alloc(), &listed)?;
     assert!(rt; listed.len() == 8 && rising.as_slice() == ids.as_slice());
     Ok(())
