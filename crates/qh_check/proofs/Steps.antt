@@ -17,7 +17,7 @@ use Rattle.qh_check.specs.steps.StepKeys.{step_in, back, goes_up, goes_down, Cou
 
 -- ---- keys
 -- keys are the same where their steps are
-same_step : (z k : ℕ) → eqb z k ≡ is_edge (step_in z) (step_in k)
+pub same_step : (z k : ℕ) → eqb z k ≡ is_edge (step_in z) (step_in k)
 same_step z k = alike (eqb z k) (is_edge (step_in z) (step_in k)) there back_again
   where
     alike : (a b : Bool) → (a ≡ true → b ≡ true) → (b ≡ true → a ≡ true) → a ≡ b
@@ -40,11 +40,11 @@ same_step z k = alike (eqb z k) (is_edge (step_in z) (step_in k)) there back_aga
         subst (λ n. eqb z n ≡ true) same (eqb-refl z)
 
 -- the test of a key's step
-abbrev on : ℕ → ℕ → ℕ → Bool
+abbrev pub on : ℕ → ℕ → ℕ → Bool
 on u v k = is_edge (u, v) (step_in k)
 
 -- where all that count pass, a filter keeps the count
-kept : (f p : ℕ → Bool) → ((k : ℕ) → f k ≡ true → p k ≡ true) → (ks : List ℕ) → count f (filter p ks) ≡ count f ks
+kept : {X : Type 0} (f p : X → Bool) → ((k : X) → f k ≡ true → p k ≡ true) → (ks : List X) → count f (filter p ks) ≡ count f ks
 kept f p h [] = refl
 kept f p h (k ∷ ks) = elim (cases_Bool (p k)) [
   | inl t ↦ rw t (ap (λ n. cond (f k) 1 0 + n) (kept f p h ks))
@@ -56,7 +56,7 @@ kept f p h (k ∷ ks) = elim (cases_Bool (p k)) [
     skip false e t = omega arith
 
 -- where none of them passes, nothing
-lost : (f p : ℕ → Bool) → ((k : ℕ) → f k ≡ true → p k ≡ false) → (ks : List ℕ) → count f (filter p ks) ≡ 0
+lost : {X : Type 0} (f p : X → Bool) → ((k : X) → f k ≡ true → p k ≡ false) → (ks : List X) → count f (filter p ks) ≡ 0
 lost f p h [] = refl
 lost f p h (k ∷ ks) = elim (cases_Bool (p k)) [
   | inl t ↦ rw t (first (f k) refl t (lost f p h ks))
@@ -68,7 +68,7 @@ lost f p h (k ∷ ks) = elim (cases_Bool (p k)) [
     first false e t z = omega arith
 
 -- so by a test that goes by what counts
-halved : (f p : ℕ → Bool) (b : Bool) → ((k : ℕ) → f k ≡ true → p k ≡ b) → (ks : List ℕ)
+pub halved : {X : Type 0} (f p : X → Bool) (b : Bool) → ((k : X) → f k ≡ true → p k ≡ b) → (ks : List X)
     → count f (filter p ks) ≡ cond b (count f ks) 0
 halved f p true h ks = kept f p h ks
 halved f p false h ks = lost f p h ks
@@ -140,6 +140,16 @@ module _ (qs : List (List ℕ)) (keys up there : List ℕ) (steps : map step_in 
       by true e h = (grind (arith, nat_tests, e), h)
       by false e h = absurd (omega arith)
 
+-- polygons are closed where each step to a higher id is taken as often as the step back
+pub closed_ahead : (qs : List (List ℕ)) → ((u v : ℕ) → u < v → step_count qs u v ≡ step_count qs v u) → AreClosed qs
+closed_ahead qs ahead u v = elim (cases_lt u v) [
+  | inl l ↦ ahead u v l
+  | inr r ↦ elim (cases_lt v u) [ inl l ↦ sym (ahead v u l) | inr s ↦ level r s ]
+]
+  where
+    level : v ≤ u → u ≤ v → step_count qs u v ≡ step_count qs v u
+    level r s = let e : u ≡ v = omega arith in subst (λ w. step_count qs u w ≡ step_count qs w u) e refl
+
 module _ (qs : List (List ℕ)) (keys up down there round : List ℕ) (steps : map step_in keys ≡ flat_map steps_round qs)
     (ups : up ≡ filter goes_up keys) (downs : map step_in down ≡ map back (map step_in (filter goes_down keys)))
     (p : IsPermutation up there) (q : IsPermutation down round) where
@@ -156,10 +166,7 @@ module _ (qs : List (List ℕ)) (keys up down there round : List ℕ) (steps : m
       lower = filter goes_down keys
 
   pub closed_by_keys : there ≡ round → AreClosed qs
-  closed_by_keys same u v = elim (cases_lt u v) [
-    | inl l ↦ ahead u v l
-    | inr r ↦ elim (cases_lt v u) [ inl l ↦ sym (ahead v u l) | inr s ↦ level r s ]
-  ]
+  closed_by_keys same = closed_ahead qs ahead
     where
       pick : (b : Bool) (x y : ℕ) → b ≡ true → cond b x 0 ≡ cond b y 0 → x ≡ y
       pick true x y e h = h
@@ -169,9 +176,6 @@ module _ (qs : List (List ℕ)) (keys up down there round : List ℕ) (steps : m
       ahead u v l =
           let t : nat_lt u v ≡ true = grind (arith, nat_tests, l) in
           pick (nat_lt u v) _ _ t (sym (half_up qs keys up there steps ups p u v) ∙ ap (count_by (on u v)) same ∙ half_down u v)
-
-      level : v ≤ u → u ≤ v → step_count qs u v ≡ step_count qs v u
-      level r s = let e : u ≡ v = omega arith in subst (λ w. step_count qs u w ≡ step_count qs w u) e refl
 
   -- a key that they do not have equally often is that of an open step
   pub open_by_key : (z : ℕ) → CountOtherwise there round z

@@ -4,5 +4,5 @@ pub mod Faces
 pub mod Findings
 pub mod HullFaces
 pub mod Rounds
-pub mod StepHalves
+pub mod StepParts
 pub mod StepKeys
