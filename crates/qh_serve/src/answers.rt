@@ -9,6 +9,7 @@ ghost use Rattle.qh_model.specs.declared.limits.TheConstants.{BYTE_LIMIT, POINT_
 ghost use Rattle.qh_model.specs.declared.read_fault.ReadFault.TheVariants as reads;
 ghost use Rattle.qh_read.specs.contract.ReadFaults.{IsFaultOf};
 ghost use Rattle.qh_serve.specs.headline.Answers.{IsAnswer, IsAnswerFault};
+ghost use Rattle.qh_write.specs.contract.Pieces.{bytes_in};
 
 use crate::fault::Fault;
 use crate::ranks::{are_all_ranks, rank_text};
@@ -18,7 +19,7 @@ use qh_model::{BYTE_LIMIT, Cut, CutError, Hull, Id, Memory, Point};
 use qh_plane::distinct_in_threads;
 use qh_read::{MemSource, ReadFault, read_form_threads};
 use qh_run::{Gate, RunError, run_hull};
-use qh_write::text_in_threads;
+use qh_write::{Pieces, text_in_threads};
 use std::alloc::Global;
 use std::thread::Threads;
 
@@ -71,11 +72,11 @@ fn hull_text_of<R: Threads + Sync, G: Gate>(
     ids: &[Id],
     settings: &Settings,
     gate: &G,
-) -> Result<Vec<u8>, Memory>
+) -> Result<Pieces, Memory>
     requires some { 0 < length pts.now }
     requires few { length pts.now ≤ POINT_LIMIT }
     requires distinct { AreDistinctIds pts.now ids.now }
-    ensures { IfOk result (λ t. IsText pts.now settings.now.outs t.items) }
+    ensures { IfOk result (λ t. IsText pts.now settings.now.outs (bytes_in t)) }
 {
     let cut = even_cut(alloc, ids.len() as u32, settings.block())?;
     let hull = hull_of(rt, alloc, pts, ids, &cut, settings, gate)?;
@@ -97,14 +98,15 @@ pub(crate) fn text_of<R: Threads + Sync, G: Gate>(
     pts: &[Point],
     settings: &Settings,
     gate: &G,
-) -> Result<Vec<u8>, Memory>
+) -> Result<Pieces, Memory>
     requires some { 0 < length pts.now }
     requires few { length pts.now ≤ POINT_LIMIT }
-    ensures { IfOk result (λ t. IsText pts.now settings.now.outs t.items) }
+    ensures { IfOk result (λ t. IsText pts.now settings.now.outs (bytes_in t)) }
 {
     let ids = distinct_in_threads(rt, alloc, pts, settings.workers())?;
     if are_all_ranks(settings.outs()) {
-        return rank_text(alloc, pts, &ids, settings.outs());
+        let text = rank_text(alloc, pts, &ids, settings.outs())?;
+        return Ok(Pieces::of(alloc, text));
     }
     hull_text_of(rt, alloc, pts, &ids, settings, gate)
 }
@@ -155,5 +157,5 @@ pub fn answer<R: Threads + Sync, G: Gate>(
 {
     let points = points_in(rt, alloc, input, settings)?;
     let text = text_of(rt, alloc, &points, settings, gate)?;
-    Ok(text)
+    Ok(text.joined(alloc)?)
 }

@@ -9,7 +9,7 @@ use crate::fault::Fault;
 use crate::settings::Settings;
 use qh_read::{ReadFault, Source, read_form_threads};
 use qh_run::Gate;
-use qh_write::{Sink, send};
+use qh_write::{Sink, send_pieces};
 use std::alloc::Global;
 use std::thread::Threads;
 
@@ -40,6 +40,6 @@ pub fn serve<R: Threads + Sync, S: Source, K: Sink, G: Gate>(
     let threads = settings.workers() as usize;
     let points = read_form_threads(rt, alloc, threads, settings.form(), source)?;
     let text = text_of(rt, alloc, &points, settings, gate)?;
-    send(sink, &text)?;
+    send_pieces(sink, &text)?;
     Ok(())
 }

@@ -3,3 +3,4 @@ pub mod TextLemmas
 pub mod FanLemmas
 pub mod EdgeKeyLemmas
 pub mod FormLemmas
+pub mod PartLemmas

@@ -1,9 +1,14 @@
 -- What has gone out through a sink after some of the bytes.
-use Rattle.std.proofs.Common.{◌≡◌, ◌∙◌, ℕ, ◌+◌, ◌-◌, ◌≤◌, List, ◌++◌, length, take, drop, ap, sym, append_assoc, subst}
-use Rattle.std.proofs.lemmas.List.{take-append-drop, take_rest, length-drop, length-take-le}
-use Rattle.std.proofs.Math.Seq.{take-append-add}
+use Rattle.std.proofs.Common.{◌≡◌, ◌∙◌, ℕ, suc, ◌+◌, ◌-◌, ◌<◌, ◌≤◌, List, [], ◌∷◌, ◌++◌, length, take, drop, get_or, Vec, Global}
+use Rattle.std.proofs.Common.{ap, arith, sym, append_assoc, append-nil, length-append, subst, take_all}
+use Rattle.std.proofs.KnownBytes.{Appends-trans}
+use Rattle.std.proofs.lemmas.Grind.{flat_map-append}
+use Rattle.std.proofs.lemmas.List.{take-append-drop, take-append-le, take_rest, length-drop, length-take-le}
+use Rattle.std.proofs.Math.Seq.{drop-cons, take-append-add}
 use Rattle.std.specs.Prelude.{Option, Some, None}
-use Rattle.std.specs.Io.KnownBytes.{Appends}
+use Rattle.std.specs.Io.KnownBytes.{Appends, Keeps}
+use Rattle.qh_write.specs.contract.Pieces.{bytes_of}
+use Rattle.qh_write.specs.headline.Sinks.{AppendsBeginning}
 
 -- a beginning is a shorter one and what follows that
 take-add : (i n : ℕ) (xs : List ℕ) → i ≤ length xs → take (i + n) xs ≡ take i xs ++ take n (drop i xs)
@@ -27,3 +32,41 @@ Appends-more (Some xs) (Some ys) (Some zs) bs sent n fits h k =
 -- a number of bytes of the rest is at most as many as are left
 pub fits_rest : (bs : List ℕ) (sent n : ℕ) → n ≤ length (take (length bs - sent) (drop sent bs)) → n ≤ length bs - sent
 fits_rest bs sent n h = subst (λ (m : ℕ). n ≤ m) (ap length (take_rest bs sent) ∙ length-drop sent bs) h
+
+-- ---- pieces
+-- some bytes went out, and then a beginning of others
+pub beginning_after : (a b c : Option (List ℕ)) (xs ys rest whole : List ℕ) → Appends a b xs → AppendsBeginning b c ys
+    → whole ≡ xs ++ (ys ++ rest) → AppendsBeginning a c whole
+beginning_after a b c xs ys rest whole p h e = record {
+  count = length xs + h.count;
+  within = subst (λ (bs : List ℕ). length xs + h.count ≤ length bs) (sym e)
+      (let w = h.within in omega (arith, w, length-append xs (ys ++ rest), length-append ys rest));
+  appends = subst (λ (bs : List ℕ). Appends a c (take (length xs + h.count) bs)) (sym e)
+      (subst (Appends a c) (sym begun) (Appends-trans a b c xs (take h.count ys) p h.appends));
+}
+  where
+    begun : take (length xs + h.count) (xs ++ (ys ++ rest)) ≡ xs ++ take h.count ys
+    begun = take-append-add xs (ys ++ rest) h.count ∙ ap (λ (bs : List ℕ). xs ++ bs) (take-append-le h.count ys rest h.within)
+
+-- all of them went out, and then nothing more
+pub beginning_kept : (a b c : Option (List ℕ)) (xs : List ℕ) → Appends a b xs → Keeps b c → AppendsBeginning a c xs
+beginning_kept a b c xs p k = record {
+  count = length xs;
+  within = omega arith;
+  appends = subst (Appends a c) (sym (take_all (length xs) xs (omega arith))) (kept a b c p k);
+}
+  where
+    kept : (a b c : Option (List ℕ)) → Appends a b xs → Keeps b c → Appends a c xs
+    kept None b c p k = tt
+    kept (Some x) None c p k = absurd p
+    kept (Some x) (Some y) None p k = absurd k
+    kept (Some x) (Some y) (Some z) p k = k ∙ p
+
+-- the pieces before one, that one, and what follows it
+pub piece_among : (pieces : List (Vec ℕ Global)) (last : List ℕ) (i : ℕ) (d : Vec ℕ Global) → i < length pieces
+    → bytes_of pieces ++ last ≡ bytes_of (take i pieces) ++ ((get_or pieces i d).items ++ (bytes_of (drop (suc i) pieces) ++ last))
+piece_among pieces last i d l =
+    ap (λ (ps : List (Vec ℕ Global)). bytes_of ps ++ last) (sym (take-append-drop i pieces) ∙ ap (λ (ps : List (Vec ℕ Global)). take i pieces ++ ps) (drop-cons pieces i d l))
+    ∙ ap (λ (bs : List ℕ). bs ++ last) (flat_map-append (λ (piece : Vec ℕ Global). piece.items) (take i pieces) (get_or pieces i d ∷ drop (suc i) pieces))
+    ∙ append_assoc (bytes_of (take i pieces)) ((get_or pieces i d).items ++ bytes_of (drop (suc i) pieces)) last
+    ∙ ap (λ (bs : List ℕ). bytes_of (take i pieces) ++ bs) (append_assoc (get_or pieces i d).items (bytes_of (drop (suc i) pieces)) last)

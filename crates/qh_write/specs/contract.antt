@@ -1,2 +1,3 @@
 -- What else the contracts of public functions cite.
 pub mod Devices
+pub mod Pieces

@@ -2,3 +2,4 @@
 pub mod VertexTables
 pub mod EdgeKeys
 pub mod Forms
+pub mod Parts

@@ -7,14 +7,16 @@
 
 pub mod fakes;
 mod mem_sink;
+mod pieces;
 mod sending;
 mod sink;
 mod std_sink;
 mod texts;
 
 pub use mem_sink::MemSink;
+pub use pieces::Pieces;
 pub use qh_model::Out;
-pub use sending::{SendFault, send};
+pub use sending::{SendFault, send, send_pieces};
 pub use sink::{Sink, SinkFault};
 pub use std_sink::StdSink;
 pub use texts::{text, text_in_threads};

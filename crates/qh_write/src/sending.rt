@@ -1,13 +1,47 @@
 //! A text on its way to a sink, piece by piece.
 ghost use Rattle.std.specs.Prelude.{◌≡◌, ℕ, ◌+◌, ◌-◌, ◌^◌, ◌<◌, OnOk, OnErr, true};
-ghost use Rattle.std.specs.Io.KnownBytes.{Appends};
+ghost use Rattle.std.specs.Io.KnownBytes.{Appends, Keeps};
+ghost use Rattle.qh_write.specs.contract.Pieces.{bytes_in};
 ghost use Rattle.qh_write.specs.headline.Sinks.{AppendsBeginning};
 
+use crate::pieces::Pieces;
 use crate::sink::Sink;
 
 /// Not all bytes could be sent.
 #[derive(Clone, Copy, Debug, PartialEq, Eq)]
 pub struct SendFault;
+
+/// Sends all bytes in their order.
+fn send_all<K: Sink>(sink: &mut K, bytes: &[u8]) -> Result<(), SendFault>
+    requires { K.count sink.old < 2 ^ 64 - 1 }
+    ensures sent { OnOk result (Appends (K.went sink.old) (K.went sink.new) bytes.now) }
+    ensures no_failure { OnOk result (K.count sink.new ≡ K.count sink.old) }
+    ensures beginning { OnErr result (AppendsBeginning (K.went sink.old) (K.went sink.new) bytes.now) }
+    ensures one_failure { OnErr result (K.count sink.new ≡ K.count sink.old + 1) }
+{
+    let mut sent = 0;
+    while sent < bytes.len() {
+        match sink.write(&bytes[sent..]) {
+            Ok(taken) => sent += taken,
+            Err(_) => return Err(SendFault),
+        }
+    }
+    Ok(())
+}
+
+/// Flushes a sink.
+fn flush<K: Sink>(sink: &mut K) -> Result<(), SendFault>
+    requires { K.count sink.old < 2 ^ 64 - 1 }
+    ensures flushed { OnOk result (K.is_flushed sink.new ≡ true) }
+    ensures went { Keeps (K.went sink.old) (K.went sink.new) }
+    ensures no_failure { OnOk result (K.count sink.new ≡ K.count sink.old) }
+    ensures one_failure { OnErr result (K.count sink.new ≡ K.count sink.old + 1) }
+{
+    match sink.flush() {
+        Ok(()) => Ok(()),
+        Err(_) => Err(SendFault),
+    }
+}
 
 /// Sends all bytes in their order and flushes the sink.
 ///
@@ -21,15 +55,22 @@ pub fn send<K: Sink>(sink: &mut K, bytes: &[u8]) -> Result<(), SendFault>
     ensures beginning { OnErr result (AppendsBeginning (K.went sink.old) (K.went sink.new) bytes.now) }
     ensures one_failure { OnErr result (K.count sink.new ≡ K.count sink.old + 1) }
 {
-    let mut sent = 0;
-    while sent < bytes.len() {
-        match sink.write(&bytes[sent..]) {
-            Ok(taken) => sent += taken,
-            Err(_) => return Err(SendFault),
-        }
+    send_all(sink, bytes)?;
+    flush(sink)
+}
+
+/// Sends a text in pieces, and flushes the sink, as [`send`] does with all its bytes in one list.
+pub fn send_pieces<K: Sink>(sink: &mut K, text: &Pieces) -> Result<(), SendFault>
+    requires { K.count sink.old < 2 ^ 64 - 1 }
+    ensures sent { OnOk result (Appends (K.went sink.old) (K.went sink.new) (bytes_in text.now)) }
+    ensures flushed { OnOk result (K.is_flushed sink.new ≡ true) }
+    ensures no_failure { OnOk result (K.count sink.new ≡ K.count sink.old) }
+    ensures beginning { OnErr result (AppendsBeginning (K.went sink.old) (K.went sink.new) (bytes_in text.now)) }
+    ensures one_failure { OnErr result (K.count sink.new ≡ K.count sink.old + 1) }
+{
+    for piece in &text.done {
+        send_all(sink, piece)?;
     }
-    match sink.flush() {
-        Ok(()) => Ok(()),
-        Err(_) => Err(SendFault),
-    }
+    send_all(sink, &text.last)?;
+    flush(sink)
 }

@@ -2,6 +2,7 @@
 ghost use Rattle.std.specs.Prelude.{◌≡◌, ◌++◌, ◌<◌, IfOk, OnOk, All, length};
 ghost use Rattle.qh_model.specs.headline.Text.{hull_text, output_text};
 ghost use Rattle.qh_model.specs.contract.IdSets.{AreIndices};
+ghost use Rattle.qh_write.specs.contract.Pieces.{bytes_in};
 
 mod edges;
 mod fans;
@@ -14,6 +15,7 @@ mod scribes;
 mod summary;
 
 use self::scribes::{Alone, InThreads, Scribe};
+use crate::pieces::Pieces;
 use qh_model::{Hull, Memory, Out, Point};
 use std::alloc::{AllocError, Global};
 use std::thread::Threads;
@@ -21,7 +23,7 @@ use std::thread::Threads;
 /// Appends the text of one output.
 fn push_output<S: Scribe>(
     scribe: &S,
-    text: &mut Vec<u8>,
+    text: &mut Pieces,
     alloc: Global,
     hull: &Hull,
     pts: &[Point],
@@ -29,12 +31,12 @@ fn push_output<S: Scribe>(
 ) -> Result<(), AllocError>
     requires indices { AreIndices pts.now hull.now.body.extremes }
     requires ready { S.ready scribe.now }
-    ensures { OnOk result (text.new.items ≡ text.old.items ++ output_text hull.now pts.now out) }
+    ensures { OnOk result (bytes_in text.new ≡ bytes_in text.old ++ output_text hull.now pts.now out) }
 {
     match out {
-        Out::Rank => summary::push_rank(text, hull),
-        Out::Summary => summary::push_summary(text, hull),
-        Out::Fx => off::push_extremes(text, &hull.body),
+        Out::Rank => summary::push_rank(&mut text.last, hull),
+        Out::Summary => summary::push_summary(&mut text.last, hull),
+        Out::Fx => off::push_extremes(&mut text.last, &hull.body),
         Out::Off => off::push_off(scribe, text, alloc, &hull.body, pts),
         Out::OffTriangles => fans::push_off_triangles(scribe, text, alloc, &hull.body, pts),
     }
@@ -42,7 +44,7 @@ fn push_output<S: Scribe>(
 
 fn push_outputs<S: Scribe>(
     scribe: &S,
-    text: &mut Vec<u8>,
+    text: &mut Pieces,
     alloc: Global,
     hull: &Hull,
     pts: &[Point],
@@ -50,7 +52,7 @@ fn push_outputs<S: Scribe>(
 ) -> Result<(), AllocError>
     requires indices { AreIndices pts.now hull.now.body.extremes }
     requires ready { S.ready scribe.now }
-    ensures { OnOk result (text.new.items ≡ text.old.items ++ hull_text hull.now pts.now outs.now) }
+    ensures { OnOk result (bytes_in text.new ≡ bytes_in text.old ++ hull_text hull.now pts.now outs.now) }
 {
     for out in outs {
         push_output(scribe, text, alloc, hull, pts, *out)?;
@@ -58,19 +60,19 @@ fn push_outputs<S: Scribe>(
     Ok(())
 }
 
-/// Returns the texts of the outputs, joined in their order, by a way to write faces.
+/// Returns the texts of the outputs in their order, by a way to write vertices and faces.
 fn text_by<S: Scribe>(
     scribe: &S,
     alloc: Global,
     hull: &Hull,
     pts: &[Point],
     outs: &[Out],
-) -> Result<Vec<u8>, Memory>
+) -> Result<Pieces, Memory>
     requires indices { AreIndices pts.now hull.now.body.extremes }
     requires ready { S.ready scribe.now }
-    ensures { IfOk result (λ t. t.items ≡ hull_text hull.now pts.now outs.now) }
+    ensures { IfOk result (λ t. bytes_in t ≡ hull_text hull.now pts.now outs.now) }
 {
-    let mut text = Vec::with_capacity(alloc, room::room_for(&hull.body, outs))?;
+    let mut text = Pieces::with_room(alloc, scribe.room(&hull.body, outs))?;
     push_outputs(scribe, &mut text, alloc, hull, pts, outs)?;
     Ok(text)
 }
@@ -88,12 +90,13 @@ pub fn text(alloc: Global, hull: &Hull, pts: &[Point], outs: &[Out]) -> Result<V
     requires { AreIndices pts.now hull.now.body.extremes }
     ensures { IfOk result (λ t. t.items ≡ hull_text hull.now pts.now outs.now) }
 {
-    text_by(&Alone, alloc, hull, pts, outs)
+    let pieces = text_by(&Alone, alloc, hull, pts, outs)?;
+    pieces.joined(alloc)
 }
 
-/// Returns the texts of the outputs, joined in their order, as [`text`] gives them. At most `threads`
-/// threads write the faces of a large hull, or their fans, side by side; the number changes nothing but
-/// the time.
+/// Returns the texts of the outputs in their order, as [`text`] gives them, in pieces. At most `threads` threads
+/// write the vertices and faces of a large hull, or the fans of these, side by side. The number of threads changes where
+/// pieces end and the time, and no byte.
 ///
 /// The caller sees to it that every id in the hull is the index of a point in `pts`.
 ///
@@ -107,9 +110,9 @@ pub fn text_in_threads<R: Threads + Sync>(
     pts: &[Point],
     outs: &[Out],
     threads: u32,
-) -> Result<Vec<u8>, Memory>
+) -> Result<Pieces, Memory>
     requires { AreIndices pts.now hull.now.body.extremes }
-    ensures { IfOk result (λ t. t.items ≡ hull_text hull.now pts.now outs.now) }
+    ensures { IfOk result (λ t. bytes_in t ≡ hull_text hull.now pts.now outs.now) }
 {
     let scribe = InThreads {
         rt,

@@ -4,13 +4,15 @@ ghost use Rattle.std.specs.List.{flat_map};
 ghost use Rattle.qh_model.specs.headline.Fan.{triangles_along, fan, fans, edge_count};
 ghost use Rattle.qh_model.specs.headline.Text.{line, spaced, off_text, in_triangles};
 ghost use Rattle.qh_model.specs.contract.IdSets.{AreIndices};
+ghost use Rattle.qh_write.specs.contract.Pieces.{bytes_in};
 ghost use Rattle.qh_write.specs.steps.VertexTables.{AreNumbered, face_by_table};
 
 use super::edges::fan_edges;
 use super::forms::Form;
 use super::lines::{push_line_end, push_number, push_spaced};
-use super::off::{push_face, push_numbered, push_vertices};
+use super::off::{push_face, push_numbered};
 use super::scribes::Scribe;
+use crate::pieces::Pieces;
 use qh_model::{Body, Id, Point, Polygon};
 use std::alloc::{AllocError, Global};
 
@@ -97,17 +99,17 @@ fn push_fan_counts(text: &mut Vec<u8>, alloc: Global, body: &Body) -> Result<(),
 /// Appends the text of `offt`.
 pub fn push_off_triangles<S: Scribe>(
     scribe: &S,
-    text: &mut Vec<u8>,
+    text: &mut Pieces,
     alloc: Global,
     body: &Body,
     pts: &[Point],
 ) -> Result<(), AllocError>
     requires indices { AreIndices pts.now body.now.extremes }
     requires ready { S.ready scribe.now }
-    ensures { OnOk result (text.new.items ≡ text.old.items ++ off_text (in_triangles body.now) pts.now) }
+    ensures { OnOk result (bytes_in text.new ≡ bytes_in text.old ++ off_text (in_triangles body.now) pts.now) }
 {
-    text.extend_from_slice(b"OFF\n")?;
-    push_fan_counts(text, alloc, body)?;
-    push_vertices(text, pts, &body.extremes)?;
+    text.last.extend_from_slice(b"OFF\n")?;
+    push_fan_counts(&mut text.last, alloc, body)?;
+    scribe.push_vertices(text, alloc, pts, &body.extremes)?;
     push_numbered(scribe, text, alloc, Form::Fans, body, pts.len())
 }

@@ -1,5 +1,5 @@
 //! The texts of `Fx` and `off`.
-ghost use Rattle.std.specs.Prelude.{◌≡◌, ◌++◌, ◌∷◌, ◌<◌, OnOk, All, length, slice_index, decimal};
+ghost use Rattle.std.specs.Prelude.{◌≡◌, ◌++◌, ◌∷◌, ◌<◌, OnOk, All, length, slice_index, decimal, codes};
 ghost use Rattle.std.specs.List.{flat_map};
 ghost use Rattle.qh_model.specs.headline.Text.{line, spaced, extremes_text, vertex_text, face_text, off_text};
 ghost use Rattle.qh_model.specs.contract.Bodies.{IsBodyInOrder};
@@ -7,11 +7,13 @@ ghost use Rattle.qh_model.specs.headline.Predicates.{place};
 ghost use Rattle.qh_write.specs.steps.Forms.{shown};
 ghost use Rattle.qh_write.specs.steps.VertexTables.{AreNumbered, face_by_table};
 ghost use Rattle.qh_model.specs.contract.IdSets.{AreIndices};
+ghost use Rattle.qh_write.specs.contract.Pieces.{bytes_in};
 
 use super::forms::Form;
 use super::lines::{push_line_end, push_number, push_signed, push_spaced};
 use super::numbering::vertex_numbers;
 use super::scribes::Scribe;
+use crate::pieces::Pieces;
 use qh_model::{Body, Id, Point, Polygon};
 use std::alloc::{AllocError, Global};
 
@@ -103,7 +105,7 @@ pub fn push_faces(
 /// the count.
 pub fn push_numbered<S: Scribe>(
     scribe: &S,
-    text: &mut Vec<u8>,
+    text: &mut Pieces,
     alloc: Global,
     form: Form,
     body: &Body,
@@ -112,7 +114,7 @@ pub fn push_numbered<S: Scribe>(
     requires within { All (λ i. i < count) body.now.extremes }
     requires order { IsBodyInOrder body.now.extremes body.now.polygons }
     requires ready { S.ready scribe.now }
-    ensures { OnOk result (text.new.items ≡ text.old.items ++ flat_map (face_text body.now.extremes) (shown form body.now.polygons)) }
+    ensures { OnOk result (bytes_in text.new ≡ bytes_in text.old ++ flat_map (face_text body.now.extremes) (shown form body.now.polygons)) }
 {
     let numbers = vertex_numbers(alloc, &body.extremes, count)?;
     scribe.push_faces(text, alloc, form, &numbers, &body.polygons)?;
@@ -129,20 +131,28 @@ fn push_counts(text: &mut Vec<u8>, body: &Body) -> Result<(), AllocError>
     push_line_end(text)
 }
 
+/// Appends the lines before the vertices.
+fn push_head(text: &mut Vec<u8>, body: &Body) -> Result<(), AllocError>
+    ensures { OnOk result (text.new.items ≡ text.old.items ++ codes "OFF\n" ++ line (decimal (length body.now.extremes)
+        ++ spaced (length body.now.polygons) ++ spaced body.now.edges)) }
+{
+    text.extend_from_slice(b"OFF\n")?;
+    push_counts(text, body)
+}
+
 /// Appends the text of `off`.
 pub fn push_off<S: Scribe>(
     scribe: &S,
-    text: &mut Vec<u8>,
+    text: &mut Pieces,
     alloc: Global,
     body: &Body,
     pts: &[Point],
 ) -> Result<(), AllocError>
     requires indices { AreIndices pts.now body.now.extremes }
     requires ready { S.ready scribe.now }
-    ensures { OnOk result (text.new.items ≡ text.old.items ++ off_text body.now pts.now) }
+    ensures { OnOk result (bytes_in text.new ≡ bytes_in text.old ++ off_text body.now pts.now) }
 {
-    text.extend_from_slice(b"OFF\n")?;
-    push_counts(text, body)?;
-    push_vertices(text, pts, &body.extremes)?;
+    push_head(&mut text.last, body)?;
+    scribe.push_vertices(text, alloc, pts, &body.extremes)?;
     push_numbered(scribe, text, alloc, Form::Whole, body, pts.len())
 }

@@ -37,16 +37,21 @@ pub fn fans_room(faces: &[Polygon]) -> usize {
     fan_numbers(faces).saturating_mul(NUMBER)
 }
 
+/// Returns an upper bound of the bytes that the lines of vertices take.
+pub fn vertices_room(count: usize) -> usize {
+    count.saturating_mul(3 * NUMBER)
+}
+
 fn output_room(body: &Body, out: Out) -> usize {
-    let vertices = body.extremes.len().saturating_mul(NUMBER);
+    let vertices = vertices_room(body.extremes.len());
     match out {
         Out::Rank | Out::Summary => SUMMARY,
-        Out::Fx => SUMMARY.saturating_add(vertices),
+        Out::Fx => SUMMARY.saturating_add(body.extremes.len().saturating_mul(NUMBER)),
         Out::Off => SUMMARY
-            .saturating_add(vertices.saturating_mul(3))
+            .saturating_add(vertices)
             .saturating_add(faces_room(&body.polygons)),
         Out::OffTriangles => SUMMARY
-            .saturating_add(vertices.saturating_mul(3))
+            .saturating_add(vertices)
             .saturating_add(fans_room(&body.polygons)),
     }
 }

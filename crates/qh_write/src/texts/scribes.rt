@@ -1,27 +1,48 @@
-//! Who writes the lines of faces: the calling thread alone, or threads side by side.
-ghost use Rattle.std.specs.Prelude.{◌≡◌, ◌++◌, ◌*◌, ◌≤◌, ◌<◌, ℕ, IfOk, OnOk, Result, Vec, All, length, take, drop, slice_index_or};
+//! Who writes the lines of vertices and faces: the calling thread alone, or threads side by side.
+ghost use Rattle.std.specs.Prelude.{◌≡◌, ◌++◌, ◌*◌, ◌≤◌, ◌<◌, ℕ, IfOk, OnOk, All, length, take, drop};
 ghost use Rattle.std.specs.List.{flat_map};
 ghost use Rattle.std.specs.Thread.{IsSync};
+ghost use Rattle.qh_model.specs.headline.Predicates.{place};
+ghost use Rattle.qh_model.specs.headline.Text.{vertex_text};
+ghost use Rattle.qh_write.specs.contract.Pieces.{bytes_in};
 ghost use Rattle.qh_write.specs.steps.Forms.{shown};
 ghost use Rattle.qh_write.specs.steps.VertexTables.{AreNumbered, face_by_table};
 
 use super::forms::Form;
-use qh_model::Polygon;
+use super::off::push_vertices;
+use super::room::{room_for, vertices_room};
+use crate::pieces::Pieces;
+use qh_model::{Body, Id, Out, Point, Polygon};
 use std::alloc::{AllocError, Global};
 use std::thread::{self, Threads};
 
-/// Threads share the lines of at least this many faces.
+/// Threads share the lines of at least this many vertices or faces.
 const SHARED_FROM: usize = 16_384;
 
-/// A way to write the lines of faces.
+/// A way to write the lines of vertices and faces.
 pub trait Scribe {
     /// What is known of one that writes.
     ghost ready: { Self → Type 0 };
 
+    /// Returns how many bytes the first piece of a text takes at most, or at first.
+    fn room(&self, body: &Body, outs: &[Out]) -> usize;
+
+    /// Appends the points of ids.
+    fn push_vertices(
+        &self,
+        text: &mut Pieces,
+        alloc: Global,
+        pts: &[Point],
+        ids: &[Id],
+    ) -> Result<(), AllocError>
+        requires ready { ready self.now }
+        requires within { All (λ i. i < length pts.now) ids.now }
+        ensures { OnOk result (bytes_in text.new ≡ bytes_in text.old ++ flat_map (λ i. vertex_text (place pts.now i)) ids.now) };
+
     /// Appends the faces in a form, each vertex by its number in a table.
     fn push_faces(
         &self,
-        text: &mut Vec<u8>,
+        text: &mut Pieces,
         alloc: Global,
         form: Form,
         numbers: &[usize],
@@ -29,21 +50,31 @@ pub trait Scribe {
     ) -> Result<(), AllocError>
         requires ready { ready self.now }
         requires numbered { All (AreNumbered numbers.now) faces.now }
-        ensures { OnOk result (text.new.items ≡ text.old.items ++ flat_map (face_by_table numbers.now) (shown form faces.now)) };
+        ensures { OnOk result (bytes_in text.new ≡ bytes_in text.old ++ flat_map (face_by_table numbers.now) (shown form faces.now)) };
 }
 
-/// Returns the part of faces with a number, where they are cut into parts of so many; the last may be
+/// Returns the part of a list with a number, where it is cut into parts of one size; the last may be
 /// shorter, and there is nothing past it.
-fn part_of(faces: &[Polygon], size: usize, number: usize) -> &[Polygon]
-    ensures { result.now ≡ take size (drop (number * size) faces.now) }
+fn part_of<T>(items: &[T], size: usize, number: usize) -> &[T]
+    ensures { result.now ≡ take size (drop (number * size) items.now) }
 {
-    let from = number.saturating_mul(size).min(faces.len());
-    let (_, rest) = faces.split_at(from);
+    let from = number.saturating_mul(size).min(items.len());
+    let (_, rest) = items.split_at(from);
     let (part, _) = rest.split_at(size.min(rest.len()));
     part
 }
 
-/// Returns the text of faces in a form, each vertex by its number in a table.
+/// Returns the lines of the points of ids.
+fn vertices_text(alloc: Global, pts: &[Point], ids: &[Id]) -> Result<Vec<u8>, AllocError>
+    requires { All (λ i. i < length pts.now) ids.now }
+    ensures { IfOk result (λ t. t.items ≡ flat_map (λ i. vertex_text (place pts.now i)) ids.now) }
+{
+    let mut text = Vec::with_capacity(alloc, vertices_room(ids.len()))?;
+    push_vertices(&mut text, pts, ids)?;
+    Ok(text)
+}
+
+/// Returns the lines of faces in a form, each vertex by its number in a table.
 fn faces_text(
     alloc: Global,
     form: Form,
@@ -58,58 +89,6 @@ fn faces_text(
     Ok(text)
 }
 
-/// Appends the texts of the parts of faces.
-fn push_parts(
-    text: &mut Vec<u8>,
-    form: Form,
-    numbers: &[usize],
-    faces: &[Polygon],
-    parts: &[Result<Vec<u8>, AllocError>],
-    size: usize,
-) -> Result<(), AllocError>
-    requires parts { (i : ℕ) (d : Result (Vec ℕ Global) AllocError) → i < length parts.now → IfOk (slice_index_or parts.now i d)
-        (λ t. t.items ≡ flat_map (face_by_table numbers.now) (shown form (take size (drop (i * size) faces.now)))) }
-    requires all { length faces.now ≤ length parts.now * size }
-    ensures { OnOk result (text.new.items ≡ text.old.items ++ flat_map (face_by_table numbers.now) (shown form faces.now)) }
-{
-    for part in parts {
-        match part {
-            Ok(lines) => text.extend_from_slice(lines)?,
-            Err(error) => return Err(*error),
-        }
-    }
-    Ok(())
-}
-
-/// Appends faces in a form by a number of threads, each at a part of them.
-fn push_faces_in_threads<R: Threads + Sync>(
-    scribe: &InThreads<'_, R>,
-    text: &mut Vec<u8>,
-    alloc: Global,
-    form: Form,
-    numbers: &[usize],
-    faces: &[Polygon],
-) -> Result<(), AllocError>
-    requires { All (AreNumbered numbers.now) faces.now }
-    ensures { OnOk result (text.new.items ≡ text.old.items ++ flat_map (face_by_table numbers.now) (shown form faces.now)) }
-{
-    let threads = scribe.threads;
-    if threads < 2 || faces.len() < SHARED_FROM {
-        return form.push(text, numbers, faces);
-    }
-    let size = faces.len() / threads + 1;
-    let parts = thread::map_indices(
-        scribe.rt,
-        alloc,
-        threads,
-        &move |number: usize| -> Result<Vec<u8>, AllocError>
-            requires { All (AreNumbered numbers.now) faces.now }
-            ensures { IfOk result (λ t. t.items ≡ flat_map (face_by_table numbers.entry.now) (shown form (take size (drop (number * size) faces.entry.now)))) }
-        { faces_text(alloc, form, numbers, part_of(faces, size, number)) },
-    )?;
-    push_parts(text, form, numbers, faces, &parts, size)
-}
-
 /// The calling thread alone.
 #[derive(Clone, Copy, Debug)]
 pub struct Alone;
@@ -117,15 +96,29 @@ pub struct Alone;
 impl Scribe for Alone {
     ghost ready = { λ _. Unit {0} };
 
+    fn room(&self, body: &Body, outs: &[Out]) -> usize {
+        room_for(body, outs)
+    }
+
+    fn push_vertices(
+        &self,
+        text: &mut Pieces,
+        _alloc: Global,
+        pts: &[Point],
+        ids: &[Id],
+    ) -> Result<(), AllocError> {
+        push_vertices(&mut text.last, pts, ids)
+    }
+
     fn push_faces(
         &self,
-        text: &mut Vec<u8>,
+        text: &mut Pieces,
         _alloc: Global,
         form: Form,
         numbers: &[usize],
         faces: &[Polygon],
     ) -> Result<(), AllocError> {
-        form.push(text, numbers, faces)
+        form.push(&mut text.last, numbers, faces)
     }
 }
 
@@ -136,17 +129,102 @@ pub struct InThreads<'a, R> {
     pub threads: usize,
 }
 
+impl<R> InThreads<'_, R> {
+    /// Returns true if threads share a number of lines.
+    fn share(&self, lines: usize) -> bool {
+        self.threads > 1 && lines >= SHARED_FROM
+    }
+}
+
+/// Appends the points of ids by a number of threads, each at a part of them.
+fn push_vertices_in_threads<R: Threads + Sync>(
+    scribe: &InThreads<'_, R>,
+    text: &mut Pieces,
+    alloc: Global,
+    pts: &[Point],
+    ids: &[Id],
+) -> Result<(), AllocError>
+    requires { All (λ i. i < length pts.now) ids.now }
+    ensures { OnOk result (bytes_in text.new ≡ bytes_in text.old ++ flat_map (λ i. vertex_text (place pts.now i)) ids.now) }
+{
+    let threads = scribe.threads.max(1);
+    let size = ids.len() / threads + 1;
+    let parts = thread::map_indices(
+        scribe.rt,
+        alloc,
+        threads,
+        &move |number: usize| -> Result<Vec<u8>, AllocError>
+            requires { All (λ i. i < length pts.now) ids.now }
+            ensures { IfOk result (λ t. t.items ≡ flat_map (λ i. vertex_text (place pts.entry.now i)) (take size (drop (number * size) ids.entry.now))) }
+        { vertices_text(alloc, pts, part_of(ids, size, number)) },
+    )?;
+    text.append_parts(alloc, parts)
+}
+
+/// Appends faces in a form by a number of threads, each at a part of them.
+fn push_faces_in_threads<R: Threads + Sync>(
+    scribe: &InThreads<'_, R>,
+    text: &mut Pieces,
+    alloc: Global,
+    form: Form,
+    numbers: &[usize],
+    faces: &[Polygon],
+) -> Result<(), AllocError>
+    requires { All (AreNumbered numbers.now) faces.now }
+    ensures { OnOk result (bytes_in text.new ≡ bytes_in text.old ++ flat_map (face_by_table numbers.now) (shown form faces.now)) }
+{
+    let threads = scribe.threads.max(1);
+    let size = faces.len() / threads + 1;
+    let parts = thread::map_indices(
+        scribe.rt,
+        alloc,
+        threads,
+        &move |number: usize| -> Result<Vec<u8>, AllocError>
+            requires { All (AreNumbered numbers.now) faces.now }
+            ensures { IfOk result (λ t. t.items ≡ flat_map (face_by_table numbers.entry.now) (shown form (take size (drop (number * size) faces.entry.now)))) }
+        { faces_text(alloc, form, numbers, part_of(faces, size, number)) },
+    )?;
+    text.append_parts(alloc, parts)
+}
+
 impl<R: Threads + Sync> Scribe for InThreads<'_, R> {
     ghost ready = { λ _. IsSync R.row };
 
+    fn room(&self, body: &Body, outs: &[Out]) -> usize {
+        // What threads write are pieces of their own.
+        if self.share(body.polygons.len()) {
+            0
+        } else {
+            room_for(body, outs)
+        }
+    }
+
+    fn push_vertices(
+        &self,
+        text: &mut Pieces,
+        alloc: Global,
+        pts: &[Point],
+        ids: &[Id],
+    ) -> Result<(), AllocError> {
+        if self.share(ids.len()) {
+            push_vertices_in_threads(self, text, alloc, pts, ids)
+        } else {
+            push_vertices(&mut text.last, pts, ids)
+        }
+    }
+
     fn push_faces(
         &self,
-        text: &mut Vec<u8>,
+        text: &mut Pieces,
         alloc: Global,
         form: Form,
         numbers: &[usize],
         faces: &[Polygon],
     ) -> Result<(), AllocError> {
-        push_faces_in_threads(self, text, alloc, form, numbers, faces)
+        if self.share(faces.len()) {
+            push_faces_in_threads(self, text, alloc, form, numbers, faces)
+        } else {
+            form.push(&mut text.last, numbers, faces)
+        }
     }
 }

@@ -1,7 +1,8 @@
 use Rattle.std.proofs.Common.{◌≡◌, ◌++◌, take}
 use Rattle.std.specs.List.{flat_map}
 use Rattle.qh_model.specs.headline.Text.{output_text}
+use Rattle.qh_write.specs.contract.Pieces.{bytes_in}
 use Rattle.qh_write.proofs.texts.push_outputs.Given as goal
 
 abbrev pub invariant-loop-out : goal.invariant-loop-out
-invariant-loop-out g l = l.text.items ≡ l.initial.text.items ++ flat_map (output_text l.hull l.pts) (take l.out-index l.outs)
+invariant-loop-out g l = bytes_in l.text ≡ bytes_in l.initial.text ++ flat_map (output_text l.hull l.pts) (take l.out-index l.outs)

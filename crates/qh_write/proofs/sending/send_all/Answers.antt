@@ -1,6 +1,6 @@
 use Rattle.std.proofs.Common.{◌≤◌, ◌-◌, ◌∙◌, length, arith}
 use Rattle.qh_write.proofs.SendingLemmas.{Appends-more, fits_rest}
-use Rattle.qh_write.proofs.sending.send.Goals as goal
+use Rattle.qh_write.proofs.sending.send_all.Goals as goal
 
 pub loop-sent-preserved : goal.loop-sent-preserved
 loop-sent-preserved g c =

@@ -1,0 +1,10 @@
+-- What is left, and then the pieces from the last one back, are the parts.
+use Rattle.std.proofs.Common.{◌≡◌, ◌++◌, Ok, map, vec_len}
+use Rattle.std.specs.Prelude.{reverse}
+use Rattle.qh_write.proofs.pieces.all_pieces.Given as goal
+
+abbrev pub invariant-loop-part : goal.invariant-loop-part
+invariant-loop-part l = l.left.items ++ map Ok (reverse l.pieces.items) ≡ l.fn.parts.items
+
+abbrev pub decreases-loop-part : goal.decreases-loop-part
+decreases-loop-part l = vec_len l.left
