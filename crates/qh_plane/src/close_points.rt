@@ -25,6 +25,9 @@ const LOOKED_AT: usize = 32;
 /// Where the first points of a list, at most this many, lie too far apart for the whole list, no more are looked at.
 const FIRST_POINTS: usize = 4096;
 
+/// Fewer slots than this lie in a processor's own memory, where a single thread takes no longer.
+pub const SHARED_SLOTS: u64 = 65_536;
+
 /// What stands in a slot that no point has come to.
 pub const NO_ID: u32 = 4294967295;
 
@@ -178,15 +181,19 @@ impl CloseBox {
         Some(slots)
     }
 
+    /// Returns slots as [`around`](CloseBox::around) does, for the box around the first points of the list.
+    pub fn around_first(pts: &[Point]) -> Option<CloseBox>
+        requires { length pts.now ≤ POINT_LIMIT }
+    {
+        let (first, _) = pts.split_at(pts.len().min(FIRST_POINTS));
+        CloseBox::around_some(pts, first)
+    }
+
     /// Returns the slots for points that lie close together, or seem to lie in one line, where they are
     /// few for the number of points.
     pub fn around(pts: &[Point]) -> Option<CloseBox>
         requires { length pts.now ≤ POINT_LIMIT }
     {
-        let (first, _) = pts.split_at(pts.len().min(FIRST_POINTS));
-        if CloseBox::around_some(pts, first).is_none() {
-            return None;
-        }
         CloseBox::around_some(pts, pts)
     }
 
@@ -246,12 +253,36 @@ pub fn distinct_by_slots(
     Ok(Some(ids))
 }
 
+/// Returns the distinct ids of points that the box around the first ones tells, rising, where it is small; `None` if it
+/// is not, or if others lie outside of it.
+///
+/// The points of a lattice or a grid mostly lie all within that box, so that no pass over them looks for a larger one.
+pub fn distinct_in_first_box(
+    alloc: Global,
+    pts: &[Point],
+    close: CloseBox,
+) -> Result<Option<Vec<Id>>, AllocError>
+    requires few { length pts.now ≤ POINT_LIMIT }
+    ensures { IfOk result (λ found. IfSome found (λ v. AreDistinctIds pts.now v.items)) }
+{
+    if close.slots >= SHARED_SLOTS {
+        return Ok(None);
+    }
+    distinct_by_slots(alloc, pts, close)
+}
+
 /// Returns the distinct ids of points that lie close together or in one line, rising; `None` if they
 /// do not.
 pub fn distinct_in_box(alloc: Global, pts: &[Point]) -> Result<Option<Vec<Id>>, AllocError>
     requires few { length pts.now ≤ POINT_LIMIT }
     ensures { IfOk result (λ found. IfSome found (λ v. AreDistinctIds pts.now v.items)) }
 {
+    let Some(first) = CloseBox::around_first(pts) else {
+        return Ok(None);
+    };
+    if let Some(ids) = distinct_in_first_box(alloc, pts, first)? {
+        return Ok(Some(ids));
+    }
     match CloseBox::around(pts) {
         Some(close) => distinct_by_slots(alloc, pts, close),
         None => Ok(None),

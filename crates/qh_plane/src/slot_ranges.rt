@@ -5,15 +5,14 @@ ghost use Rattle.qh_model.specs.headline.DistinctIds.{AreDistinctIds};
 ghost use Rattle.qh_plane.specs.steps.CloseBoxes.{IdsOfRange};
 ghost use Rattle.qh_plane.specs.steps.Repeats.{AreRepeats};
 
-use crate::close_points::{CloseBox, NO_ID, distinct_by_slots, same_point};
+use crate::close_points::{
+    CloseBox, NO_ID, SHARED_SLOTS, distinct_by_slots, distinct_in_first_box, same_point,
+};
 use crate::distinct_points::distinct_without;
 use crate::parts::{Parts, repeats_in_parts};
 use qh_model::{Id, POINT_LIMIT, Point};
 use std::alloc::{AllocError, Global};
 use std::thread::Threads;
-
-/// Fewer slots than this lie in a processor's own memory, where a single thread takes no longer.
-const SHARED_SLOTS: u64 = 65_536;
 
 /// All ranges of the slots of a box, of one size.
 #[derive(Clone, Copy)]
@@ -79,6 +78,30 @@ impl Parts for SlotRanges {
     }
 }
 
+/// Returns the distinct ids of points, rising, each of which has a slot of its place, by a number of threads, each at a
+/// range of the slots; `None` if points that differ come to one slot, or one comes to none.
+fn distinct_by_ranges<R: Threads + Sync>(
+    rt: &R,
+    alloc: Global,
+    pts: &[Point],
+    close: CloseBox,
+    threads: usize,
+) -> Result<Option<Vec<Id>>, AllocError>
+    requires few { length pts.now ≤ POINT_LIMIT }
+    requires some { 0 < threads }
+    ensures { IfOk result (λ found. IfSome found (λ v. AreDistinctIds pts.now v.items)) }
+{
+    let size = (close.slots / threads as u64).saturating_add(1);
+    let Some(end) = (threads as u64).checked_mul(size) else {
+        return Ok(None);
+    };
+    let ranges = SlotRanges { close, size, end };
+    let Some(repeats) = repeats_in_parts(rt, alloc, pts, &ranges, threads)? else {
+        return Ok(None);
+    };
+    Ok(Some(distinct_without(alloc, pts, &repeats)?))
+}
+
 /// Returns the distinct ids of points that lie close together or in one line, rising, by a number of threads, each at
 /// a range of the slots; `None` if they do not.
 pub fn distinct_in_ranges<R: Threads + Sync>(
@@ -91,19 +114,17 @@ pub fn distinct_in_ranges<R: Threads + Sync>(
     requires some { 0 < threads }
     ensures { IfOk result (λ found. IfSome found (λ v. AreDistinctIds pts.now v.items)) }
 {
+    let Some(first) = CloseBox::around_first(pts) else {
+        return Ok(None);
+    };
+    if let Some(ids) = distinct_in_first_box(alloc, pts, first)? {
+        return Ok(Some(ids));
+    }
     let Some(close) = CloseBox::around(pts) else {
         return Ok(None);
     };
     if close.slots < SHARED_SLOTS {
         return distinct_by_slots(alloc, pts, close);
     }
-    let size = (close.slots / threads as u64).saturating_add(1);
-    let Some(end) = (threads as u64).checked_mul(size) else {
-        return Ok(None);
-    };
-    let ranges = SlotRanges { close, size, end };
-    let Some(repeats) = repeats_in_parts(rt, alloc, pts, &ranges, threads)? else {
-        return Ok(None);
-    };
-    Ok(Some(distinct_without(alloc, pts, &repeats)?))
+    distinct_by_ranges(rt, alloc, pts, close, threads)
 }

@@ -21,7 +21,7 @@ use std::mem;
 use std::thread::{Threads, join_mut};
 
 /// How many bytes are read serially before the first batch. A file of no more bytes starts no thread.
-const START_LENGTH: u32 = 262144;
+const START_LENGTH: u32 = 655_360;
 
 /// The number of bytes of a batch: few enough for the caches, and enough to pay for the threads that start.
 const BATCH_LENGTH: usize = 1048576;
@@ -181,7 +181,7 @@ pub fn read_form_sizes<R: Threads + Sync, S: Source>(
 /// Returns the points of the file of this form that a source gives, with the answers of [`read_form_from`], by at
 /// most this number of threads, the calling thread among them.
 ///
-/// A file of at most 262,144 bytes is read by the calling thread alone, and so is any file if `threads` is 0 or 1.
+/// A file of at most 655,360 bytes is read by the calling thread alone, and so is any file if `threads` is 0 or 1.
 /// The answer does not depend on the number of threads, nor on which of them can be started. Out of memory for the
 /// points of a segment costs time and no more.
 pub fn read_form_threads<R: Threads + Sync, S: Source>(
