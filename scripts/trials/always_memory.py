@@ -27,7 +27,7 @@ ROWS, WORKERS = "crates/qh_tests_serve", "crates/qh_tests_workers"
 RIGHT_BODY = """{
     let points = points_in(rt, alloc, input, settings)?;
     let text = text_of(rt, alloc, &points, settings, gate)?;
-    Ok(text)
+    Ok(text.joined(alloc)?)
 }
 """
 PLANTED_BODY = "{\n    Err(Fault::from(Memory))\n}\n"
