@@ -1,0 +1,6 @@
+pub mod Signs
+pub mod Crossings
+pub mod Rounds
+pub mod Directions
+pub mod Greatest
+pub mod Perturbed

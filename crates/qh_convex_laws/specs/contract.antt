@@ -1,0 +1,2 @@
+-- What a check of closed surfaces cites.
+pub mod LocallyConvex

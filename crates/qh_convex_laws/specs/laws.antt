@@ -1,0 +1,2 @@
+-- The laws of locally convex surfaces: what follows from the definitions.
+pub mod ConvexLaws
