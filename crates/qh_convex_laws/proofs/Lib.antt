@@ -4,3 +4,4 @@ pub mod Rounds
 pub mod Directions
 pub mod Greatest
 pub mod Perturbed
+pub mod Lowest
