@@ -5,3 +5,4 @@ pub mod Directions
 pub mod Greatest
 pub mod Perturbed
 pub mod Lowest
+pub mod OffPoints
