@@ -6,3 +6,4 @@ pub mod Greatest
 pub mod Perturbed
 pub mod Lowest
 pub mod OffPoints
+pub mod NoneAbove
