@@ -28,7 +28,7 @@ cancel-le k a b h e = by_lt_z b a (λ l. absurd (go l)) (λ l. l)
     go l = apart (k *ℤ a) (k *ℤ b) (k *ℤ (a -ℤ b)) (split k a b) (mul-pos k (a -ℤ b) h (gap a b l)) e
 
 -- fractions are in order
-ratio-trans : (a b c p q r : ℤ) → pos 0 <ℤ p → pos 0 <ℤ q → pos 0 <ℤ r → (a *ℤ q) ≤ℤ (b *ℤ p) → (b *ℤ r) ≤ℤ (c *ℤ q) → (a *ℤ r) ≤ℤ (c *ℤ p)
+pub ratio-trans : (a b c p q r : ℤ) → pos 0 <ℤ p → pos 0 <ℤ q → pos 0 <ℤ r → (a *ℤ q) ≤ℤ (b *ℤ p) → (b *ℤ r) ≤ℤ (c *ℤ q) → (a *ℤ r) ≤ℤ (c *ℤ p)
 ratio-trans a b c p q r hp hq hr e f =
     cancel-le q (a *ℤ r) (c *ℤ p) hq
     (chain (q *ℤ (a *ℤ r)) (r *ℤ (a *ℤ q)) (r *ℤ (b *ℤ p)) (p *ℤ (b *ℤ r)) (p *ℤ (c *ℤ q)) (q *ℤ (c *ℤ p))

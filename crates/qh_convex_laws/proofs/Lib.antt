@@ -7,3 +7,4 @@ pub mod Perturbed
 pub mod Lowest
 pub mod OffPoints
 pub mod NoneAbove
+pub mod Ascents

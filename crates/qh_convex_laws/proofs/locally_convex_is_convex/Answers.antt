@@ -1,4 +1,5 @@
 use Rattle.qh_convex_laws.proofs.Directions.{met_alike}
+use Rattle.qh_convex_laws.proofs.Ascents.{ascent}
 use Rattle.qh_convex_laws.proofs.NoneAbove.{none_above}
 use Rattle.qh_convex_laws.proofs.OffPoints.{off_all}
 use Rattle.qh_convex_laws.proofs.Lowest.{greatest_is_met}
