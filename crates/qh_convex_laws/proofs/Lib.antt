@@ -4,7 +4,7 @@ pub mod Rounds
 pub mod Directions
 pub mod Greatest
 pub mod Perturbed
-pub mod Lowest
+pub mod Walks
 pub mod OffPoints
 pub mod NoneAbove
 pub mod Ascents

@@ -21,7 +21,7 @@ use Rattle.qh_convex_laws.proofs.Directions.{met_alike}
 use Rattle.qh_convex_laws.proofs.Greatest.{IsGreatest, greatest, only_one}
 use Rattle.qh_convex_laws.proofs.Perturbed.{AllUp, Rises, risen}
 use Rattle.qh_convex_laws.proofs.OffPoints.{plus, minus-plus, vol-plus, PointOff, off_all}
-use Rattle.qh_convex_laws.proofs.Lowest.{rise, depth, height}
+use Rattle.qh_convex_laws.proofs.Walks.{rise, depth, height}
 
 -- ---- forms of directions from z
 -- the sum of three points, seen from z

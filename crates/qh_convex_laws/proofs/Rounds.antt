@@ -15,7 +15,7 @@ use Rattle.std.proofs.Common.{◌⊎◌, inl, inr}
 
 -- ---- identities
 -- two edges that meet at b
-turn_product : (z a b c d x : Vector) → vol z a b d *ℤ vol z b c x -ℤ vol z a b x *ℤ vol z b c d ≡ vol z a b c *ℤ vol z b d x
+pub turn_product : (z a b c d x : Vector) → vol z a b d *ℤ vol z b c x -ℤ vol z a b x *ℤ vol z b c d ≡ vol z a b c *ℤ vol z b d x
 unfolding vol cross
 turn_product z a b c d x =
     ring (put (minus a z) (put (minus b z) (put (minus c z) (put (minus d z) (put (minus x z) [])))))

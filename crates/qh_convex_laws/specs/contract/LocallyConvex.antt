@@ -1,6 +1,6 @@
 -- Locally convex surfaces: closed surfaces that turn inwards at each edge and go round a place just once.
 -- Source: Mehlhorn, Naeher, Seel, Seidel, Schilz, Schirra and Uhrig 1999 (checking geometric programs).
-use Rattle.std.specs.Prelude.{ℕ, ◌≡◌, ◌⊎◌, ◌&&◌, Bool, List, count_by, pos, int_lt, ◌<ℤ◌}
+use Rattle.std.specs.Prelude.{ℕ, ◌≡◌, ◌⊎◌, ◌&&◌, Bool, List, count_by, pos, int_lt, ◌≤ℤ◌, ◌<ℤ◌}
 use Rattle.qh_model.specs.headline.Vector.{Vector}
 use Rattle.qh_model.specs.headline.Predicates.{vol}
 use Rattle.qh_model.specs.headline.Sets.{In}
@@ -11,13 +11,13 @@ abbrev pub IsRound : Triple → ℕ → ℕ → ℕ → Type 0
 IsRound t u v w =
     ((t.i ≡ u) × (t.j ≡ v) × (t.k ≡ w)) ⊎ ((t.j ≡ u) × (t.k ≡ v) × (t.i ≡ w)) ⊎ ((t.k ≡ u) × (t.i ≡ v) × (t.j ≡ w))
 
--- a triangle of the list on the other side of the edge from u to v of t, with its third corner strictly below t
+-- a triangle of the list on the other side of the edge from u to v of t, with its third corner not above t
 pub record HasLowNeighbour (at : ℕ → Vector) (ts : List Triple) (t : Triple) (u v : ℕ) : Type 0 where
   pub next : Triple
   pub there : In next ts
   pub third : ℕ
   pub round : IsRound next v u third
-  pub below : vol (at t.i) (at t.j) (at t.k) (at third) <ℤ pos 0
+  pub below : vol (at t.i) (at t.j) (at t.k) (at third) ≤ℤ pos 0
 
 -- t has such a neighbour over each edge
 pub record IsConvexAround (at : ℕ → Vector) (ts : List Triple) (t : Triple) : Type 0 where
