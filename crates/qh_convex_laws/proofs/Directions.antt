@@ -8,11 +8,14 @@ use Rattle.qh_model.specs.headline.Sets.{In}
 use Rattle.qh_model.specs.contract.ClosedSurface.{Triple, edges, IsClosed}
 use Rattle.qh_model.proofs.closed_surfaces.Sums.{sum_z, count}
 use Rattle.qh_model.proofs.closed_surfaces.SignedVolume.{back, edges-cancel}
-use Rattle.qh_model.proofs.algebra.VectorIdentities.{vec, put, volE, detE}
-use Rattle.qh_convex_laws.specs.contract.LocallyConvex.{is_met, IsOffEdges}
+use Rattle.qh_convex_laws.specs.contract.LocallyConvex.{is_met}
 use Rattle.qh_convex_laws.proofs.Signs.{above, above-neg}
 use Rattle.qh_convex_laws.proofs.Crossings.{crosses, part, parts_add}
 use Rattle.qh_convex_laws.proofs.Rounds.{round_fits, flip_round}
+
+-- no edge of the triangles is in one plane with z and d
+abbrev pub IsOffEdges : (ℕ → Vector) → List Triple → Vector → Vector → Type 0
+IsOffEdges at ts z d = (e : ℕ × ℕ) → In e (edges ts) → ¬ (vol z (at e.0) (at e.1) d ≡ pos 0)
 
 module _ (at : ℕ → Vector) (z d x : Vector) where
   abbrev turn : Vector → (ℕ × ℕ) → Bool
@@ -36,7 +39,7 @@ module _ (at : ℕ → Vector) (z d x : Vector) where
       plain : (a b : ℤ) → b -ℤ a ≡ neg_ℤ (a -ℤ b)
       plain a b = omega (arith, ints)
 
-  -- e is in one plane with z and d, or x, or its first corner is in one with z, d and x
+  -- e is in no plane with z and d, or x, and its first corner in none with z, d and x
   record IsClear (e : ℕ × ℕ) : Type 0 where
     first : ¬ (vol z (at e.0) (at e.1) d ≡ pos 0)
     second : ¬ (vol z (at e.0) (at e.1) x ≡ pos 0)

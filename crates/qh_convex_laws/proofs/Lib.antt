@@ -8,3 +8,6 @@ pub mod Walks
 pub mod OffPoints
 pub mod NoneAbove
 pub mod Ascents
+pub mod Rays
+pub mod UnderTriangles
+pub mod Convex

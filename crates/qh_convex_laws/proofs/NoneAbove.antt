@@ -14,14 +14,14 @@ use Rattle.qh_model.proofs.algebra.Ring.Expr.{var, add, sub as less, mul, neg}
 use Rattle.qh_model.proofs.algebra.Order.{mul-pos}
 use Rattle.qh_model.proofs.algebra.VectorIdentities.{VE, vec, put, subE, crossE, dotE, detE, vol-dot, vol-first, vol-second, vol-third}
 use Rattle.qh_model.proofs.closed_surfaces.Sums.{count}
-use Rattle.qh_convex_laws.specs.contract.LocallyConvex.{is_met, IsOffEdges, IsConvexAround}
+use Rattle.qh_convex_laws.specs.contract.LocallyConvex.{is_met}
 use Rattle.qh_convex_laws.proofs.Signs.{above, is_above}
 use Rattle.qh_convex_laws.proofs.Rounds.{vol-round, vol-outwards}
-use Rattle.qh_convex_laws.proofs.Directions.{met_alike}
-use Rattle.qh_convex_laws.proofs.Greatest.{IsGreatest, greatest, only_one}
+use Rattle.qh_convex_laws.proofs.Directions.{IsOffEdges, met_alike}
+use Rattle.qh_convex_laws.proofs.Greatest.{only_one}
 use Rattle.qh_convex_laws.proofs.Perturbed.{AllUp, Rises, risen}
 use Rattle.qh_convex_laws.proofs.OffPoints.{plus, minus-plus, vol-plus, PointOff, off_all}
-use Rattle.qh_convex_laws.proofs.Walks.{rise, depth, height}
+use Rattle.qh_convex_laws.proofs.Walks.{rise, depth, height, HighestMet}
 
 -- ---- forms of directions from z
 -- the sum of three points, seen from z
@@ -33,21 +33,21 @@ abbrev plusE : VE → VE → VE
 plusE p q = record { x = add p.x q.x; y = add p.y q.y; z = add p.z q.z }
 
 -- it is inside of the first edge
-middle-first : (z a b c : Vector) → dot (cross z a b) (middle z a b c) ≡ vol z a b c
+pub middle-first : (z a b c : Vector) → dot (cross z a b) (middle z a b c) ≡ vol z a b c
 unfolding vol cross
 middle-first z a b c =
     ring (put (minus a z) (put (minus b z) (put (minus c z) [])))
     (dotE (crossE (vec 0) (vec 1)) (plusE (plusE (vec 0) (vec 1)) (vec 2))) (detE (vec 0) (vec 1) (vec 2)) refl
 
 -- of the second
-middle-second : (z a b c : Vector) → dot (cross z b c) (middle z a b c) ≡ vol z a b c
+pub middle-second : (z a b c : Vector) → dot (cross z b c) (middle z a b c) ≡ vol z a b c
 unfolding vol cross
 middle-second z a b c =
     ring (put (minus a z) (put (minus b z) (put (minus c z) [])))
     (dotE (crossE (vec 1) (vec 2)) (plusE (plusE (vec 0) (vec 1)) (vec 2))) (detE (vec 0) (vec 1) (vec 2)) refl
 
 -- and of the third
-middle-third : (z a b c : Vector) → dot (cross z c a) (middle z a b c) ≡ vol z a b c
+pub middle-third : (z a b c : Vector) → dot (cross z c a) (middle z a b c) ≡ vol z a b c
 unfolding vol cross
 middle-third z a b c =
     ring (put (minus a z) (put (minus b z) (put (minus c z) [])))
@@ -69,7 +69,7 @@ dot-balance p n q m y =
     (less (mul (var 9) (dotE (vec 0) (vec 2))) (mul (var 10) (dotE (vec 1) (vec 2)))) refl
 
 -- the volume with a point by its direction from z
-vol-from : (a b c z q : Vector) → vol a b c q ≡ dot (cross a b c) (minus q z) +ℤ vol a b c z
+pub vol-from : (a b c z q : Vector) → vol a b c q ≡ dot (cross a b c) (minus q z) +ℤ vol a b c z
 vol-from a b c z q = vol-dot a b c q ∙ linear (cross a b c) ∙ ap (λ v. dot (cross a b c) (minus q z) +ℤ v) (sym (vol-dot a b c z))
   where
     linear : (n : Vector) → dot n (minus q a) ≡ dot n (minus q z) +ℤ dot n (minus z a)
@@ -78,10 +78,6 @@ vol-from a b c z q = vol-dot a b c q ∙ linear (cross a b c) ∙ ap (λ v. dot 
         (add (dotE (vec 0) (subE (vec 1) (vec 2))) (dotE (vec 0) (subE (vec 2) (vec 3)))) refl
 
 module _ (at : ℕ → Vector) (z : Vector) (ts : List Triple) (inside : (t : Triple) → In t ts → rise at t z <ℤ pos 0) where
-  -- a triangle that is highest at x for its depth, and met in the direction of x
-  abbrev pub HighestMet : Vector → Type 0
-  HighestMet x = (g : Triple) × In g ts × IsGreatest (height at z x ts) (depth at z x ts) g ts × (is_met at z x g ≡ true)
-
   -- the normal of a triangle
   abbrev normal : Triple → Vector
   normal t = cross (at t.i) (at t.j) (at t.k)
@@ -139,7 +135,7 @@ module _ (at : ℕ → Vector) (z : Vector) (ts : List Triple) (inside : (t : Tr
     level : rise at s l ≡ pos 0
 
   -- z is behind s
-  outwards : (s : Triple) → In s ts → pos 0 <ℤ vol z (at s.i) (at s.j) (at s.k)
+  pub outwards : (s : Triple) → In s ts → pos 0 <ℤ vol z (at s.i) (at s.j) (at s.k)
   outwards s i = turned (vol z (at s.i) (at s.j) (at s.k)) (rise at s z) (vol-outwards z (at s.i) (at s.j) (at s.k)) (inside s i)
     where
       turned : (v w : ℤ) → v ≡ neg_ℤ w → w <ℤ pos 0 → pos 0 <ℤ v
@@ -221,7 +217,7 @@ module _ (at : ℕ → Vector) (z : Vector) (ts : List Triple) (inside : (t : Tr
 
   -- so no corner is above a triangle
   pub none_above : IsClosed ts → (d : Vector) → IsOffEdges at ts z d → count (is_met at z d) ts ≤ 1
-      → ((x : Vector) → IsOffEdges at ts z x → HighestMet x)
+      → ((x : Vector) → IsOffEdges at ts z x → HighestMet at z x ts)
       → (l : ℕ) → IsCornerOf ts l → (t : Triple) → In t ts → rise at t (at l) ≤ℤ pos 0
   none_above closed d apart once highest l (s, i, m) t j = by_lt_z (pos 0) (rise at t (at l)) (λ h. absurd (start h)) (λ h. h)
     where
@@ -229,7 +225,7 @@ module _ (at : ℕ → Vector) (z : Vector) (ts : List Triple) (inside : (t : Tr
       less_both a b h k = omega (arith, ints)
 
       -- two are met in one direction
-      two : (y : Vector) → AllUp (forms s t) y → count (is_met at z (plus z y)) ts ≤ 1 → HighestMet (plus z y) → ⊥
+      two : (y : Vector) → AllUp (forms s t) y → count (is_met at z (plus z y)) ts ≤ 1 → HighestMet at z (plus z y) ts → ⊥
       two y up one (g, there, top, met) =
           less_both (height at z (plus z y) ts s *ℤ depth at z (plus z y) ts t) (height at z (plus z y) ts t *ℤ depth at z (plus z y) ts s)
           (higher_there s t y up)

@@ -8,7 +8,7 @@ use Rattle.qh_model.specs.headline.Sets.{In}
 use Rattle.qh_model.specs.contract.ClosedSurface.{Triple, edges}
 use Rattle.qh_model.proofs.lists.{Images.in_map, Images.of_map, Joined.in_append, Joined.of_append}
 use Rattle.qh_model.proofs.algebra.VectorIdentities.{vector_path, vol-dot, in_line-vol, vol-swap_last}
-use Rattle.qh_convex_laws.specs.contract.LocallyConvex.{IsOffEdges}
+use Rattle.qh_convex_laws.proofs.Directions.{IsOffEdges}
 use Rattle.qh_convex_laws.proofs.Perturbed.{AllUp, AllOff, Perturbed, perturbed}
 use Rattle.qh_convex_laws.proofs.Rounds.{vol-round, vol-outwards}
 

@@ -14,7 +14,8 @@ use Rattle.qh_model.proofs.algebra.Order.{mul-nonpos, mul-pos, mul-pos_neg}
 use Rattle.qh_model.proofs.algebra.Signs.{less_le}
 use Rattle.qh_model.proofs.algebra.Integers.{mul_comm}
 use Rattle.qh_model.proofs.algebra.VectorIdentities.{vec, put, volE, edge_product, vol-flip}
-use Rattle.qh_convex_laws.specs.contract.LocallyConvex.{IsRound, HasLowNeighbour, IsConvexAround, is_met, IsOffEdges}
+use Rattle.qh_convex_laws.specs.contract.LocallyConvex.{IsRound, HasLowNeighbour, IsConvexAround, is_met}
+use Rattle.qh_convex_laws.proofs.Directions.{IsOffEdges}
 use Rattle.qh_convex_laws.proofs.Signs.{above, above_is, below_is, above-neg}
 use Rattle.qh_convex_laws.proofs.Crossings.{signs_fit, GoesOn, goes_on, Begins, begins}
 use Rattle.qh_convex_laws.proofs.Rounds.{round_fits, flip_round, turn_product, vol-round, vol-outwards}
@@ -55,6 +56,10 @@ module _ (at : ℕ → Vector) where
     -- how far x is above t
     abbrev pub height : Triple → ℤ
     height t = rise t x
+
+    -- a triangle that is highest at x for its depth, and met in the direction of x
+    abbrev pub HighestMet : Type 0
+    HighestMet = (g : Triple) × In g ts × IsGreatest height depth g ts × (is_met at z x g ≡ true)
 
     -- past an edge of t, x is higher above the neighbour there
     past_edge : (t : Triple) (u v w : ℕ) → IsRound t u v w → (n : HasLowNeighbour at ts t u v)
@@ -119,10 +124,6 @@ edge_of ts t i u v w (inr (inr (p, q, r))) = subst (λ a. In (a, v) (edges ts)) 
 -- ---- the walk from q to x over triangles that are highest at x
 module _ (at : ℕ → Vector) (z : Vector) (ts : List Triple) (inside : (t : Triple) → In t ts → vol (at t.i) (at t.j) (at t.k) z <ℤ pos 0)
     (convex : (t : Triple) → In t ts → IsConvexAround at ts t) (x : Vector) (off : IsOffEdges at ts z x) where
-  -- a triangle that is highest at x for its depth, and met in the direction of x
-  abbrev pub HighestMet : Type 0
-  HighestMet = (g : Triple) × In g ts × IsGreatest (height at z x ts) (depth at z x ts) g ts × (is_met at z x g ≡ true)
-
   -- the neighbour over an edge
   over_round : (t : Triple) → In t ts → (u v w : ℕ) → IsRound t u v w → HasLowNeighbour at ts t u v
   over_round t i u v w (inl (p, q, r)) = subst (λ a. HasLowNeighbour at ts t a v) p (subst (λ b. HasLowNeighbour at ts t t.i b) q (convex t i).over_ij)
@@ -209,7 +210,7 @@ module _ (at : ℕ → Vector) (z : Vector) (ts : List Triple) (inside : (t : Tr
         up v h = omega (arith, ints)
 
     abbrev Goes : (ℕ × ℕ) → Type 0
-    Goes e = HighestMet ⊎ Next gone left_over IsExit HighestMet (edges ts) e
+    Goes e = (HighestMet at z x ts) ⊎ Next gone left_over IsExit (HighestMet at z x ts) (edges ts) e
 
     -- over the next triangle
     onwards : (e : ℕ × ℕ) → IsExit e → Goes e
@@ -293,15 +294,15 @@ module _ (at : ℕ → Vector) (z : Vector) (ts : List Triple) (inside : (t : Tr
 
     -- from a triangle that has q inside
     pub walked : (t : Triple) → In t ts → IsGreatest (height at z x ts) (depth at z x ts) t ts
-        → behind t.i t.j ≡ true → behind t.j t.k ≡ true → behind t.k t.i ≡ true → HighestMet
+        → behind t.i t.j ≡ true → behind t.j t.k ≡ true → behind t.k t.i ≡ true → (HighestMet at z x ts)
     walked t i g e f k =
         pick (begins (side t.i) (side t.j) (side t.k) (inwards t.i t.j) (inwards t.j t.k) (inwards t.k t.i) (behind t.i t.j) (behind t.j t.k) (behind t.k t.i)
         (signs_round t i t.i t.j t.k (inl (refl, refl, refl))) e f k)
       where
-        go : (e : ℕ × ℕ) → IsExit e → HighestMet
-        go = ascent gone left_over IsExit HighestMet (edges ts) positive onwards
+        go : (e : ℕ × ℕ) → IsExit e → (HighestMet at z x ts)
+        go = ascent gone left_over IsExit (HighestMet at z x ts) (edges ts) positive onwards
 
-        pick : Begins (side t.i) (side t.j) (side t.k) (inwards t.i t.j) (inwards t.j t.k) (inwards t.k t.i) → HighestMet
+        pick : Begins (side t.i) (side t.j) (side t.k) (inwards t.i t.j) (inwards t.j t.k) (inwards t.k t.i) → (HighestMet at z x ts)
         pick (inl m) = (t, i, g, m)
         pick (inr (inl (a, b, o))) = go (t.i, t.j) (record {
           t = t; there = i; w = t.k; round = inl (refl, refl, refl); top = g; left = a; right = b; out = o; back = e;

@@ -1,10 +1,15 @@
-//! The law by which a closed surface is shown to be convex: a look at each edge and one ray are enough.
+//! The laws by which a closed surface is shown to be the hull: a look at each edge and one ray are enough.
+//!
+//! They stand apart from the laws of `qh_model`: only a check of given triangles rests on them.
 #![tactic(auto)]
 
-ghost use Rattle.qh_convex_laws.specs.laws.ConvexLaws.{LocalIsConvex};
+ghost use Rattle.qh_convex_laws.specs.laws.ConvexLaws.{LocalIsConvex, UnderIsBelow, LocalSupports};
 
-/// A closed surface of triangles that turns inwards at each edge, has a place strictly below all its
-/// triangles, and is met just once in one direction from there, has no corner above any of its triangles.
+/// A closed surface of triangles that turns outwards at no edge, has a place strictly below all its triangles,
+/// and is met just once by a ray from there, has no corner above any of its triangles. So each triangle supports
+/// the corners, and each point that lies under one of the triangles is above none.
 pub fn locally_convex_is_convex()
-    ensures { LocalIsConvex }
+    ensures corners { LocalIsConvex }
+    ensures below { UnderIsBelow }
+    ensures support { LocalSupports }
 {}

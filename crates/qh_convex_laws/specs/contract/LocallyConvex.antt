@@ -1,10 +1,10 @@
--- Locally convex surfaces: closed surfaces that turn inwards at each edge and go round a place just once.
+-- Locally convex surfaces: closed surfaces that turn outwards at no edge and go round a place just once.
 -- Source: Mehlhorn, Naeher, Seel, Seidel, Schilz, Schirra and Uhrig 1999 (checking geometric programs).
-use Rattle.std.specs.Prelude.{ℕ, ◌≡◌, ◌⊎◌, ◌&&◌, Bool, List, count_by, pos, int_lt, ◌≤ℤ◌, ◌<ℤ◌}
+use Rattle.std.specs.Prelude.{ℕ, ◌≡◌, ◌⊎◌, ◌&&◌, Bool, true, List, count_by, pos, int_lt, ◌≤ℤ◌, ◌<ℤ◌}
 use Rattle.qh_model.specs.headline.Vector.{Vector}
 use Rattle.qh_model.specs.headline.Predicates.{vol}
 use Rattle.qh_model.specs.headline.Sets.{In}
-use Rattle.qh_model.specs.contract.ClosedSurface.{Triple, edges, IsClosed}
+use Rattle.qh_model.specs.contract.ClosedSurface.{Triple, IsClosed}
 
 -- the triangle is u, v, w, from one of its corners on
 abbrev pub IsRound : Triple → ℕ → ℕ → ℕ → Type 0
@@ -25,19 +25,29 @@ pub record IsConvexAround (at : ℕ → Vector) (ts : List Triple) (t : Triple) 
   pub over_jk : HasLowNeighbour at ts t t.j t.k
   pub over_ki : HasLowNeighbour at ts t t.k t.i
 
--- does the ray from z through d go through the inside of t, which has z strictly below?
+-- does the ray from z through d meet the inside of t, for a triangle with z strictly below?
 abbrev pub is_met : (ℕ → Vector) → Vector → Vector → Triple → Bool
 is_met at z d t =
     int_lt (pos 0) (vol z (at t.i) (at t.j) d) && (int_lt (pos 0) (vol z (at t.j) (at t.k) d) && int_lt (pos 0) (vol z (at t.k) (at t.i) d))
 
--- no edge of the triangles is in one plane with z and d
-abbrev pub IsOffEdges : (ℕ → Vector) → List Triple → Vector → Vector → Type 0
-IsOffEdges at ts z d = (e : ℕ × ℕ) → In e (edges ts) → ¬ (vol z (at e.0) (at e.1) d ≡ pos 0)
+-- the ray misses t with its edges: it is strictly outside of one of them
+abbrev pub IsMissed : (ℕ → Vector) → Vector → Vector → Triple → Type 0
+IsMissed at z d t = (vol z (at t.i) (at t.j) d <ℤ pos 0) ⊎ (vol z (at t.j) (at t.k) d <ℤ pos 0) ⊎ (vol z (at t.k) (at t.i) d <ℤ pos 0)
 
--- a closed surface that is convex at each edge, with z strictly below all triangles, met once from z through d
+-- a closed surface that turns outwards at no edge, with z strictly below all its triangles, of which the ray from z
+-- through d meets the inside of one, and misses all others
 pub record IsLocallyConvex (at : ℕ → Vector) (ts : List Triple) (z d : Vector) : Type 0 where
   pub closed : IsClosed ts
   pub inside : (t : Triple) → In t ts → vol (at t.i) (at t.j) (at t.k) z <ℤ pos 0
   pub convex : (t : Triple) → In t ts → IsConvexAround at ts t
-  pub apart : IsOffEdges at ts z d
+  pub told : (t : Triple) → In t ts → is_met at z d t ≡ true ⊎ IsMissed at z d t
   pub once : count_by (is_met at z d) ts ≡ 1
+
+-- p lies in the cone from z over a triangle of the list, and not above the triangle
+pub record IsUnder (at : ℕ → Vector) (ts : List Triple) (z p : Vector) : Type 0 where
+  pub t : Triple
+  pub there : In t ts
+  pub first : pos 0 ≤ℤ vol z (at t.i) (at t.j) p
+  pub second : pos 0 ≤ℤ vol z (at t.j) (at t.k) p
+  pub third : pos 0 ≤ℤ vol z (at t.k) (at t.i) p
+  pub below : vol (at t.i) (at t.j) (at t.k) p ≤ℤ pos 0

@@ -1,14 +1,26 @@
--- The law of locally convex surfaces.
-use Rattle.std.specs.Prelude.{ℕ, List, pos, ◌≤ℤ◌}
+-- The laws of locally convex surfaces.
+-- Source: Mehlhorn, Naeher, Seel, Seidel, Schilz, Schirra and Uhrig 1999 (checking geometric programs).
+use Rattle.std.specs.Prelude.{ℕ, List, ◌⊎◌, pos, ◌≤ℤ◌}
 use Rattle.qh_model.specs.headline.Vector.{Vector}
 use Rattle.qh_model.specs.headline.Predicates.{vol}
 use Rattle.qh_model.specs.headline.Sets.{In, Members}
-use Rattle.qh_model.specs.headline.SupportingPlane.{IsSupportingTriple}
 use Rattle.qh_model.specs.contract.ClosedSurface.{Triple, IsClosedSurface}
 use Rattle.qh_model.specs.laws.ClosedSurfaceLaws.{IsCornerOf}
-use Rattle.qh_convex_laws.specs.contract.LocallyConvex.{IsLocallyConvex}
+use Rattle.qh_model.specs.laws.ClosedFaceLaws.{AreSupporting}
+use Rattle.qh_convex_laws.specs.contract.LocallyConvex.{IsLocallyConvex, IsUnder}
 
 -- no corner of a locally convex surface is above a triangle of it
 abbrev pub LocalIsConvex : Type 0
 LocalIsConvex = (at : ℕ → Vector) (ts : List Triple) (z d : Vector) → IsLocallyConvex at ts z d
     → (l : ℕ) → IsCornerOf ts l → (t : Triple) → In t ts → vol (at t.i) (at t.j) (at t.k) (at l) ≤ℤ pos 0
+
+-- nor is a point above one that lies under a triangle
+abbrev pub UnderIsBelow : Type 0
+UnderIsBelow = (at : ℕ → Vector) (ts : List Triple) (z d : Vector) → IsLocallyConvex at ts z d
+    → (p : Vector) → IsUnder at ts z p → (t : Triple) → In t ts → vol (at t.i) (at t.j) (at t.k) p ≤ℤ pos 0
+
+-- so the triangles support a set that has all corners, and each other member under a triangle
+abbrev pub LocalSupports : Type 0
+LocalSupports = (at : ℕ → Vector) (ids : List ℕ) (ts : List Triple) (z d : Vector) → IsLocallyConvex at ts z d
+    → ((l : ℕ) → IsCornerOf ts l → In l ids) → ((l : ℕ) → In l ids → IsCornerOf ts l ⊎ IsUnder at ts z (at l))
+    → IsClosedSurface at ts × AreSupporting at (Members ids) ts
