@@ -1,12 +1,11 @@
 -- The laws of locally convex surfaces.
-use Rattle.std.proofs.Common.{◌≡◌, ℕ, ◌≤◌, refl, sym, ap, subst, ◌∙◌, arith, List, [], ◌∷◌, length, Bool, true, ◌⊎◌, inl, inr}
+use Rattle.std.proofs.Common.{◌≡◌, ℕ, ◌≤◌, refl, sym, subst, ◌∙◌, arith, List, [], ◌∷◌, length, true, ◌⊎◌, inl, inr}
 use Rattle.std.proofs.lemmas.Int.{ints}
 use Rattle.std.specs.Prelude.{ℤ, pos, neg_ℤ, count_by, ◌≤ℤ◌, ◌<ℤ◌}
 use Rattle.qh_model.specs.headline.Vector.{Vector, minus, dot}
 use Rattle.qh_model.specs.headline.Predicates.{cross, vol, AreInLine}
 use Rattle.qh_model.specs.headline.Sets.{In, Members}
-use Rattle.qh_model.specs.headline.SupportingPlane.{IsSupportingTriple}
-use Rattle.qh_model.specs.contract.ClosedSurface.{Triple, IsClosedSurface}
+use Rattle.qh_model.specs.contract.ClosedSurface.{Triple}
 use Rattle.qh_model.specs.laws.ClosedSurfaceLaws.{IsCornerOf}
 use Rattle.qh_model.specs.laws.ClosedFaceLaws.{AreSupporting}
 use Rattle.qh_model.proofs.algebra.{Signs.less_le, VectorIdentities.in_line-vol}
@@ -17,7 +16,7 @@ use Rattle.qh_convex_laws.proofs.Signs.{above, is_above}
 use Rattle.qh_convex_laws.proofs.Directions.{IsOffEdges}
 use Rattle.qh_convex_laws.proofs.Greatest.{IsGreatest, greatest}
 use Rattle.qh_convex_laws.proofs.Perturbed.{AllUp}
-use Rattle.qh_convex_laws.proofs.OffPoints.{plus, minus-plus, vol-plus, PointOff, PointOffEdges, off_all, off_edges}
+use Rattle.qh_convex_laws.proofs.OffPoints.{plus, vol-plus, PointOff, PointOffEdges, off_all, off_edges}
 use Rattle.qh_convex_laws.proofs.Walks.{rise, depth, height, HighestMet, walked}
 use Rattle.qh_convex_laws.proofs.NoneAbove.{middle, middle-first, middle-second, middle-third, outwards, none_above}
 use Rattle.qh_convex_laws.proofs.Rays.{Forms, MeetsSame, of_all, count-alike}

@@ -1,8 +1,8 @@
 -- How the edges of one triangle cross the way from d to x, by signs alone.
-use Rattle.std.proofs.Common.{◌≡◌, ℕ, ◌+◌, arith, refl, sym, ap, ◌∙◌, Bool, true, false, cond, eqb, not, ◌&&◌, ◌||◌, ◌⊎◌, inl, inr}
+use Rattle.std.proofs.Common.{◌≡◌, ℕ, ◌+◌, arith, refl, Bool, true, false, cond, eqb, not, ◌&&◌, ◌||◌, ◌⊎◌, inl, inr}
 use Rattle.std.proofs.lemmas.Int.{ints}
 use Rattle.std.proofs.lemmas.Bool.{eqb-true, and_parts, or_cases, not-true}
-use Rattle.std.specs.Prelude.{ℤ, pos, ◌+ℤ◌, ◌-ℤ◌, ◌*ℤ◌, neg_ℤ, int_lt, ◌≤ℤ◌, ◌<ℤ◌}
+use Rattle.std.specs.Prelude.{ℤ, pos, ◌+ℤ◌, ◌-ℤ◌}
 use Rattle.qh_convex_laws.proofs.Signs.{same, fits_difference, fits_sum}
 
 -- a test of both truth values

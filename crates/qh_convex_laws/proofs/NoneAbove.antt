@@ -1,15 +1,15 @@
 -- No corner of a locally convex surface is above a triangle of it: over a corner that were, a direction would meet two
 -- triangles, the corner's and one that is highest there.
-use Rattle.std.proofs.Common.{◌≡◌, ℕ, ◌≤◌, refl, sym, ap, subst, ◌∙◌, arith, List, [], ◌∷◌, Bool, true, false, ◌&&◌, ◌⊎◌, inl, inr}
+use Rattle.std.proofs.Common.{◌≡◌, ℕ, ◌≤◌, refl, sym, ap, subst, ◌∙◌, arith, List, [], ◌∷◌, true, inl, inr}
 use Rattle.std.proofs.lemmas.Int.{ints, by_lt_z}
 use Rattle.std.proofs.lemmas.Bool.{and_from}
 use Rattle.std.specs.Prelude.{ℤ, pos, ◌+ℤ◌, ◌-ℤ◌, ◌*ℤ◌, neg_ℤ, ◌≤ℤ◌, ◌<ℤ◌}
 use Rattle.qh_model.specs.headline.Vector.{Vector, minus, dot}
 use Rattle.qh_model.specs.headline.Predicates.{cross, vol}
 use Rattle.qh_model.specs.headline.Sets.{In}
-use Rattle.qh_model.specs.contract.ClosedSurface.{Triple, edges, IsClosed}
+use Rattle.qh_model.specs.contract.ClosedSurface.{Triple, IsClosed}
 use Rattle.qh_model.specs.laws.ClosedSurfaceLaws.{IsCornerOf}
-use Rattle.qh_model.proofs.algebra.Ring.{Expr, ring}
+use Rattle.qh_model.proofs.algebra.Ring.{ring}
 use Rattle.qh_model.proofs.algebra.Ring.Expr.{var, add, sub as less, mul, neg}
 use Rattle.qh_model.proofs.algebra.Order.{mul-pos}
 use Rattle.qh_model.proofs.algebra.VectorIdentities.{VE, vec, put, subE, crossE, dotE, detE, vol-dot, vol-first, vol-second, vol-third}

@@ -1,7 +1,7 @@
 -- Points near a given one that are off the planes through z and the edges of a surface.
 use Rattle.std.proofs.Common.{◌≡◌, ℕ, refl, sym, ap, subst, ◌∙◌, arith, List, [], ◌∷◌, ◌++◌, map, ◌⊎◌, inl, inr}
 use Rattle.std.proofs.lemmas.Int.{ints}
-use Rattle.std.specs.Prelude.{ℤ, pos, ◌+ℤ◌, ◌-ℤ◌, ◌*ℤ◌, neg_ℤ, ◌≤ℤ◌, ◌<ℤ◌}
+use Rattle.std.specs.Prelude.{ℤ, pos, ◌+ℤ◌, ◌-ℤ◌, neg_ℤ, ◌<ℤ◌}
 use Rattle.qh_model.specs.headline.Vector.{Vector, origin, minus, dot}
 use Rattle.qh_model.specs.headline.Predicates.{cross, vol, AreInLine}
 use Rattle.qh_model.specs.headline.Sets.{In}
@@ -9,7 +9,7 @@ use Rattle.qh_model.specs.contract.ClosedSurface.{Triple, edges}
 use Rattle.qh_model.proofs.lists.{Images.in_map, Images.of_map, Joined.in_append, Joined.of_append}
 use Rattle.qh_model.proofs.algebra.VectorIdentities.{vector_path, vol-dot, in_line-vol, vol-swap_last}
 use Rattle.qh_convex_laws.proofs.Directions.{IsOffEdges}
-use Rattle.qh_convex_laws.proofs.Perturbed.{AllUp, AllOff, Perturbed, perturbed}
+use Rattle.qh_convex_laws.proofs.Perturbed.{AllUp, Perturbed, perturbed}
 use Rattle.qh_convex_laws.proofs.Rounds.{vol-round, vol-outwards}
 
 -- z + y

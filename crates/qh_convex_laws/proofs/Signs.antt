@@ -1,7 +1,6 @@
 -- Signs of whole numbers as tests, and what the signs round a triangle can be.
-use Rattle.std.proofs.Common.{◌≡◌, ℕ, ◌+◌, arith, refl, sym, ap, ◌∙◌, Bool, true, false, cond, eqb, not, ◌&&◌, ◌||◌}
+use Rattle.std.proofs.Common.{◌≡◌, arith, refl, Bool, true, false, not, ◌&&◌, ◌||◌}
 use Rattle.std.proofs.lemmas.Int.{ints}
-use Rattle.std.proofs.lemmas.Bool.{eqb-true}
 use Rattle.std.specs.Prelude.{ℤ, pos, ◌+ℤ◌, ◌-ℤ◌, ◌*ℤ◌, neg_ℤ, int_lt, ◌≤ℤ◌, ◌<ℤ◌}
 use Rattle.qh_model.proofs.algebra.Order.{mul-pos, mul-pos_neg, mul-neg_pos, mul-neg_neg, le_less}
 

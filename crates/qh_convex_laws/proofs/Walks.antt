@@ -1,10 +1,10 @@
 -- A triangle that is highest along a direction, for its distance from z, is met in that direction: a walk over the highest
 -- triangles, from a place inside one of them, comes to it.
 use Rattle.std.proofs.Common.{◌≡◌, ℕ, refl, sym, ap, subst, ◌∙◌, arith, List, [], ◌∷◌, Bool, true, false, not, ◌&&◌, ◌⊎◌, inl, inr}
-use Rattle.std.proofs.lemmas.Int.{ints, by_lt_z}
+use Rattle.std.proofs.lemmas.Int.{ints}
 use Rattle.std.proofs.lemmas.Bool.{and_parts}
-use Rattle.std.specs.Prelude.{ℤ, pos, ◌+ℤ◌, ◌-ℤ◌, ◌*ℤ◌, neg_ℤ, ◌≤ℤ◌, ◌<ℤ◌}
-use Rattle.qh_model.specs.headline.Vector.{Vector, minus}
+use Rattle.std.specs.Prelude.{ℤ, pos, ◌-ℤ◌, ◌*ℤ◌, neg_ℤ, ◌≤ℤ◌, ◌<ℤ◌}
+use Rattle.qh_model.specs.headline.Vector.{Vector}
 use Rattle.qh_model.specs.headline.Predicates.{cross, vol}
 use Rattle.qh_model.specs.headline.Sets.{In}
 use Rattle.qh_model.specs.contract.ClosedSurface.{Triple, edges}
@@ -284,13 +284,19 @@ module _ (at : ℕ → Vector) (z : Vector) (ts : List Triple) (inside : (t : Tr
             pick : GoesOn (side n.third) (inwards u n.third) (inwards n.third v) (behind u n.third) (behind n.third v) → Goes (u, v)
             pick (inl e) = let p = and_parts _ _ e in inl (n.next, n.there, top, met_round n.next v u n.third n.round entered p.0 p.1)
             pick (inr (inl (c, o, b))) =
-                inr ((u, n.third), edge_of ts n.next n.there u n.third v second,
-                record { t = n.next; there = n.there; w = v; round = second; top = top; left = h.left; right = c; out = o; back = b },
-                farther_second (above_is (vol z (at u) x q) h.left))
+                inr (
+                  (u, n.third),
+                  edge_of ts n.next n.there u n.third v second,
+                  record { t = n.next; there = n.there; w = v; round = second; top = top; left = h.left; right = c; out = o; back = b },
+                  farther_second (above_is (vol z (at u) x q) h.left),
+                )
             pick (inr (inr (c, o, b))) =
-                inr ((n.third, v), edge_of ts n.next n.there n.third v u third,
-                record { t = n.next; there = n.there; w = u; round = third; top = top; left = c; right = h.right; out = o; back = b },
-                farther_third (below_is (vol z (at v) x q) (corners (v, u) (edge_of ts n.next n.there v u n.third n.round)) h.right))
+                inr (
+                  (n.third, v),
+                  edge_of ts n.next n.there n.third v u third,
+                  record { t = n.next; there = n.there; w = u; round = third; top = top; left = c; right = h.right; out = o; back = b },
+                  farther_third (below_is (vol z (at v) x q) (corners (v, u) (edge_of ts n.next n.there v u n.third n.round)) h.right),
+                )
 
     -- from a triangle that has q inside
     pub walked : (t : Triple) → In t ts → IsGreatest (height at z x ts) (depth at z x ts) t ts
@@ -305,11 +311,35 @@ module _ (at : ℕ → Vector) (z : Vector) (ts : List Triple) (inside : (t : Tr
         pick : Begins (side t.i) (side t.j) (side t.k) (inwards t.i t.j) (inwards t.j t.k) (inwards t.k t.i) → (HighestMet at z x ts)
         pick (inl m) = (t, i, g, m)
         pick (inr (inl (a, b, o))) = go (t.i, t.j) (record {
-          t = t; there = i; w = t.k; round = inl (refl, refl, refl); top = g; left = a; right = b; out = o; back = e;
+          t = t;
+          there = i;
+          w = t.k;
+          round = inl (refl, refl, refl);
+          top = g;
+          left = a;
+          right = b;
+          out = o;
+          back = e;
         })
         pick (inr (inr (inl (a, b, o)))) = go (t.j, t.k) (record {
-          t = t; there = i; w = t.i; round = inr (inl (refl, refl, refl)); top = g; left = a; right = b; out = o; back = f;
+          t = t;
+          there = i;
+          w = t.i;
+          round = inr (inl (refl, refl, refl));
+          top = g;
+          left = a;
+          right = b;
+          out = o;
+          back = f;
         })
         pick (inr (inr (inr (a, b, o)))) = go (t.k, t.i) (record {
-          t = t; there = i; w = t.j; round = inr (inr (refl, refl, refl)); top = g; left = a; right = b; out = o; back = k;
+          t = t;
+          there = i;
+          w = t.j;
+          round = inr (inr (refl, refl, refl));
+          top = g;
+          left = a;
+          right = b;
+          out = o;
+          back = k;
         })
