@@ -10,7 +10,7 @@ use Rattle.qh_convex_laws.proofs.Signs.{above, above_is, is_above}
 use Rattle.qh_convex_laws.proofs.Greatest.{ratio-trans}
 
 -- ---- tests that are told apart by a member
--- at most as many pass the narrower test
+-- no more pass the narrower test
 fewer_le : {X : Type 0} (p q : X → Bool) → ((x : X) → q x ≡ true → p x ≡ true) → (xs : List X) → count q xs ≤ count p xs
 fewer_le p q h [] = omega arith
 fewer_le p q h (x ∷ xs) = plain (q x) (p x) (count q xs) (count p xs) (h x) (fewer_le p q h xs)

@@ -17,7 +17,8 @@ use Rattle.qh_convex_laws.proofs.Directions.{IsOffEdges}
 use Rattle.qh_convex_laws.proofs.Greatest.{IsGreatest, greatest}
 use Rattle.qh_convex_laws.proofs.Perturbed.{AllUp}
 use Rattle.qh_convex_laws.proofs.OffPoints.{plus, vol-plus, PointOff, PointOffEdges, off_all, off_edges}
-use Rattle.qh_convex_laws.proofs.Walks.{rise, depth, height, HighestMet, walked}
+use Rattle.qh_convex_laws.proofs.Highest.{rise, depth, height, HighestMet}
+use Rattle.qh_convex_laws.proofs.Walks.{walked}
 use Rattle.qh_convex_laws.proofs.NoneAbove.{middle, middle-first, middle-second, middle-third, outwards, none_above}
 use Rattle.qh_convex_laws.proofs.Rays.{Forms, MeetsSame, of_all, count-alike}
 use Rattle.qh_convex_laws.proofs.UnderTriangles.{under_is_below}

@@ -61,7 +61,8 @@ in_each f e a b c u₁ u₂ u₃ v₁ v₂ v₃ =
     (each (λ u. both (λ v. both (λ w. both (λ x. both (λ y. both (λ z. f a b c u v w x y z))))))
     (each (λ t. both (λ u. both (λ v. both (λ w. both (λ x. both (λ y. both (λ z. f a b t u v w x y z)))))))
     (each (λ s. both (λ t. both (λ u. both (λ v. both (λ w. both (λ x. both (λ y. both (λ z. f a s t u v w x y z))))))))
-    (each (λ r. both (λ s. both (λ t. both (λ u. both (λ v. both (λ w. both (λ x. both (λ y. both (λ z. f r s t u v w x y z))))))))) e a) b) c) u₁) u₂) u₃) v₁) v₂) v₃
+    (each (λ r. both (λ s. both (λ t. both (λ u. both (λ v. both (λ w. both (λ x. both (λ y. both (λ z. f r s t u v w x y z)))))))))
+    e a) b) c) u₁) u₂) u₃) v₁) v₂) v₃
 
 -- an edge's part in the count
 abbrev pub part : Bool → Bool → Bool → Bool → ℤ

@@ -82,7 +82,7 @@ module _ (at : ℕ → Vector) (z d x : Vector) where
           → a +ℤ (b +ℤ (c +ℤ s)) ≡ pos (m + k) -ℤ pos (n + l)
       plain a b c s m n k l e f = omega (arith, ints)
 
-  -- as many are met in both directions
+  -- the same number is met in both directions
   pub met_alike : (ts : List Triple) → IsClosed ts → ((t : Triple) → In t ts → vol (at t.i) (at t.j) (at t.k) z <ℤ pos 0)
       → IsOffEdges at ts z d → IsOffEdges at ts z x → ((e : ℕ × ℕ) → In e (edges ts) → ¬ (vol z (at e.0) d x ≡ pos 0))
       → count (is_met at z d) ts ≡ count (is_met at z x) ts

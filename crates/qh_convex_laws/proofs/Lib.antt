@@ -4,6 +4,7 @@ pub mod Rounds
 pub mod Directions
 pub mod Greatest
 pub mod Perturbed
+pub mod Highest
 pub mod Walks
 pub mod OffPoints
 pub mod NoneAbove

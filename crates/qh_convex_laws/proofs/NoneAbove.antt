@@ -21,7 +21,7 @@ use Rattle.qh_convex_laws.proofs.Directions.{IsOffEdges, met_alike}
 use Rattle.qh_convex_laws.proofs.Greatest.{only_one}
 use Rattle.qh_convex_laws.proofs.Perturbed.{AllUp, Rises, risen}
 use Rattle.qh_convex_laws.proofs.OffPoints.{plus, minus-plus, vol-plus, PointOff, off_all}
-use Rattle.qh_convex_laws.proofs.Walks.{rise, depth, height, HighestMet}
+use Rattle.qh_convex_laws.proofs.Highest.{rise, depth, height, HighestMet}
 
 -- ---- forms of directions from z
 -- the sum of three points, seen from z
@@ -109,10 +109,10 @@ module _ (at : ℕ → Vector) (z : Vector) (ts : List Triple) (inside : (t : Tr
       → (height at z (plus z y) ts s *ℤ depth at z (plus z y) ts t) <ℤ (height at z (plus z y) ts t *ℤ depth at z (plus z y) ts s)
   higher_there s t y up =
       plain (dot (over s t) y) (rise at s z) (rise at t z) (rise at s (plus z y)) (rise at t (plus z y)) (dot (normal s) y) (dot (normal t) y)
-      (dot-balance (sunk s) (normal t) (sunk t) (normal s) y) (raised s) (raised t) (up (over s t) (inr (inr (inr (inl refl)))))
+      (dot-balance (sunk s) (normal t) (sunk t) (normal s) y) (risen_from s) (risen_from t) (up (over s t) (inr (inr (inr (inl refl)))))
     where
-      raised : (r : Triple) → rise at r (plus z y) ≡ dot (normal r) y +ℤ rise at r z
-      raised r = vol-from (at r.i) (at r.j) (at r.k) z (plus z y) ∙ ap (λ v. dot (normal r) v +ℤ rise at r z) (minus-plus z y)
+      risen_from : (r : Triple) → rise at r (plus z y) ≡ dot (normal r) y +ℤ rise at r z
+      risen_from r = vol-from (at r.i) (at r.j) (at r.k) z (plus z y) ∙ ap (λ v. dot (normal r) v +ℤ rise at r z) (minus-plus z y)
 
       same : (a b p q : ℤ) → (q +ℤ b) *ℤ neg_ℤ a -ℤ (p +ℤ a) *ℤ neg_ℤ b ≡ neg_ℤ a *ℤ q -ℤ neg_ℤ b *ℤ p
       same a b p q =
@@ -205,13 +205,20 @@ module _ (at : ℕ → Vector) (z : Vector) (ts : List Triple) (inside : (t : Tr
       rises =
           inl (subst (λ v. pos 0 <ℤ v)
           (same (dot (over s t) (minus l z)) (rise at s z) (rise at t z) (dot (normal s) (minus l z)) (dot (normal t) (minus l z)) (rise at s l) (rise at t l)
-          (dot-balance (sunk s) (normal t) (sunk t) (normal s) (minus l z)) (vol-from (at s.i) (at s.j) (at s.k) z l) (vol-from (at t.i) (at t.j) (at t.k) z l) m.level)
+          (dot-balance (sunk s) (normal t) (sunk t) (normal s) (minus l z)) (vol-from (at s.i) (at s.j) (at s.k) z l)
+          (vol-from (at t.i) (at t.j) (at t.k) z l) m.level)
           (mul-pos (neg_ℤ (rise at s z)) (rise at t l) (up (rise at s z) (inside s i)) h))
 
       each : (p : Vector) → In p (forms s t) → Rises p (minus l z) (middle z (at s.i) (at s.j) (at s.k))
-      each p (inl e) = subst (λ q. Rises q (minus l z) (middle z (at s.i) (at s.j) (at s.k))) (sym e) (edge (at s.i) (at s.j) m.first (middle-first z (at s.i) (at s.j) (at s.k)))
-      each p (inr (inl e)) = subst (λ q. Rises q (minus l z) (middle z (at s.i) (at s.j) (at s.k))) (sym e) (edge (at s.j) (at s.k) m.second (middle-second z (at s.i) (at s.j) (at s.k)))
-      each p (inr (inr (inl e))) = subst (λ q. Rises q (minus l z) (middle z (at s.i) (at s.j) (at s.k))) (sym e) (edge (at s.k) (at s.i) m.third (middle-third z (at s.i) (at s.j) (at s.k)))
+      each p (inl e) =
+          subst (λ q. Rises q (minus l z) (middle z (at s.i) (at s.j) (at s.k))) (sym e)
+          (edge (at s.i) (at s.j) m.first (middle-first z (at s.i) (at s.j) (at s.k)))
+      each p (inr (inl e)) =
+          subst (λ q. Rises q (minus l z) (middle z (at s.i) (at s.j) (at s.k))) (sym e)
+          (edge (at s.j) (at s.k) m.second (middle-second z (at s.i) (at s.j) (at s.k)))
+      each p (inr (inr (inl e))) =
+          subst (λ q. Rises q (minus l z) (middle z (at s.i) (at s.j) (at s.k))) (sym e)
+          (edge (at s.k) (at s.i) m.third (middle-third z (at s.i) (at s.j) (at s.k)))
       each p (inr (inr (inr (inl e)))) = subst (λ q. Rises q (minus l z) (middle z (at s.i) (at s.j) (at s.k))) (sym e) rises
       each p (inr (inr (inr (inr x)))) = absurd x
 

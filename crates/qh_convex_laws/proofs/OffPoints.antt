@@ -112,10 +112,10 @@ module _ (at : ℕ → Vector) (z : Vector) (ts : List Triple) (inside : (t : Tr
         where
           edge : IsOffEdges at ts z (plus z y)
           edge e i f =
-              off (edge_normal e) (in_append (map edge_normal (edges ts)) (map (corner_normal d) (edges ts)) (edge_normal e) (inl (in_map edge_normal (edges ts) e i)))
-              (sym (vol-plus z (at e.0) (at e.1) y) ∙ f)
+              off (edge_normal e) (in_append (map edge_normal (edges ts)) (map (corner_normal d) (edges ts)) (edge_normal e)
+              (inl (in_map edge_normal (edges ts) e i))) (sym (vol-plus z (at e.0) (at e.1) y) ∙ f)
 
           corner : IsOffCorners d (plus z y)
           corner e i f =
-              off (corner_normal d e) (in_append (map edge_normal (edges ts)) (map (corner_normal d) (edges ts)) (corner_normal d e) (inr (in_map (corner_normal d) (edges ts) e i)))
-              (sym (vol-plus z (at e.0) d y) ∙ f)
+              off (corner_normal d e) (in_append (map edge_normal (edges ts)) (map (corner_normal d) (edges ts)) (corner_normal d e)
+              (inr (in_map (corner_normal d) (edges ts) e i))) (sym (vol-plus z (at e.0) d y) ∙ f)

@@ -19,7 +19,7 @@ pub record HasLowNeighbour (at : ℕ → Vector) (ts : List Triple) (t : Triple)
   pub round : IsRound next v u third
   pub below : vol (at t.i) (at t.j) (at t.k) (at third) ≤ℤ pos 0
 
--- t has such a neighbour over each edge
+-- t has a low neighbour over each edge
 pub record IsConvexAround (at : ℕ → Vector) (ts : List Triple) (t : Triple) : Type 0 where
   pub over_ij : HasLowNeighbour at ts t t.i t.j
   pub over_jk : HasLowNeighbour at ts t t.j t.k
