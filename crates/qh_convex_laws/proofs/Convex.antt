@@ -10,7 +10,7 @@ use Rattle.qh_model.specs.laws.ClosedSurfaceLaws.{IsCornerOf}
 use Rattle.qh_model.specs.laws.ClosedFaceLaws.{AreSupporting}
 use Rattle.qh_model.proofs.algebra.{Signs.less_le, VectorIdentities.in_line-vol}
 use Rattle.qh_model.proofs.closed_surfaces.Sums.{count, count-is}
-use Rattle.qh_convex_laws.specs.contract.LocallyConvex.{IsLocallyConvex, IsUnder, is_met}
+use Rattle.qh_convex_laws.specs.contract.LocallyConvex.{IsLocallyConvex, IsUnder, HasAllUnder, is_met}
 use Rattle.qh_convex_laws.specs.laws.ConvexLaws.{LocalIsConvex, UnderIsBelow, LocalSupports}
 use Rattle.qh_convex_laws.proofs.Signs.{above, is_above}
 use Rattle.qh_convex_laws.proofs.Directions.{IsOffEdges}
@@ -104,9 +104,18 @@ under_triangle_is_below at ts z d c p u t i =
     corner : (l : ℕ) → In l (u.t.i ∷ u.t.j ∷ u.t.k ∷ []) → vol (at t.i) (at t.j) (at t.k) (at l) ≤ℤ pos 0
     corner l m = convex at ts z d c l (u.t, u.there, m) t i
 
+-- no member of such a set is above a triangle
+pub member_below : (at : ℕ → Vector) (ids : List ℕ) (ts : List Triple) (z d : Vector) → IsLocallyConvex at ts z d
+    → HasAllUnder at ids ts z → (l : ℕ) → In l ids → (t : Triple) → In t ts → rise at t (at l) ≤ℤ pos 0
+member_below at ids ts z d c all l m t i = pick (all.others l m)
+  where
+    pick : IsCornerOf ts l ⊎ IsUnder at ts z (at l) → rise at t (at l) ≤ℤ pos 0
+    pick (inl k) = convex at ts z d c l k t i
+    pick (inr u) = under_triangle_is_below at ts z d c (at l) u t i
+
 -- the law of supporting triples
 pub local_supports : LocalSupports
-local_supports at ids ts z d c has each =
+local_supports at ids ts z d c all =
     (record { some = some ts c.once; area = area; closed = c.closed }, supporting)
   where
     some : (us : List Triple) → count_by (is_met at z d) us ≡ 1 → 1 ≤ length us
@@ -119,15 +128,11 @@ local_supports at ids ts z d c has each =
     area : (t : Triple) → In t ts → ¬ (AreInLine (at t.i) (at t.j) (at t.k))
     area t i f = clash (rise at t z) (c.inside t i) (in_line-vol (at t.i) (at t.j) (at t.k) z f)
 
-    below : (t : Triple) → In t ts → (l : ℕ) → IsCornerOf ts l ⊎ IsUnder at ts z (at l) → rise at t (at l) ≤ℤ pos 0
-    below t i l (inl k) = convex at ts z d c l k t i
-    below t i l (inr u) = under_triangle_is_below at ts z d c (at l) u t i
-
     supporting : AreSupporting at (Members ids) ts
     supporting t i = record {
-      has_i = has t.i (t, i, inl refl);
-      has_j = has t.j (t, i, inr (inl refl));
-      has_k = has t.k (t, i, inr (inr (inl refl)));
+      has_i = all.corners t.i (t, i, inl refl);
+      has_j = all.corners t.j (t, i, inr (inl refl));
+      has_k = all.corners t.k (t, i, inr (inr (inl refl)));
       area = area t i;
-      supports = λ l m. below t i l (each l m);
+      supports = λ l m. member_below at ids ts z d c all l m t i;
     }

@@ -54,7 +54,7 @@ module _ (at : ℕ → Vector) where
     HighestMet = (g : Triple) × In g ts × IsGreatest height depth g ts × (is_met at z x g ≡ true)
 
     -- past an edge of t, x is higher above the neighbour there
-    past_edge : (t : Triple) (u v w : ℕ) → IsRound t u v w → (n : HasLowNeighbour at ts t u v)
+    pub past_edge : (t : Triple) (u v w : ℕ) → IsRound t u v w → (n : HasLowNeighbour at ts t u v)
         → height n.next *ℤ depth t -ℤ height t *ℤ depth n.next ≡ rise t (at n.third) *ℤ vol z (at u) (at v) x
     past_edge t u v w r n =
         plain (rise t z) (height t) (rise n.next z) (height n.next) (rise t (at n.third)) (vol z (at u) (at v) x)

@@ -12,3 +12,4 @@ pub mod Ascents
 pub mod Rays
 pub mod UnderTriangles
 pub mod Convex
+pub mod TriangleFaces

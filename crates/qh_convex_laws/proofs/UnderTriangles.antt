@@ -21,7 +21,7 @@ coordinates z a b c p n =
     (mul (detE (vec 0) (vec 1) (vec 3)) (dotE (vec 4) (vec 2)))) refl
 
 -- how far it is above the triangle
-above_sum : (z a b c p : Vector) → vol a b c p ≡ vol z a b p +ℤ vol z b c p +ℤ vol z c a p -ℤ vol z a b c
+pub above_sum : (z a b c p : Vector) → vol a b c p ≡ vol z a b p +ℤ vol z b c p +ℤ vol z c a p -ℤ vol z a b c
 unfolding vol cross
 above_sum z a b c p =
     ring (put z (put a (put b (put c (put p []))))) (volE (vec 1) (vec 2) (vec 3) (vec 4))

@@ -5,6 +5,7 @@ use Rattle.qh_model.specs.headline.Vector.{Vector}
 use Rattle.qh_model.specs.headline.Predicates.{vol}
 use Rattle.qh_model.specs.headline.Sets.{In}
 use Rattle.qh_model.specs.contract.ClosedSurface.{Triple, IsClosed}
+use Rattle.qh_model.specs.laws.ClosedSurfaceLaws.{IsCornerOf}
 
 -- the triangle is u, v, w, from one of its corners on
 abbrev pub IsRound : Triple → ℕ → ℕ → ℕ → Type 0
@@ -24,6 +25,13 @@ pub record IsConvexAround (at : ℕ → Vector) (ts : List Triple) (t : Triple) 
   pub over_ij : HasLowNeighbour at ts t t.i t.j
   pub over_jk : HasLowNeighbour at ts t t.j t.k
   pub over_ki : HasLowNeighbour at ts t t.k t.i
+
+-- over each edge of t is a neighbour with its third corner strictly below t
+pub record IsSharpAround (at : ℕ → Vector) (ts : List Triple) (t : Triple) : Type 0 where
+  pub around : IsConvexAround at ts t
+  pub over_ij : vol (at t.i) (at t.j) (at t.k) (at around.over_ij.third) <ℤ pos 0
+  pub over_jk : vol (at t.i) (at t.j) (at t.k) (at around.over_jk.third) <ℤ pos 0
+  pub over_ki : vol (at t.i) (at t.j) (at t.k) (at around.over_ki.third) <ℤ pos 0
 
 -- does the ray from z through d meet the inside of t, for a triangle with z strictly below?
 abbrev pub is_met : (ℕ → Vector) → Vector → Vector → Triple → Bool
@@ -51,3 +59,8 @@ pub record IsUnder (at : ℕ → Vector) (ts : List Triple) (z p : Vector) : Typ
   pub second : pos 0 ≤ℤ vol z (at t.j) (at t.k) p
   pub third : pos 0 ≤ℤ vol z (at t.k) (at t.i) p
   pub below : vol (at t.i) (at t.j) (at t.k) p ≤ℤ pos 0
+
+-- the corners are members of the list, and each other member lies under a triangle
+pub record HasAllUnder (at : ℕ → Vector) (ids : List ℕ) (ts : List Triple) (z : Vector) : Type 0 where
+  pub corners : (l : ℕ) → IsCornerOf ts l → In l ids
+  pub others : (l : ℕ) → In l ids → IsCornerOf ts l ⊎ IsUnder at ts z (at l)

@@ -1,13 +1,15 @@
 -- The laws of locally convex surfaces.
 -- Source: Mehlhorn, Naeher, Seel, Seidel, Schilz, Schirra and Uhrig 1999 (checking geometric programs).
-use Rattle.std.specs.Prelude.{ℕ, List, ◌⊎◌, pos, ◌≤ℤ◌}
+use Rattle.std.specs.Prelude.{ℕ, List, [], ◌∷◌, ◌<◌, pos, ◌≤ℤ◌}
 use Rattle.qh_model.specs.headline.Vector.{Vector}
 use Rattle.qh_model.specs.headline.Predicates.{vol}
 use Rattle.qh_model.specs.headline.Sets.{In, Members}
+use Rattle.qh_model.specs.headline.Polygons.{IsFacePolygon}
+use Rattle.qh_model.specs.contract.IdSets.{HasDistinctPoints}
 use Rattle.qh_model.specs.contract.ClosedSurface.{Triple, IsClosedSurface}
 use Rattle.qh_model.specs.laws.ClosedSurfaceLaws.{IsCornerOf}
 use Rattle.qh_model.specs.laws.ClosedFaceLaws.{AreSupporting}
-use Rattle.qh_convex_laws.specs.contract.LocallyConvex.{IsLocallyConvex, IsUnder}
+use Rattle.qh_convex_laws.specs.contract.LocallyConvex.{IsRound, IsSharpAround, IsLocallyConvex, IsUnder, HasAllUnder}
 
 -- no corner of a locally convex surface is above a triangle of it
 abbrev pub LocalIsConvex : Type 0
@@ -22,5 +24,11 @@ UnderIsBelow = (at : ℕ → Vector) (ts : List Triple) (z d : Vector) → IsLoc
 -- so the triangles support a set that has all corners, and each other member under a triangle
 abbrev pub LocalSupports : Type 0
 LocalSupports = (at : ℕ → Vector) (ids : List ℕ) (ts : List Triple) (z d : Vector) → IsLocallyConvex at ts z d
-    → ((l : ℕ) → IsCornerOf ts l → In l ids) → ((l : ℕ) → In l ids → IsCornerOf ts l ⊎ IsUnder at ts z (at l))
-    → IsClosedSurface at ts × AreSupporting at (Members ids) ts
+    → HasAllUnder at ids ts z → IsClosedSurface at ts × AreSupporting at (Members ids) ts
+
+-- and a triangle with its neighbours strictly below it is a face, from its least id on
+abbrev pub SharpIsFace : Type 0
+SharpIsFace = (at : ℕ → Vector) (ids : List ℕ) (ts : List Triple) (z d : Vector) → IsLocallyConvex at ts z d
+    → HasAllUnder at ids ts z → HasDistinctPoints at (Members ids)
+    → (t : Triple) → In t ts → IsSharpAround at ts t → (u v w : ℕ) → IsRound t u v w → u < v → u < w
+    → IsFacePolygon at (Members ids) t.i t.j t.k (u ∷ v ∷ w ∷ [])
