@@ -12,4 +12,5 @@ pub mod Ascents
 pub mod Rays
 pub mod UnderTriangles
 pub mod Convex
+pub mod InTriangles
 pub mod TriangleFaces

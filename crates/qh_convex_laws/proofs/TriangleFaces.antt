@@ -1,13 +1,12 @@
 -- A triangle with its neighbours strictly below it is a face: what lies in its plane lies in the triangle.
-use Rattle.std.proofs.Common.{◌≡◌, ◌≢◌, ℕ, ◌<◌, ◌≤◌, ◌+◌, refl, sym, ap, subst, ◌∙◌, arith, List, [], ◌∷◌, ◌⊎◌, inl, inr}
+use Rattle.std.proofs.Common.{◌≡◌, ◌≢◌, ℕ, ◌<◌, ◌≤◌, refl, sym, ap, subst, ◌∙◌, arith, List, [], ◌∷◌, inl, inr}
 use Rattle.std.proofs.lemmas.Int.{ints, by_lt_z}
-use Rattle.std.specs.Prelude.{ℤ, pos, negsuc, ◌+ℤ◌, ◌-ℤ◌, ◌*ℤ◌, neg_ℤ, ◌≤ℤ◌, ◌<ℤ◌, ◌↔◌}
+use Rattle.std.specs.Prelude.{ℤ, pos, ◌+ℤ◌, ◌-ℤ◌, ◌*ℤ◌, neg_ℤ, ◌≤ℤ◌, ◌<ℤ◌}
 use mathlib.Core.Logic.{dite}
 use native.Mathlib.Decide.{ℕ_discrete}
-use Rattle.qh_model.specs.headline.Vector.{Vector, minus, dot}
+use Rattle.qh_model.specs.headline.Vector.{Vector, dot}
 use Rattle.qh_model.specs.headline.Predicates.{cross, vol, left}
 use Rattle.qh_model.specs.headline.Sets.{In, Members}
-use Rattle.qh_model.specs.headline.Combination.{Combination, IsBalanced}
 use Rattle.qh_model.specs.headline.Extreme.{Extreme, Others}
 use Rattle.qh_model.specs.headline.SupportingPlane.{OnPlane}
 use Rattle.qh_model.specs.headline.Polygon.{Follows, TurnsLeft}
@@ -15,10 +14,8 @@ use Rattle.qh_model.specs.headline.Polygons.{IsFacePolygon}
 use Rattle.qh_model.specs.contract.IdSets.{HasDistinctPoints}
 use Rattle.qh_model.specs.contract.ClosedSurface.{Triple}
 use Rattle.qh_model.proofs.algebra.Integers.{zero_mul}
-use Rattle.qh_model.proofs.algebra.Ring.{ring}
-use Rattle.qh_model.proofs.algebra.Ring.Expr.{var, add, sub as less, mul}
-use Rattle.qh_model.proofs.algebra.Order.{cancel-zero, mul-neg_neg, mul-nonneg_nonpos}
-use Rattle.qh_model.proofs.algebra.VectorIdentities.{vec, put, detE, vol-linear, vector_path, left-turn, left-dot, vol-first, vol-second, vol-third}
+use Rattle.qh_model.proofs.algebra.Order.{mul-neg_neg, mul-nonneg_nonpos}
+use Rattle.qh_model.proofs.algebra.VectorIdentities.{vol-linear, left-turn, left-dot, vol-first, vol-third}
 use Rattle.qh_model.proofs.combinations.Alternatives.{all_lower}
 use Rattle.qh_model.proofs.extremes.Directions.{square-positive}
 use Rattle.qh_model.proofs.extremes.Faces.{extremes_of_face}
@@ -26,154 +23,9 @@ use Rattle.qh_convex_laws.specs.contract.LocallyConvex.{IsRound, HasLowNeighbour
 use Rattle.qh_convex_laws.specs.laws.ConvexLaws.{SharpIsFace}
 use Rattle.qh_convex_laws.proofs.Rounds.{vol-round, vol-outwards}
 use Rattle.qh_convex_laws.proofs.Highest.{rise, rise_round, past_edge, round_next}
-use Rattle.qh_convex_laws.proofs.NoneAbove.{outwards}
-use Rattle.qh_convex_laws.proofs.UnderTriangles.{above_sum}
-use Rattle.qh_convex_laws.proofs.Convex.{convex, member_below, local_supports}
+use Rattle.qh_convex_laws.proofs.Convex.{member_below, local_supports}
+use Rattle.qh_convex_laws.proofs.InTriangles.{IsInside, combined, at_corner}
 
--- ---- a point in the plane of a triangle, told from z
--- its first coordinate
-first_coordinate : (z a b c p : Vector) → vol z a b c *ℤ (p.x -ℤ z.x) ≡ vol z b c p *ℤ (a.x -ℤ z.x) +ℤ vol z c a p *ℤ (b.x -ℤ z.x) +ℤ vol z a b p *ℤ (c.x -ℤ z.x)
-unfolding vol cross
-first_coordinate z a b c p =
-    ring (put (minus a z) (put (minus b z) (put (minus c z) (put (minus p z) [])))) (mul (detE (vec 0) (vec 1) (vec 2)) (var 9))
-    (add (add (mul (detE (vec 1) (vec 2) (vec 3)) (var 0)) (mul (detE (vec 2) (vec 0) (vec 3)) (var 3))) (mul (detE (vec 0) (vec 1) (vec 3)) (var 6))) refl
-
--- the second
-second_coordinate : (z a b c p : Vector) → vol z a b c *ℤ (p.y -ℤ z.y) ≡ vol z b c p *ℤ (a.y -ℤ z.y) +ℤ vol z c a p *ℤ (b.y -ℤ z.y) +ℤ vol z a b p *ℤ (c.y -ℤ z.y)
-unfolding vol cross
-second_coordinate z a b c p =
-    ring (put (minus a z) (put (minus b z) (put (minus c z) (put (minus p z) [])))) (mul (detE (vec 0) (vec 1) (vec 2)) (var 10))
-    (add (add (mul (detE (vec 1) (vec 2) (vec 3)) (var 1)) (mul (detE (vec 2) (vec 0) (vec 3)) (var 4))) (mul (detE (vec 0) (vec 1) (vec 3)) (var 7))) refl
-
--- the third
-third_coordinate : (z a b c p : Vector) → vol z a b c *ℤ (p.z -ℤ z.z) ≡ vol z b c p *ℤ (a.z -ℤ z.z) +ℤ vol z c a p *ℤ (b.z -ℤ z.z) +ℤ vol z a b p *ℤ (c.z -ℤ z.z)
-unfolding vol cross
-third_coordinate z a b c p =
-    ring (put (minus a z) (put (minus b z) (put (minus c z) (put (minus p z) [])))) (mul (detE (vec 0) (vec 1) (vec 2)) (var 11))
-    (add (add (mul (detE (vec 1) (vec 2) (vec 3)) (var 2)) (mul (detE (vec 2) (vec 0) (vec 3)) (var 5))) (mul (detE (vec 0) (vec 1) (vec 3)) (var 8))) refl
-
--- a point of the triangle a, b, c: in its plane, and inwards of each edge
-record IsInside (z a b c p : Vector) : Type 0 where
-  level : vol a b c p ≡ pos 0
-  first : pos 0 ≤ℤ vol z a b p
-  second : pos 0 ≤ℤ vol z b c p
-  third : pos 0 ≤ℤ vol z c a p
-
--- its weights add up
-weights_sum : (z a b c p : Vector) → IsInside z a b c p → vol z a b c ≡ vol z b c p +ℤ vol z c a p +ℤ vol z a b p
-weights_sum z a b c p h = plain (vol a b c p) (vol z a b p) (vol z b c p) (vol z c a p) (vol z a b c) h.level (above_sum z a b c p)
-  where
-    plain : (s u v w k : ℤ) → s ≡ pos 0 → s ≡ u +ℤ v +ℤ w -ℤ k → k ≡ v +ℤ w +ℤ u
-    plain s u v w k e f = omega (arith, ints)
-
--- one coordinate of a combination
-balanced : (z p a b c k u v w : ℤ) → k *ℤ (p -ℤ z) ≡ u *ℤ (a -ℤ z) +ℤ v *ℤ (b -ℤ z) +ℤ w *ℤ (c -ℤ z) → k ≡ u +ℤ v +ℤ w
-    → (u +ℤ v +ℤ w) *ℤ p ≡ u *ℤ a +ℤ v *ℤ b +ℤ w *ℤ c
-balanced z p a b c k u v w e s =
-    plain (k *ℤ (p -ℤ z)) (u *ℤ (a -ℤ z) +ℤ v *ℤ (b -ℤ z) +ℤ w *ℤ (c -ℤ z)) _ _ e (ap (λ m. m *ℤ (p -ℤ z)) s) difference
-  where
-    difference : (u +ℤ v +ℤ w) *ℤ p -ℤ (u *ℤ a +ℤ v *ℤ b +ℤ w *ℤ c) ≡ (u +ℤ v +ℤ w) *ℤ (p -ℤ z) -ℤ (u *ℤ (a -ℤ z) +ℤ v *ℤ (b -ℤ z) +ℤ w *ℤ (c -ℤ z))
-    difference =
-        ring (z ∷ p ∷ a ∷ b ∷ c ∷ u ∷ v ∷ w ∷ [])
-        (less (mul (add (add (var 5) (var 6)) (var 7)) (var 1)) (add (add (mul (var 5) (var 2)) (mul (var 6) (var 3))) (mul (var 7) (var 4))))
-        (less (mul (add (add (var 5) (var 6)) (var 7)) (less (var 1) (var 0)))
-        (add (add (mul (var 5) (less (var 2) (var 0))) (mul (var 6) (less (var 3) (var 0)))) (mul (var 7) (less (var 4) (var 0))))) refl
-
-    plain : (m n x y : ℤ) → m ≡ n → m ≡ (u +ℤ v +ℤ w) *ℤ (p -ℤ z) → x -ℤ y ≡ (u +ℤ v +ℤ w) *ℤ (p -ℤ z) -ℤ n → x ≡ y
-    plain m n x y e f g = only m n x y ((u +ℤ v +ℤ w) *ℤ (p -ℤ z)) e f g
-      where
-        only : (m n x y l : ℤ) → m ≡ n → m ≡ l → x -ℤ y ≡ l -ℤ n → x ≡ y
-        only m n x y l e f g = omega (arith, ints)
-
--- a number not below 0 as a natural number
-natural : (m : ℤ) → pos 0 ≤ℤ m → (i : ℕ) × (m ≡ pos i)
-natural (pos i) h = (i, refl)
-natural (negsuc i) h = absurd (omega (arith, ints))
-
--- the point is a combination of the corners
-combined : (at : ℕ → Vector) (E : ℕ → Type 0) (z p : Vector) (u v w : ℕ) → E u → E v → E w → pos 0 <ℤ vol z (at u) (at v) (at w)
-    → IsInside z (at u) (at v) (at w) p → Combination at E p
-combined at E z p u v w eu ev ew out h =
-    from (natural (vol z (at v) (at w) p) h.second) (natural (vol z (at w) (at u) p) h.third) (natural (vol z (at u) (at v) p) h.first)
-  where
-    sum : vol z (at u) (at v) (at w) ≡ vol z (at v) (at w) p +ℤ vol z (at w) (at u) p +ℤ vol z (at u) (at v) p
-    sum = weights_sum z (at u) (at v) (at w) p h
-
-    along : (q a b c r s t : ℤ) (i j k : ℕ) → r ≡ pos i → s ≡ pos j → t ≡ pos k → (r +ℤ s +ℤ t) *ℤ q ≡ r *ℤ a +ℤ s *ℤ b +ℤ t *ℤ c
-        → IsBalanced i j k 0 q a b c c
-    along q a b c r s t i j k e f g id =
-        ap (λ m. m *ℤ q) (total r s t i j k e f g) ∙ id ∙ ap (λ m. m *ℤ a +ℤ s *ℤ b +ℤ t *ℤ c) e
-        ∙ ap (λ m. pos i *ℤ a +ℤ m *ℤ b +ℤ t *ℤ c) f ∙ ap (λ m. pos i *ℤ a +ℤ pos j *ℤ b +ℤ m *ℤ c) g
-        ∙ none (pos i *ℤ a +ℤ pos j *ℤ b +ℤ pos k *ℤ c) c
-      where
-        total : (r s t : ℤ) (i j k : ℕ) → r ≡ pos i → s ≡ pos j → t ≡ pos k → pos (i + j + k + 0) ≡ r +ℤ s +ℤ t
-        total r s t i j k e f g = omega (arith, ints)
-
-        none : (m c : ℤ) → m ≡ m +ℤ pos 0 *ℤ c
-        none m c = omega (arith, ints)
-
-    some : (i j k : ℕ) (r s t n : ℤ) → r ≡ pos i → s ≡ pos j → t ≡ pos k → n ≡ r +ℤ s +ℤ t → pos 0 <ℤ n → 0 < i + j + k + 0
-    some i j k r s t n e f g d l = omega (arith, ints)
-
-    from : (i : ℕ) × (vol z (at v) (at w) p ≡ pos i) → (j : ℕ) × (vol z (at w) (at u) p ≡ pos j) → (k : ℕ) × (vol z (at u) (at v) p ≡ pos k)
-        → Combination at E p
-    from (i, e) (j, f) (k, g) = record {
-      a = u;
-      b = v;
-      c = w;
-      d = w;
-      has_a = eu;
-      has_b = ev;
-      has_c = ew;
-      has_d = ew;
-      w1 = i;
-      w2 = j;
-      w3 = k;
-      w4 = 0;
-      some_weight = some i j k _ _ _ _ e f g sum out;
-      x = along _ _ _ _ _ _ _ i j k e f g (balanced z.x p.x (at u).x (at v).x (at w).x _ _ _ _ (first_coordinate z (at u) (at v) (at w) p) sum);
-      y = along _ _ _ _ _ _ _ i j k e f g (balanced z.y p.y (at u).y (at v).y (at w).y _ _ _ _ (second_coordinate z (at u) (at v) (at w) p) sum);
-      z = along _ _ _ _ _ _ _ i j k e f g (balanced z.z p.z (at u).z (at v).z (at w).z _ _ _ _ (third_coordinate z (at u) (at v) (at w) p) sum);
-    }
-
--- a point of the triangle as far from the second edge as the first corner is that corner
-at_corner : (z a b c p : Vector) → pos 0 <ℤ vol z a b c → IsInside z a b c p → vol z a b c ≤ℤ vol z b c p → p ≡ a
-at_corner z a b c p out h far =
-    vector_path p a
-    (same p.x z.x a.x b.x c.x _ _ _ _ out (first_coordinate z a b c p) ends.0 ends.1 ends.2)
-    (same p.y z.y a.y b.y c.y _ _ _ _ out (second_coordinate z a b c p) ends.0 ends.1 ends.2)
-    (same p.z z.z a.z b.z c.z _ _ _ _ out (third_coordinate z a b c p) ends.0 ends.1 ends.2)
-  where
-    ends : (vol z b c p ≡ vol z a b c) × (vol z c a p ≡ pos 0) × (vol z a b p ≡ pos 0)
-    ends = only (vol z a b c) (vol z b c p) (vol z c a p) (vol z a b p) (weights_sum z a b c p h) h.third h.first far
-      where
-        only : (k u v w : ℤ) → k ≡ u +ℤ v +ℤ w → pos 0 ≤ℤ v → pos 0 ≤ℤ w → k ≤ℤ u → (u ≡ k) × (v ≡ pos 0) × (w ≡ pos 0)
-        only k u v w e f g l = (omega (arith, ints), omega (arith, ints), omega (arith, ints))
-
-    same : (p z a b c k u v w : ℤ) → pos 0 <ℤ k → k *ℤ (p -ℤ z) ≡ u *ℤ (a -ℤ z) +ℤ v *ℤ (b -ℤ z) +ℤ w *ℤ (c -ℤ z)
-        → u ≡ k → v ≡ pos 0 → w ≡ pos 0 → p ≡ a
-    same p z a b c k u v w l e f g m =
-        equal p a
-        (cancel-zero k (p -ℤ a) l
-        (split k p z a ∙ vanish (k *ℤ (p -ℤ z)) (k *ℤ (a -ℤ z))
-        (e ∙ ap (λ n. n *ℤ (a -ℤ z) +ℤ v *ℤ (b -ℤ z) +ℤ w *ℤ (c -ℤ z)) f ∙ ap (λ n. k *ℤ (a -ℤ z) +ℤ n *ℤ (b -ℤ z) +ℤ w *ℤ (c -ℤ z)) g
-        ∙ ap (λ n. k *ℤ (a -ℤ z) +ℤ pos 0 *ℤ (b -ℤ z) +ℤ n *ℤ (c -ℤ z)) m ∙ none (k *ℤ (a -ℤ z)) (b -ℤ z) (c -ℤ z))))
-      where
-        none : (m b c : ℤ) → m +ℤ pos 0 *ℤ b +ℤ pos 0 *ℤ c ≡ m
-        none m b c = omega (arith, ints)
-
-        split : (k p z a : ℤ) → k *ℤ (p -ℤ a) ≡ k *ℤ (p -ℤ z) -ℤ k *ℤ (a -ℤ z)
-        split k p z a =
-            ring (k ∷ p ∷ z ∷ a ∷ []) (mul (var 0) (less (var 1) (var 3)))
-            (less (mul (var 0) (less (var 1) (var 2))) (mul (var 0) (less (var 3) (var 2)))) refl
-
-        vanish : (m n : ℤ) → m ≡ n → m -ℤ n ≡ pos 0
-        vanish m n e = omega (arith, ints)
-
-        equal : (p a : ℤ) → p -ℤ a ≡ pos 0 → p ≡ a
-        equal p a e = omega (arith, ints)
-
--- ---- the triangle as a face
 module _ (at : ℕ → Vector) (ids : List ℕ) (ts : List Triple) (z d : Vector) (c : IsLocallyConvex at ts z d) (all : HasAllUnder at ids ts z)
     (distinct : HasDistinctPoints at (Members ids)) (t : Triple) (i : In t ts) (sharp : IsSharpAround at ts t) where
   -- the members in its plane
