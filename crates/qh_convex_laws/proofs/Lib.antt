@@ -13,4 +13,5 @@ pub mod Rays
 pub mod UnderTriangles
 pub mod Convex
 pub mod InTriangles
+pub mod Cycles
 pub mod TriangleFaces

@@ -3,7 +3,7 @@
 //! They stand apart from the laws of `qh_model`: only a check of given triangles rests on them.
 #![tactic(auto)]
 
-ghost use Rattle.qh_convex_laws.specs.laws.ConvexLaws.{LocalIsConvex, UnderIsBelow, LocalSupports, SharpIsFace};
+ghost use Rattle.qh_convex_laws.specs.laws.ConvexLaws.{LocalIsConvex, UnderIsBelow, LocalSupports, SharpIsFace, SharpPolygonIsFace};
 
 /// A closed surface of triangles that turns outwards at no edge, has a place strictly below all its triangles,
 /// and is met just once by a ray from there, has no corner above any of its triangles. So each triangle supports
@@ -14,8 +14,10 @@ pub fn locally_convex_is_convex()
     ensures support { LocalSupports }
 {}
 
-/// A triangle of such a surface whose neighbours are strictly below it is a face of each set that has the
-/// corners, and other points under triangles alone. By `closed_faces_are_hull` such triangles are the hull.
-pub fn sharp_triangle_is_face()
-    ensures { SharpIsFace }
+/// A triangle of a locally convex surface whose neighbours are strictly below it is a face of each set that has
+/// the corners, and other points under triangles alone; so is a convex polygon of triangles in one plane. By
+/// `closed_faces_are_hull` these faces are the hull.
+pub fn sharp_polygon_is_face()
+    ensures triangle { SharpIsFace }
+    ensures polygon { SharpPolygonIsFace }
 {}

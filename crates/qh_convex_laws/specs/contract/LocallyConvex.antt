@@ -1,9 +1,10 @@
 -- Locally convex surfaces: closed surfaces that turn outwards at no edge and go round a place just once.
 -- Source: Mehlhorn, Naeher, Seel, Seidel, Schilz, Schirra and Uhrig 1999 (checking geometric programs).
-use Rattle.std.specs.Prelude.{ℕ, ◌≡◌, ◌⊎◌, ◌&&◌, Bool, true, List, count_by, pos, int_lt, ◌≤ℤ◌, ◌<ℤ◌}
+use Rattle.std.specs.Prelude.{ℕ, ◌≡◌, ◌≤◌, ◌⊎◌, ◌&&◌, Bool, true, List, length, count_by, pos, int_lt, ◌≤ℤ◌, ◌<ℤ◌}
 use Rattle.qh_model.specs.headline.Vector.{Vector}
-use Rattle.qh_model.specs.headline.Predicates.{vol}
-use Rattle.qh_model.specs.headline.Sets.{In}
+use Rattle.qh_model.specs.headline.Predicates.{cross, vol}
+use Rattle.qh_model.specs.headline.Sets.{In, Once, BeginsWithLeast}
+use Rattle.qh_model.specs.headline.Polygon.{Follows, TurnsLeft}
 use Rattle.qh_model.specs.contract.ClosedSurface.{Triple, IsClosed}
 use Rattle.qh_model.specs.laws.ClosedSurfaceLaws.{IsCornerOf}
 
@@ -32,6 +33,25 @@ pub record IsSharpAround (at : ℕ → Vector) (ts : List Triple) (t : Triple) :
   pub over_ij : vol (at t.i) (at t.j) (at t.k) (at around.over_ij.third) <ℤ pos 0
   pub over_jk : vol (at t.i) (at t.j) (at t.k) (at around.over_jk.third) <ℤ pos 0
   pub over_ki : vol (at t.i) (at t.j) (at t.k) (at around.over_ki.third) <ℤ pos 0
+
+-- the edge from u to v of a triangle of the list in the plane of t, with the third corner past it strictly below
+pub record IsSharpEdge (at : ℕ → Vector) (ts : List Triple) (t : Triple) (u v : ℕ) : Type 0 where
+  pub side : Triple
+  pub there : In side ts
+  pub third : ℕ
+  pub round : IsRound side u v third
+  pub level : vol (at t.i) (at t.j) (at t.k) (at third) ≡ pos 0
+  pub over : HasLowNeighbour at ts side u v
+  pub below : vol (at side.i) (at side.j) (at side.k) (at over.third) <ℤ pos 0
+
+-- a convex polygon in the plane of t, from its least id on, along such edges
+pub record IsSharpPolygon (at : ℕ → Vector) (ts : List Triple) (t : Triple) (q : List ℕ) : Type 0 where
+  pub three : 3 ≤ length q
+  pub once : Once q
+  pub least : BeginsWithLeast q
+  pub level : (l : ℕ) → In l q → vol (at t.i) (at t.j) (at t.k) (at l) ≡ pos 0
+  pub round : (u v : ℕ) → Follows u v q → TurnsLeft at (cross (at t.i) (at t.j) (at t.k)) q u v
+  pub edges : (u v : ℕ) → Follows u v q → IsSharpEdge at ts t u v
 
 -- does the ray from z through d meet the inside of t, for a triangle with z strictly below?
 abbrev pub is_met : (ℕ → Vector) → Vector → Vector → Triple → Bool

@@ -9,7 +9,7 @@ use Rattle.qh_model.specs.contract.IdSets.{HasDistinctPoints}
 use Rattle.qh_model.specs.contract.ClosedSurface.{Triple, IsClosedSurface}
 use Rattle.qh_model.specs.laws.ClosedSurfaceLaws.{IsCornerOf}
 use Rattle.qh_model.specs.laws.ClosedFaceLaws.{AreSupporting}
-use Rattle.qh_convex_laws.specs.contract.LocallyConvex.{IsRound, IsSharpAround, IsLocallyConvex, IsUnder, HasAllUnder}
+use Rattle.qh_convex_laws.specs.contract.LocallyConvex.{IsRound, IsSharpAround, IsSharpPolygon, IsLocallyConvex, IsUnder, HasAllUnder}
 
 -- no corner of a locally convex surface is above a triangle of it
 abbrev pub LocalIsConvex : Type 0
@@ -32,3 +32,9 @@ SharpIsFace = (at : ℕ → Vector) (ids : List ℕ) (ts : List Triple) (z d : V
     → HasAllUnder at ids ts z → HasDistinctPoints at (Members ids)
     → (t : Triple) → In t ts → IsSharpAround at ts t → (u v w : ℕ) → IsRound t u v w → u < v → u < w
     → IsFacePolygon at (Members ids) t.i t.j t.k (u ∷ v ∷ w ∷ [])
+
+-- so is a convex polygon along edges with what is past them strictly below
+abbrev pub SharpPolygonIsFace : Type 0
+SharpPolygonIsFace = (at : ℕ → Vector) (ids : List ℕ) (ts : List Triple) (z d : Vector) → IsLocallyConvex at ts z d
+    → HasAllUnder at ids ts z → HasDistinctPoints at (Members ids)
+    → (t : Triple) → In t ts → (q : List ℕ) → IsSharpPolygon at ts t q → IsFacePolygon at (Members ids) t.i t.j t.k q
