@@ -1,10 +1,10 @@
 -- A point that a direction puts beyond all corners of a convex polygon is past one of its sides, seen from a place below.
 use Rattle.std.proofs.Common.{◌≡◌, ◌≢◌, ℕ, ◌≤◌, refl, sym, ap, subst, ◌∙◌, arith, List, [], ◌∷◌, length, ◌⊎◌, inl, inr}
-use Rattle.std.proofs.lemmas.Int.{ints, by_lt_z}
-use Rattle.std.specs.Prelude.{ℤ, pos, ◌+ℤ◌, ◌-ℤ◌, ◌*ℤ◌, neg_ℤ, ◌≤ℤ◌, ◌<ℤ◌}
+use Rattle.std.proofs.lemmas.Int.{ints}
+use Rattle.std.specs.Prelude.{ℤ, pos, ◌-ℤ◌, ◌*ℤ◌, neg_ℤ, ◌≤ℤ◌, ◌<ℤ◌}
 use mathlib.Core.Logic.{dite}
 use native.Mathlib.Decide.{ℕ_discrete}
-use Rattle.qh_model.specs.headline.Vector.{Vector, origin, minus, cross_product, dot}
+use Rattle.qh_model.specs.headline.Vector.{Vector, minus, cross_product, dot}
 use Rattle.qh_model.specs.headline.Predicates.{cross, vol, AreInLine}
 use Rattle.qh_model.specs.headline.Sets.{In, Once}
 use Rattle.qh_model.specs.headline.Polygon.{Follows, FollowsAlong}
@@ -67,7 +67,7 @@ square_volume z l m w n =
     (less (mul (dotE (vec 2) (vec 0)) (dotE (vec 3) (vec 1))) (mul (dotE (vec 3) (vec 0)) (dotE (vec 2) (vec 1)))) refl
 
 -- it is positive where w puts l beyond m, if both are as far from z along n
-beyond_volume : (z l m w n : Vector) → pos 0 <ℤ dot n (minus l z) → dot n (minus m z) ≡ dot n (minus l z) → dot w (minus m z) <ℤ dot w (minus l z)
+pub beyond_volume : (z l m w n : Vector) → pos 0 <ℤ dot n (minus l z) → dot n (minus m z) ≡ dot n (minus l z) → dot w (minus m z) <ℤ dot w (minus l z)
     → pos 0 <ℤ vol z l m (plus z (cross_product w n))
 beyond_volume z l m w n h e far =
     subst (λ k. pos 0 <ℤ k) (sym (vol-plus z l m (cross_product w n) ∙ square_volume z l m w n ∙ plain (dot n (minus l z)) (dot n (minus m z)) (dot w (minus l z)) (dot w (minus m z)) e))
@@ -153,7 +153,7 @@ module _ (at : ℕ → Vector) (z l : Vector) (q : List ℕ) (sides : (u v : ℕ
             (swapped (num v *ℤ den u) (num u *ℤ den v) _ (step u v) (ap (λ k. k *ℤ vol z l e f) zero ∙ zero_mul (vol z l e f)))
 
     -- so there is no such direction
-    none_ahead : (m : ℕ) → In m q → ⊥
+    pub none_ahead : (m : ℕ) → In m q → ⊥
     none_ahead m i = start (greatest_of q m i ahead)
       where
         greatest_of : (xs : List ℕ) (m : ℕ) → In m xs → ((x : ℕ) → In x xs → pos 0 <ℤ den x) → (u : ℕ) × In u xs × IsGreatest num den u xs

@@ -1,10 +1,9 @@
 -- Points of a triangle, told from a place below it: their weights over its corners.
-use Rattle.std.proofs.Common.{◌≡◌, ℕ, ◌<◌, ◌+◌, refl, ap, ◌∙◌, arith, [], ◌∷◌}
+use Rattle.std.proofs.Common.{◌≡◌, refl, ap, ◌∙◌, arith, [], ◌∷◌}
 use Rattle.std.proofs.lemmas.Int.{ints}
-use Rattle.std.specs.Prelude.{ℤ, pos, negsuc, ◌+ℤ◌, ◌-ℤ◌, ◌*ℤ◌, ◌≤ℤ◌, ◌<ℤ◌}
+use Rattle.std.specs.Prelude.{ℤ, pos, ◌+ℤ◌, ◌-ℤ◌, ◌*ℤ◌, ◌≤ℤ◌, ◌<ℤ◌}
 use Rattle.qh_model.specs.headline.Vector.{Vector, minus}
 use Rattle.qh_model.specs.headline.Predicates.{cross, vol}
-use Rattle.qh_model.specs.headline.Combination.{Combination, IsBalanced}
 use Rattle.qh_model.proofs.algebra.Ring.{ring}
 use Rattle.qh_model.proofs.algebra.Ring.Expr.{var, add, sub as less, mul}
 use Rattle.qh_model.proofs.algebra.Order.{cancel-zero}
@@ -45,76 +44,6 @@ weights_sum z a b c p h = plain (vol a b c p) (vol z a b p) (vol z b c p) (vol z
   where
     plain : (s u v w k : ℤ) → s ≡ pos 0 → s ≡ u +ℤ v +ℤ w -ℤ k → k ≡ v +ℤ w +ℤ u
     plain s u v w k e f = omega (arith, ints)
-
--- one coordinate of a combination
-balanced : (z p a b c k u v w : ℤ) → k *ℤ (p -ℤ z) ≡ u *ℤ (a -ℤ z) +ℤ v *ℤ (b -ℤ z) +ℤ w *ℤ (c -ℤ z) → k ≡ u +ℤ v +ℤ w
-    → (u +ℤ v +ℤ w) *ℤ p ≡ u *ℤ a +ℤ v *ℤ b +ℤ w *ℤ c
-balanced z p a b c k u v w e s =
-    plain (k *ℤ (p -ℤ z)) (u *ℤ (a -ℤ z) +ℤ v *ℤ (b -ℤ z) +ℤ w *ℤ (c -ℤ z)) _ _ e (ap (λ m. m *ℤ (p -ℤ z)) s) difference
-  where
-    difference : (u +ℤ v +ℤ w) *ℤ p -ℤ (u *ℤ a +ℤ v *ℤ b +ℤ w *ℤ c) ≡ (u +ℤ v +ℤ w) *ℤ (p -ℤ z) -ℤ (u *ℤ (a -ℤ z) +ℤ v *ℤ (b -ℤ z) +ℤ w *ℤ (c -ℤ z))
-    difference =
-        ring (z ∷ p ∷ a ∷ b ∷ c ∷ u ∷ v ∷ w ∷ [])
-        (less (mul (add (add (var 5) (var 6)) (var 7)) (var 1)) (add (add (mul (var 5) (var 2)) (mul (var 6) (var 3))) (mul (var 7) (var 4))))
-        (less (mul (add (add (var 5) (var 6)) (var 7)) (less (var 1) (var 0)))
-        (add (add (mul (var 5) (less (var 2) (var 0))) (mul (var 6) (less (var 3) (var 0)))) (mul (var 7) (less (var 4) (var 0))))) refl
-
-    plain : (m n x y : ℤ) → m ≡ n → m ≡ (u +ℤ v +ℤ w) *ℤ (p -ℤ z) → x -ℤ y ≡ (u +ℤ v +ℤ w) *ℤ (p -ℤ z) -ℤ n → x ≡ y
-    plain m n x y e f g = only m n x y ((u +ℤ v +ℤ w) *ℤ (p -ℤ z)) e f g
-      where
-        only : (m n x y l : ℤ) → m ≡ n → m ≡ l → x -ℤ y ≡ l -ℤ n → x ≡ y
-        only m n x y l e f g = omega (arith, ints)
-
--- a number not below 0 as a natural number
-natural : (m : ℤ) → pos 0 ≤ℤ m → (i : ℕ) × (m ≡ pos i)
-natural (pos i) h = (i, refl)
-natural (negsuc i) h = absurd (omega (arith, ints))
-
--- the point is a combination of the corners
-pub combined : (at : ℕ → Vector) (E : ℕ → Type 0) (z p : Vector) (u v w : ℕ) → E u → E v → E w → pos 0 <ℤ vol z (at u) (at v) (at w)
-    → IsInside z (at u) (at v) (at w) p → Combination at E p
-combined at E z p u v w eu ev ew out h =
-    from (natural (vol z (at v) (at w) p) h.second) (natural (vol z (at w) (at u) p) h.third) (natural (vol z (at u) (at v) p) h.first)
-  where
-    sum : vol z (at u) (at v) (at w) ≡ vol z (at v) (at w) p +ℤ vol z (at w) (at u) p +ℤ vol z (at u) (at v) p
-    sum = weights_sum z (at u) (at v) (at w) p h
-
-    along : (q a b c r s t : ℤ) (i j k : ℕ) → r ≡ pos i → s ≡ pos j → t ≡ pos k → (r +ℤ s +ℤ t) *ℤ q ≡ r *ℤ a +ℤ s *ℤ b +ℤ t *ℤ c
-        → IsBalanced i j k 0 q a b c c
-    along q a b c r s t i j k e f g id =
-        ap (λ m. m *ℤ q) (total r s t i j k e f g) ∙ id ∙ ap (λ m. m *ℤ a +ℤ s *ℤ b +ℤ t *ℤ c) e
-        ∙ ap (λ m. pos i *ℤ a +ℤ m *ℤ b +ℤ t *ℤ c) f ∙ ap (λ m. pos i *ℤ a +ℤ pos j *ℤ b +ℤ m *ℤ c) g
-        ∙ none (pos i *ℤ a +ℤ pos j *ℤ b +ℤ pos k *ℤ c) c
-      where
-        total : (r s t : ℤ) (i j k : ℕ) → r ≡ pos i → s ≡ pos j → t ≡ pos k → pos (i + j + k + 0) ≡ r +ℤ s +ℤ t
-        total r s t i j k e f g = omega (arith, ints)
-
-        none : (m c : ℤ) → m ≡ m +ℤ pos 0 *ℤ c
-        none m c = omega (arith, ints)
-
-    some : (i j k : ℕ) (r s t n : ℤ) → r ≡ pos i → s ≡ pos j → t ≡ pos k → n ≡ r +ℤ s +ℤ t → pos 0 <ℤ n → 0 < i + j + k + 0
-    some i j k r s t n e f g d l = omega (arith, ints)
-
-    from : (i : ℕ) × (vol z (at v) (at w) p ≡ pos i) → (j : ℕ) × (vol z (at w) (at u) p ≡ pos j) → (k : ℕ) × (vol z (at u) (at v) p ≡ pos k)
-        → Combination at E p
-    from (i, e) (j, f) (k, g) = record {
-      a = u;
-      b = v;
-      c = w;
-      d = w;
-      has_a = eu;
-      has_b = ev;
-      has_c = ew;
-      has_d = ew;
-      w1 = i;
-      w2 = j;
-      w3 = k;
-      w4 = 0;
-      some_weight = some i j k _ _ _ _ e f g sum out;
-      x = along _ _ _ _ _ _ _ i j k e f g (balanced z.x p.x (at u).x (at v).x (at w).x _ _ _ _ (first_coordinate z (at u) (at v) (at w) p) sum);
-      y = along _ _ _ _ _ _ _ i j k e f g (balanced z.y p.y (at u).y (at v).y (at w).y _ _ _ _ (second_coordinate z (at u) (at v) (at w) p) sum);
-      z = along _ _ _ _ _ _ _ i j k e f g (balanced z.z p.z (at u).z (at v).z (at w).z _ _ _ _ (third_coordinate z (at u) (at v) (at w) p) sum);
-    }
 
 -- a point of the triangle as far from the second edge as the first corner is that corner
 pub at_corner : (z a b c p : Vector) → pos 0 <ℤ vol z a b c → IsInside z a b c p → vol z a b c ≤ℤ vol z b c p → p ≡ a

@@ -14,4 +14,5 @@ pub mod UnderTriangles
 pub mod Convex
 pub mod InTriangles
 pub mod Cycles
+pub mod PolygonFaces
 pub mod TriangleFaces

@@ -29,7 +29,7 @@ abbrev pub middle : (z a b c : Vector) → Vector
 middle z a b c = plus (plus (minus a z) (minus b z)) (minus c z)
 
 -- the same of expressions
-abbrev plusE : VE → VE → VE
+abbrev pub plusE : VE → VE → VE
 plusE p q = record { x = add p.x q.x; y = add p.y q.y; z = add p.z q.z }
 
 -- it is inside of the first edge
