@@ -104,7 +104,7 @@ under_triangle_is_below at ts z d c p u t i =
     corner : (l : ℕ) → In l (u.t.i ∷ u.t.j ∷ u.t.k ∷ []) → vol (at t.i) (at t.j) (at t.k) (at l) ≤ℤ pos 0
     corner l m = convex at ts z d c l (u.t, u.there, m) t i
 
--- no member of such a set is above a triangle
+-- no member of the set is above a triangle
 pub member_below : (at : ℕ → Vector) (ids : List ℕ) (ts : List Triple) (z d : Vector) → IsLocallyConvex at ts z d
     → HasAllUnder at ids ts z → (l : ℕ) → In l ids → (t : Triple) → In t ts → rise at t (at l) ≤ℤ pos 0
 member_below at ids ts z d c all l m t i = pick (all.others l m)

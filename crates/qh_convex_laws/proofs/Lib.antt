@@ -16,3 +16,4 @@ pub mod InTriangles
 pub mod Cycles
 pub mod PolygonFaces
 pub mod TriangleFaces
+pub mod Solids

@@ -3,7 +3,8 @@
 //! They stand apart from the laws of `qh_model`: only a check of given triangles rests on them.
 #![tactic(auto)]
 
-ghost use Rattle.qh_convex_laws.specs.laws.ConvexLaws.{LocalIsConvex, UnderIsBelow, LocalSupports, SharpIsFace, SharpPolygonIsFace};
+ghost use Rattle.qh_convex_laws.specs.laws.ConvexLaws.{LocalIsConvex, UnderIsBelow, LocalSupports, SharpIsFace, SharpPolygonIsFace, SharpPolygonsAreFaces};
+ghost use Rattle.qh_convex_laws.specs.laws.ConvexLaws.{SharpIsSolid};
 
 /// A closed surface of triangles that turns outwards at no edge, has a place strictly below all its triangles,
 /// and is met just once by a ray from there, has no corner above any of its triangles. So each triangle supports
@@ -15,9 +16,15 @@ pub fn locally_convex_is_convex()
 {}
 
 /// A triangle of a locally convex surface whose neighbours are strictly below it is a face of each set that has
-/// the corners, and other points under triangles alone; so is a convex polygon of triangles in one plane. By
-/// `closed_faces_are_hull` these faces are the hull.
+/// the corners, and other points under triangles alone; so is a convex polygon of triangles in one plane.
 pub fn sharp_polygon_is_face()
     ensures triangle { SharpIsFace }
     ensures polygon { SharpPolygonIsFace }
+{}
+
+/// Polygons of this kind, one at least, that close up and stand in rising order are all faces of the set, which
+/// is a solid. So the hull of many points is told by a look at each edge, one ray, and a triangle for each point.
+pub fn sharp_polygons_are_hull()
+    ensures faces { SharpPolygonsAreFaces }
+    ensures dimension { SharpIsSolid }
 {}

@@ -4,7 +4,9 @@ use Rattle.std.specs.Prelude.{ℕ, List, [], ◌∷◌, ◌<◌, pos, ◌≤ℤ�
 use Rattle.qh_model.specs.headline.Vector.{Vector}
 use Rattle.qh_model.specs.headline.Predicates.{vol}
 use Rattle.qh_model.specs.headline.Sets.{In, Members}
-use Rattle.qh_model.specs.headline.Polygons.{IsFacePolygon}
+use Rattle.qh_model.specs.headline.Polygons.{IsFacePolygon, RiseStrictly, AreFaces}
+use Rattle.qh_model.specs.headline.Dimension.{IsDimension}
+use Rattle.qh_model.specs.contract.ClosedPolygons.{AreClosed}
 use Rattle.qh_model.specs.contract.IdSets.{HasDistinctPoints}
 use Rattle.qh_model.specs.contract.ClosedSurface.{Triple, IsClosedSurface}
 use Rattle.qh_model.specs.laws.ClosedSurfaceLaws.{IsCornerOf}
@@ -38,3 +40,20 @@ abbrev pub SharpPolygonIsFace : Type 0
 SharpPolygonIsFace = (at : ℕ → Vector) (ids : List ℕ) (ts : List Triple) (z d : Vector) → IsLocallyConvex at ts z d
     → HasAllUnder at ids ts z → HasDistinctPoints at (Members ids)
     → (t : Triple) → In t ts → (q : List ℕ) → IsSharpPolygon at ts t q → IsFacePolygon at (Members ids) t.i t.j t.k q
+
+-- ---- hulls
+-- each polygon of the list is one of these
+abbrev pub AreSharpPolygons : (ℕ → Vector) → List Triple → List (List ℕ) → Type 0
+AreSharpPolygons at ts qs = (q : List ℕ) → In q qs → (t : Triple) × In t ts × IsSharpPolygon at ts t q
+
+-- where such polygons, one at least, close up, they are all faces
+abbrev pub SharpPolygonsAreFaces : Type 0
+SharpPolygonsAreFaces = (at : ℕ → Vector) (ids : List ℕ) (ts : List Triple) (z d : Vector) → IsLocallyConvex at ts z d
+    → HasAllUnder at ids ts z → HasDistinctPoints at (Members ids)
+    → (qs : List (List ℕ)) (q : List ℕ) → In q qs → AreSharpPolygons at ts qs → AreClosed qs → RiseStrictly qs
+    → AreFaces at (Members ids) qs
+
+-- and the set is a solid
+abbrev pub SharpIsSolid : Type 0
+SharpIsSolid = (at : ℕ → Vector) (ids : List ℕ) (ts : List Triple) → ((l : ℕ) → IsCornerOf ts l → In l ids)
+    → (t : Triple) → (q : List ℕ) → IsSharpPolygon at ts t q → IsDimension at (Members ids) 3
