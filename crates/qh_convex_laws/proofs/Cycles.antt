@@ -20,6 +20,19 @@ use Rattle.qh_convex_laws.proofs.OffPoints.{plus, vol-plus}
 use Rattle.qh_convex_laws.proofs.Rounds.{vol-round, flip_round}
 
 -- ---- members of a cycle
+-- an id is in a list or not
+pub in_or_not : (l : ℕ) (q : List ℕ) → In l q ⊎ (¬ (In l q))
+in_or_not l [] = inr (λ i. i)
+in_or_not l (m ∷ q) = dite (ℕ_discrete l m) (λ e. inl (inl e)) (λ n. pick n (in_or_not l q))
+  where
+    pick : ¬ (l ≡ m) → In l q ⊎ (¬ (In l q)) → In l (m ∷ q) ⊎ (¬ (In l (m ∷ q)))
+    pick n (inl i) = inl (inr i)
+    pick n (inr o) = inr none
+      where
+        none : In l (m ∷ q) → ⊥
+        none (inl e) = n e
+        none (inr i) = o i
+
 -- what stands on a way has one before it
 before_along : (v t : ℕ) (r : List ℕ) (e : ℕ) → (v ≡ e) ⊎ In v r → (p : ℕ) × FollowsAlong p v t r e
 before_along v t [] e (inl h) = (t, (refl, sym h))
@@ -70,7 +83,9 @@ square_volume z l m w n =
 pub beyond_volume : (z l m w n : Vector) → pos 0 <ℤ dot n (minus l z) → dot n (minus m z) ≡ dot n (minus l z) → dot w (minus m z) <ℤ dot w (minus l z)
     → pos 0 <ℤ vol z l m (plus z (cross_product w n))
 beyond_volume z l m w n h e far =
-    subst (λ k. pos 0 <ℤ k) (sym (vol-plus z l m (cross_product w n) ∙ square_volume z l m w n ∙ plain (dot n (minus l z)) (dot n (minus m z)) (dot w (minus l z)) (dot w (minus m z)) e))
+    subst (λ k. pos 0 <ℤ k)
+    (sym (vol-plus z l m (cross_product w n) ∙ square_volume z l m w n
+    ∙ plain (dot n (minus l z)) (dot n (minus m z)) (dot w (minus l z)) (dot w (minus m z)) e))
     (mul-pos (dot n (minus l z)) (dot w (minus l z) -ℤ dot w (minus m z)) h (gap (dot w (minus m z)) (dot w (minus l z)) far))
   where
     gap : (a b : ℤ) → a <ℤ b → pos 0 <ℤ (b -ℤ a)
@@ -168,7 +183,8 @@ module _ (at : ℕ → Vector) (z l : Vector) (q : List ℕ) (sides : (u v : ℕ
               where
                 last : vol z l (at u) (at v) ≡ pos 0 → IsGreatest num den v q → (x : ℕ) × Follows v x q → ⊥
                 last zero h (x, n) =
-                    clash (vol z (at v) (at u) l) (vol z (at v) (at x) e) (vol z (at v) (at u) e) (vol z (at v) (at x) l) (vol z (at v) (at u) (at x)) (vol z (at v) l e)
+                    clash (vol z (at v) (at u) l) (vol z (at v) (at x) e) (vol z (at v) (at u) e) (vol z (at v) (at x) l)
+                    (vol z (at v) (at u) (at x)) (vol z (at v) l e)
                     (edge_product z (at v) (at u) (at x) l e)
                     (flip_round z (at u) (at v) l ∙ ap neg_ℤ (sym (vol-round z l (at u) (at v)) ∙ zero))
                     (sym (vol-round z l (at v) (at x)) ∙ (none_left v (follows_members u v q k).1 h x n).0)

@@ -11,21 +11,24 @@ use Rattle.qh_model.proofs.algebra.VectorIdentities.{vec, put, detE, vector_path
 use Rattle.qh_convex_laws.proofs.UnderTriangles.{above_sum}
 
 -- its first coordinate
-first_coordinate : (z a b c p : Vector) → vol z a b c *ℤ (p.x -ℤ z.x) ≡ vol z b c p *ℤ (a.x -ℤ z.x) +ℤ vol z c a p *ℤ (b.x -ℤ z.x) +ℤ vol z a b p *ℤ (c.x -ℤ z.x)
+first_coordinate : (z a b c p : Vector)
+    → vol z a b c *ℤ (p.x -ℤ z.x) ≡ vol z b c p *ℤ (a.x -ℤ z.x) +ℤ vol z c a p *ℤ (b.x -ℤ z.x) +ℤ vol z a b p *ℤ (c.x -ℤ z.x)
 unfolding vol cross
 first_coordinate z a b c p =
     ring (put (minus a z) (put (minus b z) (put (minus c z) (put (minus p z) [])))) (mul (detE (vec 0) (vec 1) (vec 2)) (var 9))
     (add (add (mul (detE (vec 1) (vec 2) (vec 3)) (var 0)) (mul (detE (vec 2) (vec 0) (vec 3)) (var 3))) (mul (detE (vec 0) (vec 1) (vec 3)) (var 6))) refl
 
 -- the second
-second_coordinate : (z a b c p : Vector) → vol z a b c *ℤ (p.y -ℤ z.y) ≡ vol z b c p *ℤ (a.y -ℤ z.y) +ℤ vol z c a p *ℤ (b.y -ℤ z.y) +ℤ vol z a b p *ℤ (c.y -ℤ z.y)
+second_coordinate : (z a b c p : Vector)
+    → vol z a b c *ℤ (p.y -ℤ z.y) ≡ vol z b c p *ℤ (a.y -ℤ z.y) +ℤ vol z c a p *ℤ (b.y -ℤ z.y) +ℤ vol z a b p *ℤ (c.y -ℤ z.y)
 unfolding vol cross
 second_coordinate z a b c p =
     ring (put (minus a z) (put (minus b z) (put (minus c z) (put (minus p z) [])))) (mul (detE (vec 0) (vec 1) (vec 2)) (var 10))
     (add (add (mul (detE (vec 1) (vec 2) (vec 3)) (var 1)) (mul (detE (vec 2) (vec 0) (vec 3)) (var 4))) (mul (detE (vec 0) (vec 1) (vec 3)) (var 7))) refl
 
 -- the third
-third_coordinate : (z a b c p : Vector) → vol z a b c *ℤ (p.z -ℤ z.z) ≡ vol z b c p *ℤ (a.z -ℤ z.z) +ℤ vol z c a p *ℤ (b.z -ℤ z.z) +ℤ vol z a b p *ℤ (c.z -ℤ z.z)
+third_coordinate : (z a b c p : Vector)
+    → vol z a b c *ℤ (p.z -ℤ z.z) ≡ vol z b c p *ℤ (a.z -ℤ z.z) +ℤ vol z c a p *ℤ (b.z -ℤ z.z) +ℤ vol z a b p *ℤ (c.z -ℤ z.z)
 unfolding vol cross
 third_coordinate z a b c p =
     ring (put (minus a z) (put (minus b z) (put (minus c z) (put (minus p z) [])))) (mul (detE (vec 0) (vec 1) (vec 2)) (var 11))

@@ -3,8 +3,6 @@
 use Rattle.std.proofs.Common.{◌≡◌, ◌≢◌, ℕ, refl, sym, ap, subst, ◌∙◌, arith, List, [], ◌∷◌, ◌⊎◌, inl, inr}
 use Rattle.std.proofs.lemmas.Int.{ints, by_lt_z}
 use Rattle.std.specs.Prelude.{ℤ, pos, ◌+ℤ◌, ◌-ℤ◌, ◌*ℤ◌, neg_ℤ, ◌≤ℤ◌, ◌<ℤ◌}
-use mathlib.Core.Logic.{dite}
-use native.Mathlib.Decide.{ℕ_discrete}
 use Rattle.qh_model.specs.headline.Vector.{Vector, minus, cross_product, dot}
 use Rattle.qh_model.specs.headline.Predicates.{cross, vol, left}
 use Rattle.qh_model.specs.headline.Sets.{In, Members}
@@ -21,7 +19,8 @@ use Rattle.qh_model.proofs.algebra.Ring.{ring}
 use Rattle.qh_model.proofs.algebra.Ring.Expr.{add}
 use Rattle.qh_model.proofs.algebra.Order.{cancel-zero, mul-neg_neg, mul-pos_neg, mul-nonneg, mul-nonneg_nonpos, product_zero}
 use Rattle.qh_model.proofs.algebra.Signs.{less_le}
-use Rattle.qh_model.proofs.algebra.VectorIdentities.{vec, put, dotE, vol-linear, dot-minus, opposite, dot-opposite, left-turn, left-flip, in_line-left, in_line-twice}
+use Rattle.qh_model.proofs.algebra.VectorIdentities.{vec, put, dotE, vol-linear, dot-minus, opposite, dot-opposite, left-turn, left-flip}
+use Rattle.qh_model.proofs.algebra.VectorIdentities.{in_line-left, in_line-twice}
 use Rattle.qh_model.proofs.algebra.VectorIdentities.{vol-second, vol-third}
 use Rattle.qh_model.proofs.combinations.Alternatives.{all_lower}
 use Rattle.qh_model.proofs.extremes.Directions.{square-positive}
@@ -37,21 +36,8 @@ use Rattle.qh_convex_laws.proofs.OffPoints.{plus}
 use Rattle.qh_convex_laws.proofs.NoneAbove.{vol-from, plusE}
 use Rattle.qh_convex_laws.proofs.UnderTriangles.{above_sum}
 use Rattle.qh_convex_laws.proofs.InTriangles.{at_corner}
-use Rattle.qh_convex_laws.proofs.Cycles.{before_member, third_member, beyond_volume, none_ahead}
+use Rattle.qh_convex_laws.proofs.Cycles.{in_or_not, before_member, third_member, beyond_volume, none_ahead}
 use Rattle.qh_convex_laws.proofs.Convex.{member_below, local_supports}
-
--- an id is in a list or not
-in_or_not : (l : ℕ) (q : List ℕ) → In l q ⊎ (¬ (In l q))
-in_or_not l [] = inr (λ i. i)
-in_or_not l (m ∷ q) = dite (ℕ_discrete l m) (λ e. inl (inl e)) (λ n. pick n (in_or_not l q))
-  where
-    pick : ¬ (l ≡ m) → In l q ⊎ (¬ (In l q)) → In l (m ∷ q) ⊎ (¬ (In l (m ∷ q)))
-    pick n (inl i) = inl (inr i)
-    pick n (inr o) = inr none
-      where
-        none : In l (m ∷ q) → ⊥
-        none (inl e) = n e
-        none (inr i) = o i
 
 -- a positive number and its opposite
 opposed : (a b : ℤ) → a ≡ neg_ℤ b → pos 0 <ℤ a → pos 0 <ℤ b → ⊥
@@ -248,8 +234,8 @@ module _ (at : ℕ → Vector) (ids : List ℕ) (ts : List Triple) (z d : Vector
 
         far : vol z (at b) (at a) (at x) ≡ vol z (at v) (at b) (at a)
         far =
-            plain (vol z (at a) (at v) (at x)) (vol z (at v) (at b) (at x)) (vol z (at b) (at a) (at x)) (vol z (at v) (at b) (at a)) (vol (at v) (at b) (at a) (at x))
-            (sides x m a v f) (sides x m v b g) h level (above_sum z (at v) (at b) (at a) (at x))
+            plain (vol z (at a) (at v) (at x)) (vol z (at v) (at b) (at x)) (vol z (at b) (at a) (at x))
+            (vol z (at v) (at b) (at a)) (vol (at v) (at b) (at a) (at x)) (sides x m a v f) (sides x m v b g) h level (above_sum z (at v) (at b) (at a) (at x))
           where
             plain : (s u r k n : ℤ) → pos 0 ≤ℤ s → pos 0 ≤ℤ u → (s +ℤ u) ≤ℤ pos 0 → n ≡ pos 0 → n ≡ u +ℤ r +ℤ s -ℤ k → r ≡ k
             plain s u r k n a b e f g = omega (arith, ints)
