@@ -4,7 +4,7 @@
 #![tactic(auto)]
 
 ghost use Rattle.qh_convex_laws.specs.laws.ConvexLaws.{LocalIsConvex, UnderIsBelow, LocalSupports, SharpIsFace, SharpPolygonIsFace, SharpPolygonsAreFaces};
-ghost use Rattle.qh_convex_laws.specs.laws.ConvexLaws.{SharpIsSolid};
+ghost use Rattle.qh_convex_laws.specs.laws.ConvexLaws.{SharpIsSolid, TrianglePolygonsAreFaces, TrianglePolygonsHaveExtremes};
 
 /// A closed surface of triangles that turns outwards at no edge, has a place strictly below all its triangles,
 /// and is met just once by a ray from there, has no corner above any of its triangles. So each triangle supports
@@ -23,8 +23,11 @@ pub fn sharp_polygon_is_face()
 {}
 
 /// Polygons of this kind, one at least, that close up and stand in rising order are all faces of the set, which
-/// is a solid. So the hull of many points is told by a look at each edge, one ray, and a triangle for each point.
+/// is a solid. They close up where each triangle is in the plane of one of them, and then their corners are the
+/// extreme ids. So the hull of many points is told by a look at each edge, one ray, and a triangle for each point.
 pub fn sharp_polygons_are_hull()
     ensures faces { SharpPolygonsAreFaces }
+    ensures each { TrianglePolygonsAreFaces }
+    ensures extremes { TrianglePolygonsHaveExtremes }
     ensures dimension { SharpIsSolid }
 {}

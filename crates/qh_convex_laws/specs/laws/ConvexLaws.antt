@@ -1,10 +1,11 @@
 -- The laws of locally convex surfaces.
 -- Source: Mehlhorn, Naeher, Seel, Seidel, Schilz, Schirra and Uhrig 1999 (checking geometric programs).
-use Rattle.std.specs.Prelude.{ℕ, List, [], ◌∷◌, ◌<◌, pos, ◌≤ℤ◌}
+use Rattle.std.specs.Prelude.{ℕ, ◌↔◌, List, [], ◌∷◌, ◌<◌, pos, ◌≤ℤ◌}
 use Rattle.qh_model.specs.headline.Vector.{Vector}
 use Rattle.qh_model.specs.headline.Predicates.{vol}
 use Rattle.qh_model.specs.headline.Sets.{In, Members}
 use Rattle.qh_model.specs.headline.Polygons.{IsFacePolygon, RiseStrictly, AreFaces}
+use Rattle.qh_model.specs.headline.Extreme.{Extreme}
 use Rattle.qh_model.specs.headline.Dimension.{IsDimension}
 use Rattle.qh_model.specs.contract.ClosedPolygons.{AreClosed}
 use Rattle.qh_model.specs.contract.IdSets.{HasDistinctPoints}
@@ -52,6 +53,24 @@ SharpPolygonsAreFaces = (at : ℕ → Vector) (ids : List ℕ) (ts : List Triple
     → HasAllUnder at ids ts z → HasDistinctPoints at (Members ids)
     → (qs : List (List ℕ)) (q : List ℕ) → In q qs → AreSharpPolygons at ts qs → AreClosed qs → RiseStrictly qs
     → AreFaces at (Members ids) qs
+
+-- polygons of the triangles: each is one of these, and each triangle is in the plane of one
+pub record ArePolygonsOf (at : ℕ → Vector) (ts : List Triple) (qs : List (List ℕ)) : Type 0 where
+  pub sharp : AreSharpPolygons at ts qs
+  pub each : (t : Triple) → In t ts → (q : List ℕ) × In q qs × IsSharpPolygon at ts t q
+
+-- these are all faces
+abbrev pub TrianglePolygonsAreFaces : Type 0
+TrianglePolygonsAreFaces = (at : ℕ → Vector) (ids : List ℕ) (ts : List Triple) (z d : Vector) → IsLocallyConvex at ts z d
+    → HasAllUnder at ids ts z → HasDistinctPoints at (Members ids)
+    → (qs : List (List ℕ)) → ArePolygonsOf at ts qs → RiseStrictly qs → AreFaces at (Members ids) qs
+
+-- and their corners are the extreme ids
+abbrev pub TrianglePolygonsHaveExtremes : Type 0
+TrianglePolygonsHaveExtremes = (at : ℕ → Vector) (ids : List ℕ) (ts : List Triple) (z d : Vector) → IsLocallyConvex at ts z d
+    → HasAllUnder at ids ts z → HasDistinctPoints at (Members ids)
+    → (qs : List (List ℕ)) → ArePolygonsOf at ts qs
+    → (l : ℕ) → Extreme at (Members ids) l ↔ ((q : List ℕ) × In q qs × In l q)
 
 -- and the set is a solid
 abbrev pub SharpIsSolid : Type 0
