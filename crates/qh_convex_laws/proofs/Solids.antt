@@ -1,7 +1,9 @@
 -- Polygons with what is past them strictly below that close up are the faces of a solid.
-use Rattle.std.proofs.Common.{ℕ, refl, sym, List, [], ◌∷◌, inl, inr}
+use Rattle.std.proofs.Common.{◌≡◌, ℕ, refl, sym, List, [], ◌∷◌, inl, inr}
+use Rattle.std.specs.Prelude.{pos}
 use Rattle.qh_model.specs.headline.Sets.{In, Members}
 use Rattle.qh_model.specs.headline.Polygon.{Follows}
+use Rattle.qh_model.specs.headline.Vector.{Vector}
 use Rattle.qh_model.specs.headline.Predicates.{vol}
 use Rattle.qh_model.specs.headline.Extreme.{Extreme}
 use Rattle.qh_model.specs.headline.SupportingPlane.{IsSupportingTriple}
@@ -15,9 +17,9 @@ use Rattle.qh_model.specs.contract.ClosedPolygons.{IsFace}
 use Rattle.qh_model.proofs.polygons.{ClosedFaces.closed_faces_are_all, Edges.seen_from}
 use Rattle.qh_model.proofs.closed_surfaces.Supporting.{closed_miss_no_plane, closed_miss_no_extreme}
 use Rattle.qh_model.proofs.polygons.Neighbours.{next_member}
-use Rattle.qh_convex_laws.specs.contract.LocallyConvex.{IsRound, IsSharpEdge}
+use Rattle.qh_convex_laws.specs.contract.LocallyConvex.{IsRound, IsSharpEdge, ArePolygonsOf, IsLocallyConvex, HasAllUnder}
 use Rattle.qh_convex_laws.specs.laws.ConvexLaws.{SharpPolygonsAreFaces, SharpIsSolid}
-use Rattle.qh_convex_laws.specs.laws.ConvexLaws.{ArePolygonsOf, TrianglePolygonsAreFaces, TrianglePolygonsHaveExtremes}
+use Rattle.qh_convex_laws.specs.laws.ConvexLaws.{TrianglePolygonsAreFaces, TrianglePolygonsHaveExtremes}
 use Rattle.qh_convex_laws.proofs.Convex.{local_supports}
 use Rattle.qh_convex_laws.proofs.Cycles.{third_member}
 use Rattle.qh_convex_laws.proofs.PolygonFaces.{sharp_polygon_is_face}

@@ -53,6 +53,15 @@ pub record IsSharpPolygon (at : ℕ → Vector) (ts : List Triple) (t : Triple) 
   pub round : (u v : ℕ) → Follows u v q → TurnsLeft at (cross (at t.i) (at t.j) (at t.k)) q u v
   pub edges : (u v : ℕ) → Follows u v q → IsSharpEdge at ts t u v
 
+-- each polygon of the list is sharp
+abbrev pub AreSharpPolygons : (ℕ → Vector) → List Triple → List (List ℕ) → Type 0
+AreSharpPolygons at ts qs = (q : List ℕ) → In q qs → (t : Triple) × In t ts × IsSharpPolygon at ts t q
+
+-- polygons of the triangles: each is sharp, and each triangle is in the plane of one
+pub record ArePolygonsOf (at : ℕ → Vector) (ts : List Triple) (qs : List (List ℕ)) : Type 0 where
+  pub sharp : AreSharpPolygons at ts qs
+  pub each : (t : Triple) → In t ts → (q : List ℕ) × In q qs × IsSharpPolygon at ts t q
+
 -- does the ray from z through d meet the inside of t, for a triangle with z strictly below?
 abbrev pub is_met : (ℕ → Vector) → Vector → Vector → Triple → Bool
 is_met at z d t =

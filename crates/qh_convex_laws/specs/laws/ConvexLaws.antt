@@ -13,6 +13,7 @@ use Rattle.qh_model.specs.contract.ClosedSurface.{Triple, IsClosedSurface}
 use Rattle.qh_model.specs.laws.ClosedSurfaceLaws.{IsCornerOf}
 use Rattle.qh_model.specs.laws.ClosedFaceLaws.{AreSupporting}
 use Rattle.qh_convex_laws.specs.contract.LocallyConvex.{IsRound, IsSharpAround, IsSharpPolygon, IsLocallyConvex, IsUnder, HasAllUnder}
+use Rattle.qh_convex_laws.specs.contract.LocallyConvex.{AreSharpPolygons, ArePolygonsOf}
 
 -- no corner of a locally convex surface is above a triangle of it
 abbrev pub LocalIsConvex : Type 0
@@ -43,23 +44,14 @@ SharpPolygonIsFace = (at : ℕ → Vector) (ids : List ℕ) (ts : List Triple) (
     → (t : Triple) → In t ts → (q : List ℕ) → IsSharpPolygon at ts t q → IsFacePolygon at (Members ids) t.i t.j t.k q
 
 -- ---- hulls
--- each polygon of the list is one of these
-abbrev pub AreSharpPolygons : (ℕ → Vector) → List Triple → List (List ℕ) → Type 0
-AreSharpPolygons at ts qs = (q : List ℕ) → In q qs → (t : Triple) × In t ts × IsSharpPolygon at ts t q
-
--- where such polygons, one at least, close up, they are all faces
+-- where sharp polygons, one at least, close up, they are all faces
 abbrev pub SharpPolygonsAreFaces : Type 0
 SharpPolygonsAreFaces = (at : ℕ → Vector) (ids : List ℕ) (ts : List Triple) (z d : Vector) → IsLocallyConvex at ts z d
     → HasAllUnder at ids ts z → HasDistinctPoints at (Members ids)
     → (qs : List (List ℕ)) (q : List ℕ) → In q qs → AreSharpPolygons at ts qs → AreClosed qs → RiseStrictly qs
     → AreFaces at (Members ids) qs
 
--- polygons of the triangles: each is one of these, and each triangle is in the plane of one
-pub record ArePolygonsOf (at : ℕ → Vector) (ts : List Triple) (qs : List (List ℕ)) : Type 0 where
-  pub sharp : AreSharpPolygons at ts qs
-  pub each : (t : Triple) → In t ts → (q : List ℕ) × In q qs × IsSharpPolygon at ts t q
-
--- these are all faces
+-- the polygons of all triangles are all faces
 abbrev pub TrianglePolygonsAreFaces : Type 0
 TrianglePolygonsAreFaces = (at : ℕ → Vector) (ids : List ℕ) (ts : List Triple) (z d : Vector) → IsLocallyConvex at ts z d
     → HasAllUnder at ids ts z → HasDistinctPoints at (Members ids)
