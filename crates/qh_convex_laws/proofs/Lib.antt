@@ -17,3 +17,5 @@ pub mod Cycles
 pub mod PolygonFaces
 pub mod TriangleFaces
 pub mod Solids
+pub mod ScaledPoints
+pub mod Scales

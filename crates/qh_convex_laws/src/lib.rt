@@ -5,6 +5,8 @@
 
 ghost use Rattle.qh_convex_laws.specs.laws.ConvexLaws.{LocalIsConvex, UnderIsBelow, LocalSupports, SharpIsFace, SharpPolygonIsFace, SharpPolygonsAreFaces};
 ghost use Rattle.qh_convex_laws.specs.laws.ConvexLaws.{SharpIsSolid, TrianglePolygonsAreFaces, TrianglePolygonsHaveExtremes};
+ghost use Rattle.qh_convex_laws.specs.laws.ScaleLaws.{ScaledVolume, ScaleKeepsDistinct, ScaleKeepsConvex, ScaleKeepsPolygons};
+ghost use Rattle.qh_convex_laws.specs.laws.ScaleLaws.{ScaleKeepsExtremes, ScaleKeepsFaces};
 
 /// A closed surface of triangles that turns outwards at no edge, has a place strictly below all its triangles,
 /// and is met just once by a ray from there, has no corner above any of its triangles. So each triangle supports
@@ -30,4 +32,15 @@ pub fn sharp_polygons_are_hull()
     ensures each { TrianglePolygonsAreFaces }
     ensures extremes { TrianglePolygonsHaveExtremes }
     ensures dimension { SharpIsSolid }
+{}
+
+/// A place inside need be no whole vector, as with the middle of a tetrahedron. It is one where the points are
+/// taken at a larger scale, and what holds there of faces and extreme ids holds of the points.
+pub fn scale_keeps_hull()
+    ensures volume { ScaledVolume }
+    ensures points { ScaleKeepsDistinct }
+    ensures convex { ScaleKeepsConvex }
+    ensures polygons { ScaleKeepsPolygons }
+    ensures extremes { ScaleKeepsExtremes }
+    ensures faces { ScaleKeepsFaces }
 {}
