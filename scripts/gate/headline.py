@@ -33,7 +33,8 @@ HEADLINE = {(CRATES / "qh_serve/src/answers.rt", "answer"), (CRATES / "qh_serve/
 CHECKER = {(CRATES / "hullcheck/src/judging.rt", "check_streams"), (CRATES / "hullcheck/src/program.rt", "judge_words"),
            (CRATES / "hullcheck/src/program.rt", "run")}
 SETTINGS = CRATES / "qh_serve/src/settings.rt"
-LAWS = (CRATES / "qh_model/src/laws", CRATES / "qh_laws/src", CRATES / "qh_tree_laws/src", CRATES / "qh_seam_laws/src")
+LAWS = (CRATES / "qh_model/src/laws", CRATES / "qh_laws/src", CRATES / "qh_tree_laws/src", CRATES / "qh_seam_laws/src",
+        CRATES / "qh_convex_laws/src")
 NAMED = re.compile(r"`([^`\s]+)`")
 ROW = re.compile(r"^\| \[\w+\]\(([^)]*\.antt)\) \| ([^|]*) \|", re.M)
 

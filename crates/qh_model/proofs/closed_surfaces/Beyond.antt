@@ -20,7 +20,7 @@ beyond c i j k n = record {
 }
 
 -- the same of expressions
-abbrev scaledE : Expr → VE → VE
+abbrev pub scaledE : Expr → VE → VE
 scaledE m p = record { x = mul m p.x; y = mul m p.y; z = mul m p.z }
 
 abbrev beyondE : Expr → (i j k n : VE) → VE
@@ -31,7 +31,7 @@ beyondE c i j k n = record {
 }
 
 -- a normal grows by the square of the scale
-cross-scaled : (m : ℤ) (a b d : Vector) → cross (scaled m a) (scaled m b) (scaled m d) ≡ scaled (m *ℤ m) (cross a b d)
+pub cross-scaled : (m : ℤ) (a b d : Vector) → cross (scaled m a) (scaled m b) (scaled m d) ≡ scaled (m *ℤ m) (cross a b d)
 unfolding cross
 cross-scaled m a b d =
     let M = var 9 in let A = vec 0 in let B = vec 1 in let D = vec 2 in

@@ -45,7 +45,7 @@ one_or_all {X} P Q (x ∷ xs) f = go (f x (inl refl)) (one_or_all P Q xs (λ y i
         each y (inr i) = r y i
 
 -- a number above all of a list
-ceiling : {X : Type 0} (g : X → ℤ) (xs : List X) → (c : ℕ) × ((x : X) → In x xs → g x <ℤ pos c)
+pub ceiling : {X : Type 0} (g : X → ℤ) (xs : List X) → (c : ℕ) × ((x : X) → In x xs → g x <ℤ pos c)
 ceiling g [] = (0, λ x i. absurd i)
 ceiling {X} g (x ∷ xs) = go (g x) refl (ceiling g xs)
   where

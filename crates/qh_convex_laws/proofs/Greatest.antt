@@ -1,0 +1,107 @@
+-- The greatest of finitely many fractions, and the one member that passes a test.
+use Rattle.std.proofs.Common.{◌≡◌, ℕ, ◌+◌, ◌≤◌, refl, sym, ap, subst, ◌∙◌, arith, List, [], ◌∷◌, Bool, true, false, cond, inl, inr}
+use Rattle.std.proofs.lemmas.Int.{ints, by_lt_z}
+use Rattle.std.specs.Prelude.{ℤ, pos, ◌-ℤ◌, ◌*ℤ◌, ◌≤ℤ◌, ◌<ℤ◌}
+use Rattle.qh_model.specs.headline.Sets.{In}
+use Rattle.qh_model.proofs.algebra.Order.{mul-le, mul-pos}
+use Rattle.qh_model.proofs.algebra.Signs.{less_le}
+use Rattle.qh_model.proofs.algebra.Ring.{ring}
+use Rattle.qh_model.proofs.algebra.Ring.Expr.{var, sub as less, mul}
+use Rattle.qh_model.proofs.algebra.Integers.{mul_swap, mul_comm}
+use Rattle.qh_model.proofs.closed_surfaces.Sums.{count}
+
+-- a positive factor goes
+cancel-le : (k a b : ℤ) → pos 0 <ℤ k → (k *ℤ a) ≤ℤ (k *ℤ b) → a ≤ℤ b
+cancel-le k a b h e = by_lt_z b a (λ l. absurd (go l)) (λ l. l)
+  where
+    gap : (a b : ℤ) → b <ℤ a → pos 0 <ℤ (a -ℤ b)
+    gap a b l = omega (arith, ints)
+
+    split : (k a b : ℤ) → k *ℤ (a -ℤ b) ≡ k *ℤ a -ℤ k *ℤ b
+    split k a b =
+        ring (k ∷ a ∷ b ∷ []) (mul (var 0) (less (var 1) (var 2))) (less (mul (var 0) (var 1)) (mul (var 0) (var 2))) refl
+
+    apart : (x y w : ℤ) → w ≡ x -ℤ y → pos 0 <ℤ w → x ≤ℤ y → ⊥
+    apart x y w e p q = omega (arith, ints)
+
+    go : b <ℤ a → ⊥
+    go l = apart (k *ℤ a) (k *ℤ b) (k *ℤ (a -ℤ b)) (split k a b) (mul-pos k (a -ℤ b) h (gap a b l)) e
+
+-- fractions are in order
+pub ratio-trans : (a b c p q r : ℤ) → pos 0 <ℤ p → pos 0 <ℤ q → pos 0 <ℤ r → (a *ℤ q) ≤ℤ (b *ℤ p) → (b *ℤ r) ≤ℤ (c *ℤ q) → (a *ℤ r) ≤ℤ (c *ℤ p)
+ratio-trans a b c p q r hp hq hr e f =
+    cancel-le q (a *ℤ r) (c *ℤ p) hq
+    (chain (q *ℤ (a *ℤ r)) (r *ℤ (a *ℤ q)) (r *ℤ (b *ℤ p)) (p *ℤ (b *ℤ r)) (p *ℤ (c *ℤ q)) (q *ℤ (c *ℤ p))
+    (turned q a r) (mul-le r (a *ℤ q) (b *ℤ p) (less_le (pos 0) r hr) e) (turned r b p)
+    (mul-le p (b *ℤ r) (c *ℤ q) (less_le (pos 0) p hp) f) (turned p c q))
+  where
+    turned : (q a r : ℤ) → q *ℤ (a *ℤ r) ≡ r *ℤ (a *ℤ q)
+    turned q a r = mul_swap q a r ∙ ap (λ v. a *ℤ v) (mul_comm q r) ∙ mul_swap a r q
+
+    chain : (a b c d e f : ℤ) → a ≡ b → b ≤ℤ c → c ≡ d → d ≤ℤ e → e ≡ f → a ≤ℤ f
+    chain a b c d e f g h i j k = omega (arith, ints)
+
+-- the fractions n / m of a list with positive m have a greatest
+module _ {X : Type 0} (n m : X → ℤ) where
+  -- none of the list is greater
+  abbrev pub IsGreatest : X → List X → Type 0
+  IsGreatest t xs = (s : X) → In s xs → (n s *ℤ m t) ≤ℤ (n t *ℤ m s)
+
+  pub greatest : (x : X) (xs : List X) → ((y : X) → In y (x ∷ xs) → pos 0 <ℤ m y) → (t : X) × In t (x ∷ xs) × IsGreatest t (x ∷ xs)
+  greatest x [] h = (x, inl refl, each)
+    where
+      own : (v : ℤ) → v ≤ℤ v
+      own v = omega (arith, ints)
+
+      each : IsGreatest x (x ∷ [])
+      each s (inl e) = subst (λ w. (n w *ℤ m x) ≤ℤ (n x *ℤ m w)) (sym e) (own (n x *ℤ m x))
+      each s (inr i) = absurd i
+  greatest x (y ∷ ys) h = pick (greatest y ys (λ w i. h w (inr i)))
+    where
+      own : (v : ℤ) → v ≤ℤ v
+      own v = omega (arith, ints)
+
+      pick : (t : X) × In t (y ∷ ys) × IsGreatest t (y ∷ ys) → (t : X) × In t (x ∷ y ∷ ys) × IsGreatest t (x ∷ y ∷ ys)
+      pick (t, i, g) = by_lt_z (n t *ℤ m x) (n x *ℤ m t) (λ l. (x, inl refl, new l)) (λ l. (t, inr i, old l))
+        where
+          new : (n t *ℤ m x) <ℤ (n x *ℤ m t) → IsGreatest x (x ∷ y ∷ ys)
+          new l s (inl e) = subst (λ w. (n w *ℤ m x) ≤ℤ (n x *ℤ m w)) (sym e) (own (n x *ℤ m x))
+          new l s (inr j) = ratio-trans (n s) (n t) (n x) (m s) (m t) (m x) (h s (inr j)) (h t (inr i)) (h x (inl refl)) (g s j) (less_le _ _ l)
+
+          old : (n x *ℤ m t) ≤ℤ (n t *ℤ m x) → IsGreatest t (x ∷ y ∷ ys)
+          old l s (inl e) = subst (λ w. (n w *ℤ m t) ≤ℤ (n t *ℤ m w)) (sym e) l
+          old l s (inr j) = g s j
+
+-- ---- the one that passes
+module _ {X : Type 0} (p : X → Bool) where
+  -- what passes is counted
+  counted : (xs : List X) (x : X) → In x xs → p x ≡ true → 1 ≤ count p xs
+  counted [] x i h = absurd i
+  counted (y ∷ ys) x (inl e) h = plain (p y) (count p ys) (ap p (sym e) ∙ h)
+    where
+      plain : (b : Bool) (k : ℕ) → b ≡ true → 1 ≤ cond b 1 0 + k
+      plain true k e = omega arith
+      plain false k e = cc
+  counted (y ∷ ys) x (inr i) h = plain (p y) (count p ys) (counted ys x i h)
+    where
+      plain : (b : Bool) (k : ℕ) → 1 ≤ k → 1 ≤ cond b 1 0 + k
+      plain b k e = omega arith
+
+  -- where one passes at most, two that pass are one
+  pub only_one : (xs : List X) (x y : X) → count p xs ≤ 1 → In x xs → In y xs → p x ≡ true → p y ≡ true → x ≡ y
+  only_one [] x y c i j h k = absurd i
+  only_one (w ∷ ws) x y c (inl e) (inl f) h k = e ∙ sym f
+  only_one (w ∷ ws) x y c (inl e) (inr j) h k = absurd (two (p w) (count p ws) (ap p (sym e) ∙ h) c (counted ws y j k))
+    where
+      two : (b : Bool) (n : ℕ) → b ≡ true → cond b 1 0 + n ≤ 1 → 1 ≤ n → ⊥
+      two true n e l m = omega arith
+      two false n e l m = cc
+  only_one (w ∷ ws) x y c (inr i) (inl f) h k = absurd (two (p w) (count p ws) (ap p (sym f) ∙ k) c (counted ws x i h))
+    where
+      two : (b : Bool) (n : ℕ) → b ≡ true → cond b 1 0 + n ≤ 1 → 1 ≤ n → ⊥
+      two true n e l m = omega arith
+      two false n e l m = cc
+  only_one (w ∷ ws) x y c (inr i) (inr j) h k = only_one ws x y (rest (p w) (count p ws) c) i j h k
+    where
+      rest : (b : Bool) (n : ℕ) → cond b 1 0 + n ≤ 1 → n ≤ 1
+      rest b n l = omega arith

@@ -1,0 +1,126 @@
+-- A point moved a little, by the scale of whole numbers, so that finitely many scalar products are positive or not 0.
+use Rattle.std.proofs.Common.{◌≡◌, ℕ, refl, sym, subst, arith, List, [], ◌∷◌, ◌⊎◌, inl, inr}
+use Rattle.std.proofs.lemmas.Int.{ints, by_lt_z}
+use Rattle.std.specs.Prelude.{ℤ, pos, ◌+ℤ◌, ◌*ℤ◌, neg_ℤ, ◌≤ℤ◌, ◌<ℤ◌}
+use Rattle.qh_model.specs.headline.Vector.{Vector, origin, dot}
+use Rattle.qh_model.specs.headline.Sets.{In}
+use Rattle.qh_model.proofs.algebra.Order.{mul-nonneg, mul-le, zero_or_not, le_less}
+use Rattle.qh_model.proofs.algebra.Ring.{Expr, ring}
+use Rattle.qh_model.proofs.algebra.Ring.Expr.{var, add, mul}
+use Rattle.qh_model.proofs.algebra.VectorIdentities.{VE, vec, put, dotE, opposite, dot-opposite}
+use Rattle.qh_model.proofs.extremes.Directions.{square-positive}
+use Rattle.qh_model.proofs.closed_surfaces.Supporting.{ceiling}
+
+-- n x + v
+abbrev pub along : ℤ → Vector → Vector → Vector
+along n x v = record { x = n *ℤ x.x +ℤ v.x; y = n *ℤ x.y +ℤ v.y; z = n *ℤ x.z +ℤ v.z }
+
+-- the same of expressions
+abbrev alongE : Expr → VE → VE → VE
+alongE n x v = record { x = add (mul n x.x) v.x; y = add (mul n x.y) v.y; z = add (mul n x.z) v.z }
+
+-- its scalar products
+pub dot-along : (p : Vector) (n : ℤ) (x v : Vector) → dot p (along n x v) ≡ n *ℤ dot p x +ℤ dot p v
+dot-along p n x v =
+    ring (put p (put x (put v (n ∷ [])))) (dotE (vec 0) (alongE (var 9) (vec 1) (vec 2)))
+    (add (mul (var 9) (dotE (vec 0) (vec 1))) (dotE (vec 0) (vec 2))) refl
+
+-- p is positive at x, or not below 0 and positive along v
+abbrev pub Rises : Vector → Vector → Vector → Type 0
+Rises p x v = (pos 0 <ℤ dot p x) ⊎ ((pos 0 ≤ℤ dot p x) × (pos 0 <ℤ dot p v))
+
+-- all are positive at x
+abbrev pub AllUp : List Vector → Vector → Type 0
+AllUp ps x = (p : Vector) → In p ps → pos 0 <ℤ dot p x
+
+-- a sum with a large multiple of a positive number
+big_sum : (n : ℕ) (a b s : ℤ) → s ≡ pos n *ℤ a +ℤ b → pos 0 <ℤ a → neg_ℤ b <ℤ pos n → pos 0 <ℤ s
+big_sum n a b s e h l = plain (pos n) (pos n *ℤ pos 1) (pos n *ℤ a) b s e one l (mul-le (pos n) (pos 1) a (omega (arith, ints)) (next a h))
+  where
+    one : pos n *ℤ pos 1 ≡ pos n
+    one = omega (arith, ints)
+
+    next : (a : ℤ) → pos 0 <ℤ a → pos 1 ≤ℤ a
+    next a h = omega (arith, ints)
+
+    plain : (n m p b s : ℤ) → s ≡ p +ℤ b → m ≡ n → neg_ℤ b <ℤ n → m ≤ℤ p → pos 0 <ℤ s
+    plain n m p b s e f l k = omega (arith, ints)
+
+-- a sum with a multiple of a number not below 0
+small_sum : (n : ℕ) (a b s : ℤ) → s ≡ pos n *ℤ a +ℤ b → pos 0 ≤ℤ a → pos 0 <ℤ b → pos 0 <ℤ s
+small_sum n a b s e h l = plain (pos n *ℤ a) b s e (mul-nonneg (pos n) a (omega (arith, ints)) h) l
+  where
+    plain : (p b s : ℤ) → s ≡ p +ℤ b → pos 0 ≤ℤ p → pos 0 <ℤ b → pos 0 <ℤ s
+    plain p b s e h l = omega (arith, ints)
+
+-- a move along v from a large multiple of x
+pub risen : (ps : List Vector) (x v : Vector) → ((p : Vector) → In p ps → Rises p x v) → (y : Vector) × AllUp ps y
+risen ps x v h = go (ceiling (λ p. neg_ℤ (dot p v)) ps)
+  where
+    go : (c : ℕ) × ((p : Vector) → In p ps → neg_ℤ (dot p v) <ℤ pos c) → (y : Vector) × AllUp ps y
+    go (c, f) = (along (pos c) x v, λ p i. pick p (f p i) (h p i))
+      where
+        pick : (p : Vector) → neg_ℤ (dot p v) <ℤ pos c → Rises p x v → pos 0 <ℤ dot p (along (pos c) x v)
+        pick p l (inl k) = big_sum c (dot p x) (dot p v) (dot p (along (pos c) x v)) (dot-along p (pos c) x v) k l
+        pick p l (inr k) = small_sum c (dot p x) (dot p v) (dot p (along (pos c) x v)) (dot-along p (pos c) x v) k.0 k.1
+
+-- no scalar product is 0
+abbrev pub AllOff : List Vector → Vector → Type 0
+AllOff ls x = (l : Vector) → In l ls → ¬ (dot l x ≡ pos 0)
+
+-- what is positive stays positive, and no other is 0 any more
+abbrev pub Perturbed : List Vector → List Vector → Type 0
+Perturbed ls ps = (y : Vector) × AllUp ps y × AllOff ls y
+
+-- one more to be positive
+more_up : (l : Vector) (ps : List Vector) (x : Vector) → pos 0 <ℤ dot l x → AllUp ps x → AllUp (l ∷ ps) x
+more_up l ps x h f p (inl e) = subst (λ q. pos 0 <ℤ dot q x) (sym e) h
+more_up l ps x h f p (inr i) = f p i
+
+-- a positive number is not 0
+up_not_zero : (v : ℤ) → pos 0 <ℤ v → ¬ (v ≡ pos 0)
+up_not_zero v h e = omega (arith, ints)
+
+-- with a sign to keep for l, one more that is not 0
+more_off : (l : Vector) (ls ps : List Vector) → Perturbed ls (l ∷ ps) ⊎ Perturbed ls (opposite l ∷ ps) → Perturbed (l ∷ ls) ps
+more_off l ls ps (inl (y, up, off)) = (y, λ p i. up p (inr i), each)
+  where
+    each : AllOff (l ∷ ls) y
+    each k (inl e) = subst (λ q. ¬ (dot q y ≡ pos 0)) (sym e) (up_not_zero (dot l y) (up l (inl refl)))
+    each k (inr i) = off k i
+more_off l ls ps (inr (y, up, off)) = (y, λ p i. up p (inr i), each)
+  where
+    turned : (v w : ℤ) → w ≡ neg_ℤ v → pos 0 <ℤ w → ¬ (v ≡ pos 0)
+    turned v w e h f = omega (arith, ints)
+
+    each : AllOff (l ∷ ls) y
+    each k (inl e) = subst (λ q. ¬ (dot q y ≡ pos 0)) (sym e) (turned (dot l y) (dot (opposite l) y) (dot-opposite l y) (up (opposite l) (inl refl)))
+    each k (inr i) = off k i
+
+pub perturbed : (ls ps : List Vector) (x : Vector) → ((l : Vector) → In l ls → ¬ (l ≡ origin)) → AllUp ps x → Perturbed ls ps
+perturbed [] ps x n h = (x, h, λ l i. absurd i)
+perturbed (l ∷ ls) ps x n h = start (λ qs w k. perturbed ls qs w (λ m i. n m (inr i)) k) (zero_or_not (dot l x))
+  where
+    turned : (v w : ℤ) → w ≡ neg_ℤ v → v <ℤ pos 0 → pos 0 <ℤ w
+    turned v w e h = omega (arith, ints)
+
+    zero_le : (v : ℤ) → v ≡ pos 0 → pos 0 ≤ℤ v
+    zero_le v e = omega (arith, ints)
+
+    settled : ((qs : List Vector) (w : Vector) → AllUp qs w → Perturbed ls qs) → (w : Vector) → AllUp ps w → ¬ (dot l w ≡ pos 0) → Perturbed (l ∷ ls) ps
+    settled step w k o =
+        by_lt_z (pos 0) (dot l w)
+        (λ q. more_off l ls ps (inl (step (l ∷ ps) w (more_up l ps w q k))))
+        (λ q. more_off l ls ps (inr (step (opposite l ∷ ps) w
+        (more_up (opposite l) ps w (turned (dot l w) (dot (opposite l) w) (dot-opposite l w) (le_less (dot l w) (pos 0) q o)) k))))
+
+    start : ((qs : List Vector) (w : Vector) → AllUp qs w → Perturbed ls qs) → (dot l x ≡ pos 0) ⊎ (¬ (dot l x ≡ pos 0)) → Perturbed (l ∷ ls) ps
+    start step (inr o) = settled step x h o
+    start step (inl o) = moved (risen (l ∷ ps) x l rises)
+      where
+        rises : (p : Vector) → In p (l ∷ ps) → Rises p x l
+        rises p (inl e) = subst (λ q. Rises q x l) (sym e) (inr (zero_le (dot l x) o, square-positive l (n l (inl refl))))
+        rises p (inr i) = inl (h p i)
+
+        moved : (y : Vector) × AllUp (l ∷ ps) y → Perturbed (l ∷ ls) ps
+        moved (y, up) = settled step y (λ p i. up p (inr i)) (up_not_zero (dot l y) (up l (inl refl)))

@@ -1,0 +1,80 @@
+-- Volumes, turns and combinations of points at a larger scale.
+use Rattle.std.proofs.Common.{◌≡◌, ℕ, ◌+◌, refl, sym, ap, ◌∙◌, arith, [], ◌∷◌}
+use Rattle.std.proofs.lemmas.Int.{ints}
+use Rattle.std.specs.Prelude.{ℤ, pos, ◌+ℤ◌, ◌-ℤ◌, ◌*ℤ◌, ◌<ℤ◌}
+use Rattle.qh_model.specs.headline.Vector.{Vector, dot}
+use Rattle.qh_model.specs.headline.Predicates.{cross, vol, left}
+use Rattle.qh_model.specs.headline.Combination.{IsBalanced}
+use Rattle.qh_model.proofs.algebra.Ring.{ring}
+use Rattle.qh_model.proofs.algebra.Ring.Expr.{var, add, sub as less, mul}
+use Rattle.qh_model.proofs.algebra.Order.{cancel-zero}
+use Rattle.qh_model.proofs.algebra.VectorIdentities.{vec, put, volE, dotE, left-dot}
+use Rattle.qh_model.proofs.closed_surfaces.Beyond.{scaled, scaledE, cross-scaled}
+
+-- a volume grows by the third power of the scale
+pub volume_scaled : (m : ℤ) (a b c d : Vector) → vol (scaled m a) (scaled m b) (scaled m c) (scaled m d) ≡ m *ℤ m *ℤ m *ℤ vol a b c d
+unfolding vol cross
+volume_scaled m a b c d =
+    let M = var 12 in
+    ring (put a (put b (put c (put d (m ∷ []))))) (volE (scaledE M (vec 0)) (scaledE M (vec 1)) (scaledE M (vec 2)) (scaledE M (vec 3)))
+    (mul (mul (mul M M) M) (volE (vec 0) (vec 1) (vec 2) (vec 3))) refl
+
+-- a scalar product by the product of two scales
+dot-scaled : (k : ℤ) (p q : Vector) → dot (scaled k p) (scaled k q) ≡ k *ℤ k *ℤ dot p q
+dot-scaled k p q =
+    let K = var 6 in ring (put p (put q (k ∷ []))) (dotE (scaledE K (vec 0)) (scaledE K (vec 1))) (mul (mul K K) (dotE (vec 0) (vec 1))) refl
+
+-- a turn about the normal of three points
+pub left-scaled : (m : ℤ) (i j k u v w : Vector) → left (cross (scaled m i) (scaled m j) (scaled m k)) (scaled m u) (scaled m v) (scaled m w)
+    ≡ m *ℤ m *ℤ (m *ℤ m) *ℤ left (cross i j k) u v w
+left-scaled m i j k u v w =
+    left-dot (cross (scaled m i) (scaled m j) (scaled m k)) (scaled m u) (scaled m v) (scaled m w)
+    ∙ ap (λ p. dot p (cross (scaled m i) (scaled m j) (scaled m k))) (cross-scaled m u v w)
+    ∙ ap (dot (scaled (m *ℤ m) (cross u v w))) (cross-scaled m i j k)
+    ∙ dot-scaled (m *ℤ m) (cross u v w) (cross i j k)
+    ∙ ap (λ s. m *ℤ m *ℤ (m *ℤ m) *ℤ s) (sym (left-dot (cross i j k) u v w))
+
+-- one coordinate of a combination at the scale
+pub balanced_up : (m : ℤ) (w₁ w₂ w₃ w₄ : ℕ) (p a b c d : ℤ) → IsBalanced w₁ w₂ w₃ w₄ p a b c d
+    → IsBalanced w₁ w₂ w₃ w₄ (m *ℤ p) (m *ℤ a) (m *ℤ b) (m *ℤ c) (m *ℤ d)
+balanced_up m w₁ w₂ w₃ w₄ p a b c d e = swapped (pos (w₁ + w₂ + w₃ + w₄)) m p ∙ ap (λ s. m *ℤ s) e ∙ spread (pos w₁) (pos w₂) (pos w₃) (pos w₄)
+  where
+    swapped : (w m p : ℤ) → w *ℤ (m *ℤ p) ≡ m *ℤ (w *ℤ p)
+    swapped w m p = ring (w ∷ m ∷ p ∷ []) (mul (var 0) (mul (var 1) (var 2))) (mul (var 1) (mul (var 0) (var 2))) refl
+
+    spread : (r s t u : ℤ) → m *ℤ (r *ℤ a +ℤ s *ℤ b +ℤ t *ℤ c +ℤ u *ℤ d) ≡ r *ℤ (m *ℤ a) +ℤ s *ℤ (m *ℤ b) +ℤ t *ℤ (m *ℤ c) +ℤ u *ℤ (m *ℤ d)
+    spread r s t u =
+        ring (m ∷ a ∷ b ∷ c ∷ d ∷ r ∷ s ∷ t ∷ u ∷ [])
+        (mul (var 0) (add (add (add (mul (var 5) (var 1)) (mul (var 6) (var 2))) (mul (var 7) (var 3))) (mul (var 8) (var 4))))
+        (add (add (add (mul (var 5) (mul (var 0) (var 1))) (mul (var 6) (mul (var 0) (var 2)))) (mul (var 7) (mul (var 0) (var 3))))
+        (mul (var 8) (mul (var 0) (var 4)))) refl
+
+-- a positive factor goes from both sides
+pub cancel-both : (m a b : ℤ) → pos 0 <ℤ m → m *ℤ a ≡ m *ℤ b → a ≡ b
+cancel-both m a b h e = equal a b (cancel-zero m (a -ℤ b) h (split m a b ∙ none (m *ℤ a) (m *ℤ b) e))
+  where
+    split : (m a b : ℤ) → m *ℤ (a -ℤ b) ≡ m *ℤ a -ℤ m *ℤ b
+    split m a b = ring (m ∷ a ∷ b ∷ []) (mul (var 0) (less (var 1) (var 2))) (less (mul (var 0) (var 1)) (mul (var 0) (var 2))) refl
+
+    none : (a b : ℤ) → a ≡ b → a -ℤ b ≡ pos 0
+    none a b e = omega (arith, ints)
+
+    equal : (a b : ℤ) → a -ℤ b ≡ pos 0 → a ≡ b
+    equal a b e = omega (arith, ints)
+
+-- and back
+pub balanced_down : (m : ℤ) → pos 0 <ℤ m → (w₁ w₂ w₃ w₄ : ℕ) (p a b c d : ℤ)
+    → IsBalanced w₁ w₂ w₃ w₄ (m *ℤ p) (m *ℤ a) (m *ℤ b) (m *ℤ c) (m *ℤ d) → IsBalanced w₁ w₂ w₃ w₄ p a b c d
+balanced_down m h w₁ w₂ w₃ w₄ p a b c d e =
+    cancel-both m (pos (w₁ + w₂ + w₃ + w₄) *ℤ p) (pos w₁ *ℤ a +ℤ pos w₂ *ℤ b +ℤ pos w₃ *ℤ c +ℤ pos w₄ *ℤ d) h
+    (swapped (pos (w₁ + w₂ + w₃ + w₄)) ∙ e ∙ spread (pos w₁) (pos w₂) (pos w₃) (pos w₄))
+  where
+    swapped : (w : ℤ) → m *ℤ (w *ℤ p) ≡ w *ℤ (m *ℤ p)
+    swapped w = ring (w ∷ m ∷ p ∷ []) (mul (var 1) (mul (var 0) (var 2))) (mul (var 0) (mul (var 1) (var 2))) refl
+
+    spread : (r s t u : ℤ) → r *ℤ (m *ℤ a) +ℤ s *ℤ (m *ℤ b) +ℤ t *ℤ (m *ℤ c) +ℤ u *ℤ (m *ℤ d) ≡ m *ℤ (r *ℤ a +ℤ s *ℤ b +ℤ t *ℤ c +ℤ u *ℤ d)
+    spread r s t u =
+        ring (m ∷ a ∷ b ∷ c ∷ d ∷ r ∷ s ∷ t ∷ u ∷ [])
+        (add (add (add (mul (var 5) (mul (var 0) (var 1))) (mul (var 6) (mul (var 0) (var 2)))) (mul (var 7) (mul (var 0) (var 3))))
+        (mul (var 8) (mul (var 0) (var 4))))
+        (mul (var 0) (add (add (add (mul (var 5) (var 1)) (mul (var 6) (var 2))) (mul (var 7) (var 3))) (mul (var 8) (var 4)))) refl

@@ -1,0 +1,11 @@
+use Rattle.qh_convex_laws.proofs.Solids.{sharp_polygons_are_faces, sharp_is_solid}
+use Rattle.qh_convex_laws.proofs.Solids.{triangle_polygons_are_faces, triangle_polygons_have_extremes}
+use Rattle.qh_convex_laws.proofs.sharp_polygons_are_hull.Goals as goal
+
+pub returns : goal.returns
+returns c = record {
+  faces = sharp_polygons_are_faces;
+  each = triangle_polygons_are_faces;
+  extremes = triangle_polygons_have_extremes;
+  dimension = sharp_is_solid;
+}

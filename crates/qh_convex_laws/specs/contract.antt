@@ -1,0 +1,3 @@
+-- What a check of closed surfaces cites.
+pub mod LocallyConvex
+pub mod Scaled
