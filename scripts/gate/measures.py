@@ -24,8 +24,8 @@ MOST_CHARACTERS = 160
 
 LIMITS = {
     "longest parameter list": 6,
-    "long parameter lists": 4,
-    "bare bools": 8,
+    "long parameter lists": 2,
+    "bare bools": 1,
     "long files": 10,
     "long lines": 12,
 }
