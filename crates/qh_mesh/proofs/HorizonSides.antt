@@ -1,4 +1,4 @@
--- The horizon of listed facets: its edges, that as many of them start at a corner as end there, and how it is gathered.
+-- The horizon of listed facets: its edges, that it is balanced, and how it is gathered.
 use Rattle.std.proofs.Common.{◌≡◌, ℕ, ◌+◌, ◌/◌, ◌<◌, ◌≤◌, arith, ap, sym, ◌∙◌, refl, subst, Bool, true, false, cond, not}
 use Rattle.std.proofs.Common.{inl, inr, List, [], ◌∷◌, All, length, map, slice_index}
 use Rattle.std.specs.Prelude.{filter, count_by, flat_map}
@@ -62,7 +62,7 @@ sides_are fs [] = refl
 sides_are fs (v ∷ vs) =
     λ i. noted-is fs v first i ∷ noted-is fs v second i ∷ noted-is fs v third i ∷ sides_are fs vs i
 
--- round each facet as many start as end
+-- the sides of facets: at a corner the number that start is that of those that end
 round : (fs : List StoredFacet) (l : ℕ) (vs : List ℕ) → let hs = flat_map (λ v. three_sides (facet_at fs v)) vs in
     count_by (meets Finish l) hs ≡ count_by (meets Start l) hs
 round fs l [] = refl
@@ -75,7 +75,7 @@ module _ (fs : List StoredFacet) (vs : List ℕ) (t : HasTwins fs) (a : AreFacet
   abbrev meet : End → ℕ → Bool
   meet end e = meets end l (edge_side fs e)
 
-  -- of the sides inside as many start as end
+  -- of the sides inside no more meet it at this end than at the other
   count_inside : (end : End) → count_by (meet end) inside ≤ count_by (meet (other end)) inside
   count_inside end = count_twins (twin_of fs) (meet end) (meet (other end)) inside
       (once_filter (inner fs vs) (sides_of vs) (once_sides vs a.once))

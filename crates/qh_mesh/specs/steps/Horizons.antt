@@ -47,7 +47,7 @@ abbrev pub corner : End → FacetSide → ℕ
 corner Start h = h.from
 corner Finish h = h.to
 
--- at each corner as many sides start as end
+-- at each corner the number of sides that start is that of the sides that end
 abbrev pub IsBalanced : List FacetSide → Type 0
 IsBalanced hs = (end : End) (l : ℕ)
     → count_by (λ h. nat_eq (corner end h) l) hs ≡ count_by (λ h. nat_eq (corner (other end) h) l) hs
