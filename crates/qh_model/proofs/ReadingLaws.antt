@@ -51,7 +51,7 @@ one_reading bytes ps qs a b =
 abbrev pub numbers : List Word → List (Option ℤ)
 numbers ws = map (λ w. number_of w.text) ws
 
--- the front of the words is so many coordinates, and the rest has no fault
+-- the front of the words is k coordinates, and the rest has no fault
 pub record Filled (after : List Word → Option ReadFault) (ws : List Word) (k : ℕ) : Type 0 where
   pub front : List Word
   pub rest : List Word

@@ -1,4 +1,4 @@
-//! Bundles of planes that slant nearly alike, so that one test of a block of points decides for the whole bundle.
+//! Bundles of planes that slant nearly alike. One test of a block of points decides for the whole bundle.
 //!
 //! A normal of the bundle is a whole number of times the direction of the block, and a rest. The rest is
 //! small where both slant alike, so that it matters little how long the box is.

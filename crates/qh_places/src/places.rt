@@ -186,7 +186,7 @@ impl Places {
         self.look(plane, start, to, found)
     }
 
-    /// Returns the number of points from a position on that one block shows to lie below all planes of a
+    /// Returns the number of points from a position on that a single block shows to lie below all planes of a
     /// bundle, or 0.
     fn below_all(&self, bundle: &Bundle, from: usize) -> usize
         ensures { AreBelowAll self.now.points.items bundle.now from (from + result) }

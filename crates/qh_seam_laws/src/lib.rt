@@ -31,9 +31,10 @@ pub fn within_is_settled()
     ensures combination { BelowIsCombination }
 {}
 
-/// Where each kept point is settled or is above a facet that goes, and none is above the ring, the facets
-/// that stay support all, and clear ones have the polygons of all. The part's own points need no look, and
-/// where the others are strictly below the ring, all are clear. So a part gives out its faces.
+/// If each kept point is settled or lies above a removed facet, and no kept point lies above the ring, then
+/// the facets that stay support all points, and the clear ones have the polygons of all points. The part's
+/// own points need no test. If the points of the other parts lie strictly below the ring, every facet that
+/// stays is clear. So a part can answer its faces.
 pub fn staying_faces_are_faces()
     ensures support { StayingSupports }
     ensures polygon { StayingHasPolygon }

@@ -69,8 +69,8 @@ fn room_for<T>(alloc: Global, items: usize) -> Vec<T>
     list
 }
 
-/// Takes the memory that a round needs after its mesh has changed: the cone over the horizon of so
-/// many facets has at most three times as many.
+/// Reserves the memory that a round needs after its mesh has changed. The horizon of `visible` facets has
+/// at most `3 * visible` edges, and the cone has one facet over each of them.
 fn make_ready(
     planes: &mut Vec<Plane>,
     sets: &mut OutsideSets,

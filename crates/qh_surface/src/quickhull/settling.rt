@@ -36,9 +36,9 @@ pub fn release(sets: &mut OutsideSets, gone: &[FacetNo])
 #[derive(Clone, Copy, Drop)]
 struct Below {
     facet: FacetNo,
-    /// Its place among the facets looked at one by one, or past them.
+    /// The index of the facet among those made, or `SCANNED` if the ring named it.
     at: usize,
-    /// The height of the point over it, where it has such a place.
+    /// The height of the point over the facet, or 0 if the ring named it.
     height: i128,
 }
 
