@@ -26,7 +26,7 @@ LIMITS = {
     "longest parameter list": 6,
     "long parameter lists": 2,
     "bare bools": 1,
-    "long files": 10,
+    "long files": 3,
     "long lines": 12,
 }
 WORD_LIMITS = {

@@ -12,7 +12,8 @@ use Rattle.qh_model.specs.contract.BoardMachine.{Place, untouched, held, parked}
 use Rattle.qh_model.specs.contract.BoardMachine.{Machine, Event, arrive_first, Can, after}
 use Rattle.qh_model.specs.contract.BoardMachine.{settled, put, parent}
 use Rattle.qh_model.proofs.board.Updates.{put_here, put_else, at_put}
-use Rattle.qh_model.proofs.board.Kept.{near, ranged}
+use Rattle.qh_model.proofs.board.Siblings.{near}
+use Rattle.qh_model.proofs.board.Grown.{ranged}
 use Rattle.qh_model.proofs.board.Reached.{reach_good}
 use Rattle.qh_board.specs.declared.view.Setup.{Setup}
 use Rattle.qh_board.specs.declared.view.Record.{Record}

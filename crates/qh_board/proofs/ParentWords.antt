@@ -8,7 +8,8 @@ use native.Mathlib.Decide.{ℕ_discrete}
 use Rattle.qh_model.specs.contract.BoardMachine.{Place, untouched, held, parked, used, published}
 use Rattle.qh_model.specs.contract.BoardMachine.{Machine}
 use Rattle.qh_model.specs.contract.BoardMachine.{settled, sibling, parent}
-use Rattle.qh_model.proofs.board.Kept.{Consistent, ArePair, near, ranged}
+use Rattle.qh_model.proofs.board.Grown.{Consistent, ranged}
+use Rattle.qh_model.proofs.board.Siblings.{ArePair, near}
 use Rattle.qh_board.specs.declared.view.Setup.{Setup}
 use Rattle.qh_board.proofs.Steps.{word_else}
 

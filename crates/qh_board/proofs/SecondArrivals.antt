@@ -15,7 +15,9 @@ use Rattle.qh_model.specs.contract.BoardMachine.{Machine, Event, arrive_first, a
 use Rattle.qh_model.specs.contract.BoardMachine.{Reachable, settled, put, sibling, parent}
 use Rattle.qh_model.specs.contract.BoardMachine as machine
 use Rattle.qh_model.proofs.board.Updates.{put_else}
-use Rattle.qh_model.proofs.board.Kept.{ArePair, near, ranged, Cases, same, spent, got, joined, cases, fresh, at_i, at_s, at_p}
+use Rattle.qh_model.proofs.board.Siblings.{ArePair, near}
+use Rattle.qh_model.proofs.board.Grown.{ranged}
+use Rattle.qh_model.proofs.board.Joined.{Cases, same, spent, got, joined, cases, fresh, at_i, at_s, at_p}
 use Rattle.qh_model.proofs.board.Reached.{reach_good}
 use Rattle.qh_board.specs.declared.view.Setup.{Setup}
 use Rattle.qh_board.specs.declared.view.Record.{Record}

@@ -12,7 +12,7 @@ use Rattle.std.proofs.lemmas.Bool.Decides.{nat_tests}
 use Rattle.atomic_table.specs.Table.{State, Me, Act, keeps, gives, chain, Valid, homes_after, carried_after, rest}
 use Rattle.atomic_table.proofs.Lists.{set_here, set_else}
 use Rattle.qh_model.specs.contract.BoardMachine.{Place, untouched, held, used}
-use Rattle.qh_model.proofs.board.Kept.{ranged}
+use Rattle.qh_model.proofs.board.Grown.{ranged}
 use Rattle.qh_model.proofs.board.Reached.{reach_good}
 use Rattle.qh_board.specs.declared.view.Setup.{Setup}
 use Rattle.qh_board.specs.declared.view.View.{View}
