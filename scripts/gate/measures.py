@@ -30,7 +30,6 @@ LIMITS = {
     "long lines": 12,
 }
 WORD_LIMITS = {
-    "near order": 2,
     "raised": 3,
     "/// Whether": 1,
     "as many": 20,
