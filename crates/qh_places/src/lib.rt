@@ -15,6 +15,7 @@ mod levels;
 mod outward;
 mod places;
 mod slabs;
+mod spans;
 mod stretched;
 
 pub use outward::{Outward, first_rank};
