@@ -26,7 +26,7 @@ LIMITS = {
     "longest parameter list": 6,
     "long parameter lists": 2,
     "bare bools": 1,
-    "long files": 3,
+    "long files": 1,
     "long lines": 12,
 }
 WORD_LIMITS = {
