@@ -36,7 +36,7 @@ WORD_LIMITS = {
     "so many": 17,
     "such a": 5,
     "that one": 2,
-    "is none": 6,
+    "is none": 5,
     "are none": 2,
 }
 
