@@ -1,6 +1,6 @@
 //! Which points of a list lie at the place of which distinct point.
 //!
-//! Nothing is proved of what is found: who is told a position compares the points.
+//! Nothing is proved of the positions: the caller compares the points.
 use qh_model::{Id, Point};
 use std::alloc::{AllocError, Global};
 

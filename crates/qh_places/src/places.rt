@@ -17,7 +17,7 @@ use qh_model::{Id, Memory, Point, Polygon};
 use qh_pred::Plane;
 use std::alloc::{AllocError, Global};
 
-/// The positions that are looked at together: those of a block of the lowest level.
+/// The number of positions that are tested together: those of a block of the lowest level.
 const LEAF: usize = 16;
 
 /// The binary logarithm of `LEAF`.
@@ -37,7 +37,7 @@ pub struct Places {
     ghost lowest: { IsLevel points.items leaves },
 }
 
-/// Where the points are that some planes may meet. Planes that slant nearly alike leave few positions.
+/// The positions of the points that some planes may meet. Planes that slant nearly alike leave few positions.
 ///
 /// They are among the first `LEAF` positions from each start on; the planes are those of the bundle.
 #[derive(Drop)]
@@ -175,7 +175,7 @@ impl Places {
         self.leaves.below_all(bundle, from)
     }
 
-    /// Returns the positions that planes of a bundle have to look at.
+    /// Returns the positions that the planes of a bundle have to test.
     fn near(&self, alloc: Global, bundle: Bundle) -> Result<Near, AllocError>
         ensures { IfOk result (IsNear self.now.points.items) }
     {

@@ -153,8 +153,8 @@ impl Run {
         Ok(())
     }
 
-    /// Makes the point at a position, which is above a facet, a corner: the facets that see it make way
-    /// for its cone.
+    /// Makes the point at a position, which is above a facet, a corner: its cone replaces the
+    /// facets that see it.
     fn add(&mut self, alloc: Global, facet: FacetNo, apex: u32) -> Result<(), Memory>
         requires { IsPicked self.old.points.items self.old.mesh self.old.planes.items self.old.sets self.old.pending.items facet apex }
         ensures points { self.new.points.items ≡ self.old.points.items }
