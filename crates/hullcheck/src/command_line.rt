@@ -19,7 +19,7 @@ pub struct Settings<'a> {
     pub reading: Reading,
     /// The file of points.
     pub points: Option<&'a str>,
-    /// The file of faces; standard input where there is none.
+    /// The file of faces; `None` stands for standard input.
     pub faces: Option<&'a str>,
 }
 

@@ -10,6 +10,10 @@ length-ends : (n : ℕ) (qs : List (List ℕ)) → length (ends_from n qs) ≡ l
 length-ends n [] = refl
 length-ends n (q ∷ qs) = let e = length-ends (n + length q) qs in omega (arith, e)
 
+-- what stands behind n in a buffer that ends as another
+pub rest_of : (n : ℕ) (xs ys zs : List ℕ) → xs ≡ ys → drop n ys ≡ drop n zs → drop n xs ≡ drop n zs
+rest_of n xs ys zs e h = ap (drop n) e ∙ h
+
 module _ (pts : List Vector) (s : Sizes) (es os cs : List ℕ) (f : IsFlatHull pts s es os cs) where
   extremes_len : length es ≡ s.extremes
   extremes_len = ap length f.extreme_ids ∙ sym f.sizes.extremes
@@ -24,15 +28,17 @@ module _ (pts : List Vector) (s : Sizes) (es os cs : List ℕ) (f : IsFlatHull p
   corners_len : length cs ≡ s.corners
   corners_len = ap length f.face_corners ∙ sym f.sizes.corners
 
-  pub filled : (eb ob cb : List ℕ) → take (length es) eb ≡ es → take (length os) ob ≡ os → take (length cs) cb ≡ cs → IsAnswered pts s eb ob cb
-  filled eb ob cb e o c = record {
+  -- buffers that end as what was filled
+  pub filled : (eb ob cb eb' ob' cb' : List ℕ) → eb' ≡ eb → ob' ≡ ob → cb' ≡ cb
+      → take (length es) eb ≡ es → take (length os) ob ≡ os → take (length cs) cb ≡ cs → IsAnswered pts s eb' ob' cb'
+  filled eb ob cb eb' ob' cb' se so sc e o c = record {
     flat = record {
       hull = f.hull;
       right = f.right;
       sizes = f.sizes;
-      extreme_ids = ap (λ n. take n eb) (sym extremes_len) ∙ e ∙ f.extreme_ids;
-      face_offsets = ap (λ n. take n ob) (sym offsets_len) ∙ o ∙ f.face_offsets;
-      face_corners = ap (λ n. take n cb) (sym corners_len) ∙ c ∙ f.face_corners;
+      extreme_ids = ap (λ n. take n eb') (sym extremes_len) ∙ ap (take (length es)) se ∙ e ∙ f.extreme_ids;
+      face_offsets = ap (λ n. take n ob') (sym offsets_len) ∙ ap (take (length os)) so ∙ o ∙ f.face_offsets;
+      face_corners = ap (λ n. take n cb') (sym corners_len) ∙ ap (take (length cs)) sc ∙ c ∙ f.face_corners;
     };
   }
 

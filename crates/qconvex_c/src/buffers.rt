@@ -1,7 +1,19 @@
 //! Flat lists at the front of the caller's buffers.
 ghost use Rattle.std.specs.Prelude.{◌≡◌, ◌≤◌, ◌<◌, ◌⊎◌, length, take, drop, true, false};
+ghost use Rattle.qconvex_c.specs.steps.Buffers.{AreSame};
 
 use crate::flat_hull::FlatHull;
+
+/// The buffers of a caller that take hulls.
+#[derive(Drop)]
+pub struct Buffers<'a> {
+    /// Takes extreme ids.
+    pub extremes: &'a mut [u32],
+    /// Takes where the faces begin and end in `corners`.
+    pub offsets: &'a mut [usize],
+    /// Takes the corners of faces.
+    pub corners: &'a mut [u32],
+}
 
 /// Writes numbers at the front of a buffer.
 pub fn put_numbers(buffer: &mut [u32], numbers: &[u32])
@@ -31,31 +43,29 @@ pub fn put_components(buffer: &mut [i64], components: &[i64])
 }
 
 /// Writes a flat hull to buffers and answers true, where each is long enough. Else they stay as they are.
-pub fn fill(
-    flat: &FlatHull,
-    extremes: &mut [u32],
-    offsets: &mut [usize],
-    corners: &mut [u32],
-) -> bool
-    ensures done { result ≡ true → (take (length flat.now.extremes.items) extremes.new ≡ flat.now.extremes.items)
-        × (take (length flat.now.offsets.items) offsets.new ≡ flat.now.offsets.items)
-        × (take (length flat.now.corners.items) corners.new ≡ flat.now.corners.items) }
-    ensures rest { result ≡ true → (drop (length flat.now.extremes.items) extremes.new ≡ drop (length flat.now.extremes.items) extremes.old)
-        × (drop (length flat.now.offsets.items) offsets.new ≡ drop (length flat.now.offsets.items) offsets.old)
-        × (drop (length flat.now.corners.items) corners.new ≡ drop (length flat.now.corners.items) corners.old) }
-    ensures short { result ≡ false → (length extremes.old < length flat.now.extremes.items)
-        ⊎ (length offsets.old < length flat.now.offsets.items)
-        ⊎ (length corners.old < length flat.now.corners.items) }
-    ensures kept { result ≡ false → (extremes.new ≡ extremes.old) × (offsets.new ≡ offsets.old) × (corners.new ≡ corners.old) }
+pub fn fill(flat: &FlatHull, buffers: &mut Buffers) -> bool
+    ensures done { result ≡ true → (take (length flat.now.extremes.items) buffers.new.extremes.now ≡ flat.now.extremes.items)
+        × (take (length flat.now.offsets.items) buffers.new.offsets.now ≡ flat.now.offsets.items)
+        × (take (length flat.now.corners.items) buffers.new.corners.now ≡ flat.now.corners.items) }
+    ensures rest { result ≡ true
+        → (drop (length flat.now.extremes.items) buffers.new.extremes.now ≡ drop (length flat.now.extremes.items) buffers.old.extremes.now)
+        × (drop (length flat.now.offsets.items) buffers.new.offsets.now ≡ drop (length flat.now.offsets.items) buffers.old.offsets.now)
+        × (drop (length flat.now.corners.items) buffers.new.corners.now ≡ drop (length flat.now.corners.items) buffers.old.corners.now) }
+    ensures short { result ≡ false → (length buffers.old.extremes.now < length flat.now.extremes.items)
+        ⊎ (length buffers.old.offsets.now < length flat.now.offsets.items)
+        ⊎ (length buffers.old.corners.now < length flat.now.corners.items) }
+    ensures kept { result ≡ false → (buffers.new.extremes.now ≡ buffers.old.extremes.now)
+        × (buffers.new.offsets.now ≡ buffers.old.offsets.now) × (buffers.new.corners.now ≡ buffers.old.corners.now) }
+    ensures same { AreSame buffers.old buffers.new }
 {
-    if extremes.len() < flat.extremes.len()
-        || offsets.len() < flat.offsets.len()
-        || corners.len() < flat.corners.len()
+    if buffers.extremes.len() < flat.extremes.len()
+        || buffers.offsets.len() < flat.offsets.len()
+        || buffers.corners.len() < flat.corners.len()
     {
         return false;
     }
-    put_numbers(extremes, &flat.extremes);
-    put_offsets(offsets, &flat.offsets);
-    put_numbers(corners, &flat.corners);
+    put_numbers(buffers.extremes, &flat.extremes);
+    put_offsets(buffers.offsets, &flat.offsets);
+    put_numbers(buffers.corners, &flat.corners);
     true
 }

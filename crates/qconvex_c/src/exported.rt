@@ -7,7 +7,7 @@ ghost use Rattle.qconvex_c.specs.contract.Answered.{IsAnswered, NeedsRoom};
 ghost use Rattle.qconvex_c.specs.contract.Triangles.{AreFans, NeedsFanRoom};
 ghost use Rattle.qconvex_c.specs.contract.Codes.{QCONVEX_DONE, QCONVEX_NO_POINT, QCONVEX_TOO_MANY, QCONVEX_RANGE, QCONVEX_ROOM};
 
-use crate::buffers::fill;
+use crate::buffers::{Buffers, fill};
 use crate::code::{DONE, ROOM};
 use crate::fan_lists::write_fans;
 use crate::given::Given;
@@ -53,7 +53,12 @@ pub extern "C" fn qconvex_hull(
     match given_hull(alloc, points) {
         Ok(flat) => {
             *sizes = flat.sizes;
-            if fill(&flat, extremes, offsets, corners) {
+            let mut buffers = Buffers {
+                extremes,
+                offsets,
+                corners,
+            };
+            if fill(&flat, &mut buffers) {
                 DONE
             } else {
                 ROOM

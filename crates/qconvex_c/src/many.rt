@@ -3,6 +3,7 @@ ghost use Rattle.std.specs.Prelude.{◌≡◌, ◌≢◌, ◌≤◌, ◌<◌, �
 ghost use Rattle.qconvex_c.specs.contract.Sets.{AreStarts, HaveRoom, AreSetHulls, AreKeptBetween, sets_in, end_of};
 ghost use Rattle.qconvex_c.specs.contract.Codes.{QCONVEX_DONE, QCONVEX_ROOM, QCONVEX_STARTS};
 
+use crate::buffers::Buffers;
 use crate::code::{DONE, ROOM, STARTS};
 use crate::given::Given;
 use crate::set_answer::SetAnswer;
@@ -19,8 +20,8 @@ use std::alloc::Global;
 /// starts[j] + 2 * j` in `offsets`, and at `6 * starts[j] + 4 * j` in `corners`. A set that is refused leaves
 /// its parts as they were, and the other sets are answered.
 ///
-/// Else all stays as it was: it answers `STARTS` where starts do not rise, one is beyond the points, or there
-/// is none, and `ROOM` where there is no room for all answers and parts.
+/// Else all stays as it was: it answers `STARTS` where starts do not rise, one is beyond the points, or the
+/// list is empty, and `ROOM` where there is no room for all answers and parts.
 #[unsafe(no_mangle)]
 pub extern "C" fn qconvex_hulls(
     alloc: Global,
@@ -64,9 +65,14 @@ pub extern "C" fn qconvex_hulls(
     if !have_room(starts, rooms) {
         return ROOM;
     }
+    let mut buffers = Buffers {
+        extremes,
+        offsets,
+        corners,
+    };
     for number in 0..starts.len() - 1 {
         let set = set_at(starts, number);
-        answers[number] = hull_of_set(alloc, points, set, extremes, offsets, corners);
+        answers[number] = hull_of_set(alloc, points, set, &mut buffers);
     }
     DONE
 }

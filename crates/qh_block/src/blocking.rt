@@ -1,7 +1,7 @@
 //! How a set is divided before Quickhull takes it: every number and rule, with its reason.
 //!
 //! A set is hulled in parts where that is cheaper: most points of a part are not extreme, and the
-//! extreme points of all parts are few. These rules tell when. They change the time and never an
+//! extreme points of all parts are few. These rules decide when. They change the time and never an
 //! answer, since the hull of a set is the same for every division of it. docs/PERFORMANCE.md has
 //! the measurements.
 ghost use Rattle.std.specs.Prelude.{◌↔◌, ◌≤◌, ◌<◌, ◌/◌, ◌⊎◌, IsTrue};
@@ -41,7 +41,7 @@ pub(crate) const SMALL_ROUND: Round = Round {
     side_bits: 3,
 };
 
-/// The first round goes over all ids, most of which a small sample's hull holds where it holds any.
+/// The first round tests all ids. The hull of a small sample has most of them inside if it has any.
 ///
 /// Of fewer ids the sample is a large part.
 pub(crate) const FIRST_ROUND: Round = Round {
@@ -69,21 +69,21 @@ pub(crate) fn round_of_all(count: usize) -> Round {
     }
 }
 
-/// One thread looks for the points in the corner box of a set of at least this many ids.
+/// The least number of ids of a set whose corner box a single thread uses.
 ///
 /// The box of fewer points holds few of them.
 pub(crate) const BOX_FROM: usize = 256;
 
-/// About this many ids, spread over the set, tell whether the corner box has most of its points.
+/// About the size of the sample, spread over the set, that decides whether the corner box has most of its points.
 pub(crate) const BOX_SAMPLE: usize = 128;
 
-/// Threads share the filter's way over at least this many ids.
+/// The least number of ids that threads filter together.
 pub(crate) const SHARED_FROM: usize = 16_384;
 
-/// Threads share the making of the cells of at least this many columns.
+/// The least number of columns whose cells threads make together.
 pub(crate) const SHARED_COLUMNS: usize = 256;
 
-/// This many ids tell by the share of them that is extreme whether a division pays.
+/// The number of ids whose share of extreme ids decides whether a division pays.
 ///
 /// Of fewer ids a large share is extreme in every set.
 pub const TELLING: usize = 1024;
@@ -106,7 +106,7 @@ pub fn are_few(extremes: usize, among: usize) -> bool
     extremes <= among / 2
 }
 
-/// Returns true if a tree goes on above a node: the node's blocks have too few ids to tell, or at
+/// Returns true if a tree continues above a node: the node's blocks have too few ids to decide it, or at
 /// most half of them are extreme.
 pub fn tree_pays(extremes: usize, among: usize) -> bool
     ensures { IsTrue result ↔ ((among < TELLING) ⊎ (extremes ≤ among / 2)) }

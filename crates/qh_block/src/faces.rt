@@ -1,8 +1,8 @@
 //! The faces of a solid, gathered plane by plane from the facets of its finished mesh.
 //!
 //! Each live facet that has no mark yet starts a walk over the facets in its plane, which get marks.
-//! A plane of one facet, as most are, has its corners as its face; else the corners of the facets, rising,
-//! are the ids of which the face is the polygon. So a plane is looked at once.
+//! A plane of one facet, as most are, has its corners as its face; else the face is the polygon of
+//! the corners of the facets, rising. So each plane is walked once.
 ghost use Rattle.std.specs.Prelude.{All, ◌≡◌, ◌≤◌, ◌<◌, ◌↔◌, ℕ, List, IfOk, OnOk, length, true, false};
 ghost use Rattle.std.specs.List.Sorted.{IsStrictlyIncreasing};
 ghost use Rattle.qh_model.specs.contract.IdSets.{IsIdSet};
@@ -45,7 +45,7 @@ fn no_marks(alloc: Global, count: usize) -> Result<Vec<bool>, AllocError>
     vec![in alloc; false; count]
 }
 
-/// Lists the corners of live facets, as they come.
+/// Lists the corners of live facets, facet by facet.
 fn list_corners(
     surface: &NamedMesh,
     facets: &[FacetNo],

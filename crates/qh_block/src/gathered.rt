@@ -40,7 +40,7 @@ pub fn positions_below(alloc: Global, count: usize) -> Result<Vec<Id>, Memory>
     )
 }
 
-/// Returns the id at a position, or the position where the list has no such.
+/// Returns the id at a position, or the position itself if it is past the end of the list.
 fn id_at(ids: &[Id], position: Id) -> Id
     ensures { result ≡ name_in ids.now position }
 {

@@ -66,8 +66,8 @@ fn hull_of_all(alloc: Global, set: IdSet) -> Result<Body, Memory>
     }
 }
 
-/// Returns the ids of a large set but those that the interior filter finds strictly inside, by at most so
-/// many threads; `None` where no filter pays: the set is small, or the sample says that few ids are inside.
+/// Returns the ids of a large set but those that the interior filter finds strictly inside, by at most
+/// `threads` threads; `None` if no filter pays: the set is small, or the sample says that few ids are inside.
 ///
 /// `ids` has at least one id, each the index of one of the points. What is left has all extreme ids, so
 /// its hull is that of the set, and rises where `ids` does.
@@ -97,7 +97,7 @@ pub fn cull_interior<R: Threads + Sync>(
 }
 
 /// Returns the extreme ids of a set, as [`extremes`] gives them, by a run over all of its ids: for a
-/// set that [`cull_interior`] was asked of before, or that is a part of a culled set.
+/// set that was given to [`cull_interior`] before, or that is a part of a culled set.
 ///
 /// # Errors
 ///

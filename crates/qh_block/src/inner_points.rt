@@ -1,12 +1,12 @@
-//! Points inside a large set, which go before Quickhull sees them.
+//! The interior filter, which drops points inside a large set before Quickhull sees them.
 //!
 //! Planes close under those of the hull of a small sample of the set (`sample`, `coarse_planes`) cut each
-//! column of a grid into cells (`grid`, `columns`, `heights`, `cells`, `bounds`). The few planes that come
-//! near a cell tell of its points which are strictly inside the hull of the sample. These are not extreme, in
-//! the sample or in the set.
+//! column of a grid into cells (`grid`, `columns`, `heights`, `cells`, `bounds`). The few planes near
+//! a cell decide which of its points are strictly inside the hull of the sample. Those points are not extreme,
+//! neither in the sample nor in the set.
 //!
-//! Of a large set a first round leaves many points. A sample of these lies near the surface of the hull,
-//! so a second round leaves few.
+//! A first round leaves many points of a large set. A sample of these lies near the surface of the hull, so a
+//! second round leaves few.
 ghost use Rattle.std.specs.Prelude.{◌<◌, IfOk, IfSome, length};
 ghost use Rattle.qh_block.specs.steps.InnerPoints.{IsOuterPart};
 
@@ -32,8 +32,8 @@ use qh_model::{Id, Memory};
 use qh_pred::point_at;
 use std::alloc::Global;
 
-/// Returns true if at least half of a sample of a set, each `step`-th id, lies in a region, so that it pays to go
-/// over all.
+/// Returns true if at least half of a sample of a set, each `step`-th id, lies in a region, so that it pays to
+/// test all ids.
 fn has_most<R: Region>(region: &R, set: IdSet, step: usize) -> bool {
     let mut held: usize = 0;
     let mut count: usize = 0;

@@ -71,7 +71,7 @@ pub fn solid_extremes(alloc: Global, pts: &[Point], surface: &NamedMesh) -> Resu
     Ok(extremes)
 }
 
-/// What is told of the faces of a solid set beside them.
+/// The extreme ids and the number of edges of a solid set, by its faces.
 #[derive(Drop)]
 pub struct Tally {
     /// Their corners, rising, each once: the extreme ids.
@@ -80,7 +80,7 @@ pub struct Tally {
     pub edges: u64,
 }
 
-/// Returns what is told of polygons beside them.
+/// Returns the corners of polygons and the number of their edges.
 ///
 /// # Errors
 ///
@@ -93,7 +93,7 @@ pub fn tally_of(alloc: Global, polygons: &[Polygon]) -> Result<Tally, Memory>
     Ok(Tally { extremes, edges })
 }
 
-/// Returns the hull of a solid set, from its faces in rising lexicographic order, and what is told of them.
+/// Returns the hull of a solid set, from its faces in rising lexicographic order, and their tally.
 ///
 /// The caller promises that the polygons are faces of the set, one at least, and that they close up: each
 /// step from a corner to the next is taken as often as the step back. Then they are all faces of the set

@@ -64,7 +64,7 @@ module _ {S : Type 0} where
   pub each_one : (P : Record → Type 0) (v : View S) → v.records ≡ record_of v ∷ [] → P (record_of v) → Each P v.records
   each_one P v one h = subst (Each P) (sym one) (h, tt)
 
-  -- there are as many records as tokens
+  -- the number of records is that of the tokens
   pub count_records : (ts : List (Token S)) → weigh (λ r. 1) (records_of ts) ≡ length ts
   count_records [] = refl
   count_records (t ∷ ts) = let r = count_records ts in omega arith

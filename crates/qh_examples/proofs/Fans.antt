@@ -18,7 +18,7 @@ segment = refl
 pub point : fan (4 ∷ []) ≡ (4 ∷ []) ∷ []
 point = refl
 
--- a fan from another corner is none
+-- triangles that share another corner are no fan
 pub not_from_1 : ¬ (fan (0 ∷ 1 ∷ 2 ∷ 3 ∷ []) ≡ (1 ∷ 2 ∷ 3 ∷ []) ∷ (1 ∷ 3 ∷ 0 ∷ []) ∷ [])
 not_from_1 e = cc
 

@@ -82,18 +82,18 @@ polygon_of_square = record {
     no_third (inl e) = omega arith
     no_third (inr n) = n
 
--- the other way round it is none: from 0 to 3 it would have to turn left to 1
+-- clockwise it is no polygon: from 0 to 3 it would have to turn left to 1
 pub not_clockwise : ¬ (IsPolygon square (Members around) upward (0 ∷ 3 ∷ 2 ∷ 1 ∷ []))
 unfolding left cross
 not_clockwise p =
     let turn = p.round 0 3 (inl (refl, refl)) 1 (inr (inr (inr (inl refl)))) (λ e. omega (arith, e)) (λ e. omega (arith, e)) in
     omega (arith, ints, turn)
 
--- begun elsewhere it is none: its first is not the least
+-- begun elsewhere it is no polygon: its first id is not the least
 pub not_from_1 : ¬ (IsPolygon square (Members around) upward (1 ∷ 2 ∷ 3 ∷ 0 ∷ []))
 not_from_1 p = let least = p.least 0 (inr (inr (inl refl))) in omega (arith, least)
 
--- with a corner left out it is none
+-- with a corner left out it is no polygon
 pub not_three_corners : ¬ (IsPolygon square (Members around) upward (0 ∷ 1 ∷ 2 ∷ []))
 not_three_corners p = none ((p.members 3).1 (inr (inr (inr (inl refl)))))
   where

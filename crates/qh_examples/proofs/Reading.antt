@@ -61,31 +61,31 @@ plus_zero = refl
 pub zeros : number_of (48 ∷ 48 ∷ 48 ∷ []) ≡ Some (pos 0)
 zeros = refl
 
--- 7. is none
+-- 7. is no number
 pub seven_point : number_of (55 ∷ 46 ∷ []) ≡ None
 seven_point = refl
 
--- .7 is none
+-- .7 is no number
 pub point_seven : number_of (46 ∷ 55 ∷ []) ≡ None
 point_seven = refl
 
--- 7e0 is none
+-- 7e0 is no number
 pub exponent : number_of (55 ∷ 101 ∷ 48 ∷ []) ≡ None
 exponent = refl
 
--- 2nd is none
+-- 2nd is no number
 pub second : number_of (50 ∷ 110 ∷ 100 ∷ []) ≡ None
 second = refl
 
--- + is none
+-- + is no number
 pub plus : number_of (43 ∷ []) ≡ None
 plus = refl
 
--- - is none
+-- - is no number
 pub minus : number_of (45 ∷ []) ≡ None
 minus = refl
 
--- --7 is none
+-- --7 is no number
 pub two_signs : number_of (45 ∷ 45 ∷ 55 ∷ []) ≡ None
 two_signs = refl
 
@@ -102,15 +102,15 @@ pub bracket : is_data (40 ∷ 55 ∷ []) ≡ false
 bracket = refl
 
 -- ---- blanks
--- byte 9, a tab, is one
+-- byte 9, a tab, is a blank
 pub tab : is_blank 9 ≡ true
 tab = refl
 
--- byte 10 ends a line, and is none
+-- byte 10 ends a line, and is no blank
 pub line_end : is_blank 10 ≡ false
 line_end = refl
 
--- byte 13 is one
+-- byte 13 is a blank
 pub carriage_return : is_blank 13 ≡ true
 carriage_return = refl
 

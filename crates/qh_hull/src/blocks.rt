@@ -1,5 +1,5 @@
-//! The hull of a set of ids by the calling thread. In a large set of which few ids are extreme, most go by a
-//! look at their block alone.
+//! The hull of a set of ids by the calling thread. If few ids of a large set are extreme, most ids are
+//! dropped by the hull of their block alone.
 ghost use Rattle.std.specs.Prelude.{◌<◌, IfOk, length};
 ghost use Rattle.qh_model.specs.contract.IdSets.{AreIndices, IsIdSet};
 ghost use Rattle.qh_model.specs.headline.Hull.{IsBody};

@@ -1,8 +1,8 @@
-//! What is told of faces.
+//! The judgement on faces.
 use qh_check::SurfaceVerdict;
 use std::fmt;
 
-/// What is told of faces.
+/// A judgement on faces.
 #[derive(Clone, Copy, Debug, PartialEq, Eq)]
 pub enum Judgement {
     /// The verdict on the surface.

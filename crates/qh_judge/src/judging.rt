@@ -11,8 +11,8 @@ use qh_plane::{distinct_alone, distinct_in_threads};
 use std::alloc::Global;
 use std::thread::Threads;
 
-/// Returns what is told of faces of points: whether they are the surface of the hull of the distinct points, as
-/// [`check_surface`] wants it, or have a corner where no point is.
+/// Judges faces of points: whether they are the surface of the hull of the distinct points, as
+/// [`check_surface`] requires it, or have a corner where no point is.
 ///
 /// The corners of the faces are indices of `named`, which may be the points themselves. Of several points at
 /// one place any may be named. There is one point at least, and there are at most `POINT_LIMIT`, which the

@@ -1,4 +1,4 @@
-//! What is told of faces whose corners are numbers of points: whether they are the hull of a list of points,
+//! The judgement on faces whose corners are numbers of points: whether they are the hull of a list of points,
 //! and what is wrong where they are not.
 //!
 //! The numbers are indices of points of any list, such as the vertices of a file. `naming` takes the distinct

@@ -26,7 +26,7 @@ fn are_same(a: Point, b: Point) -> bool
 }
 
 impl Named<'_> {
-    /// Returns the distinct id at a place, looked for one by one.
+    /// Returns the distinct id at a place, by comparing the ids one by one.
     fn looked_for(self, point: Point) -> Option<Id>
         ensures { MatchOption result (IsNowhere self.entry.pts.now self.entry.ids.now point) (IsAt self.entry.pts.now self.entry.ids.now point) }
     {
@@ -38,8 +38,8 @@ impl Named<'_> {
         None
     }
 
-    /// Returns the distinct id at a place, which is that at a position if it is known. Else it is looked for, which
-    /// happens once at most: the place is that of no point.
+    /// Returns the distinct id at a place, which is that at a position if it is known. Otherwise all ids are
+    /// compared, which happens at most once: the place is then that of no point.
     fn id_at(self, point: Point, position: usize) -> Option<Id>
         ensures { MatchOption result (IsNowhere self.entry.pts.now self.entry.ids.now point) (IsAt self.entry.pts.now self.entry.ids.now point) }
     {
@@ -61,8 +61,8 @@ impl Named<'_> {
         self.id_at(point_at(self.list, number), position.unwrap_or(0))
     }
 
-    /// Returns a face, its corners named by distinct ids; none if one of them lies where no point
-    /// is.
+    /// Returns a face, its corners named by distinct ids, or `None` if one of them lies where no
+    /// point is.
     fn renamed(self, alloc: Global, face: &Polygon) -> Result<Option<Polygon>, AllocError>
         ensures { IfOk result (λ r. MatchOption r (HasStranger self.entry.pts.now self.entry.ids.now self.entry.list.now face.now)
             (AreNamed self.entry.pts.now self.entry.ids.now self.entry.list.now face.now)) }

@@ -1,6 +1,6 @@
 //! Which points of a list lie at the place of which distinct point.
 //!
-//! Nothing is proved of what is found: who is told a position compares the points.
+//! Nothing is proved of the positions: the caller compares the points.
 use qh_model::{Id, Point};
 use std::alloc::{AllocError, Global};
 
@@ -50,8 +50,8 @@ fn is_list_of(pts: &[Point], ids: &[Id], list: &[Point]) -> bool {
     true
 }
 
-/// Returns the positions that keys tell of the points of a list: that of the id at the same place, of
-/// so many.
+/// Returns for each of `list` points the position of the id at its place, by the sorted keys of `ids` ids
+/// and of the points. A point with no id at its place gets the position of another id.
 fn positions_in(
     alloc: Global,
     keys: &[u128],

@@ -38,7 +38,7 @@ pub record Factor (f g : ℕ → ℤ) (xs : List ℕ) : Type 0 where
   pub N : ℕ
   pub tells : (i j : ℕ) → In i xs → In j xs → pos N *ℤ f i +ℤ g i ≡ pos N *ℤ f j +ℤ g j → (f i ≡ f j) × (g i ≡ g j)
 
--- a finite set has such a factor
+-- each finite set has a factor
 factor : (f g : ℕ → ℤ) (xs : List ℕ) → Factor f g xs
 factor f g xs = record { N = B.0 + C.0; tells = tells }
   where

@@ -52,7 +52,7 @@ sum_lt v w (f ∷ fs) [] h (suc n) l =
 sum_lt v w (f ∷ fs) (g ∷ gs) h (suc n) l =
     let a = h 0 in let b = sum_lt (λ k. v (suc k)) (λ k. w (suc k)) fs gs (λ k. h (suc k)) n l in omega (arith, ints)
 
--- the signed volume of a stored surface is such a sum, counted from n
+-- the signed volume of a stored surface is the sum over its live facets, counted from n
 volume_is : (at : ℕ → Vector) (m : Surface) (q : Vector) (n : ℕ) (fs : List StoredFacet)
     → signed_volume at (triples_from m (live_from n fs)) q
     ≡ live_sum (λ k. vol (at (m.i (n + k))) (at (m.j (n + k))) (at (m.k (n + k))) q) fs

@@ -1,4 +1,4 @@
--- The horizon of listed facets: its edges, that as many of them start at a corner as end there, and how it is gathered.
+-- The horizon of listed facets: its edges, that it is balanced, and how it is gathered.
 use Rattle.std.proofs.Common.{◌≡◌, ℕ, ◌+◌, ◌/◌, ◌<◌, ◌≤◌, arith, ap, sym, ◌∙◌, refl, subst, Bool, true, false, cond, not}
 use Rattle.std.proofs.Common.{inl, inr, List, [], ◌∷◌, All, length, map, slice_index}
 use Rattle.std.specs.Prelude.{filter, count_by, flat_map}
@@ -12,8 +12,10 @@ use Rattle.qh_model.proofs.lists.Counts.{count-map, count_twins}
 use Rattle.qh_model.proofs.lists.{Filters.in_filter, Filters.of_filter, Filters.once_filter, Filters.filter_image, OnceEach.once_place}
 use Rattle.qh_mesh.specs.contract.Edges.{edge_of, facet_of, side_of_edge, twin_of}
 use Rattle.qh_mesh.specs.contract.Replacement.{sides_of, is_listed, horizon, IsLive, AreFacets, IsKept}
-use Rattle.qh_mesh.specs.steps.Horizons.{corner, edge_side, IsBalanced, HasSidesInside, is_open, three_sides, open_sides}
+use Rattle.qh_mesh.specs.steps.Horizons.{corner, other, edge_side, IsBalanced, HasSidesInside, is_open, three_sides, open_sides}
 use Rattle.qh_mesh.specs.steps.{Kept.side_of, Kept.outer_of, Kept.is_live, Kept.removed, Places.Removed, Surfaces.IsSurface}
+use Rattle.qh_mesh.specs.declared.slots.End.{End}
+use Rattle.qh_mesh.specs.declared.slots.End.TheVariants.{Start, Finish}
 use Rattle.qh_mesh.specs.steps.Twins.{HasTwin, HasTwins}
 use Rattle.qh_mesh.proofs.EdgeSides.{edge-facet, twin-is, side-is, noted-is}
 use Rattle.qh_mesh.proofs.ListedFacets.{listed_live, in_sides, of_sides, once_sides, in_listed, listed_in, unlisted_at}
@@ -60,9 +62,9 @@ sides_are fs [] = refl
 sides_are fs (v ∷ vs) =
     λ i. noted-is fs v first i ∷ noted-is fs v second i ∷ noted-is fs v third i ∷ sides_are fs vs i
 
--- round each facet as many start as end
+-- the sides of facets: at a corner the number that start is that of those that end
 round : (fs : List StoredFacet) (l : ℕ) (vs : List ℕ) → let hs = flat_map (λ v. three_sides (facet_at fs v)) vs in
-    count_by (meets true l) hs ≡ count_by (meets false l) hs
+    count_by (meets Finish l) hs ≡ count_by (meets Start l) hs
 round fs l [] = refl
 round fs l (v ∷ vs) = let r = round fs l vs in simp sum_by-cons (omega arith)
 
@@ -70,34 +72,34 @@ module _ (fs : List StoredFacet) (vs : List ℕ) (t : HasTwins fs) (a : AreFacet
   abbrev inside : List ℕ
   inside = filter (inner fs vs) (sides_of vs)
 
-  abbrev meet : Bool → ℕ → Bool
-  meet ends e = meets ends l (edge_side fs e)
+  abbrev meet : End → ℕ → Bool
+  meet end e = meets end l (edge_side fs e)
 
-  -- of the sides inside as many start as end
-  count_inside : (ends : Bool) → count_by (meet ends) inside ≤ count_by (meet (not ends)) inside
-  count_inside ends = count_twins (twin_of fs) (meet ends) (meet (not ends)) inside
+  -- of the sides inside no more meet it at this end than at the other
+  count_inside : (end : End) → count_by (meet end) inside ≤ count_by (meet (other end)) inside
+  count_inside end = count_twins (twin_of fs) (meet end) (meet (other end)) inside
       (once_filter (inner fs vs) (sides_of vs) (once_sides vs a.once))
       (λ e i m. let k = of_filter (inner fs vs) (sides_of vs) e i in let d = twin_of fs e in let h = of_sides vs e k.0 in
       let g = t e (listed_live fs vs a (e / 3) h) in
-      let met = elim ends as (λ b. corner (not b) (edge_side fs d) ≡ corner b (edge_side fs e)) [ true ↦ g.starts | false ↦ g.ends ] in
+      let met = elim end as (λ b. corner (other b) (edge_side fs d) ≡ corner b (edge_side fs e)) [ Start ↦ g.ends | Finish ↦ g.starts ] in
       (in_filter (inner fs vs) (sides_of vs) d (in_sides vs d k.1) (rw (g.back, h) refl), rw (met, m) refl, g.back))
 
   -- so on the horizon too
-  balance : (ends : Bool) → count_by (meet ends) inside + count_by (meets ends l) (map (edge_side fs) (horizon fs vs))
-      ≡ count_by (meets ends l) (flat_map (λ v. three_sides (facet_at fs v)) vs)
-  balance ends =
-      rw (count-map (edge_side fs) (meets ends l) (horizon fs vs))
-      (sum_by-filter_both (inner fs vs) (leaves fs vs) (λ e. refl) (λ e. cond (meet ends e) 1 0) (sides_of vs)
-      ∙ sym (count-map (edge_side fs) (meets ends l) (sides_of vs)) ∙ ap (count_by (meets ends l)) (sides_are fs vs))
+  balance : (end : End) → count_by (meet end) inside + count_by (meets end l) (map (edge_side fs) (horizon fs vs))
+      ≡ count_by (meets end l) (flat_map (λ v. three_sides (facet_at fs v)) vs)
+  balance end =
+      rw (count-map (edge_side fs) (meets end l) (horizon fs vs))
+      (sum_by-filter_both (inner fs vs) (leaves fs vs) (λ e. refl) (λ e. cond (meet end e) 1 0) (sides_of vs)
+      ∙ sym (count-map (edge_side fs) (meets end l) (sides_of vs)) ∙ ap (count_by (meets end l)) (sides_are fs vs))
 
 -- the horizon of facets of a surface is balanced
 pub horizon_balanced : (fs : List StoredFacet) (vs : List ℕ) → HasTwins fs → AreFacets fs vs
     → IsBalanced (map (edge_side fs) (horizon fs vs))
-horizon_balanced fs vs t a = elim [ true ↦ even | false ↦ λ l. sym (even l) ]
+horizon_balanced fs vs t a = elim [ Start ↦ λ l. sym (even l) | Finish ↦ even ]
   where
-    even : (l : ℕ) → let hs = map (edge_side fs) (horizon fs vs) in count_by (meets true l) hs ≡ count_by (meets false l) hs
+    even : (l : ℕ) → let hs = map (edge_side fs) (horizon fs vs) in count_by (meets Finish l) hs ≡ count_by (meets Start l) hs
     even l = let c = count_inside fs vs t a l in let b = balance fs vs t a l in
-        omega (arith, c true, c false, b true, b false, round fs l vs)
+        omega (arith, c Finish, c Start, b Finish, b Start, round fs l vs)
 
 -- ---- gathering
 module _ (old cleared : List StoredFacet) (vs : List ℕ) (r : Removed old cleared vs (length vs)) where

@@ -55,7 +55,7 @@ pool_same fs gs places n s c q =
 pub few_free : (fs : List StoredFacet) (free : List ℕ) → IsPool fs (reverse free) → length free ≤ length fs
 few_free fs free q = let c = q.count in let e = length-reverse free in omega arith
 
--- a free place is given out
+-- allocating a free place leaves a pool
 pub pool_pops : (fs : List StoredFacet) (made free : List ℕ) (p : ℕ) → IsPool fs (made ++ reverse (free ++ p ∷ []))
     → IsPool fs ((made ++ p ∷ []) ++ reverse free)
 pool_pops fs made free p q = subst (IsPool fs)
@@ -79,7 +79,7 @@ pool_grows fs made p e r =
       count = let c = sum_by_push (λ t. one t.live) fs no_facet in let d = q.count in omega arith;
     })
 
--- places are given out again before there are more
+-- free places are allocated before the list grows
 pub places_are : (fs : List StoredFacet) (free : List ℕ) (n : ℕ) → IsPool fs (reverse free) → n ≤ length fs
     → (0 < length free → length fs ≡ n) → length fs ≡ max n (length (surface_of fs).live)
 places_are fs free n q l h =

@@ -1,5 +1,5 @@
 -- The steps of a replacement are one, and they leave a surface.
-use Rattle.std.proofs.Common.{◌≡◌, ℕ, ◌/◌, ◌<◌, arith, ap, sym, ◌∙◌, refl, subst, true, false, inl, inr, List, length, ◌≢◌, not, Bool, ◌⊎◌}
+use Rattle.std.proofs.Common.{◌≡◌, ℕ, ◌/◌, ◌<◌, arith, ap, sym, ◌∙◌, refl, subst, false, inl, inr, List, length, ◌≢◌, ◌⊎◌}
 use Rattle.std.proofs.Common.{slice_index, reverse, length-append}
 use Rattle.std.proofs.lemmas.{Bool.cases_Bool, Bool.both_ways, Bool.false_from_ne_true, List.length-map, List.get_or-map}
 use Rattle.qh_model.specs.contract.StoredSurface.{StoredFacet, facet_at}
@@ -10,8 +10,10 @@ use Rattle.qh_mesh.specs.contract.Edges.{side_of_edge, twin_of}
 use Rattle.qh_mesh.specs.contract.Replacement.{is_listed, horizon, IsLive, AreFacets, IsKept, IsReplacement}
 use Rattle.qh_mesh.specs.contract.Replacement.{IsCone}
 use Rattle.qh_mesh.specs.declared.facets.FacetSide.{FacetSide}
+use Rattle.qh_mesh.specs.declared.slots.End.{End}
+use Rattle.qh_mesh.specs.declared.slots.End.TheVariants.{Start, Finish}
 use Rattle.qh_mesh.specs.steps.Cones.{bare}
-use Rattle.qh_mesh.specs.steps.Horizons.{side_at, no_side, corner, edge_side, IsBalanced, IsMate}
+use Rattle.qh_mesh.specs.steps.Horizons.{side_at, no_side, corner, other, edge_side, IsBalanced, IsMate}
 use Rattle.qh_mesh.specs.steps.{Kept.is_live, Kept.outer_of, Places.IsVacant}
 use Rattle.qh_mesh.specs.steps.Rebuilt.{IsCleared, IsChosen, IsConed, IsPrepared, IsReady, IsRebuilt}
 use Rattle.qh_mesh.specs.steps.{Surfaces.IsSurface, Twins.HasTwin}
@@ -114,30 +116,30 @@ module _ (old chosen : List StoredFacet) (free left vs : List ℕ) (hs : List Fa
         }
 
     -- the mates of a side of the horizon, and the facets beside that over it
-    abbrev mate : Bool → ℕ → ℕ
-    mate ends j = (has_mate hs balanced ends j).0
+    abbrev mate : End → ℕ → ℕ
+    mate end j = (has_mate hs balanced end j).0
 
-    is_mate : (ends : Bool) (j : ℕ) → j < length made → IsMate hs ends j (mate ends j)
-    is_mate ends j l = (has_mate hs balanced ends j).1 (in_hs j l)
+    is_mate : (end : End) (j : ℕ) → j < length made → IsMate hs end j (mate end j)
+    is_mate end j l = (has_mate hs balanced end j).1 (in_hs j l)
 
-    mate_in : (ends : Bool) (j : ℕ) → j < length made → mate ends j < length made
-    mate_in ends j l = let e = h.len in let m = (is_mate ends j l).inside in omega arith
+    mate_in : (end : End) (j : ℕ) → j < length made → mate end j < length made
+    mate_in end j l = let e = h.len in let m = (is_mate end j l).inside in omega arith
 
-    mate_back : (ends : Bool) (j : ℕ) → j < length made → mate (not ends) (mate ends j) ≡ j
-    mate_back ends j l = mate_twice hs balanced ends j (in_hs j l)
+    mate_back : (end : End) (j : ℕ) → j < length made → mate (other end) (mate end j) ≡ j
+    mate_back end j l = mate_twice hs balanced end j (in_hs j l)
 
     -- what is of no facet of the cone is as the removal left it, but for twins
-    other : (f : ℕ) → ((j : ℕ) → j < length made → slice_index made j ≢ f) → bare (facet_at new f) ≡ bare (facet_at p.between f)
-    other f n = ap bare (w.written.others f n) ∙ w.joined.same f ∙ ap bare (h.cells f)
+    elsewhere : (f : ℕ) → ((j : ℕ) → j < length made → slice_index made j ≢ f) → bare (facet_at new f) ≡ bare (facet_at p.between f)
+    elsewhere f n = ap bare (w.written.others f n) ∙ w.joined.same f ∙ ap bare (h.cells f)
 
     kept_bare : (f : ℕ) → IsKept old vs f → bare (facet_at new f) ≡ bare (facet_at old f)
-    kept_bare f k = other f (unmade f k) ∙ ap bare (stays old p.between vs c.removed f k.unlisted)
+    kept_bare f k = elsewhere f (unmade f k) ∙ ap bare (stays old p.between vs c.removed f k.unlisted)
 
     -- a live facet stays, or is of the cone
     only : (f : ℕ) → IsLive new f → IsKept old vs f ⊎ In f made
     only f l = elim (cases_Bool (is_listed made f)) [
       | inl e ↦ inr (listed_in made f e)
-      | inr u ↦ (let d = ap is_live (sym (other f (unlisted_at made f u))) ∙ l in
+      | inr u ↦ (let d = ap is_live (sym (elsewhere f (unlisted_at made f u))) ∙ l in
           let u' = false_from_ne_true (is_listed vs f)
           (λ e. both_ways (facet_at p.between f).live (ap is_live (gone old p.between vs c.removed f e)) d) in
           inl (record { live = ap is_live (sym (stays old p.between vs c.removed f u')) ∙ d; unlisted = u' }))
@@ -150,14 +152,14 @@ module _ (old chosen : List StoredFacet) (free left vs : List ℕ) (hs : List Fa
       once = once_left made (reverse left) h.pool.once;
       fresh = fresh;
       cone = over;
-      next = mate true;
-      next_in = mate_in true;
-      next_starts = λ j l. let n = is_mate true j l in
-          ap (corner false) (sym (side_is (mate true j) n.inside)) ∙ n.meets ∙ ap (corner true) (side_is j (in_hs j l));
+      next = mate Finish;
+      next_in = mate_in Finish;
+      next_starts = λ j l. let n = is_mate Finish j l in
+          ap (corner Start) (sym (side_is (mate Finish j) n.inside)) ∙ n.meets ∙ ap (corner Finish) (side_is j (in_hs j l));
       next_twin = λ j l. let t = w.written.there j l in
-          rw (t.is, mate_only hs true j t.next (mate true j) t.next_is (is_mate true j l));
-      next_back = λ j l. let i = mate true j in let m = mate_in true j l in let t = w.written.there i m in
-          rw (t.is, mate_only hs false i t.before (mate false i) t.before_is (is_mate false i m), mate_back true j l);
+          rw (t.is, mate_only hs Finish j t.next (mate Finish j) t.next_is (is_mate Finish j l));
+      next_back = λ j l. let i = mate Finish j in let m = mate_in Finish j l in let t = w.written.there i m in
+          rw (t.is, mate_only hs Start i t.before (mate Start i) t.before_is (is_mate Start i m), mate_back Finish j l);
       kept = λ f k. let b = kept_bare f k in record {
         live = ap is_live b ∙ k.live;
         i_is = ap (λ (t : StoredFacet). t.i) b;
@@ -174,7 +176,7 @@ module _ (old chosen : List StoredFacet) (free left vs : List ℕ) (hs : List Fa
     rebuilt = let len = w.written.len ∙ w.joined.len in
         let step : IsStep old new vs apex made = record { twins = s.twins; facets = a; replaced = replacement } in record {
           surface = record {
-            twins = twins_after old new vs apex made step (λ j l. (mate false j, mate_in false j l, mate_back false j l));
+            twins = twins_after old new vs apex made step (λ j l. (mate Start j, mate_in Start j l, mate_back Start j l));
             pool = w.pool (reverse left) h.pool;
             small = rw len h.small;
           };

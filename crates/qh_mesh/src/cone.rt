@@ -9,7 +9,7 @@ ghost use Rattle.qh_mesh.specs.steps.Cones.{Joined, Written};
 ghost use Rattle.qh_mesh.specs.steps.Places.{IsPool};
 
 use crate::facets::{EdgeNo, Facet, FacetNo, FacetSide};
-use crate::slots::{Slot, is_noted, mate};
+use crate::slots::{End, Slot, Table, is_noted, mate};
 
 /// Puts another half-edge across a half-edge.
 fn set_twin(facets: &mut [Facet], e: EdgeNo, twin: u32)
@@ -29,8 +29,8 @@ fn edge_at(made: &[FacetNo], j: usize, side: usize) -> u32
     made[j].edge(side).number()
 }
 
-/// Returns each half-edge across the horizon gets its twin in the cone. Answers whether the table names
-/// each side at both of its corners, so that no two start and no two end at one.
+/// Gives each half-edge across the horizon its twin in the cone. Returns true if the table names each side
+/// at both of its corners, so that no two start and no two end at one.
 #[tactic(auto, using(crate::proofs::WrittenFacets::joined_more))]
 pub fn join_outer(
     facets: &mut [Facet],
@@ -49,7 +49,7 @@ pub fn join_outer(
     let mut are_noted = true;
     for j in 0..horizon.len() {
         let side = horizon[j];
-        are_noted &= is_noted(slots, side, true, j) & is_noted(slots, side, false, j);
+        are_noted &= is_noted(slots, side, End::Finish, j) & is_noted(slots, side, End::Start, j);
         set_twin(facets, side.across(), edge_at(made, j, 0));
     }
     are_noted
@@ -58,14 +58,13 @@ pub fn join_outer(
 /// Writes the facets of the cone, each beside those over the sides of the horizon that meet its own.
 pub fn write_cone(
     facets: &mut [Facet],
-    slots: &[Slot],
-    are_noted: bool,
+    table: Table,
     horizon: &[FacetSide],
     made: &[FacetNo],
     apex: u32,
 )
     requires balanced { IsBalanced horizon.now }
-    requires are_noted { are_noted ≡ true → AreNoted slots.now horizon.now }
+    requires are_noted { table.is_complete ≡ true → AreNoted table.slots.now horizon.now }
     requires len { length made.now ≡ length horizon.now }
     requires inside { All (λ f. f < length facets.old) made.now }
     requires once { Once made.now }
@@ -75,15 +74,10 @@ pub fn write_cone(
 {
     for j in 0..made.len() {
         let side = horizon[j];
-        let next = mate(slots, are_noted, horizon, true, j);
-        let before = mate(slots, are_noted, horizon, false, j);
-        facets[made[j].index()] = Facet::new(
-            side.from,
-            side.to,
-            apex,
-            side.outer,
-            edge_at(made, next, 2),
-            edge_at(made, before, 1),
-        );
+        let next = mate(table, horizon, End::Finish, j);
+        let before = mate(table, horizon, End::Start, j);
+        let to_apex = edge_at(made, next, 2);
+        let from_apex = edge_at(made, before, 1);
+        facets[made[j].index()] = Facet::over(side, apex, to_apex, from_apex);
     }
 }

@@ -101,6 +101,13 @@ pub struct FacetSide {
 }
 
 impl FacetSide {
+    /// Returns the side from a corner to the next, with the half-edge across it.
+    pub fn new(from: u32, to: u32, outer: u32) -> FacetSide
+        ensures { result ≡ record { from = from; to = to; outer = outer } }
+    {
+        FacetSide { from, to, outer }
+    }
+
     /// Returns the half-edge across it.
     pub fn across(self) -> EdgeNo
         ensures { result ≡ self.outer }
@@ -138,15 +145,16 @@ impl Model for Facet {
 }
 
 impl Facet {
-    /// Returns the facet of three corners, with the half-edges across its sides.
-    pub fn new(i: u32, j: u32, k: u32, ij: u32, jk: u32, ki: u32) -> Facet
-        ensures { result ≡ facet_from i j k ij jk ki }
+    /// Returns the facet over a side, with a third corner and the half-edges across its sides to and from
+    /// that corner.
+    pub fn over(side: FacetSide, third: u32, to_third: u32, from_third: u32) -> Facet
+        ensures { result ≡ facet_from side.from side.to third side.outer to_third from_third }
     {
         Facet {
-            i,
-            j,
-            k,
-            twins: [ij, jk, ki],
+            i: side.from,
+            j: side.to,
+            k: third,
+            twins: [side.outer, to_third, from_third],
             live: true,
         }
     }

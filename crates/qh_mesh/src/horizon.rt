@@ -1,4 +1,4 @@
-//! The horizon of facets that go: their sides across which a facet stays.
+//! The horizon of removed facets: their sides across which a facet stays.
 ghost use Rattle.std.specs.Prelude.{All, ◌≡◌, ◌+◌, ◌*◌, ◌/◌, ◌<◌, ◌≤◌, ℕ, length, filter, [], ◌∷◌, ◌++◌, vec_len, vec_capacity};
 ghost use Rattle.qh_model.specs.contract.StoredSurface.{facet_at};
 ghost use Rattle.qh_mesh.specs.contract.Edges.{facet_of};

@@ -1,9 +1,9 @@
-//! Closed surfaces of triangles, and the step by which Quickhull grows one: the facets that a point
-//! sees make way for its cone over their horizon.
+//! Closed surfaces of triangles, and the step by which Quickhull grows one: a point's cone over the
+//! horizon replaces the facets that the point sees.
 //!
 //! A [`Mesh`] keeps its facets in one vector of places, each a record of its corners and of the
 //! half-edges across its sides. Facets and half-edges are known by numbers that this crate alone computes
-//! with. The place of a facet that was taken away is given out again before the vector grows.
+//! with. A new facet takes the place of a removed one, if there is one, before the vector grows.
 //! A contract sees the mesh as the list of its places, whose surface is that of
 //! `qh_model/specs/contract/StoredSurface.antt`.
 //!

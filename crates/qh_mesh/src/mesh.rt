@@ -252,8 +252,8 @@ impl Mesh {
         Ok(mem::replace(&mut self.scratch.made, Vec::new(alloc)))
     }
 
-    /// Takes a list of facets, such as [`Mesh::replace`] answers, for its room: the next answer needs no
-    /// memory of its own. The surface stays as it is.
+    /// Takes the memory of a list of facets, such as one that [`Mesh::replace`] returned, so that its next
+    /// list needs no new memory. The surface stays as it is.
     pub fn take_room(&mut self, list: Vec<FacetNo>)
         ensures { self.new ≡ self.old }
     {

@@ -1,4 +1,4 @@
-//! The places of facets: those of facets that go, and those of a cone.
+//! The places of facets: those of removed facets, and those of a cone.
 ghost use Rattle.std.specs.Prelude.{All, ◌≡◌, ◌+◌, ◌<◌, ◌≤◌, ◌^◌, ℕ, length, reverse, [], ◌++◌, vec_len, vec_capacity};
 ghost use Rattle.qh_model.specs.headline.Sets.{Once};
 ghost use Rattle.qh_model.specs.contract.StoredSurface.{facet_at};

@@ -10,7 +10,7 @@ use crate::facets::{Facet, FacetNo, FacetSide};
 use crate::horizon::gather;
 use crate::places::{allocate_all, remove};
 use crate::room::Scratch;
-use crate::slots::Slot;
+use crate::slots::{Slot, Table};
 
 /// Takes the visible facets away and notes their horizon.
 #[tactic(auto, using(crate::proofs::HorizonSides::sides_inside, crate::proofs::HorizonSides::gathered))]
@@ -39,8 +39,9 @@ fn close(facets: &mut [Facet], slots: &[Slot], horizon: &[FacetSide], made: &[Fa
     requires { IsReady facets.old horizon.now made.now }
     ensures { IsConed facets.old facets.new horizon.now made.now apex }
 {
-    let are_noted = join_outer(facets, slots, horizon, made);
-    write_cone(facets, slots, are_noted, horizon, made, apex);
+    let is_complete = join_outer(facets, slots, horizon, made);
+    let table = Table { slots, is_complete };
+    write_cone(facets, table, horizon, made, apex);
 }
 
 /// Takes the visible facets away, notes their horizon and allocates places for the cone over it.

@@ -33,8 +33,8 @@ impl Scratch {
 
 /// Returns true if the half-edges of `places + more` places have numbers that fit 32 bits.
 ///
-/// By Euler's count a hull has fewer than twice as many triangles as points, and a replacement asks for room
-/// for at most twice their number: with the greatest number of points they fit.
+/// By Euler's formula a hull of n points has fewer than 2n triangles. A replacement asks for room for at most
+/// twice their number, so that the half-edges of `POINT_LIMIT` points have numbers that fit.
 fn are_numbered(places: usize, more: usize) -> bool
     ensures exact { IsTrue result ↔ (3 * (places + more) < 2 ^ 32) }
     ensures hull { places + more ≤ 3 * (2 * POINT_LIMIT) → IsTrue result }

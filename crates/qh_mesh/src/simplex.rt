@@ -3,7 +3,7 @@ ghost use Rattle.std.specs.Prelude.{◌≡◌, ◌↔◌, IsTrue, ◌<◌, lengt
 ghost use Rattle.qh_model.specs.headline.Predicates.{vol, place};
 ghost use Rattle.qh_mesh.specs.contract.SoundMesh.{simplex_facets};
 
-use crate::facets::Facet;
+use crate::facets::{Facet, FacetSide};
 use qh_model::{Id, Point};
 use qh_pred::{point_at, vol};
 
@@ -28,9 +28,9 @@ pub fn four(a: u32, b: u32, c: u32, d: u32) -> [Facet; 4]
     ensures { result ≡ simplex_facets a b c d }
 {
     [
-        Facet::new(a, b, c, 5, 11, 6),
-        Facet::new(a, d, b, 8, 9, 0),
-        Facet::new(a, c, d, 2, 10, 3),
-        Facet::new(b, d, c, 4, 7, 1),
+        Facet::over(FacetSide::new(a, b, 5), c, 11, 6),
+        Facet::over(FacetSide::new(a, d, 8), b, 9, 0),
+        Facet::over(FacetSide::new(a, c, 2), d, 10, 3),
+        Facet::over(FacetSide::new(b, d, 4), c, 7, 1),
     ]
 }

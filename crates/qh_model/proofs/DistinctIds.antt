@@ -37,7 +37,7 @@ few_below n (x ∷ xs) r below =
     let small : get_or (x ∷ xs) (length xs) 0 < n = below _ (In-get_or (x ∷ xs) (length xs) 0 (omega arith)) in
     omega (arith, last, small)
 
--- so at most as many distinct ids as points
+-- so the number of distinct ids is at most that of the points
 pub few_ids : (pts : List Vector) (ids : List ℕ) → AreDistinctIds pts ids → length ids ≤ length pts
 few_ids pts ids d = few_below (length pts) ids d.rising (λ i m. ((d.members i).0 m).0)
 

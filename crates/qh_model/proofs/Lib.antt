@@ -13,5 +13,6 @@ pub mod board
 pub mod DistinctIds
 pub mod Cuts
 pub mod ReadingLaws
+pub mod PointFileLaws
 pub mod OffReadingLaws
 pub mod Readings

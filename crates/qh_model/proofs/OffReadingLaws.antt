@@ -29,7 +29,7 @@ same_front (a ∷ us) (b ∷ bs) xs ys n e =
     let rest : us ++ xs ≡ bs ++ ys = cc in
     let tail : us ≡ bs = same_front us bs xs ys fewer rest in cc
 
--- so many words are numbers
+-- words that read as a list of numbers have the length of that list
 many : (ws : List Word) (zs : List ℤ) → numbers ws ≡ map Some zs → length ws ≡ length zs
 many [] [] e = refl
 many [] (z ∷ zs) e = cc

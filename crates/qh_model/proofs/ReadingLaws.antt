@@ -1,23 +1,21 @@
--- A byte string has one list of points, or one fault.
-use Rattle.std.proofs.Common.{◌≡◌, ◌∙◌, [], ◌∷◌, ◌++◌, ◌*◌, ◌≤◌, ◌⊎◌, ◌&&◌, ℕ, List, Bool, true, false, cond, refl, ap}
-use Rattle.std.proofs.Common.{sym, arith, zero, suc, length, map, inl, inr, subst, nat_lt}
+-- What the words of a file stand for: numbers, coordinates, a count with its points; and when they have no fault.
+use Rattle.std.proofs.Common.{◌≡◌, [], ◌∷◌, ◌++◌, ◌*◌, ◌≤◌, ◌&&◌, ℕ, List, Bool, true, false, cond, refl, ap}
+use Rattle.std.proofs.Common.{sym, arith, zero, suc, length, map, subst, nat_lt}
 use Rattle.std.specs.Prelude.{ℤ, pos, negsuc, Option, Some, None, nat_le}
 use Rattle.std.specs.List.{AllByRecursion}
 use Rattle.std.specs.Option.{option_or}
 use Rattle.std.proofs.lemmas.Bool.{leb-true, le-leb}
-use Rattle.std.proofs.lemmas.List.{append-nil}
 use Rattle.std.proofs.lemmas.Bool.Decides.{nat_tests}
 use Rattle.qh_model.specs.declared.limits.TheConstants.{POINT_LIMIT, BYTE_LIMIT}
 use Rattle.qh_model.specs.headline.Vector.{Vector}
 use Rattle.qh_model.specs.headline.Limits.{IsCoordinate, is_coordinate}
-use Rattle.qh_model.specs.headline.Words.{Word, data_words}
+use Rattle.qh_model.specs.headline.Words.{Word}
 use Rattle.qh_model.specs.headline.Numbers.{number_of}
-use Rattle.qh_model.specs.headline.PointFile.{coordinates, IsHeader, Reads}
+use Rattle.qh_model.specs.headline.PointFile.{coordinates}
 use Rattle.qh_model.specs.declared.read_fault.ReadFault.{ReadFault}
-use Rattle.qh_model.specs.declared.read_fault.ReadFault.TheVariants.{NotThree, Count, Range, Big}
-use Rattle.qh_model.specs.headline.FileFault.{is_three, coordinate_fault, coordinates_fault, counted_fault}
-use Rattle.qh_model.specs.headline.FileFault.{number_fault, next_number_fault, long_fault, headed_fault, words_fault}
-use Rattle.qh_model.specs.headline.FileFault.{first_fault}
+use Rattle.qh_model.specs.declared.read_fault.ReadFault.TheVariants.{Count, Range}
+use Rattle.qh_model.specs.headline.FileFault.{coordinate_fault, coordinates_fault, counted_fault}
+use Rattle.qh_model.specs.headline.FileFault.{number_fault, next_number_fault}
 use Rattle.qh_model.proofs.algebra.VectorIdentities.{vector_path}
 
 pub same_some : (xs ys : List ℤ) → map Some xs ≡ map Some ys → xs ≡ ys
@@ -41,17 +39,10 @@ same_points (p ∷ ps) (q ∷ qs) h =
     let tail : ps ≡ qs = same_points ps qs rest in
     let head : p ≡ q = vector_path p q x y z in cc
 
--- a byte string is the file of one list of points at most
-pub one_reading : (bytes : List ℕ) (ps qs : List Vector) → Reads bytes ps → Reads bytes qs → ps ≡ qs
-one_reading bytes ps qs a b =
-    let all : a.first ∷ a.second ∷ coordinates ps ≡ b.first ∷ b.second ∷ coordinates qs = same_some _ _ (sym a.numbers ∙ b.numbers) in
-    let same : coordinates ps ≡ coordinates qs = cc in
-    same_points ps qs same
-
 abbrev pub numbers : List Word → List (Option ℤ)
 numbers ws = map (λ w. number_of w.text) ws
 
--- the front of the words is so many coordinates, and the rest has no fault
+-- the front of the words is k coordinates, and the rest has no fault
 pub record Filled (after : List Word → Option ReadFault) (ws : List Word) (k : ℕ) : Type 0 where
   pub front : List Word
   pub rest : List Word
@@ -149,90 +140,6 @@ next_number after (w ∷ ws) h = by_option (number_of w.text) refl h
     by_option None e h = cc
     by_option (Some z) e h = record { w = w; rest = ws; z = z; are = refl; number = e; clear = h }
 
-three : (z : ℤ) → is_three z ≡ true → z ≡ pos 3
-three (pos n) h = let e : n ≡ 3 = grind (arith, nat_tests) in ap pos e
-three (negsuc n) h = cc
-
-record Whole (ws : List Word) : Type 0 where
-  first : ℤ
-  second : ℤ
-  points : List Vector
-  are : numbers ws ≡ map Some (first ∷ second ∷ coordinates points)
-  header : IsHeader first second (length points)
-  some : 1 ≤ length points
-  few : length points ≤ POINT_LIMIT
-  limit : AllByRecursion IsCoordinate (coordinates points)
-
--- no word follows the last coordinate
-none_long : (ws : List Word) → long_fault ws ≡ None → ws ≡ []
-none_long [] h = refl
-none_long (w ∷ ws) h = cc
-
-made : (w v : Word) (vs : List Word) (a b z : ℤ) → number_of w.text ≡ Some a → number_of v.text ≡ Some b → ((n : ℕ) → z ≡ pos n → IsHeader a b n)
-    → Counted long_fault z vs → Whole (w ∷ v ∷ vs)
-made w v vs a b z e f header c =
-    let g = grouped c.n c.filled.all c.filled.count in
-    let same : coordinates g.points ≡ c.filled.all = g.are in
-    let many : length g.points ≡ c.n = g.count in
-    let front : vs ≡ c.filled.front = c.filled.whole
-    ∙ ap (λ (t : List Word). c.filled.front ++ t) (none_long c.filled.rest c.filled.clear)
-    ∙ append-nil c.filled.front in
-    let rest : numbers vs ≡ map Some c.filled.all = ap numbers front ∙ c.filled.are in
-    record {
-      first = a;
-      second = b;
-      points = g.points;
-      are = cc (e, f, rest, same);
-      header = subst (IsHeader a b) (sym many) (header c.n c.is);
-      some = omega (arith, c.some, many);
-      few = omega (arith, c.few, many);
-      limit = subst (AllByRecursion IsCoordinate) (sym same) c.filled.limit;
-    }
-
-whole : (ws : List Word) → words_fault ws ≡ None → Whole ws
-whole ws h = let w = next_number _ ws h in let v = next_number _ w.rest w.clear in
-    subst Whole (sym (w.are ∙ ap (λ (t : List Word). w.w ∷ t) v.are))
-    (head w.w v.w v.rest w.z v.z w.number v.number (is_three w.z) (is_three v.z) refl refl v.clear)
-  where
-    head : (w v : Word) (vs : List Word) (a b : ℤ) → number_of w.text ≡ Some a → number_of v.text ≡ Some b → (p q : Bool) → is_three a ≡ p → is_three b ≡ q
-        → cond p (counted_fault long_fault b vs) (cond q (counted_fault long_fault a vs) (Some NotThree)) ≡ None → Whole (w ∷ v ∷ vs)
-    head w v vs a b e f true q pe qe h = made w v vs a b b e f (λ n is. inl (three a pe, is)) (counted long_fault b vs h)
-    head w v vs a b e f false true pe qe h =
-        made w v vs a b a e f
-        (λ n is. inr (
-          (λ t. let at : is_three (pos 3) ≡ false = subst (λ (y : ℤ). is_three y ≡ false) t pe in cc),
-          three b qe,
-          is,
-        )) (counted long_fault a vs h)
-    head w v vs a b e f false false pe qe h = cc
-
--- it is the file of some points, or it has a fault
-pub one_or_other : (bytes : List ℕ) → ((ps : List Vector) × Reads bytes ps × (first_fault bytes ≡ None)) ⊎ ((f : ReadFault) × (first_fault bytes ≡ Some f))
-one_or_other bytes = by_option (first_fault bytes) refl
-  where
-    small : (b : Bool) → nat_lt BYTE_LIMIT (length bytes) ≡ b → cond b (Some Big) (words_fault (data_words bytes)) ≡ None → (ps : List Vector) × Reads bytes ps
-    small true e h = cc
-    small false e h =
-        let w = whole (data_words bytes) h in (
-          w.points,
-          record {
-            small = grind (arith, nat_tests);
-            first = w.first;
-            second = w.second;
-            numbers = w.are;
-            header = w.header;
-            some = w.some;
-            few = w.few;
-            limit = w.limit;
-          },
-        )
-
-    by_option : (o : Option ReadFault) → first_fault bytes ≡ o
-        → ((ps : List Vector) × Reads bytes ps × (first_fault bytes ≡ None))
-        ⊎ ((f : ReadFault) × (first_fault bytes ≡ Some f))
-    by_option None e = let r = small (nat_lt BYTE_LIMIT (length bytes)) refl e in inl (r.0, r.1, e)
-    by_option (Some f) e = inr (f, e)
-
 -- a coordinate in range has no fault
 clear_more : (w : Word) (z : ℤ) (after : Option ReadFault) → number_of w.text ≡ Some z → IsCoordinate z → after ≡ None
     → option_or (coordinate_fault (number_of w.text) w.line) after ≡ None
@@ -274,33 +181,5 @@ pub next_clear : (after : ℤ → List Word → Option ReadFault) (w : Word) (ws
     → next_number_fault after (w ∷ ws) ≡ None
 next_clear after w ws z e h = subst (λ (o : Option ℤ). number_fault after o w.line ws ≡ None) (sym e) h
 
-headed_clear : (a b : ℤ) (n : ℕ) (ws : List Word) → IsHeader a b n → counted_fault long_fault (pos n) ws ≡ None → headed_fault a b ws ≡ None
-headed_clear a b n ws (inl (first, second)) h =
-    subst (λ (z : ℤ). headed_fault z b ws ≡ None) (sym first) (subst (λ (z : ℤ). counted_fault long_fault z ws ≡ None) (sym second) h)
-headed_clear a b n ws (inr (other, second, first)) h =
-    subst (λ (z : ℤ). headed_fault a z ws ≡ None) (sym second) (by_test (is_three a) refl)
-  where
-    by_test : (t : Bool) → is_three a ≡ t → cond t (counted_fault long_fault (pos 3) ws) (counted_fault long_fault a ws) ≡ None
-    by_test true e = absurd (other (three a e))
-    by_test false e = subst (λ (z : ℤ). counted_fault long_fault z ws ≡ None) (sym first) h
-
-words_clear : (ws : List Word) (a b : ℤ) (ps : List Vector) → numbers ws ≡ map Some (a ∷ b ∷ coordinates ps) → IsHeader a b (length ps)
-    → 1 ≤ length ps → length ps ≤ POINT_LIMIT → AllByRecursion IsCoordinate (coordinates ps) → words_fault ws ≡ None
-words_clear [] a b ps e header some few l = cc
-words_clear (w ∷ []) a b ps e header some few l = cc
-words_clear (w ∷ v ∷ ws) a b ps e header some few l =
-    let head : number_of w.text ≡ Some a = cc in
-    let next : number_of v.text ≡ Some b = cc in
-    let rest : numbers ws ≡ map Some (coordinates ps) = cc in
-    let none : counted_fault long_fault (pos (length ps)) ws ≡ None =
-    subst (λ (t : List Word). counted_fault long_fault (pos (length ps)) t ≡ None) (append-nil ws) (counted_clear long_fault ps ws [] rest some few l refl) in
-    next_clear _ w (v ∷ ws) a head (next_clear _ v ws b next (headed_clear a b (length ps) ws header none))
-
 pub not_big : (n : ℕ) → n ≤ BYTE_LIMIT → nat_lt BYTE_LIMIT n ≡ false
 not_big n h = grind (arith, nat_tests)
-
--- and never both
-pub never_both : (bytes : List ℕ) (ps : List Vector) → Reads bytes ps → first_fault bytes ≡ None
-never_both bytes ps r =
-    subst (λ (b : Bool). cond b (Some Big) (words_fault (data_words bytes)) ≡ None) (sym (not_big (length bytes) r.small))
-    (words_clear (data_words bytes) r.first r.second ps r.numbers r.header r.some r.few r.limit)

@@ -1,7 +1,7 @@
 -- In each form, a byte string has one list of points, or one fault.
 use Rattle.qh_model.specs.declared.form.Form.TheVariants.{Qhull, Off}
 use Rattle.qh_model.specs.laws.Readings.{ReadsOneList, HasListOrFault, IsNeverBoth}
-use Rattle.qh_model.proofs.ReadingLaws as point_file
+use Rattle.qh_model.proofs.PointFileLaws as point_file
 use Rattle.qh_model.proofs.OffReadingLaws as off_file
 
 pub one_list : ReadsOneList

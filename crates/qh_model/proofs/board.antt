@@ -1,5 +1,8 @@
 -- The board: updates of functions and their sums, what each event keeps, how many events there are, the root, and spans.
 pub mod Updates
+pub mod Siblings
+pub mod Grown
+pub mod Joined
 pub mod Kept
 pub mod Counts
 pub mod Root

@@ -3,6 +3,8 @@ pub mod LexicographicOrder
 pub mod ExtremeIds
 pub mod Faces
 pub mod AffineForms
+pub mod Axes
 pub mod Dimensions
+pub mod SameDimension
 pub mod Directions
 pub mod SpanningTriples

@@ -4,7 +4,9 @@ pub mod Unique
 pub mod Direction
 pub mod Neighbours
 pub mod PlaneTurns
+pub mod LeftOfEdge
 pub mod Edges
+pub mod OtherFace
 pub mod Fans
 pub mod EdgeCounts
 pub mod ClosedFaces

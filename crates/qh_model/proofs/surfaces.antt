@@ -6,6 +6,7 @@ pub mod VisibleFacets
 pub mod Facets
 pub mod PerturbedInwards
 pub mod Connected
+pub mod ConePlanes
 pub mod Cone
 pub mod KeptSound
 pub mod Unseen

@@ -33,7 +33,7 @@ pub enum CutError {
     ZeroSize,
     /// 2: there would be more than `BLOCK_LIMIT` blocks.
     TooManyBlocks,
-    /// 3: memory was refused.
+    /// 3: an allocation failed.
     Memory,
     /// 4: the bounds do not begin with 0, or do not rise, or have no block, or end above
     /// `POINT_LIMIT`.

@@ -13,7 +13,7 @@ use std::alloc::AllocError;
 pub enum ReadFault {
     /// There are fewer than two data words; in an OFF file no keyword, or fewer than three words after it.
     NoHeader,
-    /// A word on this line, where a number is to stand, is none.
+    /// A word on this line is not a number where a number has to stand.
     BadNumber(u32),
     /// Neither number of the header is 3.
     NotThree,
@@ -25,7 +25,7 @@ pub enum ReadFault {
     Long(u32),
     /// The text ends before the last coordinate.
     Short,
-    /// Memory was refused.
+    /// An allocation failed.
     Memory,
     /// The source of the bytes failed.
     Device,

@@ -80,8 +80,8 @@ impl Level {
         }
     }
 
-    /// Returns the number of points from a position on that one block shows to lie below all planes of a
-    /// bundle: its size where it begins at the position and lies below, else 0.
+    /// Returns the number of points from a position on that a single block shows to lie below all planes of a
+    /// bundle: the size of a block that begins at the position and lies below, else 0.
     pub fn below_all(&self, bundle: &Bundle, from: usize) -> usize
         ensures { (points : List Vector) → IsLevel points self.now → AreBelowAll points bundle.now from (from + result) }
     {

@@ -78,7 +78,7 @@ impl Outward {
     }
 }
 
-/// Returns the position of each id in a list, by its index; 0 where the list has it not.
+/// Returns the position of each id in a list, by its index; 0 if the id is not in the list.
 pub(crate) fn ranks_of(alloc: Global, count: usize, ids: &[Id]) -> Result<Vec<usize>, AllocError> {
     let mut ranks = vec![in alloc; 0; count]?;
     for position in 0..ids.len() {
@@ -89,8 +89,8 @@ pub(crate) fn ranks_of(alloc: Global, count: usize, ids: &[Id]) -> Result<Vec<us
     Ok(ranks)
 }
 
-/// Returns the position of the first corner of a polygon, by the positions of all ids; 0 where there
-/// is none.
+/// Returns the position of the first corner of a polygon, by the positions of all ids; 0 if it has no
+/// corner or the corner no position.
 pub fn first_rank(polygon: &Polygon, ranks: &[usize]) -> usize {
     match polygon.ids() {
         [first, ..] => *ranks.get(first.index()).unwrap_or(&0),

@@ -1,5 +1,5 @@
 //! The ids of a set along a Morton curve, with their points and blocks of these.
-ghost use Rattle.std.specs.Prelude.{◌≡◌, ◌+◌, ◌<◌, ◌≤◌, ◌↔◌, ◌<ℤ◌, ℕ, List, pos, IfOk, MatchOption, IsPermutation, IsTrue, length, map};
+ghost use Rattle.std.specs.Prelude.{◌≡◌, ◌+◌, ◌<◌, ◌≤◌, ◌↔◌, ◌<ℤ◌, ℕ, List, pos, IfOk, MatchOption, IsTrue, length};
 ghost use Rattle.std.specs.List.{All};
 ghost use Rattle.qh_model.specs.headline.Sets.{In};
 ghost use Rattle.qh_model.specs.headline.Vector.{Vector};
@@ -10,15 +10,14 @@ ghost use Rattle.qh_places.specs.contract.Near.{IsNear};
 ghost use Rattle.qh_places.specs.steps.Levels.{IsLevel, AreBelowAll, HasLooked, IsAboveAt};
 
 use crate::bundles::Bundle;
+use crate::curve::{order_along_curve, points_of};
 use crate::levels::{Level, below_all, levels_over};
 use crate::outward::{Outward, outward_of, ranks_of};
-use crate::stretched::stretched;
 use qh_model::{Id, Memory, Point, Polygon};
-use qh_pred::{Plane, point_at};
-use qh_surface::{ends_of, morton_order};
+use qh_pred::Plane;
 use std::alloc::{AllocError, Global};
 
-/// The positions that are looked at together: those of a block of the lowest level.
+/// The number of positions that are tested together: those of a block of the lowest level.
 const LEAF: usize = 16;
 
 /// The binary logarithm of `LEAF`.
@@ -38,7 +37,7 @@ pub struct Places {
     ghost lowest: { IsLevel points.items leaves },
 }
 
-/// Where the points are that some planes may meet. Planes that slant nearly alike leave few positions.
+/// The positions of the points that some planes may meet. Planes that slant nearly alike leave few positions.
 ///
 /// They are among the first `LEAF` positions from each start on; the planes are those of the bundle.
 #[derive(Drop)]
@@ -52,28 +51,6 @@ fn is_on(plane: &Plane, point: Point) -> bool
     ensures { IsTrue result ↔ (height plane.now point ≡ pos 0) }
 {
     plane.height(point) == 0
-}
-
-/// Returns the points of ids.
-fn points_of(alloc: Global, pts: &[Point], ids: &[Id]) -> Result<Vec<Point>, AllocError>
-    requires { AreIndices pts.now ids.now }
-    ensures { IfOk result (λ v. v.items ≡ map (place pts.now) ids.now) }
-{
-    let mut points = Vec::with_capacity(alloc, ids.len())?;
-    for id in ids {
-        points.push(point_at(pts, *id))?;
-    }
-    Ok(points)
-}
-
-/// Returns the ids along a Morton curve through their points, stretched along the axes.
-fn order_along_curve(alloc: Global, pts: &[Point], ids: &[Id]) -> Result<Vec<Id>, Memory>
-    requires some { 0 < length ids.now }
-    requires indices { AreIndices pts.now ids.now }
-    ensures { IfOk result (λ v. IsPermutation ids.now v.items) }
-{
-    let near = stretched(alloc, pts, &ends_of(pts, ids))?;
-    morton_order(alloc, &near, ids, &ends_of(&near, ids))
 }
 
 impl Places {
@@ -186,7 +163,7 @@ impl Places {
         self.look(plane, start, to, found)
     }
 
-    /// Returns the number of points from a position on that one block shows to lie below all planes of a
+    /// Returns the number of points from a position on that a single block shows to lie below all planes of a
     /// bundle, or 0.
     fn below_all(&self, bundle: &Bundle, from: usize) -> usize
         ensures { AreBelowAll self.now.points.items bundle.now from (from + result) }
@@ -198,7 +175,7 @@ impl Places {
         self.leaves.below_all(bundle, from)
     }
 
-    /// Returns the positions that planes of a bundle have to look at.
+    /// Returns the positions that the planes of a bundle have to test.
     fn near(&self, alloc: Global, bundle: Bundle) -> Result<Near, AllocError>
         ensures { IfOk result (IsNear self.now.points.items) }
     {

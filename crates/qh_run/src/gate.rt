@@ -1,4 +1,4 @@
-//! What the workers tell of their run, and who takes its last hull.
+//! The gate, which learns of the blocks of a run and takes its last hull.
 ghost use Rattle.std.specs.Prelude.{◌<◌, IfOk, length};
 ghost use Rattle.qh_model.specs.contract.IdSets.{IsIdSet};
 ghost use Rattle.qh_model.specs.headline.Hull.{IsBody};
@@ -10,7 +10,7 @@ use qh_block::hull;
 use qh_model::{Body, Id, Memory, Point};
 use std::alloc::Global;
 
-/// What is told of the blocks of a run, by the workers' threads, and takes the hull at its end.
+/// Learns of the blocks of a run, from the workers' threads, and takes the hull at its end.
 ///
 /// A gate may hold back the thread that calls it. No other worker waits for that thread.
 pub trait Gate: Sync {

@@ -61,7 +61,7 @@ impl<'a> Job<'a> {
     }
 
     /// Returns the extreme ids of a part of the ids, which has all that are extreme among `among` ids. Gives up if
-    /// they tell that a tree does not pay.
+    /// their number shows that a tree does not pay.
     fn extremes_among(&self, alloc: Global, part: &[Id], among: usize) -> Result<Extremes, GivesUp>
         requires some { 0 < length part.now }
         requires indices { AreIndices self.now.pts.now part.now }
@@ -75,7 +75,7 @@ impl<'a> Job<'a> {
         Ok(Extremes { ids, among })
     }
 
-    /// Returns the extreme ids of a block. Gives up if they tell that a tree does not pay.
+    /// Returns the extreme ids of a block. Gives up if their number shows that a tree does not pay.
     fn reduced(&self, alloc: Global, block: u32) -> Result<Extremes, GivesUp>
         requires { block < block_count self.now.cut.now }
         ensures { IfOk result (λ found. RightValue self.now.pts.now self.now.ids.now self.now.cut.now

@@ -1,12 +1,12 @@
 //! The hull of many points, by workers that share the blocks of a cut.
 //!
 //! [`run_hull`] puts the blocks on a board of `qh_board`, a combining tree. Workers claim blocks and
-//! deliver their extreme ids ([`work`]); whoever comes second at a node takes the extreme ids of both
+//! deliver their extreme ids ([`work`]); the second pass to arrive at a node takes the extreme ids of both
 //! children's: an id that is not extreme in its part is not extreme in the whole. The calling thread
-//! takes the hull of what comes out at the root, or of all ids that the filter left where a worker gave up. So the hull
+//! takes the hull of the ids at the root or, if a worker gave up, of all ids that the filter left. So the hull
 //! is the same for every cut, every number of workers and every order of their steps.
 //!
-//! A [`Gate`] is told of the blocks, and takes that hull; [`NoGate`] lets them pass.
+//! A [`Gate`] learns of the blocks, and takes that hull; [`NoGate`] lets them pass.
 //!
 //! Source: Preparata and Hong 1977 (the hull of a set from the hulls of its parts).
 #![tactic(auto)]

@@ -1,4 +1,4 @@
-//! What comes out at the root of a tree over the blocks of a job.
+//! The ids at the root of a tree over the blocks of a job.
 ghost use Rattle.std.specs.Prelude.{◌≡◌, ◌↔◌, ◌<◌, All, IfOk, IfSome, IsSome, Some, length};
 ghost use Rattle.qh_model.specs.contract.BoardMachine.{InSpan};
 ghost use Rattle.qh_board.specs.declared.view.Mark.TheVariants as marks;

@@ -12,8 +12,8 @@ use crate::turn::Turn;
 use qh_board::{Board, Claim, Delivered, Left, Pass, Task};
 use std::alloc::Global;
 
-/// Goes up the tree from a deliver that was answered: wherever the pass came second, it combines the
-/// values of both children and delivers the parent's.
+/// Climbs the tree after a delivery: wherever the pass arrived second, it combines the values of both
+/// children and delivers the parent's.
 fn climb<S: Reduction>(alloc: Global, board: &Board<S>, answer: Delivered<S>) -> Turn<S>
     requires answer { IsAnswerOf S.right board.now answer }
     requires blocks { board.now.setup.blocks ≡ S.count board.now.setup.spans }
@@ -34,7 +34,7 @@ fn climb<S: Reduction>(alloc: Global, board: &Board<S>, answer: Delivered<S>) ->
     }
 }
 
-/// Works at a block that was claimed: reduces it, delivers its value, and goes up the tree.
+/// Works at a claimed block: reduces it, delivers its value, and climbs the tree.
 fn take_turn<S: Reduction, G: Gate>(
     alloc: Global,
     board: &Board<S>,

@@ -8,14 +8,14 @@ ghost use Rattle.qh_seam_laws.specs.laws.PointLaws.{MiddleIsInner, BetweenFourIs
 ghost use Rattle.qh_seam_laws.specs.laws.PartLaws.{StrictIsClear, SeamOfOthers, StayingSupports, StayingHasPolygon};
 ghost use Rattle.qh_seam_laws.specs.laws.PartLaws.{ExtremesAreKept, FacesOfKept, JoinedAreFaces, JoinedHaveExtremes, PartIsSolid};
 
-/// A point that is above a facet that goes, and above none of the ring of facets that stay beside one that
-/// goes, is above none that stays. So only the ring is asked.
+/// A point above a removed facet, and above no facet of the ring (the facets that stay beside a removed one),
+/// is above no facet that stays. So only the ring is tested.
 pub fn ring_hides_rest()
     ensures { RingHidesRest }
 {}
 
-/// A point in the plane of a facet that is above none of the facets beside that plane is above none at all,
-/// and lies in the polygon of the plane. So points in a plane inside the ring need no test.
+/// A point in the plane of a facet, and above no facet beside that plane, is above no facet at all, and lies
+/// in the polygon of the plane. So points in a plane inside the ring need no test.
 pub fn sides_hide_rest()
     ensures below { SidesHideRest }
     ensures polygon { LevelIsInPolygon }
@@ -31,9 +31,10 @@ pub fn within_is_settled()
     ensures combination { BelowIsCombination }
 {}
 
-/// Where each kept point is settled or is above a facet that goes, and none is above the ring, the facets
-/// that stay support all, and clear ones have the polygons of all. The part's own points need no look, and
-/// where the others are strictly below the ring, all are clear. So a part gives out its faces.
+/// If each kept point is settled or lies above a removed facet, and no kept point lies above the ring, then
+/// the facets that stay support all points, and the clear ones have the polygons of all points. The part's
+/// own points need no test. If the points of the other parts lie strictly below the ring, every facet that
+/// stays is clear. So each part can list its faces by itself.
 pub fn staying_faces_are_faces()
     ensures support { StayingSupports }
     ensures polygon { StayingHasPolygon }
@@ -42,7 +43,7 @@ pub fn staying_faces_are_faces()
 {}
 
 /// The corners of the parts have all extreme ids, and the faces of a list that has them are those of all: the
-/// other points need no look.
+/// other points need no test.
 pub fn corners_are_enough()
     ensures extremes { ExtremesAreKept }
     ensures faces { FacesOfKept }

@@ -59,7 +59,7 @@ impl Side {
     }
 }
 
-/// What a walk asks of the next facet.
+/// What a walk tests of the next facet.
 pub trait FacetPredicate {
     // What the test needs to know of a mesh.
     ghost Fits: { Self → List StoredFacet → Type 0 };
@@ -76,8 +76,8 @@ pub trait FacetPredicate {
         requires ends { edge_end mesh.now edge ≡ edge_start mesh.now (twin_of mesh.now edge) }
         ensures { IsTrue result ↔ Self.Passes self.now mesh.now (facet_of edge) };
 
-    /// Returns true if a walk enters the facet of an edge: it has no mark yet and passes. A test that
-    /// costs little is asked in any case, since which facets have marks can't be foreseen.
+    /// Returns true if a walk enters the facet of an edge: it has no mark yet and passes. A cheap
+    /// test is made for marked facets, too, since a branch on the mark can't be predicted.
     fn enters(&self, mesh: &Mesh, edge: EdgeNo, mark: Mark) -> bool
         requires fits { Self.Fits self.now mesh.now }
         requires live { IsLive mesh.now (facet_of edge) }

@@ -6,7 +6,8 @@ use Rattle.std.specs.Prelude.{◌↔◌}
 use Rattle.qh_model.specs.headline.{Vector.Vector, Sets.In, Sets.Once, Sets.Members, Dimension.IsDimension}
 use Rattle.qh_model.specs.contract.IdSets.{HasDistinctPoints}
 use Rattle.qh_model.specs.headline.{Polygon.FollowsAlong, Polygon.Follows, Polygons.AreFaces, Polygons.IsEdge, Polygons.IsEdgeCount}
-use Rattle.qh_model.proofs.polygons.{Edges.one_face_each_way, Edges.other_face, Neighbours.along_members}
+use Rattle.qh_model.proofs.polygons.{Edges.one_face_each_way, Neighbours.along_members}
+use Rattle.qh_model.proofs.polygons.OtherFace.{other_face}
 use Rattle.qh_model.proofs.lists.Joined.{once_append, in_flat_map, of_flat_map}
 use Rattle.qh_block.specs.contract.SolidEdges.{ups_along, ups, all_edges_up}
 

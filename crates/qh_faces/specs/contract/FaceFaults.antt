@@ -7,7 +7,7 @@ use Rattle.qh_faces.specs.declared.reading.Layout.{Layout}
 use Rattle.qh_faces.specs.declared.reading.Layout.TheVariants.{Off, Counted, Lines}
 use Rattle.qh_faces.specs.contract.FaceWords.{after_line}
 
--- what comes after a number and its line, and after a word that is none
+-- what is wrong with a word that is no number, or with what comes after a number and its line
 abbrev pub value_fault : (ℕ → ℕ → List Numeral → Option ReadFault) → Option ℕ → ℕ → List Numeral → Option ReadFault
 value_fault after None line ws = Some (BadNumber line)
 value_fault after (Some n) line ws = after n line ws
@@ -17,7 +17,7 @@ abbrev pub number_fault : (ℕ → ℕ → List Numeral → Option ReadFault) �
 number_fault after [] = Some Short
 number_fault after (w ∷ ws) = value_fault after w.number w.line ws
 
--- so many corners are to come after a word of this line, and then what is wrong with the rest
+-- a number of corners are to come after a word of this line, and then what is wrong with the rest
 abbrev pub corners_fault : (ℕ → List Numeral → Option ReadFault) → ℕ → ℕ → List Numeral → Option ReadFault
 corners_fault after zero line ws = after line ws
 corners_fault after (suc n) line ws = number_fault (λ corner next rest. corners_fault after n next rest) ws
@@ -41,7 +41,7 @@ face_fault Off after ws = counted_face_fault after ws
 face_fault Counted after ws = counted_face_fault after ws
 face_fault Lines after ws = line_face_fault after ws
 
--- so many faces are to come, and nothing more
+-- a number of faces are to come, and nothing more
 abbrev pub faces_fault : Layout → ℕ → List Numeral → Option ReadFault
 faces_fault layout zero [] = None
 faces_fault layout zero (w ∷ ws) = Some (Long w.line)

@@ -12,7 +12,7 @@ use Rattle.qh_faces.specs.contract.FaceFaults.{list_fault}
 use Rattle.qh_faces.specs.contract.FaceFiles.{IsOffList, IsWholeList}
 use Rattle.qh_faces.specs.contract.FaceWords.{IsList}
 
--- the first word, without so many that come after it
+-- the words without the skipped ones, which stand after the first
 abbrev pub behind : ℕ → List Numeral → List Numeral
 behind skipped [] = []
 behind skipped (w ∷ ws) = w ∷ drop skipped ws

@@ -1,8 +1,9 @@
 -- What the steps of a replacement write: the twins across the horizon, and the facets of the cone.
-use Rattle.std.specs.Prelude.{true, ◌≡◌, ◌≢◌, ℕ, ◌<◌, List, length, slice_index, true, false}
+use Rattle.std.specs.Prelude.{◌≡◌, ◌≢◌, ℕ, ◌<◌, List, length, slice_index}
 use Rattle.qh_model.specs.contract.Surface.Side.{first, second, third}
 use Rattle.qh_model.specs.contract.StoredSurface.{StoredFacet, facet_at, no_facet}
 use Rattle.qh_mesh.specs.declared.facets.FacetSide.{FacetSide}
+use Rattle.qh_mesh.specs.declared.slots.End.TheVariants.{Start, Finish}
 use Rattle.qh_mesh.specs.contract.Edges.{edge_of, twin_of}
 use Rattle.qh_mesh.specs.steps.Kept.{facet_from}
 use Rattle.qh_mesh.specs.steps.Horizons.{side_at, IsMate}
@@ -24,9 +25,9 @@ pub record Joined (old new : List StoredFacet) (hs : List FacetSide) (made : Lis
 -- the facet of the cone over a side of the horizon, beside those over the sides that meet it
 pub record IsOver (hs : List FacetSide) (made : List ℕ) (apex j : ℕ) (t : StoredFacet) : Type 0 where
   pub next : ℕ
-  pub next_is : IsMate hs true j next
+  pub next_is : IsMate hs Finish j next
   pub before : ℕ
-  pub before_is : IsMate hs false j before
+  pub before_is : IsMate hs Start j before
   pub is : t ≡ facet_from (side_at hs j).from (side_at hs j).to apex (side_at hs j).outer (edge_of (slice_index made next) third)
       (edge_of (slice_index made before) second)
 

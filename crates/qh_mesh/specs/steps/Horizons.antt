@@ -1,9 +1,11 @@
 -- The horizon as it is gathered, and which of its sides follow one another.
-use Rattle.std.specs.Prelude.{◌≡◌, ℕ, ◌<◌, List, [], ◌∷◌, Bool, cond, not, nat_eq, length, take, filter, slice_index_or}
+use Rattle.std.specs.Prelude.{◌≡◌, ℕ, ◌<◌, List, [], ◌∷◌, Bool, nat_eq, length, take, filter, slice_index_or}
 use Rattle.std.specs.Prelude.{count_by, flat_map}
 use Rattle.qh_model.specs.contract.Surface.Side.{first, second, third}
 use Rattle.qh_model.specs.contract.StoredSurface.{StoredFacet, facet_at}
 use Rattle.qh_mesh.specs.declared.facets.FacetSide.{FacetSide}
+use Rattle.qh_mesh.specs.declared.slots.End.{End}
+use Rattle.qh_mesh.specs.declared.slots.End.TheVariants.{Start, Finish}
 use Rattle.qh_mesh.specs.declared.slots.Slot.{Slot}
 use Rattle.qh_mesh.specs.contract.Edges.{edge_end, edge_start, facet_of, twin_of}
 use Rattle.qh_mesh.specs.steps.Kept.{side_of}
@@ -35,33 +37,44 @@ no_side = record { from = 0; to = 0; outer = 0 }
 abbrev pub side_at : List FacetSide → ℕ → FacetSide
 side_at hs j = slice_index_or hs j no_side
 
--- the corner where a side ends, or where it starts
-abbrev pub corner : Bool → FacetSide → ℕ
-corner ends h = cond ends h.to h.from
+-- the other end
+abbrev pub other : End → End
+other Start = Finish
+other Finish = Start
 
--- at each corner as many sides start as end
+-- the corner at an end of a side
+abbrev pub corner : End → FacetSide → ℕ
+corner Start h = h.from
+corner Finish h = h.to
+
+-- at each corner the number of sides that start is that of the sides that end
 abbrev pub IsBalanced : List FacetSide → Type 0
-IsBalanced hs = (ends : Bool) (l : ℕ)
-    → count_by (λ h. nat_eq (corner ends h) l) hs ≡ count_by (λ h. nat_eq (corner (not ends) h) l) hs
+IsBalanced hs = (end : End) (l : ℕ)
+    → count_by (λ h. nat_eq (corner end h) l) hs ≡ count_by (λ h. nat_eq (corner (other end) h) l) hs
 
--- how many of the first n sides end, or start, at a corner
-abbrev pub rank : List FacetSide → Bool → ℕ → ℕ → ℕ
-rank hs ends l n = count_by (λ h. nat_eq (corner ends h) l) (take n hs)
+-- how many of the first n sides start, or end, at a corner
+abbrev pub rank : List FacetSide → End → ℕ → ℕ → ℕ
+rank hs end l n = count_by (λ h. nat_eq (corner end h) l) (take n hs)
 
 -- side i starts where side j ends, or ends where it starts, and is as late among the sides that do
-pub record IsMate (hs : List FacetSide) (ends : Bool) (j i : ℕ) : Type 0 where
+pub record IsMate (hs : List FacetSide) (end : End) (j i : ℕ) : Type 0 where
   pub inside : i < length hs
-  pub meets : corner (not ends) (side_at hs i) ≡ corner ends (side_at hs j)
-  pub rank : rank hs (not ends) (corner ends (side_at hs j)) i ≡ rank hs ends (corner ends (side_at hs j)) j
+  pub meets : corner (other end) (side_at hs i) ≡ corner end (side_at hs j)
+  pub rank : rank hs (other end) (corner end (side_at hs j)) i ≡ rank hs end (corner end (side_at hs j)) j
 
--- what the table has for a corner: the side that ends there, or the one that starts there
-abbrev pub noted : List Slot → Bool → ℕ → ℕ
-noted ss ends l = let s = slice_index_or ss l (record { starting = 0; ending = 0 }) in cond ends s.ending s.starting
+-- what the table has for a corner
+abbrev pub slot_at : List Slot → ℕ → Slot
+slot_at ss l = slice_index_or ss l (record { starting = 0; ending = 0 })
 
--- each side is noted at its corner of this kind
+-- the side that is noted there: the one that starts there, or the one that ends there
+abbrev pub noted : List Slot → End → ℕ → ℕ
+noted ss Start l = (slot_at ss l).starting
+noted ss Finish l = (slot_at ss l).ending
+
+-- each side is noted at the corners of both ends
 abbrev pub AreNoted : List Slot → List FacetSide → Type 0
-AreNoted ss hs = (ends : Bool) (j : ℕ) → j < length hs → (corner ends (side_at hs j) < length ss)
-    × (noted ss ends (corner ends (side_at hs j)) ≡ j)
+AreNoted ss hs = (end : End) (j : ℕ) → j < length hs → (corner end (side_at hs j) < length ss)
+    × (noted ss end (corner end (side_at hs j)) ≡ j)
 
 -- what is noted of an edge
 abbrev pub edge_side : List StoredFacet → ℕ → FacetSide

@@ -6,7 +6,9 @@ use Rattle.qh_model.specs.contract.BoardMachine.{claim_over, arrive_first, arriv
 use Rattle.qh_model.specs.contract.BoardMachine.{after, run, CanRun, settled, sum_to}
 use Rattle.qh_model.specs.steps.Endings.{ended}
 use Rattle.qh_model.proofs.board.Updates.{put_here, put_else, sum_put, sum_most, sum_zero, sum_less}
-use Rattle.qh_model.proofs.board.Kept.{Consistent, ranged, keeps_good, r_i, n_i, fresh}
+use Rattle.qh_model.proofs.board.Kept.{keeps_good}
+use Rattle.qh_model.proofs.board.Grown.{Consistent, ranged}
+use Rattle.qh_model.proofs.board.Joined.{r_i, n_i, fresh}
 
 pub one_if : Bool → ℕ
 one_if true = 1

@@ -7,7 +7,9 @@ use Rattle.qh_model.specs.contract.BoardMachine.{start, put, Event, claim_got, c
 use Rattle.qh_model.specs.contract.BoardMachine.{publish, leave, give_up, HoldsNothing, Can, after, run, CanRun}
 use Rattle.qh_model.specs.contract.BoardMachine.{settled}
 use Rattle.qh_model.proofs.board.Updates.{put_here, put_else, at_put}
-use Rattle.qh_model.proofs.board.Kept.{Consistent, Cases, same, spent, got, joined, cases, fresh, keeps_good, all_good}
+use Rattle.qh_model.proofs.board.Kept.{keeps_good, all_good}
+use Rattle.qh_model.proofs.board.Grown.{Consistent}
+use Rattle.qh_model.proofs.board.Joined.{Cases, same, spent, got, joined, cases, fresh}
 
 -- no number is both
 never_both : (n : ℕ) → n ≡ 0 → n ≡ 1 → ⊥

@@ -47,7 +47,7 @@ among_scaled : {A : Type 0} (k : ℕ) (xs : List A) (ts : List (ℕ × A)) → A
 among_scaled k xs [] h = tt
 among_scaled k xs (t ∷ ts) h = (h.0, among_scaled k xs ts h.1)
 
--- as many
+-- scaling keeps the number of terms
 count_scaled : {A : Type 0} (k : ℕ) (ts : List (ℕ × A)) → count (scaled k ts) ≡ count ts
 count_scaled k [] = refl
 count_scaled k (t ∷ ts) = ap suc (count_scaled k ts)

@@ -1,5 +1,5 @@
--- A set has one dimension, and its extreme ids have the same.
-use Rattle.std.proofs.Common.{◌≡◌, ◌≢◌, ℕ, arith, refl, ap, sym, subst, ◌∙◌, ◌⊎◌, inl, inr}
+-- A set has one dimension, and what combines to a set has its tetrahedra, triangles and segments.
+use Rattle.std.proofs.Common.{◌≡◌, ◌≢◌, ℕ, arith, ap, sym, subst, ◌∙◌, inl, inr}
 use Rattle.std.proofs.lemmas.Int.{ints}
 use Rattle.std.specs.Prelude.{ℤ, pos, ◌+ℤ◌, ◌-ℤ◌, neg_ℤ}
 use Rattle.qh_model.specs.headline.Vector.{Vector, origin, minus, cross_product, dot}
@@ -8,15 +8,13 @@ use Rattle.qh_model.specs.headline.Sets.{Members}
 use Rattle.qh_model.specs.contract.IdSets.{HasDistinctPoints}
 use Rattle.qh_model.specs.headline.Dimension.{HasTetrahedron, HasTriangle, HasSegment, IsDimension}
 use Rattle.qh_model.specs.headline.Combination.{Combination}
-use Rattle.qh_model.specs.headline.Extreme.{Extreme}
-use Rattle.qh_model.specs.laws.DimensionLaws.{DimensionIsUnique, DimensionOfExtremes}
-use Rattle.qh_model.proofs.algebra.Order.{zero_or_not}
-use Rattle.qh_model.proofs.algebra.VectorIdentities.{vector_path, vol-linear, vol-first_last, vol-second_last}
+use Rattle.qh_model.specs.laws.DimensionLaws.{DimensionIsUnique}
+use Rattle.qh_model.proofs.algebra.VectorIdentities.{vol-linear, vol-first_last, vol-second_last}
 use Rattle.qh_model.proofs.algebra.VectorIdentities.{vol-third_last, left-dot, left-linear, left-turn, in_line-vol}
 use Rattle.qh_model.proofs.algebra.VectorIdentities.{in_line-left, in_line-twice, opposite, dot-opposite}
 use Rattle.qh_model.proofs.algebra.Ring.{equal_from_zero}
-use Rattle.qh_model.proofs.extremes.ExtremeIds.{listed_itself, combination_of_extremes}
 use Rattle.qh_model.proofs.extremes.AffineForms.{Form, form_as, NonZero, non_zero_member}
+use Rattle.qh_model.proofs.extremes.Axes.{Differ, differ}
 
 -- each member of A is a convex combination of members of E
 abbrev pub AreCombinations : (ℕ → Vector) → (ℕ → Type 0) → (ℕ → Type 0) → Type 0
@@ -52,58 +50,6 @@ tetrahedron_of at A E m h =
         (non_zero_member at E (at h.k) (m h.k h.has_k) (λ q. vol (at h.i) (at h.j) q (at r.e))
         (form_as _ _ (vol_form (at h.j) (at h.i) (at r.e)) (λ q. vol-third_last (at h.i) (at h.j) q (at r.e)))
         r.differs)
-
--- ---- the three axes
--- the first axis
-axis_x : Vector
-axis_x = record { x = pos 1; y = pos 0; z = pos 0 }
-
--- the second
-axis_y : Vector
-axis_y = record { x = pos 0; y = pos 1; z = pos 0 }
-
--- the third
-axis_z : Vector
-axis_z = record { x = pos 0; y = pos 0; z = pos 1 }
-
--- along it lies the first coordinate
-dot-axis_x : (q : Vector) → dot axis_x q ≡ q.x
-unfolding axis_x
-dot-axis_x q = omega (arith, ints)
-
--- the second
-dot-axis_y : (q : Vector) → dot axis_y q ≡ q.y
-unfolding axis_y
-dot-axis_y q = omega (arith, ints)
-
--- the third
-dot-axis_z : (q : Vector) → dot axis_z q ≡ q.z
-unfolding axis_z
-dot-axis_z q = omega (arith, ints)
-
--- different vectors differ along an axis
-record Differ (p q : Vector) : Type 0 where
-  axis : Vector
-  differs : dot axis p ≢ dot axis q
-
--- the axis
-differ : (p q : Vector) → p ≢ q → Differ p q
-differ p q n = on_x (zero_or_not (p.x -ℤ q.x))
-  where
-    apart : (a b c d : ℤ) → c ≡ a → d ≡ b → c ≡ d → a -ℤ b ≡ pos 0
-    apart a b c d e f h = omega (arith, ints)
-
-    on_z : p.x ≡ q.x → p.y ≡ q.y → (p.z -ℤ q.z ≡ pos 0) ⊎ (¬ (p.z -ℤ q.z ≡ pos 0)) → Differ p q
-    on_z x y (inl z) = absurd (n (vector_path p q x y (equal_from_zero p.z q.z z)))
-    on_z x y (inr k) = record { axis = axis_z; differs = λ e. k (apart p.z q.z _ _ (dot-axis_z p) (dot-axis_z q) e) }
-
-    on_y : p.x ≡ q.x → (p.y -ℤ q.y ≡ pos 0) ⊎ (¬ (p.y -ℤ q.y ≡ pos 0)) → Differ p q
-    on_y x (inl y) = on_z x (equal_from_zero p.y q.y y) (zero_or_not (p.z -ℤ q.z))
-    on_y x (inr k) = record { axis = axis_y; differs = λ e. k (apart p.y q.y _ _ (dot-axis_y p) (dot-axis_y q) e) }
-
-    on_x : (p.x -ℤ q.x ≡ pos 0) ⊎ (¬ (p.x -ℤ q.x ≡ pos 0)) → Differ p q
-    on_x (inl x) = on_y (equal_from_zero p.x q.x x) (zero_or_not (p.y -ℤ q.y))
-    on_x (inr k) = record { axis = axis_x; differs = λ e. k (apart p.x q.x _ _ (dot-axis_x p) (dot-axis_x q) e) }
 
 -- ---- three points
 -- a turn is an affine form
@@ -242,78 +188,3 @@ one_dimension at A k l (inr (inr (inr (e, o)))) (inr (inr (inr (f, n)))) = e ∙
 -- the law
 pub dimension_is_unique : DimensionIsUnique
 dimension_is_unique at ids k l d e = one_dimension at (Members ids) k l d e
-
--- ---- the same dimension
--- each follows of the other
-abbrev pub Both : Type 0 → Type 0 → Type 0
-Both P Q = (P → Q) × (Q → P)
-
--- the dimension of another set with the same, of other points too
-pub dimension_as : (at at' : ℕ → Vector) (A B : ℕ → Type 0) → Both (HasTetrahedron at A) (HasTetrahedron at' B)
-    → Both (HasTriangle at A) (HasTriangle at' B) → Both (HasSegment A) (HasSegment B)
-    → (k : ℕ) → IsDimension at A k → IsDimension at' B k
-dimension_as at at' A B f g h k (inl (e, t)) = inl (e, f.0 t)
-dimension_as at at' A B f g h k (inr (inl (e, t, n))) = inr (inl (e, g.0 t, λ u. n (f.1 u)))
-dimension_as at at' A B f g h k (inr (inr (inl (e, t, n)))) = inr (inr (inl (e, h.0 t, λ u. n (g.1 u))))
-dimension_as at at' A B f g h k (inr (inr (inr (e, n)))) = inr (inr (inr (e, λ u. n (h.1 u))))
-
--- ---- members named by members of another set, with the same points
-module _ {at at' : ℕ → Vector} {A B : ℕ → Type 0} (f : ℕ → ℕ) (to : (i : ℕ) → A i → B (f i)) where
-  -- a tetrahedron by their names
-  pub tetrahedron_by_names : ((i : ℕ) → A i → at' (f i) ≡ at i) → HasTetrahedron at A → HasTetrahedron at' B
-  tetrahedron_by_names point t = record {
-    i = f t.i;
-    j = f t.j;
-    k = f t.k;
-    l = f t.l;
-    has_i = to t.i t.has_i;
-    has_j = to t.j t.has_j;
-    has_k = to t.k t.has_k;
-    has_l = to t.l t.has_l;
-    volume = λ e. t.volume (sym (λ z. vol (point t.i t.has_i z) (point t.j t.has_j z) (point t.k t.has_k z) (point t.l t.has_l z)) ∙ e);
-  }
-
-  -- a triangle
-  pub triangle_by_names : ((i : ℕ) → A i → at' (f i) ≡ at i) → HasTriangle at A → HasTriangle at' B
-  triangle_by_names point t = record {
-    i = f t.i;
-    j = f t.j;
-    k = f t.k;
-    has_i = to t.i t.has_i;
-    has_j = to t.j t.has_j;
-    has_k = to t.k t.has_k;
-    area = λ e. t.area (sym (λ z. cross (point t.i t.has_i z) (point t.j t.has_j z) (point t.k t.has_k z)) ∙ e);
-  }
-
--- a segment, where names tell the members apart
-pub segment_by_names : {A B : ℕ → Type 0} (f : ℕ → ℕ) (to : (i : ℕ) → A i → B (f i)) → ((i j : ℕ) → A i → A j → f i ≡ f j → i ≡ j)
-    → HasSegment A → HasSegment B
-segment_by_names f to apart s = record {
-  i = f s.i;
-  j = f s.j;
-  has_i = to s.i s.has_i;
-  has_j = to s.j s.has_j;
-  differ = λ e. s.differ (apart s.i s.j s.has_i s.has_j e);
-}
-
--- the law
-pub dimension_of_extremes : DimensionOfExtremes
-dimension_of_extremes at ids k d = (dimension_as at at E A (four.1, four.0) (three.1, three.0) (two.1, two.0) k, dimension_as at at A E four three two k)
-  where
-    A : ℕ → Type 0
-    A = Members ids
-
-    E : ℕ → Type 0
-    E = Extreme at A
-
-    m : AreCombinations at A E
-    m i h = combination_of_extremes at A ids (listed_itself ids) d i h
-
-    four : Both (HasTetrahedron at A) (HasTetrahedron at E)
-    four = (tetrahedron_of at A E m, tetrahedron_by_names (λ i. i) (λ i h. h.0) (λ i h. refl))
-
-    three : Both (HasTriangle at A) (HasTriangle at E)
-    three = (triangle_of at A E m, triangle_by_names (λ i. i) (λ i h. h.0) (λ i h. refl))
-
-    two : Both (HasSegment A) (HasSegment E)
-    two = (segment_of at A E d m, segment_by_names (λ i. i) (λ i h. h.0) (λ i j h k e. e))

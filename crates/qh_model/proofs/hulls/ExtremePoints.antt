@@ -30,7 +30,7 @@ module _ (pts : List Vector) (h : HullValue) (s : IsHull pts h) where
       member i [] m = absurd m
       member i (x ∷ xs) m = omega arith
 
-  -- at most as many as there are
+  -- the number of extreme ids is at most that of the points
   few_extremes : length h.body.extremes ≤ length pts
   few_extremes = few_below (length pts) h.body.extremes s.body.extremes.rising extreme_within
 

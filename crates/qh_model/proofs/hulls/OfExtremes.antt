@@ -14,7 +14,8 @@ use Rattle.qh_model.specs.laws.HullLaws.{BodyOfExtremes, TriplesOfExtremes, Poly
 use Rattle.qh_model.proofs.extremes.ExtremeIds.{listed_itself, extremes_between, combination_of_extremes}
 use Rattle.qh_model.proofs.extremes.Faces.{support_of_extremes}
 use Rattle.qh_model.proofs.extremes.SpanningTriples.{planes_of_extremes}
-use Rattle.qh_model.proofs.extremes.Dimensions.{dimension_of_extremes, triangle_of}
+use Rattle.qh_model.proofs.extremes.Dimensions.{triangle_of}
+use Rattle.qh_model.proofs.extremes.SameDimension.{dimension_of_extremes}
 use Rattle.qh_model.proofs.extremes.Directions.{along_itself, along_back}
 use Rattle.qh_model.proofs.polygons.Direction.{polygon_as}
 use Rattle.qh_model.proofs.hulls.FlatSets.{forward_not_zero, forward_along, flat_normals}

@@ -17,7 +17,7 @@ use Rattle.qh_model.proofs.algebra.VectorIdentities.{vol-first, in_line-left, le
 use Rattle.qh_model.proofs.extremes.Directions.{square-positive}
 use Rattle.qh_model.proofs.extremes.SpanningTriples.{planes_of_extremes}
 use Rattle.qh_model.proofs.lists.Joined.{of_flat_map}
-use Rattle.qh_model.proofs.polygons.Edges.{Third, third}
+use Rattle.qh_model.proofs.polygons.LeftOfEdge.{Third, third}
 use Rattle.qh_model.proofs.polygons.Neighbours.{follows_members}
 use Rattle.qh_model.proofs.polygons.PlaneTurns.{level_volume}
 

@@ -13,7 +13,8 @@ use Rattle.qh_model.proofs.lists.Counts.{count_twins}
 use Rattle.qh_model.proofs.lists.Joined.{once_append, in_flat_map, of_flat_map}
 use Rattle.qh_model.proofs.lists.Lexicographic.{before-asymmetric, rising-ordered}
 use Rattle.qh_model.proofs.lists.Ordered.{Ordered}
-use Rattle.qh_model.proofs.polygons.Edges.{one_face_each_way, other_face}
+use Rattle.qh_model.proofs.polygons.Edges.{one_face_each_way}
+use Rattle.qh_model.proofs.polygons.OtherFace.{other_face}
 use Rattle.qh_model.proofs.polygons.Neighbours.{along_members}
 
 abbrev Has : ℕ → ℕ → List (ℕ × ℕ) → Type 0

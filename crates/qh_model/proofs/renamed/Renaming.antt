@@ -3,7 +3,7 @@ use Rattle.std.proofs.Common.{◌≡◌, ℕ, ◌<◌, arith, sym, ap, subst, �
 use Rattle.qh_model.specs.headline.{Vector.Vector, Combination.Combination, Dimension.IsDimension, Extreme.Others, Extreme.Extreme}
 use Rattle.qh_model.specs.headline.Predicates.{cross, vol}
 use Rattle.qh_model.proofs.combinations.OtherNames.{combination_by_names}
-use Rattle.qh_model.proofs.extremes.Dimensions.{dimension_as, tetrahedron_by_names, triangle_by_names, segment_by_names}
+use Rattle.qh_model.proofs.extremes.SameDimension.{dimension_as, tetrahedron_by_names, triangle_by_names, segment_by_names}
 
 -- f names each id of A by one of B, g back, with the same points and in the same order
 pub record IsRenaming (at at' : ℕ → Vector) (A B : ℕ → Type 0) (f g : ℕ → ℕ) : Type 0 where

@@ -1,140 +1,18 @@
 -- A surface whose facets that see an id are replaced by its cone over the horizon.
-use Rattle.qh_model.specs.contract.Surface.{IsCorner, Side, Surface, HasTwin, IsWhole, end, rise, start, rest}
+use Rattle.qh_model.specs.contract.Surface.{IsCorner, Side, Surface, IsWhole, end, rise, start}
 use Rattle.qh_model.specs.steps.FarCorners.{far}
 use Rattle.qh_model.specs.headline.Sets.{In}
 use Rattle.qh_model.specs.contract.SoundSurface.{IsInner, IsStrictWhenPerturbed, IsSound, IsStrict, perturbed, towards}
-use Rattle.qh_model.specs.contract.Weighted.{Weighted, above}
+use Rattle.qh_model.specs.contract.Weighted.{Weighted}
 use Rattle.std.proofs.Common.{◌≡◌, ◌≢◌, ℕ, ◌+◌, ◌≤◌, refl, arith, ap, sym, ◌∙◌, subst, ◌⊎◌, inl, inr}
 use native.Mathlib.Decide.{ℕ_discrete}
-use Rattle.std.proofs.lemmas.Int.{ints, by_lt_z}
-use Rattle.std.specs.Prelude.{ℤ, pos, ◌-ℤ◌, ◌*ℤ◌, ◌≤ℤ◌, ◌<ℤ◌}
-use Rattle.qh_model.proofs.algebra.Order.{mul-pos, mul-nonneg, mul-nonneg_nonpos, mul-nonpos_nonneg, mul-nonpos, mul-neg_pos, mul-pos_neg}
-use Rattle.qh_model.proofs.algebra.Order.{positive_le, negative_le}
+use Rattle.std.specs.Prelude.{pos, ◌≤ℤ◌, ◌<ℤ◌}
 use Rattle.qh_model.proofs.algebra.Signs.{not_less, equal_negative}
-use Rattle.qh_model.proofs.surfaces.{PerturbedInwards.Choice, PerturbedInwards.choose, PlanesThroughLine.line_product, Connected.cert}
-use Rattle.qh_model.proofs.surfaces.Facets.{corner_start, corner_end, corner_rest, corner_cases, corner_test, far_apart, weak, bends}
-use Rattle.qh_model.proofs.surfaces.Facets.{side_rise, far_rise, side_seen, side_blind, side_below, far_seen, far_blind, far_below}
+use Rattle.qh_model.proofs.surfaces.{PerturbedInwards.Choice, PerturbedInwards.choose, Connected.cert}
+use Rattle.qh_model.proofs.surfaces.Facets.{corner_start, corner_end, corner_rest}
+use Rattle.qh_model.proofs.surfaces.Facets.{side_rise}
+use Rattle.qh_model.proofs.surfaces.ConePlanes.{Old, apex_rise, apex_inner, corner_below_cone}
 
--- ---- signs, for two planes through one line, and a third through it and p
--- a ≤ 0 with a positive product
-other_neg : (a b : ℤ) → a ≤ℤ pos 0 → pos 0 <ℤ (a *ℤ b) → b <ℤ pos 0
-other_neg a b h k = by_lt_z b (pos 0) (λ q. q) (λ q. absurd (not_less (pos 0) (a *ℤ b) k (mul-nonpos_nonneg a b h q)))
-
--- the same with a negative product
-other_pos : (a b : ℤ) → a ≤ℤ pos 0 → (a *ℤ b) <ℤ pos 0 → pos 0 <ℤ b
-other_pos a b h k = by_lt_z (pos 0) b (λ q. q) (λ q. absurd (not_less (a *ℤ b) (pos 0) k (mul-nonpos a b h q)))
-
--- a factor of a positive product, by the other
-first_neg : (a b : ℤ) → b <ℤ pos 0 → pos 0 <ℤ (a *ℤ b) → a <ℤ pos 0
-first_neg a b h k = by_lt_z a (pos 0) (λ q. q) (λ q. absurd (not_less (pos 0) (a *ℤ b) k (mul-nonneg_nonpos a b q (negative_le b h))))
-
--- by how far p, y and b are above the plane of a, and p and y above that of b and that of p
-module _ (ap bp ab ay by py : ℤ) (product : ap *ℤ by -ℤ ay *ℤ bp ≡ ab *ℤ py) where
-  -- y is strictly below one of the two: so of the third
-  below_one_plane : pos 0 <ℤ ap → pos 0 <ℤ bp → ab <ℤ pos 0 → ay ≤ℤ pos 0 → pos 0 ≤ℤ by → (ay <ℤ pos 0) ⊎ (pos 0 <ℤ by) → py <ℤ pos 0
-  below_one_plane h k l m n one = other_neg ab py (negative_le ab l) (positive one)
-    where
-      positive : (ay <ℤ pos 0) ⊎ (pos 0 <ℤ by) → pos 0 <ℤ (ab *ℤ py)
-      positive (inl s) =
-          let x = mul-nonneg ap by (positive_le ap h) n in let y = mul-neg_pos ay bp s k in omega (arith, ints, product, x, y)
-      positive (inr s) =
-          let x = mul-pos ap by h s in let y = mul-nonpos_nonneg ay bp m (positive_le bp k) in omega (arith, ints, product, x, y)
-
-  -- strictly below both: then the two planes bend strictly
-  below_both_planes : pos 0 <ℤ ap → pos 0 ≤ℤ bp → ab ≤ℤ pos 0 → ay <ℤ pos 0 → pos 0 <ℤ by → (ab <ℤ pos 0) × (py <ℤ pos 0)
-  below_both_planes h k l m n =
-      let x = mul-pos ap by h n in let y = mul-nonpos_nonneg ay bp (negative_le ay m) k in
-      let positive : pos 0 <ℤ (ab *ℤ py) = omega (arith, ints, product, x, y) in
-      let down = other_neg ab py l positive in (first_neg ab py down positive, down)
-
-  -- below or on both
-  not_above_planes : pos 0 <ℤ ap → pos 0 ≤ℤ bp → ab <ℤ pos 0 → ay ≤ℤ pos 0 → pos 0 ≤ℤ by → py ≤ℤ pos 0
-  not_above_planes h k l m n = by_lt_z (pos 0) py (λ q. absurd (never q)) (λ q. q)
-    where
-      never : pos 0 <ℤ py → ⊥
-      never q =
-          let x = mul-nonneg ap by (positive_le ap h) n in let y = mul-nonpos_nonneg ay bp m k in let z = mul-neg_pos ab py l q in
-          omega (arith, ints, product, x, y, z)
-
-  -- above both
-  above_both_planes : pos 0 <ℤ ap → pos 0 ≤ℤ bp → ab ≤ℤ pos 0 → pos 0 <ℤ ay → by <ℤ pos 0 → pos 0 <ℤ py
-  above_both_planes h k l m n =
-      let x = mul-pos_neg ap by h n in let y = mul-nonneg ay bp (positive_le ay m) k in
-      other_pos ab py l (omega (arith, ints, product, x, y))
-
--- ---- a facet, its neighbour over a side, and the facet of the cone from p over that side
--- l is a corner of the surface
-abbrev pub Old : Surface → ℕ → Type 0
-Old m l = (g : ℕ) × In g m.live × IsCorner m g l
-
-module _ (m : Surface) (at : ℕ → Weighted) where
-  -- how far a point is above the cone's facet
-  abbrev pub apex_rise : ℕ → Side → Weighted → Weighted → ℤ
-  apex_rise f s p y = above (at (start m f s)) (at (end m f s)) p y
-
-  module _ (w : IsWhole m) (f : ℕ) (i : In f m.live) (s : Side) (p y : Weighted) where
-    -- as their planes go through one line
-    products : side_rise m at f s p *ℤ far_rise m at f s y -ℤ side_rise m at f s y *ℤ far_rise m at f s p
-        ≡ side_rise m at f s (at (far m f s)) *ℤ apex_rise f s p y
-    products = line_product (at (start m f s)) (at (end m f s)) (at (rest m f s)) (at (far m f s)) p y
-
-    -- y strictly below both: then the side bends, and y is strictly below the cone's facet
-    pub apex_inner : pos 0 <ℤ rise m at f p → rise m at (m.over f s) p ≤ℤ pos 0 → rise m at f (at (far m f s)) ≤ℤ pos 0
-        → rise m at f y <ℤ pos 0 → rise m at (m.over f s) y <ℤ pos 0
-        → (side_rise m at f s (at (far m f s)) <ℤ pos 0) × (apex_rise f s p y <ℤ pos 0)
-    apex_inner a b c d e =
-        below_both_planes _ _ _ _ _ _ products (side_seen m at f s p a) (far_blind m at w f i s p b)
-        (side_blind m at f s (at (far m f s)) c) (side_below m at f s y d) (far_below m at w f i s y e)
-
-    -- both blind to y: so is the cone's facet
-    pub apex_blind : pos 0 <ℤ rise m at f p → rise m at (m.over f s) p ≤ℤ pos 0 → side_rise m at f s (at (far m f s)) <ℤ pos 0
-        → rise m at f y ≤ℤ pos 0 → rise m at (m.over f s) y ≤ℤ pos 0 → apex_rise f s p y ≤ℤ pos 0
-    apex_blind a b c d e =
-        not_above_planes _ _ _ _ _ _ products (side_seen m at f s p a) (far_blind m at w f i s p b) c
-        (side_blind m at f s y d) (far_blind m at w f i s y e)
-
-    -- both see y: so does the cone's facet
-    pub apex_seen : pos 0 <ℤ rise m at f p → rise m at (m.over f s) p ≤ℤ pos 0 → rise m at f (at (far m f s)) ≤ℤ pos 0
-        → pos 0 <ℤ rise m at f y → pos 0 <ℤ rise m at (m.over f s) y → pos 0 <ℤ apex_rise f s p y
-    apex_seen a b c d e =
-        above_both_planes _ _ _ _ _ _ products (side_seen m at f s p a) (far_blind m at w f i s p b)
-        (side_blind m at f s (at (far m f s)) c) (side_seen m at f s y d) (far_seen m at w f i s y e)
-
-module _ (m : Surface) (home : ℕ → Weighted) (o : Weighted) (w : IsWhole m) (q : IsInner m home o) (at : ℕ → Weighted) (st : IsStrict m at)
-    (f : ℕ) (i : In f m.live) (s : Side) (l : ℕ) (old : Old m l) (ns : l ≢ start m f s) (ne : l ≢ end m f s) where
-  -- a corner of the surface that's none of a side's ends is strictly below the facet or its neighbour
-  below_one : (side_rise m at f s (at l) <ℤ pos 0) ⊎ (pos 0 <ℤ far_rise m at f s (at l))
-  below_one = either (corner_test m f l)
-    where
-      t : HasTwin m f s
-      t = w f i s
-
-      away : l ≡ rest m f s → ¬ (IsCorner m (m.over f s) l)
-      away e k = none (corner_cases m (m.over f s) (m.back f s) l k)
-        where
-          none : (l ≡ start m (m.over f s) (m.back f s)) ⊎ (l ≡ end m (m.over f s) (m.back f s)) ⊎ (l ≡ far m f s) → ⊥
-          none (inl z) = ne (z ∙ t.start_is)
-          none (inr (inl z)) = ns (z ∙ t.end_is)
-          none (inr (inr z)) = far_apart m home o w q f i s (subst (IsCorner m f) (sym e ∙ z) (corner_rest m f s))
-
-      own : (l ≡ start m f s) ⊎ (l ≡ end m f s) ⊎ (l ≡ rest m f s) → pos 0 <ℤ far_rise m at f s (at l)
-      own (inl e) = absurd (ns e)
-      own (inr (inl e)) = absurd (ne e)
-      own (inr (inr e)) = far_below m at w f i s (at l) (st (m.over f s) old.0 t.live old.1 l old.2 (away e))
-
-      either : IsCorner m f l ⊎ (¬ (IsCorner m f l)) → (side_rise m at f s (at l) <ℤ pos 0) ⊎ (pos 0 <ℤ far_rise m at f s (at l))
-      either (inl k) = inr (own (corner_cases m f s l k))
-      either (inr k) = inl (side_below m at f s (at l) (st f old.0 i old.1 l old.2 k))
-
-  -- so it is strictly below the cone's facet, where the facet sees the apex and the neighbour is strictly above it
-  pub corner_below_cone : (top : Weighted) → pos 0 <ℤ rise m at f top → rise m at (m.over f s) top <ℤ pos 0
-      → apex_rise m at f s top (at l) <ℤ pos 0
-  corner_below_cone top seen blind =
-      below_one_plane _ _ _ _ _ _ (products m at w f i s top (at l)) (side_seen m at f s top seen) (far_below m at w f i s top blind)
-      (bends m at home o w q st f i s) (side_blind m at f s (at l) (weak m at st f old.0 i old.1 l old.2))
-      (far_blind m at w f i s (at l) (weak m at st (m.over f s) old.0 (w f i s).live old.1 l old.2)) below_one
-
--- ---- the new surface
 -- a facet that is kept: it is blind to p
 pub record KeptOf (m m' : Surface) (home : ℕ → Weighted) (p f' : ℕ) : Type 0 where
   pub live : In f' m.live

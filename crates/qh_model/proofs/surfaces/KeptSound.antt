@@ -11,7 +11,8 @@ use Rattle.qh_model.proofs.surfaces.Facets.{ends_differ}
 use Rattle.qh_model.specs.contract.Surface.Side.{first, second, third}
 use Rattle.qh_model.proofs.algebra.Signs.{not_less}
 use Rattle.qh_model.proofs.surfaces.Determinants.{above-swap_last}
-use Rattle.qh_model.proofs.surfaces.Cone.{KeptOf, ConeOf, Replaced, Old, p_fresh, kept_corner, corner_kept, inner_kept, lifted_kept}
+use Rattle.qh_model.proofs.surfaces.Cone.{KeptOf, ConeOf, Replaced, p_fresh, kept_corner, corner_kept, inner_kept, lifted_kept}
+use Rattle.qh_model.proofs.surfaces.ConePlanes.{Old}
 
 -- all corners of a facet from those of a side
 from_side : (m : Surface) (f : ℕ) (s : Side) (P : ℕ → Type 0) → P (start m f s) → P (end m f s) → P (rest m f s) → (l : ℕ) → IsCorner m f l

@@ -10,8 +10,10 @@ use Rattle.std.specs.Prelude.{ℤ, pos, ◌-ℤ◌, ◌*ℤ◌, neg_ℤ, ◌<ℤ
 use Rattle.qh_model.proofs.algebra.{Order.mul-neg_neg, Order.neg-positive, Ring.ring}
 use Rattle.qh_model.proofs.algebra.Signs.{less_one_way, equal_negative, opposite_positive, opposite_negative}
 use Rattle.qh_model.proofs.algebra.Ring.Expr.{var, sub as less, mul, neg}
-use Rattle.qh_model.proofs.surfaces.{VisibleFacets.Least, VisibleFacets.least, PlanesThroughLine.line_product, Cone.Old, Cone.apex_rise}
-use Rattle.qh_model.proofs.surfaces.{Cone.corner_below_cone, KeptSound.edge_once, KeptSound.side_once}
+use Rattle.qh_model.proofs.surfaces.{VisibleFacets.Least, VisibleFacets.least, PlanesThroughLine.line_product}
+use Rattle.qh_model.proofs.surfaces.ConePlanes.{Old, apex_rise}
+use Rattle.qh_model.proofs.surfaces.{KeptSound.edge_once, KeptSound.side_once}
+use Rattle.qh_model.proofs.surfaces.ConePlanes.{corner_below_cone}
 use Rattle.qh_model.proofs.surfaces.Facets.{rise_over, corner_end, corner_rest, corner_test, ends_differ, rest_differs}
 use Rattle.qh_model.proofs.surfaces.Connected.{positive, positive-is, positive-true}
 use Rattle.qh_model.proofs.surfaces.FacetSides.{side_next, start_next, end_next, from, from_is}

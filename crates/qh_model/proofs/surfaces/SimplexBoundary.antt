@@ -1,4 +1,4 @@
--- The first simplex.
+-- The surface of the initial simplex.
 use Rattle.qh_model.specs.contract.{Surface.IsCorner, Surface.Surface, Surface.rise, Weighted.Weighted, Weighted.above}
 use Rattle.qh_model.specs.contract.SoundSurface.{HasDistinctFacets, IsInner, IsSound, IsStrict, perturbed}
 use Rattle.qh_model.specs.laws.SimplexSurface.{IsSimplexBoundary}
@@ -44,7 +44,7 @@ strict_perturbed m home o st n b f g i j l c nc =
         above-perturbed_all o p q r y (pos n) (pos 0) (pos 0) (pos 0) (pos 0)
         ∙ no_tilt (pos n) (above p q r y) (above o q r y) (above p o r y) (above p q o y) (above p q r o)
 
--- THEOREM: the first simplex has it
+-- THEOREM: the surface of the initial simplex is sound
 pub simplex_boundary_sound : (m : Surface) (home : ℕ → Weighted) (o : Weighted) → IsInner m home o → IsSimplexBoundary m home
     → IsSound m home o
 simplex_boundary_sound m home o i r = record {

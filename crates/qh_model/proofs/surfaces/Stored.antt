@@ -85,7 +85,7 @@ live_inside fs f l = elim (cases_lt f (length fs)) [
   | inr h ↦ absurd (both_ways (facet_at fs f).live (ap (λ (t : StoredFacet). t.live) (get_or_past fs f no_facet h)) l)
 ]
 
--- as many are listed as are marked
+-- the number of live places listed is that of the facets marked live
 pub live_len : (n : ℕ) (fs : List StoredFacet) → length (live_from n fs) ≡ count_by (λ t. t.live) fs
 live_len n [] = refl
 live_len n (t ∷ fs) =

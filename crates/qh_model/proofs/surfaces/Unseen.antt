@@ -9,7 +9,8 @@ use Rattle.std.proofs.lemmas.{Int.by_lt_z, Bool.and_parts}
 use Rattle.std.specs.Prelude.{pos, ◌≤ℤ◌, ◌<ℤ◌, ◌&&◌}
 use Rattle.qh_model.proofs.surfaces.{Facets.corner_rest, Determinants.above-third}
 use Rattle.qh_model.proofs.surfaces.Connected.{Grown, positive, positive-is, positive-true, sees, connected, cert}
-use Rattle.qh_model.proofs.surfaces.Cone.{KeptOf, ConeOf, Replaced, cone_rise, kept_rise, cone_inside, apex_blind, apex_seen}
+use Rattle.qh_model.proofs.surfaces.Cone.{KeptOf, ConeOf, Replaced, cone_rise, kept_rise, cone_inside}
+use Rattle.qh_model.proofs.surfaces.ConePlanes.{apex_blind, apex_seen}
 use Rattle.qh_model.proofs.algebra.Signs.{not_less, equal_le, equal_nonpos}
 
 -- THEOREM: then q sees no kept facet, if it saw a removed one

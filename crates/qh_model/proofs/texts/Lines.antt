@@ -102,7 +102,7 @@ last_word (c ∷ w) h = ap (filter is_word) (split_whole is_blank (c ∷ w) (num
 abbrev pub three : List ℕ → List ℕ → List ℕ → List ℕ
 three u v w = u ++ 32 ∷ v ++ 32 ∷ w
 
--- which have no byte that is none of a number, other than the blanks
+-- whose bytes are those of numbers, other than the blanks
 three_clear : (p : ℕ → Bool) → ((c : ℕ) → IsOfNumber c → p c ≡ false) → p 32 ≡ false
     → (u v w : List ℕ) → IsNumberWord u → IsNumberWord v → IsNumberWord w → Clear p (three u v w)
 three_clear p f blank u v w a b c =

@@ -71,7 +71,7 @@ module _ (pts : List Vector) (h : HullValue) (s : IsHull pts h) where
   triangles_extreme : AreWithin E (fans h.body.polygons)
   triangles_extreme t m i j = let r = of_flat_map fan h.body.polygons t m in corners_extreme r.0 r.1 i (fan_members r.0 t r.2 i j)
 
-  -- the edges of triangles by positions are as many
+  -- triangles by positions have the same number of edges
   edges_again : edge_count (fans (map (map (vertex_number h.body.extremes)) h.body.polygons)) ≡ edge_count (fans h.body.polygons)
   edges_again =
       let f : ℕ → ℕ = vertex_number h.body.extremes in

@@ -105,7 +105,7 @@ abbrev pub ancestor : ℕ → ℕ → ℕ
 ancestor zero i = i
 ancestor (suc k) i = parent (ancestor k i)
 
--- the span of node i has block j, in a board of so many blocks: its leaf is i or below i
+-- in a board with this number of blocks, the span of node i has block j: its leaf is i or below i
 abbrev pub InSpan : ℕ → ℕ → ℕ → Type 0
 InSpan blocks i j = (j < blocks) × ((k : ℕ) × (ancestor k (blocks + j) ≡ i))
 

@@ -1,4 +1,4 @@
--- Closed surfaces: lists of triangles in which each edge is met by as many triangles one way as the other.
+-- Closed surfaces: lists of triangles in which each edge has the same number of triangles in either direction.
 use Rattle.std.specs.Prelude.{ℕ, ◌≡◌, ◌≤◌, ◌==◌, ◌&&◌, Bool, List, [], ◌∷◌, length, count_by, ℤ, pos, ◌+ℤ◌}
 use Rattle.qh_model.specs.headline.Vector.{Vector}
 use Rattle.qh_model.specs.headline.Predicates.{vol, AreInLine}

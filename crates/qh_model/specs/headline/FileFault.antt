@@ -14,7 +14,7 @@ abbrev pub coordinate_fault : Option ℤ → ℕ → Option ReadFault
 coordinate_fault None line = Some (BadNumber line)
 coordinate_fault (Some z) line = if is_coordinate z then None else Some (Range line)
 
--- so many coordinates are to come, and then what is wrong with the rest; of two faults the one of the earlier word
+-- a number of coordinates are to come, and then what is wrong with the rest; of two faults the one of the earlier word
 abbrev pub coordinates_fault : (List Word → Option ReadFault) → ℕ → List Word → Option ReadFault
 coordinates_fault after zero ws = after ws
 coordinates_fault after (suc k) [] = Some Short

@@ -74,7 +74,7 @@ ArePolygons at A dim qs =
 abbrev pub IsEdge : List (List ℕ) → ℕ → ℕ → Type 0
 IsEdge qs u v = (u < v) × ((q : List ℕ) × In q qs × (Follows u v q ⊎ Follows v u q))
 
--- the number of edges: as many as a list of them has that has each once
+-- the number of edges: the length of a list that has each edge once and nothing else
 pub record IsEdgeCount (qs : List (List ℕ)) (edges : ℕ) : Type 0 where
   pub list : List (ℕ × ℕ)
   pub once : Once list

@@ -21,7 +21,7 @@ SupportsAt m home o a b c e = (above a b c o <ℤ pos 0) × HoldsOfCorners m (λ
 abbrev pub AreUnseen : Surface → (ℕ → Weighted) → (a b c e : Weighted) → Type 0
 AreUnseen m home a b c e = (f : ℕ) → In f m.live → IsBlindTo m home f a × IsBlindTo m home f b × IsBlindTo m home f c × IsBlindTo m home f e
 
--- in such a plane each point that no facet sees lies in a live facet of that plane
+-- in a supporting plane each point that no facet sees lies in a live facet of that plane
 abbrev pub PlaneIsCovered : Type 0
 PlaneIsCovered = (m : Surface) (home : ℕ → Weighted) (o : Weighted) → IsWhole m → IsSound m home o → (f0 : ℕ) → In f0 m.live
     → (a b c e : Weighted) → SupportsAt m home o a b c e → AreUnseen m home a b c e → FacetInPlane m home o a b c e

@@ -12,7 +12,7 @@ pub fn blocks_share_positions()
 
 /// The extreme ids of a block are right for its leaf in a tree over the blocks, those of what is right
 /// for both children of a node are right for the node, and the hull of what is right for the root is that
-/// of all ids. So blocks can be put together two and two, in any order.
+/// of all ids. So blocks can be combined pairwise, in any order.
 pub fn right_values_rise()
     ensures leaf { RightOfLeaf }
     ensures node { RightOfNode }

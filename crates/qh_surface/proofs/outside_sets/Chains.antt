@@ -77,7 +77,7 @@ module _ {links links' : List ℕ} (y : ℕ) (frame : (p : ℕ) (xs : List ℕ) 
       let a = sum_by-cons (count y) xs xss in
       one_more (frame e.first xs (omega arith) s.0, s.1) (sets_kept (omega arith) k)
 
-  -- and if y stands in one set at most, that one may change
+  -- and if y stands in at most one set, this set may change
   pub sets_put : {es : List Ends} {xss : List (List ℕ)} (f : ℕ) (e : Ends) (xs : List ℕ) → f < length xss
       → sum_by (count y) xss ≤ count y (get_or xss f []) → IsSet links' e xs → AreSets links es xss
       → AreSets links' (set es f e) (set xss f xs)

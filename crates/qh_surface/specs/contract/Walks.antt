@@ -13,7 +13,7 @@ abbrev pub is_set : Mark → Bool
 is_set marks.Unset = false
 is_set marks.Set = true
 
--- the mark of place f; past the end there is none
+-- the mark of place f; past the end no place is marked
 abbrev pub mark_at : List Bool → ℕ → Bool
 mark_at marks f = slice_index_or marks f false
 

@@ -1,7 +1,7 @@
 //! The facets of a large cone in a ring round its apex.
 //!
-//! Two neighbours of a cone meet in an edge from the apex, so going over these edges from one facet all
-//! are met. In that order a search can find the one facet of which a point need be asked
+//! Neighbouring facets of a cone meet in an edge from the apex, so a walk over these edges meets all facets.
+//! In that order a search can find the one facet that a point has to be tested against
 //! (`cone_search`). The ring begins where the cone is strictly convex.
 ghost use Rattle.std.specs.Prelude.{All, ◌≡◌, ◌<◌, ◌⊎◌, ℕ, List, length, OnOk, [], pos, IfOk};
 ghost use Rattle.qh_model.specs.headline.Sets.{In};
@@ -20,7 +20,7 @@ use qh_model::{Memory, Point};
 use qh_pred::{Plane, point_at};
 use std::alloc::{AllocError, Global};
 
-/// So many facets of a cone are looked at one by one. A cone that has more is searched.
+/// The number of facets of a cone that are tested one by one. A cone that has more is searched.
 pub const SCANNED: usize = 16;
 
 /// A facet of a cone, between two rays from the apex.
@@ -121,8 +121,8 @@ fn go_round(
     Ok(())
 }
 
-/// Returns the place of a wedge whose plane has the first ray strictly below; 0 where there is
-/// none.
+/// Returns the place of a wedge whose plane has the first ray strictly below, or 0 if no wedge
+/// does.
 pub fn opposite_of(wedges: &[Wedge]) -> usize {
     for place in 1..wedges.len() {
         if wedges[place].plane.height(wedges[0].from) < 0 {
@@ -154,7 +154,7 @@ impl ConeRing {
         Ok(())
     }
 
-    /// Takes the facets that were made, if they are more than [`SCANNED`], and else none.
+    /// Takes the facets that were made if they are more than [`SCANNED`], and else no facet.
     ///
     /// `Err` says that an allocation failed.
     pub fn take(

@@ -2,8 +2,8 @@
 //!
 //! The rays of the cone stand in a ring, and the half-planes from the first of them through the others
 //! are turned about it one after the other. So a binary search finds the wedge on whose side of them a
-//! point lies, and of the cone's facets only three need be asked: the first, the last and that one.
-//! Where none of them sees the point, it lies between three rays, and no facet of the cone sees it.
+//! point lies, and only three facets of the cone need a test: the first, the last and that of the wedge.
+//! If none of the three sees the point, it lies between three rays, and no facet of the cone sees it.
 //!
 //! Nothing is proved of the search. Each answer has its certificate: the facet that sees the point, or
 //! the three rays. Where there is neither, the answer says so, and all facets are asked.

@@ -1,7 +1,7 @@
 //! An initial simplex whose corners are far apart.
 //!
-//! The larger the simplex that a run begins with, the more points lie inside it and are never asked
-//! again. No answer depends on which simplex it is.
+//! The larger the initial simplex, the more points lie inside it and are never tested again. No answer
+//! depends on which simplex it is.
 //!
 //! Source: Barber, Dobkin and Huhdanpaa 1996 (the initial simplex has points with the least and the
 //! greatest coordinates).

@@ -1,8 +1,8 @@
 //! The outside sets of the facets, and the points that wait for one.
 //!
 //! A point is known by its position among the points of one run. Each point stands in one list at
-//! most: in the outside set of a facet that it sees, or among the orphans, whose facet was taken away
-//! or which never had one. A point that stands in none is done with.
+//! most: in the outside set of a facet that it sees, or among the orphans, whose facet was removed or
+//! which never had one. A point in no list is settled.
 //!
 //! The lists are chains over one vector of links, one a position, so that no call but
 //! [`OutsideSets::new`] and [`OutsideSets::make_room`] takes memory, and no call has a loop.

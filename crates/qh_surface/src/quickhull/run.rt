@@ -69,8 +69,8 @@ fn room_for<T>(alloc: Global, items: usize) -> Vec<T>
     list
 }
 
-/// Takes the memory that a round needs after its mesh has changed: the cone over the horizon of so
-/// many facets has at most three times as many.
+/// Reserves the memory that a round needs after its mesh has changed. The horizon of `visible` facets has
+/// at most `3 * visible` edges, and the cone has one facet over each of them.
 fn make_ready(
     planes: &mut Vec<Plane>,
     sets: &mut OutsideSets,
@@ -153,8 +153,8 @@ impl Run {
         Ok(())
     }
 
-    /// Makes the point at a position, which is above a facet, a corner: the facets that see it make way
-    /// for its cone.
+    /// Makes the point at a position, which is above a facet, a corner: its cone replaces the
+    /// facets that see it.
     fn add(&mut self, alloc: Global, facet: FacetNo, apex: u32) -> Result<(), Memory>
         requires { IsPicked self.old.points.items self.old.mesh self.old.planes.items self.old.sets self.old.pending.items facet apex }
         ensures points { self.new.points.items ≡ self.old.points.items }

@@ -1,4 +1,4 @@
-//! How the points of facets that go find their new outside sets.
+//! New outside sets for the points of removed facets.
 ghost use Rattle.std.specs.Prelude.{All, ◌≡◌, ◌≤◌, ◌<◌, ℕ, List, [], ◌∷◌, length, drop, map, pos, ◌<ℤ◌, IfNone, IfSome};
 ghost use Rattle.qh_model.specs.headline.Vector.{Vector};
 ghost use Rattle.qh_model.specs.headline.Sets.{In};
@@ -19,7 +19,7 @@ use qh_mesh::FacetNo;
 use qh_model::Point;
 use qh_pred::Plane;
 
-/// Makes the points of the facets that go orphans.
+/// Makes the points of the removed facets orphans.
 pub fn release(sets: &mut OutsideSets, gone: &[FacetNo])
     requires { All (λ f. f < length sets.old.sets) gone.now }
     ensures released { AreReleased sets.old sets.new gone.now }
@@ -36,9 +36,9 @@ pub fn release(sets: &mut OutsideSets, gone: &[FacetNo])
 #[derive(Clone, Copy, Drop)]
 struct Below {
     facet: FacetNo,
-    /// Its place among the facets looked at one by one, or past them.
+    /// The index of the facet among those made, or `SCANNED` if the ring named it.
     at: usize,
-    /// The height of the point over it, where it has such a place.
+    /// The height of the point over the facet, or 0 if the ring named it.
     height: i128,
 }
 
@@ -60,9 +60,8 @@ fn first_below(planes: &[Plane], made: &[FacetNo], point: Point) -> Option<Below
     None
 }
 
-/// Returns a facet of those made that the point is above. The first few are looked at one by one, so
-/// that points gather in few sets, and where there are more, a search through their ring tells of the
-/// others.
+/// Returns a facet of those made that the point is above. The first [`SCANNED`] are tested one by one, so
+/// that points gather in few sets. If there are more, a search through their ring decides for the others.
 fn one_below(planes: &[Plane], ring: &ConeRing, made: &[FacetNo], point: Point) -> Option<Below>
     requires planes { All (λ f. f < length planes.now) made.now }
     requires ring { AreWedges planes.now made.now ring.now.apex ring.now.wedges.items }
@@ -120,9 +119,9 @@ struct Cone<'a> {
     ring: &'a ConeRing,
 }
 
-/// Returns true if no point that came to the facet is further above it than this one. Of the facets looked
-/// at one by one the greatest heights are kept, so that the height of a set's first point is not worked out
-/// again.
+/// Returns true if no point that was put over the facet is further above it than this one. `greatest` keeps
+/// the greatest height over each facet that is tested one by one, so that the height of a set's first point
+/// is not computed again.
 fn is_furthest(
     greatest: &mut [i128; SCANNED],
     sets: &OutsideSets,
@@ -143,8 +142,8 @@ fn is_furthest(
 }
 
 /// Puts the first orphan into the outside set of one of the facets that it is above: in front,
-/// if no other point of that set is known to be further. An orphan that is above none is dropped.
-/// `greatest` has the height of the first point of each facet looked at one by one.
+/// if no other point of that set is known to be further. An orphan above no facet is dropped.
+/// `greatest` has the height of the first point of each facet that is tested one by one.
 fn settle_orphan(
     sets: &mut OutsideSets,
     cone: &Cone<'_>,

@@ -97,7 +97,7 @@ pub(super) fn run_over(
     Ok(run)
 }
 
-/// Returns the surface of a set by a run over its ids as they come, from an initial simplex, as [`surface_from`] makes
+/// Returns the surface of a set by a run over its ids in their order, from an initial simplex, as [`surface_from`] makes
 /// it. Near ids best stand near each other.
 ///
 /// # Errors
@@ -125,7 +125,7 @@ pub fn surface_along(
 /// Returns the surface of a set from an initial simplex: four of its ids whose points are not in one plane. The corners
 /// of its triangles are positions of the ids, in an order of its own.
 ///
-/// `ids` are indices of points, each once; where one stands twice, no more is said than that the corners are
+/// `ids` are indices of points, each once; if an id stands twice, the contract says only that the corners are
 /// positions.
 ///
 /// # Errors
@@ -156,8 +156,8 @@ pub fn surface_from(
 /// set. So the corners of each triangle are a supporting triple of the set, and each extreme id is a
 /// corner.
 ///
-/// `ids` rise, have distinct points, and each is the index of one of the points. Which of several
-/// triangulations of a face comes out is not fixed, and a corner need not be an extreme id: it may lie
+/// `ids` rise, have distinct points, and each is the index of one of the points. It is not fixed
+/// which triangulation of a face the result has, and a corner need not be an extreme id: it may lie
 /// within an edge or a face.
 ///
 /// # Errors

@@ -1,20 +1,20 @@
 //! The order in which facets that wait have their turns.
 //!
-//! Where many points lie inside, it pays to grow the surface on all sides: a point that is soon inside is soon
-//! settled, and the surface has fewer facets on the way. Where few do, near points one after the other keep
-//! to facets that are near in memory, and a point is asked of fewer facets.
+//! If many points lie inside, it pays to grow the surface on all sides: more points are settled early, and the
+//! surface has fewer facets on the way. If few points lie inside, it pays to add near points one after the
+//! other: their facets are near in memory, and each point is tested against fewer facets.
 ghost use Rattle.std.specs.Prelude.{◌<◌};
 
 use qh_model::Point;
 use qh_pred::Plane;
 
-/// So many points, spread over all, tell whether many are inside.
+/// The size of the sample, spread over all points, that decides whether many are inside.
 const LOOKED_AT: usize = 128;
 
 /// Many points are inside if at least one in this number is strictly inside the initial simplex.
 const ONE_IN: usize = 16;
 
-/// Which of the facets that wait is next.
+/// The order in which waiting facets have their turns.
 #[derive(Clone, Copy, Debug, Drop)]
 enum Order {
     /// The one that has waited for the shortest time.

@@ -16,7 +16,8 @@ use qh_pred::Plane;
 use std::alloc::{AllocError, Global};
 use std::marker::Model;
 
-/// Whether a point, the apex, sees a facet. The planes are those of the facets, by place.
+/// The facet predicate that the apex, a point, sees a facet. `planes` has the planes of the facets, by
+/// place.
 #[derive(Clone, Copy, Drop)]
 struct Sees<'a> {
     planes: &'a [Plane],

@@ -30,7 +30,7 @@ fn triangle(mesh: &Mesh, f: FacetNo) -> Option<Triangle> {
     }
 }
 
-/// Returns the point with a number, or the origin where there is none.
+/// Returns the point with a number, or the origin if the number is past the end.
 fn point_of(pts: &[Point], number: u32) -> Point {
     match pts.get(number as usize) {
         Some(point) => *point,

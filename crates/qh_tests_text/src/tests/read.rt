@@ -56,7 +56,7 @@ enum Way {
     FailingRead(u64),
     /// In pieces of this length.
     Pieces(usize),
-    /// Cut in two after so many bytes.
+    /// Cut in two after this number of bytes.
     Cut(usize),
 }
 
@@ -99,7 +99,7 @@ fn reader_of(alloc: Global, form: Form) -> Reader {
     }
 }
 
-/// Feeds a piece so many times.
+/// Feeds a piece `times` times.
 fn feed_times(reader: &mut Reader, piece: &[u8], times: u32) -> Result<(), FeedFault> {
     for _ in 0..times {
         reader.feed(piece)?;

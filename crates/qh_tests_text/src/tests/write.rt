@@ -73,8 +73,8 @@ fn plan(greatest_piece: usize, room: usize) -> SinkPlan {
     }
 }
 
-/// Asserts how a device that fails by a plan is sent the tetrahedron: with this answer it has so many bytes,
-/// which are the first ones, and has failed once or, where all went well, not at all.
+/// Asserts what happens when the tetrahedron is sent to a device that fails by a plan: `send` answers `want`,
+/// the device has the first `length` bytes, and it failed once if `want` is an error, else not at all.
 fn assert_sent<R: AllocGlobal + Abort>(
     rt: &R,
     plan: SinkPlan,

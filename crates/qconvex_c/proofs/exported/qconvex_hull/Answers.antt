@@ -1,17 +1,19 @@
-use Rattle.std.proofs.Common.{arith}
+use Rattle.std.proofs.Common.{arith, rules}
 use Rattle.qconvex_c.proofs.FaultCodes.{no_fault}
-use Rattle.qconvex_c.proofs.Filled.{filled, needs_room, rest_kept}
+use Rattle.qconvex_c.proofs.Filled.{filled, needs_room, rest_kept, rest_of}
 use Rattle.qconvex_c.proofs.exported.qconvex_hull.Goals as goal
 
 pub returns-then-fill-clause-done : goal.returns-then-fill-clause-done
 returns-then-fill-clause-done c e =
-    let d = c.fill.ensures.done c.if-fill.true in filled _ _ _ _ _ c.in-Ok.ensures.hull _ _ _ d.0 d.1 d.2
+    let d = c.fill.ensures.done c.if-fill.true in filled _ _ _ _ _ c.in-Ok.ensures.hull _ _ _ _ _ _
+    (search rules) (search rules) (search rules) d.0 d.1 d.2
 
 pub returns-then-fill-clause-range : goal.returns-then-fill-clause-range
 returns-then-fill-clause-range c = (λ e. absurd (omega (arith, e)), λ x. absurd (no_fault _ _ (c.in-Ok.ensures.range.1 x)))
 
 pub returns-then-fill-clause-offsets_rest : goal.returns-then-fill-clause-offsets_rest
 returns-then-fill-clause-offsets_rest c e =
+    rest_of _ _ c.fill.new.buffers.offsets.now _ (search rules)
     (rest_kept _ _ _ _ _ c.in-Ok.ensures.hull _ _ _ _ _ _ (c.fill.ensures.rest c.if-fill.true)).1
 
 pub returns-in-Ok-clause-range : goal.returns-in-Ok-clause-range

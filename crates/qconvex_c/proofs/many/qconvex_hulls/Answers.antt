@@ -1,36 +1,36 @@
-use Rattle.std.proofs.Common.{◌<◌, arith, ap}
+use Rattle.std.proofs.Common.{◌<◌, ◌∙◌, arith, ap}
+use Rattle.qconvex_c.specs.declared.buffers.Buffers.{Buffers}
+use Rattle.qconvex_c.specs.steps.Buffers.{AreSame}
 use Rattle.qconvex_c.proofs.SetHulls.{fits_part, written_more}
 use Rattle.qconvex_c.specs.contract.Sets.{sets_in}
 use Rattle.qconvex_c.proofs.many.qconvex_hulls.Goals as goal
 
-pub hull_of_set-requires-clause-extremes : goal.hull_of_set-requires-clause-extremes
-hull_of_set-requires-clause-extremes c =
-    let starts = c.are_starts.ensures.0 c.if-not-are_starts.false in
-    let room = c.have_room.ensures.0 c.if-not-have_room.false in
-    let fits = (fits_part _ _ _ _ _ _ starts room c.loop-number.number (omega arith)).extremes_fit in
-    let end = ap (λ s. s.end) c.set_at-set.ensures in
-    let len = c.loop-number.auto.extremes in
-    omega (arith, fits, end, len)
+-- buffers stay the same through two calls
+same_twice : (a b c : Buffers) → AreSame a b → AreSame b c → AreSame a c
+same_twice a b c s t = record {
+  extremes = t.extremes ∙ s.extremes;
+  offsets = t.offsets ∙ s.offsets;
+  corners = t.corners ∙ s.corners;
+  extremes_len = t.extremes_len ∙ s.extremes_len;
+  offsets_len = t.offsets_len ∙ s.offsets_len;
+  corners_len = t.corners_len ∙ s.corners_len;
+}
 
-pub hull_of_set-requires-clause-offsets : goal.hull_of_set-requires-clause-offsets
-hull_of_set-requires-clause-offsets c =
+pub hull_of_set-requires-clause-parts : goal.hull_of_set-requires-clause-parts
+hull_of_set-requires-clause-parts c =
     let starts = c.are_starts.ensures.0 c.if-not-are_starts.false in
     let room = c.have_room.ensures.0 c.if-not-have_room.false in
-    let fits = (fits_part _ _ _ _ _ _ starts room c.loop-number.number (omega arith)).offsets_fit in
+    let fits = fits_part _ _ _ _ _ _ starts room c.loop-number.number (omega arith) in
+    let fit_e = fits.extremes_fit in let fit_o = fits.offsets_fit in let fit_c = fits.corners_fit in
     let end = ap (λ s. s.end) c.set_at-set.ensures in
     let number = ap (λ s. s.number) c.set_at-set.ensures in
-    let len = c.loop-number.auto.offsets in
-    omega (arith, fits, end, number, len)
-
-pub hull_of_set-requires-clause-corners : goal.hull_of_set-requires-clause-corners
-hull_of_set-requires-clause-corners c =
-    let starts = c.are_starts.ensures.0 c.if-not-are_starts.false in
-    let room = c.have_room.ensures.0 c.if-not-have_room.false in
-    let fits = (fits_part _ _ _ _ _ _ starts room c.loop-number.number (omega arith)).corners_fit in
-    let end = ap (λ s. s.end) c.set_at-set.ensures in
-    let number = ap (λ s. s.number) c.set_at-set.ensures in
-    let len = c.loop-number.auto.corners in
-    omega (arith, fits, end, number, len)
+    let same = c.loop-number.invariant.same in
+    let len_e = same.extremes_len in let len_o = same.offsets_len in let len_c = same.corners_len in
+    record {
+      extremes = omega (arith, fit_e, end, len_e);
+      offsets = omega (arith, fit_o, end, number, len_o);
+      corners = omega (arith, fit_c, end, number, len_c);
+    }
 
 pub loop-number-preserved : goal.loop-number-preserved
 loop-number-preserved c =
@@ -38,6 +38,8 @@ loop-number-preserved c =
     let starts = c.are_starts.ensures.0 c.if-not-are_starts.false in
     let room = (c.have_room.ensures.0 c.if-not-have_room.false).answers in
     let len = c.loop-number.auto.answers in
-    written_more _ _ _ starts _ _ _ _ _ _ _ _ _ _ _ _ _ _ below (omega (arith, below, room, len))
-    c.set_at-set.ensures c.loop-number.invariant
-    c.hull_of_set.ensures.answer c.hull_of_set.ensures.extremes c.hull_of_set.ensures.offsets c.hull_of_set.ensures.corners
+    let kept = c.loop-number.invariant in let now = c.hull_of_set.ensures in record {
+      written = written_more _ _ _ starts _ _ _ _ _ _ _ _ _ _ _ _ _ _ below (omega (arith, below, room, len))
+          c.set_at-set.ensures kept.written now.answer now.extremes now.offsets now.corners;
+      same = same_twice _ _ _ kept.same now.same;
+    }

@@ -1,4 +1,4 @@
--- The corners so far were taken, and so many fewer are to come.
+-- The corners so far were taken, and the others of the count are to come.
 use Rattle.std.proofs.Common.{ℕ, ◌≡◌, ◌-◌, List, length}
 use Rattle.std.specs.Prelude.{Option}
 use Rattle.qh_model.specs.declared.read_fault.ReadFault.{ReadFault}

@@ -1,4 +1,4 @@
--- Whatever faces are to come, the first ones are those so far; and so many fewer are to come.
+-- Whatever faces are to come, the first ones are those so far; the others of the count are to come.
 use Rattle.std.proofs.Common.{ℕ, ◌≡◌, ◌-◌, ◌++◌, List, length}
 use Rattle.qh_faces.specs.contract.FaceFaults.{faces_fault}
 use Rattle.qh_faces.specs.contract.FaceWords.{AreFaces}

@@ -8,7 +8,7 @@ use Rattle.qh_mesh.proofs.cone.write_cone.Goals as goal
 
 pub loop-j-preserved : goal.loop-j-preserved
 loop-j-preserved c =
-    let made = c.args.made.now in let k = c.loop-j.j in let l = c.loop-j-test.true in let new = c.new.result in
+    let made = c.args.made.now in let k = c.loop-j.j in let l = c.loop-j-test.true in let new = c.over.result in
     rw (c.index.ensures, get_or_read made k c.index-made-j.result l c.index-made-j.is 0) (record {
       written = scattered_more no_facet c.args.facets.now c.loop-j.facets (slice_index made)
           (IsOver c.args.horizon.now made c.args.apex) k new c.loop-j.invariant.written
@@ -18,8 +18,8 @@ loop-j-preserved c =
             next_is = c.mate-next.ensures;
             before = c.mate-before.result;
             before_is = c.mate-before.ensures;
-            is = rw (c.edge_at.ensures, c.edge_at-in-loop-j.ensures) at c.new.ensures;
+            is = rw (c.edge_at-to_apex.ensures, c.edge_at-from_apex.ensures) at c.over.ensures;
           });
       pool = λ places q. pool_less c.loop-j.facets (drop (k + 1) made ++ places) (slice_index made k) new
-          (rw (drop_more made k 0 l) at (c.loop-j.invariant.pool places q)) (ap (λ (t : StoredFacet). t.live) c.new.ensures);
+          (rw (drop_more made k 0 l) at (c.loop-j.invariant.pool places q)) (ap (λ (t : StoredFacet). t.live) c.over.ensures);
     })

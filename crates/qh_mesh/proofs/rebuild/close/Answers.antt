@@ -5,7 +5,7 @@ use Rattle.qh_mesh.proofs.Pools.{pool_same}
 use Rattle.qh_mesh.proofs.rebuild.close.Goals as goal
 
 pub returns : goal.returns
-returns c = let new = c.join_outer-are_noted.new.facets in let j = c.join_outer-are_noted.ensures.joined in record {
+returns c = let new = c.join_outer-is_complete.new.facets in let j = c.join_outer-is_complete.ensures.joined in record {
   joined_to = new;
   joined = j;
   written = c.write_cone.ensures.written;

@@ -133,7 +133,7 @@ fn no_root_where_nothing_is_claimed(rt: HostRuntime) -> Result<(), Fail> {
     Ok(())
 }
 
-/// Returns why there is no board of so many blocks and passes, if there is none.
+/// Returns the error of making a board of `blocks` blocks for `passes` passes, if it fails.
 fn refusal(alloc: Global, blocks: u32, passes: u32) -> Option<BoardError> {
     Board::new(alloc, Numbers { blocks }, blocks, passes).err()
 }

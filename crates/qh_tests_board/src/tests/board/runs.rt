@@ -129,8 +129,9 @@ fn roots_of(met: &[Met]) -> usize {
     roots
 }
 
-/// Wants each block got once, and one root or none: all blocks where all were claimed and every pass
-/// left. The passes got these blocks and published so many roots.
+/// Asserts that no block was got twice and, if all blocks were claimed and every pass left, that all were
+/// got and one root has them all; otherwise that there is no root. The passes got the blocks `got` and
+/// published `roots` roots.
 fn assert_root<R: Abort>(
     rt: &R,
     closed: Closed<Numbers>,
@@ -154,7 +155,7 @@ fn assert_root<R: Abort>(
     assert_eq!(rt; found, (true, want_roots, want), "{blocks} blocks");
 }
 
-/// Wants one root or none of a board that is worked side by side.
+/// Asserts what [`assert_root`] says of a board whose passes run side by side.
 fn assert_run<R: Abort + Threads + Sync>(
     rt: &R,
     alloc: Global,

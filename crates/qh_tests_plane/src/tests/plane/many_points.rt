@@ -26,7 +26,8 @@ fn places(alloc: Global, count: usize) -> Result<Vec<Point>, AllocError> {
     Ok(pts)
 }
 
-/// Returns the distinct ids in at most so many threads; none of points that are too many.
+/// Returns the distinct ids by at most `threads` threads, or `None` if there are more than `POINT_LIMIT`
+/// points.
 fn ids_in_threads<R: Threads + Sync>(
     rt: &R,
     alloc: Global,
@@ -39,8 +40,8 @@ fn ids_in_threads<R: Threads + Sync>(
     Ok(Some(distinct_in_threads(rt, alloc, pts, threads)?))
 }
 
-/// Returns the distinct ids by all processors and by the calling thread alone; none of points that are
-/// too many.
+/// Returns the distinct ids by all processors and by the calling thread alone, or `None` if there are more
+/// than `POINT_LIMIT` points.
 fn ids_otherwise<R: Threads + Sync>(
     rt: &R,
     alloc: Global,

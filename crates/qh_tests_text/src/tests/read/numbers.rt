@@ -13,7 +13,7 @@ const BLANKS: &str = "                                                          
 /// The heads of files of two points in both forms, of two lines each.
 const HEADS: [(Form, &str); 2] = [(Form::Qhull, "3\n2\n"), (Form::Off, "OFF\n2 0 0\n")];
 
-/// What may follow such a head, with the two points.
+/// Texts that may follow a head, each with the two points.
 const READ: [(&str, &[Place]); 12] = [
     (
         "1234567 -12345678 123456789\n-987654321 +99999999 0000000\n",
@@ -47,7 +47,7 @@ const READ: [(&str, &[Place]); 12] = [
     ("# 1\n2 3 # 4\n5 6\n7 #\n\n8\n", &[(2, 3, 5), (6, 7, 8)]),
 ];
 
-/// What may follow such a head, with the first fault in both forms.
+/// Texts that may follow a head, each with the first fault in both forms.
 const REFUSED: [(&str, ReadFault); 15] = [
     ("1 2 3\n4 5 1073741825\n", ReadFault::Range(4)),
     ("1 2 3\n-1073741825 5 6\n", ReadFault::Range(4)),
@@ -143,8 +143,8 @@ fn finds_faults_after_points_at_once(rt: HostRuntime) -> Result<(), Fail> {
     Ok(())
 }
 
-/// Returns a file of 400 points, of which each second one is on a line with words that are none, and its
-/// points.
+/// Returns a file of 400 points, in which every second point shares its line with words that are no numbers,
+/// and its points.
 fn long_file(alloc: Global) -> Result<(Vec<u8>, Vec<Place>), AllocError> {
     let mut text = Vec::from_slice(alloc, b"3\n400\n")?;
     let mut places = Vec::new(alloc);

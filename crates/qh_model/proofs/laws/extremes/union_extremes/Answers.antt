@@ -1,5 +1,5 @@
 use Rattle.qh_model.proofs.extremes.ExtremeIds.{union_of_extremes}
-use Rattle.qh_model.proofs.extremes.Dimensions.{dimension_of_extremes}
+use Rattle.qh_model.proofs.extremes.SameDimension.{dimension_of_extremes}
 use Rattle.qh_model.proofs.hulls.OfExtremes.{polygons_of_extremes, body_of_extremes}
 use Rattle.qh_model.proofs.laws.extremes.union_extremes.Goals as goal
 

@@ -22,7 +22,7 @@ invariant_of-result c = record {
 
 pub returns : goal.returns
 returns c =
-    let ids = c.args.ids.now in let near = c.in_ok-ids.ids.items in let order = c.in_ok-ids.ensures in record {
-      same = λ l. (in_permutation near ids (IsPermutation-sym ids near order) l, in_permutation ids near order l);
+    let ids = c.args.ids.now in let sorted = c.in_ok-ids.ids.items in let order = c.in_ok-ids.ensures in record {
+      same = λ l. (in_permutation sorted ids (IsPermutation-sym ids sorted order) l, in_permutation ids sorted order l);
       points = c.in_ok-points.ensures ∙ ap (map (place c.args.pts.now)) c.deref.ensures.value;
     }

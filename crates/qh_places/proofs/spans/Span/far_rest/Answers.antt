@@ -2,7 +2,7 @@
 use Rattle.std.proofs.Common.{rules}
 use Rattle.std.specs.Prelude.{pos, ◌*ℤ◌}
 use Rattle.qh_places.proofs.BundleSlabs.{rest_top}
-use Rattle.qh_places.proofs.bundles.Span.far_rest.Goals as goal
+use Rattle.qh_places.proofs.spans.Span.far_rest.Goals as goal
 use Rattle.std.proofs.lemmas.Int.{to_z-of_z}
 use mir.Syntax.{w64, w128}
 use mir.Val.{SFits}

@@ -2,7 +2,7 @@
 use Rattle.std.proofs.Common.{rules, subst, sym}
 use Rattle.std.specs.Prelude.{◌*ℤ◌, ◌≤ℤ◌}
 use Rattle.qh_places.proofs.PointBoxes.{greatest}
-use Rattle.qh_places.proofs.bundles.far_product.Goals as goal
+use Rattle.qh_places.proofs.spans.far_product.Goals as goal
 use Rattle.std.proofs.lemmas.Int.{to_z-of_z}
 use mir.Syntax.{w64, w128}
 use mir.Val.{SFits}

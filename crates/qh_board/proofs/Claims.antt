@@ -1,0 +1,190 @@
+-- Claiming a block, and being told that all are claimed.
+use Rattle.std.proofs.Common.{◌≡◌, ◌≢◌, ◌⊎◌, inl, inr, ℕ, zero, suc, ◌+◌, ◌*◌, ◌%◌, ◌^◌, ◌<◌, ◌≤◌, min, true}
+use Rattle.std.proofs.Common.{false, List, [], ◌∷◌, length, set, sym, refl, ap, ◌∙◌, subst, arith, eq-eqb, Option}
+use Rattle.std.proofs.Common.{Some, None, get_or, length-set, length-append, get_or-set_same}
+use Rattle.std.specs.Prelude.{All, slice_index, nat_lt, ◌==◌}
+use mathlib.Core.Logic.{dite}
+use mathlib.Core.Option.{some, none}
+use native.Mathlib.Decide.{dec_le}
+use lib.ListN.{get_elem?}
+use Rattle.std.proofs.lemmas.Bool.Decides.{nat_tests}
+use Rattle.atomic_table.specs.Table.{State, Me, step, keeps, takes, Allows}
+use Rattle.qh_model.specs.contract.BoardMachine.{Place, untouched, held}
+use Rattle.qh_model.specs.contract.BoardMachine.{Machine, Event, claim_got, claim_over, Can, after, settled}
+use Rattle.qh_model.specs.contract.BoardMachine.{put}
+use Rattle.qh_model.proofs.board.Updates.{put_here, put_else, at_put}
+use Rattle.qh_model.proofs.board.Reached.{reach_good, reach_claims}
+use Rattle.qh_board.specs.declared.view.Setup.{Setup}
+use Rattle.qh_board.specs.declared.view.Record.{Record}
+use Rattle.qh_board.specs.declared.view.View.{View}
+use Rattle.qh_board.specs.contract.Records.{with_block, told_over}
+use Rattle.qh_board.specs.steps.Shown.{mark_of}
+use Rattle.qh_board.specs.steps.Rule.{one_if, times, Agrees, SlotOf, Kept, Ruled}
+use Rattle.qh_board.specs.steps.Views.{view_of, HasRecord, IsClaim}
+use Rattle.qh_board.proofs.Totals.{one_of}
+use Rattle.qh_board.proofs.Steps.{steps, others_keep, allowed_at, seat_record, seated, nothing, slots_put, settled_put, word_else, times_snoc}
+
+module _ {S X : Type 0} (right : S → (ℕ → Type 0) → X → Type 0) (key : Setup S) where
+  below_more : (x c : ℕ) → c < key.blocks → one_if (nat_lt x (min (c + 1) key.blocks)) ≡ one_if (nat_lt x (min c key.blocks)) + one_if (c == x)
+  below_more x c h = grind (arith, nat_tests)
+
+  below_claims : (x c : ℕ) → 0 < one_if (nat_lt x (min c key.blocks)) → x < c
+  below_claims x c h = grind (arith, nat_tests)
+
+  -- an element of a list stands in it
+  times_at : (xs : List ℕ) (k d : ℕ) → k < length xs → 0 < times (get_or xs k d) xs
+  times_at [] k d h = absurd (omega arith)
+  times_at (x ∷ xs) zero d h = let e : one_if (x == x) ≡ 1 = ap one_if (eq-eqb x x refl) in omega arith
+  times_at (x ∷ xs) (suc k) d h = let t = times_at xs k d (omega arith) in omega arith
+
+  below_same : (x c : ℕ) → key.blocks ≤ c → one_if (nat_lt x (min (c + 1) key.blocks)) ≡ one_if (nat_lt x (min c key.blocks))
+  below_same x c h = ap (λ (n : ℕ). one_if (nat_lt x n)) (omega arith)
+
+  pub got_step : (s : State (Option X) (View S)) (R : Kept right key s) (id : ℕ) (r : Record)
+      → get_elem? s.views id ≡ some (view_of key (r ∷ [])) → r.node ≡ None → r.over ≡ false → r.mark ≡ None
+      → R.machine.claims < key.blocks
+      → Kept right key record {
+        words = set s.words 0 (R.machine.claims + 1);
+        homes = set s.homes (key.blocks + R.machine.claims) none;
+        views = set s.views id (view_of key (with_block key.blocks R.machine.claims r ∷ []));
+      }
+  got_step s R id r at free going unmarked room = let m = R.machine in let w = r.number in
+      let e : Event = claim_got w in let a = (R.views id (view_of key (r ∷ [])) at).0 in
+      let i : ℕ = key.blocks + m.claims in
+      let g = reach_good key.blocks key.passes R.some_blocks m R.reached in
+      let fresh : m.node i ≡ untouched = g.late i (omega arith) in
+      let can : Can key.blocks key.passes m e = ((a.inside, a.mark ∙ ap mark_of unmarked), nothing right key m r a free, a.over ∙ going, room) in
+      steps right key s R e id r (with_block key.blocks m.claims r) (set s.words 0 (m.claims + 1)) (set s.homes i none) at can (record {
+        wide = length-set s.words 0 (m.claims + 1) ∙ R.wide;
+        deep = length-set s.homes i none ∙ R.deep;
+        claims = get_or-set_same s.words 0 (m.claims + 1) 0 (let z = R.wide in omega arith);
+        arrivals = λ j lo hi. let a = R.arrivals j lo hi in
+            let b = word_else right key s.words 0 (m.claims + 1) j (λ q. omega arith) in
+            let c = settled_put right key m.node i (held w) (ap settled fresh) (2 * j) in
+            let d = settled_put right key m.node i (held w) (ap settled fresh) (2 * j + 1) in omega arith;
+        out = let b = word_else right key s.words 0 (m.claims + 1) key.blocks (λ q. let z = R.some_blocks in omega arith) in
+            let a = R.out in let c = settled_put right key m.node i (held w) (ap settled fresh) 1 in omega arith;
+        marks = λ p h. word_else right key s.words 0 (m.claims + 1) (key.blocks + 1 + p) (λ q. omega arith) ∙ R.marks p h;
+        slots = slots_put right key m.node s.homes i (held w) none (let z = R.deep in omega arith) tt R.slots;
+      }) (record {
+        same = refl;
+        mine = record {
+          inside = a.inside;
+          over = a.over;
+          mark = a.mark;
+          seen = omega arith;
+          holds = λ j e. let q : i ≡ j = cc in subst (λ (k : ℕ). put m.node i (held w) k ≡ held w) q (put_here m.node i (held w));
+          alone = λ j e. mine_alone m r i a free j (at_put m.node i j (held w) (held w) e);
+        };
+        others = others_keep right key m (after key.blocks key.passes m e) w (omega arith) (λ v ne. (refl, refl))
+            (λ v j ne q. put_else m.node i (held w) j (λ z. let f : held v ≡ untouched = sym q ∙ (ap m.node z ∙ fresh) in cc) ∙ q)
+            (λ v j ne q. back_ m w i v j ne (at_put m.node i j (held w) (held v) q));
+        drawn = let t = length-append r.got (m.claims ∷ []) in omega arith;
+        got = λ x. let t = times_snoc right key x r.got m.claims in let b = below_more x m.claims room in omega arith;
+        joins = λ x lo hi. let b = word_else right key s.words 0 (m.claims + 1) x (λ q. omega arith) in
+            let c = ap (λ (n : ℕ). one_if (n == 2)) b in omega arith;
+        joins_inner = λ x h. refl;
+      })
+    where
+      mine_alone : (m : Machine) (r : Record) (i : ℕ) → Agrees key.passes m r → r.node ≡ None → (j : ℕ)
+          → ((j ≡ i) × (held r.number ≡ held r.number)) ⊎ ((j ≢ i) × (m.node j ≡ held r.number)) → Some i ≡ Some j
+      mine_alone m r i a free j (inl t) = ap Some (sym t.0)
+      mine_alone m r i a free j (inr t) = absurd (nothing right key m r a free j t.1)
+
+      back_ : (m : Machine) (w i v j : ℕ) → v ≢ w → ((j ≡ i) × (held w ≡ held v)) ⊎ ((j ≢ i) × (m.node j ≡ held v)) → m.node j ≡ held v
+      back_ m w i v j ne (inl t) = let e = t.1 in absurd (ne cc)
+      back_ m w i v j ne (inr t) = t.1
+
+  pub over_step : (s : State (Option X) (View S)) (R : Kept right key s) (id : ℕ) (r : Record)
+      → get_elem? s.views id ≡ some (view_of key (r ∷ [])) → r.node ≡ None → r.over ≡ false → r.mark ≡ None
+      → key.blocks ≤ R.machine.claims
+      → Kept right key record {
+        words = set s.words 0 (R.machine.claims + 1);
+        homes = s.homes;
+        views = set s.views id (view_of key (told_over R.machine.claims r ∷ []));
+      }
+  over_step s R id r at free going unmarked full = let m = R.machine in let w = r.number in
+      let e : Event = claim_over w in let a = (R.views id (view_of key (r ∷ [])) at).0 in
+      let can : Can key.blocks key.passes m e = ((a.inside, a.mark ∙ ap mark_of unmarked), nothing right key m r a free, a.over ∙ going, full) in
+      steps right key s R e id r (told_over m.claims r) (set s.words 0 (m.claims + 1)) s.homes at can (record {
+        wide = length-set s.words 0 (m.claims + 1) ∙ R.wide;
+        deep = R.deep;
+        claims = get_or-set_same s.words 0 (m.claims + 1) 0 (let z = R.wide in omega arith);
+        arrivals = λ j lo hi. word_else right key s.words 0 (m.claims + 1) j (λ q. omega arith) ∙ R.arrivals j lo hi;
+        out = word_else right key s.words 0 (m.claims + 1) key.blocks (λ q. let z = R.some_blocks in omega arith) ∙ R.out;
+        marks = λ p h. word_else right key s.words 0 (m.claims + 1) (key.blocks + 1 + p) (λ q. omega arith) ∙ R.marks p h;
+        slots = R.slots;
+      }) (record {
+        same = refl;
+        mine = record { inside = a.inside; over = put_here m.over w true; mark = a.mark; seen = omega arith; holds = a.holds; alone = a.alone };
+        others = others_keep right key m (after key.blocks key.passes m e) w (omega arith)
+            (λ v ne. (put_else m.over w true v ne, refl)) (λ v j ne q. q) (λ v j ne q. q);
+        drawn = let t = ap one_if going in omega arith;
+        got = λ x. let b = below_same x m.claims full in omega arith;
+        joins = λ x lo hi. let b = word_else right key s.words 0 (m.claims + 1) x (λ q. omega arith) in
+            let c = ap (λ (n : ℕ). one_if (n == 2)) b in omega arith;
+        joins_inner = λ x h. refl;
+      })
+
+  abbrev Claiming : ℕ → ℕ → Me (Option X) (View S) → Type 0
+  Claiming slots id me = Allows (Kept right key) slots id me 0 (λ n. (n + 1) % 2 ^ 64) (IsClaim (step slots 0 1 0 none) me)
+
+  claim_at : (slots id : ℕ) (r : Record) → r.node ≡ None → r.over ≡ false → r.mark ≡ None → Claiming slots id (view_of key (r ∷ []), [])
+  claim_at slots id r free going unmarked s R deep at small = dite (dec_le key.blocks R.machine.claims)
+      (λ full. let r' : Record = told_over R.machine.claims r in (
+        view_of key (r' ∷ []),
+        keeps,
+        tt,
+        subst (λ (z : ℕ). Kept right key record {
+          words = set s.words 0 z;
+          homes = s.homes;
+          views = set s.views id (view_of key (r' ∷ []));
+        }) next (over_step s R id r at free going unmarked full),
+        record {
+          later = later;
+          above = above;
+          got = λ l. absurd (omega arith);
+          over = λ _. (ap (λ (n : ℕ). view_of key (told_over n r ∷ [])) (sym found), refl);
+        },
+      ))
+      (λ room. let i : ℕ = key.blocks + R.machine.claims in let lt : R.machine.claims < key.blocks = omega arith in
+      let g = reach_good key.blocks key.passes R.some_blocks R.machine R.reached in
+      let slot = R.slots i (let z = R.some_blocks in omega arith) (omega arith) in
+      let r' : Record = with_block key.blocks R.machine.claims r in (
+        view_of key (r' ∷ []),
+        takes i None,
+        slot.1 ∙ ap some (subst (λ (p : Place). SlotOf right key i p slot.0) (g.late i (omega arith)) slot.2),
+        subst (λ (z : ℕ). Kept right key record {
+          words = set s.words 0 z;
+          homes = set s.homes i none;
+          views = set s.views id (view_of key (r' ∷ []));
+        }) next (got_step s R id r at free going unmarked lt),
+        record {
+          later = later;
+          above = above;
+          got = λ _. (ap (λ (n : ℕ). view_of key (with_block key.blocks n r ∷ [])) (sym found), ap (λ (n : ℕ). (key.blocks + n, None) ∷ []) (sym found));
+          over = λ h. absurd (omega arith);
+        },
+      ))
+    where
+      found : slice_index s.words 0 ≡ R.machine.claims
+      found = R.claims
+
+      later : r.claims ≤ slice_index s.words 0
+      later = let k = (R.views id (view_of key (r ∷ [])) at).0.seen in let f = found in omega arith
+
+      above : All (λ x. x < slice_index s.words 0) r.got
+      above k d lt = let x : ℕ = get_or r.got k d in let t = times_at r.got k d lt in
+          let o = one_of (λ q. times x q.got) s.views id (view_of key (r ∷ [])) at in
+          let b = below_claims x R.machine.claims (let e = R.got x in omega arith) in let f = found in omega arith
+
+      next : R.machine.claims + 1 ≡ (slice_index s.words 0 + 1) % 2 ^ 64
+      next = let c = reach_claims key.blocks key.passes R.some_blocks R.machine R.reached in let f = R.claims in let t = R.small in omega arith
+
+  pub claim_allowed : (k : Setup S) → k ≡ key → (slots id number : ℕ) (me : Me (Option X) (View S))
+      → me.0.setup ≡ Some key → me.1 ≡ [] → HasRecord me.0 number None false None
+      → Allows (Ruled right k) slots id me 0 (λ n. (n + 1) % 2 ^ 64) (IsClaim (step slots 0 1 0 none) me)
+  claim_allowed k same_key slots id number me of bare has = let r : Record = seat_record me.0 number None false in
+      let p = seated right key me.0 number None false of has in
+      allowed_at right key k same_key slots id 0 (λ n. (n + 1) % 2 ^ 64) (IsClaim (step slots 0 1 0 none)) me (view_of key (r ∷ []), [])
+      (λ c. (p c, bare c)) (claim_at slots id r refl refl refl)

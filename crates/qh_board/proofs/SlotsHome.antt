@@ -1,0 +1,128 @@
+-- The slots that a pass carries, and what lies in each once they are home.
+use Rattle.std.proofs.Common.{◌≡◌, ◌≢◌, ℕ, zero, suc, ◌+◌, ◌*◌, ◌<◌, ◌≤◌, Bool}
+use Rattle.std.proofs.Common.{true, false, List, [], ◌∷◌, length, set, sym, refl, ap, ◌∙◌, subst, arith}
+use Rattle.std.proofs.Common.{if◌then◌else◌, Option, Some, None, length-set}
+use Rattle.std.specs.Prelude.{nat_lt}
+use mathlib.Core.Logic.{dite}
+use mathlib.Core.Option.{some, none, some-injective, some-ne-none}
+use mathlib.Core.Option as maybe
+use native.Mathlib.Decide.{ℕ_discrete, dec_le}
+use lib.ListN.{get_elem?}
+use Rattle.std.proofs.lemmas.Bool.Decides.{nat_tests}
+use Rattle.atomic_table.specs.Table.{State, Me, Act, keeps, gives, chain, Valid, homes_after, carried_after, rest}
+use Rattle.atomic_table.proofs.Lists.{set_here, set_else}
+use Rattle.qh_model.specs.contract.BoardMachine.{Place, untouched, held, used}
+use Rattle.qh_model.proofs.board.Grown.{ranged}
+use Rattle.qh_model.proofs.board.Reached.{reach_good}
+use Rattle.qh_board.specs.declared.view.Setup.{Setup}
+use Rattle.qh_board.specs.declared.view.View.{View}
+use Rattle.qh_board.specs.steps.Rule.{SlotOf, Kept}
+use Rattle.qh_board.specs.steps.Views.{view_of, kids, blocks_of, blocks_in, HasRecord}
+use Rattle.qh_board.proofs.Steps.{Homes, seat_record, seated}
+
+module _ {A : Type 0} where
+  -- each slot that is carried goes home
+  pub give_all : List (ℕ × A) → Act A
+  give_all [] = keeps
+  give_all (y ∷ ys) = chain gives (give_all ys)
+
+  pub laid : List (maybe.Option A) → List (ℕ × A) → List (maybe.Option A)
+  laid hs [] = hs
+  laid hs (y ∷ ys) = laid (set hs y.0 (some y.1)) ys
+
+  pub valid_all : (hs : List (maybe.Option A)) (c : List (ℕ × A)) → Valid hs c (give_all c)
+  unfolding give_all
+  valid_all hs [] = tt
+  valid_all hs (y ∷ ys) = (tt, valid_all (set hs y.0 (some y.1)) ys)
+
+  pub carried_all : (c : List (ℕ × A)) → carried_after c (give_all c) ≡ []
+  unfolding give_all
+  carried_all [] = refl
+  carried_all (y ∷ ys) = carried_all ys
+
+  pub homes_all : (hs : List (maybe.Option A)) (c : List (ℕ × A)) → homes_after hs c (give_all c) ≡ laid hs c
+  unfolding give_all laid
+  homes_all hs [] = refl
+  homes_all hs (y ∷ ys) = homes_all (set hs y.0 (some y.1)) ys
+
+  pub length_laid : (hs : List (maybe.Option A)) (c : List (ℕ × A)) → length (laid hs c) ≡ length hs
+  unfolding laid
+  length_laid hs [] = refl
+  length_laid hs (y ∷ ys) = length_laid (set hs y.0 (some y.1)) ys ∙ length-set hs y.0 (some y.1)
+
+  pub there_is : (l : List A) (j : ℕ) → j < length l → (h : A) × (get_elem? l j ≡ some h)
+  there_is [] j h = absurd (omega arith)
+  there_is (x ∷ xs) zero h = (x, refl)
+  there_is (x ∷ xs) (suc j) h = there_is xs j (omega arith)
+
+module _ {X : Type 0} where
+  kids_if : ℕ → Bool → List (ℕ × Option X)
+  kids_if i t = if t then (2 * i, None) ∷ (2 * i + 1, None) ∷ [] else []
+
+  kids_in : (b i : ℕ) → i < b → kids {X = X} b i ≡ (2 * i, None) ∷ (2 * i + 1, None) ∷ []
+  unfolding kids_if
+  kids_in b i h = let t : nat_lt i b ≡ true = grind (arith, nat_tests) in ap (kids_if i) t
+
+  kids_out : (b i : ℕ) → b ≤ i → kids {X = X} b i ≡ []
+  unfolding kids_if
+  kids_out b i h = let t : nat_lt i b ≡ false = grind (arith, nat_tests) in ap (kids_if i) t
+
+module _ {S X : Type 0} (right : S → (ℕ → Type 0) → X → Type 0) (key : Setup S) where
+  -- the slots of a pass at node i, once it has put down what it has
+  abbrev pub load : ℕ → Option X → List (ℕ × Option X)
+  load i x = (i, x) ∷ kids key.blocks i
+
+  laid_own : (hs : Homes X) (i : ℕ) (x : Option X) → 0 < i → i < length hs → get_elem? (laid hs (load i x)) i ≡ some (some x)
+  unfolding laid
+  laid_own hs i x lo hi = dite (dec_le key.blocks i)
+      (λ leaf. subst (λ (c : List (ℕ × Option X)). get_elem? (laid hs ((i, x) ∷ c)) i ≡ some (some x))
+      (sym (kids_out key.blocks i leaf)) (set_here hs i (some x) hi))
+      (λ inner. subst (λ (c : List (ℕ × Option X)). get_elem? (laid hs ((i, x) ∷ c)) i ≡ some (some x)) (sym (kids_in key.blocks i (omega arith)))
+      (set_else (set (set hs i (some x)) (2 * i) (some None)) (2 * i + 1) i (some None) (λ e. omega arith)
+      ∙ (set_else (set hs i (some x)) (2 * i) i (some None) (λ e. omega arith) ∙ set_here hs i (some x) hi)))
+
+  pub laid_else : (hs : Homes X) (i : ℕ) (x : Option X) (j : ℕ) → j ≢ i → (i < key.blocks → (j ≢ 2 * i) × (j ≢ 2 * i + 1))
+      → get_elem? (laid hs (load i x)) j ≡ get_elem? hs j
+  unfolding laid
+  laid_else hs i x j ne far = dite (dec_le key.blocks i)
+      (λ leaf. subst (λ (c : List (ℕ × Option X)). get_elem? (laid hs ((i, x) ∷ c)) j ≡ get_elem? hs j)
+      (sym (kids_out key.blocks i leaf)) (set_else hs i j (some x) ne))
+      (λ inner. let f = far (omega arith) in
+      subst (λ (c : List (ℕ × Option X)). get_elem? (laid hs ((i, x) ∷ c)) j ≡ get_elem? hs j)
+      (sym (kids_in key.blocks i (omega arith)))
+      (set_else (set (set hs i (some x)) (2 * i) (some None)) (2 * i + 1) j (some None) f.1
+      ∙ (set_else (set hs i (some x)) (2 * i) j (some None) f.0 ∙ set_else hs i j (some x) ne)))
+
+  -- the slots once the pass's own are home
+  pub slots_home : (s : State (Option X) (View S)) (R : Kept right key s) (i w : ℕ) (x : Option X)
+      → R.machine.node i ≡ held w → (j : ℕ) → 0 < j → j < 2 * key.blocks
+      → (h : maybe.Option (Option X)) × (get_elem? (laid s.homes (load i x)) j ≡ some h) × (j ≡ i → h ≡ some x)
+      × (j ≢ i → SlotOf right key j (R.machine.node j) h)
+  slots_home s R i w x mine j lo hi = let g = reach_good key.blocks key.passes R.some_blocks R.machine R.reached in
+      let r = ranged key.blocks key.passes R.some_blocks R.machine g i (λ e. let f : held w ≡ untouched = sym mine ∙ e in cc) in let deep = R.deep in
+      let usual : (i < key.blocks → (j ≢ 2 * i) × (j ≢ 2 * i + 1)) → j ≢ i
+      → (h : maybe.Option (Option X)) × (get_elem? (laid s.homes (load i x)) j ≡ some h) × (j ≡ i → h ≡ some x)
+      × (j ≢ i → SlotOf right key j (R.machine.node j) h)
+      = λ far ne. let t = R.slots j lo hi in (t.0, laid_else s.homes i x j ne far ∙ t.1, (λ e. absurd (ne e)), λ _. t.2) in
+      let kid : i < key.blocks → R.machine.node j ≡ used → j ≢ i
+      → (h : maybe.Option (Option X)) × (get_elem? (laid s.homes (load i x)) j ≡ some h) × (j ≡ i → h ≡ some x)
+      × (j ≢ i → SlotOf right key j (R.machine.node j) h)
+      = λ low e ne. let t =
+      there_is (laid s.homes (load i x)) j (let q = length_laid s.homes (load i x) in omega arith) in
+      (t.0, t.1, (λ q. absurd (ne q)), λ _. subst (λ (p : Place). SlotOf right key j p t.0) (sym e) tt) in
+      dite (ℕ_discrete j i)
+      (λ e. (some x, ap (get_elem? (laid s.homes (load i x))) e ∙ laid_own s.homes i x r.0 (omega arith), (λ _. refl), λ ne. absurd (ne e)))
+      (λ ne. dite (dec_le key.blocks i) (λ leaf. usual (λ l. absurd (omega arith)) ne)
+      (λ inner. let below = g.below i r.0 (omega arith) (λ e. let f : held w ≡ untouched = sym mine ∙ e in cc) in
+      dite (ℕ_discrete j (2 * i)) (λ e. kid (omega arith) (ap R.machine.node e ∙ below.0) ne)
+      (λ a. dite (ℕ_discrete j (2 * i + 1)) (λ e. kid (omega arith) (ap R.machine.node e ∙ below.1) ne) (λ b. usual (λ _. (a, b)) ne))))
+
+  -- the seat once the value lies in the slot of its node
+  pub filled : (before me : Me (Option X) (View S)) (i number : ℕ) (over : Bool) (x : X) → before.0.setup ≡ Some key
+      → before.1 ≡ (i, None) ∷ kids (blocks_of before.0) i → HasRecord before.0 number (Some i) over None
+      → me ≡ (before.0, (i, Some x) ∷ rest before.1)
+      → me ≡ (view_of key (seat_record before.0 number (Some i) over ∷ []), load i (Some x))
+  filled before me i number over x of bare has now =
+      let p = seated right key before.0 number (Some i) over of has in
+      let q : rest before.1 ≡ kids key.blocks i = ap rest bare ∙ ap (λ (k : Option (Setup S)). kids {X = X} (blocks_in k) i) of in
+      now ∙ (λ c. (p c, (i, Some x) ∷ q c))

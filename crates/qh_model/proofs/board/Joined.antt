@@ -1,0 +1,159 @@
+-- The second arrival at a node keeps it.
+use Rattle.std.proofs.Common.{◌≡◌, ◌≢◌, ◌⊎◌, inl, inr, ℕ, ◌+◌, ◌*◌, ◌<◌}
+use Rattle.std.proofs.Common.{sym, ap, ◌∙◌, subst, arith}
+use mathlib.Core.Logic.{dite}
+use native.Mathlib.Decide.{ℕ_discrete}
+use Rattle.qh_model.specs.contract.BoardMachine.{Place, untouched, held, parked, used, published, Machine, put}
+use Rattle.qh_model.specs.contract.BoardMachine.{parent, sibling}
+use Rattle.qh_model.specs.contract.BoardMachine.{Acts}
+use Rattle.qh_model.proofs.board.Updates.{put_here, put_else, at_put}
+use Rattle.qh_model.proofs.board.Siblings.{ArePair, Near, near}
+use Rattle.qh_model.proofs.board.Grown.{Consistent, place_dec, ranged}
+
+-- what a node is after the second arrival from the node i
+pub data Cases (f : ℕ → Place) (w i j : ℕ) (y : Place) : Type 0 where
+  same : j ≢ i → j ≢ sibling i → j ≢ parent i → f j ≡ y → Cases f w i j y
+  spent : (j ≡ i) ⊎ (j ≡ sibling i) → used ≡ y → Cases f w i j y
+  got : j ≡ parent i → held w ≡ y → Cases f w i j y
+
+abbrev pub joined : (ℕ → Place) → ℕ → ℕ → ℕ → Place
+joined f w i = put (put (put f i used) (sibling i) used) (parent i) (held w)
+
+pub cases : (f : ℕ → Place) (w i j : ℕ) (y : Place) → joined f w i j ≡ y → Cases f w i j y
+cases f w i j y e = top (at_put (put (put f i used) (sibling i) used) (parent i) j (held w) y e)
+  where
+    low : j ≢ parent i → j ≢ sibling i → ((j ≡ i) × (used ≡ y)) ⊎ ((j ≢ i) × (f j ≡ y)) → Cases f w i j y
+    low a b (inl t) = spent (inl t.0) t.1
+    low a b (inr t) = same t.0 b a t.1
+
+    mid : j ≢ parent i → ((j ≡ sibling i) × (used ≡ y)) ⊎ ((j ≢ sibling i) × (put f i used j ≡ y)) → Cases f w i j y
+    mid a (inl t) = spent (inr t.0) t.1
+    mid a (inr t) = low a t.0 (at_put f i j used y t.1)
+
+    top : ((j ≡ parent i) × (held w ≡ y)) ⊎ ((j ≢ parent i) × (put (put f i used) (sibling i) used j ≡ y)) → Cases f w i j y
+    top (inl t) = got t.0 t.1
+    top (inr t) = mid t.0 (at_put (put f i used) (sibling i) j used y t.1)
+
+module _ (B W : ℕ) (some : 0 < B) (m : Machine) (g : Consistent B W m) (w i : ℕ) (act : Acts W m w)
+    (mine : m.node i ≡ held w) (not_root : i ≢ 1) (waits : m.node (sibling i) ≡ parked) where
+  pub r_i : (0 < i) × (i < 2 * B)
+  r_i = ranged B W some m g i (λ e. let f : held w ≡ untouched = sym mine ∙ e in cc)
+
+  pub n_i : Near i
+  n_i = near i (let r = r_i in omega arith)
+
+  pub fresh : m.node (parent i) ≡ untouched
+  fresh = elim (place_dec (m.node (parent i))) as (λ _. m.node (parent i) ≡ untouched) [ inl e ↦ e | inr ne ↦ absurd (clash ne n_i.both) ]
+    where
+      clash : m.node (parent i) ≢ untouched → ArePair i → ⊥
+      clash ne (inl t) = let u = g.below (parent i) n_i.positive (let r = r_i in let z = n_i.above in omega arith) ne in
+          let f : held w ≡ used = sym mine ∙ (ap m.node (sym t.0) ∙ u.0) in cc
+      clash ne (inr t) = let u = g.below (parent i) n_i.positive (let r = r_i in let z = n_i.above in omega arith) ne in
+          let f : held w ≡ used = sym mine ∙ (ap m.node (sym t.1) ∙ u.1) in cc
+
+  new : ℕ → Place
+  new = joined m.node w i
+
+  pub at_i : joined m.node w i i ≡ used
+  at_i = put_else (put (put m.node i used) (sibling i) used) (parent i) (held w) i
+      (λ q. let a = n_i.above in omega arith)
+      ∙ (put_else (put m.node i used) (sibling i) used i (λ q. n_i.apart (sym q)) ∙ put_here m.node i used)
+
+  pub at_s : joined m.node w i (sibling i) ≡ used
+  at_s = put_else (put (put m.node i used) (sibling i) used) (parent i) (held w) (sibling i)
+      (λ q. let a = n_i.above_sibling in omega arith) ∙ put_here (put m.node i used) (sibling i) used
+
+  pub at_p : joined m.node w i (parent i) ≡ held w
+  at_p = put_here (put (put m.node i used) (sibling i) used) (parent i) (held w)
+
+  keeps : (j : ℕ) → j ≢ parent i → m.node j ≡ untouched → joined m.node w i j ≡ untouched
+  keeps j c e = put_else (put (put m.node i used) (sibling i) used) (parent i) (held w) j c
+      ∙ (put_else (put m.node i used) (sibling i) used j (λ q. let f : parked ≡ untouched = sym waits ∙ (ap m.node (sym q) ∙ e) in cc)
+      ∙ (put_else m.node i used j (λ q. let f : held w ≡ untouched = sym mine ∙ (ap m.node (sym q) ∙ e) in cc) ∙ e))
+
+  uses : (j : ℕ) → m.node j ≡ used → joined m.node w i j ≡ used
+  uses j e = put_else (put (put m.node i used) (sibling i) used) (parent i) (held w) j
+      (λ q. let f : untouched ≡ used = sym fresh ∙ (ap m.node (sym q) ∙ e) in cc)
+      ∙ (put_else (put m.node i used) (sibling i) used j (λ q. let f : parked ≡ used = sym waits ∙ (ap m.node (sym q) ∙ e) in cc)
+      ∙ (put_else m.node i used j (λ q. let f : held w ≡ used = sym mine ∙ (ap m.node (sym q) ∙ e) in cc) ∙ e))
+
+  grows : (j : ℕ) → m.node j ≢ untouched → joined m.node w i j ≢ untouched
+  grows j ne e = by_case (cases m.node w i j untouched e)
+    where
+      by_case : Cases m.node w i j untouched → ⊥
+      by_case (same a b c t) = ne t
+      by_case (spent a t) = cc
+      by_case (got a t) = cc
+
+  pub joins : Consistent B W (record m { node = joined m.node w i })
+  joins = record {
+    late = λ j l. keeps j (λ e. let z = n_i.above in let f : held w ≡ untouched = sym mine ∙ g.late i (omega arith) in cc) (g.late j l);
+    out = λ j l. keeps j (λ e. let z = n_i.above in let r = r_i in omega arith) (g.out j l);
+    bottom = keeps 0 (λ e. let z = n_i.positive in omega arith) g.bottom;
+    early = λ j a b c. grows j (g.early j a b c);
+    who = λ j v e. who' j v (cases m.node w i j (held v) e);
+    one = λ v j k a b. ones v j k (cases m.node w i j (held v) a) (cases m.node w i k (held v) b);
+    below = λ j a b k. dite (ℕ_discrete j (parent i)) (λ e. children j e n_i.both)
+        (λ ne. let t = g.below j a b (λ e. k (keeps j ne e)) in (uses (2 * j) t.0, uses (2 * j + 1) t.1));
+    up = λ j ne e. ups j ne (cases m.node w i j used e);
+    root_parked = λ e. only 1 parked (λ q. cc) (λ q. cc) g.root_parked (cases m.node w i 1 parked e);
+    root_used = λ e. roots (cases m.node w i 1 used e);
+    top = λ j e. tops j (cases m.node w i j published e);
+    pair = λ j a b. pairs j (cases m.node w i j parked a) (cases m.node w i (sibling j) parked b);
+  }
+    where
+      who' : (j v : ℕ) → Cases m.node w i j (held v) → v < W
+      who' j v (same a b c t) = g.who j v t
+      who' j v (spent a t) = absurd (cc)
+      who' j v (got a t) = subst (λ (k : ℕ). k < W) (let z : w ≡ v = cc in z) act.0
+
+      ones : (v j k : ℕ) → Cases m.node w i j (held v) → Cases m.node w i k (held v) → j ≡ k
+      ones v j k (same a b c t) (same a' b' c' t') = g.one v j k t t'
+      ones v j k (same a b c t) (spent a' t') = absurd (cc)
+      ones v j k (same a b c t) (got a' t') = absurd (a (g.one v j i t (mine ∙ t')))
+      ones v j k (spent a t) y = absurd (cc)
+      ones v j k (got a t) (same a' b' c' t') = absurd (a' (g.one v k i t' (mine ∙ t)))
+      ones v j k (got a t) (spent a' t') = absurd (cc)
+      ones v j k (got a t) (got a' t') = a ∙ sym a'
+
+      children : (j : ℕ) → j ≡ parent i → ArePair i → (joined m.node w i (2 * j) ≡ used) × (joined m.node w i (2 * j + 1) ≡ used)
+      children j e (inl t) = (
+        ap (λ (k : ℕ). joined m.node w i (2 * k)) e ∙ (ap (joined m.node w i) t.0 ∙ at_i),
+        ap (λ (k : ℕ). joined m.node w i (2 * k + 1)) e ∙ (ap (joined m.node w i) t.1 ∙ at_s),
+      )
+      children j e (inr t) = (
+        ap (λ (k : ℕ). joined m.node w i (2 * k)) e ∙ (ap (joined m.node w i) t.0 ∙ at_s),
+        ap (λ (k : ℕ). joined m.node w i (2 * k + 1)) e ∙ (ap (joined m.node w i) t.1 ∙ at_i),
+      )
+
+      taken : (j : ℕ) → parent j ≡ parent i → joined m.node w i (parent j) ≢ untouched
+      taken j e q = let f : held w ≡ untouched = sym at_p ∙ (ap (joined m.node w i) (sym e) ∙ q) in cc
+
+      ups : (j : ℕ) → j ≢ 1 → Cases m.node w i j used → joined m.node w i (parent j) ≢ untouched
+      ups j ne (same a b c t) = grows (parent j) (g.up j ne t)
+      ups j ne (spent (inl a) t) = taken j (ap parent a)
+      ups j ne (spent (inr a) t) = taken j (ap parent a ∙ n_i.same)
+      ups j ne (got a t) = absurd (cc)
+
+      only : (j : ℕ) (y : Place) → used ≢ y → held w ≢ y → m.node j ≢ y → Cases m.node w i j y → ⊥
+      only j y a b c (same _ _ _ t) = c t
+      only j y a b c (spent _ t) = a t
+      only j y a b c (got _ t) = b t
+
+      roots : Cases m.node w i 1 used → ⊥
+      roots (same a b c t) = g.root_used t
+      roots (spent (inl a) t) = not_root (sym a)
+      roots (spent (inr a) t) = let z = n_i.above_sibling in let y = n_i.positive in omega arith
+      roots (got a t) = cc
+
+      tops : (j : ℕ) → Cases m.node w i j published → j ≡ 1
+      tops j (same a b c t) = g.top j t
+      tops j (spent a t) = absurd (cc)
+      tops j (got a t) = absurd (cc)
+
+      pairs : (j : ℕ) → Cases m.node w i j parked → Cases m.node w i (sibling j) parked → ⊥
+      pairs j (same a b c t) (same a' b' c' t') = g.pair j t t'
+      pairs j (same a b c t) (spent a' t') = cc
+      pairs j (same a b c t) (got a' t') = cc
+      pairs j (spent a t) y = cc
+      pairs j (got a t) y = cc

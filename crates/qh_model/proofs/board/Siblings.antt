@@ -1,0 +1,49 @@
+-- The numbers of a node, its sibling and its parent.
+use Rattle.std.proofs.Common.{◌≡◌, ◌≢◌, ◌⊎◌, inl, inr, ℕ, ◌+◌, ◌-◌, ◌*◌, ◌%◌, ◌<◌}
+use Rattle.std.proofs.Common.{refl, ap, ◌∙◌, arith, eq-eqb, ne_eqb}
+use mathlib.Core.Logic.{dite}
+use native.Mathlib.Decide.{ℕ_discrete}
+use Rattle.qh_model.specs.contract.BoardMachine.{parent, sibling}
+
+pub sibling_even : (i : ℕ) → i % 2 ≡ 0 → sibling i ≡ i + 1
+sibling_even i e = rw (eq-eqb (i % 2) 0 e) refl
+
+pub sibling_odd : (i : ℕ) → i % 2 ≢ 0 → sibling i ≡ i - 1
+sibling_odd i e = rw (ne_eqb (i % 2) 0 e) refl
+
+-- a node and its sibling are the children of their parent, one way round or the other
+abbrev pub ArePair : ℕ → Type 0
+ArePair i = ((2 * parent i ≡ i) × (2 * parent i + 1 ≡ sibling i)) ⊎ ((2 * parent i ≡ sibling i) × (2 * parent i + 1 ≡ i))
+
+-- the numbers of a node other than the root, its sibling and its parent
+pub record Near (i : ℕ) : Type 0 where
+  pub apart : sibling i ≢ i
+  pub above : parent i < i
+  pub above_sibling : parent i < sibling i
+  pub positive : 0 < parent i
+  pub back : sibling (sibling i) ≡ i
+  pub same : parent (sibling i) ≡ parent i
+  pub both : ArePair i
+
+pub near : (i : ℕ) → 1 < i → Near i
+near i h = dite (ℕ_discrete (i % 2) 0)
+    (λ e. let s = sibling_even i e in let b : sibling (i + 1) ≡ i = sibling_odd (i + 1) (omega arith) ∙ omega arith in
+    record {
+      apart = omega arith;
+      above = omega arith;
+      above_sibling = omega arith;
+      positive = omega arith;
+      back = ap sibling s ∙ b;
+      same = ap parent s ∙ omega arith;
+      both = inl (omega arith, omega arith);
+    })
+    (λ o. let s = sibling_odd i o in let b : sibling (i - 1) ≡ i = sibling_even (i - 1) (omega arith) ∙ omega arith in
+    record {
+      apart = omega arith;
+      above = omega arith;
+      above_sibling = omega arith;
+      positive = omega arith;
+      back = ap sibling s ∙ b;
+      same = ap parent s ∙ omega arith;
+      both = inr (omega arith, omega arith);
+    })

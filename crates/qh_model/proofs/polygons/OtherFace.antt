@@ -1,0 +1,209 @@
+-- The edges of a solid: another face goes along each the other way, found by turning a plane about the edge.
+use Rattle.std.proofs.Common.{◌≡◌, ◌≢◌, ℕ, arith, refl, sym, ap, subst, ◌∙◌, ◌⊎◌, inl, inr, List, Bool, true, false}
+use Rattle.std.proofs.lemmas.Int.{ints, by_lt_z}
+use native.Mathlib.Decide.{ℕ_discrete}
+use Rattle.std.specs.Prelude.{ℤ, pos, negsuc, ◌-ℤ◌, ◌*ℤ◌, neg_ℤ, ◌≤ℤ◌, ◌<ℤ◌}
+use Rattle.qh_model.specs.headline.Vector.{Vector, dot}
+use Rattle.qh_model.specs.headline.Predicates.{cross, vol, left, AreInLine}
+use Rattle.qh_model.specs.headline.Sets.{In, Members}
+use Rattle.qh_model.specs.contract.IdSets.{HasDistinctPoints}
+use Rattle.qh_model.specs.headline.Dimension.{HasTetrahedron}
+use Rattle.qh_model.specs.headline.SupportingPlane.{IsSupportingTriple}
+use Rattle.qh_model.specs.headline.Polygon.{Follows}
+use Rattle.qh_model.specs.headline.Polygons.{IsFacePolygon}
+use Rattle.qh_model.specs.laws.EdgeLaws.{OtherFace}
+use Rattle.qh_model.proofs.algebra.Order.{mul-pos}
+use Rattle.qh_model.proofs.algebra.Order.{cancel-zero, le_antisym, positive_le, product_zero}
+use Rattle.qh_model.proofs.algebra.VectorIdentities.{edge_product, vol-first, vol-second}
+use Rattle.qh_model.proofs.algebra.VectorIdentities.{vol-flip, vol-swap_last, left-flip}
+use Rattle.qh_model.proofs.algebra.VectorIdentities.{in_line-vol, in_line-left, in_line-twice}
+use Rattle.qh_model.proofs.algebra.Signs.{less_differ}
+use Rattle.qh_model.proofs.algebra.Integers.{mul_comm}
+use Rattle.qh_model.proofs.extremes.Directions.{square-positive}
+use Rattle.qh_model.proofs.surfaces.VisibleFacets.{Least, least}
+use Rattle.qh_model.proofs.polygons.Neighbours.{follows_members, next_member}
+use Rattle.qh_model.proofs.polygons.PlaneTurns.{level_volume}
+use Rattle.qh_model.proofs.polygons.LeftOfEdge.{at_most, below, turn_sign, not_zero, Way, Third, has_u, has_v, third, square, over, not_right}
+
+-- turned about, and with the last two exchanged, a volume is the same
+vol-both : (u v x y : Vector) → vol v u y x ≡ vol u v x y
+vol-both u v x y = vol-flip v u y x ∙ ap neg_ℤ (vol-swap_last u v y x) ∙ twice (vol u v x y)
+  where
+    twice : (z : ℤ) → neg_ℤ (neg_ℤ z) ≡ z
+    twice z = omega (arith, ints)
+
+-- whether a number is below 0
+is_below : ℤ → Bool
+is_below (pos n) = false
+is_below (negsuc n) = true
+
+below_true : (z : ℤ) → z <ℤ pos 0 → is_below z ≡ true
+unfolding is_below
+below_true (pos n) h = absurd (omega (arith, ints))
+below_true (negsuc n) h = refl
+
+true_below : (z : ℤ) → is_below z ≡ true → z <ℤ pos 0
+unfolding is_below
+true_below (pos n) h = cc
+true_below (negsuc n) h = omega (arith, ints)
+
+-- of two points the one beyond the plane of the other and the line u v comes first, by their volumes with a and b
+gift_wrap : (u v a b p y : Vector) → pos 0 <ℤ vol u v a b → pos 0 <ℤ vol u v p y → pos 0 <ℤ (vol u v a p *ℤ vol u v b y -ℤ vol u v b p *ℤ vol u v a y)
+gift_wrap u v a b p y h k =
+    finish (vol u v a p *ℤ vol u v b y) (vol u v a y) (vol u v b p) (vol u v a b *ℤ vol u v p y)
+    (edge_product u v a b p y) (mul-pos (vol u v a b) (vol u v p y) h k)
+  where
+    order : (x y z g : ℤ) → x -ℤ y ≡ g → z ≡ y → pos 0 <ℤ g → pos 0 <ℤ (x -ℤ z)
+    order x y z g h e k = omega (arith, ints)
+
+    finish : (x s t g : ℤ) → x -ℤ s *ℤ t ≡ g → pos 0 <ℤ g → pos 0 <ℤ (x -ℤ t *ℤ s)
+    finish x s t g e h = order x (s *ℤ t) (t *ℤ s) g e (mul_comm t s) h
+
+module _ (at : ℕ → Vector) (ids : List ℕ) (d : HasDistinctPoints at (Members ids))
+    (solid : HasTetrahedron at (Members ids)) (i j k : ℕ) (q : List ℕ) (u v : ℕ)
+    (way : Way at (Members ids) i j k q u v) (x : Third at (Members ids) i j k u v) where
+  abbrev height : ℕ → ℤ
+  height l = vol (at i) (at j) (at k) (at l)
+
+  -- below the plane, volumes over the face's triangle are below 0
+  under : (l : ℕ) → height l <ℤ pos 0 → vol (at u) (at v) (at x.w) (at l) <ℤ pos 0
+  under l h = below _ _ _ _ (square at ids d i j k q u v way) (over at ids d i j k q u v way x.w (at l) x.member.1) x.turns h
+
+  -- for no member are they above
+  not_over : (l : ℕ) → Members ids l → vol (at u) (at v) (at x.w) (at l) ≤ℤ pos 0
+  not_over l h = at_most _ _ _ _ (square at ids d i j k q u v way) (over at ids d i j k q u v way x.w (at l) x.member.1)
+      (positive_le _ x.turns) (way.triple.supports l h)
+
+  -- over the edge turned about, they are above 0
+  turned : (l : ℕ) → height l <ℤ pos 0 → pos 0 <ℤ vol (at v) (at u) (at x.w) (at l)
+  turned l h = flip _ _ (vol-flip (at v) (at u) (at x.w) (at l)) (under l h)
+    where
+      flip : (p r : ℤ) → p ≡ neg_ℤ r → r <ℤ pos 0 → pos 0 <ℤ p
+      flip p r e h = omega (arith, ints)
+
+  -- a member below the plane with no member below the plane beyond the plane of the edge and it
+  record Next : Type 0 where
+    w : ℕ
+    has_w : Members ids w
+    low : height w <ℤ pos 0
+    first : (l : ℕ) → Members ids l → height l <ℤ pos 0 → vol (at v) (at u) (at w) (at l) ≤ℤ pos 0
+
+  -- some member is below the plane
+  some_below : ((l : ℕ) → Members ids l → height l <ℤ pos 0 → ⊥) → ⊥
+  some_below none = solid.volume (cancel-zero _ _ (square at ids d i j k q u v way) (product ∙ product_zero _ _ (level solid.l solid.has_l)))
+    where
+      level : (l : ℕ) → Members ids l → height l ≡ pos 0
+      level l h = by_lt_z (height l) (pos 0) (λ r. absurd (none l h r)) (λ r. le_antisym (height l) (pos 0) (way.triple.supports l h) r)
+
+      product : dot (cross (at i) (at j) (at k)) (cross (at i) (at j) (at k))
+          *ℤ vol (at solid.i) (at solid.j) (at solid.k) (at solid.l)
+          ≡ left (cross (at i) (at j) (at k)) (at solid.i) (at solid.j) (at solid.k) *ℤ height solid.l
+      product = level_volume (at i) (at j) (at k) (at solid.i) (at solid.j) (at solid.k) (at solid.l)
+          (level solid.i solid.has_i) (level solid.j solid.has_j) (level solid.k solid.has_k)
+
+  abbrev marked : ℕ → Bool
+  marked l = is_below (height l)
+
+  -- the plane turned about the edge as far as the first member
+  next : Next
+  next = base (least marked (λ l. vol (at v) (at u) (at x.w) (at l)) (λ l. pos 0) ids positive)
+    where
+      positive : (g : ℕ) → In g ids → marked g ≡ true → pos 0 <ℤ vol (at v) (at u) (at x.w) (at g)
+      positive g m e = turned g (true_below (height g) e)
+
+      none : ((g : ℕ) → In g ids → marked g ≡ true → ⊥) → ⊥
+      none f = some_below (λ l h r. f l h (below_true (height l) r))
+
+      base : ((g : ℕ) → In g ids → marked g ≡ true → ⊥) ⊎ Least marked (λ l. vol (at v) (at u) (at x.w) (at l)) (λ l. pos 0) ids → Next
+      base (inl f) = absurd (none f)
+      base (inr b) = by_cases (least marked (λ l. vol (at v) (at u) (at x.w) (at l)) (λ l. vol (at v) (at u) (at b.m) (at l)) ids positive)
+        where
+          by_cases : ((g : ℕ) → In g ids → marked g ≡ true → ⊥)
+              ⊎ Least marked (λ l. vol (at v) (at u) (at x.w) (at l)) (λ l. vol (at v) (at u) (at b.m) (at l)) ids
+              → Next
+          by_cases (inl f) = absurd (none f)
+          by_cases (inr m) = record { w = m.m; has_w = m.there; low = true_below (height m.m) m.marked; first = first }
+            where
+              first : (l : ℕ) → Members ids l → height l <ℤ pos 0 → vol (at v) (at u) (at m.m) (at l) ≤ℤ pos 0
+              first l h r = by_lt_z (pos 0) (vol (at v) (at u) (at m.m) (at l)) (λ s. absurd (m.least l h (below_true (height l) r) (beyond s))) (λ s. s)
+                where
+                  beyond : pos 0 <ℤ vol (at v) (at u) (at m.m) (at l)
+                      → pos 0 <ℤ (vol (at v) (at u) (at x.w) (at m.m) *ℤ vol (at v) (at u) (at b.m) (at l)
+                      -ℤ vol (at v) (at u) (at b.m) (at m.m) *ℤ vol (at v) (at u) (at x.w) (at l))
+                  beyond s = gift_wrap (at v) (at u) (at x.w) (at b.m) (at m.m) (at l) (positive b.m b.there b.marked) s
+
+  -- the plane of the edge and that member supports the set
+  triple : (w : Next) → IsSupportingTriple at (Members ids) v u w.w
+  triple w = record {
+    has_i = (has_v at ids d i j k q u v way).0.0;
+    has_j = (has_u at ids d i j k q u v way).0.0;
+    has_k = w.has_w;
+    area = area;
+    supports = supports;
+  }
+    where
+      area : ¬ (AreInLine (at v) (at u) (at w.w))
+      area e = less_differ _ (pos 0) (under w.w w.low) (sym (vol-both (at u) (at v) (at x.w) (at w.w)) ∙ in_line-vol (at v) (at u) (at w.w) (at x.w) e)
+
+      supports : (l : ℕ) → Members ids l → vol (at v) (at u) (at w.w) (at l) ≤ℤ pos 0
+      supports l h = by_lt_z (height l) (pos 0) (w.first l h) (λ r. level (le_antisym (height l) (pos 0) (way.triple.supports l h) r))
+        where
+          level : height l ≡ pos 0 → vol (at v) (at u) (at w.w) (at l) ≤ℤ pos 0
+          level e = subst (λ y. y ≤ℤ pos 0) (sym (vol-both (at u) (at v) (at l) (at w.w)))
+              (at_most _ _ _ _ (square at ids d i j k q u v way) (over at ids d i j k q u v way l (at w.w) e)
+              (not_right at ids d i j k q u v way l (h, e)) (way.triple.supports w.w w.has_w))
+
+  -- in its polygon u comes after v
+  comes_back : (w : Next) (p : List ℕ) → IsFacePolygon at (Members ids) v u w.w p → Follows v u p
+  comes_back w p f = from_witness (next_member v p has)
+    where
+      has : In v p
+      has = (f.members v).1 ((has_v at ids d i j k q u v way).0, vol-first (at v) (at u) (at w.w))
+
+      has' : In u p
+      has' = (f.members u).1 ((has_u at ids d i j k q u v way).0, vol-second (at v) (at u) (at w.w))
+
+      differ : u ≢ v
+      differ e = not_zero _ x.turns
+          (in_line-left (cross (at i) (at j) (at k)) (at u) (at v) (at x.w)
+          (subst (λ t. AreInLine (at u) (at t) (at x.w)) e (in_line-twice (at u) (at x.w))))
+
+      -- no member of the new plane lies to the right of the edge turned about
+      not_right' : (y : ℕ) → In y p → pos 0 ≤ℤ left (cross (at v) (at u) (at w.w)) (at v) (at u) (at y)
+      not_right' y m = let o = (f.members y).0 m in
+          turn_sign _ _ _ _ (square-positive (cross (at v) (at u) (at w.w)) (triple w).area)
+          (level_volume (at v) (at u) (at w.w) (at v) (at u) (at y) (at x.w) (vol-first (at v) (at u) (at w.w)) (vol-second (at v) (at u) (at w.w)) o.1)
+          (subst (λ z. z <ℤ pos 0) (sym (vol-both (at u) (at v) (at x.w) (at w.w))) (under w.w w.low))
+          (subst (λ z. z ≤ℤ pos 0) (sym (vol-both (at u) (at v) (at x.w) (at y))) (not_over y o.0.0))
+
+      from_witness : (y : ℕ) × Follows v y p → Follows v u p
+      from_witness (y, h) = test (ℕ_discrete u y)
+        where
+          clash : (a b : ℤ) → a ≡ neg_ℤ b → pos 0 <ℤ a → pos 0 ≤ℤ b → ⊥
+          clash a b e h k = omega (arith, ints)
+
+          test : Dec (u ≡ y) → Follows v u p
+          test (yes e) = subst (λ t. Follows v t p) (sym e) h
+          test (no n) = absurd (clash _ _ (left-flip (cross (at v) (at u) (at w.w)) (at v) (at y) (at u))
+              (f.round v y h u has' differ n)
+              (not_right' y (follows_members v y p h).1))
+
+-- the law
+pub other_face : OtherFace
+other_face at ids qs d (inr (inl e)) faces q m u v f = absurd (omega arith)
+other_face at ids qs d (inr (inr (inl e))) faces q m u v f = absurd (omega arith)
+other_face at ids qs d (inr (inr (inr e))) faces q m u v f = absurd (omega arith)
+other_face at ids qs d (inl solid) faces q m u v f = from_witness (faces.only q m)
+  where
+    from_witness : (i : ℕ) × (j : ℕ) × (k : ℕ) × IsSupportingTriple at (Members ids) i j k
+        × IsFacePolygon at (Members ids) i j k q → (p : List ℕ) × In p qs × Follows v u p
+    from_witness (i, j, k, t, g) = turn (next at ids d solid.1 i j k q u v way x)
+      where
+        way : Way at (Members ids) i j k q u v
+        way = record { triple = t; face = g; follows = f }
+
+        x : Third at (Members ids) i j k u v
+        x = third at ids d i j k q u v way
+
+        turn : Next at ids d solid.1 i j k q u v way x → (p : List ℕ) × In p qs × Follows v u p
+        turn w = let r = faces.each v u w.w (triple at ids d solid.1 i j k q u v way x w) in (r.0, r.1, comes_back at ids d solid.1 i j k q u v way x w r.0 r.2)

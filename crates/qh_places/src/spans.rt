@@ -1,0 +1,119 @@
+//! Spans of numbers, and bounds of products with them.
+ghost use Rattle.std.specs.Prelude.{◌≡◌, ◌≤◌, ◌^◌, ◌*ℤ◌, ◌-ℤ◌, ◌≤ℤ◌, ℤ, pos, IsTrue, unsigned_abs};
+ghost use Rattle.qh_places.specs.contract.Bundles.{IsBetween};
+ghost use Rattle.qh_places.specs.steps.Boxes.{IsFarEnd};
+
+/// The most times that a direction is taken: 2^48.
+pub(crate) const TIMES_LIMIT: u64 = 281474976710656;
+
+/// The numbers from one to another.
+#[derive(Clone, Copy, Drop)]
+pub(crate) struct Span {
+    pub low: i64,
+    pub high: i64,
+}
+
+/// Returns the end of a range at which a product with this factor is greatest.
+fn far_end(factor: i64, low: i128, high: i128) -> i128
+    requires low { unsigned_abs low ≤ 2 ^ 64 }
+    requires high { unsigned_abs high ≤ 2 ^ 64 }
+    ensures far { IsFarEnd factor low high result }
+    ensures limit { unsigned_abs result ≤ 2 ^ 64 }
+{
+    if factor > 0 { high } else { low }
+}
+
+/// Returns the product of a way and a number.
+fn way_product(way: i64, number: i128) -> i128
+    requires way { unsigned_abs way ≤ 2 ^ 32 }
+    requires number { unsigned_abs number ≤ 2 ^ 64 }
+    ensures value { result ≡ way *ℤ number }
+    ensures limit { unsigned_abs result ≤ 2 ^ 96 }
+{
+    i128::from(way) * number
+}
+
+/// Returns the greatest product of a way with the numbers from one to another.
+fn far_product(way: i64, low: i128, high: i128) -> i128
+    requires way { unsigned_abs way ≤ 2 ^ 32 }
+    requires low { unsigned_abs low ≤ 2 ^ 64 }
+    requires high { unsigned_abs high ≤ 2 ^ 64 }
+    ensures value { (r : ℤ) → IsBetween low r high → (way *ℤ r) ≤ℤ result }
+    ensures limit { unsigned_abs result ≤ 2 ^ 96 }
+{
+    way_product(way, far_end(way, low, high))
+}
+
+/// Returns the greater of two numbers.
+fn greater(a: i128, b: i128) -> i128
+    requires a { unsigned_abs a ≤ 2 ^ 96 }
+    requires b { unsigned_abs b ≤ 2 ^ 96 }
+    ensures above_a { a ≤ℤ result }
+    ensures above_b { b ≤ℤ result }
+    ensures limit { unsigned_abs result ≤ 2 ^ 96 }
+{
+    if a < b { b } else { a }
+}
+
+/// A component of a direction, and how many times the direction is taken.
+#[derive(Clone, Copy, Drop)]
+pub(crate) struct Share {
+    pub times: u64,
+    pub component: i16,
+}
+
+impl Span {
+    /// Returns the low end less a share.
+    fn low_rest(&self, share: Share) -> i128
+        requires { share.times ≤ TIMES_LIMIT }
+        ensures value { result ≡ self.now.low -ℤ pos share.times *ℤ share.component }
+        ensures limit { unsigned_abs result ≤ 2 ^ 64 }
+    {
+        i128::from(self.low) - i128::from(share.times) * i128::from(share.component)
+    }
+
+    /// Returns the high end less a share.
+    fn high_rest(&self, share: Share) -> i128
+        requires { share.times ≤ TIMES_LIMIT }
+        ensures value { result ≡ self.now.high -ℤ pos share.times *ℤ share.component }
+        ensures limit { unsigned_abs result ≤ 2 ^ 64 }
+    {
+        i128::from(self.high) - i128::from(share.times) * i128::from(share.component)
+    }
+
+    /// Returns the greatest product of two numbers: one of the span less the share, and one from `from`
+    /// to `to`.
+    pub fn far_rest(&self, share: Share, from: i64, to: i64) -> i128
+        requires times { share.times ≤ TIMES_LIMIT }
+        requires from { unsigned_abs from ≤ 2 ^ 32 }
+        requires to { unsigned_abs to ≤ 2 ^ 32 }
+        ensures value { (n w : ℤ) → IsBetween self.now.low n self.now.high → IsBetween from w to
+            → ((n -ℤ pos share.times *ℤ share.component) *ℤ w) ≤ℤ result }
+        ensures limit { unsigned_abs result ≤ 2 ^ 96 }
+    {
+        let (low, high) = (self.low_rest(share), self.high_rest(share));
+        greater(far_product(from, low, high), far_product(to, low, high))
+    }
+
+    /// Returns true if a number is of the span.
+    pub fn has(self, number: i128) -> bool
+        ensures { IsTrue result → IsBetween self.low number self.high }
+    {
+        i128::from(self.low) <= number && number <= i128::from(self.high)
+    }
+
+    /// Returns the span with one more number.
+    pub fn with(self, number: i64) -> Span {
+        Span {
+            low: self.low.min(number),
+            high: self.high.max(number),
+        }
+    }
+
+    /// Returns the product of the middle of the span and a component, by their upper bits.
+    pub fn middle_product(self, component: i16) -> i64 {
+        (self.low / 2 + self.high / 2)
+            .wrapping_shr(28)
+            .wrapping_mul(i64::from(component))
+    }
+}
