@@ -27,7 +27,7 @@ use std::alloc::{AllocError, Global};
 use std::thread::Threads;
 
 /// The polygons whose planes are asked together.
-const GROUP: usize = 16;
+const GROUP: usize = 4;
 
 /// The first three corners of a polygon.
 #[derive(Clone, Copy, Drop)]

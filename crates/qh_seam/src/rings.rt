@@ -21,7 +21,7 @@ use qh_pred::Plane;
 use std::alloc::{AllocError, Global};
 
 /// The facets of the ring whose planes are asked together.
-const GROUP: usize = 16;
+const GROUP: usize = 4;
 
 /// The room of a facet in a key: 2^64.
 const PLACE: u128 = 18446744073709551616;
