@@ -155,8 +155,8 @@ fn ids_outside(
     Ok(kept)
 }
 
-/// Returns true if at least half of the ids looked at have points inside a cycle, so that it pays to look
-/// at all.
+/// Returns true if at least half of a sample of the ids have points inside a cycle, so that it pays to test
+/// all ids.
 fn holds_most(pts: &[Point], normal: &Normal, ids: &[Id], cycle: &[Id]) -> bool
     requires ids_in { AreIndices pts.now ids.now }
     requires cycle_in { AreIndices pts.now cycle.now }
@@ -171,8 +171,8 @@ fn holds_most(pts: &[Point], normal: &Normal, ids: &[Id], cycle: &[Id]) -> bool
     held >= parts / 2
 }
 
-/// Returns the ids of a large set in one plane but some that one look finds inside, strictly between others, in
-/// the order of the set; `None` if no look pays: the set is small, or few points are inside.
+/// Returns the ids of a large set in one plane but those that the interior filter finds strictly inside, in the
+/// order of the set; `None` if no filter pays: the set is small, or the sample says that few points are inside.
 ///
 /// Each id is the index of one of the points. The caller keeps `IsPlanarSet`, as for [`polygon`](crate::polygon):
 /// then what is left has all extreme ids, and so the polygon of the set.
