@@ -7,7 +7,7 @@ use std::alloc::Global;
 /// When a [`FailSink`] fails.
 #[derive(Clone, Copy, Debug)]
 pub struct SinkPlan {
-    /// The greatest number of bytes that one write takes, at least 1.
+    /// The greatest number of bytes of one write, at least 1.
     pub greatest_piece: usize,
     /// The number of bytes that the sink takes in all; the write after them fails.
     pub room: usize,
