@@ -12,7 +12,7 @@ use std::fmt;
 pub enum Fault {
     /// The words are no command line, or ask for help.
     Usage,
-    /// Memory was refused.
+    /// An allocation failed.
     Memory,
     /// A file could not be opened or read.
     Device,

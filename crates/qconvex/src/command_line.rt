@@ -29,7 +29,7 @@ pub enum ArgFault {
     Help(String),
     /// The words are no command line.
     Usage,
-    /// Memory was refused.
+    /// An allocation failed.
     Memory,
 }
 

@@ -63,7 +63,7 @@ fn candidates(alloc: Global, ids: &[Id], ends: &[Id; 6]) -> Result<Vec<Id>, Allo
 }
 
 /// Returns four of some ids that are far apart: the first two, the one that is furthest from their line, and the one
-/// that is furthest from the plane of the three. None where there are no such four.
+/// that is furthest from the plane of the three. `None` if no four are found.
 fn far_corners(pts: &[Point], ids: &[Id]) -> Option<[Id; 4]> {
     let [i, j, ..] = ids else {
         return None;

@@ -47,7 +47,7 @@ impl Pieces<'_> {
     }
 }
 
-/// Returns the parts among answers, if all are there.
+/// Returns the parts in answers; `None` if an answer has no part.
 fn all_parts(
     alloc: Global,
     pieces: Pieces,

@@ -41,7 +41,7 @@ pub enum SettingsError {
     /// The block size is not from 1 to `BLOCK_SIZE_LIMIT`.
     #[error("the block size is not from 1 to 1048576")]
     BadBlock,
-    /// Memory was refused.
+    /// An allocation failed.
     #[error("out of memory")]
     Memory,
 }
