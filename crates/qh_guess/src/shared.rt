@@ -76,7 +76,7 @@ fn far_corners(pts: &[Point], ids: &[Id]) -> Option<[Id; 4]> {
 }
 
 /// Returns the ids that are to belong to every part of a set: first four that are far apart and do not lie in one
-/// plane, then the ends of the set along the three axes that are not among these. None where all lie in one plane.
+/// plane, then the ends of the set along the three axes that are not among these. Returns `None` if all lie in one plane.
 ///
 /// # Errors
 ///

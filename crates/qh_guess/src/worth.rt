@@ -3,7 +3,7 @@ use crate::cut::{Facets, Others};
 use crate::outlines::Outline;
 use qh_seam::{Divided, Part};
 
-/// The greatest number of corners for which making the hull again takes too little time to be worth saving.
+/// The greatest number of corners of all parts whose hull is made so quickly that joining at seams does not pay.
 const FEW_CORNERS: usize = 40_000;
 
 /// The number of facets of each part that are asked, spread over all.

@@ -149,7 +149,7 @@ fn body_of_outcome<R: Threads>(
     }
 }
 
-/// Returns the hull of a set by parts of it, however small it is. None where it does not come out: a part lies in a
+/// Returns the hull of a set by parts of it, however small it is; `None` if it does not come out: a part lies in a
 /// plane, or a guess of what stays of the parts, or of what closes the gap between them, is not seen to be right.
 ///
 /// `ids` are indices of points. That they rise and have distinct points (`IsIdSet`) is the caller's condition.

@@ -60,7 +60,7 @@ fn tally_and_open_step<R: Threads>(
     )
 }
 
-/// Returns faces that parts of a set contribute and polygons that close the gap between them. None where one of the
+/// Returns faces that parts of a set contribute and polygons that close the gap between them; `None` if one of the
 /// latter is no face of what is kept of the set.
 ///
 /// The caller promises what `given` is; `bridges` may be any polygons. No `workers` means one.
