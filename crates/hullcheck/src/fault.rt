@@ -1,4 +1,4 @@
-//! What keeps the program from a verdict.
+//! The faults that keep the program from a verdict.
 ghost use Rattle.std.specs.Prelude.{◌≡◌};
 ghost use Rattle.hullcheck.specs.contract.Statuses.{fault_status, read_fault_status};
 ghost use Rattle.hullcheck.specs.declared.fault.Fault.TheVariants.{Memory};

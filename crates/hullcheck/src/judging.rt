@@ -38,7 +38,7 @@ fn judge<R: Threads + Sync>(
 ///
 /// # Errors
 ///
-/// `Points` or `Faces` with the first fault of either, and `Memory` where an allocation failed.
+/// `Points` or `Faces` with the first fault of either, and `Memory` if an allocation failed.
 pub fn check_streams<R: Threads + Sync, S: Source>(
     rt: &R,
     alloc: Global,
