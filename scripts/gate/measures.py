@@ -24,20 +24,13 @@ MOST_CHARACTERS = 160
 
 LIMITS = {
     "longest parameter list": 6,
-    "long parameter lists": 2,
-    "bare bools": 1,
+    "long parameter lists": 1,
+    "bare bools": 0,
     "long files": 1,
     "long lines": 12,
 }
 WORD_LIMITS = {
-    "raised": 3,
-    "/// Whether": 1,
-    "as many": 20,
-    "so many": 17,
-    "such a": 5,
-    "that one": 2,
-    "is none": 5,
-    "are none": 2,
+    "is none": 2,
 }
 
 # Something that is counted: its name and where it stands.

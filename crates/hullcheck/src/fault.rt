@@ -1,4 +1,4 @@
-//! What keeps the program from a verdict.
+//! The faults that keep the program from a verdict.
 ghost use Rattle.std.specs.Prelude.{◌≡◌};
 ghost use Rattle.hullcheck.specs.contract.Statuses.{fault_status, read_fault_status};
 ghost use Rattle.hullcheck.specs.declared.fault.Fault.TheVariants.{Memory};
@@ -12,7 +12,7 @@ use std::fmt;
 pub enum Fault {
     /// The words are no command line, or ask for help.
     Usage,
-    /// Memory was refused.
+    /// An allocation failed.
     Memory,
     /// A file could not be opened or read.
     Device,

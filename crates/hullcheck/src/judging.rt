@@ -1,4 +1,4 @@
-//! What is told of the faces in a file.
+//! The judgement on the faces in a file.
 ghost use Rattle.std.specs.Prelude.{◌<◌, ◌≤◌, ◌-◌, ◌^◌, IfErr, IfOk, length};
 ghost use Rattle.qh_model.specs.declared.limits.TheConstants.{POINT_LIMIT};
 ghost use Rattle.qh_read.specs.headline.SourceBytes.{GivesAll};
@@ -14,7 +14,7 @@ use qh_read::{Source, read_form_threads};
 use std::alloc::Global;
 use std::thread::Threads;
 
-/// Returns what is told of faces, whose numbers name their vertices or the points of the set.
+/// Returns the judgement on faces, whose numbers name their vertices or the points of the set.
 fn judge<R: Threads + Sync>(
     rt: &R,
     alloc: Global,
@@ -34,11 +34,11 @@ fn judge<R: Threads + Sync>(
     judge_faces(rt, alloc, pts, named, &faces.polygons, workers)
 }
 
-/// Returns what is told of the faces in a text, beside the points that a source gives.
+/// Returns the judgement on the faces in a text, for the points that a source gives.
 ///
 /// # Errors
 ///
-/// `Points` or `Faces` with the first fault of either, and `Memory` where an allocation failed.
+/// `Points` or `Faces` with the first fault of either, and `Memory` if an allocation failed.
 pub fn check_streams<R: Threads + Sync, S: Source>(
     rt: &R,
     alloc: Global,

@@ -118,7 +118,7 @@ fn judge_command_line<R: Env + Files + Input + AllocGlobal + Threads + Sync>(
     judge_words(rt, &words)
 }
 
-/// Writes a judgement on standard output, and answers the exit status.
+/// Writes a judgement on standard output, and returns the exit status.
 fn end<R: Print>(rt: &R, judgement: Judgement) -> u8
     ensures { (result ≡ judgement_status judgement) ⊎ (result ≡ no_device) }
 {
@@ -129,7 +129,7 @@ fn end<R: Print>(rt: &R, judgement: Judgement) -> u8
     }
 }
 
-/// Writes a fault on standard error, and answers the exit status.
+/// Writes a fault on standard error, and returns the exit status.
 fn refuse<R: Eprint>(rt: &R, fault: Fault) -> u8
     ensures { result ≡ fault_status fault }
 {

@@ -5,7 +5,7 @@ ghost use Rattle.hullcheck.specs.contract.Statuses.{judgement_status};
 use qh_check::SurfaceVerdict;
 use qh_judge::Judgement;
 
-/// Returns the exit status of what is told: 0 where all is right, else 1.
+/// Returns the exit status of a judgement: 0 if all is right, else 1.
 pub fn status_of(judgement: &Judgement) -> u8
     ensures { result ≡ judgement_status judgement.now }
 {

@@ -1,4 +1,4 @@
-//! Worked rows: faces of a cube in files, and what is told of them.
+//! Worked rows: faces of a cube in files, and the judgement on them.
 use crate::command_line::settings_of;
 use crate::fault::Fault;
 use crate::judging::check_streams;
@@ -14,7 +14,7 @@ use std::thread::Threads;
 /// The corners of a cube, and two of them once more.
 const CUBE: &str = "3 10\n0 0 0\n0 0 1\n0 1 0\n0 1 1\n1 0 0\n1 0 1\n1 1 0\n1 1 1\n0 0 0\n1 1 1\n";
 
-/// Returns what is told of a text of faces of the cube.
+/// Returns the judgement on a text of faces of the cube.
 fn told<R: Threads + Sync>(
     rt: &R,
     alloc: Global,

@@ -27,9 +27,9 @@ use std::alloc::{AllocError, Global};
 pub enum ArgFault {
     /// The help text was asked for; this is it.
     Help(String),
-    /// The words are no command line.
+    /// The command line is invalid.
     Usage,
-    /// Memory was refused.
+    /// An allocation failed.
     Memory,
 }
 
@@ -227,8 +227,8 @@ fn settings_in<'a>(alloc: Global, words: &'a [String]) -> Result<Settings, ArgFa
 ///
 /// # Errors
 ///
-/// `Help` with the help text where it is asked for, `Usage` where the words are no command line, and `Memory` where
-/// an allocation failed.
+/// `Help` with the help text if it is asked for, `Usage` if the command line is invalid, and `Memory` if an allocation
+/// failed.
 pub fn settings_of(alloc: Global, words: Vec<String>) -> Result<Settings, ArgFault>
     ensures settings { IfOk result (AreSettingsOf (map string_bytes words.items)) }
     ensures fault { IfErr result (IsArgFaultOf (map string_bytes words.items)) }

@@ -45,8 +45,8 @@ fn asked<R: Env + AllocGlobal>(rt: &R) -> Result<Settings, ArgFault> {
     settings_of(rt.alloc(), words(rt)?)
 }
 
-/// Serves the devices where a command line has settings, sends the help text where it asks for that, and else answers
-/// why it has no settings.
+/// Serves the devices if a command line has settings, sends the help text if it asks for that, and else returns why it
+/// has no settings.
 pub fn respond<R: Threads + Sync, S: Source, K: Sink>(
     rt: &R,
     alloc: Global,
@@ -92,7 +92,7 @@ fn exit_code(outcome: Result<(), Fault>) -> ExitCode
     }
 }
 
-/// Writes the line of a fault on standard error, and answers the exit status of the outcome.
+/// Writes the line of a fault on standard error, and returns the exit status of the outcome.
 fn end<R: Eprint>(rt: &R, outcome: Result<(), Fault>) -> ExitCode
     ensures done { OnOk outcome (exit_status result ≡ 0) }
     ensures fault { IfErr outcome (λ f. exit_status result ≡ status_of f) }

@@ -12,7 +12,7 @@ pub const TOO_MANY: u32 = 2;
 /// A coordinate is out of range.
 pub const RANGE: u32 = 3;
 
-/// Memory was refused.
+/// An allocation failed.
 pub const MEMORY: u32 = 4;
 
 /// A buffer is too short.

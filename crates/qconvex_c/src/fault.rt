@@ -14,7 +14,7 @@ pub enum Fault {
     TooMany,
     /// A coordinate is out of range.
     Range,
-    /// Memory was refused.
+    /// An allocation failed.
     Memory,
     /// A buffer is too short.
     Room,

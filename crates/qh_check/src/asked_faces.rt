@@ -1,4 +1,4 @@
-//! Whether polygons are faces of a set of which the points stand by blocks.
+//! Checks whether polygons are faces of a set of which the points stand by blocks.
 ghost use Rattle.std.specs.Prelude.{◌≡◌, ◌<◌, ℕ, List, IfOk, IsTrue, length, map};
 ghost use Rattle.qh_model.specs.headline.Predicates.{place};
 ghost use Rattle.qh_model.specs.headline.Sets.{In, Members};

@@ -1,4 +1,4 @@
-//! Whether a polygon is a piece of a given face of a hull.
+//! Checks whether a polygon is a piece of a given face of a hull.
 //!
 //! The corners of a face stand in its polygon in their order. So no plane is asked again: a piece is met on the way
 //! round the face, and its first three corners turn as those of the face do.

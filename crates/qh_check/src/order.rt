@@ -1,4 +1,4 @@
-//! Whether polygons stand in lexicographic order.
+//! Checks whether polygons stand in lexicographic order.
 ghost use Rattle.std.specs.Prelude.{◌+◌, ◌<◌, ◌↔◌, [], length, slice_index_or, IsTrue, MatchOption};
 ghost use Rattle.qh_model.specs.headline.Polygons.{ComesBefore, RiseStrictly};
 ghost use Rattle.qh_check.specs.contract.Claims.{IsOutOfOrder};

@@ -1,4 +1,4 @@
-//! Whether a list of ids is met, in its order, by who goes round a polygon.
+//! Checks whether a walk round a polygon meets a list of ids in its order.
 ghost use Rattle.std.specs.Prelude.{◌≡◌, ◌+◌, ◌++◌, ◌<◌, ◌≤◌, ◌↔◌, ℕ, List, IsTrue, drop, length, slice_index_or, take};
 ghost use Rattle.qh_check.specs.contract.Pieces.{IsMetAlong, IsMetFrom, IsMetRound};
 ghost use Rattle.qh_check.specs.steps.Rounds.{IsBehind, way_behind};
@@ -30,7 +30,7 @@ fn met(part: &[Id], before: usize, ids: &[Id]) -> usize
     next
 }
 
-/// Returns true if a list is met by who goes round a polygon from behind a position to that position.
+/// Returns true if a walk round a polygon, from behind a position to the position before it, meets all of a list in its order.
 fn is_met_behind(part: &[Id], face: &[Id], position: usize) -> bool
     requires { position < length face.now }
     ensures { IsTrue result ↔ IsMetAlong part.now (drop (position + 1) face.now ++ take position face.now) }
@@ -40,7 +40,7 @@ fn is_met_behind(part: &[Id], face: &[Id], position: usize) -> bool
     all == part.len()
 }
 
-/// Returns true if an id stands at a position of a polygon, and a list is met by who goes round from there.
+/// Returns true if an id stands at a position of a polygon, and a walk round the polygon from there meets a list.
 fn is_met_from(first: Id, rest: &[Id], face: &[Id], position: usize) -> bool
     requires { position < length face.now }
     ensures { IsTrue result ↔ IsMetFrom first rest.now face.now position }
@@ -97,8 +97,8 @@ pub(crate) fn goes_round(part: &[Id], face: &[Id], positions: &[usize]) -> bool
     goes_on(rest, others, face, *begin)
 }
 
-/// Returns true if a list is met by who goes round a polygon from behind a position, at these positions of it. The
-/// last comes first, so that each has to come before the one behind it.
+/// Returns true if a walk round a polygon from behind a position meets a list at these positions of the polygon. The
+/// last item is tested first, so that each position has to stand before the one behind it.
 fn goes_on(rest: &[Id], positions: &[usize], face: &[Id], begin: usize) -> bool
     requires begin { begin < length face.now }
     requires same { length positions.now ≡ length rest.now }

@@ -1,4 +1,4 @@
-//! Whether polygons are the faces of a solid set.
+//! Checks whether polygons are the faces of a solid set.
 ghost use Rattle.std.specs.Prelude.{◌<◌, ℕ, List, IfOk, MatchOption, length};
 ghost use Rattle.std.specs.List.{All};
 ghost use Rattle.qh_model.specs.headline.Dimension.{IsDimension};

@@ -1,4 +1,4 @@
-//! Whether polygons, pieces of faces in any order, are the surface of a hull.
+//! Checks whether polygons, pieces of faces in any order, are the surface of a hull.
 ghost use Rattle.std.specs.Prelude.{◌<◌, ℕ, List, IfOk, MatchOption, length};
 ghost use Rattle.std.specs.List.{All};
 ghost use Rattle.qh_model.specs.headline.Dimension.{IsDimension};

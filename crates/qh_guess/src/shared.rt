@@ -63,7 +63,7 @@ fn candidates(alloc: Global, ids: &[Id], ends: &[Id; 6]) -> Result<Vec<Id>, Allo
 }
 
 /// Returns four of some ids that are far apart: the first two, the one that is furthest from their line, and the one
-/// that is furthest from the plane of the three. None where there are no such four.
+/// that is furthest from the plane of the three. `None` if no four are found.
 fn far_corners(pts: &[Point], ids: &[Id]) -> Option<[Id; 4]> {
     let [i, j, ..] = ids else {
         return None;
@@ -76,7 +76,7 @@ fn far_corners(pts: &[Point], ids: &[Id]) -> Option<[Id; 4]> {
 }
 
 /// Returns the ids that are to belong to every part of a set: first four that are far apart and do not lie in one
-/// plane, then the ends of the set along the three axes that are not among these. None where all lie in one plane.
+/// plane, then the ends of the set along the three axes that are not among these. Returns `None` if all lie in one plane.
 ///
 /// # Errors
 ///

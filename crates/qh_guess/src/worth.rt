@@ -1,15 +1,15 @@
-//! Whether it pays to join the hulls of parts at their seams.
+//! The rule that decides whether joining the hulls of parts at their seams pays.
 use crate::cut::{Facets, Others};
 use crate::outlines::Outline;
 use qh_seam::{Divided, Part};
 
-/// The hull of so few corners is made soon enough.
+/// The greatest number of corners of all parts whose hull is made so quickly that joining at seams does not pay.
 const FEW_CORNERS: usize = 40_000;
 
 /// The number of facets of each part that are asked, spread over all.
 const ASKED: usize = 64;
 
-/// Of some facets, how many are asked and how many of these go.
+/// The number of facets that were tested, and of those among them that are removed.
 #[derive(Clone, Copy, Drop)]
 struct Tally {
     asked: usize,

@@ -1,7 +1,7 @@
 //! The one error of a call that only takes memory.
 use std::alloc::{AllocError, AllocFailed};
 
-/// Memory was refused.
+/// An allocation failed.
 #[derive(Clone, Copy, Debug, PartialEq, Eq)]
 pub struct Memory;
 

@@ -106,7 +106,7 @@ fn all_given(
     }))
 }
 
-/// Returns what the parts of a set contribute, by a thread for each. None where the guess of one is not seen to
+/// Returns what the parts of a set contribute, by a thread for each; `None` if the guess of one is not seen to
 /// be right.
 pub(crate) fn given_in_threads<R: Threads>(
     rt: &R,

@@ -82,17 +82,17 @@ fn has_seams(set: Divided, outlines: &[Outline], seams: Seams) -> bool {
     }
 }
 
-/// What the parts of a set come to.
+/// The result of the parts of a set.
 #[derive(Drop)]
 pub(crate) enum Outcome {
     /// The hull of what is kept of the set, and so of the set.
     Hull(Body),
-    /// Faces of the set. Whether they are all is not seen yet.
+    /// Faces of the set. It is not checked yet that they are all its faces.
     Faces(UnsortedFaces),
 }
 
-/// Returns what the parts of a set come to: the hull of what is kept of it where the parts are told apart by too many
-/// facets, else faces that the parts contribute and those between them. None where it does not come out.
+/// Returns the result of the parts of a set: the hull of what is kept of it if the parts are not joined at their seams,
+/// else the faces that the parts contribute and those between them; `None` if the attempt fails.
 fn outcome_of<R: Threads>(
     rt: &R,
     alloc: Global,
@@ -127,7 +127,7 @@ fn outcome_of<R: Threads>(
     Ok(Some(Outcome::Faces(faces)))
 }
 
-/// Returns the hull of a set from what its parts come to. None where their faces do not close up.
+/// Returns the hull of a set from the result of its parts; `None` if their faces do not close up.
 fn body_of_outcome<R: Threads>(
     rt: &R,
     alloc: Global,
@@ -149,7 +149,7 @@ fn body_of_outcome<R: Threads>(
     }
 }
 
-/// Returns the hull of a set by parts of it, however small it is. None where it does not come out: a part lies in a
+/// Returns the hull of a set by parts of it, however small it is; `None` if it does not come out: a part lies in a
 /// plane, or a guess of what stays of the parts, or of what closes the gap between them, is not seen to be right.
 ///
 /// `ids` are indices of points. That they rise and have distinct points (`IsIdSet`) is the caller's condition.

@@ -47,7 +47,7 @@ impl Pieces<'_> {
     }
 }
 
-/// Returns the parts among answers, if all are there.
+/// Returns the parts in answers; `None` if an answer has no part.
 fn all_parts(
     alloc: Global,
     pieces: Pieces,
@@ -67,7 +67,7 @@ fn all_parts(
     Ok(Some(parts))
 }
 
-/// Returns the parts of the first `count` pieces, a thread for each. None where the points of one lie in
+/// Returns the parts of the first `count` pieces, a thread for each; `None` if the points of one lie in
 /// one plane.
 pub(crate) fn parts_in_threads<R: Threads>(
     rt: &R,
@@ -95,7 +95,7 @@ pub(crate) struct Parted {
     pub parts: Vec<Part>,
 }
 
-/// Returns a set in `count` parts, of ids that lie along a curve, each made by a thread. Zero means one. None where the
+/// Returns a set in `count` parts, of ids that lie along a curve, each made by a thread. Zero means one. Returns `None` if the
 /// points of one lie in one plane.
 pub(crate) fn parts_along_curve<R: Threads>(
     rt: &R,

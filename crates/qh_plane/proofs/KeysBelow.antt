@@ -10,7 +10,7 @@ use Rattle.qh_model.specs.headline.Sets.{In}
 use Rattle.qh_model.specs.headline.Vector.{Vector}
 use Rattle.qh_plane.specs.steps.HashedKeys.{Hashes, hash_at, hashed_key_at, AreKeysBelow}
 
--- before the first there are none
+-- before the first point there are no keys
 pub no_keys : (pts : List Vector) (some : Hashes) → AreKeysBelow pts some 0 []
 no_keys pts some = record {
   ids = [];

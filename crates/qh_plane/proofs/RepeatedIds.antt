@@ -93,7 +93,7 @@ told_all pts keys n ids h told = record {
 }
 
 -- ---- part by part
--- of no part there is none
+-- no parts have no repeats
 pub no_repeats : (pts : List Vector) (part : ℕ → Ids) → AreRepeats pts (PartsBelow part 0) []
 no_repeats pts part = record { has = λ i s. absurd (none s.0 s.1); only = λ i m. absurd m }
   where

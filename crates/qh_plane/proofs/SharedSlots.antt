@@ -60,7 +60,7 @@ module _ (pts : List Vector) (n slots s : ℕ) (is : s ≡ slot_in slots (hash_a
       same : length (set shared s b) ≡ slots
       same = length-set shared s b ∙ slen
 
-      -- the slots are equal in a table of so many
+      -- the slots are equal in a table of this size
       met : slot_in slots (hash_at pts i) ≡ slot_in slots (hash_at pts j)
       met = subst (λ v. slot_in v (hash_at pts i) ≡ slot_in v (hash_at pts j)) same e
 

@@ -19,16 +19,17 @@ const SLOTS_FOR_EACH: u64 = 2;
 /// The greatest number of slots of a line for each point.
 const LINE_SLOTS_FOR_EACH: u64 = 3;
 
-/// So many points tell whether all seem to lie in one line.
+/// The number of points that decide whether all points seem to lie in one line.
 const LOOKED_AT: usize = 32;
 
-/// Where the first points of a list, at most this many, lie too far apart for the whole list, no more are looked at.
+/// The greatest number of first points of a list that are tested alone. If these lie too far apart for the whole
+/// list, the others are not tested.
 const FIRST_POINTS: usize = 4096;
 
 /// Fewer slots than this lie in a processor's own memory, where a single thread takes no longer.
 pub const SHARED_SLOTS: u64 = 65_536;
 
-/// What stands in a slot that no point has come to.
+/// The content of a slot that no point has.
 pub const NO_ID: u32 = 4294967295;
 
 /// The numbers from one to another.
@@ -226,8 +227,8 @@ pub fn same_point(p: Point, q: Point) -> bool
     p.x() == q.x() && p.y() == q.y() && p.z() == q.z()
 }
 
-/// Returns the distinct ids of points, rising, each of which has a slot of its place; `None` if points that differ come
-/// to one slot, or one comes to none.
+/// Returns the distinct ids of points, rising, each of which has a slot of its place; `None` if different points have
+/// the same slot, or a point has no slot.
 pub fn distinct_by_slots(
     alloc: Global,
     pts: &[Point],

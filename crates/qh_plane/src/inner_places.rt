@@ -1,4 +1,4 @@
-//! Points inside a large set in one plane, which go before its ids are sorted.
+//! The interior filter of a large set in one plane, which drops points before its ids are sorted.
 //!
 //! A cycle goes over a few ids far out on all sides. A point to the left of each side of a closed cycle lies
 //! in a triangle of three ids of it, whatever the cycle is. So it is not extreme, and nothing needs to be
@@ -18,14 +18,14 @@ use qh_model::{Id, Memory, Point};
 use qh_pred::{Normal, point_at};
 use std::alloc::{AllocError, Global};
 
-/// The least number of ids from which on a set is looked through.
+/// The least number of ids of a set that is filtered.
 const MANY: usize = 4096;
 
-/// The step of the sample: one of this number of ids is looked at for a place on the cycle, and to tell whether it
-/// pays to look at all.
+/// The step of the sample. The ids of the cycle are chosen from the sample, and the sample decides whether it pays to
+/// test all ids.
 const LOOKED_AT: usize = 16;
 
-/// A direction of a plane, along the two coordinates that are looked at.
+/// A direction of a plane, along the two coordinates that are used.
 #[derive(Clone, Copy, Drop)]
 struct Direction {
     right: i64,
@@ -72,7 +72,7 @@ impl Direction {
     }
 }
 
-/// Returns the first of the ids looked at whose points lie furthest along a direction.
+/// Returns the first of the sampled ids whose points lie furthest along a direction.
 fn furthest(pts: &[Point], normal: &Normal, ids: &[Id], direction: Direction) -> Id
     requires some { 0 < length ids.now }
     requires indices { AreIndices pts.now ids.now }
@@ -155,8 +155,8 @@ fn ids_outside(
     Ok(kept)
 }
 
-/// Returns true if at least half of the ids looked at have points inside a cycle, so that it pays to look
-/// at all.
+/// Returns true if at least half of a sample of the ids have points inside a cycle, so that it pays to test
+/// all ids.
 fn holds_most(pts: &[Point], normal: &Normal, ids: &[Id], cycle: &[Id]) -> bool
     requires ids_in { AreIndices pts.now ids.now }
     requires cycle_in { AreIndices pts.now cycle.now }
@@ -171,8 +171,8 @@ fn holds_most(pts: &[Point], normal: &Normal, ids: &[Id], cycle: &[Id]) -> bool
     held >= parts / 2
 }
 
-/// Returns the ids of a large set in one plane but some that one look finds inside, strictly between others, in
-/// the order of the set; `None` if no look pays: the set is small, or few points are inside.
+/// Returns the ids of a large set in one plane but those that the interior filter finds strictly inside, in the
+/// order of the set; `None` if no filter pays: the set is small, or the sample says that few points are inside.
 ///
 /// Each id is the index of one of the points. The caller keeps `IsPlanarSet`, as for [`polygon`](crate::polygon):
 /// then what is left has all extreme ids, and so the polygon of the set.

@@ -26,8 +26,8 @@ pub struct SlotRanges {
 }
 
 impl SlotRanges {
-    /// Returns the ids of the points that stand before, of those that come to the `size` slots from `first` on.
-    /// `None` where points that differ come to one slot, or one comes to none.
+    /// Returns the ids of the points that stand before, of those whose slot is one of the `size` slots from `first` on;
+    /// `None` if different points have the same slot, or a point has no slot.
     fn repeats_from(
         &self,
         alloc: Global,
@@ -79,7 +79,7 @@ impl Parts for SlotRanges {
 }
 
 /// Returns the distinct ids of points, rising, each of which has a slot of its place, by a number of threads, each at a
-/// range of the slots; `None` if points that differ come to one slot, or one comes to none.
+/// range of the slots; `None` if different points have the same slot, or a point has no slot.
 fn distinct_by_ranges<R: Threads + Sync>(
     rt: &R,
     alloc: Global,

@@ -1,7 +1,7 @@
--- How great a number of so many digits can be.
+-- How great a number can be by the number of its digits.
 use Rattle.std.proofs.Common.{ℕ, ◌≤◌, ◌+◌, ◌*◌, zero, suc, arith}
 
--- the greatest number of one digit, and so many more
+-- the greatest number of one digit and `more` digits
 abbrev pub greatest : ℕ → ℕ
 greatest zero = 9
 greatest (suc more) = 10 * greatest more + 9

@@ -1,4 +1,4 @@
--- An OFF file that is filled in has its counts and as many coordinates as they say.
+-- An OFF file that is filled in has its counts and the number of coordinates that they say.
 use Rattle.std.proofs.Common.{◌≡◌, ◌∙◌, ◌++◌, [], ◌∷◌, ◌*◌, ◌≤◌, ◌&&◌, ℕ, List, Bool, true, false, cond, refl, ap, sym, arith, zero, suc, length, map, subst}
 use Rattle.std.proofs.lemmas.List.{append-nil}
 use Rattle.std.specs.Prelude.{ℤ, codes, pos, negsuc, Option, Some, None, option_map, nat_le}
@@ -22,7 +22,7 @@ pub dropped : (t : List ℤ) (ws : List Word) → judged (wants_vertices 0 t) ws
 dropped t [] = refl
 dropped t (w ∷ ws) = dropped t ws
 
--- the first words are so many coordinates
+-- the first words are k coordinates
 record FrontFilled (ws : List Word) (k : ℕ) (t u : List ℤ) : Type 0 where
   pub front : List Word
   pub rest : List Word

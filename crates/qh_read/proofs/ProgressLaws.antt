@@ -1,4 +1,4 @@
--- A file that is filled in has a header and as many coordinates as it says.
+-- A file that is filled in has a header and the number of coordinates that it says.
 use Rattle.std.proofs.Common.{◌≡◌, ◌≢◌, ◌∙◌, ◌++◌, [], ◌∷◌, ◌*◌, ◌≤◌, ◌&&◌, ℕ, List, Bool, true, false}
 use Rattle.std.proofs.Common.{cond, refl, ap, sym, arith, zero, suc, min, length, map, inl, inr, append_assoc, subst}
 use Rattle.std.proofs.lemmas.List.{append-nil}

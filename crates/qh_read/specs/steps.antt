@@ -5,6 +5,7 @@ pub mod Numbers
 pub mod Reader
 pub mod Scanning
 pub mod Segments
+pub mod Signs
 pub mod SmallTokens
 pub mod Sources
 pub mod Stages

@@ -9,14 +9,14 @@ use crate::token::Token;
 use qh_model::{COORDINATE_LIMIT, Form, POINT_LIMIT, Point, ReadFault};
 use std::alloc::{AllocError, Global};
 
-/// What the next word is to be.
+/// What the next word has to be.
 #[derive(Clone, Copy, Debug, PartialEq, Eq)]
 pub enum Stage {
     /// The first number of the header.
     First,
     /// The second number of the header, after this one.
     Second(i32),
-    /// The number of the coordinate in its point.
+    /// A coordinate of a point, with this number of coordinates to come; no word if the number is 0.
     Coordinates(u32),
     /// The keyword of an OFF file.
     Keyword,
@@ -26,9 +26,9 @@ pub enum Stage {
     FaceCount(i32),
     /// The number of edges, after this number of vertices.
     EdgeCount(i32),
-    /// One of so many coordinates of vertices, or whatever.
+    /// A coordinate of a vertex, with this number of coordinates to come; any word if the number is 0.
     Vertices(u32),
-    /// Nothing: the text has this fault.
+    /// Any word: the text has this fault.
     Failed(ReadFault),
 }
 
@@ -62,7 +62,7 @@ fn counted(count: i32) -> Stage
     }
 }
 
-/// Returns the stage after the counts of an OFF file with so many vertices.
+/// Returns the stage after the counts of an OFF file with this number of vertices.
 fn counted_vertices(count: i32) -> Stage
     ensures shown { stage_shown result [] ≡ progress.counted progress.wants_vertices count }
     ensures text_fault { HasTextFault result }

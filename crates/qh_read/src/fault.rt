@@ -13,7 +13,7 @@ use std::alloc::AllocError;
 pub enum FeedFault {
     /// There would be more than `BYTE_LIMIT` bytes.
     Big,
-    /// Memory was refused.
+    /// An allocation failed.
     Memory,
 }
 

@@ -4,6 +4,7 @@
 //! scanner's step from byte to byte.
 ghost use Rattle.std.specs.Prelude.{◌≡◌, ◌≤◌, ◌<◌, ◌+◌, ◌^◌, length, IfSome};
 ghost use Rattle.qh_read.specs.contract.Tokens.{signed};
+ghost use Rattle.qh_read.specs.steps.Signs.{is_minus};
 ghost use Rattle.qh_read.specs.steps.Numbers.{IsParted, IsEndOf, IsBegun, IsContinued, IsEnded, IsNumber, ArePoint};
 
 use crate::coordinate::Coordinate;
@@ -12,6 +13,13 @@ use qh_model::COORDINATE_LIMIT;
 
 /// The bytes that must be left for a number to be taken at once: a sign, nine digits and the byte after them.
 const LONGEST: usize = 11;
+
+/// The sign of a number. A number without a sign has `Plus`.
+#[derive(Clone, Copy)]
+enum Sign {
+    Plus,
+    Minus,
+}
 
 /// A number in the range of coordinates, and what comes after it and the byte that ends it.
 #[derive(Clone, Copy)]
@@ -43,11 +51,10 @@ pub fn after_blanks(line: u32, bytes: &[u8]) -> (u32, &[u8])
     (later, &[])
 }
 
-/// Takes a sign, if there is one, and a digit. It answers whether the sign is a minus, the digit, and
-/// the bytes that are left.
+/// Takes a sign, if there is one, and a digit. Returns the sign, the digit, and the bytes that are left.
 #[inline(always)]
-fn first_digit(bytes: &[u8]) -> Option<(bool, u32, &[u8])>
-    ensures held { IfSome result (λ r. IsBegun bytes.now r.0 r.1 r.2.now) }
+fn first_digit(bytes: &[u8]) -> Option<(Sign, u32, &[u8])>
+    ensures held { IfSome result (λ r. IsBegun bytes.now (is_minus r.0) r.1 r.2.now) }
     ensures end { IfSome result (λ r. IsEndOf r.2.now bytes.now) }
     ensures small { IfSome result (λ r. r.1 ≤ 9) }
     ensures left { IfSome result (λ r. length bytes.now ≤ length r.2.now + 2) }
@@ -64,7 +71,8 @@ fn first_digit(bytes: &[u8]) -> Option<(bool, u32, &[u8])>
     if !digit.is_ascii_digit() {
         return None;
     }
-    Some((minus, (*digit - b'0') as u32, rest))
+    let sign = if minus { Sign::Minus } else { Sign::Plus };
+    Some((sign, (*digit - b'0') as u32, rest))
 }
 
 /// Takes up to eight digits after this one. It answers their magnitude, and the bytes that are left.
@@ -91,13 +99,16 @@ fn few_digits(first: u32, bytes: &[u8]) -> (u32, &[u8])
 
 /// Returns the coordinate of this magnitude and sign.
 #[inline(always)]
-fn signed_coordinate(minus: bool, magnitude: u32) -> Coordinate
+fn signed_coordinate(sign: Sign, magnitude: u32) -> Coordinate
     requires { magnitude ≤ COORDINATE_LIMIT }
-    ensures { result.value ≡ signed minus magnitude }
+    ensures { result.value ≡ signed (is_minus sign) magnitude }
 {
     let value = magnitude as i32;
     Coordinate {
-        value: if minus { -value } else { value },
+        value: match sign {
+            Sign::Plus => value,
+            Sign::Minus => -value,
+        },
     }
 }
 
@@ -135,9 +146,9 @@ pub fn next_number(line: u32, bytes: &[u8]) -> Option<Number<'_>>
     if word.len() < LONGEST {
         return None;
     }
-    let (minus, digit, after) = first_digit(word)?;
+    let (sign, digit, after) = first_digit(word)?;
     let (magnitude, ended) = few_digits(digit, after);
-    let coordinate = signed_coordinate(minus, magnitude);
+    let coordinate = signed_coordinate(sign, magnitude);
     let (line, rest) = after_end(line, ended)?;
     Some(Number {
         coordinate,

@@ -185,8 +185,8 @@ impl Scanner {
         rest
     }
 
-    /// Takes the points of a piece if no word is under way, no comment runs and at least as many points are to
-    /// come. Returns the bytes that are left: all, if it took no point.
+    /// Takes the points of a piece if no word is under way, no comment runs and the builder awaits all of them.
+    /// Returns the bytes that are left: the whole piece if no point was taken.
     pub fn take_known<'a>(&mut self, token: Token, known: &KnownPoints<'a>) -> &'a [u8]
         requires room { HasRoom self.old token (length known.now.piece.now) }
         requires line { self.old.line + length known.now.piece.now < 2 ^ 31 }

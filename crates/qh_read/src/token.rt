@@ -15,11 +15,11 @@ pub const MAGNITUDE_CAP: u32 = COORDINATE_LIMIT + 1;
 pub enum Token {
     /// No byte of it yet.
     Empty,
-    /// A sign, and whether it is a minus.
+    /// A sign; true if it is a minus.
     Sign(bool),
-    /// Digits after a sign or none, whether it is a minus, and their value up to the cap.
+    /// Digits, perhaps after a sign: true if it is a minus, and their value up to the cap.
     Digits(bool, u32),
-    /// So many letters of the keyword `OFF`, from 1 to 3, and no more.
+    /// The first letters of the keyword `OFF`, by their number, from 1 to 3, and nothing else.
     Keyword(u8),
     /// A word that is no number and not the keyword.
     Other,

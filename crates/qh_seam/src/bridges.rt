@@ -269,7 +269,7 @@ fn are_faces(alloc: Global, set: Divided, polygons: &[Polygon]) -> Result<bool, 
     Ok(true)
 }
 
-/// Returns true if all answers are yes.
+/// Returns true if every answer is true.
 fn are_all(answers: &[Result<bool, Memory>]) -> Result<bool, Memory>
     ensures { IfOk result (λ all. IsTrue all → All (λ a. a ≡ Ok true) answers.now) }
 {

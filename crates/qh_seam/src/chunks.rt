@@ -24,7 +24,7 @@ fn part_with(
     Part::of(alloc, pts, &listed, shared)
 }
 
-/// Returns the parts of `size` consecutive ids of a list each, of fewer at its end, with the shared ids. None where
+/// Returns the parts of `size` consecutive ids of a list each, of fewer at its end, with the shared ids; `None` if
 /// the points of one lie in one plane. The order of the list may be any; near ids near each other make the parts that
 /// are told apart by few facets.
 ///

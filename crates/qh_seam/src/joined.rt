@@ -21,7 +21,7 @@ use qh_model::{Body, Memory, Polygon};
 use std::alloc::Global;
 use std::thread::{Threads, join};
 
-/// Returns what is told of polygons; None where they are not in order.
+/// Returns the tally of polygons; `None` if they are not in order.
 fn ordered_tally(alloc: Global, polygons: &[Polygon]) -> Result<Option<Tally>, Memory>
     ensures { IfOk result (λ found. IfSome found (λ t. RiseStrictly polygons.now × IsTally polygons.now t)) }
 {
@@ -31,8 +31,8 @@ fn ordered_tally(alloc: Global, polygons: &[Polygon]) -> Result<Option<Tally>, M
     Ok(Some(tally_of(alloc, polygons)?))
 }
 
-/// Returns what is told of polygons in order, and a step that they do not take as often as the step back: the one by one
-/// of the `workers`, the other by the rest of them. One worker, or none, makes both by the calling thread.
+/// Returns the tally of polygons in order, and a step that they do not take as often as the step back. One of the
+/// `workers` makes the tally and the others find the step. With one worker, or none, the calling thread does both.
 fn tally_and_open_step<R: Threads>(
     rt: &R,
     alloc: Global,
@@ -60,7 +60,7 @@ fn tally_and_open_step<R: Threads>(
     )
 }
 
-/// Returns faces that parts of a set contribute and polygons that close the gap between them. None where one of the
+/// Returns faces that parts of a set contribute and polygons that close the gap between them; `None` if one of the
 /// latter is no face of what is kept of the set.
 ///
 /// The caller promises what `given` is; `bridges` may be any polygons. No `workers` means one.

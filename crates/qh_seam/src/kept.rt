@@ -61,7 +61,7 @@ fn corners_and_shared(alloc: Global, parts: &[Part], shared: &[Id]) -> Result<Ve
     rising_ids(alloc, &listed)
 }
 
-/// Returns the ids that are kept of a set, rising: the corners of its parts and the shared ids. None where the parts
+/// Returns the ids that are kept of a set, rising: the corners of its parts and the shared ids; `None` if the parts
 /// do not have just the ids of the set, or a shared id is not in it. `ids` rise.
 ///
 /// # Errors

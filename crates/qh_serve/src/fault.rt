@@ -1,4 +1,4 @@
-//! What can be wrong with a run, and its exit status.
+//! The faults of a run, and their exit statuses.
 ghost use Rattle.std.specs.Prelude.{◌≡◌, Some};
 ghost use Rattle.qh_serve.specs.contract.FaultLines.{fault_line, status_of};
 ghost use Rattle.qh_serve.specs.declared.fault.Fault.TheVariants.{Read, Send};

@@ -15,7 +15,7 @@ use std::thread::Threads;
 
 /// Reads points from the source to its end and sends the texts that the settings ask for.
 ///
-/// One thread reads for each worker that makes the hull. Nothing is sent before the whole text stands. The answer
+/// One thread reads for each worker that makes the hull. Nothing is sent before the whole text is made. The answer
 /// tells what the devices did: the table of `IsServed` and `IsServeFault` has a line for each. After a
 /// failure neither device is called again. The gate is told of the workers' blocks, and takes the hull at the
 /// end of their run. Outputs that are all the rank need no hull: the gate is not called then.

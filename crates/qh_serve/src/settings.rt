@@ -1,4 +1,4 @@
-//! What a run is asked for, and the limits of that.
+//! The settings of a run, and their limits.
 ghost use Rattle.std.specs.Prelude.{◌≡◌, ◌≤◌, ◌<◌, ◌↔◌, IfOk, IsErrOf};
 
 use qh_model::{Form, POINT_LIMIT, WORKER_LIMIT};
@@ -7,7 +7,7 @@ use std::alloc::Global;
 use std::marker::Model;
 use thiserror::Error;
 
-/// The greatest block size that can be wanted: all points in one block.
+/// The greatest block size: all points in one block.
 pub const BLOCK_SIZE_LIMIT: u32 = POINT_LIMIT;
 
 /// How the input is to be read, how the hull is to be made, and which outputs are to be written.
@@ -41,7 +41,7 @@ pub enum SettingsError {
     /// The block size is not from 1 to `BLOCK_SIZE_LIMIT`.
     #[error("the block size is not from 1 to 1048576")]
     BadBlock,
-    /// Memory was refused.
+    /// An allocation failed.
     #[error("out of memory")]
     Memory,
 }
@@ -49,10 +49,10 @@ pub enum SettingsError {
 impl Settings {
     ghost use Rattle.qh_serve.specs.contract.Ranges.{IsWorkers, IsBlockSize};
 
-    /// Settings with these workers, block size and outputs, for an input of this form.
+    /// Creates settings with these workers, block size and outputs, for an input of this form.
     ///
-    /// Where two errors apply, the first in the order of `SettingsError` is given; memory is asked
-    /// for last.
+    /// If several errors apply, the first in the order of `SettingsError` is returned; the allocation
+    /// comes last.
     pub fn new(
         alloc: Global,
         workers: u32,
@@ -81,7 +81,7 @@ impl Settings {
         })
     }
 
-    /// Returns how many workers make the hull, from 1 to `WORKER_LIMIT`.
+    /// Returns the number of workers that make the hull, from 1 to `WORKER_LIMIT`.
     pub fn workers(&self) -> u32
         ensures value { result ≡ self.now.workers }
         ensures range { IsWorkers result }
@@ -89,7 +89,7 @@ impl Settings {
         self.workers
     }
 
-    /// Returns how many points a block has, from 1 to `BLOCK_SIZE_LIMIT`.
+    /// Returns the number of points of a block, from 1 to `BLOCK_SIZE_LIMIT`.
     pub fn block(&self) -> u32
         ensures value { result ≡ self.now.block }
         ensures range { IsBlockSize result }
@@ -104,7 +104,7 @@ impl Settings {
         self.outs.as_slice()
     }
 
-    /// Returns how the input tells its points.
+    /// Returns the form of the input.
     pub fn form(&self) -> Form
         ensures { result ≡ self.now.form }
     {

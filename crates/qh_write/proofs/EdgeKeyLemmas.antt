@@ -97,7 +97,7 @@ once_codes ((a, b) ∷ ps) small o = ((λ m. from_witness (of_map code ps (code 
     from_witness ((u, v), i, e) = let s = one_code a b u v (small a b (inl refl)) (small u v (inr i)) e in
         o.0 (subst (λ x. In (x, b) ps) (sym s.0) (subst (λ y. In (u, y) ps) (sym s.1) i))
 
--- as many different numbers as distinct pairs
+-- the number of different keys is the number of edges
 pub edges_by_keys : (faces : List (List ℕ)) (keys sorted : List ℕ) → AddsPairs (pairs_of faces) [] keys → IsPermutation keys sorted → IsSorted nat_cmp sorted
     → length (dedup eqb sorted) ≡ edge_count faces
 edges_by_keys faces keys sorted added same rising =

@@ -14,7 +14,7 @@ fans_in_order extremes qs order = record {
   named = λ t m i h. let r = of_flat_map fan qs t m in order.named r.0 r.1 i (fan_members r.0 t r.2 i h);
 }
 
--- as many triangles as ids along the list
+-- the number of triangles along a list is the number of its ids
 length-triangles_along : (first u : ℕ) (r : List ℕ) → length (triangles_along first u r) ≡ length r
 length-triangles_along first u [] = refl
 length-triangles_along first u (v ∷ r) = ap suc (length-triangles_along first v r)

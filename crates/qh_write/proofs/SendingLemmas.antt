@@ -29,7 +29,7 @@ Appends-more (Some xs) (Some ys) (Some zs) bs sent n fits h k =
     ∙ append_assoc xs (take sent bs) (take n (drop sent bs))
     ∙ ap (λ (t : List ℕ). xs ++ t) (sym (take-add sent n bs fits))
 
--- a number of bytes of the rest is at most as many as are left
+-- a count within the bytes of the rest is within the number of bytes left
 pub fits_rest : (bs : List ℕ) (sent n : ℕ) → n ≤ length (take (length bs - sent) (drop sent bs)) → n ≤ length bs - sent
 fits_rest bs sent n h = subst (λ (m : ℕ). n ≤ m) (ap length (take_rest bs sent) ∙ length-drop sent bs) h
 
@@ -62,11 +62,12 @@ beginning_kept a b c xs p k = record {
     kept (Some x) (Some y) None p k = absurd k
     kept (Some x) (Some y) (Some z) p k = k ∙ p
 
--- the pieces before one, that one, and what follows it
+-- the pieces before piece i, piece i, and what follows it
 pub piece_among : (pieces : List (Vec ℕ Global)) (last : List ℕ) (i : ℕ) (d : Vec ℕ Global) → i < length pieces
     → bytes_of pieces ++ last ≡ bytes_of (take i pieces) ++ ((get_or pieces i d).items ++ (bytes_of (drop (suc i) pieces) ++ last))
 piece_among pieces last i d l =
-    ap (λ (ps : List (Vec ℕ Global)). bytes_of ps ++ last) (sym (take-append-drop i pieces) ∙ ap (λ (ps : List (Vec ℕ Global)). take i pieces ++ ps) (drop-cons pieces i d l))
+    ap (λ (ps : List (Vec ℕ Global)). bytes_of ps ++ last)
+    (sym (take-append-drop i pieces) ∙ ap (λ (ps : List (Vec ℕ Global)). take i pieces ++ ps) (drop-cons pieces i d l))
     ∙ ap (λ (bs : List ℕ). bs ++ last) (flat_map-append (λ (piece : Vec ℕ Global). piece.items) (take i pieces) (get_or pieces i d ∷ drop (suc i) pieces))
     ∙ append_assoc (bytes_of (take i pieces)) ((get_or pieces i d).items ++ bytes_of (drop (suc i) pieces)) last
     ∙ ap (λ (bs : List ℕ). bytes_of (take i pieces) ++ bs) (append_assoc (get_or pieces i d).items (bytes_of (drop (suc i) pieces)) last)

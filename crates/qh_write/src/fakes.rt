@@ -7,13 +7,13 @@ use std::alloc::Global;
 /// When a [`FailSink`] fails.
 #[derive(Clone, Copy, Debug)]
 pub struct SinkPlan {
-    /// The most bytes that one write takes, at least 1.
+    /// The greatest number of bytes of one write, at least 1.
     pub greatest_piece: usize,
-    /// The bytes that it takes in all; the write after them fails.
+    /// The number of bytes that the sink takes in all; the write after them fails.
     pub room: usize,
-    /// The number, from 1, of the write that fails, or none.
+    /// The number, from 1, of a write that fails; `None` if no write fails by its number.
     pub failing_write: Option<u64>,
-    /// Whether the flush fails.
+    /// True if each flush fails.
     pub flush_fails: bool,
 }
 

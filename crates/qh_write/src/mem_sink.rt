@@ -4,7 +4,7 @@ ghost use Rattle.std.specs.Prelude.{◌≡◌, [], Some, true};
 use crate::sink::{Sink, SinkFault};
 use std::alloc::Global;
 
-/// A sink that keeps the bytes in memory. A growth of its own that is refused is a failure of that write.
+/// A sink that keeps the bytes in memory. If an allocation of its own fails, that write fails.
 #[derive(Debug, Drop)]
 pub struct MemSink {
     bytes: Vec<u8>,

@@ -14,7 +14,7 @@ pub trait Sink {
     // How many calls have failed.
     ghost count: { Self → ℕ };
 
-    // Whether the device holds nothing back.
+    // True if the device holds nothing back.
     ghost is_flushed: { Self → Bool };
 
     /// Takes a beginning of `bytes`, at least one byte, and answers how many it took; or fails, takes

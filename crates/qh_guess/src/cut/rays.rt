@@ -3,10 +3,10 @@ use crate::cut::facets::Facets;
 use qh_mesh::FacetNo;
 use qh_model::Point;
 
-/// The number of facets after which a walk is given up, and all facets are looked at.
+/// The number of facets after which a walk is given up, and all facets are tested instead.
 const STEP_LIMIT: usize = 4_096;
 
-/// All walks together look at no more facets than this for each place of the mesh: then none is begun any more.
+/// The greatest number of facets that all walks together test for each place of the mesh. After that no walk begins.
 const STEPS_FOR_EACH: usize = 64;
 
 /// Four times the way from the middle of four points to another point.

@@ -5,7 +5,7 @@ use qh_mesh::FacetNo;
 use qh_model::Point;
 use std::alloc::{AllocError, Global};
 
-/// How many are kept.
+/// The greatest number of facets that are kept.
 const KEPT: usize = 4;
 
 /// A facet with its plane.
@@ -36,8 +36,9 @@ impl Recent {
         Ok(())
     }
 
-    /// Moves the facet at a position one to the front, and answers its number.
-    fn raised(&mut self, position: usize) -> Option<FacetNo> {
+    /// Swaps the facet at a position with the one before it, and returns its number; `None` if the position is past
+    /// the end.
+    fn moved_up(&mut self, position: usize) -> Option<FacetNo> {
         let facet = self.seeing.get(position)?.facet;
         if position > 0 && position < self.seeing.len() {
             self.seeing.swap(position, position - 1);
@@ -45,15 +46,15 @@ impl Recent {
         Some(facet)
     }
 
-    /// Returns one that a point is above.
+    /// Returns a facet that a point is above.
     pub fn under(&mut self, point: Point) -> Option<FacetNo> {
         let position = self.seeing.iter().position(|s| s.sight.sees(point))?;
-        self.raised(position)
+        self.moved_up(position)
     }
 
-    /// Returns one that all points of a block are above.
+    /// Returns a facet that all points of a block are above.
     pub fn under_all(&mut self, block: &Block) -> Option<FacetNo> {
         let position = self.seeing.iter().position(|s| s.sight.sees_all(block))?;
-        self.raised(position)
+        self.moved_up(position)
     }
 }

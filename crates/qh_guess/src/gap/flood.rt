@@ -159,7 +159,7 @@ fn polygons_at(
 }
 
 /// Returns the polygons that close the gap between borders, by the hull of the ids of the seam: all corners beside
-/// the gap. They begin at their least ids, and mostly neighbours follow each other. None where the open edges lead to
+/// the gap. They begin at their least ids, and mostly neighbours follow each other. Returns `None` if the open edges lead to
 /// an edge that no polygon of that hull has. Where no border has a polygon, all polygons of that hull are taken.
 ///
 /// # Errors

@@ -26,7 +26,7 @@ pub record AreRepeats (pts : List Vector) (some : Ids) (ids : List ℕ) : Type 0
 abbrev pub AreAllRepeats : List Vector → List ℕ → Type 0
 AreAllRepeats pts ids = AreRepeats pts (WithHashes pts AllHashes) ids
 
--- so many marks, of which those of the ids are not set
+-- `count` marks, of which those of the ids alone are not set
 pub record MarksWithout (count : ℕ) (ids : List ℕ) (marks : List Bool) : Type 0 where
   pub len : length marks ≡ count
   pub has : (i : ℕ) → i < count → (In i ids → ⊥) → slice_index_or marks i false ≡ true

@@ -5,7 +5,7 @@ use Rattle.qh_model.specs.headline.Vector.{Vector}
 use Rattle.qh_plane.specs.declared.hashed_keys.TheConstants.{ID_ROOM, NO_HASH}
 use Rattle.qh_plane.specs.steps.HashedKeys.{Hashes, hash_at}
 
--- the slot of a hash in a table of so many
+-- the slot of a hash in a table of a number of slots
 abbrev pub slot_in : ℕ → ℕ → ℕ
 slot_in slots h = h * slots / NO_HASH
 
@@ -27,7 +27,7 @@ abbrev pub AreShared : List Vector → ℕ → List Bool → Type 0
 AreShared pts n marks = (i j : ℕ) → i < j → j < n → slot_in (length marks) (hash_at pts i) ≡ slot_in (length marks) (hash_at pts j)
     → MarkedHashes marks (hash_at pts i)
 
--- marks of so many slots: those of the first n points as taken, and those of two of them as shared
+-- marks of all slots: those of the first n points as taken, and those of two of them as shared
 pub record IsMarkedUpTo (pts : List Vector) (slots n : ℕ) (taken shared : List Bool) : Type 0 where
   pub taken_len : length taken ≡ slots
   pub shared_len : length shared ≡ slots

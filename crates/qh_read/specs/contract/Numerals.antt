@@ -13,7 +13,7 @@ small_number None = None
 small_number (Some (pos n)) = if nat_le n COORDINATE_LIMIT then Some n else None
 small_number (Some (negsuc n)) = None
 
--- a word as such a number, if it is one, and its line
+-- a word as a number from 0 to the limit, if it is one, and its line
 abbrev pub numeral_of : Word → Numeral
 numeral_of w = record { number = small_number (number_of w.text); line = w.line }
 

@@ -26,7 +26,7 @@ abbrev pub started : Form → Progress
 started Qhull = wants_first
 started Off = wants_keyword
 
--- the coordinates of so many points are to come
+-- the coordinates of this number of points are to come
 abbrev pub counted : (ℕ → List ℤ → Progress) → ℤ → Progress
 counted next (pos n) = if nat_le 1 n && nat_le n POINT_LIMIT then next (3 * n) [] else fails faults.Count
 counted next (negsuc n) = fails faults.Count

@@ -64,7 +64,7 @@ abbrev pub Takes : (ℕ → List ℤ → Progress) → Type 0
 Takes wanted = (left : ℕ) (t : List ℤ) (z : ℤ) (n : ℕ) → IsCoordinate z
     → after (wanted (suc left) t) false (Some z) n ≡ wanted left (t ++ z ∷ [])
 
--- between words the bytes tell these points, if as many are wanted, and then come this line and this rest
+-- between words the bytes tell these points, if all of them are wanted, and then come this line and this rest
 abbrev pub ArePoints : ℕ → List ℕ → List Vector → ℕ → List ℕ → Type 0
 ArePoints line bytes points later rest =
     (form : Form) (wanted : ℕ → List ℤ → Progress) → Takes wanted → (left : ℕ) (t : List ℤ) (base : ℕ)
@@ -80,7 +80,7 @@ pub record AwaitsPoint (b : Builder) (next : Stage) : Type 0 where
       → after (after (after (stage_shown b.stage t) false (Some x) i) false (Some y) j) false (Some z) k
       ≡ stage_shown next (t ++ x ∷ y ∷ z ∷ [])
 
--- a point begins, the coordinates of so many points are to come, and after them this stage
+-- a point begins, the coordinates of `count` points are to come, and after them this stage
 pub record AwaitsPoints (b : Builder) (count : ℕ) (next : Stage) : Type 0 where
   pub begins : b.pending ≡ pendings.Zero
   pub after_header : is_header next ≡ false

@@ -18,6 +18,6 @@ under_way (Digits minus n) = 1
 under_way (Keyword letters) = 1
 under_way Other = 1
 
--- whatever so many bytes are, and if the bytes then end, the points find room
+-- whatever the next bytes of this number are, and if the bytes then end, the points find room
 abbrev pub HasRoom : Scanner → Token → ℕ → Type 0
 HasRoom s t bytes = 2 * taken_count s.builder + under_way t + bytes ≤ 6 * vec_capacity s.builder.points + 4

@@ -15,7 +15,7 @@ pub record IsSegment (s : Segment) (text : List ℕ) : Type 0 where
   pub lines : s.head + s.lines ≤ s.taken
   pub within : s.taken ≤ length text
 
--- how many bytes each of so many segments has, the last ones less
+-- the number of bytes of each segment when bytes are cut into segments; the last ones may have fewer
 abbrev pub segment_size : ℕ → ℕ → ℕ
 segment_size bytes segments = bytes / segments + 1
 
@@ -36,7 +36,7 @@ batch_text b = take b.count b.bytes.items
 abbrev pub IsGoneOver : Batch → Type 0
 IsGoneOver b = AreSegments b.segments.items (batch_text b)
 
--- the reader was fed the batch, which then took the next bytes of a source, where so many had come between
+-- the reader was fed the batch, which then took the next bytes of a source; `ahead` bytes had come between
 pub record FedAndFilled (before after : Reading) (old new : Batch) (to_come left : Option (List ℕ)) (ahead : ℕ) : Type 0 where
   pub fed : (form : Form) (bytes : List ℕ) → Fed form before bytes → Fed form after (bytes ++ batch_text old)
   pub count : after.count ≡ before.count + length (batch_text old)

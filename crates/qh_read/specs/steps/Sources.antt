@@ -17,7 +17,7 @@ pub record FedOn (before after : Reading) (old new : Option (List ℕ)) : Type 0
   pub fed : (form : Form) (bytes : List ℕ) → Fed form before bytes → Fed form after (bytes ++ given)
   pub count : after.count ≡ before.count + length given
 
--- why reading stops, where so many bytes had come before: the limit, memory or the device, and no fault of the text
+-- why reading stops after `before` bytes: the limit, memory or the device, and no fault of the text
 pub record Stops (e : ReadFault) (before : ℕ) (old new : Option (List ℕ)) (failures failures_after : ℕ) : Type 0 where
   pub big : e ≡ faults.Big
       → Gives old new (λ bytes. (BYTE_LIMIT < before + length bytes) × (before + length bytes ≤ BYTE_LIMIT + PIECE_LENGTH))

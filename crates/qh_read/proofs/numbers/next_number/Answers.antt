@@ -4,6 +4,7 @@ use Rattle.qh_read.specs.contract.Holding.{held_by}
 use Rattle.qh_read.specs.contract.Progress.{after}
 use Rattle.qh_read.specs.steps.Numbers.{quiet}
 use Rattle.qh_read.specs.declared.token.Token.TheVariants.{Empty}
+use Rattle.qh_read.specs.steps.Signs.{is_minus}
 use Rattle.qh_read.proofs.NumberLaws.{end-end}
 use Rattle.qh_read.proofs.numbers.next_number.Goals as goal
 
@@ -14,14 +15,14 @@ returns c =
     record {
       held = λ form p base. (
         base + line,
-        c.after_blanks-line.ensures.held form p base ∙ c.in_ok-minus.ensures.held form p (base + line)
-            ∙ c.few_digits-magnitude.ensures.held form p (base + line) c.in_ok-minus.minus
-            ∙ c.in_ok-line.ensures.held form p base c.in_ok-minus.minus c.few_digits-magnitude.result.0
+        c.after_blanks-line.ensures.held form p base ∙ c.in_ok-sign.ensures.held form p (base + line)
+            ∙ c.few_digits-magnitude.ensures.held form p (base + line) (is_minus c.in_ok-sign.sign)
+            ∙ c.in_ok-line.ensures.held form p base (is_minus c.in_ok-sign.sign) c.few_digits-magnitude.result.0
             ∙ ap (λ (z : ℤ). held_by (quiet form (after p false (Some z) (base + line)) (base + c.in_ok-line.line) Empty) c.in_ok-line.rest.now)
             (sym c.signed_coordinate-coordinate.ensures),
       );
       end = end-end _ _ _ (end-end _ _ _ c.in_ok-line.ensures.end c.few_digits-magnitude.ensures.end)
-          (end-end _ _ _ c.in_ok-minus.ensures.end c.after_blanks-line.ensures.end);
-      left = omega (arith, c.in_ok-minus.ensures, c.in_ok-line.ensures);
-      lines = omega (arith, c.in_ok-minus.ensures, c.in_ok-line.ensures);
+          (end-end _ _ _ c.in_ok-sign.ensures.end c.after_blanks-line.ensures.end);
+      left = omega (arith, c.in_ok-sign.ensures, c.in_ok-line.ensures);
+      lines = omega (arith, c.in_ok-sign.ensures, c.in_ok-line.ensures);
     }

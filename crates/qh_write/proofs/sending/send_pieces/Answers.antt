@@ -1,5 +1,6 @@
 -- Where a sink fails, a beginning of the pieces went out.
-use Rattle.std.proofs.Common.{◌≡◌, ◌∙◌, ◌<◌, ◌≤◌, ◌++◌, [], suc, List, length, take, drop, get_or, Vec, Global, Result, Ok, Err, ap, ap₂, sym, subst, append-nil, take_all}
+use Rattle.std.proofs.Common.{◌≡◌, ◌∙◌, ◌<◌, ◌≤◌, ◌++◌, [], suc, List, length, take, drop, get_or, Vec, Global, Result, Ok, Err}
+use Rattle.std.proofs.Common.{ap, ap₂, sym, subst, append-nil, take_all}
 use Rattle.std.proofs.KnownBytes.{Appends-trans}
 use Rattle.std.proofs.lemmas.Result.{err_from_is_err_and}
 use Rattle.std.specs.Prelude.{ℕ, OnErr}

@@ -1,0 +1,9 @@
+-- The sign of a number that is taken at once.
+use Rattle.std.specs.Prelude.{Bool, true, false}
+use Rattle.qh_read.specs.declared.numbers.Sign.{Sign}
+use Rattle.qh_read.specs.declared.numbers.Sign.TheVariants.{Plus, Minus}
+
+-- the sign is a minus
+abbrev pub is_minus : Sign → Bool
+is_minus Plus = false
+is_minus Minus = true
