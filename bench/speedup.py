@@ -19,19 +19,25 @@ import compare
 
 FAMILIES = "cube,ball,cube-surface,grid,flat,line,sphere,paraboloid"
 QHULL = {"s": "s", "off": "o"}
-CPU_LIMIT = 1.35
 ONE_WORKER_LIMIT = 1.05
+# Families of which several workers take the hull by parts, which takes more work.
+BY_PARTS = ("sphere", "paraboloid")
+
+
+def wanted_cpu(family):
+    """The share of one worker's CPU time that four workers may take."""
+    return 1.6 if family in BY_PARTS else 1.35
 
 
 def wanted(family, count, outs):
     """The share of one worker's wall time that four workers may take."""
+    if family in BY_PARTS:
+        return 0.75 if count < 1000000 else 0.5 if outs == "off" else 0.55
     if count < 1000000:
         return 0.75 if family in ("cube", "ball") and outs == "off" else 1.0
     if family in ("cube", "ball", "cube-surface", "flat"):
         return 0.5
-    if family in ("grid", "line"):
-        return 0.65
-    return 0.8 if outs == "off" else 1.0
+    return 0.65
 
 
 def row(given, outs, path):
@@ -54,8 +60,8 @@ def faults(given, family, count, outs, times):
     limit = wanted(family, count, outs)
     if most > limit * one:
         yield "wall %.2f of one worker's, wanted %.2f" % (most / one, limit)
-    if count >= 1000000 and most_cpu > CPU_LIMIT * one_cpu:
-        yield "CPU %.2f of one worker's, wanted %.2f" % (most_cpu / one_cpu, CPU_LIMIT)
+    if count >= 1000000 and most_cpu > wanted_cpu(family) * one_cpu:
+        yield "CPU %.2f of one worker's, wanted %.2f" % (most_cpu / one_cpu, wanted_cpu(family))
     if given.other and one > ONE_WORKER_LIMIT * times[number][0]:
         yield "one worker takes %.2f of the older build's wall time" % (one / times[number][0])
 
