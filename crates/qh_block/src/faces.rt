@@ -175,7 +175,7 @@ pub(crate) fn faces(
 }
 
 /// Returns the faces of a finished mesh in the planes of chosen facets, one for each plane that has a chosen one, in
-/// no order. `chosen` tells for each place of the mesh whether its facet is chosen. The facets of one plane may be
+/// no order. `chosen` has for each place of the mesh whether its facet is chosen. The facets of one plane may be
 /// chosen or not, each for itself.
 ///
 /// # Errors

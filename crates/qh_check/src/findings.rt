@@ -13,7 +13,7 @@ use qh_threads::map_chunks;
 use std::alloc::Global;
 use std::thread::Threads;
 
-/// The polygons whose planes are asked together.
+/// The number of polygons whose planes are tested together.
 const GROUP: usize = 16;
 
 /// A polygon that is no face, by its position, and its fault.

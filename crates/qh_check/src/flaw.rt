@@ -1,9 +1,9 @@
-//! What a check tells of a surface.
+//! The verdict on a surface.
 use crate::verdict::FaceFault;
 use qh_model::Id;
 use std::fmt;
 
-/// What a check of a surface of pieces tells.
+/// The verdict on a surface of pieces.
 #[derive(Clone, Copy, Debug, PartialEq, Eq)]
 pub enum SurfaceVerdict {
     /// It is the surface of the hull.

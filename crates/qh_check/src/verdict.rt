@@ -1,7 +1,7 @@
-//! What a check tells of polygons.
+//! The verdict on polygons.
 use qh_model::Id;
 
-/// What is wrong with one polygon, as the plane through its first three corners tells it.
+/// What is wrong with one polygon, by the plane through its first three corners.
 #[derive(Clone, Copy, Debug, PartialEq, Eq)]
 pub enum FaceFault {
     /// There is no such plane: the polygon has fewer than three corners, one of the first three is no id of

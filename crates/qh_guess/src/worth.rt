@@ -6,7 +6,7 @@ use qh_seam::{Divided, Part};
 /// The greatest number of corners of all parts whose hull is made so quickly that joining at seams does not pay.
 const FEW_CORNERS: usize = 40_000;
 
-/// The number of facets of each part that are asked, spread over all.
+/// The number of facets of each part that are tested, spread over all.
 const ASKED: usize = 64;
 
 /// The number of facets that were tested, and of those among them that are removed.
@@ -17,7 +17,7 @@ struct Tally {
 }
 
 impl Tally {
-    /// Returns the tally with the facets of a part that are asked.
+    /// Returns the tally after a test of some facets of a part.
     fn with(self, part: &Part, others: Others) -> Tally {
         let facets = Facets::of(&part.surface);
         let step = facets.places() / ASKED + 1;

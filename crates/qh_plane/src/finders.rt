@@ -17,10 +17,6 @@ use std::thread::Threads;
 /// Two threads sort 32,768 points in no less time than one does.
 const POINTS_FOR_EACH: usize = 32_768;
 
-/// The most threads that share the slots of a box or a line. Each goes over all points, so that more of them save
-/// little time.
-const SLOT_THREADS: usize = 3;
-
 /// A way to find the points that stand in a list before.
 pub trait Finder {
     /// What is known of one that finds them.
@@ -91,7 +87,7 @@ impl<R: Threads + Sync> Finder for InThreads<'_, R> {
     ghost ready = { λ _. IsSync R.row };
 
     fn distinct_in_box(&self, alloc: Global, pts: &[Point]) -> Result<Option<Vec<Id>>, AllocError> {
-        let count = self.for_points(pts).min(SLOT_THREADS);
+        let count = self.for_points(pts);
         if count < 2 {
             return distinct_in_box(alloc, pts);
         }

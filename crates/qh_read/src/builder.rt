@@ -9,7 +9,7 @@ use crate::token::Token;
 use qh_model::{COORDINATE_LIMIT, Form, POINT_LIMIT, Point, ReadFault};
 use std::alloc::{AllocError, Global};
 
-/// What the next word has to be.
+/// What the next word is expected to be.
 #[derive(Clone, Copy, Debug, PartialEq, Eq)]
 pub enum Stage {
     /// The first number of the header.
@@ -135,7 +135,7 @@ impl Builder {
         self.points.reserve(points)
     }
 
-    /// Takes one coordinate more. Where it completes a point, there is room for it.
+    /// Takes one more coordinate. If it completes a point, there is room for that.
     fn push(&mut self, coordinate: Coordinate)
         requires room { taken_count self.old < 3 * vec_capacity self.old.points + 2 }
         requires after_header { is_header self.old.stage ≡ false }
@@ -174,7 +174,7 @@ impl Builder {
         }
     }
 
-    /// Returns the stage after one point more, where a point begins and all its coordinates are to
+    /// Returns the stage after one more point, if a point begins here and all its coordinates are to
     /// come.
     #[inline]
     pub fn after_point(&self) -> Option<Stage>
@@ -220,7 +220,7 @@ impl Builder {
         }
     }
 
-    /// Appends these points, for which there is room, and goes to the next stage.
+    /// Appends these points, for which there is room, and enters the next stage.
     pub fn append(&mut self, next: Stage, points: &[Point])
         requires room { vec_len self.old.points + length points.now ≤ vec_capacity self.old.points }
         requires awaits { AwaitsPoints self.old (length points.now) next }
@@ -233,9 +233,9 @@ impl Builder {
         self.stage = next;
     }
 
-    /// Takes the next word, by what is known of it and its line.
+    /// Takes the next word, by its token and its line.
     ///
-    /// Where it completes a point, there is room for it.
+    /// If it completes a point, there is room for that.
     pub fn take(&mut self, token: Token, line: u32)
         requires small { IsSmall token }
         requires room { taken_count self.old < 3 * vec_capacity self.old.points + 2 }

@@ -7,7 +7,7 @@ use crate::source::{DeviceFault, Source};
 #[derive(Drop)]
 pub struct FailSource<'a> {
     rest: &'a [u8],
-    /// No read gives more bytes than this.
+    /// The greatest number of bytes that a read gives.
     pub greatest_piece: usize,
     /// The number of the read that fails, of those still to come, from 1.
     pub fails_at: Option<u64>,
@@ -34,7 +34,7 @@ impl<'a> FailSource<'a> {
         }
     }
 
-    /// Counts one read more, and answers whether it fails.
+    /// Counts one more read. Returns true if it fails.
     fn is_failing(&mut self) -> bool
         ensures failing { IsTrue result ↔ (self.old.fails_at ≡ Some 1) }
         ensures rest { self.new.rest ≡ self.old.rest }
@@ -76,7 +76,7 @@ impl<'a> Source for FailSource<'a> {
     }
 }
 
-/// Bytes 32 without end. It tells no bytes and never fails.
+/// Bytes 32 without end. Its bytes are not known to a contract, and it never fails.
 #[derive(Clone, Copy, Debug)]
 pub struct Spaces;
 

@@ -1,7 +1,7 @@
-//! Whole numbers at once, where no word is under way.
+//! Numbers that are parsed at once, where no word is under way.
 //!
-//! Most bytes of a point file go this way: whatever is no plain number between blanks is left to the
-//! scanner's step from byte to byte.
+//! This is the fast path of most bytes of a point file. Anything but a plain number between blanks is left to the
+//! scanner, which goes byte by byte.
 ghost use Rattle.std.specs.Prelude.{◌≡◌, ◌≤◌, ◌<◌, ◌+◌, ◌^◌, length, IfSome};
 ghost use Rattle.qh_read.specs.contract.Tokens.{signed};
 ghost use Rattle.qh_read.specs.steps.Signs.{is_minus};
@@ -29,7 +29,7 @@ pub struct Number<'a> {
     pub rest: &'a [u8],
 }
 
-/// Skips what parts words. It answers the line after it, and the bytes that are left.
+/// Skips separators. Returns the line after them, and the bytes that are left.
 #[inline(always)]
 pub fn after_blanks(line: u32, bytes: &[u8]) -> (u32, &[u8])
     requires { line + length bytes.now < 2 ^ 31 }
@@ -75,9 +75,9 @@ fn first_digit(bytes: &[u8]) -> Option<(Sign, u32, &[u8])>
     Some((sign, (*digit - b'0') as u32, rest))
 }
 
-/// Takes up to eight digits after this one. It answers their magnitude, and the bytes that are left.
+/// Takes up to eight digits after this one. Returns their magnitude, and the bytes that are left.
 ///
-/// The bound makes it straight code, and keeps the magnitude in the range of coordinates.
+/// With eight digits at most the code has no loop, and the magnitude stays in the range of coordinates.
 #[inline(always)]
 fn few_digits(first: u32, bytes: &[u8]) -> (u32, &[u8])
     requires small { first ≤ 9 }
@@ -112,8 +112,8 @@ fn signed_coordinate(sign: Sign, magnitude: u32) -> Coordinate
     }
 }
 
-/// Takes the byte that ends a number, if there is one and it parts words. It answers the line after
-/// it, and the bytes that are left.
+/// Takes the separator that ends a number, if one comes next. Returns the line after it, and the bytes that are
+/// left.
 #[inline(always)]
 fn after_end(line: u32, bytes: &[u8]) -> Option<(u32, &[u8])>
     requires { line + length bytes.now < 2 ^ 31 }

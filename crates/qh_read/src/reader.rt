@@ -18,9 +18,9 @@ use std::marker::Model;
 
 /// Reads a point file, or an OFF file, that comes in pieces, cut anywhere.
 ///
-/// It keeps the points so far and no bytes: of the word under way only what tells its number. It
-/// goes on after a fault of the text, which `finish` answers. A contract sees what it holds and of
-/// how many bytes, and speaks of the bytes fed by `Fed`.
+/// It keeps the points so far, and of the word under way only its value so far: no bytes. After a fault of the
+/// text it takes the bytes that follow, and `finish` returns the fault. A contract sees the state and the number of
+/// bytes, and speaks of the bytes fed by `Fed`.
 #[derive(Drop)]
 pub struct Reader {
     scanner: Scanner,
@@ -41,7 +41,7 @@ impl Model for Reader {
 }
 
 impl Reader {
-    /// Creates a reader of a point file that was fed nothing. It takes no memory yet, and grows by
+    /// Creates a reader of a point file, before its first byte. It allocates nothing yet, and grows by
     /// `alloc`.
     pub fn new(alloc: Global) -> Reader
         ensures { Fed forms.Qhull result [] }
@@ -49,7 +49,7 @@ impl Reader {
         Reader::of_form(alloc, Form::Qhull)
     }
 
-    /// Creates a reader of an OFF file that was fed nothing. It takes no memory yet, and grows by
+    /// Creates a reader of an OFF file, before its first byte. It allocates nothing yet, and grows by
     /// `alloc`.
     pub fn new_off(alloc: Global) -> Reader
         ensures { Fed forms.Off result [] }
@@ -78,9 +78,10 @@ impl Reader {
 
     /// Takes the next bytes of the file.
     ///
-    /// `Big` is answered just where more than `BYTE_LIMIT` bytes would have come, before any
-    /// growth, and `Memory` where room for the points was refused. All growths come before the
-    /// first change, so a refusal leaves the reader as it was.
+    /// # Errors
+    ///
+    /// `Big` exactly where more than `BYTE_LIMIT` bytes would have been fed, before any growth; `Memory` where an
+    /// allocation failed. All growths come before the first change, so either leaves the reader as it was.
     pub fn feed(&mut self, piece: &[u8]) -> Result<(), FeedFault>
         ensures fed { OnOk result
             ((form : Form) (before : List ℕ)
@@ -93,7 +94,7 @@ impl Reader {
         self.feed_known(&KnownPoints::none(piece))
     }
 
-    /// Takes the next bytes of the file, whose first points may be parsed already. The answers are those of `feed`.
+    /// Takes the next bytes of the file, whose first points may be parsed already. The errors are those of `feed`.
     fn feed_known(&mut self, known: &KnownPoints<'_>) -> Result<(), FeedFault>
         ensures fed { OnOk result
             ((form : Form) (before : List ℕ)
@@ -140,7 +141,7 @@ impl Reader {
     /// Returns the points of the bytes fed, or their first fault, from `NoHeader` to `Short` or
     /// `NotOff`.
     ///
-    /// It takes no memory.
+    /// It allocates nothing.
     pub fn finish(self) -> Result<Vec<Point>, ReadFault>
         ensures read { IfOk result
             (λ points. (form : Form) (bytes : List ℕ)

@@ -13,15 +13,15 @@ use crate::token::{Token, begins_data, blank, with_digit};
 use qh_model::Form;
 use std::alloc::{AllocError, Global};
 
-/// What is known of the bytes so far, save of the word under way, whose token goes beside it.
+/// The state after the bytes so far, except for the word under way, whose token is kept beside it.
 #[derive(Drop)]
 pub struct Scanner {
     pub builder: Builder,
-    /// How the bytes tell points.
+    /// Makes points of the words.
     pub form: Form,
-    /// A comment runs, to the end of the line.
+    /// True inside a comment, which ends with the line.
     pub comment: bool,
-    /// The line, from 1.
+    /// The number of the line, from 1.
     pub line: u32,
 }
 
@@ -66,8 +66,8 @@ impl Scanner {
         }
     }
 
-    /// Takes a byte that is no digit and parts no words, where no comment runs. It answers the word
-    /// under way after it.
+    /// Takes a byte outside comments that is neither a digit nor a separator. Returns the word under way
+    /// after it.
     #[inline]
     fn mark(&mut self, token: Token, byte: u8) -> Token
         requires small { IsSmall token }
@@ -100,7 +100,7 @@ impl Scanner {
         }
     }
 
-    /// Takes one byte. It answers the word under way after it.
+    /// Takes one byte. Returns the word under way after it.
     #[inline]
     fn step(&mut self, token: Token, byte: u8) -> Token
         requires small { IsSmall token }
@@ -128,8 +128,8 @@ impl Scanner {
         }
     }
 
-    /// Takes the digits that the bytes begin with, where digits are under way. It answers the word
-    /// under way after them, and the bytes that are left.
+    /// Takes the digits that the bytes begin with, while a number is under way. Returns the word under way
+    /// after them, and the bytes that are left.
     #[inline]
     fn digits<'a>(&self, token: Token, bytes: &'a [u8]) -> (Token, &'a [u8])
         requires { IsSmall token }
@@ -154,8 +154,8 @@ impl Scanner {
         (Token::Digits(minus, magnitude), &[])
     }
 
-    /// Takes the points that the bytes begin with, where no word is under way, no comment runs and
-    /// coordinates are to come, and what parts words behind them. It answers the bytes that are left.
+    /// Takes the points that the bytes begin with, and the separators behind them. No word and no comment is
+    /// under way, and coordinates are expected. Returns the bytes that are left.
     #[inline]
     fn points<'a>(&mut self, token: Token, bytes: &'a [u8]) -> &'a [u8]
         requires room { HasRoom self.old token (length bytes.now) }
@@ -185,8 +185,8 @@ impl Scanner {
         rest
     }
 
-    /// Takes the points of a piece if no word is under way, no comment runs and the builder awaits all of them.
-    /// Returns the bytes that are left: the whole piece if no point was taken.
+    /// Takes the points of a piece if neither a word nor a comment is under way and the builder expects all of
+    /// them. Returns the bytes that are left: the whole piece if no point was taken.
     pub fn take_known<'a>(&mut self, token: Token, known: &KnownPoints<'a>) -> &'a [u8]
         requires room { HasRoom self.old token (length known.now.piece.now) }
         requires line { self.old.line + length known.now.piece.now < 2 ^ 31 }
@@ -207,7 +207,7 @@ impl Scanner {
         known.rest
     }
 
-    /// Takes the next bytes. It answers the word under way after them.
+    /// Takes the next bytes. Returns the word under way after them.
     pub fn scan(&mut self, token: Token, piece: &[u8]) -> Token
         requires small { IsSmall token }
         requires room { HasRoom self.old token (length piece.now) }

@@ -9,18 +9,18 @@ use std::marker::Model;
 #[derive(Clone, Copy, Debug, PartialEq, Eq)]
 pub struct DeviceFault;
 
-/// What gives bytes, in pieces of its own choice, and counts its failures.
+/// A source of bytes, which come in pieces of any length. It counts its failures.
 pub trait Source {
-    /// The bytes still to come, where the source tells them.
+    /// The bytes that are still to be read, for a source whose bytes are known.
     ghost remaining: { Self → Option (List ℕ) };
 
     /// The number of reads that failed so far.
     ghost failure_count: { Self → ℕ };
 
-    /// Puts the next bytes to come into the beginning of `buf`, and answers how many.
+    /// Reads the next bytes into the beginning of `buf`, and returns their number.
     ///
-    /// It answers 0 for a buffer that is not empty only at the end. A read that fails takes no
-    /// byte and adds one to the count of failures, which has room for it.
+    /// For a buffer that is not empty, 0 means the end. A read that fails takes no byte and adds one to the
+    /// count of failures, which has room for it.
     fn read(&mut self, buf: &mut [u8]) -> Result<usize, DeviceFault>
         requires { failure_count self.old < 2 ^ 64 - 1 }
         ensures bound { IfOk result (λ n. n ≤ length buf.new) }
@@ -74,9 +74,9 @@ impl<'a> Source for MemSource<'a> {
     }
 }
 
-/// The bytes of a reader of the standard library. It tells them where that reader does.
+/// The bytes of a reader of the standard library. They are known if that reader's bytes are.
 ///
-/// Each error of the reader is a failure, an interrupted read too.
+/// Each error of the reader counts as a failure, also an interrupted read.
 #[derive(Drop)]
 pub struct StdSource<R> {
     reader: R,

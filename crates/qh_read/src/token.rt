@@ -1,4 +1,4 @@
-//! The word under way, of which only what tells its number is kept.
+//! The word under way, of which only its value so far is kept.
 ghost use Rattle.std.specs.Prelude.{◌≡◌, ◌≤◌, ◌<◌, ◌+◌, ◌*◌, ◌↔◌, [], ◌∷◌, true, false, IsTrue};
 ghost use Rattle.std.specs.Char.{is_ascii_digit};
 ghost use Rattle.qh_read.specs.contract.Tokens.{cap, grown, value_of, is_keyword};
@@ -7,10 +7,10 @@ ghost use Rattle.qh_model.specs.headline.Words.{is_blank, is_data};
 
 use qh_model::COORDINATE_LIMIT;
 
-/// Magnitudes from here on are not told apart: each is past the range of every number of a file.
+/// The cap of magnitudes. All from here on count as this one: each is past the range of every number of a file.
 pub const MAGNITUDE_CAP: u32 = COORDINATE_LIMIT + 1;
 
-/// What is known of the word under way.
+/// The state of the word under way.
 #[derive(Clone, Copy, Debug)]
 pub enum Token {
     /// No byte of it yet.
@@ -25,7 +25,7 @@ pub enum Token {
     Other,
 }
 
-/// Returns true if the byte parts words within a line.
+/// Returns true if the byte separates words within a line.
 pub fn blank(byte: u8) -> bool
     ensures { result ≡ is_blank byte }
 {

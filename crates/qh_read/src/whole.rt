@@ -12,13 +12,15 @@ use crate::source::Source;
 use qh_model::{BYTE_LIMIT, Form, Point, ReadFault};
 use std::alloc::{AllocError, Global};
 
-/// How many bytes are taken at once, so that the room made for them stays small.
+/// The number of bytes that are taken at once, so that the room made for their points stays small.
 pub const PIECE_LENGTH: usize = 65536;
 
 /// Returns the points of a file of this form, in its order, or its first fault.
 ///
-/// `Big` goes before all other faults, and is found before any growth. `Memory` is answered where
-/// room for the points was refused; `Device` never.
+/// # Errors
+///
+/// `Big` comes before all other faults, and is found before any growth; `Memory` where an allocation failed; never
+/// `Device`.
 pub fn read_form(alloc: Global, form: Form, bytes: &[u8]) -> Result<Vec<Point>, ReadFault>
     ensures read { IfOk result (λ points. ReadsIn form bytes.now points.items) }
     ensures fault { IfErr result (λ e. IsFaultOf form bytes.now e) }
@@ -35,7 +37,7 @@ pub fn read_form(alloc: Global, form: Form, bytes: &[u8]) -> Result<Vec<Point>, 
     reader.finish()
 }
 
-/// Returns the points of a point file, in its order, or its first fault, with the answers of
+/// Returns the points of a point file, in its order, or its first fault, with the errors of
 /// [`read_form`].
 pub fn read_points(alloc: Global, bytes: &[u8]) -> Result<Vec<Point>, ReadFault>
     ensures read { IfOk result (λ points. ReadsIn forms.Qhull bytes.now points.items) }
@@ -47,7 +49,7 @@ pub fn read_points(alloc: Global, bytes: &[u8]) -> Result<Vec<Point>, ReadFault>
 }
 
 /// Returns the points that are the vertices of an OFF file, in its order, or its first fault, with the
-/// answers of [`read_form`].
+/// errors of [`read_form`].
 pub fn read_off(alloc: Global, bytes: &[u8]) -> Result<Vec<Point>, ReadFault>
     ensures read { IfOk result (λ points. ReadsIn forms.Off bytes.now points.items) }
     ensures fault { IfErr result (λ e. IsFaultOf forms.Off bytes.now e) }
@@ -97,10 +99,14 @@ pub(crate) fn feed_from<S: Source>(
 /// Returns the points of the file of this form that a source gives, in its order, or its first
 /// fault.
 ///
-/// Points and faults of the text are answered only once the end was read, of all bytes that came.
-/// `Device` is answered where a read failed, and no call follows that read; `Big` where more than
-/// `BYTE_LIMIT` bytes came, of which at most `PIECE_LENGTH` are too many; `Memory` where memory was
-/// refused before more came than that. The source's count of failures has room for one more.
+/// Points and faults of the text are returned only after the end was read, and are those of all bytes. The source's
+/// count of failures has room for one more.
+///
+/// # Errors
+///
+/// `Device` where a read failed, after which the source is not called again; `Big` where more than `BYTE_LIMIT`
+/// bytes came, of which at most `PIECE_LENGTH` are too many; `Memory` where an allocation failed before more came
+/// than that; and the faults of the text.
 pub fn read_form_from<S: Source>(
     alloc: Global,
     form: Form,
@@ -131,7 +137,7 @@ pub fn read_form_from<S: Source>(
 }
 
 /// Returns the points of the point file that a source gives, in its order, or its first fault, with the
-/// answers of [`read_form_from`].
+/// errors of [`read_form_from`].
 pub fn read_from<S: Source>(alloc: Global, source: &mut S) -> Result<Vec<Point>, ReadFault>
     requires { S.failure_count source.old < 2 ^ 64 - 1 }
     ensures read { IfOk result (λ points.
@@ -156,7 +162,7 @@ pub fn read_from<S: Source>(alloc: Global, source: &mut S) -> Result<Vec<Point>,
 }
 
 /// Returns the points that are the vertices of the OFF file that a source gives, in its order, or its
-/// first fault, with the answers of [`read_form_from`].
+/// first fault, with the errors of [`read_form_from`].
 pub fn read_off_from<S: Source>(alloc: Global, source: &mut S) -> Result<Vec<Point>, ReadFault>
     requires { S.failure_count source.old < 2 ^ 64 - 1 }
     ensures read { IfOk result (λ points.

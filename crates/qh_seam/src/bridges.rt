@@ -26,7 +26,7 @@ use qh_threads::map_chunks;
 use std::alloc::{AllocError, Global};
 use std::thread::Threads;
 
-/// The polygons whose planes are asked together.
+/// The number of polygons whose planes are tested together.
 const GROUP: usize = 4;
 
 /// The first three corners of a polygon.

@@ -20,7 +20,7 @@ use qh_places::Places;
 use qh_pred::Plane;
 use std::alloc::{AllocError, Global};
 
-/// The facets of the ring whose planes are asked together.
+/// The number of facets of the ring whose planes are tested together.
 const GROUP: usize = 4;
 
 /// The room of a facet in a key: 2^64.
@@ -44,7 +44,7 @@ fn facets_of(alloc: Global, keys: Vec<u128>) -> Result<Vec<FacetNo>, AllocError>
 }
 
 impl Marked<'_> {
-    /// Returns true if the neighbour over a side of a live facet goes.
+    /// Returns true if the neighbour over a side of a live facet is removed.
     fn goes_over(self, f: FacetNo, side: usize) -> bool
         requires live { IsLive self.surface.now.mesh f }
         requires side { side < 3 }
@@ -55,7 +55,7 @@ impl Marked<'_> {
         !self.stay[next.index()]
     }
 
-    /// Returns true if a live facet stays beside one that goes.
+    /// Returns true if a live facet stays beside one that is removed.
     fn is_ring(self, f: FacetNo) -> bool
         requires { IsLive self.surface.now.mesh f }
         ensures { IsRing (surface_of self.entry.surface.now.mesh) (mark_at self.entry.stay.now) f → IsTrue result }

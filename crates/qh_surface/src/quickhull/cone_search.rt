@@ -18,7 +18,7 @@ use qh_mesh::FacetNo;
 use qh_model::Point;
 use qh_pred::Plane;
 
-/// What a search through a ring tells of a point.
+/// The result of a search through a ring for a point.
 #[derive(Clone, Copy, Drop)]
 pub enum Visibility {
     /// This facet sees it.
@@ -71,7 +71,7 @@ impl ConeRing {
         low
     }
 
-    /// Returns what a search tells of a point.
+    /// Returns the result of a search for a point.
     pub fn visibility(&self, point: Point) -> Visibility
         requires { AreTriangles self.now.apex self.now.wedges.items }
         ensures { IsAnswer self.now.apex self.now.wedges.items point result }
