@@ -58,7 +58,7 @@ def faults(given, family, count, outs, times):
     number = len(given.workers.split(","))
     (one, one_cpu), (most, most_cpu) = times[0], times[number - 1]
     limit = wanted(family, count, outs)
-    if most > limit * one:
+    if most > limit * one + compare.RESOLUTION:
         yield "wall %.2f of one worker's, wanted %.2f" % (most / one, limit)
     if count >= 1000000 and most_cpu > wanted_cpu(family) * one_cpu:
         yield "CPU %.2f of one worker's, wanted %.2f" % (most_cpu / one_cpu, wanted_cpu(family))
