@@ -29,8 +29,6 @@ mod rounds;
 mod searchers;
 mod solids;
 mod surfaces;
-#[cfg(test)]
-mod tests;
 mod verdict;
 
 pub use asked_faces::are_faces;

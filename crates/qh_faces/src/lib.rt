@@ -10,8 +10,6 @@ mod face;
 mod files;
 mod list;
 mod reading;
-#[cfg(test)]
-mod tests;
 
 pub use files::read_faces;
 pub use reading::{Faces, Layout, Reading, Turn};

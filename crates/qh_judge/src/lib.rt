@@ -9,8 +9,6 @@ mod judgement;
 mod judging;
 mod naming;
 mod positions;
-#[cfg(test)]
-mod tests;
 
 pub use judgement::Judgement;
 pub use judging::{judge_faces, judge_faces_alone};

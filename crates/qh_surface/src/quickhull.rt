@@ -23,8 +23,6 @@ mod planes;
 mod run;
 mod settling;
 mod surfaces;
-#[cfg(test)]
-mod tests;
 mod turns;
 mod waiting_facets;
 mod walk;

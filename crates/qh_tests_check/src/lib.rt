@@ -1,6 +1,6 @@
-//! Tests of the public calls of qh_check on claims of faces: what is told of a cube and a square.
+//! Tests of the public calls of qh_check and qh_judge: what is told of faces and of surfaces in pieces.
 //!
-//! They stand apart so that the proofs of the library are checked without them: where a crate has tests of its
+//! They stand apart so that the proofs of the libraries are checked without them: where a crate has tests of its
 //! own, all of it is proved once more with them.
 #![tactic(auto)]
 

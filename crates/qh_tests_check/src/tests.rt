@@ -1,4 +1,7 @@
 //! Worked rows: a cube and a square, with what is wrong with claims of their faces.
+mod judgements;
+mod surfaces;
+
 use qh_check::{FaceFault, Verdict, check, check_by_workers};
 use qh_fixtures::faces::{CUBE_FACES, polygons_of};
 use qh_fixtures::ids::ids_of;

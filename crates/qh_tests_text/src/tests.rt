@@ -1,4 +1,5 @@
 //! The tests of each library.
 
+mod faces;
 mod read;
 mod write;

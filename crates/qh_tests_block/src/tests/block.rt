@@ -15,6 +15,7 @@ use std::thread::Threads;
 
 mod face_order;
 mod looks;
+mod prisms;
 mod refusals;
 mod solid_rows;
 mod surfaces;

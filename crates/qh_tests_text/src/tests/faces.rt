@@ -1,5 +1,5 @@
 //! Worked rows: texts, and the faces that they have.
-use crate::{Layout, Reading, Turn, read_faces};
+use qh_faces::{Layout, Reading, Turn, read_faces};
 use qh_model::{Polygon, ReadFault};
 use std::alloc::Global;
 use std::test::Fail;
