@@ -1,13 +1,10 @@
 -- Signs of products. In a signature brackets are needed: `≤ℤ` binds tighter than `+ℤ` and `*ℤ`.
 use Rattle.std.proofs.Common.{◌≡◌, ℕ, zero, suc, ◌*◌, ◌≤◌, arith, ap, sym, ◌∙◌, refl, ◌⊎◌, inl, inr}
-use Rattle.std.proofs.Math.Nat.{mul-le-mul}
-use Rattle.std.proofs.Math.IntN.{*ℤ-zero}
-use Rattle.std.proofs.lemmas.Int.{ints, by_lt_z}
+use Rattle.std.proofs.{Math.IntN.*ℤ-zero, Math.Nat.mul-le-mul, lemmas.Int.ints, lemmas.Int.by_lt_z}
 use Rattle.std.specs.Prelude.{ℤ, pos, negsuc, ◌+ℤ◌, ◌-ℤ◌, ◌*ℤ◌, neg_ℤ, ◌≤ℤ◌, ◌<ℤ◌}
 use lib.IntN.{ℤ_discrete}
 use borrow.Author.Differences.{product_is}
-use Rattle.qh_model.proofs.algebra.Integers.{mul_add, mul_neg}
-use Rattle.qh_model.proofs.algebra.Signs.{not_less}
+use Rattle.qh_model.proofs.algebra.{Integers.mul_add, Integers.mul_neg, Signs.not_less}
 
 -- two numbers not below 0
 pub mul-nonneg : (a b : ℤ) → pos 0 ≤ℤ a → pos 0 ≤ℤ b → pos 0 ≤ℤ (a *ℤ b)

@@ -1,8 +1,6 @@
 -- A normal form of whole-number polynomials, by which an identity is proved by computing.
 use Rattle.std.proofs.Common.{◌≡◌, ℕ, arith, ap, sym, ◌∙◌, refl, List, [], ◌∷◌, Bool, true, false, eqb, ltb, get_or}
-use Rattle.std.proofs.Math.IntN.{+ℤ_assoc, +ℤ_idl, +ℤ_idr, *ℤ-zero, neg_ℤ-+ℤ}
-use Rattle.std.proofs.lemmas.Int.{ints}
-use Rattle.std.proofs.lemmas.Bool.{eqb-true}
+use Rattle.std.proofs.{Math.IntN.+ℤ_assoc, Math.IntN.+ℤ_idl, Math.IntN.+ℤ_idr, Math.IntN.*ℤ-zero, Math.IntN.neg_ℤ-+ℤ, lemmas.Bool.eqb-true, lemmas.Int.ints}
 use Rattle.std.specs.Prelude.{ℤ, pos, negsuc, ◌+ℤ◌, ◌-ℤ◌, ◌*ℤ◌, neg_ℤ}
 use Rattle.qh_model.proofs.algebra.Integers.{mul_add, mul_assoc, mul_swap, neg_mul, one_mul, mul_one, zero_mul, add_mul}
 

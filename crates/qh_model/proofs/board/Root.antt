@@ -3,8 +3,7 @@ use Rattle.std.proofs.Common.{◌≡◌, ◌≢◌, inl, inr, ℕ, zero, suc, �
 use mathlib.Core.Logic.{dite}
 use native.Mathlib.Decide.{ℕ_discrete, dec_le}
 use Rattle.qh_model.specs.contract.BoardMachine.{Place, untouched, held, parked, used, published, Machine, parent, sibling, settled}
-use Rattle.qh_model.proofs.board.Grown.{Consistent, ranged}
-use Rattle.qh_model.proofs.board.Siblings.{ArePair, near, sibling_even}
+use Rattle.qh_model.proofs.board.{Grown.Consistent, Grown.ranged, Siblings.ArePair, Siblings.near, Siblings.sibling_even}
 
 module _ (B W : ℕ) (some : 0 < B) where
   -- where the root is published, each other node is used

@@ -1,23 +1,16 @@
 -- Separator cancellation: no point is strictly below every triangle of a closed surface and strictly beyond all its
 -- corners along a direction. With the depth of each corner as a common multiple, the terms of each edge cancel.
 use Rattle.std.proofs.Common.{◌≡◌, ℕ, ◌+◌, ◌<◌, ◌≤◌, arith, ap, sym, ◌∙◌, refl, List, [], ◌∷◌, Bool, true, false, cond, eqb, inl, inr}
-use Rattle.std.proofs.lemmas.Int.{ints}
-use Rattle.std.proofs.lemmas.Bool.{eqb-true}
-use Rattle.std.specs.Prelude.{ℤ, pos, ◌+ℤ◌, ◌*ℤ◌, neg_ℤ, ◌≤ℤ◌, ◌<ℤ◌}
-use Rattle.std.specs.List.{AllByRecursion as Each}
-use Rattle.qh_model.specs.headline.Vector.{Vector, dot, minus}
-use Rattle.qh_model.specs.headline.Predicates.{vol}
-use Rattle.qh_model.specs.headline.Sets.{In}
+use Rattle.std.proofs.lemmas.{Bool.eqb-true, Int.ints}
+use Rattle.std.specs.{List.AllByRecursion as Each, Prelude.ℤ, Prelude.pos, Prelude.◌+ℤ◌, Prelude.◌*ℤ◌, Prelude.neg_ℤ, Prelude.◌≤ℤ◌, Prelude.◌<ℤ◌}
 use Rattle.qh_model.specs.contract.ClosedSurface.{Triple, edges, IsClosed}
+use Rattle.qh_model.specs.headline.{Predicates.vol, Sets.In, Vector.Vector, Vector.dot, Vector.minus}
 use Rattle.qh_model.specs.laws.ClosedSurfaceLaws.{IsCornerOf, NoneBelowAndBeyond}
-use Rattle.qh_model.proofs.Members.{every_map}
-use Rattle.qh_model.proofs.algebra.Integers.{mul_swap}
-use Rattle.qh_model.proofs.algebra.Order.{mul-pos, mul-neg_pos}
-use Rattle.qh_model.proofs.algebra.Ring.{ring}
+use Rattle.qh_model.proofs.{Members.every_map, algebra.Integers.mul_swap, algebra.Order.mul-pos, algebra.Order.mul-neg_pos, algebra.Ring.ring}
 use Rattle.qh_model.proofs.algebra.Ring.Expr.{var, add, sub as less, mul, neg}
 use Rattle.qh_model.proofs.algebra.VectorIdentities.{vol-flip, vol-depths, depth, dot-minus, combine3}
-use Rattle.qh_model.proofs.closed_surfaces.Sums.{sum_z, count, drop_first, later}
 use Rattle.qh_model.proofs.closed_surfaces.SignedVolume.{back, eqb-refl, edges-cancel, vol_at}
+use Rattle.qh_model.proofs.closed_surfaces.Sums.{sum_z, count, drop_first, later}
 
 -- with co x such that depth x * co x is the same m at each corner
 unfoldable pub shared : (at : ℕ → Vector) (w p : Vector) → (ℕ → ℤ) → ℕ → Triple → ℤ

@@ -1,12 +1,9 @@
 -- The signed volume of a closed surface: what changes its sign with an edge's direction adds up to nothing.
 use Rattle.std.proofs.Common.{◌≡◌, ℕ, arith, ap, sym, ◌∙◌, refl, List, [], ◌∷◌, map, Bool, true, false, eqb, rules}
-use Rattle.std.proofs.lemmas.Int.{ints}
-use Rattle.std.proofs.lemmas.Bool.{and_parts, eqb-true}
+use Rattle.std.proofs.lemmas.{Bool.and_parts, Bool.eqb-true, Int.ints}
 use Rattle.std.specs.Prelude.{ℤ, pos, ◌+ℤ◌, neg_ℤ, ◌&&◌}
-use Rattle.qh_model.specs.headline.Vector.{Vector}
-use Rattle.qh_model.specs.headline.Predicates.{vol}
 use Rattle.qh_model.specs.contract.ClosedSurface.{Triple, edges, is_edge, IsClosed, signed_volume}
-use Rattle.qh_model.specs.laws.ClosedSurfaceLaws.{VolumeIsConstant}
+use Rattle.qh_model.specs.{headline.Predicates.vol, headline.Vector.Vector, laws.ClosedSurfaceLaws.VolumeIsConstant}
 use Rattle.qh_model.proofs.algebra.VectorIdentities.{vol-boundary, vol-flip}
 use Rattle.qh_model.proofs.closed_surfaces.Sums.{sum_z, count, Tests, sum_z-same_counts, count-is}
 

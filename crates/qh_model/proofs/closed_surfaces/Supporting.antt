@@ -3,30 +3,18 @@
 use Rattle.std.proofs.Common.{◌≡◌, ◌≢◌, ℕ, suc, ◌+◌, arith, refl, sym, ap, subst, ◌∙◌, ◌⊎◌, inl, inr, List, [], ◌∷◌}
 use Rattle.std.proofs.lemmas.Int.{ints, by_lt_z}
 use Rattle.std.specs.Prelude.{ℤ, pos, negsuc, ◌+ℤ◌, ◌-ℤ◌, ◌*ℤ◌, neg_ℤ, ◌≤ℤ◌, ◌<ℤ◌}
-use Rattle.qh_model.specs.headline.Vector.{Vector, minus, dot}
-use Rattle.qh_model.specs.headline.Predicates.{cross, vol, AreInLine}
-use Rattle.qh_model.specs.headline.Sets.{In, Members}
-use Rattle.qh_model.specs.headline.Combination.{Combination}
-use Rattle.qh_model.specs.headline.Extreme.{Others}
-use Rattle.qh_model.specs.headline.SupportingPlane.{IsSupportingTriple}
 use Rattle.qh_model.specs.contract.ClosedSurface.{Triple, IsClosedSurface}
-use Rattle.qh_model.specs.laws.Separator.{Separator}
-use Rattle.qh_model.specs.laws.FaceLaws.{IsAlong}
-use Rattle.qh_model.specs.laws.ClosedSurfaceLaws.{IsCornerOf}
+use Rattle.qh_model.specs.headline.{Combination.Combination, Extreme.Others, Predicates.cross, Predicates.vol, Predicates.AreInLine, Sets.In, Sets.Members}
+use Rattle.qh_model.specs.headline.{SupportingPlane.IsSupportingTriple, Vector.Vector, Vector.minus, Vector.dot}
 use Rattle.qh_model.specs.laws.ClosedFaceLaws.{AreSupporting, TriangleOfPlane, ClosedMissNoPlane, ClosedMissNoExtreme}
-use Rattle.qh_model.proofs.algebra.Order.{mul-le, product_zero, mul-pos, mul-pos_neg, mul-nonneg_nonpos}
-use Rattle.qh_model.proofs.algebra.Order.{zero_or_not, le_less}
-use Rattle.qh_model.proofs.algebra.Ring.{ring}
-use Rattle.qh_model.proofs.algebra.Integers.{mul_neg, mul_one}
-use Rattle.qh_model.proofs.algebra.Signs.{less_differ}
-use Rattle.qh_model.proofs.algebra.VectorIdentities.{vec, put, dotE, oppositeE, opposite, dot-opposite, dot_comm}
-use Rattle.qh_model.proofs.algebra.VectorIdentities.{in_line-vol, vol-first, vol-second, vol-third}
-use Rattle.qh_model.proofs.extremes.Directions.{positive_along, dot_along, along_or_opposite, square-positive}
-use Rattle.qh_model.proofs.extremes.Directions.{from_plane}
+use Rattle.qh_model.specs.laws.{ClosedSurfaceLaws.IsCornerOf, FaceLaws.IsAlong, Separator.Separator}
+use Rattle.qh_model.proofs.algebra.{Integers.mul_neg, Integers.mul_one, Order.mul-le, Order.product_zero, Order.mul-pos, Order.mul-pos_neg}
+use Rattle.qh_model.proofs.algebra.{Order.mul-nonneg_nonpos, Order.zero_or_not, Order.le_less, Ring.ring, Signs.less_differ}
+use Rattle.qh_model.proofs.algebra.VectorIdentities.{vec, put, dotE, oppositeE, opposite, dot-opposite, dot_comm, in_line-vol, vol-first, vol-second, vol-third}
+use Rattle.qh_model.proofs.closed_surfaces.{Beyond.scaled, Beyond.beyond, Beyond.vol-beyond, Beyond.dot-past, Cancellation.none_below_and_beyond}
+use Rattle.qh_model.proofs.extremes.Directions.{positive_along, dot_along, along_or_opposite, square-positive, from_plane}
 use Rattle.qh_model.proofs.extremes.ExtremeIds.{Listed, listed_itself, listed_part, alternative_in, apart}
 use Rattle.qh_model.proofs.polygons.PlaneTurns.{level_parallel}
-use Rattle.qh_model.proofs.closed_surfaces.Beyond.{scaled, beyond, vol-beyond, dot-past}
-use Rattle.qh_model.proofs.closed_surfaces.Cancellation.{none_below_and_beyond}
 
 -- one of the list has P, or all have Q
 one_or_all : {X : Type 0} (P Q : X → Type 0) (xs : List X) → ((x : X) → In x xs → P x ⊎ Q x)

@@ -1,18 +1,12 @@
 -- The theorem of alternatives for points of space.
 use Rattle.std.proofs.Common.{◌≡◌, ℕ, ◌+◌, ◌<◌, ◌≤◌, arith, sym, ap, ◌∙◌, ◌⊎◌, inl, inr, List, [], ◌∷◌}
-use Rattle.std.proofs.lemmas.Int.{ints}
-use Rattle.std.proofs.Math.Nat.{mul-le-mul_left}
+use Rattle.std.proofs.{Math.Nat.mul-le-mul_left, lemmas.Int.ints}
 use Rattle.std.specs.Prelude.{ℤ, pos, ◌+ℤ◌, ◌-ℤ◌, ◌*ℤ◌, ◌<ℤ◌}
 use borrow.Author.Differences.{lt_out}
-use Rattle.qh_model.proofs.algebra.Integers.{ring_rules, add_mul}
-use Rattle.qh_model.proofs.combinations.Vectors.{V, dot as vdot}
+use Rattle.qh_model.proofs.{Members.every_at, algebra.Integers.ring_rules, algebra.Integers.add_mul, combinations.Vectors.V, combinations.Vectors.dot as vdot}
 use Rattle.qh_model.proofs.combinations.WeightedTerms.{total, weight, count, Among, Balanced, Separated, alternative}
-use Rattle.qh_model.proofs.Members.{every_at}
-use Rattle.qh_model.specs.headline.Vector.{Vector, dot}
-use Rattle.qh_model.specs.headline.Sets.{In, Members}
-use Rattle.qh_model.specs.headline.Combination.{IsBalanced, Combination}
-use Rattle.qh_model.specs.laws.Separator.{Separator}
-use Rattle.qh_model.specs.laws.CombinationLaws.{CombinationOrSeparator, NeverBoth}
+use Rattle.qh_model.specs.headline.{Combination.IsBalanced, Combination.Combination, Sets.In, Sets.Members, Vector.Vector, Vector.dot}
+use Rattle.qh_model.specs.laws.{CombinationLaws.CombinationOrSeparator, CombinationLaws.NeverBoth, Separator.Separator}
 
 -- ---- four terms
 record Four {A : Type 0} (xs : List A) (ts : List (ℕ × A)) : Type 0 where

@@ -3,8 +3,7 @@ use Rattle.std.proofs.Common.{◌≡◌, ℕ, zero, suc, ◌+◌, ◌*◌, arith
 use Rattle.std.proofs.lemmas.Int.{ints}
 use Rattle.std.specs.Prelude.{ℤ, pos, negsuc, ◌+ℤ◌, ◌*ℤ◌, neg_ℤ, ◌<ℤ◌, ◌≤ℤ◌}
 use lib.IntN.{*ℤ_comm, zero-*ℤ, *ℤ-zero, +ℤ_idl, +ℤ_idr}
-use Rattle.qh_model.proofs.algebra.Integers.{ring_rules, mul_add}
-use Rattle.qh_model.proofs.algebra.Order.{square-nonneg}
+use Rattle.qh_model.proofs.algebra.{Integers.ring_rules, Integers.mul_add, Order.square-nonneg}
 
 -- vectors of n numbers
 abbrev pub V : ℕ → Type 0

@@ -1,11 +1,8 @@
 -- Affine forms: one that is not zero at a convex combination is not zero at some of what is combined.
-use Rattle.std.proofs.Common.{◌≡◌, ◌≢◌, ℕ, arith, ◌∙◌, ◌⊎◌, inl, inr}
-use Rattle.std.proofs.lemmas.Int.{ints, by_lt_z}
+use Rattle.std.proofs.{Common.◌≡◌, Common.◌≢◌, Common.ℕ, Common.arith, Common.◌∙◌, Common.◌⊎◌, Common.inl, Common.inr, lemmas.Int.ints, lemmas.Int.by_lt_z}
 use Rattle.std.specs.Prelude.{ℤ, pos, ◌+ℤ◌, neg_ℤ, ◌<ℤ◌}
-use Rattle.qh_model.specs.headline.Vector.{Vector, dot}
-use Rattle.qh_model.specs.headline.Combination.{Combination}
-use Rattle.qh_model.proofs.algebra.Order.{le_antisym, zero_or_not}
-use Rattle.qh_model.proofs.algebra.VectorIdentities.{opposite, dot-opposite}
+use Rattle.qh_model.specs.headline.{Combination.Combination, Vector.Vector, Vector.dot}
+use Rattle.qh_model.proofs.algebra.{Order.le_antisym, Order.zero_or_not, VectorIdentities.opposite, VectorIdentities.dot-opposite}
 use Rattle.qh_model.proofs.combinations.Alternatives.{all_lower}
 
 -- g q = u . q + c

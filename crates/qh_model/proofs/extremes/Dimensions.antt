@@ -1,20 +1,14 @@
 -- A set has one dimension, and what combines to a set has its tetrahedra, triangles and segments.
-use Rattle.std.proofs.Common.{◌≡◌, ◌≢◌, ℕ, arith, ap, sym, subst, ◌∙◌, inl, inr}
-use Rattle.std.proofs.lemmas.Int.{ints}
+use Rattle.std.proofs.{Common.◌≡◌, Common.◌≢◌, Common.ℕ, Common.arith, Common.ap, Common.sym, Common.subst, Common.◌∙◌, Common.inl, Common.inr, lemmas.Int.ints}
 use Rattle.std.specs.Prelude.{ℤ, pos, ◌+ℤ◌, ◌-ℤ◌, neg_ℤ}
-use Rattle.qh_model.specs.headline.Vector.{Vector, origin, minus, cross_product, dot}
-use Rattle.qh_model.specs.headline.Predicates.{cross, vol, left, AreInLine}
-use Rattle.qh_model.specs.headline.Sets.{Members}
-use Rattle.qh_model.specs.contract.IdSets.{HasDistinctPoints}
+use Rattle.qh_model.specs.{contract.IdSets.HasDistinctPoints, headline.Combination.Combination}
 use Rattle.qh_model.specs.headline.Dimension.{HasTetrahedron, HasTriangle, HasSegment, IsDimension}
-use Rattle.qh_model.specs.headline.Combination.{Combination}
-use Rattle.qh_model.specs.laws.DimensionLaws.{DimensionIsUnique}
-use Rattle.qh_model.proofs.algebra.VectorIdentities.{vol-linear, vol-first_last, vol-second_last}
-use Rattle.qh_model.proofs.algebra.VectorIdentities.{vol-third_last, left-dot, left-linear, left-turn, in_line-vol}
-use Rattle.qh_model.proofs.algebra.VectorIdentities.{in_line-left, in_line-twice, opposite, dot-opposite}
+use Rattle.qh_model.specs.headline.{Predicates.cross, Predicates.vol, Predicates.left, Predicates.AreInLine, Sets.Members, Vector.Vector, Vector.origin}
+use Rattle.qh_model.specs.{headline.Vector.minus, headline.Vector.cross_product, headline.Vector.dot, laws.DimensionLaws.DimensionIsUnique}
 use Rattle.qh_model.proofs.algebra.Ring.{equal_from_zero}
-use Rattle.qh_model.proofs.extremes.AffineForms.{Form, form_as, NonZero, non_zero_member}
-use Rattle.qh_model.proofs.extremes.Axes.{Differ, differ}
+use Rattle.qh_model.proofs.algebra.VectorIdentities.{vol-linear, vol-first_last, vol-second_last, vol-third_last, left-dot, left-linear, left-turn, in_line-vol}
+use Rattle.qh_model.proofs.algebra.VectorIdentities.{in_line-left, in_line-twice, opposite, dot-opposite}
+use Rattle.qh_model.proofs.extremes.{AffineForms.Form, AffineForms.form_as, AffineForms.NonZero, AffineForms.non_zero_member, Axes.Differ, Axes.differ}
 
 -- each member of A is a convex combination of members of E
 abbrev pub AreCombinations : (ℕ → Vector) → (ℕ → Type 0) → (ℕ → Type 0) → Type 0

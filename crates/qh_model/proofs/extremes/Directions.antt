@@ -2,17 +2,13 @@
 use Rattle.std.proofs.Common.{◌≡◌, ◌≢◌, ℕ, zero, suc, ◌<◌, arith, refl, sym, ap, subst, ◌∙◌, ◌⊎◌, inl, inr, [], ◌∷◌}
 use Rattle.std.proofs.lemmas.Int.{ints, by_lt_z}
 use Rattle.std.specs.Prelude.{ℤ, pos, negsuc, ◌+ℤ◌, ◌*ℤ◌, neg_ℤ, ◌<ℤ◌, ◌≤ℤ◌}
-use Rattle.qh_model.specs.headline.Vector.{Vector, origin, minus, cross_product, dot}
-use Rattle.qh_model.specs.headline.Predicates.{cross, vol, left, AreInLine}
-use Rattle.qh_model.specs.laws.FaceLaws.{IsAlong}
-use Rattle.qh_model.proofs.algebra.Order.{mul-nonneg, mul-pos, cancel-nonneg, cancel-nonpos, cancel-pos, cancel-zero}
-use Rattle.qh_model.proofs.algebra.Order.{le_antisym, square-nonneg, neg-positive, product_zero}
-use Rattle.qh_model.proofs.algebra.Ring.{ring}
-use Rattle.qh_model.proofs.algebra.Ring.Expr.{var, con, add, sub as less, mul, neg}
-use Rattle.qh_model.proofs.algebra.VectorIdentities.{vec, put, dotE, crossE, subE, combine3, opposite, vector_path}
-use Rattle.qh_model.proofs.algebra.VectorIdentities.{dot-minus, vol-dot, vol-linear, left-dot, dot_comm}
-use Rattle.qh_model.proofs.algebra.Signs.{equal_nonpos, equal_positive}
-use Rattle.qh_model.proofs.algebra.Integers.{zero_mul}
+use Rattle.qh_model.specs.headline.{Predicates.cross, Predicates.vol, Predicates.left, Predicates.AreInLine, Vector.Vector, Vector.origin, Vector.minus}
+use Rattle.qh_model.specs.{headline.Vector.cross_product, headline.Vector.dot, laws.FaceLaws.IsAlong}
+use Rattle.qh_model.proofs.algebra.{Integers.zero_mul, Order.mul-nonneg}
+use Rattle.qh_model.proofs.algebra.Order.{mul-pos, cancel-nonneg, cancel-nonpos, cancel-pos, cancel-zero, le_antisym, square-nonneg, neg-positive, product_zero}
+use Rattle.qh_model.proofs.algebra.Ring.{ring, Expr.var, Expr.con, Expr.add, Expr.sub as less, Expr.mul, Expr.neg}
+use Rattle.qh_model.proofs.algebra.{Signs.equal_nonpos, Signs.equal_positive, VectorIdentities.vec, VectorIdentities.put}
+use Rattle.qh_model.proofs.algebra.VectorIdentities.{dotE, crossE, subE, combine3, opposite, vector_path, dot-minus, vol-dot, vol-linear, left-dot, dot_comm}
 
 -- ---- signs under a positive scale
 -- a scale above 0

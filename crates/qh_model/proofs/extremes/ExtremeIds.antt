@@ -1,25 +1,18 @@
 -- The greatest member in a direction is extreme, members are mixes of extremes, and extremes of a union.
 use Rattle.std.proofs.Common.{◌≡◌, ◌≢◌, ℕ, zero, suc, ◌<◌, arith, refl, sym, subst, ◌⊎◌, inl, inr, ◌↔◌, List, [], ◌∷◌, ◌++◌}
 use Rattle.std.proofs.lemmas.Int.{ints}
-use Rattle.std.specs.Prelude.{ℤ, pos, ◌+ℤ◌, ◌*ℤ◌, ◌<ℤ◌}
-use Rattle.std.specs.List.{AllByRecursion as Every}
+use Rattle.std.specs.{List.AllByRecursion as Every, Prelude.ℤ, Prelude.pos, Prelude.◌+ℤ◌, Prelude.◌*ℤ◌, Prelude.◌<ℤ◌}
 use native.Mathlib.Decide.{ℕ_discrete}
 use lib.Signed.{<ℤ_irrefl}
-use Rattle.qh_model.proofs.algebra.Integers.{ring_rules}
-use Rattle.qh_model.proofs.algebra.VectorIdentities.{vector_path}
-use Rattle.qh_model.proofs.combinations.Vectors.{V, dot as vdot}
-use Rattle.qh_model.proofs.Members.{every_at}
-use Rattle.qh_model.proofs.combinations.OtherNames.{combination_by_names}
+use Rattle.qh_model.proofs.{Members.every_at, algebra.Integers.ring_rules, algebra.VectorIdentities.vector_path}
 use Rattle.qh_model.proofs.combinations.Alternatives.{combination_or_separator, all_lower}
+use Rattle.qh_model.proofs.combinations.{OtherNames.combination_by_names, Vectors.V, Vectors.dot as vdot}
 use Rattle.qh_model.proofs.extremes.LexicographicOrder.{Less, Same, AtMost, Greatest, greatest, collapse}
 use Rattle.qh_model.proofs.lists.Joined.{in_append, of_append}
-use Rattle.qh_model.specs.headline.Vector.{Vector, dot}
-use Rattle.qh_model.specs.headline.Sets.{In, Members}
 use Rattle.qh_model.specs.contract.IdSets.{HasDistinctPoints}
-use Rattle.qh_model.specs.headline.Combination.{Combination}
-use Rattle.qh_model.specs.laws.Separator.{Separator}
-use Rattle.qh_model.specs.headline.Extreme.{Others, Extreme}
+use Rattle.qh_model.specs.headline.{Combination.Combination, Extreme.Others, Extreme.Extreme, Sets.In, Sets.Members, Vector.Vector, Vector.dot}
 use Rattle.qh_model.specs.laws.ExtremeLaws.{IsLower, InBlocks, GreatestIsExtreme, MembersAreCombinations, UnionOfExtremes}
+use Rattle.qh_model.specs.laws.Separator.{Separator}
 
 -- what the order goes by
 abbrev key : Vector → Vector → V 4

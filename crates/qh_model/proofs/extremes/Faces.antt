@@ -3,22 +3,13 @@ use Rattle.std.proofs.Common.{◌≡◌, ◌≢◌, ℕ, arith, sym, ◌∙◌, 
 use Rattle.std.proofs.lemmas.Int.{ints, by_lt_z}
 use Rattle.std.specs.Prelude.{ℤ, pos, ◌+ℤ◌, ◌*ℤ◌, ◌<ℤ◌, ◌≤ℤ◌}
 use native.Mathlib.Decide.{ℕ_discrete}
-use Rattle.qh_model.proofs.algebra.Integers.{ring_rules}
-use Rattle.qh_model.proofs.combinations.Vectors.{V, dot as vdot}
-use Rattle.qh_model.proofs.combinations.Alternatives.{all_lower}
-use Rattle.qh_model.proofs.extremes.LexicographicOrder.{Less}
-use Rattle.qh_model.proofs.extremes.ExtremeIds.{Listed, listed_itself, listed_part, alternative_in, combination_within}
-use Rattle.qh_model.proofs.extremes.ExtremeIds.{combination_of_extremes, no_combination_by}
-use Rattle.qh_model.specs.headline.Vector.{Vector, dot}
-use Rattle.qh_model.specs.headline.Predicates.{cross, vol}
-use Rattle.qh_model.specs.headline.Sets.{Members}
-use Rattle.qh_model.specs.headline.Combination.{Combination}
-use Rattle.qh_model.specs.laws.Separator.{Separator}
-use Rattle.qh_model.specs.headline.Extreme.{Others, Extreme}
-use Rattle.qh_model.specs.headline.SupportingPlane.{Supports, OnPlane}
-use Rattle.qh_model.specs.laws.FaceLaws.{ExtremesOfFace, SupportOfExtremes}
-use Rattle.qh_model.proofs.algebra.Order.{le_antisym, zero_or_not}
-use Rattle.qh_model.proofs.algebra.VectorIdentities.{vol-linear}
+use Rattle.qh_model.proofs.algebra.{Integers.ring_rules, Order.le_antisym, Order.zero_or_not, VectorIdentities.vol-linear}
+use Rattle.qh_model.proofs.combinations.{Alternatives.all_lower, Vectors.V, Vectors.dot as vdot}
+use Rattle.qh_model.proofs.extremes.ExtremeIds.{Listed, listed_itself, listed_part, alternative_in, combination_within, combination_of_extremes}
+use Rattle.qh_model.proofs.extremes.{ExtremeIds.no_combination_by, LexicographicOrder.Less}
+use Rattle.qh_model.specs.headline.{Combination.Combination, Extreme.Others, Extreme.Extreme, Predicates.cross, Predicates.vol, Sets.Members}
+use Rattle.qh_model.specs.headline.{SupportingPlane.Supports, SupportingPlane.OnPlane, Vector.Vector, Vector.dot}
+use Rattle.qh_model.specs.laws.{FaceLaws.ExtremesOfFace, FaceLaws.SupportOfExtremes, Separator.Separator}
 
 -- ---- two directions, one after the other
 -- scalar products with n, then with w

@@ -1,16 +1,11 @@
 -- The lexicographic order of vectors: a greatest one exists, and one functional sees the order of finitely many.
 use Rattle.std.proofs.Common.{◌≡◌, ℕ, zero, suc, arith, refl, sym, ◌∙◌, ◌⊎◌, inl, inr, List, [], ◌∷◌}
-use Rattle.std.proofs.lemmas.Int.{ints, by_lt_z}
-use Rattle.std.proofs.Math.Nat.{mul-le-mul_left}
-use Rattle.std.specs.Prelude.{ℤ, pos, ◌+ℤ◌, ◌-ℤ◌, ◌*ℤ◌, neg_ℤ, ◌<ℤ◌, ◌≤ℤ◌}
-use Rattle.std.specs.List.{AllByRecursion as Every}
+use Rattle.std.proofs.{Math.Nat.mul-le-mul_left, lemmas.Int.ints, lemmas.Int.by_lt_z}
+use Rattle.std.specs.{List.AllByRecursion as Every, Prelude.ℤ, Prelude.pos, Prelude.◌+ℤ◌, Prelude.◌-ℤ◌, Prelude.◌*ℤ◌, Prelude.neg_ℤ, Prelude.◌<ℤ◌, Prelude.◌≤ℤ◌}
 use borrow.Author.Differences.{lt_out, le_out}
-use Rattle.qh_model.proofs.combinations.Vectors.{V, dot}
-use Rattle.qh_model.proofs.combinations.WeightedTerms.{bound}
-use Rattle.qh_model.proofs.Members.{every_map, every_zip}
+use Rattle.qh_model.proofs.{Members.every_map, Members.every_zip, algebra.Order.le_antisym, algebra.Signs.less_le, algebra.Signs.equal_le}
+use Rattle.qh_model.proofs.combinations.{Vectors.V, Vectors.dot, WeightedTerms.bound}
 use Rattle.qh_model.specs.headline.Sets.{In}
-use Rattle.qh_model.proofs.algebra.Order.{le_antisym}
-use Rattle.qh_model.proofs.algebra.Signs.{less_le, equal_le}
 
 -- u comes before v
 abbrev pub Less : (n : ℕ) → V n → V n → Type 0

@@ -1,14 +1,9 @@
 -- Sets in one plane: their triangles have one direction or the opposite one, and one of the two points forward.
-use Rattle.std.proofs.Common.{◌≡◌, ◌≢◌, ℕ, arith, ap, ◌∙◌, ◌⊎◌, inl, inr}
-use Rattle.std.proofs.lemmas.Int.{ints}
+use Rattle.std.proofs.{Common.◌≡◌, Common.◌≢◌, Common.ℕ, Common.arith, Common.ap, Common.◌∙◌, Common.◌⊎◌, Common.inl, Common.inr, lemmas.Int.ints}
 use Rattle.std.specs.Prelude.{ℤ, pos, neg_ℤ, ◌<ℤ◌}
-use Rattle.qh_model.specs.headline.Vector.{Vector, origin, minus, dot}
-use Rattle.qh_model.specs.headline.Predicates.{cross, vol, AreInLine}
-use Rattle.qh_model.specs.headline.Dimension.{HasTetrahedron}
-use Rattle.qh_model.specs.laws.FaceLaws.{IsAlong}
-use Rattle.qh_model.specs.headline.Polygons.{PointsForward}
-use Rattle.qh_model.proofs.algebra.Order.{zero_or_not}
-use Rattle.qh_model.proofs.algebra.VectorIdentities.{opposite}
+use Rattle.qh_model.specs.headline.{Dimension.HasTetrahedron, Polygons.PointsForward, Predicates.cross, Predicates.vol, Predicates.AreInLine, Vector.Vector}
+use Rattle.qh_model.specs.{headline.Vector.origin, headline.Vector.minus, headline.Vector.dot, laws.FaceLaws.IsAlong}
+use Rattle.qh_model.proofs.algebra.{Order.zero_or_not, VectorIdentities.opposite}
 use Rattle.qh_model.proofs.extremes.Directions.{positive_along, zero_along, normal_along, from_plane}
 
 -- four points of a set with no tetrahedron lie in one plane

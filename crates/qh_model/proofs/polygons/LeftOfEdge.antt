@@ -3,28 +3,16 @@ use Rattle.std.proofs.Common.{◌≡◌, ◌≢◌, ℕ, arith, refl, sym, ap, s
 use Rattle.std.proofs.lemmas.Int.{ints, by_lt_z}
 use native.Mathlib.Decide.{ℕ_discrete}
 use Rattle.std.specs.Prelude.{ℤ, pos, ◌+ℤ◌, ◌*ℤ◌, neg_ℤ, ◌≤ℤ◌, ◌<ℤ◌}
-use Rattle.qh_model.specs.headline.Vector.{Vector, minus, cross_product, dot}
-use Rattle.qh_model.specs.headline.Predicates.{cross, vol, left, AreInLine}
-use Rattle.qh_model.specs.headline.Sets.{Members}
-use Rattle.qh_model.specs.contract.IdSets.{HasDistinctPoints}
-use Rattle.qh_model.specs.headline.Combination.{Combination}
-use Rattle.qh_model.specs.headline.Extreme.{Extreme}
-use Rattle.qh_model.specs.headline.SupportingPlane.{IsSupportingTriple, OnPlane}
+use Rattle.qh_model.specs.{contract.IdSets.HasDistinctPoints, headline.Combination.Combination, headline.Extreme.Extreme, headline.Polygon.Follows}
+use Rattle.qh_model.specs.headline.{Polygons.IsFacePolygon, Predicates.cross, Predicates.vol, Predicates.left, Predicates.AreInLine, Sets.Members}
+use Rattle.qh_model.specs.headline.{SupportingPlane.IsSupportingTriple, SupportingPlane.OnPlane, Vector.Vector, Vector.minus, Vector.cross_product, Vector.dot}
 use Rattle.qh_model.specs.laws.FaceLaws.{SpannedByExtremes}
-use Rattle.qh_model.specs.headline.Polygon.{Follows}
-use Rattle.qh_model.specs.headline.Polygons.{IsFacePolygon}
-use Rattle.qh_model.proofs.algebra.Order.{mul-nonneg_nonpos, mul-pos_neg, mul-neg_neg, cancel-nonpos}
-use Rattle.qh_model.proofs.algebra.Order.{zero_or_not, positive_le}
-use Rattle.qh_model.proofs.algebra.VectorIdentities.{opposite, dot-opposite, vol-first, vol-second}
-use Rattle.qh_model.proofs.algebra.VectorIdentities.{vol-third, left-linear}
-use Rattle.qh_model.proofs.algebra.VectorIdentities.{in_line-left, in_line-twice, in_line-last}
-use Rattle.qh_model.proofs.extremes.Directions.{square-positive, in_line-flip}
-use Rattle.qh_model.proofs.extremes.ExtremeIds.{Listed, listed_itself, listed_part, combination_of_extremes}
-use Rattle.qh_model.proofs.extremes.Faces.{extremes_of_face}
-use Rattle.qh_model.proofs.extremes.SpanningTriples.{planes_of_extremes}
-use Rattle.qh_model.proofs.combinations.Alternatives.{all_lower}
-use Rattle.qh_model.proofs.polygons.Neighbours.{follows_members}
-use Rattle.qh_model.proofs.polygons.PlaneTurns.{level_volume}
+use Rattle.qh_model.proofs.algebra.Order.{mul-nonneg_nonpos, mul-pos_neg, mul-neg_neg, cancel-nonpos, zero_or_not, positive_le}
+use Rattle.qh_model.proofs.algebra.VectorIdentities.{opposite, dot-opposite, vol-first, vol-second, vol-third, left-linear, in_line-left, in_line-twice}
+use Rattle.qh_model.proofs.{algebra.VectorIdentities.in_line-last, combinations.Alternatives.all_lower}
+use Rattle.qh_model.proofs.extremes.{Directions.square-positive, Directions.in_line-flip, ExtremeIds.Listed, ExtremeIds.listed_itself, ExtremeIds.listed_part}
+use Rattle.qh_model.proofs.extremes.{ExtremeIds.combination_of_extremes, Faces.extremes_of_face, SpanningTriples.planes_of_extremes}
+use Rattle.qh_model.proofs.polygons.{Neighbours.follows_members, PlaneTurns.level_volume}
 
 -- ---- signs
 -- s x = l y with s above 0

@@ -3,13 +3,9 @@ use Rattle.std.proofs.Common.{◌≡◌, ◌≢◌, ℕ, refl, List, [], ◌∷�
 use Rattle.std.proofs.lemmas.Int.{ints}
 use native.Mathlib.Decide.{ℕ_discrete}
 use Rattle.std.specs.Prelude.{ℤ, pos, neg_ℤ, ◌<ℤ◌, ◌↔◌}
-use Rattle.qh_model.specs.headline.Vector.{Vector}
-use Rattle.qh_model.specs.headline.Predicates.{left}
-use Rattle.qh_model.specs.headline.Sets.{In, Once, BeginsWithLeast, Members}
-use Rattle.qh_model.specs.headline.Polygon.{TurnsLeft, IsPolygon}
-use Rattle.qh_model.specs.laws.PolygonLaws.{PolygonIsUnique}
-use Rattle.qh_model.proofs.algebra.VectorIdentities.{left-flip}
-use Rattle.qh_model.proofs.polygons.Cycles.{AlongPath, round_told}
+use Rattle.qh_model.specs.headline.{Polygon.TurnsLeft, Polygon.IsPolygon, Predicates.left, Sets.In, Sets.Once, Sets.BeginsWithLeast, Sets.Members}
+use Rattle.qh_model.specs.{headline.Vector.Vector, laws.PolygonLaws.PolygonIsUnique}
+use Rattle.qh_model.proofs.{algebra.VectorIdentities.left-flip, polygons.Cycles.AlongPath, polygons.Cycles.round_told}
 
 -- two opposite turns are not both to the left
 both_positive : (x y : ℤ) → x ≡ neg_ℤ y → pos 0 <ℤ x → pos 0 <ℤ y → ⊥

@@ -3,24 +3,21 @@ use Rattle.std.proofs.Common.{◌↔◌, ◌≡◌, ◌≢◌, ℕ, arith, refl,
 use Rattle.std.proofs.lemmas.Int.{ints}
 use native.Mathlib.Decide.{ℕ_discrete}
 use Rattle.std.specs.Prelude.{ℤ, pos, ◌+ℤ◌, ◌-ℤ◌, ◌*ℤ◌, ◌≤ℤ◌, ◌<ℤ◌}
-use Rattle.qh_model.specs.headline.{Vector.Vector, Vector.dot, Predicates.cross, Predicates.vol, Predicates.AreInLine, Sets.In}
-use Rattle.qh_model.specs.headline.{Sets.Members, Combination.Combination, Extreme.Others, Extreme.Extreme}
-use Rattle.qh_model.specs.headline.SupportingPlane.{IsSupportingTriple, OnPlane}
-use Rattle.qh_model.specs.laws.{Separator.Separator, FaceLaws.IsAlong, CoveredPoints.CombinationWithInner, CoveredPoints.CombinationInPlane}
-use Rattle.qh_model.specs.laws.CompletenessLaws.{FacetsSupport, IsLiveCorner, ExtremesAreCorners, CornerInPlane, ExtremesOfPlaneAreCorners}
-use Rattle.qh_model.specs.laws.CompletenessLaws.{FacetOfPlane, PlanesHaveFacets}
-use Rattle.qh_model.specs.contract.Weighted.{Weighted, weighted, weighted_dot, above}
-use Rattle.qh_model.specs.contract.Surface.{Surface, IsCorner, rise}
-use Rattle.qh_model.specs.contract.FinishedSurface.{weighted_at, middle_at, IsFinished}
-use Rattle.qh_model.proofs.algebra.{Order.mul-pos, Order.mul-nonneg_nonpos, Order.le_antisym, Ring.ring}
+use Rattle.qh_model.specs.contract.{FinishedSurface.weighted_at, FinishedSurface.middle_at, FinishedSurface.IsFinished, Surface.Surface, Surface.IsCorner}
+use Rattle.qh_model.specs.contract.{Surface.rise, Weighted.Weighted, Weighted.weighted, Weighted.weighted_dot, Weighted.above}
+use Rattle.qh_model.specs.headline.{Combination.Combination, Extreme.Others, Extreme.Extreme, Predicates.cross, Predicates.vol, Predicates.AreInLine, Sets.In}
+use Rattle.qh_model.specs.headline.{Sets.Members, SupportingPlane.IsSupportingTriple, SupportingPlane.OnPlane, Vector.Vector, Vector.dot}
+use Rattle.qh_model.specs.laws.CompletenessLaws.{FacetsSupport, IsLiveCorner, ExtremesAreCorners, CornerInPlane, ExtremesOfPlaneAreCorners, FacetOfPlane}
+use Rattle.qh_model.specs.laws.{CompletenessLaws.PlanesHaveFacets, CoveredPoints.CombinationWithInner, CoveredPoints.CombinationInPlane, FaceLaws.IsAlong}
+use Rattle.qh_model.specs.laws.Separator.{Separator}
+use Rattle.qh_model.proofs.algebra.{Order.mul-pos, Order.mul-nonneg_nonpos, Order.le_antisym, Ring.ring, Ring.Expr.var, Ring.Expr.con, Ring.Expr.add}
+use Rattle.qh_model.proofs.algebra.{Ring.Expr.sub as less, Ring.Expr.mul, Signs.less_differ, Signs.equal_le, Signs.no_sum, Signs.zeros_not_negative}
 use Rattle.qh_model.proofs.algebra.VectorIdentities.{vec, dotE, crossE, subE, put, VE, vol-first, in_line-vol, in_line-twice, vol-flip_last}
-use Rattle.qh_model.proofs.algebra.Signs.{less_differ, equal_le, no_sum, zeros_not_negative}
-use Rattle.qh_model.proofs.algebra.Ring.Expr.{var, con, add, sub as less, mul}
-use Rattle.qh_model.proofs.extremes.ExtremeIds.{listed_itself, listed_part, apart, alternative_in}
 use Rattle.qh_model.proofs.extremes.Directions.{at_least_along, normal_along, from_plane, vol_along, zero_along, square-positive}
-use Rattle.qh_model.proofs.surfaces.{Facets.corner_test, Simplex.middle_is_below, SurfaceLaws.rise_is_vol, Closed.inner_area}
+use Rattle.qh_model.proofs.extremes.ExtremeIds.{listed_itself, listed_part, apart, alternative_in}
+use Rattle.qh_model.proofs.surfaces.{Closed.inner_area, Combinations.settled_is_combination, Combinations.level_is_combination}
 use Rattle.qh_model.proofs.surfaces.Determinants.{QE, aboveE, dot-together, above-together}
-use Rattle.qh_model.proofs.surfaces.Combinations.{settled_is_combination, level_is_combination}
+use Rattle.qh_model.proofs.surfaces.{Facets.corner_test, Simplex.middle_is_below, SurfaceLaws.rise_is_vol}
 
 -- ---- linear facts
 -- whole numbers below L, four times, against a number between
