@@ -44,10 +44,6 @@ sum_zero x a b c e h k l = omega (arith, ints)
 pub no_sum : (x a b c d : ℤ) → x ≡ a +ℤ b +ℤ c +ℤ d → pos 0 <ℤ x → a ≤ℤ pos 0 → b ≤ℤ pos 0 → c ≤ℤ pos 0 → d ≤ℤ pos 0 → ⊥
 no_sum x a b c d e p h i j k = omega (arith, ints)
 
--- four zeros add up to no negative number
-pub zeros_not_negative : (x a b c d : ℤ) → x ≡ a +ℤ b +ℤ c +ℤ d → x <ℤ pos 0 → a ≡ pos 0 → b ≡ pos 0 → c ≡ pos 0 → d ≡ pos 0 → ⊥
-zeros_not_negative x a b c d e h ha hb hc hd = omega (arith, ints)
-
 -- ---- the sign of a number, told of one that is equal
 -- not above 0
 pub equal_nonpos : (x r : ℤ) → x ≡ r → x ≤ℤ pos 0 → r ≤ℤ pos 0

@@ -86,14 +86,10 @@ vol-depths w a b c r p =
 no_term : (c l r : ℤ) → l ≡ r → c *ℤ (l -ℤ r) ≡ pos 0
 no_term c l r e = let z : l -ℤ r ≡ pos 0 = omega (arith, ints) in ap (λ v. c *ℤ v) z ∙ *ℤ-zero c
 
--- three such multiples
-sum_up : (l r x y z : ℤ) → l -ℤ r ≡ x +ℤ y +ℤ z → x ≡ pos 0 → y ≡ pos 0 → z ≡ pos 0 → l ≡ r
-sum_up l r x y z e p q t = omega (arith, ints)
-
 -- the equation from three others
 pub combine3 : (l r c₁ l₁ r₁ c₂ l₂ r₂ c₃ l₃ r₃ : ℤ) → l -ℤ r ≡ c₁ *ℤ (l₁ -ℤ r₁) +ℤ c₂ *ℤ (l₂ -ℤ r₂) +ℤ c₃ *ℤ (l₃ -ℤ r₃) → l₁ ≡ r₁ → l₂ ≡ r₂ → l₃ ≡ r₃ → l ≡ r
 combine3 l r c₁ l₁ r₁ c₂ l₂ r₂ c₃ l₃ r₃ e e₁ e₂ e₃ =
-    sum_up l r (c₁ *ℤ (l₁ -ℤ r₁)) (c₂ *ℤ (l₂ -ℤ r₂)) (c₃ *ℤ (l₃ -ℤ r₃)) e (no_term c₁ l₁ r₁ e₁) (no_term c₂ l₂ r₂ e₂) (no_term c₃ l₃ r₃ e₃)
+    omega (arith, ints, no_term c₁ l₁ r₁ e₁, no_term c₂ l₂ r₂ e₂, no_term c₃ l₃ r₃ e₃)
 
 -- vectors are equal by their coordinates
 pub vector_path : (p q : Vector) → p.x ≡ q.x → p.y ≡ q.y → p.z ≡ q.z → p ≡ q

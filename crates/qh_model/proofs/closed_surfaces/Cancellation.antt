@@ -154,14 +154,6 @@ each-all : (P : ℕ → Type 0) → ((x : ℕ) → P x) → (xs : List ℕ) → 
 each-all P h [] = tt
 each-all P h (x ∷ xs) = (h x, each-all P h xs)
 
--- 0 is not below 0
-not_both : (x : ℤ) → x ≡ pos 0 → x <ℤ pos 0 → ⊥
-not_both x e h = omega (arith, ints)
-
--- a negative number and one not above 0
-neg_and_le : (a b : ℤ) → a <ℤ pos 0 → b ≤ℤ pos 0 → (a +ℤ b) <ℤ pos 0
-neg_and_le a b h k = omega (arith, ints)
-
 -- separator cancellation: no point is strictly below every triangle of a closed surface and strictly on one side of a plane from all its corners
 pub none_below_all : (at : ℕ → Vector) (w p : Vector) (t : Triple) (ts : List Triple) → IsClosed (t ∷ ts)
     → Corners (λ i. pos 0 <ℤ depth w p (at i)) (t ∷ ts) → Each (λ t. vol_at at p t <ℤ pos 0) (t ∷ ts) → ⊥
@@ -175,9 +167,8 @@ none_below_all at w p t ts c d v =
     let same : Corners (λ i. f i *ℤ co i ≡ prod_z f all) (t ∷ ts) =
     every_map (λ i. 0 < count (eqb i) all) (λ i. f i *ℤ co i ≡ prod_z f all) all
     (λ i h. sym (prod-drop_first f i all h)) (all_there all) in
-    not_both (sum_z (shared at w p co t.i) (t ∷ ts)) (shared-zero at w p co (prod_z f all) t.i (t ∷ ts) c same)
-    (neg_and_le (shared at w p co t.i t) (sum_z (shared at w p co t.i) ts)
-    (shared-neg at w p co t.i t v.0 d.0 up.0 up.1.0 up.1.1.0) (sums-neg at w p co t.i d.0 ts up.1.1.1 v.1))
+    let zero_sum = shared-zero at w p co (prod_z f all) t.i (t ∷ ts) c same in
+    omega (arith, ints, zero_sum, shared-neg at w p co t.i t v.0 d.0 up.0 up.1.0 up.1.1.0, sums-neg at w p co t.i d.0 ts up.1.1.1 v.1)
 
 -- ---- the law, from members
 corners-of : (P : ℕ → Type 0) (ts : List Triple) → ((i : ℕ) → IsCornerOf ts i → P i) → Corners P ts

@@ -48,17 +48,12 @@ sum-back g h (e ∷ es) = rw (h e, sum-back g h es) (neg_sum (g e) (sum_z g es))
     neg_sum : (a b : ℤ) → neg_ℤ a +ℤ neg_ℤ b ≡ neg_ℤ (a +ℤ b)
     neg_sum a b = omega (arith, ints)
 
--- what is its own opposite is 0
-own_negative : (x : ℤ) → x ≡ neg_ℤ x → x ≡ pos 0
-own_negative x e = omega (arith, ints)
-
 -- what changes its sign with an edge's direction adds up to nothing
 pub edges-cancel : (g : (ℕ × ℕ) → ℤ) → ((e : ℕ × ℕ) → g (back e) ≡ neg_ℤ (g e)) → (ts : List Triple) → IsClosed ts → sum_z g (edges ts) ≡ pos 0
 edges-cancel g h ts c =
-    own_negative (sum_z g (edges ts))
-    (sum_z-same_counts is_edge edge_tests g (edges ts) (map back (edges ts))
-    (λ e. count-is (is_edge e) (edges ts) ∙ c e.0 e.1 ∙ sym (count-is (is_edge (back e)) (edges ts))
-    ∙ sym (count-back e (edges ts))) ∙ sum-back g h (edges ts))
+    let opposite = sum_z-same_counts is_edge edge_tests g (edges ts) (map back (edges ts))
+    (λ e. count-is (is_edge e) (edges ts) ∙ c e.0 e.1 ∙ sym (count-is (is_edge (back e)) (edges ts)) ∙ sym (count-back e (edges ts))) in
+    omega (arith, ints, opposite ∙ sum-back g h (edges ts))
 
 -- the volume of a triangle and p
 abbrev pub vol_at : (ℕ → Vector) → Vector → Triple → ℤ

@@ -98,17 +98,12 @@ module _ (at : ℕ → Vector) (A : ℕ → Type 0) (i j k : ℕ) (plane : IsSup
       square : dot (opposite n) (opposite n) ≡ dot n n
       square = ring (put n []) (dotE (oppositeE (vec 0)) (oppositeE (vec 0))) (dotE (vec 0) (vec 0)) refl
 
-      turned : (x y : ℤ) → x ≡ neg_ℤ y → pos 0 <ℤ x → y <ℤ pos 0
-      turned x y e h = omega (arith, ints)
-
       -- where it looks the other way
       away : IsAlong m (opposite n) → dot m n <ℤ pos 0
       away h =
-          turned (dot m (opposite n)) (dot m n)
-          (dot_comm m (opposite n) ∙ dot-opposite n m ∙ ap neg_ℤ (dot_comm n m))
-          (positive_along h.t h.s (dot (opposite n) (opposite n)) (dot m (opposite n)) h.some_t h.some_s
-          (sym (dot_along m (opposite n) h (opposite n)))
-          (subst (λ x. pos 0 <ℤ x) (sym square) (square-positive n plane.area)))
+          let ahead = positive_along h.t h.s (dot (opposite n) (opposite n)) (dot m (opposite n)) h.some_t h.some_s
+          (sym (dot_along m (opposite n) h (opposite n))) (subst (λ x. pos 0 <ℤ x) (sym square) (square-positive n plane.area)) in
+          omega (arith, ints, dot_comm m (opposite n) ∙ dot-opposite n m ∙ ap neg_ℤ (dot_comm n m), ahead)
 
       level : (rise t (at i) ≡ pos 0) × (rise t (at j) ≡ pos 0) × (rise t (at k) ≡ pos 0) × (sink t ≡ pos 0)
           → Spans t ⊎ IsOther t
@@ -171,14 +166,12 @@ module _ (at : ℕ → Vector) (A : ℕ → Type 0) (i j k : ℕ) (plane : IsSup
           further : (l : ℕ) → A l → dot n (up l) <ℤ dot n p
           further l h =
               order _ _ _ _ (dot-past c n (at i) (at j) (at k) (at l)) (square-positive n plane.area)
-              (mul-nonneg_nonpos c _ (omega (arith, ints)) (three _ _ _ (height (at i) (vol-first (at i) (at j) (at k)))
-              (height (at j) (vol-second (at i) (at j) (at k))) (height (at k) (vol-third (at i) (at j) (at k)))))
+              (mul-nonneg_nonpos c _ (omega (arith, ints))
+              (let h = height (at i) (vol-first (at i) (at j) (at k)) in
+              omega (arith, ints, height (at j) (vol-second (at i) (at j) (at k)), height (at k) (vol-third (at i) (at j) (at k)))))
             where
               order : (x y s z : ℤ) → x ≡ y +ℤ s -ℤ z → pos 0 <ℤ s → z ≤ℤ pos 0 → y <ℤ x
               order x y s z e h k = omega (arith, ints)
-
-              three : (x y z : ℤ) → x ≤ℤ pos 0 → y ≤ℤ pos 0 → z ≤ℤ pos 0 → (x +ℤ y +ℤ z) ≤ℤ pos 0
-              three x y z h k l = omega (arith, ints)
 
               height : (q : Vector) → vol (at i) (at j) (at k) q ≡ pos 0 → dot n (minus (at l) q) ≤ℤ pos 0
               height q e =

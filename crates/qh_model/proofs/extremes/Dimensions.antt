@@ -85,13 +85,10 @@ triangle_of at A E m h = along (differ (cross (at h.i) (at h.j) (at h.k)) origin
     commuted : (n p q : Vector) → dot n p ≡ dot p n
     commuted n p q = omega (arith, ints)
 
-    nothing : (n : Vector) → dot n origin ≡ pos 0
-    nothing n = omega (arith, ints)
-
     along : Differ (cross (at h.i) (at h.j) (at h.k)) origin → HasTriangle at E
     along d = triangle_about at A E m h d.axis
         (λ e. d.differs (commuted d.axis (cross (at h.i) (at h.j) (at h.k)) origin
-        ∙ sym (left-dot d.axis (at h.i) (at h.j) (at h.k)) ∙ e ∙ sym (nothing d.axis)))
+        ∙ sym (left-dot d.axis (at h.i) (at h.j) (at h.k)) ∙ e ∙ sym (omega (arith, ints))))
 
 -- ---- two points
 -- a set of two has two of what combines to it
@@ -101,19 +98,13 @@ segment_of at A E d m h = along (differ (at h.i) (at h.j) (λ e. h.differ (d h.i
     plus_neg : (a b : ℤ) → a -ℤ b ≡ a +ℤ neg_ℤ b
     plus_neg a b = omega (arith, ints)
 
-    turned : (a b c : ℤ) → c ≡ neg_ℤ b → a -ℤ b ≡ c +ℤ a
-    turned a b c e = omega (arith, ints)
-
-    none : (a b : ℤ) → a ≡ b → a -ℤ b ≡ pos 0
-    none a b e = omega (arith, ints)
-
     second : (u : Vector) (i' : ℕ) → E i' → NonZero at E (λ q. dot u (at i') -ℤ dot u q) → HasSegment E
     second u i' ei r = record {
       i = i';
       j = r.e;
       has_i = ei;
       has_j = r.has;
-      differ = λ e. r.differs (none (dot u (at i')) (dot u (at r.e)) (ap (λ t. dot u (at t)) e));
+      differ = λ e. r.differs (omega (arith, ints, ap (λ t. dot u (at t)) e));
     }
 
     first : (u : Vector) → NonZero at E (λ q. dot u q -ℤ dot u (at h.j)) → HasSegment E
@@ -122,7 +113,7 @@ segment_of at A E d m h = along (differ (at h.i) (at h.j) (λ e. h.differ (d h.i
         (record {
           u = opposite u;
           c = dot u (at r.e);
-          is = λ q. turned (dot u (at r.e)) (dot u q) (dot (opposite u) q) (dot-opposite u q);
+          is = λ q. omega (arith, ints, dot-opposite u q);
         }) r.differs)
 
     along : Differ (at h.i) (at h.j) → HasSegment E

@@ -43,10 +43,6 @@ bent_step n a b c u v w x y z = simp ring_rules (omega (arith, ints))
 bent_is : (w : Vector) (u : V 4) (p : Vector) → dot (bent w u) p ≡ vdot 4 u (key w p)
 bent_is w u p = bent_step u.0 u.1.0 u.1.1.0 u.1.1.1.0 w.x w.y w.z p.x p.y p.z
 
--- an order, told otherwise
-lt_by : (a b c d : ℤ) → c ≡ a → d ≡ b → a <ℤ b → c <ℤ d
-lt_by a b c d e f h = omega (arith, ints)
-
 -- the case that remains
 unbottom : (T : Type 0) → ⊥ ⊎ T → T
 unbottom T (inl b) = absurd b
@@ -62,7 +58,7 @@ no_combination_by n key bend e at A p h m = from_witness (collapse n (λ j. ⊥)
     from_witness r = all_lower at A p (bend r.0) m (less m.a r.1.0) (less m.b r.1.1.0) (less m.c r.1.1.1.0) (less m.d r.1.1.1.1.0)
       where
         less : (j : ℕ) → ⊥ ⊎ (vdot n r.0 (key (at j)) <ℤ vdot n r.0 (key p)) → dot (bend r.0) (at j) <ℤ dot (bend r.0) p
-        less j l = lt_by _ _ _ _ (e r.0 (at j)) (e r.0 p) (unbottom _ l)
+        less j l = omega (arith, ints, e r.0 (at j), e r.0 p, unbottom _ l)
 
 -- what is lower does not combine
 pub no_combination : (at : ℕ → Vector) (A : ℕ → Type 0) (w p : Vector) → ((j : ℕ) → A j → Less 4 (key w (at j)) (key w p)) → ¬ (Combination at A p)

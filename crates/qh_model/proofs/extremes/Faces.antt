@@ -1,7 +1,7 @@
 -- Faces and dimensions of sets and of their extremes.
 use Rattle.std.proofs.Common.{◌≡◌, ◌≢◌, ℕ, arith, sym, ◌∙◌, ◌⊎◌, inl, inr, List}
 use Rattle.std.proofs.lemmas.Int.{ints, by_lt_z}
-use Rattle.std.specs.Prelude.{ℤ, pos, ◌+ℤ◌, ◌*ℤ◌, ◌<ℤ◌, ◌≤ℤ◌}
+use Rattle.std.specs.Prelude.{ℤ, pos, ◌+ℤ◌, ◌*ℤ◌, ◌<ℤ◌}
 use native.Mathlib.Decide.{ℕ_discrete}
 use Rattle.qh_model.proofs.algebra.{Integers.ring_rules, Order.le_antisym, Order.zero_or_not, VectorIdentities.vol-linear}
 use Rattle.qh_model.proofs.combinations.{Alternatives.all_lower, Vectors.V, Vectors.dot as vdot}
@@ -89,10 +89,6 @@ extremes_of_face at ids i j k s l = (
 )
 
 -- ---- what holds of the extremes holds of the members
--- what is outside is past all that is not
-outside_is_past : (v d e c f : ℤ) → v ≡ d +ℤ c → pos 0 <ℤ v → f ≡ e +ℤ c → f ≤ℤ pos 0 → e <ℤ d
-outside_is_past v d e c f h k l q = omega (arith, ints)
-
 -- the law
 pub support_of_extremes : SupportOfExtremes
 support_of_extremes at ids d i j k s l h =
@@ -106,7 +102,7 @@ support_of_extremes at ids d i j k s l h =
     v = vol (at i) (at j) (at k) (at l)
 
     below : (e : ℕ) → Extreme at (Members ids) e → pos 0 <ℤ v → dot n (at e) <ℤ dot n (at l)
-    below e x q = outside_is_past _ _ _ _ _ (vol-linear (at i) (at j) (at k) (at l)) q (vol-linear (at i) (at j) (at k) (at e)) (s e x)
+    below e x q = omega (arith, ints, vol-linear (at i) (at j) (at k) (at l), vol-linear (at i) (at j) (at k) (at e), s e x)
 
     clash : Combination at (Extreme at (Members ids)) (at l) → pos 0 <ℤ v → ⊥
     clash m q = all_lower at (Extreme at (Members ids)) (at l) n m (below m.a m.has_a q) (below m.b m.has_b q) (below m.c m.has_c q) (below m.d m.has_d q)

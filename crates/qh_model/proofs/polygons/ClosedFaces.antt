@@ -89,13 +89,9 @@ closed_fans qs h u v = sym (count-is (is_edge (u, v)) (edges ts)) ∙ same ∙ c
     ss : List (ℕ × ℕ)
     ss = flat_map steps_round qs
 
-    cancel : (a b c d : ℕ) → a + d ≡ b + c → c ≡ d → a ≡ b
-    cancel a b c d e f = omega arith
-
     same : times u v (edges ts) ≡ times v u (edges ts)
     same =
-        cancel _ _ _ _ (balanced u v qs)
-        (count-is (is_edge (u, v)) ss ∙ h u v ∙ sym (count-is (is_edge (v, u)) ss))
+        omega (arith, balanced u v qs, count-is (is_edge (u, v)) ss ∙ h u v ∙ sym (count-is (is_edge (v, u)) ss))
 
 -- ---- they are supporting triples with the same polygon
 -- two neighbours on the way from u along the list

@@ -39,10 +39,6 @@ turn_sign s l x y h e q k = by_lt_z l (pos 0) (λ p. absurd (clash (s *ℤ x) (l
     clash : (p q : ℤ) → p ≡ q → p ≤ℤ pos 0 → pos 0 <ℤ q → ⊥
     clash p q e h k = omega (arith, ints)
 
--- no number is above 0 and 0
-pub not_zero : (x : ℤ) → pos 0 <ℤ x → x ≡ pos 0 → ⊥
-not_zero x h e = omega (arith, ints)
-
 -- ---- a third member
 -- of three different numbers one is neither of two
 other_of_three : (x y z u v : ℕ) → x ≢ y → y ≢ z → x ≢ z → (w : ℕ) × ((w ≡ x) ⊎ (w ≡ y) ⊎ (w ≡ z)) × (w ≢ u) × (w ≢ v)
@@ -132,17 +128,14 @@ module _ (at : ℕ → Vector) (ids : List ℕ) (d : HasDistinctPoints at (Membe
       c : Vector
       c = cross_product n (minus (at v) (at u))
 
-      level : (x : ℤ) → x ≡ pos 0 → pos 0 ≤ℤ x
-      level x e = omega (arith, ints)
-
       extreme : (x : ℕ) → OnPlane at (Extreme at (Members ids)) i j k x → pos 0 ≤ℤ left n (at u) (at v) (at x)
       extreme x e = test (ℕ_discrete x u) (ℕ_discrete x v)
         where
           test : Dec (x ≡ u) → Dec (x ≡ v) → pos 0 ≤ℤ left n (at u) (at v) (at x)
-          test (yes p) b = level _
-              (ap (λ t. left n (at u) (at v) (at t)) p
-              ∙ in_line-left n (at u) (at v) (at u) (in_line-flip (at u) (at v) (at u) (in_line-twice (at u) (at v))))
-          test (no a) (yes p) = level _ (ap (λ t. left n (at u) (at v) (at t)) p ∙ in_line-left n (at u) (at v) (at v) (in_line-last (at u) (at v)))
+          test (yes p) b =
+              let line = in_line-flip (at u) (at v) (at u) (in_line-twice (at u) (at v)) in
+              omega (arith, ints, ap (λ t. left n (at u) (at v) (at t)) p ∙ in_line-left n (at u) (at v) (at u) line)
+          test (no a) (yes p) = omega (arith, ints, ap (λ t. left n (at u) (at v) (at t)) p ∙ in_line-left n (at u) (at v) (at v) (in_line-last (at u) (at v)))
           test (no a) (no b) = positive_le _ (to_left x e a b)
 
       -- along the opposite of c all extremes are lower than what lies to the right

@@ -10,7 +10,7 @@ use Rattle.qh_model.proofs.algebra.{Integers.mul_comm, Order.mul-pos, Order.canc
 use Rattle.qh_model.proofs.algebra.{Signs.less_differ, VectorIdentities.edge_product}
 use Rattle.qh_model.proofs.algebra.VectorIdentities.{vol-first, vol-second, vol-flip, vol-swap_last, left-flip, in_line-vol, in_line-left, in_line-twice}
 use Rattle.qh_model.proofs.extremes.Directions.{square-positive}
-use Rattle.qh_model.proofs.polygons.LeftOfEdge.{at_most, below, turn_sign, not_zero, Way, Third, has_u, has_v, third, square, over, not_right}
+use Rattle.qh_model.proofs.polygons.LeftOfEdge.{at_most, below, turn_sign, Way, Third, has_u, has_v, third, square, over, not_right}
 use Rattle.qh_model.proofs.polygons.{Neighbours.follows_members, Neighbours.next_member, PlaneTurns.level_volume}
 use Rattle.qh_model.proofs.surfaces.VisibleFacets.{Least, least}
 
@@ -153,9 +153,9 @@ module _ (at : ℕ → Vector) (ids : List ℕ) (d : HasDistinctPoints at (Membe
       has' = (f.members u).1 ((has_u at ids d i j k q u v way).0, vol-second (at v) (at u) (at w.w))
 
       differ : u ≢ v
-      differ e = not_zero _ x.turns
-          (in_line-left (cross (at i) (at j) (at k)) (at u) (at v) (at x.w)
-          (subst (λ t. AreInLine (at u) (at t) (at x.w)) e (in_line-twice (at u) (at x.w))))
+      differ e =
+          let line = subst (λ t. AreInLine (at u) (at t) (at x.w)) e (in_line-twice (at u) (at x.w)) in
+          omega (arith, ints, x.turns, in_line-left (cross (at i) (at j) (at k)) (at u) (at v) (at x.w) line)
 
       -- no member of the new plane lies to the right of the edge turned about
       not_right' : (y : ℕ) → In y p → pos 0 ≤ℤ left (cross (at v) (at u) (at w.w)) (at v) (at u) (at y)

@@ -8,7 +8,7 @@ use Rattle.qh_model.specs.contract.{FinishedSurface.weighted_at, FinishedSurface
 use Rattle.qh_model.specs.contract.Surface.{Surface, Side, start, end, IsWhole, rise, Side.first, Side.second, Side.third}
 use Rattle.qh_model.specs.{contract.Weighted.Weighted, contract.Weighted.above, headline.Predicates.vol, headline.Predicates.AreInLine, headline.Sets.In}
 use Rattle.qh_model.specs.{headline.Sets.Once, headline.Vector.Vector, laws.ClosedSurfaceLaws.SoundIsClosed, laws.ClosedSurfaceLaws.SoundHasVolume}
-use Rattle.qh_model.proofs.algebra.{Signs.less_le, Signs.zeros_not_negative, VectorIdentities.in_line-vol}
+use Rattle.qh_model.proofs.algebra.{Signs.less_le, VectorIdentities.in_line-vol}
 use Rattle.qh_model.proofs.closed_surfaces.{SignedVolume.edge_tests, SignedVolume.volume_is_constant, Sums.count, Sums.count-is}
 use Rattle.qh_model.proofs.surfaces.{Determinants.above-together, Facets.ends_differ, KeptSound.edge_once, SurfaceLaws.rise_is_vol}
 
@@ -149,7 +149,7 @@ module _ (at : ℕ → Vector) (m : Surface) (s t u v : ℕ) where
   -- a facet that the middle is strictly below is a triangle
   pub inner_area : (f : ℕ) → rise m (weighted_at at) f (middle_at at s t u v) <ℤ pos 0
       → ¬ (AreInLine (at (m.i f)) (at (m.j f)) (at (m.k f)))
-  inner_area f h e = zeros_not_negative _ _ _ _ _ (four_volumes f) h (flat s) (flat t) (flat u) (flat v)
+  inner_area f h e = omega (arith, ints, four_volumes f, flat s, flat t, flat u, flat v)
     where
       flat : (l : ℕ) → vol (at (m.i f)) (at (m.j f)) (at (m.k f)) (at l) ≡ pos 0
       flat l = in_line-vol (at (m.i f)) (at (m.j f)) (at (m.k f)) (at l) e
