@@ -1,28 +1,19 @@
 -- Claiming a block, and being told that all are claimed.
-use Rattle.std.proofs.Common.{◌≡◌, ◌≢◌, ◌⊎◌, inl, inr, ℕ, zero, suc, ◌+◌, ◌*◌, ◌%◌, ◌^◌, ◌<◌, ◌≤◌, min, true}
-use Rattle.std.proofs.Common.{false, List, [], ◌∷◌, length, set, sym, refl, ap, ◌∙◌, subst, arith, eq-eqb, Option}
-use Rattle.std.proofs.Common.{Some, None, get_or, length-set, length-append, get_or-set_same}
+use Rattle.std.proofs.Common.{◌≡◌, ◌≢◌, ◌⊎◌, inl, inr, ℕ, zero, suc, ◌+◌, ◌*◌, ◌%◌, ◌^◌, ◌<◌, ◌≤◌, min, true, false, List, [], ◌∷◌, length, set, sym, refl, ap}
+use Rattle.std.proofs.Common.{◌∙◌, subst, arith, eq-eqb, Option, Some, None, get_or, length-set, length-append, get_or-set_same}
+use Rattle.std.proofs.lemmas.Bool.Decides.{nat_tests}
 use Rattle.std.specs.Prelude.{All, slice_index, nat_lt, ◌==◌}
-use mathlib.Core.Logic.{dite}
-use mathlib.Core.Option.{some, none}
+use mathlib.Core.{Logic.dite, Option.some, Option.none}
 use native.Mathlib.Decide.{dec_le}
 use lib.ListN.{get_elem?}
-use Rattle.std.proofs.lemmas.Bool.Decides.{nat_tests}
 use Rattle.atomic_table.specs.Table.{State, Me, step, keeps, takes, Allows}
-use Rattle.qh_model.specs.contract.BoardMachine.{Place, untouched, held}
-use Rattle.qh_model.specs.contract.BoardMachine.{Machine, Event, claim_got, claim_over, Can, after, settled}
-use Rattle.qh_model.specs.contract.BoardMachine.{put}
-use Rattle.qh_model.proofs.board.Updates.{put_here, put_else, at_put}
-use Rattle.qh_model.proofs.board.Reached.{reach_good, reach_claims}
-use Rattle.qh_board.specs.declared.view.Setup.{Setup}
-use Rattle.qh_board.specs.declared.view.Record.{Record}
-use Rattle.qh_board.specs.declared.view.View.{View}
+use Rattle.qh_model.specs.contract.BoardMachine.{Place, untouched, held, Machine, Event, claim_got, claim_over, Can, after, settled, put}
+use Rattle.qh_model.proofs.board.{Reached.reach_good, Reached.reach_claims, Updates.put_here, Updates.put_else, Updates.at_put}
 use Rattle.qh_board.specs.contract.Records.{with_block, told_over}
-use Rattle.qh_board.specs.steps.Shown.{mark_of}
-use Rattle.qh_board.specs.steps.Rule.{one_if, times, Agrees, SlotOf, Kept, Ruled}
-use Rattle.qh_board.specs.steps.Views.{view_of, HasRecord, IsClaim}
-use Rattle.qh_board.proofs.Totals.{one_of}
+use Rattle.qh_board.specs.{declared.view.Record.Record, declared.view.Setup.Setup, declared.view.View.View, steps.Rule.one_if}
+use Rattle.qh_board.specs.steps.{Rule.times, Rule.Agrees, Rule.SlotOf, Rule.Kept, Rule.Ruled, Shown.mark_of, Views.view_of, Views.HasRecord, Views.IsClaim}
 use Rattle.qh_board.proofs.Steps.{steps, others_keep, allowed_at, seat_record, seated, nothing, slots_put, settled_put, word_else, times_snoc}
+use Rattle.qh_board.proofs.Totals.{one_of}
 
 module _ {S X : Type 0} (right : S → (ℕ → Type 0) → X → Type 0) (key : Setup S) where
   below_more : (x c : ℕ) → c < key.blocks → one_if (nat_lt x (min (c + 1) key.blocks)) ≡ one_if (nat_lt x (min c key.blocks)) + one_if (c == x)

@@ -1,31 +1,17 @@
 -- The first arrival at a node, which leaves its value.
-use Rattle.std.proofs.Common.{◌≡◌, ◌≢◌, ◌⊎◌, inl, inr, ℕ, ◌+◌, ◌<◌}
-use Rattle.std.proofs.Common.{[], ◌∷◌, set, sym, refl, ap, ◌∙◌, subst, arith}
-use Rattle.std.proofs.Common.{Option, Some, None, length-set, get_or-set_same}
+use Rattle.std.proofs.Common.{◌≡◌, ◌≢◌, ◌⊎◌, inl, inr, ℕ, ◌+◌, ◌<◌, [], ◌∷◌, set, sym, refl, ap, ◌∙◌, subst, arith, Option, Some, None, length-set}
+use Rattle.std.proofs.Common.{get_or-set_same}
 use Rattle.std.specs.Prelude.{slice_index, ◌==◌}
-use mathlib.Core.Logic.{dite}
-use mathlib.Core.Option.{some}
+use mathlib.Core.{Logic.dite, Option.some}
 use native.Mathlib.Decide.{ℕ_discrete}
 use lib.ListN.{get_elem?}
 use Rattle.atomic_table.specs.Table.{State}
-use Rattle.qh_model.specs.contract.BoardMachine.{Place, untouched, held, parked}
-use Rattle.qh_model.specs.contract.BoardMachine.{Machine, Event, arrive_first, Can, after}
-use Rattle.qh_model.specs.contract.BoardMachine.{settled, put, parent}
-use Rattle.qh_model.proofs.board.Updates.{put_here, put_else, at_put}
-use Rattle.qh_model.proofs.board.Siblings.{near}
-use Rattle.qh_model.proofs.board.Grown.{ranged}
-use Rattle.qh_model.proofs.board.Reached.{reach_good}
-use Rattle.qh_board.specs.declared.view.Setup.{Setup}
-use Rattle.qh_board.specs.declared.view.Record.{Record}
-use Rattle.qh_board.specs.declared.view.View.{View}
-use Rattle.qh_model.specs.contract.BoardMachine.{InSpan}
-use Rattle.qh_board.specs.contract.Records.{come_first}
-use Rattle.qh_board.specs.steps.Shown.{mark_of}
-use Rattle.qh_board.specs.steps.Rule.{one_if, Agrees, SlotOf, Kept}
-use Rattle.qh_board.specs.steps.Views.{view_of}
+use Rattle.qh_model.specs.contract.BoardMachine.{Place, untouched, held, parked, Machine, Event, arrive_first, Can, after, settled, put, parent, InSpan}
+use Rattle.qh_model.proofs.board.{Grown.ranged, Reached.reach_good, Siblings.near, Updates.put_here, Updates.put_else, Updates.at_put}
+use Rattle.qh_board.specs.{contract.Records.come_first, declared.view.Record.Record, declared.view.Setup.Setup, declared.view.View.View}
+use Rattle.qh_board.specs.steps.{Rule.one_if, Rule.Agrees, Rule.SlotOf, Rule.Kept, Shown.mark_of, Views.view_of}
+use Rattle.qh_board.proofs.{ParentWords.arrivals_up, ParentWords.sibling_is, SlotsHome.laid, SlotsHome.length_laid, SlotsHome.load, SlotsHome.slots_home}
 use Rattle.qh_board.proofs.Steps.{steps, others_keep, word_else}
-use Rattle.qh_board.proofs.SlotsHome.{laid, length_laid, load, slots_home}
-use Rattle.qh_board.proofs.ParentWords.{arrivals_up, sibling_is}
 
 module _ {S X : Type 0} (right : S → (ℕ → Type 0) → X → Type 0) (key : Setup S) where
   pub first_step : (s : State (Option X) (View S)) (R : Kept right key s) (id i : ℕ) (x : X) (r : Record)

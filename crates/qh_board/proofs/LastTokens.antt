@@ -1,27 +1,19 @@
 -- What the tokens of a board that closes tell: the records of all passes, and what came out at the root.
-use Rattle.std.proofs.Common.{◌≡◌, ◌≢◌, ◌↔◌, ℕ, zero, suc, ◌+◌, ◌≤◌, Bool, true, false, List, [], ◌∷◌, ◌++◌, length}
-use Rattle.std.proofs.Common.{sym, refl, ap, ◌∙◌, subst, arith, ne_eqb, cond, Option, Some, None}
-use Rattle.std.proofs.lemmas.List.{map-append, append_assoc}
-use Rattle.std.proofs.lemmas.List.Recursion.{is_sum_by, is_count_by}
-use Rattle.std.specs.Prelude.{slice_index, slice_index_or, sum_by, map, ◌==◌, IsSome, IfSome, All}
-use mathlib.Core.Logic.{dite}
-use mathlib.Core.Option.{some, some-injective, some-ne-none}
-use native.Mathlib.Decide.{ℕ_discrete}
-use lib.ListN.{get_elem?}
-use Rattle.atomic_table.specs.Table.{Final, Seen}
-use Rattle.atomic_table.specs.Seated.{TableId}
-use Rattle.qh_model.specs.contract.BoardMachine.{InSpan}
-use Rattle.qh_board.specs.declared.view.Setup.{Setup}
-use Rattle.qh_board.specs.declared.view.Record.{Record}
-use Rattle.qh_board.specs.declared.view.View.{View}
 use Rattle.qh_board.specs.declared.view.Mark as ended
 use Rattle.qh_board.specs.declared.view.Mark.TheVariants as marks
-use Rattle.qh_board.specs.contract.Tokens.{Token}
-use Rattle.qh_board.specs.contract.Closings.{mark_of_word, claims_made, tokens_of}
-use Rattle.qh_board.specs.steps.Shown.{mark_of, mark_word}
+use Rattle.std.proofs.Common.{◌≡◌, ◌≢◌, ◌↔◌, ℕ, zero, suc, ◌+◌, ◌≤◌, Bool, true, false, List, [], ◌∷◌, ◌++◌, length, sym, refl, ap, ◌∙◌, subst, arith, ne_eqb}
+use Rattle.std.proofs.Common.{cond, Option, Some, None}
+use Rattle.std.proofs.lemmas.List.{map-append, append_assoc, Recursion.is_sum_by, Recursion.is_count_by}
+use Rattle.std.specs.Prelude.{slice_index, slice_index_or, sum_by, map, ◌==◌, IsSome, IfSome, All}
+use mathlib.Core.{Logic.dite, Option.some, Option.some-injective, Option.some-ne-none}
+use native.Mathlib.Decide.{ℕ_discrete}
+use lib.ListN.{get_elem?}
+use Rattle.atomic_table.specs.{Seated.TableId, Table.Final, Table.Seen}
+use Rattle.qh_model.specs.contract.BoardMachine.{InSpan}
+use Rattle.qh_board.specs.contract.{Closings.mark_of_word, Closings.claims_made, Closings.tokens_of, Tokens.Token}
+use Rattle.qh_board.specs.declared.view.{Record.Record, Setup.Setup, View.View}
 use Rattle.qh_board.specs.steps.Rule.{one_if, weigh, named, claims_of, Ruled}
-use Rattle.qh_board.specs.steps.Views.{record_of, head_or, HasEnded}
-use Rattle.qh_board.specs.steps.Seats.{token_of}
+use Rattle.qh_board.specs.steps.{Seats.token_of, Shown.mark_of, Shown.mark_word, Views.record_of, Views.head_or, Views.HasEnded}
 use Rattle.qh_board.proofs.LastStates.{Each, Last, closes}
 
 -- the mark that a word tells is that of the record

@@ -1,25 +1,16 @@
 -- Leaving the board.
-use Rattle.std.proofs.Common.{◌≡◌, ℕ, ◌+◌, ◌%◌, ◌^◌, Bool}
-use Rattle.std.proofs.Common.{[], ◌∷◌, set, sym, refl, ap, ◌∙◌, subst, arith, Option}
-use Rattle.std.proofs.Common.{Some, None, length-set, get_or-set_same}
+use Rattle.qh_model.specs.contract.BoardMachine as machine
+use Rattle.std.proofs.Common.{◌≡◌, ℕ, ◌+◌, ◌%◌, ◌^◌, Bool, [], ◌∷◌, set, sym, refl, ap, ◌∙◌, subst, arith, Option, Some, None, length-set, get_or-set_same}
 use Rattle.std.specs.Prelude.{slice_index, ◌==◌}
-use mathlib.Core.Logic.{dite}
-use mathlib.Core.Option.{some, none}
+use mathlib.Core.{Logic.dite, Option.some, Option.none}
 use native.Mathlib.Decide.{ℕ_discrete}
 use lib.ListN.{get_elem?}
 use Rattle.atomic_table.specs.Table.{State, Me, step, keeps, Allows}
-use Rattle.qh_model.specs.contract.BoardMachine.{Place, untouched, held, parked, used, published, Mark, left, gave_up}
-use Rattle.qh_model.specs.contract.BoardMachine.{Machine, Event, claim_got, claim_over, Can, after, Reachable, settled}
-use Rattle.qh_model.specs.contract.BoardMachine.{put}
-use Rattle.qh_model.specs.contract.BoardMachine as machine
+use Rattle.qh_model.specs.contract.BoardMachine.{Place, untouched, held, parked, used, published, Mark, left, gave_up, Machine, Event, claim_got, claim_over}
+use Rattle.qh_model.specs.contract.BoardMachine.{Can, after, Reachable, settled, put}
 use Rattle.qh_model.proofs.board.Updates.{put_here, put_else}
-use Rattle.qh_board.specs.declared.view.Setup.{Setup}
-use Rattle.qh_board.specs.declared.view.Record.{Record}
-use Rattle.qh_board.specs.declared.view.View.{View}
-use Rattle.qh_board.specs.declared.view.Mark.TheVariants.{Left}
-use Rattle.qh_board.specs.steps.Shown.{mark_of, mark_word}
-use Rattle.qh_board.specs.steps.Rule.{one_if, Kept, Ruled}
-use Rattle.qh_board.specs.steps.Views.{view_of, HasRecord, marked}
+use Rattle.qh_board.specs.declared.view.{Mark.TheVariants.Left, Record.Record, Setup.Setup, View.View}
+use Rattle.qh_board.specs.steps.{Rule.one_if, Rule.Kept, Rule.Ruled, Shown.mark_of, Shown.mark_word, Views.view_of, Views.HasRecord, Views.marked}
 use Rattle.qh_board.proofs.Steps.{steps, others_keep, allowed_at, seat_record, seated, nothing, word_else}
 
 module _ {S X : Type 0} (right : S → (ℕ → Type 0) → X → Type 0) (key : Setup S) where

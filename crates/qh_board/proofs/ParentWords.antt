@@ -1,15 +1,10 @@
 -- The word of a parent: the number of its children that are settled.
-use Rattle.std.proofs.Common.{◌≡◌, ◌≢◌, inl, inr, ℕ, ◌+◌, ◌*◌, ◌<◌}
-use Rattle.std.proofs.Common.{List, length, set, sym, refl, ap, ◌∙◌, subst, arith}
-use Rattle.std.proofs.Common.{get_or-set_same}
+use Rattle.std.proofs.Common.{◌≡◌, ◌≢◌, inl, inr, ℕ, ◌+◌, ◌*◌, ◌<◌, List, length, set, sym, refl, ap, ◌∙◌, subst, arith, get_or-set_same}
 use Rattle.std.specs.Prelude.{slice_index}
 use mathlib.Core.Logic.{dite}
 use native.Mathlib.Decide.{ℕ_discrete}
-use Rattle.qh_model.specs.contract.BoardMachine.{Place, untouched, held, parked, used, published}
-use Rattle.qh_model.specs.contract.BoardMachine.{Machine}
-use Rattle.qh_model.specs.contract.BoardMachine.{settled, sibling, parent}
-use Rattle.qh_model.proofs.board.Grown.{Consistent, ranged}
-use Rattle.qh_model.proofs.board.Siblings.{ArePair, near}
+use Rattle.qh_model.specs.contract.BoardMachine.{Place, untouched, held, parked, used, published, Machine, settled, sibling, parent}
+use Rattle.qh_model.proofs.board.{Grown.Consistent, Grown.ranged, Siblings.ArePair, Siblings.near}
 use Rattle.qh_board.specs.declared.view.Setup.{Setup}
 use Rattle.qh_board.proofs.Steps.{word_else}
 

@@ -1,27 +1,17 @@
 -- Publishing the root.
-use Rattle.std.proofs.Common.{◌≡◌, ◌≢◌, ◌⊎◌, inl, inr, ℕ, ◌+◌, ◌*◌, ◌%◌, ◌^◌, ◌<◌, Bool}
-use Rattle.std.proofs.Common.{[], ◌∷◌, set, sym, refl, ap, ◌∙◌, subst, arith}
-use Rattle.std.proofs.Common.{Option, Some, None, length-set, get_or-set_same}
+use Rattle.std.proofs.Common.{◌≡◌, ◌≢◌, ◌⊎◌, inl, inr, ℕ, ◌+◌, ◌*◌, ◌%◌, ◌^◌, ◌<◌, Bool, [], ◌∷◌, set, sym, refl, ap, ◌∙◌, subst, arith, Option, Some, None}
+use Rattle.std.proofs.Common.{length-set, get_or-set_same}
 use Rattle.std.specs.Prelude.{slice_index, ◌==◌}
-use mathlib.Core.Logic.{dite}
-use mathlib.Core.Option.{some, none}
+use mathlib.Core.{Logic.dite, Option.some, Option.none}
 use native.Mathlib.Decide.{ℕ_discrete}
 use lib.ListN.{get_elem?}
 use Rattle.atomic_table.specs.Table.{State, Me, step, Allows, rest}
-use Rattle.qh_model.specs.contract.BoardMachine.{Place, held, published}
-use Rattle.qh_model.specs.contract.BoardMachine.{Machine, Event, publish, Can, after}
-use Rattle.qh_model.specs.contract.BoardMachine.{settled, put}
-use Rattle.qh_model.proofs.board.Updates.{put_here, put_else, at_put}
-use Rattle.qh_model.proofs.board.Reached.{reach_good}
-use Rattle.qh_board.specs.declared.view.Setup.{Setup}
-use Rattle.qh_board.specs.declared.view.Record.{Record}
-use Rattle.qh_board.specs.declared.view.View.{View}
-use Rattle.qh_model.specs.contract.BoardMachine.{InSpan}
-use Rattle.qh_board.specs.steps.Shown.{mark_of}
-use Rattle.qh_board.specs.steps.Rule.{one_if, Agrees, SlotOf, Kept, Ruled}
-use Rattle.qh_board.specs.steps.Views.{view_of, kids, blocks_of, HasRecord, put_out}
-use Rattle.qh_board.proofs.Steps.{Homes, steps, allowed_at, seat_record, others_keep, word_else}
+use Rattle.qh_model.specs.contract.BoardMachine.{Place, held, published, Machine, Event, publish, Can, after, settled, put, InSpan}
+use Rattle.qh_model.proofs.board.{Reached.reach_good, Updates.put_here, Updates.put_else, Updates.at_put}
+use Rattle.qh_board.specs.{declared.view.Record.Record, declared.view.Setup.Setup, declared.view.View.View, steps.Rule.one_if, steps.Rule.Agrees}
+use Rattle.qh_board.specs.steps.{Rule.SlotOf, Rule.Kept, Rule.Ruled, Shown.mark_of, Views.view_of, Views.kids, Views.blocks_of, Views.HasRecord, Views.put_out}
 use Rattle.qh_board.proofs.SlotsHome.{give_all, laid, valid_all, carried_all, homes_all, length_laid, load, slots_home, filled}
+use Rattle.qh_board.proofs.Steps.{Homes, steps, allowed_at, seat_record, others_keep, word_else}
 
 module _ {S X : Type 0} (right : S → (ℕ → Type 0) → X → Type 0) (key : Setup S) where
   publish_step : (s : State (Option X) (View S)) (R : Kept right key s) (id : ℕ) (x : X) (r : Record)

@@ -1,35 +1,22 @@
 -- The second arrival at a node, which takes both values.
-use Rattle.std.proofs.Common.{◌≡◌, ◌≢◌, inl, inr, ⊎_elim, ℕ, ◌+◌, ◌*◌, ◌<◌, ◌≤◌}
-use Rattle.std.proofs.Common.{[], ◌∷◌, length, set, sym, refl, ap, ◌∙◌, subst, arith, eq-eqb, ne_eqb}
-use Rattle.std.proofs.Common.{Option, Some, None, length-set, get_or-set_same}
-use Rattle.std.specs.Prelude.{slice_index, ◌==◌}
-use mathlib.Core.Logic.{dite}
-use mathlib.Core.Option.{some, none, some-injective, some-ne-none}
 use mathlib.Core.Option as maybe
+use Rattle.qh_model.specs.contract.BoardMachine as machine
+use Rattle.std.proofs.Common.{◌≡◌, ◌≢◌, inl, inr, ⊎_elim, ℕ, ◌+◌, ◌*◌, ◌<◌, ◌≤◌, [], ◌∷◌, length, set, sym, refl, ap, ◌∙◌, subst, arith, eq-eqb, ne_eqb, Option}
+use Rattle.std.proofs.Common.{Some, None, length-set, get_or-set_same}
+use Rattle.std.specs.Prelude.{slice_index, ◌==◌}
+use mathlib.Core.{Logic.dite, Option.some, Option.none, Option.some-injective, Option.some-ne-none}
 use native.Mathlib.Decide.{ℕ_discrete}
 use lib.ListN.{get_elem?}
 use Rattle.atomic_table.specs.Table.{State}
 use Rattle.atomic_table.proofs.Lists.{set_here, set_else}
-use Rattle.qh_model.specs.contract.BoardMachine.{Place, untouched, held, parked, used, published, Mark, left, gave_up}
-use Rattle.qh_model.specs.contract.BoardMachine.{Machine, Event, arrive_first, arrive_second, publish, Can, after}
-use Rattle.qh_model.specs.contract.BoardMachine.{Reachable, settled, put, sibling, parent}
-use Rattle.qh_model.specs.contract.BoardMachine as machine
-use Rattle.qh_model.proofs.board.Updates.{put_else}
-use Rattle.qh_model.proofs.board.Siblings.{ArePair, near}
-use Rattle.qh_model.proofs.board.Grown.{ranged}
-use Rattle.qh_model.proofs.board.Joined.{Cases, same, spent, got, joined, cases, fresh, at_i, at_s, at_p}
-use Rattle.qh_model.proofs.board.Reached.{reach_good}
-use Rattle.qh_board.specs.declared.view.Setup.{Setup}
-use Rattle.qh_board.specs.declared.view.Record.{Record}
-use Rattle.qh_board.specs.declared.view.View.{View}
-use Rattle.qh_model.specs.contract.BoardMachine.{InSpan}
-use Rattle.qh_board.specs.contract.Records.{come_second}
-use Rattle.qh_board.specs.steps.Shown.{mark_of}
-use Rattle.qh_board.specs.steps.Rule.{one_if, Agrees, SlotOf, Kept}
-use Rattle.qh_board.specs.steps.Views.{view_of}
+use Rattle.qh_model.specs.contract.BoardMachine.{Place, untouched, held, parked, used, published, Mark, left, gave_up, Machine, Event, arrive_first}
+use Rattle.qh_model.specs.contract.BoardMachine.{arrive_second, publish, Can, after, Reachable, settled, put, sibling, parent, InSpan}
+use Rattle.qh_model.proofs.board.{Grown.ranged, Joined.Cases, Joined.same, Joined.spent, Joined.got, Joined.joined, Joined.cases, Joined.fresh, Joined.at_i}
+use Rattle.qh_model.proofs.board.{Joined.at_s, Joined.at_p, Reached.reach_good, Siblings.ArePair, Siblings.near, Updates.put_else}
+use Rattle.qh_board.specs.{contract.Records.come_second, declared.view.Record.Record, declared.view.Setup.Setup, declared.view.View.View}
+use Rattle.qh_board.specs.steps.{Rule.one_if, Rule.Agrees, Rule.SlotOf, Rule.Kept, Shown.mark_of, Views.view_of}
+use Rattle.qh_board.proofs.{ParentWords.arrivals_up, ParentWords.sibling_is, SlotsHome.laid, SlotsHome.length_laid, SlotsHome.load, SlotsHome.slots_home}
 use Rattle.qh_board.proofs.Steps.{Homes, steps, others_keep, word_else, times_snoc}
-use Rattle.qh_board.proofs.SlotsHome.{laid, length_laid, load, slots_home}
-use Rattle.qh_board.proofs.ParentWords.{arrivals_up, sibling_is}
 
 module _ {S X : Type 0} (right : S → (ℕ → Type 0) → X → Type 0) (key : Setup S) where
   pub second_step : (s : State (Option X) (View S)) (R : Kept right key s) (id i : ℕ) (x : X) (r : Record) (homes' : Homes X)

@@ -1,13 +1,10 @@
 -- What a token of a board shows of its seat.
 use Rattle.std.proofs.Common.{◌≡◌, ℕ, Bool, false, ap, sym, ◌∙◌, subst, Option, Some}
 use Rattle.atomic_table.specs.Seated.{TableId}
-use Rattle.qh_board.specs.declared.view.Setup.{Setup}
-use Rattle.qh_board.specs.declared.view.View.{View}
-use Rattle.qh_board.specs.declared.view.Mark.{Mark}
-use Rattle.qh_model.specs.contract.BoardMachine.{InSpan}
 use Rattle.qh_board.specs.contract.Tokens.{BoardValue, Token, IsOf, IsRightAt, node_or, task_node}
-use Rattle.qh_board.specs.steps.Views.{HasRecord, record_of}
-use Rattle.qh_board.specs.steps.Seats.{token_of}
+use Rattle.qh_board.specs.declared.view.{Mark.Mark, Setup.Setup, View.View}
+use Rattle.qh_board.specs.steps.{Seats.token_of, Views.HasRecord, Views.record_of}
+use Rattle.qh_model.specs.contract.BoardMachine.{InSpan}
 
 -- a board of this table and setup
 abbrev pub board_of : {S : Type 0} → TableId → Setup S → BoardValue S

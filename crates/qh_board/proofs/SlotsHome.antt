@@ -1,23 +1,17 @@
 -- The slots that a pass carries, and what lies in each once they are home.
-use Rattle.std.proofs.Common.{◌≡◌, ◌≢◌, ℕ, zero, suc, ◌+◌, ◌*◌, ◌<◌, ◌≤◌, Bool}
-use Rattle.std.proofs.Common.{true, false, List, [], ◌∷◌, length, set, sym, refl, ap, ◌∙◌, subst, arith}
-use Rattle.std.proofs.Common.{if◌then◌else◌, Option, Some, None, length-set}
-use Rattle.std.specs.Prelude.{nat_lt}
-use mathlib.Core.Logic.{dite}
-use mathlib.Core.Option.{some, none, some-injective, some-ne-none}
 use mathlib.Core.Option as maybe
+use Rattle.std.proofs.Common.{◌≡◌, ◌≢◌, ℕ, zero, suc, ◌+◌, ◌*◌, ◌<◌, ◌≤◌, Bool, true, false, List, [], ◌∷◌, length, set, sym, refl, ap, ◌∙◌, subst, arith}
+use Rattle.std.proofs.{Common.if◌then◌else◌, Common.Option, Common.Some, Common.None, Common.length-set, lemmas.Bool.Decides.nat_tests}
+use Rattle.std.specs.Prelude.{nat_lt}
+use mathlib.Core.{Logic.dite, Option.some, Option.none, Option.some-injective, Option.some-ne-none}
 use native.Mathlib.Decide.{ℕ_discrete, dec_le}
 use lib.ListN.{get_elem?}
-use Rattle.std.proofs.lemmas.Bool.Decides.{nat_tests}
 use Rattle.atomic_table.specs.Table.{State, Me, Act, keeps, gives, chain, Valid, homes_after, carried_after, rest}
 use Rattle.atomic_table.proofs.Lists.{set_here, set_else}
 use Rattle.qh_model.specs.contract.BoardMachine.{Place, untouched, held, used}
-use Rattle.qh_model.proofs.board.Grown.{ranged}
-use Rattle.qh_model.proofs.board.Reached.{reach_good}
-use Rattle.qh_board.specs.declared.view.Setup.{Setup}
-use Rattle.qh_board.specs.declared.view.View.{View}
-use Rattle.qh_board.specs.steps.Rule.{SlotOf, Kept}
-use Rattle.qh_board.specs.steps.Views.{view_of, kids, blocks_of, blocks_in, HasRecord}
+use Rattle.qh_model.proofs.board.{Grown.ranged, Reached.reach_good}
+use Rattle.qh_board.specs.declared.view.{Setup.Setup, View.View}
+use Rattle.qh_board.specs.steps.{Rule.SlotOf, Rule.Kept, Views.view_of, Views.kids, Views.blocks_of, Views.blocks_in, Views.HasRecord}
 use Rattle.qh_board.proofs.Steps.{Homes, seat_record, seated}
 
 module _ {A : Type 0} where

@@ -1,13 +1,10 @@
 -- A walk in a finite list on which a fraction grows at each step comes to an end.
 use Rattle.std.proofs.Common.{◌≡◌, ℕ, zero, suc, ◌+◌, ◌<◌, ◌≤◌, refl, sym, ap, ◌∙◌, arith, List, [], ◌∷◌, Bool, true, false, cond, ◌&&◌, ◌⊎◌, inl, inr}
-use Rattle.std.proofs.lemmas.Int.{ints, by_lt_z}
-use Rattle.std.proofs.lemmas.Bool.{and_from, and_parts, and_right}
+use Rattle.std.proofs.lemmas.{Bool.and_from, Bool.and_parts, Bool.and_right, Int.ints, Int.by_lt_z}
 use Rattle.std.specs.Prelude.{ℤ, pos, ◌*ℤ◌, ◌≤ℤ◌, ◌<ℤ◌, int_lt}
 use Rattle.qh_model.specs.headline.Sets.{In}
-use Rattle.qh_model.proofs.algebra.Signs.{less_le}
-use Rattle.qh_model.proofs.closed_surfaces.Sums.{count}
-use Rattle.qh_convex_laws.proofs.Signs.{above, above_is, is_above}
-use Rattle.qh_convex_laws.proofs.Greatest.{ratio-trans}
+use Rattle.qh_model.proofs.{algebra.Signs.less_le, closed_surfaces.Sums.count}
+use Rattle.qh_convex_laws.proofs.{Greatest.ratio-trans, Signs.above, Signs.above_is, Signs.is_above}
 
 -- ---- tests that are told apart by a member
 -- no more pass the narrower test
@@ -53,10 +50,6 @@ module _ {X : Type 0} (num den : X → ℤ) (P : X → Type 0) (D : Type 0) (xs 
   abbrev pub Next : X → Type 0
   Next x = (y : X) × In y xs × P y × ((num x *ℤ den y) <ℤ (num y *ℤ den x))
 
-  -- what a test of less says
-  less_is : (a b : ℤ) → int_lt a b ≡ true → a <ℤ b
-  less_is a b e = omega (arith, ints)
-
   -- and back
   is_less : (a b : ℤ) → a <ℤ b → int_lt a b ≡ true
   is_less a b h = by (int_lt a b) refl
@@ -78,7 +71,7 @@ module _ {X : Type 0} (num den : X → ℤ) (P : X → Type 0) (D : Type 0) (xs 
   greater-trans x y z hx hy l e =
       let p = and_parts (above (den z)) (int_lt (num y *ℤ den z) (num z *ℤ den y)) e in
       and_from (above (den z)) (int_lt (num x *ℤ den z) (num z *ℤ den x)) p.0
-      (is_less _ _ (go (above_is (den z) p.0) (less_is _ _ p.1)))
+      (is_less _ _ (go (above_is (den z) p.0) (omega (arith, ints, p.1))))
     where
       clash : (a b : ℤ) → a <ℤ b → b ≤ℤ a → ⊥
       clash a b h k = omega (arith, ints)

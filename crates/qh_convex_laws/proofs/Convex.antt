@@ -2,26 +2,17 @@
 use Rattle.std.proofs.Common.{◌≡◌, ℕ, ◌≤◌, refl, sym, subst, ◌∙◌, arith, List, [], ◌∷◌, length, true, ◌⊎◌, inl, inr}
 use Rattle.std.proofs.lemmas.Int.{ints}
 use Rattle.std.specs.Prelude.{ℤ, pos, neg_ℤ, count_by, ◌≤ℤ◌, ◌<ℤ◌}
-use Rattle.qh_model.specs.headline.Vector.{Vector, minus, dot}
-use Rattle.qh_model.specs.headline.Predicates.{cross, vol, AreInLine}
-use Rattle.qh_model.specs.headline.Sets.{In, Members}
 use Rattle.qh_model.specs.contract.ClosedSurface.{Triple}
-use Rattle.qh_model.specs.laws.ClosedSurfaceLaws.{IsCornerOf}
-use Rattle.qh_model.specs.laws.ClosedFaceLaws.{AreSupporting}
-use Rattle.qh_model.proofs.algebra.{Signs.less_le, VectorIdentities.in_line-vol}
-use Rattle.qh_model.proofs.closed_surfaces.Sums.{count, count-is}
+use Rattle.qh_model.specs.headline.{Predicates.cross, Predicates.vol, Predicates.AreInLine, Sets.In, Sets.Members, Vector.Vector, Vector.minus, Vector.dot}
+use Rattle.qh_model.specs.laws.{ClosedFaceLaws.AreSupporting, ClosedSurfaceLaws.IsCornerOf}
+use Rattle.qh_model.proofs.{algebra.Signs.less_le, algebra.VectorIdentities.in_line-vol, closed_surfaces.Sums.count, closed_surfaces.Sums.count-is}
 use Rattle.qh_convex_laws.specs.contract.LocallyConvex.{IsLocallyConvex, IsUnder, HasAllUnder, is_met}
 use Rattle.qh_convex_laws.specs.laws.ConvexLaws.{LocalIsConvex, UnderIsBelow, LocalSupports}
-use Rattle.qh_convex_laws.proofs.Signs.{above, is_above}
-use Rattle.qh_convex_laws.proofs.Directions.{IsOffEdges}
-use Rattle.qh_convex_laws.proofs.Greatest.{IsGreatest, greatest}
-use Rattle.qh_convex_laws.proofs.Perturbed.{AllUp}
-use Rattle.qh_convex_laws.proofs.OffPoints.{plus, vol-plus, PointOff, PointOffEdges, off_all, off_edges}
-use Rattle.qh_convex_laws.proofs.Highest.{rise, depth, height, HighestMet}
-use Rattle.qh_convex_laws.proofs.Walks.{walked}
-use Rattle.qh_convex_laws.proofs.NoneAbove.{middle, middle-first, middle-second, middle-third, outwards, none_above}
-use Rattle.qh_convex_laws.proofs.Rays.{Forms, MeetsSame, of_all, count-alike}
-use Rattle.qh_convex_laws.proofs.UnderTriangles.{under_is_below}
+use Rattle.qh_convex_laws.proofs.{Directions.IsOffEdges, Greatest.IsGreatest, Greatest.greatest, Highest.rise, Highest.depth, Highest.height}
+use Rattle.qh_convex_laws.proofs.{Highest.HighestMet, NoneAbove.middle, NoneAbove.middle-first, NoneAbove.middle-second, NoneAbove.middle-third}
+use Rattle.qh_convex_laws.proofs.{NoneAbove.outwards, NoneAbove.none_above, OffPoints.plus, OffPoints.vol-plus, OffPoints.PointOff, OffPoints.PointOffEdges}
+use Rattle.qh_convex_laws.proofs.{OffPoints.off_all, OffPoints.off_edges, Perturbed.AllUp, Rays.Forms, Rays.MeetsSame, Rays.of_all, Rays.count-alike}
+use Rattle.qh_convex_laws.proofs.{Signs.above, Signs.is_above, UnderTriangles.under_is_below, Walks.walked}
 
 module _ (at : ℕ → Vector) (ts : List Triple) (z d : Vector) (c : IsLocallyConvex at ts z d) where
   -- a triangle that is highest at x, of a list that is not empty
@@ -50,20 +41,17 @@ module _ (at : ℕ → Vector) (ts : List Triple) (z d : Vector) (c : IsLocallyC
           m : Vector
           m = middle z (at g.i) (at g.j) (at g.k)
 
-          moved : (v w : ℤ) → v ≡ w → pos 0 <ℤ w → pos 0 <ℤ v
-          moved v w e h = omega (arith, ints)
-
           out : pos 0 <ℤ vol z (at g.i) (at g.j) (at g.k)
           out = outwards at z ts c.inside g j
 
           here : AllUp inner m
-          here p (inl e) = subst (λ q. pos 0 <ℤ dot q m) (sym e) (moved _ _ (middle-first z (at g.i) (at g.j) (at g.k)) out)
-          here p (inr (inl e)) = subst (λ q. pos 0 <ℤ dot q m) (sym e) (moved _ _ (middle-second z (at g.i) (at g.j) (at g.k)) out)
-          here p (inr (inr (inl e))) = subst (λ q. pos 0 <ℤ dot q m) (sym e) (moved _ _ (middle-third z (at g.i) (at g.j) (at g.k)) out)
+          here p (inl e) = subst (λ q. pos 0 <ℤ dot q m) (sym e) (omega (arith, ints, middle-first z (at g.i) (at g.j) (at g.k), out))
+          here p (inr (inl e)) = subst (λ q. pos 0 <ℤ dot q m) (sym e) (omega (arith, ints, middle-second z (at g.i) (at g.j) (at g.k), out))
+          here p (inr (inr (inl e))) = subst (λ q. pos 0 <ℤ dot q m) (sym e) (omega (arith, ints, middle-third z (at g.i) (at g.j) (at g.k), out))
           here p (inr (inr (inr n))) = absurd n
 
           edge : (y a b : Vector) → pos 0 <ℤ dot (cross z a b) y → above (vol z a b (plus z y)) ≡ true
-          edge y a b h = is_above (vol z a b (plus z y)) (moved _ _ (vol-plus z a b y) h)
+          edge y a b h = is_above (vol z a b (plus z y)) (omega (arith, ints, vol-plus z a b y))
 
           go : PointOff at z ts c.inside x inner → HighestMet at z x ts
           go (y, up, off_q, corner) =
@@ -122,11 +110,8 @@ local_supports at ids ts z d c all =
     some [] e = cc
     some (u ∷ us) e = omega arith
 
-    clash : (v : ℤ) → v <ℤ pos 0 → v ≡ pos 0 → ⊥
-    clash v h e = omega (arith, ints)
-
     area : (t : Triple) → In t ts → ¬ (AreInLine (at t.i) (at t.j) (at t.k))
-    area t i f = clash (rise at t z) (c.inside t i) (in_line-vol (at t.i) (at t.j) (at t.k) z f)
+    area t i f = omega (arith, ints, c.inside t i, in_line-vol (at t.i) (at t.j) (at t.k) z f)
 
     supporting : AreSupporting at (Members ids) ts
     supporting t i = record {

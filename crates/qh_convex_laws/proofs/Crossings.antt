@@ -1,7 +1,6 @@
 -- How the edges of one triangle cross the way from d to x, by signs alone.
 use Rattle.std.proofs.Common.{◌≡◌, ℕ, ◌+◌, arith, refl, Bool, true, false, cond, eqb, not, ◌&&◌, ◌||◌, ◌⊎◌, inl, inr}
-use Rattle.std.proofs.lemmas.Int.{ints}
-use Rattle.std.proofs.lemmas.Bool.{eqb-true, and_parts, or_cases, not-true}
+use Rattle.std.proofs.lemmas.{Bool.eqb-true, Bool.and_parts, Bool.or_cases, Bool.not-true, Int.ints}
 use Rattle.std.specs.Prelude.{ℤ, pos, ◌+ℤ◌, ◌-ℤ◌}
 use Rattle.qh_convex_laws.proofs.Signs.{same, fits_difference, fits_sum}
 

@@ -4,20 +4,14 @@ use Rattle.std.proofs.lemmas.Int.{ints}
 use Rattle.std.specs.Prelude.{ℤ, pos, ◌-ℤ◌, ◌*ℤ◌, neg_ℤ, ◌≤ℤ◌, ◌<ℤ◌}
 use mathlib.Core.Logic.{dite}
 use native.Mathlib.Decide.{ℕ_discrete}
+use Rattle.qh_model.specs.headline.{Polygon.Follows, Polygon.FollowsAlong, Predicates.cross, Predicates.vol, Predicates.AreInLine, Sets.In, Sets.Once}
 use Rattle.qh_model.specs.headline.Vector.{Vector, minus, cross_product, dot}
-use Rattle.qh_model.specs.headline.Predicates.{cross, vol, AreInLine}
-use Rattle.qh_model.specs.headline.Sets.{In, Once}
-use Rattle.qh_model.specs.headline.Polygon.{Follows, FollowsAlong}
-use Rattle.qh_model.proofs.algebra.Ring.{ring}
+use Rattle.qh_model.proofs.algebra.{Integers.zero_mul, Order.mul-pos, Order.mul-neg_neg, Order.cancel-nonpos, Order.product_zero, Ring.ring}
 use Rattle.qh_model.proofs.algebra.Ring.Expr.{var, sub as less, mul}
-use Rattle.qh_model.proofs.algebra.Order.{mul-pos, mul-neg_neg, cancel-nonpos, product_zero}
-use Rattle.qh_model.proofs.algebra.Integers.{zero_mul}
 use Rattle.qh_model.proofs.algebra.VectorIdentities.{vec, put, crossE, dotE, edge_product, in_line-vol, vol-swap_last}
-use Rattle.qh_model.proofs.extremes.Directions.{square-positive}
-use Rattle.qh_model.proofs.polygons.Neighbours.{follows_members, next_member}
+use Rattle.qh_model.proofs.{extremes.Directions.square-positive, polygons.Neighbours.follows_members, polygons.Neighbours.next_member}
 use Rattle.qh_convex_laws.proofs.Greatest.{IsGreatest, greatest, ratio-trans}
-use Rattle.qh_convex_laws.proofs.OffPoints.{plus, vol-plus}
-use Rattle.qh_convex_laws.proofs.Rounds.{vol-round, flip_round}
+use Rattle.qh_convex_laws.proofs.{OffPoints.plus, OffPoints.vol-plus, Rounds.vol-round, Rounds.flip_round}
 
 -- ---- members of a cycle
 -- an id is in a list or not
@@ -143,29 +137,18 @@ module _ (at : ℕ → Vector) (z l : Vector) (q : List ℕ) (sides : (u v : ℕ
         seen : pos 0 ≤ℤ vol z l (at u) (at v)
         seen = subst (λ s. pos 0 ≤ℤ s) (sym (vol-round z l (at u) (at v))) (sides u v k)
 
-        product : (a b c : ℤ) → a -ℤ b ≡ c → a ≤ℤ b → c ≤ℤ pos 0
-        product a b c e h = omega (arith, ints)
-
-        both : (a : ℤ) → pos 0 ≤ℤ a → a ≤ℤ pos 0 → a ≡ pos 0
-        both a h k = omega (arith, ints)
-
-        swapped : (a b c : ℤ) → a -ℤ b ≡ c → c ≡ pos 0 → b ≤ℤ a
-        swapped a b c e f = omega (arith, ints)
-
         turned : (a b : ℤ) → a *ℤ b ≡ b *ℤ a
         turned a b = omega (arith, ints)
 
         zero : vol z l (at u) (at v) ≡ pos 0
         zero =
-            both (vol z l (at u) (at v)) seen
-            (cancel-nonpos (vol z l e f) (vol z l (at u) (at v)) positive
-            (subst (λ s. s ≤ℤ pos 0) (turned (vol z l (at u) (at v)) (vol z l e f))
-            (product (num v *ℤ den u) (num u *ℤ den v) _ (step u v) (g v j))))
+            let product = subst (λ s. s ≤ℤ pos 0) (turned (vol z l (at u) (at v)) (vol z l e f)) (omega (arith, ints, step u v, g v j)) in
+            omega (arith, ints, seen, cancel-nonpos (vol z l e f) (vol z l (at u) (at v)) positive product)
 
         next : IsGreatest num den v q
         next s m =
             ratio-trans (num s) (num u) (num v) (den s) (den u) (den v) (ahead s m) (ahead u i) (ahead v j) (g s m)
-            (swapped (num v *ℤ den u) (num u *ℤ den v) _ (step u v) (ap (λ k. k *ℤ vol z l e f) zero ∙ zero_mul (vol z l e f)))
+            (omega (arith, ints, step u v, ap (λ k. k *ℤ vol z l e f) zero ∙ zero_mul (vol z l e f)))
 
     -- so there is no such direction
     pub none_ahead : (m : ℕ) → In m q → ⊥
@@ -194,9 +177,6 @@ module _ (at : ℕ → Vector) (z l : Vector) (q : List ℕ) (sides : (u v : ℕ
                     negative : (a b : ℤ) → b ≡ neg_ℤ a → pos 0 <ℤ a → b <ℤ pos 0
                     negative a b e h = omega (arith, ints)
 
-                    off : (a b k : ℤ) → a -ℤ b ≡ k → a ≡ pos 0 → b ≡ pos 0 → pos 0 <ℤ k → ⊥
-                    off a b k e f g h = omega (arith, ints)
-
                     clash : (a b c d k m : ℤ) → a *ℤ b -ℤ c *ℤ d ≡ k *ℤ m → a ≡ pos 0 → d ≡ pos 0 → k <ℤ pos 0 → m <ℤ pos 0 → ⊥
                     clash a b c d k m e f g h n =
-                        off (a *ℤ b) (c *ℤ d) (k *ℤ m) e (ap (λ s. s *ℤ b) f ∙ zero_mul b) (product_zero c d g) (mul-neg_neg k m h n)
+                        omega (arith, ints, ap (λ s. s *ℤ b) f ∙ zero_mul b, product_zero c d g, mul-neg_neg k m h n)

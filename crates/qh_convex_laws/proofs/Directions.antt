@@ -2,16 +2,11 @@
 use Rattle.std.proofs.Common.{◌≡◌, ℕ, ◌+◌, refl, sym, ap, ◌∙◌, arith, List, [], ◌∷◌, Bool, cond, not, inl, inr}
 use Rattle.std.proofs.lemmas.Int.{ints}
 use Rattle.std.specs.Prelude.{ℤ, pos, ◌+ℤ◌, ◌-ℤ◌, neg_ℤ, ◌<ℤ◌}
-use Rattle.qh_model.specs.headline.Vector.{Vector}
-use Rattle.qh_model.specs.headline.Predicates.{vol}
-use Rattle.qh_model.specs.headline.Sets.{In}
 use Rattle.qh_model.specs.contract.ClosedSurface.{Triple, edges, IsClosed}
-use Rattle.qh_model.proofs.closed_surfaces.Sums.{sum_z, count}
-use Rattle.qh_model.proofs.closed_surfaces.SignedVolume.{back, edges-cancel}
+use Rattle.qh_model.specs.headline.{Predicates.vol, Sets.In, Vector.Vector}
+use Rattle.qh_model.proofs.closed_surfaces.{SignedVolume.back, SignedVolume.edges-cancel, Sums.sum_z, Sums.count}
 use Rattle.qh_convex_laws.specs.contract.LocallyConvex.{is_met}
-use Rattle.qh_convex_laws.proofs.Signs.{above, above-neg}
-use Rattle.qh_convex_laws.proofs.Crossings.{crosses, part, parts_add}
-use Rattle.qh_convex_laws.proofs.Rounds.{round_fits, flip_round}
+use Rattle.qh_convex_laws.proofs.{Crossings.crosses, Crossings.part, Crossings.parts_add, Rounds.round_fits, Rounds.flip_round, Signs.above, Signs.above-neg}
 
 -- no edge of the triangles is in one plane with z and d
 abbrev pub IsOffEdges : (ℕ → Vector) → List Triple → Vector → Vector → Type 0

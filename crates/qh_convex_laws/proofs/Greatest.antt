@@ -3,12 +3,8 @@ use Rattle.std.proofs.Common.{◌≡◌, ℕ, ◌+◌, ◌≤◌, refl, sym, ap,
 use Rattle.std.proofs.lemmas.Int.{ints, by_lt_z}
 use Rattle.std.specs.Prelude.{ℤ, pos, ◌-ℤ◌, ◌*ℤ◌, ◌≤ℤ◌, ◌<ℤ◌}
 use Rattle.qh_model.specs.headline.Sets.{In}
-use Rattle.qh_model.proofs.algebra.Order.{mul-le, mul-pos}
-use Rattle.qh_model.proofs.algebra.Signs.{less_le}
-use Rattle.qh_model.proofs.algebra.Ring.{ring}
-use Rattle.qh_model.proofs.algebra.Ring.Expr.{var, sub as less, mul}
-use Rattle.qh_model.proofs.algebra.Integers.{mul_swap, mul_comm}
-use Rattle.qh_model.proofs.closed_surfaces.Sums.{count}
+use Rattle.qh_model.proofs.algebra.{Integers.mul_swap, Integers.mul_comm, Order.mul-le, Order.mul-pos, Ring.ring, Ring.Expr.var, Ring.Expr.sub as less}
+use Rattle.qh_model.proofs.{algebra.Ring.Expr.mul, algebra.Signs.less_le, closed_surfaces.Sums.count}
 
 -- a positive factor goes
 cancel-le : (k a b : ℤ) → pos 0 <ℤ k → (k *ℤ a) ≤ℤ (k *ℤ b) → a ≤ℤ b
@@ -21,25 +17,18 @@ cancel-le k a b h e = by_lt_z b a (λ l. absurd (go l)) (λ l. l)
     split k a b =
         ring (k ∷ a ∷ b ∷ []) (mul (var 0) (less (var 1) (var 2))) (less (mul (var 0) (var 1)) (mul (var 0) (var 2))) refl
 
-    apart : (x y w : ℤ) → w ≡ x -ℤ y → pos 0 <ℤ w → x ≤ℤ y → ⊥
-    apart x y w e p q = omega (arith, ints)
-
     go : b <ℤ a → ⊥
-    go l = apart (k *ℤ a) (k *ℤ b) (k *ℤ (a -ℤ b)) (split k a b) (mul-pos k (a -ℤ b) h (gap a b l)) e
+    go l = omega (arith, ints, split k a b, mul-pos k (a -ℤ b) h (gap a b l))
 
 -- fractions are in order
 pub ratio-trans : (a b c p q r : ℤ) → pos 0 <ℤ p → pos 0 <ℤ q → pos 0 <ℤ r → (a *ℤ q) ≤ℤ (b *ℤ p) → (b *ℤ r) ≤ℤ (c *ℤ q) → (a *ℤ r) ≤ℤ (c *ℤ p)
 ratio-trans a b c p q r hp hq hr e f =
     cancel-le q (a *ℤ r) (c *ℤ p) hq
-    (chain (q *ℤ (a *ℤ r)) (r *ℤ (a *ℤ q)) (r *ℤ (b *ℤ p)) (p *ℤ (b *ℤ r)) (p *ℤ (c *ℤ q)) (q *ℤ (c *ℤ p))
-    (turned q a r) (mul-le r (a *ℤ q) (b *ℤ p) (less_le (pos 0) r hr) e) (turned r b p)
-    (mul-le p (b *ℤ r) (c *ℤ q) (less_le (pos 0) p hp) f) (turned p c q))
+    (let first = mul-le r (a *ℤ q) (b *ℤ p) (less_le (pos 0) r hr) e in let second = mul-le p (b *ℤ r) (c *ℤ q) (less_le (pos 0) p hp) f in
+    omega (arith, ints, turned q a r, turned r b p, turned p c q))
   where
     turned : (q a r : ℤ) → q *ℤ (a *ℤ r) ≡ r *ℤ (a *ℤ q)
     turned q a r = mul_swap q a r ∙ ap (λ v. a *ℤ v) (mul_comm q r) ∙ mul_swap a r q
-
-    chain : (a b c d e f : ℤ) → a ≡ b → b ≤ℤ c → c ≡ d → d ≤ℤ e → e ≡ f → a ≤ℤ f
-    chain a b c d e f g h i j k = omega (arith, ints)
 
 -- the fractions n / m of a list with positive m have a greatest
 module _ {X : Type 0} (n m : X → ℤ) where

@@ -2,14 +2,9 @@
 use Rattle.std.proofs.Common.{◌≡◌, ℕ, refl, sym, subst, ◌∙◌, arith, List, [], ◌∷◌, true, inl, inr}
 use Rattle.std.proofs.lemmas.Int.{ints}
 use Rattle.std.specs.Prelude.{ℤ, pos, ◌-ℤ◌, ◌*ℤ◌, neg_ℤ, ◌≤ℤ◌, ◌<ℤ◌}
-use Rattle.qh_model.specs.headline.Vector.{Vector}
-use Rattle.qh_model.specs.headline.Predicates.{cross, vol}
-use Rattle.qh_model.specs.headline.Sets.{In}
 use Rattle.qh_model.specs.contract.ClosedSurface.{Triple, edges}
-use Rattle.qh_model.proofs.algebra.Ring.{ring}
-use Rattle.qh_model.proofs.algebra.Ring.Expr.{var, mul, neg}
-use Rattle.qh_model.proofs.algebra.Order.{mul-nonpos}
-use Rattle.qh_model.proofs.algebra.Signs.{less_le}
+use Rattle.qh_model.specs.headline.{Predicates.cross, Predicates.vol, Sets.In, Vector.Vector}
+use Rattle.qh_model.proofs.algebra.{Order.mul-nonpos, Ring.ring, Ring.Expr.var, Ring.Expr.mul, Ring.Expr.neg, Signs.less_le}
 use Rattle.qh_model.proofs.algebra.VectorIdentities.{vec, put, volE, edge_product, vol-flip}
 use Rattle.qh_convex_laws.specs.contract.LocallyConvex.{IsRound, HasLowNeighbour, is_met}
 use Rattle.qh_convex_laws.proofs.Greatest.{IsGreatest, ratio-trans}

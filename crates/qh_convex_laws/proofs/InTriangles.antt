@@ -1,12 +1,8 @@
 -- Points of a triangle, told from a place below it: their weights over its corners.
-use Rattle.std.proofs.Common.{◌≡◌, refl, ap, ◌∙◌, arith, [], ◌∷◌}
-use Rattle.std.proofs.lemmas.Int.{ints}
+use Rattle.std.proofs.{Common.◌≡◌, Common.refl, Common.ap, Common.◌∙◌, Common.arith, Common.[], Common.◌∷◌, lemmas.Int.ints}
 use Rattle.std.specs.Prelude.{ℤ, pos, ◌+ℤ◌, ◌-ℤ◌, ◌*ℤ◌, ◌≤ℤ◌, ◌<ℤ◌}
-use Rattle.qh_model.specs.headline.Vector.{Vector, minus}
-use Rattle.qh_model.specs.headline.Predicates.{cross, vol}
-use Rattle.qh_model.proofs.algebra.Ring.{ring}
-use Rattle.qh_model.proofs.algebra.Ring.Expr.{var, add, sub as less, mul}
-use Rattle.qh_model.proofs.algebra.Order.{cancel-zero}
+use Rattle.qh_model.specs.headline.{Predicates.cross, Predicates.vol, Vector.Vector, Vector.minus}
+use Rattle.qh_model.proofs.algebra.{Order.cancel-zero, Ring.ring, Ring.Expr.var, Ring.Expr.add, Ring.Expr.sub as less, Ring.Expr.mul}
 use Rattle.qh_model.proofs.algebra.VectorIdentities.{vec, put, detE, vector_path}
 use Rattle.qh_convex_laws.proofs.UnderTriangles.{above_sum}
 
@@ -65,11 +61,10 @@ at_corner z a b c p out h far =
     same : (p z a b c k u v w : ℤ) → pos 0 <ℤ k → k *ℤ (p -ℤ z) ≡ u *ℤ (a -ℤ z) +ℤ v *ℤ (b -ℤ z) +ℤ w *ℤ (c -ℤ z)
         → u ≡ k → v ≡ pos 0 → w ≡ pos 0 → p ≡ a
     same p z a b c k u v w l e f g m =
-        equal p a
-        (cancel-zero k (p -ℤ a) l
-        (split k p z a ∙ vanish (k *ℤ (p -ℤ z)) (k *ℤ (a -ℤ z))
-        (e ∙ ap (λ n. n *ℤ (a -ℤ z) +ℤ v *ℤ (b -ℤ z) +ℤ w *ℤ (c -ℤ z)) f ∙ ap (λ n. k *ℤ (a -ℤ z) +ℤ n *ℤ (b -ℤ z) +ℤ w *ℤ (c -ℤ z)) g
-        ∙ ap (λ n. k *ℤ (a -ℤ z) +ℤ pos 0 *ℤ (b -ℤ z) +ℤ n *ℤ (c -ℤ z)) m ∙ none (k *ℤ (a -ℤ z)) (b -ℤ z) (c -ℤ z))))
+        let even = e ∙ ap (λ n. n *ℤ (a -ℤ z) +ℤ v *ℤ (b -ℤ z) +ℤ w *ℤ (c -ℤ z)) f
+            ∙ ap (λ n. k *ℤ (a -ℤ z) +ℤ n *ℤ (b -ℤ z) +ℤ w *ℤ (c -ℤ z)) g
+            ∙ ap (λ n. k *ℤ (a -ℤ z) +ℤ pos 0 *ℤ (b -ℤ z) +ℤ n *ℤ (c -ℤ z)) m ∙ none (k *ℤ (a -ℤ z)) (b -ℤ z) (c -ℤ z) in
+        omega (arith, ints, cancel-zero k (p -ℤ a) l (split k p z a ∙ (omega (arith, ints, even))))
       where
         none : (m b c : ℤ) → m +ℤ pos 0 *ℤ b +ℤ pos 0 *ℤ c ≡ m
         none m b c = omega (arith, ints)
@@ -78,9 +73,3 @@ at_corner z a b c p out h far =
         split k p z a =
             ring (k ∷ p ∷ z ∷ a ∷ []) (mul (var 0) (less (var 1) (var 3)))
             (less (mul (var 0) (less (var 1) (var 2))) (mul (var 0) (less (var 3) (var 2)))) refl
-
-        vanish : (m n : ℤ) → m ≡ n → m -ℤ n ≡ pos 0
-        vanish m n e = omega (arith, ints)
-
-        equal : (p a : ℤ) → p -ℤ a ≡ pos 0 → p ≡ a
-        equal p a e = omega (arith, ints)

@@ -1,27 +1,17 @@
 -- No corner of a locally convex surface is above a triangle of it: over a corner that were, a direction would meet two
 -- triangles, the corner's and one that is highest there.
 use Rattle.std.proofs.Common.{◌≡◌, ℕ, ◌≤◌, refl, sym, ap, subst, ◌∙◌, arith, List, [], ◌∷◌, true, inl, inr}
-use Rattle.std.proofs.lemmas.Int.{ints, by_lt_z}
-use Rattle.std.proofs.lemmas.Bool.{and_from}
+use Rattle.std.proofs.lemmas.{Bool.and_from, Int.ints, Int.by_lt_z}
 use Rattle.std.specs.Prelude.{ℤ, pos, ◌+ℤ◌, ◌-ℤ◌, ◌*ℤ◌, neg_ℤ, ◌≤ℤ◌, ◌<ℤ◌}
-use Rattle.qh_model.specs.headline.Vector.{Vector, minus, dot}
-use Rattle.qh_model.specs.headline.Predicates.{cross, vol}
-use Rattle.qh_model.specs.headline.Sets.{In}
-use Rattle.qh_model.specs.contract.ClosedSurface.{Triple, IsClosed}
-use Rattle.qh_model.specs.laws.ClosedSurfaceLaws.{IsCornerOf}
-use Rattle.qh_model.proofs.algebra.Ring.{ring}
-use Rattle.qh_model.proofs.algebra.Ring.Expr.{var, add, sub as less, mul, neg}
-use Rattle.qh_model.proofs.algebra.Order.{mul-pos}
+use Rattle.qh_model.specs.{contract.ClosedSurface.Triple, contract.ClosedSurface.IsClosed, headline.Predicates.cross, headline.Predicates.vol, headline.Sets.In}
+use Rattle.qh_model.specs.{headline.Vector.Vector, headline.Vector.minus, headline.Vector.dot, laws.ClosedSurfaceLaws.IsCornerOf}
+use Rattle.qh_model.proofs.algebra.{Order.mul-pos, Ring.ring, Ring.Expr.var, Ring.Expr.add, Ring.Expr.sub as less, Ring.Expr.mul, Ring.Expr.neg}
 use Rattle.qh_model.proofs.algebra.VectorIdentities.{VE, vec, put, subE, crossE, dotE, detE, vol-dot, vol-first, vol-second, vol-third}
 use Rattle.qh_model.proofs.closed_surfaces.Sums.{count}
 use Rattle.qh_convex_laws.specs.contract.LocallyConvex.{is_met}
-use Rattle.qh_convex_laws.proofs.Signs.{above, is_above}
-use Rattle.qh_convex_laws.proofs.Rounds.{vol-round, vol-outwards}
-use Rattle.qh_convex_laws.proofs.Directions.{IsOffEdges, met_alike}
-use Rattle.qh_convex_laws.proofs.Greatest.{only_one}
-use Rattle.qh_convex_laws.proofs.Perturbed.{AllUp, Rises, risen}
-use Rattle.qh_convex_laws.proofs.OffPoints.{plus, minus-plus, vol-plus, PointOff, off_all}
-use Rattle.qh_convex_laws.proofs.Highest.{rise, depth, height, HighestMet}
+use Rattle.qh_convex_laws.proofs.{Directions.IsOffEdges, Directions.met_alike, Greatest.only_one, Highest.rise, Highest.depth, Highest.height}
+use Rattle.qh_convex_laws.proofs.{Highest.HighestMet, OffPoints.plus, OffPoints.minus-plus, OffPoints.vol-plus, OffPoints.PointOff, OffPoints.off_all}
+use Rattle.qh_convex_laws.proofs.{Perturbed.AllUp, Perturbed.Rises, Perturbed.risen, Rounds.vol-round, Rounds.vol-outwards, Signs.above, Signs.is_above}
 
 -- ---- forms of directions from z
 -- the sum of three points, seen from z
@@ -119,13 +109,10 @@ module _ (at : ℕ → Vector) (z : Vector) (ts : List Triple) (inside : (t : Tr
           ring (a ∷ b ∷ p ∷ q ∷ []) (less (mul (add (var 3) (var 1)) (neg (var 0))) (mul (add (var 2) (var 0)) (neg (var 1))))
           (less (mul (neg (var 0)) (var 3)) (mul (neg (var 1)) (var 2))) refl
 
-      gap : (m n k : ℤ) → m -ℤ n ≡ k → pos 0 <ℤ k → n <ℤ m
-      gap m n k e h = omega (arith, ints)
-
       plain : (g a b hs ht p q : ℤ) → g ≡ neg_ℤ a *ℤ q -ℤ neg_ℤ b *ℤ p → hs ≡ p +ℤ a → ht ≡ q +ℤ b → pos 0 <ℤ g
           → (hs *ℤ neg_ℤ b) <ℤ (ht *ℤ neg_ℤ a)
       plain g a b hs ht p q e f k h =
-          rw (f, k) (gap ((q +ℤ b) *ℤ neg_ℤ a) ((p +ℤ a) *ℤ neg_ℤ b) g (same a b p q ∙ sym e) h)
+          rw (f, k) (omega (arith, ints, same a b p q ∙ sym e))
 
   -- a corner of s is not outside s
   record IsIn (s : Triple) (l : Vector) : Type 0 where
@@ -147,24 +134,21 @@ module _ (at : ℕ → Vector) (z : Vector) (ts : List Triple) (inside : (t : Tr
       zero : (v : ℤ) → v ≡ pos 0 → pos 0 ≤ℤ v
       zero v e = omega (arith, ints)
 
-      more : (v w : ℤ) → w ≡ v → pos 0 <ℤ w → pos 0 ≤ℤ v
-      more v w e h = omega (arith, ints)
-
       pick : In l (s.i ∷ s.j ∷ s.k ∷ []) → IsIn s (at l)
       pick (inl e) = subst (λ n. IsIn s (at n)) (sym e) (record {
         first = zero _ (vol-second z (at s.i) (at s.j));
-        second = more _ _ (vol-round z (at s.i) (at s.j) (at s.k)) (outwards s i);
+        second = omega (arith, ints, vol-round z (at s.i) (at s.j) (at s.k), outwards s i);
         third = zero _ (vol-third z (at s.k) (at s.i));
         level = vol-first (at s.i) (at s.j) (at s.k);
       })
       pick (inr (inl e)) = subst (λ n. IsIn s (at n)) (sym e) (record {
         first = zero _ (vol-third z (at s.i) (at s.j));
         second = zero _ (vol-second z (at s.j) (at s.k));
-        third = more _ _ (vol-round z (at s.i) (at s.j) (at s.k) ∙ vol-round z (at s.j) (at s.k) (at s.i)) (outwards s i);
+        third = omega (arith, ints, vol-round z (at s.i) (at s.j) (at s.k) ∙ vol-round z (at s.j) (at s.k) (at s.i), outwards s i);
         level = vol-second (at s.i) (at s.j) (at s.k);
       })
       pick (inr (inr (inl e))) = subst (λ n. IsIn s (at n)) (sym e) (record {
-        first = more _ _ refl (outwards s i);
+        first = omega (arith, ints, outwards s i);
         second = zero _ (vol-third z (at s.j) (at s.k));
         third = zero _ (vol-second z (at s.k) (at s.i));
         level = vol-third (at s.i) (at s.j) (at s.k);
@@ -178,12 +162,9 @@ module _ (at : ℕ → Vector) (z : Vector) (ts : List Triple) (inside : (t : Tr
       moved : (v w : ℤ) → v ≡ w → pos 0 <ℤ w → pos 0 <ℤ v
       moved v w e h = omega (arith, ints)
 
-      kept : (v w : ℤ) → v ≡ w → pos 0 ≤ℤ v → pos 0 ≤ℤ w
-      kept v w e h = omega (arith, ints)
-
       edge : (a b : Vector) → pos 0 ≤ℤ vol z a b l → dot (cross z a b) (middle z (at s.i) (at s.j) (at s.k)) ≡ vol z (at s.i) (at s.j) (at s.k)
           → Rises (cross z a b) (minus l z) (middle z (at s.i) (at s.j) (at s.k))
-      edge a b k e = inr (kept (vol z a b l) (dot (cross z a b) (minus l z)) (vol-dot z a b l) k, moved _ _ e (outwards s i))
+      edge a b k e = inr (omega (arith, ints, vol-dot z a b l), moved _ _ e (outwards s i))
 
       same : (g a b p q hs ht : ℤ) → g ≡ neg_ℤ a *ℤ q -ℤ neg_ℤ b *ℤ p → hs ≡ p +ℤ a → ht ≡ q +ℤ b → hs ≡ pos 0 → neg_ℤ a *ℤ ht ≡ g
       same g a b p q hs ht e f k n = finish (sym e) (solve p a hs f n) k

@@ -2,15 +2,11 @@
 use Rattle.std.proofs.Common.{◌≡◌, ℕ, refl, sym, ap, subst, ◌∙◌, arith, List, [], ◌∷◌, ◌++◌, map, ◌⊎◌, inl, inr}
 use Rattle.std.proofs.lemmas.Int.{ints}
 use Rattle.std.specs.Prelude.{ℤ, pos, ◌+ℤ◌, ◌-ℤ◌, neg_ℤ, ◌<ℤ◌}
-use Rattle.qh_model.specs.headline.Vector.{Vector, origin, minus, dot}
-use Rattle.qh_model.specs.headline.Predicates.{cross, vol, AreInLine}
-use Rattle.qh_model.specs.headline.Sets.{In}
 use Rattle.qh_model.specs.contract.ClosedSurface.{Triple, edges}
-use Rattle.qh_model.proofs.lists.{Images.in_map, Images.of_map, Joined.in_append, Joined.of_append}
+use Rattle.qh_model.specs.headline.{Predicates.cross, Predicates.vol, Predicates.AreInLine, Sets.In, Vector.Vector, Vector.origin, Vector.minus, Vector.dot}
 use Rattle.qh_model.proofs.algebra.VectorIdentities.{vector_path, vol-dot, in_line-vol, vol-swap_last}
-use Rattle.qh_convex_laws.proofs.Directions.{IsOffEdges}
-use Rattle.qh_convex_laws.proofs.Perturbed.{AllUp, Perturbed, perturbed}
-use Rattle.qh_convex_laws.proofs.Rounds.{vol-round, vol-outwards}
+use Rattle.qh_model.proofs.lists.{Images.in_map, Images.of_map, Joined.in_append, Joined.of_append}
+use Rattle.qh_convex_laws.proofs.{Directions.IsOffEdges, Perturbed.AllUp, Perturbed.Perturbed, Perturbed.perturbed, Rounds.vol-round, Rounds.vol-outwards}
 
 -- z + y
 abbrev pub plus : Vector → Vector → Vector

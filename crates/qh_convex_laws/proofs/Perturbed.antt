@@ -2,14 +2,11 @@
 use Rattle.std.proofs.Common.{◌≡◌, ℕ, refl, sym, subst, arith, List, [], ◌∷◌, ◌⊎◌, inl, inr}
 use Rattle.std.proofs.lemmas.Int.{ints, by_lt_z}
 use Rattle.std.specs.Prelude.{ℤ, pos, ◌+ℤ◌, ◌*ℤ◌, neg_ℤ, ◌≤ℤ◌, ◌<ℤ◌}
-use Rattle.qh_model.specs.headline.Vector.{Vector, origin, dot}
-use Rattle.qh_model.specs.headline.Sets.{In}
+use Rattle.qh_model.specs.headline.{Sets.In, Vector.Vector, Vector.origin, Vector.dot}
 use Rattle.qh_model.proofs.algebra.Order.{mul-nonneg, mul-le, zero_or_not, le_less}
-use Rattle.qh_model.proofs.algebra.Ring.{Expr, ring}
-use Rattle.qh_model.proofs.algebra.Ring.Expr.{var, add, mul}
+use Rattle.qh_model.proofs.algebra.Ring.{Expr, ring, Expr.var, Expr.add, Expr.mul}
 use Rattle.qh_model.proofs.algebra.VectorIdentities.{VE, vec, put, dotE, opposite, dot-opposite}
-use Rattle.qh_model.proofs.extremes.Directions.{square-positive}
-use Rattle.qh_model.proofs.closed_surfaces.Supporting.{ceiling}
+use Rattle.qh_model.proofs.{closed_surfaces.Supporting.ceiling, extremes.Directions.square-positive}
 
 -- n x + v
 abbrev pub along : ℤ → Vector → Vector → Vector
@@ -35,13 +32,10 @@ AllUp ps x = (p : Vector) → In p ps → pos 0 <ℤ dot p x
 
 -- a sum with a large multiple of a positive number
 big_sum : (n : ℕ) (a b s : ℤ) → s ≡ pos n *ℤ a +ℤ b → pos 0 <ℤ a → neg_ℤ b <ℤ pos n → pos 0 <ℤ s
-big_sum n a b s e h l = plain (pos n) (pos n *ℤ pos 1) (pos n *ℤ a) b s e one l (mul-le (pos n) (pos 1) a (omega (arith, ints)) (next a h))
+big_sum n a b s e h l = plain (pos n) (pos n *ℤ pos 1) (pos n *ℤ a) b s e one l (mul-le (pos n) (pos 1) a (omega (arith, ints)) (omega (arith, ints)))
   where
     one : pos n *ℤ pos 1 ≡ pos n
     one = omega (arith, ints)
-
-    next : (a : ℤ) → pos 0 <ℤ a → pos 1 ≤ℤ a
-    next a h = omega (arith, ints)
 
     plain : (n m p b s : ℤ) → s ≡ p +ℤ b → m ≡ n → neg_ℤ b <ℤ n → m ≤ℤ p → pos 0 <ℤ s
     plain n m p b s e f l k = omega (arith, ints)
@@ -77,16 +71,12 @@ more_up : (l : Vector) (ps : List Vector) (x : Vector) → pos 0 <ℤ dot l x �
 more_up l ps x h f p (inl e) = subst (λ q. pos 0 <ℤ dot q x) (sym e) h
 more_up l ps x h f p (inr i) = f p i
 
--- a positive number is not 0
-up_not_zero : (v : ℤ) → pos 0 <ℤ v → ¬ (v ≡ pos 0)
-up_not_zero v h e = omega (arith, ints)
-
 -- with a sign to keep for l, one more that is not 0
 more_off : (l : Vector) (ls ps : List Vector) → Perturbed ls (l ∷ ps) ⊎ Perturbed ls (opposite l ∷ ps) → Perturbed (l ∷ ls) ps
 more_off l ls ps (inl (y, up, off)) = (y, λ p i. up p (inr i), each)
   where
     each : AllOff (l ∷ ls) y
-    each k (inl e) = subst (λ q. ¬ (dot q y ≡ pos 0)) (sym e) (up_not_zero (dot l y) (up l (inl refl)))
+    each k (inl e) = subst (λ q. ¬ (dot q y ≡ pos 0)) (sym e) (omega (arith, ints, up l (inl refl)))
     each k (inr i) = off k i
 more_off l ls ps (inr (y, up, off)) = (y, λ p i. up p (inr i), each)
   where
@@ -104,9 +94,6 @@ perturbed (l ∷ ls) ps x n h = start (λ qs w k. perturbed ls qs w (λ m i. n m
     turned : (v w : ℤ) → w ≡ neg_ℤ v → v <ℤ pos 0 → pos 0 <ℤ w
     turned v w e h = omega (arith, ints)
 
-    zero_le : (v : ℤ) → v ≡ pos 0 → pos 0 ≤ℤ v
-    zero_le v e = omega (arith, ints)
-
     settled : ((qs : List Vector) (w : Vector) → AllUp qs w → Perturbed ls qs) → (w : Vector) → AllUp ps w → ¬ (dot l w ≡ pos 0) → Perturbed (l ∷ ls) ps
     settled step w k o =
         by_lt_z (pos 0) (dot l w)
@@ -119,8 +106,8 @@ perturbed (l ∷ ls) ps x n h = start (λ qs w k. perturbed ls qs w (λ m i. n m
     start step (inl o) = moved (risen (l ∷ ps) x l rises)
       where
         rises : (p : Vector) → In p (l ∷ ps) → Rises p x l
-        rises p (inl e) = subst (λ q. Rises q x l) (sym e) (inr (zero_le (dot l x) o, square-positive l (n l (inl refl))))
+        rises p (inl e) = subst (λ q. Rises q x l) (sym e) (inr (omega (arith, ints), square-positive l (n l (inl refl))))
         rises p (inr i) = inl (h p i)
 
         moved : (y : Vector) × AllUp (l ∷ ps) y → Perturbed (l ∷ ls) ps
-        moved (y, up) = settled step y (λ p i. up p (inr i)) (up_not_zero (dot l y) (up l (inl refl)))
+        moved (y, up) = settled step y (λ p i. up p (inr i)) (omega (arith, ints, up l (inl refl)))

@@ -3,45 +3,22 @@
 use Rattle.std.proofs.Common.{◌≡◌, ◌≢◌, ℕ, refl, sym, ap, subst, ◌∙◌, arith, List, [], ◌∷◌, ◌⊎◌, inl, inr}
 use Rattle.std.proofs.lemmas.Int.{ints, by_lt_z}
 use Rattle.std.specs.Prelude.{ℤ, pos, ◌+ℤ◌, ◌-ℤ◌, ◌*ℤ◌, neg_ℤ, ◌≤ℤ◌, ◌<ℤ◌}
-use Rattle.qh_model.specs.headline.Vector.{Vector, minus, cross_product, dot}
-use Rattle.qh_model.specs.headline.Predicates.{cross, vol, left}
-use Rattle.qh_model.specs.headline.Sets.{In, Members}
-use Rattle.qh_model.specs.headline.Combination.{Combination}
-use Rattle.qh_model.specs.headline.Extreme.{Extreme, Others}
-use Rattle.qh_model.specs.headline.SupportingPlane.{OnPlane}
-use Rattle.qh_model.specs.headline.Polygon.{Follows}
-use Rattle.qh_model.specs.headline.Polygons.{IsFacePolygon}
-use Rattle.qh_model.specs.contract.IdSets.{HasDistinctPoints}
-use Rattle.qh_model.specs.contract.ClosedSurface.{Triple}
+use Rattle.qh_model.specs.{contract.ClosedSurface.Triple, contract.IdSets.HasDistinctPoints, headline.Combination.Combination}
+use Rattle.qh_model.specs.headline.{Extreme.Extreme, Extreme.Others, Polygon.Follows, Polygons.IsFacePolygon, Predicates.cross, Predicates.vol, Predicates.left}
+use Rattle.qh_model.specs.headline.{Sets.In, Sets.Members, SupportingPlane.OnPlane, Vector.Vector, Vector.minus, Vector.cross_product, Vector.dot}
 use Rattle.qh_model.specs.laws.Separator.{Separator}
-use Rattle.qh_model.proofs.algebra.Integers.{zero_mul}
-use Rattle.qh_model.proofs.algebra.Ring.{ring}
-use Rattle.qh_model.proofs.algebra.Ring.Expr.{add}
-use Rattle.qh_model.proofs.algebra.Order.{cancel-zero, mul-neg_neg, mul-pos_neg, mul-nonneg, mul-nonneg_nonpos, product_zero}
-use Rattle.qh_model.proofs.algebra.Signs.{less_le}
-use Rattle.qh_model.proofs.algebra.VectorIdentities.{vec, put, dotE, vol-linear, dot-minus, opposite, dot-opposite, left-turn, left-flip}
-use Rattle.qh_model.proofs.algebra.VectorIdentities.{in_line-left, in_line-twice}
-use Rattle.qh_model.proofs.algebra.VectorIdentities.{vol-second, vol-third}
-use Rattle.qh_model.proofs.combinations.Alternatives.{all_lower}
-use Rattle.qh_model.proofs.extremes.Directions.{square-positive}
-use Rattle.qh_model.proofs.extremes.ExtremeIds.{listed_itself, alternative_in, combination_within}
-use Rattle.qh_model.proofs.extremes.Faces.{extremes_of_face}
-use Rattle.qh_model.proofs.polygons.Neighbours.{follows_members, next_member}
-use Rattle.qh_model.proofs.polygons.PlaneTurns.{level_volume}
+use Rattle.qh_model.proofs.algebra.{Integers.zero_mul, Order.cancel-zero, Order.mul-neg_neg, Order.mul-pos_neg, Order.mul-nonneg, Order.mul-nonneg_nonpos}
+use Rattle.qh_model.proofs.algebra.{Order.product_zero, Ring.ring, Ring.Expr.add, Signs.less_le}
+use Rattle.qh_model.proofs.algebra.VectorIdentities.{vec, put, dotE, vol-linear, dot-minus, opposite, dot-opposite, left-turn, left-flip, in_line-left}
+use Rattle.qh_model.proofs.algebra.VectorIdentities.{in_line-twice, vol-second, vol-third}
+use Rattle.qh_model.proofs.{combinations.Alternatives.all_lower, extremes.Directions.square-positive}
+use Rattle.qh_model.proofs.extremes.{ExtremeIds.listed_itself, ExtremeIds.alternative_in, ExtremeIds.combination_within, Faces.extremes_of_face}
+use Rattle.qh_model.proofs.polygons.{Neighbours.follows_members, Neighbours.next_member, PlaneTurns.level_volume}
 use Rattle.qh_convex_laws.specs.contract.LocallyConvex.{IsRound, HasLowNeighbour, IsSharpEdge, IsSharpPolygon, IsLocallyConvex, HasAllUnder}
 use Rattle.qh_convex_laws.specs.laws.ConvexLaws.{SharpPolygonIsFace}
-use Rattle.qh_convex_laws.proofs.Rounds.{vol-round, vol-outwards}
-use Rattle.qh_convex_laws.proofs.Highest.{rise, rise_round, past_edge}
-use Rattle.qh_convex_laws.proofs.OffPoints.{plus}
-use Rattle.qh_convex_laws.proofs.NoneAbove.{vol-from, plusE}
-use Rattle.qh_convex_laws.proofs.UnderTriangles.{above_sum}
-use Rattle.qh_convex_laws.proofs.InTriangles.{at_corner}
-use Rattle.qh_convex_laws.proofs.Cycles.{in_or_not, before_member, third_member, beyond_volume, none_ahead}
-use Rattle.qh_convex_laws.proofs.Convex.{member_below, local_supports}
-
--- a positive number and its opposite
-opposed : (a b : ℤ) → a ≡ neg_ℤ b → pos 0 <ℤ a → pos 0 <ℤ b → ⊥
-opposed a b e h k = omega (arith, ints)
+use Rattle.qh_convex_laws.proofs.{Convex.member_below, Convex.local_supports, Cycles.in_or_not, Cycles.before_member, Cycles.third_member, Cycles.beyond_volume}
+use Rattle.qh_convex_laws.proofs.{Cycles.none_ahead, Highest.rise, Highest.rise_round, Highest.past_edge, InTriangles.at_corner, NoneAbove.vol-from}
+use Rattle.qh_convex_laws.proofs.{NoneAbove.plusE, OffPoints.plus, Rounds.vol-round, Rounds.vol-outwards, UnderTriangles.above_sum}
 
 -- the scalar products of a sum
 dot-plus : (a b p : Vector) → dot (plus a b) p ≡ dot a p +ℤ dot b p
@@ -59,15 +36,9 @@ module _ (at : ℕ → Vector) (ids : List ℕ) (ts : List Triple) (z d : Vector
       clash : (a b k : ℤ) → a -ℤ b ≡ k → a ≤ℤ pos 0 → b ≡ pos 0 → pos 0 <ℤ k → ⊥
       clash a b k e f g h = omega (arith, ints)
 
-      turned : (a b : ℤ) → a *ℤ b ≡ b *ℤ a
-      turned a b = omega (arith, ints)
-
-      nonpos : (a b : ℤ) → a ≡ b → b ≤ℤ pos 0 → a ≤ℤ pos 0
-      nonpos a b e h = omega (arith, ints)
-
       plain : (hn hs ds dn k : ℤ) → hn *ℤ ds -ℤ hs *ℤ dn ≡ k → hs ≡ pos 0 → hn ≤ℤ pos 0 → pos 0 ≤ℤ ds → pos 0 <ℤ k → ⊥
       plain hn hs ds dn k e f g h l =
-          clash (hn *ℤ ds) (hs *ℤ dn) k e (nonpos (hn *ℤ ds) (ds *ℤ hn) (turned hn ds) (mul-nonneg_nonpos ds hn h g))
+          clash (hn *ℤ ds) (hs *ℤ dn) k e (omega (arith, ints, mul-nonneg_nonpos ds hn h g))
           (ap (λ m. m *ℤ dn) f ∙ zero_mul dn) l
 
       past : vol z (at u) (at v) (at l) <ℤ pos 0 → ⊥
@@ -133,17 +104,16 @@ module _ (at : ℕ → Vector) (ids : List ℕ) (ts : List Triple) (z d : Vector
     -- nor right before and right after another
     no_return : (u v : ℕ) → Follows u v q → Follows v u q → ⊥
     no_return u v f g = let w = third_member q p.three p.once u v in
-        opposed (left normal (at v) (at u) (at w.0)) (left normal (at u) (at v) (at w.0))
-        (left-flip normal (at v) (at u) (at w.0) ∙ ap neg_ℤ (left-turn normal (at v) (at w.0) (at u) ∙ left-turn normal (at w.0) (at u) (at v)))
-        (p.round v u g w.0 w.1 w.3 w.2) (p.round u v f w.0 w.1 w.2 w.3)
+        let turn = left-turn normal (at v) (at w.0) (at u) ∙ left-turn normal (at w.0) (at u) (at v) in
+        omega (arith, ints, left-flip normal (at v) (at u) (at w.0), turn, p.round v u g w.0 w.1 w.3 w.2, p.round u v f w.0 w.1 w.2 w.3)
 
     -- it turns at each corner, seen from z
     turns : (u v x : ℕ) → Follows u v q → Follows v x q → pos 0 <ℤ vol z (at u) (at v) (at x)
     turns u v x f g =
-        outwards (vol z (at u) (at v) (at x)) (vol (at u) (at v) (at x) z) (vol-outwards z (at u) (at v) (at x))
-        (below (dot normal normal) (vol (at u) (at v) (at x) z) (left normal (at u) (at v) (at x) *ℤ rise at t z) square
-        (level_volume (at t.i) (at t.j) (at t.k) (at u) (at v) (at x) z (p.level u k.0) (p.level v k.1) (p.level x m))
-        (mul-pos_neg (left normal (at u) (at v) (at x)) (rise at t z) (p.round u v f x m not_u not_v) (c.inside t i)))
+        let under = below (dot normal normal) (vol (at u) (at v) (at x) z) (left normal (at u) (at v) (at x) *ℤ rise at t z) square
+            (level_volume (at t.i) (at t.j) (at t.k) (at u) (at v) (at x) z (p.level u k.0) (p.level v k.1) (p.level x m))
+            (mul-pos_neg (left normal (at u) (at v) (at x)) (rise at t z) (p.round u v f x m not_u not_v) (c.inside t i)) in
+        omega (arith, ints, vol-outwards z (at u) (at v) (at x))
       where
         k : In u q × In v q
         k = follows_members u v q f
@@ -156,9 +126,6 @@ module _ (at : ℕ → Vector) (ids : List ℕ) (ts : List Triple) (z d : Vector
 
         not_v : x ≢ v
         not_v e = not_itself v (subst (λ y. Follows v y q) e g)
-
-        outwards : (a b : ℤ) → a ≡ neg_ℤ b → b <ℤ pos 0 → pos 0 <ℤ a
-        outwards a b e h = omega (arith, ints)
 
         below : (n a b : ℤ) → pos 0 <ℤ n → n *ℤ a ≡ b → b <ℤ pos 0 → a <ℤ pos 0
         below n a b h e l = by_lt_z a (pos 0) (λ k. k) (λ k. absurd (clash (n *ℤ a) b e l (mul-nonneg n a (less_le (pos 0) n h) k)))
@@ -183,15 +150,11 @@ module _ (at : ℕ → Vector) (ids : List ℕ) (ts : List Triple) (z d : Vector
         up : (a b : ℤ) → a ≡ neg_ℤ b → b <ℤ pos 0 → pos 0 <ℤ a
         up a b e h = omega (arith, ints)
 
-        shifted : (x y a b k : ℤ) → x ≡ a +ℤ neg_ℤ k → y ≡ b +ℤ neg_ℤ k → a <ℤ b → x <ℤ y
-        shifted x y a b k e f h = omega (arith, ints)
-
         ahead : (v : ℕ) → In v q → pos 0 <ℤ vol z (at l) (at v) (plus z (cross_product s.w normal))
         ahead v k =
             beyond_volume z (at l) (at v) s.w normal (up (dot normal (minus (at l) z)) (rise at t z) (distance l m.1) (c.inside t i))
             (distance v (p.level v k) ∙ sym (distance l m.1))
-            (shifted (dot s.w (minus (at v) z)) (dot s.w (minus (at l) z)) (dot s.w (at v)) (dot s.w (at l)) (dot s.w z)
-            (dot-minus s.w (at v) z) (dot-minus s.w (at l) z) (s.past v k))
+            (omega (arith, ints, dot-minus s.w (at v) z, dot-minus s.w (at l) z, s.past v k))
 
     extreme_corner : (l : ℕ) → OnPlane at (Extreme at (Members ids)) t.i t.j t.k l → In l q
     extreme_corner l (e, level) = pick (in_or_not l q)
@@ -214,9 +177,9 @@ module _ (at : ℕ → Vector) (ids : List ℕ) (ts : List Triple) (z d : Vector
         at_corner z (at v) (at b) (at a) (at x) out (record {
           level = level;
           first = sides x m v b g;
-          second = positive (vol z (at b) (at a) (at x)) (vol z (at v) (at b) (at a)) far out;
+          second = omega (arith, ints, far, out);
           third = sides x m a v f;
-        }) (at_least (vol z (at b) (at a) (at x)) (vol z (at v) (at b) (at a)) far)
+        }) (omega (arith, ints, far))
       where
         out : pos 0 <ℤ vol z (at v) (at b) (at a)
         out = subst (λ k. pos 0 <ℤ k) (vol-round z (at a) (at v) (at b)) (turns a v b f g)
@@ -226,19 +189,8 @@ module _ (at : ℕ → Vector) (ids : List ℕ) (ts : List Triple) (z d : Vector
             flat (at v) (at b) (at a) (at x) (p.level v (follows_members v b q g).0) (p.level b (follows_members v b q g).1)
             (p.level a (follows_members a v q f).0) m.1
 
-        positive : (r k : ℤ) → r ≡ k → pos 0 <ℤ k → pos 0 ≤ℤ r
-        positive r k e h = omega (arith, ints)
-
-        at_least : (r k : ℤ) → r ≡ k → k ≤ℤ r
-        at_least r k e = omega (arith, ints)
-
         far : vol z (at b) (at a) (at x) ≡ vol z (at v) (at b) (at a)
-        far =
-            plain (vol z (at a) (at v) (at x)) (vol z (at v) (at b) (at x)) (vol z (at b) (at a) (at x))
-            (vol z (at v) (at b) (at a)) (vol (at v) (at b) (at a) (at x)) (sides x m a v f) (sides x m v b g) h level (above_sum z (at v) (at b) (at a) (at x))
-          where
-            plain : (s u r k n : ℤ) → pos 0 ≤ℤ s → pos 0 ≤ℤ u → (s +ℤ u) ≤ℤ pos 0 → n ≡ pos 0 → n ≡ u +ℤ r +ℤ s -ℤ k → r ≡ k
-            plain s u r k n a b e f g = omega (arith, ints)
+        far = omega (arith, ints, level, sides x m a v f, sides x m v b g, above_sum z (at v) (at b) (at a) (at x))
 
     corner_extreme : (v : ℕ) → In v q → OnPlane at (Extreme at (Members ids)) t.i t.j t.k v
     corner_extreme v m = from (before_member v q m) (next_member v q m)

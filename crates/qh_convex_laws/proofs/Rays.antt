@@ -1,20 +1,13 @@
 -- Near a ray that meets or misses each triangle there is one off all planes through z and an edge that meets the same.
 use Rattle.std.proofs.Common.{◌≡◌, ℕ, refl, sym, ap, subst, ◌∙◌, arith, List, [], ◌∷◌, ◌++◌, Bool, true, false, ◌⊎◌, inl, inr}
-use Rattle.std.proofs.lemmas.Int.{ints}
-use Rattle.std.proofs.lemmas.Bool.{and_parts, and_from, and_left, and_right}
+use Rattle.std.proofs.lemmas.{Bool.and_parts, Bool.and_from, Bool.and_left, Bool.and_right, Int.ints}
 use Rattle.std.specs.Prelude.{ℤ, pos, neg_ℤ, ◌≤ℤ◌, ◌<ℤ◌}
-use Rattle.qh_model.specs.headline.Vector.{Vector, minus, dot}
-use Rattle.qh_model.specs.headline.Predicates.{cross, vol}
-use Rattle.qh_model.specs.headline.Sets.{In}
 use Rattle.qh_model.specs.contract.ClosedSurface.{Triple}
-use Rattle.qh_model.proofs.lists.{Joined.in_append, Joined.of_append}
-use Rattle.qh_model.proofs.algebra.Signs.{less_le}
-use Rattle.qh_model.proofs.algebra.VectorIdentities.{opposite, dot-opposite, vol-dot}
-use Rattle.qh_model.proofs.closed_surfaces.Sums.{count}
+use Rattle.qh_model.specs.headline.{Predicates.cross, Predicates.vol, Sets.In, Vector.Vector, Vector.minus, Vector.dot}
+use Rattle.qh_model.proofs.algebra.{Signs.less_le, VectorIdentities.opposite, VectorIdentities.dot-opposite, VectorIdentities.vol-dot}
+use Rattle.qh_model.proofs.{closed_surfaces.Sums.count, lists.Joined.in_append, lists.Joined.of_append}
 use Rattle.qh_convex_laws.specs.contract.LocallyConvex.{is_met, IsMissed}
-use Rattle.qh_convex_laws.proofs.Signs.{above, above_is, is_above, not_above}
-use Rattle.qh_convex_laws.proofs.Perturbed.{AllUp}
-use Rattle.qh_convex_laws.proofs.OffPoints.{plus, vol-plus}
+use Rattle.qh_convex_laws.proofs.{OffPoints.plus, OffPoints.vol-plus, Perturbed.AllUp, Signs.above, Signs.above_is, Signs.is_above, Signs.not_above}
 
 -- tests that are alike count alike
 pub count-alike : {X : Type 0} (p q : X → Bool) (xs : List X) → ((x : X) → In x xs → p x ≡ q x) → count p xs ≡ count q xs
@@ -70,9 +63,6 @@ module _ (at : ℕ → Vector) (z d : Vector) where
       turned : (v w : ℤ) → w ≡ neg_ℤ v → v <ℤ pos 0 → pos 0 <ℤ w
       turned v w e h = omega (arith, ints)
 
-      back : (v w : ℤ) → w ≡ neg_ℤ v → pos 0 <ℤ w → v ≤ℤ pos 0
-      back v w e h = omega (arith, ints)
-
       here : AllUp (opposite (cross z a b) ∷ []) (minus d z)
       here p (inl f) =
           subst (λ v. pos 0 <ℤ dot v (minus d z)) (sym f)
@@ -82,8 +72,7 @@ module _ (at : ℕ → Vector) (z d : Vector) where
       tell : (y : Vector) → AllUp (opposite (cross z a b) ∷ []) y → MeetsSame t y
       tell y up =
           out (plus z y) (not_above (vol z a b (plus z y))
-          (back (vol z a b (plus z y)) (dot (opposite (cross z a b)) y) (dot-opposite (cross z a b) y ∙ ap neg_ℤ (sym (vol-plus z a b y)))
-          (up (opposite (cross z a b)) (inl refl))))
+          (omega (arith, ints, dot-opposite (cross z a b) y ∙ ap neg_ℤ (sym (vol-plus z a b y)), up (opposite (cross z a b)) (inl refl))))
           ∙ sym (out d (not_above (vol z a b d) (less_le (vol z a b d) (pos 0) h)))
 
   -- a triangle that is met or missed

@@ -1,17 +1,12 @@
 -- The signs round one triangle that has z below: those of its edges and corners with d and x.
-use Rattle.std.proofs.Common.{◌≡◌, refl, ap, ◌∙◌, arith, [], Bool, true}
-use Rattle.std.proofs.lemmas.Int.{ints}
-use Rattle.std.proofs.lemmas.Bool.{and_from}
+use Rattle.std.proofs.Common.{◌≡◌, refl, ap, ◌∙◌, arith, [], Bool, true, ◌⊎◌, inl, inr}
+use Rattle.std.proofs.lemmas.{Bool.and_from, Int.ints}
 use Rattle.std.specs.Prelude.{ℤ, pos, ◌+ℤ◌, ◌-ℤ◌, ◌*ℤ◌, neg_ℤ, ◌<ℤ◌}
-use Rattle.qh_model.specs.headline.Vector.{Vector, minus}
-use Rattle.qh_model.specs.headline.Predicates.{cross, vol}
-use Rattle.qh_model.proofs.algebra.Ring.{ring, ring_zero}
-use Rattle.qh_model.proofs.algebra.Ring.Expr.{add, sub as less, mul, neg}
-use Rattle.qh_model.proofs.algebra.Order.{zero_product}
+use Rattle.qh_model.specs.headline.{Predicates.cross, Predicates.vol, Vector.Vector, Vector.minus}
+use Rattle.qh_model.proofs.algebra.{Order.zero_product, Ring.ring, Ring.ring_zero, Ring.Expr.add, Ring.Expr.sub as less, Ring.Expr.mul, Ring.Expr.neg}
 use Rattle.qh_model.proofs.algebra.VectorIdentities.{vec, put, volE, detE}
-use Rattle.qh_convex_laws.proofs.Signs.{above, same, is_above, above_product, fits_difference, difference_fits, fits_sum, sum_fits}
 use Rattle.qh_convex_laws.proofs.Crossings.{signs_fit}
-use Rattle.std.proofs.Common.{◌⊎◌, inl, inr}
+use Rattle.qh_convex_laws.proofs.Signs.{above, same, is_above, above_product, fits_difference, difference_fits, fits_sum, sum_fits}
 
 -- ---- identities
 -- two edges that meet at b
@@ -54,10 +49,6 @@ unfolding vol cross
 flip_round z a b y = ring (put (minus a z) (put (minus b z) (put (minus y z) []))) (detE (vec 1) (vec 0) (vec 2)) (neg (detE (vec 0) (vec 1) (vec 2))) refl
 
 -- ---- their signs
--- a positive number is not 0
-positive_not_zero : (k : ℤ) → pos 0 <ℤ k → ¬ (k ≡ pos 0)
-positive_not_zero k h e = omega (arith, ints)
-
 -- products that are not 0
 product_not_zero : (a b : ℤ) → ¬ (a ≡ pos 0) → ¬ (b ≡ pos 0) → ¬ (a *ℤ b ≡ pos 0)
 product_not_zero a b m n e = go (zero_product a b e)
@@ -68,7 +59,7 @@ product_not_zero a b m n e = go (zero_product a b e)
 
 -- a positive factor keeps the sign
 above_scaled : (k s : ℤ) → pos 0 <ℤ k → ¬ (s ≡ pos 0) → above (k *ℤ s) ≡ above s
-above_scaled k s h n = above_product k s (positive_not_zero k h) n ∙ ap (λ b. same b (above s)) (is_above k h)
+above_scaled k s h n = above_product k s (omega (arith, ints)) n ∙ ap (λ b. same b (above s)) (is_above k h)
 
 -- equal tests fit alike
 difference_as : (p q r p' q' r' : Bool) → p ≡ p' → q ≡ q' → r ≡ r' → fits_difference p q r ≡ true → fits_difference p' q' r' ≡ true
@@ -112,14 +103,11 @@ round_fits z a b c d x h u₁ u₂ u₃ v₁ v₂ v₃ sa sb sc =
     turned : (v w : ℤ) → v ≡ neg_ℤ w → w <ℤ pos 0 → pos 0 <ℤ v
     turned v w e h = omega (arith, ints)
 
-    moved : (v w : ℤ) → v ≡ w → pos 0 <ℤ v → pos 0 <ℤ w
-    moved v w e h = omega (arith, ints)
-
     outwards : pos 0 <ℤ vol z a b c
     outwards = turned (vol z a b c) (vol a b c z) (vol-outwards z a b c) h
 
     second : pos 0 <ℤ vol z b c a
-    second = moved (vol z a b c) (vol z b c a) (vol-round z a b c) outwards
+    second = omega (arith, ints, vol-round z a b c, outwards)
 
     third : pos 0 <ℤ vol z c a b
-    third = moved (vol z b c a) (vol z c a b) (vol-round z b c a) second
+    third = omega (arith, ints, vol-round z b c a, second)

@@ -1,13 +1,8 @@
 -- Volumes, turns and combinations of points at a larger scale.
-use Rattle.std.proofs.Common.{◌≡◌, ℕ, ◌+◌, refl, sym, ap, ◌∙◌, arith, [], ◌∷◌}
-use Rattle.std.proofs.lemmas.Int.{ints}
+use Rattle.std.proofs.{Common.◌≡◌, Common.ℕ, Common.◌+◌, Common.refl, Common.sym, Common.ap, Common.◌∙◌, Common.arith, Common.[], Common.◌∷◌, lemmas.Int.ints}
 use Rattle.std.specs.Prelude.{ℤ, pos, ◌+ℤ◌, ◌-ℤ◌, ◌*ℤ◌, ◌<ℤ◌}
-use Rattle.qh_model.specs.headline.Vector.{Vector, dot}
-use Rattle.qh_model.specs.headline.Predicates.{cross, vol, left}
-use Rattle.qh_model.specs.headline.Combination.{IsBalanced}
-use Rattle.qh_model.proofs.algebra.Ring.{ring}
-use Rattle.qh_model.proofs.algebra.Ring.Expr.{var, add, sub as less, mul}
-use Rattle.qh_model.proofs.algebra.Order.{cancel-zero}
+use Rattle.qh_model.specs.headline.{Combination.IsBalanced, Predicates.cross, Predicates.vol, Predicates.left, Vector.Vector, Vector.dot}
+use Rattle.qh_model.proofs.algebra.{Order.cancel-zero, Ring.ring, Ring.Expr.var, Ring.Expr.add, Ring.Expr.sub as less, Ring.Expr.mul}
 use Rattle.qh_model.proofs.algebra.VectorIdentities.{vec, put, volE, dotE, left-dot}
 use Rattle.qh_model.proofs.closed_surfaces.Beyond.{scaled, scaledE, cross-scaled}
 
@@ -51,16 +46,10 @@ balanced_up m w₁ w₂ w₃ w₄ p a b c d e = swapped (pos (w₁ + w₂ + w₃
 
 -- a positive factor goes from both sides
 pub cancel-both : (m a b : ℤ) → pos 0 <ℤ m → m *ℤ a ≡ m *ℤ b → a ≡ b
-cancel-both m a b h e = equal a b (cancel-zero m (a -ℤ b) h (split m a b ∙ none (m *ℤ a) (m *ℤ b) e))
+cancel-both m a b h e = omega (arith, ints, cancel-zero m (a -ℤ b) h (split m a b ∙ (omega (arith, ints))))
   where
     split : (m a b : ℤ) → m *ℤ (a -ℤ b) ≡ m *ℤ a -ℤ m *ℤ b
     split m a b = ring (m ∷ a ∷ b ∷ []) (mul (var 0) (less (var 1) (var 2))) (less (mul (var 0) (var 1)) (mul (var 0) (var 2))) refl
-
-    none : (a b : ℤ) → a ≡ b → a -ℤ b ≡ pos 0
-    none a b e = omega (arith, ints)
-
-    equal : (a b : ℤ) → a -ℤ b ≡ pos 0 → a ≡ b
-    equal a b e = omega (arith, ints)
 
 -- and back
 pub balanced_down : (m : ℤ) → pos 0 <ℤ m → (w₁ w₂ w₃ w₄ : ℕ) (p a b c d : ℤ)

@@ -2,19 +2,11 @@
 use Rattle.std.proofs.Common.{◌≡◌, ℕ, ◌<◌, refl, sym, ap, subst, ◌∙◌, arith, List}
 use Rattle.std.proofs.lemmas.Int.{ints}
 use Rattle.std.specs.Prelude.{ℤ, pos, ◌*ℤ◌, ◌≤ℤ◌, ◌<ℤ◌, ◌↔◌}
-use Rattle.qh_model.specs.headline.Vector.{Vector, origin}
-use Rattle.qh_model.specs.headline.Predicates.{cross, vol, left, AreInLine}
-use Rattle.qh_model.specs.headline.Sets.{Members}
-use Rattle.qh_model.specs.headline.Combination.{Combination}
-use Rattle.qh_model.specs.headline.Extreme.{Extreme, Others}
-use Rattle.qh_model.specs.headline.SupportingPlane.{IsSupportingTriple}
-use Rattle.qh_model.specs.headline.Polygons.{IsFacePolygon, AreFaces}
-use Rattle.qh_model.specs.contract.IdSets.{HasDistinctPoints}
-use Rattle.qh_model.specs.contract.ClosedSurface.{Triple}
+use Rattle.qh_model.specs.{contract.ClosedSurface.Triple, contract.IdSets.HasDistinctPoints, headline.Combination.Combination}
+use Rattle.qh_model.specs.headline.{Extreme.Extreme, Extreme.Others, Polygons.IsFacePolygon, Polygons.AreFaces, Predicates.cross, Predicates.vol}
+use Rattle.qh_model.specs.headline.{Predicates.left, Predicates.AreInLine, Sets.Members, SupportingPlane.IsSupportingTriple, Vector.Vector, Vector.origin}
 use Rattle.qh_model.proofs.algebra.Order.{mul-pos, mul-pos_neg, mul-nonneg_nonpos, cancel-pos, cancel-nonpos, cancel-zero, product_zero}
-use Rattle.qh_model.proofs.algebra.VectorIdentities.{vector_path}
-use Rattle.qh_model.proofs.algebra.Signs.{less_le}
-use Rattle.qh_model.proofs.closed_surfaces.Beyond.{scaled, cross-scaled}
+use Rattle.qh_model.proofs.{algebra.Signs.less_le, algebra.VectorIdentities.vector_path, closed_surfaces.Beyond.scaled, closed_surfaces.Beyond.cross-scaled}
 use Rattle.qh_convex_laws.proofs.ScaledPoints.{volume_scaled, left-scaled, balanced_up, cancel-both, balanced_down}
 use Rattle.qh_convex_laws.specs.contract.LocallyConvex.{HasLowNeighbour, IsConvexAround, IsSharpEdge, IsSharpPolygon, ArePolygonsOf}
 use Rattle.qh_convex_laws.specs.contract.Scaled.{at_scale}

@@ -1,6 +1,5 @@
 -- Signs of whole numbers as tests, and what the signs round a triangle can be.
-use Rattle.std.proofs.Common.{◌≡◌, arith, refl, Bool, true, false, not, ◌&&◌, ◌||◌}
-use Rattle.std.proofs.lemmas.Int.{ints}
+use Rattle.std.proofs.{Common.◌≡◌, Common.arith, Common.refl, Common.Bool, Common.true, Common.false, Common.not, Common.◌&&◌, Common.◌||◌, lemmas.Int.ints}
 use Rattle.std.specs.Prelude.{ℤ, pos, ◌+ℤ◌, ◌-ℤ◌, ◌*ℤ◌, neg_ℤ, int_lt, ◌≤ℤ◌, ◌<ℤ◌}
 use Rattle.qh_model.proofs.algebra.Order.{mul-pos, mul-pos_neg, mul-neg_pos, mul-neg_neg, le_less}
 
@@ -60,11 +59,8 @@ above-neg x n = by (above x) refl
     up : (v : ℤ) → v <ℤ pos 0 → pos 0 <ℤ neg_ℤ v
     up v h = omega (arith, ints)
 
-    down : (v : ℤ) → pos 0 <ℤ v → neg_ℤ v ≤ℤ pos 0
-    down v h = omega (arith, ints)
-
     by : (b : Bool) → above x ≡ b → above (neg_ℤ x) ≡ not (above x)
-    by true e = rw e (not_above (neg_ℤ x) (down x (above_is x e)))
+    by true e = rw e (not_above (neg_ℤ x) (omega (arith, ints, above_is x e)))
     by false e = rw e (is_above (neg_ℤ x) (up x (below_is x n e)))
 
 -- ---- what signs can be together

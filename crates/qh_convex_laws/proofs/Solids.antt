@@ -1,28 +1,15 @@
 -- Polygons with what is past them strictly below that close up are the faces of a solid.
 use Rattle.std.proofs.Common.{◌≡◌, ℕ, refl, sym, List, [], ◌∷◌, inl, inr}
 use Rattle.std.specs.Prelude.{pos}
-use Rattle.qh_model.specs.headline.Sets.{In, Members}
-use Rattle.qh_model.specs.headline.Polygon.{Follows}
-use Rattle.qh_model.specs.headline.Vector.{Vector}
-use Rattle.qh_model.specs.headline.Predicates.{vol}
-use Rattle.qh_model.specs.headline.Extreme.{Extreme}
-use Rattle.qh_model.specs.headline.SupportingPlane.{IsSupportingTriple}
-use Rattle.qh_model.specs.headline.Polygons.{IsFacePolygon}
-use Rattle.qh_model.specs.contract.IdSets.{HasDistinctPoints}
+use Rattle.qh_model.specs.contract.{ClosedPolygons.IsFace, ClosedSurface.Triple, ClosedSurface.IsClosedSurface, IdSets.HasDistinctPoints}
+use Rattle.qh_model.specs.headline.{Dimension.IsDimension, Extreme.Extreme, Polygon.Follows, Polygons.IsFacePolygon, Predicates.vol, Sets.In, Sets.Members}
+use Rattle.qh_model.specs.headline.{SupportingPlane.IsSupportingTriple, Vector.Vector}
 use Rattle.qh_model.specs.laws.ClosedFaceLaws.{AreSupporting, TriangleOfPlane}
-use Rattle.qh_model.specs.headline.Dimension.{IsDimension}
-use Rattle.qh_model.proofs.algebra.Signs.{less_differ}
-use Rattle.qh_model.specs.contract.ClosedSurface.{Triple, IsClosedSurface}
-use Rattle.qh_model.specs.contract.ClosedPolygons.{IsFace}
-use Rattle.qh_model.proofs.polygons.{ClosedFaces.closed_faces_are_all, Edges.seen_from}
-use Rattle.qh_model.proofs.closed_surfaces.Supporting.{closed_miss_no_plane, closed_miss_no_extreme}
-use Rattle.qh_model.proofs.polygons.Neighbours.{next_member}
+use Rattle.qh_model.proofs.{algebra.Signs.less_differ, closed_surfaces.Supporting.closed_miss_no_plane, closed_surfaces.Supporting.closed_miss_no_extreme}
+use Rattle.qh_model.proofs.polygons.{ClosedFaces.closed_faces_are_all, Edges.seen_from, Neighbours.next_member}
 use Rattle.qh_convex_laws.specs.contract.LocallyConvex.{IsRound, IsSharpEdge, ArePolygonsOf, IsLocallyConvex, HasAllUnder}
-use Rattle.qh_convex_laws.specs.laws.ConvexLaws.{SharpPolygonsAreFaces, SharpIsSolid}
-use Rattle.qh_convex_laws.specs.laws.ConvexLaws.{TrianglePolygonsAreFaces, TrianglePolygonsHaveExtremes}
-use Rattle.qh_convex_laws.proofs.Convex.{local_supports}
-use Rattle.qh_convex_laws.proofs.Cycles.{third_member}
-use Rattle.qh_convex_laws.proofs.PolygonFaces.{sharp_polygon_is_face}
+use Rattle.qh_convex_laws.specs.laws.ConvexLaws.{SharpPolygonsAreFaces, SharpIsSolid, TrianglePolygonsAreFaces, TrianglePolygonsHaveExtremes}
+use Rattle.qh_convex_laws.proofs.{Convex.local_supports, Cycles.third_member, PolygonFaces.sharp_polygon_is_face}
 
 -- the law of faces
 pub sharp_polygons_are_faces : SharpPolygonsAreFaces

@@ -2,17 +2,13 @@
 use Rattle.std.proofs.Common.{◌≡◌, ◌≢◌, ℕ, ◌<◌, ◌≤◌, refl, sym, ap, subst, ◌∙◌, arith, List, [], ◌∷◌, inl, inr}
 use Rattle.std.proofs.lemmas.Int.{ints}
 use Rattle.std.specs.Prelude.{ℤ, pos, ◌<ℤ◌}
-use Rattle.qh_model.specs.headline.Vector.{Vector}
-use Rattle.qh_model.specs.headline.Predicates.{cross, left, AreInLine}
-use Rattle.qh_model.specs.headline.Sets.{In}
-use Rattle.qh_model.specs.headline.Polygon.{Follows, TurnsLeft}
 use Rattle.qh_model.specs.contract.ClosedSurface.{Triple}
+use Rattle.qh_model.specs.headline.{Polygon.Follows, Polygon.TurnsLeft, Predicates.cross, Predicates.left, Predicates.AreInLine, Sets.In, Vector.Vector}
 use Rattle.qh_model.proofs.algebra.VectorIdentities.{left-turn, left-dot, in_line-vol, in_line-last, vol-first}
 use Rattle.qh_model.proofs.extremes.Directions.{square-positive}
 use Rattle.qh_convex_laws.specs.contract.LocallyConvex.{IsRound, HasLowNeighbour, IsSharpAround, IsSharpEdge, IsSharpPolygon}
 use Rattle.qh_convex_laws.specs.laws.ConvexLaws.{SharpIsFace}
-use Rattle.qh_convex_laws.proofs.Highest.{rise, rise_round, round_next}
-use Rattle.qh_convex_laws.proofs.PolygonFaces.{face}
+use Rattle.qh_convex_laws.proofs.{Highest.rise, Highest.rise_round, Highest.round_next, PolygonFaces.face}
 
 module _ (at : ℕ → Vector) (ts : List Triple) (z : Vector) (t : Triple) (i : In t ts) (inside : rise at t z <ℤ pos 0) (sharp : IsSharpAround at ts t) where
   -- a neighbour with its third corner strictly below t
@@ -23,10 +19,6 @@ module _ (at : ℕ → Vector) (ts : List Triple) (z : Vector) (t : Triple) (i :
   steep_round u v w (inl (p, q, r)) = subst (λ a. Steep a v) p (subst (λ b. Steep t.i b) q (sharp.around.over_ij, sharp.over_ij))
   steep_round u v w (inr (inl (p, q, r))) = subst (λ a. Steep a v) p (subst (λ b. Steep t.j b) q (sharp.around.over_jk, sharp.over_jk))
   steep_round u v w (inr (inr (p, q, r))) = subst (λ a. Steep a v) p (subst (λ b. Steep t.k b) q (sharp.around.over_ki, sharp.over_ki))
-
-  -- a number below 0 is not 0
-  clash : (v : ℤ) → v <ℤ pos 0 → v ≡ pos 0 → ⊥
-  clash v h e = omega (arith, ints)
 
   -- the normal
   abbrev normal : Vector
@@ -39,21 +31,18 @@ module _ (at : ℕ → Vector) (ts : List Triple) (z : Vector) (t : Triple) (i :
       own : pos 0 <ℤ left normal (at t.i) (at t.j) (at t.k)
       own =
           subst (λ k. pos 0 <ℤ k) (sym (left-dot normal (at t.i) (at t.j) (at t.k)))
-          (square-positive normal (λ f. clash (rise at t z) inside (in_line-vol (at t.i) (at t.j) (at t.k) z f)))
-
-      moved : (a b : ℤ) → a ≡ b → pos 0 <ℤ a → pos 0 <ℤ b
-      moved a b e h = omega (arith, ints)
+          (square-positive normal (λ f. omega (arith, ints, inside, in_line-vol (at t.i) (at t.j) (at t.k) z f)))
 
       same : (i j k u v w : ℕ) → i ≡ u → j ≡ v → k ≡ w → left normal (at i) (at j) (at k) ≡ left normal (at u) (at v) (at w)
       same i j k u v w p q s = rw (p, q, s) refl
 
       second : pos 0 <ℤ left normal (at t.j) (at t.k) (at t.i)
-      second = moved _ _ (left-turn normal (at t.i) (at t.j) (at t.k)) own
+      second = omega (arith, ints, left-turn normal (at t.i) (at t.j) (at t.k), own)
 
       go : IsRound t u v w → pos 0 <ℤ left normal (at u) (at v) (at w)
-      go (inl (p, q, s)) = moved _ _ (same t.i t.j t.k u v w p q s) own
-      go (inr (inl (p, q, s))) = moved _ _ (same t.j t.k t.i u v w p q s) second
-      go (inr (inr (p, q, s))) = moved _ _ (left-turn normal (at t.j) (at t.k) (at t.i) ∙ same t.k t.i t.j u v w p q s) second
+      go (inl (p, q, s)) = omega (arith, ints, same t.i t.j t.k u v w p q s, own)
+      go (inr (inl (p, q, s))) = omega (arith, ints, same t.j t.k t.i u v w p q s, second)
+      go (inr (inr (p, q, s))) = omega (arith, ints, left-turn normal (at t.j) (at t.k) (at t.i) ∙ same t.k t.i t.j u v w p q s, second)
 
   -- a corner is in the plane
   level : (u v w : ℕ) → IsRound t u v w → rise at t (at u) ≡ pos 0
@@ -84,8 +73,8 @@ module _ (at : ℕ → Vector) (ts : List Triple) (z : Vector) (t : Triple) (i :
 
       apart : v ≢ w
       apart e =
-          clash (rise at t z) inside
-          (rise_round at t u v w r z ∙ in_line-vol (at u) (at v) (at w) z (subst (λ x. AreInLine (at u) (at v) (at x)) e (in_line-last (at u) (at v))))
+          let line = subst (λ x. AreInLine (at u) (at v) (at x)) e (in_line-last (at u) (at v)) in
+          omega (arith, ints, inside, rise_round at t u v w r z ∙ in_line-vol (at u) (at v) (at w) z line)
 
       first : In u (v ∷ w ∷ []) → ⊥
       first (inl e) = omega arith

@@ -1,12 +1,9 @@
 -- What lies under a triangle of a surface, in its cone from z, is above no triangle that has z and the corners below.
-use Rattle.std.proofs.Common.{◌≡◌, refl, ap, ◌∙◌, arith, [], ◌∷◌}
-use Rattle.std.proofs.lemmas.Int.{ints}
+use Rattle.std.proofs.{Common.◌≡◌, Common.refl, Common.ap, Common.◌∙◌, Common.arith, Common.[], Common.◌∷◌, lemmas.Int.ints}
 use Rattle.std.specs.Prelude.{ℤ, pos, ◌+ℤ◌, ◌-ℤ◌, ◌*ℤ◌, neg_ℤ, ◌≤ℤ◌, ◌<ℤ◌}
-use Rattle.qh_model.specs.headline.Vector.{Vector, minus, dot}
-use Rattle.qh_model.specs.headline.Predicates.{cross, vol}
-use Rattle.qh_model.proofs.algebra.Ring.{ring}
+use Rattle.qh_model.specs.headline.{Predicates.cross, Predicates.vol, Vector.Vector, Vector.minus, Vector.dot}
+use Rattle.qh_model.proofs.algebra.{Order.mul-nonneg_nonpos, Order.cancel-nonpos, Ring.ring}
 use Rattle.qh_model.proofs.algebra.Ring.Expr.{var, add, sub as less, mul, neg}
-use Rattle.qh_model.proofs.algebra.Order.{mul-nonneg_nonpos, cancel-nonpos}
 use Rattle.qh_model.proofs.algebra.VectorIdentities.{vec, put, volE, detE, dotE}
 use Rattle.qh_convex_laws.proofs.NoneAbove.{vol-from}
 
@@ -33,22 +30,16 @@ pub under_is_below : (i j k z a b c p : Vector) → pos 0 <ℤ vol z a b c
     → vol i j k z ≤ℤ pos 0 → vol i j k a ≤ℤ pos 0 → vol i j k b ≤ℤ pos 0 → vol i j k c ≤ℤ pos 0
     → pos 0 ≤ℤ vol z a b p → pos 0 ≤ℤ vol z b c p → pos 0 ≤ℤ vol z c a p → vol a b c p ≤ℤ pos 0 → vol i j k p ≤ℤ pos 0
 under_is_below i j k z a b c p out hz ha hb hc u₁ u₂ u₃ low =
-    cancel-nonpos (vol z a b c) (vol i j k p) out
-    (sum (vol z a b c *ℤ vol i j k p) _ _ _ _
-    (weights (vol z a b c) (vol z a b p) (vol z b c p) (vol z c a p) (dot n (minus a z)) (dot n (minus b z)) (dot n (minus c z)) (dot n (minus p z))
-    (vol i j k z) (vol i j k a) (vol i j k b) (vol i j k c) (vol i j k p) (vol a b c p)
-    (vol-from i j k z a) (vol-from i j k z b) (vol-from i j k z c) (vol-from i j k z p) (above_sum z a b c p) (coordinates z a b c p n))
-    (mul-nonneg_nonpos (vol z b c p) (vol i j k a) u₂ ha) (mul-nonneg_nonpos (vol z c a p) (vol i j k b) u₃ hb)
-    (mul-nonneg_nonpos (vol z a b p) (vol i j k c) u₁ hc) (mul-nonneg_nonpos (neg_ℤ (vol a b c p)) (vol i j k z) (turned (vol a b c p) low) hz))
+    let sum = weights (vol z a b c) (vol z a b p) (vol z b c p) (vol z c a p) (dot n (minus a z)) (dot n (minus b z)) (dot n (minus c z))
+        (dot n (minus p z)) (vol i j k z) (vol i j k a) (vol i j k b) (vol i j k c) (vol i j k p) (vol a b c p) (vol-from i j k z a) (vol-from i j k z b)
+        (vol-from i j k z c) (vol-from i j k z p) (above_sum z a b c p) (coordinates z a b c p n) in
+    let of_a = mul-nonneg_nonpos (vol z b c p) (vol i j k a) u₂ ha in let of_b = mul-nonneg_nonpos (vol z c a p) (vol i j k b) u₃ hb in
+    let of_c = mul-nonneg_nonpos (vol z a b p) (vol i j k c) u₁ hc in
+    let of_z = mul-nonneg_nonpos (neg_ℤ (vol a b c p)) (vol i j k z) (omega (arith, ints, low)) hz in
+    cancel-nonpos (vol z a b c) (vol i j k p) out (omega (arith, ints))
   where
     n : Vector
     n = cross i j k
-
-    turned : (v : ℤ) → v ≤ℤ pos 0 → pos 0 ≤ℤ neg_ℤ v
-    turned v h = omega (arith, ints)
-
-    sum : (x a b c d : ℤ) → x ≡ a +ℤ b +ℤ c +ℤ d → a ≤ℤ pos 0 → b ≤ℤ pos 0 → c ≤ℤ pos 0 → d ≤ℤ pos 0 → x ≤ℤ pos 0
-    sum x a b c d e f g h k = omega (arith, ints)
 
     -- the identity of the weights, over plain numbers
     grown : (v u₁ u₂ u₃ na nb nc s : ℤ) → u₂ *ℤ na +ℤ u₃ *ℤ nb +ℤ u₁ *ℤ nc +ℤ v *ℤ s

@@ -1,25 +1,15 @@
 -- A triangle that is highest along a direction, for its distance from z, is met in that direction: a walk over the highest
 -- triangles, from a place inside one of them, comes to it.
 use Rattle.std.proofs.Common.{◌≡◌, ℕ, refl, sym, ap, subst, ◌∙◌, arith, List, [], ◌∷◌, Bool, true, false, not, ◌&&◌, ◌⊎◌, inl, inr}
-use Rattle.std.proofs.lemmas.Int.{ints}
-use Rattle.std.proofs.lemmas.Bool.{and_parts}
+use Rattle.std.proofs.lemmas.{Bool.and_parts, Int.ints}
 use Rattle.std.specs.Prelude.{ℤ, pos, ◌-ℤ◌, ◌*ℤ◌, neg_ℤ, ◌<ℤ◌}
-use Rattle.qh_model.specs.headline.Vector.{Vector}
-use Rattle.qh_model.specs.headline.Predicates.{vol}
-use Rattle.qh_model.specs.headline.Sets.{In}
-use Rattle.qh_model.specs.contract.ClosedSurface.{Triple, edges}
-use Rattle.qh_model.proofs.algebra.Ring.{ring}
-use Rattle.qh_model.proofs.algebra.Ring.Expr.{var, mul, neg}
-use Rattle.qh_model.proofs.algebra.Order.{mul-pos, mul-pos_neg}
-use Rattle.qh_model.proofs.algebra.Integers.{mul_comm}
+use Rattle.qh_model.specs.{contract.ClosedSurface.Triple, contract.ClosedSurface.edges, headline.Predicates.vol, headline.Sets.In, headline.Vector.Vector}
+use Rattle.qh_model.proofs.algebra.{Integers.mul_comm, Order.mul-pos, Order.mul-pos_neg, Ring.ring, Ring.Expr.var, Ring.Expr.mul, Ring.Expr.neg}
 use Rattle.qh_convex_laws.specs.contract.LocallyConvex.{IsRound, HasLowNeighbour, IsConvexAround, is_met}
-use Rattle.qh_convex_laws.proofs.Directions.{IsOffEdges}
-use Rattle.qh_convex_laws.proofs.Signs.{above, above_is, below_is, above-neg}
-use Rattle.qh_convex_laws.proofs.Crossings.{signs_fit, GoesOn, goes_on, Begins, begins}
-use Rattle.qh_convex_laws.proofs.Rounds.{round_fits, flip_round, turn_product, vol-round, vol-outwards}
-use Rattle.qh_convex_laws.proofs.Ascents.{Next, ascent}
-use Rattle.qh_convex_laws.proofs.Greatest.{IsGreatest}
-use Rattle.qh_convex_laws.proofs.Highest.{rise, rise_round, depth, height, HighestMet, neighbour_greatest, round_next, edge_of}
+use Rattle.qh_convex_laws.proofs.{Ascents.Next, Ascents.ascent, Crossings.signs_fit, Crossings.GoesOn, Crossings.goes_on, Crossings.Begins, Crossings.begins}
+use Rattle.qh_convex_laws.proofs.{Directions.IsOffEdges, Greatest.IsGreatest, Highest.rise, Highest.rise_round, Highest.depth, Highest.height}
+use Rattle.qh_convex_laws.proofs.{Highest.HighestMet, Highest.neighbour_greatest, Highest.round_next, Highest.edge_of, Rounds.round_fits, Rounds.flip_round}
+use Rattle.qh_convex_laws.proofs.{Rounds.turn_product, Rounds.vol-round, Rounds.vol-outwards, Signs.above, Signs.above_is, Signs.below_is, Signs.above-neg}
 
 -- ---- the walk from q to x over triangles that are highest at x
 module _ (at : ℕ → Vector) (z : Vector) (ts : List Triple) (inside : (t : Triple) → In t ts → vol (at t.i) (at t.j) (at t.k) z <ℤ pos 0)

@@ -1,9 +1,7 @@
 -- Members of lists: by index, by the words of std, in lists of rising numbers, and under facts of each member.
 use Rattle.std.proofs.Common.{ℕ, zero, suc, ◌<◌, List, [], ◌∷◌, length, add-one, arith, refl, sym, subst, inl, inr, All, get_or, ◌≡◌, IsPermutation}
-use Rattle.std.proofs.lemmas.List.Elements.{All-head, All-tail, All-from_recursion}
-use Rattle.std.proofs.lemmas.List.Sorted.{Contains-permutation}
-use Rattle.std.specs.List.{AllByRecursion as Every, Contains}
-use Rattle.std.specs.List.Sorted.{IsStrictlyIncreasing}
+use Rattle.std.proofs.lemmas.List.{Elements.All-head, Elements.All-tail, Elements.All-from_recursion, Sorted.Contains-permutation}
+use Rattle.std.specs.List.{AllByRecursion as Every, Contains, Sorted.IsStrictlyIncreasing}
 use Rattle.qh_model.specs.headline.Sets.{In, Once}
 
 -- what holds of each element holds of a member

@@ -1,21 +1,12 @@
 -- A byte string has one list of points as an OFF file, or one fault.
-use Rattle.std.proofs.Common.{◌≡◌, ◌∙◌, [], ◌∷◌, ◌++◌, ◌≤◌, ◌⊎◌, ℕ, List, Bool, true, false, cond, refl, ap, sym, arith}
-use Rattle.std.proofs.Common.{suc, length, map, inl, inr, subst, nat_lt}
-use Rattle.std.specs.Prelude.{ℤ, pos, codes, Option, Some, None}
-use Rattle.std.specs.List.{AllByRecursion}
+use Rattle.std.proofs.Common.{◌≡◌, ◌∙◌, [], ◌∷◌, ◌++◌, ◌≤◌, ◌⊎◌, ℕ, List, Bool, true, false, cond, refl, ap, sym, arith, suc, length, map, inl, inr, subst}
+use Rattle.std.proofs.{Common.nat_lt, lemmas.Bool.Decides.nat_tests}
+use Rattle.std.specs.{Cmp.Lexicographic.same_text, List.AllByRecursion, Prelude.ℤ, Prelude.pos, Prelude.codes, Prelude.Option, Prelude.Some, Prelude.None}
 use Rattle.std.specs.Str.{bytes_eq}
-use Rattle.std.specs.Cmp.Lexicographic.{same_text}
-use Rattle.std.proofs.lemmas.Bool.Decides.{nat_tests}
 use Rattle.qh_model.specs.declared.limits.TheConstants.{POINT_LIMIT, BYTE_LIMIT}
-use Rattle.qh_model.specs.headline.Vector.{Vector}
-use Rattle.qh_model.specs.headline.Limits.{IsCoordinate}
-use Rattle.qh_model.specs.headline.Words.{Word}
-use Rattle.qh_model.specs.headline.Numbers.{number_of}
-use Rattle.qh_model.specs.headline.PointFile.{coordinates}
-use Rattle.qh_model.specs.headline.OffFile.{off_words, ReadsOff}
-use Rattle.qh_model.specs.declared.read_fault.ReadFault.{ReadFault}
-use Rattle.qh_model.specs.declared.read_fault.ReadFault.TheVariants.{Big, NotOff}
-use Rattle.qh_model.specs.headline.OffFault.{counts_fault, off_words_fault, first_off_fault}
+use Rattle.qh_model.specs.declared.read_fault.ReadFault.{ReadFault, TheVariants.Big, TheVariants.NotOff}
+use Rattle.qh_model.specs.headline.{Limits.IsCoordinate, Numbers.number_of, OffFault.counts_fault, OffFault.off_words_fault, OffFault.first_off_fault}
+use Rattle.qh_model.specs.headline.{OffFile.off_words, OffFile.ReadsOff, PointFile.coordinates, Vector.Vector, Words.Word}
 use Rattle.qh_model.proofs.ReadingLaws.{numbers, same_some, same_points, counted, next_number, grouped, thrice, counted_clear, next_clear, not_big}
 
 -- ---- one list at most

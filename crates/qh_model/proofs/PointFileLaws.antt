@@ -1,21 +1,12 @@
 -- A byte string is the point file of one list of points, or has one fault.
-use Rattle.std.proofs.Common.{◌≡◌, ◌∙◌, [], ◌∷◌, ◌++◌, ◌≤◌, ◌⊎◌, ℕ, List, Bool, true, false, cond, refl, ap}
-use Rattle.std.proofs.Common.{sym, arith, length, map, inl, inr, subst, nat_lt}
-use Rattle.std.specs.Prelude.{ℤ, pos, negsuc, Option, Some, None}
-use Rattle.std.specs.List.{AllByRecursion}
-use Rattle.std.proofs.lemmas.List.{append-nil}
-use Rattle.std.proofs.lemmas.Bool.Decides.{nat_tests}
+use Rattle.std.proofs.Common.{◌≡◌, ◌∙◌, [], ◌∷◌, ◌++◌, ◌≤◌, ◌⊎◌, ℕ, List, Bool, true, false, cond, refl, ap, sym, arith, length, map, inl, inr, subst, nat_lt}
+use Rattle.std.proofs.lemmas.{Bool.Decides.nat_tests, List.append-nil}
+use Rattle.std.specs.{List.AllByRecursion, Prelude.ℤ, Prelude.pos, Prelude.negsuc, Prelude.Option, Prelude.Some, Prelude.None}
 use Rattle.qh_model.specs.declared.limits.TheConstants.{POINT_LIMIT, BYTE_LIMIT}
-use Rattle.qh_model.specs.headline.Vector.{Vector}
-use Rattle.qh_model.specs.headline.Limits.{IsCoordinate}
+use Rattle.qh_model.specs.declared.read_fault.ReadFault.{ReadFault, TheVariants.NotThree, TheVariants.Big}
+use Rattle.qh_model.specs.headline.FileFault.{is_three, counted_fault, long_fault, headed_fault, words_fault, first_fault}
+use Rattle.qh_model.specs.headline.{Limits.IsCoordinate, Numbers.number_of, PointFile.coordinates, PointFile.IsHeader, PointFile.Reads, Vector.Vector}
 use Rattle.qh_model.specs.headline.Words.{Word, data_words}
-use Rattle.qh_model.specs.headline.Numbers.{number_of}
-use Rattle.qh_model.specs.headline.PointFile.{coordinates, IsHeader, Reads}
-use Rattle.qh_model.specs.declared.read_fault.ReadFault.{ReadFault}
-use Rattle.qh_model.specs.declared.read_fault.ReadFault.TheVariants.{NotThree, Big}
-use Rattle.qh_model.specs.headline.FileFault.{is_three, counted_fault}
-use Rattle.qh_model.specs.headline.FileFault.{long_fault, headed_fault, words_fault}
-use Rattle.qh_model.specs.headline.FileFault.{first_fault}
 use Rattle.qh_model.proofs.ReadingLaws.{same_some, same_points, numbers, Counted, counted, next_number, grouped, counted_clear, next_clear, not_big}
 
 -- a byte string is the file of one list of points at most

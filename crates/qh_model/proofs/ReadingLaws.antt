@@ -1,21 +1,11 @@
 -- What the words of a file stand for: numbers, coordinates, a count with its points; and when they have no fault.
-use Rattle.std.proofs.Common.{◌≡◌, [], ◌∷◌, ◌++◌, ◌*◌, ◌≤◌, ◌&&◌, ℕ, List, Bool, true, false, cond, refl, ap}
-use Rattle.std.proofs.Common.{sym, arith, zero, suc, length, map, subst, nat_lt}
-use Rattle.std.specs.Prelude.{ℤ, pos, negsuc, Option, Some, None, nat_le}
-use Rattle.std.specs.List.{AllByRecursion}
-use Rattle.std.specs.Option.{option_or}
-use Rattle.std.proofs.lemmas.Bool.{leb-true, le-leb}
-use Rattle.std.proofs.lemmas.Bool.Decides.{nat_tests}
+use Rattle.std.proofs.Common.{◌≡◌, [], ◌∷◌, ◌++◌, ◌*◌, ◌≤◌, ◌&&◌, ℕ, List, Bool, true, false, cond, refl, ap, sym, arith, zero, suc, length, map, subst, nat_lt}
+use Rattle.std.proofs.lemmas.Bool.{leb-true, le-leb, Decides.nat_tests}
+use Rattle.std.specs.{List.AllByRecursion, Option.option_or, Prelude.ℤ, Prelude.pos, Prelude.negsuc, Prelude.Option, Prelude.Some, Prelude.None, Prelude.nat_le}
 use Rattle.qh_model.specs.declared.limits.TheConstants.{POINT_LIMIT, BYTE_LIMIT}
-use Rattle.qh_model.specs.headline.Vector.{Vector}
-use Rattle.qh_model.specs.headline.Limits.{IsCoordinate, is_coordinate}
-use Rattle.qh_model.specs.headline.Words.{Word}
-use Rattle.qh_model.specs.headline.Numbers.{number_of}
-use Rattle.qh_model.specs.headline.PointFile.{coordinates}
-use Rattle.qh_model.specs.declared.read_fault.ReadFault.{ReadFault}
-use Rattle.qh_model.specs.declared.read_fault.ReadFault.TheVariants.{Count, Range}
-use Rattle.qh_model.specs.headline.FileFault.{coordinate_fault, coordinates_fault, counted_fault}
-use Rattle.qh_model.specs.headline.FileFault.{number_fault, next_number_fault}
+use Rattle.qh_model.specs.declared.read_fault.ReadFault.{ReadFault, TheVariants.Count, TheVariants.Range}
+use Rattle.qh_model.specs.headline.FileFault.{coordinate_fault, coordinates_fault, counted_fault, number_fault, next_number_fault}
+use Rattle.qh_model.specs.headline.{Limits.IsCoordinate, Limits.is_coordinate, Numbers.number_of, PointFile.coordinates, Vector.Vector, Words.Word}
 use Rattle.qh_model.proofs.algebra.VectorIdentities.{vector_path}
 
 pub same_some : (xs ys : List ℤ) → map Some xs ≡ map Some ys → xs ≡ ys

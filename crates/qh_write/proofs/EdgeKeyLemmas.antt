@@ -1,22 +1,12 @@
 -- Edges counted by numbers of pairs: what is added, and how many numbers differ.
-use Rattle.std.proofs.Common.{◌≡◌, ◌≢◌, ◌∙◌, ℕ, ◌+◌, ◌*◌, ◌<◌, List, [], ◌∷◌, ◌++◌, length, arith, ap, sym, refl, subst}
-use Rattle.std.proofs.Common.{inl, inr, map, drop, get_or, append_assoc, min, max, IsPermutation, Bool, true, false}
-use Rattle.std.proofs.Common.{cond, eqb-true, nat_cmp}
-use Rattle.std.proofs.lemmas.Bool.{eqb-false}
-use Rattle.std.proofs.lemmas.Grind.{flat_map-append}
-use Rattle.std.proofs.lemmas.List.{length-map}
-use Rattle.std.proofs.lemmas.List.Kept.{Contains-dedup_nat, Contains-from_dedup}
-use Rattle.std.proofs.lemmas.Map.Keys.{IsStrictlyIncreasing-dedup}
-use Rattle.std.specs.Prelude.{◌==◌, ◌↔◌, eqb}
-use Rattle.std.proofs.lemmas.List.Sorted.{IsPermutation-sym}
-use Rattle.std.specs.List.{flat_map, dedup, AllByRecursion}
-use Rattle.std.specs.List.Sorted.{IsSorted}
-use Rattle.qh_model.specs.headline.Sets.{In, Once}
-use Rattle.qh_model.specs.headline.Fan.{triangles_along, fan, fans, pairs_along, pairs_round, edge_count}
+use Rattle.std.proofs.Common.{◌≡◌, ◌≢◌, ◌∙◌, ℕ, ◌+◌, ◌*◌, ◌<◌, List, [], ◌∷◌, ◌++◌, length, arith, ap, sym, refl, subst, inl, inr, map, drop, get_or}
+use Rattle.std.proofs.Common.{append_assoc, min, max, IsPermutation, Bool, true, false, cond, eqb-true, nat_cmp}
+use Rattle.std.proofs.lemmas.{Bool.eqb-false, Grind.flat_map-append, List.length-map, List.Kept.Contains-dedup_nat, List.Kept.Contains-from_dedup}
+use Rattle.std.proofs.lemmas.{List.Sorted.IsPermutation-sym, Map.Keys.IsStrictlyIncreasing-dedup}
+use Rattle.std.specs.{List.flat_map, List.dedup, List.AllByRecursion, List.Sorted.IsSorted, Prelude.◌==◌, Prelude.◌↔◌, Prelude.eqb}
+use Rattle.qh_model.specs.headline.{Fan.triangles_along, Fan.fan, Fan.fans, Fan.pairs_along, Fan.pairs_round, Fan.edge_count, Sets.In, Sets.Once}
 use Rattle.qh_model.proofs.Members.{to_contains, of_contains, in_permutation, rising_once, every_at}
-use Rattle.qh_model.proofs.lists.Images.{in_map, of_map}
-use Rattle.qh_model.proofs.lists.Joined.{in_flat_map, of_flat_map}
-use Rattle.qh_model.proofs.lists.OnceEach.{once_length}
+use Rattle.qh_model.proofs.lists.{Images.in_map, Images.of_map, Joined.in_flat_map, Joined.of_flat_map, OnceEach.once_length}
 use Rattle.qh_model.proofs.polygons.EdgeCounts.{distinct, length-distinct, of_distinct, in_distinct, once_distinct}
 use Rattle.qh_write.specs.declared.texts.edges.TheConstants.{ROOM}
 use Rattle.qh_write.specs.steps.EdgeKeys.{pair_key, HasRoom, AddsPairs, Completes, pairs_of}

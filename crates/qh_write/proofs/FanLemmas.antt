@@ -1,11 +1,8 @@
 -- Fans as they are written: their ids, their number, and what is left of them.
 use Rattle.std.proofs.Common.{◌≡◌, ◌∙◌, ℕ, suc, ◌+◌, ◌-◌, ◌<◌, ◌≤◌, List, [], ◌∷◌, ◌++◌, length, arith, ap, sym, refl, get_or, take, drop, drop-cons, add-one}
-use Rattle.std.proofs.lemmas.Grind.{flat_map-append}
-use Rattle.std.proofs.lemmas.List.{take_more}
-use Rattle.qh_model.specs.headline.Fan.{triangles_along, fan, fans}
-use Rattle.qh_model.specs.contract.Bodies.{IsBodyInOrder}
-use Rattle.qh_model.proofs.lists.Joined.{of_flat_map}
-use Rattle.qh_model.proofs.polygons.Fans.{fan_members}
+use Rattle.std.proofs.lemmas.{Grind.flat_map-append, List.take_more}
+use Rattle.qh_model.specs.{contract.Bodies.IsBodyInOrder, headline.Fan.triangles_along, headline.Fan.fan, headline.Fan.fans}
+use Rattle.qh_model.proofs.{lists.Joined.of_flat_map, polygons.Fans.fan_members}
 
 -- the fans name no other ids than the polygons
 pub fans_in_order : (extremes : List ℕ) (qs : List (List ℕ)) → IsBodyInOrder extremes qs → IsBodyInOrder extremes (fans qs)

@@ -1,10 +1,7 @@
 -- Faces in a form: those of two parts, and their vertices.
-use Rattle.std.proofs.Common.{◌≡◌, ℕ, List, [], ◌++◌, refl}
-use Rattle.std.proofs.lemmas.Grind.{flat_map-append}
-use Rattle.qh_model.specs.headline.Fan.{fan}
-use Rattle.qh_model.specs.contract.Bodies.{IsBodyInOrder}
-use Rattle.qh_write.specs.declared.texts.forms.Form.{Form}
-use Rattle.qh_write.specs.declared.texts.forms.Form.TheVariants.{Whole, Fans}
+use Rattle.std.proofs.{Common.◌≡◌, Common.ℕ, Common.List, Common.[], Common.◌++◌, Common.refl, lemmas.Grind.flat_map-append}
+use Rattle.qh_model.specs.{contract.Bodies.IsBodyInOrder, headline.Fan.fan}
+use Rattle.qh_write.specs.declared.texts.forms.Form.{Form, TheVariants.Whole, TheVariants.Fans}
 use Rattle.qh_write.specs.steps.Forms.{shown}
 use Rattle.qh_write.proofs.FanLemmas.{fans_in_order}
 

@@ -1,12 +1,9 @@
 -- A text of a list, made part by part.
-use Rattle.std.proofs.Common.{◌≡◌, ◌∙◌, ℕ, suc, ◌+◌, ◌*◌, ◌<◌, ◌≤◌, List, [], ◌∷◌, ◌++◌, length, map, arith, ap, ap₂, sym, subst}
-use Rattle.std.proofs.Common.{take, drop, get_or, Ok, Result, Vec, Global, take-append-drop, length-drop}
-use Rattle.std.proofs.Math.ListN.{get_or-map, length-map}
-use Rattle.std.proofs.lemmas.List.{drop-drop}
-use Rattle.std.specs.Prelude.{IfOk}
-use Rattle.std.specs.declared.alloc.AllocError.{AllocError}
-use Rattle.qh_write.specs.contract.Pieces.{bytes_of}
-use Rattle.qh_write.specs.steps.Parts.{AreParts}
+use Rattle.std.proofs.Common.{◌≡◌, ◌∙◌, ℕ, suc, ◌+◌, ◌*◌, ◌<◌, ◌≤◌, List, [], ◌∷◌, ◌++◌, length, map, arith, ap, ap₂, sym, subst, take, drop, get_or, Ok}
+use Rattle.std.proofs.Common.{Result, Vec, Global, take-append-drop, length-drop}
+use Rattle.std.proofs.{Math.ListN.get_or-map, Math.ListN.length-map, lemmas.List.drop-drop}
+use Rattle.std.specs.{Prelude.IfOk, declared.alloc.AllocError.AllocError}
+use Rattle.qh_write.specs.{contract.Pieces.bytes_of, steps.Parts.AreParts}
 
 module _ {A : Type 0} (F : List A → List ℕ) (none : F [] ≡ []) (joined : (xs ys : List A) → F (xs ++ ys) ≡ F xs ++ F ys) (size : ℕ) where
   -- what follows the first part is cut into the parts that follow

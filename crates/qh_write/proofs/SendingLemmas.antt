@@ -1,14 +1,10 @@
 -- What has gone out through a sink after some of the bytes.
-use Rattle.std.proofs.Common.{◌≡◌, ◌∙◌, ℕ, suc, ◌+◌, ◌-◌, ◌<◌, ◌≤◌, List, [], ◌∷◌, ◌++◌, length, take, drop, get_or, Vec, Global}
-use Rattle.std.proofs.Common.{ap, arith, sym, append_assoc, append-nil, length-append, subst, take_all}
-use Rattle.std.proofs.KnownBytes.{Appends-trans}
-use Rattle.std.proofs.lemmas.Grind.{flat_map-append}
+use Rattle.std.proofs.Common.{◌≡◌, ◌∙◌, ℕ, suc, ◌+◌, ◌-◌, ◌<◌, ◌≤◌, List, [], ◌∷◌, ◌++◌, length, take, drop, get_or, Vec, Global, ap, arith, sym, append_assoc}
+use Rattle.std.proofs.Common.{append-nil, length-append, subst, take_all}
+use Rattle.std.proofs.{KnownBytes.Appends-trans, Math.Seq.drop-cons, Math.Seq.take-append-add, lemmas.Grind.flat_map-append}
 use Rattle.std.proofs.lemmas.List.{take-append-drop, take-append-le, take_rest, length-drop, length-take-le}
-use Rattle.std.proofs.Math.Seq.{drop-cons, take-append-add}
-use Rattle.std.specs.Prelude.{Option, Some, None}
-use Rattle.std.specs.Io.KnownBytes.{Appends, Keeps}
-use Rattle.qh_write.specs.contract.Pieces.{bytes_of}
-use Rattle.qh_write.specs.headline.Sinks.{AppendsBeginning}
+use Rattle.std.specs.{Io.KnownBytes.Appends, Io.KnownBytes.Keeps, Prelude.Option, Prelude.Some, Prelude.None}
+use Rattle.qh_write.specs.{contract.Pieces.bytes_of, headline.Sinks.AppendsBeginning}
 
 -- a beginning is a shorter one and what follows that
 take-add : (i n : ℕ) (xs : List ℕ) → i ≤ length xs → take (i + n) xs ≡ take i xs ++ take n (drop i xs)

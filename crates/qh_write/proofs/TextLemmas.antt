@@ -1,17 +1,11 @@
 -- Texts that grow by pieces, and vertex numbers out of a table.
-use Rattle.std.proofs.Common.{◌≡◌, ◌≢◌, ◌∙◌, ℕ, suc, ◌+◌, ◌<◌, List, [], ◌∷◌, ◌++◌, length, arith, ap, sym, refl}
-use Rattle.std.proofs.Common.{subst, inl, inr, ◌⊎◌, set, length-set, get_or, get_or-set_same, get_or-set_other}
-use Rattle.std.proofs.Common.{eqb-true, Bool, zero-add, ap₂, true, false, cond, All, replicate, decimal, slice_index}
-use Rattle.std.proofs.lemmas.Bool.{eqb-false}
-use Rattle.std.proofs.lemmas.List.{length-replicate}
-use Rattle.std.proofs.lemmas.List.Elements.{All-from_get_or}
-use Rattle.std.specs.Prelude.{◌==◌}
-use Rattle.std.specs.List.{flat_map}
-use Rattle.std.specs.List.Sorted.{IsStrictlyIncreasing}
-use Rattle.qh_model.specs.headline.Sets.{In, Once}
-use Rattle.qh_model.proofs.Members.{All-In, In-get_or, rising_once}
+use Rattle.std.proofs.Common.{◌≡◌, ◌≢◌, ◌∙◌, ℕ, suc, ◌+◌, ◌<◌, List, [], ◌∷◌, ◌++◌, length, arith, ap, sym, refl, subst, inl, inr, ◌⊎◌, set, length-set, get_or}
+use Rattle.std.proofs.Common.{get_or-set_same, get_or-set_other, eqb-true, Bool, zero-add, ap₂, true, false, cond, All, replicate, decimal, slice_index}
+use Rattle.std.proofs.lemmas.{Bool.eqb-false, List.length-replicate, List.Elements.All-from_get_or}
+use Rattle.std.specs.{List.flat_map, List.Sorted.IsStrictlyIncreasing, Prelude.◌==◌}
 use Rattle.qh_model.specs.contract.Bodies.{IsBodyInOrder}
-use Rattle.qh_model.specs.headline.Text.{line, spaced, vertex_number, face_text}
+use Rattle.qh_model.specs.headline.{Sets.In, Sets.Once, Text.line, Text.spaced, Text.vertex_number, Text.face_text}
+use Rattle.qh_model.proofs.Members.{All-In, In-get_or, rising_once}
 use Rattle.qh_write.specs.steps.VertexTables.{numbered, AreNumbered, face_by_table}
 
 -- the table keeps its length

@@ -1,6 +1,5 @@
-use Rattle.qh_convex_laws.proofs.Scales.{scaled_volume, scale_keeps_distinct, scale_keeps_convex, scale_keeps_polygons}
-use Rattle.qh_convex_laws.proofs.Scales.{scale_keeps_extremes, scale_keeps_faces}
 use Rattle.qh_convex_laws.proofs.scale_keeps_hull.Goals as goal
+use Rattle.qh_convex_laws.proofs.Scales.{scaled_volume, scale_keeps_distinct, scale_keeps_convex, scale_keeps_polygons, scale_keeps_extremes, scale_keeps_faces}
 
 pub returns : goal.returns
 returns c = record {

@@ -1,6 +1,5 @@
-use Rattle.qh_convex_laws.proofs.Solids.{sharp_polygons_are_faces, sharp_is_solid}
-use Rattle.qh_convex_laws.proofs.Solids.{triangle_polygons_are_faces, triangle_polygons_have_extremes}
 use Rattle.qh_convex_laws.proofs.sharp_polygons_are_hull.Goals as goal
+use Rattle.qh_convex_laws.proofs.Solids.{sharp_polygons_are_faces, sharp_is_solid, triangle_polygons_are_faces, triangle_polygons_have_extremes}
 
 pub returns : goal.returns
 returns c = record {

@@ -1,13 +1,10 @@
 -- Signs of products. In a signature brackets are needed: `≤ℤ` binds tighter than `+ℤ` and `*ℤ`.
 use Rattle.std.proofs.Common.{◌≡◌, ℕ, zero, suc, ◌*◌, ◌≤◌, arith, ap, sym, ◌∙◌, refl, ◌⊎◌, inl, inr}
-use Rattle.std.proofs.Math.Nat.{mul-le-mul}
-use Rattle.std.proofs.Math.IntN.{*ℤ-zero}
-use Rattle.std.proofs.lemmas.Int.{ints, by_lt_z}
+use Rattle.std.proofs.{Math.IntN.*ℤ-zero, Math.Nat.mul-le-mul, lemmas.Int.ints, lemmas.Int.by_lt_z}
 use Rattle.std.specs.Prelude.{ℤ, pos, negsuc, ◌+ℤ◌, ◌-ℤ◌, ◌*ℤ◌, neg_ℤ, ◌≤ℤ◌, ◌<ℤ◌}
 use lib.IntN.{ℤ_discrete}
 use borrow.Author.Differences.{product_is}
-use Rattle.qh_model.proofs.algebra.Integers.{mul_add, mul_neg}
-use Rattle.qh_model.proofs.algebra.Signs.{not_less}
+use Rattle.qh_model.proofs.algebra.{Integers.mul_add, Integers.mul_neg, Signs.not_less}
 
 -- two numbers not below 0
 pub mul-nonneg : (a b : ℤ) → pos 0 ≤ℤ a → pos 0 ≤ℤ b → pos 0 ≤ℤ (a *ℤ b)
@@ -40,13 +37,10 @@ mul-le a b c h k =
     let d : pos 0 ≤ℤ (c -ℤ b) = omega (arith, ints) in
     let p : pos 0 ≤ℤ (a *ℤ (c -ℤ b)) = mul-nonneg a (c -ℤ b) h d in
     let e : a *ℤ c ≡ a *ℤ b +ℤ a *ℤ (c -ℤ b) = sym (sym (mul_add a b (c -ℤ b)) ∙ ap (λ v. a *ℤ v) (sub_back b c)) in
-    finish (a *ℤ b) (a *ℤ c) (a *ℤ (c -ℤ b)) e p
+    omega (arith, ints)
   where
     sub_back : (b c : ℤ) → b +ℤ (c -ℤ b) ≡ c
     sub_back b c = omega (arith, ints)
-
-    finish : (x y z : ℤ) → y ≡ x +ℤ z → pos 0 ≤ℤ z → x ≤ℤ y
-    finish x y z e p = omega (arith, ints)
 
 -- a positive factor goes, the sign stays
 pub cancel-nonneg : (a b : ℤ) → pos 0 <ℤ a → pos 0 ≤ℤ (a *ℤ b) → pos 0 ≤ℤ b
@@ -68,13 +62,9 @@ mul-pos_neg a b h k = grind (arith, ints, cancel-nonneg)
 le_both : (x : ℤ) → x ≡ pos 0 → (x ≤ℤ pos 0) × (pos 0 ≤ℤ x)
 le_both x e = (omega (arith, ints), omega (arith, ints))
 
--- what is neither is 0
-both_le : (x : ℤ) → x ≤ℤ pos 0 → pos 0 ≤ℤ x → x ≡ pos 0
-both_le x p q = omega (arith, ints)
-
 -- a positive factor of 0
 pub cancel-zero : (a b : ℤ) → pos 0 <ℤ a → a *ℤ b ≡ pos 0 → b ≡ pos 0
-cancel-zero a b h k = let t = le_both (a *ℤ b) k in both_le b (cancel-nonpos a b h t.0) (cancel-nonneg a b h t.1)
+cancel-zero a b h k = let t = le_both (a *ℤ b) k in omega (arith, ints, cancel-nonpos a b h t.0, cancel-nonneg a b h t.1)
 
 -- a product with 0
 pub product_zero : (l y : ℤ) → y ≡ pos 0 → l *ℤ y ≡ pos 0

@@ -1,8 +1,6 @@
 -- A normal form of whole-number polynomials, by which an identity is proved by computing.
 use Rattle.std.proofs.Common.{◌≡◌, ℕ, arith, ap, sym, ◌∙◌, refl, List, [], ◌∷◌, Bool, true, false, eqb, ltb, get_or}
-use Rattle.std.proofs.Math.IntN.{+ℤ_assoc, +ℤ_idl, +ℤ_idr, *ℤ-zero, neg_ℤ-+ℤ}
-use Rattle.std.proofs.lemmas.Int.{ints}
-use Rattle.std.proofs.lemmas.Bool.{eqb-true}
+use Rattle.std.proofs.{Math.IntN.+ℤ_assoc, Math.IntN.+ℤ_idl, Math.IntN.+ℤ_idr, Math.IntN.*ℤ-zero, Math.IntN.neg_ℤ-+ℤ, lemmas.Bool.eqb-true, lemmas.Int.ints}
 use Rattle.std.specs.Prelude.{ℤ, pos, negsuc, ◌+ℤ◌, ◌-ℤ◌, ◌*ℤ◌, neg_ℤ}
 use Rattle.qh_model.proofs.algebra.Integers.{mul_add, mul_assoc, mul_swap, neg_mul, one_mul, mul_one, zero_mul, add_mul}
 
@@ -148,10 +146,6 @@ mul_m-value env (i ∷ m) n =
 same_term : (env : List ℤ) (c d : ℤ) (m n : Mono) (r : ℤ) → m ≡ n → (c +ℤ d) *ℤ value_m env m +ℤ r ≡ c *ℤ value_m env m +ℤ (d *ℤ value_m env n +ℤ r)
 same_term env c d m n r e = rw (← e) (rw (add_mul c d (value_m env m)) (+ℤ_assoc (c *ℤ value_m env m) (d *ℤ value_m env m) r))
 
--- a term put in further on
-later_term : (x y r s : ℤ) → s ≡ x +ℤ r → y +ℤ s ≡ x +ℤ (y +ℤ r)
-later_term x y r s e = omega (arith, ints)
-
 -- the test of coefficients is right
 is_zero-is : (c : ℤ) → is_zero c ≡ true → c ≡ pos 0
 is_zero-is (pos n) e = ap pos (eqb-true n 0 e)
@@ -173,7 +167,7 @@ ins_p-split : (env : List ℤ) (c : ℤ) (m : Mono) (t : ℤ × Mono) (p q : Pol
     ≡ c *ℤ value_m env m +ℤ (t.0 *ℤ value_m env t.1 +ℤ value_p env p)
 ins_p-split env c m t p q true b' e h = zero_term env (c +ℤ t.0) m p (is_zero (c +ℤ t.0)) refl ∙ same_term env c t.0 m t.1 (value_p env p) (eq_m-is m t.1 e)
 ins_p-split env c m t p q false true e h = refl
-ins_p-split env c m t p q false false e h = later_term (c *ℤ value_m env m) (t.0 *ℤ value_m env t.1) (value_p env p) (value_p env q) h
+ins_p-split env c m t p q false false e h = omega (arith, ints)
 
 -- a term put in
 ins_p-value : (env : List ℤ) (c : ℤ) (m : Mono) (p : Poly) → value_p env (ins_p c m p) ≡ c *ℤ value_m env m +ℤ value_p env p

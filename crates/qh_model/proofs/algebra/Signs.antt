@@ -1,6 +1,5 @@
 -- Orders of whole numbers, of equal ones and of opposites.
-use Rattle.std.proofs.Common.{◌≡◌, arith}
-use Rattle.std.proofs.lemmas.Int.{ints}
+use Rattle.std.proofs.{Common.◌≡◌, Common.arith, lemmas.Int.ints}
 use Rattle.std.specs.Prelude.{ℤ, pos, ◌+ℤ◌, ◌-ℤ◌, neg_ℤ, ◌≤ℤ◌, ◌<ℤ◌}
 
 -- what is less is not as much
@@ -44,10 +43,6 @@ sum_zero x a b c e h k l = omega (arith, ints)
 -- four numbers not above 0 have no sum above 0
 pub no_sum : (x a b c d : ℤ) → x ≡ a +ℤ b +ℤ c +ℤ d → pos 0 <ℤ x → a ≤ℤ pos 0 → b ≤ℤ pos 0 → c ≤ℤ pos 0 → d ≤ℤ pos 0 → ⊥
 no_sum x a b c d e p h i j k = omega (arith, ints)
-
--- four zeros add up to no negative number
-pub zeros_not_negative : (x a b c d : ℤ) → x ≡ a +ℤ b +ℤ c +ℤ d → x <ℤ pos 0 → a ≡ pos 0 → b ≡ pos 0 → c ≡ pos 0 → d ≡ pos 0 → ⊥
-zeros_not_negative x a b c d e h ha hb hc hd = omega (arith, ints)
 
 -- ---- the sign of a number, told of one that is equal
 -- not above 0

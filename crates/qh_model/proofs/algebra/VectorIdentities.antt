@@ -1,12 +1,10 @@
 -- Expressions for vectors, and the identities of `vol`.
 use Rattle.std.proofs.Common.{◌≡◌, ℕ, ◌+◌, ◌*◌, refl, List, [], ◌∷◌, arith, ap, ◌∙◌}
-use Rattle.std.proofs.Math.IntN.{*ℤ-zero}
-use Rattle.std.proofs.lemmas.Int.{ints}
+use Rattle.std.proofs.{Math.IntN.*ℤ-zero, lemmas.Int.ints}
 use Rattle.std.specs.Prelude.{ℤ, pos, ◌+ℤ◌, ◌-ℤ◌, ◌*ℤ◌, neg_ℤ}
-use Rattle.qh_model.proofs.algebra.Ring.{Expr, ring, ring_zero}
-use Rattle.qh_model.proofs.algebra.Ring.Expr.{var, con, add, sub as less, mul, neg}
-use Rattle.qh_model.specs.headline.Vector.{Vector, origin, minus, cross_product, dot}
+use Rattle.qh_model.proofs.algebra.Ring.{Expr, ring, ring_zero, Expr.var, Expr.con, Expr.add, Expr.sub as less, Expr.mul, Expr.neg}
 use Rattle.qh_model.specs.headline.Predicates.{cross, vol, left, AreInLine}
+use Rattle.qh_model.specs.headline.Vector.{Vector, origin, minus, cross_product, dot}
 
 -- a vector of expressions
 pub record VE : Type 0 where
@@ -88,14 +86,10 @@ vol-depths w a b c r p =
 no_term : (c l r : ℤ) → l ≡ r → c *ℤ (l -ℤ r) ≡ pos 0
 no_term c l r e = let z : l -ℤ r ≡ pos 0 = omega (arith, ints) in ap (λ v. c *ℤ v) z ∙ *ℤ-zero c
 
--- three such multiples
-sum_up : (l r x y z : ℤ) → l -ℤ r ≡ x +ℤ y +ℤ z → x ≡ pos 0 → y ≡ pos 0 → z ≡ pos 0 → l ≡ r
-sum_up l r x y z e p q t = omega (arith, ints)
-
 -- the equation from three others
 pub combine3 : (l r c₁ l₁ r₁ c₂ l₂ r₂ c₃ l₃ r₃ : ℤ) → l -ℤ r ≡ c₁ *ℤ (l₁ -ℤ r₁) +ℤ c₂ *ℤ (l₂ -ℤ r₂) +ℤ c₃ *ℤ (l₃ -ℤ r₃) → l₁ ≡ r₁ → l₂ ≡ r₂ → l₃ ≡ r₃ → l ≡ r
 combine3 l r c₁ l₁ r₁ c₂ l₂ r₂ c₃ l₃ r₃ e e₁ e₂ e₃ =
-    sum_up l r (c₁ *ℤ (l₁ -ℤ r₁)) (c₂ *ℤ (l₂ -ℤ r₂)) (c₃ *ℤ (l₃ -ℤ r₃)) e (no_term c₁ l₁ r₁ e₁) (no_term c₂ l₂ r₂ e₂) (no_term c₃ l₃ r₃ e₃)
+    omega (arith, ints, no_term c₁ l₁ r₁ e₁, no_term c₂ l₂ r₂ e₂, no_term c₃ l₃ r₃ e₃)
 
 -- vectors are equal by their coordinates
 pub vector_path : (p q : Vector) → p.x ≡ q.x → p.y ≡ q.y → p.z ≡ q.z → p ≡ q

@@ -1,14 +1,10 @@
 -- Each event is counted once: by a claim, a delivered node or a mark.
 use Rattle.std.proofs.Common.{◌≡◌, ℕ, ◌+◌, ◌-◌, ◌*◌, ◌<◌, ◌≤◌, Bool, true, false, List, [], ◌∷◌, length, sym, refl, ap, ◌∙◌, subst, arith}
-use Rattle.qh_model.specs.contract.BoardMachine.{Place, untouched, held, parked, used, published, Mark, none, left}
-use Rattle.qh_model.specs.contract.BoardMachine.{gave_up, Machine, start, put, parent, sibling, Event, claim_got}
-use Rattle.qh_model.specs.contract.BoardMachine.{claim_over, arrive_first, arrive_second, publish, leave, give_up, Can}
-use Rattle.qh_model.specs.contract.BoardMachine.{after, run, CanRun, settled, sum_to}
-use Rattle.qh_model.specs.steps.Endings.{ended}
+use Rattle.qh_model.specs.contract.BoardMachine.{Place, untouched, held, parked, used, published, Mark, none, left, gave_up, Machine, start, put, parent}
+use Rattle.qh_model.specs.contract.BoardMachine.{sibling, Event, claim_got, claim_over, arrive_first, arrive_second, publish, leave, give_up, Can, after, run}
+use Rattle.qh_model.specs.{contract.BoardMachine.CanRun, contract.BoardMachine.settled, contract.BoardMachine.sum_to, steps.Endings.ended}
+use Rattle.qh_model.proofs.board.{Grown.Consistent, Grown.ranged, Joined.r_i, Joined.n_i, Joined.fresh, Kept.keeps_good}
 use Rattle.qh_model.proofs.board.Updates.{put_here, put_else, sum_put, sum_most, sum_zero, sum_less}
-use Rattle.qh_model.proofs.board.Kept.{keeps_good}
-use Rattle.qh_model.proofs.board.Grown.{Consistent, ranged}
-use Rattle.qh_model.proofs.board.Joined.{r_i, n_i, fresh}
 
 pub one_if : Bool → ℕ
 one_if true = 1

@@ -1,13 +1,9 @@
 -- What every reachable state of the board keeps, at each event but the second arrival.
-use Rattle.std.proofs.Common.{◌≡◌, ◌≢◌, ◌⊎◌, inl, inr, ⊎_elim, ℕ, ◌+◌, ◌*◌, ◌<◌, ◌≤◌, true}
-use Rattle.std.proofs.Common.{sym, refl, ap, ◌∙◌, subst, arith}
+use Rattle.std.proofs.Common.{◌≡◌, ◌≢◌, ◌⊎◌, inl, inr, ⊎_elim, ℕ, ◌+◌, ◌*◌, ◌<◌, ◌≤◌, true, sym, refl, ap, ◌∙◌, subst, arith}
 use mathlib.Core.Logic.{dite}
 use native.Mathlib.Decide.{ℕ_discrete, dec_le}
-use Rattle.qh_model.specs.contract.BoardMachine.{Place, untouched, held, parked, used, published, Machine, start, put}
-use Rattle.qh_model.specs.contract.BoardMachine.{parent, sibling, claim_got}
-use Rattle.qh_model.specs.contract.BoardMachine.{Can, after}
-use Rattle.qh_model.proofs.board.Updates.{put_here, put_else, at_put}
-use Rattle.qh_model.proofs.board.Siblings.{near}
+use Rattle.qh_model.specs.contract.BoardMachine.{Place, untouched, held, parked, used, published, Machine, start, put, parent, sibling, claim_got, Can, after}
+use Rattle.qh_model.proofs.board.{Siblings.near, Updates.put_here, Updates.put_else, Updates.at_put}
 
 -- of the claims and the nodes of B blocks and W passes
 pub record Grown (B W claims : ℕ) (node : ℕ → Place) : Type 0 where

@@ -2,14 +2,10 @@
 use Rattle.std.proofs.Common.{◌≡◌, ◌≢◌, ◌⊎◌, inl, inr, ⊎_elim, ℕ, ◌+◌, ◌<◌, ◌≤◌, true, false, List, [], ◌∷◌, ◌++◌, sym, refl, ap, ◌∙◌, subst, arith}
 use mathlib.Core.Logic.{dite}
 use native.Mathlib.Decide.{ℕ_discrete}
-use Rattle.qh_model.specs.contract.BoardMachine.{untouched, held, parked, published, none, left, gave_up, Machine}
-use Rattle.qh_model.specs.contract.BoardMachine.{start, put, Event, claim_got, claim_over, arrive_first, arrive_second}
-use Rattle.qh_model.specs.contract.BoardMachine.{publish, leave, give_up, HoldsNothing, Can, after, run, CanRun}
-use Rattle.qh_model.specs.contract.BoardMachine.{settled}
-use Rattle.qh_model.proofs.board.Updates.{put_here, put_else, at_put}
-use Rattle.qh_model.proofs.board.Kept.{keeps_good, all_good}
-use Rattle.qh_model.proofs.board.Grown.{Consistent}
-use Rattle.qh_model.proofs.board.Joined.{Cases, same, spent, got, joined, cases, fresh}
+use Rattle.qh_model.specs.contract.BoardMachine.{untouched, held, parked, published, none, left, gave_up, Machine, start, put, Event, claim_got, claim_over}
+use Rattle.qh_model.specs.contract.BoardMachine.{arrive_first, arrive_second, publish, leave, give_up, HoldsNothing, Can, after, run, CanRun, settled}
+use Rattle.qh_model.proofs.board.{Grown.Consistent, Joined.Cases, Joined.same, Joined.spent, Joined.got, Joined.joined, Joined.cases, Joined.fresh}
+use Rattle.qh_model.proofs.board.{Kept.keeps_good, Kept.all_good, Updates.put_here, Updates.put_else, Updates.at_put}
 
 -- no number is both
 never_both : (n : ℕ) → n ≡ 0 → n ≡ 1 → ⊥

@@ -1,14 +1,10 @@
 -- The second arrival at a node keeps it.
-use Rattle.std.proofs.Common.{◌≡◌, ◌≢◌, ◌⊎◌, inl, inr, ℕ, ◌+◌, ◌*◌, ◌<◌}
-use Rattle.std.proofs.Common.{sym, ap, ◌∙◌, subst, arith}
+use Rattle.std.proofs.Common.{◌≡◌, ◌≢◌, ◌⊎◌, inl, inr, ℕ, ◌+◌, ◌*◌, ◌<◌, sym, ap, ◌∙◌, subst, arith}
 use mathlib.Core.Logic.{dite}
 use native.Mathlib.Decide.{ℕ_discrete}
-use Rattle.qh_model.specs.contract.BoardMachine.{Place, untouched, held, parked, used, published, Machine, put}
-use Rattle.qh_model.specs.contract.BoardMachine.{parent, sibling}
-use Rattle.qh_model.specs.contract.BoardMachine.{Acts}
+use Rattle.qh_model.specs.contract.BoardMachine.{Place, untouched, held, parked, used, published, Machine, put, parent, sibling, Acts}
+use Rattle.qh_model.proofs.board.{Grown.Consistent, Grown.place_dec, Grown.ranged, Siblings.ArePair, Siblings.Near, Siblings.near}
 use Rattle.qh_model.proofs.board.Updates.{put_here, put_else, at_put}
-use Rattle.qh_model.proofs.board.Siblings.{ArePair, Near, near}
-use Rattle.qh_model.proofs.board.Grown.{Consistent, place_dec, ranged}
 
 -- what a node is after the second arrival from the node i
 pub data Cases (f : ℕ → Place) (w i j : ℕ) (y : Place) : Type 0 where

@@ -1,11 +1,8 @@
 -- Each event keeps what every reachable state keeps.
-use Rattle.std.proofs.Common.{◌≡◌, ℕ, ◌<◌, List, [], ◌∷◌}
-use Rattle.std.proofs.Common.{sym, refl, ◌∙◌}
-use Rattle.qh_model.specs.contract.BoardMachine.{untouched, held, parked, used, published, Machine}
-use Rattle.qh_model.specs.contract.BoardMachine.{Event, claim_got, claim_over, arrive_first}
-use Rattle.qh_model.specs.contract.BoardMachine.{arrive_second, publish, leave, give_up, Can, after, run, CanRun}
-use Rattle.qh_model.proofs.board.Grown.{Consistent, changes, ends, gets}
-use Rattle.qh_model.proofs.board.Joined.{joins}
+use Rattle.std.proofs.Common.{◌≡◌, ℕ, ◌<◌, List, [], ◌∷◌, sym, refl, ◌∙◌}
+use Rattle.qh_model.specs.contract.BoardMachine.{untouched, held, parked, used, published, Machine, Event, claim_got, claim_over, arrive_first, arrive_second}
+use Rattle.qh_model.specs.contract.BoardMachine.{publish, leave, give_up, Can, after, run, CanRun}
+use Rattle.qh_model.proofs.board.{Grown.Consistent, Grown.changes, Grown.ends, Grown.gets, Joined.joins}
 
 module _ (B W : ℕ) (some : 0 < B) where
   pub keeps_good : (m : Machine) (e : Event) → Consistent B W m → Can B W m e → Consistent B W (after B W m e)

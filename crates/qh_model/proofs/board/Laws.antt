@@ -1,8 +1,6 @@
 -- The laws of the board.
 use Rattle.qh_model.specs.laws.BoardLaws.{SingleHolder, HeldOnce, ChildrenFirst, RootAtTheEnd, RootWhereAllLeft, NoRootWhereGivenUp, StepBound}
-use Rattle.qh_model.proofs.board.Root.{published_only, done_is_published}
-use Rattle.qh_model.proofs.board.Histories.{held_once}
-use Rattle.qh_model.proofs.board.Reached.{reach_good, reach_ended, run_bound}
+use Rattle.qh_model.proofs.board.{Histories.held_once, Reached.reach_good, Reached.reach_ended, Reached.run_bound, Root.published_only, Root.done_is_published}
 
 pub single_holder : SingleHolder
 single_holder B W some m r = (reach_good B W some m r).one

@@ -2,10 +2,8 @@
 use Rattle.std.proofs.Common.{◌≡◌, ℕ, ◌+◌, ◌-◌, ◌*◌, ◌<◌, ◌≤◌, List, [], ◌∷◌, ◌++◌, length, sym, refl, ap, ◌∙◌, subst, arith}
 use Rattle.qh_model.specs.contract.BoardMachine.{Machine, start, Event, Can, after, run, CanRun, Reachable, settled, sum_to}
 use Rattle.qh_model.specs.steps.Endings.{ended}
-use Rattle.qh_model.proofs.board.Kept.{all_good}
-use Rattle.qh_model.proofs.board.Grown.{Consistent, starts}
 use Rattle.qh_model.proofs.board.Counts.{Counts, all_counts, counts_start, bounded, few_claims, counted}
-use Rattle.qh_model.proofs.board.Histories.{Ended, run_ended}
+use Rattle.qh_model.proofs.board.{Grown.Consistent, Grown.starts, Histories.Ended, Histories.run_ended, Kept.all_good}
 
 module _ (B W : ℕ) where
   more_runs : (m : Machine) (es : List Event) (e : Event) → CanRun B W m es → Can B W (run B W m es) e → CanRun B W m (es ++ e ∷ [])

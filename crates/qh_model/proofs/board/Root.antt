@@ -3,8 +3,7 @@ use Rattle.std.proofs.Common.{◌≡◌, ◌≢◌, inl, inr, ℕ, zero, suc, �
 use mathlib.Core.Logic.{dite}
 use native.Mathlib.Decide.{ℕ_discrete, dec_le}
 use Rattle.qh_model.specs.contract.BoardMachine.{Place, untouched, held, parked, used, published, Machine, parent, sibling, settled}
-use Rattle.qh_model.proofs.board.Grown.{Consistent, ranged}
-use Rattle.qh_model.proofs.board.Siblings.{ArePair, near, sibling_even}
+use Rattle.qh_model.proofs.board.{Grown.Consistent, Grown.ranged, Siblings.ArePair, Siblings.near, Siblings.sibling_even}
 
 module _ (B W : ℕ) (some : 0 < B) where
   -- where the root is published, each other node is used
@@ -101,17 +100,14 @@ module _ (B W : ℕ) (some : 0 < B) where
       sib : sibling (2 * i) ≡ 2 * i + 1
       sib = sibling_even (2 * i) (omega arith)
 
-      not_yet : (x : Place) → settled x ≡ 0 → settled x ≡ 1 → ⊥
-      not_yet x p q = omega arith
-
       by_place : (x : Place) → m.node (2 * i) ≡ x → (y : Place) → m.node (2 * i + 1) ≡ y → settled (m.node (2 * i)) ≡ 1
           → settled (m.node (2 * i + 1)) ≡ 1 → m.node i ≢ untouched
-      by_place untouched ex y ey p q = absurd (not_yet (m.node (2 * i)) (ap settled ex) p)
-      by_place (held w) ex y ey p q = absurd (not_yet (m.node (2 * i)) (ap settled ex) p)
+      by_place untouched ex y ey p q = absurd (omega (arith, ap settled ex))
+      by_place (held w) ex y ey p q = absurd (omega (arith, ap settled ex))
       by_place used ex y ey p q = up_left ex
       by_place published ex y ey p q = let t = g.top (2 * i) ex in absurd (omega arith)
-      by_place parked ex untouched ey p q = absurd (not_yet (m.node (2 * i + 1)) (ap settled ey) q)
-      by_place parked ex (held w) ey p q = absurd (not_yet (m.node (2 * i + 1)) (ap settled ey) q)
+      by_place parked ex untouched ey p q = absurd (omega (arith, ap settled ey))
+      by_place parked ex (held w) ey p q = absurd (omega (arith, ap settled ey))
       by_place parked ex used ey p q = up_right ey
       by_place parked ex published ey p q = let t = g.top (2 * i + 1) ey in absurd (omega arith)
       by_place parked ex parked ey p q = absurd (g.pair (2 * i) ex (ap m.node sib ∙ ey))

@@ -1,10 +1,8 @@
 -- Points at a larger scale, and a point a little beyond the middle of three of them.
 use Rattle.std.proofs.Common.{◌≡◌, refl, ap, ◌∙◌, [], ◌∷◌}
 use Rattle.std.specs.Prelude.{ℤ, pos, ◌+ℤ◌, ◌-ℤ◌, ◌*ℤ◌}
-use Rattle.qh_model.specs.headline.Vector.{Vector, minus, dot}
-use Rattle.qh_model.specs.headline.Predicates.{cross, vol}
-use Rattle.qh_model.proofs.algebra.Ring.{Expr, ring}
-use Rattle.qh_model.proofs.algebra.Ring.Expr.{var, con, add, sub as less, mul}
+use Rattle.qh_model.specs.headline.{Predicates.cross, Predicates.vol, Vector.Vector, Vector.minus, Vector.dot}
+use Rattle.qh_model.proofs.algebra.Ring.{Expr, ring, Expr.var, Expr.con, Expr.add, Expr.sub as less, Expr.mul}
 use Rattle.qh_model.proofs.algebra.VectorIdentities.{vec, put, dotE, crossE, subE, VE, vector_path, vol-dot}
 
 -- a point at m times the scale

@@ -1,23 +1,16 @@
 -- Separator cancellation: no point is strictly below every triangle of a closed surface and strictly beyond all its
 -- corners along a direction. With the depth of each corner as a common multiple, the terms of each edge cancel.
 use Rattle.std.proofs.Common.{◌≡◌, ℕ, ◌+◌, ◌<◌, ◌≤◌, arith, ap, sym, ◌∙◌, refl, List, [], ◌∷◌, Bool, true, false, cond, eqb, inl, inr}
-use Rattle.std.proofs.lemmas.Int.{ints}
-use Rattle.std.proofs.lemmas.Bool.{eqb-true}
-use Rattle.std.specs.Prelude.{ℤ, pos, ◌+ℤ◌, ◌*ℤ◌, neg_ℤ, ◌≤ℤ◌, ◌<ℤ◌}
-use Rattle.std.specs.List.{AllByRecursion as Each}
-use Rattle.qh_model.specs.headline.Vector.{Vector, dot, minus}
-use Rattle.qh_model.specs.headline.Predicates.{vol}
-use Rattle.qh_model.specs.headline.Sets.{In}
+use Rattle.std.proofs.lemmas.{Bool.eqb-true, Int.ints}
+use Rattle.std.specs.{List.AllByRecursion as Each, Prelude.ℤ, Prelude.pos, Prelude.◌+ℤ◌, Prelude.◌*ℤ◌, Prelude.neg_ℤ, Prelude.◌≤ℤ◌, Prelude.◌<ℤ◌}
 use Rattle.qh_model.specs.contract.ClosedSurface.{Triple, edges, IsClosed}
+use Rattle.qh_model.specs.headline.{Predicates.vol, Sets.In, Vector.Vector, Vector.dot, Vector.minus}
 use Rattle.qh_model.specs.laws.ClosedSurfaceLaws.{IsCornerOf, NoneBelowAndBeyond}
-use Rattle.qh_model.proofs.Members.{every_map}
-use Rattle.qh_model.proofs.algebra.Integers.{mul_swap}
-use Rattle.qh_model.proofs.algebra.Order.{mul-pos, mul-neg_pos}
-use Rattle.qh_model.proofs.algebra.Ring.{ring}
+use Rattle.qh_model.proofs.{Members.every_map, algebra.Integers.mul_swap, algebra.Order.mul-pos, algebra.Order.mul-neg_pos, algebra.Ring.ring}
 use Rattle.qh_model.proofs.algebra.Ring.Expr.{var, add, sub as less, mul, neg}
 use Rattle.qh_model.proofs.algebra.VectorIdentities.{vol-flip, vol-depths, depth, dot-minus, combine3}
-use Rattle.qh_model.proofs.closed_surfaces.Sums.{sum_z, count, drop_first, later}
 use Rattle.qh_model.proofs.closed_surfaces.SignedVolume.{back, eqb-refl, edges-cancel, vol_at}
+use Rattle.qh_model.proofs.closed_surfaces.Sums.{sum_z, count, drop_first, later}
 
 -- with co x such that depth x * co x is the same m at each corner
 unfoldable pub shared : (at : ℕ → Vector) (w p : Vector) → (ℕ → ℤ) → ℕ → Triple → ℤ
@@ -161,14 +154,6 @@ each-all : (P : ℕ → Type 0) → ((x : ℕ) → P x) → (xs : List ℕ) → 
 each-all P h [] = tt
 each-all P h (x ∷ xs) = (h x, each-all P h xs)
 
--- 0 is not below 0
-not_both : (x : ℤ) → x ≡ pos 0 → x <ℤ pos 0 → ⊥
-not_both x e h = omega (arith, ints)
-
--- a negative number and one not above 0
-neg_and_le : (a b : ℤ) → a <ℤ pos 0 → b ≤ℤ pos 0 → (a +ℤ b) <ℤ pos 0
-neg_and_le a b h k = omega (arith, ints)
-
 -- separator cancellation: no point is strictly below every triangle of a closed surface and strictly on one side of a plane from all its corners
 pub none_below_all : (at : ℕ → Vector) (w p : Vector) (t : Triple) (ts : List Triple) → IsClosed (t ∷ ts)
     → Corners (λ i. pos 0 <ℤ depth w p (at i)) (t ∷ ts) → Each (λ t. vol_at at p t <ℤ pos 0) (t ∷ ts) → ⊥
@@ -182,9 +167,8 @@ none_below_all at w p t ts c d v =
     let same : Corners (λ i. f i *ℤ co i ≡ prod_z f all) (t ∷ ts) =
     every_map (λ i. 0 < count (eqb i) all) (λ i. f i *ℤ co i ≡ prod_z f all) all
     (λ i h. sym (prod-drop_first f i all h)) (all_there all) in
-    not_both (sum_z (shared at w p co t.i) (t ∷ ts)) (shared-zero at w p co (prod_z f all) t.i (t ∷ ts) c same)
-    (neg_and_le (shared at w p co t.i t) (sum_z (shared at w p co t.i) ts)
-    (shared-neg at w p co t.i t v.0 d.0 up.0 up.1.0 up.1.1.0) (sums-neg at w p co t.i d.0 ts up.1.1.1 v.1))
+    let zero_sum = shared-zero at w p co (prod_z f all) t.i (t ∷ ts) c same in
+    omega (arith, ints, zero_sum, shared-neg at w p co t.i t v.0 d.0 up.0 up.1.0 up.1.1.0, sums-neg at w p co t.i d.0 ts up.1.1.1 v.1)
 
 -- ---- the law, from members
 corners-of : (P : ℕ → Type 0) (ts : List Triple) → ((i : ℕ) → IsCornerOf ts i → P i) → Corners P ts

@@ -1,12 +1,9 @@
 -- The signed volume of a closed surface: what changes its sign with an edge's direction adds up to nothing.
 use Rattle.std.proofs.Common.{◌≡◌, ℕ, arith, ap, sym, ◌∙◌, refl, List, [], ◌∷◌, map, Bool, true, false, eqb, rules}
-use Rattle.std.proofs.lemmas.Int.{ints}
-use Rattle.std.proofs.lemmas.Bool.{and_parts, eqb-true}
+use Rattle.std.proofs.lemmas.{Bool.and_parts, Bool.eqb-true, Int.ints}
 use Rattle.std.specs.Prelude.{ℤ, pos, ◌+ℤ◌, neg_ℤ, ◌&&◌}
-use Rattle.qh_model.specs.headline.Vector.{Vector}
-use Rattle.qh_model.specs.headline.Predicates.{vol}
 use Rattle.qh_model.specs.contract.ClosedSurface.{Triple, edges, is_edge, IsClosed, signed_volume}
-use Rattle.qh_model.specs.laws.ClosedSurfaceLaws.{VolumeIsConstant}
+use Rattle.qh_model.specs.{headline.Predicates.vol, headline.Vector.Vector, laws.ClosedSurfaceLaws.VolumeIsConstant}
 use Rattle.qh_model.proofs.algebra.VectorIdentities.{vol-boundary, vol-flip}
 use Rattle.qh_model.proofs.closed_surfaces.Sums.{sum_z, count, Tests, sum_z-same_counts, count-is}
 
@@ -51,17 +48,12 @@ sum-back g h (e ∷ es) = rw (h e, sum-back g h es) (neg_sum (g e) (sum_z g es))
     neg_sum : (a b : ℤ) → neg_ℤ a +ℤ neg_ℤ b ≡ neg_ℤ (a +ℤ b)
     neg_sum a b = omega (arith, ints)
 
--- what is its own opposite is 0
-own_negative : (x : ℤ) → x ≡ neg_ℤ x → x ≡ pos 0
-own_negative x e = omega (arith, ints)
-
 -- what changes its sign with an edge's direction adds up to nothing
 pub edges-cancel : (g : (ℕ × ℕ) → ℤ) → ((e : ℕ × ℕ) → g (back e) ≡ neg_ℤ (g e)) → (ts : List Triple) → IsClosed ts → sum_z g (edges ts) ≡ pos 0
 edges-cancel g h ts c =
-    own_negative (sum_z g (edges ts))
-    (sum_z-same_counts is_edge edge_tests g (edges ts) (map back (edges ts))
-    (λ e. count-is (is_edge e) (edges ts) ∙ c e.0 e.1 ∙ sym (count-is (is_edge (back e)) (edges ts))
-    ∙ sym (count-back e (edges ts))) ∙ sum-back g h (edges ts))
+    let opposite = sum_z-same_counts is_edge edge_tests g (edges ts) (map back (edges ts))
+    (λ e. count-is (is_edge e) (edges ts) ∙ c e.0 e.1 ∙ sym (count-is (is_edge (back e)) (edges ts)) ∙ sym (count-back e (edges ts))) in
+    omega (arith, ints, opposite ∙ sum-back g h (edges ts))
 
 -- the volume of a triangle and p
 abbrev pub vol_at : (ℕ → Vector) → Vector → Triple → ℤ

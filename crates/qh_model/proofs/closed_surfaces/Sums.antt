@@ -58,10 +58,6 @@ count-drop_first eq t q x [] h = absurd (omega arith)
 count-drop_first eq t q x (y ∷ ys) h =
     count_step q x y ys (drop_first (eq x) ys) (eq x y) (t.same x y) (λ e. count-drop_first eq t q x ys (later (eq x y) (count (eq x) ys) h e))
 
--- equal sums with an equal part
-cancel : (a b c : ℕ) → a + b ≡ a + c → b ≡ c
-cancel a b c e = omega arith
-
 -- the first of a list stands in it
 one_there : {X : Type 0} (eq : X → X → Bool) → Tests eq → (x : X) (n : ℕ) → 0 < cond (eq x x) 1 0 + n
 one_there eq t x n = rw (t.itself x) (omega arith)
@@ -74,8 +70,7 @@ sum_z-same_counts eq t f [] (y ∷ ys) h = let p = one_there eq t y (count (eq y
 sum_z-same_counts eq t f (x ∷ xs) ys h =
     let there : 0 < count (eq x) ys = (let p = one_there eq t x (count (eq x) xs) in let e = h x in omega arith) in
     let ih = sum_z-same_counts eq t f xs (drop_first (eq x) ys)
-    (λ z. cancel (cond (eq z x) 1 0) (count (eq z) xs) (count (eq z) (drop_first (eq x) ys))
-    (h z ∙ count-drop_first eq t (eq z) x ys there)) in
+    (λ z. omega (arith, h z ∙ count-drop_first eq t (eq z) x ys there)) in
     rw ih (sym (sum_z-drop_first eq t f x ys there))
 
 -- the count is that of the definitions: std's

@@ -3,30 +3,18 @@
 use Rattle.std.proofs.Common.{◌≡◌, ◌≢◌, ℕ, suc, ◌+◌, arith, refl, sym, ap, subst, ◌∙◌, ◌⊎◌, inl, inr, List, [], ◌∷◌}
 use Rattle.std.proofs.lemmas.Int.{ints, by_lt_z}
 use Rattle.std.specs.Prelude.{ℤ, pos, negsuc, ◌+ℤ◌, ◌-ℤ◌, ◌*ℤ◌, neg_ℤ, ◌≤ℤ◌, ◌<ℤ◌}
-use Rattle.qh_model.specs.headline.Vector.{Vector, minus, dot}
-use Rattle.qh_model.specs.headline.Predicates.{cross, vol, AreInLine}
-use Rattle.qh_model.specs.headline.Sets.{In, Members}
-use Rattle.qh_model.specs.headline.Combination.{Combination}
-use Rattle.qh_model.specs.headline.Extreme.{Others}
-use Rattle.qh_model.specs.headline.SupportingPlane.{IsSupportingTriple}
 use Rattle.qh_model.specs.contract.ClosedSurface.{Triple, IsClosedSurface}
-use Rattle.qh_model.specs.laws.Separator.{Separator}
-use Rattle.qh_model.specs.laws.FaceLaws.{IsAlong}
-use Rattle.qh_model.specs.laws.ClosedSurfaceLaws.{IsCornerOf}
+use Rattle.qh_model.specs.headline.{Combination.Combination, Extreme.Others, Predicates.cross, Predicates.vol, Predicates.AreInLine, Sets.In, Sets.Members}
+use Rattle.qh_model.specs.headline.{SupportingPlane.IsSupportingTriple, Vector.Vector, Vector.minus, Vector.dot}
 use Rattle.qh_model.specs.laws.ClosedFaceLaws.{AreSupporting, TriangleOfPlane, ClosedMissNoPlane, ClosedMissNoExtreme}
-use Rattle.qh_model.proofs.algebra.Order.{mul-le, product_zero, mul-pos, mul-pos_neg, mul-nonneg_nonpos}
-use Rattle.qh_model.proofs.algebra.Order.{zero_or_not, le_less}
-use Rattle.qh_model.proofs.algebra.Ring.{ring}
-use Rattle.qh_model.proofs.algebra.Integers.{mul_neg, mul_one}
-use Rattle.qh_model.proofs.algebra.Signs.{less_differ}
-use Rattle.qh_model.proofs.algebra.VectorIdentities.{vec, put, dotE, oppositeE, opposite, dot-opposite, dot_comm}
-use Rattle.qh_model.proofs.algebra.VectorIdentities.{in_line-vol, vol-first, vol-second, vol-third}
-use Rattle.qh_model.proofs.extremes.Directions.{positive_along, dot_along, along_or_opposite, square-positive}
-use Rattle.qh_model.proofs.extremes.Directions.{from_plane}
+use Rattle.qh_model.specs.laws.{ClosedSurfaceLaws.IsCornerOf, FaceLaws.IsAlong, Separator.Separator}
+use Rattle.qh_model.proofs.algebra.{Integers.mul_neg, Integers.mul_one, Order.mul-le, Order.product_zero, Order.mul-pos, Order.mul-pos_neg}
+use Rattle.qh_model.proofs.algebra.{Order.mul-nonneg_nonpos, Order.zero_or_not, Order.le_less, Ring.ring, Signs.less_differ}
+use Rattle.qh_model.proofs.algebra.VectorIdentities.{vec, put, dotE, oppositeE, opposite, dot-opposite, dot_comm, in_line-vol, vol-first, vol-second, vol-third}
+use Rattle.qh_model.proofs.closed_surfaces.{Beyond.scaled, Beyond.beyond, Beyond.vol-beyond, Beyond.dot-past, Cancellation.none_below_and_beyond}
+use Rattle.qh_model.proofs.extremes.Directions.{positive_along, dot_along, along_or_opposite, square-positive, from_plane}
 use Rattle.qh_model.proofs.extremes.ExtremeIds.{Listed, listed_itself, listed_part, alternative_in, apart}
 use Rattle.qh_model.proofs.polygons.PlaneTurns.{level_parallel}
-use Rattle.qh_model.proofs.closed_surfaces.Beyond.{scaled, beyond, vol-beyond, dot-past}
-use Rattle.qh_model.proofs.closed_surfaces.Cancellation.{none_below_and_beyond}
 
 -- one of the list has P, or all have Q
 one_or_all : {X : Type 0} (P Q : X → Type 0) (xs : List X) → ((x : X) → In x xs → P x ⊎ Q x)
@@ -110,17 +98,12 @@ module _ (at : ℕ → Vector) (A : ℕ → Type 0) (i j k : ℕ) (plane : IsSup
       square : dot (opposite n) (opposite n) ≡ dot n n
       square = ring (put n []) (dotE (oppositeE (vec 0)) (oppositeE (vec 0))) (dotE (vec 0) (vec 0)) refl
 
-      turned : (x y : ℤ) → x ≡ neg_ℤ y → pos 0 <ℤ x → y <ℤ pos 0
-      turned x y e h = omega (arith, ints)
-
       -- where it looks the other way
       away : IsAlong m (opposite n) → dot m n <ℤ pos 0
       away h =
-          turned (dot m (opposite n)) (dot m n)
-          (dot_comm m (opposite n) ∙ dot-opposite n m ∙ ap neg_ℤ (dot_comm n m))
-          (positive_along h.t h.s (dot (opposite n) (opposite n)) (dot m (opposite n)) h.some_t h.some_s
-          (sym (dot_along m (opposite n) h (opposite n)))
-          (subst (λ x. pos 0 <ℤ x) (sym square) (square-positive n plane.area)))
+          let ahead = positive_along h.t h.s (dot (opposite n) (opposite n)) (dot m (opposite n)) h.some_t h.some_s
+          (sym (dot_along m (opposite n) h (opposite n))) (subst (λ x. pos 0 <ℤ x) (sym square) (square-positive n plane.area)) in
+          omega (arith, ints, dot_comm m (opposite n) ∙ dot-opposite n m ∙ ap neg_ℤ (dot_comm n m), ahead)
 
       level : (rise t (at i) ≡ pos 0) × (rise t (at j) ≡ pos 0) × (rise t (at k) ≡ pos 0) × (sink t ≡ pos 0)
           → Spans t ⊎ IsOther t
@@ -183,14 +166,12 @@ module _ (at : ℕ → Vector) (A : ℕ → Type 0) (i j k : ℕ) (plane : IsSup
           further : (l : ℕ) → A l → dot n (up l) <ℤ dot n p
           further l h =
               order _ _ _ _ (dot-past c n (at i) (at j) (at k) (at l)) (square-positive n plane.area)
-              (mul-nonneg_nonpos c _ (omega (arith, ints)) (three _ _ _ (height (at i) (vol-first (at i) (at j) (at k)))
-              (height (at j) (vol-second (at i) (at j) (at k))) (height (at k) (vol-third (at i) (at j) (at k)))))
+              (mul-nonneg_nonpos c _ (omega (arith, ints))
+              (let h = height (at i) (vol-first (at i) (at j) (at k)) in
+              omega (arith, ints, height (at j) (vol-second (at i) (at j) (at k)), height (at k) (vol-third (at i) (at j) (at k)))))
             where
               order : (x y s z : ℤ) → x ≡ y +ℤ s -ℤ z → pos 0 <ℤ s → z ≤ℤ pos 0 → y <ℤ x
               order x y s z e h k = omega (arith, ints)
-
-              three : (x y z : ℤ) → x ≤ℤ pos 0 → y ≤ℤ pos 0 → z ≤ℤ pos 0 → (x +ℤ y +ℤ z) ≤ℤ pos 0
-              three x y z h k l = omega (arith, ints)
 
               height : (q : Vector) → vol (at i) (at j) (at k) q ≡ pos 0 → dot n (minus (at l) q) ≤ℤ pos 0
               height q e =

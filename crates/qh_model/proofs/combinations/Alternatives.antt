@@ -1,18 +1,12 @@
 -- The theorem of alternatives for points of space.
 use Rattle.std.proofs.Common.{◌≡◌, ℕ, ◌+◌, ◌<◌, ◌≤◌, arith, sym, ap, ◌∙◌, ◌⊎◌, inl, inr, List, [], ◌∷◌}
-use Rattle.std.proofs.lemmas.Int.{ints}
-use Rattle.std.proofs.Math.Nat.{mul-le-mul_left}
+use Rattle.std.proofs.{Math.Nat.mul-le-mul_left, lemmas.Int.ints}
 use Rattle.std.specs.Prelude.{ℤ, pos, ◌+ℤ◌, ◌-ℤ◌, ◌*ℤ◌, ◌<ℤ◌}
 use borrow.Author.Differences.{lt_out}
-use Rattle.qh_model.proofs.algebra.Integers.{ring_rules, add_mul}
-use Rattle.qh_model.proofs.combinations.Vectors.{V, dot as vdot}
+use Rattle.qh_model.proofs.{Members.every_at, algebra.Integers.ring_rules, algebra.Integers.add_mul, combinations.Vectors.V, combinations.Vectors.dot as vdot}
 use Rattle.qh_model.proofs.combinations.WeightedTerms.{total, weight, count, Among, Balanced, Separated, alternative}
-use Rattle.qh_model.proofs.Members.{every_at}
-use Rattle.qh_model.specs.headline.Vector.{Vector, dot}
-use Rattle.qh_model.specs.headline.Sets.{In, Members}
-use Rattle.qh_model.specs.headline.Combination.{IsBalanced, Combination}
-use Rattle.qh_model.specs.laws.Separator.{Separator}
-use Rattle.qh_model.specs.laws.CombinationLaws.{CombinationOrSeparator, NeverBoth}
+use Rattle.qh_model.specs.headline.{Combination.IsBalanced, Combination.Combination, Sets.In, Sets.Members, Vector.Vector, Vector.dot}
+use Rattle.qh_model.specs.laws.{CombinationLaws.CombinationOrSeparator, CombinationLaws.NeverBoth, Separator.Separator}
 
 -- ---- four terms
 record Four {A : Type 0} (xs : List A) (ts : List (ℕ × A)) : Type 0 where
@@ -134,22 +128,6 @@ total_from d g P e (t ∷ ts) =
     ∙ ap (λ s. (pos t.0 *ℤ (g t.1 -ℤ P) +ℤ total d ts) +ℤ s) (add_mul (pos t.0) (pos (weight ts)) P)
     ∙ shifted_term (pos t.0) P (g t.1) (total d ts) (pos (weight ts) *ℤ P) (total g ts) (total_from d g P e ts)
 
--- the first coordinate as a scalar product
-first_part : (x y z : ℤ) → pos 1 *ℤ x +ℤ (pos 0 *ℤ y +ℤ (pos 0 *ℤ z +ℤ pos 0)) ≡ x
-first_part x y z = omega (arith, ints)
-
--- the second
-second_part : (x y z : ℤ) → pos 0 *ℤ x +ℤ (pos 1 *ℤ y +ℤ (pos 0 *ℤ z +ℤ pos 0)) ≡ y
-second_part x y z = omega (arith, ints)
-
--- the third
-third_part : (x y z : ℤ) → pos 0 *ℤ x +ℤ (pos 0 *ℤ y +ℤ (pos 1 *ℤ z +ℤ pos 0)) ≡ z
-third_part x y z = omega (arith, ints)
-
--- totals that vanish over differences balance
-balance : (T WP G : ℤ) → T +ℤ WP ≡ G → T ≡ pos 0 → WP ≡ G
-balance T WP G e z = omega (arith, ints)
-
 -- balanced differences are a convex combination
 combination_of : (at : ℕ → Vector) (ids : List ℕ) (p : Vector) → Balanced ℕ 3 (toward at p) ids → Combination at (Members ids) p
 combination_of at ids p m = record {
@@ -166,16 +144,16 @@ combination_of at ids p m = record {
   w3 = q.w3;
   w4 = q.w4;
   some_weight = omega (arith, q.weighs, m.heavy);
-  x = along (pos 1, (pos 0, (pos 0, tt))) p.x (λ i. (at i).x) (λ i. first_part ((at i).x -ℤ p.x) ((at i).y -ℤ p.y) ((at i).z -ℤ p.z));
-  y = along (pos 0, (pos 1, (pos 0, tt))) p.y (λ i. (at i).y) (λ i. second_part ((at i).x -ℤ p.x) ((at i).y -ℤ p.y) ((at i).z -ℤ p.z));
-  z = along (pos 0, (pos 0, (pos 1, tt))) p.z (λ i. (at i).z) (λ i. third_part ((at i).x -ℤ p.x) ((at i).y -ℤ p.y) ((at i).z -ℤ p.z));
+  x = along (pos 1, (pos 0, (pos 0, tt))) p.x (λ i. (at i).x) (λ i. omega (arith, ints));
+  y = along (pos 0, (pos 1, (pos 0, tt))) p.y (λ i. (at i).y) (λ i. omega (arith, ints));
+  z = along (pos 0, (pos 0, (pos 1, tt))) p.z (λ i. (at i).z) (λ i. omega (arith, ints));
 }
   where
     q : Four ids m.terms
     q = four ids m.terms m.among m.few m.heavy
 
     along : (u : V 3) (P : ℤ) (g : ℕ → ℤ) → ((i : ℕ) → vdot 3 u (toward at p i) ≡ g i -ℤ P) → IsBalanced q.w1 q.w2 q.w3 q.w4 P (g q.a) (g q.b) (g q.c) (g q.d)
-    along u P g e = ap (λ t. pos t *ℤ P) (sym q.weighs) ∙ balance _ _ _ (total_from (λ i. vdot 3 u (toward at p i)) g P e m.terms) (m.sums u) ∙ q.sums g
+    along u P g e = ap (λ t. pos t *ℤ P) (sym q.weighs) ∙ (omega (arith, ints, total_from (λ i. vdot 3 u (toward at p i)) g P e m.terms, m.sums u)) ∙ q.sums g
 
 -- a negative scalar product of the difference is an order of scalar products
 past_from : (u v w ax ay az px py pz : ℤ)

@@ -1,8 +1,7 @@
 -- A convex combination of points is one of the same points by other names, among more of them too.
 use Rattle.std.proofs.Common.{◌≡◌, ℕ, ap}
 use Rattle.std.specs.Prelude.{ℤ}
-use Rattle.qh_model.specs.headline.Vector.{Vector}
-use Rattle.qh_model.specs.headline.Combination.{Combination, IsBalanced}
+use Rattle.qh_model.specs.headline.{Combination.Combination, Combination.IsBalanced, Vector.Vector}
 
 -- along one coordinate, with other names of the same numbers
 balanced_as : (w1 w2 w3 w4 : ℕ) (p a b c d a' b' c' d' : ℤ) → a' ≡ a → b' ≡ b → c' ≡ c → d' ≡ d

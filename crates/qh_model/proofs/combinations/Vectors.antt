@@ -3,8 +3,7 @@ use Rattle.std.proofs.Common.{◌≡◌, ℕ, zero, suc, ◌+◌, ◌*◌, arith
 use Rattle.std.proofs.lemmas.Int.{ints}
 use Rattle.std.specs.Prelude.{ℤ, pos, negsuc, ◌+ℤ◌, ◌*ℤ◌, neg_ℤ, ◌<ℤ◌, ◌≤ℤ◌}
 use lib.IntN.{*ℤ_comm, zero-*ℤ, *ℤ-zero, +ℤ_idl, +ℤ_idr}
-use Rattle.qh_model.proofs.algebra.Integers.{ring_rules, mul_add}
-use Rattle.qh_model.proofs.algebra.Order.{square-nonneg}
+use Rattle.qh_model.proofs.algebra.{Integers.ring_rules, Integers.mul_add, Order.square-nonneg}
 
 -- vectors of n numbers
 abbrev pub V : ℕ → Type 0
@@ -27,16 +26,12 @@ nil zero = tt
 nil (suc n) = (pos 0, nil n)
 
 -- a step of the next
-zeros : (a b : ℤ) → pos 0 ≡ a *ℤ pos 0 +ℤ b *ℤ pos 0
-zeros a b = omega (arith, ints)
-
--- a step of the next
 lin_step : (a b u v x D E : ℤ) → (a *ℤ u +ℤ b *ℤ v) *ℤ x +ℤ (a *ℤ D +ℤ b *ℤ E) ≡ a *ℤ (u *ℤ x +ℤ D) +ℤ b *ℤ (v *ℤ x +ℤ E)
 lin_step a b u v x D E = simp ring_rules
 
 -- scalar products are linear
 pub dot_lin : (n : ℕ) (a b : ℤ) (u v x : V n) → dot n (lin n a u b v) x ≡ a *ℤ dot n u x +ℤ b *ℤ dot n v x
-dot_lin zero a b u v x = zeros a b
+dot_lin zero a b u v x = omega (arith, ints)
 dot_lin (suc n) a b u v x = ap (λ t. (a *ℤ u.0 +ℤ b *ℤ v.0) *ℤ x.0 +ℤ t) (dot_lin n a b u.1 v.1 x.1) ∙ lin_step a b u.0 v.0 x.0 (dot n u.1 x.1) (dot n v.1 x.1)
 
 -- a step of the next
@@ -61,14 +56,10 @@ pub dot_nil : (n : ℕ) (x : V n) → dot n (nil n) x ≡ pos 0
 dot_nil zero x = refl
 dot_nil (suc n) x = nil_step x.0 _ (dot_nil n x.1)
 
--- a sum of two numbers not below 0
-plus : (x D : ℤ) → pos 0 ≤ℤ x → pos 0 ≤ℤ D → pos 0 ≤ℤ (x +ℤ D)
-plus x D h k = omega (arith, ints)
-
 -- a vector's square is not below 0
 pub dot_self : (n : ℕ) (x : V n) → pos 0 ≤ℤ dot n x x
 dot_self zero x = omega (arith, ints)
-dot_self (suc n) x = plus _ _ (square-nonneg x.0) (dot_self n x.1)
+dot_self (suc n) x = omega (arith, ints, square-nonneg x.0, dot_self n x.1)
 
 -- the space one dimension lower, along d
 pub record Cut (n : ℕ) (d : V (suc n)) : Type 0 where
@@ -98,10 +89,6 @@ grow_head k h D e l = rw (← e) (omega (arith, ints))
 split_head : (h u x D E : ℤ) → (h *ℤ h) *ℤ (u *ℤ x +ℤ D) ≡ (u *ℤ h +ℤ E) *ℤ (h *ℤ x) +ℤ h *ℤ (h *ℤ D +ℤ neg_ℤ x *ℤ E)
 split_head h u x D E = simp ring_rules (omega (arith, ints))
 
--- a term that is 0
-no_second : (a D : ℤ) → a *ℤ D +ℤ pos 0 *ℤ D ≡ a *ℤ D
-no_second a D = omega (arith, ints)
-
 -- the cut along a vector whose head is not 0
 by_head : (n k : ℕ) (h : ℤ) (t : V n) → pos (suc k) ≡ h *ℤ h → Cut n (h, t)
 by_head n k h t e = record {
@@ -119,16 +106,12 @@ by_head n k h t e = record {
       ∙ ap (λ s. (u.0 *ℤ h +ℤ dot n u.1 t) *ℤ s +ℤ h *ℤ (h *ℤ dot n u.1 x.1 +ℤ neg_ℤ x.0 *ℤ dot n u.1 t))
       (sym (ap (λ s. h *ℤ x.0 +ℤ s) (dot_nil n x.1) ∙ +ℤ_idr (h *ℤ x.0)))
       ∙ ap (λ s. (u.0 *ℤ h +ℤ dot n u.1 t) *ℤ (h *ℤ x.0 +ℤ dot n (nil n) x.1) +ℤ s)
-      (sym (dot_lin n h (pos 0) u.1 u.1 (lin n h x.1 (neg_ℤ x.0) t) ∙ no_second h _ ∙ ap (λ s. h *ℤ s) (dot_lin_right n h (neg_ℤ x.0) u.1 x.1 t)));
+      (sym (dot_lin n h (pos 0) u.1 u.1 (lin n h x.1 (neg_ℤ x.0) t) ∙ (omega (arith, ints)) ∙ ap (λ s. h *ℤ s) (dot_lin_right n h (neg_ℤ x.0) u.1 x.1 t)));
 }
 
 -- a head 0 adds nothing
 flat_head : (u D : ℤ) → D ≡ pos 0 → u *ℤ pos 0 +ℤ D ≡ pos 0
 flat_head u D e = rw (e, *ℤ-zero u)
-
--- nor to a square
-grow_tail : (D : ℤ) → pos 0 <ℤ D → pos 0 <ℤ (pos 0 *ℤ pos 0 +ℤ D)
-grow_tail D h = omega (arith, ints)
 
 -- splitting goes by the tail
 split_tail : (a u x D Q E R : ℤ) → a *ℤ D ≡ E *ℤ Q +ℤ R → a *ℤ (u *ℤ x +ℤ D) ≡ (u *ℤ pos 0 +ℤ E) *ℤ (pos 0 *ℤ x +ℤ Q) +ℤ ((a *ℤ u) *ℤ x +ℤ R)
@@ -141,7 +124,7 @@ by_tail n t c = record {
   lift = λ u. (u.0, c.lift u.1);
   lifts = λ u x. ap (λ s. u.0 *ℤ x.0 +ℤ s) (c.lifts u.1 x.1);
   kills = λ u. flat_head u.0 _ (c.kills u.1);
-  grows = grow_tail _ c.grows;
+  grows = omega (arith, ints, c.grows);
   scale = c.scale;
   along = (pos 0, c.along);
   rest = λ u. (pos (suc c.scale) *ℤ u.0, c.rest u.1);

@@ -1,11 +1,8 @@
 -- Affine forms: one that is not zero at a convex combination is not zero at some of what is combined.
-use Rattle.std.proofs.Common.{◌≡◌, ◌≢◌, ℕ, arith, ◌∙◌, ◌⊎◌, inl, inr}
-use Rattle.std.proofs.lemmas.Int.{ints, by_lt_z}
-use Rattle.std.specs.Prelude.{ℤ, pos, ◌+ℤ◌, neg_ℤ, ◌<ℤ◌}
-use Rattle.qh_model.specs.headline.Vector.{Vector, dot}
-use Rattle.qh_model.specs.headline.Combination.{Combination}
-use Rattle.qh_model.proofs.algebra.Order.{le_antisym, zero_or_not}
-use Rattle.qh_model.proofs.algebra.VectorIdentities.{opposite, dot-opposite}
+use Rattle.std.proofs.{Common.◌≡◌, Common.◌≢◌, Common.ℕ, Common.arith, Common.◌∙◌, Common.◌⊎◌, Common.inl, Common.inr, lemmas.Int.ints, lemmas.Int.by_lt_z}
+use Rattle.std.specs.Prelude.{ℤ, pos, ◌+ℤ◌, ◌<ℤ◌}
+use Rattle.qh_model.specs.headline.{Combination.Combination, Vector.Vector, Vector.dot}
+use Rattle.qh_model.proofs.algebra.{Order.le_antisym, Order.zero_or_not, VectorIdentities.opposite, VectorIdentities.dot-opposite}
 use Rattle.qh_model.proofs.combinations.Alternatives.{all_lower}
 
 -- g q = u . q + c
@@ -24,14 +21,6 @@ pub record NonZero (at : ℕ → Vector) (E : ℕ → Type 0) (g : Vector → �
   pub has : E e
   pub differs : g (at e) ≢ pos 0
 
--- g = d + c is above 0, h = e + c is 0
-lower_than_positive : (g h d e c : ℤ) → g ≡ d +ℤ c → h ≡ e +ℤ c → h ≡ pos 0 → pos 0 <ℤ g → e <ℤ d
-lower_than_positive g h d e c p q z l = omega (arith, ints)
-
--- g = d + c is below 0, h = e + c is 0, and d', e' are the opposites of d, e
-lower_than_negative : (g h d e c d' e' : ℤ) → g ≡ d +ℤ c → h ≡ e +ℤ c → h ≡ pos 0 → g <ℤ pos 0 → d' ≡ neg_ℤ d → e' ≡ neg_ℤ e → e' <ℤ d'
-lower_than_negative g h d e c d' e' p q z l r s = omega (arith, ints)
-
 -- a form that is not zero at a convex combination is not zero at a member of it
 pub non_zero_member : (at : ℕ → Vector) (E : ℕ → Type 0) (p : Vector) → Combination at E p → (g : Vector → ℤ) → Form g → g p ≢ pos 0 → NonZero at E g
 non_zero_member at E p m g f n = first (zero_or_not (g (at m.a)))
@@ -40,13 +29,13 @@ non_zero_member at E p m g f n = first (zero_or_not (g (at m.a)))
     above a b c d l = all_lower at E p f.u m (less a) (less b) (less c) (less d)
       where
         less : {i : ℕ} → g (at i) ≡ pos 0 → dot f.u (at i) <ℤ dot f.u p
-        less {i} z = lower_than_positive _ _ _ _ _ (f.is p) (f.is (at i)) z l
+        less {i} z = omega (arith, ints, f.is p, f.is (at i))
 
     below : g (at m.a) ≡ pos 0 → g (at m.b) ≡ pos 0 → g (at m.c) ≡ pos 0 → g (at m.d) ≡ pos 0 → g p <ℤ pos 0 → ⊥
     below a b c d l = all_lower at E p (opposite f.u) m (less a) (less b) (less c) (less d)
       where
         less : {i : ℕ} → g (at i) ≡ pos 0 → dot (opposite f.u) (at i) <ℤ dot (opposite f.u) p
-        less {i} z = lower_than_negative _ _ _ _ _ _ _ (f.is p) (f.is (at i)) z l (dot-opposite f.u p) (dot-opposite f.u (at i))
+        less {i} z = omega (arith, ints, f.is p, f.is (at i), dot-opposite f.u p, dot-opposite f.u (at i))
 
     none : g (at m.a) ≡ pos 0 → g (at m.b) ≡ pos 0 → g (at m.c) ≡ pos 0 → g (at m.d) ≡ pos 0 → ⊥
     none a b c d = by_lt_z (g p) (pos 0) (below a b c d) (λ h. by_lt_z (pos 0) (g p) (above a b c d) (λ k. n (le_antisym _ _ k h)))

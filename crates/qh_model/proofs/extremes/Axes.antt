@@ -1,11 +1,8 @@
 -- Different vectors differ along one of the three axes.
-use Rattle.std.proofs.Common.{◌≡◌, ◌≢◌, arith, ◌⊎◌, inl, inr}
-use Rattle.std.proofs.lemmas.Int.{ints}
+use Rattle.std.proofs.{Common.◌≡◌, Common.◌≢◌, Common.arith, Common.◌⊎◌, Common.inl, Common.inr, lemmas.Int.ints}
 use Rattle.std.specs.Prelude.{ℤ, pos, ◌-ℤ◌}
 use Rattle.qh_model.specs.headline.Vector.{Vector, dot}
-use Rattle.qh_model.proofs.algebra.Order.{zero_or_not}
-use Rattle.qh_model.proofs.algebra.VectorIdentities.{vector_path}
-use Rattle.qh_model.proofs.algebra.Ring.{equal_from_zero}
+use Rattle.qh_model.proofs.algebra.{Order.zero_or_not, Ring.equal_from_zero, VectorIdentities.vector_path}
 
 -- the first axis
 axis_x : Vector

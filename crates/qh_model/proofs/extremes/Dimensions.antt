@@ -1,20 +1,14 @@
 -- A set has one dimension, and what combines to a set has its tetrahedra, triangles and segments.
-use Rattle.std.proofs.Common.{◌≡◌, ◌≢◌, ℕ, arith, ap, sym, subst, ◌∙◌, inl, inr}
-use Rattle.std.proofs.lemmas.Int.{ints}
+use Rattle.std.proofs.{Common.◌≡◌, Common.◌≢◌, Common.ℕ, Common.arith, Common.ap, Common.sym, Common.subst, Common.◌∙◌, Common.inl, Common.inr, lemmas.Int.ints}
 use Rattle.std.specs.Prelude.{ℤ, pos, ◌+ℤ◌, ◌-ℤ◌, neg_ℤ}
-use Rattle.qh_model.specs.headline.Vector.{Vector, origin, minus, cross_product, dot}
-use Rattle.qh_model.specs.headline.Predicates.{cross, vol, left, AreInLine}
-use Rattle.qh_model.specs.headline.Sets.{Members}
-use Rattle.qh_model.specs.contract.IdSets.{HasDistinctPoints}
+use Rattle.qh_model.specs.{contract.IdSets.HasDistinctPoints, headline.Combination.Combination}
 use Rattle.qh_model.specs.headline.Dimension.{HasTetrahedron, HasTriangle, HasSegment, IsDimension}
-use Rattle.qh_model.specs.headline.Combination.{Combination}
-use Rattle.qh_model.specs.laws.DimensionLaws.{DimensionIsUnique}
-use Rattle.qh_model.proofs.algebra.VectorIdentities.{vol-linear, vol-first_last, vol-second_last}
-use Rattle.qh_model.proofs.algebra.VectorIdentities.{vol-third_last, left-dot, left-linear, left-turn, in_line-vol}
-use Rattle.qh_model.proofs.algebra.VectorIdentities.{in_line-left, in_line-twice, opposite, dot-opposite}
+use Rattle.qh_model.specs.headline.{Predicates.cross, Predicates.vol, Predicates.left, Predicates.AreInLine, Sets.Members, Vector.Vector, Vector.origin}
+use Rattle.qh_model.specs.{headline.Vector.minus, headline.Vector.cross_product, headline.Vector.dot, laws.DimensionLaws.DimensionIsUnique}
 use Rattle.qh_model.proofs.algebra.Ring.{equal_from_zero}
-use Rattle.qh_model.proofs.extremes.AffineForms.{Form, form_as, NonZero, non_zero_member}
-use Rattle.qh_model.proofs.extremes.Axes.{Differ, differ}
+use Rattle.qh_model.proofs.algebra.VectorIdentities.{vol-linear, vol-first_last, vol-second_last, vol-third_last, left-dot, left-linear, left-turn, in_line-vol}
+use Rattle.qh_model.proofs.algebra.VectorIdentities.{in_line-left, in_line-twice, opposite, dot-opposite}
+use Rattle.qh_model.proofs.extremes.{AffineForms.Form, AffineForms.form_as, AffineForms.NonZero, AffineForms.non_zero_member, Axes.Differ, Axes.differ}
 
 -- each member of A is a convex combination of members of E
 abbrev pub AreCombinations : (ℕ → Vector) → (ℕ → Type 0) → (ℕ → Type 0) → Type 0
@@ -91,13 +85,10 @@ triangle_of at A E m h = along (differ (cross (at h.i) (at h.j) (at h.k)) origin
     commuted : (n p q : Vector) → dot n p ≡ dot p n
     commuted n p q = omega (arith, ints)
 
-    nothing : (n : Vector) → dot n origin ≡ pos 0
-    nothing n = omega (arith, ints)
-
     along : Differ (cross (at h.i) (at h.j) (at h.k)) origin → HasTriangle at E
     along d = triangle_about at A E m h d.axis
         (λ e. d.differs (commuted d.axis (cross (at h.i) (at h.j) (at h.k)) origin
-        ∙ sym (left-dot d.axis (at h.i) (at h.j) (at h.k)) ∙ e ∙ sym (nothing d.axis)))
+        ∙ sym (left-dot d.axis (at h.i) (at h.j) (at h.k)) ∙ e ∙ sym (omega (arith, ints))))
 
 -- ---- two points
 -- a set of two has two of what combines to it
@@ -107,19 +98,13 @@ segment_of at A E d m h = along (differ (at h.i) (at h.j) (λ e. h.differ (d h.i
     plus_neg : (a b : ℤ) → a -ℤ b ≡ a +ℤ neg_ℤ b
     plus_neg a b = omega (arith, ints)
 
-    turned : (a b c : ℤ) → c ≡ neg_ℤ b → a -ℤ b ≡ c +ℤ a
-    turned a b c e = omega (arith, ints)
-
-    none : (a b : ℤ) → a ≡ b → a -ℤ b ≡ pos 0
-    none a b e = omega (arith, ints)
-
     second : (u : Vector) (i' : ℕ) → E i' → NonZero at E (λ q. dot u (at i') -ℤ dot u q) → HasSegment E
     second u i' ei r = record {
       i = i';
       j = r.e;
       has_i = ei;
       has_j = r.has;
-      differ = λ e. r.differs (none (dot u (at i')) (dot u (at r.e)) (ap (λ t. dot u (at t)) e));
+      differ = λ e. r.differs (omega (arith, ints, ap (λ t. dot u (at t)) e));
     }
 
     first : (u : Vector) → NonZero at E (λ q. dot u q -ℤ dot u (at h.j)) → HasSegment E
@@ -128,7 +113,7 @@ segment_of at A E d m h = along (differ (at h.i) (at h.j) (λ e. h.differ (d h.i
         (record {
           u = opposite u;
           c = dot u (at r.e);
-          is = λ q. turned (dot u (at r.e)) (dot u q) (dot (opposite u) q) (dot-opposite u q);
+          is = λ q. omega (arith, ints, dot-opposite u q);
         }) r.differs)
 
     along : Differ (at h.i) (at h.j) → HasSegment E

@@ -2,33 +2,25 @@
 use Rattle.std.proofs.Common.{◌≡◌, ◌≢◌, ℕ, zero, suc, ◌<◌, arith, refl, sym, ap, subst, ◌∙◌, ◌⊎◌, inl, inr, [], ◌∷◌}
 use Rattle.std.proofs.lemmas.Int.{ints, by_lt_z}
 use Rattle.std.specs.Prelude.{ℤ, pos, negsuc, ◌+ℤ◌, ◌*ℤ◌, neg_ℤ, ◌<ℤ◌, ◌≤ℤ◌}
-use Rattle.qh_model.specs.headline.Vector.{Vector, origin, minus, cross_product, dot}
-use Rattle.qh_model.specs.headline.Predicates.{cross, vol, left, AreInLine}
-use Rattle.qh_model.specs.laws.FaceLaws.{IsAlong}
-use Rattle.qh_model.proofs.algebra.Order.{mul-nonneg, mul-pos, cancel-nonneg, cancel-nonpos, cancel-pos, cancel-zero}
-use Rattle.qh_model.proofs.algebra.Order.{le_antisym, square-nonneg, neg-positive, product_zero}
-use Rattle.qh_model.proofs.algebra.Ring.{ring}
-use Rattle.qh_model.proofs.algebra.Ring.Expr.{var, con, add, sub as less, mul, neg}
-use Rattle.qh_model.proofs.algebra.VectorIdentities.{vec, put, dotE, crossE, subE, combine3, opposite, vector_path}
-use Rattle.qh_model.proofs.algebra.VectorIdentities.{dot-minus, vol-dot, vol-linear, left-dot, dot_comm}
-use Rattle.qh_model.proofs.algebra.Signs.{equal_nonpos, equal_positive}
-use Rattle.qh_model.proofs.algebra.Integers.{zero_mul}
+use Rattle.qh_model.specs.headline.{Predicates.cross, Predicates.vol, Predicates.left, Predicates.AreInLine, Vector.Vector, Vector.origin, Vector.minus}
+use Rattle.qh_model.specs.{headline.Vector.cross_product, headline.Vector.dot, laws.FaceLaws.IsAlong}
+use Rattle.qh_model.proofs.algebra.{Integers.zero_mul, Order.mul-nonneg}
+use Rattle.qh_model.proofs.algebra.Order.{mul-pos, cancel-nonneg, cancel-nonpos, cancel-pos, cancel-zero, le_antisym, square-nonneg, neg-positive, product_zero}
+use Rattle.qh_model.proofs.algebra.Ring.{ring, Expr.var, Expr.con, Expr.add, Expr.sub as less, Expr.mul, Expr.neg}
+use Rattle.qh_model.proofs.algebra.{Signs.equal_nonpos, Signs.equal_positive, VectorIdentities.vec, VectorIdentities.put}
+use Rattle.qh_model.proofs.algebra.VectorIdentities.{dotE, crossE, subE, combine3, opposite, vector_path, dot-minus, vol-dot, vol-linear, left-dot, dot_comm}
 
 -- ---- signs under a positive scale
--- a scale above 0
-positive_factor : (s : ℕ) → 0 < s → pos 0 <ℤ pos s
-positive_factor s h = omega (arith, ints)
-
 -- where s v = t w with positive s and t, v and w have one sign
 pub at_most_along : (s t : ℕ) (v w : ℤ) → 0 < s → 0 < t → pos s *ℤ v ≡ pos t *ℤ w → v ≤ℤ pos 0 → w ≤ℤ pos 0
-at_most_along s t v w h k e l = cancel-nonpos (pos t) w (positive_factor t k) (equal_nonpos (pos s *ℤ v) (pos t *ℤ w) e (times_le s v h l))
+at_most_along s t v w h k e l = cancel-nonpos (pos t) w (omega (arith, ints)) (equal_nonpos (pos s *ℤ v) (pos t *ℤ w) e (times_le s v h l))
   where
     times_le : (s : ℕ) (v : ℤ) → 0 < s → v ≤ℤ pos 0 → (pos s *ℤ v) ≤ℤ pos 0
     times_le s v h l = grind (arith, ints)
 
 -- not below 0
 pub at_least_along : (s t : ℕ) (v w : ℤ) → 0 < s → 0 < t → pos s *ℤ v ≡ pos t *ℤ w → pos 0 ≤ℤ v → pos 0 ≤ℤ w
-at_least_along s t v w h k e l = cancel-nonneg (pos t) w (positive_factor t k) (subst (λ x. pos 0 ≤ℤ x) e (mul-nonneg (pos s) v (above_zero s) l))
+at_least_along s t v w h k e l = cancel-nonneg (pos t) w (omega (arith, ints)) (subst (λ x. pos 0 ≤ℤ x) e (mul-nonneg (pos s) v (above_zero s) l))
   where
     above_zero : (s : ℕ) → pos 0 ≤ℤ pos s
     above_zero s = omega (arith, ints)
@@ -36,12 +28,12 @@ at_least_along s t v w h k e l = cancel-nonneg (pos t) w (positive_factor t k) (
 -- above 0
 pub positive_along : (s t : ℕ) (v w : ℤ) → 0 < s → 0 < t → pos s *ℤ v ≡ pos t *ℤ w → pos 0 <ℤ v → pos 0 <ℤ w
 positive_along s t v w h k e l =
-    cancel-pos (pos t) w (positive_factor t k)
-    (equal_positive (pos s *ℤ v) (pos t *ℤ w) e (mul-pos (pos s) v (positive_factor s h) l))
+    cancel-pos (pos t) w (omega (arith, ints))
+    (equal_positive (pos s *ℤ v) (pos t *ℤ w) e (mul-pos (pos s) v (omega (arith, ints)) l))
 
 -- 0
 pub zero_along : (s t : ℕ) (v w : ℤ) → 0 < t → pos s *ℤ v ≡ pos t *ℤ w → v ≡ pos 0 → w ≡ pos 0
-zero_along s t v w k e z = cancel-zero (pos t) w (positive_factor t k) (sym e ∙ product_zero (pos s) v z)
+zero_along s t v w k e z = cancel-zero (pos t) w (omega (arith, ints)) (sym e ∙ product_zero (pos s) v z)
 
 -- ---- scalar products and turns along one direction
 -- scalar products
@@ -181,14 +173,11 @@ cross-flip a b c =
 -- three points are in line either way
 pub in_line-flip : (a b c : Vector) → AreInLine a c b → AreInLine a b c
 in_line-flip a b c e =
-    vector_path (cross a b c) origin (plain (cross a b c).x (ap (λ v. v.x) back))
-    (plain (cross a b c).y (ap (λ v. v.y) back)) (plain (cross a b c).z (ap (λ v. v.z) back))
+    vector_path (cross a b c) origin (omega (arith, ints, ap (λ v. v.x) back))
+    (omega (arith, ints, ap (λ v. v.y) back)) (omega (arith, ints, ap (λ v. v.z) back))
   where
     back : opposite (cross a b c) ≡ origin
     back = sym (cross-flip a b c) ∙ e
-
-    plain : (x : ℤ) → neg_ℤ x ≡ pos 0 → x ≡ pos 0
-    plain x e = omega (arith, ints)
 
 -- a triangle at right angles to n has the direction of n, one way round or the other
 pub normal_along : (n a b c : Vector) → n ≢ origin → ¬ (AreInLine a b c) → dot n (minus b a) ≡ pos 0 → dot n (minus c a) ≡ pos 0

@@ -1,25 +1,18 @@
 -- The greatest member in a direction is extreme, members are mixes of extremes, and extremes of a union.
 use Rattle.std.proofs.Common.{◌≡◌, ◌≢◌, ℕ, zero, suc, ◌<◌, arith, refl, sym, subst, ◌⊎◌, inl, inr, ◌↔◌, List, [], ◌∷◌, ◌++◌}
 use Rattle.std.proofs.lemmas.Int.{ints}
-use Rattle.std.specs.Prelude.{ℤ, pos, ◌+ℤ◌, ◌*ℤ◌, ◌<ℤ◌}
-use Rattle.std.specs.List.{AllByRecursion as Every}
+use Rattle.std.specs.{List.AllByRecursion as Every, Prelude.ℤ, Prelude.pos, Prelude.◌+ℤ◌, Prelude.◌*ℤ◌, Prelude.◌<ℤ◌}
 use native.Mathlib.Decide.{ℕ_discrete}
 use lib.Signed.{<ℤ_irrefl}
-use Rattle.qh_model.proofs.algebra.Integers.{ring_rules}
-use Rattle.qh_model.proofs.algebra.VectorIdentities.{vector_path}
-use Rattle.qh_model.proofs.combinations.Vectors.{V, dot as vdot}
-use Rattle.qh_model.proofs.Members.{every_at}
-use Rattle.qh_model.proofs.combinations.OtherNames.{combination_by_names}
+use Rattle.qh_model.proofs.{Members.every_at, algebra.Integers.ring_rules, algebra.VectorIdentities.vector_path}
 use Rattle.qh_model.proofs.combinations.Alternatives.{combination_or_separator, all_lower}
+use Rattle.qh_model.proofs.combinations.{OtherNames.combination_by_names, Vectors.V, Vectors.dot as vdot}
 use Rattle.qh_model.proofs.extremes.LexicographicOrder.{Less, Same, AtMost, Greatest, greatest, collapse}
 use Rattle.qh_model.proofs.lists.Joined.{in_append, of_append}
-use Rattle.qh_model.specs.headline.Vector.{Vector, dot}
-use Rattle.qh_model.specs.headline.Sets.{In, Members}
 use Rattle.qh_model.specs.contract.IdSets.{HasDistinctPoints}
-use Rattle.qh_model.specs.headline.Combination.{Combination}
-use Rattle.qh_model.specs.laws.Separator.{Separator}
-use Rattle.qh_model.specs.headline.Extreme.{Others, Extreme}
+use Rattle.qh_model.specs.headline.{Combination.Combination, Extreme.Others, Extreme.Extreme, Sets.In, Sets.Members, Vector.Vector, Vector.dot}
 use Rattle.qh_model.specs.laws.ExtremeLaws.{IsLower, InBlocks, GreatestIsExtreme, MembersAreCombinations, UnionOfExtremes}
+use Rattle.qh_model.specs.laws.Separator.{Separator}
 
 -- what the order goes by
 abbrev key : Vector → Vector → V 4
@@ -50,10 +43,6 @@ bent_step n a b c u v w x y z = simp ring_rules (omega (arith, ints))
 bent_is : (w : Vector) (u : V 4) (p : Vector) → dot (bent w u) p ≡ vdot 4 u (key w p)
 bent_is w u p = bent_step u.0 u.1.0 u.1.1.0 u.1.1.1.0 w.x w.y w.z p.x p.y p.z
 
--- an order, told otherwise
-lt_by : (a b c d : ℤ) → c ≡ a → d ≡ b → a <ℤ b → c <ℤ d
-lt_by a b c d e f h = omega (arith, ints)
-
 -- the case that remains
 unbottom : (T : Type 0) → ⊥ ⊎ T → T
 unbottom T (inl b) = absurd b
@@ -69,7 +58,7 @@ no_combination_by n key bend e at A p h m = from_witness (collapse n (λ j. ⊥)
     from_witness r = all_lower at A p (bend r.0) m (less m.a r.1.0) (less m.b r.1.1.0) (less m.c r.1.1.1.0) (less m.d r.1.1.1.1.0)
       where
         less : (j : ℕ) → ⊥ ⊎ (vdot n r.0 (key (at j)) <ℤ vdot n r.0 (key p)) → dot (bend r.0) (at j) <ℤ dot (bend r.0) p
-        less j l = lt_by _ _ _ _ (e r.0 (at j)) (e r.0 p) (unbottom _ l)
+        less j l = omega (arith, ints, e r.0 (at j), e r.0 p, unbottom _ l)
 
 -- what is lower does not combine
 pub no_combination : (at : ℕ → Vector) (A : ℕ → Type 0) (w p : Vector) → ((j : ℕ) → A j → Less 4 (key w (at j)) (key w p)) → ¬ (Combination at A p)

@@ -1,24 +1,15 @@
 -- Faces and dimensions of sets and of their extremes.
 use Rattle.std.proofs.Common.{◌≡◌, ◌≢◌, ℕ, arith, sym, ◌∙◌, ◌⊎◌, inl, inr, List}
 use Rattle.std.proofs.lemmas.Int.{ints, by_lt_z}
-use Rattle.std.specs.Prelude.{ℤ, pos, ◌+ℤ◌, ◌*ℤ◌, ◌<ℤ◌, ◌≤ℤ◌}
+use Rattle.std.specs.Prelude.{ℤ, pos, ◌+ℤ◌, ◌*ℤ◌, ◌<ℤ◌}
 use native.Mathlib.Decide.{ℕ_discrete}
-use Rattle.qh_model.proofs.algebra.Integers.{ring_rules}
-use Rattle.qh_model.proofs.combinations.Vectors.{V, dot as vdot}
-use Rattle.qh_model.proofs.combinations.Alternatives.{all_lower}
-use Rattle.qh_model.proofs.extremes.LexicographicOrder.{Less}
-use Rattle.qh_model.proofs.extremes.ExtremeIds.{Listed, listed_itself, listed_part, alternative_in, combination_within}
-use Rattle.qh_model.proofs.extremes.ExtremeIds.{combination_of_extremes, no_combination_by}
-use Rattle.qh_model.specs.headline.Vector.{Vector, dot}
-use Rattle.qh_model.specs.headline.Predicates.{cross, vol}
-use Rattle.qh_model.specs.headline.Sets.{Members}
-use Rattle.qh_model.specs.headline.Combination.{Combination}
-use Rattle.qh_model.specs.laws.Separator.{Separator}
-use Rattle.qh_model.specs.headline.Extreme.{Others, Extreme}
-use Rattle.qh_model.specs.headline.SupportingPlane.{Supports, OnPlane}
-use Rattle.qh_model.specs.laws.FaceLaws.{ExtremesOfFace, SupportOfExtremes}
-use Rattle.qh_model.proofs.algebra.Order.{le_antisym, zero_or_not}
-use Rattle.qh_model.proofs.algebra.VectorIdentities.{vol-linear}
+use Rattle.qh_model.proofs.algebra.{Integers.ring_rules, Order.le_antisym, Order.zero_or_not, VectorIdentities.vol-linear}
+use Rattle.qh_model.proofs.combinations.{Alternatives.all_lower, Vectors.V, Vectors.dot as vdot}
+use Rattle.qh_model.proofs.extremes.ExtremeIds.{Listed, listed_itself, listed_part, alternative_in, combination_within, combination_of_extremes}
+use Rattle.qh_model.proofs.extremes.{ExtremeIds.no_combination_by, LexicographicOrder.Less}
+use Rattle.qh_model.specs.headline.{Combination.Combination, Extreme.Others, Extreme.Extreme, Predicates.cross, Predicates.vol, Sets.Members}
+use Rattle.qh_model.specs.headline.{SupportingPlane.Supports, SupportingPlane.OnPlane, Vector.Vector, Vector.dot}
+use Rattle.qh_model.specs.laws.{FaceLaws.ExtremesOfFace, FaceLaws.SupportOfExtremes, Separator.Separator}
 
 -- ---- two directions, one after the other
 -- scalar products with n, then with w
@@ -98,10 +89,6 @@ extremes_of_face at ids i j k s l = (
 )
 
 -- ---- what holds of the extremes holds of the members
--- what is outside is past all that is not
-outside_is_past : (v d e c f : ℤ) → v ≡ d +ℤ c → pos 0 <ℤ v → f ≡ e +ℤ c → f ≤ℤ pos 0 → e <ℤ d
-outside_is_past v d e c f h k l q = omega (arith, ints)
-
 -- the law
 pub support_of_extremes : SupportOfExtremes
 support_of_extremes at ids d i j k s l h =
@@ -115,7 +102,7 @@ support_of_extremes at ids d i j k s l h =
     v = vol (at i) (at j) (at k) (at l)
 
     below : (e : ℕ) → Extreme at (Members ids) e → pos 0 <ℤ v → dot n (at e) <ℤ dot n (at l)
-    below e x q = outside_is_past _ _ _ _ _ (vol-linear (at i) (at j) (at k) (at l)) q (vol-linear (at i) (at j) (at k) (at e)) (s e x)
+    below e x q = omega (arith, ints, vol-linear (at i) (at j) (at k) (at l), vol-linear (at i) (at j) (at k) (at e), s e x)
 
     clash : Combination at (Extreme at (Members ids)) (at l) → pos 0 <ℤ v → ⊥
     clash m q = all_lower at (Extreme at (Members ids)) (at l) n m (below m.a m.has_a q) (below m.b m.has_b q) (below m.c m.has_c q) (below m.d m.has_d q)

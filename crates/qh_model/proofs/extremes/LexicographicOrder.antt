@@ -1,16 +1,11 @@
 -- The lexicographic order of vectors: a greatest one exists, and one functional sees the order of finitely many.
 use Rattle.std.proofs.Common.{◌≡◌, ℕ, zero, suc, arith, refl, sym, ◌∙◌, ◌⊎◌, inl, inr, List, [], ◌∷◌}
-use Rattle.std.proofs.lemmas.Int.{ints, by_lt_z}
-use Rattle.std.proofs.Math.Nat.{mul-le-mul_left}
-use Rattle.std.specs.Prelude.{ℤ, pos, ◌+ℤ◌, ◌-ℤ◌, ◌*ℤ◌, neg_ℤ, ◌<ℤ◌, ◌≤ℤ◌}
-use Rattle.std.specs.List.{AllByRecursion as Every}
+use Rattle.std.proofs.{Math.Nat.mul-le-mul_left, lemmas.Int.ints, lemmas.Int.by_lt_z}
+use Rattle.std.specs.{List.AllByRecursion as Every, Prelude.ℤ, Prelude.pos, Prelude.◌+ℤ◌, Prelude.◌-ℤ◌, Prelude.◌*ℤ◌, Prelude.neg_ℤ, Prelude.◌<ℤ◌, Prelude.◌≤ℤ◌}
 use borrow.Author.Differences.{lt_out, le_out}
-use Rattle.qh_model.proofs.combinations.Vectors.{V, dot}
-use Rattle.qh_model.proofs.combinations.WeightedTerms.{bound}
-use Rattle.qh_model.proofs.Members.{every_map, every_zip}
+use Rattle.qh_model.proofs.{Members.every_map, Members.every_zip, algebra.Order.le_antisym, algebra.Signs.less_le, algebra.Signs.equal_le}
+use Rattle.qh_model.proofs.combinations.{Vectors.V, Vectors.dot, WeightedTerms.bound}
 use Rattle.qh_model.specs.headline.Sets.{In}
-use Rattle.qh_model.proofs.algebra.Order.{le_antisym}
-use Rattle.qh_model.proofs.algebra.Signs.{less_le, equal_le}
 
 -- u comes before v
 abbrev pub Less : (n : ℕ) → V n → V n → Type 0
@@ -26,30 +21,18 @@ Same (suc n) u v = (u.0 ≡ v.0) × Same n u.1 v.1
 abbrev pub AtMost : (n : ℕ) → V n → V n → Type 0
 AtMost n u v = Same n u v ⊎ Less n u v
 
--- orders of numbers in a row
-lt_trans : (a b c : ℤ) → a <ℤ b → b <ℤ c → a <ℤ c
-lt_trans a b c h k = omega (arith, ints)
-
--- an equal one before a greater
-eq_lt : (a b c : ℤ) → a ≡ b → b <ℤ c → a <ℤ c
-eq_lt a b c h k = omega (arith, ints)
-
--- a lower one before an equal
-lt_eq : (a b c : ℤ) → a <ℤ b → b ≡ c → a <ℤ c
-lt_eq a b c h k = omega (arith, ints)
-
 -- the order is transitive
 less_trans : (n : ℕ) (u v w : V n) → Less n u v → Less n v w → Less n u w
 less_trans zero u v w h k = h
-less_trans (suc n) u v w (inl h) (inl k) = inl (lt_trans u.0 v.0 w.0 h k)
-less_trans (suc n) u v w (inl h) (inr k) = inl (lt_eq u.0 v.0 w.0 h k.0)
-less_trans (suc n) u v w (inr h) (inl k) = inl (eq_lt u.0 v.0 w.0 h.0 k)
+less_trans (suc n) u v w (inl h) (inl k) = inl (omega (arith, ints))
+less_trans (suc n) u v w (inl h) (inr k) = inl (omega (arith, ints, k.0))
+less_trans (suc n) u v w (inr h) (inl k) = inl (omega (arith, ints, h.0))
 less_trans (suc n) u v w (inr h) (inr k) = inr (h.0 ∙ k.0, less_trans n u.1 v.1 w.1 h.1 k.1)
 
 -- equal to one that is less
 same_less : (n : ℕ) (u v w : V n) → Same n u v → Less n v w → Less n u w
 same_less zero u v w h k = k
-same_less (suc n) u v w h (inl k) = inl (eq_lt u.0 v.0 w.0 h.0 k)
+same_less (suc n) u v w h (inl k) = inl (omega (arith, ints, h.0))
 same_less (suc n) u v w h (inr k) = inr (h.0 ∙ k.0, same_less n u.1 v.1 w.1 h.1 k.1)
 
 -- at most one that is less

@@ -2,17 +2,11 @@
 use Rattle.std.proofs.Common.{◌≡◌, ℕ, zero, suc, ◌<◌, ◌≤◌, List, [], ◌∷◌, length, get_or, map, arith, refl, inl, inr}
 use Rattle.std.proofs.lemmas.List.{length-map}
 use Rattle.std.specs.List.{AllByRecursion as Every}
-use Rattle.qh_model.specs.headline.Vector.{Vector, origin}
-use Rattle.qh_model.specs.headline.Predicates.{place}
-use Rattle.qh_model.specs.headline.Limits.{IsCoordinate}
-use Rattle.qh_model.specs.headline.PointFile.{coordinates}
-use Rattle.qh_model.specs.headline.Sets.{In}
-use Rattle.qh_model.specs.headline.Hull.{HullValue, IsHull}
-use Rattle.qh_model.specs.contract.Places.{IsPlace}
+use Rattle.qh_model.specs.{contract.Places.IsPlace, headline.Hull.HullValue}
+use Rattle.qh_model.specs.headline.{Hull.IsHull, Limits.IsCoordinate, PointFile.coordinates, Predicates.place, Sets.In, Vector.Vector, Vector.origin}
 use Rattle.qh_model.specs.laws.RoundTrip.{CanBeRead, extreme_points}
-use Rattle.qh_model.proofs.Members.{In-get_or}
 use Rattle.qh_model.proofs.DistinctIds.{distinct_apart, some_id, few_below}
-use Rattle.qh_model.proofs.extremes.ExtremeIds.{members_are_combinations}
+use Rattle.qh_model.proofs.{Members.In-get_or, extremes.ExtremeIds.members_are_combinations}
 
 module _ (pts : List Vector) (h : HullValue) (s : IsHull pts h) where
   -- an extreme id is the index of a point

@@ -1,14 +1,9 @@
 -- Sets in one plane: their triangles have one direction or the opposite one, and one of the two points forward.
-use Rattle.std.proofs.Common.{◌≡◌, ◌≢◌, ℕ, arith, ap, ◌∙◌, ◌⊎◌, inl, inr}
-use Rattle.std.proofs.lemmas.Int.{ints}
+use Rattle.std.proofs.{Common.◌≡◌, Common.◌≢◌, Common.ℕ, Common.arith, Common.ap, Common.◌∙◌, Common.◌⊎◌, Common.inl, Common.inr, lemmas.Int.ints}
 use Rattle.std.specs.Prelude.{ℤ, pos, neg_ℤ, ◌<ℤ◌}
-use Rattle.qh_model.specs.headline.Vector.{Vector, origin, minus, dot}
-use Rattle.qh_model.specs.headline.Predicates.{cross, vol, AreInLine}
-use Rattle.qh_model.specs.headline.Dimension.{HasTetrahedron}
-use Rattle.qh_model.specs.laws.FaceLaws.{IsAlong}
-use Rattle.qh_model.specs.headline.Polygons.{PointsForward}
-use Rattle.qh_model.proofs.algebra.Order.{zero_or_not}
-use Rattle.qh_model.proofs.algebra.VectorIdentities.{opposite}
+use Rattle.qh_model.specs.headline.{Dimension.HasTetrahedron, Polygons.PointsForward, Predicates.cross, Predicates.vol, Predicates.AreInLine, Vector.Vector}
+use Rattle.qh_model.specs.{headline.Vector.origin, headline.Vector.minus, headline.Vector.dot, laws.FaceLaws.IsAlong}
+use Rattle.qh_model.proofs.algebra.{Order.zero_or_not, VectorIdentities.opposite}
 use Rattle.qh_model.proofs.extremes.Directions.{positive_along, zero_along, normal_along, from_plane}
 
 -- four points of a set with no tetrahedron lie in one plane
@@ -44,27 +39,19 @@ forward_along n m h (inr (x, inr (y, z))) =
       inr (zero_along h.s h.t n.y m.y h.some_t h.y y, positive_along h.s h.t n.z m.z h.some_s h.some_t h.z z),
     )
 
--- a direction and its opposite do not both point forward
-not_both : (x : ℤ) → pos 0 <ℤ x → pos 0 <ℤ neg_ℤ x → ⊥
-not_both x h k = omega (arith, ints)
-
--- 0 has no positive opposite
-zero_positive : (x : ℤ) → x ≡ pos 0 → pos 0 <ℤ neg_ℤ x → ⊥
-zero_positive x h k = omega (arith, ints)
-
 -- nor has a positive number the opposite 0
 positive_zero : (x : ℤ) → pos 0 <ℤ x → neg_ℤ x ≡ pos 0 → ⊥
 positive_zero x h k = omega (arith, ints)
 
 -- so at most one of two opposite directions points forward
 pub one_forward : (n : Vector) → PointsForward n → PointsForward (opposite n) → ⊥
-one_forward n (inl x) (inl x') = not_both n.x x x'
+one_forward n (inl x) (inl x') = omega (arith, ints, x')
 one_forward n (inl x) (inr (x', k)) = positive_zero n.x x x'
-one_forward n (inr (x, k)) (inl x') = zero_positive n.x x x'
-one_forward n (inr (x, inl y)) (inr (x', inl y')) = not_both n.y y y'
+one_forward n (inr (x, k)) (inl x') = omega (arith, ints, x')
+one_forward n (inr (x, inl y)) (inr (x', inl y')) = omega (arith, ints, y')
 one_forward n (inr (x, inl y)) (inr (x', inr (y', k))) = positive_zero n.y y y'
-one_forward n (inr (x, inr (y, z))) (inr (x', inl y')) = zero_positive n.y y y'
-one_forward n (inr (x, inr (y, z))) (inr (x', inr (y', z'))) = not_both n.z z z'
+one_forward n (inr (x, inr (y, z))) (inr (x', inl y')) = omega (arith, ints, y')
+one_forward n (inr (x, inr (y, z))) (inr (x', inr (y', z'))) = omega (arith, ints, z')
 
 -- a triangle of a flat set has the direction of another, one way round or the other
 pub flat_normals : (at : ℕ → Vector) (A : ℕ → Type 0) → ¬ (HasTetrahedron at A) → (i j k u v w : ℕ) → A i → A j → A k → A u → A v → A w

@@ -1,25 +1,16 @@
 -- A set and its extreme ids have the same supporting planes and the same polygons.
 use Rattle.std.proofs.Common.{ℕ, ◌⊎◌, inl, inr, List}
 use Rattle.std.specs.Prelude.{◌↔◌}
-use Rattle.qh_model.specs.headline.Vector.{Vector}
-use Rattle.qh_model.specs.headline.Predicates.{cross}
-use Rattle.qh_model.specs.headline.Sets.{In, Members}
 use Rattle.qh_model.specs.contract.IdSets.{HasDistinctPoints}
-use Rattle.qh_model.specs.headline.Dimension.{HasTetrahedron, HasTriangle, HasSegment}
-use Rattle.qh_model.specs.headline.Extreme.{Extreme}
-use Rattle.qh_model.specs.headline.SupportingPlane.{IsSupportingTriple, OnPlane}
-use Rattle.qh_model.specs.laws.FaceLaws.{IsAlong, SpannedByExtremes}
+use Rattle.qh_model.specs.headline.{Dimension.HasTetrahedron, Dimension.HasTriangle, Dimension.HasSegment, Extreme.Extreme}
 use Rattle.qh_model.specs.headline.Polygons.{AreFaces, IsFacePolygon, IsFlatFace, IsSegmentFace, IsPointFace, ArePolygons, PointsForward}
-use Rattle.qh_model.specs.laws.HullLaws.{BodyOfExtremes, TriplesOfExtremes, PolygonsOfExtremes}
+use Rattle.qh_model.specs.headline.{Predicates.cross, Sets.In, Sets.Members, SupportingPlane.IsSupportingTriple, SupportingPlane.OnPlane, Vector.Vector}
+use Rattle.qh_model.specs.laws.{FaceLaws.IsAlong, FaceLaws.SpannedByExtremes, HullLaws.BodyOfExtremes, HullLaws.TriplesOfExtremes, HullLaws.PolygonsOfExtremes}
+use Rattle.qh_model.proofs.extremes.{Dimensions.triangle_of, Directions.along_itself, Directions.along_back}
 use Rattle.qh_model.proofs.extremes.ExtremeIds.{listed_itself, extremes_between, combination_of_extremes}
-use Rattle.qh_model.proofs.extremes.Faces.{support_of_extremes}
-use Rattle.qh_model.proofs.extremes.SpanningTriples.{planes_of_extremes}
-use Rattle.qh_model.proofs.extremes.Dimensions.{triangle_of}
-use Rattle.qh_model.proofs.extremes.SameDimension.{dimension_of_extremes}
-use Rattle.qh_model.proofs.extremes.Directions.{along_itself, along_back}
-use Rattle.qh_model.proofs.polygons.Direction.{polygon_as}
+use Rattle.qh_model.proofs.extremes.{Faces.support_of_extremes, SameDimension.dimension_of_extremes, SpanningTriples.planes_of_extremes}
 use Rattle.qh_model.proofs.hulls.FlatSets.{forward_not_zero, forward_along, flat_normals}
-use Rattle.qh_model.proofs.hulls.Unique.{flat_of, alone_of}
+use Rattle.qh_model.proofs.{hulls.Unique.flat_of, hulls.Unique.alone_of, polygons.Direction.polygon_as}
 
 -- the extreme ids have themselves as extremes
 pub extremes_again : (at : ℕ → Vector) (ids : List ℕ) → HasDistinctPoints at (Members ids) → (i : ℕ)

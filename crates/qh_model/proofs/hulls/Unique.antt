@@ -2,27 +2,15 @@
 use Rattle.std.proofs.Common.{◌≡◌, ℕ, ◌<◌, refl, List, [], ◌∷◌, length, arith, sym, ap, subst, ◌∙◌, ◌⊎◌, inl, inr}
 use native.Mathlib.Decide.{ℕ_discrete}
 use Rattle.std.specs.Prelude.{◌↔◌}
-use Rattle.qh_model.specs.headline.Vector.{Vector}
-use Rattle.qh_model.specs.headline.Predicates.{cross}
-use Rattle.qh_model.specs.headline.Sets.{In, Members}
 use Rattle.qh_model.specs.headline.Dimension.{HasTetrahedron, HasSegment, IsDimension}
-use Rattle.qh_model.specs.headline.Extreme.{Extreme}
-use Rattle.qh_model.specs.headline.SupportingPlane.{IsSupportingTriple, OnPlane}
-use Rattle.qh_model.specs.laws.FaceLaws.{IsAlong}
+use Rattle.qh_model.specs.headline.{Extreme.Extreme, Hull.BodyValue, Hull.HullValue, Hull.IsBody}
 use Rattle.qh_model.specs.headline.Polygons.{AreFaces, IsFacePolygon, IsFlatFace, IsSegmentFace, IsPointFace, ArePolygons, IsEdgeCount, PointsForward}
-use Rattle.qh_model.specs.headline.Predicates.{place}
-use Rattle.qh_model.specs.headline.Hull.{BodyValue, HullValue, IsBody}
-use Rattle.qh_model.specs.headline.Text.{hull_text}
-use Rattle.qh_model.specs.laws.HullLaws.{BodyIsUnique, HullIsUnique, TextIsUnique, PolygonsAreUnique, EdgeCountIsUnique}
-use Rattle.qh_model.specs.laws.HullLaws.{RisingListIsUnique, DistinctIdsAreUnique}
-use Rattle.qh_model.proofs.extremes.Dimensions.{one_dimension}
-use Rattle.qh_model.proofs.lists.Ordered.{ordered_rising, ordered_unique}
-use Rattle.qh_model.proofs.lists.OnceEach.{once_length}
-use Rattle.qh_model.proofs.lists.Lexicographic.{rising_unique}
-use Rattle.qh_model.proofs.polygons.Unique.{one_polygon}
-use Rattle.qh_model.proofs.polygons.Direction.{polygon_as}
-use Rattle.qh_model.proofs.extremes.Directions.{cross-flip}
-use Rattle.qh_model.proofs.hulls.FlatSets.{forward_not_zero, forward_along, one_forward, flat_normals}
+use Rattle.qh_model.specs.headline.{Predicates.cross, Predicates.place, Sets.In, Sets.Members, SupportingPlane.IsSupportingTriple, SupportingPlane.OnPlane}
+use Rattle.qh_model.specs.{headline.Text.hull_text, headline.Vector.Vector, laws.FaceLaws.IsAlong, laws.HullLaws.BodyIsUnique}
+use Rattle.qh_model.specs.laws.HullLaws.{HullIsUnique, TextIsUnique, PolygonsAreUnique, EdgeCountIsUnique, RisingListIsUnique, DistinctIdsAreUnique}
+use Rattle.qh_model.proofs.{extremes.Dimensions.one_dimension, extremes.Directions.cross-flip, hulls.FlatSets.forward_not_zero, hulls.FlatSets.forward_along}
+use Rattle.qh_model.proofs.{hulls.FlatSets.one_forward, hulls.FlatSets.flat_normals, lists.Lexicographic.rising_unique, lists.OnceEach.once_length}
+use Rattle.qh_model.proofs.{lists.Ordered.ordered_rising, lists.Ordered.ordered_unique, polygons.Direction.polygon_as, polygons.Unique.one_polygon}
 
 -- the law
 pub rising_list_is_unique : RisingListIsUnique

@@ -1,14 +1,11 @@
 -- How many members of a list pass: in its images, where members have twins, and before a place of the list.
-use Rattle.std.proofs.Common.{◌≡◌, ℕ, zero, suc, ◌+◌, ◌<◌, ◌≤◌, inl, inr, arith, ap, sym, ◌∙◌, refl, subst, add-one, Bool, true}
-use Rattle.std.proofs.Common.{cond, List, [], ◌∷◌, length, get_or, map, take}
-use Rattle.std.specs.Prelude.{count_by, filter}
-use Rattle.std.proofs.lemmas.List.{take-take, get_or-take, length-take-le, length-map}
+use Rattle.std.proofs.Common.{◌≡◌, ℕ, zero, suc, ◌+◌, ◌<◌, ◌≤◌, inl, inr, arith, ap, sym, ◌∙◌, refl, subst, add-one, Bool, true, cond, List, [], ◌∷◌, length}
+use Rattle.std.proofs.Common.{get_or, map, take}
+use Rattle.std.proofs.lemmas.{Bool.cases_Bool, Bool.cases_lt, Bool.cases_order, List.take-take, List.get_or-take, List.length-take-le, List.length-map}
 use Rattle.std.proofs.lemmas.List.Sums.{sum_by-cons, sum_by_more_le, count_by_more_yes, count_by_more_no, length-filter}
-use Rattle.std.proofs.lemmas.Bool.{cases_Bool, cases_lt, cases_order}
+use Rattle.std.specs.Prelude.{count_by, filter}
 use Rattle.qh_model.specs.headline.Sets.{In, Once}
-use Rattle.qh_model.proofs.lists.Filters.{in_filter, of_filter, once_filter}
-use Rattle.qh_model.proofs.lists.Images.{of_map, once_map}
-use Rattle.qh_model.proofs.lists.OnceEach.{once_within}
+use Rattle.qh_model.proofs.lists.{Filters.in_filter, Filters.of_filter, Filters.once_filter, Images.of_map, Images.once_map, OnceEach.once_within}
 
 -- an image counts as its list
 pub count-map : {X Y : Type 0} (f : X → Y) (p : Y → Bool) (xs : List X) → count_by p (map f xs) ≡ count_by (λ x. p (f x)) xs

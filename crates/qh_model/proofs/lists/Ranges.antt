@@ -1,13 +1,10 @@
 -- The positions of a list: which numbers they are, the list as their image, and how many are apart.
-use Rattle.std.proofs.Common.{◌≡◌, ◌≢◌, ◌≤◌, ℕ, zero, suc, ◌+◌, ◌<◌, refl, arith, sym, subst, ◌∙◌, zero-add, inl, inr, List, length, map}
-use Rattle.std.proofs.Common.{slice_index}
-use Rattle.std.specs.List.{range_with_len}
-use Rattle.std.proofs.lemmas.List.FromFn.{fill_by_all, get_or-range_with_len, length-range_with_len, length-map-range_with_len}
+use Rattle.std.proofs.Common.{◌≡◌, ◌≢◌, ◌≤◌, ℕ, zero, suc, ◌+◌, ◌<◌, refl, arith, sym, subst, ◌∙◌, zero-add, inl, inr, List, length, map, slice_index}
 use Rattle.std.proofs.lemmas.Bool.{cases_order}
+use Rattle.std.proofs.lemmas.List.FromFn.{fill_by_all, get_or-range_with_len, length-range_with_len, length-map-range_with_len}
+use Rattle.std.specs.List.{range_with_len}
 use Rattle.qh_model.specs.headline.Sets.{In, Once}
-use Rattle.qh_model.proofs.Members.{In-get_or, rising_once}
-use Rattle.qh_model.proofs.lists.Images.{of_map, once_map}
-use Rattle.qh_model.proofs.lists.OnceEach.{once_within}
+use Rattle.qh_model.proofs.{Members.In-get_or, Members.rising_once, lists.Images.of_map, lists.Images.once_map, lists.OnceEach.once_within}
 
 -- a member of a range is below its end
 range_end : (a n l : ℕ) → In l (range_with_len a n) → l < a + n

@@ -1,12 +1,9 @@
 -- Rising lists of numbers by position, their parts, and one after the other.
 use Rattle.std.proofs.Common.{ℕ, ◌≡◌, ◌+◌, ◌-◌, ◌≤◌, ◌<◌, List, ◌++◌, length, get_or, take, drop, arith}
-use Rattle.std.proofs.lemmas.Grind.{common_steps}
-use Rattle.std.proofs.lemmas.List.{get_or_append_left}
-use Rattle.std.proofs.Math.Seq.{get_or-append_right}
+use Rattle.std.proofs.{Math.Seq.get_or-append_right, lemmas.Grind.common_steps, lemmas.List.get_or_append_left}
 use Rattle.std.specs.List.Sorted.{IsStrictlyIncreasing}
 use Rattle.qh_model.specs.headline.Sets.{In}
-use Rattle.qh_model.proofs.Members.{In-get_or}
-use Rattle.qh_model.proofs.Cuts.{bounds_order}
+use Rattle.qh_model.proofs.{Cuts.bounds_order, Members.In-get_or}
 
 -- a later position has a greater number
 pub rising_between : (xs : List ℕ) (p q : ℕ) → IsStrictlyIncreasing xs → p < q → q < length xs → get_or xs p 0 < get_or xs q 0

@@ -2,8 +2,7 @@
 use Rattle.std.proofs.Common.{◌≡◌, ℕ, zero, suc, ◌+◌, ◌<◌, List, length, get_or, arith, ap, sym, ◌∙◌, ◌⊎◌, inl, inr}
 use native.Mathlib.Decide.{ℕ_discrete}
 use Rattle.qh_model.specs.headline.Sets.{In}
-use Rattle.qh_model.proofs.Members.{in_at}
-use Rattle.qh_model.proofs.lists.Ranges.{pigeon}
+use Rattle.qh_model.proofs.{Members.in_at, lists.Ranges.pigeon}
 
 -- a number of which P holds, or none below n
 look : (P : ℕ → Type 0) → ((i : ℕ) → Dec (P i)) → (n : ℕ) → ((i : ℕ) × P i) ⊎ ((i : ℕ) → i < n → ¬ (P i))

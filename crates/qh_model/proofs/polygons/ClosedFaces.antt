@@ -1,29 +1,16 @@
 -- Faces that close up are all faces: their fans close up, since the steps across a polygon are taken both ways.
-use Rattle.std.proofs.Common.{◌≡◌, ◌≢◌, ℕ, ◌+◌, ◌≤◌, arith, refl, sym, ap, subst, ◌∙◌, inl, inr, List, [], ◌∷◌, ◌++◌}
-use Rattle.std.proofs.Common.{length, cond}
-use Rattle.std.specs.Prelude.{pos, ◌<ℤ◌, ◌↔◌}
-use Rattle.std.specs.List.{flat_map}
-use Rattle.qh_model.specs.headline.Vector.{Vector}
-use Rattle.qh_model.specs.headline.Predicates.{cross, vol, left}
-use Rattle.qh_model.specs.headline.Sets.{In, Members}
-use Rattle.qh_model.specs.headline.Extreme.{Extreme}
-use Rattle.qh_model.specs.headline.SupportingPlane.{IsSupportingTriple}
-use Rattle.qh_model.specs.headline.Polygon.{FollowsAlong}
-use Rattle.qh_model.specs.headline.Polygons.{IsFacePolygon}
-use Rattle.qh_model.specs.contract.IdSets.{HasDistinctPoints}
-use Rattle.qh_model.specs.contract.ClosedSurface.{Triple, edges, is_edge, IsClosed, IsClosedSurface}
+use Rattle.std.proofs.Common.{◌≡◌, ◌≢◌, ℕ, ◌+◌, ◌≤◌, arith, refl, sym, ap, subst, ◌∙◌, inl, inr, List, [], ◌∷◌, ◌++◌, length, cond}
+use Rattle.std.specs.{List.flat_map, Prelude.pos, Prelude.◌<ℤ◌, Prelude.◌↔◌}
 use Rattle.qh_model.specs.contract.ClosedPolygons.{steps_along, steps_round, AreClosed, AreClosedFaces}
+use Rattle.qh_model.specs.contract.ClosedSurface.{Triple, edges, is_edge, IsClosed, IsClosedSurface}
+use Rattle.qh_model.specs.{contract.IdSets.HasDistinctPoints, headline.Extreme.Extreme, headline.Polygon.FollowsAlong, headline.Polygons.IsFacePolygon}
+use Rattle.qh_model.specs.headline.{Predicates.cross, Predicates.vol, Predicates.left, Sets.In, Sets.Members, SupportingPlane.IsSupportingTriple, Vector.Vector}
+use Rattle.qh_model.specs.laws.ClosedFaceLaws.{AreSupporting, TriangleOfPlane, ClosedFacesAreAll, ClosedFacesHaveExtremes}
 use Rattle.qh_model.specs.laws.FanLaws.{IsSupportingTriangle}
-use Rattle.qh_model.specs.laws.ClosedFaceLaws.{AreSupporting, TriangleOfPlane, ClosedFacesAreAll}
-use Rattle.qh_model.specs.laws.ClosedFaceLaws.{ClosedFacesHaveExtremes}
-use Rattle.qh_model.proofs.algebra.VectorIdentities.{left-turn}
+use Rattle.qh_model.proofs.{algebra.VectorIdentities.left-turn, closed_surfaces.SignedVolume.is_edge-back}
+use Rattle.qh_model.proofs.closed_surfaces.{Sums.count, Sums.count-is, Supporting.closed_miss_no_plane, Supporting.closed_miss_no_extreme}
 use Rattle.qh_model.proofs.lists.Joined.{in_flat_map, of_flat_map}
-use Rattle.qh_model.proofs.closed_surfaces.Sums.{count, count-is}
-use Rattle.qh_model.proofs.closed_surfaces.SignedVolume.{is_edge-back}
-use Rattle.qh_model.proofs.closed_surfaces.Supporting.{closed_miss_no_plane, closed_miss_no_extreme}
-use Rattle.qh_model.proofs.polygons.Edges.{seen_from}
-use Rattle.qh_model.proofs.polygons.Fans.{corners_support, face_fan}
-use Rattle.qh_model.proofs.polygons.PlaneTurns.{level_along}
+use Rattle.qh_model.proofs.polygons.{Edges.seen_from, Fans.corners_support, Fans.face_fan, PlaneTurns.level_along}
 
 -- ---- the triangles of a polygon
 -- from a, along the list from u
@@ -102,13 +89,9 @@ closed_fans qs h u v = sym (count-is (is_edge (u, v)) (edges ts)) ∙ same ∙ c
     ss : List (ℕ × ℕ)
     ss = flat_map steps_round qs
 
-    cancel : (a b c d : ℕ) → a + d ≡ b + c → c ≡ d → a ≡ b
-    cancel a b c d e f = omega arith
-
     same : times u v (edges ts) ≡ times v u (edges ts)
     same =
-        cancel _ _ _ _ (balanced u v qs)
-        (count-is (is_edge (u, v)) ss ∙ h u v ∙ sym (count-is (is_edge (v, u)) ss))
+        omega (arith, balanced u v qs, count-is (is_edge (u, v)) ss ∙ h u v ∙ sym (count-is (is_edge (v, u)) ss))
 
 -- ---- they are supporting triples with the same polygon
 -- two neighbours on the way from u along the list

@@ -1,14 +1,9 @@
 -- The number of edges of faces, as a function, and the list of distinct pairs that it counts.
-use Rattle.std.proofs.Common.{ℕ, ◌≡◌, ◌≢◌, ◌<◌, suc, List, [], ◌∷◌, ◌⊎◌, inl, inr, refl, sym, subst, ap, ◌∙◌, length}
-use Rattle.std.proofs.Common.{arith, Bool, true, false, cond, min, max, eqb-true}
-use Rattle.std.proofs.lemmas.Bool.{eqb-false}
-use Rattle.std.specs.Prelude.{◌==◌, ◌&&◌, ◌||◌, if◌then◌else◌}
-use Rattle.std.specs.List.{flat_map, list_any}
-use Rattle.qh_model.specs.headline.Sets.{In, Once}
-use Rattle.qh_model.specs.headline.Polygon.{FollowsAlong, Follows}
-use Rattle.qh_model.specs.headline.Polygons.{IsEdge}
-use Rattle.qh_model.specs.headline.Fan.{pairs_along, pairs_round, count_pairs}
-use Rattle.qh_model.specs.laws.FanLaws.{EdgesAreCounted}
+use Rattle.std.proofs.Common.{ℕ, ◌≡◌, ◌≢◌, ◌<◌, suc, List, [], ◌∷◌, ◌⊎◌, inl, inr, refl, sym, subst, ap, ◌∙◌, length, arith, Bool, true, false, cond, min, max}
+use Rattle.std.proofs.{Common.eqb-true, lemmas.Bool.eqb-false}
+use Rattle.std.specs.{List.flat_map, List.list_any, Prelude.◌==◌, Prelude.◌&&◌, Prelude.◌||◌, Prelude.if◌then◌else◌}
+use Rattle.qh_model.specs.headline.{Fan.pairs_along, Fan.pairs_round, Fan.count_pairs, Polygon.FollowsAlong, Polygon.Follows, Polygons.IsEdge, Sets.In}
+use Rattle.qh_model.specs.{headline.Sets.Once, laws.FanLaws.EdgesAreCounted}
 use Rattle.qh_model.proofs.lists.Joined.{in_flat_map, of_flat_map}
 
 -- ---- pairs that differ

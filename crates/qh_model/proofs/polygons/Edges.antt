@@ -1,22 +1,12 @@
 -- The edges of a solid: at most one face goes along each this way.
-use Rattle.std.proofs.Common.{◌≡◌, ℕ, arith, sym, ◌∙◌, List}
-use Rattle.std.proofs.lemmas.Int.{ints}
+use Rattle.std.proofs.{Common.◌≡◌, Common.ℕ, Common.arith, Common.sym, Common.◌∙◌, Common.List, lemmas.Int.ints}
 use Rattle.std.specs.Prelude.{ℤ, pos, ◌*ℤ◌, neg_ℤ, ◌≤ℤ◌}
-use Rattle.qh_model.specs.headline.Vector.{Vector}
-use Rattle.qh_model.specs.headline.Predicates.{cross, vol, left}
-use Rattle.qh_model.specs.headline.Sets.{Members}
-use Rattle.qh_model.specs.headline.Extreme.{Extreme}
-use Rattle.qh_model.specs.headline.SupportingPlane.{OnPlane}
-use Rattle.qh_model.specs.laws.FaceLaws.{IsAlong}
-use Rattle.qh_model.specs.headline.Polygons.{IsFacePolygon}
-use Rattle.qh_model.specs.laws.EdgeLaws.{OneFaceEachWay}
-use Rattle.qh_model.proofs.algebra.Order.{cancel-zero, positive_le, product_zero}
-use Rattle.qh_model.proofs.algebra.VectorIdentities.{vol-swap_last}
-use Rattle.qh_model.proofs.extremes.Directions.{vol_along, zero_along}
-use Rattle.qh_model.proofs.polygons.Direction.{polygon_as}
-use Rattle.qh_model.proofs.polygons.Unique.{one_polygon}
-use Rattle.qh_model.proofs.polygons.PlaneTurns.{level_along}
+use Rattle.qh_model.specs.headline.{Extreme.Extreme, Polygons.IsFacePolygon, Predicates.cross, Predicates.vol, Predicates.left, Sets.Members}
+use Rattle.qh_model.specs.{headline.SupportingPlane.OnPlane, headline.Vector.Vector, laws.EdgeLaws.OneFaceEachWay, laws.FaceLaws.IsAlong}
+use Rattle.qh_model.proofs.algebra.{Order.cancel-zero, Order.positive_le, Order.product_zero, VectorIdentities.vol-swap_last}
+use Rattle.qh_model.proofs.{extremes.Directions.vol_along, extremes.Directions.zero_along, polygons.Direction.polygon_as}
 use Rattle.qh_model.proofs.polygons.LeftOfEdge.{at_most, Way, Third, has_u, has_v, to_left, third, square, over}
+use Rattle.qh_model.proofs.polygons.{PlaneTurns.level_along, Unique.one_polygon}
 
 -- opposite numbers not above 0 are 0
 both_zero : (x y : ℤ) → x ≡ neg_ℤ y → x ≤ℤ pos 0 → y ≤ℤ pos 0 → x ≡ pos 0

@@ -1,25 +1,14 @@
 -- Fans of triangles: their triangles are of their polygons, and support the set.
 use Rattle.std.proofs.Common.{ℕ, ◌≡◌, List, [], ◌∷◌, inl, inr, refl, sym, subst}
 use Rattle.std.specs.Prelude.{pos, ◌<ℤ◌, ◌≤ℤ◌}
-use Rattle.qh_model.specs.headline.Vector.{Vector, dot}
-use Rattle.qh_model.specs.headline.Predicates.{cross, vol, left}
-use Rattle.qh_model.specs.headline.Sets.{In, Members}
 use Rattle.qh_model.specs.contract.IdSets.{HasDistinctPoints}
-use Rattle.qh_model.specs.headline.SupportingPlane.{IsSupportingTriple}
-use Rattle.qh_model.specs.headline.Polygon.{FollowsAlong}
-use Rattle.qh_model.specs.headline.Polygons.{IsFacePolygon}
-use Rattle.qh_model.specs.headline.Fan.{triangles_along, fan}
-use Rattle.qh_model.specs.laws.FanLaws.{CornersSupport, FansSupport, IsSupportingTriangle}
-use Rattle.qh_model.specs.laws.FaceLaws.{SpannedByExtremes}
-use Rattle.qh_model.proofs.algebra.Order.{cancel-nonpos, mul-nonneg_nonpos, positive_le}
-use Rattle.qh_model.proofs.algebra.Signs.{less_differ}
+use Rattle.qh_model.specs.headline.{Fan.triangles_along, Fan.fan, Polygon.FollowsAlong, Polygons.IsFacePolygon, Predicates.cross, Predicates.vol}
+use Rattle.qh_model.specs.headline.{Predicates.left, Sets.In, Sets.Members, SupportingPlane.IsSupportingTriple, Vector.Vector, Vector.dot}
+use Rattle.qh_model.specs.laws.{FaceLaws.SpannedByExtremes, FanLaws.CornersSupport, FanLaws.FansSupport, FanLaws.IsSupportingTriangle}
+use Rattle.qh_model.proofs.algebra.{Order.cancel-nonpos, Order.mul-nonneg_nonpos, Order.positive_le, Signs.less_differ}
 use Rattle.qh_model.proofs.algebra.VectorIdentities.{vol-first, in_line-left, left-turn}
-use Rattle.qh_model.proofs.extremes.Directions.{square-positive}
-use Rattle.qh_model.proofs.extremes.SpanningTriples.{planes_of_extremes}
-use Rattle.qh_model.proofs.lists.Joined.{of_flat_map}
-use Rattle.qh_model.proofs.polygons.LeftOfEdge.{Third, third}
-use Rattle.qh_model.proofs.polygons.Neighbours.{follows_members}
-use Rattle.qh_model.proofs.polygons.PlaneTurns.{level_volume}
+use Rattle.qh_model.proofs.{extremes.Directions.square-positive, extremes.SpanningTriples.planes_of_extremes, lists.Joined.of_flat_map}
+use Rattle.qh_model.proofs.polygons.{LeftOfEdge.Third, LeftOfEdge.third, Neighbours.follows_members, PlaneTurns.level_volume}
 
 -- the law
 pub corners_support : CornersSupport

@@ -3,28 +3,16 @@ use Rattle.std.proofs.Common.{◌≡◌, ◌≢◌, ℕ, arith, refl, sym, ap, s
 use Rattle.std.proofs.lemmas.Int.{ints, by_lt_z}
 use native.Mathlib.Decide.{ℕ_discrete}
 use Rattle.std.specs.Prelude.{ℤ, pos, ◌+ℤ◌, ◌*ℤ◌, neg_ℤ, ◌≤ℤ◌, ◌<ℤ◌}
-use Rattle.qh_model.specs.headline.Vector.{Vector, minus, cross_product, dot}
-use Rattle.qh_model.specs.headline.Predicates.{cross, vol, left, AreInLine}
-use Rattle.qh_model.specs.headline.Sets.{Members}
-use Rattle.qh_model.specs.contract.IdSets.{HasDistinctPoints}
-use Rattle.qh_model.specs.headline.Combination.{Combination}
-use Rattle.qh_model.specs.headline.Extreme.{Extreme}
-use Rattle.qh_model.specs.headline.SupportingPlane.{IsSupportingTriple, OnPlane}
+use Rattle.qh_model.specs.{contract.IdSets.HasDistinctPoints, headline.Combination.Combination, headline.Extreme.Extreme, headline.Polygon.Follows}
+use Rattle.qh_model.specs.headline.{Polygons.IsFacePolygon, Predicates.cross, Predicates.vol, Predicates.left, Predicates.AreInLine, Sets.Members}
+use Rattle.qh_model.specs.headline.{SupportingPlane.IsSupportingTriple, SupportingPlane.OnPlane, Vector.Vector, Vector.minus, Vector.cross_product, Vector.dot}
 use Rattle.qh_model.specs.laws.FaceLaws.{SpannedByExtremes}
-use Rattle.qh_model.specs.headline.Polygon.{Follows}
-use Rattle.qh_model.specs.headline.Polygons.{IsFacePolygon}
-use Rattle.qh_model.proofs.algebra.Order.{mul-nonneg_nonpos, mul-pos_neg, mul-neg_neg, cancel-nonpos}
-use Rattle.qh_model.proofs.algebra.Order.{zero_or_not, positive_le}
-use Rattle.qh_model.proofs.algebra.VectorIdentities.{opposite, dot-opposite, vol-first, vol-second}
-use Rattle.qh_model.proofs.algebra.VectorIdentities.{vol-third, left-linear}
-use Rattle.qh_model.proofs.algebra.VectorIdentities.{in_line-left, in_line-twice, in_line-last}
-use Rattle.qh_model.proofs.extremes.Directions.{square-positive, in_line-flip}
-use Rattle.qh_model.proofs.extremes.ExtremeIds.{Listed, listed_itself, listed_part, combination_of_extremes}
-use Rattle.qh_model.proofs.extremes.Faces.{extremes_of_face}
-use Rattle.qh_model.proofs.extremes.SpanningTriples.{planes_of_extremes}
-use Rattle.qh_model.proofs.combinations.Alternatives.{all_lower}
-use Rattle.qh_model.proofs.polygons.Neighbours.{follows_members}
-use Rattle.qh_model.proofs.polygons.PlaneTurns.{level_volume}
+use Rattle.qh_model.proofs.algebra.Order.{mul-nonneg_nonpos, mul-pos_neg, mul-neg_neg, cancel-nonpos, zero_or_not, positive_le}
+use Rattle.qh_model.proofs.algebra.VectorIdentities.{opposite, dot-opposite, vol-first, vol-second, vol-third, left-linear, in_line-left, in_line-twice}
+use Rattle.qh_model.proofs.{algebra.VectorIdentities.in_line-last, combinations.Alternatives.all_lower}
+use Rattle.qh_model.proofs.extremes.{Directions.square-positive, Directions.in_line-flip, ExtremeIds.Listed, ExtremeIds.listed_itself, ExtremeIds.listed_part}
+use Rattle.qh_model.proofs.extremes.{ExtremeIds.combination_of_extremes, Faces.extremes_of_face, SpanningTriples.planes_of_extremes}
+use Rattle.qh_model.proofs.polygons.{Neighbours.follows_members, PlaneTurns.level_volume}
 
 -- ---- signs
 -- s x = l y with s above 0
@@ -50,10 +38,6 @@ turn_sign s l x y h e q k = by_lt_z l (pos 0) (λ p. absurd (clash (s *ℤ x) (l
 
     clash : (p q : ℤ) → p ≡ q → p ≤ℤ pos 0 → pos 0 <ℤ q → ⊥
     clash p q e h k = omega (arith, ints)
-
--- no number is above 0 and 0
-pub not_zero : (x : ℤ) → pos 0 <ℤ x → x ≡ pos 0 → ⊥
-not_zero x h e = omega (arith, ints)
 
 -- ---- a third member
 -- of three different numbers one is neither of two
@@ -144,17 +128,14 @@ module _ (at : ℕ → Vector) (ids : List ℕ) (d : HasDistinctPoints at (Membe
       c : Vector
       c = cross_product n (minus (at v) (at u))
 
-      level : (x : ℤ) → x ≡ pos 0 → pos 0 ≤ℤ x
-      level x e = omega (arith, ints)
-
       extreme : (x : ℕ) → OnPlane at (Extreme at (Members ids)) i j k x → pos 0 ≤ℤ left n (at u) (at v) (at x)
       extreme x e = test (ℕ_discrete x u) (ℕ_discrete x v)
         where
           test : Dec (x ≡ u) → Dec (x ≡ v) → pos 0 ≤ℤ left n (at u) (at v) (at x)
-          test (yes p) b = level _
-              (ap (λ t. left n (at u) (at v) (at t)) p
-              ∙ in_line-left n (at u) (at v) (at u) (in_line-flip (at u) (at v) (at u) (in_line-twice (at u) (at v))))
-          test (no a) (yes p) = level _ (ap (λ t. left n (at u) (at v) (at t)) p ∙ in_line-left n (at u) (at v) (at v) (in_line-last (at u) (at v)))
+          test (yes p) b =
+              let line = in_line-flip (at u) (at v) (at u) (in_line-twice (at u) (at v)) in
+              omega (arith, ints, ap (λ t. left n (at u) (at v) (at t)) p ∙ in_line-left n (at u) (at v) (at u) line)
+          test (no a) (yes p) = omega (arith, ints, ap (λ t. left n (at u) (at v) (at t)) p ∙ in_line-left n (at u) (at v) (at v) (in_line-last (at u) (at v)))
           test (no a) (no b) = positive_le _ (to_left x e a b)
 
       -- along the opposite of c all extremes are lower than what lies to the right

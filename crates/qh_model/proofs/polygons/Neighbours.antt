@@ -1,7 +1,6 @@
 -- Neighbours on the way round a polygon.
 use Rattle.std.proofs.Common.{◌≡◌, ℕ, refl, sym, ◌⊎◌, inl, inr, List, [], ◌∷◌}
-use Rattle.qh_model.specs.headline.Sets.{In}
-use Rattle.qh_model.specs.headline.Polygon.{FollowsAlong, Follows}
+use Rattle.qh_model.specs.headline.{Polygon.FollowsAlong, Polygon.Follows, Sets.In}
 
 -- neighbours on a way are on it
 pub along_members : (u v t : ℕ) (r : List ℕ) (e : ℕ) → FollowsAlong u v t r e → In u (t ∷ r) × ((v ≡ e) ⊎ In v r)

@@ -3,27 +3,16 @@ use Rattle.std.proofs.Common.{◌≡◌, ◌≢◌, ℕ, arith, refl, sym, ap, s
 use Rattle.std.proofs.lemmas.Int.{ints, by_lt_z}
 use native.Mathlib.Decide.{ℕ_discrete}
 use Rattle.std.specs.Prelude.{ℤ, pos, negsuc, ◌-ℤ◌, ◌*ℤ◌, neg_ℤ, ◌≤ℤ◌, ◌<ℤ◌}
-use Rattle.qh_model.specs.headline.Vector.{Vector, dot}
-use Rattle.qh_model.specs.headline.Predicates.{cross, vol, left, AreInLine}
-use Rattle.qh_model.specs.headline.Sets.{In, Members}
-use Rattle.qh_model.specs.contract.IdSets.{HasDistinctPoints}
-use Rattle.qh_model.specs.headline.Dimension.{HasTetrahedron}
-use Rattle.qh_model.specs.headline.SupportingPlane.{IsSupportingTriple}
-use Rattle.qh_model.specs.headline.Polygon.{Follows}
-use Rattle.qh_model.specs.headline.Polygons.{IsFacePolygon}
-use Rattle.qh_model.specs.laws.EdgeLaws.{OtherFace}
-use Rattle.qh_model.proofs.algebra.Order.{mul-pos}
-use Rattle.qh_model.proofs.algebra.Order.{cancel-zero, le_antisym, positive_le, product_zero}
-use Rattle.qh_model.proofs.algebra.VectorIdentities.{edge_product, vol-first, vol-second}
-use Rattle.qh_model.proofs.algebra.VectorIdentities.{vol-flip, vol-swap_last, left-flip}
-use Rattle.qh_model.proofs.algebra.VectorIdentities.{in_line-vol, in_line-left, in_line-twice}
-use Rattle.qh_model.proofs.algebra.Signs.{less_differ}
-use Rattle.qh_model.proofs.algebra.Integers.{mul_comm}
+use Rattle.qh_model.specs.{contract.IdSets.HasDistinctPoints, headline.Dimension.HasTetrahedron, headline.Polygon.Follows}
+use Rattle.qh_model.specs.headline.{Polygons.IsFacePolygon, Predicates.cross, Predicates.vol, Predicates.left, Predicates.AreInLine, Sets.In, Sets.Members}
+use Rattle.qh_model.specs.{headline.SupportingPlane.IsSupportingTriple, headline.Vector.Vector, headline.Vector.dot, laws.EdgeLaws.OtherFace}
+use Rattle.qh_model.proofs.algebra.{Integers.mul_comm, Order.mul-pos, Order.cancel-zero, Order.le_antisym, Order.positive_le, Order.product_zero}
+use Rattle.qh_model.proofs.algebra.{Signs.less_differ, VectorIdentities.edge_product}
+use Rattle.qh_model.proofs.algebra.VectorIdentities.{vol-first, vol-second, vol-flip, vol-swap_last, left-flip, in_line-vol, in_line-left, in_line-twice}
 use Rattle.qh_model.proofs.extremes.Directions.{square-positive}
+use Rattle.qh_model.proofs.polygons.LeftOfEdge.{at_most, below, turn_sign, Way, Third, has_u, has_v, third, square, over, not_right}
+use Rattle.qh_model.proofs.polygons.{Neighbours.follows_members, Neighbours.next_member, PlaneTurns.level_volume}
 use Rattle.qh_model.proofs.surfaces.VisibleFacets.{Least, least}
-use Rattle.qh_model.proofs.polygons.Neighbours.{follows_members, next_member}
-use Rattle.qh_model.proofs.polygons.PlaneTurns.{level_volume}
-use Rattle.qh_model.proofs.polygons.LeftOfEdge.{at_most, below, turn_sign, not_zero, Way, Third, has_u, has_v, third, square, over, not_right}
 
 -- turned about, and with the last two exchanged, a volume is the same
 vol-both : (u v x y : Vector) → vol v u y x ≡ vol u v x y
@@ -164,9 +153,9 @@ module _ (at : ℕ → Vector) (ids : List ℕ) (d : HasDistinctPoints at (Membe
       has' = (f.members u).1 ((has_u at ids d i j k q u v way).0, vol-second (at v) (at u) (at w.w))
 
       differ : u ≢ v
-      differ e = not_zero _ x.turns
-          (in_line-left (cross (at i) (at j) (at k)) (at u) (at v) (at x.w)
-          (subst (λ t. AreInLine (at u) (at t) (at x.w)) e (in_line-twice (at u) (at x.w))))
+      differ e =
+          let line = subst (λ t. AreInLine (at u) (at t) (at x.w)) e (in_line-twice (at u) (at x.w)) in
+          omega (arith, ints, x.turns, in_line-left (cross (at i) (at j) (at k)) (at u) (at v) (at x.w) line)
 
       -- no member of the new plane lies to the right of the edge turned about
       not_right' : (y : ℕ) → In y p → pos 0 ≤ℤ left (cross (at v) (at u) (at w.w)) (at v) (at u) (at y)

@@ -1,21 +1,12 @@
 -- The faces of a solid close up: one face takes each step along an edge, and another the step back.
 use Rattle.std.proofs.Common.{◌≡◌, ℕ, ◌≤◌, arith, refl, sym, ap, subst, ◌∙◌, inl, inr, List, [], ◌∷◌}
-use Rattle.std.specs.Prelude.{◌↔◌}
-use Rattle.std.specs.List.{flat_map}
-use Rattle.qh_model.specs.headline.Sets.{In, Once}
-use Rattle.qh_model.specs.headline.Polygon.{FollowsAlong, Follows}
-use Rattle.qh_model.specs.headline.Polygons.{ComesBefore}
-use Rattle.qh_model.specs.contract.ClosedSurface.{is_edge}
-use Rattle.qh_model.specs.contract.ClosedPolygons.{steps_along, steps_round, step_count}
+use Rattle.std.specs.{List.flat_map, Prelude.◌↔◌}
+use Rattle.qh_model.specs.contract.{ClosedPolygons.steps_along, ClosedPolygons.steps_round, ClosedPolygons.step_count, ClosedSurface.is_edge}
+use Rattle.qh_model.specs.headline.{Polygon.FollowsAlong, Polygon.Follows, Polygons.ComesBefore, Sets.In, Sets.Once}
 use Rattle.qh_model.specs.laws.ClosedFaceLaws.{FacesClose}
-use Rattle.qh_model.proofs.closed_surfaces.SignedVolume.{back, is_edge-back}
-use Rattle.qh_model.proofs.lists.Counts.{count_twins}
-use Rattle.qh_model.proofs.lists.Joined.{once_append, in_flat_map, of_flat_map}
-use Rattle.qh_model.proofs.lists.Lexicographic.{before-asymmetric, rising-ordered}
-use Rattle.qh_model.proofs.lists.Ordered.{Ordered}
-use Rattle.qh_model.proofs.polygons.Edges.{one_face_each_way}
-use Rattle.qh_model.proofs.polygons.OtherFace.{other_face}
-use Rattle.qh_model.proofs.polygons.Neighbours.{along_members}
+use Rattle.qh_model.proofs.{closed_surfaces.SignedVolume.back, closed_surfaces.SignedVolume.is_edge-back, lists.Counts.count_twins, lists.Joined.once_append}
+use Rattle.qh_model.proofs.lists.{Joined.in_flat_map, Joined.of_flat_map, Lexicographic.before-asymmetric, Lexicographic.rising-ordered, Ordered.Ordered}
+use Rattle.qh_model.proofs.polygons.{Edges.one_face_each_way, Neighbours.along_members, OtherFace.other_face}
 
 abbrev Has : ℕ → ℕ → List (ℕ × ℕ) → Type 0
 Has u v ps = In {X = ℕ × ℕ} (u, v) ps

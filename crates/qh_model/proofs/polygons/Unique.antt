@@ -2,18 +2,10 @@
 use Rattle.std.proofs.Common.{◌≡◌, ◌≢◌, ℕ, refl, List, [], ◌∷◌, arith, sym, subst, inl, inr, ⊎_elim}
 use Rattle.std.proofs.lemmas.Int.{ints}
 use native.Mathlib.Decide.{ℕ_discrete}
-use Rattle.std.specs.Prelude.{ℤ, pos, neg_ℤ, ◌<ℤ◌, ◌↔◌}
-use Rattle.qh_model.specs.headline.Vector.{Vector}
-use Rattle.qh_model.specs.headline.Predicates.{left}
-use Rattle.qh_model.specs.headline.Sets.{In, Once, BeginsWithLeast, Members}
-use Rattle.qh_model.specs.headline.Polygon.{TurnsLeft, IsPolygon}
-use Rattle.qh_model.specs.laws.PolygonLaws.{PolygonIsUnique}
-use Rattle.qh_model.proofs.algebra.VectorIdentities.{left-flip}
-use Rattle.qh_model.proofs.polygons.Cycles.{AlongPath, round_told}
-
--- two opposite turns are not both to the left
-both_positive : (x y : ℤ) → x ≡ neg_ℤ y → pos 0 <ℤ x → pos 0 <ℤ y → ⊥
-both_positive x y e h k = omega (arith, ints)
+use Rattle.std.specs.Prelude.{◌↔◌}
+use Rattle.qh_model.specs.headline.{Polygon.TurnsLeft, Polygon.IsPolygon, Sets.In, Sets.Once, Sets.BeginsWithLeast, Sets.Members}
+use Rattle.qh_model.specs.{headline.Vector.Vector, laws.PolygonLaws.PolygonIsUnique}
+use Rattle.qh_model.proofs.{algebra.VectorIdentities.left-flip, polygons.Cycles.AlongPath, polygons.Cycles.round_told}
 
 -- the rests of two walks from u on
 follow : (n : Vector) (at : ℕ → Vector) (q p : List ℕ) → ((x : ℕ) → In x q ↔ In x p) → (u : ℕ) (r s : List ℕ) (e : ℕ)
@@ -49,8 +41,8 @@ follow n at q p m u (v ∷ r) (w ∷ s) e f g i o k a b = with_rest (λ f' g' i'
         → Dec (v ≡ w) → (v ∷ r) ≡ (w ∷ s)
     with_rest more (yes d) = let t : r ≡ s = tails more (sym d) in cc
     with_rest more (no ne) =
-        absurd (both_positive (left n (at u) (at v) (at w)) (left n (at u) (at w) (at v)) (left-flip n (at u) (at v) (at w))
-        (a.0 w ((m w).1 (g w (inr (inl refl)))) w_u (λ d. ne (sym d))) (b.0 v ((m v).0 (f v (inr (inl refl)))) v_u ne))
+        let ahead = a.0 w ((m w).1 (g w (inr (inl refl)))) w_u (λ d. ne (sym d)) in
+        absurd (omega (arith, ints, ahead, left-flip n (at u) (at v) (at w), b.0 v ((m v).0 (f v (inr (inl refl)))) v_u ne))
 
 -- heads that are least in lists with the same members are one
 heads : (u v : ℕ) (us vs : List ℕ) → BeginsWithLeast (u ∷ us) → BeginsWithLeast (v ∷ vs) → In v (u ∷ us) → In u (v ∷ vs) → u ≡ v

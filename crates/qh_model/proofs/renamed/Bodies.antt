@@ -1,9 +1,8 @@
 -- The hull of a set renamed in its order.
 use Rattle.std.proofs.Common.{◌≡◌, ℕ, ◌⊎◌, List, [], ◌∷◌, map, sym, subst, ◌∙◌, inl, inr}
-use Rattle.qh_model.specs.headline.{Vector.Vector, Sets.In, Polygons.ArePolygons, Hull.BodyValue, Hull.IsBody}
-use Rattle.qh_model.proofs.renamed.{Lists.AreWithin, Lists.rising_map, Edges.edge_count_renamed}
+use Rattle.qh_model.specs.headline.{Hull.BodyValue, Hull.IsBody, Polygons.ArePolygons, Sets.In, Vector.Vector}
+use Rattle.qh_model.proofs.renamed.{Edges.edge_count_renamed, Lists.AreWithin, Lists.rising_map, Polygons.members_renamed, Polygons.polygons_renamed}
 use Rattle.qh_model.proofs.renamed.Renaming.{IsRenaming, extremes_renamed, dimension_renamed}
-use Rattle.qh_model.proofs.renamed.Polygons.{members_renamed, polygons_renamed}
 
 -- the one member of a list of one
 alone : (qs : List (List ℕ)) (p : List ℕ) → qs ≡ p ∷ [] → (q : List ℕ) → In q qs → q ≡ p

@@ -2,10 +2,9 @@
 use Rattle.std.proofs.Common.{◌≡◌, ℕ, ◌+◌, ◌<◌, ◌≤◌, refl, List, [], ◌∷◌, length, get_or, map, arith, ap, sym, subst, inl, inr}
 use Rattle.std.proofs.lemmas.List.{length-map, get_or-map}
 use Rattle.std.specs.List.Sorted.{IsStrictlyIncreasing}
-use Rattle.qh_model.specs.headline.{Sets.In, Sets.BeginsWithLeast, Polygon.FollowsAlong, Polygon.Follows}
-use Rattle.qh_model.specs.headline.Polygons.{ComesBefore, RisesFrom, RiseStrictly}
-use Rattle.qh_model.proofs.Members.{In-get_or}
-use Rattle.qh_model.proofs.lists.Images.{of_map}
+use Rattle.qh_model.specs.headline.Polygon.{FollowsAlong, Follows}
+use Rattle.qh_model.specs.headline.{Polygons.ComesBefore, Polygons.RisesFrom, Polygons.RiseStrictly, Sets.In, Sets.BeginsWithLeast}
+use Rattle.qh_model.proofs.{Members.In-get_or, lists.Images.of_map}
 
 -- the neighbours that neighbours on the image of a way come from
 record OldNeighbours (f : ℕ → ℕ) (u v t : ℕ) (r : List ℕ) (e : ℕ) : Type 0 where

@@ -1,15 +1,12 @@
 -- The polygons of a set renamed in its order.
 use Rattle.std.proofs.Common.{◌↔◌, ◌≡◌, ℕ, ◌⊎◌, List, map, refl, sym, ap, subst, ◌∙◌, inl, inr}
 use Rattle.std.specs.Prelude.{pos, ◌<ℤ◌, ◌≤ℤ◌}
-use Rattle.qh_model.specs.headline.{Vector.Vector, Predicates.vol, Predicates.left, Sets.In, Extreme.Extreme}
-use Rattle.qh_model.specs.headline.SupportingPlane.{IsSupportingTriple, OnPlane}
-use Rattle.qh_model.specs.headline.Polygon.{Follows, TurnsLeft, IsPolygon}
+use Rattle.qh_model.specs.headline.{Extreme.Extreme, Polygon.Follows, Polygon.TurnsLeft, Polygon.IsPolygon}
 use Rattle.qh_model.specs.headline.Polygons.{IsFacePolygon, AreFaces, PointsForward, IsFlatFace, IsSegmentFace, ArePolygons}
-use Rattle.qh_model.proofs.lists.Images.{in_map, of_map, once_map}
-use Rattle.qh_model.proofs.polygons.Neighbours.{follows_members}
-use Rattle.qh_model.proofs.renamed.Lists.{AreWithin, of_follows_map, least_map, rise_map}
-use Rattle.qh_model.proofs.renamed.Renaming.{IsRenaming, renaming_apart, renaming_back, part_renamed, normal_renamed, volume_renamed}
-use Rattle.qh_model.proofs.renamed.Renaming.{extreme_renamed, extremes_renamed}
+use Rattle.qh_model.specs.headline.{Predicates.vol, Predicates.left, Sets.In, SupportingPlane.IsSupportingTriple, SupportingPlane.OnPlane, Vector.Vector}
+use Rattle.qh_model.proofs.{lists.Images.in_map, lists.Images.of_map, lists.Images.once_map, polygons.Neighbours.follows_members}
+use Rattle.qh_model.proofs.renamed.{Lists.AreWithin, Lists.of_follows_map, Lists.least_map, Lists.rise_map, Renaming.IsRenaming}
+use Rattle.qh_model.proofs.renamed.Renaming.{renaming_apart, renaming_back, part_renamed, normal_renamed, volume_renamed, extreme_renamed, extremes_renamed}
 
 module _ {at at' : ℕ → Vector} {A B : ℕ → Type 0} {f g : ℕ → ℕ} (r : IsRenaming at at' A B f g) where
   -- a list has the members of A: its image has their names

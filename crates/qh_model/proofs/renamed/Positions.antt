@@ -1,17 +1,12 @@
 -- The members of a rising list named by their positions: the list of their points has the same hull, by these names.
-use Rattle.std.proofs.Common.{◌≡◌, ℕ, zero, suc, ◌<◌, Bool, true, false, cond, refl, List, [], ◌∷◌, length, get_or, map, arith, sym, ap}
-use Rattle.std.proofs.Common.{subst, ◌∙◌, ◌⊎◌, inl, inr, eqb-true}
-use Rattle.std.proofs.lemmas.{Bool.eqb-false, List.length-map, List.get_or-map}
-use Rattle.std.specs.Prelude.{◌==◌, ◌↔◌}
-use Rattle.std.specs.List.Sorted.{IsStrictlyIncreasing}
-use Rattle.qh_model.specs.headline.{Vector.Vector, Vector.origin, Predicates.place, Sets.In, Sets.Once, Sets.Members}
-use Rattle.qh_model.specs.headline.{DistinctIds.AreDistinctIds, Extreme.Extreme, Hull.HullValue, Hull.IsHull, Text.vertex_number}
-use Rattle.qh_model.specs.contract.IdSets.{HasDistinctPoints}
-use Rattle.qh_model.proofs.{Members.In-get_or, Members.rising_once, DistinctIds.distinct_apart}
-use Rattle.qh_model.proofs.lists.{Images.in_map, Images.of_map, Rising.rising_between}
-use Rattle.qh_model.proofs.hulls.OfExtremes.{body_of_extremes}
-use Rattle.qh_model.proofs.renamed.{Lists.rising_map, Bodies.renamed_body, Bodies.body_renamed}
-use Rattle.qh_model.proofs.renamed.Renaming.{IsRenaming, renaming_apart, renaming_back}
+use Rattle.std.proofs.Common.{◌≡◌, ℕ, zero, suc, ◌<◌, Bool, true, false, cond, refl, List, [], ◌∷◌, length, get_or, map, arith, sym, ap, subst, ◌∙◌, ◌⊎◌, inl}
+use Rattle.std.proofs.{Common.inr, Common.eqb-true, lemmas.Bool.eqb-false, lemmas.List.length-map, lemmas.List.get_or-map}
+use Rattle.std.specs.{List.Sorted.IsStrictlyIncreasing, Prelude.◌==◌, Prelude.◌↔◌}
+use Rattle.qh_model.specs.{contract.IdSets.HasDistinctPoints, headline.DistinctIds.AreDistinctIds, headline.Extreme.Extreme, headline.Hull.HullValue}
+use Rattle.qh_model.specs.headline.{Hull.IsHull, Predicates.place, Sets.In, Sets.Once, Sets.Members, Text.vertex_number, Vector.Vector, Vector.origin}
+use Rattle.qh_model.proofs.{DistinctIds.distinct_apart, Members.In-get_or, Members.rising_once, hulls.OfExtremes.body_of_extremes, lists.Images.in_map}
+use Rattle.qh_model.proofs.{lists.Images.of_map, lists.Rising.rising_between, renamed.Bodies.renamed_body}
+use Rattle.qh_model.proofs.renamed.{Bodies.body_renamed, Lists.rising_map, Renaming.IsRenaming, Renaming.renaming_apart, Renaming.renaming_back}
 
 -- ---- positions
 -- a member's position is one of the list, and it stands there

@@ -1,19 +1,16 @@
 -- The live facets of a sound surface are a closed surface: each directed edge is that of one facet at most, and of its
 -- twin the other way round; and its signed volume is below 0.
-use Rattle.std.proofs.Common.{◌≡◌, ℕ, zero, suc, ◌+◌, ◌<◌, ◌≤◌, arith, refl, sym, ap, subst, ◌∙◌, inl, inr, List, [], ◌∷◌, length, Bool}
-use Rattle.std.proofs.Common.{true, false, cond}
+use Rattle.std.proofs.Common.{◌≡◌, ℕ, zero, suc, ◌+◌, ◌<◌, ◌≤◌, arith, refl, sym, ap, subst, ◌∙◌, inl, inr, List, [], ◌∷◌, length, Bool, true, false, cond}
 use Rattle.std.proofs.lemmas.Int.{ints}
 use Rattle.std.specs.Prelude.{ℤ, pos, ◌+ℤ◌, ◌≤ℤ◌, ◌<ℤ◌}
-use Rattle.qh_model.specs.headline.{Vector.Vector, Predicates.vol, Predicates.AreInLine, Sets.In, Sets.Once}
-use Rattle.qh_model.specs.contract.{Weighted.Weighted, Weighted.above, SoundSurface.IsSound, SoundSurface.IsInner}
-use Rattle.qh_model.specs.contract.Surface.{Surface, Side, start, end, IsWhole, rise}
-use Rattle.qh_model.specs.contract.FinishedSurface.{weighted_at, middle_at}
 use Rattle.qh_model.specs.contract.ClosedSurface.{Triple, edges, is_edge, IsClosed, signed_volume, triples_from, triples_of}
-use Rattle.qh_model.specs.contract.Surface.Side.{first, second, third}
-use Rattle.qh_model.specs.laws.ClosedSurfaceLaws.{SoundIsClosed, SoundHasVolume}
-use Rattle.qh_model.proofs.algebra.{Signs.less_le, Signs.zeros_not_negative, VectorIdentities.in_line-vol}
-use Rattle.qh_model.proofs.closed_surfaces.{Sums.count, Sums.count-is, SignedVolume.edge_tests, SignedVolume.volume_is_constant}
-use Rattle.qh_model.proofs.surfaces.{Facets.ends_differ, KeptSound.edge_once, Determinants.above-together, SurfaceLaws.rise_is_vol}
+use Rattle.qh_model.specs.contract.{FinishedSurface.weighted_at, FinishedSurface.middle_at, SoundSurface.IsSound, SoundSurface.IsInner}
+use Rattle.qh_model.specs.contract.Surface.{Surface, Side, start, end, IsWhole, rise, Side.first, Side.second, Side.third}
+use Rattle.qh_model.specs.{contract.Weighted.Weighted, contract.Weighted.above, headline.Predicates.vol, headline.Predicates.AreInLine, headline.Sets.In}
+use Rattle.qh_model.specs.{headline.Sets.Once, headline.Vector.Vector, laws.ClosedSurfaceLaws.SoundIsClosed, laws.ClosedSurfaceLaws.SoundHasVolume}
+use Rattle.qh_model.proofs.algebra.{Signs.less_le, VectorIdentities.in_line-vol}
+use Rattle.qh_model.proofs.closed_surfaces.{SignedVolume.edge_tests, SignedVolume.volume_is_constant, Sums.count, Sums.count-is}
+use Rattle.qh_model.proofs.surfaces.{Determinants.above-together, Facets.ends_differ, KeptSound.edge_once, SurfaceLaws.rise_is_vol}
 
 -- ---- edges as sides
 -- a side of one of the facets goes from u to v
@@ -152,7 +149,7 @@ module _ (at : ℕ → Vector) (m : Surface) (s t u v : ℕ) where
   -- a facet that the middle is strictly below is a triangle
   pub inner_area : (f : ℕ) → rise m (weighted_at at) f (middle_at at s t u v) <ℤ pos 0
       → ¬ (AreInLine (at (m.i f)) (at (m.j f)) (at (m.k f)))
-  inner_area f h e = zeros_not_negative _ _ _ _ _ (four_volumes f) h (flat s) (flat t) (flat u) (flat v)
+  inner_area f h e = omega (arith, ints, four_volumes f, flat s, flat t, flat u, flat v)
     where
       flat : (l : ℕ) → vol (at (m.i f)) (at (m.j f)) (at (m.k f)) (at l) ≡ pos 0
       flat l = in_line-vol (at (m.i f)) (at (m.j f)) (at (m.k f)) (at l) e

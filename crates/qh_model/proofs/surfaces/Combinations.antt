@@ -1,13 +1,10 @@
 -- Located points as mixes.
-use Rattle.qh_model.specs.contract.{Weighted.weighted_dot, Surface.rise}
-use Rattle.qh_model.specs.laws.CoverageLaws.{SettledIsCombination, LevelIsCombination}
-use Rattle.std.proofs.Common.{◌∙◌, ap, arith}
-use Rattle.std.proofs.lemmas.Int.{ints}
+use Rattle.qh_model.specs.{contract.Surface.rise, contract.Weighted.weighted_dot, laws.CoverageLaws.SettledIsCombination, laws.CoverageLaws.LevelIsCombination}
+use Rattle.std.proofs.{Common.◌∙◌, Common.ap, Common.arith, lemmas.Int.ints}
 use Rattle.std.specs.Prelude.{◌*ℤ◌, neg_ℤ}
 use Rattle.qh_model.proofs.algebra.{Integers.neg_mul, Integers.zero_mul, Order.neg-nonneg, Order.neg-positive}
-use Rattle.qh_model.proofs.surfaces.Located.{Located, located, first_share, second_share}
-use Rattle.qh_model.proofs.surfaces.Located.{third_share, shares, mix}
 use Rattle.qh_model.proofs.surfaces.CoveredPlanes.{plane_is_covered}
+use Rattle.qh_model.proofs.surfaces.Located.{Located, located, first_share, second_share, third_share, shares, mix}
 
 -- the law
 pub settled_is_combination : SettledIsCombination

@@ -1,14 +1,12 @@
 -- A finished surface tells the hull: its dimension, its extreme ids and its polygons.
 use Rattle.std.proofs.Common.{◌≡◌, ℕ, refl, inl, List}
 use Rattle.std.specs.Prelude.{pos, ◌↔◌}
-use Rattle.qh_model.specs.headline.{Sets.In, Sets.Members, Extreme.Extreme, SupportingPlane.OnPlane, Polygons.IsFacePolygon}
-use Rattle.qh_model.specs.headline.Predicates.{cross, vol}
-use Rattle.qh_model.specs.laws.CompletenessLaws.{CornerInPlane, IsLiveCorner, FacetOfPlane, FinishedIsSolid, ExtremesOfCorners}
-use Rattle.qh_model.specs.laws.CompletenessLaws.{ExtremesOfPlane, PolygonsOfFacets}
-use Rattle.qh_model.proofs.algebra.{Order.zero_or_not, Signs.less_differ}
-use Rattle.qh_model.proofs.extremes.{Faces.extremes_of_face, Directions.along_back}
+use Rattle.qh_model.specs.headline.{Extreme.Extreme, Polygons.IsFacePolygon, Predicates.cross, Predicates.vol, Sets.In, Sets.Members, SupportingPlane.OnPlane}
+use Rattle.qh_model.specs.laws.CompletenessLaws.{CornerInPlane, IsLiveCorner, FacetOfPlane, FinishedIsSolid, ExtremesOfCorners, ExtremesOfPlane}
+use Rattle.qh_model.specs.laws.CompletenessLaws.{PolygonsOfFacets}
+use Rattle.qh_model.proofs.{algebra.Order.zero_or_not, algebra.Signs.less_differ, extremes.Directions.along_back}
 use Rattle.qh_model.proofs.extremes.ExtremeIds.{Listed, listed_itself, listed_part, extremes_between}
-use Rattle.qh_model.proofs.polygons.Direction.{polygon_as}
+use Rattle.qh_model.proofs.{extremes.Faces.extremes_of_face, polygons.Direction.polygon_as}
 use Rattle.qh_model.proofs.surfaces.Finished.{extremes_are_corners, extremes_of_plane_are_corners, facets_support, planes_have_facets}
 
 -- the four ids of the middle are a tetrahedron

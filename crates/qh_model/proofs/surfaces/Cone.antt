@@ -1,17 +1,13 @@
 -- A surface whose facets that see an id are replaced by its cone over the horizon.
-use Rattle.qh_model.specs.contract.Surface.{IsCorner, Side, Surface, IsWhole, end, rise, start}
-use Rattle.qh_model.specs.steps.FarCorners.{far}
-use Rattle.qh_model.specs.headline.Sets.{In}
 use Rattle.qh_model.specs.contract.SoundSurface.{IsInner, IsStrictWhenPerturbed, IsSound, IsStrict, perturbed, towards}
-use Rattle.qh_model.specs.contract.Weighted.{Weighted}
+use Rattle.qh_model.specs.contract.Surface.{IsCorner, Side, Surface, IsWhole, end, rise, start}
+use Rattle.qh_model.specs.{contract.Weighted.Weighted, headline.Sets.In, steps.FarCorners.far}
 use Rattle.std.proofs.Common.{◌≡◌, ◌≢◌, ℕ, ◌+◌, ◌≤◌, refl, arith, ap, sym, ◌∙◌, subst, ◌⊎◌, inl, inr}
 use native.Mathlib.Decide.{ℕ_discrete}
 use Rattle.std.specs.Prelude.{pos, ◌≤ℤ◌, ◌<ℤ◌}
-use Rattle.qh_model.proofs.algebra.Signs.{not_less, equal_negative}
-use Rattle.qh_model.proofs.surfaces.{PerturbedInwards.Choice, PerturbedInwards.choose, Connected.cert}
-use Rattle.qh_model.proofs.surfaces.Facets.{corner_start, corner_end, corner_rest}
-use Rattle.qh_model.proofs.surfaces.Facets.{side_rise}
-use Rattle.qh_model.proofs.surfaces.ConePlanes.{Old, apex_rise, apex_inner, corner_below_cone}
+use Rattle.qh_model.proofs.{algebra.Signs.not_less, algebra.Signs.equal_negative, surfaces.ConePlanes.Old}
+use Rattle.qh_model.proofs.surfaces.{ConePlanes.apex_rise, ConePlanes.apex_inner, ConePlanes.corner_below_cone, Connected.cert, Facets.corner_start}
+use Rattle.qh_model.proofs.surfaces.{Facets.corner_end, Facets.corner_rest, Facets.side_rise, PerturbedInwards.Choice, PerturbedInwards.choose}
 
 -- a facet that is kept: it is blind to p
 pub record KeptOf (m m' : Surface) (home : ℕ → Weighted) (p f' : ℕ) : Type 0 where

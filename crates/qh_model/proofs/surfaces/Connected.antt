@@ -1,17 +1,14 @@
 -- Surfaces whose corners may be perturbed inwards so that all is strict: what a real point sees hangs together.
-use Rattle.qh_model.specs.contract.Surface.{IsCorner, Side, Surface, HasTwin, IsWhole, start, end, rest, rise}
-use Rattle.qh_model.specs.contract.Surface.Side.{first, second, third}
-use Rattle.qh_model.specs.steps.FarCorners.{far}
-use Rattle.qh_model.specs.headline.Sets.{In}
 use Rattle.qh_model.specs.contract.SoundSurface.{HasDistinctFacets, IsInner, IsStrict, IsStrictWhenPerturbed, IsSound, perturbed, towards}
-use Rattle.qh_model.specs.contract.Weighted.{Weighted, weighted_dot, plane_of}
+use Rattle.qh_model.specs.contract.Surface.{IsCorner, Side, Surface, HasTwin, IsWhole, start, end, rest, rise, Side.first, Side.second, Side.third}
+use Rattle.qh_model.specs.{contract.Weighted.Weighted, contract.Weighted.weighted_dot, contract.Weighted.plane_of, headline.Sets.In, steps.FarCorners.far}
 use Rattle.std.proofs.Common.{◌≡◌, ◌≢◌, ℕ, zero, suc, ◌+◌, arith, refl, ap, sym, ◌∙◌, subst, inl, inr, Bool, true, false}
-use Rattle.std.proofs.lemmas.{Int.ints, Int.by_lt_z, Bool.and_parts, Bool.both_ways, Bool.not-true}
+use Rattle.std.proofs.lemmas.{Bool.and_parts, Bool.both_ways, Bool.not-true, Int.ints, Int.by_lt_z}
 use Rattle.std.specs.Prelude.{ℤ, pos, negsuc, ◌+ℤ◌, ◌*ℤ◌, neg_ℤ, ◌≤ℤ◌, ◌<ℤ◌, ◌&&◌, not}
 use Rattle.qh_model.proofs.algebra.{Order.mul-pos, Signs.not_less, Signs.less_one_way}
-use Rattle.qh_model.proofs.surfaces.VisibleFacets.{Corners, Over, Cut, none_cut_off}
 use Rattle.qh_model.proofs.surfaces.Facets.{rise_side, rise_over, weak, middle, middle_on, middle_weak, middle_below, bends, plane-is}
 use Rattle.qh_model.proofs.surfaces.PerturbedInwards.{tilt, above-perturbed_all, Choice, choose, size, size_le, cube, scale}
+use Rattle.qh_model.proofs.surfaces.VisibleFacets.{Corners, Over, Cut, none_cut_off}
 
 -- the corners of a facet at their places
 abbrev pub placed : Surface → (ℕ → Weighted) → ℕ → Corners

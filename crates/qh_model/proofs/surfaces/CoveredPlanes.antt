@@ -1,22 +1,18 @@
 -- In a plane that no corner is beyond, each point that no facet sees lies in a live triangle of that plane.
-use Rattle.qh_model.specs.contract.Surface.{IsCorner, Side, Surface, IsWhole, end, rise, start}
-use Rattle.qh_model.specs.headline.Sets.{In}
-use Rattle.qh_model.specs.laws.{CoverageLaws.PlaneIsCovered, UnseenPoints.IsUnseen, UnseenPoints.HoldsOfCorners, CoveredPoints.FacetInPlane}
 use Rattle.qh_model.specs.contract.SoundSurface.{IsSound, towards}
-use Rattle.qh_model.specs.contract.Weighted.{Weighted, above, weighted_dot, plane_of}
+use Rattle.qh_model.specs.contract.Surface.{IsCorner, Side, Surface, IsWhole, end, rise, start, Side.first, Side.second, Side.third}
+use Rattle.qh_model.specs.{contract.Weighted.Weighted, contract.Weighted.above, contract.Weighted.weighted_dot, contract.Weighted.plane_of, headline.Sets.In}
+use Rattle.qh_model.specs.laws.{CoverageLaws.PlaneIsCovered, CoveredPoints.FacetInPlane, UnseenPoints.IsUnseen, UnseenPoints.HoldsOfCorners}
 use Rattle.std.proofs.Common.{◌≡◌, ℕ, suc, ◌+◌, ◌≤◌, refl, [], ◌∷◌, arith, ap, sym, ◌∙◌, subst, inl, inr}
 use Rattle.std.proofs.lemmas.Int.{ints, by_lt_z}
 use Rattle.std.specs.Prelude.{ℤ, pos, ◌+ℤ◌, ◌*ℤ◌, neg_ℤ, ◌≤ℤ◌, ◌<ℤ◌}
-use Rattle.qh_model.proofs.algebra.{Ring.ring, Signs.not_less, Signs.equal_le, Signs.no_sum}
-use Rattle.qh_model.proofs.algebra.Order.{mul-pos, mul-nonneg_nonpos, cancel-nonpos, cancel-zero, cancel-zero_neg, product_zero, le_antisym}
-use Rattle.qh_model.proofs.algebra.Order.{neg-positive, neg-nonneg, positive_le, negative_le}
-use Rattle.qh_model.proofs.algebra.Integers.{one_mul, neg_mul, mul_comm}
-use Rattle.qh_model.proofs.algebra.Ring.Expr.{var, add, mul}
-use Rattle.qh_model.proofs.surfaces.{CramersRule.cramer_level, Located.Located, Located.located, Located.shares, Located.mix}
-use Rattle.qh_model.proofs.surfaces.Facets.{rise_own, sum4, sum_blind, sum_level, level_parts, plane-is}
-use Rattle.qh_model.proofs.surfaces.PerturbedInwards.{towardsE, bound, share, scale}
-use Rattle.qh_model.proofs.surfaces.Determinants.{above_of, quad, aboveE, put4, above-first, above-second, above-third}
-use Rattle.qh_model.specs.contract.Surface.Side.{first, second, third}
+use Rattle.qh_model.proofs.algebra.{Integers.one_mul, Integers.neg_mul, Integers.mul_comm, Order.mul-pos, Order.mul-nonneg_nonpos, Order.cancel-nonpos}
+use Rattle.qh_model.proofs.algebra.Order.{cancel-zero, cancel-zero_neg, product_zero, le_antisym, neg-positive, neg-nonneg, positive_le, negative_le}
+use Rattle.qh_model.proofs.algebra.{Ring.ring, Ring.Expr.var, Ring.Expr.add, Ring.Expr.mul, Signs.not_less, Signs.equal_le, Signs.no_sum}
+use Rattle.qh_model.proofs.surfaces.{CramersRule.cramer_level, Determinants.above_of, Determinants.quad, Determinants.aboveE, Determinants.put4}
+use Rattle.qh_model.proofs.surfaces.{Determinants.above-first, Determinants.above-second, Determinants.above-third, Facets.rise_own, Facets.sum4}
+use Rattle.qh_model.proofs.surfaces.{Facets.sum_blind, Facets.sum_level, Facets.level_parts, Facets.plane-is, Located.Located, Located.located, Located.shares}
+use Rattle.qh_model.proofs.surfaces.{Located.mix, PerturbedInwards.towardsE, PerturbedInwards.bound, PerturbedInwards.share, PerturbedInwards.scale}
 
 -- a point perturbed, as the last
 pub above-last : (a b c p o : Weighted) (n k : ℤ) → above a b c (towards o n p k) ≡ n *ℤ above a b c p +ℤ k *ℤ above a b c o

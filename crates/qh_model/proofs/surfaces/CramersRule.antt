@@ -1,10 +1,8 @@
 -- A plane's value at a point, by the point's coordinates over four others.
 use Rattle.qh_model.specs.contract.Weighted.{Weighted, above, weighted_dot}
-use Rattle.std.proofs.Common.{◌≡◌, refl, [], arith}
-use Rattle.std.proofs.lemmas.Int.{ints}
+use Rattle.std.proofs.{Common.◌≡◌, Common.refl, Common.[], Common.arith, lemmas.Int.ints}
 use Rattle.std.specs.Prelude.{pos, ◌+ℤ◌, ◌*ℤ◌}
-use Rattle.qh_model.proofs.algebra.{Order.product_zero, Ring.ring}
-use Rattle.qh_model.proofs.algebra.Ring.Expr.{add, mul}
+use Rattle.qh_model.proofs.algebra.{Order.product_zero, Ring.ring, Ring.Expr.add, Ring.Expr.mul}
 use Rattle.qh_model.proofs.surfaces.Determinants.{above_of, dot_of, put4}
 
 -- four points have coordinates for a fifth

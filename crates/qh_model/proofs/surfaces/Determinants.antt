@@ -2,8 +2,7 @@
 use Rattle.qh_model.specs.contract.Weighted.{Weighted, weighted_dot, middle_of, plane_of, above}
 use Rattle.std.proofs.Common.{◌≡◌, ℕ, ◌+◌, ◌*◌, refl, List, [], ◌∷◌}
 use Rattle.std.specs.Prelude.{ℤ, pos, ◌+ℤ◌, neg_ℤ}
-use Rattle.qh_model.proofs.algebra.Ring.{Expr, ring, ring_zero}
-use Rattle.qh_model.proofs.algebra.Ring.Expr.{var, add, sub as less, mul, neg}
+use Rattle.qh_model.proofs.algebra.Ring.{Expr, ring, ring_zero, Expr.var, Expr.add, Expr.sub as less, Expr.mul, Expr.neg}
 
 -- ---- expressions
 pub record QE : Type 0 where

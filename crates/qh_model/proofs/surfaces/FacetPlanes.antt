@@ -1,15 +1,13 @@
 -- The live facets in one plane are those that a point a little beyond one of them sees, so they hang together.
 use Rattle.std.proofs.Common.{◌≡◌, ℕ, refl, sym, ◌∙◌, inl, inr, Bool, true, List}
 use Rattle.std.specs.Prelude.{pos, ◌≤ℤ◌}
-use Rattle.qh_model.specs.headline.{Vector.Vector, Sets.In}
-use Rattle.qh_model.specs.contract.{Weighted.Weighted, Surface.Surface, Surface.IsCorner, Surface.rise, Surface.Sees}
-use Rattle.qh_model.specs.contract.FinishedSurface.{weighted_at, middle_at, IsFinished}
+use Rattle.qh_model.specs.contract.{FinishedSurface.weighted_at, FinishedSurface.middle_at, FinishedSurface.IsFinished, Surface.Surface, Surface.IsCorner}
+use Rattle.qh_model.specs.{contract.Surface.rise, contract.Surface.Sees, contract.Weighted.Weighted, headline.Sets.In, headline.Vector.Vector}
 use Rattle.qh_model.specs.laws.FacetPlanes.{IsLevelWith, IsLevelFacet, IsPlaneWalk, LevelFacetsSpan, PlaneWalkFindsAll}
-use Rattle.qh_model.proofs.algebra.{VectorIdentities.vol-first, VectorIdentities.vol-second, VectorIdentities.vol-third, Signs.equal_le}
+use Rattle.qh_model.proofs.algebra.{Signs.equal_le, VectorIdentities.vol-first, VectorIdentities.vol-second, VectorIdentities.vol-third}
+use Rattle.qh_model.proofs.surfaces.{CoveredPlanes.beyond, CoveredPlanes.on_sees_beyond, CoveredPlanes.sees_beyond_on, Facets.middle, Facets.of_corners}
+use Rattle.qh_model.proofs.surfaces.{Facets.sum_blind, Facets.sum_level, Facets.level_parts, Finished.one_plane, Finished.unseen_above, Finished.facets_support}
 use Rattle.qh_model.proofs.surfaces.{PerturbedInwards.bound, SurfaceLaws.rise_is_vol, SurfaceLaws.walk_finds_all}
-use Rattle.qh_model.proofs.surfaces.Facets.{middle, of_corners, sum_blind, sum_level, level_parts}
-use Rattle.qh_model.proofs.surfaces.CoveredPlanes.{beyond, on_sees_beyond, sees_beyond_on}
-use Rattle.qh_model.proofs.surfaces.Finished.{one_plane, unseen_above, facets_support}
 
 -- the law
 pub level_facets_span : LevelFacetsSpan

@@ -1,8 +1,7 @@
 -- The sides of a facet in turn, and the one that starts at a corner.
-use Rattle.qh_model.specs.contract.Surface.{IsCorner, Side, Surface, end, start, rest}
+use Rattle.qh_model.specs.contract.Surface.{IsCorner, Side, Surface, end, start, rest, Side.first, Side.second, Side.third}
 use Rattle.std.proofs.Common.{◌≡◌, ℕ, refl, sym, inl, inr}
 use native.Mathlib.Decide.{ℕ_discrete}
-use Rattle.qh_model.specs.contract.Surface.Side.{first, second, third}
 
 -- the next side
 abbrev pub side_next : Side → Side

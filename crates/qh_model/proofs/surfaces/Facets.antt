@@ -1,18 +1,15 @@
 -- Facets with neighbours over their sides, and what weighted points of their corners may have: no corner above a facet.
-use Rattle.qh_model.specs.contract.Surface.Side.{first, second, third}
-use Rattle.qh_model.specs.contract.Surface.{IsCorner, Side, Surface, HasTwin, IsWhole, end, rise, start, rest}
-use Rattle.qh_model.specs.steps.FarCorners.{far}
 use Rattle.qh_model.specs.contract.SoundSurface.{HasDistinctFacets, IsInner, IsStrict}
-use Rattle.qh_model.specs.headline.Sets.{In}
+use Rattle.qh_model.specs.contract.Surface.{IsCorner, Side, Surface, HasTwin, IsWhole, end, rise, start, rest, Side.first, Side.second, Side.third}
 use Rattle.qh_model.specs.contract.Weighted.{Weighted, above, weighted_dot, plane_of}
+use Rattle.qh_model.specs.{headline.Sets.In, steps.FarCorners.far}
 use Rattle.std.proofs.Common.{◌≡◌, ◌≢◌, ℕ, refl, [], arith, sym, ◌∙◌, subst, ◌⊎◌, inl, inr}
-use native.Mathlib.Decide.{ℕ_discrete}
 use Rattle.std.proofs.lemmas.Int.{ints, by_lt_z}
+use native.Mathlib.Decide.{ℕ_discrete}
 use Rattle.std.specs.Prelude.{ℤ, pos, ◌+ℤ◌, neg_ℤ, ◌≤ℤ◌, ◌<ℤ◌}
-use Rattle.qh_model.proofs.algebra.{Ring.Expr, Ring.ring, Order.negative_le}
-use Rattle.qh_model.proofs.algebra.Signs.{less_differ, less_one_way, equal_le, sum_nonpos, sum_parts, sum_zero, equal_nonpos}
-use Rattle.qh_model.proofs.algebra.Signs.{equal_negative, equal_positive, opposite_nonneg, opposite_positive, opposite_negative}
-use Rattle.qh_model.proofs.algebra.Ring.Expr.{add}
+use Rattle.qh_model.proofs.algebra.{Order.negative_le, Ring.Expr, Ring.ring, Ring.Expr.add}
+use Rattle.qh_model.proofs.algebra.Signs.{less_differ, less_one_way, equal_le, sum_nonpos, sum_parts, sum_zero, equal_nonpos, equal_negative, equal_positive}
+use Rattle.qh_model.proofs.algebra.Signs.{opposite_nonneg, opposite_positive, opposite_negative}
 use Rattle.qh_model.proofs.surfaces.Determinants.{QE, put4, quad, dot4E, above-turn, above-flip, above-first, above-second, above-third}
 
 -- what holds of the corners one by one holds of all

@@ -3,35 +3,21 @@ use Rattle.std.proofs.Common.{◌↔◌, ◌≡◌, ◌≢◌, ℕ, arith, refl,
 use Rattle.std.proofs.lemmas.Int.{ints}
 use native.Mathlib.Decide.{ℕ_discrete}
 use Rattle.std.specs.Prelude.{ℤ, pos, ◌+ℤ◌, ◌-ℤ◌, ◌*ℤ◌, ◌≤ℤ◌, ◌<ℤ◌}
-use Rattle.qh_model.specs.headline.{Vector.Vector, Vector.dot, Predicates.cross, Predicates.vol, Predicates.AreInLine, Sets.In}
-use Rattle.qh_model.specs.headline.{Sets.Members, Combination.Combination, Extreme.Others, Extreme.Extreme}
-use Rattle.qh_model.specs.headline.SupportingPlane.{IsSupportingTriple, OnPlane}
-use Rattle.qh_model.specs.laws.{Separator.Separator, FaceLaws.IsAlong, CoveredPoints.CombinationWithInner, CoveredPoints.CombinationInPlane}
-use Rattle.qh_model.specs.laws.CompletenessLaws.{FacetsSupport, IsLiveCorner, ExtremesAreCorners, CornerInPlane, ExtremesOfPlaneAreCorners}
-use Rattle.qh_model.specs.laws.CompletenessLaws.{FacetOfPlane, PlanesHaveFacets}
-use Rattle.qh_model.specs.contract.Weighted.{Weighted, weighted, weighted_dot, above}
-use Rattle.qh_model.specs.contract.Surface.{Surface, IsCorner, rise}
-use Rattle.qh_model.specs.contract.FinishedSurface.{weighted_at, middle_at, IsFinished}
-use Rattle.qh_model.proofs.algebra.{Order.mul-pos, Order.mul-nonneg_nonpos, Order.le_antisym, Ring.ring}
+use Rattle.qh_model.specs.contract.{FinishedSurface.weighted_at, FinishedSurface.middle_at, FinishedSurface.IsFinished, Surface.Surface, Surface.IsCorner}
+use Rattle.qh_model.specs.contract.{Surface.rise, Weighted.Weighted, Weighted.weighted, Weighted.weighted_dot, Weighted.above}
+use Rattle.qh_model.specs.headline.{Combination.Combination, Extreme.Others, Extreme.Extreme, Predicates.cross, Predicates.vol, Predicates.AreInLine, Sets.In}
+use Rattle.qh_model.specs.headline.{Sets.Members, SupportingPlane.IsSupportingTriple, SupportingPlane.OnPlane, Vector.Vector, Vector.dot}
+use Rattle.qh_model.specs.laws.CompletenessLaws.{FacetsSupport, IsLiveCorner, ExtremesAreCorners, CornerInPlane, ExtremesOfPlaneAreCorners, FacetOfPlane}
+use Rattle.qh_model.specs.laws.{CompletenessLaws.PlanesHaveFacets, CoveredPoints.CombinationWithInner, CoveredPoints.CombinationInPlane, FaceLaws.IsAlong}
+use Rattle.qh_model.specs.laws.Separator.{Separator}
+use Rattle.qh_model.proofs.algebra.{Order.mul-pos, Order.mul-nonneg_nonpos, Order.le_antisym, Ring.ring, Ring.Expr.var, Ring.Expr.con, Ring.Expr.add}
+use Rattle.qh_model.proofs.algebra.{Ring.Expr.sub as less, Ring.Expr.mul, Signs.less_differ, Signs.equal_le, Signs.no_sum}
 use Rattle.qh_model.proofs.algebra.VectorIdentities.{vec, dotE, crossE, subE, put, VE, vol-first, in_line-vol, in_line-twice, vol-flip_last}
-use Rattle.qh_model.proofs.algebra.Signs.{less_differ, equal_le, no_sum, zeros_not_negative}
-use Rattle.qh_model.proofs.algebra.Ring.Expr.{var, con, add, sub as less, mul}
-use Rattle.qh_model.proofs.extremes.ExtremeIds.{listed_itself, listed_part, apart, alternative_in}
 use Rattle.qh_model.proofs.extremes.Directions.{at_least_along, normal_along, from_plane, vol_along, zero_along, square-positive}
-use Rattle.qh_model.proofs.surfaces.{Facets.corner_test, Simplex.middle_is_below, SurfaceLaws.rise_is_vol, Closed.inner_area}
+use Rattle.qh_model.proofs.extremes.ExtremeIds.{listed_itself, listed_part, apart, alternative_in}
+use Rattle.qh_model.proofs.surfaces.{Closed.inner_area, Combinations.settled_is_combination, Combinations.level_is_combination}
 use Rattle.qh_model.proofs.surfaces.Determinants.{QE, aboveE, dot-together, above-together}
-use Rattle.qh_model.proofs.surfaces.Combinations.{settled_is_combination, level_is_combination}
-
--- ---- linear facts
--- whole numbers below L, four times, against a number between
-far_below : (h d L : ℤ) → h ≡ pos 4 *ℤ d +ℤ (pos 1 -ℤ pos 4 *ℤ L) → d <ℤ L → (h +ℤ pos 3) ≤ℤ pos 0
-far_below h d L e l = omega (arith, ints)
-
--- one far below and three at most just beyond
-one_far_below : (x a b c d : ℤ) → x ≡ a +ℤ b +ℤ c +ℤ d → ((a +ℤ pos 3) ≤ℤ pos 0) ⊎ ((b +ℤ pos 3) ≤ℤ pos 0)
-    → a ≤ℤ pos 1 → b ≤ℤ pos 1 → c ≤ℤ pos 1 → d ≤ℤ pos 1 → x ≤ℤ pos 0
-one_far_below x a b c d e (inl f) h i j k = omega (arith, ints)
-one_far_below x a b c d e (inr f) h i j k = omega (arith, ints)
+use Rattle.qh_model.proofs.surfaces.{Facets.corner_test, Simplex.middle_is_below, SurfaceLaws.rise_is_vol}
 
 -- ---- an extreme id is separated from the others
 separated : (at : ℕ → Vector) (ids : List ℕ) (l : ℕ) → Extreme at (Members ids) l → Separator at (Others (Members ids) l) (at l)
@@ -110,7 +96,7 @@ module _ (at : ℕ → Vector) (ids : List ℕ) (m : Surface) (z : IsFinished at
       own = let h = height_is l in omega (arith, ints, h)
 
       low : (j : ℕ) → Members ids j → j ≢ l → (height j +ℤ pos 3) ≤ℤ pos 0
-      low j h n = far_below (height j) (dot e.w (at j)) (dot e.w (at l)) (height_is j) (e.past j (h, n))
+      low j h n = omega (arith, ints, height_is j, e.past j (h, n))
 
       at_most : (j : ℕ) → Members ids j → height j ≤ℤ pos 1
       at_most j h = either (ℕ_discrete j l)
@@ -131,10 +117,8 @@ module _ (at : ℕ → Vector) (ids : List ℕ) (m : Surface) (z : IsFinished at
 
       middle_low : weighted_dot n o ≤ℤ pos 0
       middle_low =
-          one_far_below (weighted_dot n o) (height z.s) (height z.t) (height z.u) (height z.v)
-          (dot-together n (P z.s) (P z.t) (P z.u) (P z.v))
-          (one_low (ℕ_discrete z.s l) (ℕ_discrete z.t l))
-          (at_most z.s z.has_s) (at_most z.t z.has_t) (at_most z.u z.has_u) (at_most z.v z.has_v)
+          let sum = dot-together n (P z.s) (P z.t) (P z.u) (P z.v) in let low = one_low (ℕ_discrete z.s l) (ℕ_discrete z.t l) in
+          omega (arith, ints, at_most z.s z.has_s, at_most z.t z.has_t, at_most z.u z.has_u, at_most z.v z.has_v)
 
       decide : IsCorner m q.f l ⊎ (¬ (IsCorner m q.f l)) → IsCorner m q.f l
       decide (inl c) = c
@@ -225,8 +209,8 @@ module _ (at : ℕ → Vector) (ids : List ℕ) (m : Surface) (z : IsFinished at
     -- no two planes that support the set are opposite
     not_opposite : IsAlong (cross (at i) (at j) (at k)) (cross (at a) (at c) (at b)) → ⊥
     not_opposite h =
-        zeros_not_negative _ _ _ _ _ (above-together (P i) (P j) (P k) (P z.s) (P z.t) (P z.u) (P z.v))
-        (middle_below i j k t) (level z.s z.has_s) (level z.t z.has_t) (level z.u z.has_u) (level z.v z.has_v)
+        let sum = above-together (P i) (P j) (P k) (P z.s) (P z.t) (P z.u) (P z.v) in let low = middle_below i j k t in
+        omega (arith, ints, level z.s z.has_s, level z.t z.has_t, level z.u z.has_u, level z.v z.has_v)
       where
         level : (l : ℕ) → Members ids l → above (P i) (P j) (P k) (P l) ≡ pos 0
         level l hl =

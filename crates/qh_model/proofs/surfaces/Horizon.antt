@@ -1,19 +1,15 @@
 -- The horizon: where one side of it ends exactly one begins, and the other way round.
-use Rattle.qh_model.specs.contract.{Rewired.IsHorizonSide, Weighted.Weighted, Weighted.above}
-use Rattle.qh_model.specs.contract.Surface.{Side, Surface, IsWhole, end, rise, start}
-use Rattle.qh_model.specs.contract.SoundSurface.{IsSound, perturbed, towards}
-use Rattle.qh_model.specs.contract.Surface.Side.{first, second, third}
-use Rattle.qh_model.specs.laws.Horizons.{HasHorizonSide}
-use Rattle.qh_model.specs.headline.Sets.{In}
+use Rattle.qh_model.specs.contract.{Rewired.IsHorizonSide, SoundSurface.IsSound, SoundSurface.perturbed, SoundSurface.towards}
+use Rattle.qh_model.specs.contract.Surface.{Side, Surface, IsWhole, end, rise, start, Side.first, Side.second, Side.third}
+use Rattle.qh_model.specs.{contract.Weighted.Weighted, contract.Weighted.above, headline.Sets.In, laws.Horizons.HasHorizonSide}
 use Rattle.std.proofs.Common.{◌≡◌, ◌≢◌, ℕ, zero, suc, ◌+◌, refl, arith, sym, ◌∙◌, subst, inl, inr, List, [], ◌∷◌}
-use native.Mathlib.Decide.{ℕ_discrete}
-use Rattle.std.specs.List.{flat_map}
 use Rattle.std.proofs.lemmas.Int.{by_lt_z}
-use Rattle.std.specs.Prelude.{pos, ◌≤ℤ◌, ◌<ℤ◌}
-use Rattle.qh_model.proofs.algebra.Signs.{less_one_way, opposite_positive}
-use Rattle.qh_model.proofs.lists.{Joined.in_flat_map, Searches.comes_back}
-use Rattle.qh_model.proofs.surfaces.{Facets.corner_start, Facets.ends_differ, PerturbedInwards.Choice, PerturbedInwards.choose, Determinants.swap14}
+use native.Mathlib.Decide.{ℕ_discrete}
+use Rattle.std.specs.{List.flat_map, Prelude.pos, Prelude.◌≤ℤ◌, Prelude.◌<ℤ◌}
+use Rattle.qh_model.proofs.{algebra.Signs.less_one_way, algebra.Signs.opposite_positive, lists.Joined.in_flat_map, lists.Searches.comes_back}
+use Rattle.qh_model.proofs.surfaces.{Determinants.swap14, Facets.corner_start, Facets.ends_differ}
 use Rattle.qh_model.proofs.surfaces.PerturbedHorizon.{Scene, HorizonSide, Joined, horizon_below, horizon_once, horizon_next}
+use Rattle.qh_model.proofs.surfaces.PerturbedInwards.{Choice, choose}
 
 -- ---- and where it starts another ends
 -- a horizon side that ends at u

@@ -1,13 +1,10 @@
 -- A point strictly below all facets of the surface of a part of a set is no extreme point of the set.
 use Rattle.std.proofs.Common.{◌≡◌, ℕ, inl, inr, List, ◌∷◌, refl, sym, subst}
 use Rattle.std.specs.Prelude.{pos, ◌≤ℤ◌, ◌<ℤ◌}
-use Rattle.qh_model.specs.headline.{Vector.Vector, Predicates.vol, Sets.In, Sets.Members, Extreme.Others, Extreme.Extreme}
-use Rattle.qh_model.specs.contract.{Surface.Surface, FinishedSurface.IsFinished}
-use Rattle.qh_model.specs.laws.CompletenessLaws.{IsLiveCorner}
-use Rattle.qh_model.proofs.algebra.VectorIdentities.{vol-first, vol-second, vol-third}
-use Rattle.qh_model.proofs.extremes.ExtremeIds.{combination_within}
-use Rattle.qh_model.proofs.algebra.Signs.{less_differ, less_le}
-use Rattle.qh_model.proofs.surfaces.{Facets.of_corners, Finished.extremes_are_corners}
+use Rattle.qh_model.specs.{contract.FinishedSurface.IsFinished, contract.Surface.Surface, headline.Extreme.Others, headline.Extreme.Extreme}
+use Rattle.qh_model.specs.{headline.Predicates.vol, headline.Sets.In, headline.Sets.Members, headline.Vector.Vector, laws.CompletenessLaws.IsLiveCorner}
+use Rattle.qh_model.proofs.algebra.{Signs.less_differ, Signs.less_le, VectorIdentities.vol-first, VectorIdentities.vol-second, VectorIdentities.vol-third}
+use Rattle.qh_model.proofs.{extremes.ExtremeIds.combination_within, surfaces.Facets.of_corners, surfaces.Finished.extremes_are_corners}
 
 module _ (at : ℕ → Vector) (part : List ℕ) (m : Surface) (z : IsFinished at part m) (l : ℕ)
     (below : (f : ℕ) → In f m.live → vol (at (m.i f)) (at (m.j f)) (at (m.k f)) (at l) <ℤ pos 0) where

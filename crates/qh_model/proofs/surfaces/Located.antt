@@ -1,19 +1,15 @@
 -- Each point lies over one facet, seen from the inner point: so what no facet sees is a mix of corners and the inner point.
-use Rattle.qh_model.specs.headline.Sets.{In}
-use Rattle.qh_model.specs.contract.Surface.{Side, Surface, IsWhole, end, rise, start, rest}
-use Rattle.qh_model.specs.steps.FarCorners.{far}
 use Rattle.qh_model.specs.contract.SoundSurface.{IsSound, IsStrict, perturbed, towards}
-use Rattle.qh_model.specs.contract.Weighted.{Weighted, weighted_dot, above}
-use Rattle.qh_model.specs.contract.Surface.Side.{first, second, third}
+use Rattle.qh_model.specs.contract.Surface.{Side, Surface, IsWhole, end, rise, start, rest, Side.first, Side.second, Side.third}
+use Rattle.qh_model.specs.{contract.Weighted.Weighted, contract.Weighted.weighted_dot, contract.Weighted.above, headline.Sets.In, steps.FarCorners.far}
 use Rattle.std.proofs.Common.{◌∙◌, ◌≡◌, ℕ, suc, refl, [], ◌∷◌, arith, sym, subst, ◌⊎◌, inl, inr, true}
 use Rattle.std.proofs.lemmas.Int.{ints, by_lt_z}
 use Rattle.std.specs.Prelude.{ℤ, pos, ◌+ℤ◌, ◌-ℤ◌, ◌*ℤ◌, neg_ℤ, ◌≤ℤ◌, ◌<ℤ◌}
-use Rattle.qh_model.proofs.algebra.{Integers.neg_mul, Ring.ring}
-use Rattle.qh_model.proofs.algebra.Order.{mul-pos, cancel-nonpos, mul-pos_neg, neg-positive, neg-nonneg}
-use Rattle.qh_model.proofs.algebra.Ring.Expr.{var, sub as less, mul, neg}
-use Rattle.qh_model.proofs.surfaces.{VisibleFacets.Least, VisibleFacets.least, VisibleFacets.crosses, Facets.side_rise, Facets.rise_side}
-use Rattle.qh_model.proofs.surfaces.{Facets.rise_over, Facets.bends, PerturbedInwards.towardsE, PerturbedInwards.cube, CramersRule.cramer}
+use Rattle.qh_model.proofs.algebra.{Integers.neg_mul, Order.mul-pos, Order.cancel-nonpos, Order.mul-pos_neg, Order.neg-positive, Order.neg-nonneg, Ring.ring}
+use Rattle.qh_model.proofs.{algebra.Ring.Expr.var, algebra.Ring.Expr.sub as less, algebra.Ring.Expr.mul, algebra.Ring.Expr.neg, surfaces.CramersRule.cramer}
 use Rattle.qh_model.proofs.surfaces.Determinants.{above_of, quad, aboveE, put4, above-turn}
+use Rattle.qh_model.proofs.surfaces.{Facets.side_rise, Facets.rise_side, Facets.rise_over, Facets.bends, PerturbedInwards.towardsE, PerturbedInwards.cube}
+use Rattle.qh_model.proofs.surfaces.VisibleFacets.{Least, least, crosses}
 
 -- the facet over which x lies: x is beyond none of the planes through o and a side
 pub record Located (m : Surface) (home : ℕ → Weighted) (o x : Weighted) : Type 0 where

@@ -1,20 +1,16 @@
 -- A surface with other names of its corners: where they tell the corners apart and have their points, it is as
 -- sound as before, and as finished. So a surface over positions in a list of points is one over their ids.
-use Rattle.std.proofs.Common.{◌≡◌, ℕ, zero, suc, ◌+◌, ◌/◌, ◌%◌, ◌<◌, refl, sym, ap, subst, ◌∙◌, inl, inr}
-use Rattle.std.proofs.Common.{List, [], ◌∷◌, length, map, true, false, cond, slice_index}
-use Rattle.std.proofs.lemmas.{Bool.both_ways, List.get_or-map}
-use Rattle.std.specs.Prelude.{pos, ◌<ℤ◌, ◌≤ℤ◌}
-use Rattle.std.specs.List.{range_with_len}
-use Rattle.qh_model.specs.headline.{Vector.Vector, Vector.origin, Predicates.place, Predicates.vol, Sets.In, Sets.Once, Text.vertex_number}
-use Rattle.qh_model.specs.contract.{Weighted.Weighted, Weighted.weighted, Weighted.middle_of, Weighted.above, Simplex.one_of}
-use Rattle.qh_model.specs.contract.{Simplex.by_side, FinishedSurface.weighted_at, FinishedSurface.middle_at, FinishedSurface.IsFinished}
-use Rattle.qh_model.specs.contract.Surface.{Side, Surface, start, end, IsCorner, HasTwin, IsWhole, rise}
+use Rattle.std.proofs.Common.{◌≡◌, ℕ, zero, suc, ◌+◌, ◌/◌, ◌%◌, ◌<◌, refl, sym, ap, subst, ◌∙◌, inl, inr, List, [], ◌∷◌, length, map, true, false, cond}
+use Rattle.std.proofs.{Common.slice_index, lemmas.Bool.both_ways, lemmas.List.get_or-map}
+use Rattle.std.specs.{List.range_with_len, Prelude.pos, Prelude.◌<ℤ◌, Prelude.◌≤ℤ◌}
+use Rattle.qh_model.specs.contract.{FinishedSurface.weighted_at, FinishedSurface.middle_at, FinishedSurface.IsFinished, Simplex.one_of, Simplex.by_side}
 use Rattle.qh_model.specs.contract.SoundSurface.{IsStrict, HasDistinctFacets, IsSound, towards, perturbed}
 use Rattle.qh_model.specs.contract.StoredSurface.{StoredFacet, named_facet, facet_at, live_from, surface_of}
-use Rattle.qh_model.specs.contract.Surface.Side.{first, second, third}
+use Rattle.qh_model.specs.contract.Surface.{Side, Surface, start, end, IsCorner, HasTwin, IsWhole, rise, Side.first, Side.second, Side.third}
+use Rattle.qh_model.specs.contract.Weighted.{Weighted, weighted, middle_of, above}
+use Rattle.qh_model.specs.headline.{Predicates.place, Predicates.vol, Sets.In, Sets.Once, Text.vertex_number, Vector.Vector, Vector.origin}
 use Rattle.qh_model.proofs.lists.{Images.in_map, Images.of_map, Ranges.range_below, Ranges.range_named}
-use Rattle.qh_model.proofs.renamed.Positions.{number_at}
-use Rattle.qh_model.proofs.surfaces.Stored.{live_is_marked}
+use Rattle.qh_model.proofs.{renamed.Positions.number_at, surfaces.Stored.live_is_marked}
 
 -- m' is m with the names of its corners
 pub record IsNamed (m m' : Surface) (name : ℕ → ℕ) : Type 0 where

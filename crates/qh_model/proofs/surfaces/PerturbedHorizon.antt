@@ -1,23 +1,18 @@
 -- The horizon at perturbed places: where one of its sides ends exactly one begins.
-use Rattle.qh_model.specs.contract.{SoundSurface.IsSound, SoundSurface.IsStrict, Weighted.Weighted, Weighted.above}
+use Rattle.qh_model.specs.contract.SoundSurface.{IsSound, IsStrict}
 use Rattle.qh_model.specs.contract.Surface.{IsCorner, Side, Surface, HasTwin, IsWhole, end, rise, start, rest}
-use Rattle.qh_model.specs.steps.FarCorners.{far}
-use Rattle.qh_model.specs.headline.Sets.{In}
+use Rattle.qh_model.specs.{contract.Weighted.Weighted, contract.Weighted.above, headline.Sets.In, steps.FarCorners.far}
 use Rattle.std.proofs.Common.{◌≡◌, ◌≢◌, ℕ, refl, [], ◌∷◌, ap, sym, ◌∙◌, subst, ◌⊎◌, inl, inr, Bool, true, false}
-use native.Mathlib.Decide.{ℕ_discrete}
 use Rattle.std.proofs.lemmas.Bool.{and_parts}
+use native.Mathlib.Decide.{ℕ_discrete}
 use Rattle.std.specs.Prelude.{ℤ, pos, ◌-ℤ◌, ◌*ℤ◌, neg_ℤ, ◌<ℤ◌, ◌&&◌}
-use Rattle.qh_model.proofs.algebra.{Order.mul-neg_neg, Order.neg-positive, Ring.ring}
+use Rattle.qh_model.proofs.algebra.{Order.mul-neg_neg, Order.neg-positive, Ring.ring, Ring.Expr.var, Ring.Expr.sub as less, Ring.Expr.mul, Ring.Expr.neg}
 use Rattle.qh_model.proofs.algebra.Signs.{less_one_way, equal_negative, opposite_positive, opposite_negative}
-use Rattle.qh_model.proofs.algebra.Ring.Expr.{var, sub as less, mul, neg}
-use Rattle.qh_model.proofs.surfaces.{VisibleFacets.Least, VisibleFacets.least, PlanesThroughLine.line_product}
-use Rattle.qh_model.proofs.surfaces.ConePlanes.{Old, apex_rise}
-use Rattle.qh_model.proofs.surfaces.{KeptSound.edge_once, KeptSound.side_once}
-use Rattle.qh_model.proofs.surfaces.ConePlanes.{corner_below_cone}
-use Rattle.qh_model.proofs.surfaces.Facets.{rise_over, corner_end, corner_rest, corner_test, ends_differ, rest_differs}
-use Rattle.qh_model.proofs.surfaces.Connected.{positive, positive-is, positive-true}
+use Rattle.qh_model.proofs.surfaces.{ConePlanes.Old, ConePlanes.apex_rise, ConePlanes.corner_below_cone, Connected.positive, Connected.positive-is}
+use Rattle.qh_model.proofs.surfaces.{Connected.positive-true, Determinants.above-turn, Determinants.swap24, Determinants.turned_first}
 use Rattle.qh_model.proofs.surfaces.FacetSides.{side_next, start_next, end_next, from, from_is}
-use Rattle.qh_model.proofs.surfaces.Determinants.{above-turn, swap24, turned_first}
+use Rattle.qh_model.proofs.surfaces.Facets.{rise_over, corner_end, corner_rest, corner_test, ends_differ, rest_differs}
+use Rattle.qh_model.proofs.surfaces.{KeptSound.edge_once, KeptSound.side_once, PlanesThroughLine.line_product, VisibleFacets.Least, VisibleFacets.least}
 
 -- ---- at perturbed places: every facet sees top or is seen to be above it
 pub record Scene (m : Surface) (home : ℕ → Weighted) (o : Weighted) : Type 0 where

@@ -1,12 +1,11 @@
 -- Corners perturbed a very little towards an inner point, each by its own share: what was level is then strictly below.
-use Rattle.qh_model.specs.headline.Sets.{In}
-use Rattle.qh_model.specs.contract.{Surface.Surface, Surface.rise, Weighted.Weighted, Weighted.above}
-use Rattle.qh_model.specs.contract.SoundSurface.{IsInner, perturbed, towards}
+use Rattle.qh_model.specs.contract.{SoundSurface.IsInner, SoundSurface.perturbed, SoundSurface.towards, Surface.Surface, Surface.rise, Weighted.Weighted}
+use Rattle.qh_model.specs.{contract.Weighted.above, headline.Sets.In}
 use Rattle.std.proofs.Common.{◌≡◌, ℕ, zero, suc, ◌+◌, ◌≤◌, refl, List, [], ◌∷◌, arith, sym, subst, ◌⊎◌, inl, inr}
 use Rattle.std.proofs.lemmas.Int.{ints}
 use Rattle.std.specs.Prelude.{ℤ, pos, negsuc, ◌+ℤ◌, ◌-ℤ◌, ◌*ℤ◌, neg_ℤ, ◌≤ℤ◌, ◌<ℤ◌}
-use Rattle.qh_model.proofs.algebra.{Ring.Expr, Ring.ring, Order.mul-nonneg, Order.mul-nonneg_nonpos, Order.mul-pos, Order.mul-pos_neg}
-use Rattle.qh_model.proofs.algebra.Ring.Expr.{var, con, add, sub as less, mul}
+use Rattle.qh_model.proofs.algebra.Order.{mul-nonneg, mul-nonneg_nonpos, mul-pos, mul-pos_neg}
+use Rattle.qh_model.proofs.algebra.Ring.{Expr, ring, Expr.var, Expr.con, Expr.add, Expr.sub as less, Expr.mul}
 use Rattle.qh_model.proofs.surfaces.Determinants.{above_of, quad, QE, aboveE, put4}
 
 -- what the shares add

@@ -1,10 +1,8 @@
 -- The product laws of `above`: of planes through one line, and of a point over its coordinates.
 use Rattle.qh_model.specs.contract.Weighted.{Weighted, above}
-use Rattle.std.proofs.Common.{◌≡◌, ℕ, refl, [], ◌∷◌, arith, ap, ◌∙◌}
-use Rattle.std.proofs.lemmas.Int.{ints}
+use Rattle.std.proofs.{Common.◌≡◌, Common.ℕ, Common.refl, Common.[], Common.◌∷◌, Common.arith, Common.ap, Common.◌∙◌, lemmas.Int.ints}
 use Rattle.std.specs.Prelude.{ℤ, pos, ◌+ℤ◌, ◌-ℤ◌, ◌*ℤ◌}
-use Rattle.qh_model.proofs.algebra.{Ring.Expr, Ring.ring, Ring.ring_zero, Integers.zero_mul}
-use Rattle.qh_model.proofs.algebra.Ring.Expr.{var, add, sub as less, mul}
+use Rattle.qh_model.proofs.algebra.{Integers.zero_mul, Ring.Expr, Ring.ring, Ring.ring_zero, Ring.Expr.var, Ring.Expr.add, Ring.Expr.sub as less, Ring.Expr.mul}
 use Rattle.qh_model.proofs.surfaces.Determinants.{above_of, quad, QE, put4}
 
 -- the six coordinates of a line

@@ -1,14 +1,10 @@
 -- The cone's twins, told by the horizon's ends alone, make a whole surface again.
-use Rattle.qh_model.specs.contract.{SoundSurface.IsSound, Weighted.Weighted}
-use Rattle.qh_model.specs.contract.Rewired.{IsHorizonSide, LinksTo, IsRewired, KeepsCorners}
-use Rattle.qh_model.specs.contract.Surface.{Side, Surface, HasTwin, IsWhole, end, rise, start}
-use Rattle.qh_model.specs.headline.Sets.{In}
-use Rattle.std.proofs.Common.{◌≡◌, ℕ, ap, sym, ◌∙◌, subst, ◌⊎◌, inl, inr}
-use Rattle.std.proofs.lemmas.Int.{by_lt_z}
+use Rattle.qh_model.specs.contract.{Rewired.IsHorizonSide, Rewired.LinksTo, Rewired.IsRewired, Rewired.KeepsCorners, SoundSurface.IsSound}
+use Rattle.qh_model.specs.contract.Surface.{Side, Surface, HasTwin, IsWhole, end, rise, start, Side.first, Side.second, Side.third}
+use Rattle.qh_model.specs.{contract.Weighted.Weighted, headline.Sets.In}
+use Rattle.std.proofs.{Common.◌≡◌, Common.ℕ, Common.ap, Common.sym, Common.◌∙◌, Common.subst, Common.◌⊎◌, Common.inl, Common.inr, lemmas.Int.by_lt_z}
 use Rattle.std.specs.Prelude.{pos, ◌≤ℤ◌, ◌<ℤ◌}
-use Rattle.qh_model.specs.contract.Surface.Side.{first, second, third}
-use Rattle.qh_model.proofs.surfaces.{Cone.KeptOf, Cone.ConeOf, Cone.Replaced, Horizon.edge_next, Horizon.edge_prev}
-use Rattle.qh_model.proofs.surfaces.KeptSound.{side_once, sound_kept}
+use Rattle.qh_model.proofs.surfaces.{Cone.KeptOf, Cone.ConeOf, Cone.Replaced, Horizon.edge_next, Horizon.edge_prev, KeptSound.side_once, KeptSound.sound_kept}
 
 -- a kept facet's sides start as before
 same_start : (m m' : Surface) (f : ℕ) → KeepsCorners m m' f → (s : Side) → start m' f s ≡ start m f s

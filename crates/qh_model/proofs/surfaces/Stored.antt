@@ -1,20 +1,9 @@
 -- The live facets of a stored surface.
-use Rattle.qh_model.specs.headline.Sets.{In, Once}
 use Rattle.qh_model.specs.contract.StoredSurface.{StoredFacet, facet_at, live_from, no_facet}
-use Rattle.qh_model.specs.laws.LiveFacets.{LiveIsMarked, LiveIsListedOnce}
-use Rattle.std.proofs.Common.{◌≡◌, ℕ, zero, suc, ◌+◌, ◌<◌, ◌≤◌, length, ap, refl, sym, ◌∙◌, subst, arith, List, [], ◌∷◌, inl, inr, Bool}
-use Rattle.std.proofs.Common.{true, false, cond}
-use Rattle.std.proofs.lemmas.{Bool.both_ways, Bool.cases_lt, List.get_or_past}
-use Rattle.std.proofs.lemmas.List.Sums.{sum_by-cons}
+use Rattle.qh_model.specs.{headline.Sets.In, headline.Sets.Once, laws.LiveFacets.LiveIsMarked, laws.LiveFacets.LiveIsListedOnce}
+use Rattle.std.proofs.Common.{◌≡◌, ℕ, zero, suc, ◌+◌, ◌<◌, ◌≤◌, length, ap, refl, sym, ◌∙◌, subst, arith, List, [], ◌∷◌, inl, inr, Bool, true, false, cond}
+use Rattle.std.proofs.lemmas.{Bool.both_ways, Bool.cases_lt, List.get_or_past, List.Sums.sum_by-cons}
 use Rattle.std.specs.Prelude.{count_by}
-
--- counting goes on
-shift : (n k : ℕ) → n + 1 + k ≡ n + suc k
-shift n k = omega arith
-
--- from the number itself
-none_after : (n : ℕ) → n + zero ≡ n
-none_after n = omega arith
 
 -- g is the live facet k places on from n
 abbrev IsMarked : ℕ → List StoredFacet → ℕ → Type 0
@@ -27,31 +16,27 @@ marked_of n (f ∷ fs) g i = split f.live refl i (marked_of (n + 1) fs g)
   where
     split : (b : Bool) → f.live ≡ b → In g (cond b (n ∷ live_from (n + 1) fs) (live_from (n + 1) fs))
         → (In g (live_from (n + 1) fs) → IsMarked (n + 1) fs g) → IsMarked n (f ∷ fs) g
-    split true e (inl q) later = (zero, q ∙ sym (none_after n), e)
-    split true e (inr j) later = let r = later j in (suc r.0, r.1 ∙ shift n r.0, r.2)
-    split false e j later = let r = later j in (suc r.0, r.1 ∙ shift n r.0, r.2)
+    split true e (inl q) later = (zero, q ∙ sym (omega arith), e)
+    split true e (inr j) later = let r = later j in (suc r.0, r.1 ∙ (omega arith), r.2)
+    split false e j later = let r = later j in (suc r.0, r.1 ∙ (omega arith), r.2)
 
 -- a marked place has a live number
 live_of : (n : ℕ) (fs : List StoredFacet) (k : ℕ) → (facet_at fs k).live ≡ true → In (n + k) (live_from n fs)
 live_of n [] k e = absurd (both_ways false refl e)
 live_of n (f ∷ fs) zero e =
-    subst (λ b. In (n + zero) (cond b (n ∷ live_from (n + 1) fs) (live_from (n + 1) fs))) (sym e) (inl (none_after n))
-live_of n (f ∷ fs) (suc k) e = more f.live (subst (λ g. In g (live_from (n + 1) fs)) (shift n k) (live_of (n + 1) fs k e))
+    subst (λ b. In (n + zero) (cond b (n ∷ live_from (n + 1) fs) (live_from (n + 1) fs))) (sym e) (inl (omega arith))
+live_of n (f ∷ fs) (suc k) e = more f.live (subst (λ g. In g (live_from (n + 1) fs)) (omega arith) (live_of (n + 1) fs k e))
   where
     more : (b : Bool) → In (n + suc k) (live_from (n + 1) fs) → In (n + suc k) (cond b (n ∷ live_from (n + 1) fs) (live_from (n + 1) fs))
     more true j = inr j
     more false j = j
 
--- nothing before
-none_before : (k : ℕ) → 0 + k ≡ k
-none_before k = omega arith
-
 -- the law
 pub live_is_marked : LiveIsMarked
-live_is_marked fs f = (λ i. to (marked_of 0 fs f i), λ e. subst (λ g. In g (live_from 0 fs)) (none_before f) (live_of 0 fs f e))
+live_is_marked fs f = (λ i. to (marked_of 0 fs f i), λ e. subst (λ g. In g (live_from 0 fs)) (omega arith) (live_of 0 fs f e))
   where
     to : (k : ℕ) × (f ≡ 0 + k) × ((facet_at fs k).live ≡ true) → (facet_at fs f).live ≡ true
-    to (k, e, q) = subst (λ g. (facet_at fs g).live ≡ true) (sym (e ∙ none_before k)) q
+    to (k, e, q) = subst (λ g. (facet_at fs g).live ≡ true) (sym (e ∙ (omega arith))) q
 
 -- a facet of the surface is live
 pub live_in : (fs : List StoredFacet) (f : ℕ) → In f (live_from 0 fs) → (facet_at fs f).live ≡ true

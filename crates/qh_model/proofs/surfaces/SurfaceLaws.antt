@@ -1,15 +1,12 @@
 -- The laws, from their proofs.
-use Rattle.qh_model.specs.laws.SurfaceLaws.{CornersAreSettled, AddedIsSettled, RiseIsVol, WalkFindsAll, SettledStayUnseen, HorizonGoesOn}
-use Rattle.qh_model.specs.laws.SurfaceLaws.{HorizonIsKnown}
-use Rattle.qh_model.specs.contract.{Weighted.above, Surface.rise}
+use Rattle.qh_model.specs.{contract.Surface.rise, contract.Weighted.above, headline.Predicates.cross, headline.Predicates.vol}
+use Rattle.qh_model.specs.laws.SurfaceLaws.{CornersAreSettled, AddedIsSettled, RiseIsVol, WalkFindsAll, SettledStayUnseen, HorizonGoesOn, HorizonIsKnown}
 use Rattle.std.proofs.Common.{ℕ, refl, [], inl, inr}
 use Rattle.std.specs.Prelude.{pos}
-use Rattle.qh_model.specs.headline.Predicates.{cross, vol}
-use Rattle.qh_model.proofs.algebra.{VectorIdentities.vec, VectorIdentities.volE, VectorIdentities.put, VectorIdentities.VE, Ring.ring}
-use Rattle.qh_model.proofs.algebra.Ring.Expr.{con}
-use Rattle.qh_model.proofs.surfaces.{Determinants.QE, Determinants.aboveE, Unseen.settled_kept, Unseen.apex_settled, Rewired.replaced}
+use Rattle.qh_model.proofs.algebra.{Ring.ring, Ring.Expr.con, VectorIdentities.vec, VectorIdentities.volE, VectorIdentities.put, VectorIdentities.VE}
 use Rattle.qh_model.proofs.surfaces.Connected.{positive-is, positive-true, connected, cert}
-use Rattle.qh_model.proofs.surfaces.Horizon.{edge_next, edge_prev, edge_known_by_start, edge_known_by_end}
+use Rattle.qh_model.proofs.surfaces.{Determinants.QE, Determinants.aboveE, Horizon.edge_next, Horizon.edge_prev, Horizon.edge_known_by_start}
+use Rattle.qh_model.proofs.surfaces.{Horizon.edge_known_by_end, Rewired.replaced, Unseen.settled_kept, Unseen.apex_settled}
 
 -- a point with weight 1, of expressions
 abbrev weightedE : VE → QE

@@ -1,17 +1,13 @@
 -- Points that see a removed facet and none of the cone see nothing; points that see nothing see nothing of the cone.
-use Rattle.qh_model.specs.laws.Horizons.{IsConeUnseen}
-use Rattle.qh_model.specs.headline.Sets.{In}
-use Rattle.qh_model.specs.contract.{SoundSurface.IsSound, Weighted.Weighted}
-use Rattle.qh_model.specs.contract.Surface.{Side, Surface, IsWhole, end, rise, start}
-use Rattle.qh_model.specs.steps.FarCorners.{far}
+use Rattle.qh_model.specs.contract.{SoundSurface.IsSound, Surface.Side, Surface.Surface, Surface.IsWhole, Surface.end, Surface.rise, Surface.start}
+use Rattle.qh_model.specs.{contract.Weighted.Weighted, headline.Sets.In, laws.Horizons.IsConeUnseen, steps.FarCorners.far}
 use Rattle.std.proofs.Common.{◌≡◌, ℕ, refl, sym, ◌∙◌, ◌⊎◌, inl, inr, Bool, true}
-use Rattle.std.proofs.lemmas.{Int.by_lt_z, Bool.and_parts}
+use Rattle.std.proofs.lemmas.{Bool.and_parts, Int.by_lt_z}
 use Rattle.std.specs.Prelude.{pos, ◌≤ℤ◌, ◌<ℤ◌, ◌&&◌}
-use Rattle.qh_model.proofs.surfaces.{Facets.corner_rest, Determinants.above-third}
-use Rattle.qh_model.proofs.surfaces.Connected.{Grown, positive, positive-is, positive-true, sees, connected, cert}
-use Rattle.qh_model.proofs.surfaces.Cone.{KeptOf, ConeOf, Replaced, cone_rise, kept_rise, cone_inside}
-use Rattle.qh_model.proofs.surfaces.ConePlanes.{apex_blind, apex_seen}
 use Rattle.qh_model.proofs.algebra.Signs.{not_less, equal_le, equal_nonpos}
+use Rattle.qh_model.proofs.surfaces.Cone.{KeptOf, ConeOf, Replaced, cone_rise, kept_rise, cone_inside}
+use Rattle.qh_model.proofs.surfaces.{ConePlanes.apex_blind, ConePlanes.apex_seen, Connected.Grown, Connected.positive, Connected.positive-is}
+use Rattle.qh_model.proofs.surfaces.{Connected.positive-true, Connected.sees, Connected.connected, Connected.cert, Determinants.above-third, Facets.corner_rest}
 
 -- THEOREM: then q sees no kept facet, if it saw a removed one
 pub dropped_stay_unseen : (m : Surface) (home : ℕ → Weighted) (o : Weighted) → IsWhole m → IsSound m home o

@@ -1,13 +1,11 @@
 -- The facets that see a point hang together: no group of them is cut off from a first one.
-use Rattle.qh_model.specs.headline.Sets.{In}
-use Rattle.qh_model.specs.contract.Weighted.{Weighted, above, weighted_dot}
+use Rattle.qh_model.specs.{contract.Weighted.Weighted, contract.Weighted.above, contract.Weighted.weighted_dot, headline.Sets.In}
 use Rattle.std.proofs.Common.{◌≡◌, refl, List, [], ◌∷◌, arith, ap, sym, ◌∙◌, Bool, true, false, ◌⊎◌, inl, inr, subst}
 use Rattle.std.proofs.lemmas.Int.{ints, by_lt_z}
 use Rattle.std.specs.Prelude.{ℤ, pos, ◌+ℤ◌, ◌-ℤ◌, ◌*ℤ◌, neg_ℤ, ◌≤ℤ◌, ◌<ℤ◌}
-use Rattle.qh_model.proofs.algebra.{Order.mul-nonneg_nonpos, Order.mul-nonpos, Order.mul-pos, Order.cancel-pos, Order.mul-neg_pos}
-use Rattle.qh_model.proofs.algebra.{Order.neg-positive, Order.product_zero, Order.positive_le, Order.negative_le, Ring.ring, Signs.not_less}
-use Rattle.qh_model.proofs.algebra.Ring.Expr.{var, add, sub as less, mul, neg}
-use Rattle.qh_model.proofs.surfaces.{Determinants.above-turn, Determinants.above-flip, PlanesThroughLine.line_product, CramersRule.cramer}
+use Rattle.qh_model.proofs.algebra.Order.{mul-nonneg_nonpos, mul-nonpos, mul-pos, cancel-pos, mul-neg_pos, neg-positive, product_zero, positive_le, negative_le}
+use Rattle.qh_model.proofs.algebra.{Ring.ring, Ring.Expr.var, Ring.Expr.add, Ring.Expr.sub as less, Ring.Expr.mul, Ring.Expr.neg, Signs.not_less}
+use Rattle.qh_model.proofs.surfaces.{CramersRule.cramer, Determinants.above-turn, Determinants.above-flip, PlanesThroughLine.line_product}
 
 -- three corners
 pub record Corners : Type 0 where

@@ -1,14 +1,9 @@
 -- Decimals as they are written are numbers: what they stand for, and their bytes.
-use Rattle.std.proofs.Common.{◌≡◌, ℕ, zero, suc, ◌+◌, ◌-◌, ◌*◌, ◌/◌, ◌%◌, ◌^◌, ◌<◌, ◌≤◌, ◌==◌, Bool, true, false, cond}
-use Rattle.std.proofs.Common.{refl, List, [], ◌∷◌, length, arith, sym, ap, subst, ◌∙◌, decimal, ne_eqb}
-use Rattle.std.proofs.lemmas.Bool.{le-leb, lt-ltb}
-use Rattle.std.proofs.lemmas.Fmt.{decimal_is_IsNumeral_wide}
-use Rattle.std.proofs.lemmas.Str.{digit_value_digit}
+use Rattle.std.proofs.Common.{◌≡◌, ℕ, zero, suc, ◌+◌, ◌-◌, ◌*◌, ◌/◌, ◌%◌, ◌^◌, ◌<◌, ◌≤◌, ◌==◌, Bool, true, false, cond, refl, List, [], ◌∷◌, length, arith, sym}
+use Rattle.std.proofs.Common.{ap, subst, ◌∙◌, decimal, ne_eqb}
+use Rattle.std.proofs.lemmas.{Bool.le-leb, Bool.lt-ltb, Fmt.decimal_is_IsNumeral_wide, Str.digit_value_digit}
+use Rattle.std.specs.{Char.digit_value, Fmt.digits_onto, Fmt.digits, Fmt.digit_glyph, Fmt.signed_decimal, Int.IsInRange, List.AllByRecursion as Every}
 use Rattle.std.specs.Prelude.{ℤ, pos, negsuc, neg_ℤ, Some, None, option_map, unsigned_abs}
-use Rattle.std.specs.Char.{digit_value}
-use Rattle.std.specs.Fmt.{digits_onto, digits, digit_glyph, signed_decimal}
-use Rattle.std.specs.Int.{IsInRange}
-use Rattle.std.specs.List.{AllByRecursion as Every}
 use Rattle.std.specs.Str.Parse.{digits_value_after}
 use Rattle.qh_model.specs.headline.Numbers.{read_digits, are_digits, magnitude_of, number_of}
 use Rattle.qh_model.proofs.Members.{every_map}

@@ -1,13 +1,10 @@
 -- Joined lines and spaced words, taken apart again.
-use Rattle.std.proofs.Common.{◌≡◌, ℕ, suc, ◌+◌, ◌<◌, ◌==◌, Bool, true, false, cond, refl, List, [], ◌∷◌, ◌++◌, length}
-use Rattle.std.proofs.Common.{map, filter, append_assoc, arith, sym, ap, ◌∙◌, ne_eqb}
-use Rattle.std.proofs.lemmas.List.Splits.{slice_split-cons_yes, slice_split-cons_no}
+use Rattle.std.proofs.Common.{◌≡◌, ℕ, suc, ◌+◌, ◌<◌, ◌==◌, Bool, true, false, cond, refl, List, [], ◌∷◌, ◌++◌, length, map, filter, append_assoc, arith, sym}
+use Rattle.std.proofs.{Common.ap, Common.◌∙◌, Common.ne_eqb, lemmas.List.Splits.slice_split-cons_yes, lemmas.List.Splits.slice_split-cons_no}
 use Rattle.std.specs.List.{AllByRecursion as Every, slice_split, onto_first, flat_map}
+use Rattle.qh_model.specs.headline.{OffFile.before_hash, Text.line}
 use Rattle.qh_model.specs.headline.Words.{Word, is_blank, is_word, lines_of, words_of, on_line, words_from}
-use Rattle.qh_model.specs.headline.OffFile.{before_hash}
-use Rattle.qh_model.specs.headline.Text.{line}
-use Rattle.qh_model.proofs.Members.{every_map}
-use Rattle.qh_model.proofs.texts.Decimals.{IsOfNumber, IsNumberWord}
+use Rattle.qh_model.proofs.{Members.every_map, texts.Decimals.IsOfNumber, texts.Decimals.IsNumberWord}
 
 -- ---- splitting
 module _ (p : ℕ → Bool) where

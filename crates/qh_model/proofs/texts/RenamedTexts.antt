@@ -1,19 +1,10 @@
 -- The text of faces, of the points of the extreme ids, is that of the set.
-use Rattle.std.proofs.Common.{◌≡◌, ℕ, suc, Bool, true, false, cond, refl, List, [], ◌∷◌, ◌++◌, map, sym, ap, ap₂, ◌∙◌}
-use Rattle.std.proofs.Common.{inl, inr, eqb-true, eq-eqb, ne_eqb, get_or, decimal}
-use Rattle.std.proofs.lemmas.Bool.{eqb-false}
-use Rattle.std.proofs.lemmas.List.{length-map, map-append}
-use Rattle.std.proofs.lemmas.List.Folds.{flat_map-map}
-use Rattle.std.specs.Prelude.{◌==◌}
-use Rattle.std.specs.List.{flat_map}
-use Rattle.qh_model.specs.headline.Vector.{Vector}
-use Rattle.qh_model.specs.headline.Predicates.{place}
-use Rattle.qh_model.specs.headline.Sets.{In, Members}
-use Rattle.qh_model.specs.headline.Fan.{triangles_along, fan, fans}
-use Rattle.qh_model.specs.headline.Hull.{BodyValue}
-use Rattle.qh_model.specs.headline.Text.{line, spaced, vertex_number, vertex_text, face_text, off_text}
-use Rattle.qh_model.proofs.renamed.Lists.{AreWithin}
-use Rattle.qh_model.proofs.renamed.Bodies.{renamed_body}
+use Rattle.std.proofs.Common.{◌≡◌, ℕ, suc, Bool, true, false, cond, refl, List, [], ◌∷◌, ◌++◌, map, sym, ap, ap₂, ◌∙◌, inl, inr, eqb-true, eq-eqb, ne_eqb}
+use Rattle.std.proofs.{Common.get_or, Common.decimal, lemmas.Bool.eqb-false, lemmas.List.length-map, lemmas.List.map-append, lemmas.List.Folds.flat_map-map}
+use Rattle.std.specs.{List.flat_map, Prelude.◌==◌}
+use Rattle.qh_model.specs.headline.{Fan.triangles_along, Fan.fan, Fan.fans, Hull.BodyValue, Predicates.place, Sets.In, Sets.Members, Text.line, Text.spaced}
+use Rattle.qh_model.specs.headline.{Text.vertex_number, Text.vertex_text, Text.face_text, Text.off_text, Vector.Vector}
+use Rattle.qh_model.proofs.renamed.{Bodies.renamed_body, Lists.AreWithin}
 use Rattle.qh_model.proofs.renamed.Positions.{vertex_numbers, points_of, at_number, point_at}
 
 -- texts that are the same for each member are the same joined

@@ -1,33 +1,18 @@
 -- What is written as an OFF file is read as the extreme points, which are written as the same bytes.
 use Rattle.std.proofs.Common.{◌≡◌, ℕ, ◌≤◌, List, [], ◌∷◌, ◌++◌, length, map, sym, ap, subst, ◌∙◌}
-use Rattle.std.proofs.lemmas.List.{length-map, append-nil}
-use Rattle.std.proofs.lemmas.List.Folds.{flat_map-map}
+use Rattle.std.proofs.lemmas.List.{length-map, append-nil, Folds.flat_map-map}
 use Rattle.std.specs.List.{flat_map}
-use Rattle.qh_model.specs.declared.limits.TheConstants.{BYTE_LIMIT}
-use Rattle.qh_model.specs.declared.out.Out.{Out}
+use Rattle.qh_model.specs.declared.{limits.TheConstants.BYTE_LIMIT, out.Out.Out}
 use Rattle.qh_model.specs.declared.out.Out.TheVariants.{Rank, Summary, Fx, Off, OffTriangles}
-use Rattle.qh_model.specs.headline.Vector.{Vector}
-use Rattle.qh_model.specs.headline.Predicates.{place}
-use Rattle.qh_model.specs.headline.Sets.{Members}
-use Rattle.qh_model.specs.headline.OffFile.{ReadsOff}
-use Rattle.qh_model.specs.headline.Fan.{fan, fans, edge_count}
-use Rattle.qh_model.specs.headline.Extreme.{Extreme}
-use Rattle.qh_model.specs.headline.Hull.{BodyValue, HullValue, IsHull}
-use Rattle.qh_model.specs.headline.Text.{vertex_text, vertex_number, face_text, off_text, in_triangles, output_text, hull_text}
+use Rattle.qh_model.specs.headline.{Extreme.Extreme, Fan.fan, Fan.fans, Fan.edge_count, Hull.BodyValue, Hull.HullValue, Hull.IsHull, OffFile.ReadsOff}
+use Rattle.qh_model.specs.headline.{Predicates.place, Sets.Members, Text.vertex_text, Text.vertex_number, Text.face_text, Text.off_text, Text.in_triangles}
+use Rattle.qh_model.specs.headline.{Text.output_text, Text.hull_text, Vector.Vector}
 use Rattle.qh_model.specs.laws.RoundTrip.{CanBeRead, IsOffOutput, extreme_points, IsReadAsExtremePoints, ExtremePointsHaveText, IsWrittenAgain}
-use Rattle.qh_model.proofs.DistinctIds.{distinct_apart}
-use Rattle.qh_model.proofs.lists.Joined.{of_flat_map}
-use Rattle.qh_model.proofs.polygons.EdgeCounts.{edges_are_counted}
-use Rattle.qh_model.proofs.polygons.Fans.{fan_members}
-use Rattle.qh_model.proofs.hulls.Unique.{edge_count_is_unique, hull_is_unique}
-use Rattle.qh_model.proofs.hulls.OfExtremes.{body_of_extremes}
-use Rattle.qh_model.proofs.hulls.ExtremePoints.{extreme_points_can_be_read}
-use Rattle.qh_model.proofs.renamed.Bodies.{polygon_members, renamed_body}
-use Rattle.qh_model.proofs.renamed.Edges.{edge_count_renamed}
-use Rattle.qh_model.proofs.renamed.Lists.{AreWithin}
-use Rattle.qh_model.proofs.renamed.Positions.{points_of, by_position, hull_of_extremes, extreme_points_have_hull}
-use Rattle.qh_model.proofs.texts.OffTexts.{surface_text, reads_surface}
-use Rattle.qh_model.proofs.texts.RenamedTexts.{fans-map, off_text_renamed}
+use Rattle.qh_model.proofs.{DistinctIds.distinct_apart, hulls.ExtremePoints.extreme_points_can_be_read, hulls.OfExtremes.body_of_extremes}
+use Rattle.qh_model.proofs.{hulls.Unique.edge_count_is_unique, hulls.Unique.hull_is_unique, lists.Joined.of_flat_map, polygons.EdgeCounts.edges_are_counted}
+use Rattle.qh_model.proofs.{polygons.Fans.fan_members, renamed.Bodies.polygon_members, renamed.Bodies.renamed_body, renamed.Edges.edge_count_renamed}
+use Rattle.qh_model.proofs.renamed.{Lists.AreWithin, Positions.points_of, Positions.by_position, Positions.hull_of_extremes, Positions.extreme_points_have_hull}
+use Rattle.qh_model.proofs.texts.{OffTexts.surface_text, OffTexts.reads_surface, RenamedTexts.fans-map, RenamedTexts.off_text_renamed}
 
 -- ---- reading
 -- the text of a body's faces, by its vertices

@@ -1,13 +1,10 @@
 -- Where a sink fails, a beginning of the pieces went out.
-use Rattle.std.proofs.Common.{◌≡◌, ◌∙◌, ◌<◌, ◌≤◌, ◌++◌, [], suc, List, length, take, drop, get_or, Vec, Global, Result, Ok, Err}
-use Rattle.std.proofs.Common.{ap, ap₂, sym, subst, append-nil, take_all}
-use Rattle.std.proofs.KnownBytes.{Appends-trans}
-use Rattle.std.proofs.lemmas.Result.{err_from_is_err_and}
-use Rattle.std.specs.Prelude.{ℕ, OnErr}
-use Rattle.std.specs.Io.KnownBytes.{Appends}
+use Rattle.qh_write.proofs.sending.send_pieces.Goals as goal
+use Rattle.std.proofs.Common.{◌≡◌, ◌∙◌, ◌<◌, ◌≤◌, ◌++◌, [], suc, List, length, take, drop, get_or, Vec, Global, Result, Ok, Err, ap, ap₂, sym, subst}
+use Rattle.std.proofs.{Common.append-nil, Common.take_all, KnownBytes.Appends-trans, lemmas.Result.err_from_is_err_and}
+use Rattle.std.specs.{Io.KnownBytes.Appends, Prelude.ℕ, Prelude.OnErr}
 use Rattle.qh_write.specs.contract.Pieces.{bytes_of, bytes_in}
 use Rattle.qh_write.proofs.SendingLemmas.{beginning_after, beginning_kept, piece_among}
-use Rattle.qh_write.proofs.sending.send_pieces.Goals as goal
 
 -- in one of the pieces
 pub returns-in_err-send_all-clause-beginning : goal.returns-in_err-send_all-clause-beginning

@@ -1,8 +1,7 @@
-use Rattle.std.proofs.Common.{◌≡◌, ◌+◌, ◌<◌, arith}
-use Rattle.std.proofs.lemmas.Grind.{common_steps}
+use Rattle.qh_model.proofs.cut.Cut.block.Goals as goal
+use Rattle.std.proofs.{Common.◌≡◌, Common.◌+◌, Common.◌<◌, Common.arith, lemmas.Grind.common_steps}
 use Rattle.qh_model.specs.contract.Cut.{block_count, bound}
 use Rattle.qh_model.proofs.Cuts.{block_ends}
-use Rattle.qh_model.proofs.cut.Cut.block.Goals as goal
 
 -- src/cut.rt:134:5
 pub returns-clause-within : goal.returns-clause-within

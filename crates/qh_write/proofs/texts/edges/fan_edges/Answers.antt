@@ -1,10 +1,9 @@
-use Rattle.std.proofs.Common.{subst, ap, ◌∙◌, length}
+use Rattle.qh_write.proofs.texts.edges.fan_edges.Goals as goal
+use Rattle.std.proofs.{Common.subst, Common.ap, Common.◌∙◌, Common.length, lemmas.List.Filters.dedup_is}
 use Rattle.std.specs.Prelude.{eqb}
-use Rattle.std.proofs.lemmas.List.Filters.{dedup_is}
 use Rattle.qh_model.specs.headline.Fan.{fans}
 use Rattle.qh_write.specs.steps.EdgeKeys.{AddsPairs, pairs_of}
 use Rattle.qh_write.proofs.EdgeKeyLemmas.{edges_by_keys}
-use Rattle.qh_write.proofs.texts.edges.fan_edges.Goals as goal
 
 pub returns : goal.returns
 returns c =

@@ -1,9 +1,8 @@
-use Rattle.std.proofs.Common.{subst}
-use Rattle.std.proofs.lemmas.List.{drop_all}
+use Rattle.qh_write.proofs.texts.edges.push_triangles.Goals as goal
+use Rattle.std.proofs.{Common.subst, lemmas.List.drop_all}
 use Rattle.qh_model.specs.headline.Fan.{triangles_along}
 use Rattle.qh_write.specs.steps.EdgeKeys.{Completes, pairs_of}
 use Rattle.qh_write.proofs.EdgeKeyLemmas.{adds_none, completes_more, triangles_left}
-use Rattle.qh_write.proofs.texts.edges.push_triangles.Goals as goal
 
 pub loop-id-preserved : goal.loop-id-preserved
 loop-id-preserved c =

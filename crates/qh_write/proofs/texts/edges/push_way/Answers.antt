@@ -1,9 +1,8 @@
-use Rattle.std.proofs.Common.{subst}
-use Rattle.std.proofs.lemmas.List.{drop_all}
+use Rattle.qh_write.proofs.texts.edges.push_way.Goals as goal
+use Rattle.std.proofs.{Common.subst, lemmas.List.drop_all}
 use Rattle.qh_model.specs.headline.Fan.{pairs_along}
 use Rattle.qh_write.specs.steps.EdgeKeys.{Completes}
 use Rattle.qh_write.proofs.EdgeKeyLemmas.{completes_more, way_left}
-use Rattle.qh_write.proofs.texts.edges.push_way.Goals as goal
 
 pub loop-id-preserved : goal.loop-id-preserved
 loop-id-preserved c =

@@ -1,10 +1,8 @@
+use Rattle.qh_write.proofs.texts.off.push_numbered.Goals as goal
 use Rattle.std.proofs.Common.{◌≡◌, ◌∙◌, List, ℕ, ap, replicate}
 use Rattle.qh_model.specs.headline.Hull.{BodyValue}
-use Rattle.qh_write.specs.steps.Forms.{shown}
-use Rattle.qh_write.specs.steps.VertexTables.{numbered}
-use Rattle.qh_write.proofs.FormLemmas.{shown_in_order}
-use Rattle.qh_write.proofs.TextLemmas.{grown_by_faces, faces_numbered}
-use Rattle.qh_write.proofs.texts.off.push_numbered.Goals as goal
+use Rattle.qh_write.specs.steps.{Forms.shown, VertexTables.numbered}
+use Rattle.qh_write.proofs.{FormLemmas.shown_in_order, TextLemmas.grown_by_faces, TextLemmas.faces_numbered}
 
 pub push_faces-requires-clause-numbered : goal.push_faces-requires-clause-numbered
 push_faces-requires-clause-numbered g c =

@@ -1,15 +1,10 @@
 -- The parts of the faces in a row are all faces.
-use Rattle.std.proofs.Common.{rules, ◌≡◌, ◌<◌, ◌≤◌, ◌*◌, ◌/◌, ◌+◌, ◌∙◌, ℕ, List, [], length, take, drop, get_or, Result, Vec, Global, arith, ap}
-use Rattle.std.proofs.lemmas.Grind.{flat_map-append}
-use Rattle.std.proofs.lemmas.Result.{on_ok_weaker}
-use Rattle.std.specs.Prelude.{IfOk}
-use Rattle.std.specs.List.{flat_map}
-use Rattle.std.specs.declared.alloc.AllocError.{AllocError}
-use Rattle.qh_write.specs.steps.Forms.{shown}
-use Rattle.qh_write.specs.steps.VertexTables.{face_by_table}
-use Rattle.qh_write.proofs.FormLemmas.{shown_append, shown_none}
-use Rattle.qh_write.proofs.PartLemmas.{parts_of_list}
 use Rattle.qh_write.proofs.texts.scribes.push_faces_in_threads.Goals as goal
+use Rattle.std.proofs.Common.{rules, ◌≡◌, ◌<◌, ◌≤◌, ◌*◌, ◌/◌, ◌+◌, ◌∙◌, ℕ, List, [], length, take, drop, get_or, Result, Vec, Global, arith, ap}
+use Rattle.std.proofs.lemmas.{Grind.flat_map-append, Result.on_ok_weaker}
+use Rattle.std.specs.{List.flat_map, Prelude.IfOk, declared.alloc.AllocError.AllocError}
+use Rattle.qh_write.specs.steps.{Forms.shown, VertexTables.face_by_table}
+use Rattle.qh_write.proofs.{FormLemmas.shown_append, FormLemmas.shown_none, PartLemmas.parts_of_list}
 
 pub returns : goal.returns
 returns g c =

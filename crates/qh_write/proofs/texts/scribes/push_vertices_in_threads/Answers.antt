@@ -1,14 +1,10 @@
 -- The parts of the vertices in a row are all vertices.
-use Rattle.std.proofs.Common.{rules, ◌≡◌, ◌<◌, ◌≤◌, ◌*◌, ◌/◌, ◌+◌, ℕ, List, length, take, drop, get_or, Result, Vec, Global, arith, refl, ap}
-use Rattle.std.proofs.lemmas.Grind.{flat_map-append}
-use Rattle.std.proofs.lemmas.Result.{on_ok_weaker}
-use Rattle.std.specs.Prelude.{IfOk}
-use Rattle.std.specs.List.{flat_map}
-use Rattle.std.specs.declared.alloc.AllocError.{AllocError}
-use Rattle.qh_model.specs.headline.Predicates.{place}
-use Rattle.qh_model.specs.headline.Text.{vertex_text}
-use Rattle.qh_write.proofs.PartLemmas.{parts_of_list}
 use Rattle.qh_write.proofs.texts.scribes.push_vertices_in_threads.Goals as goal
+use Rattle.std.proofs.Common.{rules, ◌≡◌, ◌<◌, ◌≤◌, ◌*◌, ◌/◌, ◌+◌, ℕ, List, length, take, drop, get_or, Result, Vec, Global, arith, refl, ap}
+use Rattle.std.proofs.lemmas.{Grind.flat_map-append, Result.on_ok_weaker}
+use Rattle.std.specs.{List.flat_map, Prelude.IfOk, declared.alloc.AllocError.AllocError}
+use Rattle.qh_model.specs.headline.{Predicates.place, Text.vertex_text}
+use Rattle.qh_write.proofs.PartLemmas.{parts_of_list}
 
 pub returns : goal.returns
 returns g c =
