@@ -4,8 +4,9 @@
     scripts/gate/gate_time.py [ARGUMENT..]        from the top of the repository; the arguments are those of `rt ci`
 
 `rt ci` checks each crate from nothing (proof), once more as the start of its wrong bodies (start) and with its tests
-(tests), and then each wrong body over that start (bodies). What an earlier run passed is not done again: `--anew` does
-all. The script looks twice a second at the processes of the prover that the run started, so that of each up to half a
+(tests), then each wrong body over that start (bodies), and at last the crate itself over it, which is told with the
+start. A crate's only body has no start: it is checked from nothing (alone), as is one over a start that came to no
+result. What an earlier run passed is not done again: `--anew` does all. The script looks twice a second at the processes of the prover that the run started, so that of each up to half a
 second is missed. It prints a line for each crate and part, with the number of bodies tried and the processor seconds,
 and then the sums, and ends with the status of `rt ci`.
 """
@@ -22,7 +23,9 @@ sys.path.insert(0, str(Path(__file__).resolve().parents[1]))
 from lib.usage import names_given  # noqa: E402
 
 TICKS = os.sysconf("SC_CLK_TCK")
-PARTS = ["proof", "start", "tests", "bodies"]
+PARTS = ["proof", "start", "tests", "bodies", "alone"]
+# The parts whose checks are counted.
+COUNTED = {"bodies", "alone"}
 
 
 def read(path):
@@ -56,7 +59,9 @@ def part_of(pid):
         folder = ""
     if not re.search(r"/rt-edit-", folder):
         return crate, "proof", ""
-    over = words[words.index("--incremental") + 1] if "--incremental" in words else "/"
+    if "--incremental" not in words:
+        return crate, "alone", folder
+    over = words[words.index("--incremental") + 1]
     return (crate, "start", "") if over.endswith("/seed") else (crate, "bodies", folder)
 
 
@@ -100,7 +105,7 @@ class Watch:
             bodies.setdefault((crate, part), set()).add(folder)
         for crate in sorted({crate for crate, _ in seconds}):
             for part in [part for part in PARTS if (crate, part) in seconds]:
-                count = f"{len(bodies[crate, part]):5}" if part == "bodies" else " " * 5
+                count = f"{len(bodies[crate, part]):5}" if part in COUNTED else " " * 5
                 print(f"{crate:12} {part:7} {count} {seconds[crate, part]:8.0f} s")
         for part in PARTS:
             print(f"{'all':12} {part:13} {sum(number for (_, of), number in seconds.items() if of == part):8.0f} s")

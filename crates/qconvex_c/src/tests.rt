@@ -1,5 +1,5 @@
 //! Rows with expected values from outside: the lists of Geomview's OFF for a cube and a point.
-use crate::{DONE, Given, NO_POINT, RANGE, ROOM, Sizes, qconvex_fans, qconvex_hull};
+use crate::{DONE, Given, Sizes, qconvex_fans, qconvex_hull};
 use std::alloc::Global;
 use std::test::Fail;
 
@@ -31,79 +31,55 @@ pub(crate) fn cube() -> [Given; 9] {
     ]
 }
 
-/// Returns the code of a call for the hull of the cube into some buffers, and the sizes that it tells.
-fn hull_of_cube(
-    alloc: Global,
-    extremes: &mut [u32],
-    offsets: &mut [usize],
-    corners: &mut [u32],
-) -> (u32, Sizes) {
+/// The extreme points of the cube, and room that is left.
+const EXTREMES: [u32; 9] = [0, 1, 2, 3, 4, 5, 6, 7, 99];
+
+/// Where its faces begin and end, and room that is left.
+const OFFSETS: [usize; 8] = [0, 4, 8, 12, 16, 20, 24, 99];
+
+/// The corners of its faces, and room that is left.
+const CORNERS: [u32; 25] = [
+    0, 1, 3, 2, 0, 2, 6, 4, 0, 4, 5, 1, 1, 5, 7, 3, 2, 3, 7, 6, 4, 6, 7, 5, 99,
+];
+
+/// Returns the sizes of the hull of the cube, and true if its buffers are those that they should be.
+fn hull_of_cube(alloc: Global) -> (Sizes, bool) {
     let mut sizes = no_sizes();
-    let code = qconvex_hull(alloc, &cube(), &mut sizes, extremes, offsets, corners);
-    (code, sizes)
+    let (mut extremes, mut offsets, mut corners) = ([99u32; 9], [99usize; 8], [99u32; 25]);
+    let code = qconvex_hull(
+        alloc,
+        &cube(),
+        &mut sizes,
+        &mut extremes,
+        &mut offsets,
+        &mut corners,
+    );
+    let is_hull = code == DONE
+        && extremes.as_slice() == EXTREMES.as_slice()
+        && offsets.as_slice() == OFFSETS.as_slice()
+        && corners.as_slice() == CORNERS.as_slice();
+    (sizes, is_hull)
 }
 
 #[test]
 fn unit_cube(rt: HostRuntime) -> Result<(), Fail> {
-    let (mut extremes, mut offsets, mut corners) = ([99u32; 9], [99usize; 8], [99u32; 25]);
-    let (code, sizes) = hull_of_cube(rt.alloc(), &mut extremes, &mut offsets, &mut corners);
-    assert_eq!(rt; code, DONE);
+    let (sizes, is_hull) = hull_of_cube(rt.alloc());
+    let text = format!(in rt.alloc(); "{sizes:?} {is_hull}")?;
     assert_eq!(rt;
-        (sizes.points, sizes.distinct, sizes.dimension),
-        (9u32, 8u32, 3u32)
-    );
-    assert_eq!(rt;
-        (sizes.extremes, sizes.faces, sizes.corners),
-        (8usize, 6usize, 24usize)
-    );
-    assert_eq!(rt; sizes.edges, 12u64);
-    assert_eq!(rt;
-        extremes.as_slice(),
-        [0u32, 1, 2, 3, 4, 5, 6, 7, 99].as_slice()
-    );
-    assert_eq!(rt;
-        offsets.as_slice(),
-        [0usize, 4, 8, 12, 16, 20, 24, 99].as_slice()
-    );
-    assert_eq!(rt;
-        corners.as_slice(),
-        [
-            0u32, 1, 3, 2, 0, 2, 6, 4, 0, 4, 5, 1, 1, 5, 7, 3, 2, 3, 7, 6, 4, 6, 7, 5, 99
-        ]
-        .as_slice()
+        text.as_str(),
+        "Sizes { points: 9, distinct: 8, dimension: 3, extremes: 8, faces: 6, corners: 24, edges: 12 } true"
     );
     Ok(())
 }
 
-#[test]
-fn short_buffers(rt: HostRuntime) -> Result<(), Fail> {
-    let (mut extremes, mut offsets, mut corners) = ([99u32; 8], [99usize; 7], [99u32; 23]);
-    let (code, sizes) = hull_of_cube(rt.alloc(), &mut extremes, &mut offsets, &mut corners);
-    assert_eq!(rt; code, ROOM);
-    assert_eq!(rt;
-        (sizes.extremes, sizes.faces, sizes.corners),
-        (8usize, 6usize, 24usize)
-    );
-    assert_eq!(rt; extremes[0], 99u32);
-    Ok(())
-}
+/// The corners of the fans of a pyramid, and room that is left.
+const FANS: [u32; 19] = [0, 1, 4, 0, 3, 2, 0, 2, 1, 0, 4, 3, 1, 2, 4, 2, 3, 4, 99];
 
-#[test]
-fn refused(rt: HostRuntime) -> Result<(), Fail> {
-    let mut sizes = no_sizes();
-    let far = [Given::new(0, 1073741825, 0)];
-    let code = qconvex_hull(rt.alloc(), &far, &mut sizes, &mut [], &mut [], &mut []);
-    assert_eq!(rt; code, RANGE);
-    let code = qconvex_hull(rt.alloc(), &[], &mut sizes, &mut [], &mut [], &mut []);
-    assert_eq!(rt; code, NO_POINT);
-    assert_eq!(rt; sizes.dimension, 9u32);
-    Ok(())
-}
+/// Their normals, and room that is left.
+const NORMALS: [i64; 19] = [0, -2, 0, 0, 0, -4, 0, 0, -4, -2, 0, 0, 2, 0, 4, 0, 2, 4, 99];
 
-#[test]
-fn fans_of_a_pyramid(rt: HostRuntime) -> Result<(), Fail> {
-    let (mut triangles, mut normals) = ([99u32; 19], [99i64; 19]);
-    let mut count = 0usize;
+/// Returns the number of triangles of a pyramid, and true if its buffers are those that they should be.
+fn fans_of_pyramid(alloc: Global) -> (usize, bool) {
     let pyramid = [
         Given::new(0, 0, 0),
         Given::new(2, 0, 0),
@@ -111,28 +87,19 @@ fn fans_of_a_pyramid(rt: HostRuntime) -> Result<(), Fail> {
         Given::new(0, 2, 0),
         Given::new(0, 0, 1),
     ];
-    let code = qconvex_fans(
-        rt.alloc(),
-        &pyramid,
-        &mut count,
-        &mut triangles,
-        &mut normals,
-    );
-    assert_eq!(rt; code, DONE);
-    assert_eq!(rt; count, 6usize);
-    assert_eq!(rt;
-        triangles.as_slice(),
-        [0u32, 1, 4, 0, 3, 2, 0, 2, 1, 0, 4, 3, 1, 2, 4, 2, 3, 4, 99].as_slice()
-    );
-    assert_eq!(rt;
-        normals.as_slice(),
-        [
-            0i64, -2, 0, 0, 0, -4, 0, 0, -4, -2, 0, 0, 2, 0, 4, 0, 2, 4, 99
-        ]
-        .as_slice()
-    );
-    let code = qconvex_fans(rt.alloc(), &pyramid, &mut count, &mut [], &mut normals);
-    assert_eq!(rt; code, ROOM);
+    let mut count = 0usize;
+    let (mut triangles, mut normals) = ([99u32; 19], [99i64; 19]);
+    let code = qconvex_fans(alloc, &pyramid, &mut count, &mut triangles, &mut normals);
+    let are_fans = code == DONE
+        && triangles.as_slice() == FANS.as_slice()
+        && normals.as_slice() == NORMALS.as_slice();
+    (count, are_fans)
+}
+
+#[test]
+fn fans_of_a_pyramid(rt: HostRuntime) -> Result<(), Fail> {
+    let told = fans_of_pyramid(rt.alloc());
+    assert_eq!(rt; told, (6usize, true));
     Ok(())
 }
 

@@ -44,10 +44,15 @@ const TEXTS: [(&[Out], &str); 2] = [
     ),
 ];
 
-/// Asserts the texts of the hull of the point (5, 5, 5), one after the other.
+/// Returns the texts of the hull of the point (5, 5, 5), one after the other.
+fn texts_of_point(alloc: Global, outs: &[Out]) -> Result<Vec<u8>, Memory> {
+    let hull = one_point(alloc)?;
+    text(alloc, &hull, &[Point::new(5, 5, 5)], outs)
+}
+
+/// Asserts the texts of that hull.
 fn assert_texts<R: AllocGlobal + Abort>(rt: &R, outs: &[Out], want: &str) -> Result<(), Fail> {
-    let hull = one_point(rt.alloc())?;
-    let texts = text(rt.alloc(), &hull, &[Point::new(5, 5, 5)], outs)?;
+    let texts = texts_of_point(rt.alloc(), outs)?;
     assert_eq!(rt; texts.as_slice(), want.as_bytes());
     Ok(())
 }

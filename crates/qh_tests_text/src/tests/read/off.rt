@@ -1,4 +1,5 @@
 //! OFF files: whole, from a source, and in pieces.
+use super::threads::assert_read_in_sizes;
 use super::{Place, Way, assert_fault, assert_full, assert_points, read_in_pieces};
 use qh_model::{BYTE_LIMIT, Form, Point};
 use qh_read::fakes::{FailSource, Spaces};
@@ -6,9 +7,10 @@ use qh_read::{MemSource, ReadFault, Reader, read_off, read_off_from};
 use std::alloc::Global;
 use std::process::Abort;
 use std::test::Fail;
+use std::thread::Threads;
 
 /// OFF files with their vertices. Source: the rows of texts, comments and faces that say nothing.
-pub const READ: [(&str, &[Place]); 14] = [
+const READ: [(&str, &[Place]); 14] = [
     ("OFF\n1 1 0\n5 5 5\n1 0\n", &[(5, 5, 5)]),
     ("OFF\n2 1 1\n0 0 0\n2 2 2\n2 0 1\n", &[(0, 0, 0), (2, 2, 2)]),
     (
@@ -67,8 +69,8 @@ pub const REFUSED: [(&str, ReadFault); 28] = [
     ("\u{feff}OFF\n1 0 0\n5 5 5\n", ReadFault::NotOff),
 ];
 
-/// Asserts the vertices of each file: whole, from a source and in pieces.
-fn assert_read<R: AllocGlobal + Abort>(rt: &R, rows: &[(&str, &[Place])]) {
+/// Asserts the vertices of each file: whole, from a source, in pieces, and by threads.
+fn assert_read<R: AllocGlobal + Abort + Threads + Sync>(rt: &R, rows: &[(&str, &[Place])]) {
     for (text, places) in rows {
         let bytes = text.as_bytes();
         assert_points(rt, read_off(rt.alloc(), bytes), places, text, Way::Whole);
@@ -76,6 +78,7 @@ fn assert_read<R: AllocGlobal + Abort>(rt: &R, rows: &[(&str, &[Place])]) {
         assert_points(rt, streamed, places, text, Way::Source);
         let pieces = read_in_pieces(rt.alloc(), Form::Off, bytes, 1);
         assert_points(rt, pieces, places, text, Way::Pieces(1));
+        assert_read_in_sizes(rt, Form::Off, bytes, places, text);
     }
 }
 

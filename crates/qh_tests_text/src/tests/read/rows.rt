@@ -1,15 +1,18 @@
 //! Whole texts.
 ghost use Rattle.std.specs.Prelude.{◌≤◌};
 
+use super::threads::assert_read_in_sizes;
 use super::{Place, TETRAHEDRON, Way, assert_fault, assert_points, joined};
 use qh_fixtures::files::{COMMENTED_TETRAHEDRON, CUBE};
+use qh_model::Form;
 use qh_read::{ReadFault, read_points};
 use std::alloc::Global;
 use std::process::Abort;
 use std::test::Fail;
+use std::thread::Threads;
 
 /// Files with their points.
-pub const READ: [(&str, &[Place]); 18] = [
+const READ: [(&str, &[Place]); 18] = [
     ("3\n1\n5 5 5\n", &[(5, 5, 5)]),
     ("3 2\n0 0 0\n2 2 2\n", &[(0, 0, 0), (2, 2, 2)]),
     ("4 3\n0 0 0\n1 0 0\n0 1 0\n0 0 1\n", &TETRAHEDRON),
@@ -92,11 +95,12 @@ const NO_NUMBERS: [&str; 12] = [
     "7.", ".7", "7e0", "2nd", "+", "-", "--7", "+-7", "0.5", "5/", "5:", "1,5",
 ];
 
-/// Asserts the points of each file.
-fn assert_read<R: AllocGlobal + Abort>(rt: &R, rows: &[(&str, &[Place])]) {
+/// Asserts the points of each file: whole, and by threads.
+fn assert_read<R: AllocGlobal + Abort + Threads + Sync>(rt: &R, rows: &[(&str, &[Place])]) {
     for (text, places) in rows {
-        let outcome = read_points(rt.alloc(), text.as_bytes());
-        assert_points(rt, outcome, places, text, Way::Whole);
+        let bytes = text.as_bytes();
+        assert_points(rt, read_points(rt.alloc(), bytes), places, text, Way::Whole);
+        assert_read_in_sizes(rt, Form::Qhull, bytes, places, text);
     }
 }
 

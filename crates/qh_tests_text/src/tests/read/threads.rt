@@ -7,6 +7,7 @@ use qh_model::{Form, Point};
 use qh_read::fakes::{FailSource, Spaces};
 use qh_read::{MemSource, ReadFault, Sizes, Source, read_form_sizes, read_form_threads};
 use std::alloc::{AllocError, Global};
+use std::process::Abort;
 use std::test::Fail;
 use std::thread::Threads;
 
@@ -135,32 +136,49 @@ fn with_line(alloc: Global, header: &str, place: usize, line: &str) -> Result<Ve
     Ok(bytes)
 }
 
-#[test]
-fn reads_rows_in_any_sizes(rt: HostRuntime) {
-    for sizes in SMALL {
-        for (text, places) in rows::READ {
-            let outcome = read_sizes(&rt, rt.alloc(), Form::Qhull, text.as_bytes(), sizes);
-            assert_points(&rt, outcome, places, text, Way::Pieces(sizes.batch));
-        }
-        for (text, places) in off::READ {
-            let outcome = read_sizes(&rt, rt.alloc(), Form::Off, text.as_bytes(), sizes);
-            assert_points(&rt, outcome, places, text, Way::Pieces(sizes.batch));
-        }
+/// Asserts the points of a text, in each of the small sizes.
+pub fn assert_read_in_sizes<R: AllocGlobal + Abort + Threads + Sync>(
+    rt: &R,
+    form: Form,
+    bytes: &[u8],
+    places: &[Place],
+    text: &str,
+) {
+    for sizes in &SMALL {
+        let outcome = read_sizes(rt, rt.alloc(), form, bytes, *sizes);
+        assert_points(rt, outcome, places, text, Way::Pieces(sizes.batch));
+    }
+}
+
+/// Asserts the first fault of a text, in each of some sizes.
+fn assert_refused<R: AllocGlobal + Abort + Threads + Sync>(
+    rt: &R,
+    form: Form,
+    bytes: &[u8],
+    fault: ReadFault,
+    all: &[Sizes],
+) {
+    for sizes in all {
+        let outcome = read_sizes(rt, rt.alloc(), form, bytes, *sizes);
+        assert_fault(rt, outcome, fault, "by threads", Way::Pieces(sizes.batch));
+    }
+}
+
+/// Asserts the first fault of each text, in small sizes.
+fn assert_all_refused<R: AllocGlobal + Abort + Threads + Sync>(
+    rt: &R,
+    form: Form,
+    rows: &[(&str, ReadFault)],
+) {
+    for (text, fault) in rows {
+        assert_refused(rt, form, text.as_bytes(), *fault, &SMALL);
     }
 }
 
 #[test]
 fn finds_faults_of_rows_in_any_sizes(rt: HostRuntime) {
-    for sizes in SMALL {
-        for (text, fault) in rows::REFUSED {
-            let outcome = read_sizes(&rt, rt.alloc(), Form::Qhull, text.as_bytes(), sizes);
-            assert_fault(&rt, outcome, fault, text, Way::Pieces(sizes.batch));
-        }
-        for (text, fault) in off::REFUSED {
-            let outcome = read_sizes(&rt, rt.alloc(), Form::Off, text.as_bytes(), sizes);
-            assert_fault(&rt, outcome, fault, text, Way::Pieces(sizes.batch));
-        }
-    }
+    assert_all_refused(&rt, Form::Qhull, &rows::REFUSED);
+    assert_all_refused(&rt, Form::Off, &off::REFUSED);
 }
 
 #[test]
@@ -188,13 +206,8 @@ fn tells_the_line_of_each_fault(rt: HostRuntime) -> Result<(), Fail> {
             let line = 3 + place as u32;
             let bad = with_line(rt.alloc(), header, place, "7 7.5 7\n")?;
             let far = with_line(rt.alloc(), header, place, "7 1073741825 7\n")?;
-            for sizes in &SMALL[2..] {
-                let way = Way::Pieces(sizes.batch);
-                let outcome = read_sizes(&rt, rt.alloc(), form, &bad, *sizes);
-                assert_fault(&rt, outcome, ReadFault::BadNumber(line), header, way);
-                let outcome = read_sizes(&rt, rt.alloc(), form, &far, *sizes);
-                assert_fault(&rt, outcome, ReadFault::Range(line), header, way);
-            }
+            assert_refused(&rt, form, &bad, ReadFault::BadNumber(line), &SMALL[2..]);
+            assert_refused(&rt, form, &far, ReadFault::Range(line), &SMALL[2..]);
         }
     }
     Ok(())
@@ -205,16 +218,20 @@ fn tells_points_too_few_or_too_many(rt: HostRuntime) -> Result<(), Fail> {
     let few = with_line(rt.alloc(), "3\n25\n", 24, "")?;
     let many = with_line(rt.alloc(), "3\n23\n", 24, "")?;
     let off = with_line(rt.alloc(), "OFF\n23 0 0\n", 24, "")?;
-    for sizes in SMALL {
-        let way = Way::Pieces(sizes.batch);
-        let outcome = read_sizes(&rt, rt.alloc(), Form::Qhull, &few, sizes);
-        assert_fault(&rt, outcome, ReadFault::Short, "25 points", way);
-        let outcome = read_sizes(&rt, rt.alloc(), Form::Qhull, &many, sizes);
-        assert_fault(&rt, outcome, ReadFault::Long(26), "23 points", way);
-        let outcome = read_sizes(&rt, rt.alloc(), Form::Off, &off, sizes);
-        assert_points(&rt, outcome, &PLACES[..23], "23 vertices", way);
-    }
+    assert_refused(&rt, Form::Qhull, &few, ReadFault::Short, &SMALL);
+    assert_refused(&rt, Form::Qhull, &many, ReadFault::Long(26), &SMALL);
+    assert_read_in_sizes(&rt, Form::Off, &off, &PLACES[..23], "23 vertices");
     Ok(())
+}
+
+/// Returns the lines between two texts.
+fn between(alloc: Global, front: &[&str], back: &str) -> Result<Vec<u8>, AllocError> {
+    let mut bytes = joined(alloc, front)?;
+    for line in &LINES {
+        bytes.extend_from_slice(line.as_bytes())?;
+    }
+    bytes.extend_from_slice(back.as_bytes())?;
+    Ok(bytes)
 }
 
 #[test]
@@ -225,22 +242,11 @@ fn reads_no_comment_and_no_face(rt: HostRuntime) -> Result<(), Fail> {
         0,
         "0 -1 0 x 1 1 1 1 1 1 1 1 1 1 1 1 1 1 1 1 1 1 1 1 1 1 1 1 1 1 1\n",
     )?;
-    let mut long = joined(rt.alloc(), &["3\n24\n", LONG_COMMENT, LONG_COMMENT])?;
-    let mut faces = joined(rt.alloc(), &["OFF\n24 20 0\n", LONG_COMMENT])?;
-    for line in LINES {
-        long.extend_from_slice(line.as_bytes())?;
-        faces.extend_from_slice(line.as_bytes())?;
-    }
-    faces.extend_from_slice(FACES.as_bytes())?;
-    for sizes in SMALL {
-        let way = Way::Pieces(sizes.batch);
-        let outcome = read_sizes(&rt, rt.alloc(), Form::Qhull, &commented, sizes);
-        assert_points(&rt, outcome, &PLACES, "a comment", way);
-        let outcome = read_sizes(&rt, rt.alloc(), Form::Qhull, &long, sizes);
-        assert_points(&rt, outcome, &PLACES, "two long comments", way);
-        let outcome = read_sizes(&rt, rt.alloc(), Form::Off, &faces, sizes);
-        assert_points(&rt, outcome, &PLACES, "faces", way);
-    }
+    assert_read_in_sizes(&rt, Form::Qhull, &commented, &PLACES, "a comment");
+    let long = between(rt.alloc(), &["3\n24\n", LONG_COMMENT, LONG_COMMENT], "")?;
+    assert_read_in_sizes(&rt, Form::Qhull, &long, &PLACES, "two long comments");
+    let faces = between(rt.alloc(), &["OFF\n24 20 0\n", LONG_COMMENT], FACES)?;
+    assert_read_in_sizes(&rt, Form::Off, &faces, &PLACES, "faces");
     Ok(())
 }
 
