@@ -62,8 +62,8 @@ at_corner z a b c p out h far =
         → u ≡ k → v ≡ pos 0 → w ≡ pos 0 → p ≡ a
     same p z a b c k u v w l e f g m =
         let even = e ∙ ap (λ n. n *ℤ (a -ℤ z) +ℤ v *ℤ (b -ℤ z) +ℤ w *ℤ (c -ℤ z)) f
-            ∙ ap (λ n. k *ℤ (a -ℤ z) +ℤ n *ℤ (b -ℤ z) +ℤ w *ℤ (c -ℤ z)) g
-            ∙ ap (λ n. k *ℤ (a -ℤ z) +ℤ pos 0 *ℤ (b -ℤ z) +ℤ n *ℤ (c -ℤ z)) m ∙ none (k *ℤ (a -ℤ z)) (b -ℤ z) (c -ℤ z) in
+        ∙ ap (λ n. k *ℤ (a -ℤ z) +ℤ n *ℤ (b -ℤ z) +ℤ w *ℤ (c -ℤ z)) g
+        ∙ ap (λ n. k *ℤ (a -ℤ z) +ℤ pos 0 *ℤ (b -ℤ z) +ℤ n *ℤ (c -ℤ z)) m ∙ none (k *ℤ (a -ℤ z)) (b -ℤ z) (c -ℤ z) in
         omega (arith, ints, cancel-zero k (p -ℤ a) l (split k p z a ∙ (omega (arith, ints, even))))
       where
         none : (m b c : ℤ) → m +ℤ pos 0 *ℤ b +ℤ pos 0 *ℤ c ≡ m

@@ -111,8 +111,8 @@ module _ (at : ℕ → Vector) (ids : List ℕ) (ts : List Triple) (z d : Vector
     turns : (u v x : ℕ) → Follows u v q → Follows v x q → pos 0 <ℤ vol z (at u) (at v) (at x)
     turns u v x f g =
         let under = below (dot normal normal) (vol (at u) (at v) (at x) z) (left normal (at u) (at v) (at x) *ℤ rise at t z) square
-            (level_volume (at t.i) (at t.j) (at t.k) (at u) (at v) (at x) z (p.level u k.0) (p.level v k.1) (p.level x m))
-            (mul-pos_neg (left normal (at u) (at v) (at x)) (rise at t z) (p.round u v f x m not_u not_v) (c.inside t i)) in
+        (level_volume (at t.i) (at t.j) (at t.k) (at u) (at v) (at x) z (p.level u k.0) (p.level v k.1) (p.level x m))
+        (mul-pos_neg (left normal (at u) (at v) (at x)) (rise at t z) (p.round u v f x m not_u not_v) (c.inside t i)) in
         omega (arith, ints, vol-outwards z (at u) (at v) (at x))
       where
         k : In u q × In v q

@@ -1,7 +1,7 @@
 -- Near a ray that meets or misses each triangle there is one off all planes through z and an edge that meets the same.
 use Rattle.std.proofs.Common.{◌≡◌, ℕ, refl, sym, ap, subst, ◌∙◌, arith, List, [], ◌∷◌, ◌++◌, Bool, true, false, ◌⊎◌, inl, inr}
 use Rattle.std.proofs.lemmas.{Bool.and_parts, Bool.and_from, Bool.and_left, Bool.and_right, Int.ints}
-use Rattle.std.specs.Prelude.{ℤ, pos, neg_ℤ, ◌≤ℤ◌, ◌<ℤ◌}
+use Rattle.std.specs.Prelude.{ℤ, pos, neg_ℤ, ◌<ℤ◌}
 use Rattle.qh_model.specs.contract.ClosedSurface.{Triple}
 use Rattle.qh_model.specs.headline.{Predicates.cross, Predicates.vol, Sets.In, Vector.Vector, Vector.minus, Vector.dot}
 use Rattle.qh_model.proofs.algebra.{Signs.less_le, VectorIdentities.opposite, VectorIdentities.dot-opposite, VectorIdentities.vol-dot}

@@ -31,8 +31,8 @@ pub under_is_below : (i j k z a b c p : Vector) → pos 0 <ℤ vol z a b c
     → pos 0 ≤ℤ vol z a b p → pos 0 ≤ℤ vol z b c p → pos 0 ≤ℤ vol z c a p → vol a b c p ≤ℤ pos 0 → vol i j k p ≤ℤ pos 0
 under_is_below i j k z a b c p out hz ha hb hc u₁ u₂ u₃ low =
     let sum = weights (vol z a b c) (vol z a b p) (vol z b c p) (vol z c a p) (dot n (minus a z)) (dot n (minus b z)) (dot n (minus c z))
-        (dot n (minus p z)) (vol i j k z) (vol i j k a) (vol i j k b) (vol i j k c) (vol i j k p) (vol a b c p) (vol-from i j k z a) (vol-from i j k z b)
-        (vol-from i j k z c) (vol-from i j k z p) (above_sum z a b c p) (coordinates z a b c p n) in
+    (dot n (minus p z)) (vol i j k z) (vol i j k a) (vol i j k b) (vol i j k c) (vol i j k p) (vol a b c p) (vol-from i j k z a) (vol-from i j k z b)
+    (vol-from i j k z c) (vol-from i j k z p) (above_sum z a b c p) (coordinates z a b c p n) in
     let of_a = mul-nonneg_nonpos (vol z b c p) (vol i j k a) u₂ ha in let of_b = mul-nonneg_nonpos (vol z c a p) (vol i j k b) u₃ hb in
     let of_c = mul-nonneg_nonpos (vol z a b p) (vol i j k c) u₁ hc in
     let of_z = mul-nonneg_nonpos (neg_ℤ (vol a b c p)) (vol i j k z) (omega (arith, ints, low)) hz in

@@ -1,26 +1,16 @@
 -- The distinct ids by each of the two keys: by the number of the place, and by a hash of it.
-use Rattle.std.proofs.Common.{◌≡◌, ◌≢◌, ℕ, ◌+◌, ◌-◌, ◌*◌, ◌%◌, ◌/◌, ◌<◌, ◌≤◌, ◌⊎◌, inl, inr, List, length}
-use Rattle.std.proofs.Common.{get_or, replicate, false, arith, ap, sym, subst, ◌∙◌, IsPermutation}
-use Rattle.std.proofs.lemmas.Bool.{cases_lt}
-use Rattle.std.specs.List.{All}
-use Rattle.std.specs.List.Sorted.{IsNonDecreasing}
+use Rattle.std.proofs.Common.{◌≡◌, ◌≢◌, ℕ, ◌+◌, ◌-◌, ◌%◌, ◌/◌, ◌<◌, ◌≤◌, ◌⊎◌, inl, inr, List, length, get_or, replicate, false, arith, ap, sym, subst, ◌∙◌}
+use Rattle.std.proofs.{Common.IsPermutation, lemmas.Bool.cases_lt}
+use Rattle.std.specs.List.{All, Sorted.IsNonDecreasing}
 use Rattle.qh_model.proofs.Members.{All-In, In-get_or}
-use Rattle.qh_model.specs.declared.limits.TheConstants.{POINT_LIMIT}
-use Rattle.qh_model.specs.contract.Places.{IsPlace}
-use Rattle.qh_model.specs.headline.DistinctIds.{AreDistinctIds}
-use Rattle.qh_model.specs.headline.Predicates.{place}
-use Rattle.qh_model.specs.headline.Sets.{In}
-use Rattle.qh_model.specs.headline.Vector.{Vector}
-use Rattle.qh_plane.proofs.DistinctLists.{AreSortedKeys, StandsAt, all_in, in_all, rises_each, all_within, index_in, up}
-use Rattle.qh_plane.proofs.DistinctLists.{position, distinct_ids}
+use Rattle.qh_model.specs.{contract.Places.IsPlace, declared.limits.TheConstants.POINT_LIMIT}
+use Rattle.qh_model.specs.headline.{DistinctIds.AreDistinctIds, Predicates.place, Sets.In, Vector.Vector}
+use Rattle.qh_plane.proofs.DistinctLists.{AreSortedKeys, StandsAt, all_in, in_all, rises_each, all_within, index_in, up, position, distinct_ids}
 use Rattle.qh_plane.proofs.PlaceOrder.{place_code-same, biased_small}
-use Rattle.qh_plane.specs.declared.distinct_points.TheConstants.{NO_PLACE}
-use Rattle.qh_plane.specs.declared.hashed_keys.TheConstants.{ID_ROOM}
-use Rattle.qh_plane.specs.declared.place_keys.TheConstants.{ROOM}
+use Rattle.qh_plane.specs.declared.{distinct_points.TheConstants.NO_PLACE, hashed_keys.TheConstants.ID_ROOM, place_keys.TheConstants.ROOM}
 use Rattle.qh_plane.specs.steps.HashedKeys.{place_hash, hash_at, Hashes, WithHashes, AreKeysBelow, AreHashedKeys, IsRepeat, RepeatsTold}
-use Rattle.qh_plane.specs.steps.Marks.{place_starts, marked, marked_ids}
-use Rattle.qh_plane.specs.steps.PlaceKeys.{biased, place_code, place_key, HasKey, ArePlaceKeys}
-use Rattle.qh_plane.specs.steps.Repeats.{IsRepeatedId, AreRepeats}
+use Rattle.qh_plane.specs.steps.{Marks.place_starts, Marks.marked, Marks.marked_ids, PlaceKeys.place_code, PlaceKeys.place_key}
+use Rattle.qh_plane.specs.steps.{PlaceKeys.HasKey, PlaceKeys.ArePlaceKeys, Repeats.IsRepeatedId, Repeats.AreRepeats}
 
 -- no number has the number of none
 below_none : {c n : ℕ} → c < n → c ≢ n
@@ -49,17 +39,13 @@ module _ (pts : List Vector) (keys : List ℕ) (k : ArePlaceKeys pts keys) (risi
   other : (i : ℕ) → i < length pts → code i ≢ NO_PLACE
   unfolding place_code
   other i h =
-      below_none (bound (biased p.x) (biased p.y) (biased p.z) (biased_small p.x in_place.x) (biased_small p.y in_place.y)
-      (biased_small p.z in_place.z))
+      below_none (omega (arith, biased_small p.x in_place.x, biased_small p.y in_place.y, biased_small p.z in_place.z))
     where
       p : Vector
       p = place pts i
 
       in_place : IsPlace p
       in_place = (known_at i h).place_in
-
-      bound : (a b c : ℕ) → a < ROOM → b < ROOM → c < ROOM → (a * ROOM + b) * ROOM + c < NO_PLACE
-      bound a b c h k l = omega arith
 
   -- the ids in the keys are indices
   pub places_within : All (λ x. x % ROOM < length pts) keys

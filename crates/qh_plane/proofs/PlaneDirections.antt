@@ -1,11 +1,8 @@
 -- Directions in one plane: their brackets, and that three of them have no volume.
-use Rattle.std.proofs.Common.{◌≡◌, ℕ, refl, [], arith, ◌∙◌}
-use Rattle.std.proofs.lemmas.Int.{ints}
+use Rattle.std.proofs.{Common.◌≡◌, Common.ℕ, Common.refl, Common.[], Common.arith, Common.◌∙◌, lemmas.Int.ints}
 use Rattle.std.specs.Prelude.{ℤ, pos, ◌+ℤ◌, ◌-ℤ◌, ◌*ℤ◌, ◌≤ℤ◌, ◌<ℤ◌}
-use Rattle.qh_model.proofs.algebra.Order.{mul-nonneg, mul-pos, cancel-nonneg, cancel-pos, cancel-zero}
-use Rattle.qh_model.proofs.algebra.Integers.{mul_comm}
-use Rattle.qh_model.proofs.algebra.Ring.{Expr, ring}
-use Rattle.qh_model.proofs.algebra.Ring.Expr.{add, sub as less, mul}
+use Rattle.qh_model.proofs.algebra.{Integers.mul_comm, Order.mul-nonneg, Order.mul-pos, Order.cancel-nonneg, Order.cancel-pos, Order.cancel-zero}
+use Rattle.qh_model.proofs.algebra.Ring.{Expr, ring, Expr.add, Expr.sub as less, Expr.mul}
 use Rattle.qh_model.proofs.algebra.VectorIdentities.{vec, crossE, dotE, detE, put}
 use Rattle.qh_model.specs.headline.Vector.{Vector, cross_product, dot}
 

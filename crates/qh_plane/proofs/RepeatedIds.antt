@@ -1,20 +1,15 @@
 -- Points that stand before: told key by key, joined from parts of the hashes, and left out.
-use Rattle.std.proofs.Common.{◌≡◌, ◌≢◌, ℕ, zero, suc, ◌+◌, ◌-◌, ◌^◌, ◌*◌, ◌/◌, ◌%◌, ◌<◌, ◌≤◌, ◌⊎◌, inl, inr, List, [], ◌∷◌, ◌++◌, Bool, true, false, length}
+use Rattle.std.proofs.Common.{◌≡◌, ◌≢◌, ℕ, zero, suc, ◌+◌, ◌-◌, ◌*◌, ◌/◌, ◌%◌, ◌<◌, ◌≤◌, ◌⊎◌, inl, inr, List, [], ◌∷◌, ◌++◌, Bool, true, false, length}
 use Rattle.std.proofs.Common.{get_or, set, replicate, arith, ap, sym, subst, ◌∙◌, refl, get_or-set_same, get_or-set_other}
-use Rattle.std.proofs.lemmas.Bool.{cases_lt}
-use Rattle.std.proofs.lemmas.List.{length-set, get_or-replicate, length-replicate}
 use Rattle.std.proofs.Math.Nat.{div-lt_iff_lt-mul, mul-lt-mul_of_pos_right}
+use Rattle.std.proofs.lemmas.{Bool.cases_lt, List.length-set, List.get_or-replicate, List.length-replicate}
 use native.Mathlib.Decide.{ℕ_discrete}
 use Rattle.qh_model.proofs.lists.Joined.{in_append, of_append}
-use Rattle.qh_model.specs.headline.DistinctIds.{IsDistinctId, AreDistinctIds}
-use Rattle.qh_model.specs.headline.Predicates.{place}
-use Rattle.qh_model.specs.headline.Sets.{In}
-use Rattle.qh_model.specs.headline.Vector.{Vector}
+use Rattle.qh_model.specs.headline.{DistinctIds.IsDistinctId, DistinctIds.AreDistinctIds, Predicates.place, Sets.In, Vector.Vector}
 use Rattle.qh_plane.proofs.DistinctLists.{all_distinct, marked_distinct}
-use Rattle.qh_plane.specs.declared.hashed_keys.TheConstants.{ID_ROOM, NO_HASH, MIXER}
-use Rattle.qh_plane.specs.steps.HashedKeys.{place_number, place_hash, hash_at, PartHashes, WithHashes, IsRepeat, RepeatsTold}
-use Rattle.qh_plane.specs.steps.Marks.{marked_ids}
-use Rattle.qh_plane.specs.steps.PlaceKeys.{AllIds}
+use Rattle.qh_plane.specs.declared.hashed_keys.TheConstants.{ID_ROOM, NO_HASH}
+use Rattle.qh_plane.specs.steps.HashedKeys.{place_hash, hash_at, PartHashes, WithHashes, IsRepeat, RepeatsTold}
+use Rattle.qh_plane.specs.steps.{Marks.marked_ids, PlaceKeys.AllIds}
 use Rattle.qh_plane.specs.steps.Repeats.{Ids, PartsBelow, IsRepeatedId, AreRepeats, AreAllRepeats, MarksWithout}
 
 -- ---- key by key
@@ -136,13 +131,9 @@ pub repeats_of_parts : (pts : List Vector) (part : ℕ → Ids) (n : ℕ) (ids :
     → AreRepeats pts (PartsBelow part n) ids → AreAllRepeats pts ids
 repeats_of_parts pts part n ids each r = record { has = λ i s. r.has i (each i); only = r.only }
 
--- a hash lies in one of the parts
-hash_small : (n : ℕ) → n % 2 ^ 64 / ID_ROOM < NO_HASH
-hash_small n = omega arith
-
 place_hash_small : (p : Vector) → place_hash p < NO_HASH
 unfolding place_hash
-place_hash_small p = hash_small (place_number p * MIXER)
+place_hash_small p = omega arith
 
 part_small : (h n : ℕ) → h < NO_HASH → 0 < n → h * n / NO_HASH < n
 part_small h n l some = (div-lt_iff_lt-mul (omega arith)).1 (other_way (h * n) (mul-lt-mul_of_pos_right l some))

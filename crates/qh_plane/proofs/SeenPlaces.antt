@@ -1,18 +1,13 @@
 -- Points of a small box, point by point: what stands in the slots, and which ids are distinct.
-use Rattle.std.proofs.Common.{◌≡◌, ◌≢◌, ◌∙◌, ℕ, ◌+◌, ◌<◌, ◌≤◌, ◌⊎◌, inl, inr, List, [], ◌∷◌, ◌++◌, length, set}
-use Rattle.std.proofs.Common.{replicate, slice_index_or, arith, ap, sym, subst, get_or-set_same, get_or-set_other}
+use Rattle.std.proofs.Common.{◌≡◌, ◌≢◌, ◌∙◌, ℕ, ◌+◌, ◌<◌, ◌≤◌, ◌⊎◌, inl, inr, List, [], ◌∷◌, ◌++◌, length, set, replicate, slice_index_or, arith, ap, sym}
+use Rattle.std.proofs.Common.{subst, get_or-set_same, get_or-set_other}
 use Rattle.std.proofs.lemmas.List.{get_or_read, length-set, get_or-replicate, length-replicate}
 use Rattle.std.specs.List.Sorted.{IsStrictlyIncreasing}
 use native.Mathlib.Decide.{ℕ_discrete}
-use Rattle.qh_model.specs.headline.Vector.{Vector, origin}
-use Rattle.qh_model.specs.headline.Predicates.{place}
-use Rattle.qh_model.specs.headline.Sets.{In}
-use Rattle.qh_model.specs.headline.DistinctIds.{IsDistinctId, AreDistinctIds}
 use Rattle.qh_model.specs.declared.limits.TheConstants.{POINT_LIMIT}
-use Rattle.qh_model.proofs.lists.Joined.{in_append, of_append}
-use Rattle.qh_model.proofs.lists.Rising.{rising_append}
-use Rattle.qh_plane.specs.declared.close_points.CloseBox.{CloseBox}
-use Rattle.qh_plane.specs.declared.close_points.TheConstants.{NO_ID}
+use Rattle.qh_model.specs.headline.{DistinctIds.IsDistinctId, DistinctIds.AreDistinctIds, Predicates.place, Sets.In, Vector.Vector, Vector.origin}
+use Rattle.qh_model.proofs.lists.{Joined.in_append, Joined.of_append, Rising.rising_append}
+use Rattle.qh_plane.specs.declared.close_points.{CloseBox.CloseBox, TheConstants.NO_ID}
 use Rattle.qh_plane.specs.steps.CloseBoxes.{slot_of, slot_at, HasFirst, HaveFirsts, AreSeen}
 
 -- a point that was read is that of its id

@@ -1,15 +1,10 @@
 -- The shape of a set of ids tells its dimension.
 use Rattle.std.proofs.Common.{◌≡◌, ℕ, ◌<◌, List, length, get_or, arith, sym, subst, ◌∙◌, refl, inl, inr}
-use Rattle.std.proofs.lemmas.Grind.{get_or_default_zero}
-use Rattle.std.proofs.Math.Nat.{ne_of_lt}
+use Rattle.std.proofs.{Math.Nat.ne_of_lt, lemmas.Grind.get_or_default_zero}
 use Rattle.std.specs.List.Sorted.{IsStrictlyIncreasing}
-use Rattle.qh_model.proofs.Members.{In-get_or, in_at}
-use Rattle.qh_model.proofs.extremes.Directions.{square-positive}
-use Rattle.qh_model.specs.headline.Dimension.{HasTriangle, HasSegment, IsDimension}
-use Rattle.qh_model.specs.contract.IdSets.{IsIdSet}
-use Rattle.qh_model.specs.headline.Predicates.{place}
-use Rattle.qh_model.specs.headline.Sets.{In, Members}
-use Rattle.qh_model.specs.headline.Vector.{Vector, minus}
+use Rattle.qh_model.proofs.{Members.In-get_or, Members.in_at, extremes.Directions.square-positive}
+use Rattle.qh_model.specs.{contract.IdSets.IsIdSet, headline.Dimension.HasTriangle}
+use Rattle.qh_model.specs.headline.{Dimension.HasSegment, Dimension.IsDimension, Predicates.place, Sets.In, Sets.Members, Vector.Vector, Vector.minus}
 use Rattle.qh_plane.proofs.LinesAndPlanes.{three_line, four_plane, same_point}
 use Rattle.qh_plane.specs.contract.Shapes.{IsInLine, IsInPlane, IsFirstNot, Each, AreFirstTwo}
 

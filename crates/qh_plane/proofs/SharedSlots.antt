@@ -1,12 +1,9 @@
 -- Slots of a table that hashes come to: point by point, and what a table shows in the end.
-use Rattle.std.proofs.Common.{◌≡◌, ℕ, ◌+◌, ◌<◌, List, Bool, true, false, ◌||◌, length, arith, ap, sym, subst, ◌∙◌, refl}
-use Rattle.std.proofs.Common.{get_or, set, get_or-set_same, get_or-set_other}
-use Rattle.std.proofs.lemmas.List.{length-set}
+use Rattle.std.proofs.Common.{◌≡◌, ℕ, ◌+◌, ◌<◌, List, Bool, true, false, ◌||◌, length, arith, ap, sym, subst, ◌∙◌, refl, get_or, set, get_or-set_same}
+use Rattle.std.proofs.{Common.get_or-set_other, lemmas.List.length-set}
 use native.Mathlib.Decide.{ℕ_discrete}
-use Rattle.qh_model.specs.headline.Predicates.{place}
-use Rattle.qh_model.specs.headline.Vector.{Vector}
-use Rattle.qh_plane.specs.steps.HashedKeys.{place_hash, hash_at, WithHashes}
-use Rattle.qh_plane.specs.steps.Repeats.{AreRepeats, AreAllRepeats}
+use Rattle.qh_model.specs.headline.{Predicates.place, Vector.Vector}
+use Rattle.qh_plane.specs.steps.{HashedKeys.place_hash, HashedKeys.hash_at, HashedKeys.WithHashes, Repeats.AreRepeats, Repeats.AreAllRepeats}
 use Rattle.qh_plane.specs.steps.SharedSlots.{slot_in, MarkedHashes, AreTaken, AreShared}
 
 -- what is or was marked is

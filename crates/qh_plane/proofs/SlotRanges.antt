@@ -1,18 +1,12 @@
 -- Points of a small box, point by point: which of a range of slots stand before; and the range in which a slot lies.
-use Rattle.std.proofs.Common.{◌≡◌, ◌∙◌, ℕ, ◌+◌, ◌-◌, ◌*◌, ◌/◌, ◌%◌, ◌^◌, ◌<◌, ◌≤◌, ◌⊎◌, inl, inr, List, [], ◌∷◌, ◌++◌, length, set}
-use Rattle.std.proofs.Common.{replicate, arith, refl, sym, subst}
-use Rattle.std.proofs.lemmas.Bool.{cases_lt}
-use Rattle.std.proofs.lemmas.List.{length-set, length-replicate}
-use Rattle.std.proofs.Math.Nat.{div-lt_iff_lt-mul, div-mul-le_self, lt-div-mul-add}
+use Rattle.std.proofs.Common.{◌≡◌, ◌∙◌, ℕ, ◌+◌, ◌-◌, ◌*◌, ◌/◌, ◌%◌, ◌^◌, ◌<◌, ◌≤◌, ◌⊎◌, inl, inr, List, [], ◌∷◌, ◌++◌, length, set, replicate, arith, refl, sym}
+use Rattle.std.proofs.{Common.subst, Math.Nat.div-lt_iff_lt-mul, Math.Nat.div-mul-le_self, Math.Nat.lt-div-mul-add}
+use Rattle.std.proofs.lemmas.{Bool.cases_lt, List.length-set, List.length-replicate}
 use native.Mathlib.Decide.{ℕ_discrete}
-use Rattle.qh_model.specs.headline.Vector.{Vector}
-use Rattle.qh_model.specs.headline.Predicates.{place}
-use Rattle.qh_model.specs.headline.Sets.{In}
-use Rattle.qh_model.specs.declared.limits.TheConstants.{POINT_LIMIT}
+use Rattle.qh_model.specs.{declared.limits.TheConstants.POINT_LIMIT, headline.Predicates.place, headline.Sets.In, headline.Vector.Vector}
 use Rattle.qh_model.proofs.lists.Joined.{in_append, of_append}
 use Rattle.qh_plane.proofs.SeenPlaces.{no_firsts, new_place, new_firsts, kept_firsts, its_first}
-use Rattle.qh_plane.specs.declared.close_points.TheConstants.{NO_ID}
-use Rattle.qh_plane.specs.declared.slot_ranges.SlotRanges.{SlotRanges}
+use Rattle.qh_plane.specs.declared.{close_points.TheConstants.NO_ID, slot_ranges.SlotRanges.SlotRanges}
 use Rattle.qh_plane.specs.steps.CloseBoxes.{slot_of, slot_at, place_in, ComesTo, IdsOfRange, AreSeenInRange}
 use Rattle.qh_plane.specs.steps.Repeats.{IsRepeatedId, AreRepeats, PartsBelow}
 

@@ -1,13 +1,9 @@
 -- The chain of a rising list: its edges have all that was passed on their left, and it turns left at each corner.
 use Rattle.std.proofs.Common.{◌≡◌, ℕ, refl, List, [], ◌∷◌, arith, ap, sym, subst, ◌⊎◌, inl, inr, Bool, true, false, cond}
 use Rattle.std.proofs.lemmas.Int.{ints, by_lt_z}
-use Rattle.std.specs.Cmp.{int_ranks}
-use Rattle.std.specs.Ordering.{MatchOrdering, is_gt}
-use Rattle.std.specs.Prelude.{ℤ, pos, ◌≤ℤ◌, ◌<ℤ◌}
-use Rattle.std.specs.declared.cmp.Ordering.{Ordering}
+use Rattle.std.specs.{Cmp.int_ranks, Ordering.MatchOrdering, Ordering.is_gt, Prelude.ℤ, Prelude.pos, Prelude.◌≤ℤ◌, Prelude.◌<ℤ◌, declared.cmp.Ordering.Ordering}
 use Rattle.std.specs.declared.cmp.Ordering.TheVariants.{Less, Equal, Greater}
-use Rattle.qh_model.proofs.algebra.Order.{le_antisym, positive_le}
-use Rattle.qh_model.proofs.algebra.Signs.{not_less, less_le, equal_le}
+use Rattle.qh_model.proofs.algebra.{Order.le_antisym, Order.positive_le, Signs.not_less, Signs.less_le, Signs.equal_le}
 use Rattle.qh_model.specs.headline.Sets.{In}
 use Rattle.qh_pred.specs.contract.Turns.{sign}
 use Rattle.qh_plane.specs.steps.Chains.{is_left, kept_below, chain}
@@ -34,10 +30,6 @@ is_left-no z e = told (sign z) (int_ranks z (pos 0)) e
     told Less k e = less_le z (pos 0) k
     told Equal k e = equal_le z (pos 0) k
     told Greater k e = cc
-
--- zero is not below 0
-at_least : (z : ℤ) → z ≡ pos 0 → pos 0 ≤ℤ z
-at_least z e = omega (arith, ints)
 
 -- a stack that its tops may leave
 record Top (turn : ℕ → ℕ → ℕ → ℤ) (key : ℕ → ℤ) (D : ℕ → Type 0) (y : ℕ) (s : List ℕ) : Type 0 where
@@ -139,7 +131,7 @@ module _ (turn : ℕ → ℕ → ℕ → ℤ) (key : ℕ → ℤ) (A : ℕ → T
   -- the new edge has all that was passed on its left
   new-edge : (D : ℕ → Type 0) (y t : ℕ) (s : List ℕ) → ((x : ℕ) → D x → A x) → A y → ((x : ℕ) → D x → key x <ℤ key y)
       → IsChain turn key D t s → IsCapped turn key D y t → TurnsAt turn y t s → HasOnLeft turn (Added D y) t y
-  new-edge D y t s in_a ay below g c sh x (inl e) = subst (λ v. pos 0 ≤ℤ turn t y v) (sym e) (at_least _ (turn_laws.there t y))
+  new-edge D y t s in_a ay below g c sh x (inl e) = subst (λ v. pos 0 ≤ℤ turn t y v) (sym e) (omega (arith, ints, turn_laws.there t y))
   new-edge D y t s in_a ay below g c sh x (inr d) =
       by_lt_z (key x) (key t) (λ h. behind-edge D y t s in_a ay below g sh x d h)
       (λ k. by_lt_z (key t) (key x) (λ h. c x d h)
@@ -147,7 +139,7 @@ module _ (turn : ℕ → ℕ → ℕ → ℤ) (key : ℕ → ℤ) (A : ℕ → T
       (le_antisym (key x) (key t) m k))))
     where
       here : x ≡ t → pos 0 ≤ℤ turn t y x
-      here e = subst (λ v. pos 0 ≤ℤ turn t y v) (sym e) (at_least _ (turn_laws.back t y))
+      here e = subst (λ v. pos 0 ≤ℤ turn t y v) (sym e) (omega (arith, ints, turn_laws.back t y))
 
   -- the next id on the stack makes a chain over one more
   pushes : (D : ℕ → Type 0) (y : ℕ) (s : List ℕ) → ((x : ℕ) → D x → A x) → A y → ((x : ℕ) → D x → key x <ℤ key y)

@@ -3,10 +3,8 @@ use Rattle.std.proofs.Common.{◌≡◌, ℕ, refl, List, [], ◌∷◌, arith, 
 use Rattle.std.proofs.lemmas.Int.{ints, by_lt_z}
 use Rattle.std.specs.Prelude.{ℤ, pos, ◌≤ℤ◌, ◌<ℤ◌}
 use Rattle.qh_model.specs.headline.Sets.{In, Once}
-use Rattle.qh_model.proofs.algebra.Order.{le_antisym}
-use Rattle.qh_model.proofs.algebra.Signs.{not_less}
-use Rattle.qh_plane.proofs.polygons.TurnLaws.{HasOnLeft, IsChain, chain_top}
-use Rattle.qh_plane.proofs.polygons.Cycles.{bottom}
+use Rattle.qh_model.proofs.algebra.{Order.le_antisym, Signs.not_less}
+use Rattle.qh_plane.proofs.polygons.{Cycles.bottom, TurnLaws.HasOnLeft, TurnLaws.IsChain, TurnLaws.chain_top}
 
 -- ---- what a stack says of its members
 module _ (turn : ℕ → ℕ → ℕ → ℤ) (key : ℕ → ℤ) (A : ℕ → Type 0) where

@@ -1,26 +1,16 @@
 -- The polygon of three points that are not in line.
 use Rattle.std.proofs.Common.{◌≡◌, ◌≢◌, ℕ, ◌<◌, List, [], ◌∷◌, arith, ap, sym, subst, ◌∙◌, inl, inr, Bool, true, false, cond, refl, length, get_or}
-use Rattle.std.proofs.lemmas.Grind.{common_steps}
-use Rattle.std.proofs.lemmas.Int.{ints}
-use Rattle.std.proofs.Math.Nat.{ne_of_lt}
+use Rattle.std.proofs.{Math.Nat.ne_of_lt, lemmas.Grind.common_steps, lemmas.Int.ints}
 use Rattle.std.specs.Prelude.{ℤ, pos, neg_ℤ, ◌*ℤ◌, ◌≤ℤ◌, ◌<ℤ◌, ◌↔◌}
-use Rattle.qh_model.proofs.algebra.Order.{cancel-zero, le_less}
+use Rattle.qh_model.proofs.algebra.{Integers.zero_mul, Order.cancel-zero, Order.le_less}
 use Rattle.qh_model.proofs.algebra.VectorIdentities.{vector_path, left-dot, left-turn, left-flip, in_line-twice, in_line-last, dot_comm}
-use Rattle.qh_model.proofs.algebra.Integers.{zero_mul}
 use Rattle.qh_model.proofs.extremes.Directions.{Parallel, parallel_normal, in_line-flip, square-positive}
-use Rattle.qh_model.specs.headline.Extreme.{Extreme}
-use Rattle.qh_model.specs.headline.Polygon.{IsPolygon}
-use Rattle.qh_model.specs.headline.Predicates.{place, cross, left, AreInLine}
-use Rattle.qh_model.specs.headline.Sets.{In, Members}
-use Rattle.qh_model.specs.headline.Vector.{Vector, origin, minus, dot}
+use Rattle.qh_model.specs.headline.{Extreme.Extreme, Polygon.IsPolygon, Predicates.place, Predicates.cross, Predicates.left, Predicates.AreInLine, Sets.In}
+use Rattle.qh_model.specs.headline.{Sets.Members, Vector.Vector, Vector.origin, Vector.minus, Vector.dot}
 use Rattle.qh_plane.proofs.LinesAndPlanes.{three_line, same_point}
-use Rattle.qh_plane.proofs.polygons.Chain.{is_left-yes, is_left-no}
-use Rattle.qh_plane.proofs.polygons.ComponentTurns.{turns_agree}
-use Rattle.qh_plane.proofs.polygons.LeftCycles.{cycle_polygon, side_of, third_of}
-use Rattle.qh_plane.proofs.polygons.PlanarIds.{flat_of}
-use Rattle.qh_plane.proofs.polygons.Turns.{IsFlat}
-use Rattle.qh_plane.specs.steps.Chains.{is_left, turn_of, triangle}
-use Rattle.qh_plane.specs.contract.PlanarSets.{IsPlanarSet}
+use Rattle.qh_plane.proofs.polygons.{Chain.is_left-yes, Chain.is_left-no, ComponentTurns.turns_agree, LeftCycles.cycle_polygon, LeftCycles.side_of}
+use Rattle.qh_plane.proofs.polygons.{LeftCycles.third_of, PlanarIds.flat_of, Turns.IsFlat}
+use Rattle.qh_plane.specs.{contract.PlanarSets.IsPlanarSet, steps.Chains.is_left, steps.Chains.turn_of, steps.Chains.triangle}
 
 -- a left turn over three members from the least on is their polygon
 pub left_triangle : (n : Vector) (at : ℕ → Vector) (A : ℕ → Type 0) (a b c : ℕ) → ((x : ℕ) → A x ↔ In x (a ∷ b ∷ c ∷ []))

@@ -1,12 +1,9 @@
 -- Turns of points of one plane, and the laws that they keep.
-use Rattle.std.proofs.Common.{◌∙◌, ◌≡◌, ℕ, refl, [], arith, sym, subst}
-use Rattle.std.proofs.lemmas.Int.{ints}
-use Rattle.std.specs.Prelude.{ℤ, pos, ◌+ℤ◌, neg_ℤ, ◌≤ℤ◌, ◌<ℤ◌}
-use Rattle.qh_model.proofs.algebra.Ring.{Expr, ring}
+use Rattle.std.proofs.{Common.◌∙◌, Common.◌≡◌, Common.ℕ, Common.refl, Common.[], Common.arith, Common.sym, Common.subst, lemmas.Int.ints}
+use Rattle.std.specs.Prelude.{ℤ, pos, neg_ℤ, ◌≤ℤ◌, ◌<ℤ◌}
+use Rattle.qh_model.proofs.algebra.{Ring.Expr, Ring.ring, Signs.opposite_nonneg}
 use Rattle.qh_model.proofs.algebra.VectorIdentities.{vec, subE, crossE, dotE, put, left-flip, dot-minus, left-turn}
-use Rattle.qh_model.proofs.algebra.Signs.{opposite_nonneg}
-use Rattle.qh_model.specs.headline.Vector.{Vector, minus, dot}
-use Rattle.qh_model.specs.headline.Predicates.{cross, left}
+use Rattle.qh_model.specs.headline.{Predicates.cross, Predicates.left, Vector.Vector, Vector.minus, Vector.dot}
 use Rattle.qh_plane.proofs.PlaneDirections.{bracket, bracket-fan, fan_sign, fan_sign_left}
 use Rattle.qh_plane.proofs.polygons.TurnLaws.{TurnLaws}
 
@@ -56,13 +53,9 @@ pub left-there : (n t y : Vector) → left n t y y ≡ pos 0
 unfolding left cross
 left-there n t y = ring (put n (put t (put y []))) (dotE (crossE (subE (vec 2) (vec 1)) (subE (vec 2) (vec 1))) (vec 0)) (Expr.con (pos 0)) refl
 
--- a difference above 0
-ahead : (d a b : ℤ) → d ≡ b +ℤ neg_ℤ a → a <ℤ b → pos 0 <ℤ d
-ahead d a b e h = omega (arith, ints)
-
 -- a higher point lies ahead
 pub forward : (h u v : Vector) → dot h u <ℤ dot h v → pos 0 <ℤ dot h (minus v u)
-forward h u v k = ahead _ _ _ (dot-minus h v u) k
+forward h u v k = omega (arith, ints, dot-minus h v u)
 
 -- different ids of A have different keys
 pub record IsKeyed (h : Vector) (at : ℕ → Vector) (A : ℕ → Type 0) : Type 0 where

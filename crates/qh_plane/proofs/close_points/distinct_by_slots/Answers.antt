@@ -1,12 +1,10 @@
-use Rattle.std.proofs.Common.{rules, ◌≡◌, ◌∙◌, ℕ, ◌+◌, ◌<◌, [], ◌∷◌, ◌++◌, length, set}
-use Rattle.std.proofs.Common.{arith, ap, sym, subst, Vec, Global}
+use Rattle.qh_plane.proofs.close_points.distinct_by_slots.Goals as goal
+use Rattle.std.proofs.Common.{rules, ◌≡◌, ◌∙◌, ℕ, ◌+◌, ◌<◌, [], ◌∷◌, ◌++◌, length, set, arith, ap, sym, subst, Vec, Global}
 use Rattle.std.proofs.lemmas.List.{get_or_read}
 use Rattle.qh_model.specs.headline.Predicates.{place}
-use Rattle.qh_plane.specs.declared.close_points.TheConstants.{NO_ID}
-use Rattle.qh_plane.specs.steps.CloseBoxes.{slot_of, slot_at, AreSeen}
+use Rattle.qh_plane.specs.{declared.close_points.TheConstants.NO_ID, steps.CloseBoxes.slot_of, steps.CloseBoxes.slot_at, steps.CloseBoxes.AreSeen}
 use Rattle.qh_plane.proofs.SeenPlaces.{point_read, seen_id, new_seen, again_seen, all_seen}
 use Rattle.qh_plane.proofs.close_points.distinct_by_slots.Goals.{then-index+in_ok-push, else-index+else-not-same_point}
-use Rattle.qh_plane.proofs.close_points.distinct_by_slots.Goals as goal
 
 pub bounds-pts-index : goal.bounds-pts-index
 bounds-pts-index c =

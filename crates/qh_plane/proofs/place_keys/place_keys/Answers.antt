@@ -1,9 +1,8 @@
-use Rattle.std.proofs.Common.{ap, ◌∙◌, subst, arith}
-use Rattle.std.proofs.lemmas.List.Elements.{All-more}
+use Rattle.qh_plane.proofs.place_keys.place_keys.Goals as goal
+use Rattle.std.proofs.{Common.ap, Common.◌∙◌, Common.subst, Common.arith, lemmas.List.Elements.All-more}
 use Rattle.qh_model.specs.contract.Places.{IsPlace}
 use Rattle.qh_model.proofs.lists.Images.{map-more}
 use Rattle.qh_plane.specs.steps.PlaceKeys.{place_key, HasKey, key_at}
-use Rattle.qh_plane.proofs.place_keys.place_keys.Goals as goal
 
 pub loop-id-preserved : goal.loop-id-preserved
 loop-id-preserved c = record {

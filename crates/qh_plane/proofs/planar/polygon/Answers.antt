@@ -1,14 +1,11 @@
 -- The polygon of three or four ids by their turns, of more by their corners, of many without those inside.
+use Rattle.qh_plane.proofs.planar.polygon.Goals as goal
 use Rattle.std.proofs.Common.{ℕ}
 use Rattle.std.specs.List.Sorted.{IsStrictlyIncreasing}
-use Rattle.qh_model.specs.headline.Extreme.{Extreme}
-use Rattle.qh_model.specs.headline.Predicates.{place}
-use Rattle.qh_model.specs.headline.Sets.{In, Members}
+use Rattle.qh_model.specs.headline.{Extreme.Extreme, Predicates.place, Sets.In, Sets.Members}
 use Rattle.qh_plane.specs.contract.PlanarSets.{IsPlanarSet}
 use Rattle.qh_plane.proofs.InnerPlaces.{planar_flat, outer_flat, outer_polygon}
-use Rattle.qh_plane.proofs.polygons.Quadrilateral.{polygon_of_four}
-use Rattle.qh_plane.proofs.polygons.Triangle.{polygon_of_three}
-use Rattle.qh_plane.proofs.planar.polygon.Goals as goal
+use Rattle.qh_plane.proofs.polygons.{Quadrilateral.polygon_of_four, Triangle.polygon_of_three}
 
 pub returns-then-ids-eq3 : goal.returns-then-ids-eq3
 returns-then-ids-eq3 c = λ h.

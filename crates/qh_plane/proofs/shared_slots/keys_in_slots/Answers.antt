@@ -1,11 +1,9 @@
-use Rattle.std.proofs.Common.{◌≡◌, ◌∙◌, ℕ, ◌+◌, ◌*◌, ◌∷◌, ◌++◌, [], true, false, ap, sym, subst, Vec, Global}
-use Rattle.qh_plane.proofs.KeysBelow.{key_added, key_left_out}
-use Rattle.qh_plane.proofs.SeenPlaces.{point_read}
-use Rattle.qh_plane.specs.declared.hashed_keys.TheConstants.{ID_ROOM}
-use Rattle.qh_plane.specs.steps.HashedKeys.{Hashes, place_hash, hash_at, AreKeysBelow}
-use Rattle.qh_plane.specs.steps.SharedSlots.{MarkedHashes}
-use Rattle.qh_plane.proofs.shared_slots.keys_in_slots.Goals.{then-is_marked+in_ok-push, else-is_marked}
 use Rattle.qh_plane.proofs.shared_slots.keys_in_slots.Goals as goal
+use Rattle.std.proofs.Common.{◌≡◌, ◌∙◌, ℕ, ◌+◌, ◌*◌, ◌∷◌, ◌++◌, [], true, false, ap, sym, subst, Vec, Global}
+use Rattle.qh_plane.proofs.{KeysBelow.key_added, KeysBelow.key_left_out, SeenPlaces.point_read}
+use Rattle.qh_plane.proofs.shared_slots.keys_in_slots.Goals.{then-is_marked+in_ok-push, else-is_marked}
+use Rattle.qh_plane.specs.declared.hashed_keys.TheConstants.{ID_ROOM}
+use Rattle.qh_plane.specs.steps.{HashedKeys.Hashes, HashedKeys.place_hash, HashedKeys.hash_at, HashedKeys.AreKeysBelow, SharedSlots.MarkedHashes}
 
 clash : true ≡ false → ⊥
 clash e = cc

@@ -1,10 +1,7 @@
-use Rattle.std.proofs.Common.{◌≡◌, ◌<◌, ◌*◌, arith, sym, subst}
-use Rattle.qh_plane.proofs.RepeatedIds.{repeats_of_parts}
-use Rattle.qh_plane.proofs.SlotRanges.{slot_range}
-use Rattle.qh_plane.specs.declared.slot_ranges.SlotRanges.{SlotRanges}
-use Rattle.qh_plane.specs.steps.CloseBoxes.{IdsOfRange}
-use Rattle.qh_plane.specs.steps.Repeats.{AreAllRepeats}
 use Rattle.qh_plane.proofs.slot_ranges.distinct_by_ranges.Goals as goal
+use Rattle.std.proofs.Common.{◌≡◌, ◌<◌, ◌*◌, arith, sym, subst}
+use Rattle.qh_plane.proofs.{RepeatedIds.repeats_of_parts, SlotRanges.slot_range}
+use Rattle.qh_plane.specs.{declared.slot_ranges.SlotRanges.SlotRanges, steps.CloseBoxes.IdsOfRange, steps.Repeats.AreAllRepeats}
 
 pub distinct_without-requires-clause-repeats : goal.distinct_without-requires-clause-repeats
 distinct_without-requires-clause-repeats g c =

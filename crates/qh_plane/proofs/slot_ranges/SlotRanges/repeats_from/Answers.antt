@@ -1,12 +1,10 @@
+use Rattle.qh_plane.proofs.slot_ranges.SlotRanges.repeats_from.Goals as goal
 use Rattle.std.proofs.Common.{rules, ◌≡◌, ◌∙◌, ℕ, ◌+◌, ◌-◌, ◌%◌, ◌^◌, ◌<◌, ◌≤◌, ◌++◌, ◌∷◌, [], length, set, arith, ap, sym, subst, Vec, Global}
 use Rattle.std.proofs.lemmas.List.{get_or_read}
 use Rattle.qh_model.specs.headline.Predicates.{place}
-use Rattle.qh_plane.proofs.SeenPlaces.{point_read, seen_id}
-use Rattle.qh_plane.proofs.SlotRanges.{other_in_range, new_in_range, again_in_range}
-use Rattle.qh_plane.specs.declared.close_points.TheConstants.{NO_ID}
-use Rattle.qh_plane.specs.steps.CloseBoxes.{slot_of, slot_at, place_in}
+use Rattle.qh_plane.proofs.{SeenPlaces.point_read, SeenPlaces.seen_id, SlotRanges.other_in_range, SlotRanges.new_in_range, SlotRanges.again_in_range}
 use Rattle.qh_plane.proofs.slot_ranges.SlotRanges.repeats_from.Goals.{then-index, else-index+then-same_point+in_ok-push}
-use Rattle.qh_plane.proofs.slot_ranges.SlotRanges.repeats_from.Goals as goal
+use Rattle.qh_plane.specs.{declared.close_points.TheConstants.NO_ID, steps.CloseBoxes.slot_of, steps.CloseBoxes.slot_at, steps.CloseBoxes.place_in}
 
 pub loop-number-preserved-then-place-len : goal.loop-number-preserved-then-place-len
 loop-number-preserved-then-place-len c =
