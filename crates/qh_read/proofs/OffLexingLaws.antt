@@ -1,12 +1,9 @@
 -- The words of the bytes of an OFF file that come one at a time are the words of the whole.
-use Rattle.std.proofs.Common.{◌≡◌, ◌∙◌, ◌++◌, [], ◌∷◌, ◌+◌, ◌==◌, ℕ, ◌<◌, length, List}
-use Rattle.std.proofs.Common.{Bool, true, false, cond, refl, ap, sym, subst, append_assoc, arith, filter}
-use Rattle.std.proofs.lemmas.List.{append-nil}
-use Rattle.std.proofs.lemmas.Bool.Decides.{nat_tests}
+use Rattle.std.proofs.Common.{◌≡◌, ◌∙◌, ◌++◌, [], ◌∷◌, ◌+◌, ◌==◌, ℕ, ◌<◌, length, List, Bool, true, false, cond, refl, ap, sym, subst, append_assoc, arith}
+use Rattle.std.proofs.{Common.filter, lemmas.Bool.Decides.nat_tests, lemmas.List.append-nil}
 use Rattle.std.specs.List.{slice_split, onto_first}
-use Rattle.qh_model.specs.declared.form.Form.TheVariants.{Off}
+use Rattle.qh_model.specs.{declared.form.Form.TheVariants.Off, headline.OffFile.before_hash, headline.OffFile.off_words}
 use Rattle.qh_model.specs.headline.Words.{Word, is_blank, lines_of, words_of, words_from, on_line, is_word}
-use Rattle.qh_model.specs.headline.OffFile.{before_hash, off_words}
 use Rattle.qh_model.proofs.texts.Lines.{Clear, split_clear, split_whole}
 use Rattle.qh_read.proofs.Lexing.{Lexed, start, ended, closed, next, lexed}
 use Rattle.qh_read.proofs.LexingLaws.{clear_append, in_cond, some_line}

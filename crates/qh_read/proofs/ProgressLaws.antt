@@ -1,24 +1,13 @@
 -- A file that is filled in has a header and the number of coordinates that it says.
-use Rattle.std.proofs.Common.{◌≡◌, ◌≢◌, ◌∙◌, ◌++◌, [], ◌∷◌, ◌*◌, ◌≤◌, ◌&&◌, ℕ, List, Bool, true, false}
-use Rattle.std.proofs.Common.{cond, refl, ap, sym, arith, zero, suc, min, length, map, inl, inr, append_assoc, subst}
-use Rattle.std.proofs.lemmas.List.{append-nil}
-use Rattle.std.specs.Prelude.{ℤ, codes, pos, negsuc, Option, Some, None, option_map, nat_le}
-use Rattle.std.specs.List.{AllByRecursion}
-use Rattle.std.specs.Str.{bytes_eq}
-use Rattle.std.proofs.lemmas.Bool.{leb-true}
-use Rattle.std.proofs.lemmas.Bool.Decides.{nat_tests}
-use Rattle.qh_model.specs.headline.Limits.{IsCoordinate, is_coordinate}
-use Rattle.qh_model.specs.headline.FileFault.{is_three}
-use Rattle.qh_model.specs.declared.limits.TheConstants.{COORDINATE_LIMIT, POINT_LIMIT}
-use Rattle.qh_model.specs.headline.Words.{Word}
-use Rattle.qh_model.specs.headline.Numbers.{number_of}
-use Rattle.qh_model.specs.headline.PointFile.{IsHeader}
-use Rattle.qh_read.specs.contract.Tokens.{cap}
-use Rattle.qh_read.specs.steps.SmallTokens.{capped}
-use Rattle.qh_read.specs.steps.Building.{filled_in}
-use Rattle.qh_read.specs.contract.Progress.{Progress, wants_first, wants_second, wants, fails, counted, took, after}
-use Rattle.qh_model.specs.declared.read_fault.ReadFault.{ReadFault}
 use Rattle.qh_model.specs.declared.read_fault.ReadFault.TheVariants as faults
+use Rattle.std.proofs.Common.{◌≡◌, ◌≢◌, ◌∙◌, ◌++◌, [], ◌∷◌, ◌*◌, ◌≤◌, ◌&&◌, ℕ, List, Bool, true, false, cond, refl, ap, sym, arith, zero, suc, min, length, map}
+use Rattle.std.proofs.{Common.inl, Common.inr, Common.append_assoc, Common.subst, lemmas.Bool.leb-true, lemmas.Bool.Decides.nat_tests, lemmas.List.append-nil}
+use Rattle.std.specs.{List.AllByRecursion, Prelude.ℤ, Prelude.codes, Prelude.pos, Prelude.negsuc, Prelude.Option, Prelude.Some, Prelude.None}
+use Rattle.std.specs.{Prelude.option_map, Prelude.nat_le, Str.bytes_eq}
+use Rattle.qh_model.specs.declared.{limits.TheConstants.COORDINATE_LIMIT, limits.TheConstants.POINT_LIMIT, read_fault.ReadFault.ReadFault}
+use Rattle.qh_model.specs.headline.{FileFault.is_three, Limits.IsCoordinate, Limits.is_coordinate, Numbers.number_of, PointFile.IsHeader, Words.Word}
+use Rattle.qh_read.specs.contract.Progress.{Progress, wants_first, wants_second, wants, fails, counted, took, after}
+use Rattle.qh_read.specs.{contract.Tokens.cap, steps.Building.filled_in, steps.SmallTokens.capped}
 
 -- the number of a word, as far as it is told apart
 abbrev pub number_in : Word → Option ℤ

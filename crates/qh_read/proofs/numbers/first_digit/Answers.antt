@@ -1,8 +1,7 @@
+use Rattle.qh_read.proofs.numbers.first_digit.Goals as goal
 use Rattle.std.proofs.Common.{◌∷◌, [], ap, subst, List, ℕ}
 use Rattle.qh_read.specs.steps.Numbers.{IsEndOf}
-use Rattle.qh_read.proofs.NumberLaws.{end-end}
-use Rattle.qh_read.proofs.numbers.first_digit.Goals as goal
-use Rattle.qh_read.proofs.numbers.first_digit.Goals.{then-first-eq43, else-first-eq43}
+use Rattle.qh_read.proofs.{NumberLaws.end-end, numbers.first_digit.Goals.then-first-eq43, numbers.first_digit.Goals.else-first-eq43}
 
 -- a sign or none, and a digit
 pub returns-clause-end : goal.returns-clause-end

@@ -1,12 +1,9 @@
-use Rattle.std.proofs.Common.{◌≡◌, ap, sym, subst, Ok}
-use Rattle.std.proofs.lemmas.Result.{err_from_is_err_and, MatchResult-weaker}
 use Rattle.qh_model.specs.declared.read_fault.ReadFault.TheVariants as faults
-use Rattle.qh_read.specs.headline.SourceBytes.{GivesAll}
-use Rattle.qh_read.specs.contract.Holding.{Reading, Fed}
-use Rattle.qh_read.proofs.SourceLemmas.{FedOn-append, Gives-all, Stops-after, Stops-big, Stops-big_first}
-use Rattle.qh_read.proofs.threads.read_form_sizes.Given.{Over}
 use Rattle.qh_read.proofs.threads.read_form_sizes.Goals as goal
-use Rattle.qh_read.proofs.threads.read_form_sizes.Goals.{then-not-branch+in_ok-feed_batches, else-not-branch}
+use Rattle.std.proofs.{Common.◌≡◌, Common.ap, Common.sym, Common.subst, Common.Ok, lemmas.Result.err_from_is_err_and, lemmas.Result.MatchResult-weaker}
+use Rattle.qh_read.specs.{contract.Holding.Reading, contract.Holding.Fed, headline.SourceBytes.GivesAll}
+use Rattle.qh_read.proofs.SourceLemmas.{FedOn-append, Gives-all, Stops-after, Stops-big, Stops-big_first}
+use Rattle.qh_read.proofs.threads.read_form_sizes.{Given.Over, Goals.then-not-branch+in_ok-feed_batches, Goals.else-not-branch}
 
 -- the batches came after the start
 pub returns-in_err-feed_batches-clause-big : goal.returns-in_err-feed_batches-clause-big

@@ -1,8 +1,7 @@
-use Rattle.std.proofs.Common.{◌≡◌, arith, refl, ap, Bool, true, false, Ok}
-use Rattle.std.proofs.lemmas.Result.{MatchResult-weaker}
+use Rattle.qh_read.proofs.whole.read_form_from.Goals as goal
+use Rattle.std.proofs.{Common.◌≡◌, Common.arith, Common.refl, Common.ap, Common.Bool, Common.true, Common.false, Common.Ok, lemmas.Result.MatchResult-weaker}
 use Rattle.std.specs.Io.KnownBytes.{IsAtEnd}
 use Rattle.qh_read.proofs.SourceLemmas.{Gives-all}
-use Rattle.qh_read.proofs.whole.read_form_from.Goals as goal
 
 -- either of two, of which one cannot be
 one_of : {X : Type 0} (b : Bool) → (b ≡ true → X) → (b ≡ false → ⊥) → X
