@@ -1,5 +1,5 @@
 -- The laws of locally convex surfaces.
-use Rattle.std.proofs.Common.{◌≡◌, ℕ, ◌≤◌, refl, sym, subst, ◌∙◌, arith, List, [], ◌∷◌, length, true, ◌⊎◌, inl, inr}
+use Rattle.std.proofs.Common.{◌≡◌, ℕ, ◌≤◌, refl, sym, subst, ◌∙◌, arith, List, [], ◌∷◌, length, true, ◌⊎◌, inl, inr, ⊎_elim}
 use Rattle.std.proofs.lemmas.Int.{ints}
 use Rattle.std.specs.Prelude.{ℤ, pos, neg_ℤ, count_by, ◌≤ℤ◌, ◌<ℤ◌}
 use Rattle.qh_model.specs.contract.ClosedSurface.{Triple}
@@ -95,11 +95,7 @@ under_triangle_is_below at ts z d c p u t i =
 -- no member of the set is above a triangle
 pub member_below : (at : ℕ → Vector) (ids : List ℕ) (ts : List Triple) (z d : Vector) → IsLocallyConvex at ts z d
     → HasAllUnder at ids ts z → (l : ℕ) → In l ids → (t : Triple) → In t ts → rise at t (at l) ≤ℤ pos 0
-member_below at ids ts z d c all l m t i = pick (all.others l m)
-  where
-    pick : IsCornerOf ts l ⊎ IsUnder at ts z (at l) → rise at t (at l) ≤ℤ pos 0
-    pick (inl k) = convex at ts z d c l k t i
-    pick (inr u) = under_triangle_is_below at ts z d c (at l) u t i
+member_below at ids ts z d c all l m t i = ⊎_elim (λ k. convex at ts z d c l k t i) (λ u. under_triangle_is_below at ts z d c (at l) u t i) (all.others l m)
 
 -- the law of supporting triples
 pub local_supports : LocalSupports

@@ -1,5 +1,5 @@
 -- How the edges of one triangle cross the way from d to x, by signs alone.
-use Rattle.std.proofs.Common.{◌≡◌, ℕ, ◌+◌, arith, refl, Bool, true, false, cond, eqb, not, ◌&&◌, ◌||◌, ◌⊎◌, inl, inr}
+use Rattle.std.proofs.Common.{◌≡◌, ℕ, ◌+◌, arith, refl, Bool, true, false, cond, eqb, not, ◌&&◌, ◌||◌, ◌⊎◌, inl, inr, ⊎_elim}
 use Rattle.std.proofs.lemmas.{Bool.eqb-true, Bool.and_parts, Bool.or_cases, Bool.not-true, Int.ints}
 use Rattle.std.specs.Prelude.{ℤ, pos, ◌+ℤ◌, ◌-ℤ◌}
 use Rattle.qh_convex_laws.proofs.Signs.{same, fits_difference, fits_sum}
@@ -108,13 +108,10 @@ goes_on a b c u₁ u₂ u₃ v₁ v₂ v₃ h ea eb eu ev =
     split : onwards c u₂ u₃ v₂ v₃ ≡ true → GoesOn c u₂ u₃ v₂ v₃
     split e = first (or_cases _ _ e)
       where
-        rest : (not c && (not u₂ && v₂)) ≡ true ⊎ (c && (not u₃ && v₃)) ≡ true → GoesOn c u₂ u₃ v₂ v₃
-        rest (inl f) = let p = and_parts _ _ f in let q = and_parts _ _ p.1 in inr (inl (not-true c p.0, not-true u₂ q.0, q.1))
-        rest (inr f) = let p = and_parts _ _ f in let q = and_parts _ _ p.1 in inr (inr (p.0, not-true u₃ q.0, q.1))
-
         first : (u₂ && u₃) ≡ true ⊎ ((not c && (not u₂ && v₂)) || (c && (not u₃ && v₃))) ≡ true → GoesOn c u₂ u₃ v₂ v₃
         first (inl f) = inl f
-        first (inr f) = rest (or_cases _ _ f)
+        first (inr f) = ⊎_elim (λ f. let p = and_parts _ _ f in let q = and_parts _ _ p.1 in inr (inl (not-true c p.0, not-true u₂ q.0, q.1)))
+            (λ f. let p = and_parts _ _ f in let q = and_parts _ _ p.1 in inr (inr (p.0, not-true u₃ q.0, q.1))) (or_cases _ _ f)
 
 -- how it begins where x is inside: d is inside too, or it goes out over one of the edges
 abbrev pub Begins : (a b c u₁ u₂ u₃ : Bool) → Type 0
@@ -140,14 +137,7 @@ begins a b c u₁ u₂ u₃ v₁ v₂ v₃ h e₁ e₂ e₃ =
     out : (a b u : Bool) → leaves a b u ≡ true → (a ≡ true) × (b ≡ false) × (u ≡ false)
     out a b u e = let p = and_parts _ _ e in let q = and_parts _ _ p.1 in (p.0, not-true b q.0, not-true u q.1)
 
-    third : leaves b c u₂ ≡ true ⊎ leaves c a u₃ ≡ true → Begins a b c u₁ u₂ u₃
-    third (inl e) = inr (inr (inl (out b c u₂ e)))
-    third (inr e) = inr (inr (inr (out c a u₃ e)))
-
-    second : leaves a b u₁ ≡ true ⊎ (leaves b c u₂ || leaves c a u₃) ≡ true → Begins a b c u₁ u₂ u₃
-    second (inl e) = inr (inl (out a b u₁ e))
-    second (inr e) = third (or_cases _ _ e)
-
     first : (u₁ && (u₂ && u₃)) ≡ true ⊎ (leaves a b u₁ || (leaves b c u₂ || leaves c a u₃)) ≡ true → Begins a b c u₁ u₂ u₃
     first (inl e) = inl e
-    first (inr e) = second (or_cases _ _ e)
+    first (inr e) = ⊎_elim (λ e. inr (inl (out a b u₁ e)))
+        (λ e. ⊎_elim (λ e. inr (inr (inl (out b c u₂ e)))) (λ e. inr (inr (inr (out c a u₃ e)))) (or_cases _ _ e)) (or_cases _ _ e)

@@ -1,5 +1,5 @@
 -- Near a ray that meets or misses each triangle there is one off all planes through z and an edge that meets the same.
-use Rattle.std.proofs.Common.{◌≡◌, ℕ, refl, sym, ap, subst, ◌∙◌, arith, List, [], ◌∷◌, ◌++◌, Bool, true, false, ◌⊎◌, inl, inr}
+use Rattle.std.proofs.Common.{◌≡◌, ℕ, refl, sym, ap, subst, ◌∙◌, arith, List, [], ◌∷◌, ◌++◌, Bool, true, false, ◌⊎◌, inl, inr, ⊎_elim}
 use Rattle.std.proofs.lemmas.{Bool.and_parts, Bool.and_from, Bool.and_left, Bool.and_right, Int.ints}
 use Rattle.std.specs.Prelude.{ℤ, pos, neg_ℤ, ◌<ℤ◌}
 use Rattle.qh_model.specs.contract.ClosedSurface.{Triple}
@@ -92,11 +92,7 @@ module _ (at : ℕ → Vector) (z d : Vector) where
       join f g = record { list = f.list ++ g.list; here = here; tell = tell }
         where
           here : AllUp (f.list ++ g.list) (minus d z)
-          here p i = pick (of_append f.list g.list p i)
-            where
-              pick : In p f.list ⊎ In p g.list → pos 0 <ℤ dot p (minus d z)
-              pick (inl j) = f.here p j
-              pick (inr j) = g.here p j
+          here p i = ⊎_elim (λ j. f.here p j) (λ j. g.here p j) (of_append f.list g.list p i)
 
           tell : (y : Vector) → AllUp (f.list ++ g.list) y → (s : Triple) → In s (t ∷ ts) → MeetsSame s y
           tell y up s (inl e) = subst (λ r. MeetsSame r y) (sym e) (f.tell y (λ p j. up p (in_append f.list g.list p (inl j))))

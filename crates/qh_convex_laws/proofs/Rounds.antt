@@ -1,5 +1,5 @@
 -- The signs round one triangle that has z below: those of its edges and corners with d and x.
-use Rattle.std.proofs.Common.{◌≡◌, refl, ap, ◌∙◌, arith, [], Bool, true, ◌⊎◌, inl, inr}
+use Rattle.std.proofs.Common.{◌≡◌, refl, ap, ◌∙◌, arith, [], Bool, true, ◌⊎◌, inl, inr, ⊎_elim}
 use Rattle.std.proofs.lemmas.{Bool.and_from, Int.ints}
 use Rattle.std.specs.Prelude.{ℤ, pos, ◌+ℤ◌, ◌-ℤ◌, ◌*ℤ◌, neg_ℤ, ◌<ℤ◌}
 use Rattle.qh_model.specs.headline.{Predicates.cross, Predicates.vol, Vector.Vector, Vector.minus}
@@ -51,11 +51,7 @@ flip_round z a b y = ring (put (minus a z) (put (minus b z) (put (minus y z) [])
 -- ---- their signs
 -- products that are not 0
 product_not_zero : (a b : ℤ) → ¬ (a ≡ pos 0) → ¬ (b ≡ pos 0) → ¬ (a *ℤ b ≡ pos 0)
-product_not_zero a b m n e = go (zero_product a b e)
-  where
-    go : (a ≡ pos 0) ⊎ (b ≡ pos 0) → ⊥
-    go (inl f) = m f
-    go (inr f) = n f
+product_not_zero a b m n e = ⊎_elim (λ f. m f) (λ f. n f) (zero_product a b e)
 
 -- a positive factor keeps the sign
 above_scaled : (k s : ℤ) → pos 0 <ℤ k → ¬ (s ≡ pos 0) → above (k *ℤ s) ≡ above s

@@ -1,6 +1,6 @@
 -- Supporting triangles that close up miss no supporting plane and no extreme id: a point a little beyond the middle of
 -- a plane that they missed would be strictly below all of them.
-use Rattle.std.proofs.Common.{◌≡◌, ◌≢◌, ℕ, suc, ◌+◌, arith, refl, sym, ap, subst, ◌∙◌, ◌⊎◌, inl, inr, List, [], ◌∷◌}
+use Rattle.std.proofs.Common.{◌≡◌, ◌≢◌, ℕ, suc, ◌+◌, arith, refl, sym, ap, subst, ◌∙◌, ◌⊎◌, inl, inr, List, [], ◌∷◌, ⊎_elim}
 use Rattle.std.proofs.lemmas.Int.{ints, by_lt_z}
 use Rattle.std.specs.Prelude.{ℤ, pos, negsuc, ◌+ℤ◌, ◌-ℤ◌, ◌*ℤ◌, neg_ℤ, ◌≤ℤ◌, ◌<ℤ◌}
 use Rattle.qh_model.specs.contract.ClosedSurface.{Triple, IsClosedSurface}
@@ -109,11 +109,7 @@ module _ (at : ℕ → Vector) (A : ℕ → Type 0) (i j k : ℕ) (plane : IsSup
           → Spans t ⊎ IsOther t
       level z =
           let parallel = level_parallel (at t.i) (at t.j) (at t.k) (at i) (at j) (at k) z.0 z.1 z.2 in
-          pick (along_or_opposite m n s.area plane.area parallel)
-        where
-          pick : IsAlong m n ⊎ IsAlong m (opposite n) → Spans t ⊎ IsOther t
-          pick (inl h) = inl (h, z.0)
-          pick (inr h) = inr (inr (z.3, away h))
+          ⊎_elim (λ h. inl (h, z.0)) (λ h. inr (inr (z.3, away h))) (along_or_opposite m n s.area plane.area parallel)
 
   -- a point beyond the plane that is below each triangle with another plane
   none_other : (ts : List Triple) → IsClosedSurface at ts → AreSupporting at A ts
@@ -205,7 +201,7 @@ closed_miss_no_plane at ids ts closed supporting i j k plane =
 -- the law
 pub closed_miss_no_extreme : ClosedMissNoExtreme
 closed_miss_no_extreme at ids ts closed supporting e extreme =
-    pick (one_or_all On Below ts (λ t r. either t r (zero_or_not (height t))))
+    ⊎_elim (λ r. (r.0, r.1, r.2)) (λ f. absurd (none f (separator others))) (one_or_all On Below ts (λ t r. either t r (zero_or_not (height t))))
   where
     height : Triple → ℤ
     height t = vol (at t.i) (at t.j) (at t.k) (at e)
@@ -245,16 +241,7 @@ closed_miss_no_extreme at ids ts closed supporting e extreme =
             corner (inr (inr (inr x))) = absurd x
 
     separator : (ys : List ℕ) × Listed Rest ys → Separator at Rest (at e)
-    separator (ys, l) = side (alternative_in at Rest ys l (at e))
-      where
-        side : Combination at Rest (at e) ⊎ Separator at Rest (at e) → Separator at Rest (at e)
-        side (inl m) = absurd (extreme.1 m)
-        side (inr s) = s
+    separator (ys, l) = ⊎_elim (λ m. absurd (extreme.1 m)) (λ s. s) (alternative_in at Rest ys l (at e))
 
     others : (ys : List ℕ) × Listed Rest ys
     others = listed_part (Members ids) (λ l. l ≢ e) (apart e) ids (listed_itself ids)
-
-    pick : ((t : Triple) × In t ts × On t) ⊎ ((t : Triple) → In t ts → Below t)
-        → (t : Triple) × In t ts × (vol (at t.i) (at t.j) (at t.k) (at e) ≡ pos 0)
-    pick (inl r) = (r.0, r.1, r.2)
-    pick (inr f) = absurd (none f (separator others))

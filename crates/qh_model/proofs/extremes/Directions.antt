@@ -1,5 +1,5 @@
 -- Directions up to a positive scale, and the normals of triangles in one plane.
-use Rattle.std.proofs.Common.{◌≡◌, ◌≢◌, ℕ, zero, suc, ◌<◌, arith, refl, sym, ap, subst, ◌∙◌, ◌⊎◌, inl, inr, [], ◌∷◌}
+use Rattle.std.proofs.Common.{◌≡◌, ◌≢◌, ℕ, zero, suc, ◌<◌, arith, refl, sym, ap, subst, ◌∙◌, ◌⊎◌, inl, inr, [], ◌∷◌, ⊎_elim}
 use Rattle.std.proofs.lemmas.Int.{ints, by_lt_z}
 use Rattle.std.specs.Prelude.{ℤ, pos, negsuc, ◌+ℤ◌, ◌*ℤ◌, neg_ℤ, ◌<ℤ◌, ◌≤ℤ◌}
 use Rattle.qh_model.specs.headline.{Predicates.cross, Predicates.vol, Predicates.left, Predicates.AreInLine, Vector.Vector, Vector.origin, Vector.minus}
@@ -182,11 +182,8 @@ in_line-flip a b c e =
 -- a triangle at right angles to n has the direction of n, one way round or the other
 pub normal_along : (n a b c : Vector) → n ≢ origin → ¬ (AreInLine a b c) → dot n (minus b a) ≡ pos 0 → dot n (minus c a) ≡ pos 0
     → IsAlong n (cross a b c) ⊎ IsAlong n (cross a c b)
-normal_along n a b c h k e f = either (along_or_opposite n (cross a b c) h k (parallel_normal n a b c e f))
-  where
-    either : IsAlong n (cross a b c) ⊎ IsAlong n (opposite (cross a b c)) → IsAlong n (cross a b c) ⊎ IsAlong n (cross a c b)
-    either (inl l) = inl l
-    either (inr l) = inr (subst (λ v. IsAlong n v) (sym (cross-flip a b c)) l)
+normal_along n a b c h k e f =
+    ⊎_elim (λ l. inl l) (λ l. inr (subst (λ v. IsAlong n v) (sym (cross-flip a b c)) l)) (along_or_opposite n (cross a b c) h k (parallel_normal n a b c e f))
 
 -- the difference of two points from one of them in the plane
 pub from_plane : (a b c p l : Vector) → vol a b c p ≡ pos 0 → dot (cross a b c) (minus l p) ≡ vol a b c l

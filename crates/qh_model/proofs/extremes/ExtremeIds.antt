@@ -1,5 +1,5 @@
 -- The greatest member in a direction is extreme, members are mixes of extremes, and extremes of a union.
-use Rattle.std.proofs.Common.{◌≡◌, ◌≢◌, ℕ, zero, suc, ◌<◌, arith, refl, sym, subst, ◌⊎◌, inl, inr, ◌↔◌, List, [], ◌∷◌, ◌++◌}
+use Rattle.std.proofs.Common.{◌≡◌, ◌≢◌, ℕ, zero, suc, ◌<◌, arith, refl, sym, subst, ◌⊎◌, inl, inr, ◌↔◌, List, [], ◌∷◌, ◌++◌, ⊎_elim}
 use Rattle.std.proofs.lemmas.Int.{ints}
 use Rattle.std.specs.{List.AllByRecursion as Every, Prelude.ℤ, Prelude.pos, Prelude.◌+ℤ◌, Prelude.◌*ℤ◌, Prelude.◌<ℤ◌}
 use native.Mathlib.Decide.{ℕ_discrete}
@@ -83,11 +83,8 @@ combination_within at A B p m f = combination_by_names at at A B (λ j. j) f (λ
 
 -- a listed set combines to p or is separated from it
 pub alternative_in : (at : ℕ → Vector) (A : ℕ → Type 0) (xs : List ℕ) → Listed A xs → (p : Vector) → Combination at A p ⊎ Separator at A p
-alternative_in at A xs l p = by_cases (combination_or_separator at xs p)
-  where
-    by_cases : Combination at (Members xs) p ⊎ Separator at (Members xs) p → Combination at A p ⊎ Separator at A p
-    by_cases (inl m) = inl (combination_within at (Members xs) A p m (λ j c. (l j).1 c))
-    by_cases (inr s) = inr (record { w = s.w; past = λ a h. s.past a ((l a).0 h) })
+alternative_in at A xs l p = ⊎_elim (λ m. inl (combination_within at (Members xs) A p m (λ j c. (l j).1 c)))
+    (λ s. inr (record { w = s.w; past = λ a h. s.past a ((l a).0 h) })) (combination_or_separator at xs p)
 
 -- the members that pass a test, listed
 sifted : (P : ℕ → Type 0) → ((i : ℕ) → P i ⊎ (¬ (P i))) → (xs : List ℕ) → (ys : List ℕ) × Listed (λ j. In j xs × P j) ys

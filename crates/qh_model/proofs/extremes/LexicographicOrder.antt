@@ -1,5 +1,5 @@
 -- The lexicographic order of vectors: a greatest one exists, and one functional sees the order of finitely many.
-use Rattle.std.proofs.Common.{◌≡◌, ℕ, zero, suc, arith, refl, sym, ◌∙◌, ◌⊎◌, inl, inr, List, [], ◌∷◌}
+use Rattle.std.proofs.Common.{◌≡◌, ℕ, zero, suc, arith, refl, sym, ◌∙◌, ◌⊎◌, inl, inr, List, [], ◌∷◌, ⊎_elim}
 use Rattle.std.proofs.{Math.Nat.mul-le-mul_left, lemmas.Int.ints, lemmas.Int.by_lt_z}
 use Rattle.std.specs.{List.AllByRecursion as Every, Prelude.ℤ, Prelude.pos, Prelude.◌+ℤ◌, Prelude.◌-ℤ◌, Prelude.◌*ℤ◌, Prelude.neg_ℤ, Prelude.◌<ℤ◌, Prelude.◌≤ℤ◌}
 use borrow.Author.Differences.{lt_out, le_out}
@@ -112,11 +112,7 @@ joined : (Q : Type 0) (N : ℕ) (a b t s : ℤ) → (Q ⊎ (a <ℤ b)) ⊎ (t <�
     → Q ⊎ ((pos N *ℤ a +ℤ t) <ℤ (pos N *ℤ b +ℤ s))
 joined Q N a b t s (inl (inl q)) h = inl q
 joined Q N a b t s (inl (inr l)) h = inr (first_decides N a b t s l h.1)
-joined Q N a b t s (inr l) h = by_cases h.0
-  where
-    by_cases : Q ⊎ (a ≤ℤ b) → Q ⊎ ((pos N *ℤ a +ℤ t) <ℤ (pos N *ℤ b +ℤ s))
-    by_cases (inl q) = inl q
-    by_cases (inr m) = inr (rest_decides N a b t s m l)
+joined Q N a b t s (inr l) h = ⊎_elim (λ q. inl q) (λ m. inr (rest_decides N a b t s m l)) h.0
 
 -- one more coordinate
 extend : {A : Type 0} (n : ℕ) (Q : A → Type 0) (key : A → V (suc n)) (K : V (suc n)) (xs : List A) → Every (λ j. Q j ⊎ Less (suc n) (key j) K) xs

@@ -1,5 +1,5 @@
 -- Lists that have each member once: their length is known by their members, and a place by its member.
-use Rattle.std.proofs.Common.{◌≡◌, ℕ, zero, suc, ◌+◌, ◌<◌, ◌≤◌, refl, List, [], ◌∷◌, length, get_or, arith, ap, sym, subst, ◌∙◌, ◌⊎◌, inl, inr}
+use Rattle.std.proofs.Common.{◌≡◌, ℕ, zero, suc, ◌+◌, ◌<◌, ◌≤◌, refl, List, [], ◌∷◌, length, get_or, arith, ap, sym, subst, ◌∙◌, ◌⊎◌, inl, inr, ⊎_elim}
 use Rattle.std.specs.Prelude.{◌↔◌}
 use Rattle.qh_model.specs.headline.Sets.{In, Once}
 use Rattle.qh_model.proofs.Members.{In-get_or}
@@ -24,11 +24,7 @@ without-others x [] i y j = absurd i
 without-others x (z ∷ xs) (inl e) y (inl d) = inl (d ∙ sym e)
 without-others x (z ∷ xs) (inl e) y (inr j) = inr j
 without-others x (z ∷ xs) (inr i) y (inl d) = inr (inl d)
-without-others {X} x (z ∷ xs) (inr i) y (inr j) = by_cases (without-others x xs i y j)
-  where
-    by_cases : (y ≡ x) ⊎ In y (without x xs i) → (y ≡ x) ⊎ ((y ≡ z) ⊎ In y (without x xs i))
-    by_cases (inl e) = inl e
-    by_cases (inr k) = inr (inr k)
+without-others {X} x (z ∷ xs) (inr i) y (inr j) = ⊎_elim (λ e. inl e) (λ k. inr (inr k)) (without-others x xs i y j)
 
 -- a list that has each member once is no longer than one that has its members
 pub once_within : {X : Type 0} (xs ys : List X) → Once xs → ((z : X) → In z xs → In z ys) → length xs ≤ length ys

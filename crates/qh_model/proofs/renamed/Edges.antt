@@ -1,5 +1,5 @@
 -- The edges of a set renamed in its order.
-use Rattle.std.proofs.Common.{◌≡◌, ℕ, ◌<◌, ◌⊎◌, List, map, sym, ap, subst, ◌∙◌, inl, inr}
+use Rattle.std.proofs.Common.{◌≡◌, ℕ, ◌<◌, ◌⊎◌, List, map, sym, ap, subst, ◌∙◌, inl, inr, ⊎_elim}
 use Rattle.std.proofs.lemmas.List.{length-map}
 use Rattle.qh_model.specs.headline.{Polygon.Follows, Polygons.IsEdge, Polygons.IsEdgeCount, Sets.In, Vector.Vector}
 use Rattle.qh_model.proofs.{lists.Images.in_map, lists.Images.of_map, lists.Images.once_map, polygons.Neighbours.follows_members, renamed.Lists.AreWithin}
@@ -15,11 +15,7 @@ module _ {at at' : ℕ → Vector} {A B : ℕ → Type 0} {f g : ℕ → ℕ} (r
   edge_renamed : (qs : List (List ℕ)) → AreWithin A qs → (u v : ℕ) → IsEdge qs u v → IsEdge (map (map f) qs) (f u) (f v)
   edge_renamed qs within u v (h, (q, m, n)) =
       let ends = edge_members qs within u v (h, (q, m, n)) in
-      (r.rises u v ends.0 ends.1 h, (map f q, in_map (map f) qs q m, next n))
-    where
-      next : Follows u v q ⊎ Follows v u q → Follows (f u) (f v) (map f q) ⊎ Follows (f v) (f u) (map f q)
-      next (inl s) = inl (follows_map f u v q s)
-      next (inr s) = inr (follows_map f v u q s)
+      (r.rises u v ends.0 ends.1 h, (map f q, in_map (map f) qs q m, ⊎_elim (λ s. inl (follows_map f u v q s)) (λ s. inr (follows_map f v u q s)) n))
 
   -- an edge of the names is one of ids
   of_edge_renamed : (qs : List (List ℕ)) → AreWithin A qs → (u v : ℕ) → IsEdge (map (map f) qs) u v

@@ -1,5 +1,5 @@
 -- The polygons of a set renamed in its order.
-use Rattle.std.proofs.Common.{◌↔◌, ◌≡◌, ℕ, ◌⊎◌, List, map, refl, sym, ap, subst, ◌∙◌, inl, inr}
+use Rattle.std.proofs.Common.{◌↔◌, ◌≡◌, ℕ, ◌⊎◌, List, map, refl, sym, ap, subst, ◌∙◌, inl, inr, ⊎_elim}
 use Rattle.std.specs.Prelude.{pos, ◌<ℤ◌, ◌≤ℤ◌}
 use Rattle.qh_model.specs.headline.{Extreme.Extreme, Polygon.Follows, Polygon.TurnsLeft, Polygon.IsPolygon}
 use Rattle.qh_model.specs.headline.Polygons.{IsFacePolygon, AreFaces, PointsForward, IsFlatFace, IsSegmentFace, ArePolygons}
@@ -133,11 +133,8 @@ module _ {at at' : ℕ → Vector} {A B : ℕ → Type 0} {f g : ℕ → ℕ} (r
       named l (inr e) = subst (Extreme at' B) (sym e) (extreme_renamed r h.j ((h.members h.j).0 (inr refl)))
 
       ends : (l : ℕ) → Extreme at' B l → (l ≡ f h.i) ⊎ (l ≡ f h.j)
-      ends l e = one ((h.members (g l)).1 (extreme_renamed (renaming_back r) l e))
-        where
-          one : (g l ≡ h.i) ⊎ (g l ≡ h.j) → (l ≡ f h.i) ⊎ (l ≡ f h.j)
-          one (inl d) = inl (sym (r.under l e.0) ∙ ap f d)
-          one (inr d) = inr (sym (r.under l e.0) ∙ ap f d)
+      ends l e = ⊎_elim (λ d. inl (sym (r.under l e.0) ∙ ap f d))
+          (λ d. inr (sym (r.under l e.0) ∙ ap f d)) ((h.members (g l)).1 (extreme_renamed (renaming_back r) l e))
 
   -- the polygons in every dimension
   pub polygons_renamed : (k : ℕ) (qs : List (List ℕ)) → AreWithin A qs → ArePolygons at A k qs → ArePolygons at' B k (map (map f) qs)

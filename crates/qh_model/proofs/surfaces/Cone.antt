@@ -2,7 +2,7 @@
 use Rattle.qh_model.specs.contract.SoundSurface.{IsInner, IsStrictWhenPerturbed, IsSound, IsStrict, perturbed, towards}
 use Rattle.qh_model.specs.contract.Surface.{IsCorner, Side, Surface, IsWhole, end, rise, start}
 use Rattle.qh_model.specs.{contract.Weighted.Weighted, headline.Sets.In, steps.FarCorners.far}
-use Rattle.std.proofs.Common.{◌≡◌, ◌≢◌, ℕ, ◌+◌, ◌≤◌, refl, arith, ap, sym, ◌∙◌, subst, ◌⊎◌, inl, inr}
+use Rattle.std.proofs.Common.{◌≡◌, ◌≢◌, ℕ, ◌+◌, ◌≤◌, refl, arith, ap, sym, ◌∙◌, subst, ◌⊎◌, inl, inr, ⊎_elim}
 use native.Mathlib.Decide.{ℕ_discrete}
 use Rattle.std.specs.Prelude.{pos, ◌≤ℤ◌, ◌<ℤ◌}
 use Rattle.qh_model.proofs.{algebra.Signs.not_less, algebra.Signs.equal_negative, surfaces.ConePlanes.Old}
@@ -115,11 +115,8 @@ module _ {m m' : Surface} {home : ℕ → Weighted} {o : Weighted} {p : ℕ} (w 
 
   -- the inner point stays strictly below
   pub inner_kept : IsInner m' home o
-  inner_kept f' i = from (r.origin f' i)
-    where
-      from : KeptOf m m' home p f' ⊎ ConeOf m m' home p r.number f' → rise m' home f' o <ℤ pos 0
-      from (inl k) = equal_negative _ _ (kept_rise k home o) (q.inner f' k.live)
-      from (inr n) = equal_negative _ _ (cone_rise n home o) (cone_inside n).1
+  inner_kept f' i =
+      ⊎_elim (λ k. equal_negative _ _ (kept_rise k home o) (q.inner f' k.live)) (λ n. equal_negative _ _ (cone_rise n home o) (cone_inside n).1) (r.origin f' i)
 
   -- all is strict again, with p perturbed inwards far more than the others
   pub lifted_kept : IsStrictWhenPerturbed m' home o

@@ -1,5 +1,5 @@
 -- A finished surface misses no extreme id and no supporting plane.
-use Rattle.std.proofs.Common.{◌↔◌, ◌≡◌, ◌≢◌, ℕ, arith, refl, sym, ap, subst, ◌∙◌, ◌⊎◌, inl, inr, List, [], ◌∷◌}
+use Rattle.std.proofs.Common.{◌↔◌, ◌≡◌, ◌≢◌, ℕ, arith, refl, sym, ap, subst, ◌∙◌, ◌⊎◌, inl, inr, List, [], ◌∷◌, ⊎_elim}
 use Rattle.std.proofs.lemmas.Int.{ints}
 use native.Mathlib.Decide.{ℕ_discrete}
 use Rattle.std.specs.Prelude.{ℤ, pos, ◌+ℤ◌, ◌-ℤ◌, ◌*ℤ◌, ◌≤ℤ◌, ◌<ℤ◌}
@@ -23,12 +23,7 @@ use Rattle.qh_model.proofs.surfaces.{Facets.corner_test, Simplex.middle_is_below
 separated : (at : ℕ → Vector) (ids : List ℕ) (l : ℕ) → Extreme at (Members ids) l → Separator at (Others (Members ids) l) (at l)
 separated at ids l e =
     let others = listed_part (Members ids) (λ j. j ≢ l) (apart l) ids (listed_itself ids) in
-    sides (alternative_in at (Others (Members ids) l) others.0 others.1 (at l))
-  where
-    sides : Combination at (Others (Members ids) l) (at l) ⊎ Separator at (Others (Members ids) l) (at l)
-        → Separator at (Others (Members ids) l) (at l)
-    sides (inl c) = absurd (e.1 c)
-    sides (inr s) = s
+    ⊎_elim (λ c. absurd (e.1 c)) (λ s. s) (alternative_in at (Others (Members ids) l) others.0 others.1 (at l))
 
 -- ---- directions as planes
 -- the plane that measures along w

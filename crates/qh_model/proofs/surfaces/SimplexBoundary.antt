@@ -2,7 +2,7 @@
 use Rattle.qh_model.specs.contract.{Surface.IsCorner, Surface.Surface, Surface.rise, Weighted.Weighted, Weighted.above}
 use Rattle.qh_model.specs.contract.SoundSurface.{HasDistinctFacets, IsInner, IsSound, IsStrict, perturbed}
 use Rattle.qh_model.specs.laws.SimplexSurface.{IsSimplexBoundary}
-use Rattle.std.proofs.Common.{ap, ◌≡◌, ℕ, ◌≤◌, arith, sym, ◌∙◌, subst, ◌⊎◌, inl, inr}
+use Rattle.std.proofs.Common.{ap, ◌≡◌, ℕ, ◌≤◌, arith, sym, ◌∙◌, subst, ◌⊎◌, inl, inr, ⊎_elim}
 use Rattle.std.proofs.lemmas.Int.{ints}
 use Rattle.std.specs.Prelude.{ℤ, pos, ◌+ℤ◌, ◌*ℤ◌, ◌<ℤ◌}
 use Rattle.qh_model.proofs.algebra.{Order.mul-pos_neg, Signs.less_differ}
@@ -19,11 +19,8 @@ module _ (m : Surface) (home : ℕ → Weighted) (r : IsSimplexBoundary m home) 
 
   -- the facets differ
   distinct_home : HasDistinctFacets m
-  distinct_home f g i j within = same (r.known f g i j)
-    where
-      same : IsCorner m f (r.missing g) ⊎ (r.missing g ≡ r.missing f) → f ≡ g
-      same (inl k) = absurd (less_differ _ _ (r.below g j) (rise_own m home g (r.missing g) (within (r.missing g) k)))
-      same (inr e) = r.once f g i j (sym e)
+  distinct_home f g i j within = ⊎_elim (λ k. absurd (less_differ _ _ (r.below g j) (rise_own m home g (r.missing g) (within (r.missing g) k))))
+      (λ e. r.once f g i j (sym e)) (r.known f g i j)
 
 -- with no share at all
 strict_perturbed : (m : Surface) (home : ℕ → Weighted) (o : Weighted) → IsStrict m home → (n : ℕ) → 1 ≤ n → IsStrict m (perturbed home o (λ l. 0) n)

@@ -1,7 +1,7 @@
 -- Points that see a removed facet and none of the cone see nothing; points that see nothing see nothing of the cone.
 use Rattle.qh_model.specs.contract.{SoundSurface.IsSound, Surface.Side, Surface.Surface, Surface.IsWhole, Surface.end, Surface.rise, Surface.start}
 use Rattle.qh_model.specs.{contract.Weighted.Weighted, headline.Sets.In, laws.Horizons.IsConeUnseen, steps.FarCorners.far}
-use Rattle.std.proofs.Common.{◌≡◌, ℕ, refl, sym, ◌∙◌, ◌⊎◌, inl, inr, Bool, true}
+use Rattle.std.proofs.Common.{◌≡◌, ℕ, refl, sym, ◌∙◌, ◌⊎◌, inl, inr, Bool, true, ⊎_elim}
 use Rattle.std.proofs.lemmas.{Bool.and_parts, Int.by_lt_z}
 use Rattle.std.specs.Prelude.{pos, ◌≤ℤ◌, ◌<ℤ◌, ◌&&◌}
 use Rattle.qh_model.proofs.algebra.Signs.{not_less, equal_le, equal_nonpos}
@@ -57,8 +57,5 @@ module _ {m m' : Surface} {home : ℕ → Weighted} {p : ℕ} (r : Replaced m m'
 
   -- the apex is on its cone and sees no kept facet
   pub apex_settled : (f' : ℕ) → In f' m'.live → rise m' home f' (home p) ≤ℤ pos 0
-  apex_settled f' i = from (r.origin f' i)
-    where
-      from : KeptOf m m' home p f' ⊎ ConeOf m m' home p r.number f' → rise m' home f' (home p) ≤ℤ pos 0
-      from (inl k) = equal_nonpos _ _ (kept_rise k home (home p)) k.blind
-      from (inr n) = equal_le _ _ (sym (cone_rise n home (home p)) ∙ above-third (home (start m n.f n.s)) (home (end m n.f n.s)) (home p))
+  apex_settled f' i = ⊎_elim (λ k. equal_nonpos _ _ (kept_rise k home (home p)) k.blind)
+      (λ n. equal_le _ _ (sym (cone_rise n home (home p)) ∙ above-third (home (start m n.f n.s)) (home (end m n.f n.s)) (home p))) (r.origin f' i)
