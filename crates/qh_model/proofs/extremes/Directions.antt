@@ -28,8 +28,7 @@ at_least_along s t v w h k e l = cancel-nonneg (pos t) w (omega (arith, ints)) (
 -- above 0
 pub positive_along : (s t : ℕ) (v w : ℤ) → 0 < s → 0 < t → pos s *ℤ v ≡ pos t *ℤ w → pos 0 <ℤ v → pos 0 <ℤ w
 positive_along s t v w h k e l =
-    cancel-pos (pos t) w (omega (arith, ints))
-    (equal_positive (pos s *ℤ v) (pos t *ℤ w) e (mul-pos (pos s) v (omega (arith, ints)) l))
+    cancel-pos (pos t) w (omega (arith, ints)) (equal_positive (pos s *ℤ v) (pos t *ℤ w) e (mul-pos (pos s) v (omega (arith, ints)) l))
 
 -- 0
 pub zero_along : (s t : ℕ) (v w : ℤ) → 0 < t → pos s *ℤ v ≡ pos t *ℤ w → v ≡ pos 0 → w ≡ pos 0
@@ -129,8 +128,7 @@ square-positive n h = by_lt_z (pos 0) (dot n n) (λ q. q) (λ q. absurd (h (flat
 -- a vector parallel to n has its direction or the opposite one
 pub along_or_opposite : (n r : Vector) → n ≢ origin → r ≢ origin → Parallel n r → IsAlong n r ⊎ IsAlong n (opposite r)
 along_or_opposite n r h k e = by_lt_z (pos 0) s (λ l. inl (along_by n r s t l p (sym e.x) (sym e.y) (sym e.z)))
-    (λ l. by_lt_z s (pos 0)
-    (λ q. inr (along_by n (opposite r) (neg_ℤ s) t (above q) p (turned n.x r.x e.x) (turned n.y r.y e.y)
+    (λ l. by_lt_z s (pos 0) (λ q. inr (along_by n (opposite r) (neg_ℤ s) t (above q) p (turned n.x r.x e.x) (turned n.y r.y e.y)
     (turned n.z r.z e.z))) (λ q. absurd (k (flat (le_antisym s (pos 0) l q)))))
   where
     s : ℤ
@@ -165,9 +163,7 @@ pub cross-flip : (a b c : Vector) → cross a c b ≡ opposite (cross a b c)
 unfolding cross
 cross-flip a b c =
     let P = subE (vec 1) (vec 0) in let Q = subE (vec 2) (vec 0) in let env = put a (put b (put c [])) in
-    vector_path (cross a c b) (opposite (cross a b c))
-    (ring env (crossE Q P).x (neg (crossE P Q).x) refl)
-    (ring env (crossE Q P).y (neg (crossE P Q).y) refl)
+    vector_path (cross a c b) (opposite (cross a b c)) (ring env (crossE Q P).x (neg (crossE P Q).x) refl) (ring env (crossE Q P).y (neg (crossE P Q).y) refl)
     (ring env (crossE Q P).z (neg (crossE P Q).z) refl)
 
 -- three points are in line either way

@@ -34,8 +34,7 @@ abbrev bent : Vector → V 4 → Vector
 bent w u = record { x = u.0 *ℤ w.x +ℤ u.1.0; y = u.0 *ℤ w.y +ℤ u.1.1.0; z = u.0 *ℤ w.z +ℤ u.1.1.1.0 }
 
 -- a step of the next
-bent_step : (n a b c u v w x y z : ℤ)
-    → (n *ℤ u +ℤ a) *ℤ x +ℤ (n *ℤ v +ℤ b) *ℤ y +ℤ (n *ℤ w +ℤ c) *ℤ z
+bent_step : (n a b c u v w x y z : ℤ) → (n *ℤ u +ℤ a) *ℤ x +ℤ (n *ℤ v +ℤ b) *ℤ y +ℤ (n *ℤ w +ℤ c) *ℤ z
     ≡ n *ℤ (u *ℤ x +ℤ v *ℤ y +ℤ w *ℤ z) +ℤ (a *ℤ x +ℤ (b *ℤ y +ℤ (c *ℤ z +ℤ pos 0)))
 bent_step n a b c u v w x y z = simp ring_rules (omega (arith, ints))
 
@@ -170,8 +169,7 @@ combination_of_extremes at A xs l d i h = from_witness (listed_part A (λ j. ¬ 
       where
         clash : Greatest 4 (λ j. key s.w (at j)) xs → ⊥
         clash g = not_above _ _ _ _
-            (every_at (λ j. AtMost 4 (key s.w (at j)) (key s.w (at g.top))) xs i g.above ((l i).0 h))
-            (s.past g.top (top_is_extreme at A xs l d s.w g))
+            (every_at (λ j. AtMost 4 (key s.w (at j)) (key s.w (at g.top))) xs i g.above ((l i).0 h)) (s.past g.top (top_is_extreme at A xs l d s.w g))
 
     from_witness : (ys : List ℕ) × Listed (Extreme at A) ys → Combination at (Extreme at A) (at i)
     from_witness (ys, k) = sides (alternative_in at (Extreme at A) ys k (at i))
@@ -229,8 +227,7 @@ listed_blocks n block j = (λ h. in_gathered n block j h.0 h.1 h.2, of_gathered 
 -- the law
 pub union_of_extremes : UnionOfExtremes
 union_of_extremes at n block d =
-    extremes_between at (InBlocks n (λ k. Members (block k))) (InBlocks n (λ k. Extreme at (Members (block k))))
-    (gathered n block) (listed_blocks n block) d
+    extremes_between at (InBlocks n (λ k. Members (block k))) (InBlocks n (λ k. Extreme at (Members (block k)))) (gathered n block) (listed_blocks n block) d
     (λ i b. (b.0, b.1, b.2.0))
     (λ i h. (
       h.0.0,

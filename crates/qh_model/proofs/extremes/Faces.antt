@@ -21,8 +21,7 @@ abbrev pub blend : Vector → Vector → V 2 → Vector
 blend n w u = record { x = u.0 *ℤ n.x +ℤ u.1.0 *ℤ w.x; y = u.0 *ℤ n.y +ℤ u.1.0 *ℤ w.y; z = u.0 *ℤ n.z +ℤ u.1.0 *ℤ w.z }
 
 -- a step of the next
-blend_step : (a b nx ny nz wx wy wz x y z : ℤ)
-    → (a *ℤ nx +ℤ b *ℤ wx) *ℤ x +ℤ (a *ℤ ny +ℤ b *ℤ wy) *ℤ y +ℤ (a *ℤ nz +ℤ b *ℤ wz) *ℤ z
+blend_step : (a b nx ny nz wx wy wz x y z : ℤ) → (a *ℤ nx +ℤ b *ℤ wx) *ℤ x +ℤ (a *ℤ ny +ℤ b *ℤ wy) *ℤ y +ℤ (a *ℤ nz +ℤ b *ℤ wz) *ℤ z
     ≡ a *ℤ (nx *ℤ x +ℤ ny *ℤ y +ℤ nz *ℤ z) +ℤ (b *ℤ (wx *ℤ x +ℤ wy *ℤ y +ℤ wz *ℤ z) +ℤ pos 0)
 blend_step a b nx ny nz wx wy wz x y z = simp ring_rules (omega (arith, ints))
 
@@ -59,8 +58,7 @@ face_up at A xs listed i j k s l h m = from_witness (listed_part A (λ t. vol a 
         → (vol a b c (at t) ≡ pos 0) ⊎ (¬ (vol a b c (at t) ≡ pos 0)) → Less 2 (pair n w.w (at t)) (pair n w.w (at l))
     apart w t o (inl e) = inr (on_plane _ _ _ (sym e ∙ vol-linear a b c (at t)) (sym h.0.1 ∙ vol-linear a b c (at l)), inl (w.past t ((o.0, e), o.1)))
     apart w t o (inr z) =
-        inl (below_plane _ _ _ _ (vol-linear a b c (at t))
-        (by_lt_z (vol a b c (at t)) (pos 0) (λ q. q) (λ q. absurd (z (le_antisym _ _ (s t o.0) q))))
+        inl (below_plane _ _ _ _ (vol-linear a b c (at t)) (by_lt_z (vol a b c (at t)) (pos 0) (λ q. q) (λ q. absurd (z (le_antisym _ _ (s t o.0) q))))
         (sym h.0.1 ∙ vol-linear a b c (at l)))
 
     sides : Combination at (Others (OnPlane at A i j k) l) (at l) ⊎ Separator at (Others (OnPlane at A i j k) l) (at l) → ⊥
@@ -92,8 +90,7 @@ extremes_of_face at ids i j k s l = (
 -- the law
 pub support_of_extremes : SupportOfExtremes
 support_of_extremes at ids d i j k s l h =
-    by_lt_z (pos 0) v (λ q. absurd (clash (combination_of_extremes at (Members ids) ids (listed_itself ids) d l h) q))
-    (λ q. q)
+    by_lt_z (pos 0) v (λ q. absurd (clash (combination_of_extremes at (Members ids) ids (listed_itself ids) d l h) q)) (λ q. q)
   where
     n : Vector
     n = cross (at i) (at j) (at k)

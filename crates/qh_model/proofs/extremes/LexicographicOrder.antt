@@ -49,8 +49,7 @@ same (suc n) u = (refl, same n u.1)
 compare : (n : ℕ) (u v : V n) → AtMost n u v ⊎ Less n v u
 compare zero u v = inl (inl tt)
 compare (suc n) u v =
-    by_lt_z u.0 v.0 (λ h. inl (inr (inl h)))
-    (λ h. by_lt_z v.0 u.0 (λ k. inr (inl k)) (λ k. tails (le_antisym u.0 v.0 k h) (compare n u.1 v.1)))
+    by_lt_z u.0 v.0 (λ h. inl (inr (inl h))) (λ h. by_lt_z v.0 u.0 (λ k. inr (inl k)) (λ k. tails (le_antisym u.0 v.0 k h) (compare n u.1 v.1)))
   where
     tails : u.0 ≡ v.0 → AtMost n u.1 v.1 ⊎ Less n v.1 u.1 → AtMost (suc n) u v ⊎ Less (suc n) v u
     tails e (inl (inl s)) = inl (inl (e, s))
@@ -75,10 +74,7 @@ greatest n key i (x ∷ xs) = with_first n key i (x ∷ xs) (greatest n key x xs
         record {
           top = i;
           member = inl refl;
-          above = (
-            inl (same n (key i)),
-            every_map _ _ xs (λ j l. inr (at_most_less n (key j) (key g.top) (key i) l h)) g.above,
-          );
+          above = (inl (same n (key i)), every_map _ _ xs (λ j l. inr (at_most_less n (key j) (key g.top) (key i) l h)) g.above);
         }
 
 -- ---- one functional for the order

@@ -46,8 +46,7 @@ once_length xs ys o p h =
     let a = once_within xs ys o (λ z. (h z).0) in let b = once_within ys xs p (λ z. (h z).1) in omega arith
 
 -- a member that stands once has one place
-pub once_place : {X : Type 0} (d : X) (xs : List X) → Once xs → (i j : ℕ) → i < length xs → j < length xs
-    → get_or xs i d ≡ get_or xs j d → i ≡ j
+pub once_place : {X : Type 0} (d : X) (xs : List X) → Once xs → (i j : ℕ) → i < length xs → j < length xs → get_or xs i d ≡ get_or xs j d → i ≡ j
 once_place d [] o i j l m e = absurd (omega arith)
 once_place d (x ∷ xs) o zero zero l m e = refl
 once_place d (x ∷ xs) o zero (suc j) l m e = absurd (o.0 (subst (λ y. In y xs) (sym e) (In-get_or xs j d (omega arith))))

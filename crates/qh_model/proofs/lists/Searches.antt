@@ -9,8 +9,7 @@ look : (P : ℕ → Type 0) → ((i : ℕ) → Dec (P i)) → (n : ℕ) → ((i 
 look P test zero = inr (λ i h. absurd (omega arith))
 look P test (suc n) = by_decision (test zero) (look (λ i. P (suc i)) (λ i. test (suc i)) n)
   where
-    by_decision : Dec (P zero) → ((i : ℕ) × P (suc i)) ⊎ ((i : ℕ) → i < n → ¬ (P (suc i)))
-        → ((i : ℕ) × P i) ⊎ ((i : ℕ) → i < suc n → ¬ (P i))
+    by_decision : Dec (P zero) → ((i : ℕ) × P (suc i)) ⊎ ((i : ℕ) → i < n → ¬ (P (suc i))) → ((i : ℕ) × P i) ⊎ ((i : ℕ) → i < suc n → ¬ (P i))
     by_decision (yes p) r = inl (zero, p)
     by_decision (no q) (inl r) = inl (suc r.0, r.1)
     by_decision (no q) (inr r) = inr none
@@ -20,8 +19,7 @@ look P test (suc n) = by_decision (test zero) (look (λ i. P (suc i)) (λ i. tes
         none (suc i) h = r i (omega arith)
 
 -- a walk that stays among the members of a list, and has one way only into each place, comes back to its first place
-pub comes_back : (u : ℕ → ℕ) (xs : List ℕ) → ((i : ℕ) → In (u i) xs) → ((i j : ℕ) → u (suc i) ≡ u (suc j) → u i ≡ u j)
-    → (k : ℕ) × (u (suc k) ≡ u zero)
+pub comes_back : (u : ℕ → ℕ) (xs : List ℕ) → ((i : ℕ) → In (u i) xs) → ((i j : ℕ) → u (suc i) ≡ u (suc j) → u i ≡ u j) → (k : ℕ) × (u (suc k) ≡ u zero)
 comes_back u xs within one_way = ⊎_elim (λ r. r) (λ n. absurd (never n)) (look (λ k. u (suc k) ≡ u zero) (λ k. ℕ_discrete (u (suc k)) (u zero)) (length xs))
   where
     -- where the walk comes by a place again, it does so at its first place

@@ -141,8 +141,7 @@ module _ (at : ℕ → Vector) (ids : List ℕ) (d : HasDistinctPoints at (Membe
       -- along the opposite of c all extremes are lower than what lies to the right
       lower : (x : ℕ) → Extreme at F x → left n (at u) (at v) (at l) <ℤ pos 0 → dot (opposite c) (at x) <ℤ dot (opposite c) (at l)
       lower x e r = order _ _ _ _ _ _ _ (left-linear n (at u) (at v) (at l)) (left-linear n (at u) (at v) (at x))
-          (dot-opposite c (at x)) (dot-opposite c (at l)) r
-          (extreme x ((extremes_of_face at ids i j k way.triple.supports x).0 e))
+          (dot-opposite c (at x)) (dot-opposite c (at l)) r (extreme x ((extremes_of_face at ids i j k way.triple.supports x).0 e))
         where
           order : (y z p r m x' l' : ℤ) → y ≡ p +ℤ m → z ≡ r +ℤ m → x' ≡ neg_ℤ r → l' ≡ neg_ℤ p → y <ℤ pos 0 → pos 0 ≤ℤ z → x' <ℤ l'
           order y z p r m x' l' e f g h a b = omega (arith, ints)

@@ -140,8 +140,7 @@ module _ {m m' : Surface} {home : ℕ → Weighted} {o : Weighted} {p : ℕ} (w 
       kept_as : (n f' : ℕ) → KeptOf m m' home p f' → (y : Weighted) → rise m (perturbed home o t.h n) f' y ≡ rise m' (perturbed home o h n) f' y
       kept_as n f k y =
           let same : (l : ℕ) → IsCorner m f l → perturbed home o t.h n l ≡ perturbed home o h n l = λ l c. sym (at_old n l (f, k.live, c)) in
-          rw (same (m.i f) (inl refl), same (m.j f) (inr (inl refl)), same (m.k f) (inr (inr refl)))
-          (kept_rise k (perturbed home o h n) y)
+          rw (same (m.i f) (inl refl), same (m.j f) (inr (inl refl)), same (m.k f) (inr (inr refl))) (kept_rise k (perturbed home o h n) y)
 
       strict : (n : ℕ) → t.from ≤ n → ch.from ≤ n → IsStrict m' (perturbed home o h n)
       strict n b1 b2 f' g' i j l c nc = below (r.origin f' i) (old_or_apex r g' l j c)
@@ -181,7 +180,6 @@ module _ {m m' : Surface} {home : ℕ → Weighted} {o : Weighted} {p : ℕ} (w 
               subst (λ y. rise m' at' f' y <ℤ pos 0) (sym (at_old n l old))
               (equal_negative _ _ (kept_as n f' k (at l)) (t.strict n b1 f' old.0 k.live old.1 l old.2 (λ x. nc (kept_corner k l x))))
           below (inl k) (inr e) =
-              subst (λ y. rise m' at' f' y <ℤ pos 0) (sym (ap at' e ∙ at_p n))
-              (equal_negative _ _ (kept_as n f' k top) (ch.down n b2 f' k.live k.blind))
+              subst (λ y. rise m' at' f' y <ℤ pos 0) (sym (ap at' e ∙ at_p n)) (equal_negative _ _ (kept_as n f' k top) (ch.down n b2 f' k.live k.blind))
           below (inr a) (inl old) = cone_old a old
           below (inr a) (inr e) = absurd (nc (inr (inr (e ∙ sym a.k_is))))

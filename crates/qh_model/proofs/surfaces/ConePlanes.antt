@@ -85,8 +85,7 @@ module _ (m : Surface) (at : ℕ → Weighted) where
     pub apex_blind : pos 0 <ℤ rise m at f p → rise m at (m.over f s) p ≤ℤ pos 0 → side_rise m at f s (at (far m f s)) <ℤ pos 0
         → rise m at f y ≤ℤ pos 0 → rise m at (m.over f s) y ≤ℤ pos 0 → apex_rise f s p y ≤ℤ pos 0
     apex_blind a b c d e =
-        not_above_planes _ _ _ _ _ _ products (side_seen m at f s p a) (far_blind m at w f i s p b) c
-        (side_blind m at f s y d) (far_blind m at w f i s y e)
+        not_above_planes _ _ _ _ _ _ products (side_seen m at f s p a) (far_blind m at w f i s p b) c (side_blind m at f s y d) (far_blind m at w f i s y e)
 
     -- both see y: so does the cone's facet
     pub apex_seen : pos 0 <ℤ rise m at f p → rise m at (m.over f s) p ≤ℤ pos 0 → rise m at f (at (far m f s)) ≤ℤ pos 0
@@ -118,8 +117,7 @@ module _ (m : Surface) (home : ℕ → Weighted) (o : Weighted) (w : IsWhole m) 
       own (inr (inr e)) = far_below m at w f i s (at l) (st (m.over f s) old.0 t.live old.1 l old.2 (away e))
 
   -- so it is strictly below the cone's facet, where the facet sees the apex and the neighbour is strictly above it
-  pub corner_below_cone : (top : Weighted) → pos 0 <ℤ rise m at f top → rise m at (m.over f s) top <ℤ pos 0
-      → apex_rise m at f s top (at l) <ℤ pos 0
+  pub corner_below_cone : (top : Weighted) → pos 0 <ℤ rise m at f top → rise m at (m.over f s) top <ℤ pos 0 → apex_rise m at f s top (at l) <ℤ pos 0
   corner_below_cone top seen blind =
       below_one_plane _ _ _ _ _ _ (products m at w f i s top (at l)) (side_seen m at f s top seen) (far_below m at w f i s top blind)
       (bends m at home o w q st f i s) (side_blind m at f s (at l) (weak m at st f old.0 i old.1 l old.2))

@@ -214,8 +214,7 @@ module _ (m : Surface) (at : ℕ → Weighted) (h : IsStrict m at) (f g : ℕ) (
 
   -- a facet's middle is strictly below each other facet
   pub middle_below : HasDistinctFacets m → g ≢ f → rise m at f (middle m at g) <ℤ pos 0
-  middle_below d n =
-      by_lt_z (rise m at f (middle m at g)) (pos 0) (λ q. q) (λ q. absurd (n (d g f j i (λ l c. corner_on l c (level q l c)))))
+  middle_below d n = by_lt_z (rise m at f (middle m at g)) (pos 0) (λ q. q) (λ q. absurd (n (d g f j i (λ l c. corner_on l c (level q l c)))))
     where
       level : pos 0 ≤ℤ rise m at f (middle m at g) → (l : ℕ) → IsCorner m g l → rise m at f (at l) ≡ pos 0
       level q =

@@ -45,12 +45,10 @@ abbrev below_level : Vector → ℤ → Weighted
 below_level w L = record { w = pos 1 -ℤ pos 4 *ℤ L; x = pos 4 *ℤ w.x; y = pos 4 *ℤ w.y; z = pos 4 *ℤ w.z }
 
 -- how far a point is beyond it
-below_level-point : (w : Vector) (L : ℤ) (p : Vector)
-    → weighted_dot (below_level w L) (weighted p) ≡ pos 4 *ℤ dot w p +ℤ (pos 1 -ℤ pos 4 *ℤ L)
+below_level-point : (w : Vector) (L : ℤ) (p : Vector) → weighted_dot (below_level w L) (weighted p) ≡ pos 4 *ℤ dot w p +ℤ (pos 1 -ℤ pos 4 *ℤ L)
 below_level-point w L p =
     let W = vec 0 in let P = vec 1 in let four = mul (con (pos 4)) in let weight = less (con (pos 1)) (four (var 6)) in
-    ring (put w (put p (L ∷ [])))
-    (add (add (add (mul weight (con (pos 1))) (mul (four W.x) P.x)) (mul (four W.y) P.y)) (mul (four W.z) P.z))
+    ring (put w (put p (L ∷ []))) (add (add (add (mul weight (con (pos 1))) (mul (four W.x) P.x)) (mul (four W.y) P.y)) (mul (four W.z) P.z))
     (add (four (dotE W P)) weight) refl
 
 module _ (at : ℕ → Vector) (ids : List ℕ) (m : Surface) (z : IsFinished at ids m) where
@@ -118,8 +116,7 @@ module _ (at : ℕ → Vector) (ids : List ℕ) (m : Surface) (z : IsFinished at
       decide : IsCorner m q.f l ⊎ (¬ (IsCorner m q.f l)) → IsCorner m q.f l
       decide (inl c) = c
       decide (inr c) =
-          absurd (no_sum (q.all *ℤ height l) _ _ _ _ (q.mix n)
-          (mul-pos q.all (height l) q.all_pos (subst (λ x. pos 0 <ℤ x) (sym own) (omega (arith, ints))))
+          absurd (no_sum (q.all *ℤ height l) _ _ _ _ (q.mix n) (mul-pos q.all (height l) q.all_pos (subst (λ x. pos 0 <ℤ x) (sym own) (omega (arith, ints))))
           (share q.u (m.i q.f) q.u_nonneg (inl refl)) (share q.v (m.j q.f) q.v_nonneg (inr (inl refl)))
           (share q.w (m.k q.f) q.w_nonneg (inr (inr refl))) (mul-nonneg_nonpos q.t (weighted_dot n o) q.t_nonneg middle_low))
         where
@@ -159,8 +156,7 @@ module _ (at : ℕ → Vector) (ids : List ℕ) (m : Surface) (z : IsFinished at
   middle_below i j k t =
       let n = cross (at i) (at j) (at k) in
       let low = none_above i j k t in
-      middle_is_below (P i) (P j) (P k) (P z.s) (P z.t) (P z.u) (P z.v) (across n)
-      (subst (λ x. x <ℤ pos 0) (sym (is_vol z.s z.t z.u z.v)) z.volume)
+      middle_is_below (P i) (P j) (P k) (P z.s) (P z.t) (P z.u) (P z.v) (across n) (subst (λ x. x <ℤ pos 0) (sym (is_vol z.s z.t z.u z.v)) z.volume)
       (low z.s z.has_s) (low z.t z.has_t) (low z.u z.has_u) (low z.v z.has_v)
       (λ e. less_differ (pos 0) (dot n n) (square-positive n t.area) (sym e ∙ normal-above (at i) (at j) (at k)))
 
@@ -222,8 +218,7 @@ module _ (at : ℕ → Vector) (ids : List ℕ) (m : Surface) (z : IsFinished at
         same_side (normal_along (cross (at i) (at j) (at k)) (at a) (at b) (at c) t.area r.area
         (from_plane (at i) (at j) (at k) (at a) (at b) e ∙ f) (from_plane (at i) (at j) (at k) (at a) (at c) e ∙ g))
       where
-        same_side : IsAlong (cross (at i) (at j) (at k)) (cross (at a) (at b) (at c))
-            ⊎ IsAlong (cross (at i) (at j) (at k)) (cross (at a) (at c) (at b))
+        same_side : IsAlong (cross (at i) (at j) (at k)) (cross (at a) (at b) (at c)) ⊎ IsAlong (cross (at i) (at j) (at k)) (cross (at a) (at c) (at b))
             → IsAlong (cross (at i) (at j) (at k)) (cross (at a) (at b) (at c))
             × ((l : ℕ) → (vol (at i) (at j) (at k) (at l) ≡ pos 0) ↔ (vol (at a) (at b) (at c) (at l) ≡ pos 0))
         same_side (inr h) = absurd (not_opposite h)

@@ -36,8 +36,7 @@ module _ (at : ℕ → Vector) (part : List ℕ) (m : Surface) (z : IsFinished a
   no_corner : IsLiveCorner m l → ⊥
   no_corner (f, i, c) =
       let p = at (m.i f) in let q = at (m.j f) in let r = at (m.k f) in
-      less_differ _ _ (below f i)
-      (of_corners m f (λ n. vol p q r (at n) ≡ pos 0) (vol-first p q r) (vol-second p q r) (vol-third p q r) l c)
+      less_differ _ _ (below f i) (of_corners m f (λ n. vol p q r (at n) ≡ pos 0) (vol-first p q r) (vol-second p q r) (vol-third p q r) l c)
 
   -- so it is not extreme in a set with the part
   pub inner_is_not_extreme : (ids : List ℕ) → ((i : ℕ) → In i part → In i ids) → ¬ (Extreme at (Members ids) l)

@@ -14,8 +14,7 @@ pub dropped_stay_unseen : (m : Surface) (home : ℕ → Weighted) (o : Weighted)
     → (p q : Weighted) (f0 : ℕ) → In f0 m.live → pos 0 <ℤ rise m home f0 p → pos 0 <ℤ rise m home f0 q → IsConeUnseen m home p q
     → (f : ℕ) → In f m.live → rise m home f p ≤ℤ pos 0 → rise m home f q ≤ℤ pos 0
 dropped_stay_unseen m home o w z p q f0 i0 sp sq unseen f i blind =
-    by_lt_z (pos 0) (rise m home f q)
-    (λ k. absurd (not_less (pos 0) (rise m home f p) (by_p f (connected m home o w z q c grown f i k)) blind)) (λ k. k)
+    by_lt_z (pos 0) (rise m home f q) (λ k. absurd (not_less (pos 0) (rise m home f p) (by_p f (connected m home o w z q c grown f i k)) blind)) (λ k. k)
   where
     c : ℕ → Bool
     c g = positive (rise m home g p) && positive (rise m home g q)
@@ -29,8 +28,7 @@ dropped_stay_unseen m home o w z p q f0 i0 sp sq unseen f i blind =
     joined : (g : ℕ) → pos 0 <ℤ rise m home g p → pos 0 <ℤ rise m home g q → c g ≡ true
     joined g a b = rw (positive-true (rise m home g p) a, positive-true (rise m home g q) b) refl
 
-    horizon : (g : ℕ) → In g m.live → (s : Side) → c g ≡ true → pos 0 <ℤ rise m home (m.over g s) q → rise m home (m.over g s) p ≤ℤ pos 0
-        → ⊥
+    horizon : (g : ℕ) → In g m.live → (s : Side) → c g ≡ true → pos 0 <ℤ rise m home (m.over g s) q → rise m home (m.over g s) p ≤ℤ pos 0 → ⊥
     horizon g j s e k l =
         let far_blind = cert m home o z.lifted g (m.over g s) j (w g j s).live (far m g s) (corner_rest m (m.over g s) (m.back g s)) in
         not_less _ _ (apex_seen m home w g j s p q (by_p g e) l far_blind (by_q g e) k) (unseen g j s (by_p g e) l)
