@@ -55,8 +55,7 @@ module _ (at : ℕ → Vector) (ts : List Triple) (z d : Vector) (c : IsLocallyC
 
           go : PointOff at z ts c.inside x inner → HighestMet at z x ts
           go (y, up, off_q, corner) =
-              walked at z ts c.inside c.convex x off (plus z y) off_q corner g j top
-              (edge y (at g.i) (at g.j) (up (cross z (at g.i) (at g.j)) (inl refl)))
+              walked at z ts c.inside c.convex x off (plus z y) off_q corner g j top (edge y (at g.i) (at g.j) (up (cross z (at g.i) (at g.j)) (inl refl)))
               (edge y (at g.j) (at g.k) (up (cross z (at g.j) (at g.k)) (inr (inl refl))))
               (edge y (at g.k) (at g.i) (up (cross z (at g.k) (at g.i)) (inr (inr (inl refl)))))
 
@@ -99,8 +98,7 @@ member_below at ids ts z d c all l m t i = ⊎_elim (λ k. convex at ts z d c l 
 
 -- the law of supporting triples
 pub local_supports : LocalSupports
-local_supports at ids ts z d c all =
-    (record { some = some ts c.once; area = area; closed = c.closed }, supporting)
+local_supports at ids ts z d c all = (record { some = some ts c.once; area = area; closed = c.closed }, supporting)
   where
     some : (us : List Triple) → count_by (is_met at z d) us ≡ 1 → 1 ≤ length us
     some [] e = cc

@@ -52,11 +52,8 @@ in_all f = both (λ r. both (λ s. both (λ t. both (λ u. both (λ v. both (λ 
 in_each : (f : Bool → Bool → Bool → Bool → Bool → Bool → Bool → Bool → Bool → Bool) → in_all f ≡ true
     → (a b c u₁ u₂ u₃ v₁ v₂ v₃ : Bool) → f a b c u₁ u₂ u₃ v₁ v₂ v₃ ≡ true
 in_each f e a b c u₁ u₂ u₃ v₁ v₂ v₃ =
-    each (λ z. f a b c u₁ u₂ u₃ v₁ v₂ z)
-    (each (λ y. both (λ z. f a b c u₁ u₂ u₃ v₁ y z))
-    (each (λ x. both (λ y. both (λ z. f a b c u₁ u₂ u₃ x y z)))
-    (each (λ w. both (λ x. both (λ y. both (λ z. f a b c u₁ u₂ w x y z))))
-    (each (λ v. both (λ w. both (λ x. both (λ y. both (λ z. f a b c u₁ v w x y z)))))
+    each (λ z. f a b c u₁ u₂ u₃ v₁ v₂ z) (each (λ y. both (λ z. f a b c u₁ u₂ u₃ v₁ y z)) (each (λ x. both (λ y. both (λ z. f a b c u₁ u₂ u₃ x y z)))
+    (each (λ w. both (λ x. both (λ y. both (λ z. f a b c u₁ u₂ w x y z)))) (each (λ v. both (λ w. both (λ x. both (λ y. both (λ z. f a b c u₁ v w x y z)))))
     (each (λ u. both (λ v. both (λ w. both (λ x. both (λ y. both (λ z. f a b c u v w x y z))))))
     (each (λ t. both (λ u. both (λ v. both (λ w. both (λ x. both (λ y. both (λ z. f a b t u v w x y z)))))))
     (each (λ s. both (λ t. both (λ u. both (λ v. both (λ w. both (λ x. both (λ y. both (λ z. f a s t u v w x y z))))))))
@@ -76,8 +73,7 @@ parts_add a b c u₁ u₂ u₃ v₁ v₂ v₃ h =
     (eqb-true _ _ (given (signs_fit a b c u₁ u₂ u₃ v₁ v₂ v₃) (counts_fit a b c u₁ u₂ u₃ v₁ v₂ v₃)
     (in_each (λ a b c u₁ u₂ u₃ v₁ v₂ v₃. gives (signs_fit a b c u₁ u₂ u₃ v₁ v₂ v₃) (counts_fit a b c u₁ u₂ u₃ v₁ v₂ v₃)) refl a b c u₁ u₂ u₃ v₁ v₂ v₃) h))
   where
-    plain : (p q r s i j k l : ℕ) → p + q + r + s ≡ i + j + k + l
-        → (pos p -ℤ pos i) +ℤ ((pos q -ℤ pos j) +ℤ (pos r -ℤ pos k)) ≡ pos l -ℤ pos s
+    plain : (p q r s i j k l : ℕ) → p + q + r + s ≡ i + j + k + l → (pos p -ℤ pos i) +ℤ ((pos q -ℤ pos j) +ℤ (pos r -ℤ pos k)) ≡ pos l -ℤ pos s
     plain p q r s i j k l e = omega (arith, ints)
 
 -- ---- the way from x to d, out of a triangle
@@ -97,8 +93,7 @@ abbrev onwards : (c u₂ u₃ v₂ v₃ : Bool) → Bool
 onwards c u₂ u₃ v₂ v₃ = (u₂ && u₃) || ((not c && (not u₂ && v₂)) || (c && (not u₃ && v₃)))
 
 -- it does
-pub goes_on : (a b c u₁ u₂ u₃ v₁ v₂ v₃ : Bool) → signs_fit a b c u₁ u₂ u₃ v₁ v₂ v₃ ≡ true
-    → a ≡ false → b ≡ true → u₁ ≡ true → v₁ ≡ false → GoesOn c u₂ u₃ v₂ v₃
+pub goes_on : (a b c u₁ u₂ u₃ v₁ v₂ v₃ : Bool) → signs_fit a b c u₁ u₂ u₃ v₁ v₂ v₃ ≡ true → a ≡ false → b ≡ true → u₁ ≡ true → v₁ ≡ false → GoesOn c u₂ u₃ v₂ v₃
 goes_on a b c u₁ u₂ u₃ v₁ v₂ v₃ h ea eb eu ev =
     split (given (not a && (b && (u₁ && not v₁))) (onwards c u₂ u₃ v₂ v₃)
     (given (signs_fit a b c u₁ u₂ u₃ v₁ v₂ v₃) (gives (not a && (b && (u₁ && not v₁))) (onwards c u₂ u₃ v₂ v₃))
@@ -126,8 +121,7 @@ abbrev starts : (a b c u₁ u₂ u₃ : Bool) → Bool
 starts a b c u₁ u₂ u₃ = (u₁ && (u₂ && u₃)) || (leaves a b u₁ || (leaves b c u₂ || leaves c a u₃))
 
 -- it does
-pub begins : (a b c u₁ u₂ u₃ v₁ v₂ v₃ : Bool) → signs_fit a b c u₁ u₂ u₃ v₁ v₂ v₃ ≡ true
-    → v₁ ≡ true → v₂ ≡ true → v₃ ≡ true → Begins a b c u₁ u₂ u₃
+pub begins : (a b c u₁ u₂ u₃ v₁ v₂ v₃ : Bool) → signs_fit a b c u₁ u₂ u₃ v₁ v₂ v₃ ≡ true → v₁ ≡ true → v₂ ≡ true → v₃ ≡ true → Begins a b c u₁ u₂ u₃
 begins a b c u₁ u₂ u₃ v₁ v₂ v₃ h e₁ e₂ e₃ =
     first (or_cases _ _ (given (v₁ && (v₂ && v₃)) (starts a b c u₁ u₂ u₃)
     (given (signs_fit a b c u₁ u₂ u₃ v₁ v₂ v₃) (gives (v₁ && (v₂ && v₃)) (starts a b c u₁ u₂ u₃))

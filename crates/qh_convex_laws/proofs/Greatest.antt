@@ -14,8 +14,7 @@ cancel-le k a b h e = by_lt_z b a (λ l. absurd (go l)) (λ l. l)
     gap a b l = omega (arith, ints)
 
     split : (k a b : ℤ) → k *ℤ (a -ℤ b) ≡ k *ℤ a -ℤ k *ℤ b
-    split k a b =
-        ring (k ∷ a ∷ b ∷ []) (mul (var 0) (less (var 1) (var 2))) (less (mul (var 0) (var 1)) (mul (var 0) (var 2))) refl
+    split k a b = ring (k ∷ a ∷ b ∷ []) (mul (var 0) (less (var 1) (var 2))) (less (mul (var 0) (var 1)) (mul (var 0) (var 2))) refl
 
     go : b <ℤ a → ⊥
     go l = omega (arith, ints, split k a b, mul-pos k (a -ℤ b) h (gap a b l))

@@ -38,8 +38,7 @@ module _ (at : ℕ → Vector) (ids : List ℕ) (ts : List Triple) (z d : Vector
 
       plain : (hn hs ds dn k : ℤ) → hn *ℤ ds -ℤ hs *ℤ dn ≡ k → hs ≡ pos 0 → hn ≤ℤ pos 0 → pos 0 ≤ℤ ds → pos 0 <ℤ k → ⊥
       plain hn hs ds dn k e f g h l =
-          clash (hn *ℤ ds) (hs *ℤ dn) k e (omega (arith, ints, mul-nonneg_nonpos ds hn h g))
-          (ap (λ m. m *ℤ dn) f ∙ zero_mul dn) l
+          clash (hn *ℤ ds) (hs *ℤ dn) k e (omega (arith, ints, mul-nonneg_nonpos ds hn h g)) (ap (λ m. m *ℤ dn) f ∙ zero_mul dn) l
 
       past : vol z (at u) (at v) (at l) <ℤ pos 0 → ⊥
       past h =
@@ -153,8 +152,7 @@ module _ (at : ℕ → Vector) (ids : List ℕ) (ts : List Triple) (z d : Vector
         ahead : (v : ℕ) → In v q → pos 0 <ℤ vol z (at l) (at v) (plus z (cross_product s.w normal))
         ahead v k =
             beyond_volume z (at l) (at v) s.w normal (up (dot normal (minus (at l) z)) (rise at t z) (distance l m.1) (c.inside t i))
-            (distance v (p.level v k) ∙ sym (distance l m.1))
-            (omega (arith, ints, dot-minus s.w (at v) z, dot-minus s.w (at l) z, s.past v k))
+            (distance v (p.level v k) ∙ sym (distance l m.1)) (omega (arith, ints, dot-minus s.w (at v) z, dot-minus s.w (at l) z, s.past v k))
 
     extreme_corner : (l : ℕ) → OnPlane at (Extreme at (Members ids)) t.i t.j t.k l → In l q
     extreme_corner l (e, level) = pick (in_or_not l q)
@@ -165,8 +163,7 @@ module _ (at : ℕ → Vector) (ids : List ℕ) (ts : List Triple) (z d : Vector
           where
             either : Combination at (Members q) (at l) ⊎ Separator at (Members q) (at l) → ⊥
             either (inl m) =
-                e.1 (combination_within at (Members q) (Others (Members ids) l) (at l) m
-                (λ j k. (corner_member j k, λ f. o (subst (λ x. In x q) f k))))
+                e.1 (combination_within at (Members q) (Others (Members ids) l) (at l) m (λ j k. (corner_member j k, λ f. o (subst (λ x. In x q) f k))))
             either (inr s) = none_beyond l (e.0, level) s
 
     -- ---- a corner is extreme
@@ -226,12 +223,7 @@ module _ (at : ℕ → Vector) (ids : List ℕ) (ts : List Triple) (z d : Vector
 
     -- the polygon
     pub face : IsFacePolygon at (Members ids) t.i t.j t.k q
-    face = record {
-      members = λ l. (corner_extreme l, extreme_corner l);
-      once = p.once;
-      round = p.round;
-      least = p.least;
-    }
+    face = record { members = λ l. (corner_extreme l, extreme_corner l); once = p.once; round = p.round; least = p.least }
 
 -- the law
 pub sharp_polygon_is_face : SharpPolygonIsFace

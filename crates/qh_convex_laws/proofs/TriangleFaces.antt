@@ -94,8 +94,7 @@ module _ (at : ℕ → Vector) (ts : List Triple) (z : Vector) (t : Triple) (i :
       over : (a b o : ℕ) → pos 0 <ℤ left normal (at a) (at b) (at o) → ((l : ℕ) → In l (u ∷ v ∷ w ∷ []) → l ≢ a → l ≢ b → l ≡ o)
           → (p q : ℕ) → a ≡ p → b ≡ q → TurnsLeft at normal (u ∷ v ∷ w ∷ []) p q
       over a b o h only p q e f l m np nq =
-          subst (λ x. pos 0 <ℤ left normal (at x) (at q) (at l)) e
-          (subst (λ y. pos 0 <ℤ left normal (at a) (at y) (at l)) f
+          subst (λ x. pos 0 <ℤ left normal (at x) (at q) (at l)) e (subst (λ y. pos 0 <ℤ left normal (at a) (at y) (at l)) f
           (subst (λ s. pos 0 <ℤ left normal (at a) (at b) (at s)) (sym (only l m (λ k. np (k ∙ e)) (λ k. nq (k ∙ f)))) h))
 
       third_w : (l : ℕ) → In l (u ∷ v ∷ w ∷ []) → l ≢ u → l ≢ v → l ≡ w

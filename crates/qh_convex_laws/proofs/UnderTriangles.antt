@@ -12,8 +12,7 @@ coordinates : (z a b c p n : Vector) → vol z a b c *ℤ dot n (minus p z)
     ≡ vol z b c p *ℤ dot n (minus a z) +ℤ vol z c a p *ℤ dot n (minus b z) +ℤ vol z a b p *ℤ dot n (minus c z)
 unfolding vol cross
 coordinates z a b c p n =
-    ring (put (minus a z) (put (minus b z) (put (minus c z) (put (minus p z) (put n [])))))
-    (mul (detE (vec 0) (vec 1) (vec 2)) (dotE (vec 4) (vec 3)))
+    ring (put (minus a z) (put (minus b z) (put (minus c z) (put (minus p z) (put n []))))) (mul (detE (vec 0) (vec 1) (vec 2)) (dotE (vec 4) (vec 3)))
     (add (add (mul (detE (vec 1) (vec 2) (vec 3)) (dotE (vec 4) (vec 0))) (mul (detE (vec 2) (vec 0) (vec 3)) (dotE (vec 4) (vec 1))))
     (mul (detE (vec 0) (vec 1) (vec 3)) (dotE (vec 4) (vec 2)))) refl
 

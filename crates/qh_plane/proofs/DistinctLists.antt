@@ -38,10 +38,7 @@ pub marked_distinct : (pts : List Vector) (marks : List Bool) → ((i : ℕ) →
     → AreDistinctIds pts (marked_ids 0 marks)
 marked_distinct pts marks is = record {
   rising = marked_ids-rise marks;
-  members = λ i. (
-    λ m. only i (of_marked_ids 0 i marks m),
-    λ f. subst (λ v. In v (marked_ids 0 marks)) (omega arith) (in_marked_ids 0 i marks ((is i).1 f)),
-  );
+  members = λ i. (λ m. only i (of_marked_ids 0 i marks m), λ f. subst (λ v. In v (marked_ids 0 marks)) (omega arith) (in_marked_ids 0 i marks ((is i).1 f)));
 }
   where
     only : (i : ℕ) → IsMarked 0 i marks → IsDistinctId pts i
@@ -113,11 +110,7 @@ module _ (pts : List Vector) (room : ℕ) (code : ℕ → ℕ) (keys : List ℕ)
   position i m =
       let h = k.inside i m in let r = in_at keys (key_by room code i) (listed i m) in (
         r.0,
-        record {
-          within = r.1;
-          place_told = ap (λ v. v / room) r.2 ∙ code_in_key i h;
-          id_told = ap (λ v. v % room) r.2 ∙ id_in_key i h;
-        },
+        record { within = r.1; place_told = ap (λ v. v / room) r.2 ∙ code_in_key i h; id_told = ap (λ v. v % room) r.2 ∙ id_in_key i h },
       )
 
   -- ---- the first of each place, where the ids are all
@@ -144,8 +137,7 @@ module _ (pts : List Vector) (room : ℕ) (code : ℕ → ℕ) (keys : List ℕ)
         lt = subst (λ v. v < length pts) (sym r.2) (index_in r.0 s.has)
 
         alone : (j : ℕ) → j < i → place pts j ≢ place pts i
-        alone j h e =
-            late (omega (arith, subst (λ v. code i * room + i ≤ v * room + j) codes (subst (λ v. v ≤ key_by room code j) is first))) h
+        alone j h e = late (omega (arith, subst (λ v. code i * room + i ≤ v * room + j) codes (subst (λ v. v ≤ key_by room code j) is first))) h
           where
             jt : j < length pts
             jt = omega (arith, h, lt)
@@ -163,21 +155,15 @@ module _ (pts : List Vector) (room : ℕ) (code : ℕ → ℕ) (keys : List ℕ)
     from_first : (i : ℕ) → IsDistinctId pts i → In i (map (λ x. x % room) (place_starts room none keys))
     from_first i f =
         subst (λ v. In v (map (λ x. x % room) (place_starts room none keys))) (id_in_key i f.0)
-        (in_map (λ x. x % room) (place_starts room none keys) (key_by room code i)
-        (starts_all room none keys (key_by room code i) up
+        (in_map (λ x. x % room) (place_starts room none keys) (key_by room code i) (starts_all room none keys (key_by room code i) up
         (record { has = listed i (every i f.0); new = λ e. other i f.0 (sym (code_in_key i f.0) ∙ e); least = least })))
       where
         least : (y : ℕ) → In y keys → y / room ≡ key_by room code i / room → key_by room code i ≤ y
-        least y m e = by_cases (cases_lt (y % room) i)
+        least y m e = ⊎_elim (λ h. absurd (f.1 (y % room) h (apart (y % room) i h f.0 codes)))
+            (λ h. subst (λ v. key_by room code i ≤ v) (sym ((told y m).is ∙ ap (λ v. v * room + y % room) codes)) (omega arith)) (cases_lt (y % room) i)
           where
             codes : code (y % room) ≡ code i
             codes = sym (code_told y m) ∙ e ∙ code_in_key i f.0
-
-            by_cases : (y % room < i) ⊎ (i ≤ y % room) → key_by room code i ≤ y
-            by_cases (inl h) = absurd (f.1 (y % room) h (apart (y % room) i h f.0 codes))
-            by_cases (inr h) =
-                subst (λ v. key_by room code i ≤ v) (sym ((told y m).is ∙ ap (λ v. v * room + y % room) codes))
-                (omega arith)
 
     -- the ids at the starts are indices of the marks
     within : Every (λ x. x % room < length (replicate (length pts) false)) (place_starts room none keys)
@@ -197,8 +183,7 @@ module _ (pts : List Vector) (room : ℕ) (code : ℕ → ℕ) (keys : List ℕ)
 
         only : (i : ℕ) → get_or marks i false ≡ true → IsDistinctId pts i
         only i e =
-            first_from i (⊎_elim (λ e. absurd (clash e)) (λ m. m)
-            (marked_only room (replicate (length pts) false) (place_starts room none keys) i e))
+            first_from i (⊎_elim (λ e. absurd (clash e)) (λ m. m) (marked_only room (replicate (length pts) false) (place_starts room none keys) i e))
           where
             clash : get_or (replicate (length pts) false) i false ≡ true → ⊥
             clash e = let n = blank (length pts) i in cc

@@ -69,8 +69,7 @@ pub key_written : (pts : List Vector) (some : Hashes) (n count : ℕ) (before ke
     → AreKeysBelow pts some n (take count before) → AreKeysBelow pts some (n + 1) (take (count + more) (set keys count key))
 key_written pts some n count before keys key more true room same is iff e k =
     subst (AreKeysBelow pts some (n + 1)) (sym (ap (λ m. take (count + m) (set keys count key)) e ∙ take_more_set keys count key room
-    ∙ ap (λ v. v ++ key ∷ []) same ∙ ap (λ v. take count before ++ v ∷ []) is))
-    (key_added pts some n (take count before) k (iff.0 refl))
+    ∙ ap (λ v. v ++ key ∷ []) same ∙ ap (λ v. take count before ++ v ∷ []) is)) (key_added pts some n (take count before) k (iff.0 refl))
 key_written pts some n count before keys key more false room same is iff e k =
     subst (AreKeysBelow pts some (n + 1)) (sym (ap (λ m. take m (set keys count key)) none ∙ take-set keys count key ∙ same))
     (key_left_out pts some n (take count before) k (λ s. clash (iff.1 s)))

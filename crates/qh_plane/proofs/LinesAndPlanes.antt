@@ -15,8 +15,7 @@ line_eq : (dx dy dz xx xy xz yx yy yz : ℤ) → (dx *ℤ dx +ℤ dy *ℤ dy +�
     *ℤ (dy *ℤ xz -ℤ dz *ℤ xy) +ℤ (yy *ℤ dx) *ℤ (dz *ℤ xx -ℤ dx *ℤ xz) +ℤ (yz *ℤ dx) *ℤ (dx *ℤ xy -ℤ dy *ℤ xx)
 line_eq dx dy dz xx xy xz yx yy yz =
     let D = vec 0 in let X = vec 1 in let Y = vec 2 in
-    ring (dx ∷ dy ∷ dz ∷ xx ∷ xy ∷ xz ∷ yx ∷ yy ∷ yz ∷ [])
-    (mul (dotE D D) (less (mul X.y Y.z) (mul X.z Y.y)))
+    ring (dx ∷ dy ∷ dz ∷ xx ∷ xy ∷ xz ∷ yx ∷ yy ∷ yz ∷ []) (mul (dotE D D) (less (mul X.y Y.z) (mul X.z Y.y)))
     (add (add (add (mul (dotE D X) (less (mul D.y Y.z) (mul D.z Y.y)))
     (mul (neg (add (mul Y.z D.z) (mul Y.y D.y))) (less (mul D.y X.z) (mul D.z X.y)))) (mul (mul Y.y D.x)
     (less (mul D.z X.x) (mul D.x X.z)))) (mul (mul Y.z D.x) (less (mul D.x X.y) (mul D.y X.x)))) refl

@@ -1,6 +1,6 @@
 -- The distinct ids by each of the two keys: by the number of the place, and by a hash of it.
-use Rattle.std.proofs.Common.{◌≡◌, ◌≢◌, ℕ, ◌+◌, ◌-◌, ◌%◌, ◌/◌, ◌<◌, ◌≤◌, ◌⊎◌, inl, inr, List, length, get_or, replicate, false, arith, ap, sym, subst, ◌∙◌}
-use Rattle.std.proofs.{Common.IsPermutation, lemmas.Bool.cases_lt}
+use Rattle.std.proofs.Common.{⊎_elim, ◌≡◌, ◌≢◌, ℕ, ◌+◌, ◌-◌, ◌%◌, ◌/◌, ◌<◌, ◌≤◌, ◌⊎◌, inl, inr, List, length, get_or, replicate, false, arith, ap, sym, subst}
+use Rattle.std.proofs.{Common.◌∙◌, Common.IsPermutation, lemmas.Bool.cases_lt}
 use Rattle.std.specs.List.{All, Sorted.IsNonDecreasing}
 use Rattle.qh_model.proofs.Members.{All-In, In-get_or}
 use Rattle.qh_model.specs.{contract.Places.IsPlace, declared.limits.TheConstants.POINT_LIMIT}
@@ -9,8 +9,8 @@ use Rattle.qh_plane.proofs.DistinctLists.{AreSortedKeys, StandsAt, all_in, in_al
 use Rattle.qh_plane.proofs.PlaceOrder.{place_code-same, biased_small}
 use Rattle.qh_plane.specs.declared.{distinct_points.TheConstants.NO_PLACE, hashed_keys.TheConstants.ID_ROOM, place_keys.TheConstants.ROOM}
 use Rattle.qh_plane.specs.steps.HashedKeys.{place_hash, hash_at, Hashes, WithHashes, AreKeysBelow, AreHashedKeys, IsRepeat, RepeatsTold}
-use Rattle.qh_plane.specs.steps.{Marks.place_starts, Marks.marked, Marks.marked_ids, PlaceKeys.place_code, PlaceKeys.place_key}
-use Rattle.qh_plane.specs.steps.{PlaceKeys.HasKey, PlaceKeys.ArePlaceKeys, Repeats.IsRepeatedId, Repeats.AreRepeats}
+use Rattle.qh_plane.specs.steps.Marks.{place_starts, marked, marked_ids}
+use Rattle.qh_plane.specs.steps.{PlaceKeys.place_code, PlaceKeys.place_key, PlaceKeys.HasKey, PlaceKeys.ArePlaceKeys, Repeats.IsRepeatedId, Repeats.AreRepeats}
 
 -- no number has the number of none
 below_none : {c n : ℕ} → c < n → c ≢ n
@@ -38,8 +38,7 @@ module _ (pts : List Vector) (keys : List ℕ) (k : ArePlaceKeys pts keys) (risi
 
   other : (i : ℕ) → i < length pts → code i ≢ NO_PLACE
   unfolding place_code
-  other i h =
-      below_none (omega (arith, biased_small p.x in_place.x, biased_small p.y in_place.y, biased_small p.z in_place.z))
+  other i h = below_none (omega (arith, biased_small p.x in_place.x, biased_small p.y in_place.y, biased_small p.z in_place.z))
     where
       p : Vector
       p = place pts i
@@ -88,14 +87,11 @@ module _ (pts : List Vector) (some : Hashes) (keys : List ℕ) (few : length pts
 
   -- of two ids with one hash, the key of the lower one stands before
   stands_before : (i j p q : ℕ) → i < j → hash i ≡ hash j → StandsAt ID_ROOM hash keys i p → StandsAt ID_ROOM hash keys j q → p < q
-  stands_before i j p q l e s t = by_cases (cases_lt p q)
+  stands_before i j p q l e s t =
+      ⊎_elim (λ h. h) (λ h. absurd (back (key p) (key q) s.place_told t.place_told s.id_told t.id_told (rising q p 0 h s.within))) (cases_lt p q)
     where
       back : (x y : ℕ) → x / ID_ROOM ≡ hash i → y / ID_ROOM ≡ hash j → x % ID_ROOM ≡ i → y % ID_ROOM ≡ j → y ≤ x → ⊥
       back x y a b c d h = omega (arith, l, e, a, b, c, d, h)
-
-      by_cases : (p < q) ⊎ (q ≤ p) → p < q
-      by_cases (inl h) = h
-      by_cases (inr h) = absurd (back (key p) (key q) s.place_told t.place_told s.id_told t.id_told (rising q p 0 h s.within))
 
   module _ (ids : List ℕ) (told : RepeatsTold pts keys (length keys) ids) where
     -- the key of an id with a lower one of its place repeats the key before
@@ -152,8 +148,7 @@ module _ (pts : List Vector) (some : Hashes) (keys : List ℕ) (few : length pts
             adjacent n e = subst (λ m. IsRepeat pts (key p.0) (key m)) (sym e)
                 (same, ap (place pts) p.1.id_told ∙ r.3 ∙ ap (place pts) (sym q.1.id_told))
         by_cases (inl g) =
-            subst (λ n. In (key n % ID_ROOM) ids) two
-            (third (q.0 - 2) (omega (arith, g)) (subst (λ n. n < length keys) (sym two) q.1.within)
+            subst (λ n. In (key n % ID_ROOM) ids) two (third (q.0 - 2) (omega (arith, g)) (subst (λ n. n < length keys) (sym two) q.1.within)
             (subst (λ n. key p.0 / ID_ROOM ≡ key n / ID_ROOM) (sym two) same))
           where
             two : q.0 - 2 + 2 ≡ q.0
@@ -190,7 +185,5 @@ module _ (pts : List Vector) (some : Hashes) (given keys : List ℕ) (few : leng
   sorted_within read e = subst (All (λ x. x % ID_ROOM < length pts)) (sym e) (hashes_within pts some keys few hashed_keys rising)
 
   -- and those told are the ids of the points that stand before
-  pub sorted_repeats : (read : List ℕ) → read ≡ keys → (ids : List ℕ) → RepeatsTold pts read (length read) ids
-      → AreRepeats pts (WithHashes pts some) ids
-  sorted_repeats read e ids told =
-      repeats_are pts some keys few hashed_keys rising ids (subst (λ v. RepeatsTold pts v (length v) ids) e told)
+  pub sorted_repeats : (read : List ℕ) → read ≡ keys → (ids : List ℕ) → RepeatsTold pts read (length read) ids → AreRepeats pts (WithHashes pts some) ids
+  sorted_repeats read e ids told = repeats_are pts some keys few hashed_keys rising ids (subst (λ v. RepeatsTold pts v (length v) ids) e told)

@@ -141,11 +141,7 @@ module _ (pts : List Vector) (b : CloseBox) (slots : List ℕ) (k : ℕ) (ids : 
   -- a slot that no point has come to: one more distinct id
   module _ (room : slot_of b (place pts k) < length slots) (free : slot_at slots (slot_of b (place pts k)) ≡ NO_ID) where
     pub new_seen : AreSeen pts b (set slots (slot_of b (place pts k)) k) (k + 1) (ids ++ k ∷ [])
-    new_seen = record {
-      firsts = new_firsts pts every (slot_of b) slots k old.firsts within few room free;
-      rising = rises;
-      members = λ i. (to i, from i);
-    }
+    new_seen = record { firsts = new_firsts pts every (slot_of b) slots k old.firsts within few room free; rising = rises; members = λ i. (to i, from i) }
       where
         one : (i : ℕ) → In i ids ⊎ In i (k ∷ []) → IsDistinctId pts i × (i < k + 1)
         one i (inl m) = let h = (old.members i).0 m in let l = h.1 in (h.0, omega (arith, l))

@@ -19,11 +19,7 @@ listed ids m i h e = subst (λ v. In v ids) e (In-get_or ids m 0 h)
 -- the first two, as the code reads them
 pub first_two : (ids : List ℕ) (i j : ℕ) → 1 < length ids → i ≡ get_or ids 0 i → j ≡ get_or ids 1 j → AreFirstTwo ids i j
 first_two ids i j h p q =
-    record {
-      two = h;
-      first = sym (get_or_default_zero ids 0 i (omega arith)) ∙ sym p;
-      second = sym (get_or_default_zero ids 1 j h) ∙ sym q;
-    }
+    record { two = h; first = sym (get_or_default_zero ids 0 i (omega arith)) ∙ sym p; second = sym (get_or_default_zero ids 1 j h) ∙ sym q }
 
 -- the first two are a segment
 two : (ids : List ℕ) (i j : ℕ) → AreFirstTwo ids i j → IsStrictlyIncreasing ids → HasSegment (Members ids)

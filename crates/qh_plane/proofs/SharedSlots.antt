@@ -78,10 +78,7 @@ module _ (pts : List Vector) (n slots s : ℕ) (is : s ≡ slot_in slots (hash_a
 -- equal points come to one slot, so those that stand before are among the points of shared slots
 pub all_in_slots : (pts : List Vector) (shared : List Bool) (ids : List ℕ) → AreShared pts (length pts) shared
     → AreRepeats pts (WithHashes pts (MarkedHashes shared)) ids → AreAllRepeats pts ids
-all_in_slots pts shared ids a r = record {
-  has = λ i s q. r.has i (marked i q.1 q.0 q.2 q.3) q;
-  only = r.only;
-}
+all_in_slots pts shared ids a r = record { has = λ i s q. r.has i (marked i q.1 q.0 q.2 q.3) q; only = r.only }
   where
     marked : (i j : ℕ) → i < length pts → j < i → place pts j ≡ place pts i → MarkedHashes shared (hash_at pts i)
     marked i j h l e = subst (MarkedHashes shared) (ap place_hash e) (a j i l h (ap (λ v. slot_in (length shared) (place_hash v)) e))

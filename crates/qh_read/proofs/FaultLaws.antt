@@ -46,8 +46,7 @@ coordinates (w ∷ ws) (suc k) t = by (λ z. coordinates ws k (t ++ z ∷ [])) (
         ≡ option_or (coordinate_fault o w.line) (coordinates_fault long_fault k ws)
     by rest None = fallen (faults.BadNumber w.line) ws
     by rest (Some z) = chosen (is_coordinate (capped z)) (is_coordinate z) (wants k (t ++ capped z ∷ [])) (fails (faults.Range w.line)) ws
-        (coordinates_fault long_fault k ws) (Some (faults.Range w.line))
-        (same_limit z) (rest (capped z)) (fallen (faults.Range w.line) ws)
+        (coordinates_fault long_fault k ws) (Some (faults.Range w.line)) (same_limit z) (rest (capped z)) (fallen (faults.Range w.line) ws)
         ∙ either (is_coordinate z) (coordinates_fault long_fault k ws) (faults.Range w.line)
 
 -- the count, and then the coordinates, if a reader finds what is wrong with these

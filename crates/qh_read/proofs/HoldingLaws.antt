@@ -114,12 +114,10 @@ steps : (form : Form) (s : Lexed) (c : ℕ) → held_of form (next form s c) ≡
 steps form s c =
     push_cond (held_of form) (c == 10) _ _ _ _
     (λ e. ap (λ (p : Progress). record { form = form; progress = p; token = Empty; comment = false; line = s.line + 1 })
-    (word_ends (started form) s.words s.line s.under_way))
-    (λ e. push_cond (held_of form) s.comment _ _ _ _ (λ f. refl)
+    (word_ends (started form) s.words s.line s.under_way)) (λ e. push_cond (held_of form) s.comment _ _ _ _ (λ f. refl)
     (λ f. push_cond (held_of form) (is_blank c) _ _ _ _
     (λ g. ap (λ (p : Progress). record { form = form; progress = p; token = Empty; comment = s.comment; line = s.line })
-    (word_ends (started form) s.words s.line s.under_way))
-    (λ g. marks form s c ∙ told_digit form (held_of form s) c (is_ascii_digit c) refl)))
+    (word_ends (started form) s.words s.line s.under_way)) (λ g. marks form s c ∙ told_digit form (held_of form s) c (is_ascii_digit c) refl)))
 
 runs : (form : Form) (bs : List ℕ) (s : Lexed) → held_of form (lexed form s bs) ≡ held_by (held_of form s) bs
 runs form [] s = refl

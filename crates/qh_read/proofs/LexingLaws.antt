@@ -96,8 +96,7 @@ good_at ws n b w c true v =
       valid = record { clean = tt; data_word = tt; quiet = λ q. refl };
       same = λ l ls. append_assoc ws (ended n w) _ ∙ ap (λ t. ws ++ (t ++ words_from (own false) (n + 1) (l ∷ ls))) (ends n b w v.clean v.data_word v.quiet);
     }
-good_at ws n true w c false v =
-    record { valid = v; same = λ l ls. refl }
+good_at ws n true w c false v = record { valid = v; same = λ l ls. refl }
 good_at ws n false w c false v =
     let s : Lexed = record { words = ws; line = n; comment = false; under_way = w } in
     in_cond (Good s c false) (is_blank c) (record s { words = closed s; under_way = [] }) (begun s w c)

@@ -44,8 +44,7 @@ points-none line bytes form wanted takes left t base =
     ∙ ap (λ (u : List ℤ). held_by (quiet form (wanted left u) (base + line) Empty) bytes) (sym (append-nil t))
 
 -- three coordinates in range
-three : (wanted : ℕ → List ℤ → Progress) → Takes wanted → (left : ℕ) (t : List ℤ) (x y z : ℤ) (i j k : ℕ)
-    → IsCoordinate x → IsCoordinate y → IsCoordinate z
+three : (wanted : ℕ → List ℤ → Progress) → Takes wanted → (left : ℕ) (t : List ℤ) (x y z : ℤ) (i j k : ℕ) → IsCoordinate x → IsCoordinate y → IsCoordinate z
     → after (after (after (wanted (suc (suc (suc left))) t) false (Some x) i) false (Some y) j) false (Some z) k
     ≡ wanted left (t ++ x ∷ y ∷ z ∷ [])
 three wanted takes left t x y z i j k p q r =

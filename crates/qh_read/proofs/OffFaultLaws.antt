@@ -26,8 +26,7 @@ vertices (w ∷ ws) (suc k) t = by (λ z. vertices ws k (t ++ z ∷ [])) (number
         ≡ option_or (coordinate_fault o w.line) (coordinates_fault anything k ws)
     by rest None = fallen (faults.BadNumber w.line) ws
     by rest (Some z) = chosen (is_coordinate (capped z)) (is_coordinate z) (wants_vertices k (t ++ capped z ∷ [])) (fails (faults.Range w.line)) ws
-        (coordinates_fault anything k ws) (Some (faults.Range w.line))
-        (same_limit z) (rest (capped z)) (fallen (faults.Range w.line) ws)
+        (coordinates_fault anything k ws) (Some (faults.Range w.line)) (same_limit z) (rest (capped z)) (fallen (faults.Range w.line) ws)
         ∙ either (is_coordinate z) (coordinates_fault anything k ws) (faults.Range w.line)
 
 edge_count : (v : ℤ) (ws : List Word) → lack (judged (wants_edge_count (capped v)) ws) ≡ next_number_fault (λ edges. counted_fault anything v) ws

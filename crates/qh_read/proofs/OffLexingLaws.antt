@@ -94,8 +94,7 @@ good_at ws n b w c true v =
       valid = record { clean = tt; plain = tt; quiet = λ q. refl };
       same = λ l ls. append_assoc ws (ended n w) _ ∙ ap (λ t. ws ++ (t ++ words_from (own false) (n + 1) (l ∷ ls))) (line_ends n b w v.clean v.plain v.quiet);
     }
-good_at ws n true w c false v =
-    record { valid = v; same = λ l ls. refl }
+good_at ws n true w c false v = record { valid = v; same = λ l ls. refl }
 good_at ws n false w c false v =
     let s : Lexed = record { words = ws; line = n; comment = false; under_way = w } in
     in_cond (Good s c false) (is_blank c) (record s { words = closed s; under_way = [] })

@@ -40,8 +40,7 @@ FedOn-append a b d old mid new f g = record {
 -- why reading stops, by another name
 pub Stops-equal : (e f : ReadFault) (before : ℕ) (old new : Option (List ℕ)) (failures failures_after : ℕ) → e ≡ f
     → Stops f before old new failures failures_after → Stops e before old new failures failures_after
-Stops-equal e f before old new failures failures_after same s =
-    subst (λ (x : ReadFault). Stops x before old new failures failures_after) (sym same) s
+Stops-equal e f before old new failures failures_after same s = subst (λ (x : ReadFault). Stops x before old new failures failures_after) (sym same) s
 
 -- why reading stops after these bytes
 pub Stops-after : (e : ReadFault) (before : ℕ) (old mid new : Option (List ℕ))

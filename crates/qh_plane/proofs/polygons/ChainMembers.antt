@@ -103,8 +103,7 @@ module _ (turn : ℕ → ℕ → ℕ → ℤ) (key : ℕ → ℤ) (A : ℕ → T
       → A e → (In e (t ∷ s) → ⊥) → key e <ℤ key t → Span e (t ∷ s)
   span same t [] g e ae out lt = absurd (not_less (key e) (key t) lt (g.1 e ae))
   span same t (r ∷ s) g e ae out lt =
-      by_lt_z (key e) (key r) (λ l. span-more e t (r ∷ s) (span same r s g.4 e ae (λ i. out (inr i)) l))
-      (λ k. by_lt_z (key r) (key e)
+      by_lt_z (key e) (key r) (λ l. span-more e t (r ∷ s) (span same r s g.4 e ae (λ i. out (inr i)) l)) (λ k. by_lt_z (key r) (key e)
       (λ l. record {
         u = r;
         v = t;

@@ -29,8 +29,7 @@ corner_eq n q r t x =
 -- nonnegative terms, not both zero
 beats_sign : (wx wr f g : ℤ) → wr -ℤ wx ≡ f +ℤ g → pos 0 ≤ℤ f → pos 0 ≤ℤ g → ((f ≡ pos 0) → (g ≡ pos 0) → ⊥) → wx <ℤ wr
 beats_sign wx wr f g e p q h =
-    by_lt_z (pos 0) f (λ k. one wx wr f g e k q)
-    (λ k. by_lt_z (pos 0) g (λ l. omega (arith, ints))
+    by_lt_z (pos 0) f (λ k. one wx wr f g e k q) (λ k. by_lt_z (pos 0) g (λ l. omega (arith, ints))
     (λ l. absurd (h (le_antisym f (pos 0) k p) (le_antisym g (pos 0) l q))))
   where
     one : (wx wr f g : ℤ) → wr -ℤ wx ≡ f +ℤ g → pos 0 <ℤ f → pos 0 ≤ℤ g → wx <ℤ wr
@@ -50,8 +49,7 @@ inner n h at A flat keyed q r t aq ar at' e f sh = record {
   member = ar;
   w = cross_product (minus (at t) (at q)) n;
   beats = λ x ax ne. beats_sign _ _ _ _ (corner_eq n (at q) (at r) (at t) (at x)) (e x ax) (f x ax)
-      (λ z k. ne (keyed.same x r ax ar
-      (let zero = apart (bracket n (step at q r) (step at r x)) (dot h (step at r t))
+      (λ z k. ne (keyed.same x r ax ar (let zero = apart (bracket n (step at q r) (step at r x)) (dot h (step at r t))
       (bracket n (step at q r) (step at r t)) (dot h (step at r x)) (bracket n (step at r t) (step at r x)) (dot h (step at q r))
       (bracket-fan n h (step at q r) (step at r t) (step at r x) flat.some (flat.even q r aq ar) (flat.even r t ar at') (flat.even r x ar ax))
       (sym (left-middle n (at q) (at r) (at x)) ∙ z) (sym (left-bracket n (at r) (at t) (at x)) ∙ k)
@@ -63,11 +61,7 @@ inner n h at A flat keyed q r t aq ar at' e f sh = record {
 pub greatest_corner : (h : Vector) (at : ℕ → Vector) (A : ℕ → Type 0) → IsKeyed h at A → (m : ℕ) → A m
     → ((x : ℕ) → A x → height_of h at x ≤ℤ height_of h at m) → Corner at A m
 greatest_corner h at A keyed m am le =
-    record {
-      member = am;
-      w = h;
-      beats = λ x ax ne. le_less (dot h (at x)) (dot h (at m)) (le x ax) (λ e. ne (keyed.same x m ax am e));
-    }
+    record { member = am; w = h; beats = λ x ax ne. le_less (dot h (at x)) (dot h (at m)) (le x ax) (λ e. ne (keyed.same x m ax am e)) }
 
 -- a corner is extreme
 pub corner_extreme : (at : ℕ → Vector) (A : ℕ → Type 0) (m : ℕ) → Corner at A m → Extreme at A m
@@ -140,22 +134,17 @@ module _ (n h : Vector) (at : ℕ → Vector) (A : ℕ → Type 0) (flat : IsFla
   -- one of two different members comes first
   ordered : (C : Type 0) (u v : ℕ) → A u → A v → u ≢ v → (height_of h at u <ℤ height_of h at v → C) → (height_of h at v <ℤ height_of h at u → C) → C
   ordered C u v au av ne first second =
-      by_lt_z (height_of h at u) (height_of h at v) first
-      (λ k. by_lt_z (height_of h at v) (height_of h at u) second
+      by_lt_z (height_of h at u) (height_of h at v) first (λ k. by_lt_z (height_of h at v) (height_of h at u) second
       (λ l. absurd (ne (keyed.same u v au av (le_antisym _ _ l k)))))
 
   -- three corners are not in line
   not_lined : (u v x : ℕ) → Corner at A u → Corner at A v → Corner at A x → u ≢ v → x ≢ u → x ≢ v → turn_about n at u v x ≡ pos 0 → ⊥
   not_lined u v x cu cv cx uv xu xv z =
-      ordered ⊥ u v cu.member cv.member uv
-      (λ luv. ordered ⊥ x v cx.member cv.member xv
-      (λ lxv. ordered ⊥ x u cx.member cu.member xu
+      ordered ⊥ u v cu.member cv.member uv (λ luv. ordered ⊥ x v cx.member cv.member xv (λ lxv. ordered ⊥ x u cx.member cu.member xu
       (λ lxu. lined n h at A flat x v u cx.member cv.member cu xu (λ e. uv (sym e)) lxu luv (flipped x u v (swapped u x v (flipped u v x z))))
       (λ lux. lined n h at A flat u v x cu.member cv.member cx (λ e. xu (sym e)) (λ e. xv (sym e)) lux lxv z))
-      (λ lvx. lined n h at A flat u x v cu.member cx.member cv uv xv luv lvx (flipped u v x z)))
-      (λ lvu. ordered ⊥ x u cx.member cu.member xu
-      (λ lxu. ordered ⊥ x v cx.member cv.member xv
-      (λ lxv. lined n h at A flat x u v cx.member cu.member cv xv uv lxv lvu (swapped u x v (flipped u v x z)))
+      (λ lvx. lined n h at A flat u x v cu.member cx.member cv uv xv luv lvx (flipped u v x z))) (λ lvu. ordered ⊥ x u cx.member cu.member xu
+      (λ lxu. ordered ⊥ x v cx.member cv.member xv (λ lxv. lined n h at A flat x u v cx.member cu.member cv xv uv lxv lvu (swapped u x v (flipped u v x z)))
       (λ lvx. lined n h at A flat v u x cv.member cu.member cx (λ e. xv (sym e)) (λ e. xu (sym e)) lvx lxu (swapped u v x z)))
       (λ lux. lined n h at A flat v x u cv.member cx.member cu (λ e. uv (sym e)) xu lvu lux (flipped v u x (swapped u v x z))))
 

@@ -64,19 +64,7 @@ closes n h at A flat keyed p q ap aq l l' m [] z r g k g' k' = absurd (omega (ar
 closes n h at A flat keyed p q ap aq l l' m (a ∷ s) z [] g k g' k' = absurd (omega (arith, ints, l', g'.1 q aq, k' p ap))
 closes n h at A flat keyed p q ap aq l l' m (a ∷ s) z (b ∷ r) g k g' k' =
     let c : Chains n h at A m (a ∷ s) z (b ∷ r) =
-    record {
-      flat = flat;
-      keyed = keyed;
-      lower = g;
-      upper = g';
-      last = k;
-      first = k';
-      p = p;
-      q = q;
-      is_p = ap;
-      is_q = aq;
-      apart = l;
-    } in
+    record { flat = flat; keyed = keyed; lower = g; upper = g'; last = k; first = k'; p = p; q = q; is_p = ap; is_q = aq; apart = l } in
     record { members = ring_members n h at A m a s z b r c; once = ring_once n h at A m a s z b r c; round = ring_round n h at A m a s z b r c }
 
 -- a rising list, and one that rises the other way round, over the same members

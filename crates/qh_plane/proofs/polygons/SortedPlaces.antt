@@ -19,8 +19,7 @@ step_up : (pts : List Vector) (ids : List ℕ) (k l : ℕ) → HasDistinctPoints
 step_up pts ids k l d t u lt =
     place_code-less (place pts (k % ROOM)) (place pts (l % ROOM)) t.known.place_in u.known.place_in
     (let differ : place_code (place pts (k % ROOM)) ≡ place_code (place pts (l % ROOM)) → ⊥ =
-    (λ e. ne_of_lt lt (t.is ∙ ap (key_at pts)
-    (d (k % ROOM) (l % ROOM) t.has u.has (place_code-same _ _ t.known.place_in u.known.place_in e)) ∙ sym u.is)) in
+    (λ e. ne_of_lt lt (t.is ∙ ap (key_at pts) (d (k % ROOM) (l % ROOM) t.has u.has (place_code-same _ _ t.known.place_in u.known.place_in e)) ∙ sym u.is)) in
     omega (arith, t.is ∙ key_parts pts (k % ROOM), u.is ∙ key_parts pts (l % ROOM), t.known.small, u.known.small, differ))
 
 -- the same along a list
@@ -56,8 +55,7 @@ round_of n at A flat keyed x₀ x₁ xs (y₀ ∷ ys) i j r f =
 round_keys : (pts : List Vector) (ids keys : List ℕ) (n : Vector) → Every (IsKeyOf pts ids) keys
     → IsStrictlyIncreasing keys → 1 < length keys → ((x : ℕ) → In x (ids_in keys) ↔ In x ids)
     → All (HasKey pts) ids → HasDistinctPoints (place pts) (λ x. In x ids) → IsFlat n (place pts) (λ x. In x ids)
-    → GoesRound n (place pts) (λ x. In x ids)
-    (joined (chain (turn_about n (place pts)) [] (ids_in keys))
+    → GoesRound n (place pts) (λ x. In x ids) (joined (chain (turn_about n (place pts)) [] (ids_in keys))
     (chain (turn_about n (place pts)) [] (reverse (ids_in keys))))
 round_keys pts ids [] n t r l m k d flat = absurd (omega arith)
 round_keys pts ids (a ∷ []) n t r l m k d flat = absurd (omega arith)
@@ -95,5 +93,4 @@ round_sorted pts ids sorted n b k r d l flat =
 -- each sorted id is an index
 pub sorted_indices : (pts : List Vector) (ids sorted : List ℕ) → AreByPlace pts ids sorted → All (HasKey pts) ids
     → All (λ i. i < length pts) ids → All (λ i. i < length pts) sorted
-sorted_indices pts ids sorted b k h =
-    All-of (λ i. i < length pts) sorted (λ x i. All-In (λ v. v < length pts) ids x h (sorted-only pts ids sorted b k x i))
+sorted_indices pts ids sorted b k h = All-of (λ i. i < length pts) sorted (λ x i. All-In (λ v. v < length pts) ids x h (sorted-only pts ids sorted b k x i))

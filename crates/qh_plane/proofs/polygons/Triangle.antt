@@ -39,8 +39,7 @@ in_line-back a b = in_line-flip a b a (in_line-twice a b)
 -- no turn about the normal of the plane: the three are in line
 turn_zero : (n a b c : Vector) → pos 0 <ℤ dot n n → dot n (minus b a) ≡ pos 0 → dot n (minus c a) ≡ pos 0 → left n a b c ≡ pos 0 → AreInLine a b c
 turn_zero n a b c s p q z =
-    vector_path (cross a b c) origin (none n.x (cross a b c).x along.x) (none n.y (cross a b c).y along.y)
-    (none n.z (cross a b c).z along.z)
+    vector_path (cross a b c) origin (none n.x (cross a b c).x along.x) (none n.y (cross a b c).y along.y) (none n.z (cross a b c).z along.z)
   where
     along : Parallel n (cross a b c)
     along = parallel_normal n a b c p q
@@ -75,8 +74,7 @@ module _ (pts : List Vector) (n : Vector) (i j k : ℕ) (h : IsPlanarSet pts (i 
   -- so one order of them is their polygon
   pub triangle_polygon : IsPolygon (place pts) (Extreme (place pts) (Members (i ∷ j ∷ k ∷ []))) n (triangle (turn_of pts n) i j k)
   triangle_polygon = by_side (is_left (turn_of pts n i j k))
-      (sym (turns_agree pts n (λ x. In x (i ∷ j ∷ k ∷ [])) flat i j k (inl refl) (inr (inl refl))
-      (inr (inr (inl refl)))))
+      (sym (turns_agree pts n (λ x. In x (i ∷ j ∷ k ∷ [])) flat i j k (inl refl) (inr (inl refl)) (inr (inr (inl refl)))))
     where
       ik : i < k
       ik = omega arith
@@ -88,8 +86,7 @@ module _ (pts : List Vector) (n : Vector) (i j k : ℕ) (h : IsPlanarSet pts (i 
           flipped x y e l = omega (arith, ints)
 
       by_side : (b : Bool) → is_left (left n (place pts i) (place pts j) (place pts k)) ≡ b
-          → IsPolygon (place pts) (Extreme (place pts) (Members (i ∷ j ∷ k ∷ []))) n
-          (cond b (i ∷ j ∷ k ∷ []) (i ∷ k ∷ j ∷ []))
+          → IsPolygon (place pts) (Extreme (place pts) (Members (i ∷ j ∷ k ∷ []))) n (cond b (i ∷ j ∷ k ∷ []) (i ∷ k ∷ j ∷ []))
       by_side true e = left_triangle n (place pts) (Members (i ∷ j ∷ k ∷ [])) i j k (λ x. (λ m. m, λ m. m)) ij ik (ne_of_lt jk) (is_left-yes _ e)
       by_side false e = left_triangle n (place pts) (Members (i ∷ j ∷ k ∷ [])) i k j
           (λ x. (λ m. grind (arith, m), λ m. grind (arith, m))) ik ij (λ q. ne_of_lt jk (sym q))

@@ -29,8 +29,7 @@ left-bracket n u v w = refl
 left-last : (n r t x : Vector) → left n r t x ≡ bracket n (minus t x) (minus t r)
 unfolding left cross
 left-last n r t x = ring (put n (put r (put t (put x []))))
-    (dotE (crossE (subE (vec 2) (vec 1)) (subE (vec 3) (vec 1))) (vec 0))
-    (dotE (crossE (subE (vec 2) (vec 3)) (subE (vec 2) (vec 1))) (vec 0)) refl
+    (dotE (crossE (subE (vec 2) (vec 1)) (subE (vec 3) (vec 1))) (vec 0)) (dotE (crossE (subE (vec 2) (vec 3)) (subE (vec 2) (vec 1))) (vec 0)) refl
 
 -- L t y x = [t - x, y - t]
 left-across : (n t y x : Vector) → left n t y x ≡ bracket n (minus t x) (minus y t)
@@ -85,18 +84,15 @@ turn_laws n h at A flat keyed = record {
       (subst (λ v. pos 0 ≤ℤ v) (left-bracket n (at t) (at c) (at x)) l));
   onward = λ u v w y au av aw ay uv vw vy sh l. subst (λ v. pos 0 <ℤ v) (sym (left-middle n (at u) (at v) (at y)))
       (fan_sign_left (bracket n (step at u v) (step at v y)) (dot h (step at v w))
-      (bracket n (step at u v) (step at v w)) (dot h (step at v y)) (bracket n (step at v w) (step at v y))
-      (dot h (step at u v))
+      (bracket n (step at u v) (step at v w)) (dot h (step at v y)) (bracket n (step at v w) (step at v y)) (dot h (step at u v))
       (bracket-fan n h (step at u v) (step at v w) (step at v y) flat.some (flat.even u v au av) (flat.even v w av aw)
-      (flat.even v y av ay)) (fwd u v uv) (fwd v w vw) (fwd v y vy)
-      (subst (λ v. pos 0 <ℤ v) (left-middle n (at u) (at v) (at w)) sh)
+      (flat.even v y av ay)) (fwd u v uv) (fwd v w vw) (fwd v y vy) (subst (λ v. pos 0 <ℤ v) (left-middle n (at u) (at v) (at w)) sh)
       (subst (λ v. pos 0 ≤ℤ v) (left-bracket n (at v) (at w) (at y)) l));
   behind = λ r t x y ar at' ax ay xt rt ty l sh. subst (λ v. pos 0 ≤ℤ v) (sym (left-across n (at t) (at y) (at x)))
       (fan_sign (bracket n (step at x t) (step at t y)) (dot h (step at r t)) (bracket n (step at x t) (step at r t))
       (dot h (step at t y)) (bracket n (step at r t) (step at t y)) (dot h (step at x t))
       (bracket-fan n h (step at x t) (step at r t) (step at t y) flat.some (flat.even x t ax at') (flat.even r t ar at')
-      (flat.even t y at' ay)) (fwd x t xt) (fwd r t rt) (fwd t y ty)
-      (subst (λ v. pos 0 ≤ℤ v) (left-last n (at r) (at t) (at x)) l)
+      (flat.even t y at' ay)) (fwd x t xt) (fwd r t rt) (fwd t y ty) (subst (λ v. pos 0 ≤ℤ v) (left-last n (at r) (at t) (at x)) l)
       (subst (λ v. pos 0 ≤ℤ v) (left-middle n (at r) (at t) (at y)) sh));
   swap = λ t y x. left-swap n (at t) (at y) (at x);
   back = λ t y. left-back n (at t) (at y);

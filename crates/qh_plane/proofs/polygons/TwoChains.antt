@@ -74,16 +74,14 @@ module _ (n h : Vector) (at : ℕ → Vector) (A : ℕ → Type 0) (m a : ℕ) (
   lower_ends : bottom a s ≡ z
   lower_ends =
       let g = chain-bottom (turn_about n at) (height_of h at) A m (a ∷ s) c.lower in
-      c.keyed.same (bottom a s) z g.0 c.upper.0
-      (le_antisym _ _ (g.1 z c.upper.0)
+      c.keyed.same (bottom a s) z g.0 c.upper.0 (le_antisym _ _ (g.1 z c.upper.0)
       (neg_le _ _ _ _ (dot-opposite h (at (bottom a s))) (dot-opposite h (at z)) (c.first (bottom a s) g.0)))
 
   -- and ends where it begins
   upper_ends : bottom b r ≡ m
   upper_ends =
       let g = chain-bottom (turn_about n at) (height_of (opposite h) at) A z (b ∷ r) c.upper in
-      c.keyed.same (bottom b r) m g.0 c.lower.0
-      (le_antisym _ _ (c.last (bottom b r) g.0)
+      c.keyed.same (bottom b r) m g.0 c.lower.0 (le_antisym _ _ (c.last (bottom b r) g.0)
       (neg_le _ _ _ _ (dot-opposite h (at (bottom b r))) (dot-opposite h (at m)) (g.1 m c.lower.0)))
 
   -- the way round
@@ -132,8 +130,7 @@ module _ (n h : Vector) (at : ℕ → Vector) (A : ℕ → Type 0) (m a : ℕ) (
       let up = chain-below (turn_about n at) (height_of (opposite h) at) A z (b ∷ r) c.upper v j in
       let down = chain-below (turn_about n at) (height_of h at) A m (a ∷ s) c.lower v i in
       ⊎_elim (λ l. not_less _ _ (neg_lt _ _ _ _ (dot-opposite h (at v)) (dot-opposite h (at z)) up) (l z c.upper.0))
-      (λ u. ⊎_elim (λ l. not_less _ _ (lt_neg _ _ _ _ (dot-opposite h (at m)) (dot-opposite h (at v)) down)
-      (l m c.lower.0)) (λ k.
+      (λ u. ⊎_elim (λ l. not_less _ _ (lt_neg _ _ _ _ (dot-opposite h (at m)) (dot-opposite h (at v)) down) (l m c.lower.0)) (λ k.
       meet v av u k) (inside (turn_about n at) (height_of (opposite h) at) A z (b ∷ r) c.upper v j))
       (under (turn_about n at) (height_of h at) A m (a ∷ s) c.lower v (inr i))
 
@@ -163,8 +160,7 @@ module _ (n h : Vector) (at : ℕ → Vector) (A : ℕ → Type 0) (m a : ℕ) (
       (f.past up.u (up_in up.u up.has_u)) (f.past up.v (up_in up.v up.has_v))
       (mul-nonneg_nonpos _ _ (up.edge e ae) (omega (arith, ints, bracket-opposite h f.w n))))
       (λ k. core n h f.w at A c.flat low.u low.v e low.is_u low.is_v ae low.before low.after
-      (f.past low.u (low_in low.u low.has_u)) (f.past low.v (low_in low.v low.has_v))
-      (mul-nonneg_nonpos _ _ (low.edge e ae) k))
+      (f.past low.u (low_in low.u low.has_u)) (f.past low.v (low_in low.v low.has_v)) (mul-nonneg_nonpos _ _ (low.edge e ae) k))
     where
       S : ℤ
       S = dot (cross_product h f.w) n
@@ -188,8 +184,7 @@ module _ (n h : Vector) (at : ℕ → Vector) (A : ℕ → Type 0) (m a : ℕ) (
   -- so each extreme is on it
   extreme_in : (e : ℕ) → Extreme at A e → In e ring_list
   extreme_in e x = ⊎_elim (λ i. i)
-      (λ out. absurd (⊎_elim
-      (λ f. x.1 (combination_within at (λ v. In v ring_list) (Others A e) (at e) f
+      (λ out. absurd (⊎_elim (λ f. x.1 (combination_within at (λ v. In v ring_list) (Others A e) (at e) f
       (λ j i. ((corners j i).member, λ k. out (subst (λ v. In v ring_list) k i)))))
       (beyond_all e x.0 out) (alternative_in at (λ v. In v ring_list) ring_list (listed_itself ring_list) (at e)))) (in_dec e ring_list)
 

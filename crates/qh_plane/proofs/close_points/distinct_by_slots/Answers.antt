@@ -42,8 +42,7 @@ loop-number-preserved c =
           ∙ w.same_point.ensures.0 w.if-not-same_point.false
           ∙ point_read pts k w.index-pts-number-else-index.result within w.index-pts-number-else-index.is in
           let next = again_seen pts b slots k ids old within c.requires.few i (subst (λ n. slot_at slots n ≡ i) at (sym read)) below same in
-          subst (λ xs. AreSeen pts b xs (k + 1) c.if-index.ids.items)
-          (sym (ap (λ (v : Vec ℕ Global). v.items) w.slots-is))
+          subst (λ xs. AreSeen pts b xs (k + 1) c.if-index.ids.items) (sym (ap (λ (v : Vec ℕ Global). v.items) w.slots-is))
           (subst (λ xs. AreSeen pts b slots (k + 1) xs) (sym (ap (λ (v : Vec ℕ Global). v.items) w.ids-is)) next)
     ]
 

@@ -11,8 +11,7 @@ mark_first_ids-requires c = places_within c.args.pts.now c.args.keys.now c.requi
 
 pub marked_ids-requires : goal.marked_ids-requires
 marked_ids-requires c =
-    subst (λ v. v ≤ POINT_LIMIT)
-    (sym (ap length (c.deref.ensures.value ∙ c.in_ok-marks.ensures)
+    subst (λ v. v ≤ POINT_LIMIT) (sym (ap length (c.deref.ensures.value ∙ c.in_ok-marks.ensures)
     ∙ length-marked ROOM (replicate (length c.args.pts.now) false) (place_starts ROOM NO_PLACE c.args.keys.now)
     ∙ length-replicate (length c.args.pts.now) false))
     c.requires.few

@@ -13,7 +13,6 @@ marked_ids-requires c = subst (λ v. v ≤ POINT_LIMIT) (sym (ap length c.deref.
 
 pub returns : goal.returns
 returns c =
-    IfOk-weaker c.marked_ids.result _ _
-    (λ v e. subst (AreDistinctIds c.args.pts.now) (sym (e ∙ ap (marked_ids 0) c.deref.ensures.value))
+    IfOk-weaker c.marked_ids.result _ _ (λ v e. subst (AreDistinctIds c.args.pts.now) (sym (e ∙ ap (marked_ids 0) c.deref.ensures.value))
     (distinct_left c.args.pts.now c.args.repeats.now c.in_ok-marks.marks.items c.requires.repeats c.in_ok-marks.ensures))
     c.marked_ids.ensures

@@ -14,5 +14,4 @@ loop-direction-preserved c i m = elim c.if-ne.branch [
 ]
 
 pub returns-clause-indices : goal.returns-clause-indices
-returns-clause-indices c =
-    part_indices c.args.pts.now c.args.ids.now c.loop-direction.cycle.items c.requires.indices c.loop-direction.invariant
+returns-clause-indices c = part_indices c.args.pts.now c.args.ids.now c.loop-direction.cycle.items c.requires.indices c.loop-direction.invariant

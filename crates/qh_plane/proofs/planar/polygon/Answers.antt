@@ -18,8 +18,7 @@ returns-in-Some c = λ h.
     let i = c.index-ids-0-then-ids-eq4 in let j = c.index-ids-1-then-ids-eq4 in
     let k = c.index-ids-2-then-ids-eq4 in let l = c.index-ids-3 in
     polygon_of_four c.args.pts.now c.args.ids.now c.args.normal.now i.result j.result k.result l.result c.of.result
-    c.if-ids-eq4.true i.is j.is k.is l.is
-    (rw (c.of.ensures, c.in_ok-from_slice.ensures.items) c.in-Some.ensures) h
+    c.if-ids-eq4.true i.is j.is k.is l.is (rw (c.of.ensures, c.in_ok-from_slice.ensures.items) c.in-Some.ensures) h
 
 pub returns-in_ok-corners-in-Some-2 : goal.returns-in_ok-corners-in-Some-2
 returns-in_ok-corners-in-Some-2 c = λ h.

@@ -16,8 +16,7 @@ loop-number-preserved c =
     ∙ ap place_hash (point_read pts n c.index-pts-number.result c.loop-number-test.true c.index-pts-number.is) in
     elim c.if-is_marked.branch [
       | then-is_marked+in_ok-push w ↦
-          subst (AreKeysBelow pts some (n + 1))
-          (sym (ap (λ (v : Vec ℕ Global). v.items) w.keys-is ∙ w.in_ok-push.ensures.items
+          subst (AreKeysBelow pts some (n + 1)) (sym (ap (λ (v : Vec ℕ Global). v.items) w.keys-is ∙ w.in_ok-push.ensures.items
           ∙ ap (λ k. keys ++ k ∷ []) (w.key_of.ensures ∙ ap (λ h. h * ID_ROOM + n) hash)))
           (key_added pts some n keys before (subst some hash (c.is_marked.ensures.0 w.if-is_marked.true)))
       | else-is_marked w ↦

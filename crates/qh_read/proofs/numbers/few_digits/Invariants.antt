@@ -7,8 +7,7 @@ use Rattle.qh_read.proofs.DigitLaws.{greatest}
 -- the bytes so far are digits that make the magnitude
 abbrev pub invariant-loop-i : goal.invariant-loop-i
 invariant-loop-i l = record {
-  continued : (form : Form) (p : Progress) (line : ℕ) (minus : Bool)
-      → held_by (quiet form p line (Digits minus l.fn.first)) l.bytes
+  continued : (form : Form) (p : Progress) (line : ℕ) (minus : Bool) → held_by (quiet form p line (Digits minus l.fn.first)) l.bytes
       ≡ held_by (quiet form p line (Digits minus l.magnitude)) (drop l.i l.bytes);
   small : l.magnitude ≤ greatest l.i;
 }

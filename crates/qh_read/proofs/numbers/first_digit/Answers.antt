@@ -11,7 +11,6 @@ returns-clause-end c =
     let digit : IsEndOf rest c.if-first-eq43.unsigned.now = (c.in_ok-digit.digit.now ∷ [], c.in_ok-digit.ensures.cases.0) in
     elim c.if-first-eq43.branch [
       | then-first-eq43 w ↦ end-end rest c.in_ok-first.after.now bytes
-          (subst (IsEndOf rest) (ap (λ b. b.now) w.unsigned-is) digit)
-          (c.in_ok-first.first.now ∷ [], c.in_ok-first.ensures.cases.0)
+          (subst (IsEndOf rest) (ap (λ b. b.now) w.unsigned-is) digit) (c.in_ok-first.first.now ∷ [], c.in_ok-first.ensures.cases.0)
       | else-first-eq43 w ↦ subst (IsEndOf rest) (ap (λ b. b.now) w.unsigned-is) digit
     ]

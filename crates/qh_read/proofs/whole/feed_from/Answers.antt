@@ -67,11 +67,7 @@ returns-in_err-feed-clause-stops g c =
     let piece : List ℕ = take c.in_ok-count.count c.read.new.buf in
     let fed : List ℕ = take c.in_ok-count.count c.deref.result.now in
     let fits : c.in_ok-count.count ≤ PIECE_LENGTH = omega (arith, c.in_ok-count.ensures.bound, c.deref_mut.ensures.len, c.loop-source.invariant.buffer) in
-    let same : length fed ≡ length piece = omega (
-      arith,
-      length-take c.in_ok-count.count c.read.new.buf,
-      length-take c.in_ok-count.count c.deref.result.now,
-    ) in
+    let same : length fed ≡ length piece = omega (arith, length-take c.in_ok-count.count c.read.new.buf, length-take c.in_ok-count.count c.deref.result.now) in
     let few : length piece ≤ PIECE_LENGTH = omega (arith, fits, length-take c.in_ok-count.count c.read.new.buf) in
     let p = err_from_is_err_and c.from_residual-in_err-feed.result c.from_residual-in_err-feed.ensures.1 in
     let f : FeedFault = c.in_err-feed.field-0.0 in

@@ -15,8 +15,7 @@ returns-clause-read g c =
     let end : IsAtEnd (g.S.Source.remaining c.feed_from.new.source) = one_of ok.field-0 (λ e. ok.ensures.end (ap Ok e))
     (λ e. omega (arith, ok.ensures.enough (ap Ok e), c.feed_from.ensures.fits)) in
     let all = Gives-all c.args.form _ _ _ _ c.of_form-reader.ensures ok.ensures.fed in
-    MatchResult-weaker c.finish.result c.finish.ensures.read
-    (λ points reads. (end, (all.0, all.1, reads c.args.form all.0 all.2))) (λ e h. h)
+    MatchResult-weaker c.finish.result c.finish.ensures.read (λ points reads. (end, (all.0, all.1, reads c.args.form all.0 all.2))) (λ e h. h)
 
 pub returns-clause-text : goal.returns-clause-text
 returns-clause-text g c =
@@ -24,5 +23,4 @@ returns-clause-text g c =
     let end : IsAtEnd (g.S.Source.remaining c.feed_from.new.source) = one_of ok.field-0 (λ e. ok.ensures.end (ap Ok e))
     (λ e. omega (arith, ok.ensures.enough (ap Ok e), c.feed_from.ensures.fits)) in
     let all = Gives-all c.args.form _ _ _ _ c.of_form-reader.ensures ok.ensures.fed in
-    MatchResult-weaker c.finish.result c.finish.ensures.fault (λ points h. h)
-    (λ e first is_text. (end, (all.0, all.1, first c.args.form all.0 all.2)))
+    MatchResult-weaker c.finish.result c.finish.ensures.fault (λ points h. h) (λ e first is_text. (end, (all.0, all.1, first c.args.form all.0 all.2)))

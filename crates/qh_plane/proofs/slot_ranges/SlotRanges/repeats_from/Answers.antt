@@ -15,8 +15,7 @@ loop-number-preserved-then-place-len c =
     let beyond : r.size ≤ (c.slot-slot.result + (2 ^ 64 - first)) % 2 ^ 64 =
     subst (λ n. n ≤ (c.slot-slot.result + (2 ^ 64 - first)) % 2 ^ 64) (c.len.ensures ∙ c.loop-number.slots.ok.0 ∙ old.size) c.if-place-len.true in
     other_in_range pts r first c.loop-number.slots.items k c.loop-number.repeats.items old c.loop-number-test.true c.requires
-    (subst (λ n. n < r.end) at c.if-slot-self.false)
-    (subst (λ n. r.size ≤ (n + (2 ^ 64 - first)) % 2 ^ 64) at beyond)
+    (subst (λ n. n < r.end) at c.if-slot-self.false) (subst (λ n. r.size ≤ (n + (2 ^ 64 - first)) % 2 ^ 64) at beyond)
 
 pub bounds-pts-index : goal.bounds-pts-index
 bounds-pts-index c =

@@ -14,8 +14,7 @@ returns-clause-shown c =
     let old : List ℤ = coordinates was.points.items in
     let new : List ℤ = coordinates points in
     let begins : was.pending ≡ _ = c.requires.awaits.begins in
-    ap (stage_shown c.args.next)
-    (ap (λ (q : Pending). coordinates c.extend_from_slice.new.self.items ++ pending_list q) begins
+    ap (stage_shown c.args.next) (ap (λ (q : Pending). coordinates c.extend_from_slice.new.self.items ++ pending_list q) begins
     ∙ append-nil (coordinates c.extend_from_slice.new.self.items)
     ∙ ap coordinates items
     ∙ coordinates-append was.points.items points
