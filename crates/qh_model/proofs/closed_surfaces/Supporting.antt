@@ -4,7 +4,7 @@ use Rattle.std.proofs.Common.{◌≡◌, ◌≢◌, ℕ, suc, ◌+◌, arith, re
 use Rattle.std.proofs.lemmas.Int.{ints, by_lt_z}
 use Rattle.std.specs.Prelude.{ℤ, pos, negsuc, ◌+ℤ◌, ◌-ℤ◌, ◌*ℤ◌, neg_ℤ, ◌≤ℤ◌, ◌<ℤ◌}
 use Rattle.qh_model.specs.contract.ClosedSurface.{Triple, IsClosedSurface}
-use Rattle.qh_model.specs.headline.{Combination.Combination, Extreme.Others, Predicates.cross, Predicates.vol, Predicates.AreInLine, Sets.In, Sets.Members}
+use Rattle.qh_model.specs.headline.{Extreme.Others, Predicates.cross, Predicates.vol, Predicates.AreInLine, Sets.In, Sets.Members}
 use Rattle.qh_model.specs.headline.{SupportingPlane.IsSupportingTriple, Vector.Vector, Vector.minus, Vector.dot}
 use Rattle.qh_model.specs.laws.ClosedFaceLaws.{AreSupporting, TriangleOfPlane, ClosedMissNoPlane, ClosedMissNoExtreme}
 use Rattle.qh_model.specs.laws.{ClosedSurfaceLaws.IsCornerOf, FaceLaws.IsAlong, Separator.Separator}
@@ -145,8 +145,7 @@ module _ (at : ℕ → Vector) (A : ℕ → Type 0) (i j k : ℕ) (plane : IsSup
               (mul-pos_neg (m *ℤ m) (c *ℤ sink t +ℤ tilt t) (mul-pos m m m_pos m_pos) (low (sink t) (tilt t) (other t r) (limit t r)))
 
           area : (t : Triple) → In t ts → ¬ (AreInLine (up t.i) (up t.j) (up t.k))
-          area t r e =
-              less_differ (vol (up t.i) (up t.j) (up t.k) p) (pos 0) (below t r) (in_line-vol (up t.i) (up t.j) (up t.k) p e)
+          area t r e = less_differ (vol (up t.i) (up t.j) (up t.k) p) (pos 0) (below t r) (in_line-vol (up t.i) (up t.j) (up t.k) p e)
 
           further : (l : ℕ) → A l → dot n (up l) <ℤ dot n p
           further l h =

@@ -4,6 +4,7 @@ use Rattle.std.proofs.lemmas.Int.{ints}
 use Rattle.std.specs.{List.AllByRecursion as Every, Prelude.ℤ, Prelude.pos, Prelude.◌+ℤ◌, Prelude.◌*ℤ◌, Prelude.◌<ℤ◌}
 use native.Mathlib.Decide.{ℕ_discrete}
 use lib.Signed.{<ℤ_irrefl}
+use Rattle.qh_model.proofs.Decisions.{contrary, same_id}
 use Rattle.qh_model.proofs.{Members.every_at, algebra.Integers.ring_rules, algebra.VectorIdentities.vector_path}
 use Rattle.qh_model.proofs.combinations.Alternatives.{combination_or_separator, all_lower}
 use Rattle.qh_model.proofs.combinations.{OtherNames.combination_by_names, Vectors.V, Vectors.dot as vdot}
@@ -115,11 +116,7 @@ listed_part A P D xs l = from_witness (sifted P D xs)
 
 -- two ids are one or not
 pub apart : (i j : ℕ) → (j ≢ i) ⊎ (¬ (j ≢ i))
-apart i j = by_decision (ℕ_discrete j i)
-  where
-    by_decision : Dec (j ≡ i) → (j ≢ i) ⊎ (¬ (j ≢ i))
-    by_decision (yes e) = inr (λ n. n e)
-    by_decision (no n) = inl n
+apart i j = contrary (j ≡ i) (same_id j i)
 
 -- whether a member is extreme can be told
 extreme_or_not : (at : ℕ → Vector) (A : ℕ → Type 0) (xs : List ℕ) → Listed A xs → (i : ℕ)

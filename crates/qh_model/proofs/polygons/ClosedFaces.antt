@@ -155,8 +155,7 @@ module _ (at : ℕ → Vector) (ids : List ℕ) (i j k : ℕ) (plane : IsSupport
       not_k e = p.once.0 (inr (subst (λ x. In x r) (sym e) s.has_k))
 
       turn : pos 0 <ℤ left n (at a) (at t.j) (at t.k)
-      turn =
-          subst (λ x. pos 0 <ℤ x) (sym (left-turn n (at a) (at t.j) (at t.k))) (p.round t.j t.k follows a (inl refl) not_j not_k)
+      turn = subst (λ x. pos 0 <ℤ x) (sym (left-turn n (at a) (at t.j) (at t.k))) (p.round t.j t.k follows a (inl refl) not_j not_k)
 
   -- there are some
   some_triples : HasDistinctPoints at (Members ids) → (q : List ℕ) → IsOwnFace q → (t : Triple) × In t (triples_in q)

@@ -5,7 +5,7 @@ use native.Mathlib.Decide.{ℕ_discrete}
 use Rattle.std.specs.Prelude.{ℤ, pos, ◌+ℤ◌, ◌-ℤ◌, ◌*ℤ◌, ◌≤ℤ◌, ◌<ℤ◌}
 use Rattle.qh_model.specs.contract.{FinishedSurface.weighted_at, FinishedSurface.middle_at, FinishedSurface.IsFinished, Surface.Surface, Surface.IsCorner}
 use Rattle.qh_model.specs.contract.{Surface.rise, Weighted.Weighted, Weighted.weighted, Weighted.weighted_dot, Weighted.above}
-use Rattle.qh_model.specs.headline.{Combination.Combination, Extreme.Others, Extreme.Extreme, Predicates.cross, Predicates.vol, Predicates.AreInLine, Sets.In}
+use Rattle.qh_model.specs.headline.{Extreme.Others, Extreme.Extreme, Predicates.cross, Predicates.vol, Predicates.AreInLine, Sets.In}
 use Rattle.qh_model.specs.headline.{Sets.Members, SupportingPlane.IsSupportingTriple, SupportingPlane.OnPlane, Vector.Vector, Vector.dot}
 use Rattle.qh_model.specs.laws.CompletenessLaws.{FacetsSupport, IsLiveCorner, ExtremesAreCorners, CornerInPlane, ExtremesOfPlaneAreCorners, FacetOfPlane}
 use Rattle.qh_model.specs.laws.{CompletenessLaws.PlanesHaveFacets, CoveredPoints.CombinationWithInner, CoveredPoints.CombinationInPlane, FaceLaws.IsAlong}
