@@ -1,5 +1,5 @@
 -- Rising lists of the ids of which a decided claim holds: distinct ids and extreme ids.
-use Rattle.std.proofs.Common.{◌≡◌, ◌≢◌, ℕ, ◌+◌, ◌<◌, ◌⊎◌, inl, inr, List, [], ◌∷◌, length, sym, subst, arith, ⊎_elim}
+use Rattle.std.proofs.Common.{◌≡◌, ◌≢◌, ℕ, ◌+◌, ◌<◌, inl, inr, List, [], ◌∷◌, length, sym, subst, arith, ⊎_elim}
 use Rattle.std.proofs.lemmas.List.FromFn.{get_or-range_with_len, length-range_with_len}
 use Rattle.std.specs.{List.range_with_len, List.Sorted.IsStrictlyIncreasing, Prelude.◌↔◌}
 use Rattle.qh_model.proofs.Decisions.{Decided, contrary, each_or_not, same_vector}
@@ -7,7 +7,7 @@ use Rattle.qh_model.proofs.{Members.rising_first, Members.rising_tail, combinati
 use Rattle.qh_model.proofs.extremes.ExtremeIds.{Listed, listed_itself, listed_part, apart, alternative_in}
 use Rattle.qh_model.proofs.lists.{Ranges.range_below, Ranges.range_has, Rising.rising_append}
 use Rattle.qh_model.specs.headline.{Combination.Combination, DistinctIds.IsDistinctId, DistinctIds.AreDistinctIds, Extreme.Others, Hull.AreExtremes}
-use Rattle.qh_model.specs.{headline.Predicates.place, headline.Sets.In, headline.Sets.Members, headline.Vector.Vector, laws.Separator.Separator}
+use Rattle.qh_model.specs.{headline.Predicates.place, headline.Sets.In, headline.Sets.Members, headline.Vector.Vector}
 
 -- the rising list of the members of which P holds
 pub record Passing (P : ℕ → Type 0) (xs : List ℕ) : Type 0 where

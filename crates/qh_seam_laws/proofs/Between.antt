@@ -1,10 +1,10 @@
 -- What lies between a facet and an inner place is above no facet, and what is above no facet is a convex combination.
-use Rattle.std.proofs.Common.{◌≡◌, ℕ, arith, refl, sym, ◌∙◌, ◌⊎◌, inl, inr, ⊎_elim}
+use Rattle.std.proofs.Common.{◌≡◌, ℕ, arith, refl, sym, ◌∙◌, inl, inr, ⊎_elim}
 use Rattle.std.proofs.lemmas.Int.{ints}
 use Rattle.std.specs.Prelude.{ℤ, pos, ◌+ℤ◌, ◌-ℤ◌, ◌*ℤ◌, ◌≤ℤ◌, ◌<ℤ◌}
 use Rattle.qh_model.specs.contract.{FinishedSurface.weighted_at, FinishedSurface.middle_at, Surface.start, Surface.end, Surface.IsCorner, Surface.rise}
 use Rattle.qh_model.specs.contract.Weighted.{Weighted, weighted, weighted_dot, plane_of}
-use Rattle.qh_model.specs.{headline.Combination.Combination, headline.Sets.In, headline.Sets.Members, headline.Vector.dot, laws.Separator.Separator}
+use Rattle.qh_model.specs.{headline.Sets.In, headline.Sets.Members, headline.Vector.dot, laws.Separator.Separator}
 use Rattle.qh_model.proofs.algebra.Order.{mul-pos, mul-nonneg_nonpos, neg-positive, neg-nonneg, negative_le}
 use Rattle.qh_model.proofs.algebra.Signs.{not_less, less_differ, equal_nonpos, equal_negative, equal_positive, no_sum}
 use Rattle.qh_model.proofs.extremes.{ExtremeIds.listed_itself, ExtremeIds.alternative_in, Faces.face_combination}

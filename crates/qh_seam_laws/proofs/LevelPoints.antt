@@ -1,5 +1,5 @@
 -- A point in the plane of a facet that is above none of the facets beside that plane is above none at all.
-use Rattle.std.proofs.Common.{◌≡◌, ℕ, suc, arith, refl, sym, ◌∙◌, ap, ◌⊎◌, inl, inr, Bool, true, false, List, ⊎_elim}
+use Rattle.std.proofs.Common.{◌≡◌, ℕ, suc, arith, refl, sym, ◌∙◌, ap, inl, inr, Bool, true, false, List, ⊎_elim}
 use Rattle.std.proofs.lemmas.{Bool.and_parts, Int.ints}
 use Rattle.std.specs.Prelude.{ℤ, pos, ◌+ℤ◌, ◌*ℤ◌, neg_ℤ, ◌≤ℤ◌, ◌<ℤ◌, ◌&&◌}
 use Rattle.qh_model.specs.contract.{FinishedSurface.weighted_at, FinishedSurface.middle_at, FinishedSurface.IsFinished, SoundSurface.towards, Surface.Side}

@@ -1,5 +1,5 @@
 -- The facets of a part that stay support all, and those in clear planes have the polygons of all.
-use Rattle.std.proofs.Common.{◌≡◌, ℕ, refl, sym, subst, ◌∙◌, ap, ◌⊎◌, inl, inr, Bool, true, false, List, ◌∷◌, ⊎_elim}
+use Rattle.std.proofs.Common.{◌≡◌, ℕ, refl, subst, ◌∙◌, ap, ◌⊎◌, inl, inr, Bool, true, false, List, ◌∷◌, ⊎_elim}
 use Rattle.std.specs.Prelude.{pos, ◌≤ℤ◌, ◌<ℤ◌, ◌↔◌}
 use Rattle.qh_model.specs.contract.{FinishedSurface.IsFinished, IdSets.HasDistinctPoints, Surface.Surface}
 use Rattle.qh_model.specs.headline.{Extreme.Others, Extreme.Extreme, Polygons.IsFacePolygon, Sets.In, Sets.Members, SupportingPlane.Supports}
