@@ -177,15 +177,12 @@ module _ (at : ℕ → Vector) (z : Vector) (ts : List Triple) (inside : (t : Tr
           finish : neg_ℤ a *ℤ q -ℤ neg_ℤ b *ℤ p ≡ g → p ≡ neg_ℤ a → ht ≡ q +ℤ b → neg_ℤ a *ℤ ht ≡ g
           finish e r k = ap (λ v. neg_ℤ a *ℤ v) k ∙ grown a b q ∙ ap (λ v. neg_ℤ a *ℤ q -ℤ neg_ℤ b *ℤ v) (sym r) ∙ e
 
-      up : (v : ℤ) → v <ℤ pos 0 → pos 0 <ℤ neg_ℤ v
-      up v h = omega (arith, ints)
-
       rises : Rises (over s t) (minus l z) (middle z (at s.i) (at s.j) (at s.k))
       rises =
           inl (subst (λ v. pos 0 <ℤ v)
           (same (dot (over s t) (minus l z)) (rise at s z) (rise at t z) (dot (normal s) (minus l z)) (dot (normal t) (minus l z)) (rise at s l) (rise at t l)
           (dot-balance (sunk s) (normal t) (sunk t) (normal s) (minus l z)) (vol-from (at s.i) (at s.j) (at s.k) z l)
-          (vol-from (at t.i) (at t.j) (at t.k) z l) m.level) (mul-pos (neg_ℤ (rise at s z)) (rise at t l) (up (rise at s z) (inside s i)) h))
+          (vol-from (at t.i) (at t.j) (at t.k) z l) m.level) (mul-pos (neg_ℤ (rise at s z)) (rise at t l) (omega (arith, ints, inside s i)) h))
 
       each : (p : Vector) → In p (forms s t) → Rises p (minus l z) (middle z (at s.i) (at s.j) (at s.k))
       each p (inl e) =

@@ -33,12 +33,9 @@ module _ (at : ℕ → Vector) (ids : List ℕ) (ts : List Triple) (z d : Vector
       deep : (v : ℤ) → v <ℤ pos 0 → pos 0 ≤ℤ neg_ℤ v
       deep v h = omega (arith, ints)
 
-      clash : (a b k : ℤ) → a -ℤ b ≡ k → a ≤ℤ pos 0 → b ≡ pos 0 → pos 0 <ℤ k → ⊥
-      clash a b k e f g h = omega (arith, ints)
-
       plain : (hn hs ds dn k : ℤ) → hn *ℤ ds -ℤ hs *ℤ dn ≡ k → hs ≡ pos 0 → hn ≤ℤ pos 0 → pos 0 ≤ℤ ds → pos 0 <ℤ k → ⊥
       plain hn hs ds dn k e f g h l =
-          clash (hn *ℤ ds) (hs *ℤ dn) k e (omega (arith, ints, mul-nonneg_nonpos ds hn h g)) (ap (λ m. m *ℤ dn) f ∙ zero_mul dn) l
+          omega (arith, ints, mul-nonneg_nonpos ds hn h g, ap (λ m. m *ℤ dn) f ∙ zero_mul dn)
 
       past : vol z (at u) (at v) (at l) <ℤ pos 0 → ⊥
       past h =

@@ -41,19 +41,13 @@ ceiling {X} g (x ∷ xs) = go (g x) refl (ceiling g xs)
         more : (z : ℤ) → z <ℤ pos c → z <ℤ pos (suc n + c)
         more z h = omega (arith, ints)
 
-        own : (z : ℤ) → z ≡ pos n → z <ℤ pos (suc n + c)
-        own z h = omega (arith, ints)
-
         each : (y : X) → In y (x ∷ xs) → g y <ℤ pos (suc n + c)
-        each y (inl d) = own (g y) (ap g d ∙ e)
+        each y (inl d) = omega (arith, ints, ap g d ∙ e)
         each y (inr i) = more (g y) (h y i)
     go (negsuc n) e (c, h) = (c, each)
       where
-        own : (z : ℤ) → z ≡ negsuc n → z <ℤ pos c
-        own z h = omega (arith, ints)
-
         each : (y : X) → In y (x ∷ xs) → g y <ℤ pos c
-        each y (inl d) = own (g y) (ap g d ∙ e)
+        each y (inl d) = omega (arith, ints, ap g d ∙ e)
         each y (inr i) = h y i
 
 -- ---- a plane of the set and a triangle
