@@ -44,8 +44,7 @@ module _ {S X : Type 0} (right : S → (ℕ → Type 0) → X → Type 0) (key :
           t.0,
           t.1,
           dite (ℕ_discrete j i)
-              (λ q. subst (λ (p : Place). SlotOf right key j p t.0)
-              (sym (ap (put m.node i parked) q ∙ put_here m.node i parked))
+              (λ q. subst (λ (p : Place). SlotOf right key j p t.0) (sym (ap (put m.node i parked) q ∙ put_here m.node i parked))
               (x, t.2 q, subst (λ (k : ℕ). right key.spans (InSpan key.blocks k) x) (sym q) rx))
               (λ ne. subst (λ (p : Place). SlotOf right key j p t.0) (sym (put_else m.node i parked j ne)) (t.3 ne)),
         );

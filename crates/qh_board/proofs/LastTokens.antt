@@ -121,10 +121,7 @@ module _ {S X : Type 0} (right : S → (ℕ → Type 0) → X → Type 0) (key :
   root_told words xs ts L claims n value root c e at hit miss = dite (ℕ_discrete n 1)
       (λ one. let u = L.out (e ∙ one) in let same : value ≡ Some u.0 = some-injective value (Some u.0) (sym at ∙ u.1) in let d = L.done (e ∙ one) in
       subst Right (sym (hit one ∙ same)) (
-        (
-          (λ _. (subst (λ (z : ℕ). key.blocks ≤ z) c d.0, of_records (λ r. r.mark ≡ Some marks.Left) ts d.1)),
-          (λ _. refl),
-        ),
+        ((λ _. (subst (λ (z : ℕ). key.blocks ≤ z) c d.0, of_records (λ r. r.mark ≡ Some marks.Left) ts d.1)), (λ _. refl)),
         u.2,
       ))
       (λ ne. subst Right (sym (miss ne)) (
@@ -140,8 +137,7 @@ module _ {S X : Type 0} (right : S → (ℕ → Type 0) → X → Type 0) (key :
       Right o = (IsSome o ↔ ((key.blocks ≤ claims) × All (λ t. t.pass.mark ≡ Some marks.Left) ts)) × IfSome o (λ x. right key.spans (InSpan key.blocks 1) x)
 
   -- the marks that the words tell
-  pub marks_told : (words words' : List ℕ) → words' ≡ words → (ts : List (Token S))
-      → Each (λ r. r.mark ≢ None) (records_of ts)
+  pub marks_told : (words words' : List ℕ) → words' ≡ words → (ts : List (Token S)) → Each (λ r. r.mark ≢ None) (records_of ts)
       → Each (λ r. slice_index words (key.blocks + 1 + r.number) ≡ mark_word (mark_of r.mark)) (records_of ts)
       → All (λ t. Some (mark_of_word (slice_index words' (key.blocks + 1 + t.pass.number))) ≡ t.pass.mark) ts
   marks_told words words' same ts n e k d h =

@@ -76,5 +76,4 @@ module _ {S X : Type 0} (right : S → (ℕ → Type 0) → X → Type 0) (key :
   leave_allowed k same_key slots id number over me of bare has = let r : Record = seat_record me.0 number None over in
       let p = seated right key me.0 number None over of has in
       allowed_at right key k same_key slots id (key.blocks + 1 + number) (λ n. (n + 1) % 2 ^ 64)
-      (marked (step slots (key.blocks + 1 + number) 1 0 none)) me (view_of key (r ∷ []), []) (λ c. (p c, bare c))
-      (leave_at slots id r refl refl)
+      (marked (step slots (key.blocks + 1 + number) 1 0 none)) me (view_of key (r ∷ []), []) (λ c. (p c, bare c)) (leave_at slots id r refl refl)

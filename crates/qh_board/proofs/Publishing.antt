@@ -38,8 +38,7 @@ module _ {S X : Type 0} (right : S → (ℕ → Type 0) → X → Type 0) (key :
           t.0,
           t.1,
           dite (ℕ_discrete j 1)
-              (λ q. subst (λ (p : Place). SlotOf right key j p t.0)
-              (sym (ap (put m.node 1 published) q ∙ put_here m.node 1 published))
+              (λ q. subst (λ (p : Place). SlotOf right key j p t.0) (sym (ap (put m.node 1 published) q ∙ put_here m.node 1 published))
               (x, t.2 q, subst (λ (k : ℕ). right key.spans (InSpan key.blocks k) x) (sym q) rx))
               (λ ne. subst (λ (p : Place). SlotOf right key j p t.0) (sym (put_else m.node 1 published j ne)) (t.3 ne)),
         );
@@ -62,8 +61,7 @@ module _ {S X : Type 0} (right : S → (ℕ → Type 0) → X → Type 0) (key :
         joins_inner = λ x h. refl;
       })
     where
-      both : (j : ℕ) → 0 < j
-          → settled (put R.machine.node 1 published (2 * j)) + settled (put R.machine.node 1 published (2 * j + 1))
+      both : (j : ℕ) → 0 < j → settled (put R.machine.node 1 published (2 * j)) + settled (put R.machine.node 1 published (2 * j + 1))
           ≡ settled (R.machine.node (2 * j)) + settled (R.machine.node (2 * j + 1))
       both j h = let a = ap settled (put_else R.machine.node 1 published (2 * j) (λ q. omega arith)) in
           let b = ap settled (put_else R.machine.node 1 published (2 * j + 1) (λ q. omega arith)) in omega arith
@@ -104,8 +102,7 @@ module _ {S X : Type 0} (right : S → (ℕ → Type 0) → X → Type 0) (key :
       next : 1 ≡ (slice_index s.words key.blocks + 1) % 2 ^ 64
       next = let z = found in omega arith
 
-  pub publish_allowed : (k : Setup S) → k ≡ key
-      → (slots id i number : ℕ) (over : Bool) (x : X) (before me : Me (Option X) (View S)) → i ≡ 1
+  pub publish_allowed : (k : Setup S) → k ≡ key → (slots id i number : ℕ) (over : Bool) (x : X) (before me : Me (Option X) (View S)) → i ≡ 1
       → before.0.setup ≡ Some key → before.1 ≡ (i, None) ∷ kids (blocks_of before.0) i
       → HasRecord before.0 number (Some i) over None → me ≡ (before.0, (i, Some x) ∷ rest before.1) → right key.spans (InSpan key.blocks i) x
       → Allows (Ruled right k) slots id me key.blocks (λ n. (n + 1) % 2 ^ 64) (put_out (step slots key.blocks 1 0 none) me)

@@ -22,8 +22,7 @@ module _ {S X : Type 0} (right : S → (ℕ → Type 0) → X → Type 0) (key :
   pub second_step : (s : State (Option X) (View S)) (R : Kept right key s) (id i : ℕ) (x : X) (r : Record) (homes' : Homes X)
       → get_elem? s.views id ≡ some (view_of key (r ∷ [])) → r.node ≡ Some i → r.mark ≡ None → 1 < i
       → slice_index s.words (parent i) ≢ 0
-      → homes' ≡ set (set (set (laid s.homes (load right key i (Some x))) (2 * parent i + 1) none) (2 * parent i) none)
-      (parent i) none
+      → homes' ≡ set (set (set (laid s.homes (load right key i (Some x))) (2 * parent i + 1) none) (2 * parent i) none) (parent i) none
       → Kept right key record {
         words = set s.words (parent i) (slice_index s.words (parent i) + 1);
         homes = homes';
@@ -108,15 +107,13 @@ module _ {S X : Type 0} (right : S → (ℕ → Type 0) → X → Type 0) (key :
         };
         others = others_keep right key m (after key.blocks key.passes m e) w (omega arith) (λ v ne. (refl, refl))
             (λ v j ne q. else_ j (λ z. let f : held v ≡ held w = sym q ∙ (ap m.node z ∙ mine) in ne cc)
-            (λ z. let f : held v ≡ parked = sym q ∙ (ap m.node z ∙ sib.0) in cc)
-            (λ z. let f : held v ≡ untouched = sym q ∙ (ap m.node z ∙ fr) in cc) ∙ q)
+            (λ z. let f : held v ≡ parked = sym q ∙ (ap m.node z ∙ sib.0) in cc) (λ z. let f : held v ≡ untouched = sym q ∙ (ap m.node z ∙ fr) in cc) ∙ q)
             (λ v j ne q. back m w i v j ne (cases m.node w i j (held v) q));
         drawn = refl;
         got = λ y. refl;
         joins_inner = λ y h. let t = times_snoc right key y r.joins (parent i) in let low = rg in
             let a3 : one_if (parent i == y) ≡ 0 =
-            ap one_if (ne_eqb (parent i) y
-            (λ q. ⊎_elim (λ (z : y ≡ 0). omega arith) (λ (z : key.blocks ≤ y). omega arith) h)) in omega arith;
+            ap one_if (ne_eqb (parent i) y (λ q. ⊎_elim (λ (z : y ≡ 0). omega arith) (λ (z : key.blocks ≤ y). omega arith) h)) in omega arith;
         joins = λ y lo' hi. let t = times_snoc right key y r.joins (parent i) in dite (ℕ_discrete y (parent i))
             (λ q. let t1 : slice_index (set s.words (parent i) x') y ≡ 2 =
             ap (slice_index (set s.words (parent i) x')) q

@@ -80,10 +80,8 @@ module _ {S X : Type 0} (right : S → (ℕ → Type 0) → X → Type 0) (key :
   unfolding laid
   laid_else hs i x j ne far = dite (dec_le key.blocks i)
       (λ leaf. subst (λ (c : List (ℕ × Option X)). get_elem? (laid hs ((i, x) ∷ c)) j ≡ get_elem? hs j)
-      (sym (kids_out key.blocks i leaf)) (set_else hs i j (some x) ne))
-      (λ inner. let f = far (omega arith) in
-      subst (λ (c : List (ℕ × Option X)). get_elem? (laid hs ((i, x) ∷ c)) j ≡ get_elem? hs j)
-      (sym (kids_in key.blocks i (omega arith)))
+      (sym (kids_out key.blocks i leaf)) (set_else hs i j (some x) ne)) (λ inner. let f = far (omega arith) in
+      subst (λ (c : List (ℕ × Option X)). get_elem? (laid hs ((i, x) ∷ c)) j ≡ get_elem? hs j) (sym (kids_in key.blocks i (omega arith)))
       (set_else (set (set hs i (some x)) (2 * i) (some None)) (2 * i + 1) j (some None) f.1
       ∙ (set_else (set hs i (some x)) (2 * i) j (some None) f.0 ∙ set_else hs i j (some x) ne)))
 

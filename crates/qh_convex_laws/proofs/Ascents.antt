@@ -70,16 +70,14 @@ module _ {X : Type 0} (num den : X → ℤ) (P : X → Type 0) (D : Type 0) (xs 
   greater-trans : (x y z : X) → pos 0 <ℤ den x → pos 0 <ℤ den y → (num x *ℤ den y) <ℤ (num y *ℤ den x) → greater y z ≡ true → greater x z ≡ true
   greater-trans x y z hx hy l e =
       let p = and_parts (above (den z)) (int_lt (num y *ℤ den z) (num z *ℤ den y)) e in
-      and_from (above (den z)) (int_lt (num x *ℤ den z) (num z *ℤ den x)) p.0
-      (is_less _ _ (go (above_is (den z) p.0) (omega (arith, ints, p.1))))
+      and_from (above (den z)) (int_lt (num x *ℤ den z) (num z *ℤ den x)) p.0 (is_less _ _ (go (above_is (den z) p.0) (omega (arith, ints, p.1))))
     where
       clash : (a b : ℤ) → a <ℤ b → b ≤ℤ a → ⊥
       clash a b h k = omega (arith, ints)
 
       go : pos 0 <ℤ den z → (num y *ℤ den z) <ℤ (num z *ℤ den y) → (num x *ℤ den z) <ℤ (num z *ℤ den x)
       go hz k =
-          by_lt_z (num x *ℤ den z) (num z *ℤ den x) (λ q. q)
-          (λ q. absurd (clash (num y *ℤ den z) (num z *ℤ den y) k
+          by_lt_z (num x *ℤ den z) (num z *ℤ den x) (λ q. q) (λ q. absurd (clash (num y *ℤ den z) (num z *ℤ den y) k
           (ratio-trans (num z) (num x) (num y) (den z) (den x) (den y) hz hx hy q (less_le _ _ l))))
 
   -- the walk
@@ -99,8 +97,7 @@ module _ {X : Type 0} (num den : X → ℤ) (P : X → Type 0) (D : Type 0) (xs 
           pick : ((y : X) → P y → count (greater y) xs < n → D) → D ⊎ Next x → D
           pick walk (inl d) = d
           pick walk (inr (y, i, k, m)) =
-              walk y k
-              (shorter (count (greater y) xs) (count (greater x) xs) n
+              walk y k (shorter (count (greater y) xs) (count (greater x) xs) n
               (fewer (greater x) (greater y) (λ z e. greater-trans x y z (positive x h) (positive y k) m e) xs y i
               (and_from (above (den y)) (int_lt (num x *ℤ den y) (num y *ℤ den x)) (is_above (den y) (positive y k)) (is_less _ _ m))
               (and_right (above (den y)) (int_lt (num y *ℤ den y) (num y *ℤ den y)) (not_itself (num y *ℤ den y)))) l)

@@ -1,5 +1,5 @@
 -- The laws of locally convex surfaces.
-use Rattle.std.proofs.Common.{◌≡◌, ℕ, ◌≤◌, refl, sym, subst, ◌∙◌, arith, List, [], ◌∷◌, length, true, ◌⊎◌, inl, inr}
+use Rattle.std.proofs.Common.{◌≡◌, ℕ, ◌≤◌, refl, sym, subst, ◌∙◌, arith, List, [], ◌∷◌, length, true, ◌⊎◌, inl, inr, ⊎_elim}
 use Rattle.std.proofs.lemmas.Int.{ints}
 use Rattle.std.specs.Prelude.{ℤ, pos, neg_ℤ, count_by, ◌≤ℤ◌, ◌<ℤ◌}
 use Rattle.qh_model.specs.contract.ClosedSurface.{Triple}
@@ -55,8 +55,7 @@ module _ (at : ℕ → Vector) (ts : List Triple) (z d : Vector) (c : IsLocallyC
 
           go : PointOff at z ts c.inside x inner → HighestMet at z x ts
           go (y, up, off_q, corner) =
-              walked at z ts c.inside c.convex x off (plus z y) off_q corner g j top
-              (edge y (at g.i) (at g.j) (up (cross z (at g.i) (at g.j)) (inl refl)))
+              walked at z ts c.inside c.convex x off (plus z y) off_q corner g j top (edge y (at g.i) (at g.j) (up (cross z (at g.i) (at g.j)) (inl refl)))
               (edge y (at g.j) (at g.k) (up (cross z (at g.j) (at g.k)) (inr (inl refl))))
               (edge y (at g.k) (at g.i) (up (cross z (at g.k) (at g.i)) (inr (inr (inl refl)))))
 
@@ -95,16 +94,11 @@ under_triangle_is_below at ts z d c p u t i =
 -- no member of the set is above a triangle
 pub member_below : (at : ℕ → Vector) (ids : List ℕ) (ts : List Triple) (z d : Vector) → IsLocallyConvex at ts z d
     → HasAllUnder at ids ts z → (l : ℕ) → In l ids → (t : Triple) → In t ts → rise at t (at l) ≤ℤ pos 0
-member_below at ids ts z d c all l m t i = pick (all.others l m)
-  where
-    pick : IsCornerOf ts l ⊎ IsUnder at ts z (at l) → rise at t (at l) ≤ℤ pos 0
-    pick (inl k) = convex at ts z d c l k t i
-    pick (inr u) = under_triangle_is_below at ts z d c (at l) u t i
+member_below at ids ts z d c all l m t i = ⊎_elim (λ k. convex at ts z d c l k t i) (λ u. under_triangle_is_below at ts z d c (at l) u t i) (all.others l m)
 
 -- the law of supporting triples
 pub local_supports : LocalSupports
-local_supports at ids ts z d c all =
-    (record { some = some ts c.once; area = area; closed = c.closed }, supporting)
+local_supports at ids ts z d c all = (record { some = some ts c.once; area = area; closed = c.closed }, supporting)
   where
     some : (us : List Triple) → count_by (is_met at z d) us ≡ 1 → 1 ≤ length us
     some [] e = cc

@@ -1,5 +1,5 @@
 -- How the edges of one triangle cross the way from d to x, by signs alone.
-use Rattle.std.proofs.Common.{◌≡◌, ℕ, ◌+◌, arith, refl, Bool, true, false, cond, eqb, not, ◌&&◌, ◌||◌, ◌⊎◌, inl, inr}
+use Rattle.std.proofs.Common.{◌≡◌, ℕ, ◌+◌, arith, refl, Bool, true, false, cond, eqb, not, ◌&&◌, ◌||◌, ◌⊎◌, inl, inr, ⊎_elim}
 use Rattle.std.proofs.lemmas.{Bool.eqb-true, Bool.and_parts, Bool.or_cases, Bool.not-true, Int.ints}
 use Rattle.std.specs.Prelude.{ℤ, pos, ◌+ℤ◌, ◌-ℤ◌}
 use Rattle.qh_convex_laws.proofs.Signs.{same, fits_difference, fits_sum}
@@ -52,11 +52,8 @@ in_all f = both (λ r. both (λ s. both (λ t. both (λ u. both (λ v. both (λ 
 in_each : (f : Bool → Bool → Bool → Bool → Bool → Bool → Bool → Bool → Bool → Bool) → in_all f ≡ true
     → (a b c u₁ u₂ u₃ v₁ v₂ v₃ : Bool) → f a b c u₁ u₂ u₃ v₁ v₂ v₃ ≡ true
 in_each f e a b c u₁ u₂ u₃ v₁ v₂ v₃ =
-    each (λ z. f a b c u₁ u₂ u₃ v₁ v₂ z)
-    (each (λ y. both (λ z. f a b c u₁ u₂ u₃ v₁ y z))
-    (each (λ x. both (λ y. both (λ z. f a b c u₁ u₂ u₃ x y z)))
-    (each (λ w. both (λ x. both (λ y. both (λ z. f a b c u₁ u₂ w x y z))))
-    (each (λ v. both (λ w. both (λ x. both (λ y. both (λ z. f a b c u₁ v w x y z)))))
+    each (λ z. f a b c u₁ u₂ u₃ v₁ v₂ z) (each (λ y. both (λ z. f a b c u₁ u₂ u₃ v₁ y z)) (each (λ x. both (λ y. both (λ z. f a b c u₁ u₂ u₃ x y z)))
+    (each (λ w. both (λ x. both (λ y. both (λ z. f a b c u₁ u₂ w x y z)))) (each (λ v. both (λ w. both (λ x. both (λ y. both (λ z. f a b c u₁ v w x y z)))))
     (each (λ u. both (λ v. both (λ w. both (λ x. both (λ y. both (λ z. f a b c u v w x y z))))))
     (each (λ t. both (λ u. both (λ v. both (λ w. both (λ x. both (λ y. both (λ z. f a b t u v w x y z)))))))
     (each (λ s. both (λ t. both (λ u. both (λ v. both (λ w. both (λ x. both (λ y. both (λ z. f a s t u v w x y z))))))))
@@ -76,8 +73,7 @@ parts_add a b c u₁ u₂ u₃ v₁ v₂ v₃ h =
     (eqb-true _ _ (given (signs_fit a b c u₁ u₂ u₃ v₁ v₂ v₃) (counts_fit a b c u₁ u₂ u₃ v₁ v₂ v₃)
     (in_each (λ a b c u₁ u₂ u₃ v₁ v₂ v₃. gives (signs_fit a b c u₁ u₂ u₃ v₁ v₂ v₃) (counts_fit a b c u₁ u₂ u₃ v₁ v₂ v₃)) refl a b c u₁ u₂ u₃ v₁ v₂ v₃) h))
   where
-    plain : (p q r s i j k l : ℕ) → p + q + r + s ≡ i + j + k + l
-        → (pos p -ℤ pos i) +ℤ ((pos q -ℤ pos j) +ℤ (pos r -ℤ pos k)) ≡ pos l -ℤ pos s
+    plain : (p q r s i j k l : ℕ) → p + q + r + s ≡ i + j + k + l → (pos p -ℤ pos i) +ℤ ((pos q -ℤ pos j) +ℤ (pos r -ℤ pos k)) ≡ pos l -ℤ pos s
     plain p q r s i j k l e = omega (arith, ints)
 
 -- ---- the way from x to d, out of a triangle
@@ -97,8 +93,7 @@ abbrev onwards : (c u₂ u₃ v₂ v₃ : Bool) → Bool
 onwards c u₂ u₃ v₂ v₃ = (u₂ && u₃) || ((not c && (not u₂ && v₂)) || (c && (not u₃ && v₃)))
 
 -- it does
-pub goes_on : (a b c u₁ u₂ u₃ v₁ v₂ v₃ : Bool) → signs_fit a b c u₁ u₂ u₃ v₁ v₂ v₃ ≡ true
-    → a ≡ false → b ≡ true → u₁ ≡ true → v₁ ≡ false → GoesOn c u₂ u₃ v₂ v₃
+pub goes_on : (a b c u₁ u₂ u₃ v₁ v₂ v₃ : Bool) → signs_fit a b c u₁ u₂ u₃ v₁ v₂ v₃ ≡ true → a ≡ false → b ≡ true → u₁ ≡ true → v₁ ≡ false → GoesOn c u₂ u₃ v₂ v₃
 goes_on a b c u₁ u₂ u₃ v₁ v₂ v₃ h ea eb eu ev =
     split (given (not a && (b && (u₁ && not v₁))) (onwards c u₂ u₃ v₂ v₃)
     (given (signs_fit a b c u₁ u₂ u₃ v₁ v₂ v₃) (gives (not a && (b && (u₁ && not v₁))) (onwards c u₂ u₃ v₂ v₃))
@@ -108,13 +103,10 @@ goes_on a b c u₁ u₂ u₃ v₁ v₂ v₃ h ea eb eu ev =
     split : onwards c u₂ u₃ v₂ v₃ ≡ true → GoesOn c u₂ u₃ v₂ v₃
     split e = first (or_cases _ _ e)
       where
-        rest : (not c && (not u₂ && v₂)) ≡ true ⊎ (c && (not u₃ && v₃)) ≡ true → GoesOn c u₂ u₃ v₂ v₃
-        rest (inl f) = let p = and_parts _ _ f in let q = and_parts _ _ p.1 in inr (inl (not-true c p.0, not-true u₂ q.0, q.1))
-        rest (inr f) = let p = and_parts _ _ f in let q = and_parts _ _ p.1 in inr (inr (p.0, not-true u₃ q.0, q.1))
-
         first : (u₂ && u₃) ≡ true ⊎ ((not c && (not u₂ && v₂)) || (c && (not u₃ && v₃))) ≡ true → GoesOn c u₂ u₃ v₂ v₃
         first (inl f) = inl f
-        first (inr f) = rest (or_cases _ _ f)
+        first (inr f) = ⊎_elim (λ f. let p = and_parts _ _ f in let q = and_parts _ _ p.1 in inr (inl (not-true c p.0, not-true u₂ q.0, q.1)))
+            (λ f. let p = and_parts _ _ f in let q = and_parts _ _ p.1 in inr (inr (p.0, not-true u₃ q.0, q.1))) (or_cases _ _ f)
 
 -- how it begins where x is inside: d is inside too, or it goes out over one of the edges
 abbrev pub Begins : (a b c u₁ u₂ u₃ : Bool) → Type 0
@@ -129,8 +121,7 @@ abbrev starts : (a b c u₁ u₂ u₃ : Bool) → Bool
 starts a b c u₁ u₂ u₃ = (u₁ && (u₂ && u₃)) || (leaves a b u₁ || (leaves b c u₂ || leaves c a u₃))
 
 -- it does
-pub begins : (a b c u₁ u₂ u₃ v₁ v₂ v₃ : Bool) → signs_fit a b c u₁ u₂ u₃ v₁ v₂ v₃ ≡ true
-    → v₁ ≡ true → v₂ ≡ true → v₃ ≡ true → Begins a b c u₁ u₂ u₃
+pub begins : (a b c u₁ u₂ u₃ v₁ v₂ v₃ : Bool) → signs_fit a b c u₁ u₂ u₃ v₁ v₂ v₃ ≡ true → v₁ ≡ true → v₂ ≡ true → v₃ ≡ true → Begins a b c u₁ u₂ u₃
 begins a b c u₁ u₂ u₃ v₁ v₂ v₃ h e₁ e₂ e₃ =
     first (or_cases _ _ (given (v₁ && (v₂ && v₃)) (starts a b c u₁ u₂ u₃)
     (given (signs_fit a b c u₁ u₂ u₃ v₁ v₂ v₃) (gives (v₁ && (v₂ && v₃)) (starts a b c u₁ u₂ u₃))
@@ -140,14 +131,7 @@ begins a b c u₁ u₂ u₃ v₁ v₂ v₃ h e₁ e₂ e₃ =
     out : (a b u : Bool) → leaves a b u ≡ true → (a ≡ true) × (b ≡ false) × (u ≡ false)
     out a b u e = let p = and_parts _ _ e in let q = and_parts _ _ p.1 in (p.0, not-true b q.0, not-true u q.1)
 
-    third : leaves b c u₂ ≡ true ⊎ leaves c a u₃ ≡ true → Begins a b c u₁ u₂ u₃
-    third (inl e) = inr (inr (inl (out b c u₂ e)))
-    third (inr e) = inr (inr (inr (out c a u₃ e)))
-
-    second : leaves a b u₁ ≡ true ⊎ (leaves b c u₂ || leaves c a u₃) ≡ true → Begins a b c u₁ u₂ u₃
-    second (inl e) = inr (inl (out a b u₁ e))
-    second (inr e) = third (or_cases _ _ e)
-
     first : (u₁ && (u₂ && u₃)) ≡ true ⊎ (leaves a b u₁ || (leaves b c u₂ || leaves c a u₃)) ≡ true → Begins a b c u₁ u₂ u₃
     first (inl e) = inl e
-    first (inr e) = second (or_cases _ _ e)
+    first (inr e) = ⊎_elim (λ e. inr (inl (out a b u₁ e)))
+        (λ e. ⊎_elim (λ e. inr (inr (inl (out b c u₂ e)))) (λ e. inr (inr (inr (out c a u₃ e)))) (or_cases _ _ e)) (or_cases _ _ e)

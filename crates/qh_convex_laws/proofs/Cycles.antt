@@ -46,14 +46,9 @@ third_member [] h o p v = absurd (omega arith)
 third_member (a ∷ []) h o p v = absurd (omega arith)
 third_member (a ∷ b ∷ []) h o p v = absurd (omega arith)
 third_member (a ∷ b ∷ c ∷ r) h o p v = dite (ℕ_discrete a p)
-    (λ e. dite (ℕ_discrete b v)
-    (λ k. (c, inr (inr (inl refl)), (λ m. ac (e ∙ sym m)), λ m. bc (k ∙ sym m)))
-    (λ k. (b, inr (inl refl), (λ m. ab (e ∙ sym m)), k)))
-    (λ e. dite (ℕ_discrete a v)
-    (λ k. dite (ℕ_discrete b p)
-    (λ m. (c, inr (inr (inl refl)), (λ n. bc (m ∙ sym n)), λ n. ac (k ∙ sym n)))
-    (λ m. (b, inr (inl refl), m, λ n. ab (k ∙ sym n))))
-    (λ k. (a, inl refl, e, k)))
+    (λ e. dite (ℕ_discrete b v) (λ k. (c, inr (inr (inl refl)), (λ m. ac (e ∙ sym m)), λ m. bc (k ∙ sym m)))
+    (λ k. (b, inr (inl refl), (λ m. ab (e ∙ sym m)), k))) (λ e. dite (ℕ_discrete a v) (λ k. dite (ℕ_discrete b p)
+    (λ m. (c, inr (inr (inl refl)), (λ n. bc (m ∙ sym n)), λ n. ac (k ∙ sym n))) (λ m. (b, inr (inl refl), m, λ n. ab (k ∙ sym n)))) (λ k. (a, inl refl, e, k)))
   where
     ab : a ≢ b
     ab e = o.0 (inl e)
@@ -77,8 +72,7 @@ square_volume z l m w n =
 pub beyond_volume : (z l m w n : Vector) → pos 0 <ℤ dot n (minus l z) → dot n (minus m z) ≡ dot n (minus l z) → dot w (minus m z) <ℤ dot w (minus l z)
     → pos 0 <ℤ vol z l m (plus z (cross_product w n))
 beyond_volume z l m w n h e far =
-    subst (λ k. pos 0 <ℤ k)
-    (sym (vol-plus z l m (cross_product w n) ∙ square_volume z l m w n
+    subst (λ k. pos 0 <ℤ k) (sym (vol-plus z l m (cross_product w n) ∙ square_volume z l m w n
     ∙ plain (dot n (minus l z)) (dot n (minus m z)) (dot w (minus l z)) (dot w (minus m z)) e))
     (mul-pos (dot n (minus l z)) (dot w (minus l z) -ℤ dot w (minus m z)) h (gap (dot w (minus m z)) (dot w (minus l z)) far))
   where
@@ -117,16 +111,14 @@ module _ (at : ℕ → Vector) (z l : Vector) (q : List ℕ) (sides : (u v : ℕ
 
     -- a side is as far from l as the fractions of its ends differ
     step : (u v : ℕ) → num v *ℤ den u -ℤ num u *ℤ den v ≡ vol z l (at u) (at v) *ℤ vol z l e f
-    step u v =
-        turned (num v) (den u) (num u) (den v) ∙ edge_product z l (at u) (at v) e f
+    step u v = turned (num v) (den u) (num u) (den v) ∙ edge_product z l (at u) (at v) e f
       where
         turned : (a b c d : ℤ) → a *ℤ b -ℤ c *ℤ d ≡ b *ℤ a -ℤ c *ℤ d
         turned a b c d = omega (arith, ints)
 
     -- none is left over where one is greatest
     none_left : (u : ℕ) → In u q → IsGreatest num den u q → (v : ℕ) → Follows u v q → (vol z l (at u) (at v) ≡ pos 0) × IsGreatest num den v q
-    none_left u i g v k =
-        (zero, next)
+    none_left u i g v k = (zero, next)
       where
         j : In v q
         j = (follows_members u v q k).1
@@ -167,8 +159,7 @@ module _ (at : ℕ → Vector) (z l : Vector) (q : List ℕ) (sides : (u v : ℕ
                 last : vol z l (at u) (at v) ≡ pos 0 → IsGreatest num den v q → (x : ℕ) × Follows v x q → ⊥
                 last zero h (x, n) =
                     clash (vol z (at v) (at u) l) (vol z (at v) (at x) e) (vol z (at v) (at u) e) (vol z (at v) (at x) l)
-                    (vol z (at v) (at u) (at x)) (vol z (at v) l e)
-                    (edge_product z (at v) (at u) (at x) l e)
+                    (vol z (at v) (at u) (at x)) (vol z (at v) l e) (edge_product z (at v) (at u) (at x) l e)
                     (flip_round z (at u) (at v) l ∙ ap neg_ℤ (sym (vol-round z l (at u) (at v)) ∙ zero))
                     (sym (vol-round z l (at v) (at x)) ∙ (none_left v (follows_members u v q k).1 h x n).0)
                     (negative (vol z (at u) (at v) (at x)) (vol z (at v) (at u) (at x)) (flip_round z (at u) (at v) (at x)) (turns u v x k n))
@@ -178,5 +169,4 @@ module _ (at : ℕ → Vector) (z l : Vector) (q : List ℕ) (sides : (u v : ℕ
                     negative a b e h = omega (arith, ints)
 
                     clash : (a b c d k m : ℤ) → a *ℤ b -ℤ c *ℤ d ≡ k *ℤ m → a ≡ pos 0 → d ≡ pos 0 → k <ℤ pos 0 → m <ℤ pos 0 → ⊥
-                    clash a b c d k m e f g h n =
-                        omega (arith, ints, ap (λ s. s *ℤ b) f ∙ zero_mul b, product_zero c d g, mul-neg_neg k m h n)
+                    clash a b c d k m e f g h n = omega (arith, ints, ap (λ s. s *ℤ b) f ∙ zero_mul b, product_zero c d g, mul-neg_neg k m h n)

@@ -50,8 +50,7 @@ module _ (at : ℕ → Vector) (z d x : Vector) where
       flip y n = ap above (flip_round z (at e.0) (at e.1) y) ∙ above-neg (vol z (at e.0) (at e.1) y) n
 
   -- one triangle
-  triangle_crossings : (t : Triple) → vol (at t.i) (at t.j) (at t.k) z <ℤ pos 0
-      → IsClear (t.i, t.j) → IsClear (t.j, t.k) → IsClear (t.k, t.i)
+  triangle_crossings : (t : Triple) → vol (at t.i) (at t.j) (at t.k) z <ℤ pos 0 → IsClear (t.i, t.j) → IsClear (t.j, t.k) → IsClear (t.k, t.i)
       → crossing (t.i, t.j) +ℤ (crossing (t.j, t.k) +ℤ crossing (t.k, t.i)) ≡ pos (cond (is_met at z d t) 1 0) -ℤ pos (cond (is_met at z x t) 1 0)
   triangle_crossings t h p q r =
       plain _ _ _ _ _ _ (crossing-part (t.i, t.j) p) (crossing-part (t.j, t.k) q) (crossing-part (t.k, t.i) r)
@@ -63,8 +62,7 @@ module _ (at : ℕ → Vector) (z d x : Vector) where
       plain a b c i j k e f g = rw (e, f, g) refl
 
   -- all triangles
-  crossings_add : (ts : List Triple) → ((t : Triple) → In t ts → vol (at t.i) (at t.j) (at t.k) z <ℤ pos 0)
-      → ((e : ℕ × ℕ) → In e (edges ts) → IsClear e)
+  crossings_add : (ts : List Triple) → ((t : Triple) → In t ts → vol (at t.i) (at t.j) (at t.k) z <ℤ pos 0) → ((e : ℕ × ℕ) → In e (edges ts) → IsClear e)
       → sum_z crossing (edges ts) ≡ pos (count (is_met at z d) ts) -ℤ pos (count (is_met at z x) ts)
   crossings_add [] h c = refl
   crossings_add (t ∷ ts) h c =
@@ -73,8 +71,7 @@ module _ (at : ℕ → Vector) (z d x : Vector) where
       (triangle_crossings t (h t (inl refl)) (c (t.i, t.j) (inl refl)) (c (t.j, t.k) (inr (inl refl))) (c (t.k, t.i) (inr (inr (inl refl)))))
       (crossings_add ts (λ s i. h s (inr i)) (λ e i. c e (inr (inr (inr i)))))
     where
-      plain : (a b c s : ℤ) (m n k l : ℕ) → a +ℤ (b +ℤ c) ≡ pos m -ℤ pos n → s ≡ pos k -ℤ pos l
-          → a +ℤ (b +ℤ (c +ℤ s)) ≡ pos (m + k) -ℤ pos (n + l)
+      plain : (a b c s : ℤ) (m n k l : ℕ) → a +ℤ (b +ℤ c) ≡ pos m -ℤ pos n → s ≡ pos k -ℤ pos l → a +ℤ (b +ℤ (c +ℤ s)) ≡ pos (m + k) -ℤ pos (n + l)
       plain a b c s m n k l e f = omega (arith, ints)
 
   -- the same number is met in both directions

@@ -14,8 +14,7 @@ cancel-le k a b h e = by_lt_z b a (λ l. absurd (go l)) (λ l. l)
     gap a b l = omega (arith, ints)
 
     split : (k a b : ℤ) → k *ℤ (a -ℤ b) ≡ k *ℤ a -ℤ k *ℤ b
-    split k a b =
-        ring (k ∷ a ∷ b ∷ []) (mul (var 0) (less (var 1) (var 2))) (less (mul (var 0) (var 1)) (mul (var 0) (var 2))) refl
+    split k a b = ring (k ∷ a ∷ b ∷ []) (mul (var 0) (less (var 1) (var 2))) (less (mul (var 0) (var 1)) (mul (var 0) (var 2))) refl
 
     go : b <ℤ a → ⊥
     go l = omega (arith, ints, split k a b, mul-pos k (a -ℤ b) h (gap a b l))
@@ -47,14 +46,11 @@ module _ {X : Type 0} (n m : X → ℤ) where
       each s (inr i) = absurd i
   greatest x (y ∷ ys) h = pick (greatest y ys (λ w i. h w (inr i)))
     where
-      own : (v : ℤ) → v ≤ℤ v
-      own v = omega (arith, ints)
-
       pick : (t : X) × In t (y ∷ ys) × IsGreatest t (y ∷ ys) → (t : X) × In t (x ∷ y ∷ ys) × IsGreatest t (x ∷ y ∷ ys)
       pick (t, i, g) = by_lt_z (n t *ℤ m x) (n x *ℤ m t) (λ l. (x, inl refl, new l)) (λ l. (t, inr i, old l))
         where
           new : (n t *ℤ m x) <ℤ (n x *ℤ m t) → IsGreatest x (x ∷ y ∷ ys)
-          new l s (inl e) = subst (λ w. (n w *ℤ m x) ≤ℤ (n x *ℤ m w)) (sym e) (own (n x *ℤ m x))
+          new l s (inl e) = subst (λ w. (n w *ℤ m x) ≤ℤ (n x *ℤ m w)) (sym e) (omega (arith, ints))
           new l s (inr j) = ratio-trans (n s) (n t) (n x) (m s) (m t) (m x) (h s (inr j)) (h t (inr i)) (h x (inl refl)) (g s j) (less_le _ _ l)
 
           old : (n x *ℤ m t) ≤ℤ (n t *ℤ m x) → IsGreatest t (x ∷ y ∷ ys)

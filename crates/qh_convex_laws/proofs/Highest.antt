@@ -69,8 +69,7 @@ module _ (at : ℕ → Vector) where
 
         plain : (tz tx nz nx tw e a a' b b' w e' : ℤ) → tz ≡ a → tx ≡ a' → nz ≡ neg_ℤ b → nx ≡ neg_ℤ b' → tw ≡ w → e' ≡ e
             → a *ℤ b' -ℤ a' *ℤ b ≡ w *ℤ e' → nx *ℤ neg_ℤ tz -ℤ tx *ℤ neg_ℤ nz ≡ tw *ℤ e
-        plain tz tx nz nx tw e a a' b b' w e' f g h i j k id =
-            rw (f, g, h, i, j, ← k, swapped b' a, kept a' b) id
+        plain tz tx nz nx tw e a a' b b' w e' f g h i j k id = rw (f, g, h, i, j, ← k, swapped b' a, kept a' b) id
 
     -- the neighbour past an edge is at least as high for its depth
     pub neighbour_greatest : ((s : Triple) → In s ts → rise s z <ℤ pos 0) → (t : Triple) → In t ts → IsGreatest height depth t ts

@@ -47,8 +47,7 @@ weights_sum z a b c p h = plain (vol a b c p) (vol z a b p) (vol z b c p) (vol z
 -- a point of the triangle as far from the second edge as the first corner is that corner
 pub at_corner : (z a b c p : Vector) → pos 0 <ℤ vol z a b c → IsInside z a b c p → vol z a b c ≤ℤ vol z b c p → p ≡ a
 at_corner z a b c p out h far =
-    vector_path p a
-    (same p.x z.x a.x b.x c.x _ _ _ _ out (first_coordinate z a b c p) ends.0 ends.1 ends.2)
+    vector_path p a (same p.x z.x a.x b.x c.x _ _ _ _ out (first_coordinate z a b c p) ends.0 ends.1 ends.2)
     (same p.y z.y a.y b.y c.y _ _ _ _ out (second_coordinate z a b c p) ends.0 ends.1 ends.2)
     (same p.z z.z a.z b.z c.z _ _ _ _ out (third_coordinate z a b c p) ends.0 ends.1 ends.2)
   where
@@ -58,12 +57,11 @@ at_corner z a b c p out h far =
         only : (k u v w : ℤ) → k ≡ u +ℤ v +ℤ w → pos 0 ≤ℤ v → pos 0 ≤ℤ w → k ≤ℤ u → (u ≡ k) × (v ≡ pos 0) × (w ≡ pos 0)
         only k u v w e f g l = (omega (arith, ints), omega (arith, ints), omega (arith, ints))
 
-    same : (p z a b c k u v w : ℤ) → pos 0 <ℤ k → k *ℤ (p -ℤ z) ≡ u *ℤ (a -ℤ z) +ℤ v *ℤ (b -ℤ z) +ℤ w *ℤ (c -ℤ z)
-        → u ≡ k → v ≡ pos 0 → w ≡ pos 0 → p ≡ a
+    same : (p z a b c k u v w : ℤ) → pos 0 <ℤ k → k *ℤ (p -ℤ z) ≡ u *ℤ (a -ℤ z) +ℤ v *ℤ (b -ℤ z) +ℤ w *ℤ (c -ℤ z) → u ≡ k → v ≡ pos 0 → w ≡ pos 0 → p ≡ a
     same p z a b c k u v w l e f g m =
         let even = e ∙ ap (λ n. n *ℤ (a -ℤ z) +ℤ v *ℤ (b -ℤ z) +ℤ w *ℤ (c -ℤ z)) f
-            ∙ ap (λ n. k *ℤ (a -ℤ z) +ℤ n *ℤ (b -ℤ z) +ℤ w *ℤ (c -ℤ z)) g
-            ∙ ap (λ n. k *ℤ (a -ℤ z) +ℤ pos 0 *ℤ (b -ℤ z) +ℤ n *ℤ (c -ℤ z)) m ∙ none (k *ℤ (a -ℤ z)) (b -ℤ z) (c -ℤ z) in
+        ∙ ap (λ n. k *ℤ (a -ℤ z) +ℤ n *ℤ (b -ℤ z) +ℤ w *ℤ (c -ℤ z)) g
+        ∙ ap (λ n. k *ℤ (a -ℤ z) +ℤ pos 0 *ℤ (b -ℤ z) +ℤ n *ℤ (c -ℤ z)) m ∙ none (k *ℤ (a -ℤ z)) (b -ℤ z) (c -ℤ z) in
         omega (arith, ints, cancel-zero k (p -ℤ a) l (split k p z a ∙ (omega (arith, ints, even))))
       where
         none : (m b c : ℤ) → m +ℤ pos 0 *ℤ b +ℤ pos 0 *ℤ c ≡ m
@@ -71,5 +69,4 @@ at_corner z a b c p out h far =
 
         split : (k p z a : ℤ) → k *ℤ (p -ℤ a) ≡ k *ℤ (p -ℤ z) -ℤ k *ℤ (a -ℤ z)
         split k p z a =
-            ring (k ∷ p ∷ z ∷ a ∷ []) (mul (var 0) (less (var 1) (var 3)))
-            (less (mul (var 0) (less (var 1) (var 2))) (mul (var 0) (less (var 3) (var 2)))) refl
+            ring (k ∷ p ∷ z ∷ a ∷ []) (mul (var 0) (less (var 1) (var 3))) (less (mul (var 0) (less (var 1) (var 2))) (mul (var 0) (less (var 3) (var 2)))) refl

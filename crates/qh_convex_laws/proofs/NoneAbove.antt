@@ -109,10 +109,8 @@ module _ (at : ℕ → Vector) (z : Vector) (ts : List Triple) (inside : (t : Tr
           ring (a ∷ b ∷ p ∷ q ∷ []) (less (mul (add (var 3) (var 1)) (neg (var 0))) (mul (add (var 2) (var 0)) (neg (var 1))))
           (less (mul (neg (var 0)) (var 3)) (mul (neg (var 1)) (var 2))) refl
 
-      plain : (g a b hs ht p q : ℤ) → g ≡ neg_ℤ a *ℤ q -ℤ neg_ℤ b *ℤ p → hs ≡ p +ℤ a → ht ≡ q +ℤ b → pos 0 <ℤ g
-          → (hs *ℤ neg_ℤ b) <ℤ (ht *ℤ neg_ℤ a)
-      plain g a b hs ht p q e f k h =
-          rw (f, k) (omega (arith, ints, same a b p q ∙ sym e))
+      plain : (g a b hs ht p q : ℤ) → g ≡ neg_ℤ a *ℤ q -ℤ neg_ℤ b *ℤ p → hs ≡ p +ℤ a → ht ≡ q +ℤ b → pos 0 <ℤ g → (hs *ℤ neg_ℤ b) <ℤ (ht *ℤ neg_ℤ a)
+      plain g a b hs ht p q e f k h = rw (f, k) (omega (arith, ints, same a b p q ∙ sym e))
 
   -- a corner of s is not outside s
   record IsIn (s : Triple) (l : Vector) : Type 0 where
@@ -179,16 +177,12 @@ module _ (at : ℕ → Vector) (z : Vector) (ts : List Triple) (inside : (t : Tr
           finish : neg_ℤ a *ℤ q -ℤ neg_ℤ b *ℤ p ≡ g → p ≡ neg_ℤ a → ht ≡ q +ℤ b → neg_ℤ a *ℤ ht ≡ g
           finish e r k = ap (λ v. neg_ℤ a *ℤ v) k ∙ grown a b q ∙ ap (λ v. neg_ℤ a *ℤ q -ℤ neg_ℤ b *ℤ v) (sym r) ∙ e
 
-      up : (v : ℤ) → v <ℤ pos 0 → pos 0 <ℤ neg_ℤ v
-      up v h = omega (arith, ints)
-
       rises : Rises (over s t) (minus l z) (middle z (at s.i) (at s.j) (at s.k))
       rises =
           inl (subst (λ v. pos 0 <ℤ v)
           (same (dot (over s t) (minus l z)) (rise at s z) (rise at t z) (dot (normal s) (minus l z)) (dot (normal t) (minus l z)) (rise at s l) (rise at t l)
           (dot-balance (sunk s) (normal t) (sunk t) (normal s) (minus l z)) (vol-from (at s.i) (at s.j) (at s.k) z l)
-          (vol-from (at t.i) (at t.j) (at t.k) z l) m.level)
-          (mul-pos (neg_ℤ (rise at s z)) (rise at t l) (up (rise at s z) (inside s i)) h))
+          (vol-from (at t.i) (at t.j) (at t.k) z l) m.level) (mul-pos (neg_ℤ (rise at s z)) (rise at t l) (omega (arith, ints, inside s i)) h))
 
       each : (p : Vector) → In p (forms s t) → Rises p (minus l z) (middle z (at s.i) (at s.j) (at s.k))
       each p (inl e) =
@@ -221,8 +215,7 @@ module _ (at : ℕ → Vector) (z : Vector) (ts : List Triple) (inside : (t : Tr
           (only_one (is_met at z (plus z y)) ts g s one there i met (met_there s t y up)) (top t j))
 
       off : PointOff at z ts inside d (forms s t) → ⊥
-      off (y, up, edge, corner) =
-          two y up (subst (λ n. n ≤ 1) (met_alike at z d (plus z y) ts closed inside apart edge corner) once) (highest (plus z y) edge)
+      off (y, up, edge, corner) = two y up (subst (λ n. n ≤ 1) (met_alike at z d (plus z y) ts closed inside apart edge corner) once) (highest (plus z y) edge)
 
       start : pos 0 <ℤ rise at t (at l) → ⊥
       start h = let f = forms_up s t i j (at l) (corner_in s i l m) h in off (off_all at z ts inside d apart (forms s t) f.0 f.1)

@@ -78,8 +78,7 @@ module _ (at : ℕ → Vector) (z : Vector) (ts : List Triple) (inside : (t : Tr
           (λ f. edge_spans at z ts inside r.0 r.1 (sym r.2 ∙ f))
 
       go : Perturbed (map edge_normal (edges ts)) ps → PointOffEdges ps
-      go (y, up, off) =
-          (y, up, λ e i f. off (edge_normal e) (in_map edge_normal (edges ts) e i) (sym (vol-plus z (at e.0) (at e.1) y) ∙ f))
+      go (y, up, off) = (y, up, λ e i f. off (edge_normal e) (in_map edge_normal (edges ts) e i) (sym (vol-plus z (at e.0) (at e.1) y) ∙ f))
 
   -- the same, off the planes with the corners too
   abbrev pub PointOff : Vector → List Vector → Type 0

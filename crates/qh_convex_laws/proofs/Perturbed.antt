@@ -19,8 +19,7 @@ alongE n x v = record { x = add (mul n x.x) v.x; y = add (mul n x.y) v.y; z = ad
 -- its scalar products
 pub dot-along : (p : Vector) (n : ℤ) (x v : Vector) → dot p (along n x v) ≡ n *ℤ dot p x +ℤ dot p v
 dot-along p n x v =
-    ring (put p (put x (put v (n ∷ [])))) (dotE (vec 0) (alongE (var 9) (vec 1) (vec 2)))
-    (add (mul (var 9) (dotE (vec 0) (vec 1))) (dotE (vec 0) (vec 2))) refl
+    ring (put p (put x (put v (n ∷ [])))) (dotE (vec 0) (alongE (var 9) (vec 1) (vec 2))) (add (mul (var 9) (dotE (vec 0) (vec 1))) (dotE (vec 0) (vec 2))) refl
 
 -- p is positive at x, or not below 0 and positive along v
 abbrev pub Rises : Vector → Vector → Vector → Type 0
@@ -96,9 +95,7 @@ perturbed (l ∷ ls) ps x n h = start (λ qs w k. perturbed ls qs w (λ m i. n m
 
     settled : ((qs : List Vector) (w : Vector) → AllUp qs w → Perturbed ls qs) → (w : Vector) → AllUp ps w → ¬ (dot l w ≡ pos 0) → Perturbed (l ∷ ls) ps
     settled step w k o =
-        by_lt_z (pos 0) (dot l w)
-        (λ q. more_off l ls ps (inl (step (l ∷ ps) w (more_up l ps w q k))))
-        (λ q. more_off l ls ps (inr (step (opposite l ∷ ps) w
+        by_lt_z (pos 0) (dot l w) (λ q. more_off l ls ps (inl (step (l ∷ ps) w (more_up l ps w q k)))) (λ q. more_off l ls ps (inr (step (opposite l ∷ ps) w
         (more_up (opposite l) ps w (turned (dot l w) (dot (opposite l) w) (dot-opposite l w) (le_less (dot l w) (pos 0) q o)) k))))
 
     start : ((qs : List Vector) (w : Vector) → AllUp qs w → Perturbed ls qs) → (dot l x ≡ pos 0) ⊎ (¬ (dot l x ≡ pos 0)) → Perturbed (l ∷ ls) ps

@@ -33,13 +33,9 @@ module _ (at : ℕ → Vector) (ids : List ℕ) (ts : List Triple) (z d : Vector
       deep : (v : ℤ) → v <ℤ pos 0 → pos 0 ≤ℤ neg_ℤ v
       deep v h = omega (arith, ints)
 
-      clash : (a b k : ℤ) → a -ℤ b ≡ k → a ≤ℤ pos 0 → b ≡ pos 0 → pos 0 <ℤ k → ⊥
-      clash a b k e f g h = omega (arith, ints)
-
       plain : (hn hs ds dn k : ℤ) → hn *ℤ ds -ℤ hs *ℤ dn ≡ k → hs ≡ pos 0 → hn ≤ℤ pos 0 → pos 0 ≤ℤ ds → pos 0 <ℤ k → ⊥
       plain hn hs ds dn k e f g h l =
-          clash (hn *ℤ ds) (hs *ℤ dn) k e (omega (arith, ints, mul-nonneg_nonpos ds hn h g))
-          (ap (λ m. m *ℤ dn) f ∙ zero_mul dn) l
+          omega (arith, ints, mul-nonneg_nonpos ds hn h g, ap (λ m. m *ℤ dn) f ∙ zero_mul dn)
 
       past : vol z (at u) (at v) (at l) <ℤ pos 0 → ⊥
       past h =
@@ -111,8 +107,8 @@ module _ (at : ℕ → Vector) (ids : List ℕ) (ts : List Triple) (z d : Vector
     turns : (u v x : ℕ) → Follows u v q → Follows v x q → pos 0 <ℤ vol z (at u) (at v) (at x)
     turns u v x f g =
         let under = below (dot normal normal) (vol (at u) (at v) (at x) z) (left normal (at u) (at v) (at x) *ℤ rise at t z) square
-            (level_volume (at t.i) (at t.j) (at t.k) (at u) (at v) (at x) z (p.level u k.0) (p.level v k.1) (p.level x m))
-            (mul-pos_neg (left normal (at u) (at v) (at x)) (rise at t z) (p.round u v f x m not_u not_v) (c.inside t i)) in
+        (level_volume (at t.i) (at t.j) (at t.k) (at u) (at v) (at x) z (p.level u k.0) (p.level v k.1) (p.level x m))
+        (mul-pos_neg (left normal (at u) (at v) (at x)) (rise at t z) (p.round u v f x m not_u not_v) (c.inside t i)) in
         omega (arith, ints, vol-outwards z (at u) (at v) (at x))
       where
         k : In u q × In v q
@@ -153,8 +149,7 @@ module _ (at : ℕ → Vector) (ids : List ℕ) (ts : List Triple) (z d : Vector
         ahead : (v : ℕ) → In v q → pos 0 <ℤ vol z (at l) (at v) (plus z (cross_product s.w normal))
         ahead v k =
             beyond_volume z (at l) (at v) s.w normal (up (dot normal (minus (at l) z)) (rise at t z) (distance l m.1) (c.inside t i))
-            (distance v (p.level v k) ∙ sym (distance l m.1))
-            (omega (arith, ints, dot-minus s.w (at v) z, dot-minus s.w (at l) z, s.past v k))
+            (distance v (p.level v k) ∙ sym (distance l m.1)) (omega (arith, ints, dot-minus s.w (at v) z, dot-minus s.w (at l) z, s.past v k))
 
     extreme_corner : (l : ℕ) → OnPlane at (Extreme at (Members ids)) t.i t.j t.k l → In l q
     extreme_corner l (e, level) = pick (in_or_not l q)
@@ -165,8 +160,7 @@ module _ (at : ℕ → Vector) (ids : List ℕ) (ts : List Triple) (z d : Vector
           where
             either : Combination at (Members q) (at l) ⊎ Separator at (Members q) (at l) → ⊥
             either (inl m) =
-                e.1 (combination_within at (Members q) (Others (Members ids) l) (at l) m
-                (λ j k. (corner_member j k, λ f. o (subst (λ x. In x q) f k))))
+                e.1 (combination_within at (Members q) (Others (Members ids) l) (at l) m (λ j k. (corner_member j k, λ f. o (subst (λ x. In x q) f k))))
             either (inr s) = none_beyond l (e.0, level) s
 
     -- ---- a corner is extreme
@@ -226,12 +220,7 @@ module _ (at : ℕ → Vector) (ids : List ℕ) (ts : List Triple) (z d : Vector
 
     -- the polygon
     pub face : IsFacePolygon at (Members ids) t.i t.j t.k q
-    face = record {
-      members = λ l. (corner_extreme l, extreme_corner l);
-      once = p.once;
-      round = p.round;
-      least = p.least;
-    }
+    face = record { members = λ l. (corner_extreme l, extreme_corner l); once = p.once; round = p.round; least = p.least }
 
 -- the law
 pub sharp_polygon_is_face : SharpPolygonIsFace

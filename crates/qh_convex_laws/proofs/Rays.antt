@@ -1,7 +1,7 @@
 -- Near a ray that meets or misses each triangle there is one off all planes through z and an edge that meets the same.
-use Rattle.std.proofs.Common.{◌≡◌, ℕ, refl, sym, ap, subst, ◌∙◌, arith, List, [], ◌∷◌, ◌++◌, Bool, true, false, ◌⊎◌, inl, inr}
+use Rattle.std.proofs.Common.{◌≡◌, ℕ, refl, sym, ap, subst, ◌∙◌, arith, List, [], ◌∷◌, ◌++◌, Bool, true, false, ◌⊎◌, inl, inr, ⊎_elim}
 use Rattle.std.proofs.lemmas.{Bool.and_parts, Bool.and_from, Bool.and_left, Bool.and_right, Int.ints}
-use Rattle.std.specs.Prelude.{ℤ, pos, neg_ℤ, ◌≤ℤ◌, ◌<ℤ◌}
+use Rattle.std.specs.Prelude.{ℤ, pos, neg_ℤ, ◌<ℤ◌}
 use Rattle.qh_model.specs.contract.ClosedSurface.{Triple}
 use Rattle.qh_model.specs.headline.{Predicates.cross, Predicates.vol, Sets.In, Vector.Vector, Vector.minus, Vector.dot}
 use Rattle.qh_model.proofs.algebra.{Signs.less_le, VectorIdentities.opposite, VectorIdentities.dot-opposite, VectorIdentities.vol-dot}
@@ -31,11 +31,7 @@ module _ (at : ℕ → Vector) (z d : Vector) where
 
   -- a triangle that is met
   of_met : (t : Triple) → is_met at z d t ≡ true → Forms (MeetsSame t)
-  of_met t e = record {
-    list = cross z (at t.i) (at t.j) ∷ cross z (at t.j) (at t.k) ∷ cross z (at t.k) (at t.i) ∷ [];
-    here = here;
-    tell = tell;
-  }
+  of_met t e = record { list = cross z (at t.i) (at t.j) ∷ cross z (at t.j) (at t.k) ∷ cross z (at t.k) (at t.i) ∷ []; here = here; tell = tell }
     where
       part : (above (vol z (at t.i) (at t.j) d) ≡ true) × (above (vol z (at t.j) (at t.k) d) ≡ true) × (above (vol z (at t.k) (at t.i) d) ≡ true)
       part = let p = and_parts _ _ e in let q = and_parts _ _ p.1 in (p.0, q.0, q.1)
@@ -56,8 +52,7 @@ module _ (at : ℕ → Vector) (z d : Vector) where
           (edge y (at t.k) (at t.i) (up (cross z (at t.k) (at t.i)) (inr (inr (inl refl)))))) ∙ sym e
 
   -- a triangle that is missed over an edge
-  of_edge : (t : Triple) (a b : Vector) → vol z a b d <ℤ pos 0 → ((q : Vector) → above (vol z a b q) ≡ false → is_met at z q t ≡ false)
-      → Forms (MeetsSame t)
+  of_edge : (t : Triple) (a b : Vector) → vol z a b d <ℤ pos 0 → ((q : Vector) → above (vol z a b q) ≡ false → is_met at z q t ≡ false) → Forms (MeetsSame t)
   of_edge t a b h out = record { list = opposite (cross z a b) ∷ []; here = here; tell = tell }
     where
       turned : (v w : ℤ) → w ≡ neg_ℤ v → v <ℤ pos 0 → pos 0 <ℤ w
@@ -83,8 +78,7 @@ module _ (at : ℕ → Vector) (z d : Vector) where
   of_told t (inr (inr (inr h))) = of_edge t (at t.k) (at t.i) h (λ q e. and_right _ _ (and_right _ _ e))
 
   -- all triangles
-  pub of_all : (ts : List Triple) → ((t : Triple) → In t ts → is_met at z d t ≡ true ⊎ IsMissed at z d t)
-      → Forms (λ y. (t : Triple) → In t ts → MeetsSame t y)
+  pub of_all : (ts : List Triple) → ((t : Triple) → In t ts → is_met at z d t ≡ true ⊎ IsMissed at z d t) → Forms (λ y. (t : Triple) → In t ts → MeetsSame t y)
   of_all [] h = record { list = []; here = λ p i. absurd i; tell = λ y up t i. absurd i }
   of_all (t ∷ ts) h = join (of_told t (h t (inl refl))) (of_all ts (λ s i. h s (inr i)))
     where
@@ -92,11 +86,7 @@ module _ (at : ℕ → Vector) (z d : Vector) where
       join f g = record { list = f.list ++ g.list; here = here; tell = tell }
         where
           here : AllUp (f.list ++ g.list) (minus d z)
-          here p i = pick (of_append f.list g.list p i)
-            where
-              pick : In p f.list ⊎ In p g.list → pos 0 <ℤ dot p (minus d z)
-              pick (inl j) = f.here p j
-              pick (inr j) = g.here p j
+          here p i = ⊎_elim (λ j. f.here p j) (λ j. g.here p j) (of_append f.list g.list p i)
 
           tell : (y : Vector) → AllUp (f.list ++ g.list) y → (s : Triple) → In s (t ∷ ts) → MeetsSame s y
           tell y up s (inl e) = subst (λ r. MeetsSame r y) (sym e) (f.tell y (λ p j. up p (in_append f.list g.list p (inl j))))

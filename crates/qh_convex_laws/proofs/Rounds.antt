@@ -1,5 +1,5 @@
 -- The signs round one triangle that has z below: those of its edges and corners with d and x.
-use Rattle.std.proofs.Common.{◌≡◌, refl, ap, ◌∙◌, arith, [], Bool, true, ◌⊎◌, inl, inr}
+use Rattle.std.proofs.Common.{◌≡◌, refl, ap, ◌∙◌, arith, [], Bool, true, ◌⊎◌, inl, inr, ⊎_elim}
 use Rattle.std.proofs.lemmas.{Bool.and_from, Int.ints}
 use Rattle.std.specs.Prelude.{ℤ, pos, ◌+ℤ◌, ◌-ℤ◌, ◌*ℤ◌, neg_ℤ, ◌<ℤ◌}
 use Rattle.qh_model.specs.headline.{Predicates.cross, Predicates.vol, Vector.Vector, Vector.minus}
@@ -51,11 +51,7 @@ flip_round z a b y = ring (put (minus a z) (put (minus b z) (put (minus y z) [])
 -- ---- their signs
 -- products that are not 0
 product_not_zero : (a b : ℤ) → ¬ (a ≡ pos 0) → ¬ (b ≡ pos 0) → ¬ (a *ℤ b ≡ pos 0)
-product_not_zero a b m n e = go (zero_product a b e)
-  where
-    go : (a ≡ pos 0) ⊎ (b ≡ pos 0) → ⊥
-    go (inl f) = m f
-    go (inr f) = n f
+product_not_zero a b m n e = ⊎_elim (λ f. m f) (λ f. n f) (zero_product a b e)
 
 -- a positive factor keeps the sign
 above_scaled : (k s : ℤ) → pos 0 <ℤ k → ¬ (s ≡ pos 0) → above (k *ℤ s) ≡ above s
@@ -86,19 +82,16 @@ three_fit a b c d e f na nb nc nd ne nf z =
     (sum_fits (a *ℤ b) (c *ℤ d) (e *ℤ f) (product_not_zero a b na nb) (product_not_zero c d nc nd) (product_not_zero e f ne nf) z)
 
 -- the signs round a triangle fit
-pub round_fits : (z a b c d x : Vector) → vol a b c z <ℤ pos 0
-    → ¬ (vol z a b d ≡ pos 0) → ¬ (vol z b c d ≡ pos 0) → ¬ (vol z c a d ≡ pos 0)
+pub round_fits : (z a b c d x : Vector) → vol a b c z <ℤ pos 0 → ¬ (vol z a b d ≡ pos 0) → ¬ (vol z b c d ≡ pos 0) → ¬ (vol z c a d ≡ pos 0)
     → ¬ (vol z a b x ≡ pos 0) → ¬ (vol z b c x ≡ pos 0) → ¬ (vol z c a x ≡ pos 0)
     → ¬ (vol z a d x ≡ pos 0) → ¬ (vol z b d x ≡ pos 0) → ¬ (vol z c d x ≡ pos 0)
-    → signs_fit (above (vol z a d x)) (above (vol z b d x)) (above (vol z c d x))
-    (above (vol z a b d)) (above (vol z b c d)) (above (vol z c a d))
+    → signs_fit (above (vol z a d x)) (above (vol z b d x)) (above (vol z c d x)) (above (vol z a b d)) (above (vol z b c d)) (above (vol z c a d))
     (above (vol z a b x)) (above (vol z b c x)) (above (vol z c a x)) ≡ true
 round_fits z a b c d x h u₁ u₂ u₃ v₁ v₂ v₃ sa sb sc =
     and_from _ _ (products_fit _ _ _ _ (vol z a b c) _ u₁ v₂ v₁ u₂ sb outwards (turn_product z a b c d x))
     (and_from _ _ (products_fit _ _ _ _ (vol z b c a) _ u₂ v₃ v₂ u₃ sc second (turn_product z b c a d x))
     (and_from _ _ (products_fit _ _ _ _ (vol z c a b) _ u₃ v₁ v₃ u₁ sa third (turn_product z c a b d x))
-    (and_from _ _ (three_fit _ _ _ _ _ _ u₂ sa u₃ sb u₁ sc (first_sum z a b c d x))
-    (three_fit _ _ _ _ _ _ v₂ sa v₃ sb v₁ sc (second_sum z a b c d x)))))
+    (and_from _ _ (three_fit _ _ _ _ _ _ u₂ sa u₃ sb u₁ sc (first_sum z a b c d x)) (three_fit _ _ _ _ _ _ v₂ sa v₃ sb v₁ sc (second_sum z a b c d x)))))
   where
     turned : (v w : ℤ) → v ≡ neg_ℤ w → w <ℤ pos 0 → pos 0 <ℤ v
     turned v w e h = omega (arith, ints)

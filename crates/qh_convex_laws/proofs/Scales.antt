@@ -39,12 +39,10 @@ module _ (m : ℕ) (some : 0 < m) (at : ℕ → Vector) where
       (mul-nonneg_nonpos (M *ℤ M *ℤ M) (vol (at i) (at j) (at k) (at l)) (less_le (pos 0) (M *ℤ M *ℤ M) third_power) h)
 
   nonpos_down : (i j k l : ℕ) → vol (up i) (up j) (up k) (up l) ≤ℤ pos 0 → vol (at i) (at j) (at k) (at l) ≤ℤ pos 0
-  nonpos_down i j k l h =
-      cancel-nonpos (M *ℤ M *ℤ M) (vol (at i) (at j) (at k) (at l)) third_power (subst (λ v. v ≤ℤ pos 0) (volume i j k l) h)
+  nonpos_down i j k l h = cancel-nonpos (M *ℤ M *ℤ M) (vol (at i) (at j) (at k) (at l)) third_power (subst (λ v. v ≤ℤ pos 0) (volume i j k l) h)
 
   negative_up : (i j k l : ℕ) → vol (at i) (at j) (at k) (at l) <ℤ pos 0 → vol (up i) (up j) (up k) (up l) <ℤ pos 0
-  negative_up i j k l h =
-      subst (λ v. v <ℤ pos 0) (sym (volume i j k l)) (mul-pos_neg (M *ℤ M *ℤ M) (vol (at i) (at j) (at k) (at l)) third_power h)
+  negative_up i j k l h = subst (λ v. v <ℤ pos 0) (sym (volume i j k l)) (mul-pos_neg (M *ℤ M *ℤ M) (vol (at i) (at j) (at k) (at l)) third_power h)
 
   zero_up : (i j k l : ℕ) → vol (at i) (at j) (at k) (at l) ≡ pos 0 → vol (up i) (up j) (up k) (up l) ≡ pos 0
   zero_up i j k l e = volume i j k l ∙ product_zero (M *ℤ M *ℤ M) (vol (at i) (at j) (at k) (at l)) e

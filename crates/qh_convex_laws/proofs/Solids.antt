@@ -62,8 +62,7 @@ triangle_polygons_are_faces at ids ts z d c all distinct qs p rising =
 
 -- the law of extreme ids
 pub triangle_polygons_have_extremes : TrianglePolygonsHaveExtremes
-triangle_polygons_have_extremes at ids ts z d c all distinct qs p l =
-    (there at ids ts z d c all distinct qs p l, back at ids ts z d c all distinct qs p l)
+triangle_polygons_have_extremes at ids ts z d c all distinct qs p l = (there at ids ts z d c all distinct qs p l, back at ids ts z d c all distinct qs p l)
 
 -- the law of solids
 pub sharp_is_solid : SharpIsSolid

@@ -1,7 +1,7 @@
 -- A triangle with its neighbours strictly below it is a face: a polygon of three sides.
 use Rattle.std.proofs.Common.{◌≡◌, ◌≢◌, ℕ, ◌<◌, ◌≤◌, refl, sym, ap, subst, ◌∙◌, arith, List, [], ◌∷◌, inl, inr}
 use Rattle.std.proofs.lemmas.Int.{ints}
-use Rattle.std.specs.Prelude.{ℤ, pos, ◌<ℤ◌}
+use Rattle.std.specs.Prelude.{pos, ◌<ℤ◌}
 use Rattle.qh_model.specs.contract.ClosedSurface.{Triple}
 use Rattle.qh_model.specs.headline.{Polygon.Follows, Polygon.TurnsLeft, Predicates.cross, Predicates.left, Predicates.AreInLine, Sets.In, Vector.Vector}
 use Rattle.qh_model.proofs.algebra.VectorIdentities.{left-turn, left-dot, in_line-vol, in_line-last, vol-first}
@@ -94,8 +94,7 @@ module _ (at : ℕ → Vector) (ts : List Triple) (z : Vector) (t : Triple) (i :
       over : (a b o : ℕ) → pos 0 <ℤ left normal (at a) (at b) (at o) → ((l : ℕ) → In l (u ∷ v ∷ w ∷ []) → l ≢ a → l ≢ b → l ≡ o)
           → (p q : ℕ) → a ≡ p → b ≡ q → TurnsLeft at normal (u ∷ v ∷ w ∷ []) p q
       over a b o h only p q e f l m np nq =
-          subst (λ x. pos 0 <ℤ left normal (at x) (at q) (at l)) e
-          (subst (λ y. pos 0 <ℤ left normal (at a) (at y) (at l)) f
+          subst (λ x. pos 0 <ℤ left normal (at x) (at q) (at l)) e (subst (λ y. pos 0 <ℤ left normal (at a) (at y) (at l)) f
           (subst (λ s. pos 0 <ℤ left normal (at a) (at b) (at s)) (sym (only l m (λ k. np (k ∙ e)) (λ k. nq (k ∙ f)))) h))
 
       third_w : (l : ℕ) → In l (u ∷ v ∷ w ∷ []) → l ≢ u → l ≢ v → l ≡ w

@@ -12,8 +12,7 @@ coordinates : (z a b c p n : Vector) → vol z a b c *ℤ dot n (minus p z)
     ≡ vol z b c p *ℤ dot n (minus a z) +ℤ vol z c a p *ℤ dot n (minus b z) +ℤ vol z a b p *ℤ dot n (minus c z)
 unfolding vol cross
 coordinates z a b c p n =
-    ring (put (minus a z) (put (minus b z) (put (minus c z) (put (minus p z) (put n [])))))
-    (mul (detE (vec 0) (vec 1) (vec 2)) (dotE (vec 4) (vec 3)))
+    ring (put (minus a z) (put (minus b z) (put (minus c z) (put (minus p z) (put n []))))) (mul (detE (vec 0) (vec 1) (vec 2)) (dotE (vec 4) (vec 3)))
     (add (add (mul (detE (vec 1) (vec 2) (vec 3)) (dotE (vec 4) (vec 0))) (mul (detE (vec 2) (vec 0) (vec 3)) (dotE (vec 4) (vec 1))))
     (mul (detE (vec 0) (vec 1) (vec 3)) (dotE (vec 4) (vec 2)))) refl
 
@@ -31,8 +30,8 @@ pub under_is_below : (i j k z a b c p : Vector) → pos 0 <ℤ vol z a b c
     → pos 0 ≤ℤ vol z a b p → pos 0 ≤ℤ vol z b c p → pos 0 ≤ℤ vol z c a p → vol a b c p ≤ℤ pos 0 → vol i j k p ≤ℤ pos 0
 under_is_below i j k z a b c p out hz ha hb hc u₁ u₂ u₃ low =
     let sum = weights (vol z a b c) (vol z a b p) (vol z b c p) (vol z c a p) (dot n (minus a z)) (dot n (minus b z)) (dot n (minus c z))
-        (dot n (minus p z)) (vol i j k z) (vol i j k a) (vol i j k b) (vol i j k c) (vol i j k p) (vol a b c p) (vol-from i j k z a) (vol-from i j k z b)
-        (vol-from i j k z c) (vol-from i j k z p) (above_sum z a b c p) (coordinates z a b c p n) in
+    (dot n (minus p z)) (vol i j k z) (vol i j k a) (vol i j k b) (vol i j k c) (vol i j k p) (vol a b c p) (vol-from i j k z a) (vol-from i j k z b)
+    (vol-from i j k z c) (vol-from i j k z p) (above_sum z a b c p) (coordinates z a b c p n) in
     let of_a = mul-nonneg_nonpos (vol z b c p) (vol i j k a) u₂ ha in let of_b = mul-nonneg_nonpos (vol z c a p) (vol i j k b) u₃ hb in
     let of_c = mul-nonneg_nonpos (vol z a b p) (vol i j k c) u₁ hc in
     let of_z = mul-nonneg_nonpos (neg_ℤ (vol a b c p)) (vol i j k z) (omega (arith, ints, low)) hz in

@@ -144,8 +144,7 @@ module _ (at : ℕ → Vector) (z : Vector) (ts : List Triple) (inside : (t : Tr
             farther_second s =
                 plain (vol z (at v) (at u) x) (vol z (at u) (at n.third) q) (vol z (at v) (at u) q) (vol z (at u) (at n.third) x)
                 (gone (u, v)) (vol z (at u) (at v) x) (vol z (at v) (at u) (at n.third) *ℤ vol z (at u) x q)
-                (flip_round z (at u) (at v) x) (flip_round z (at u) (at v) q)
-                (turn_product z (at v) (at u) (at n.third) x q) (mul-pos _ _ behind_it s)
+                (flip_round z (at u) (at v) x) (flip_round z (at u) (at v) q) (turn_product z (at v) (at u) (at n.third) x q) (mul-pos _ _ behind_it s)
               where
                 gap : (a b c : ℤ) → a -ℤ b ≡ c → pos 0 <ℤ c → b <ℤ a
                 gap a b c e h = omega (arith, ints)
@@ -159,8 +158,7 @@ module _ (at : ℕ → Vector) (z : Vector) (ts : List Triple) (inside : (t : Tr
             farther_third s =
                 plain (vol z (at n.third) (at v) x) (vol z (at v) (at u) q) (vol z (at n.third) (at v) q) (vol z (at v) (at u) x)
                 (gone (u, v)) (vol z (at u) (at v) x) (vol z (at n.third) (at v) (at u) *ℤ vol z (at v) x q)
-                (flip_round z (at u) (at v) x) (flip_round z (at u) (at v) q)
-                (turn_product z (at n.third) (at v) (at u) x q)
+                (flip_round z (at u) (at v) x) (flip_round z (at u) (at v) q) (turn_product z (at n.third) (at v) (at u) x q)
                 (mul-pos_neg _ _ (subst (λ m. pos 0 <ℤ m) (sym (vol-round z (at n.third) (at v) (at u))) behind_it) s)
               where
                 gap : (a b c : ℤ) → a -ℤ b ≡ c → c <ℤ pos 0 → a <ℤ b

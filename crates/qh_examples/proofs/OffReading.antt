@@ -3,10 +3,7 @@ use Rattle.std.proofs.Common.{◌≡◌, ℕ, refl, List, [], ◌∷◌, ◌++�
 use Rattle.std.specs.Prelude.{None, codes}
 use Rattle.qh_model.specs.declared.form.Form.TheVariants.{Off}
 use Rattle.qh_model.specs.declared.read_fault.ReadFault.TheVariants.{NoHeader, BadNumber, Count, Short, NotOff}
-use Rattle.qh_model.specs.headline.Words.{Word}
-use Rattle.qh_model.specs.headline.OffFile.{off_words}
-use Rattle.qh_model.specs.headline.OffFault.{first_off_fault}
-use Rattle.qh_model.specs.headline.Forms.{IsFirstFault}
+use Rattle.qh_model.specs.headline.{Forms.IsFirstFault, OffFault.first_off_fault, OffFile.off_words, Words.Word}
 
 abbrev line : List ℕ → List ℕ
 line text = text ++ 10 ∷ []

@@ -2,14 +2,9 @@
 use Rattle.std.proofs.Common.{◌≡◌, ℕ, refl, [], ◌∷◌, arith, inl, inr, ap, subst, sym}
 use Rattle.std.proofs.lemmas.Int.{ints}
 use Rattle.std.specs.Prelude.{pos, negsuc, ◌≤ℤ◌}
-use Rattle.qh_model.specs.headline.Vector.{Vector}
-use Rattle.qh_model.specs.headline.Predicates.{cross, vol, left}
-use Rattle.qh_model.specs.headline.Sets.{Members}
-use Rattle.qh_model.specs.headline.Dimension.{IsDimension}
-use Rattle.qh_model.specs.headline.Combination.{Combination}
-use Rattle.qh_model.specs.headline.Extreme.{Others, Extreme}
-use Rattle.qh_model.specs.headline.SupportingPlane.{IsSupportingTriple}
 use Rattle.qh_model.specs.contract.Simplex.{one_of}
+use Rattle.qh_model.specs.headline.{Combination.Combination, Dimension.IsDimension, Extreme.Others, Extreme.Extreme, Predicates.cross, Predicates.vol}
+use Rattle.qh_model.specs.headline.{Predicates.left, Sets.Members, SupportingPlane.IsSupportingTriple, Vector.Vector}
 
 -- ---- three points of a line
 abbrev on_line : ℕ → Vector

@@ -2,12 +2,9 @@
 use Rattle.std.proofs.Common.{◌≡◌, ℕ, refl, List, [], ◌∷◌, arith, subst, sym, inl, inr}
 use Rattle.std.proofs.lemmas.Int.{ints}
 use Rattle.std.specs.Prelude.{pos, negsuc, ◌<ℤ◌}
-use Rattle.qh_model.specs.headline.Vector.{Vector}
-use Rattle.qh_model.specs.headline.Predicates.{left, cross}
-use Rattle.qh_model.specs.headline.Sets.{In, Members}
-use Rattle.qh_model.specs.headline.Polygon.{Follows, TurnsLeft, IsPolygon}
-use Rattle.qh_model.specs.headline.Polygons.{ComesBefore, PointsForward, IsEdge}
 use Rattle.qh_model.specs.contract.Simplex.{one_of}
+use Rattle.qh_model.specs.headline.{Polygon.Follows, Polygon.TurnsLeft, Polygon.IsPolygon, Polygons.ComesBefore, Polygons.PointsForward, Polygons.IsEdge}
+use Rattle.qh_model.specs.headline.{Predicates.left, Predicates.cross, Sets.In, Sets.Members, Vector.Vector}
 use Rattle.qh_model.proofs.polygons.Cycles.{round_holds}
 
 -- ---- the unit square

@@ -2,14 +2,10 @@
 use Rattle.std.proofs.Common.{◌≡◌, ℕ, refl, List, [], ◌∷◌, ◌++◌, inl, false, true}
 use Rattle.std.proofs.lemmas.Bool.{leb-true}
 use Rattle.std.specs.Prelude.{pos, negsuc, Some, None, codes}
-use Rattle.qh_model.specs.declared.read_fault.ReadFault.TheVariants.{NoHeader, BadNumber, NotThree, Count, Range, Long, Short}
-use Rattle.qh_model.specs.headline.Vector.{Vector}
-use Rattle.qh_model.specs.headline.Words.{Word, data_words, is_blank, is_data}
-use Rattle.qh_model.specs.headline.Numbers.{number_of}
-use Rattle.qh_model.specs.headline.PointFile.{Reads}
-use Rattle.qh_model.specs.headline.FileFault.{first_fault}
 use Rattle.qh_model.specs.declared.form.Form.TheVariants.{Qhull}
-use Rattle.qh_model.specs.headline.Forms.{IsFirstFault}
+use Rattle.qh_model.specs.declared.read_fault.ReadFault.TheVariants.{NoHeader, BadNumber, NotThree, Count, Range, Long, Short}
+use Rattle.qh_model.specs.headline.{FileFault.first_fault, Forms.IsFirstFault, Numbers.number_of, PointFile.Reads, Vector.Vector}
+use Rattle.qh_model.specs.headline.Words.{Word, data_words, is_blank, is_data}
 
 -- ---- a point file with comments
 -- a word of one byte

@@ -1,14 +1,8 @@
 -- The text of a square with another point in it: written, read, and written again.
 use Rattle.std.proofs.Common.{◌≡◌, ℕ, refl, List, [], ◌∷◌, ◌++◌, arith}
-use Rattle.std.specs.Prelude.{pos, codes}
-use Rattle.std.specs.Fmt.{digits}
+use Rattle.std.specs.{Fmt.digits, Prelude.pos, Prelude.codes}
 use Rattle.qh_model.specs.declared.out.Out.TheVariants.{Off}
-use Rattle.qh_model.specs.headline.Vector.{Vector}
-use Rattle.qh_model.specs.headline.Predicates.{place}
-use Rattle.qh_model.specs.headline.Words.{on_line}
-use Rattle.qh_model.specs.headline.OffFile.{ReadsOff}
-use Rattle.qh_model.specs.headline.Hull.{HullValue}
-use Rattle.qh_model.specs.headline.Text.{line, hull_text}
+use Rattle.qh_model.specs.headline.{Hull.HullValue, OffFile.ReadsOff, Predicates.place, Text.line, Text.hull_text, Vector.Vector, Words.on_line}
 use Rattle.qh_examples.proofs.Texts.{point, square_corners, square}
 
 -- its text: the point in the middle has no line, so vertex 0 is point 1
@@ -50,11 +44,7 @@ read = record {
 
 -- and their hull has the same text
 abbrev again : HullValue
-again = record {
-  given = 4;
-  distinct = 4;
-  body = record { dim = 2; extremes = 0 ∷ 1 ∷ 2 ∷ 3 ∷ []; polygons = (0 ∷ 1 ∷ 2 ∷ 3 ∷ []) ∷ []; edges = 4 };
-}
+again = record { given = 4; distinct = 4; body = record { dim = 2; extremes = 0 ∷ 1 ∷ 2 ∷ 3 ∷ []; polygons = (0 ∷ 1 ∷ 2 ∷ 3 ∷ []) ∷ []; edges = 4 } }
 
 pub written_again : hull_text again four (Off ∷ []) ≡ text
 unfolding digits place

@@ -1,12 +1,8 @@
 -- The texts of the hulls of a tetrahedron and of a square, computed.
 use Rattle.std.proofs.Common.{◌≡◌, ℕ, refl, List, [], ◌∷◌, ◌++◌}
-use Rattle.std.specs.Prelude.{pos, codes}
-use Rattle.std.specs.Fmt.{digits}
+use Rattle.std.specs.{Fmt.digits, Prelude.pos, Prelude.codes}
 use Rattle.qh_model.specs.declared.out.Out.TheVariants.{Rank, Fx, Off, OffTriangles}
-use Rattle.qh_model.specs.headline.Vector.{Vector}
-use Rattle.qh_model.specs.headline.Predicates.{place}
-use Rattle.qh_model.specs.headline.Hull.{HullValue}
-use Rattle.qh_model.specs.headline.Text.{line, hull_text, vertex_number}
+use Rattle.qh_model.specs.headline.{Hull.HullValue, Predicates.place, Text.line, Text.hull_text, Text.vertex_number, Vector.Vector}
 
 abbrev pub point : ℕ → ℕ → ℕ → Vector
 point x y z = record { x = pos x; y = pos y; z = pos z }
@@ -55,11 +51,7 @@ abbrev pub square_corners : List Vector
 square_corners = point 5 1 1 ∷ point 5 0 0 ∷ point 5 2 0 ∷ point 5 2 2 ∷ point 5 0 2 ∷ []
 
 abbrev pub square : HullValue
-square = record {
-  given = 5;
-  distinct = 5;
-  body = record { dim = 2; extremes = 1 ∷ 2 ∷ 3 ∷ 4 ∷ []; polygons = (1 ∷ 2 ∷ 3 ∷ 4 ∷ []) ∷ []; edges = 4 };
-}
+square = record { given = 5; distinct = 5; body = record { dim = 2; extremes = 1 ∷ 2 ∷ 3 ∷ 4 ∷ []; polygons = (1 ∷ 2 ∷ 3 ∷ 4 ∷ []) ∷ []; edges = 4 } }
 
 -- `offt`: two triangles, with five edges
 pub square_in_triangles : hull_text square square_corners (OffTriangles ∷ [])

@@ -1,12 +1,9 @@
 -- What is read of a file that is a list of faces, and what its fault is.
 use Rattle.std.proofs.Common.{ℕ, ◌≡◌, ◌⊎◌, [], List, refl, sym, subst, inl, inr}
-use Rattle.qh_model.specs.declared.read_fault.ReadFault.{ReadFault}
-use Rattle.qh_model.specs.headline.Vector.{Vector}
+use Rattle.qh_model.specs.{declared.read_fault.ReadFault.ReadFault, headline.Vector.Vector}
 use Rattle.qh_read.specs.contract.Numerals.{numerals_in}
-use Rattle.qh_faces.specs.declared.reading.Layout.{Layout}
-use Rattle.qh_faces.specs.declared.reading.Layout.TheVariants.{Counted, Lines}
-use Rattle.qh_faces.specs.declared.reading.Reading.{Reading}
 use Rattle.qh_faces.specs.contract.FaceFiles.{IsFaultBefore, IsFaultOfFaces, IsListOf, IsWholeList, ReadsFaces}
+use Rattle.qh_faces.specs.declared.reading.{Layout.Layout, Layout.TheVariants.Counted, Layout.TheVariants.Lines, Reading.Reading}
 use Rattle.qh_faces.specs.steps.Lists.{AreWholeFaces, IsWholeFault}
 
 -- the layout is that of a list
@@ -19,8 +16,7 @@ along P layout (inr e) counted lines = subst P (sym e) lines
 
 pub whole-read : (reading : Reading) (bytes : List ℕ) (vertices : List Vector) (faces : List (List ℕ)) → IsWhole reading.layout
     → AreWholeFaces reading bytes vertices faces → ReadsFaces reading bytes vertices faces
-whole-read reading bytes vertices faces h (ws, whole, list) =
-    (ws, along (λ layout. IsListOf layout bytes vertices ws) reading.layout h whole whole, list)
+whole-read reading bytes vertices faces h (ws, whole, list) = (ws, along (λ layout. IsListOf layout bytes vertices ws) reading.layout h whole whole, list)
 
 pub whole-fault : (layout : Layout) (bytes : List ℕ) (e : ReadFault) → IsWhole layout → IsWholeFault layout bytes e → IsFaultOfFaces layout bytes e
 whole-fault layout bytes e h (inl m) = inl m

@@ -1,21 +1,13 @@
 -- Where the list of faces stands among the words of a file.
+use Rattle.qh_model.specs.declared.form.Form.TheVariants as forms
 use Rattle.std.proofs.Common.{ℕ, ◌≡◌, ◌∙◌, ◌++◌, ◌+◌, ◌*◌, [], ◌∷◌, List, zero, suc, refl, ap, sym, arith, map, drop, length}
 use Rattle.std.proofs.lemmas.List.{map-append, length-map}
 use Rattle.std.specs.Prelude.{ℤ, pos, Option, Some, None, MatchOption}
-use Rattle.qh_model.specs.declared.form.Form.TheVariants as forms
 use Rattle.qh_model.specs.declared.read_fault.ReadFault.{ReadFault}
-use Rattle.qh_model.specs.headline.Forms.{ReadsIn}
-use Rattle.qh_model.specs.headline.Numbers.{number_of}
-use Rattle.qh_model.specs.headline.OffFile.{off_words}
-use Rattle.qh_model.specs.headline.PointFile.{coordinates}
-use Rattle.qh_model.specs.headline.Vector.{Vector}
-use Rattle.qh_model.specs.headline.Words.{Word}
+use Rattle.qh_model.specs.headline.{Forms.ReadsIn, Numbers.number_of, OffFile.off_words, PointFile.coordinates, Vector.Vector, Words.Word}
 use Rattle.qh_model.proofs.ReadingLaws.{thrice}
-use Rattle.qh_read.specs.contract.Numerals.{numeral_of, numerals_in}
-use Rattle.qh_read.specs.declared.numerals.Numeral.{Numeral}
-use Rattle.qh_faces.specs.contract.FaceFaults.{number_fault, value_fault}
-use Rattle.qh_faces.specs.contract.FaceFiles.{IsOffList}
-use Rattle.qh_faces.specs.steps.Lists.{behind}
+use Rattle.qh_read.specs.{contract.Numerals.numeral_of, contract.Numerals.numerals_in, declared.numerals.Numeral.Numeral}
+use Rattle.qh_faces.specs.{contract.FaceFaults.number_fault, contract.FaceFaults.value_fault, contract.FaceFiles.IsOffList, steps.Lists.behind}
 
 next-drop : (ws : List Numeral) (k : ℕ) → drop (suc k) ws ≡ drop 1 (drop k ws)
 next-drop [] zero = refl

@@ -1,16 +1,12 @@
 -- What is taken from words one by one.
-use Rattle.std.proofs.Common.{ℕ, ◌≡◌, ◌≢◌, ◌∙◌, ◌++◌, ◌<◌, ◌-◌, ◌+◌, ◌==◌, [], ◌∷◌, List, Bool, true, false, suc, cond, refl}
-use Rattle.std.proofs.Common.{ap, sym, subst, arith, map, append_assoc}
-use Rattle.std.proofs.lemmas.List.{append-nil, map-append}
-use Rattle.std.proofs.lemmas.Bool.Decides.{nat_tests}
+use Rattle.std.proofs.Common.{ℕ, ◌≡◌, ◌≢◌, ◌∙◌, ◌++◌, ◌<◌, ◌-◌, ◌+◌, ◌==◌, [], ◌∷◌, List, Bool, true, false, suc, cond, refl, ap, sym, subst, arith, map}
+use Rattle.std.proofs.{Common.append_assoc, lemmas.Bool.Decides.nat_tests, lemmas.List.append-nil, lemmas.List.map-append}
 use Rattle.std.specs.Prelude.{Option, Some}
 use Rattle.qh_model.specs.declared.read_fault.ReadFault.{ReadFault}
-use Rattle.qh_read.specs.contract.Numerals.{IsElsewhere}
-use Rattle.qh_read.specs.declared.numerals.Numeral.{Numeral}
-use Rattle.qh_faces.specs.declared.reading.Layout.{Layout}
+use Rattle.qh_read.specs.{contract.Numerals.IsElsewhere, declared.numerals.Numeral.Numeral}
 use Rattle.qh_faces.specs.contract.FaceFaults.{corners_fault, face_fault, faces_fault, number_fault}
 use Rattle.qh_faces.specs.contract.FaceWords.{AreNumbers, IsLineFace, after_line, last_line, on_line}
-use Rattle.qh_faces.specs.steps.Corners.{AreTaken}
+use Rattle.qh_faces.specs.{declared.reading.Layout.Layout, steps.Corners.AreTaken}
 
 last_line-append : (own : List Numeral) (line : ℕ) (w : Numeral) → last_line line (own ++ w ∷ []) ≡ w.line
 last_line-append [] line w = refl

@@ -1,10 +1,6 @@
 -- An example: the law asks for a point, since the empty list has no hull.
 use Rattle.std.proofs.Common.{ℕ, [], arith, inl, inr}
-use Rattle.qh_model.specs.headline.Dimension.{IsDimension}
-use Rattle.qh_model.specs.headline.Hull.{HullValue, IsHull}
-use Rattle.qh_model.specs.headline.Polygons.{ArePolygons}
-use Rattle.qh_model.specs.headline.Predicates.{place}
-use Rattle.qh_model.specs.headline.Sets.{In, Members}
+use Rattle.qh_model.specs.headline.{Dimension.IsDimension, Hull.HullValue, Hull.IsHull, Polygons.ArePolygons, Predicates.place, Sets.In, Sets.Members}
 
 -- no hull is right for no points
 pub none_of_nothing : (h : HullValue) → ¬ (IsHull [] h)

@@ -2,10 +2,8 @@
 use Rattle.std.proofs.Common.{◌≡◌, ◌≢◌, ℕ, List, inl, inr, refl}
 use Rattle.std.specs.Prelude.{pos}
 use Rattle.qh_model.specs.headline.Dimension.{HasTetrahedron, HasTriangle, HasSegment, IsDimension}
-use Rattle.qh_model.specs.headline.Predicates.{cross, vol, AreInLine}
-use Rattle.qh_model.specs.headline.Sets.{In, Members}
-use Rattle.qh_model.specs.headline.Vector.{Vector, origin}
-use Rattle.qh_laws.proofs.Decisions.{Decided, contrary, decided_as, some_or_none, same_id, same_number, same_vector}
+use Rattle.qh_model.specs.headline.{Predicates.cross, Predicates.vol, Predicates.AreInLine, Sets.In, Sets.Members, Vector.Vector, Vector.origin}
+use Rattle.qh_model.proofs.Decisions.{Decided, contrary, decided_as, some_or_none, same_id, same_number, same_vector}
 
 module _ (at : ℕ → Vector) (ids : List ℕ) where
   -- some member makes a tetrahedron with three
@@ -42,8 +40,7 @@ module _ (at : ℕ → Vector) (ids : List ℕ) where
   triangle_or_not : Decided (HasTriangle at (Members ids))
   triangle_or_not =
       decided_as ((i : ℕ) × In i ids × ((j : ℕ) × In j ids × HasThird i j)) (HasTriangle at (Members ids)) into
-      (λ h. (h.i, h.has_i, (h.j, h.has_j, (h.k, h.has_k, h.area))))
-      (some_or_none (λ i. (j : ℕ) × In j ids × HasThird i j) first ids)
+      (λ h. (h.i, h.has_i, (h.j, h.has_j, (h.k, h.has_k, h.area)))) (some_or_none (λ i. (j : ℕ) × In j ids × HasThird i j) first ids)
     where
       into : (i : ℕ) × In i ids × ((j : ℕ) × In j ids × HasThird i j) → HasTriangle at (Members ids)
       into (i, a, (j, b, (k, c, d))) = record { i = i; j = j; k = k; has_i = a; has_j = b; has_k = c; area = d }
@@ -60,8 +57,7 @@ module _ (at : ℕ → Vector) (ids : List ℕ) where
   -- there is a segment or none
   segment_or_not : Decided (HasSegment (Members ids))
   segment_or_not =
-      decided_as ((i : ℕ) × In i ids × ((j : ℕ) × In j ids × (i ≢ j))) (HasSegment (Members ids)) into
-      (λ h. (h.i, h.has_i, (h.j, h.has_j, h.differ)))
+      decided_as ((i : ℕ) × In i ids × ((j : ℕ) × In j ids × (i ≢ j))) (HasSegment (Members ids)) into (λ h. (h.i, h.has_i, (h.j, h.has_j, h.differ)))
       (some_or_none (λ i. (j : ℕ) × In j ids × (i ≢ j)) (λ i. some_or_none (λ j. i ≢ j) (λ j. contrary (i ≡ j) (same_id i j)) ids) ids)
     where
       into : (i : ℕ) × In i ids × ((j : ℕ) × In j ids × (i ≢ j)) → HasSegment (Members ids)

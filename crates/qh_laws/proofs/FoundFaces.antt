@@ -1,29 +1,18 @@
 -- Each supporting triple has a polygon, and the polygons of all triples have a rising list.
 use Rattle.std.proofs.Common.{◌≡◌, ◌∙◌, ℕ, ◌<◌, List, [], ◌∷◌, map, refl, sym, subst, ◌⊎◌, inl, inr}
 use Rattle.std.proofs.lemmas.Bool.{cases_order}
-use Rattle.std.specs.List.{flat_map}
-use Rattle.std.specs.Prelude.{ℤ, pos, ◌≤ℤ◌, ◌↔◌}
-use Rattle.qh_model.proofs.algebra.Order.{zero_or_not}
-use Rattle.qh_model.proofs.algebra.VectorIdentities.{vol-first, vol-second, vol-third}
-use Rattle.qh_model.proofs.extremes.Dimensions.{segment_of_triangle}
-use Rattle.qh_model.proofs.extremes.Directions.{along_itself, from_plane, square-positive}
+use Rattle.std.specs.{List.flat_map, Prelude.ℤ, Prelude.pos, Prelude.◌≤ℤ◌, Prelude.◌↔◌}
+use Rattle.qh_model.proofs.Decisions.{Decided, both, contrary, decided_as, each_or_not, in_or_not, same_vector, at_most_or_above}
+use Rattle.qh_model.proofs.algebra.{Order.zero_or_not, VectorIdentities.vol-first, VectorIdentities.vol-second, VectorIdentities.vol-third}
+use Rattle.qh_model.proofs.extremes.{Dimensions.segment_of_triangle, Directions.along_itself, Directions.from_plane, Directions.square-positive}
 use Rattle.qh_model.proofs.extremes.ExtremeIds.{listed_itself, listed_part}
-use Rattle.qh_model.proofs.extremes.Faces.{extremes_of_face}
-use Rattle.qh_model.proofs.lists.Images.{in_map}
-use Rattle.qh_model.proofs.lists.Joined.{in_flat_map}
-use Rattle.qh_model.proofs.polygons.Direction.{polygon_as}
-use Rattle.qh_model.specs.contract.IdSets.{HasDistinctPoints}
-use Rattle.qh_model.specs.headline.Dimension.{HasTriangle}
-use Rattle.qh_model.specs.headline.Extreme.{Extreme}
+use Rattle.qh_model.proofs.{extremes.Faces.extremes_of_face, lists.Images.in_map, lists.Joined.in_flat_map, polygons.Direction.polygon_as}
+use Rattle.qh_model.specs.{contract.IdSets.HasDistinctPoints, headline.Dimension.HasTriangle, headline.Extreme.Extreme}
 use Rattle.qh_model.specs.headline.Polygons.{ComesBefore, RisesFrom, RiseStrictly, IsFacePolygon, AreFaces}
-use Rattle.qh_model.specs.headline.Predicates.{cross, vol, AreInLine}
-use Rattle.qh_model.specs.headline.Sets.{In, Members}
-use Rattle.qh_model.specs.headline.SupportingPlane.{Supports, IsSupportingTriple, OnPlane}
-use Rattle.qh_model.specs.headline.Vector.{Vector, origin}
+use Rattle.qh_model.specs.headline.{Predicates.cross, Predicates.vol, Predicates.AreInLine, Sets.In, Sets.Members, SupportingPlane.Supports}
+use Rattle.qh_model.specs.headline.{SupportingPlane.IsSupportingTriple, SupportingPlane.OnPlane, Vector.Vector, Vector.origin}
 use Rattle.qh_plane.proofs.polygons.Turns.{IsFlat}
-use Rattle.qh_laws.proofs.Decisions.{Decided, both, contrary, decided_as, each_or_not, in_or_not, same_vector, at_most_or_above}
-use Rattle.qh_laws.proofs.FoundPolygons.{polygon_found}
-use Rattle.qh_laws.proofs.Sorting.{Compare, Rises, InRow, Sorted, sorted}
+use Rattle.qh_laws.proofs.{FoundPolygons.polygon_found, Sorting.Compare, Sorting.Rises, Sorting.InRow, Sorting.Sorted, Sorting.sorted}
 
 -- members of one plane lie flat across its normal
 pub flat_plane : (at : ℕ → Vector) (A : ℕ → Type 0) (i j k : ℕ) → ¬ (AreInLine (at i) (at j) (at k))
@@ -60,8 +49,7 @@ rises_strictly (q ∷ qs) r = rises_from q qs r
 module _ (at : ℕ → Vector) (ids : List ℕ) (distinct : HasDistinctPoints at (Members ids)) where
   -- each supporting triple has a polygon
   pub face_polygon : (i j k : ℕ) → IsSupportingTriple at (Members ids) i j k → (q : List ℕ) × IsFacePolygon at (Members ids) i j k q
-  face_polygon i j k t =
-      from_witness (listed_part (Members ids) (λ l. volume l ≡ pos 0) (λ l. zero_or_not (volume l)) ids (listed_itself ids))
+  face_polygon i j k t = from_witness (listed_part (Members ids) (λ l. volume l ≡ pos 0) (λ l. zero_or_not (volume l)) ids (listed_itself ids))
     where
       volume : ℕ → ℤ
       volume l = vol (at i) (at j) (at k) (at l)
@@ -89,24 +77,19 @@ module _ (at : ℕ → Vector) (ids : List ℕ) (distinct : HasDistinctPoints at
   -- three ids are a supporting triple or not
   supporting_or_not : (i j k : ℕ) → Decided (IsSupportingTriple at (Members ids) i j k)
   supporting_or_not i j k =
-      decided_as
-      (In i ids × (In j ids × (In k ids × ((¬ (AreInLine (at i) (at j) (at k))) × Supports at (Members ids) i j k))))
-      (IsSupportingTriple at (Members ids) i j k)
-      (λ h. record { has_i = h.0; has_j = h.1.0; has_k = h.1.1.0; area = h.1.1.1.0; supports = h.1.1.1.1 })
+      decided_as (In i ids × (In j ids × (In k ids × ((¬ (AreInLine (at i) (at j) (at k))) × Supports at (Members ids) i j k))))
+      (IsSupportingTriple at (Members ids) i j k) (λ h. record { has_i = h.0; has_j = h.1.0; has_k = h.1.1.0; area = h.1.1.1.0; supports = h.1.1.1.1 })
       (λ t. (t.has_i, (t.has_j, (t.has_k, (t.area, t.supports)))))
       (both (In i ids) _ (in_or_not i ids) (both (In j ids) _ (in_or_not j ids) (both (In k ids) _ (in_or_not k ids)
       (both (¬ (AreInLine (at i) (at j) (at k))) (Supports at (Members ids) i j k)
-      (contrary (AreInLine (at i) (at j) (at k)) (same_vector (cross (at i) (at j) (at k)) origin))
-      (each_or_not (λ l. vol (at i) (at j) (at k) (at l) ≤ℤ pos 0)
+      (contrary (AreInLine (at i) (at j) (at k)) (same_vector (cross (at i) (at j) (at k)) origin)) (each_or_not (λ l. vol (at i) (at j) (at k) (at l) ≤ℤ pos 0)
       (λ l. at_most_or_above (vol (at i) (at j) (at k) (at l)) (pos 0)) ids)))))
 
   -- the polygons of those of some triples that support
   record Polygons (ts : List (ℕ × (ℕ × ℕ))) : Type 0 where
     list : List (List ℕ)
-    each : (i j k : ℕ) → In (i, (j, k)) ts → IsSupportingTriple at (Members ids) i j k
-        → (q : List ℕ) × In q list × IsFacePolygon at (Members ids) i j k q
-    only : (q : List ℕ) → In q list
-        → (i j k : ℕ) × IsSupportingTriple at (Members ids) i j k × IsFacePolygon at (Members ids) i j k q
+    each : (i j k : ℕ) → In (i, (j, k)) ts → IsSupportingTriple at (Members ids) i j k → (q : List ℕ) × In q list × IsFacePolygon at (Members ids) i j k q
+    only : (q : List ℕ) → In q list → (i j k : ℕ) × IsSupportingTriple at (Members ids) i j k × IsFacePolygon at (Members ids) i j k q
 
   -- each list of triples has these
   polygons : (ts : List (ℕ × (ℕ × ℕ))) → Polygons ts
@@ -127,12 +110,10 @@ module _ (at : ℕ → Vector) (ids : List ℕ) (distinct : HasDistinctPoints at
 
           each : (i j k : ℕ) → In (i, (j, k)) ((a, (b, c)) ∷ ts) → IsSupportingTriple at (Members ids) i j k
               → (q : List ℕ) × In q (p.0 ∷ r.list) × IsFacePolygon at (Members ids) i j k q
-          each i j k (inl e) t =
-              (p.0, inl refl, subst (λ (v : ℕ × (ℕ × ℕ)). IsFacePolygon at (Members ids) v.0 v.1.0 v.1.1 p.0) (sym e) p.1)
+          each i j k (inl e) t = (p.0, inl refl, subst (λ (v : ℕ × (ℕ × ℕ)). IsFacePolygon at (Members ids) v.0 v.1.0 v.1.1 p.0) (sym e) p.1)
           each i j k (inr m) t = let g = r.each i j k m t in (g.0, inr g.1, g.2)
 
-          only : (q : List ℕ) → In q (p.0 ∷ r.list)
-              → (i j k : ℕ) × IsSupportingTriple at (Members ids) i j k × IsFacePolygon at (Members ids) i j k q
+          only : (q : List ℕ) → In q (p.0 ∷ r.list) → (i j k : ℕ) × IsSupportingTriple at (Members ids) i j k × IsFacePolygon at (Members ids) i j k q
           only q (inl e) = (a, b, c, s, subst (IsFacePolygon at (Members ids) a b c) (sym e) p.1)
           only q (inr m) = r.only q m
 
@@ -149,10 +130,7 @@ module _ (at : ℕ → Vector) (ids : List ℕ) (distinct : HasDistinctPoints at
 
   -- ids of distinct points have a list of faces
   pub faces_found : (qs : List (List ℕ)) × AreFaces at (Members ids) qs
-  faces_found = (
-    row.list,
-    record { rising = rises_strictly row.list row.row; each = each; only = λ q m. found.only q ((row.members q).0 m) },
-  )
+  faces_found = (row.list, record { rising = rises_strictly row.list row.row; each = each; only = λ q m. found.only q ((row.members q).0 m) })
     where
       found : Polygons triples
       found = polygons triples
@@ -160,6 +138,5 @@ module _ (at : ℕ → Vector) (ids : List ℕ) (distinct : HasDistinctPoints at
       row : Sorted ComesBefore found.list
       row = sorted ComesBefore (λ q. Unit {0}) (λ p q a b. compare p q) found.list (λ q m. tt)
 
-      each : (i j k : ℕ) → IsSupportingTriple at (Members ids) i j k
-          → (q : List ℕ) × In q row.list × IsFacePolygon at (Members ids) i j k q
+      each : (i j k : ℕ) → IsSupportingTriple at (Members ids) i j k → (q : List ℕ) × In q row.list × IsFacePolygon at (Members ids) i j k q
       each i j k t = let g = found.each i j k (in_triples i j k t.has_i t.has_j t.has_k) t in (g.0, (row.members g.0).1 g.1, g.2)

@@ -1,29 +1,18 @@
 -- Sets of dimension 2, 1 and 0 have their one polygon.
 use Rattle.std.proofs.Common.{◌≡◌, ◌≢◌, ◌∙◌, ℕ, ◌<◌, List, [], ◌∷◌, length, refl, ap, sym, subst, arith, ◌⊎◌, inl, inr}
-use Rattle.std.proofs.lemmas.Bool.{cases_order}
-use Rattle.std.proofs.lemmas.Int.{ints, by_lt_z}
+use Rattle.std.proofs.lemmas.{Bool.cases_order, Int.ints, Int.by_lt_z}
 use Rattle.std.specs.Prelude.{ℤ, pos, neg_ℤ, ◌-ℤ◌, ◌*ℤ◌, ◌<ℤ◌}
-use Rattle.qh_model.proofs.algebra.Order.{le_antisym}
-use Rattle.qh_model.proofs.algebra.Ring.{ring, equal_from_zero}
-use Rattle.qh_model.proofs.algebra.Ring.Expr.{neg}
-use Rattle.qh_model.proofs.algebra.Signs.{less_differ, opposite_zero}
+use Rattle.qh_model.proofs.Decisions.{Decided, same_id, same_vector}
+use Rattle.qh_model.proofs.algebra.{Order.le_antisym, Ring.ring, Ring.equal_from_zero, Ring.Expr.neg, Signs.less_differ, Signs.opposite_zero}
 use Rattle.qh_model.proofs.algebra.VectorIdentities.{vec, put, dotE, crossE, vector_path, opposite, in_line-left, dot-origin}
-use Rattle.qh_model.proofs.extremes.Dimensions.{segment_of, segment_of_triangle}
-use Rattle.qh_model.proofs.extremes.Directions.{cross-flip, in_line-flip, from_plane, square-positive}
-use Rattle.qh_model.proofs.extremes.ExtremeIds.{listed_itself, combination_of_extremes}
-use Rattle.qh_model.proofs.hulls.FlatSets.{flat_volume}
-use Rattle.qh_model.proofs.polygons.Neighbours.{next_member, follows_members}
-use Rattle.qh_model.specs.contract.IdSets.{HasDistinctPoints}
-use Rattle.qh_model.specs.headline.Dimension.{HasTetrahedron, HasTriangle, HasSegment}
-use Rattle.qh_model.specs.headline.Extreme.{Extreme}
-use Rattle.qh_model.specs.headline.Polygon.{Follows, IsPolygon}
-use Rattle.qh_model.specs.headline.Polygons.{PointsForward, IsFlatFace, IsSegmentFace, IsPointFace}
-use Rattle.qh_model.specs.headline.Predicates.{cross, vol, left, AreInLine}
-use Rattle.qh_model.specs.headline.Sets.{In, Members}
+use Rattle.qh_model.proofs.extremes.{Dimensions.segment_of, Dimensions.segment_of_triangle, Directions.cross-flip, Directions.in_line-flip}
+use Rattle.qh_model.proofs.extremes.{Directions.from_plane, Directions.square-positive, ExtremeIds.listed_itself, ExtremeIds.combination_of_extremes}
+use Rattle.qh_model.proofs.{hulls.FlatSets.flat_volume, polygons.Neighbours.next_member, polygons.Neighbours.follows_members}
+use Rattle.qh_model.specs.{contract.IdSets.HasDistinctPoints, headline.Dimension.HasTetrahedron, headline.Dimension.HasTriangle, headline.Dimension.HasSegment}
+use Rattle.qh_model.specs.headline.{Extreme.Extreme, Polygon.Follows, Polygon.IsPolygon, Polygons.PointsForward, Polygons.IsFlatFace, Polygons.IsSegmentFace}
+use Rattle.qh_model.specs.headline.{Polygons.IsPointFace, Predicates.cross, Predicates.vol, Predicates.left, Predicates.AreInLine, Sets.In, Sets.Members}
 use Rattle.qh_model.specs.headline.Vector.{Vector, origin, minus, cross_product, dot}
-use Rattle.qh_plane.proofs.LinesAndPlanes.{between_eq, none}
-use Rattle.qh_plane.proofs.polygons.Turns.{IsFlat}
-use Rattle.qh_laws.proofs.Decisions.{Decided, same_id, same_vector}
+use Rattle.qh_plane.proofs.{LinesAndPlanes.between_eq, LinesAndPlanes.none, polygons.Turns.IsFlat}
 use Rattle.qh_laws.proofs.FoundPolygons.{polygon_found}
 
 -- ---- directions
@@ -34,10 +23,6 @@ sign x = by_lt_z (pos 0) x (λ h. inl h) (λ h. by_lt_z x (pos 0) (λ k. inr (in
     turned : (x : ℤ) → x <ℤ pos 0 → pos 0 <ℤ neg_ℤ x
     turned x h = omega (arith, ints)
 
--- the opposite of 0
-zero_turned : (x : ℤ) → x ≡ pos 0 → neg_ℤ x ≡ pos 0
-zero_turned x e = omega (arith, ints)
-
 -- of two opposite directions one points forward
 forward_or_back : (n : Vector) → n ≢ origin → PointsForward n ⊎ PointsForward (opposite n)
 forward_or_back n d = by_cases (sign n.x) (sign n.y) (sign n.z)
@@ -47,9 +32,9 @@ forward_or_back n d = by_cases (sign n.x) (sign n.y) (sign n.z)
     by_cases (inl h) y z = inl (inl h)
     by_cases (inr (inr h)) y z = inr (inl h)
     by_cases (inr (inl e)) (inl h) z = inl (inr (e, inl h))
-    by_cases (inr (inl e)) (inr (inr h)) z = inr (inr (zero_turned n.x e, inl h))
+    by_cases (inr (inl e)) (inr (inr h)) z = inr (inr (omega (arith, ints), inl h))
     by_cases (inr (inl e)) (inr (inl f)) (inl h) = inl (inr (e, inr (f, h)))
-    by_cases (inr (inl e)) (inr (inl f)) (inr (inr h)) = inr (inr (zero_turned n.x e, inr (zero_turned n.y f, h)))
+    by_cases (inr (inl e)) (inr (inl f)) (inr (inr h)) = inr (inr (omega (arith, ints), inr (omega (arith, ints), h)))
     by_cases (inr (inl e)) (inr (inl f)) (inr (inl g)) = absurd (d (vector_path n origin e f g))
 
 -- a triple product with its last two vectors swapped
@@ -73,14 +58,10 @@ second_axis = record { x = pos 0; y = pos 1; z = pos 0 }
 -- a vector in line with both axes is zero
 no_part : (d : Vector) → cross_product d first_axis ≡ origin → cross_product d second_axis ≡ origin → d ≡ origin
 unfolding first_axis second_axis
-no_part d e f =
-    vector_path d origin (last d.x d.y (ap (λ v. v.z) f)) (middle d.x d.y (ap (λ v. v.z) e)) (last d.z d.x (ap (λ v. v.y) e))
+no_part d e f = vector_path d origin (last d.x d.y (ap (λ v. v.z) f)) (omega (arith, ints, ap (λ v. v.z) e)) (last d.z d.x (ap (λ v. v.y) e))
   where
     last : (a b : ℤ) → a *ℤ pos 1 -ℤ b *ℤ pos 0 ≡ pos 0 → a ≡ pos 0
     last a b h = omega (arith, ints)
-
-    middle : (a b : ℤ) → a *ℤ pos 0 -ℤ b *ℤ pos 1 ≡ pos 0 → b ≡ pos 0
-    middle a b h = omega (arith, ints)
 
 -- each vector that is not zero has a direction across it
 across : (d : Vector) → d ≢ origin → Across d
@@ -143,10 +124,7 @@ module _ (at : ℕ → Vector) (ids : List ℕ) (distinct : HasDistinctPoints at
   unfolding cross
   flat_line t s = (
     a.n,
-    record {
-      even = λ i j u v. none _ _ _ (between_eq a.n (at s.i) (at i) (at j)) (level j v) (level i u);
-      some = square-positive a.n a.some;
-    },
+    record { even = λ i j u v. none _ _ _ (between_eq a.n (at s.i) (at i) (at j)) (level j v) (level i u); some = square-positive a.n a.some },
   )
     where
       a : Across (minus (at s.j) (at s.i))
@@ -186,12 +164,8 @@ module _ (at : ℕ → Vector) (ids : List ℕ) (distinct : HasDistinctPoints at
       p : (q : List ℕ) × IsPolygon at (Extreme at (Members ids)) n.0 q
       p = polygon_found n.0 at (Members ids) ids (listed_itself ids) distinct n.1 s
 
-      ends : (i j : ℕ) → Extreme at (Members ids) i → Extreme at (Members ids) j → i < j
-          → (q : List ℕ) × IsSegmentFace at (Members ids) q
-      ends i j a b l = (
-        i ∷ j ∷ [],
-        record { i = i; j = j; members = λ m. (into m, back m (same_id m i) (same_id m j)); lower = l; is = refl },
-      )
+      ends : (i j : ℕ) → Extreme at (Members ids) i → Extreme at (Members ids) j → i < j → (q : List ℕ) × IsSegmentFace at (Members ids) q
+      ends i j a b l = (i ∷ j ∷ [], record { i = i; j = j; members = λ m. (into m, back m (same_id m i) (same_id m j)); lower = l; is = refl })
         where
           into : (m : ℕ) → (m ≡ i) ⊎ (m ≡ j) → Extreme at (Members ids) m
           into m (inl f) = subst (Extreme at (Members ids)) (sym f) a

@@ -1,25 +1,16 @@
 -- A direction along which no two points of a finite set have one height, and the ids in rising height.
 use Rattle.std.proofs.Common.{◌≡◌, ℕ, ◌+◌, List, [], ◌∷◌, inl, inr, ap, sym, arith}
-use Rattle.std.proofs.lemmas.Int.{ints, by_lt_z}
-use Rattle.std.proofs.Math.Nat.{mul-le-mul_left}
-use Rattle.std.specs.Prelude.{ℤ, pos, ◌+ℤ◌, ◌*ℤ◌, neg_ℤ, ◌<ℤ◌, ◌↔◌}
-use Rattle.std.specs.List.{AllByRecursion as Every}
+use Rattle.std.proofs.{Math.Nat.mul-le-mul_left, lemmas.Int.ints, lemmas.Int.by_lt_z}
+use Rattle.std.specs.{List.AllByRecursion as Every, Prelude.ℤ, Prelude.pos, Prelude.◌+ℤ◌, Prelude.◌*ℤ◌, Prelude.neg_ℤ, Prelude.◌<ℤ◌, Prelude.◌↔◌}
 use borrow.Author.Differences.{lt_out}
-use Rattle.qh_model.proofs.Members.{every_at}
-use Rattle.qh_model.proofs.algebra.Order.{le_antisym}
-use Rattle.qh_model.proofs.algebra.VectorIdentities.{vector_path}
-use Rattle.qh_model.proofs.combinations.WeightedTerms.{bound}
+use Rattle.qh_model.proofs.{Members.every_at, algebra.Order.le_antisym, algebra.VectorIdentities.vector_path, combinations.WeightedTerms.bound}
 use Rattle.qh_model.proofs.extremes.ExtremeIds.{Listed}
-use Rattle.qh_model.specs.contract.IdSets.{HasDistinctPoints}
-use Rattle.qh_model.specs.headline.Sets.{In}
-use Rattle.qh_model.specs.headline.Vector.{Vector, dot}
-use Rattle.qh_plane.proofs.polygons.TurnLaws.{RisesBy}
-use Rattle.qh_plane.proofs.polygons.Turns.{IsKeyed, height_of}
+use Rattle.qh_model.specs.{contract.IdSets.HasDistinctPoints, headline.Sets.In, headline.Vector.Vector, headline.Vector.dot}
+use Rattle.qh_plane.proofs.polygons.{TurnLaws.RisesBy, Turns.IsKeyed, Turns.height_of}
 use Rattle.qh_laws.proofs.Sorting.{Compare, Rises, InRow, Sorted, sorted}
 
 -- a large factor outweighs what is added to it
-factor_tells : (B C : ℕ) (a b s t : ℤ) → neg_ℤ t <ℤ pos B → neg_ℤ (neg_ℤ s) <ℤ pos C
-    → pos (B + C) *ℤ a +ℤ s ≡ pos (B + C) *ℤ b +ℤ t → a <ℤ b → ⊥
+factor_tells : (B C : ℕ) (a b s t : ℤ) → neg_ℤ t <ℤ pos B → neg_ℤ (neg_ℤ s) <ℤ pos C → pos (B + C) *ℤ a +ℤ s ≡ pos (B + C) *ℤ b +ℤ t → a <ℤ b → ⊥
 factor_tells B C a b s t h k e l = omega (arith, ints, mul-le-mul_left (B + C) (lt_out a b l))
 
 -- so equal sums have one factor
@@ -28,10 +19,6 @@ same_factor : (B C : ℕ) (a b s t : ℤ) → (neg_ℤ s <ℤ pos B) × (neg_ℤ
 same_factor B C a b s t h k e =
     by_lt_z a b (λ l. absurd (factor_tells B C a b s t k.0 h.1 e l))
     (λ l. by_lt_z b a (λ m. absurd (factor_tells B C b a t s h.0 k.1 (sym e) m)) (λ m. le_antisym a b m l))
-
--- and one rest
-same_rest : (x y s t : ℤ) → x ≡ y → x +ℤ s ≡ y +ℤ t → s ≡ t
-same_rest x y s t e f = omega (arith, ints)
 
 -- a factor N for which N f + g determines f and g
 pub record Factor (f g : ℕ → ℤ) (xs : List ℕ) : Type 0 where
@@ -54,11 +41,7 @@ factor f g xs = record { N = B.0 + C.0; tells = tells }
     tells : (i j : ℕ) → In i xs → In j xs → pos (B.0 + C.0) *ℤ f i +ℤ g i ≡ pos (B.0 + C.0) *ℤ f j +ℤ g j → (f i ≡ f j) × (g i ≡ g j)
     tells i j m n e =
         let first = same_factor B.0 C.0 (f i) (f j) (g i) (g j) (between i m) (between j n) e in
-        (first, same_rest (pos (B.0 + C.0) *ℤ f i) (pos (B.0 + C.0) *ℤ f j) (g i) (g j) (ap (λ v. pos (B.0 + C.0) *ℤ v) first) e)
-
--- a scalar product with z taken once, regrouped
-aside : (a b c d e f : ℤ) → a +ℤ b +ℤ pos 1 *ℤ c ≡ d +ℤ e +ℤ pos 1 *ℤ f → a +ℤ (b +ℤ c) ≡ d +ℤ (e +ℤ f)
-aside a b c d e f h = omega (arith, ints)
+        (first, omega (arith, ints, ap (λ v. pos (B.0 + C.0) *ℤ v) first))
 
 -- a finite set of distinct points has a direction along which no two have one height
 pub direction : (at : ℕ → Vector) (A : ℕ → Type 0) (xs : List ℕ) → Listed A xs → HasDistinctPoints at A → (h : Vector) × IsKeyed h at A
@@ -74,8 +57,7 @@ direction at A xs l d = (record { x = pos M.N; y = pos N.N; z = pos 1 }, record 
         → dot (record { x = pos M.N; y = pos N.N; z = pos 1 }) (at i) ≡ dot (record { x = pos M.N; y = pos N.N; z = pos 1 }) (at j) → i ≡ j
     same i j a b e =
         let m = (l i).0 a in let n = (l j).0 b in
-        let first = M.tells i j m n (aside (pos M.N *ℤ (at i).x) (pos N.N *ℤ (at i).y) (at i).z
-        (pos M.N *ℤ (at j).x) (pos N.N *ℤ (at j).y) (at j).z e) in
+        let first = M.tells i j m n (omega (arith, ints)) in
         let second = N.tells i j m n first.1 in
         d i j a b (vector_path (at i) (at j) first.0 second.0 second.1)
 

@@ -1,23 +1,13 @@
 -- Each list of points that is not empty has a hull and a text.
 use Rattle.std.proofs.Common.{◌≡◌, ℕ, ◌<◌, List, [], ◌∷◌, length, refl, inl, inr}
 use Rattle.std.specs.List.Sorted.{IsStrictlyIncreasing}
-use Rattle.qh_model.proofs.DistinctIds.{some_id, distinct_apart}
-use Rattle.qh_model.proofs.polygons.EdgeCounts.{edges_are_counted}
+use Rattle.qh_model.proofs.{DistinctIds.some_id, DistinctIds.distinct_apart, polygons.EdgeCounts.edges_are_counted}
 use Rattle.qh_model.specs.contract.IdSets.{HasDistinctPoints}
-use Rattle.qh_model.specs.headline.Dimension.{IsDimension}
-use Rattle.qh_model.specs.headline.DistinctIds.{AreDistinctIds}
-use Rattle.qh_model.specs.headline.Fan.{edge_count}
-use Rattle.qh_model.specs.headline.Hull.{BodyValue, HullValue, IsBody, IsHull}
-use Rattle.qh_model.specs.headline.Polygons.{ArePolygons}
-use Rattle.qh_model.specs.headline.Predicates.{place}
-use Rattle.qh_model.specs.headline.Sets.{Members}
-use Rattle.qh_model.specs.headline.Text.{hull_text}
-use Rattle.qh_model.specs.headline.Vector.{Vector}
+use Rattle.qh_model.specs.headline.{Dimension.IsDimension, DistinctIds.AreDistinctIds, Fan.edge_count, Hull.BodyValue, Hull.HullValue, Hull.IsBody, Hull.IsHull}
+use Rattle.qh_model.specs.headline.{Polygons.ArePolygons, Predicates.place, Sets.Members, Text.hull_text, Vector.Vector}
 use Rattle.qh_laws.specs.laws.ExistenceLaws.{EveryListHasAHull, EveryListHasAText}
+use Rattle.qh_laws.proofs.{FoundDimensions.dimension_of, FoundFaces.faces_found, FoundFlats.flat_found, FoundFlats.segment_found, FoundFlats.point_found}
 use Rattle.qh_laws.proofs.FoundIds.{distinct_ids_of, extremes_of}
-use Rattle.qh_laws.proofs.FoundDimensions.{dimension_of}
-use Rattle.qh_laws.proofs.FoundFaces.{faces_found}
-use Rattle.qh_laws.proofs.FoundFlats.{flat_found, segment_found, point_found}
 
 -- ids of distinct points have polygons
 pub polygons_found : (at : ℕ → Vector) (ids : List ℕ) → HasDistinctPoints at (Members ids) → 0 < length ids

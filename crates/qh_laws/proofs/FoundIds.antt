@@ -1,23 +1,13 @@
 -- Rising lists of the ids of which a decided claim holds: distinct ids and extreme ids.
-use Rattle.std.proofs.Common.{◌≡◌, ◌≢◌, ℕ, ◌+◌, ◌<◌, ◌⊎◌, inl, inr, List, [], ◌∷◌, length, sym, subst, arith}
-use Rattle.std.specs.List.{range_with_len}
-use Rattle.std.specs.List.Sorted.{IsStrictlyIncreasing}
-use Rattle.std.specs.Prelude.{◌↔◌}
+use Rattle.std.proofs.Common.{◌≡◌, ◌≢◌, ℕ, ◌+◌, ◌<◌, inl, inr, List, [], ◌∷◌, length, sym, subst, arith, ⊎_elim}
 use Rattle.std.proofs.lemmas.List.FromFn.{get_or-range_with_len, length-range_with_len}
-use Rattle.qh_model.proofs.Members.{rising_first, rising_tail}
-use Rattle.qh_model.proofs.combinations.Alternatives.{all_lower}
+use Rattle.std.specs.{List.range_with_len, List.Sorted.IsStrictlyIncreasing, Prelude.◌↔◌}
+use Rattle.qh_model.proofs.Decisions.{Decided, contrary, each_or_not, same_vector}
+use Rattle.qh_model.proofs.{Members.rising_first, Members.rising_tail, combinations.Alternatives.all_lower}
 use Rattle.qh_model.proofs.extremes.ExtremeIds.{Listed, listed_itself, listed_part, apart, alternative_in}
-use Rattle.qh_model.proofs.lists.Ranges.{range_below, range_has}
-use Rattle.qh_model.proofs.lists.Rising.{rising_append}
-use Rattle.qh_model.specs.headline.Combination.{Combination}
-use Rattle.qh_model.specs.headline.DistinctIds.{IsDistinctId, AreDistinctIds}
-use Rattle.qh_model.specs.headline.Extreme.{Others}
-use Rattle.qh_model.specs.headline.Hull.{AreExtremes}
-use Rattle.qh_model.specs.headline.Predicates.{place}
-use Rattle.qh_model.specs.headline.Sets.{In, Members}
-use Rattle.qh_model.specs.headline.Vector.{Vector}
-use Rattle.qh_model.specs.laws.Separator.{Separator}
-use Rattle.qh_laws.proofs.Decisions.{Decided, contrary, each_or_not, same_vector}
+use Rattle.qh_model.proofs.lists.{Ranges.range_below, Ranges.range_has, Rising.rising_append}
+use Rattle.qh_model.specs.headline.{Combination.Combination, DistinctIds.IsDistinctId, DistinctIds.AreDistinctIds, Extreme.Others, Hull.AreExtremes}
+use Rattle.qh_model.specs.{headline.Predicates.place, headline.Sets.In, headline.Sets.Members, headline.Vector.Vector}
 
 -- the rising list of the members of which P holds
 pub record Passing (P : ℕ → Type 0) (xs : List ℕ) : Type 0 where
@@ -34,11 +24,7 @@ passing P d (x ∷ xs) r = by_decision (d x) (passing P d xs (rising_tail x xs r
     alone k h = absurd (omega arith)
 
     by_decision : Decided (P x) → Passing P xs → Passing P (x ∷ xs)
-    by_decision (inl p) s = record {
-      list = x ∷ s.list;
-      rising = rising_append (x ∷ []) s.list alone s.rising below;
-      members = λ i. (there i, back i);
-    }
+    by_decision (inl p) s = record { list = x ∷ s.list; rising = rising_append (x ∷ []) s.list alone s.rising below; members = λ i. (there i, back i) }
       where
         below : (a b : ℕ) → In a (x ∷ []) → In b s.list → a < b
         below a b (inl e) j = subst (λ n. n < b) (sym e) (rising_first x xs r b ((s.members b).0 j).0)
@@ -75,8 +61,7 @@ distinct_ids_of pts = (p.list, record { rising = p.rising; members = λ i. (ther
 
     p : Passing (λ i. (j : ℕ) → In j (range_with_len 0 i) → place pts j ≢ place pts i) (range_with_len 0 (length pts))
     p = passing (λ i. (j : ℕ) → In j (range_with_len 0 i) → place pts j ≢ place pts i)
-        (λ i. each_or_not (λ j. place pts j ≢ place pts i) (differ i) (range_with_len 0 i))
-        (range_with_len 0 (length pts)) (range_rises (length pts))
+        (λ i. each_or_not (λ j. place pts j ≢ place pts i) (differ i) (range_with_len 0 i)) (range_with_len 0 (length pts)) (range_rises (length pts))
 
     there : (i : ℕ) → In i p.list → IsDistinctId pts i
     there i m = let h = (p.members i).0 m in (range_below (length pts) i h.0, λ j l. h.1 j (range_has i j l))
@@ -86,11 +71,8 @@ distinct_ids_of pts = (p.list, record { rising = p.rising; members = λ i. (ther
 
 -- a point is a convex combination of a listed set or not
 pub combination_or_not : (at : ℕ → Vector) (A : ℕ → Type 0) (xs : List ℕ) → Listed A xs → (p : Vector) → Decided (Combination at A p)
-combination_or_not at A xs l p = by_cases (alternative_in at A xs l p)
-  where
-    by_cases : Combination at A p ⊎ Separator at A p → Decided (Combination at A p)
-    by_cases (inl m) = inl m
-    by_cases (inr s) = inr (λ m. all_lower at A p s.w m (s.past m.a m.has_a) (s.past m.b m.has_b) (s.past m.c m.has_c) (s.past m.d m.has_d))
+combination_or_not at A xs l p = ⊎_elim (λ m. inl m)
+    (λ s. inr (λ m. all_lower at A p s.w m (s.past m.a m.has_a) (s.past m.b m.has_b) (s.past m.c m.has_c) (s.past m.d m.has_d))) (alternative_in at A xs l p)
 
 -- each rising list of ids has a list of its extreme ids
 pub extremes_of : (at : ℕ → Vector) (ids : List ℕ) → IsStrictlyIncreasing ids → (es : List ℕ) × AreExtremes at (Members ids) es

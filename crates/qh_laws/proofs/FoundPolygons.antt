@@ -1,21 +1,13 @@
 -- A flat set has a polygon: the cycle over two chains of its ids by height, rotated to begin with its least id.
 use Rattle.std.proofs.Common.{ℕ, zero, suc, ◌<◌, ◌≤◌, ◌++◌, List, [], ◌∷◌, length, get_or, take, drop, refl, arith, ◌⊎◌, inl, inr}
-use Rattle.std.proofs.lemmas.Int.{by_lt_z}
-use Rattle.std.proofs.lemmas.Bool.{cases_lt}
+use Rattle.std.proofs.lemmas.{Bool.cases_lt, Int.by_lt_z}
 use Rattle.std.specs.Prelude.{◌<ℤ◌}
-use Rattle.qh_model.proofs.algebra.Order.{le_antisym}
-use Rattle.qh_model.proofs.algebra.Signs.{lt_neg}
-use Rattle.qh_model.proofs.algebra.VectorIdentities.{opposite, dot-opposite}
+use Rattle.qh_model.proofs.algebra.{Order.le_antisym, Signs.lt_neg, VectorIdentities.opposite, VectorIdentities.dot-opposite}
 use Rattle.qh_model.proofs.extremes.ExtremeIds.{Listed}
 use Rattle.qh_model.specs.contract.IdSets.{HasDistinctPoints}
-use Rattle.qh_model.specs.headline.Dimension.{HasSegment}
-use Rattle.qh_model.specs.headline.Extreme.{Extreme}
-use Rattle.qh_model.specs.headline.Polygon.{IsPolygon}
-use Rattle.qh_model.specs.headline.Vector.{Vector}
+use Rattle.qh_model.specs.headline.{Dimension.HasSegment, Extreme.Extreme, Polygon.IsPolygon, Vector.Vector}
 use Rattle.qh_plane.proofs.polygons.GoesRound.{GoesRound, goes_round}
-use Rattle.qh_plane.proofs.polygons.LeastFirst.{polygon_of}
-use Rattle.qh_plane.proofs.polygons.Turns.{IsFlat, IsKeyed, turn_about, height_of}
-use Rattle.qh_plane.proofs.polygons.TwoChains.{keyed_opposite}
+use Rattle.qh_plane.proofs.polygons.{LeastFirst.polygon_of, Turns.IsFlat, Turns.IsKeyed, Turns.turn_about, Turns.height_of, TwoChains.keyed_opposite}
 use Rattle.qh_plane.specs.steps.Chains.{chain, joined}
 use Rattle.qh_laws.proofs.FoundHeights.{direction, rising}
 
@@ -56,8 +48,7 @@ least (x ∷ y ∷ ys) = with_first (least (y ∷ ys))
 module _ (n : Vector) (at : ℕ → Vector) (A : ℕ → Type 0) (xs : List ℕ) (listed : Listed A xs) (distinct : HasDistinctPoints at A)
     (flat : IsFlat n at A) where
   -- two chains over ids that differ in height go round the extreme ids
-  cycle : (h : Vector) → IsKeyed h at A → (p q : ℕ) → A p → A q → height_of h at p <ℤ height_of h at q
-      → (c : List ℕ) × GoesRound n at A c
+  cycle : (h : Vector) → IsKeyed h at A → (p q : ℕ) → A p → A q → height_of h at p <ℤ height_of h at q → (c : List ℕ) × GoesRound n at A c
   cycle h keyed p q a b l =
       let up = rising h at A xs listed keyed p a in
       let down = rising (opposite h) at A xs listed (keyed_opposite h at A keyed) p a in (

@@ -1,4 +1,3 @@
-pub mod Decisions
 pub mod Sorting
 pub mod FoundIds
 pub mod FoundDimensions

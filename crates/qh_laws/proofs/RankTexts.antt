@@ -1,15 +1,9 @@
 -- Where all outputs are the rank, three numbers tell the text, and no hull has to be taken.
 use Rattle.std.proofs.Common.{◌≡◌, ◌∙◌, ℕ, suc, ◌<◌, ◌++◌, List, [], ◌∷◌, length, refl, ap, sym, arith}
 use Rattle.std.specs.Prelude.{All, decimal}
-use Rattle.qh_model.specs.declared.out.Out.{Out}
-use Rattle.qh_model.specs.declared.out.Out.TheVariants.{Rank}
-use Rattle.qh_model.specs.headline.Dimension.{IsDimension}
-use Rattle.qh_model.specs.headline.DistinctIds.{AreDistinctIds}
-use Rattle.qh_model.specs.headline.Hull.{HullValue}
-use Rattle.qh_model.specs.headline.Predicates.{place}
-use Rattle.qh_model.specs.headline.Sets.{Members}
-use Rattle.qh_model.specs.headline.Text.{line, spaced, rank_text, output_text, hull_text, IsText}
-use Rattle.qh_model.specs.headline.Vector.{Vector}
+use Rattle.qh_model.specs.declared.out.Out.{Out, TheVariants.Rank}
+use Rattle.qh_model.specs.headline.{Dimension.IsDimension, DistinctIds.AreDistinctIds, Hull.HullValue, Predicates.place, Sets.Members, Text.line, Text.spaced}
+use Rattle.qh_model.specs.headline.{Text.rank_text, Text.output_text, Text.hull_text, Text.IsText, Vector.Vector}
 use Rattle.qh_laws.proofs.FoundHulls.{HullOf, rank_is_text}
 
 -- the rank of a hull is told by its three numbers
@@ -17,8 +11,7 @@ rank_same : (a b : HullValue) → a.given ≡ b.given → a.distinct ≡ b.disti
 rank_same a b e f g = λ i. line (decimal (e i) ++ spaced (f i) ++ spaced (g i))
 
 -- whatever tells the number of points, that of distinct ids and the dimension tells the text of outputs that all are the rank
-pub ranks_are_text : (pts : List Vector) (ids : List ℕ) (k : ℕ) → AreDistinctIds pts ids → 0 < length pts
-    → IsDimension (place pts) (Members ids) k
+pub ranks_are_text : (pts : List Vector) (ids : List ℕ) (k : ℕ) → AreDistinctIds pts ids → 0 < length pts → IsDimension (place pts) (Members ids) k
     → (h : HullValue) → h.given ≡ length pts → h.distinct ≡ length ids → h.body.dim ≡ k
     → (outs : List Out) → All (λ o. o ≡ Rank) outs → IsText pts outs (hull_text h pts outs)
 ranks_are_text pts ids k a some d h given distinct dim outs all = record { hull = f.hull; right = f.right; is = same outs all }

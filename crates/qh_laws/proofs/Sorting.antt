@@ -43,18 +43,8 @@ module _ {X : Type 0} (R : X → X → Type 0) (A : X → Type 0) (compare : (x 
     where
       placed : Compare R x y → Inserted R x ys → Inserted R x (y ∷ ys)
       placed (inl l) s = record { list = x ∷ y ∷ ys; row = (l, o); after = λ t k r. (k, (l, o)); members = λ z. (λ i. i, λ i. i) }
-      placed (inr (inl e)) s = record {
-        list = y ∷ ys;
-        row = o;
-        after = λ t k r. r;
-        members = λ z. (λ i. inr i, λ i. ⊎_elim (λ d. inl (d ∙ e)) (λ j. j) i);
-      }
-      placed (inr (inr g)) s = record {
-        list = y ∷ s.list;
-        row = s.after y g o;
-        after = λ t k r. (r.0, s.after y g o);
-        members = λ z. (there z, back z);
-      }
+      placed (inr (inl e)) s = record { list = y ∷ ys; row = o; after = λ t k r. r; members = λ z. (λ i. inr i, λ i. ⊎_elim (λ d. inl (d ∙ e)) (λ j. j) i) }
+      placed (inr (inr g)) s = record { list = y ∷ s.list; row = s.after y g o; after = λ t k r. (r.0, s.after y g o); members = λ z. (there z, back z) }
         where
           swapped : (z : X) → In z (x ∷ ys) → In z (x ∷ y ∷ ys)
           swapped z (inl e) = inl e

@@ -1,11 +1,9 @@
 -- Half-edges by their facet and side.
 use Rattle.std.proofs.Common.{◌≡◌, ℕ, zero, suc, ◌/◌, ◌%◌, ◌<◌, arith, ap, sym, ◌∙◌, refl, subst, List}
-use Rattle.qh_model.specs.contract.Surface.{Side, start, end}
-use Rattle.qh_model.specs.contract.Surface.Side.{first, second, third}
 use Rattle.qh_model.specs.contract.StoredSurface.{StoredFacet, facet_at, surface_of}
-use Rattle.qh_mesh.specs.declared.facets.FacetSide.{FacetSide}
+use Rattle.qh_model.specs.contract.Surface.{Side, start, end, Side.first, Side.second, Side.third}
 use Rattle.qh_mesh.specs.contract.Edges.{edge_end, edge_of, edge_start, nth_side, side_no, side_of_edge, twin_of}
-use Rattle.qh_mesh.specs.contract.Replacement.{IsLive}
+use Rattle.qh_mesh.specs.{contract.Replacement.IsLive, declared.facets.FacetSide.FacetSide}
 use Rattle.qh_mesh.specs.steps.{Horizons.edge_side, Kept.outer_of, Kept.side_of, Twins.HasTwin, Twins.HasTwins}
 
 -- an edge by its facet and side is of that facet

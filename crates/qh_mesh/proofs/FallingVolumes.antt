@@ -1,21 +1,15 @@
 -- A replacement leaves a smaller signed volume: at the apex a facet that stays counts what it did, one of the cone
 -- nothing, and one that goes more than nothing.
-use Rattle.std.proofs.Common.{◌≡◌, ℕ, zero, suc, ◌+◌, arith, ap, ◌∙◌, refl, subst, true, false, cond, inl, inr, List, [], ◌∷◌}
-use Rattle.std.proofs.Common.{slice_index, zero-add}
-use Rattle.std.specs.Prelude.{ℤ, pos, ◌+ℤ◌, ◌<ℤ◌, ◌≤ℤ◌}
+use Rattle.std.proofs.Common.{◌≡◌, ℕ, zero, suc, ◌+◌, arith, ap, ◌∙◌, refl, subst, true, false, cond, inl, inr, List, [], ◌∷◌, slice_index, zero-add}
 use Rattle.std.proofs.lemmas.{Bool.cases_Bool, Bool.both_ways, Int.ints}
-use Rattle.qh_model.specs.contract.ClosedSurface.{signed_volume, triples_from, triples_of}
-use Rattle.qh_model.specs.contract.FinishedSurface.{middle_at}
-use Rattle.qh_model.specs.contract.{Surface.Surface, StoredSurface.StoredFacet, StoredSurface.facet_at, StoredSurface.live_from}
-use Rattle.qh_model.specs.contract.StoredSurface.{surface_of}
-use Rattle.qh_model.specs.headline.{Predicates.vol, Vector.Vector, Sets.In}
-use Rattle.qh_model.proofs.{Members.in_at, Members.In-get_or}
-use Rattle.qh_model.proofs.algebra.{Signs.less_le, Signs.equal_le, VectorIdentities.vol-third}
-use Rattle.qh_model.proofs.closed_surfaces.SignedVolume.{volume_is_constant}
-use Rattle.qh_mesh.specs.contract.Replacement.{is_listed, IsKept}
-use Rattle.qh_mesh.specs.contract.SoundMesh.{facet_vol, IsSoundMesh, AreVisible}
-use Rattle.qh_mesh.proofs.{ListedFacets.in_listed, ListedFacets.listed_live, Rewiring.IsStep}
-use Rattle.qh_mesh.proofs.SoundMeshes.{closed_of, step_is_closed}
+use Rattle.std.specs.Prelude.{ℤ, pos, ◌+ℤ◌, ◌<ℤ◌, ◌≤ℤ◌}
+use Rattle.qh_model.specs.contract.{ClosedSurface.signed_volume, ClosedSurface.triples_from, ClosedSurface.triples_of, FinishedSurface.middle_at}
+use Rattle.qh_model.specs.contract.StoredSurface.{StoredFacet, facet_at, live_from, surface_of}
+use Rattle.qh_model.specs.{contract.Surface.Surface, headline.Predicates.vol, headline.Sets.In, headline.Vector.Vector}
+use Rattle.qh_model.proofs.Members.{in_at, In-get_or}
+use Rattle.qh_model.proofs.{algebra.Signs.less_le, algebra.Signs.equal_le, algebra.VectorIdentities.vol-third, closed_surfaces.SignedVolume.volume_is_constant}
+use Rattle.qh_mesh.specs.contract.{Replacement.is_listed, Replacement.IsKept, SoundMesh.facet_vol, SoundMesh.IsSoundMesh, SoundMesh.AreVisible}
+use Rattle.qh_mesh.proofs.{ListedFacets.in_listed, ListedFacets.listed_live, Rewiring.IsStep, SoundMeshes.closed_of, SoundMeshes.step_is_closed}
 
 -- ---- sums over live places
 -- what the live places of a list count for
@@ -53,13 +47,12 @@ sum_lt v w (f ∷ fs) (g ∷ gs) h (suc n) l =
     let a = h 0 in let b = sum_lt (λ k. v (suc k)) (λ k. w (suc k)) fs gs (λ k. h (suc k)) n l in omega (arith, ints)
 
 -- the signed volume of a stored surface is the sum over its live facets, counted from n
-volume_is : (at : ℕ → Vector) (m : Surface) (q : Vector) (n : ℕ) (fs : List StoredFacet)
-    → signed_volume at (triples_from m (live_from n fs)) q
+volume_is : (at : ℕ → Vector) (m : Surface) (q : Vector) (n : ℕ) (fs : List StoredFacet) → signed_volume at (triples_from m (live_from n fs)) q
     ≡ live_sum (λ k. vol (at (m.i (n + k))) (at (m.j (n + k))) (at (m.k (n + k))) q) fs
 volume_is at m q n [] = refl
 volume_is at m q n (f ∷ fs) =
     elim f.live as (λ b. signed_volume at (triples_from m (cond b (n ∷ live_from (n + 1) fs) (live_from (n + 1) fs))) q
-    ≡ cond b (value n) (pos 0) +ℤ rest) [ true ↦ refl | false ↦ none rest ]
+    ≡ cond b (value n) (pos 0) +ℤ rest) [ true ↦ refl | false ↦ (omega (arith, ints)) ]
     ∙ (λ i. cond f.live (value (here n i)) (pos 0)
     +ℤ (volume_is at m q (n + 1) fs ∙ ap (λ v. live_sum v fs) (λ j k. value (shift n k j))) i)
   where
@@ -68,9 +61,6 @@ volume_is at m q n (f ∷ fs) =
 
     rest : ℤ
     rest = signed_volume at (triples_from m (live_from (n + 1) fs)) q
-
-    none : (x : ℤ) → x ≡ pos 0 +ℤ x
-    none x = omega (arith, ints)
 
     here : (n : ℕ) → n ≡ n + 0
     here n = omega arith

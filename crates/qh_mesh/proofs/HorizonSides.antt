@@ -1,26 +1,21 @@
 -- The horizon of listed facets: its edges, that it is balanced, and how it is gathered.
-use Rattle.std.proofs.Common.{◌≡◌, ℕ, ◌+◌, ◌/◌, ◌<◌, ◌≤◌, arith, ap, sym, ◌∙◌, refl, subst, Bool, true, false, cond, not}
-use Rattle.std.proofs.Common.{inl, inr, List, [], ◌∷◌, All, length, map, slice_index}
+use Rattle.std.proofs.Common.{◌≡◌, ℕ, ◌+◌, ◌/◌, ◌<◌, ◌≤◌, arith, ap, sym, ◌∙◌, refl, subst, Bool, true, false, cond, not, inl, inr, List, [], ◌∷◌, All, length}
+use Rattle.std.proofs.Common.{map, slice_index}
+use Rattle.std.proofs.lemmas.{Bool.cases_Bool, Bool.not-true, Bool.not_from_false, List.Filters.sum_by-filter_both, List.Sums.sum_by-cons}
 use Rattle.std.specs.Prelude.{filter, count_by, flat_map}
-use Rattle.std.proofs.lemmas.Bool.{cases_Bool, not-true, not_from_false}
-use Rattle.std.proofs.lemmas.List.{Filters.sum_by-filter_both, Sums.sum_by-cons}
-use Rattle.qh_model.specs.contract.{StoredSurface.StoredFacet, StoredSurface.facet_at, Surface.Side}
-use Rattle.qh_model.specs.contract.Surface.Side.{first, second, third}
-use Rattle.qh_model.specs.headline.Sets.{In}
+use Rattle.qh_model.specs.contract.{StoredSurface.StoredFacet, StoredSurface.facet_at, Surface.Side, Surface.Side.first, Surface.Side.second}
+use Rattle.qh_model.specs.{contract.Surface.Side.third, headline.Sets.In}
 use Rattle.qh_model.proofs.Members.{All-In, All-of, In-get_or, in_at}
-use Rattle.qh_model.proofs.lists.Counts.{count-map, count_twins}
-use Rattle.qh_model.proofs.lists.{Filters.in_filter, Filters.of_filter, Filters.once_filter, Filters.filter_image, OnceEach.once_place}
+use Rattle.qh_model.proofs.lists.{Counts.count-map, Counts.count_twins, Filters.in_filter, Filters.of_filter, Filters.once_filter, Filters.filter_image}
+use Rattle.qh_model.proofs.{lists.OnceEach.once_place, surfaces.Stored.live_inside}
 use Rattle.qh_mesh.specs.contract.Edges.{edge_of, facet_of, side_of_edge, twin_of}
 use Rattle.qh_mesh.specs.contract.Replacement.{sides_of, is_listed, horizon, IsLive, AreFacets, IsKept}
+use Rattle.qh_mesh.specs.declared.slots.End.{End, TheVariants.Start, TheVariants.Finish}
 use Rattle.qh_mesh.specs.steps.Horizons.{corner, other, edge_side, IsBalanced, HasSidesInside, is_open, three_sides, open_sides}
-use Rattle.qh_mesh.specs.steps.{Kept.side_of, Kept.outer_of, Kept.is_live, Kept.removed, Places.Removed, Surfaces.IsSurface}
-use Rattle.qh_mesh.specs.declared.slots.End.{End}
-use Rattle.qh_mesh.specs.declared.slots.End.TheVariants.{Start, Finish}
-use Rattle.qh_mesh.specs.steps.Twins.{HasTwin, HasTwins}
+use Rattle.qh_mesh.specs.steps.{Kept.side_of, Kept.outer_of, Kept.is_live, Kept.removed, Places.Removed, Surfaces.IsSurface, Twins.HasTwin, Twins.HasTwins}
 use Rattle.qh_mesh.proofs.EdgeSides.{edge-facet, twin-is, side-is, noted-is}
 use Rattle.qh_mesh.proofs.ListedFacets.{listed_live, in_sides, of_sides, once_sides, in_listed, listed_in, unlisted_at}
 use Rattle.qh_mesh.proofs.Mates.{meets}
-use Rattle.qh_model.proofs.surfaces.Stored.{live_inside}
 
 module _ (old : List StoredFacet) (vs : List ℕ) where
   -- an edge of the horizon, by its place
@@ -41,8 +36,7 @@ module _ (old : List StoredFacet) (vs : List ℕ) where
       (of_sides vs (edge j) r.0, not-true (inner (edge j)) r.1)
 
   -- so its twin is an edge of a facet that stays
-  pub horizon_twin : HasTwins old → AreFacets old vs → (j : ℕ) → j < length (horizon old vs)
-      → HasTwin old (edge j) × IsKept old vs (twin_of old (edge j) / 3)
+  pub horizon_twin : HasTwins old → AreFacets old vs → (j : ℕ) → j < length (horizon old vs) → HasTwin old (edge j) × IsKept old vs (twin_of old (edge j) / 3)
   horizon_twin t a j l =
       let h = on_horizon j l in let q = t (edge j) (listed_live old vs a (edge j / 3) h.0) in (q, record { live = q.live; unlisted = h.1 })
 
@@ -56,11 +50,9 @@ module _ (old : List StoredFacet) (vs : List ℕ) where
 
 -- ---- balance
 -- what is noted of the edges of facets are their sides
-sides_are : (fs : List StoredFacet) (vs : List ℕ)
-    → map (edge_side fs) (sides_of vs) ≡ flat_map (λ v. three_sides (facet_at fs v)) vs
+sides_are : (fs : List StoredFacet) (vs : List ℕ) → map (edge_side fs) (sides_of vs) ≡ flat_map (λ v. three_sides (facet_at fs v)) vs
 sides_are fs [] = refl
-sides_are fs (v ∷ vs) =
-    λ i. noted-is fs v first i ∷ noted-is fs v second i ∷ noted-is fs v third i ∷ sides_are fs vs i
+sides_are fs (v ∷ vs) = λ i. noted-is fs v first i ∷ noted-is fs v second i ∷ noted-is fs v third i ∷ sides_are fs vs i
 
 -- the sides of facets: at a corner the number that start is that of those that end
 round : (fs : List StoredFacet) (l : ℕ) (vs : List ℕ) → let hs = flat_map (λ v. three_sides (facet_at fs v)) vs in
@@ -93,8 +85,7 @@ module _ (fs : List StoredFacet) (vs : List ℕ) (t : HasTwins fs) (a : AreFacet
       ∙ sym (count-map (edge_side fs) (meets end l) (sides_of vs)) ∙ ap (count_by (meets end l)) (sides_are fs vs))
 
 -- the horizon of facets of a surface is balanced
-pub horizon_balanced : (fs : List StoredFacet) (vs : List ℕ) → HasTwins fs → AreFacets fs vs
-    → IsBalanced (map (edge_side fs) (horizon fs vs))
+pub horizon_balanced : (fs : List StoredFacet) (vs : List ℕ) → HasTwins fs → AreFacets fs vs → IsBalanced (map (edge_side fs) (horizon fs vs))
 horizon_balanced fs vs t a = elim [ Start ↦ λ l. sym (even l) | Finish ↦ even ]
   where
     even : (l : ℕ) → let hs = map (edge_side fs) (horizon fs vs) in count_by (meets Finish l) hs ≡ count_by (meets Start l) hs
@@ -130,8 +121,7 @@ module _ (old cleared : List StoredFacet) (vs : List ℕ) (r : Removed old clear
         }
 
     -- what is noted of a side of a listed facet, and that it is open where the facet across stays
-    noted : (e : ℕ) → In e (sides_of vs)
-        → (edge_side cleared e ≡ edge_side old e) × (is_open cleared (edge_side cleared e) ≡ leaves old vs e)
+    noted : (e : ℕ) → In e (sides_of vs) → (edge_side cleared e ≡ edge_side old e) × (is_open cleared (edge_side cleared e) ≡ leaves old vs e)
     noted e i =
         let l = of_sides vs e i in let o = twin_of old e / 3 in
         let same = side-is cleared e ∙ ap (λ t. side_of t (side_of_edge e)) (gone (e / 3) l) ∙ sym (side-is old e) in (

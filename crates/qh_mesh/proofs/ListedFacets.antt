@@ -1,13 +1,9 @@
 -- Lists of facets that have each once, and the list of their sides.
-use Rattle.std.proofs.Common.{◌≡◌, ◌≢◌, ℕ, ◌+◌, ◌*◌, ◌/◌, ◌<◌, ◌++◌, arith, sym, refl, subst, true, false, cond, nat_eq, inl, inr}
-use Rattle.std.proofs.Common.{List, [], ◌∷◌, length, slice_index}
-use Rattle.std.proofs.lemmas.Bool.{both_ways, cases_lt, eq-eqb}
-use Rattle.std.proofs.lemmas.Bool.Decides.{eqb_tells}
-use Rattle.qh_model.specs.contract.{StoredSurface.StoredFacet, Surface.Side}
+use Rattle.std.proofs.Common.{◌≡◌, ◌≢◌, ℕ, ◌+◌, ◌*◌, ◌/◌, ◌<◌, ◌++◌, arith, sym, refl, subst, true, false, cond, nat_eq, inl, inr, List, [], ◌∷◌, length}
+use Rattle.std.proofs.{Common.slice_index, lemmas.Bool.both_ways, lemmas.Bool.cases_lt, lemmas.Bool.eq-eqb, lemmas.Bool.Decides.eqb_tells}
+use Rattle.qh_model.specs.contract.{StoredSurface.StoredFacet, Surface.Side, Surface.Side.first, Surface.Side.second, Surface.Side.third}
 use Rattle.qh_model.specs.headline.Sets.{In, Once}
-use Rattle.qh_model.proofs.Members.{All-In, In-get_or}
-use Rattle.qh_model.proofs.lists.{Joined.once_append, OnceEach.once_place}
-use Rattle.qh_model.specs.contract.Surface.Side.{first, second, third}
+use Rattle.qh_model.proofs.{Members.All-In, Members.In-get_or, lists.Joined.once_append, lists.OnceEach.once_place}
 use Rattle.qh_mesh.specs.contract.{Edges.edge_of, Replacement.sides_of, Replacement.is_listed, Replacement.IsLive, Replacement.AreFacets}
 use Rattle.qh_mesh.proofs.EdgeSides.{edge-facet}
 

@@ -1,12 +1,9 @@
 -- Which sides of a horizon follow one another: each has one mate at either end, and is the mate of that.
 use Rattle.std.proofs.Common.{◌≡◌, ℕ, ◌<◌, ◌≤◌, inl, inr, arith, ap, sym, ◌∙◌, refl, subst, Bool, nat_eq, List, length}
+use Rattle.std.proofs.lemmas.{Bool.cases_lt, Bool.eq-eqb, Bool.eqb-true, List.take_all}
 use Rattle.std.specs.Prelude.{count_by}
-use Rattle.std.proofs.lemmas.{List.take_all, Bool.cases_lt, Bool.eq-eqb, Bool.eqb-true}
 use Rattle.qh_model.proofs.lists.Counts.{counted, counted_apart, counted_at}
-use Rattle.qh_mesh.specs.declared.facets.FacetSide.{FacetSide}
-use Rattle.qh_mesh.specs.declared.slots.End.{End}
-use Rattle.qh_mesh.specs.declared.slots.End.TheVariants.{Start, Finish}
-use Rattle.qh_mesh.specs.declared.slots.Slot.{Slot}
+use Rattle.qh_mesh.specs.declared.{facets.FacetSide.FacetSide, slots.End.End, slots.End.TheVariants.Start, slots.End.TheVariants.Finish, slots.Slot.Slot}
 use Rattle.qh_mesh.specs.steps.Horizons.{side_at, no_side, corner, other, rank, noted, IsBalanced, IsMate, AreNoted}
 
 -- is the corner at this end l?
@@ -43,8 +40,7 @@ module _ (hs : List FacetSide) where
   mate_back Start j i l m = record { inside = l; meets = sym m.meets; rank = rw m.meets (sym m.rank) }
   mate_back Finish j i l m = record { inside = l; meets = sym m.meets; rank = rw m.meets (sym m.rank) }
 
-  pub mate_twice : (b : IsBalanced hs) (end : End) (j : ℕ) → j < length hs
-      → (has_mate b (other end) (has_mate b end j).0).0 ≡ j
+  pub mate_twice : (b : IsBalanced hs) (end : End) (j : ℕ) → j < length hs → (has_mate b (other end) (has_mate b end j).0).0 ≡ j
   mate_twice b end j l =
       let i = (has_mate b end j).0 in let m = (has_mate b end j).1 l in let k = has_mate b (other end) i in
       mate_only (other end) i k.0 j (k.1 m.inside) (mate_back end j i l m)

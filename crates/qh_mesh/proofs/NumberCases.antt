@@ -1,6 +1,5 @@
 -- Cases of two numbers, and of the numbers below one.
-use Rattle.std.proofs.Common.{ℕ, ◌<◌, ◌≤◌, inl, inr}
-use Rattle.std.proofs.lemmas.Bool.{cases_lt}
+use Rattle.std.proofs.{Common.ℕ, Common.◌<◌, Common.◌≤◌, Common.inl, Common.inr, lemmas.Bool.cases_lt}
 pub use Rattle.std.proofs.lemmas.Bool.{cases_eq as same_or}
 pub use borrow.Author.Count.{below_more as below_next}
 

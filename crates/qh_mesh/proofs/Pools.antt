@@ -1,16 +1,12 @@
 -- The places of no facet, as they come and go.
-use Rattle.std.proofs.Common.{◌≡◌, ◌≢◌, ℕ, ◌<◌, ◌≤◌, inl, inr, max, arith, ap, sym, ◌∙◌, refl, subst, Bool, true, false, cond, List}
-use Rattle.std.proofs.Common.{[], ◌∷◌, ◌++◌, length, reverse, set}
-use Rattle.std.proofs.lemmas.Bool.{both_ways, cases_lt}
-use Rattle.std.proofs.lemmas.List.{get_or_append_left, get_or_push, length_push, length-reverse, length-set, get_or-set_same}
-use Rattle.std.proofs.lemmas.List.{get_or-set_other, append_assoc, reverse-append, append-nil}
-use Rattle.std.proofs.lemmas.List.Sums.{sum_by-set, sum_by_push}
-use Rattle.qh_model.specs.headline.Sets.{In}
+use Rattle.std.proofs.Common.{◌≡◌, ◌≢◌, ℕ, ◌<◌, ◌≤◌, inl, inr, max, arith, ap, sym, ◌∙◌, refl, subst, Bool, true, false, cond, List, [], ◌∷◌, ◌++◌, length}
+use Rattle.std.proofs.Common.{reverse, set}
+use Rattle.std.proofs.lemmas.{Bool.both_ways, Bool.cases_lt, List.get_or_append_left, List.get_or_push, List.length_push, List.length-reverse}
+use Rattle.std.proofs.lemmas.List.{length-set, get_or-set_same, get_or-set_other, append_assoc, reverse-append, append-nil, Sums.sum_by-set, Sums.sum_by_push}
 use Rattle.qh_model.specs.contract.StoredSurface.{StoredFacet, facet_at, no_facet, surface_of}
-use Rattle.qh_model.proofs.surfaces.Stored.{live_inside, live_len}
-use Rattle.qh_model.proofs.lists.Joined.{of_append, once_append}
-use Rattle.qh_mesh.specs.contract.Replacement.{IsLive}
-use Rattle.qh_mesh.specs.steps.{Kept.is_live, Places.IsPool, Places.IsVacant, Places.live_count}
+use Rattle.qh_model.specs.headline.Sets.{In}
+use Rattle.qh_model.proofs.{lists.Joined.of_append, lists.Joined.once_append, surfaces.Stored.live_inside, surfaces.Stored.live_len}
+use Rattle.qh_mesh.specs.{contract.Replacement.IsLive, steps.Kept.is_live, steps.Places.IsPool, steps.Places.IsVacant, steps.Places.live_count}
 
 -- what a mark adds to the count of live facets
 abbrev one : Bool → ℕ

@@ -1,27 +1,18 @@
 -- The steps of a replacement are one, and they leave a surface.
-use Rattle.std.proofs.Common.{◌≡◌, ℕ, ◌/◌, ◌<◌, arith, ap, sym, ◌∙◌, refl, subst, false, inl, inr, List, length, ◌≢◌, ◌⊎◌}
-use Rattle.std.proofs.Common.{slice_index, reverse, length-append}
+use Rattle.std.proofs.Common.{◌≡◌, ℕ, ◌/◌, ◌<◌, arith, ap, sym, ◌∙◌, refl, subst, false, inl, inr, List, length, ◌≢◌, ◌⊎◌, slice_index, reverse, length-append}
 use Rattle.std.proofs.lemmas.{Bool.cases_Bool, Bool.both_ways, Bool.false_from_ne_true, List.length-map, List.get_or-map}
-use Rattle.qh_model.specs.contract.StoredSurface.{StoredFacet, facet_at}
-use Rattle.qh_model.specs.headline.Sets.{In}
-use Rattle.qh_model.proofs.Members.{All-of, In-get_or}
-use Rattle.qh_model.proofs.lists.Joined.{in_append, once_left}
+use Rattle.qh_model.specs.{contract.StoredSurface.StoredFacet, contract.StoredSurface.facet_at, headline.Sets.In}
+use Rattle.qh_model.proofs.{Members.All-of, Members.In-get_or, lists.Joined.in_append, lists.Joined.once_left, surfaces.Stored.live_inside}
 use Rattle.qh_mesh.specs.contract.Edges.{side_of_edge, twin_of}
-use Rattle.qh_mesh.specs.contract.Replacement.{is_listed, horizon, IsLive, AreFacets, IsKept, IsReplacement}
-use Rattle.qh_mesh.specs.contract.Replacement.{IsCone}
-use Rattle.qh_mesh.specs.declared.facets.FacetSide.{FacetSide}
-use Rattle.qh_mesh.specs.declared.slots.End.{End}
-use Rattle.qh_mesh.specs.declared.slots.End.TheVariants.{Start, Finish}
-use Rattle.qh_mesh.specs.steps.Cones.{bare}
-use Rattle.qh_mesh.specs.steps.Horizons.{side_at, no_side, corner, other, edge_side, IsBalanced, IsMate}
-use Rattle.qh_mesh.specs.steps.{Kept.is_live, Kept.outer_of, Places.IsVacant}
-use Rattle.qh_mesh.specs.steps.Rebuilt.{IsCleared, IsChosen, IsConed, IsPrepared, IsReady, IsRebuilt}
-use Rattle.qh_mesh.specs.steps.{Surfaces.IsSurface, Twins.HasTwin}
+use Rattle.qh_mesh.specs.contract.Replacement.{is_listed, horizon, IsLive, AreFacets, IsKept, IsReplacement, IsCone}
+use Rattle.qh_mesh.specs.declared.{facets.FacetSide.FacetSide, slots.End.End, slots.End.TheVariants.Start, slots.End.TheVariants.Finish}
+use Rattle.qh_mesh.specs.steps.{Cones.bare, Horizons.side_at, Horizons.no_side, Horizons.corner, Horizons.other, Horizons.edge_side, Horizons.IsBalanced}
+use Rattle.qh_mesh.specs.steps.{Horizons.IsMate, Kept.is_live, Kept.outer_of, Places.IsVacant, Rebuilt.IsCleared, Rebuilt.IsChosen, Rebuilt.IsConed}
+use Rattle.qh_mesh.specs.steps.{Rebuilt.IsPrepared, Rebuilt.IsReady, Rebuilt.IsRebuilt, Surfaces.IsSurface, Twins.HasTwin}
+use Rattle.qh_mesh.proofs.FallingVolumes.{step_falls}
 use Rattle.qh_mesh.proofs.HorizonSides.{edge, on_horizon, horizon_twin, same_place, horizon_balanced, gone, stays}
-use Rattle.qh_mesh.proofs.{ListedFacets.listed_in, ListedFacets.unlisted_at, Mates.has_mate, Mates.mate_only, Mates.mate_twice}
-use Rattle.qh_model.proofs.surfaces.Stored.{live_inside}
-use Rattle.qh_mesh.proofs.{Pools.places_are, Rewiring.twins_after, Rewiring.IsStep, Rewiring.rewired}
-use Rattle.qh_mesh.proofs.{SoundMeshes.step_is_sound, SoundMeshes.step_is_closed, FallingVolumes.step_falls}
+use Rattle.qh_mesh.proofs.{ListedFacets.listed_in, ListedFacets.unlisted_at, Mates.has_mate, Mates.mate_only, Mates.mate_twice, Pools.places_are}
+use Rattle.qh_mesh.proofs.{Rewiring.twins_after, Rewiring.IsStep, Rewiring.rewired, SoundMeshes.step_is_sound, SoundMeshes.step_is_closed}
 
 module _ (old chosen : List StoredFacet) (free left vs : List ℕ) (hs : List FacetSide) (made : List ℕ)
     (s : IsSurface old free) (a : AreFacets old vs) (p : IsPrepared old chosen left vs hs made) where

@@ -1,20 +1,15 @@
 -- After a replacement twins pair off again, and one of what a point sees is a step of Quickhull.
 use Rattle.std.proofs.Common.{slice_index, ◌≡◌, ℕ, ◌/◌, ◌<◌, ◌⊎◌, arith, ap, sym, ◌∙◌, refl, true, false, inl, inr, List, length, subst}
-use Rattle.std.specs.Prelude.{pos}
 use Rattle.std.proofs.lemmas.Bool.{cases_Bool, true_from_ne_false, false_from_ne_true}
-use Rattle.qh_model.specs.headline.{Vector.Vector, Sets.In}
-use Rattle.qh_model.specs.contract.{Weighted.Weighted, FinishedSurface.weighted_at}
-use Rattle.qh_model.specs.contract.Surface.{Side, Surface, start, end, Sees, IsBlindTo, rise}
-use Rattle.qh_model.specs.contract.Surface.Side.{first, second, third}
-use Rattle.qh_model.specs.contract.Rewired.{IsHorizonSide, LinksTo, IsRewired}
+use Rattle.std.specs.Prelude.{pos}
+use Rattle.qh_model.specs.contract.{FinishedSurface.weighted_at, Rewired.IsHorizonSide, Rewired.LinksTo, Rewired.IsRewired}
 use Rattle.qh_model.specs.contract.StoredSurface.{StoredFacet, facet_at, surface_of}
+use Rattle.qh_model.specs.contract.Surface.{Side, Surface, start, end, Sees, IsBlindTo, rise, Side.first, Side.second, Side.third}
+use Rattle.qh_model.specs.{contract.Weighted.Weighted, headline.Sets.In, headline.Vector.Vector}
 pub use Rattle.qh_model.proofs.surfaces.Stored.{live_in, in_live}
-use Rattle.qh_model.proofs.surfaces.SurfaceLaws.{rise_is_vol, horizon_is_known}
-use Rattle.qh_model.proofs.Members.{In-get_or, in_at}
-use Rattle.qh_model.proofs.algebra.Signs.{not_less}
+use Rattle.qh_model.proofs.{Members.In-get_or, Members.in_at, algebra.Signs.not_less, surfaces.SurfaceLaws.rise_is_vol, surfaces.SurfaceLaws.horizon_is_known}
 use Rattle.qh_mesh.specs.contract.Edges.{edge_end, edge_of, edge_start, facet_of, side_of_edge, twin_of}
-use Rattle.qh_mesh.specs.contract.Replacement.{is_listed, horizon, IsLive, AreFacets}
-use Rattle.qh_mesh.specs.contract.Replacement.{IsCone, IsKept, StaysFacet, IsReplacement}
+use Rattle.qh_mesh.specs.contract.Replacement.{is_listed, horizon, IsLive, AreFacets, IsCone, IsKept, StaysFacet, IsReplacement}
 use Rattle.qh_mesh.specs.contract.SoundMesh.{facet_vol, IsSoundMesh, AreVisible}
 use Rattle.qh_mesh.specs.steps.{Kept.outer_of, Twins.HasTwin, Twins.HasTwins}
 use Rattle.qh_mesh.proofs.EdgeSides.{edge-facet, edge-side, edge_is, twins_by_side, start-is, end-is, twin-is, over-is, back-is}
@@ -38,8 +33,7 @@ module _ (fs : List StoredFacet) (f : ℕ) (s : Side) where
   }
 
 -- how far a point is above a facet is the volume with it
-pub rise-vol : (at : ℕ → Vector) (fs : List StoredFacet) (f p : ℕ)
-    → rise (surface_of fs) (weighted_at at) f (weighted_at at p) ≡ facet_vol at fs f (at p)
+pub rise-vol : (at : ℕ → Vector) (fs : List StoredFacet) (f p : ℕ) → rise (surface_of fs) (weighted_at at) f (weighted_at at p) ≡ facet_vol at fs f (at p)
 rise-vol at fs f p = rise_is_vol (at (facet_at fs f).i) (at (facet_at fs f).j) (at (facet_at fs f).k) (at p)
 
 -- a replacement of facets of a surface
@@ -92,8 +86,7 @@ module _ (old new : List StoredFacet) (vs : List ℕ) (p : ℕ) (made : List ℕ
       let i = r.next j in let m = r.next_in j l in let c = r.cone j l in let k = r.cone i m in
       let f = slice_index made j in let g = slice_index made i in
       both (side j second) (side i third) (live_side j second l) (live_side i third m)
-      (twin-is new f second ∙ r.next_twin j l) (twin-is new g third ∙ r.next_back j l)
-      (start-is new g third ∙ k.third ∙ sym (end-is new f second ∙ c.third))
+      (twin-is new f second ∙ r.next_twin j l) (twin-is new g third ∙ r.next_back j l) (start-is new g third ∙ k.third ∙ sym (end-is new f second ∙ c.third))
       (end-is new g third ∙ k.first ∙ r.next_starts j l ∙ sym (start-is new f second ∙ c.second))
 
   -- an edge of a facet that stays, by whether what lies across stays
@@ -188,8 +181,7 @@ module _ (old new : List StoredFacet) (vs : List ℕ) (p : ℕ) (made : List ℕ
     is_kept : (f : ℕ) → In f m.live → IsBlind f → IsKept old vs f
     is_kept f i b = record { live = live_in old f i; unlisted = blind_unlisted f (live_in old f i) b }
 
-    only : (f : ℕ) → IsKept old vs f ⊎ In f made
-        → (In f m.live × IsBlind f) ⊎ ((g : ℕ) × (s : Side) × IsSide g s × (f ≡ over g s))
+    only : (f : ℕ) → IsKept old vs f ⊎ In f made → (In f m.live × IsBlind f) ⊎ ((g : ℕ) × (s : Side) × IsSide g s × (f ≡ over g s))
     only f (inl k) = inl (in_live old f k.live, unlisted_blind f k.live k.unlisted)
     only f (inr i) = let (j, l, e) = in_at made f i in let x = edge old vs j in let n = r.len in
         inr (x / 3, side_of_edge x, horizon_side j (omega arith), rw (edge_is x, cone_no j l) (sym e))

@@ -1,24 +1,20 @@
 -- Meshes that are sound: the simplex, what a step leaves, and that both close up.
 use Rattle.std.proofs.Common.{slice_index, ◌≡◌, ℕ, arith, rules, refl, [], ◌≢◌, sym, inl, inr, List, ◌∷◌, subst}
-use Rattle.std.specs.Prelude.{pos, ◌<ℤ◌}
 use Rattle.std.proofs.lemmas.{Bool.cases_Bool, Int.ints, Int.by_lt_z}
-use Rattle.qh_model.specs.contract.ClosedSurface.{signed_volume, triples_of}
-use Rattle.qh_model.specs.contract.FinishedSurface.{weighted_at, middle_at, IsFinished}
-use Rattle.qh_model.specs.contract.{StoredSurface.StoredFacet, StoredSurface.surface_of, Weighted.Weighted, Weighted.weighted}
-use Rattle.qh_model.specs.headline.{Predicates.vol, Sets.In, Vector.Vector}
-use Rattle.qh_model.specs.laws.SimplexSurface.{simplex_surface}
-use Rattle.qh_model.proofs.algebra.{VectorIdentities.vol-flip_last, Signs.not_less}
+use Rattle.std.specs.Prelude.{pos, ◌<ℤ◌}
+use Rattle.qh_model.specs.contract.{ClosedSurface.signed_volume, ClosedSurface.triples_of, FinishedSurface.weighted_at, FinishedSurface.middle_at}
+use Rattle.qh_model.specs.contract.{FinishedSurface.IsFinished, StoredSurface.StoredFacet, StoredSurface.surface_of, Weighted.Weighted, Weighted.weighted}
+use Rattle.qh_model.specs.{headline.Predicates.vol, headline.Sets.In, headline.Vector.Vector, laws.SimplexSurface.simplex_surface}
+use Rattle.qh_model.proofs.algebra.{Signs.not_less, VectorIdentities.vol-flip_last}
 use Rattle.qh_model.proofs.surfaces.Closed.{sound_is_closed, sound_has_volume, seen_volume}
-use Rattle.qh_model.proofs.surfaces.{Named.IsNamed, Named.sound_named, Named.whole_named, Rewired.replace_keeps}
-use Rattle.qh_model.proofs.surfaces.Simplex.{four, middle-turned, simplex_sound}
-use Rattle.qh_model.proofs.surfaces.{Stored.live_in, Stored.in_live, Stored.live_is_listed_once, SurfaceLaws.rise_is_vol}
+use Rattle.qh_model.proofs.surfaces.{Named.IsNamed, Named.sound_named, Named.whole_named, Rewired.replace_keeps, Simplex.four, Simplex.middle-turned}
+use Rattle.qh_model.proofs.surfaces.{Simplex.simplex_sound, Stored.live_in, Stored.in_live, Stored.live_is_listed_once, SurfaceLaws.rise_is_vol}
 use Rattle.qh_mesh.specs.contract.Replacement.{is_listed, IsLive}
 use Rattle.qh_mesh.specs.contract.SoundMesh.{simplex_facets, facet_vol, IsSoundMesh, IsClosedMesh, AreVisible}
 use Rattle.qh_mesh.proofs.Rewiring.{IsStep, rewired}
 
 -- a sound mesh with a facet is closed
-pub closed_of : (at : ℕ → Vector) (fs : List StoredFacet) (s t u v f : ℕ) → IsLive fs f → IsSoundMesh at fs (middle_at at s t u v)
-    → IsClosedMesh at fs
+pub closed_of : (at : ℕ → Vector) (fs : List StoredFacet) (s t u v f : ℕ) → IsLive fs f → IsSoundMesh at fs (middle_at at s t u v) → IsClosedMesh at fs
 closed_of at fs s t u v f l z = let i = in_live fs f l in let o = live_is_listed_once fs in record {
   surface = sound_is_closed at (surface_of fs) s t u v f i o z.0 z.1;
   volume = sound_has_volume at (surface_of fs) s t u v f i o z.0 z.1;
@@ -63,8 +59,7 @@ module _ (at : ℕ → Vector) (a b c d : ℕ) where
 module _ (at : ℕ → Vector) (a b c d : ℕ) (h : pos 0 <ℤ vol (at a) (at b) (at c) (at d)) where
   pub turned_is_sound : IsSoundMesh at (simplex_facets a c b d) (middle_at at a b c d)
   turned_is_sound =
-      subst (IsSoundMesh at (simplex_facets a c b d))
-      (middle-turned (weighted (at a)) (weighted (at b)) (weighted (at c)) (weighted (at d)))
+      subst (IsSoundMesh at (simplex_facets a c b d)) (middle-turned (weighted (at a)) (weighted (at b)) (weighted (at c)) (weighted (at d)))
       (below_is_sound at a c b d (let e = vol-flip_last (at a) (at b) (at c) (at d) in omega (arith, ints)))
 
   pub turned_is_closed : IsClosedMesh at (simplex_facets a c b d)

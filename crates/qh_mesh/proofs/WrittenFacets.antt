@@ -1,13 +1,10 @@
 -- What the loops of a replacement have written after one turn more.
-use Rattle.std.proofs.Common.{slice_index, ◌≡◌, ◌≢◌, ℕ, ◌+◌, ◌/◌, ◌<◌, arith, ap, sym, ◌∙◌, refl, subst, cond, ◌⊎◌, inl, inr}
-use Rattle.std.proofs.Common.{List, length, get_or, set}
-use Rattle.std.proofs.lemmas.List.{get_or-set_same, get_or-set_other, length-set}
-use Rattle.std.proofs.lemmas.List.Sums.{sum_by-set}
-use Rattle.qh_model.specs.contract.{Surface.Side, StoredSurface.StoredFacet, StoredSurface.facet_at, StoredSurface.no_facet}
-use Rattle.qh_model.specs.contract.Surface.Side.{first, second, third}
-use Rattle.qh_mesh.specs.declared.facets.FacetSide.{FacetSide}
-use Rattle.qh_mesh.specs.contract.Edges.{edge_of, side_of_edge, twin_of}
-use Rattle.qh_mesh.specs.steps.{Kept.is_live, Kept.outer_of, Kept.with_twin, Horizons.side_at, Cones.bare, Cones.Joined, Writes.Scattered}
+use Rattle.std.proofs.Common.{slice_index, ◌≡◌, ◌≢◌, ℕ, ◌+◌, ◌/◌, ◌<◌, arith, ap, sym, ◌∙◌, refl, subst, cond, ◌⊎◌, inl, inr, List, length, get_or, set}
+use Rattle.std.proofs.lemmas.List.{get_or-set_same, get_or-set_other, length-set, Sums.sum_by-set}
+use Rattle.qh_model.specs.contract.StoredSurface.{StoredFacet, facet_at, no_facet}
+use Rattle.qh_model.specs.contract.Surface.{Side, Side.first, Side.second, Side.third}
+use Rattle.qh_mesh.specs.{contract.Edges.edge_of, contract.Edges.side_of_edge, contract.Edges.twin_of, declared.facets.FacetSide.FacetSide}
+use Rattle.qh_mesh.specs.steps.{Cones.bare, Cones.Joined, Horizons.side_at, Kept.is_live, Kept.outer_of, Kept.with_twin, Writes.Scattered}
 use Rattle.qh_mesh.proofs.{EdgeSides.edge_is, NumberCases.same_or, NumberCases.below_next}
 
 -- one more write, at a place of its own

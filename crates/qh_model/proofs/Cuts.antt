@@ -18,10 +18,7 @@ even_cut m size n xs p is len each =
     let inner : (j : ℕ) → j < n → bound (xs ++ m ∷ []) j ≡ min (j * size) m =
     (λ j h. grind (arith, below_end m size n j, cover, each j h, is, len, get_or_append_left xs (m ∷ []) 0 j)) in
     let outer : bound (xs ++ m ∷ []) n ≡ min (n * size) m = grind (arith, cover, is, len, get_or-append_seam xs m [] 0) in
-    record {
-      count = grind (arith, common_steps);
-      each = λ j h. grind (arith, inner, outer, common_steps);
-    }
+    record { count = grind (arith, common_steps); each = λ j h. grind (arith, inner, outer, common_steps) }
 
 -- an even cut of some positions into not too many blocks is a cut
 pub even_is_cut : (m size : ℕ) (bounds : List ℕ) → 0 < m → m ≤ POINT_LIMIT → 0 < size → blocks_of m size ≤ BLOCK_LIMIT → IsEvenCut m size bounds → IsCut bounds
@@ -87,8 +84,7 @@ blocks_cover bounds p cut h =
 blocks_follow : (bounds : List ℕ) (i j p : ℕ) → IsCut bounds → IsInBlock bounds i p → IsInBlock bounds j p → ¬ (i < j)
 blocks_follow bounds i j p cut a b h =
     let order : bound bounds (i + 1) ≤ bound bounds j =
-    bounds_order (bound bounds) (block_count bounds) (i + 1) j (cut_rises bounds cut) (grind (arith, h))
-    (grind (arith, b.block)) in
+    bounds_order (bound bounds) (block_count bounds) (i + 1) j (cut_rises bounds cut) (grind (arith, h)) (grind (arith, b.block)) in
     omega (arith, order, a.to, b.from)
 
 pub blocks_are_apart : BlocksAreApart
@@ -97,8 +93,7 @@ blocks_are_apart bounds i j p cut a b = grind (arith, blocks_follow bounds i j p
 -- a block ends within the positions
 pub block_ends : (bounds : List ℕ) (j : ℕ) → IsCut bounds → j < block_count bounds → bound bounds (j + 1) ≤ positions bounds
 block_ends bounds j cut h =
-    bounds_order (bound bounds) (block_count bounds) (j + 1) (block_count bounds) (cut_rises bounds cut)
-    (grind (arith, h)) (grind (arith))
+    bounds_order (bound bounds) (block_count bounds) (j + 1) (block_count bounds) (cut_rises bounds cut) (grind (arith, h)) (grind (arith))
 
 pub blocks_are_inside : BlocksAreInside
 blocks_are_inside bounds j p cut a = let order : bound bounds (j + 1) ≤ positions bounds = block_ends bounds j cut a.block in omega (arith, order, a.to)

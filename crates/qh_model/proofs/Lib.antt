@@ -1,5 +1,6 @@
 pub mod algebra
 pub mod Members
+pub mod Decisions
 pub mod lists
 pub mod combinations
 pub mod extremes

@@ -127,8 +127,7 @@ one_or_other bytes = by_option (first_off_fault bytes) refl
     small true e h = cc
     small false e h = whole bytes (off_words bytes) (grind (arith, nat_tests)) refl h
 
-    by_option : (o : Option ReadFault) → first_off_fault bytes ≡ o
-        → ((ps : List Vector) × ReadsOff bytes ps × (first_off_fault bytes ≡ None))
+    by_option : (o : Option ReadFault) → first_off_fault bytes ≡ o → ((ps : List Vector) × ReadsOff bytes ps × (first_off_fault bytes ≡ None))
         ⊎ ((f : ReadFault) × (first_off_fault bytes ≡ Some f))
     by_option None e = let r = small (nat_lt BYTE_LIMIT (length bytes)) refl e in inl (r.0, r.1, e)
     by_option (Some f) e = inr (f, e)
@@ -144,9 +143,7 @@ counts_clear (v ∷ f ∷ g ∷ ws) rest faces edges ps e some few l =
     let second : number_of f.text ≡ Some faces = cc in
     let third : number_of g.text ≡ Some edges = cc in
     let tail : numbers ws ≡ map Some (coordinates ps) = cc in
-    next_clear _ v (f ∷ g ∷ (ws ++ rest)) (pos (length ps)) first
-    (next_clear _ f (g ∷ (ws ++ rest)) faces second
-    (next_clear _ g (ws ++ rest) edges third
+    next_clear _ v (f ∷ g ∷ (ws ++ rest)) (pos (length ps)) first (next_clear _ f (g ∷ (ws ++ rest)) faces second (next_clear _ g (ws ++ rest) edges third
     (counted_clear _ ps ws rest tail some few l refl)))
 
 pub never_both : (bytes : List ℕ) (ps : List Vector) → ReadsOff bytes ps → first_off_fault bytes ≡ None

@@ -66,11 +66,7 @@ whole ws h = let w = next_number _ ws h in let v = next_number _ w.rest w.clear 
     head w v vs a b e f true q pe qe h = made w v vs a b b e f (λ n is. inl (three a pe, is)) (counted long_fault b vs h)
     head w v vs a b e f false true pe qe h =
         made w v vs a b a e f
-        (λ n is. inr (
-          (λ t. let at : is_three (pos 3) ≡ false = subst (λ (y : ℤ). is_three y ≡ false) t pe in cc),
-          three b qe,
-          is,
-        )) (counted long_fault a vs h)
+        (λ n is. inr ((λ t. let at : is_three (pos 3) ≡ false = subst (λ (y : ℤ). is_three y ≡ false) t pe in cc), three b qe, is)) (counted long_fault a vs h)
     head w v vs a b e f false false pe qe h = cc
 
 -- it is the file of some points, or it has a fault
@@ -94,8 +90,7 @@ one_or_other bytes = by_option (first_fault bytes) refl
           },
         )
 
-    by_option : (o : Option ReadFault) → first_fault bytes ≡ o
-        → ((ps : List Vector) × Reads bytes ps × (first_fault bytes ≡ None))
+    by_option : (o : Option ReadFault) → first_fault bytes ≡ o → ((ps : List Vector) × Reads bytes ps × (first_fault bytes ≡ None))
         ⊎ ((f : ReadFault) × (first_fault bytes ≡ Some f))
     by_option None e = let r = small (nat_lt BYTE_LIMIT (length bytes)) refl e in inl (r.0, r.1, e)
     by_option (Some f) e = inr (f, e)
@@ -103,8 +98,7 @@ one_or_other bytes = by_option (first_fault bytes) refl
 headed_clear : (a b : ℤ) (n : ℕ) (ws : List Word) → IsHeader a b n → counted_fault long_fault (pos n) ws ≡ None → headed_fault a b ws ≡ None
 headed_clear a b n ws (inl (first, second)) h =
     subst (λ (z : ℤ). headed_fault z b ws ≡ None) (sym first) (subst (λ (z : ℤ). counted_fault long_fault z ws ≡ None) (sym second) h)
-headed_clear a b n ws (inr (other, second, first)) h =
-    subst (λ (z : ℤ). headed_fault a z ws ≡ None) (sym second) (by_test (is_three a) refl)
+headed_clear a b n ws (inr (other, second, first)) h = subst (λ (z : ℤ). headed_fault a z ws ≡ None) (sym second) (by_test (is_three a) refl)
   where
     by_test : (t : Bool) → is_three a ≡ t → cond t (counted_fault long_fault (pos 3) ws) (counted_fault long_fault a ws) ≡ None
     by_test true e = absurd (other (three a e))

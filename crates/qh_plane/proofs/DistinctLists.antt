@@ -1,34 +1,15 @@
 -- The ids that are marked at the first key of each place are the distinct ids, whatever numbers tell the places.
-use Rattle.std.proofs.Common.{◌≡◌, ◌≢◌, ℕ, ◌+◌, ◌*◌, ◌%◌, ◌/◌, ◌<◌, ◌≤◌, List, length, get_or, map, replicate, arith}
-use Rattle.std.proofs.Common.{ap, sym, subst, ◌∙◌, refl, ◌↔◌, ◌⊎◌, inl, inr, ⊎_elim, true, false, Bool}
-use Rattle.std.proofs.lemmas.Bool.Decides.{nat_tests}
-use Rattle.std.proofs.lemmas.Bool.{cases_lt}
-use Rattle.std.proofs.lemmas.List.{length-replicate}
-use Rattle.std.proofs.lemmas.Nat.{div-mul-add, mod-mul-add}
-use Rattle.std.specs.Prelude.{IsPermutation}
-use Rattle.std.specs.List.{All, AllByRecursion as Every}
-use Rattle.std.specs.List.Sorted.{IsStrictlyIncreasing, IsNonDecreasing}
-use Rattle.qh_model.proofs.Members.{In-get_or, All-of, every_of, in_at}
-use Rattle.qh_model.proofs.lists.Images.{in_map, of_map}
-use Rattle.qh_model.specs.headline.DistinctIds.{IsDistinctId, AreDistinctIds}
+use Rattle.std.proofs.Common.{◌≡◌, ◌≢◌, ℕ, ◌+◌, ◌*◌, ◌%◌, ◌/◌, ◌<◌, ◌≤◌, List, length, get_or, map, replicate, arith, ap, sym, subst, ◌∙◌, refl, ◌↔◌, ◌⊎◌, inl}
+use Rattle.std.proofs.Common.{inr, ⊎_elim, true, false, Bool}
+use Rattle.std.proofs.lemmas.{Bool.cases_lt, Bool.Decides.nat_tests, List.length-replicate, Nat.div-mul-add, Nat.mod-mul-add}
+use Rattle.std.specs.{List.All, List.AllByRecursion as Every, List.Sorted.IsStrictlyIncreasing, List.Sorted.IsNonDecreasing, Prelude.IsPermutation}
+use Rattle.qh_model.proofs.{Members.In-get_or, Members.All-of, Members.every_of, Members.in_at, lists.Images.in_map, lists.Images.of_map}
 use Rattle.qh_model.specs.contract.IdSets.{IsIdSet}
-use Rattle.qh_model.specs.headline.Predicates.{place}
-use Rattle.qh_model.specs.headline.Sets.{In}
-use Rattle.qh_model.specs.headline.Vector.{Vector}
+use Rattle.qh_model.specs.headline.{DistinctIds.IsDistinctId, DistinctIds.AreDistinctIds, Predicates.place, Sets.In, Vector.Vector}
 use Rattle.qh_plane.proofs.KeyOrder.{IsKeyIn, TellIds, key_told, key_listed, keys_rise}
 use Rattle.qh_plane.proofs.MarkedIds.{IsMarked, in_marked_ids, of_marked_ids, marked_ids-rise, marked_only, marked_has, blank}
 use Rattle.qh_plane.proofs.PlaceStarts.{Start, IsBefore, starts_only, starts_all}
-use Rattle.qh_plane.specs.steps.Marks.{place_starts, marked, marked_ids}
-use Rattle.qh_plane.specs.steps.PlaceKeys.{AllIds}
-use Rattle.qh_plane.specs.steps.SortedPoints.{AllDiffer}
-
--- keys of one place are in order of their ids
-key_order : (c i j : ℕ) → c + i ≤ c + j → i ≤ j
-key_order c i j h = omega arith
-
--- and back
-order_key : (c i j : ℕ) → i ≤ j → c + i ≤ c + j
-order_key c i j h = omega arith
+use Rattle.qh_plane.specs.steps.{Marks.place_starts, Marks.marked, Marks.marked_ids, PlaceKeys.AllIds, SortedPoints.AllDiffer}
 
 -- the ids below a count rise
 pub rises_each : (n : ℕ) (all : List ℕ) → AllIds n all → IsStrictlyIncreasing all
@@ -57,10 +38,7 @@ pub marked_distinct : (pts : List Vector) (marks : List Bool) → ((i : ℕ) →
     → AreDistinctIds pts (marked_ids 0 marks)
 marked_distinct pts marks is = record {
   rising = marked_ids-rise marks;
-  members = λ i. (
-    λ m. only i (of_marked_ids 0 i marks m),
-    λ f. subst (λ v. In v (marked_ids 0 marks)) (omega arith) (in_marked_ids 0 i marks ((is i).1 f)),
-  );
+  members = λ i. (λ m. only i (of_marked_ids 0 i marks m), λ f. subst (λ v. In v (marked_ids 0 marks)) (omega arith) (in_marked_ids 0 i marks ((is i).1 f)));
 }
   where
     only : (i : ℕ) → IsMarked 0 i marks → IsDistinctId pts i
@@ -132,11 +110,7 @@ module _ (pts : List Vector) (room : ℕ) (code : ℕ → ℕ) (keys : List ℕ)
   position i m =
       let h = k.inside i m in let r = in_at keys (key_by room code i) (listed i m) in (
         r.0,
-        record {
-          within = r.1;
-          place_told = ap (λ v. v / room) r.2 ∙ code_in_key i h;
-          id_told = ap (λ v. v % room) r.2 ∙ id_in_key i h;
-        },
+        record { within = r.1; place_told = ap (λ v. v / room) r.2 ∙ code_in_key i h; id_told = ap (λ v. v % room) r.2 ∙ id_in_key i h },
       )
 
   -- ---- the first of each place, where the ids are all
@@ -163,9 +137,7 @@ module _ (pts : List Vector) (room : ℕ) (code : ℕ → ℕ) (keys : List ℕ)
         lt = subst (λ v. v < length pts) (sym r.2) (index_in r.0 s.has)
 
         alone : (j : ℕ) → j < i → place pts j ≢ place pts i
-        alone j h e =
-            late (key_order (code i * room) i j (subst (λ v. code i * room + i ≤ v * room + j) codes
-            (subst (λ v. v ≤ key_by room code j) is first))) h
+        alone j h e = late (omega (arith, subst (λ v. code i * room + i ≤ v * room + j) codes (subst (λ v. v ≤ key_by room code j) is first))) h
           where
             jt : j < length pts
             jt = omega (arith, h, lt)
@@ -183,21 +155,15 @@ module _ (pts : List Vector) (room : ℕ) (code : ℕ → ℕ) (keys : List ℕ)
     from_first : (i : ℕ) → IsDistinctId pts i → In i (map (λ x. x % room) (place_starts room none keys))
     from_first i f =
         subst (λ v. In v (map (λ x. x % room) (place_starts room none keys))) (id_in_key i f.0)
-        (in_map (λ x. x % room) (place_starts room none keys) (key_by room code i)
-        (starts_all room none keys (key_by room code i) up
+        (in_map (λ x. x % room) (place_starts room none keys) (key_by room code i) (starts_all room none keys (key_by room code i) up
         (record { has = listed i (every i f.0); new = λ e. other i f.0 (sym (code_in_key i f.0) ∙ e); least = least })))
       where
         least : (y : ℕ) → In y keys → y / room ≡ key_by room code i / room → key_by room code i ≤ y
-        least y m e = by_cases (cases_lt (y % room) i)
+        least y m e = ⊎_elim (λ h. absurd (f.1 (y % room) h (apart (y % room) i h f.0 codes)))
+            (λ h. subst (λ v. key_by room code i ≤ v) (sym ((told y m).is ∙ ap (λ v. v * room + y % room) codes)) (omega arith)) (cases_lt (y % room) i)
           where
             codes : code (y % room) ≡ code i
             codes = sym (code_told y m) ∙ e ∙ code_in_key i f.0
-
-            by_cases : (y % room < i) ⊎ (i ≤ y % room) → key_by room code i ≤ y
-            by_cases (inl h) = absurd (f.1 (y % room) h (apart (y % room) i h f.0 codes))
-            by_cases (inr h) =
-                subst (λ v. key_by room code i ≤ v) (sym ((told y m).is ∙ ap (λ v. v * room + y % room) codes))
-                (order_key (code i * room) i (y % room) h)
 
     -- the ids at the starts are indices of the marks
     within : Every (λ x. x % room < length (replicate (length pts) false)) (place_starts room none keys)
@@ -217,8 +183,7 @@ module _ (pts : List Vector) (room : ℕ) (code : ℕ → ℕ) (keys : List ℕ)
 
         only : (i : ℕ) → get_or marks i false ≡ true → IsDistinctId pts i
         only i e =
-            first_from i (⊎_elim (λ e. absurd (clash e)) (λ m. m)
-            (marked_only room (replicate (length pts) false) (place_starts room none keys) i e))
+            first_from i (⊎_elim (λ e. absurd (clash e)) (λ m. m) (marked_only room (replicate (length pts) false) (place_starts room none keys) i e))
           where
             clash : get_or (replicate (length pts) false) i false ≡ true → ⊥
             clash e = let n = blank (length pts) i in cc

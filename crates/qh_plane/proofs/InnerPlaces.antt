@@ -1,38 +1,24 @@
 -- Points to the left of all sides of a closed cycle: they are not extreme, so what is left without them has the polygon.
 use Rattle.std.proofs.Common.{◌≡◌, ◌≢◌, ℕ, List, [], ◌∷◌, arith, ap, sym, subst, ◌∙◌, refl, inl, inr, ⊎_elim, Bool, true, false}
-use Rattle.std.proofs.lemmas.Bool.{cases_Bool}
-use Rattle.std.proofs.lemmas.Int.{ints, by_lt_z}
+use Rattle.std.proofs.lemmas.{Bool.cases_Bool, Int.ints, Int.by_lt_z}
 use Rattle.std.specs.List.Sorted.{IsStrictlyIncreasing}
-use Rattle.std.specs.Prelude.{ℤ, pos, neg_ℤ, ◌+ℤ◌, ◌*ℤ◌, ◌≤ℤ◌, ◌<ℤ◌, ◌&&◌, not, filter}
-use Rattle.qh_model.proofs.algebra.Order.{mul-pos_neg, mul-nonpos, negative_le}
-use Rattle.qh_model.proofs.algebra.Signs.{less_differ}
-use Rattle.qh_model.proofs.algebra.VectorIdentities.{dot-minus, left-turn}
-use Rattle.qh_model.proofs.extremes.Dimensions.{triangle_of}
+use Rattle.std.specs.Prelude.{ℤ, pos, ◌+ℤ◌, ◌*ℤ◌, ◌≤ℤ◌, ◌<ℤ◌, ◌&&◌, not, filter}
+use Rattle.qh_model.proofs.algebra.{Order.mul-pos_neg, Order.mul-nonpos, Order.negative_le, Signs.less_differ, VectorIdentities.dot-minus}
+use Rattle.qh_model.proofs.{algebra.VectorIdentities.left-turn, extremes.Dimensions.triangle_of}
 use Rattle.qh_model.proofs.extremes.ExtremeIds.{members_are_combinations, combination_within, alternative_in, listed_itself}
-use Rattle.qh_model.proofs.hulls.ExtremeParts.{part_set}
-use Rattle.qh_model.proofs.hulls.SameSets.{extremes_of_part}
-use Rattle.qh_model.proofs.lists.Filters.{in_filter}
-use Rattle.qh_model.specs.headline.Combination.{Combination}
-use Rattle.qh_model.specs.headline.Dimension.{HasTriangle}
-use Rattle.qh_model.specs.headline.Extreme.{Extreme, Others}
-use Rattle.qh_model.specs.headline.Polygon.{IsPolygon}
-use Rattle.qh_model.specs.headline.Predicates.{place, left}
-use Rattle.qh_model.specs.headline.Sets.{In, Members}
-use Rattle.qh_model.specs.headline.Vector.{Vector, dot}
+use Rattle.qh_model.proofs.{hulls.ExtremeParts.part_set, hulls.SameSets.extremes_of_part, lists.Filters.in_filter}
+use Rattle.qh_model.specs.headline.{Combination.Combination, Dimension.HasTriangle, Extreme.Extreme, Extreme.Others, Polygon.IsPolygon, Predicates.place}
+use Rattle.qh_model.specs.headline.{Predicates.left, Sets.In, Sets.Members, Vector.Vector, Vector.dot}
 use Rattle.qh_model.specs.laws.Separator.{Separator}
 use Rattle.qh_plane.proofs.PlaneDirections.{bracket, bracket-fan}
-use Rattle.qh_plane.proofs.polygons.Chain.{is_left-yes}
-use Rattle.qh_plane.proofs.polygons.ComponentTurns.{turns_agree}
-use Rattle.qh_plane.proofs.polygons.PlanarIds.{flat_of, planar_triangle, two_of_triangle}
+use Rattle.qh_plane.proofs.polygons.{Chain.is_left-yes, ComponentTurns.turns_agree, PlanarIds.flat_of, PlanarIds.planar_triangle, PlanarIds.two_of_triangle}
 use Rattle.qh_plane.proofs.polygons.Turns.{IsFlat, step, left-bracket, left-swap, left-back, left-there}
-use Rattle.qh_plane.specs.contract.PlanarSets.{IsPlanarSet}
-use Rattle.qh_plane.specs.steps.Chains.{is_left, turn_of}
+use Rattle.qh_plane.specs.{contract.PlanarSets.IsPlanarSet, steps.Chains.is_left, steps.Chains.turn_of}
 use Rattle.qh_plane.specs.steps.InnerPlaces.{is_left_along, is_inside, is_outside, IsFlatSet}
 
 -- ---- triangles
 -- a point in a triangle is not beyond all its corners: a, b and c are how far these lie beyond it
-not_beyond : (tv tu uv a b c : ℤ) → tv *ℤ b ≡ tu *ℤ c +ℤ uv *ℤ a → pos 0 <ℤ tu → pos 0 <ℤ uv → tv ≤ℤ pos 0
-    → a <ℤ pos 0 → b <ℤ pos 0 → c <ℤ pos 0 → ⊥
+not_beyond : (tv tu uv a b c : ℤ) → tv *ℤ b ≡ tu *ℤ c +ℤ uv *ℤ a → pos 0 <ℤ tu → pos 0 <ℤ uv → tv ≤ℤ pos 0 → a <ℤ pos 0 → b <ℤ pos 0 → c <ℤ pos 0 → ⊥
 not_beyond tv tu uv a b c e htu huv htv ha hb hc =
     let x : pos 0 ≤ℤ (tv *ℤ b) = mul-nonpos tv b htv (negative_le b hb) in
     let y : (tu *ℤ c) <ℤ pos 0 = mul-pos_neg tu c htu hc in
@@ -41,14 +27,6 @@ not_beyond tv tu uv a b c e htu huv htv ha hb hc =
   where
     against : (x y z : ℤ) → x ≡ y +ℤ z → pos 0 ≤ℤ x → y <ℤ pos 0 → z <ℤ pos 0 → ⊥
     against x y z e h k l = omega (arith, ints)
-
--- a difference below 0
-behind : (d a b : ℤ) → d ≡ b +ℤ neg_ℤ a → b <ℤ a → d <ℤ pos 0
-behind d a b e h = omega (arith, ints)
-
--- a number and its opposite are not both above 0
-not_both : (x y : ℤ) → x ≡ neg_ℤ y → pos 0 <ℤ x → pos 0 <ℤ y → ⊥
-not_both x y e h k = omega (arith, ints)
 
 -- what holds of both holds of each
 both : (b c : Bool) → (b && c) ≡ true → (b ≡ true) × (c ≡ true)
@@ -78,8 +56,7 @@ module _ (n : Vector) (at : ℕ → Vector) (A : ℕ → Type 0) (flat : IsFlat 
 
   -- an extreme id is in no triangle of others
   no_triangle : (t u v : ℕ) → A t → A u → A v → pos 0 <ℤ to_left t u → pos 0 <ℤ to_left u v → to_left t v ≤ℤ pos 0 → ⊥
-  no_triangle t u v it iu iv tu uv tv =
-      ⊎_elim combined separated (alternative_in at (Members corners) corners (listed_itself corners) (at p))
+  no_triangle t u v it iu iv tu uv tv = ⊎_elim combined separated (alternative_in at (Members corners) corners (listed_itself corners) (at p))
     where
       corners : List ℕ
       corners = t ∷ u ∷ v ∷ []
@@ -96,12 +73,10 @@ module _ (n : Vector) (at : ℕ → Vector) (A : ℕ → Type 0) (flat : IsFlat 
       separated : Separator at (Members corners) (at p) → ⊥
       separated s =
           let beyond : (j : ℕ) → ℤ = (λ j. dot s.w (step at p j)) in
-          let below : (j : ℕ) → In j corners → beyond j <ℤ pos 0 = (λ j m. behind _ _ _ (dot-minus s.w (at j) (at p)) (s.past j m)) in
-          not_beyond (seen t v) (seen t u) (seen u v) (beyond t) (beyond u) (beyond v)
-          (bracket-fan n s.w (step at p t) (step at p u) (step at p v) flat.some
+          let below : (j : ℕ) → In j corners → beyond j <ℤ pos 0 = (λ j m. omega (arith, ints, dot-minus s.w (at j) (at p), s.past j m)) in
+          not_beyond (seen t v) (seen t u) (seen u v) (beyond t) (beyond u) (beyond v) (bracket-fan n s.w (step at p t) (step at p u) (step at p v) flat.some
           (flat.even p t e.0 it) (flat.even p u e.0 iu) (flat.even p v e.0 iv))
-          (subst (λ x. pos 0 <ℤ x) (to_left-seen t u) tu) (subst (λ x. pos 0 <ℤ x) (to_left-seen u v) uv)
-          (subst (λ x. x ≤ℤ pos 0) (to_left-seen t v) tv)
+          (subst (λ x. pos 0 <ℤ x) (to_left-seen t u) tu) (subst (λ x. pos 0 <ℤ x) (to_left-seen u v) uv) (subst (λ x. x ≤ℤ pos 0) (to_left-seen t v) tv)
           (below t (inl refl)) (below u (inr (inl refl))) (below v (inr (inr (inl refl))))
 
   -- turns of which those to the left are seen to be
@@ -111,19 +86,17 @@ module _ (n : Vector) (at : ℕ → Vector) (A : ℕ → Type 0) (flat : IsFlat 
   -- nor is it to the left of a way from u back to t, where it is to the left of that from t to u
   no_way : (turn : ℕ → ℕ → ℕ → ℤ) → AreTold turn → (t u : ℕ) (r : List ℕ) → A t → A u → ((x : ℕ) → In x r → A x)
       → pos 0 <ℤ to_left t u → is_left_along turn p u r t ≡ true → ⊥
-  no_way turn told t u [] it iu ir tu h = not_both _ _ (left-swap n (at t) (at u) (at p)) tu (told u t iu it h)
+  no_way turn told t u [] it iu ir tu h = omega (arith, ints, left-swap n (at t) (at u) (at p), tu, told u t iu it h)
   no_way turn told t u (v ∷ r) it iu ir tu h =
       let b = both _ _ h in let iv = ir v (inl refl) in
-      by_lt_z (pos 0) (to_left t v)
-      (λ tv. no_way turn told t v r it iv (λ x m. ir x (inr m)) tv b.1)
+      by_lt_z (pos 0) (to_left t v) (λ tv. no_way turn told t v r it iv (λ x m. ir x (inr m)) tv b.1)
       (λ tv. no_triangle t u v it iu iv tu (told u v iu iv b.0) tv)
 
   -- nor of all sides of a cycle
-  pub not_inside : (turn : ℕ → ℕ → ℕ → ℤ) → AreTold turn → (cycle : List ℕ) → ((x : ℕ) → In x cycle → A x)
-      → is_inside turn cycle p ≡ true → ⊥
+  pub not_inside : (turn : ℕ → ℕ → ℕ → ℤ) → AreTold turn → (cycle : List ℕ) → ((x : ℕ) → In x cycle → A x) → is_inside turn cycle p ≡ true → ⊥
   not_inside turn told [] all h = cc
   not_inside turn told (t ∷ []) all h =
-      let tp = told t t (all t (inl refl)) (all t (inl refl)) h in not_both _ _ (left-swap n (at t) (at t) (at p)) tp tp
+      let tp = told t t (all t (inl refl)) (all t (inl refl)) h in omega (arith, ints, left-swap n (at t) (at t) (at p), tp, tp)
   not_inside turn told (t ∷ u ∷ r) all h =
       let b = both _ _ h in let it = all t (inl refl) in let iu = all u (inr (inl refl)) in
       no_way turn told t u r it iu (λ x m. all x (inr (inr m))) (told t u it iu b.0) b.1
@@ -163,15 +136,7 @@ module _ (pts : List Vector) (ids part : List ℕ) (n : Vector) (h : IsPlanarSet
   triangle =
       let mixes = members_are_combinations at ids h.set.distinct in
       let t = triangle_of at (Members ids) (Extreme at (Members ids)) mixes (planar_triangle pts ids n h) in
-      record {
-        i = t.i;
-        j = t.j;
-        k = t.k;
-        has_i = extremes t.i t.has_i;
-        has_j = extremes t.j t.has_j;
-        has_k = extremes t.k t.has_k;
-        area = t.area;
-      }
+      record { i = t.i; j = t.j; k = t.k; has_i = extremes t.i t.has_i; has_j = extremes t.j t.has_j; has_k = extremes t.k t.has_k; area = t.area }
 
   -- it is flat, too
   pub outer_flat : IsFlatSet pts part n
@@ -188,12 +153,7 @@ module _ (pts : List Vector) (ids part : List ℕ) (n : Vector) (h : IsPlanarSet
   pub outer_polygon : (q : List ℕ) → IsPolygon at (Extreme at (Members part)) n q → IsPolygon at (Extreme at (Members ids)) n q
   outer_polygon q w =
       let same = extremes_of_part at ids part h.set.distinct within extremes in
-      record {
-        members = λ i. (λ m. (same i).0 ((w.members i).0 m), λ e. (w.members i).1 ((same i).1 e));
-        once = w.once;
-        round = w.round;
-        least = w.least;
-      }
+      record { members = λ i. (λ m. (same i).0 ((w.members i).0 m), λ e. (w.members i).1 ((same i).1 e)); once = w.once; round = w.round; least = w.least }
 
 -- a planar set is flat
 pub planar_flat : (pts : List Vector) (ids : List ℕ) (n : Vector) → IsPlanarSet pts ids n → IsFlatSet pts ids n

@@ -1,13 +1,10 @@
 -- The keys of the points before one, and one point more.
-use Rattle.std.proofs.Common.{◌≡◌, ℕ, ◌+◌, ◌<◌, ◌≤◌, ◌⊎◌, ◌↔◌, inl, inr, List, [], ◌∷◌, ◌++◌, Bool, true, false, length, take, set}
-use Rattle.std.proofs.Common.{arith, ap, sym, subst, ◌∙◌, refl}
-use Rattle.std.proofs.lemmas.List.{map-append, take-set, take_more_set}
+use Rattle.std.proofs.Common.{◌≡◌, ℕ, ◌+◌, ◌<◌, ◌≤◌, ◌⊎◌, ◌↔◌, inl, inr, List, [], ◌∷◌, ◌++◌, Bool, true, false, length, take, set, arith, ap, sym, subst, ◌∙◌}
+use Rattle.std.proofs.{Common.refl, lemmas.List.map-append, lemmas.List.take-set, lemmas.List.take_more_set}
 use mir.Val.{bool_byte}
 use native.Mathlib.Decide.{ℕ_discrete}
-use Rattle.qh_model.proofs.lists.Joined.{in_append, of_append}
-use Rattle.qh_model.proofs.lists.Rising.{rising_append}
-use Rattle.qh_model.specs.headline.Sets.{In}
-use Rattle.qh_model.specs.headline.Vector.{Vector}
+use Rattle.qh_model.proofs.lists.{Joined.in_append, Joined.of_append, Rising.rising_append}
+use Rattle.qh_model.specs.headline.{Sets.In, Vector.Vector}
 use Rattle.qh_plane.specs.steps.HashedKeys.{Hashes, hash_at, hashed_key_at, AreKeysBelow}
 
 -- before the first point there are no keys
@@ -72,8 +69,7 @@ pub key_written : (pts : List Vector) (some : Hashes) (n count : ℕ) (before ke
     → AreKeysBelow pts some n (take count before) → AreKeysBelow pts some (n + 1) (take (count + more) (set keys count key))
 key_written pts some n count before keys key more true room same is iff e k =
     subst (AreKeysBelow pts some (n + 1)) (sym (ap (λ m. take (count + m) (set keys count key)) e ∙ take_more_set keys count key room
-    ∙ ap (λ v. v ++ key ∷ []) same ∙ ap (λ v. take count before ++ v ∷ []) is))
-    (key_added pts some n (take count before) k (iff.0 refl))
+    ∙ ap (λ v. v ++ key ∷ []) same ∙ ap (λ v. take count before ++ v ∷ []) is)) (key_added pts some n (take count before) k (iff.0 refl))
 key_written pts some n count before keys key more false room same is iff e k =
     subst (AreKeysBelow pts some (n + 1)) (sym (ap (λ m. take m (set keys count key)) none ∙ take-set keys count key ∙ same))
     (key_left_out pts some n (take count before) k (λ s. clash (iff.1 s)))

@@ -1,10 +1,7 @@
 -- Points in one line, and points in one plane.
-use Rattle.std.proofs.Common.{◌≡◌, List, [], ◌∷◌, arith, ap, ◌∙◌, refl}
-use Rattle.std.proofs.lemmas.Int.{ints}
+use Rattle.std.proofs.{Common.◌≡◌, Common.List, Common.[], Common.◌∷◌, Common.arith, Common.ap, Common.◌∙◌, Common.refl, lemmas.Int.ints}
 use Rattle.std.specs.Prelude.{ℤ, pos, ◌+ℤ◌, ◌-ℤ◌, ◌*ℤ◌, ◌<ℤ◌, neg_ℤ}
-use Rattle.qh_model.proofs.algebra.Order.{cancel-zero}
-use Rattle.qh_model.proofs.algebra.Ring.{ring}
-use Rattle.qh_model.proofs.algebra.Ring.Expr.{add, sub as less, mul, neg}
+use Rattle.qh_model.proofs.algebra.{Order.cancel-zero, Ring.ring, Ring.Expr.add, Ring.Expr.sub as less, Ring.Expr.mul, Ring.Expr.neg}
 use Rattle.qh_model.proofs.algebra.VectorIdentities.{vec, subE, crossE, dotE, put, vector_path}
 use Rattle.qh_model.proofs.extremes.Directions.{square-positive}
 use Rattle.qh_model.specs.headline.Predicates.{cross, vol, AreInLine}
@@ -18,8 +15,7 @@ line_eq : (dx dy dz xx xy xz yx yy yz : ℤ) → (dx *ℤ dx +ℤ dy *ℤ dy +�
     *ℤ (dy *ℤ xz -ℤ dz *ℤ xy) +ℤ (yy *ℤ dx) *ℤ (dz *ℤ xx -ℤ dx *ℤ xz) +ℤ (yz *ℤ dx) *ℤ (dx *ℤ xy -ℤ dy *ℤ xx)
 line_eq dx dy dz xx xy xz yx yy yz =
     let D = vec 0 in let X = vec 1 in let Y = vec 2 in
-    ring (dx ∷ dy ∷ dz ∷ xx ∷ xy ∷ xz ∷ yx ∷ yy ∷ yz ∷ [])
-    (mul (dotE D D) (less (mul X.y Y.z) (mul X.z Y.y)))
+    ring (dx ∷ dy ∷ dz ∷ xx ∷ xy ∷ xz ∷ yx ∷ yy ∷ yz ∷ []) (mul (dotE D D) (less (mul X.y Y.z) (mul X.z Y.y)))
     (add (add (add (mul (dotE D X) (less (mul D.y Y.z) (mul D.z Y.y)))
     (mul (neg (add (mul Y.z D.z) (mul Y.y D.y))) (less (mul D.y X.z) (mul D.z X.y)))) (mul (mul Y.y D.x)
     (less (mul D.z X.x) (mul D.x X.z)))) (mul (mul Y.z D.x) (less (mul D.x X.y) (mul D.y X.x)))) refl
@@ -35,23 +31,13 @@ line_x : (dx dy dz xx xy xz yx yy yz : ℤ) → pos 0 <ℤ (dx *ℤ dx +ℤ dy *
 line_x dx dy dz xx xy xz yx yy yz n p q r s =
     cancel-zero (dx *ℤ dx +ℤ dy *ℤ dy +ℤ dz *ℤ dz) (xy *ℤ yz -ℤ xz *ℤ yy) n (four_zero _ _ _ _ _ _ _ _ _ (line_eq dx dy dz xx xy xz yx yy yz) s p q r)
 
--- a sum told from another term
-turn_sum : (a b c : ℤ) → pos 0 <ℤ (a +ℤ b +ℤ c) → pos 0 <ℤ (b +ℤ c +ℤ a)
-turn_sum a b c h = omega (arith, ints)
-
 -- directions that are both along d are along each other
 pair_line : (d x y : Vector) → pos 0 <ℤ dot d d → cross_product d x ≡ origin → cross_product d y ≡ origin → cross_product x y ≡ origin
 pair_line d x y n p q =
-    let n' = turn_sum (d.x *ℤ d.x) (d.y *ℤ d.y) (d.z *ℤ d.z) n in
-    let n'' = turn_sum (d.y *ℤ d.y) (d.z *ℤ d.z) (d.x *ℤ d.x) n' in
     vector_path (cross_product x y) origin
     (line_x d.x d.y d.z x.x x.y x.z y.x y.y y.z n (ap (λ v. v.x) p) (ap (λ v. v.y) p) (ap (λ v. v.z) p) (ap (λ v. v.x) q))
-    (line_x d.y d.z d.x x.y x.z x.x y.y y.z y.x n' (ap (λ v. v.y) p) (ap (λ v. v.z) p) (ap (λ v. v.x) p) (ap (λ v. v.y) q))
-    (line_x d.z d.x d.y x.z x.x x.y y.z y.x y.y n'' (ap (λ v. v.z) p) (ap (λ v. v.x) p) (ap (λ v. v.y) p) (ap (λ v. v.z) q))
-
--- a difference of zeros is zero
-parts : (u v w l : ℤ) → l ≡ u -ℤ v -ℤ w → u ≡ pos 0 → v ≡ pos 0 → w ≡ pos 0 → l ≡ pos 0
-parts u v w l e p q r = omega (arith, ints)
+    (line_x d.y d.z d.x x.y x.z x.x y.y y.z y.x (omega (arith, ints)) (ap (λ v. v.y) p) (ap (λ v. v.z) p) (ap (λ v. v.x) p) (ap (λ v. v.y) q))
+    (line_x d.z d.x d.y x.z x.x x.y y.z y.x y.y (omega (arith, ints)) (ap (λ v. v.z) p) (ap (λ v. v.x) p) (ap (λ v. v.y) p) (ap (λ v. v.z) q))
 
 -- what is in line with i and j is in one line
 pub three_line : (i j a b c : Vector) → pos 0 <ℤ dot (minus j i) (minus j i) → AreInLine i j a → AreInLine i j b → AreInLine i j c → AreInLine a b c
@@ -65,9 +51,9 @@ three_line i j a b c n p q r =
     let y = crossE (subE B I) (subE A I) in let z = crossE (subE A I) (subE C I) in
     let env : List ℤ = put i (put a (put b (put c []))) in
     vector_path (cross_product (minus b a) (minus c a)) origin
-    (parts _ _ _ _ (ring env whole.x (less (less x.x y.x) z.x) refl) (ap (λ v. v.x) bc) (ap (λ v. v.x) ba) (ap (λ v. v.x) ac))
-    (parts _ _ _ _ (ring env whole.y (less (less x.y y.y) z.y) refl) (ap (λ v. v.y) bc) (ap (λ v. v.y) ba) (ap (λ v. v.y) ac))
-    (parts _ _ _ _ (ring env whole.z (less (less x.z y.z) z.z) refl) (ap (λ v. v.z) bc) (ap (λ v. v.z) ba) (ap (λ v. v.z) ac))
+    (omega (arith, ints, ring env whole.x (less (less x.x y.x) z.x) refl, ap (λ v. v.x) bc, ap (λ v. v.x) ba, ap (λ v. v.x) ac))
+    (omega (arith, ints, ring env whole.y (less (less x.y y.y) z.y) refl, ap (λ v. v.y) bc, ap (λ v. v.y) ba, ap (λ v. v.y) ac))
+    (omega (arith, ints, ring env whole.z (less (less x.z y.z) z.z) refl, ap (λ v. v.z) bc, ap (λ v. v.z) ba, ap (λ v. v.z) ac))
 
 -- points with no difference are equal
 pub same_point : (p q : Vector) → minus q p ≡ origin → p ≡ q

@@ -1,26 +1,16 @@
 -- The distinct ids by each of the two keys: by the number of the place, and by a hash of it.
-use Rattle.std.proofs.Common.{◌≡◌, ◌≢◌, ℕ, ◌+◌, ◌-◌, ◌*◌, ◌%◌, ◌/◌, ◌<◌, ◌≤◌, ◌⊎◌, inl, inr, List, length}
-use Rattle.std.proofs.Common.{get_or, replicate, false, arith, ap, sym, subst, ◌∙◌, IsPermutation}
-use Rattle.std.proofs.lemmas.Bool.{cases_lt}
-use Rattle.std.specs.List.{All}
-use Rattle.std.specs.List.Sorted.{IsNonDecreasing}
+use Rattle.std.proofs.Common.{⊎_elim, ◌≡◌, ◌≢◌, ℕ, ◌+◌, ◌-◌, ◌%◌, ◌/◌, ◌<◌, ◌≤◌, ◌⊎◌, inl, inr, List, length, get_or, replicate, false, arith, ap, sym, subst}
+use Rattle.std.proofs.{Common.◌∙◌, Common.IsPermutation, lemmas.Bool.cases_lt}
+use Rattle.std.specs.List.{All, Sorted.IsNonDecreasing}
 use Rattle.qh_model.proofs.Members.{All-In, In-get_or}
-use Rattle.qh_model.specs.declared.limits.TheConstants.{POINT_LIMIT}
-use Rattle.qh_model.specs.contract.Places.{IsPlace}
-use Rattle.qh_model.specs.headline.DistinctIds.{AreDistinctIds}
-use Rattle.qh_model.specs.headline.Predicates.{place}
-use Rattle.qh_model.specs.headline.Sets.{In}
-use Rattle.qh_model.specs.headline.Vector.{Vector}
-use Rattle.qh_plane.proofs.DistinctLists.{AreSortedKeys, StandsAt, all_in, in_all, rises_each, all_within, index_in, up}
-use Rattle.qh_plane.proofs.DistinctLists.{position, distinct_ids}
+use Rattle.qh_model.specs.{contract.Places.IsPlace, declared.limits.TheConstants.POINT_LIMIT}
+use Rattle.qh_model.specs.headline.{DistinctIds.AreDistinctIds, Predicates.place, Sets.In, Vector.Vector}
+use Rattle.qh_plane.proofs.DistinctLists.{AreSortedKeys, StandsAt, all_in, in_all, rises_each, all_within, index_in, up, position, distinct_ids}
 use Rattle.qh_plane.proofs.PlaceOrder.{place_code-same, biased_small}
-use Rattle.qh_plane.specs.declared.distinct_points.TheConstants.{NO_PLACE}
-use Rattle.qh_plane.specs.declared.hashed_keys.TheConstants.{ID_ROOM}
-use Rattle.qh_plane.specs.declared.place_keys.TheConstants.{ROOM}
+use Rattle.qh_plane.specs.declared.{distinct_points.TheConstants.NO_PLACE, hashed_keys.TheConstants.ID_ROOM, place_keys.TheConstants.ROOM}
 use Rattle.qh_plane.specs.steps.HashedKeys.{place_hash, hash_at, Hashes, WithHashes, AreKeysBelow, AreHashedKeys, IsRepeat, RepeatsTold}
 use Rattle.qh_plane.specs.steps.Marks.{place_starts, marked, marked_ids}
-use Rattle.qh_plane.specs.steps.PlaceKeys.{biased, place_code, place_key, HasKey, ArePlaceKeys}
-use Rattle.qh_plane.specs.steps.Repeats.{IsRepeatedId, AreRepeats}
+use Rattle.qh_plane.specs.steps.{PlaceKeys.place_code, PlaceKeys.place_key, PlaceKeys.HasKey, PlaceKeys.ArePlaceKeys, Repeats.IsRepeatedId, Repeats.AreRepeats}
 
 -- no number has the number of none
 below_none : {c n : ℕ} → c < n → c ≢ n
@@ -48,18 +38,13 @@ module _ (pts : List Vector) (keys : List ℕ) (k : ArePlaceKeys pts keys) (risi
 
   other : (i : ℕ) → i < length pts → code i ≢ NO_PLACE
   unfolding place_code
-  other i h =
-      below_none (bound (biased p.x) (biased p.y) (biased p.z) (biased_small p.x in_place.x) (biased_small p.y in_place.y)
-      (biased_small p.z in_place.z))
+  other i h = below_none (omega (arith, biased_small p.x in_place.x, biased_small p.y in_place.y, biased_small p.z in_place.z))
     where
       p : Vector
       p = place pts i
 
       in_place : IsPlace p
       in_place = (known_at i h).place_in
-
-      bound : (a b c : ℕ) → a < ROOM → b < ROOM → c < ROOM → (a * ROOM + b) * ROOM + c < NO_PLACE
-      bound a b c h k l = omega arith
 
   -- the ids in the keys are indices
   pub places_within : All (λ x. x % ROOM < length pts) keys
@@ -102,14 +87,11 @@ module _ (pts : List Vector) (some : Hashes) (keys : List ℕ) (few : length pts
 
   -- of two ids with one hash, the key of the lower one stands before
   stands_before : (i j p q : ℕ) → i < j → hash i ≡ hash j → StandsAt ID_ROOM hash keys i p → StandsAt ID_ROOM hash keys j q → p < q
-  stands_before i j p q l e s t = by_cases (cases_lt p q)
+  stands_before i j p q l e s t =
+      ⊎_elim (λ h. h) (λ h. absurd (back (key p) (key q) s.place_told t.place_told s.id_told t.id_told (rising q p 0 h s.within))) (cases_lt p q)
     where
       back : (x y : ℕ) → x / ID_ROOM ≡ hash i → y / ID_ROOM ≡ hash j → x % ID_ROOM ≡ i → y % ID_ROOM ≡ j → y ≤ x → ⊥
       back x y a b c d h = omega (arith, l, e, a, b, c, d, h)
-
-      by_cases : (p < q) ⊎ (q ≤ p) → p < q
-      by_cases (inl h) = h
-      by_cases (inr h) = absurd (back (key p) (key q) s.place_told t.place_told s.id_told t.id_told (rising q p 0 h s.within))
 
   module _ (ids : List ℕ) (told : RepeatsTold pts keys (length keys) ids) where
     -- the key of an id with a lower one of its place repeats the key before
@@ -166,8 +148,7 @@ module _ (pts : List Vector) (some : Hashes) (keys : List ℕ) (few : length pts
             adjacent n e = subst (λ m. IsRepeat pts (key p.0) (key m)) (sym e)
                 (same, ap (place pts) p.1.id_told ∙ r.3 ∙ ap (place pts) (sym q.1.id_told))
         by_cases (inl g) =
-            subst (λ n. In (key n % ID_ROOM) ids) two
-            (third (q.0 - 2) (omega (arith, g)) (subst (λ n. n < length keys) (sym two) q.1.within)
+            subst (λ n. In (key n % ID_ROOM) ids) two (third (q.0 - 2) (omega (arith, g)) (subst (λ n. n < length keys) (sym two) q.1.within)
             (subst (λ n. key p.0 / ID_ROOM ≡ key n / ID_ROOM) (sym two) same))
           where
             two : q.0 - 2 + 2 ≡ q.0
@@ -204,7 +185,5 @@ module _ (pts : List Vector) (some : Hashes) (given keys : List ℕ) (few : leng
   sorted_within read e = subst (All (λ x. x % ID_ROOM < length pts)) (sym e) (hashes_within pts some keys few hashed_keys rising)
 
   -- and those told are the ids of the points that stand before
-  pub sorted_repeats : (read : List ℕ) → read ≡ keys → (ids : List ℕ) → RepeatsTold pts read (length read) ids
-      → AreRepeats pts (WithHashes pts some) ids
-  sorted_repeats read e ids told =
-      repeats_are pts some keys few hashed_keys rising ids (subst (λ v. RepeatsTold pts v (length v) ids) e told)
+  pub sorted_repeats : (read : List ℕ) → read ≡ keys → (ids : List ℕ) → RepeatsTold pts read (length read) ids → AreRepeats pts (WithHashes pts some) ids
+  sorted_repeats read e ids told = repeats_are pts some keys few hashed_keys rising ids (subst (λ v. RepeatsTold pts v (length v) ids) e told)

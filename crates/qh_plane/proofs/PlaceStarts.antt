@@ -68,8 +68,7 @@ starts_only-split room c k ks x false e r l f g (inr i) =
 pub starts_only : (room c : ℕ) (ks : List ℕ) (x : ℕ) → IsStrictlyIncreasing ks → IsBefore room c ks → In x (place_starts room c ks) → Start room c ks x
 starts_only room c [] x r l i = absurd i
 starts_only room c (k ∷ ks) x r l i =
-    starts_only-split room c k ks x (eqb (k / room) c) refl r l
-    (starts_only room c ks x (rising_tail k ks r) (below_tail room c k ks l))
+    starts_only-split room c k ks x (eqb (k / room) c) refl r l (starts_only room c ks x (rising_tail k ks r) (below_tail room c k ks l))
     (starts_only room (k / room) ks x (rising_tail k ks r) (next_below room k ks r)) i
 
 -- the same, the other way

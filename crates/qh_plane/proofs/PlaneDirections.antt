@@ -1,11 +1,8 @@
 -- Directions in one plane: their brackets, and that three of them have no volume.
-use Rattle.std.proofs.Common.{◌≡◌, ℕ, refl, [], arith, ◌∙◌}
-use Rattle.std.proofs.lemmas.Int.{ints}
+use Rattle.std.proofs.{Common.◌≡◌, Common.ℕ, Common.refl, Common.[], Common.arith, Common.◌∙◌, lemmas.Int.ints}
 use Rattle.std.specs.Prelude.{ℤ, pos, ◌+ℤ◌, ◌-ℤ◌, ◌*ℤ◌, ◌≤ℤ◌, ◌<ℤ◌}
-use Rattle.qh_model.proofs.algebra.Order.{mul-nonneg, mul-pos, cancel-nonneg, cancel-pos, cancel-zero}
-use Rattle.qh_model.proofs.algebra.Integers.{mul_comm}
-use Rattle.qh_model.proofs.algebra.Ring.{Expr, ring}
-use Rattle.qh_model.proofs.algebra.Ring.Expr.{add, sub as less, mul}
+use Rattle.qh_model.proofs.algebra.{Integers.mul_comm, Order.mul-nonneg, Order.mul-pos, Order.cancel-nonneg, Order.cancel-pos, Order.cancel-zero}
+use Rattle.qh_model.proofs.algebra.Ring.{Expr, ring, Expr.add, Expr.sub as less, Expr.mul}
 use Rattle.qh_model.proofs.algebra.VectorIdentities.{vec, crossE, dotE, detE, put}
 use Rattle.qh_model.specs.headline.Vector.{Vector, cross_product, dot}
 
@@ -24,8 +21,7 @@ bracketE i j = dotE (crossE (vec i) (vec j)) (vec 0)
 -- a volume by brackets in a plane, times n . n
 determinant-square : (n a b c : Vector) → dot n n *ℤ determinant a b c ≡ dot n a *ℤ bracket n b c +ℤ dot n b *ℤ bracket n c a +ℤ dot n c *ℤ bracket n a b
 determinant-square n a b c =
-    ring (put n (put a (put b (put c []))))
-    (mul (dotE (vec 0) (vec 0)) (detE (vec 1) (vec 2) (vec 3)))
+    ring (put n (put a (put b (put c [])))) (mul (dotE (vec 0) (vec 0)) (detE (vec 1) (vec 2) (vec 3)))
     (add (add (mul (dotE (vec 0) (vec 1)) (bracketE 2 3)) (mul (dotE (vec 0) (vec 2)) (bracketE 3 1))) (mul (dotE (vec 0) (vec 3)) (bracketE 1 2))) refl
 
 -- a combination of zeros is zero
@@ -34,14 +30,12 @@ all_zero d p q r x y z e h i j = rw (h, i, j) at e ∙ omega (arith, ints)
 
 -- three directions across n have no volume
 pub determinant-zero : (n a b c : Vector) → pos 0 <ℤ dot n n → dot n a ≡ pos 0 → dot n b ≡ pos 0 → dot n c ≡ pos 0 → determinant a b c ≡ pos 0
-determinant-zero n a b c s h i j =
-    cancel-zero (dot n n) (determinant a b c) s (all_zero _ _ _ _ _ _ _ (determinant-square n a b c) h i j)
+determinant-zero n a b c s h i j = cancel-zero (dot n n) (determinant a b c) s (all_zero _ _ _ _ _ _ _ (determinant-square n a b c) h i j)
 
 -- four directions: brackets of three along h, but for their volume
 bracket-plane : (n h a b c : Vector) → bracket n a c *ℤ dot h b ≡ bracket n a b *ℤ dot h c +ℤ bracket n b c *ℤ dot h a -ℤ determinant a b c *ℤ dot h n
 bracket-plane n h a b c =
-    ring (put n (put a (put b (put c (put h [])))))
-    (mul (bracketE 1 3) (dotE (vec 4) (vec 2)))
+    ring (put n (put a (put b (put c (put h []))))) (mul (bracketE 1 3) (dotE (vec 4) (vec 2)))
     (less (add (mul (bracketE 1 2) (dotE (vec 4) (vec 3))) (mul (bracketE 2 3) (dotE (vec 4) (vec 1))))
     (mul (detE (vec 1) (vec 2) (vec 3)) (dotE (vec 4) (vec 0)))) refl
 

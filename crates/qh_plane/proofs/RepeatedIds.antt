@@ -1,30 +1,21 @@
 -- Points that stand before: told key by key, joined from parts of the hashes, and left out.
-use Rattle.std.proofs.Common.{◌≡◌, ◌≢◌, ℕ, zero, suc, ◌+◌, ◌-◌, ◌^◌, ◌*◌, ◌/◌, ◌%◌, ◌<◌, ◌≤◌, ◌⊎◌, inl, inr, List, [], ◌∷◌, ◌++◌, Bool, true, false, length}
-use Rattle.std.proofs.Common.{get_or, set, replicate, arith, ap, sym, subst, ◌∙◌, refl, get_or-set_same, get_or-set_other}
-use Rattle.std.proofs.lemmas.Bool.{cases_lt}
-use Rattle.std.proofs.lemmas.List.{length-set, get_or-replicate, length-replicate}
+use Rattle.std.proofs.Common.{◌≡◌, ◌≢◌, ℕ, zero, suc, ◌+◌, ◌-◌, ◌*◌, ◌/◌, ◌%◌, ◌<◌, ◌≤◌, ◌⊎◌, inl, inr, List, [], ◌∷◌, ◌++◌, Bool, true, false, length}
+use Rattle.std.proofs.Common.{get_or, set, replicate, arith, ap, sym, subst, ◌∙◌, refl, get_or-set_same, get_or-set_other, ⊎_elim}
 use Rattle.std.proofs.Math.Nat.{div-lt_iff_lt-mul, mul-lt-mul_of_pos_right}
+use Rattle.std.proofs.lemmas.{Bool.cases_lt, List.length-set, List.get_or-replicate, List.length-replicate}
 use native.Mathlib.Decide.{ℕ_discrete}
 use Rattle.qh_model.proofs.lists.Joined.{in_append, of_append}
-use Rattle.qh_model.specs.headline.DistinctIds.{IsDistinctId, AreDistinctIds}
-use Rattle.qh_model.specs.headline.Predicates.{place}
-use Rattle.qh_model.specs.headline.Sets.{In}
-use Rattle.qh_model.specs.headline.Vector.{Vector}
+use Rattle.qh_model.specs.headline.{DistinctIds.IsDistinctId, DistinctIds.AreDistinctIds, Predicates.place, Sets.In, Vector.Vector}
 use Rattle.qh_plane.proofs.DistinctLists.{all_distinct, marked_distinct}
-use Rattle.qh_plane.specs.declared.hashed_keys.TheConstants.{ID_ROOM, NO_HASH, MIXER}
-use Rattle.qh_plane.specs.steps.HashedKeys.{place_number, place_hash, hash_at, PartHashes, WithHashes, IsRepeat, RepeatsTold}
-use Rattle.qh_plane.specs.steps.Marks.{marked_ids}
-use Rattle.qh_plane.specs.steps.PlaceKeys.{AllIds}
+use Rattle.qh_plane.specs.declared.hashed_keys.TheConstants.{ID_ROOM, NO_HASH}
+use Rattle.qh_plane.specs.steps.HashedKeys.{place_hash, hash_at, PartHashes, WithHashes, IsRepeat, RepeatsTold}
+use Rattle.qh_plane.specs.steps.{Marks.marked_ids, PlaceKeys.AllIds}
 use Rattle.qh_plane.specs.steps.Repeats.{Ids, PartsBelow, IsRepeatedId, AreRepeats, AreAllRepeats, MarksWithout}
 
 -- ---- key by key
 -- the first key repeats none
 pub none_told : (pts : List Vector) (keys : List ℕ) → RepeatsTold pts keys 1 []
-none_told pts keys = record {
-  tells = λ j l. absurd (omega (arith, l));
-  has = λ j l. absurd (omega (arith, l));
-  only = λ i m. absurd m;
-}
+none_told pts keys = record { tells = λ j l. absurd (omega (arith, l)); has = λ j l. absurd (omega (arith, l)); only = λ i m. absurd m }
 
 module _ (pts : List Vector) (keys : List ℕ) (j : ℕ) (ids : List ℕ) (some : 1 ≤ j) (told : RepeatsTold pts keys j ids) where
   abbrev key : ℕ → ℕ
@@ -64,11 +55,7 @@ module _ (pts : List Vector) (keys : List ℕ) (j : ℕ) (ids : List ℕ) (some 
 
   -- and none that doesn't, where it is not the third of its hash
   pub new_told : (IsRepeat pts (key (j - 1)) (key j) → ⊥) → (2 ≤ j → key (j - 2) / ID_ROOM ≢ key j / ID_ROOM) → RepeatsTold pts keys (j + 1) ids
-  new_told new apart = record {
-    tells = λ i l w e. tells i l w e (ℕ_discrete (i + 2) j);
-    has = λ i l w r. has i l w r (ℕ_discrete (i + 1) j);
-    only = told.only;
-  }
+  new_told new apart = record { tells = λ i l w e. tells i l w e (ℕ_discrete (i + 2) j); has = λ i l w r. has i l w r (ℕ_discrete (i + 1) j); only = told.only }
     where
       tells : (i : ℕ) → i + 2 < j + 1 → i + 2 < length keys → key i / ID_ROOM ≡ key (i + 2) / ID_ROOM → Dec (i + 2 ≡ j)
           → IsRepeat pts (key (i + 1)) (key (i + 2))
@@ -109,11 +96,7 @@ repeats_joined pts part n xs ys a b = record {
 }
   where
     below_next : (q i : ℕ) → q < i + 1 → (q < i) ⊎ (q ≡ i)
-    below_next q i h = by_cases (cases_lt q i)
-      where
-        by_cases : (q < i) ⊎ (i ≤ q) → (q < i) ⊎ (q ≡ i)
-        by_cases (inl l) = inl l
-        by_cases (inr g) = inr (omega (arith, h, g))
+    below_next q i h = ⊎_elim (λ l. inl l) (λ g. inr (omega (arith, h, g))) (cases_lt q i)
 
     listed : (i : ℕ) → IsRepeatedId pts i → (k : ℕ) → part k i → (k < n) ⊎ (k ≡ n) → In i xs ⊎ In i ys
     listed i r k s (inl l) = inl (a.has i (k, l, s) r)
@@ -136,13 +119,9 @@ pub repeats_of_parts : (pts : List Vector) (part : ℕ → Ids) (n : ℕ) (ids :
     → AreRepeats pts (PartsBelow part n) ids → AreAllRepeats pts ids
 repeats_of_parts pts part n ids each r = record { has = λ i s. r.has i (each i); only = r.only }
 
--- a hash lies in one of the parts
-hash_small : (n : ℕ) → n % 2 ^ 64 / ID_ROOM < NO_HASH
-hash_small n = omega arith
-
 place_hash_small : (p : Vector) → place_hash p < NO_HASH
 unfolding place_hash
-place_hash_small p = hash_small (place_number p * MIXER)
+place_hash_small p = omega arith
 
 part_small : (h n : ℕ) → h < NO_HASH → 0 < n → h * n / NO_HASH < n
 part_small h n l some = (div-lt_iff_lt-mul (omega arith)).1 (other_way (h * n) (mul-lt-mul_of_pos_right l some))
@@ -157,16 +136,11 @@ hash_part pts n some i = (hash_at pts i * n / NO_HASH, part_small (hash_at pts i
 -- ---- left out
 -- where no point stands before, all ids are distinct
 pub none_repeated : (pts : List Vector) (all ids : List ℕ) → AllIds (length pts) all → AreAllRepeats pts ids → ids ≡ [] → AreDistinctIds pts all
-none_repeated pts all ids a r none =
-    all_distinct pts all a (λ i j l h e. subst (In j) none (r.has j tt (h, i, l, e)))
+none_repeated pts all ids a r none = all_distinct pts all a (λ i j l h e. subst (In j) none (r.has j tt (h, i, l, e)))
 
 -- at first every mark is set
 pub all_marked : (count : ℕ) → MarksWithout count [] (replicate count true)
-all_marked count = record {
-  len = length-replicate count true;
-  has = λ i l n. get_or-replicate count i true false l;
-  only = λ i e m. m;
-}
+all_marked count = record { len = length-replicate count true; has = λ i l n. get_or-replicate count i true false l; only = λ i e m. m }
 
 -- one mark more is taken away
 pub mark_taken : (count : ℕ) (ids : List ℕ) (marks : List Bool) (k : ℕ) → k < count → MarksWithout count ids marks
@@ -185,8 +159,7 @@ mark_taken count ids marks k h m = record {
     clash e = cc
 
     by_decision : (i : ℕ) → get_or (set marks k false) i false ≡ true → In i ids ⊎ In i (k ∷ []) → Dec (i ≡ k) → ⊥
-    by_decision i e a (yes q) =
-        clash (sym e ∙ ap (λ v. get_or (set marks k false) v false) q ∙ get_or-set_same marks k false false here)
+    by_decision i e a (yes q) = clash (sym e ∙ ap (λ v. get_or (set marks k false) v false) q ∙ get_or-set_same marks k false false here)
     by_decision i e (inl a) (no ne) = m.only i (sym (get_or-set_other marks k i false false ne) ∙ e) a
     by_decision i e (inr (inl q)) (no ne) = ne q
     by_decision i e (inr (inr a)) (no ne) = a

@@ -1,18 +1,13 @@
 -- Points of a small box, point by point: what stands in the slots, and which ids are distinct.
-use Rattle.std.proofs.Common.{◌≡◌, ◌≢◌, ◌∙◌, ℕ, ◌+◌, ◌<◌, ◌≤◌, ◌⊎◌, inl, inr, List, [], ◌∷◌, ◌++◌, length, set}
-use Rattle.std.proofs.Common.{replicate, slice_index_or, arith, ap, sym, subst, get_or-set_same, get_or-set_other}
+use Rattle.std.proofs.Common.{◌≡◌, ◌≢◌, ◌∙◌, ℕ, ◌+◌, ◌<◌, ◌≤◌, ◌⊎◌, inl, inr, List, [], ◌∷◌, ◌++◌, length, set, replicate, slice_index_or, arith, ap, sym}
+use Rattle.std.proofs.Common.{subst, get_or-set_same, get_or-set_other}
 use Rattle.std.proofs.lemmas.List.{get_or_read, length-set, get_or-replicate, length-replicate}
 use Rattle.std.specs.List.Sorted.{IsStrictlyIncreasing}
 use native.Mathlib.Decide.{ℕ_discrete}
-use Rattle.qh_model.specs.headline.Vector.{Vector, origin}
-use Rattle.qh_model.specs.headline.Predicates.{place}
-use Rattle.qh_model.specs.headline.Sets.{In}
-use Rattle.qh_model.specs.headline.DistinctIds.{IsDistinctId, AreDistinctIds}
 use Rattle.qh_model.specs.declared.limits.TheConstants.{POINT_LIMIT}
-use Rattle.qh_model.proofs.lists.Joined.{in_append, of_append}
-use Rattle.qh_model.proofs.lists.Rising.{rising_append}
-use Rattle.qh_plane.specs.declared.close_points.CloseBox.{CloseBox}
-use Rattle.qh_plane.specs.declared.close_points.TheConstants.{NO_ID}
+use Rattle.qh_model.specs.headline.{DistinctIds.IsDistinctId, DistinctIds.AreDistinctIds, Predicates.place, Sets.In, Vector.Vector, Vector.origin}
+use Rattle.qh_model.proofs.lists.{Joined.in_append, Joined.of_append, Rising.rising_append}
+use Rattle.qh_plane.specs.declared.close_points.{CloseBox.CloseBox, TheConstants.NO_ID}
 use Rattle.qh_plane.specs.steps.CloseBoxes.{slot_of, slot_at, HasFirst, HaveFirsts, AreSeen}
 
 -- a point that was read is that of its id
@@ -146,11 +141,7 @@ module _ (pts : List Vector) (b : CloseBox) (slots : List ℕ) (k : ℕ) (ids : 
   -- a slot that no point has come to: one more distinct id
   module _ (room : slot_of b (place pts k) < length slots) (free : slot_at slots (slot_of b (place pts k)) ≡ NO_ID) where
     pub new_seen : AreSeen pts b (set slots (slot_of b (place pts k)) k) (k + 1) (ids ++ k ∷ [])
-    new_seen = record {
-      firsts = new_firsts pts every (slot_of b) slots k old.firsts within few room free;
-      rising = rises;
-      members = λ i. (to i, from i);
-    }
+    new_seen = record { firsts = new_firsts pts every (slot_of b) slots k old.firsts within few room free; rising = rises; members = λ i. (to i, from i) }
       where
         one : (i : ℕ) → In i ids ⊎ In i (k ∷ []) → IsDistinctId pts i × (i < k + 1)
         one i (inl m) = let h = (old.members i).0 m in let l = h.1 in (h.0, omega (arith, l))

@@ -1,15 +1,10 @@
 -- The shape of a set of ids tells its dimension.
 use Rattle.std.proofs.Common.{◌≡◌, ℕ, ◌<◌, List, length, get_or, arith, sym, subst, ◌∙◌, refl, inl, inr}
-use Rattle.std.proofs.lemmas.Grind.{get_or_default_zero}
-use Rattle.std.proofs.Math.Nat.{ne_of_lt}
+use Rattle.std.proofs.{Math.Nat.ne_of_lt, lemmas.Grind.get_or_default_zero}
 use Rattle.std.specs.List.Sorted.{IsStrictlyIncreasing}
-use Rattle.qh_model.proofs.Members.{In-get_or, in_at}
-use Rattle.qh_model.proofs.extremes.Directions.{square-positive}
-use Rattle.qh_model.specs.headline.Dimension.{HasTriangle, HasSegment, IsDimension}
-use Rattle.qh_model.specs.contract.IdSets.{IsIdSet}
-use Rattle.qh_model.specs.headline.Predicates.{place}
-use Rattle.qh_model.specs.headline.Sets.{In, Members}
-use Rattle.qh_model.specs.headline.Vector.{Vector, minus}
+use Rattle.qh_model.proofs.{Members.In-get_or, Members.in_at, extremes.Directions.square-positive}
+use Rattle.qh_model.specs.{contract.IdSets.IsIdSet, headline.Dimension.HasTriangle}
+use Rattle.qh_model.specs.headline.{Dimension.HasSegment, Dimension.IsDimension, Predicates.place, Sets.In, Sets.Members, Vector.Vector, Vector.minus}
 use Rattle.qh_plane.proofs.LinesAndPlanes.{three_line, four_plane, same_point}
 use Rattle.qh_plane.specs.contract.Shapes.{IsInLine, IsInPlane, IsFirstNot, Each, AreFirstTwo}
 
@@ -24,11 +19,7 @@ listed ids m i h e = subst (λ v. In v ids) e (In-get_or ids m 0 h)
 -- the first two, as the code reads them
 pub first_two : (ids : List ℕ) (i j : ℕ) → 1 < length ids → i ≡ get_or ids 0 i → j ≡ get_or ids 1 j → AreFirstTwo ids i j
 first_two ids i j h p q =
-    record {
-      two = h;
-      first = sym (get_or_default_zero ids 0 i (omega arith)) ∙ sym p;
-      second = sym (get_or_default_zero ids 1 j h) ∙ sym q;
-    }
+    record { two = h; first = sym (get_or_default_zero ids 0 i (omega arith)) ∙ sym p; second = sym (get_or_default_zero ids 1 j h) ∙ sym q }
 
 -- the first two are a segment
 two : (ids : List ℕ) (i j : ℕ) → AreFirstTwo ids i j → IsStrictlyIncreasing ids → HasSegment (Members ids)

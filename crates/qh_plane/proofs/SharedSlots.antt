@@ -1,12 +1,9 @@
 -- Slots of a table that hashes come to: point by point, and what a table shows in the end.
-use Rattle.std.proofs.Common.{◌≡◌, ℕ, ◌+◌, ◌<◌, List, Bool, true, false, ◌||◌, length, arith, ap, sym, subst, ◌∙◌, refl}
-use Rattle.std.proofs.Common.{get_or, set, get_or-set_same, get_or-set_other}
-use Rattle.std.proofs.lemmas.List.{length-set}
+use Rattle.std.proofs.Common.{◌≡◌, ℕ, ◌+◌, ◌<◌, List, Bool, true, false, ◌||◌, length, arith, ap, sym, subst, ◌∙◌, refl, get_or, set, get_or-set_same}
+use Rattle.std.proofs.{Common.get_or-set_other, lemmas.List.length-set}
 use native.Mathlib.Decide.{ℕ_discrete}
-use Rattle.qh_model.specs.headline.Predicates.{place}
-use Rattle.qh_model.specs.headline.Vector.{Vector}
-use Rattle.qh_plane.specs.steps.HashedKeys.{place_hash, hash_at, WithHashes}
-use Rattle.qh_plane.specs.steps.Repeats.{AreRepeats, AreAllRepeats}
+use Rattle.qh_model.specs.headline.{Predicates.place, Vector.Vector}
+use Rattle.qh_plane.specs.steps.{HashedKeys.place_hash, HashedKeys.hash_at, HashedKeys.WithHashes, Repeats.AreRepeats, Repeats.AreAllRepeats}
 use Rattle.qh_plane.specs.steps.SharedSlots.{slot_in, MarkedHashes, AreTaken, AreShared}
 
 -- what is or was marked is
@@ -81,10 +78,7 @@ module _ (pts : List Vector) (n slots s : ℕ) (is : s ≡ slot_in slots (hash_a
 -- equal points come to one slot, so those that stand before are among the points of shared slots
 pub all_in_slots : (pts : List Vector) (shared : List Bool) (ids : List ℕ) → AreShared pts (length pts) shared
     → AreRepeats pts (WithHashes pts (MarkedHashes shared)) ids → AreAllRepeats pts ids
-all_in_slots pts shared ids a r = record {
-  has = λ i s q. r.has i (marked i q.1 q.0 q.2 q.3) q;
-  only = r.only;
-}
+all_in_slots pts shared ids a r = record { has = λ i s q. r.has i (marked i q.1 q.0 q.2 q.3) q; only = r.only }
   where
     marked : (i j : ℕ) → i < length pts → j < i → place pts j ≡ place pts i → MarkedHashes shared (hash_at pts i)
     marked i j h l e = subst (MarkedHashes shared) (ap place_hash e) (a j i l h (ap (λ v. slot_in (length shared) (place_hash v)) e))

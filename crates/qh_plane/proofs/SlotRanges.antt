@@ -1,18 +1,12 @@
 -- Points of a small box, point by point: which of a range of slots stand before; and the range in which a slot lies.
-use Rattle.std.proofs.Common.{◌≡◌, ◌∙◌, ℕ, ◌+◌, ◌-◌, ◌*◌, ◌/◌, ◌%◌, ◌^◌, ◌<◌, ◌≤◌, ◌⊎◌, inl, inr, List, [], ◌∷◌, ◌++◌, length, set}
-use Rattle.std.proofs.Common.{replicate, arith, refl, sym, subst}
-use Rattle.std.proofs.lemmas.Bool.{cases_lt}
-use Rattle.std.proofs.lemmas.List.{length-set, length-replicate}
-use Rattle.std.proofs.Math.Nat.{div-lt_iff_lt-mul, div-mul-le_self, lt-div-mul-add}
+use Rattle.std.proofs.Common.{⊎_elim, ◌≡◌, ◌∙◌, ℕ, ◌+◌, ◌-◌, ◌*◌, ◌/◌, ◌%◌, ◌^◌, ◌<◌, ◌≤◌, ◌⊎◌, inl, inr, List, [], ◌∷◌, ◌++◌, length, set, replicate, arith}
+use Rattle.std.proofs.{Common.refl, Common.sym, Common.subst, Math.Nat.div-lt_iff_lt-mul, Math.Nat.div-mul-le_self, Math.Nat.lt-div-mul-add}
+use Rattle.std.proofs.lemmas.{Bool.cases_lt, List.length-set, List.length-replicate}
 use native.Mathlib.Decide.{ℕ_discrete}
-use Rattle.qh_model.specs.headline.Vector.{Vector}
-use Rattle.qh_model.specs.headline.Predicates.{place}
-use Rattle.qh_model.specs.headline.Sets.{In}
-use Rattle.qh_model.specs.declared.limits.TheConstants.{POINT_LIMIT}
+use Rattle.qh_model.specs.{declared.limits.TheConstants.POINT_LIMIT, headline.Predicates.place, headline.Sets.In, headline.Vector.Vector}
 use Rattle.qh_model.proofs.lists.Joined.{in_append, of_append}
 use Rattle.qh_plane.proofs.SeenPlaces.{no_firsts, new_place, new_firsts, kept_firsts, its_first}
-use Rattle.qh_plane.specs.declared.close_points.TheConstants.{NO_ID}
-use Rattle.qh_plane.specs.declared.slot_ranges.SlotRanges.{SlotRanges}
+use Rattle.qh_plane.specs.declared.{close_points.TheConstants.NO_ID, slot_ranges.SlotRanges.SlotRanges}
 use Rattle.qh_plane.specs.steps.CloseBoxes.{slot_of, slot_at, place_in, ComesTo, IdsOfRange, AreSeenInRange}
 use Rattle.qh_plane.specs.steps.Repeats.{IsRepeatedId, AreRepeats, PartsBelow}
 
@@ -121,15 +115,12 @@ slot_small r p = omega arith
 -- each id lies in a range
 pub slot_range : (pts : List Vector) (r : SlotRanges) (n : ℕ) → 0 < n → 0 < r.size → r.end ≡ n * r.size → (i : ℕ)
     → PartsBelow (λ k. IdsOfRange r pts (k * r.size)) n i
-slot_range pts r n some size end i = by_cases (cases_lt (slot_of r.close (place pts i)) r.end)
+slot_range pts r n some size end i =
+    ⊎_elim (λ l. let h = lies (slot_of r.close (place pts i)) (slot_small r (place pts i)) l in (slot_of r.close (place pts i) / r.size, h.0, inl h.1))
+    (λ g. (0, some, inr g)) (cases_lt (slot_of r.close (place pts i)) r.end)
   where
     lies : (s : ℕ) → s < 2 ^ 64 → s < r.end → (s / r.size < n) × ((s + (2 ^ 64 - s / r.size * r.size)) % 2 ^ 64 < r.size)
     lies s small l = let b = before s r.size size in (
       (div-lt_iff_lt-mul size).1 (subst (λ v. s < v) end l),
       from_first s (s / r.size * r.size) r.size small b.0 b.1,
     )
-
-    by_cases : (slot_of r.close (place pts i) < r.end) ⊎ (r.end ≤ slot_of r.close (place pts i)) → PartsBelow (λ k. IdsOfRange r pts (k * r.size)) n i
-    by_cases (inl l) = let h = lies (slot_of r.close (place pts i)) (slot_small r (place pts i)) l in
-        (slot_of r.close (place pts i) / r.size, h.0, inl h.1)
-    by_cases (inr g) = (0, some, inr g)

@@ -1,10 +1,8 @@
 -- Numbers that rise from each to the next, or fall, don't repeat.
 use Rattle.std.proofs.Common.{◌≡◌, ℕ, zero, suc, ◌+◌, ◌<◌, ◌≤◌, ◌⊎◌, inl, inr, List, length, arith, ap, subst, add-one}
 use Rattle.std.proofs.lemmas.Bool.{cases_lt}
-use Rattle.qh_model.specs.headline.Predicates.{place}
-use Rattle.qh_model.specs.headline.Vector.{Vector}
-use Rattle.qh_plane.specs.steps.HashedKeys.{place_number}
-use Rattle.qh_plane.specs.steps.SortedPoints.{NumbersRise, NumbersFall, AllDiffer}
+use Rattle.qh_model.specs.headline.{Predicates.place, Vector.Vector}
+use Rattle.qh_plane.specs.steps.{HashedKeys.place_number, SortedPoints.NumbersRise, SortedPoints.NumbersFall, SortedPoints.AllDiffer}
 
 -- what each has with the next, each has with any later one
 along : (R : ℕ → ℕ → Type 0) (f : ℕ → ℕ) (n : ℕ) → ((a b c : ℕ) → R a b → R b c → R a c) → ((j : ℕ) → j + 1 < n → R (f j) (f (j + 1)))

@@ -4,13 +4,10 @@ use Rattle.std.proofs.Math.Nat.{mul-le-mul, mul-le-mul_left}
 use Rattle.std.proofs.lemmas.Int.{to_z-of_z, ints, by_lt_z, unsigned_abs-mul, fits_signed_from_abs}
 use Rattle.std.specs.Prelude.{ℤ, pos, ◌+ℤ◌, ◌-ℤ◌, ◌*ℤ◌, ◌≤ℤ◌, unsigned_abs}
 use Rattle.qh_model.proofs.algebra.Order.{mul-nonneg, mul-nonneg_nonpos, mul-nonpos_nonneg, mul-nonpos, negative_le}
-use Rattle.qh_model.specs.headline.Limits.{IsCoordinate}
-use Rattle.qh_model.specs.contract.Places.{IsPlace}
-use Rattle.qh_model.specs.headline.Vector.{Vector, minus, dot}
+use Rattle.qh_model.specs.{contract.Places.IsPlace, headline.Limits.IsCoordinate, headline.Vector.Vector, headline.Vector.minus, headline.Vector.dot}
 use Rattle.qh_pred.specs.contract.Bounds.{difference_limit, normal_limit, IsNormal}
 use Rattle.qh_pred.specs.steps.Differences.{offset_limit, IsDifference}
-use mir.Syntax.{w64, w128}
-use mir.Val.{to_z, of_z}
+use mir.{Syntax.w64, Syntax.w128, Val.to_z, Val.of_z}
 
 -- the size of a sum
 within-add : (x y : ℤ) (m n : ℕ) → unsigned_abs x ≤ m → unsigned_abs y ≤ n → unsigned_abs (x +ℤ y) ≤ m + n
@@ -101,8 +98,7 @@ minor_fits m a b c d s ha hb hc hd wide high =
 
 -- the difference of two ways from a to b and c is one of points
 pub differences : (a b c p q : Vector) → p ≡ minus b a → q ≡ minus c a → IsPlace b → IsPlace c → IsDifference (minus p q)
-differences a b c p q e f hb hc =
-    rw (e, f) (record { x = between b.x a.x c.x hb.x hc.x; y = between b.y a.y c.y hb.y hc.y; z = between b.z a.z c.z hb.z hc.z })
+differences a b c p q e f hb hc = rw (e, f) (record { x = between b.x a.x c.x hb.x hc.x; y = between b.y a.y c.y hb.y hc.y; z = between b.z a.z c.z hb.z hc.z })
   where
     between : (x o y : ℤ) → IsCoordinate x → IsCoordinate y → unsigned_abs ((x -ℤ o) -ℤ (y -ℤ o)) ≤ difference_limit
     between x o y h k = omega (arith, ints)
@@ -136,8 +132,7 @@ pub record DotFits (u v : Vector) (p q r : ℤ) : Type 0 where
 pub dot_fits : (u v : Vector) (p q r : ℤ) → IsNormal u → IsNormal v → p ≡ handed u.x v.x → q ≡ handed u.y v.y → r ≡ handed u.z v.z → DotFits u v p q r
 dot_fits u v p q r hu hv ep eq er = rw (kept u.x v.x p hu.x hv.x ep, kept u.y v.y q hu.y hv.y eq, kept u.z v.z r hu.z hv.z er)
     (sizes (normal_limit * normal_limit) (lit< tt) (within-mul u.x v.x normal_limit normal_limit hu.x hv.x)
-    (within-mul u.y v.y normal_limit normal_limit hu.y hv.y)
-    (within-mul u.z v.z normal_limit normal_limit hu.z hv.z))
+    (within-mul u.y v.y normal_limit normal_limit hu.y hv.y) (within-mul u.z v.z normal_limit normal_limit hu.z hv.z))
   where
     sizes : (m : ℕ) → 3 * m < 2 ^ 127 → unsigned_abs (u.x *ℤ v.x) ≤ m → unsigned_abs (u.y *ℤ v.y) ≤ m
         → unsigned_abs (u.z *ℤ v.z) ≤ m → DotFits u v (u.x *ℤ v.x) (u.y *ℤ v.y) (u.z *ℤ v.z)
@@ -155,10 +150,8 @@ dot_fits u v p q r hu hv ep eq er = rw (kept u.x v.x p hu.x hv.x ep, kept u.y v.
 -- the size of a scalar product of vectors within the limit of normals
 pub dot-within : (u v : Vector) → IsNormal u → IsNormal v → unsigned_abs (dot u v) ≤ offset_limit
 dot-within u v hu hv =
-    sum (normal_limit * normal_limit) (u.x *ℤ v.x) (u.y *ℤ v.y) (u.z *ℤ v.z)
-    (within-mul u.x v.x normal_limit normal_limit hu.x hv.x)
-    (within-mul u.y v.y normal_limit normal_limit hu.y hv.y)
-    (within-mul u.z v.z normal_limit normal_limit hu.z hv.z)
+    sum (normal_limit * normal_limit) (u.x *ℤ v.x) (u.y *ℤ v.y) (u.z *ℤ v.z) (within-mul u.x v.x normal_limit normal_limit hu.x hv.x)
+    (within-mul u.y v.y normal_limit normal_limit hu.y hv.y) (within-mul u.z v.z normal_limit normal_limit hu.z hv.z)
   where
     sum : (m : ℕ) (x y z : ℤ) → unsigned_abs x ≤ m → unsigned_abs y ≤ m → unsigned_abs z ≤ m → unsigned_abs (x +ℤ y +ℤ z) ≤ 3 * m
     sum m x y z hx hy hz = let two = within-add x y m m hx hy in let whole = within-add (x +ℤ y) z (m + m) m two hz in omega (arith, whole)

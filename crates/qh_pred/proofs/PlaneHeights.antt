@@ -2,13 +2,10 @@
 use Rattle.std.proofs.Common.{rules, ◌≡◌, ◌+◌, ◌≤◌, ◌∙◌, sym, ap, FitsSigned, lit<, IsTrue, ◌↔◌}
 use Rattle.std.proofs.lemmas.Int.{to_z-of_z}
 use Rattle.std.specs.Prelude.{ℤ, pos, ◌-ℤ◌, ◌<ℤ◌, unsigned_abs}
-use Rattle.qh_model.specs.headline.Vector.{Vector, dot}
-use Rattle.qh_model.specs.headline.Predicates.{cross, vol}
+use Rattle.qh_model.specs.headline.{Predicates.cross, Predicates.vol, Vector.Vector, Vector.dot}
 use Rattle.qh_model.proofs.algebra.VectorIdentities.{vol-linear}
-use Rattle.qh_pred.specs.contract.Bounds.{normal_limit, IsNormal}
-use Rattle.qh_pred.specs.steps.Differences.{offset_limit}
-use Rattle.qh_pred.specs.contract.Planes.{PlaneValue, height}
-use Rattle.qh_pred.specs.steps.StoredPlanes.{IsPlane}
+use Rattle.qh_pred.specs.contract.{Bounds.normal_limit, Bounds.IsNormal, Planes.PlaneValue, Planes.height}
+use Rattle.qh_pred.specs.steps.{Differences.offset_limit, StoredPlanes.IsPlane}
 use Rattle.qh_pred.proofs.Bounds.{through, through_half, within-sub, fits, fits_wide}
 use mir.Syntax.{w64, w128}
 use lib.Signed.{lt_z}
@@ -30,14 +27,9 @@ height_fits inside plane p r h is e b =
     let f1 : FitsSigned w128 r = fits_wide r offset_limit b (lit< tt) in
     let f2 : FitsSigned w128 inside.offset = fits_wide inside.offset offset_limit h.offset (lit< tt) in
     let f3 : FitsSigned w128 (r -ℤ inside.offset) =
-    fits_wide (r -ℤ inside.offset) (offset_limit + offset_limit)
-    (within-sub r inside.offset offset_limit offset_limit b h.offset) (lit< tt) in
+    fits_wide (r -ℤ inside.offset) (offset_limit + offset_limit) (within-sub r inside.offset offset_limit offset_limit b h.offset) (lit< tt) in
     let v : r -ℤ inside.offset ≡ height plane p = rw e (ap (λ (q : PlaneValue). dot plane.normal p -ℤ q.offset) is) in
-    record {
-      fits = simp to_z-of_z f3;
-      value = simp to_z-of_z v;
-      sees = simp to_z-of_z (rw (← v) (below_iff inside.offset r));
-    }
+    record { fits = simp to_z-of_z f3; value = simp to_z-of_z v; sees = simp to_z-of_z (rw (← v) (below_iff inside.offset r)) }
 
 -- the plane of a triangle has the triangle's volumes as heights
 height_is_vol : (a b c n : Vector) (o : ℤ) → n ≡ cross a b c → o ≡ dot n a → (p : Vector) → dot n p -ℤ o ≡ vol a b c p

@@ -1,18 +1,13 @@
 -- The sign of a turn in a plane, told by one component of the plane's normal.
 use Rattle.std.proofs.Common.{◌≡◌, ◌≢◌, [], ◌∷◌, refl, ap, sym, ◌∙◌, Bool, true, false, cond}
 use Rattle.std.proofs.lemmas.Int.{by_lt_z}
-use Rattle.std.specs.Cmp.{int_ranks, int_cmp_is, signed_Decides}
-use Rattle.std.specs.Ordering.{MatchOrdering, int_eq}
+use Rattle.std.specs.{Cmp.int_ranks, Cmp.int_cmp_is, Cmp.signed_Decides, Ordering.MatchOrdering, Ordering.int_eq}
 use Rattle.std.specs.Prelude.{ℤ, pos, ◌*ℤ◌, ◌<ℤ◌}
-use Rattle.std.specs.declared.cmp.Ordering.{Ordering}
-use Rattle.std.specs.declared.cmp.Ordering.TheVariants.{Less, Equal, Greater}
+use Rattle.std.specs.declared.cmp.Ordering.{Ordering, TheVariants.Less, TheVariants.Equal, TheVariants.Greater}
 use Rattle.qh_model.proofs.algebra.Order.{mul-pos, mul-pos_neg, mul-neg_neg, product_zero, le_less}
-use Rattle.qh_model.proofs.algebra.Ring.{ring}
-use Rattle.qh_model.proofs.algebra.Ring.Expr.{var, mul}
-use Rattle.qh_model.proofs.algebra.VectorIdentities.{vector_path, left-dot, dot_comm}
+use Rattle.qh_model.proofs.algebra.{Ring.ring, Ring.Expr.var, Ring.Expr.mul, VectorIdentities.vector_path, VectorIdentities.left-dot, VectorIdentities.dot_comm}
 use Rattle.qh_model.proofs.extremes.Directions.{Parallel, parallel_normal, square-positive}
-use Rattle.qh_model.specs.headline.Predicates.{cross, left}
-use Rattle.qh_model.specs.headline.Vector.{Vector, origin, dot}
+use Rattle.qh_model.specs.headline.{Predicates.cross, Predicates.left, Vector.Vector, Vector.origin, Vector.dot}
 use Rattle.qh_pred.specs.contract.Turns.{sign, IsAcross, first_product}
 
 -- numbers that are below, at and above 0 together have one sign

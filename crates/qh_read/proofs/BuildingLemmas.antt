@@ -1,8 +1,7 @@
 -- One point more.
 use Rattle.std.proofs.Common.{◌≡◌, ◌++◌, [], ◌∷◌, List, refl, ap}
 use Rattle.std.specs.Prelude.{ℤ}
-use Rattle.qh_model.specs.headline.Vector.{Vector}
-use Rattle.qh_model.specs.headline.PointFile.{coordinates}
+use Rattle.qh_model.specs.headline.{PointFile.coordinates, Vector.Vector}
 
 pub coordinates-push : (ps : List Vector) (p : Vector) → coordinates (ps ++ p ∷ []) ≡ coordinates ps ++ p.x ∷ p.y ∷ p.z ∷ []
 coordinates-push [] p = refl

@@ -1,20 +1,14 @@
 -- The first fault that the words have is the one that a reader finds.
-use Rattle.std.proofs.Common.{◌≡◌, ◌∙◌, ◌++◌, [], ◌∷◌, ◌*◌, ◌≤◌, ◌&&◌, ℕ, List, Bool, true, false, cond, refl, ap, sym, arith, zero, suc, length, nat_lt}
-use Rattle.std.specs.Prelude.{ℤ, pos, negsuc, Option, Some, None, option_map, nat_le}
-use Rattle.std.proofs.lemmas.Bool.Decides.{nat_tests}
-use Rattle.std.specs.Option.{option_or}
-use Rattle.qh_model.specs.declared.limits.TheConstants.{POINT_LIMIT, BYTE_LIMIT}
-use Rattle.qh_model.specs.headline.Limits.{is_coordinate}
-use Rattle.qh_model.specs.headline.Words.{Word, data_words}
-use Rattle.qh_model.specs.headline.Numbers.{number_of}
-use Rattle.qh_model.specs.headline.FileFault.{is_three, coordinate_fault, coordinates_fault, counted_fault, number_fault}
-use Rattle.qh_model.specs.headline.FileFault.{next_number_fault, long_fault, headed_fault, words_fault, first_fault}
-use Rattle.qh_read.specs.steps.Building.{lack}
-use Rattle.qh_read.specs.contract.Tokens.{cap}
-use Rattle.qh_read.specs.steps.SmallTokens.{capped}
-use Rattle.qh_read.specs.contract.Progress.{Progress, wants_first, wants_second, wants, fails, counted, headed, after}
-use Rattle.qh_model.specs.declared.read_fault.ReadFault.{ReadFault}
 use Rattle.qh_model.specs.declared.read_fault.ReadFault.TheVariants as faults
+use Rattle.std.proofs.Common.{◌≡◌, ◌∙◌, ◌++◌, [], ◌∷◌, ◌*◌, ◌≤◌, ◌&&◌, ℕ, List, Bool, true, false, cond, refl, ap, sym, arith, zero, suc, length, nat_lt}
+use Rattle.std.proofs.lemmas.Bool.Decides.{nat_tests}
+use Rattle.std.specs.{Option.option_or, Prelude.ℤ, Prelude.pos, Prelude.negsuc, Prelude.Option, Prelude.Some, Prelude.None, Prelude.option_map, Prelude.nat_le}
+use Rattle.qh_model.specs.declared.{limits.TheConstants.POINT_LIMIT, limits.TheConstants.BYTE_LIMIT, read_fault.ReadFault.ReadFault}
+use Rattle.qh_model.specs.headline.FileFault.{is_three, coordinate_fault, coordinates_fault, counted_fault, number_fault, next_number_fault, long_fault}
+use Rattle.qh_model.specs.headline.FileFault.{headed_fault, words_fault, first_fault}
+use Rattle.qh_model.specs.headline.{Limits.is_coordinate, Numbers.number_of, Words.Word, Words.data_words}
+use Rattle.qh_read.specs.contract.Progress.{Progress, wants_first, wants_second, wants, fails, counted, headed, after}
+use Rattle.qh_read.specs.{contract.Tokens.cap, steps.Building.lack, steps.SmallTokens.capped}
 use Rattle.qh_read.proofs.ProgressLaws.{stays, judged, is_off}
 
 pub fallen : (f : ReadFault) (ws : List Word) → lack (judged (fails f) ws) ≡ Some f
@@ -52,8 +46,7 @@ coordinates (w ∷ ws) (suc k) t = by (λ z. coordinates ws k (t ++ z ∷ [])) (
         ≡ option_or (coordinate_fault o w.line) (coordinates_fault long_fault k ws)
     by rest None = fallen (faults.BadNumber w.line) ws
     by rest (Some z) = chosen (is_coordinate (capped z)) (is_coordinate z) (wants k (t ++ capped z ∷ [])) (fails (faults.Range w.line)) ws
-        (coordinates_fault long_fault k ws) (Some (faults.Range w.line))
-        (same_limit z) (rest (capped z)) (fallen (faults.Range w.line) ws)
+        (coordinates_fault long_fault k ws) (Some (faults.Range w.line)) (same_limit z) (rest (capped z)) (fallen (faults.Range w.line) ws)
         ∙ either (is_coordinate z) (coordinates_fault long_fault k ws) (faults.Range w.line)
 
 -- the count, and then the coordinates, if a reader finds what is wrong with these

@@ -1,29 +1,19 @@
 -- A file that a reader has filled in is that of its points, and one that lacks something has this fault first.
-use Rattle.std.proofs.Common.{◌≡◌, ◌∙◌, ◌++◌, [], ◌∷◌, ◌*◌, ◌≤◌, ℕ, List, ap, sym, arith, length, map, subst, length-append}
-use Rattle.std.proofs.lemmas.List.{append-nil}
-use Rattle.std.specs.Prelude.{ℤ, pos, Some}
-use Rattle.std.specs.List.{AllByRecursion}
-use Rattle.qh_model.specs.declared.form.Form.{Form}
-use Rattle.qh_model.specs.declared.form.Form.TheVariants.{Qhull, Off}
-use Rattle.qh_model.specs.declared.limits.TheConstants.{BYTE_LIMIT}
-use Rattle.qh_model.specs.declared.read_fault.ReadFault.{ReadFault}
-use Rattle.qh_model.specs.headline.Vector.{Vector}
-use Rattle.qh_model.specs.headline.Limits.{IsCoordinate}
-use Rattle.qh_model.specs.headline.Words.{data_words}
-use Rattle.qh_model.specs.headline.PointFile.{coordinates, IsHeader, Reads}
-use Rattle.qh_model.specs.headline.OffFile.{off_words, ReadsOff}
-use Rattle.qh_model.specs.headline.Forms.{ReadsIn, IsFirstFault}
-use Rattle.qh_model.proofs.ReadingLaws.{thrice}
-use Rattle.qh_read.specs.contract.Progress.{wants_first, wants_keyword, started}
-use Rattle.qh_read.specs.steps.Building.{lack, filled_in}
-use Rattle.qh_read.specs.steps.Stages.{pending_list}
-use Rattle.qh_read.specs.declared.builder.Pending.{Pending}
 use Rattle.qh_read.specs.declared.builder.Pending.TheVariants as pendings
-use Rattle.qh_read.proofs.Lexing.{words_in}
-use Rattle.qh_read.proofs.ProgressLaws.{judged, whole, Whole}
 use Rattle.qh_read.proofs.OffProgressLaws as off
 use Rattle.qh_read.proofs.FaultLaws as point_file
 use Rattle.qh_read.proofs.OffFaultLaws as off_file
+use Rattle.std.proofs.Common.{◌≡◌, ◌∙◌, ◌++◌, [], ◌∷◌, ◌*◌, ◌≤◌, ℕ, List, ap, sym, arith, length, map, subst, length-append}
+use Rattle.std.proofs.lemmas.List.{append-nil}
+use Rattle.std.specs.{List.AllByRecursion, Prelude.ℤ, Prelude.pos, Prelude.Some}
+use Rattle.qh_model.specs.declared.form.Form.{Form, TheVariants.Qhull, TheVariants.Off}
+use Rattle.qh_model.specs.declared.{limits.TheConstants.BYTE_LIMIT, read_fault.ReadFault.ReadFault}
+use Rattle.qh_model.specs.headline.{Forms.ReadsIn, Forms.IsFirstFault, Limits.IsCoordinate, OffFile.off_words, OffFile.ReadsOff, PointFile.coordinates}
+use Rattle.qh_model.specs.headline.{PointFile.IsHeader, PointFile.Reads, Vector.Vector, Words.data_words}
+use Rattle.qh_model.proofs.ReadingLaws.{thrice}
+use Rattle.qh_read.specs.contract.Progress.{wants_first, wants_keyword, started}
+use Rattle.qh_read.specs.{declared.builder.Pending.Pending, steps.Building.lack, steps.Building.filled_in, steps.Stages.pending_list}
+use Rattle.qh_read.proofs.{Lexing.words_in, ProgressLaws.judged, ProgressLaws.whole, ProgressLaws.Whole}
 
 none_left : (ps : List Vector) (q : Pending) (k : ℕ) → length (coordinates ps ++ pending_list q) ≡ 3 * k
     → (coordinates ps ++ pending_list q ≡ coordinates ps) × (length ps ≡ k)

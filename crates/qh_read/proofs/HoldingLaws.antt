@@ -1,23 +1,15 @@
 -- What a reader holds is what the words of its bytes make of the file.
 use Rattle.std.proofs.Common.{◌≡◌, ◌∙◌, ◌++◌, [], ◌∷◌, ◌+◌, ◌-◌, ◌*◌, ◌==◌, ◌||◌, ℕ, List, Bool, true, false, cond, refl, ap, sym, arith}
-use Rattle.std.proofs.lemmas.List.{append-nil}
-use Rattle.std.proofs.lemmas.Bool.Decides.{nat_tests}
-use Rattle.std.specs.Prelude.{ℤ, Option, codes}
-use Rattle.std.specs.Char.{is_ascii_digit}
-use Rattle.std.specs.Str.{bytes_eq}
-use Rattle.qh_model.specs.declared.form.Form.{Form}
-use Rattle.qh_model.specs.declared.form.Form.TheVariants.{Qhull, Off}
+use Rattle.std.proofs.lemmas.{Bool.Decides.nat_tests, List.append-nil}
+use Rattle.std.specs.{Char.is_ascii_digit, Prelude.ℤ, Prelude.Option, Prelude.codes, Str.bytes_eq}
+use Rattle.qh_model.specs.declared.form.Form.{Form, TheVariants.Qhull, TheVariants.Off}
 use Rattle.qh_model.specs.headline.Words.{Word, is_blank, is_data}
 use Rattle.qh_read.proofs.Lexing.{Lexed, start, ended, closed, begun, marked, next, lexed, words_in}
-use Rattle.qh_read.specs.contract.Tokens.{cap, grown, value_of, is_keyword}
-use Rattle.qh_read.specs.contract.Progress.{Progress, started, after}
-use Rattle.qh_read.specs.contract.Holding.{Held, held_at_start, word_ended, held_begun, held_marked, ended_held, next_held, held_by}
-use Rattle.qh_read.specs.declared.token.Token.{Token}
-use Rattle.qh_read.specs.declared.token.Token.TheVariants.{Empty, Sign, Digits, Keyword, Other}
-use Rattle.qh_read.proofs.LexingLaws.{push_cond, data_words-lexed}
-use Rattle.qh_read.proofs.OffLexingLaws.{off_words-lexed}
+use Rattle.qh_read.proofs.{LexingLaws.push_cond, LexingLaws.data_words-lexed, OffLexingLaws.off_words-lexed, ProgressLaws.judged, ProgressLaws.judged-append}
 use Rattle.qh_read.proofs.TokenLaws.{grown_by, value-number, keyword-off}
-use Rattle.qh_read.proofs.ProgressLaws.{judged, judged-append}
+use Rattle.qh_read.specs.contract.Holding.{Held, held_at_start, word_ended, held_begun, held_marked, ended_held, next_held, held_by}
+use Rattle.qh_read.specs.contract.{Progress.Progress, Progress.started, Progress.after, Tokens.cap, Tokens.grown, Tokens.value_of, Tokens.is_keyword}
+use Rattle.qh_read.specs.declared.token.Token.{Token, TheVariants.Empty, TheVariants.Sign, TheVariants.Digits, TheVariants.Keyword, TheVariants.Other}
 
 -- what is held of bytes that are seen as words
 abbrev pub held_of : Form → Lexed → Held
@@ -122,12 +114,10 @@ steps : (form : Form) (s : Lexed) (c : ℕ) → held_of form (next form s c) ≡
 steps form s c =
     push_cond (held_of form) (c == 10) _ _ _ _
     (λ e. ap (λ (p : Progress). record { form = form; progress = p; token = Empty; comment = false; line = s.line + 1 })
-    (word_ends (started form) s.words s.line s.under_way))
-    (λ e. push_cond (held_of form) s.comment _ _ _ _ (λ f. refl)
+    (word_ends (started form) s.words s.line s.under_way)) (λ e. push_cond (held_of form) s.comment _ _ _ _ (λ f. refl)
     (λ f. push_cond (held_of form) (is_blank c) _ _ _ _
     (λ g. ap (λ (p : Progress). record { form = form; progress = p; token = Empty; comment = s.comment; line = s.line })
-    (word_ends (started form) s.words s.line s.under_way))
-    (λ g. marks form s c ∙ told_digit form (held_of form s) c (is_ascii_digit c) refl)))
+    (word_ends (started form) s.words s.line s.under_way)) (λ g. marks form s c ∙ told_digit form (held_of form s) c (is_ascii_digit c) refl)))
 
 runs : (form : Form) (bs : List ℕ) (s : Lexed) → held_of form (lexed form s bs) ≡ held_by (held_of form s) bs
 runs form [] s = refl

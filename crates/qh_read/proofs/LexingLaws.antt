@@ -1,10 +1,9 @@
 -- The words of bytes that come one at a time are the data words of the whole.
 use Rattle.std.proofs.Common.{◌≡◌, ◌∙◌, ◌++◌, [], ◌∷◌, ◌+◌, ◌==◌, ℕ, ◌<◌, length, List, Bool, true, false, cond, refl, ap, sym, append_assoc, arith, filter}
-use Rattle.std.proofs.lemmas.List.{append-nil}
+use Rattle.std.proofs.lemmas.List.{append-nil, Splits.slice_split-cons_no, Splits.length-slice_split}
 use Rattle.std.specs.List.{slice_split, onto_first}
-use Rattle.std.proofs.lemmas.List.Splits.{slice_split-cons_no, length-slice_split}
-use Rattle.qh_model.specs.headline.Words.{Word, is_blank, is_data, lines_of, words_of, before_comment, on_line, words_from, data_words, is_word}
 use Rattle.qh_model.specs.declared.form.Form.TheVariants.{Qhull}
+use Rattle.qh_model.specs.headline.Words.{Word, is_blank, is_data, lines_of, words_of, before_comment, on_line, words_from, data_words, is_word}
 use Rattle.qh_model.proofs.texts.Lines.{Clear, split_clear, split_whole}
 use Rattle.qh_read.proofs.Lexing.{Lexed, start, ended, closed, begun, next, lexed}
 
@@ -97,8 +96,7 @@ good_at ws n b w c true v =
       valid = record { clean = tt; data_word = tt; quiet = λ q. refl };
       same = λ l ls. append_assoc ws (ended n w) _ ∙ ap (λ t. ws ++ (t ++ words_from (own false) (n + 1) (l ∷ ls))) (ends n b w v.clean v.data_word v.quiet);
     }
-good_at ws n true w c false v =
-    record { valid = v; same = λ l ls. refl }
+good_at ws n true w c false v = record { valid = v; same = λ l ls. refl }
 good_at ws n false w c false v =
     let s : Lexed = record { words = ws; line = n; comment = false; under_way = w } in
     in_cond (Good s c false) (is_blank c) (record s { words = closed s; under_way = [] }) (begun s w c)

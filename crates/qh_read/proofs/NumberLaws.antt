@@ -1,19 +1,13 @@
 -- Numbers and points that are told from any base of lines.
-use Rattle.std.proofs.Common.{◌≡◌, ◌∙◌, ◌++◌, [], ◌∷◌, ◌+◌, ◌-◌, ◌*◌, take, drop, ℕ}
-use Rattle.std.proofs.Common.{List, true, false, ap, sym, arith, suc, refl, length, length-append, append_assoc}
-use Rattle.std.proofs.lemmas.List.{append-nil, take-append-drop}
-use Rattle.std.proofs.Math.Seq.{drop-append_seam}
+use Rattle.std.proofs.Common.{◌≡◌, ◌∙◌, ◌++◌, [], ◌∷◌, ◌+◌, ◌-◌, ◌*◌, take, drop, ℕ, List, true, false, ap, sym, arith, suc, refl, length, length-append}
+use Rattle.std.proofs.{Common.append_assoc, Math.Seq.drop-append_seam, lemmas.Bool.Decides.nat_tests, lemmas.List.append-nil, lemmas.List.take-append-drop}
 use Rattle.std.specs.Prelude.{ℤ, Some}
-use Rattle.std.proofs.lemmas.Bool.Decides.{nat_tests}
 use Rattle.qh_model.specs.declared.form.Form.{Form}
-use Rattle.qh_model.specs.headline.Vector.{Vector}
-use Rattle.qh_model.specs.headline.Limits.{IsCoordinate, is_coordinate}
-use Rattle.qh_model.specs.headline.PointFile.{coordinates}
+use Rattle.qh_model.specs.headline.{Limits.IsCoordinate, Limits.is_coordinate, PointFile.coordinates, Vector.Vector}
 use Rattle.qh_read.proofs.BuildingLemmas.{coordinates-push}
-use Rattle.qh_read.specs.contract.Holding.{held_by}
-use Rattle.qh_read.specs.contract.Progress.{Progress, after, wants, wants_vertices}
-use Rattle.qh_read.specs.steps.Numbers.{quiet, IsParted, IsEndOf, ArePoint, ArePoints, Takes}
+use Rattle.qh_read.specs.contract.{Holding.held_by, Progress.Progress, Progress.after, Progress.wants, Progress.wants_vertices}
 use Rattle.qh_read.specs.declared.token.Token.TheVariants.{Empty}
+use Rattle.qh_read.specs.steps.Numbers.{quiet, IsParted, IsEndOf, ArePoint, ArePoints, Takes}
 
 -- what comes after some bytes
 pub end-drop : (i : ℕ) (bytes : List ℕ) → IsEndOf (drop i bytes) bytes
@@ -34,16 +28,13 @@ end-is rest bytes h =
     let count : length bytes - length rest ≡ length front = omega (arith, ap length h.1, length-append front rest) in
     ap (λ (n : ℕ). drop n bytes) count ∙ ap (drop (length front)) h.1 ∙ drop-append_seam front rest
 
-pub none_before : (n : ℕ) → 0 + n ≡ n
-none_before n = omega arith
-
 -- what parts words, from the line itself
 pub parted : (line : ℕ) (bytes : List ℕ) (later : ℕ) (rest : List ℕ) → IsParted line bytes later rest → (form : Form) (p : Progress)
     → held_by (quiet form p line Empty) bytes ≡ held_by (quiet form p later Empty) rest
 parted line bytes later rest h form p =
-    ap (λ (n : ℕ). held_by (quiet form p n Empty) bytes) (sym (none_before line))
+    ap (λ (n : ℕ). held_by (quiet form p n Empty) bytes) (sym (omega arith))
     ∙ h form p 0
-    ∙ ap (λ (n : ℕ). held_by (quiet form p n Empty) rest) (none_before later)
+    ∙ ap (λ (n : ℕ). held_by (quiet form p n Empty) rest) (omega arith)
 
 -- no point
 pub points-none : (line : ℕ) (bytes : List ℕ) → ArePoints line bytes [] line bytes
@@ -53,8 +44,7 @@ points-none line bytes form wanted takes left t base =
     ∙ ap (λ (u : List ℤ). held_by (quiet form (wanted left u) (base + line) Empty) bytes) (sym (append-nil t))
 
 -- three coordinates in range
-three : (wanted : ℕ → List ℤ → Progress) → Takes wanted → (left : ℕ) (t : List ℤ) (x y z : ℤ) (i j k : ℕ)
-    → IsCoordinate x → IsCoordinate y → IsCoordinate z
+three : (wanted : ℕ → List ℤ → Progress) → Takes wanted → (left : ℕ) (t : List ℤ) (x y z : ℤ) (i j k : ℕ) → IsCoordinate x → IsCoordinate y → IsCoordinate z
     → after (after (after (wanted (suc (suc (suc left))) t) false (Some x) i) false (Some y) j) false (Some z) k
     ≡ wanted left (t ++ x ∷ y ∷ z ∷ [])
 three wanted takes left t x y z i j k p q r =

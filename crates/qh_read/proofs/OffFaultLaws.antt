@@ -1,23 +1,16 @@
 -- The first fault that the words of an OFF file have is the one that a reader finds.
-use Rattle.std.proofs.Common.{◌≡◌, ◌∙◌, ◌++◌, [], ◌∷◌, ◌≤◌, ℕ, List, Bool, true, false, cond, refl, ap, sym, arith, zero, suc, length, nat_lt}
-use Rattle.std.specs.Prelude.{ℤ, Option, Some, None, option_map}
-use Rattle.std.proofs.lemmas.Bool.Decides.{nat_tests}
-use Rattle.std.specs.Option.{option_or}
-use Rattle.qh_model.specs.declared.limits.TheConstants.{BYTE_LIMIT}
-use Rattle.qh_model.specs.headline.Limits.{is_coordinate}
-use Rattle.qh_model.specs.headline.Words.{Word}
-use Rattle.qh_model.specs.headline.Numbers.{number_of}
-use Rattle.qh_model.specs.headline.FileFault.{coordinate_fault, coordinates_fault, counted_fault, number_fault, next_number_fault}
-use Rattle.qh_model.specs.headline.OffFile.{off_words}
-use Rattle.qh_model.specs.headline.OffFault.{counts_fault, off_words_fault, first_off_fault}
-use Rattle.qh_read.specs.steps.Building.{lack}
-use Rattle.qh_read.specs.steps.SmallTokens.{capped}
-use Rattle.qh_read.specs.contract.Progress.{wants_keyword, wants_vertex_count, wants_face_count, wants_edge_count, wants_vertices, fails, after}
-use Rattle.qh_model.specs.declared.read_fault.ReadFault.{ReadFault}
 use Rattle.qh_model.specs.declared.read_fault.ReadFault.TheVariants as faults
-use Rattle.qh_read.proofs.ProgressLaws.{judged, is_off}
-use Rattle.qh_read.proofs.OffProgressLaws.{dropped}
+use Rattle.std.proofs.Common.{◌≡◌, ◌∙◌, ◌++◌, [], ◌∷◌, ◌≤◌, ℕ, List, Bool, true, false, cond, refl, ap, sym, arith, zero, suc, length, nat_lt}
+use Rattle.std.proofs.lemmas.Bool.Decides.{nat_tests}
+use Rattle.std.specs.{Option.option_or, Prelude.ℤ, Prelude.Option, Prelude.Some, Prelude.None, Prelude.option_map}
+use Rattle.qh_model.specs.declared.{limits.TheConstants.BYTE_LIMIT, read_fault.ReadFault.ReadFault}
+use Rattle.qh_model.specs.headline.FileFault.{coordinate_fault, coordinates_fault, counted_fault, number_fault, next_number_fault}
+use Rattle.qh_model.specs.headline.{Limits.is_coordinate, Numbers.number_of, OffFault.counts_fault, OffFault.off_words_fault, OffFault.first_off_fault}
+use Rattle.qh_model.specs.headline.{OffFile.off_words, Words.Word}
+use Rattle.qh_read.specs.contract.Progress.{wants_keyword, wants_vertex_count, wants_face_count, wants_edge_count, wants_vertices, fails, after}
+use Rattle.qh_read.specs.steps.{Building.lack, SmallTokens.capped}
 use Rattle.qh_read.proofs.FaultLaws.{fallen, same_limit, chosen, either, counts}
+use Rattle.qh_read.proofs.{OffProgressLaws.dropped, ProgressLaws.judged, ProgressLaws.is_off}
 
 -- whatever follows the coordinates
 abbrev anything : List Word → Option ReadFault
@@ -33,8 +26,7 @@ vertices (w ∷ ws) (suc k) t = by (λ z. vertices ws k (t ++ z ∷ [])) (number
         ≡ option_or (coordinate_fault o w.line) (coordinates_fault anything k ws)
     by rest None = fallen (faults.BadNumber w.line) ws
     by rest (Some z) = chosen (is_coordinate (capped z)) (is_coordinate z) (wants_vertices k (t ++ capped z ∷ [])) (fails (faults.Range w.line)) ws
-        (coordinates_fault anything k ws) (Some (faults.Range w.line))
-        (same_limit z) (rest (capped z)) (fallen (faults.Range w.line) ws)
+        (coordinates_fault anything k ws) (Some (faults.Range w.line)) (same_limit z) (rest (capped z)) (fallen (faults.Range w.line) ws)
         ∙ either (is_coordinate z) (coordinates_fault anything k ws) (faults.Range w.line)
 
 edge_count : (v : ℤ) (ws : List Word) → lack (judged (wants_edge_count (capped v)) ws) ≡ next_number_fault (λ edges. counted_fault anything v) ws

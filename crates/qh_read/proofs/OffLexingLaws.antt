@@ -1,12 +1,9 @@
 -- The words of the bytes of an OFF file that come one at a time are the words of the whole.
-use Rattle.std.proofs.Common.{◌≡◌, ◌∙◌, ◌++◌, [], ◌∷◌, ◌+◌, ◌==◌, ℕ, ◌<◌, length, List}
-use Rattle.std.proofs.Common.{Bool, true, false, cond, refl, ap, sym, subst, append_assoc, arith, filter}
-use Rattle.std.proofs.lemmas.List.{append-nil}
-use Rattle.std.proofs.lemmas.Bool.Decides.{nat_tests}
+use Rattle.std.proofs.Common.{◌≡◌, ◌∙◌, ◌++◌, [], ◌∷◌, ◌+◌, ◌==◌, ℕ, ◌<◌, length, List, Bool, true, false, cond, refl, ap, sym, subst, append_assoc, arith}
+use Rattle.std.proofs.{Common.filter, lemmas.Bool.Decides.nat_tests, lemmas.List.append-nil}
 use Rattle.std.specs.List.{slice_split, onto_first}
-use Rattle.qh_model.specs.declared.form.Form.TheVariants.{Off}
+use Rattle.qh_model.specs.{declared.form.Form.TheVariants.Off, headline.OffFile.before_hash, headline.OffFile.off_words}
 use Rattle.qh_model.specs.headline.Words.{Word, is_blank, lines_of, words_of, words_from, on_line, is_word}
-use Rattle.qh_model.specs.headline.OffFile.{before_hash, off_words}
 use Rattle.qh_model.proofs.texts.Lines.{Clear, split_clear, split_whole}
 use Rattle.qh_read.proofs.Lexing.{Lexed, start, ended, closed, next, lexed}
 use Rattle.qh_read.proofs.LexingLaws.{clear_append, in_cond, some_line}
@@ -97,8 +94,7 @@ good_at ws n b w c true v =
       valid = record { clean = tt; plain = tt; quiet = λ q. refl };
       same = λ l ls. append_assoc ws (ended n w) _ ∙ ap (λ t. ws ++ (t ++ words_from (own false) (n + 1) (l ∷ ls))) (line_ends n b w v.clean v.plain v.quiet);
     }
-good_at ws n true w c false v =
-    record { valid = v; same = λ l ls. refl }
+good_at ws n true w c false v = record { valid = v; same = λ l ls. refl }
 good_at ws n false w c false v =
     let s : Lexed = record { words = ws; line = n; comment = false; under_way = w } in
     in_cond (Good s c false) (is_blank c) (record s { words = closed s; under_way = [] })

@@ -1,21 +1,13 @@
 -- An OFF file that is filled in has its counts and the number of coordinates that they say.
-use Rattle.std.proofs.Common.{◌≡◌, ◌∙◌, ◌++◌, [], ◌∷◌, ◌*◌, ◌≤◌, ◌&&◌, ℕ, List, Bool, true, false, cond, refl, ap, sym, arith, zero, suc, length, map, subst}
-use Rattle.std.proofs.lemmas.List.{append-nil}
-use Rattle.std.specs.Prelude.{ℤ, codes, pos, negsuc, Option, Some, None, option_map, nat_le}
-use Rattle.std.specs.List.{AllByRecursion}
-use Rattle.std.specs.Cmp.Lexicographic.{same_text}
-use Rattle.std.proofs.lemmas.Bool.Decides.{nat_tests}
-use Rattle.qh_model.specs.headline.Limits.{IsCoordinate}
-use Rattle.qh_model.specs.declared.limits.TheConstants.{POINT_LIMIT}
-use Rattle.qh_model.specs.headline.Words.{Word}
-use Rattle.qh_model.specs.headline.Numbers.{number_of}
-use Rattle.qh_read.specs.contract.Tokens.{cap}
-use Rattle.qh_read.specs.steps.SmallTokens.{capped}
-use Rattle.qh_read.specs.steps.Building.{filled_in}
-use Rattle.qh_read.specs.contract.Progress.{Progress, wants_keyword, wants_vertex_count, wants_face_count}
-use Rattle.qh_read.specs.contract.Progress.{wants_edge_count, wants_vertices, fails, counted, after}
 use Rattle.qh_model.specs.declared.read_fault.ReadFault.TheVariants as faults
-use Rattle.qh_read.proofs.ProgressLaws.{is_off, judged, stays, numbers, Filled, filled_more, in_range}
+use Rattle.std.proofs.Common.{◌≡◌, ◌∙◌, ◌++◌, [], ◌∷◌, ◌*◌, ◌≤◌, ◌&&◌, ℕ, List, Bool, true, false, cond, refl, ap, sym, arith, zero, suc, length, map, subst}
+use Rattle.std.proofs.lemmas.{Bool.Decides.nat_tests, List.append-nil}
+use Rattle.std.specs.{Cmp.Lexicographic.same_text, List.AllByRecursion}
+use Rattle.std.specs.Prelude.{ℤ, codes, pos, negsuc, Option, Some, None, option_map, nat_le}
+use Rattle.qh_model.specs.{declared.limits.TheConstants.POINT_LIMIT, headline.Limits.IsCoordinate, headline.Numbers.number_of, headline.Words.Word}
+use Rattle.qh_read.specs.contract.Progress.{Progress, wants_keyword, wants_vertex_count, wants_face_count, wants_edge_count, wants_vertices, fails, counted}
+use Rattle.qh_read.specs.{contract.Progress.after, contract.Tokens.cap, steps.Building.filled_in, steps.SmallTokens.capped}
+use Rattle.qh_read.proofs.ProgressLaws.{counts, is_off, judged, stays, numbers, Filled, filled_more, in_range}
 
 -- faces change nothing
 pub dropped : (t : List ℤ) (ws : List Word) → judged (wants_vertices 0 t) ws ≡ wants_vertices 0 t
@@ -44,31 +36,6 @@ front_filled (w ∷ ws) (suc k) t u h = by (λ z. front_filled ws k (t ++ z ∷ 
         let r = in_range (wants_vertices k) ws t u w.line z h in
         let f = rest (capped z) r.2 in
         record { front = w ∷ f.front; rest = f.rest; are = ap (λ (x : List Word). w ∷ x) f.are; filled = filled_more w f.front k t u z e r.0 r.1 f.filled }
-
-record Counts (z : ℤ) (ws : List Word) (u : List ℤ) : Type 0 where
-  pub n : ℕ
-  pub is : z ≡ pos n
-  pub some : 1 ≤ n
-  pub few : n ≤ POINT_LIMIT
-  pub filled : FrontFilled ws (3 * n) [] u
-
-counts : (z : ℤ) (ws : List Word) (u : List ℤ) → filled_in (judged (counted wants_vertices (capped z)) ws) ≡ Some u → Counts z ws u
-counts (negsuc n) ws u h = cc (ap filled_in (stays faults.Count ws))
-counts (pos n) ws u h = by (nat_le 1 (cap n) && nat_le (cap n) POINT_LIMIT) refl h
-  where
-    by : (b : Bool) → (nat_le 1 (cap n) && nat_le (cap n) POINT_LIMIT) ≡ b
-        → filled_in (judged (cond b (wants_vertices (3 * cap n) []) (fails faults.Count)) ws) ≡ Some u → Counts (pos n) ws u
-    by false e h = cc (ap filled_in (stays faults.Count ws))
-    by true e h =
-        let range : (1 ≤ cap n) × (cap n ≤ POINT_LIMIT) = grind (arith, nat_tests) in
-        let same : cap n ≡ n = omega arith in
-        record {
-          n = n;
-          is = refl;
-          some = omega arith;
-          few = omega arith;
-          filled = subst (λ (k : ℕ). FrontFilled ws (3 * k) [] u) same (front_filled ws (3 * cap n) [] u h);
-        }
 
 -- what a whole file is
 pub record Whole (ws : List Word) (u : List ℤ) : Type 0 where
@@ -128,7 +95,7 @@ whole (w ∷ ws) u h = by (is_off w) refl h
         (record { none = refl; bad = λ k l. refl; good = λ k z l. refl }) v.rest u v.filled in
         let g = count (wants_edge_count (capped v.z)) (λ z. counted wants_vertices (capped v.z))
         (record { none = refl; bad = λ k l. refl; good = λ k z l. refl }) f.rest u f.filled in
-        let c = counts v.z g.rest u g.filled in
+        let c = counts wants_vertices (λ k. FrontFilled g.rest k [] u) g.rest u (λ k. front_filled g.rest k [] u) v.z g.filled in
         let all : u ≡ c.filled.filled.more = c.filled.filled.all in
         let first : number_of v.w.text ≡ Some (pos c.n) = v.number ∙ ap Some c.is in
         record {

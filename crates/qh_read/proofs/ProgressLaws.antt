@@ -1,24 +1,13 @@
 -- A file that is filled in has a header and the number of coordinates that it says.
-use Rattle.std.proofs.Common.{◌≡◌, ◌≢◌, ◌∙◌, ◌++◌, [], ◌∷◌, ◌*◌, ◌≤◌, ◌&&◌, ℕ, List, Bool, true, false}
-use Rattle.std.proofs.Common.{cond, refl, ap, sym, arith, zero, suc, min, length, map, inl, inr, append_assoc, subst}
-use Rattle.std.proofs.lemmas.List.{append-nil}
-use Rattle.std.specs.Prelude.{ℤ, codes, pos, negsuc, Option, Some, None, option_map, nat_le}
-use Rattle.std.specs.List.{AllByRecursion}
-use Rattle.std.specs.Str.{bytes_eq}
-use Rattle.std.proofs.lemmas.Bool.{leb-true}
-use Rattle.std.proofs.lemmas.Bool.Decides.{nat_tests}
-use Rattle.qh_model.specs.headline.Limits.{IsCoordinate, is_coordinate}
-use Rattle.qh_model.specs.headline.FileFault.{is_three}
-use Rattle.qh_model.specs.declared.limits.TheConstants.{COORDINATE_LIMIT, POINT_LIMIT}
-use Rattle.qh_model.specs.headline.Words.{Word}
-use Rattle.qh_model.specs.headline.Numbers.{number_of}
-use Rattle.qh_model.specs.headline.PointFile.{IsHeader}
-use Rattle.qh_read.specs.contract.Tokens.{cap}
-use Rattle.qh_read.specs.steps.SmallTokens.{capped}
-use Rattle.qh_read.specs.steps.Building.{filled_in}
-use Rattle.qh_read.specs.contract.Progress.{Progress, wants_first, wants_second, wants, fails, counted, took, after}
-use Rattle.qh_model.specs.declared.read_fault.ReadFault.{ReadFault}
 use Rattle.qh_model.specs.declared.read_fault.ReadFault.TheVariants as faults
+use Rattle.std.proofs.Common.{◌≡◌, ◌≢◌, ◌∙◌, ◌++◌, [], ◌∷◌, ◌*◌, ◌≤◌, ◌&&◌, ℕ, List, Bool, true, false, cond, refl, ap, sym, arith, zero, suc, min, length, map}
+use Rattle.std.proofs.{Common.inl, Common.inr, Common.append_assoc, Common.subst, lemmas.Bool.leb-true, lemmas.Bool.Decides.nat_tests, lemmas.List.append-nil}
+use Rattle.std.specs.{List.AllByRecursion, Prelude.ℤ, Prelude.codes, Prelude.pos, Prelude.negsuc, Prelude.Option, Prelude.Some, Prelude.None}
+use Rattle.std.specs.{Prelude.option_map, Prelude.nat_le, Str.bytes_eq}
+use Rattle.qh_model.specs.declared.{limits.TheConstants.COORDINATE_LIMIT, limits.TheConstants.POINT_LIMIT, read_fault.ReadFault.ReadFault}
+use Rattle.qh_model.specs.headline.{FileFault.is_three, Limits.IsCoordinate, Limits.is_coordinate, Numbers.number_of, PointFile.IsHeader, Words.Word}
+use Rattle.qh_read.specs.contract.Progress.{Progress, wants_first, wants_second, wants, fails, counted, took, after}
+use Rattle.qh_read.specs.{contract.Tokens.cap, steps.Building.filled_in, steps.SmallTokens.capped}
 
 -- the number of a word, as far as it is told apart
 abbrev pub number_in : Word → Option ℤ
@@ -104,21 +93,24 @@ three (negsuc n) h = cc
 not_three : (z : ℤ) → is_three (capped z) ≡ false → z ≢ pos 3
 not_three z h e = let at : is_three (capped (pos 3)) ≡ false = subst (λ (y : ℤ). is_three (capped y) ≡ false) e h in cc
 
-pub record Counts (z : ℤ) (ws : List Word) (u : List ℤ) : Type 0 where
+-- a number of points that is told, with what fills its coordinates
+pub record Counts (z : ℤ) (Full : ℕ → Type 0) : Type 0 where
   pub n : ℕ
   pub is : z ≡ pos n
   pub some : 1 ≤ n
   pub few : n ≤ POINT_LIMIT
-  pub filled : Filled ws (3 * n) [] u
+  pub filled : Full (3 * n)
 
-counts : (z : ℤ) (ws : List Word) (u : List ℤ) → filled_in (judged (counted wants (capped z)) ws) ≡ Some u → Counts z ws u
-counts (negsuc n) ws u h = cc (ap filled_in (stays faults.Count ws))
-counts (pos n) ws u h = by (nat_le 1 (cap n) && nat_le (cap n) POINT_LIMIT) refl h
+pub counts : (next : ℕ → List ℤ → Progress) (Full : ℕ → Type 0) (ws : List Word) (u : List ℤ)
+    → ((k : ℕ) → filled_in (judged (next k []) ws) ≡ Some u → Full k)
+    → (z : ℤ) → filled_in (judged (counted next (capped z)) ws) ≡ Some u → Counts z Full
+counts next Full ws u fill (negsuc n) h = cc (ap filled_in (stays faults.Count ws))
+counts next Full ws u fill (pos n) h = in_limits (nat_le 1 (cap n) && nat_le (cap n) POINT_LIMIT) refl h
   where
-    by : (b : Bool) → (nat_le 1 (cap n) && nat_le (cap n) POINT_LIMIT) ≡ b
-        → filled_in (judged (cond b (wants (3 * cap n) []) (fails faults.Count)) ws) ≡ Some u → Counts (pos n) ws u
-    by false e h = cc (ap filled_in (stays faults.Count ws))
-    by true e h =
+    in_limits : (b : Bool) → (nat_le 1 (cap n) && nat_le (cap n) POINT_LIMIT) ≡ b
+        → filled_in (judged (cond b (next (3 * cap n) []) (fails faults.Count)) ws) ≡ Some u → Counts (pos n) Full
+    in_limits false e h = cc (ap filled_in (stays faults.Count ws))
+    in_limits true e h =
         let range : (1 ≤ cap n) × (cap n ≤ POINT_LIMIT) = grind (arith, nat_tests) in
         let same : cap n ≡ n = omega arith in
         record {
@@ -126,7 +118,7 @@ counts (pos n) ws u h = by (nat_le 1 (cap n) && nat_le (cap n) POINT_LIMIT) refl
           is = refl;
           some = omega arith;
           few = omega arith;
-          filled = subst (λ (k : ℕ). Filled ws (3 * k) [] u) same (filled ws (3 * cap n) [] u h);
+          filled = subst (λ (k : ℕ). Full (3 * k)) same (fill (3 * cap n) h);
         }
 
 -- what a whole file is
@@ -146,7 +138,7 @@ whole [] u h = cc
 whole (w ∷ ws) u h = one (number_of w.text) refl h
   where
     made : (a b z : ℤ) (vs : List Word) (v : Word) → ws ≡ v ∷ vs → number_of w.text ≡ Some a → number_of v.text ≡ Some b
-        → ((n : ℕ) → z ≡ pos n → IsHeader a b n) → Counts z vs u → Whole (w ∷ ws) u
+        → ((n : ℕ) → z ≡ pos n → IsHeader a b n) → Counts z (λ k. Filled vs k [] u) → Whole (w ∷ ws) u
     made a b z vs v s e f header c =
         let all : u ≡ c.filled.more = c.filled.all in
         let rest : numbers (v ∷ vs) ≡ map Some (b ∷ u) = cc (c.filled.are, f) in
@@ -163,11 +155,14 @@ whole (w ∷ ws) u h = one (number_of w.text) refl h
           limit = subst (AllByRecursion IsCoordinate) (sym all) c.filled.limit;
         }
 
+    told : (z : ℤ) (vs : List Word) → filled_in (judged (counted wants (capped z)) vs) ≡ Some u → Counts z (λ k. Filled vs k [] u)
+    told z vs = counts wants (λ k. Filled vs k [] u) vs u (λ k. filled vs k [] u) z
+
     head : (a b : ℤ) (vs : List Word) (v : Word) → ws ≡ v ∷ vs → number_of w.text ≡ Some a → number_of v.text ≡ Some b
         → (p q : Bool) → is_three (capped a) ≡ p → is_three (capped b) ≡ q
         → filled_in (judged (cond p (counted wants (capped b)) (cond q (counted wants (capped a)) (fails faults.NotThree))) vs) ≡ Some u → Whole (w ∷ ws) u
-    head a b vs v s e f true q pe qe h = made a b b vs v s e f (λ n is. inl (three a pe, is)) (counts b vs u h)
-    head a b vs v s e f false true pe qe h = made a b a vs v s e f (λ n is. inr (not_three a pe, three b qe, is)) (counts a vs u h)
+    head a b vs v s e f true q pe qe h = made a b b vs v s e f (λ n is. inl (three a pe, is)) (told b vs h)
+    head a b vs v s e f false true pe qe h = made a b a vs v s e f (λ n is. inr (not_three a pe, three b qe, is)) (told a vs h)
     head a b vs v s e f false false pe qe h = cc (ap filled_in (stays faults.NotThree vs))
 
     two : (a : ℤ) (vs : List Word) (v : Word) → ws ≡ v ∷ vs → number_of w.text ≡ Some a → (o : Option ℤ) → number_of v.text ≡ o

@@ -1,19 +1,12 @@
 -- The bytes that a source gives over several reads.
+use Rattle.qh_model.specs.declared.read_fault.ReadFault.TheVariants as faults
+use Rattle.qh_read.specs.declared.fault.FeedFault.TheVariants as refusals
 use Rattle.std.proofs.Common.{◌≡◌, ◌≢◌, ◌≤◌, ◌<◌, ◌∙◌, ◌++◌, ◌+◌, ℕ, List, [], refl, ap, sym, subst, arith, length, length-append, append_assoc}
 use Rattle.std.proofs.lemmas.List.{append-nil}
-use Rattle.std.specs.Prelude.{Option, Some, None}
-use Rattle.std.specs.Io.KnownBytes.{Consumes}
-use Rattle.qh_model.specs.declared.limits.TheConstants.{BYTE_LIMIT}
-use Rattle.qh_model.specs.declared.read_fault.ReadFault.{ReadFault}
-use Rattle.qh_model.specs.declared.read_fault.ReadFault.TheVariants as faults
-use Rattle.qh_model.specs.declared.form.Form.{Form}
-use Rattle.qh_read.specs.contract.Holding.{Reading, Fed}
-use Rattle.qh_read.specs.contract.ReadFaults.{read_fault}
-use Rattle.qh_read.specs.declared.fault.FeedFault.{FeedFault}
-use Rattle.qh_read.specs.declared.fault.FeedFault.TheVariants as refusals
-use Rattle.qh_read.specs.headline.SourceBytes.{Gives}
-use Rattle.qh_read.specs.declared.whole.TheConstants.{PIECE_LENGTH}
-use Rattle.qh_read.specs.steps.Sources.{FedOn, Stops}
+use Rattle.std.specs.{Io.KnownBytes.Consumes, Prelude.Option, Prelude.Some, Prelude.None}
+use Rattle.qh_model.specs.declared.{form.Form.Form, limits.TheConstants.BYTE_LIMIT, read_fault.ReadFault.ReadFault}
+use Rattle.qh_read.specs.{contract.Holding.Reading, contract.Holding.Fed, contract.ReadFaults.read_fault, declared.fault.FeedFault.FeedFault}
+use Rattle.qh_read.specs.{declared.whole.TheConstants.PIECE_LENGTH, headline.SourceBytes.Gives, steps.Sources.FedOn, steps.Sources.Stops}
 
 -- what two reads give, one after the other
 pub Consumes-append : (old mid new : Option (List ℕ)) (xs ys : List ℕ) → Consumes old mid xs → Consumes mid new ys → Consumes old new (xs ++ ys)
@@ -47,8 +40,7 @@ FedOn-append a b d old mid new f g = record {
 -- why reading stops, by another name
 pub Stops-equal : (e f : ReadFault) (before : ℕ) (old new : Option (List ℕ)) (failures failures_after : ℕ) → e ≡ f
     → Stops f before old new failures failures_after → Stops e before old new failures failures_after
-Stops-equal e f before old new failures failures_after same s =
-    subst (λ (x : ReadFault). Stops x before old new failures failures_after) (sym same) s
+Stops-equal e f before old new failures failures_after same s = subst (λ (x : ReadFault). Stops x before old new failures failures_after) (sym same) s
 
 -- why reading stops after these bytes
 pub Stops-after : (e : ReadFault) (before : ℕ) (old mid new : Option (List ℕ))

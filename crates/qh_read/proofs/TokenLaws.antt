@@ -1,23 +1,18 @@
 -- The token of a word tells its number, as far as numbers are told apart.
 use Rattle.std.proofs.Common.{◌≡◌, ◌∙◌, [], ◌∷◌, ◌+◌, ◌-◌, ◌*◌, ◌≤◌, ◌==◌, ◌&&◌, ℕ, List, Bool, true, false, cond, refl, ap, sym, arith, zero, suc, min}
-use Rattle.std.specs.Prelude.{codes, pos, neg_ℤ, Option, Some, None, option_map}
-use Rattle.std.specs.Char.{is_ascii_digit}
-use Rattle.std.specs.Str.{bytes_eq}
 use Rattle.std.proofs.lemmas.Bool.Decides.{nat_tests}
+use Rattle.std.specs.{Char.is_ascii_digit, Prelude.codes, Prelude.pos, Prelude.neg_ℤ, Prelude.Option, Prelude.Some, Prelude.None, Prelude.option_map}
+use Rattle.std.specs.Str.{bytes_eq}
 use Rattle.qh_model.specs.declared.limits.TheConstants.{COORDINATE_LIMIT}
 use Rattle.qh_model.specs.headline.Numbers.{read_digits, are_digits, magnitude_of, number_of}
 use Rattle.qh_read.specs.contract.Tokens.{cap, grown, signed, value_of, is_keyword}
+use Rattle.qh_read.specs.declared.token.Token.{Token, TheVariants.Empty, TheVariants.Sign, TheVariants.Digits, TheVariants.Keyword, TheVariants.Other}
 use Rattle.qh_read.specs.steps.SmallTokens.{capped}
-use Rattle.qh_read.specs.declared.token.Token.{Token}
-use Rattle.qh_read.specs.declared.token.Token.TheVariants.{Empty, Sign, Digits, Keyword, Other}
 
 -- the token after these bytes
 abbrev pub grown_by : Token → List ℕ → Token
 grown_by t [] = t
 grown_by t (c ∷ cs) = grown_by (grown t c) cs
-
-cap_step : (n d : ℕ) → cap (10 * cap n + d) ≡ cap (10 * n + d)
-cap_step n d = omega arith
 
 digit_small : (c : ℕ) → is_ascii_digit c ≡ true → c - 48 ≤ 9
 digit_small c h = grind (arith, nat_tests)
@@ -33,7 +28,7 @@ digits (c ∷ cs) minus n = at (digits cs minus (10 * n + (c - 48))) (is_ascii_d
     at : grown_by (Digits minus (cap (10 * n + (c - 48)))) cs ≡ cond (are_digits cs) (Digits minus (cap (read_digits (10 * n + (c - 48)) cs))) Other
         → (b : Bool) → grown_by (cond b (Digits minus (cap (10 * cap n + (c - 48)))) Other) cs
         ≡ cond (b && are_digits cs) (Digits minus (cap (read_digits (10 * n + (c - 48)) cs))) Other
-    at more true = ap (λ k. grown_by (Digits minus k) cs) (cap_step n (c - 48)) ∙ more
+    at more true = ap (λ k. grown_by (Digits minus k) cs) (omega arith) ∙ more
     at more false = others cs
 
 shown_value : (b minus : Bool) (n : ℕ) → value_of (cond b (Digits minus (cap n)) Other) ≡ option_map (λ k. signed minus (cap k)) (cond b (Some n) None)

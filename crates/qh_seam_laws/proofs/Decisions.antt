@@ -1,7 +1,6 @@
 -- Claims that are decided, as marks, and numbers that cannot be above 0.
 use Rattle.std.proofs.Common.{◌≡◌, refl, sym, ◌⊎◌, inl, inr, Bool, true, false}
-use Rattle.std.proofs.lemmas.Int.{by_lt_z}
-use Rattle.std.proofs.lemmas.Bool.{both_ways}
+use Rattle.std.proofs.lemmas.{Bool.both_ways, Int.by_lt_z}
 use Rattle.std.specs.Prelude.{ℤ, pos, ◌≤ℤ◌, ◌<ℤ◌}
 
 -- what cannot be above 0 is at most 0

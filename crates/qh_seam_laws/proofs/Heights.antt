@@ -1,10 +1,8 @@
 -- Heights above facets, and facets in one plane.
 use Rattle.std.proofs.Common.{◌≡◌, ℕ, sym, ◌⊎◌, inl, inr, refl}
 use Rattle.std.specs.Prelude.{pos, ◌≤ℤ◌, ◌<ℤ◌}
-use Rattle.qh_model.specs.headline.{Vector.Vector}
-use Rattle.qh_model.specs.contract.{Weighted.weighted, Surface.Surface, Surface.rise}
-use Rattle.qh_model.specs.contract.FinishedSurface.{weighted_at}
-use Rattle.qh_model.specs.laws.FacetPlanes.{IsLevelWith, IsLevelFacet}
+use Rattle.qh_model.specs.contract.{FinishedSurface.weighted_at, Surface.Surface, Surface.rise, Weighted.weighted}
+use Rattle.qh_model.specs.{headline.Vector.Vector, laws.FacetPlanes.IsLevelWith, laws.FacetPlanes.IsLevelFacet}
 use Rattle.qh_model.proofs.algebra.{Order.zero_or_not, Signs.equal_nonpos, Signs.equal_positive}
 use Rattle.qh_model.proofs.surfaces.{Facets.of_corners, SurfaceLaws.rise_is_vol}
 use Rattle.qh_seam_laws.specs.contract.Seam.{height_over}

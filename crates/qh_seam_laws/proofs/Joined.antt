@@ -1,11 +1,10 @@
 -- Faces of parts and of the kept ids that close up are the faces of all.
 use Rattle.std.proofs.Common.{ℕ, ◌⊎◌, inl, inr, refl, List}
 use Rattle.std.specs.Prelude.{pos, ◌↔◌}
-use Rattle.qh_model.specs.headline.{Vector.Vector, Predicates.vol, Sets.Members, Extreme.Extreme}
-use Rattle.qh_model.specs.contract.{IdSets.HasDistinctPoints, ClosedPolygons.AreClosedFaces, ClosedPolygons.IsFace}
-use Rattle.qh_model.proofs.algebra.Signs.{less_differ}
-use Rattle.qh_model.proofs.extremes.{ExtremeIds.listed_itself, ExtremeIds.extremes_between, Faces.support_of_extremes}
-use Rattle.qh_model.proofs.polygons.ClosedFaces.{closed_faces_are_all, closed_faces_have_extremes}
+use Rattle.qh_model.specs.contract.{ClosedPolygons.AreClosedFaces, ClosedPolygons.IsFace, IdSets.HasDistinctPoints}
+use Rattle.qh_model.specs.headline.{Extreme.Extreme, Predicates.vol, Sets.Members, Vector.Vector}
+use Rattle.qh_model.proofs.{algebra.Signs.less_differ, extremes.ExtremeIds.listed_itself, extremes.ExtremeIds.extremes_between}
+use Rattle.qh_model.proofs.{extremes.Faces.support_of_extremes, polygons.ClosedFaces.closed_faces_are_all, polygons.ClosedFaces.closed_faces_have_extremes}
 use Rattle.qh_seam_laws.specs.contract.Parts.{AreKept, IsPartFace, AreJoined}
 use Rattle.qh_seam_laws.specs.laws.PartLaws.{FacesOfKept, JoinedAreFaces, JoinedHaveExtremes, PartIsSolid}
 use Rattle.qh_seam_laws.proofs.Parts.{staying_supports, staying_has_polygon, polygon_of_same}
@@ -43,8 +42,7 @@ faces_of_kept at all kept d k q (i, j, l, t, p) = (
 -- each joined face is a face of all
 pub closed_faces : (at : ℕ → Vector) (all kept : List ℕ) (qs : List (List ℕ)) → HasDistinctPoints at (Members all) → AreKept at all kept
     → AreJoined at all kept qs → AreClosedFaces at (Members all) qs
-closed_faces at all kept qs d k j =
-    record { some = j.some; there = j.there; faces = λ q i. face q (j.each q i); closed = j.closed }
+closed_faces at all kept qs d k j = record { some = j.some; there = j.there; faces = λ q i. face q (j.each q i); closed = j.closed }
   where
     face : (q : List ℕ) → IsPartFace at all kept q ⊎ IsFace at (Members kept) q → IsFace at (Members all) q
     face q (inl p) = part_face at all kept q d k p

@@ -1,26 +1,17 @@
 -- A point in the plane of a facet that is above none of the facets beside that plane is above none at all.
-use Rattle.std.proofs.Common.{◌≡◌, ℕ, suc, arith, refl, sym, ◌∙◌, ap, ◌⊎◌, inl, inr, Bool, true, false, List}
-use Rattle.std.proofs.lemmas.Int.{ints}
-use Rattle.std.proofs.lemmas.Bool.{and_parts}
+use Rattle.std.proofs.Common.{◌≡◌, ℕ, suc, arith, refl, sym, ◌∙◌, ap, inl, inr, Bool, true, false, List, ⊎_elim}
+use Rattle.std.proofs.lemmas.{Bool.and_parts, Int.ints}
 use Rattle.std.specs.Prelude.{ℤ, pos, ◌+ℤ◌, ◌*ℤ◌, neg_ℤ, ◌≤ℤ◌, ◌<ℤ◌, ◌&&◌}
-use Rattle.qh_model.specs.headline.{Vector.Vector, Sets.In}
-use Rattle.qh_model.specs.contract.Weighted.{Weighted, weighted, above}
-use Rattle.qh_model.specs.contract.Surface.{Side, Surface, IsCorner, rise, Sees}
-use Rattle.qh_model.specs.contract.SoundSurface.{towards}
-use Rattle.qh_model.specs.contract.FinishedSurface.{weighted_at, middle_at, IsFinished}
-use Rattle.qh_model.specs.laws.FacetPlanes.{IsLevelFacet, IsPlaneWalk}
-use Rattle.qh_model.proofs.algebra.Order.{mul-nonneg, mul-nonneg_nonpos, positive_le, product_zero}
-use Rattle.qh_model.proofs.algebra.Signs.{less_differ, equal_positive}
-use Rattle.qh_model.proofs.algebra.Integers.{one_mul}
-use Rattle.qh_model.proofs.extremes.Directions.{vol_along, zero_along}
-use Rattle.qh_model.proofs.surfaces.PerturbedInwards.{bound, scale}
-use Rattle.qh_model.proofs.surfaces.Facets.{middle, sum_blind, sum_level}
+use Rattle.qh_model.specs.contract.{FinishedSurface.weighted_at, FinishedSurface.middle_at, FinishedSurface.IsFinished, SoundSurface.towards, Surface.Side}
+use Rattle.qh_model.specs.contract.{Surface.Surface, Surface.IsCorner, Surface.rise, Surface.Sees, Weighted.Weighted, Weighted.weighted, Weighted.above}
+use Rattle.qh_model.specs.{headline.Sets.In, headline.Vector.Vector, laws.FacetPlanes.IsLevelFacet, laws.FacetPlanes.IsPlaneWalk}
+use Rattle.qh_model.proofs.algebra.{Integers.one_mul, Order.mul-nonneg, Order.mul-nonneg_nonpos, Order.positive_le, Order.product_zero, Signs.less_differ}
+use Rattle.qh_model.proofs.{algebra.Signs.equal_positive, extremes.Directions.vol_along, extremes.Directions.zero_along}
 use Rattle.qh_model.proofs.surfaces.CoveredPlanes.{above-last, beyond, on_sees_beyond, sees_beyond_on}
-use Rattle.qh_model.proofs.surfaces.SurfaceLaws.{walk_finds_all}
-use Rattle.qh_model.proofs.surfaces.Finished.{unseen_above}
 use Rattle.qh_model.proofs.surfaces.FacetPlanes.{level_facets_span, plane_walk_finds_all, level_itself, level_back, seen_level}
-use Rattle.qh_seam_laws.specs.contract.Seam.{height_over, IsBelowAll, IsRing}
-use Rattle.qh_seam_laws.specs.laws.PointLaws.{IsBeside, SidesHideRest}
+use Rattle.qh_model.proofs.surfaces.Facets.{middle, sum_blind, sum_level}
+use Rattle.qh_model.proofs.surfaces.{Finished.unseen_above, PerturbedInwards.bound, PerturbedInwards.scale, SurfaceLaws.walk_finds_all}
+use Rattle.qh_seam_laws.specs.{contract.Seam.height_over, contract.Seam.IsBelowAll, contract.Seam.IsRing, laws.PointLaws.IsBeside, laws.PointLaws.SidesHideRest}
 use Rattle.qh_seam_laws.proofs.Decisions.{at_most_zero, flag, flag-holds, flag-true}
 use Rattle.qh_seam_laws.proofs.Heights.{rise_is_height, blind_rise, seen_rise, level_or_not}
 
@@ -100,8 +91,7 @@ module _ (at : ℕ → Vector) (ids : List ℕ) (m : Surface) (z : IsFinished at
 
       y_level : rise m home g y ≡ pos 0
       y_level =
-          sees_beyond_on _ _ _ o y b ((bound (λ g. rise m home g o) m.live).1 g i).1
-          (let sum = y-is g in omega (arith, ints, sum, mid_low, share_low)) sees
+          sees_beyond_on _ _ _ o y b ((bound (λ g. rise m home g o) m.live).1 g i).1 (let sum = y-is g in omega (arith, ints, sum, mid_low, share_low)) sees
 
       mid_level : mid g ≡ pos 0
       mid_level = let sum = y-is g in omega (arith, ints, sum, mid_low, share_low, y_level)
@@ -123,16 +113,11 @@ module _ (at : ℕ → Vector) (ids : List ℕ) (m : Surface) (z : IsFinished at
       in_plane h = flag (level_or_not at m f h)
 
       grows : (h : ℕ) → In h m.live → (s : Side) → in_plane h ≡ true → Sees m home (m.over h s) x → in_plane (m.over h s) ≡ true
-      grows h j s e sees = decide (level_or_not at m f (m.over h s))
+      grows h j s e sees = ⊎_elim (λ level. flag-true (level_or_not at m f (m.over h s)) level)
+          (λ other. absurd (beside_blind (m.over h s) (z.whole h j s).live other (sides (m.over h s) (beside other)) sees)) (level_or_not at m f (m.over h s))
         where
           beside : ¬ (IsLevelFacet at m f (m.over h s)) → IsBeside at m f (m.over h s)
-          beside other =
-              record { h = h; live = j; level = flag-holds (level_or_not at m f h) e; side = s; over_is = refl; other = other }
-
-          decide : IsLevelFacet at m f (m.over h s) ⊎ (¬ (IsLevelFacet at m f (m.over h s))) → in_plane (m.over h s) ≡ true
-          decide (inl level) = flag-true (level_or_not at m f (m.over h s)) level
-          decide (inr other) =
-              absurd (beside_blind (m.over h s) (z.whole h j s).live other (sides (m.over h s) (beside other)) sees)
+          beside other = record { h = h; live = j; level = flag-holds (level_or_not at m f h) e; side = s; over_is = refl; other = other }
 
       found : pos 0 <ℤ height_over at m g p → IsLevelFacet at m f g
       found above = flag-holds (level_or_not at m f g) (walk_finds_all m home o z.whole z.sound x in_plane (record {
@@ -151,8 +136,7 @@ sides_hide_rest = hidden
 pub level_stay : (at : ℕ → Vector) (ids : List ℕ) (m : Surface) → IsFinished at ids m → (f : ℕ) → In f m.live → (stay : ℕ → Bool)
     → stay f ≡ true → ((g : ℕ) → IsRing m stay g → IsLevelFacet at m f g → ⊥)
     → (g : ℕ) → In g m.live → IsLevelFacet at m f g → stay g ≡ true
-level_stay at ids m z f live stay stays none g i level =
-    (marked g (plane_walk_finds_all at ids m z f live both walk g i level)).0
+level_stay at ids m z f live stay stays none g i level = (marked g (plane_walk_finds_all at ids m z f live both walk g i level)).0
   where
     both : ℕ → Bool
     both h = stay h && flag (level_or_not at m f h)

@@ -3,7 +3,6 @@ pub mod Heights
 pub mod Rings
 pub mod LevelPoints
 pub mod Between
-pub mod Faces
 pub mod Slabs
 pub mod Parts
 pub mod Joined

@@ -1,51 +1,22 @@
 -- The facets of a part that stay support all, and those in clear planes have the polygons of all.
-use Rattle.std.proofs.Common.{◌≡◌, ℕ, refl, sym, subst, ◌∙◌, ap, ◌⊎◌, inl, inr, Bool, true, false, List, ◌∷◌}
+use Rattle.std.proofs.Common.{◌≡◌, ℕ, refl, subst, ◌∙◌, ap, ◌⊎◌, inl, inr, Bool, true, false, List, ◌∷◌, ⊎_elim}
 use Rattle.std.specs.Prelude.{pos, ◌≤ℤ◌, ◌<ℤ◌, ◌↔◌}
-use Rattle.qh_model.specs.headline.{Vector.Vector, Sets.In, Sets.Members, Extreme.Others, Extreme.Extreme}
-use Rattle.qh_model.specs.headline.{SupportingPlane.Supports, SupportingPlane.OnPlane, Polygons.IsFacePolygon}
-use Rattle.qh_model.specs.contract.{IdSets.HasDistinctPoints, Surface.Surface, FinishedSurface.IsFinished}
-use Rattle.qh_model.specs.laws.{CompletenessLaws.IsLiveCorner, FacetPlanes.IsLevelFacet}
+use Rattle.qh_model.specs.contract.{FinishedSurface.IsFinished, IdSets.HasDistinctPoints, Surface.Surface}
+use Rattle.qh_model.specs.headline.{Extreme.Others, Extreme.Extreme, Polygons.IsFacePolygon, Sets.In, Sets.Members, SupportingPlane.Supports}
+use Rattle.qh_model.specs.{headline.SupportingPlane.OnPlane, headline.Vector.Vector, laws.CompletenessLaws.IsLiveCorner, laws.FacetPlanes.IsLevelFacet}
 use Rattle.qh_model.proofs.algebra.{Order.zero_or_not, Signs.not_less, Signs.less_differ}
 use Rattle.qh_model.proofs.extremes.ExtremeIds.{Listed, listed_itself, listed_part, extremes_between, combination_within}
 use Rattle.qh_model.proofs.extremes.Faces.{extremes_of_face, support_of_extremes}
-use Rattle.qh_model.proofs.surfaces.Finished.{facet_area, extremes_are_corners}
-use Rattle.qh_seam_laws.specs.contract.Seam.{height_over, IsBelowAll, SeesGone, IsRing}
-use Rattle.qh_seam_laws.specs.contract.Parts.{AreKept, IsPart, IsClear}
-use Rattle.qh_seam_laws.specs.laws.PointLaws.{IsBeside}
+use Rattle.qh_model.proofs.surfaces.{Finished.facet_area, Finished.extremes_are_corners, Inside.finished_with}
+use Rattle.qh_seam_laws.specs.contract.{Parts.AreKept, Parts.IsPart, Parts.IsClear, Seam.height_over, Seam.IsBelowAll, Seam.SeesGone, Seam.IsRing}
 use Rattle.qh_seam_laws.specs.laws.PartLaws.{StrictIsClear, SeamOfOthers, ExtremesAreKept, StayingSupports, StayingHasPolygon}
-use Rattle.qh_seam_laws.proofs.{Decisions.at_most_zero, Rings.ring_hides_rest}
-use Rattle.qh_seam_laws.proofs.LevelPoints.{sides_hide_rest, level_point, level_stay}
-
--- with one more id that is above no facet a surface is finished, too
-finished_with : (at : ℕ → Vector) (ids : List ℕ) (m : Surface) → IsFinished at ids m → (l : ℕ) → IsBelowAll at m (at l)
-    → IsFinished at (l ∷ ids) m
-finished_with at ids m z l b = record {
-  s = z.s;
-  t = z.t;
-  u = z.u;
-  v = z.v;
-  has_s = inr z.has_s;
-  has_t = inr z.has_t;
-  has_u = inr z.has_u;
-  has_v = inr z.has_v;
-  volume = z.volume;
-  whole = z.whole;
-  sound = z.sound;
-  some = z.some;
-  some_live = z.some_live;
-  corners = λ f i k c. inr (z.corners f i k c);
-  unseen = unseen;
-}
-  where
-    unseen : (f : ℕ) → In f m.live → (k : ℕ) → Members (l ∷ ids) k → height_over at m f (at k) ≤ℤ pos 0
-    unseen f i k (inl e) = subst (λ n. height_over at m f (at n) ≤ℤ pos 0) (sym e) (b f i)
-    unseen f i k (inr h) = z.unseen f i k h
+use Rattle.qh_seam_laws.specs.laws.PointLaws.{IsBeside}
+use Rattle.qh_seam_laws.proofs.{Decisions.at_most_zero, LevelPoints.sides_hide_rest, LevelPoints.level_point, LevelPoints.level_stay, Rings.ring_hides_rest}
 
 -- the law
 pub extremes_are_kept : ExtremesAreKept
 extremes_are_kept at all ids m z sub l x i =
-    extremes_are_corners at ids m z l
-    (i, λ c. x.1 (combination_within at (Others (Members ids) l) (Others (Members all) l) (at l) c (λ j o. (sub j o.0, o.1))))
+    extremes_are_corners at ids m z l (i, λ c. x.1 (combination_within at (Others (Members ids) l) (Others (Members all) l) (at l) c (λ j o. (sub j o.0, o.1))))
 
 module _ (at : ℕ → Vector) (all kept ids : List ℕ) (m : Surface) (stay : ℕ → Bool) (distinct : HasDistinctPoints at (Members all))
     (known : AreKept at all kept) (part : IsPart at all kept ids m stay) where
@@ -54,11 +25,8 @@ module _ (at : ℕ → Vector) (all kept ids : List ℕ) (m : Surface) (stay : �
 
   -- a kept id is above no facet that stays
   below : (l : ℕ) → In l kept → (f : ℕ) → In f m.live → stay f ≡ true → height_over at m f (at l) ≤ℤ pos 0
-  below l h f live stays = by_answer (part.seam.answer l h)
-    where
-      by_answer : IsBelowAll at m (at l) ⊎ SeesGone at m stay (at l) → height_over at m f (at l) ≤ℤ pos 0
-      by_answer (inl b) = b f live
-      by_answer (inr s) = ring_hides_rest at ids m z stay (at l) s (λ g r. part.seam.ring g r l h) f live stays
+  below l h f live stays =
+      ⊎_elim (λ b. b f live) (λ s. ring_hides_rest at ids m z stay (at l) s (λ g r. part.seam.ring g r l h) f live stays) (part.seam.answer l h)
 
   -- so what stays supports all
   supports : (f : ℕ) → In f m.live → stay f ≡ true → Supports at (Members all) (m.i f) (m.j f) (m.k f)
@@ -90,8 +58,7 @@ module _ (at : ℕ → Vector) (all kept ids : List ℕ) (m : Surface) (stay : �
       where
         -- where it is above some facet no facet of the ring lies in the plane
         no_ring : pos 0 <ℤ height_over at m w (at l) → (g : ℕ) → IsRing m stay g → IsLevelFacet at m f g → ⊥
-        no_ring above g r level =
-            not_less (pos 0) _ above (clear g r level l (h, level_point at ids m z f live (at l) on g r.live level) w i)
+        no_ring above g r level = not_less (pos 0) _ above (clear g r level l (h, level_point at ids m z f live (at l) on g r.live level) w i)
 
         hidden : pos 0 <ℤ height_over at m w (at l) → IsBelowAll at m (at l)
         hidden above = sides_hide_rest at ids m z f live (at l) on side
@@ -119,10 +86,8 @@ module _ (at : ℕ → Vector) (all kept ids : List ℕ) (m : Surface) (stay : �
     Whole = OnPlane at (Members all) (m.i f) (m.j f) (m.k f)
 
     -- have the same extreme ids
-    same_extremes : (l : ℕ)
-        → OnPlane at (Extreme at (Members ids)) (m.i f) (m.j f) (m.k f) l ↔ OnPlane at (Extreme at (Members all)) (m.i f) (m.j f) (m.k f) l
-    same_extremes l =
-        between (listed_part (Members all) (λ h. height_over at m f (at h) ≡ pos 0) (λ h. zero_or_not _) all (listed_itself all))
+    same_extremes : (l : ℕ) → OnPlane at (Extreme at (Members ids)) (m.i f) (m.j f) (m.k f) l ↔ OnPlane at (Extreme at (Members all)) (m.i f) (m.j f) (m.k f) l
+    same_extremes l = between (listed_part (Members all) (λ h. height_over at m f (at h) ≡ pos 0) (λ h. zero_or_not _) all (listed_itself all))
       where
         small : (h : ℕ) → Extreme at Own h ↔ OnPlane at (Extreme at (Members ids)) (m.i f) (m.j f) (m.k f) h
         small h = extremes_of_face at ids (m.i f) (m.j f) (m.k f) (z.unseen f live) h
@@ -151,8 +116,7 @@ staying_supports at all kept ids m stay distinct known part f live stays = recor
 }
 
 -- polygons of one plane over sets with the same extreme ids in it
-pub polygon_of_same : (at : ℕ → Vector) (A B : ℕ → Type 0) (i j k : ℕ)
-    → ((l : ℕ) → OnPlane at (Extreme at A) i j k l → OnPlane at (Extreme at B) i j k l)
+pub polygon_of_same : (at : ℕ → Vector) (A B : ℕ → Type 0) (i j k : ℕ) → ((l : ℕ) → OnPlane at (Extreme at A) i j k l → OnPlane at (Extreme at B) i j k l)
     → ((l : ℕ) → OnPlane at (Extreme at B) i j k l → OnPlane at (Extreme at A) i j k l)
     → (q : List ℕ) → IsFacePolygon at A i j k q → IsFacePolygon at B i j k q
 polygon_of_same at A B i j k to from q p = record {
@@ -169,22 +133,17 @@ staying_has_polygon at all kept ids m stay distinct known part f live stays clea
   polygon_of_same at (Members all) (Members ids) (m.i f) (m.j f) (m.k f) (λ l. (same l).1) (λ l. (same l).0) q,
 )
   where
-    same : (l : ℕ)
-        → OnPlane at (Extreme at (Members ids)) (m.i f) (m.j f) (m.k f) l ↔ OnPlane at (Extreme at (Members all)) (m.i f) (m.j f) (m.k f) l
+    same : (l : ℕ) → OnPlane at (Extreme at (Members ids)) (m.i f) (m.j f) (m.k f) l ↔ OnPlane at (Extreme at (Members all)) (m.i f) (m.j f) (m.k f) l
     same = same_extremes at all kept ids m stay distinct known part f live stays clear
 
 -- the law
 pub strict_is_clear : StrictIsClear
-strict_is_clear at kept ids m stay z strict f g r level l h = by_cases (strict g r l h.0)
-  where
-    by_cases : In l ids ⊎ (height_over at m g (at l) <ℤ pos 0) → IsBelowAll at m (at l)
-    by_cases (inl i) = λ f live. z.unseen f live l i
-    by_cases (inr b) = absurd (less_differ _ (pos 0) b h.1)
+strict_is_clear at kept ids m stay z strict f g r level l h =
+    ⊎_elim (λ i. λ f live. z.unseen f live l i) (λ b. absurd (less_differ _ (pos 0) b h.1)) (strict g r l h.0)
 
 -- the law
 pub seam_of_others : SeamOfOthers
-seam_of_others at kept others ids m stay z split seam =
-    record { answer = λ l h. answer l (split l h); ring = λ f r l h. ring f r l (split l h) }
+seam_of_others at kept others ids m stay z split seam = record { answer = λ l h. answer l (split l h); ring = λ f r l h. ring f r l (split l h) }
   where
     answer : (l : ℕ) → In l ids ⊎ In l others → IsBelowAll at m (at l) ⊎ SeesGone at m stay (at l)
     answer l (inl i) = inl (λ f live. z.unseen f live l i)

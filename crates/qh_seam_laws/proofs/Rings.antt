@@ -2,15 +2,11 @@
 use Rattle.std.proofs.Common.{◌≡◌, ℕ, refl, ◌∙◌, ap, Bool, true, false}
 use Rattle.std.proofs.lemmas.Bool.{both_ways, not-true}
 use Rattle.std.specs.Prelude.{pos, ◌≤ℤ◌, not}
-use Rattle.qh_model.specs.headline.Sets.{In}
-use Rattle.qh_model.specs.contract.Weighted.{Weighted, weighted}
+use Rattle.qh_model.specs.contract.{FinishedSurface.weighted_at, FinishedSurface.middle_at, SoundSurface.IsSound}
 use Rattle.qh_model.specs.contract.Surface.{Side, Surface, IsWhole, rise, Sees}
-use Rattle.qh_model.specs.contract.SoundSurface.{IsSound}
-use Rattle.qh_model.specs.contract.FinishedSurface.{weighted_at, middle_at}
-use Rattle.qh_model.specs.laws.Horizons.{IsWalked}
+use Rattle.qh_model.specs.{contract.Weighted.Weighted, contract.Weighted.weighted, headline.Sets.In, laws.Horizons.IsWalked}
 use Rattle.qh_model.proofs.{algebra.Signs.not_less, surfaces.SurfaceLaws.walk_finds_all}
-use Rattle.qh_seam_laws.specs.contract.Seam.{IsRing}
-use Rattle.qh_seam_laws.specs.laws.PointLaws.{RingHidesRest}
+use Rattle.qh_seam_laws.specs.{contract.Seam.IsRing, laws.PointLaws.RingHidesRest}
 use Rattle.qh_seam_laws.proofs.{Decisions.at_most_zero, Heights.blind_rise, Heights.blind_height, Heights.seen_rise}
 
 -- a walk over what p sees does not come from what goes to what stays but over the ring
@@ -38,6 +34,5 @@ ring_hides m home o whole sound stay p w i gone sees ring f live stays =
 -- the law
 pub ring_hides_rest : RingHidesRest
 ring_hides_rest at ids m z stay p s ring f live stays =
-    blind_height at m f p
-    (ring_hides m (weighted_at at) (middle_at at z.s z.t z.u z.v) z.whole z.sound stay (weighted p) s.f s.live s.gone
+    blind_height at m f p (ring_hides m (weighted_at at) (middle_at at z.s z.t z.u z.v) z.whole z.sound stay (weighted p) s.f s.live s.gone
     (seen_rise at m s.f p s.sees) (λ g r. blind_rise at m g p (ring g r)) f live stays)

@@ -2,12 +2,10 @@
 use Rattle.std.proofs.Common.{◌≡◌, ◌≢◌, ℕ, ◌<◌, List, length, get_or, map, arith, sym, subst, ◌∙◌}
 use Rattle.std.proofs.lemmas.List.{length-map, get_or-map}
 use Rattle.std.specs.List.Sorted.{IsStrictlyIncreasing}
-use Rattle.qh_model.specs.headline.{Vector.Vector, Vector.origin, Predicates.place, Sets.In, Sets.Members}
-use Rattle.qh_model.specs.headline.{DistinctIds.AreDistinctIds, Extreme.Extreme, Hull.AreExtremes, Text.vertex_number}
-use Rattle.qh_model.proofs.{Members.In-get_or, Members.rising_once}
-use Rattle.qh_model.proofs.lists.{Images.in_map, Images.of_map, Rising.rising_between}
-use Rattle.qh_model.proofs.renamed.{Lists.rising_map, Positions.at_number, Positions.number_at, Positions.by_position}
-use Rattle.qh_model.proofs.renamed.{Positions.points_of, Positions.point_at}
+use Rattle.qh_model.specs.headline.{DistinctIds.AreDistinctIds, Extreme.Extreme, Hull.AreExtremes, Predicates.place, Sets.In, Sets.Members, Text.vertex_number}
+use Rattle.qh_model.specs.headline.Vector.{Vector, origin}
+use Rattle.qh_model.proofs.{Members.In-get_or, Members.rising_once, lists.Images.in_map, lists.Images.of_map, lists.Rising.rising_between}
+use Rattle.qh_model.proofs.renamed.{Lists.rising_map, Positions.at_number, Positions.number_at, Positions.by_position, Positions.points_of, Positions.point_at}
 use Rattle.qh_model.proofs.renamed.Renaming.{IsRenaming, renaming_back, extreme_renamed}
 use Rattle.qh_tree_laws.specs.laws.TreeLaws.{IsAnswer}
 
@@ -45,8 +43,7 @@ module _ (pts : List Vector) (ids : List ℕ) (rising : IsStrictlyIncreasing ids
           let low = r.0 in
           let within : j < length ids = omega (arith, h, low) in
           let before : get_or ids j 0 < i = subst (λ n. get_or ids j 0 < n) r.1 (rising_between ids j k rising h low) in
-          l.lowest (get_or ids j 0) before (In-get_or ids j 0 within)
-          (sym (point_of pts ids j within) ∙ e ∙ point_at pts ids i l.member)
+          l.lowest (get_or ids j 0) before (In-get_or ids j 0 within) (sym (point_of pts ids j within) ∙ e ∙ point_at pts ids i l.member)
 
   -- the id at a distinct position is the lowest of its point
   lowest_at : (k : ℕ) → In k qs → IsLowest pts ids (get_or ids k 0)
@@ -63,8 +60,7 @@ module _ (pts : List Vector) (ids : List ℕ) (rising : IsStrictlyIncreasing ids
           let here : vertex_number ids (get_or ids k 0) ≡ k = number_at ids k (rising_once ids rising) low in
           let before : vertex_number ids j < k =
           subst (λ p. vertex_number ids j < p) here (position_rises j (get_or ids k 0) n there h) in
-          ((d.members k).0 m).1 (vertex_number ids j) before
-          (point_at pts ids j n ∙ e ∙ sym (point_of pts ids k low))
+          ((d.members k).0 m).1 (vertex_number ids j) before (point_at pts ids j n ∙ e ∙ sym (point_of pts ids k low))
 
   -- so lowest ids and distinct positions name each other
   pub lowest_by_position : IsRenaming (place pts) (place (points_of pts ids)) (IsLowest pts ids) (Members qs)

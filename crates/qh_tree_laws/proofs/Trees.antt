@@ -1,16 +1,13 @@
 -- Whatever tree joins the parts of a list of points, its extreme ids come out, and their hull is that of all.
 use Rattle.std.proofs.Common.{◌≡◌, ◌≢◌, ℕ, ◌<◌, List, length, arith, sym, subst, ◌∙◌, ◌⊎◌, inl, inr}
 use Rattle.std.specs.List.Sorted.{IsStrictlyIncreasing}
-use Rattle.qh_model.specs.headline.{Vector.Vector, Predicates.place, Sets.In, Sets.Members}
-use Rattle.qh_model.specs.headline.{Combination.Combination, DistinctIds.AreDistinctIds, Extreme.Extreme, Extreme.Others}
-use Rattle.qh_model.specs.headline.Hull.{AreExtremes}
-use Rattle.qh_model.proofs.DistinctIds.{distinct_apart}
-use Rattle.qh_model.proofs.combinations.OtherNames.{combination_by_names}
+use Rattle.qh_model.specs.headline.{Combination.Combination, DistinctIds.AreDistinctIds, Extreme.Extreme, Extreme.Others, Hull.AreExtremes, Predicates.place}
+use Rattle.qh_model.specs.headline.{Sets.In, Sets.Members, Vector.Vector}
+use Rattle.qh_model.proofs.{Decisions.Decided, Decisions.in_or_not, DistinctIds.distinct_apart, combinations.OtherNames.combination_by_names}
 use Rattle.qh_model.proofs.extremes.ExtremeIds.{combination_within, members_are_combinations}
 use Rattle.qh_model.proofs.hulls.{SameSets.body_of_part, Unique.rising_list_is_unique, Unique.body_is_unique}
 use Rattle.qh_tree_laws.specs.laws.TreeLaws.{Tree, part, join, extremes, IsGiven, IsUnion, ComesOut, AnyTreeOfUnions, HullOfAnyTree}
-use Rattle.qh_tree_laws.proofs.Lowest.{Decided, in_or_not, lowest_id}
-use Rattle.qh_tree_laws.proofs.Answers.{IsLowest, answer_is}
+use Rattle.qh_tree_laws.proofs.{Answers.IsLowest, Answers.answer_is, Lowest.lowest_id}
 
 -- what comes out of a tree has ids of it, all extreme ids of the whole that it is given among them
 record IsKept (pts : List Vector) (ids : List ℕ) (t : Tree) (xs : List ℕ) : Type 0 where
@@ -85,15 +82,10 @@ module _ (pts : List Vector) (ids : List ℕ) (d : AreDistinctIds pts ids) where
     within = λ i m. subst (λ l. In i l) e m;
     has = λ i x g. subst (λ l. In i l) (sym e) g;
   }
-  kept (join s t) xs inside (ys, zs, f, g, u) =
-      joined s t ys zs xs u (kept s ys (λ i m. inside i (inl m)) f) (kept t zs (λ i m. inside i (inr m)) g)
+  kept (join s t) xs inside (ys, zs, f, g, u) = joined s t ys zs xs u (kept s ys (λ i m. inside i (inl m)) f) (kept t zs (λ i m. inside i (inr m)) g)
     where
       joined : (s t : Tree) (ys zs xs : List ℕ) → IsUnion ys zs xs → IsKept pts ids s ys → IsKept pts ids t zs → IsKept pts ids (join s t) xs
-      joined s t ys zs xs u a b = record {
-        rising = u.rising;
-        within = λ i m. from i ((u.members i).0 m);
-        has = λ i e g. (u.members i).1 (into i e g);
-      }
+      joined s t ys zs xs u a b = record { rising = u.rising; within = λ i m. from i ((u.members i).0 m); has = λ i e g. (u.members i).1 (into i e g) }
         where
           from : (i : ℕ) → In i ys ⊎ In i zs → IsGiven (join s t) i
           from i (inl m) = inl (a.within i m)
@@ -114,8 +106,7 @@ module _ (pts : List Vector) (ids : List ℕ) (d : AreDistinctIds pts ids) where
 
 -- the law
 pub any_tree_of_unions : AnyTreeOfUnions
-any_tree_of_unions pts t xs h whole (ys, f, answer) s =
-    rising_list_is_unique xs h.body.extremes x.rising s.body.extremes.rising (λ i. (down i, up i))
+any_tree_of_unions pts t xs h whole (ys, f, answer) s = rising_list_is_unique xs h.body.extremes x.rising s.body.extremes.rising (λ i. (down i, up i))
   where
     a : IsKept pts s.ids t ys
     a = kept pts s.ids s.distinct_ids t ys (λ i. (whole i).0) f
@@ -140,8 +131,7 @@ any_tree_of_unions pts t xs h whole (ys, f, answer) s =
 -- the law
 pub hull_of_any_tree : HullOfAnyTree
 hull_of_any_tree pts t xs b h whole out body s =
-    body_is_unique (place pts) s.ids b h.body
-    (body_of_part (place pts) s.ids xs b (distinct_apart pts s.ids s.distinct_ids) within has body)
+    body_is_unique (place pts) s.ids b h.body (body_of_part (place pts) s.ids xs b (distinct_apart pts s.ids s.distinct_ids) within has body)
     s.body
   where
     same : xs ≡ h.body.extremes

@@ -91,8 +91,7 @@ once_codes ((a, b) ∷ ps) small o = ((λ m. from_witness (of_map code ps (code 
 pub edges_by_keys : (faces : List (List ℕ)) (keys sorted : List ℕ) → AddsPairs (pairs_of faces) [] keys → IsPermutation keys sorted → IsSorted nat_cmp sorted
     → length (dedup eqb sorted) ≡ edge_count faces
 edges_by_keys faces keys sorted added same rising =
-    once_length (dedup eqb sorted) (map code (distinct ps))
-    (rising_once (dedup eqb sorted) (IsStrictlyIncreasing-dedup sorted rising))
+    once_length (dedup eqb sorted) (map code (distinct ps)) (rising_once (dedup eqb sorted) (IsStrictlyIncreasing-dedup sorted rising))
     (once_codes (distinct ps) small (once_distinct ps)) members
     ∙ length-map (distinct ps) code ∙ length-distinct ps
   where
@@ -104,13 +103,11 @@ edges_by_keys faces keys sorted added same rising =
 
     there : (z : ℕ) → (p : ℕ × ℕ) × In p ps × In z (pair_key p) → In z (map code (distinct ps))
     there z ((u, v), i, h) = let k = of_key u v z h in
-        subst (λ x. In x (map code (distinct ps))) (sym k.1)
-        (in_map code (distinct ps) (u, v) (in_distinct ps u v i k.0))
+        subst (λ x. In x (map code (distinct ps))) (sym k.1) (in_map code (distinct ps) (u, v) (in_distinct ps u v i k.0))
 
     back : (z : ℕ) → (p : ℕ × ℕ) × In p (distinct ps) × (z ≡ code p) → In z keys
     back z ((u, v), i, e) = let r = of_distinct ps u v i in
-        subst (λ x. In z x) (sym added.keys)
-        (subst (λ x. In x (flat_map pair_key ps)) (sym e)
+        subst (λ x. In z x) (sym added.keys) (subst (λ x. In x (flat_map pair_key ps)) (sym e)
         (in_flat_map pair_key ps (u, v) (code (u, v)) r.0 (in_key u v r.1)))
 
     members : (z : ℕ) → In z (dedup eqb sorted) ↔ In z (map code (distinct ps))
@@ -119,6 +116,5 @@ edges_by_keys faces keys sorted added same rising =
           (in_permutation sorted keys (IsPermutation-sym keys sorted same) z
           (of_contains sorted z (Contains-from_dedup eqb sorted z (to_contains (dedup eqb sorted) z m)))))),
       λ m. of_contains (dedup eqb sorted) z
-          (Contains-dedup_nat sorted z
-          (to_contains sorted z (in_permutation keys sorted same z (back z (of_map code (distinct ps) z m))))),
+          (Contains-dedup_nat sorted z (to_contains sorted z (in_permutation keys sorted same z (back z (of_map code (distinct ps) z m))))),
     )

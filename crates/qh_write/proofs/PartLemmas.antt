@@ -22,8 +22,7 @@ module _ {A : Type 0} (F : List A → List ℕ) (none : F [] ≡ []) (joined : (
       let start : 0 * size ≡ 0 = omega arith in
       let first : p.items ≡ F (take size xs) = subst (λ n. p.items ≡ F (take size (drop n xs))) start (each 0 p (omega arith)) in
       let rest : bytes_of ps ≡ F (drop size xs) =
-      in_a_row ps (drop size xs) (λ i d l. each (suc i) d (omega arith) ∙ ap (λ ys. F (take size ys)) (further i xs))
-      (omega (arith, length-drop size xs)) in
+      in_a_row ps (drop size xs) (λ i d l. each (suc i) d (omega arith) ∙ ap (λ ys. F (take size ys)) (further i xs)) (omega (arith, length-drop size xs)) in
       ap₂ (λ (a b : List ℕ). a ++ b) first rest ∙ sym (joined (take size xs) (drop size xs)) ∙ ap F (take-append-drop size xs)
 
   -- and so where they are made one by one

@@ -72,8 +72,7 @@ faces_by_numbers extremes count rising within (q ∷ qs) named =
 pub grown_by_faces : (extremes : List ℕ) (count : ℕ) (qs : List (List ℕ)) (table old new : List ℕ) → All (λ i. i < count) extremes → IsBodyInOrder extremes qs
     → table ≡ numbered (replicate count 0) 0 extremes → new ≡ old ++ flat_map (face_by_table table) qs → new ≡ old ++ flat_map (face_text extremes) qs
 grown_by_faces extremes count qs table old new within order is e =
-    e ∙ ap (λ (t : List ℕ). old ++ t)
-    (ap (λ (t : List ℕ). flat_map (face_by_table t) qs) is
+    e ∙ ap (λ (t : List ℕ). old ++ t) (ap (λ (t : List ℕ). flat_map (face_by_table t) qs) is
     ∙ faces_by_numbers extremes count order.rising within qs order.named)
 
 -- the table has a place for each vertex of each face
@@ -81,10 +80,8 @@ pub faces_numbered : (extremes : List ℕ) (count : ℕ) (qs : List (List ℕ)) 
     → table ≡ numbered (replicate count 0) 0 extremes → All (AreNumbered table) qs
 faces_numbered extremes count qs table within order is =
     let long : length table ≡ count = ap length is ∙ length-numbered (replicate count 0) extremes 0 ∙ length-replicate count 0 in
-    All-from_get_or (AreNumbered table) qs []
-    (λ k h. All-from_get_or (λ i. i < length table) (get_or qs k []) 0
+    All-from_get_or (AreNumbered table) qs [] (λ k h. All-from_get_or (λ i. i < length table) (get_or qs k []) 0
     (λ j l. let small : get_or (get_or qs k []) j 0 < count =
-    All-In (λ i. i < count) extremes _ within
-    (order.named (get_or qs k []) (In-get_or qs k [] h) (get_or (get_or qs k []) j 0)
+    All-In (λ i. i < count) extremes _ within (order.named (get_or qs k []) (In-get_or qs k [] h) (get_or (get_or qs k []) j 0)
     (In-get_or (get_or qs k []) j 0 l)) in
     omega (arith, small, long)))

@@ -1,5 +1,5 @@
 -- Signs of products. In a signature brackets are needed: `≤ℤ` binds tighter than `+ℤ` and `*ℤ`.
-use Rattle.std.proofs.Common.{◌≡◌, ℕ, zero, suc, ◌*◌, ◌≤◌, arith, ap, sym, ◌∙◌, refl, ◌⊎◌, inl, inr}
+use Rattle.std.proofs.Common.{◌≡◌, ℕ, zero, suc, ◌*◌, ◌≤◌, arith, ap, sym, ◌∙◌, refl, ◌⊎◌, inl, inr, ⊎_elim}
 use Rattle.std.proofs.{Math.IntN.*ℤ-zero, Math.Nat.mul-le-mul, lemmas.Int.ints, lemmas.Int.by_lt_z}
 use Rattle.std.specs.Prelude.{ℤ, pos, negsuc, ◌+ℤ◌, ◌-ℤ◌, ◌*ℤ◌, neg_ℤ, ◌≤ℤ◌, ◌<ℤ◌}
 use lib.IntN.{ℤ_discrete}
@@ -81,11 +81,7 @@ zero_product (negsuc n) b k = inr (cancel-zero (pos (suc n)) b (omega (arith, in
 
 -- a negative factor of 0
 pub cancel-zero_neg : (a b : ℤ) → a <ℤ pos 0 → a *ℤ b ≡ pos 0 → b ≡ pos 0
-cancel-zero_neg a b h k = other (zero_product a b k)
-  where
-    other : (a ≡ pos 0) ⊎ (b ≡ pos 0) → b ≡ pos 0
-    other (inl e) = absurd (omega (arith, ints, h, e))
-    other (inr e) = e
+cancel-zero_neg a b h k = ⊎_elim (λ e. absurd (omega (arith, ints, h, e))) (λ e. e) (zero_product a b k)
 
 -- a negative number and a positive one
 pub mul-neg_pos : (a b : ℤ) → a <ℤ pos 0 → pos 0 <ℤ b → (a *ℤ b) <ℤ pos 0

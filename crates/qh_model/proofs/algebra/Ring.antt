@@ -158,8 +158,7 @@ zero_term env c m p true e = rw (is_zero-is c e, zero_mul (value_m env m)) (sym 
 zero_term env c m p false e = refl
 
 -- a step of the next
-ins_p-split : (env : List ℤ) (c : ℤ) (m : Mono) (t : ℤ × Mono) (p q : Poly) (b b' : Bool)
-    → eq_m m t.1 ≡ b → value_p env q ≡ c *ℤ value_m env m +ℤ value_p env p
+ins_p-split : (env : List ℤ) (c : ℤ) (m : Mono) (t : ℤ × Mono) (p q : Poly) (b b' : Bool) → eq_m m t.1 ≡ b → value_p env q ≡ c *ℤ value_m env m +ℤ value_p env p
     → value_p env (elim b [
       | true ↦ elim (is_zero (c +ℤ t.0)) [ true ↦ p | false ↦ (c +ℤ t.0, m) ∷ p ]
       | false ↦ elim b' [ true ↦ (c, m) ∷ t ∷ p | false ↦ t ∷ q ]

@@ -32,8 +32,7 @@ pub sum_nonpos : (x a b c : ℤ) → x ≡ a +ℤ b +ℤ c → a ≤ℤ pos 0 �
 sum_nonpos x a b c e h k l = omega (arith, ints)
 
 -- where that is not below 0, all three are 0
-pub sum_parts : (x a b c : ℤ) → x ≡ a +ℤ b +ℤ c → a ≤ℤ pos 0 → b ≤ℤ pos 0 → c ≤ℤ pos 0 → pos 0 ≤ℤ x
-    → (a ≡ pos 0) × (b ≡ pos 0) × (c ≡ pos 0)
+pub sum_parts : (x a b c : ℤ) → x ≡ a +ℤ b +ℤ c → a ≤ℤ pos 0 → b ≤ℤ pos 0 → c ≤ℤ pos 0 → pos 0 ≤ℤ x → (a ≡ pos 0) × (b ≡ pos 0) × (c ≡ pos 0)
 sum_parts x a b c e h k l p = (omega (arith, ints), omega (arith, ints), omega (arith, ints))
 
 -- of three zeros

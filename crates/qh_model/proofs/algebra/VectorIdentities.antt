@@ -51,8 +51,7 @@ edge_product u v a b p y =
 -- signed volume: vol of the fourth point: antisymmetric, cyclic
 pub vol-flip : (u v o p : Vector) → vol u v o p ≡ neg_ℤ (vol v u o p)
 unfolding vol cross
-vol-flip u v o p =
-    ring (put u (put v (put o (put p [])))) (volE (vec 0) (vec 1) (vec 2) (vec 3)) (neg (volE (vec 1) (vec 0) (vec 2) (vec 3))) refl
+vol-flip u v o p = ring (put u (put v (put o (put p [])))) (volE (vec 0) (vec 1) (vec 2) (vec 3)) (neg (volE (vec 1) (vec 0) (vec 2) (vec 3))) refl
 
 -- and changes its sign where two points change places
 pub vol-swap_last : (a b c p : Vector) → vol a b c p ≡ neg_ℤ (vol a b p c)
@@ -63,10 +62,8 @@ vol-swap_last a b c p = ring (put a (put b (put c (put p [])))) (volE (vec 0) (v
 pub vol-boundary : (a b c o p : Vector) → vol a b c p ≡ vol a b c o +ℤ (vol a b o p +ℤ vol b c o p +ℤ vol c a o p)
 unfolding vol cross
 vol-boundary a b c o p =
-    ring (put a (put b (put c (put o (put p []))))) (volE (vec 0) (vec 1) (vec 2) (vec 4))
-    (add (volE (vec 0) (vec 1) (vec 2) (vec 3))
-    (add (add (volE (vec 0) (vec 1) (vec 3) (vec 4)) (volE (vec 1) (vec 2) (vec 3) (vec 4)))
-    (volE (vec 2) (vec 0) (vec 3) (vec 4)))) refl
+    ring (put a (put b (put c (put o (put p []))))) (volE (vec 0) (vec 1) (vec 2) (vec 4)) (add (volE (vec 0) (vec 1) (vec 2) (vec 3))
+    (add (add (volE (vec 0) (vec 1) (vec 3) (vec 4)) (volE (vec 1) (vec 2) (vec 3) (vec 4))) (volE (vec 2) (vec 0) (vec 3) (vec 4)))) refl
 
 -- separator cancellation, with d x = w . (x - p)
 unfoldable pub depth : Vector → Vector → Vector → ℤ
@@ -76,8 +73,7 @@ depth w p x = dot w (minus p x)
 pub vol-depths : (w a b c r p : Vector) → vol a b c p *ℤ depth w p r ≡ vol a b r p *ℤ depth w p c +ℤ vol b c r p *ℤ depth w p a +ℤ vol c a r p *ℤ depth w p b
 unfolding vol cross depth
 vol-depths w a b c r p =
-    ring (put w (put a (put b (put c (put r (put p []))))))
-    (mul (volE (vec 1) (vec 2) (vec 3) (vec 5)) (dotE (vec 0) (subE (vec 5) (vec 4))))
+    ring (put w (put a (put b (put c (put r (put p [])))))) (mul (volE (vec 1) (vec 2) (vec 3) (vec 5)) (dotE (vec 0) (subE (vec 5) (vec 4))))
     (add (add (mul (volE (vec 1) (vec 2) (vec 4) (vec 5)) (dotE (vec 0) (subE (vec 5) (vec 3))))
     (mul (volE (vec 2) (vec 3) (vec 4) (vec 5)) (dotE (vec 0) (subE (vec 5) (vec 1))))) (mul
     (volE (vec 3) (vec 1) (vec 4) (vec 5)) (dotE (vec 0) (subE (vec 5) (vec 2))))) refl
@@ -88,8 +84,7 @@ no_term c l r e = let z : l -ℤ r ≡ pos 0 = omega (arith, ints) in ap (λ v. 
 
 -- the equation from three others
 pub combine3 : (l r c₁ l₁ r₁ c₂ l₂ r₂ c₃ l₃ r₃ : ℤ) → l -ℤ r ≡ c₁ *ℤ (l₁ -ℤ r₁) +ℤ c₂ *ℤ (l₂ -ℤ r₂) +ℤ c₃ *ℤ (l₃ -ℤ r₃) → l₁ ≡ r₁ → l₂ ≡ r₂ → l₃ ≡ r₃ → l ≡ r
-combine3 l r c₁ l₁ r₁ c₂ l₂ r₂ c₃ l₃ r₃ e e₁ e₂ e₃ =
-    omega (arith, ints, no_term c₁ l₁ r₁ e₁, no_term c₂ l₂ r₂ e₂, no_term c₃ l₃ r₃ e₃)
+combine3 l r c₁ l₁ r₁ c₂ l₂ r₂ c₃ l₃ r₃ e e₁ e₂ e₃ = omega (arith, ints, no_term c₁ l₁ r₁ e₁, no_term c₂ l₂ r₂ e₂, no_term c₃ l₃ r₃ e₃)
 
 -- vectors are equal by their coordinates
 pub vector_path : (p q : Vector) → p.x ≡ q.x → p.y ≡ q.y → p.z ≡ q.z → p ≡ q
@@ -195,8 +190,7 @@ in_line-twice a c = vector_path (cross a a c) origin (flat a.y c.z a.z c.y) (fla
   where
     flat : (p q r s : ℤ) → (p -ℤ p) *ℤ (q -ℤ r) -ℤ (r -ℤ r) *ℤ (s -ℤ p) ≡ pos 0
     flat p q r s = ring (p ∷ q ∷ r ∷ s ∷ [])
-        (less (mul (less (var 0) (var 0)) (less (var 1) (var 2))) (mul (less (var 2) (var 2)) (less (var 3) (var 0))))
-        (con (pos 0)) refl
+        (less (mul (less (var 0) (var 0)) (less (var 1) (var 2))) (mul (less (var 2) (var 2)) (less (var 3) (var 0)))) (con (pos 0)) refl
 
 -- and a point with one that stands twice
 pub in_line-last : (a b : Vector) → AreInLine a b b

@@ -50,8 +50,7 @@ module _ (B W : ℕ) (some : 0 < B) where
   over_put : (m : Machine) (w : ℕ) → w < W → m.over w ≡ false → sum_to (λ v. one_if (put m.over w true v)) W ≡ sum_to (λ v. one_if (m.over v)) W + 1
   unfolding one_if
   over_put m w h e = let s =
-      sum_put (λ v. one_if (m.over v)) (λ v. one_if (put m.over w true v)) W w h
-      (λ j l ne. ap one_if (sym (put_else m.over w true j ne))) in
+      sum_put (λ v. one_if (m.over v)) (λ v. one_if (put m.over w true v)) W w h (λ j l ne. ap one_if (sym (put_else m.over w true j ne))) in
       let a : one_if (put m.over w true w) ≡ 1 = ap one_if (put_here m.over w true) in let b : one_if (m.over w) ≡ 0 = ap one_if e in omega arith
 
   mark_put : (m : Machine) (w : ℕ) (x : Mark) → w < W → m.mark w ≡ none → sum_to (λ v. ended (put m.mark w x v)) W ≡ sum_to (λ v. ended (m.mark v)) W + ended x

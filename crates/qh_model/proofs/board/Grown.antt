@@ -79,8 +79,7 @@ module _ (B W : ℕ) (some : 0 < B) where
           → ((sibling j ≡ i) × (x ≡ parked)) ⊎ ((sibling j ≢ i) × (m.node (sibling j) ≡ parked)) → ⊥
       pairs j (inl a) (inl b) = let n = near j (big j a.0 (λ e. root e a.1)) in n.apart (b.0 ∙ sym a.0)
       pairs j (inl a) (inr b) = lone a.1 (ap (λ (k : ℕ). m.node (sibling k)) (sym a.0) ∙ b.1)
-      pairs j (inr a) (inl b) =
-          lone b.1 (ap (λ (k : ℕ). m.node (sibling k)) (sym b.0) ∙ (ap m.node (near j (not_root j a.1)).back ∙ a.1))
+      pairs j (inr a) (inl b) = lone b.1 (ap (λ (k : ℕ). m.node (sibling k)) (sym b.0) ∙ (ap m.node (near j (not_root j a.1)).back ∙ a.1))
       pairs j (inr a) (inr b) = g.pair j a.1 b.1
 
   pub starts : Consistent B W start
@@ -134,8 +133,7 @@ module _ (B W : ℕ) (some : 0 < B) where
         early = λ j a b c. dite (ℕ_discrete j i) (λ e q. let f : held w ≡ untouched = sym (put_here m.node i (held w))
             ∙ (ap (put m.node i (held w)) (sym e) ∙ q) in cc) (λ ne. grows j (g.early j a b (omega arith)));
         who = λ j v e. ⊎_elim
-            (λ (t : (j ≡ i) × (held w ≡ held v)). subst (λ (k : ℕ). k < W) (let z : w ≡ v = cc in z) can.0.0)
-            (λ t. g.who j v t.1) (P j (held v) e);
+            (λ (t : (j ≡ i) × (held w ≡ held v)). subst (λ (k : ℕ). k < W) (let z : w ≡ v = cc in z) can.0.0) (λ t. g.who j v t.1) (P j (held v) e);
         one = λ v j k a b. ones v j k (P j (held v) a) (P k (held v) b);
         below = λ j a b n. let t = g.below j a b (λ e. n (keeps j (λ q. omega arith) e)) in (uses (2 * j) t.0, uses (2 * j + 1) t.1);
         up = λ j ne e. grows (parent j) (g.up j ne (old j used (λ q. cc) e));

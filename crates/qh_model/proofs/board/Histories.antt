@@ -19,8 +19,7 @@ module _ (B W : ℕ) (some : 0 < B) where
       ap settled (put_else m.node i (held w) j (λ e. never_both (settled (m.node j)) (ap settled (ap m.node e ∙ g.late i (omega arith))) h)) ∙ h
   settled_stays m (claim_over w) g can j h = h
   settled_stays m (arrive_first w i) g can j h =
-      dite (ℕ_discrete j i) (λ e. ap settled (ap (put m.node i parked) e ∙ put_here m.node i parked))
-      (λ ne. ap settled (put_else m.node i parked j ne) ∙ h)
+      dite (ℕ_discrete j i) (λ e. ap settled (ap (put m.node i parked) e ∙ put_here m.node i parked)) (λ ne. ap settled (put_else m.node i parked j ne) ∙ h)
   settled_stays m (arrive_second w i) g can j h = by_case (cases m.node w i j (joined m.node w i j) refl)
     where
       by_case : Cases m.node w i j (joined m.node w i j) → settled (joined m.node w i j) ≡ 1
@@ -41,8 +40,7 @@ module _ (B W : ℕ) (some : 0 < B) where
       inl (put_else m.node i (held w) j (λ e. let f : untouched ≡ held v = sym (ap m.node e ∙ g.late i (omega arith)) ∙ h in absurd (cc)) ∙ h)
   held_stays m (claim_over w) g can j v h = inl h
   held_stays m (arrive_first w i) g can j v h =
-      dite (ℕ_discrete j i) (λ e. inr (ap settled (ap (put m.node i parked) e ∙ put_here m.node i parked)))
-      (λ ne. inl (put_else m.node i parked j ne ∙ h))
+      dite (ℕ_discrete j i) (λ e. inr (ap settled (ap (put m.node i parked) e ∙ put_here m.node i parked))) (λ ne. inl (put_else m.node i parked j ne ∙ h))
   held_stays m (arrive_second w i) g can j v h = by_case (cases m.node w i j (joined m.node w i j) refl)
     where
       by_case : Cases m.node w i j (joined m.node w i j) → (joined m.node w i j ≡ held v) ⊎ (settled (joined m.node w i j) ≡ 1)
@@ -78,16 +76,13 @@ module _ (B W : ℕ) (some : 0 < B) where
   held_on m (give_up w i) g can j v n h = h
 
   -- a pass that has ended comes to no node
-  held_before : (m : Machine) (e : Event) → Can B W m e → (j v : ℕ) → m.mark v ≢ none
-      → (after B W m e).node j ≡ held v → m.node j ≡ held v
+  held_before : (m : Machine) (e : Event) → Can B W m e → (j v : ℕ) → m.mark v ≢ none → (after B W m e).node j ≡ held v → m.node j ≡ held v
   held_before m (claim_got w) can j v n h = ⊎_elim
       (λ (t : (j ≡ B + m.claims) × (held w ≡ held v)). let f = t.1 in let z : w ≡ v = cc in
-      absurd (n (ap m.mark (sym z) ∙ can.0.1)))
-      (λ (t : (j ≢ B + m.claims) × (m.node j ≡ held v)). t.1) (at_put m.node (B + m.claims) j (held w) (held v) h)
+      absurd (n (ap m.mark (sym z) ∙ can.0.1))) (λ (t : (j ≢ B + m.claims) × (m.node j ≡ held v)). t.1) (at_put m.node (B + m.claims) j (held w) (held v) h)
   held_before m (claim_over w) can j v n h = h
   held_before m (arrive_first w i) can j v n h = ⊎_elim
-      (λ (t : (j ≡ i) × (parked ≡ held v)). let f = t.1 in absurd (cc))
-      (λ (t : (j ≢ i) × (m.node j ≡ held v)). t.1) (at_put m.node i j parked (held v) h)
+      (λ (t : (j ≡ i) × (parked ≡ held v)). let f = t.1 in absurd (cc)) (λ (t : (j ≢ i) × (m.node j ≡ held v)). t.1) (at_put m.node i j parked (held v) h)
   held_before m (arrive_second w i) can j v n h = by_case (cases m.node w i j (held v) h)
     where
       by_case : Cases m.node w i j (held v) → m.node j ≡ held v
@@ -95,8 +90,7 @@ module _ (B W : ℕ) (some : 0 < B) where
       by_case (spent a t) = absurd (cc)
       by_case (got a t) = let z : w ≡ v = cc in absurd (n (ap m.mark (sym z) ∙ can.0.1))
   held_before m (publish w) can j v n h = ⊎_elim
-      (λ (t : (j ≡ 1) × (published ≡ held v)). let f = t.1 in absurd (cc))
-      (λ (t : (j ≢ 1) × (m.node j ≡ held v)). t.1) (at_put m.node 1 j published (held v) h)
+      (λ (t : (j ≡ 1) × (published ≡ held v)). let f = t.1 in absurd (cc)) (λ (t : (j ≢ 1) × (m.node j ≡ held v)). t.1) (at_put m.node 1 j published (held v) h)
   held_before m (leave w) can j v n h = h
   held_before m (give_up w i) can j v n h = h
 
@@ -134,11 +128,9 @@ module _ (B W : ℕ) (some : 0 < B) where
         t,
         ⊎_elim
             (λ (u : (run B W (run B W m es) fs).node i ≡ held w). let f : held v ≡ held w = sym last' ∙ u in let z : v ≡ w = cc in z)
-            (λ (u : settled ((run B W (run B W m es) fs).node i) ≡ 1). absurd (not_settled u))
-            (held_runs (run B W m es) fs g' c.1 i w t),
+            (λ (u : settled ((run B W (run B W m es) fs).node i) ≡ 1). absurd (not_settled u)) (held_runs (run B W m es) fs g' c.1 i w t),
       ))
-      (λ (t : settled ((run B W m es).node i) ≡ 1). absurd (not_settled (settled_runs (run B W m es) fs g' c.1 i t)))
-      (held_runs m es g c.0 i w h)
+      (λ (t : settled ((run B W m es).node i) ≡ 1). absurd (not_settled (settled_runs (run B W m es) fs g' c.1 i t))) (held_runs m es g c.0 i w h)
 
   -- a pass that gave up holds a node, and one that left holds none; there are no more passes than W
   pub record Ended (m : Machine) : Type 0 where
@@ -154,22 +146,15 @@ module _ (B W : ℕ) (some : 0 < B) where
       → (i : ℕ) × ((after B W m e).node i ≡ held v)
   still_stuck m e g can s v h = let t = s.stuck v h in (t.0, held_on m e g can t.0 v (λ n. let f : gave_up ≡ none = sym h ∙ n in cc) t.1)
 
-  still_empty : (m : Machine) (e : Event) → Can B W m e → Ended m → (v : ℕ) → m.mark v ≡ left
-      → HoldsNothing (after B W m e) v
-  still_empty m e can s v h j q =
-      s.empty v h j (held_before m e can j v (λ n. let f : left ≡ none = sym h ∙ n in cc) q)
+  still_empty : (m : Machine) (e : Event) → Can B W m e → Ended m → (v : ℕ) → m.mark v ≡ left → HoldsNothing (after B W m e) v
+  still_empty m e can s v h j q = s.empty v h j (held_before m e can j v (λ n. let f : left ≡ none = sym h ∙ n in cc) q)
 
   beyond : {A : Type 0} (f : ℕ → A) (w : ℕ) (x y : A) (v : ℕ) → w < W → W ≤ v → f v ≡ y → put f w x v ≡ y
   beyond f w x y v lo hi e = put_else f w x v (λ q. omega arith) ∙ e
 
   keeps_ended : (m : Machine) (e : Event) → Consistent B W m → Can B W m e → Ended m → Ended (after B W m e)
   keeps_ended m (claim_got w) g can s =
-      record {
-        stuck = still_stuck m (claim_got w) g can s;
-        empty = still_empty m (claim_got w) can s;
-        unmarked = s.unmarked;
-        going = s.going;
-      }
+      record { stuck = still_stuck m (claim_got w) g can s; empty = still_empty m (claim_got w) can s; unmarked = s.unmarked; going = s.going }
   keeps_ended m (claim_over w) g can s =
       record {
         stuck = still_stuck m (claim_over w) g can s;
@@ -178,26 +163,11 @@ module _ (B W : ℕ) (some : 0 < B) where
         going = λ v h. beyond m.over w true false v can.0.0 h (s.going v h);
       }
   keeps_ended m (arrive_first w i) g can s =
-      record {
-        stuck = still_stuck m (arrive_first w i) g can s;
-        empty = still_empty m (arrive_first w i) can s;
-        unmarked = s.unmarked;
-        going = s.going;
-      }
+      record { stuck = still_stuck m (arrive_first w i) g can s; empty = still_empty m (arrive_first w i) can s; unmarked = s.unmarked; going = s.going }
   keeps_ended m (arrive_second w i) g can s =
-      record {
-        stuck = still_stuck m (arrive_second w i) g can s;
-        empty = still_empty m (arrive_second w i) can s;
-        unmarked = s.unmarked;
-        going = s.going;
-      }
+      record { stuck = still_stuck m (arrive_second w i) g can s; empty = still_empty m (arrive_second w i) can s; unmarked = s.unmarked; going = s.going }
   keeps_ended m (publish w) g can s =
-      record {
-        stuck = still_stuck m (publish w) g can s;
-        empty = still_empty m (publish w) can s;
-        unmarked = s.unmarked;
-        going = s.going;
-      }
+      record { stuck = still_stuck m (publish w) g can s; empty = still_empty m (publish w) can s; unmarked = s.unmarked; going = s.going }
   keeps_ended m (leave w) g can s = record {
     stuck = λ v e. ⊎_elim (λ (t : (v ≡ w) × (left ≡ gave_up)). let f = t.1 in
         absurd (cc)) (λ (t : (v ≢ w) × (m.mark v ≡ gave_up)). s.stuck v t.1) (at_put m.mark w v left gave_up e);

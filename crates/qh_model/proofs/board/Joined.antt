@@ -1,5 +1,5 @@
 -- The second arrival at a node keeps it.
-use Rattle.std.proofs.Common.{◌≡◌, ◌≢◌, ◌⊎◌, inl, inr, ℕ, ◌+◌, ◌*◌, ◌<◌, sym, ap, ◌∙◌, subst, arith}
+use Rattle.std.proofs.Common.{◌≡◌, ◌≢◌, ◌⊎◌, inl, inr, ℕ, ◌+◌, ◌*◌, ◌<◌, sym, ap, ◌∙◌, subst, arith, ⊎_elim}
 use mathlib.Core.Logic.{dite}
 use native.Mathlib.Decide.{ℕ_discrete}
 use Rattle.qh_model.specs.contract.BoardMachine.{Place, untouched, held, parked, used, published, Machine, put, parent, sibling, Acts}
@@ -16,7 +16,8 @@ abbrev pub joined : (ℕ → Place) → ℕ → ℕ → ℕ → Place
 joined f w i = put (put (put f i used) (sibling i) used) (parent i) (held w)
 
 pub cases : (f : ℕ → Place) (w i j : ℕ) (y : Place) → joined f w i j ≡ y → Cases f w i j y
-cases f w i j y e = top (at_put (put (put f i used) (sibling i) used) (parent i) j (held w) y e)
+cases f w i j y e = ⊎_elim (λ t. got t.0 t.1)
+    (λ t. mid t.0 (at_put (put f i used) (sibling i) j used y t.1)) (at_put (put (put f i used) (sibling i) used) (parent i) j (held w) y e)
   where
     low : j ≢ parent i → j ≢ sibling i → ((j ≡ i) × (used ≡ y)) ⊎ ((j ≢ i) × (f j ≡ y)) → Cases f w i j y
     low a b (inl t) = spent (inl t.0) t.1
@@ -25,10 +26,6 @@ cases f w i j y e = top (at_put (put (put f i used) (sibling i) used) (parent i)
     mid : j ≢ parent i → ((j ≡ sibling i) × (used ≡ y)) ⊎ ((j ≢ sibling i) × (put f i used j ≡ y)) → Cases f w i j y
     mid a (inl t) = spent (inr t.0) t.1
     mid a (inr t) = low a t.0 (at_put f i j used y t.1)
-
-    top : ((j ≡ parent i) × (held w ≡ y)) ⊎ ((j ≢ parent i) × (put (put f i used) (sibling i) used j ≡ y)) → Cases f w i j y
-    top (inl t) = got t.0 t.1
-    top (inr t) = mid t.0 (at_put (put f i used) (sibling i) j used y t.1)
 
 module _ (B W : ℕ) (some : 0 < B) (m : Machine) (g : Consistent B W m) (w i : ℕ) (act : Acts W m w)
     (mine : m.node i ≡ held w) (not_root : i ≢ 1) (waits : m.node (sibling i) ≡ parked) where

@@ -10,13 +10,11 @@ module _ (B W : ℕ) (some : 0 < B) where
   keeps_good m (claim_over w) g can = ends B W some m g w can.3
   keeps_good m (arrive_first w i) g can =
       changes B W some m g i parked (λ e. let f : held w ≡ untouched = sym can.1 ∙ e in cc)
-      (λ e. let f : held w ≡ used = sym can.1 ∙ e in cc) (λ e. cc) (λ v e. cc) (λ e. cc)
-      (λ e. absurd (can.2 e)) (λ e. absurd (cc)) (λ _. can.3)
+      (λ e. let f : held w ≡ used = sym can.1 ∙ e in cc) (λ e. cc) (λ v e. cc) (λ e. cc) (λ e. absurd (can.2 e)) (λ e. absurd (cc)) (λ _. can.3)
   keeps_good m (arrive_second w i) g can = joins B W some m g w i can.0 can.1 can.2 can.3
   keeps_good m (publish w) g can =
       changes B W some m g 1 published (λ e. let f : held w ≡ untouched = sym can.1 ∙ e in cc)
-      (λ e. let f : held w ≡ used = sym can.1 ∙ e in cc) (λ e. cc) (λ v e. cc) (λ e. cc)
-      (λ _ e. cc) (λ _. refl) (λ e. absurd (cc))
+      (λ e. let f : held w ≡ used = sym can.1 ∙ e in cc) (λ e. cc) (λ v e. cc) (λ e. cc) (λ _ e. cc) (λ _. refl) (λ e. absurd (cc))
   keeps_good m (leave w) g can = g
   keeps_good m (give_up w i) g can = g
 

@@ -26,8 +26,7 @@ module _ (B W : ℕ) where
 
   reach_counts : (some : 0 < B) (m : Machine) (r : Reachable B W m) → Counts B W some m (length r.0)
   reach_counts some m r =
-      subst (λ (z : Machine). Counts B W some z (length r.0)) r.2
-      (subst (Counts B W some (run B W start r.0)) (omega arith)
+      subst (λ (z : Machine). Counts B W some z (length r.0)) r.2 (subst (Counts B W some (run B W start r.0)) (omega arith)
       (all_counts B W some start 0 r.0 (starts B W some) (counts_start B W some) r.1))
 
   pub reach_claims : (some : 0 < B) (m : Machine) → Reachable B W m → m.claims ≤ B + W

@@ -40,8 +40,7 @@ module _ (B W : ℕ) (some : 0 < B) where
       → 2 * B ≤ i + n → 0 < i → i < 2 * B → m.node i ≢ untouched
   all_reached m g full idle_ zero i h a b = absurd (omega arith)
   all_reached m g full idle_ (suc n) i h a b = dite (dec_le B i) (λ leaf. g.early i leaf b (omega arith))
-      (λ inner. by_place (m.node (2 * i)) refl (m.node (2 * i + 1)) refl
-      (all_reached m g full idle_ n (2 * i) (omega arith) (omega arith) (omega arith))
+      (λ inner. by_place (m.node (2 * i)) refl (m.node (2 * i + 1)) refl (all_reached m g full idle_ n (2 * i) (omega arith) (omega arith) (omega arith))
       (all_reached m g full idle_ n (2 * i + 1) (omega arith) (omega arith) (omega arith)))
     where
       up_left : m.node (2 * i) ≡ used → m.node i ≢ untouched

@@ -32,8 +32,7 @@ half_below k l n h =
 to_root : (n m : ℕ) → m ≤ n → 0 < m → (k : ℕ) × (ancestor k m ≡ 1)
 to_root zero m h lo = absurd (omega arith)
 to_root (suc n) m h lo = dite (ℕ_discrete m 1)
-    (λ e. (0, e))
-    (λ ne. let t = to_root n (parent m) (omega arith) (omega arith) in (suc t.0, ancestor_first t.0 m ∙ t.1))
+    (λ e. (0, e)) (λ ne. let t = to_root n (parent m) (omega arith) (omega arith) in (suc t.0, ancestor_first t.0 m ∙ t.1))
 
 pub span_of_leaf : SpanOfLeaf
 span_of_leaf B i j h = (there, λ e. (subst (λ (z : ℕ). z < B) (sym e) h, (0, ap (λ (z : ℕ). B + z) e)))

@@ -11,11 +11,7 @@ scaled m p = record { x = m *ℤ p.x; y = m *ℤ p.y; z = m *ℤ p.z }
 
 -- c times the sum of three points, and n
 abbrev pub beyond : ℤ → (i j k n : Vector) → Vector
-beyond c i j k n = record {
-  x = c *ℤ (i.x +ℤ j.x +ℤ k.x) +ℤ n.x;
-  y = c *ℤ (i.y +ℤ j.y +ℤ k.y) +ℤ n.y;
-  z = c *ℤ (i.z +ℤ j.z +ℤ k.z) +ℤ n.z;
-}
+beyond c i j k n = record { x = c *ℤ (i.x +ℤ j.x +ℤ k.x) +ℤ n.x; y = c *ℤ (i.y +ℤ j.y +ℤ k.y) +ℤ n.y; z = c *ℤ (i.z +ℤ j.z +ℤ k.z) +ℤ n.z }
 
 -- the same of expressions
 abbrev pub scaledE : Expr → VE → VE
@@ -47,8 +43,7 @@ dot-beyond c q a i j k n =
     let C = var 18 in let M = mul (con (pos 3)) C in
     let Q = vec 0 in let A = vec 1 in let I = vec 2 in let J = vec 3 in let K = vec 4 in let N = vec 5 in
     let sum = add (add (dotE Q (subE I A)) (dotE Q (subE J A))) (dotE Q (subE K A)) in
-    ring (put q (put a (put i (put j (put k (put n (c ∷ [])))))))
-    (dotE (scaledE (mul M M) Q) (subE (beyondE C I J K N) (scaledE M A)))
+    ring (put q (put a (put i (put j (put k (put n (c ∷ []))))))) (dotE (scaledE (mul M M) Q) (subE (beyondE C I J K N) (scaledE M A)))
     (mul (mul M M) (add (mul C sum) (dotE Q N))) refl
 
 -- so the volume with it
@@ -72,5 +67,4 @@ dot-past c n i j k l =
     let C = var 15 in let M = mul (con (pos 3)) C in
     let N = vec 0 in let I = vec 1 in let J = vec 2 in let K = vec 3 in let L = vec 4 in
     let sum = add (add (dotE N (subE L I)) (dotE N (subE L J))) (dotE N (subE L K)) in
-    ring (put n (put i (put j (put k (put l (c ∷ [])))))) (dotE N (beyondE C I J K N))
-    (less (add (dotE N (scaledE M L)) (dotE N N)) (mul C sum)) refl
+    ring (put n (put i (put j (put k (put l (c ∷ [])))))) (dotE N (beyondE C I J K N)) (less (add (dotE N (scaledE M L)) (dotE N N)) (mul C sum)) refl

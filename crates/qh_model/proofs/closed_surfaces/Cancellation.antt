@@ -24,8 +24,7 @@ edge_part at p co m r e = m *ℤ (vol (at e.0) (at e.1) (at r) p *ℤ (co e.0 *�
 edge_part-back : (at : ℕ → Vector) (p : Vector) (co : ℕ → ℤ) (m : ℤ) (r : ℕ) (e : ℕ × ℕ) → edge_part at p co m r (back e) ≡ neg_ℤ (edge_part at p co m r e)
 unfolding edge_part
 edge_part-back at p co m r e =
-    rw (vol-flip (at e.1) (at e.0) (at r) p)
-    (ring (m ∷ vol (at e.0) (at e.1) (at r) p ∷ co e.0 ∷ co e.1 ∷ [])
+    rw (vol-flip (at e.1) (at e.0) (at r) p) (ring (m ∷ vol (at e.0) (at e.1) (at r) p ∷ co e.0 ∷ co e.1 ∷ [])
     (mul (var 0) (mul (neg (var 1)) (mul (var 3) (var 2)))) (neg (mul (var 0) (mul (var 1) (mul (var 2) (var 3)))))
     refl)
 
@@ -35,21 +34,18 @@ shared-split : (at : ℕ → Vector) (w p : Vector) (co : ℕ → ℤ) (m : ℤ)
     → shared at w p co r t ≡ edge_part at p co m r (t.i, t.j) +ℤ edge_part at p co m r (t.j, t.k) +ℤ edge_part at p co m r (t.k, t.i)
 unfolding shared edge_part
 shared-split at w p co m r t hi hj hk =
-    rw (vol-depths w (at t.i) (at t.j) (at t.k) (at r) p)
-    (combine3 ((vol (at t.i) (at t.j) (at r) p *ℤ depth w p (at t.k) +ℤ vol (at t.j) (at t.k) (at r) p
+    rw (vol-depths w (at t.i) (at t.j) (at t.k) (at r) p) (combine3 ((vol (at t.i) (at t.j) (at r) p *ℤ depth w p (at t.k) +ℤ vol (at t.j) (at t.k) (at r) p
     *ℤ depth w p (at t.i) +ℤ vol (at t.k) (at t.i) (at r) p *ℤ depth w p (at t.j)) *ℤ (co t.i *ℤ co t.j *ℤ co t.k))
     (m *ℤ (vol (at t.i) (at t.j) (at r) p *ℤ (co t.i *ℤ co t.j)) +ℤ m
     *ℤ (vol (at t.j) (at t.k) (at r) p *ℤ (co t.j *ℤ co t.k)) +ℤ m
-    *ℤ (vol (at t.k) (at t.i) (at r) p *ℤ (co t.k *ℤ co t.i)))
-    (vol (at t.j) (at t.k) (at r) p *ℤ (co t.j *ℤ co t.k)) (depth w p (at t.i) *ℤ co t.i) m
+    *ℤ (vol (at t.k) (at t.i) (at r) p *ℤ (co t.k *ℤ co t.i))) (vol (at t.j) (at t.k) (at r) p *ℤ (co t.j *ℤ co t.k)) (depth w p (at t.i) *ℤ co t.i) m
     (vol (at t.k) (at t.i) (at r) p *ℤ (co t.k *ℤ co t.i)) (depth w p (at t.j) *ℤ co t.j) m
     (vol (at t.i) (at t.j) (at r) p *ℤ (co t.i *ℤ co t.j)) (depth w p (at t.k) *ℤ co t.k) m
     (ring (m ∷ vol (at t.i) (at t.j) (at r) p ∷ vol (at t.j) (at t.k) (at r) p ∷ vol (at t.k) (at t.i) (at r) p
     ∷ depth w p (at t.i) ∷ depth w p (at t.j) ∷ depth w p (at t.k) ∷ co t.i ∷ co t.j ∷ co t.k ∷ [])
     (less (mul (add (add (mul (var 1) (var 6)) (mul (var 2) (var 4))) (mul (var 3) (var 5))) (mul (mul (var 7) (var 8)) (var 9)))
     (add (add (mul (var 0) (mul (var 1) (mul (var 7) (var 8)))) (mul (var 0) (mul (var 2) (mul (var 8) (var 9)))))
-    (mul (var 0) (mul (var 3) (mul (var 9) (var 7))))))
-    (add (add (mul (mul (var 2) (mul (var 8) (var 9))) (less (mul (var 4) (var 7)) (var 0)))
+    (mul (var 0) (mul (var 3) (mul (var 9) (var 7)))))) (add (add (mul (mul (var 2) (mul (var 8) (var 9))) (less (mul (var 4) (var 7)) (var 0)))
     (mul (mul (var 3) (mul (var 9) (var 7))) (less (mul (var 5) (var 8)) (var 0)))) (mul
     (mul (var 1) (mul (var 7) (var 8))) (less (mul (var 6) (var 9)) (var 0)))) refl)
     hi hj hk)
@@ -86,8 +82,7 @@ shared-neg : (at : ℕ → Vector) (w p : Vector) (co : ℕ → ℤ) (r : ℕ) (
     → pos 0 <ℤ depth w p (at r) → pos 0 <ℤ co t.i → pos 0 <ℤ co t.j → pos 0 <ℤ co t.k → shared at w p co r t <ℤ pos 0
 unfolding shared
 shared-neg at w p co r t h hr hi hj hk =
-    mul-neg_pos (vol_at at p t *ℤ depth w p (at r)) (co t.i *ℤ co t.j *ℤ co t.k)
-    (mul-neg_pos (vol_at at p t) (depth w p (at r)) h hr)
+    mul-neg_pos (vol_at at p t *ℤ depth w p (at r)) (co t.i *ℤ co t.j *ℤ co t.k) (mul-neg_pos (vol_at at p t) (depth w p (at r)) h hr)
     (mul-pos (co t.i *ℤ co t.j) (co t.k) (mul-pos (co t.i) (co t.j) hi hj) hk)
 
 -- where p is strictly below all triangles the sum is not above 0
@@ -129,8 +124,7 @@ prod_step f x y ys r false e h = rw (h refl) (mul_swap (f y) (f x) (prod_z f r))
 prod-drop_first : (f : ℕ → ℤ) (x : ℕ) (ys : List ℕ) → 0 < count (eqb x) ys → prod_z f ys ≡ f x *ℤ prod_z f (drop_first (eqb x) ys)
 prod-drop_first f x [] h = absurd (omega arith)
 prod-drop_first f x (y ∷ ys) h =
-    prod_step f x y ys (drop_first (eqb x) ys) (eqb x y) (eqb-true x y)
-    (λ e. prod-drop_first f x ys (later (eqb x y) (count (eqb x) ys) h e))
+    prod_step f x y ys (drop_first (eqb x) ys) (eqb x y) (eqb-true x y) (λ e. prod-drop_first f x ys (later (eqb x y) (count (eqb x) ys) h e))
 
 -- a longer list counts no less
 more_there : (x y : ℕ) (n : ℕ) → 0 < n → 0 < cond (eqb x y) 1 0 + n
@@ -162,11 +156,9 @@ none_below_all at w p t ts c d v =
     let f : ℕ → ℤ = λ i. depth w p (at i) in
     let co : ℕ → ℤ = λ i. prod_z f (drop_first (eqb i) all) in
     let up : Corners (λ i. pos 0 <ℤ co i) (t ∷ ts) =
-    each-all (λ i. pos 0 <ℤ co i)
-    (λ i. prod-pos f (drop_first (eqb i) all) (each-drop_first (λ x. pos 0 <ℤ f x) (eqb i) all d)) all in
+    each-all (λ i. pos 0 <ℤ co i) (λ i. prod-pos f (drop_first (eqb i) all) (each-drop_first (λ x. pos 0 <ℤ f x) (eqb i) all d)) all in
     let same : Corners (λ i. f i *ℤ co i ≡ prod_z f all) (t ∷ ts) =
-    every_map (λ i. 0 < count (eqb i) all) (λ i. f i *ℤ co i ≡ prod_z f all) all
-    (λ i h. sym (prod-drop_first f i all h)) (all_there all) in
+    every_map (λ i. 0 < count (eqb i) all) (λ i. f i *ℤ co i ≡ prod_z f all) all (λ i h. sym (prod-drop_first f i all h)) (all_there all) in
     let zero_sum = shared-zero at w p co (prod_z f all) t.i (t ∷ ts) c same in
     omega (arith, ints, zero_sum, shared-neg at w p co t.i t v.0 d.0 up.0 up.1.0 up.1.1.0, sums-neg at w p co t.i d.0 ts up.1.1.1 v.1)
 
@@ -198,6 +190,5 @@ none_below_and_beyond at [] c w p beyond below = absurd (some c.some)
     some : 1 ≤ 0 → ⊥
     some h = omega arith
 none_below_and_beyond at (t ∷ ts) c w p beyond below =
-    none_below_all at w p t ts c.closed
-    (corners-of (λ i. pos 0 <ℤ depth w p (at i)) (t ∷ ts) (λ i k. deep w p (at i) (beyond i k)))
+    none_below_all at w p t ts c.closed (corners-of (λ i. pos 0 <ℤ depth w p (at i)) (t ∷ ts) (λ i k. deep w p (at i) (beyond i k)))
     (each-of (λ t. vol_at at p t <ℤ pos 0) (t ∷ ts) below)

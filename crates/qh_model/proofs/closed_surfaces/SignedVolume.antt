@@ -78,8 +78,7 @@ vols-boundary at o p (t ∷ ts) =
 pub vols-same : (at : ℕ → Vector) (o p : Vector) (ts : List Triple) → IsClosed ts → sum_z (vol_at at p) ts ≡ sum_z (vol_at at o) ts
 vols-same at o p ts c =
     vols-boundary at o p ts
-    ∙ drop_zero (sum_z (vol_at at o) ts) (sum_z (edge_vol at o p) (edges ts))
-    (edges-cancel (edge_vol at o p) (λ e. vol-flip (at e.1) (at e.0) o p) ts c)
+    ∙ drop_zero (sum_z (vol_at at o) ts) (sum_z (edge_vol at o p) (edges ts)) (edges-cancel (edge_vol at o p) (λ e. vol-flip (at e.1) (at e.0) o p) ts c)
   where
     drop_zero : (a b : ℤ) → b ≡ pos 0 → a +ℤ b ≡ a
     drop_zero a b e = omega (arith, ints)

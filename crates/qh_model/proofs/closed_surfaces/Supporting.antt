@@ -1,10 +1,10 @@
 -- Supporting triangles that close up miss no supporting plane and no extreme id: a point a little beyond the middle of
 -- a plane that they missed would be strictly below all of them.
-use Rattle.std.proofs.Common.{◌≡◌, ◌≢◌, ℕ, suc, ◌+◌, arith, refl, sym, ap, subst, ◌∙◌, ◌⊎◌, inl, inr, List, [], ◌∷◌}
+use Rattle.std.proofs.Common.{◌≡◌, ◌≢◌, ℕ, suc, ◌+◌, arith, refl, sym, ap, subst, ◌∙◌, ◌⊎◌, inl, inr, List, [], ◌∷◌, ⊎_elim}
 use Rattle.std.proofs.lemmas.Int.{ints, by_lt_z}
 use Rattle.std.specs.Prelude.{ℤ, pos, negsuc, ◌+ℤ◌, ◌-ℤ◌, ◌*ℤ◌, neg_ℤ, ◌≤ℤ◌, ◌<ℤ◌}
 use Rattle.qh_model.specs.contract.ClosedSurface.{Triple, IsClosedSurface}
-use Rattle.qh_model.specs.headline.{Combination.Combination, Extreme.Others, Predicates.cross, Predicates.vol, Predicates.AreInLine, Sets.In, Sets.Members}
+use Rattle.qh_model.specs.headline.{Extreme.Others, Predicates.cross, Predicates.vol, Predicates.AreInLine, Sets.In, Sets.Members}
 use Rattle.qh_model.specs.headline.{SupportingPlane.IsSupportingTriple, Vector.Vector, Vector.minus, Vector.dot}
 use Rattle.qh_model.specs.laws.ClosedFaceLaws.{AreSupporting, TriangleOfPlane, ClosedMissNoPlane, ClosedMissNoExtreme}
 use Rattle.qh_model.specs.laws.{ClosedSurfaceLaws.IsCornerOf, FaceLaws.IsAlong, Separator.Separator}
@@ -17,13 +17,11 @@ use Rattle.qh_model.proofs.extremes.ExtremeIds.{Listed, listed_itself, listed_pa
 use Rattle.qh_model.proofs.polygons.PlaneTurns.{level_parallel}
 
 -- one of the list has P, or all have Q
-one_or_all : {X : Type 0} (P Q : X → Type 0) (xs : List X) → ((x : X) → In x xs → P x ⊎ Q x)
-    → ((x : X) × In x xs × P x) ⊎ ((x : X) → In x xs → Q x)
+one_or_all : {X : Type 0} (P Q : X → Type 0) (xs : List X) → ((x : X) → In x xs → P x ⊎ Q x) → ((x : X) × In x xs × P x) ⊎ ((x : X) → In x xs → Q x)
 one_or_all P Q [] f = inr (λ x i. absurd i)
 one_or_all {X} P Q (x ∷ xs) f = go (f x (inl refl)) (one_or_all P Q xs (λ y i. f y (inr i)))
   where
-    go : P x ⊎ Q x → ((y : X) × In y xs × P y) ⊎ ((y : X) → In y xs → Q y)
-        → ((y : X) × In y (x ∷ xs) × P y) ⊎ ((y : X) → In y (x ∷ xs) → Q y)
+    go : P x ⊎ Q x → ((y : X) × In y xs × P y) ⊎ ((y : X) → In y xs → Q y) → ((y : X) × In y (x ∷ xs) × P y) ⊎ ((y : X) → In y (x ∷ xs) → Q y)
     go (inl p) r = inl (x, inl refl, p)
     go (inr q) (inl r) = inl (r.0, inr r.1, r.2)
     go (inr q) (inr r) = inr each
@@ -37,26 +35,19 @@ pub ceiling : {X : Type 0} (g : X → ℤ) (xs : List X) → (c : ℕ) × ((x : 
 ceiling g [] = (0, λ x i. absurd i)
 ceiling {X} g (x ∷ xs) = go (g x) refl (ceiling g xs)
   where
-    go : (z : ℤ) → g x ≡ z → (c : ℕ) × ((y : X) → In y xs → g y <ℤ pos c)
-        → (c : ℕ) × ((y : X) → In y (x ∷ xs) → g y <ℤ pos c)
+    go : (z : ℤ) → g x ≡ z → (c : ℕ) × ((y : X) → In y xs → g y <ℤ pos c) → (c : ℕ) × ((y : X) → In y (x ∷ xs) → g y <ℤ pos c)
     go (pos n) e (c, h) = (suc n + c, each)
       where
         more : (z : ℤ) → z <ℤ pos c → z <ℤ pos (suc n + c)
         more z h = omega (arith, ints)
 
-        own : (z : ℤ) → z ≡ pos n → z <ℤ pos (suc n + c)
-        own z h = omega (arith, ints)
-
         each : (y : X) → In y (x ∷ xs) → g y <ℤ pos (suc n + c)
-        each y (inl d) = own (g y) (ap g d ∙ e)
+        each y (inl d) = omega (arith, ints, ap g d ∙ e)
         each y (inr i) = more (g y) (h y i)
     go (negsuc n) e (c, h) = (c, each)
       where
-        own : (z : ℤ) → z ≡ negsuc n → z <ℤ pos c
-        own z h = omega (arith, ints)
-
         each : (y : X) → In y (x ∷ xs) → g y <ℤ pos c
-        each y (inl d) = own (g y) (ap g d ∙ e)
+        each y (inl d) = omega (arith, ints, ap g d ∙ e)
         each y (inr i) = h y i
 
 -- ---- a plane of the set and a triangle
@@ -85,14 +76,12 @@ module _ (at : ℕ → Vector) (A : ℕ → Type 0) (i j k : ℕ) (plane : IsSup
 
   spans_or_other : (t : Triple) → IsSupportingTriple at A t.i t.j t.k → Spans t ⊎ IsOther t
   spans_or_other t s =
-      by_lt_z (sink t) (pos 0) (λ h. inr (inl h))
-      (λ h. level (zeros _ _ _ (s.supports i plane.has_i) (s.supports j plane.has_j) (s.supports k plane.has_k) h))
+      by_lt_z (sink t) (pos 0) (λ h. inr (inl h)) (λ h. level (zeros _ _ _ (s.supports i plane.has_i) (s.supports j plane.has_j) (s.supports k plane.has_k) h))
     where
       m : Vector
       m = cross (at t.i) (at t.j) (at t.k)
 
-      zeros : (x y z : ℤ) → x ≤ℤ pos 0 → y ≤ℤ pos 0 → z ≤ℤ pos 0 → pos 0 ≤ℤ (x +ℤ y +ℤ z)
-          → (x ≡ pos 0) × (y ≡ pos 0) × (z ≡ pos 0) × (x +ℤ y +ℤ z ≡ pos 0)
+      zeros : (x y z : ℤ) → x ≤ℤ pos 0 → y ≤ℤ pos 0 → z ≤ℤ pos 0 → pos 0 ≤ℤ (x +ℤ y +ℤ z) → (x ≡ pos 0) × (y ≡ pos 0) × (z ≡ pos 0) × (x +ℤ y +ℤ z ≡ pos 0)
       zeros x y z p q r h = (omega (arith, ints), omega (arith, ints), omega (arith, ints), omega (arith, ints))
 
       square : dot (opposite n) (opposite n) ≡ dot n n
@@ -105,24 +94,17 @@ module _ (at : ℕ → Vector) (A : ℕ → Type 0) (i j k : ℕ) (plane : IsSup
           (sym (dot_along m (opposite n) h (opposite n))) (subst (λ x. pos 0 <ℤ x) (sym square) (square-positive n plane.area)) in
           omega (arith, ints, dot_comm m (opposite n) ∙ dot-opposite n m ∙ ap neg_ℤ (dot_comm n m), ahead)
 
-      level : (rise t (at i) ≡ pos 0) × (rise t (at j) ≡ pos 0) × (rise t (at k) ≡ pos 0) × (sink t ≡ pos 0)
-          → Spans t ⊎ IsOther t
+      level : (rise t (at i) ≡ pos 0) × (rise t (at j) ≡ pos 0) × (rise t (at k) ≡ pos 0) × (sink t ≡ pos 0) → Spans t ⊎ IsOther t
       level z =
           let parallel = level_parallel (at t.i) (at t.j) (at t.k) (at i) (at j) (at k) z.0 z.1 z.2 in
-          pick (along_or_opposite m n s.area plane.area parallel)
-        where
-          pick : IsAlong m n ⊎ IsAlong m (opposite n) → Spans t ⊎ IsOther t
-          pick (inl h) = inl (h, z.0)
-          pick (inr h) = inr (inr (z.3, away h))
+          ⊎_elim (λ h. inl (h, z.0)) (λ h. inr (inr (z.3, away h))) (along_or_opposite m n s.area plane.area parallel)
 
   -- a point beyond the plane that is below each triangle with another plane
-  none_other : (ts : List Triple) → IsClosedSurface at ts → AreSupporting at A ts
-      → ((t : Triple) → In t ts → IsOther t) → ⊥
+  none_other : (ts : List Triple) → IsClosedSurface at ts → AreSupporting at A ts → ((t : Triple) → In t ts → IsOther t) → ⊥
   none_other ts closed supporting other = go (ceiling tilt ts)
     where
       go : (b : ℕ) × ((t : Triple) → In t ts → tilt t <ℤ pos b) → ⊥
-      go (b, limit) =
-          none_below_and_beyond up ts (record { some = closed.some; area = area; closed = closed.closed }) n p past below
+      go (b, limit) = none_below_and_beyond up ts (record { some = closed.some; area = area; closed = closed.closed }) n p past below
         where
           c : ℤ
           c = pos (suc b)
@@ -141,8 +123,7 @@ module _ (at : ℕ → Vector) (A : ℕ → Type 0) (i j k : ℕ) (plane : IsSup
 
           low : (x g : ℤ) → (x <ℤ pos 0) ⊎ ((x ≡ pos 0) × (g <ℤ pos 0)) → g <ℤ pos b → (c *ℤ x +ℤ g) <ℤ pos 0
           low x g (inl h) k =
-              step (c *ℤ x) (c *ℤ neg_ℤ (pos 1)) g
-              (mul-le c x (neg_ℤ (pos 1)) (omega (arith, ints)) (omega (arith, ints)))
+              step (c *ℤ x) (c *ℤ neg_ℤ (pos 1)) g (mul-le c x (neg_ℤ (pos 1)) (omega (arith, ints)) (omega (arith, ints)))
               (mul_neg c (pos 1) ∙ ap neg_ℤ (mul_one c)) k
             where
               step : (y w g : ℤ) → y ≤ℤ w → w ≡ neg_ℤ c → g <ℤ pos b → (y +ℤ g) <ℤ pos 0
@@ -155,18 +136,14 @@ module _ (at : ℕ → Vector) (A : ℕ → Type 0) (i j k : ℕ) (plane : IsSup
           below : (t : Triple) → In t ts → vol (up t.i) (up t.j) (up t.k) p <ℤ pos 0
           below t r =
               subst (λ x. x <ℤ pos 0) (sym (vol-beyond c (at t.i) (at t.j) (at t.k) (at i) (at j) (at k) n))
-              (mul-pos_neg (m *ℤ m) (c *ℤ sink t +ℤ tilt t) (mul-pos m m m_pos m_pos)
-              (low (sink t) (tilt t) (other t r) (limit t r)))
+              (mul-pos_neg (m *ℤ m) (c *ℤ sink t +ℤ tilt t) (mul-pos m m m_pos m_pos) (low (sink t) (tilt t) (other t r) (limit t r)))
 
           area : (t : Triple) → In t ts → ¬ (AreInLine (up t.i) (up t.j) (up t.k))
-          area t r e =
-              less_differ (vol (up t.i) (up t.j) (up t.k) p) (pos 0) (below t r)
-              (in_line-vol (up t.i) (up t.j) (up t.k) p e)
+          area t r e = less_differ (vol (up t.i) (up t.j) (up t.k) p) (pos 0) (below t r) (in_line-vol (up t.i) (up t.j) (up t.k) p e)
 
           further : (l : ℕ) → A l → dot n (up l) <ℤ dot n p
           further l h =
-              order _ _ _ _ (dot-past c n (at i) (at j) (at k) (at l)) (square-positive n plane.area)
-              (mul-nonneg_nonpos c _ (omega (arith, ints))
+              order _ _ _ _ (dot-past c n (at i) (at j) (at k) (at l)) (square-positive n plane.area) (mul-nonneg_nonpos c _ (omega (arith, ints))
               (let h = height (at i) (vol-first (at i) (at j) (at k)) in
               omega (arith, ints, height (at j) (vol-second (at i) (at j) (at k)), height (at k) (vol-third (at i) (at j) (at k)))))
             where
@@ -174,8 +151,7 @@ module _ (at : ℕ → Vector) (A : ℕ → Type 0) (i j k : ℕ) (plane : IsSup
               order x y s z e h k = omega (arith, ints)
 
               height : (q : Vector) → vol (at i) (at j) (at k) q ≡ pos 0 → dot n (minus (at l) q) ≤ℤ pos 0
-              height q e =
-                  subst (λ x. x ≤ℤ pos 0) (sym (from_plane (at i) (at j) (at k) q (at l) e)) (plane.supports l h)
+              height q e = subst (λ x. x ≤ℤ pos 0) (sym (from_plane (at i) (at j) (at k) q (at l) e)) (plane.supports l h)
 
           member : (t : Triple) → In t ts → (l : ℕ) → In l (t.i ∷ t.j ∷ t.k ∷ []) → A l
           member t r l (inl e) = subst A (sym e) (supporting t r).has_i
@@ -205,7 +181,7 @@ closed_miss_no_plane at ids ts closed supporting i j k plane =
 -- the law
 pub closed_miss_no_extreme : ClosedMissNoExtreme
 closed_miss_no_extreme at ids ts closed supporting e extreme =
-    pick (one_or_all On Below ts (λ t r. either t r (zero_or_not (height t))))
+    ⊎_elim (λ r. (r.0, r.1, r.2)) (λ f. absurd (none f (separator others))) (one_or_all On Below ts (λ t r. either t r (zero_or_not (height t))))
   where
     height : Triple → ℤ
     height t = vol (at t.i) (at t.j) (at t.k) (at e)
@@ -245,16 +221,7 @@ closed_miss_no_extreme at ids ts closed supporting e extreme =
             corner (inr (inr (inr x))) = absurd x
 
     separator : (ys : List ℕ) × Listed Rest ys → Separator at Rest (at e)
-    separator (ys, l) = side (alternative_in at Rest ys l (at e))
-      where
-        side : Combination at Rest (at e) ⊎ Separator at Rest (at e) → Separator at Rest (at e)
-        side (inl m) = absurd (extreme.1 m)
-        side (inr s) = s
+    separator (ys, l) = ⊎_elim (λ m. absurd (extreme.1 m)) (λ s. s) (alternative_in at Rest ys l (at e))
 
     others : (ys : List ℕ) × Listed Rest ys
     others = listed_part (Members ids) (λ l. l ≢ e) (apart e) ids (listed_itself ids)
-
-    pick : ((t : Triple) × In t ts × On t) ⊎ ((t : Triple) → In t ts → Below t)
-        → (t : Triple) × In t ts × (vol (at t.i) (at t.j) (at t.k) (at e) ≡ pos 0)
-    pick (inl r) = (r.0, r.1, r.2)
-    pick (inr f) = absurd (none f (separator others))

@@ -38,8 +38,7 @@ pad_three : (m n k : ℕ) (x y z : ℤ) → pos m *ℤ x +ℤ (pos n *ℤ y +ℤ
 pad_three m n k x y z = omega (arith, ints)
 
 -- four
-pad_four : (m n k l : ℕ) (x y z t : ℤ)
-    → pos m *ℤ x +ℤ (pos n *ℤ y +ℤ (pos k *ℤ z +ℤ (pos l *ℤ t +ℤ pos 0)))
+pad_four : (m n k l : ℕ) (x y z t : ℤ) → pos m *ℤ x +ℤ (pos n *ℤ y +ℤ (pos k *ℤ z +ℤ (pos l *ℤ t +ℤ pos 0)))
     ≡ pos m *ℤ x +ℤ pos n *ℤ y +ℤ pos k *ℤ z +ℤ pos l *ℤ t
 pad_four m n k l x y z t = omega (arith, ints)
 
@@ -156,8 +155,7 @@ combination_of at ids p m = record {
     along u P g e = ap (λ t. pos t *ℤ P) (sym q.weighs) ∙ (omega (arith, ints, total_from (λ i. vdot 3 u (toward at p i)) g P e m.terms, m.sums u)) ∙ q.sums g
 
 -- a negative scalar product of the difference is an order of scalar products
-past_from : (u v w ax ay az px py pz : ℤ)
-    → (u *ℤ (ax -ℤ px) +ℤ (v *ℤ (ay -ℤ py) +ℤ (w *ℤ (az -ℤ pz) +ℤ pos 0))) <ℤ pos 0
+past_from : (u v w ax ay az px py pz : ℤ) → (u *ℤ (ax -ℤ px) +ℤ (v *ℤ (ay -ℤ py) +ℤ (w *ℤ (az -ℤ pz) +ℤ pos 0))) <ℤ pos 0
     → (u *ℤ ax +ℤ v *ℤ ay +ℤ w *ℤ az) <ℤ (u *ℤ px +ℤ v *ℤ py +ℤ w *ℤ pz)
 past_from u v w ax ay az px py pz h = let k = simp ring_rules at h in omega (arith, ints, k)
 
@@ -169,8 +167,7 @@ separator_of at ids p s = record {
 }
 
 -- one or the other, for points
-either : (at : ℕ → Vector) (ids : List ℕ) (p : Vector)
-    → Balanced ℕ 3 (toward at p) ids ⊎ Separated ℕ 3 (toward at p) ids
+either : (at : ℕ → Vector) (ids : List ℕ) (p : Vector) → Balanced ℕ 3 (toward at p) ids ⊎ Separated ℕ 3 (toward at p) ids
     → Combination at (Members ids) p ⊎ Separator at (Members ids) p
 either at ids p (inl m) = inl (combination_of at ids p m)
 either at ids p (inr s) = inr (separator_of at ids p s)
@@ -192,18 +189,10 @@ combined_dot : (k l m n u v w ax ay az bx by bz cx cy cz dx dy dz : ℤ) →
 combined_dot k l m n u v w ax ay az bx by bz cx cy cz dx dy dz = simp ring_rules
 
 -- numbers below P do not balance to P
-lower_weights : (k l m n : ℕ) (P A B C D : ℤ)
-    → pos (k + l + m + n) *ℤ P ≡ pos k *ℤ A +ℤ pos l *ℤ B +ℤ pos m *ℤ C +ℤ pos n *ℤ D → 0 < k + l + m + n → A <ℤ P
+lower_weights : (k l m n : ℕ) (P A B C D : ℤ) → pos (k + l + m + n) *ℤ P ≡ pos k *ℤ A +ℤ pos l *ℤ B +ℤ pos m *ℤ C +ℤ pos n *ℤ D → 0 < k + l + m + n → A <ℤ P
     → B <ℤ P → C <ℤ P → D <ℤ P → ⊥
 lower_weights k l m n P A B C D e h a b c d =
-    omega (
-      arith,
-      ints,
-      mul-le-mul_left k (lt_out A P a),
-      mul-le-mul_left l (lt_out B P b),
-      mul-le-mul_left m (lt_out C P c),
-      mul-le-mul_left n (lt_out D P d),
-    )
+    omega (arith, ints, mul-le-mul_left k (lt_out A P a), mul-le-mul_left l (lt_out B P b), mul-le-mul_left m (lt_out C P c), mul-le-mul_left n (lt_out D P d))
 
 -- w puts no convex combination's members all below it
 pub all_lower : (at : ℕ → Vector) (A : ℕ → Type 0) (p w : Vector) (m : Combination at A p)

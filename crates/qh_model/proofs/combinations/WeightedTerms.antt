@@ -212,13 +212,11 @@ flat_or_cut n low f a xs s l (inl z) = inl (alone (suc n) f a xs z)
 flat_or_cut n low f a xs s l (inr c) = projected n f a xs s l c (low (λ b. c.project (f b)) xs)
 
 -- it is below 0 as well, or not
-one_more : {A : Type 0} (n : ℕ) → Claim A n → (f : A → V (suc n)) (a : A) (xs : List A)
-    → Balanced A (suc n) f xs ⊎ Separated A (suc n) f xs
+one_more : {A : Type 0} (n : ℕ) → Claim A n → (f : A → V (suc n)) (a : A) (xs : List A) → Balanced A (suc n) f xs ⊎ Separated A (suc n) f xs
     → Balanced A (suc n) f (a ∷ xs) ⊎ Separated A (suc n) f (a ∷ xs)
 one_more n low f a xs (inl m) = inl (with_more (suc n) f a xs m)
 one_more n low f a xs (inr s) =
-    by_lt_z (dot (suc n) s.w (f a)) (pos 0) (λ h. inr (record { w = s.w; below = (h, s.below) }))
-    (λ l. flat_or_cut n low f a xs s l (cut n (f a)))
+    by_lt_z (dot (suc n) s.w (f a)) (pos 0) (λ h. inr (record { w = s.w; below = (h, s.below) })) (λ l. flat_or_cut n low f a xs s l (cut n (f a)))
 
 -- the answer in dimension n + 1 from that in n
 step : {A : Type 0} (n : ℕ) → Claim A n → Claim A (suc n)

@@ -1,4 +1,5 @@
 -- Affine forms: one that is not zero at a convex combination is not zero at some of what is combined.
+use Rattle.std.proofs.Common.{⊎_elim}
 use Rattle.std.proofs.{Common.◌≡◌, Common.◌≢◌, Common.ℕ, Common.arith, Common.◌∙◌, Common.◌⊎◌, Common.inl, Common.inr, lemmas.Int.ints, lemmas.Int.by_lt_z}
 use Rattle.std.specs.Prelude.{ℤ, pos, ◌+ℤ◌, ◌<ℤ◌}
 use Rattle.qh_model.specs.headline.{Combination.Combination, Vector.Vector, Vector.dot}
@@ -23,7 +24,8 @@ pub record NonZero (at : ℕ → Vector) (E : ℕ → Type 0) (g : Vector → �
 
 -- a form that is not zero at a convex combination is not zero at a member of it
 pub non_zero_member : (at : ℕ → Vector) (E : ℕ → Type 0) (p : Vector) → Combination at E p → (g : Vector → ℤ) → Form g → g p ≢ pos 0 → NonZero at E g
-non_zero_member at E p m g f n = first (zero_or_not (g (at m.a)))
+non_zero_member at E p m g f n =
+    ⊎_elim (λ z. second z (zero_or_not (g (at m.b)))) (λ z. record { e = m.a; has = m.has_a; differs = z }) (zero_or_not (g (at m.a)))
   where
     above : g (at m.a) ≡ pos 0 → g (at m.b) ≡ pos 0 → g (at m.c) ≡ pos 0 → g (at m.d) ≡ pos 0 → pos 0 <ℤ g p → ⊥
     above a b c d l = all_lower at E p f.u m (less a) (less b) (less c) (less d)
@@ -51,7 +53,3 @@ non_zero_member at E p m g f n = first (zero_or_not (g (at m.a)))
     second : g (at m.a) ≡ pos 0 → (g (at m.b) ≡ pos 0) ⊎ (¬ (g (at m.b) ≡ pos 0)) → NonZero at E g
     second a (inl z) = third a z (zero_or_not (g (at m.c)))
     second a (inr z) = record { e = m.b; has = m.has_b; differs = z }
-
-    first : (g (at m.a) ≡ pos 0) ⊎ (¬ (g (at m.a) ≡ pos 0)) → NonZero at E g
-    first (inl z) = second z (zero_or_not (g (at m.b)))
-    first (inr z) = record { e = m.a; has = m.has_a; differs = z }

@@ -1,5 +1,5 @@
 -- Different vectors differ along one of the three axes.
-use Rattle.std.proofs.{Common.◌≡◌, Common.◌≢◌, Common.arith, Common.◌⊎◌, Common.inl, Common.inr, lemmas.Int.ints}
+use Rattle.std.proofs.{Common.⊎_elim, Common.◌≡◌, Common.◌≢◌, Common.arith, Common.◌⊎◌, Common.inl, Common.inr, lemmas.Int.ints}
 use Rattle.std.specs.Prelude.{ℤ, pos, ◌-ℤ◌}
 use Rattle.qh_model.specs.headline.Vector.{Vector, dot}
 use Rattle.qh_model.proofs.algebra.{Order.zero_or_not, Ring.equal_from_zero, VectorIdentities.vector_path}
@@ -38,7 +38,8 @@ pub record Differ (p q : Vector) : Type 0 where
 
 -- the axis
 pub differ : (p q : Vector) → p ≢ q → Differ p q
-differ p q n = on_x (zero_or_not (p.x -ℤ q.x))
+differ p q n = ⊎_elim (λ x. on_y (equal_from_zero p.x q.x x) (zero_or_not (p.y -ℤ q.y)))
+    (λ k. record { axis = axis_x; differs = λ e. k (apart p.x q.x _ _ (dot-axis_x p) (dot-axis_x q) e) }) (zero_or_not (p.x -ℤ q.x))
   where
     apart : (a b c d : ℤ) → c ≡ a → d ≡ b → c ≡ d → a -ℤ b ≡ pos 0
     apart a b c d e f h = omega (arith, ints)
@@ -50,7 +51,3 @@ differ p q n = on_x (zero_or_not (p.x -ℤ q.x))
     on_y : p.x ≡ q.x → (p.y -ℤ q.y ≡ pos 0) ⊎ (¬ (p.y -ℤ q.y ≡ pos 0)) → Differ p q
     on_y x (inl y) = on_z x (equal_from_zero p.y q.y y) (zero_or_not (p.z -ℤ q.z))
     on_y x (inr k) = record { axis = axis_y; differs = λ e. k (apart p.y q.y _ _ (dot-axis_y p) (dot-axis_y q) e) }
-
-    on_x : (p.x -ℤ q.x ≡ pos 0) ⊎ (¬ (p.x -ℤ q.x ≡ pos 0)) → Differ p q
-    on_x (inl x) = on_y (equal_from_zero p.x q.x x) (zero_or_not (p.y -ℤ q.y))
-    on_x (inr k) = record { axis = axis_x; differs = λ e. k (apart p.x q.x _ _ (dot-axis_x p) (dot-axis_x q) e) }

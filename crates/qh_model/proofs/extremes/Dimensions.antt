@@ -22,16 +22,14 @@ vol_form a b c = record { u = cross a b c; c = neg_ℤ (dot (cross a b c) a); is
 -- a set with a tetrahedron has one of what combines to it
 pub tetrahedron_of : (at : ℕ → Vector) (A E : ℕ → Type 0) → AreCombinations at A E → HasTetrahedron at A → HasTetrahedron at E
 tetrahedron_of at A E m h =
-    fourth (non_zero_member at E (at h.l) (m h.l h.has_l) (vol (at h.i) (at h.j) (at h.k))
-    (vol_form (at h.i) (at h.j) (at h.k)) h.volume)
+    fourth (non_zero_member at E (at h.l) (m h.l h.has_l) (vol (at h.i) (at h.j) (at h.k)) (vol_form (at h.i) (at h.j) (at h.k)) h.volume)
   where
     first : (l' k' j' : ℕ) → E l' → E k' → E j' → NonZero at E (λ q. vol q (at j') (at k') (at l')) → HasTetrahedron at E
     first l' k' j' el ek ej r = record { i = r.e; j = j'; k = k'; l = l'; has_i = r.has; has_j = ej; has_k = ek; has_l = el; volume = r.differs }
 
     second : (l' k' : ℕ) → E l' → E k' → NonZero at E (λ q. vol (at h.i) q (at k') (at l')) → HasTetrahedron at E
     second l' k' el ek r =
-        first l' k' r.e el ek r.has
-        (non_zero_member at E (at h.i) (m h.i h.has_i) (λ q. vol q (at r.e) (at k') (at l'))
+        first l' k' r.e el ek r.has (non_zero_member at E (at h.i) (m h.i h.has_i) (λ q. vol q (at r.e) (at k') (at l'))
         (form_as _ _ (vol_form (at l') (at k') (at r.e)) (λ q. vol-first_last q (at r.e) (at k') (at l'))) r.differs)
 
     third : (l' : ℕ) → E l' → NonZero at E (λ q. vol (at h.i) (at h.j) q (at l')) → HasTetrahedron at E
@@ -57,15 +55,7 @@ triangle_about at A E m h n d = third (non_zero_member at E (at h.k) (m h.k h.ha
   where
     first : (k' j' : ℕ) → E k' → E j' → NonZero at E (λ q. left n q (at j') (at k')) → HasTriangle at E
     first k' j' ek ej r =
-        record {
-          i = r.e;
-          j = j';
-          k = k';
-          has_i = r.has;
-          has_j = ej;
-          has_k = ek;
-          area = λ e. r.differs (in_line-left n (at r.e) (at j') (at k') e);
-        }
+        record { i = r.e; j = j'; k = k'; has_i = r.has; has_j = ej; has_k = ek; area = λ e. r.differs (in_line-left n (at r.e) (at j') (at k') e) }
 
     second : (k' : ℕ) → E k' → NonZero at E (λ q. left n (at h.i) q (at k')) → HasTriangle at E
     second k' ek r = first k' r.e ek r.has
@@ -74,8 +64,7 @@ triangle_about at A E m h n d = third (non_zero_member at E (at h.k) (m h.k h.ha
 
     third : NonZero at E (left n (at h.i) (at h.j)) → HasTriangle at E
     third r = second r.e r.has
-        (non_zero_member at E (at h.j) (m h.j h.has_j) (λ q. left n (at h.i) q (at r.e))
-        (form_as _ _ (left_form n (at r.e) (at h.i))
+        (non_zero_member at E (at h.j) (m h.j h.has_j) (λ q. left n (at h.i) q (at r.e)) (form_as _ _ (left_form n (at r.e) (at h.i))
         (λ q. left-turn n (at h.i) q (at r.e) ∙ left-turn n q (at r.e) (at h.i))) r.differs)
 
 -- a set with a triangle has one of what combines to it
@@ -99,13 +88,7 @@ segment_of at A E d m h = along (differ (at h.i) (at h.j) (λ e. h.differ (d h.i
     plus_neg a b = omega (arith, ints)
 
     second : (u : Vector) (i' : ℕ) → E i' → NonZero at E (λ q. dot u (at i') -ℤ dot u q) → HasSegment E
-    second u i' ei r = record {
-      i = i';
-      j = r.e;
-      has_i = ei;
-      has_j = r.has;
-      differ = λ e. r.differs (omega (arith, ints, ap (λ t. dot u (at t)) e));
-    }
+    second u i' ei r = record { i = i'; j = r.e; has_i = ei; has_j = r.has; differ = λ e. r.differs (omega (arith, ints, ap (λ t. dot u (at t)) e)) }
 
     first : (u : Vector) → NonZero at E (λ q. dot u q -ℤ dot u (at h.j)) → HasSegment E
     first u r = second u r.e r.has

@@ -1,5 +1,5 @@
 -- Directions up to a positive scale, and the normals of triangles in one plane.
-use Rattle.std.proofs.Common.{◌≡◌, ◌≢◌, ℕ, zero, suc, ◌<◌, arith, refl, sym, ap, subst, ◌∙◌, ◌⊎◌, inl, inr, [], ◌∷◌}
+use Rattle.std.proofs.Common.{◌≡◌, ◌≢◌, ℕ, zero, suc, ◌<◌, arith, refl, sym, ap, subst, ◌∙◌, ◌⊎◌, inl, inr, [], ◌∷◌, ⊎_elim}
 use Rattle.std.proofs.lemmas.Int.{ints, by_lt_z}
 use Rattle.std.specs.Prelude.{ℤ, pos, negsuc, ◌+ℤ◌, ◌*ℤ◌, neg_ℤ, ◌<ℤ◌, ◌≤ℤ◌}
 use Rattle.qh_model.specs.headline.{Predicates.cross, Predicates.vol, Predicates.left, Predicates.AreInLine, Vector.Vector, Vector.origin, Vector.minus}
@@ -28,8 +28,7 @@ at_least_along s t v w h k e l = cancel-nonneg (pos t) w (omega (arith, ints)) (
 -- above 0
 pub positive_along : (s t : ℕ) (v w : ℤ) → 0 < s → 0 < t → pos s *ℤ v ≡ pos t *ℤ w → pos 0 <ℤ v → pos 0 <ℤ w
 positive_along s t v w h k e l =
-    cancel-pos (pos t) w (omega (arith, ints))
-    (equal_positive (pos s *ℤ v) (pos t *ℤ w) e (mul-pos (pos s) v (omega (arith, ints)) l))
+    cancel-pos (pos t) w (omega (arith, ints)) (equal_positive (pos s *ℤ v) (pos t *ℤ w) e (mul-pos (pos s) v (omega (arith, ints)) l))
 
 -- 0
 pub zero_along : (s t : ℕ) (v w : ℤ) → 0 < t → pos s *ℤ v ≡ pos t *ℤ w → v ≡ pos 0 → w ≡ pos 0
@@ -129,8 +128,7 @@ square-positive n h = by_lt_z (pos 0) (dot n n) (λ q. q) (λ q. absurd (h (flat
 -- a vector parallel to n has its direction or the opposite one
 pub along_or_opposite : (n r : Vector) → n ≢ origin → r ≢ origin → Parallel n r → IsAlong n r ⊎ IsAlong n (opposite r)
 along_or_opposite n r h k e = by_lt_z (pos 0) s (λ l. inl (along_by n r s t l p (sym e.x) (sym e.y) (sym e.z)))
-    (λ l. by_lt_z s (pos 0)
-    (λ q. inr (along_by n (opposite r) (neg_ℤ s) t (above q) p (turned n.x r.x e.x) (turned n.y r.y e.y)
+    (λ l. by_lt_z s (pos 0) (λ q. inr (along_by n (opposite r) (neg_ℤ s) t (above q) p (turned n.x r.x e.x) (turned n.y r.y e.y)
     (turned n.z r.z e.z))) (λ q. absurd (k (flat (le_antisym s (pos 0) l q)))))
   where
     s : ℤ
@@ -165,9 +163,7 @@ pub cross-flip : (a b c : Vector) → cross a c b ≡ opposite (cross a b c)
 unfolding cross
 cross-flip a b c =
     let P = subE (vec 1) (vec 0) in let Q = subE (vec 2) (vec 0) in let env = put a (put b (put c [])) in
-    vector_path (cross a c b) (opposite (cross a b c))
-    (ring env (crossE Q P).x (neg (crossE P Q).x) refl)
-    (ring env (crossE Q P).y (neg (crossE P Q).y) refl)
+    vector_path (cross a c b) (opposite (cross a b c)) (ring env (crossE Q P).x (neg (crossE P Q).x) refl) (ring env (crossE Q P).y (neg (crossE P Q).y) refl)
     (ring env (crossE Q P).z (neg (crossE P Q).z) refl)
 
 -- three points are in line either way
@@ -182,11 +178,8 @@ in_line-flip a b c e =
 -- a triangle at right angles to n has the direction of n, one way round or the other
 pub normal_along : (n a b c : Vector) → n ≢ origin → ¬ (AreInLine a b c) → dot n (minus b a) ≡ pos 0 → dot n (minus c a) ≡ pos 0
     → IsAlong n (cross a b c) ⊎ IsAlong n (cross a c b)
-normal_along n a b c h k e f = either (along_or_opposite n (cross a b c) h k (parallel_normal n a b c e f))
-  where
-    either : IsAlong n (cross a b c) ⊎ IsAlong n (opposite (cross a b c)) → IsAlong n (cross a b c) ⊎ IsAlong n (cross a c b)
-    either (inl l) = inl l
-    either (inr l) = inr (subst (λ v. IsAlong n v) (sym (cross-flip a b c)) l)
+normal_along n a b c h k e f =
+    ⊎_elim (λ l. inl l) (λ l. inr (subst (λ v. IsAlong n v) (sym (cross-flip a b c)) l)) (along_or_opposite n (cross a b c) h k (parallel_normal n a b c e f))
 
 -- the difference of two points from one of them in the plane
 pub from_plane : (a b c p l : Vector) → vol a b c p ≡ pos 0 → dot (cross a b c) (minus l p) ≡ vol a b c l

@@ -1,9 +1,10 @@
 -- The greatest member in a direction is extreme, members are mixes of extremes, and extremes of a union.
-use Rattle.std.proofs.Common.{◌≡◌, ◌≢◌, ℕ, zero, suc, ◌<◌, arith, refl, sym, subst, ◌⊎◌, inl, inr, ◌↔◌, List, [], ◌∷◌, ◌++◌}
+use Rattle.std.proofs.Common.{◌≡◌, ◌≢◌, ℕ, zero, suc, ◌<◌, arith, refl, sym, subst, ◌⊎◌, inl, inr, ◌↔◌, List, [], ◌∷◌, ◌++◌, ⊎_elim}
 use Rattle.std.proofs.lemmas.Int.{ints}
 use Rattle.std.specs.{List.AllByRecursion as Every, Prelude.ℤ, Prelude.pos, Prelude.◌+ℤ◌, Prelude.◌*ℤ◌, Prelude.◌<ℤ◌}
 use native.Mathlib.Decide.{ℕ_discrete}
 use lib.Signed.{<ℤ_irrefl}
+use Rattle.qh_model.proofs.Decisions.{contrary, same_id}
 use Rattle.qh_model.proofs.{Members.every_at, algebra.Integers.ring_rules, algebra.VectorIdentities.vector_path}
 use Rattle.qh_model.proofs.combinations.Alternatives.{combination_or_separator, all_lower}
 use Rattle.qh_model.proofs.combinations.{OtherNames.combination_by_names, Vectors.V, Vectors.dot as vdot}
@@ -34,8 +35,7 @@ abbrev bent : Vector → V 4 → Vector
 bent w u = record { x = u.0 *ℤ w.x +ℤ u.1.0; y = u.0 *ℤ w.y +ℤ u.1.1.0; z = u.0 *ℤ w.z +ℤ u.1.1.1.0 }
 
 -- a step of the next
-bent_step : (n a b c u v w x y z : ℤ)
-    → (n *ℤ u +ℤ a) *ℤ x +ℤ (n *ℤ v +ℤ b) *ℤ y +ℤ (n *ℤ w +ℤ c) *ℤ z
+bent_step : (n a b c u v w x y z : ℤ) → (n *ℤ u +ℤ a) *ℤ x +ℤ (n *ℤ v +ℤ b) *ℤ y +ℤ (n *ℤ w +ℤ c) *ℤ z
     ≡ n *ℤ (u *ℤ x +ℤ v *ℤ y +ℤ w *ℤ z) +ℤ (a *ℤ x +ℤ (b *ℤ y +ℤ (c *ℤ z +ℤ pos 0)))
 bent_step n a b c u v w x y z = simp ring_rules (omega (arith, ints))
 
@@ -83,11 +83,8 @@ combination_within at A B p m f = combination_by_names at at A B (λ j. j) f (λ
 
 -- a listed set combines to p or is separated from it
 pub alternative_in : (at : ℕ → Vector) (A : ℕ → Type 0) (xs : List ℕ) → Listed A xs → (p : Vector) → Combination at A p ⊎ Separator at A p
-alternative_in at A xs l p = by_cases (combination_or_separator at xs p)
-  where
-    by_cases : Combination at (Members xs) p ⊎ Separator at (Members xs) p → Combination at A p ⊎ Separator at A p
-    by_cases (inl m) = inl (combination_within at (Members xs) A p m (λ j c. (l j).1 c))
-    by_cases (inr s) = inr (record { w = s.w; past = λ a h. s.past a ((l a).0 h) })
+alternative_in at A xs l p = ⊎_elim (λ m. inl (combination_within at (Members xs) A p m (λ j c. (l j).1 c)))
+    (λ s. inr (record { w = s.w; past = λ a h. s.past a ((l a).0 h) })) (combination_or_separator at xs p)
 
 -- the members that pass a test, listed
 sifted : (P : ℕ → Type 0) → ((i : ℕ) → P i ⊎ (¬ (P i))) → (xs : List ℕ) → (ys : List ℕ) × Listed (λ j. In j xs × P j) ys
@@ -119,11 +116,7 @@ listed_part A P D xs l = from_witness (sifted P D xs)
 
 -- two ids are one or not
 pub apart : (i j : ℕ) → (j ≢ i) ⊎ (¬ (j ≢ i))
-apart i j = by_decision (ℕ_discrete j i)
-  where
-    by_decision : Dec (j ≡ i) → (j ≢ i) ⊎ (¬ (j ≢ i))
-    by_decision (yes e) = inr (λ n. n e)
-    by_decision (no n) = inl n
+apart i j = contrary (j ≡ i) (same_id j i)
 
 -- whether a member is extreme can be told
 extreme_or_not : (at : ℕ → Vector) (A : ℕ → Type 0) (xs : List ℕ) → Listed A xs → (i : ℕ)
@@ -173,8 +166,7 @@ combination_of_extremes at A xs l d i h = from_witness (listed_part A (λ j. ¬ 
       where
         clash : Greatest 4 (λ j. key s.w (at j)) xs → ⊥
         clash g = not_above _ _ _ _
-            (every_at (λ j. AtMost 4 (key s.w (at j)) (key s.w (at g.top))) xs i g.above ((l i).0 h))
-            (s.past g.top (top_is_extreme at A xs l d s.w g))
+            (every_at (λ j. AtMost 4 (key s.w (at j)) (key s.w (at g.top))) xs i g.above ((l i).0 h)) (s.past g.top (top_is_extreme at A xs l d s.w g))
 
     from_witness : (ys : List ℕ) × Listed (Extreme at A) ys → Combination at (Extreme at A) (at i)
     from_witness (ys, k) = sides (alternative_in at (Extreme at A) ys k (at i))
@@ -232,8 +224,7 @@ listed_blocks n block j = (λ h. in_gathered n block j h.0 h.1 h.2, of_gathered 
 -- the law
 pub union_of_extremes : UnionOfExtremes
 union_of_extremes at n block d =
-    extremes_between at (InBlocks n (λ k. Members (block k))) (InBlocks n (λ k. Extreme at (Members (block k))))
-    (gathered n block) (listed_blocks n block) d
+    extremes_between at (InBlocks n (λ k. Members (block k))) (InBlocks n (λ k. Extreme at (Members (block k)))) (gathered n block) (listed_blocks n block) d
     (λ i b. (b.0, b.1, b.2.0))
     (λ i h. (
       h.0.0,

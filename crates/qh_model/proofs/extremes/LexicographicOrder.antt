@@ -1,5 +1,5 @@
 -- The lexicographic order of vectors: a greatest one exists, and one functional sees the order of finitely many.
-use Rattle.std.proofs.Common.{◌≡◌, ℕ, zero, suc, arith, refl, sym, ◌∙◌, ◌⊎◌, inl, inr, List, [], ◌∷◌}
+use Rattle.std.proofs.Common.{◌≡◌, ℕ, zero, suc, arith, refl, sym, ◌∙◌, ◌⊎◌, inl, inr, List, [], ◌∷◌, ⊎_elim}
 use Rattle.std.proofs.{Math.Nat.mul-le-mul_left, lemmas.Int.ints, lemmas.Int.by_lt_z}
 use Rattle.std.specs.{List.AllByRecursion as Every, Prelude.ℤ, Prelude.pos, Prelude.◌+ℤ◌, Prelude.◌-ℤ◌, Prelude.◌*ℤ◌, Prelude.neg_ℤ, Prelude.◌<ℤ◌, Prelude.◌≤ℤ◌}
 use borrow.Author.Differences.{lt_out, le_out}
@@ -49,8 +49,7 @@ same (suc n) u = (refl, same n u.1)
 compare : (n : ℕ) (u v : V n) → AtMost n u v ⊎ Less n v u
 compare zero u v = inl (inl tt)
 compare (suc n) u v =
-    by_lt_z u.0 v.0 (λ h. inl (inr (inl h)))
-    (λ h. by_lt_z v.0 u.0 (λ k. inr (inl k)) (λ k. tails (le_antisym u.0 v.0 k h) (compare n u.1 v.1)))
+    by_lt_z u.0 v.0 (λ h. inl (inr (inl h))) (λ h. by_lt_z v.0 u.0 (λ k. inr (inl k)) (λ k. tails (le_antisym u.0 v.0 k h) (compare n u.1 v.1)))
   where
     tails : u.0 ≡ v.0 → AtMost n u.1 v.1 ⊎ Less n v.1 u.1 → AtMost (suc n) u v ⊎ Less (suc n) v u
     tails e (inl (inl s)) = inl (inl (e, s))
@@ -75,10 +74,7 @@ greatest n key i (x ∷ xs) = with_first n key i (x ∷ xs) (greatest n key x xs
         record {
           top = i;
           member = inl refl;
-          above = (
-            inl (same n (key i)),
-            every_map _ _ xs (λ j l. inr (at_most_less n (key j) (key g.top) (key i) l h)) g.above,
-          );
+          above = (inl (same n (key i)), every_map _ _ xs (λ j l. inr (at_most_less n (key j) (key g.top) (key i) l h)) g.above);
         }
 
 -- ---- one functional for the order
@@ -112,11 +108,7 @@ joined : (Q : Type 0) (N : ℕ) (a b t s : ℤ) → (Q ⊎ (a <ℤ b)) ⊎ (t <�
     → Q ⊎ ((pos N *ℤ a +ℤ t) <ℤ (pos N *ℤ b +ℤ s))
 joined Q N a b t s (inl (inl q)) h = inl q
 joined Q N a b t s (inl (inr l)) h = inr (first_decides N a b t s l h.1)
-joined Q N a b t s (inr l) h = by_cases h.0
-  where
-    by_cases : Q ⊎ (a ≤ℤ b) → Q ⊎ ((pos N *ℤ a +ℤ t) <ℤ (pos N *ℤ b +ℤ s))
-    by_cases (inl q) = inl q
-    by_cases (inr m) = inr (rest_decides N a b t s m l)
+joined Q N a b t s (inr l) h = ⊎_elim (λ q. inl q) (λ m. inr (rest_decides N a b t s m l)) h.0
 
 -- one more coordinate
 extend : {A : Type 0} (n : ℕ) (Q : A → Type 0) (key : A → V (suc n)) (K : V (suc n)) (xs : List A) → Every (λ j. Q j ⊎ Less (suc n) (key j) K) xs

@@ -48,8 +48,7 @@ module _ {at at' : ℕ → Vector} {A B : ℕ → Type 0} (f : ℕ → ℕ) (to 
   }
 
 -- a segment, where names tell the members apart
-pub segment_by_names : {A B : ℕ → Type 0} (f : ℕ → ℕ) (to : (i : ℕ) → A i → B (f i)) → ((i j : ℕ) → A i → A j → f i ≡ f j → i ≡ j)
-    → HasSegment A → HasSegment B
+pub segment_by_names : {A B : ℕ → Type 0} (f : ℕ → ℕ) (to : (i : ℕ) → A i → B (f i)) → ((i j : ℕ) → A i → A j → f i ≡ f j → i ≡ j) → HasSegment A → HasSegment B
 segment_by_names f to apart s = record {
   i = f s.i;
   j = f s.j;

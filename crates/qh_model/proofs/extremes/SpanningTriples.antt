@@ -40,8 +40,7 @@ either_way at A i j k s u v w hu hv hw z n (inr h) = spanned at A i j k s u w v 
 -- the law
 pub planes_of_extremes : PlanesOfExtremes
 planes_of_extremes at ids d i j k t =
-    from_witness (listed_part (Members ids) (λ l. vol a b c (at l) ≡ pos 0) (λ l. zero_or_not (vol a b c (at l))) ids
-    (listed_itself ids))
+    from_witness (listed_part (Members ids) (λ l. vol a b c (at l) ≡ pos 0) (λ l. zero_or_not (vol a b c (at l))) ids (listed_itself ids))
   where
     a : Vector
     a = at i
@@ -68,8 +67,7 @@ planes_of_extremes at ids d i j k t =
 
     done : HasTriangle at (Extreme at F) → SpannedByExtremes at (Members ids) i j k
     done h = either_way at (Members ids) i j k t.supports h.i h.j h.k (up h.i h.has_i) (up h.j h.has_j) (up h.k h.has_k) h.has_i.0.1 h.area
-        (normal_along (cross a b c) (at h.i) (at h.j) (at h.k) t.area h.area
-        (from_plane a b c (at h.i) (at h.j) h.has_i.0.1 ∙ h.has_j.0.1)
+        (normal_along (cross a b c) (at h.i) (at h.j) (at h.k) t.area h.area (from_plane a b c (at h.i) (at h.j) h.has_i.0.1 ∙ h.has_j.0.1)
         (from_plane a b c (at h.i) (at h.k) h.has_i.0.1 ∙ h.has_k.0.1))
       where
         up : (l : ℕ) → Extreme at F l → Extreme at (Members ids) l

@@ -28,10 +28,7 @@ part_some pts ids part set some extremes =
 pub part_extremes : (pts : List Vector) (ids part xs : List ℕ) → IsIdSet pts ids → HasExtremes pts ids part
     → AreExtremes (place pts) (Members part) xs → AreExtremes (place pts) (Members ids) xs
 part_extremes pts ids part xs set h x =
-    record {
-      rising = x.rising;
-      members = λ i. ((λ m. (same i).0 ((x.members i).0 m)), (λ e. (x.members i).1 ((same i).1 e)));
-    }
+    record { rising = x.rising; members = λ i. ((λ m. (same i).0 ((x.members i).0 m)), (λ e. (x.members i).1 ((same i).1 e))) }
   where
     same : (i : ℕ) → Extreme (place pts) (Members part) i ↔ Extreme (place pts) (Members ids) i
     same = extremes_of_part (place pts) ids part set.distinct h.within h.extremes

@@ -34,10 +34,7 @@ pub forward_along : (n m : Vector) → IsAlong n m → PointsForward n → Point
 forward_along n m h (inl x) = inl (positive_along h.s h.t n.x m.x h.some_s h.some_t h.x x)
 forward_along n m h (inr (x, inl y)) = inr (zero_along h.s h.t n.x m.x h.some_t h.x x, inl (positive_along h.s h.t n.y m.y h.some_s h.some_t h.y y))
 forward_along n m h (inr (x, inr (y, z))) =
-    inr (
-      zero_along h.s h.t n.x m.x h.some_t h.x x,
-      inr (zero_along h.s h.t n.y m.y h.some_t h.y y, positive_along h.s h.t n.z m.z h.some_s h.some_t h.z z),
-    )
+    inr (zero_along h.s h.t n.x m.x h.some_t h.x x, inr (zero_along h.s h.t n.y m.y h.some_t h.y y, positive_along h.s h.t n.z m.z h.some_s h.some_t h.z z))
 
 -- nor has a positive number the opposite 0
 positive_zero : (x : ℤ) → pos 0 <ℤ x → neg_ℤ x ≡ pos 0 → ⊥

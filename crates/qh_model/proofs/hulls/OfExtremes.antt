@@ -22,13 +22,7 @@ extremes_again at ids d = extremes_between at (Members ids) (Extreme at (Members
 triple_up : (at : ℕ → Vector) (ids : List ℕ) → HasDistinctPoints at (Members ids) → (i j k : ℕ)
     → IsSupportingTriple at (Extreme at (Members ids)) i j k → IsSupportingTriple at (Members ids) i j k
 triple_up at ids d i j k t =
-    record {
-      has_i = t.has_i.0;
-      has_j = t.has_j.0;
-      has_k = t.has_k.0;
-      area = t.area;
-      supports = support_of_extremes at ids d i j k t.supports;
-    }
+    record { has_i = t.has_i.0; has_j = t.has_j.0; has_k = t.has_k.0; area = t.area; supports = support_of_extremes at ids d i j k t.supports }
 
 -- the law
 pub triples_of_extremes : TriplesOfExtremes
@@ -40,8 +34,7 @@ triples_of_extremes at ids d i j k hi hj hk =
 face_down : (at : ℕ → Vector) (ids : List ℕ) → HasDistinctPoints at (Members ids) → (i j k : ℕ) (s : SpannedByExtremes at (Members ids) i j k) (q : List ℕ)
     → IsFacePolygon at (Members ids) i j k q → IsFacePolygon at (Extreme at (Members ids)) s.u s.v s.w q
 face_down at ids d i j k s q p =
-    polygon_as at (OnPlane at (Extreme at (Members ids)) i j k)
-    (OnPlane at (Extreme at (Extreme at (Members ids))) s.u s.v s.w) (cross (at i) (at j) (at k))
+    polygon_as at (OnPlane at (Extreme at (Members ids)) i j k) (OnPlane at (Extreme at (Extreme at (Members ids))) s.u s.v s.w) (cross (at i) (at j) (at k))
     (cross (at s.u) (at s.v) (at s.w)) q
     (λ l. (λ h. ((extremes_again at ids d l).1 h.0, (s.same l).0 h.1), λ h. ((extremes_again at ids d l).0 h.0, (s.same l).1 h.1))) s.along p
 
@@ -83,13 +76,7 @@ faces_down at ids d qs f = record { rising = f.rising; each = each; only = λ q 
       s.u,
       s.v,
       s.w,
-      record {
-        has_i = s.has_u;
-        has_j = s.has_v;
-        has_k = s.has_w;
-        area = s.area;
-        supports = λ l h. s.supports l h.0;
-      },
+      record { has_i = s.has_u; has_j = s.has_v; has_k = s.has_w; area = s.area; supports = λ l h. s.supports l h.0 },
       face_down at ids d i j k s q p,
     )
 
@@ -188,10 +175,7 @@ segment_up at ids d q f =
     record {
       i = f.i;
       j = f.j;
-      members = λ l. (
-        λ h. (extremes_again at ids d l).0 ((f.members l).0 h),
-        λ h. (f.members l).1 ((extremes_again at ids d l).1 h),
-      );
+      members = λ l. (λ h. (extremes_again at ids d l).0 ((f.members l).0 h), λ h. (f.members l).1 ((extremes_again at ids d l).1 h));
       lower = f.lower;
       is = f.is;
     }
@@ -203,10 +187,7 @@ segment_down at ids d q f =
     record {
       i = f.i;
       j = f.j;
-      members = λ l. (
-        λ h. (extremes_again at ids d l).1 ((f.members l).0 h),
-        λ h. (f.members l).1 ((extremes_again at ids d l).0 h),
-      );
+      members = λ l. (λ h. (extremes_again at ids d l).1 ((f.members l).0 h), λ h. (f.members l).1 ((extremes_again at ids d l).0 h));
       lower = f.lower;
       is = f.is;
     }
@@ -249,10 +230,7 @@ body_of_extremes at ids b d = (
         dim = dim;
         extremes = record {
           rising = f.extremes.rising;
-          members = λ i. (
-            λ h. (extremes_again at ids d i).0 ((f.extremes.members i).0 h),
-            λ h. (f.extremes.members i).1 ((extremes_again at ids d i).1 h),
-          );
+          members = λ i. (λ h. (extremes_again at ids d i).0 ((f.extremes.members i).0 h), λ h. (f.extremes.members i).1 ((extremes_again at ids d i).1 h));
         };
         polygons = (polygons_of_extremes at ids b.dim b.polygons d dim).0 f.polygons;
         edges = f.edges;
@@ -261,10 +239,7 @@ body_of_extremes at ids b d = (
     dim = (dimension_of_extremes at ids b.dim d).1 f.dim;
     extremes = record {
       rising = f.extremes.rising;
-      members = λ i. (
-        λ h. (extremes_again at ids d i).1 ((f.extremes.members i).0 h),
-        λ h. (f.extremes.members i).1 ((extremes_again at ids d i).0 h),
-      );
+      members = λ i. (λ h. (extremes_again at ids d i).1 ((f.extremes.members i).0 h), λ h. (f.extremes.members i).1 ((extremes_again at ids d i).0 h));
     };
     polygons = (polygons_of_extremes at ids b.dim b.polygons d f.dim).1 f.polygons;
     edges = f.edges;

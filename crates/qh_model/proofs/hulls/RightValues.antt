@@ -85,8 +85,7 @@ not_unlisted ids bounds J (suc n) none = not_unlisted ids bounds J n step
           where
             down : (i : ℕ) → ((k : ℕ) × (k < suc n) × J k × In i (block_ids ids bounds k)) → In i zs
             down i b = dite (ℕ_discrete b.0 n)
-                (λ e. absurd (not_it (subst J e b.2)))
-                (λ ne. let l = b.1 in (h i).0 (b.0, omega (arith, l, ne), b.2, b.3))
+                (λ e. absurd (not_it (subst J e b.2))) (λ ne. let l = b.1 in (h i).0 (b.0, omega (arith, l, ne), b.2, b.3))
 
 -- the extreme ids of the ids that are right for either are right for both together
 pub right_of_both : (pts : List Vector) (ids bounds : List ℕ) (J K L : ℕ → Type 0) (xs ys zs vs : List ℕ) → HasDistinctPoints (place pts) (Members ids)
@@ -161,16 +160,13 @@ module _ (pts : List Vector) (ids bounds : List ℕ) (J : ℕ → Type 0) (xs : 
 -- ---- the laws
 pub right_of_leaf : RightOfLeaf
 right_of_leaf pts ids bounds k xs h x =
-    right_of_block pts ids bounds k (InSpan (block_count bounds) (block_count bounds + k)) xs h
-    (λ l. span_of_leaf (block_count bounds) k l h) x
+    right_of_block pts ids bounds k (InSpan (block_count bounds) (block_count bounds + k)) xs h (λ l. span_of_leaf (block_count bounds) k l h) x
 
 pub right_of_node : RightOfNode
 right_of_node pts ids bounds i xs ys zs vs apart lo hi x y union v =
     right_of_both pts ids bounds (InSpan (block_count bounds) (2 * i)) (InSpan (block_count bounds) (2 * i + 1))
-    (InSpan (block_count bounds) i) xs ys zs vs apart
-    (λ k. span_of_node (block_count bounds) i k lo hi) x y union v
+    (InSpan (block_count bounds) i) xs ys zs vs apart (λ k. span_of_node (block_count bounds) i k lo hi) x y union v
 
 pub hull_of_root : HullOfRoot
 hull_of_root pts ids bounds xs b apart cut whole x h =
-    root_body pts ids bounds (InSpan (block_count bounds) 1) xs cut whole
-    (λ k l. (span_of_root (block_count bounds) k).1 l) x b apart h
+    root_body pts ids bounds (InSpan (block_count bounds) 1) xs cut whole (λ k l. (span_of_root (block_count bounds) k).1 l) x b apart h

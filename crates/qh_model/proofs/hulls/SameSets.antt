@@ -12,14 +12,7 @@ Same A B = (i : ℕ) → A i ↔ B i
 
 -- each id under its own name
 own_names : (at : ℕ → Vector) (A B : ℕ → Type 0) → Same A B → IsRenaming at at A B (λ i. i) (λ i. i)
-own_names at A B s = record {
-  to = λ i. (s i).0;
-  from = λ i. (s i).1;
-  over = λ i a. refl;
-  under = λ i b. refl;
-  point = λ i a. refl;
-  rises = λ i j a b h. h;
-}
+own_names at A B s = record { to = λ i. (s i).0; from = λ i. (s i).1; over = λ i a. refl; under = λ i b. refl; point = λ i a. refl; rises = λ i j a b h. h }
 
 -- the same extremes
 pub extreme_as : (at : ℕ → Vector) (A B : ℕ → Type 0) → Same A B → Same (Extreme at A) (Extreme at B)
@@ -44,5 +37,4 @@ pub body_of_part : BodyOfPart
 body_of_part at ids part b d sub sup f =
     let apart : HasDistinctPoints at (Members part) = (λ i j h k e. d i j (sub i h) (sub j k) e) in
     let same : Same (Extreme at (Members part)) (Extreme at (Members ids)) = extremes_of_part at ids part d sub sup in
-    (body_of_extremes at ids b d).0
-    (body_as at (Extreme at (Members part)) (Extreme at (Members ids)) b same ((body_of_extremes at part b apart).1 f))
+    (body_of_extremes at ids b d).0 (body_as at (Extreme at (Members part)) (Extreme at (Members ids)) b same ((body_of_extremes at part b apart).1 f))

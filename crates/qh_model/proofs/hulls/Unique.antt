@@ -19,8 +19,7 @@ rising_list_is_unique xs ys f g h = ordered_unique (λ i j. i < j) (λ i j p q. 
 -- the law
 pub distinct_ids_are_unique : DistinctIdsAreUnique
 distinct_ids_are_unique pts xs ys a b =
-    rising_list_is_unique xs ys a.rising b.rising
-    (λ i. (λ h. (b.members i).1 ((a.members i).0 h), λ h. (a.members i).1 ((b.members i).0 h)))
+    rising_list_is_unique xs ys a.rising b.rising (λ i. (λ h. (b.members i).1 ((a.members i).0 h), λ h. (a.members i).1 ((b.members i).0 h)))
 
 -- the law
 pub edge_count_is_unique : EdgeCountIsUnique
@@ -53,8 +52,7 @@ one_flat_face at A n p q a b =
         (polygon_as at (Extreme at A) (Extreme at A) (cross (at a.i) (at a.j) (at a.k))
         (cross (at b.i) (at b.j) (at b.k)) p (λ i. (λ e. e, λ e. e)) h a.polygon) b.polygon
     by_cases (inr h) = absurd
-        (one_forward (cross (at b.i) (at b.j) (at b.k)) b.forward
-        (subst PointsForward (cross-flip (at b.i) (at b.j) (at b.k)) (forward_along _ _ h a.forward)))
+        (one_forward (cross (at b.i) (at b.j) (at b.k)) b.forward (subst PointsForward (cross-flip (at b.i) (at b.j) (at b.k)) (forward_along _ _ h a.forward)))
 
 -- dimension 1: one pair
 one_segment_face : (at : ℕ → Vector) (A : ℕ → Type 0) (p q : List ℕ) → IsSegmentFace at A p → IsSegmentFace at A q → p ≡ q
@@ -131,9 +129,7 @@ polygons_are_unique at ids k ps qs d a b = one_polygon_list at (Members ids) k p
 -- a set has one body
 pub one_body : (at : ℕ → Vector) (A : ℕ → Type 0) (a b : BodyValue) → IsBody at A a → IsBody at A b → a ≡ b
 one_body at A a b f g =
-    body_path a b dims extremes polygons
-    (edge_count_is_unique a.polygons a.edges b.edges f.edges
-    (subst (λ qs. IsEdgeCount qs b.edges) (sym polygons) g.edges))
+    body_path a b dims extremes polygons (edge_count_is_unique a.polygons a.edges b.edges f.edges (subst (λ qs. IsEdgeCount qs b.edges) (sym polygons) g.edges))
   where
     body_path : (a b : BodyValue) → a.dim ≡ b.dim → a.extremes ≡ b.extremes → a.polygons ≡ b.polygons → a.edges ≡ b.edges → a ≡ b
     body_path a b d e p n = λ i. record { dim = d i; extremes = e i; polygons = p i; edges = n i }
@@ -155,8 +151,7 @@ body_is_unique at ids a b f g = one_body at (Members ids) a b f g
 -- the law
 pub hull_is_unique : HullIsUnique
 hull_is_unique pts a b f g =
-    hull_path a b (f.given ∙ sym g.given) (f.distinct ∙ ap length ids ∙ sym g.distinct)
-    (one_body (place pts) (Members f.ids) a.body b.body f.body
+    hull_path a b (f.given ∙ sym g.given) (f.distinct ∙ ap length ids ∙ sym g.distinct) (one_body (place pts) (Members f.ids) a.body b.body f.body
     (subst (λ l. IsBody (place pts) (Members l) b.body) (sym ids) g.body))
   where
     hull_path : (a b : HullValue) → a.given ≡ b.given → a.distinct ≡ b.distinct → a.body ≡ b.body → a ≡ b

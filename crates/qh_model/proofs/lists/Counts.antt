@@ -30,8 +30,7 @@ module _ {X : Type 0} (p : X → Bool) (d : X) where
   counted xs i l e = let h = rw e at (sum_by_more_le (λ x. cond (p x) 1 0) xs i d l) in omega (arith, h)
 
   -- also among the first n
-  counted-first : (xs : List X) (i n : ℕ) → i < n → n ≤ length xs → p (get_or xs i d) ≡ true
-      → count_by p (take i xs) < count_by p (take n xs)
+  counted-first : (xs : List X) (i n : ℕ) → i < n → n ≤ length xs → p (get_or xs i d) ≡ true → count_by p (take i xs) < count_by p (take n xs)
   counted-first xs i n l m e = subst (λ ys. count_by p ys < count_by p (take n xs)) (take-take i n xs (omega arith))
       (counted (take n xs) i (let q = length-take-le n xs m in omega arith) (ap p (get_or-take n xs i d l) ∙ e))
 

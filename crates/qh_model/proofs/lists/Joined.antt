@@ -1,5 +1,5 @@
 -- Two lists, one after the other: their members, and when they have each once.
-use Rattle.std.proofs.Common.{List, [], ◌∷◌, ◌++◌, ◌⊎◌, inl, inr, refl, subst}
+use Rattle.std.proofs.Common.{List, [], ◌∷◌, ◌++◌, ◌⊎◌, inl, inr, refl, subst, ⊎_elim}
 use Rattle.std.specs.List.{flat_map}
 use Rattle.qh_model.specs.headline.Sets.{In, Once}
 
@@ -15,20 +15,12 @@ in_append (y ∷ xs) ys x (inr h) = inr (in_append xs ys x (inr h))
 pub of_append : {X : Type 0} (xs ys : List X) (x : X) → In x (xs ++ ys) → In x xs ⊎ In x ys
 of_append [] ys x h = inr h
 of_append (y ∷ xs) ys x (inl e) = inl (inl e)
-of_append {X} (y ∷ xs) ys x (inr h) = by_cases (of_append xs ys x h)
-  where
-    by_cases : In x xs ⊎ In x ys → In x (y ∷ xs) ⊎ In x ys
-    by_cases (inl k) = inl (inr k)
-    by_cases (inr k) = inr k
+of_append {X} (y ∷ xs) ys x (inr h) = ⊎_elim (λ k. inl (inr k)) (λ k. inr k) (of_append xs ys x h)
 
 -- lists with nothing in common have each member once together
 pub once_append : {X : Type 0} (xs ys : List X) → Once xs → Once ys → ((x : X) → In x xs → In x ys → ⊥) → Once (xs ++ ys)
 once_append [] ys o p n = p
-once_append {X} (x ∷ xs) ys o p n = (λ i. by_cases (of_append xs ys x i), once_append xs ys o.1 p (λ y i j. n y (inr i) j))
-  where
-    by_cases : In x xs ⊎ In x ys → ⊥
-    by_cases (inl i) = o.0 i
-    by_cases (inr i) = n x (inl refl) i
+once_append {X} (x ∷ xs) ys o p n = (λ i. ⊎_elim (λ i. o.0 i) (λ i. n x (inl refl) i) (of_append xs ys x i), once_append xs ys o.1 p (λ y i j. n y (inr i) j))
 
 -- a member of the list of a member is one of all these lists joined
 pub in_flat_map : {X Y : Type 0} (f : X → List Y) (xs : List X) (x : X) (y : Y) → In x xs → In y (f x) → In y (flat_map f xs)

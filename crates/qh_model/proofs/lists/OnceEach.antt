@@ -1,5 +1,5 @@
 -- Lists that have each member once: their length is known by their members, and a place by its member.
-use Rattle.std.proofs.Common.{◌≡◌, ℕ, zero, suc, ◌+◌, ◌<◌, ◌≤◌, refl, List, [], ◌∷◌, length, get_or, arith, ap, sym, subst, ◌∙◌, ◌⊎◌, inl, inr}
+use Rattle.std.proofs.Common.{◌≡◌, ℕ, zero, suc, ◌+◌, ◌<◌, ◌≤◌, refl, List, [], ◌∷◌, length, get_or, arith, ap, sym, subst, ◌∙◌, ◌⊎◌, inl, inr, ⊎_elim}
 use Rattle.std.specs.Prelude.{◌↔◌}
 use Rattle.qh_model.specs.headline.Sets.{In, Once}
 use Rattle.qh_model.proofs.Members.{In-get_or}
@@ -24,11 +24,7 @@ without-others x [] i y j = absurd i
 without-others x (z ∷ xs) (inl e) y (inl d) = inl (d ∙ sym e)
 without-others x (z ∷ xs) (inl e) y (inr j) = inr j
 without-others x (z ∷ xs) (inr i) y (inl d) = inr (inl d)
-without-others {X} x (z ∷ xs) (inr i) y (inr j) = by_cases (without-others x xs i y j)
-  where
-    by_cases : (y ≡ x) ⊎ In y (without x xs i) → (y ≡ x) ⊎ ((y ≡ z) ⊎ In y (without x xs i))
-    by_cases (inl e) = inl e
-    by_cases (inr k) = inr (inr k)
+without-others {X} x (z ∷ xs) (inr i) y (inr j) = ⊎_elim (λ e. inl e) (λ k. inr (inr k)) (without-others x xs i y j)
 
 -- a list that has each member once is no longer than one that has its members
 pub once_within : {X : Type 0} (xs ys : List X) → Once xs → ((z : X) → In z xs → In z ys) → length xs ≤ length ys
@@ -50,8 +46,7 @@ once_length xs ys o p h =
     let a = once_within xs ys o (λ z. (h z).0) in let b = once_within ys xs p (λ z. (h z).1) in omega arith
 
 -- a member that stands once has one place
-pub once_place : {X : Type 0} (d : X) (xs : List X) → Once xs → (i j : ℕ) → i < length xs → j < length xs
-    → get_or xs i d ≡ get_or xs j d → i ≡ j
+pub once_place : {X : Type 0} (d : X) (xs : List X) → Once xs → (i j : ℕ) → i < length xs → j < length xs → get_or xs i d ≡ get_or xs j d → i ≡ j
 once_place d [] o i j l m e = absurd (omega arith)
 once_place d (x ∷ xs) o zero zero l m e = refl
 once_place d (x ∷ xs) o zero (suc j) l m e = absurd (o.0 (subst (λ y. In y xs) (sym e) (In-get_or xs j d (omega arith))))

@@ -10,8 +10,7 @@ pub rising_between : (xs : List ℕ) (p q : ℕ) → IsStrictlyIncreasing xs →
 rising_between xs p q h l m =
     let step : get_or xs p 0 < get_or xs (p + 1) 0 = h p (grind (arith, l, m)) in
     let rest : get_or xs (p + 1) 0 ≤ get_or xs q 0 =
-    bounds_order (λ k. get_or xs k 0) (length xs - 1) (p + 1) q (λ k n. h k (grind (arith, n))) (grind (arith, l))
-    (grind (arith, m)) in
+    bounds_order (λ k. get_or xs k 0) (length xs - 1) (p + 1) q (λ k n. h k (grind (arith, n))) (grind (arith, l)) (grind (arith, m)) in
     grind (arith, step, rest)
 
 -- the number at a position of a part

@@ -1,5 +1,5 @@
 -- A search through the first numbers, and a walk in a list that comes back to where it began.
-use Rattle.std.proofs.Common.{◌≡◌, ℕ, zero, suc, ◌+◌, ◌<◌, List, length, get_or, arith, ap, sym, ◌∙◌, ◌⊎◌, inl, inr}
+use Rattle.std.proofs.Common.{◌≡◌, ℕ, zero, suc, ◌+◌, ◌<◌, List, length, get_or, arith, ap, sym, ◌∙◌, ◌⊎◌, inl, inr, ⊎_elim}
 use native.Mathlib.Decide.{ℕ_discrete}
 use Rattle.qh_model.specs.headline.Sets.{In}
 use Rattle.qh_model.proofs.{Members.in_at, lists.Ranges.pigeon}
@@ -9,8 +9,7 @@ look : (P : ℕ → Type 0) → ((i : ℕ) → Dec (P i)) → (n : ℕ) → ((i 
 look P test zero = inr (λ i h. absurd (omega arith))
 look P test (suc n) = by_decision (test zero) (look (λ i. P (suc i)) (λ i. test (suc i)) n)
   where
-    by_decision : Dec (P zero) → ((i : ℕ) × P (suc i)) ⊎ ((i : ℕ) → i < n → ¬ (P (suc i)))
-        → ((i : ℕ) × P i) ⊎ ((i : ℕ) → i < suc n → ¬ (P i))
+    by_decision : Dec (P zero) → ((i : ℕ) × P (suc i)) ⊎ ((i : ℕ) → i < n → ¬ (P (suc i))) → ((i : ℕ) × P i) ⊎ ((i : ℕ) → i < suc n → ¬ (P i))
     by_decision (yes p) r = inl (zero, p)
     by_decision (no q) (inl r) = inl (suc r.0, r.1)
     by_decision (no q) (inr r) = inr none
@@ -20,9 +19,8 @@ look P test (suc n) = by_decision (test zero) (look (λ i. P (suc i)) (λ i. tes
         none (suc i) h = r i (omega arith)
 
 -- a walk that stays among the members of a list, and has one way only into each place, comes back to its first place
-pub comes_back : (u : ℕ → ℕ) (xs : List ℕ) → ((i : ℕ) → In (u i) xs) → ((i j : ℕ) → u (suc i) ≡ u (suc j) → u i ≡ u j)
-    → (k : ℕ) × (u (suc k) ≡ u zero)
-comes_back u xs within one_way = by_cases (look (λ k. u (suc k) ≡ u zero) (λ k. ℕ_discrete (u (suc k)) (u zero)) (length xs))
+pub comes_back : (u : ℕ → ℕ) (xs : List ℕ) → ((i : ℕ) → In (u i) xs) → ((i j : ℕ) → u (suc i) ≡ u (suc j) → u i ≡ u j) → (k : ℕ) × (u (suc k) ≡ u zero)
+comes_back u xs within one_way = ⊎_elim (λ r. r) (λ n. absurd (never n)) (look (λ k. u (suc k) ≡ u zero) (λ k. ℕ_discrete (u (suc k)) (u zero)) (length xs))
   where
     -- where the walk comes by a place again, it does so at its first place
     first_again : (i j : ℕ) → i < j → u i ≡ u j → (k : ℕ) × (k < j) × (u (suc k) ≡ u zero)
@@ -41,7 +39,3 @@ comes_back u xs within one_way = by_cases (look (λ k. u (suc k) ≡ u zero) (λ
         apart i j h l e =
             let at_i = (in_at xs (u i) (within i)).2 in let at_j = (in_at xs (u j) (within j)).2 in
             let r = first_again i j h (sym at_i ∙ ap (λ k. get_or xs k 0) e ∙ at_j) in let b = r.1 in n r.0 (omega arith) r.2
-
-    by_cases : ((k : ℕ) × (u (suc k) ≡ u zero)) ⊎ ((k : ℕ) → k < length xs → u (suc k) ≡ u zero → ⊥) → (k : ℕ) × (u (suc k) ≡ u zero)
-    by_cases (inl r) = r
-    by_cases (inr n) = absurd (never n)

@@ -39,15 +39,13 @@ abbrev both_ways : ℕ → ℕ → List Triple → List (ℕ × ℕ) → ℕ
 both_ways u v ts es = times u v (edges ts) + times v u es
 
 -- what a way's triangles have one way more than the other, the way has, with the steps from a and back
-balanced_along : (u v a b : ℕ) (r : List ℕ)
-    → times u v (edges (triples_along a b r)) + (one v u a b + times v u (steps_along b r a))
+balanced_along : (u v a b : ℕ) (r : List ℕ) → times u v (edges (triples_along a b r)) + (one v u a b + times v u (steps_along b r a))
     ≡ times v u (edges (triples_along a b r)) + (one u v a b + times u v (steps_along b r a))
 balanced_along u v a b [] = omega (arith, one-back u v a b, one-back v u a b)
 balanced_along u v a b (w ∷ r) = omega (arith, balanced_along u v a w r, one-back u v a w, one-back v u a w)
 
 -- the same of a polygon
-balanced_round : (u v : ℕ) (q : List ℕ)
-    → both_ways u v (triples_in q) (steps_round q) ≡ both_ways v u (triples_in q) (steps_round q)
+balanced_round : (u v : ℕ) (q : List ℕ) → both_ways u v (triples_in q) (steps_round q) ≡ both_ways v u (triples_in q) (steps_round q)
 balanced_round u v [] = refl
 balanced_round u v (a ∷ []) = omega (arith, one-back u v a a)
 balanced_round u v (a ∷ b ∷ r) = balanced_along u v a b r
@@ -57,13 +55,11 @@ times-append : (u v : ℕ) (xs ys : List (ℕ × ℕ)) → times u v (xs ++ ys) 
 times-append u v [] ys = omega arith
 times-append u v (x ∷ xs) ys = omega (arith, times-append u v xs ys)
 
-times-edges : (u v : ℕ) (xs ys : List Triple)
-    → times u v (edges (xs ++ ys)) ≡ times u v (edges xs) + times u v (edges ys)
+times-edges : (u v : ℕ) (xs ys : List Triple) → times u v (edges (xs ++ ys)) ≡ times u v (edges xs) + times u v (edges ys)
 times-edges u v [] ys = omega arith
 times-edges u v (x ∷ xs) ys = omega (arith, times-edges u v xs ys)
 
-balanced : (u v : ℕ) (qs : List (List ℕ))
-    → both_ways u v (flat_map triples_in qs) (flat_map steps_round qs)
+balanced : (u v : ℕ) (qs : List (List ℕ)) → both_ways u v (flat_map triples_in qs) (flat_map steps_round qs)
     ≡ both_ways v u (flat_map triples_in qs) (flat_map steps_round qs)
 balanced u v [] = refl
 balanced u v (q ∷ qs) =
@@ -90,8 +86,7 @@ closed_fans qs h u v = sym (count-is (is_edge (u, v)) (edges ts)) ∙ same ∙ c
     ss = flat_map steps_round qs
 
     same : times u v (edges ts) ≡ times v u (edges ts)
-    same =
-        omega (arith, balanced u v qs, count-is (is_edge (u, v)) ss ∙ h u v ∙ sym (count-is (is_edge (v, u)) ss))
+    same = omega (arith, balanced u v qs, count-is (is_edge (u, v)) ss ∙ h u v ∙ sym (count-is (is_edge (v, u)) ss))
 
 -- ---- they are supporting triples with the same polygon
 -- two neighbours on the way from u along the list
@@ -160,9 +155,7 @@ module _ (at : ℕ → Vector) (ids : List ℕ) (i j k : ℕ) (plane : IsSupport
       not_k e = p.once.0 (inr (subst (λ x. In x r) (sym e) s.has_k))
 
       turn : pos 0 <ℤ left n (at a) (at t.j) (at t.k)
-      turn =
-          subst (λ x. pos 0 <ℤ x) (sym (left-turn n (at a) (at t.j) (at t.k)))
-          (p.round t.j t.k follows a (inl refl) not_j not_k)
+      turn = subst (λ x. pos 0 <ℤ x) (sym (left-turn n (at a) (at t.j) (at t.k))) (p.round t.j t.k follows a (inl refl) not_j not_k)
 
   -- there are some
   some_triples : HasDistinctPoints at (Members ids) → (q : List ℕ) → IsOwnFace q → (t : Triple) × In t (triples_in q)
@@ -197,8 +190,7 @@ module _ (at : ℕ → Vector) (ids : List ℕ) (qs : List (List ℕ)) (d : HasD
       go : (q : List ℕ) × In q qs × In t (triples_in q) → FaceOf t
       go (q, has, r) = with (h.faces q has)
         where
-          with : (i j k : ℕ) × IsSupportingTriple at (Members ids) i j k × IsFacePolygon at (Members ids) i j k q
-              → FaceOf t
+          with : (i j k : ℕ) × IsSupportingTriple at (Members ids) i j k × IsFacePolygon at (Members ids) i j k q → FaceOf t
           with (i, j, k, plane, p) = (q, has, triples_support at ids i j k plane q t p r)
 
   supporting : AreSupporting at (Members ids) fans
@@ -214,14 +206,12 @@ module _ (at : ℕ → Vector) (ids : List ℕ) (qs : List (List ℕ)) (d : HasD
       some : 1 ≤ length fans
       some = go (h.faces h.some h.there)
         where
-          go : (i j k : ℕ) × IsSupportingTriple at (Members ids) i j k × IsFacePolygon at (Members ids) i j k h.some
-              → 1 ≤ length fans
+          go : (i j k : ℕ) × IsSupportingTriple at (Members ids) i j k × IsFacePolygon at (Members ids) i j k h.some → 1 ≤ length fans
           go (i, j, k, plane, p) =
               let t = some_triples at ids i j k plane d h.some p in
               length_some fans t.0 (in_flat_map triples_in qs h.some t.0 h.there t.1)
 
-  each : (i j k : ℕ) → IsSupportingTriple at (Members ids) i j k
-      → (q : List ℕ) × In q qs × IsFacePolygon at (Members ids) i j k q
+  each : (i j k : ℕ) → IsSupportingTriple at (Members ids) i j k → (q : List ℕ) × In q qs × IsFacePolygon at (Members ids) i j k q
   each i j k plane = go (closed_miss_no_plane at ids fans surface supporting i j k plane)
     where
       go : TriangleOfPlane at fans i j k → (q : List ℕ) × In q qs × IsFacePolygon at (Members ids) i j k q
@@ -235,15 +225,13 @@ module _ (at : ℕ → Vector) (ids : List ℕ) (qs : List (List ℕ)) (d : HasD
       there : Extreme at (Members ids) l → (q : List ℕ) × In q qs × In l q
       there e = go (closed_miss_no_extreme at ids fans surface supporting l e)
         where
-          go : (t : Triple) × In t fans × (vol (at t.i) (at t.j) (at t.k) (at l) ≡ pos 0)
-              → (q : List ℕ) × In q qs × In l q
+          go : (t : Triple) × In t fans × (vol (at t.i) (at t.j) (at t.k) (at l) ≡ pos 0) → (q : List ℕ) × In q qs × In l q
           go (t, m, z) = let f = face_of t m in (f.0, f.1, (f.2.1.members l).1 (e, z))
 
       back : (q : List ℕ) × In q qs × In l q → Extreme at (Members ids) l
       back (q, has, m) = go (h.faces q has)
         where
-          go : (i j k : ℕ) × IsSupportingTriple at (Members ids) i j k × IsFacePolygon at (Members ids) i j k q
-              → Extreme at (Members ids) l
+          go : (i j k : ℕ) × IsSupportingTriple at (Members ids) i j k × IsFacePolygon at (Members ids) i j k q → Extreme at (Members ids) l
           go (i, j, k, plane, p) = ((p.members l).0 m).0
 
 pub closed_faces_are_all : ClosedFacesAreAll

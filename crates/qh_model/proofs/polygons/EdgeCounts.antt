@@ -33,8 +33,7 @@ found u v ((a, b) ∷ ps) e = with_rest (found u v ps) (a == u) (b == v) refl re
   where
     with_rest : (list_any (is_pair u v) ps ≡ true → In (u, v) ps) → (s t : Bool) → (a == u) ≡ s → (b == v) ≡ t → ((s && t) || list_any (is_pair u v) ps) ≡ true
         → In (u, v) ((a, b) ∷ ps)
-    with_rest rest true true p q h =
-        subst (λ x. In (x, v) ((a, b) ∷ ps)) (eqb-true a u p) (subst (λ y. In (a, y) ((a, b) ∷ ps)) (eqb-true b v q) (inl refl))
+    with_rest rest true true p q h = subst (λ x. In (x, v) ((a, b) ∷ ps)) (eqb-true a u p) (subst (λ y. In (a, y) ((a, b) ∷ ps)) (eqb-true b v q) (inl refl))
     with_rest rest true false p q h = inr (rest h)
     with_rest rest false t p q h = inr (rest h)
 

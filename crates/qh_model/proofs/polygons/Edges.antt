@@ -38,12 +38,9 @@ one_face_each_way at ids i j k a b c p q u v d t r f g x y = from_thirds (third 
 
     from_thirds : Third at A i j k u v → Third at A a b c u v → p ≡ q
     from_thirds w s = one_polygon at (OnPlane at (Extreme at A) u v s.w) (cross (at u) (at v) (at s.w)) p q
-        (seen_from at A i j k u v s.w p f
-        (level_along (at i) (at j) (at k) (at u) (at v) (at s.w) t.area (has_u at ids d i j k p u v one).1
-        (has_v at ids d i j k p u v one).1 level
-        (to_left at ids d i j k p u v one s.w (s.member.0, level) s.not_u s.not_v)) (has_u at ids d i j k p u v one).1)
-        (seen_from at A a b c u v s.w q g
-        (level_along (at a) (at b) (at c) (at u) (at v) (at s.w) r.area (has_u at ids d a b c q u v two).1
+        (seen_from at A i j k u v s.w p f (level_along (at i) (at j) (at k) (at u) (at v) (at s.w) t.area (has_u at ids d i j k p u v one).1
+        (has_v at ids d i j k p u v one).1 level (to_left at ids d i j k p u v one s.w (s.member.0, level) s.not_u s.not_v)) (has_u at ids d i j k p u v one).1)
+        (seen_from at A a b c u v s.w q g (level_along (at a) (at b) (at c) (at u) (at v) (at s.w) r.area (has_u at ids d a b c q u v two).1
         (has_v at ids d a b c q u v two).1 s.member.1 s.turns) (has_u at ids d a b c q u v two).1)
       where
         lhs : vol (at u) (at v) (at w.w) (at s.w) ≤ℤ pos 0

@@ -21,23 +21,17 @@ at_most s l x y h e p q = cancel-nonpos s x h (subst (λ v. v ≤ℤ pos 0) (sym
 
 -- strictly
 pub below : (s l x y : ℤ) → pos 0 <ℤ s → s *ℤ x ≡ l *ℤ y → pos 0 <ℤ l → y <ℤ pos 0 → x <ℤ pos 0
-below s l x y h e p q = by_lt_z x (pos 0) (λ k. k) (λ k. absurd (clash (s *ℤ x) (l *ℤ y) e (times s x h k) (mul-pos_neg l y p q)))
+below s l x y h e p q = by_lt_z x (pos 0) (λ k. k) (λ k. absurd (omega (arith, ints, times s x h k, mul-pos_neg l y p q)))
   where
     times : (s x : ℤ) → pos 0 <ℤ s → pos 0 ≤ℤ x → pos 0 ≤ℤ (s *ℤ x)
     times s x h k = grind (arith, ints)
 
-    clash : (p q : ℤ) → p ≡ q → pos 0 ≤ℤ p → q <ℤ pos 0 → ⊥
-    clash p q e h k = omega (arith, ints)
-
 -- s x = l y with s above 0, y below 0 and x not above 0
 pub turn_sign : (s l x y : ℤ) → pos 0 <ℤ s → s *ℤ x ≡ l *ℤ y → y <ℤ pos 0 → x ≤ℤ pos 0 → pos 0 ≤ℤ l
-turn_sign s l x y h e q k = by_lt_z l (pos 0) (λ p. absurd (clash (s *ℤ x) (l *ℤ y) e (times s x h k) (mul-neg_neg l y p q))) (λ p. p)
+turn_sign s l x y h e q k = by_lt_z l (pos 0) (λ p. absurd (omega (arith, ints, times s x h k, mul-neg_neg l y p q))) (λ p. p)
   where
     times : (s x : ℤ) → pos 0 <ℤ s → x ≤ℤ pos 0 → (s *ℤ x) ≤ℤ pos 0
     times s x h k = grind (arith, ints)
-
-    clash : (p q : ℤ) → p ≡ q → p ≤ℤ pos 0 → pos 0 <ℤ q → ⊥
-    clash p q e h k = omega (arith, ints)
 
 -- ---- a third member
 -- of three different numbers one is neither of two
@@ -141,8 +135,7 @@ module _ (at : ℕ → Vector) (ids : List ℕ) (d : HasDistinctPoints at (Membe
       -- along the opposite of c all extremes are lower than what lies to the right
       lower : (x : ℕ) → Extreme at F x → left n (at u) (at v) (at l) <ℤ pos 0 → dot (opposite c) (at x) <ℤ dot (opposite c) (at l)
       lower x e r = order _ _ _ _ _ _ _ (left-linear n (at u) (at v) (at l)) (left-linear n (at u) (at v) (at x))
-          (dot-opposite c (at x)) (dot-opposite c (at l)) r
-          (extreme x ((extremes_of_face at ids i j k way.triple.supports x).0 e))
+          (dot-opposite c (at x)) (dot-opposite c (at l)) r (extreme x ((extremes_of_face at ids i j k way.triple.supports x).0 e))
         where
           order : (y z p r m x' l' : ℤ) → y ≡ p +ℤ m → z ≡ r +ℤ m → x' ≡ neg_ℤ r → l' ≡ neg_ℤ p → y <ℤ pos 0 → pos 0 ≤ℤ z → x' <ℤ l'
           order y z p r m x' l' e f g h a b = omega (arith, ints)

@@ -1,16 +1,12 @@
 -- Neighbours on the way round a polygon.
-use Rattle.std.proofs.Common.{◌≡◌, ℕ, refl, sym, ◌⊎◌, inl, inr, List, [], ◌∷◌}
+use Rattle.std.proofs.Common.{◌≡◌, ℕ, refl, sym, ◌⊎◌, inl, inr, List, [], ◌∷◌, ⊎_elim}
 use Rattle.qh_model.specs.headline.{Polygon.FollowsAlong, Polygon.Follows, Sets.In}
 
 -- neighbours on a way are on it
 pub along_members : (u v t : ℕ) (r : List ℕ) (e : ℕ) → FollowsAlong u v t r e → In u (t ∷ r) × ((v ≡ e) ⊎ In v r)
 along_members u v t [] e f = (inl (sym f.0), inl (sym f.1))
 along_members u v t (w ∷ r) e (inl f) = (inl (sym f.0), inr (inl (sym f.1)))
-along_members u v t (w ∷ r) e (inr f) = let g = along_members u v w r e f in (inr g.0, later g.1)
-  where
-    later : (v ≡ e) ⊎ In v r → (v ≡ e) ⊎ In v (w ∷ r)
-    later (inl h) = inl h
-    later (inr h) = inr (inr h)
+along_members u v t (w ∷ r) e (inr f) = let g = along_members u v w r e f in (inr g.0, ⊎_elim (λ h. inl h) (λ h. inr (inr h)) g.1)
 
 -- neighbours are members
 pub follows_members : (u v : ℕ) (q : List ℕ) → Follows u v q → In u q × In v q

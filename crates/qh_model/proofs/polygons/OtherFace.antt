@@ -116,8 +116,7 @@ module _ (at : ℕ → Vector) (ids : List ℕ) (d : HasDistinctPoints at (Membe
               first : (l : ℕ) → Members ids l → height l <ℤ pos 0 → vol (at v) (at u) (at m.m) (at l) ≤ℤ pos 0
               first l h r = by_lt_z (pos 0) (vol (at v) (at u) (at m.m) (at l)) (λ s. absurd (m.least l h (below_true (height l) r) (beyond s))) (λ s. s)
                 where
-                  beyond : pos 0 <ℤ vol (at v) (at u) (at m.m) (at l)
-                      → pos 0 <ℤ (vol (at v) (at u) (at x.w) (at m.m) *ℤ vol (at v) (at u) (at b.m) (at l)
+                  beyond : pos 0 <ℤ vol (at v) (at u) (at m.m) (at l) → pos 0 <ℤ (vol (at v) (at u) (at x.w) (at m.m) *ℤ vol (at v) (at u) (at b.m) (at l)
                       -ℤ vol (at v) (at u) (at b.m) (at m.m) *ℤ vol (at v) (at u) (at x.w) (at l))
                   beyond s = gift_wrap (at v) (at u) (at x.w) (at b.m) (at m.m) (at l) (positive b.m b.there b.marked) s
 
@@ -174,8 +173,7 @@ module _ (at : ℕ → Vector) (ids : List ℕ) (d : HasDistinctPoints at (Membe
           test : Dec (u ≡ y) → Follows v u p
           test (yes e) = subst (λ t. Follows v t p) (sym e) h
           test (no n) = absurd (clash _ _ (left-flip (cross (at v) (at u) (at w.w)) (at v) (at y) (at u))
-              (f.round v y h u has' differ n)
-              (not_right' y (follows_members v y p h).1))
+              (f.round v y h u has' differ n) (not_right' y (follows_members v y p h).1))
 
 -- the law
 pub other_face : OtherFace

@@ -37,5 +37,4 @@ pub level_along : (a b c u v l : Vector) → ¬ (AreInLine a b c) → vol a b c 
 level_along a b c u v l area hu hv hl h =
     let n = cross a b c in let e = level_parallel a b c u v l hu hv hl in
     along_by n (cross u v l) (dot n (cross u v l)) (dot n n)
-    (subst (λ x. pos 0 <ℤ x) (left-dot n u v l ∙ dot_comm (cross u v l) n) h) (square-positive n area) (sym e.x)
-    (sym e.y) (sym e.z)
+    (subst (λ x. pos 0 <ℤ x) (left-dot n u v l ∙ dot_comm (cross u v l) n) h) (square-positive n area) (sym e.x) (sym e.y) (sym e.z)

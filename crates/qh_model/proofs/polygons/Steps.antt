@@ -42,8 +42,7 @@ on_round u v (t ∷ r) = on_along u v t r t
 -- each is there once
 once_along : (t : ℕ) (r : List ℕ) (e : ℕ) → Once (t ∷ r) → Once (steps_along t r e)
 once_along t [] e o = ((λ m. m), tt)
-once_along t (w ∷ r) e o =
-    ((λ m. o.0 (along_members t w w r e ((on_along t w w r e).0 m)).0), once_along w r e o.1)
+once_along t (w ∷ r) e o = ((λ m. o.0 (along_members t w w r e ((on_along t w w r e).0 m)).0), once_along w r e o.1)
 
 once_round : (q : List ℕ) → Once q → Once (steps_round q)
 once_round [] o = tt
@@ -60,8 +59,7 @@ all_once (q ∷ qs) o each one =
   where
     apart : (x : ℕ × ℕ) → In x (steps_round q) → In x (flat_map steps_round qs) → ⊥
     apart (u, v) i j = let r = of_flat_map steps_round qs (u, v) j in
-        o.0 (subst (λ (p : List ℕ). In p qs)
-        (sym (one q r.0 (inl refl) (inr r.1) u v ((on_round u v q).0 i) ((on_round u v r.0).0 r.2))) r.1)
+        o.0 (subst (λ (p : List ℕ). In p qs) (sym (one q r.0 (inl refl) (inr r.1) u v ((on_round u v q).0 i) ((on_round u v r.0).0 r.2))) r.1)
 
 -- ordered lists are there once each
 pub ordered_once : (qs : List (List ℕ)) → Ordered ComesBefore qs → Once qs

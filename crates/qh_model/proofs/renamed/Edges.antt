@@ -1,5 +1,5 @@
 -- The edges of a set renamed in its order.
-use Rattle.std.proofs.Common.{◌≡◌, ℕ, ◌<◌, ◌⊎◌, List, map, sym, ap, subst, ◌∙◌, inl, inr}
+use Rattle.std.proofs.Common.{◌≡◌, ℕ, ◌<◌, ◌⊎◌, List, map, sym, ap, subst, ◌∙◌, inl, inr, ⊎_elim}
 use Rattle.std.proofs.lemmas.List.{length-map}
 use Rattle.qh_model.specs.headline.{Polygon.Follows, Polygons.IsEdge, Polygons.IsEdgeCount, Sets.In, Vector.Vector}
 use Rattle.qh_model.proofs.{lists.Images.in_map, lists.Images.of_map, lists.Images.once_map, polygons.Neighbours.follows_members, renamed.Lists.AreWithin}
@@ -15,22 +15,16 @@ module _ {at at' : ℕ → Vector} {A B : ℕ → Type 0} {f g : ℕ → ℕ} (r
   edge_renamed : (qs : List (List ℕ)) → AreWithin A qs → (u v : ℕ) → IsEdge qs u v → IsEdge (map (map f) qs) (f u) (f v)
   edge_renamed qs within u v (h, (q, m, n)) =
       let ends = edge_members qs within u v (h, (q, m, n)) in
-      (r.rises u v ends.0 ends.1 h, (map f q, in_map (map f) qs q m, next n))
-    where
-      next : Follows u v q ⊎ Follows v u q → Follows (f u) (f v) (map f q) ⊎ Follows (f v) (f u) (map f q)
-      next (inl s) = inl (follows_map f u v q s)
-      next (inr s) = inr (follows_map f v u q s)
+      (r.rises u v ends.0 ends.1 h, (map f q, in_map (map f) qs q m, ⊎_elim (λ s. inl (follows_map f u v q s)) (λ s. inr (follows_map f v u q s)) n))
 
   -- an edge of the names is one of ids
-  of_edge_renamed : (qs : List (List ℕ)) → AreWithin A qs → (u v : ℕ) → IsEdge (map (map f) qs) u v
-      → (a : ℕ) × (b : ℕ) × IsEdge qs a b × (u ≡ f a) × (v ≡ f b)
+  of_edge_renamed : (qs : List (List ℕ)) → AreWithin A qs → (u v : ℕ) → IsEdge (map (map f) qs) u v → (a : ℕ) × (b : ℕ) × IsEdge qs a b × (u ≡ f a) × (v ≡ f b)
   of_edge_renamed qs within u v (h, (p, m, n)) = from (of_map (map f) qs p m) n
     where
       lower : (a b : ℕ) → A a → A b → u ≡ f a → v ≡ f b → a < b
       lower a b x y d e = renaming_falls r a b x y (subst (λ t. t < f b) d (subst (λ t. u < t) e h))
 
-      from : (q : List ℕ) × In q qs × (p ≡ map f q) → Follows u v p ⊎ Follows v u p
-          → (a : ℕ) × (b : ℕ) × IsEdge qs a b × (u ≡ f a) × (v ≡ f b)
+      from : (q : List ℕ) × In q qs × (p ≡ map f q) → Follows u v p ⊎ Follows v u p → (a : ℕ) × (b : ℕ) × IsEdge qs a b × (u ≡ f a) × (v ≡ f b)
       from (q, i, s) (inl w) =
           let o = of_follows_map f u v q (subst (Follows u v) s w) in let e = follows_members o.0 o.1 q o.2 in
           (o.0, o.1, (lower o.0 o.1 (within q i o.0 e.0) (within q i o.1 e.1) o.3 o.4, (q, i, inl o.2)), o.3, o.4)

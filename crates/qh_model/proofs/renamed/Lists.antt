@@ -65,8 +65,7 @@ module _ (A : ℕ → Type 0) (f : ℕ → ℕ) (rises : (i j : ℕ) → A i →
   before_map (u ∷ p) (v ∷ q) a b (inr h) = inr (ap f h.0, before_map p q (λ i m. a i (inr m)) (λ i m. b i (inr m)) h.1)
 
   -- and each the next
-  rises_map : (q : List ℕ) (ps : List (List ℕ)) → ((i : ℕ) → In i q → A i) → AreWithin A ps
-      → RisesFrom q ps → RisesFrom (map f q) (map (map f) ps)
+  rises_map : (q : List ℕ) (ps : List (List ℕ)) → ((i : ℕ) → In i q → A i) → AreWithin A ps → RisesFrom q ps → RisesFrom (map f q) (map (map f) ps)
   rises_map q [] a b h = tt
   rises_map q (p ∷ ps) a b h = (before_map q p a (b p (inl refl)) h.0, rises_map p ps (b p (inl refl)) (λ t i. b t (inr i)) h.1)
 

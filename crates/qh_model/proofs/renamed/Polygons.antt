@@ -1,5 +1,5 @@
 -- The polygons of a set renamed in its order.
-use Rattle.std.proofs.Common.{◌↔◌, ◌≡◌, ℕ, ◌⊎◌, List, map, refl, sym, ap, subst, ◌∙◌, inl, inr}
+use Rattle.std.proofs.Common.{◌↔◌, ◌≡◌, ℕ, ◌⊎◌, List, map, refl, sym, ap, subst, ◌∙◌, inl, inr, ⊎_elim}
 use Rattle.std.specs.Prelude.{pos, ◌<ℤ◌, ◌≤ℤ◌}
 use Rattle.qh_model.specs.headline.{Extreme.Extreme, Polygon.Follows, Polygon.TurnsLeft, Polygon.IsPolygon}
 use Rattle.qh_model.specs.headline.Polygons.{IsFacePolygon, AreFaces, PointsForward, IsFlatFace, IsSegmentFace, ArePolygons}
@@ -50,8 +50,7 @@ module _ {at at' : ℕ → Vector} {A B : ℕ → Type 0} {f g : ℕ → ℕ} (r
           place_w = sym (ap at' last.2 ∙ r.point last.0 (of last.0 last.1))
 
           turned : pos 0 <ℤ left n (at old.0) (at old.1) (at last.0)
-          turned =
-              p.round old.0 old.1 old.2 last.0 last.1 (λ t. not_u (last.2 ∙ ap f t ∙ sym old.3)) (λ t. not_v (last.2 ∙ ap f t ∙ sym old.4))
+          turned = p.round old.0 old.1 old.2 last.0 last.1 (λ t. not_u (last.2 ∙ ap f t ∙ sym old.3)) (λ t. not_v (last.2 ∙ ap f t ∙ sym old.4))
 
   -- a supporting triple by its names
   triple_renamed : (i j k : ℕ) → IsSupportingTriple at A i j k → IsSupportingTriple at' B (f i) (f j) (f k)
@@ -90,8 +89,7 @@ module _ {at at' : ℕ → Vector} {A B : ℕ → Type 0} {f g : ℕ → ℕ} (r
   }
     where
       each : (i j k : ℕ) → IsSupportingTriple at' B i j k → (q : List ℕ) × In q (map (map f) qs) × IsFacePolygon at' B i j k q
-      each i j k t =
-          (map f s.0, in_map (map f) qs s.0 s.1, subst (λ (n : ℕ × ℕ × ℕ). IsFacePolygon at' B n.0 n.1 n.2 (map f s.0)) names polygon)
+      each i j k t = (map f s.0, in_map (map f) qs s.0 s.1, subst (λ (n : ℕ × ℕ × ℕ). IsFacePolygon at' B n.0 n.1 n.2 (map f s.0)) names polygon)
         where
           s : (q : List ℕ) × In q qs × IsFacePolygon at A (g i) (g j) (g k) q
           s = h.each (g i) (g j) (g k) (triple_renamed (renaming_back r) i j k t)
@@ -133,17 +131,13 @@ module _ {at at' : ℕ → Vector} {A B : ℕ → Type 0} {f g : ℕ → ℕ} (r
       named l (inr e) = subst (Extreme at' B) (sym e) (extreme_renamed r h.j ((h.members h.j).0 (inr refl)))
 
       ends : (l : ℕ) → Extreme at' B l → (l ≡ f h.i) ⊎ (l ≡ f h.j)
-      ends l e = one ((h.members (g l)).1 (extreme_renamed (renaming_back r) l e))
-        where
-          one : (g l ≡ h.i) ⊎ (g l ≡ h.j) → (l ≡ f h.i) ⊎ (l ≡ f h.j)
-          one (inl d) = inl (sym (r.under l e.0) ∙ ap f d)
-          one (inr d) = inr (sym (r.under l e.0) ∙ ap f d)
+      ends l e = ⊎_elim (λ d. inl (sym (r.under l e.0) ∙ ap f d))
+          (λ d. inr (sym (r.under l e.0) ∙ ap f d)) ((h.members (g l)).1 (extreme_renamed (renaming_back r) l e))
 
   -- the polygons in every dimension
   pub polygons_renamed : (k : ℕ) (qs : List (List ℕ)) → AreWithin A qs → ArePolygons at A k qs → ArePolygons at' B k (map (map f) qs)
   polygons_renamed k qs within (inl (e, h)) = inl (e, faces_renamed qs within h)
   polygons_renamed k qs within (inr (inl (e, (q, h, s)))) = inr (inl (e, (map f q, flat_renamed q h, ap (map (map f)) s)))
-  polygons_renamed k qs within (inr (inr (inl (e, (q, h, s))))) =
-      inr (inr (inl (e, (map f q, segment_face_renamed q h, ap (map (map f)) s))))
+  polygons_renamed k qs within (inr (inr (inl (e, (q, h, s))))) = inr (inr (inl (e, (map f q, segment_face_renamed q h, ap (map (map f)) s))))
   polygons_renamed k qs within (inr (inr (inr (e, (q, h, s))))) =
       inr (inr (inr (e, (map f q, record { i = f h.i; has_i = r.to h.i h.has_i; is = ap (map f) h.is }, ap (map (map f)) s))))

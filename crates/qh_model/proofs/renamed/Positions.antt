@@ -41,13 +41,11 @@ number_at (x ∷ xs) (suc k) o h = later (number_at xs k o.1 (omega arith)) (x =
     later rest false e = ap suc rest
 
 -- positions rise with the members
-number_rises : (xs : List ℕ) → IsStrictlyIncreasing xs → (i j : ℕ) → In i xs → In j xs → i < j
-    → vertex_number xs i < vertex_number xs j
+number_rises : (xs : List ℕ) → IsStrictlyIncreasing xs → (i j : ℕ) → In i xs → In j xs → i < j → vertex_number xs i < vertex_number xs j
 number_rises xs rise i j m n h =
     let p = at_number xs i m in
     let q = at_number xs j n in
-    ordered (vertex_number xs i) (vertex_number xs j) p.1 q.1
-    (λ l. rising_between xs (vertex_number xs j) (vertex_number xs i) rise l p.0)
+    ordered (vertex_number xs i) (vertex_number xs j) p.1 q.1 (λ l. rising_between xs (vertex_number xs j) (vertex_number xs i) rise l p.0)
   where
     ordered : (k l : ℕ) → get_or xs k 0 ≡ i → get_or xs l 0 ≡ j → (l < k → get_or xs l 0 < get_or xs k 0) → k < l
     ordered k l e d up =
@@ -81,8 +79,7 @@ module _ (pts : List Vector) (A : ℕ → Type 0) (xs : List ℕ) (rising : IsSt
 
   -- each number below the length is a position
   position_of : (k : ℕ) → k < length xs → In k (vertex_numbers xs)
-  position_of k h =
-      subst (λ n. In n (vertex_numbers xs)) (number_here k h) (in_map (vertex_number xs) xs (get_or xs k 0) (In-get_or xs k 0 h))
+  position_of k h = subst (λ n. In n (vertex_numbers xs)) (number_here k h) (in_map (vertex_number xs) xs (get_or xs k 0) (In-get_or xs k 0 h))
 
   -- the members are renamed
   pub by_position : let back : ℕ → ℕ = λ k. get_or xs k 0 in
@@ -100,8 +97,7 @@ module _ (pts : List Vector) (A : ℕ → Type 0) (xs : List ℕ) (rising : IsSt
   positions_apart : HasDistinctPoints (place pts) A → HasDistinctPoints (place (points_of pts xs)) (Members (vertex_numbers xs))
   positions_apart apart j k m n e =
       let back = renaming_back by_position in
-      renaming_apart back j k m n
-      (apart (get_or xs j 0) (get_or xs k 0) (back.to j m) (back.to k n) (back.point j m ∙ e ∙ sym (back.point k n)))
+      renaming_apart back j k m n (apart (get_or xs j 0) (get_or xs k 0) (back.to j m) (back.to k n) (back.point j m ∙ e ∙ sym (back.point k n)))
 
   -- they are the distinct ids of these points
   positions_distinct : HasDistinctPoints (place pts) A → AreDistinctIds (points_of pts xs) (vertex_numbers xs)
@@ -125,15 +121,10 @@ module _ (pts : List Vector) (A : ℕ → Type 0) (xs : List ℕ) (rising : IsSt
 -- ---- the points of the extreme ids
 -- a hull by the positions of its extreme ids
 abbrev pub hull_of_extremes : HullValue → HullValue
-hull_of_extremes h = record {
-  given = length h.body.extremes;
-  distinct = length h.body.extremes;
-  body = renamed_body (vertex_number h.body.extremes) h.body;
-}
+hull_of_extremes h = record { given = length h.body.extremes; distinct = length h.body.extremes; body = renamed_body (vertex_number h.body.extremes) h.body }
 
 -- it is that of the list of their points
-pub extreme_points_have_hull : (pts : List Vector) (h : HullValue) → IsHull pts h
-    → IsHull (points_of pts h.body.extremes) (hull_of_extremes h)
+pub extreme_points_have_hull : (pts : List Vector) (h : HullValue) → IsHull pts h → IsHull (points_of pts h.body.extremes) (hull_of_extremes h)
 extreme_points_have_hull pts h s = record {
   ids = vertex_numbers xs;
   distinct_ids = positions_distinct pts E xs s.body.extremes.rising s.body.extremes.members (λ i j a b. apart i j a.0 b.0);

@@ -55,8 +55,7 @@ module _ {at at' : ℕ → Vector} {A B : ℕ → Type 0} {f g : ℕ → ℕ} (r
   normal_renamed i j k a b c = λ z. cross (r.point i a z) (r.point j b z) (r.point k c z)
 
   -- the volume of three members and a name
-  pub volume_renamed : (i j k l : ℕ) → A i → A j → A k → B l
-      → vol (at' (f i)) (at' (f j)) (at' (f k)) (at' l) ≡ vol (at i) (at j) (at k) (at (g l))
+  pub volume_renamed : (i j k l : ℕ) → A i → A j → A k → B l → vol (at' (f i)) (at' (f j)) (at' (f k)) (at' l) ≡ vol (at i) (at j) (at k) (at (g l))
   volume_renamed i j k l a b c d = λ z. vol (r.point i a z) (r.point j b z) (r.point k c z) (last z)
     where
       last : at' l ≡ at (g l)
@@ -76,8 +75,7 @@ module _ {at at' : ℕ → Vector} {A B : ℕ → Type 0} {f g : ℕ → ℕ} (r
   pub dimension_renamed : (k : ℕ) → IsDimension at A k → IsDimension at' B k
   dimension_renamed =
       let q = renaming_back r in
-      dimension_as at at' A B
-      (tetrahedron_by_names f r.to r.point, tetrahedron_by_names g q.to q.point)
+      dimension_as at at' A B (tetrahedron_by_names f r.to r.point, tetrahedron_by_names g q.to q.point)
       (triangle_by_names f r.to r.point, triangle_by_names g q.to q.point)
       (segment_by_names f r.to (renaming_apart r), segment_by_names g q.to (renaming_apart q))
 

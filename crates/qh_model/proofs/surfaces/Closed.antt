@@ -38,8 +38,7 @@ module _ (m : Surface) (u v : ℕ) where
   -- an edge that occurs is a side
   side_of : (fs : List ℕ) → 0 < times m fs u v → HasSide m fs u v
   side_of [] h = absurd (omega arith)
-  side_of (f ∷ fs) h =
-      found (is_edge (u, v) (m.i f, m.j f)) refl (is_edge (u, v) (m.j f, m.k f)) refl (is_edge (u, v) (m.k f, m.i f)) refl h (side_of fs)
+  side_of (f ∷ fs) h = found (is_edge (u, v) (m.i f, m.j f)) refl (is_edge (u, v) (m.j f, m.k f)) refl (is_edge (u, v) (m.k f, m.i f)) refl h (side_of fs)
     where
       own : (s : Side) → (start m f s ≡ u) × (end m f s ≡ v) → HasSide m (f ∷ fs) u v
       own s e = record { f = f; s = s; there = inl refl; start_is = e.0; end_is = e.1 }
@@ -47,8 +46,7 @@ module _ (m : Surface) (u v : ℕ) where
       more : HasSide m fs u v → HasSide m (f ∷ fs) u v
       more x = record { f = x.f; s = x.s; there = inr x.there; start_is = x.start_is; end_is = x.end_is }
 
-      found : (a : Bool) → is_edge (u, v) (m.i f, m.j f) ≡ a → (b : Bool) → is_edge (u, v) (m.j f, m.k f) ≡ b → (c : Bool)
-          → is_edge (u, v) (m.k f, m.i f) ≡ c
+      found : (a : Bool) → is_edge (u, v) (m.i f, m.j f) ≡ a → (b : Bool) → is_edge (u, v) (m.j f, m.k f) ≡ b → (c : Bool) → is_edge (u, v) (m.k f, m.i f) ≡ c
           → 0 < cond a 1 0 + (cond b 1 0 + (cond c 1 0 + times m fs u v)) → (0 < times m fs u v → HasSide m fs u v) → HasSide m (f ∷ fs) u v
       found true e b q c r h low = own first (ends_of u v (m.i f) (m.j f) e)
       found false e true q c r h low = own second (ends_of u v (m.j f) (m.k f) q)
@@ -147,8 +145,7 @@ module _ (at : ℕ → Vector) (m : Surface) (s t u v : ℕ) where
       volume l = rise_is_vol (at (m.i f)) (at (m.j f)) (at (m.k f)) (at l)
 
   -- a facet that the middle is strictly below is a triangle
-  pub inner_area : (f : ℕ) → rise m (weighted_at at) f (middle_at at s t u v) <ℤ pos 0
-      → ¬ (AreInLine (at (m.i f)) (at (m.j f)) (at (m.k f)))
+  pub inner_area : (f : ℕ) → rise m (weighted_at at) f (middle_at at s t u v) <ℤ pos 0 → ¬ (AreInLine (at (m.i f)) (at (m.j f)) (at (m.k f)))
   inner_area f h e = omega (arith, ints, four_volumes f, flat s, flat t, flat u, flat v)
     where
       flat : (l : ℕ) → vol (at (m.i f)) (at (m.j f)) (at (m.k f)) (at l) ≡ pos 0
@@ -159,8 +156,7 @@ module _ (at : ℕ → Vector) (m : Surface) (s t u v : ℕ) where
   volumes fs = let volume : ℕ → ℤ = λ l. signed_volume at (triples_from m fs) (at l) in volume s +ℤ volume t +ℤ volume u +ℤ volume v
 
   -- one facet more
-  volumes_more : IsInner m (weighted_at at) (middle_at at s t u v) → (f : ℕ) (fs : List ℕ) → In f m.live → volumes fs ≤ℤ pos 0
-      → volumes (f ∷ fs) <ℤ pos 0
+  volumes_more : IsInner m (weighted_at at) (middle_at at s t u v) → (f : ℕ) (fs : List ℕ) → In f m.live → volumes fs ≤ℤ pos 0 → volumes (f ∷ fs) <ℤ pos 0
   volumes_more z f fs i low =
       let own : ℕ → ℤ = λ l. vol (at (m.i f)) (at (m.j f)) (at (m.k f)) (at l) in
       let rest : ℕ → ℤ = λ l. signed_volume at (triples_from m fs) (at l) in
@@ -171,8 +167,7 @@ module _ (at : ℕ → Vector) (m : Surface) (s t u v : ℕ) where
       added x p q r s a b c d e h k = omega (arith, ints)
 
   -- so the sum is not above 0
-  volumes_below : IsInner m (weighted_at at) (middle_at at s t u v) → (fs : List ℕ) → ((f : ℕ) → In f fs → In f m.live)
-      → volumes fs ≤ℤ pos 0
+  volumes_below : IsInner m (weighted_at at) (middle_at at s t u v) → (fs : List ℕ) → ((f : ℕ) → In f fs → In f m.live) → volumes fs ≤ℤ pos 0
   volumes_below z [] sub = omega (arith, ints)
   volumes_below z (f ∷ fs) sub = less_le _ _ (volumes_more z f fs (sub f (inl refl)) (volumes_below z fs (λ g i. sub g (inr i))))
 
@@ -184,8 +179,7 @@ module _ (at : ℕ → Vector) (m : Surface) (s t u v : ℕ) where
 
 -- ---- the laws
 -- a triple of the list is that of a facet
-facet_of : (m : Surface) (fs : List ℕ) (t : Triple) → In t (triples_from m fs)
-    → (f : ℕ) × In f fs × (t ≡ record { i = m.i f; j = m.j f; k = m.k f })
+facet_of : (m : Surface) (fs : List ℕ) (t : Triple) → In t (triples_from m fs) → (f : ℕ) × In f fs × (t ≡ record { i = m.i f; j = m.j f; k = m.k f })
 facet_of m [] t i = absurd i
 facet_of m (f ∷ fs) t (inl e) = (f, inl refl, e)
 facet_of m (f ∷ fs) t (inr i) = let r = facet_of m fs t i in (r.0, inr r.1, r.2)
@@ -203,8 +197,7 @@ sound_is_closed at m s t u v f0 i once w z = record {
   closed = closed m (weighted_at at) (middle_at at s t u v) z w once;
 }
   where
-    area : (x : Triple) → (f : ℕ) × In f m.live × (x ≡ record { i = m.i f; j = m.j f; k = m.k f })
-        → ¬ (AreInLine (at x.i) (at x.j) (at x.k))
+    area : (x : Triple) → (f : ℕ) × In f m.live × (x ≡ record { i = m.i f; j = m.j f; k = m.k f }) → ¬ (AreInLine (at x.i) (at x.j) (at x.k))
     area x (f, live, e) = subst (λ y. ¬ (AreInLine (at y.i) (at y.j) (at y.k))) (sym e) (inner_area at m s t u v f (z.inner f live))
 
 -- the law
@@ -217,8 +210,7 @@ sound_has_volume at m s t u v f0 i once w z p =
     same l = volume_is_constant at (triples_of m) (sound_is_closed at m s t u v f0 i once w z) (at l) p
 
 -- facets that all see p have no volume below 0
-pub seen_volume : (at : ℕ → Vector) (m : Surface) (p : Vector) (fs : List ℕ)
-    → ((f : ℕ) → In f fs → pos 0 <ℤ vol (at (m.i f)) (at (m.j f)) (at (m.k f)) p)
+pub seen_volume : (at : ℕ → Vector) (m : Surface) (p : Vector) (fs : List ℕ) → ((f : ℕ) → In f fs → pos 0 <ℤ vol (at (m.i f)) (at (m.j f)) (at (m.k f)) p)
     → pos 0 ≤ℤ signed_volume at (triples_from m fs) p
 seen_volume at m p [] h = omega (arith, ints)
 seen_volume at m p (f ∷ fs) h = let a = h f (inl refl) in let b = seen_volume at m p fs (λ g i. h g (inr i)) in omega (arith, ints)

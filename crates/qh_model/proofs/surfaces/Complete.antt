@@ -13,24 +13,13 @@ use Rattle.qh_model.proofs.surfaces.Finished.{extremes_are_corners, extremes_of_
 pub finished_is_solid : FinishedIsSolid
 finished_is_solid at ids m z = inl (
   refl,
-  record {
-    i = z.s;
-    j = z.t;
-    k = z.u;
-    l = z.v;
-    has_i = z.has_s;
-    has_j = z.has_t;
-    has_k = z.has_u;
-    has_l = z.has_v;
-    volume = less_differ _ _ z.volume;
-  },
+  record { i = z.s; j = z.t; k = z.u; l = z.v; has_i = z.has_s; has_j = z.has_t; has_k = z.has_u; has_l = z.has_v; volume = less_differ _ _ z.volume },
 )
 
 -- the law
 pub extremes_of_corners : ExtremesOfCorners
 extremes_of_corners at ids m d z =
-    extremes_between at (Members ids) (IsLiveCorner m) ids (listed_itself ids) d (λ l c. z.corners c.0 c.1 l c.2)
-    (extremes_are_corners at ids m z)
+    extremes_between at (Members ids) (IsLiveCorner m) ids (listed_itself ids) d (λ l c. z.corners c.0 c.1 l c.2) (extremes_are_corners at ids m z)
 
 -- the law
 pub extremes_of_plane : ExtremesOfPlane
@@ -51,8 +40,7 @@ extremes_of_plane at ids m d z i j k t l = (λ x. (on_plane l).0 ((same l).0 x),
     same : (h : ℕ) → Extreme at (CornerInPlane at m i j k) h ↔ Extreme at F h
     same =
         extremes_between at F (CornerInPlane at m i j k) listed.0 listed.1 (λ x y fx fy e. d x y fx.0 fy.0 e)
-        (λ h c. (z.corners c.f c.live h c.corner, c.level h c.corner))
-        (λ h x. extremes_of_plane_are_corners at ids m z i j k t h ((on_plane h).0 x))
+        (λ h c. (z.corners c.f c.live h c.corner, c.level h c.corner)) (λ h x. extremes_of_plane_are_corners at ids m z i j k t h ((on_plane h).0 x))
 
 -- the law
 pub polygons_of_facets : PolygonsOfFacets

@@ -2,7 +2,7 @@
 use Rattle.qh_model.specs.contract.SoundSurface.{IsInner, IsStrictWhenPerturbed, IsSound, IsStrict, perturbed, towards}
 use Rattle.qh_model.specs.contract.Surface.{IsCorner, Side, Surface, IsWhole, end, rise, start}
 use Rattle.qh_model.specs.{contract.Weighted.Weighted, headline.Sets.In, steps.FarCorners.far}
-use Rattle.std.proofs.Common.{◌≡◌, ◌≢◌, ℕ, ◌+◌, ◌≤◌, refl, arith, ap, sym, ◌∙◌, subst, ◌⊎◌, inl, inr}
+use Rattle.std.proofs.Common.{◌≡◌, ◌≢◌, ℕ, ◌+◌, ◌≤◌, refl, arith, ap, sym, ◌∙◌, subst, ◌⊎◌, inl, inr, ⊎_elim}
 use native.Mathlib.Decide.{ℕ_discrete}
 use Rattle.std.specs.Prelude.{pos, ◌≤ℤ◌, ◌<ℤ◌}
 use Rattle.qh_model.proofs.{algebra.Signs.not_less, algebra.Signs.equal_negative, surfaces.ConePlanes.Old}
@@ -115,11 +115,8 @@ module _ {m m' : Surface} {home : ℕ → Weighted} {o : Weighted} {p : ℕ} (w 
 
   -- the inner point stays strictly below
   pub inner_kept : IsInner m' home o
-  inner_kept f' i = from (r.origin f' i)
-    where
-      from : KeptOf m m' home p f' ⊎ ConeOf m m' home p r.number f' → rise m' home f' o <ℤ pos 0
-      from (inl k) = equal_negative _ _ (kept_rise k home o) (q.inner f' k.live)
-      from (inr n) = equal_negative _ _ (cone_rise n home o) (cone_inside n).1
+  inner_kept f' i =
+      ⊎_elim (λ k. equal_negative _ _ (kept_rise k home o) (q.inner f' k.live)) (λ n. equal_negative _ _ (cone_rise n home o) (cone_inside n).1) (r.origin f' i)
 
   -- all is strict again, with p perturbed inwards far more than the others
   pub lifted_kept : IsStrictWhenPerturbed m' home o
@@ -143,8 +140,7 @@ module _ {m m' : Surface} {home : ℕ → Weighted} {o : Weighted} {p : ℕ} (w 
       kept_as : (n f' : ℕ) → KeptOf m m' home p f' → (y : Weighted) → rise m (perturbed home o t.h n) f' y ≡ rise m' (perturbed home o h n) f' y
       kept_as n f k y =
           let same : (l : ℕ) → IsCorner m f l → perturbed home o t.h n l ≡ perturbed home o h n l = λ l c. sym (at_old n l (f, k.live, c)) in
-          rw (same (m.i f) (inl refl), same (m.j f) (inr (inl refl)), same (m.k f) (inr (inr refl)))
-          (kept_rise k (perturbed home o h n) y)
+          rw (same (m.i f) (inl refl), same (m.j f) (inr (inl refl)), same (m.k f) (inr (inr refl))) (kept_rise k (perturbed home o h n) y)
 
       strict : (n : ℕ) → t.from ≤ n → ch.from ≤ n → IsStrict m' (perturbed home o h n)
       strict n b1 b2 f' g' i j l c nc = below (r.origin f' i) (old_or_apex r g' l j c)
@@ -184,7 +180,6 @@ module _ {m m' : Surface} {home : ℕ → Weighted} {o : Weighted} {p : ℕ} (w 
               subst (λ y. rise m' at' f' y <ℤ pos 0) (sym (at_old n l old))
               (equal_negative _ _ (kept_as n f' k (at l)) (t.strict n b1 f' old.0 k.live old.1 l old.2 (λ x. nc (kept_corner k l x))))
           below (inl k) (inr e) =
-              subst (λ y. rise m' at' f' y <ℤ pos 0) (sym (ap at' e ∙ at_p n))
-              (equal_negative _ _ (kept_as n f' k top) (ch.down n b2 f' k.live k.blind))
+              subst (λ y. rise m' at' f' y <ℤ pos 0) (sym (ap at' e ∙ at_p n)) (equal_negative _ _ (kept_as n f' k top) (ch.down n b2 f' k.live k.blind))
           below (inr a) (inl old) = cone_old a old
           below (inr a) (inr e) = absurd (nc (inr (inr (e ∙ sym a.k_is))))

@@ -2,7 +2,7 @@
 use Rattle.qh_model.specs.contract.SoundSurface.{IsInner, IsStrict}
 use Rattle.qh_model.specs.contract.Surface.{IsCorner, Side, Surface, HasTwin, IsWhole, end, rise, start, rest}
 use Rattle.qh_model.specs.{contract.Weighted.Weighted, contract.Weighted.above, headline.Sets.In, steps.FarCorners.far}
-use Rattle.std.proofs.Common.{◌≡◌, ◌≢◌, ℕ, arith, sym, ◌∙◌, subst, ◌⊎◌, inl, inr}
+use Rattle.std.proofs.Common.{◌≡◌, ◌≢◌, ℕ, arith, sym, ◌∙◌, subst, ◌⊎◌, inl, inr, ⊎_elim}
 use Rattle.std.proofs.lemmas.Int.{ints, by_lt_z}
 use Rattle.std.specs.Prelude.{ℤ, pos, ◌-ℤ◌, ◌*ℤ◌, ◌≤ℤ◌, ◌<ℤ◌}
 use Rattle.qh_model.proofs.algebra.Order.{mul-pos, mul-nonneg, mul-nonneg_nonpos, mul-nonpos_nonneg, mul-nonpos, mul-neg_pos, mul-pos_neg, positive_le}
@@ -85,8 +85,7 @@ module _ (m : Surface) (at : ℕ → Weighted) where
     pub apex_blind : pos 0 <ℤ rise m at f p → rise m at (m.over f s) p ≤ℤ pos 0 → side_rise m at f s (at (far m f s)) <ℤ pos 0
         → rise m at f y ≤ℤ pos 0 → rise m at (m.over f s) y ≤ℤ pos 0 → apex_rise f s p y ≤ℤ pos 0
     apex_blind a b c d e =
-        not_above_planes _ _ _ _ _ _ products (side_seen m at f s p a) (far_blind m at w f i s p b) c
-        (side_blind m at f s y d) (far_blind m at w f i s y e)
+        not_above_planes _ _ _ _ _ _ products (side_seen m at f s p a) (far_blind m at w f i s p b) c (side_blind m at f s y d) (far_blind m at w f i s y e)
 
     -- both see y: so does the cone's facet
     pub apex_seen : pos 0 <ℤ rise m at f p → rise m at (m.over f s) p ≤ℤ pos 0 → rise m at f (at (far m f s)) ≤ℤ pos 0
@@ -99,7 +98,7 @@ module _ (m : Surface) (home : ℕ → Weighted) (o : Weighted) (w : IsWhole m) 
     (f : ℕ) (i : In f m.live) (s : Side) (l : ℕ) (old : Old m l) (ns : l ≢ start m f s) (ne : l ≢ end m f s) where
   -- a corner of the surface that's none of a side's ends is strictly below the facet or its neighbour
   below_one : (side_rise m at f s (at l) <ℤ pos 0) ⊎ (pos 0 <ℤ far_rise m at f s (at l))
-  below_one = either (corner_test m f l)
+  below_one = ⊎_elim (λ k. inr (own (corner_cases m f s l k))) (λ k. inl (side_below m at f s (at l) (st f old.0 i old.1 l old.2 k))) (corner_test m f l)
     where
       t : HasTwin m f s
       t = w f i s
@@ -117,13 +116,8 @@ module _ (m : Surface) (home : ℕ → Weighted) (o : Weighted) (w : IsWhole m) 
       own (inr (inl e)) = absurd (ne e)
       own (inr (inr e)) = far_below m at w f i s (at l) (st (m.over f s) old.0 t.live old.1 l old.2 (away e))
 
-      either : IsCorner m f l ⊎ (¬ (IsCorner m f l)) → (side_rise m at f s (at l) <ℤ pos 0) ⊎ (pos 0 <ℤ far_rise m at f s (at l))
-      either (inl k) = inr (own (corner_cases m f s l k))
-      either (inr k) = inl (side_below m at f s (at l) (st f old.0 i old.1 l old.2 k))
-
   -- so it is strictly below the cone's facet, where the facet sees the apex and the neighbour is strictly above it
-  pub corner_below_cone : (top : Weighted) → pos 0 <ℤ rise m at f top → rise m at (m.over f s) top <ℤ pos 0
-      → apex_rise m at f s top (at l) <ℤ pos 0
+  pub corner_below_cone : (top : Weighted) → pos 0 <ℤ rise m at f top → rise m at (m.over f s) top <ℤ pos 0 → apex_rise m at f s top (at l) <ℤ pos 0
   corner_below_cone top seen blind =
       below_one_plane _ _ _ _ _ _ (products m at w f i s top (at l)) (side_seen m at f s top seen) (far_below m at w f i s top blind)
       (bends m at home o w q st f i s) (side_blind m at f s (at l) (weak m at st f old.0 i old.1 l old.2))

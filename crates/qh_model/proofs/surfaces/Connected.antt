@@ -44,8 +44,7 @@ pub record Grown (m : Surface) (sees : ℕ → Bool) (c : ℕ → Bool) : Type 0
   pub grows : (f : ℕ) → In f m.live → (s : Side) → c f ≡ true → sees (m.over f s) ≡ true → c (m.over f s) ≡ true
 
 -- the facets that see a point are all reached, where all is strict
-pub connected_at : (m : Surface) (at : ℕ → Weighted) (real : ℕ → Weighted) (o : Weighted) → IsWhole m → IsInner m real o → IsStrict m at
-    → HasDistinctFacets m
+pub connected_at : (m : Surface) (at : ℕ → Weighted) (real : ℕ → Weighted) (o : Weighted) → IsWhole m → IsInner m real o → IsStrict m at → HasDistinctFacets m
     → (p : Weighted) (sees : ℕ → Bool) → ((f : ℕ) → In f m.live → sees f ≡ true → pos 0 <ℤ rise m at f p)
     → ((f : ℕ) → In f m.live → pos 0 <ℤ rise m at f p → sees f ≡ true)
     → (c : ℕ → Bool) → Grown m sees c → (f : ℕ) → In f m.live → sees f ≡ true → c f ≡ true
@@ -84,8 +83,7 @@ connected_at m at real o w n h d p sees up down c r f i e = reached (c f) refl
             let comes_back = r.grows (m.over g s) t.live (m.back g s) z (ap sees t.returns ∙ (parts g k).0) in
             absurd (both_ways (c g) (parts g k).1 (ap c (sym t.returns) ∙ comes_back))
 
-    side : (g : ℕ) → In g m.live → mark g ≡ true → (s : Side)
-        → Over (placed m at) m.live mark y p g (at (start m g s)) (at (end m g s)) (at (rest m g s))
+    side : (g : ℕ) → In g m.live → mark g ≡ true → (s : Side) → Over (placed m at) m.live mark y p g (at (start m g s)) (at (end m g s)) (at (rest m g s))
     side g j k s =
         record {
           g = m.over g s;
@@ -151,16 +149,14 @@ connected m home o w s p c g f i q =
 
     perturbed_back : (f : ℕ) → In f m.live → pos 0 <ℤ rise m at f top → sees m home p f ≡ true
     perturbed_back f j e =
-        by_lt_z (pos 0) (rise m home f p) (positive-true (rise m home f p))
-        (λ k. absurd (less_one_way _ _ e (ch.down n (omega arith) f j k)))
+        by_lt_z (pos 0) (rise m home f p) (positive-true (rise m home f p)) (λ k. absurd (less_one_way _ _ e (ch.down n (omega arith) f j k)))
 
 -- no corner is above a facet
 pub cert : (m : Surface) (home : ℕ → Weighted) (o : Weighted) → IsStrictWhenPerturbed m home o
     → (f g : ℕ) → In f m.live → In g m.live → (l : ℕ) → IsCorner m g l → rise m home f (home l) ≤ℤ pos 0
 cert m home o t f g i j l c =
     by_lt_z (pos 0) (rise m home f (home l))
-    (λ q. absurd (not_less _ _ (perturbed_above q) (weak m (perturbed home o t.h n) (t.strict n (omega arith)) f g i j l c)))
-    (λ q. q)
+    (λ q. absurd (not_less _ _ (perturbed_above q) (weak m (perturbed home o t.h n) (t.strict n (omega arith)) f g i j l c))) (λ q. q)
   where
     h : ℕ → ℤ
     h d = pos (t.h d)

@@ -18,30 +18,26 @@ use Rattle.qh_model.proofs.surfaces.{Located.mix, PerturbedInwards.towardsE, Per
 pub above-last : (a b c p o : Weighted) (n k : ℤ) → above a b c (towards o n p k) ≡ n *ℤ above a b c p +ℤ k *ℤ above a b c o
 unfolding above
 above-last a b c p o n k =
-    ring (put4 a (put4 b (put4 c (put4 p (put4 o (n ∷ k ∷ []))))))
-    (aboveE (quad 0) (quad 1) (quad 2) (towardsE (quad 4) (var 20) (quad 3) (var 21)))
+    ring (put4 a (put4 b (put4 c (put4 p (put4 o (n ∷ k ∷ [])))))) (aboveE (quad 0) (quad 1) (quad 2) (towardsE (quad 4) (var 20) (quad 3) (var 21)))
     (add (mul (var 20) (above_of 0 1 2 3)) (mul (var 21) (above_of 0 1 2 4))) refl
 
 -- as the third
 above-middle : (a b c p o : Weighted) (n k : ℤ) → above a b (towards o n p k) c ≡ n *ℤ above a b p c +ℤ k *ℤ above a b o c
 unfolding above
 above-middle a b c p o n k =
-    ring (put4 a (put4 b (put4 c (put4 p (put4 o (n ∷ k ∷ []))))))
-    (aboveE (quad 0) (quad 1) (towardsE (quad 4) (var 20) (quad 3) (var 21)) (quad 2))
+    ring (put4 a (put4 b (put4 c (put4 p (put4 o (n ∷ k ∷ [])))))) (aboveE (quad 0) (quad 1) (towardsE (quad 4) (var 20) (quad 3) (var 21)) (quad 2))
     (add (mul (var 20) (above_of 0 1 3 2)) (mul (var 21) (above_of 0 1 4 2))) refl
 
 -- ---- what no facet sees is beyond no plane that has the corners and o on one side
 module _ (m : Surface) (home : ℕ → Weighted) (o : Weighted) (w : IsWhole m) (z : IsSound m home o) where
   -- nor is a point that the facet over which it lies doesn't see
-  pub at_facet : (n x : Weighted) (l : Located m home o x) → HoldsOfCorners m (λ i. weighted_dot n (home i) ≤ℤ pos 0)
-      → weighted_dot n o ≤ℤ pos 0
+  pub at_facet : (n x : Weighted) (l : Located m home o x) → HoldsOfCorners m (λ i. weighted_dot n (home i) ≤ℤ pos 0) → weighted_dot n o ≤ℤ pos 0
       → rise m home l.f x ≤ℤ pos 0 → pos 0 <ℤ weighted_dot n x → ⊥
   at_facet n x l corners n_o blind beyond =
       no_sum _ _ _ _ _ (mix l n) (mul-pos (neg_ℤ (rise m home l.f o)) (weighted_dot n x) (neg-positive _ (z.inner l.f l.live)) beyond)
       (mul-nonneg_nonpos _ _ (shares l).0 (corners l.f l.live (m.i l.f) (inl refl)))
       (mul-nonneg_nonpos _ _ (shares l).1 (corners l.f l.live (m.j l.f) (inr (inl refl))))
-      (mul-nonneg_nonpos _ _ (shares l).2 (corners l.f l.live (m.k l.f) (inr (inr refl))))
-      (mul-nonneg_nonpos _ _ (neg-nonneg _ blind) n_o)
+      (mul-nonneg_nonpos _ _ (shares l).2 (corners l.f l.live (m.k l.f) (inr (inr refl)))) (mul-nonneg_nonpos _ _ (neg-nonneg _ blind) n_o)
 
   -- THEOREM
   pub nothing_outside : (f0 : ℕ) → In f0 m.live → (n x : Weighted) → HoldsOfCorners m (λ i. weighted_dot n (home i) ≤ℤ pos 0)
@@ -154,8 +150,7 @@ plane_is_covered m home o w z f0 i0 a b c e (inner, corners, level) settled = re
         sees_x =
             by_lt_z (pos 0) (rise m home t x) (λ p. p) (λ p. absurd (at_facet m home o w z (plane_of a b c) x l
             (λ g live d q. subst (λ v. v ≤ℤ pos 0) (sym (plane-is a b c (home d))) (corners g live d q))
-            (subst (λ v. v ≤ℤ pos 0) (sym (plane-is a b c o)) (negative_le _ inner)) p
-            (subst (λ v. pos 0 <ℤ v) (sym (plane-is a b c x)) plane_x)))
+            (subst (λ v. v ≤ℤ pos 0) (sym (plane-is a b c o)) (negative_le _ inner)) p (subst (λ v. pos 0 <ℤ v) (sym (plane-is a b c x)) plane_x)))
 
         y_blind : rise m home t y ≤ℤ pos 0
         y_blind =

@@ -13,8 +13,7 @@ unfolding above
 cramer n a b c y p =
     let first = mul (above_of 5 2 3 4) (dot_of 0 1) in let second = mul (above_of 1 5 3 4) (dot_of 0 2) in
     let third = mul (above_of 1 2 5 4) (dot_of 0 3) in let last = mul (above_of 1 2 3 5) (dot_of 0 4) in
-    ring (put4 n (put4 a (put4 b (put4 c (put4 y (put4 p []))))))
-    (mul (above_of 1 2 3 4) (dot_of 0 5)) (add (add (add first second) third) last) refl
+    ring (put4 n (put4 a (put4 b (put4 c (put4 y (put4 p [])))))) (mul (above_of 1 2 3 4) (dot_of 0 5)) (add (add (add first second) third) last) refl
 
 -- where a plane measures three of them by 0
 pub cramer_level : (n a b c y p : Weighted) → weighted_dot n a ≡ pos 0 → weighted_dot n b ≡ pos 0 → weighted_dot n c ≡ pos 0

@@ -21,8 +21,7 @@ dot4E n p = add (add (add (mul n.w p.w) (mul n.x p.x)) (mul n.y p.y)) (mul n.z p
 
 -- a determinant of three rows
 abbrev pub minor3E : (a b c p q r u v w : Expr) → Expr
-minor3E a b c p q r u v w =
-    add (less (mul a (less (mul q w) (mul r v))) (mul b (less (mul p w) (mul r u)))) (mul c (less (mul p v) (mul q u)))
+minor3E a b c p q r u v w = add (less (mul a (less (mul q w) (mul r v))) (mul b (less (mul p w) (mul r u)))) (mul c (less (mul p v) (mul q u)))
 
 -- the plane through three
 abbrev pub planeE : QE → QE → QE → QE
@@ -52,16 +51,14 @@ put4 p env = p.w ∷ p.x ∷ p.y ∷ p.z ∷ env
 
 -- ---- sums of points
 -- a plane measures the middle by the sum of what it measures
-pub dot-together : (n a b c d : Weighted)
-    → weighted_dot n (middle_of a b c d) ≡ weighted_dot n a +ℤ weighted_dot n b +ℤ weighted_dot n c +ℤ weighted_dot n d
+pub dot-together : (n a b c d : Weighted) → weighted_dot n (middle_of a b c d) ≡ weighted_dot n a +ℤ weighted_dot n b +ℤ weighted_dot n c +ℤ weighted_dot n d
 dot-together n a b c d =
     let sum : (QE → Expr) → Expr = λ part. add (add (add (part (quad 1)) (part (quad 2))) (part (quad 3))) (part (quad 4)) in
     let middle : QE = record { w = sum (λ e. e.w); x = sum (λ e. e.x); y = sum (λ e. e.y); z = sum (λ e. e.z) } in
     ring (put4 n (put4 a (put4 b (put4 c (put4 d []))))) (dot4E (quad 0) middle) (sum (dot4E (quad 0))) refl
 
 -- so the middle is above a plane by the sum of what its points are
-pub above-together : (p q r a b c d : Weighted)
-    → above p q r (middle_of a b c d) ≡ above p q r a +ℤ above p q r b +ℤ above p q r c +ℤ above p q r d
+pub above-together : (p q r a b c d : Weighted) → above p q r (middle_of a b c d) ≡ above p q r a +ℤ above p q r b +ℤ above p q r c +ℤ above p q r d
 unfolding above
 above-together p q r a b c d = dot-together (plane_of p q r) a b c d
 

@@ -13,8 +13,7 @@ use Rattle.qh_model.proofs.surfaces.{PerturbedInwards.bound, SurfaceLaws.rise_is
 pub level_facets_span : LevelFacetsSpan
 level_facets_span at ids m z f g live live' level =
     let one = one_plane at ids m z (m.i f) (m.j f) (m.k f) (m.i g) (m.j g) (m.k g) (facets_support at ids m z f live)
-    (facets_support at ids m z g live')
-    (level (m.i g) (inl refl)) (level (m.j g) (inr (inl refl))) (level (m.k g) (inr (inr refl))) in
+    (facets_support at ids m z g live') (level (m.i g) (inl refl)) (level (m.j g) (inr (inl refl))) (level (m.k g) (inr (inr refl))) in
     record { along = one.0; same = one.1 }
 
 -- a facet is in its own plane
@@ -64,9 +63,7 @@ module _ (at : ℕ → Vector) (ids : List ℕ) (m : Surface) (z : IsFinished at
       low = (corner_below (m.i f) (inl refl), corner_below (m.j f) (inr (inl refl)), corner_below (m.k f) (inr (inr refl)))
 
       flat : rise m home g (middle m home f) ≡ pos 0
-      flat =
-          sees_beyond_on _ _ _ o (middle m home f) b ((bound (λ g. rise m home g o) m.live).1 g i).1
-          (sum_blind _ _ _ _ _ _ low.0 low.1 low.2) sees
+      flat = sees_beyond_on _ _ _ o (middle m home f) b ((bound (λ g. rise m home g o) m.live).1 g i).1 (sum_blind _ _ _ _ _ _ low.0 low.1 low.2) sees
 
       level : (l : ℕ) → rise m home g (home l) ≡ pos 0 → IsLevelWith at m g l
       level l e = sym (rise_is_vol (at (m.i g)) (at (m.j g)) (at (m.k g)) (at l)) ∙ e

@@ -3,7 +3,7 @@ use Rattle.qh_model.specs.contract.SoundSurface.{HasDistinctFacets, IsInner, IsS
 use Rattle.qh_model.specs.contract.Surface.{IsCorner, Side, Surface, HasTwin, IsWhole, end, rise, start, rest, Side.first, Side.second, Side.third}
 use Rattle.qh_model.specs.contract.Weighted.{Weighted, above, weighted_dot, plane_of}
 use Rattle.qh_model.specs.{headline.Sets.In, steps.FarCorners.far}
-use Rattle.std.proofs.Common.{◌≡◌, ◌≢◌, ℕ, refl, [], arith, sym, ◌∙◌, subst, ◌⊎◌, inl, inr}
+use Rattle.std.proofs.Common.{◌≡◌, ◌≢◌, ℕ, refl, [], arith, sym, ◌∙◌, subst, ◌⊎◌, inl, inr, ⊎_elim}
 use Rattle.std.proofs.lemmas.Int.{ints, by_lt_z}
 use native.Mathlib.Decide.{ℕ_discrete}
 use Rattle.std.specs.Prelude.{ℤ, pos, ◌+ℤ◌, neg_ℤ, ◌≤ℤ◌, ◌<ℤ◌}
@@ -202,19 +202,11 @@ middle_on m at f =
 module _ (m : Surface) (at : ℕ → Weighted) (h : IsStrict m at) (f g : ℕ) (i : In f m.live) (j : In g m.live) where
   -- no corner is above a facet
   pub weak : (l : ℕ) → IsCorner m g l → rise m at f (at l) ≤ℤ pos 0
-  weak l c = either (corner_test m f l)
-    where
-      either : IsCorner m f l ⊎ (¬ (IsCorner m f l)) → rise m at f (at l) ≤ℤ pos 0
-      either (inl k) = equal_le _ _ (rise_own m at f l k)
-      either (inr k) = negative_le _ (h f g i j l c k)
+  weak l c = ⊎_elim (λ k. equal_le _ _ (rise_own m at f l k)) (λ k. negative_le _ (h f g i j l c k)) (corner_test m f l)
 
   -- a corner on a facet is one of its own
   corner_on : (l : ℕ) → IsCorner m g l → rise m at f (at l) ≡ pos 0 → IsCorner m f l
-  corner_on l c e = either (corner_test m f l)
-    where
-      either : IsCorner m f l ⊎ (¬ (IsCorner m f l)) → IsCorner m f l
-      either (inl k) = k
-      either (inr k) = absurd (less_differ _ _ (h f g i j l c k) e)
+  corner_on l c e = ⊎_elim (λ k. k) (λ k. absurd (less_differ _ _ (h f g i j l c k) e)) (corner_test m f l)
 
   -- no facet's middle is above a facet
   pub middle_weak : rise m at f (middle m at g) ≤ℤ pos 0
@@ -222,8 +214,7 @@ module _ (m : Surface) (at : ℕ → Weighted) (h : IsStrict m at) (f g : ℕ) (
 
   -- a facet's middle is strictly below each other facet
   pub middle_below : HasDistinctFacets m → g ≢ f → rise m at f (middle m at g) <ℤ pos 0
-  middle_below d n =
-      by_lt_z (rise m at f (middle m at g)) (pos 0) (λ q. q) (λ q. absurd (n (d g f j i (λ l c. corner_on l c (level q l c)))))
+  middle_below d n = by_lt_z (rise m at f (middle m at g)) (pos 0) (λ q. q) (λ q. absurd (n (d g f j i (λ l c. corner_on l c (level q l c)))))
     where
       level : pos 0 ≤ℤ rise m at f (middle m at g) → (l : ℕ) → IsCorner m g l → rise m at f (at l) ≡ pos 0
       level q =

@@ -1,11 +1,11 @@
 -- A finished surface misses no extreme id and no supporting plane.
-use Rattle.std.proofs.Common.{◌↔◌, ◌≡◌, ◌≢◌, ℕ, arith, refl, sym, ap, subst, ◌∙◌, ◌⊎◌, inl, inr, List, [], ◌∷◌}
+use Rattle.std.proofs.Common.{◌↔◌, ◌≡◌, ◌≢◌, ℕ, arith, refl, sym, ap, subst, ◌∙◌, ◌⊎◌, inl, inr, List, [], ◌∷◌, ⊎_elim}
 use Rattle.std.proofs.lemmas.Int.{ints}
 use native.Mathlib.Decide.{ℕ_discrete}
 use Rattle.std.specs.Prelude.{ℤ, pos, ◌+ℤ◌, ◌-ℤ◌, ◌*ℤ◌, ◌≤ℤ◌, ◌<ℤ◌}
 use Rattle.qh_model.specs.contract.{FinishedSurface.weighted_at, FinishedSurface.middle_at, FinishedSurface.IsFinished, Surface.Surface, Surface.IsCorner}
 use Rattle.qh_model.specs.contract.{Surface.rise, Weighted.Weighted, Weighted.weighted, Weighted.weighted_dot, Weighted.above}
-use Rattle.qh_model.specs.headline.{Combination.Combination, Extreme.Others, Extreme.Extreme, Predicates.cross, Predicates.vol, Predicates.AreInLine, Sets.In}
+use Rattle.qh_model.specs.headline.{Extreme.Others, Extreme.Extreme, Predicates.cross, Predicates.vol, Predicates.AreInLine, Sets.In}
 use Rattle.qh_model.specs.headline.{Sets.Members, SupportingPlane.IsSupportingTriple, SupportingPlane.OnPlane, Vector.Vector, Vector.dot}
 use Rattle.qh_model.specs.laws.CompletenessLaws.{FacetsSupport, IsLiveCorner, ExtremesAreCorners, CornerInPlane, ExtremesOfPlaneAreCorners, FacetOfPlane}
 use Rattle.qh_model.specs.laws.{CompletenessLaws.PlanesHaveFacets, CoveredPoints.CombinationWithInner, CoveredPoints.CombinationInPlane, FaceLaws.IsAlong}
@@ -23,12 +23,7 @@ use Rattle.qh_model.proofs.surfaces.{Facets.corner_test, Simplex.middle_is_below
 separated : (at : ℕ → Vector) (ids : List ℕ) (l : ℕ) → Extreme at (Members ids) l → Separator at (Others (Members ids) l) (at l)
 separated at ids l e =
     let others = listed_part (Members ids) (λ j. j ≢ l) (apart l) ids (listed_itself ids) in
-    sides (alternative_in at (Others (Members ids) l) others.0 others.1 (at l))
-  where
-    sides : Combination at (Others (Members ids) l) (at l) ⊎ Separator at (Others (Members ids) l) (at l)
-        → Separator at (Others (Members ids) l) (at l)
-    sides (inl c) = absurd (e.1 c)
-    sides (inr s) = s
+    ⊎_elim (λ c. absurd (e.1 c)) (λ s. s) (alternative_in at (Others (Members ids) l) others.0 others.1 (at l))
 
 -- ---- directions as planes
 -- the plane that measures along w
@@ -50,12 +45,10 @@ abbrev below_level : Vector → ℤ → Weighted
 below_level w L = record { w = pos 1 -ℤ pos 4 *ℤ L; x = pos 4 *ℤ w.x; y = pos 4 *ℤ w.y; z = pos 4 *ℤ w.z }
 
 -- how far a point is beyond it
-below_level-point : (w : Vector) (L : ℤ) (p : Vector)
-    → weighted_dot (below_level w L) (weighted p) ≡ pos 4 *ℤ dot w p +ℤ (pos 1 -ℤ pos 4 *ℤ L)
+below_level-point : (w : Vector) (L : ℤ) (p : Vector) → weighted_dot (below_level w L) (weighted p) ≡ pos 4 *ℤ dot w p +ℤ (pos 1 -ℤ pos 4 *ℤ L)
 below_level-point w L p =
     let W = vec 0 in let P = vec 1 in let four = mul (con (pos 4)) in let weight = less (con (pos 1)) (four (var 6)) in
-    ring (put w (put p (L ∷ [])))
-    (add (add (add (mul weight (con (pos 1))) (mul (four W.x) P.x)) (mul (four W.y) P.y)) (mul (four W.z) P.z))
+    ring (put w (put p (L ∷ []))) (add (add (add (mul weight (con (pos 1))) (mul (four W.x) P.x)) (mul (four W.y) P.y)) (mul (four W.z) P.z))
     (add (four (dotE W P)) weight) refl
 
 module _ (at : ℕ → Vector) (ids : List ℕ) (m : Surface) (z : IsFinished at ids m) where
@@ -123,8 +116,7 @@ module _ (at : ℕ → Vector) (ids : List ℕ) (m : Surface) (z : IsFinished at
       decide : IsCorner m q.f l ⊎ (¬ (IsCorner m q.f l)) → IsCorner m q.f l
       decide (inl c) = c
       decide (inr c) =
-          absurd (no_sum (q.all *ℤ height l) _ _ _ _ (q.mix n)
-          (mul-pos q.all (height l) q.all_pos (subst (λ x. pos 0 <ℤ x) (sym own) (omega (arith, ints))))
+          absurd (no_sum (q.all *ℤ height l) _ _ _ _ (q.mix n) (mul-pos q.all (height l) q.all_pos (subst (λ x. pos 0 <ℤ x) (sym own) (omega (arith, ints))))
           (share q.u (m.i q.f) q.u_nonneg (inl refl)) (share q.v (m.j q.f) q.v_nonneg (inr (inl refl)))
           (share q.w (m.k q.f) q.w_nonneg (inr (inr refl))) (mul-nonneg_nonpos q.t (weighted_dot n o) q.t_nonneg middle_low))
         where
@@ -164,8 +156,7 @@ module _ (at : ℕ → Vector) (ids : List ℕ) (m : Surface) (z : IsFinished at
   middle_below i j k t =
       let n = cross (at i) (at j) (at k) in
       let low = none_above i j k t in
-      middle_is_below (P i) (P j) (P k) (P z.s) (P z.t) (P z.u) (P z.v) (across n)
-      (subst (λ x. x <ℤ pos 0) (sym (is_vol z.s z.t z.u z.v)) z.volume)
+      middle_is_below (P i) (P j) (P k) (P z.s) (P z.t) (P z.u) (P z.v) (across n) (subst (λ x. x <ℤ pos 0) (sym (is_vol z.s z.t z.u z.v)) z.volume)
       (low z.s z.has_s) (low z.t z.has_t) (low z.u z.has_u) (low z.v z.has_v)
       (λ e. less_differ (pos 0) (dot n n) (square-positive n t.area) (sym e ∙ normal-above (at i) (at j) (at k)))
 
@@ -227,8 +218,7 @@ module _ (at : ℕ → Vector) (ids : List ℕ) (m : Surface) (z : IsFinished at
         same_side (normal_along (cross (at i) (at j) (at k)) (at a) (at b) (at c) t.area r.area
         (from_plane (at i) (at j) (at k) (at a) (at b) e ∙ f) (from_plane (at i) (at j) (at k) (at a) (at c) e ∙ g))
       where
-        same_side : IsAlong (cross (at i) (at j) (at k)) (cross (at a) (at b) (at c))
-            ⊎ IsAlong (cross (at i) (at j) (at k)) (cross (at a) (at c) (at b))
+        same_side : IsAlong (cross (at i) (at j) (at k)) (cross (at a) (at b) (at c)) ⊎ IsAlong (cross (at i) (at j) (at k)) (cross (at a) (at c) (at b))
             → IsAlong (cross (at i) (at j) (at k)) (cross (at a) (at b) (at c))
             × ((l : ℕ) → (vol (at i) (at j) (at k) (at l) ≡ pos 0) ↔ (vol (at a) (at b) (at c) (at l) ≡ pos 0))
         same_side (inr h) = absurd (not_opposite h)

@@ -27,11 +27,9 @@ module _ (m : Surface) (home : ℕ → Weighted) (o : Weighted) (c : Scene m hom
     where
       never : start m f s ≢ start m g t → ⊥
       never n =
-          less_one_way _ _
-          (opposite_positive _ _ (swap14 (c.at (start m f s)) (c.at (end m f s)) c.top (c.at (start m g t)))
+          less_one_way _ _ (opposite_positive _ _ (swap14 (c.at (start m f s)) (c.at (end m f s)) c.top (c.at (start m g t)))
           (subst (λ u. above (c.at (start m g t)) (c.at u) c.top (c.at (start m f s)) <ℤ pos 0) (sym e)
-          (horizon_below m home o c g t b (start m f s) (f, a.live, corner_start m f s) n
-          (λ q. ends_differ m home o c.sound.inner f a.live s (q ∙ sym e)))))
+          (horizon_below m home o c g t b (start m f s) (f, a.live, corner_start m f s) n (λ q. ends_differ m home o c.sound.inner f a.live s (q ∙ sym e)))))
           (horizon_below m home o c f s a (start m g t) (g, b.live, corner_start m g t) (λ q. n (sym q))
           (λ q. ends_differ m home o c.sound.inner g b.live t (q ∙ e)))
 
@@ -131,12 +129,10 @@ module _ (m : Surface) (home : ℕ → Weighted) (o : Weighted) (w : IsWhole m) 
       record { f = j.f; s = j.s; edge = h.edge j.f j.s j.horizon; is = j.ends }
 
   -- known by its start
-  pub edge_known_by_start : (f g : ℕ) (s t : Side) → IsHorizonSide m home p f s → IsHorizonSide m home p g t → start m f s ≡ start m g t
-      → (f ≡ g) × (s ≡ t)
+  pub edge_known_by_start : (f g : ℕ) (s t : Side) → IsHorizonSide m home p f s → IsHorizonSide m home p g t → start m f s ≡ start m g t → (f ≡ g) × (s ≡ t)
   edge_known_by_start f g s t a b = let h = shown in horizon_once m home o h.scene f g s t (h.horizon f s a) (h.horizon g t b)
 
   -- known by its end
-  pub edge_known_by_end : (f g : ℕ) (s t : Side) → IsHorizonSide m home p f s → IsHorizonSide m home p g t → end m f s ≡ end m g t
-      → (f ≡ g) × (s ≡ t)
+  pub edge_known_by_end : (f g : ℕ) (s t : Side) → IsHorizonSide m home p f s → IsHorizonSide m home p g t → end m f s ≡ end m g t → (f ≡ g) × (s ≡ t)
   edge_known_by_end f g s t a b e =
       let h = shown in edge_known_by_start f g s t a b (horizon_once_end m home o h.scene f g s t (h.horizon f s a) (h.horizon g t b) e)

@@ -6,42 +6,42 @@ use Rattle.qh_model.specs.{headline.Predicates.vol, headline.Sets.In, headline.S
 use Rattle.qh_model.proofs.algebra.{Signs.less_differ, Signs.less_le, VectorIdentities.vol-first, VectorIdentities.vol-second, VectorIdentities.vol-third}
 use Rattle.qh_model.proofs.{extremes.ExtremeIds.combination_within, surfaces.Facets.of_corners, surfaces.Finished.extremes_are_corners}
 
+-- with one more id that is above no facet a surface is finished, too
+pub finished_with : (at : ℕ → Vector) (ids : List ℕ) (m : Surface) → IsFinished at ids m → (l : ℕ)
+    → ((f : ℕ) → In f m.live → vol (at (m.i f)) (at (m.j f)) (at (m.k f)) (at l) ≤ℤ pos 0) → IsFinished at (l ∷ ids) m
+finished_with at ids m z l b = record {
+  s = z.s;
+  t = z.t;
+  u = z.u;
+  v = z.v;
+  has_s = inr z.has_s;
+  has_t = inr z.has_t;
+  has_u = inr z.has_u;
+  has_v = inr z.has_v;
+  volume = z.volume;
+  whole = z.whole;
+  sound = z.sound;
+  some = z.some;
+  some_live = z.some_live;
+  corners = λ f i k c. inr (z.corners f i k c);
+  unseen = unseen;
+}
+  where
+    unseen : (f : ℕ) → In f m.live → (k : ℕ) → Members (l ∷ ids) k → vol (at (m.i f)) (at (m.j f)) (at (m.k f)) (at k) ≤ℤ pos 0
+    unseen f i k (inl e) = subst (λ (n : ℕ). vol (at (m.i f)) (at (m.j f)) (at (m.k f)) (at n) ≤ℤ pos 0) (sym e) (b f i)
+    unseen f i k (inr h) = z.unseen f i k h
+
 module _ (at : ℕ → Vector) (part : List ℕ) (m : Surface) (z : IsFinished at part m) (l : ℕ)
     (below : (f : ℕ) → In f m.live → vol (at (m.i f)) (at (m.j f)) (at (m.k f)) (at l) <ℤ pos 0) where
-  -- the surface is finished for the part and the point, too
-  finished_with : IsFinished at (l ∷ part) m
-  finished_with = record {
-    s = z.s;
-    t = z.t;
-    u = z.u;
-    v = z.v;
-    has_s = inr z.has_s;
-    has_t = inr z.has_t;
-    has_u = inr z.has_u;
-    has_v = inr z.has_v;
-    volume = z.volume;
-    whole = z.whole;
-    sound = z.sound;
-    some = z.some;
-    some_live = z.some_live;
-    corners = λ f i k c. inr (z.corners f i k c);
-    unseen = unseen;
-  }
-    where
-      unseen : (f : ℕ) → In f m.live → (k : ℕ) → Members (l ∷ part) k → vol (at (m.i f)) (at (m.j f)) (at (m.k f)) (at k) ≤ℤ pos 0
-      unseen f i k (inl e) = subst (λ (n : ℕ). vol (at (m.i f)) (at (m.j f)) (at (m.k f)) (at n) ≤ℤ pos 0) (sym e) (less_le _ _ (below f i))
-      unseen f i k (inr h) = z.unseen f i k h
-
-  -- and has no corner at the point
+  -- the surface has no corner at the point
   no_corner : IsLiveCorner m l → ⊥
   no_corner (f, i, c) =
       let p = at (m.i f) in let q = at (m.j f) in let r = at (m.k f) in
-      less_differ _ _ (below f i)
-      (of_corners m f (λ n. vol p q r (at n) ≡ pos 0) (vol-first p q r) (vol-second p q r) (vol-third p q r) l c)
+      less_differ _ _ (below f i) (of_corners m f (λ n. vol p q r (at n) ≡ pos 0) (vol-first p q r) (vol-second p q r) (vol-third p q r) l c)
 
   -- so it is not extreme in a set with the part
   pub inner_is_not_extreme : (ids : List ℕ) → ((i : ℕ) → In i part → In i ids) → ¬ (Extreme at (Members ids) l)
-  inner_is_not_extreme ids sub x = no_corner (extremes_are_corners at (l ∷ part) m finished_with l
+  inner_is_not_extreme ids sub x = no_corner (extremes_are_corners at (l ∷ part) m (finished_with at part m z l (λ f i. less_le _ _ (below f i))) l
       (inl refl, λ c. x.1 (combination_within at (Others (Members (l ∷ part)) l) (Others (Members ids) l) (at l) c others)))
     where
       others : (j : ℕ) → Others (Members (l ∷ part)) l j → Others (Members ids) l j

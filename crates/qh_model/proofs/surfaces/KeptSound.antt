@@ -10,8 +10,7 @@ use Rattle.qh_model.proofs.surfaces.{Cone.kept_corner, Cone.corner_kept, Cone.in
 use Rattle.qh_model.proofs.surfaces.Facets.{side_rise, side_below, corner_start, corner_end, corner_rest, corner_cases, corner_test, ends_differ}
 
 -- all corners of a facet from those of a side
-from_side : (m : Surface) (f : ℕ) (s : Side) (P : ℕ → Type 0) → P (start m f s) → P (end m f s) → P (rest m f s) → (l : ℕ) → IsCorner m f l
-    → P l
+from_side : (m : Surface) (f : ℕ) (s : Side) (P : ℕ → Type 0) → P (start m f s) → P (end m f s) → P (rest m f s) → (l : ℕ) → IsCorner m f l → P l
 from_side m f s P a b c l k = one (corner_cases m f s l k)
   where
     one : (l ≡ start m f s) ⊎ (l ≡ end m f s) ⊎ (l ≡ rest m f s) → P l
@@ -35,8 +34,7 @@ edge_once m home o q f g i j s t e1 e2 = same (corner_test m f (rest m g t)) (co
 
     same : IsCorner m f (rest m g t) ⊎ (¬ (IsCorner m f (rest m g t))) → IsCorner m g (rest m f s) ⊎ (¬ (IsCorner m g (rest m f s))) → f ≡ g
     same (inl a) b =
-        sym (q.distinct g f j i (from_side m g t (IsCorner m f)
-        (subst (IsCorner m f) e1 (corner_start m f s)) (subst (IsCorner m f) e2 (corner_end m f s)) a))
+        sym (q.distinct g f j i (from_side m g t (IsCorner m f) (subst (IsCorner m f) e1 (corner_start m f s)) (subst (IsCorner m f) e2 (corner_end m f s)) a))
     same (inr a) (inl b) =
         q.distinct f g i j (from_side m f s (IsCorner m g)
         (subst (IsCorner m g) (sym e1) (corner_start m g t)) (subst (IsCorner m g) (sym e2) (corner_end m g t)) b)
@@ -46,8 +44,7 @@ edge_once m home o q f g i j s t e1 e2 = same (corner_test m f (rest m g t)) (co
         absurd (omega (arith, ints, low_f, low_g, swapped))
 
 -- a side is known by its start
-pub side_once : (m : Surface) (home : ℕ → Weighted) (o : Weighted) → IsInner m home o → (f : ℕ) → In f m.live
-    → (s t : Side) → start m f s ≡ start m f t → s ≡ t
+pub side_once : (m : Surface) (home : ℕ → Weighted) (o : Weighted) → IsInner m home o → (f : ℕ) → In f m.live → (s t : Side) → start m f s ≡ start m f t → s ≡ t
 side_once m home o q f i = once
   where
     apart : (s : Side) → start m f s ≢ end m f s
@@ -96,8 +93,7 @@ module _ {m m' : Surface} {home : ℕ → Weighted} {o : Weighted} {p : ℕ} (w 
 
       cone_cone : ConeOf m m' home p r.number f' → ConeOf m m' home p r.number g' → f' ≡ g'
       cone_cone a b =
-          one_side (ends (start m a.f a.s) (corner_start m a.f a.s) (inl (sym a.i_is)))
-          (ends (end m a.f a.s) (corner_end m a.f a.s) (inr (inl (sym a.j_is))))
+          one_side (ends (start m a.f a.s) (corner_start m a.f a.s) (inl (sym a.i_is))) (ends (end m a.f a.s) (corner_end m a.f a.s) (inr (inl (sym a.j_is))))
         where
           ends : (l : ℕ) → IsCorner m a.f l → IsCorner m' f' l → (l ≡ start m b.f b.s) ⊎ (l ≡ end m b.f b.s)
           ends l c c' = end_of b l (a.f, a.live, c) (within l c')

@@ -26,20 +26,16 @@ above-perturbed o a b x n h i =
     (mul (mul (var 16) (var 16)) (above_of 1 2 3 0)) refl
 
 -- three perturbed corners
-above-perturbed3 : (o a b c : Weighted) (n h i j : ℤ)
-    → above (towards o n a h) (towards o n b i) (towards o n c j) o ≡ n *ℤ n *ℤ n *ℤ above a b c o
+above-perturbed3 : (o a b c : Weighted) (n h i j : ℤ) → above (towards o n a h) (towards o n b i) (towards o n c j) o ≡ n *ℤ n *ℤ n *ℤ above a b c o
 unfolding above
 above-perturbed3 o a b c n h i j =
     ring (put4 o (put4 a (put4 b (put4 c (n ∷ h ∷ i ∷ j ∷ [])))))
     (aboveE (towardsE (quad 0) (var 16) (quad 1) (var 17)) (towardsE (quad 0) (var 16) (quad 2) (var 18))
-    (towardsE (quad 0) (var 16) (quad 3) (var 19)) (quad 0))
-    (mul (mul (mul (var 16) (var 16)) (var 16)) (above_of 1 2 3 0)) refl
+    (towardsE (quad 0) (var 16) (quad 3) (var 19)) (quad 0)) (mul (mul (mul (var 16) (var 16)) (var 16)) (above_of 1 2 3 0)) refl
 
 -- there is one
-pub located : (m : Surface) (home : ℕ → Weighted) (o : Weighted) → IsWhole m → IsSound m home o → (f0 : ℕ) → In f0 m.live
-    → (x : Weighted) → Located m home o x
-located m home o w z f0 i0 x =
-    found (least (λ f. true) (λ f. neg_ℤ (rise m at f o)) (λ f. rise m at f x) m.live (λ g i e. neg-positive _ (inside g i)))
+pub located : (m : Surface) (home : ℕ → Weighted) (o : Weighted) → IsWhole m → IsSound m home o → (f0 : ℕ) → In f0 m.live → (x : Weighted) → Located m home o x
+located m home o w z f0 i0 x = found (least (λ f. true) (λ f. neg_ℤ (rise m at f o)) (λ f. rise m at f x) m.live (λ g i e. neg-positive _ (inside g i)))
   where
     n : ℕ
     n = suc z.lifted.from
@@ -58,17 +54,14 @@ located m home o w z f0 i0 x =
 
     inside : (g : ℕ) → In g m.live → rise m at g o <ℤ pos 0
     inside g i =
-        subst (λ v. v <ℤ pos 0)
-        (sym (above-perturbed3 o (home (m.i g)) (home (m.j g)) (home (m.k g)) (pos n) (h (m.i g)) (h (m.j g)) (h (m.k g))))
+        subst (λ v. v <ℤ pos 0) (sym (above-perturbed3 o (home (m.i g)) (home (m.j g)) (home (m.k g)) (pos n) (h (m.i g)) (h (m.j g)) (h (m.k g))))
         (mul-pos_neg (pos n *ℤ pos n *ℤ pos n) (rise m home g o) (cube z.lifted.from n (omega arith)) (z.inner g i))
 
     swap : (a b c d : ℤ) → a *ℤ b -ℤ c *ℤ d ≡ neg_ℤ c *ℤ d -ℤ a *ℤ neg_ℤ b
     swap a b c d =
-        ring (a ∷ b ∷ c ∷ d ∷ []) (less (mul (var 0) (var 1)) (mul (var 2) (var 3)))
-        (less (mul (neg (var 2)) (var 3)) (mul (var 0) (neg (var 1)))) refl
+        ring (a ∷ b ∷ c ∷ d ∷ []) (less (mul (var 0) (var 1)) (mul (var 2) (var 3))) (less (mul (neg (var 2)) (var 3)) (mul (var 0) (neg (var 1)))) refl
 
-    found : ((g : ℕ) → In g m.live → true ≡ true → ⊥) ⊎ Least (λ f. true) (λ f. neg_ℤ (rise m at f o)) (λ f. rise m at f x) m.live
-        → Located m home o x
+    found : ((g : ℕ) → In g m.live → true ≡ true → ⊥) ⊎ Least (λ f. true) (λ f. neg_ℤ (rise m at f o)) (λ f. rise m at f x) m.live → Located m home o x
     found (inl k) = absurd (k f0 i0 refl)
     found (inr l) = record { f = l.m; live = l.there; within = side }
       where
@@ -90,19 +83,13 @@ located m home o w z f0 i0 x =
                 -ℤ side_rise m at l.m s o *ℤ above (at v) (at u) (at (far m l.m s)) x
                 ≡ neg_ℤ (rise m at l.m o) *ℤ rise m at g x -ℤ rise m at l.m x *ℤ neg_ℤ (rise m at g o)
             same =
-                rw (
-                  sym (rise_side m at l.m s x),
-                  sym (rise_side m at l.m s o),
-                  sym (rise_over m at w l.m l.there s o),
-                  sym (rise_over m at w l.m l.there s x),
-                )
+                rw (sym (rise_side m at l.m s x), sym (rise_side m at l.m s o), sym (rise_over m at w l.m l.there s o), sym (rise_over m at w l.m l.there s x))
                 (swap (rise m at l.m x) (rise m at g o) (rise m at l.m o) (rise m at g x))
 
             low : above (at u) (at v) x o ≤ℤ pos 0
             low = by_lt_z (pos 0) (above (at u) (at v) x o) (λ k. absurd (l.least g (w l.m l.there s).live refl (further k))) (λ k. k)
               where
-                further : pos 0 <ℤ above (at u) (at v) x o
-                    → pos 0 <ℤ (neg_ℤ (rise m at l.m o) *ℤ rise m at g x -ℤ rise m at l.m x *ℤ neg_ℤ (rise m at g o))
+                further : pos 0 <ℤ above (at u) (at v) x o → pos 0 <ℤ (neg_ℤ (rise m at l.m o) *ℤ rise m at g x -ℤ rise m at l.m x *ℤ neg_ℤ (rise m at g o))
                 further k =
                     subst (λ z. pos 0 <ℤ z) same
                     (crosses (at u) (at v) (at (rest m l.m s)) (at (far m l.m s)) o x (bends m at home o w z.inner st l.m l.there s) k)
@@ -148,8 +135,7 @@ module _ {m : Surface} {home : ℕ → Weighted} {o x : Weighted} (l : Located m
       +ℤ third_share *ℤ weighted_dot n third_corner +ℤ neg_ℤ (rise m home l.f x) *ℤ weighted_dot n o
   mix n =
       let a = first_corner in let b = second_corner in let c = third_corner in let value = weighted_dot n in
-      negated (above a b c o) (value x) (above x b c o) (value a) (above a x c o) (value b) (above a b x o) (value c) (above a b c x)
-      (value o)
+      negated (above a b c o) (value x) (above x b c o) (value a) (above a x c o) (value b) (above a b x o) (value c) (above a b c x) (value o)
       (cramer n a b c o x)
     where
       negated : (l p a x b y c z d t : ℤ) → l *ℤ p ≡ a *ℤ x +ℤ b *ℤ y +ℤ c *ℤ z +ℤ d *ℤ t

@@ -92,8 +92,7 @@ LeadsBack m name position = (f : ℕ) → In f m.live → (l : ℕ) → IsCorner
 
 module _ {m m' : Surface} {name : ℕ → ℕ} (r : IsNamed m m' name) where
   -- a point is as far above a facet as before
-  rise_named : (home home' : ℕ → Weighted) → ArePlaced m home home' name
-      → (f : ℕ) → In f m.live → (y : Weighted) → rise m home f y ≡ rise m' home' f y
+  rise_named : (home home' : ℕ → Weighted) → ArePlaced m home home' name → (f : ℕ) → In f m.live → (y : Weighted) → rise m home f y ≡ rise m' home' f y
   rise_named home home' p f i y = λ k. above (at_i k) (at_j k) (at_k k) y
     where
       at_i : home (m.i f) ≡ home' (m'.i f)
@@ -123,8 +122,7 @@ module _ {m m' : Surface} {name : ℕ → ℕ} (r : IsNamed m m' name) where
 
   -- different facets stay different
   distinct_named : (position : ℕ → ℕ) → LeadsBack m name position → HasDistinctFacets m → HasDistinctFacets m'
-  distinct_named position b d f g i' j' h =
-      d f g i j (λ l c. kept l c (of_corner_named r g j (name l) (h (name l) (corner_named r f i l c))))
+  distinct_named position b d f g i' j' h = d f g i j (λ l c. kept l c (of_corner_named r g j (name l) (h (name l) (corner_named r f i l c))))
     where
       i : In f m.live
       i = live_named r f i'
@@ -191,8 +189,7 @@ finished_named at at' n name position m m' a r h =
     member : (f : ℕ) → In f m.live → (l : ℕ) → (c : ℕ) × IsCorner m f c × (l ≡ name c) → In l (map name ids)
     member f i l (c, d, e) = subst (λ x. In x (map name ids)) (sym e) (in_map name ids c (h.corners f i c d))
 
-    below : (f : ℕ) → In f m.live → (l : ℕ) → (c : ℕ) × In c ids × (l ≡ name c)
-        → vol (at' (m'.i f)) (at' (m'.j f)) (at' (m'.k f)) (at' l) ≤ℤ pos 0
+    below : (f : ℕ) → In f m.live → (l : ℕ) → (c : ℕ) × In c ids × (l ≡ name c) → vol (at' (m'.i f)) (at' (m'.j f)) (at' (m'.k f)) (at' l) ≤ℤ pos 0
     below f i l (c, k, e) =
         let p = corner (m.i f) _ (r.i_is f i) (inl refl) in let q = corner (m.j f) _ (r.j_is f i) (inr (inl refl)) in
         let t = corner (m.k f) _ (r.k_is f i) (inr (inr refl)) in
@@ -212,15 +209,13 @@ module _ (name : ℕ → ℕ) where
   stored_live n (f ∷ fs) = let rest = stored_live (n + 1) fs in λ k. cond f.live (n ∷ rest k) (rest k)
 
   -- a live place has its facet's corners by their names
-  stored_facet : (fs : List StoredFacet) (f : ℕ) → (facet_at fs f).live ≡ true
-      → facet_at (map (named_facet name) fs) f ≡ named_facet name (facet_at fs f)
+  stored_facet : (fs : List StoredFacet) (f : ℕ) → (facet_at fs f).live ≡ true → facet_at (map (named_facet name) fs) f ≡ named_facet name (facet_at fs f)
   stored_facet [] f e = absurd (both_ways false refl e)
   stored_facet (x ∷ fs) zero e = refl
   stored_facet (x ∷ fs) (suc f) e = stored_facet fs f e
 
   -- what a name doesn't touch is as it was
-  pub stored_part : {X : Type 0} (part : StoredFacet → X) (fs : List StoredFacet) (f : ℕ)
-      → ((x : StoredFacet) → part (named_facet name x) ≡ part x)
+  pub stored_part : {X : Type 0} (part : StoredFacet → X) (fs : List StoredFacet) (f : ℕ) → ((x : StoredFacet) → part (named_facet name x) ≡ part x)
       → part (facet_at (map (named_facet name) fs) f) ≡ part (facet_at fs f)
   stored_part part [] f h = refl
   stored_part part (x ∷ fs) zero h = h x
@@ -245,10 +240,7 @@ module _ (name : ℕ → ℕ) where
 positions_are_named : (pts : List Vector) (ids : List ℕ) → Once ids
     → IsNaming (place (map (place pts) ids)) (place pts) (length ids) (slice_index ids) (vertex_number ids)
 unfolding place
-positions_are_named pts ids once = record {
-  back = λ l h. number_at ids l once h;
-  point = λ l h. sym (get_or-map (place pts) ids l 0 origin h);
-}
+positions_are_named pts ids once = record { back = λ l h. number_at ids l once h; point = λ l h. sym (get_or-map (place pts) ids l 0 origin h) }
 
 -- a surface finished over the positions of ids is finished over the ids
 pub finished_by_position : (pts : List Vector) (ids : List ℕ) (name : ℕ → ℕ) (fs : List StoredFacet) → Once ids
@@ -264,7 +256,4 @@ finished_by_position pts ids name fs once same h =
     is = positions_are_named pts ids once
 
     naming : IsNaming (place (map (place pts) ids)) (place pts) (length ids) name (vertex_number ids)
-    naming = record {
-      back = λ l b. ap (vertex_number ids) (same l b) ∙ is.back l b;
-      point = λ l b. ap (place pts) (same l b) ∙ is.point l b;
-    }
+    naming = record { back = λ l b. ap (vertex_number ids) (same l b) ∙ is.back l b; point = λ l b. ap (place pts) (same l b) ∙ is.point l b }

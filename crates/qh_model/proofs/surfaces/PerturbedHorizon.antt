@@ -36,19 +36,15 @@ module _ (m : Surface) (home : ℕ → Weighted) (o : Weighted) (c : Scene m hom
   horizon_below f s r l k ns ne = corner_below_cone m home o c.whole c.sound.inner c.at c.strict f r.live s l k ns ne c.top r.seen r.blind
 
   -- a horizon side is known by its start, and by its end
-  pub horizon_once : (f g : ℕ) (s t : Side) → HorizonSide m c.at c.top f s → HorizonSide m c.at c.top g t → start m f s ≡ start m g t
-      → (f ≡ g) × (s ≡ t)
+  pub horizon_once : (f g : ℕ) (s t : Side) → HorizonSide m c.at c.top f s → HorizonSide m c.at c.top g t → start m f s ≡ start m g t → (f ≡ g) × (s ≡ t)
   horizon_once f g s t a b e = one (ℕ_discrete (end m f s) (end m g t))
     where
       never : end m f s ≢ end m g t → ⊥
       never n =
-          less_one_way _ _
-          (opposite_positive _ _ (swap24 (c.at (start m f s)) (c.at (end m f s)) c.top (c.at (end m g t)))
+          less_one_way _ _ (opposite_positive _ _ (swap24 (c.at (start m f s)) (c.at (end m f s)) c.top (c.at (end m g t)))
           (subst (λ u. above (c.at u) (c.at (end m g t)) c.top (c.at (end m f s)) <ℤ pos 0) (sym e)
-          (horizon_below g t b (end m f s) (f, a.live, corner_end m f s)
-          (λ q. ends_differ m home o c.sound.inner f a.live s (e ∙ sym q)) n)))
-          (horizon_below f s a (end m g t) (g, b.live, corner_end m g t)
-          (λ q. ends_differ m home o c.sound.inner g b.live t (sym e ∙ sym q)) (λ q. n (sym q)))
+          (horizon_below g t b (end m f s) (f, a.live, corner_end m f s) (λ q. ends_differ m home o c.sound.inner f a.live s (e ∙ sym q)) n)))
+          (horizon_below f s a (end m g t) (g, b.live, corner_end m g t) (λ q. ends_differ m home o c.sound.inner g b.live t (sym e ∙ sym q)) (λ q. n (sym q)))
 
       one : Dec (end m f s ≡ end m g t) → (f ≡ g) × (s ≡ t)
       one (no n) = absurd (never n)
@@ -215,9 +211,4 @@ horizon_next m home o c f s r = found (least mark p q m.live (λ g i e. p_pos g 
 
         last : (pos 0 <ℤ rise m at (m.over l.m d) top) ⊎ (rise m at (m.over l.m d) top <ℤ pos 0) → Joined m at top v
         last (inl k) = let h = further l.m l.there l.marked d refl k in absurd (l.least (m.over l.m d) (c.whole l.m l.there d).live h.0 h.1)
-        last (inr k) = record {
-          f = l.m;
-          s = d;
-          horizon = record { live = l.there; seen = seen l.m l.marked; blind = k };
-          starts = starts l.m l.marked;
-        }
+        last (inr k) = record { f = l.m; s = d; horizon = record { live = l.there; seen = seen l.m l.marked; blind = k }; starts = starts l.m l.marked }

@@ -14,16 +14,10 @@ tilt o a b c p h i j k = h *ℤ above o b c p +ℤ i *ℤ above a o c p +ℤ j *
 
 -- the same of expressions
 abbrev pub towardsE : QE → Expr → QE → Expr → QE
-towardsE o n p k = record {
-  w = add (mul n p.w) (mul k o.w);
-  x = add (mul n p.x) (mul k o.x);
-  y = add (mul n p.y) (mul k o.y);
-  z = add (mul n p.z) (mul k o.z);
-}
+towardsE o n p k = record { w = add (mul n p.w) (mul k o.w); x = add (mul n p.x) (mul k o.x); y = add (mul n p.y) (mul k o.y); z = add (mul n p.z) (mul k o.z) }
 
 -- four points perturbed, each by its share
-pub above-perturbed_all : (o a b c p : Weighted) (n h i j k : ℤ)
-    → above (towards o n a h) (towards o n b i) (towards o n c j) (towards o n p k)
+pub above-perturbed_all : (o a b c p : Weighted) (n h i j k : ℤ) → above (towards o n a h) (towards o n b i) (towards o n c j) (towards o n p k)
     ≡ n *ℤ n *ℤ n *ℤ (n *ℤ above a b c p +ℤ tilt o a b c p h i j k)
 unfolding above
 above-perturbed_all o a b c p n h i j k =
@@ -98,10 +92,8 @@ cube m n h = let p : pos 0 <ℤ pos n = omega (arith, ints) in mul-pos (pos n *�
 pub record Choice (m : Surface) (home : ℕ → Weighted) (o : Weighted) (h : ℕ → ℕ) (p : Weighted) : Type 0 where
   pub k : ℕ
   pub from : ℕ
-  pub up : (n : ℕ) → from ≤ n → (f : ℕ) → In f m.live → pos 0 <ℤ rise m home f p
-      → pos 0 <ℤ rise m (perturbed home o h n) f (towards o (pos n) p (pos k))
-  pub down : (n : ℕ) → from ≤ n → (f : ℕ) → In f m.live → rise m home f p ≤ℤ pos 0
-      → rise m (perturbed home o h n) f (towards o (pos n) p (pos k)) <ℤ pos 0
+  pub up : (n : ℕ) → from ≤ n → (f : ℕ) → In f m.live → pos 0 <ℤ rise m home f p → pos 0 <ℤ rise m (perturbed home o h n) f (towards o (pos n) p (pos k))
+  pub down : (n : ℕ) → from ≤ n → (f : ℕ) → In f m.live → rise m home f p ≤ℤ pos 0 → rise m (perturbed home o h n) f (towards o (pos n) p (pos k)) <ℤ pos 0
 
 -- there is one
 pub choose : (m : Surface) (home : ℕ → Weighted) (o : Weighted) → IsInner m home o → (h : ℕ → ℕ) (p : Weighted) → Choice m home o h p

@@ -95,12 +95,10 @@ round-product l a b p q =
     (less (mul (R 0 2) (R 1 3)) (mul (R 0 3) (R 1 2))) (less (mul (R 0 1) (R 2 3)) (mul (skewE freeE) (above_of 0 1 2 3))) refl
 
 -- planes through the line u v
-pub line_product : (u v a b p q : Weighted)
-    → above u v a p *ℤ above u v b q -ℤ above u v a q *ℤ above u v b p ≡ above u v a b *ℤ above u v p q
+pub line_product : (u v a b p q : Weighted) → above u v a p *ℤ above u v b q -ℤ above u v a q *ℤ above u v b p ≡ above u v a b *ℤ above u v p q
 line_product u v a b p q =
     rw (round-is u v a p, round-is u v b q, round-is u v a q, round-is u v b p, round-is u v a b, round-is u v p q)
-    (last _ (round (line u v) a b *ℤ round (line u v) p q) (skew (line u v)) (above a b p q) (round-product (line u v) a b p q)
-    (skew-zero u v))
+    (last _ (round (line u v) a b *ℤ round (line u v) p q) (skew (line u v)) (above a b p q) (round-product (line u v) a b p q) (skew-zero u v))
   where
     last : (l r s d : ℤ) → l ≡ r -ℤ s *ℤ d → s ≡ pos 0 → l ≡ r
     last l r s d e z = let k : s *ℤ d ≡ pos 0 = ap (λ t. t *ℤ d) z ∙ zero_mul d in omega (arith, ints)

@@ -30,8 +30,7 @@ linked m' f s g t l i a b c =
     }
 
 -- each new side has its twin
-pub whole_kept : (m m' : Surface) (home : ℕ → Weighted) (o : Weighted) (p : ℕ) → IsWhole m → IsSound m home o → IsRewired m m' home p
-    → IsWhole m'
+pub whole_kept : (m m' : Surface) (home : ℕ → Weighted) (o : Weighted) (p : ℕ) → IsWhole m → IsSound m home o → IsRewired m m' home p → IsWhole m'
 whole_kept m m' home o p w z r f' i s' = from (r.only f' i) s'
   where
     back_back : (f : ℕ) → In f m.live → (s : Side) → m.back (m.over f s) (m.back f s) ≡ s
@@ -70,16 +69,14 @@ whole_kept m m' home o p w z r f' i s' = from (r.only f' i) s'
             let e : IsHorizonSide m home (home p) g b = record { live = t.live; seen = k; blind = blind_as (m.over g b) f t.returns h } in
             let d = r.cone g b e in
             linked m' f s (r.number g b) first (r.outside f s j h k) d.live
-            (d.i_is ∙ t.start_is ∙ sym (same_end m m' f c s)) (d.j_is ∙ t.end_is ∙ sym (same_start m m' f c s))
-            ((r.base g b e).over_is ∙ t.returns)
+            (d.i_is ∙ t.start_is ∙ sym (same_end m m' f c s)) (d.j_is ∙ t.end_is ∙ sym (same_start m m' f c s)) ((r.base g b e).over_is ∙ t.returns)
 
     cone_side : (f : ℕ) (s : Side) → IsHorizonSide m home (home p) f s → (s' : Side) → HasTwin m' (r.number f s) s'
     cone_side f s e first =
         let t = w f e.live s in let g = m.over f s in let b = m.back f s in
         let d = r.cone f s e in let k = r.kept g t.live e.blind in
         let l = r.outside g b t.live e.blind (subst (λ x. pos 0 <ℤ rise m home x (home p)) (sym t.returns) e.seen) in
-        linked m' (r.number f s) first g b (r.base f s e) k.live
-        (same_start m m' g k b ∙ t.start_is ∙ sym d.j_is) (same_end m m' g k b ∙ t.end_is ∙ sym d.i_is)
+        linked m' (r.number f s) first g b (r.base f s e) k.live (same_start m m' g k b ∙ t.start_is ∙ sym d.j_is) (same_end m m' g k b ∙ t.end_is ∙ sym d.i_is)
         (l.over_is ∙ ap (λ x. r.number x (m.back g b)) t.returns ∙ ap (r.number f) (back_back f e.live s))
     cone_side f s e second =
         let n = edge_next m home o w z (home p) f s e in
@@ -92,8 +89,7 @@ whole_kept m m' home o p w z r f' i s' = from (r.only f' i) s'
         linked m' (r.number f s) third (r.number n.f n.s) second (r.prev f s n.f n.s e n.edge n.is) k.live
         (k.j_is ∙ n.is ∙ sym d.i_is) (k.k_is ∙ sym d.k_is) (r.next n.f n.s f s n.edge e (sym n.is)).over_is
 
-    from : (In f' m.live × (rise m home f' (home p) ≤ℤ pos 0))
-        ⊎ ((f : ℕ) × (s : Side) × IsHorizonSide m home (home p) f s × (f' ≡ r.number f s))
+    from : (In f' m.live × (rise m home f' (home p) ≤ℤ pos 0)) ⊎ ((f : ℕ) × (s : Side) × IsHorizonSide m home (home p) f s × (f' ≡ r.number f s))
         → (s' : Side) → HasTwin m' f' s'
     from (inl k) s' = kept_side f' k.0 k.1 s'
     from (inr (f, s, e, q)) s' = subst (λ x. HasTwin m' x s') (sym q) (cone_side f s e s')
@@ -102,9 +98,7 @@ whole_kept m m' home o p w z r f' i s' = from (r.only f' i) s'
 pub replaced : (m m' : Surface) (home : ℕ → Weighted) (p : ℕ) → IsRewired m m' home p → Replaced m m' home p
 replaced m m' home p r = record { number = r.number; f0 = r.f0; live = r.live; seen = r.seen; origin = λ f' i. from f' (r.only f' i) }
   where
-    from : (f' : ℕ)
-        → (In f' m.live × (rise m home f' (home p) ≤ℤ pos 0))
-        ⊎ ((f : ℕ) × (s : Side) × IsHorizonSide m home (home p) f s × (f' ≡ r.number f s))
+    from : (f' : ℕ) → (In f' m.live × (rise m home f' (home p) ≤ℤ pos 0)) ⊎ ((f : ℕ) × (s : Side) × IsHorizonSide m home (home p) f s × (f' ≡ r.number f s))
         → KeptOf m m' home p f' ⊎ ConeOf m m' home p r.number f'
     from f' (inl k) = let c = r.kept f' k.0 k.1 in inl (record { live = k.0; blind = k.1; i_is = c.i_is; j_is = c.j_is; k_is = c.k_is })
     from f' (inr (f, s, e, q)) = let c = r.cone f s e in inr (record {

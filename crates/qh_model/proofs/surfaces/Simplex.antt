@@ -54,8 +54,7 @@ module _ (a b c d : ℕ) where
   S = simplex_surface a b c d
 
   -- a side with its twin
-  twin : (f : ℕ) (s : Side) → In (S.over f s) S.live → start S (S.over f s) (S.back f s) ≡ end S f s
-      → end S (S.over f s) (S.back f s) ≡ start S f s
+  twin : (f : ℕ) (s : Side) → In (S.over f s) S.live → start S (S.over f s) (S.back f s) ≡ end S f s → end S (S.over f s) (S.back f s) ≡ start S f s
       → S.over (S.over f s) (S.back f s) ≡ f → HasTwin S f s
   twin f s i p q r = record { live = i; start_is = p; end_is = q; returns = r }
 
@@ -81,17 +80,14 @@ module _ (a b c d : ℕ) where
   -- each corner is one of the four
   ids : (f : ℕ) → In f S.live → (l : ℕ) → IsCorner S f l → Ids l
   ids =
-      four (λ f. (l : ℕ) → IsCorner S f l → Ids l)
-      (λ l. three_cases inl (λ e. inr (inl e)) (λ e. inr (inr (inl e))))
-      (λ l. three_cases inl (λ e. inr (inr (inr e))) (λ e. inr (inl e)))
-      (λ l. three_cases inl (λ e. inr (inr (inl e))) (λ e. inr (inr (inr e))))
+      four (λ f. (l : ℕ) → IsCorner S f l → Ids l) (λ l. three_cases inl (λ e. inr (inl e)) (λ e. inr (inr (inl e))))
+      (λ l. three_cases inl (λ e. inr (inr (inr e))) (λ e. inr (inl e))) (λ l. three_cases inl (λ e. inr (inr (inl e))) (λ e. inr (inr (inr e))))
       (λ l. three_cases (λ e. inr (inl e)) (λ e. inr (inr (inr e))) (λ e. inr (inr (inl e))))
 
   -- each id is a corner of a facet or the one that it lacks
   place : (f : ℕ) → In f S.live → (l : ℕ) → Ids l → IsCorner S f l ⊎ (l ≡ missing f)
   place =
-      four (λ f. (l : ℕ) → Ids l → IsCorner S f l ⊎ (l ≡ missing f))
-      (λ l. four_cases (λ e. inl (inl e)) (λ e. inl (inr (inl e))) (λ e. inl (inr (inr e))) inr)
+      four (λ f. (l : ℕ) → Ids l → IsCorner S f l ⊎ (l ≡ missing f)) (λ l. four_cases (λ e. inl (inl e)) (λ e. inl (inr (inl e))) (λ e. inl (inr (inr e))) inr)
       (λ l. four_cases (λ e. inl (inl e)) (λ e. inl (inr (inr e))) inr (λ e. inl (inr (inl e))))
       (λ l. four_cases (λ e. inl (inl e)) inr (λ e. inl (inr (inl e))) (λ e. inl (inr (inr e))))
       (λ l. four_cases inr (λ e. inl (inl e)) (λ e. inl (inr (inr e))) (λ e. inl (inr (inl e))))
@@ -103,8 +99,7 @@ module _ (a b c d : ℕ) where
   -- all have
   other : (f : ℕ) → In f S.live → (g : ℕ) → In g S.live → HasOther f g
   other =
-      four (λ f. (g : ℕ) → In g S.live → HasOther f g)
-      (four (HasOther 0) (inl refl) (inr (inr (inr refl))) (inr (inr (inl refl))) (inr (inl refl)))
+      four (λ f. (g : ℕ) → In g S.live → HasOther f g) (four (HasOther 0) (inl refl) (inr (inr (inr refl))) (inr (inr (inl refl))) (inr (inl refl)))
       (four (HasOther 1) (inr (inr (inl refl))) (inl refl) (inr (inr (inr refl))) (inr (inl refl)))
       (four (HasOther 2) (inr (inr (inr refl))) (inr (inr (inl refl))) (inl refl) (inr (inl refl)))
       (four (HasOther 3) (inr (inr (inl refl))) (inr (inr (inr refl))) (inr (inl refl)) (inl refl))
@@ -141,16 +136,13 @@ module _ (home : ℕ → Weighted) (a b c d : ℕ) (h : above (home a) (home b) 
       below : (f : ℕ) → In f (S a b c d).live → rise (S a b c d) home f (home (missing a b c d f)) <ℤ pos 0
       below =
           let A = home a in let B = home b in let C = home c in let D = home d in
-          four (λ f. rise (S a b c d) home f (home (missing a b c d f)) <ℤ pos 0) h
-          (subst (λ v. v <ℤ pos 0) (sym (order_adb A B C D)) h)
-          (subst (λ v. v <ℤ pos 0) (sym (above-turn_last A B C D)) h)
-          (subst (λ v. v <ℤ pos 0) (sym (order_bdc A B C D)) h)
+          four (λ f. rise (S a b c d) home f (home (missing a b c d f)) <ℤ pos 0) h (subst (λ v. v <ℤ pos 0) (sym (order_adb A B C D)) h)
+          (subst (λ v. v <ℤ pos 0) (sym (above-turn_last A B C D)) h) (subst (λ v. v <ℤ pos 0) (sym (order_bdc A B C D)) h)
 
       one : (f g : ℕ) → In f (S a b c d).live → missing a b c d f ≡ missing a b c d g → HasOther a b c d f g → f ≡ g
       one f g i e (inl q) = q
       one f g i e (inr k) =
-          absurd (less_differ _ _ (below f i)
-          (ap (λ t. rise (S a b c d) home f (home t)) e ∙ rise_own (S a b c d) home f (missing a b c d g) k))
+          absurd (less_differ _ _ (below f i) (ap (λ t. rise (S a b c d) home f (home t)) e ∙ rise_own (S a b c d) home f (missing a b c d g) k))
 
 -- the law
 pub simplex_sound : SimplexIsSound
@@ -163,8 +155,7 @@ simplex_sound home a b c d h = (
 -- the law
 pub middle_is_below : MiddleIsBelow
 middle_is_below a b c s t u v p h hs ht hu hv off =
-    by_lt_z (above a b c (middle_of s t u v)) (pos 0) (λ q. q)
-    (λ q. absurd (off (level (zeros _ _ _ _ _ (above-together a b c s t u v) q hs ht hu hv))))
+    by_lt_z (above a b c (middle_of s t u v)) (pos 0) (λ q. q) (λ q. absurd (off (level (zeros _ _ _ _ _ (above-together a b c s t u v) q hs ht hu hv))))
   where
     zeros : (x a b c d : ℤ) → x ≡ a +ℤ b +ℤ c +ℤ d → pos 0 ≤ℤ x → a ≤ℤ pos 0 → b ≤ℤ pos 0 → c ≤ℤ pos 0 → d ≤ℤ pos 0
         → (a ≡ pos 0) × (b ≡ pos 0) × (c ≡ pos 0) × (d ≡ pos 0)
@@ -183,8 +174,7 @@ middle_is_below a b c s t u v p h hs ht hu hv off =
 
 -- the middle is the same in another order
 pub middle-turned : (a b c d : Weighted) → middle_of a c b d ≡ middle_of a b c d
-middle-turned a b c d =
-    λ i. record { w = swap a.w b.w c.w d.w i; x = swap a.x b.x c.x d.x i; y = swap a.y b.y c.y d.y i; z = swap a.z b.z c.z d.z i }
+middle-turned a b c d = λ i. record { w = swap a.w b.w c.w d.w i; x = swap a.x b.x c.x d.x i; y = swap a.y b.y c.y d.y i; z = swap a.z b.z c.z d.z i }
   where
     swap : (p q r s : ℤ) → p +ℤ r +ℤ q +ℤ s ≡ p +ℤ q +ℤ r +ℤ s
     swap p q r s = omega (arith, ints)

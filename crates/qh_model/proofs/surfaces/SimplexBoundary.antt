@@ -2,7 +2,7 @@
 use Rattle.qh_model.specs.contract.{Surface.IsCorner, Surface.Surface, Surface.rise, Weighted.Weighted, Weighted.above}
 use Rattle.qh_model.specs.contract.SoundSurface.{HasDistinctFacets, IsInner, IsSound, IsStrict, perturbed}
 use Rattle.qh_model.specs.laws.SimplexSurface.{IsSimplexBoundary}
-use Rattle.std.proofs.Common.{ap, ◌≡◌, ℕ, ◌≤◌, arith, sym, ◌∙◌, subst, ◌⊎◌, inl, inr}
+use Rattle.std.proofs.Common.{ap, ◌≡◌, ℕ, ◌≤◌, arith, sym, ◌∙◌, subst, ◌⊎◌, inl, inr, ⊎_elim}
 use Rattle.std.proofs.lemmas.Int.{ints}
 use Rattle.std.specs.Prelude.{ℤ, pos, ◌+ℤ◌, ◌*ℤ◌, ◌<ℤ◌}
 use Rattle.qh_model.proofs.algebra.{Order.mul-pos_neg, Signs.less_differ}
@@ -19,20 +19,15 @@ module _ (m : Surface) (home : ℕ → Weighted) (r : IsSimplexBoundary m home) 
 
   -- the facets differ
   distinct_home : HasDistinctFacets m
-  distinct_home f g i j within = same (r.known f g i j)
-    where
-      same : IsCorner m f (r.missing g) ⊎ (r.missing g ≡ r.missing f) → f ≡ g
-      same (inl k) = absurd (less_differ _ _ (r.below g j) (rise_own m home g (r.missing g) (within (r.missing g) k)))
-      same (inr e) = r.once f g i j (sym e)
+  distinct_home f g i j within = ⊎_elim (λ k. absurd (less_differ _ _ (r.below g j) (rise_own m home g (r.missing g) (within (r.missing g) k))))
+      (λ e. r.once f g i j (sym e)) (r.known f g i j)
 
 -- with no share at all
 strict_perturbed : (m : Surface) (home : ℕ → Weighted) (o : Weighted) → IsStrict m home → (n : ℕ) → 1 ≤ n → IsStrict m (perturbed home o (λ l. 0) n)
 strict_perturbed m home o st n b f g i j l c nc =
-    subst (λ v. v <ℤ pos 0) (sym value)
-    (mul-pos_neg (pos n *ℤ pos n *ℤ pos n) _ (cube 0 n b) (mul-pos_neg (pos n) _ (omega (arith, ints)) (st f g i j l c nc)))
+    subst (λ v. v <ℤ pos 0) (sym value) (mul-pos_neg (pos n *ℤ pos n *ℤ pos n) _ (cube 0 n b) (mul-pos_neg (pos n) _ (omega (arith, ints)) (st f g i j l c nc)))
   where
-    no_tilt : (n v a b c d : ℤ)
-        → n *ℤ n *ℤ n *ℤ (n *ℤ v +ℤ (pos 0 *ℤ a +ℤ pos 0 *ℤ b +ℤ pos 0 *ℤ c +ℤ pos 0 *ℤ d)) ≡ n *ℤ n *ℤ n *ℤ (n *ℤ v)
+    no_tilt : (n v a b c d : ℤ) → n *ℤ n *ℤ n *ℤ (n *ℤ v +ℤ (pos 0 *ℤ a +ℤ pos 0 *ℤ b +ℤ pos 0 *ℤ c +ℤ pos 0 *ℤ d)) ≡ n *ℤ n *ℤ n *ℤ (n *ℤ v)
     no_tilt n v a b c d = ap (λ t. n *ℤ n *ℤ n *ℤ t) (plain (n *ℤ v) a b c d)
       where
         plain : (x a b c d : ℤ) → x +ℤ (pos 0 *ℤ a +ℤ pos 0 *ℤ b +ℤ pos 0 *ℤ c +ℤ pos 0 *ℤ d) ≡ x
@@ -45,8 +40,7 @@ strict_perturbed m home o st n b f g i j l c nc =
         ∙ no_tilt (pos n) (above p q r y) (above o q r y) (above p o r y) (above p q o y) (above p q r o)
 
 -- THEOREM: the surface of the initial simplex is sound
-pub simplex_boundary_sound : (m : Surface) (home : ℕ → Weighted) (o : Weighted) → IsInner m home o → IsSimplexBoundary m home
-    → IsSound m home o
+pub simplex_boundary_sound : (m : Surface) (home : ℕ → Weighted) (o : Weighted) → IsInner m home o → IsSimplexBoundary m home → IsSound m home o
 simplex_boundary_sound m home o i r = record {
   inner = i;
   distinct = distinct_home m home r;

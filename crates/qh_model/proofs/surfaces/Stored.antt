@@ -23,8 +23,7 @@ marked_of n (f ∷ fs) g i = split f.live refl i (marked_of (n + 1) fs g)
 -- a marked place has a live number
 live_of : (n : ℕ) (fs : List StoredFacet) (k : ℕ) → (facet_at fs k).live ≡ true → In (n + k) (live_from n fs)
 live_of n [] k e = absurd (both_ways false refl e)
-live_of n (f ∷ fs) zero e =
-    subst (λ b. In (n + zero) (cond b (n ∷ live_from (n + 1) fs) (live_from (n + 1) fs))) (sym e) (inl (omega arith))
+live_of n (f ∷ fs) zero e = subst (λ b. In (n + zero) (cond b (n ∷ live_from (n + 1) fs) (live_from (n + 1) fs))) (sym e) (inl (omega arith))
 live_of n (f ∷ fs) (suc k) e = more f.live (subst (λ g. In g (live_from (n + 1) fs)) (omega arith) (live_of (n + 1) fs k e))
   where
     more : (b : Bool) → In (n + suc k) (live_from (n + 1) fs) → In (n + suc k) (cond b (n ∷ live_from (n + 1) fs) (live_from (n + 1) fs))

@@ -1,7 +1,7 @@
 -- Points that see a removed facet and none of the cone see nothing; points that see nothing see nothing of the cone.
 use Rattle.qh_model.specs.contract.{SoundSurface.IsSound, Surface.Side, Surface.Surface, Surface.IsWhole, Surface.end, Surface.rise, Surface.start}
 use Rattle.qh_model.specs.{contract.Weighted.Weighted, headline.Sets.In, laws.Horizons.IsConeUnseen, steps.FarCorners.far}
-use Rattle.std.proofs.Common.{◌≡◌, ℕ, refl, sym, ◌∙◌, ◌⊎◌, inl, inr, Bool, true}
+use Rattle.std.proofs.Common.{◌≡◌, ℕ, refl, sym, ◌∙◌, ◌⊎◌, inl, inr, Bool, true, ⊎_elim}
 use Rattle.std.proofs.lemmas.{Bool.and_parts, Int.by_lt_z}
 use Rattle.std.specs.Prelude.{pos, ◌≤ℤ◌, ◌<ℤ◌, ◌&&◌}
 use Rattle.qh_model.proofs.algebra.Signs.{not_less, equal_le, equal_nonpos}
@@ -14,8 +14,7 @@ pub dropped_stay_unseen : (m : Surface) (home : ℕ → Weighted) (o : Weighted)
     → (p q : Weighted) (f0 : ℕ) → In f0 m.live → pos 0 <ℤ rise m home f0 p → pos 0 <ℤ rise m home f0 q → IsConeUnseen m home p q
     → (f : ℕ) → In f m.live → rise m home f p ≤ℤ pos 0 → rise m home f q ≤ℤ pos 0
 dropped_stay_unseen m home o w z p q f0 i0 sp sq unseen f i blind =
-    by_lt_z (pos 0) (rise m home f q)
-    (λ k. absurd (not_less (pos 0) (rise m home f p) (by_p f (connected m home o w z q c grown f i k)) blind)) (λ k. k)
+    by_lt_z (pos 0) (rise m home f q) (λ k. absurd (not_less (pos 0) (rise m home f p) (by_p f (connected m home o w z q c grown f i k)) blind)) (λ k. k)
   where
     c : ℕ → Bool
     c g = positive (rise m home g p) && positive (rise m home g q)
@@ -29,8 +28,7 @@ dropped_stay_unseen m home o w z p q f0 i0 sp sq unseen f i blind =
     joined : (g : ℕ) → pos 0 <ℤ rise m home g p → pos 0 <ℤ rise m home g q → c g ≡ true
     joined g a b = rw (positive-true (rise m home g p) a, positive-true (rise m home g q) b) refl
 
-    horizon : (g : ℕ) → In g m.live → (s : Side) → c g ≡ true → pos 0 <ℤ rise m home (m.over g s) q → rise m home (m.over g s) p ≤ℤ pos 0
-        → ⊥
+    horizon : (g : ℕ) → In g m.live → (s : Side) → c g ≡ true → pos 0 <ℤ rise m home (m.over g s) q → rise m home (m.over g s) p ≤ℤ pos 0 → ⊥
     horizon g j s e k l =
         let far_blind = cert m home o z.lifted g (m.over g s) j (w g j s).live (far m g s) (corner_rest m (m.over g s) (m.back g s)) in
         not_less _ _ (apex_seen m home w g j s p q (by_p g e) l far_blind (by_q g e) k) (unseen g j s (by_p g e) l)
@@ -57,8 +55,5 @@ module _ {m m' : Surface} {home : ℕ → Weighted} {p : ℕ} (r : Replaced m m'
 
   -- the apex is on its cone and sees no kept facet
   pub apex_settled : (f' : ℕ) → In f' m'.live → rise m' home f' (home p) ≤ℤ pos 0
-  apex_settled f' i = from (r.origin f' i)
-    where
-      from : KeptOf m m' home p f' ⊎ ConeOf m m' home p r.number f' → rise m' home f' (home p) ≤ℤ pos 0
-      from (inl k) = equal_nonpos _ _ (kept_rise k home (home p)) k.blind
-      from (inr n) = equal_le _ _ (sym (cone_rise n home (home p)) ∙ above-third (home (start m n.f n.s)) (home (end m n.f n.s)) (home p))
+  apex_settled f' i = ⊎_elim (λ k. equal_nonpos _ _ (kept_rise k home (home p)) k.blind)
+      (λ n. equal_le _ _ (sym (cone_rise n home (home p)) ∙ above-third (home (start m n.f n.s)) (home (end m n.f n.s)) (home p))) (r.origin f' i)

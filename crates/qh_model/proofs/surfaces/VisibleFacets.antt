@@ -47,8 +47,7 @@ crosses u v a b y p h k = subst (λ z. pos 0 <ℤ z) (sym product) (neg-positive
   where
     turned : (a b c d : ℤ) → a *ℤ neg_ℤ b -ℤ c *ℤ neg_ℤ d ≡ neg_ℤ (a *ℤ b -ℤ c *ℤ d)
     turned a b c d =
-        ring (a ∷ b ∷ c ∷ d ∷ []) (less (mul (var 0) (neg (var 1))) (mul (var 2) (neg (var 3))))
-        (neg (less (mul (var 0) (var 1)) (mul (var 2) (var 3)))) refl
+        ring (a ∷ b ∷ c ∷ d ∷ []) (less (mul (var 0) (neg (var 1))) (mul (var 2) (neg (var 3)))) (neg (less (mul (var 0) (var 1)) (mul (var 2) (var 3)))) refl
 
     product : above u v a p *ℤ above v u b y -ℤ above u v a y *ℤ above v u b p ≡ neg_ℤ (above u v a b *ℤ above u v p y)
     product =
@@ -80,10 +79,8 @@ chain pm qm px qx pg qg hm hx hg h k =
   where
     same : px *ℤ (pm *ℤ qg -ℤ qm *ℤ pg) ≡ pm *ℤ (px *ℤ qg -ℤ qx *ℤ pg) +ℤ pg *ℤ (pm *ℤ qx -ℤ qm *ℤ px)
     same =
-        ring (pm ∷ qm ∷ px ∷ qx ∷ pg ∷ qg ∷ [])
-        (mul (var 2) (less (mul (var 0) (var 5)) (mul (var 1) (var 4))))
-        (add (mul (var 0) (less (mul (var 2) (var 5)) (mul (var 3) (var 4))))
-        (mul (var 4) (less (mul (var 0) (var 3)) (mul (var 1) (var 2))))) refl
+        ring (pm ∷ qm ∷ px ∷ qx ∷ pg ∷ qg ∷ []) (mul (var 2) (less (mul (var 0) (var 5)) (mul (var 1) (var 4))))
+        (add (mul (var 0) (less (mul (var 2) (var 5)) (mul (var 3) (var 4)))) (mul (var 4) (less (mul (var 0) (var 3)) (mul (var 1) (var 2))))) refl
 
 -- what holds of the first and of the rest holds of all
 of_all : {X : Type 0} (R : X → Type 0) (x : X) (xs : List X) → R x → ((g : X) → In g xs → R g) → (g : X) → In g (x ∷ xs) → R g
@@ -106,14 +103,12 @@ least {X} W P Q (x ∷ xs) h = split (W x) refl (least W P Q xs (λ g i e. h g (
     new : W x ≡ true → ((g : X) → In g xs → NotAfter x g) → Least W P Q (x ∷ xs)
     new e n = record { m = x; there = inl refl; marked = e; least = of_all (NotAfter x) x xs (λ w. same_not_less (P x) (Q x)) n }
 
-    split : (b : Bool) → W x ≡ b → ((g : X) → In g xs → W g ≡ true → ⊥) ⊎ Least W P Q xs
-        → ((g : X) → In g (x ∷ xs) → W g ≡ true → ⊥) ⊎ Least W P Q (x ∷ xs)
+    split : (b : Bool) → W x ≡ b → ((g : X) → In g xs → W g ≡ true → ⊥) ⊎ Least W P Q xs → ((g : X) → In g (x ∷ xs) → W g ≡ true → ⊥) ⊎ Least W P Q (x ∷ xs)
     split false e (inl n) = inl (of_all (λ g. W g ≡ true → ⊥) x xs (λ w. cc) n)
     split false e (inr l) = inr (kept l (λ w. cc))
     split true e (inl n) = inr (new e (λ g i w k. n g i w))
     split true e (inr l) =
-        inr (by_lt_z (pos 0) (P l.m *ℤ Q x -ℤ Q l.m *ℤ P x)
-        (λ n. new e (λ g i w k. l.least g i w
+        inr (by_lt_z (pos 0) (P l.m *ℤ Q x -ℤ Q l.m *ℤ P x) (λ n. new e (λ g i w k. l.least g i w
         (chain (P l.m) (Q l.m) (P x) (Q x) (P g) (Q g) (h l.m (inr l.there) l.marked) (h x (inl refl) e) (h g (inr i) w) n k)))
         (λ k. kept l (λ w q. not_less _ _ q k)))
 
@@ -178,7 +173,6 @@ module _ {X : Type 0} (at : X → Corners) (live : List X) (W : X → Bool) (n y
   pub none_cut_off : ((f : X) → In f live → W f ≡ true → Cut at live W n y p f) → (f : X) → In f live → W f ≡ true → ⊥
   none_cut_off h = none (least W (λ f. over (at f) p) (λ f. over (at f) y) live (λ g i w. (h g i w).sees))
     where
-      none : ((g : X) → In g live → W g ≡ true → ⊥) ⊎ Least W (λ f. over (at f) p) (λ f. over (at f) y) live → (f : X) → In f live
-          → W f ≡ true → ⊥
+      none : ((g : X) → In g live → W g ≡ true → ⊥) ⊎ Least W (λ f. over (at f) p) (λ f. over (at f) y) live → (f : X) → In f live → W f ≡ true → ⊥
       none (inl k) = k
       none (inr l) = λ f i w. let e = earlier_one l.m (h l.m l.there l.marked) in l.least e.g e.live_g e.marked e.earlier

@@ -111,8 +111,7 @@ pub three_in_line : (u v w : List ℕ) → IsNumberWord u → IsNumberWord v →
 three_in_line = three_clear ends_line not_end refl
 
 -- and are its words
-pub three_words : (u v w : List ℕ) → IsNumberWord u → IsNumberWord v → IsNumberWord w
-    → words_of (before_hash (three u v w)) ≡ u ∷ v ∷ w ∷ []
+pub three_words : (u v w : List ℕ) → IsNumberWord u → IsNumberWord v → IsNumberWord w → words_of (before_hash (three u v w)) ≡ u ∷ v ∷ w ∷ []
 three_words u v w a b c =
     ap words_of (before_hash_clear (three u v w) (three_clear is_hash not_hash refl u v w a b c))
     ∙ ap words_of (append_assoc u (32 ∷ v) (32 ∷ w))

@@ -38,8 +38,7 @@ lines_of_surface : (ps : List Vector) (faces edges : ℕ) (rest : List ℕ) → 
 lines_of_surface ps faces edges rest =
     ap lines_of (append_assoc (keyword ++ line counts) vertices rest ∙ append_assoc keyword (line counts) (vertices ++ rest))
     ∙ first_line (codes "OFF") (line counts ++ (vertices ++ rest)) (refl, (refl, (refl, tt)))
-    ∙ ap (λ (t : List (List ℕ)). codes "OFF" ∷ t)
-    (first_line counts (vertices ++ rest) counted ∙ ap (λ (t : List (List ℕ)). counts ∷ t) others)
+    ∙ ap (λ (t : List (List ℕ)). codes "OFF" ∷ t) (first_line counts (vertices ++ rest) counted ∙ ap (λ (t : List (List ℕ)). counts ∷ t) others)
   where
     keyword : List ℕ
     keyword = line (codes "OFF")
@@ -74,8 +73,7 @@ words_of_surface : (ps : List Vector) (faces edges : ℕ) (rest : List ℕ) → 
     ≡ record { text = codes "OFF"; line = 1 } ∷ numbered_words ps faces edges ++ other_words ps rest
 words_of_surface ps faces edges rest =
     ap (words_from parts 1) (lines_of_surface ps faces edges rest)
-    ∙ ap (λ (t : List Word). record { text = codes "OFF"; line = 1 } ∷ t)
-    (ap₂ (λ (a : List (List ℕ)) (b : List Word). on_line 2 a ++ b)
+    ∙ ap (λ (t : List Word). record { text = codes "OFF"; line = 1 } ∷ t) (ap₂ (λ (a : List (List ℕ)) (b : List Word). on_line 2 a ++ b)
     (counts_words (length ps) faces edges) (words_from-append parts 3 (map vertex_line ps) (lines_of rest)))
 
 -- ---- numbers

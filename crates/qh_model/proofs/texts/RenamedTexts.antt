@@ -13,8 +13,7 @@ flat_map_same s t [] h = refl
 flat_map_same s t (x ∷ xs) h = ap₂ (λ (a b : List ℕ). a ++ b) (h x (inl refl)) (flat_map_same s t xs (λ y m. h y (inr m)))
 
 -- names that keep members apart keep positions
-vertex_number-map : (f : ℕ → ℕ) (xs : List ℕ) (i : ℕ) → ((j : ℕ) → In j xs → f j ≡ f i → j ≡ i)
-    → vertex_number (map f xs) (f i) ≡ vertex_number xs i
+vertex_number-map : (f : ℕ → ℕ) (xs : List ℕ) (i : ℕ) → ((j : ℕ) → In j xs → f j ≡ f i → j ≡ i) → vertex_number (map f xs) (f i) ≡ vertex_number xs i
 vertex_number-map f [] i apart = refl
 vertex_number-map f (x ∷ xs) i apart = with_rest (vertex_number-map f xs i (λ j m. apart j (inr m))) (x == i) refl
   where
@@ -35,8 +34,7 @@ number_again : (xs : List ℕ) (i : ℕ) → In i xs → vertex_number (vertex_n
 number_again xs i m = vertex_number-map (vertex_number xs) xs i (λ j n. number_apart xs i j m n)
 
 -- a face of members has its text
-face_text_renamed : (xs q : List ℕ) → ((i : ℕ) → In i q → In i xs)
-    → face_text (vertex_numbers xs) (map (vertex_number xs) q) ≡ face_text xs q
+face_text_renamed : (xs q : List ℕ) → ((i : ℕ) → In i q → In i xs) → face_text (vertex_numbers xs) (map (vertex_number xs) q) ≡ face_text xs q
 face_text_renamed xs q within = ap₂ (λ (n : ℕ) (t : List ℕ). line (decimal n ++ t)) (length-map q (vertex_number xs)) numbers
   where
     numbers : flat_map (λ i. spaced (vertex_number (vertex_numbers xs) i)) (map (vertex_number xs) q)

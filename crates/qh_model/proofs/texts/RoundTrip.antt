@@ -37,8 +37,7 @@ is_read_as_extreme_points pts h Rank can s o small = absurd o
 is_read_as_extreme_points pts h Summary can s o small = absurd o
 is_read_as_extreme_points pts h Fx can s o small = absurd o
 is_read_as_extreme_points pts h Off can s o small = reads_body pts h.body (extreme_points_can_be_read pts h s can) small
-is_read_as_extreme_points pts h OffTriangles can s o small =
-    reads_body pts (in_triangles h.body) (extreme_points_can_be_read pts h s can) small
+is_read_as_extreme_points pts h OffTriangles can s o small = reads_body pts (in_triangles h.body) (extreme_points_can_be_read pts h s can) small
 
 -- ---- writing again
 module _ (pts : List Vector) (h : HullValue) (s : IsHull pts h) where
@@ -87,11 +86,7 @@ module _ (pts : List Vector) (h : HullValue) (s : IsHull pts h) where
 pub extreme_points_have_text : ExtremePointsHaveText
 extreme_points_have_text pts h out text s o t =
     let same : text ≡ hull_text h pts (out ∷ []) = t.is ∙ ap (λ k. hull_text k pts (out ∷ [])) (hull_is_unique pts t.hull h t.right s) in
-    record {
-      hull = hull_of_extremes h;
-      right = extreme_points_have_hull pts h s;
-      is = same ∙ ap (λ bytes. bytes ++ []) (sym (text_again pts h s out o));
-    }
+    record { hull = hull_of_extremes h; right = extreme_points_have_hull pts h s; is = same ∙ ap (λ bytes. bytes ++ []) (sym (text_again pts h s out o)) }
 
 -- the law
 pub is_written_again : IsWrittenAgain

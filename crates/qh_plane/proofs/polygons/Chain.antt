@@ -1,13 +1,9 @@
 -- The chain of a rising list: its edges have all that was passed on their left, and it turns left at each corner.
 use Rattle.std.proofs.Common.{◌≡◌, ℕ, refl, List, [], ◌∷◌, arith, ap, sym, subst, ◌⊎◌, inl, inr, Bool, true, false, cond}
 use Rattle.std.proofs.lemmas.Int.{ints, by_lt_z}
-use Rattle.std.specs.Cmp.{int_ranks}
-use Rattle.std.specs.Ordering.{MatchOrdering, is_gt}
-use Rattle.std.specs.Prelude.{ℤ, pos, ◌≤ℤ◌, ◌<ℤ◌}
-use Rattle.std.specs.declared.cmp.Ordering.{Ordering}
+use Rattle.std.specs.{Cmp.int_ranks, Ordering.MatchOrdering, Ordering.is_gt, Prelude.ℤ, Prelude.pos, Prelude.◌≤ℤ◌, Prelude.◌<ℤ◌, declared.cmp.Ordering.Ordering}
 use Rattle.std.specs.declared.cmp.Ordering.TheVariants.{Less, Equal, Greater}
-use Rattle.qh_model.proofs.algebra.Order.{le_antisym, positive_le}
-use Rattle.qh_model.proofs.algebra.Signs.{not_less, less_le, equal_le}
+use Rattle.qh_model.proofs.algebra.{Order.le_antisym, Order.positive_le, Signs.not_less, Signs.less_le, Signs.equal_le}
 use Rattle.qh_model.specs.headline.Sets.{In}
 use Rattle.qh_pred.specs.contract.Turns.{sign}
 use Rattle.qh_plane.specs.steps.Chains.{is_left, kept_below, chain}
@@ -34,10 +30,6 @@ is_left-no z e = told (sign z) (int_ranks z (pos 0)) e
     told Less k e = less_le z (pos 0) k
     told Equal k e = equal_le z (pos 0) k
     told Greater k e = cc
-
--- zero is not below 0
-at_least : (z : ℤ) → z ≡ pos 0 → pos 0 ≤ℤ z
-at_least z e = omega (arith, ints)
 
 -- a stack that its tops may leave
 record Top (turn : ℕ → ℕ → ℕ → ℤ) (key : ℕ → ℤ) (D : ℕ → Type 0) (y : ℕ) (s : List ℕ) : Type 0 where
@@ -89,13 +81,11 @@ module _ (turn : ℕ → ℕ → ℕ → ℤ) (key : ℕ → ℤ) (A : ℕ → T
   pop D y t r in_a ay dt dr lt edge below nl x dx h = turn_laws.about r t x y (in_a r dr) (in_a t dt) (in_a x dx) ay lt h (below r dr) nl (edge x dx)
 
   -- one pop, by whether the way over the top turns left
-  pops-split : (D : ℕ → Type 0) (y t r : ℕ) (s : List ℕ) (b : Bool) → is_left (turn r t y) ≡ b
-      → ((x : ℕ) → D x → A x) → A y → ((x : ℕ) → D x → key x <ℤ key y)
+  pops-split : (D : ℕ → Type 0) (y t r : ℕ) (s : List ℕ) (b : Bool) → is_left (turn r t y) ≡ b → ((x : ℕ) → D x → A x) → A y → ((x : ℕ) → D x → key x <ℤ key y)
       → (IsChain turn key D r s → IsCapped turn key D y r → Top turn key D y (kept_below turn y r s))
       → IsChain turn key D t (r ∷ s) → IsCapped turn key D y t → Top turn key D y (cond b (t ∷ r ∷ s) (kept_below turn y r s))
   pops-split D y t r s true e in_a ay below more g c = record { top = t; rest = r ∷ s; is = refl; good = g; capped = c; sharp = is_left-yes _ e }
-  pops-split D y t r s false e in_a ay below more g c =
-      more g.4 (pop D y t r in_a ay g.0 (chain_top turn key D r s g.4) g.1 g.2 below (is_left-no _ e))
+  pops-split D y t r s false e in_a ay below more g c = more g.4 (pop D y t r in_a ay g.0 (chain_top turn key D r s g.4) g.1 g.2 below (is_left-no _ e))
 
   -- the pops end at a top over which the way turns left
   pops : (D : ℕ → Type 0) (y t : ℕ) (s : List ℕ) → ((x : ℕ) → D x → A x) → A y → ((x : ℕ) → D x → key x <ℤ key y)
@@ -139,15 +129,13 @@ module _ (turn : ℕ → ℕ → ℕ → ℤ) (key : ℕ → ℤ) (A : ℕ → T
   -- the new edge has all that was passed on its left
   new-edge : (D : ℕ → Type 0) (y t : ℕ) (s : List ℕ) → ((x : ℕ) → D x → A x) → A y → ((x : ℕ) → D x → key x <ℤ key y)
       → IsChain turn key D t s → IsCapped turn key D y t → TurnsAt turn y t s → HasOnLeft turn (Added D y) t y
-  new-edge D y t s in_a ay below g c sh x (inl e) = subst (λ v. pos 0 ≤ℤ turn t y v) (sym e) (at_least _ (turn_laws.there t y))
+  new-edge D y t s in_a ay below g c sh x (inl e) = subst (λ v. pos 0 ≤ℤ turn t y v) (sym e) (omega (arith, ints, turn_laws.there t y))
   new-edge D y t s in_a ay below g c sh x (inr d) =
-      by_lt_z (key x) (key t) (λ h. behind-edge D y t s in_a ay below g sh x d h)
-      (λ k. by_lt_z (key t) (key x) (λ h. c x d h)
-      (λ m. here (turn_laws.same x t (in_a x d) (in_a t (chain_top turn key D t s g))
-      (le_antisym (key x) (key t) m k))))
+      by_lt_z (key x) (key t) (λ h. behind-edge D y t s in_a ay below g sh x d h) (λ k. by_lt_z (key t) (key x) (λ h. c x d h)
+      (λ m. here (turn_laws.same x t (in_a x d) (in_a t (chain_top turn key D t s g)) (le_antisym (key x) (key t) m k))))
     where
       here : x ≡ t → pos 0 ≤ℤ turn t y x
-      here e = subst (λ v. pos 0 ≤ℤ turn t y v) (sym e) (at_least _ (turn_laws.back t y))
+      here e = subst (λ v. pos 0 ≤ℤ turn t y v) (sym e) (omega (arith, ints, turn_laws.back t y))
 
   -- the next id on the stack makes a chain over one more
   pushes : (D : ℕ → Type 0) (y : ℕ) (s : List ℕ) → ((x : ℕ) → D x → A x) → A y → ((x : ℕ) → D x → key x <ℤ key y)
@@ -166,8 +154,7 @@ module _ (turn : ℕ → ℕ → ℕ → ℤ) (key : ℕ → ℤ) (A : ℕ → T
       → IsChain turn key D t s → ((x : ℕ) → D x → key x ≤ℤ key t) → RisesBy key t xs → IsChained turn key (Passed D xs) (chain turn (t ∷ s) xs)
   chains D t s [] in_a xs_a g le r = record { top = t; rest = s; is = refl; good = g; greatest = le }
   chains D t s (y ∷ ys) in_a xs_a g le r =
-      chains (Added D y) y (kept_below turn y t s) ys in_more (λ x i. xs_a x (inr i))
-      (pushes D y (kept_below turn y t s) in_a (xs_a y (inl refl)) below
+      chains (Added D y) y (kept_below turn y t s) ys in_more (λ x i. xs_a x (inr i)) (pushes D y (kept_below turn y t s) in_a (xs_a y (inl refl)) below
       (pops D y t s in_a (xs_a y (inl refl)) below g (λ x d h. absurd (not_less (key t) (key x) h (le x d))))) le_more
       r.1
     where

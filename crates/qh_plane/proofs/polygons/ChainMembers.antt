@@ -3,10 +3,8 @@ use Rattle.std.proofs.Common.{◌≡◌, ℕ, refl, List, [], ◌∷◌, arith, 
 use Rattle.std.proofs.lemmas.Int.{ints, by_lt_z}
 use Rattle.std.specs.Prelude.{ℤ, pos, ◌≤ℤ◌, ◌<ℤ◌}
 use Rattle.qh_model.specs.headline.Sets.{In, Once}
-use Rattle.qh_model.proofs.algebra.Order.{le_antisym}
-use Rattle.qh_model.proofs.algebra.Signs.{not_less}
-use Rattle.qh_plane.proofs.polygons.TurnLaws.{HasOnLeft, IsChain, chain_top}
-use Rattle.qh_plane.proofs.polygons.Cycles.{bottom}
+use Rattle.qh_model.proofs.algebra.{Order.le_antisym, Signs.not_less}
+use Rattle.qh_plane.proofs.polygons.{Cycles.bottom, TurnLaws.HasOnLeft, TurnLaws.IsChain, TurnLaws.chain_top}
 
 -- ---- what a stack says of its members
 module _ (turn : ℕ → ℕ → ℕ → ℤ) (key : ℕ → ℤ) (A : ℕ → Type 0) where
@@ -105,8 +103,7 @@ module _ (turn : ℕ → ℕ → ℕ → ℤ) (key : ℕ → ℤ) (A : ℕ → T
       → A e → (In e (t ∷ s) → ⊥) → key e <ℤ key t → Span e (t ∷ s)
   span same t [] g e ae out lt = absurd (not_less (key e) (key t) lt (g.1 e ae))
   span same t (r ∷ s) g e ae out lt =
-      by_lt_z (key e) (key r) (λ l. span-more e t (r ∷ s) (span same r s g.4 e ae (λ i. out (inr i)) l))
-      (λ k. by_lt_z (key r) (key e)
+      by_lt_z (key e) (key r) (λ l. span-more e t (r ∷ s) (span same r s g.4 e ae (λ i. out (inr i)) l)) (λ k. by_lt_z (key r) (key e)
       (λ l. record {
         u = r;
         v = t;

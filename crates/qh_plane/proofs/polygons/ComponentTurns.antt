@@ -1,16 +1,11 @@
 -- In one plane a turn by one component of the normal goes to the left where the turn itself does: chains by either are
 -- the same.
 use Rattle.std.proofs.Common.{◌≡◌, ◌≢◌, ℕ, List, [], ◌∷◌, ap, sym, ◌∙◌, refl, inl, inr, Bool, true, false, cond, reverse, subst, ⊎_elim}
-use Rattle.std.specs.Ordering.{is_gt}
-use Rattle.std.specs.Prelude.{ℤ, pos}
+use Rattle.std.specs.{Ordering.is_gt, Prelude.ℤ, Prelude.pos}
 use Rattle.qh_model.proofs.algebra.Signs.{less_differ}
-use Rattle.qh_model.specs.headline.Predicates.{place}
-use Rattle.qh_model.specs.headline.Sets.{In}
-use Rattle.qh_model.specs.headline.Vector.{Vector, origin, dot}
+use Rattle.qh_model.specs.headline.{Predicates.place, Sets.In, Vector.Vector, Vector.origin, Vector.dot}
 use Rattle.qh_pred.proofs.Turns.{turn_sign}
-use Rattle.qh_plane.proofs.polygons.Cycles.{turned_onto-in}
-use Rattle.qh_plane.proofs.polygons.Stacks.{reverse-turned_onto}
-use Rattle.qh_plane.proofs.polygons.Turns.{IsFlat, turn_about}
+use Rattle.qh_plane.proofs.polygons.{Cycles.turned_onto-in, Stacks.reverse-turned_onto, Turns.IsFlat, Turns.turn_about}
 use Rattle.qh_plane.specs.steps.Chains.{turn_of, is_left, kept_below, kept, chain, joined}
 
 -- turns of members of A that go to the left together

@@ -1,19 +1,14 @@
 -- The list that goes round the extremes, from a rising list and its turn.
 use Rattle.std.proofs.Common.{◌≡◌, ℕ, List, [], ◌∷◌, ◌++◌, arith, ap, sym, subst, inl, inr, ⊎_elim}
 use Rattle.std.proofs.lemmas.Int.{ints}
-use Rattle.std.specs.Prelude.{ℤ, pos, ◌≤ℤ◌, ◌<ℤ◌, ◌↔◌}
-use Rattle.qh_model.specs.headline.Vector.{Vector}
-use Rattle.qh_model.specs.headline.Sets.{In, Once}
-use Rattle.qh_model.specs.headline.Extreme.{Extreme}
-use Rattle.qh_model.specs.headline.Polygon.{TurnsLeft}
-use Rattle.qh_model.proofs.algebra.VectorIdentities.{opposite}
+use Rattle.std.specs.Prelude.{ℤ, ◌≤ℤ◌, ◌<ℤ◌, ◌↔◌}
+use Rattle.qh_model.specs.headline.{Extreme.Extreme, Polygon.TurnsLeft, Sets.In, Sets.Once, Vector.Vector}
+use Rattle.qh_model.proofs.{algebra.VectorIdentities.opposite, lists.Joined.in_append, lists.Joined.of_append, lists.Joined.once_append}
 use Rattle.qh_model.proofs.polygons.Cycles.{AroundCycle, cycle_map}
-use Rattle.qh_model.proofs.lists.Joined.{in_append, of_append, once_append}
-use Rattle.qh_plane.proofs.polygons.TurnLaws.{RisesBy, IsChain}
 use Rattle.qh_plane.proofs.polygons.Chain.{Passed, passed-before, passed-in, in-passed, IsChained, chain-good}
+use Rattle.qh_plane.proofs.polygons.{Cycles.cycle-rotate, TurnLaws.RisesBy, TurnLaws.IsChain}
 use Rattle.qh_plane.proofs.polygons.Turns.{IsFlat, IsKeyed, turn_about, height_of, turn_laws}
 use Rattle.qh_plane.proofs.polygons.TwoChains.{keyed_opposite, Chains, ring_members, ring_once, ring_round}
-use Rattle.qh_plane.proofs.polygons.Cycles.{cycle-rotate}
 use Rattle.qh_plane.specs.steps.Chains.{chain, turned_onto, joined}
 
 -- q goes once round the extreme ids of A, counterclockwise
@@ -58,10 +53,6 @@ half_of n h at A flat keyed x₀ xs l r =
     from : (x : ℕ) → A x → Passed (λ x. x ≡ x₀) xs x
     from x a = ⊎_elim (λ e. passed-before (λ x. x ≡ x₀) xs x e) (λ i. passed-in (λ x. x ≡ x₀) xs x i) ((l x).1 a)
 
--- a highest member is not also lowest where two members differ in height
-alone : (a b x y : ℤ) → a <ℤ b → x ≤ℤ a → b ≤ℤ x → ⊥
-alone a b x y h k l = omega (arith, ints)
-
 -- the two chains close
 closes : (n h : Vector) (at : ℕ → Vector) (A : ℕ → Type 0) → IsFlat n at A → IsKeyed h at A → (p q : ℕ) → A p → A q
     → height_of h at p <ℤ height_of h at q → height_of (opposite h) at q <ℤ height_of (opposite h) at p
@@ -69,23 +60,11 @@ closes : (n h : Vector) (at : ℕ → Vector) (A : ℕ → Type 0) → IsFlat n 
     → IsChain (turn_about n at) (height_of h at) A m s → ((x : ℕ) → A x → height_of h at x ≤ℤ height_of h at m)
     → IsChain (turn_about n at) (height_of (opposite h) at) A z r → ((x : ℕ) → A x → height_of (opposite h) at x ≤ℤ height_of (opposite h) at z)
     → GoesRound n at A (turned_onto s (turned_onto r []))
-closes n h at A flat keyed p q ap aq l l' m [] z r g k g' k' = absurd (alone _ _ (height_of h at m) (pos 0) l (g.1 p ap) (k q aq))
-closes n h at A flat keyed p q ap aq l l' m (a ∷ s) z [] g k g' k' = absurd (alone _ _ (height_of (opposite h) at z) (pos 0) l' (g'.1 q aq) (k' p ap))
+closes n h at A flat keyed p q ap aq l l' m [] z r g k g' k' = absurd (omega (arith, ints, g.1 p ap, k q aq))
+closes n h at A flat keyed p q ap aq l l' m (a ∷ s) z [] g k g' k' = absurd (omega (arith, ints, l', g'.1 q aq, k' p ap))
 closes n h at A flat keyed p q ap aq l l' m (a ∷ s) z (b ∷ r) g k g' k' =
     let c : Chains n h at A m (a ∷ s) z (b ∷ r) =
-    record {
-      flat = flat;
-      keyed = keyed;
-      lower = g;
-      upper = g';
-      last = k;
-      first = k';
-      p = p;
-      q = q;
-      is_p = ap;
-      is_q = aq;
-      apart = l;
-    } in
+    record { flat = flat; keyed = keyed; lower = g; upper = g'; last = k; first = k'; p = p; q = q; is_p = ap; is_q = aq; apart = l } in
     record { members = ring_members n h at A m a s z b r c; once = ring_once n h at A m a s z b r c; round = ring_round n h at A m a s z b r c }
 
 -- a rising list, and one that rises the other way round, over the same members

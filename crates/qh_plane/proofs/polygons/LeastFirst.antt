@@ -1,13 +1,8 @@
 -- A cycle that is turned to its least begins with its least.
-use Rattle.std.proofs.Common.{◌≡◌, ℕ, suc, ◌<◌, ◌≤◌, List, [], ◌∷◌, ◌++◌, length, get_or, take, drop, arith, ap, sym}
-use Rattle.std.proofs.Common.{subst, inr, drop-cons, length-append, length-drop, length-take}
-use Rattle.std.proofs.lemmas.List.{take-append-drop}
-use Rattle.qh_model.specs.headline.Extreme.{Extreme}
-use Rattle.qh_model.specs.headline.Polygon.{IsPolygon, TurnsLeft}
-use Rattle.qh_model.specs.headline.Sets.{In, BeginsWithLeast}
-use Rattle.qh_model.specs.headline.Vector.{Vector}
-use Rattle.qh_model.proofs.Members.{in_at}
-use Rattle.qh_model.proofs.polygons.Cycles.{round_holds}
+use Rattle.std.proofs.Common.{◌≡◌, ℕ, suc, ◌<◌, ◌≤◌, List, [], ◌∷◌, ◌++◌, length, get_or, take, drop, arith, ap, sym, subst, inr, drop-cons, length-append}
+use Rattle.std.proofs.{Common.length-drop, Common.length-take, lemmas.List.take-append-drop}
+use Rattle.qh_model.specs.headline.{Extreme.Extreme, Polygon.IsPolygon, Polygon.TurnsLeft, Sets.In, Sets.BeginsWithLeast, Vector.Vector}
+use Rattle.qh_model.proofs.{Members.in_at, polygons.Cycles.round_holds}
 use Rattle.qh_plane.proofs.polygons.GoesRound.{GoesRound, goes_round-rotate, in-rotate}
 
 -- the empty list begins with its least

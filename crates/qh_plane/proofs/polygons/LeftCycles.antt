@@ -1,32 +1,13 @@
 -- A cycle that turns left at each member is the polygon of its members: each of them is a corner.
-use Rattle.std.proofs.Common.{◌≡◌, ◌≢◌, ◌⊎◌, ℕ, List, [], ◌∷◌, inl, inr, arith, refl, sym, ap, subst, ◌∙◌}
+use Rattle.std.proofs.Common.{◌≡◌, ◌≢◌, ◌⊎◌, ℕ, List, [], ◌∷◌, inl, inr, arith, refl, sym, ap, subst, ◌∙◌, ⊎_elim}
 use Rattle.std.proofs.lemmas.Int.{ints}
-use Rattle.std.specs.Prelude.{ℤ, pos, neg_ℤ, ◌+ℤ◌, ◌-ℤ◌, ◌<ℤ◌, ◌↔◌}
+use Rattle.std.specs.Prelude.{pos, ◌<ℤ◌, ◌↔◌}
 use mathlib.Core.Logic.{dite}
 use native.Mathlib.Decide.{ℕ_discrete}
-use Rattle.qh_model.proofs.algebra.VectorIdentities.{left-turn}
-use Rattle.qh_model.proofs.polygons.Cycles.{AlongPath, AroundCycle, round_holds}
-use Rattle.qh_model.specs.headline.Extreme.{Extreme}
-use Rattle.qh_model.specs.headline.Polygon.{IsPolygon, TurnsLeft}
-use Rattle.qh_model.specs.headline.Predicates.{left}
-use Rattle.qh_model.specs.headline.Sets.{In, Once, BeginsWithLeast}
+use Rattle.qh_model.proofs.{algebra.VectorIdentities.left-turn, polygons.Cycles.AlongPath, polygons.Cycles.AroundCycle, polygons.Cycles.round_holds}
+use Rattle.qh_model.specs.headline.{Extreme.Extreme, Polygon.IsPolygon, Polygon.TurnsLeft, Predicates.left, Sets.In, Sets.Once, Sets.BeginsWithLeast}
 use Rattle.qh_model.specs.headline.Vector.{Vector, minus, cross_product}
-use Rattle.qh_plane.proofs.polygons.Corners.{Corner, corner_eq, corner_extreme}
-use Rattle.qh_plane.proofs.polygons.Turns.{left-back, left-there, left-swap}
-
--- a number and its opposite are not both positive
-opposed : (x y : ℤ) → x ≡ neg_ℤ y → pos 0 <ℤ x → pos 0 <ℤ y → ⊥
-opposed x y e h k = omega (arith, ints)
-
--- two numbers whose difference is the sum of two of which one is positive and none negative
-past_left : (x y f g : ℤ) → y -ℤ x ≡ f +ℤ g → pos 0 <ℤ f → g ≡ pos 0 → x <ℤ y
-past_left x y f g e h k = omega (arith, ints)
-
-past_right : (x y f g : ℤ) → y -ℤ x ≡ f +ℤ g → f ≡ pos 0 → pos 0 <ℤ g → x <ℤ y
-past_right x y f g e h k = omega (arith, ints)
-
-past_both : (x y f g : ℤ) → y -ℤ x ≡ f +ℤ g → pos 0 <ℤ f → pos 0 <ℤ g → x <ℤ y
-past_both x y f g e h k = omega (arith, ints)
+use Rattle.qh_plane.proofs.polygons.{Corners.Corner, Corners.corner_eq, Corners.corner_extreme, Turns.left-back, Turns.left-there, Turns.left-swap}
 
 -- the list has a member beside any two numbers
 abbrev pub HasThird : List ℕ → Type 0
@@ -35,14 +16,9 @@ HasThird q = (p v : ℕ) → (w : ℕ) × In w q × (w ≢ p) × (w ≢ v)
 -- three different members do
 pub third_of : (a b c : ℕ) (r : List ℕ) → a ≢ b → a ≢ c → b ≢ c → HasThird (a ∷ b ∷ c ∷ r)
 third_of a b c r ab ac bc p v = dite (ℕ_discrete a p)
-    (λ e. dite (ℕ_discrete b v)
-    (λ k. (c, inr (inr (inl refl)), (λ o. omega arith), λ o. omega arith))
-    (λ k. (b, inr (inl refl), (λ o. omega arith), k)))
-    (λ e. dite (ℕ_discrete a v)
-    (λ k. dite (ℕ_discrete b p)
-    (λ m. (c, inr (inr (inl refl)), (λ o. omega arith), λ o. omega arith))
-    (λ m. (b, inr (inl refl), m, λ o. omega arith)))
-    (λ k. (a, inl refl, e, k)))
+    (λ e. dite (ℕ_discrete b v) (λ k. (c, inr (inr (inl refl)), (λ o. omega arith), λ o. omega arith)) (λ k. (b, inr (inl refl), (λ o. omega arith), k)))
+    (λ e. dite (ℕ_discrete a v) (λ k. dite (ℕ_discrete b p) (λ m. (c, inr (inr (inl refl)), (λ o. omega arith), λ o. omega arith))
+    (λ m. (b, inr (inl refl), m, λ o. omega arith))) (λ k. (a, inl refl, e, k)))
 
 -- the last way of a path
 last_way : (P : ℕ → ℕ → Type 0) (u : ℕ) (r : List ℕ) (e : ℕ) → AlongPath P u r e → (p : ℕ) × P p e
@@ -56,17 +32,14 @@ module _ (n : Vector) (at : ℕ → Vector) (A : ℕ → Type 0) (q : List ℕ) 
     member = av;
     w = cross_product (minus (at s) (at p)) n;
     beats = λ x ax ne. let e = corner_eq n (at p) (at v) (at s) (at x) in let i = (l x).0 ax in dite (ℕ_discrete x p)
-        (λ xp. past_right _ _ _ _ e (ap (λ (t : ℕ). left n (at p) (at v) (at t)) xp ∙ left-back n (at p) (at v))
-        (g x i ne (λ xs. no_return (sym xp ∙ xs))))
-        (λ np. dite (ℕ_discrete x s)
-        (λ xs. past_left _ _ _ _ e (f x i np ne) (ap (λ (t : ℕ). left n (at v) (at s) (at t)) xs ∙ left-there n (at v) (at s)))
-        (λ ns. past_both _ _ _ _ e (f x i np ne) (g x i ne ns)));
+        (λ xp. omega (arith, ints, ap (λ (t : ℕ). left n (at p) (at v) (at t)) xp ∙ left-back n (at p) (at v), g x i ne (λ xs. no_return (sym xp ∙ xs))))
+        (λ np. dite (ℕ_discrete x s) (λ xs. omega (arith, ints, f x i np ne, ap (λ (t : ℕ). left n (at v) (at s) (at t)) xs ∙ left-there n (at v) (at s)))
+        (λ ns. omega (arith, ints, f x i np ne, g x i ne ns)));
   }
     where
       no_return : p ≢ s
       no_return e = let w = third p v in
-          opposed _ _ (left-swap n (at p) (at v) (at w.0)) (f w.0 w.1 w.2 w.3)
-          (subst (TurnsLeft at n q v) (sym e) g w.0 w.1 w.3 w.2)
+          omega (arith, ints, left-swap n (at p) (at v) (at w.0), f w.0 w.1 w.2 w.3, subst (TurnsLeft at n q v) (sym e) g w.0 w.1 w.3 w.2)
 
   -- each member of a path from u, to which a way leads from p
   corners_along : (p u : ℕ) (r : List ℕ) (e : ℕ) → ((x : ℕ) → In x (u ∷ r) → A x) → TurnsLeft at n q p u
@@ -92,13 +65,8 @@ cycle_polygon n at A u r l third once least h = record {
         corners_along n at A (u ∷ r) l third p.0 u r u (λ x i. (l x).1 i) p.1 h
 
 -- a way from u to v, where all others are the one before u and the one after v
-pub side_of : (n : Vector) (at : ℕ → Vector) (q : List ℕ) (p u v s : ℕ)
-    → ((x : ℕ) → In x q → x ≢ u → x ≢ v → (x ≡ p) ⊎ (x ≡ s))
+pub side_of : (n : Vector) (at : ℕ → Vector) (q : List ℕ) (p u v s : ℕ) → ((x : ℕ) → In x q → x ≢ u → x ≢ v → (x ≡ p) ⊎ (x ≡ s))
     → pos 0 <ℤ left n (at p) (at u) (at v) → pos 0 <ℤ left n (at u) (at v) (at s) → TurnsLeft at n q u v
-side_of n at q p u v s only h k w i wu wv = either (only w i wu wv)
-  where
-    either : (w ≡ p) ⊎ (w ≡ s) → pos 0 <ℤ left n (at u) (at v) (at w)
-    either (inl e) =
-        subst (λ t. pos 0 <ℤ left n (at u) (at v) (at t)) (sym e)
-        (subst (λ t. pos 0 <ℤ t) (left-turn n (at p) (at u) (at v)) h)
-    either (inr e) = subst (λ t. pos 0 <ℤ left n (at u) (at v) (at t)) (sym e) k
+side_of n at q p u v s only h k w i wu wv =
+    ⊎_elim (λ e. subst (λ t. pos 0 <ℤ left n (at u) (at v) (at t)) (sym e) (subst (λ t. pos 0 <ℤ t) (left-turn n (at p) (at u) (at v)) h))
+    (λ e. subst (λ t. pos 0 <ℤ left n (at u) (at v) (at t)) (sym e) k) (only w i wu wv)

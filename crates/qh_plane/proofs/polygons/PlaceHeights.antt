@@ -1,20 +1,11 @@
 -- The number of a place as a height: its order is that of one direction.
-use Rattle.std.proofs.Common.{◌≡◌, ℕ, ◌+◌, ◌*◌, ◌<◌, List, arith}
-use Rattle.std.proofs.lemmas.Int.{ints}
-use Rattle.std.specs.Prelude.{ℤ, pos, ◌+ℤ◌, ◌*ℤ◌, ◌<ℤ◌}
-use Rattle.std.specs.List.{All}
+use Rattle.std.proofs.{Common.◌≡◌, Common.ℕ, Common.◌+◌, Common.◌*◌, Common.◌<◌, Common.List, Common.arith, lemmas.Int.ints}
+use Rattle.std.specs.{List.All, Prelude.ℤ, Prelude.pos, Prelude.◌+ℤ◌, Prelude.◌*ℤ◌, Prelude.◌<ℤ◌}
 use Rattle.qh_model.proofs.Members.{All-In}
-use Rattle.qh_model.specs.declared.limits.TheConstants.{COORDINATE_LIMIT}
-use Rattle.qh_model.specs.contract.IdSets.{HasDistinctPoints}
-use Rattle.qh_model.specs.contract.Places.{IsPlace}
-use Rattle.qh_model.specs.headline.Limits.{IsCoordinate}
-use Rattle.qh_model.specs.headline.Predicates.{place}
-use Rattle.qh_model.specs.headline.Sets.{In}
-use Rattle.qh_model.specs.headline.Vector.{Vector, dot}
-use Rattle.qh_plane.proofs.PlaceOrder.{place_code-same}
-use Rattle.qh_plane.proofs.polygons.Turns.{IsKeyed}
-use Rattle.qh_plane.specs.declared.place_keys.TheConstants.{ROOM}
-use Rattle.qh_plane.specs.steps.PlaceKeys.{biased, place_code, HasKey}
+use Rattle.qh_model.specs.{contract.IdSets.HasDistinctPoints, contract.Places.IsPlace, declared.limits.TheConstants.COORDINATE_LIMIT}
+use Rattle.qh_model.specs.headline.{Predicates.place, Sets.In, Vector.Vector, Vector.dot}
+use Rattle.qh_plane.proofs.{PlaceOrder.place_code-same, polygons.Turns.IsKeyed}
+use Rattle.qh_plane.specs.{declared.place_keys.TheConstants.ROOM, steps.PlaceKeys.biased, steps.PlaceKeys.place_code, steps.PlaceKeys.HasKey}
 
 -- the direction along which places rise by x, then y, then z
 abbrev pub order : Vector
@@ -24,10 +15,6 @@ order = record { x = pos (ROOM * ROOM); y = pos ROOM; z = pos 1 }
 abbrev ground_level : ℕ
 ground_level = (COORDINATE_LIMIT * ROOM + COORDINATE_LIMIT) * ROOM + COORDINATE_LIMIT
 
--- a biased coordinate
-biased_is : (z : ℤ) → IsCoordinate z → pos (biased z) ≡ z +ℤ pos COORDINATE_LIMIT
-biased_is z h = omega (arith, ints)
-
 -- the number of a place is its height, over the number of the origin
 height : (x y z : ℤ) (a b c : ℕ) → pos a ≡ x +ℤ pos COORDINATE_LIMIT → pos b ≡ y +ℤ pos COORDINATE_LIMIT → pos c ≡ z +ℤ pos COORDINATE_LIMIT
     → pos ((a * ROOM + b) * ROOM + c) ≡ (pos (ROOM * ROOM) *ℤ x +ℤ pos ROOM *ℤ y +ℤ pos 1 *ℤ z) +ℤ pos ground_level
@@ -36,7 +23,8 @@ height x y z a b c e f g = omega (arith, ints)
 -- the number of a place is its height and that of the origin
 place_code-height : (p : Vector) → IsPlace p → pos (place_code p) ≡ dot order p +ℤ pos ground_level
 unfolding place_code
-place_code-height p h = height p.x p.y p.z (biased p.x) (biased p.y) (biased p.z) (biased_is p.x h.x) (biased_is p.y h.y) (biased_is p.z h.z)
+place_code-height p h =
+    height p.x p.y p.z (biased p.x) (biased p.y) (biased p.z) (omega (arith, ints, h.x)) (omega (arith, ints, h.y)) (omega (arith, ints, h.z))
 
 -- equal heights, equal numbers
 same_height : (a b : ℕ) (x y c : ℤ) → pos a ≡ x +ℤ c → pos b ≡ y +ℤ c → x ≡ y → a ≡ b

@@ -1,19 +1,13 @@
 -- Ids in one plane: they are flat across their normal, and three of them, so at least two, are not in line.
-use Rattle.std.proofs.Common.{◌≡◌, ◌≢◌, ℕ, ◌<◌, List, [], ◌∷◌, length, arith, ap, sym, ◌∙◌, refl, ◌⊎◌, inl, inr}
+use Rattle.std.proofs.Common.{◌≡◌, ◌≢◌, ℕ, ◌<◌, List, [], ◌∷◌, length, arith, ap, sym, ◌∙◌, refl, ◌⊎◌, inl, inr, ⊎_elim}
 use Rattle.std.proofs.lemmas.Int.{ints}
-use Rattle.std.specs.Prelude.{ℤ, pos, ◌-ℤ◌, neg_ℤ}
-use Rattle.qh_model.proofs.algebra.Ring.{ring}
-use Rattle.qh_model.proofs.algebra.Ring.Expr.{con, sub as less, neg}
+use Rattle.std.specs.Prelude.{pos, neg_ℤ}
+use Rattle.qh_model.proofs.algebra.{Ring.ring, Ring.Expr.con, Ring.Expr.sub as less, Ring.Expr.neg, Signs.opposite_zero}
 use Rattle.qh_model.proofs.algebra.VectorIdentities.{vec, dotE, put, vector_path, vol-dot}
-use Rattle.qh_model.proofs.algebra.Signs.{opposite_zero}
-use Rattle.qh_model.proofs.extremes.Dimensions.{segment_of_triangle}
-use Rattle.qh_model.proofs.extremes.Directions.{square-positive}
-use Rattle.qh_model.specs.headline.Dimension.{HasTriangle}
-use Rattle.qh_model.specs.headline.Predicates.{place, cross}
-use Rattle.qh_model.specs.headline.Sets.{In, Members}
+use Rattle.qh_model.proofs.extremes.{Dimensions.segment_of_triangle, Directions.square-positive}
+use Rattle.qh_model.specs.headline.{Dimension.HasTriangle, Predicates.place, Predicates.cross, Sets.In, Sets.Members}
 use Rattle.qh_model.specs.headline.Vector.{Vector, origin, minus, dot}
-use Rattle.qh_plane.proofs.LinesAndPlanes.{between_eq, none}
-use Rattle.qh_plane.proofs.polygons.Turns.{IsFlat}
+use Rattle.qh_plane.proofs.{LinesAndPlanes.between_eq, LinesAndPlanes.none, polygons.Turns.IsFlat}
 use Rattle.qh_plane.specs.contract.PlanarSets.{IsPlanarSet}
 
 -- the scalar product with the opposite
@@ -24,10 +18,6 @@ negated c v = ring (put c (put v []))
       y = less (con (pos 0)) (vec 0).y;
       z = less (con (pos 0)) (vec 0).z;
     }) (vec 1)) (neg (dotE (vec 0) (vec 1))) refl
-
--- what has the opposite zero is zero
-back_zero : (x : ℤ) → pos 0 -ℤ x ≡ pos 0 → x ≡ pos 0
-back_zero x e = omega (arith, ints)
 
 -- of ids of which three are not in line there are at least two
 pub two_of_triangle : (at : ℕ → Vector) (ids : List ℕ) → HasTriangle at (Members ids) → 1 < length ids
@@ -47,14 +37,11 @@ module _ (pts : List Vector) (ids : List ℕ) (n : Vector) (p : IsPlanarSet pts 
 
   -- the way from i to a member is across the normal
   across : (l : ℕ) → In l ids → dot n (minus (place pts l) (place pts p.i)) ≡ pos 0
-  across l m = by_cases p.normal
+  across l m = ⊎_elim (λ e. ap (λ v. dot v (minus (place pts l) (place pts p.i))) e ∙ zero_c)
+      (λ e. ap (λ v. dot v (minus (place pts l) (place pts p.i))) e ∙ opposite_zero _ _ (negated c (minus (place pts l) (place pts p.i))) zero_c) p.normal
     where
       zero_c : dot c (minus (place pts l) (place pts p.i)) ≡ pos 0
       zero_c = sym (vol-dot (place pts p.i) (place pts p.j) (place pts p.k) (place pts l)) ∙ p.plane l m
-
-      by_cases : (n ≡ c) ⊎ (n ≡ minus origin c) → dot n (minus (place pts l) (place pts p.i)) ≡ pos 0
-      by_cases (inl e) = ap (λ v. dot v (minus (place pts l) (place pts p.i))) e ∙ zero_c
-      by_cases (inr e) = ap (λ v. dot v (minus (place pts l) (place pts p.i))) e ∙ opposite_zero _ _ (negated c (minus (place pts l) (place pts p.i))) zero_c
 
   -- the normal is not zero
   some : n ≢ origin
@@ -63,14 +50,12 @@ module _ (pts : List Vector) (ids : List ℕ) (n : Vector) (p : IsPlanarSet pts 
       by_cases : (n ≡ c) ⊎ (n ≡ minus origin c) → ⊥
       by_cases (inl e) = p.area (sym e ∙ h)
       by_cases (inr e) = let o : minus origin c ≡ origin = sym e ∙ h in
-          p.area (vector_path c origin (back_zero c.x (ap (λ v. v.x) o)) (back_zero c.y (ap (λ v. v.y) o))
-          (back_zero c.z (ap (λ v. v.z) o)))
+          p.area (vector_path c origin (omega (arith, ints, ap (λ v. v.x) o)) (omega (arith, ints, ap (λ v. v.y) o)) (omega (arith, ints, ap (λ v. v.z) o)))
 
   -- the ids are flat across the normal
   pub flat_of : IsFlat n (place pts) (λ x. In x ids)
   flat_of = record {
-    even =
-        λ a b ma mb. none _ _ _ (between_eq n (place pts p.i) (place pts a) (place pts b)) (across b mb) (across a ma);
+    even = λ a b ma mb. none _ _ _ (between_eq n (place pts p.i) (place pts a) (place pts b)) (across b mb) (across a ma);
     some = square-positive n some;
   }
 

@@ -1,20 +1,11 @@
 -- The polygon of four points that turn left one after the other.
 use Rattle.std.proofs.Common.{◌≡◌, ◌≢◌, ℕ, ◌<◌, List, [], ◌∷◌, arith, sym, subst, ◌∙◌, inl, inr, refl, length, get_or, Bool, true}
-use Rattle.std.proofs.lemmas.Bool.Decides.{nat_tests}
-use Rattle.std.proofs.lemmas.Grind.{common_steps}
-use Rattle.std.proofs.Math.Nat.{ne_of_lt}
+use Rattle.std.proofs.{Math.Nat.ne_of_lt, lemmas.Bool.Decides.nat_tests, lemmas.Grind.common_steps}
 use Rattle.std.specs.Prelude.{pos, ◌<ℤ◌, ◌↔◌, ◌&&◌}
-use Rattle.qh_model.specs.headline.Extreme.{Extreme}
-use Rattle.qh_model.specs.headline.Polygon.{IsPolygon}
-use Rattle.qh_model.specs.headline.Predicates.{place, left}
-use Rattle.qh_model.specs.headline.Sets.{In, Members}
-use Rattle.qh_model.specs.headline.Vector.{Vector}
-use Rattle.qh_plane.proofs.polygons.Chain.{is_left-yes}
-use Rattle.qh_plane.proofs.polygons.ComponentTurns.{turns_agree}
-use Rattle.qh_plane.proofs.polygons.LeftCycles.{cycle_polygon, side_of, third_of}
+use Rattle.qh_model.specs.headline.{Extreme.Extreme, Polygon.IsPolygon, Predicates.place, Predicates.left, Sets.In, Sets.Members, Vector.Vector}
+use Rattle.qh_plane.proofs.polygons.{Chain.is_left-yes, ComponentTurns.turns_agree, LeftCycles.cycle_polygon, LeftCycles.side_of, LeftCycles.third_of}
 use Rattle.qh_plane.proofs.polygons.PlanarIds.{flat_of}
-use Rattle.qh_plane.specs.contract.PlanarSets.{IsPlanarSet}
-use Rattle.qh_plane.specs.steps.Chains.{is_left, turn_of, IsLeftCycle}
+use Rattle.qh_plane.specs.{contract.PlanarSets.IsPlanarSet, steps.Chains.is_left, steps.Chains.turn_of, steps.Chains.IsLeftCycle}
 
 -- four members that turn left, from the least on, are their polygon
 pub left_quadrilateral : (n : Vector) (at : ℕ → Vector) (A : ℕ → Type 0) (a b c d : ℕ) → ((x : ℕ) → A x ↔ In x (a ∷ b ∷ c ∷ d ∷ []))

@@ -1,12 +1,10 @@
 -- Sides of the polygon: two corners with all members on the left. The edges of a chain are sides.
 use Rattle.std.proofs.Common.{◌≢◌, ℕ, List, [], ◌∷◌, ap, sym, subst, inl, inr}
 use Rattle.std.specs.Prelude.{◌≤ℤ◌, ◌<ℤ◌}
-use Rattle.qh_model.specs.headline.Vector.{Vector}
-use Rattle.qh_model.specs.headline.Sets.{In}
+use Rattle.qh_model.specs.headline.{Sets.In, Vector.Vector}
 use Rattle.qh_model.proofs.algebra.Signs.{less_differ}
-use Rattle.qh_plane.proofs.polygons.TurnLaws.{HasOnLeft, TurnsAt, IsChain, chain_top}
+use Rattle.qh_plane.proofs.polygons.{Corners.Corner, Corners.inner, TurnLaws.HasOnLeft, TurnLaws.TurnsAt, TurnLaws.IsChain, TurnLaws.chain_top}
 use Rattle.qh_plane.proofs.polygons.Turns.{IsFlat, IsKeyed, turn_about, height_of}
-use Rattle.qh_plane.proofs.polygons.Corners.{Corner, inner}
 
 -- an edge of the polygon: two corners with all members on the left
 pub record Side (n : Vector) (at : ℕ → Vector) (A : ℕ → Type 0) (u v : ℕ) : Type 0 where

@@ -1,43 +1,26 @@
 -- The cycle over the two chains of sorted ids goes round the extremes.
-use Rattle.std.proofs.Common.{◌≡◌, ℕ, ◌+◌, ◌*◌, ◌%◌, ◌<◌, List, [], ◌∷◌, length, map, reverse, arith, ap, sym, subst, ◌∙◌, refl, inl, inr, ⊎_elim}
-use Rattle.std.proofs.lemmas.List.{length-map}
-use Rattle.std.proofs.lemmas.List.Sorted.{length_permutation}
-use Rattle.std.proofs.Math.Nat.{ne_of_lt}
-use Rattle.std.specs.Prelude.{ℤ, ◌<ℤ◌, ◌↔◌}
-use Rattle.std.specs.List.{All, AllByRecursion as Every}
-use Rattle.std.specs.List.Sorted.{IsStrictlyIncreasing}
+use Rattle.std.proofs.Common.{◌≡◌, ℕ, ◌%◌, ◌<◌, List, [], ◌∷◌, length, map, reverse, arith, ap, sym, subst, ◌∙◌, refl, inl, inr, ⊎_elim}
+use Rattle.std.proofs.{Math.Nat.ne_of_lt, lemmas.List.length-map, lemmas.List.Sorted.length_permutation}
+use Rattle.std.specs.{List.All, List.AllByRecursion as Every, List.Sorted.IsStrictlyIncreasing, Prelude.ℤ, Prelude.◌<ℤ◌, Prelude.◌↔◌}
 use Rattle.qh_model.proofs.Members.{All-In, All-of, rising_tail}
-use Rattle.qh_model.proofs.algebra.VectorIdentities.{opposite, dot-opposite}
-use Rattle.qh_model.proofs.algebra.Signs.{lt_neg}
-use Rattle.qh_model.specs.contract.IdSets.{HasDistinctPoints}
-use Rattle.qh_model.specs.headline.Predicates.{place}
-use Rattle.qh_model.specs.headline.Sets.{In}
-use Rattle.qh_model.specs.headline.Vector.{Vector}
+use Rattle.qh_model.proofs.algebra.{Signs.lt_neg, VectorIdentities.opposite, VectorIdentities.dot-opposite}
+use Rattle.qh_model.specs.{contract.IdSets.HasDistinctPoints, headline.Predicates.place, headline.Sets.In, headline.Vector.Vector}
 use Rattle.qh_plane.proofs.PlaceOrder.{IsKeyOf, sorted_keys, rising_keys, key_parts, place_code-same, sorted-only, sorted-all}
-use Rattle.qh_plane.proofs.polygons.ComponentTurns.{joined-same}
-use Rattle.qh_plane.proofs.polygons.Cycles.{in-turned_onto, turned_onto-in}
-use Rattle.qh_plane.proofs.polygons.GoesRound.{GoesRound, goes_round}
+use Rattle.qh_plane.proofs.polygons.{ComponentTurns.joined-same, Cycles.in-turned_onto, Cycles.turned_onto-in, GoesRound.GoesRound, GoesRound.goes_round}
 use Rattle.qh_plane.proofs.polygons.PlaceHeights.{order, place_code-less, keyed_of}
-use Rattle.qh_plane.proofs.polygons.Stacks.{reverse-turned_onto}
-use Rattle.qh_plane.proofs.polygons.TurnLaws.{RisesBy}
-use Rattle.qh_plane.proofs.polygons.Turns.{IsFlat, IsKeyed, turn_about, height_of}
-use Rattle.qh_plane.specs.declared.place_keys.TheConstants.{ROOM}
-use Rattle.qh_plane.specs.steps.Chains.{turn_of, turned_onto, joined, chain}
+use Rattle.qh_plane.proofs.polygons.{Stacks.reverse-turned_onto, TurnLaws.RisesBy, Turns.IsFlat, Turns.IsKeyed, Turns.turn_about, Turns.height_of}
+use Rattle.qh_plane.specs.{declared.place_keys.TheConstants.ROOM, steps.Chains.turn_of, steps.Chains.turned_onto, steps.Chains.joined, steps.Chains.chain}
 use Rattle.qh_plane.specs.steps.PlaceKeys.{place_code, key_at, ids_in, HasKey, AreByPlace}
 
 -- ---- rising keys are rising places
--- of keys in order with different places, the places are in order
-less_code : (a b i j k l : ℕ) → k ≡ a * ROOM + i → l ≡ b * ROOM + j → i < ROOM → j < ROOM → k < l → (a ≡ b → ⊥) → a < b
-less_code a b i j k l e f h m lt ne = omega arith
-
 -- rising keys are rising heights
 step_up : (pts : List Vector) (ids : List ℕ) (k l : ℕ) → HasDistinctPoints (place pts) (λ x. In x ids) → IsKeyOf pts ids k → IsKeyOf pts ids l → k < l
     → height_of order (place pts) (k % ROOM) <ℤ height_of order (place pts) (l % ROOM)
 step_up pts ids k l d t u lt =
     place_code-less (place pts (k % ROOM)) (place pts (l % ROOM)) t.known.place_in u.known.place_in
-    (less_code (place_code (place pts (k % ROOM))) (place_code (place pts (l % ROOM))) (k % ROOM) (l % ROOM) k l
-    (t.is ∙ key_parts pts (k % ROOM)) (u.is ∙ key_parts pts (l % ROOM)) t.known.small u.known.small lt
-    (λ e. ne_of_lt lt (t.is ∙ ap (key_at pts) (d (k % ROOM) (l % ROOM) t.has u.has (place_code-same _ _ t.known.place_in u.known.place_in e)) ∙ sym u.is)))
+    (let differ : place_code (place pts (k % ROOM)) ≡ place_code (place pts (l % ROOM)) → ⊥ =
+    (λ e. ne_of_lt lt (t.is ∙ ap (key_at pts) (d (k % ROOM) (l % ROOM) t.has u.has (place_code-same _ _ t.known.place_in u.known.place_in e)) ∙ sym u.is)) in
+    omega (arith, t.is ∙ key_parts pts (k % ROOM), u.is ∙ key_parts pts (l % ROOM), t.known.small, u.known.small, differ))
 
 -- the same along a list
 rises_of : (pts : List Vector) (ids : List ℕ) (k : ℕ) (ks : List ℕ) → HasDistinctPoints (place pts) (λ x. In x ids)
@@ -72,8 +55,7 @@ round_of n at A flat keyed x₀ x₁ xs (y₀ ∷ ys) i j r f =
 round_keys : (pts : List Vector) (ids keys : List ℕ) (n : Vector) → Every (IsKeyOf pts ids) keys
     → IsStrictlyIncreasing keys → 1 < length keys → ((x : ℕ) → In x (ids_in keys) ↔ In x ids)
     → All (HasKey pts) ids → HasDistinctPoints (place pts) (λ x. In x ids) → IsFlat n (place pts) (λ x. In x ids)
-    → GoesRound n (place pts) (λ x. In x ids)
-    (joined (chain (turn_about n (place pts)) [] (ids_in keys))
+    → GoesRound n (place pts) (λ x. In x ids) (joined (chain (turn_about n (place pts)) [] (ids_in keys))
     (chain (turn_about n (place pts)) [] (reverse (ids_in keys))))
 round_keys pts ids [] n t r l m k d flat = absurd (omega arith)
 round_keys pts ids (a ∷ []) n t r l m k d flat = absurd (omega arith)
@@ -111,5 +93,4 @@ round_sorted pts ids sorted n b k r d l flat =
 -- each sorted id is an index
 pub sorted_indices : (pts : List Vector) (ids sorted : List ℕ) → AreByPlace pts ids sorted → All (HasKey pts) ids
     → All (λ i. i < length pts) ids → All (λ i. i < length pts) sorted
-sorted_indices pts ids sorted b k h =
-    All-of (λ i. i < length pts) sorted (λ x i. All-In (λ v. v < length pts) ids x h (sorted-only pts ids sorted b k x i))
+sorted_indices pts ids sorted b k h = All-of (λ i. i < length pts) sorted (λ x i. All-In (λ v. v < length pts) ids x h (sorted-only pts ids sorted b k x i))

@@ -15,8 +15,7 @@ front-of (v ∷ s) acc =
     let e : reverse (v ∷ s) ≡ reverse s ++ v ∷ [] = reverse-append (v ∷ []) s in
     let l : length (reverse (v ∷ s)) - 1 ≡ length (reverse s) = simp (length-reverse) (omega arith) in
     turned_onto-is s acc
-    ∙ ap (λ t. t ++ acc)
-    (sym (ap (λ t. take t (reverse (v ∷ s))) l ∙ ap (take (length (reverse s))) e
+    ∙ ap (λ t. t ++ acc) (sym (ap (λ t. take t (reverse (v ∷ s))) l ∙ ap (take (length (reverse s))) e
     ∙ take_at (reverse s) (v ∷ []) (length (reverse s)) refl))
 
 -- the same of a list that was turned round

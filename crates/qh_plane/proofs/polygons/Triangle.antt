@@ -1,26 +1,16 @@
 -- The polygon of three points that are not in line.
 use Rattle.std.proofs.Common.{◌≡◌, ◌≢◌, ℕ, ◌<◌, List, [], ◌∷◌, arith, ap, sym, subst, ◌∙◌, inl, inr, Bool, true, false, cond, refl, length, get_or}
-use Rattle.std.proofs.lemmas.Grind.{common_steps}
-use Rattle.std.proofs.lemmas.Int.{ints}
-use Rattle.std.proofs.Math.Nat.{ne_of_lt}
+use Rattle.std.proofs.{Math.Nat.ne_of_lt, lemmas.Grind.common_steps, lemmas.Int.ints}
 use Rattle.std.specs.Prelude.{ℤ, pos, neg_ℤ, ◌*ℤ◌, ◌≤ℤ◌, ◌<ℤ◌, ◌↔◌}
-use Rattle.qh_model.proofs.algebra.Order.{cancel-zero, le_less}
+use Rattle.qh_model.proofs.algebra.{Integers.zero_mul, Order.cancel-zero, Order.le_less}
 use Rattle.qh_model.proofs.algebra.VectorIdentities.{vector_path, left-dot, left-turn, left-flip, in_line-twice, in_line-last, dot_comm}
-use Rattle.qh_model.proofs.algebra.Integers.{zero_mul}
 use Rattle.qh_model.proofs.extremes.Directions.{Parallel, parallel_normal, in_line-flip, square-positive}
-use Rattle.qh_model.specs.headline.Extreme.{Extreme}
-use Rattle.qh_model.specs.headline.Polygon.{IsPolygon}
-use Rattle.qh_model.specs.headline.Predicates.{place, cross, left, AreInLine}
-use Rattle.qh_model.specs.headline.Sets.{In, Members}
-use Rattle.qh_model.specs.headline.Vector.{Vector, origin, minus, dot}
+use Rattle.qh_model.specs.headline.{Extreme.Extreme, Polygon.IsPolygon, Predicates.place, Predicates.cross, Predicates.left, Predicates.AreInLine, Sets.In}
+use Rattle.qh_model.specs.headline.{Sets.Members, Vector.Vector, Vector.origin, Vector.minus, Vector.dot}
 use Rattle.qh_plane.proofs.LinesAndPlanes.{three_line, same_point}
-use Rattle.qh_plane.proofs.polygons.Chain.{is_left-yes, is_left-no}
-use Rattle.qh_plane.proofs.polygons.ComponentTurns.{turns_agree}
-use Rattle.qh_plane.proofs.polygons.LeftCycles.{cycle_polygon, side_of, third_of}
-use Rattle.qh_plane.proofs.polygons.PlanarIds.{flat_of}
-use Rattle.qh_plane.proofs.polygons.Turns.{IsFlat}
-use Rattle.qh_plane.specs.steps.Chains.{is_left, turn_of, triangle}
-use Rattle.qh_plane.specs.contract.PlanarSets.{IsPlanarSet}
+use Rattle.qh_plane.proofs.polygons.{Chain.is_left-yes, Chain.is_left-no, ComponentTurns.turns_agree, LeftCycles.cycle_polygon, LeftCycles.side_of}
+use Rattle.qh_plane.proofs.polygons.{LeftCycles.third_of, PlanarIds.flat_of, Turns.IsFlat}
+use Rattle.qh_plane.specs.{contract.PlanarSets.IsPlanarSet, steps.Chains.is_left, steps.Chains.turn_of, steps.Chains.triangle}
 
 -- a left turn over three members from the least on is their polygon
 pub left_triangle : (n : Vector) (at : ℕ → Vector) (A : ℕ → Type 0) (a b c : ℕ) → ((x : ℕ) → A x ↔ In x (a ∷ b ∷ c ∷ []))
@@ -49,8 +39,7 @@ in_line-back a b = in_line-flip a b a (in_line-twice a b)
 -- no turn about the normal of the plane: the three are in line
 turn_zero : (n a b c : Vector) → pos 0 <ℤ dot n n → dot n (minus b a) ≡ pos 0 → dot n (minus c a) ≡ pos 0 → left n a b c ≡ pos 0 → AreInLine a b c
 turn_zero n a b c s p q z =
-    vector_path (cross a b c) origin (none n.x (cross a b c).x along.x) (none n.y (cross a b c).y along.y)
-    (none n.z (cross a b c).z along.z)
+    vector_path (cross a b c) origin (none n.x (cross a b c).x along.x) (none n.y (cross a b c).y along.y) (none n.z (cross a b c).z along.z)
   where
     along : Parallel n (cross a b c)
     along = parallel_normal n a b c p q
@@ -85,8 +74,7 @@ module _ (pts : List Vector) (n : Vector) (i j k : ℕ) (h : IsPlanarSet pts (i 
   -- so one order of them is their polygon
   pub triangle_polygon : IsPolygon (place pts) (Extreme (place pts) (Members (i ∷ j ∷ k ∷ []))) n (triangle (turn_of pts n) i j k)
   triangle_polygon = by_side (is_left (turn_of pts n i j k))
-      (sym (turns_agree pts n (λ x. In x (i ∷ j ∷ k ∷ [])) flat i j k (inl refl) (inr (inl refl))
-      (inr (inr (inl refl)))))
+      (sym (turns_agree pts n (λ x. In x (i ∷ j ∷ k ∷ [])) flat i j k (inl refl) (inr (inl refl)) (inr (inr (inl refl)))))
     where
       ik : i < k
       ik = omega arith
@@ -98,8 +86,7 @@ module _ (pts : List Vector) (n : Vector) (i j k : ℕ) (h : IsPlanarSet pts (i 
           flipped x y e l = omega (arith, ints)
 
       by_side : (b : Bool) → is_left (left n (place pts i) (place pts j) (place pts k)) ≡ b
-          → IsPolygon (place pts) (Extreme (place pts) (Members (i ∷ j ∷ k ∷ []))) n
-          (cond b (i ∷ j ∷ k ∷ []) (i ∷ k ∷ j ∷ []))
+          → IsPolygon (place pts) (Extreme (place pts) (Members (i ∷ j ∷ k ∷ []))) n (cond b (i ∷ j ∷ k ∷ []) (i ∷ k ∷ j ∷ []))
       by_side true e = left_triangle n (place pts) (Members (i ∷ j ∷ k ∷ [])) i j k (λ x. (λ m. m, λ m. m)) ij ik (ne_of_lt jk) (is_left-yes _ e)
       by_side false e = left_triangle n (place pts) (Members (i ∷ j ∷ k ∷ [])) i k j
           (λ x. (λ m. grind (arith, m), λ m. grind (arith, m))) ik ij (λ q. ne_of_lt jk (sym q))

@@ -1,12 +1,9 @@
 -- Turns of points of one plane, and the laws that they keep.
-use Rattle.std.proofs.Common.{◌∙◌, ◌≡◌, ℕ, refl, [], arith, sym, subst}
-use Rattle.std.proofs.lemmas.Int.{ints}
-use Rattle.std.specs.Prelude.{ℤ, pos, ◌+ℤ◌, neg_ℤ, ◌≤ℤ◌, ◌<ℤ◌}
-use Rattle.qh_model.proofs.algebra.Ring.{Expr, ring}
+use Rattle.std.proofs.{Common.◌∙◌, Common.◌≡◌, Common.ℕ, Common.refl, Common.[], Common.arith, Common.sym, Common.subst, lemmas.Int.ints}
+use Rattle.std.specs.Prelude.{ℤ, pos, neg_ℤ, ◌≤ℤ◌, ◌<ℤ◌}
+use Rattle.qh_model.proofs.algebra.{Ring.Expr, Ring.ring, Signs.opposite_nonneg}
 use Rattle.qh_model.proofs.algebra.VectorIdentities.{vec, subE, crossE, dotE, put, left-flip, dot-minus, left-turn}
-use Rattle.qh_model.proofs.algebra.Signs.{opposite_nonneg}
-use Rattle.qh_model.specs.headline.Vector.{Vector, minus, dot}
-use Rattle.qh_model.specs.headline.Predicates.{cross, left}
+use Rattle.qh_model.specs.headline.{Predicates.cross, Predicates.left, Vector.Vector, Vector.minus, Vector.dot}
 use Rattle.qh_plane.proofs.PlaneDirections.{bracket, bracket-fan, fan_sign, fan_sign_left}
 use Rattle.qh_plane.proofs.polygons.TurnLaws.{TurnLaws}
 
@@ -32,8 +29,7 @@ left-bracket n u v w = refl
 left-last : (n r t x : Vector) → left n r t x ≡ bracket n (minus t x) (minus t r)
 unfolding left cross
 left-last n r t x = ring (put n (put r (put t (put x []))))
-    (dotE (crossE (subE (vec 2) (vec 1)) (subE (vec 3) (vec 1))) (vec 0))
-    (dotE (crossE (subE (vec 2) (vec 3)) (subE (vec 2) (vec 1))) (vec 0)) refl
+    (dotE (crossE (subE (vec 2) (vec 1)) (subE (vec 3) (vec 1))) (vec 0)) (dotE (crossE (subE (vec 2) (vec 3)) (subE (vec 2) (vec 1))) (vec 0)) refl
 
 -- L t y x = [t - x, y - t]
 left-across : (n t y x : Vector) → left n t y x ≡ bracket n (minus t x) (minus y t)
@@ -56,13 +52,9 @@ pub left-there : (n t y : Vector) → left n t y y ≡ pos 0
 unfolding left cross
 left-there n t y = ring (put n (put t (put y []))) (dotE (crossE (subE (vec 2) (vec 1)) (subE (vec 2) (vec 1))) (vec 0)) (Expr.con (pos 0)) refl
 
--- a difference above 0
-ahead : (d a b : ℤ) → d ≡ b +ℤ neg_ℤ a → a <ℤ b → pos 0 <ℤ d
-ahead d a b e h = omega (arith, ints)
-
 -- a higher point lies ahead
 pub forward : (h u v : Vector) → dot h u <ℤ dot h v → pos 0 <ℤ dot h (minus v u)
-forward h u v k = ahead _ _ _ (dot-minus h v u) k
+forward h u v k = omega (arith, ints, dot-minus h v u)
 
 -- different ids of A have different keys
 pub record IsKeyed (h : Vector) (at : ℕ → Vector) (A : ℕ → Type 0) : Type 0 where
@@ -92,18 +84,15 @@ turn_laws n h at A flat keyed = record {
       (subst (λ v. pos 0 ≤ℤ v) (left-bracket n (at t) (at c) (at x)) l));
   onward = λ u v w y au av aw ay uv vw vy sh l. subst (λ v. pos 0 <ℤ v) (sym (left-middle n (at u) (at v) (at y)))
       (fan_sign_left (bracket n (step at u v) (step at v y)) (dot h (step at v w))
-      (bracket n (step at u v) (step at v w)) (dot h (step at v y)) (bracket n (step at v w) (step at v y))
-      (dot h (step at u v))
+      (bracket n (step at u v) (step at v w)) (dot h (step at v y)) (bracket n (step at v w) (step at v y)) (dot h (step at u v))
       (bracket-fan n h (step at u v) (step at v w) (step at v y) flat.some (flat.even u v au av) (flat.even v w av aw)
-      (flat.even v y av ay)) (fwd u v uv) (fwd v w vw) (fwd v y vy)
-      (subst (λ v. pos 0 <ℤ v) (left-middle n (at u) (at v) (at w)) sh)
+      (flat.even v y av ay)) (fwd u v uv) (fwd v w vw) (fwd v y vy) (subst (λ v. pos 0 <ℤ v) (left-middle n (at u) (at v) (at w)) sh)
       (subst (λ v. pos 0 ≤ℤ v) (left-bracket n (at v) (at w) (at y)) l));
   behind = λ r t x y ar at' ax ay xt rt ty l sh. subst (λ v. pos 0 ≤ℤ v) (sym (left-across n (at t) (at y) (at x)))
       (fan_sign (bracket n (step at x t) (step at t y)) (dot h (step at r t)) (bracket n (step at x t) (step at r t))
       (dot h (step at t y)) (bracket n (step at r t) (step at t y)) (dot h (step at x t))
       (bracket-fan n h (step at x t) (step at r t) (step at t y) flat.some (flat.even x t ax at') (flat.even r t ar at')
-      (flat.even t y at' ay)) (fwd x t xt) (fwd r t rt) (fwd t y ty)
-      (subst (λ v. pos 0 ≤ℤ v) (left-last n (at r) (at t) (at x)) l)
+      (flat.even t y at' ay)) (fwd x t xt) (fwd r t rt) (fwd t y ty) (subst (λ v. pos 0 ≤ℤ v) (left-last n (at r) (at t) (at x)) l)
       (subst (λ v. pos 0 ≤ℤ v) (left-middle n (at r) (at t) (at y)) sh));
   swap = λ t y x. left-swap n (at t) (at y) (at x);
   back = λ t y. left-back n (at t) (at y);

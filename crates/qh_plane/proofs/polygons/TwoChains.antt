@@ -3,24 +3,18 @@ use Rattle.std.proofs.Common.{◌≡◌, ℕ, refl, List, [], ◌∷◌, arith, 
 use Rattle.std.proofs.lemmas.Int.{ints, by_lt_z}
 use Rattle.std.specs.Prelude.{ℤ, pos, neg_ℤ, ◌≤ℤ◌, ◌<ℤ◌, ◌↔◌}
 use native.Mathlib.Decide.{ℕ_discrete}
-use Rattle.qh_model.proofs.algebra.Order.{le_antisym, mul-nonneg_nonpos, le_less}
-use Rattle.qh_model.proofs.algebra.Ring.{ring}
-use Rattle.qh_model.proofs.algebra.Ring.Expr.{neg}
-use Rattle.qh_model.proofs.algebra.VectorIdentities.{vec, crossE, dotE, put, opposite, oppositeE, dot-opposite}
+use Rattle.qh_model.proofs.algebra.{Order.le_antisym, Order.mul-nonneg_nonpos, Order.le_less, Ring.ring, Ring.Expr.neg}
 use Rattle.qh_model.proofs.algebra.Signs.{not_less, opposite_same, neg_le, le_neg, neg_lt, lt_neg}
-use Rattle.qh_model.specs.headline.Vector.{Vector, cross_product, dot}
-use Rattle.qh_model.specs.headline.Sets.{In, Once}
-use Rattle.qh_model.specs.headline.Extreme.{Extreme, Others}
-use Rattle.qh_model.specs.laws.Separator.{Separator}
-use Rattle.qh_model.specs.headline.Polygon.{TurnsLeft}
+use Rattle.qh_model.proofs.algebra.VectorIdentities.{vec, crossE, dotE, put, opposite, oppositeE, dot-opposite}
 use Rattle.qh_model.proofs.extremes.ExtremeIds.{combination_within, alternative_in, listed_itself}
 use Rattle.qh_model.proofs.polygons.Cycles.{AroundCycle, cycle_map}
-use Rattle.qh_plane.proofs.polygons.TurnLaws.{IsChain}
-use Rattle.qh_plane.proofs.polygons.Turns.{IsFlat, IsKeyed, turn_about, height_of, turn_laws}
-use Rattle.qh_plane.proofs.polygons.Corners.{Corner, greatest_corner, corner_extreme, core, strict}
-use Rattle.qh_plane.proofs.polygons.Sides.{Side, Down, sides, down_corner}
-use Rattle.qh_plane.proofs.polygons.Cycles.{bottom, bottom-in, cycle-of, in-turned_onto, turned_onto-in, once-turned_onto}
+use Rattle.qh_model.specs.headline.{Extreme.Extreme, Extreme.Others, Polygon.TurnsLeft, Sets.In, Sets.Once, Vector.Vector, Vector.cross_product, Vector.dot}
+use Rattle.qh_model.specs.laws.Separator.{Separator}
 use Rattle.qh_plane.proofs.polygons.ChainMembers.{Under, Inside, Span, chain-in, chain-below, chain-once, chain-bottom, under, inside, span}
+use Rattle.qh_plane.proofs.polygons.Corners.{Corner, greatest_corner, corner_extreme, core, strict}
+use Rattle.qh_plane.proofs.polygons.Cycles.{bottom, bottom-in, cycle-of, in-turned_onto, turned_onto-in, once-turned_onto}
+use Rattle.qh_plane.proofs.polygons.{Sides.Side, Sides.Down, Sides.sides, Sides.down_corner, TurnLaws.IsChain}
+use Rattle.qh_plane.proofs.polygons.Turns.{IsFlat, IsKeyed, turn_about, height_of, turn_laws}
 use Rattle.qh_plane.specs.steps.Chains.{turned_onto}
 
 -- a bracket along the opposite direction
@@ -80,16 +74,14 @@ module _ (n h : Vector) (at : ℕ → Vector) (A : ℕ → Type 0) (m a : ℕ) (
   lower_ends : bottom a s ≡ z
   lower_ends =
       let g = chain-bottom (turn_about n at) (height_of h at) A m (a ∷ s) c.lower in
-      c.keyed.same (bottom a s) z g.0 c.upper.0
-      (le_antisym _ _ (g.1 z c.upper.0)
+      c.keyed.same (bottom a s) z g.0 c.upper.0 (le_antisym _ _ (g.1 z c.upper.0)
       (neg_le _ _ _ _ (dot-opposite h (at (bottom a s))) (dot-opposite h (at z)) (c.first (bottom a s) g.0)))
 
   -- and ends where it begins
   upper_ends : bottom b r ≡ m
   upper_ends =
       let g = chain-bottom (turn_about n at) (height_of (opposite h) at) A z (b ∷ r) c.upper in
-      c.keyed.same (bottom b r) m g.0 c.lower.0
-      (le_antisym _ _ (c.last (bottom b r) g.0)
+      c.keyed.same (bottom b r) m g.0 c.lower.0 (le_antisym _ _ (c.last (bottom b r) g.0)
       (neg_le _ _ _ _ (dot-opposite h (at (bottom b r))) (dot-opposite h (at m)) (g.1 m c.lower.0)))
 
   -- the way round
@@ -124,18 +116,12 @@ module _ (n h : Vector) (at : ℕ → Vector) (A : ℕ → Type 0) (m a : ℕ) (
   corners : (x : ℕ) → In x ring_list → Corner at A x
   corners x i = ⊎_elim (λ k. down_corner n at A m (a ∷ s) lower_sides x k) (λ k. down_corner n at A z (b ∷ r) upper_sides x k) (of_chains x i)
 
-  -- an inner member of both chains would turn both ways
-  meet_sign : (x y : ℤ) → x ≡ neg_ℤ y → pos 0 ≤ℤ x → pos 0 <ℤ y → ⊥
-  meet_sign x y e h k = omega (arith, ints)
-
   meet : (v : ℕ) → A v → Under (turn_about n at) (height_of h at) A v → Inside (turn_about n at) (height_of (opposite h) at) A v → ⊥
   meet v av u i =
       let k = turn_laws n h at A c.flat c.keyed in
-      meet_sign _ _ (k.swap v i.q i.t)
-      (k.behind u.u v i.t i.q u.is av i.is_t i.is_q
-      (neg_lt _ _ _ _ (dot-opposite h (at v)) (dot-opposite h (at i.t)) i.after) u.before
-      (neg_lt _ _ _ _ (dot-opposite h (at i.q)) (dot-opposite h (at v)) i.before) (u.edge i.t i.is_t)
-      (u.edge i.q i.is_q)) i.sharp
+      let back = k.behind u.u v i.t i.q u.is av i.is_t i.is_q (neg_lt _ _ _ _ (dot-opposite h (at v)) (dot-opposite h (at i.t)) i.after) u.before
+      (neg_lt _ _ _ _ (dot-opposite h (at i.q)) (dot-opposite h (at v)) i.before) (u.edge i.t i.is_t) (u.edge i.q i.is_q) in
+      omega (arith, ints, k.swap v i.q i.t, back, i.sharp)
 
   -- no inner id is on both ways
   disjoint : (v : ℕ) → In v (a ∷ s) → In v (b ∷ r) → ⊥
@@ -144,8 +130,7 @@ module _ (n h : Vector) (at : ℕ → Vector) (A : ℕ → Type 0) (m a : ℕ) (
       let up = chain-below (turn_about n at) (height_of (opposite h) at) A z (b ∷ r) c.upper v j in
       let down = chain-below (turn_about n at) (height_of h at) A m (a ∷ s) c.lower v i in
       ⊎_elim (λ l. not_less _ _ (neg_lt _ _ _ _ (dot-opposite h (at v)) (dot-opposite h (at z)) up) (l z c.upper.0))
-      (λ u. ⊎_elim (λ l. not_less _ _ (lt_neg _ _ _ _ (dot-opposite h (at m)) (dot-opposite h (at v)) down)
-      (l m c.lower.0)) (λ k.
+      (λ u. ⊎_elim (λ l. not_less _ _ (lt_neg _ _ _ _ (dot-opposite h (at m)) (dot-opposite h (at v)) down) (l m c.lower.0)) (λ k.
       meet v av u k) (inside (turn_about n at) (height_of (opposite h) at) A z (b ∷ r) c.upper v j))
       (under (turn_about n at) (height_of h at) A m (a ∷ s) c.lower v (inr i))
 
@@ -173,16 +158,12 @@ module _ (n h : Vector) (at : ℕ → Vector) (A : ℕ → Type 0) (m a : ℕ) (
       by_lt_z (pos 0) S (λ k.
       core n (opposite h) f.w at A c.flat up.u up.v e up.is_u up.is_v ae up.before up.after
       (f.past up.u (up_in up.u up.has_u)) (f.past up.v (up_in up.v up.has_v))
-      (mul-nonneg_nonpos _ _ (up.edge e ae) (turned _ S (bracket-opposite h f.w n) k)))
+      (mul-nonneg_nonpos _ _ (up.edge e ae) (omega (arith, ints, bracket-opposite h f.w n))))
       (λ k. core n h f.w at A c.flat low.u low.v e low.is_u low.is_v ae low.before low.after
-      (f.past low.u (low_in low.u low.has_u)) (f.past low.v (low_in low.v low.has_v))
-      (mul-nonneg_nonpos _ _ (low.edge e ae) k))
+      (f.past low.u (low_in low.u low.has_u)) (f.past low.v (low_in low.v low.has_v)) (mul-nonneg_nonpos _ _ (low.edge e ae) k))
     where
       S : ℤ
       S = dot (cross_product h f.w) n
-
-      turned : (x y : ℤ) → x ≡ neg_ℤ y → pos 0 <ℤ y → x ≤ℤ pos 0
-      turned x y e h = omega (arith, ints)
 
       low_in : (x : ℕ) → In x (m ∷ a ∷ s) → In x ring_list
       low_in x (inl k) = subst (λ v. In v ring_list) (sym k) has_m
@@ -203,8 +184,7 @@ module _ (n h : Vector) (at : ℕ → Vector) (A : ℕ → Type 0) (m a : ℕ) (
   -- so each extreme is on it
   extreme_in : (e : ℕ) → Extreme at A e → In e ring_list
   extreme_in e x = ⊎_elim (λ i. i)
-      (λ out. absurd (⊎_elim
-      (λ f. x.1 (combination_within at (λ v. In v ring_list) (Others A e) (at e) f
+      (λ out. absurd (⊎_elim (λ f. x.1 (combination_within at (λ v. In v ring_list) (Others A e) (at e) f
       (λ j i. ((corners j i).member, λ k. out (subst (λ v. In v ring_list) k i)))))
       (beyond_all e x.0 out) (alternative_in at (λ v. In v ring_list) ring_list (listed_itself ring_list) (at e)))) (in_dec e ring_list)
 

@@ -1,12 +1,11 @@
 -- One corner more was taken, and the fault of what is to come is that of the rest.
+use Rattle.qh_faces.proofs.corners.take_corners.Goals as goal
 use Rattle.std.proofs.Common.{ℕ, ◌≡◌, ◌∙◌, ◌++◌, ◌+◌, ◌-◌, [], ◌∷◌, List, arith, ap, inr, rules, subst, sym}
 use Rattle.std.proofs.lemmas.Grind.{common_steps}
 use Rattle.std.specs.Prelude.{Some}
 use Rattle.qh_read.specs.declared.numerals.Numeral.{Numeral}
-use Rattle.qh_faces.specs.contract.FaceFaults.{corners_fault, number_fault}
-use Rattle.qh_faces.specs.steps.Corners.{AreTaken, IsFaultFor}
+use Rattle.qh_faces.specs.{contract.FaceFaults.corners_fault, contract.FaceFaults.number_fault, steps.Corners.AreTaken, steps.Corners.IsFaultFor}
 use Rattle.qh_faces.proofs.WordLaws.{corners-next, taken-more}
-use Rattle.qh_faces.proofs.corners.take_corners.Goals as goal
 
 pub returns-in_err-number-clause-fault : goal.returns-in_err-number-clause-fault
 returns-in_err-number-clause-fault c =

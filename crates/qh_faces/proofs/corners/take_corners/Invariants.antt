@@ -1,11 +1,10 @@
 -- The corners so far were taken, and the others of the count are to come.
+use Rattle.qh_faces.proofs.corners.take_corners.Given as goal
 use Rattle.std.proofs.Common.{ℕ, ◌≡◌, ◌-◌, List, length}
 use Rattle.std.specs.Prelude.{Option}
 use Rattle.qh_model.specs.declared.read_fault.ReadFault.{ReadFault}
 use Rattle.qh_read.specs.declared.numerals.Numeral.{Numeral}
-use Rattle.qh_faces.specs.contract.FaceFaults.{corners_fault}
-use Rattle.qh_faces.specs.steps.Corners.{AreTaken}
-use Rattle.qh_faces.proofs.corners.take_corners.Given as goal
+use Rattle.qh_faces.specs.{contract.FaceFaults.corners_fault, steps.Corners.AreTaken}
 
 abbrev pub invariant-corners : goal.invariant-corners
 invariant-corners l = record {

@@ -1,9 +1,8 @@
 -- A file that is a list of faces.
-use Rattle.std.proofs.Common.{IfErr, IfOk, Ok, Err}
-use Rattle.qh_faces.specs.contract.FaceFiles.{IsFaultOfFaces, ReadsFaces}
-use Rattle.qh_faces.specs.steps.Lists.{AreWholeFaces, IsWholeFault}
-use Rattle.qh_faces.proofs.FileLaws.{whole-fault, whole-read}
 use Rattle.qh_faces.proofs.files.read_faces.Goals as goal
+use Rattle.std.proofs.Common.{IfErr, IfOk, Ok, Err}
+use Rattle.qh_faces.specs.{contract.FaceFiles.IsFaultOfFaces, contract.FaceFiles.ReadsFaces, steps.Lists.AreWholeFaces, steps.Lists.IsWholeFault}
+use Rattle.qh_faces.proofs.FileLaws.{whole-fault, whole-read}
 
 pub returns-in-Counted-clause-read : goal.returns-in-Counted-clause-read
 returns-in-Counted-clause-read c =

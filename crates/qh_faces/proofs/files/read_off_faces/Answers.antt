@@ -1,14 +1,12 @@
 -- The list of faces stands behind the vertices.
+use Rattle.qh_faces.specs.declared.reading.Layout.TheVariants as layouts
+use Rattle.qh_faces.proofs.files.read_off_faces.Goals as goal
 use Rattle.std.proofs.Common.{ℕ, ◌≡◌, ◌∙◌, ◌+◌, ◌*◌, List, arith, ap, inl, inr, rules, subst, sym, drop}
 use Rattle.std.specs.Prelude.{Some}
 use Rattle.qh_read.specs.declared.numerals.Numeral.{Numeral}
-use Rattle.qh_faces.specs.declared.reading.Layout.{Layout}
-use Rattle.qh_faces.specs.declared.reading.Layout.TheVariants as layouts
-use Rattle.qh_faces.specs.contract.FaceFaults.{list_fault}
-use Rattle.qh_faces.specs.contract.FaceFiles.{IsFaultOfFaces, IsOffList}
-use Rattle.qh_faces.specs.steps.Lists.{behind}
+use Rattle.qh_faces.specs.contract.{FaceFaults.list_fault, FaceFiles.IsFaultOfFaces, FaceFiles.IsOffList}
+use Rattle.qh_faces.specs.{declared.reading.Layout.Layout, steps.Lists.behind}
 use Rattle.qh_faces.proofs.ListLaws.{off-list}
-use Rattle.qh_faces.proofs.files.read_off_faces.Goals as goal
 
 pub returns-in_err-polygons-clause-fault : goal.returns-in_err-polygons-clause-fault
 returns-in_err-polygons-clause-fault c =

@@ -1,13 +1,11 @@
 -- One face more was taken, and the fault of what is to come is that of the rest.
-use Rattle.std.proofs.Common.{ℕ, ◌≡◌, ◌⊎◌, ◌∙◌, ◌++◌, ◌+◌, ◌-◌, [], ◌∷◌, List, arith, ap, inl, inr, rules, subst, sym, append_assoc}
-use Rattle.std.proofs.lemmas.Grind.{common_steps}
-use Rattle.std.proofs.lemmas.List.{append-nil}
-use Rattle.std.specs.Prelude.{Some}
 use Rattle.qh_model.specs.declared.read_fault.ReadFault.TheVariants as faults
-use Rattle.qh_faces.specs.contract.FaceFaults.{faces_fault}
-use Rattle.qh_faces.specs.contract.FaceWords.{AreFaces}
-use Rattle.qh_faces.proofs.WordLaws.{faces-next}
 use Rattle.qh_faces.proofs.list.take_faces.Goals as goal
+use Rattle.std.proofs.Common.{ℕ, ◌≡◌, ◌⊎◌, ◌∙◌, ◌++◌, ◌+◌, ◌-◌, [], ◌∷◌, List, arith, ap, inl, inr, rules, subst, sym, append_assoc}
+use Rattle.std.proofs.lemmas.{Grind.common_steps, List.append-nil}
+use Rattle.std.specs.Prelude.{Some}
+use Rattle.qh_faces.specs.contract.{FaceFaults.faces_fault, FaceWords.AreFaces}
+use Rattle.qh_faces.proofs.WordLaws.{faces-next}
 
 pub returns-in_err-face-clause-fault : goal.returns-in_err-face-clause-fault
 returns-in_err-face-clause-fault c =

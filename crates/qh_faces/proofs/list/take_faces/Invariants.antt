@@ -1,8 +1,7 @@
 -- Whatever faces are to come, the first ones are those so far; the others of the count are to come.
-use Rattle.std.proofs.Common.{ℕ, ◌≡◌, ◌-◌, ◌++◌, List, length}
-use Rattle.qh_faces.specs.contract.FaceFaults.{faces_fault}
-use Rattle.qh_faces.specs.contract.FaceWords.{AreFaces}
 use Rattle.qh_faces.proofs.list.take_faces.Given as goal
+use Rattle.std.proofs.Common.{ℕ, ◌≡◌, ◌-◌, ◌++◌, List, length}
+use Rattle.qh_faces.specs.contract.{FaceFaults.faces_fault, FaceWords.AreFaces}
 
 abbrev pub invariant-faces : goal.invariant-faces
 invariant-faces l = record {

@@ -1,9 +1,8 @@
+use Rattle.qh_faces.proofs.list.take_list.Goals as goal
 use Rattle.std.proofs.Common.{◌≡◌, ◌∙◌, drop, rules}
 use Rattle.std.specs.Prelude.{Some}
-use Rattle.qh_faces.specs.contract.FaceFaults.{faces_fault, list_fault}
-use Rattle.qh_faces.specs.steps.Lists.{behind}
+use Rattle.qh_faces.specs.{contract.FaceFaults.faces_fault, contract.FaceFaults.list_fault, steps.Lists.behind}
 use Rattle.qh_faces.proofs.ListLaws.{behind-fault}
-use Rattle.qh_faces.proofs.list.take_list.Goals as goal
 
 pub returns-in_err-count-clause-fault : goal.returns-in_err-count-clause-fault
 returns-in_err-count-clause-fault c =

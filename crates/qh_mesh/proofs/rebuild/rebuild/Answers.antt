@@ -1,9 +1,8 @@
 -- What the steps before leave is what the last ones need, and together they are a replacement.
-use Rattle.std.proofs.Common.{arith}
-use Rattle.std.proofs.lemmas.List.{with_items_is}
+use Rattle.qh_mesh.proofs.rebuild.rebuild.Goals as goal
+use Rattle.std.proofs.{Common.arith, lemmas.List.with_items_is}
 use Rattle.qh_mesh.specs.steps.Rebuilt.{IsConed}
 use Rattle.qh_mesh.proofs.Replacing.{is_ready, rebuilt}
-use Rattle.qh_mesh.proofs.rebuild.rebuild.Goals as goal
 
 pub close-requires : goal.close-requires
 close-requires c = rw (c.as_mut_slice.ensures.value, c.as_slice-2.ensures.value, c.as_slice-3.ensures.value)

@@ -1,12 +1,10 @@
-use Rattle.std.proofs.Common.{rules, ◌≡◌, ◌∙◌, ℕ, ◌+◌, ◌<◌, [], ◌∷◌, ◌++◌, length, set}
-use Rattle.std.proofs.Common.{arith, ap, sym, subst, Vec, Global}
+use Rattle.qh_plane.proofs.close_points.distinct_by_slots.Goals as goal
+use Rattle.std.proofs.Common.{rules, ◌≡◌, ◌∙◌, ℕ, ◌+◌, ◌<◌, [], ◌∷◌, ◌++◌, length, set, arith, ap, sym, subst, Vec, Global}
 use Rattle.std.proofs.lemmas.List.{get_or_read}
 use Rattle.qh_model.specs.headline.Predicates.{place}
-use Rattle.qh_plane.specs.declared.close_points.TheConstants.{NO_ID}
-use Rattle.qh_plane.specs.steps.CloseBoxes.{slot_of, slot_at, AreSeen}
+use Rattle.qh_plane.specs.{declared.close_points.TheConstants.NO_ID, steps.CloseBoxes.slot_of, steps.CloseBoxes.slot_at, steps.CloseBoxes.AreSeen}
 use Rattle.qh_plane.proofs.SeenPlaces.{point_read, seen_id, new_seen, again_seen, all_seen}
 use Rattle.qh_plane.proofs.close_points.distinct_by_slots.Goals.{then-index+in_ok-push, else-index+else-not-same_point}
-use Rattle.qh_plane.proofs.close_points.distinct_by_slots.Goals as goal
 
 pub bounds-pts-index : goal.bounds-pts-index
 bounds-pts-index c =
@@ -44,8 +42,7 @@ loop-number-preserved c =
           ∙ w.same_point.ensures.0 w.if-not-same_point.false
           ∙ point_read pts k w.index-pts-number-else-index.result within w.index-pts-number-else-index.is in
           let next = again_seen pts b slots k ids old within c.requires.few i (subst (λ n. slot_at slots n ≡ i) at (sym read)) below same in
-          subst (λ xs. AreSeen pts b xs (k + 1) c.if-index.ids.items)
-          (sym (ap (λ (v : Vec ℕ Global). v.items) w.slots-is))
+          subst (λ xs. AreSeen pts b xs (k + 1) c.if-index.ids.items) (sym (ap (λ (v : Vec ℕ Global). v.items) w.slots-is))
           (subst (λ xs. AreSeen pts b slots (k + 1) xs) (sym (ap (λ (v : Vec ℕ Global). v.items) w.ids-is)) next)
     ]
 

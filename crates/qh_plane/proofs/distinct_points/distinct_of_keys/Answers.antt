@@ -1,22 +1,17 @@
-use Rattle.std.proofs.Common.{ap, sym, ◌∙◌, subst, length, ◌≤◌, replicate, false}
-use Rattle.std.proofs.lemmas.List.{length-replicate}
-use Rattle.std.proofs.lemmas.Result.{IfOk-weaker}
-use Rattle.qh_model.specs.declared.limits.TheConstants.{POINT_LIMIT}
-use Rattle.qh_model.specs.headline.DistinctIds.{AreDistinctIds}
-use Rattle.qh_plane.proofs.MarkedIds.{length-marked}
-use Rattle.qh_plane.proofs.PlaceLists.{places_within, distinct_places}
-use Rattle.qh_plane.specs.declared.distinct_points.TheConstants.{NO_PLACE}
-use Rattle.qh_plane.specs.declared.place_keys.TheConstants.{ROOM}
-use Rattle.qh_plane.specs.steps.Marks.{place_starts, marked_ids}
 use Rattle.qh_plane.proofs.distinct_points.distinct_of_keys.Goals as goal
+use Rattle.std.proofs.Common.{ap, sym, ◌∙◌, subst, length, ◌≤◌, replicate, false}
+use Rattle.std.proofs.lemmas.{List.length-replicate, Result.IfOk-weaker}
+use Rattle.qh_model.specs.{declared.limits.TheConstants.POINT_LIMIT, headline.DistinctIds.AreDistinctIds}
+use Rattle.qh_plane.proofs.{MarkedIds.length-marked, PlaceLists.places_within, PlaceLists.distinct_places}
+use Rattle.qh_plane.specs.declared.{distinct_points.TheConstants.NO_PLACE, place_keys.TheConstants.ROOM}
+use Rattle.qh_plane.specs.steps.Marks.{place_starts, marked_ids}
 
 pub mark_first_ids-requires : goal.mark_first_ids-requires
 mark_first_ids-requires c = places_within c.args.pts.now c.args.keys.now c.requires.keys c.requires.sorted
 
 pub marked_ids-requires : goal.marked_ids-requires
 marked_ids-requires c =
-    subst (λ v. v ≤ POINT_LIMIT)
-    (sym (ap length (c.deref.ensures.value ∙ c.in_ok-marks.ensures)
+    subst (λ v. v ≤ POINT_LIMIT) (sym (ap length (c.deref.ensures.value ∙ c.in_ok-marks.ensures)
     ∙ length-marked ROOM (replicate (length c.args.pts.now) false) (place_starts ROOM NO_PLACE c.args.keys.now)
     ∙ length-replicate (length c.args.pts.now) false))
     c.requires.few

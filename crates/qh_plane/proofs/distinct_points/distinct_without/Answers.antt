@@ -1,11 +1,9 @@
-use Rattle.std.proofs.Common.{ap, sym, ◌∙◌, subst, length, ◌≤◌, ◌<◌}
-use Rattle.std.proofs.lemmas.Result.{IfOk-weaker}
+use Rattle.qh_plane.proofs.distinct_points.distinct_without.Goals as goal
+use Rattle.std.proofs.{Common.ap, Common.sym, Common.◌∙◌, Common.subst, Common.length, Common.◌≤◌, Common.◌<◌, lemmas.Result.IfOk-weaker}
 use Rattle.qh_model.proofs.Members.{All-of}
-use Rattle.qh_model.specs.declared.limits.TheConstants.{POINT_LIMIT}
-use Rattle.qh_model.specs.headline.DistinctIds.{AreDistinctIds}
+use Rattle.qh_model.specs.{declared.limits.TheConstants.POINT_LIMIT, headline.DistinctIds.AreDistinctIds}
 use Rattle.qh_plane.proofs.RepeatedIds.{distinct_left}
 use Rattle.qh_plane.specs.steps.Marks.{marked_ids}
-use Rattle.qh_plane.proofs.distinct_points.distinct_without.Goals as goal
 
 pub marks_without-requires : goal.marks_without-requires
 marks_without-requires c = All-of (λ i. i < length c.args.pts.now) c.args.repeats.now (λ i m. (c.requires.repeats.only i m).0)
@@ -15,7 +13,6 @@ marked_ids-requires c = subst (λ v. v ≤ POINT_LIMIT) (sym (ap length c.deref.
 
 pub returns : goal.returns
 returns c =
-    IfOk-weaker c.marked_ids.result _ _
-    (λ v e. subst (AreDistinctIds c.args.pts.now) (sym (e ∙ ap (marked_ids 0) c.deref.ensures.value))
+    IfOk-weaker c.marked_ids.result _ _ (λ v e. subst (AreDistinctIds c.args.pts.now) (sym (e ∙ ap (marked_ids 0) c.deref.ensures.value))
     (distinct_left c.args.pts.now c.args.repeats.now c.in_ok-marks.marks.items c.requires.repeats c.in_ok-marks.ensures))
     c.marked_ids.ensures

@@ -1,8 +1,6 @@
-use Rattle.std.proofs.Common.{◌≡◌, length, drop, replicate, false}
-use Rattle.qh_plane.specs.declared.distinct_points.TheConstants.{NO_PLACE}
-use Rattle.qh_plane.specs.declared.place_keys.TheConstants.{ROOM}
-use Rattle.qh_plane.specs.steps.Marks.{marked, place_starts}
 use Rattle.qh_plane.proofs.distinct_points.mark_first_ids.Given as goal
+use Rattle.std.proofs.Common.{◌≡◌, length, drop, replicate, false}
+use Rattle.qh_plane.specs.{declared.distinct_points.TheConstants.NO_PLACE, declared.place_keys.TheConstants.ROOM, steps.Marks.marked, steps.Marks.place_starts}
 
 abbrev pub invariant-loop-key : goal.invariant-loop-key
 invariant-loop-key l = record {

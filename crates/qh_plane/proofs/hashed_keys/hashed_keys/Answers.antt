@@ -1,9 +1,8 @@
+use Rattle.qh_plane.proofs.hashed_keys.hashed_keys.Goals as goal
 use Rattle.std.proofs.Common.{◌≡◌, ◌∙◌, ◌+◌, ◌*◌, ◌∷◌, ◌++◌, [], ap, sym, subst}
-use Rattle.qh_plane.proofs.KeysBelow.{no_keys, key_added}
-use Rattle.qh_plane.proofs.SeenPlaces.{point_read}
+use Rattle.qh_plane.proofs.{KeysBelow.no_keys, KeysBelow.key_added, SeenPlaces.point_read}
 use Rattle.qh_plane.specs.declared.hashed_keys.TheConstants.{ID_ROOM}
 use Rattle.qh_plane.specs.steps.HashedKeys.{place_hash, hashed_key_at, AllHashes, AreKeysBelow}
-use Rattle.qh_plane.proofs.hashed_keys.hashed_keys.Goals as goal
 
 pub loop-number-init : goal.loop-number-init
 loop-number-init c = rw c.in_ok-keys.ensures.items (no_keys c.args.pts.now AllHashes)

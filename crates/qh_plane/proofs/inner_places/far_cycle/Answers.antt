@@ -1,10 +1,9 @@
 -- What is put onto the cycle is one of the ids.
+use Rattle.qh_plane.proofs.inner_places.far_cycle.Goals as goal
 use Rattle.std.proofs.Common.{◌∷◌, [], ⊎_elim, subst, sym}
-use Rattle.qh_model.proofs.hulls.ExtremeParts.{part_indices}
-use Rattle.qh_model.proofs.lists.Joined.{of_append}
+use Rattle.qh_model.proofs.{hulls.ExtremeParts.part_indices, lists.Joined.of_append}
 use Rattle.qh_model.specs.headline.Sets.{In}
 use Rattle.qh_plane.proofs.inner_places.far_cycle.Goals.{then-ne+in_ok-push, else-ne}
-use Rattle.qh_plane.proofs.inner_places.far_cycle.Goals as goal
 
 pub loop-direction-preserved : goal.loop-direction-preserved
 loop-direction-preserved c i m = elim c.if-ne.branch [
@@ -15,5 +14,4 @@ loop-direction-preserved c i m = elim c.if-ne.branch [
 ]
 
 pub returns-clause-indices : goal.returns-clause-indices
-returns-clause-indices c =
-    part_indices c.args.pts.now c.args.ids.now c.loop-direction.cycle.items c.requires.indices c.loop-direction.invariant
+returns-clause-indices c = part_indices c.args.pts.now c.args.ids.now c.loop-direction.cycle.items c.requires.indices c.loop-direction.invariant

@@ -1,8 +1,7 @@
 -- The ids so far are kept where their points are outside.
-use Rattle.std.proofs.Common.{◌≡◌, filter, take}
-use Rattle.qh_plane.specs.steps.Chains.{turn_of}
-use Rattle.qh_plane.specs.steps.InnerPlaces.{is_outside}
 use Rattle.qh_plane.proofs.inner_places.ids_outside.Given as goal
+use Rattle.std.proofs.Common.{◌≡◌, filter, take}
+use Rattle.qh_plane.specs.steps.{Chains.turn_of, InnerPlaces.is_outside}
 
 -- what is kept is a filter of what was looked at
 abbrev pub invariant-loop-id : goal.invariant-loop-id

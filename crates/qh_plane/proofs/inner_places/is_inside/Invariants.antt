@@ -1,9 +1,8 @@
 -- The point is to the left of the sides so far; those to come tell.
+use Rattle.qh_plane.proofs.inner_places.is_inside.Given as goal
 use Rattle.std.proofs.Common.{◌≡◌, ◌<◌, length, drop, get_or}
 use Rattle.qh_model.specs.contract.IdSets.{AreIndices}
-use Rattle.qh_plane.specs.steps.Chains.{turn_of}
-use Rattle.qh_plane.specs.steps.InnerPlaces.{is_left_along, is_inside}
-use Rattle.qh_plane.proofs.inner_places.is_inside.Given as goal
+use Rattle.qh_plane.specs.steps.{Chains.turn_of, InnerPlaces.is_left_along, InnerPlaces.is_inside}
 
 -- the sides that are not looked at tell the answer
 abbrev pub invariant-loop-to : goal.invariant-loop-to

@@ -1,14 +1,11 @@
 -- What is kept is of the set, and passes a test that all extreme ids pass.
-use Rattle.std.proofs.Common.{sym, subst}
-use Rattle.std.proofs.lemmas.List.Kept.{IsStrictlyIncreasing-filter}
+use Rattle.qh_plane.proofs.inner_places.outer_ids.Goals as goal
+use Rattle.std.proofs.{Common.sym, Common.subst, lemmas.List.Kept.IsStrictlyIncreasing-filter}
 use Rattle.std.specs.List.Sorted.{IsStrictlyIncreasing}
-use Rattle.qh_model.proofs.hulls.ExtremeParts.{part_indices}
-use Rattle.qh_model.proofs.lists.Filters.{of_filter}
+use Rattle.qh_model.proofs.{hulls.ExtremeParts.part_indices, lists.Filters.of_filter}
 use Rattle.qh_model.specs.headline.Sets.{In}
 use Rattle.qh_plane.proofs.InnerPlaces.{extreme_left}
-use Rattle.qh_plane.specs.steps.Chains.{turn_of}
-use Rattle.qh_plane.specs.steps.InnerPlaces.{is_outside}
-use Rattle.qh_plane.proofs.inner_places.outer_ids.Goals as goal
+use Rattle.qh_plane.specs.steps.{Chains.turn_of, InnerPlaces.is_outside}
 
 pub returns-clause-indices : goal.returns-clause-indices
 returns-clause-indices c =

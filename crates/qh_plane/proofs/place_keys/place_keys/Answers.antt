@@ -1,15 +1,13 @@
-use Rattle.std.proofs.Common.{ap, ◌∙◌, subst, arith}
-use Rattle.std.proofs.lemmas.List.Elements.{All-more}
+use Rattle.qh_plane.proofs.place_keys.place_keys.Goals as goal
+use Rattle.std.proofs.{Common.ap, Common.◌∙◌, Common.subst, Common.arith, lemmas.List.Elements.All-more}
 use Rattle.qh_model.specs.contract.Places.{IsPlace}
 use Rattle.qh_model.proofs.lists.Images.{map-more}
 use Rattle.qh_plane.specs.steps.PlaceKeys.{place_key, HasKey, key_at}
-use Rattle.qh_plane.proofs.place_keys.place_keys.Goals as goal
 
 pub loop-id-preserved : goal.loop-id-preserved
 loop-id-preserved c = record {
   value = c.in_ok-push.ensures.items
-      ∙ map-more (key_at c.args.pts.now) c.args.ids.now c.loop-id.id-index c.id-item.result _ _
-      (omega arith) c.loop-id.invariant.value
+      ∙ map-more (key_at c.args.pts.now) c.args.ids.now c.loop-id.id-index c.id-item.result _ _ (omega arith) c.loop-id.invariant.value
       (c.place_key.ensures.value ∙ ap (λ p. place_key p c.id-item.result) c.point_at.ensures ∙ ap (key_at c.args.pts.now) c.id-item.is);
   known = All-more (HasKey c.args.pts.now) c.args.ids.now c.loop-id.id-index c.id-item.result (omega arith) c.loop-id.invariant.known
       (subst (HasKey c.args.pts.now) c.id-item.is

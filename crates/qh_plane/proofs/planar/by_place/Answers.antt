@@ -1,11 +1,8 @@
-use Rattle.std.proofs.Common.{ap, ◌∙◌, subst, sym, arith}
-use Rattle.std.proofs.lemmas.List.{take_all}
-use Rattle.std.proofs.lemmas.List.Sorted.{IsNonDecreasingBy-from_sort}
-use Rattle.std.specs.Prelude.{IsPermutation}
-use Rattle.std.specs.List.Sorted.{IsNonDecreasing}
+use Rattle.qh_plane.proofs.planar.by_place.Goals as goal
+use Rattle.std.proofs.{Common.ap, Common.◌∙◌, Common.subst, Common.sym, Common.arith, lemmas.List.take_all, lemmas.List.Sorted.IsNonDecreasingBy-from_sort}
+use Rattle.std.specs.{List.Sorted.IsNonDecreasing, Prelude.IsPermutation}
 use Rattle.qh_plane.proofs.polygons.SortedPlaces.{sorted_indices}
 use Rattle.qh_plane.specs.steps.PlaceKeys.{ids_in}
-use Rattle.qh_plane.proofs.planar.by_place.Goals as goal
 
 pub returns-clause-order : goal.returns-clause-order
 returns-clause-order c = record {

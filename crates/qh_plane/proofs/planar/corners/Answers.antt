@@ -1,11 +1,8 @@
 -- The cycle over the two chains goes round the extremes, and is turned to its least.
-use Rattle.std.proofs.Common.{◌<◌, ◌≤◌, ℕ, length, get_or, sym, subst}
-use Rattle.qh_model.specs.headline.Predicates.{place}
-use Rattle.qh_model.specs.headline.Sets.{Members}
-use Rattle.qh_plane.proofs.polygons.GoesRound.{GoesRound}
-use Rattle.qh_plane.proofs.polygons.LeastFirst.{polygon_of}
-use Rattle.qh_plane.proofs.polygons.SortedPlaces.{round_sorted}
 use Rattle.qh_plane.proofs.planar.corners.Goals as goal
+use Rattle.std.proofs.Common.{◌<◌, ◌≤◌, ℕ, length, get_or, sym, subst}
+use Rattle.qh_model.specs.headline.{Predicates.place, Sets.Members}
+use Rattle.qh_plane.proofs.polygons.{GoesRound.GoesRound, LeastFirst.polygon_of, SortedPlaces.round_sorted}
 
 pub returns : goal.returns
 returns c = λ h.

@@ -12,7 +12,6 @@ returns c =
     ∙ sym (fronts c.in_ok-there.there.items c.in_ok-back.back.items)
     ∙ ap (λ t. joined t (reverse c.in_ok-back.back.items))
     (c.in_ok-there.ensures ∙ ap (chain (turn_of c.args.pts.now c.args.normal.now) []) c.deref.ensures.value)
-    ∙ ap (λ t. joined (chain (turn_of c.args.pts.now c.args.normal.now) [] c.args.sorted.items) t)
-    (c.in_ok-back.ensures
+    ∙ ap (λ t. joined (chain (turn_of c.args.pts.now c.args.normal.now) [] c.args.sorted.items) t) (c.in_ok-back.ensures
     ∙ ap (chain (turn_of c.args.pts.now c.args.normal.now) []) (c.deref-2.ensures.value ∙ c.reverse.ensures.items)))
     c.joined.ensures

@@ -1,14 +1,11 @@
 -- The polygon of three or four ids by their turns, of more by their corners, of many without those inside.
+use Rattle.qh_plane.proofs.planar.polygon.Goals as goal
 use Rattle.std.proofs.Common.{ℕ}
 use Rattle.std.specs.List.Sorted.{IsStrictlyIncreasing}
-use Rattle.qh_model.specs.headline.Extreme.{Extreme}
-use Rattle.qh_model.specs.headline.Predicates.{place}
-use Rattle.qh_model.specs.headline.Sets.{In, Members}
+use Rattle.qh_model.specs.headline.{Extreme.Extreme, Predicates.place, Sets.In, Sets.Members}
 use Rattle.qh_plane.specs.contract.PlanarSets.{IsPlanarSet}
 use Rattle.qh_plane.proofs.InnerPlaces.{planar_flat, outer_flat, outer_polygon}
-use Rattle.qh_plane.proofs.polygons.Quadrilateral.{polygon_of_four}
-use Rattle.qh_plane.proofs.polygons.Triangle.{polygon_of_three}
-use Rattle.qh_plane.proofs.planar.polygon.Goals as goal
+use Rattle.qh_plane.proofs.polygons.{Quadrilateral.polygon_of_four, Triangle.polygon_of_three}
 
 pub returns-then-ids-eq3 : goal.returns-then-ids-eq3
 returns-then-ids-eq3 c = λ h.
@@ -21,8 +18,7 @@ returns-in-Some c = λ h.
     let i = c.index-ids-0-then-ids-eq4 in let j = c.index-ids-1-then-ids-eq4 in
     let k = c.index-ids-2-then-ids-eq4 in let l = c.index-ids-3 in
     polygon_of_four c.args.pts.now c.args.ids.now c.args.normal.now i.result j.result k.result l.result c.of.result
-    c.if-ids-eq4.true i.is j.is k.is l.is
-    (rw (c.of.ensures, c.in_ok-from_slice.ensures.items) c.in-Some.ensures) h
+    c.if-ids-eq4.true i.is j.is k.is l.is (rw (c.of.ensures, c.in_ok-from_slice.ensures.items) c.in-Some.ensures) h
 
 pub returns-in_ok-corners-in-Some-2 : goal.returns-in_ok-corners-in-Some-2
 returns-in_ok-corners-in-Some-2 c = λ h.

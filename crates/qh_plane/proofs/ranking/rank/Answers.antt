@@ -15,5 +15,4 @@ returns-in-None-clause-dimension c = λ h.
 pub returns-in-Some-first_off_plane-clause-dimension : goal.returns-in-Some-first_off_plane-clause-dimension
 returns-in-Some-first_off_plane-clause-dimension c = λ h.
     solid c.args.pts.now c.args.ids.now c.index-ids-0-2.result c.index-ids-1.result c.in-Some.k
-    c.in-Some-first_off_plane.l (first_two _ _ _ (omega arith) c.index-ids-0-2.is c.index-ids-1.is) (search rules)
-    (search rules)
+    c.in-Some-first_off_plane.l (first_two _ _ _ (omega arith) c.index-ids-0-2.is c.index-ids-1.is) (search rules) (search rules)

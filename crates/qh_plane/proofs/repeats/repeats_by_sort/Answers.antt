@@ -1,11 +1,8 @@
+use Rattle.qh_plane.proofs.repeats.repeats_by_sort.Goals as goal
 use Rattle.std.proofs.Common.{◌∙◌, IsPermutation, subst}
-use Rattle.std.proofs.lemmas.List.{take_at}
-use Rattle.std.proofs.lemmas.List.Sorted.{IsNonDecreasingBy-from_sort}
-use Rattle.std.proofs.lemmas.Option.{IfSome_then}
-use Rattle.std.proofs.lemmas.Result.{IfOk-weaker}
+use Rattle.std.proofs.lemmas.{List.take_at, List.Sorted.IsNonDecreasingBy-from_sort, Option.IfSome_then, Result.IfOk-weaker}
 use Rattle.qh_plane.proofs.PlaceLists.{sorted_within, sorted_repeats}
 use Rattle.qh_plane.specs.steps.HashedKeys.{AllHashes}
-use Rattle.qh_plane.proofs.repeats.repeats_by_sort.Goals as goal
 
 pub repeats_told-requires : goal.repeats_told-requires
 repeats_told-requires g c =

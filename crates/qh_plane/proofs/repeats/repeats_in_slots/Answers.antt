@@ -1,11 +1,8 @@
-use Rattle.std.proofs.Common.{arith, sym, subst, length}
-use Rattle.std.proofs.lemmas.List.Sorted.{IsNonDecreasingBy-from_sort}
-use Rattle.std.proofs.lemmas.Option.{IfSome_then}
-use Rattle.std.proofs.lemmas.Result.{IfOk-weaker}
-use Rattle.qh_plane.proofs.PlaceLists.{sorted_within, sorted_repeats}
-use Rattle.qh_plane.proofs.SharedSlots.{all_in_slots}
-use Rattle.qh_plane.specs.steps.SharedSlots.{MarkedHashes, AreShared}
 use Rattle.qh_plane.proofs.repeats.repeats_in_slots.Goals as goal
+use Rattle.std.proofs.Common.{arith, sym, subst, length}
+use Rattle.std.proofs.lemmas.{List.Sorted.IsNonDecreasingBy-from_sort, Option.IfSome_then, Result.IfOk-weaker}
+use Rattle.qh_plane.proofs.{PlaceLists.sorted_within, PlaceLists.sorted_repeats, SharedSlots.all_in_slots}
+use Rattle.qh_plane.specs.steps.SharedSlots.{MarkedHashes, AreShared}
 
 pub repeats_told-requires : goal.repeats_told-requires
 repeats_told-requires c =

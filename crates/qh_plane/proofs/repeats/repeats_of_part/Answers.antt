@@ -1,9 +1,7 @@
-use Rattle.std.proofs.lemmas.List.Sorted.{IsNonDecreasingBy-from_sort}
-use Rattle.std.proofs.lemmas.Option.{IfSome_then}
-use Rattle.std.proofs.lemmas.Result.{IfOk-weaker}
+use Rattle.qh_plane.proofs.repeats.repeats_of_part.Goals as goal
+use Rattle.std.proofs.lemmas.{List.Sorted.IsNonDecreasingBy-from_sort, Option.IfSome_then, Result.IfOk-weaker}
 use Rattle.qh_plane.proofs.PlaceLists.{sorted_within, sorted_repeats}
 use Rattle.qh_plane.specs.steps.HashedKeys.{PartHashes}
-use Rattle.qh_plane.proofs.repeats.repeats_of_part.Goals as goal
 
 pub repeats_told-requires : goal.repeats_told-requires
 repeats_told-requires c =

@@ -1,11 +1,9 @@
-use Rattle.std.proofs.Common.{◌≡◌, ◌∙◌, ℕ, ◌+◌, ◌*◌, ◌∷◌, ◌++◌, [], true, false, ap, sym, subst, Vec, Global}
-use Rattle.qh_plane.proofs.KeysBelow.{key_added, key_left_out}
-use Rattle.qh_plane.proofs.SeenPlaces.{point_read}
-use Rattle.qh_plane.specs.declared.hashed_keys.TheConstants.{ID_ROOM}
-use Rattle.qh_plane.specs.steps.HashedKeys.{Hashes, place_hash, hash_at, AreKeysBelow}
-use Rattle.qh_plane.specs.steps.SharedSlots.{MarkedHashes}
-use Rattle.qh_plane.proofs.shared_slots.keys_in_slots.Goals.{then-is_marked+in_ok-push, else-is_marked}
 use Rattle.qh_plane.proofs.shared_slots.keys_in_slots.Goals as goal
+use Rattle.std.proofs.Common.{◌≡◌, ◌∙◌, ℕ, ◌+◌, ◌*◌, ◌∷◌, ◌++◌, [], true, false, ap, sym, subst, Vec, Global}
+use Rattle.qh_plane.proofs.{KeysBelow.key_added, KeysBelow.key_left_out, SeenPlaces.point_read}
+use Rattle.qh_plane.proofs.shared_slots.keys_in_slots.Goals.{then-is_marked+in_ok-push, else-is_marked}
+use Rattle.qh_plane.specs.declared.hashed_keys.TheConstants.{ID_ROOM}
+use Rattle.qh_plane.specs.steps.{HashedKeys.Hashes, HashedKeys.place_hash, HashedKeys.hash_at, HashedKeys.AreKeysBelow, SharedSlots.MarkedHashes}
 
 clash : true ≡ false → ⊥
 clash e = cc
@@ -18,8 +16,7 @@ loop-number-preserved c =
     ∙ ap place_hash (point_read pts n c.index-pts-number.result c.loop-number-test.true c.index-pts-number.is) in
     elim c.if-is_marked.branch [
       | then-is_marked+in_ok-push w ↦
-          subst (AreKeysBelow pts some (n + 1))
-          (sym (ap (λ (v : Vec ℕ Global). v.items) w.keys-is ∙ w.in_ok-push.ensures.items
+          subst (AreKeysBelow pts some (n + 1)) (sym (ap (λ (v : Vec ℕ Global). v.items) w.keys-is ∙ w.in_ok-push.ensures.items
           ∙ ap (λ k. keys ++ k ∷ []) (w.key_of.ensures ∙ ap (λ h. h * ID_ROOM + n) hash)))
           (key_added pts some n keys before (subst some hash (c.is_marked.ensures.0 w.if-is_marked.true)))
       | else-is_marked w ↦

@@ -1,10 +1,8 @@
+use Rattle.qh_plane.proofs.shared_slots.shared_slots.Goals as goal
 use Rattle.std.proofs.Common.{◌≡◌, ◌∙◌, ◌<◌, ◌+◌, ◌*◌, ◌||◌, false, true, length, set, ap, sym, subst, get_or}
 use Rattle.std.proofs.lemmas.List.{get_or_read, length-set}
-use Rattle.qh_plane.proofs.SeenPlaces.{point_read}
-use Rattle.qh_plane.proofs.SharedSlots.{taken_more, shared_more}
-use Rattle.qh_plane.specs.steps.HashedKeys.{place_hash, hash_at}
-use Rattle.qh_plane.specs.steps.SharedSlots.{slot_in, AreShared}
-use Rattle.qh_plane.proofs.shared_slots.shared_slots.Goals as goal
+use Rattle.qh_plane.proofs.{SeenPlaces.point_read, SharedSlots.taken_more, SharedSlots.shared_more}
+use Rattle.qh_plane.specs.steps.{HashedKeys.place_hash, HashedKeys.hash_at, SharedSlots.slot_in, SharedSlots.AreShared}
 
 pub loop-point-preserved : goal.loop-point-preserved
 loop-point-preserved c =

@@ -1,10 +1,8 @@
-use Rattle.std.proofs.Common.{◌∙◌, ap, FitsSigned}
-use Rattle.std.proofs.lemmas.Cmp.{int_ranked}
-use Rattle.std.proofs.lemmas.Int.{to_z-of_z}
+use Rattle.qh_pred.proofs.components.product_sign.Goals as goal
+use Rattle.std.proofs.{Common.◌∙◌, Common.ap, Common.FitsSigned, lemmas.Cmp.int_ranked, lemmas.Int.to_z-of_z}
 use Rattle.std.specs.Prelude.{pos, ◌<ℤ◌}
 use Rattle.qh_pred.specs.contract.Turns.{sign}
 use Rattle.qh_pred.proofs.Turns.{sign-mul}
-use Rattle.qh_pred.proofs.components.product_sign.Goals as goal
 use mir.Syntax.{w64}
 
 pub returns-in-Greater : goal.returns-in-Greater

@@ -1,8 +1,6 @@
-use Rattle.std.proofs.Common.{◌≡◌, rules, FitsSigned, ◌∙◌, refl}
-use Rattle.std.proofs.lemmas.Int.{to_z-of_z}
-use Rattle.qh_model.specs.headline.Vector.{Vector, dot, minus}
-use Rattle.qh_model.specs.headline.Predicates.{cross, vol}
 use Rattle.qh_pred.proofs.predicates.vol.Goals as goal
+use Rattle.std.proofs.{Common.◌≡◌, Common.rules, Common.FitsSigned, Common.◌∙◌, Common.refl, lemmas.Int.to_z-of_z}
+use Rattle.qh_model.specs.headline.{Predicates.cross, Predicates.vol, Vector.Vector, Vector.dot, Vector.minus}
 use mir.Syntax.{w128}
 
 -- the volume is the normal's product with the way to the fourth point

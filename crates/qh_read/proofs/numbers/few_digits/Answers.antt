@@ -1,18 +1,11 @@
-use Rattle.std.proofs.Common.{arith, ◌≡◌, ◌≤◌, ◌<◌, ◌+◌, ◌-◌, ◌*◌, ◌∙◌, ◌∷◌, ℕ}
-use Rattle.std.proofs.Common.{Bool, List, true, drop, take, length, slice_index_or, ap, add-one, drop-cons, refl}
-use Rattle.std.proofs.lemmas.Grind.{common_steps}
-use Rattle.std.proofs.lemmas.List.{take_rest}
-use Rattle.std.proofs.lemmas.Bool.Decides.{nat_tests}
+use Rattle.qh_read.proofs.numbers.few_digits.Goals as goal
+use Rattle.std.proofs.Common.{arith, ◌≡◌, ◌≤◌, ◌<◌, ◌+◌, ◌-◌, ◌*◌, ◌∙◌, ◌∷◌, ℕ, Bool, List, true, drop, take, length, slice_index_or, ap, add-one, drop-cons}
+use Rattle.std.proofs.{Common.refl, lemmas.Bool.Decides.nat_tests, lemmas.Grind.common_steps, lemmas.List.take_rest}
 use Rattle.std.specs.Char.{is_ascii_digit}
 use Rattle.qh_model.specs.declared.form.Form.{Form}
-use Rattle.qh_read.specs.declared.token.TheConstants.{MAGNITUDE_CAP}
-use Rattle.qh_read.specs.declared.token.Token.TheVariants.{Digits}
 use Rattle.qh_read.specs.contract.Holding.{Held, held_by, next_held}
-use Rattle.qh_read.specs.contract.Progress.{Progress}
-use Rattle.qh_read.specs.steps.Numbers.{quiet}
-use Rattle.qh_read.proofs.DigitLaws.{greatest, greatest-rises}
-use Rattle.qh_read.proofs.NumberLaws.{end-drop}
-use Rattle.qh_read.proofs.numbers.few_digits.Goals as goal
+use Rattle.qh_read.specs.{contract.Progress.Progress, declared.token.TheConstants.MAGNITUDE_CAP, declared.token.Token.TheVariants.Digits, steps.Numbers.quiet}
+use Rattle.qh_read.proofs.{DigitLaws.greatest, DigitLaws.greatest-rises, NumberLaws.end-drop}
 
 -- one digit more, below the cap
 digit_more : (form : Form) (p : Progress) (line : ℕ) (minus : Bool) (n d : ℕ) → is_ascii_digit d ≡ true

@@ -1,12 +1,8 @@
+use Rattle.qh_read.proofs.numbers.next_number.Goals as goal
 use Rattle.std.proofs.Common.{arith, ap, sym, ◌∙◌, ◌+◌, ℤ, false}
 use Rattle.std.specs.Prelude.{Some}
-use Rattle.qh_read.specs.contract.Holding.{held_by}
-use Rattle.qh_read.specs.contract.Progress.{after}
-use Rattle.qh_read.specs.steps.Numbers.{quiet}
-use Rattle.qh_read.specs.declared.token.Token.TheVariants.{Empty}
-use Rattle.qh_read.specs.steps.Signs.{is_minus}
+use Rattle.qh_read.specs.{contract.Holding.held_by, contract.Progress.after, declared.token.Token.TheVariants.Empty, steps.Numbers.quiet, steps.Signs.is_minus}
 use Rattle.qh_read.proofs.NumberLaws.{end-end}
-use Rattle.qh_read.proofs.numbers.next_number.Goals as goal
 
 -- blanks, a sign and a digit, more digits, and the byte after them, in turn
 pub returns : goal.returns

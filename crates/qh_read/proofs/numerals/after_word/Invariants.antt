@@ -1,9 +1,8 @@
 -- The bytes so far are of the word.
+use Rattle.qh_read.proofs.numerals.after_word.Given as goal
 use Rattle.std.proofs.Common.{ℕ, ◌≡◌, false, drop}
 use Rattle.std.specs.Prelude.{Some}
-use Rattle.qh_read.specs.steps.Arriving.{arriving}
-use Rattle.qh_read.specs.steps.SmallTokens.{IsSmall}
-use Rattle.qh_read.proofs.numerals.after_word.Given as goal
+use Rattle.qh_read.specs.steps.{Arriving.arriving, SmallTokens.IsSmall}
 
 abbrev pub invariant-loop-i : goal.invariant-loop-i
 invariant-loop-i l = record {

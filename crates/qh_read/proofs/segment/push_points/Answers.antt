@@ -1,9 +1,8 @@
-use Rattle.std.proofs.Common.{arith, ◌≡◌, ◌++◌, [], ◌∷◌, subst, List, sym}
-use Rattle.std.proofs.lemmas.Grind.{common_steps}
+use Rattle.qh_read.proofs.segment.push_points.Goals as goal
+use Rattle.std.proofs.{Common.arith, Common.◌≡◌, Common.◌++◌, Common.[], Common.◌∷◌, Common.subst, Common.List, Common.sym, lemmas.Grind.common_steps}
 use Rattle.qh_model.specs.headline.Vector.{Vector}
 use Rattle.qh_read.specs.steps.Numbers.{ArePoints}
 use Rattle.qh_read.proofs.NumberLaws.{points-more, end-end}
-use Rattle.qh_read.proofs.segment.push_points.Goals as goal
 
 -- one point more
 pub loop-rest-preserved : goal.loop-rest-preserved

@@ -1,8 +1,7 @@
+use Rattle.qh_read.proofs.segments.feed_all.Goals as goal
 use Rattle.std.proofs.Common.{arith, ◌≡◌, ◌∙◌, ◌+◌, ◌*◌, ◌++◌, ℕ, List, take, length, length-append, ap, sym, subst, append_assoc}
 use Rattle.std.proofs.Math.Seq.{take-add}
-use Rattle.qh_read.specs.contract.Holding.{Fed}
-use Rattle.qh_read.specs.steps.Segments.{segment_size, segment_text}
-use Rattle.qh_read.proofs.segments.feed_all.Goals as goal
+use Rattle.qh_read.specs.{contract.Holding.Fed, steps.Segments.segment_size, steps.Segments.segment_text}
 
 -- the segments so far, and then one more
 pub loop-i-preserved : goal.loop-i-preserved

@@ -1,9 +1,7 @@
-use Rattle.std.proofs.Common.{arith, sym, subst, []}
-use Rattle.std.specs.Prelude.{All}
-use Rattle.std.proofs.lemmas.List.Elements.{All-push}
-use Rattle.qh_read.specs.steps.Segments.{IsSegment}
-use Rattle.qh_read.specs.declared.segment.Segment.{Segment}
 use Rattle.qh_read.proofs.segments.new_segments.Goals as goal
+use Rattle.std.proofs.{Common.arith, Common.sym, Common.subst, Common.[], lemmas.List.Elements.All-push}
+use Rattle.std.specs.Prelude.{All}
+use Rattle.qh_read.specs.{declared.segment.Segment.Segment, steps.Segments.IsSegment}
 
 -- one segment of no bytes more
 pub loop-preserved : goal.loop-preserved

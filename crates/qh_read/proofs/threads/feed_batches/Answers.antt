@@ -1,10 +1,9 @@
+use Rattle.qh_read.proofs.threads.feed_batches.Goals as goal
 use Rattle.std.proofs.Common.{arith, ◌≡◌, ◌∙◌, ◌+◌, ◌++◌, ℕ, List, length, length-append, ap, ap₂, sym, subst, append_assoc, Ok}
 use Rattle.std.proofs.lemmas.Result.{err_from_is_err_and}
 use Rattle.std.specs.Io.KnownBytes.{Consumes}
-use Rattle.qh_read.specs.contract.Holding.{Fed}
-use Rattle.qh_read.specs.steps.Segments.{batch_text, IsGoneOver}
+use Rattle.qh_read.specs.{contract.Holding.Fed, steps.Segments.batch_text, steps.Segments.IsGoneOver}
 use Rattle.qh_read.proofs.SourceLemmas.{Consumes-append, Stops-equal, Stops-after}
-use Rattle.qh_read.proofs.threads.feed_batches.Goals as goal
 
 -- reading stopped after the two batches
 pub returns-in_err-at_end-2-clause-stops : goal.returns-in_err-at_end-2-clause-stops
@@ -16,8 +15,7 @@ returns-in_err-at_end-2-clause-stops g c =
     let count : c.loop-at_end.reader.count + length done + length raw ≡ c.args.reader.now.count + length all =
     omega (arith, s.count, length-append s.given (done ++ raw), length-append done raw) in
     let p = err_from_is_err_and c.from_residual-in_err-at_end-2.result c.from_residual-in_err-at_end-2.ensures.1 in
-    rw p.1 (Stops-equal _ _ _ _ _ _ _ p.2
-    (Stops-after _ _ _ _ _ _ _ _ all _ s.took c.loop-at_end.invariant.steady count c.in_err-at_end-2.ensures.stops))
+    rw p.1 (Stops-equal _ _ _ _ _ _ _ p.2 (Stops-after _ _ _ _ _ _ _ _ all _ s.took c.loop-at_end.invariant.steady count c.in_err-at_end-2.ensures.stops))
 
 -- one batch was fed, and one more read
 pub loop-at_end-preserved : goal.loop-at_end-preserved
@@ -62,11 +60,9 @@ returns-clause-fed g c =
       took = s.took;
       fed = λ form bytes h.
           let one = c.in_ok-feed.ensures.fed form (bytes ++ s.given) (s.fed form bytes h) in
-          subst (Fed form c.feed-2.new.reader)
-          (ap (λ (u : List ℕ). ((bytes ++ s.given) ++ done) ++ u) last
+          subst (Fed form c.feed-2.new.reader) (ap (λ (u : List ℕ). ((bytes ++ s.given) ++ done) ++ u) last
           ∙ append_assoc (bytes ++ s.given) done raw
-          ∙ append_assoc bytes s.given (done ++ raw))
-          (c.in_ok-feed-2.ensures.fed form ((bytes ++ s.given) ++ done) one);
+          ∙ append_assoc bytes s.given (done ++ raw)) (c.in_ok-feed-2.ensures.fed form ((bytes ++ s.given) ++ done) one);
       count = omega (
         arith,
         s.count,

@@ -1,12 +1,9 @@
-use Rattle.std.proofs.Common.{◌≡◌, ap, sym, subst, Ok}
-use Rattle.std.proofs.lemmas.Result.{err_from_is_err_and, MatchResult-weaker}
 use Rattle.qh_model.specs.declared.read_fault.ReadFault.TheVariants as faults
-use Rattle.qh_read.specs.headline.SourceBytes.{GivesAll}
-use Rattle.qh_read.specs.contract.Holding.{Reading, Fed}
-use Rattle.qh_read.proofs.SourceLemmas.{FedOn-append, Gives-all, Stops-after, Stops-big, Stops-big_first}
-use Rattle.qh_read.proofs.threads.read_form_sizes.Given.{Over}
 use Rattle.qh_read.proofs.threads.read_form_sizes.Goals as goal
-use Rattle.qh_read.proofs.threads.read_form_sizes.Goals.{then-not-branch+in_ok-feed_batches, else-not-branch}
+use Rattle.std.proofs.{Common.◌≡◌, Common.ap, Common.sym, Common.subst, Common.Ok, lemmas.Result.err_from_is_err_and, lemmas.Result.MatchResult-weaker}
+use Rattle.qh_read.specs.{contract.Holding.Reading, contract.Holding.Fed, headline.SourceBytes.GivesAll}
+use Rattle.qh_read.proofs.SourceLemmas.{FedOn-append, Gives-all, Stops-after, Stops-big, Stops-big_first}
+use Rattle.qh_read.proofs.threads.read_form_sizes.{Given.Over, Goals.then-not-branch+in_ok-feed_batches, Goals.else-not-branch}
 
 -- the batches came after the start
 pub returns-in_err-feed_batches-clause-big : goal.returns-in_err-feed_batches-clause-big
@@ -14,8 +11,7 @@ returns-in_err-feed_batches-clause-big g c big =
     let p = err_from_is_err_and c.from_residual-in_err-feed_batches.result c.from_residual-in_err-feed_batches.ensures.1 in
     let f : c.in_err-feed_batches.field-0.0 ≡ faults.Big = cc in
     let start = c.in_ok-feed_from.ensures.fed in
-    Stops-big _ _ _ _ _ _ c.of_form-reader.ensures.count
-    (Stops-after _ _ _ _ _ _ _ _ start.given _ start.took c.in_ok-feed_from.ensures.steady start.count
+    Stops-big _ _ _ _ _ _ c.of_form-reader.ensures.count (Stops-after _ _ _ _ _ _ _ _ start.given _ start.took c.in_ok-feed_from.ensures.steady start.count
     c.in_err-feed_batches.ensures.stops) f
 
 pub returns-in_err-feed_batches-clause-big_first : goal.returns-in_err-feed_batches-clause-big_first
@@ -48,8 +44,7 @@ all_fed g c =
 pub returns-clause-read : goal.returns-clause-read
 returns-clause-read g c =
     let all = all_fed g c in
-    MatchResult-weaker c.finish.result c.finish.ensures.read
-    (λ points reads. (all.0, (all.1.0, all.1.1, reads c.args.form all.1.0 all.1.2))) (λ e h. h)
+    MatchResult-weaker c.finish.result c.finish.ensures.read (λ points reads. (all.0, (all.1.0, all.1.1, reads c.args.form all.1.0 all.1.2))) (λ e h. h)
 
 pub returns-clause-text : goal.returns-clause-text
 returns-clause-text g c =

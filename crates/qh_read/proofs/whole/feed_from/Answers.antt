@@ -1,17 +1,12 @@
-use Rattle.std.proofs.Common.{◌≡◌, ◌≤◌, ◌<◌, ◌+◌, ◌++◌, ◌∙◌, ℕ, List, arith, ap, length, length-append, length-take, take, drop, refl, sym, subst, append_assoc}
-use Rattle.std.proofs.Common.{Ok, Err, inl, inr}
-use Rattle.std.proofs.lemmas.{Bool.cases_lt, Result.err_from_is_err_and}
-use Rattle.std.proofs.Math.Seq.{take-append_seam}
-use Rattle.qh_model.specs.declared.limits.TheConstants.{BYTE_LIMIT}
 use Rattle.qh_model.specs.declared.read_fault.ReadFault.TheVariants as faults
-use Rattle.qh_read.specs.contract.Holding.{Fed}
-use Rattle.qh_read.specs.contract.ReadFaults.{read_fault, IsTextFault}
-use Rattle.qh_read.specs.declared.whole.TheConstants.{PIECE_LENGTH}
-use Rattle.qh_read.specs.declared.fault.FeedFault.{FeedFault}
 use Rattle.qh_read.specs.declared.fault.FeedFault.TheVariants as refusals
-use Rattle.qh_read.specs.steps.Sources.{Stops}
-use Rattle.qh_read.proofs.SourceLemmas.{Consumes-append, Stops-equal}
 use Rattle.qh_read.proofs.whole.feed_from.Goals as goal
+use Rattle.std.proofs.Common.{◌≡◌, ◌≤◌, ◌<◌, ◌+◌, ◌++◌, ◌∙◌, ℕ, List, arith, ap, length, length-append, length-take, take, drop, refl, sym, subst, append_assoc}
+use Rattle.std.proofs.{Common.Ok, Common.Err, Common.inl, Common.inr, Math.Seq.take-append_seam, lemmas.Bool.cases_lt, lemmas.Result.err_from_is_err_and}
+use Rattle.qh_model.specs.declared.limits.TheConstants.{BYTE_LIMIT}
+use Rattle.qh_read.specs.contract.{Holding.Fed, ReadFaults.read_fault, ReadFaults.IsTextFault}
+use Rattle.qh_read.specs.{declared.fault.FeedFault.FeedFault, declared.whole.TheConstants.PIECE_LENGTH, steps.Sources.Stops}
+use Rattle.qh_read.proofs.SourceLemmas.{Consumes-append, Stops-equal}
 
 -- `Big` comes of `Big` alone
 only_big : (f : FeedFault) → read_fault f ≡ faults.Big → f ≡ refusals.Big
@@ -72,11 +67,7 @@ returns-in_err-feed-clause-stops g c =
     let piece : List ℕ = take c.in_ok-count.count c.read.new.buf in
     let fed : List ℕ = take c.in_ok-count.count c.deref.result.now in
     let fits : c.in_ok-count.count ≤ PIECE_LENGTH = omega (arith, c.in_ok-count.ensures.bound, c.deref_mut.ensures.len, c.loop-source.invariant.buffer) in
-    let same : length fed ≡ length piece = omega (
-      arith,
-      length-take c.in_ok-count.count c.read.new.buf,
-      length-take c.in_ok-count.count c.deref.result.now,
-    ) in
+    let same : length fed ≡ length piece = omega (arith, length-take c.in_ok-count.count c.read.new.buf, length-take c.in_ok-count.count c.deref.result.now) in
     let few : length piece ≤ PIECE_LENGTH = omega (arith, fits, length-take c.in_ok-count.count c.read.new.buf) in
     let p = err_from_is_err_and c.from_residual-in_err-feed.result c.from_residual-in_err-feed.ensures.1 in
     let f : FeedFault = c.in_err-feed.field-0.0 in

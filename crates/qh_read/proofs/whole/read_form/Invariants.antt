@@ -11,7 +11,4 @@ pub record FedSoFar (form : Form) (reader : Reading) (left bytes : List ℕ) : T
   pub whole : done ++ left ≡ bytes
 
 abbrev pub invariant-loop-piece : goal.invariant-loop-piece
-invariant-loop-piece l = record {
-  so_far : FedSoFar l.fn.form l.reader (chunks_rest l.piece-iterator) l.bytes;
-  size : 0 < chunks_size l.piece-iterator;
-}
+invariant-loop-piece l = record { so_far : FedSoFar l.fn.form l.reader (chunks_rest l.piece-iterator) l.bytes; size : 0 < chunks_size l.piece-iterator }

@@ -1,10 +1,8 @@
 -- What lies across a side of a live facet is its twin.
-use Rattle.std.proofs.Common.{◌≡◌, ◌∙◌, ap, sym}
-use Rattle.qh_mesh.specs.contract.Edges.{edge_of, nth_side, twin_of}
-use Rattle.qh_mesh.specs.steps.{Kept.outer_of, Twins.HasTwin}
-use Rattle.qh_mesh.proofs.EdgeSides.{twin-at, twin-is}
 use Rattle.qh_mesh.proofs.mesh.Mesh.across.Goals as goal
-use Rattle.qh_mesh.proofs.mesh.Mesh.across.Goals.{After-across}
+use Rattle.std.proofs.Common.{◌≡◌, ◌∙◌, ap, sym}
+use Rattle.qh_mesh.specs.{contract.Edges.edge_of, contract.Edges.nth_side, contract.Edges.twin_of, steps.Kept.outer_of, steps.Twins.HasTwin}
+use Rattle.qh_mesh.proofs.{EdgeSides.twin-at, EdgeSides.twin-is, mesh.Mesh.across.Goals.After-across}
 
 module _ (c : After-across) where
   own : HasTwin c.args.self.now (edge_of c.args.f (nth_side c.args.side))

@@ -1,10 +1,9 @@
 -- A mesh stays one where its corners get names.
-use Rattle.std.proofs.Common.{◌≡◌, ◌∙◌, ap, sym, length, map}
-use Rattle.std.proofs.lemmas.List.{with_items_is, length-map}
+use Rattle.qh_mesh.proofs.mesh.Mesh.name_corners.Goals as goal
+use Rattle.std.proofs.{Common.◌≡◌, Common.◌∙◌, Common.ap, Common.sym, Common.length, Common.map, lemmas.List.with_items_is, lemmas.List.length-map}
 use Rattle.qh_model.specs.contract.StoredSurface.{named_facet}
 use Rattle.qh_mesh.specs.contract.Names.{name_in}
 use Rattle.qh_mesh.proofs.NamedCorners.{named_surface}
-use Rattle.qh_mesh.proofs.mesh.Mesh.name_corners.Goals as goal
 
 pub invariant_of-self : goal.invariant_of-self
 invariant_of-self c =

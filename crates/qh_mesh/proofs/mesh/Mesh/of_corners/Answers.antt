@@ -1,11 +1,9 @@
 -- A tetrahedron is a mesh: each of its twelve sides has its twin.
-use Rattle.std.proofs.Common.{ℕ, zero, suc, rules, ◌∙◌}
-use Rattle.qh_model.specs.contract.Surface.{Side}
-use Rattle.qh_model.specs.contract.Surface.Side.{first, second, third}
-use Rattle.qh_mesh.specs.contract.{Replacement.IsLive, SoundMesh.simplex_facets, Edges.edge_of}
-use Rattle.qh_mesh.specs.steps.Twins.{HasTwin}
-use Rattle.qh_mesh.proofs.EdgeSides.{twins_by_side}
 use Rattle.qh_mesh.proofs.mesh.Mesh.of_corners.Goals as goal
+use Rattle.std.proofs.Common.{ℕ, zero, suc, rules, ◌∙◌}
+use Rattle.qh_model.specs.contract.Surface.{Side, Side.first, Side.second, Side.third}
+use Rattle.qh_mesh.specs.{contract.Edges.edge_of, contract.Replacement.IsLive, contract.SoundMesh.simplex_facets, steps.Twins.HasTwin}
+use Rattle.qh_mesh.proofs.EdgeSides.{twins_by_side}
 
 -- each of the twelve sides has its twin
 twelve : (a b c d f : ℕ) → IsLive (simplex_facets a b c d) f → (s : Side) → HasTwin (simplex_facets a b c d) (edge_of f s)

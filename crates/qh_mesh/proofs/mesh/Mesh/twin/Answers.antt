@@ -1,9 +1,8 @@
 -- The edge across an edge's side is its twin.
+use Rattle.qh_mesh.proofs.mesh.Mesh.twin.Goals as goal
 use Rattle.std.proofs.Common.{◌≡◌, ◌∙◌, ap}
 use Rattle.qh_mesh.specs.contract.Edges.{edge_end, edge_of, edge_start, nth_side, twin_of}
-use Rattle.qh_mesh.proofs.EdgeSides.{edge_is}
-use Rattle.qh_mesh.proofs.mesh.Mesh.twin.Goals as goal
-use Rattle.qh_mesh.proofs.mesh.Mesh.twin.Goals.{After-across}
+use Rattle.qh_mesh.proofs.{EdgeSides.edge_is, mesh.Mesh.twin.Goals.After-across}
 
 module _ (c : After-across) where
   -- the side of the edge's facet is the edge

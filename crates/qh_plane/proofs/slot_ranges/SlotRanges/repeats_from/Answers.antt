@@ -1,12 +1,10 @@
+use Rattle.qh_plane.proofs.slot_ranges.SlotRanges.repeats_from.Goals as goal
 use Rattle.std.proofs.Common.{rules, ◌≡◌, ◌∙◌, ℕ, ◌+◌, ◌-◌, ◌%◌, ◌^◌, ◌<◌, ◌≤◌, ◌++◌, ◌∷◌, [], length, set, arith, ap, sym, subst, Vec, Global}
 use Rattle.std.proofs.lemmas.List.{get_or_read}
 use Rattle.qh_model.specs.headline.Predicates.{place}
-use Rattle.qh_plane.proofs.SeenPlaces.{point_read, seen_id}
-use Rattle.qh_plane.proofs.SlotRanges.{other_in_range, new_in_range, again_in_range}
-use Rattle.qh_plane.specs.declared.close_points.TheConstants.{NO_ID}
-use Rattle.qh_plane.specs.steps.CloseBoxes.{slot_of, slot_at, place_in}
+use Rattle.qh_plane.proofs.{SeenPlaces.point_read, SeenPlaces.seen_id, SlotRanges.other_in_range, SlotRanges.new_in_range, SlotRanges.again_in_range}
 use Rattle.qh_plane.proofs.slot_ranges.SlotRanges.repeats_from.Goals.{then-index, else-index+then-same_point+in_ok-push}
-use Rattle.qh_plane.proofs.slot_ranges.SlotRanges.repeats_from.Goals as goal
+use Rattle.qh_plane.specs.{declared.close_points.TheConstants.NO_ID, steps.CloseBoxes.slot_of, steps.CloseBoxes.slot_at, steps.CloseBoxes.place_in}
 
 pub loop-number-preserved-then-place-len : goal.loop-number-preserved-then-place-len
 loop-number-preserved-then-place-len c =
@@ -17,8 +15,7 @@ loop-number-preserved-then-place-len c =
     let beyond : r.size ≤ (c.slot-slot.result + (2 ^ 64 - first)) % 2 ^ 64 =
     subst (λ n. n ≤ (c.slot-slot.result + (2 ^ 64 - first)) % 2 ^ 64) (c.len.ensures ∙ c.loop-number.slots.ok.0 ∙ old.size) c.if-place-len.true in
     other_in_range pts r first c.loop-number.slots.items k c.loop-number.repeats.items old c.loop-number-test.true c.requires
-    (subst (λ n. n < r.end) at c.if-slot-self.false)
-    (subst (λ n. r.size ≤ (n + (2 ^ 64 - first)) % 2 ^ 64) at beyond)
+    (subst (λ n. n < r.end) at c.if-slot-self.false) (subst (λ n. r.size ≤ (n + (2 ^ 64 - first)) % 2 ^ 64) at beyond)
 
 pub bounds-pts-index : goal.bounds-pts-index
 bounds-pts-index c =

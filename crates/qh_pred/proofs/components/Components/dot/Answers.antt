@@ -20,7 +20,4 @@ pub returns : goal.returns
 returns c =
     let fits = dot_fits _ _ c.wide_product.result c.wide_product-2.result c.wide_product-3.result c.self.invariant
     c.other.invariant c.wide_product.ensures c.wide_product-2.ensures c.wide_product-3.ensures in
-    record {
-      value = fits.value ∙ dot-same _ _ _ _ c.self.view_is c.other.view_is;
-      limit = rw (fits.value) (dot-within _ _ c.self.invariant c.other.invariant);
-    }
+    record { value = fits.value ∙ dot-same _ _ _ _ c.self.view_is c.other.view_is; limit = rw (fits.value) (dot-within _ _ c.self.invariant c.other.invariant) }

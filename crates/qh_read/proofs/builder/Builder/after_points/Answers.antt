@@ -1,9 +1,7 @@
-use Rattle.std.proofs.Common.{arith, rules, refl, ap, ◌≡◌, ◌∙◌, ◌+◌, ◌-◌, ◌*◌, ℕ}
-use Rattle.qh_read.specs.contract.Progress.{wants, wants_vertices}
-use Rattle.qh_read.specs.steps.Stages.{stage_shown}
-use Rattle.qh_read.specs.declared.builder.Stage.{Stage}
-use Rattle.qh_read.proofs.NumberLaws.{wants-takes, wants_vertices-takes}
 use Rattle.qh_read.proofs.builder.Builder.after_points.Goals as goal
+use Rattle.std.proofs.Common.{arith, rules, refl, ap, ◌≡◌, ◌∙◌, ◌+◌, ◌-◌, ◌*◌, ℕ}
+use Rattle.qh_read.specs.{contract.Progress.wants, contract.Progress.wants_vertices, declared.builder.Stage.Stage, steps.Stages.stage_shown}
+use Rattle.qh_read.proofs.NumberLaws.{wants-takes, wants_vertices-takes}
 
 pub returns-in-Zero-Coordinates : goal.returns-in-Zero-Coordinates
 returns-in-Zero-Coordinates c =

@@ -1,12 +1,9 @@
-use Rattle.std.proofs.Common.{arith, ◌≡◌, ◌++◌, ◌∙◌, ap, sym, List}
-use Rattle.std.specs.Prelude.{ℤ}
-use Rattle.std.proofs.lemmas.Grind.{common_steps}
-use Rattle.std.proofs.lemmas.List.{append-nil}
-use Rattle.qh_model.specs.headline.PointFile.{coordinates}
-use Rattle.qh_read.specs.steps.Stages.{stage_shown, pending_list}
-use Rattle.qh_read.specs.declared.builder.Pending.{Pending}
-use Rattle.qh_read.proofs.NumberLaws.{coordinates-append}
 use Rattle.qh_read.proofs.builder.Builder.append.Goals as goal
+use Rattle.std.proofs.{Common.arith, Common.◌≡◌, Common.◌++◌, Common.◌∙◌, Common.ap, Common.sym, Common.List, lemmas.Grind.common_steps, lemmas.List.append-nil}
+use Rattle.std.specs.Prelude.{ℤ}
+use Rattle.qh_model.specs.headline.PointFile.{coordinates}
+use Rattle.qh_read.specs.{declared.builder.Pending.Pending, steps.Stages.stage_shown, steps.Stages.pending_list}
+use Rattle.qh_read.proofs.NumberLaws.{coordinates-append}
 
 -- no coordinate of a point more stood between
 pub returns-clause-shown : goal.returns-clause-shown
@@ -17,8 +14,7 @@ returns-clause-shown c =
     let old : List ℤ = coordinates was.points.items in
     let new : List ℤ = coordinates points in
     let begins : was.pending ≡ _ = c.requires.awaits.begins in
-    ap (stage_shown c.args.next)
-    (ap (λ (q : Pending). coordinates c.extend_from_slice.new.self.items ++ pending_list q) begins
+    ap (stage_shown c.args.next) (ap (λ (q : Pending). coordinates c.extend_from_slice.new.self.items ++ pending_list q) begins
     ∙ append-nil (coordinates c.extend_from_slice.new.self.items)
     ∙ ap coordinates items
     ∙ coordinates-append was.points.items points

@@ -1,7 +1,6 @@
-use Rattle.std.proofs.Common.{arith, ◌≡◌, ◌++◌, [], ◌∷◌}
-use Rattle.std.proofs.lemmas.Grind.{common_steps}
-use Rattle.qh_read.proofs.BuildingLemmas.{coordinates-push}
 use Rattle.qh_read.proofs.builder.Builder.push.Goals as goal
+use Rattle.std.proofs.{Common.arith, Common.◌≡◌, Common.◌++◌, Common.[], Common.◌∷◌, lemmas.Grind.common_steps}
+use Rattle.qh_read.proofs.BuildingLemmas.{coordinates-push}
 
 pub returns-in-Two-clause-taken : goal.returns-in-Two-clause-taken
 returns-in-Two-clause-taken c =

@@ -1,10 +1,8 @@
-use Rattle.std.proofs.Common.{arith, ◌≡◌, ◌++◌, ◌∙◌, [], ◌∷◌, ap, sym}
-use Rattle.std.proofs.lemmas.Grind.{common_steps}
+use Rattle.qh_read.proofs.builder.Builder.take_point.Goals as goal
+use Rattle.std.proofs.{Common.arith, Common.◌≡◌, Common.◌++◌, Common.◌∙◌, Common.[], Common.◌∷◌, Common.ap, Common.sym, lemmas.Grind.common_steps}
 use Rattle.qh_model.specs.headline.PointFile.{coordinates}
 use Rattle.qh_read.proofs.BuildingLemmas.{coordinates-push}
-use Rattle.qh_read.specs.steps.Building.{taken}
-use Rattle.qh_read.specs.steps.Stages.{stage_shown, pending_list}
-use Rattle.qh_read.proofs.builder.Builder.take_point.Goals as goal
+use Rattle.qh_read.specs.steps.{Building.taken, Stages.stage_shown, Stages.pending_list}
 
 pub returns-clause-shown : goal.returns-clause-shown
 returns-clause-shown c i j k =

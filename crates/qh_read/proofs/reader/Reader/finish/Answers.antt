@@ -1,15 +1,10 @@
+use Rattle.qh_read.proofs.reader.Reader.finish.Goals as goal
 use Rattle.std.proofs.Common.{ℕ, List, ◌≡◌, ◌≤◌, ◌∙◌, arith, ap, sym, length}
 use Rattle.std.proofs.lemmas.Result.{MatchResult-weaker}
-use Rattle.qh_model.specs.declared.limits.TheConstants.{BYTE_LIMIT}
-use Rattle.qh_model.specs.declared.form.Form.{Form}
+use Rattle.qh_model.specs.declared.{form.Form.Form, limits.TheConstants.BYTE_LIMIT}
+use Rattle.qh_read.specs.contract.{Holding.Held, Holding.Reading, Holding.Fed, Holding.ended_held, Progress.started}
 use Rattle.qh_read.specs.steps.Building.{shown, lack, filled_in}
-use Rattle.qh_read.specs.contract.Holding.{Held, Reading, Fed, ended_held}
-use Rattle.qh_read.specs.contract.Progress.{started}
-use Rattle.qh_read.proofs.ProgressLaws.{judged}
-use Rattle.qh_read.proofs.Lexing.{words_in}
-use Rattle.qh_read.proofs.HoldingLaws.{progress-words}
-use Rattle.qh_read.proofs.FormLaws.{reads, found}
-use Rattle.qh_read.proofs.reader.Reader.finish.Goals as goal
+use Rattle.qh_read.proofs.{FormLaws.reads, FormLaws.found, HoldingLaws.progress-words, Lexing.words_in, ProgressLaws.judged}
 
 -- the builder shows what the words of the bytes fed make of the file
 told : (c : goal.After-finish) (form : Form) (bytes : List ℕ) → Fed form c.args.self bytes

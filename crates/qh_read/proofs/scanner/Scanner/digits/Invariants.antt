@@ -1,9 +1,7 @@
-use Rattle.std.proofs.Common.{◌≡◌, ◌≤◌, false, drop}
-use Rattle.qh_read.specs.declared.token.TheConstants.{MAGNITUDE_CAP}
-use Rattle.qh_read.specs.declared.token.Token.TheVariants.{Digits}
-use Rattle.qh_read.specs.contract.Holding.{held_by}
-use Rattle.qh_read.specs.steps.Scanning.{held, under_way}
 use Rattle.qh_read.proofs.scanner.Scanner.digits.Given as goal
+use Rattle.std.proofs.Common.{◌≡◌, ◌≤◌, false, drop}
+use Rattle.qh_read.specs.{contract.Holding.held_by, declared.token.TheConstants.MAGNITUDE_CAP, declared.token.Token.TheVariants.Digits}
+use Rattle.qh_read.specs.steps.Scanning.{held, under_way}
 
 -- the digits so far, and then what is left, are all bytes
 abbrev pub invariant-loop-i : goal.invariant-loop-i

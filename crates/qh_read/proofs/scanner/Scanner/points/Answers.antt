@@ -1,12 +1,8 @@
-use Rattle.std.proofs.Common.{arith, ◌+◌, ◌∙◌, ℕ, Bool, ap, sym}
-use Rattle.qh_read.specs.contract.Holding.{held_by}
-use Rattle.qh_read.specs.contract.Progress.{Progress}
-use Rattle.qh_read.specs.steps.Building.{shown}
-use Rattle.qh_read.specs.steps.Numbers.{quiet}
-use Rattle.qh_read.specs.declared.token.Token.{Token}
-use Rattle.qh_read.specs.declared.token.Token.TheVariants.{Empty}
-use Rattle.qh_read.proofs.NumberLaws.{none_before, parted}
 use Rattle.qh_read.proofs.scanner.Scanner.points.Goals as goal
+use Rattle.std.proofs.Common.{arith, ◌+◌, ◌∙◌, ℕ, Bool, ap, sym}
+use Rattle.qh_read.specs.contract.{Holding.held_by, Progress.Progress}
+use Rattle.qh_read.specs.{declared.token.Token.Token, declared.token.Token.TheVariants.Empty, steps.Building.shown, steps.Numbers.quiet}
+use Rattle.qh_read.proofs.NumberLaws.{parted}
 
 -- the three numbers lead the builder from what it showed to what it shows
 pub loop-next-preserved : goal.loop-next-preserved
@@ -20,10 +16,10 @@ loop-next-preserved c =
     (shown was.builder) in
     record {
       told = ap (λ (b : Bool). held_by (record (quiet form (shown c.take_point.new.self) z.line Empty) { comment = b }) z.rest.now) none
-          ∙ ap (λ (n : ℕ). held_by (quiet form (shown c.take_point.new.self) n Empty) z.rest.now) (sym (none_before z.line))
+          ∙ ap (λ (n : ℕ). held_by (quiet form (shown c.take_point.new.self) n Empty) z.rest.now) (sym (omega arith))
           ∙ ap (λ (p : Progress). held_by (quiet form p (0 + z.line) Empty) z.rest.now) (c.take_point.ensures.shown point.0 point.1 point.2)
           ∙ sym point.3
-          ∙ ap (λ (n : ℕ). held_by (quiet form (shown was.builder) n Empty) c.after_blanks-line.result.1.now) (none_before c.after_blanks-line.result.0)
+          ∙ ap (λ (n : ℕ). held_by (quiet form (shown was.builder) n Empty) c.after_blanks-line.result.1.now) (omega arith)
           ∙ sym blanks
           ∙ ap (λ (b : Bool). held_by (record (quiet form (shown was.builder) was.line Empty) { comment = b }) c.loop-next.rest.now) (sym none)
           ∙ c.loop-next.invariant.told;

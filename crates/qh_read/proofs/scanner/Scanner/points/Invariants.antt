@@ -1,8 +1,6 @@
-use Rattle.std.proofs.Common.{◌≡◌, ◌≤◌, ◌+◌, false, length}
-use Rattle.qh_read.specs.contract.Holding.{held_by}
-use Rattle.qh_read.specs.steps.Scanning.{held, HasRoom}
-use Rattle.qh_read.specs.declared.token.Token.TheVariants.{Empty}
 use Rattle.qh_read.proofs.scanner.Scanner.points.Given as goal
+use Rattle.std.proofs.Common.{◌≡◌, ◌≤◌, ◌+◌, false, length}
+use Rattle.qh_read.specs.{contract.Holding.held_by, declared.token.Token.TheVariants.Empty, steps.Scanning.held, steps.Scanning.HasRoom}
 
 -- the points so far, and then what is left, are all bytes
 abbrev pub invariant-loop-next : goal.invariant-loop-next

@@ -1,8 +1,7 @@
+use Rattle.qh_read.proofs.scanner.Scanner.scan.Goals as goal
 use Rattle.std.proofs.Common.{arith, length, ◌+◌, ◌≡◌, ◌∷◌, ◌∙◌, ap, subst, sym, ℕ}
 use Rattle.std.proofs.lemmas.Grind.{common_steps}
-use Rattle.qh_read.specs.contract.Holding.{Held, held_by}
-use Rattle.qh_read.specs.steps.Scanning.{held, HasRoom}
-use Rattle.qh_read.proofs.scanner.Scanner.scan.Goals as goal
+use Rattle.qh_read.specs.{contract.Holding.Held, contract.Holding.held_by, steps.Scanning.held, steps.Scanning.HasRoom}
 
 -- the first byte takes one from the room, and its digits take none
 pub points-rest-requires-clause-room : goal.points-rest-requires-clause-room

@@ -1,8 +1,6 @@
-use Rattle.std.proofs.Common.{◌≡◌, ◌≤◌, ◌+◌, length}
-use Rattle.qh_read.specs.steps.SmallTokens.{IsSmall}
-use Rattle.qh_read.specs.contract.Holding.{held_by}
-use Rattle.qh_read.specs.steps.Scanning.{held, HasRoom}
 use Rattle.qh_read.proofs.scanner.Scanner.scan.Given as goal
+use Rattle.std.proofs.Common.{◌≡◌, ◌≤◌, ◌+◌, length}
+use Rattle.qh_read.specs.{contract.Holding.held_by, steps.Scanning.held, steps.Scanning.HasRoom, steps.SmallTokens.IsSmall}
 
 -- the bytes so far, and then what is left, are all bytes
 abbrev pub invariant-loop-byte : goal.invariant-loop-byte

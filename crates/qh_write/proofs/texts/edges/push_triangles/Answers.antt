@@ -6,8 +6,7 @@ use Rattle.qh_write.proofs.EdgeKeyLemmas.{adds_none, completes_more, triangles_l
 
 pub loop-id-preserved : goal.loop-id-preserved
 loop-id-preserved c =
-    completes_more _ _ _ _ _ _ _
-    (triangles_left c.args.first c.loop-id.last c.id-item.result c.args.along.now c.loop-id.id-index
+    completes_more _ _ _ _ _ _ _ (triangles_left c.args.first c.loop-id.last c.id-item.result c.args.along.now c.loop-id.id-index
     c.loop-id-test.true c.id-item.is)
     c.in_ok-push_round.ensures c.loop-id.invariant
 

@@ -15,9 +15,7 @@ returns g c =
     let all : length faces ≤ length parts.items * size = omega (arith, c.max-threads.ensures, ap (λ n. n * (length faces / c.max-threads.result)) len) in
     let each : (i : ℕ) (d : Result (Vec ℕ Global) AllocError) → i < length parts.items
     → IfOk (get_or parts.items i d) (λ t. t.items ≡ lines (take size (drop (i * size) faces))) = search rules in
-    on_ok_weaker c.append_parts.result
-    (λ told. told (lines faces)
-    (parts_of_list lines (ap (flat_map line_of) (shown_none form))
+    on_ok_weaker c.append_parts.result (λ told. told (lines faces) (parts_of_list lines (ap (flat_map line_of) (shown_none form))
     (λ ps qs. ap (flat_map line_of) (shown_append form ps qs) ∙ flat_map-append line_of (shown form ps) (shown form qs))
     size parts.items faces each all))
     c.append_parts.ensures

@@ -15,7 +15,6 @@ returns g c =
     let all : length ids ≤ length parts.items * size = omega (arith, c.max-threads.ensures, ap (λ n. n * (length ids / c.max-threads.result)) len) in
     let each : (i : ℕ) (d : Result (Vec ℕ Global) AllocError) → i < length parts.items
     → IfOk (get_or parts.items i d) (λ t. t.items ≡ flat_map line_of (take size (drop (i * size) ids))) = search rules in
-    on_ok_weaker c.append_parts.result
-    (λ told. told (flat_map line_of ids)
+    on_ok_weaker c.append_parts.result (λ told. told (flat_map line_of ids)
     (parts_of_list (flat_map line_of) refl (λ ps qs. flat_map-append line_of ps qs) size parts.items ids each all))
     c.append_parts.ensures

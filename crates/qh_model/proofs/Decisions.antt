@@ -69,8 +69,7 @@ same_id i j = by_decision (ℕ_discrete i j)
 -- an id is a member of a list or not
 pub in_or_not : (i : ℕ) (xs : List ℕ) → Decided (In i xs)
 in_or_not i xs =
-    decided_as ((j : ℕ) × In j xs × (i ≡ j)) (In i xs) (λ h. subst (λ x. In x xs) (sym h.2) h.1) (λ m. (i, m, refl))
-    (some_or_none (λ j. i ≡ j) (same_id i) xs)
+    decided_as ((j : ℕ) × In j xs × (i ≡ j)) (In i xs) (λ h. subst (λ x. In x xs) (sym h.2) h.1) (λ m. (i, m, refl)) (some_or_none (λ j. i ≡ j) (same_id i) xs)
 
 -- two numbers are equal or not
 pub same_number : (a b : ℤ) → Decided (a ≡ b)
@@ -83,8 +82,7 @@ same_number a b = decided_as (a -ℤ b ≡ pos 0) (a ≡ b) (equal_from_zero a b
 pub same_vector : (p q : Vector) → Decided (p ≡ q)
 same_vector p q =
     decided_as ((p.x ≡ q.x) × ((p.y ≡ q.y) × (p.z ≡ q.z))) (p ≡ q) (λ h. vector_path p q h.0 h.1.0 h.1.1)
-    (λ e. (ap (λ v. v.x) e, (ap (λ v. v.y) e, ap (λ v. v.z) e)))
-    (both (p.x ≡ q.x) ((p.y ≡ q.y) × (p.z ≡ q.z)) (same_number p.x q.x)
+    (λ e. (ap (λ v. v.x) e, (ap (λ v. v.y) e, ap (λ v. v.z) e))) (both (p.x ≡ q.x) ((p.y ≡ q.y) × (p.z ≡ q.z)) (same_number p.x q.x)
     (both (p.y ≡ q.y) (p.z ≡ q.z) (same_number p.y q.y) (same_number p.z q.z)))
 
 -- a number is at most another or not
