@@ -1,12 +1,12 @@
 -- The laws of locally convex surfaces.
-use Rattle.std.proofs.Common.{◌≡◌, ℕ, ◌≤◌, refl, sym, subst, ◌∙◌, arith, List, [], ◌∷◌, length, true, ◌⊎◌, inl, inr, ⊎_elim}
+use Rattle.std.proofs.Common.{◌≡◌, ℕ, ◌≤◌, refl, sym, subst, ◌∙◌, arith, List, [], ◌∷◌, length, true, inl, inr, ⊎_elim}
 use Rattle.std.proofs.lemmas.Int.{ints}
 use Rattle.std.specs.Prelude.{ℤ, pos, neg_ℤ, count_by, ◌≤ℤ◌, ◌<ℤ◌}
 use Rattle.qh_model.specs.contract.ClosedSurface.{Triple}
 use Rattle.qh_model.specs.headline.{Predicates.cross, Predicates.vol, Predicates.AreInLine, Sets.In, Sets.Members, Vector.Vector, Vector.minus, Vector.dot}
 use Rattle.qh_model.specs.laws.{ClosedFaceLaws.AreSupporting, ClosedSurfaceLaws.IsCornerOf}
 use Rattle.qh_model.proofs.{algebra.Signs.less_le, algebra.VectorIdentities.in_line-vol, closed_surfaces.Sums.count, closed_surfaces.Sums.count-is}
-use Rattle.qh_convex_laws.specs.contract.LocallyConvex.{IsLocallyConvex, IsUnder, HasAllUnder, is_met}
+use Rattle.qh_convex_laws.specs.contract.LocallyConvex.{IsLocallyConvex, HasAllUnder, is_met}
 use Rattle.qh_convex_laws.specs.laws.ConvexLaws.{LocalIsConvex, UnderIsBelow, LocalSupports}
 use Rattle.qh_convex_laws.proofs.{Directions.IsOffEdges, Greatest.IsGreatest, Greatest.greatest, Highest.rise, Highest.depth, Highest.height}
 use Rattle.qh_convex_laws.proofs.{Highest.HighestMet, NoneAbove.middle, NoneAbove.middle-first, NoneAbove.middle-second, NoneAbove.middle-third}

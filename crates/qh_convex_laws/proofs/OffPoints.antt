@@ -71,14 +71,12 @@ module _ (at : ℕ → Vector) (z : Vector) (ts : List Triple) (inside : (t : Tr
   PointOffEdges ps = (y : Vector) × AllUp ps y × IsOffEdges at ts z (plus z y)
 
   pub off_edges : (ps : List Vector) (x : Vector) → AllUp ps x → PointOffEdges ps
-  off_edges ps x h = go (perturbed (map edge_normal (edges ts)) ps x none h)
+  off_edges ps x h = let (y, up, off) = perturbed (map edge_normal (edges ts)) ps x none h in
+      (y, up, λ e i f. off (edge_normal e) (in_map edge_normal (edges ts) e i) (sym (vol-plus z (at e.0) (at e.1) y) ∙ f))
     where
       none : (l : Vector) → In l (map edge_normal (edges ts)) → ¬ (l ≡ origin)
       none l i = let r = of_map edge_normal (edges ts) l i in
           (λ f. edge_spans at z ts inside r.0 r.1 (sym r.2 ∙ f))
-
-      go : Perturbed (map edge_normal (edges ts)) ps → PointOffEdges ps
-      go (y, up, off) = (y, up, λ e i f. off (edge_normal e) (in_map edge_normal (edges ts) e i) (sym (vol-plus z (at e.0) (at e.1) y) ∙ f))
 
   -- the same, off the planes with the corners too
   abbrev pub PointOff : Vector → List Vector → Type 0

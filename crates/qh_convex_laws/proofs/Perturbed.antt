@@ -100,11 +100,8 @@ perturbed (l ∷ ls) ps x n h = start (λ qs w k. perturbed ls qs w (λ m i. n m
 
     start : ((qs : List Vector) (w : Vector) → AllUp qs w → Perturbed ls qs) → (dot l x ≡ pos 0) ⊎ (¬ (dot l x ≡ pos 0)) → Perturbed (l ∷ ls) ps
     start step (inr o) = settled step x h o
-    start step (inl o) = moved (risen (l ∷ ps) x l rises)
+    start step (inl o) = let (y, up) = risen (l ∷ ps) x l rises in settled step y (λ p i. up p (inr i)) (omega (arith, ints, up l (inl refl)))
       where
         rises : (p : Vector) → In p (l ∷ ps) → Rises p x l
         rises p (inl e) = subst (λ q. Rises q x l) (sym e) (inr (omega (arith, ints), square-positive l (n l (inl refl))))
         rises p (inr i) = inl (h p i)
-
-        moved : (y : Vector) × AllUp (l ∷ ps) y → Perturbed (l ∷ ls) ps
-        moved (y, up) = settled step y (λ p i. up p (inr i)) (omega (arith, ints, up l (inl refl)))

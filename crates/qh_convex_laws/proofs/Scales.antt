@@ -2,7 +2,7 @@
 use Rattle.std.proofs.Common.{◌≡◌, ℕ, ◌<◌, refl, sym, ap, subst, ◌∙◌, arith, List}
 use Rattle.std.proofs.lemmas.Int.{ints}
 use Rattle.std.specs.Prelude.{ℤ, pos, ◌*ℤ◌, ◌≤ℤ◌, ◌<ℤ◌, ◌↔◌}
-use Rattle.qh_model.specs.{contract.ClosedSurface.Triple, contract.IdSets.HasDistinctPoints, headline.Combination.Combination}
+use Rattle.qh_model.specs.{contract.ClosedSurface.Triple, contract.IdSets.HasDistinctPoints, headline.Combination.Combination, headline.Combination.IsBalanced}
 use Rattle.qh_model.specs.headline.{Extreme.Extreme, Extreme.Others, Polygons.IsFacePolygon, Polygons.AreFaces, Predicates.cross, Predicates.vol}
 use Rattle.qh_model.specs.headline.{Predicates.left, Predicates.AreInLine, Sets.Members, SupportingPlane.IsSupportingTriple, Vector.Vector, Vector.origin}
 use Rattle.qh_model.proofs.algebra.Order.{mul-pos, mul-pos_neg, mul-nonneg_nonpos, cancel-pos, cancel-nonpos, cancel-zero, product_zero}
@@ -11,6 +11,30 @@ use Rattle.qh_convex_laws.proofs.ScaledPoints.{volume_scaled, left-scaled, balan
 use Rattle.qh_convex_laws.specs.contract.LocallyConvex.{HasLowNeighbour, IsConvexAround, IsSharpEdge, IsSharpPolygon, ArePolygonsOf}
 use Rattle.qh_convex_laws.specs.contract.Scaled.{at_scale}
 use Rattle.qh_convex_laws.specs.laws.ScaleLaws.{ScaledVolume, ScaleKeepsDistinct, ScaleKeepsConvex, ScaleKeepsPolygons, ScaleKeepsExtremes, ScaleKeepsFaces}
+
+-- the same members with the same weights, at other points
+combination_moved : (at at' : ℕ → Vector) (A : ℕ → Type 0) (p p' : Vector) (c : Combination at A p)
+    → IsBalanced c.w1 c.w2 c.w3 c.w4 p'.x (at' c.a).x (at' c.b).x (at' c.c).x (at' c.d).x
+    → IsBalanced c.w1 c.w2 c.w3 c.w4 p'.y (at' c.a).y (at' c.b).y (at' c.c).y (at' c.d).y
+    → IsBalanced c.w1 c.w2 c.w3 c.w4 p'.z (at' c.a).z (at' c.b).z (at' c.c).z (at' c.d).z → Combination at' A p'
+combination_moved at at' A p p' c x y z = record {
+  a = c.a;
+  b = c.b;
+  c = c.c;
+  d = c.d;
+  has_a = c.has_a;
+  has_b = c.has_b;
+  has_c = c.has_c;
+  has_d = c.has_d;
+  w1 = c.w1;
+  w2 = c.w2;
+  w3 = c.w3;
+  w4 = c.w4;
+  some_weight = c.some_weight;
+  x = x;
+  y = y;
+  z = z;
+}
 
 module _ (m : ℕ) (some : 0 < m) (at : ℕ → Vector) where
   -- the scale as a whole number
@@ -83,44 +107,16 @@ module _ (m : ℕ) (some : 0 < m) (at : ℕ → Vector) where
 
   -- ---- combinations
   combination_up : (A : ℕ → Type 0) (l : ℕ) → Combination at A (at l) → Combination up A (up l)
-  combination_up A l c = record {
-    a = c.a;
-    b = c.b;
-    c = c.c;
-    d = c.d;
-    has_a = c.has_a;
-    has_b = c.has_b;
-    has_c = c.has_c;
-    has_d = c.has_d;
-    w1 = c.w1;
-    w2 = c.w2;
-    w3 = c.w3;
-    w4 = c.w4;
-    some_weight = c.some_weight;
-    x = balanced_up M c.w1 c.w2 c.w3 c.w4 (at l).x (at c.a).x (at c.b).x (at c.c).x (at c.d).x c.x;
-    y = balanced_up M c.w1 c.w2 c.w3 c.w4 (at l).y (at c.a).y (at c.b).y (at c.c).y (at c.d).y c.y;
-    z = balanced_up M c.w1 c.w2 c.w3 c.w4 (at l).z (at c.a).z (at c.b).z (at c.c).z (at c.d).z c.z;
-  }
+  combination_up A l c = combination_moved at up A (at l) (up l) c
+      (balanced_up M c.w1 c.w2 c.w3 c.w4 (at l).x (at c.a).x (at c.b).x (at c.c).x (at c.d).x c.x)
+      (balanced_up M c.w1 c.w2 c.w3 c.w4 (at l).y (at c.a).y (at c.b).y (at c.c).y (at c.d).y c.y)
+      (balanced_up M c.w1 c.w2 c.w3 c.w4 (at l).z (at c.a).z (at c.b).z (at c.c).z (at c.d).z c.z)
 
   combination_down : (A : ℕ → Type 0) (l : ℕ) → Combination up A (up l) → Combination at A (at l)
-  combination_down A l c = record {
-    a = c.a;
-    b = c.b;
-    c = c.c;
-    d = c.d;
-    has_a = c.has_a;
-    has_b = c.has_b;
-    has_c = c.has_c;
-    has_d = c.has_d;
-    w1 = c.w1;
-    w2 = c.w2;
-    w3 = c.w3;
-    w4 = c.w4;
-    some_weight = c.some_weight;
-    x = balanced_down M positive c.w1 c.w2 c.w3 c.w4 (at l).x (at c.a).x (at c.b).x (at c.c).x (at c.d).x c.x;
-    y = balanced_down M positive c.w1 c.w2 c.w3 c.w4 (at l).y (at c.a).y (at c.b).y (at c.c).y (at c.d).y c.y;
-    z = balanced_down M positive c.w1 c.w2 c.w3 c.w4 (at l).z (at c.a).z (at c.b).z (at c.c).z (at c.d).z c.z;
-  }
+  combination_down A l c = combination_moved up at A (up l) (at l) c
+      (balanced_down M positive c.w1 c.w2 c.w3 c.w4 (at l).x (at c.a).x (at c.b).x (at c.c).x (at c.d).x c.x)
+      (balanced_down M positive c.w1 c.w2 c.w3 c.w4 (at l).y (at c.a).y (at c.b).y (at c.c).y (at c.d).y c.y)
+      (balanced_down M positive c.w1 c.w2 c.w3 c.w4 (at l).z (at c.a).z (at c.b).z (at c.c).z (at c.d).z c.z)
 
   -- the extreme ids are the same
   extreme : (A : ℕ → Type 0) (l : ℕ) → Extreme up A l ↔ Extreme at A l

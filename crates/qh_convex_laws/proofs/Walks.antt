@@ -108,7 +108,7 @@ module _ (at : ℕ → Vector) (z : Vector) (ts : List Triple) (inside : (t : Tr
       where
         by : HasLowNeighbour at ts h.t u v → Goes (u, v)
         by n =
-            pick (goes_on (side v) (side u) (side n.third) (inwards v u) (inwards u n.third) (inwards n.third v)
+            met_or_out (goes_on (side v) (side u) (side n.third) (inwards v u) (inwards u n.third) (inwards n.third v)
             (behind v u) (behind u n.third) (behind n.third v) (signs_round n.next n.there v u n.third n.round) h.right h.left entered
             (flip q (off_q (u, v) (edge_of ts h.t h.there u v h.w h.round)) ∙ ap not h.back))
           where
@@ -169,16 +169,16 @@ module _ (at : ℕ → Vector) (z : Vector) (ts : List Triple) (inside : (t : Tr
                     subst (λ m. m <ℤ (c *ℤ neg_ℤ l)) (ap (λ m. a *ℤ m) f ∙ mul_comm a (neg_ℤ g) ∙ half g a)
                     (subst (λ m. (a *ℤ b) <ℤ m) (ap (λ m. c *ℤ m) e) (gap (a *ℤ b) (c *ℤ d) k p h))
 
-            pick : GoesOn (side n.third) (inwards u n.third) (inwards n.third v) (behind u n.third) (behind n.third v) → Goes (u, v)
-            pick (inl e) = let p = and_parts _ _ e in inl (n.next, n.there, top, met_round n.next v u n.third n.round entered p.0 p.1)
-            pick (inr (inl (c, o, b))) =
+            met_or_out : GoesOn (side n.third) (inwards u n.third) (inwards n.third v) (behind u n.third) (behind n.third v) → Goes (u, v)
+            met_or_out (inl e) = let p = and_parts _ _ e in inl (n.next, n.there, top, met_round n.next v u n.third n.round entered p.0 p.1)
+            met_or_out (inr (inl (c, o, b))) =
                 inr (
                   (u, n.third),
                   edge_of ts n.next n.there u n.third v second,
                   record { t = n.next; there = n.there; w = v; round = second; top = top; left = h.left; right = c; out = o; back = b },
                   farther_second (above_is (vol z (at u) x q) h.left),
                 )
-            pick (inr (inr (c, o, b))) =
+            met_or_out (inr (inr (c, o, b))) =
                 inr (
                   (n.third, v),
                   edge_of ts n.next n.there n.third v u third,
@@ -190,44 +190,27 @@ module _ (at : ℕ → Vector) (z : Vector) (ts : List Triple) (inside : (t : Tr
     pub walked : (t : Triple) → In t ts → IsGreatest (height at z x ts) (depth at z x ts) t ts
         → behind t.i t.j ≡ true → behind t.j t.k ≡ true → behind t.k t.i ≡ true → (HighestMet at z x ts)
     walked t i g e f k =
-        pick (begins (side t.i) (side t.j) (side t.k) (inwards t.i t.j) (inwards t.j t.k) (inwards t.k t.i) (behind t.i t.j) (behind t.j t.k) (behind t.k t.i)
-        (signs_round t i t.i t.j t.k (inl (refl, refl, refl))) e f k)
+        met_or_out (begins (side t.i) (side t.j) (side t.k) (inwards t.i t.j) (inwards t.j t.k) (inwards t.k t.i) (behind t.i t.j) (behind t.j t.k)
+        (behind t.k t.i) (signs_round t i t.i t.j t.k (inl (refl, refl, refl))) e f k)
       where
         go : (e : ℕ × ℕ) → IsExit e → (HighestMet at z x ts)
         go = ascent gone left_over IsExit (HighestMet at z x ts) (edges ts) positive onwards
 
-        pick : Begins (side t.i) (side t.j) (side t.k) (inwards t.i t.j) (inwards t.j t.k) (inwards t.k t.i) → (HighestMet at z x ts)
-        pick (inl m) = (t, i, g, m)
-        pick (inr (inl (a, b, o))) = go (t.i, t.j) (record {
+        over : (u v w : ℕ) → IsRound t u v w → side u ≡ true → side v ≡ false → inwards u v ≡ false → behind u v ≡ true → (HighestMet at z x ts)
+        over u v w r a b o back = go (u, v) (record {
           t = t;
           there = i;
-          w = t.k;
-          round = inl (refl, refl, refl);
+          w = w;
+          round = r;
           top = g;
           left = a;
           right = b;
           out = o;
-          back = e;
+          back = back;
         })
-        pick (inr (inr (inl (a, b, o)))) = go (t.j, t.k) (record {
-          t = t;
-          there = i;
-          w = t.i;
-          round = inr (inl (refl, refl, refl));
-          top = g;
-          left = a;
-          right = b;
-          out = o;
-          back = f;
-        })
-        pick (inr (inr (inr (a, b, o)))) = go (t.k, t.i) (record {
-          t = t;
-          there = i;
-          w = t.j;
-          round = inr (inr (refl, refl, refl));
-          top = g;
-          left = a;
-          right = b;
-          out = o;
-          back = k;
-        })
+
+        met_or_out : Begins (side t.i) (side t.j) (side t.k) (inwards t.i t.j) (inwards t.j t.k) (inwards t.k t.i) → (HighestMet at z x ts)
+        met_or_out (inl m) = (t, i, g, m)
+        met_or_out (inr (inl (a, b, o))) = over t.i t.j t.k (inl (refl, refl, refl)) a b o e
+        met_or_out (inr (inr (inl (a, b, o)))) = over t.j t.k t.i (inr (inl (refl, refl, refl))) a b o f
+        met_or_out (inr (inr (inr (a, b, o)))) = over t.k t.i t.j (inr (inr (refl, refl, refl))) a b o k

@@ -2,7 +2,7 @@
 use Rattle.std.proofs.Common.{◌≡◌, ◌∙◌, ◌++◌, [], ◌∷◌, ◌+◌, ◌==◌, ℕ, ◌<◌, length, List, Bool, true, false, cond, refl, ap, sym, append_assoc, arith, filter}
 use Rattle.std.proofs.lemmas.List.{append-nil, Splits.slice_split-cons_no, Splits.length-slice_split}
 use Rattle.std.specs.List.{slice_split, onto_first}
-use Rattle.qh_model.specs.declared.form.Form.TheVariants.{Qhull}
+use Rattle.qh_model.specs.declared.form.Form.{Form, TheVariants.Qhull}
 use Rattle.qh_model.specs.headline.Words.{Word, is_blank, is_data, lines_of, words_of, before_comment, on_line, words_from, data_words, is_word}
 use Rattle.qh_model.proofs.texts.Lines.{Clear, split_clear, split_whole}
 use Rattle.qh_read.proofs.Lexing.{Lexed, start, ended, closed, begun, next, lexed}
@@ -11,15 +11,52 @@ pub push_cond : {A B : Type 0} (f : A → B) (b : Bool) (x y : A) (u v : B) → 
 push_cond f true x y u v p q = p refl
 push_cond f false x y u v p q = q refl
 
--- the words of a line that goes on with these bytes
-abbrev own : Bool → List ℕ → List (List ℕ)
-own true w = []
-own false w = before_comment (words_of w)
+-- ---- what both forms share: `parts` are the words of a line
+-- the words of a line that goes on with these bytes, in a comment or not
+abbrev pub own : (List ℕ → List (List ℕ)) → Bool → List ℕ → List (List ℕ)
+own parts true w = []
+own parts false w = parts w
 
 -- the words that lines give to what was read before them
-abbrev rest : ℕ → Bool → List ℕ → List (List ℕ) → List Word
-rest line comment w [] = []
-rest line comment w (l ∷ ls) = on_line line (own comment (w ++ l)) ++ words_from (own false) (line + 1) ls
+abbrev pub rest : (List ℕ → List (List ℕ)) → ℕ → Bool → List ℕ → List (List ℕ) → List Word
+rest parts line comment w [] = []
+rest parts line comment w (l ∷ ls) = on_line line (own parts comment (w ++ l)) ++ words_from parts (line + 1) ls
+
+-- what one byte does
+pub record Good (parts : List ℕ → List (List ℕ)) (Valid : Lexed → Type 0) (s : Lexed) (c : ℕ) (over : Bool) (t : Lexed) : Type 0 where
+  pub valid : Valid t
+  pub same : (l : List ℕ) (ls : List (List ℕ)) → t.words ++ rest parts t.line t.comment t.under_way (l ∷ ls)
+      ≡ s.words ++ rest parts s.line s.comment s.under_way (cond over ([] ∷ l ∷ ls) (onto_first c (l ∷ ls)))
+
+-- the lines of bytes are never none
+some_line : (bs : List ℕ) → 0 < length (lines_of bs)
+some_line bs = omega (arith, length-slice_split (λ c. c == 10) bs)
+
+-- the walk over all bytes
+module _ (form : Form) (parts : List ℕ → List (List ℕ)) (Valid : Lexed → Type 0)
+    (good : (s : Lexed) (c : ℕ) → Valid s → Good parts Valid s c (c == 10) (next form s c))
+    (ends : (s : Lexed) → Valid s → ended s.line s.under_way ≡ on_line s.line (own parts s.comment (s.under_way ++ []))) where
+  total : (bs : List ℕ) (s : Lexed) → Valid s → closed (lexed form s bs) ≡ s.words ++ rest parts s.line s.comment s.under_way (lines_of bs)
+  total [] s v = ap (λ t. s.words ++ t) (ends s v ∙ sym (append-nil _))
+  total (c ∷ cs) s v = total cs (next form s c) (good s c v).valid ∙ at_line (lines_of cs) (some_line cs)
+    where
+      at_line : (ls : List (List ℕ)) → 0 < length ls
+          → (next form s c).words ++ rest parts (next form s c).line (next form s c).comment (next form s c).under_way ls
+          ≡ s.words ++ rest parts s.line s.comment s.under_way (cond (c == 10) ([] ∷ ls) (onto_first c ls))
+      at_line [] h = absurd (omega arith)
+      at_line (l ∷ ls) h = (good s c v).same l ls
+
+  pub lexed_whole : (bs : List ℕ) → Valid start → closed (lexed form start bs) ≡ words_from parts 1 (lines_of bs)
+  lexed_whole bs v = total bs start v ∙ whole (lines_of bs) (some_line bs)
+    where
+      whole : (ls : List (List ℕ)) → 0 < length ls → rest parts 1 false [] ls ≡ words_from parts 1 ls
+      whole [] h = absurd (omega arith)
+      whole (l ∷ ls) h = refl
+
+-- ---- a point file
+-- the words of a line
+abbrev line_words : List ℕ → List (List ℕ)
+line_words w = before_comment (words_of w)
 
 -- what begins so is no comment
 abbrev data_or_none : List ℕ → Type 0
@@ -37,7 +74,7 @@ record Valid (s : Lexed) : Type 0 where
   quiet : s.comment ≡ true → s.under_way ≡ []
 
 -- the word under way is the only one of a line that ends here
-ends : (n : ℕ) (b : Bool) (w : List ℕ) → Clear is_blank w → data_or_none w → (b ≡ true → w ≡ []) → ended n w ≡ on_line n (own b (w ++ []))
+ends : (n : ℕ) (b : Bool) (w : List ℕ) → Clear is_blank w → data_or_none w → (b ≡ true → w ≡ []) → ended n w ≡ on_line n (own line_words b (w ++ []))
 ends n true [] h d q = refl
 ends n false [] h d q = refl
 ends n true (c ∷ w) h d q = cc (q refl)
@@ -47,7 +84,7 @@ ends n false (c ∷ w) h d q =
 
 -- a blank ends the word under way
 blank_ends : (n : ℕ) (w : List ℕ) (c : ℕ) (l : List ℕ) → Clear is_blank w → data_or_none w → is_blank c ≡ true
-    → on_line n (own false (w ++ c ∷ l)) ≡ ended n w ++ on_line n (own false l)
+    → on_line n (line_words (w ++ c ∷ l)) ≡ ended n w ++ on_line n (line_words l)
 blank_ends n [] c l h d e = ap (λ t. on_line n (before_comment (filter is_word t))) (split_clear is_blank [] c l h e)
 blank_ends n (b ∷ w) c l h d e =
     ap (λ t. on_line n (before_comment (filter is_word t))) (split_clear is_blank (b ∷ w) c l h e)
@@ -58,77 +95,53 @@ onto_other : (c : ℕ) (parts : List (List ℕ)) → is_data (c ∷ []) ≡ fals
 onto_other c [] e = ap (λ t. cond t ((c ∷ []) ∷ []) []) e
 onto_other c (part ∷ parts) e = ap (λ t. cond t ((c ∷ part) ∷ before_comment (filter is_word parts)) []) e
 
-comments : (c : ℕ) (l : List ℕ) → is_blank c ≡ false → is_data (c ∷ []) ≡ false → own false (c ∷ l) ≡ []
+comments : (c : ℕ) (l : List ℕ) → is_blank c ≡ false → is_data (c ∷ []) ≡ false → line_words (c ∷ l) ≡ []
 comments c l nb e = ap (λ t. before_comment (filter is_word t)) (slice_split-cons_no is_blank c l nb) ∙ onto_other c (slice_split is_blank l) e
-
--- what one byte does
-record Good (s : Lexed) (c : ℕ) (over : Bool) (t : Lexed) : Type 0 where
-  valid : Valid t
-  same : (l : List ℕ) (ls : List (List ℕ)) → t.words ++ rest t.line t.comment t.under_way (l ∷ ls)
-      ≡ s.words ++ rest s.line s.comment s.under_way (cond over ([] ∷ l ∷ ls) (onto_first c (l ∷ ls)))
 
 pub in_cond : {A : Type 0} (P : A → Type 0) (b : Bool) (x y : A) → (b ≡ true → P x) → (b ≡ false → P y) → P (cond b x y)
 in_cond P true x y f g = f refl
 in_cond P false x y f g = g refl
 
 begun_good : (ws : List Word) (n : ℕ) (w : List ℕ) (c : ℕ) → let s : Lexed = record { words = ws; line = n; comment = false; under_way = w } in
-    Valid s → is_blank c ≡ false → Good s c false (begun s w c)
+    Valid s → is_blank c ≡ false → Good line_words Valid s c false (begun s w c)
 begun_good ws n [] c v nb =
     let s : Lexed = record { words = ws; line = n; comment = false; under_way = [] } in
-    in_cond (Good s c false) (is_data (c ∷ [])) (record s { under_way = c ∷ [] }) (record s { comment = true })
+    in_cond (Good line_words Valid s c false) (is_data (c ∷ [])) (record s { under_way = c ∷ [] }) (record s { comment = true })
     (λ e. record { valid = record { clean = (nb, tt); data_word = e; quiet = λ q. cc }; same = λ l ls. refl })
     (λ e. record {
       valid = record { clean = tt; data_word = tt; quiet = λ q. refl };
-      same = λ l ls. ap (λ t. ws ++ (on_line n t ++ words_from (own false) (n + 1) ls)) (sym (comments c l nb e));
+      same = λ l ls. ap (λ t. ws ++ (on_line n t ++ words_from line_words (n + 1) ls)) (sym (comments c l nb e));
     })
 begun_good ws n (b ∷ w) c v nb =
     record {
       valid = record { clean = clear_append is_blank (b ∷ w) c v.clean nb; data_word = v.data_word; quiet = λ q. cc };
-      same = λ l ls. ap (λ t. ws ++ (on_line n (before_comment (words_of (b ∷ t))) ++ words_from (own false) (n + 1) ls)) (append_assoc w (c ∷ []) l);
+      same = λ l ls. ap (λ t. ws ++ (on_line n (before_comment (words_of (b ∷ t))) ++ words_from line_words (n + 1) ls)) (append_assoc w (c ∷ []) l);
     }
 
 good_at : (ws : List Word) (n : ℕ) (b : Bool) (w : List ℕ) (c : ℕ) (over : Bool)
     → let s : Lexed = record { words = ws; line = n; comment = b; under_way = w } in
-    Valid s → Good s c over (cond over (record { words = closed s; line = n + 1; comment = false; under_way = [] })
+    Valid s → Good line_words Valid s c over (cond over (record { words = closed s; line = n + 1; comment = false; under_way = [] })
     (cond b s (cond (is_blank c) (record s { words = closed s; under_way = [] }) (begun s w c))))
 good_at ws n b w c true v =
     record {
       valid = record { clean = tt; data_word = tt; quiet = λ q. refl };
-      same = λ l ls. append_assoc ws (ended n w) _ ∙ ap (λ t. ws ++ (t ++ words_from (own false) (n + 1) (l ∷ ls))) (ends n b w v.clean v.data_word v.quiet);
+      same = λ l ls. append_assoc ws (ended n w) _ ∙ ap (λ t. ws ++ (t ++ words_from line_words (n + 1) (l ∷ ls))) (ends n b w v.clean v.data_word v.quiet);
     }
 good_at ws n true w c false v = record { valid = v; same = λ l ls. refl }
 good_at ws n false w c false v =
     let s : Lexed = record { words = ws; line = n; comment = false; under_way = w } in
-    in_cond (Good s c false) (is_blank c) (record s { words = closed s; under_way = [] }) (begun s w c)
+    in_cond (Good line_words Valid s c false) (is_blank c) (record s { words = closed s; under_way = [] }) (begun s w c)
     (λ e. record {
       valid = record { clean = tt; data_word = tt; quiet = λ q. refl };
       same = λ l ls. append_assoc ws (ended n w) _
-          ∙ ap (λ t. ws ++ t) (sym (append_assoc (ended n w) (on_line n (own false l)) (words_from (own false) (n + 1) ls)))
-          ∙ ap (λ t. ws ++ (t ++ words_from (own false) (n + 1) ls)) (sym (blank_ends n w c l v.clean v.data_word e));
+          ∙ ap (λ t. ws ++ t) (sym (append_assoc (ended n w) (on_line n (line_words l)) (words_from line_words (n + 1) ls)))
+          ∙ ap (λ t. ws ++ (t ++ words_from line_words (n + 1) ls)) (sym (blank_ends n w c l v.clean v.data_word e));
     })
     (λ e. begun_good ws n w c v e)
 
-good : (s : Lexed) (c : ℕ) → Valid s → Good s c (c == 10) (next Qhull s c)
+good : (s : Lexed) (c : ℕ) → Valid s → Good line_words Valid s c (c == 10) (next Qhull s c)
 good s c v = good_at s.words s.line s.comment s.under_way c (c == 10) v
 
--- the lines of bytes are never none
-pub some_line : (bs : List ℕ) → 0 < length (lines_of bs)
-some_line bs = omega (arith, length-slice_split (λ c. c == 10) bs)
-
-total : (bs : List ℕ) (s : Lexed) → Valid s → closed (lexed Qhull s bs) ≡ s.words ++ rest s.line s.comment s.under_way (lines_of bs)
-total [] s v = ap (λ t. s.words ++ t) (ends s.line s.comment s.under_way v.clean v.data_word v.quiet ∙ sym (append-nil _))
-total (c ∷ cs) s v =
-    let g = good s c v in
-    total cs (next Qhull s c) g.valid ∙ at_line (lines_of cs) (some_line cs)
-  where
-    at_line : (ls : List (List ℕ)) → 0 < length ls → (next Qhull s c).words ++ rest (next Qhull s c).line (next Qhull s c).comment (next Qhull s c).under_way ls
-        ≡ s.words ++ rest s.line s.comment s.under_way (cond (c == 10) ([] ∷ ls) (onto_first c ls))
-    at_line [] h = absurd (omega arith)
-    at_line (l ∷ ls) h = (good s c v).same l ls
-
 pub data_words-lexed : (bs : List ℕ) → closed (lexed Qhull start bs) ≡ data_words bs
-data_words-lexed bs = total bs start (record { clean = tt; data_word = tt; quiet = λ q. refl }) ∙ whole (lines_of bs) (some_line bs)
-  where
-    whole : (ls : List (List ℕ)) → 0 < length ls → rest 1 false [] ls ≡ words_from (own false) 1 ls
-    whole [] h = absurd (omega arith)
-    whole (l ∷ ls) h = refl
+data_words-lexed bs = lexed_whole Qhull line_words Valid good (λ s v. ends s.line s.comment s.under_way v.clean v.data_word v.quiet) bs
+    (record { clean = tt; data_word = tt; quiet = λ q. refl })

@@ -1,25 +1,19 @@
 -- The words of the bytes of an OFF file that come one at a time are the words of the whole.
-use Rattle.std.proofs.Common.{◌≡◌, ◌∙◌, ◌++◌, [], ◌∷◌, ◌+◌, ◌==◌, ℕ, ◌<◌, length, List, Bool, true, false, cond, refl, ap, sym, subst, append_assoc, arith}
+use Rattle.std.proofs.Common.{◌≡◌, ◌∙◌, ◌++◌, [], ◌∷◌, ◌+◌, ◌==◌, ℕ, List, Bool, true, false, cond, refl, ap, sym, subst, append_assoc, arith}
 use Rattle.std.proofs.{Common.filter, lemmas.Bool.Decides.nat_tests, lemmas.List.append-nil}
-use Rattle.std.specs.List.{slice_split, onto_first}
+use Rattle.std.specs.List.{slice_split}
 use Rattle.qh_model.specs.{declared.form.Form.TheVariants.Off, headline.OffFile.before_hash, headline.OffFile.off_words}
-use Rattle.qh_model.specs.headline.Words.{Word, is_blank, lines_of, words_of, words_from, on_line, is_word}
+use Rattle.qh_model.specs.headline.Words.{Word, is_blank, words_of, words_from, on_line, is_word}
 use Rattle.qh_model.proofs.texts.Lines.{Clear, split_clear, split_whole}
 use Rattle.qh_read.proofs.Lexing.{Lexed, start, ended, closed, next, lexed}
-use Rattle.qh_read.proofs.LexingLaws.{clear_append, in_cond, some_line}
+use Rattle.qh_read.proofs.LexingLaws.{Good, clear_append, in_cond, lexed_whole, own}
 
 abbrev is_hash : ℕ → Bool
 is_hash c = c == 35
 
--- the words of a line that goes on with these bytes
-abbrev own : Bool → List ℕ → List (List ℕ)
-own true w = []
-own false w = words_of (before_hash w)
-
--- the words that lines give to what was read before them
-abbrev rest : ℕ → Bool → List ℕ → List (List ℕ) → List Word
-rest line comment w [] = []
-rest line comment w (l ∷ ls) = on_line line (own comment (w ++ l)) ++ words_from (own false) (line + 1) ls
+-- the words of a line
+abbrev line_words : List ℕ → List (List ℕ)
+line_words w = words_of (before_hash w)
 
 record Valid (s : Lexed) : Type 0 where
   clean : Clear is_blank s.under_way
@@ -37,7 +31,7 @@ only_word n [] h = refl
 only_word n (c ∷ w) h = ap (λ t. on_line n (filter is_word t)) (split_whole is_blank (c ∷ w) h)
 
 -- where a line ends, or its comment begins
-ends : (n : ℕ) (w l : List ℕ) → Clear is_blank w → Clear is_hash w → before_hash l ≡ [] → on_line n (own false (w ++ l)) ≡ ended n w
+ends : (n : ℕ) (w l : List ℕ) → Clear is_blank w → Clear is_hash w → before_hash l ≡ [] → on_line n (line_words (w ++ l)) ≡ ended n w
 ends n w l h d e = ap (λ (t : List ℕ). on_line n (words_of t)) (hash_later w l d ∙ ap (λ (t : List ℕ). w ++ t) e ∙ append-nil w) ∙ only_word n w h
 
 -- a blank is no `#`
@@ -46,84 +40,64 @@ blank_plain c e = grind (arith, nat_tests)
 
 -- a blank ends the word under way
 blank_ends : (n : ℕ) (w : List ℕ) (c : ℕ) (l : List ℕ) → Clear is_blank w → Clear is_hash w → is_blank c ≡ true
-    → on_line n (own false (w ++ c ∷ l)) ≡ ended n w ++ on_line n (own false l)
+    → on_line n (line_words (w ++ c ∷ l)) ≡ ended n w ++ on_line n (line_words l)
 blank_ends n w c l h d e =
     ap (λ (t : List ℕ). on_line n (words_of t)) (hash_later w (c ∷ l) d ∙ ap (λ (t : Bool). w ++ cond t [] (c ∷ before_hash l)) (blank_plain c e))
     ∙ ap (λ t. on_line n (filter is_word t)) (split_clear is_blank w c (before_hash l) h e)
     ∙ first w
   where
-    first : (w : List ℕ) → on_line n (filter is_word (w ∷ slice_split is_blank (before_hash l))) ≡ ended n w ++ on_line n (own false l)
+    first : (w : List ℕ) → on_line n (filter is_word (w ∷ slice_split is_blank (before_hash l))) ≡ ended n w ++ on_line n (line_words l)
     first [] = refl
     first (b ∷ w) = refl
 
--- what one byte does
-record Good (s : Lexed) (c : ℕ) (over : Bool) (t : Lexed) : Type 0 where
-  valid : Valid t
-  same : (l : List ℕ) (ls : List (List ℕ)) → t.words ++ rest t.line t.comment t.under_way (l ∷ ls)
-      ≡ s.words ++ rest s.line s.comment s.under_way (cond over ([] ∷ l ∷ ls) (onto_first c (l ∷ ls)))
-
 -- a line ends, with a comment or without
-line_ends : (n : ℕ) (b : Bool) (w : List ℕ) → Clear is_blank w → Clear is_hash w → (b ≡ true → w ≡ []) → ended n w ≡ on_line n (own b (w ++ []))
+line_ends : (n : ℕ) (b : Bool) (w : List ℕ) → Clear is_blank w → Clear is_hash w → (b ≡ true → w ≡ []) → ended n w ≡ on_line n (own line_words b (w ++ []))
 line_ends n true w h d q = subst (λ (t : List ℕ). ended n t ≡ []) (sym (q refl)) refl
 line_ends n false w h d q = sym (ends n w [] h d refl)
 
 marked_good : (ws : List Word) (n : ℕ) (w : List ℕ) (c : ℕ) → let s : Lexed = record { words = ws; line = n; comment = false; under_way = w } in
     Valid s → is_blank c ≡ false
-    → Good s c false (cond (c == 35) (record s { words = closed s; under_way = []; comment = true }) (record s { under_way = w ++ c ∷ [] }))
+    → Good line_words Valid s c false (cond (c == 35) (record s { words = closed s; under_way = []; comment = true }) (record s { under_way = w ++ c ∷ [] }))
 marked_good ws n w c v nb =
     let s : Lexed = record { words = ws; line = n; comment = false; under_way = w } in
-    in_cond (Good s c false) (c == 35) (record s { words = closed s; under_way = []; comment = true }) (record s { under_way = w ++ c ∷ [] })
+    in_cond (Good line_words Valid s c false) (c == 35) (record s { words = closed s; under_way = []; comment = true }) (record s { under_way = w ++ c ∷ [] })
     (λ e. record {
       valid = record { clean = tt; plain = tt; quiet = λ q. refl };
-      same = λ l ls. append_assoc ws (ended n w) (words_from (own false) (n + 1) ls)
-          ∙ ap (λ t. ws ++ (t ++ words_from (own false) (n + 1) ls))
+      same = λ l ls. append_assoc ws (ended n w) (words_from line_words (n + 1) ls)
+          ∙ ap (λ t. ws ++ (t ++ words_from line_words (n + 1) ls))
           (sym (ends n w (c ∷ l) v.clean v.plain (ap (λ (t : Bool). cond t [] (c ∷ before_hash l)) e)));
     })
     (λ e. record {
       valid = record { clean = clear_append is_blank w c v.clean nb; plain = clear_append is_hash w c v.plain e; quiet = λ q. cc };
-      same = λ l ls. ap (λ (t : List ℕ). ws ++ (on_line n (words_of (before_hash t)) ++ words_from (own false) (n + 1) ls)) (append_assoc w (c ∷ []) l);
+      same = λ l ls. ap (λ (t : List ℕ). ws ++ (on_line n (words_of (before_hash t)) ++ words_from line_words (n + 1) ls)) (append_assoc w (c ∷ []) l);
     })
 
 good_at : (ws : List Word) (n : ℕ) (b : Bool) (w : List ℕ) (c : ℕ) (over : Bool)
     → let s : Lexed = record { words = ws; line = n; comment = b; under_way = w } in
-    Valid s → Good s c over (cond over (record { words = closed s; line = n + 1; comment = false; under_way = [] })
+    Valid s → Good line_words Valid s c over (cond over (record { words = closed s; line = n + 1; comment = false; under_way = [] })
     (cond b s (cond (is_blank c) (record s { words = closed s; under_way = [] })
     (cond (c == 35) (record s { words = closed s; under_way = []; comment = true }) (record s { under_way = w ++ c ∷ [] })))))
 good_at ws n b w c true v =
     record {
       valid = record { clean = tt; plain = tt; quiet = λ q. refl };
-      same = λ l ls. append_assoc ws (ended n w) _ ∙ ap (λ t. ws ++ (t ++ words_from (own false) (n + 1) (l ∷ ls))) (line_ends n b w v.clean v.plain v.quiet);
+      same = λ l ls. append_assoc ws (ended n w) _ ∙ ap (λ t. ws ++ (t ++ words_from line_words (n + 1) (l ∷ ls))) (line_ends n b w v.clean v.plain v.quiet);
     }
 good_at ws n true w c false v = record { valid = v; same = λ l ls. refl }
 good_at ws n false w c false v =
     let s : Lexed = record { words = ws; line = n; comment = false; under_way = w } in
-    in_cond (Good s c false) (is_blank c) (record s { words = closed s; under_way = [] })
+    in_cond (Good line_words Valid s c false) (is_blank c) (record s { words = closed s; under_way = [] })
     (cond (c == 35) (record s { words = closed s; under_way = []; comment = true }) (record s { under_way = w ++ c ∷ [] }))
     (λ e. record {
       valid = record { clean = tt; plain = tt; quiet = λ q. refl };
       same = λ l ls. append_assoc ws (ended n w) _
-          ∙ ap (λ t. ws ++ t) (sym (append_assoc (ended n w) (on_line n (own false l)) (words_from (own false) (n + 1) ls)))
-          ∙ ap (λ t. ws ++ (t ++ words_from (own false) (n + 1) ls)) (sym (blank_ends n w c l v.clean v.plain e));
+          ∙ ap (λ t. ws ++ t) (sym (append_assoc (ended n w) (on_line n (line_words l)) (words_from line_words (n + 1) ls)))
+          ∙ ap (λ t. ws ++ (t ++ words_from line_words (n + 1) ls)) (sym (blank_ends n w c l v.clean v.plain e));
     })
     (λ e. marked_good ws n w c v e)
 
-good : (s : Lexed) (c : ℕ) → Valid s → Good s c (c == 10) (next Off s c)
+good : (s : Lexed) (c : ℕ) → Valid s → Good line_words Valid s c (c == 10) (next Off s c)
 good s c v = good_at s.words s.line s.comment s.under_way c (c == 10) v
 
-total : (bs : List ℕ) (s : Lexed) → Valid s → closed (lexed Off s bs) ≡ s.words ++ rest s.line s.comment s.under_way (lines_of bs)
-total [] s v = ap (λ t. s.words ++ t) (line_ends s.line s.comment s.under_way v.clean v.plain v.quiet ∙ sym (append-nil _))
-total (c ∷ cs) s v =
-    let g = good s c v in
-    total cs (next Off s c) g.valid ∙ at_line (lines_of cs) (some_line cs)
-  where
-    at_line : (ls : List (List ℕ)) → 0 < length ls → (next Off s c).words ++ rest (next Off s c).line (next Off s c).comment (next Off s c).under_way ls
-        ≡ s.words ++ rest s.line s.comment s.under_way (cond (c == 10) ([] ∷ ls) (onto_first c ls))
-    at_line [] h = absurd (omega arith)
-    at_line (l ∷ ls) h = (good s c v).same l ls
-
 pub off_words-lexed : (bs : List ℕ) → closed (lexed Off start bs) ≡ off_words bs
-off_words-lexed bs = total bs start (record { clean = tt; plain = tt; quiet = λ q. refl }) ∙ whole (lines_of bs) (some_line bs)
-  where
-    whole : (ls : List (List ℕ)) → 0 < length ls → rest 1 false [] ls ≡ words_from (own false) 1 ls
-    whole [] h = absurd (omega arith)
-    whole (l ∷ ls) h = refl
+off_words-lexed bs = lexed_whole Off line_words Valid good (λ s v. line_ends s.line s.comment s.under_way v.clean v.plain v.quiet) bs
+    (record { clean = tt; plain = tt; quiet = λ q. refl })

@@ -1,12 +1,12 @@
 -- An OFF file that is filled in has its counts and the number of coordinates that they say.
 use Rattle.qh_model.specs.declared.read_fault.ReadFault.TheVariants as faults
-use Rattle.std.proofs.Common.{◌≡◌, ◌∙◌, ◌++◌, [], ◌∷◌, ◌*◌, ◌≤◌, ◌&&◌, ℕ, List, Bool, true, false, cond, refl, ap, sym, arith, zero, suc, length, map, subst}
-use Rattle.std.proofs.lemmas.{Bool.Decides.nat_tests, List.append-nil}
+use Rattle.std.proofs.Common.{◌≡◌, ◌∙◌, ◌++◌, [], ◌∷◌, ◌*◌, ◌≤◌, ℕ, List, Bool, true, false, refl, ap, sym, zero, suc, length, map, subst}
+use Rattle.std.proofs.lemmas.{List.append-nil}
 use Rattle.std.specs.{Cmp.Lexicographic.same_text, List.AllByRecursion}
-use Rattle.std.specs.Prelude.{ℤ, codes, pos, negsuc, Option, Some, None, option_map, nat_le}
+use Rattle.std.specs.Prelude.{ℤ, codes, pos, Option, Some, None, option_map}
 use Rattle.qh_model.specs.{declared.limits.TheConstants.POINT_LIMIT, headline.Limits.IsCoordinate, headline.Numbers.number_of, headline.Words.Word}
 use Rattle.qh_read.specs.contract.Progress.{Progress, wants_keyword, wants_vertex_count, wants_face_count, wants_edge_count, wants_vertices, fails, counted}
-use Rattle.qh_read.specs.{contract.Progress.after, contract.Tokens.cap, steps.Building.filled_in, steps.SmallTokens.capped}
+use Rattle.qh_read.specs.{contract.Progress.after, steps.Building.filled_in, steps.SmallTokens.capped}
 use Rattle.qh_read.proofs.ProgressLaws.{counts, is_off, judged, stays, numbers, Filled, filled_more, in_range}
 
 -- faces change nothing

@@ -25,90 +25,34 @@ record Four {A : Type 0} (xs : List A) (ts : List (ℕ × A)) : Type 0 where
   weighs : weight ts ≡ w1 + w2 + w3 + w4
   sums : (g : A → ℤ) → total g ts ≡ pos w1 *ℤ g a +ℤ pos w2 *ℤ g b +ℤ pos w3 *ℤ g c +ℤ pos w4 *ℤ g d
 
--- one weighted member, as four
-pad_one : (m : ℕ) (x : ℤ) → pos m *ℤ x +ℤ pos 0 ≡ pos m *ℤ x +ℤ pos 0 *ℤ x +ℤ pos 0 *ℤ x +ℤ pos 0 *ℤ x
-pad_one m x = omega (arith, ints)
-
--- two
-pad_two : (m n : ℕ) (x y : ℤ) → pos m *ℤ x +ℤ (pos n *ℤ y +ℤ pos 0) ≡ pos m *ℤ x +ℤ pos n *ℤ y +ℤ pos 0 *ℤ x +ℤ pos 0 *ℤ x
-pad_two m n x y = omega (arith, ints)
-
--- three
-pad_three : (m n k : ℕ) (x y z : ℤ) → pos m *ℤ x +ℤ (pos n *ℤ y +ℤ (pos k *ℤ z +ℤ pos 0)) ≡ pos m *ℤ x +ℤ pos n *ℤ y +ℤ pos k *ℤ z +ℤ pos 0 *ℤ x
-pad_three m n k x y z = omega (arith, ints)
-
--- four
-pad_four : (m n k l : ℕ) (x y z t : ℤ) → pos m *ℤ x +ℤ (pos n *ℤ y +ℤ (pos k *ℤ z +ℤ (pos l *ℤ t +ℤ pos 0)))
-    ≡ pos m *ℤ x +ℤ pos n *ℤ y +ℤ pos k *ℤ z +ℤ pos l *ℤ t
-pad_four m n k l x y z t = omega (arith, ints)
-
--- at most four terms are four, with weights 0 for those that lack
-four : {A : Type 0} (xs : List A) (ts : List (ℕ × A)) → Among xs ts → count ts ≤ 4 → 0 < weight ts → Four xs ts
-four xs [] m c h = absurd (omega arith)
-four xs (p ∷ []) m c h = record {
-  a = p.1;
-  b = p.1;
-  c = p.1;
-  d = p.1;
-  has_a = m.0;
-  has_b = m.0;
-  has_c = m.0;
-  has_d = m.0;
-  w1 = p.0;
-  w2 = 0;
-  w3 = 0;
-  w4 = 0;
-  weighs = omega arith;
-  sums = λ g. pad_one p.0 (g p.1);
-}
-four xs (p ∷ q ∷ []) m c h = record {
-  a = p.1;
-  b = q.1;
-  c = p.1;
-  d = p.1;
-  has_a = m.0;
-  has_b = m.1.0;
-  has_c = m.0;
-  has_d = m.0;
-  w1 = p.0;
-  w2 = q.0;
-  w3 = 0;
-  w4 = 0;
-  weighs = omega arith;
-  sums = λ g. pad_two p.0 q.0 (g p.1) (g q.1);
-}
-four xs (p ∷ q ∷ r ∷ []) m c h = record {
-  a = p.1;
-  b = q.1;
-  c = r.1;
-  d = p.1;
-  has_a = m.0;
-  has_b = m.1.0;
-  has_c = m.1.1.0;
-  has_d = m.0;
-  w1 = p.0;
-  w2 = q.0;
-  w3 = r.0;
-  w4 = 0;
-  weighs = omega arith;
-  sums = λ g. pad_three p.0 q.0 r.0 (g p.1) (g q.1) (g r.1);
-}
-four xs (p ∷ q ∷ r ∷ s ∷ []) m c h = record {
+-- made of four weighted members
+four_of : {A : Type 0} {xs : List A} {ts : List (ℕ × A)} (p q r s : ℕ × A) → In p.1 xs → In q.1 xs → In r.1 xs → In s.1 xs
+    → weight ts ≡ p.0 + q.0 + r.0 + s.0
+    → ((g : A → ℤ) → total g ts ≡ pos p.0 *ℤ g p.1 +ℤ pos q.0 *ℤ g q.1 +ℤ pos r.0 *ℤ g r.1 +ℤ pos s.0 *ℤ g s.1) → Four xs ts
+four_of p q r s has_p has_q has_r has_s weighs sums = record {
   a = p.1;
   b = q.1;
   c = r.1;
   d = s.1;
-  has_a = m.0;
-  has_b = m.1.0;
-  has_c = m.1.1.0;
-  has_d = m.1.1.1.0;
+  has_a = has_p;
+  has_b = has_q;
+  has_c = has_r;
+  has_d = has_s;
   w1 = p.0;
   w2 = q.0;
   w3 = r.0;
   w4 = s.0;
-  weighs = omega arith;
-  sums = λ g. pad_four p.0 q.0 r.0 s.0 (g p.1) (g q.1) (g r.1) (g s.1);
+  weighs = weighs;
+  sums = sums;
 }
+
+-- at most four terms are four, with weights 0 for those that lack
+four : {A : Type 0} (xs : List A) (ts : List (ℕ × A)) → Among xs ts → count ts ≤ 4 → 0 < weight ts → Four xs ts
+four xs [] m c h = absurd (omega arith)
+four xs (p ∷ []) m c h = four_of p (0, p.1) (0, p.1) (0, p.1) m.0 m.0 m.0 m.0 (omega arith) (λ g. omega (arith, ints))
+four xs (p ∷ q ∷ []) m c h = four_of p q (0, p.1) (0, p.1) m.0 m.1.0 m.0 m.0 (omega arith) (λ g. omega (arith, ints))
+four xs (p ∷ q ∷ r ∷ []) m c h = four_of p q r (0, p.1) m.0 m.1.0 m.1.1.0 m.0 (omega arith) (λ g. omega (arith, ints))
+four xs (p ∷ q ∷ r ∷ s ∷ []) m c h = four_of p q r s m.0 m.1.0 m.1.1.0 m.1.1.1.0 (omega arith) (λ g. omega (arith, ints))
 four xs (p ∷ q ∷ r ∷ s ∷ t ∷ ts) m c h = absurd (omega arith)
 
 -- ---- differences to p

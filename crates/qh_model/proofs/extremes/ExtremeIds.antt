@@ -121,15 +121,12 @@ apart i j = contrary (j ≡ i) (same_id j i)
 -- whether a member is extreme can be told
 extreme_or_not : (at : ℕ → Vector) (A : ℕ → Type 0) (xs : List ℕ) → Listed A xs → (i : ℕ)
     → (¬ (Combination at (Others A i) (at i))) ⊎ (¬ (¬ (Combination at (Others A i) (at i))))
-extreme_or_not at A xs l i = from_witness (listed_part A (λ j. j ≢ i) (apart i) xs l)
+extreme_or_not at A xs l i = let (ys, k) = listed_part A (λ j. j ≢ i) (apart i) xs l in sides (alternative_in at (Others A i) ys k (at i))
   where
     sides : Combination at (Others A i) (at i) ⊎ Separator at (Others A i) (at i)
         → (¬ (Combination at (Others A i) (at i))) ⊎ (¬ (¬ (Combination at (Others A i) (at i))))
     sides (inl m) = inr (λ n. n m)
     sides (inr s) = inl (λ m. all_lower at (Others A i) (at i) s.w m (s.past m.a m.has_a) (s.past m.b m.has_b) (s.past m.c m.has_c) (s.past m.d m.has_d))
-
-    from_witness : (ys : List ℕ) × Listed (Others A i) ys → (¬ (Combination at (Others A i) (at i))) ⊎ (¬ (¬ (Combination at (Others A i) (at i))))
-    from_witness (ys, k) = sides (alternative_in at (Others A i) ys k (at i))
 
 -- ---- each member is a mix of extremes
 -- the greatest member is extreme
@@ -158,7 +155,8 @@ a_greatest key (x ∷ xs) i m = greatest 4 key x xs
 -- each member of a listed set is a convex combination of its extremes
 pub combination_of_extremes : (at : ℕ → Vector) (A : ℕ → Type 0) (xs : List ℕ) → Listed A xs → HasDistinctPoints at A
     → (i : ℕ) → A i → Combination at (Extreme at A) (at i)
-combination_of_extremes at A xs l d i h = from_witness (listed_part A (λ j. ¬ (Combination at (Others A j) (at j))) (extreme_or_not at A xs l) xs l)
+combination_of_extremes at A xs l d i h = let (ys, k) = listed_part A (λ j. ¬ (Combination at (Others A j) (at j))) (extreme_or_not at A xs l) xs l in
+    sides (alternative_in at (Extreme at A) ys k (at i))
   where
     sides : Combination at (Extreme at A) (at i) ⊎ Separator at (Extreme at A) (at i) → Combination at (Extreme at A) (at i)
     sides (inl m) = m
@@ -167,9 +165,6 @@ combination_of_extremes at A xs l d i h = from_witness (listed_part A (λ j. ¬ 
         clash : Greatest 4 (λ j. key s.w (at j)) xs → ⊥
         clash g = not_above _ _ _ _
             (every_at (λ j. AtMost 4 (key s.w (at j)) (key s.w (at g.top))) xs i g.above ((l i).0 h)) (s.past g.top (top_is_extreme at A xs l d s.w g))
-
-    from_witness : (ys : List ℕ) × Listed (Extreme at A) ys → Combination at (Extreme at A) (at i)
-    from_witness (ys, k) = sides (alternative_in at (Extreme at A) ys k (at i))
 
 -- the law
 pub members_are_combinations : MembersAreCombinations

@@ -37,7 +37,8 @@ on_plane d e c h k = omega (arith, ints)
 pub face_combination : (at : ℕ → Vector) (A : ℕ → Type 0) (xs : List ℕ) → Listed A xs → (i j k : ℕ) → Supports at A i j k
     → (p : Vector) → vol (at i) (at j) (at k) p ≡ pos 0 → Combination at A p → Combination at (OnPlane at A i j k) p
 face_combination at A xs listed i j k supports p on mixed =
-    in_plane (listed_part A (λ t. vol a b c (at t) ≡ pos 0) (λ t. zero_or_not (vol a b c (at t))) xs listed)
+    let (ys, q) = listed_part A (λ t. vol a b c (at t) ≡ pos 0) (λ t. zero_or_not (vol a b c (at t))) xs listed in
+    by_cases (alternative_in at (OnPlane at A i j k) ys q p)
   where
     a : Vector
     a = at i
@@ -60,9 +61,6 @@ face_combination at A xs listed i j k supports p on mixed =
     by_cases (inl q) = q
     by_cases (inr w) =
         absurd (no_combination_by 2 (pair n w.w) (blend n w.w) (blend_is n w.w) at A p (λ t h. lower w t h (zero_or_not (vol a b c (at t)))) mixed)
-
-    in_plane : (ys : List ℕ) × Listed (OnPlane at A i j k) ys → Combination at (OnPlane at A i j k) p
-    in_plane (ys, q) = by_cases (alternative_in at (OnPlane at A i j k) ys q p)
 
 -- an extreme of a face is extreme
 face_up : (at : ℕ → Vector) (ids : List ℕ) (i j k : ℕ) → Supports at (Members ids) i j k

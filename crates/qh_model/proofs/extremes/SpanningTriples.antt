@@ -40,7 +40,8 @@ either_way at A i j k s u v w hu hv hw z n (inr h) = spanned at A i j k s u w v 
 -- the law
 pub planes_of_extremes : PlanesOfExtremes
 planes_of_extremes at ids d i j k t =
-    from_witness (listed_part (Members ids) (λ l. vol a b c (at l) ≡ pos 0) (λ l. zero_or_not (vol a b c (at l))) ids (listed_itself ids))
+    let (ys, q) = listed_part (Members ids) (λ l. vol a b c (at l) ≡ pos 0) (λ l. zero_or_not (vol a b c (at l))) ids (listed_itself ids) in
+    done (triangle_of at F (Extreme at F) (λ l f. combination_of_extremes at F ys q (λ x y fx fy e. d x y fx.0 fy.0 e) l f) own)
   where
     a : Vector
     a = at i
@@ -72,6 +73,3 @@ planes_of_extremes at ids d i j k t =
       where
         up : (l : ℕ) → Extreme at F l → Extreme at (Members ids) l
         up l e = ((extremes_of_face at ids i j k t.supports l).0 e).0
-
-    from_witness : (ys : List ℕ) × Listed F ys → SpannedByExtremes at (Members ids) i j k
-    from_witness (ys, q) = done (triangle_of at F (Extreme at F) (λ l f. combination_of_extremes at F ys q (λ x y fx fy e. d x y fx.0 fy.0 e) l f) own)
