@@ -277,13 +277,8 @@ fn tells_failing_reads(rt: HostRuntime) {
         assert_eq!(rt; failures, 1, "{way:?}");
     }
     let (outcome, failures) = read_failing(&rt, rt.alloc(), 12);
-    assert_points(
-        &rt,
-        outcome,
-        &[(5, 5, 5)],
-        "one point",
-        Way::FailingRead(12),
-    );
+    let way = Way::FailingRead(12);
+    assert_points(&rt, outcome, &[(5, 5, 5)], "one point", way);
     assert_eq!(rt; failures, 0);
 }
 
@@ -291,13 +286,8 @@ fn tells_failing_reads(rt: HostRuntime) {
 fn reads_by_any_number_of_threads(rt: HostRuntime) -> Result<(), Fail> {
     let bytes = with_line(rt.alloc(), "3\n24\n", 24, "")?;
     for threads in 0..5 {
-        let outcome = read_form_threads(
-            &rt,
-            rt.alloc(),
-            threads,
-            Form::Qhull,
-            &mut MemSource::new(&bytes),
-        );
+        let mut source = MemSource::new(&bytes);
+        let outcome = read_form_threads(&rt, rt.alloc(), threads, Form::Qhull, &mut source);
         assert_points(&rt, outcome, &PLACES, "lines", Way::Source);
     }
     let endless = read_form_threads(&rt, rt.alloc(), 4, Form::Qhull, &mut Spaces);
