@@ -1,0 +1,31 @@
+-- Surfaces of triangles that have an angle at each edge, and are the hull of the points at their corners.
+-- This project's own.
+use Rattle.std.specs.Prelude.{ℕ, ◌≡◌, ◌<◌, ◌≤◌, List, [], ◌∷◌, length}
+use Rattle.qh_model.specs.headline.Vector.{Vector}
+use Rattle.qh_model.specs.headline.Sets.{In}
+use Rattle.qh_model.specs.headline.Dimension.{IsDimension}
+use Rattle.qh_model.specs.headline.SupportingPlane.{IsSupportingTriple}
+use Rattle.qh_model.specs.headline.Polygons.{IsFacePolygon}
+use Rattle.qh_model.specs.contract.ClosedSurface.{Triple}
+use Rattle.qh_model.specs.contract.ClosedPolygons.{AreClosed, step_count}
+use Rattle.qh_convex_laws.specs.contract.LocallyConvex.{IsRound}
+
+-- the polygon is a face of the set, a triangle, from any of its corners on
+pub record IsTriangleFace (at : ℕ → Vector) (A : ℕ → Type 0) (q : List ℕ) : Type 0 where
+  pub t : Triple
+  pub corners : q ≡ t.i ∷ t.j ∷ t.k ∷ []
+  pub supports : IsSupportingTriple at A t.i t.j t.k
+  pub u : ℕ
+  pub v : ℕ
+  pub w : ℕ
+  pub round : IsRound t u v w
+  pub face : IsFacePolygon at A t.i t.j t.k (u ∷ v ∷ w ∷ [])
+
+-- the set is a solid, and the polygons, one at least, are faces of it that are triangles; they close up, and no step
+-- from corner to corner is taken twice
+pub record IsSharpSurface (at : ℕ → Vector) (A : ℕ → Type 0) (qs : List (List ℕ)) : Type 0 where
+  pub solid : IsDimension at A 3
+  pub some : 0 < length qs
+  pub faces : (q : List ℕ) → In q qs → IsTriangleFace at A q
+  pub closed : AreClosed qs
+  pub once : (u v : ℕ) → u < v → step_count qs u v ≤ 1
