@@ -16,8 +16,6 @@ mod pairs;
 mod rays;
 mod sharp;
 mod steps;
-#[cfg(test)]
-mod tests;
 mod triangles;
 
 pub use sharp::is_sharp_surface;

@@ -1,5 +1,6 @@
 //! Worked rows: a cube and a square, with what is wrong with claims of their faces.
 mod judgements;
+mod sharp_surfaces;
 mod surfaces;
 
 use qh_check::{FaceFault, Verdict, check, check_by_workers};

@@ -11,7 +11,7 @@ use std::test::Fail;
 use std::thread::Threads;
 
 /// The twelve triangles of a cube, as Qhull writes them, turned round.
-const TRIANGLES: [&[u32]; 12] = [
+pub const TRIANGLES: [&[u32]; 12] = [
     &[0, 2, 6],
     &[0, 6, 4],
     &[0, 4, 5],
