@@ -1,5 +1,6 @@
 -- Marks of ids and of corners.
-use Rattle.std.proofs.Common.{◌≡◌, ◌≢◌, ℕ, ◌+◌, ◌<◌, ◌≤◌, ◌⊎◌, arith, Bool, true, false, List, [], ◌∷◌, ◌++◌, get_or, length, take, refl, sym, ap, subst, ◌∙◌, inl, inr}
+use Rattle.std.proofs.Common.{◌≡◌, ◌≢◌, ℕ, ◌+◌, ◌<◌, ◌⊎◌, arith, sym, ap, subst, ◌∙◌, inl, inr}
+use Rattle.std.proofs.Common.{Bool, true, false, List, [], ◌∷◌, get_or, length, take}
 use Rattle.std.proofs.lemmas.Bool.{cases_Bool, cases_lt}
 use Rattle.std.proofs.lemmas.List.{get_or-set_other}
 use Rattle.std.proofs.Math.ListN.{set}
@@ -9,9 +10,9 @@ use Rattle.qh_model.specs.contract.ClosedSurface.{Triple}
 use Rattle.qh_model.specs.laws.ClosedSurfaceLaws.{IsCornerOf}
 use Rattle.qh_model.proofs.lists.Filters.{in_filter}
 use Rattle.qh_convex.specs.steps.Corners.{IsMarked, is_unmarked}
-use Rattle.qh_convex.proofs.Prefixes.{each_more, in_more, last_more, of_more}
+use Rattle.qh_convex.proofs.Prefixes.{each_more, in_more, last_more}
 
--- what is marked after one more mark was marked before, or it is that one
+-- what is marked after one more mark was marked before, or just now
 pub marked_more : (marks : List Bool) (i k : ℕ) → IsMarked (set marks i true) k → IsMarked marks k ⊎ (k ≡ i)
 marked_more marks i k m = elim (cases_lt k i) [
   | inl l ↦ inl (before (λ e. omega (arith, e, l)))

@@ -1,5 +1,5 @@
 -- Members of the first elements of a list, one element more.
-use Rattle.std.proofs.Common.{◌≡◌, ℕ, ◌+◌, ◌<◌, ◌⊎◌, List, [], ◌∷◌, ◌++◌, get_or, length, take, refl, sym, subst, ◌∙◌, inl, inr}
+use Rattle.std.proofs.Common.{◌≡◌, ℕ, ◌+◌, ◌<◌, ◌⊎◌, List, [], ◌∷◌, get_or, length, take, refl, sym, subst, ◌∙◌, inl, inr}
 use Rattle.std.proofs.lemmas.List.{take_more}
 use Rattle.qh_model.specs.headline.Sets.{In}
 use Rattle.qh_model.proofs.lists.Joined.{in_append, of_append}

@@ -1,16 +1,13 @@
 -- What a look at each edge and each hidden id has found makes the triangles all faces of a solid.
-use Rattle.std.proofs.Common.{◌≡◌, ◌≢◌, ℕ, ◌<◌, ◌≤◌, ◌⊎◌, arith, true, List, [], ◌∷◌, get_or, length, map, refl, sym, ap, subst, ◌∙◌, inl, inr}
+use Rattle.std.proofs.Common.{◌≡◌, ◌≢◌, ℕ, ◌<◌, ◌≤◌, ◌⊎◌, arith, List, [], ◌∷◌, get_or, length, map, refl, sym, ap, subst, ◌∙◌, inl, inr}
 use Rattle.std.proofs.lemmas.Bool.{cases_lt}
 use Rattle.std.proofs.lemmas.List.Sums.{count_by-le-length}
 use Rattle.std.specs.Prelude.{pos, count_by, ◌≤ℤ◌, ◌<ℤ◌}
-use Rattle.std.specs.List.{flat_map}
 use Rattle.qh_model.specs.headline.Vector.{Vector}
 use Rattle.qh_model.specs.headline.Predicates.{vol}
 use Rattle.qh_model.specs.headline.Sets.{In, Members}
 use Rattle.qh_model.specs.headline.Dimension.{IsDimension}
-use Rattle.qh_model.specs.headline.Polygons.{IsFacePolygon}
-use Rattle.qh_model.specs.contract.ClosedPolygons.{AreClosed, step_count, steps_round}
-use Rattle.qh_model.specs.contract.ClosedSurface.{Triple, IsClosed, edges, is_edge}
+use Rattle.qh_model.specs.contract.ClosedSurface.{Triple, IsClosed, is_edge}
 use Rattle.qh_model.specs.contract.IdSets.{HasDistinctPoints}
 use Rattle.qh_model.specs.laws.ClosedSurfaceLaws.{IsCornerOf}
 use Rattle.qh_model.proofs.Members.{In-get_or}
@@ -23,10 +20,10 @@ use Rattle.qh_convex_laws.proofs.Highest.{vol-turn}
 use Rattle.qh_convex.specs.contract.SharpSurface.{IsTriangleFace, IsSharpSurface}
 use Rattle.qh_convex.specs.steps.Hidden.{IsUnderOne, IsUnderStep}
 use Rattle.qh_convex.specs.steps.Sharp.{AreSharp}
-use Rattle.qh_convex.specs.steps.StepKeys.{step_in, turns}
+use Rattle.qh_convex.specs.steps.StepKeys.{step_in}
 use Rattle.qh_convex.specs.steps.Triangles.{corners}
 use Rattle.qh_convex.proofs.SharpTriangles.{ends_differ, sharp_around}
-use Rattle.qh_convex.proofs.StepCounts.{ends, edges_are, steps_are, closes, once}
+use Rattle.qh_convex.proofs.StepCounts.{edges_are, steps_are, closes, once}
 use Rattle.qh_convex.proofs.StepLists.{of_turns, of_ups}
 
 -- a triangle with three corners, from the least on
@@ -90,11 +87,16 @@ module _ (at : ℕ → Vector) (ids : List ℕ) (ts : List Triple) (s : AreSharp
   convex : IsLocallyConvex at ts s.z s.d
   convex = record { closed = closed; inside = s.met.inside; convex = λ t m. (sharp t m).around; told = s.met.told; once = s.met.once }
 
+  -- the step at a position of the first list
+  abbrev step : ℕ → Triple
+  step k = step_in (get_or s.up k 0)
+
   under : (l : ℕ) → IsUnderOne at s.up s.z (at l) → IsUnder at ts s.z (at l)
-  under l (k, h, u) = go (of_turns ts (step_in (get_or s.up k 0)) (of_ups ts s.up s.down s.steps _ (in_map step_in s.up (get_or s.up k 0) (In-get_or s.up k 0 h))).0)
+  under l (k, h, u) =
+      go (of_turns ts (step k) (of_ups ts s.up s.down s.steps (step k) (in_map step_in s.up (get_or s.up k 0) (In-get_or s.up k 0 h))).0)
     where
-      go : (t : Triple) × In t ts × IsRound t (step_in (get_or s.up k 0)).i (step_in (get_or s.up k 0)).j (step_in (get_or s.up k 0)).k → IsUnder at ts s.z (at l)
-      go (t, m, r) = under_round at ts s.z (at l) (step_in (get_or s.up k 0)) t m r u
+      go : (t : Triple) × In t ts × IsRound t (step k).i (step k).j (step k).k → IsUnder at ts s.z (at l)
+      go (t, m, r) = under_round at ts s.z (at l) (step k) t m r u
 
   all_under : HasAllUnder at ids ts s.z
   all_under = record { corners = s.corners.listed; others = λ l m. by l (s.corners.others l m) }

@@ -1,8 +1,8 @@
 -- Triangles whose steps pair off with an angle at each edge: the neighbours of each.
-use Rattle.std.proofs.Common.{◌≡◌, ◌≢◌, ℕ, ◌<◌, ◌≤◌, arith, true, List, get_or, length, map, refl, sym, ap, subst, ◌∙◌, inl, inr}
+use Rattle.std.proofs.Common.{◌≡◌, ◌≢◌, ℕ, ◌<◌, arith, List, get_or, length, refl, sym, ap, subst, ◌∙◌, inl, inr}
 use Rattle.std.proofs.lemmas.Bool.{cases_lt}
 use Rattle.std.proofs.lemmas.Bool.Decides.{nat_tests}
-use Rattle.std.specs.Prelude.{pos, nat_lt, ◌<ℤ◌}
+use Rattle.std.specs.Prelude.{pos, ◌<ℤ◌}
 use Rattle.std.specs.List.{flat_map}
 use Rattle.qh_model.specs.headline.Vector.{Vector}
 use Rattle.qh_model.specs.headline.Predicates.{vol}
@@ -12,10 +12,10 @@ use Rattle.qh_model.proofs.Members.{In-get_or}
 use Rattle.qh_model.proofs.algebra.Signs.{less_le}
 use Rattle.qh_model.proofs.algebra.VectorIdentities.{vol-flip, vol-third_last}
 use Rattle.qh_model.proofs.lists.{Images.in_map, Joined.in_flat_map}
-use Rattle.qh_convex_laws.specs.contract.LocallyConvex.{IsRound, HasLowNeighbour, IsConvexAround, IsSharpAround}
-use Rattle.qh_convex_laws.proofs.Highest.{rise_round, vol-turn}
+use Rattle.qh_convex_laws.specs.contract.LocallyConvex.{IsRound, HasLowNeighbour, IsSharpAround}
+use Rattle.qh_convex_laws.proofs.Highest.{rise_round}
 use Rattle.qh_convex.specs.steps.Rays.{IsInside}
-use Rattle.qh_convex.specs.steps.StepKeys.{step_in, turns, goes_up, goes_down, back, AreSteps, AreSharpPairs, IsSharpPair}
+use Rattle.qh_convex.specs.steps.StepKeys.{step_in, turns, back, AreSteps, AreSharpPairs, IsSharpPair}
 use Rattle.qh_convex.proofs.StepLists.{at_position, of_turns, of_ups, in_ups, of_downs, in_downs}
 use Rattle.qh_convex.proofs.Volumes.{less_by, own_opposite}
 
@@ -79,7 +79,8 @@ module _ (at : ℕ → Vector) (ts : List Triple) (up down : List ℕ) (steps : 
           moved a b c d i j l p q r h = rw (sym p, sym q, sym r) h
 
           turned : vol (at s.j) (at s.i) (at (step_in (get_or up k 0)).k) (at s.k) <ℤ pos 0
-          turned = moved _ _ _ _ s.j s.i s.k (pair.from ∙ ap (λ (x : Triple). x.i) e) (pair.to ∙ ap (λ (x : Triple). x.j) e) (ap (λ (x : Triple). x.k) e) pair.below
+          turned = moved _ _ _ _ s.j s.i s.k (pair.from ∙ ap (λ (x : Triple). x.i) e) (pair.to ∙ ap (λ (x : Triple). x.j) e)
+              (ap (λ (x : Triple). x.k) e) pair.below
 
   pub partner : (s : Triple) → In s all → s.i ≢ s.j → HasPartner s
   partner s m n = elim (cases_lt s.i s.j) [

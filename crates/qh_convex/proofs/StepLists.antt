@@ -1,12 +1,12 @@
 -- The steps round triangles in two lists: which steps are there, and which triangles they come from.
-use Rattle.std.proofs.Common.{◌≡◌, ℕ, zero, suc, ◌<◌, arith, true, List, [], ◌∷◌, get_or, length, map, All, IsPermutation, refl, sym, ap, subst, ◌∙◌, inl, inr}
+use Rattle.std.proofs.Common.{◌≡◌, ℕ, suc, ◌<◌, arith, true, List, [], ◌∷◌, get_or, length, map, All, sym, ap, subst, inl, inr}
 use Rattle.std.proofs.lemmas.List.Sorted.{IsPermutation-sym}
 use Rattle.std.specs.Prelude.{filter}
 use Rattle.std.specs.List.{flat_map}
 use Rattle.qh_model.specs.headline.Sets.{In}
 use Rattle.qh_model.specs.contract.ClosedSurface.{Triple}
 use Rattle.qh_model.proofs.Members.{All-In, All-of, in_permutation}
-use Rattle.qh_model.proofs.lists.{Filters.in_filter, Filters.of_filter, Images.in_map, Images.of_map, Joined.in_flat_map, Joined.of_flat_map}
+use Rattle.qh_model.proofs.lists.{Filters.in_filter, Filters.of_filter, Images.in_map, Images.of_map, Joined.of_flat_map}
 use Rattle.qh_convex_laws.specs.contract.LocallyConvex.{IsRound}
 use Rattle.qh_convex.specs.steps.StepKeys.{step_in, turns, goes_up, goes_down, back, AreSteps}
 use Rattle.qh_convex.specs.steps.Triangles.{IsBelow}
@@ -63,7 +63,8 @@ module _ (ts : List Triple) (up down : List ℕ) (steps : AreSteps ts up down) w
   ups_below n low = All-of (λ key. IsBelow n (step_in key)) up (λ key m. turns_below n ts low (step_in key) (of_ups (step_in key) (in_map step_in up key m)).0)
 
   pub downs_below : (n : ℕ) → All (IsBelow n) ts → All (λ key. IsBelow n (step_in key)) down
-  downs_below n low = All-of (λ key. IsBelow n (step_in key)) down (λ key m. turned key (turns_below n ts low (back (step_in key)) (of_downs (step_in key) (in_map step_in down key m)).0))
+  downs_below n low = All-of (λ key. IsBelow n (step_in key)) down (λ key m.
+      turned key (turns_below n ts low (back (step_in key)) (of_downs (step_in key) (in_map step_in down key m)).0))
     where
       turned : (key : ℕ) → IsBelow n (back (step_in key)) → IsBelow n (step_in key)
       turned key b = record { i = b.j; j = b.i; k = b.k }

@@ -77,7 +77,7 @@ fn unmarked(alloc: Global, marks: &[bool], ids: &[Id]) -> Result<Vec<Id>, AllocE
     Ok(left)
 }
 
-/// Returns the ids that are no corner of a triangle, or `None` where a corner is none of the ids.
+/// Returns the ids that are no corner of a triangle, or `None` where some corner is not one of the ids.
 pub fn hidden_ids(
     alloc: Global,
     pts: &[Point],

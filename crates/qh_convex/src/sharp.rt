@@ -17,9 +17,6 @@ use crate::triangles::{Triangle, triangles_of};
 use qh_model::{Id, Memory, POINT_LIMIT, Point, Polygon};
 use std::alloc::Global;
 
-/// The least number of ids for each hidden one. A set with more hidden ids has a small hull, which is soon made.
-const IDS_TO_ONE_HIDDEN: usize = 4;
-
 /// Returns true if triangles are the hull of a set, by a look at each edge and each hidden id.
 fn are_sharp(
     alloc: Global,
@@ -42,9 +39,6 @@ fn are_sharp(
     let Some(hidden) = hidden_ids(alloc, pts, ids, triangles)? else {
         return Ok(false);
     };
-    if hidden.len() > ids.len() / IDS_TO_ONE_HIDDEN {
-        return Ok(false);
-    }
     let steps = Steps::sorted(alloc, triangles)?;
     if !edges_rise(&steps.up) || !are_sharp_pairs(pts, &steps.up, &steps.down) {
         return Ok(false);
@@ -62,8 +56,9 @@ fn are_sharp(
 /// each from any corner on. Ids that are no corners may lie under triangles.
 ///
 /// Each id is the index of one of the points. That the ids have distinct points (`IsIdSet`) is the caller's condition.
-/// `false` tells nothing: the polygons may be the hull all the same, where two triangles lie in one plane, many ids are
-/// no corners, there are more than `POINT_LIMIT` points, or the middle of the points, rounded, is not strictly inside.
+/// `false` tells nothing: the polygons may be the hull all the same, where two triangles lie in one plane, there are
+/// fewer polygons than ids (the hull is then small, and soon made) or more than `POINT_LIMIT` points, or the middle of
+/// the points, rounded, is not strictly inside.
 ///
 /// # Errors
 ///
@@ -79,7 +74,7 @@ pub fn is_sharp_surface(
     requires { AreIndices pts.now ids.now }
     ensures { IfOk result (λ b. IsTrue b → IsIdSet pts.now ids.now → IsSharpSurface (place pts.now) (Members ids.now) polygons.now) }
 {
-    if pts.len() > POINT_LIMIT as usize {
+    if pts.len() > POINT_LIMIT as usize || polygons.len() < ids.len() {
         return Ok(false);
     }
     match triangles_of(alloc, pts, polygons)? {

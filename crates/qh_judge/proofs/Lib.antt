@@ -1,1 +1,3 @@
 pub mod Judgements
+pub mod OwnIndices
+pub mod SharpSurfaces

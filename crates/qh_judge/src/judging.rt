@@ -1,15 +1,44 @@
 //! The verdict on faces of points.
 ghost use Rattle.std.specs.Prelude.{◌<◌, ◌≤◌, IfOk, length};
 ghost use Rattle.qh_model.specs.declared.limits.TheConstants.{POINT_LIMIT};
+ghost use Rattle.qh_model.specs.headline.DistinctIds.{AreDistinctIds};
 ghost use Rattle.qh_judge.specs.contract.Judging.{IsJudgement};
 
+use crate::checkers::{Alone, Checker, InThreads, verdict_on};
 use crate::judgement::Judgement;
 use crate::naming::polygons_of;
-use qh_check::{check_surface, check_surface_alone};
-use qh_model::{Memory, Point, Polygon};
+use crate::own_indices::are_own;
+use qh_model::{Id, Memory, Point, Polygon};
 use qh_plane::{distinct_alone, distinct_in_threads};
 use std::alloc::Global;
 use std::thread::Threads;
+
+/// Judges faces of points, whose distinct ids are known, by a way to check polygons. The faces are renamed only if
+/// their corners are not the distinct ids themselves.
+fn judge_by<C: Checker>(
+    checker: &C,
+    alloc: Global,
+    pts: &[Point],
+    ids: &[Id],
+    named: &[Point],
+    faces: &[Polygon],
+) -> Result<Judgement, Memory>
+    requires some { 0 < length pts.now }
+    requires distinct { AreDistinctIds pts.now ids.now }
+    ensures { IfOk result (IsJudgement pts.now named.now faces.now) }
+{
+    if are_own(pts, ids, named, faces) {
+        let verdict = verdict_on(checker, alloc, pts, ids, faces)?;
+        return Ok(Judgement::Told(verdict));
+    }
+    match polygons_of(alloc, pts, ids, named, faces)? {
+        Ok(polygons) => {
+            let verdict = verdict_on(checker, alloc, pts, ids, &polygons)?;
+            Ok(Judgement::Told(verdict))
+        }
+        Err(position) => Ok(Judgement::Stranger(position)),
+    }
+}
 
 /// Judges faces of points: whether they are the surface of the hull of the distinct points, as
 /// [`check_surface`] requires it, or have a corner where no point is.
@@ -34,13 +63,11 @@ pub fn judge_faces<R: Threads + Sync>(
     ensures { IfOk result (IsJudgement pts.now named.now faces.now) }
 {
     let ids = distinct_in_threads(rt, alloc, pts, workers)?;
-    match polygons_of(alloc, pts, &ids, named, faces)? {
-        Ok(polygons) => {
-            let verdict = check_surface(rt, alloc, pts, &ids, &polygons, workers as usize)?;
-            Ok(Judgement::Told(verdict))
-        }
-        Err(position) => Ok(Judgement::Stranger(position)),
-    }
+    let checker = InThreads {
+        rt,
+        workers: workers as usize,
+    };
+    judge_by(&checker, alloc, pts, &ids, named, faces)
 }
 
 /// Returns what is told of faces of points, as [`judge_faces`] does, by the calling thread alone.
@@ -62,11 +89,5 @@ pub fn judge_faces_alone(
     ensures { IfOk result (IsJudgement pts.now named.now faces.now) }
 {
     let ids = distinct_alone(alloc, pts)?;
-    match polygons_of(alloc, pts, &ids, named, faces)? {
-        Ok(polygons) => {
-            let found = check_surface_alone(alloc, pts, &ids, &polygons)?;
-            Ok(Judgement::Told(found))
-        }
-        Err(position) => Ok(Judgement::Stranger(position)),
-    }
+    judge_by(&Alone, alloc, pts, &ids, named, faces)
 }

@@ -5,9 +5,11 @@
 //! ids at their places (`positions` finds these), and [`judge_faces`] asks `qh_check` about the polygons.
 #![tactic(auto)]
 
+mod checkers;
 mod judgement;
 mod judging;
 mod naming;
+mod own_indices;
 mod positions;
 
 pub use judgement::Judgement;

@@ -19,7 +19,7 @@ struct Named<'a> {
 }
 
 /// Returns true if two points are the same.
-fn are_same(a: Point, b: Point) -> bool
+pub(crate) fn are_same(a: Point, b: Point) -> bool
     ensures { IsTrue result ↔ (a ≡ b) }
 {
     a == b

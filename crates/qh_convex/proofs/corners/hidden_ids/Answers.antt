@@ -1,5 +1,5 @@
 -- Marked corners are ids, and ids that are not marked are hidden.
-use Rattle.std.proofs.Common.{◌≡◌, ◌∙◌, ap, Bool, List, ℕ, filter, subst, sym, ◌⊎◌}
+use Rattle.std.proofs.Common.{Bool, List, ℕ, subst, sym, ◌⊎◌}
 use Rattle.qh_model.specs.headline.Sets.{In}
 use Rattle.qh_model.specs.laws.ClosedSurfaceLaws.{IsCornerOf}
 use Rattle.qh_model.proofs.lists.Filters.{of_filter}

@@ -1,5 +1,5 @@
 -- The corners of the triangle at hand are marked too.
-use Rattle.std.proofs.Common.{◌≡◌, ◌∙◌, ◌⊎◌, ℕ, ◌+◌, inl, inr, take, true}
+use Rattle.std.proofs.Common.{◌∙◌}
 use Rattle.std.proofs.lemmas.List.{length-set}
 use Rattle.qh_convex.proofs.Marks.{marked_corners}
 use Rattle.qh_convex.proofs.corners.marks_of_corners.Goals as goal

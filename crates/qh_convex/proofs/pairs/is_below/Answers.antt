@@ -1,8 +1,7 @@
 -- The triangle the other way round sees the point where this one has it below.
-use Rattle.std.proofs.Common.{◌≡◌, ◌∙◌, arith, subst, sym}
+use Rattle.std.proofs.Common.{◌≡◌, ◌∙◌, arith}
 use Rattle.std.proofs.lemmas.Int.{ints}
 use Rattle.std.specs.Prelude.{ℤ, pos, neg_ℤ, ◌<ℤ◌}
-use Rattle.qh_model.specs.headline.Predicates.{vol}
 use Rattle.qh_model.proofs.algebra.VectorIdentities.{vol-flip}
 use Rattle.qh_convex.proofs.pairs.is_below.Goals as goal
 

@@ -1,11 +1,8 @@
 -- What each look has found.
-use Rattle.std.proofs.Common.{◌≡◌, ℕ, ◌<◌, All, List, length, subst, sym}
-use Rattle.qh_model.specs.headline.Predicates.{place}
-use Rattle.qh_model.specs.headline.Sets.{In}
+use Rattle.std.proofs.Common.{◌<◌, length, subst}
 use Rattle.qh_model.proofs.Members.{All-In, All-of}
 use Rattle.qh_convex.specs.steps.Corners.{AreHidden}
-use Rattle.qh_convex.specs.steps.Hidden.{IsUnderOne}
-use Rattle.qh_convex.specs.steps.StepKeys.{AreSharpPairs, EdgesRise}
+use Rattle.qh_convex.specs.steps.StepKeys.{EdgesRise}
 use Rattle.qh_convex.proofs.sharp.are_sharp.Goals as goal
 
 pub are_sharp_pairs-requires-clause-up : goal.are_sharp_pairs-requires-clause-up
@@ -38,6 +35,7 @@ returns c = λ t. record {
   down = c.in_ok-steps.steps.down.items;
   steps = c.in_ok-steps.ensures.steps;
   rise = subst EdgesRise c.deref.ensures.value (c.edges_rise.ensures c.if-not-edges_rise.false);
-  pairs = rw (c.deref-else-not-edges_rise.ensures.value, c.deref-else-not-edges_rise-2.ensures.value) at (c.are_sharp_pairs.ensures c.if-not-are_sharp_pairs.false);
+  pairs = rw (c.deref-else-not-edges_rise.ensures.value, c.deref-else-not-edges_rise-2.ensures.value) at
+      (c.are_sharp_pairs.ensures c.if-not-are_sharp_pairs.false);
   under = rw (c.deref-2.ensures.value, c.deref-4.ensures.value) at (c.in_ok-has_under.ensures t);
 }

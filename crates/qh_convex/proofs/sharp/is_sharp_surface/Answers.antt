@@ -2,7 +2,6 @@
 use Rattle.std.proofs.lemmas.Result.{IfOk-weaker}
 use Rattle.qh_model.specs.headline.Predicates.{place}
 use Rattle.qh_convex.specs.steps.Triangles.{AreTriangles}
-use Rattle.qh_convex.specs.steps.Sharp.{AreSharp}
 use Rattle.qh_convex.proofs.SharpSurfaces.{sharp_surface}
 use Rattle.qh_convex.proofs.sharp.is_sharp_surface.Goals as goal
 
@@ -10,5 +9,6 @@ pub returns-in-Some : goal.returns-in-Some
 returns-in-Some c =
     let same : AreTriangles c.args.pts.now c.args.polygons.now c.in-Some.triangles.items = rw c.in-Some.is at c.in_ok-triangles.ensures in
     IfOk-weaker c.are_sharp.result _ _ (λ b h t set.
-    sharp_surface (place c.args.pts.now) c.args.ids.now c.in-Some.triangles.items (rw c.deref.ensures.value at (h t)) set.distinct c.args.polygons.now same.polygons)
+    sharp_surface (place c.args.pts.now) c.args.ids.now c.in-Some.triangles.items (rw c.deref.ensures.value at (h t))
+    set.distinct c.args.polygons.now same.polygons)
     c.are_sharp.ensures

@@ -1,5 +1,5 @@
 -- The point of the key at hand lies under a triangle.
-use Rattle.std.proofs.Common.{◌≡◌, ◌∙◌, ap, get_or, refl, subst, sym}
+use Rattle.std.proofs.Common.{◌∙◌, ap, get_or, refl, subst}
 use Rattle.qh_model.specs.headline.Vector.{Vector}
 use Rattle.qh_model.specs.headline.Predicates.{place}
 use Rattle.qh_convex.specs.steps.Hidden.{id_in, IsUnderOne}

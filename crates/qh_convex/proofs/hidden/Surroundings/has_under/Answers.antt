@@ -1,5 +1,5 @@
 -- The keys have the ids.
-use Rattle.std.proofs.Common.{◌≡◌, ℕ, ◌<◌, List, map, subst, sym, length, All}
+use Rattle.std.proofs.Common.{ℕ, ◌<◌, List, subst, sym, length}
 use Rattle.std.proofs.lemmas.List.Sorted.{IsPermutation-sym}
 use Rattle.qh_model.specs.headline.Sets.{In}
 use Rattle.qh_model.specs.headline.Predicates.{place}

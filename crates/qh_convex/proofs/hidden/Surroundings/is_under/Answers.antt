@@ -1,5 +1,5 @@
 -- No test finds the point past a side, or above.
-use Rattle.std.proofs.Common.{◌≡◌, ◌∙◌, ap, false, true, subst, sym}
+use Rattle.std.proofs.Common.{◌∙◌, ap, subst, sym}
 use Rattle.std.specs.Prelude.{ℤ, pos, ◌<ℤ◌}
 use Rattle.qh_model.specs.headline.Predicates.{place}
 use Rattle.qh_convex.specs.steps.StepKeys.{step_in}

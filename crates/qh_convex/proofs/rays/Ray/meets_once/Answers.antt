@@ -1,8 +1,7 @@
 -- The triangle at hand is met, or missed.
-use Rattle.std.proofs.Common.{◌≡◌, ◌∙◌, ℕ, ◌+◌, ap, inl, inr, subst, sym, true, false, ◌⊎◌}
+use Rattle.std.proofs.Common.{◌≡◌, ◌∙◌, ◌+◌, ap, inl, inr, subst, sym, true, false, ◌⊎◌}
 use Rattle.std.proofs.lemmas.List.Sums.{count_by_more_yes, count_by_more_no}
 use Rattle.qh_model.specs.headline.Predicates.{place}
-use Rattle.qh_model.specs.contract.ClosedSurface.{Triple}
 use Rattle.qh_convex_laws.specs.contract.LocallyConvex.{is_met, IsMissed}
 use Rattle.qh_convex.specs.steps.Rays.{IsInside, IsPassage}
 use Rattle.qh_convex.proofs.Prefixes.{each_more}

@@ -1,5 +1,5 @@
 -- The triangles so far, and the number of those that the ray meets.
-use Rattle.std.proofs.Common.{ℕ, ◌≡◌, ◌<◌, ◌≤◌, ◌⊎◌, take, true}
+use Rattle.std.proofs.Common.{◌≡◌, ◌⊎◌, take, true}
 use Rattle.std.specs.Prelude.{count_by}
 use Rattle.qh_model.specs.headline.Predicates.{place}
 use Rattle.qh_model.specs.headline.Sets.{In}

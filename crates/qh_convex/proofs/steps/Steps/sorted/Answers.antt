@@ -2,7 +2,7 @@
 use Rattle.std.proofs.Common.{IsPermutation, List, map, subst}
 use Rattle.std.proofs.lemmas.List.Sorted.{IsPermutation-map}
 use Rattle.qh_model.specs.contract.ClosedSurface.{Triple}
-use Rattle.qh_convex.specs.steps.StepKeys.{step_in, AreSteps}
+use Rattle.qh_convex.specs.steps.StepKeys.{step_in}
 use Rattle.qh_convex.proofs.StepLists.{ups_below, downs_below}
 use Rattle.qh_convex.proofs.steps.Steps.sorted.Goals as goal
 

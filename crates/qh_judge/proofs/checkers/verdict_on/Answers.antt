@@ -1,0 +1,6 @@
+-- A sharp surface is right.
+use Rattle.qh_judge.proofs.SharpSurfaces.{sharp_is_right}
+use Rattle.qh_judge.proofs.checkers.verdict_on.Goals as goal
+
+pub returns-then-branch : goal.returns-then-branch
+returns-then-branch g c = λ set. sharp_is_right c.args.pts.now c.args.ids.now c.args.polygons.now (c.in_ok-is_sharp_surface.ensures c.if-branch.true set)

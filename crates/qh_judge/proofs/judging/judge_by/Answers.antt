@@ -1,0 +1,30 @@
+-- The distinct ids are ids of distinct points, and of these the verdict on the polygons is so.
+use Rattle.qh_model.proofs.DistinctIds.{ids_within, some_id}
+use Rattle.qh_judge.proofs.Judgements.{told}
+use Rattle.qh_judge.proofs.judging.judge_by.Goals as goal
+
+pub verdict_on-requires-clause-some : goal.verdict_on-requires-clause-some
+verdict_on-requires-clause-some g c = some_id c.args.pts.now c.args.ids.now c.requires.distinct c.requires.some
+
+pub verdict_on-requires-clause-indices : goal.verdict_on-requires-clause-indices
+verdict_on-requires-clause-indices g c = ids_within c.args.pts.now c.args.ids.now c.requires.distinct
+
+pub returns-then-are_own : goal.returns-then-are_own
+returns-then-are_own g c =
+    told c.args.pts.now c.args.named.now c.args.faces.now c.args.ids.now c.args.faces.now _ c.requires.distinct
+    (c.are_own.ensures c.if-are_own.true) c.in_ok-verdict.ensures
+
+pub polygons_of-requires : goal.polygons_of-requires
+polygons_of-requires g c = ids_within c.args.pts.now c.args.ids.now c.requires.distinct
+
+pub verdict_on-requires-in-Ok-clause-some : goal.verdict_on-requires-in-Ok-clause-some
+verdict_on-requires-in-Ok-clause-some g c = some_id c.args.pts.now c.args.ids.now c.requires.distinct c.requires.some
+
+pub verdict_on-requires-in-Ok-clause-indices : goal.verdict_on-requires-in-Ok-clause-indices
+verdict_on-requires-in-Ok-clause-indices g c = ids_within c.args.pts.now c.args.ids.now c.requires.distinct
+
+pub returns-in_ok-verdict-in-Ok : goal.returns-in_ok-verdict-in-Ok
+returns-in_ok-verdict-in-Ok g c =
+    let same = rw c.in-Ok.is at c.in_ok-polygons.ensures in
+    told c.args.pts.now c.args.named.now c.args.faces.now c.args.ids.now c.in-Ok.polygons.items _ c.requires.distinct same
+    (rw c.deref.ensures.value at c.in_ok-verdict-in-Ok.ensures)

@@ -1,0 +1,79 @@
+//! Who checks polygons: the calling thread alone, or threads side by side.
+ghost use Rattle.std.specs.Prelude.{◌<◌, IfOk, length};
+ghost use Rattle.qh_model.specs.contract.IdSets.{AreIndices, IsIdSet};
+ghost use Rattle.qh_check.specs.contract.Surfaces.{IsSurfaceVerdictOf};
+
+use qh_check::{SurfaceVerdict, check_surface, check_surface_alone};
+use qh_convex::is_sharp_surface;
+use qh_model::{Id, Memory, Point, Polygon};
+use std::alloc::Global;
+use std::thread::Threads;
+
+/// A way to check whether polygons are the surface of the hull of a set.
+pub trait Checker {
+    /// Returns the verdict on polygons. `ids` has at least one id, each the index of one of the points.
+    fn check(
+        &self,
+        alloc: Global,
+        pts: &[Point],
+        ids: &[Id],
+        polygons: &[Polygon],
+    ) -> Result<SurfaceVerdict, Memory>
+        requires some { 0 < length ids.now }
+        requires indices { AreIndices pts.now ids.now }
+        ensures { IfOk result (λ v. IsIdSet pts.now ids.now → IsSurfaceVerdictOf pts.now ids.now polygons.now v) };
+}
+
+/// The calling thread alone.
+#[derive(Clone, Copy, Debug)]
+pub struct Alone;
+
+impl Checker for Alone {
+    fn check(
+        &self,
+        alloc: Global,
+        pts: &[Point],
+        ids: &[Id],
+        polygons: &[Polygon],
+    ) -> Result<SurfaceVerdict, Memory> {
+        check_surface_alone(alloc, pts, ids, polygons)
+    }
+}
+
+/// A runtime and a number of its threads, each at a part of the polygons. No `workers` means one.
+#[derive(Clone, Copy, Debug)]
+pub struct InThreads<'a, R> {
+    pub rt: &'a R,
+    pub workers: usize,
+}
+
+impl<R: Threads> Checker for InThreads<'_, R> {
+    fn check(
+        &self,
+        alloc: Global,
+        pts: &[Point],
+        ids: &[Id],
+        polygons: &[Polygon],
+    ) -> Result<SurfaceVerdict, Memory> {
+        check_surface(self.rt, alloc, pts, ids, polygons, self.workers)
+    }
+}
+
+/// Returns the verdict on polygons. Most are triangles with an angle at each edge, which a look at each edge tells; the
+/// checker is asked about the others.
+pub fn verdict_on<C: Checker>(
+    checker: &C,
+    alloc: Global,
+    pts: &[Point],
+    ids: &[Id],
+    polygons: &[Polygon],
+) -> Result<SurfaceVerdict, Memory>
+    requires some { 0 < length ids.now }
+    requires indices { AreIndices pts.now ids.now }
+    ensures { IfOk result (λ v. IsIdSet pts.now ids.now → IsSurfaceVerdictOf pts.now ids.now polygons.now v) }
+{
+    if is_sharp_surface(alloc, pts, ids, polygons)? {
+        return Ok(SurfaceVerdict::Right);
+    }
+    checker.check(alloc, pts, ids, polygons)
+}
