@@ -59,7 +59,7 @@ fn rising(step: &Step) -> Step
 }
 
 impl Surroundings<'_> {
-    /// Returns the step from `u` to `v`, if a triangle has it.
+    /// Returns the step from `u` to `v`, which a triangle has where edges pair off; else the third id is of any other.
     fn step(&self, u: Id, v: Id) -> Option<Step>
         requires from { u < length self.now.pts.now }
         requires to { v < length self.now.pts.now }
