@@ -59,7 +59,8 @@ fn rising(step: &Step) -> Step
 }
 
 impl Surroundings<'_> {
-    /// Returns the step from `u` to `v`, which a triangle has where edges pair off; else the third id is of any other.
+    /// Returns the step from `u` to `v` round a triangle. Where the steps along the edges do not pair off, the third
+    /// corner may be any id.
     fn step(&self, u: Id, v: Id) -> Option<Step>
         requires from { u < length self.now.pts.now }
         requires to { v < length self.now.pts.now }
