@@ -23,7 +23,7 @@ pub(crate) struct Finding {
     pub fault: FaceFault,
 }
 
-/// Returns a polygon of a group, by its position, that is no face of the set. The planes of a group are asked
+/// Returns a polygon of a group, by its position, that is no face of the set. The planes of a group are tested
 /// together.
 fn fault_in_group(
     alloc: Global,
@@ -93,7 +93,7 @@ pub(crate) fn first_fault(
     Ok(None)
 }
 
-/// Polygons, and the positions of those that are asked.
+/// Polygons, and the positions of those that are to be tested.
 #[derive(Clone, Copy, Drop)]
 pub(crate) struct Asked<'a> {
     pub polygons: &'a [Polygon],

@@ -17,7 +17,7 @@ use std::thread::Threads;
 
 /// A way to search for a polygon that is no face of a set.
 pub(crate) trait Searcher {
-    /// Returns a polygon that is no face of the set, if there is one among those that are asked.
+    /// Returns a polygon that is no face of the set, if there is one among those to be tested.
     fn find(&self, alloc: Global, set: PlacedSet, asked: Asked) -> Result<Option<Finding>, Memory>
         ensures { IfOk result (λ found. (ids : List ℕ) → ArePlaces set.entry.pts.now ids set.entry.places.now
             → MatchOption found (All (IsFaceAmong set.entry.extent set.entry.pts.now ids asked.entry.polygons.now) asked.entry.order.now)
@@ -53,7 +53,7 @@ impl<R: Threads> Searcher for InThreads<'_, R> {
 }
 
 /// Returns a polygon of a claim that is no face of the set, or no piece of one as `extent` has it, if there is one.
-/// Near polygons are asked one after the other.
+/// Polygons that are near each other are tested one after the other.
 pub(crate) fn find_fault<S: Searcher>(
     searcher: &S,
     alloc: Global,

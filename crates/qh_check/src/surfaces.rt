@@ -49,8 +49,8 @@ fn judged(
     }
 }
 
-/// Checks polygons, one at least, of a solid set. Most are right, and found in its hull: planes are asked
-/// only where one is not found there.
+/// Checks polygons, one at least, of a solid set. Right ones are found in its hull. Planes are tested only
+/// where one is not found there.
 fn check_solid_surface<S: Searcher>(
     searcher: &S,
     alloc: Global,

@@ -2,7 +2,7 @@
 use crate::vector::Vector;
 use qh_model::Point;
 
-/// Points between two corners of a box, told by its middle and half its extents, that reach no further than
+/// Points between two corners of a box, given by its middle and half its extents, that reach no further than
 /// `reach` beyond the middle along a direction of length 1.
 #[derive(Clone, Copy, Drop)]
 pub(crate) struct Block {

@@ -1,4 +1,4 @@
-//! Planes of facets, asked which blocks lie wholly on one side.
+//! Planes of facets, and which blocks lie wholly on one side of them.
 use crate::blocks::Block;
 use crate::vector::Vector;
 use qh_model::Point;

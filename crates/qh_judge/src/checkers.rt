@@ -59,8 +59,8 @@ impl<R: Threads> Checker for InThreads<'_, R> {
     }
 }
 
-/// Returns the verdict on polygons. Most are triangles with an angle at each edge, which a look at each edge tells; the
-/// checker is asked about the others.
+/// Returns the verdict on polygons. Triangles with an angle at each edge are accepted by a look at each edge; the
+/// checker decides on others.
 pub fn verdict_on<C: Checker>(
     checker: &C,
     alloc: Global,

@@ -70,7 +70,7 @@ pub fn judge_faces<R: Threads + Sync>(
     judge_by(&checker, alloc, pts, &ids, named, faces)
 }
 
-/// Returns what is told of faces of points, as [`judge_faces`] does, by the calling thread alone.
+/// Judges faces of points, as [`judge_faces`] does, by the calling thread alone.
 ///
 /// The corners of the faces are indices of `named`, which may be the points themselves. There is one point at
 /// least, and there are at most `POINT_LIMIT`, which the caller keeps.

@@ -2,7 +2,7 @@
 //! and what is wrong where they are not.
 //!
 //! The numbers are indices of points of any list, such as the vertices of a file. `naming` takes the distinct
-//! ids at their places (`positions` finds these), and [`judge_faces`] asks `qh_check` about the polygons.
+//! ids at their places (`positions` finds these), and [`judge_faces`] has `qh_check` check the polygons.
 #![tactic(auto)]
 
 mod checkers;

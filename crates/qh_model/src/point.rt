@@ -65,7 +65,7 @@ impl Point {
     }
 }
 
-/// The index of a point in the list of points that were read, from 0.
+/// The index of a point in a list, from 0: the list of the input, or the points that a call gathered.
 ///
 /// A contract sees an id as its number.
 #[derive(Clone, Copy, Debug, PartialEq, Eq, PartialOrd, Ord)]

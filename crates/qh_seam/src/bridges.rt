@@ -1,7 +1,7 @@
 //! Polygons that close the gap between the faces of parts: whether each is a face of what is kept of all parts.
 //!
-//! A plane asks the own corners of each part by their blocks. The planes of polygons that follow each other are
-//! asked together.
+//! A plane is tested against the own corners of each part by their blocks. The planes of polygons that follow each
+//! other are tested together.
 ghost use Rattle.std.specs.Prelude.{◌≡◌, ◌++◌, ◌<◌, ◌↔◌, ℕ, List, IfOk, IfSome, IsTrue, Ok, length, map, pos, true};
 ghost use Rattle.std.specs.List.{All, flat_map};
 ghost use Rattle.std.specs.List.Sorted.{IsStrictlyIncreasing};

@@ -25,8 +25,8 @@ fn part_with(
 }
 
 /// Returns the parts of `size` consecutive ids of a list each, of fewer at its end, with the shared ids; `None` if
-/// the points of one lie in one plane. The order of the list may be any; near ids near each other make the parts that
-/// are told apart by few facets.
+/// the points of one lie in one plane. Any order of the list will do. Where ids of near points are near each other in
+/// the list, few facets lie between the parts.
 ///
 /// # Errors
 ///

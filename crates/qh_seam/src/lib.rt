@@ -5,10 +5,10 @@
 //!
 //! Some facets of a part are marked to stay where the corners of the other parts come in. The marks may be
 //! any: that they are right is checked here (`staying`, `seams`). Each corner of the others has a witness
-//! (`witnesses`): a facet that goes and that it is above, or one such that it lies between that facet and the
+//! (`witnesses`): a facet that is removed and below it, or a facet such that it lies between that and the
 //! middle of four points that belong to every part (`triangles`). And the facets that stay beside one that
-//! goes have all others strictly below them (`rings`). Then no facet that stays sees a corner of the others
-//! (`qh_seam_laws::ring_hides_rest`), though few are asked, and their polygons are faces of the set.
+//! is removed have all others strictly below them (`rings`). Then no facet that stays sees a corner of the
+//! others (`qh_seam_laws::ring_hides_rest`), though few are tested, and their polygons are faces of the set.
 //!
 //! Such polygons and others that are faces of what is kept of all parts, and close up, are the hull (`joined`).
 #![tactic(auto)]

@@ -1,4 +1,4 @@
-//! The ring of the facets that stay beside one that goes.
+//! The ring of the facets that stay beside one that is removed.
 ghost use Rattle.std.specs.Prelude.{◌≡◌, ◌<◌, ◌↔◌, ◌⊎◌, ◌++◌, ◌∷◌, [], ℕ, List, length, map, IfOk, OnOk, IsTrue, false};
 ghost use Rattle.qh_model.specs.headline.Predicates.{place};
 ghost use Rattle.qh_model.specs.headline.Sets.{In};

@@ -1,4 +1,4 @@
-//! Witnesses: a facet for each point of the other parts, which shows that no facet that stays need be asked.
+//! Witnesses: a facet for each point of the other parts, which shows that no facet that stays need be tested.
 ghost use Rattle.std.specs.Prelude.{◌≡◌, ◌<◌, ◌⊎◌, ℕ, length, IsTrue, pos, ◌<ℤ◌, true, false};
 ghost use Rattle.qh_model.specs.headline.Vector.{Vector};
 ghost use Rattle.qh_model.specs.headline.Predicates.{place, vol};
@@ -34,7 +34,7 @@ struct Witness<'a> {
 }
 
 impl Witness<'_> {
-    /// Returns true if a point is above the facet, which goes, or lies between it and the middle of the four points.
+    /// Returns true if a point is above the facet, a removed one, or lies between it and the middle of the four points.
     fn settles(&self, p: Point) -> bool
         ensures { let t = self.now.triangle in IsTrue result
             → ((self.now.stays ≡ false) × (pos 0 <ℤ vol t.a t.b t.c p)) ⊎ IsInCone t.a t.b t.c self.now.four.now p }

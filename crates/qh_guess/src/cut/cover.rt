@@ -10,7 +10,7 @@ use qh_model::Point;
 use qh_seam::Run;
 use std::alloc::{AllocError, Global};
 
-/// Finds for each point of the others a facet that shows where it lies: one that goes and that it is above,
+/// Finds for each point of the others a facet that shows where it lies: one that is removed and below it,
 /// or the one through which the ray to it leaves.
 #[derive(Drop)]
 pub(crate) struct Cover<'a> {
@@ -44,8 +44,8 @@ impl<'a> Cover<'a> {
         })
     }
 
-    /// Returns the facet through which the ray to a point leaves. If the point is above it, it goes; if the point is
-    /// in its plane, it is asked.
+    /// Returns the facet through which the ray to a point leaves. If the point is above it, it is removed; if the
+    /// point is in its plane, it is tested.
     fn met(&mut self, cutting: &mut Cutting, point: Point) -> Result<FacetNo, AllocError> {
         let f = self.rays.leaves(point);
         let Some(sight) = self.facets.sight(f) else {
@@ -68,7 +68,7 @@ impl<'a> Cover<'a> {
         }
     }
 
-    /// Returns a facet that goes and that all points of a block are above, if one is found. `own` has the
+    /// Returns a facet that is removed and below all points of a block, if one is found. `own` has the
     /// points.
     fn witness_of_all(
         &mut self,

@@ -17,7 +17,7 @@ pub(crate) enum State {
     Goes,
 }
 
-/// The outlines of all parts, with the number of the one that is asked about.
+/// The outlines of all parts, with the number of the one whose facets are tested.
 #[derive(Clone, Copy, Drop)]
 pub(crate) struct Others<'a> {
     pub outlines: &'a [Outline],
@@ -30,9 +30,9 @@ pub(crate) struct Cutting<'a> {
     facets: Facets<'a>,
     others: Others<'a>,
     states: Vec<State>,
-    /// The facets that go.
+    /// The facets that are removed.
     gone: Vec<FacetNo>,
-    /// Facets beside such that go, to be asked.
+    /// Facets beside removed ones, to be tested.
     waiting: Vec<FacetNo>,
     /// The facets of a plane.
     plane: Vec<FacetNo>,
@@ -92,8 +92,8 @@ impl<'a> Cutting<'a> {
         Ok(())
     }
 
-    /// Goes on from a facet to its neighbours: those of the plane get the state, and others wait where the plane
-    /// goes.
+    /// Passes from a facet to its neighbours: those of the plane get the state, and others wait where the plane
+    /// is removed.
     fn spread(&mut self, f: FacetNo, corners: [Point; 3], state: State) -> Result<(), AllocError> {
         let sight = Sight::of(corners);
         for side in 0..3 {
