@@ -41,6 +41,15 @@ def best(results):
     return tuple(min(r[k] for r in results) for k in range(3)) + (results[-1][3],)
 
 
+def best_in_turn(commands, path, rounds):
+    """The best of each command on a file, over rounds in which all run in turn."""
+    results = [[] for _ in commands]
+    for _ in range(rounds):
+        for command, rows in zip(commands, results):
+            rows.append(run(command, path))
+    return [best(rows) for rows in results]
+
+
 def main():
     parser = argparse.ArgumentParser(description=__doc__.splitlines()[0])
     parser.add_argument("--ours", default=PROGRAM, help="this program")
@@ -56,16 +65,11 @@ def main():
         # Made by a process of its own: the peak memory of a child begins at its parent's.
         with open(path, "wb") as out:
             subprocess.run([sys.executable, POINTS, given.family, str(given.count)], stdout=out, check=True)
-        results = [[] for _ in commands]
-        for _ in range(given.rounds):
-            for command, rows in zip(commands, results):
-                rows.append(run(command, path))
-    ours = best(results[0])
+        bests = best_in_turn(commands, path, given.rounds)
     print("%s, %d points, best of %d" % (given.family, given.count, given.rounds))
     print("%-40s %8s %8s %8s %7s %7s" % ("program", "cpu s", "wall s", "MB", "cpu", "status"))
-    for command, rows in zip(commands, results):
-        cpu, wall, memory, status = best(rows)
-        ratio = ours[0] / cpu if cpu else float("nan")
+    for command, (cpu, wall, memory, status) in zip(commands, bests):
+        ratio = bests[0][0] / cpu if cpu else float("nan")
         print("%-40s %8.3f %8.3f %8.1f %7.2f %7d" % (" ".join(command)[-40:], cpu, wall, memory, ratio, status))
 
 

@@ -34,14 +34,9 @@ def extremes(command, path):
 def row(given, family, count, path):
     """One row of the table."""
     commands = [[given.ours] + shlex.split(given.words)] + [shlex.split(p) for p in given.peer or []]
-    results = [[] for _ in commands]
-    for _ in range(given.rounds):
-        for command, rows in zip(commands, results):
-            rows.append(compare.run(command, path))
-    ours = compare.best(results[0])
+    ours, *peers = compare.best_in_turn(commands, path, given.rounds)
     cells = [family, str(count), "%.3f" % ours[0], "%.3f" % ours[1], "%.0f" % ours[2], extremes(commands[0], path)]
-    for command, rows in zip(commands[1:], results[1:]):
-        peer = compare.best(rows)
+    for command, peer in zip(commands[1:], peers):
         ratio = "%.2f" % (ours[0] / peer[0]) if peer[3] == 0 else "refused"
         cells += ["%.3f" % peer[0], "%.3f" % peer[1], "%.0f" % peer[2], extremes(command, path), ratio]
     return "| " + " | ".join(cells) + " |"

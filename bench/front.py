@@ -31,11 +31,7 @@ HEAD = ["", "1 worker", "4 workers", "Qhull", "CGAL", "in Python", "scipy"]
 
 def program_seconds(path, commands, rounds):
     """The least wall time of each command on a file."""
-    results = [[] for _ in commands]
-    for _ in range(rounds):
-        for command, rows in zip(commands, results):
-            rows.append(compare.run(command, path))
-    return [compare.best(rows)[1] for rows in results]
+    return [best[1] for best in compare.best_in_turn(commands, path, rounds)]
 
 
 def module_seconds(points, rounds):

@@ -43,11 +43,7 @@ GOALS = {
 
 def least_times(commands, path, rounds):
     """The least CPU time of each command over the rounds, in which they take turns; None where one failed."""
-    results = [[] for _ in commands]
-    for _ in range(rounds):
-        for command, rows in zip(commands, results):
-            rows.append(compare.run(command, path))
-    best = [compare.best(rows) for rows in results]
+    best = compare.best_in_turn(commands, path, rounds)
     return [cpu if status == 0 else None for cpu, _, _, status in best]
 
 

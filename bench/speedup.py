@@ -46,11 +46,7 @@ def row(given, outs, path):
     other = [[given.other, "--workers", "1", outs]] if given.other else []
     peer = [[given.peer, QHULL.get(outs, outs)]] if given.peer else []
     commands = ours + other + peer
-    results = [[] for _ in commands]
-    for _ in range(given.rounds):
-        for command, rows in zip(commands, results):
-            rows.append(compare.run(command, path))
-    return [compare.best(rows)[1::-1] for rows in results]
+    return [best[1::-1] for best in compare.best_in_turn(commands, path, given.rounds)]
 
 
 def faults(given, family, count, outs, times):

@@ -50,11 +50,8 @@ def main():
                 path = os.path.join(folder, "points.txt")
                 with open(path, "wb") as out:
                     subprocess.run([sys.executable, compare.POINTS, family, str(count)], stdout=out, check=True)
-                results = [[] for _ in columns]
-                for _ in range(given.rounds):
-                    for (_, command), rows in zip(columns, results):
-                        rows.append(compare.run(command, path))
-            cells = ["%.3f/%.3f" % compare.best(rows)[:2] for rows in results]
+                bests = compare.best_in_turn([command for _, command in columns], path, given.rounds)
+            cells = ["%.3f/%.3f" % best[:2] for best in bests]
             print("| " + " | ".join([family, str(count)] + cells) + " |", flush=True)
 
 

@@ -25,11 +25,7 @@ MEDIAN_LIMIT = 0.9
 def row(given, path):
     """The least CPU time, wall time and memory with each number of workers."""
     commands = [[given.ours, "--workers", str(n), given.outs] for n in (1, 2, 4)]
-    results = [[] for _ in commands]
-    for _ in range(given.rounds):
-        for command, rows in zip(commands, results):
-            rows.append(compare.run(command, path))
-    return [compare.best(rows) for rows in results]
+    return compare.best_in_turn(commands, path, given.rounds)
 
 
 def ratios(given, family, count):
