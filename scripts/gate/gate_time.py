@@ -6,9 +6,10 @@
 `rt ci` checks each crate from nothing (proof), once more as the start of its wrong bodies (start) and with its tests
 (tests), then each wrong body over that start (bodies), and at last the crate itself over it, which is told with the
 start. A crate's only body has no start: it is checked from nothing (alone), as is one over a start that came to no
-result. What an earlier run passed is not done again: `--anew` does all. The script looks twice a second at the processes of the prover that the run started, so that of each up to half a
-second is missed. It prints a line for each crate and part, with the number of bodies tried and the processor seconds,
-and then the sums, and ends with the status of `rt ci`.
+result. What an earlier run passed is not done again: `--anew` does all. The script looks twice a second at the
+processes of the prover that the run started, so that of each up to half a second is missed. It prints a line for each
+crate and part, with the number of bodies tried and the processor seconds, and then the sums, and ends with the status
+of `rt ci`.
 """
 import os
 import re
