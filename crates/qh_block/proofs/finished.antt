@@ -5,9 +5,11 @@ pub mod NewFaces
 pub mod LoneTriangles
 pub mod FaceLists
 pub mod Gathering
-pub mod Choosing
+pub mod Parting
 pub mod FaceKeys
 pub mod MergedFaces
 pub mod FaceOrder
 pub mod EdgeCounts
+pub mod StepCounts
+pub mod ClosedFaces
 pub mod SolidBodies

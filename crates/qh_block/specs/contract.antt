@@ -1,4 +1,5 @@
 -- What the contracts of public functions cite.
 pub mod ApartPolygons
+pub mod MarkedFaces
 pub mod SolidEdges
 pub mod Tallies

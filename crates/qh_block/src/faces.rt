@@ -3,10 +3,11 @@
 //! Each live facet that has no mark yet starts a walk over the facets in its plane, which get marks.
 //! A plane of one facet, as most are, has its corners as its face; else the face is the polygon of
 //! the corners of the facets, rising. So each plane is walked once.
-ghost use Rattle.std.specs.Prelude.{All, ◌≡◌, ◌≤◌, ◌<◌, ◌↔◌, ℕ, List, IfOk, OnOk, length, true, false};
+ghost use Rattle.std.specs.Prelude.{All, ◌≡◌, ◌≤◌, ◌<◌, ◌↔◌, ◌++◌, ℕ, List, IfOk, OnOk, length, true, false};
 ghost use Rattle.std.specs.List.Sorted.{IsStrictlyIncreasing};
 ghost use Rattle.qh_model.specs.contract.IdSets.{IsIdSet};
 ghost use Rattle.qh_model.specs.headline.Extreme.{Extreme};
+ghost use Rattle.qh_model.specs.contract.ClosedPolygons.{AreClosed};
 ghost use Rattle.qh_model.specs.contract.FinishedSurface.{IsFinished};
 ghost use Rattle.qh_model.specs.headline.Polygon.{IsPolygon};
 ghost use Rattle.qh_model.specs.headline.Polygons.{IsFacePolygon};
@@ -19,6 +20,7 @@ ghost use Rattle.qh_plane.specs.contract.PlanarSets.{IsPlanarSet};
 ghost use Rattle.qh_surface.specs.contract.NamedMeshes.{named, IsNamedMesh};
 ghost use Rattle.qh_surface.specs.contract.Corners.{AreCornersBelow};
 ghost use Rattle.qh_surface.specs.contract.Walks.{mark_at};
+ghost use Rattle.qh_block.specs.contract.MarkedFaces.{AreFacesOfMarked};
 ghost use Rattle.qh_block.specs.steps.Faces.{corners_of, from_least, IsListedCorner, IsNewPlane, IsNewFace, AreFacetFaces};
 
 use crate::plane_walk::IsLevel;
@@ -174,29 +176,43 @@ pub(crate) fn faces(
     Ok(faces)
 }
 
-/// Returns the faces of a finished mesh in the planes of chosen facets, one for each plane that has a chosen one, in
-/// no order. `chosen` has for each place of the mesh whether its facet is chosen. The facets of one plane may be
-/// chosen or not, each for itself.
+/// The faces of a finished mesh in two lists, each in no order: one for each plane of its live facets.
+#[derive(Drop)]
+pub struct PartedFaces {
+    /// The faces of chosen facets.
+    pub chosen: Vec<Polygon>,
+    /// The other faces.
+    pub others: Vec<Polygon>,
+}
+
+/// Returns the faces of a finished mesh, those of chosen facets apart from the others. `chosen` has for each place of
+/// the mesh whether its facet is chosen. Where some facets of a plane are chosen and some are not, its face is in one
+/// of the lists.
 ///
 /// # Errors
 ///
 /// `Memory` where an allocation failed.
-pub fn faces_of_chosen(
+pub fn parted_faces(
     alloc: Global,
     pts: &[Point],
     surface: &NamedMesh,
     chosen: &[bool],
-) -> Result<Vec<Polygon>, Memory>
+) -> Result<PartedFaces, Memory>
     requires named { IsNamedMesh pts.now surface.now }
     requires marks { length surface.now.mesh ≡ length chosen.now }
     ensures each { let fs = named surface.now in let t = facet_at fs in
         IfOk result (λ v. (ids : List ℕ) → IsIdSet pts.now ids → IsFinished (place pts.now) ids (surface_of fs)
-        → (f : ℕ) → IsLive fs f → mark_at chosen.now f ≡ true
-        → (q : List ℕ) × In q v.items × IsFacePolygon (place pts.now) (Members ids) (t f).i (t f).j (t f).k q) }
-    ensures only { let fs = named surface.now in let t = facet_at fs in
+        → (f : ℕ) → IsLive fs f
+        → (q : List ℕ) × In q (v.chosen.items ++ v.others.items) × IsFacePolygon (place pts.now) (Members ids) (t f).i (t f).j (t f).k q) }
+    ensures chosen { let fs = named surface.now in
         IfOk result (λ v. (ids : List ℕ) → IsIdSet pts.now ids → IsFinished (place pts.now) ids (surface_of fs)
-        → (q : List ℕ) → In q v.items
-        → (f : ℕ) × IsLive fs f × (mark_at chosen.now f ≡ true) × IsFacePolygon (place pts.now) (Members ids) (t f).i (t f).j (t f).k q) }
+        → AreFacesOfMarked (place pts.now) (Members ids) fs chosen.now true v.chosen.items) }
+    ensures others { let fs = named surface.now in
+        IfOk result (λ v. (ids : List ℕ) → IsIdSet pts.now ids → IsFinished (place pts.now) ids (surface_of fs)
+        → AreFacesOfMarked (place pts.now) (Members ids) fs chosen.now false v.others.items) }
+    ensures closed { let fs = named surface.now in
+        IfOk result (λ v. (ids : List ℕ) → IsIdSet pts.now ids → IsFinished (place pts.now) ids (surface_of fs)
+        → AreClosed (v.chosen.items ++ v.others.items)) }
 {
     let mut places = no_marks(alloc, surface.mesh.places())?;
     let marks = places.as_mut_slice();
@@ -204,13 +220,20 @@ pub fn faces_of_chosen(
         facets: Vec::new(alloc),
         corners: Vec::new(alloc),
     };
-    let mut faces = Vec::new(alloc);
+    let mut own = Vec::new(alloc);
+    let mut others = Vec::new(alloc);
     for f in surface.mesh.live() {
-        let is_chosen = chosen[f.index()];
-        let is_marked = marks[f.index()];
-        if is_chosen && !is_marked {
-            faces.push(new_face(alloc, pts, surface, f, marks, &mut room)?)?;
+        if !marks[f.index()] {
+            let face = new_face(alloc, pts, surface, f, marks, &mut room)?;
+            if chosen[f.index()] {
+                own.push(face)?;
+            } else {
+                others.push(face)?;
+            }
         }
     }
-    Ok(faces)
+    Ok(PartedFaces {
+        chosen: own,
+        others,
+    })
 }

@@ -32,7 +32,7 @@ mod solids;
 mod unsorted_faces;
 
 pub use blocking::{BLOCK_ALONE, TELLING, WHOLE_ALONE, are_few, block_size, tree_pays};
-pub use faces::faces_of_chosen;
+pub use faces::{PartedFaces, parted_faces};
 pub use hulls::{cull_interior, extremes, extremes_unculled, hull};
 pub use qh_surface::surface;
 pub use solids::{Tally, body_of_faces, tally_of};

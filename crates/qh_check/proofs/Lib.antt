@@ -11,7 +11,7 @@ pub mod MetBehind
 pub mod MetLists
 pub mod RepeatedNumbers
 pub mod SortedNumbers
-pub mod StepParts
+pub mod StepBorders
 pub mod Steps
 pub mod SurfaceVerdicts
 pub mod Verdicts

@@ -1,4 +1,5 @@
 -- What the contracts of public functions cite.
+pub mod Borders
 pub mod Claims
 pub mod Pieces
 pub mod Surfaces

@@ -4,5 +4,4 @@ pub mod Faces
 pub mod Findings
 pub mod HullFaces
 pub mod Rounds
-pub mod StepParts
 pub mod StepKeys

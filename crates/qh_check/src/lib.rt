@@ -12,10 +12,10 @@
 
 mod asked_faces;
 mod asking;
+mod borders;
 mod claim;
 mod claims;
 mod closed;
-mod closed_in_threads;
 mod corner_table;
 mod extent;
 mod face_table;
@@ -32,9 +32,9 @@ mod surfaces;
 mod verdict;
 
 pub use asked_faces::are_faces;
+pub use borders::have_one_border;
 pub use claims::{check, check_by_workers};
 pub use closed::{Step, open_step};
-pub use closed_in_threads::open_step_in_threads;
 pub use extent::Extent;
 pub use flaw::SurfaceVerdict;
 pub use order::out_of_order;

@@ -1,7 +1,7 @@
 //! The polygons that close the gap between those that stay.
 //!
-//! An edge of a given polygon that no other one takes the other way is open. The corners beside the gap make
-//! a hull, of which those polygons are taken that the open edges lead to, and these to each other.
+//! An edge of a face that goes is open if none that goes takes it the other way. The corners beside the gap make a
+//! hull, of which those polygons are taken that have the open edges, and their neighbours over other edges.
 mod edges;
 mod flood;
 

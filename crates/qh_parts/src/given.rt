@@ -1,4 +1,5 @@
-//! What the parts of a set contribute: their faces that stay, each part's seen to be right by a thread of its own.
+//! What the parts of a set contribute: their faces that stay and those that go, each part's seen to be right by a thread
+//! of its own.
 ghost use Rattle.std.specs.Prelude.{All, ◌≡◌, ◌<◌, ◌⊎◌, ℕ, List, IfOk, IfSome, OnOk, length};
 ghost use Rattle.qh_model.specs.headline.Sets.{In};
 ghost use Rattle.qh_seam.specs.contract.Parts.{IsPartOf};
@@ -6,17 +7,18 @@ ghost use Rattle.qh_parts.specs.steps.Given.{IsContribution, IsGiven};
 
 use qh_block::UnsortedFaces;
 use qh_guess::{Border, Outline, border_of, marks_of, outline_of};
-use qh_model::{Id, Memory};
+use qh_model::{Id, Memory, Polygon};
 use qh_seam::{Divided, Guess, staying_faces};
 use qh_threads::map_indices;
 use std::alloc::{AllocError, Global};
 use std::thread::Threads;
 
-/// Faces that a part contributes, and what the polygons between the parts are found by: its border, and the corners of
-/// its facets that go.
+/// Faces that a part contributes and those that go, and what the polygons between the parts are found by: its border,
+/// and the corners of its facets that go.
 #[derive(Drop)]
 pub(crate) struct Contribution {
     pub faces: UnsortedFaces,
+    pub gone: Vec<Polygon>,
     pub border: Border,
     pub seam: Vec<Id>,
 }
@@ -25,6 +27,7 @@ pub(crate) struct Contribution {
 #[derive(Drop)]
 pub(crate) struct Given {
     pub faces: UnsortedFaces,
+    pub gone: Vec<Polygon>,
     pub borders: Vec<Border>,
     pub seam: Vec<Id>,
 }
@@ -70,9 +73,10 @@ fn given_by(
     let Some(faces) = staying_faces(alloc, set, number, guess)? else {
         return Ok(None);
     };
-    let border = border_of(alloc, &faces, set.pts.len(), &marks.seam)?;
+    let border = border_of(alloc, &faces.chosen, &faces.others)?;
     Ok(Some(Contribution {
-        faces: UnsortedFaces::of(alloc, faces)?,
+        faces: UnsortedFaces::of(alloc, faces.chosen)?,
+        gone: faces.others,
         border,
         seam: marks.seam,
     }))
@@ -88,19 +92,22 @@ fn all_given(
     ensures { IfOk result (λ found. IfSome found (IsGiven set.entry.pts.now set.entry.shared.now set.entry.parts.now)) }
 {
     let mut faces = UnsortedFaces::none(alloc);
+    let mut gone = Vec::new(alloc);
     let mut borders = Vec::new(alloc);
     let mut seam = Vec::new(alloc);
     while let Some(answer) = made.pop() {
         let found = answer?;
-        let Some(part) = found else {
+        let Some(mut part) = found else {
             return Ok(None);
         };
         seam.extend_from_slice(&part.seam)?;
         faces = faces.and(part.faces)?;
+        gone.append(&mut part.gone)?;
         borders.push(part.border)?;
     }
     Ok(Some(Given {
         faces,
+        gone,
         borders,
         seam,
     }))

@@ -87,7 +87,7 @@ fn has_seams(set: Divided, outlines: &[Outline], seams: Seams) -> bool {
 pub(crate) enum Outcome {
     /// The hull of what is kept of the set, and so of the set.
     Hull(Body),
-    /// Faces of the set. It is not checked yet that they are all its faces.
+    /// Faces of the set that close up, so they are all its faces. They are not in order yet.
     Faces(UnsortedFaces),
 }
 
@@ -121,13 +121,22 @@ fn outcome_of<R: Threads>(
     let Some(bridges) = bridge_over(alloc, set.pts, &given.borders, &given.seam)? else {
         return Ok(None);
     };
-    let Some(faces) = join_faces(rt, alloc, set, given.faces, bridges, workers as usize)? else {
+    let joined = join_faces(
+        rt,
+        alloc,
+        set,
+        given.faces,
+        &given.gone,
+        bridges,
+        workers as usize,
+    )?;
+    let Some(faces) = joined else {
         return Ok(None);
     };
     Ok(Some(Outcome::Faces(faces)))
 }
 
-/// Returns the hull of a set from the result of its parts; `None` if their faces do not close up.
+/// Returns the hull of a set from the result of its parts; `None` if two of their faces are the same.
 fn body_of_outcome<R: Threads>(
     rt: &R,
     alloc: Global,
@@ -183,7 +192,7 @@ pub fn hull_by_parts<R: Threads>(
     let Some(outcome) = outcome_of(rt, alloc, set, &kept, workers, parting.seams)? else {
         return Ok(None);
     };
-    // The meshes make way for the steps round the faces.
+    // The meshes make way for the list of the faces.
     drop(parts);
     let Some(body) = body_of_outcome(rt, alloc, outcome, workers as usize)? else {
         return Ok(None);

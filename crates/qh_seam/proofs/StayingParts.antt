@@ -81,9 +81,9 @@ module _ (pts : List Vector) (shared : List ℕ) (parts : List Part) (number : �
       ];
     }
 
-  -- the faces of a part that stays
-  module _ (staying : IsStayingPart pts shared parts p stay) (ids kept : List ℕ) (distinct : HasDistinctPoints (place pts) (Members ids))
-      (inside : (l : ℕ) → In l (flat_map ids_in parts) → In l ids) (keeps : KeepsCorners parts shared kept) where
+  -- the set of a part, with the ids of all parts in a set of distinct points
+  module _ (ids : List ℕ) (distinct : HasDistinctPoints (place pts) (Members ids))
+      (inside : (l : ℕ) → In l (flat_map ids_in parts) → In l ids) where
     part_inside : (l : ℕ) → In l p.ids.items → In l ids
     part_inside l i = inside l (in_flat_map ids_in parts p l (In-get_or parts number d within) i)
 
@@ -93,13 +93,16 @@ module _ (pts : List Vector) (shared : List ℕ) (parts : List Part) (number : �
     pub part_finished : IsFinished (place pts) p.ids.items (surface_of (named p.surface))
     part_finished = z.finished
 
+  -- the faces of a part that stays
+  module _ (staying : IsStayingPart pts shared parts p stay) (ids kept : List ℕ) (distinct : HasDistinctPoints (place pts) (Members ids))
+      (inside : (l : ℕ) → In l (flat_map ids_in parts) → In l ids) (keeps : KeepsCorners parts shared kept) where
     pub face_of_part : (q : List ℕ) → (f : ℕ) × IsLive (named p.surface) f × (stay f ≡ true)
         × IsFacetPolygon (place pts) (Members p.ids.items) (named p.surface) f q → IsPartFace (place pts) ids kept q
     face_of_part q (f, live, stays, polygon) = record {
       ids = p.ids.items;
       m = surface_of (named p.surface);
       stay = stay;
-      part = record { finished = z.finished; inside = part_inside; seam = staying.seam kept keeps };
+      part = record { finished = z.finished; inside = part_inside ids distinct inside; seam = staying.seam kept keeps };
       f = f;
       live = (live_is_marked (named p.surface) f).1 live;
       stays = stays;

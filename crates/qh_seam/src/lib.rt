@@ -10,7 +10,8 @@
 //! is removed have all others strictly below them (`rings`). Then no facet that stays sees a corner of the
 //! others (`qh_seam_laws::ring_hides_rest`), though few are tested, and their polygons are faces of the set.
 //!
-//! Such polygons and others that are faces of what is kept of all parts, and close up, are the hull (`joined`).
+//! Such polygons and others that are faces of what is kept of all parts, and close up, are the hull (`joined`). They
+//! close up where the others have the border of the polygons that are removed.
 #![tactic(auto)]
 
 mod bridges;

@@ -7,14 +7,15 @@ ghost use Rattle.qh_model.specs.contract.IdSets.{AreIndices, HasDistinctPoints};
 ghost use Rattle.qh_surface.specs.contract.Walks.{mark_at};
 ghost use Rattle.qh_seam_laws.specs.contract.Parts.{IsPartFace};
 ghost use Rattle.qh_seam.specs.declared.parts.Part.{Part};
+ghost use Rattle.qh_seam.specs.contract.Joined.{CloseUp};
 ghost use Rattle.qh_seam.specs.contract.Parts.{ids_in, KeepsCorners, IsPartOf, IsStayingPart};
 
 use crate::marked::Marked;
 use crate::parts::Part;
 use crate::triangles::four_of;
 use crate::witnesses::Run;
-use qh_block::faces_of_chosen;
-use qh_model::{Id, Memory, Point, Polygon};
+use qh_block::{PartedFaces, parted_faces};
+use qh_model::{Id, Memory, Point};
 use std::alloc::Global;
 
 /// A set in parts, with ids that belong to every part.
@@ -77,8 +78,8 @@ fn stays<'a>(
     Ok(true)
 }
 
-/// Returns the faces of the set that the part of this number contributes, if the guess of what stays of it is seen to
-/// be right: the polygons of its marked facets, one for each plane, in no order.
+/// Returns the faces of the part of this number, if the guess of what stays of it is seen to be right: the chosen ones,
+/// those of its marked facets, are faces of the set. The others go.
 ///
 /// # Errors
 ///
@@ -88,18 +89,19 @@ pub fn staying_faces<'a>(
     set: Divided<'a>,
     number: usize,
     guess: Guess<'a>,
-) -> Result<Option<Vec<Polygon>>, Memory>
+) -> Result<Option<PartedFaces>, Memory>
     requires number { number < length set.parts.now }
     requires parts { All (IsPartOf set.pts.now set.shared.now) set.parts.now }
-    ensures { IfOk result (λ found. IfSome found (λ v. (ids kept : List ℕ) → HasDistinctPoints (place set.entry.pts.now) (Members ids)
+    ensures stay { IfOk result (λ found. IfSome found (λ v. (ids kept : List ℕ) → HasDistinctPoints (place set.entry.pts.now) (Members ids)
         → ((l : ℕ) → In l (flat_map ids_in set.entry.parts.now) → In l ids) → KeepsCorners set.entry.parts.now set.entry.shared.now kept
-        → (q : List ℕ) → In q v.items → IsPartFace (place set.entry.pts.now) ids kept q)) }
+        → (q : List ℕ) → In q v.chosen.items → IsPartFace (place set.entry.pts.now) ids kept q)) }
+    ensures closed { IfOk result (λ found. IfSome found (λ v. CloseUp set.entry.pts.now set.entry.parts.now v.chosen.items v.others.items)) }
 {
     let stays = stays(alloc, set, number, guess)?;
     if !stays {
         return Ok(None);
     }
     let part = &set.parts[number];
-    let faces = faces_of_chosen(alloc, set.pts, &part.surface, guess.stay)?;
+    let faces = parted_faces(alloc, set.pts, &part.surface, guess.stay)?;
     Ok(Some(faces))
 }

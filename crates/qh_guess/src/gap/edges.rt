@@ -28,24 +28,6 @@ impl<'a> Round<'a> {
         Round { ids: polygon.ids() }
     }
 
-    /// Adds those edges whose ends are both marked.
-    fn list_marked(self, marks: &[bool], edges: &mut Vec<u64>) -> Result<(), AllocError> {
-        let Some(last) = self.ids.last() else {
-            return Ok(());
-        };
-        let mut from = *last;
-        let mut was_marked = is_marked(marks, from);
-        for id in self.ids {
-            let marked = is_marked(marks, *id);
-            if was_marked && marked {
-                edges.push(edge_key(from, *id))?;
-            }
-            from = *id;
-            was_marked = marked;
-        }
-        Ok(())
-    }
-
     /// Adds all edges.
     pub fn list(self, edges: &mut Vec<u64>) -> Result<(), AllocError> {
         let Some(last) = self.ids.last() else {
@@ -60,77 +42,73 @@ impl<'a> Round<'a> {
     }
 }
 
-/// Returns true if an id is marked.
-fn is_marked(marks: &[bool], id: Id) -> bool {
-    marks.get(id.index()).copied().unwrap_or(false)
-}
-
-/// Returns `count` marks, of which those of the ids are set.
-fn marks_of(alloc: Global, count: usize, ids: &[Id]) -> Result<Vec<bool>, AllocError> {
-    let mut marks = vec![in alloc; false; count]?;
-    for id in ids {
-        if let Some(mark) = marks.get_mut(id.index()) {
-            *mark = true;
-        }
-    }
-    Ok(marks)
-}
-
-/// The border of some polygons to a gap: their edges between ids beside the gap.
+/// The border of the faces of a part that stay, by those that go.
 #[derive(Drop)]
 pub struct Border {
+    /// The edges of faces that go, sorted.
     edges: Vec<u64>,
+    /// Whether no face stays.
     is_empty: bool,
 }
 
 impl Border {
-    /// Returns true if there are no polygons at all.
+    /// Returns true if no face stays.
     pub(crate) fn is_empty(&self) -> bool {
         self.is_empty
     }
 }
 
-/// Returns the border of polygons that a part contributes, where `seam` has the corners of the facets of the
-/// part that go, and `count` is above all ids.
+/// Returns the border between the faces of a part that stay and those that go.
 ///
 /// # Errors
 ///
 /// `Memory` where an allocation failed.
-pub fn border_of(
-    alloc: Global,
-    polygons: &[Polygon],
-    count: usize,
-    seam: &[Id],
-) -> Result<Border, Memory> {
-    let marks = marks_of(alloc, count, seam)?;
+pub fn border_of(alloc: Global, stay: &[Polygon], go: &[Polygon]) -> Result<Border, Memory> {
     let mut edges = Vec::new(alloc);
-    for polygon in polygons {
-        Round::of(polygon).list_marked(&marks, &mut edges)?;
+    for polygon in go {
+        Round::of(polygon).list(&mut edges)?;
     }
+    edges.sort_unstable();
     Ok(Border {
-        edges,
-        is_empty: polygons.is_empty(),
+        edges: unmatched(alloc, &edges)?,
+        is_empty: stay.is_empty(),
     })
 }
 
-/// Returns the sorted keys of the edges of borders.
-fn edges_of(alloc: Global, borders: &[Border]) -> Result<Vec<u64>, AllocError> {
+/// Returns how often an edge stands in a sorted list.
+fn count_of(edges: &[u64], edge: u64) -> usize {
+    let before = edges.partition_point(|other| *other < edge);
+    let up_to = edges.partition_point(|other| *other <= edge);
+    up_to.saturating_sub(before)
+}
+
+/// Returns the edges of a sorted list that stand there more often than the edge that runs the other way, as much as
+/// they do.
+fn unmatched(alloc: Global, edges: &[u64]) -> Result<Vec<u64>, AllocError> {
+    let mut open = Vec::new(alloc);
+    let mut last = None;
+    let mut back = 0;
+    for edge in edges {
+        if last != Some(*edge) {
+            last = Some(*edge);
+            back = count_of(edges, reverse(*edge));
+        }
+        if back > 0 {
+            back -= 1;
+        } else {
+            open.push(*edge)?;
+        }
+    }
+    Ok(open)
+}
+
+/// Returns the sorted edges of faces that go, those that no other one takes the other way. Polygons that close the gap
+/// take them.
+pub(crate) fn open_edges(alloc: Global, borders: &[Border]) -> Result<Vec<u64>, AllocError> {
     let mut edges = Vec::new(alloc);
     for border in borders {
         edges.extend_from_slice(&border.edges)?;
     }
     edges.sort_unstable();
-    Ok(edges)
-}
-
-/// Returns the sorted keys of the edges of borders that none takes the other way.
-pub(crate) fn open_edges(alloc: Global, borders: &[Border]) -> Result<Vec<u64>, AllocError> {
-    let edges = edges_of(alloc, borders)?;
-    let mut open = Vec::new(alloc);
-    for edge in &edges {
-        if edges.binary_search(&reverse(*edge)).is_err() {
-            open.push(*edge)?;
-        }
-    }
-    Ok(open)
+    unmatched(alloc, &edges)
 }

@@ -65,7 +65,7 @@ struct Flood<'a> {
 }
 
 impl Flood<'_> {
-    /// Takes the polygon at a position, if it is not taken yet: the edges against its own are wanted, unless they
+    /// Takes the polygon at a position, if it is not taken yet: the edges against its own are wanted, unless its own
     /// are open.
     fn take(&mut self, position: usize, edges: &mut Vec<u64>) -> Result<(), AllocError> {
         let Some(taken) = self.taken.get_mut(position) else {
@@ -82,9 +82,8 @@ impl Flood<'_> {
         edges.clear();
         Round::of(polygon).list(edges)?;
         for edge in &*edges {
-            let beyond = reverse(*edge);
-            if self.open.binary_search(&beyond).is_err() {
-                self.wanted.push(beyond)?;
+            if self.open.binary_search(edge).is_err() {
+                self.wanted.push(reverse(*edge))?;
             }
         }
         Ok(())
@@ -114,17 +113,13 @@ fn reached(
     polygons: &[Polygon],
     open: &[u64],
 ) -> Result<Option<Vec<usize>>, AllocError> {
-    let mut wanted = Vec::with_capacity(alloc, open.len())?;
-    for edge in open {
-        wanted.push(reverse(*edge))?;
-    }
     let mut flood = Flood {
         polygons,
         sides: Sides::of(alloc, polygons)?,
         open,
         taken: vec![in alloc; false; polygons.len()]?,
         order: Vec::new(alloc),
-        wanted,
+        wanted: Vec::from_slice(alloc, open)?,
     };
     let is_closed = flood.run(alloc)?;
     Ok(if is_closed { Some(flood.order) } else { None })

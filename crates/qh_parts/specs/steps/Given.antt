@@ -8,7 +8,7 @@ use Rattle.qh_seam_laws.specs.contract.Parts.{IsPartFace}
 use Rattle.qh_seam.specs.declared.parts.Part.{Part}
 use Rattle.qh_parts.specs.declared.given.Contribution.{Contribution}
 use Rattle.qh_parts.specs.declared.given.Given.{Given}
-use Rattle.qh_seam.specs.contract.Parts.{ids_in, KeepsCorners}
+use Rattle.qh_seam.specs.contract.{Joined.CloseUp, Parts.ids_in, Parts.KeepsCorners}
 
 -- each polygon is one of a facet that stays in a part, for every set that has the ids of all parts
 abbrev pub AreGiven : List Vector → List ℕ → List Part → List (List ℕ) → Type 0
@@ -16,10 +16,14 @@ AreGiven pts shared parts qs = (ids kept : List ℕ) → HasDistinctPoints (plac
     → ((l : ℕ) → In l (flat_map ids_in parts) → In l ids) → KeepsCorners parts shared kept
     → (q : List ℕ) → In q qs → IsPartFace (place pts) ids kept q
 
--- so are the faces of what a part contributes
+-- such polygons, and others with which they close up
+abbrev pub AreGivenOf : List Vector → List ℕ → List Part → (qs gone : List (List ℕ)) → Type 0
+AreGivenOf pts shared parts qs gone = AreGiven pts shared parts qs × CloseUp pts parts qs gone
+
+-- so are the faces of what a part contributes, and those that go
 abbrev pub IsContribution : List Vector → List ℕ → List Part → Contribution → Type 0
-IsContribution pts shared parts c = AreGiven pts shared parts c.faces
+IsContribution pts shared parts c = AreGivenOf pts shared parts c.faces c.gone.items
 
 -- and those of what all contribute
 abbrev pub IsGiven : List Vector → List ℕ → List Part → Given → Type 0
-IsGiven pts shared parts g = AreGiven pts shared parts g.faces
+IsGiven pts shared parts g = AreGivenOf pts shared parts g.faces g.gone.items

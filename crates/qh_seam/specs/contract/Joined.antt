@@ -1,11 +1,12 @@
 -- Faces that parts of a set contribute, joined with others.
 -- This project's own.
-use Rattle.std.specs.Prelude.{ℕ, ◌⊎◌, List}
+use Rattle.std.specs.Prelude.{ℕ, ◌⊎◌, ◌++◌, List}
+use Rattle.std.specs.List.{flat_map}
 use Rattle.qh_model.specs.headline.{Vector.Vector, Predicates.place, Sets.In, Sets.Members}
-use Rattle.qh_model.specs.contract.{ClosedPolygons.IsFace, IdSets.HasDistinctPoints}
+use Rattle.qh_model.specs.contract.{ClosedPolygons.AreClosed, ClosedPolygons.IsFace, IdSets.HasDistinctPoints}
 use Rattle.qh_seam_laws.specs.contract.Parts.{AreKept, IsPartFace}
 use Rattle.qh_seam.specs.declared.parts.Part.{Part}
-use Rattle.qh_seam.specs.contract.Parts.{KeepsCorners}
+use Rattle.qh_seam.specs.contract.Parts.{ids_in, KeepsCorners}
 
 -- each is a face that a part contributes, or a face of what is kept
 abbrev pub IsJoined : List Vector → (ids kept : List ℕ) → List ℕ → Type 0
@@ -16,3 +17,8 @@ abbrev pub AreJoined : List Vector → List Part → (shared : List ℕ) → (gi
 AreJoined pts parts shared given qs = (ids kept : List ℕ) → HasDistinctPoints (place pts) (Members ids) → AreKept (place pts) ids kept
     → KeepsCorners parts shared kept → ((q : List ℕ) → In q given → IsPartFace (place pts) ids kept q)
     → (q : List ℕ) → In q qs → IsJoined pts ids kept q
+
+-- polygons that stay of parts and those that go close up together, if the points of a set that has the ids of all parts are distinct
+abbrev pub CloseUp : List Vector → List Part → (stay go : List (List ℕ)) → Type 0
+CloseUp pts parts stay go = (ids : List ℕ) → HasDistinctPoints (place pts) (Members ids)
+    → ((l : ℕ) → In l (flat_map ids_in parts) → In l ids) → AreClosed (stay ++ go)

@@ -4,12 +4,12 @@ ghost use Rattle.qh_mesh.specs.contract.Replacement.{IsLive};
 ghost use Rattle.qh_surface.specs.contract.NamedMeshes.{IsNamedMesh};
 
 use super::{ALL, halves_of};
-use qh_block::UnsortedFaces;
+use qh_block::{PartedFaces, UnsortedFaces};
 use qh_fixtures::faces::{CUBE_FACES, are_round, polygons_of};
 use qh_fixtures::ids::ids_of;
 use qh_fixtures::points::cube;
 use qh_mesh::FacetNo;
-use qh_model::{Body, Id, Memory, Point, Polygon};
+use qh_model::{Body, Id, Memory, Point};
 use qh_pred::{point_at, vol};
 use qh_seam::{Divided, Guess, Run, body_of_joined, join_faces, kept_ids, staying_faces};
 use qh_surface::NamedMesh;
@@ -96,9 +96,9 @@ fn runs_of(
     Ok(runs)
 }
 
-/// Returns the faces that the first part contributes, where the facets in the plane x = 0 are marked, or
-/// all are.
-fn first_faces(alloc: Global, marking: Marking) -> Result<Option<Vec<Polygon>>, Memory> {
+/// Returns the faces of the first part, those that it contributes apart, where the facets in the plane x = 0 are
+/// marked, or all are.
+fn first_faces(alloc: Global, marking: Marking) -> Result<Option<PartedFaces>, Memory> {
     let pts = cube(0, 1);
     let Some(halves) = halves_of(alloc, &pts)? else {
         return Ok(None);
@@ -130,7 +130,7 @@ fn first_faces(alloc: Global, marking: Marking) -> Result<Option<Vec<Polygon>>, 
 fn the_first_part_gives_out_its_square(rt: HostRuntime) -> Result<(), Fail> {
     let faces = first_faces(rt.alloc(), Marking::AtZero)?;
     let told = match faces {
-        Some(polygons) => are_round(&polygons, &CUBE_FACES[..1]),
+        Some(faces) => are_round(&faces.chosen, &CUBE_FACES[..1]) && !faces.others.is_empty(),
         None => false,
     };
     assert!(rt; told);
@@ -166,16 +166,18 @@ fn all_corners_of_the_cube_are_kept(rt: HostRuntime) -> Result<(), Fail> {
     Ok(())
 }
 
-/// Returns the hull of the cube from the square that its first part contributes and other polygons; `None` if
-/// these do not make it.
+/// Returns the hull of the cube from faces that its parts contribute and other polygons in place of those that are
+/// gone; `None` if these do not make it.
 fn cube_with<R: Threads>(
     rt: &R,
     alloc: Global,
     given: &[&[u32]],
+    gone: &[&[u32]],
     bridges: &[&[u32]],
 ) -> Result<Option<Body>, Memory> {
     let pts = cube(0, 1);
     let given = UnsortedFaces::of(alloc, polygons_of(alloc, given)?)?;
+    let gone = polygons_of(alloc, gone)?;
     let bridges = polygons_of(alloc, bridges)?;
     let Some(halves) = halves_of(alloc, &pts)? else {
         return Ok(None);
@@ -183,7 +185,7 @@ fn cube_with<R: Threads>(
     let (parts, shared) = (&halves.parts, &halves.shared);
     let pts = pts.as_slice();
     let set = Divided { pts, parts, shared };
-    match join_faces(rt, alloc, set, given, bridges, 2)? {
+    match join_faces(rt, alloc, set, given, &gone, bridges, 2)? {
         Some(faces) => body_of_joined(rt, alloc, faces, 2),
         None => Ok(None),
     }
@@ -191,7 +193,13 @@ fn cube_with<R: Threads>(
 
 #[test]
 fn six_faces_are_joined_to_a_cube(rt: HostRuntime) -> Result<(), Fail> {
-    let found = cube_with(&rt, rt.alloc(), &CUBE_FACES[..1], &CUBE_FACES[1..])?;
+    let found = cube_with(
+        &rt,
+        rt.alloc(),
+        &CUBE_FACES[..1],
+        &CUBE_FACES[1..],
+        &CUBE_FACES[1..],
+    )?;
     let told = match found {
         Some(body) => body.dim == 3 && body.extremes.len() == 8 && body.edges == 12,
         None => false,
@@ -202,9 +210,15 @@ fn six_faces_are_joined_to_a_cube(rt: HostRuntime) -> Result<(), Fail> {
 
 #[test]
 fn a_gap_is_not_joined(rt: HostRuntime) -> Result<(), Fail> {
-    let open = cube_with(&rt, rt.alloc(), &CUBE_FACES[..1], &CUBE_FACES[2..])?;
+    let open = cube_with(
+        &rt,
+        rt.alloc(),
+        &CUBE_FACES[..1],
+        &CUBE_FACES[1..],
+        &CUBE_FACES[2..],
+    )?;
     assert!(rt; open.is_none());
-    let none = cube_with(&rt, rt.alloc(), &[], &[])?;
+    let none = cube_with(&rt, rt.alloc(), &[], &[], &[])?;
     assert!(rt; none.is_none());
     Ok(())
 }
@@ -213,7 +227,7 @@ fn a_gap_is_not_joined(rt: HostRuntime) -> Result<(), Fail> {
 fn halves_of_a_face_are_not_joined(rt: HostRuntime) -> Result<(), Fail> {
     let [square, b, c, d, e, _] = CUBE_FACES;
     let bridges: [&[u32]; 6] = [b, c, d, e, &[4, 6, 7], &[4, 7, 5]];
-    let found = cube_with(&rt, rt.alloc(), &[square], &bridges)?;
+    let found = cube_with(&rt, rt.alloc(), &[square], &CUBE_FACES[1..], &bridges)?;
     assert!(rt; found.is_none());
     Ok(())
 }

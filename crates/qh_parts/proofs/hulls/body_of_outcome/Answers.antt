@@ -7,4 +7,5 @@ returns-in-Hull g c = λ pts ids kept distinct solid are outcome. rw c.in-Hull.i
 
 pub returns-in-Some : goal.returns-in-Some
 returns-in-Some g c = λ pts ids kept distinct solid are outcome.
-    (rw c.in-Some.is at c.in_ok-body-in-Faces.ensures) (place pts) ids kept distinct solid are (rw c.in-Faces.is at outcome)
+    let faces = rw c.in-Faces.is at outcome in
+    (rw c.in-Some.is at c.in_ok-body-in-Faces.ensures) (place pts) ids kept distinct solid are faces.1 faces.0

@@ -10,5 +10,8 @@ returns-then-not-has_seams g c = λ ids set inside keeps rising are.
 pub returns : goal.returns
 returns g c = λ ids set inside keeps rising are.
     let given = rw c.in-Some-2.is at c.in_ok-given.ensures in
-    (rw c.in-Some-4.is at c.in_ok-faces.ensures) ids c.args.kept.now set.distinct are keeps
-    (given ids c.args.kept.now set.distinct inside keeps)
+    let joined = rw c.in-Some-joined.is at c.in_ok-joined.ensures.joined in
+    let closed = rw (c.in-Some-joined.is, c.deref-5.ensures.value) at c.in_ok-joined.ensures.closed in (
+      joined ids c.args.kept.now set.distinct are keeps (given.0 ids c.args.kept.now set.distinct inside keeps),
+      closed (given.1 ids set.distinct inside),
+    )

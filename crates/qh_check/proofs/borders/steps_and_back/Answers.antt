@@ -1,0 +1,9 @@
+-- The keys of both are there, in another order.
+use Rattle.qh_check.proofs.StepBorders.{steps_and_back}
+use Rattle.qh_check.proofs.borders.steps_and_back.Goals as goal
+
+pub returns : goal.returns
+returns c =
+    steps_and_back c.args.polygons.now c.args.others.now _ _ _ _ c.in_ok-keys.ensures c.in_ok-other_keys.ensures
+    (rw c.deref.ensures.value at c.in_ok-back.ensures)
+    (rw c.in_ok-append.ensures.items at c.sort_unstable.ensures.permutation)

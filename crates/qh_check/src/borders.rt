@@ -1,0 +1,55 @@
+//! Checks whether two lists of polygons have one border: the steps that are not taken as often as the step back.
+ghost use Rattle.std.specs.Prelude.{◌≡◌, ◌+◌, ◌++◌, ℕ, IfOk, IsPermutation, IsTrue, map};
+ghost use Rattle.std.specs.List.{flat_map};
+ghost use Rattle.qh_model.specs.contract.ClosedPolygons.{steps_round};
+ghost use Rattle.qh_check.specs.contract.Borders.{HaveOneBorder};
+ghost use Rattle.qh_check.specs.steps.StepKeys.{step_in, back, AreStepsAndBack};
+
+use crate::closed::{step_keys, turned};
+use qh_model::{Memory, Polygon};
+use std::alloc::{AllocError, Global};
+
+/// Returns keys, each turned back.
+fn keys_back(alloc: Global, keys: &[u64]) -> Result<Vec<u64>, AllocError>
+    ensures { IfOk result (λ v. map step_in v.items ≡ map back (map step_in keys.now)) }
+{
+    let mut back = Vec::with_capacity(alloc, keys.len())?;
+    for key in keys {
+        back.push(turned(*key))?;
+    }
+    Ok(back)
+}
+
+/// Returns the keys of the steps round some polygons and of the steps back round others, sorted.
+fn steps_and_back(
+    alloc: Global,
+    polygons: &[Polygon],
+    others: &[Polygon],
+) -> Result<Vec<u64>, AllocError>
+    ensures { IfOk result (λ v. AreStepsAndBack polygons.now others.now v.items) }
+{
+    let mut keys = step_keys(alloc, polygons)?;
+    let other_keys = step_keys(alloc, others)?;
+    let mut back = keys_back(alloc, &other_keys)?;
+    keys.append(&mut back)?;
+    keys.sort_unstable();
+    Ok(keys)
+}
+
+/// Returns true if each step is taken as much more often than the step back by some polygons as by others. So
+/// polygons that close up with the ones close up with the others.
+///
+/// # Errors
+///
+/// `Memory` where an allocation failed.
+pub fn have_one_border(
+    alloc: Global,
+    polygons: &[Polygon],
+    others: &[Polygon],
+) -> Result<bool, Memory>
+    ensures { IfOk result (λ yes. IsTrue yes → HaveOneBorder polygons.now others.now) }
+{
+    let steps = steps_and_back(alloc, polygons, others)?;
+    let other_steps = steps_and_back(alloc, others, polygons)?;
+    Ok(steps == other_steps)
+}
