@@ -52,12 +52,22 @@ impl FarFrom {
     }
 }
 
+/// Returns the point of an id, if it has one.
+pub(crate) fn point_of(pts: &[Point], id: Id) -> Option<Point> {
+    match pts.get(id.index()) {
+        Some(point) => Some(*point),
+        None => None,
+    }
+}
+
 /// Returns the ends of a set, and ids spread over all of it.
 fn candidates(alloc: Global, ids: &[Id], ends: &[Id; 6]) -> Result<Vec<Id>, AllocError> {
     let mut listed = Vec::from_slice(alloc, ends)?;
     let step = ids.len() / LOOKED_AT + 1;
     for part in 0..ids.len() / step {
-        listed.push(ids[part * step])?;
+        if let Some(id) = ids.get(part.saturating_mul(step)) {
+            listed.push(*id)?;
+        }
     }
     Ok(listed)
 }
@@ -68,9 +78,9 @@ fn far_corners(pts: &[Point], ids: &[Id]) -> Option<[Id; 4]> {
     let [i, j, ..] = ids else {
         return None;
     };
-    let (a, b) = (*pts.get(i.index())?, *pts.get(j.index())?);
+    let (a, b) = (point_of(pts, *i)?, point_of(pts, *j)?);
     let k = FarFrom::Line(a, b).furthest(pts, ids)?;
-    let c = *pts.get(k.index())?;
+    let c = point_of(pts, k)?;
     let l = FarFrom::Plane(Plane::through(a, b, c)).furthest(pts, ids)?;
     Some([*i, *j, k, l])
 }

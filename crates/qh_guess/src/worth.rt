@@ -1,6 +1,7 @@
 //! The rule that decides whether joining the hulls of parts at their seams pays.
 use crate::cut::{Facets, Others};
 use crate::outlines::Outline;
+use crate::sights::Sight;
 use qh_seam::{Divided, Part};
 
 /// The greatest number of corners of all parts whose hull is made so quickly that joining at seams does not pay.
@@ -16,6 +17,11 @@ struct Tally {
     gone: usize,
 }
 
+/// Returns the plane of the first facet from a place on.
+fn first_sight(facets: Facets, place: usize) -> Option<Sight> {
+    facets.sight(facets.first_from(place)?)
+}
+
 impl Tally {
     /// Returns the tally after a test of some facets of a part.
     fn with(self, part: &Part, others: Others) -> Tally {
@@ -24,8 +30,7 @@ impl Tally {
         let mut tally = self;
         for number in 0..ASKED {
             let place = step.wrapping_mul(number);
-            let found = facets.first_from(place).and_then(|f| facets.sight(f));
-            let Some(sight) = found else {
+            let Some(sight) = first_sight(facets, place) else {
                 break;
             };
             tally.asked = tally.asked.saturating_add(1);

@@ -62,25 +62,27 @@ pub(crate) struct Share {
     pub component: i16,
 }
 
+impl Share {
+    /// Returns the component, taken `times` times.
+    fn number(self) -> i128
+        requires { self.times ≤ TIMES_LIMIT }
+        ensures value { result ≡ pos self.times *ℤ self.component }
+        ensures limit { unsigned_abs result ≤ 2 ^ 63 }
+    {
+        i128::from(self.times) * i128::from(self.component)
+    }
+}
+
+/// Returns an end of a span less a share.
+fn end_rest(end: i64, share: i128) -> i128
+    requires { unsigned_abs share ≤ 2 ^ 63 }
+    ensures value { result ≡ end -ℤ share }
+    ensures limit { unsigned_abs result ≤ 2 ^ 64 }
+{
+    i128::from(end) - share
+}
+
 impl Span {
-    /// Returns the low end less a share.
-    fn low_rest(&self, share: Share) -> i128
-        requires { share.times ≤ TIMES_LIMIT }
-        ensures value { result ≡ self.now.low -ℤ pos share.times *ℤ share.component }
-        ensures limit { unsigned_abs result ≤ 2 ^ 64 }
-    {
-        i128::from(self.low) - i128::from(share.times) * i128::from(share.component)
-    }
-
-    /// Returns the high end less a share.
-    fn high_rest(&self, share: Share) -> i128
-        requires { share.times ≤ TIMES_LIMIT }
-        ensures value { result ≡ self.now.high -ℤ pos share.times *ℤ share.component }
-        ensures limit { unsigned_abs result ≤ 2 ^ 64 }
-    {
-        i128::from(self.high) - i128::from(share.times) * i128::from(share.component)
-    }
-
     /// Returns the greatest product of two numbers: one of the span less the share, and one from `from`
     /// to `to`.
     pub fn far_rest(&self, share: Share, from: i64, to: i64) -> i128
@@ -91,7 +93,8 @@ impl Span {
             → ((n -ℤ pos share.times *ℤ share.component) *ℤ w) ≤ℤ result }
         ensures limit { unsigned_abs result ≤ 2 ^ 96 }
     {
-        let (low, high) = (self.low_rest(share), self.high_rest(share));
+        let taken = share.number();
+        let (low, high) = (end_rest(self.low, taken), end_rest(self.high, taken));
         greater(far_product(from, low, high), far_product(to, low, high))
     }
 

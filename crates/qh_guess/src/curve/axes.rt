@@ -20,7 +20,7 @@ impl Axis {
         let extent = greatest.abs_diff(least);
         Axis {
             least,
-            bits: u32::BITS - extent.leading_zeros(),
+            bits: u32::BITS.saturating_sub(extent.leading_zeros()),
         }
     }
 

@@ -1,4 +1,7 @@
 //! The facets of a part, with the points of their corners. What is asked of a place that is free has no answer.
+ghost use Rattle.std.specs.Prelude.{IsTrue};
+ghost use Rattle.qh_mesh.specs.contract.Replacement.{IsLive};
+
 use crate::sights::Sight;
 use qh_mesh::FacetNo;
 use qh_model::{Id, Point};
@@ -29,20 +32,26 @@ impl<'a> Facets<'a> {
     }
 
     /// Returns true if there is a facet at a place.
-    pub fn is_live(self, f: FacetNo) -> bool {
+    pub fn is_live(self, f: FacetNo) -> bool
+        ensures { IsTrue result → IsLive self.entry.surface.now.mesh f }
+    {
         f.index() < self.surface.mesh.places() && self.surface.mesh.is_live(f)
     }
 
     /// Returns the first facet from a place on.
     pub fn first_from(self, place: usize) -> Option<FacetNo> {
-        (place..self.places())
-            .map(|place| FacetNo::new(place))
-            .find(|f| self.is_live(*f))
+        for place in place..self.places() {
+            let f = FacetNo::new(place);
+            if self.is_live(f) {
+                return Some(f);
+            }
+        }
+        None
     }
 
     /// Returns the positions of a facet's corners among the points of the mesh.
     pub fn positions(self, f: FacetNo) -> Option<[Id; 3]> {
-        if f.index() >= self.surface.mesh.places() || !self.surface.mesh.is_live(f) {
+        if !self.is_live(f) {
             return None;
         }
         Some(self.surface.mesh.facet(f))
@@ -77,19 +86,19 @@ impl<'a> Facets<'a> {
 
     /// Returns the number of the facet across a side of another: 0, 1 or 2.
     pub fn next(self, f: FacetNo, side: usize) -> Option<FacetNo> {
-        let mesh = &self.surface.mesh;
-        if f.index() >= mesh.places() || !mesh.is_live(f) || side >= 3 {
+        if side >= 3 || !self.is_live(f) {
             return None;
         }
+        let mesh = &self.surface.mesh;
         Some(mesh.facet_of(mesh.across(f, side)))
     }
 
     /// Returns the facet across a side of another: 0, 1 or 2.
     pub fn across(self, f: FacetNo, side: usize) -> Option<Neighbour> {
-        let mesh = &self.surface.mesh;
-        if f.index() >= mesh.places() || !mesh.is_live(f) || side >= 3 {
+        if side >= 3 || !self.is_live(f) {
             return None;
         }
+        let mesh = &self.surface.mesh;
         let edge = mesh.across(f, side);
         let opposite = mesh.opposite(edge);
         Some(Neighbour {

@@ -4,6 +4,7 @@ use crate::cut::cutting::{Cutting, Others};
 use crate::cut::facets::Facets;
 use crate::cut::rays::Rays;
 use crate::outlines::{FACING_TOGETHER, Outline, piece};
+use crate::shared::point_of;
 use crate::vector::Vector;
 use qh_mesh::FacetNo;
 use qh_model::{Id, Memory, Point};
@@ -19,6 +20,29 @@ pub struct Marks {
     pub runs: Vec<Vec<Run>>,
     /// The ids of the corners of the facets that go. An id may stand several times.
     pub seam: Vec<Id>,
+}
+
+impl Marks {
+    /// Returns marks that say nothing.
+    fn none(alloc: Global) -> Marks {
+        Marks {
+            stay: Vec::new(alloc),
+            runs: Vec::new(alloc),
+            seam: Vec::new(alloc),
+        }
+    }
+
+    /// Returns the marks of facets that were tested, with the witnesses that were found.
+    fn made(
+        alloc: Global,
+        facets: Facets,
+        cutting: &Cutting,
+        runs: Vec<Vec<Run>>,
+    ) -> Result<Marks, AllocError> {
+        let stay = cutting.marks(alloc)?;
+        let seam = corners_of(alloc, facets, cutting.gone())?;
+        Ok(Marks { stay, runs, seam })
+    }
 }
 
 /// Returns the points of ids. An id of no point is passed over.
@@ -37,12 +61,9 @@ fn four_of(set: Divided) -> Option<[Point; 4]> {
     let [i, j, k, l, ..] = set.shared else {
         return None;
     };
-    Some([
-        *set.pts.get(i.index())?,
-        *set.pts.get(j.index())?,
-        *set.pts.get(k.index())?,
-        *set.pts.get(l.index())?,
-    ])
+    let (a, b) = (point_of(set.pts, *i)?, point_of(set.pts, *j)?);
+    let (c, d) = (point_of(set.pts, *k)?, point_of(set.pts, *l)?);
+    Some([a, b, c, d])
 }
 
 /// Returns for each `FACING_TOGETHER` points the direction in which the surface faces at the one in their middle.
@@ -96,14 +117,21 @@ fn marks_of_shared(alloc: Global, ids: &[Id], shared: &[Id]) -> Result<Vec<bool>
     Ok(marks)
 }
 
-/// Returns true if all corners of a facet are marked.
-fn is_marked(facets: Facets, marks: &[bool], f: FacetNo) -> bool {
-    match facets.positions(f) {
-        Some(positions) => positions
-            .iter()
-            .all(|p| marks.get(p.index()).copied().unwrap_or(false)),
+/// Returns true if a position is marked.
+fn is_marked_at(marks: &[bool], position: Id) -> bool {
+    match marks.get(position.index()) {
+        Some(mark) => *mark,
         None => false,
     }
+}
+
+/// Returns true if all corners of a facet are marked.
+fn is_marked(facets: Facets, marks: &[bool], f: FacetNo) -> bool {
+    let Some(positions) = facets.positions(f) else {
+        return false;
+    };
+    let [a, b, c] = positions;
+    is_marked_at(marks, a) && is_marked_at(marks, b) && is_marked_at(marks, c)
 }
 
 /// Lets the facets go all of whose corners are shared: each part may have them.
@@ -137,11 +165,12 @@ fn all_witnesses(
         return Ok(runs);
     };
     for other in 0..others.outlines.len() {
-        if other == others.number {
-            runs.push(Vec::new(alloc))?;
+        let own = if other == others.number {
+            Vec::new(alloc)
         } else {
-            runs.push(cover.witnesses(cutting, &others.outlines[other])?)?;
-        }
+            cover.witnesses(cutting, &others.outlines[other])?
+        };
+        runs.push(own)?;
     }
     Ok(runs)
 }
@@ -157,6 +186,22 @@ fn corners_of(alloc: Global, facets: Facets, listed: &[FacetNo]) -> Result<Vec<I
     Ok(ids)
 }
 
+/// Guesses what stays of a part where the corners of the others come in. The middle of the four points is inside of it.
+fn marks_against<'a>(
+    alloc: Global,
+    part: &'a Part,
+    shared: &[Id],
+    four: [Point; 4],
+    others: Others<'a>,
+) -> Result<Marks, AllocError> {
+    let facets = Facets::of(&part.surface);
+    let mut cutting = Cutting::start(alloc, facets, others)?;
+    drop_shared(alloc, part, shared, &mut cutting)?;
+    let runs = all_witnesses(alloc, facets, four, others, &mut cutting)?;
+    cutting.ask_waiting()?;
+    Marks::made(alloc, facets, &cutting, runs)
+}
+
 /// Guesses what stays of the part of a number where the corners of the other parts come in. `outlines` has
 /// the outline of each part.
 ///
@@ -169,26 +214,12 @@ pub fn marks_of<'a>(
     outlines: &'a [Outline],
     number: usize,
 ) -> Result<Marks, Memory> {
-    let none = Marks {
-        stay: Vec::new(alloc),
-        runs: Vec::new(alloc),
-        seam: Vec::new(alloc),
-    };
     let Some(part) = set.parts.get(number) else {
-        return Ok(none);
+        return Ok(Marks::none(alloc));
     };
     let Some(four) = four_of(set) else {
-        return Ok(none);
+        return Ok(Marks::none(alloc));
     };
-    let facets = Facets::of(&part.surface);
     let others = Others { outlines, number };
-    let mut cutting = Cutting::start(alloc, facets, others)?;
-    drop_shared(alloc, part, set.shared, &mut cutting)?;
-    let runs = all_witnesses(alloc, facets, four, others, &mut cutting)?;
-    cutting.ask_waiting()?;
-    Ok(Marks {
-        stay: cutting.marks(alloc)?,
-        runs,
-        seam: corners_of(alloc, facets, cutting.gone())?,
-    })
+    Ok(marks_against(alloc, part, set.shared, four, others)?)
 }

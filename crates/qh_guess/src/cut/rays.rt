@@ -17,6 +17,11 @@ struct Way {
     z: i64,
 }
 
+/// Returns the component of a way to a coordinate, where four coordinates have this sum.
+fn way_along(coordinate: i32, sum: i64) -> i64 {
+    i64::from(coordinate).wrapping_mul(4).wrapping_sub(sum)
+}
+
 /// Returns the product of two components.
 fn product(a: i64, b: i64) -> i128 {
     i128::from(a).wrapping_mul(i128::from(b))
@@ -68,13 +73,10 @@ impl<'a> Rays<'a> {
 
     /// Returns the way to a point.
     fn way(&self, point: Point) -> Way {
-        let part = |coordinate: i32, sum: i64| -> i64 {
-            i64::from(coordinate).wrapping_mul(4).wrapping_sub(sum)
-        };
         Way {
-            x: part(point.x(), self.sum.x),
-            y: part(point.y(), self.sum.y),
-            z: part(point.z(), self.sum.z),
+            x: way_along(point.x(), self.sum.x),
+            y: way_along(point.y(), self.sum.y),
+            z: way_along(point.z(), self.sum.z),
         }
     }
 
@@ -95,9 +97,13 @@ impl<'a> Rays<'a> {
 
     /// Returns the facet through which a way leaves, sought among all.
     fn sought(&self, way: Way) -> Option<FacetNo> {
-        (0..self.facets.places())
-            .map(|place| FacetNo::new(place))
-            .find(|f| self.facets.is_live(*f) && self.side_beyond(*f, way).is_none())
+        for place in 0..self.facets.places() {
+            let f = FacetNo::new(place);
+            if self.facets.is_live(f) && self.side_beyond(f, way).is_none() {
+                return Some(f);
+            }
+        }
+        None
     }
 
     /// Returns a walk from the last facet towards the one through which a way leaves: whether it came there in so

@@ -1,5 +1,5 @@
 -- The product at the far end is the greatest.
-use Rattle.std.proofs.Common.{rules, subst, sym}
+use Rattle.std.proofs.Common.{subst, sym}
 use Rattle.std.specs.Prelude.{◌*ℤ◌, ◌≤ℤ◌}
 use Rattle.qh_places.proofs.PointBoxes.{greatest}
 use Rattle.qh_places.proofs.spans.far_product.Goals as goal
@@ -12,8 +12,8 @@ returns-clause-value c = λ r within.
     let fw : SFits w64 c.args.way = c.ranges.way in
     let fl : SFits w128 c.args.low = c.ranges.low in
     let fh : SFits w128 c.args.high = c.ranges.high in
-    let fe : SFits w128 c.far_end.result = search rules in
-    let fp : SFits w128 c.way_product.result = search rules in
+    let fe : SFits w128 c.far_end.result = record { sfits = c.far_end.type_inv } in
+    let fp : SFits w128 c.way_product.result = record { sfits = c.way_product.type_inv } in
     let far = simp to_z-of_z at c.far_end.ensures.far in
     let value = simp to_z-of_z at c.way_product.ensures.value in
     let most = greatest c.args.way c.args.low c.args.high c.far_end.result r far within in

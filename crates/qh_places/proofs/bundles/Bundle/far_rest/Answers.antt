@@ -13,28 +13,28 @@ returns-clause-value c = λ n p spans within.
     let kx : SFits w16 c.args.along.x = search rules in
     let ky : SFits w16 c.args.along.y = search rules in
     let kz : SFits w16 c.args.along.z = search rules in
-    let fx : SFits w32 c.x.result = search rules in
-    let fx-2 : SFits w32 c.x-2.result = search rules in
-    let fx-3 : SFits w32 c.x-3.result = search rules in
-    let fx-4 : SFits w32 c.x-4.result = search rules in
-    let fy : SFits w32 c.y.result = search rules in
-    let fy-2 : SFits w32 c.y-2.result = search rules in
-    let fy-3 : SFits w32 c.y-3.result = search rules in
-    let fy-4 : SFits w32 c.y-4.result = search rules in
-    let fz : SFits w32 c.z.result = search rules in
-    let fz-2 : SFits w32 c.z-2.result = search rules in
-    let fz-3 : SFits w32 c.z-3.result = search rules in
-    let fz-4 : SFits w32 c.z-4.result = search rules in
-    let fway : SFits w64 c.way.result = search rules in
-    let fway-2 : SFits w64 c.way-2.result = search rules in
-    let fway-3 : SFits w64 c.way-3.result = search rules in
-    let fway-4 : SFits w64 c.way-4.result = search rules in
-    let fway-5 : SFits w64 c.way-5.result = search rules in
-    let fway-6 : SFits w64 c.way-6.result = search rules in
-    let gfar_rest : SFits w128 c.far_rest.result = search rules in
-    let gfar_rest-2 : SFits w128 c.far_rest-2.result = search rules in
-    let gfar_rest-3 : SFits w128 c.far_rest-3.result = search rules in
-    let gsum : SFits w128 c.sum.result = search rules in
+    let fx : SFits w32 c.x.result = record { sfits = c.x.type_inv } in
+    let fx-2 : SFits w32 c.x-2.result = record { sfits = c.x-2.type_inv } in
+    let fx-3 : SFits w32 c.x-3.result = record { sfits = c.x-3.type_inv } in
+    let fx-4 : SFits w32 c.x-4.result = record { sfits = c.x-4.type_inv } in
+    let fy : SFits w32 c.y.result = record { sfits = c.y.type_inv } in
+    let fy-2 : SFits w32 c.y-2.result = record { sfits = c.y-2.type_inv } in
+    let fy-3 : SFits w32 c.y-3.result = record { sfits = c.y-3.type_inv } in
+    let fy-4 : SFits w32 c.y-4.result = record { sfits = c.y-4.type_inv } in
+    let fz : SFits w32 c.z.result = record { sfits = c.z.type_inv } in
+    let fz-2 : SFits w32 c.z-2.result = record { sfits = c.z-2.type_inv } in
+    let fz-3 : SFits w32 c.z-3.result = record { sfits = c.z-3.type_inv } in
+    let fz-4 : SFits w32 c.z-4.result = record { sfits = c.z-4.type_inv } in
+    let fway : SFits w64 c.way.result = record { sfits = c.way.type_inv } in
+    let fway-2 : SFits w64 c.way-2.result = record { sfits = c.way-2.type_inv } in
+    let fway-3 : SFits w64 c.way-3.result = record { sfits = c.way-3.type_inv } in
+    let fway-4 : SFits w64 c.way-4.result = record { sfits = c.way-4.type_inv } in
+    let fway-5 : SFits w64 c.way-5.result = record { sfits = c.way-5.type_inv } in
+    let fway-6 : SFits w64 c.way-6.result = record { sfits = c.way-6.type_inv } in
+    let gfar_rest : SFits w128 c.far_rest.result = record { sfits = c.far_rest.type_inv } in
+    let gfar_rest-2 : SFits w128 c.far_rest-2.result = record { sfits = c.far_rest-2.type_inv } in
+    let gfar_rest-3 : SFits w128 c.far_rest-3.result = record { sfits = c.far_rest-3.type_inv } in
+    let gsum : SFits w128 c.sum.result = record { sfits = c.sum.type_inv } in
     let lowx = rw (c.x-2.ensures.value, c.x.ensures.value) at (simp to_z-of_z at c.way.ensures.value) in
     let highx = rw (c.x-4.ensures.value, c.x-3.ensures.value) at (simp to_z-of_z at c.way-2.ensures.value) in
     let topx = (simp to_z-of_z at c.far_rest.ensures.value) n.x (p.x -ℤ o.x) spans.x

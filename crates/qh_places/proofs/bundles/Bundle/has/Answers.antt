@@ -13,13 +13,13 @@ returns-then-has-3 c t = elim c.if-has-2.branch [
   | then-has-2 v ↦ elim c.if-has.branch [
     | else-has w ↦ absurd (let p = v.if-has-2.true in let q = w.value-is in let r = w.if-has.false in cc)
     | then-has w ↦ (
-        let fx : SFits w128 c.x.result = search rules in
-        let fy : SFits w128 w.y.result = search rules in
-        let fz : SFits w128 v.z.result = search rules in
-        let gx : SFits w128 c.scaled.result = search rules in
-        let gy : SFits w128 w.scaled-then-has.result = search rules in
-        let gz : SFits w128 v.scaled-then-has-2.result = search rules in
-        let gh : SFits w128 c.height.result = search rules in
+        let fx : SFits w128 c.x.result = record { sfits = c.x.type_inv } in
+        let fy : SFits w128 w.y.result = record { sfits = w.y.type_inv } in
+        let fz : SFits w128 v.z.result = record { sfits = v.z.type_inv } in
+        let gx : SFits w128 c.scaled.result = record { sfits = c.scaled.type_inv } in
+        let gy : SFits w128 w.scaled-then-has.result = record { sfits = w.scaled-then-has.type_inv } in
+        let gz : SFits w128 v.scaled-then-has-2.result = record { sfits = v.scaled-then-has-2.type_inv } in
+        let gh : SFits w128 c.height.result = record { sfits = c.height.type_inv } in
         let gd : SFits w128 c.args.self.now.depth = search rules in
         let hx = rw c.x.ensures.value at (simp to_z-of_z at c.scaled.ensures) in
         let hy = rw w.y.ensures.value at (simp to_z-of_z at w.scaled-then-has.ensures) in

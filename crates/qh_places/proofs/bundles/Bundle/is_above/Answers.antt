@@ -1,5 +1,4 @@
 -- The share and the rest bound the heights.
-use Rattle.std.proofs.Common.{rules}
 use Rattle.qh_places.proofs.BundleSlabs.{block_is_below}
 use Rattle.qh_places.proofs.bundles.Bundle.is_above.Goals as goal
 use Rattle.std.proofs.lemmas.Int.{to_z-of_z}
@@ -8,8 +7,8 @@ use mir.Val.{SFits}
 
 pub returns : goal.returns
 returns c t =
-    let fs : SFits w128 c.far_share-share.result = search rules in
-    let fr : SFits w128 c.far_rest-rest.result = search rules in
+    let fs : SFits w128 c.far_share-share.result = record { sfits = c.far_share-share.type_inv } in
+    let fr : SFits w128 c.far_rest-rest.result = record { sfits = c.far_rest-rest.type_inv } in
     let total = simp to_z-of_z at (c.is_deeper.ensures t) in
     block_is_below c.args.self.now c.args.block.now c.times_along-times.result c.far_share-share.result c.far_rest-rest.result
     c.far_share-share.ensures.value c.far_rest-rest.ensures.value total

@@ -1,15 +1,17 @@
 -- The ids along the curve are those of the set.
-use Rattle.std.proofs.Common.{◌∙◌, ap, length, map}
+use Rattle.std.proofs.Common.{◌∙◌, ℕ, ◌<◌, ap, length, map}
 use Rattle.std.proofs.lemmas.List.{length-map}
 use Rattle.std.proofs.lemmas.List.Sorted.{IsPermutation-sym}
 use Rattle.qh_model.specs.headline.Predicates.{place}
-use Rattle.qh_model.proofs.Members.{in_permutation}
-use Rattle.qh_surface.proofs.runs.OrderedIds.{indices_reordered}
+use Rattle.qh_model.proofs.Members.{All-In, All-of, in_permutation}
 use Rattle.qh_places.proofs.places.Places.over.Goals as goal
 
 pub points_of-requires : goal.points_of-requires
 points_of-requires c =
-    rw c.deref.ensures.value (indices_reordered c.in_ok-ids.ensures c.args.pts.now c.requires.indices)
+    let ids = c.args.ids.now in let sorted = c.in_ok-ids.ids.items in
+    let is_index = λ (i : ℕ). i < length c.args.pts.now in
+    rw c.deref.ensures.value (All-of is_index sorted (λ i m. All-In is_index ids i c.requires.indices
+    (in_permutation sorted ids (IsPermutation-sym ids sorted c.in_ok-ids.ensures) i m)))
 
 pub invariant_of-result : goal.invariant_of-result
 invariant_of-result c = record {

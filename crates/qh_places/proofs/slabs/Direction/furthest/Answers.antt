@@ -1,5 +1,5 @@
 -- One more point reaches no further.
-use Rattle.std.proofs.Common.{rules, arith, subst, ◌∙◌, inl, inr, ◌≡◌, get_or}
+use Rattle.std.proofs.Common.{arith, subst, ◌∙◌, inl, inr, ◌≡◌, get_or}
 use Rattle.std.proofs.lemmas.List.{get_or_default}
 use Rattle.std.proofs.lemmas.Bool.{cases_lt}
 use Rattle.std.specs.Prelude.{◌≤ℤ◌}
@@ -13,8 +13,8 @@ use mir.Val.{SFits}
 
 pub loop-point-preserved : goal.loop-point-preserved
 loop-point-preserved c = λ k l m.
-    let fr : SFits w64 c.reach.result = search rules in
-    let fm : SFits w64 c.max-furthest.result = search rules in
+    let fr : SFits w64 c.reach.result = record { sfits = c.reach.type_inv } in
+    let fm : SFits w64 c.max-furthest.result = record { sfits = c.max-furthest.type_inv } in
     let up = c.max-furthest.ensures.self_bound in
     let own = simp to_z-of_z at c.max-furthest.ensures.other_bound in
     simp to_z-of_z (elim (cases_lt k c.loop-point.point-index) [

@@ -1,0 +1,20 @@
+-- The size of a product is that of its factors, multiplied.
+use Rattle.std.proofs.Common.{◌*◌, refl, lit<}
+use Rattle.std.specs.Prelude.{pos}
+use Rattle.qh_pred.specs.contract.Bounds.{normal_limit}
+use Rattle.qh_places.specs.declared.bundles.TheConstants.{SCALE}
+use Rattle.qh_places.proofs.Products.{IsProduct, product}
+use Rattle.qh_places.proofs.bundles.scaled.Goals as goal
+use mir.Syntax.{w128}
+
+made : (c : goal.After-from)
+    → IsProduct w128 c.args.component c.from.result c.args.component (pos c.args.times) (normal_limit * SCALE)
+made c =
+    product w128 c.args.component c.from.result c.args.component (pos c.args.times) normal_limit SCALE refl c.from.ensures
+    c.ranges.component (record { sfits = c.from.type_inv }) c.requires.component c.requires.times (lit< tt)
+
+pub overflow_mul-result : goal.overflow_mul-result
+overflow_mul-result c = (made c).fits
+
+pub returns : goal.returns
+returns c = (made c).value

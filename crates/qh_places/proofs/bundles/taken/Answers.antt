@@ -1,0 +1,20 @@
+-- The size of a product is that of its factors, multiplied.
+use Rattle.std.proofs.Common.{◌^◌, refl, lit<}
+use Rattle.std.specs.Prelude.{pos}
+use Rattle.qh_places.proofs.Products.{IsProduct, product}
+use Rattle.qh_places.proofs.bundles.taken.Goals as goal
+use mir.Syntax.{w128}
+
+made : (c : goal.After-from) → IsProduct w128 c.from.result c.args.number (pos c.args.times) c.args.number (2 ^ 112)
+made c =
+    product w128 c.from.result c.args.number (pos c.args.times) c.args.number (2 ^ 48) (2 ^ 64) c.from.ensures refl
+    (record { sfits = c.from.type_inv }) c.ranges.number c.requires.times c.requires.number (lit< tt)
+
+pub overflow_mul-result : goal.overflow_mul-result
+overflow_mul-result c = (made c).fits
+
+pub returns-clause-value : goal.returns-clause-value
+returns-clause-value c = (made c).value
+
+pub returns-clause-limit : goal.returns-clause-limit
+returns-clause-limit c = (made c).limit

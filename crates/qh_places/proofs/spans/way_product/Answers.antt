@@ -1,0 +1,21 @@
+-- The size of a product is that of its factors, multiplied.
+use Rattle.std.proofs.Common.{◌∙◌, ◌^◌, refl, lit<}
+use Rattle.std.proofs.lemmas.Int.{to_z-of_z}
+use Rattle.qh_places.proofs.Products.{IsProduct, product}
+use Rattle.qh_places.proofs.spans.way_product.Goals as goal
+use mir.Syntax.{w64, w128}
+
+made : (c : goal.After-from) → IsProduct w128 c.from.result c.args.number c.args.way c.args.number (2 ^ 96)
+made c =
+    product w128 c.from.result c.args.number c.args.way c.args.number (2 ^ 32) (2 ^ 64)
+    (c.from.ensures ∙ to_z-of_z w64 c.args.way c.ranges.way) refl (record { sfits = c.from.type_inv }) c.ranges.number
+    c.requires.way c.requires.number (lit< tt)
+
+pub overflow_mul-result : goal.overflow_mul-result
+overflow_mul-result c = (made c).fits
+
+pub returns-clause-value : goal.returns-clause-value
+returns-clause-value c = (made c).value
+
+pub returns-clause-limit : goal.returns-clause-limit
+returns-clause-limit c = (made c).limit
