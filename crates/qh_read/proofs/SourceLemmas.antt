@@ -3,10 +3,13 @@ use Rattle.qh_model.specs.declared.read_fault.ReadFault.TheVariants as faults
 use Rattle.qh_read.specs.declared.fault.FeedFault.TheVariants as refusals
 use Rattle.std.proofs.Common.{◌≡◌, ◌≢◌, ◌≤◌, ◌<◌, ◌∙◌, ◌++◌, ◌+◌, ℕ, List, [], refl, ap, sym, subst, arith, length, length-append, append_assoc}
 use Rattle.std.proofs.lemmas.List.{append-nil}
-use Rattle.std.specs.{Io.KnownBytes.Consumes, Prelude.Option, Prelude.Some, Prelude.None}
+use Rattle.std.specs.{Io.KnownBytes.Consumes, declared.alloc.Global.Global}
+use Rattle.std.specs.Prelude.{Option, Some, None, Result, Ok, Err, Vec, IfOk, IfErr}
 use Rattle.qh_model.specs.declared.{form.Form.Form, limits.TheConstants.BYTE_LIMIT, read_fault.ReadFault.ReadFault}
-use Rattle.qh_read.specs.{contract.Holding.Reading, contract.Holding.Fed, contract.ReadFaults.read_fault, declared.fault.FeedFault.FeedFault}
-use Rattle.qh_read.specs.{declared.whole.TheConstants.PIECE_LENGTH, headline.SourceBytes.Gives, steps.Sources.FedOn, steps.Sources.Stops}
+use Rattle.qh_model.specs.headline.{Forms.ReadsIn, Forms.IsFirstFault, Vector.Vector}
+use Rattle.qh_read.specs.contract.{Answers.AnswersSource, Holding.Reading, Holding.Fed, ReadFaults.IsTextFault, ReadFaults.read_fault}
+use Rattle.qh_read.specs.{declared.fault.FeedFault.FeedFault, headline.SourceBytes.Gives, headline.SourceBytes.GivesAll}
+use Rattle.qh_read.specs.steps.Sources.{FedOn, Stops}
 
 -- what two reads give, one after the other
 pub Consumes-append : (old mid new : Option (List ℕ)) (xs ys : List ℕ) → Consumes old mid xs → Consumes mid new ys → Consumes old new (xs ++ ys)
@@ -98,12 +101,37 @@ pub Gives-all : (form : Form) (start reader : Reading) (old new : Option (List �
     → FedOn start reader old new → Gives old new (Fed form reader)
 Gives-all form start reader old new h f = (f.given, f.took, f.fed form [] h)
 
--- why reading stops from the start
-pub Stops-big : (e : ReadFault) (before : ℕ) (old new : Option (List ℕ)) (failures failures_after : ℕ) → before ≡ 0
-    → Stops e before old new failures failures_after → e ≡ faults.Big
-    → Gives old new (λ bytes. (BYTE_LIMIT < length bytes) × (length bytes ≤ BYTE_LIMIT + PIECE_LENGTH))
-Stops-big e before old new fo fn none s h = let r = s.big h in (r.0, r.1, (omega (arith, none, r.2.0), omega (arith, none, r.2.1)))
+-- all that the source gave was fed, and this is what the reader then finds
+pub AnswersSource-fed : (form : Form) (reader : Reading) (old new : Option (List ℕ)) (failures failures_after : ℕ)
+    (answer : Result (Vec Vector Global) ReadFault) → GivesAll old new (Fed form reader) → failures_after ≡ failures
+    → IfOk answer (λ points. (f : Form) (bytes : List ℕ) → Fed f reader bytes → ReadsIn f bytes points.items)
+    → IfErr answer (λ e. (f : Form) (bytes : List ℕ) → Fed f reader bytes → IsFirstFault f bytes e)
+    → IfErr answer IsTextFault → AnswersSource form old new failures failures_after answer
+AnswersSource-fed form reader old new failures failures_after (Ok points) all same read fault text = record {
+  read = (all.0, (all.1.0, all.1.1, read form all.1.0 all.1.2));
+  text = tt;
+  big = λ e. cc;
+  big_first = λ e. cc;
+  device = λ e. cc;
+  no_device = λ e. same;
+}
+AnswersSource-fed form reader old new failures failures_after (Err e) all same read fault text = record {
+  read = tt;
+  text = λ is_text. (all.0, (all.1.0, all.1.1, fault form all.1.0 all.1.2));
+  big = λ h. absurd (text.2 cc);
+  big_first = λ h. absurd (text.0 cc);
+  device = λ h. absurd (text.1 cc);
+  no_device = λ h. same;
+}
 
-pub Stops-big_first : (e : ReadFault) (before : ℕ) (old new : Option (List ℕ)) (failures failures_after : ℕ) → before ≡ 0
-    → Stops e before old new failures failures_after → e ≡ faults.Memory → Gives old new (λ bytes. length bytes ≤ BYTE_LIMIT)
-Stops-big_first e before old new fo fn none s h = let r = s.big_first h in (r.0, r.1, omega (arith, none, r.2))
+-- why reading stops from the start
+pub AnswersSource-stopped : (form : Form) (e : ReadFault) (before : ℕ) (old new : Option (List ℕ)) (failures failures_after : ℕ) → before ≡ 0
+    → Stops e before old new failures failures_after → AnswersSource form old new failures failures_after (Err e)
+AnswersSource-stopped form e before old new failures failures_after none s = record {
+  read = tt;
+  text = λ is_text. absurd (s.no_text is_text);
+  big = λ h. let given = s.big cc in (given.0, given.1, (omega (arith, none, given.2.0), omega (arith, none, given.2.1)));
+  big_first = λ h. let given = s.big_first cc in (given.0, given.1, omega (arith, none, given.2));
+  device = λ h. s.device cc;
+  no_device = λ h. s.no_device (λ is. h (ap Err is));
+}
