@@ -37,13 +37,6 @@ parted line bytes later rest h form p =
     ∙ h form p 0
     ∙ ap (λ (n : ℕ). held_by (quiet form p n Empty) rest) (omega arith)
 
--- no point
-pub points-none : (line : ℕ) (bytes : List ℕ) → ArePoints line bytes [] line bytes
-points-none line bytes form trailing left t base =
-    let none : 3 * 0 + left ≡ left = omega arith in
-    ap (λ (n : ℕ). held_by (quiet form (wants trailing n t) (base + line) Empty) bytes) none
-    ∙ ap (λ (u : List ℤ). held_by (quiet form (wants trailing left u) (base + line) Empty) bytes) (sym (append-nil t))
-
 -- a coordinate in range is taken
 takes : (trailing : Trailing) (left : ℕ) (t : List ℤ) (z : ℤ) (n : ℕ) → IsCoordinate z
     → after (wants trailing (suc left) t) false (Some z) n ≡ wants trailing left (t ++ z ∷ [])

@@ -1,14 +1,11 @@
 -- The bytes that a source gives over several reads.
-use Rattle.qh_model.specs.declared.read_fault.ReadFault.TheVariants as faults
-use Rattle.qh_read.specs.declared.fault.FeedFault.TheVariants as refusals
-use Rattle.std.proofs.Common.{◌≡◌, ◌≢◌, ◌≤◌, ◌∙◌, ◌++◌, ◌+◌, ℕ, List, [], refl, ap, sym, subst, arith, length, length-append, append_assoc}
-use Rattle.std.proofs.lemmas.List.{append-nil}
+use Rattle.std.proofs.Common.{◌≡◌, ◌∙◌, ◌++◌, ◌+◌, ℕ, List, [], ap, sym, subst, arith, length, length-append, append_assoc}
 use Rattle.std.specs.{Io.KnownBytes.Consumes, declared.alloc.Global.Global}
 use Rattle.std.specs.Prelude.{Option, Some, None, Result, Ok, Err, Vec, IfOk, IfErr}
-use Rattle.qh_model.specs.declared.{form.Form.Form, limits.TheConstants.BYTE_LIMIT, read_fault.ReadFault.ReadFault}
+use Rattle.qh_model.specs.declared.{form.Form.Form, read_fault.ReadFault.ReadFault}
 use Rattle.qh_model.specs.headline.{Forms.ReadsIn, Forms.IsFirstFault, Vector.Vector}
-use Rattle.qh_read.specs.contract.{Answers.AnswersSource, Holding.Reading, Holding.Fed, ReadFaults.IsTextFault, ReadFaults.read_fault}
-use Rattle.qh_read.specs.{declared.fault.FeedFault.FeedFault, headline.SourceBytes.Gives, headline.SourceBytes.GivesAll}
+use Rattle.qh_read.specs.contract.{Answers.AnswersSource, Holding.Reading, Holding.Fed, ReadFaults.IsTextFault}
+use Rattle.qh_read.specs.{headline.SourceBytes.Gives, headline.SourceBytes.GivesAll}
 use Rattle.qh_read.specs.steps.Sources.{FedOn, Stops}
 
 -- what two reads give, one after the other
@@ -17,19 +14,6 @@ Consumes-append None mid new xs ys h k = tt
 Consumes-append (Some a) None new xs ys h k = absurd h
 Consumes-append (Some a) (Some b) None xs ys h k = absurd k
 Consumes-append (Some a) (Some b) (Some d) xs ys h k = h ∙ ap (λ (t : List ℕ). xs ++ t) k ∙ sym (append_assoc xs ys d)
-
--- nothing was read
-pub Consumes-none : (old : Option (List ℕ)) → Consumes old old []
-Consumes-none None = tt
-Consumes-none (Some a) = refl
-
-pub FedOn-none : (reader : Reading) (old : Option (List ℕ)) → FedOn reader reader old old
-FedOn-none reader old = record {
-  given = [];
-  took = Consumes-none old;
-  fed = λ form bytes h. subst (Fed form reader) (sym (append-nil bytes)) h;
-  count = omega arith;
-}
 
 -- first this, and then that
 pub FedOn-append : (a b d : Reading) (old mid new : Option (List ℕ)) → FedOn a b old mid → FedOn b d mid new → FedOn a d old new
@@ -66,35 +50,12 @@ Stops-after e before old mid new fo fm fn given count took same is s = record {
   no_text = s.no_text;
 }
 
--- an allocation failed before anything was read
-pub Stops-memory : (before : ℕ) (old : Option (List ℕ)) (failures : ℕ) → before ≤ BYTE_LIMIT → Stops faults.Memory before old old failures failures
-Stops-memory before old failures h = record {
-  big = λ e. cc;
-  big_first = λ e. ([], Consumes-none old, omega (arith, h));
-  device = λ e. cc;
-  no_device = λ e. refl;
-  no_text = λ t. t.0 refl;
-}
-
 -- the reader was fed some of what the source gave, and these bytes are still to be fed
 pub record FedBut (before after : Reading) (ahead : List ℕ) (old new : Option (List ℕ)) : Type 0 where
   pub given : List ℕ
   pub took : Consumes old new (given ++ ahead)
   pub fed : (form : Form) (bytes : List ℕ) → Fed form before bytes → Fed form after (bytes ++ given)
   pub count : after.count ≡ before.count + length given
-
--- a piece that was refused within the limit was refused memory
-pub Stops-feed : (f : FeedFault) (before : ℕ) (old new : Option (List ℕ)) (failures failures_after : ℕ) (given : List ℕ)
-    → Consumes old new given → failures_after ≡ failures → before + length given ≤ BYTE_LIMIT → f ≢ refusals.Big
-    → Stops (read_fault f) before old new failures failures_after
-Stops-feed refusals.Big before old new failures failures_after given took same fits memory = absurd (memory refl)
-Stops-feed refusals.Memory before old new failures failures_after given took same fits memory = record {
-  big = λ e. cc;
-  big_first = λ e. (given, took, fits);
-  device = λ e. cc;
-  no_device = λ e. same;
-  no_text = λ t. t.0 refl;
-}
 
 -- all that the source gave was fed from the start
 pub Gives-all : (form : Form) (start reader : Reading) (old new : Option (List ℕ)) → Fed form start []
