@@ -3,18 +3,23 @@ use Rattle.qh_model.specs.declared.read_fault.ReadFault.TheVariants as faults
 use Rattle.std.proofs.Common.{◌≡◌, ◌∙◌, ◌++◌, [], ◌∷◌, ◌*◌, ◌≤◌, ◌&&◌, ℕ, List, Bool, true, false, cond, refl, ap, sym, arith, zero, suc, length, nat_lt}
 use Rattle.std.proofs.lemmas.Bool.Decides.{nat_tests}
 use Rattle.std.specs.{Option.option_or, Prelude.ℤ, Prelude.pos, Prelude.negsuc, Prelude.Option, Prelude.Some, Prelude.None, Prelude.option_map, Prelude.nat_le}
+use Rattle.qh_model.specs.declared.form.Form.{Form, TheVariants.Qhull, TheVariants.Off}
 use Rattle.qh_model.specs.declared.{limits.TheConstants.POINT_LIMIT, limits.TheConstants.BYTE_LIMIT, read_fault.ReadFault.ReadFault}
 use Rattle.qh_model.specs.headline.FileFault.{is_three, coordinate_fault, coordinates_fault, counted_fault, number_fault, next_number_fault, long_fault}
-use Rattle.qh_model.specs.headline.FileFault.{headed_fault, words_fault, first_fault}
-use Rattle.qh_model.specs.headline.{Limits.is_coordinate, Numbers.number_of, Words.Word, Words.data_words}
-use Rattle.qh_read.specs.contract.Progress.{Progress, wants_first, wants_second, wants, fails, counted, headed, after}
+use Rattle.qh_model.specs.headline.FileFault.{headed_fault, words_fault}
+use Rattle.qh_model.specs.headline.{Forms.IsFirstFault, Limits.is_coordinate, Numbers.number_of, OffFault.counts_fault, OffFault.off_words_fault}
+use Rattle.qh_model.specs.headline.{OffFile.off_words, Words.Word, Words.data_words}
+use Rattle.qh_read.specs.contract.Progress.{Progress, wants_first, wants_second, wants, wants_keyword, wants_vertex_count, wants_face_count, wants_edge_count}
+use Rattle.qh_read.specs.contract.Progress.{started, fails, counted, headed, after}
+use Rattle.qh_read.specs.declared.builder.Trailing.{Trailing, TheVariants.Refused, TheVariants.Ignored}
 use Rattle.qh_read.specs.{contract.Tokens.cap, steps.Building.lack, steps.SmallTokens.capped}
-use Rattle.qh_read.proofs.ProgressLaws.{stays, judged, is_off}
+use Rattle.qh_read.proofs.Lexing.{words_in}
+use Rattle.qh_read.proofs.ProgressLaws.{Asks, dropped, stays, judged, is_off, first-asks, second-asks, vertex_count-asks, face_count-asks, edge_count-asks}
 
-pub fallen : (f : ReadFault) (ws : List Word) → lack (judged (fails f) ws) ≡ Some f
+fallen : (f : ReadFault) (ws : List Word) → lack (judged (fails f) ws) ≡ Some f
 fallen f ws = ap lack (stays f ws)
 
-pub same_limit : (z : ℤ) → is_coordinate (capped z) ≡ is_coordinate z
+same_limit : (z : ℤ) → is_coordinate (capped z) ≡ is_coordinate z
 same_limit (pos n) = grind (arith, nat_tests)
 same_limit (negsuc n) = grind (arith, nat_tests)
 
@@ -23,7 +28,7 @@ same_three (pos n) = grind (arith, nat_tests)
 same_three (negsuc n) = refl
 
 -- a test that chooses what goes on
-pub chosen : (b d : Bool) (p q : Progress) (ws : List Word) (x y : Option ReadFault) → b ≡ d → lack (judged p ws) ≡ x → lack (judged q ws) ≡ y
+chosen : (b d : Bool) (p q : Progress) (ws : List Word) (x y : Option ReadFault) → b ≡ d → lack (judged p ws) ≡ x → lack (judged q ws) ≡ y
     → lack (judged (cond b p q) ws) ≡ cond d x y
 chosen true true p q ws x y e f g = f
 chosen false false p q ws x y e f g = g
@@ -31,71 +36,96 @@ chosen true false p q ws x y e f g = cc
 chosen false true p q ws x y e f g = cc
 
 -- a test before or behind the choice of the earlier fault
-pub either : (b : Bool) (x : Option ReadFault) (f : ReadFault) → cond b x (Some f) ≡ option_or (cond b None (Some f)) x
+either : (b : Bool) (x : Option ReadFault) (f : ReadFault) → cond b x (Some f) ≡ option_or (cond b None (Some f)) x
 either true x f = refl
 either false x f = refl
 
-coordinates : (ws : List Word) (k : ℕ) (t : List ℤ) → lack (judged (wants k t) ws) ≡ coordinates_fault long_fault k ws
-coordinates [] zero t = refl
-coordinates [] (suc k) t = refl
-coordinates (w ∷ ws) zero t = fallen (faults.Long w.line) ws
-coordinates (w ∷ ws) (suc k) t = by (λ z. coordinates ws k (t ++ z ∷ [])) (number_of w.text)
-  where
-    by : ((z : ℤ) → lack (judged (wants k (t ++ z ∷ [])) ws) ≡ coordinates_fault long_fault k ws) → (o : Option ℤ)
-        → lack (judged (after (wants (suc k) t) (is_off w) (option_map capped o) w.line) ws)
-        ≡ option_or (coordinate_fault o w.line) (coordinates_fault long_fault k ws)
-    by rest None = fallen (faults.BadNumber w.line) ws
-    by rest (Some z) = chosen (is_coordinate (capped z)) (is_coordinate z) (wants k (t ++ capped z ∷ [])) (fails (faults.Range w.line)) ws
-        (coordinates_fault long_fault k ws) (Some (faults.Range w.line)) (same_limit z) (rest (capped z)) (fallen (faults.Range w.line) ws)
-        ∙ either (is_coordinate z) (coordinates_fault long_fault k ws) (faults.Range w.line)
+-- what is wrong with the words after the last coordinate
+abbrev trailing_fault : Trailing → List Word → Option ReadFault
+trailing_fault Refused ws = long_fault ws
+trailing_fault Ignored ws = None
 
--- the count, and then the coordinates, if a reader finds what is wrong with these
-pub counts : (next : ℕ → List ℤ → Progress) (rest : List Word → Option ReadFault) (ws : List Word)
-    → ((k : ℕ) → lack (judged (next k []) ws) ≡ coordinates_fault rest k ws)
-    → (z : ℤ) → lack (judged (counted next (capped z)) ws) ≡ counted_fault rest z ws
-counts next rest ws h (negsuc n) = fallen faults.Count ws
-counts next rest ws h (pos n) = by (nat_le 1 (cap n) && nat_le (cap n) POINT_LIMIT) refl
+coordinates : (trailing : Trailing) (ws : List Word) (k : ℕ) (t : List ℤ) → lack (judged (wants trailing k t) ws)
+    ≡ coordinates_fault (trailing_fault trailing) k ws
+coordinates Refused [] zero t = refl
+coordinates Refused (w ∷ ws) zero t = fallen (faults.Long w.line) ws
+coordinates Ignored ws zero t = ap lack (dropped t ws)
+coordinates trailing [] (suc k) t = refl
+coordinates trailing (w ∷ ws) (suc k) t = one (λ z. coordinates trailing ws k (t ++ z ∷ [])) (number_of w.text)
   where
-    by : (b : Bool) → (nat_le 1 (cap n) && nat_le (cap n) POINT_LIMIT) ≡ b → lack (judged (cond b (next (3 * cap n) []) (fails faults.Count)) ws)
-        ≡ cond (nat_le 1 n && nat_le n POINT_LIMIT) (coordinates_fault rest (3 * n) ws) (Some faults.Count)
-    by true e =
+    others : Option ReadFault
+    others = coordinates_fault (trailing_fault trailing) k ws
+
+    one : ((z : ℤ) → lack (judged (wants trailing k (t ++ z ∷ [])) ws) ≡ others) → (o : Option ℤ)
+        → lack (judged (after (wants trailing (suc k) t) (is_off w) (option_map capped o) w.line) ws) ≡ option_or (coordinate_fault o w.line) others
+    one rest None = fallen (faults.BadNumber w.line) ws
+    one rest (Some z) = chosen (is_coordinate (capped z)) (is_coordinate z) (wants trailing k (t ++ capped z ∷ [])) (fails (faults.Range w.line)) ws
+        others (Some (faults.Range w.line)) (same_limit z) (rest (capped z)) (fallen (faults.Range w.line) ws)
+        ∙ either (is_coordinate z) others (faults.Range w.line)
+
+-- the count, and then the coordinates
+counts : (trailing : Trailing) (ws : List Word) (z : ℤ) → lack (judged (counted trailing (capped z)) ws) ≡ counted_fault (trailing_fault trailing) z ws
+counts trailing ws (negsuc n) = fallen faults.Count ws
+counts trailing ws (pos n) = tested (nat_le 1 (cap n) && nat_le (cap n) POINT_LIMIT) refl
+  where
+    told : Bool → Option ReadFault
+    told b = cond b (coordinates_fault (trailing_fault trailing) (3 * n) ws) (Some faults.Count)
+
+    tested : (b : Bool) → (nat_le 1 (cap n) && nat_le (cap n) POINT_LIMIT) ≡ b
+        → lack (judged (cond b (wants trailing (3 * cap n) []) (fails faults.Count)) ws) ≡ told (nat_le 1 n && nat_le n POINT_LIMIT)
+    tested true e =
         let same : cap n ≡ n = grind (arith, nat_tests) in
         let test : (nat_le 1 n && nat_le n POINT_LIMIT) ≡ true = grind (arith, nat_tests) in
-        h (3 * cap n) ∙ ap (λ (k : ℕ). coordinates_fault rest (3 * k) ws) same
-        ∙ ap (λ (b : Bool). cond b (coordinates_fault rest (3 * n) ws) (Some faults.Count)) (sym test)
-    by false e =
+        coordinates trailing ws (3 * cap n) [] ∙ ap (λ (k : ℕ). coordinates_fault (trailing_fault trailing) (3 * k) ws) same ∙ ap told (sym test)
+    tested false e =
         let test : (nat_le 1 n && nat_le n POINT_LIMIT) ≡ false = grind (arith, nat_tests) in
-        fallen faults.Count ws ∙ ap (λ (b : Bool). cond b (coordinates_fault rest (3 * n) ws) (Some faults.Count)) (sym test)
+        fallen faults.Count ws ∙ ap told (sym test)
 
--- the count of a point file
-counts_whole : (ws : List Word) (z : ℤ) → lack (judged (counted wants (capped z)) ws) ≡ counted_fault long_fault z ws
-counts_whole ws z = counts wants long_fault ws (λ k. coordinates ws k []) z
+-- a number of the header, and then what is wrong with the rest
+asked : (p : Progress) (next : ℤ → Progress) (fault : ℤ → List Word → Option ReadFault) → Asks p next
+    → ((z : ℤ) (ws : List Word) → lack (judged (next (capped z)) ws) ≡ fault z ws) → (ws : List Word) → lack (judged p ws) ≡ next_number_fault fault ws
+asked p next fault asks rest [] = asks.lacks
+asked p next fault asks rest (w ∷ ws) = one (number_of w.text)
+  where
+    one : (o : Option ℤ) → lack (judged (after p (is_off w) (option_map capped o) w.line) ws) ≡ number_fault fault o w.line ws
+    one None = ap (λ (q : Progress). lack (judged q ws)) (asks.bad (is_off w) w.line) ∙ fallen (faults.BadNumber w.line) ws
+    one (Some z) = ap (λ (q : Progress). lack (judged q ws)) (asks.good (is_off w) (capped z) w.line) ∙ rest z ws
 
 heads : (a b : ℤ) (ws : List Word) → lack (judged (headed (capped a) (capped b)) ws) ≡ headed_fault a b ws
-heads a b ws = chosen (is_three (capped a)) (is_three a) (counted wants (capped b)) _ ws (counted_fault long_fault b ws) _ (same_three a) (counts_whole ws b)
-    (chosen (is_three (capped b)) (is_three b) (counted wants (capped a)) (fails faults.NotThree) ws (counted_fault long_fault a ws) (Some faults.NotThree)
-    (same_three b) (counts_whole ws a) (fallen faults.NotThree ws))
+heads a b ws =
+    chosen (is_three (capped a)) (is_three a) (counted Refused (capped b)) _ ws (counted_fault long_fault b ws) _ (same_three a) (counts Refused ws b)
+    (chosen (is_three (capped b)) (is_three b) (counted Refused (capped a)) (fails faults.NotThree) ws (counted_fault long_fault a ws) (Some faults.NotThree)
+    (same_three b) (counts Refused ws a) (fallen faults.NotThree ws))
 
-seconds : (a : ℤ) (ws : List Word) → lack (judged (wants_second (capped a)) ws) ≡ next_number_fault (headed_fault a) ws
-seconds a [] = refl
-seconds a (w ∷ ws) = by (number_of w.text)
+-- a point file
+lacks : (ws : List Word) → lack (judged wants_first ws) ≡ words_fault ws
+lacks = asked wants_first wants_second (λ first. next_number_fault (headed_fault first)) first-asks
+    (λ first. asked (wants_second (capped first)) (headed (capped first)) (headed_fault first) (second-asks (capped first)) (heads first))
+
+-- the counts of an OFF file
+counts_lack : (ws : List Word) → lack (judged wants_vertex_count ws) ≡ counts_fault ws
+counts_lack =
+    asked wants_vertex_count wants_face_count (λ vertices. next_number_fault (λ faces. next_number_fault (λ edges. counted_fault (λ rest. None) vertices)))
+    vertex_count-asks (λ vertices. asked (wants_face_count (capped vertices)) (λ faces. wants_edge_count (capped vertices))
+    (λ faces. next_number_fault (λ edges. counted_fault (λ rest. None) vertices)) (face_count-asks (capped vertices))
+    (λ faces. asked (wants_edge_count (capped vertices)) (λ edges. counted Ignored (capped vertices)) (λ edges. counted_fault (λ rest. None) vertices)
+    (edge_count-asks (capped vertices)) (λ edges ws. counts Ignored ws vertices)))
+
+off_lacks : (ws : List Word) → lack (judged wants_keyword ws) ≡ off_words_fault ws
+off_lacks [] = refl
+off_lacks (w ∷ ws) = tested (is_off w)
   where
-    by : (o : Option ℤ) → lack (judged (after (wants_second (capped a)) (is_off w) (option_map capped o) w.line) ws) ≡ number_fault (headed_fault a) o w.line ws
-    by None = fallen (faults.BadNumber w.line) ws
-    by (Some b) = heads a b ws
+    tested : (b : Bool) → lack (judged (after wants_keyword b (option_map capped (number_of w.text)) w.line) ws) ≡ cond b (counts_fault ws) (Some faults.NotOff)
+    tested true = counts_lack ws
+    tested false = fallen faults.NotOff ws
 
-pub lacks : (ws : List Word) → lack (judged wants_first ws) ≡ words_fault ws
-lacks [] = refl
-lacks (w ∷ ws) = by (number_of w.text)
-  where
-    by : (o : Option ℤ) → lack (judged (after wants_first (is_off w) (option_map capped o) w.line) ws)
-        ≡ number_fault (λ first. next_number_fault (headed_fault first)) o w.line ws
-    by None = fallen (faults.BadNumber w.line) ws
-    by (Some a) = seconds a ws
+-- bytes within the limit have the fault of their words
+within : (bs : List ℕ) (fault : Option ReadFault) → length bs ≤ BYTE_LIMIT → cond (nat_lt BYTE_LIMIT (length bs)) (Some faults.Big) fault ≡ fault
+within bs fault small = let e : nat_lt BYTE_LIMIT (length bs) ≡ false = grind (arith, nat_tests) in
+    ap (λ (b : Bool). cond b (Some faults.Big) fault) e
 
-first : (bs : List ℕ) → length bs ≤ BYTE_LIMIT → first_fault bs ≡ words_fault (data_words bs)
-first bs h = let e : nat_lt BYTE_LIMIT (length bs) ≡ false = grind (arith, nat_tests) in
-    ap (λ (b : Bool). cond b (Some faults.Big) (words_fault (data_words bs))) e
-
-pub found : (bs : List ℕ) (e : ReadFault) → length bs ≤ BYTE_LIMIT → lack (judged wants_first (data_words bs)) ≡ Some e → first_fault bs ≡ Some e
-found bs e small h = first bs small ∙ sym (lacks (data_words bs)) ∙ h
+-- what is lacking is the first fault
+pub found : (form : Form) (bs : List ℕ) (e : ReadFault) → length bs ≤ BYTE_LIMIT → lack (judged (started form) (words_in form bs)) ≡ Some e
+    → IsFirstFault form bs e
+found Qhull bs e small h = within bs (words_fault (data_words bs)) small ∙ sym (lacks (data_words bs)) ∙ h
+found Off bs e small h = within bs (off_words_fault (off_words bs)) small ∙ sym (off_lacks (off_words bs)) ∙ h

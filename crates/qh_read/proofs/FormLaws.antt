@@ -1,18 +1,16 @@
--- A file that a reader has filled in is that of its points, and one that lacks something has this fault first.
+-- A file that a reader has filled in is that of its points.
 use Rattle.qh_read.specs.declared.builder.Pending.TheVariants as pendings
 use Rattle.qh_read.proofs.OffProgressLaws as off
-use Rattle.qh_read.proofs.FaultLaws as point_file
-use Rattle.qh_read.proofs.OffFaultLaws as off_file
 use Rattle.std.proofs.Common.{◌≡◌, ◌∙◌, ◌++◌, [], ◌∷◌, ◌*◌, ◌≤◌, ℕ, List, ap, sym, arith, length, map, subst, length-append}
 use Rattle.std.proofs.lemmas.List.{append-nil}
 use Rattle.std.specs.{List.AllByRecursion, Prelude.ℤ, Prelude.pos, Prelude.Some}
 use Rattle.qh_model.specs.declared.form.Form.{Form, TheVariants.Qhull, TheVariants.Off}
-use Rattle.qh_model.specs.declared.{limits.TheConstants.BYTE_LIMIT, read_fault.ReadFault.ReadFault}
-use Rattle.qh_model.specs.headline.{Forms.ReadsIn, Forms.IsFirstFault, Limits.IsCoordinate, OffFile.off_words, OffFile.ReadsOff, PointFile.coordinates}
+use Rattle.qh_model.specs.declared.limits.TheConstants.{BYTE_LIMIT}
+use Rattle.qh_model.specs.headline.{Forms.ReadsIn, Limits.IsCoordinate, OffFile.off_words, OffFile.ReadsOff, PointFile.coordinates}
 use Rattle.qh_model.specs.headline.{PointFile.IsHeader, PointFile.Reads, Vector.Vector, Words.data_words}
 use Rattle.qh_model.proofs.ReadingLaws.{thrice}
 use Rattle.qh_read.specs.contract.Progress.{wants_first, wants_keyword, started}
-use Rattle.qh_read.specs.{declared.builder.Pending.Pending, steps.Building.lack, steps.Building.filled_in, steps.Stages.pending_list}
+use Rattle.qh_read.specs.{declared.builder.Pending.Pending, steps.Building.filled_in, steps.Stages.pending_list}
 use Rattle.qh_read.proofs.{Lexing.words_in, ProgressLaws.judged, ProgressLaws.whole, ProgressLaws.Whole}
 
 none_left : (ps : List Vector) (q : Pending) (k : ℕ) → length (coordinates ps ++ pending_list q) ≡ 3 * k
@@ -70,9 +68,3 @@ pub reads : (form : Form) (bs : List ℕ) (ps : List Vector) (q : Pending) → l
     → filled_in (judged (started form) (words_in form bs)) ≡ Some (coordinates ps ++ pending_list q) → ReadsIn form bs ps
 reads Qhull = reads_points
 reads Off = reads_off
-
--- what is lacking is the first fault
-pub found : (form : Form) (bs : List ℕ) (e : ReadFault) → length bs ≤ BYTE_LIMIT → lack (judged (started form) (words_in form bs)) ≡ Some e
-    → IsFirstFault form bs e
-found Qhull = point_file.found
-found Off = off_file.found

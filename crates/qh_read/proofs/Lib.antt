@@ -10,6 +10,5 @@ pub mod ProgressLaws
 pub mod OffProgressLaws
 pub mod HoldingLaws
 pub mod FaultLaws
-pub mod OffFaultLaws
 pub mod FormLaws
 pub mod ArrivingLaws

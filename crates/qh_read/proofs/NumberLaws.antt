@@ -5,9 +5,10 @@ use Rattle.std.specs.Prelude.{ℤ, Some}
 use Rattle.qh_model.specs.declared.form.Form.{Form}
 use Rattle.qh_model.specs.headline.{Limits.IsCoordinate, Limits.is_coordinate, PointFile.coordinates, Vector.Vector}
 use Rattle.qh_read.proofs.BuildingLemmas.{coordinates-push}
-use Rattle.qh_read.specs.contract.{Holding.held_by, Progress.Progress, Progress.after, Progress.wants, Progress.wants_vertices}
+use Rattle.qh_read.specs.contract.{Holding.held_by, Progress.Progress, Progress.after, Progress.wants}
+use Rattle.qh_read.specs.declared.builder.Trailing.{Trailing}
 use Rattle.qh_read.specs.declared.token.Token.TheVariants.{Empty}
-use Rattle.qh_read.specs.steps.Numbers.{quiet, IsParted, IsEndOf, ArePoint, ArePoints, Takes}
+use Rattle.qh_read.specs.steps.Numbers.{quiet, IsParted, IsEndOf, ArePoint, ArePoints}
 
 -- what comes after some bytes
 pub end-drop : (i : ℕ) (bytes : List ℕ) → IsEndOf (drop i bytes) bytes
@@ -36,49 +37,37 @@ parted line bytes later rest h form p =
     ∙ h form p 0
     ∙ ap (λ (n : ℕ). held_by (quiet form p n Empty) rest) (omega arith)
 
--- no point
-pub points-none : (line : ℕ) (bytes : List ℕ) → ArePoints line bytes [] line bytes
-points-none line bytes form wanted takes left t base =
-    let none : 3 * 0 + left ≡ left = omega arith in
-    ap (λ (n : ℕ). held_by (quiet form (wanted n t) (base + line) Empty) bytes) none
-    ∙ ap (λ (u : List ℤ). held_by (quiet form (wanted left u) (base + line) Empty) bytes) (sym (append-nil t))
+-- a coordinate in range is taken
+takes : (trailing : Trailing) (left : ℕ) (t : List ℤ) (z : ℤ) (n : ℕ) → IsCoordinate z
+    → after (wants trailing (suc left) t) false (Some z) n ≡ wants trailing left (t ++ z ∷ [])
+takes trailing left t z n h = let in_range : is_coordinate z ≡ true = grind (arith, nat_tests) in cc
 
 -- three coordinates in range
-three : (wanted : ℕ → List ℤ → Progress) → Takes wanted → (left : ℕ) (t : List ℤ) (x y z : ℤ) (i j k : ℕ) → IsCoordinate x → IsCoordinate y → IsCoordinate z
-    → after (after (after (wanted (suc (suc (suc left))) t) false (Some x) i) false (Some y) j) false (Some z) k
-    ≡ wanted left (t ++ x ∷ y ∷ z ∷ [])
-three wanted takes left t x y z i j k p q r =
-    ap (λ (s : Progress). after (after s false (Some y) j) false (Some z) k) (takes (suc (suc left)) t x i p)
-    ∙ ap (λ (s : Progress). after s false (Some z) k) (takes (suc left) (t ++ x ∷ []) y j q)
-    ∙ takes left ((t ++ x ∷ []) ++ y ∷ []) z k r
-    ∙ ap (wanted left) (ap (λ (u : List ℤ). u ++ z ∷ []) (append_assoc t (x ∷ []) (y ∷ [])) ∙ append_assoc t (x ∷ y ∷ []) (z ∷ []))
+three : (trailing : Trailing) (left : ℕ) (t : List ℤ) (x y z : ℤ) (i j k : ℕ) → IsCoordinate x → IsCoordinate y → IsCoordinate z
+    → after (after (after (wants trailing (suc (suc (suc left))) t) false (Some x) i) false (Some y) j) false (Some z) k
+    ≡ wants trailing left (t ++ x ∷ y ∷ z ∷ [])
+three trailing left t x y z i j k p q r =
+    ap (λ (s : Progress). after (after s false (Some y) j) false (Some z) k) (takes trailing (suc (suc left)) t x i p)
+    ∙ ap (λ (s : Progress). after s false (Some z) k) (takes trailing (suc left) (t ++ x ∷ []) y j q)
+    ∙ takes trailing left ((t ++ x ∷ []) ++ y ∷ []) z k r
+    ∙ ap (wants trailing left) (ap (λ (u : List ℤ). u ++ z ∷ []) (append_assoc t (x ∷ []) (y ∷ [])) ∙ append_assoc t (x ∷ y ∷ []) (z ∷ []))
 
 -- one point more
 pub points-more : (line : ℕ) (bytes : List ℕ) (points : List Vector) (mid : ℕ) (more : List ℕ) (p : Vector)
     (later : ℕ) (rest : List ℕ) → ArePoints line bytes points mid more → ArePoint mid more p.x p.y p.z later rest
     → IsCoordinate p.x → IsCoordinate p.y → IsCoordinate p.z
     → ArePoints line bytes (points ++ p ∷ []) later rest
-points-more line bytes points mid more p later rest many one a b c form wanted takes left t base =
+points-more line bytes points mid more p later rest many one a b c form trailing left t base =
     let u : List ℤ = t ++ coordinates points in
     let count : 3 * length (points ++ p ∷ []) + left ≡ 3 * length points + suc (suc (suc left)) = omega (arith, length-append points (p ∷ [])) in
-    let told = one.held form (wanted (suc (suc (suc left))) u) base in
+    let told = one.held form (wants trailing (suc (suc (suc left))) u) base in
     let all : u ++ p.x ∷ p.y ∷ p.z ∷ [] ≡ t ++ coordinates (points ++ p ∷ []) =
     append_assoc t (coordinates points) (p.x ∷ p.y ∷ p.z ∷ []) ∙ ap (λ (v : List ℤ). t ++ v) (sym (coordinates-push points p)) in
-    ap (λ (n : ℕ). held_by (quiet form (wanted n t) (base + line) Empty) bytes) count
-    ∙ many form wanted takes (suc (suc (suc left))) t base
+    ap (λ (n : ℕ). held_by (quiet form (wants trailing n t) (base + line) Empty) bytes) count
+    ∙ many form trailing (suc (suc (suc left))) t base
     ∙ told.3
     ∙ ap (λ (s : Progress). held_by (quiet form s (base + later) Empty) rest)
-    (three wanted takes left u p.x p.y p.z told.0 told.1 told.2 a b c ∙ ap (wanted left) all)
-
--- coordinates that are to come take one each
-in_range : (z : ℤ) → IsCoordinate z → is_coordinate z ≡ true
-in_range z h = grind (arith, nat_tests)
-
-pub wants-takes : Takes wants
-wants-takes left t z n h = let e : is_coordinate z ≡ true = in_range z h in cc
-
-pub wants_vertices-takes : Takes wants_vertices
-wants_vertices-takes left t z n h = let e : is_coordinate z ≡ true = in_range z h in cc
+    (three trailing left u p.x p.y p.z told.0 told.1 told.2 a b c ∙ ap (wants trailing left) all)
 
 pub coordinates-append : (ps qs : List Vector) → coordinates (ps ++ qs) ≡ coordinates ps ++ coordinates qs
 coordinates-append [] qs = refl

@@ -1,12 +1,12 @@
 -- The words of the bytes of an OFF file that come one at a time are the words of the whole.
-use Rattle.std.proofs.Common.{◌≡◌, ◌∙◌, ◌++◌, [], ◌∷◌, ◌+◌, ◌==◌, ℕ, List, Bool, true, false, cond, refl, ap, sym, subst, append_assoc, arith}
+use Rattle.std.proofs.Common.{◌≡◌, ◌∙◌, ◌++◌, [], ◌∷◌, ◌+◌, ◌==◌, ℕ, List, Bool, true, false, cond, refl, ap, sym, append_assoc, arith}
 use Rattle.std.proofs.{Common.filter, lemmas.Bool.Decides.nat_tests, lemmas.List.append-nil}
 use Rattle.std.specs.List.{slice_split}
 use Rattle.qh_model.specs.{declared.form.Form.TheVariants.Off, headline.OffFile.before_hash, headline.OffFile.off_words}
 use Rattle.qh_model.specs.headline.Words.{Word, is_blank, words_of, words_from, on_line, is_word}
 use Rattle.qh_model.proofs.texts.Lines.{Clear, split_clear, split_whole}
-use Rattle.qh_read.proofs.Lexing.{Lexed, start, ended, closed, next, lexed}
-use Rattle.qh_read.proofs.LexingLaws.{Good, clear_append, in_cond, lexed_whole, own}
+use Rattle.qh_read.proofs.Lexing.{Lexed, start, ended, closed, marked, lexed}
+use Rattle.qh_read.proofs.LexingLaws.{Good, Valid, clear_append, in_cond, lexed_whole}
 
 abbrev is_hash : ℕ → Bool
 is_hash c = c == 35
@@ -14,11 +14,6 @@ is_hash c = c == 35
 -- the words of a line
 abbrev line_words : List ℕ → List (List ℕ)
 line_words w = words_of (before_hash w)
-
-record Valid (s : Lexed) : Type 0 where
-  clean : Clear is_blank s.under_way
-  plain : Clear is_hash s.under_way
-  quiet : s.comment ≡ true → s.under_way ≡ []
 
 -- a word has no `#`
 hash_later : (w l : List ℕ) → Clear is_hash w → before_hash (w ++ l) ≡ w ++ before_hash l
@@ -50,17 +45,13 @@ blank_ends n w c l h d e =
     first [] = refl
     first (b ∷ w) = refl
 
--- a line ends, with a comment or without
-line_ends : (n : ℕ) (b : Bool) (w : List ℕ) → Clear is_blank w → Clear is_hash w → (b ≡ true → w ≡ []) → ended n w ≡ on_line n (own line_words b (w ++ []))
-line_ends n true w h d q = subst (λ (t : List ℕ). ended n t ≡ []) (sym (q refl)) refl
-line_ends n false w h d q = sym (ends n w [] h d refl)
-
-marked_good : (ws : List Word) (n : ℕ) (w : List ℕ) (c : ℕ) → let s : Lexed = record { words = ws; line = n; comment = false; under_way = w } in
-    Valid s → is_blank c ≡ false
-    → Good line_words Valid s c false (cond (c == 35) (record s { words = closed s; under_way = []; comment = true }) (record s { under_way = w ++ c ∷ [] }))
-marked_good ws n w c v nb =
+-- a byte begins a comment, or goes on with a word or begins one
+marks : (ws : List Word) (n : ℕ) (w : List ℕ) (c : ℕ) → let s : Lexed = record { words = ws; line = n; comment = false; under_way = w } in
+    Valid (Clear is_hash) s → is_blank c ≡ false → Good line_words (Clear is_hash) s c false (marked Off s c)
+marks ws n w c v nb =
     let s : Lexed = record { words = ws; line = n; comment = false; under_way = w } in
-    in_cond (Good line_words Valid s c false) (c == 35) (record s { words = closed s; under_way = []; comment = true }) (record s { under_way = w ++ c ∷ [] })
+    in_cond (Good line_words (Clear is_hash) s c false) (c == 35) (record s { words = closed s; under_way = []; comment = true })
+    (record s { under_way = w ++ c ∷ [] })
     (λ e. record {
       valid = record { clean = tt; plain = tt; quiet = λ q. refl };
       same = λ l ls. append_assoc ws (ended n w) (words_from line_words (n + 1) ls)
@@ -72,32 +63,5 @@ marked_good ws n w c v nb =
       same = λ l ls. ap (λ (t : List ℕ). ws ++ (on_line n (words_of (before_hash t)) ++ words_from line_words (n + 1) ls)) (append_assoc w (c ∷ []) l);
     })
 
-good_at : (ws : List Word) (n : ℕ) (b : Bool) (w : List ℕ) (c : ℕ) (over : Bool)
-    → let s : Lexed = record { words = ws; line = n; comment = b; under_way = w } in
-    Valid s → Good line_words Valid s c over (cond over (record { words = closed s; line = n + 1; comment = false; under_way = [] })
-    (cond b s (cond (is_blank c) (record s { words = closed s; under_way = [] })
-    (cond (c == 35) (record s { words = closed s; under_way = []; comment = true }) (record s { under_way = w ++ c ∷ [] })))))
-good_at ws n b w c true v =
-    record {
-      valid = record { clean = tt; plain = tt; quiet = λ q. refl };
-      same = λ l ls. append_assoc ws (ended n w) _ ∙ ap (λ t. ws ++ (t ++ words_from line_words (n + 1) (l ∷ ls))) (line_ends n b w v.clean v.plain v.quiet);
-    }
-good_at ws n true w c false v = record { valid = v; same = λ l ls. refl }
-good_at ws n false w c false v =
-    let s : Lexed = record { words = ws; line = n; comment = false; under_way = w } in
-    in_cond (Good line_words Valid s c false) (is_blank c) (record s { words = closed s; under_way = [] })
-    (cond (c == 35) (record s { words = closed s; under_way = []; comment = true }) (record s { under_way = w ++ c ∷ [] }))
-    (λ e. record {
-      valid = record { clean = tt; plain = tt; quiet = λ q. refl };
-      same = λ l ls. append_assoc ws (ended n w) _
-          ∙ ap (λ t. ws ++ t) (sym (append_assoc (ended n w) (on_line n (line_words l)) (words_from line_words (n + 1) ls)))
-          ∙ ap (λ t. ws ++ (t ++ words_from line_words (n + 1) ls)) (sym (blank_ends n w c l v.clean v.plain e));
-    })
-    (λ e. marked_good ws n w c v e)
-
-good : (s : Lexed) (c : ℕ) → Valid s → Good line_words Valid s c (c == 10) (next Off s c)
-good s c v = good_at s.words s.line s.comment s.under_way c (c == 10) v
-
 pub off_words-lexed : (bs : List ℕ) → closed (lexed Off start bs) ≡ off_words bs
-off_words-lexed bs = lexed_whole Off line_words Valid good (λ s v. line_ends s.line s.comment s.under_way v.clean v.plain v.quiet) bs
-    (record { clean = tt; plain = tt; quiet = λ q. refl })
+off_words-lexed bs = lexed_whole Off line_words (Clear is_hash) tt (λ n w h d. sym (ends n w [] h d refl)) blank_ends marks bs

@@ -1,4 +1,4 @@
--- A file that is filled in has a header and the number of coordinates that it says.
+-- What the words of a file that is filled in are: the numbers of a header, and the coordinates that it counts.
 use Rattle.qh_model.specs.declared.read_fault.ReadFault.TheVariants as faults
 use Rattle.std.proofs.Common.{◌≡◌, ◌≢◌, ◌∙◌, ◌++◌, [], ◌∷◌, ◌*◌, ◌≤◌, ◌&&◌, ℕ, List, Bool, true, false, cond, refl, ap, sym, arith, zero, suc, min, length, map}
 use Rattle.std.proofs.{Common.inl, Common.inr, Common.append_assoc, Common.subst, lemmas.Bool.leb-true, lemmas.Bool.Decides.nat_tests, lemmas.List.append-nil}
@@ -6,8 +6,10 @@ use Rattle.std.specs.{List.AllByRecursion, Prelude.ℤ, Prelude.codes, Prelude.p
 use Rattle.std.specs.{Prelude.option_map, Prelude.nat_le, Str.bytes_eq}
 use Rattle.qh_model.specs.declared.{limits.TheConstants.COORDINATE_LIMIT, limits.TheConstants.POINT_LIMIT, read_fault.ReadFault.ReadFault}
 use Rattle.qh_model.specs.headline.{FileFault.is_three, Limits.IsCoordinate, Limits.is_coordinate, Numbers.number_of, PointFile.IsHeader, Words.Word}
-use Rattle.qh_read.specs.contract.Progress.{Progress, wants_first, wants_second, wants, fails, counted, took, after}
-use Rattle.qh_read.specs.{contract.Tokens.cap, steps.Building.filled_in, steps.SmallTokens.capped}
+use Rattle.qh_read.specs.contract.Progress.{Progress, wants_first, wants_second, wants, wants_vertex_count, wants_face_count, wants_edge_count}
+use Rattle.qh_read.specs.contract.Progress.{fails, counted, headed, took, after}
+use Rattle.qh_read.specs.declared.builder.Trailing.{Trailing, TheVariants.Refused, TheVariants.Ignored}
+use Rattle.qh_read.specs.{contract.Tokens.cap, steps.Building.lack, steps.Building.filled_in, steps.SmallTokens.capped}
 
 -- the number of a word, as far as it is told apart
 abbrev pub number_in : Word → Option ℤ
@@ -33,7 +35,7 @@ stays f (w ∷ ws) = stays f ws
 abbrev pub numbers : List Word → List (Option ℤ)
 numbers ws = map (λ w. number_of w.text) ws
 
-pub in_limit : (z : ℤ) → is_coordinate (capped z) ≡ true → (capped z ≡ z) × IsCoordinate z
+in_limit : (z : ℤ) → is_coordinate (capped z) ≡ true → (capped z ≡ z) × IsCoordinate z
 in_limit (pos n) h =
     let small : cap n ≤ COORDINATE_LIMIT = leb-true _ _ h in
     let same : cap n ≡ n = omega arith in
@@ -43,7 +45,7 @@ in_limit (negsuc n) h =
     let same : min n COORDINATE_LIMIT ≡ n = omega arith in
     (ap negsuc same, omega arith)
 
--- what the words after the header are
+-- the words are k coordinates
 pub record Filled (ws : List Word) (k : ℕ) (t u : List ℤ) : Type 0 where
   pub more : List ℤ
   pub are : numbers ws ≡ map Some more
@@ -52,17 +54,17 @@ pub record Filled (ws : List Word) (k : ℕ) (t u : List ℤ) : Type 0 where
   pub limit : AllByRecursion IsCoordinate more
 
 -- a coordinate that was taken is in range, and told apart
-pub in_range : (next : List ℤ → Progress) (ws : List Word) (t u : List ℤ) (line : ℕ) (z : ℤ) → filled_in (judged (took next t line (capped z)) ws) ≡ Some u
+in_range : (next : List ℤ → Progress) (ws : List Word) (t u : List ℤ) (line : ℕ) (z : ℤ) → filled_in (judged (took next t line (capped z)) ws) ≡ Some u
     → (capped z ≡ z) × IsCoordinate z × (filled_in (judged (next (t ++ capped z ∷ [])) ws) ≡ Some u)
-in_range next ws t u line z h = by (is_coordinate (capped z)) refl h
+in_range next ws t u line z h = tested (is_coordinate (capped z)) refl h
   where
-    by : (b : Bool) → is_coordinate (capped z) ≡ b → filled_in (judged (cond b (next (t ++ capped z ∷ [])) (fails (faults.Range line))) ws) ≡ Some u
+    tested : (b : Bool) → is_coordinate (capped z) ≡ b → filled_in (judged (cond b (next (t ++ capped z ∷ [])) (fails (faults.Range line))) ws) ≡ Some u
         → (capped z ≡ z) × IsCoordinate z × (filled_in (judged (next (t ++ capped z ∷ [])) ws) ≡ Some u)
-    by false c h = cc (ap filled_in (stays (faults.Range line) ws))
-    by true c h = let l = in_limit z c in (l.0, l.1, h)
+    tested false c h = cc (ap filled_in (stays (faults.Range line) ws))
+    tested true c h = let l = in_limit z c in (l.0, l.1, h)
 
 -- one coordinate before others
-pub filled_more : (w : Word) (ws : List Word) (k : ℕ) (t u : List ℤ) (z : ℤ) → number_of w.text ≡ Some z → capped z ≡ z → IsCoordinate z
+filled_more : (w : Word) (ws : List Word) (k : ℕ) (t u : List ℤ) (z : ℤ) → number_of w.text ≡ Some z → capped z ≡ z → IsCoordinate z
     → Filled ws k (t ++ capped z ∷ []) u → Filled (w ∷ ws) (suc k) t u
 filled_more w ws k t u z e same l f = record {
   more = z ∷ f.more;
@@ -72,43 +74,66 @@ filled_more w ws k t u z e same l f = record {
   limit = (l, f.limit);
 }
 
-filled : (ws : List Word) (k : ℕ) (t u : List ℤ) → filled_in (judged (wants k t) ws) ≡ Some u → Filled ws k t u
-filled [] zero t u h = record { more = []; are = refl; all = cc (append-nil t); count = refl; limit = tt }
-filled [] (suc k) t u h = cc
-filled (w ∷ ws) zero t u h = cc (ap filled_in (stays (faults.Long w.line) ws))
-filled (w ∷ ws) (suc k) t u h = by (λ z. filled ws k (t ++ z ∷ []) u) (number_of w.text) refl h
+-- words after the coordinates that are ignored change nothing
+pub dropped : (t : List ℤ) (ws : List Word) → judged (wants Ignored 0 t) ws ≡ wants Ignored 0 t
+dropped t [] = refl
+dropped t (w ∷ ws) = dropped t ws
+
+-- the first words are k coordinates; none follows where trailing words are refused
+pub record FrontFilled (trailing : Trailing) (ws : List Word) (k : ℕ) (t u : List ℤ) : Type 0 where
+  pub front : List Word
+  pub rest : List Word
+  pub are : ws ≡ front ++ rest
+  pub last : trailing ≡ Refused → rest ≡ []
+  pub filled : Filled front k t u
+
+front_filled : (trailing : Trailing) (ws : List Word) (k : ℕ) (t u : List ℤ) → filled_in (judged (wants trailing k t) ws) ≡ Some u
+    → FrontFilled trailing ws k t u
+front_filled trailing [] zero t u h =
+    record { front = []; rest = []; are = refl; last = λ e. refl; filled = record { more = []; are = refl; all = cc (append-nil t); count = refl; limit = tt } }
+front_filled Refused (w ∷ ws) zero t u h = cc (ap filled_in (stays (faults.Long w.line) ws))
+front_filled Ignored (w ∷ ws) zero t u h =
+    let told : Some t ≡ Some u = sym (ap filled_in (dropped t ws)) ∙ h in
+    record {
+      front = [];
+      rest = w ∷ ws;
+      are = refl;
+      last = λ e. cc;
+      filled = record { more = []; are = refl; all = cc (append-nil t, told); count = refl; limit = tt };
+    }
+front_filled trailing [] (suc k) t u h = cc
+front_filled trailing (w ∷ ws) (suc k) t u h = one (λ z. front_filled trailing ws k (t ++ z ∷ []) u) (number_of w.text) refl h
   where
-    by : ((z : ℤ) → filled_in (judged (wants k (t ++ z ∷ [])) ws) ≡ Some u → Filled ws k (t ++ z ∷ []) u)
-        → (o : Option ℤ) → number_of w.text ≡ o → filled_in (judged (after (wants (suc k) t) (is_off w) (option_map capped o) w.line) ws) ≡ Some u
-        → Filled (w ∷ ws) (suc k) t u
-    by rest None e h = cc (ap filled_in (stays (faults.BadNumber w.line) ws))
-    by rest (Some z) e h =
-        let r = in_range (wants k) ws t u w.line z h in
-        filled_more w ws k t u z e r.0 r.1 (rest (capped z) r.2)
+    one : ((z : ℤ) → filled_in (judged (wants trailing k (t ++ z ∷ [])) ws) ≡ Some u → FrontFilled trailing ws k (t ++ z ∷ []) u)
+        → (o : Option ℤ) → number_of w.text ≡ o → filled_in (judged (after (wants trailing (suc k) t) (is_off w) (option_map capped o) w.line) ws) ≡ Some u
+        → FrontFilled trailing (w ∷ ws) (suc k) t u
+    one rest None e h = cc (ap filled_in (stays (faults.BadNumber w.line) ws))
+    one rest (Some z) e h =
+        let taken = in_range (wants trailing k) ws t u w.line z h in
+        let others = rest (capped z) taken.2 in
+        record {
+          front = w ∷ others.front;
+          rest = others.rest;
+          are = ap (λ (x : List Word). w ∷ x) others.are;
+          last = others.last;
+          filled = filled_more w others.front k t u z e taken.0 taken.1 others.filled;
+        }
 
-three : (z : ℤ) → is_three (capped z) ≡ true → z ≡ pos 3
-three (pos n) h = let e : cap n ≡ 3 = grind (arith, nat_tests) in ap pos (omega arith)
-three (negsuc n) h = cc
-
-not_three : (z : ℤ) → is_three (capped z) ≡ false → z ≢ pos 3
-not_three z h e = let at : is_three (capped (pos 3)) ≡ false = subst (λ (y : ℤ). is_three (capped y) ≡ false) e h in cc
-
--- a number of points that is told, with what fills its coordinates
-pub record Counts (z : ℤ) (Full : ℕ → Type 0) : Type 0 where
+-- a number of points that is told, and their coordinates
+pub record Counts (trailing : Trailing) (ws : List Word) (u : List ℤ) (z : ℤ) : Type 0 where
   pub n : ℕ
   pub is : z ≡ pos n
   pub some : 1 ≤ n
   pub few : n ≤ POINT_LIMIT
-  pub filled : Full (3 * n)
+  pub file : FrontFilled trailing ws (3 * n) [] u
 
-pub counts : (next : ℕ → List ℤ → Progress) (Full : ℕ → Type 0) (ws : List Word) (u : List ℤ)
-    → ((k : ℕ) → filled_in (judged (next k []) ws) ≡ Some u → Full k)
-    → (z : ℤ) → filled_in (judged (counted next (capped z)) ws) ≡ Some u → Counts z Full
-counts next Full ws u fill (negsuc n) h = cc (ap filled_in (stays faults.Count ws))
-counts next Full ws u fill (pos n) h = in_limits (nat_le 1 (cap n) && nat_le (cap n) POINT_LIMIT) refl h
+pub counts : (trailing : Trailing) (ws : List Word) (u : List ℤ) (z : ℤ) → filled_in (judged (counted trailing (capped z)) ws) ≡ Some u
+    → Counts trailing ws u z
+counts trailing ws u (negsuc n) h = cc (ap filled_in (stays faults.Count ws))
+counts trailing ws u (pos n) h = in_limits (nat_le 1 (cap n) && nat_le (cap n) POINT_LIMIT) refl h
   where
     in_limits : (b : Bool) → (nat_le 1 (cap n) && nat_le (cap n) POINT_LIMIT) ≡ b
-        → filled_in (judged (cond b (next (3 * cap n) []) (fails faults.Count)) ws) ≡ Some u → Counts (pos n) Full
+        → filled_in (judged (cond b (wants trailing (3 * cap n) []) (fails faults.Count)) ws) ≡ Some u → Counts trailing ws u (pos n)
     in_limits false e h = cc (ap filled_in (stays faults.Count ws))
     in_limits true e h =
         let range : (1 ≤ cap n) × (cap n ≤ POINT_LIMIT) = grind (arith, nat_tests) in
@@ -118,10 +143,63 @@ counts next Full ws u fill (pos n) h = in_limits (nat_le 1 (cap n) && nat_le (ca
           is = refl;
           some = omega arith;
           few = omega arith;
-          filled = subst (λ (k : ℕ). Full (3 * k)) same (fill (3 * cap n) h);
+          file = subst (λ (k : ℕ). FrontFilled trailing ws (3 * k) [] u) same (front_filled trailing ws (3 * cap n) [] u h);
         }
 
--- what a whole file is
+-- a number of the header is to come
+pub record Asks (p : Progress) (next : ℤ → Progress) : Type 0 where
+  pub lacks : lack p ≡ Some faults.NoHeader
+  pub none : filled_in p ≡ None
+  pub bad : (keyword : Bool) (line : ℕ) → after p keyword None line ≡ fails (faults.BadNumber line)
+  pub good : (keyword : Bool) (z : ℤ) (line : ℕ) → after p keyword (Some z) line ≡ next z
+
+pub first-asks : Asks wants_first wants_second
+first-asks = record { lacks = refl; none = refl; bad = λ keyword line. refl; good = λ keyword z line. refl }
+
+pub second-asks : (first : ℤ) → Asks (wants_second first) (headed first)
+second-asks first = record { lacks = refl; none = refl; bad = λ keyword line. refl; good = λ keyword z line. refl }
+
+pub vertex_count-asks : Asks wants_vertex_count wants_face_count
+vertex_count-asks = record { lacks = refl; none = refl; bad = λ keyword line. refl; good = λ keyword z line. refl }
+
+pub face_count-asks : (vertices : ℤ) → Asks (wants_face_count vertices) (λ faces. wants_edge_count vertices)
+face_count-asks vertices = record { lacks = refl; none = refl; bad = λ keyword line. refl; good = λ keyword z line. refl }
+
+pub edge_count-asks : (vertices : ℤ) → Asks (wants_edge_count vertices) (λ edges. counted Ignored vertices)
+edge_count-asks vertices = record { lacks = refl; none = refl; bad = λ keyword line. refl; good = λ keyword z line. refl }
+
+-- a number of the header, and what comes after it
+pub record Numbered (next : ℤ → Progress) (ws : List Word) (u : List ℤ) : Type 0 where
+  pub w : Word
+  pub rest : List Word
+  pub z : ℤ
+  pub are : ws ≡ w ∷ rest
+  pub number : number_of w.text ≡ Some z
+  pub filled : filled_in (judged (next (capped z)) rest) ≡ Some u
+
+pub numbered : (p : Progress) (next : ℤ → Progress) → Asks p next → (ws : List Word) (u : List ℤ) → filled_in (judged p ws) ≡ Some u → Numbered next ws u
+numbered p next asks [] u h = cc (asks.none)
+numbered p next asks (w ∷ ws) u h = one (number_of w.text) refl h
+  where
+    one : (o : Option ℤ) → number_of w.text ≡ o → filled_in (judged (after p (is_off w) (option_map capped o) w.line) ws) ≡ Some u → Numbered next (w ∷ ws) u
+    one None e h = cc (ap (λ (q : Progress). filled_in (judged q ws)) (asks.bad (is_off w) w.line) ∙ ap filled_in (stays (faults.BadNumber w.line) ws))
+    one (Some z) e h = record {
+      w = w;
+      rest = ws;
+      z = z;
+      are = refl;
+      number = e;
+      filled = sym (ap (λ (q : Progress). filled_in (judged q ws)) (asks.good (is_off w) (capped z) w.line)) ∙ h;
+    }
+
+-- ---- a point file
+three : (z : ℤ) → is_three (capped z) ≡ true → z ≡ pos 3
+three (pos n) h = let e : cap n ≡ 3 = grind (arith, nat_tests) in ap pos (omega arith)
+three (negsuc n) h = cc
+
+not_three : (z : ℤ) → is_three (capped z) ≡ false → z ≢ pos 3
+not_three z h e = let at : is_three (capped (pos 3)) ≡ false = subst (λ (y : ℤ). is_three (capped y) ≡ false) e h in cc
+
 pub record Whole (ws : List Word) (u : List ℤ) : Type 0 where
   pub first : ℤ
   pub second : ℤ
@@ -133,47 +211,45 @@ pub record Whole (ws : List Word) (u : List ℤ) : Type 0 where
   pub count : length u ≡ 3 * n
   pub limit : AllByRecursion IsCoordinate u
 
-pub whole : (ws : List Word) (u : List ℤ) → filled_in (judged wants_first ws) ≡ Some u → Whole ws u
-whole [] u h = cc
-whole (w ∷ ws) u h = one (number_of w.text) refl h
+-- which of two numbers counts the points
+record Header (a b : ℤ) (ws : List Word) (u : List ℤ) : Type 0 where
+  z : ℤ
+  counted : Counts Refused ws u z
+  header : (n : ℕ) → z ≡ pos n → IsHeader a b n
+
+header : (a b : ℤ) (ws : List Word) (u : List ℤ) → filled_in (judged (headed (capped a) (capped b)) ws) ≡ Some u → Header a b ws u
+header a b ws u h = tested (is_three (capped a)) (is_three (capped b)) refl refl h
   where
-    made : (a b z : ℤ) (vs : List Word) (v : Word) → ws ≡ v ∷ vs → number_of w.text ≡ Some a → number_of v.text ≡ Some b
-        → ((n : ℕ) → z ≡ pos n → IsHeader a b n) → Counts z (λ k. Filled vs k [] u) → Whole (w ∷ ws) u
-    made a b z vs v s e f header c =
-        let all : u ≡ c.filled.more = c.filled.all in
-        let rest : numbers (v ∷ vs) ≡ map Some (b ∷ u) = cc (c.filled.are, f) in
-        record {
-          first = a;
-          second = b;
-          n = c.n;
-          are = ap (λ (x : List Word). numbers (w ∷ x)) s ∙ ap (λ (x : List (Option ℤ)). number_of w.text ∷ x) rest
-              ∙ ap (λ (x : Option ℤ). x ∷ map Some (b ∷ u)) e;
-          header = header c.n c.is;
-          some = c.some;
-          few = c.few;
-          count = ap length all ∙ c.filled.count;
-          limit = subst (AllByRecursion IsCoordinate) (sym all) c.filled.limit;
-        }
+    tested : (p q : Bool) → is_three (capped a) ≡ p → is_three (capped b) ≡ q
+        → filled_in (judged (cond p (counted Refused (capped b)) (cond q (counted Refused (capped a)) (fails faults.NotThree))) ws) ≡ Some u → Header a b ws u
+    tested true q pe qe h = record { z = b; counted = counts Refused ws u b h; header = λ n is. inl (three a pe, is) }
+    tested false true pe qe h = record { z = a; counted = counts Refused ws u a h; header = λ n is. inr (not_three a pe, three b qe, is) }
+    tested false false pe qe h = cc (ap filled_in (stays faults.NotThree ws))
 
-    told : (z : ℤ) (vs : List Word) → filled_in (judged (counted wants (capped z)) vs) ≡ Some u → Counts z (λ k. Filled vs k [] u)
-    told z vs = counts wants (λ k. Filled vs k [] u) vs u (λ k. filled vs k [] u) z
+-- two numbers of a header, and the coordinates that it counts
+made : (ws : List Word) (u : List ℤ) (first : Numbered wants_second ws u) (second : Numbered (headed (capped first.z)) first.rest u)
+    → Header first.z second.z second.rest u → Whole ws u
+made ws u first second header =
+    let file = header.counted.file in
+    let all : u ≡ file.filled.more = file.filled.all in
+    let last : second.rest ≡ file.front = file.are ∙ ap (λ (x : List Word). file.front ++ x) (file.last refl) ∙ append-nil file.front in
+    let words : ws ≡ first.w ∷ second.w ∷ file.front =
+    first.are ∙ ap (λ (x : List Word). first.w ∷ x) (second.are ∙ ap (λ (x : List Word). second.w ∷ x) last) in
+    let are : numbers (first.w ∷ second.w ∷ file.front) ≡ map Some (first.z ∷ second.z ∷ u) = cc (first.number, second.number, file.filled.are, all) in
+    record {
+      first = first.z;
+      second = second.z;
+      n = header.counted.n;
+      are = ap numbers words ∙ are;
+      header = header.header header.counted.n header.counted.is;
+      some = header.counted.some;
+      few = header.counted.few;
+      count = ap length all ∙ file.filled.count;
+      limit = subst (AllByRecursion IsCoordinate) (sym all) file.filled.limit;
+    }
 
-    head : (a b : ℤ) (vs : List Word) (v : Word) → ws ≡ v ∷ vs → number_of w.text ≡ Some a → number_of v.text ≡ Some b
-        → (p q : Bool) → is_three (capped a) ≡ p → is_three (capped b) ≡ q
-        → filled_in (judged (cond p (counted wants (capped b)) (cond q (counted wants (capped a)) (fails faults.NotThree))) vs) ≡ Some u → Whole (w ∷ ws) u
-    head a b vs v s e f true q pe qe h = made a b b vs v s e f (λ n is. inl (three a pe, is)) (told b vs h)
-    head a b vs v s e f false true pe qe h = made a b a vs v s e f (λ n is. inr (not_three a pe, three b qe, is)) (told a vs h)
-    head a b vs v s e f false false pe qe h = cc (ap filled_in (stays faults.NotThree vs))
-
-    two : (a : ℤ) (vs : List Word) (v : Word) → ws ≡ v ∷ vs → number_of w.text ≡ Some a → (o : Option ℤ) → number_of v.text ≡ o
-        → filled_in (judged (after (wants_second (capped a)) (is_off v) (option_map capped o) v.line) vs) ≡ Some u → Whole (w ∷ ws) u
-    two a vs v s e None f h = cc (ap filled_in (stays (faults.BadNumber v.line) vs))
-    two a vs v s e (Some b) f h = head a b vs v s e f (is_three (capped a)) (is_three (capped b)) refl refl h
-
-    after_first : (a : ℤ) (xs : List Word) → ws ≡ xs → number_of w.text ≡ Some a → filled_in (judged (wants_second (capped a)) xs) ≡ Some u → Whole (w ∷ ws) u
-    after_first a [] s e h = cc
-    after_first a (v ∷ vs) s e h = two a vs v s e (number_of v.text) refl h
-
-    one : (o : Option ℤ) → number_of w.text ≡ o → filled_in (judged (after wants_first (is_off w) (option_map capped o) w.line) ws) ≡ Some u → Whole (w ∷ ws) u
-    one None e h = cc (ap filled_in (stays (faults.BadNumber w.line) ws))
-    one (Some a) e h = after_first a ws refl e h
+pub whole : (ws : List Word) (u : List ℤ) → filled_in (judged wants_first ws) ≡ Some u → Whole ws u
+whole ws u h =
+    let first = numbered wants_first wants_second first-asks ws u h in
+    let second = numbered (wants_second (capped first.z)) (headed (capped first.z)) (second-asks (capped first.z)) first.rest u first.filled in
+    made ws u first second (header first.z second.z second.rest u second.filled)

@@ -1,12 +1,12 @@
 -- The bytes that a source gives over several reads.
-use Rattle.qh_model.specs.declared.read_fault.ReadFault.TheVariants as faults
-use Rattle.qh_read.specs.declared.fault.FeedFault.TheVariants as refusals
-use Rattle.std.proofs.Common.{◌≡◌, ◌≢◌, ◌≤◌, ◌<◌, ◌∙◌, ◌++◌, ◌+◌, ℕ, List, [], refl, ap, sym, subst, arith, length, length-append, append_assoc}
-use Rattle.std.proofs.lemmas.List.{append-nil}
-use Rattle.std.specs.{Io.KnownBytes.Consumes, Prelude.Option, Prelude.Some, Prelude.None}
-use Rattle.qh_model.specs.declared.{form.Form.Form, limits.TheConstants.BYTE_LIMIT, read_fault.ReadFault.ReadFault}
-use Rattle.qh_read.specs.{contract.Holding.Reading, contract.Holding.Fed, contract.ReadFaults.read_fault, declared.fault.FeedFault.FeedFault}
-use Rattle.qh_read.specs.{declared.whole.TheConstants.PIECE_LENGTH, headline.SourceBytes.Gives, steps.Sources.FedOn, steps.Sources.Stops}
+use Rattle.std.proofs.Common.{◌≡◌, ◌∙◌, ◌++◌, ◌+◌, ℕ, List, [], ap, sym, subst, arith, length, length-append, append_assoc}
+use Rattle.std.specs.{Io.KnownBytes.Consumes, declared.alloc.Global.Global}
+use Rattle.std.specs.Prelude.{Option, Some, None, Result, Ok, Err, Vec, IfOk, IfErr}
+use Rattle.qh_model.specs.declared.{form.Form.Form, read_fault.ReadFault.ReadFault}
+use Rattle.qh_model.specs.headline.{Forms.ReadsIn, Forms.IsFirstFault, Vector.Vector}
+use Rattle.qh_read.specs.contract.{Answers.AnswersSource, Holding.Reading, Holding.Fed, ReadFaults.IsTextFault}
+use Rattle.qh_read.specs.{headline.SourceBytes.Gives, headline.SourceBytes.GivesAll}
+use Rattle.qh_read.specs.steps.Sources.{FedOn, Stops}
 
 -- what two reads give, one after the other
 pub Consumes-append : (old mid new : Option (List ℕ)) (xs ys : List ℕ) → Consumes old mid xs → Consumes mid new ys → Consumes old new (xs ++ ys)
@@ -14,19 +14,6 @@ Consumes-append None mid new xs ys h k = tt
 Consumes-append (Some a) None new xs ys h k = absurd h
 Consumes-append (Some a) (Some b) None xs ys h k = absurd k
 Consumes-append (Some a) (Some b) (Some d) xs ys h k = h ∙ ap (λ (t : List ℕ). xs ++ t) k ∙ sym (append_assoc xs ys d)
-
--- nothing was read
-pub Consumes-none : (old : Option (List ℕ)) → Consumes old old []
-Consumes-none None = tt
-Consumes-none (Some a) = refl
-
-pub FedOn-none : (reader : Reading) (old : Option (List ℕ)) → FedOn reader reader old old
-FedOn-none reader old = record {
-  given = [];
-  took = Consumes-none old;
-  fed = λ form bytes h. subst (Fed form reader) (sym (append-nil bytes)) h;
-  count = omega arith;
-}
 
 -- first this, and then that
 pub FedOn-append : (a b d : Reading) (old mid new : Option (List ℕ)) → FedOn a b old mid → FedOn b d mid new → FedOn a d old new
@@ -63,16 +50,6 @@ Stops-after e before old mid new fo fm fn given count took same is s = record {
   no_text = s.no_text;
 }
 
--- an allocation failed before anything was read
-pub Stops-memory : (before : ℕ) (old : Option (List ℕ)) (failures : ℕ) → before ≤ BYTE_LIMIT → Stops faults.Memory before old old failures failures
-Stops-memory before old failures h = record {
-  big = λ e. cc;
-  big_first = λ e. ([], Consumes-none old, omega (arith, h));
-  device = λ e. cc;
-  no_device = λ e. refl;
-  no_text = λ t. t.0 refl;
-}
-
 -- the reader was fed some of what the source gave, and these bytes are still to be fed
 pub record FedBut (before after : Reading) (ahead : List ℕ) (old new : Option (List ℕ)) : Type 0 where
   pub given : List ℕ
@@ -80,30 +57,42 @@ pub record FedBut (before after : Reading) (ahead : List ℕ) (old new : Option 
   pub fed : (form : Form) (bytes : List ℕ) → Fed form before bytes → Fed form after (bytes ++ given)
   pub count : after.count ≡ before.count + length given
 
--- a piece that was refused within the limit was refused memory
-pub Stops-feed : (f : FeedFault) (before : ℕ) (old new : Option (List ℕ)) (failures failures_after : ℕ) (given : List ℕ)
-    → Consumes old new given → failures_after ≡ failures → before + length given ≤ BYTE_LIMIT → f ≢ refusals.Big
-    → Stops (read_fault f) before old new failures failures_after
-Stops-feed refusals.Big before old new failures failures_after given took same fits memory = absurd (memory refl)
-Stops-feed refusals.Memory before old new failures failures_after given took same fits memory = record {
-  big = λ e. cc;
-  big_first = λ e. (given, took, fits);
-  device = λ e. cc;
-  no_device = λ e. same;
-  no_text = λ t. t.0 refl;
-}
-
 -- all that the source gave was fed from the start
 pub Gives-all : (form : Form) (start reader : Reading) (old new : Option (List ℕ)) → Fed form start []
     → FedOn start reader old new → Gives old new (Fed form reader)
 Gives-all form start reader old new h f = (f.given, f.took, f.fed form [] h)
 
--- why reading stops from the start
-pub Stops-big : (e : ReadFault) (before : ℕ) (old new : Option (List ℕ)) (failures failures_after : ℕ) → before ≡ 0
-    → Stops e before old new failures failures_after → e ≡ faults.Big
-    → Gives old new (λ bytes. (BYTE_LIMIT < length bytes) × (length bytes ≤ BYTE_LIMIT + PIECE_LENGTH))
-Stops-big e before old new fo fn none s h = let r = s.big h in (r.0, r.1, (omega (arith, none, r.2.0), omega (arith, none, r.2.1)))
+-- all that the source gave was fed, and this is what the reader then finds
+pub AnswersSource-fed : (form : Form) (reader : Reading) (old new : Option (List ℕ)) (failures failures_after : ℕ)
+    (answer : Result (Vec Vector Global) ReadFault) → GivesAll old new (Fed form reader) → failures_after ≡ failures
+    → IfOk answer (λ points. (f : Form) (bytes : List ℕ) → Fed f reader bytes → ReadsIn f bytes points.items)
+    → IfErr answer (λ e. (f : Form) (bytes : List ℕ) → Fed f reader bytes → IsFirstFault f bytes e)
+    → IfErr answer IsTextFault → AnswersSource form old new failures failures_after answer
+AnswersSource-fed form reader old new failures failures_after (Ok points) all same read fault text = record {
+  read = (all.0, (all.1.0, all.1.1, read form all.1.0 all.1.2));
+  text = tt;
+  big = λ e. cc;
+  big_first = λ e. cc;
+  device = λ e. cc;
+  no_device = λ e. same;
+}
+AnswersSource-fed form reader old new failures failures_after (Err e) all same read fault text = record {
+  read = tt;
+  text = λ is_text. (all.0, (all.1.0, all.1.1, fault form all.1.0 all.1.2));
+  big = λ h. absurd (text.2 cc);
+  big_first = λ h. absurd (text.0 cc);
+  device = λ h. absurd (text.1 cc);
+  no_device = λ h. same;
+}
 
-pub Stops-big_first : (e : ReadFault) (before : ℕ) (old new : Option (List ℕ)) (failures failures_after : ℕ) → before ≡ 0
-    → Stops e before old new failures failures_after → e ≡ faults.Memory → Gives old new (λ bytes. length bytes ≤ BYTE_LIMIT)
-Stops-big_first e before old new fo fn none s h = let r = s.big_first h in (r.0, r.1, omega (arith, none, r.2))
+-- why reading stops from the start
+pub AnswersSource-stopped : (form : Form) (e : ReadFault) (before : ℕ) (old new : Option (List ℕ)) (failures failures_after : ℕ) → before ≡ 0
+    → Stops e before old new failures failures_after → AnswersSource form old new failures failures_after (Err e)
+AnswersSource-stopped form e before old new failures failures_after none s = record {
+  read = tt;
+  text = λ is_text. absurd (s.no_text is_text);
+  big = λ h. let given = s.big cc in (given.0, given.1, (omega (arith, none, given.2.0), omega (arith, none, given.2.1)));
+  big_first = λ h. let given = s.big_first cc in (given.0, given.1, omega (arith, none, given.2));
+  device = λ h. s.device cc;
+  no_device = λ h. s.no_device (λ is. h (ap Err is));
+}

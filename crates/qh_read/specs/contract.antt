@@ -1,4 +1,5 @@
 -- What else the contracts of public functions cite.
+pub mod Answers
 pub mod Holding
 pub mod Numerals
 pub mod Progress

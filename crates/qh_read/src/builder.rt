@@ -9,6 +9,15 @@ use crate::token::Token;
 use qh_model::{COORDINATE_LIMIT, Form, POINT_LIMIT, Point, ReadFault};
 use std::alloc::{AllocError, Global};
 
+/// What becomes of the words after the last coordinate.
+#[derive(Clone, Copy, Debug, PartialEq, Eq)]
+pub enum Trailing {
+    /// They are a fault, in a point file.
+    Refused,
+    /// They are passed over, in an OFF file, where the faces follow.
+    Ignored,
+}
+
 /// What the next word is expected to be.
 #[derive(Clone, Copy, Debug, PartialEq, Eq)]
 pub enum Stage {
@@ -16,8 +25,8 @@ pub enum Stage {
     First,
     /// The second number of the header, after this one.
     Second(i32),
-    /// A coordinate of a point, with this number of coordinates to come; no word if the number is 0.
-    Coordinates(u32),
+    /// A coordinate of a point, with this number of coordinates to come; a trailing word if the number is 0.
+    Coordinates(u32, Trailing),
     /// The keyword of an OFF file.
     Keyword,
     /// The number of vertices.
@@ -26,8 +35,6 @@ pub enum Stage {
     FaceCount(i32),
     /// The number of edges, after this number of vertices.
     EdgeCount(i32),
-    /// A coordinate of a vertex, with this number of coordinates to come; any word if the number is 0.
-    Vertices(u32),
     /// Any word: the text has this fault.
     Failed(ReadFault),
 }
@@ -51,24 +58,12 @@ pub struct Builder {
 }
 
 /// Returns the stage after a header that gives this count.
-fn counted(count: i32) -> Stage
-    ensures shown { stage_shown result [] ≡ progress.counted progress.wants count }
+fn counted(count: i32, trailing: Trailing) -> Stage
+    ensures shown { stage_shown result [] ≡ progress.counted trailing count }
     ensures text_fault { HasTextFault result }
 {
     if count >= 1 && count <= POINT_LIMIT as i32 {
-        Stage::Coordinates(3 * count as u32)
-    } else {
-        Stage::Failed(ReadFault::Count)
-    }
-}
-
-/// Returns the stage after the counts of an OFF file with this number of vertices.
-fn counted_vertices(count: i32) -> Stage
-    ensures shown { stage_shown result [] ≡ progress.counted progress.wants_vertices count }
-    ensures text_fault { HasTextFault result }
-{
-    if count >= 1 && count <= POINT_LIMIT as i32 {
-        Stage::Vertices(3 * count as u32)
+        Stage::Coordinates(3 * count as u32, trailing)
     } else {
         Stage::Failed(ReadFault::Count)
     }
@@ -80,9 +75,9 @@ fn headed(first: i32, second: i32) -> Stage
     ensures text_fault { HasTextFault result }
 {
     if first == 3 {
-        counted(second)
+        counted(second, Trailing::Refused)
     } else if second == 3 {
-        counted(first)
+        counted(first, Trailing::Refused)
     } else {
         Stage::Failed(ReadFault::NotThree)
     }
@@ -181,10 +176,9 @@ impl Builder {
         ensures { IfSome result (AwaitsPoint self.now) }
     {
         match (self.pending, self.stage) {
-            (Pending::Zero, Stage::Coordinates(left)) if left >= 3 => {
-                Some(Stage::Coordinates(left - 3))
+            (Pending::Zero, Stage::Coordinates(left, trailing)) if left >= 3 => {
+                Some(Stage::Coordinates(left - 3, trailing))
             }
-            (Pending::Zero, Stage::Vertices(left)) if left >= 3 => Some(Stage::Vertices(left - 3)),
             _ => None,
         }
     }
@@ -210,11 +204,8 @@ impl Builder {
         ensures { IfSome result (AwaitsPoints self.now count) }
     {
         match (self.pending, self.stage) {
-            (Pending::Zero, Stage::Coordinates(left)) if left as usize / 3 >= count => {
-                Some(Stage::Coordinates(left - 3 * count as u32))
-            }
-            (Pending::Zero, Stage::Vertices(left)) if left as usize / 3 >= count => {
-                Some(Stage::Vertices(left - 3 * count as u32))
+            (Pending::Zero, Stage::Coordinates(left, trailing)) if left as usize / 3 >= count => {
+                Some(Stage::Coordinates(left - 3 * count as u32, trailing))
             }
             _ => None,
         }
@@ -244,13 +235,12 @@ impl Builder {
         ensures kept { vec_capacity self.old.points ≤ vec_capacity self.new.points }
     {
         match (self.stage, token.value()) {
-            (Stage::Coordinates(0), _) => self.stage = Stage::Failed(ReadFault::Long(line)),
-            (Stage::Coordinates(left), Some(value)) => {
-                self.coordinate(Stage::Coordinates(left - 1), value, line)
+            (Stage::Coordinates(0, Trailing::Refused), _) => {
+                self.stage = Stage::Failed(ReadFault::Long(line))
             }
-            (Stage::Vertices(0), _) => {}
-            (Stage::Vertices(left), Some(value)) => {
-                self.coordinate(Stage::Vertices(left - 1), value, line)
+            (Stage::Coordinates(0, Trailing::Ignored), _) => {}
+            (Stage::Coordinates(left, trailing), Some(value)) => {
+                self.coordinate(Stage::Coordinates(left - 1, trailing), value, line)
             }
             (Stage::Failed(_), _) => {}
             (Stage::Keyword, _) => self.stage = after_keyword(token),
@@ -259,7 +249,9 @@ impl Builder {
             (Stage::Second(first), Some(second)) => self.stage = headed(first, second),
             (Stage::VertexCount, Some(vertices)) => self.stage = Stage::FaceCount(vertices),
             (Stage::FaceCount(vertices), Some(_)) => self.stage = Stage::EdgeCount(vertices),
-            (Stage::EdgeCount(vertices), Some(_)) => self.stage = counted_vertices(vertices),
+            (Stage::EdgeCount(vertices), Some(_)) => {
+                self.stage = counted(vertices, Trailing::Ignored)
+            }
         }
     }
 
@@ -273,9 +265,8 @@ impl Builder {
             Stage::First | Stage::Second(_) => Err(ReadFault::NoHeader),
             Stage::Keyword | Stage::VertexCount => Err(ReadFault::NoHeader),
             Stage::FaceCount(_) | Stage::EdgeCount(_) => Err(ReadFault::NoHeader),
-            Stage::Coordinates(0) => Ok(self.points),
-            Stage::Vertices(0) => Ok(self.points),
-            Stage::Coordinates(_) | Stage::Vertices(_) => Err(ReadFault::Short),
+            Stage::Coordinates(0, _) => Ok(self.points),
+            Stage::Coordinates(..) => Err(ReadFault::Short),
             Stage::Failed(fault) => Err(fault),
         }
     }

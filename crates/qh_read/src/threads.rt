@@ -2,12 +2,10 @@
 //!
 //! A file is read in batches, and a batch is cut into segments. While threads parse the segments of one batch, the
 //! calling thread feeds the batch before it to the reader, and reads the next one.
-ghost use Rattle.std.specs.Prelude.{◌≡◌, ◌≢◌, ◌≤◌, ◌<◌, ◌+◌, ◌-◌, ◌^◌, true, false, length, IfOk, IfErr, OnOk, Ok, Err};
+ghost use Rattle.std.specs.Prelude.{◌≡◌, ◌≤◌, ◌<◌, ◌+◌, ◌-◌, ◌^◌, true, false, length, IfErr, OnOk, Ok};
 ghost use Rattle.std.specs.Thread.{IsSync};
 ghost use Rattle.std.specs.Io.KnownBytes.{IsAtEnd};
-ghost use Rattle.qh_model.specs.headline.Forms.{ReadsIn, IsFirstFault};
-ghost use Rattle.qh_read.specs.contract.ReadFaults.{IsTextFault};
-ghost use Rattle.qh_read.specs.headline.SourceBytes.{Gives, GivesAll};
+ghost use Rattle.qh_read.specs.contract.Answers.{AnswersSource};
 ghost use Rattle.qh_read.specs.steps.Segments.{batch_text, IsGoneOver, FedAndFilled};
 ghost use Rattle.qh_read.specs.steps.Sources.{FedOn, Stops};
 
@@ -153,23 +151,8 @@ pub fn read_form_sizes<R: Threads + Sync, S: Source>(
     sizes: Sizes,
 ) -> Result<Vec<Point>, ReadFault>
     requires { S.failure_count source.old < 2 ^ 64 - 1 }
-    ensures read { IfOk result (λ points.
-        GivesAll (S.remaining source.old) (S.remaining source.new)
-        (λ bytes. ReadsIn form bytes points.items)) }
-    ensures text { IfErr result (λ e. IsTextFault e →
-        GivesAll (S.remaining source.old) (S.remaining source.new)
-        (λ bytes. IsFirstFault form bytes e)) }
-    ensures big { result ≡ Err ReadFault.Big →
-        Gives (S.remaining source.old) (S.remaining source.new)
-        (λ bytes. (BYTE_LIMIT < length bytes) × (length bytes ≤ BYTE_LIMIT + PIECE_LENGTH)) }
-    ensures big_first { result ≡ Err ReadFault.Memory →
-        Gives (S.remaining source.old) (S.remaining source.new) (λ bytes. length bytes ≤ BYTE_LIMIT) }
-
-    // One read failed just where `Device` is answered.
-    ensures device { result ≡ Err ReadFault.Device
-        → S.failure_count source.new ≡ S.failure_count source.old + 1 }
-    ensures no_device { result ≢ Err ReadFault.Device
-        → S.failure_count source.new ≡ S.failure_count source.old }
+    ensures { AnswersSource form (S.remaining source.old) (S.remaining source.new)
+        (S.failure_count source.old) (S.failure_count source.new) result }
 {
     let mut reader = Reader::of_form(alloc, form);
     if !feed_from(alloc, &mut reader, source, sizes.start)? {
@@ -192,23 +175,8 @@ pub fn read_form_threads<R: Threads + Sync, S: Source>(
     source: &mut S,
 ) -> Result<Vec<Point>, ReadFault>
     requires { S.failure_count source.old < 2 ^ 64 - 1 }
-    ensures read { IfOk result (λ points.
-        GivesAll (S.remaining source.old) (S.remaining source.new)
-        (λ bytes. ReadsIn form bytes points.items)) }
-    ensures text { IfErr result (λ e. IsTextFault e →
-        GivesAll (S.remaining source.old) (S.remaining source.new)
-        (λ bytes. IsFirstFault form bytes e)) }
-    ensures big { result ≡ Err ReadFault.Big →
-        Gives (S.remaining source.old) (S.remaining source.new)
-        (λ bytes. (BYTE_LIMIT < length bytes) × (length bytes ≤ BYTE_LIMIT + PIECE_LENGTH)) }
-    ensures big_first { result ≡ Err ReadFault.Memory →
-        Gives (S.remaining source.old) (S.remaining source.new) (λ bytes. length bytes ≤ BYTE_LIMIT) }
-
-    // One read failed just where `Device` is answered.
-    ensures device { result ≡ Err ReadFault.Device
-        → S.failure_count source.new ≡ S.failure_count source.old + 1 }
-    ensures no_device { result ≢ Err ReadFault.Device
-        → S.failure_count source.new ≡ S.failure_count source.old }
+    ensures { AnswersSource form (S.remaining source.old) (S.remaining source.new)
+        (S.failure_count source.old) (S.failure_count source.new) result }
 {
     if threads < 2 {
         return read_form_from(alloc, form, source);

@@ -1,10 +1,8 @@
 //! Reading of a whole input.
-ghost use Rattle.std.specs.Prelude.{◌≡◌, ◌≢◌, ◌≤◌, ◌<◌, ◌+◌, ◌-◌, ◌^◌, true, false, length, vec_len, IfOk, IfErr, OnOk, Ok, Err};
+ghost use Rattle.std.specs.Prelude.{◌≡◌, ◌≤◌, ◌<◌, ◌-◌, ◌^◌, true, false, vec_len, IfOk, IfErr, OnOk, Ok};
 ghost use Rattle.std.specs.Io.KnownBytes.{IsAtEnd};
 ghost use Rattle.qh_model.specs.declared.form.Form.TheVariants as forms;
-ghost use Rattle.qh_model.specs.headline.Forms.{ReadsIn, IsFirstFault};
-ghost use Rattle.qh_read.specs.contract.ReadFaults.{IsFaultOf, IsTextFault};
-ghost use Rattle.qh_read.specs.headline.SourceBytes.{Gives, GivesAll};
+ghost use Rattle.qh_read.specs.contract.Answers.{AnswersBytes, AnswersSource};
 ghost use Rattle.qh_read.specs.steps.Sources.{FedOn, Stops};
 
 use crate::reader::Reader;
@@ -22,10 +20,7 @@ pub const PIECE_LENGTH: usize = 65536;
 /// `Big` comes before all other faults, and is found before any growth; `Memory` where an allocation failed; never
 /// `Device`.
 pub fn read_form(alloc: Global, form: Form, bytes: &[u8]) -> Result<Vec<Point>, ReadFault>
-    ensures read { IfOk result (λ points. ReadsIn form bytes.now points.items) }
-    ensures fault { IfErr result (λ e. IsFaultOf form bytes.now e) }
-    ensures big { BYTE_LIMIT < length bytes.now → result ≡ Err ReadFault.Big }
-    ensures no_device { result ≢ Err ReadFault.Device }
+    ensures { AnswersBytes form bytes.now result }
 {
     if bytes.len() > BYTE_LIMIT as usize {
         return Err(ReadFault::Big);
@@ -40,10 +35,7 @@ pub fn read_form(alloc: Global, form: Form, bytes: &[u8]) -> Result<Vec<Point>, 
 /// Returns the points of a point file, in its order, or its first fault, with the errors of
 /// [`read_form`].
 pub fn read_points(alloc: Global, bytes: &[u8]) -> Result<Vec<Point>, ReadFault>
-    ensures read { IfOk result (λ points. ReadsIn forms.Qhull bytes.now points.items) }
-    ensures fault { IfErr result (λ e. IsFaultOf forms.Qhull bytes.now e) }
-    ensures big { BYTE_LIMIT < length bytes.now → result ≡ Err ReadFault.Big }
-    ensures no_device { result ≢ Err ReadFault.Device }
+    ensures { AnswersBytes forms.Qhull bytes.now result }
 {
     read_form(alloc, Form::Qhull, bytes)
 }
@@ -51,10 +43,7 @@ pub fn read_points(alloc: Global, bytes: &[u8]) -> Result<Vec<Point>, ReadFault>
 /// Returns the points that are the vertices of an OFF file, in its order, or its first fault, with the
 /// errors of [`read_form`].
 pub fn read_off(alloc: Global, bytes: &[u8]) -> Result<Vec<Point>, ReadFault>
-    ensures read { IfOk result (λ points. ReadsIn forms.Off bytes.now points.items) }
-    ensures fault { IfErr result (λ e. IsFaultOf forms.Off bytes.now e) }
-    ensures big { BYTE_LIMIT < length bytes.now → result ≡ Err ReadFault.Big }
-    ensures no_device { result ≢ Err ReadFault.Device }
+    ensures { AnswersBytes forms.Off bytes.now result }
 {
     read_form(alloc, Form::Off, bytes)
 }
@@ -113,23 +102,8 @@ pub fn read_form_from<S: Source>(
     source: &mut S,
 ) -> Result<Vec<Point>, ReadFault>
     requires { S.failure_count source.old < 2 ^ 64 - 1 }
-    ensures read { IfOk result (λ points.
-        GivesAll (S.remaining source.old) (S.remaining source.new)
-        (λ bytes. ReadsIn form bytes points.items)) }
-    ensures text { IfErr result (λ e. IsTextFault e →
-        GivesAll (S.remaining source.old) (S.remaining source.new)
-        (λ bytes. IsFirstFault form bytes e)) }
-    ensures big { result ≡ Err ReadFault.Big →
-        Gives (S.remaining source.old) (S.remaining source.new)
-        (λ bytes. (BYTE_LIMIT < length bytes) × (length bytes ≤ BYTE_LIMIT + PIECE_LENGTH)) }
-    ensures big_first { result ≡ Err ReadFault.Memory →
-        Gives (S.remaining source.old) (S.remaining source.new) (λ bytes. length bytes ≤ BYTE_LIMIT) }
-
-    // One read failed just where `Device` is answered.
-    ensures device { result ≡ Err ReadFault.Device
-        → S.failure_count source.new ≡ S.failure_count source.old + 1 }
-    ensures no_device { result ≢ Err ReadFault.Device
-        → S.failure_count source.new ≡ S.failure_count source.old }
+    ensures { AnswersSource form (S.remaining source.old) (S.remaining source.new)
+        (S.failure_count source.old) (S.failure_count source.new) result }
 {
     let mut reader = Reader::of_form(alloc, form);
     feed_from(alloc, &mut reader, source, u32::MAX)?;
@@ -140,23 +114,8 @@ pub fn read_form_from<S: Source>(
 /// errors of [`read_form_from`].
 pub fn read_from<S: Source>(alloc: Global, source: &mut S) -> Result<Vec<Point>, ReadFault>
     requires { S.failure_count source.old < 2 ^ 64 - 1 }
-    ensures read { IfOk result (λ points.
-        GivesAll (S.remaining source.old) (S.remaining source.new)
-        (λ bytes. ReadsIn forms.Qhull bytes points.items)) }
-    ensures text { IfErr result (λ e. IsTextFault e →
-        GivesAll (S.remaining source.old) (S.remaining source.new)
-        (λ bytes. IsFirstFault forms.Qhull bytes e)) }
-    ensures big { result ≡ Err ReadFault.Big →
-        Gives (S.remaining source.old) (S.remaining source.new)
-        (λ bytes. (BYTE_LIMIT < length bytes) × (length bytes ≤ BYTE_LIMIT + PIECE_LENGTH)) }
-    ensures big_first { result ≡ Err ReadFault.Memory →
-        Gives (S.remaining source.old) (S.remaining source.new) (λ bytes. length bytes ≤ BYTE_LIMIT) }
-
-    // One read failed just where `Device` is answered.
-    ensures device { result ≡ Err ReadFault.Device
-        → S.failure_count source.new ≡ S.failure_count source.old + 1 }
-    ensures no_device { result ≢ Err ReadFault.Device
-        → S.failure_count source.new ≡ S.failure_count source.old }
+    ensures { AnswersSource forms.Qhull (S.remaining source.old) (S.remaining source.new)
+        (S.failure_count source.old) (S.failure_count source.new) result }
 {
     read_form_from(alloc, Form::Qhull, source)
 }
@@ -165,23 +124,8 @@ pub fn read_from<S: Source>(alloc: Global, source: &mut S) -> Result<Vec<Point>,
 /// first fault, with the errors of [`read_form_from`].
 pub fn read_off_from<S: Source>(alloc: Global, source: &mut S) -> Result<Vec<Point>, ReadFault>
     requires { S.failure_count source.old < 2 ^ 64 - 1 }
-    ensures read { IfOk result (λ points.
-        GivesAll (S.remaining source.old) (S.remaining source.new)
-        (λ bytes. ReadsIn forms.Off bytes points.items)) }
-    ensures text { IfErr result (λ e. IsTextFault e →
-        GivesAll (S.remaining source.old) (S.remaining source.new)
-        (λ bytes. IsFirstFault forms.Off bytes e)) }
-    ensures big { result ≡ Err ReadFault.Big →
-        Gives (S.remaining source.old) (S.remaining source.new)
-        (λ bytes. (BYTE_LIMIT < length bytes) × (length bytes ≤ BYTE_LIMIT + PIECE_LENGTH)) }
-    ensures big_first { result ≡ Err ReadFault.Memory →
-        Gives (S.remaining source.old) (S.remaining source.new) (λ bytes. length bytes ≤ BYTE_LIMIT) }
-
-    // One read failed just where `Device` is answered.
-    ensures device { result ≡ Err ReadFault.Device
-        → S.failure_count source.new ≡ S.failure_count source.old + 1 }
-    ensures no_device { result ≢ Err ReadFault.Device
-        → S.failure_count source.new ≡ S.failure_count source.old }
+    ensures { AnswersSource forms.Off (S.remaining source.old) (S.remaining source.new)
+        (S.failure_count source.old) (S.failure_count source.new) result }
 {
     read_form_from(alloc, Form::Off, source)
 }

@@ -7,18 +7,19 @@ use Rattle.qh_model.specs.declared.form.Form.{Form}
 use Rattle.qh_model.specs.declared.form.Form.TheVariants.{Qhull, Off}
 use Rattle.qh_model.specs.declared.read_fault.ReadFault.{ReadFault}
 use Rattle.qh_model.specs.declared.read_fault.ReadFault.TheVariants as faults
+use Rattle.qh_read.specs.declared.builder.Trailing.{Trailing}
+use Rattle.qh_read.specs.declared.builder.Trailing.TheVariants.{Refused, Ignored}
 
--- what the next word is to be; `wants` and `wants_vertices` have the number of coordinates to come and those that came,
--- and the counts of an OFF file the number of vertices, once it is known
+-- what the next word is to be; `wants` has what becomes of the words after the coordinates, the number of coordinates to
+-- come and those that came, and the counts of an OFF file have the number of vertices, once it is known
 pub data Progress : Type 0 where
   wants_first : Progress
   wants_second : ℤ → Progress
-  wants : ℕ → List ℤ → Progress
+  wants : Trailing → ℕ → List ℤ → Progress
   wants_keyword : Progress
   wants_vertex_count : Progress
   wants_face_count : ℤ → Progress
   wants_edge_count : ℤ → Progress
-  wants_vertices : ℕ → List ℤ → Progress
   fails : ReadFault → Progress
 
 -- no word yet
@@ -27,15 +28,15 @@ started Qhull = wants_first
 started Off = wants_keyword
 
 -- the coordinates of this number of points are to come
-abbrev pub counted : (ℕ → List ℤ → Progress) → ℤ → Progress
-counted next (pos n) = if nat_le 1 n && nat_le n POINT_LIMIT then next (3 * n) [] else fails faults.Count
-counted next (negsuc n) = fails faults.Count
+abbrev pub counted : Trailing → ℤ → Progress
+counted trailing (pos n) = if nat_le 1 n && nat_le n POINT_LIMIT then wants trailing (3 * n) [] else fails faults.Count
+counted trailing (negsuc n) = fails faults.Count
 
 -- 3 is the dimension, first of all where it stands first
 abbrev pub headed : ℤ → ℤ → Progress
 headed first second =
-    if is_three first then counted wants second
-    else if is_three second then counted wants first
+    if is_three first then counted Refused second
+    else if is_three second then counted Refused first
     else fails faults.NotThree
 
 -- one coordinate more, if it is in range, and what comes next
@@ -43,15 +44,20 @@ abbrev pub took : (List ℤ → Progress) → List ℤ → ℕ → ℤ → Progr
 took next taken line z =
     if is_coordinate z then next (taken ++ z ∷ []) else fails (faults.Range line)
 
+-- one word after the last coordinate
+abbrev pub trailed : Trailing → List ℤ → ℕ → Progress
+trailed Refused taken line = fails (faults.Long line)
+trailed Ignored taken line = wants Ignored zero taken
+
 -- one word more: whether it is `OFF`, and its number or none
 abbrev pub after : Progress → Bool → Option ℤ → ℕ → Progress
 after wants_first keyword None line = fails (faults.BadNumber line)
 after wants_first keyword (Some z) line = wants_second z
 after (wants_second first) keyword None line = fails (faults.BadNumber line)
 after (wants_second first) keyword (Some second) line = headed first second
-after (wants zero taken) keyword value line = fails (faults.Long line)
-after (wants (suc left) taken) keyword None line = fails (faults.BadNumber line)
-after (wants (suc left) taken) keyword (Some z) line = took (wants left) taken line z
+after (wants trailing zero taken) keyword value line = trailed trailing taken line
+after (wants trailing (suc left) taken) keyword None line = fails (faults.BadNumber line)
+after (wants trailing (suc left) taken) keyword (Some z) line = took (wants trailing left) taken line z
 after wants_keyword true value line = wants_vertex_count
 after wants_keyword false value line = fails faults.NotOff
 after wants_vertex_count keyword None line = fails (faults.BadNumber line)
@@ -59,8 +65,5 @@ after wants_vertex_count keyword (Some vertices) line = wants_face_count vertice
 after (wants_face_count vertices) keyword None line = fails (faults.BadNumber line)
 after (wants_face_count vertices) keyword (Some faces) line = wants_edge_count vertices
 after (wants_edge_count vertices) keyword None line = fails (faults.BadNumber line)
-after (wants_edge_count vertices) keyword (Some edges) line = counted wants_vertices vertices
-after (wants_vertices zero taken) keyword value line = wants_vertices zero taken
-after (wants_vertices (suc left) taken) keyword None line = fails (faults.BadNumber line)
-after (wants_vertices (suc left) taken) keyword (Some z) line = took (wants_vertices left) taken line z
+after (wants_edge_count vertices) keyword (Some edges) line = counted Ignored vertices
 after (fails fault) keyword value line = fails fault

@@ -5,7 +5,7 @@ use Rattle.qh_model.specs.headline.PointFile.{coordinates}
 use Rattle.qh_model.specs.declared.read_fault.ReadFault.{ReadFault}
 use Rattle.qh_model.specs.declared.read_fault.ReadFault.TheVariants.{NoHeader, Short}
 use Rattle.qh_read.specs.contract.Progress.{Progress, wants_first, wants_second, wants, wants_keyword, wants_vertex_count}
-use Rattle.qh_read.specs.contract.Progress.{wants_face_count, wants_edge_count, wants_vertices, fails}
+use Rattle.qh_read.specs.contract.Progress.{wants_face_count, wants_edge_count, fails}
 use Rattle.qh_read.specs.steps.Stages.{stage_shown, pending_list, pending_count}
 use Rattle.qh_read.specs.declared.builder.Pending.{Pending}
 use Rattle.qh_read.specs.declared.builder.Builder.{Builder}
@@ -25,28 +25,24 @@ shown b = stage_shown b.stage (taken b)
 abbrev pub lack : Progress → Option ReadFault
 lack wants_first = Some NoHeader
 lack (wants_second first) = Some NoHeader
-lack (wants zero taken) = None
-lack (wants (suc left) taken) = Some Short
+lack (wants trailing zero taken) = None
+lack (wants trailing (suc left) taken) = Some Short
 lack wants_keyword = Some NoHeader
 lack wants_vertex_count = Some NoHeader
 lack (wants_face_count vertices) = Some NoHeader
 lack (wants_edge_count vertices) = Some NoHeader
-lack (wants_vertices zero taken) = None
-lack (wants_vertices (suc left) taken) = Some Short
 lack (fails f) = Some f
 
 -- the coordinates, where all that were asked for came
 abbrev pub filled_in : Progress → Option (List ℤ)
 filled_in wants_first = None
 filled_in (wants_second first) = None
-filled_in (wants zero taken) = Some taken
-filled_in (wants (suc left) taken) = None
+filled_in (wants trailing zero taken) = Some taken
+filled_in (wants trailing (suc left) taken) = None
 filled_in wants_keyword = None
 filled_in wants_vertex_count = None
 filled_in (wants_face_count vertices) = None
 filled_in (wants_edge_count vertices) = None
-filled_in (wants_vertices zero taken) = Some taken
-filled_in (wants_vertices (suc left) taken) = None
 filled_in (fails f) = None
 
 -- the points are all that was asked for

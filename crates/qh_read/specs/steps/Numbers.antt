@@ -1,14 +1,15 @@
 -- Whole numbers that are taken at once.
-use Rattle.std.specs.Prelude.{ℕ, ℤ, ◌≡◌, ◌≤◌, ◌+◌, ◌*◌, ◌++◌, Bool, false, List, [], ◌∷◌, Some, length, suc}
+use Rattle.std.specs.Prelude.{ℕ, ℤ, ◌≡◌, ◌≤◌, ◌+◌, ◌*◌, ◌++◌, Bool, false, List, [], ◌∷◌, Some, length}
 use Rattle.qh_model.specs.headline.Vector.{Vector}
 use Rattle.qh_model.specs.headline.PointFile.{coordinates}
 use Rattle.qh_model.specs.declared.form.Form.{Form}
 use Rattle.qh_model.specs.headline.Limits.{IsCoordinate}
 use Rattle.qh_read.specs.contract.Holding.{Held, held_by}
-use Rattle.qh_read.specs.contract.Progress.{Progress, after}
+use Rattle.qh_read.specs.contract.Progress.{Progress, wants, after}
 use Rattle.qh_read.specs.contract.Tokens.{signed}
 use Rattle.qh_read.specs.steps.Stages.{stage_shown, is_header, HasTextFault}
 use Rattle.qh_read.specs.declared.builder.Stage.{Stage}
+use Rattle.qh_read.specs.declared.builder.Trailing.{Trailing}
 use Rattle.qh_read.specs.declared.builder.Builder.{Builder}
 use Rattle.qh_read.specs.declared.builder.Pending.TheVariants as pendings
 use Rattle.qh_read.specs.declared.token.Token.{Token}
@@ -59,17 +60,12 @@ pub record ArePoint (line : ℕ) (bytes : List ℕ) (x y z : ℤ) (later : ℕ) 
   pub left : length rest + 6 ≤ length bytes
   pub lines : later + length rest ≤ line + length bytes
 
--- progress of which each coordinate in range takes one
-abbrev pub Takes : (ℕ → List ℤ → Progress) → Type 0
-Takes wanted = (left : ℕ) (t : List ℤ) (z : ℤ) (n : ℕ) → IsCoordinate z
-    → after (wanted (suc left) t) false (Some z) n ≡ wanted left (t ++ z ∷ [])
-
 -- between words the bytes tell these points, if all of them are wanted, and then come this line and this rest
 abbrev pub ArePoints : ℕ → List ℕ → List Vector → ℕ → List ℕ → Type 0
 ArePoints line bytes points later rest =
-    (form : Form) (wanted : ℕ → List ℤ → Progress) → Takes wanted → (left : ℕ) (t : List ℤ) (base : ℕ)
-    → held_by (quiet form (wanted (3 * length points + left) t) (base + line) Empty) bytes
-    ≡ held_by (quiet form (wanted left (t ++ coordinates points)) (base + later) Empty) rest
+    (form : Form) (trailing : Trailing) (left : ℕ) (t : List ℤ) (base : ℕ)
+    → held_by (quiet form (wants trailing (3 * length points + left) t) (base + line) Empty) bytes
+    ≡ held_by (quiet form (wants trailing left (t ++ coordinates points)) (base + later) Empty) rest
 
 -- a point begins, its coordinates are to come, and after them this stage
 pub record AwaitsPoint (b : Builder) (next : Stage) : Type 0 where
@@ -85,8 +81,7 @@ pub record AwaitsPoints (b : Builder) (count : ℕ) (next : Stage) : Type 0 wher
   pub begins : b.pending ≡ pendings.Zero
   pub after_header : is_header next ≡ false
   pub text_fault : HasTextFault next
-  pub wanted : ℕ → List ℤ → Progress
-  pub takes : Takes wanted
+  pub trailing : Trailing
   pub left : ℕ
-  pub before : (t : List ℤ) → stage_shown b.stage t ≡ wanted (3 * count + left) t
-  pub comes : (t : List ℤ) → stage_shown next t ≡ wanted left t
+  pub before : (t : List ℤ) → stage_shown b.stage t ≡ wants trailing (3 * count + left) t
+  pub comes : (t : List ℤ) → stage_shown next t ≡ wants trailing left t

@@ -3,7 +3,7 @@ use Rattle.std.specs.Prelude.{ℕ, ℤ, ◌≡◌, Bool, true, false, List, [], 
 use Rattle.qh_model.specs.declared.read_fault.ReadFault.{ReadFault}
 use Rattle.qh_read.specs.contract.ReadFaults.{IsTextFault}
 use Rattle.qh_read.specs.contract.Progress.{Progress, wants_first, wants_second, wants, wants_keyword, wants_vertex_count}
-use Rattle.qh_read.specs.contract.Progress.{wants_face_count, wants_edge_count, wants_vertices, fails}
+use Rattle.qh_read.specs.contract.Progress.{wants_face_count, wants_edge_count, fails}
 use Rattle.qh_read.specs.declared.builder.Stage.{Stage}
 use Rattle.qh_read.specs.declared.builder.Stage.TheVariants as stages
 use Rattle.qh_read.specs.declared.builder.Pending.{Pending}
@@ -13,36 +13,33 @@ use Rattle.qh_read.specs.declared.builder.Pending.TheVariants as pendings
 abbrev pub stage_shown : Stage → List ℤ → Progress
 stage_shown stages.First t = wants_first
 stage_shown (stages.Second first) t = wants_second first
-stage_shown (stages.Coordinates left) t = wants left t
+stage_shown (stages.Coordinates left trailing) t = wants trailing left t
 stage_shown stages.Keyword t = wants_keyword
 stage_shown stages.VertexCount t = wants_vertex_count
 stage_shown (stages.FaceCount vertices) t = wants_face_count vertices
 stage_shown (stages.EdgeCount vertices) t = wants_edge_count vertices
-stage_shown (stages.Vertices left) t = wants_vertices left t
 stage_shown (stages.Failed fault) t = fails fault
 
 -- the header is still to come, or a part of it
 abbrev pub is_header : Stage → Bool
 is_header stages.First = true
 is_header (stages.Second first) = true
-is_header (stages.Coordinates left) = false
+is_header (stages.Coordinates left trailing) = false
 is_header stages.Keyword = true
 is_header stages.VertexCount = true
 is_header (stages.FaceCount vertices) = true
 is_header (stages.EdgeCount vertices) = true
-is_header (stages.Vertices left) = false
 is_header (stages.Failed fault) = false
 
 -- the fault that was found
 abbrev pub stage_fault : Stage → Option ReadFault
 stage_fault stages.First = None
 stage_fault (stages.Second first) = None
-stage_fault (stages.Coordinates left) = None
+stage_fault (stages.Coordinates left trailing) = None
 stage_fault stages.Keyword = None
 stage_fault stages.VertexCount = None
 stage_fault (stages.FaceCount vertices) = None
 stage_fault (stages.EdgeCount vertices) = None
-stage_fault (stages.Vertices left) = None
 stage_fault (stages.Failed fault) = Some fault
 
 -- it is one of the text

@@ -1,27 +1,17 @@
-use Rattle.qh_model.specs.declared.read_fault.ReadFault.TheVariants as faults
 use Rattle.qh_read.proofs.threads.read_form_sizes.Goals as goal
-use Rattle.std.proofs.{Common.◌≡◌, Common.ap, Common.sym, Common.subst, Common.Ok, lemmas.Result.err_from_is_err_and, lemmas.Result.MatchResult-weaker}
+use Rattle.std.proofs.{Common.◌≡◌, Common.◌∙◌, Common.ap, Common.sym, Common.subst, Common.Ok, lemmas.Result.err_from_is_err_and}
 use Rattle.qh_read.specs.{contract.Holding.Reading, contract.Holding.Fed, headline.SourceBytes.GivesAll}
-use Rattle.qh_read.proofs.SourceLemmas.{FedOn-append, Gives-all, Stops-after, Stops-big, Stops-big_first}
+use Rattle.qh_read.proofs.SourceLemmas.{AnswersSource-fed, AnswersSource-stopped, FedOn-append, Gives-all, Stops-after, Stops-equal}
 use Rattle.qh_read.proofs.threads.read_form_sizes.{Given.Over, Goals.then-not-branch+in_ok-feed_batches, Goals.else-not-branch}
 
 -- the batches came after the start
-pub returns-in_err-feed_batches-clause-big : goal.returns-in_err-feed_batches-clause-big
-returns-in_err-feed_batches-clause-big g c big =
+pub returns-in_err-feed_batches : goal.returns-in_err-feed_batches
+returns-in_err-feed_batches g c =
     let p = err_from_is_err_and c.from_residual-in_err-feed_batches.result c.from_residual-in_err-feed_batches.ensures.1 in
-    let f : c.in_err-feed_batches.field-0.0 ≡ faults.Big = cc in
     let start = c.in_ok-feed_from.ensures.fed in
-    Stops-big _ _ _ _ _ _ c.of_form-reader.ensures.count (Stops-after _ _ _ _ _ _ _ _ start.given _ start.took c.in_ok-feed_from.ensures.steady start.count
-    c.in_err-feed_batches.ensures.stops) f
-
-pub returns-in_err-feed_batches-clause-big_first : goal.returns-in_err-feed_batches-clause-big_first
-returns-in_err-feed_batches-clause-big_first g c memory =
-    let p = err_from_is_err_and c.from_residual-in_err-feed_batches.result c.from_residual-in_err-feed_batches.ensures.1 in
-    let f : c.in_err-feed_batches.field-0.0 ≡ faults.Memory = cc in
-    let start = c.in_ok-feed_from.ensures.fed in
-    Stops-big_first _ _ _ _ _ _ c.of_form-reader.ensures.count
-    (Stops-after _ _ _ _ _ _ _ _ start.given _ start.took c.in_ok-feed_from.ensures.steady start.count
-    c.in_err-feed_batches.ensures.stops) f
+    rw p.1 (AnswersSource-stopped c.args.form _ _ _ _ _ _ c.of_form-reader.ensures.count
+    (Stops-equal _ _ _ _ _ _ _ p.2 (Stops-after _ _ _ _ _ _ _ _ start.given _ start.took c.in_ok-feed_from.ensures.steady start.count
+    c.in_err-feed_batches.ensures.stops)))
 
 -- all was fed, at the start or in batches
 all_fed : (g : Over) (c : goal.After-finish g) → GivesAll (g.S.Source.remaining c.args.source.now)
@@ -41,13 +31,13 @@ all_fed g c =
           (c.in_ok-feed_from.ensures.end (ap Ok w.if-not-branch.false), Gives-all form _ _ _ _ c.of_form-reader.ensures c.in_ok-feed_from.ensures.fed))
     ]
 
-pub returns-clause-read : goal.returns-clause-read
-returns-clause-read g c =
-    let all = all_fed g c in
-    MatchResult-weaker c.finish.result c.finish.ensures.read (λ points reads. (all.0, (all.1.0, all.1.1, reads c.args.form all.1.0 all.1.2))) (λ e h. h)
+steady : (g : Over) (c : goal.After-finish g) → g.S.Source.failure_count c.if-not-branch.source ≡ g.S.Source.failure_count c.args.source.now
+steady g c = elim c.if-not-branch.branch [
+  | then-not-branch+in_ok-feed_batches w ↦ ap g.S.Source.failure_count w.source-is ∙ w.in_ok-feed_batches.ensures.steady ∙ c.in_ok-feed_from.ensures.steady
+  | else-not-branch w ↦ ap g.S.Source.failure_count w.source-is ∙ c.in_ok-feed_from.ensures.steady
+]
 
-pub returns-clause-text : goal.returns-clause-text
-returns-clause-text g c =
-    let all = all_fed g c in
-    MatchResult-weaker c.finish.result c.finish.ensures.fault (λ points h. h)
-    (λ e first is_text. (all.0, (all.1.0, all.1.1, first c.args.form all.1.0 all.1.2)))
+pub returns : goal.returns
+returns g c =
+    AnswersSource-fed c.args.form _ _ _ _ _ c.finish.result (all_fed g c) (steady g c)
+    c.finish.ensures.read c.finish.ensures.fault c.finish.ensures.text

@@ -1,36 +1,19 @@
 use Rattle.qh_read.proofs.builder.Builder.after_points.Goals as goal
 use Rattle.std.proofs.Common.{arith, rules, refl, ap, ◌≡◌, ◌∙◌, ◌+◌, ◌-◌, ◌*◌, ℕ}
-use Rattle.qh_read.specs.{contract.Progress.wants, contract.Progress.wants_vertices, declared.builder.Stage.Stage, steps.Stages.stage_shown}
-use Rattle.qh_read.proofs.NumberLaws.{wants-takes, wants_vertices-takes}
+use Rattle.qh_read.specs.{contract.Progress.wants, declared.builder.Stage.Stage, steps.Stages.stage_shown}
 
 pub returns-in-Zero-Coordinates : goal.returns-in-Zero-Coordinates
 returns-in-Zero-Coordinates c =
     let n = c.args.count in
     let left : ℕ = c.in-Zero-Coordinates.left in
+    let trailing = c.in-Zero-Coordinates.trailing in
     let cut : left ≡ 3 * n + (left - 3 * n) = omega arith in
     record {
       begins = search rules;
       after_header = refl;
       text_fault = search rules;
-      wanted = wants;
-      takes = wants-takes;
+      trailing = trailing;
       left = left - 3 * n;
-      before = λ t. ap (λ (s : Stage). stage_shown s t) c.in-Zero-Coordinates.is-1 ∙ ap (λ (k : ℕ). wants k t) cut;
-      comes = λ t. refl;
-    }
-
-pub returns-in-Zero-Vertices : goal.returns-in-Zero-Vertices
-returns-in-Zero-Vertices c =
-    let n = c.args.count in
-    let left : ℕ = c.in-Zero-Vertices.left in
-    let cut : left ≡ 3 * n + (left - 3 * n) = omega arith in
-    record {
-      begins = search rules;
-      after_header = refl;
-      text_fault = search rules;
-      wanted = wants_vertices;
-      takes = wants_vertices-takes;
-      left = left - 3 * n;
-      before = λ t. ap (λ (s : Stage). stage_shown s t) c.in-Zero-Vertices.is-1 ∙ ap (λ (k : ℕ). wants_vertices k t) cut;
+      before = λ t. ap (λ (s : Stage). stage_shown s t) c.in-Zero-Coordinates.is-1 ∙ ap (λ (k : ℕ). wants trailing k t) cut;
       comes = λ t. refl;
     }

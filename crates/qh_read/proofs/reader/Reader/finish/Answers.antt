@@ -4,7 +4,7 @@ use Rattle.std.proofs.lemmas.Result.{MatchResult-weaker}
 use Rattle.qh_model.specs.declared.{form.Form.Form, limits.TheConstants.BYTE_LIMIT}
 use Rattle.qh_read.specs.contract.{Holding.Held, Holding.Reading, Holding.Fed, Holding.ended_held, Progress.started}
 use Rattle.qh_read.specs.steps.Building.{shown, lack, filled_in}
-use Rattle.qh_read.proofs.{FormLaws.reads, FormLaws.found, HoldingLaws.progress-words, Lexing.words_in, ProgressLaws.judged}
+use Rattle.qh_read.proofs.{FaultLaws.found, FormLaws.reads, HoldingLaws.progress-words, Lexing.words_in, ProgressLaws.judged}
 
 -- the builder shows what the words of the bytes fed make of the file
 told : (c : goal.After-finish) (form : Form) (bytes : List ℕ) → Fed form c.args.self bytes

@@ -1,0 +1,30 @@
+-- What a call that reads a whole input answers.
+use Rattle.std.specs.Prelude.{ℕ, ◌≡◌, ◌≢◌, ◌≤◌, ◌<◌, ◌+◌, List, Option, Result, Err, Vec, IfOk, IfErr, length}
+use Rattle.std.specs.declared.alloc.Global.{Global}
+use Rattle.qh_model.specs.declared.form.Form.{Form}
+use Rattle.qh_model.specs.declared.limits.TheConstants.{BYTE_LIMIT}
+use Rattle.qh_model.specs.declared.read_fault.ReadFault.{ReadFault}
+use Rattle.qh_model.specs.declared.read_fault.ReadFault.TheVariants.{Memory, Device, Big}
+use Rattle.qh_model.specs.headline.Forms.{ReadsIn, IsFirstFault}
+use Rattle.qh_model.specs.headline.Vector.{Vector}
+use Rattle.qh_read.specs.contract.ReadFaults.{IsFaultOf, IsTextFault}
+use Rattle.qh_read.specs.declared.whole.TheConstants.{PIECE_LENGTH}
+use Rattle.qh_read.specs.headline.SourceBytes.{Gives, GivesAll}
+
+-- the answer to these bytes in this form is their points or their first fault, and `Big` where they are too many
+pub record AnswersBytes (form : Form) (bytes : List ℕ) (answer : Result (Vec Vector Global) ReadFault) : Type 0 where
+  pub read : IfOk answer (λ points. ReadsIn form bytes points.items)
+  pub fault : IfErr answer (IsFaultOf form bytes)
+  pub big : BYTE_LIMIT < length bytes → answer ≡ Err Big
+  pub no_device : answer ≢ Err Device
+
+-- the answer to the file of this form that a source gives: the points or the first fault of all its bytes, or why reading
+-- stopped; `old` is to come before the call and `new` after it, and one read failed just where `Device` is answered
+pub record AnswersSource (form : Form) (old new : Option (List ℕ)) (failures failures_after : ℕ)
+    (answer : Result (Vec Vector Global) ReadFault) : Type 0 where
+  pub read : IfOk answer (λ points. GivesAll old new (λ bytes. ReadsIn form bytes points.items))
+  pub text : IfErr answer (λ e. IsTextFault e → GivesAll old new (λ bytes. IsFirstFault form bytes e))
+  pub big : answer ≡ Err Big → Gives old new (λ bytes. (BYTE_LIMIT < length bytes) × (length bytes ≤ BYTE_LIMIT + PIECE_LENGTH))
+  pub big_first : answer ≡ Err Memory → Gives old new (λ bytes. length bytes ≤ BYTE_LIMIT)
+  pub device : answer ≡ Err Device → failures_after ≡ failures + 1
+  pub no_device : answer ≢ Err Device → failures_after ≡ failures
