@@ -1,12 +1,15 @@
--- Texts that grow by pieces, and vertex numbers out of a table.
-use Rattle.std.proofs.Common.{◌≡◌, ◌≢◌, ◌∙◌, ℕ, suc, ◌+◌, ◌<◌, List, [], ◌∷◌, ◌++◌, length, arith, ap, sym, refl, subst, inl, inr, ◌⊎◌, set, length-set, get_or}
-use Rattle.std.proofs.Common.{get_or-set_same, get_or-set_other, eqb-true, Bool, zero-add, ap₂, true, false, cond, All, replicate, decimal, slice_index}
-use Rattle.std.proofs.lemmas.{Bool.eqb-false, List.length-replicate, List.Elements.All-from_get_or}
-use Rattle.std.specs.{List.flat_map, List.Sorted.IsStrictlyIncreasing, Prelude.◌==◌}
+-- Texts that grow by pieces, and the numbers of vertices, from a table or by a search.
+use Rattle.std.proofs.Common.{◌≡◌, ◌≢◌, ◌∙◌, ℕ, zero, suc, ◌+◌, ◌-◌, ◌<◌, ◌≤◌, List, [], ◌∷◌, ◌++◌, length, arith, ap, sym, refl, subst, inl, inr, ◌⊎◌}
+use Rattle.std.proofs.Common.{get_or-set_same, get_or-set_other, set, length-set, get_or, eqb-true, Bool, zero-add, ap₂, true, false, cond, All}
+use Rattle.std.proofs.Common.{replicate, decimal, slice_index, Vec, Global, Result, Ok, Err}
+use Rattle.std.proofs.lemmas.{Bool.eqb-false, List.length-replicate, List.Elements.All-from_get_or, List.Sorted.searched}
+use Rattle.std.specs.{List.flat_map, List.Sorted.IsBinarySearchResult, List.Sorted.IsStrictlyIncreasing, Ordering.nat_cmp, Prelude.◌==◌, Prelude.MatchResult}
 use Rattle.qh_model.specs.contract.Bodies.{IsBodyInOrder}
 use Rattle.qh_model.specs.headline.{Sets.In, Sets.Once, Text.line, Text.spaced, Text.vertex_number, Text.face_text}
-use Rattle.qh_model.proofs.Members.{All-In, In-get_or, rising_once}
-use Rattle.qh_write.specs.steps.VertexTables.{numbered, AreNumbered, face_by_table}
+use Rattle.qh_model.proofs.{Cuts.bounds_order, Members.All-In, Members.In-get_or, Members.rising_once, renamed.Positions.at_number}
+use Rattle.qh_model.proofs.renamed.Positions.{number_at}
+use Rattle.qh_write.specs.declared.texts.numbering.VertexNumbers.{VertexNumbers, TheVariants.Table}
+use Rattle.qh_write.specs.steps.Numberings.{numbered, number_in, HasNumber, AreNumbered, face_by_numbers, NumberExtremes}
 
 -- the table keeps its length
 pub length-numbered : (table es : List ℕ) (n : ℕ) → length (numbered table n es) ≡ length table
@@ -48,40 +51,73 @@ vertex_number_at extremes count rising within i h =
     let small : i < count = All-In (λ i. i < count) extremes i within h in
     numbered-at (replicate count 0) extremes 0 i (rising_once extremes rising) h (rw length-replicate small) ∙ zero-add (vertex_number extremes i)
 
--- a face by that table has its vertex numbers
-face_by_numbers : (extremes : List ℕ) (count : ℕ) → IsStrictlyIncreasing extremes → All (λ i. i < count) extremes
-    → (q : List ℕ) → ((i : ℕ) → In i q → In i extremes) → face_by_table (numbered (replicate count 0) 0 extremes) q ≡ face_text extremes q
-face_by_numbers extremes count rising within q named = ap (λ (t : List ℕ). line (decimal (length q) ++ t)) (pieces q named)
+-- the table gives each extreme id its number
+pub table_numbers : (extremes : List ℕ) (count : ℕ) (table : Vec ℕ Global) → IsStrictlyIncreasing extremes → All (λ i. i < count) extremes
+    → table.items ≡ numbered (replicate count 0) 0 extremes → NumberExtremes extremes (Table table)
+table_numbers extremes count table rising within is =
+    let long : length table.items ≡ count = ap length is ∙ length-numbered (replicate count 0) extremes 0 ∙ length-replicate count 0 in
+    record {
+      has = λ i h. let small : i < count = All-In (λ i. i < count) extremes i within h in omega (arith, small, long);
+      is = λ i h. ap (λ (t : List ℕ). slice_index t i) is ∙ vertex_number_at extremes count rising within i h;
+    }
+
+-- an id of a rising list stands in it no later than it is high
+pub position_below : (ids : List ℕ) → IsStrictlyIncreasing ids → (k : ℕ) → k < length ids → k ≤ get_or ids k 0
+position_below ids rising zero h = omega arith
+position_below ids rising (suc k) h =
+    let before : k ≤ get_or ids k 0 = position_below ids rising k (omega (arith, h)) in
+    let more : get_or ids k 0 < get_or ids (suc k) 0 = subst (λ n. get_or ids k 0 < get_or ids n 0) (omega arith) (rising k (omega (arith, h))) in
+    omega (arith, before, more)
+
+-- a search of a rising list finds the number of an id that it has
+pub number_found : (ids : List ℕ) (i : ℕ) (found : Result ℕ ℕ) → IsStrictlyIncreasing ids → In i ids
+    → IsBinarySearchResult (λ y. nat_cmp y i) ids found → MatchResult found (λ k. k ≡ vertex_number ids i) (λ _. ⊥)
+number_found ids i found rising has result = by_case found (searched ids i found result up)
+  where
+    up : (j k : ℕ) → j ≤ k → k < length ids → get_or ids j 0 ≤ get_or ids k 0
+    up j k le lt = bounds_order (λ n. get_or ids n 0) (length ids - 1) j k (λ n m. rising n (omega (arith, m))) le (omega (arith, lt))
+
+    by_case : (r : Result ℕ ℕ)
+        → MatchResult r (λ k. (k < length ids) × (get_or ids k 0 ≡ i)) (λ k. (k ≤ length ids) × ((n : ℕ) → n < k → get_or ids n 0 < i)
+        × ((n : ℕ) → k ≤ n → n < length ids → i < get_or ids n 0))
+        → MatchResult r (λ k. k ≡ vertex_number ids i) (λ _. ⊥)
+    by_case (Ok k) s = sym (subst (λ n. vertex_number ids n ≡ k) s.1 (number_at ids k (rising_once ids rising) s.0))
+    by_case (Err k) s =
+        let n = vertex_number ids i in
+        let at = at_number ids i has in
+        let before : n < k → get_or ids n 0 < i = s.1 n in
+        let after : k ≤ n → n < length ids → i < get_or ids n 0 = s.2 n in
+        grind (arith, at.0, at.1, before, after)
+
+-- a face by the numbers of the extreme ids has its vertex numbers
+face_numbered : (extremes : List ℕ) (numbers : VertexNumbers) → NumberExtremes extremes numbers
+    → (q : List ℕ) → ((i : ℕ) → In i q → In i extremes) → face_by_numbers numbers q ≡ face_text extremes q
+face_numbered extremes numbers right q named = ap (λ (t : List ℕ). line (decimal (length q) ++ t)) (pieces q named)
   where
     pieces : (q : List ℕ) → ((i : ℕ) → In i q → In i extremes)
-        → flat_map (λ i. spaced (slice_index (numbered (replicate count 0) 0 extremes) i)) q ≡ flat_map (λ i. spaced (vertex_number extremes i)) q
+        → flat_map (λ i. spaced (number_in numbers i)) q ≡ flat_map (λ i. spaced (vertex_number extremes i)) q
     pieces [] named = refl
     pieces (i ∷ q) named =
-        ap₂ (λ (a b : List ℕ). a ++ b) (ap spaced (vertex_number_at extremes count rising within i (named i (inl refl)))) (pieces q (λ j h. named j (inr h)))
+        ap₂ (λ (a b : List ℕ). a ++ b) (ap spaced (right.is i (named i (inl refl)))) (pieces q (λ j h. named j (inr h)))
 
--- all faces by that table have their vertex numbers
-faces_by_numbers : (extremes : List ℕ) (count : ℕ) → IsStrictlyIncreasing extremes → All (λ i. i < count) extremes
+-- all faces by these numbers have their vertex numbers
+all_numbered : (extremes : List ℕ) (numbers : VertexNumbers) → NumberExtremes extremes numbers
     → (qs : List (List ℕ)) → ((q : List ℕ) → In q qs → (i : ℕ) → In i q → In i extremes)
-    → flat_map (face_by_table (numbered (replicate count 0) 0 extremes)) qs ≡ flat_map (face_text extremes) qs
-faces_by_numbers extremes count rising within [] named = refl
-faces_by_numbers extremes count rising within (q ∷ qs) named =
-    ap₂ (λ (a b : List ℕ). a ++ b) (face_by_numbers extremes count rising within q (named q (inl refl)))
-    (faces_by_numbers extremes count rising within qs (λ p h. named p (inr h)))
+    → flat_map (face_by_numbers numbers) qs ≡ flat_map (face_text extremes) qs
+all_numbered extremes numbers right [] named = refl
+all_numbered extremes numbers right (q ∷ qs) named =
+    ap₂ (λ (a b : List ℕ). a ++ b) (face_numbered extremes numbers right q (named q (inl refl)))
+    (all_numbered extremes numbers right qs (λ p h. named p (inr h)))
 
--- a text that grew by the faces by that table grew by the faces
-pub grown_by_faces : (extremes : List ℕ) (count : ℕ) (qs : List (List ℕ)) (table old new : List ℕ) → All (λ i. i < count) extremes → IsBodyInOrder extremes qs
-    → table ≡ numbered (replicate count 0) 0 extremes → new ≡ old ++ flat_map (face_by_table table) qs → new ≡ old ++ flat_map (face_text extremes) qs
-grown_by_faces extremes count qs table old new within order is e =
-    e ∙ ap (λ (t : List ℕ). old ++ t) (ap (λ (t : List ℕ). flat_map (face_by_table t) qs) is
-    ∙ faces_by_numbers extremes count order.rising within qs order.named)
+-- a text that grew by the faces by these numbers grew by the faces
+pub grown_by_faces : (extremes : List ℕ) (numbers : VertexNumbers) (qs : List (List ℕ)) (old new : List ℕ) → NumberExtremes extremes numbers
+    → IsBodyInOrder extremes qs → new ≡ old ++ flat_map (face_by_numbers numbers) qs → new ≡ old ++ flat_map (face_text extremes) qs
+grown_by_faces extremes numbers qs old new right order e = e ∙ ap (λ (t : List ℕ). old ++ t) (all_numbered extremes numbers right qs order.named)
 
--- the table has a place for each vertex of each face
-pub faces_numbered : (extremes : List ℕ) (count : ℕ) (qs : List (List ℕ)) (table : List ℕ) → All (λ i. i < count) extremes → IsBodyInOrder extremes qs
-    → table ≡ numbered (replicate count 0) 0 extremes → All (AreNumbered table) qs
-faces_numbered extremes count qs table within order is =
-    let long : length table ≡ count = ap length is ∙ length-numbered (replicate count 0) extremes 0 ∙ length-replicate count 0 in
-    All-from_get_or (AreNumbered table) qs [] (λ k h. All-from_get_or (λ i. i < length table) (get_or qs k []) 0
-    (λ j l. let small : get_or (get_or qs k []) j 0 < count =
-    All-In (λ i. i < count) extremes _ within (order.named (get_or qs k []) (In-get_or qs k [] h) (get_or (get_or qs k []) j 0)
-    (In-get_or (get_or qs k []) j 0 l)) in
-    omega (arith, small, long)))
+-- each vertex of each face gets a number
+pub faces_numbered : (extremes : List ℕ) (numbers : VertexNumbers) (qs : List (List ℕ)) → NumberExtremes extremes numbers → IsBodyInOrder extremes qs
+    → All (AreNumbered numbers) qs
+faces_numbered extremes numbers qs right order =
+    All-from_get_or (AreNumbered numbers) qs [] (λ k h. All-from_get_or (HasNumber numbers) (get_or qs k []) 0
+    (λ j l. right.has (get_or (get_or qs k []) j 0) (order.named (get_or qs k []) (In-get_or qs k [] h) (get_or (get_or qs k []) j 0)
+    (In-get_or (get_or qs k []) j 0 l))))

@@ -1,5 +1,5 @@
 -- What private functions speak of: nothing to believe.
-pub mod VertexTables
+pub mod Numberings
 pub mod EdgeKeys
 pub mod Forms
 pub mod Parts

@@ -5,11 +5,12 @@ ghost use Rattle.qh_model.specs.headline.Fan.{triangles_along, fan, fans, edge_c
 ghost use Rattle.qh_model.specs.headline.Text.{line, spaced, off_text, in_triangles};
 ghost use Rattle.qh_model.specs.contract.IdSets.{AreIndices};
 ghost use Rattle.qh_write.specs.contract.Pieces.{bytes_in};
-ghost use Rattle.qh_write.specs.steps.VertexTables.{AreNumbered, face_by_table};
+ghost use Rattle.qh_write.specs.steps.Numberings.{HasNumber, AreNumbered, face_by_numbers};
 
 use super::edges::fan_edges;
 use super::forms::Form;
 use super::lines::{push_line_end, push_number, push_spaced};
+use super::numbering::VertexNumbers;
 use super::off::{push_face, push_numbered};
 use super::scribes::Scribe;
 use crate::pieces::Pieces;
@@ -19,15 +20,15 @@ use std::alloc::{AllocError, Global};
 /// Appends the triangles of a first id and each two neighbours along a list.
 fn push_triangles(
     text: &mut Vec<u8>,
-    numbers: &[usize],
+    numbers: &VertexNumbers,
     first: Id,
     second: Id,
     along: &[Id],
 ) -> Result<(), AllocError>
-    requires first { first < length numbers.now }
-    requires second { second < length numbers.now }
+    requires first { HasNumber numbers.now first }
+    requires second { HasNumber numbers.now second }
     requires along { AreNumbered numbers.now along.now }
-    ensures { OnOk result (text.new.items ≡ text.old.items ++ flat_map (face_by_table numbers.now) (triangles_along first second along.now)) }
+    ensures { OnOk result (text.new.items ≡ text.old.items ++ flat_map (face_by_numbers numbers.now) (triangles_along first second along.now)) }
 {
     let mut last = second;
     for id in along {
@@ -38,9 +39,9 @@ fn push_triangles(
 }
 
 /// Appends a face as a fan of triangles.
-fn push_fan(text: &mut Vec<u8>, numbers: &[usize], face: &[Id]) -> Result<(), AllocError>
+fn push_fan(text: &mut Vec<u8>, numbers: &VertexNumbers, face: &[Id]) -> Result<(), AllocError>
     requires { AreNumbered numbers.now face.now }
-    ensures { OnOk result (text.new.items ≡ text.old.items ++ flat_map (face_by_table numbers.now) (fan face.now)) }
+    ensures { OnOk result (text.new.items ≡ text.old.items ++ flat_map (face_by_numbers numbers.now) (fan face.now)) }
 {
     match face {
         [first, second, rest @ ..] if !rest.is_empty() => {
@@ -51,9 +52,13 @@ fn push_fan(text: &mut Vec<u8>, numbers: &[usize], face: &[Id]) -> Result<(), Al
 }
 
 /// Appends faces as fans of triangles.
-pub fn push_fans(text: &mut Vec<u8>, numbers: &[usize], faces: &[Polygon]) -> Result<(), AllocError>
+pub fn push_fans(
+    text: &mut Vec<u8>,
+    numbers: &VertexNumbers,
+    faces: &[Polygon],
+) -> Result<(), AllocError>
     requires { All (AreNumbered numbers.now) faces.now }
-    ensures { OnOk result (text.new.items ≡ text.old.items ++ flat_map (face_by_table numbers.now) (fans faces.now)) }
+    ensures { OnOk result (text.new.items ≡ text.old.items ++ flat_map (face_by_numbers numbers.now) (fans faces.now)) }
 {
     for face in faces {
         push_fan(text, numbers, face.ids())?;

@@ -2,9 +2,10 @@
 ghost use Rattle.std.specs.Prelude.{◌≡◌, ◌++◌, OnOk, All};
 ghost use Rattle.std.specs.List.{flat_map};
 ghost use Rattle.qh_write.specs.steps.Forms.{shown};
-ghost use Rattle.qh_write.specs.steps.VertexTables.{AreNumbered, face_by_table};
+ghost use Rattle.qh_write.specs.steps.Numberings.{AreNumbered, face_by_numbers};
 
 use super::fans::push_fans;
+use super::numbering::VertexNumbers;
 use super::off::push_faces;
 use super::room::{faces_room, fans_room};
 use qh_model::Polygon;
@@ -20,15 +21,15 @@ pub enum Form {
 }
 
 impl Form {
-    /// Appends faces in this form, each vertex by its number in a table.
+    /// Appends faces in this form, each vertex by its number.
     pub fn push(
         self,
         text: &mut Vec<u8>,
-        numbers: &[usize],
+        numbers: &VertexNumbers,
         faces: &[Polygon],
     ) -> Result<(), AllocError>
         requires { All (AreNumbered numbers.now) faces.now }
-        ensures { OnOk result (text.new.items ≡ text.old.items ++ flat_map (face_by_table numbers.now) (shown self faces.now)) }
+        ensures { OnOk result (text.new.items ≡ text.old.items ++ flat_map (face_by_numbers numbers.now) (shown self faces.now)) }
     {
         match self {
             Form::Whole => push_faces(text, numbers, faces),

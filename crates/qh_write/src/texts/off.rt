@@ -5,13 +5,13 @@ ghost use Rattle.qh_model.specs.headline.Text.{line, spaced, extremes_text, vert
 ghost use Rattle.qh_model.specs.contract.Bodies.{IsBodyInOrder};
 ghost use Rattle.qh_model.specs.headline.Predicates.{place};
 ghost use Rattle.qh_write.specs.steps.Forms.{shown};
-ghost use Rattle.qh_write.specs.steps.VertexTables.{AreNumbered, face_by_table};
+ghost use Rattle.qh_write.specs.steps.Numberings.{AreNumbered, face_by_numbers, number_in};
 ghost use Rattle.qh_model.specs.contract.IdSets.{AreIndices};
 ghost use Rattle.qh_write.specs.contract.Pieces.{bytes_in};
 
 use super::forms::Form;
 use super::lines::{push_line_end, push_number, push_signed, push_spaced};
-use super::numbering::vertex_numbers;
+use super::numbering::{VertexNumbers, vertex_numbers};
 use super::scribes::Scribe;
 use crate::pieces::Pieces;
 use qh_model::{Body, Id, Point, Polygon};
@@ -66,20 +66,24 @@ pub fn push_vertices(text: &mut Vec<u8>, pts: &[Point], ids: &[Id]) -> Result<()
     Ok(())
 }
 
-fn push_vertex_numbers(text: &mut Vec<u8>, numbers: &[usize], face: &[Id]) -> Result<(), AllocError>
+fn push_vertex_numbers(
+    text: &mut Vec<u8>,
+    numbers: &VertexNumbers,
+    face: &[Id],
+) -> Result<(), AllocError>
     requires { AreNumbered numbers.now face.now }
-    ensures { OnOk result (text.new.items ≡ text.old.items ++ flat_map (λ i. spaced (slice_index numbers.now i)) face.now) }
+    ensures { OnOk result (text.new.items ≡ text.old.items ++ flat_map (λ i. spaced (number_in numbers.now i)) face.now) }
 {
     for id in face {
-        push_spaced(text, numbers[id.index()] as u64)?;
+        push_spaced(text, numbers.number(*id))?;
     }
     Ok(())
 }
 
 /// Appends a face, each vertex by its number.
-pub fn push_face(text: &mut Vec<u8>, numbers: &[usize], face: &[Id]) -> Result<(), AllocError>
+pub fn push_face(text: &mut Vec<u8>, numbers: &VertexNumbers, face: &[Id]) -> Result<(), AllocError>
     requires { AreNumbered numbers.now face.now }
-    ensures { OnOk result (text.new.items ≡ text.old.items ++ face_by_table numbers.now face.now) }
+    ensures { OnOk result (text.new.items ≡ text.old.items ++ face_by_numbers numbers.now face.now) }
 {
     push_number(text, face.len() as u64)?;
     push_vertex_numbers(text, numbers, face)?;
@@ -89,11 +93,11 @@ pub fn push_face(text: &mut Vec<u8>, numbers: &[usize], face: &[Id]) -> Result<(
 /// Appends faces, each vertex by its number.
 pub fn push_faces(
     text: &mut Vec<u8>,
-    numbers: &[usize],
+    numbers: &VertexNumbers,
     faces: &[Polygon],
 ) -> Result<(), AllocError>
     requires { All (AreNumbered numbers.now) faces.now }
-    ensures { OnOk result (text.new.items ≡ text.old.items ++ flat_map (face_by_table numbers.now) faces.now) }
+    ensures { OnOk result (text.new.items ≡ text.old.items ++ flat_map (face_by_numbers numbers.now) faces.now) }
 {
     for face in faces {
         push_face(text, numbers, face.ids())?;

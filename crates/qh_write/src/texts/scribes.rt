@@ -6,9 +6,10 @@ ghost use Rattle.qh_model.specs.headline.Predicates.{place};
 ghost use Rattle.qh_model.specs.headline.Text.{vertex_text};
 ghost use Rattle.qh_write.specs.contract.Pieces.{bytes_in};
 ghost use Rattle.qh_write.specs.steps.Forms.{shown};
-ghost use Rattle.qh_write.specs.steps.VertexTables.{AreNumbered, face_by_table};
+ghost use Rattle.qh_write.specs.steps.Numberings.{AreNumbered, face_by_numbers};
 
 use super::forms::Form;
+use super::numbering::VertexNumbers;
 use super::off::push_vertices;
 use super::room::{room_for, vertices_room};
 use crate::pieces::Pieces;
@@ -39,18 +40,18 @@ pub trait Scribe {
         requires within { All (λ i. i < length pts.now) ids.now }
         ensures { OnOk result (bytes_in text.new ≡ bytes_in text.old ++ flat_map (λ i. vertex_text (place pts.now i)) ids.now) };
 
-    /// Appends the faces in a form, each vertex by its number in a table.
+    /// Appends the faces in a form, each vertex by its number.
     fn push_faces(
         &self,
         text: &mut Pieces,
         alloc: Global,
         form: Form,
-        numbers: &[usize],
+        numbers: &VertexNumbers,
         faces: &[Polygon],
     ) -> Result<(), AllocError>
         requires ready { ready self.now }
         requires numbered { All (AreNumbered numbers.now) faces.now }
-        ensures { OnOk result (bytes_in text.new ≡ bytes_in text.old ++ flat_map (face_by_table numbers.now) (shown form faces.now)) };
+        ensures { OnOk result (bytes_in text.new ≡ bytes_in text.old ++ flat_map (face_by_numbers numbers.now) (shown form faces.now)) };
 }
 
 /// Returns the part of a list with a number, where it is cut into parts of one size; the last may be
@@ -74,15 +75,15 @@ fn vertices_text(alloc: Global, pts: &[Point], ids: &[Id]) -> Result<Vec<u8>, Al
     Ok(text)
 }
 
-/// Returns the lines of faces in a form, each vertex by its number in a table.
+/// Returns the lines of faces in a form, each vertex by its number.
 fn faces_text(
     alloc: Global,
     form: Form,
-    numbers: &[usize],
+    numbers: &VertexNumbers,
     faces: &[Polygon],
 ) -> Result<Vec<u8>, AllocError>
     requires { All (AreNumbered numbers.now) faces.now }
-    ensures { IfOk result (λ t. t.items ≡ flat_map (face_by_table numbers.now) (shown form faces.now)) }
+    ensures { IfOk result (λ t. t.items ≡ flat_map (face_by_numbers numbers.now) (shown form faces.now)) }
 {
     let mut text = Vec::with_capacity(alloc, form.room(faces))?;
     form.push(&mut text, numbers, faces)?;
@@ -115,7 +116,7 @@ impl Scribe for Alone {
         text: &mut Pieces,
         _alloc: Global,
         form: Form,
-        numbers: &[usize],
+        numbers: &VertexNumbers,
         faces: &[Polygon],
     ) -> Result<(), AllocError> {
         form.push(&mut text.last, numbers, faces)
@@ -167,11 +168,11 @@ fn push_faces_in_threads<R: Threads + Sync>(
     text: &mut Pieces,
     alloc: Global,
     form: Form,
-    numbers: &[usize],
+    numbers: &VertexNumbers,
     faces: &[Polygon],
 ) -> Result<(), AllocError>
     requires { All (AreNumbered numbers.now) faces.now }
-    ensures { OnOk result (bytes_in text.new ≡ bytes_in text.old ++ flat_map (face_by_table numbers.now) (shown form faces.now)) }
+    ensures { OnOk result (bytes_in text.new ≡ bytes_in text.old ++ flat_map (face_by_numbers numbers.now) (shown form faces.now)) }
 {
     let threads = scribe.threads.max(1);
     let size = faces.len() / threads + 1;
@@ -181,7 +182,8 @@ fn push_faces_in_threads<R: Threads + Sync>(
         threads,
         &move |number: usize| -> Result<Vec<u8>, AllocError>
             requires { All (AreNumbered numbers.now) faces.now }
-            ensures { IfOk result (λ t. t.items ≡ flat_map (face_by_table numbers.entry.now) (shown form (take size (drop (number * size) faces.entry.now)))) }
+            ensures { IfOk result (λ t. t.items ≡ flat_map (face_by_numbers numbers.entry.now)
+                (shown form (take size (drop (number * size) faces.entry.now)))) }
         { faces_text(alloc, form, numbers, part_of(faces, size, number)) },
     )?;
     text.append_parts(alloc, parts)
@@ -218,7 +220,7 @@ impl<R: Threads + Sync> Scribe for InThreads<'_, R> {
         text: &mut Pieces,
         alloc: Global,
         form: Form,
-        numbers: &[usize],
+        numbers: &VertexNumbers,
         faces: &[Polygon],
     ) -> Result<(), AllocError> {
         if self.share(faces.len()) {

@@ -1,8 +1,8 @@
 use Rattle.std.proofs.Common.{◌≡◌, ◌++◌, take}
 use Rattle.std.specs.List.{flat_map}
 use Rattle.qh_model.specs.headline.Fan.{fans}
-use Rattle.qh_write.specs.steps.VertexTables.{face_by_table}
+use Rattle.qh_write.specs.steps.Numberings.{face_by_numbers}
 use Rattle.qh_write.proofs.texts.fans.push_fans.Given as goal
 
 abbrev pub invariant-loop-face : goal.invariant-loop-face
-invariant-loop-face l = l.text.items ≡ l.initial.text.items ++ flat_map (face_by_table l.numbers) (fans (take l.face-index l.faces))
+invariant-loop-face l = l.text.items ≡ l.initial.text.items ++ flat_map (face_by_numbers l.numbers) (fans (take l.face-index l.faces))

@@ -1,7 +1,7 @@
 use Rattle.std.proofs.Common.{◌≡◌, ◌++◌, take}
 use Rattle.std.specs.List.{flat_map}
-use Rattle.qh_write.specs.steps.VertexTables.{face_by_table}
+use Rattle.qh_write.specs.steps.Numberings.{face_by_numbers}
 use Rattle.qh_write.proofs.texts.off.push_faces.Given as goal
 
 abbrev pub invariant-loop-face : goal.invariant-loop-face
-invariant-loop-face l = l.text.items ≡ l.initial.text.items ++ flat_map (face_by_table l.numbers) (take l.face-index l.faces)
+invariant-loop-face l = l.text.items ≡ l.initial.text.items ++ flat_map (face_by_numbers l.numbers) (take l.face-index l.faces)

@@ -1,14 +1,14 @@
 -- The parts of the faces in a row are all faces.
 use Rattle.qh_write.proofs.texts.scribes.push_faces_in_threads.Goals as goal
-use Rattle.std.proofs.Common.{rules, ◌≡◌, ◌<◌, ◌≤◌, ◌*◌, ◌/◌, ◌+◌, ◌∙◌, ℕ, List, [], length, take, drop, get_or, Result, Vec, Global, arith, ap}
+use Rattle.std.proofs.Common.{rules, ◌≡◌, ◌<◌, ◌≤◌, ◌*◌, ◌/◌, ◌+◌, ◌∙◌, ℕ, List, length, take, drop, get_or, Result, Vec, Global, arith, ap}
 use Rattle.std.proofs.lemmas.{Grind.flat_map-append, Result.on_ok_weaker}
 use Rattle.std.specs.{List.flat_map, Prelude.IfOk, declared.alloc.AllocError.AllocError}
-use Rattle.qh_write.specs.steps.{Forms.shown, VertexTables.face_by_table}
+use Rattle.qh_write.specs.steps.{Forms.shown, Numberings.face_by_numbers}
 use Rattle.qh_write.proofs.{FormLemmas.shown_append, FormLemmas.shown_none, PartLemmas.parts_of_list}
 
 pub returns : goal.returns
 returns g c =
-    let faces = c.args.faces.now in let form = c.args.form in let line_of = face_by_table c.args.numbers.now in
+    let faces = c.args.faces.now in let form = c.args.form in let line_of = face_by_numbers c.args.numbers.now in
     let lines : List (List ℕ) → List ℕ = λ qs. flat_map line_of (shown form qs) in
     let size = length faces / c.max-threads.result + 1 in let parts = c.in_ok-parts.parts in
     let len : length parts.items ≡ c.max-threads.result = omega (arith, c.in_ok-parts.ensures.len) in

@@ -1,6 +1,6 @@
 use Rattle.std.proofs.Common.{◌≡◌, length, drop}
-use Rattle.qh_write.specs.steps.VertexTables.{numbered}
-use Rattle.qh_write.proofs.texts.numbering.vertex_numbers.Given as goal
+use Rattle.qh_write.specs.steps.Numberings.{numbered}
+use Rattle.qh_write.proofs.texts.numbering.number_table.Given as goal
 
 abbrev pub invariant-loop-number : goal.invariant-loop-number
 invariant-loop-number l =
