@@ -47,7 +47,7 @@ impl<'a> Round<'a> {
 pub struct Border {
     /// The edges of faces that go, sorted.
     edges: Vec<u64>,
-    /// Whether no face stays.
+    /// True if no face stays.
     is_empty: bool,
 }
 

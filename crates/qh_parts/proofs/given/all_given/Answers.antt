@@ -30,7 +30,8 @@ loop-answer-preserved c =
           | inr o ↦ own.0 ids kept d inside keeps q o
         ],
         λ ids d inside. rw c.in_ok-append.ensures.items
-            (closed_of_both c.loop-answer.faces c.loop-answer.gone.items part.faces part.gone.items _ c.in_ok-faces.ensures (c.loop-answer.invariant.0.1 ids d inside) (own.1 ids d inside)),
+            (closed_of_both c.loop-answer.faces c.loop-answer.gone.items part.faces part.gone.items _ c.in_ok-faces.ensures
+            (c.loop-answer.invariant.0.1 ids d inside) (own.1 ids d inside)),
       ),
       of_front (λ r. IfOk r (λ found. IfSome found (IsContribution pts shared parts))) _ _ all,
     )
