@@ -25,7 +25,7 @@ pub struct Outline {
 }
 
 /// A block of an outline.
-#[derive(Clone, Copy, Debug, Drop)]
+#[derive(Clone, Copy, Drop)]
 pub(crate) struct Cursor {
     level: usize,
     index: usize,

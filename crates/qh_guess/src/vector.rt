@@ -4,7 +4,7 @@ use qh_pred::Normal;
 use std::num::nearest_i64_to_f64;
 
 /// Three floating-point components.
-#[derive(Clone, Copy, Debug, Drop)]
+#[derive(Clone, Copy, Drop)]
 pub(crate) struct Vector {
     pub x: f64,
     pub y: f64,

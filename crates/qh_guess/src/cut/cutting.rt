@@ -7,7 +7,7 @@ use qh_model::Point;
 use std::alloc::{AllocError, Global};
 
 /// What is known of a facet.
-#[derive(Clone, Copy, Debug, PartialEq, Eq, Drop)]
+#[derive(Clone, Copy, PartialEq, Eq, Drop)]
 pub(crate) enum State {
     /// Nothing yet: it stays, if nothing more is found.
     Unasked,
