@@ -24,6 +24,7 @@ ghost use Rattle.qh_block.specs.contract.MarkedFaces.{AreFacesOfMarked};
 ghost use Rattle.qh_block.specs.steps.Faces.{corners_of, from_least, IsListedCorner, IsNewPlane, IsNewFace, AreFacetFaces};
 
 use crate::plane_walk::IsLevel;
+use crate::unsorted_faces::UnsortedFaces;
 use qh_mesh::FacetNo;
 use qh_model::{Id, Memory, Point, Polygon};
 use qh_plane::polygon;
@@ -180,7 +181,7 @@ pub(crate) fn faces(
 #[derive(Drop)]
 pub struct PartedFaces {
     /// The faces of chosen facets.
-    pub chosen: Vec<Polygon>,
+    pub chosen: UnsortedFaces,
     /// The other faces.
     pub others: Vec<Polygon>,
 }
@@ -203,16 +204,16 @@ pub fn parted_faces(
     ensures each { let fs = named surface.now in let t = facet_at fs in
         IfOk result (λ v. (ids : List ℕ) → IsIdSet pts.now ids → IsFinished (place pts.now) ids (surface_of fs)
         → (f : ℕ) → IsLive fs f
-        → (q : List ℕ) × In q (v.chosen.items ++ v.others.items) × IsFacePolygon (place pts.now) (Members ids) (t f).i (t f).j (t f).k q) }
+        → (q : List ℕ) × In q (v.chosen ++ v.others.items) × IsFacePolygon (place pts.now) (Members ids) (t f).i (t f).j (t f).k q) }
     ensures chosen { let fs = named surface.now in
         IfOk result (λ v. (ids : List ℕ) → IsIdSet pts.now ids → IsFinished (place pts.now) ids (surface_of fs)
-        → AreFacesOfMarked (place pts.now) (Members ids) fs chosen.now true v.chosen.items) }
+        → AreFacesOfMarked (place pts.now) (Members ids) fs chosen.now true v.chosen) }
     ensures others { let fs = named surface.now in
         IfOk result (λ v. (ids : List ℕ) → IsIdSet pts.now ids → IsFinished (place pts.now) ids (surface_of fs)
         → AreFacesOfMarked (place pts.now) (Members ids) fs chosen.now false v.others.items) }
     ensures closed { let fs = named surface.now in
         IfOk result (λ v. (ids : List ℕ) → IsIdSet pts.now ids → IsFinished (place pts.now) ids (surface_of fs)
-        → AreClosed (v.chosen.items ++ v.others.items)) }
+        → AreClosed (v.chosen ++ v.others.items)) }
 {
     let mut places = no_marks(alloc, surface.mesh.places())?;
     let marks = places.as_mut_slice();
@@ -220,7 +221,7 @@ pub fn parted_faces(
         facets: Vec::new(alloc),
         corners: Vec::new(alloc),
     };
-    let mut own = Vec::new(alloc);
+    let mut own = UnsortedFaces::none(alloc);
     let mut others = Vec::new(alloc);
     for f in surface.mesh.live() {
         if !marks[f.index()] {

@@ -73,9 +73,9 @@ fn given_by(
     let Some(faces) = staying_faces(alloc, set, number, guess)? else {
         return Ok(None);
     };
-    let border = border_of(alloc, &faces.chosen, &faces.others)?;
+    let border = border_of(alloc, &marks.stay, &faces.others)?;
     Ok(Some(Contribution {
-        faces: UnsortedFaces::of(alloc, faces.chosen)?,
+        faces: faces.chosen.as_run(),
         gone: faces.others,
         border,
         seam: marks.seam,

@@ -94,8 +94,8 @@ pub fn staying_faces<'a>(
     requires parts { All (IsPartOf set.pts.now set.shared.now) set.parts.now }
     ensures stay { IfOk result (λ found. IfSome found (λ v. (ids kept : List ℕ) → HasDistinctPoints (place set.entry.pts.now) (Members ids)
         → ((l : ℕ) → In l (flat_map ids_in set.entry.parts.now) → In l ids) → KeepsCorners set.entry.parts.now set.entry.shared.now kept
-        → (q : List ℕ) → In q v.chosen.items → IsPartFace (place set.entry.pts.now) ids kept q)) }
-    ensures closed { IfOk result (λ found. IfSome found (λ v. CloseUp set.entry.pts.now set.entry.parts.now v.chosen.items v.others.items)) }
+        → (q : List ℕ) → In q v.chosen → IsPartFace (place set.entry.pts.now) ids kept q)) }
+    ensures closed { IfOk result (λ found. IfSome found (λ v. CloseUp set.entry.pts.now set.entry.parts.now v.chosen v.others.items)) }
 {
     let stays = stays(alloc, set, number, guess)?;
     if !stays {

@@ -2,8 +2,7 @@
 use Rattle.std.proofs.Common.{◌≡◌, inl, inr, ℕ, ◌<◌, ◌≤◌, List, [], ◌∷◌, ◌++◌, IsPermutation, length, refl, subst, sym}
 use Rattle.std.specs.Prelude.{Bool, true, false}
 use Rattle.std.proofs.lemmas.List.{append_assoc}
-use Rattle.std.proofs.lemmas.List.Sorted.{IsPermutation-append_left, IsPermutation-append_right, IsPermutation-refl}
-use Rattle.std.proofs.lemmas.List.Sorted.{IsPermutation-to_front, IsPermutation-trans}
+use Rattle.std.proofs.lemmas.List.Sorted.{IsPermutation-append_left, IsPermutation-refl, IsPermutation-sym, IsPermutation-trans}
 use Rattle.qh_model.specs.headline.{Vector.Vector, Predicates.place, Sets.In, Sets.Members}
 use Rattle.qh_model.specs.contract.{ClosedPolygons.AreClosed, IdSets.IsIdSet}
 use Rattle.qh_model.specs.contract.{FinishedSurface.IsFinished, StoredSurface.StoredFacet, StoredSurface.surface_of}
@@ -13,7 +12,7 @@ use Rattle.qh_surface.specs.contract.Walks.{mark_at}
 use Rattle.qh_surface.proofs.LiveFacets.{live_below}
 use Rattle.qh_block.specs.contract.MarkedFaces.{AreFacesOfMarked}
 use Rattle.qh_block.specs.steps.{Faces.AreFacetFaces, Faces.IsFacetPolygon, Faces.IsNewPlane, Faces.IsNewFace}
-use Rattle.qh_block.proofs.finished.{ClosedFaces.facet_faces_close, FaceLists.new_plane, StepCounts.closed_permuted}
+use Rattle.qh_block.proofs.finished.{ClosedFaces.facet_faces_close, FaceLists.new_plane, MergedFaces.behind_first, StepCounts.closed_permuted}
 use Rattle.qh_block.proofs.finished.Gathering.{IsGathering, gathering_starts, gathering_goes, gathering_ends}
 
 -- the polygons are faces of facets with this mark, if the mesh is finished
@@ -69,13 +68,13 @@ module _ (pts : List Vector) (fs : List StoredFacet) (chosen marks : List Bool) 
       | inr (inr n) ↦ absurd n
     ]
 
-    pub to_own : mark_at chosen f ≡ true → IsParting pts fs chosen left after (own ++ q ∷ []) others
-    to_own e = record {
+    pub to_own : mark_at chosen f ≡ true → (own' : List (List ℕ)) → IsPermutation (own ++ q ∷ []) own'
+        → IsParting pts fs chosen left after own' others
+    to_own e own' grown = record {
       all = old.all ++ q ∷ [];
       gathering = gathered;
-      same = IsPermutation-trans _ _ _ same (rw (append_assoc own others (q ∷ []), append_assoc own (q ∷ []) others)
-          (IsPermutation-append_right own _ _ (IsPermutation-to_front others q)));
-      own_are = more true own e old.own_are;
+      same = IsPermutation-trans _ _ _ same (IsPermutation-trans _ _ _ (behind_first own others q) (IsPermutation-append_left others _ _ grown));
+      own_are = λ ids s z p i. more true own e old.own_are ids s z p (in_permutation _ _ (IsPermutation-sym _ _ grown) p i);
       others_are = old.others_are;
     }
 

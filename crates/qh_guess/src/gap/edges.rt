@@ -58,12 +58,13 @@ impl Border {
     }
 }
 
-/// Returns the border between the faces of a part that stay and those that go.
+/// Returns the border between the faces of a part that stay and those that go. `stay` has a mark for each facet that
+/// stays.
 ///
 /// # Errors
 ///
 /// `Memory` where an allocation failed.
-pub fn border_of(alloc: Global, stay: &[Polygon], go: &[Polygon]) -> Result<Border, Memory> {
+pub fn border_of(alloc: Global, stay: &[bool], go: &[Polygon]) -> Result<Border, Memory> {
     let mut edges = Vec::new(alloc);
     for polygon in go {
         Round::of(polygon).list(&mut edges)?;
@@ -71,7 +72,7 @@ pub fn border_of(alloc: Global, stay: &[Polygon], go: &[Polygon]) -> Result<Bord
     edges.sort_unstable();
     Ok(Border {
         edges: unmatched(alloc, &edges)?,
-        is_empty: stay.is_empty(),
+        is_empty: !stay.contains(&true),
     })
 }
 

@@ -128,11 +128,9 @@ fn first_faces(alloc: Global, marking: Marking) -> Result<Option<PartedFaces>, M
 
 #[test]
 fn the_first_part_gives_out_its_square(rt: HostRuntime) -> Result<(), Fail> {
-    let faces = first_faces(rt.alloc(), Marking::AtZero)?;
-    let told = match faces {
-        Some(faces) => are_round(&faces.chosen, &CUBE_FACES[..1]) && !faces.others.is_empty(),
-        None => false,
-    };
+    let faces = first_faces(rt.alloc(), Marking::AtZero)?.ok_or("a part that is refused")?;
+    let stay = faces.chosen.sorted(rt.alloc())?;
+    let told = are_round(&stay, &CUBE_FACES[..1]) && !faces.others.is_empty();
     assert!(rt; told);
     Ok(())
 }

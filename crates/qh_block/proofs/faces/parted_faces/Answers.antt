@@ -14,7 +14,7 @@ loop-f-init c =
     let same : length (named surface) ≡ length surface.mesh = length-map surface.mesh (named_facet (name_in surface.ids.items)) in
     let long : length c.as_mut_slice-marks.result.now ≡ length surface.mesh =
     ap (λ (xs : List Bool). length xs) items ∙ c.in_ok-places.ensures.len ∙ c.places.ensures in
-    rw (c.into_iter-f-iterator.ensures.into_iter_gives ∙ c.live-f-items.ensures ∙ sym (names surface).live, c.new-own.ensures.items, c.new-others.ensures.items)
+    rw (c.into_iter-f-iterator.ensures.into_iter_gives ∙ c.live-f-items.ensures ∙ sym (names surface).live, c.none-own.ensures, c.new-others.ensures.items)
     (parting_starts c.args.pts.now (named surface) c.args.chosen.now c.as_mut_slice-marks.result.now
     (subst (λ (xs : List Bool). (f : ℕ) → mark_at xs f ≡ false) (sym items) c.in_ok-places.ensures.none) (omega (arith, same, long)))
 
@@ -31,9 +31,9 @@ bounds-chosen-index c =
 pub loop-f-preserved-in-Continue-branch-3 : goal.loop-f-preserved-in-Continue-branch-3
 loop-f-preserved-in-Continue-branch-3 c =
     let new = c.in_ok-face.ensures in
-    rw c.in_ok-push.ensures.items (to_own _ _ _ _ _ _ _ _ _ c.loop-f.invariant c.in-Some.ensures.steps
+    to_own _ _ _ _ _ _ _ _ _ c.loop-f.invariant c.in-Some.ensures.steps
     (rw c.index.ensures at c.if-not-marks-index.true) _ _ c.new_face.auto.marks new.kept new.own new.face
-    (rw c.index-then-not-marks-index.ensures at c.if-chosen-index.true))
+    (rw c.index-then-not-marks-index.ensures at c.if-chosen-index.true) _ c.in_ok-push.ensures
 
 pub loop-f-preserved-in-Continue-branch-4 : goal.loop-f-preserved-in-Continue-branch-4
 loop-f-preserved-in-Continue-branch-4 c =

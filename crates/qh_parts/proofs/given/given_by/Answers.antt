@@ -8,6 +8,6 @@ pub returns : goal.returns
 returns c =
     let stay = rw c.in-Some.is at c.in_ok-faces.ensures.stay in let closed = rw c.in-Some.is at c.in_ok-faces.ensures.closed in (
       λ ids kept distinct inside keeps q m.
-          stay ids kept distinct inside keeps q (in_permutation _ _ (IsPermutation-sym _ _ c.in_ok-of.ensures) q m),
-      λ ids distinct inside. closed_permuted _ _ (IsPermutation-append_left _ _ _ c.in_ok-of.ensures) (closed ids distinct inside),
+          stay ids kept distinct inside keeps q (in_permutation _ _ (IsPermutation-sym _ _ c.as_run.ensures) q m),
+      λ ids distinct inside. closed_permuted _ _ (IsPermutation-append_left _ _ _ c.as_run.ensures) (closed ids distinct inside),
     )
