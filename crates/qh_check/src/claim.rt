@@ -5,8 +5,10 @@ ghost use Rattle.qh_model.specs.contract.IdSets.{AreIndices};
 use qh_model::{Id, Point, Polygon};
 
 /// A set of ids, at least one and each the index of one of the points, and polygons that may be its polygons.
+///
+/// That the ids rise and have distinct points (`IsIdSet`) is the caller's condition.
 #[derive(Clone, Copy, Drop)]
-pub(crate) struct Claim<'a> {
+pub struct Claim<'a> {
     pub pts: &'a [Point],
     pub ids: &'a [Id],
     pub polygons: &'a [Polygon],

@@ -1,8 +1,8 @@
 //! Checks whether polygons are those of a set.
-ghost use Rattle.std.specs.Prelude.{◌≡◌, ◌<◌, ◌⊎◌, ◌↔◌, IfOk, IsTrue, length};
+ghost use Rattle.std.specs.Prelude.{◌≡◌, ◌⊎◌, ◌↔◌, IfOk, IsTrue};
 ghost use Rattle.qh_model.specs.headline.Predicates.{place};
 ghost use Rattle.qh_model.specs.headline.Sets.{Members};
-ghost use Rattle.qh_model.specs.contract.IdSets.{AreIndices, IsIdSet};
+ghost use Rattle.qh_model.specs.contract.IdSets.{IsIdSet};
 ghost use Rattle.qh_check.specs.declared.verdict.Verdict.TheVariants.{Right, OtherPolygons};
 ghost use Rattle.qh_check.specs.contract.Claims.{ArePolygonsOf, IsVerdictOf};
 
@@ -12,7 +12,7 @@ use crate::searchers::{Alone, InThreads, Searcher};
 use crate::solids::check_solid;
 use crate::verdict::Verdict;
 use qh_block::hull;
-use qh_model::{Id, Memory, Point, Polygon};
+use qh_model::{Memory, Polygon};
 use qh_plane::{Shape, rank};
 use std::alloc::Global;
 use std::thread::Threads;
@@ -63,27 +63,19 @@ fn check_by<S: Searcher>(searcher: &S, alloc: Global, claim: Claim) -> Result<Ve
 /// Checks whether polygons are those of a set: in dimension 3 its faces, in rising lexicographic order; for
 /// other sets see `qh_model/specs/headline/Polygons.antt`.
 ///
-/// `ids` has at least one id, each the index of one of the points. That the ids rise and have distinct points
-/// (`IsIdSet`) is the caller's condition. The verdict is `Right` exactly where the polygons are those of the
-/// set; another verdict says what is wrong: first the order, then a polygon that is no face, then an open edge.
-/// Of several polygons that are no faces it names any one.
+/// The verdict is `Right` exactly where the polygons are those of the set; another verdict says what is wrong:
+/// first the order, then a polygon that is no face, then an open edge. Of several polygons that are no faces it
+/// names any one.
 ///
 /// # Errors
 ///
 /// `Memory` where an allocation failed.
 ///
 /// Source: this project's own.
-pub fn check(
-    alloc: Global,
-    pts: &[Point],
-    ids: &[Id],
-    polygons: &[Polygon],
-) -> Result<Verdict, Memory>
-    requires some { 0 < length ids.now }
-    requires indices { AreIndices pts.now ids.now }
-    ensures { IfOk result (λ v. IsIdSet pts.now ids.now → IsVerdictOf pts.now ids.now polygons.now v) }
+pub fn check(alloc: Global, claim: Claim) -> Result<Verdict, Memory>
+    ensures { IfOk result (λ v. IsIdSet claim.entry.pts.now claim.entry.ids.now
+        → IsVerdictOf claim.entry.pts.now claim.entry.ids.now claim.entry.polygons.now v) }
 {
-    let claim = Claim { pts, ids, polygons };
     check_by(&Alone, alloc, claim)
 }
 
@@ -97,16 +89,12 @@ pub fn check(
 pub fn check_by_workers<R: Threads>(
     rt: &R,
     alloc: Global,
-    pts: &[Point],
-    ids: &[Id],
-    polygons: &[Polygon],
+    claim: Claim,
     workers: usize,
 ) -> Result<Verdict, Memory>
-    requires some { 0 < length ids.now }
-    requires indices { AreIndices pts.now ids.now }
-    ensures { IfOk result (λ v. IsIdSet pts.now ids.now → IsVerdictOf pts.now ids.now polygons.now v) }
+    ensures { IfOk result (λ v. IsIdSet claim.entry.pts.now claim.entry.ids.now
+        → IsVerdictOf claim.entry.pts.now claim.entry.ids.now claim.entry.polygons.now v) }
 {
     let searcher = InThreads { rt, workers };
-    let claim = Claim { pts, ids, polygons };
     check_by(&searcher, alloc, claim)
 }

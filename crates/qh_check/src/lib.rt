@@ -33,6 +33,7 @@ mod verdict;
 
 pub use asked_faces::are_faces;
 pub use borders::have_one_border;
+pub use claim::Claim;
 pub use claims::{check, check_by_workers};
 pub use closed::{Step, open_step};
 pub use extent::Extent;

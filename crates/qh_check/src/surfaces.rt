@@ -5,7 +5,7 @@ ghost use Rattle.qh_model.specs.headline.Dimension.{IsDimension};
 ghost use Rattle.qh_model.specs.headline.Predicates.{place};
 ghost use Rattle.qh_model.specs.headline.Sets.{Members};
 ghost use Rattle.qh_model.specs.headline.Vector.{Vector};
-ghost use Rattle.qh_model.specs.contract.IdSets.{AreIndices, IsIdSet};
+ghost use Rattle.qh_model.specs.contract.IdSets.{IsIdSet};
 ghost use Rattle.qh_check.specs.declared.extent.Extent.TheVariants.{Piece};
 ghost use Rattle.qh_check.specs.contract.Surfaces.{IsSurfaceVerdictOf};
 ghost use Rattle.qh_check.specs.steps.Faces.{IsFaceOf};
@@ -20,7 +20,7 @@ use crate::flaw::SurfaceVerdict;
 use crate::found_pieces::are_pieces_of_hull;
 use crate::searchers::{Alone, InThreads, Searcher, find_fault};
 use crate::verdict::Verdict;
-use qh_model::{Id, Memory, Point, Polygon};
+use qh_model::{Memory, Polygon};
 use qh_plane::{Shape, rank};
 use std::alloc::Global;
 use std::thread::Threads;
@@ -103,10 +103,9 @@ fn check_surface_by<S: Searcher>(
 /// pieces of its faces, such as triangles, in any order, each beginning at any corner, that close up. Those
 /// of another set are as [`check`](crate::check) wants them.
 ///
-/// `ids` has at least one id, each the index of one of the points. That the ids rise and have distinct points
-/// (`IsIdSet`) is the caller's condition. The verdict is `Right` exactly where the polygons are a closed
-/// surface; another verdict says what is wrong: first a polygon that is no piece of a face, then an open
-/// edge, then a step that is taken twice. Of several polygons that are no pieces it names any one.
+/// The verdict is `Right` exactly where the polygons are a closed surface; another verdict says what is wrong:
+/// first a polygon that is no piece of a face, then an open edge, then a step that is taken twice. Of several
+/// polygons that are no pieces it names any one.
 ///
 /// Each worker looks at a part of the polygons; no `workers` means one, for which no thread is started.
 ///
@@ -118,39 +117,25 @@ fn check_surface_by<S: Searcher>(
 pub fn check_surface<R: Threads>(
     rt: &R,
     alloc: Global,
-    pts: &[Point],
-    ids: &[Id],
-    polygons: &[Polygon],
+    claim: Claim,
     workers: usize,
 ) -> Result<SurfaceVerdict, Memory>
-    requires some { 0 < length ids.now }
-    requires indices { AreIndices pts.now ids.now }
-    ensures { IfOk result (λ v. IsIdSet pts.now ids.now → IsSurfaceVerdictOf pts.now ids.now polygons.now v) }
+    ensures { IfOk result (λ v. IsIdSet claim.entry.pts.now claim.entry.ids.now
+        → IsSurfaceVerdictOf claim.entry.pts.now claim.entry.ids.now claim.entry.polygons.now v) }
 {
     let searcher = InThreads { rt, workers };
-    let claim = Claim { pts, ids, polygons };
     check_surface_by(&searcher, alloc, claim)
 }
 
 /// Checks whether polygons are the surface of the hull of a set, as [`check_surface`] does, by the calling thread
 /// alone.
 ///
-/// `ids` has at least one id, each the index of one of the points. That the ids rise and have distinct points
-/// (`IsIdSet`) is the caller's condition.
-///
 /// # Errors
 ///
 /// `Memory` where an allocation failed.
-pub fn check_surface_alone(
-    alloc: Global,
-    pts: &[Point],
-    ids: &[Id],
-    polygons: &[Polygon],
-) -> Result<SurfaceVerdict, Memory>
-    requires some { 0 < length ids.now }
-    requires indices { AreIndices pts.now ids.now }
-    ensures { IfOk result (λ v. IsIdSet pts.now ids.now → IsSurfaceVerdictOf pts.now ids.now polygons.now v) }
+pub fn check_surface_alone(alloc: Global, claim: Claim) -> Result<SurfaceVerdict, Memory>
+    ensures { IfOk result (λ v. IsIdSet claim.entry.pts.now claim.entry.ids.now
+        → IsSurfaceVerdictOf claim.entry.pts.now claim.entry.ids.now claim.entry.polygons.now v) }
 {
-    let claim = Claim { pts, ids, polygons };
     check_surface_by(&Alone, alloc, claim)
 }

@@ -1,13 +1,9 @@
 -- Marks of ids and of corners.
 use Rattle.std.proofs.Common.{◌≡◌, ◌≢◌, ℕ, ◌+◌, ◌<◌, ◌⊎◌, arith, sym, ap, subst, ◌∙◌, inl, inr}
 use Rattle.std.proofs.Common.{Bool, true, false, List, [], ◌∷◌, get_or, length, take}
-use Rattle.std.proofs.lemmas.Bool.{cases_Bool, cases_lt}
-use Rattle.std.proofs.lemmas.List.{get_or-set_other}
-use Rattle.std.proofs.Math.ListN.{set}
+use Rattle.std.proofs.{lemmas.Bool.cases_Bool, lemmas.Bool.cases_lt, lemmas.List.get_or-set_other, Math.ListN.set}
 use Rattle.std.specs.Prelude.{filter, not}
-use Rattle.qh_model.specs.headline.Sets.{In}
-use Rattle.qh_model.specs.contract.ClosedSurface.{Triple}
-use Rattle.qh_model.specs.laws.ClosedSurfaceLaws.{IsCornerOf}
+use Rattle.qh_model.specs.{headline.Sets.In, contract.ClosedSurface.Triple, laws.ClosedSurfaceLaws.IsCornerOf}
 use Rattle.qh_model.proofs.lists.Filters.{in_filter}
 use Rattle.qh_convex.specs.steps.Corners.{IsMarked, is_unmarked}
 use Rattle.qh_convex.proofs.Prefixes.{each_more, in_more, last_more}

@@ -25,8 +25,8 @@ last_more xs i d l =
 -- what holds of the elements before and of the last holds of all
 pub each_more : {X : Type 0} (P : X → Type 0) (xs : List X) (i : ℕ) (own d : X) → i < length xs → own ≡ get_or xs i d
     → ((x : X) → In x (take i xs) → P x) → P own → (x : X) → In x (take (i + 1) xs) → P x
-each_more {X} P xs i own d l is f p x m = go (of_more xs i d x l m)
+each_more {X} P xs i own d l is f p x m = held (of_more xs i d x l m)
   where
-    go : In x (take i xs) ⊎ (x ≡ get_or xs i d) → P x
-    go (inl h) = f x h
-    go (inr e) = subst P (sym (e ∙ sym is)) p
+    held : In x (take i xs) ⊎ (x ≡ get_or xs i d) → P x
+    held (inl h) = f x h
+    held (inr e) = subst P (sym (e ∙ sym is)) p

@@ -1,30 +1,17 @@
 -- What a look at each edge and each hidden id has found makes the triangles all faces of a solid.
 use Rattle.std.proofs.Common.{◌≡◌, ◌≢◌, ℕ, ◌<◌, ◌≤◌, ◌⊎◌, arith, List, [], ◌∷◌, get_or, length, map, refl, sym, ap, subst, ◌∙◌, inl, inr}
-use Rattle.std.proofs.lemmas.Bool.{cases_lt}
-use Rattle.std.proofs.lemmas.List.Sums.{count_by-le-length}
+use Rattle.std.proofs.{lemmas.Bool.cases_lt, lemmas.List.Sums.count_by-le-length}
 use Rattle.std.specs.Prelude.{pos, count_by, ◌≤ℤ◌, ◌<ℤ◌}
-use Rattle.qh_model.specs.headline.Vector.{Vector}
-use Rattle.qh_model.specs.headline.Predicates.{vol}
-use Rattle.qh_model.specs.headline.Sets.{In, Members}
-use Rattle.qh_model.specs.headline.Dimension.{IsDimension}
-use Rattle.qh_model.specs.contract.ClosedSurface.{Triple, IsClosed, is_edge}
-use Rattle.qh_model.specs.contract.IdSets.{HasDistinctPoints}
+use Rattle.qh_model.specs.headline.{Vector.Vector, Predicates.vol, Sets.In, Sets.Members, Dimension.IsDimension}
+use Rattle.qh_model.specs.contract.{ClosedSurface.Triple, ClosedSurface.IsClosed, ClosedSurface.is_edge, IdSets.HasDistinctPoints}
 use Rattle.qh_model.specs.laws.ClosedSurfaceLaws.{IsCornerOf}
-use Rattle.qh_model.proofs.Members.{In-get_or}
-use Rattle.qh_model.proofs.algebra.Signs.{less_differ}
-use Rattle.qh_model.proofs.lists.Images.{in_map, of_map}
+use Rattle.qh_model.proofs.{Members.In-get_or, algebra.Signs.less_differ, lists.Images.in_map, lists.Images.of_map}
 use Rattle.qh_convex_laws.specs.contract.LocallyConvex.{is_met, IsRound, IsSharpAround, IsLocallyConvex, IsUnder, HasAllUnder}
-use Rattle.qh_convex_laws.proofs.Convex.{local_supports}
-use Rattle.qh_convex_laws.proofs.TriangleFaces.{sharp_is_face}
-use Rattle.qh_convex_laws.proofs.Highest.{vol-turn}
+use Rattle.qh_convex_laws.proofs.{Convex.local_supports, TriangleFaces.sharp_is_face, Highest.vol-turn}
 use Rattle.qh_convex.specs.contract.SharpSurface.{IsTriangleFace, IsSharpSurface}
-use Rattle.qh_convex.specs.steps.Hidden.{IsUnderOne, IsUnderStep}
-use Rattle.qh_convex.specs.steps.Sharp.{AreSharp}
-use Rattle.qh_convex.specs.steps.StepKeys.{step_in}
-use Rattle.qh_convex.specs.steps.Triangles.{corners}
-use Rattle.qh_convex.proofs.SharpTriangles.{ends_differ, sharp_around}
-use Rattle.qh_convex.proofs.StepCounts.{edges_are, steps_are, closes, once}
-use Rattle.qh_convex.proofs.StepLists.{of_turns, of_ups}
+use Rattle.qh_convex.specs.steps.{Hidden.IsUnderOne, Hidden.IsUnderStep, Sharp.AreSharp, StepKeys.step_in, Triangles.corners}
+use Rattle.qh_convex.proofs.{SharpTriangles.ends_differ, SharpTriangles.sharp_around, StepCounts.edges_are, StepCounts.steps_are, StepCounts.closes}
+use Rattle.qh_convex.proofs.{StepCounts.once, StepLists.of_turns, StepLists.of_ups}
 
 -- a triangle with three corners, from the least on
 least_first : (t : Triple) → t.i ≢ t.j → t.j ≢ t.k → t.k ≢ t.i → (u v w : ℕ) × IsRound t u v w × (u < v) × (u < w)
@@ -39,42 +26,35 @@ least_first t p q r = elim (cases_lt t.i t.j) [
   ]
 ]
 
--- a point under the triangle of a step is under the triangle
-under_round : (at : ℕ → Vector) (ts : List Triple) (z p : Vector) (s t : Triple) → In t ts → IsRound t s.i s.j s.k → IsUnderStep at z s p → IsUnder at ts z p
-under_round at ts z p s t m r h = by r
-  where
-    cone : (a b c d : ℕ) → a ≡ c → b ≡ d → pos 0 ≤ℤ vol z (at a) (at b) p → pos 0 ≤ℤ vol z (at c) (at d) p
-    cone a b c d e f g = rw (sym e, sym f) g
+-- a point under the triangle of a step is under any triangle with its corners
+module _ (at : ℕ → Vector) (z p : Vector) where
+  -- the same step from its next corner on
+  abbrev turned : Triple → Triple
+  turned s = record { i = s.j; j = s.k; k = s.i }
 
-    below : (a b c d e f : ℕ) → a ≡ d → b ≡ e → c ≡ f → vol (at a) (at b) (at c) p ≤ℤ pos 0 → vol (at d) (at e) (at f) p ≤ℤ pos 0
-    below a b c d e f i j k g = rw (sym i, sym j, sym k) g
+  under_turned : (s : Triple) → IsUnderStep at z s p → IsUnderStep at z (turned s) p
+  under_turned s h = record {
+    first = h.second;
+    second = h.third;
+    third = h.first;
+    below = subst (λ v. v ≤ℤ pos 0) (vol-turn (at s.i) (at s.j) (at s.k) p) h.below;
+  }
 
-    by : IsRound t s.i s.j s.k → IsUnder at ts z p
-    by (inl (e, f, g)) = record {
+  module _ (ts : List Triple) (t : Triple) (m : In t ts) where
+    under_same : (s : Triple) → t.i ≡ s.i → t.j ≡ s.j → t.k ≡ s.k → IsUnderStep at z s p → IsUnder at ts z p
+    under_same s e f g h = record {
       t = t;
       there = m;
-      first = cone _ _ _ _ (sym e) (sym f) h.first;
-      second = cone _ _ _ _ (sym f) (sym g) h.second;
-      third = cone _ _ _ _ (sym g) (sym e) h.third;
-      below = below _ _ _ _ _ _ (sym e) (sym f) (sym g) h.below;
+      first = rw (e, f) h.first;
+      second = rw (f, g) h.second;
+      third = rw (g, e) h.third;
+      below = rw (e, f, g) h.below;
     }
-    by (inr (inl (e, f, g))) = record {
-      t = t;
-      there = m;
-      first = cone _ _ _ _ (sym g) (sym e) h.third;
-      second = cone _ _ _ _ (sym e) (sym f) h.first;
-      third = cone _ _ _ _ (sym f) (sym g) h.second;
-      below = below _ _ _ _ _ _ (sym g) (sym e) (sym f)
-          (subst (λ v. v ≤ℤ pos 0) (vol-turn (at s.i) (at s.j) (at s.k) p ∙ vol-turn (at s.j) (at s.k) (at s.i) p) h.below);
-    }
-    by (inr (inr (e, f, g))) = record {
-      t = t;
-      there = m;
-      first = cone _ _ _ _ (sym f) (sym g) h.second;
-      second = cone _ _ _ _ (sym g) (sym e) h.third;
-      third = cone _ _ _ _ (sym e) (sym f) h.first;
-      below = below _ _ _ _ _ _ (sym f) (sym g) (sym e) (subst (λ v. v ≤ℤ pos 0) (vol-turn (at s.i) (at s.j) (at s.k) p) h.below);
-    }
+
+    under_round : (s : Triple) → IsRound t s.i s.j s.k → IsUnderStep at z s p → IsUnder at ts z p
+    under_round s (inl (e, f, g)) h = under_same s e f g h
+    under_round s (inr (inl (e, f, g))) h = under_same (turned (turned s)) g e f (under_turned (turned s) (under_turned s h))
+    under_round s (inr (inr (e, f, g))) h = under_same (turned s) f g e (under_turned s h)
 
 module _ (at : ℕ → Vector) (ids : List ℕ) (ts : List Triple) (s : AreSharp at ids ts) where
   sharp : (t : Triple) → In t ts → IsSharpAround at ts t
@@ -93,17 +73,17 @@ module _ (at : ℕ → Vector) (ids : List ℕ) (ts : List Triple) (s : AreSharp
 
   under : (l : ℕ) → IsUnderOne at s.up s.z (at l) → IsUnder at ts s.z (at l)
   under l (k, h, u) =
-      go (of_turns ts (step k) (of_ups ts s.up s.down s.steps (step k) (in_map step_in s.up (get_or s.up k 0) (In-get_or s.up k 0 h))).0)
+      under_one (of_turns ts (step k) (of_ups ts s.up s.down s.steps (step k) (in_map step_in s.up (get_or s.up k 0) (In-get_or s.up k 0 h))).0)
     where
-      go : (t : Triple) × In t ts × IsRound t (step k).i (step k).j (step k).k → IsUnder at ts s.z (at l)
-      go (t, m, r) = under_round at ts s.z (at l) (step k) t m r u
+      under_one : (t : Triple) × In t ts × IsRound t (step k).i (step k).j (step k).k → IsUnder at ts s.z (at l)
+      under_one (t, m, r) = under_round at s.z (at l) ts t m (step k) r u
 
   all_under : HasAllUnder at ids ts s.z
-  all_under = record { corners = s.corners.listed; others = λ l m. by l (s.corners.others l m) }
+  all_under = record { corners = s.corners.listed; others = λ l m. corner_or_under l (s.corners.others l m) }
     where
-      by : (l : ℕ) → IsCornerOf ts l ⊎ In l s.hidden → IsCornerOf ts l ⊎ IsUnder at ts s.z (at l)
-      by l (inl c) = inl c
-      by l (inr h) = inr (under l (s.under l h))
+      corner_or_under : (l : ℕ) → IsCornerOf ts l ⊎ In l s.hidden → IsCornerOf ts l ⊎ IsUnder at ts s.z (at l)
+      corner_or_under l (inl c) = inl c
+      corner_or_under l (inr h) = inr (under l (s.under l h))
 
   -- there is a triangle
   some : 0 < length ts
@@ -111,11 +91,11 @@ module _ (at : ℕ → Vector) (ids : List ℕ) (ts : List Triple) (s : AreSharp
 
   -- and with its neighbour it spans the space
   solid : IsDimension at (Members ids) 3
-  solid = go ts (λ t m. m) some
+  solid = spanned ts (λ t m. m) some
     where
-      go : (xs : List Triple) → ((t : Triple) → In t xs → In t ts) → 0 < length xs → IsDimension at (Members ids) 3
-      go [] f l = absurd (omega (arith, l))
-      go (t ∷ xs) f l = spans t (f t (inl refl))
+      spanned : (xs : List Triple) → ((t : Triple) → In t xs → In t ts) → 0 < length xs → IsDimension at (Members ids) 3
+      spanned [] f l = absurd (omega (arith, l))
+      spanned (t ∷ xs) f l = spans t (f t (inl refl))
         where
           last : (r : Triple) (u v w : ℕ) → IsRound r u v w → In w (corners r)
           last r u v w (inl e) = inr (inr (inl (sym e.2)))
@@ -141,7 +121,7 @@ module _ (at : ℕ → Vector) (ids : List ℕ) (ts : List Triple) (s : AreSharp
   module _ (distinct : HasDistinctPoints at (Members ids)) where
     -- each triangle is a face
     face : (t : Triple) → In t ts → IsTriangleFace at (Members ids) (corners t)
-    face t m = go (least_first t (ends_differ at s.z t.i t.j t.k inside) (ends_differ at s.z t.j t.k t.i (turned t.i t.j t.k inside))
+    face t m = face_from (least_first t (ends_differ at s.z t.i t.j t.k inside) (ends_differ at s.z t.j t.k t.i (turned t.i t.j t.k inside))
         (ends_differ at s.z t.k t.i t.j (turned t.j t.k t.i (turned t.i t.j t.k inside))))
       where
         inside : vol (at t.i) (at t.j) (at t.k) s.z <ℤ pos 0
@@ -150,8 +130,8 @@ module _ (at : ℕ → Vector) (ids : List ℕ) (ts : List Triple) (s : AreSharp
         turned : (u v w : ℕ) → vol (at u) (at v) (at w) s.z <ℤ pos 0 → vol (at v) (at w) (at u) s.z <ℤ pos 0
         turned u v w h = subst (λ x. x <ℤ pos 0) (vol-turn (at u) (at v) (at w) s.z) h
 
-        go : (u v w : ℕ) × IsRound t u v w × (u < v) × (u < w) → IsTriangleFace at (Members ids) (corners t)
-        go (u, v, w, r, a, b) = record {
+        face_from : (u v w : ℕ) × IsRound t u v w × (u < v) × (u < w) → IsTriangleFace at (Members ids) (corners t)
+        face_from (u, v, w, r, a, b) = record {
           t = t;
           corners = refl;
           supports = (local_supports at ids ts s.z s.d convex all_under).1 t m;

@@ -1,17 +1,10 @@
 -- Triangles whose steps pair off with an angle at each edge: the neighbours of each.
 use Rattle.std.proofs.Common.{◌≡◌, ◌≢◌, ℕ, ◌<◌, arith, List, get_or, length, refl, sym, ap, subst, ◌∙◌, inl, inr}
-use Rattle.std.proofs.lemmas.Bool.{cases_lt}
-use Rattle.std.proofs.lemmas.Bool.Decides.{nat_tests}
-use Rattle.std.specs.Prelude.{pos, ◌<ℤ◌}
-use Rattle.std.specs.List.{flat_map}
-use Rattle.qh_model.specs.headline.Vector.{Vector}
-use Rattle.qh_model.specs.headline.Predicates.{vol}
-use Rattle.qh_model.specs.headline.Sets.{In}
-use Rattle.qh_model.specs.contract.ClosedSurface.{Triple}
-use Rattle.qh_model.proofs.Members.{In-get_or}
-use Rattle.qh_model.proofs.algebra.Signs.{less_le}
-use Rattle.qh_model.proofs.algebra.VectorIdentities.{vol-flip, vol-third_last}
-use Rattle.qh_model.proofs.lists.{Images.in_map, Joined.in_flat_map}
+use Rattle.std.proofs.{lemmas.Bool.cases_lt, lemmas.Bool.Decides.nat_tests}
+use Rattle.std.specs.{Prelude.pos, Prelude.◌<ℤ◌, List.flat_map}
+use Rattle.qh_model.specs.{headline.Vector.Vector, headline.Predicates.vol, headline.Sets.In, contract.ClosedSurface.Triple}
+use Rattle.qh_model.proofs.{Members.In-get_or, lists.Images.in_map, lists.Joined.in_flat_map}
+use Rattle.qh_model.proofs.algebra.{Signs.less_le, VectorIdentities.vol-flip, VectorIdentities.vol-third_last}
 use Rattle.qh_convex_laws.specs.contract.LocallyConvex.{IsRound, HasLowNeighbour, IsSharpAround}
 use Rattle.qh_convex_laws.proofs.Highest.{rise_round}
 use Rattle.qh_convex.specs.steps.Rays.{IsInside}
@@ -39,10 +32,10 @@ module _ (at : ℕ → Vector) (ts : List Triple) (up down : List ℕ) (steps : 
 
   -- of a step to a higher id
   partner_up : (s : Triple) → In s all → s.i < s.j → HasPartner s
-  partner_up s m l = go (at_position step_in up s (in_ups ts up down steps s m (grind (arith, nat_tests, l))))
+  partner_up s m l = partner_at (at_position step_in up s (in_ups ts up down steps s m (grind (arith, nat_tests, l))))
     where
-      go : (k : ℕ) × (k < length up) × (step_in (get_or up k 0) ≡ s) → HasPartner s
-      go (k, h, e) = record {
+      partner_at : (k : ℕ) × (k < length up) × (step_in (get_or up k 0) ≡ s) → HasPartner s
+      partner_at (k, h, e) = record {
         g = back (step_in (get_or down k 0));
         there = (of_downs ts up down steps (step_in (get_or down k 0)) (in_map step_in down (get_or down k 0) (In-get_or down k 0 behind))).0;
         from = sym pair.to ∙ ap (λ (x : Triple). x.j) e;
@@ -58,10 +51,10 @@ module _ (at : ℕ → Vector) (ts : List Triple) (up down : List ℕ) (steps : 
 
   -- and of one to a lower
   partner_down : (s : Triple) → In s all → s.j < s.i → HasPartner s
-  partner_down s m l = go (at_position step_in down (back s) (in_downs ts up down steps s m (grind (arith, nat_tests, l))))
+  partner_down s m l = partner_at (at_position step_in down (back s) (in_downs ts up down steps s m (grind (arith, nat_tests, l))))
     where
-      go : (k : ℕ) × (k < length down) × (step_in (get_or down k 0) ≡ back s) → HasPartner s
-      go (k, h, e) = record {
+      partner_at : (k : ℕ) × (k < length down) × (step_in (get_or down k 0) ≡ back s) → HasPartner s
+      partner_at (k, h, e) = record {
         g = step_in (get_or up k 0);
         there = (of_ups ts up down steps (step_in (get_or up k 0)) (in_map step_in up (get_or up k 0) (In-get_or up k 0 ahead))).0;
         from = pair.from ∙ ap (λ (x : Triple). x.i) e;
@@ -94,16 +87,16 @@ module _ (at : ℕ → Vector) (ts : List Triple) (up down : List ℕ) (steps : 
 
   module _ (t : Triple) (m : In t ts) (z : Vector) (inside : IsInside at z t) where
     steep : (u v w : ℕ) → IsRound t u v w → In (record { i = u; j = v; k = w }) all → Steep t u v
-    steep u v w r n = go (partner (record { i = u; j = v; k = w }) n (ends_differ at z u v w (less_by _ _ (sym (rise_round at t u v w r z)) inside)))
+    steep u v w r n = over (partner (record { i = u; j = v; k = w }) n (ends_differ at z u v w (less_by _ _ (sym (rise_round at t u v w r z)) inside)))
       where
-        go : HasPartner (record { i = u; j = v; k = w }) → Steep t u v
-        go p = next (of_turns ts p.g p.there)
+        over : HasPartner (record { i = u; j = v; k = w }) → Steep t u v
+        over p = neighbour (of_turns ts p.g p.there)
           where
             low : vol (at t.i) (at t.j) (at t.k) (at p.g.k) <ℤ pos 0
             low = less_by _ _ (rise_round at t u v w r (at p.g.k)) p.below
 
-            next : (s : Triple) × In s ts × IsRound s p.g.i p.g.j p.g.k → Steep t u v
-            next (s, i, q) = (
+            neighbour : (s : Triple) × In s ts × IsRound s p.g.i p.g.j p.g.k → Steep t u v
+            neighbour (s, i, q) = (
               record {
                 next = s;
                 there = i;

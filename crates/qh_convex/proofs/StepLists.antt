@@ -1,15 +1,12 @@
 -- The steps round triangles in two lists: which steps are there, and which triangles they come from.
 use Rattle.std.proofs.Common.{◌≡◌, ℕ, suc, ◌<◌, arith, true, List, [], ◌∷◌, get_or, length, map, All, sym, ap, subst, inl, inr}
 use Rattle.std.proofs.lemmas.List.Sorted.{IsPermutation-sym}
-use Rattle.std.specs.Prelude.{filter}
-use Rattle.std.specs.List.{flat_map}
-use Rattle.qh_model.specs.headline.Sets.{In}
-use Rattle.qh_model.specs.contract.ClosedSurface.{Triple}
+use Rattle.std.specs.{Prelude.filter, List.flat_map}
+use Rattle.qh_model.specs.{headline.Sets.In, contract.ClosedSurface.Triple}
 use Rattle.qh_model.proofs.Members.{All-In, All-of, in_permutation}
 use Rattle.qh_model.proofs.lists.{Filters.in_filter, Filters.of_filter, Images.in_map, Images.of_map, Joined.of_flat_map}
 use Rattle.qh_convex_laws.specs.contract.LocallyConvex.{IsRound}
-use Rattle.qh_convex.specs.steps.StepKeys.{step_in, turns, goes_up, goes_down, back, AreSteps}
-use Rattle.qh_convex.specs.steps.Triangles.{IsBelow}
+use Rattle.qh_convex.specs.steps.{StepKeys.step_in, StepKeys.turns, StepKeys.goes_up, StepKeys.goes_down, StepKeys.back, StepKeys.AreSteps, Triangles.IsBelow}
 
 -- an element of an image stands at a position
 pub at_position : {Y : Type 0} (f : ℕ → Y) (xs : List ℕ) (y : Y) → In y (map f xs) → (k : ℕ) × (k < length xs) × (f (get_or xs k 0) ≡ y)
@@ -29,12 +26,12 @@ of_turns ts s m = let r = of_flat_map turns ts s m in (r.0, r.1, round r.0 r.2)
 
 -- its corners are as low as those of all triangles
 pub turns_below : (n : ℕ) (ts : List Triple) → All (IsBelow n) ts → (s : Triple) → In s (flat_map turns ts) → IsBelow n s
-turns_below n ts all s m = let r = of_turns ts s m in by r.0 r.2 (All-In (IsBelow n) ts r.0 all r.1)
+turns_below n ts all s m = let r = of_turns ts s m in below_of r.0 r.2 (All-In (IsBelow n) ts r.0 all r.1)
   where
-    by : (t : Triple) → IsRound t s.i s.j s.k → IsBelow n t → IsBelow n s
-    by t (inl (p, q, r)) b = record { i = subst (λ (x : ℕ). x < n) p b.i; j = subst (λ (x : ℕ). x < n) q b.j; k = subst (λ (x : ℕ). x < n) r b.k }
-    by t (inr (inl (p, q, r))) b = record { i = subst (λ (x : ℕ). x < n) p b.j; j = subst (λ (x : ℕ). x < n) q b.k; k = subst (λ (x : ℕ). x < n) r b.i }
-    by t (inr (inr (p, q, r))) b = record { i = subst (λ (x : ℕ). x < n) p b.k; j = subst (λ (x : ℕ). x < n) q b.i; k = subst (λ (x : ℕ). x < n) r b.j }
+    below_of : (t : Triple) → IsRound t s.i s.j s.k → IsBelow n t → IsBelow n s
+    below_of t (inl (p, q, r)) b = record { i = subst (λ (x : ℕ). x < n) p b.i; j = subst (λ (x : ℕ). x < n) q b.j; k = subst (λ (x : ℕ). x < n) r b.k }
+    below_of t (inr (inl (p, q, r))) b = record { i = subst (λ (x : ℕ). x < n) p b.j; j = subst (λ (x : ℕ). x < n) q b.k; k = subst (λ (x : ℕ). x < n) r b.i }
+    below_of t (inr (inr (p, q, r))) b = record { i = subst (λ (x : ℕ). x < n) p b.k; j = subst (λ (x : ℕ). x < n) q b.i; k = subst (λ (x : ℕ). x < n) r b.j }
 
 module _ (ts : List Triple) (up down : List ℕ) (steps : AreSteps ts up down) where
   abbrev all : List Triple
@@ -49,10 +46,10 @@ module _ (ts : List Triple) (up down : List ℕ) (steps : AreSteps ts up down) w
 
   -- those of the second, turned back, go down
   pub of_downs : (s : Triple) → In s (map step_in down) → In (back s) all × (goes_down (back s) ≡ true)
-  of_downs s m = go (of_map back (filter goes_down all) s (in_permutation _ _ (IsPermutation-sym _ _ steps.downs) s m))
+  of_downs s m = turned_back (of_map back (filter goes_down all) s (in_permutation _ _ (IsPermutation-sym _ _ steps.downs) s m))
     where
-      go : (r : Triple) × In r (filter goes_down all) × (s ≡ back r) → In (back s) all × (goes_down (back s) ≡ true)
-      go (r, n, e) =
+      turned_back : (r : Triple) × In r (filter goes_down all) × (s ≡ back r) → In (back s) all × (goes_down (back s) ≡ true)
+      turned_back (r, n, e) =
           subst (λ (x : Triple). In x all × (goes_down x ≡ true)) (ap back (sym e)) (of_filter goes_down all r n)
 
   pub in_downs : (s : Triple) → In s all → goes_down s ≡ true → In (back s) (map step_in down)

@@ -1,9 +1,7 @@
 -- Points under the triangle of a step.
 use Rattle.std.proofs.Common.{◌≡◌, ℕ, Bool, false, true, sym}
 use Rattle.std.specs.Prelude.{pos, not, ◌<ℤ◌}
-use Rattle.qh_model.specs.headline.Vector.{Vector}
-use Rattle.qh_model.specs.headline.Predicates.{vol}
-use Rattle.qh_model.specs.contract.ClosedSurface.{Triple}
+use Rattle.qh_model.specs.{headline.Vector.Vector, headline.Predicates.vol, contract.ClosedSurface.Triple}
 use Rattle.qh_convex.specs.steps.Hidden.{IsUnderStep}
 use Rattle.qh_convex.proofs.Volumes.{not_above, not_below}
 

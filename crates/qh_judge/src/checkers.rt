@@ -1,27 +1,20 @@
 //! Who checks polygons: the calling thread alone, or threads side by side.
-ghost use Rattle.std.specs.Prelude.{◌<◌, IfOk, length};
-ghost use Rattle.qh_model.specs.contract.IdSets.{AreIndices, IsIdSet};
+ghost use Rattle.std.specs.Prelude.{IfOk};
+ghost use Rattle.qh_model.specs.contract.IdSets.{IsIdSet};
 ghost use Rattle.qh_check.specs.contract.Surfaces.{IsSurfaceVerdictOf};
 
-use qh_check::{SurfaceVerdict, check_surface, check_surface_alone};
+use qh_check::{Claim, SurfaceVerdict, check_surface, check_surface_alone};
 use qh_convex::is_sharp_surface;
-use qh_model::{Id, Memory, Point, Polygon};
+use qh_model::Memory;
 use std::alloc::Global;
 use std::thread::Threads;
 
 /// A way to check whether polygons are the surface of the hull of a set.
 pub trait Checker {
-    /// Returns the verdict on polygons. `ids` has at least one id, each the index of one of the points.
-    fn check(
-        &self,
-        alloc: Global,
-        pts: &[Point],
-        ids: &[Id],
-        polygons: &[Polygon],
-    ) -> Result<SurfaceVerdict, Memory>
-        requires some { 0 < length ids.now }
-        requires indices { AreIndices pts.now ids.now }
-        ensures { IfOk result (λ v. IsIdSet pts.now ids.now → IsSurfaceVerdictOf pts.now ids.now polygons.now v) };
+    /// Returns the verdict on polygons.
+    fn check(&self, alloc: Global, claim: Claim) -> Result<SurfaceVerdict, Memory>
+        ensures { IfOk result (λ v. IsIdSet claim.entry.pts.now claim.entry.ids.now
+            → IsSurfaceVerdictOf claim.entry.pts.now claim.entry.ids.now claim.entry.polygons.now v) };
 }
 
 /// The calling thread alone.
@@ -29,14 +22,8 @@ pub trait Checker {
 pub struct Alone;
 
 impl Checker for Alone {
-    fn check(
-        &self,
-        alloc: Global,
-        pts: &[Point],
-        ids: &[Id],
-        polygons: &[Polygon],
-    ) -> Result<SurfaceVerdict, Memory> {
-        check_surface_alone(alloc, pts, ids, polygons)
+    fn check(&self, alloc: Global, claim: Claim) -> Result<SurfaceVerdict, Memory> {
+        check_surface_alone(alloc, claim)
     }
 }
 
@@ -48,14 +35,8 @@ pub struct InThreads<'a, R> {
 }
 
 impl<R: Threads> Checker for InThreads<'_, R> {
-    fn check(
-        &self,
-        alloc: Global,
-        pts: &[Point],
-        ids: &[Id],
-        polygons: &[Polygon],
-    ) -> Result<SurfaceVerdict, Memory> {
-        check_surface(self.rt, alloc, pts, ids, polygons, self.workers)
+    fn check(&self, alloc: Global, claim: Claim) -> Result<SurfaceVerdict, Memory> {
+        check_surface(self.rt, alloc, claim, self.workers)
     }
 }
 
@@ -64,16 +45,13 @@ impl<R: Threads> Checker for InThreads<'_, R> {
 pub fn verdict_on<C: Checker>(
     checker: &C,
     alloc: Global,
-    pts: &[Point],
-    ids: &[Id],
-    polygons: &[Polygon],
+    claim: Claim,
 ) -> Result<SurfaceVerdict, Memory>
-    requires some { 0 < length ids.now }
-    requires indices { AreIndices pts.now ids.now }
-    ensures { IfOk result (λ v. IsIdSet pts.now ids.now → IsSurfaceVerdictOf pts.now ids.now polygons.now v) }
+    ensures { IfOk result (λ v. IsIdSet claim.entry.pts.now claim.entry.ids.now
+        → IsSurfaceVerdictOf claim.entry.pts.now claim.entry.ids.now claim.entry.polygons.now v) }
 {
-    if is_sharp_surface(alloc, pts, ids, polygons)? {
+    if is_sharp_surface(alloc, claim.pts, claim.ids, claim.polygons)? {
         return Ok(SurfaceVerdict::Right);
     }
-    checker.check(alloc, pts, ids, polygons)
+    checker.check(alloc, claim)
 }

@@ -8,6 +8,7 @@ use crate::checkers::{Alone, Checker, InThreads, verdict_on};
 use crate::judgement::Judgement;
 use crate::naming::polygons_of;
 use crate::own_indices::are_own;
+use qh_check::Claim;
 use qh_model::{Id, Memory, Point, Polygon};
 use qh_plane::{distinct_alone, distinct_in_threads};
 use std::alloc::Global;
@@ -28,12 +29,22 @@ fn judge_by<C: Checker>(
     ensures { IfOk result (IsJudgement pts.now named.now faces.now) }
 {
     if are_own(pts, ids, named, faces) {
-        let verdict = verdict_on(checker, alloc, pts, ids, faces)?;
+        let claim = Claim {
+            pts,
+            ids,
+            polygons: faces,
+        };
+        let verdict = verdict_on(checker, alloc, claim)?;
         return Ok(Judgement::Told(verdict));
     }
     match polygons_of(alloc, pts, ids, named, faces)? {
         Ok(polygons) => {
-            let verdict = verdict_on(checker, alloc, pts, ids, &polygons)?;
+            let claim = Claim {
+                pts,
+                ids,
+                polygons: &polygons,
+            };
+            let verdict = verdict_on(checker, alloc, claim)?;
             Ok(Judgement::Told(verdict))
         }
         Err(position) => Ok(Judgement::Stranger(position)),

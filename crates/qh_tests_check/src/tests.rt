@@ -3,7 +3,7 @@ mod judgements;
 mod sharp_surfaces;
 mod surfaces;
 
-use qh_check::{FaceFault, Verdict, check, check_by_workers};
+use qh_check::{Claim, FaceFault, Verdict, check, check_by_workers};
 use qh_fixtures::faces::{CUBE_FACES, polygons_of};
 use qh_fixtures::ids::ids_of;
 use qh_fixtures::points::cube;
@@ -19,16 +19,16 @@ const EIGHT: [u32; 8] = [0, 1, 2, 3, 4, 5, 6, 7];
 /// The verdict on a first polygon that spans no plane.
 const NO_PLANE: Verdict = Verdict::NoFace(0, FaceFault::NoPlane);
 
-/// What a claim says: ids of the corners of a cube, and their faces.
+/// Ids of corners of a cube, and what are claimed to be their faces.
 #[derive(Clone, Copy, Debug)]
-struct Claim<'a> {
+struct Row<'a> {
     ids: &'a [u32],
     faces: &'a [&'a [u32]],
 }
 
-/// Returns the claim of some faces of all eight corners.
-fn of_cube<'a>(faces: &'a [&'a [u32]]) -> Claim<'a> {
-    Claim { ids: &EIGHT, faces }
+/// Returns the row of some faces of all eight corners.
+fn of_cube<'a>(faces: &'a [&'a [u32]]) -> Row<'a> {
+    Row { ids: &EIGHT, faces }
 }
 
 /// Returns the id that stands in a row for any id that a verdict names.
@@ -47,36 +47,41 @@ fn unnamed(verdict: Verdict) -> Verdict {
     }
 }
 
-/// Returns the verdict of a number of threads on a claim, or for 0 that of the calling thread; `None` if there
+/// Returns the verdict of a number of threads on a row, or for 0 that of the calling thread; `None` if there
 /// are no ids.
 fn verdict<R: Threads + Sync>(
     rt: &R,
     alloc: Global,
-    claim: Claim,
+    row: Row,
     workers: usize,
 ) -> Result<Option<Verdict>, Memory> {
     let pts = cube(0, 1);
-    let ids = ids_of(alloc, &pts, claim.ids)?;
+    let ids = ids_of(alloc, &pts, row.ids)?;
     if ids.is_empty() {
         return Ok(None);
     }
-    let polygons = polygons_of(alloc, claim.faces)?;
+    let polygons = polygons_of(alloc, row.faces)?;
+    let claim = Claim {
+        pts: &pts,
+        ids: &ids,
+        polygons: &polygons,
+    };
     let told = match workers {
-        0 => check(alloc, &pts, &ids, &polygons)?,
-        _ => check_by_workers(rt, alloc, &pts, &ids, &polygons, workers)?,
+        0 => check(alloc, claim)?,
+        _ => check_by_workers(rt, alloc, claim, workers)?,
     };
     Ok(Some(unnamed(told)))
 }
 
-/// Asserts the verdict of a number of threads on a claim, or for 0 that of the calling thread.
+/// Asserts the verdict of a number of threads on a row, or for 0 that of the calling thread.
 fn assert_verdict<R: AllocGlobal + Abort + Threads + Sync>(
     rt: &R,
-    claim: Claim,
+    row: Row,
     workers: usize,
     wanted: Verdict,
 ) -> Result<(), Fail> {
-    let told = verdict(rt, rt.alloc(), claim, workers)?;
-    assert_eq!(rt; told, Some(wanted), "{claim:?} by {workers}");
+    let told = verdict(rt, rt.alloc(), row, workers)?;
+    assert_eq!(rt; told, Some(wanted), "{row:?} by {workers}");
     Ok(())
 }
 
@@ -110,7 +115,7 @@ fn polygons_that_are_no_faces(rt: HostRuntime) -> Result<(), Fail> {
     assert_told(&rt, &halves, other)?;
     let edge: [&[u32]; 2] = [&[0, 1], a];
     assert_told(&rt, &edge, NO_PLANE)?;
-    let without_3 = Claim {
+    let without_3 = Row {
         ids: &[0, 1, 2, 4, 5, 6, 7],
         faces: &CUBE_FACES[..1],
     };
@@ -126,12 +131,12 @@ fn polygons_that_are_others(rt: HostRuntime) -> Result<(), Fail> {
 
 #[test]
 fn a_square_has_one_polygon(rt: HostRuntime) -> Result<(), Fail> {
-    let square = Claim {
+    let square = Row {
         ids: &[0, 1, 2, 3],
         faces: &[&[0, 2, 3, 1]],
     };
     assert_verdict(&rt, square, 0, Verdict::Right)?;
-    let turned = Claim {
+    let turned = Row {
         faces: &CUBE_FACES[..1],
         ..square
     };

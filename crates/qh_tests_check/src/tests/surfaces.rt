@@ -1,6 +1,6 @@
 //! Worked rows: surfaces of a cube in pieces, and what is wrong with others.
 use super::{EIGHT, any};
-use qh_check::{FaceFault, SurfaceVerdict, check_surface, check_surface_alone};
+use qh_check::{Claim, FaceFault, SurfaceVerdict, check_surface, check_surface_alone};
 use qh_fixtures::faces::{CUBE_FACES, polygons_of};
 use qh_fixtures::ids::ids_of;
 use qh_fixtures::points::cube;
@@ -68,9 +68,14 @@ fn verdict<R: Threads + Sync>(
         return Ok(None);
     }
     let polygons = polygons_of(alloc, faces)?;
+    let claim = Claim {
+        pts: &pts,
+        ids: &ids,
+        polygons: &polygons,
+    };
     let told = match workers {
-        0 => check_surface_alone(alloc, &pts, &ids, &polygons)?,
-        _ => check_surface(rt, alloc, &pts, &ids, &polygons, workers)?,
+        0 => check_surface_alone(alloc, claim)?,
+        _ => check_surface(rt, alloc, claim, workers)?,
     };
     Ok(Some(unnamed(told)))
 }

@@ -1,7 +1,6 @@
 -- Marked corners are ids, and ids that are not marked are hidden.
 use Rattle.std.proofs.Common.{Bool, List, ℕ, subst, sym, ◌⊎◌}
-use Rattle.qh_model.specs.headline.Sets.{In}
-use Rattle.qh_model.specs.laws.ClosedSurfaceLaws.{IsCornerOf}
+use Rattle.qh_model.specs.{headline.Sets.In, laws.ClosedSurfaceLaws.IsCornerOf}
 use Rattle.qh_model.proofs.lists.Filters.{of_filter}
 use Rattle.qh_convex.specs.steps.Corners.{IsMarked, is_unmarked}
 use Rattle.qh_convex.proofs.Marks.{corner_or_unmarked}

@@ -1,8 +1,7 @@
 -- What each look has found.
 use Rattle.std.proofs.Common.{◌<◌, length, subst}
 use Rattle.qh_model.proofs.Members.{All-In, All-of}
-use Rattle.qh_convex.specs.steps.Corners.{AreHidden}
-use Rattle.qh_convex.specs.steps.StepKeys.{EdgesRise}
+use Rattle.qh_convex.specs.steps.{Corners.AreHidden, StepKeys.EdgesRise}
 use Rattle.qh_convex.proofs.sharp.are_sharp.Goals as goal
 
 pub are_sharp_pairs-requires-clause-up : goal.are_sharp_pairs-requires-clause-up

@@ -3,11 +3,11 @@ use Rattle.qh_model.proofs.DistinctIds.{ids_within, some_id}
 use Rattle.qh_judge.proofs.Judgements.{told}
 use Rattle.qh_judge.proofs.judging.judge_by.Goals as goal
 
-pub verdict_on-requires-clause-some : goal.verdict_on-requires-clause-some
-verdict_on-requires-clause-some g c = some_id c.args.pts.now c.args.ids.now c.requires.distinct c.requires.some
-
-pub verdict_on-requires-clause-indices : goal.verdict_on-requires-clause-indices
-verdict_on-requires-clause-indices g c = ids_within c.args.pts.now c.args.ids.now c.requires.distinct
+pub invariant_of-claim : goal.invariant_of-claim
+invariant_of-claim g c = record {
+  some = some_id c.args.pts.now c.args.ids.now c.requires.distinct c.requires.some;
+  indices = ids_within c.args.pts.now c.args.ids.now c.requires.distinct;
+}
 
 pub returns-then-are_own : goal.returns-then-are_own
 returns-then-are_own g c =
@@ -17,11 +17,11 @@ returns-then-are_own g c =
 pub polygons_of-requires : goal.polygons_of-requires
 polygons_of-requires g c = ids_within c.args.pts.now c.args.ids.now c.requires.distinct
 
-pub verdict_on-requires-in-Ok-clause-some : goal.verdict_on-requires-in-Ok-clause-some
-verdict_on-requires-in-Ok-clause-some g c = some_id c.args.pts.now c.args.ids.now c.requires.distinct c.requires.some
-
-pub verdict_on-requires-in-Ok-clause-indices : goal.verdict_on-requires-in-Ok-clause-indices
-verdict_on-requires-in-Ok-clause-indices g c = ids_within c.args.pts.now c.args.ids.now c.requires.distinct
+pub invariant_of-claim-in-Ok : goal.invariant_of-claim-in-Ok
+invariant_of-claim-in-Ok g c = record {
+  some = some_id c.args.pts.now c.args.ids.now c.requires.distinct c.requires.some;
+  indices = ids_within c.args.pts.now c.args.ids.now c.requires.distinct;
+}
 
 pub returns-in_ok-verdict-in-Ok : goal.returns-in_ok-verdict-in-Ok
 returns-in_ok-verdict-in-Ok g c =

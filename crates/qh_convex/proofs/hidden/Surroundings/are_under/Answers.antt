@@ -1,7 +1,6 @@
 -- The point of the key at hand lies under a triangle.
 use Rattle.std.proofs.Common.{◌∙◌, ap, get_or, refl, subst}
-use Rattle.qh_model.specs.headline.Vector.{Vector}
-use Rattle.qh_model.specs.headline.Predicates.{place}
+use Rattle.qh_model.specs.headline.{Vector.Vector, Predicates.place}
 use Rattle.qh_convex.specs.steps.Hidden.{id_in, IsUnderOne}
 use Rattle.qh_convex.proofs.Prefixes.{each_more}
 use Rattle.qh_convex.proofs.hidden.Surroundings.are_under.Goals as goal

@@ -1,7 +1,6 @@
 -- The points of the ids so far lie under triangles.
 use Rattle.std.proofs.Common.{ℕ, length, take}
-use Rattle.qh_model.specs.headline.Predicates.{place}
-use Rattle.qh_model.specs.headline.Sets.{In}
+use Rattle.qh_model.specs.headline.{Predicates.place, Sets.In}
 use Rattle.qh_convex.specs.steps.Hidden.{id_in, IsStepBelow, IsUnderOne}
 use Rattle.qh_convex.proofs.hidden.Surroundings.are_under.Given as goal
 

@@ -1,10 +1,8 @@
 -- The keys have the ids.
 use Rattle.std.proofs.Common.{ℕ, ◌<◌, List, subst, sym, length}
 use Rattle.std.proofs.lemmas.List.Sorted.{IsPermutation-sym}
-use Rattle.qh_model.specs.headline.Sets.{In}
-use Rattle.qh_model.specs.headline.Predicates.{place}
-use Rattle.qh_model.proofs.Members.{All-In, All-of, in_permutation}
-use Rattle.qh_model.proofs.lists.Images.{in_map, of_map}
+use Rattle.qh_model.specs.headline.{Sets.In, Predicates.place}
+use Rattle.qh_model.proofs.{Members.All-In, Members.All-of, Members.in_permutation, lists.Images.in_map, lists.Images.of_map}
 use Rattle.qh_convex.specs.steps.Hidden.{id_in, IsUnderOne}
 use Rattle.qh_convex.proofs.hidden.Surroundings.has_under.Goals as goal
 
