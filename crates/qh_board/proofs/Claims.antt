@@ -6,14 +6,14 @@ use Rattle.std.specs.Prelude.{All, slice_index, nat_lt, ◌==◌}
 use mathlib.Core.{Logic.dite, Option.some, Option.none}
 use native.Mathlib.Decide.{dec_le}
 use lib.ListN.{get_elem?}
-use Rattle.atomic_table.specs.Table.{State, Me, step, keeps, takes, Allows}
+use Rattle.atomic_table.specs.Table.{State, Me, step, takes, Allows}
 use Rattle.qh_model.specs.contract.BoardMachine.{Place, untouched, held, Machine, Event, claim_got, claim_over, Can, after, settled, put}
 use Rattle.qh_model.proofs.board.{Reached.reach_good, Reached.reach_claims, Updates.put_here, Updates.put_else, Updates.at_put}
 use Rattle.qh_board.specs.contract.Records.{with_block, told_over}
 use Rattle.qh_board.specs.{declared.view.Record.Record, declared.view.Setup.Setup, declared.view.View.View, steps.Rule.one_if}
 use Rattle.qh_board.specs.steps.{Rule.times, Rule.Agrees, Rule.SlotOf, Rule.Kept, Rule.Ruled, Shown.mark_of, Views.view_of, Views.HasRecord, Views.IsClaim}
 use Rattle.qh_board.proofs.Steps.{steps, others_keep, allowed_at, seat_record, seated, nothing, slots_put, settled_put, word_else, times_snoc}
-use Rattle.qh_board.proofs.Totals.{one_of}
+use Rattle.qh_board.proofs.{SlotsHome.all_home, SlotsHome.laid, Totals.one_of}
 
 module _ {S X : Type 0} (right : S → (ℕ → Type 0) → X → Type 0) (key : Setup S) where
   below_more : (x c : ℕ) → c < key.blocks → one_if (nat_lt x (min (c + 1) key.blocks)) ≡ one_if (nat_lt x (min c key.blocks)) + one_if (c == x)
@@ -45,7 +45,8 @@ module _ {S X : Type 0} (right : S → (ℕ → Type 0) → X → Type 0) (key :
       let g = reach_good key.blocks key.passes R.some_blocks m R.reached in
       let fresh : m.node i ≡ untouched = g.late i (omega arith) in
       let can : Can key.blocks key.passes m e = ((a.inside, a.mark ∙ ap mark_of unmarked), nothing right key m r a free, a.over ∙ going, room) in
-      steps right key s R e id r (with_block key.blocks m.claims r) (set s.words 0 (m.claims + 1)) (set s.homes i none) at can (record {
+      let m' = after key.blocks key.passes m e in
+      steps right key s R e m' refl id r (with_block key.blocks m.claims r) (set s.words 0 (m.claims + 1)) (set s.homes i none) at can (record {
         wide = length-set s.words 0 (m.claims + 1) ∙ R.wide;
         deep = length-set s.homes i none ∙ R.deep;
         claims = get_or-set_same s.words 0 (m.claims + 1) 0 (let z = R.wide in omega arith);
@@ -67,7 +68,7 @@ module _ {S X : Type 0} (right : S → (ℕ → Type 0) → X → Type 0) (key :
           holds = λ j e. let q : i ≡ j = cc in subst (λ (k : ℕ). put m.node i (held w) k ≡ held w) q (put_here m.node i (held w));
           alone = λ j e. mine_alone m r i a free j (at_put m.node i j (held w) (held w) e);
         };
-        others = others_keep right key m (after key.blocks key.passes m e) w (omega arith) (λ v ne. (refl, refl))
+        others = others_keep right key m m' w (omega arith) (λ v ne. (refl, refl))
             (λ v j ne q. put_else m.node i (held w) j (λ z. let f : held v ≡ untouched = sym q ∙ (ap m.node z ∙ fresh) in cc) ∙ q)
             (λ v j ne q. back_ m w i v j ne (at_put m.node i j (held w) (held v) q));
         drawn = let t = length-append r.got (m.claims ∷ []) in omega arith;
@@ -97,7 +98,8 @@ module _ {S X : Type 0} (right : S → (ℕ → Type 0) → X → Type 0) (key :
   over_step s R id r at free going unmarked full = let m = R.machine in let w = r.number in
       let e : Event = claim_over w in let a = (R.views id (view_of key (r ∷ [])) at).0 in
       let can : Can key.blocks key.passes m e = ((a.inside, a.mark ∙ ap mark_of unmarked), nothing right key m r a free, a.over ∙ going, full) in
-      steps right key s R e id r (told_over m.claims r) (set s.words 0 (m.claims + 1)) s.homes at can (record {
+      let m' = after key.blocks key.passes m e in
+      steps right key s R e m' refl id r (told_over m.claims r) (set s.words 0 (m.claims + 1)) s.homes at can (record {
         wide = length-set s.words 0 (m.claims + 1) ∙ R.wide;
         deep = R.deep;
         claims = get_or-set_same s.words 0 (m.claims + 1) 0 (let z = R.wide in omega arith);
@@ -108,7 +110,7 @@ module _ {S X : Type 0} (right : S → (ℕ → Type 0) → X → Type 0) (key :
       }) (record {
         same = refl;
         mine = record { inside = a.inside; over = put_here m.over w true; mark = a.mark; seen = omega arith; holds = a.holds; alone = a.alone };
-        others = others_keep right key m (after key.blocks key.passes m e) w (omega arith)
+        others = others_keep right key m m' w (omega arith)
             (λ v ne. (put_else m.over w true v ne, refl)) (λ v j ne q. q) (λ v j ne q. q);
         drawn = let t = ap one_if going in omega arith;
         got = λ x. let b = below_same x m.claims full in omega arith;
@@ -121,23 +123,15 @@ module _ {S X : Type 0} (right : S → (ℕ → Type 0) → X → Type 0) (key :
   Claiming slots id me = Allows (Kept right key) slots id me 0 (λ n. (n + 1) % 2 ^ 64) (IsClaim (step slots 0 1 0 none) me)
 
   claim_at : (slots id : ℕ) (r : Record) → r.node ≡ None → r.over ≡ false → r.mark ≡ None → Claiming slots id (view_of key (r ∷ []), [])
+  unfolding laid
   claim_at slots id r free going unmarked s R deep at small = dite (dec_le key.blocks R.machine.claims)
-      (λ full. let r' : Record = told_over R.machine.claims r in (
-        view_of key (r' ∷ []),
-        keeps,
-        tt,
-        subst (λ (z : ℕ). Kept right key record {
-          words = set s.words 0 z;
-          homes = s.homes;
-          views = set s.views id (view_of key (r' ∷ []));
-        }) next (over_step s R id r at free going unmarked full),
-        record {
-          later = later;
-          above = above;
-          got = λ l. absurd (omega arith);
-          over = λ _. (ap (λ (n : ℕ). view_of key (told_over n r ∷ [])) (sym found), refl);
-        },
-      ))
+      (λ full. all_home right key id 0 (λ n. (n + 1) % 2 ^ 64) (IsClaim (step slots 0 1 0 none) (view_of key (r ∷ []), [])) []
+      (told_over R.machine.claims r) s (R.machine.claims + 1) next (over_step s R id r at free going unmarked full) (record {
+        later = later;
+        above = above;
+        got = λ l. absurd (omega arith);
+        over = λ _. (ap (λ (n : ℕ). view_of key (told_over n r ∷ [])) (sym found), refl);
+      }))
       (λ room. let i : ℕ = key.blocks + R.machine.claims in let lt : R.machine.claims < key.blocks = omega arith in
       let g = reach_good key.blocks key.passes R.some_blocks R.machine R.reached in
       let slot = R.slots i (let z = R.some_blocks in omega arith) (omega arith) in

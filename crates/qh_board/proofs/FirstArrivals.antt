@@ -30,7 +30,8 @@ module _ {S X : Type 0} (right : S → (ℕ → Type 0) → X → Type 0) (key :
       let sib = sibling_is right key m g R.some_blocks i w mine lo (slice_index s.words (parent i)) (R.arrivals (parent i) n_.positive (omega arith)) in
       let can : Can key.blocks key.passes m e = ((a.inside, a.mark ∙ ap mark_of unmarked), mine, (λ z. omega arith), sib.0 zero_) in
       let x' : ℕ = slice_index s.words (parent i) + 1 in
-      steps right key s R e id r (come_first r) (set s.words (parent i) x') (laid s.homes (load right key i (Some x))) at can (record {
+      let m' = after key.blocks key.passes m e in
+      steps right key s R e m' refl id r (come_first r) (set s.words (parent i) x') (laid s.homes (load right key i (Some x))) at can (record {
         wide = length-set s.words (parent i) x' ∙ R.wide;
         deep = length_laid s.homes (load right key i (Some x)) ∙ R.deep;
         claims = word_else right key s.words (parent i) x' 0 (λ q. omega arith) ∙ R.claims;
@@ -58,7 +59,7 @@ module _ {S X : Type 0} (right : S → (ℕ → Type 0) → X → Type 0) (key :
           holds = λ j q. absurd (cc);
           alone = λ j q. absurd (lone m w r i a holds_ j (at_put m.node i j parked (held w) q));
         };
-        others = others_keep right key m (after key.blocks key.passes m e) w (omega arith) (λ v ne. (refl, refl))
+        others = others_keep right key m m' w (omega arith) (λ v ne. (refl, refl))
             (λ v j ne q. put_else m.node i parked j (λ z. let f : held v ≡ held w = sym q ∙ (ap m.node z ∙ mine) in ne cc) ∙ q)
             (λ v j ne q. back m i v j (at_put m.node i j parked (held v) q));
         drawn = refl;

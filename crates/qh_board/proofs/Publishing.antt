@@ -8,10 +8,11 @@ use lib.ListN.{get_elem?}
 use Rattle.atomic_table.specs.Table.{State, Me, step, Allows, rest}
 use Rattle.qh_model.specs.contract.BoardMachine.{Place, held, published, Machine, Event, publish, Can, after, settled, put, InSpan}
 use Rattle.qh_model.proofs.board.{Reached.reach_good, Updates.put_here, Updates.put_else, Updates.at_put}
-use Rattle.qh_board.specs.{declared.view.Record.Record, declared.view.Setup.Setup, declared.view.View.View, steps.Rule.one_if, steps.Rule.Agrees}
-use Rattle.qh_board.specs.steps.{Rule.SlotOf, Rule.Kept, Rule.Ruled, Shown.mark_of, Views.view_of, Views.kids, Views.blocks_of, Views.HasRecord, Views.put_out}
-use Rattle.qh_board.proofs.SlotsHome.{give_all, laid, valid_all, carried_all, homes_all, length_laid, load, slots_home, filled}
-use Rattle.qh_board.proofs.Steps.{Homes, steps, allowed_at, seat_record, others_keep, word_else}
+use Rattle.qh_board.specs.{contract.Records.without_node, declared.view.Record.Record, declared.view.Setup.Setup, declared.view.View.View}
+use Rattle.qh_board.specs.steps.{Rule.one_if, Rule.Agrees, Rule.SlotOf, Rule.Kept, Rule.Ruled, Shown.mark_of}
+use Rattle.qh_board.specs.steps.Views.{view_of, kids, blocks_of, HasRecord, put_out}
+use Rattle.qh_board.proofs.SlotsHome.{all_home, laid, length_laid, load, slots_home, filled}
+use Rattle.qh_board.proofs.Steps.{steps, allowed_at, seat_record, others_keep, word_else}
 
 module _ {S X : Type 0} (right : S → (ℕ → Type 0) → X → Type 0) (key : Setup S) where
   publish_step : (s : State (Option X) (View S)) (R : Kept right key s) (id : ℕ) (x : X) (r : Record)
@@ -20,14 +21,14 @@ module _ {S X : Type 0} (right : S → (ℕ → Type 0) → X → Type 0) (key :
       → Kept right key record {
         words = set s.words key.blocks 1;
         homes = laid s.homes (load right key 1 (Some x));
-        views = set s.views id (view_of key (record r { node = None } ∷ []));
+        views = set s.views id (view_of key (without_node r ∷ []));
       }
   publish_step s R id x r at holds_ unmarked rx = let m = R.machine in let w = r.number in let e : Event = publish w in
       let a = (R.views id (view_of key (r ∷ [])) at).0 in
       let g = reach_good key.blocks key.passes R.some_blocks m R.reached in let mine : m.node 1 ≡ held w = a.holds 1 holds_ in
       let can : Can key.blocks key.passes m e = ((a.inside, a.mark ∙ ap mark_of unmarked), mine) in
-      let some_blocks = R.some_blocks in
-      steps right key s R e id r (record r { node = None }) (set s.words key.blocks 1) (laid s.homes (load right key 1 (Some x))) at can (record {
+      let some_blocks = R.some_blocks in let m' = after key.blocks key.passes m e in
+      steps right key s R e m' refl id r (without_node r) (set s.words key.blocks 1) (laid s.homes (load right key 1 (Some x))) at can (record {
         wide = length-set s.words key.blocks 1 ∙ R.wide;
         deep = length_laid s.homes (load right key 1 (Some x)) ∙ R.deep;
         claims = word_else right key s.words key.blocks 1 0 (λ q. omega arith) ∙ R.claims;
@@ -52,7 +53,7 @@ module _ {S X : Type 0} (right : S → (ℕ → Type 0) → X → Type 0) (key :
           holds = λ j q. absurd (cc);
           alone = λ j q. absurd (lone m w r a holds_ j (at_put m.node 1 j published (held w) q));
         };
-        others = others_keep right key m (after key.blocks key.passes m e) w (omega arith) (λ v ne. (refl, refl))
+        others = others_keep right key m m' w (omega arith) (λ v ne. (refl, refl))
             (λ v j ne q. put_else m.node 1 published j (λ z. let f : held v ≡ held w = sym q ∙ (ap m.node z ∙ mine) in ne cc) ∙ q)
             (λ v j ne q. back m v j (at_put m.node 1 j published (held v) q));
         drawn = refl;
@@ -80,21 +81,9 @@ module _ {S X : Type 0} (right : S → (ℕ → Type 0) → X → Type 0) (key :
 
   publish_at : (slots id : ℕ) (x : X) (r : Record) → r.node ≡ Some 1 → r.mark ≡ None
       → right key.spans (InSpan key.blocks 1) x → Publishing slots id (view_of key (r ∷ []), load right key 1 (Some x))
-  publish_at slots id x r holds_ unmarked rx s R deep at small = let r' : Record = record r { node = None } in (
-    view_of key (r' ∷ []),
-    give_all (load right key 1 (Some x)),
-    valid_all s.homes (load right key 1 (Some x)),
-    subst (λ (z : ℕ × Homes X).
-        Kept right key record {
-          words = set s.words key.blocks z.0;
-          homes = z.1;
-          views = set s.views id (view_of key (r' ∷ []));
-        }) (λ k. (
-          next k,
-          sym (homes_all s.homes (load right key 1 (Some x))) k,
-        )) (publish_step s R id x r at holds_ unmarked rx),
-    (found, refl, carried_all (load right key 1 (Some x))),
-  )
+  publish_at slots id x r holds_ unmarked rx s R deep at small = let c = load right key 1 (Some x) in
+      all_home right key id key.blocks (λ n. (n + 1) % 2 ^ 64) (put_out (step slots key.blocks 1 0 none) (view_of key (r ∷ []), c)) c
+      (without_node r) s 1 next (publish_step s R id x r at holds_ unmarked rx) (found, refl, refl)
     where
       found : slice_index s.words key.blocks ≡ 0
       found = R.out ∙ ap settled ((R.views id (view_of key (r ∷ [])) at).0.holds 1 holds_)

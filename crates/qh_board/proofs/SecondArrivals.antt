@@ -50,7 +50,7 @@ module _ {S X : Type 0} (right : S → (ℕ → Type 0) → X → Type 0) (key :
       (λ ns. dite (ℕ_discrete j (parent i)) (λ q. ap (λ (k : ℕ). settled (joined m.node w i k)) q
       ∙ (ap settled new_p ∙ (sym (ap settled fr) ∙ ap (λ (k : ℕ). settled (m.node k)) (sym q)))) (λ np.
       ap settled (else_ j ne ns np))) in
-      steps right key s R e id r r' (set s.words (parent i) x') homes' at can (record {
+      steps right key s R e (after key.blocks key.passes m e) refl id r r' (set s.words (parent i) x') homes' at can (record {
         wide = length-set s.words (parent i) x' ∙ R.wide;
         deep = ap length is_homes
             ∙ (length-set (set (set (laid s.homes (load right key i (Some x))) (2 * parent i + 1) none) (2 * parent i) none)
