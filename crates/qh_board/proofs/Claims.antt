@@ -12,7 +12,7 @@ use Rattle.qh_model.proofs.board.{Reached.reach_good, Reached.reach_claims, Upda
 use Rattle.qh_board.specs.contract.Records.{with_block, told_over}
 use Rattle.qh_board.specs.{declared.view.Record.Record, declared.view.Setup.Setup, declared.view.View.View, steps.Rule.one_if}
 use Rattle.qh_board.specs.steps.{Rule.times, Rule.Agrees, Rule.SlotOf, Rule.Kept, Rule.Ruled, Shown.mark_of, Views.view_of, Views.HasRecord, Views.IsClaim}
-use Rattle.qh_board.proofs.Steps.{steps, others_keep, allowed_at, seat_record, seated, nothing, slots_put, settled_put, word_else, times_snoc}
+use Rattle.qh_board.proofs.Steps.{KeptAfter, steps, others_keep, allowed_at, seat_record, seated, nothing, slots_put, settled_put, word_else, times_snoc}
 use Rattle.qh_board.proofs.{SlotsHome.all_home, SlotsHome.laid, Totals.one_of}
 
 module _ {S X : Type 0} (right : S → (ℕ → Type 0) → X → Type 0) (key : Setup S) where
@@ -34,11 +34,8 @@ module _ {S X : Type 0} (right : S → (ℕ → Type 0) → X → Type 0) (key :
   pub got_step : (s : State (Option X) (View S)) (R : Kept right key s) (id : ℕ) (r : Record)
       → get_elem? s.views id ≡ some (view_of key (r ∷ [])) → r.node ≡ None → r.over ≡ false → r.mark ≡ None
       → R.machine.claims < key.blocks
-      → Kept right key record {
-        words = set s.words 0 (R.machine.claims + 1);
-        homes = set s.homes (key.blocks + R.machine.claims) none;
-        views = set s.views id (view_of key (with_block key.blocks R.machine.claims r ∷ []));
-      }
+      → KeptAfter right key s id (with_block key.blocks R.machine.claims r) (set s.words 0 (R.machine.claims + 1))
+      (set s.homes (key.blocks + R.machine.claims) none)
   got_step s R id r at free going unmarked room = let m = R.machine in let w = r.number in
       let e : Event = claim_got w in let a = (R.views id (view_of key (r ∷ [])) at).0 in
       let i : ℕ = key.blocks + m.claims in
@@ -51,12 +48,12 @@ module _ {S X : Type 0} (right : S → (ℕ → Type 0) → X → Type 0) (key :
         deep = length-set s.homes i none ∙ R.deep;
         claims = get_or-set_same s.words 0 (m.claims + 1) 0 (let z = R.wide in omega arith);
         arrivals = λ j lo hi. let a = R.arrivals j lo hi in
-            let b = word_else right key s.words 0 (m.claims + 1) j (λ q. omega arith) in
-            let c = settled_put right key m.node i (held w) (ap settled fresh) (2 * j) in
-            let d = settled_put right key m.node i (held w) (ap settled fresh) (2 * j + 1) in omega arith;
-        out = let b = word_else right key s.words 0 (m.claims + 1) key.blocks (λ q. let z = R.some_blocks in omega arith) in
-            let a = R.out in let c = settled_put right key m.node i (held w) (ap settled fresh) 1 in omega arith;
-        marks = λ p h. word_else right key s.words 0 (m.claims + 1) (key.blocks + 1 + p) (λ q. omega arith) ∙ R.marks p h;
+            let b = word_else s.words 0 (m.claims + 1) j (λ q. omega arith) in
+            let c = settled_put m.node i (held w) (ap settled fresh) (2 * j) in
+            let d = settled_put m.node i (held w) (ap settled fresh) (2 * j + 1) in omega arith;
+        out = let b = word_else s.words 0 (m.claims + 1) key.blocks (λ q. let z = R.some_blocks in omega arith) in
+            let a = R.out in let c = settled_put m.node i (held w) (ap settled fresh) 1 in omega arith;
+        marks = λ p h. word_else s.words 0 (m.claims + 1) (key.blocks + 1 + p) (λ q. omega arith) ∙ R.marks p h;
         slots = slots_put right key m.node s.homes i (held w) none (let z = R.deep in omega arith) tt R.slots;
       }) (record {
         same = refl;
@@ -72,8 +69,8 @@ module _ {S X : Type 0} (right : S → (ℕ → Type 0) → X → Type 0) (key :
             (λ v j ne q. put_else m.node i (held w) j (λ z. let f : held v ≡ untouched = sym q ∙ (ap m.node z ∙ fresh) in cc) ∙ q)
             (λ v j ne q. back_ m w i v j ne (at_put m.node i j (held w) (held v) q));
         drawn = let t = length-append r.got (m.claims ∷ []) in omega arith;
-        got = λ x. let t = times_snoc right key x r.got m.claims in let b = below_more x m.claims room in omega arith;
-        joins = λ x lo hi. let b = word_else right key s.words 0 (m.claims + 1) x (λ q. omega arith) in
+        got = λ x. let t = times_snoc x r.got m.claims in let b = below_more x m.claims room in omega arith;
+        joins = λ x lo hi. let b = word_else s.words 0 (m.claims + 1) x (λ q. omega arith) in
             let c = ap (λ (n : ℕ). one_if (n == 2)) b in omega arith;
         joins_inner = λ x h. refl;
       })
@@ -90,11 +87,7 @@ module _ {S X : Type 0} (right : S → (ℕ → Type 0) → X → Type 0) (key :
   pub over_step : (s : State (Option X) (View S)) (R : Kept right key s) (id : ℕ) (r : Record)
       → get_elem? s.views id ≡ some (view_of key (r ∷ [])) → r.node ≡ None → r.over ≡ false → r.mark ≡ None
       → key.blocks ≤ R.machine.claims
-      → Kept right key record {
-        words = set s.words 0 (R.machine.claims + 1);
-        homes = s.homes;
-        views = set s.views id (view_of key (told_over R.machine.claims r ∷ []));
-      }
+      → KeptAfter right key s id (told_over R.machine.claims r) (set s.words 0 (R.machine.claims + 1)) s.homes
   over_step s R id r at free going unmarked full = let m = R.machine in let w = r.number in
       let e : Event = claim_over w in let a = (R.views id (view_of key (r ∷ [])) at).0 in
       let can : Can key.blocks key.passes m e = ((a.inside, a.mark ∙ ap mark_of unmarked), nothing right key m r a free, a.over ∙ going, full) in
@@ -103,9 +96,9 @@ module _ {S X : Type 0} (right : S → (ℕ → Type 0) → X → Type 0) (key :
         wide = length-set s.words 0 (m.claims + 1) ∙ R.wide;
         deep = R.deep;
         claims = get_or-set_same s.words 0 (m.claims + 1) 0 (let z = R.wide in omega arith);
-        arrivals = λ j lo hi. word_else right key s.words 0 (m.claims + 1) j (λ q. omega arith) ∙ R.arrivals j lo hi;
-        out = word_else right key s.words 0 (m.claims + 1) key.blocks (λ q. let z = R.some_blocks in omega arith) ∙ R.out;
-        marks = λ p h. word_else right key s.words 0 (m.claims + 1) (key.blocks + 1 + p) (λ q. omega arith) ∙ R.marks p h;
+        arrivals = λ j lo hi. word_else s.words 0 (m.claims + 1) j (λ q. omega arith) ∙ R.arrivals j lo hi;
+        out = word_else s.words 0 (m.claims + 1) key.blocks (λ q. let z = R.some_blocks in omega arith) ∙ R.out;
+        marks = λ p h. word_else s.words 0 (m.claims + 1) (key.blocks + 1 + p) (λ q. omega arith) ∙ R.marks p h;
         slots = R.slots;
       }) (record {
         same = refl;
@@ -114,7 +107,7 @@ module _ {S X : Type 0} (right : S → (ℕ → Type 0) → X → Type 0) (key :
             (λ v ne. (put_else m.over w true v ne, refl)) (λ v j ne q. q) (λ v j ne q. q);
         drawn = let t = ap one_if going in omega arith;
         got = λ x. let b = below_same x m.claims full in omega arith;
-        joins = λ x lo hi. let b = word_else right key s.words 0 (m.claims + 1) x (λ q. omega arith) in
+        joins = λ x lo hi. let b = word_else s.words 0 (m.claims + 1) x (λ q. omega arith) in
             let c = ap (λ (n : ℕ). one_if (n == 2)) b in omega arith;
         joins_inner = λ x h. refl;
       })
@@ -139,11 +132,7 @@ module _ {S X : Type 0} (right : S → (ℕ → Type 0) → X → Type 0) (key :
         view_of key (r' ∷ []),
         takes i None,
         slot.1 ∙ ap some (subst (λ (p : Place). SlotOf right key i p slot.0) (g.late i (omega arith)) slot.2),
-        subst (λ (z : ℕ). Kept right key record {
-          words = set s.words 0 z;
-          homes = set s.homes i none;
-          views = set s.views id (view_of key (r' ∷ []));
-        }) next (got_step s R id r at free going unmarked lt),
+        subst (λ (z : ℕ). KeptAfter right key s id r' (set s.words 0 z) (set s.homes i none)) next (got_step s R id r at free going unmarked lt),
         record {
           later = later;
           above = above;

@@ -1,7 +1,7 @@
 -- A pass ends: it leaves with no node, or gives up with one.
 use Rattle.qh_model.specs.contract.BoardMachine as machine
 use Rattle.qh_board.specs.declared.view.Mark as ended
-use Rattle.std.proofs.Common.{◌≡◌, ℕ, ◌+◌, ◌%◌, ◌^◌, ◌≤◌, Bool, List, [], ◌∷◌, set, sym, refl, ap, ◌∙◌, subst, arith, Option, Some, None}
+use Rattle.std.proofs.Common.{◌≡◌, ℕ, ◌+◌, ◌%◌, ◌^◌, ◌≤◌, Bool, List, [], ◌∷◌, set, sym, refl, ap, ◌∙◌, arith, Option, Some, None}
 use Rattle.std.proofs.Common.{length-set, get_or-set_same}
 use Rattle.std.specs.Prelude.{slice_index, ◌==◌}
 use mathlib.Core.{Logic.dite, Option.some, Option.none}
@@ -12,10 +12,10 @@ use Rattle.qh_model.specs.contract.BoardMachine.{Place, held, Machine, Event, Ac
 use Rattle.qh_model.proofs.board.Updates.{put_here, put_else}
 use Rattle.qh_board.specs.{contract.Records.ended_as, declared.view.Mark.TheVariants.Left, declared.view.Mark.TheVariants.GaveUp}
 use Rattle.qh_board.specs.declared.view.{Record.Record, Setup.Setup, View.View}
-use Rattle.qh_board.specs.steps.{Rule.one_if, Rule.times, Rule.Agrees, Rule.SlotOf, Rule.Kept, Rule.Ruled, Shown.mark_of, Shown.mark_word}
+use Rattle.qh_board.specs.steps.{Rule.one_if, Rule.times, Rule.Agrees, Rule.Kept, Rule.Ruled, Shown.mark_of, Shown.mark_word}
 use Rattle.qh_board.specs.steps.Views.{view_of, kids, blocks_of, blocks_in, HasRecord, marked}
-use Rattle.qh_board.proofs.{SlotsHome.all_home, SlotsHome.laid, SlotsHome.length_laid, SlotsHome.load, SlotsHome.slots_home}
-use Rattle.qh_board.proofs.Steps.{SlotsOf, steps, allowed_at, seat_record, seated, others_keep, nothing, word_else}
+use Rattle.qh_board.proofs.{SlotsHome.all_home, SlotsHome.laid, SlotsHome.length_laid, SlotsHome.load, SlotsHome.slots_laid}
+use Rattle.qh_board.proofs.Steps.{KeptAfter, SlotsOf, steps, allowed_at, seat_record, seated, others_keep, nothing, word_else}
 
 -- what a pass adds to the word of its mark
 abbrev added : ended.Mark → ℕ
@@ -35,24 +35,20 @@ module _ {S X : Type 0} (right : S → (ℕ → Type 0) → X → Type 0) (key :
 
   end_step : (kind : ended.Mark) (s : State (Option X) (View S)) (R : Kept right key s) (id : ℕ) (c : List (ℕ × Option X)) (r : Record)
       → get_elem? s.views id ≡ some (view_of key (r ∷ [])) → Ending kind r.number c s R.machine
-      → Kept right key record {
-        words = set s.words (key.blocks + 1 + r.number) (added kind);
-        homes = laid s.homes c;
-        views = set s.views id (view_of key (ended_as kind r ∷ []));
-      }
+      → KeptAfter right key s id (ended_as kind r) (set s.words (key.blocks + 1 + r.number) (added kind)) (laid s.homes c)
   end_step kind s R id c r at E = let m = R.machine in let w = r.number in let a = (R.views id (view_of key (r ∷ [])) at).0 in
       let k : ℕ = key.blocks + 1 + w in let x : ℕ = added kind in let mark = mark_of (Some kind) in let inside = a.inside in
       let m' : Machine = record m { mark = put m.mark w mark } in
       steps right key s R E.event m' E.ends id r (ended_as kind r) (set s.words k x) (laid s.homes c) at E.can (record {
         wide = length-set s.words k x ∙ R.wide;
         deep = length_laid s.homes c ∙ R.deep;
-        claims = word_else right key s.words k x 0 (λ q. omega arith) ∙ R.claims;
-        arrivals = λ j lo hi. word_else right key s.words k x j (λ q. omega arith) ∙ R.arrivals j lo hi;
-        out = word_else right key s.words k x key.blocks (λ q. omega arith) ∙ R.out;
+        claims = word_else s.words k x 0 (λ q. omega arith) ∙ R.claims;
+        arrivals = λ j lo hi. word_else s.words k x j (λ q. omega arith) ∙ R.arrivals j lo hi;
+        out = word_else s.words k x key.blocks (λ q. omega arith) ∙ R.out;
         marks = λ p h. dite (ℕ_discrete p w)
             (λ q. ap (λ (z : ℕ). slice_index (set s.words k x) (key.blocks + 1 + z)) q
             ∙ (get_or-set_same s.words k x 0 (let z = R.wide in omega arith) ∙ sym (ap mark_word (ap (put m.mark w mark) q ∙ put_here m.mark w mark))))
-            (λ ne. word_else right key s.words k x (key.blocks + 1 + p) (λ q. ne (omega arith))
+            (λ ne. word_else s.words k x (key.blocks + 1 + p) (λ q. ne (omega arith))
             ∙ (R.marks p h ∙ sym (ap mark_word (put_else m.mark w mark p ne))));
         slots = E.slots;
       }) (record {
@@ -61,7 +57,7 @@ module _ {S X : Type 0} (right : S → (ℕ → Type 0) → X → Type 0) (key :
         others = others_keep right key m m' w (omega arith) (λ v ne. (refl, put_else m.mark w mark v ne)) (λ v j ne q. q) (λ v j ne q. q);
         drawn = refl;
         got = λ y. refl;
-        joins = λ y lo hi. ap (λ (n : ℕ). times y r.joins + one_if (n == 2)) (sym (word_else right key s.words k x y (λ q. omega arith)));
+        joins = λ y lo hi. ap (λ (n : ℕ). times y r.joins + one_if (n == 2)) (sym (word_else s.words k x y (λ q. omega arith)));
         joins_inner = λ y h. refl;
       })
 
@@ -98,13 +94,9 @@ module _ {S X : Type 0} (right : S → (ℕ → Type 0) → X → Type 0) (key :
       → Allows (Ruled right k) slots id me (key.blocks + 1 + number) (λ n. (n + 2) % 2 ^ 64) (marked (step slots (key.blocks + 1 + number) 2 0 none) me)
   give_up_allowed k same_key slots id i number over me of bare has =
       let full : me.1 ≡ load right key i None = bare ∙ ap (λ (z : Option (Setup S)). (i, None) ∷ kids {X = X} (blocks_in z) i) of in
-      end_allowed GaveUp k same_key slots id number (Some i) over me (load right key i None) of full has (λ s R a acts. let mine = a.holds i refl in record {
+      end_allowed GaveUp k same_key slots id number (Some i) over me (load right key i None) of full has (λ s R a acts. record {
         event = machine.give_up number i;
-        can = (acts, mine);
+        can = (acts, a.holds i refl);
         ends = refl;
-        slots = λ j lo hi. let t = slots_home right key s R i number None mine j lo hi in (
-          t.0,
-          t.1,
-          dite (ℕ_discrete j i) (λ q. subst (λ (p : Place). SlotOf right key j p t.0) (sym (ap R.machine.node q ∙ mine)) tt) (λ ne. t.3 ne),
-        );
+        slots = slots_laid right key s R i number None (a.holds i refl);
       })
