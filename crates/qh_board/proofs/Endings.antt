@@ -1,8 +1,7 @@
 -- A pass ends: it leaves with no node, or gives up with one.
 use Rattle.qh_model.specs.contract.BoardMachine as machine
 use Rattle.qh_board.specs.declared.view.Mark as ended
-use Rattle.std.proofs.Common.{◌≡◌, ℕ, ◌+◌, ◌%◌, ◌^◌, ◌≤◌, Bool, List, [], ◌∷◌, set, sym, refl, ap, ◌∙◌, arith, Option, Some, None}
-use Rattle.std.proofs.Common.{length-set, get_or-set_same}
+use Rattle.std.proofs.Common.{◌≡◌, ℕ, ◌+◌, ◌%◌, ◌^◌, ◌≤◌, Bool, List, [], ◌∷◌, set, sym, refl, ap, ◌∙◌, arith, Option, Some, None, length-set, get_or-set_same}
 use Rattle.std.specs.Prelude.{slice_index, ◌==◌}
 use mathlib.Core.{Logic.dite, Option.some, Option.none}
 use native.Mathlib.Decide.{ℕ_discrete}
@@ -10,11 +9,11 @@ use lib.ListN.{get_elem?}
 use Rattle.atomic_table.specs.Table.{State, Me, step, Allows}
 use Rattle.qh_model.specs.contract.BoardMachine.{Place, held, Machine, Event, Acts, Can, after, put}
 use Rattle.qh_model.proofs.board.Updates.{put_here, put_else}
-use Rattle.qh_board.specs.{contract.Records.ended_as, declared.view.Mark.TheVariants.Left, declared.view.Mark.TheVariants.GaveUp}
-use Rattle.qh_board.specs.declared.view.{Record.Record, Setup.Setup, View.View}
+use Rattle.qh_board.specs.contract.Records.{ended_as}
+use Rattle.qh_board.specs.declared.view.{Mark.TheVariants.Left, Mark.TheVariants.GaveUp, Record.Record, Setup.Setup, View.View}
 use Rattle.qh_board.specs.steps.{Rule.one_if, Rule.times, Rule.Agrees, Rule.Kept, Rule.Ruled, Shown.mark_of, Shown.mark_word}
 use Rattle.qh_board.specs.steps.Views.{view_of, kids, blocks_of, blocks_in, HasRecord, marked}
-use Rattle.qh_board.proofs.{SlotsHome.all_home, SlotsHome.laid, SlotsHome.length_laid, SlotsHome.load, SlotsHome.slots_laid}
+use Rattle.qh_board.proofs.SlotsHome.{all_home, laid, length_laid, load, slots_laid}
 use Rattle.qh_board.proofs.Steps.{KeptAfter, SlotsOf, steps, allowed_at, seat_record, seated, others_keep, nothing, word_else}
 
 -- what a pass adds to the word of its mark

@@ -114,11 +114,9 @@ module _ {S X : Type 0} (right : S → (ℕ → Type 0) → X → Type 0) (key :
         slots = gone.0;
       }) gone.1
 
-  abbrev Publishing : ℕ → ℕ → Me (Option X) (View S) → Type 0
-  Publishing slots id me = Allows (Kept right key) slots id me key.blocks (λ n. (n + 1) % 2 ^ 64) (put_out (step slots key.blocks 1 0 none) me)
-
   publish_at : (slots id : ℕ) (x : X) (r : Record) → r.node ≡ Some 1 → r.mark ≡ None
-      → right key.spans (InSpan key.blocks 1) x → Publishing slots id (view_of key (r ∷ []), load right key 1 (Some x))
+      → right key.spans (InSpan key.blocks 1) x → let me : Me (Option X) (View S) = (view_of key (r ∷ []), load right key 1 (Some x)) in
+      Allows (Kept right key) slots id me key.blocks (λ n. (n + 1) % 2 ^ 64) (put_out (step slots key.blocks 1 0 none) me)
   publish_at slots id x r holds_ unmarked rx s R deep at small = let c = load right key 1 (Some x) in
       all_home right key id key.blocks (λ n. (n + 1) % 2 ^ 64) (put_out (step slots key.blocks 1 0 none) (view_of key (r ∷ []), c)) c
       (without_node r) s 1 next (publish_step s R id x r at holds_ unmarked rx) (found, refl, refl)
