@@ -1,19 +1,19 @@
 -- Claiming a block, and being told that all are claimed.
 use Rattle.std.proofs.Common.{◌≡◌, ◌≢◌, ◌⊎◌, inl, inr, ℕ, zero, suc, ◌+◌, ◌*◌, ◌%◌, ◌^◌, ◌<◌, ◌≤◌, min, true, false, List, [], ◌∷◌, length, set, sym, refl, ap}
-use Rattle.std.proofs.Common.{◌∙◌, subst, arith, eq-eqb, Option, Some, None, get_or, length-set, length-append, get_or-set_same}
+use Rattle.std.proofs.Common.{Bool, ◌∙◌, subst, arith, eq-eqb, Option, Some, None, get_or, length-set, length-append, get_or-set_same}
 use Rattle.std.proofs.lemmas.Bool.Decides.{nat_tests}
 use Rattle.std.specs.Prelude.{All, slice_index, nat_lt, ◌==◌}
 use mathlib.Core.{Logic.dite, Option.some, Option.none}
 use native.Mathlib.Decide.{dec_le}
 use lib.ListN.{get_elem?}
-use Rattle.atomic_table.specs.Table.{State, Me, step, keeps, takes, Allows}
+use Rattle.atomic_table.specs.Table.{State, Me, step, takes, Allows}
 use Rattle.qh_model.specs.contract.BoardMachine.{Place, untouched, held, Machine, Event, claim_got, claim_over, Can, after, settled, put}
 use Rattle.qh_model.proofs.board.{Reached.reach_good, Reached.reach_claims, Updates.put_here, Updates.put_else, Updates.at_put}
 use Rattle.qh_board.specs.contract.Records.{with_block, told_over}
 use Rattle.qh_board.specs.{declared.view.Record.Record, declared.view.Setup.Setup, declared.view.View.View, steps.Rule.one_if}
 use Rattle.qh_board.specs.steps.{Rule.times, Rule.Agrees, Rule.SlotOf, Rule.Kept, Rule.Ruled, Shown.mark_of, Views.view_of, Views.HasRecord, Views.IsClaim}
-use Rattle.qh_board.proofs.Steps.{steps, others_keep, allowed_at, seat_record, seated, nothing, slots_put, settled_put, word_else, times_snoc}
-use Rattle.qh_board.proofs.Totals.{one_of}
+use Rattle.qh_board.proofs.Steps.{Homes, KeptAfter, SlotsOf, Shows, steps, others_keep, allowed_at, seat_record, seated, nothing, slots_put}
+use Rattle.qh_board.proofs.{SlotsHome.all_home, SlotsHome.laid, Steps.settled_put, Steps.word_else, Steps.times_snoc, Totals.one_of}
 
 module _ {S X : Type 0} (right : S → (ℕ → Type 0) → X → Type 0) (key : Setup S) where
   below_more : (x c : ℕ) → c < key.blocks → one_if (nat_lt x (min (c + 1) key.blocks)) ≡ one_if (nat_lt x (min c key.blocks)) + one_if (c == x)
@@ -31,33 +31,35 @@ module _ {S X : Type 0} (right : S → (ℕ → Type 0) → X → Type 0) (key :
   below_same : (x c : ℕ) → key.blocks ≤ c → one_if (nat_lt x (min (c + 1) key.blocks)) ≡ one_if (nat_lt x (min c key.blocks))
   below_same x c h = ap (λ (n : ℕ). one_if (nat_lt x n)) (omega arith)
 
+  -- what words and slots show after a claim, which settles no node
+  claim_shows : (s : State (Option X) (View S)) (R : Kept right key s) (f : ℕ → Place) (over : ℕ → Bool) (homes : Homes X)
+      → ((j : ℕ) → settled (f j) ≡ settled (R.machine.node j)) → length homes ≡ length s.homes → SlotsOf right key f homes
+      → let n : ℕ = R.machine.claims + 1 in Shows right key record R.machine { claims = n; node = f; over = over } (set s.words 0 n) homes
+  claim_shows s R f over homes same long slots = let n : ℕ = R.machine.claims + 1 in record {
+    wide = length-set s.words 0 n ∙ R.wide;
+    deep = long ∙ R.deep;
+    claims = get_or-set_same s.words 0 n 0 (let z = R.wide in omega arith);
+    arrivals = λ j lo hi. let a = same (2 * j) in let b = same (2 * j + 1) in word_else s.words 0 n j (λ q. omega arith) ∙ (R.arrivals j lo hi ∙ omega arith);
+    out = word_else s.words 0 n key.blocks (λ q. let z = R.some_blocks in omega arith) ∙ (R.out ∙ sym (same 1));
+    marks = λ p h. word_else s.words 0 n (key.blocks + 1 + p) (λ q. omega arith) ∙ R.marks p h;
+    slots = slots;
+  }
+
   pub got_step : (s : State (Option X) (View S)) (R : Kept right key s) (id : ℕ) (r : Record)
       → get_elem? s.views id ≡ some (view_of key (r ∷ [])) → r.node ≡ None → r.over ≡ false → r.mark ≡ None
       → R.machine.claims < key.blocks
-      → Kept right key record {
-        words = set s.words 0 (R.machine.claims + 1);
-        homes = set s.homes (key.blocks + R.machine.claims) none;
-        views = set s.views id (view_of key (with_block key.blocks R.machine.claims r ∷ []));
-      }
+      → KeptAfter right key s id (with_block key.blocks R.machine.claims r) (set s.words 0 (R.machine.claims + 1))
+      (set s.homes (key.blocks + R.machine.claims) none)
   got_step s R id r at free going unmarked room = let m = R.machine in let w = r.number in
       let e : Event = claim_got w in let a = (R.views id (view_of key (r ∷ [])) at).0 in
       let i : ℕ = key.blocks + m.claims in
       let g = reach_good key.blocks key.passes R.some_blocks m R.reached in
       let fresh : m.node i ≡ untouched = g.late i (omega arith) in
       let can : Can key.blocks key.passes m e = ((a.inside, a.mark ∙ ap mark_of unmarked), nothing right key m r a free, a.over ∙ going, room) in
-      steps right key s R e id r (with_block key.blocks m.claims r) (set s.words 0 (m.claims + 1)) (set s.homes i none) at can (record {
-        wide = length-set s.words 0 (m.claims + 1) ∙ R.wide;
-        deep = length-set s.homes i none ∙ R.deep;
-        claims = get_or-set_same s.words 0 (m.claims + 1) 0 (let z = R.wide in omega arith);
-        arrivals = λ j lo hi. let a = R.arrivals j lo hi in
-            let b = word_else right key s.words 0 (m.claims + 1) j (λ q. omega arith) in
-            let c = settled_put right key m.node i (held w) (ap settled fresh) (2 * j) in
-            let d = settled_put right key m.node i (held w) (ap settled fresh) (2 * j + 1) in omega arith;
-        out = let b = word_else right key s.words 0 (m.claims + 1) key.blocks (λ q. let z = R.some_blocks in omega arith) in
-            let a = R.out in let c = settled_put right key m.node i (held w) (ap settled fresh) 1 in omega arith;
-        marks = λ p h. word_else right key s.words 0 (m.claims + 1) (key.blocks + 1 + p) (λ q. omega arith) ∙ R.marks p h;
-        slots = slots_put right key m.node s.homes i (held w) none (let z = R.deep in omega arith) tt R.slots;
-      }) (record {
+      let m' = after key.blocks key.passes m e in
+      steps right key s R e m' refl id r (with_block key.blocks m.claims r) (set s.words 0 (m.claims + 1)) (set s.homes i none) at can
+      (claim_shows s R (put m.node i (held w)) m.over (set s.homes i none) (settled_put m.node i (held w) (ap settled fresh)) (length-set s.homes i none)
+      (slots_put right key m.node s.homes i (held w) none (let z = R.deep in omega arith) tt R.slots)) (record {
         same = refl;
         mine = record {
           inside = a.inside;
@@ -67,13 +69,12 @@ module _ {S X : Type 0} (right : S → (ℕ → Type 0) → X → Type 0) (key :
           holds = λ j e. let q : i ≡ j = cc in subst (λ (k : ℕ). put m.node i (held w) k ≡ held w) q (put_here m.node i (held w));
           alone = λ j e. mine_alone m r i a free j (at_put m.node i j (held w) (held w) e);
         };
-        others = others_keep right key m (after key.blocks key.passes m e) w (omega arith) (λ v ne. (refl, refl))
+        others = others_keep right key m m' w (omega arith) (λ v ne. (refl, refl))
             (λ v j ne q. put_else m.node i (held w) j (λ z. let f : held v ≡ untouched = sym q ∙ (ap m.node z ∙ fresh) in cc) ∙ q)
             (λ v j ne q. back_ m w i v j ne (at_put m.node i j (held w) (held v) q));
         drawn = let t = length-append r.got (m.claims ∷ []) in omega arith;
-        got = λ x. let t = times_snoc right key x r.got m.claims in let b = below_more x m.claims room in omega arith;
-        joins = λ x lo hi. let b = word_else right key s.words 0 (m.claims + 1) x (λ q. omega arith) in
-            let c = ap (λ (n : ℕ). one_if (n == 2)) b in omega arith;
+        got = λ x. let t = times_snoc x r.got m.claims in let b = below_more x m.claims room in omega arith;
+        joins = λ x lo hi. ap (λ (n : ℕ). times x r.joins + one_if (n == 2)) (sym (word_else s.words 0 (m.claims + 1) x (λ q. omega arith)));
         joins_inner = λ x h. refl;
       })
     where
@@ -89,55 +90,35 @@ module _ {S X : Type 0} (right : S → (ℕ → Type 0) → X → Type 0) (key :
   pub over_step : (s : State (Option X) (View S)) (R : Kept right key s) (id : ℕ) (r : Record)
       → get_elem? s.views id ≡ some (view_of key (r ∷ [])) → r.node ≡ None → r.over ≡ false → r.mark ≡ None
       → key.blocks ≤ R.machine.claims
-      → Kept right key record {
-        words = set s.words 0 (R.machine.claims + 1);
-        homes = s.homes;
-        views = set s.views id (view_of key (told_over R.machine.claims r ∷ []));
-      }
+      → KeptAfter right key s id (told_over R.machine.claims r) (set s.words 0 (R.machine.claims + 1)) s.homes
   over_step s R id r at free going unmarked full = let m = R.machine in let w = r.number in
       let e : Event = claim_over w in let a = (R.views id (view_of key (r ∷ [])) at).0 in
       let can : Can key.blocks key.passes m e = ((a.inside, a.mark ∙ ap mark_of unmarked), nothing right key m r a free, a.over ∙ going, full) in
-      steps right key s R e id r (told_over m.claims r) (set s.words 0 (m.claims + 1)) s.homes at can (record {
-        wide = length-set s.words 0 (m.claims + 1) ∙ R.wide;
-        deep = R.deep;
-        claims = get_or-set_same s.words 0 (m.claims + 1) 0 (let z = R.wide in omega arith);
-        arrivals = λ j lo hi. word_else right key s.words 0 (m.claims + 1) j (λ q. omega arith) ∙ R.arrivals j lo hi;
-        out = word_else right key s.words 0 (m.claims + 1) key.blocks (λ q. let z = R.some_blocks in omega arith) ∙ R.out;
-        marks = λ p h. word_else right key s.words 0 (m.claims + 1) (key.blocks + 1 + p) (λ q. omega arith) ∙ R.marks p h;
-        slots = R.slots;
-      }) (record {
+      let m' = after key.blocks key.passes m e in
+      steps right key s R e m' refl id r (told_over m.claims r) (set s.words 0 (m.claims + 1)) s.homes at can
+      (claim_shows s R m.node (put m.over w true) s.homes (λ j. refl) refl R.slots) (record {
         same = refl;
         mine = record { inside = a.inside; over = put_here m.over w true; mark = a.mark; seen = omega arith; holds = a.holds; alone = a.alone };
-        others = others_keep right key m (after key.blocks key.passes m e) w (omega arith)
+        others = others_keep right key m m' w (omega arith)
             (λ v ne. (put_else m.over w true v ne, refl)) (λ v j ne q. q) (λ v j ne q. q);
         drawn = let t = ap one_if going in omega arith;
         got = λ x. let b = below_same x m.claims full in omega arith;
-        joins = λ x lo hi. let b = word_else right key s.words 0 (m.claims + 1) x (λ q. omega arith) in
-            let c = ap (λ (n : ℕ). one_if (n == 2)) b in omega arith;
+        joins = λ x lo hi. ap (λ (n : ℕ). times x r.joins + one_if (n == 2)) (sym (word_else s.words 0 (m.claims + 1) x (λ q. omega arith)));
         joins_inner = λ x h. refl;
       })
 
-  abbrev Claiming : ℕ → ℕ → Me (Option X) (View S) → Type 0
-  Claiming slots id me = Allows (Kept right key) slots id me 0 (λ n. (n + 1) % 2 ^ 64) (IsClaim (step slots 0 1 0 none) me)
-
-  claim_at : (slots id : ℕ) (r : Record) → r.node ≡ None → r.over ≡ false → r.mark ≡ None → Claiming slots id (view_of key (r ∷ []), [])
+  claim_at : (slots id : ℕ) (r : Record) → r.node ≡ None → r.over ≡ false → r.mark ≡ None
+      → let me : Me (Option X) (View S) = (view_of key (r ∷ []), []) in
+      Allows (Kept right key) slots id me 0 (λ n. (n + 1) % 2 ^ 64) (IsClaim (step slots 0 1 0 none) me)
+  unfolding laid
   claim_at slots id r free going unmarked s R deep at small = dite (dec_le key.blocks R.machine.claims)
-      (λ full. let r' : Record = told_over R.machine.claims r in (
-        view_of key (r' ∷ []),
-        keeps,
-        tt,
-        subst (λ (z : ℕ). Kept right key record {
-          words = set s.words 0 z;
-          homes = s.homes;
-          views = set s.views id (view_of key (r' ∷ []));
-        }) next (over_step s R id r at free going unmarked full),
-        record {
-          later = later;
-          above = above;
-          got = λ l. absurd (omega arith);
-          over = λ _. (ap (λ (n : ℕ). view_of key (told_over n r ∷ [])) (sym found), refl);
-        },
-      ))
+      (λ full. all_home right key id 0 (λ n. (n + 1) % 2 ^ 64) (IsClaim (step slots 0 1 0 none) (view_of key (r ∷ []), [])) []
+      (told_over R.machine.claims r) s (R.machine.claims + 1) next (over_step s R id r at free going unmarked full) (record {
+        later = later;
+        above = above;
+        got = λ l. absurd (omega arith);
+        over = λ _. (ap (λ (n : ℕ). view_of key (told_over n r ∷ [])) (sym found), refl);
+      }))
       (λ room. let i : ℕ = key.blocks + R.machine.claims in let lt : R.machine.claims < key.blocks = omega arith in
       let g = reach_good key.blocks key.passes R.some_blocks R.machine R.reached in
       let slot = R.slots i (let z = R.some_blocks in omega arith) (omega arith) in
@@ -145,11 +126,7 @@ module _ {S X : Type 0} (right : S → (ℕ → Type 0) → X → Type 0) (key :
         view_of key (r' ∷ []),
         takes i None,
         slot.1 ∙ ap some (subst (λ (p : Place). SlotOf right key i p slot.0) (g.late i (omega arith)) slot.2),
-        subst (λ (z : ℕ). Kept right key record {
-          words = set s.words 0 z;
-          homes = set s.homes i none;
-          views = set s.views id (view_of key (r' ∷ []));
-        }) next (got_step s R id r at free going unmarked lt),
+        subst (λ (z : ℕ). KeptAfter right key s id r' (set s.words 0 z) (set s.homes i none)) next (got_step s R id r at free going unmarked lt),
         record {
           later = later;
           above = above;

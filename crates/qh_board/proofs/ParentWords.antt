@@ -27,7 +27,7 @@ module _ {S X : Type 0} (right : S → (ℕ → Type 0) → X → Type 0) (key :
       ∙ (here ∙ ap (λ (k : ℕ). slice_index words k + 1) (sym e)) in
       at_parent j e n.both here' t)
       (λ ne. let t = old j a b in
-      let u = word_else right key words (parent i) (slice_index words (parent i) + 1) j ne in
+      let u = word_else words (parent i) (slice_index words (parent i) + 1) j ne in
       let p = same_ (2 * j) (λ e. ne (omega arith)) in let q = same_ (2 * j + 1) (λ e. ne (omega arith)) in omega arith)
     where
       at_parent : (j : ℕ) → j ≡ parent i → ArePair i → slice_index (set words (parent i) (slice_index words (parent i) + 1)) j ≡ slice_index words j + 1

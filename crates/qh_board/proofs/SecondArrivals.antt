@@ -1,33 +1,27 @@
 -- The second arrival at a node, which takes both values.
-use mathlib.Core.Option as maybe
 use Rattle.qh_model.specs.contract.BoardMachine as machine
 use Rattle.std.proofs.Common.{◌≡◌, ◌≢◌, inl, inr, ⊎_elim, ℕ, ◌+◌, ◌*◌, ◌<◌, ◌≤◌, [], ◌∷◌, length, set, sym, refl, ap, ◌∙◌, subst, arith, eq-eqb, ne_eqb, Option}
-use Rattle.std.proofs.Common.{Some, None, length-set, get_or-set_same}
+use Rattle.std.proofs.Common.{if◌then◌else◌, Bool, true, false, List, Some, None, length-set, get_or-set_same}
 use Rattle.std.specs.Prelude.{slice_index, ◌==◌}
-use mathlib.Core.{Logic.dite, Option.some, Option.none, Option.some-injective, Option.some-ne-none}
+use mathlib.Core.{Logic.dite, Option.some, Option.none}
 use native.Mathlib.Decide.{ℕ_discrete}
 use lib.ListN.{get_elem?}
 use Rattle.atomic_table.specs.Table.{State}
-use Rattle.atomic_table.proofs.Lists.{set_here, set_else}
 use Rattle.qh_model.specs.contract.BoardMachine.{Place, untouched, held, parked, used, published, Mark, left, gave_up, Machine, Event, arrive_first}
 use Rattle.qh_model.specs.contract.BoardMachine.{arrive_second, publish, Can, after, Reachable, settled, put, sibling, parent, InSpan}
 use Rattle.qh_model.proofs.board.{Grown.ranged, Joined.Cases, Joined.same, Joined.spent, Joined.got, Joined.joined, Joined.cases, Joined.fresh, Joined.at_i}
-use Rattle.qh_model.proofs.board.{Joined.at_s, Joined.at_p, Reached.reach_good, Siblings.ArePair, Siblings.near, Updates.put_else}
+use Rattle.qh_model.proofs.board.{Joined.at_p, Reached.reach_good, Siblings.ArePair, Siblings.near, Updates.put_else}
 use Rattle.qh_board.specs.{contract.Records.come_second, declared.view.Record.Record, declared.view.Setup.Setup, declared.view.View.View}
-use Rattle.qh_board.specs.steps.{Rule.one_if, Rule.Agrees, Rule.SlotOf, Rule.Kept, Shown.mark_of, Views.view_of}
-use Rattle.qh_board.proofs.{ParentWords.arrivals_up, ParentWords.sibling_is, SlotsHome.laid, SlotsHome.length_laid, SlotsHome.load, SlotsHome.slots_home}
-use Rattle.qh_board.proofs.Steps.{Homes, steps, others_keep, word_else, times_snoc}
+use Rattle.qh_board.specs.steps.{Rule.one_if, Rule.Agrees, Rule.Kept, Shown.mark_of, Views.view_of}
+use Rattle.qh_board.proofs.{ParentWords.arrivals_up, ParentWords.sibling_is, SlotsHome.laid, SlotsHome.length_laid, SlotsHome.load, SlotsHome.slots_laid}
+use Rattle.qh_board.proofs.Steps.{Homes, KeptAfter, SlotsOf, steps, others_keep, slots_put, settled_put, word_else, times_snoc}
 
 module _ {S X : Type 0} (right : S → (ℕ → Type 0) → X → Type 0) (key : Setup S) where
   pub second_step : (s : State (Option X) (View S)) (R : Kept right key s) (id i : ℕ) (x : X) (r : Record) (homes' : Homes X)
       → get_elem? s.views id ≡ some (view_of key (r ∷ [])) → r.node ≡ Some i → r.mark ≡ None → 1 < i
       → slice_index s.words (parent i) ≢ 0
       → homes' ≡ set (set (set (laid s.homes (load right key i (Some x))) (2 * parent i + 1) none) (2 * parent i) none) (parent i) none
-      → Kept right key record {
-        words = set s.words (parent i) (slice_index s.words (parent i) + 1);
-        homes = homes';
-        views = set s.views id (view_of key (come_second (parent i) r ∷ []));
-      }
+      → KeptAfter right key s id (come_second (parent i) r) (set s.words (parent i) (slice_index s.words (parent i) + 1)) homes'
   second_step s R id i x r homes' at holds_ unmarked lo nz is_homes = let m = R.machine in let w = r.number in
       let e : Event = arrive_second w i in let a = (R.views id (view_of key (r ∷ [])) at).0 in
       let g = reach_good key.blocks key.passes R.some_blocks m R.reached in let mine : m.node i ≡ held w = a.holds i holds_ in
@@ -36,65 +30,33 @@ module _ {S X : Type 0} (right : S → (ℕ → Type 0) → X → Type 0) (key :
       let sib = (sibling_is right key m g R.some_blocks i w mine lo (slice_index s.words (parent i)) (R.arrivals (parent i) n_.positive (omega arith))).1 nz in
       let act : (w < key.passes) × (m.mark w ≡ machine.none) = (a.inside, a.mark ∙ ap mark_of unmarked) in
       let can : Can key.blocks key.passes m e = (act, mine, (λ z. omega arith), sib.0) in
-      let x' : ℕ = slice_index s.words (parent i) + 1 in let r' : Record = come_second (parent i) r in
+      let p : ℕ = parent i in let n : ℕ = slice_index s.words p + 1 in let words : List ℕ = set s.words p n in
       let fr = fresh key.blocks key.passes R.some_blocks m g w i act mine (λ z. omega arith) sib.0 in
       let new_i = at_i key.blocks key.passes R.some_blocks m g w i act mine (λ z. omega arith) sib.0 in
-      let new_s = at_s key.blocks key.passes R.some_blocks m g w i act mine (λ z. omega arith) sib.0 in
       let new_p = at_p key.blocks key.passes R.some_blocks m g w i act mine (λ z. omega arith) sib.0 in
-      let else_ : (j : ℕ) → j ≢ i → j ≢ sibling i → j ≢ parent i → joined m.node w i j ≡ m.node j = λ j a b c.
-      put_else (put (put m.node i used) (sibling i) used) (parent i) (held w) j c
-      ∙ (put_else (put m.node i used) (sibling i) used j b ∙ put_else m.node i used j a) in
-      let settled_else : (j : ℕ) → j ≢ i → settled (joined m.node w i j) ≡ settled (m.node j) =
-      λ j ne. dite (ℕ_discrete j (sibling i)) (λ q. ap (λ (k : ℕ). settled (joined m.node w i k)) q
-      ∙ (ap settled new_s ∙ (sym (ap settled sib.0) ∙ ap (λ (k : ℕ). settled (m.node k)) (sym q))))
-      (λ ns. dite (ℕ_discrete j (parent i)) (λ q. ap (λ (k : ℕ). settled (joined m.node w i k)) q
-      ∙ (ap settled new_p ∙ (sym (ap settled fr) ∙ ap (λ (k : ℕ). settled (m.node k)) (sym q)))) (λ np.
-      ap settled (else_ j ne ns np))) in
-      steps right key s R e id r r' (set s.words (parent i) x') homes' at can (record {
-        wide = length-set s.words (parent i) x' ∙ R.wide;
-        deep = ap length is_homes
-            ∙ (length-set (set (set (laid s.homes (load right key i (Some x))) (2 * parent i + 1) none) (2 * parent i) none)
-            (parent i) none ∙ (length-set (set (laid s.homes (load right key i (Some x))) (2 * parent i + 1) none)
-            (2 * parent i) none ∙ (length-set (laid s.homes (load right key i (Some x))) (2 * parent i + 1) none
-            ∙ (length_laid s.homes (load right key i (Some x)) ∙ R.deep))));
-        claims = word_else right key s.words (parent i) x' 0 (λ q. omega arith) ∙ R.claims;
+      let else_ : (j : ℕ) → j ≢ i → j ≢ sibling i → j ≢ p → joined m.node w i j ≡ m.node j = λ j a b c.
+      put_else (put (put m.node i used) (sibling i) used) p (held w) j c ∙ (put_else (put m.node i used) (sibling i) used j b ∙ put_else m.node i used j a) in
+      let settled_else : (j : ℕ) → j ≢ i → settled (joined m.node w i j) ≡ settled (m.node j) = λ j ne.
+      settled_put (put (put m.node i used) (sibling i) used) p (held w) (ap settled (put_else (put m.node i used) (sibling i) used p (λ q. omega arith)
+      ∙ (put_else m.node i used p (λ q. omega arith) ∙ fr))) j
+      ∙ (settled_put (put m.node i used) (sibling i) used (ap settled (put_else m.node i used (sibling i) n_.apart ∙ sib.0)) j
+      ∙ ap settled (put_else m.node i used j ne)) in
+      let L : Homes X = laid s.homes (load right key i (Some x)) in let L1 : Homes X = set L (2 * p + 1) none in let L2 : Homes X = set L1 (2 * p) none in
+      let len : length L ≡ 2 * key.blocks = length_laid s.homes (load right key i (Some x)) ∙ R.deep in
+      let len1 = length-set L (2 * p + 1) none in let len2 = length-set L1 (2 * p) none in
+      let f1 : ℕ → Place = put m.node (2 * p + 1) used in let f2 : ℕ → Place = put f1 (2 * p) used in
+      let slots1 = slots_put right key m.node L (2 * p + 1) used none (omega arith) tt (slots_laid right key s R i w (Some x) mine) in
+      let slots2 = slots_put right key f1 L1 (2 * p) used none (omega arith) tt slots1 in
+      let slots3 = slots_put right key f2 L2 p (held w) none (omega arith) tt slots2 in
+      steps right key s R e (after key.blocks key.passes m e) refl id r (come_second p r) words homes' at can (record {
+        wide = length-set s.words p n ∙ R.wide;
+        deep = ap length is_homes ∙ (length-set L2 p none ∙ (len2 ∙ (len1 ∙ len)));
+        claims = word_else s.words p n 0 (λ q. omega arith) ∙ R.claims;
         arrivals = arrivals_up right key m.node (joined m.node w i) s.words i lo rg.1 R.wide
             (ap settled new_i ∙ sym (ap (λ (k : ℕ). k + 1) (ap settled mine))) settled_else R.arrivals;
-        out = word_else right key s.words (parent i) x' key.blocks (λ q. omega arith) ∙ (R.out ∙ sym (settled_else 1 (λ q. omega arith)));
-        marks = λ p h. word_else right key s.words (parent i) x' (key.blocks + 1 + p) (λ q. omega arith) ∙ R.marks p h;
-        slots = λ j lo' hi. let L : Homes X = laid s.homes (load right key i (Some x)) in
-            let L1 : Homes X = set L (2 * parent i + 1) none in let L2 : Homes X = set L1 (2 * parent i) none in
-            let len : length L ≡ 2 * key.blocks = length_laid s.homes (load right key i (Some x)) ∙ R.deep in
-            let len1 = length-set L (2 * parent i + 1) none in let len2 = length-set L1 (2 * parent i) none in
-            subst (λ (hs : Homes X). (h : maybe.Option (Option X)) × (get_elem? hs j ≡ some h) × SlotOf right key j (joined m.node w i j) h) (sym is_homes)
-            (dite (ℕ_discrete j (parent i))
-            (λ q. (
-              none,
-              ap (get_elem? (set L2 (parent i) none)) q ∙ set_here L2 (parent i) none (omega arith),
-              subst (λ (p : Place). SlotOf right key j p none) (sym (ap (joined m.node w i) q ∙ new_p)) tt,
-            ))
-            (λ np. dite (ℕ_discrete j (2 * parent i))
-            (λ q. (
-              none,
-              set_else L2 (parent i) j none np
-                  ∙ (ap (get_elem? L2) q ∙ set_here L1 (2 * parent i) none (omega arith)),
-              subst (λ (p : Place). SlotOf right key j p none)
-                  (sym (ap (joined m.node w i) q ∙ (kid_used m w i n_.both new_i new_s).0)) tt,
-            ))
-            (λ ne. dite (ℕ_discrete j (2 * parent i + 1))
-            (λ q. (
-              none,
-              set_else L2 (parent i) j none np
-                  ∙ (set_else L1 (2 * parent i) j none ne
-                  ∙ (ap (get_elem? L1) q ∙ set_here L (2 * parent i + 1) none (omega arith))),
-              subst (λ (p : Place). SlotOf right key j p none)
-                  (sym (ap (joined m.node w i) q ∙ (kid_used m w i n_.both new_i new_s).1)) tt,
-            ))
-            (λ no. let t = slots_home right key s R i w (Some x) mine j lo' hi in let far = not_kid i n_.both j ne no in (
-              t.0,
-              set_else L2 (parent i) j none np ∙ (set_else L1 (2 * parent i) j none ne ∙ (set_else L (2 * parent i + 1) j none no ∙ t.1)),
-              subst (λ (p : Place). SlotOf right key j p t.0) (sym (else_ j far.0 far.1 np)) (t.3 far.0),
-            )))));
+        out = word_else s.words p n key.blocks (λ q. omega arith) ∙ (R.out ∙ sym (settled_else 1 (λ q. omega arith)));
+        marks = λ v h. word_else s.words p n (key.blocks + 1 + v) (λ q. omega arith) ∙ R.marks v h;
+        slots = subst (λ (z : (ℕ → Place) × Homes X). SlotsOf right key z.0 z.1) (λ k. ((λ j. joined_is m.node w i n_.both j k), sym is_homes k)) slots3;
       }) (record {
         same = refl;
         mine = record {
@@ -111,19 +73,17 @@ module _ {S X : Type 0} (right : S → (ℕ → Type 0) → X → Type 0) (key :
             (λ v j ne q. back m w i v j ne (cases m.node w i j (held v) q));
         drawn = refl;
         got = λ y. refl;
-        joins_inner = λ y h. let t = times_snoc right key y r.joins (parent i) in let low = rg in
-            let a3 : one_if (parent i == y) ≡ 0 =
-            ap one_if (ne_eqb (parent i) y (λ q. ⊎_elim (λ (z : y ≡ 0). omega arith) (λ (z : key.blocks ≤ y). omega arith) h)) in omega arith;
-        joins = λ y lo' hi. let t = times_snoc right key y r.joins (parent i) in dite (ℕ_discrete y (parent i))
-            (λ q. let t1 : slice_index (set s.words (parent i) x') y ≡ 2 =
-            ap (slice_index (set s.words (parent i) x')) q
-            ∙ (get_or-set_same s.words (parent i) x' 0 (let z = R.wide in omega arith) ∙ ap (λ (k : ℕ). k + 1) sib.1) in
-            let u : slice_index s.words y ≡ 1 = ap (slice_index s.words) q ∙ sib.1 in
-            let a1 = ap (λ (n : ℕ). one_if (n == 2)) t1 in let a2 = ap (λ (n : ℕ). one_if (n == 2)) u in
-            let a3 : one_if (parent i == y) ≡ 1 = ap one_if (eq-eqb (parent i) y (sym q)) in omega arith)
-            (λ ne. let b = word_else right key s.words (parent i) x' y ne in
-            let c = ap (λ (n : ℕ). one_if (n == 2)) b in
-            let a3 : one_if (parent i == y) ≡ 0 = ap one_if (ne_eqb (parent i) y (λ q. ne (sym q))) in omega arith);
+        joins_inner = λ y h. let t = times_snoc y r.joins p in let low = rg in
+            let other : one_if (p == y) ≡ 0 =
+            ap one_if (ne_eqb p y (λ q. ⊎_elim (λ (z : y ≡ 0). omega arith) (λ (z : key.blocks ≤ y). omega arith) h)) in omega arith;
+        joins = λ y lo' hi. let t = times_snoc y r.joins p in dite (ℕ_discrete y p)
+            (λ q. let now : slice_index words y ≡ 2 =
+            ap (slice_index words) q ∙ (get_or-set_same s.words p n 0 (let z = R.wide in omega arith) ∙ ap (λ (k : ℕ). k + 1) sib.1) in
+            let before : slice_index s.words y ≡ 1 = ap (slice_index s.words) q ∙ sib.1 in
+            let two = ap (λ (k : ℕ). one_if (k == 2)) now in let not_two = ap (λ (k : ℕ). one_if (k == 2)) before in
+            let this : one_if (p == y) ≡ 1 = ap one_if (eq-eqb p y (sym q)) in omega arith)
+            (λ ne. let same_word = ap (λ (k : ℕ). one_if (k == 2)) (word_else s.words p n y ne) in
+            let other : one_if (p == y) ≡ 0 = ap one_if (ne_eqb p y (λ q. ne (sym q))) in omega arith);
       })
     where
       lone : (m : Machine) (w : ℕ) (r : Record) (i : ℕ) → Agrees key.passes m r → r.node ≡ Some i → (j : ℕ)
@@ -137,11 +97,14 @@ module _ {S X : Type 0} (right : S → (ℕ → Type 0) → X → Type 0) (key :
       back m w i v j ne (spent x t) = absurd (cc)
       back m w i v j ne (got x t) = absurd (ne cc)
 
-      kid_used : (m : Machine) (w i : ℕ) → ArePair i → joined m.node w i i ≡ used → joined m.node w i (sibling i) ≡ used
-          → (joined m.node w i (2 * parent i) ≡ used) × (joined m.node w i (2 * parent i + 1) ≡ used)
-      kid_used m w i (inl t) a b = (ap (joined m.node w i) t.0 ∙ a, ap (joined m.node w i) t.1 ∙ b)
-      kid_used m w i (inr t) a b = (ap (joined m.node w i) t.0 ∙ b, ap (joined m.node w i) t.1 ∙ a)
+      swapped : (a b : Bool) (y : Place) → (if a then used else (if b then used else y)) ≡ (if b then used else (if a then used else y))
+      swapped true true y = refl
+      swapped true false y = refl
+      swapped false true y = refl
+      swapped false false y = refl
 
-      not_kid : (i : ℕ) → ArePair i → (j : ℕ) → j ≢ 2 * parent i → j ≢ 2 * parent i + 1 → (j ≢ i) × (j ≢ sibling i)
-      not_kid i (inl t) j a b = ((λ e. a (e ∙ sym t.0)), (λ e. b (e ∙ sym t.1)))
-      not_kid i (inr t) j a b = ((λ e. b (e ∙ sym t.1)), (λ e. a (e ∙ sym t.0)))
+      joined_is : (f : ℕ → Place) (w i : ℕ) → ArePair i → (j : ℕ)
+          → put (put (put f (2 * parent i + 1) used) (2 * parent i) used) (parent i) (held w) j ≡ joined f w i j
+      joined_is f w i (inl t) j = ap (λ (z : ℕ × ℕ). put (put (put f z.0 used) z.1 used) (parent i) (held w) j) (λ k. (t.1 k, t.0 k))
+          ∙ ap (λ (z : Place). if j == parent i then held w else z) (swapped (j == i) (j == sibling i) (f j))
+      joined_is f w i (inr t) j = ap (λ (z : ℕ × ℕ). put (put (put f z.0 used) z.1 used) (parent i) (held w) j) (λ k. (t.1 k, t.0 k))

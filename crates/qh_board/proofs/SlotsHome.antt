@@ -2,17 +2,17 @@
 use mathlib.Core.Option as maybe
 use Rattle.std.proofs.Common.{◌≡◌, ◌≢◌, ℕ, zero, suc, ◌+◌, ◌*◌, ◌<◌, ◌≤◌, Bool, true, false, List, [], ◌∷◌, length, set, sym, refl, ap, ◌∙◌, subst, arith}
 use Rattle.std.proofs.{Common.if◌then◌else◌, Common.Option, Common.Some, Common.None, Common.length-set, lemmas.Bool.Decides.nat_tests}
-use Rattle.std.specs.Prelude.{nat_lt}
+use Rattle.std.specs.Prelude.{nat_lt, slice_index}
 use mathlib.Core.{Logic.dite, Option.some, Option.none, Option.some-injective, Option.some-ne-none}
 use native.Mathlib.Decide.{ℕ_discrete, dec_le}
 use lib.ListN.{get_elem?}
-use Rattle.atomic_table.specs.Table.{State, Me, Act, keeps, gives, chain, Valid, homes_after, carried_after, rest}
+use Rattle.atomic_table.specs.Table.{State, Me, Act, keeps, gives, chain, Valid, homes_after, carried_after, rest, stepped}
 use Rattle.atomic_table.proofs.Lists.{set_here, set_else}
 use Rattle.qh_model.specs.contract.BoardMachine.{Place, untouched, held, used}
 use Rattle.qh_model.proofs.board.{Grown.ranged, Reached.reach_good}
-use Rattle.qh_board.specs.declared.view.{Setup.Setup, View.View}
+use Rattle.qh_board.specs.declared.view.{Record.Record, Setup.Setup, View.View}
 use Rattle.qh_board.specs.steps.{Rule.SlotOf, Rule.Kept, Views.view_of, Views.kids, Views.blocks_of, Views.blocks_in, Views.HasRecord}
-use Rattle.qh_board.proofs.Steps.{Homes, seat_record, seated}
+use Rattle.qh_board.proofs.Steps.{Homes, KeptAfter, SlotsOf, seat_record, seated}
 
 module _ {A : Type 0} where
   -- each slot that is carried goes home
@@ -20,7 +20,7 @@ module _ {A : Type 0} where
   give_all [] = keeps
   give_all (y ∷ ys) = chain gives (give_all ys)
 
-  pub laid : List (maybe.Option A) → List (ℕ × A) → List (maybe.Option A)
+  unfoldable pub laid : List (maybe.Option A) → List (ℕ × A) → List (maybe.Option A)
   laid hs [] = hs
   laid hs (y ∷ ys) = laid (set hs y.0 (some y.1)) ys
 
@@ -66,6 +66,22 @@ module _ {S X : Type 0} (right : S → (ℕ → Type 0) → X → Type 0) (key :
   abbrev pub load : ℕ → Option X → List (ℕ × Option X)
   load i x = (i, x) ∷ kids key.blocks i
 
+  -- what a step brings that carries all its slots home
+  pub all_home : (id i : ℕ) (f : ℕ → ℕ) (told : ℕ → Me (Option X) (View S) → Type 0) (c : List (ℕ × Option X)) (r : Record)
+      (s : State (Option X) (View S)) (n : ℕ) → n ≡ f (slice_index s.words i)
+      → KeptAfter right key s id r (set s.words i n) (laid s.homes c)
+      → told (slice_index s.words i) (view_of key (r ∷ []), [])
+      → (v : View S) × (a : Act (Option X)) × Valid s.homes c a × Kept right key (stepped s i (f (slice_index s.words i)) id c v a)
+      × told (slice_index s.words i) (v, carried_after c a)
+  all_home id i f told c r s n next kept is = (
+    view_of key (r ∷ []),
+    give_all c,
+    valid_all s.homes c,
+    subst (λ (z : ℕ × Homes X). KeptAfter right key s id r (set s.words i z.0) z.1)
+        (λ k. (next k, sym (homes_all s.homes c) k)) kept,
+    subst (λ (z : List (ℕ × Option X)). told (slice_index s.words i) (view_of key (r ∷ []), z)) (sym (carried_all c)) is,
+  )
+
   laid_own : (hs : Homes X) (i : ℕ) (x : Option X) → 0 < i → i < length hs → get_elem? (laid hs (load i x)) i ≡ some (some x)
   unfolding laid
   laid_own hs i x lo hi = dite (dec_le key.blocks i)
@@ -108,6 +124,15 @@ module _ {S X : Type 0} (right : S → (ℕ → Type 0) → X → Type 0) (key :
       (λ inner. let below = g.below i r.0 (omega arith) (λ e. let f : held w ≡ untouched = sym mine ∙ e in cc) in
       dite (ℕ_discrete j (2 * i)) (λ e. kid (omega arith) (ap R.machine.node e ∙ below.0) ne)
       (λ a. dite (ℕ_discrete j (2 * i + 1)) (λ e. kid (omega arith) (ap R.machine.node e ∙ below.1) ne) (λ b. usual (λ _. (a, b)) ne))))
+
+  -- and each is right: that of a node that is held may have anything
+  pub slots_laid : (s : State (Option X) (View S)) (R : Kept right key s) (i w : ℕ) (x : Option X)
+      → R.machine.node i ≡ held w → SlotsOf right key R.machine.node (laid s.homes (load i x))
+  slots_laid s R i w x mine j lo hi = let t = slots_home s R i w x mine j lo hi in (
+    t.0,
+    t.1,
+    dite (ℕ_discrete j i) (λ q. subst (λ (p : Place). SlotOf right key j p t.0) (sym (ap R.machine.node q ∙ mine)) tt) t.3,
+  )
 
   -- the seat once the value lies in the slot of its node
   pub filled : (before me : Me (Option X) (View S)) (i number : ℕ) (over : Bool) (x : X) → before.0.setup ≡ Some key
