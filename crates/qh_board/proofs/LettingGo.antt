@@ -1,14 +1,14 @@
 -- A pass lets go of its node, whose value stays in the slot: it comes first at the parent, or publishes the root.
 use mathlib.Core.Option as maybe
-use Rattle.std.proofs.Common.{◌≡◌, ◌≢◌, ◌⊎◌, inl, inr, ℕ, ◌+◌, ◌*◌, ◌%◌, ◌^◌, ◌<◌, Bool, List, [], ◌∷◌, set, sym, refl, ap, ◌∙◌, subst, arith, Option}
-use Rattle.std.proofs.Common.{Some, None, length-set, get_or-set_same}
+use Rattle.std.proofs.Common.{◌≡◌, ◌≢◌, ◌⊎◌, inl, inr, ℕ, ◌+◌, ◌*◌, ◌%◌, ◌^◌, ◌<◌, Bool, List, [], ◌∷◌, set, sym, refl, ap, ◌∙◌, subst, arith, Option, Some}
+use Rattle.std.proofs.Common.{None, length-set, get_or-set_same}
 use Rattle.std.specs.Prelude.{slice_index, ◌==◌}
 use mathlib.Core.{Logic.dite, Option.some, Option.none}
 use native.Mathlib.Decide.{ℕ_discrete}
 use lib.ListN.{get_elem?}
 use Rattle.atomic_table.specs.Table.{State, Me, step, Allows, rest}
-use Rattle.qh_model.specs.contract.BoardMachine.{Place, untouched, held, parked, published, Event, arrive_first, publish}
-use Rattle.qh_model.specs.contract.BoardMachine.{Can, after, settled, put, parent, InSpan}
+use Rattle.qh_model.specs.contract.BoardMachine.{Place, untouched, held, parked, published, Event, arrive_first, publish, Can, after, settled, put, parent}
+use Rattle.qh_model.specs.contract.BoardMachine.{InSpan}
 use Rattle.qh_model.proofs.board.{Grown.ranged, Reached.reach_good, Siblings.near, Updates.put_here, Updates.put_else, Updates.at_put}
 use Rattle.qh_board.specs.{contract.Records.come_first, contract.Records.without_node, declared.view.Record.Record, declared.view.Setup.Setup}
 use Rattle.qh_board.specs.{declared.view.View.View, steps.Rule.one_if, steps.Rule.times, steps.Rule.Agrees, steps.Rule.SlotOf, steps.Rule.Kept}

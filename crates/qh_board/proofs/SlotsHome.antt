@@ -3,7 +3,7 @@ use mathlib.Core.Option as maybe
 use Rattle.std.proofs.Common.{◌≡◌, ◌≢◌, ℕ, zero, suc, ◌+◌, ◌*◌, ◌<◌, ◌≤◌, Bool, true, false, List, [], ◌∷◌, length, set, sym, refl, ap, ◌∙◌, subst, arith}
 use Rattle.std.proofs.{Common.Option, Common.Some, Common.None, Common.length-set, lemmas.Bool.Decides.nat_tests}
 use Rattle.std.specs.Prelude.{nat_lt, slice_index}
-use mathlib.Core.{Logic.dite, Option.some, Option.none, Option.some-injective, Option.some-ne-none}
+use mathlib.Core.{Logic.dite, Option.some}
 use native.Mathlib.Decide.{ℕ_discrete, dec_le}
 use lib.ListN.{get_elem?}
 use Rattle.atomic_table.specs.Table.{State, Me, Act, keeps, gives, chain, Valid, homes_after, carried_after, rest, stepped}
