@@ -12,7 +12,8 @@ use Rattle.atomic_table.specs.{Seated.TableId, Table.Final, Table.Seen}
 use Rattle.qh_model.specs.contract.BoardMachine.{InSpan}
 use Rattle.qh_board.specs.contract.{Closings.mark_of_word, Closings.claims_made, Closings.tokens_of, Tokens.Token}
 use Rattle.qh_board.specs.declared.view.{Record.Record, Setup.Setup, View.View}
-use Rattle.qh_board.specs.steps.{Rule.one_if, Rule.weigh, Rule.named, Rule.claims_of, Rule.Ruled, Seats.token_of, Views.record_of, Views.head_or, Views.HasEnded}
+use Rattle.qh_board.specs.steps.{Rule.one_if, Rule.weigh, Rule.named, Rule.claims_of, Rule.Ruled, Seats.token_of}
+use Rattle.qh_board.specs.steps.{Views.record_of, Views.head_or, Views.HasEnded}
 use Rattle.qh_board.proofs.LastStates.{Each, Last, closes}
 
 -- ---- the records of tokens

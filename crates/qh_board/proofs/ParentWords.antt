@@ -5,8 +5,7 @@ use mathlib.Core.Logic.{dite}
 use native.Mathlib.Decide.{ℕ_discrete}
 use Rattle.qh_model.specs.contract.BoardMachine.{Place, untouched, held, parked, used, published, Machine, settled, sibling, parent}
 use Rattle.qh_model.proofs.board.{Grown.Consistent, Grown.ranged, Siblings.ArePair, Siblings.near}
-use Rattle.qh_board.specs.declared.view.Setup.{Setup}
-use Rattle.qh_board.proofs.Steps.{word_else}
+use Rattle.qh_board.{specs.declared.view.Setup.Setup, proofs.Steps.word_else}
 
 module _ {S X : Type 0} (right : S → (ℕ → Type 0) → X → Type 0) (key : Setup S) where
   -- the words after an arrival at the parent of i
@@ -42,13 +41,8 @@ module _ {S X : Type 0} (right : S → (ℕ → Type 0) → X → Type 0) (key :
       let one : n ≡ settled (m.node (sibling i)) = by_pair n_.both mine0 in by_place (m.node (sibling i)) refl one
     where
       by_pair : ArePair i → settled (m.node i) ≡ 0 → n ≡ settled (m.node (sibling i))
-      by_pair (inl t) z = let a : settled (m.node (2 * parent i)) ≡ settled (m.node i) =
-          ap (λ (k : ℕ). settled (m.node k)) t.0 in
-          let b : settled (m.node (2 * parent i + 1)) ≡ settled (m.node (sibling i)) =
-          ap (λ (k : ℕ). settled (m.node k)) t.1 in omega arith
-      by_pair (inr t) z = let a : settled (m.node (2 * parent i)) ≡ settled (m.node (sibling i)) =
-          ap (λ (k : ℕ). settled (m.node k)) t.0 in let b : settled (m.node (2 * parent i + 1)) ≡ settled (m.node i) =
-          ap (λ (k : ℕ). settled (m.node k)) t.1 in omega arith
+      by_pair (inl t) z = let a = ap (λ (k : ℕ). settled (m.node k)) t.0 in let b = ap (λ (k : ℕ). settled (m.node k)) t.1 in omega arith
+      by_pair (inr t) z = let a = ap (λ (k : ℕ). settled (m.node k)) t.0 in let b = ap (λ (k : ℕ). settled (m.node k)) t.1 in omega arith
 
       not_used : m.node (sibling i) ≡ used → ⊥
       not_used e = let n_ = near i lo in let q = n_.above_sibling in let pos = n_.positive in
