@@ -1,8 +1,7 @@
 -- Claiming a block, and being told that all are claimed.
-use Rattle.std.proofs.Common.{◌≡◌, ◌≢◌, ◌⊎◌, inl, inr, ℕ, zero, suc, ◌+◌, ◌*◌, ◌%◌, ◌^◌, ◌<◌, ◌≤◌, min, true, false, List, [], ◌∷◌, length, set, sym, refl, ap}
-use Rattle.std.proofs.Common.{Bool, ◌∙◌, subst, arith, eq-eqb, Option, Some, None, get_or, length-set, length-append, get_or-set_same}
-use Rattle.std.proofs.lemmas.Bool.Decides.{nat_tests}
-use Rattle.std.specs.Prelude.{All, slice_index, nat_lt, ◌==◌}
+use Rattle.std.proofs.Common.{◌≡◌, ◌≢◌, ◌⊎◌, inl, inr, ℕ, zero, suc, ◌+◌, ◌*◌, ◌%◌, ◌^◌, ◌<◌, ◌≤◌, min, true, false, List, [], ◌∷◌, length}
+use Rattle.std.proofs.Common.{set, sym, refl, ap, Bool, ◌∙◌, subst, arith, eq-eqb, Option, Some, None, get_or, length-set, length-append, get_or-set_same}
+use Rattle.std.{proofs.lemmas.Bool.Decides.nat_tests, specs.Prelude.All, specs.Prelude.slice_index, specs.Prelude.nat_lt, specs.Prelude.◌==◌}
 use mathlib.Core.{Logic.dite, Option.some, Option.none}
 use native.Mathlib.Decide.{dec_le}
 use lib.ListN.{get_elem?}
@@ -12,8 +11,8 @@ use Rattle.qh_model.proofs.board.{Reached.reach_good, Reached.reach_claims, Upda
 use Rattle.qh_board.specs.contract.Records.{with_block, told_over}
 use Rattle.qh_board.specs.{declared.view.Record.Record, declared.view.Setup.Setup, declared.view.View.View, steps.Rule.one_if}
 use Rattle.qh_board.specs.steps.{Rule.times, Rule.Agrees, Rule.SlotOf, Rule.Kept, Rule.Ruled, Shown.mark_of, Views.view_of, Views.HasRecord, Views.IsClaim}
-use Rattle.qh_board.proofs.Steps.{Homes, KeptAfter, SlotsOf, Shows, steps, others_keep, allowed_at, seat_record, seated, nothing, slots_put}
-use Rattle.qh_board.proofs.{SlotsHome.all_home, SlotsHome.laid, Steps.settled_put, Steps.word_else, Steps.times_snoc, Totals.one_of}
+use Rattle.qh_board.proofs.Steps.{Homes, KeptAfter, SlotsOf, Shows, steps, others_keep, allowed_at, seat_record, seated, nothing, slots_put, settled_put}
+use Rattle.qh_board.proofs.{Steps.word_else, Steps.times_snoc, SlotsHome.all_home, SlotsHome.laid, Totals.one_of}
 
 module _ {S X : Type 0} (right : S → (ℕ → Type 0) → X → Type 0) (key : Setup S) where
   below_more : (x c : ℕ) → c < key.blocks → one_if (nat_lt x (min (c + 1) key.blocks)) ≡ one_if (nat_lt x (min c key.blocks)) + one_if (c == x)
@@ -117,7 +116,7 @@ module _ {S X : Type 0} (right : S → (ℕ → Type 0) → X → Type 0) (key :
         later = later;
         above = above;
         got = λ l. absurd (omega arith);
-        over = λ _. (ap (λ (n : ℕ). view_of key (told_over n r ∷ [])) (sym found), refl);
+        over = λ _. (ap (λ (n : ℕ). view_of key (told_over n r ∷ [])) (sym R.claims), refl);
       }))
       (λ room. let i : ℕ = key.blocks + R.machine.claims in let lt : R.machine.claims < key.blocks = omega arith in
       let g = reach_good key.blocks key.passes R.some_blocks R.machine R.reached in
@@ -130,21 +129,18 @@ module _ {S X : Type 0} (right : S → (ℕ → Type 0) → X → Type 0) (key :
         record {
           later = later;
           above = above;
-          got = λ _. (ap (λ (n : ℕ). view_of key (with_block key.blocks n r ∷ [])) (sym found), ap (λ (n : ℕ). (key.blocks + n, None) ∷ []) (sym found));
+          got = λ _. (ap (λ (n : ℕ). view_of key (with_block key.blocks n r ∷ [])) (sym R.claims), ap (λ (n : ℕ). (key.blocks + n, None) ∷ []) (sym R.claims));
           over = λ h. absurd (omega arith);
         },
       ))
     where
-      found : slice_index s.words 0 ≡ R.machine.claims
-      found = R.claims
-
       later : r.claims ≤ slice_index s.words 0
-      later = let k = (R.views id (view_of key (r ∷ [])) at).0.seen in let f = found in omega arith
+      later = let k = (R.views id (view_of key (r ∷ [])) at).0.seen in let f = R.claims in omega arith
 
       above : All (λ x. x < slice_index s.words 0) r.got
       above k d lt = let x : ℕ = get_or r.got k d in let t = times_at r.got k d lt in
           let o = one_of (λ q. times x q.got) s.views id (view_of key (r ∷ [])) at in
-          let b = below_claims x R.machine.claims (let e = R.got x in omega arith) in let f = found in omega arith
+          let b = below_claims x R.machine.claims (let e = R.got x in omega arith) in let f = R.claims in omega arith
 
       next : R.machine.claims + 1 ≡ (slice_index s.words 0 + 1) % 2 ^ 64
       next = let c = reach_claims key.blocks key.passes R.some_blocks R.machine R.reached in let f = R.claims in let t = R.small in omega arith

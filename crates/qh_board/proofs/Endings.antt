@@ -7,7 +7,7 @@ use mathlib.Core.{Logic.dite, Option.some, Option.none}
 use native.Mathlib.Decide.{ℕ_discrete}
 use lib.ListN.{get_elem?}
 use Rattle.atomic_table.specs.Table.{State, Me, step, Allows}
-use Rattle.qh_model.specs.contract.BoardMachine.{Place, held, Machine, Event, Acts, Can, after, put}
+use Rattle.qh_model.specs.contract.BoardMachine.{Machine, Event, Acts, Can, after, put}
 use Rattle.qh_model.proofs.board.Updates.{put_here, put_else}
 use Rattle.qh_board.specs.contract.Records.{ended_as}
 use Rattle.qh_board.specs.declared.view.{Mark.TheVariants.Left, Mark.TheVariants.GaveUp, Record.Record, Setup.Setup, View.View}

@@ -4,7 +4,7 @@ use Rattle.qh_board.specs.declared.view.Mark.TheVariants as marks
 use Rattle.std.proofs.Common.{◌≡◌, ◌≢◌, ◌↔◌, ℕ, zero, suc, ◌+◌, ◌≤◌, Bool, true, false, List, [], ◌∷◌, ◌++◌, length, sym, refl, ap, ◌∙◌, subst, arith, ne_eqb}
 use Rattle.std.proofs.Common.{cond, Option, Some, None}
 use Rattle.std.proofs.lemmas.List.{map-append, append_assoc, Recursion.is_sum_by, Recursion.is_count_by}
-use Rattle.std.specs.Prelude.{slice_index, slice_index_or, sum_by, map, ◌==◌, IsSome, IfSome, All}
+use Rattle.std.specs.Prelude.{slice_index, sum_by, map, ◌==◌, IsSome, IfSome, All}
 use mathlib.Core.{Logic.dite, Option.some, Option.some-injective, Option.some-ne-none}
 use native.Mathlib.Decide.{ℕ_discrete}
 use lib.ListN.{get_elem?}
@@ -12,15 +12,9 @@ use Rattle.atomic_table.specs.{Seated.TableId, Table.Final, Table.Seen}
 use Rattle.qh_model.specs.contract.BoardMachine.{InSpan}
 use Rattle.qh_board.specs.contract.{Closings.mark_of_word, Closings.claims_made, Closings.tokens_of, Tokens.Token}
 use Rattle.qh_board.specs.declared.view.{Record.Record, Setup.Setup, View.View}
-use Rattle.qh_board.specs.steps.Rule.{one_if, weigh, named, claims_of, Ruled}
-use Rattle.qh_board.specs.steps.{Seats.token_of, Shown.mark_of, Shown.mark_word, Views.record_of, Views.head_or, Views.HasEnded}
+use Rattle.qh_board.specs.steps.{Rule.one_if, Rule.weigh, Rule.named, Rule.claims_of, Rule.Ruled, Seats.token_of}
+use Rattle.qh_board.specs.steps.{Views.record_of, Views.head_or, Views.HasEnded}
 use Rattle.qh_board.proofs.LastStates.{Each, Last, closes}
-
--- the mark that a word tells is that of the record
-told : (x : Option ended.Mark) (n : ℕ) → x ≢ None → n ≡ mark_word (mark_of x) → Some (mark_of_word n) ≡ x
-told None n ne e = absurd (ne refl)
-told (Some marks.Left) n ne e = ap (λ k. Some (mark_of_word k)) e
-told (Some marks.GaveUp) n ne e = ap (λ k. Some (mark_of_word k)) e
 
 -- ---- the records of tokens
 -- P of the records of two lists
@@ -73,14 +67,6 @@ module _ {S : Type 0} where
       counted : (b : Bool) (n : ℕ) → one_if b + n ≡ cond b (1 + n) n
       counted true n = refl
       counted false n = omega arith
-
-  -- ---- their marks
-  all_told : (at : ℕ → ℕ) (ts : List (Token S)) → Each (λ r. r.mark ≢ None) (records_of ts)
-      → Each (λ r. at r.number ≡ mark_word (mark_of r.mark)) (records_of ts)
-      → All (λ t. Some (mark_of_word (at t.pass.number)) ≡ t.pass.mark) ts
-  all_told at [] n e k d h = absurd (omega arith)
-  all_told at (t ∷ ts) n e zero d h = told t.pass.mark (at t.pass.number) n.0 e.0
-  all_told at (t ∷ ts) n e (suc k) d h = all_told at ts n.1 e.1 k d (omega arith)
 
   -- P of the record of each token
   pub of_records : (P : Record → Type 0) (ts : List (Token S)) → Each P (records_of ts) → All (λ t. P t.pass) ts
@@ -135,11 +121,3 @@ module _ {S X : Type 0} (right : S → (ℕ → Type 0) → X → Type 0) (key :
     where
       Right : Option X → Type 0
       Right o = (IsSome o ↔ ((key.blocks ≤ claims) × All (λ t. t.pass.mark ≡ Some marks.Left) ts)) × IfSome o (λ x. right key.spans (InSpan key.blocks 1) x)
-
-  -- the marks that the words tell
-  pub marks_told : (words words' : List ℕ) → words' ≡ words → (ts : List (Token S)) → Each (λ r. r.mark ≢ None) (records_of ts)
-      → Each (λ r. slice_index words (key.blocks + 1 + r.number) ≡ mark_word (mark_of r.mark)) (records_of ts)
-      → All (λ t. Some (mark_of_word (slice_index words' (key.blocks + 1 + t.pass.number))) ≡ t.pass.mark) ts
-  marks_told words words' same ts n e k d h =
-      ap (λ ws. Some (mark_of_word (slice_index ws (key.blocks + 1 + (slice_index_or ts k d).pass.number)))) same
-      ∙ all_told (λ w. slice_index words (key.blocks + 1 + w)) ts n e k d h

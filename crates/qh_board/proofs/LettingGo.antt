@@ -1,19 +1,18 @@
 -- A pass lets go of its node, whose value stays in the slot: it comes first at the parent, or publishes the root.
 use mathlib.Core.Option as maybe
-use Rattle.std.proofs.Common.{◌≡◌, ◌≢◌, ◌⊎◌, inl, inr, ℕ, ◌+◌, ◌*◌, ◌%◌, ◌^◌, ◌<◌, Bool, List, [], ◌∷◌, set, sym, refl, ap, ◌∙◌, subst, arith, Option}
-use Rattle.std.proofs.Common.{Some, None, length-set, get_or-set_same}
-use Rattle.std.specs.Prelude.{slice_index, ◌==◌}
+use Rattle.std.proofs.Common.{◌≡◌, ◌≢◌, ◌⊎◌, inl, inr, ⊎_elim, ℕ, ◌+◌, ◌*◌, ◌%◌, ◌^◌, ◌<◌, Bool, List, [], ◌∷◌, set, sym, refl, ap, ◌∙◌, subst, arith, Option}
+use Rattle.std.{proofs.Common.Some, proofs.Common.None, proofs.Common.length-set, proofs.Common.get_or-set_same, specs.Prelude.slice_index, specs.Prelude.◌==◌}
 use mathlib.Core.{Logic.dite, Option.some, Option.none}
 use native.Mathlib.Decide.{ℕ_discrete}
 use lib.ListN.{get_elem?}
 use Rattle.atomic_table.specs.Table.{State, Me, step, Allows, rest}
-use Rattle.qh_model.specs.contract.BoardMachine.{Place, untouched, held, parked, published, Event, arrive_first, publish}
-use Rattle.qh_model.specs.contract.BoardMachine.{Can, after, settled, put, parent, InSpan}
+use Rattle.qh_model.specs.contract.BoardMachine.{Place}
+use Rattle.qh_model.specs.contract.BoardMachine.{untouched, held, parked, published, Event, arrive_first, publish, Can, after, settled, put, parent, InSpan}
 use Rattle.qh_model.proofs.board.{Grown.ranged, Reached.reach_good, Siblings.near, Updates.put_here, Updates.put_else, Updates.at_put}
-use Rattle.qh_board.specs.{contract.Records.come_first, contract.Records.without_node, declared.view.Record.Record, declared.view.Setup.Setup}
-use Rattle.qh_board.specs.{declared.view.View.View, steps.Rule.one_if, steps.Rule.times, steps.Rule.Agrees, steps.Rule.SlotOf, steps.Rule.Kept}
-use Rattle.qh_board.specs.steps.{Rule.Ruled, Shown.mark_of, Views.view_of, Views.kids, Views.blocks_of, Views.HasRecord, Views.put_out}
-use Rattle.qh_board.proofs.{ParentWords.arrivals_up, ParentWords.sibling_is}
+use Rattle.qh_board.specs.{contract.Records.come_first, contract.Records.without_node, declared.view.Record.Record}
+use Rattle.qh_board.specs.{declared.view.Setup.Setup, declared.view.View.View, steps.Rule.one_if, steps.Rule.times, steps.Rule.Agrees}
+use Rattle.qh_board.specs.steps.{Rule.SlotOf, Rule.Kept, Rule.Ruled, Shown.mark_of, Views.view_of, Views.kids, Views.blocks_of, Views.HasRecord, Views.put_out}
+use Rattle.qh_board.proofs.ParentWords.{arrivals_up, sibling_is}
 use Rattle.qh_board.proofs.SlotsHome.{all_home, laid, length_laid, load, slots_home, filled}
 use Rattle.qh_board.proofs.Steps.{KeptAfter, SlotsOf, Turns, steps, allowed_at, seat_record, others_keep, word_else}
 
@@ -37,14 +36,7 @@ module _ {S X : Type 0} (right : S → (ℕ → Type 0) → X → Type 0) (key :
         )),
         record {
           same = refl;
-          mine = record {
-            inside = a.inside;
-            over = a.over;
-            mark = a.mark;
-            seen = a.seen;
-            holds = λ j q. absurd (cc);
-            alone = λ j q. absurd (lone a j (at_put m.node i j p (held w) q));
-          };
+          mine = record { inside = a.inside; over = a.over; mark = a.mark; seen = a.seen; holds = λ j q. absurd (cc); alone = λ j q. absurd (lone a j q) };
           others = others_keep right key m record m { node = put m.node i p } w (omega arith) (λ v ne. (refl, refl))
               (λ v j ne q. put_else m.node i p j (λ z. let f : held v ≡ held w = sym q ∙ (ap m.node z ∙ mine) in ne cc) ∙ q)
               (λ v j ne q. back v j (at_put m.node i j p (held v) q));
@@ -55,9 +47,10 @@ module _ {S X : Type 0} (right : S → (ℕ → Type 0) → X → Type 0) (key :
         },
       )
     where
-      lone : Agrees key.passes R.machine r → (j : ℕ) → ((j ≡ i) × (p ≡ held r.number)) ⊎ ((j ≢ i) × (R.machine.node j ≡ held r.number)) → ⊥
-      lone a j (inl t) = free r.number t.1
-      lone a j (inr t) = let q : Some j ≡ Some i = sym (a.alone j t.1) ∙ holds_ in t.0 cc
+      lone : Agrees key.passes R.machine r → (j : ℕ) → put R.machine.node i p j ≡ held r.number → ⊥
+      lone a j q = ⊎_elim (λ (t : (j ≡ i) × (p ≡ held r.number)). free r.number t.1)
+          (λ (t : (j ≢ i) × (R.machine.node j ≡ held r.number)). let o : Some j ≡ Some i = sym (a.alone j t.1) ∙ holds_ in t.0 cc)
+          (at_put R.machine.node i j p (held r.number) q)
 
       back : (v j : ℕ) → ((j ≡ i) × (p ≡ held v)) ⊎ ((j ≢ i) × (R.machine.node j ≡ held v)) → R.machine.node j ≡ held v
       back v j (inl t) = absurd (free v t.1)
@@ -114,26 +107,16 @@ module _ {S X : Type 0} (right : S → (ℕ → Type 0) → X → Type 0) (key :
         slots = gone.0;
       }) gone.1
 
-  publish_at : (slots id : ℕ) (x : X) (r : Record) → r.node ≡ Some 1 → r.mark ≡ None
-      → right key.spans (InSpan key.blocks 1) x → let me : Me (Option X) (View S) = (view_of key (r ∷ []), load right key 1 (Some x)) in
-      Allows (Kept right key) slots id me key.blocks (λ n. (n + 1) % 2 ^ 64) (put_out (step slots key.blocks 1 0 none) me)
-  publish_at slots id x r holds_ unmarked rx s R deep at small = let c = load right key 1 (Some x) in
-      all_home right key id key.blocks (λ n. (n + 1) % 2 ^ 64) (put_out (step slots key.blocks 1 0 none) (view_of key (r ∷ []), c)) c
-      (without_node r) s 1 next (publish_step s R id x r at holds_ unmarked rx) (found, refl, refl)
-    where
-      found : slice_index s.words key.blocks ≡ 0
-      found = R.out ∙ ap settled ((R.views id (view_of key (r ∷ [])) at).0.holds 1 holds_)
-
-      next : 1 ≡ (slice_index s.words key.blocks + 1) % 2 ^ 64
-      next = let z = found in omega arith
-
   pub publish_allowed : (k : Setup S) → k ≡ key → (slots id i number : ℕ) (over : Bool) (x : X) (before me : Me (Option X) (View S)) → i ≡ 1
       → before.0.setup ≡ Some key → before.1 ≡ (i, None) ∷ kids (blocks_of before.0) i
       → HasRecord before.0 number (Some i) over None → me ≡ (before.0, (i, Some x) ∷ rest before.1) → right key.spans (InSpan key.blocks i) x
       → Allows (Ruled right k) slots id me key.blocks (λ n. (n + 1) % 2 ^ 64) (put_out (step slots key.blocks 1 0 none) me)
   publish_allowed k same_key slots id i number over x before me root of bare has now rx =
-      let r : ℕ → Record = λ j. seat_record before.0 number (Some j) over in
-      allowed_at right key k same_key slots id key.blocks (λ n. (n + 1) % 2 ^ 64) (put_out (step slots key.blocks 1 0 none)) me
-      (view_of key (r 1 ∷ []), load right key 1 (Some x))
-      (filled right key before me i number over x of bare has now ∙ λ c. (view_of key (r (root c) ∷ []), load right key (root c) (Some x)))
-      (publish_at slots id x (r 1) refl refl (subst (λ (z : ℕ). right key.spans (InSpan key.blocks z) x) root rx))
+      let r : ℕ → Record = λ j. seat_record before.0 number (Some j) over in let c = load right key 1 (Some x) in
+      let told = put_out (step slots key.blocks 1 0 none) in
+      allowed_at right key k same_key slots id key.blocks (λ n. (n + 1) % 2 ^ 64) told me (view_of key (r 1 ∷ []), c)
+      (filled right key before me i number over x of bare has now ∙ λ z. (view_of key (r (root z) ∷ []), load right key (root z) (Some x)))
+      (λ s R deep at small.
+      let found : slice_index s.words key.blocks ≡ 0 = R.out ∙ ap settled ((R.views id (view_of key (r 1 ∷ [])) at).0.holds 1 refl) in
+      all_home right key id key.blocks (λ n. (n + 1) % 2 ^ 64) (told (view_of key (r 1 ∷ []), c)) c (without_node (r 1)) s 1 (omega arith)
+      (publish_step s R id x (r 1) at refl refl (subst (λ (z : ℕ). right key.spans (InSpan key.blocks z) x) root rx)) (found, refl, refl))

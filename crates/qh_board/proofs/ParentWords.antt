@@ -5,8 +5,7 @@ use mathlib.Core.Logic.{dite}
 use native.Mathlib.Decide.{ℕ_discrete}
 use Rattle.qh_model.specs.contract.BoardMachine.{Place, untouched, held, parked, used, published, Machine, settled, sibling, parent}
 use Rattle.qh_model.proofs.board.{Grown.Consistent, Grown.ranged, Siblings.ArePair, Siblings.near}
-use Rattle.qh_board.specs.declared.view.Setup.{Setup}
-use Rattle.qh_board.proofs.Steps.{word_else}
+use Rattle.qh_board.{specs.declared.view.Setup.Setup, proofs.Steps.word_else}
 
 module _ {S X : Type 0} (right : S → (ℕ → Type 0) → X → Type 0) (key : Setup S) where
   -- the words after an arrival at the parent of i
@@ -18,30 +17,21 @@ module _ {S X : Type 0} (right : S → (ℕ → Type 0) → X → Type 0) (key :
       → slice_index (set words (parent i) (slice_index words (parent i) + 1)) j
       ≡ settled (g (2 * j)) + settled (g (2 * j + 1))
   arrivals_up f g words i lo hi wide up_ same_ old j a b = dite (ℕ_discrete j (parent i))
-      (λ e. let n = near i lo in let q = n.positive in let t = old j a b in
-      let here : slice_index (set words (parent i) (slice_index words (parent i) + 1)) (parent i)
-      ≡ slice_index words (parent i) + 1 =
-      get_or-set_same words (parent i) (slice_index words (parent i) + 1) 0 (omega arith) in
-      let here' : slice_index (set words (parent i) (slice_index words (parent i) + 1)) j ≡ slice_index words j + 1 =
-      ap (slice_index (set words (parent i) (slice_index words (parent i) + 1))) e
-      ∙ (here ∙ ap (λ (k : ℕ). slice_index words k + 1) (sym e)) in
-      at_parent j e n.both here' t)
-      (λ ne. let t = old j a b in
-      let u = word_else words (parent i) (slice_index words (parent i) + 1) j ne in
+      (λ e. subst Counted (sym e) (at_parent (near i lo).both (old (parent i) (near i lo).positive (omega arith))))
+      (λ ne. let t = old j a b in let u = word_else words (parent i) (slice_index words (parent i) + 1) j ne in
       let p = same_ (2 * j) (λ e. ne (omega arith)) in let q = same_ (2 * j + 1) (λ e. ne (omega arith)) in omega arith)
     where
-      at_parent : (j : ℕ) → j ≡ parent i → ArePair i → slice_index (set words (parent i) (slice_index words (parent i) + 1)) j ≡ slice_index words j + 1
-          → slice_index words j ≡ settled (f (2 * j)) + settled (f (2 * j + 1))
-          → slice_index (set words (parent i) (slice_index words (parent i) + 1)) j
-          ≡ settled (g (2 * j)) + settled (g (2 * j + 1))
-      at_parent j e (inl t) h old' = let a : 2 * j ≡ i = ap (λ (k : ℕ). 2 * k) e ∙ t.0 in
-          let p : settled (g (2 * j)) ≡ settled (f (2 * j)) + 1 = ap (λ (k : ℕ). settled (g k)) a
-          ∙ (up_ ∙ ap (λ (k : ℕ). settled (f k) + 1) (sym a)) in
-          let q = same_ (2 * j + 1) (λ z. omega arith) in omega arith
-      at_parent j e (inr t) h old' = let a : 2 * j + 1 ≡ i = ap (λ (k : ℕ). 2 * k + 1) e ∙ t.1 in
-          let p : settled (g (2 * j + 1)) ≡ settled (f (2 * j + 1)) + 1 = ap (λ (k : ℕ). settled (g k)) a
-          ∙ (up_ ∙ ap (λ (k : ℕ). settled (f k) + 1) (sym a)) in
-          let q = same_ (2 * j) (λ z. omega arith) in omega arith
+      Counted : ℕ → Type 0
+      Counted k = slice_index (set words (parent i) (slice_index words (parent i) + 1)) k ≡ settled (g (2 * k)) + settled (g (2 * k + 1))
+
+      here : slice_index (set words (parent i) (slice_index words (parent i) + 1)) (parent i) ≡ slice_index words (parent i) + 1
+      here = get_or-set_same words (parent i) (slice_index words (parent i) + 1) 0 (omega arith)
+
+      at_parent : ArePair i → slice_index words (parent i) ≡ settled (f (2 * parent i)) + settled (f (2 * parent i + 1)) → Counted (parent i)
+      at_parent (inl t) before = let now = ap (λ (k : ℕ). settled (g k)) t.0 in let was = ap (λ (k : ℕ). settled (f k)) t.0 in
+          let q = same_ (2 * parent i + 1) (λ z. omega arith) in let h = here in let u = up_ in omega arith
+      at_parent (inr t) before = let now = ap (λ (k : ℕ). settled (g k)) t.1 in let was = ap (λ (k : ℕ). settled (f k)) t.1 in
+          let q = same_ (2 * parent i) (λ z. omega arith) in let h = here in let u = up_ in omega arith
 
   -- the state of the sibling, by the word of the parent
   pub sibling_is : (m : Machine) (g : Consistent key.blocks key.passes m) (some_blocks : 0 < key.blocks) (i w : ℕ)
@@ -51,13 +41,8 @@ module _ {S X : Type 0} (right : S → (ℕ → Type 0) → X → Type 0) (key :
       let one : n ≡ settled (m.node (sibling i)) = by_pair n_.both mine0 in by_place (m.node (sibling i)) refl one
     where
       by_pair : ArePair i → settled (m.node i) ≡ 0 → n ≡ settled (m.node (sibling i))
-      by_pair (inl t) z = let a : settled (m.node (2 * parent i)) ≡ settled (m.node i) =
-          ap (λ (k : ℕ). settled (m.node k)) t.0 in
-          let b : settled (m.node (2 * parent i + 1)) ≡ settled (m.node (sibling i)) =
-          ap (λ (k : ℕ). settled (m.node k)) t.1 in omega arith
-      by_pair (inr t) z = let a : settled (m.node (2 * parent i)) ≡ settled (m.node (sibling i)) =
-          ap (λ (k : ℕ). settled (m.node k)) t.0 in let b : settled (m.node (2 * parent i + 1)) ≡ settled (m.node i) =
-          ap (λ (k : ℕ). settled (m.node k)) t.1 in omega arith
+      by_pair (inl t) z = let a = ap (λ (k : ℕ). settled (m.node k)) t.0 in let b = ap (λ (k : ℕ). settled (m.node k)) t.1 in omega arith
+      by_pair (inr t) z = let a = ap (λ (k : ℕ). settled (m.node k)) t.0 in let b = ap (λ (k : ℕ). settled (m.node k)) t.1 in omega arith
 
       not_used : m.node (sibling i) ≡ used → ⊥
       not_used e = let n_ = near i lo in let q = n_.above_sibling in let pos = n_.positive in

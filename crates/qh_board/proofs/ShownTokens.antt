@@ -10,15 +10,13 @@ use Rattle.qh_model.specs.contract.BoardMachine.{InSpan}
 abbrev pub board_of : {S : Type 0} → TableId → Setup S → BoardValue S
 board_of table setup = record { table = table; setup = setup }
 
-module _ {S : Type 0} (b : BoardValue S) (t : Token S) (id table : TableId) (v : View S) (setup : Setup S)
-    (shown : token_of id v ≡ t) (is : board_of table setup ≡ b) (mine : IsOf b t) where
-  -- its seat is at the board's table
-  pub same_table : id ≡ table
-  same_table = ap (λ (x : Token S). x.table) shown ∙ (mine.table ∙ ap (λ (x : BoardValue S). x.table) (sym is))
-
-  -- its view has the board's setup
-  pub same_setup : v.setup ≡ Some setup
-  same_setup = ap (λ (x : Token S). x.setup) shown ∙ (mine.setup ∙ ap (λ (x : BoardValue S). Some x.setup) (sym is))
+-- the seat of a token of a board is at its table, and its view has the setup
+pub at_board : {S : Type 0} (b : BoardValue S) (t : Token S) (id table : TableId) (v : View S) (setup : Setup S)
+    → token_of id v ≡ t → board_of table setup ≡ b → IsOf b t → (id ≡ table) × (v.setup ≡ Some setup)
+at_board {S} b t id table v setup shown is mine = (
+  ap (λ (x : Token S). x.table) shown ∙ (mine.table ∙ ap (λ (x : BoardValue S). x.table) (sym is)),
+  ap (λ (x : Token S). x.setup) shown ∙ (mine.setup ∙ ap (λ (x : BoardValue S). Some x.setup) (sym is)),
+)
 
 -- a seat at the board's table whose view has its setup is one of the board's
 pub is_of : {S : Type 0} (b : BoardValue S) (id table : TableId) (v : View S) (setup : Setup S)

@@ -1,9 +1,9 @@
 -- The slots that a pass carries, and what lies in each once they are home.
 use mathlib.Core.Option as maybe
 use Rattle.std.proofs.Common.{◌≡◌, ◌≢◌, ℕ, zero, suc, ◌+◌, ◌*◌, ◌<◌, ◌≤◌, Bool, true, false, List, [], ◌∷◌, length, set, sym, refl, ap, ◌∙◌, subst, arith}
-use Rattle.std.proofs.{Common.if◌then◌else◌, Common.Option, Common.Some, Common.None, Common.length-set, lemmas.Bool.Decides.nat_tests}
+use Rattle.std.proofs.{Common.Option, Common.Some, Common.None, Common.length-set, lemmas.Bool.Decides.nat_tests}
 use Rattle.std.specs.Prelude.{nat_lt, slice_index}
-use mathlib.Core.{Logic.dite, Option.some, Option.none, Option.some-injective, Option.some-ne-none}
+use mathlib.Core.{Logic.dite, Option.some}
 use native.Mathlib.Decide.{ℕ_discrete, dec_le}
 use lib.ListN.{get_elem?}
 use Rattle.atomic_table.specs.Table.{State, Me, Act, keeps, gives, chain, Valid, homes_after, carried_after, rest, stepped}
@@ -50,16 +50,11 @@ module _ {A : Type 0} where
   there_is (x ∷ xs) (suc j) h = there_is xs j (omega arith)
 
 module _ {X : Type 0} where
-  kids_if : ℕ → Bool → List (ℕ × Option X)
-  kids_if i t = if t then (2 * i, None) ∷ (2 * i + 1, None) ∷ [] else []
-
   kids_in : (b i : ℕ) → i < b → kids {X = X} b i ≡ (2 * i, None) ∷ (2 * i + 1, None) ∷ []
-  unfolding kids_if
-  kids_in b i h = let t : nat_lt i b ≡ true = grind (arith, nat_tests) in ap (kids_if i) t
+  kids_in b i h = let t : nat_lt i b ≡ true = grind (arith, nat_tests) in rw t refl
 
   kids_out : (b i : ℕ) → b ≤ i → kids {X = X} b i ≡ []
-  unfolding kids_if
-  kids_out b i h = let t : nat_lt i b ≡ false = grind (arith, nat_tests) in ap (kids_if i) t
+  kids_out b i h = let t : nat_lt i b ≡ false = grind (arith, nat_tests) in rw t refl
 
 module _ {S X : Type 0} (right : S → (ℕ → Type 0) → X → Type 0) (key : Setup S) where
   -- the slots of a pass at node i, once it has put down what it has
