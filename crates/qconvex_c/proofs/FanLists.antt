@@ -1,18 +1,18 @@
 -- The lists of fans: made face by face they are those of all triangles, and each has three numbers a triangle.
 use Rattle.std.proofs.Common.{ℕ, ℤ, ◌≡◌, ◌*◌, ◌/◌, ◌<◌, List, [], ◌∷◌, ◌++◌, length, take, drop, arith, ap, sym, subst, refl, ◌∙◌, ◌⊎◌, inl, inr}
-use Rattle.std.proofs.lemmas.Grind.{flat_map-append}
-use Rattle.std.proofs.lemmas.List.{append_assoc, length-append}
+use Rattle.std.proofs.lemmas.{Grind.flat_map-append, List.append_assoc, List.length-append}
 use Rattle.std.specs.List.{All, flat_map}
 use Rattle.qh_model.proofs.Members.{All-of, All-In}
-use Rattle.qh_model.specs.contract.Bodies.{IsBodyInOrder}
-use Rattle.qh_model.specs.contract.IdSets.{AreIndices}
-use Rattle.qh_model.specs.headline.Fan.{triangles_along}
-use Rattle.qh_model.specs.headline.Hull.{HullValue, IsHull}
-use Rattle.qh_model.specs.headline.Predicates.{place}
-use Rattle.qh_model.specs.headline.Vector.{Vector}
+use Rattle.qh_model.specs.contract.{Bodies.IsBodyInOrder, IdSets.AreIndices}
+use Rattle.qh_model.specs.headline.{Fan.triangles_along, Hull.HullValue, Hull.IsHull, Predicates.place, Vector.Vector}
 use Rattle.qconvex_c.specs.contract.Flat.{corners_of}
 use Rattle.qconvex_c.specs.contract.Triangles.{face_triangles, triangles_of, normal_of, AreFans, NeedsFanRoom}
 use Rattle.qconvex_c.specs.steps.FaceFans.{face_corners, face_normals}
+
+-- the corners of faces are the faces, one after the other
+corners_are : (qs : List (List ℕ)) → corners_of qs ≡ flat_map (λ q. q) qs
+corners_are [] = refl
+corners_are (q ∷ qs) = ap (λ t. q ++ t) (corners_are qs)
 
 -- the corners of two lists of faces
 corners_of-append : (xs ys : List (List ℕ)) → corners_of (xs ++ ys) ≡ corners_of xs ++ corners_of ys
@@ -30,48 +30,39 @@ normals_by_face at [] = refl
 normals_by_face at (q ∷ qs) = ap (λ t. face_normals at q ++ t) (normals_by_face at qs)
     ∙ sym (flat_map-append (normal_of at) (face_triangles q) (triangles_of qs))
 
--- each triangle along a list has three corners
-along_corners : (first u : ℕ) (r : List ℕ) → length (corners_of (triangles_along first u r)) ≡ 3 * length (triangles_along first u r)
-along_corners first u [] = refl
-along_corners first u (v ∷ r) = let e = along_corners first v r in omega (arith, e)
+-- a list with three elements for each triangle is three times as long as that of the triangles
+module _ {X : Type 0} (f : List ℕ → List X) (three : (u v w : ℕ) → length (f (u ∷ v ∷ w ∷ [])) ≡ 3) where
+  length-along : (first u : ℕ) (r : List ℕ) → length (flat_map f (triangles_along first u r)) ≡ 3 * length (triangles_along first u r)
+  length-along first u [] = refl
+  length-along first u (v ∷ r) =
+      let all = length-append (f (first ∷ u ∷ v ∷ [])) (flat_map f (triangles_along first v r)) in
+      let own = three first u v in
+      let rest = length-along first v r in
+      omega (arith, all, own, rest)
 
--- and a normal of three components
-along_normals : (at : ℕ → Vector) (first u : ℕ) (r : List ℕ)
-    → length (flat_map (normal_of at) (triangles_along first u r)) ≡ 3 * length (triangles_along first u r)
-along_normals at first u [] = refl
-along_normals at first u (v ∷ r) = let e = along_normals at first v r in omega (arith, e)
+  length-face : (q : List ℕ) → length (flat_map f (face_triangles q)) ≡ 3 * length (face_triangles q)
+  length-face [] = refl
+  length-face (a ∷ []) = refl
+  length-face (a ∷ b ∷ []) = refl
+  length-face (a ∷ b ∷ c ∷ r) = length-along a b (c ∷ r)
 
--- so has each of a face
-length-face_corners : (q : List ℕ) → length (face_corners q) ≡ 3 * length (face_triangles q)
-length-face_corners [] = refl
-length-face_corners (a ∷ []) = refl
-length-face_corners (a ∷ b ∷ []) = refl
-length-face_corners (a ∷ b ∷ c ∷ r) = along_corners a b (c ∷ r)
+  length-faces : (qs : List (List ℕ)) → length (flat_map f (triangles_of qs)) ≡ 3 * length (triangles_of qs)
+  length-faces [] = refl
+  length-faces (q ∷ qs) =
+      let joined = ap length (flat_map-append f (face_triangles q) (triangles_of qs)) in
+      let all = length-append (flat_map f (face_triangles q)) (flat_map f (triangles_of qs)) in
+      let triangles = length-append (face_triangles q) (triangles_of qs) in
+      let face = length-face q in
+      let rest = length-faces qs in
+      omega (arith, joined, all, triangles, face, rest)
 
-length-face_normals : (at : ℕ → Vector) (q : List ℕ) → length (face_normals at q) ≡ 3 * length (face_triangles q)
-length-face_normals at [] = refl
-length-face_normals at (a ∷ []) = refl
-length-face_normals at (a ∷ b ∷ []) = refl
-length-face_normals at (a ∷ b ∷ c ∷ r) = along_normals at a b (c ∷ r)
+-- so is that of their corners
+length-corners : (qs : List (List ℕ)) → length (corners_of (triangles_of qs)) ≡ 3 * length (triangles_of qs)
+length-corners qs = ap length (corners_are (triangles_of qs)) ∙ length-faces (λ t. t) (λ u v w. refl) qs
 
--- and each of all faces
-pub length-corners : (qs : List (List ℕ)) → length (flat_map face_corners qs) ≡ 3 * length (triangles_of qs)
-length-corners [] = refl
-length-corners (q ∷ qs) =
-    let all = length-append (face_corners q) (flat_map face_corners qs) in
-    let triangles = length-append (face_triangles q) (triangles_of qs) in
-    let face = length-face_corners q in
-    let rest = length-corners qs in
-    omega (arith, all, triangles, face, rest)
-
-pub length-normals : (at : ℕ → Vector) (qs : List (List ℕ)) → length (flat_map (face_normals at) qs) ≡ 3 * length (triangles_of qs)
-length-normals at [] = refl
-length-normals at (q ∷ qs) =
-    let all = length-append (face_normals at q) (flat_map (face_normals at) qs) in
-    let triangles = length-append (face_triangles q) (triangles_of qs) in
-    let face = length-face_normals at q in
-    let rest = length-normals at qs in
-    omega (arith, all, triangles, face, rest)
+-- and that of their normals
+length-normals : (at : ℕ → Vector) (qs : List (List ℕ)) → length (flat_map (normal_of at) (triangles_of qs)) ≡ 3 * length (triangles_of qs)
+length-normals at qs = length-faces (normal_of at) (λ u v w. refl) qs
 
 -- a third of three times a number
 pub third : (m n k : ℕ) → m ≡ 3 * n → k ≡ m / 3 → k ≡ n
@@ -92,7 +83,7 @@ pub fans_made : (pts : List Vector) (h : HullValue) (len : ℕ) (ts : List ℕ) 
 fans_made pts h len ts ns is t n e = record {
   hull = h;
   right = is;
-  counted = let a = ap length t in let b = length-corners h.body.polygons in
+  counted = let a = ap length (t ∙ corners_by_face h.body.polygons) in let b = length-corners h.body.polygons in
       third (length ts) (length (triangles_of h.body.polygons)) (len / 3) (omega (arith, a, b)) (ap (λ k. k / 3) e);
   triangle_corners = t ∙ corners_by_face h.body.polygons;
   triangle_normals = n ∙ normals_by_face (place pts) h.body.polygons;
@@ -101,14 +92,14 @@ fans_made pts h len ts ns is t n e = record {
 module _ (pts : List Vector) (count : ℕ) (ts : List ℕ) (ns : List ℤ) (f : AreFans pts count ts ns) where
   pub triangles_len : length ts ≡ 3 * count
   triangles_len =
-      let corners = ap length (f.triangle_corners ∙ sym (corners_by_face f.hull.body.polygons)) in
+      let corners = ap length f.triangle_corners in
       let all = length-corners f.hull.body.polygons in
       let counted = f.counted in
       omega (arith, corners, all, counted)
 
   pub normals_len : length ns ≡ 3 * count
   normals_len =
-      let normals = ap length (f.triangle_normals ∙ sym (normals_by_face (place pts) f.hull.body.polygons)) in
+      let normals = ap length f.triangle_normals in
       let all = length-normals (place pts) f.hull.body.polygons in
       let counted = f.counted in
       omega (arith, normals, all, counted)

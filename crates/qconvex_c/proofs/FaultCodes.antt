@@ -1,7 +1,6 @@
 -- The fault of a code.
-use Rattle.std.proofs.Common.{◌≡◌, refl, subst, arith, Result, Ok, Err}
-use Rattle.qconvex_c.specs.steps.Codes.{code_of}
-use Rattle.qconvex_c.specs.declared.fault.Fault.{Fault}
+use Rattle.std.proofs.Common.{◌≡◌, ◌↔◌, ℕ, refl, subst, arith, Result, Ok, Err}
+use Rattle.qconvex_c.specs.{steps.Codes.code_of, declared.fault.Fault.Fault}
 use Rattle.qconvex_c.specs.declared.fault.Fault.TheVariants.{NoPoint, TooMany, Range, Memory, Room}
 
 pub is_room : (f : Fault) → code_of f ≡ 5 → f ≡ Room
@@ -18,3 +17,7 @@ is_done (Err f) = ⊥
 -- a call that is done has no fault
 pub no_fault : {A : Type 0} (x : A) (f : Fault) → ¬ (◌≡◌ {A = Result A Fault} (Ok x) (Err f))
 no_fault x f e = subst is_done e tt
+
+-- nor one that a clause is about
+pub not_told : {A B : Type 0} (x : A) (f : Fault) (n m : ℕ) → ¬ (n ≡ m) → (◌≡◌ {A = Result A Fault} (Ok x) (Err f)) ↔ B → (n ≡ m) ↔ B
+not_told x f n m other told = (λ e. absurd (other e), λ b. absurd (no_fault x f (told.1 b)))

@@ -7,8 +7,7 @@ use Rattle.std.specs.List.{slice_range}
 use Rattle.qh_model.specs.headline.Vector.{Vector}
 use Rattle.qconvex_c.proofs.SetParts.{same_part, same_end, kept_longer}
 use Rattle.qconvex_c.specs.contract.Sets.{AreStarts, HaveRoom, IsSetHull, HasSetHull, AreKeptBetween}
-use Rattle.qconvex_c.specs.contract.Sets.{sets_in, offsets_start, corners_start}
-use Rattle.qconvex_c.specs.declared.set_answer.SetAnswer.{SetAnswer}
+use Rattle.qconvex_c.specs.{contract.Sets.sets_in, contract.Sets.offsets_start, contract.Sets.corners_start, declared.set_answer.SetAnswer.SetAnswer}
 use Rattle.qconvex_c.specs.declared.sets.Set.{Set}
 
 -- equal places have equal starts

@@ -2,12 +2,9 @@
 use Rattle.std.proofs.Common.{◌≡◌, ℕ, ◌+◌, ◌*◌, ◌/◌, ◌<◌, ℤ, pos, ◌+ℤ◌, suc, List, [], ◌∷◌, length, drop, get_or}
 use Rattle.std.proofs.Common.{refl, ap, sym, subst, ◌∙◌, arith, rules}
 use lib.IntN.{+ℤ_assoc}
-use Rattle.std.proofs.Math.Seq.{drop-cons}
-use Rattle.std.proofs.lemmas.List.{length-drop}
-use Rattle.std.specs.Int.{w128}
-use Rattle.std.specs.Prelude.{FitsSigned}
-use Rattle.qh_model.specs.headline.Predicates.{vol}
-use Rattle.qh_model.specs.headline.Vector.{Vector}
+use Rattle.std.proofs.{Math.Seq.drop-cons, lemmas.List.length-drop}
+use Rattle.std.specs.{Int.w128, Prelude.FitsSigned}
+use Rattle.qh_model.specs.headline.{Predicates.vol, Vector.Vector}
 use Rattle.qconvex_c.specs.contract.Volumes.{six_volumes, PartialSumsFit}
 
 -- the three corners of triangle k stand before those of the next ones

@@ -1,7 +1,6 @@
 use Rattle.std.proofs.Common.{◌≡◌, ◌++◌, ◌<◌, drop, length}
 use Rattle.std.specs.List.{flat_map}
-use Rattle.qh_model.specs.headline.Fan.{triangles_along}
-use Rattle.qh_model.specs.headline.Predicates.{place}
+use Rattle.qh_model.specs.headline.{Fan.triangles_along, Predicates.place}
 use Rattle.qconvex_c.specs.contract.Triangles.{normal_of}
 use Rattle.qconvex_c.proofs.fans.push_normals.Given as goal
 

@@ -1,8 +1,6 @@
 use Rattle.std.proofs.Common.{◌<◌, ◌∙◌, arith, ap}
-use Rattle.qconvex_c.specs.declared.buffers.Buffers.{Buffers}
-use Rattle.qconvex_c.specs.steps.Buffers.{AreSame}
+use Rattle.qconvex_c.specs.{declared.buffers.Buffers.Buffers, steps.Buffers.AreSame, contract.Sets.sets_in}
 use Rattle.qconvex_c.proofs.SetHulls.{fits_part, written_more}
-use Rattle.qconvex_c.specs.contract.Sets.{sets_in}
 use Rattle.qconvex_c.proofs.many.qconvex_hulls.Goals as goal
 
 -- buffers stay the same through two calls

@@ -1,6 +1,5 @@
-use Rattle.qconvex_c.proofs.StartsTest.{falls, beyond}
+use Rattle.qconvex_c.proofs.{StartsTest.falls, StartsTest.beyond, sets.are_starts.Goals.then-start-last-via-then-start-last}
 use Rattle.qconvex_c.proofs.sets.are_starts.Goals as goal
-use Rattle.qconvex_c.proofs.sets.are_starts.Goals.{then-start-last-via-then-start-last}
 use Rattle.qconvex_c.proofs.sets.are_starts.Goals.{then-start-last-via-else-start-last+then-start-count}
 
 pub returns-then-start-last : goal.returns-then-start-last
