@@ -9,4 +9,5 @@ mod axes;
 mod cells;
 mod ranges;
 
+pub(crate) use axes::Axes;
 pub use ranges::along_curve;

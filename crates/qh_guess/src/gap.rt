@@ -7,3 +7,4 @@ mod flood;
 
 pub use edges::{Border, border_of};
 pub use flood::bridge_over;
+pub(crate) use flood::indices_among;

@@ -15,7 +15,7 @@ ghost use Rattle.qh_parts.specs.steps.Outcomes.{IsOutcome};
 use crate::given::{given_in_threads, outlines_in_threads};
 use crate::pieces::{are_indices, parts_along_curve};
 use qh_block::{TELLING, UnsortedFaces, are_few, extremes, hull};
-use qh_guess::{Outline, bridge_over, is_worth};
+use qh_guess::{Outline, bridge_over, is_worth, is_worth_parting};
 use qh_model::{Body, Id, Memory, Point};
 use qh_seam::{Divided, body_of_joined, join_faces, kept_ids};
 use std::alloc::Global;
@@ -230,6 +230,9 @@ pub fn hull_in_parts<R: Threads>(
         parts: PARTS.min(workers as usize),
         seams: Seams::WhereTheyPay,
     };
+    if !is_worth_parting(alloc, pts, ids, parting.parts)? {
+        return hull(alloc, pts, ids);
+    }
     match hull_by_parts(rt, alloc, pts, ids, workers, parting)? {
         Some(body) => Ok(body),
         None => hull(alloc, pts, ids),

@@ -33,7 +33,7 @@ fn spread(number: u32) -> u32 {
 
 impl Cell {
     /// Returns the number in Morton's order: the bits of the places, taken in turn.
-    fn interleaved(self) -> u32 {
+    pub fn interleaved(self) -> u32 {
         spread(self.x) << 2 | spread(self.y) << 1 | spread(self.z)
     }
 

@@ -126,7 +126,7 @@ fn reached(
 }
 
 /// Returns the ids of a list that are indices of points.
-fn indices_among(alloc: Global, pts: &[Point], ids: &[Id]) -> Result<Vec<Id>, AllocError>
+pub(crate) fn indices_among(alloc: Global, pts: &[Point], ids: &[Id]) -> Result<Vec<Id>, AllocError>
     ensures { IfOk result (λ v. AreIndices pts.now v.items) }
 {
     let mut indices = Vec::with_capacity(alloc, ids.len())?;
