@@ -15,7 +15,7 @@ use qh_surface::ends_of;
 use std::alloc::{AllocError, Global};
 
 /// The most ids of a sample.
-const SAMPLE: usize = 2_048;
+const SAMPLE: usize = 1_024;
 
 /// The room of a place in a key: 2^32.
 const PLACE_ROOM: u64 = 4_294_967_296;
