@@ -3,10 +3,10 @@ use Rattle.std.proofs.Common.{ℕ, ℤ, ◌≡◌, ◌*◌, ◌/◌, ◌<◌, Li
 use Rattle.std.proofs.lemmas.{Grind.flat_map-append, List.append_assoc, List.length-append}
 use Rattle.std.specs.List.{All, flat_map}
 use Rattle.qh_model.proofs.Members.{All-of, All-In}
-use Rattle.qh_model.specs.contract.{Bodies.IsBodyInOrder, IdSets.AreIndices}
+use Rattle.qh_model.specs.contract.{Bodies.IsBodyInOrder, FaceTriangles.face_triangles, IdSets.AreIndices}
 use Rattle.qh_model.specs.headline.{Fan.triangles_along, Hull.HullValue, Hull.IsHull, Predicates.place, Vector.Vector}
 use Rattle.qconvex_c.specs.contract.Flat.{corners_of}
-use Rattle.qconvex_c.specs.contract.Triangles.{face_triangles, triangles_of, normal_of, AreFans, NeedsFanRoom}
+use Rattle.qconvex_c.specs.contract.Triangles.{triangles_of, normal_of, AreFans, NeedsFanRoom}
 use Rattle.qconvex_c.specs.steps.FaceFans.{face_corners, face_normals}
 
 -- the corners of faces are the faces, one after the other
@@ -43,8 +43,7 @@ module _ {X : Type 0} (f : List ℕ → List X) (three : (u v w : ℕ) → lengt
   length-face : (q : List ℕ) → length (flat_map f (face_triangles q)) ≡ 3 * length (face_triangles q)
   length-face [] = refl
   length-face (a ∷ []) = refl
-  length-face (a ∷ b ∷ []) = refl
-  length-face (a ∷ b ∷ c ∷ r) = length-along a b (c ∷ r)
+  length-face (a ∷ b ∷ r) = length-along a b r
 
   length-faces : (qs : List (List ℕ)) → length (flat_map f (triangles_of qs)) ≡ 3 * length (triangles_of qs)
   length-faces [] = refl

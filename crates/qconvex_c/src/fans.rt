@@ -2,9 +2,7 @@
 ghost use Rattle.std.specs.Prelude.{◌≡◌, ◌++◌, ◌∷◌, [], ◌<◌, ℕ, All, IfOk, OnOk, length};
 ghost use Rattle.std.specs.List.{flat_map};
 ghost use Rattle.qh_model.specs.contract.IdSets.{AreIndices};
-ghost use Rattle.qh_model.specs.headline.Fan.{triangles_along};
 ghost use Rattle.qh_model.specs.headline.Predicates.{place};
-ghost use Rattle.qconvex_c.specs.contract.Flat.{corners_of};
 ghost use Rattle.qconvex_c.specs.contract.Triangles.{normal_of};
 ghost use Rattle.qconvex_c.specs.steps.FaceFans.{face_corners, face_normals};
 
@@ -13,42 +11,23 @@ use qh_pred::{Normal, cross, point_at};
 use std::alloc::{AllocError, Global};
 
 /// Appends the numbers of three ids.
-fn push_triangle(numbers: &mut Vec<u32>, a: Id, b: Id, c: Id) -> Result<(), AllocError>
-    ensures { OnOk result (numbers.new.items ≡ numbers.old.items ++ a ∷ b ∷ c ∷ []) }
+fn push_triangle(numbers: &mut Vec<u32>, u: Id, v: Id, w: Id) -> Result<(), AllocError>
+    ensures { OnOk result (numbers.new.items ≡ numbers.old.items ++ u ∷ v ∷ w ∷ []) }
 {
-    numbers.push(a.number())?;
-    numbers.push(b.number())?;
-    numbers.push(c.number())?;
+    numbers.push(u.number())?;
+    numbers.push(v.number())?;
+    numbers.push(w.number())?;
     Ok(())
 }
 
-/// Appends the triangles of a first id and each two neighbours along a list.
-fn push_triangles(
-    numbers: &mut Vec<u32>,
-    first: Id,
-    second: Id,
-    along: &[Id],
-) -> Result<(), AllocError>
-    ensures { OnOk result (numbers.new.items ≡ numbers.old.items ++ corners_of (triangles_along first second along.now)) }
-{
-    let mut last = second;
-    for id in along {
-        push_triangle(numbers, first, last, *id)?;
-        last = *id;
-    }
-    Ok(())
-}
-
-/// Appends the triangles of a face.
-fn push_fan(numbers: &mut Vec<u32>, face: &[Id]) -> Result<(), AllocError>
+/// Appends the corners of the triangles of a face.
+fn push_corners(numbers: &mut Vec<u32>, face: &Polygon) -> Result<(), AllocError>
     ensures { OnOk result (numbers.new.items ≡ numbers.old.items ++ face_corners face.now) }
 {
-    match face {
-        [first, second, rest @ ..] if !rest.is_empty() => {
-            push_triangles(numbers, *first, *second, rest)
-        }
-        _ => Ok(()),
+    for [u, v, w] in face.fan() {
+        push_triangle(numbers, u, v, w)?;
     }
+    Ok(())
 }
 
 /// Returns the corners of the triangles of faces.
@@ -57,7 +36,7 @@ fn fan_corners(alloc: Global, faces: &[Polygon]) -> Result<Vec<u32>, AllocError>
 {
     let mut numbers = Vec::new(alloc);
     for face in faces {
-        push_fan(&mut numbers, face.ids())?;
+        push_corners(&mut numbers, face)?;
     }
     Ok(numbers)
 }
@@ -72,43 +51,18 @@ fn push_normal(components: &mut Vec<i64>, normal: Normal) -> Result<(), AllocErr
     Ok(())
 }
 
-/// Appends the normals of the triangles of a first id and each two neighbours along a list.
-fn push_normals(
-    components: &mut Vec<i64>,
-    pts: &[Point],
-    first: Id,
-    second: Id,
-    along: &[Id],
-) -> Result<(), AllocError>
-    requires first { first < length pts.now }
-    requires second { second < length pts.now }
-    requires along { AreIndices pts.now along.now }
-    ensures { OnOk result (components.new.items ≡ components.old.items ++ flat_map (normal_of (place pts.now)) (triangles_along first second along.now)) }
-{
-    let mut last = second;
-    for id in along {
-        let normal = cross(
-            point_at(pts, first),
-            point_at(pts, last),
-            point_at(pts, *id),
-        );
-        push_normal(components, normal)?;
-        last = *id;
-    }
-    Ok(())
-}
-
 /// Appends the normals of the triangles of a face.
-fn push_fan_normals(components: &mut Vec<i64>, pts: &[Point], face: &[Id]) -> Result<(), AllocError>
+fn push_normals(components: &mut Vec<i64>, pts: &[Point], face: &Polygon) -> Result<(), AllocError>
     requires { AreIndices pts.now face.now }
     ensures { OnOk result (components.new.items ≡ components.old.items ++ face_normals (place pts.now) face.now) }
 {
-    match face {
-        [first, second, rest @ ..] if !rest.is_empty() => {
-            push_normals(components, pts, *first, *second, rest)
-        }
-        _ => Ok(()),
+    for [u, v, w] in face.fan() {
+        push_normal(
+            components,
+            cross(point_at(pts, u), point_at(pts, v), point_at(pts, w)),
+        )?;
     }
+    Ok(())
 }
 
 /// Returns the normals of the triangles of faces.
@@ -118,7 +72,7 @@ fn fan_normals(alloc: Global, pts: &[Point], faces: &[Polygon]) -> Result<Vec<i6
 {
     let mut components = Vec::new(alloc);
     for face in faces {
-        push_fan_normals(&mut components, pts, face.ids())?;
+        push_normals(&mut components, pts, face)?;
     }
     Ok(components)
 }

@@ -4,6 +4,7 @@ pub mod Bodies
 pub mod ClosedPolygons
 pub mod ClosedSurface
 pub mod Cut
+pub mod FaceTriangles
 pub mod FinishedSurface
 pub mod IdSets
 pub mod Places

@@ -2,3 +2,4 @@
 pub mod Corners
 pub mod Endings
 pub mod FarCorners
+pub mod Walks

@@ -6,6 +6,7 @@
 #![tactic(auto)]
 
 mod cut;
+mod fan;
 mod form;
 mod hull;
 pub mod laws;
@@ -15,8 +16,10 @@ mod out;
 mod point;
 mod polygon;
 mod read_fault;
+mod sides;
 
 pub use cut::{Cut, CutError};
+pub use fan::Fan;
 pub use form::Form;
 pub use hull::{Body, Hull};
 pub use limits::{BLOCK_LIMIT, BYTE_LIMIT, COORDINATE_LIMIT, POINT_LIMIT, WORKER_LIMIT};
@@ -25,3 +28,4 @@ pub use out::Out;
 pub use point::{Id, Point};
 pub use polygon::Polygon;
 pub use read_fault::ReadFault;
+pub use sides::Sides;

@@ -1,7 +1,11 @@
 //! The polygon of a face.
 ghost use Rattle.std.specs.Prelude.{◌≡◌, [], ◌∷◌};
+ghost use Rattle.qh_model.specs.contract.ClosedPolygons.{steps_round};
+ghost use Rattle.qh_model.specs.contract.FaceTriangles.{face_triangles};
 
+use crate::fan::Fan;
 use crate::point::Id;
+use crate::sides::Sides;
 use std::marker::Model;
 
 /// How the ids of a polygon are kept. Most faces have three corners or four, and these need no memory
@@ -62,5 +66,20 @@ impl Polygon {
             Corners::Four(ids) => ids,
             Corners::Listed(ids) => ids.as_slice(),
         }
+    }
+
+    /// Returns the sides, from the one between the first two ids on. The last side ends at the first id.
+    pub fn sides(&self) -> Sides<'_>
+        ensures { result ≡ steps_round self.now }
+    {
+        Sides::of(self.ids())
+    }
+
+    /// Returns the triangles of the fan: each of the first id and two neighbours. There are none of fewer than three
+    /// ids.
+    pub fn fan(&self) -> Fan<'_>
+        ensures { result ≡ face_triangles self.now }
+    {
+        Fan::of(self.ids())
     }
 }

@@ -1,16 +1,11 @@
 -- The faces of a hull as triangles with their normals, in flat lists.
 use Rattle.std.specs.Prelude.{ℕ, ℤ, ◌≡◌, ◌*◌, ◌<◌, ◌⊎◌, List, [], ◌∷◌, length}
 use Rattle.std.specs.List.{flat_map}
-use Rattle.qh_model.specs.headline.Fan.{fan}
+use Rattle.qh_model.specs.contract.FaceTriangles.{face_triangles}
 use Rattle.qh_model.specs.headline.Hull.{HullValue, IsHull}
 use Rattle.qh_model.specs.headline.Predicates.{cross, place}
 use Rattle.qh_model.specs.headline.Vector.{Vector}
 use Rattle.qconvex_c.specs.contract.Flat.{corners_of}
-
--- the fan of a face, if it has three corners or more
-abbrev pub face_triangles : List ℕ → List (List ℕ)
-face_triangles (a ∷ b ∷ c ∷ r) = fan (a ∷ b ∷ c ∷ r)
-face_triangles q = []
 
 -- the fans of faces, one after the other
 abbrev pub triangles_of : List (List ℕ) → List (List ℕ)

@@ -1,5 +1,5 @@
 -- Two lists, one after the other: their members, and when they have each once.
-use Rattle.std.proofs.Common.{List, [], ◌∷◌, ◌++◌, ◌⊎◌, inl, inr, refl, subst, ⊎_elim}
+use Rattle.std.proofs.Common.{List, [], ◌∷◌, ◌++◌, ◌≡◌, ◌∙◌, ◌⊎◌, ap, append_assoc, inl, inr, refl, subst, sym, ⊎_elim}
 use Rattle.std.specs.List.{flat_map}
 use Rattle.qh_model.specs.headline.Sets.{In, Once}
 
@@ -36,6 +36,13 @@ of_flat_map {X} {Y} f (z ∷ xs) y m = with_rest (of_flat_map f xs y) (of_append
     with_rest : (In y (flat_map f xs) → (x : X) × In x xs × In y (f x)) → In y (f z) ⊎ In y (flat_map f xs) → (x : X) × In x (z ∷ xs) × In y (f x)
     with_rest rest (inl h) = (z, inl refl, h)
     with_rest rest (inr h) = let r = rest h in (r.0, inr r.1, r.2)
+
+-- a walk over a list that appends the list of each member: once that of the first is appended, those of the rest are left
+pub join_next : {X Y : Type 0} (f : X → List Y) (old new all : List Y) (x : X) (xs rest : List X) → xs ≡ x ∷ rest
+    → new ≡ old ++ f x → old ++ flat_map f xs ≡ all → new ++ flat_map f rest ≡ all
+join_next f old new all x xs rest first appended left =
+    ap (λ t. t ++ flat_map f rest) appended ∙ append_assoc old (f x) (flat_map f rest)
+    ∙ ap (λ ys. old ++ flat_map f ys) (sym first) ∙ left
 
 -- a beginning of a list that has each member once has too
 pub once_left : {X : Type 0} (xs ys : List X) → Once (xs ++ ys) → Once xs

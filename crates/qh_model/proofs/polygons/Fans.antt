@@ -1,10 +1,11 @@
 -- Fans of triangles: their triangles are of their polygons, and support the set.
-use Rattle.std.proofs.Common.{ℕ, ◌≡◌, List, [], ◌∷◌, inl, inr, refl, sym, subst}
+use Rattle.std.proofs.Common.{ℕ, ◌≡◌, List, [], ◌∷◌, All, inl, inr, refl, sym, subst}
 use Rattle.std.specs.Prelude.{pos, ◌<ℤ◌, ◌≤ℤ◌}
-use Rattle.qh_model.specs.contract.IdSets.{HasDistinctPoints}
+use Rattle.qh_model.specs.contract.{FaceTriangles.face_triangles, IdSets.HasDistinctPoints}
 use Rattle.qh_model.specs.headline.{Fan.triangles_along, Fan.fan, Polygon.FollowsAlong, Polygons.IsFacePolygon, Predicates.cross, Predicates.vol}
 use Rattle.qh_model.specs.headline.{Predicates.left, Sets.In, Sets.Members, SupportingPlane.IsSupportingTriple, Vector.Vector, Vector.dot}
 use Rattle.qh_model.specs.laws.{FaceLaws.SpannedByExtremes, FanLaws.CornersSupport, FanLaws.FansSupport, FanLaws.IsSupportingTriangle}
+use Rattle.qh_model.proofs.Members.{All-In, All-of}
 use Rattle.qh_model.proofs.algebra.{Order.cancel-nonpos, Order.mul-nonneg_nonpos, Order.positive_le, Signs.less_differ}
 use Rattle.qh_model.proofs.algebra.VectorIdentities.{vol-first, in_line-left, left-turn}
 use Rattle.qh_model.proofs.{extremes.Directions.square-positive, extremes.SpanningTriples.planes_of_extremes, lists.Joined.of_flat_map}
@@ -46,6 +47,26 @@ triangle_along first u (x ∷ r) t (inr m) =
     let s = triangle_along first x r t m in
     record { v = s.v; w = s.w; is = s.is; has_v = inr s.has_v; has_w = inr s.has_w; follows = λ e. inr (s.follows e) }
 
+-- the triangles of a face have no other ids than the face
+pub triangle_members : (q t : List ℕ) → In t (face_triangles q) → (i : ℕ) → In i t → In i q
+triangle_members [] t m i h = absurd m
+triangle_members (a ∷ []) t m i h = absurd m
+triangle_members (a ∷ b ∷ r) t m i h = along_fan (triangle_along a b r t m)
+  where
+    along_fan : IsTriangleAlong a b r t → In i (a ∷ b ∷ r)
+    along_fan s = among_three (subst (In i) s.is h)
+      where
+        among_three : In i (a ∷ s.v ∷ s.w ∷ []) → In i (a ∷ b ∷ r)
+        among_three (inl e) = inl e
+        among_three (inr (inl e)) = inr (subst (λ x. In x (b ∷ r)) (sym e) s.has_v)
+        among_three (inr (inr (inl e))) = inr (inr (subst (λ x. In x r) (sym e) s.has_w))
+        among_three (inr (inr (inr n))) = absurd n
+
+-- what holds for the ids of a face holds for those of its triangles
+pub triangles_all : (P : ℕ → Type 0) (q : List ℕ) → All P q → All (All P) (face_triangles q)
+triangles_all P q all =
+    All-of (All P) (face_triangles q) (λ t m. All-of P t (λ i h. All-In P q i all (triangle_members q t m i h)))
+
 -- the members of a fan have no other ids than the polygon
 pub fan_members : (q t : List ℕ) → In t (fan q) → (i : ℕ) → In i t → In i q
 fan_members [] t (inl e) i h = subst (In i) e h
@@ -54,16 +75,7 @@ fan_members (a ∷ []) t (inl e) i h = subst (In i) e h
 fan_members (a ∷ []) t (inr n) i h = absurd n
 fan_members (a ∷ b ∷ []) t (inl e) i h = subst (In i) e h
 fan_members (a ∷ b ∷ []) t (inr n) i h = absurd n
-fan_members (a ∷ b ∷ c ∷ r) t m i h = along_fan (triangle_along a b (c ∷ r) t m)
-  where
-    along_fan : IsTriangleAlong a b (c ∷ r) t → In i (a ∷ b ∷ c ∷ r)
-    along_fan s = among_three (subst (In i) s.is h)
-      where
-        among_three : In i (a ∷ s.v ∷ s.w ∷ []) → In i (a ∷ b ∷ c ∷ r)
-        among_three (inl e) = inl e
-        among_three (inr (inl e)) = inr (subst (λ x. In x (b ∷ c ∷ r)) (sym e) s.has_v)
-        among_three (inr (inr (inl e))) = inr (inr (subst (λ x. In x (c ∷ r)) (sym e) s.has_w))
-        among_three (inr (inr (inr n))) = absurd n
+fan_members (a ∷ b ∷ c ∷ r) t m i h = triangle_members (a ∷ b ∷ c ∷ r) t m i h
 
 -- ---- the fans of faces
 module _ (at : ℕ → Vector) (ids : List ℕ) (d : HasDistinctPoints at (Members ids)) (i j k : ℕ) (triple : IsSupportingTriple at (Members ids) i j k) where

@@ -1,7 +1,7 @@
 //! The text of `offt`: that of `off`, with fans of triangles in place of the faces.
 ghost use Rattle.std.specs.Prelude.{◌≡◌, ◌++◌, ◌<◌, OnOk, IfOk, All, length, decimal};
 ghost use Rattle.std.specs.List.{flat_map};
-ghost use Rattle.qh_model.specs.headline.Fan.{triangles_along, fan, fans, edge_count};
+ghost use Rattle.qh_model.specs.headline.Fan.{fan, fans, edge_count};
 ghost use Rattle.qh_model.specs.headline.Text.{line, spaced, off_text, in_triangles};
 ghost use Rattle.qh_model.specs.contract.IdSets.{AreIndices};
 ghost use Rattle.qh_write.specs.contract.Pieces.{bytes_in};
@@ -17,38 +17,22 @@ use crate::pieces::Pieces;
 use qh_model::{Body, Id, Point, Polygon};
 use std::alloc::{AllocError, Global};
 
-/// Appends the triangles of a first id and each two neighbours along a list.
-fn push_triangles(
+/// Appends a face as a fan of triangles, or as it is where it has fewer than three corners.
+fn push_fan(
     text: &mut Vec<u8>,
     numbers: &VertexNumbers,
-    first: Id,
-    second: Id,
-    along: &[Id],
+    face: &Polygon,
 ) -> Result<(), AllocError>
-    requires first { HasNumber numbers.now first }
-    requires second { HasNumber numbers.now second }
-    requires along { AreNumbered numbers.now along.now }
-    ensures { OnOk result (text.new.items ≡ text.old.items ++ flat_map (face_by_numbers numbers.now) (triangles_along first second along.now)) }
-{
-    let mut last = second;
-    for id in along {
-        push_face(text, numbers, &[first, last, *id])?;
-        last = *id;
-    }
-    Ok(())
-}
-
-/// Appends a face as a fan of triangles.
-fn push_fan(text: &mut Vec<u8>, numbers: &VertexNumbers, face: &[Id]) -> Result<(), AllocError>
     requires { AreNumbered numbers.now face.now }
     ensures { OnOk result (text.new.items ≡ text.old.items ++ flat_map (face_by_numbers numbers.now) (fan face.now)) }
 {
-    match face {
-        [first, second, rest @ ..] if !rest.is_empty() => {
-            push_triangles(text, numbers, *first, *second, rest)
-        }
-        _ => push_face(text, numbers, face),
+    if face.ids().len() < 3 {
+        return push_face(text, numbers, face.ids());
     }
+    for triangle in face.fan() {
+        push_face(text, numbers, &triangle)?;
+    }
+    Ok(())
 }
 
 /// Appends faces as fans of triangles.
@@ -61,7 +45,7 @@ pub fn push_fans(
     ensures { OnOk result (text.new.items ≡ text.old.items ++ flat_map (face_by_numbers numbers.now) (fans faces.now)) }
 {
     for face in faces {
-        push_fan(text, numbers, face.ids())?;
+        push_fan(text, numbers, face)?;
     }
     Ok(())
 }

@@ -1,0 +1,8 @@
+-- The corners so far, and the triangles that are left.
+use Rattle.std.proofs.Common.{◌≡◌, ◌++◌}
+use Rattle.qconvex_c.specs.contract.Flat.{corners_of}
+use Rattle.qconvex_c.specs.steps.FaceFans.{face_corners}
+use Rattle.qconvex_c.proofs.fans.push_corners.Given as goal
+
+abbrev pub invariant-loop-1 : goal.invariant-loop-1
+invariant-loop-1 l = l.numbers.items ++ corners_of l.iterator ≡ l.initial.numbers.items ++ face_corners l.face

@@ -1,0 +1,72 @@
+//! The walk along the sides of a polygon.
+ghost use Rattle.std.specs.Prelude.{◌≡◌};
+ghost use Rattle.std.specs.Iterator.{YieldsFirst, item_count};
+ghost use Rattle.qh_model.specs.contract.ClosedPolygons.{steps_round};
+
+use crate::point::Id;
+use std::marker::Model;
+
+/// The sides of a polygon that are left, each as its two ends, from the side behind the first corner to the one that
+/// ends there. From [`Polygon::sides`](crate::Polygon::sides).
+#[derive(Drop)]
+pub struct Sides<'a> {
+    /// The corner that the next side begins at.
+    from: Id,
+    /// The corners behind it.
+    along: &'a [Id],
+    /// The corner that the last side ends at, until that side is given.
+    to: Option<Id>,
+}
+
+impl<'a> Model for Sides<'a> {
+    ghost use Rattle.std.specs.Prelude.{List, ℕ};
+    ghost use Rattle.qh_model.specs.steps.Walks.{sides_left};
+
+    ghost Value = { List (ℕ × ℕ) };
+
+    ghost view = { λ s. sides_left s.from s.along.now s.to };
+}
+
+impl<'a> Sides<'a> {
+    /// Returns the sides of the polygon of a list of ids: as many as there are ids.
+    pub fn of(ids: &'a [Id]) -> Sides<'a>
+        ensures { result ≡ steps_round ids.now }
+    {
+        match ids {
+            [first, along @ ..] => Sides {
+                from: *first,
+                along,
+                to: Some(*first),
+            },
+            [] => Sides {
+                from: Id::new(0),
+                along: ids,
+                to: None,
+            },
+        }
+    }
+}
+
+impl<'a> Iterator for Sides<'a> {
+    type Item = (Id, Id);
+
+    ghost next_gives = { YieldsFirst (λ sides. sides) };
+
+    ghost remaining = { item_count (λ sides. sides) };
+
+    fn next(&mut self) -> Option<(Id, Id)> {
+        let last = self.to?;
+        let from = self.from;
+        match self.along {
+            [to, along @ ..] => {
+                self.from = *to;
+                self.along = along;
+                Some((from, *to))
+            }
+            [] => {
+                self.to = None;
+                Some((from, last))
+            }
+        }
+    }
+}

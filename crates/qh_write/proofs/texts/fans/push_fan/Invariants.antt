@@ -1,0 +1,13 @@
+-- What is written so far, and the triangles that are left.
+use Rattle.std.proofs.Common.{◌≡◌, ◌++◌, All}
+use Rattle.std.specs.List.{flat_map}
+use Rattle.qh_model.specs.contract.FaceTriangles.{face_triangles}
+use Rattle.qh_write.specs.steps.Numberings.{AreNumbered, face_by_numbers}
+use Rattle.qh_write.proofs.texts.fans.push_fan.Given as goal
+
+abbrev pub invariant-loop-triangle : goal.invariant-loop-triangle
+invariant-loop-triangle l = record {
+  grown : l.text.items ++ flat_map (face_by_numbers l.numbers) l.triangle-iterator
+      ≡ l.initial.text.items ++ flat_map (face_by_numbers l.numbers) (face_triangles l.face);
+  numbered : All (AreNumbered l.numbers) l.triangle-iterator;
+}
